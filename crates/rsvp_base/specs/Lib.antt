@@ -1,0 +1,7 @@
+pub mod Keys
+pub mod Table
+pub mod Sets
+pub mod Orders
+pub mod Rising
+pub mod Rates
+pub mod TokenBucket

@@ -7,11 +7,21 @@
 #![tactic(auto)]
 
 mod addr;
+mod flow;
+mod part;
+mod rate;
 mod room;
+mod senders;
 mod session;
 mod style;
+#[cfg(test)]
+mod tests;
 
 pub use addr::Addr;
+pub use flow::{Flow, Peak};
+pub use part::Part;
+pub use rate::Rate;
 pub use room::{Full, NoMemory};
+pub use senders::Senders;
 pub use session::{Sender, Session};
 pub use style::{StyleKind, Unit};

@@ -1,0 +1,25 @@
+//! Parts of reservations.
+ghost use Rattle.std.specs.Prelude.{◌≡◌};
+
+use crate::flow::Flow;
+use crate::senders::Senders;
+
+/// A part of a reservation: the senders that it is for, under the names by which its style lists them, and the flow that
+/// is reserved for them together (RFC 2205, 1.3 and 2.2).
+#[derive(Drop)]
+pub struct Part {
+    pub senders: Senders,
+    pub flow: Flow,
+}
+
+impl Part {
+    /// An equal part.
+    pub fn copy(&self) -> Part
+        ensures { result ≡ self.now }
+    {
+        Part {
+            senders: self.senders.copy(),
+            flow: self.flow,
+        }
+    }
+}
