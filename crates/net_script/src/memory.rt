@@ -155,9 +155,10 @@ impl Sink for MemorySink {
         ensures failed { OnErr result (self.new ≡ record self.old { calls = one_more self.old.calls; faults = one_more self.old.faults }) }
         ensures count { IfOk result (λ n. n ≡ taken_of self.old (one_more self.old.calls) (length bytes.now)) }
         ensures taken { IfOk result (λ n. self.new ≡ record self.old {
-            bytes = self.old.bytes ++ take n bytes.now;
-            calls = one_more self.old.calls;
-            faults = (if n == 0 && nat_lt 0 (length bytes.now) then one_more self.old.faults else self.old.faults) }) }
+          bytes = self.old.bytes ++ take n bytes.now;
+          calls = one_more self.old.calls;
+          faults = (if n == 0 && nat_lt 0 (length bytes.now) then one_more self.old.faults else self.old.faults);
+        }) }
     {
         self.calls = self.calls.saturating_add(1);
         if self.fail.contains(&self.calls) {

@@ -50,7 +50,11 @@ pub fn read_all<S: Source>(alloc: Global, source: &mut S) -> Result<Vec<u8>, Rea
 }
 
 // Takes one piece, and adds it to what was read. It takes no byte past the first that is too many.
-fn read_piece<S: Source>(source: &mut S, piece: &mut [u8], bytes: &mut Vec<u8>) -> Result<usize, ReadErr>
+fn read_piece<S: Source>(
+    source: &mut S,
+    piece: &mut [u8],
+    bytes: &mut Vec<u8>,
+) -> Result<usize, ReadErr>
     requires piece { 0 < length piece.old }
     requires room { vec_len bytes.old ≤ most_bytes }
     ensures read { IfOk result (λ n. (bs : List ℕ) × Consumes (S.left source.old) (S.left source.new) bs × (bytes.new.items ≡ bytes.old.items ++ bs) × (n ≡ length bs)) }
