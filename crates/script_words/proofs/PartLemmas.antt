@@ -66,13 +66,7 @@ two_none a b (x ∷ rest) some = refl
 pub some_parts : (separator : ℕ) (text : List ℕ) → 0 < length (parts_of separator text)
 some_parts separator text = omega (arith, length-slice_split (λ c. c == separator) text)
 
--- one member in front of two, three, four
-pub three_of : {X : Type 0} (a : X) (rest : List X) → three (a ∷ rest) ≡ option_map (λ p. (a, p.0, p.1)) (two rest)
-three_of a [] = refl
-three_of a (b ∷ []) = refl
-three_of a (b ∷ c ∷ []) = refl
-three_of a (b ∷ c ∷ d ∷ rest) = refl
-
+-- one member in front of three, of four
 pub four_of : {X : Type 0} (a : X) (rest : List X) → four (a ∷ rest) ≡ option_map (λ p. (a, p.0, p.1, p.2)) (three rest)
 four_of a [] = refl
 four_of a (b ∷ []) = refl

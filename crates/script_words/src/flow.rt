@@ -27,8 +27,8 @@ impl FlowWord {
 fn peak(word: &[u8]) -> Option<Option<u128>>
     ensures { result ≡ peak_of word.now }
 {
-    if word == b"inf".as_slice() {
-        return Some(None);
+    match word {
+        b"inf" => Some(None),
+        _ => Some(Some(number(word)?)),
     }
-    Some(Some(number(word)?))
 }

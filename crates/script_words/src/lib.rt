@@ -15,6 +15,8 @@ mod parts;
 mod raw;
 mod session;
 mod styles;
+#[cfg(test)]
+mod tests;
 mod unread;
 mod words;
 

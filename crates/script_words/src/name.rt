@@ -1,7 +1,7 @@
 //! Names of nodes and ends.
-ghost use Rattle.std.specs.Prelude.{◌≡◌, Some, true, ◌↔◌, IsSome, IfSome, IsTrue};
+ghost use Rattle.std.specs.Prelude.{◌≡◌, IsTrue};
 ghost use Rattle.std.specs.List.{list_all};
-ghost use Rattle.script_words.specs.Names.{is_name, is_name_byte, is_lower_case};
+ghost use Rattle.script_words.specs.Names.{is_name, is_name_byte, is_lower_case, name_of};
 
 use arrayvec::ArrayVec;
 use std::marker::Model;
@@ -27,8 +27,7 @@ impl Model for EndName {
 impl EndName {
     /// The name with these bytes; None exactly where they are no name.
     pub fn of(bytes: &[u8]) -> Option<EndName>
-        ensures some { IsSome result ↔ IsTrue (is_name bytes.now) }
-        ensures value { IfSome result (λ name. name ≡ bytes.now) }
+        ensures { result ≡ name_of bytes.now }
     {
         if !is_name(bytes) {
             return None;

@@ -33,7 +33,6 @@ pub fn two_parts(text: &[u8], separator: u8) -> Option<(&[u8], &[u8])>
 }
 
 /// The three parts of a text; None where it has another number of parts.
-#[tactic(auto, using(crate::proofs::PartLemmas::three_of))]
 pub fn three_parts(text: &[u8], separator: u8) -> Option<(&[u8], &[u8], &[u8])>
     ensures { MatchOption result (three (parts_of separator text.now) ≡ None)
         (λ p. three (parts_of separator text.now) ≡ Some (p.0.now, p.1.now, p.2.now)) }

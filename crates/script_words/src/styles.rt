@@ -8,14 +8,10 @@ use rsvp_base::StyleKind;
 pub fn style(word: &[u8]) -> Option<StyleKind>
     ensures { result ≡ style_of word.now }
 {
-    if word == b"WF".as_slice() {
-        return Some(StyleKind::Wild);
+    match word {
+        b"WF" => Some(StyleKind::Wild),
+        b"FF" => Some(StyleKind::Fixed),
+        b"SE" => Some(StyleKind::Shared),
+        _ => None,
     }
-    if word == b"FF".as_slice() {
-        return Some(StyleKind::Fixed);
-    }
-    if word == b"SE".as_slice() {
-        return Some(StyleKind::Shared);
-    }
-    None
 }
