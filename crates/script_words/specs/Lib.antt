@@ -1,0 +1,11 @@
+pub mod Steps
+pub mod Parts
+pub mod Lines
+pub mod Words
+pub mod Numbers
+pub mod Names
+pub mod Styles
+pub mod Unread
+pub mod Addresses
+pub mod Sessions
+pub mod Flows

@@ -1,0 +1,13 @@
+-- Lines of a text.
+use Rattle.std.specs.Prelude.{ℕ, List, [], ◌∷◌, ◌==◌, length, if◌then◌else◌}
+use Rattle.script_words.specs.Parts.{parts_of}
+
+-- without the last part where that is empty
+abbrev pub without_empty_last : List (List ℕ) → List (List ℕ)
+without_empty_last [] = []
+without_empty_last (last ∷ []) = if length last == 0 then [] else last ∷ []
+without_empty_last (line ∷ next ∷ more) = line ∷ without_empty_last (next ∷ more)
+
+-- the lines of a text, each ended by a line feed that the last one may lack
+abbrev pub lines_of : List ℕ → List (List ℕ)
+lines_of text = without_empty_last (parts_of 10 text)
