@@ -1,12 +1,12 @@
 -- The laws of finite sets: members after each call, and equations by their members.
-use Rattle.std.specs.Prelude.{◌≡◌, ℕ, ◌+◌, ◌≤◌, Bool, true, false, cond, not, ◌&&◌, ◌||◌, List, [], ◌∷◌, map as each, length, is_some, Option, Some, None, refl}
+use Rattle.std.specs.Prelude.{◌≡◌, ◌+◌, ◌≤◌, Bool, true, false, cond, not, ◌&&◌, ◌||◌, List, [], ◌∷◌, map as each, is_some, Option, Some, None, refl}
 use Rattle.std.proofs.Common.{sym, ap, ◌∙◌, arith}
 use Rattle.std.specs.List.{list_any}
 use Rattle.std.specs.Ordering.{eq_by_cmp}
-use Rattle.std.specs.FinMap.Entries.{find, is_some-find}
+use Rattle.std.specs.FinMap.Entries.{is_some-find}
 use Rattle.rsvp_base.specs.Keys.{Keys}
-use Rattle.rsvp_base.specs.Table.{Table, get, has, size, keys, put_in, with_rows, kept, without, empty}
-use Rattle.rsvp_base.specs.Sets.{Set, listed, with_key, with_keys, set_of, union, cut, IsWithin}
+use Rattle.rsvp_base.specs.Table.{get, has, size, put_in, with_rows, kept, without}
+use Rattle.rsvp_base.specs.Sets.{Set, with_key, union, cut, IsWithin}
 use Rattle.rsvp_base.proofs.Tables.{either, tied_same, get-put_in, get-kept, same_table, size-put_in}
 
 -- ---- Boolean identities

@@ -1,11 +1,11 @@
 -- What tables answer after each change, and when they are equal.
-use Rattle.std.specs.Prelude.{◌≡◌, ℕ, ◌+◌, Bool, true, false, cond, not, ◌&&◌, List, [], ◌∷◌, length, is_some, Option, ◌⊎◌, Some, None, refl, IsTrue}
+use Rattle.std.specs.Prelude.{◌≡◌, ◌+◌, Bool, true, false, cond, not, List, [], ◌∷◌, Option, ◌⊎◌, Some, None, refl}
 use Rattle.std.proofs.Common.{sym, ap, ◌∙◌, T, inl, inr}
 use Rattle.std.specs.declared.cmp.Ordering.{Ordering}
 use Rattle.std.specs.declared.cmp.Ordering.TheVariants.{Less, Equal, Greater}
 use Rattle.std.specs.Ordering.{eq_by_cmp, is_eq, is_lt}
 use Rattle.std.specs.Cmp.{tied_itself}
-use Rattle.std.specs.FinMap.Entries.{put, find, where_key, below_all, is_sorted, find-put, find-where_key, length-put, same_entries}
+use Rattle.std.specs.FinMap.Entries.{find, below_all, is_sorted, find-put, find-where_key, length-put, same_entries}
 use Rattle.rsvp_base.specs.Keys.{Keys}
 use Rattle.rsvp_base.specs.Table.{Table, get, has, size, put_in, kept, without, changed, changed_rows, kept_row, same_rows, first, second}
 

@@ -1,9 +1,9 @@
 -- The orders of addresses, sessions, senders, styles and units.
-use Rattle.std.specs.Prelude.{◌≡◌, ℕ, Option, Some, None, refl}
+use Rattle.std.specs.Prelude.{◌≡◌, ℕ, List, Option, Some, None, refl}
 use Rattle.std.proofs.Common.{ap, arith}
 use Rattle.std.specs.Coded.{Coded, code_by, coded×, coded_ℕ}
 use Rattle.rsvp_base.specs.Keys.{Keys, numbers, by, pairs, options}
-use Rattle.rsvp_base.specs.Sets.{Set, set_code}
+use Rattle.rsvp_base.specs.Sets.{Set, set_of, set_code}
 use Rattle.rsvp_base.specs.declared.addr.Addr.{Addr}
 use Rattle.rsvp_base.specs.declared.session.Session.{Session}
 use Rattle.rsvp_base.specs.declared.session.Sender.{Sender}
@@ -71,6 +71,10 @@ units = by unit_sender unit_apart (options senders)
 -- ---- sets of senders
 abbrev pub Names : Type 0
 Names = Set senders
+
+-- the senders of a list, each once
+abbrev pub names_from : List Sender → Names
+names_from xs = set_of xs
 
 abbrev pub addr_code : Coded Addr
 addr_code = code_by ℕ coded_ℕ (λ a. a.0) (λ n. record { 0 = n }) (λ _. refl)

@@ -1,5 +1,5 @@
 -- Finite sets: tables of nothing.
-use Rattle.std.specs.Prelude.{◌≡◌, Bool, true, List, [], ◌∷◌, map as each, ◌==◌}
+use Rattle.std.specs.Prelude.{◌≡◌, Bool, true, List, map as each, ◌==◌}
 use Rattle.std.specs.Coded.{Coded}
 use base.Stored.{coded_unit}
 use Rattle.rsvp_base.specs.Keys.{Keys}

@@ -70,6 +70,9 @@ fn senders_stand_in_order_and_are_at_most_16(rt: HostRuntime) -> Result<(), Fail
     assert_eq!(rt; others.len(), 16);
     assert!(rt; some.union(&others).is_err());
     assert!(rt; !some.is_within(&others));
+    assert!(rt;
+        Senders::of(&[sender(2, 2), sender(1, 1), sender(2, 2)]).is_ok_and(|two| two.len() == 2)
+    );
     let both = some.cut(&others);
     assert_eq!(rt; both.len(), 3);
     assert!(rt; both.is_within(&some) && both.has(sender(1, 7)) && !both.is_empty());
