@@ -1,9 +1,9 @@
 -- Parts and lines of a text, by the place of the first separator.
-use Rattle.std.proofs.Common.{◌≡◌, ◌≢◌, ℕ, zero, suc, ◌<◌, ◌≤◌, ◌+◌, ◌-◌, List, [], ◌∷◌, ◌==◌, cond, Bool, true, false, refl, sym, ap, ◌∙◌, length, take, drop, inl, inr, arith, Option, None, Some, option_map}
-use Rattle.std.specs.List.{position, position_or_len, slice_split}
+use Rattle.std.proofs.Common.{◌≡◌, ℕ, suc, ◌<◌, ◌≤◌, ◌+◌, ◌-◌, List, [], ◌∷◌, ◌==◌, cond, Bool, refl, sym, ap, ◌∙◌, length, take, drop, inl, inr, arith, None, Some, option_map}
+use Rattle.std.specs.List.{position, position_or_len}
 use Rattle.std.proofs.lemmas.Bool.Decides.{leb_tells, eqb_tells}
 use Rattle.std.proofs.lemmas.List.{take_rest, drop-drop}
-use Rattle.std.proofs.lemmas.List.Sums.{fails_before_first, count_by-le-length}
+use Rattle.std.proofs.lemmas.List.Sums.{fails_before_first}
 use Rattle.std.proofs.lemmas.List.Splits.{slice_split_none, slice_split_first, length-slice_split}
 use Rattle.script_words.specs.Parts.{parts_of, two, three, four, five}
 use Rattle.script_words.specs.Lines.{lines_of, without_empty_last}
@@ -12,7 +12,7 @@ use Rattle.script_words.specs.Lines.{lines_of, without_empty_last}
 place_of : {X : Type 0} (p : X → Bool) (xs : List X) (at : ℕ) → position p xs ≡ Some at → (at ≡ position_or_len p xs) × (at < length xs)
 place_of p xs at is = elim (leb_tells (suc (position_or_len p xs)) (length xs)) [
   | inl t ↦ (let e : position p xs ≡ Some (position_or_len p xs) = ap (λ b. cond b (Some (position_or_len p xs)) None) t.0 in
-    let same : at ≡ position_or_len p xs = cc in (same, omega arith))
+      let same : at ≡ position_or_len p xs = cc in (same, omega arith))
   | inr f ↦ (let e : position p xs ≡ None = ap (λ b. cond b (Some (position_or_len p xs)) None) f.0 in absurd (cc))
 ]
 
@@ -35,7 +35,7 @@ parts_found separator text first behind at is f b =
     let place = place_of (λ c. c == separator) text at is in
     let more : position_or_len (λ c. c == separator) text < length text = omega (arith, place.0, place.1) in
     let e : take (length behind - 1) (drop 1 behind) ≡ drop (position_or_len (λ c. c == separator) text + 1) text =
-      take_rest behind 1 ∙ ap (drop 1) b ∙ drop-drop 1 at text ∙ ap (λ n. drop n text) (let s : at + 1 ≡ position_or_len (λ c. c == separator) text + 1 = ap (λ n. n + 1) place.0 in s) in
+    take_rest behind 1 ∙ ap (drop 1) b ∙ drop-drop 1 at text ∙ ap (λ n. drop n text) (let s : at + 1 ≡ position_or_len (λ c. c == separator) text + 1 = ap (λ n. n + 1) place.0 in s) in
     slice_split_first (λ c. c == separator) text 0 more ∙ ap (λ x. x ∷ parts_of separator (drop (position_or_len (λ c. c == separator) text + 1) text)) (sym (f ∙ ap (λ n. take n text) place.0)) ∙ ap (λ x. first ∷ parts_of separator x) (sym e)
 
 -- behind a line feed the lines go on
@@ -58,7 +58,7 @@ is_last (c ∷ cs) some = elim (eqb_tells (suc (length cs)) 0) [
 pub lines_none : (text : List ℕ) → 0 < length text → parts_of 10 text ≡ text ∷ [] → lines_of text ≡ text ∷ []
 lines_none text some e = ap without_empty_last e ∙ is_last text some
 
--- a list of two parts or more in front of another is no pair
+-- two members in front of others are no pair
 pub two_none : {X : Type 0} (a b : X) (rest : List X) → 0 < length rest → two (a ∷ b ∷ rest) ≡ None
 two_none a b [] some = absurd (omega arith)
 two_none a b (x ∷ rest) some = refl

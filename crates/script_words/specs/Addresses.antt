@@ -1,5 +1,6 @@
 -- Addresses in words.
 use Rattle.std.specs.Prelude.{◌≢◌, ℕ, ◌+◌, ◌*◌, ◌≤◌, List, Option, Some}
+use Rattle.std.specs.Str.{byte}
 use Rattle.rsvp_base.specs.declared.addr.Addr.{Addr}
 use Rattle.script_words.specs.Steps.{◌>>=◌, each_of}
 use Rattle.script_words.specs.Parts.{parts_of, four}
@@ -9,7 +10,7 @@ use Rattle.script_words.specs.declared.raw.DottedQuad.{DottedQuad}
 -- four numbers joined by dots
 unfoldable pub quad_of : List ℕ → Option DottedQuad
 quad_of word = do
-  p ← four (parts_of 46 word)
+  p ← four (parts_of (byte ".") word)
   a ← number_of p.0
   b ← number_of p.1
   c ← number_of p.2
@@ -18,7 +19,7 @@ quad_of word = do
 
 -- addresses joined by commas
 abbrev pub quads_of : List ℕ → Option (List DottedQuad)
-quads_of word = each_of quad_of (parts_of 44 word)
+quads_of word = each_of quad_of (parts_of (byte ",") word)
 
 -- each part is a byte
 pub record IsAddr (q : DottedQuad) : Type 0 where
@@ -27,7 +28,7 @@ pub record IsAddr (q : DottedQuad) : Type 0 where
   pub c : q.c ≤ 255
   pub d : q.d ≤ 255
 
--- the address with these four bytes
+-- the address with these four bytes, in network byte order
 abbrev pub of_bytes : ℕ → ℕ → ℕ → ℕ → Addr
 of_bytes a b c d = record { 0 = ((a * 256 + b) * 256 + c) * 256 + d }
 

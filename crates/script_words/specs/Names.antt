@@ -1,14 +1,15 @@
 -- Names of nodes and ends.
 use Rattle.std.specs.Prelude.{ℕ, List, Bool, Option, None, Some, ◌&&◌, ◌||◌, ◌==◌, nat_le, length, slice_index, if◌then◌else◌}
 use Rattle.std.specs.List.{list_all}
+use Rattle.std.specs.Str.{byte}
 use Rattle.script_words.specs.Numbers.{is_digit}
 
 abbrev pub is_lower_case : ℕ → Bool
-is_lower_case c = nat_le 97 c && nat_le c 122
+is_lower_case c = nat_le (byte "a") c && nat_le c (byte "z")
 
 -- a lower-case letter, a digit or _
 abbrev pub is_name_byte : ℕ → Bool
-is_name_byte c = is_lower_case c || (is_digit c || c == 95)
+is_name_byte c = is_lower_case c || (is_digit c || c == byte "_")
 
 -- 1 to 16 lower-case letters, digits and _, beginning with a letter
 abbrev pub is_name : List ℕ → Bool

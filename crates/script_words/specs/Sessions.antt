@@ -1,5 +1,6 @@
 -- Sessions and senders in words.
 use Rattle.std.specs.Prelude.{ℕ, ◌≤◌, List, Option, Some}
+use Rattle.std.specs.Str.{byte}
 use Rattle.rsvp_base.specs.declared.session.Session.{Session}
 use Rattle.rsvp_base.specs.declared.session.Sender.{Sender}
 use Rattle.script_words.specs.Steps.{◌>>=◌, each_of}
@@ -12,7 +13,7 @@ use Rattle.script_words.specs.declared.raw.SenderWord.{SenderWord}
 -- GROUP/PROTO/PORT
 unfoldable pub session_of : List ℕ → Option SessionWord
 session_of word = do
-  p ← three (parts_of 47 word)
+  p ← three (parts_of (byte "/") word)
   group ← quad_of p.0
   proto ← number_of p.1
   port ← number_of p.2
@@ -21,14 +22,14 @@ session_of word = do
 -- ADDR:PORT
 unfoldable pub sender_of : List ℕ → Option SenderWord
 sender_of word = do
-  p ← two (parts_of 58 word)
+  p ← two (parts_of (byte ":") word)
   addr ← quad_of p.0
   port ← number_of p.1
   Some (record { addr = addr; port = port })
 
 -- senders joined by commas
 abbrev pub senders_of : List ℕ → Option (List SenderWord)
-senders_of word = each_of sender_of (parts_of 44 word)
+senders_of word = each_of sender_of (parts_of (byte ",") word)
 
 -- the numbers of a session are in range
 pub record IsSession (w : SessionWord) : Type 0 where

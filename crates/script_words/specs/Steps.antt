@@ -1,5 +1,5 @@
 -- Reading one thing after another, where each may fail.
-use Rattle.std.specs.Prelude.{List, [], ◌∷◌, Option, None, Some, option_and_then}
+use Rattle.std.specs.Prelude.{List, [], ◌∷◌, Option, Some, option_and_then}
 
 -- what the next step makes of a value, where there is one
 infixl 10 ◌>>=◌

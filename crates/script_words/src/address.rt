@@ -30,10 +30,11 @@ impl DottedQuad {
         ensures some { IsSome result ↔ IsAddr self.now }
         ensures value { IfSome result (λ addr. addr ≡ addr_value self.now) }
     {
-        if self.a > 255 || self.b > 255 || self.c > 255 || self.d > 255 {
-            return None;
-        }
-        Some(Addr((((self.a * 256 + self.b) * 256 + self.c) * 256 + self.d) as u32))
+        let a = u8::try_from(self.a).ok()?;
+        let b = u8::try_from(self.b).ok()?;
+        let c = u8::try_from(self.c).ok()?;
+        let d = u8::try_from(self.d).ok()?;
+        Some(Addr(u32::from_be_bytes([a, b, c, d])))
     }
 }
 

@@ -1,9 +1,9 @@
 //! The words of a script line, one reader for each kind of word.
 //!
-//! A word is read in two steps. Its form comes first: a reader answers None where a word has not the form of its kind,
-//! and else the numbers that stand in it, whatever their size. Their range comes second, and gives a value of
-//! `rsvp_base`. Readers take the bytes where they lie; only lists of addresses and of senders take memory. This crate
-//! stands on `rsvp_base`.
+//! A word is read in two steps, since a line may have a fault of each kind and the faults have an order. First its form:
+//! a reader answers `None` where the word has not the form of its kind, and else the numbers that stand in it, whatever
+//! their size. Then their range, which gives a value of `rsvp_base`. Each step is exactly its definition in `specs/`.
+//! Words are read where they lie: only lists of addresses and of senders, and the list of a line's words, take memory.
 #![tactic(auto)]
 
 mod address;

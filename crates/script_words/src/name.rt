@@ -62,10 +62,7 @@ impl EndName {
 fn is_name(bytes: &[u8]) -> bool
     ensures { result ≡ is_name bytes.now }
 {
-    !bytes.is_empty()
-        && bytes.len() <= 16
-        && is_lower_case(bytes[0])
-        && has_name_bytes_only(bytes)
+    !bytes.is_empty() && bytes.len() <= 16 && is_lower_case(bytes[0]) && has_name_bytes_only(bytes)
 }
 
 fn has_name_bytes_only(bytes: &[u8]) -> bool

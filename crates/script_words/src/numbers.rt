@@ -18,7 +18,7 @@ pub fn number(word: &[u8]) -> Option<u128>
 fn has_digits_only(word: &[u8]) -> bool
     ensures { result ≡ list_all is_digit word.now }
 {
-    word.iter().all(|c| 48 <= *c && *c <= 57)
+    word.iter().all(|c| b'0' <= *c && *c <= b'9')
 }
 
 // What decimal digits stand for.

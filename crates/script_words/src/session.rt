@@ -32,14 +32,12 @@ impl SessionWord {
         ensures value { IfSome result (λ session. session ≡ session_value self.now) }
     {
         let group = self.group.addr()?;
-        if !is_group(group) || self.proto == 0 || self.proto > 255 || self.port > 65_535 {
+        let proto = u8::try_from(self.proto).ok()?;
+        let port = u16::try_from(self.port).ok()?;
+        if !is_group(group) || proto == 0 {
             return None;
         }
-        Some(Session {
-            group,
-            proto: self.proto as u8,
-            port: self.port as u16,
-        })
+        Some(Session { group, proto, port })
     }
 }
 
@@ -61,13 +59,9 @@ impl SenderWord {
         ensures some { IsSome result ↔ IsSender self.now }
         ensures value { IfSome result (λ sender. sender ≡ sender_value self.now) }
     {
-        let addr = self.addr.addr()?;
-        if self.port > 65_535 {
-            return None;
-        }
         Some(Sender {
-            addr,
-            port: self.port as u16,
+            addr: self.addr.addr()?,
+            port: u16::try_from(self.port).ok()?,
         })
     }
 }

@@ -1,7 +1,7 @@
 //! Words as the format of scripts shows them.
 use crate::{
-    DottedQuad, EndName, FlowWord, SenderWord, SessionWord, Unread, addresses, first_part, is_group,
-    is_host, is_printable, next_line, number, read_words, senders, style,
+    DottedQuad, EndName, FlowWord, SenderWord, SessionWord, Unread, addresses, first_part,
+    is_group, is_host, is_printable, next_line, number, read_words, senders, style,
 };
 use rsvp_base::{Addr, Sender, Session, StyleKind};
 use std::test::*;
@@ -124,7 +124,14 @@ fn addresses_are_four_bytes(rt: HostRuntime) -> Result<(), Fail> {
         }
     }
     assert!(rt; is_group(Addr(0xe000_0001)));
-    for word in ["10.0.1", "10.0.1.1.1", "10.0.1.", "10.0.01.1", "10:0:1:1", ""] {
+    for word in [
+        "10.0.1",
+        "10.0.1.1.1",
+        "10.0.1.",
+        "10.0.01.1",
+        "10:0:1:1",
+        "",
+    ] {
         assert!(rt; DottedQuad::of(word.as_bytes()).is_none(), "at {word}");
     }
     Ok(())
@@ -154,7 +161,12 @@ fn sessions_are_group_protocol_port(rt: HostRuntime) -> Result<(), Fail> {
         port: 5004,
     };
     assert_eq!(rt; word.session(), Some(session));
-    for word in ["239.1.1.1/17", "239.1.1.1/17/5004/", "239.1.1/17/5004", "239.1.1.1/17/x"] {
+    for word in [
+        "239.1.1.1/17",
+        "239.1.1.1/17/5004/",
+        "239.1.1/17/5004",
+        "239.1.1.1/17/x",
+    ] {
         assert!(rt; SessionWord::of(word.as_bytes()).is_none(), "at {word}");
     }
     Ok(())
@@ -172,9 +184,13 @@ fn senders_are_address_and_port(rt: HostRuntime) -> Result<(), Fail> {
     let beyond = SenderWord::of(b"10.0.1.1:65536").ok_or("a sender word")?;
     assert!(rt; beyond.sender().is_none());
     assert!(rt; SenderWord::of(b"10.0.1.1").is_none());
-    let two = senders(alloc, b"10.0.1.1:5004,10.0.1.2:0").ok().ok_or("two senders")?;
+    let two = senders(alloc, b"10.0.1.1:5004,10.0.1.2:0")
+        .ok()
+        .ok_or("two senders")?;
     assert_eq!(rt; two.len(), 2);
-    let three = addresses(alloc, b"10.0.1.1,10.0.1.2,999.0.0.0").ok().ok_or("three addresses")?;
+    let three = addresses(alloc, b"10.0.1.1,10.0.1.2,999.0.0.0")
+        .ok()
+        .ok_or("three addresses")?;
     assert_eq!(rt; three.len(), 3);
     assert!(rt; matches!(senders(alloc, b"10.0.1.1:5004,"), Err(Unread::Word)));
     assert!(rt; matches!(addresses(alloc, b"10.0.1.1:5004"), Err(Unread::Word)));
@@ -209,7 +225,31 @@ fn flows_have_five_parts(rt: HostRuntime) -> Result<(), Fail> {
         most: 1500,
     };
     assert_eq!(rt; word, wanted);
-    for word in ["1000/2000/inf/64", "1/2/3/4/5/6", "1/2/Inf/4/5", "inf/2/3/4/5", "1/2//4/5"] {
+    let words = [
+        ("1000/2000/inf/64/1500", true),
+        ("1/1/0/1/1", true),
+        ("16777217/1/1/1/1", false),
+        ("33554434/1/1/1/1", false),
+        ("33554436/1/1/1/1", true),
+        ("1/1/70368744177664/1/1", false),
+        ("0/1/1/1/1", false),
+        ("1/0/1/1/1", false),
+        ("1/1/1/0/1", false),
+        ("1/1/1/2/1", false),
+        ("1/1/1/4294967295/4294967295", true),
+        ("1/1/1/1/4294967296", false),
+    ];
+    for (word, wanted) in words {
+        let flow = FlowWord::of(word.as_bytes()).ok_or("a flow word")?;
+        assert_eq!(rt; flow.flow().is_some(), wanted, "at {word}");
+    }
+    for word in [
+        "1000/2000/inf/64",
+        "1/2/3/4/5/6",
+        "1/2/Inf/4/5",
+        "inf/2/3/4/5",
+        "1/2//4/5",
+    ] {
         assert!(rt; FlowWord::of(word.as_bytes()).is_none(), "at {word}");
     }
     Ok(())

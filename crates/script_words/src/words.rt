@@ -9,12 +9,11 @@ use std::alloc::AllocError;
 pub fn is_printable(line: &[u8]) -> bool
     ensures { result ≡ is_printable line.now }
 {
-    line.iter().all(|c| 32 <= *c && *c <= 126)
+    line.iter().all(|c| b' ' <= *c && *c <= b'~')
 }
 
 /// Makes `words` the words of a line, in order. What the list held goes; its memory is used again, and more is taken
-/// only where the line has more words than the list had room for. Where memory runs out, the list has any words of the
-/// line.
+/// only where the line has more words than the list had room for. Where it runs out, the list holds some of the words.
 pub fn read_words<'a>(line: &'a [u8], words: &mut Vec<&'a [u8]>) -> Result<(), AllocError>
     ensures ok { OnOk result (map (λ w. w.now) words.new.items ≡ words_of line.now) }
     ensures room { OnErr result (vec_capacity words.old < length (words_of line.now)) }
