@@ -1,0 +1,76 @@
+//! What the lines of a script have said so far.
+ghost use Rattle.std.specs.Prelude.{◌≡◌, ◌≤◌, length, map, unwrap_or};
+ghost use Rattle.net_script.specs.Keys.{key_of};
+
+use crate::names::NameTable;
+use crate::script::{End, Event, Stale};
+use indexmap::IndexSet;
+use rsvp_base::{Addr, Flow, Sender, Session};
+use script_words::EndName;
+use std::alloc::Global;
+
+/// An end that was declared: its name, and which interface of its node it is, from 0.
+#[derive(Drop)]
+pub struct Declared {
+    pub name: EndName,
+    pub end: End,
+    pub iface: u8,
+}
+
+/// What tells left-over reservations apart: their end, by node and interface, and their session.
+#[derive(Clone, Copy, Debug, PartialEq, Eq, Hash)]
+pub struct StaleKey {
+    pub node: u16,
+    pub iface: u8,
+    pub session: Session,
+}
+
+/// What the numbers of a left-over reservation stand for.
+#[derive(Drop)]
+pub struct StaleValues {
+    pub session: Session,
+    pub next: Addr,
+    pub senders: Vec<Sender>,
+    pub flow: Flow,
+    pub left: u32,
+}
+
+/// The lines so far. Names and keys are kept in order and are found by their hash.
+#[derive(Drop)]
+pub struct Checker {
+    pub period: Option<u32>,
+    pub nodes: NameTable,
+    pub end_names: NameTable,
+    pub ends: Vec<Declared>,
+    pub stale: Vec<Stale>,
+    pub keys: IndexSet<StaleKey>,
+    pub sessions: IndexSet<Session>,
+    pub events: Vec<Event>,
+    pub ghost minute: { unwrap_or period 30000 ≤ 60000 },
+    pub ghost few_nodes: { length nodes ≤ 256 },
+    pub ghost few_sessions: { length sessions.keys ≤ 32 },
+    pub ghost same_names: { end_names ≡ map (λ e. e.name) ends.items },
+    pub ghost same_keys: { keys.keys ≡ map key_of stale.items },
+}
+
+impl Checker {
+    ghost use Rattle.std.specs.Prelude.{◌≡◌};
+    ghost use Rattle.net_script.specs.Draft.{nothing};
+    ghost use Rattle.net_script.specs.Checked.{draft_of};
+
+    /// No lines.
+    pub fn new(alloc: Global) -> Checker
+        ensures { draft_of result ≡ nothing }
+    {
+        Checker {
+            period: None,
+            nodes: NameTable::new(alloc),
+            end_names: NameTable::new(alloc),
+            ends: Vec::new(alloc),
+            stale: Vec::new(alloc),
+            keys: IndexSet::new(alloc),
+            sessions: IndexSet::new(alloc),
+            events: Vec::new(alloc),
+        }
+    }
+}

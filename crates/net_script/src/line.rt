@@ -1,0 +1,76 @@
+//! What a line of a script says, before any rule is looked at.
+use script_words::{DottedQuad, EndName, FlowWord, SessionWord};
+use std::marker::Model;
+
+/// A line of a script, by its first word.
+#[derive(Drop)]
+pub enum Line {
+    /// A line without words, or one whose first byte is `#`.
+    Skipped,
+    /// `period MS`
+    Period(u128),
+    /// `node NAME`
+    Node(EndName),
+    /// `end NAME NODE ADDR CAPACITY MTU`
+    End(EndLine),
+    /// `stale-resv END SESSION WF ADDR ADDRS FLOW LEFT`
+    StaleResv(StaleResvLine),
+    /// `wait MS`
+    Wait(u128),
+    /// `report`
+    Report,
+}
+
+/// An end of a node: its name, the name of its node, its address, capacity and MTU.
+#[derive(Drop)]
+pub struct EndLine {
+    pub name: EndName,
+    pub node: EndName,
+    pub addr: DottedQuad,
+    pub capacity: u128,
+    pub mtu: u128,
+}
+
+/// A left-over wildcard reservation: the name of its end, its session, next hop, senders, flow, and how long it lives.
+#[derive(Drop)]
+pub struct StaleResvLine {
+    pub end: EndName,
+    pub session: SessionWord,
+    pub next: DottedQuad,
+    pub senders: Addresses,
+    pub flow: FlowWord,
+    pub left: u128,
+}
+
+/// A list of addresses.
+#[derive(Drop)]
+pub struct Addresses {
+    list: Vec<DottedQuad>,
+}
+
+impl Model for Addresses {
+    ghost use Rattle.std.specs.Prelude.{List};
+    ghost use Rattle.script_words.specs.declared.raw.DottedQuad.{DottedQuad};
+
+    ghost Value = { List DottedQuad };
+
+    ghost view = { λ a. a.list.items };
+}
+
+impl Addresses {
+    ghost use Rattle.std.specs.Prelude.{◌≡◌};
+
+    /// The list of these.
+    pub fn of(list: Vec<DottedQuad>) -> Addresses
+        ensures { result ≡ list.items }
+    {
+        Addresses { list }
+    }
+
+    /// The addresses.
+    pub fn as_slice(&self) -> &[DottedQuad]
+        ensures { result.now ≡ self.now }
+    {
+        self.list.as_slice()
+    }
+}
