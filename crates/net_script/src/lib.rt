@@ -1,9 +1,9 @@
 //! Where a script comes from, and where a report goes.
 //!
-//! `Source` and `Sink` are all that the program knows of its input and output. A call of theirs may fail, and tells so by
-//! a count that rises; so a caller of `read_all` or `write_all` knows that a fault was the outside's and never the code's.
-//! Reading is bounded: an input has at most `MOST_BYTES` bytes, and one byte more is all that is ever taken of a longer.
-//! The sources and sinks in memory fail and fall short exactly where they are told to.
+//! `Source` and `Sink` are all that the program knows of its input and output. A call of theirs that fails
+//! raises a count, so that a fault of `read_all` or `write_all` is the outside's and never the code's.
+//! Reading is bounded: of an input of more than `MOST_BYTES` bytes one byte more is taken, and no other.
+//! The source and the sink in memory fail and fall short exactly where they are told to.
 #![tactic(auto)]
 
 mod memory;
