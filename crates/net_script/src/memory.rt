@@ -1,9 +1,9 @@
 //! A source and a sink in memory, whose calls fail and fall short as they are told to.
-ghost use Rattle.std.specs.Prelude.{◌≡◌, ◌≤◌, ◌<◌, ◌++◌, ◌↔◌, ◌==◌, ◌&&◌, if◌then◌else◌, nat_lt, [], ℕ, length, take, drop, min, Some, IfOk, OnErr, IsErr, Contains};
+ghost use Rattle.std.specs.Prelude.{◌≡◌, ◌≤◌, ◌<◌, ◌↔◌, [], length, take, drop, Some, IfOk, OnErr, IsErr, Contains};
 ghost use Rattle.std.specs.Io.{ReadsAtMost, WritesAtMost};
 ghost use Rattle.std.specs.Io.KnownBytes.{ReadConsumes, WriteAppends};
 ghost use Rattle.net_script.specs.Faults.{one_more, Rose, HasCause};
-ghost use Rattle.net_script.specs.Devices.{given_to, shortened, taken_of};
+ghost use Rattle.net_script.specs.Devices.{given_count, feed_after, feed_after_fault, least_for, taken_count, store_after, store_after_fault};
 
 use crate::plain::copy_front;
 use crate::streams::{Failed, Sink, Source};
@@ -28,7 +28,13 @@ impl Model for MemorySource {
 
     ghost Value = { Feed };
 
-    ghost view = { λ s. record { left = drop s.at s.bytes.items; fail = s.fail.items; most = s.most; calls = s.calls; faults = s.faults } };
+    ghost view = { λ s. record {
+      left = drop s.at s.bytes.items;
+      fail = s.fail.items;
+      most = s.most;
+      calls = s.calls;
+      faults = s.faults;
+    } };
 
     ghost invariant = { λ s. (s.at ≤ vec_len s.bytes) × (0 < s.most) };
 }
@@ -56,19 +62,19 @@ impl Source for MemorySource {
 
     ghost faults = { λ s. s.faults };
 
-    /// Fails exactly where this call's number was told, and raises the count of faults then. Else it gives as many bytes
-    /// as are left, as the buffer has room for, and as a call may give.
+    /// Fails exactly where this call's number was told, and raises the count of faults then. Else it gives as
+    /// many bytes as are left, as the buffer has room for and as a call may give.
     fn take(&mut self, buf: &mut [u8]) -> Result<usize, Failed>
         ensures bound { ReadsAtMost result buf.new }
         ensures bytes { ReadConsumes (Some self.old.left) (Some self.new.left) result buf.new }
         ensures cause { HasCause self.old.faults self.new.faults result }
         ensures fails { IsErr result ↔ Contains self.old.fail (one_more self.old.calls) }
-        ensures failed { OnErr result (self.new ≡ record self.old { calls = one_more self.old.calls; faults = one_more self.old.faults }) }
+        ensures failed { OnErr result (self.new ≡ feed_after_fault self.old) }
         ensures untouched { OnErr result (buf.new ≡ buf.old) }
-        ensures count { IfOk result (λ n. n ≡ given_to self.old (length buf.old)) }
+        ensures count { IfOk result (λ n. n ≡ given_count self.old (length buf.old)) }
         ensures given { IfOk result (λ n. take n buf.new ≡ take n self.old.left) }
         ensures rest { IfOk result (λ n. drop n buf.new ≡ drop n buf.old) }
-        ensures left { IfOk result (λ n. self.new ≡ record self.old { left = drop n self.old.left; calls = one_more self.old.calls }) }
+        ensures left { IfOk result (λ n. self.new ≡ feed_after self.old n) }
     {
         self.calls = self.calls.saturating_add(1);
         if self.fail.contains(&self.calls) {
@@ -98,7 +104,14 @@ impl Model for MemorySink {
 
     ghost Value = { Store };
 
-    ghost view = { λ s. record { bytes = s.bytes.items; room = s.room; fail = s.fail.items; short = s.short.items; calls = s.calls; faults = s.faults } };
+    ghost view = { λ s. record {
+      bytes = s.bytes.items;
+      room = s.room;
+      fail = s.fail.items;
+      short = s.short.items;
+      calls = s.calls;
+      faults = s.faults;
+    } };
 
     // A call takes no memory: the room was taken at opening.
     ghost invariant = { λ s. (vec_len s.bytes ≤ s.room) × (s.room ≤ vec_capacity s.bytes) };
@@ -115,7 +128,14 @@ impl MemorySink {
         fail: Vec<u64>,
         short: Vec<(u64, usize)>,
     ) -> Result<MemorySink, NoMemory>
-        ensures { IfOk result (λ s. s ≡ record { bytes = []; room = room; fail = fail.items; short = short.items; calls = 0; faults = 0 }) }
+        ensures { IfOk result (λ s. s ≡ record {
+          bytes = [];
+          room = room;
+          fail = fail.items;
+          short = short.items;
+          calls = 0;
+          faults = 0;
+        }) }
     {
         match Vec::with_capacity(alloc, room) {
             Ok(bytes) => Ok(MemorySink {
@@ -143,22 +163,18 @@ impl Sink for MemorySink {
 
     ghost faults = { λ s. s.faults };
 
-    /// Fails exactly where this call's number was told. Else it takes what is given, but at most the room that is left,
-    /// and at most what was told of this call. The count of faults rises where it fails, and where it takes nothing of a
-    /// piece that is not empty.
+    /// Fails exactly where this call's number was told. Else it takes what is given, but at most the room that
+    /// is left, and at most what was told of this call. The count of faults rises where it fails, and where it
+    /// takes nothing of a piece that is not empty.
     fn give(&mut self, bytes: &[u8]) -> Result<usize, Failed>
         ensures bound { WritesAtMost result bytes.now }
         ensures bytes { WriteAppends (Some self.old.bytes) (Some self.new.bytes) result bytes.now }
         ensures nothing { IfOk result (λ n. n ≡ 0 → 0 < length bytes.now → Rose self.old.faults self.new.faults) }
         ensures cause { HasCause self.old.faults self.new.faults result }
         ensures fails { IsErr result ↔ Contains self.old.fail (one_more self.old.calls) }
-        ensures failed { OnErr result (self.new ≡ record self.old { calls = one_more self.old.calls; faults = one_more self.old.faults }) }
-        ensures count { IfOk result (λ n. n ≡ taken_of self.old (one_more self.old.calls) (length bytes.now)) }
-        ensures taken { IfOk result (λ n. self.new ≡ record self.old {
-          bytes = self.old.bytes ++ take n bytes.now;
-          calls = one_more self.old.calls;
-          faults = (if n == 0 && nat_lt 0 (length bytes.now) then one_more self.old.faults else self.old.faults);
-        }) }
+        ensures failed { OnErr result (self.new ≡ store_after_fault self.old) }
+        ensures count { IfOk result (λ n. n ≡ taken_count self.old (length bytes.now)) }
+        ensures taken { IfOk result (λ n. self.new ≡ store_after self.old n bytes.now) }
     {
         self.calls = self.calls.saturating_add(1);
         if self.fail.contains(&self.calls) {
@@ -166,7 +182,7 @@ impl Sink for MemorySink {
             return Err(Failed);
         }
         let room = self.room - self.bytes.len();
-        let count = shortened(&self.short, self.calls, bytes.len().min(room));
+        let count = least_for(&self.short, self.calls, bytes.len().min(room));
         if count == 0 && !bytes.is_empty() {
             self.faults = self.faults.saturating_add(1);
             return Ok(0);
@@ -177,8 +193,8 @@ impl Sink for MemorySink {
 }
 
 // The least of `most` and what `short` tells of this call.
-fn shortened(short: &[(u64, usize)], call: u64, most: usize) -> usize
-    ensures exact { result ≡ shortened short.now call most }
+fn least_for(short: &[(u64, usize)], call: u64, most: usize) -> usize
+    ensures exact { result ≡ least_for short.now call most }
     ensures at_most { result ≤ most }
 {
     let mut least = most;

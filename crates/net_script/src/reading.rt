@@ -30,12 +30,15 @@ pub enum ReadErr {
 
 /// Reads what is left of a source to its end. At most `MOST_BYTES + 1` bytes are taken, at least one a turn.
 ///
-/// `Fault` comes only where the source's count of faults rose in this call, or stands at its last value. `TooLong` comes
-/// exactly where more than `MOST_BYTES` bytes were taken, unless memory for them ran out: that is `NoMemory`.
+/// `Fault` comes only where the source's count of faults rose in this call, or stands at its last value.
+/// `TooLong` comes exactly where more than `MOST_BYTES` bytes were taken, unless memory for them ran out: that
+/// is `NoMemory`.
 pub fn read_all<S: Source>(alloc: Global, source: &mut S) -> Result<Vec<u8>, ReadErr>
-    ensures read { IfOk result (λ bytes. Consumes (S.left source.old) (S.left source.new) bytes.items × (vec_len bytes ≤ most_bytes)) }
+    ensures read { IfOk result (λ bytes.
+        Consumes (S.left source.old) (S.left source.new) bytes.items × (vec_len bytes ≤ most_bytes)) }
     ensures end { OnOk result (IsAtEnd (S.left source.new)) }
-    ensures stopped { IfErr result (λ e. (bs : List ℕ) × Consumes (S.left source.old) (S.left source.new) bs × CanEndAfter (length bs) e) }
+    ensures stopped { IfErr result (λ e.
+        (bs : List ℕ) × Consumes (S.left source.old) (S.left source.new) bs × CanEndAfter (length bs) e) }
     ensures fault { IsErrOf result ReadErr.Fault → Rose (S.faults source.old) (S.faults source.new) }
     ensures later { S.faults source.old ≤ S.faults source.new }
 {
@@ -57,10 +60,14 @@ fn read_piece<S: Source>(
 ) -> Result<usize, ReadErr>
     requires piece { 0 < length piece.old }
     requires room { vec_len bytes.old ≤ most_bytes }
-    ensures read { IfOk result (λ n. (bs : List ℕ) × Consumes (S.left source.old) (S.left source.new) bs × (bytes.new.items ≡ bytes.old.items ++ bs) × (n ≡ length bs)) }
+    ensures read { IfOk result (λ n.
+        (bs : List ℕ) × Consumes (S.left source.old) (S.left source.new) bs
+        × (bytes.new.items ≡ bytes.old.items ++ bs) × (n ≡ length bs)) }
     ensures most { vec_len bytes.new ≤ most_bytes + 1 }
     ensures end { IfOk result (λ n. n ≡ 0 → IsAtEnd (S.left source.new)) }
-    ensures stopped { IfErr result (λ e. (bs : List ℕ) × Consumes (S.left source.old) (S.left source.new) bs × CanEndAfter (length (bytes.old.items ++ bs)) e) }
+    ensures stopped { IfErr result (λ e.
+        (bs : List ℕ) × Consumes (S.left source.old) (S.left source.new) bs
+        × CanEndAfter (length (bytes.old.items ++ bs)) e) }
     ensures fault { IsErrOf result ReadErr.Fault → Rose (S.faults source.old) (S.faults source.new) }
     ensures later { S.faults source.old ≤ S.faults source.new }
 {

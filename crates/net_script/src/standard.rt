@@ -1,6 +1,6 @@
-//! Standard input and output as a source and a sink. They tell nothing of the bytes: what a file or a terminal gives or
-//! takes is the outside's.
-ghost use Rattle.std.specs.Prelude.{◌≡◌, ◌<◌, ◌==◌, ◌&&◌, if◌then◌else◌, nat_lt, ℕ, length, None, IfOk, OnOk, OnErr};
+//! Standard input and output as a source and a sink. They tell nothing of the bytes: what a file or a terminal
+//! gives or takes is the outside's.
+ghost use Rattle.std.specs.Prelude.{◌≡◌, ◌<◌, ◌==◌, ◌&&◌, if◌then◌else◌, nat_lt, length, None, IfOk, OnOk, OnErr};
 ghost use Rattle.std.specs.Io.{ReadsAtMost, WritesAtMost};
 ghost use Rattle.std.specs.Io.KnownBytes.{ReadConsumes, WriteAppends};
 ghost use Rattle.net_script.specs.Faults.{one_more, Rose, HasCause};
@@ -56,8 +56,8 @@ impl<R: Read> Source for StdSource<R> {
     }
 }
 
-/// A sink over a writer, as standard output. Contracts see how many of its writes ended in an error, or took nothing of
-/// a piece.
+/// A sink over a writer, as standard output. Contracts see how many of its writes ended in an error, or took
+/// nothing of a piece.
 #[derive(Drop)]
 pub struct StdSink<W> {
     inner: W,
@@ -92,7 +92,8 @@ impl<W: Write> Sink for StdSink<W> {
         ensures bytes { WriteAppends None None result bytes.now }
         ensures nothing { IfOk result (λ n. n ≡ 0 → 0 < length bytes.now → Rose self.old self.new) }
         ensures cause { HasCause self.old self.new result }
-        ensures written { IfOk result (λ n. self.new ≡ (if n == 0 && nat_lt 0 (length bytes.now) then one_more self.old else self.old)) }
+        ensures written { IfOk result (λ n.
+            self.new ≡ (if n == 0 && nat_lt 0 (length bytes.now) then one_more self.old else self.old)) }
         ensures failed { OnErr result (self.new ≡ one_more self.old) }
     {
         match self.inner.write(bytes) {

@@ -16,11 +16,11 @@ pub trait Source {
     /// How often it failed. The count never falls, and stands still at 2^64 - 1.
     ghost faults: { Self → ℕ };
 
-    /// Moves bytes from the front of what is left to the front of the buffer, and answers how many. With room in the
-    /// buffer it answers 0 only where nothing is left, and that ends the input.
+    /// Moves bytes from the front of what is left to the front of the buffer, and answers how many. With room
+    /// in the buffer it answers 0 only where nothing is left, and that ends the input.
     ///
-    /// `Failed` comes only where the count of faults rose in this call, or stands at its last value. Nothing was taken
-    /// then.
+    /// `Failed` comes only where the count of faults rose in this call, or stands at its last value. Nothing was
+    /// taken then.
     fn take(&mut self, buf: &mut [u8]) -> Result<usize, Failed>
         ensures bound { ReadsAtMost result buf.new }
         ensures bytes { ReadConsumes (left self.old) (left self.new) result buf.new }
@@ -35,8 +35,8 @@ pub trait Sink {
     /// How often it failed, or took nothing of a piece. The count never falls, and stands still at 2^64 - 1.
     ghost faults: { Self → ℕ };
 
-    /// Appends a front of these bytes, and answers its length. It answers 0 to a piece that is not empty only where the
-    /// count of faults rose in this call, or stands at its last value.
+    /// Appends a front of these bytes, and answers its length. It answers 0 to a piece that is not empty only
+    /// where the count of faults rose in this call, or stands at its last value.
     ///
     /// `Failed` comes only where the count rose, or stands at its last value. Nothing was appended then.
     fn give(&mut self, bytes: &[u8]) -> Result<usize, Failed>

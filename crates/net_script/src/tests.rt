@@ -1,7 +1,7 @@
 //! What no clause says: that memory suffices, what a reader and a writer move, and the texts of the errors.
 use crate::{
-    MOST_BYTES, MemorySink, MemorySource, PlainSource, ReadErr, Sink, Source, StdSink, StdSource,
-    read_all, write_all,
+    MOST_BYTES, MemorySink, MemorySource, PlainSink, PlainSource, ReadErr, Sink, Source, StdSink,
+    StdSource, read_all, write_all,
 };
 use std::io;
 use std::io::{Read, Write};
@@ -50,6 +50,9 @@ fn a_text_cut_in_small_pieces_is_written_whole(rt: HostRuntime) -> Result<(), Fa
     let mut sink = MemorySink::open(alloc, 100, Vec::new(alloc), short)?;
     assert!(rt; write_all(&mut sink, TEXT).is_ok());
     assert_eq!(rt; sink.bytes(), TEXT);
+    let mut plain = PlainSink::new();
+    assert!(rt; write_all(&mut plain, TEXT).is_ok());
+    assert_eq!(rt; plain.count(), 21);
     Ok(())
 }
 

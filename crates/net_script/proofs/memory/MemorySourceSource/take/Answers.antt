@@ -7,4 +7,6 @@ pub returns-clause-bytes : goal.returns-clause-bytes
 returns-clause-bytes c =
     let given = rw c.deref-2.ensures.value at c.copy_front-count.ensures in
     let items = c.self.inside.bytes.items in
-    (ap (λ (feed : Feed). feed.left) (sym c.self.view_is) ∙ left_is_given_and_rest items _ c.self.inside.at _ given.front, none_left items c.self.inside.at _ _ _ given.count (omega arith))
+    let at = c.self.inside.at in
+    let was = ap (λ (feed : Feed). feed.left) (sym c.self.view_is) in
+    (was ∙ left_is_given_and_rest items _ at _ given.front, none_left items at _ _ _ given.count (omega arith))
