@@ -1,5 +1,5 @@
 -- Sums over the rows of a table, after each change.
-use Rattle.std.specs.Prelude.{◌≡◌, ℕ, ◌+◌, true, false, cond, not, List, [], ◌∷◌, Option, Some, None, refl, sum_by}
+use Rattle.std.specs.Prelude.{◌≡◌, ℕ, ◌+◌, ◌≤◌, Bool, true, false, cond, not, List, [], ◌∷◌, Option, Some, None, refl, sum_by}
 use Rattle.std.proofs.Common.{sym, ap, ◌∙◌, arith, T}
 use Rattle.std.proofs.lemmas.List.Sums.{sum_by-cons}
 use Rattle.std.specs.declared.cmp.Ordering.{Ordering}
@@ -8,7 +8,7 @@ use Rattle.std.specs.Ordering.{eq_by_cmp, is_eq}
 use Rattle.std.specs.FinMap.Entries.{by_order, put, find, where_key, below_all, is_sorted}
 use Rattle.std.proofs.lemmas.Bool.{true≢false}
 use Rattle.rsvp_base.specs.Keys.{Keys}
-use Rattle.rsvp_base.specs.Table.{Table, get, put_in, without, first, second}
+use Rattle.rsvp_base.specs.Table.{Table, get, put_in, kept, without, first, second}
 use Rattle.rsvp_base.proofs.Tables.{tied_same, tied_self, none_above, either, get-put_in, get-without, same_table}
 
 -- the number of a row that may be there
@@ -65,3 +65,16 @@ module _ {K X : Type 0} (o : Keys K) (f : K × X → ℕ) where
 
   pub sum-put_in : (m : Table o X) (k : K) (v : X) → sum_by f (put_in m k v).rows ≡ sum_by f (without m k).rows + f (k, v)
   sum-put_in m k v = ap (λ (t : Table o X). sum_by f t.rows) (put_in_anew m k v) ∙ sum_put_absent k v (without m k).rows (gone m k)
+
+  -- the rows that pass a test make no more than all
+  at_most_all : (p : K → Bool) (es : List (K × X)) → sum_by f (where_key o.cmp p es) ≤ sum_by f es
+  at_most_all p [] = omega arith
+  at_most_all p (e ∷ es) =
+      let rest = at_most_all p es in
+      elim (p e.0) as (λ b. sum_by f (cond b (e ∷ where_key o.cmp p es) (where_key o.cmp p es)) ≤ sum_by f (e ∷ es)) [
+        | true ↦ omega (arith, sum_by-cons f e es, sum_by-cons f e (where_key o.cmp p es))
+        | false ↦ omega (arith, sum_by-cons f e es)
+      ]
+
+  pub sum_kept_at_most : (p : K → Bool) (m : Table o X) → sum_by f (kept p m).rows ≤ sum_by f m.rows
+  sum_kept_at_most p m = at_most_all p m.rows

@@ -1,5 +1,5 @@
 -- What the rows under one first part of their keys are, and how they change.
-use Rattle.std.specs.Prelude.{◌≡◌, true, false, cond, not, List, [], ◌∷◌, map as each, Some, None, refl}
+use Rattle.std.specs.Prelude.{◌≡◌, Bool, true, false, cond, not, List, [], ◌∷◌, map as each, Some, None, refl}
 use Rattle.std.proofs.Common.{sym, ap, ◌∙◌}
 use Rattle.std.specs.declared.cmp.Ordering.{Ordering}
 use Rattle.std.specs.declared.cmp.Ordering.TheVariants.{Less, Equal, Greater}
@@ -7,9 +7,9 @@ use Rattle.std.specs.Ordering.{eq_by_cmp, is_eq, ordering_then}
 use Rattle.std.specs.Cmp.{tied_itself}
 use Rattle.std.specs.FinMap.Entries.{find, where_key}
 use Rattle.rsvp_base.specs.Keys.{Keys, pairs}
-use Rattle.rsvp_base.specs.Table.{Table, get, put_in, without}
+use Rattle.rsvp_base.specs.Table.{Table, get, put_in, kept, without}
 use Rattle.rsvp_base.specs.Under.{rows_under, under}
-use Rattle.rsvp_base.proofs.Tables.{get-put_in, get-without, same_table}
+use Rattle.rsvp_base.proofs.Tables.{get-put_in, get-kept, get-without, same_table}
 
 -- pairs tie where both parts do
 then_eq : (r s : Ordering) → is_eq r ≡ true → is_eq (ordering_then r s) ≡ is_eq s
@@ -62,3 +62,8 @@ module _ {A B X : Type 0} (o : Keys A) (p : Keys B) where
   under-without_other m a c k apart =
       same_table p _ _ (λ b. get-under (without m (a, k)) c b ∙ get-without (pairs o p) m (a, k) (c, b)
       ∙ ap (λ t. cond (not t) (get m (c, b)) None) (other_first o p c a k b apart) ∙ sym (get-under m c b))
+
+  -- ---- the rows that pass a test
+  pub under-kept : (m : Table (pairs o p) X) (a : A) (test : A × B → Bool) → under o p (kept test m) a ≡ kept (λ b. test (a, b)) (under o p m a)
+  under-kept m a test =
+      same_table p _ _ (λ b. get-under (kept test m) a b ∙ get-kept (pairs o p) test m (a, b) ∙ ap (λ w. cond (test (a, b)) w None) (sym (get-under m a b)) ∙ sym (get-kept p (λ q. test (a, q)) (under o p m a) b))
