@@ -79,6 +79,13 @@ module _ {K X : Type 0} (o : Keys K) where
   pub same_table : (m n : Table o X) → ((q : K) → get m q ≡ get n q) → m ≡ n
   same_table m n alike = same_rows m n (same_entries o.cmp o.total o.same m.rows n.rows m.sorted n.sorted alike)
 
+  -- without a key that is not there
+  pub without_absent : (m : Table o X) (k : K) → get m k ≡ None → without m k ≡ m
+  without_absent m k none =
+      same_table _ _ (λ q. get-without m k q ∙ either (eq_by_cmp o.cmp k q)
+      (λ t. ap (λ b. cond (not b) (get m q) None) t ∙ sym (ap (get m) (sym (tied_same o k q t)) ∙ none))
+      (λ t. ap (λ b. cond (not b) (get m q) None) t))
+
   -- a key below each key of a list is not found in it
   pub none_above : (k : K) (es : List (K × X)) → T (below_all o.cmp k es) → find o.cmp k es ≡ None
   none_above k [] h = refl

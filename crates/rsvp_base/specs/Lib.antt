@@ -1,5 +1,6 @@
 pub mod Keys
 pub mod Table
+pub mod Under
 pub mod Sets
 pub mod Orders
 pub mod Rising

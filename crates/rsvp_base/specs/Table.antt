@@ -65,7 +65,7 @@ pub passes : (b : Bool) → b ≡ true → T b
 passes true e = tt
 passes false e = cc
 
-both : (a b : Bool) → T a → T b → T (a && b)
+pub both : (a b : Bool) → T a → T b → T (a && b)
 both true b p q = q
 both false b p q = p
 
