@@ -4,5 +4,7 @@
 #![tactic(auto)]
 
 mod iface;
+mod key;
 
 pub use iface::Iface;
+pub use key::EntryKey;

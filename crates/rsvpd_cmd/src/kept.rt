@@ -1,0 +1,11 @@
+//! Left-over reservations.
+use admission_book::EntryKey;
+use rsvp_base::Part;
+
+/// A left-over reservation: the entry that it makes, what is reserved, and the moment of its death in milliseconds.
+#[derive(Drop)]
+pub struct Kept {
+    pub key: EntryKey,
+    pub part: Part,
+    pub dies: u32,
+}
