@@ -1,4 +1,4 @@
--- What a book is seen as: interfaces by number, and a flow for each interface and key that has promised one.
+-- What a book is seen as.
 use Rattle.std.specs.Prelude.{ℕ, List, Option, Some, None, refl}
 use Rattle.std.specs.Coded.{Coded, code_by, coded×, coded_ℕ, coded_list}
 use Rattle.rsvp_base.specs.Keys.{numbers}
@@ -12,9 +12,11 @@ use Rattle.admission_book.specs.declared.key.EntryKey.{EntryKey}
 use Rattle.admission_book.specs.contracts.iface.Iface as iface
 use Rattle.admission_book.specs.contracts.key.EntryKey as key
 
+-- a flow for each interface and key that has one
 abbrev pub Entries : Type 0
 Entries = Table places TokenBucket
 
+-- interfaces, and what they have promised
 pub record Bookings : Type 0 where
   pub ifaces : List Iface
   pub entries : Entries

@@ -1,4 +1,4 @@
--- What entries charge an interface, and what it refuses (RFC 2205, 2.3: admission control).
+-- What entries charge an interface, and what it refuses (RFC 2205, 1: admission control; appendix B: error code 01).
 use Rattle.std.specs.Prelude.{ℕ, ◌-◌, Option, Some, None, sum_by, nat_lt, option_and_then, slice_get, if◌then◌else◌}
 use Rattle.rsvp_base.specs.Table.{without}
 use Rattle.rsvp_base.specs.TokenBucket.{TokenBucket}
