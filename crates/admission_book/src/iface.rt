@@ -1,7 +1,7 @@
 //! Interfaces.
 use rsvp_base::Addr;
 
-/// An interface of a node, as admission control sees it (RFC 2205, 2.3).
+/// An interface of a node, as admission control sees it (RFC 2205, 1).
 #[derive(Clone, Copy, Debug, PartialEq, Eq)]
 pub struct Iface {
     /// Its IPv4 address.

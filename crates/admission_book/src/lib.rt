@@ -1,10 +1,21 @@
-//! What a link end has promised: charges that never pass its capacity.
+//! What the interfaces of a node have promised, and admission control (RFC 2205, 1).
 //!
-//! An interface has an address, a capacity and an MTU.
+//! A `Book` is a finite map from interface and key to flow. A flow is refused exactly where its largest packet passes the
+//! interface's MTU, or its rate what the interface's other entries leave of the capacity; so at every moment the rates of
+//! an interface's entries sum to at most its capacity. Memory is taken when a book is opened, and never later.
 #![tactic(auto)]
 
+mod admit;
+mod book;
 mod iface;
 mod key;
+mod refused;
+mod row;
+mod rows;
+#[cfg(test)]
+mod tests;
 
+pub use book::Book;
 pub use iface::Iface;
 pub use key::EntryKey;
+pub use refused::Refused;

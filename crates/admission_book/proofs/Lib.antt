@@ -1,0 +1,4 @@
+pub mod RowLemmas
+pub mod Starts
+pub mod ChargeLaws
+pub mod WithinLaws
