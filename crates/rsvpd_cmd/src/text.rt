@@ -1,5 +1,5 @@
 //! The text of a report.
-ghost use Rattle.std.specs.Prelude.{◌≡◌, ◌++◌, OnOk, codes, map, sum_by};
+ghost use Rattle.std.specs.Prelude.{◌≡◌, ◌++◌, OnOk, codes, map, nat_lt, sum_by};
 ghost use Rattle.std.specs.Fmt.{decimal};
 ghost use Rattle.std.specs.List.{flat_map};
 ghost use Rattle.rsvp_base.specs.Table.{keys, changed_rows};
@@ -190,13 +190,20 @@ pub fn put_book(
     put_entries(alloc, out, kept, clock)
 }
 
+// Whether a reservation lives at a moment.
+fn lives(kept: &Kept, clock: u128) -> bool
+    ensures { result ≡ nat_lt clock kept.now.dies }
+{
+    clock < u128::from(kept.dies)
+}
+
 // What the reservations that live charge together, in bytes per second.
 fn held(kept: &[Kept], clock: u128) -> u128
     ensures { result ≡ sum_by (λ e. e.1.flow.r) (changed_rows (living_part clock) (map row_of kept.now)) }
 {
     let mut sum: u128 = 0;
     for one in kept {
-        if clock < u128::from(one.dies) {
+        if lives(one, clock) {
             sum += u128::from(one.part.flow.r.value());
         }
     }
@@ -208,7 +215,7 @@ fn put_entries(alloc: Global, out: &mut Vec<u8>, kept: &[Kept], clock: u128) -> 
     ensures { OnOk result (out.new.items ≡ out.old.items ++ flat_map (λ e. entry_text e.0 e.1) (changed_rows (living_part clock) (map row_of kept.now))) }
 {
     for one in kept {
-        if clock < u128::from(one.dies) {
+        if lives(one, clock) {
             put_entry(alloc, out, one.key, &one.part)?;
         }
     }
