@@ -1,7 +1,7 @@
 //! Writing a text whole.
 ghost use Rattle.std.specs.Prelude.{◌≤◌, ℕ, length, take, OnOk, OnErr};
 ghost use Rattle.std.specs.Io.KnownBytes.{Appends};
-ghost use Rattle.net_script.specs.Faults.{HasCause};
+ghost use Rattle.byte_streams.specs.Faults.{HasCause};
 
 use crate::streams::{Failed, Sink};
 

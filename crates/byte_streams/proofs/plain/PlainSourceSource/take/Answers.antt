@@ -1,6 +1,6 @@
 use Rattle.std.proofs.Common.{arith, sym, ◌∙◌}
-use Rattle.net_script.proofs.Front.{left_is_given_and_rest, none_left}
-use Rattle.net_script.proofs.plain.PlainSourceSource.take.Goals as goal
+use Rattle.byte_streams.proofs.Front.{left_is_given_and_rest, none_left}
+use Rattle.byte_streams.proofs.plain.PlainSourceSource.take.Goals as goal
 
 pub returns-clause-bytes : goal.returns-clause-bytes
 returns-clause-bytes c =

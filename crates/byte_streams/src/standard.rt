@@ -3,7 +3,7 @@
 ghost use Rattle.std.specs.Prelude.{◌≡◌, ◌<◌, ◌==◌, ◌&&◌, if◌then◌else◌, nat_lt, length, None, IfOk, OnOk, OnErr};
 ghost use Rattle.std.specs.Io.{ReadsAtMost, WritesAtMost};
 ghost use Rattle.std.specs.Io.KnownBytes.{ReadConsumes, WriteAppends};
-ghost use Rattle.net_script.specs.Faults.{one_more, Rose, HasCause};
+ghost use Rattle.byte_streams.specs.Faults.{one_more, Rose, HasCause};
 
 use crate::streams::{Failed, Sink, Source};
 use std::io::{Read, Write};

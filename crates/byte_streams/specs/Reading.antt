@@ -1,7 +1,7 @@
 -- How many bytes a reading took, by how it ended.
 use Rattle.std.specs.Prelude.{◌≡◌, ℕ, ◌+◌, ◌≤◌}
-use Rattle.net_script.specs.declared.reading.ReadErr.{ReadErr}
-use Rattle.net_script.specs.declared.reading.ReadErr.TheVariants.{Fault, TooLong, NoMemory}
+use Rattle.byte_streams.specs.declared.reading.ReadErr.{ReadErr}
+use Rattle.byte_streams.specs.declared.reading.ReadErr.TheVariants.{Fault, TooLong, NoMemory}
 
 -- the most bytes of an input
 abbrev pub most_bytes : ℕ

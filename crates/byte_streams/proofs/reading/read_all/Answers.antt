@@ -1,7 +1,7 @@
 use Rattle.std.proofs.Common.{◌++◌}
 use Rattle.std.proofs.KnownBytes.{Consumes-trans}
 use Rattle.std.proofs.lemmas.Result.{err_from_is_err_and}
-use Rattle.net_script.proofs.reading.read_all.Goals as goal
+use Rattle.byte_streams.proofs.reading.read_all.Goals as goal
 
 -- what the last call took comes after what was read
 pub returns-in_err-read_piece-clause-stopped : goal.returns-in_err-read_piece-clause-stopped

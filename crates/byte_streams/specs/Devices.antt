@@ -1,6 +1,6 @@
 -- What the source and the sink in memory are, and what a call changes.
 use Rattle.std.specs.Prelude.{ℕ, ◌-◌, ◌==◌, ◌&&◌, if◌then◌else◌, nat_lt, List, ◌++◌, length, take, drop, filter, fold, min}
-use Rattle.net_script.specs.Faults.{one_more}
+use Rattle.byte_streams.specs.Faults.{one_more}
 
 -- a source in memory: the number of its next call is one more than its calls so far
 pub record Feed : Type 0 where

@@ -1,6 +1,6 @@
 use Rattle.std.proofs.Common.{◌≡◌, ◌≤◌, drop}
-use Rattle.net_script.specs.Devices.{least_for}
-use Rattle.net_script.proofs.memory.least_for.Given as goal
+use Rattle.byte_streams.specs.Devices.{least_for}
+use Rattle.byte_streams.proofs.memory.least_for.Given as goal
 
 -- the entries to come cut what is left to what all of them cut the whole to
 abbrev pub invariant-loop-number : goal.invariant-loop-number

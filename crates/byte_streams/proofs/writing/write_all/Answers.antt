@@ -2,7 +2,7 @@ use Rattle.std.proofs.Common.{drop, take, arith}
 use Rattle.std.proofs.KnownBytes.{Appends-trans}
 use Rattle.std.proofs.Math.Seq.{take-add}
 use Rattle.std.proofs.lemmas.List.{length-drop, take_rest}
-use Rattle.net_script.proofs.writing.write_all.Goals as goal
+use Rattle.byte_streams.proofs.writing.write_all.Goals as goal
 
 pub loop-done-preserved : goal.loop-done-preserved
 loop-done-preserved g c =

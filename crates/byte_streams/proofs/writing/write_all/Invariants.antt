@@ -1,6 +1,6 @@
 use Rattle.std.proofs.Common.{◌≤◌, ◌-◌, length, take}
 use Rattle.std.specs.Io.KnownBytes.{Appends}
-use Rattle.net_script.proofs.writing.write_all.Given as goal
+use Rattle.byte_streams.proofs.writing.write_all.Given as goal
 
 -- the front up to here was appended
 abbrev pub invariant-loop-done : goal.invariant-loop-done

@@ -1,7 +1,7 @@
 use Rattle.std.proofs.Common.{◌≤◌, ◌+◌, ◌-◌, vec_len}
 use Rattle.std.specs.Io.KnownBytes.{Consumes}
-use Rattle.net_script.specs.Reading.{most_bytes}
-use Rattle.net_script.proofs.reading.read_all.Given as goal
+use Rattle.byte_streams.specs.Reading.{most_bytes}
+use Rattle.byte_streams.proofs.reading.read_all.Given as goal
 
 -- what was read so far is what was taken
 abbrev pub invariant-loop-bytes : goal.invariant-loop-bytes

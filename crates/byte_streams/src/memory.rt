@@ -2,8 +2,8 @@
 ghost use Rattle.std.specs.Prelude.{◌≡◌, ◌≤◌, ◌<◌, ◌↔◌, [], length, take, drop, Some, IfOk, OnErr, IsErr, Contains};
 ghost use Rattle.std.specs.Io.{ReadsAtMost, WritesAtMost};
 ghost use Rattle.std.specs.Io.KnownBytes.{ReadConsumes, WriteAppends};
-ghost use Rattle.net_script.specs.Faults.{one_more, Rose, HasCause};
-ghost use Rattle.net_script.specs.Devices.{given_count, feed_after, feed_after_fault, least_for, taken_count, store_after, store_after_fault};
+ghost use Rattle.byte_streams.specs.Faults.{one_more, Rose, HasCause};
+ghost use Rattle.byte_streams.specs.Devices.{given_count, feed_after, feed_after_fault, least_for, taken_count, store_after, store_after_fault};
 
 use crate::plain::copy_front;
 use crate::streams::{Failed, Sink, Source};
@@ -24,7 +24,7 @@ pub struct MemorySource {
 
 impl Model for MemorySource {
     ghost use Rattle.std.specs.Prelude.{◌≤◌, ◌<◌, drop, vec_len};
-    ghost use Rattle.net_script.specs.Devices.{Feed};
+    ghost use Rattle.byte_streams.specs.Devices.{Feed};
 
     ghost Value = { Feed };
 
@@ -100,7 +100,7 @@ pub struct MemorySink {
 
 impl Model for MemorySink {
     ghost use Rattle.std.specs.Prelude.{◌≤◌, vec_len, vec_capacity};
-    ghost use Rattle.net_script.specs.Devices.{Store};
+    ghost use Rattle.byte_streams.specs.Devices.{Store};
 
     ghost Value = { Store };
 

@@ -2,7 +2,7 @@
 ghost use Rattle.std.specs.Prelude.{◌≡◌, ◌<◌, ◌+◌, length, take, drop, min, Some, None, Ok, IfOk};
 ghost use Rattle.std.specs.Io.{ReadsAtMost, WritesAtMost};
 ghost use Rattle.std.specs.Io.KnownBytes.{ReadConsumes, WriteAppends};
-ghost use Rattle.net_script.specs.Faults.{last_count, Rose, HasCause};
+ghost use Rattle.byte_streams.specs.Faults.{last_count, Rose, HasCause};
 
 use crate::streams::{Failed, Sink, Source};
 use std::marker::Model;

@@ -1,8 +1,8 @@
 //! Reading an input to its end.
 ghost use Rattle.std.specs.Prelude.{◌≡◌, ◌≤◌, ◌<◌, ◌+◌, ◌++◌, List, ℕ, length, IfOk, IfErr, OnOk, IsErrOf, vec_len};
 ghost use Rattle.std.specs.Io.KnownBytes.{Consumes, IsAtEnd};
-ghost use Rattle.net_script.specs.Faults.{Rose};
-ghost use Rattle.net_script.specs.Reading.{most_bytes, CanEndAfter};
+ghost use Rattle.byte_streams.specs.Faults.{Rose};
+ghost use Rattle.byte_streams.specs.Reading.{most_bytes, CanEndAfter};
 
 use crate::streams::Source;
 use std::alloc::Global;

@@ -1,7 +1,7 @@
 use Rattle.std.proofs.Common.{arith, sym, ap, ◌∙◌}
-use Rattle.net_script.specs.Devices.{Feed}
-use Rattle.net_script.proofs.Front.{left_is_given_and_rest, none_left}
-use Rattle.net_script.proofs.memory.MemorySourceSource.take.Goals as goal
+use Rattle.byte_streams.specs.Devices.{Feed}
+use Rattle.byte_streams.proofs.Front.{left_is_given_and_rest, none_left}
+use Rattle.byte_streams.proofs.memory.MemorySourceSource.take.Goals as goal
 
 pub returns-clause-bytes : goal.returns-clause-bytes
 returns-clause-bytes c =
