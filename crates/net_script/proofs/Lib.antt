@@ -1,2 +1,3 @@
+pub mod Periods
 pub mod Positions
 pub mod Scripts

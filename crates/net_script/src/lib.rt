@@ -17,6 +17,8 @@ mod parsing;
 mod refusal;
 mod rules;
 mod script;
+#[cfg(test)]
+mod tests;
 
 pub use byte_streams::{
     Failed, MOST_BYTES, MemorySink, MemorySource, PlainSink, PlainSource, ReadErr, Sink, Source,

@@ -1,7 +1,7 @@
 use Rattle.std.proofs.Common.{◌≡◌, map, take, drop}
 use Rattle.net_script.specs.Draft.{wild_sender}
 use Rattle.net_script.specs.Rules.{AreAddrs}
-use Rattle.net_script.proofs.rules.wild_senders.Given as goal
+use Rattle.net_script.proofs.rules.stale_resv.wild_senders.Given as goal
 
 -- those so far are addresses, and their senders are kept
 abbrev pub invariant-loop-quad : goal.invariant-loop-quad
