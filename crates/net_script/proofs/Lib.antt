@@ -1,3 +1,3 @@
-pub mod Front
+pub mod Periods
 pub mod Positions
 pub mod Scripts

@@ -20,7 +20,7 @@ use Rattle.net_script.specs.declared.script.Stale.{Stale}
 use Rattle.net_script.specs.declared.script.Stale.TheVariants.{Resv}
 use Rattle.net_script.specs.declared.script.Event.{Event}
 use Rattle.net_script.specs.declared.script.Event.TheVariants.{Wait, Report}
-use Rattle.net_script.specs.Keys.{is_session}
+use Rattle.net_script.specs.Keys.{same_session}
 use Rattle.net_script.specs.declared.draft.Declared.{Declared}
 
 -- the lines so far: the period, if one was given, the names of the nodes, the ends, the left-over facts, the sessions
@@ -103,7 +103,7 @@ end_named ends name = option_and_then (slice_get ends) (place_of (each (λ e. e.
 
 -- with a session that is named, once
 abbrev pub with_session : List Session → Session → List Session
-with_session named s = if list_any (is_session s) named then named else named ++ s ∷ []
+with_session named s = if list_any (same_session s) named then named else named ++ s ∷ []
 
 abbrev pub with_stale : Draft → StaleResvLine → Option Declared → Draft
 with_stale d l None = d

@@ -10,11 +10,11 @@ use Rattle.net_script.specs.declared.script.Stale.TheVariants.{Resv}
 abbrev pub key_of : Stale → StaleKey
 key_of (Resv node iface session style next senders flow left) = record { node = node; iface = iface; session = session }
 
-abbrev pub is_session : Session → Session → Bool
-is_session a b = (a.group.0 == b.group.0) && ((a.proto == b.proto) && (a.port == b.port))
+abbrev pub same_session : Session → Session → Bool
+same_session a b = (a.group.0 == b.group.0) && ((a.proto == b.proto) && (a.port == b.port))
 
-abbrev pub is_key : StaleKey → StaleKey → Bool
-is_key a b = (a.node == b.node) && ((a.iface == b.iface) && is_session a.session b.session)
+abbrev pub same_key : StaleKey → StaleKey → Bool
+same_key a b = (a.node == b.node) && ((a.iface == b.iface) && same_session a.session b.session)
 
 abbrev pub has_key : List StaleKey → StaleKey → Bool
-has_key keys key = list_any (is_key key) keys
+has_key keys key = list_any (same_key key) keys

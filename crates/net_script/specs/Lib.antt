@@ -1,3 +1,6 @@
+pub use Rattle.byte_streams.specs.Devices
+pub use Rattle.byte_streams.specs.Faults
+pub use Rattle.byte_streams.specs.Reading
 pub use Rattle.script_words.specs.Lines
 pub use Rattle.script_words.specs.Words
 pub use Rattle.script_words.specs.Numbers
@@ -5,9 +8,6 @@ pub use Rattle.script_words.specs.Names
 pub use Rattle.script_words.specs.Addresses
 pub use Rattle.script_words.specs.Sessions
 pub use Rattle.script_words.specs.Flows
-pub mod Devices
-pub mod Faults
-pub mod Reading
 pub mod LineKinds
 pub mod Draft
 pub mod Keys

@@ -1,6 +1,6 @@
 -- What a line of a script says, by its words.
 use Rattle.std.specs.Prelude.{ℕ, List, [], ◌∷◌, Bool, Option, None, Some, ◌==◌, codes, slice_index, if◌then◌else◌}
-use Rattle.std.specs.Str.{bytes_eq}
+use Rattle.std.specs.Str.{bytes_eq, byte}
 use Rattle.script_words.specs.Steps.{◌>>=◌}
 use Rattle.script_words.specs.Words.{words_of}
 use Rattle.script_words.specs.Numbers.{number_of}
@@ -82,7 +82,7 @@ said_by (first ∷ behind) = by_first kinds first behind
 
 -- the first byte is #
 abbrev pub is_comment : List ℕ → Bool
-is_comment text = slice_index text 0 == 35
+is_comment text = slice_index text 0 == byte "#"
 
 -- what a line says: a comment is skipped, whatever its bytes are
 abbrev pub line_of : List ℕ → Option Line

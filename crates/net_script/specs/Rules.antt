@@ -3,13 +3,15 @@ use Rattle.std.specs.Prelude.{◌≡◌, ℕ, ◌+◌, ◌*◌, ◌%◌, ◌^◌
 use Rattle.std.specs.List.{Contains}
 use Rattle.rsvp_base.specs.Table.{size}
 use Rattle.rsvp_base.specs.declared.addr.Addr.{Addr}
+use Rattle.rsvp_base.specs.Orders.{names_from}
 use Rattle.rsvp_base.specs.declared.session.Session.{Session}
+use Rattle.rsvp_base.specs.declared.session.Sender.{Sender}
 use Rattle.script_words.specs.declared.raw.DottedQuad.{DottedQuad}
 use Rattle.script_words.specs.Addresses.{IsAddr, IsHost, addr_value}
 use Rattle.script_words.specs.Sessions.{IsSession, session_value}
 use Rattle.script_words.specs.Flows.{IsFlow}
 use Rattle.net_script.specs.Keys.{key_of, has_key}
-use Rattle.net_script.specs.Draft.{Draft, place_of, end_names, period_of, life, node_number, ends_of, has_addr, end_named, with_session, wild_sender, wild_senders}
+use Rattle.net_script.specs.Draft.{Draft, place_of, end_names, period_of, life, node_number, ends_of, has_addr, end_named, with_session, wild_sender}
 use Rattle.net_script.specs.declared.draft.Declared.{Declared}
 use Rattle.net_script.specs.declared.draft.StaleKey.{StaleKey}
 use Rattle.net_script.specs.declared.fault.LineWhy.{LineWhy}
@@ -23,11 +25,11 @@ use Rattle.net_script.specs.declared.script.Event.TheVariants.{Wait, Report}
 
 -- the rules that a line keeps, in the order in which they are looked at
 pub data Rule : Type 0 where
-  In_time : Rule
-  In_range : Rule
+  InTime : Rule
+  InRange : Rule
   Known : Rule
   New : Rule
-  Within_limits : Rule
+  WithinLimits : Rule
 
 -- ---- limits
 abbrev pub most_nodes : ℕ
@@ -100,10 +102,10 @@ AreDistinct (x ∷ xs) = (Contains xs x → ⊥) × AreDistinct xs
 abbrev pub key_value : Declared → StaleResvLine → StaleKey
 key_value e l = record { node = e.end.node; iface = e.iface; session = session_value l.session }
 
--- no fact of its end and session, and no sender twice
-pub record IsNewStale (d : Draft) (e : Declared) (l : StaleResvLine) : Type 0 where
-  pub key : has_key (each key_of d.stale) (key_value e l) ≡ false
-  pub senders : AreDistinct (each wild_sender l.senders)
+-- no fact has this key, and no sender stands twice
+pub record IsNewFact (keys : List StaleKey) (key : StaleKey) (senders : List Sender) : Type 0 where
+  pub no_fact : has_key keys key ≡ false
+  pub no_sender_twice : AreDistinct senders
 
 -- where the end is known
 abbrev pub IfKnown : Option Declared → (Declared → Type 0) → Type 0
@@ -111,9 +113,10 @@ IfKnown None P = Unit {0}
 IfKnown (Some e) P = P e
 
 -- ---- room
-pub record HasRoomForStale (d : Draft) (l : StaleResvLine) : Type 0 where
-  pub senders : size (wild_senders l.senders) ≤ most_senders
-  pub sessions : length (with_session d.sessions (session_value l.session)) ≤ most_sessions
+-- neither the senders of a fact nor the sessions that are named with its own are too many
+pub record HasRoomForFact (named : List Session) (session : Session) (senders : List Sender) : Type 0 where
+  pub few_senders : size (names_from senders) ≤ most_senders
+  pub few_sessions : length (with_session named session) ≤ most_sessions
 
 abbrev pub is_report : Event → Bool
 is_report (Wait ms) = false
@@ -121,46 +124,46 @@ is_report (Report end) = true
 
 -- ---- the rules of each kind of line
 abbrev pub period_keeps : Draft → ℕ → Rule → Type 0
-period_keeps d ms In_time = BeforeNodes d
-period_keeps d ms In_range = IsPeriod ms
+period_keeps d ms InTime = BeforeNodes d
+period_keeps d ms InRange = IsPeriod ms
 period_keeps d ms Known = Unit {0}
 period_keeps d ms New = d.period ≡ None
-period_keeps d ms Within_limits = Unit {0}
+period_keeps d ms WithinLimits = Unit {0}
 
 abbrev pub node_keeps : Draft → List ℕ → Rule → Type 0
-node_keeps d name In_time = Declares d
-node_keeps d name In_range = Unit {0}
+node_keeps d name InTime = Declares d
+node_keeps d name InRange = Unit {0}
 node_keeps d name Known = Unit {0}
 node_keeps d name New = place_of d.nodes name ≡ None
-node_keeps d name Within_limits = length d.nodes < most_nodes
+node_keeps d name WithinLimits = length d.nodes < most_nodes
 
 abbrev pub end_keeps : Draft → EndLine → Rule → Type 0
-end_keeps d l In_time = Declares d
-end_keeps d l In_range = IsEndInRange l
+end_keeps d l InTime = Declares d
+end_keeps d l InRange = IsEndInRange l
 end_keeps d l Known = IsSome (place_of d.nodes l.node)
 end_keeps d l New = IsNewEnd d l
-end_keeps d l Within_limits = ends_of d (node_number d l.node) < most_ifaces
+end_keeps d l WithinLimits = ends_of d (node_number d l.node) < most_ifaces
 
 abbrev pub stale_keeps : Draft → StaleResvLine → Rule → Type 0
-stale_keeps d l In_time = d.events ≡ []
-stale_keeps d l In_range = IsStaleInRange (period_of d) l
+stale_keeps d l InTime = d.events ≡ []
+stale_keeps d l InRange = IsStaleInRange (period_of d) l
 stale_keeps d l Known = IsSome (end_named d.ends l.end)
-stale_keeps d l New = IfKnown (end_named d.ends l.end) (λ e. IsNewStale d e l)
-stale_keeps d l Within_limits = HasRoomForStale d l
+stale_keeps d l New = IfKnown (end_named d.ends l.end) (λ e. IsNewFact (each key_of d.stale) (key_value e l) (each wild_sender l.senders))
+stale_keeps d l WithinLimits = HasRoomForFact d.sessions (session_value l.session) (each wild_sender l.senders)
 
 abbrev pub wait_keeps : ℕ → Rule → Type 0
-wait_keeps ms In_time = Unit {0}
-wait_keeps ms In_range = IsWait ms
+wait_keeps ms InTime = Unit {0}
+wait_keeps ms InRange = IsWait ms
 wait_keeps ms Known = Unit {0}
 wait_keeps ms New = Unit {0}
-wait_keeps ms Within_limits = Unit {0}
+wait_keeps ms WithinLimits = Unit {0}
 
 abbrev pub report_keeps : Draft → Rule → Type 0
-report_keeps d In_time = Unit {0}
-report_keeps d In_range = Unit {0}
+report_keeps d InTime = Unit {0}
+report_keeps d InRange = Unit {0}
 report_keeps d Known = Unit {0}
 report_keeps d New = Unit {0}
-report_keeps d Within_limits = count_by is_report d.events < most_reports
+report_keeps d WithinLimits = count_by is_report d.events < most_reports
 
 abbrev pub keeps : Draft → Line → Rule → Type 0
 keeps d line.Skipped rule = Unit {0}
@@ -173,17 +176,17 @@ keeps d line.Report rule = report_keeps d rule
 
 -- ---- all rules are kept, or a first one is not
 pub record KeepsAll (rules : Rule → Type 0) : Type 0 where
-  pub in_time : rules In_time
-  pub in_range : rules In_range
+  pub in_time : rules InTime
+  pub in_range : rules InRange
   pub known : rules Known
   pub new : rules New
-  pub within_limits : rules Within_limits
+  pub within_limits : rules WithinLimits
 
 -- the first rule that is broken is that of this fault
 abbrev pub BreaksFirst : (Rule → Type 0) → LineWhy → Type 0
 BreaksFirst rules Word = ⊥
-BreaksFirst rules Late = rules In_time → ⊥
-BreaksFirst rules Range = rules In_time × (rules In_range → ⊥)
-BreaksFirst rules Name = rules In_time × rules In_range × (rules Known → ⊥)
-BreaksFirst rules Twice = rules In_time × rules In_range × rules Known × (rules New → ⊥)
-BreaksFirst rules Limit = rules In_time × rules In_range × rules Known × rules New × (rules Within_limits → ⊥)
+BreaksFirst rules Late = rules InTime → ⊥
+BreaksFirst rules Range = rules InTime × (rules InRange → ⊥)
+BreaksFirst rules Name = rules InTime × rules InRange × (rules Known → ⊥)
+BreaksFirst rules Twice = rules InTime × rules InRange × rules Known × (rules New → ⊥)
+BreaksFirst rules Limit = rules InTime × rules InRange × rules Known × rules New × (rules WithinLimits → ⊥)

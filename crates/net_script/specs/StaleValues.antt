@@ -7,7 +7,7 @@ use Rattle.net_script.specs.Draft.{wild_sender}
 use Rattle.net_script.specs.declared.draft.StaleValues.{StaleValues}
 use Rattle.net_script.specs.declared.line.StaleResvLine.{StaleResvLine}
 
-pub record AreValues (l : StaleResvLine) (v : StaleValues) : Type 0 where
+pub record AreValuesOf (l : StaleResvLine) (v : StaleValues) : Type 0 where
   pub session : v.session ≡ session_value l.session
   pub next : v.next ≡ addr_value l.next
   pub senders : v.senders.items ≡ each wild_sender l.senders

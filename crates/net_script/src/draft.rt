@@ -9,11 +9,12 @@ use rsvp_base::{Addr, Flow, Sender, Session};
 use script_words::EndName;
 use std::alloc::Global;
 
-/// An end that was declared: its name, and which interface of its node it is, from 0.
+/// An end that was declared.
 #[derive(Drop)]
 pub struct Declared {
     pub name: EndName,
     pub end: End,
+    /// Which interface of its node it is, from 0.
     pub iface: u8,
 }
 
@@ -32,18 +33,24 @@ pub struct StaleValues {
     pub next: Addr,
     pub senders: Vec<Sender>,
     pub flow: Flow,
+    /// In milliseconds.
     pub left: u32,
 }
 
-/// The lines so far. Names and keys are kept in order and are found by their hash.
+/// The lines so far. Names, keys and sessions are found by their hash.
 #[derive(Drop)]
 pub struct Checker {
+    /// In milliseconds, where a line gave one.
     pub period: Option<u32>,
+    /// The names of the nodes, by number.
     pub nodes: NameTable,
+    /// The names of the ends, by number.
     pub end_names: NameTable,
     pub ends: Vec<Declared>,
     pub stale: Vec<Stale>,
+    /// The key of each left-over fact.
     pub keys: IndexSet<StaleKey>,
+    /// The sessions that were named.
     pub sessions: IndexSet<Session>,
     pub events: Vec<Event>,
     pub ghost minute: { unwrap_or period 30000 ≤ 60000 },

@@ -1,4 +1,8 @@
 //! Faults of scripts.
+ghost use Rattle.std.specs.Prelude.{◌≡◌};
+ghost use Rattle.net_script.specs.declared.fault.ParseErr.TheVariants.{NoMemory};
+
+use std::alloc::{AllocError, AllocFailed};
 use thiserror::Error;
 
 /// Why a line is bad. The first of these that a line has, in the order in which they are looked for, is its fault: a
@@ -42,4 +46,20 @@ pub enum ParseErr {
     /// Memory ran out.
     #[error("no memory")]
     NoMemory,
+}
+
+impl From<AllocError> for ParseErr {
+    ghost from_gives = { λ _ e. e ≡ NoMemory };
+
+    fn from(_: AllocError) -> Self {
+        ParseErr::NoMemory
+    }
+}
+
+impl<T: Drop> From<AllocFailed<T>> for ParseErr {
+    ghost from_gives = { λ _ e. e ≡ NoMemory };
+
+    fn from(_: AllocFailed<T>) -> Self {
+        ParseErr::NoMemory
+    }
 }

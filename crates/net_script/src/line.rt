@@ -7,7 +7,7 @@ use std::marker::Model;
 pub enum Line {
     /// A line without words, or one whose first byte is `#`.
     Skipped,
-    /// `period MS`
+    /// `period MS`: the period in milliseconds.
     Period(u128),
     /// `node NAME`
     Node(EndName),
@@ -15,30 +15,36 @@ pub enum Line {
     End(EndLine),
     /// `stale-resv END SESSION WF ADDR ADDRS FLOW LEFT`
     StaleResv(StaleResvLine),
-    /// `wait MS`
+    /// `wait MS`: how long, in milliseconds.
     Wait(u128),
     /// `report`
     Report,
 }
 
-/// An end of a node: its name, the name of its node, its address, capacity and MTU.
+/// An end of a node.
 #[derive(Drop)]
 pub struct EndLine {
     pub name: EndName,
+    /// The name of its node.
     pub node: EndName,
     pub addr: DottedQuad,
+    /// In bytes per second.
     pub capacity: u128,
+    /// In bytes.
     pub mtu: u128,
 }
 
-/// A left-over wildcard reservation: the name of its end, its session, next hop, senders, flow, and how long it lives.
+/// A left-over wildcard reservation (RFC 2205, 1.3).
 #[derive(Drop)]
 pub struct StaleResvLine {
+    /// The name of its end.
     pub end: EndName,
     pub session: SessionWord,
+    /// The next hop.
     pub next: DottedQuad,
     pub senders: Addresses,
     pub flow: FlowWord,
+    /// How long it still lives, in milliseconds.
     pub left: u128,
 }
 

@@ -1,10 +1,9 @@
 //! Names, numbered in the order in which they were declared.
-ghost use Rattle.std.specs.Prelude.{◌≡◌, ◌<◌, ◌∷◌, ◌++◌, [], IfSome, OnOk, OnErr, length, None};
+ghost use Rattle.std.specs.Prelude.{◌≡◌, ◌<◌, ◌∷◌, ◌++◌, [], IfSome, None, OnErr, OnOk, length};
 ghost use Rattle.net_script.specs.Draft.{place_of};
 
 use indexmap::IndexSet;
-use rsvp_base::NoMemory;
-use std::alloc::Global;
+use std::alloc::{AllocError, Global};
 use std::marker::Model;
 
 /// Names by number, from 0.
@@ -47,17 +46,13 @@ impl NameTable {
     }
 
     /// Adds a name that is not there. For want of memory it is not added.
-    pub fn add(&mut self, alloc: Global, name: &[u8]) -> Result<(), NoMemory>
+    pub fn add(&mut self, alloc: Global, name: &[u8]) -> Result<(), AllocError>
         requires { place_of self.old name.now ≡ None }
         ensures ok { OnOk result (self.new ≡ self.old ++ name.now ∷ []) }
         ensures err { OnErr result (self.new ≡ self.old) }
     {
-        let Ok(name) = name.to_vec(alloc) else {
-            return Err(NoMemory);
-        };
-        let Ok(_) = self.names.insert(name) else {
-            return Err(NoMemory);
-        };
+        let name = name.to_vec(alloc)?;
+        self.names.insert(name)?;
         Ok(())
     }
 }

@@ -40,16 +40,14 @@ fn take_line<'a>(
 fn finish(alloc: Global, checker: Checker) -> Result<Script, ParseErr>
     ensures { MatchResult result (λ s. plan_of s ≡ planned (draft_of checker)) (λ e. e ≡ ParseErr.NoMemory) }
 {
-    let period = checker.period.unwrap_or(USUAL_PERIOD);
-    let mut ends = Vec::new(alloc);
-    let mut names = Vec::new(alloc);
-    for declared in checker.ends.as_slice() {
-        if ends.push(declared.end).is_err() || names.push(declared.name.copy()).is_err() {
-            return Err(ParseErr::NoMemory);
-        }
+    let mut ends = Vec::with_capacity(alloc, checker.ends.len())?;
+    let mut names = Vec::with_capacity(alloc, checker.ends.len())?;
+    for declared in checker.ends {
+        ends.push(declared.end)?;
+        names.push(declared.name)?;
     }
     Ok(Script {
-        period,
+        period: checker.period.unwrap_or(USUAL_PERIOD),
         ends,
         names: EndNames::of(names),
         stale: checker.stale,

@@ -12,18 +12,21 @@ pub struct End {
     pub iface: Iface,
 }
 
-/// State that is left over from before the script.
+/// Soft state that is left over from before the script (RFC 2205, 2.3).
 #[derive(Drop)]
 pub enum Stale {
-    /// A reservation on an interface of a node, for a next hop, which lives for `left` milliseconds.
+    /// A reservation of a style (RFC 2205, 1.3) that `next` made on an interface of a node, and that nobody refreshes.
     Resv {
         node: u16,
         iface: u8,
         session: Session,
         style: StyleKind,
+        /// The next hop: the address of the interface that asked for it.
         next: Addr,
+        /// A wildcard reservation names them by address, with port 0.
         senders: Senders,
         flow: Flow,
+        /// How long it still lives, in milliseconds: from 1 to the lifetime of the script's period (RFC 2205, 3.7).
         left: u32,
     },
 }
@@ -31,9 +34,9 @@ pub enum Stale {
 /// What a script does.
 #[derive(Clone, Copy, Debug, PartialEq, Eq)]
 pub enum Event {
-    /// Time passes, in milliseconds.
+    /// Time passes: `ms` milliseconds, from 1 to 3,600,000.
     Wait { ms: u32 },
-    /// The books are written: of one end, or of all.
+    /// What an end has reserved is written: that of one end, or of all.
     Report { end: Option<u16> },
 }
 
@@ -84,12 +87,17 @@ impl EndNames {
     }
 }
 
-/// A script: the period R in milliseconds, the ends with their names, the left-over state, and what happens.
+/// What the lines of a script say.
 #[derive(Drop)]
 pub struct Script {
+    /// The refresh period R of the network, in milliseconds (RFC 2205, 3.7).
     pub period: u32,
+    /// The ends, by number.
     pub ends: Vec<End>,
+    /// Their names.
     pub names: EndNames,
+    /// The left-over state, in the order of its lines.
     pub stale: Vec<Stale>,
+    /// What happens, in order.
     pub events: Vec<Event>,
 }

@@ -1,0 +1,12 @@
+use Rattle.std.proofs.Common.{arith, sym, ap, ◌∙◌}
+use Rattle.byte_streams.specs.Devices.{Feed}
+use Rattle.byte_streams.proofs.Front.{left_is_given_and_rest, none_left}
+use Rattle.byte_streams.proofs.memory.MemorySourceSource.take.Goals as goal
+
+pub returns-clause-bytes : goal.returns-clause-bytes
+returns-clause-bytes c =
+    let given = rw c.deref-2.ensures.value at c.copy_front-count.ensures in
+    let items = c.self.inside.bytes.items in
+    let at = c.self.inside.at in
+    let was = ap (λ (feed : Feed). feed.left) (sym c.self.view_is) in
+    (was ∙ left_is_given_and_rest items _ at _ given.front, none_left items at _ _ _ given.count (omega arith))
