@@ -5,3 +5,5 @@ pub mod Orders
 pub mod Rising
 pub mod Rates
 pub mod TokenBucket
+pub mod Members
+pub mod Rows
