@@ -3,25 +3,18 @@ use Rattle.std.specs.Prelude.{◌≡◌, ℕ, ◌≤◌, Bool, true, false, cond
 use Rattle.std.proofs.Common.{inl, inr, ⊎_elim, ap, ◌∙◌, arith}
 use Rattle.std.proofs.lemmas.Bool.{leb-true, le-leb, eqb-true}
 use Rattle.rsvp_base.specs.TokenBucket.{TokenBucket}
+use Rattle.rsvp_base.proofs.SetLaws.{and_both, and_made}
 use Rattle.flow_merge.specs.FlowOrder.{IsAtMost, flow_le, peak_le}
 use Rattle.flow_merge.specs.Blockade.{Blockades, does_blockade}
 use Rattle.flow_merge.specs.Laws.{TestsTell, BlockadeFollowsTheOrder}
 use Rattle.flow_merge.proofs.Peaks.{peak_told, peak_tested}
 
-both : (a b : Bool) → (a && b) ≡ true → (a ≡ true) × (b ≡ true)
-both true b e = (refl, e)
-both false b e = cc
-
-made : (a b : Bool) → a ≡ true → b ≡ true → (a && b) ≡ true
-made true b e f = f
-made false b e f = cc
-
 pub at_most_told : (a b : TokenBucket) → flow_le a b ≡ true → IsAtMost a b
 at_most_told a b e =
-    let rate = both (nat_le a.r b.r) _ e in
-    let depth = both (nat_le a.b b.b) _ rate.1 in
-    let peak = both (peak_le a.p b.p) _ depth.1 in
-    let sizes = both (nat_le b.low a.low) (nat_le a.most b.most) peak.1 in
+    let rate = and_both (nat_le a.r b.r) _ e in
+    let depth = and_both (nat_le a.b b.b) _ rate.1 in
+    let peak = and_both (peak_le a.p b.p) _ depth.1 in
+    let sizes = and_both (nat_le b.low a.low) (nat_le a.most b.most) peak.1 in
     record {
       rate = leb-true a.r b.r rate.0;
       depth = leb-true a.b b.b depth.0;
@@ -32,10 +25,10 @@ at_most_told a b e =
 
 pub at_most_tested : (a b : TokenBucket) → IsAtMost a b → flow_le a b ≡ true
 at_most_tested a b h =
-    made _ _ (le-leb a.r b.r h.rate)
-    (made _ _ (le-leb a.b b.b h.depth)
-    (made _ _ (peak_tested a.p b.p h.peak)
-    (made _ _ (le-leb b.low a.low h.low) (le-leb a.most b.most h.most))))
+    and_made _ _ (le-leb a.r b.r h.rate)
+    (and_made _ _ (le-leb a.b b.b h.depth)
+    (and_made _ _ (peak_tested a.p b.p h.peak)
+    (and_made _ _ (le-leb b.low a.low h.low) (le-leb a.most b.most h.most))))
 
 -- ---- blockade
 pub blockade_told : (refused : TokenBucket) (sub : ℕ) (request : TokenBucket) → does_blockade refused sub request ≡ true → Blockades refused sub request
@@ -43,7 +36,7 @@ blockade_told refused sub request e = by (sub == 2) refl e
   where
     by : (b : Bool) → (sub == 2) ≡ b → cond b (nat_le refused.r request.r) ((sub == 3) && nat_le refused.most request.most) ≡ true → Blockades refused sub request
     by true t e = inl (eqb-true sub 2 t, leb-true refused.r request.r e)
-    by false t e = let parts = both (sub == 3) _ e in inr (eqb-true sub 3 parts.0, leb-true refused.most request.most parts.1)
+    by false t e = let parts = and_both (sub == 3) _ e in inr (eqb-true sub 3 parts.0, leb-true refused.most request.most parts.1)
 
 pub blockade_tested : (refused : TokenBucket) (sub : ℕ) (request : TokenBucket) → Blockades refused sub request → does_blockade refused sub request ≡ true
 blockade_tested refused sub request h =

@@ -40,11 +40,11 @@ or_absorbed : (a b : Bool) → (a ≡ true → b ≡ true) → (a || b) ≡ b
 or_absorbed true b h = sym (h refl)
 or_absorbed false b h = refl
 
-and_both : (a b : Bool) → (a && b) ≡ true → (a ≡ true) × (b ≡ true)
+pub and_both : (a b : Bool) → (a && b) ≡ true → (a ≡ true) × (b ≡ true)
 and_both true b e = (refl, e)
 and_both false b e = cc
 
-and_made : (a b : Bool) → a ≡ true → b ≡ true → (a && b) ≡ true
+pub and_made : (a b : Bool) → a ≡ true → b ≡ true → (a && b) ≡ true
 and_made true b e f = f
 and_made false b e f = cc
 

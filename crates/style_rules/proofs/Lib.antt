@@ -1,0 +1,6 @@
+pub mod StyleLaws
+pub mod Folds
+pub mod Merges
+pub mod Towards
+pub mod Books
+pub mod Room
