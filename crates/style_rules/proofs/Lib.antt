@@ -4,3 +4,4 @@ pub mod Merges
 pub mod Towards
 pub mod Books
 pub mod Room
+pub mod Claims

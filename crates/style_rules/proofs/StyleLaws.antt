@@ -22,12 +22,28 @@ use Rattle.style_rules.specs.Styles.{name_of, unit_of, unit_of_first}
 use Rattle.style_rules.specs.Parts.{has_name, part_join, part_cut, part_unit, IsOfStyle}
 use Rattle.style_rules.specs.CutLaws.{some_name, name_some, some_within, Made, cut_of, cut_named}
 
+length_each : {A B : Type 0} (f : A → B) (xs : List A) → length (each f xs) ≡ length xs
+length_each f [] = refl
+length_each f (x ∷ xs) = let rest = length_each f xs in omega arith
+
 -- ---- names that are there
 pub named_in : (p : Part) (s : Sender) → has p.senders s ≡ true → In s (keys p.senders)
 named_in p s e = in_tied senders s (keys p.senders) (sym (has_keys p.senders s) ∙ e)
 
 pub in_named : (p : Part) (s : Sender) → In s (keys p.senders) → has p.senders s ≡ true
 in_named p s i = has_keys p.senders s ∙ tied_in senders s (keys p.senders) i
+
+-- a set that is not empty has a name
+pub a_name : (m : Names) → is_none m ≡ false → (s : Sender) × (has m s ≡ true)
+a_name m e =
+    let some = some_name m e in
+    let same = length_each (λ (r : Sender × Unit {0}). r.0) m.rows in
+    let r = a_member (keys m) (omega arith) in
+    (r.0, has_keys m r.0 ∙ tied_in senders r.0 (keys m) r.1)
+  where
+    a_member : (ks : List Sender) → 0 < length ks → (s : Sender) × In s ks
+    a_member [] h = absurd (omega arith)
+    a_member (k ∷ ks) h = (k, inl refl)
 
 -- a name of the part whose unit is the part's
 pub record UnitName (st : StyleKind) (p : Part) : Type 0 where
@@ -42,10 +58,6 @@ not_true false e = refl
 first_of : (st : StyleKind) (ks : List Sender) → 0 < length ks → (s : Sender) × In s ks × (unit_of_first st ks ≡ unit_of st s)
 first_of st [] h = absurd (omega arith)
 first_of st (s ∷ ss) h = (s, inl refl, refl)
-
-length_each : {A B : Type 0} (f : A → B) (xs : List A) → length (each f xs) ≡ length xs
-length_each f [] = refl
-length_each f (x ∷ xs) = let rest = length_each f xs in omega arith
 
 pub unit_name : (st : StyleKind) (p : Part) → has_name p ≡ true → UnitName st p
 unit_name st p e =

@@ -19,7 +19,7 @@ use Rattle.flow_merge.specs.FlowOrder.{IsAtMost, flow_join, flow_meet}
 use Rattle.flow_merge.proofs.Lattice.{at_most_itself, at_most_along, join_above_left, meet_below_left, meet_below_right}
 use Rattle.style_rules.specs.Parts.{has_name, part_join, part_meet, part_unit, part_charge, IsPartAtMost}
 use Rattle.style_rules.specs.Merge.{table_at, all_by, those_at, merge_at, merge_of, merge, PartTable}
-use Rattle.style_rules.specs.Toward.{Request, request_unit, parts_of, open_of, requests_at, or_else, toward_at, toward}
+use Rattle.style_rules.specs.Toward.{Request, request_unit, parts_of, open_of, requests_at, or_else, toward_at, toward, IsRequestOf, IsOpenRequestOf, flows_of, meet_at}
 use Rattle.style_rules.specs.PartLaws.{part_at_most_itself, part_at_most_along, part_join_above_left, part_join_above_right, part_join_least, charge_below, most_below}
 use Rattle.style_rules.proofs.Folds.{all_keeps, all_above, all_some, some_all, all_under}
 use Rattle.style_rules.proofs.Merges.{get-table_at_all, none_those, in_those, to_those, get-merge_of, merge_of-each}
@@ -108,12 +108,6 @@ or_same : (ps : List Part) → or_else (all_by part_join ps) (all_by part_meet p
 or_same [] = refl
 or_same (p ∷ ps) = refl
 
--- a request of a unit, that names someone
-pub record IsRequestOf (st : StyleKind) (rs : List Request) (u : UnitOf) (r : Request) : Type 0 where
-  pub among : In r rs
-  pub named : has_name r.part ≡ true
-  pub unit : u ≡ request_unit st r
-
 pub request_in : (st : StyleKind) (rs : List Request) (u : UnitOf) (r : Request) → In r (requests_at st u rs) → IsRequestOf st rs u r
 request_in st rs u r i = let s = in_those units (request_unit st) (λ (z : Request). z.part) u r rs i in record { among = s.0; named = s.1; unit = s.2 }
 
@@ -147,16 +141,9 @@ toward_there st rs u r is =
     toward_units st rs u ∙ ap is_some (get-merge-parts_of st rs u ∙ m.1)
 
 -- ---- at least the meet
-abbrev pub flows_of : List Request → List TokenBucket
-flows_of rs = each (λ r. r.part.flow) rs
-
 flows_are : (rs : List Request) → each (λ (p : Part). p.flow) (parts_of rs) ≡ flows_of rs
 flows_are [] = refl
 flows_are (r ∷ rs) = ap (λ zs. r.part.flow ∷ zs) (flows_are rs)
-
--- the meet of the flows of all requests of a unit
-abbrev pub meet_at : StyleKind → List Request → UnitOf → Option TokenBucket
-meet_at st rs u = all_by flow_meet (flows_of (requests_at st u rs))
 
 above_meet : (rs : List Request) (t : Part) (f : TokenBucket) (v : Option Part) → all_by part_join (parts_of (open_of rs)) ≡ v → or_else v (all_by part_meet (parts_of rs)) ≡ Some t → all_by flow_meet (flows_of rs) ≡ Some f → IsAtMost f t.flow
 above_meet rs t f None e g h =
@@ -175,6 +162,23 @@ above_meet rs t f (Some x) e g h =
 pub toward_above_meet : (st : StyleKind) (rs : List Request) (u : UnitOf) (t : Part) (f : TokenBucket) → get (toward st rs) u ≡ Some t → meet_at st rs u ≡ Some f → IsAtMost f t.flow
 toward_above_meet st rs u t f e h = above_meet (requests_at st u rs) t f (all_by part_join (parts_of (open_of (requests_at st u rs)))) refl (sym (get-toward st rs u) ∙ e) h
 
+pub meet_there : (st : StyleKind) (rs : List Request) (u : UnitOf) (t : Part) → get (toward st rs) u ≡ Some t → (f : TokenBucket) × (meet_at st rs u ≡ Some f)
+meet_there st rs u t e =
+    let r = toward_source st rs u (ap is_some e) in
+    all_some flow_meet (flows_of (requests_at st u rs)) r.0.part.flow (to_each (λ (z : Request). z.part.flow) r.0 (requests_at st u rs) (in_request st rs u r.0 r.1))
+
+-- what each request of the unit has, and two together have, is had by what goes toward the hop
+pub toward_keeps : (st : StyleKind) (P : Part → Type 0) → ((a b : Part) → P a → P b → P (part_join a b)) → ((a b : Part) → P a → P b → P (part_meet a b)) → (rs : List Request) (u : UnitOf) (t : Part) → get (toward st rs) u ≡ Some t
+    → ((r : Request) → IsRequestOf st rs u r → P r.part) → P t
+toward_keeps st P joins meets rs u t e every = by (all_by part_join (parts_of (open_of (requests_at st u rs)))) refl (sym (get-toward st rs u) ∙ e)
+  where
+    each_part : (p : Part) → In p (parts_of (requests_at st u rs)) → P p
+    each_part p i = let s = in_each (λ (r : Request). r.part) p (requests_at st u rs) i in subst P (sym s.2) (every s.0 (request_in st rs u s.0 s.1))
+
+    by : (v : Option Part) → all_by part_join (parts_of (open_of (requests_at st u rs))) ≡ v → or_else v (all_by part_meet (parts_of (requests_at st u rs))) ≡ Some t → P t
+    by None f g = all_keeps part_meet P meets (parts_of (requests_at st u rs)) t g each_part
+    by (Some x) f g = all_keeps part_join P joins (parts_of (open_of (requests_at st u rs))) t (f ∙ g) (λ p i. each_part p (open_part (requests_at st u rs) p i))
+
 -- ---- the join of the open ones
 open_or : (v w : Option Part) (x : Part) → v ≡ Some x → or_else v w ≡ v
 open_or None w x e = absurd (cc)
@@ -186,11 +190,6 @@ toward_join st rs u r is free =
     let j = to_each (λ (z : Request). z.part) r (open_of (requests_at st u rs)) i in
     let m = all_some part_join (parts_of (open_of (requests_at st u rs))) r.part j in
     get-toward st rs u ∙ open_or (all_by part_join (parts_of (open_of (requests_at st u rs)))) (all_by part_meet (parts_of (requests_at st u rs))) m.0 m.1
-
--- an open request of the unit
-pub record IsOpenRequestOf (st : StyleKind) (rs : List Request) (u : UnitOf) (r : Request) : Type 0 where
-  pub request : IsRequestOf st rs u r
-  pub unmarked : r.blockaded ≡ false
 
 open_in : (st : StyleKind) (rs : List Request) (u : UnitOf) (r : Request) → In r (open_of (requests_at st u rs)) → IsOpenRequestOf st rs u r
 open_in st rs u r i =

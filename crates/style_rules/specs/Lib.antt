@@ -6,3 +6,4 @@ pub mod Merge
 pub mod Toward
 pub mod Lines
 pub mod Limits
+pub mod Laws

@@ -1,12 +1,14 @@
 -- The style merge (RFC 2205, 2.2): of the parts of each unit that name someone, the senders of all and the join of the
 -- flows. It is a table, so that equal merges are identical, and knows no limit of room.
-use Rattle.std.specs.Prelude.{Bool, ◌&&◌, List, [], ◌∷◌, map as each, Option, Some, None}
+use Rattle.std.specs.Prelude.{◌≡◌, Bool, true, ◌&&◌, List, [], ◌∷◌, map as each, Option, Some, None}
 use Rattle.std.specs.List.{filter, fold}
 use Rattle.std.specs.Ordering.{eq_by_cmp}
 use Rattle.rsvp_base.specs.declared.part.Part.{Part}
 use Rattle.rsvp_base.specs.declared.style.StyleKind.{StyleKind}
+use Rattle.rsvp_base.specs.declared.style.Unit.{Unit as UnitOf}
 use Rattle.rsvp_base.specs.Keys.{Keys}
-use Rattle.rsvp_base.specs.Table.{Table, empty, put_in}
+use Rattle.rsvp_base.specs.Members.{In}
+use Rattle.rsvp_base.specs.Table.{Table, empty, get, put_in}
 use Rattle.rsvp_base.specs.Orders.{units}
 use Rattle.style_rules.specs.Parts.{has_name, part_join, part_unit}
 
@@ -43,3 +45,16 @@ PartTable = Table units Part
 -- of parts, by the units of their style
 abbrev pub merge : StyleKind → List Part → PartTable
 merge st ps = merge_of units (part_unit st) (λ p. p) ps
+
+-- ---- what is said of it
+-- a part of the list that has the unit and names someone
+pub record IsPartOf (st : StyleKind) (ps : List Part) (u : UnitOf) (p : Part) : Type 0 where
+  pub among : In p ps
+  pub named : has_name p ≡ true
+  pub unit : u ≡ part_unit st p
+
+-- the table has a part exactly for each unit of such parts, and it is the least that can stand for all of them
+pub record IsMergeOf (st : StyleKind) (at_most : Part → Part → Type 0) (ps : List Part) (t : PartTable) : Type 0 where
+  pub source : (u : UnitOf) (m : Part) → get t u ≡ Some m → (p : Part) × IsPartOf st ps u p
+  pub above : (u : UnitOf) (p : Part) → IsPartOf st ps u p → (m : Part) × (get t u ≡ Some m) × at_most p m
+  pub least : (u : UnitOf) (m c : Part) → get t u ≡ Some m → ((p : Part) → IsPartOf st ps u p → at_most p c) → at_most m c

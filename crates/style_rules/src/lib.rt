@@ -6,6 +6,7 @@
 #![tactic(auto)]
 
 mod cuts;
+pub mod laws;
 mod style;
 
 pub use cuts::{charge, cut};
