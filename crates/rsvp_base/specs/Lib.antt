@@ -7,3 +7,4 @@ pub mod Rates
 pub mod TokenBucket
 pub mod Members
 pub mod Rows
+pub mod Codes

@@ -17,6 +17,7 @@ module _ {A K X : Type 0} (o : Keys K) (row : A → K × X) where
   -- the key's row stands at this place
   pub record HasRowAt (xs : List A) (k : K) (i : ℕ) : Type 0 where
     pub within : i < length xs
+    pub key : (d : A) → (row (slice_index_or xs i d)).0 ≡ k
     pub found : (d : A) → find o.cmp k (each row xs) ≡ Some (row (slice_index_or xs i d)).1
     pub replaced : (a : A) (v : X) → row a ≡ (k, v) → put o.cmp k v (each row xs) ≡ each row (slice_set xs i a)
     pub taken : where_key o.cmp (λ x. not (eq_by_cmp o.cmp k x)) (each row xs) ≡ each row (remove xs i)

@@ -5,3 +5,4 @@ pub mod Towards
 pub mod Books
 pub mod Room
 pub mod Claims
+pub mod WayRows

@@ -6,4 +6,5 @@ pub mod Merge
 pub mod Toward
 pub mod Lines
 pub mod Limits
+pub mod Ways
 pub mod Laws

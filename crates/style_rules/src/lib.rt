@@ -7,7 +7,13 @@
 
 mod cuts;
 pub mod laws;
+mod parts;
 mod style;
+mod upstream;
+mod wall;
 
 pub use cuts::{charge, cut};
+pub use parts::Parts;
 pub use style::{Fixed, Shared, Style, Wild};
+pub use upstream::Upstream;
+pub use wall::{UpLine, Wall};
