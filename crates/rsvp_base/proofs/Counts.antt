@@ -1,16 +1,17 @@
 -- Rows as members, and sums and sizes: fewer keys with smaller values, no larger sum.
 use Rattle.std.specs.Prelude.{◌≡◌, ℕ, ◌+◌, ◌≤◌, Bool, true, false, cond, not, Some, None, List, [], ◌∷◌, length, is_some, sum_by, refl}
 use Rattle.std.proofs.Common.{sym, ap, subst, ◌∙◌, arith, T, inl, inr, ⊎_elim}
+use Rattle.std.proofs.lemmas.List.{length-map}
 use Rattle.std.proofs.lemmas.List.Sums.{sum_by-cons}
 use Rattle.std.specs.List.{list_any}
 use Rattle.std.specs.Ordering.{eq_by_cmp}
 use Rattle.std.specs.FinMap.Entries.{find, where_key, below_all, is_sorted}
 use Rattle.rsvp_base.specs.Keys.{Keys}
-use Rattle.rsvp_base.specs.Table.{Table, get, has, size, empty, without, first, second}
-use Rattle.rsvp_base.specs.Sets.{listed, set_of}
+use Rattle.rsvp_base.specs.Table.{Table, get, has, size, empty, with_rows, without, first, second}
+use Rattle.rsvp_base.specs.Sets.{Set, listed, with_key, set_of}
 use Rattle.rsvp_base.specs.Members.{In}
 use Rattle.rsvp_base.proofs.Tables.{either, tied_same, tied_self, none_above, get-without, less_not_equal}
-use Rattle.rsvp_base.proofs.SetLaws.{has-with_rows}
+use Rattle.rsvp_base.proofs.SetLaws.{has-with_rows, size-with_key}
 use Rattle.rsvp_base.proofs.Lists.{keys-listed}
 use Rattle.rsvp_base.proofs.Members.{in_tied, tied_in}
 
@@ -134,3 +135,16 @@ module _ {K : Type 0} (o : Keys K) where
   -- members among members, no more of them
   pub set_below : (xs ys : List K) → ((k : K) → In k xs → In k ys) → size (set_of {o = o} xs) ≤ size (set_of {o = o} ys)
   set_below xs ys h = size_below o (set_of {o = o} xs) (set_of {o = o} ys) (λ k e. in_set_of ys k (h k (set_of_in xs k e)))
+
+  with_rows_size : (es : List (K × Unit {0})) (m : Set o) → size (with_rows m es) ≤ size m + length es
+  with_rows_size [] m = omega arith
+  with_rows_size (e ∷ es) m =
+      let rest = with_rows_size es (with_key m e.0) in
+      let one = size-with_key o m e.0 in
+      either (has m e.0)
+      (λ t. let same : size (with_key m e.0) ≡ size m = one ∙ ap (λ b. cond b (size m) (size m + 1)) t in omega (arith, rest, same))
+      (λ t. let more : size (with_key m e.0) ≡ size m + 1 = one ∙ ap (λ b. cond b (size m) (size m + 1)) t in omega (arith, rest, more))
+
+  -- a list's set is no larger than the list
+  pub size-set_of : (ks : List K) → size (set_of {o = o} ks) ≤ length ks
+  size-set_of ks = let all = with_rows_size (listed ks) empty in let same : length (listed ks) ≡ length ks = length-map ks (λ k. (k, tt)) in omega (arith, all, same)

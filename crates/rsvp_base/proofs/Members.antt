@@ -79,6 +79,23 @@ module _ {A : Type 0} (test : A → Bool) where
   in_all [] h = refl
   in_all (y ∷ ys) h = ap (λ b. b && list_all test ys) (h y (inl refl)) ∙ in_all ys (λ x i. h x (inr i))
 
+  pub in_any : (xs : List A) → list_any test xs ≡ true → (x : A) × In x xs × (test x ≡ true)
+  in_any [] h = absurd (cc)
+  in_any (y ∷ ys) h = by (in_any ys) (test y) refl h
+    where
+      by : (list_any test ys ≡ true → (x : A) × In x ys × (test x ≡ true)) → (b : Bool) → test y ≡ b → (b || list_any test ys) ≡ true → (x : A) × In x (y ∷ ys) × (test x ≡ true)
+      by rest true t h = (y, inl refl, t)
+      by rest false t h = let r = rest h in (r.0, inr r.1, r.2)
+
+  pub any_in : (x : A) (xs : List A) → In x xs → test x ≡ true → list_any test xs ≡ true
+  any_in x [] i h = absurd i
+  any_in x (y ∷ ys) i h =
+      ⊎_elim (λ (e : x ≡ y). ap (λ b. b || list_any test ys) (ap test (sym e) ∙ h)) (λ (j : In x ys). ap (λ b. test y || b) (any_in x ys j h) ∙ or_true (test y)) i
+    where
+      or_true : (b : Bool) → (b || true) ≡ true
+      or_true true = refl
+      or_true false = refl
+
 -- ---- members by the order of keys
 module _ {K : Type 0} (o : Keys K) where
   pub in_tied : (k : K) (ks : List K) → list_any (eq_by_cmp o.cmp k) ks ≡ true → In k ks

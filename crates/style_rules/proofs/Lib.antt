@@ -6,3 +6,5 @@ pub mod Books
 pub mod Room
 pub mod Claims
 pub mod WayRows
+pub mod Tallies
+pub mod TallyRoom

@@ -7,4 +7,5 @@ pub mod Toward
 pub mod Lines
 pub mod Limits
 pub mod Ways
+pub mod Tally
 pub mod Laws
