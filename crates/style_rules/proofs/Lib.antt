@@ -8,3 +8,4 @@ pub mod Claims
 pub mod WayRows
 pub mod Tallies
 pub mod TallyRoom
+pub mod MergerRows

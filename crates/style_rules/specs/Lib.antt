@@ -8,4 +8,5 @@ pub mod Lines
 pub mod Limits
 pub mod Ways
 pub mod Tally
+pub mod TallyRows
 pub mod Laws

@@ -18,10 +18,10 @@ use Rattle.style_rules.specs.Parts.{part_join, part_meet, IsPartAtMost, part_le,
 within_along : (s t u : Names) → IsWithin s t → IsWithin t u → IsWithin s u
 within_along s t u h g q e = g q (h q e)
 
-same_names : (s t : Names) → IsWithin s t → IsWithin t s → s ≡ t
+pub same_names : (s t : Names) → IsWithin s t → IsWithin t s → s ≡ t
 same_names s t h g = sym (union_of_within senders t s g) ∙ (union_comm senders t s ∙ union_of_within senders s t h)
 
-union_least : (s t u : Names) → IsWithin s u → IsWithin t u → IsWithin (union s t) u
+pub union_least : (s t u : Names) → IsWithin s u → IsWithin t u → IsWithin (union s t) u
 union_least s t u h g = within_of_union senders (union s t) u (union_assoc senders s t u ∙ ap (union s) (union_of_within senders t u g) ∙ union_of_within senders s u h)
 
 -- ---- the order

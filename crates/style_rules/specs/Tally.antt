@@ -1,5 +1,5 @@
 -- What a merger keeps of the requests that were added to it.
-use Rattle.std.specs.Prelude.{Bool, true, false, cond, not, List, map as each, Option, Some, None, IsTrue, refl}
+use Rattle.std.specs.Prelude.{◌≤◌, Bool, true, false, cond, not, List, map as each, Option, Some, None, IsTrue, refl}
 use Rattle.std.specs.List.{flat_map, list_any, list_all}
 use Rattle.std.specs.Option.{option_map}
 use Rattle.std.specs.Ordering.{eq_by_cmp}
@@ -10,7 +10,7 @@ use Rattle.rsvp_base.specs.declared.style.Unit.{Unit as UnitOf}
 use Rattle.rsvp_base.specs.Codes.{unit_code, part_code}
 use Rattle.rsvp_base.specs.Orders.{units, Names}
 use Rattle.rsvp_base.specs.Sets.{set_of}
-use Rattle.rsvp_base.specs.Table.{Table, get, put_in, changed, keys, table_code}
+use Rattle.rsvp_base.specs.Table.{Table, get, size, put_in, changed, keys, table_code}
 use Rattle.style_rules.specs.Styles.{unit_of}
 use Rattle.style_rules.specs.Parts.{has_name, part_join, part_meet, part_unit}
 use Rattle.style_rules.specs.Merge.{table_at, all_by, PartTable}
@@ -61,6 +61,9 @@ names_of_rows es = set_of (flat_map (λ e. keys e.1.part.senders) es)
 
 abbrev pub names_of_tally : TallyTable → Names
 names_of_tally t = names_of_rows t.rows
+
+abbrev pub NamesFit : List (UnitOf × Standing) → Type 0
+NamesFit es = size (names_of_rows es) ≤ 16
 
 -- a row stands under the unit of a name of its part
 abbrev pub is_named : StyleKind → UnitOf × Standing → Bool

@@ -7,12 +7,16 @@
 
 mod cuts;
 pub mod laws;
+mod merger;
+mod order;
 mod parts;
+mod row;
 mod style;
 mod upstream;
 mod wall;
 
 pub use cuts::{charge, cut};
+pub use merger::Merger;
 pub use parts::Parts;
 pub use style::{Fixed, Shared, Style, Wild};
 pub use upstream::Upstream;

@@ -4,9 +4,9 @@ ghost use Rattle.std.specs.Option.{option_copied};
 ghost use Rattle.rsvp_base.specs.Orders.{units};
 ghost use Rattle.rsvp_base.specs.Rows.{AreRows, HasRowAt, LacksRowAt};
 
+use crate::order::unit_order;
 use arrayvec::ArrayVec;
 use rsvp_base::{Full, Part, Unit};
-use std::cmp::Ordering;
 use std::marker::Model;
 
 /// At most 16 parts, one for a unit, in order of unit. Contracts see the table of them by unit.
@@ -113,6 +113,15 @@ impl Parts {
         }
     }
 
+    // The parts of these rows.
+    pub(crate) fn of_rows(rows: ArrayVec<(Unit, Part), 16>) -> Parts
+        requires rising { AreRows units (λ e. e) rows.items }
+        requires few { length rows.items ≤ 16 }
+        ensures { result.rows ≡ rows.items }
+    {
+        Parts { rows }
+    }
+
     /// An equal list.
     pub fn copy(&self) -> Parts
         ensures { result ≡ self.now }
@@ -132,13 +141,6 @@ fn search(rows: &[(Unit, Part)], unit: Unit) -> Result<usize, usize>
     ensures absent { IfErr result (LacksRowAt units (λ e. e) rows.now unit) }
 {
     rows.binary_search_by(|row| unit_order(row.0, unit))
-}
-
-// The one unit of all before each sender's, and these by sender.
-fn unit_order(a: Unit, b: Unit) -> Ordering
-    ensures { result ≡ units.cmp a b }
-{
-    a.cmp(&b)
 }
 
 impl Default for Parts {

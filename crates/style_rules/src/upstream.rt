@@ -5,10 +5,10 @@ ghost use Rattle.rsvp_base.specs.Orders.{senders};
 ghost use Rattle.rsvp_base.specs.Rows.{AreRows, HasRowAt, LacksRowAt};
 ghost use Rattle.style_rules.specs.Ways.{way_of, line_of};
 
+use crate::order::sender_order;
 use crate::wall::UpLine;
 use arrayvec::ArrayVec;
 use rsvp_base::{Full, Sender};
-use std::cmp::Ordering;
 use std::marker::Model;
 
 /// At most 16 lines with distinct names, in order of name. Contracts see the table of the ways out and the blockades by
@@ -125,13 +125,6 @@ fn search(lines: &[UpLine], name: Sender) -> Result<usize, usize>
     ensures absent { IfErr result (LacksRowAt senders way_of lines.now name) }
 {
     lines.binary_search_by(|line| sender_order(line.name, name))
-}
-
-// By address and port.
-fn sender_order(a: Sender, b: Sender) -> Ordering
-    ensures { result ≡ senders.cmp a b }
-{
-    a.cmp(&b)
 }
 
 impl Default for Upstream {
