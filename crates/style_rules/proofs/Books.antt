@@ -1,14 +1,12 @@
 -- Fewer and smaller lines have a smaller book.
-use Rattle.std.specs.Prelude.{◌≡◌, ℕ, ◌≤◌, ◌==◌, true, Some, List, refl}
+use Rattle.std.specs.Prelude.{◌≡◌, ℕ, ◌≤◌, ◌==◌, Some, List}
 use Rattle.std.proofs.Common.{sym, ap, ◌∙◌}
-use Rattle.std.specs.List.{filter}
 use Rattle.rsvp_base.specs.declared.part.Part.{Part}
-use Rattle.rsvp_base.specs.Members.{In}
 use Rattle.rsvp_base.specs.Table.{get}
 use Rattle.rsvp_base.proofs.Members.{in_filter, to_filter}
 use Rattle.style_rules.specs.Parts.{part_charge, IsPartAtMost}
-use Rattle.style_rules.specs.Lines.{Line, line_key, EntryKey, entry_keys, entry_key, merged_book, at_end, book_of_end, held, IsUnder, AreUnder}
-use Rattle.style_rules.specs.PartLaws.{charge_below, most_below}
+use Rattle.style_rules.specs.Lines.{Line, EntryKey, entry_keys, entry_key, merged_book, at_end, book_of_end, held, IsUnder, AreUnder}
+use Rattle.style_rules.specs.PartLaws.{charge_below}
 use Rattle.style_rules.proofs.Merges.{merge_below, sums_below}
 
 same_entry : (l g : Line) → IsUnder l g → entry_key l ≡ entry_key g

@@ -1,34 +1,29 @@
 -- The claims of the laws, for an order, a join and a meet that are those of parts.
-use Rattle.std.specs.Prelude.{◌≡◌, ◌↔◌, ℕ, ◌<◌, ◌≤◌, Bool, true, false, cond, not, Option, Some, None, List, [], ◌∷◌, IsTrue, IsSomeAnd, is_some, length, refl}
-use Rattle.std.proofs.Common.{sym, ap, subst, ◌∙◌, arith, inl}
+use Rattle.std.specs.Prelude.{◌≡◌, ◌<◌, true, false, Some, None, List, [], ◌∷◌, IsSomeAnd, is_some, length, refl}
+use Rattle.std.proofs.Common.{sym, ap, subst, ◌∙◌, arith}
 use Rattle.std.specs.FinMap.Entries.{find}
 use Rattle.rsvp_base.specs.declared.part.Part.{Part}
 use Rattle.rsvp_base.specs.declared.session.Sender.{Sender}
 use Rattle.rsvp_base.specs.declared.style.StyleKind.{StyleKind}
 use Rattle.rsvp_base.specs.declared.style.Unit.{Unit as UnitOf}
-use Rattle.rsvp_base.specs.Members.{In}
 use Rattle.rsvp_base.specs.Orders.{Names, senders, units}
-use Rattle.rsvp_base.specs.Sets.{union, cut, IsWithin, is_none}
-use Rattle.rsvp_base.specs.Table.{get, has, size}
-use Rattle.rsvp_base.proofs.SetLaws.{has-cut, and_both, and_made, size_within}
+use Rattle.rsvp_base.specs.Sets.{union, cut, is_none}
+use Rattle.rsvp_base.specs.Table.{get, has}
+use Rattle.rsvp_base.proofs.SetLaws.{has-cut, and_both, and_made}
 use Rattle.rsvp_base.proofs.Tables.{either}
-use Rattle.rsvp_base.proofs.Members.{to_each}
-use Rattle.rsvp_base.proofs.Counts.{in_set_of}
-use Rattle.flow_merge.specs.FlowOrder.{IsAtMost, flow_join, flow_meet}
-use Rattle.flow_merge.proofs.Lattice.{meet_below_left, meet_below_right}
-use Rattle.style_rules.specs.Parts.{has_name, part_join, part_meet, IsPartAtMost, part_le, part_cut, part_charge, part_unit, IsOfStyle}
-use Rattle.style_rules.specs.PartLaws.{part_at_most_apart, part_at_most_itself, part_at_most_along, part_at_most_both_ways, part_join_above_left, part_join_above_right, part_join_least, part_meet_below_join, charge_below, most_below, same_part, part_at_most_told, part_at_most_tested}
+use Rattle.flow_merge.specs.FlowOrder.{IsAtMost}
+use Rattle.style_rules.specs.Parts.{part_join, part_meet, IsPartAtMost, part_unit, IsOfStyle}
+use Rattle.style_rules.specs.PartLaws.{part_at_most_apart, part_at_most_itself, part_at_most_along, part_at_most_both_ways, part_join_above_left, part_join_above_right, part_join_least, charge_below, most_below, part_at_most_told, part_at_most_tested}
 use Rattle.style_rules.specs.CutLaws.{cut_none, cut_senders, cut_flow, cut_below, cut_monotone, cut_of_cut, cut_of_nothing, name_some}
-use Rattle.style_rules.specs.Merge.{merge, merge_of, all_by, PartTable, IsPartOf, IsMergeOf}
-use Rattle.style_rules.specs.Toward.{Request, request_unit, parts_of, open_of, requests_at, toward, IsRequestOf, IsOpenRequestOf, meet_at}
-use Rattle.style_rules.specs.Lines.{Line, EntryKey, entry_keys, entry_key, merged_book, at_end, book_of_end, AreUnder}
-use Rattle.style_rules.specs.Laws.{AtMostIsAnOrder, AtMostByNamesAndFlow, JoinIsTheLeastAbove, NamesAndFlowOfJoinAndMeet, CutByNames, CutIsBelowAndMonotone, CutOfACut, ChargeAndMostAreMonotone, MergeIsTheLeastAboveItsNamedParts, MergeKeepsTheStyle, TowardIsAtMostTheMerge, TowardIsAtLeastTheMeet, TowardIsTheJoinOfTheOpen, PartsOfAStyle, MergeBelow, SumsBelow, WithinBelow, TestsTell}
+use Rattle.style_rules.specs.Merge.{merge, PartTable, IsPartOf, IsMergeOf}
+use Rattle.style_rules.specs.Toward.{Request, toward, IsRequestOf}
+use Rattle.style_rules.specs.Lines.{Line, EntryKey, entry_keys, entry_key, merged_book, at_end, AreUnder}
+use Rattle.style_rules.specs.Laws.{AtMostIsAnOrder, AtMostByNamesAndFlow, JoinIsTheLeastAbove, CutByNames, CutIsBelowAndMonotone, CutOfACut, ChargeAndMostAreMonotone, MergeIsTheLeastAboveItsNamedParts, MergeKeepsTheStyle, TowardIsAtMostTheMerge, TowardIsAtLeastTheMeet, TowardIsTheJoinOfTheOpen, PartsOfAStyle, MergeBelow, SumsBelow, TestsTell}
 use Rattle.style_rules.proofs.StyleLaws.{a_name, cut_of_style, cut_keeps_unit, united_style, united_unit, wild_parts, fixed_parts, shared_parts}
-use Rattle.style_rules.proofs.Folds.{all_keeps}
 use Rattle.style_rules.proofs.Merges.{merge_source, merge_above, merge_least, merge_alone, merge_keeps, merges_same, get-merge_of}
 use Rattle.style_rules.proofs.Towards.{get-toward, toward_below, toward_units, toward_of_open, toward_open, toward_source, toward_there, toward_above_meet, meet_there, toward_join, toward_keeps, open_below, open_charge, open_most}
 use Rattle.style_rules.proofs.Books.{book_below, under_at_end, held_below, held_at_end_below}
-use Rattle.style_rules.proofs.Room.{within_told, within_tested, within_below}
+use Rattle.style_rules.proofs.Room.{within_told, within_tested}
 
 -- ---- of an order that is that of parts
 module _ (at_most : Part → Part → Type 0) (is : AtMostByNamesAndFlow at_most) where

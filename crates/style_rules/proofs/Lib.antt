@@ -9,3 +9,4 @@ pub mod WayRows
 pub mod Tallies
 pub mod TallyRoom
 pub mod MergerRows
+mod Worked

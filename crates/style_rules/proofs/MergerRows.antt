@@ -1,5 +1,5 @@
 -- Rows of a merger: with one more request, in the end, and the room that they need.
-use Rattle.std.specs.Prelude.{◌≡◌, ◌<◌, ◌≤◌, ◌⊎◌, ◌+◌, ◌++◌, ◌==◌, ℕ, Bool, true, false, cond, not, List, [], ◌∷◌, map as each, length, slice_get, Option, Some, None, refl}
+use Rattle.std.specs.Prelude.{◌≡◌, ◌<◌, ◌≤◌, ◌⊎◌, ◌+◌, ◌++◌, ◌==◌, ℕ, Bool, true, false, cond, not, List, [], ◌∷◌, map as each, length, slice_get, Some, None, refl}
 use Rattle.std.proofs.Common.{sym, ap, subst, ◌∙◌, arith, get_or, set, take, drop, inl, inr}
 use Rattle.std.specs.List.{insert}
 use Rattle.std.proofs.Math.Seq.{take-length}

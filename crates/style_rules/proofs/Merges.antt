@@ -1,13 +1,13 @@
 -- A table of what a function gives at each key, and the merge: look-up, least above its named parts, and below other merges.
-use Rattle.std.specs.Prelude.{◌≡◌, ℕ, ◌≤◌, Bool, true, false, cond, ◌&&◌, ◌||◌, Option, Some, None, List, [], ◌∷◌, map as each, sum_by, is_some, refl}
-use Rattle.std.proofs.Common.{sym, ap, subst, ◌∙◌, inl, inr, ⊎_elim}
-use Rattle.std.specs.List.{filter, list_any}
+use Rattle.std.specs.Prelude.{◌≡◌, ℕ, ◌≤◌, Bool, true, false, cond, ◌&&◌, ◌||◌, Option, Some, None, List, [], ◌∷◌, map as each, sum_by, refl}
+use Rattle.std.proofs.Common.{sym, ap, subst, ◌∙◌}
+use Rattle.std.specs.List.{list_any}
 use Rattle.std.specs.Ordering.{eq_by_cmp}
 use Rattle.rsvp_base.specs.declared.part.Part.{Part}
 use Rattle.rsvp_base.specs.Keys.{Keys}
 use Rattle.rsvp_base.specs.Members.{In}
-use Rattle.rsvp_base.specs.Table.{Table, get, put_in}
-use Rattle.rsvp_base.proofs.Tables.{either, tied_same, tied_self, get-put_in, get-put_in_same, get-put_in_other, same_table}
+use Rattle.rsvp_base.specs.Table.{Table, get}
+use Rattle.rsvp_base.proofs.Tables.{either, tied_same, tied_self, get-put_in_same, get-put_in_other, same_table}
 use Rattle.rsvp_base.proofs.Members.{in_each, to_each, in_filter, to_filter}
 use Rattle.rsvp_base.proofs.SetLaws.{and_both, and_made}
 use Rattle.rsvp_base.proofs.Counts.{sum_below}
@@ -145,9 +145,9 @@ module _ {A L K : Type 0} (o : Keys K) (key : L → K) (part : L → Part) (f : 
   those_at-each k [] = refl
   those_at-each k (x ∷ xs) =
       elim (has_name (part (f x)) && eq_by_cmp o.cmp k (key (f x)))
-        as (λ b. cond b (f x ∷ those_at o key part k (each f xs)) (those_at o key part k (each f xs))
-            ≡ each f (cond b (x ∷ those_at o (λ z. key (f z)) (λ z. part (f z)) k xs) (those_at o (λ z. key (f z)) (λ z. part (f z)) k xs)))
-        [ true ↦ ap (λ zs. f x ∷ zs) (those_at-each k xs) | false ↦ those_at-each k xs ]
+      as (λ b. cond b (f x ∷ those_at o key part k (each f xs)) (those_at o key part k (each f xs))
+      ≡ each f (cond b (x ∷ those_at o (λ z. key (f z)) (λ z. part (f z)) k xs) (those_at o (λ z. key (f z)) (λ z. part (f z)) k xs)))
+      [ true ↦ ap (λ zs. f x ∷ zs) (those_at-each k xs) | false ↦ those_at-each k xs ]
 
   each-each : {B : Type 0} (g : L → B) (xs : List A) → each g (each f xs) ≡ each (λ x. g (f x)) xs
   each-each g [] = refl

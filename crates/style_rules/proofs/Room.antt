@@ -1,22 +1,21 @@
 -- Limits of tables: what the test tells, and fewer lines within them.
-use Rattle.std.specs.Prelude.{◌≡◌, ◌↔◌, ℕ, ◌≤◌, nat_le, Bool, true, false, cond, ◌&&◌, ◌||◌, List, [], ◌∷◌, map as each, refl}
+use Rattle.std.specs.Prelude.{◌≡◌, ℕ, ◌≤◌, nat_le, Bool, true, false, cond, ◌&&◌, ◌||◌, List, [], ◌∷◌, map as each, refl}
 use Rattle.std.proofs.Common.{sym, ap, subst, ◌∙◌, arith, inl, inr}
 use Rattle.std.proofs.lemmas.Bool.{leb-true, le-leb}
-use Rattle.std.specs.List.{filter, flat_map, list_all, list_any}
+use Rattle.std.specs.List.{flat_map, list_all, list_any}
 use Rattle.std.specs.Ordering.{eq_by_cmp}
 use Rattle.rsvp_base.specs.declared.session.Sender.{Sender}
 use Rattle.rsvp_base.specs.declared.session.Session.{Session}
 use Rattle.rsvp_base.specs.declared.style.StyleKind.{StyleKind}
 use Rattle.rsvp_base.specs.Members.{In}
 use Rattle.rsvp_base.specs.Orders.{sessions, styles, senders}
-use Rattle.rsvp_base.specs.Sets.{set_of}
 use Rattle.rsvp_base.specs.Table.{size, keys}
 use Rattle.rsvp_base.proofs.Tables.{either, tied_self}
 use Rattle.rsvp_base.proofs.Members.{in_filter, to_filter, in_each, to_each, in_flat_map, to_flat_map, all_in, in_all, in_tied}
 use Rattle.rsvp_base.proofs.SetLaws.{and_both, and_made}
 use Rattle.rsvp_base.proofs.Counts.{set_below}
-use Rattle.style_rules.specs.Lines.{Line, NextHop, next_hops, next_hop, LineKey, line_keys, line_key, IsUnder, AreUnder}
-use Rattle.style_rules.specs.Limits.{of_style, of_session, line_keys_of, sessions_of, next_hops_of, names_of, IsWithinLimits, session_within, table_within, within_limits}
+use Rattle.style_rules.specs.Lines.{Line, next_hops, LineKey, line_keys, line_key, AreUnder}
+use Rattle.style_rules.specs.Limits.{of_style, of_session, line_keys_of, sessions_of, next_hops_of, names_of, IsWithinLimits, session_within, within_limits}
 use Rattle.style_rules.proofs.StyleLaws.{named_in, in_named}
 
 -- ---- what the test tells

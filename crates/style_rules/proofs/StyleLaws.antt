@@ -1,5 +1,5 @@
 -- Units and names of parts as a style has them.
-use Rattle.std.specs.Prelude.{◌≡◌, ◌↔◌, ◌<◌, ◌≤◌, ◌⊎◌, ℕ, Bool, true, false, cond, not, ◌||◌, List, [], ◌∷◌, map as each, length, is_some, Option, Some, None, refl}
+use Rattle.std.specs.Prelude.{◌≡◌, ◌↔◌, ◌<◌, ◌⊎◌, Bool, true, false, cond, not, ◌||◌, List, [], ◌∷◌, map as each, length, is_some, Option, Some, None, refl}
 use Rattle.std.proofs.Common.{sym, ap, subst, ◌∙◌, arith, inl, inr, ⊎_elim}
 use Rattle.std.specs.Ordering.{eq_by_cmp}
 use Rattle.std.specs.FinMap.Entries.{find}
@@ -7,11 +7,10 @@ use Rattle.rsvp_base.specs.declared.part.Part.{Part}
 use Rattle.rsvp_base.specs.declared.session.Sender.{Sender}
 use Rattle.rsvp_base.specs.declared.style.StyleKind.{StyleKind}
 use Rattle.rsvp_base.specs.declared.style.StyleKind.TheVariants.{Wild, Fixed, Shared}
-use Rattle.rsvp_base.specs.declared.style.Unit.{Unit as UnitOf}
-use Rattle.rsvp_base.specs.declared.style.Unit.TheVariants.{One, Of}
+use Rattle.rsvp_base.specs.declared.style.Unit.TheVariants.{Of}
 use Rattle.rsvp_base.specs.Members.{In}
 use Rattle.rsvp_base.specs.Orders.{Names, senders}
-use Rattle.rsvp_base.specs.Sets.{union, cut, set_of, IsWithin, is_none}
+use Rattle.rsvp_base.specs.Sets.{union, set_of, IsWithin, is_none}
 use Rattle.rsvp_base.specs.Table.{has, size, keys}
 use Rattle.rsvp_base.proofs.Lists.{has_keys}
 use Rattle.rsvp_base.proofs.Tables.{tied_same, either}
@@ -19,8 +18,8 @@ use Rattle.rsvp_base.proofs.SetLaws.{size_within, has-union, within_union_left, 
 use Rattle.rsvp_base.proofs.Members.{in_tied, tied_in}
 use Rattle.rsvp_base.proofs.Counts.{in_set_of}
 use Rattle.style_rules.specs.Styles.{name_of, unit_of, unit_of_first}
-use Rattle.style_rules.specs.Parts.{has_name, part_join, part_cut, part_unit, IsOfStyle}
-use Rattle.style_rules.specs.CutLaws.{some_name, name_some, some_within, Made, cut_of, cut_named}
+use Rattle.style_rules.specs.Parts.{has_name, part_cut, part_unit, IsOfStyle}
+use Rattle.style_rules.specs.CutLaws.{some_name, name_some, some_within, cut_of, cut_named}
 
 length_each : {A B : Type 0} (f : A → B) (xs : List A) → length (each f xs) ≡ length xs
 length_each f [] = refl

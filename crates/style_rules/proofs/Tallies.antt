@@ -1,29 +1,22 @@
 -- A tally of a list of requests: look-up, one more request, and what it gives in the end.
-use Rattle.std.specs.Prelude.{◌≡◌, ◌<◌, ◌≤◌, ℕ, Bool, true, false, cond, not, ◌&&◌, ◌||◌, List, [], ◌∷◌, ◌++◌, map as each, length, is_some, Option, Some, None, refl}
-use Rattle.std.proofs.Common.{sym, ap, subst, ◌∙◌, arith, append-nil}
-use Rattle.std.proofs.lemmas.List.{length-map}
+use Rattle.std.specs.Prelude.{◌≡◌, Bool, true, false, cond, not, ◌&&◌, List, [], ◌∷◌, ◌++◌, map as each, Option, Some, refl}
+use Rattle.std.proofs.Common.{sym, ap, ◌∙◌, append-nil}
 use Rattle.std.proofs.lemmas.List.Elements.{filter-append}
-use Rattle.std.specs.List.{filter, flat_map, fold, list_any, list_all}
+use Rattle.std.specs.List.{fold}
 use Rattle.std.specs.Option.{option_map}
 use Rattle.std.specs.Ordering.{eq_by_cmp}
 use Rattle.rsvp_base.specs.declared.part.Part.{Part}
-use Rattle.rsvp_base.specs.declared.session.Sender.{Sender}
 use Rattle.rsvp_base.specs.declared.style.StyleKind.{StyleKind}
 use Rattle.rsvp_base.specs.declared.style.Unit.{Unit as UnitOf}
-use Rattle.rsvp_base.specs.Members.{In}
-use Rattle.rsvp_base.specs.Orders.{units, senders, Names}
-use Rattle.rsvp_base.specs.Sets.{union, set_of, IsWithin}
-use Rattle.rsvp_base.specs.Table.{get, has, size, keys, put_in, changed}
+use Rattle.rsvp_base.specs.Orders.{units}
+use Rattle.rsvp_base.specs.Table.{get, put_in}
 use Rattle.rsvp_base.proofs.Tables.{either, tied_same, get-put_in, get-changed, same_table, then_do}
 use Rattle.rsvp_base.proofs.SetLaws.{and_both}
-use Rattle.rsvp_base.proofs.Members.{in_flat_map, to_flat_map, in_each, to_each, in_filter, in_tied, tied_in, all_in, in_all}
-use Rattle.rsvp_base.proofs.Counts.{in_found, found_in, in_set_of, set_of_in, size_below, size-set_of}
-use Rattle.style_rules.specs.Styles.{unit_of}
 use Rattle.style_rules.specs.Parts.{has_name, part_join, part_meet, part_unit}
 use Rattle.style_rules.specs.Merge.{all_by}
-use Rattle.style_rules.specs.Toward.{Request, request_unit, parts_of, open_of, requests_at, or_else, toward_at, toward}
-use Rattle.style_rules.specs.Tally.{Standing, TallyTable, standing_by, standing_at, tally_of, stood_with, first_or_with, with_request, parts_of_tally, names_of_rows, names_of_tally, is_named, AreNamed}
-use Rattle.style_rules.proofs.Folds.{all_push, all_push_first}
+use Rattle.style_rules.specs.Toward.{Request, request_unit, parts_of, open_of, requests_at, or_else, toward}
+use Rattle.style_rules.specs.Tally.{Standing, TallyTable, standing_by, standing_at, tally_of, first_or_with, with_request, parts_of_tally}
+use Rattle.style_rules.proofs.Folds.{all_push}
 use Rattle.style_rules.proofs.Merges.{get-table_at_all, none_those}
 use Rattle.style_rules.proofs.Towards.{get-toward}
 

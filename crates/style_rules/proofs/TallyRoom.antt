@@ -1,8 +1,9 @@
 -- The names that a tally's rows have, and as many rows as names at most.
-use Rattle.std.specs.Prelude.{◌≡◌, ◌<◌, ◌≤◌, ◌⊎◌, ℕ, Bool, true, false, cond, not, ◌||◌, List, [], ◌∷◌, ◌++◌, map as each, length, is_some, Option, Some, None, IsTrue, refl}
+use Rattle.std.specs.Prelude.{◌≡◌, ◌≤◌, ◌⊎◌, Bool, true, false, cond, not, ◌||◌, List, map as each, length, is_some, Option, Some, None, refl}
 use Rattle.std.proofs.Common.{sym, ap, subst, ◌∙◌, arith, inl, inr, ⊎_elim}
 use Rattle.std.proofs.lemmas.List.{length-map}
-use Rattle.std.specs.List.{flat_map, list_any, list_all}
+use Rattle.std.specs.List.{flat_map}
+use Rattle.std.specs.Option.{option_map}
 use Rattle.std.specs.Ordering.{eq_by_cmp}
 use Rattle.rsvp_base.specs.declared.part.Part.{Part}
 use Rattle.rsvp_base.specs.declared.session.Sender.{Sender}
@@ -14,12 +15,18 @@ use Rattle.rsvp_base.specs.Sets.{union, set_of, IsWithin}
 use Rattle.rsvp_base.specs.Table.{get, has, size, keys, put_in}
 use Rattle.rsvp_base.proofs.Tables.{tied_same, tied_self, got_put_in}
 use Rattle.rsvp_base.proofs.SetLaws.{has-union, size_within, within_union_left, within_union_right}
-use Rattle.rsvp_base.proofs.Members.{in_flat_map, to_flat_map, to_each, all_in, in_all, in_any, any_in, in_tied}
+use Rattle.rsvp_base.proofs.Members.{in_flat_map, to_flat_map, in_each, to_each, in_filter, all_in, in_all, in_any, any_in, in_tied}
 use Rattle.rsvp_base.proofs.Lists.{has_keys}
 use Rattle.rsvp_base.proofs.Counts.{in_found, found_in, in_set_of, set_of_in, size_below, size-set_of}
 use Rattle.style_rules.specs.Styles.{unit_of}
 use Rattle.style_rules.specs.Parts.{has_name, part_join, part_meet, part_unit}
-use Rattle.style_rules.specs.Tally.{Standing, TallyTable, stood_with, first_or_with, names_of_rows, names_of_tally, is_named, AreNamed}
+use Rattle.style_rules.specs.Tally.{Standing, TallyTable, standing_by, standing_at, tally_of, names_of_requests, stood_with, first_or_with, names_of_rows, names_of_tally, is_named, AreNamed}
+use Rattle.style_rules.specs.Merge.{all_by}
+use Rattle.style_rules.specs.PartLaws.{union_least}
+use Rattle.style_rules.specs.Toward.{Request, parts_of, open_of, requests_at, or_else}
+use Rattle.style_rules.proofs.Folds.{all_keeps}
+use Rattle.style_rules.proofs.Tallies.{get-tally_of}
+use Rattle.style_rules.proofs.Towards.{request_in}
 use Rattle.style_rules.proofs.StyleLaws.{named_in, in_named, unit_name}
 
 -- ---- names of rows
@@ -126,3 +133,42 @@ rows_le_names st t h =
         let n = name_by st u s (all_in (is_named st) t.rows h (u, s) i) in
         let there = in_tied senders n.0 (keys (names_of_tally t)) (sym (has_keys (names_of_tally t) n.0) ∙ name_of_row t.rows (u, s) n.0 i n.1) in
         subst (λ v. In v (each (unit_of st) (keys (names_of_tally t)))) (sym n.2) (to_each (unit_of st) n.0 (keys (names_of_tally t)) there)
+
+-- ---- names of a tally of requests are names of the requests
+tally_names : (st : StyleKind) (rs : List Request) → IsWithin (names_of_tally (tally_of st rs)) (names_of_requests rs)
+tally_names st rs q h =
+    let e = row_of_name (tally_of st rs).rows q h in
+    let at : standing_at st rs e.0.0 ≡ Some e.0.1 = sym (get-tally_of st rs e.0.0) ∙ in_found units (tally_of st rs) e.0.0 e.0.1 e.1 in
+    stood (requests_at st e.0.0 rs) (λ r i. (request_in st rs e.0.0 r i).among) e.0.1 (all_by part_join (parts_of (open_of (requests_at st e.0.0 rs)))) refl at q e.2
+  where
+    of_request : (p : Part) (zs : List Request) → ((r : Request) → In r zs → In r rs) → In p (parts_of zs) → IsWithin p.senders (names_of_requests rs)
+    of_request p zs some i s there =
+        let r = in_each (λ (z : Request). z.part) p zs i in
+        in_set_of senders (flat_map (λ (z : Request). keys z.part.senders) rs) s
+        (to_flat_map (λ (z : Request). keys z.part.senders) r.0 s rs (some r.0 r.1) (named_in r.0.part s (ap (λ (x : Part). has x.senders s) (sym r.2) ∙ there)))
+
+    two : (a b : Part) → IsWithin a.senders (names_of_requests rs) → IsWithin b.senders (names_of_requests rs) → IsWithin (union a.senders b.senders) (names_of_requests rs)
+    two a b h g = union_least a.senders b.senders (names_of_requests rs) h g
+
+    same_some : (a b : Standing) → Some a ≡ Some b → a ≡ b
+    same_some a b e = cc
+
+    stood : (zs : List Request) → ((r : Request) → In r zs → In r rs) → (s : Standing) (w : Option Part) → all_by part_join (parts_of (open_of zs)) ≡ w
+        → or_else (option_map (standing_by true) w) (option_map (standing_by false) (all_by part_meet (parts_of zs))) ≡ Some s → IsWithin s.part.senders (names_of_requests rs)
+    stood zs some s (Some x) e f =
+        let is : x ≡ s.part = ap (λ (z : Standing). z.part) (same_some (standing_by true x) s f) in
+        subst (λ (z : Part). IsWithin z.senders (names_of_requests rs)) is
+        (all_keeps part_join (λ p. IsWithin p.senders (names_of_requests rs)) two (parts_of (open_of zs)) x e (λ p i. of_request p (open_of zs) (λ r j. some r (in_filter (λ (z : Request). not z.blockaded) r zs j).0) i))
+    stood zs some s None e f = met (all_by part_meet (parts_of zs)) refl f
+      where
+        met : (w : Option Part) → all_by part_meet (parts_of zs) ≡ w → option_map (standing_by false) w ≡ Some s → IsWithin s.part.senders (names_of_requests rs)
+        met None g f = absurd (cc)
+        met (Some x) g f =
+            let is : x ≡ s.part = ap (λ (z : Standing). z.part) (same_some (standing_by false x) s f) in
+            subst (λ (z : Part). IsWithin z.senders (names_of_requests rs)) is
+            (all_keeps part_meet (λ p. IsWithin p.senders (names_of_requests rs)) two (parts_of zs) x g (λ p i. of_request p zs some i))
+
+pub merger_has_room : (st : StyleKind) (rs : List Request) (p : Part) → size (union (names_of_requests rs) p.senders) ≤ 16 → size (union (names_of_tally (tally_of st rs)) p.senders) ≤ 16
+merger_has_room st rs p room =
+    let less = size_within senders (union (names_of_tally (tally_of st rs)) p.senders) (union (names_of_requests rs) p.senders) (union_wider (names_of_tally (tally_of st rs)) p.senders (names_of_requests rs) p.senders (tally_names st rs) (λ q h. h)) in
+    omega arith

@@ -1,9 +1,8 @@
 -- What goes toward a hop, against the merge and the meet of the same requests.
-use Rattle.std.specs.Prelude.{◌≡◌, ◌↔◌, ◌⊎◌, ℕ, ◌≤◌, max, Bool, true, false, cond, not, ◌||◌, Option, Some, None, List, [], ◌∷◌, map as each, is_some, refl}
+use Rattle.std.specs.Prelude.{◌≡◌, ◌⊎◌, ℕ, max, Bool, true, false, cond, not, ◌||◌, Option, Some, None, List, [], ◌∷◌, map as each, is_some, refl}
 use Rattle.std.proofs.Common.{sym, ap, subst, ◌∙◌, arith, inl, inr, ⊎_elim}
 use Rattle.std.proofs.lemmas.Bool.{cases_lt}
-use Rattle.std.specs.List.{filter, fold, list_any}
-use Rattle.std.specs.Ordering.{eq_by_cmp}
+use Rattle.std.specs.List.{fold}
 use Rattle.rsvp_base.specs.declared.part.Part.{Part}
 use Rattle.rsvp_base.specs.declared.style.StyleKind.{StyleKind}
 use Rattle.rsvp_base.specs.declared.style.Unit.{Unit as UnitOf}
@@ -13,14 +12,14 @@ use Rattle.rsvp_base.specs.Sets.{union, IsWithin}
 use Rattle.rsvp_base.specs.Table.{get, has}
 use Rattle.rsvp_base.specs.TokenBucket.{TokenBucket}
 use Rattle.rsvp_base.proofs.Members.{in_each, to_each, in_filter, to_filter}
-use Rattle.rsvp_base.proofs.Tables.{same_table, either}
+use Rattle.rsvp_base.proofs.Tables.{same_table}
 use Rattle.rsvp_base.proofs.SetLaws.{has-union}
 use Rattle.flow_merge.specs.FlowOrder.{IsAtMost, flow_join, flow_meet}
 use Rattle.flow_merge.proofs.Lattice.{at_most_itself, at_most_along, join_above_left, meet_below_left, meet_below_right}
-use Rattle.style_rules.specs.Parts.{has_name, part_join, part_meet, part_unit, part_charge, IsPartAtMost}
-use Rattle.style_rules.specs.Merge.{table_at, all_by, those_at, merge_at, merge_of, merge, PartTable}
+use Rattle.style_rules.specs.Parts.{part_join, part_meet, part_unit, part_charge, IsPartAtMost}
+use Rattle.style_rules.specs.Merge.{all_by, merge}
 use Rattle.style_rules.specs.Toward.{Request, request_unit, parts_of, open_of, requests_at, or_else, toward_at, toward, IsRequestOf, IsOpenRequestOf, flows_of, meet_at}
-use Rattle.style_rules.specs.PartLaws.{part_at_most_itself, part_at_most_along, part_join_above_left, part_join_above_right, part_join_least, charge_below, most_below}
+use Rattle.style_rules.specs.PartLaws.{part_at_most_itself, part_at_most_along, part_join_above_left, part_join_above_right, part_join_least}
 use Rattle.style_rules.proofs.Folds.{all_keeps, all_above, all_some, some_all, all_under}
 use Rattle.style_rules.proofs.Merges.{get-table_at_all, none_those, in_those, to_those, get-merge_of, merge_of-each}
 

@@ -1,16 +1,15 @@
 -- Cuts of parts: what is left, below what it was, monotone, and one after another.
-use Rattle.std.specs.Prelude.{◌≡◌, ◌↔◌, ◌<◌, ◌≤◌, ℕ, Bool, true, false, cond, not, ◌==◌, Option, Some, None, List, [], ◌∷◌, IsSomeAnd, refl}
+use Rattle.std.specs.Prelude.{◌≡◌, ◌↔◌, ◌<◌, Bool, true, false, cond, not, Option, Some, None, IsSomeAnd, refl}
 use Rattle.std.proofs.Common.{sym, ap, subst, ◌∙◌, arith}
-use Rattle.std.proofs.lemmas.Bool.{eqb-true, eqb-false, ne_eqb}
+use Rattle.std.proofs.lemmas.Bool.{eqb-false, ne_eqb}
 use Rattle.rsvp_base.specs.declared.part.Part.{Part}
-use Rattle.rsvp_base.specs.declared.session.Sender.{Sender}
 use Rattle.rsvp_base.specs.Orders.{Names, senders}
 use Rattle.rsvp_base.specs.Sets.{union, cut, IsWithin, is_none}
-use Rattle.rsvp_base.specs.Table.{has, size}
+use Rattle.rsvp_base.specs.Table.{size}
 use Rattle.rsvp_base.specs.TokenBucket.{TokenBucket}
-use Rattle.rsvp_base.proofs.SetLaws.{size_within, within_union_left, within_cut, cut_within, cut-union, cut-cut, within_union_right}
+use Rattle.rsvp_base.proofs.SetLaws.{size_within, within_union_left, within_cut, cut_within, cut-union, cut-cut}
 use Rattle.flow_merge.specs.FlowOrder.{IsAtMost, flow_join}
-use Rattle.flow_merge.proofs.Lattice.{at_most_itself, join_above_left}
+use Rattle.flow_merge.proofs.Lattice.{at_most_itself}
 use Rattle.style_rules.specs.Parts.{has_name, part_join, IsPartAtMost, part_of, part_cut}
 use Rattle.style_rules.specs.PartLaws.{same_part, part_join_above_left}
 
@@ -71,9 +70,6 @@ pub made_named : (s : Names) (f : TokenBucket) (x : Part) → part_of s f ≡ So
 made_named s f x e = let m = made_of s f x e in ap not (ap is_none m.senders ∙ m.some)
 
 -- ---- a cut
-cut_to : Part → Names → Part
-cut_to p names = record { senders = cut p.senders names; flow = p.flow }
-
 -- what is left has the senders in both, and the flow
 pub cut_of : (p x : Part) (names : Names) → part_cut p names ≡ Some x → Made (cut p.senders names) p.flow x
 cut_of p x names e = made_of (cut p.senders names) p.flow x e

@@ -1,5 +1,5 @@
 -- The claims of the public laws, of a style by its order, join and meet.
-use Rattle.std.specs.Prelude.{◌≡◌, ◌↔◌, ℕ, ◌≤◌, Bool, true, false, Option, Some, None, List, IsTrue, IsSomeAnd}
+use Rattle.std.specs.Prelude.{◌≡◌, ◌↔◌, ℕ, ◌≤◌, true, false, Some, None, List, IsTrue, IsSomeAnd}
 use Rattle.rsvp_base.specs.declared.part.Part.{Part}
 use Rattle.rsvp_base.specs.declared.session.Sender.{Sender}
 use Rattle.rsvp_base.specs.declared.style.StyleKind.{StyleKind}
@@ -13,6 +13,7 @@ use Rattle.flow_merge.specs.FlowOrder.{IsAtMost, flow_join, flow_meet}
 use Rattle.style_rules.specs.Parts.{has_name, part_join, IsPartAtMost, part_le, part_cut, part_charge, part_unit, IsOfStyle}
 use Rattle.style_rules.specs.Merge.{merge, merge_at, all_by, PartTable, IsPartOf, IsMergeOf}
 use Rattle.style_rules.specs.Toward.{Request, parts_of, open_of, requests_at, toward_at, toward, IsRequestOf, IsOpenRequestOf, meet_at}
+use Rattle.style_rules.specs.Tally.{tally_of, names_of_requests, names_of_tally}
 use Rattle.style_rules.specs.Lines.{Line, EntryKey, entry_keys, entry_key, merged_book, book_of_end, held, AreUnder}
 use Rattle.style_rules.specs.Limits.{within_limits, IsWithinLimits}
 
@@ -98,6 +99,10 @@ pub record TowardIsTheJoinOfTheOpen (st : StyleKind) (at_most : Part → Part �
   -- its charge and its packet size are the largest among the open ones
   pub charge : (rs : List Request) (u : UnitOf) (r : Request) (t : Part) → IsOpenRequestOf st rs u r → get (toward st rs) u ≡ Some t → (q : Request) × IsOpenRequestOf st rs u q × (part_charge q.part ≡ part_charge t)
   pub most : (rs : List Request) (u : UnitOf) (r : Request) (t : Part) → IsOpenRequestOf st rs u r → get (toward st rs) u ≡ Some t → (q : Request) × IsOpenRequestOf st rs u q × (q.part.flow.most ≡ t.flow.most)
+
+-- where the requests added so far and a part name at most 16 senders, the merger has room for the part
+abbrev pub MergerHasRoom : StyleKind → Type 0
+MergerHasRoom st = (rs : List Request) (p : Part) → size (union (names_of_requests rs) p.senders) ≤ 16 → size (union (names_of_tally (tally_of st rs)) p.senders) ≤ 16
 
 -- ---- parts of each style
 pub record PartsOfAStyle : Type 0 where

@@ -1,15 +1,14 @@
 -- The limits of a table of reservations: for each style at most 1,024 lines, 32 sessions, and of each session 64 next hops
 -- and 16 names.
-use Rattle.std.specs.Prelude.{◌≡◌, ℕ, ◌≤◌, nat_le, Bool, ◌&&◌, List, map as each}
+use Rattle.std.specs.Prelude.{◌≤◌, nat_le, Bool, ◌&&◌, List, map as each}
 use Rattle.std.specs.List.{filter, flat_map, list_all}
 use Rattle.std.specs.Ordering.{eq_by_cmp}
-use Rattle.rsvp_base.specs.declared.session.Sender.{Sender}
 use Rattle.rsvp_base.specs.declared.session.Session.{Session}
 use Rattle.rsvp_base.specs.declared.style.StyleKind.{StyleKind}
 use Rattle.rsvp_base.specs.Sets.{Set, set_of}
 use Rattle.rsvp_base.specs.Table.{size, keys}
-use Rattle.rsvp_base.specs.Orders.{sessions, styles, senders, Names}
-use Rattle.style_rules.specs.Lines.{Line, NextHop, next_hops, next_hop, LineKey, line_keys, line_key}
+use Rattle.rsvp_base.specs.Orders.{sessions, styles, Names}
+use Rattle.style_rules.specs.Lines.{Line, next_hops, next_hop, line_keys, line_key}
 
 abbrev pub of_style : StyleKind → List Line → List Line
 of_style st ls = filter (λ l. eq_by_cmp styles.cmp st l.style) ls

@@ -1,6 +1,6 @@
 -- The style merge (RFC 2205, 2.2): of the parts of each unit that name someone, the senders of all and the join of the
 -- flows. It is a table, so that equal merges are identical, and knows no limit of room.
-use Rattle.std.specs.Prelude.{◌≡◌, Bool, true, ◌&&◌, List, [], ◌∷◌, map as each, Option, Some, None}
+use Rattle.std.specs.Prelude.{◌≡◌, true, ◌&&◌, List, [], ◌∷◌, map as each, Option, Some, None}
 use Rattle.std.specs.List.{filter, fold}
 use Rattle.std.specs.Ordering.{eq_by_cmp}
 use Rattle.rsvp_base.specs.declared.part.Part.{Part}

@@ -1,16 +1,15 @@
 -- Parts are a lattice in two columns: sets of senders and flows.
-use Rattle.std.specs.Prelude.{◌≡◌, ◌≤◌, Bool, true, ◌&&◌, ◌↔◌, IsTrue, refl}
+use Rattle.std.specs.Prelude.{◌≡◌, ◌≤◌, true, ◌↔◌}
 use Rattle.std.proofs.Common.{sym, ap, ◌∙◌}
 use Rattle.std.specs.List.{list_all}
 use Rattle.rsvp_base.specs.declared.part.Part.{Part}
 use Rattle.rsvp_base.specs.Orders.{Names, senders}
-use Rattle.rsvp_base.specs.Sets.{Set, union, IsWithin}
+use Rattle.rsvp_base.specs.Sets.{union, IsWithin}
 use Rattle.rsvp_base.specs.Table.{has, keys}
-use Rattle.rsvp_base.specs.Keys.{Keys}
-use Rattle.rsvp_base.proofs.SetLaws.{has-union, same_set, union_comm, union_assoc, union_idem, within_union_left, within_union_right, union_of_within, within_of_union, and_both, and_made}
+use Rattle.rsvp_base.proofs.SetLaws.{union_comm, union_assoc, union_idem, within_union_left, within_union_right, union_of_within, within_of_union, and_both, and_made}
 use Rattle.rsvp_base.proofs.Lists.{within_if_all, all_if_within}
-use Rattle.flow_merge.specs.FlowOrder.{IsAtMost, flow_le, flow_join, flow_meet}
-use Rattle.flow_merge.proofs.Lattice.{at_most_itself, at_most_along, same_flow, join_above_left, join_above_right, join_least, meet_below_join, meet_below_left, meet_below_right, flow_join_comm, flow_join_assoc, flow_join_idem, flow_meet_comm, flow_meet_assoc, flow_meet_idem, join_of_at_most, at_most_of_join}
+use Rattle.flow_merge.specs.FlowOrder.{IsAtMost, flow_le}
+use Rattle.flow_merge.proofs.Lattice.{at_most_itself, at_most_along, same_flow, join_above_left, join_above_right, join_least, meet_below_join, flow_join_comm, flow_join_assoc, flow_join_idem, join_of_at_most, at_most_of_join}
 use Rattle.flow_merge.proofs.Told.{at_most_told, at_most_tested}
 use Rattle.style_rules.specs.Parts.{part_join, part_meet, IsPartAtMost, part_le, part_charge}
 
@@ -72,15 +71,6 @@ pub part_at_most_is_join : (a b : Part) → IsPartAtMost a b ↔ (part_join a b 
 part_at_most_is_join a b = (part_join_of_at_most a b, part_at_most_of_join a b)
 
 -- ---- meet
-pub part_meet_comm : (a b : Part) → part_meet a b ≡ part_meet b a
-part_meet_comm a b = same_part _ _ (union_comm senders a.senders b.senders) (flow_meet_comm a.flow b.flow)
-
-pub part_meet_assoc : (a b c : Part) → part_meet (part_meet a b) c ≡ part_meet a (part_meet b c)
-part_meet_assoc a b c = same_part _ _ (union_assoc senders a.senders b.senders c.senders) (flow_meet_assoc a.flow b.flow c.flow)
-
-pub part_meet_idem : (a : Part) → part_meet a a ≡ a
-part_meet_idem a = same_part _ _ (union_idem senders a.senders) (flow_meet_idem a.flow)
-
 pub part_meet_below_join : (a b : Part) → IsPartAtMost (part_meet a b) (part_join a b)
 part_meet_below_join a b = record { names = λ q h. h; flow = meet_below_join a.flow b.flow }
 

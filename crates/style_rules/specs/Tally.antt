@@ -55,6 +55,10 @@ abbrev pub parts_of_tally : TallyTable → PartTable
 parts_of_tally t = changed (λ u s. Some s.part) t
 
 -- ---- room
+-- all names of a list of requests
+abbrev pub names_of_requests : List Request → Names
+names_of_requests rs = set_of (flat_map (λ r. keys r.part.senders) rs)
+
 -- the names of those that count
 abbrev pub names_of_rows : List (UnitOf × Standing) → Names
 names_of_rows es = set_of (flat_map (λ e. keys e.1.part.senders) es)

@@ -1,6 +1,6 @@
 //! The laws of merging, once over a style, and those of books and limits. The lemmas behind them stand in `specs/` and
 //! `proofs/`, over the three kinds of style, for crates that have no style type at hand.
-ghost use Rattle.style_rules.specs.Laws.{AtMostIsAnOrder, AtMostByNamesAndFlow, JoinIsTheLeastAbove, NamesAndFlowOfJoinAndMeet, CutByNames, CutIsBelowAndMonotone, CutOfACut, ChargeAndMostAreMonotone, MergeIsTheLeastAboveItsNamedParts, MergeKeepsTheStyle, TowardIsAtMostTheMerge, TowardIsAtLeastTheMeet, TowardIsTheJoinOfTheOpen, PartsOfAStyle, MergeBelow, SumsBelow, WithinBelow, TestsTell};
+ghost use Rattle.style_rules.specs.Laws.{AtMostIsAnOrder, AtMostByNamesAndFlow, JoinIsTheLeastAbove, NamesAndFlowOfJoinAndMeet, CutByNames, CutIsBelowAndMonotone, CutOfACut, ChargeAndMostAreMonotone, MergeIsTheLeastAboveItsNamedParts, MergeKeepsTheStyle, TowardIsAtMostTheMerge, TowardIsAtLeastTheMeet, TowardIsTheJoinOfTheOpen, MergerHasRoom, PartsOfAStyle, MergeBelow, SumsBelow, WithinBelow, TestsTell};
 
 use crate::style::Style;
 
@@ -71,6 +71,11 @@ pub fn toward_is_at_least_the_meet<S: Style>()
 /// its packet size are the largest among these.
 pub fn toward_is_the_join_of_the_open<S: Style>()
     ensures { TowardIsTheJoinOfTheOpen S.kind_is S.at_most }
+{}
+
+/// Where the requests added so far and a part name at most 16 senders, a merger has room for the part.
+pub fn a_merger_has_room<S: Style>()
+    ensures { MergerHasRoom S.kind_is }
 {}
 
 /// A wildcard part has names with port 0 alone, a fixed part one sender, a shared part at least one.

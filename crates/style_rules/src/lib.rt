@@ -12,6 +12,8 @@ mod order;
 mod parts;
 mod row;
 mod style;
+#[cfg(test)]
+mod tests;
 mod upstream;
 mod wall;
 

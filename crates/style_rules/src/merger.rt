@@ -1,5 +1,5 @@
 //! The merge of parts.
-ghost use Rattle.std.specs.Prelude.{◌≡◌, ◌≤◌, ◌↔◌, List, ◌∷◌, ◌++◌, [], map, true, IsTrue, IfOk, IfErr};
+ghost use Rattle.std.specs.Prelude.{◌≡◌, ◌≤◌, ◌↔◌, List, ◌∷◌, ◌++◌, [], map, true, false, IsTrue, IfOk, IfErr};
 ghost use Rattle.rsvp_base.specs.Orders.{units};
 ghost use Rattle.rsvp_base.specs.Rows.{AreRows, HasRowAt, LacksRowAt};
 ghost use Rattle.rsvp_base.specs.Sets.{union};
@@ -45,7 +45,9 @@ impl<S: Style> Merger<S> {
     ghost use Rattle.rsvp_base.specs.Table.{get, put_in};
     ghost use Rattle.style_rules.specs.Parts.{has_name, part_unit};
     ghost use Rattle.style_rules.specs.Tally.{first_or_with, with_request, tally_of, parts_of_tally, names_of_tally};
-    ghost use Rattle.style_rules.specs.Toward.{Request, toward};
+    ghost use Rattle.rsvp_base.specs.declared.style.Unit.{Unit};
+    ghost use Rattle.rsvp_base.specs.Members.{In};
+    ghost use Rattle.style_rules.specs.Toward.{Request, parts_of, toward};
 
     /// No request.
     pub fn new() -> Merger<S>
@@ -106,6 +108,10 @@ impl<S: Style> Merger<S> {
     pub fn finish(&self) -> Parts
         ensures kept { result ≡ parts_of_tally self.now }
         ensures toward { (rs : List Request) → self.now ≡ tally_of S.kind_is rs → result ≡ toward S.kind_is rs }
+
+        // It is at most the merge of all requests, and that merge where none was blockaded.
+        ensures below { (rs : List Request) (u : Unit) (t m : Part) → self.now ≡ tally_of S.kind_is rs → get result u ≡ Some t → get (merge S.kind_is (parts_of rs)) u ≡ Some m → S.at_most t m }
+        ensures unblockaded { (rs : List Request) → self.now ≡ tally_of S.kind_is rs → ((r : Request) → In r rs → r.blockaded ≡ false) → result ≡ merge S.kind_is (parts_of rs) }
     {
         let mut rows = ArrayVec::new();
         for row in self.rows.as_slice() {

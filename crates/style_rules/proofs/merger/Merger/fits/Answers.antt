@@ -1,4 +1,4 @@
-use Rattle.std.proofs.Common.{◌≡◌, ◌<◌, ◌≤◌, ◌+◌, length, take, get_or, map as each, refl, sym, ap, ◌∙◌, arith}
+use Rattle.std.proofs.Common.{◌≡◌, ◌<◌, ◌+◌, length, take, map as each, refl, ap, ◌∙◌, arith}
 use Rattle.std.proofs.Math.Seq.{take-length}
 use Rattle.rsvp_base.specs.Orders.{units, senders, Names}
 use Rattle.rsvp_base.specs.Sets.{union}
@@ -7,7 +7,6 @@ use Rattle.rsvp_base.proofs.Rows.{rows_are}
 use Rattle.rsvp_base.proofs.SetLaws.{union_comm}
 use Rattle.style_rules.specs.Tally.{names_of_rows, names_of_tally}
 use Rattle.style_rules.specs.TallyRows.{tally_row}
-use Rattle.style_rules.specs.declared.row.Row.{Row}
 use Rattle.style_rules.proofs.MergerRows.{names_more, names_so_far}
 use Rattle.style_rules.proofs.merger.Merger.fits.Goals as goal
 

@@ -1,10 +1,9 @@
-use Rattle.std.proofs.Common.{◌≡◌, not, map as each, get_or, ap, subst, ◌∙◌, lit<}
+use Rattle.std.proofs.Common.{not, map as each, get_or, ap, ◌∙◌, lit<}
 use Rattle.rsvp_base.specs.Orders.{units}
 use Rattle.rsvp_base.specs.Table.{get, put_in}
 use Rattle.rsvp_base.proofs.Rows.{table_is, written_back}
 use Rattle.style_rules.specs.Tally.{first_or_with, stood_with}
 use Rattle.style_rules.specs.TallyRows.{standing_of, tally_row}
-use Rattle.style_rules.specs.declared.row.Row.{Row}
 use Rattle.style_rules.proofs.MergerRows.{kept_rows, room_for_one, row_room, stood_row, new_row}
 use Rattle.style_rules.proofs.merger.Merger.keep.Goals as goal
 

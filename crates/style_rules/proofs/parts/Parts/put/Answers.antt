@@ -1,6 +1,5 @@
-use Rattle.std.proofs.Common.{◌≡◌, ◌≤◌, length, length-set, map as each, set, sym, ap, ◌∙◌, arith}
+use Rattle.std.proofs.Common.{length, length-set, map as each, sym, ap, ◌∙◌, arith}
 use Rattle.std.proofs.lemmas.Bool.{eqb-false}
-use Rattle.std.specs.List.{refill}
 use Rattle.rsvp_base.specs.Orders.{units}
 use Rattle.rsvp_base.specs.Table.{put_in}
 use Rattle.rsvp_base.proofs.Rows.{are_rows, table_is, put_over, put_new, written_back}

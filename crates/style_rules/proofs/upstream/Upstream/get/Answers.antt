@@ -1,4 +1,4 @@
-use Rattle.std.proofs.Common.{◌≡◌, Some, get_or, sym, ap, ◌∙◌}
+use Rattle.std.proofs.Common.{Some, get_or, sym, ap, ◌∙◌}
 use Rattle.std.specs.Option.{option_map}
 use Rattle.rsvp_base.specs.Orders.{senders}
 use Rattle.rsvp_base.proofs.Rows.{get_found}
