@@ -1,7 +1,8 @@
 -- The lowest and the highest set bit of a number tell whether its set bits lie near.
-use Rattle.std.proofs.Common.{◌≡◌, ℕ, suc, ◌+◌, ◌-◌, ◌*◌, ◌/◌, ◌%◌, ◌<◌, ◌≤◌, ◌^◌, sym, ap, ◌∙◌, arith, ⊎_elim}
+use Rattle.std.proofs.Common.{◌≡◌, ℕ, suc, ◌+◌, ◌-◌, ◌*◌, ◌/◌, ◌%◌, ◌<◌, ◌≤◌, ◌^◌, sym, ap, ◌∙◌, arith, ⊎_elim, lit<}
 use Rattle.std.proofs.Math.Nat.{pow-suc}
 use Rattle.std.specs.Int.{bit_at, w64, leading_zeros, trailing_zeros}
+use Rattle.rsvp_base.specs.Rates.{IsRate}
 use Rattle.std.proofs.lemmas.Nat.{leading_top, shr_high}
 use Rattle.std.proofs.lemmas.Nat.Bits.{bit_at_above, bit_at-trailing_zeros}
 use Rattle.std.proofs.lemmas.Bool.{cases_lt}
@@ -29,3 +30,6 @@ ends_of_near n pos fits near =
     let top = leading_top 64 n pos fits in
     let low = bit_at-trailing_zeros w64 n pos fits in
     omega (arith, near (trailing_zeros w64 n) top.0 low.1 (highest_bit top.0 n top.2 top.3), top.1)
+
+pub one_is_rate : IsRate 1
+one_is_rate = record { small = lit< tt; near = λ i j at_i at_j. ⊎_elim (λ h. omega arith) (λ h. absurd (omega (arith, at_j, bit_at_above 1 1 j (lit< tt) h))) (cases_lt j 1) }

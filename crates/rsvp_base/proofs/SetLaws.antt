@@ -40,11 +40,11 @@ or_absorbed : (a b : Bool) → (a ≡ true → b ≡ true) → (a || b) ≡ b
 or_absorbed true b h = sym (h refl)
 or_absorbed false b h = refl
 
-and_both : (a b : Bool) → (a && b) ≡ true → (a ≡ true) × (b ≡ true)
+pub and_both : (a b : Bool) → (a && b) ≡ true → (a ≡ true) × (b ≡ true)
 and_both true b e = (refl, e)
 and_both false b e = cc
 
-and_made : (a b : Bool) → a ≡ true → b ≡ true → (a && b) ≡ true
+pub and_made : (a b : Bool) → a ≡ true → b ≡ true → (a && b) ≡ true
 and_made true b e f = f
 and_made false b e f = cc
 
@@ -82,7 +82,7 @@ module _ {K : Type 0} (o : Keys K) where
   regroup : (a b c : Bool) → ((b || a) || c) ≡ (a || (b || c))
   regroup a b c = ap (λ x. x || c) (or_comm b a) ∙ or_assoc a b c
 
-  has-with_rows : (es : List (K × Unit {0})) (s : Set o) (q : K) → has (with_rows s es) q ≡ (has s q || list_any (eq_by_cmp o.cmp q) (each (λ e. e.0) es))
+  pub has-with_rows : (es : List (K × Unit {0})) (s : Set o) (q : K) → has (with_rows s es) q ≡ (has s q || list_any (eq_by_cmp o.cmp q) (each (λ e. e.0) es))
   has-with_rows [] s q = sym (or_false (has s q))
   has-with_rows (e ∷ es) s q =
       has-with_rows es (put_in s e.0 tt) q ∙ ap (λ b. b || list_any (eq_by_cmp o.cmp q) (each (λ x. x.0) es)) (has-with_key s e.0 q)

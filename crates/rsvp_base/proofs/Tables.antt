@@ -24,7 +24,7 @@ is_equal Less p = cc
 is_equal Equal p = refl
 is_equal Greater p = cc
 
-less_not_equal : (r : Ordering) → T (is_lt r) → is_eq r ≡ false
+pub less_not_equal : (r : Ordering) → T (is_lt r) → is_eq r ≡ false
 less_not_equal Less h = refl
 less_not_equal Equal h = absurd h
 less_not_equal Greater h = absurd h

@@ -6,3 +6,6 @@ pub mod Orders
 pub mod Rising
 pub mod Rates
 pub mod TokenBucket
+pub mod Members
+pub mod Rows
+pub mod Codes

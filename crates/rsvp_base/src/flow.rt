@@ -54,3 +54,20 @@ impl Flow {
         Some(Flow { r, b, p, low, most })
     }
 }
+
+/// The least flow there is, 1/1/inf/1/1: what the unused places of a list of fixed room hold.
+impl Default for Flow {
+    #[tactic(auto, using(crate::proofs::RateBits::one_is_rate))]
+    fn default() -> Flow {
+        let Some(one) = Rate::of(1) else {
+            unreachable!()
+        };
+        Flow {
+            r: one,
+            b: one,
+            p: Peak::Infinite,
+            low: 1,
+            most: 1,
+        }
+    }
+}

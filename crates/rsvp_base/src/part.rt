@@ -6,7 +6,7 @@ use crate::senders::Senders;
 
 /// A part of a reservation: the senders that it is for, under the names by which its style lists them, and the flow that
 /// is reserved for them together (RFC 2205, 1.3 and 2.2).
-#[derive(Drop)]
+#[derive(Default, Drop)]
 pub struct Part {
     pub senders: Senders,
     pub flow: Flow,

@@ -14,9 +14,10 @@ pub enum StyleKind {
 
 /// What one reservation of a session and style is for: all that it names together, or one sender of a fixed filter.
 /// `One` comes before each `Of`, and these by their senders.
-#[derive(Clone, Copy, Debug, PartialEq, Eq, PartialOrd, Ord, Hash)]
+#[derive(Clone, Copy, Debug, Default, PartialEq, Eq, PartialOrd, Ord, Hash)]
 pub enum Unit {
     /// The one unit of WF and of SE.
+    #[default]
     One,
     /// A sender's unit of FF.
     Of(Sender),

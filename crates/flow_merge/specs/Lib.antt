@@ -1,0 +1,3 @@
+pub mod FlowOrder
+pub mod Blockade
+pub mod Laws

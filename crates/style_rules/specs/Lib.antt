@@ -1,0 +1,12 @@
+pub mod Styles
+pub mod Parts
+pub mod PartLaws
+pub mod CutLaws
+pub mod Merge
+pub mod Toward
+pub mod Lines
+pub mod Limits
+pub mod Ways
+pub mod Tally
+pub mod TallyRows
+pub mod Laws

@@ -1,0 +1,150 @@
+//! Lists of parts.
+ghost use Rattle.std.specs.Prelude.{◌≡◌, ◌≤◌, ◌<◌, ◌↔◌, length, IsTrue, IsErr, OnOk, OnErr, IfOk, IfErr, slice_get};
+ghost use Rattle.std.specs.Option.{option_copied};
+ghost use Rattle.rsvp_base.specs.Orders.{units};
+ghost use Rattle.rsvp_base.specs.Rows.{AreRows, HasRowAt, LacksRowAt};
+
+use crate::order::unit_order;
+use arrayvec::ArrayVec;
+use rsvp_base::{Full, Part, Unit};
+use std::marker::Model;
+
+/// At most 16 parts, one for a unit, in order of unit. Contracts see the table of them by unit.
+#[derive(Drop)]
+pub struct Parts {
+    rows: ArrayVec<(Unit, Part), 16>,
+    ghost rising: { AreRows units (λ e. e) rows.items },
+    ghost few: { length rows.items ≤ 16 },
+}
+
+impl Model for Parts {
+    ghost use Rattle.rsvp_base.specs.Codes.{unit_code, part_code};
+    ghost use Rattle.rsvp_base.specs.Orders.{units};
+    ghost use Rattle.rsvp_base.specs.Rows.{table_of};
+    ghost use Rattle.rsvp_base.specs.Table.{table_code};
+    ghost use Rattle.style_rules.specs.Merge.{PartTable};
+
+    ghost Value = { PartTable };
+
+    ghost coded = { table_code units unit_code part_code };
+
+    ghost view = { λ p. table_of units (λ e. e) p.rows.items p.rising };
+}
+
+impl Parts {
+    ghost use Rattle.rsvp_base.specs.Table.{empty, get, put_in, size, values};
+
+    /// No part.
+    pub fn new() -> Parts
+        ensures { result ≡ empty }
+    {
+        Parts {
+            rows: ArrayVec::new(),
+        }
+    }
+
+    /// How many there are, at most 16.
+    pub fn len(&self) -> usize
+        ensures size { result ≡ size self.now }
+        ensures few { result ≤ 16 }
+    {
+        self.rows.len()
+    }
+
+    /// Whether there are none.
+    pub fn is_empty(&self) -> bool
+        ensures { IsTrue result ↔ (size self.now ≡ 0) }
+    {
+        self.rows.is_empty()
+    }
+
+    /// The parts with their units, in order of unit.
+    pub fn as_slice(&self) -> &[(Unit, Part)]
+        ensures rows { result.now ≡ self.now.rows }
+        ensures few { length result.now ≤ 16 }
+    {
+        self.rows.as_slice()
+    }
+
+    /// The k-th part by unit, from 0. `None` exactly where k is not below the length.
+    pub fn at(&self, k: usize) -> Option<Part>
+        ensures { result ≡ slice_get (values self.now) k }
+    {
+        let (_, part) = self.row_at(k)?;
+        Some(part.copy())
+    }
+
+    // The k-th unit with its part.
+    fn row_at(&self, k: usize) -> Option<&(Unit, Part)>
+        ensures { option_copied result ≡ slice_get self.now.rows k }
+    {
+        self.as_slice().get(k)
+    }
+
+    /// The part of a unit. `None` exactly where it has none.
+    pub fn get(&self, unit: Unit) -> Option<&Part>
+        ensures { option_copied result ≡ get self.now unit }
+    {
+        match search(self.rows.as_slice(), unit) {
+            Ok(place) => Some(&self.rows.as_slice()[place].1),
+            Err(_) => None,
+        }
+    }
+
+    /// Puts a part in place of that of its unit. `Full` exactly where the unit is new and 16 are there; nothing changes
+    /// then.
+    pub fn put(&mut self, unit: Unit, part: Part) -> Result<(), Full>
+        ensures ok { OnOk result (self.new ≡ put_in self.old unit part) }
+        ensures full { IsErr result ↔ (16 < size (put_in self.old unit part)) }
+        ensures err { OnErr result (self.new ≡ self.old) }
+    {
+        match search(self.rows.as_slice(), unit) {
+            Ok(place) => {
+                self.rows[place] = (unit, part);
+                Ok(())
+            }
+            Err(place) => {
+                if self.rows.is_full() {
+                    return Err(Full);
+                }
+                self.rows.insert(place, (unit, part));
+                Ok(())
+            }
+        }
+    }
+
+    // The parts of these rows.
+    pub(crate) fn of_rows(rows: ArrayVec<(Unit, Part), 16>) -> Parts
+        requires rising { AreRows units (λ e. e) rows.items }
+        requires few { length rows.items ≤ 16 }
+        ensures { result.rows ≡ rows.items }
+    {
+        Parts { rows }
+    }
+
+    /// An equal list.
+    pub fn copy(&self) -> Parts
+        ensures { result ≡ self.now }
+    {
+        let mut rows = ArrayVec::new();
+        for (unit, part) in self.as_slice() {
+            rows.push((*unit, part.copy()));
+        }
+        Parts { rows }
+    }
+}
+
+// Where the unit's part stands, or where it would go.
+fn search(rows: &[(Unit, Part)], unit: Unit) -> Result<usize, usize>
+    requires { AreRows units (λ e. e) rows.now }
+    ensures there { IfOk result (HasRowAt units (λ e. e) rows.now unit) }
+    ensures absent { IfErr result (LacksRowAt units (λ e. e) rows.now unit) }
+{
+    rows.binary_search_by(|row| unit_order(row.0, unit))
+}
+
+impl Default for Parts {
+    fn default() -> Parts {
+        Parts::new()
+    }
+}
