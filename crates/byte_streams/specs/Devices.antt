@@ -1,5 +1,5 @@
--- What the source and the sink in memory are, and what a call changes.
-use Rattle.std.specs.Prelude.{ℕ, ◌-◌, ◌==◌, ◌&&◌, if◌then◌else◌, nat_lt, List, ◌++◌, length, take, drop, filter, fold, min}
+-- What the sources and sinks are, and what a call of those in memory changes.
+use Rattle.std.specs.Prelude.{ℕ, ◌-◌, ◌==◌, ◌&&◌, if◌then◌else◌, nat_lt, Option, List, ◌++◌, length, take, drop, filter, fold, min}
 use Rattle.byte_streams.specs.Faults.{one_more}
 
 -- a source in memory: the number of its next call is one more than its calls so far
@@ -25,6 +25,17 @@ pub record Store : Type 0 where
   pub short : List (ℕ × ℕ)
   -- its calls so far, and how many of them failed or took nothing of a piece
   pub calls : ℕ
+  pub faults : ℕ
+
+-- a source over a reader: the bytes that the reader still gives, where they are known, and how many of its reads failed
+pub record Intake : Type 0 where
+  pub left : Option (List ℕ)
+  pub faults : ℕ
+
+-- a sink over a writer: the bytes that the writer holds, where they are known, and how many of its writes failed or took
+-- nothing of a piece
+pub record Outlet : Type 0 where
+  pub holds : Option (List ℕ)
   pub faults : ℕ
 
 -- how many bytes a call gives into room for so many, where it does not fail

@@ -1,6 +1,6 @@
-//! Standard input and output as a source and a sink. They tell nothing of the bytes: what a file or a terminal
-//! gives or takes is the outside's.
-ghost use Rattle.std.specs.Prelude.{◌≡◌, ◌<◌, ◌==◌, ◌&&◌, if◌then◌else◌, nat_lt, length, None, IfOk, OnOk, OnErr};
+//! A source over a reader and a sink over a writer, as standard input and output are. They tell of the bytes what the
+//! reader and the writer tell: nothing where it is a file or a terminal, since what that gives or takes is the outside's.
+ghost use Rattle.std.specs.Prelude.{◌≡◌, ◌<◌, ◌==◌, ◌&&◌, if◌then◌else◌, nat_lt, length, IfOk, OnOk, OnErr};
 ghost use Rattle.std.specs.Io.{ReadsAtMost, WritesAtMost};
 ghost use Rattle.std.specs.Io.KnownBytes.{ReadConsumes, WriteAppends};
 ghost use Rattle.byte_streams.specs.Faults.{one_more, Rose, HasCause};
@@ -9,42 +9,43 @@ use crate::streams::{Failed, Sink, Source};
 use std::io::{Read, Write};
 use std::marker::Model;
 
-/// A source over a reader, as standard input. Contracts see how many of its reads ended in an error.
+/// A source over a reader, as standard input. Contracts see the bytes that the reader still gives, where they are known,
+/// and how many of its reads ended in an error.
 #[derive(Drop)]
-pub struct StdSource<R> {
+pub struct StdSource<R: Read> {
     inner: R,
     faults: u64,
 }
 
-impl<R> Model for StdSource<R> {
-    ghost use Rattle.std.specs.Prelude.{ℕ};
+impl<R: Read> Model for StdSource<R> {
+    ghost use Rattle.byte_streams.specs.Devices.{Intake};
 
-    ghost Value = { ℕ };
+    ghost Value = { Intake };
 
-    ghost view = { λ s. s.faults };
+    ghost view = { λ s. record { left = R.remaining s.inner; faults = s.faults } };
 }
 
 impl<R: Read> StdSource<R> {
     /// The source over this reader.
     pub fn new(inner: R) -> StdSource<R>
-        ensures { result ≡ 0 }
+        ensures { result ≡ record { left = R.remaining inner; faults = 0 } }
     {
         StdSource { inner, faults: 0 }
     }
 }
 
 impl<R: Read> Source for StdSource<R> {
-    ghost left = { λ _. None };
+    ghost left = { λ s. s.left };
 
-    ghost faults = { λ s. s };
+    ghost faults = { λ s. s.faults };
 
     /// Reads once. An error raises the count of faults.
     fn take(&mut self, buf: &mut [u8]) -> Result<usize, Failed>
         ensures bound { ReadsAtMost result buf.new }
-        ensures bytes { ReadConsumes None None result buf.new }
-        ensures cause { HasCause self.old self.new result }
-        ensures read { OnOk result (self.new ≡ self.old) }
-        ensures failed { OnErr result (self.new ≡ one_more self.old) }
+        ensures bytes { ReadConsumes self.old.left self.new.left result buf.new }
+        ensures cause { HasCause self.old.faults self.new.faults result }
+        ensures read { OnOk result (self.new.faults ≡ self.old.faults) }
+        ensures failed { OnErr result (self.new.faults ≡ one_more self.old.faults) }
     {
         match self.inner.read(buf) {
             Ok(count) => Ok(count),
@@ -56,45 +57,45 @@ impl<R: Read> Source for StdSource<R> {
     }
 }
 
-/// A sink over a writer, as standard output. Contracts see how many of its writes ended in an error, or took
-/// nothing of a piece.
+/// A sink over a writer, as standard output. Contracts see the bytes that the writer holds, where they are known, and how
+/// many of its writes ended in an error, or took nothing of a piece.
 #[derive(Drop)]
-pub struct StdSink<W> {
+pub struct StdSink<W: Write> {
     inner: W,
     faults: u64,
 }
 
-impl<W> Model for StdSink<W> {
-    ghost use Rattle.std.specs.Prelude.{ℕ};
+impl<W: Write> Model for StdSink<W> {
+    ghost use Rattle.byte_streams.specs.Devices.{Outlet};
 
-    ghost Value = { ℕ };
+    ghost Value = { Outlet };
 
-    ghost view = { λ s. s.faults };
+    ghost view = { λ s. record { holds = W.contents s.inner; faults = s.faults } };
 }
 
 impl<W: Write> StdSink<W> {
     /// The sink over this writer.
     pub fn new(inner: W) -> StdSink<W>
-        ensures { result ≡ 0 }
+        ensures { result ≡ record { holds = W.contents inner; faults = 0 } }
     {
         StdSink { inner, faults: 0 }
     }
 }
 
 impl<W: Write> Sink for StdSink<W> {
-    ghost holds = { λ _. None };
+    ghost holds = { λ s. s.holds };
 
-    ghost faults = { λ s. s };
+    ghost faults = { λ s. s.faults };
 
     /// Writes once. An error raises the count of faults, and so does a write that takes nothing of a piece.
     fn give(&mut self, bytes: &[u8]) -> Result<usize, Failed>
         ensures bound { WritesAtMost result bytes.now }
-        ensures bytes { WriteAppends None None result bytes.now }
-        ensures nothing { IfOk result (λ n. n ≡ 0 → 0 < length bytes.now → Rose self.old self.new) }
-        ensures cause { HasCause self.old self.new result }
-        ensures written { IfOk result (λ n.
-            self.new ≡ (if n == 0 && nat_lt 0 (length bytes.now) then one_more self.old else self.old)) }
-        ensures failed { OnErr result (self.new ≡ one_more self.old) }
+        ensures bytes { WriteAppends self.old.holds self.new.holds result bytes.now }
+        ensures nothing { IfOk result (λ n. n ≡ 0 → 0 < length bytes.now → Rose self.old.faults self.new.faults) }
+        ensures cause { HasCause self.old.faults self.new.faults result }
+        ensures written { IfOk result (λ n. self.new.faults
+            ≡ (if n == 0 && nat_lt 0 (length bytes.now) then one_more self.old.faults else self.old.faults)) }
+        ensures failed { OnErr result (self.new.faults ≡ one_more self.old.faults) }
     {
         match self.inner.write(bytes) {
             Ok(count) => {

@@ -1,3 +1,3 @@
-pub mod Periods
 pub mod Positions
 pub mod Scripts
+pub mod Within

@@ -1,9 +1,14 @@
 -- The place of the first element that passes a test, in a list that another list stands for.
-use Rattle.std.specs.Prelude.{◌≡◌, ℕ, ◌+◌, Bool, true, false, cond, not, ◌||◌, nat_lt, List, [], ◌∷◌, map as each, length, position, Option, Some, None, suc, refl}
+use Rattle.std.specs.Prelude.{◌≡◌, ℕ, ◌+◌, Bool, true, false, cond, not, ◌||◌, nat_lt, List, [], ◌∷◌, map as each, length, position, slice_get, Some, None, option_and_then, suc, refl}
 use Rattle.std.proofs.Common.{ap, sym, ◌∙◌, arith}
-use Rattle.std.specs.List.{list_any, position_or_len}
+use Rattle.std.specs.List.{find, list_any, position_or_len}
 use Rattle.std.proofs.lemmas.Bool.Decides.{nat_tests}
 use Rattle.std.proofs.lemmas.List.{length-map}
+use Rattle.std.proofs.lemmas.List.Folds.{find_at}
+use Rattle.std.proofs.lemmas.Option.{slice_get_past}
+use Rattle.std.specs.Str.{bytes_eq}
+use Rattle.net_script.specs.Draft.{place_of, end_named}
+use Rattle.net_script.specs.declared.draft.DeclaredEnd.{DeclaredEnd}
 
 module _ {A B : Type 0} (p : B → Bool) (f : A → B) where
   position_or_len-map : (xs : List A) → position_or_len p (each f xs) ≡ position_or_len (λ x. p (f x)) xs
@@ -15,6 +20,17 @@ module _ {A B : Type 0} (p : B → Bool) (f : A → B) where
   position-map xs =
       ap (λ n. cond (nat_lt n (length (each f xs))) (Some n) None) (position_or_len-map xs)
       ∙ ap (λ n. cond (nat_lt (position_or_len (λ x. p (f x)) xs) n) (Some (position_or_len (λ x. p (f x)) xs)) None) (length-map xs f)
+
+  at_place : (xs : List A) (b : Bool) (n : ℕ) → nat_lt n (length xs) ≡ b → option_and_then (slice_get xs) (cond b (Some n) None) ≡ slice_get xs n
+  at_place xs true n e = refl
+  at_place xs false n e = sym (slice_get_past xs n (grind (arith, nat_tests)))
+
+  -- what stands there is what is found
+  pub find-position-map : (xs : List A) → option_and_then (slice_get xs) (position p (each f xs)) ≡ find (λ x. p (f x)) xs
+  find-position-map xs =
+      ap (option_and_then (slice_get xs)) (position-map xs)
+      ∙ at_place xs _ (position_or_len (λ x. p (f x)) xs) refl
+      ∙ sym (find_at (λ x. p (f x)) xs)
 
   pub list_any-map : (xs : List A) → list_any p (each f xs) ≡ list_any (λ x. p (f x)) xs
   list_any-map [] = refl
@@ -42,3 +58,7 @@ module _ {A : Type 0} (p : A → Bool) where
   -- without a place, none passes
   pub list_any-no_position : (xs : List A) → position p xs ≡ None → list_any p xs ≡ false
   list_any-no_position xs gone = list_any_place xs ∙ placed _ _ gone
+
+-- the end that stands at the place of its name
+pub end_at_place : (ends : List DeclaredEnd) (name : List ℕ) → option_and_then (slice_get ends) (place_of (each (λ e. e.name) ends) name) ≡ end_named ends name
+end_at_place ends name = find-position-map (bytes_eq name) (λ (e : DeclaredEnd). e.name) ends

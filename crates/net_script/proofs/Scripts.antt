@@ -1,11 +1,11 @@
 -- Lines one after another: what leads where, and which line is bad.
-use Rattle.std.specs.Prelude.{◌≡◌, ℕ, ◌+◌, ◌≤◌, List, [], ◌∷◌, ◌++◌, Option, Some, None, Result, Ok, Err, IfErr, length, suc, refl}
+use Rattle.std.specs.Prelude.{◌≡◌, ℕ, ◌≤◌, List, [], ◌∷◌, ◌++◌, Option, Some, None, Result, Ok, Err, IfErr, length, suc, refl}
 use Rattle.std.proofs.Common.{sym, ap, subst, ◌∙◌, arith}
 use Rattle.net_script.specs.LineKinds.{line_of}
 use Rattle.script_words.specs.Lines.{lines_of}
 use Rattle.net_script.specs.Draft.{Draft, nothing, with_line}
-use Rattle.net_script.specs.Rules.{Rule, keeps, KeepsAll, BreaksFirst}
-use Rattle.net_script.specs.Grammar.{Follows, HasFault, too_long, unread, broken, Leads, most_line, Plan, planned, line_number, IsScript, IsBadLine}
+use Rattle.net_script.specs.Rules.{Rule, Keeps, KeepsAll, BreaksFirst}
+use Rattle.net_script.specs.Grammar.{Follows, HasFault, too_long, unread, broken, Leads, most_line, Plan, draft_plan, line_number, IsScript, IsBadLine}
 use Rattle.net_script.specs.Refusals.{Refuses, MatchRefusal}
 use Rattle.net_script.specs.declared.fault.LineErr.{LineErr}
 use Rattle.net_script.specs.declared.fault.LineWhy.{LineWhy}
@@ -15,7 +15,7 @@ use Rattle.net_script.specs.declared.refusal.Refusal.{Refusal}
 use Rattle.net_script.specs.declared.refusal.Refusal.TheVariants.{Fault, NoMemory}
 
 -- the fault of a line that was read is that of the first rule that it breaks
-pub breaks : (d : Draft) (text : List ℕ) (said : Line) (r : Result (Unit {0}) Refusal) → length text ≤ most_line → line_of text ≡ Some said → IfErr r (Refuses (keeps d said)) → IfErr r (MatchRefusal (HasFault d text))
+pub breaks : (d : Draft) (text : List ℕ) (said : Line) (r : Result (Unit {0}) Refusal) → length text ≤ most_line → line_of text ≡ Some said → IfErr r (Refuses (Keeps d said)) → IfErr r (MatchRefusal (HasFault d text))
 breaks d text said (Ok x) short reads h = tt
 breaks d text said (Err (Fault why)) short reads h = broken said why short reads h
 breaks d text said (Err NoMemory) short reads h = tt
@@ -67,7 +67,7 @@ fault_or_follows d text Limit new (too_long long) f = absurd (omega (arith, f.sh
 fault_or_follows d text Word new (unread short gone) f = no_reading (line_of text) f.said f.reads gone
 fault_or_follows d text why new (broken said _ short reads b) f =
     let same = same_said f.said said (sym f.reads ∙ reads) in
-    breaks_none (keeps d said) why (subst (λ l. KeepsAll (keeps d l)) same f.valid) b
+    breaks_none (Keeps d said) why (subst (λ l. KeepsAll (Keeps d l)) same f.valid) b
 
 pub script_or_bad : (bytes : List ℕ) (p : Plan) (e : LineErr) → IsScript bytes p → IsBadLine bytes e → ⊥
 script_or_bad bytes p e s b =
@@ -77,7 +77,7 @@ script_or_bad bytes p e s b =
     fault_or_follows b.lines b.text e.why at.2.0 b.fault (subst (λ d. Follows d b.text at.2.0) same at.2.1)
 
 pub one_script_law : (bytes : List ℕ) (p q : Plan) → IsScript bytes p → IsScript bytes q → p ≡ q
-one_script_law bytes p q s t = s.says ∙ ap planned (leads_one nothing (lines_of bytes) s.lines t.lines s.leads t.leads) ∙ sym t.says
+one_script_law bytes p q s t = s.says ∙ ap draft_plan (leads_one nothing (lines_of bytes) s.lines t.lines s.leads t.leads) ∙ sym t.says
 
 -- ---- one fault
 breaks_one : (rules : Rule → Type 0) (a b : LineWhy) → BreaksFirst rules a → BreaksFirst rules b → a ≡ b
@@ -124,7 +124,7 @@ fault_one d text a Limit (broken said _ short reads h) (too_long y) = absurd (om
 fault_one d text a Word (broken said _ short reads h) (unread shorter gone) = absurd (no_reading (line_of text) said reads gone)
 fault_one d text a b (broken said _ short reads h) (broken other _ shorter also k) =
     let same = same_said other said (sym also ∙ reads) in
-    breaks_one (keeps d said) a b h (subst (λ l. BreaksFirst (keeps d l) b) same k)
+    breaks_one (Keeps d said) a b h (subst (λ l. BreaksFirst (Keeps d l) b) same k)
 
 same_head : {A : Type 0} (x y : A) (xs ys : List A) → x ∷ xs ≡ y ∷ ys → (x ≡ y) × (xs ≡ ys)
 same_head x y xs ys e =

@@ -1,6 +1,6 @@
 -- What the lines of a script have said so far, and what each line adds.
-use Rattle.std.specs.Prelude.{ℕ, ◌+◌, ◌*◌, ◌/◌, List, [], ◌∷◌, ◌++◌, map as each, Option, None, Some, Bool, ◌==◌, position, option_and_then, unwrap_or, length, count_by, slice_get, if◌then◌else◌}
-use Rattle.std.specs.List.{list_any}
+use Rattle.std.specs.Prelude.{ℕ, ◌*◌, ◌/◌, List, [], ◌∷◌, ◌++◌, map as each, Option, None, Some, Bool, ◌==◌, position, unwrap_or, count_by, if◌then◌else◌}
+use Rattle.std.specs.List.{find, list_any}
 use Rattle.std.specs.Str.{bytes_eq}
 use Rattle.rsvp_base.specs.declared.addr.Addr.{Addr}
 use Rattle.rsvp_base.specs.declared.session.Session.{Session}
@@ -15,20 +15,19 @@ use Rattle.net_script.specs.declared.line.Line.{Line}
 use Rattle.net_script.specs.declared.line.Line.TheVariants as line
 use Rattle.net_script.specs.declared.line.EndLine.{EndLine}
 use Rattle.net_script.specs.declared.line.StaleResvLine.{StaleResvLine}
-use Rattle.net_script.specs.declared.script.End.{End}
 use Rattle.net_script.specs.declared.script.Stale.{Stale}
 use Rattle.net_script.specs.declared.script.Stale.TheVariants.{Resv}
 use Rattle.net_script.specs.declared.script.Event.{Event}
 use Rattle.net_script.specs.declared.script.Event.TheVariants.{Wait, Report}
 use Rattle.net_script.specs.Keys.{same_session}
-use Rattle.net_script.specs.declared.draft.Declared.{Declared}
+use Rattle.net_script.specs.declared.draft.DeclaredEnd.{DeclaredEnd}
 
 -- the lines so far: the period, if one was given, the names of the nodes, the ends, the left-over facts, the sessions
 -- that were named, and what happens
 pub record Draft : Type 0 where
   pub period : Option ℕ
   pub nodes : List (List ℕ)
-  pub ends : List Declared
+  pub ends : List DeclaredEnd
   pub stale : List Stale
   pub sessions : List Session
   pub events : List Event
@@ -53,8 +52,8 @@ period_of d = unwrap_or d.period usual_period
 
 -- the lifetime of state that was refreshed with this period: 21 quarters of it, which is (K + 0.5) * 1.5 * R with K = 3
 -- (RFC 2205, 3.7)
-abbrev pub life : ℕ → ℕ
-life period = 21 * (period / 4)
+abbrev pub lifetime : ℕ → ℕ
+lifetime period = 21 * (period / 4)
 
 -- ---- what a line adds
 abbrev pub with_period : Draft → ℕ → Draft
@@ -68,14 +67,14 @@ abbrev pub ends_of : Draft → ℕ → ℕ
 ends_of d node = count_by (λ e. e.end.node == node) d.ends
 
 -- one of the ends has this address
-abbrev pub has_addr : List Declared → Addr → Bool
+abbrev pub has_addr : List DeclaredEnd → Addr → Bool
 has_addr ends addr = list_any (λ e. e.end.iface.addr.0 == addr.0) ends
 
 abbrev pub node_number : Draft → List ℕ → ℕ
 node_number d name = unwrap_or (place_of d.nodes name) 0
 
 -- the end of a line: the interface of its node that comes next
-abbrev pub end_value : Draft → EndLine → Declared
+abbrev pub end_value : Draft → EndLine → DeclaredEnd
 end_value d l =
     let node = node_number d l.node in
     record {
@@ -94,18 +93,18 @@ wild_sender q = record { addr = addr_value q; port = 0 }
 abbrev pub wild_senders : List DottedQuad → Names
 wild_senders quads = names_from (each wild_sender quads)
 
-abbrev pub stale_value : Declared → StaleResvLine → Stale
+abbrev pub stale_value : DeclaredEnd → StaleResvLine → Stale
 stale_value e l = Resv e.end.node e.iface (session_value l.session) Wild (addr_value l.next) (wild_senders l.senders) (flow_value l.flow) l.left
 
 -- the end of this name
-abbrev pub end_named : List Declared → List ℕ → Option Declared
-end_named ends name = option_and_then (slice_get ends) (place_of (each (λ e. e.name) ends) name)
+abbrev pub end_named : List DeclaredEnd → List ℕ → Option DeclaredEnd
+end_named ends name = find (λ e. bytes_eq name e.name) ends
 
 -- with a session that is named, once
 abbrev pub with_session : List Session → Session → List Session
 with_session named s = if list_any (same_session s) named then named else named ++ s ∷ []
 
-abbrev pub with_stale : Draft → StaleResvLine → Option Declared → Draft
+abbrev pub with_stale : Draft → StaleResvLine → Option DeclaredEnd → Draft
 with_stale d l None = d
 with_stale d l (Some e) = record d { stale = d.stale ++ stale_value e l ∷ []; sessions = with_session d.sessions (session_value l.session) }
 

@@ -1,9 +1,9 @@
 -- The script grammar: which bytes are a script, and which line is the first bad one.
-use Rattle.std.specs.Prelude.{◌≡◌, ℕ, ◌+◌, ◌-◌, ◌^◌, ◌<◌, ◌≤◌, min, List, [], ◌∷◌, ◌++◌, map as each, Option, None, Some, length}
+use Rattle.std.specs.Prelude.{◌≡◌, ℕ, ◌+◌, ◌-◌, ◌^◌, ◌<◌, ◌≤◌, min, List, [], ◌∷◌, ◌++◌, map as each, None, Some, length}
 use Rattle.script_words.specs.Lines.{lines_of}
 use Rattle.net_script.specs.LineKinds.{line_of}
 use Rattle.net_script.specs.Draft.{Draft, nothing, with_line, period_of, end_names}
-use Rattle.net_script.specs.Rules.{keeps, KeepsAll, BreaksFirst}
+use Rattle.net_script.specs.Rules.{Keeps, KeepsAll, BreaksFirst}
 use Rattle.net_script.specs.declared.fault.LineErr.{LineErr}
 use Rattle.net_script.specs.declared.fault.LineWhy.{LineWhy}
 use Rattle.net_script.specs.declared.fault.LineWhy.TheVariants.{Word, Limit}
@@ -22,14 +22,14 @@ pub record Follows (d : Draft) (text : List ℕ) (new : Draft) : Type 0 where
   pub short : length text ≤ most_line
   pub said : Line
   pub reads : line_of text ≡ Some said
-  pub valid : KeepsAll (keeps d said)
+  pub valid : KeepsAll (Keeps d said)
   pub leads : new ≡ with_line d said
 
 -- behind these lines the text has this fault
 pub data HasFault (d : Draft) (text : List ℕ) : LineWhy → Type 0 where
   too_long : most_line < length text → HasFault d text Limit
   unread : length text ≤ most_line → line_of text ≡ None → HasFault d text Word
-  broken : (said : Line) (why : LineWhy) → length text ≤ most_line → line_of text ≡ Some said → BreaksFirst (keeps d said) why → HasFault d text why
+  broken : (said : Line) (why : LineWhy) → length text ≤ most_line → line_of text ≡ Some said → BreaksFirst (Keeps d said) why → HasFault d text why
 
 -- these lines lead from the one to the other
 abbrev pub Leads : Draft → List (List ℕ) → Draft → Type 0
@@ -48,14 +48,14 @@ abbrev pub plan_of : Script → Plan
 plan_of s = record { period = s.period; ends = s.ends.items; names = s.names; stale = s.stale.items; events = s.events.items }
 
 -- the plan of these lines
-abbrev pub planned : Draft → Plan
-planned d = record { period = period_of d; ends = each (λ e. e.end) d.ends; names = end_names d; stale = d.stale; events = d.events }
+abbrev pub draft_plan : Draft → Plan
+draft_plan d = record { period = period_of d; ends = each (λ e. e.end) d.ends; names = end_names d; stale = d.stale; events = d.events }
 
 -- the bytes are the lines of this script
 pub record IsScript (bytes : List ℕ) (plan : Plan) : Type 0 where
   pub lines : Draft
   pub leads : Leads nothing (lines_of bytes) lines
-  pub says : plan ≡ planned lines
+  pub says : plan ≡ draft_plan lines
 
 -- line numbers count from 1, and stand still at the end of their type
 abbrev pub line_number : ℕ → ℕ

@@ -1,7 +1,8 @@
 -- Laws of the script grammar.
 use Rattle.std.specs.Prelude.{◌≡◌, ℕ, ◌+◌, ◌*◌, ◌/◌, List}
-use Rattle.net_script.specs.Draft.{life}
+use Rattle.net_script.specs.Draft.{lifetime}
 use Rattle.net_script.specs.Grammar.{Plan, IsScript, IsBadLine}
+use Rattle.net_script.specs.Limits.{IsWithinLimits}
 use Rattle.net_script.specs.Rules.{IsPeriod}
 use Rattle.net_script.specs.declared.fault.LineErr.{LineErr}
 
@@ -17,10 +18,10 @@ BadIsNoScript = (bytes : List ℕ) (p : Plan) (e : LineErr) → IsScript bytes p
 abbrev pub OneBadLine : Type 0
 OneBadLine = (bytes : List ℕ) (d e : LineErr) → IsBadLine bytes d → IsBadLine bytes e → d ≡ e
 
--- the period of a script is one that a line may give
-abbrev pub PeriodIsInRange : Type 0
-PeriodIsInRange = (bytes : List ℕ) (p : Plan) → IsScript bytes p → IsPeriod p.period
+-- a script is within the limits
+abbrev pub ScriptIsWithinLimits : Type 0
+ScriptIsWithinLimits = (bytes : List ℕ) (p : Plan) → IsScript bytes p → IsWithinLimits p
 
 -- state lives (K + 0.5) * 1.5 * R with K = 3, rounded up to whole milliseconds (RFC 2205, 3.7)
-abbrev pub LifeIsRoundedUp : Type 0
-LifeIsRoundedUp = (period : ℕ) → IsPeriod period → life period ≡ (21 * period + 3) / 4
+abbrev pub LifetimeIsRoundedUp : Type 0
+LifetimeIsRoundedUp = (period : ℕ) → IsPeriod period → lifetime period ≡ (21 * period + 3) / 4

@@ -15,5 +15,6 @@ pub mod Rules
 pub mod StaleValues
 pub mod Checked
 pub mod Refusals
-pub mod Laws
 pub mod Grammar
+pub mod Limits
+pub mod Laws

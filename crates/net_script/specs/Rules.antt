@@ -1,18 +1,16 @@
 -- The rules of script lines, and the fault of a line that breaks one.
-use Rattle.std.specs.Prelude.{◌≡◌, ℕ, ◌+◌, ◌*◌, ◌%◌, ◌^◌, ◌<◌, ◌≤◌, List, [], ◌∷◌, map as each, Option, None, Some, Bool, true, false, IsSome, length, count_by}
-use Rattle.std.specs.List.{Contains}
+use Rattle.std.specs.Prelude.{◌≡◌, ℕ, ◌%◌, ◌^◌, ◌<◌, ◌≤◌, List, [], ◌∷◌, map as each, None, Bool, true, false, IsSome, IfSome, length, count_by}
+use Rattle.std.specs.List.{All, Contains}
 use Rattle.rsvp_base.specs.Table.{size}
-use Rattle.rsvp_base.specs.declared.addr.Addr.{Addr}
 use Rattle.rsvp_base.specs.Orders.{names_from}
 use Rattle.rsvp_base.specs.declared.session.Session.{Session}
 use Rattle.rsvp_base.specs.declared.session.Sender.{Sender}
-use Rattle.script_words.specs.declared.raw.DottedQuad.{DottedQuad}
 use Rattle.script_words.specs.Addresses.{IsAddr, IsHost, addr_value}
 use Rattle.script_words.specs.Sessions.{IsSession, session_value}
 use Rattle.script_words.specs.Flows.{IsFlow}
 use Rattle.net_script.specs.Keys.{key_of, has_key}
-use Rattle.net_script.specs.Draft.{Draft, place_of, end_names, period_of, life, node_number, ends_of, has_addr, end_named, with_session, wild_sender}
-use Rattle.net_script.specs.declared.draft.Declared.{Declared}
+use Rattle.net_script.specs.Draft.{Draft, place_of, end_names, period_of, lifetime, node_number, ends_of, has_addr, end_named, with_session, wild_sender}
+use Rattle.net_script.specs.declared.draft.DeclaredEnd.{DeclaredEnd}
 use Rattle.net_script.specs.declared.draft.StaleKey.{StaleKey}
 use Rattle.net_script.specs.declared.fault.LineWhy.{LineWhy}
 use Rattle.net_script.specs.declared.fault.LineWhy.TheVariants.{Word, Late, Range, Name, Twice, Limit}
@@ -25,10 +23,15 @@ use Rattle.net_script.specs.declared.script.Event.TheVariants.{Wait, Report}
 
 -- the rules that a line keeps, in the order in which they are looked at
 pub data Rule : Type 0 where
+  -- no line of a later part of the script came before
   InTime : Rule
+  -- its numbers, addresses and flows are in range
   InRange : Rule
+  -- what it names was declared
   Known : Rule
+  -- what it adds is not there yet
   New : Rule
+  -- there is room for it
   WithinLimits : Rule
 
 -- ---- limits
@@ -48,7 +51,7 @@ abbrev pub most_reports : ℕ
 most_reports = 16
 
 -- ---- the parts of a script: declarations, left-over facts, events
-pub record Declares (d : Draft) : Type 0 where
+pub record OnlyDeclares (d : Draft) : Type 0 where
   pub no_fact : d.stale ≡ []
   pub no_event : d.events ≡ []
 
@@ -71,18 +74,13 @@ pub record IsEndInRange (l : EndLine) : Type 0 where
   pub some_mtu : 1 ≤ l.mtu
   pub mtu : l.mtu ≤ 65535
 
--- each of them is an address
-abbrev pub AreAddrs : List DottedQuad → Type 0
-AreAddrs [] = Unit {0}
-AreAddrs (q ∷ qs) = IsAddr q × AreAddrs qs
-
 pub record IsStaleInRange (period : ℕ) (l : StaleResvLine) : Type 0 where
   pub session : IsSession l.session
   pub next : IsAddr l.next
-  pub senders : AreAddrs l.senders
+  pub senders : All IsAddr l.senders
   pub flow : IsFlow l.flow
   pub some_left : 1 ≤ l.left
-  pub left : l.left ≤ life period
+  pub left : l.left ≤ lifetime period
 
 pub record IsWait (ms : ℕ) : Type 0 where
   pub some : 1 ≤ ms
@@ -99,18 +97,13 @@ abbrev pub AreDistinct : {X : Type 0} → List X → Type 0
 AreDistinct [] = Unit {0}
 AreDistinct (x ∷ xs) = (Contains xs x → ⊥) × AreDistinct xs
 
-abbrev pub key_value : Declared → StaleResvLine → StaleKey
+abbrev pub key_value : DeclaredEnd → StaleResvLine → StaleKey
 key_value e l = record { node = e.end.node; iface = e.iface; session = session_value l.session }
 
 -- no fact has this key, and no sender stands twice
 pub record IsNewFact (keys : List StaleKey) (key : StaleKey) (senders : List Sender) : Type 0 where
   pub no_fact : has_key keys key ≡ false
   pub no_sender_twice : AreDistinct senders
-
--- where the end is known
-abbrev pub IfKnown : Option Declared → (Declared → Type 0) → Type 0
-IfKnown None P = Unit {0}
-IfKnown (Some e) P = P e
 
 -- ---- room
 -- neither the senders of a fact nor the sessions that are named with its own are too many
@@ -123,56 +116,56 @@ is_report (Wait ms) = false
 is_report (Report end) = true
 
 -- ---- the rules of each kind of line
-abbrev pub period_keeps : Draft → ℕ → Rule → Type 0
-period_keeps d ms InTime = BeforeNodes d
-period_keeps d ms InRange = IsPeriod ms
-period_keeps d ms Known = Unit {0}
-period_keeps d ms New = d.period ≡ None
-period_keeps d ms WithinLimits = Unit {0}
+abbrev pub PeriodKeeps : Draft → ℕ → Rule → Type 0
+PeriodKeeps d ms InTime = BeforeNodes d
+PeriodKeeps d ms InRange = IsPeriod ms
+PeriodKeeps d ms Known = Unit {0}
+PeriodKeeps d ms New = d.period ≡ None
+PeriodKeeps d ms WithinLimits = Unit {0}
 
-abbrev pub node_keeps : Draft → List ℕ → Rule → Type 0
-node_keeps d name InTime = Declares d
-node_keeps d name InRange = Unit {0}
-node_keeps d name Known = Unit {0}
-node_keeps d name New = place_of d.nodes name ≡ None
-node_keeps d name WithinLimits = length d.nodes < most_nodes
+abbrev pub NodeKeeps : Draft → List ℕ → Rule → Type 0
+NodeKeeps d name InTime = OnlyDeclares d
+NodeKeeps d name InRange = Unit {0}
+NodeKeeps d name Known = Unit {0}
+NodeKeeps d name New = place_of d.nodes name ≡ None
+NodeKeeps d name WithinLimits = length d.nodes < most_nodes
 
-abbrev pub end_keeps : Draft → EndLine → Rule → Type 0
-end_keeps d l InTime = Declares d
-end_keeps d l InRange = IsEndInRange l
-end_keeps d l Known = IsSome (place_of d.nodes l.node)
-end_keeps d l New = IsNewEnd d l
-end_keeps d l WithinLimits = ends_of d (node_number d l.node) < most_ifaces
+abbrev pub EndKeeps : Draft → EndLine → Rule → Type 0
+EndKeeps d l InTime = OnlyDeclares d
+EndKeeps d l InRange = IsEndInRange l
+EndKeeps d l Known = IsSome (place_of d.nodes l.node)
+EndKeeps d l New = IsNewEnd d l
+EndKeeps d l WithinLimits = ends_of d (node_number d l.node) < most_ifaces
 
-abbrev pub stale_keeps : Draft → StaleResvLine → Rule → Type 0
-stale_keeps d l InTime = d.events ≡ []
-stale_keeps d l InRange = IsStaleInRange (period_of d) l
-stale_keeps d l Known = IsSome (end_named d.ends l.end)
-stale_keeps d l New = IfKnown (end_named d.ends l.end) (λ e. IsNewFact (each key_of d.stale) (key_value e l) (each wild_sender l.senders))
-stale_keeps d l WithinLimits = HasRoomForFact d.sessions (session_value l.session) (each wild_sender l.senders)
+abbrev pub StaleKeeps : Draft → StaleResvLine → Rule → Type 0
+StaleKeeps d l InTime = d.events ≡ []
+StaleKeeps d l InRange = IsStaleInRange (period_of d) l
+StaleKeeps d l Known = IsSome (end_named d.ends l.end)
+StaleKeeps d l New = IfSome (end_named d.ends l.end) (λ e. IsNewFact (each key_of d.stale) (key_value e l) (each wild_sender l.senders))
+StaleKeeps d l WithinLimits = HasRoomForFact d.sessions (session_value l.session) (each wild_sender l.senders)
 
-abbrev pub wait_keeps : ℕ → Rule → Type 0
-wait_keeps ms InTime = Unit {0}
-wait_keeps ms InRange = IsWait ms
-wait_keeps ms Known = Unit {0}
-wait_keeps ms New = Unit {0}
-wait_keeps ms WithinLimits = Unit {0}
+abbrev pub WaitKeeps : ℕ → Rule → Type 0
+WaitKeeps ms InTime = Unit {0}
+WaitKeeps ms InRange = IsWait ms
+WaitKeeps ms Known = Unit {0}
+WaitKeeps ms New = Unit {0}
+WaitKeeps ms WithinLimits = Unit {0}
 
-abbrev pub report_keeps : Draft → Rule → Type 0
-report_keeps d InTime = Unit {0}
-report_keeps d InRange = Unit {0}
-report_keeps d Known = Unit {0}
-report_keeps d New = Unit {0}
-report_keeps d WithinLimits = count_by is_report d.events < most_reports
+abbrev pub ReportKeeps : Draft → Rule → Type 0
+ReportKeeps d InTime = Unit {0}
+ReportKeeps d InRange = Unit {0}
+ReportKeeps d Known = Unit {0}
+ReportKeeps d New = Unit {0}
+ReportKeeps d WithinLimits = count_by is_report d.events < most_reports
 
-abbrev pub keeps : Draft → Line → Rule → Type 0
-keeps d line.Skipped rule = Unit {0}
-keeps d (line.Period ms) rule = period_keeps d ms rule
-keeps d (line.Node name) rule = node_keeps d name rule
-keeps d (line.End l) rule = end_keeps d l rule
-keeps d (line.StaleResv l) rule = stale_keeps d l rule
-keeps d (line.Wait ms) rule = wait_keeps ms rule
-keeps d line.Report rule = report_keeps d rule
+abbrev pub Keeps : Draft → Line → Rule → Type 0
+Keeps d line.Skipped rule = Unit {0}
+Keeps d (line.Period ms) rule = PeriodKeeps d ms rule
+Keeps d (line.Node name) rule = NodeKeeps d name rule
+Keeps d (line.End l) rule = EndKeeps d l rule
+Keeps d (line.StaleResv l) rule = StaleKeeps d l rule
+Keeps d (line.Wait ms) rule = WaitKeeps ms rule
+Keeps d line.Report rule = ReportKeeps d rule
 
 -- ---- all rules are kept, or a first one is not
 pub record KeepsAll (rules : Rule → Type 0) : Type 0 where

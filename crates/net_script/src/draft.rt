@@ -11,7 +11,7 @@ use std::alloc::Global;
 
 /// An end that was declared.
 #[derive(Drop)]
-pub struct Declared {
+pub struct DeclaredEnd {
     pub name: EndName,
     pub end: End,
     /// Which interface of its node it is, from 0.
@@ -46,7 +46,7 @@ pub struct Checker {
     pub nodes: NameTable,
     /// The names of the ends, by number.
     pub end_names: NameTable,
-    pub ends: Vec<Declared>,
+    pub ends: Vec<DeclaredEnd>,
     pub stale: Vec<Stale>,
     /// The key of each left-over fact.
     pub keys: IndexSet<StaleKey>,

@@ -1,5 +1,5 @@
 //! Laws of the script grammar.
-ghost use Rattle.net_script.specs.Laws.{BadIsNoScript, LifeIsRoundedUp, OneBadLine, OneScript, PeriodIsInRange};
+ghost use Rattle.net_script.specs.Laws.{BadIsNoScript, LifetimeIsRoundedUp, OneBadLine, OneScript, ScriptIsWithinLimits};
 
 /// Bytes are one script at most.
 pub fn one_script()
@@ -16,13 +16,14 @@ pub fn one_bad_line()
     ensures { OneBadLine }
 {}
 
-/// The period of a script is one that a line may give, also where none gives it.
-pub fn period_is_in_range()
-    ensures { PeriodIsInRange }
+/// A script is within the limits: its period, its nodes and their interfaces, what its facts and events name and how
+/// long they last, and how many reports it has.
+pub fn script_is_within_limits()
+    ensures { ScriptIsWithinLimits }
 {}
 
-/// The lifetime is the least that the refresh period R asks for, (K + 0.5) * 1.5 * R with K = 3, rounded up to whole
-/// milliseconds (RFC 2205, 3.7).
-pub fn life_is_rounded_up()
-    ensures { LifeIsRoundedUp }
+/// A lifetime is (K + 0.5) * 1.5 * R with K = 3, for the refresh period R of any script: rounding it up to whole
+/// milliseconds changes nothing (RFC 2205, 3.7).
+pub fn lifetime_is_rounded_up()
+    ensures { LifetimeIsRoundedUp }
 {}

@@ -2,7 +2,7 @@
 ghost use Rattle.std.specs.Prelude.{◌≡◌, IfOk, IfErr, OnOk, MatchResult};
 ghost use Rattle.net_script.specs.Checked.{draft_of};
 ghost use Rattle.net_script.specs.Refusals.{MatchRefusal, MatchParseErr};
-ghost use Rattle.net_script.specs.Grammar.{Follows, HasFault, IsScript, IsBadLine, plan_of, planned};
+ghost use Rattle.net_script.specs.Grammar.{Follows, HasFault, IsScript, IsBadLine, plan_of, draft_plan};
 
 use crate::draft::Checker;
 use crate::fault::{LineErr, LineWhy, ParseErr};
@@ -38,7 +38,7 @@ fn take_line<'a>(
 
 // The script of the lines.
 fn finish(alloc: Global, checker: Checker) -> Result<Script, ParseErr>
-    ensures { MatchResult result (λ s. plan_of s ≡ planned (draft_of checker)) (λ e. e ≡ ParseErr.NoMemory) }
+    ensures { MatchResult result (λ s. plan_of s ≡ draft_plan (draft_of checker)) (λ e. e ≡ ParseErr.NoMemory) }
 {
     let mut ends = Vec::with_capacity(alloc, checker.ends.len())?;
     let mut names = Vec::with_capacity(alloc, checker.ends.len())?;

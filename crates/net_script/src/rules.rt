@@ -3,7 +3,7 @@ ghost use Rattle.std.specs.Prelude.{◌≡◌, ◌↔◌, IsTrue, IfErr, OnOk};
 ghost use Rattle.net_script.specs.Checked.{draft_of};
 ghost use Rattle.net_script.specs.Draft.{with_line};
 ghost use Rattle.net_script.specs.Refusals.{Refuses};
-ghost use Rattle.net_script.specs.Rules.{Declares, KeepsAll, keeps};
+ghost use Rattle.net_script.specs.Rules.{OnlyDeclares, KeepsAll, Keeps};
 
 mod end;
 mod event;
@@ -19,8 +19,8 @@ use std::alloc::Global;
 
 /// Adds what a line says. `Fault`: the line breaks a rule, and this is the fault of the first that it breaks.
 pub fn add(alloc: Global, checker: &mut Checker, line: Line) -> Result<(), Refusal>
-    ensures ok { OnOk result (KeepsAll (keeps (draft_of checker.old) line) × (draft_of checker.new ≡ with_line (draft_of checker.old) line)) }
-    ensures refused { IfErr result (Refuses (keeps (draft_of checker.old) line)) }
+    ensures ok { OnOk result (KeepsAll (Keeps (draft_of checker.old) line) × (draft_of checker.new ≡ with_line (draft_of checker.old) line)) }
+    ensures refused { IfErr result (Refuses (Keeps (draft_of checker.old) line)) }
 {
     match line {
         Line::Skipped => Ok(()),
@@ -34,8 +34,8 @@ pub fn add(alloc: Global, checker: &mut Checker, line: Line) -> Result<(), Refus
 }
 
 // Whether no left-over fact and no event came yet.
-fn declares(checker: &Checker) -> bool
-    ensures { IsTrue result ↔ Declares (draft_of checker.now) }
+fn only_declares(checker: &Checker) -> bool
+    ensures { IsTrue result ↔ OnlyDeclares (draft_of checker.now) }
 {
     checker.stale.is_empty() && checker.events.is_empty()
 }

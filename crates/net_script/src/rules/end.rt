@@ -4,10 +4,10 @@ ghost use Rattle.script_words.specs.Addresses.{addr_value};
 ghost use Rattle.net_script.specs.Checked.{draft_of};
 ghost use Rattle.net_script.specs.Draft.{has_addr, place_of, with_end};
 ghost use Rattle.net_script.specs.Refusals.{Refuses};
-ghost use Rattle.net_script.specs.Rules.{IsEndInRange, KeepsAll, end_keeps};
+ghost use Rattle.net_script.specs.Rules.{IsEndInRange, KeepsAll, EndKeeps};
 
-use super::declares;
-use crate::draft::{Checker, Declared};
+use super::only_declares;
+use crate::draft::{Checker, DeclaredEnd};
 use crate::fault::LineWhy;
 use crate::line::EndLine;
 use crate::refusal::Refusal;
@@ -21,10 +21,10 @@ const MOST_IFACES: usize = 16;
 
 /// Adds an end.
 pub fn add_end(alloc: Global, checker: &mut Checker, line: EndLine) -> Result<(), Refusal>
-    ensures ok { OnOk result (KeepsAll (end_keeps (draft_of checker.old) line) × (draft_of checker.new ≡ with_end (draft_of checker.old) line)) }
-    ensures refused { IfErr result (Refuses (end_keeps (draft_of checker.old) line)) }
+    ensures ok { OnOk result (KeepsAll (EndKeeps (draft_of checker.old) line) × (draft_of checker.new ≡ with_end (draft_of checker.old) line)) }
+    ensures refused { IfErr result (Refuses (EndKeeps (draft_of checker.old) line)) }
 {
-    if !declares(checker) {
+    if !only_declares(checker) {
         return Err(Refusal::Fault(LineWhy::Late));
     }
     let Some(iface) = iface_of(&line) else {
@@ -66,14 +66,14 @@ fn iface_of(line: &EndLine) -> Option<Iface>
 }
 
 // Whether an end has this address.
-fn has_addr(ends: &[Declared], addr: Addr) -> bool
+fn has_addr(ends: &[DeclaredEnd], addr: Addr) -> bool
     ensures { result ≡ has_addr ends.now addr }
 {
     ends.iter().any(|end| end.end.iface.addr == addr)
 }
 
 // How many ends a node has.
-fn ends_of(ends: &[Declared], node: usize) -> usize
+fn ends_of(ends: &[DeclaredEnd], node: usize) -> usize
     ensures number { result ≡ count_by (λ e. e.end.node == node) ends.now }
 {
     ends.iter()
@@ -95,6 +95,6 @@ fn declare(
 {
     checker.ends.reserve(1)?;
     checker.end_names.add(alloc, name.bytes())?;
-    let _ = checker.ends.push(Declared { name, end, iface });
+    let _ = checker.ends.push(DeclaredEnd { name, end, iface });
     Ok(())
 }

@@ -3,7 +3,7 @@ ghost use Rattle.std.specs.Prelude.{◌≡◌, IfErr, None, OnOk, count_by};
 ghost use Rattle.net_script.specs.Checked.{draft_of};
 ghost use Rattle.net_script.specs.Draft.{with_event};
 ghost use Rattle.net_script.specs.Refusals.{Refuses};
-ghost use Rattle.net_script.specs.Rules.{KeepsAll, is_report, report_keeps, wait_keeps};
+ghost use Rattle.net_script.specs.Rules.{KeepsAll, is_report, ReportKeeps, WaitKeeps};
 ghost use Rattle.net_script.specs.declared.script.Event.TheVariants as event;
 
 use crate::draft::Checker;
@@ -15,8 +15,8 @@ const MOST_REPORTS: usize = 16;
 
 /// Adds a wait, in milliseconds.
 pub fn add_wait(checker: &mut Checker, ms: u128) -> Result<(), Refusal>
-    ensures ok { OnOk result (KeepsAll (wait_keeps ms) × (draft_of checker.new ≡ with_event (draft_of checker.old) (event.Wait ms))) }
-    ensures refused { IfErr result (Refuses (wait_keeps ms)) }
+    ensures ok { OnOk result (KeepsAll (WaitKeeps ms) × (draft_of checker.new ≡ with_event (draft_of checker.old) (event.Wait ms))) }
+    ensures refused { IfErr result (Refuses (WaitKeeps ms)) }
 {
     if ms == 0 || ms > 3_600_000 {
         return Err(Refusal::Fault(LineWhy::Range));
@@ -27,8 +27,8 @@ pub fn add_wait(checker: &mut Checker, ms: u128) -> Result<(), Refusal>
 
 /// Adds a report of all ends.
 pub fn add_report(checker: &mut Checker) -> Result<(), Refusal>
-    ensures ok { OnOk result (KeepsAll (report_keeps (draft_of checker.old)) × (draft_of checker.new ≡ with_event (draft_of checker.old) (event.Report None))) }
-    ensures refused { IfErr result (Refuses (report_keeps (draft_of checker.old))) }
+    ensures ok { OnOk result (KeepsAll (ReportKeeps (draft_of checker.old)) × (draft_of checker.new ≡ with_event (draft_of checker.old) (event.Report None))) }
+    ensures refused { IfErr result (Refuses (ReportKeeps (draft_of checker.old))) }
 {
     if reports(checker.events.as_slice()) >= MOST_REPORTS {
         return Err(Refusal::Fault(LineWhy::Limit));

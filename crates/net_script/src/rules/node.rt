@@ -3,9 +3,9 @@ ghost use Rattle.std.specs.Prelude.{◌≡◌, IfErr, OnOk};
 ghost use Rattle.net_script.specs.Checked.{draft_of};
 ghost use Rattle.net_script.specs.Draft.{with_node};
 ghost use Rattle.net_script.specs.Refusals.{Refuses};
-ghost use Rattle.net_script.specs.Rules.{KeepsAll, node_keeps};
+ghost use Rattle.net_script.specs.Rules.{KeepsAll, NodeKeeps};
 
-use super::declares;
+use super::only_declares;
 use crate::draft::Checker;
 use crate::fault::LineWhy;
 use crate::refusal::Refusal;
@@ -16,10 +16,10 @@ const MOST_NODES: usize = 256;
 
 /// Adds a node.
 pub fn add_node(alloc: Global, checker: &mut Checker, name: EndName) -> Result<(), Refusal>
-    ensures ok { OnOk result (KeepsAll (node_keeps (draft_of checker.old) name) × (draft_of checker.new ≡ with_node (draft_of checker.old) name)) }
-    ensures refused { IfErr result (Refuses (node_keeps (draft_of checker.old) name)) }
+    ensures ok { OnOk result (KeepsAll (NodeKeeps (draft_of checker.old) name) × (draft_of checker.new ≡ with_node (draft_of checker.old) name)) }
+    ensures refused { IfErr result (Refuses (NodeKeeps (draft_of checker.old) name)) }
 {
-    if !declares(checker) {
+    if !only_declares(checker) {
         return Err(Refusal::Fault(LineWhy::Late));
     }
     if checker.nodes.find(name.bytes()).is_some() {

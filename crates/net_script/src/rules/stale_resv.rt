@@ -2,16 +2,18 @@
 ghost use Rattle.std.specs.Prelude.{◌≡◌, ◌≤◌, ◌↔◌, ◌++◌, ◌∷◌, [], IfErr, IfOk, IfSome, IsSome, IsTrue, OnOk, false, length, map};
 ghost use Rattle.std.specs.Option.{option_copied};
 ghost use Rattle.rsvp_base.specs.Orders.{names_from};
+ghost use Rattle.std.specs.List.{All};
+ghost use Rattle.script_words.specs.Addresses.{IsAddr};
 ghost use Rattle.net_script.specs.Checked.{draft_of};
 ghost use Rattle.net_script.specs.Draft.{end_named, wild_sender, with_line, with_session};
 ghost use Rattle.net_script.specs.Keys.{has_key, key_of};
 ghost use Rattle.net_script.specs.Refusals.{Refuses};
-ghost use Rattle.net_script.specs.Rules.{AreAddrs, AreDistinct, HasRoomForFact, IsNewFact, IsStaleInRange, KeepsAll, most_sessions, stale_keeps};
+ghost use Rattle.net_script.specs.Rules.{AreDistinct, HasRoomForFact, IsNewFact, IsStaleInRange, KeepsAll, most_sessions, StaleKeeps};
 ghost use Rattle.net_script.specs.StaleValues.{AreValuesOf};
 ghost use Rattle.net_script.specs.declared.line.Line.TheVariants as kind;
 
 use super::USUAL_PERIOD;
-use crate::draft::{Checker, Declared, StaleKey, StaleValues};
+use crate::draft::{Checker, DeclaredEnd, StaleKey, StaleValues};
 use crate::fault::LineWhy;
 use crate::line::StaleResvLine;
 use crate::refusal::Refusal;
@@ -25,8 +27,8 @@ const MOST_SESSIONS: usize = 32;
 
 /// Adds a left-over reservation.
 pub fn add_stale(alloc: Global, checker: &mut Checker, line: StaleResvLine) -> Result<(), Refusal>
-    ensures ok { OnOk result (KeepsAll (stale_keeps (draft_of checker.old) line) × (draft_of checker.new ≡ with_line (draft_of checker.old) (kind.StaleResv line))) }
-    ensures refused { IfErr result (Refuses (stale_keeps (draft_of checker.old) line)) }
+    ensures ok { OnOk result (KeepsAll (StaleKeeps (draft_of checker.old) line) × (draft_of checker.new ≡ with_line (draft_of checker.old) (kind.StaleResv line))) }
+    ensures refused { IfErr result (Refuses (StaleKeeps (draft_of checker.old) line)) }
 {
     if !checker.events.is_empty() {
         return Err(Refusal::Fault(LineWhy::Late));
@@ -99,7 +101,7 @@ fn stale_values(
 
 // The senders of a list of addresses, with port 0; none where a part of one is above 255.
 fn wild_senders(alloc: Global, quads: &[DottedQuad]) -> Result<Option<Vec<Sender>>, Refusal>
-    ensures some { IfOk result (λ found. IsSome found ↔ AreAddrs quads.now) }
+    ensures some { IfOk result (λ found. IsSome found ↔ All IsAddr quads.now) }
     ensures value { IfOk result (λ found. IfSome found (λ v. v.items ≡ map wild_sender quads.now)) }
     ensures refused { IfErr result (λ e. e ≡ Refusal.NoMemory) }
 {
@@ -114,7 +116,8 @@ fn wild_senders(alloc: Global, quads: &[DottedQuad]) -> Result<Option<Vec<Sender
 }
 
 // The end of this name.
-fn end_named<'a>(checker: &'a Checker, name: &EndName) -> Option<&'a Declared>
+#[tactic(auto, using(crate::proofs::Positions::end_at_place))]
+fn end_named<'a>(checker: &'a Checker, name: &EndName) -> Option<&'a DeclaredEnd>
     ensures { option_copied result ≡ end_named checker.now.ends.items name.now }
 {
     let place = checker.end_names.find(name.bytes())?;

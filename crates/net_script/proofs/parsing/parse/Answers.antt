@@ -1,4 +1,4 @@
-use Rattle.std.proofs.Common.{◌≡◌, ℕ, ◌+◌, ◌-◌, ◌^◌, [], ◌∷◌, ◌++◌, List, length, length-append, min, append_assoc, sym, ap, ◌∙◌, arith}
+use Rattle.std.proofs.Common.{[], ◌∷◌, ◌++◌, length-append, append_assoc, sym, ap, ◌∙◌, arith}
 use Rattle.net_script.specs.Lines.{lines_of}
 use Rattle.net_script.specs.Draft.{nothing}
 use Rattle.net_script.specs.Checked.{draft_of}
