@@ -1,4 +1,5 @@
--- The order of flows, and what is least above and greatest below two of them (after RFC 2211, section 4).
+-- The order of flows, and what is least above and greatest below two of them: this project's own, after the ordering and
+-- merging of RFC 2211.
 use Rattle.std.specs.Prelude.{◌≤◌, min, max, Bool, true, false, ◌&&◌, nat_le}
 use Rattle.rsvp_base.specs.TokenBucket.{TokenBucket}
 use Rattle.rsvp_base.specs.declared.flow.Peak.{Peak}

@@ -10,3 +10,5 @@ pub mod Ways
 pub mod Tally
 pub mod TallyRows
 pub mod Laws
+pub use Rattle.flow_merge.specs.FlowOrder
+pub use Rattle.flow_merge.specs.Blockade
