@@ -1,7 +1,7 @@
 //! Sessions and senders.
 use crate::addr::Addr;
 
-/// A multicast session (RFC 2205, 2.1 and A.1): its group, IP protocol and destination port.
+/// A multicast session (RFC 2205, 1.1 and A.1): its group, IP protocol and destination port.
 #[derive(Clone, Copy, Debug, Default, PartialEq, Eq, PartialOrd, Ord, Hash)]
 pub struct Session {
     pub group: Addr,
@@ -9,7 +9,7 @@ pub struct Session {
     pub port: u16,
 }
 
-/// A sender of a session (RFC 2205, 2.1, A.9 and A.10): its source address and port. A wildcard reservation names a
+/// A sender of a session (RFC 2205, 1.1, A.9 and A.10): its source address and port. A wildcard reservation names a
 /// sender by its address alone, with port 0.
 #[derive(Clone, Copy, Debug, Default, PartialEq, Eq, PartialOrd, Ord, Hash)]
 pub struct Sender {
