@@ -61,7 +61,7 @@ record Within (d : Draft) : Type 0 where
   few_nodes : length d.nodes ≤ most_nodes
   nodes : All (λ (e : DeclaredEnd). e.end.node < length d.nodes) d.ends
   few_ifaces : (node : ℕ) → ends_of d node ≤ most_ifaces
-  ifaces : All (λ (e : DeclaredEnd). e.iface < ends_of d e.end.node) d.ends
+  ifaces : All (λ (e : DeclaredEnd). e.end.number < ends_of d e.end.node) d.ends
   facts : All (FactWithin d.ends (period_of d)) d.stale
   events : All IsEventWithin d.events
   reports : count_by is_report d.events ≤ most_reports
@@ -119,15 +119,15 @@ after_end d l k w =
       few_nodes = w.few_nodes;
       nodes = All-push (λ (e : DeclaredEnd). e.end.node < length d.nodes) d.ends new w.nodes (node_within d l.node k.known);
       few_ifaces = λ node. subst (λ n. n ≤ most_ifaces) (sym (more node)) (room_kept new.end.node node (ends_of d) k.within_limits (w.few_ifaces node));
-      ifaces = All-push (λ (e : DeclaredEnd). e.iface < ends_of (with_end d l) e.end.node) d.ends new
-          (All-weaker (λ (e : DeclaredEnd). e.iface < ends_of d e.end.node) (λ (e : DeclaredEnd). e.iface < ends_of (with_end d l) e.end.node) (λ e before. omega (arith, more e.end.node)) d.ends w.ifaces)
-          (subst (λ n. new.iface < n) (sym (more new.end.node)) (last_iface new.end.node new.iface));
+      ifaces = All-push (λ (e : DeclaredEnd). e.end.number < ends_of (with_end d l) e.end.node) d.ends new
+          (All-weaker (λ (e : DeclaredEnd). e.end.number < ends_of d e.end.node) (λ (e : DeclaredEnd). e.end.number < ends_of (with_end d l) e.end.node) (λ e before. omega (arith, more e.end.node)) d.ends w.ifaces)
+          (subst (λ n. new.end.number < n) (sym (more new.end.node)) (last_iface new.end.node new.end.number));
       facts = All-same (FactWithin (with_end d l).ends (period_of d)) d.stale [] k.in_time.no_fact (All-nil _);
       events = w.events;
       reports = w.reports;
     }
 
-after_stale : (d : Draft) (l : StaleResvLine) (o : Option DeclaredEnd) → ((e : DeclaredEnd) → o ≡ Some e → e.iface < ends_of d e.end.node) → IsStaleInRange (period_of d) l → Within d → Within (with_stale d l o)
+after_stale : (d : Draft) (l : StaleResvLine) (o : Option DeclaredEnd) → ((e : DeclaredEnd) → o ≡ Some e → e.end.number < ends_of d e.end.node) → IsStaleInRange (period_of d) l → Within d → Within (with_stale d l o)
 after_stale d l None at range w = w
 after_stale d l (Some e) at range w = record {
   period = w.period;
@@ -158,7 +158,7 @@ after_line d (Period ms) k w = after_period d ms k w
 after_line d (Node name) k w = after_node d name k w
 after_line d (End l) k w = after_end d l k w
 after_line d (StaleResv l) k w =
-    after_stale d l (end_named d.ends l.end) (λ e is. find-All (λ (e : DeclaredEnd). e.iface < ends_of d e.end.node) (λ e. bytes_eq l.end e.name) d.ends e w.ifaces is) k.in_range w
+    after_stale d l (end_named d.ends l.end) (λ e is. find-All (λ (e : DeclaredEnd). e.end.number < ends_of d e.end.node) (λ e. bytes_eq l.end e.name) d.ends e w.ifaces is) k.in_range w
 after_line d (line.Wait ms) k w = after_event d (event.Wait ms) k.in_range (omega (arith, w.reports)) w
 after_line d line.Report k w = after_event d (event.Report None) tt (omega (arith, k.within_limits)) w
 

@@ -79,8 +79,7 @@ end_value d l =
     let node = node_number d l.node in
     record {
       name = l.name;
-      end = record { node = node; iface = record { addr = addr_value l.addr; capacity = l.capacity; mtu = l.mtu } };
-      iface = ends_of d node;
+      end = record { node = node; number = ends_of d node; iface = record { addr = addr_value l.addr; capacity = l.capacity; mtu = l.mtu } };
     }
 
 abbrev pub with_end : Draft → EndLine → Draft
@@ -94,7 +93,7 @@ abbrev pub wild_senders : List DottedQuad → Names
 wild_senders quads = names_from (each wild_sender quads)
 
 abbrev pub stale_value : DeclaredEnd → StaleResvLine → Stale
-stale_value e l = Resv e.end.node e.iface (session_value l.session) Wild (addr_value l.next) (wild_senders l.senders) (flow_value l.flow) l.left
+stale_value e l = Resv e.end.node e.end.number (session_value l.session) Wild (addr_value l.next) (wild_senders l.senders) (flow_value l.flow) l.left
 
 -- the end of this name
 abbrev pub end_named : List DeclaredEnd → List ℕ → Option DeclaredEnd

@@ -98,7 +98,7 @@ AreDistinct [] = Unit {0}
 AreDistinct (x ∷ xs) = (Contains xs x → ⊥) × AreDistinct xs
 
 abbrev pub key_value : DeclaredEnd → StaleResvLine → StaleKey
-key_value e l = record { node = e.end.node; iface = e.iface; session = session_value l.session }
+key_value e l = record { node = e.end.node; iface = e.end.number; session = session_value l.session }
 
 -- no fact has this key, and no sender stands twice
 pub record IsNewFact (keys : List StaleKey) (key : StaleKey) (senders : List Sender) : Type 0 where

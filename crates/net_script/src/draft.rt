@@ -14,8 +14,6 @@ use std::alloc::Global;
 pub struct DeclaredEnd {
     pub name: EndName,
     pub end: End,
-    /// Which interface of its node it is, from 0.
-    pub iface: u8,
 }
 
 /// What tells left-over reservations apart: their end, by node and interface, and their session.

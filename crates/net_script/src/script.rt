@@ -9,6 +9,8 @@ use std::marker::Model;
 #[derive(Clone, Copy, Debug, PartialEq, Eq)]
 pub struct End {
     pub node: u16,
+    /// Which interface of its node it is, from 0.
+    pub number: u8,
     pub iface: Iface,
 }
 

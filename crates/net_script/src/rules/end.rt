@@ -44,9 +44,10 @@ pub fn add_end(alloc: Global, checker: &mut Checker, line: EndLine) -> Result<()
     }
     let end = End {
         node: node as u16,
+        number: number as u8,
         iface,
     };
-    declare(alloc, checker, line.name, end, number as u8)
+    declare(alloc, checker, line.name, end)
 }
 
 // The interface of an end, where all its numbers are in range.
@@ -87,14 +88,13 @@ fn declare(
     checker: &mut Checker,
     name: EndName,
     end: End,
-    iface: u8,
 ) -> Result<(), Refusal>
     requires { place_of checker.old.end_names name ≡ None }
-    ensures ok { OnOk result (draft_of checker.new ≡ record (draft_of checker.old) { ends = checker.old.ends.items ++ (record { name = name; end = end; iface = iface }) ∷ [] }) }
+    ensures ok { OnOk result (draft_of checker.new ≡ record (draft_of checker.old) { ends = checker.old.ends.items ++ (record { name = name; end = end }) ∷ [] }) }
     ensures refused { IfErr result (λ e. e ≡ Refusal.NoMemory) }
 {
     checker.ends.reserve(1)?;
     checker.end_names.add(alloc, name.bytes())?;
-    let _ = checker.ends.push(DeclaredEnd { name, end, iface });
+    let _ = checker.ends.push(DeclaredEnd { name, end });
     Ok(())
 }

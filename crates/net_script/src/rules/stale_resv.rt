@@ -42,7 +42,7 @@ pub fn add_stale(alloc: Global, checker: &mut Checker, line: StaleResvLine) -> R
     };
     let key = StaleKey {
         node: declared.end.node,
-        iface: declared.iface,
+        iface: declared.end.number,
         session: values.session,
     };
     if !is_new(&checker.keys, key, values.senders.as_slice()) {
