@@ -1,3 +1,4 @@
-pub mod Searches
+pub mod Changes
+pub mod Runs
 pub mod Placing
 pub mod Endings

@@ -8,14 +8,14 @@ use Rattle.rsvpd_cmd.specs.Facts.{book_at}
 use Rattle.rsvpd_cmd.specs.Texts.{book_text}
 
 -- the book of an end with this name
-abbrev pub named_text : Plan → ℕ → ℕ → Option (List ℕ) → Option End → List ℕ
-named_text p clock k None end = []
-named_text p clock k (Some name) None = []
-named_text p clock k (Some name) (Some end) = book_text name end.iface.capacity (book_at p clock k).rows
+abbrev pub named_text : Plan → ℕ → Option (List ℕ) → Option End → List ℕ
+named_text p clock None end = []
+named_text p clock (Some name) None = []
+named_text p clock (Some name) (Some end) = book_text name end.iface.capacity (book_at p clock end.node end.number).rows
 
 -- the book of the end of this number at a moment, where there is such an end
 abbrev pub end_text : Plan → ℕ → ℕ → List ℕ
-end_text p clock k = named_text p clock k (slice_get p.names k) (slice_get p.ends k)
+end_text p clock k = named_text p clock (slice_get p.names k) (slice_get p.ends k)
 
 -- the books of this many ends, from a number on
 abbrev pub ends_text : Plan → ℕ → ℕ → ℕ → List ℕ

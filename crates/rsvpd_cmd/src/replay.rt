@@ -1,11 +1,14 @@
 //! Replaying a script.
-ghost use Rattle.std.specs.Prelude.{◌≡◌, ℕ, ◌<◌, ◌++◌, ◌∷◌, List, length, IfSome, IfOk, OnOk, slice_get};
+ghost use Rattle.std.specs.Prelude.{◌≡◌, ℕ, ◌<◌, ◌++◌, ◌∷◌, List, length, map, IfOk, OnOk};
 ghost use Rattle.net_script.specs.Grammar.{plan_of};
 ghost use Rattle.net_script.specs.declared.script.Stale.{Stale as StaleOf};
-ghost use Rattle.rsvp_base.specs.Table.{empty, with_rows};
-ghost use Rattle.rsvpd_cmd.specs.Facts.{unit_of, fact_of, end_at, end_of, rows_on};
-ghost use Rattle.rsvpd_cmd.specs.Ledgers.{Holds, row_of, facts_at};
-ghost use Rattle.rsvpd_cmd.specs.Run.{end_text, report_text, text_from, run_text};
+ghost use Rattle.rsvp_base.specs.Keys.{numbers};
+ghost use Rattle.rsvp_base.specs.Table.{with_rows};
+ghost use Rattle.rsvp_base.specs.Under.{under};
+ghost use Rattle.admission_book.specs.EntryKeys.{entry_keys};
+ghost use Rattle.rsvpd_cmd.specs.Facts.{unit_of, node_of, fact_of, rows_of};
+ghost use Rattle.rsvpd_cmd.specs.Ledgers.{Holds, row_of, entry_of, facts_at};
+ghost use Rattle.rsvpd_cmd.specs.Run.{end_text, report_text, run_text};
 
 use crate::kept::Kept;
 use crate::ledger::Ledger;
@@ -23,51 +26,45 @@ pub fn replay(alloc: Global, script: &Script, out: &mut Vec<u8>) -> Result<(), N
     play(alloc, script, ledgers.as_slice(), out)
 }
 
-// The left-over reservations of a script, end by end.
+// The left-over reservations of a script, node by node.
 fn ledgers(alloc: Global, script: &Script) -> Result<Vec<Ledger>, NoMemory>
     ensures { IfOk result (λ ledgers. Holds (plan_of script.now) ledgers.items) }
 {
-    let ends = script.ends.as_slice();
-    let mut ledgers = none(alloc, ends)?;
-    for stale in script.stale.as_slice() {
-        place(&mut ledgers, ends, stale)?;
-    }
-    Ok(ledgers)
-}
-
-// No reservations, end by end.
-fn none(alloc: Global, ends: &[End]) -> Result<Vec<Ledger>, NoMemory>
-    ensures each { IfOk result (λ ledgers. length ledgers.items ≡ length ends.now) }
-    ensures none { IfOk result (λ ledgers. (k : ℕ) → facts_at ledgers.items k ≡ empty) }
-{
     let mut ledgers = Vec::new(alloc);
-    for _ in 0..ends.len() {
-        ledgers.push(Ledger::new(alloc)).map_err(|_| NoMemory)?;
+    for stale in script.stale.as_slice() {
+        place(alloc, &mut ledgers, stale)?;
     }
     Ok(ledgers)
 }
 
-// Keeps a left-over reservation on its end.
-fn place(ledgers: &mut Vec<Ledger>, ends: &[End], stale: &Stale) -> Result<(), NoMemory>
-    requires { length ledgers.old.items ≡ length ends.now }
-    ensures each { length ledgers.new.items ≡ length ledgers.old.items }
-    ensures placed { OnOk result ((k : ℕ) (rest : List StaleOf) →
-        with_rows (facts_at ledgers.new.items k) (rows_on ends.now k rest) ≡ with_rows (facts_at ledgers.old.items k) (rows_on ends.now k (stale.now ∷ rest))) }
+// Keeps a left-over reservation in its node.
+fn place(alloc: Global, ledgers: &mut Vec<Ledger>, stale: &Stale) -> Result<(), NoMemory>
+    ensures { OnOk result ((node : ℕ) (rest : List StaleOf) →
+        with_rows (facts_at ledgers.new.items node) (rows_of node rest) ≡ with_rows (facts_at ledgers.old.items node) (rows_of node (stale.now ∷ rest))) }
 {
-    let Some(end) = end_of(ends, stale) else {
-        return Ok(());
-    };
-    ledgers[end].put(kept(stale))
+    let node = node_of(stale);
+    reach(alloc, ledgers, node)?;
+    ledgers[node as usize].put(kept(stale))
 }
 
-// The number of the end on which a left-over reservation stands.
-fn end_of(ends: &[End], stale: &Stale) -> Option<usize>
-    ensures end { result ≡ end_of ends.now stale.now }
-    ensures within { IfSome result (λ k. k < length ends.now) }
+// The node of a left-over reservation.
+fn node_of(stale: &Stale) -> u16
+    ensures { result ≡ node_of stale.now }
 {
     match stale {
-        Stale::Resv { node, iface, .. } => end_number(ends, *node, *iface),
+        Stale::Resv { node, .. } => *node,
     }
+}
+
+// Ledgers up to that of this node, the new ones without reservations.
+fn reach(alloc: Global, ledgers: &mut Vec<Ledger>, node: u16) -> Result<(), NoMemory>
+    ensures there { OnOk result (node < length ledgers.new.items) }
+    ensures facts { (n : ℕ) → facts_at ledgers.new.items n ≡ facts_at ledgers.old.items n }
+{
+    for _ in ledgers.len()..=node as usize {
+        ledgers.push(Ledger::new(alloc)).map_err(|_| NoMemory)?;
+    }
+    Ok(())
 }
 
 // What a left-over reservation is at the moment 0.
@@ -76,6 +73,7 @@ fn kept(stale: &Stale) -> Kept
 {
     match stale {
         Stale::Resv {
+            iface,
             session,
             style,
             senders,
@@ -83,6 +81,7 @@ fn kept(stale: &Stale) -> Kept
             left,
             ..
         } => Kept {
+            iface: *iface,
             key: EntryKey {
                 session: *session,
                 style: *style,
@@ -109,23 +108,6 @@ fn unit(style: StyleKind, senders: &Senders) -> Unit
         },
         StyleKind::Shared => Unit::One,
     }
-}
-
-// The number of the end that is this interface of a node.
-fn end_number(ends: &[End], node: u16, iface: u8) -> Option<usize>
-    ensures end { result ≡ end_at ends.now node iface }
-    ensures within { IfSome result (λ k. k < length ends.now) }
-{
-    let mut before = iface;
-    for (k, end) in ends.iter().enumerate() {
-        if end.node == node {
-            if before == 0 {
-                return Some(k);
-            }
-            before -= 1;
-        }
-    }
-    None
 }
 
 // What the events write.
@@ -195,11 +177,7 @@ fn put_end(
     requires { Holds (plan_of script.now) ledgers.now }
     ensures { OnOk result (out.new.items ≡ out.old.items ++ end_text (plan_of script.now) clock k) }
 {
-    let (Some(name), Some(end), Some(ledger)) = (
-        script.names.as_slice().get(k),
-        script.ends.get(k),
-        ledgers.get(k),
-    ) else {
+    let (Some(name), Some(end)) = (script.names.as_slice().get(k), script.ends.get(k)) else {
         return Ok(());
     };
     put_book(
@@ -207,7 +185,17 @@ fn put_end(
         out,
         name.bytes(),
         end.iface.capacity,
-        ledger.as_slice(),
+        on_end(ledgers, end),
         clock,
     )
+}
+
+// The reservations on an end.
+fn on_end<'a>(ledgers: &'a [Ledger], end: &End) -> &'a [Kept]
+    ensures { map entry_of result.now ≡ (under numbers entry_keys (facts_at ledgers.now end.now.node) end.now.number).rows }
+{
+    match ledgers.get(end.node as usize) {
+        Some(ledger) => ledger.on(end.number),
+        None => &[],
+    }
 }

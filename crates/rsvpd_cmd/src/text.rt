@@ -4,7 +4,7 @@ ghost use Rattle.std.specs.Fmt.{decimal};
 ghost use Rattle.std.specs.List.{flat_map};
 ghost use Rattle.rsvp_base.specs.Table.{keys, changed_rows};
 ghost use Rattle.rsvpd_cmd.specs.Facts.{living_part};
-ghost use Rattle.rsvpd_cmd.specs.Ledgers.{row_of};
+ghost use Rattle.rsvpd_cmd.specs.Ledgers.{entry_of};
 ghost use Rattle.rsvpd_cmd.specs.Texts.{addr_text, session_text, style_text, sender_text, name_text, names_text, peak_text, flow_text, entry_text, head_text, book_text};
 
 use crate::kept::Kept;
@@ -184,7 +184,7 @@ pub fn put_book(
     kept: &[Kept],
     clock: u128,
 ) -> Result<(), NoMemory>
-    ensures { OnOk result (out.new.items ≡ out.old.items ++ book_text name.now capacity (changed_rows (living_part clock) (map row_of kept.now))) }
+    ensures { OnOk result (out.new.items ≡ out.old.items ++ book_text name.now capacity (changed_rows (living_part clock) (map entry_of kept.now))) }
 {
     put_head(alloc, out, name, held(kept, clock), capacity)?;
     put_entries(alloc, out, kept, clock)
@@ -199,7 +199,7 @@ fn lives(kept: &Kept, clock: u128) -> bool
 
 // What the reservations that live charge together, in bytes per second.
 fn held(kept: &[Kept], clock: u128) -> u128
-    ensures { result ≡ sum_by (λ e. e.1.flow.r) (changed_rows (living_part clock) (map row_of kept.now)) }
+    ensures { result ≡ sum_by (λ e. e.1.flow.r) (changed_rows (living_part clock) (map entry_of kept.now)) }
 {
     let mut sum: u128 = 0;
     for one in kept {
@@ -212,7 +212,7 @@ fn held(kept: &[Kept], clock: u128) -> u128
 
 // The entries of the reservations that live.
 fn put_entries(alloc: Global, out: &mut Vec<u8>, kept: &[Kept], clock: u128) -> Result<(), NoMemory>
-    ensures { OnOk result (out.new.items ≡ out.old.items ++ flat_map (λ e. entry_text e.0 e.1) (changed_rows (living_part clock) (map row_of kept.now))) }
+    ensures { OnOk result (out.new.items ≡ out.old.items ++ flat_map (λ e. entry_text e.0 e.1) (changed_rows (living_part clock) (map entry_of kept.now))) }
 {
     for one in kept {
         if lives(one, clock) {
