@@ -1,3 +1,5 @@
 pub mod Positions
+pub mod Booking
+pub mod StaleRules
 pub mod Scripts
 pub mod Within

@@ -9,7 +9,7 @@ use Rattle.net_script.specs.Grammar.{Follows, HasFault, too_long, unread, broken
 use Rattle.net_script.specs.Refusals.{Refuses, MatchRefusal}
 use Rattle.net_script.specs.declared.fault.LineErr.{LineErr}
 use Rattle.net_script.specs.declared.fault.LineWhy.{LineWhy}
-use Rattle.net_script.specs.declared.fault.LineWhy.TheVariants.{Word, Late, Range, Name, Twice, Limit}
+use Rattle.net_script.specs.declared.fault.LineWhy.TheVariants.{Word, Late, Range, Name, Twice, Limit, Over}
 use Rattle.net_script.specs.declared.line.Line.{Line}
 use Rattle.net_script.specs.declared.refusal.Refusal.{Refusal}
 use Rattle.net_script.specs.declared.refusal.Refusal.TheVariants.{Fault, NoMemory}
@@ -58,6 +58,7 @@ breaks_none rules Range k b = b.1 k.in_range
 breaks_none rules Name k b = b.2 k.known
 breaks_none rules Twice k b = b.3 k.new
 breaks_none rules Limit k b = b.4 k.within_limits
+breaks_none rules Over k b = b.5 k.within_capacity
 
 no_reading : (o : Option Line) (said : Line) → o ≡ Some said → o ≡ None → ⊥
 no_reading o said e f = let h : Some said ≡ None = sym e ∙ f in cc
@@ -88,30 +89,42 @@ breaks_one rules Late Range h k = absurd (h k.0)
 breaks_one rules Late Name h k = absurd (h k.0)
 breaks_one rules Late Twice h k = absurd (h k.0)
 breaks_one rules Late Limit h k = absurd (h k.0)
+breaks_one rules Late Over h k = absurd (h k.0)
 breaks_one rules Range Word h k = absurd k
 breaks_one rules Range Late h k = absurd (k h.0)
 breaks_one rules Range Range h k = refl
 breaks_one rules Range Name h k = absurd (h.1 k.1)
 breaks_one rules Range Twice h k = absurd (h.1 k.1)
 breaks_one rules Range Limit h k = absurd (h.1 k.1)
+breaks_one rules Range Over h k = absurd (h.1 k.1)
 breaks_one rules Name Word h k = absurd k
 breaks_one rules Name Late h k = absurd (k h.0)
 breaks_one rules Name Range h k = absurd (k.1 h.1)
 breaks_one rules Name Name h k = refl
 breaks_one rules Name Twice h k = absurd (h.2 k.2)
 breaks_one rules Name Limit h k = absurd (h.2 k.2)
+breaks_one rules Name Over h k = absurd (h.2 k.2)
 breaks_one rules Twice Word h k = absurd k
 breaks_one rules Twice Late h k = absurd (k h.0)
 breaks_one rules Twice Range h k = absurd (k.1 h.1)
 breaks_one rules Twice Name h k = absurd (k.2 h.2)
 breaks_one rules Twice Twice h k = refl
 breaks_one rules Twice Limit h k = absurd (h.3 k.3)
+breaks_one rules Twice Over h k = absurd (h.3 k.3)
 breaks_one rules Limit Word h k = absurd k
 breaks_one rules Limit Late h k = absurd (k h.0)
 breaks_one rules Limit Range h k = absurd (k.1 h.1)
 breaks_one rules Limit Name h k = absurd (k.2 h.2)
 breaks_one rules Limit Twice h k = absurd (k.3 h.3)
 breaks_one rules Limit Limit h k = refl
+breaks_one rules Limit Over h k = absurd (h.4 k.4)
+breaks_one rules Over Word h k = absurd k
+breaks_one rules Over Late h k = absurd (k h.0)
+breaks_one rules Over Range h k = absurd (k.1 h.1)
+breaks_one rules Over Name h k = absurd (k.2 h.2)
+breaks_one rules Over Twice h k = absurd (k.3 h.3)
+breaks_one rules Over Limit h k = absurd (k.4 h.4)
+breaks_one rules Over Over h k = refl
 
 fault_one : (d : Draft) (text : List ℕ) (a b : LineWhy) → HasFault d text a → HasFault d text b → a ≡ b
 fault_one d text Limit Limit (too_long x) (too_long y) = refl

@@ -1,15 +1,20 @@
 -- Every script is within the limits, since the lines so far are, one line after another.
-use Rattle.std.specs.Prelude.{◌≡◌, ℕ, ◌+◌, ◌*◌, ◌/◌, ◌<◌, ◌≤◌, ◌==◌, Bool, true, false, cond, nat_lt, List, [], ◌∷◌, ◌++◌, map as each, Option, Some, None, IsSome, length, count_by, unwrap_or, refl}
+use Rattle.std.specs.Prelude.{◌≡◌, ℕ, ◌+◌, ◌*◌, ◌/◌, ◌<◌, ◌≤◌, ◌==◌, Bool, true, false, cond, nat_lt, List, [], ◌∷◌, ◌++◌, map as each, Option, Some, None, IsSome, IfSome, length, count_by, unwrap_or, refl}
 use Rattle.std.specs.List.{All, find, position_or_len}
 use Rattle.std.specs.Str.{bytes_eq}
-use Rattle.std.proofs.Common.{ap, subst, sym, ◌∙◌, arith, length-append}
+use Rattle.std.proofs.Common.{subst, sym, ◌∙◌, arith, length-append, inl, inr}
+use Rattle.std.proofs.lemmas.Bool.{cases_eq}
 use Rattle.std.proofs.lemmas.Bool.{false≢true}
 use Rattle.std.proofs.lemmas.Bool.Decides.{nat_tests}
-use Rattle.std.proofs.lemmas.List.{length-map}
+use Rattle.std.proofs.lemmas.List.{length-map, get_or-map}
 use Rattle.std.proofs.lemmas.List.Elements.{All-nil, All-head, All-tail, All-push, All-same, All-weaker, All-map}
 use Rattle.std.proofs.lemmas.Option.{none-some, same_Some}
-use Rattle.std.proofs.lemmas.List.Sums.{sum_by-cons, sum_by_push}
-use Rattle.net_script.specs.Draft.{Draft, nothing, period_of, ends_of, place_of, node_number, end_named, end_value, stale_value, with_period, with_node, with_end, with_stale, with_event, with_line, lifetime}
+use Rattle.std.proofs.lemmas.List.Sums.{sum_by_push}
+use Rattle.admission_book.specs.Within.{IsWithin}
+use Rattle.admission_book.proofs.WithinLaws.{within_after, within_empty}
+use Rattle.net_script.proofs.Booking.{all_placed, booked_elsewhere, booked_here, count_by-map, count_plain, number_within, plain_ends_more}
+use Rattle.net_script.specs.Bookings.{IsAdmitted, IsPlaced, bookings_on, entry_key_of, flow_of, iface_of, ifaces_on, node_of}
+use Rattle.net_script.specs.Draft.{Draft, nothing, plain_ends, period_of, ends_of, place_of, node_number, end_named, end_value, stale_value, with_period, with_node, with_end, with_stale, with_event, with_line, lifetime}
 use Rattle.net_script.specs.Rules.{Keeps, KeepsAll, PeriodKeeps, NodeKeeps, EndKeeps, IsPeriod, IsStaleInRange, is_report, most_nodes, most_ifaces, most_reports}
 use Rattle.net_script.specs.Grammar.{Plan, draft_plan, Leads, IsScript}
 use Rattle.net_script.specs.Limits.{IsFactWithin, IsEventWithin, IsWithinLimits}
@@ -19,6 +24,7 @@ use Rattle.net_script.specs.declared.line.Line.TheVariants.{Skipped, Period, Nod
 use Rattle.net_script.specs.declared.line.Line.TheVariants as line
 use Rattle.net_script.specs.declared.line.EndLine.{EndLine}
 use Rattle.net_script.specs.declared.line.StaleResvLine.{StaleResvLine}
+use Rattle.net_script.specs.declared.script.End.{End as EndOf}
 use Rattle.net_script.specs.declared.script.Stale.{Stale}
 use Rattle.net_script.specs.declared.script.Stale.TheVariants.{Resv}
 use Rattle.net_script.specs.declared.script.Event.{Event}
@@ -28,16 +34,12 @@ use Rattle.net_script.specs.declared.script.Event.TheVariants as event
 count_by_push : {A : Type 0} (p : A → Bool) (xs : List A) (x : A) → count_by p (xs ++ x ∷ []) ≡ count_by p xs + cond (p x) 1 0
 count_by_push p xs x = sum_by_push (λ y. cond (p y) 1 0) xs x
 
-count_by-map : {A B : Type 0} (p : B → Bool) (f : A → B) (xs : List A) → count_by p (each f xs) ≡ count_by (λ x. p (f x)) xs
-count_by-map p f [] = refl
-count_by-map p f (x ∷ xs) =
-    sum_by-cons (λ y. cond (p y) 1 0) (f x) (each f xs)
-    ∙ ap (λ n. cond (p (f x)) 1 0 + n) (count_by-map p f xs)
-    ∙ sym (sum_by-cons (λ y. cond (p (f y)) 1 0) x xs)
-
 picked : {A : Type 0} (P : A → Type 0) (b : Bool) (y x : A) (rest : Option A) → P y → (rest ≡ Some x → P x) → cond b (Some y) rest ≡ Some x → P x
 picked P true y x rest here more e = subst P (same_Some y x e) here
 picked P false y x rest here more e = more e
+
+All-of_map : {A B : Type 0} (P : B → Type 0) (f : A → B) (xs : List A) → All P (each f xs) → All (λ x. P (f x)) xs
+All-of_map P f xs all = λ k d lt. subst P (get_or-map f xs k d (f d) lt) (all k (f d) (omega (arith, length-map xs f, lt)))
 
 -- what holds of all holds of the one that is found
 find-All : {A : Type 0} (P : A → Type 0) (p : A → Bool) (xs : List A) (x : A) → All P xs → find p xs ≡ Some x → P x
@@ -65,6 +67,8 @@ record Within (d : Draft) : Type 0 where
   facts : All (FactWithin d.ends (period_of d)) d.stale
   events : All IsEventWithin d.events
   reports : count_by is_report d.events ≤ most_reports
+  placed : All (IsPlaced (plain_ends d.ends)) (plain_ends d.ends)
+  books : (node : ℕ) → IsWithin (bookings_on (plain_ends d.ends) d.stale node)
 
 at_start : Within nothing
 at_start = record {
@@ -76,6 +80,8 @@ at_start = record {
   facts = All-nil _;
   events = All-nil _;
   reports = omega arith;
+  placed = All-nil _;
+  books = λ node. within_empty [];
 }
 
 after_period : (d : Draft) (ms : ℕ) → KeepsAll (PeriodKeeps d ms) → Within d → Within (with_period d ms)
@@ -88,6 +94,8 @@ after_period d ms k w = record {
   facts = All-same (FactWithin d.ends ms) d.stale [] k.in_time.no_fact (All-nil _);
   events = w.events;
   reports = w.reports;
+  placed = w.placed;
+  books = w.books;
 }
 
 after_node : (d : Draft) (name : List ℕ) → KeepsAll (NodeKeeps d name) → Within d → Within (with_node d name)
@@ -102,6 +110,8 @@ after_node d name k w =
       facts = w.facts;
       events = w.events;
       reports = w.reports;
+      placed = w.placed;
+      books = w.books;
     }
 
 room_kept : (here there : ℕ) (ends : ℕ → ℕ) → ends here < most_ifaces → ends there ≤ most_ifaces → ends there + cond (here == there) 1 0 ≤ most_ifaces
@@ -125,19 +135,32 @@ after_end d l k w =
       facts = All-same (FactWithin (with_end d l).ends (period_of d)) d.stale [] k.in_time.no_fact (All-nil _);
       events = w.events;
       reports = w.reports;
+      placed = subst (λ es. All (IsPlaced es) es) (sym (plain_ends_more d.ends new)) (all_placed (plain_ends d.ends) new.end w.placed (sym (count_plain d.ends new.end.node)));
+      books = λ node. subst (λ ss. IsWithin (bookings_on (plain_ends (with_end d l).ends) ss node)) (sym k.in_time.no_fact) (within_empty (ifaces_on (plain_ends (with_end d l).ends) node));
     }
 
-after_stale : (d : Draft) (l : StaleResvLine) (o : Option DeclaredEnd) → ((e : DeclaredEnd) → o ≡ Some e → e.end.number < ends_of d e.end.node) → IsStaleInRange (period_of d) l → Within d → Within (with_stale d l o)
-after_stale d l None at range w = w
-after_stale d l (Some e) at range w = record {
+-- the books with one reservation more, which its interface has
+books_after : (ends : List EndOf) (stale : List Stale) (s : Stale) → iface_of s < length (ifaces_on ends (node_of s)) → IsAdmitted ends stale s → ((node : ℕ) → IsWithin (bookings_on ends stale node)) → (node : ℕ) → IsWithin (bookings_on ends (stale ++ s ∷ []) node)
+books_after ends stale s there taken within node =
+    elim (cases_eq (node_of s) node) [
+      | inl e ↦ subst (λ n. IsWithin (bookings_on ends (stale ++ s ∷ []) n)) e (subst IsWithin (sym (booked_here ends stale s)) (within_after (bookings_on ends stale (node_of s)) (iface_of s) (entry_key_of s) (Some (flow_of s)) (within (node_of s)) there taken))
+      | inr ne ↦ subst IsWithin (sym (booked_elsewhere ends stale s node ne)) (within node)
+    ]
+
+after_stale : (d : Draft) (l : StaleResvLine) (o : Option DeclaredEnd) → ((e : DeclaredEnd) → o ≡ Some e → (e.end.number < ends_of d e.end.node) × IsPlaced (plain_ends d.ends) e.end) → IsStaleInRange (period_of d) l
+    → IfSome o (λ e. IsAdmitted (plain_ends d.ends) d.stale (stale_value e l)) → Within d → Within (with_stale d l o)
+after_stale d l None at range taken w = w
+after_stale d l (Some e) at range taken w = record {
   period = w.period;
   few_nodes = w.few_nodes;
   nodes = w.nodes;
   few_ifaces = w.few_ifaces;
   ifaces = w.ifaces;
-  facts = All-push (FactWithin d.ends (period_of d)) d.stale (stale_value e l) w.facts (at e refl, range.some_left, range.left);
+  facts = All-push (FactWithin d.ends (period_of d)) d.stale (stale_value e l) w.facts ((at e refl).0, range.some_left, range.left);
   events = w.events;
   reports = w.reports;
+  placed = w.placed;
+  books = books_after (plain_ends d.ends) d.stale (stale_value e l) (number_within (plain_ends d.ends) e.end (at e refl).1) taken w.books;
 }
 
 after_event : (d : Draft) (e : Event) → IsEventWithin e → count_by is_report d.events + cond (is_report e) 1 0 ≤ most_reports → Within d → Within (with_event d e)
@@ -150,6 +173,8 @@ after_event d e within room w = record {
   facts = w.facts;
   events = All-push IsEventWithin d.events e w.events within;
   reports = omega (arith, room, count_by_push is_report d.events e);
+  placed = w.placed;
+  books = w.books;
 }
 
 after_line : (d : Draft) (said : Line) → KeepsAll (Keeps d said) → Within d → Within (with_line d said)
@@ -158,7 +183,10 @@ after_line d (Period ms) k w = after_period d ms k w
 after_line d (Node name) k w = after_node d name k w
 after_line d (End l) k w = after_end d l k w
 after_line d (StaleResv l) k w =
-    after_stale d l (end_named d.ends l.end) (λ e is. find-All (λ (e : DeclaredEnd). e.end.number < ends_of d e.end.node) (λ e. bytes_eq l.end e.name) d.ends e w.ifaces is) k.in_range w
+    let placed : All (λ (e : DeclaredEnd). IsPlaced (plain_ends d.ends) e.end) d.ends = All-of_map (IsPlaced (plain_ends d.ends)) (λ (e : DeclaredEnd). e.end) d.ends w.placed in
+    let found : (e : DeclaredEnd) → end_named d.ends l.end ≡ Some e → (e.end.number < ends_of d e.end.node) × IsPlaced (plain_ends d.ends) e.end =
+    λ e is. (find-All (λ (e : DeclaredEnd). e.end.number < ends_of d e.end.node) (λ e. bytes_eq l.end e.name) d.ends e w.ifaces is, find-All (λ (e : DeclaredEnd). IsPlaced (plain_ends d.ends) e.end) (λ e. bytes_eq l.end e.name) d.ends e placed is) in
+    after_stale d l (end_named d.ends l.end) found k.in_range k.within_capacity w
 after_line d (line.Wait ms) k w = after_event d (event.Wait ms) k.in_range (omega (arith, w.reports)) w
 after_line d line.Report k w = after_event d (event.Report None) tt (omega (arith, k.within_limits)) w
 
@@ -182,6 +210,8 @@ plan_within d w = record {
   facts = All-weaker (FactWithin d.ends (period_of d)) (IsFactWithin (draft_plan d)) (fact_within d) d.stale w.facts;
   events = w.events;
   reports = w.reports;
+  numbers = w.placed;
+  books = w.books;
 }
 
 pub within_limits : (bytes : List ℕ) (p : Plan) → IsScript bytes p → IsWithinLimits p

@@ -15,6 +15,7 @@ use Rattle.net_script.specs.declared.line.Line.{Line}
 use Rattle.net_script.specs.declared.line.Line.TheVariants as line
 use Rattle.net_script.specs.declared.line.EndLine.{EndLine}
 use Rattle.net_script.specs.declared.line.StaleResvLine.{StaleResvLine}
+use Rattle.net_script.specs.declared.script.End.{End}
 use Rattle.net_script.specs.declared.script.Stale.{Stale}
 use Rattle.net_script.specs.declared.script.Stale.TheVariants.{Resv}
 use Rattle.net_script.specs.declared.script.Event.{Event}
@@ -41,6 +42,10 @@ place_of names name = position (bytes_eq name) names
 
 abbrev pub end_names : Draft → List (List ℕ)
 end_names d = each (λ e. e.name) d.ends
+
+-- the ends without their names
+abbrev pub plain_ends : List DeclaredEnd → List End
+plain_ends ends = each (λ e. e.end) ends
 
 -- ---- periods and lifetimes, in milliseconds
 -- the period R where no line gives one (RFC 2205, 3.7)

@@ -1,8 +1,8 @@
 -- The script grammar: which bytes are a script, and which line is the first bad one.
-use Rattle.std.specs.Prelude.{◌≡◌, ℕ, ◌+◌, ◌-◌, ◌^◌, ◌<◌, ◌≤◌, min, List, [], ◌∷◌, ◌++◌, map as each, None, Some, length}
+use Rattle.std.specs.Prelude.{◌≡◌, ℕ, ◌+◌, ◌-◌, ◌^◌, ◌<◌, ◌≤◌, min, List, [], ◌∷◌, ◌++◌, None, Some, length}
 use Rattle.script_words.specs.Lines.{lines_of}
 use Rattle.net_script.specs.LineKinds.{line_of}
-use Rattle.net_script.specs.Draft.{Draft, nothing, with_line, period_of, end_names}
+use Rattle.net_script.specs.Draft.{Draft, nothing, with_line, period_of, end_names, plain_ends}
 use Rattle.net_script.specs.Rules.{Keeps, KeepsAll, BreaksFirst}
 use Rattle.net_script.specs.declared.fault.LineErr.{LineErr}
 use Rattle.net_script.specs.declared.fault.LineWhy.{LineWhy}
@@ -49,7 +49,7 @@ plan_of s = record { period = s.period; ends = s.ends.items; names = s.names; st
 
 -- the plan of these lines
 abbrev pub draft_plan : Draft → Plan
-draft_plan d = record { period = period_of d; ends = each (λ e. e.end) d.ends; names = end_names d; stale = d.stale; events = d.events }
+draft_plan d = record { period = period_of d; ends = plain_ends d.ends; names = end_names d; stale = d.stale; events = d.events }
 
 -- the bytes are the lines of this script
 pub record IsScript (bytes : List ℕ) (plan : Plan) : Type 0 where

@@ -11,6 +11,7 @@ pub use Rattle.script_words.specs.Flows
 pub mod LineKinds
 pub mod Draft
 pub mod Keys
+pub mod Bookings
 pub mod Rules
 pub mod StaleValues
 pub mod Checked

@@ -1,6 +1,8 @@
 -- What every script keeps, said of its values and not of its lines.
 use Rattle.std.specs.Prelude.{◌≡◌, ℕ, ◌<◌, ◌≤◌, List, length, count_by, ◌==◌}
 use Rattle.std.specs.List.{All}
+use Rattle.admission_book.specs.Within.{IsWithin}
+use Rattle.net_script.specs.Bookings.{IsPlaced, bookings_on}
 use Rattle.net_script.specs.Draft.{lifetime}
 use Rattle.net_script.specs.Grammar.{Plan}
 use Rattle.net_script.specs.Rules.{IsPeriod, IsWait, is_report, most_nodes, most_ifaces, most_reports}
@@ -27,6 +29,9 @@ pub record IsWithinLimits (p : Plan) : Type 0 where
   pub names : length p.names ≡ length p.ends
   pub nodes : All (λ e. e.node < most_nodes) p.ends
   pub ifaces : (node : ℕ) → ifaces_of p.ends node ≤ most_ifaces
+  pub numbers : All (IsPlaced p.ends) p.ends
   pub facts : All (IsFactWithin p) p.stale
   pub events : All IsEventWithin p.events
   pub reports : count_by is_report p.events ≤ most_reports
+  -- no interface has promised more than its capacity, or packets that it does not send
+  pub books : (node : ℕ) → IsWithin (bookings_on p.ends p.stale node)

@@ -9,15 +9,17 @@ use Rattle.script_words.specs.Addresses.{IsAddr, IsHost, addr_value}
 use Rattle.script_words.specs.Sessions.{IsSession, session_value}
 use Rattle.script_words.specs.Flows.{IsFlow}
 use Rattle.net_script.specs.Keys.{key_of, has_key}
-use Rattle.net_script.specs.Draft.{Draft, place_of, end_names, period_of, lifetime, node_number, ends_of, has_addr, end_named, with_session, wild_sender}
+use Rattle.net_script.specs.Draft.{Draft, place_of, end_names, plain_ends, period_of, lifetime, node_number, ends_of, has_addr, end_named, stale_value, with_session, wild_sender}
+use Rattle.net_script.specs.Bookings.{entries_on, IsAdmitted}
 use Rattle.net_script.specs.declared.draft.DeclaredEnd.{DeclaredEnd}
 use Rattle.net_script.specs.declared.draft.StaleKey.{StaleKey}
 use Rattle.net_script.specs.declared.fault.LineWhy.{LineWhy}
-use Rattle.net_script.specs.declared.fault.LineWhy.TheVariants.{Word, Late, Range, Name, Twice, Limit}
+use Rattle.net_script.specs.declared.fault.LineWhy.TheVariants.{Word, Late, Range, Name, Twice, Limit, Over}
 use Rattle.net_script.specs.declared.line.Line.{Line}
 use Rattle.net_script.specs.declared.line.Line.TheVariants as line
 use Rattle.net_script.specs.declared.line.EndLine.{EndLine}
 use Rattle.net_script.specs.declared.line.StaleResvLine.{StaleResvLine}
+use Rattle.net_script.specs.declared.script.Stale.{Stale}
 use Rattle.net_script.specs.declared.script.Event.{Event}
 use Rattle.net_script.specs.declared.script.Event.TheVariants.{Wait, Report}
 
@@ -33,6 +35,8 @@ pub data Rule : Type 0 where
   New : Rule
   -- there is room for it
   WithinLimits : Rule
+  -- its interface has what it asks for
+  WithinCapacity : Rule
 
 -- ---- limits
 abbrev pub most_nodes : ℕ
@@ -49,6 +53,10 @@ most_senders = 16
 
 abbrev pub most_reports : ℕ
 most_reports = 16
+
+-- of a book
+abbrev pub most_entries : ℕ
+most_entries = 3072
 
 -- ---- the parts of a script: declarations, left-over facts, events
 pub record OnlyDeclares (d : Draft) : Type 0 where
@@ -111,6 +119,10 @@ pub record HasRoomForFact (named : List Session) (session : Session) (senders : 
   pub few_senders : size (names_from senders) ≤ most_senders
   pub few_sessions : length (with_session named session) ≤ most_sessions
 
+-- the book of the node has room for one entry more
+abbrev pub HasRoomForEntry : List Stale → ℕ → Type 0
+HasRoomForEntry stale node = size (entries_on stale node) < most_entries
+
 abbrev pub is_report : Event → Bool
 is_report (Wait ms) = false
 is_report (Report end) = true
@@ -122,6 +134,7 @@ PeriodKeeps d ms InRange = IsPeriod ms
 PeriodKeeps d ms Known = Unit {0}
 PeriodKeeps d ms New = d.period ≡ None
 PeriodKeeps d ms WithinLimits = Unit {0}
+PeriodKeeps d ms WithinCapacity = Unit {0}
 
 abbrev pub NodeKeeps : Draft → List ℕ → Rule → Type 0
 NodeKeeps d name InTime = OnlyDeclares d
@@ -129,6 +142,7 @@ NodeKeeps d name InRange = Unit {0}
 NodeKeeps d name Known = Unit {0}
 NodeKeeps d name New = place_of d.nodes name ≡ None
 NodeKeeps d name WithinLimits = length d.nodes < most_nodes
+NodeKeeps d name WithinCapacity = Unit {0}
 
 abbrev pub EndKeeps : Draft → EndLine → Rule → Type 0
 EndKeeps d l InTime = OnlyDeclares d
@@ -136,13 +150,15 @@ EndKeeps d l InRange = IsEndInRange l
 EndKeeps d l Known = IsSome (place_of d.nodes l.node)
 EndKeeps d l New = IsNewEnd d l
 EndKeeps d l WithinLimits = ends_of d (node_number d l.node) < most_ifaces
+EndKeeps d l WithinCapacity = Unit {0}
 
 abbrev pub StaleKeeps : Draft → StaleResvLine → Rule → Type 0
 StaleKeeps d l InTime = d.events ≡ []
 StaleKeeps d l InRange = IsStaleInRange (period_of d) l
 StaleKeeps d l Known = IsSome (end_named d.ends l.end)
 StaleKeeps d l New = IfSome (end_named d.ends l.end) (λ e. IsNewFact (each key_of d.stale) (key_value e l) (each wild_sender l.senders))
-StaleKeeps d l WithinLimits = HasRoomForFact d.sessions (session_value l.session) (each wild_sender l.senders)
+StaleKeeps d l WithinLimits = HasRoomForFact d.sessions (session_value l.session) (each wild_sender l.senders) × IfSome (end_named d.ends l.end) (λ e. HasRoomForEntry d.stale e.end.node)
+StaleKeeps d l WithinCapacity = IfSome (end_named d.ends l.end) (λ e. IsAdmitted (plain_ends d.ends) d.stale (stale_value e l))
 
 abbrev pub WaitKeeps : ℕ → Rule → Type 0
 WaitKeeps ms InTime = Unit {0}
@@ -150,6 +166,7 @@ WaitKeeps ms InRange = IsWait ms
 WaitKeeps ms Known = Unit {0}
 WaitKeeps ms New = Unit {0}
 WaitKeeps ms WithinLimits = Unit {0}
+WaitKeeps ms WithinCapacity = Unit {0}
 
 abbrev pub ReportKeeps : Draft → Rule → Type 0
 ReportKeeps d InTime = Unit {0}
@@ -157,6 +174,7 @@ ReportKeeps d InRange = Unit {0}
 ReportKeeps d Known = Unit {0}
 ReportKeeps d New = Unit {0}
 ReportKeeps d WithinLimits = count_by is_report d.events < most_reports
+ReportKeeps d WithinCapacity = Unit {0}
 
 abbrev pub Keeps : Draft → Line → Rule → Type 0
 Keeps d line.Skipped rule = Unit {0}
@@ -174,6 +192,7 @@ pub record KeepsAll (rules : Rule → Type 0) : Type 0 where
   pub known : rules Known
   pub new : rules New
   pub within_limits : rules WithinLimits
+  pub within_capacity : rules WithinCapacity
 
 -- the first rule that is broken is that of this fault
 abbrev pub BreaksFirst : (Rule → Type 0) → LineWhy → Type 0
@@ -183,3 +202,4 @@ BreaksFirst rules Range = rules InTime × (rules InRange → ⊥)
 BreaksFirst rules Name = rules InTime × rules InRange × (rules Known → ⊥)
 BreaksFirst rules Twice = rules InTime × rules InRange × rules Known × (rules New → ⊥)
 BreaksFirst rules Limit = rules InTime × rules InRange × rules Known × rules New × (rules WithinLimits → ⊥)
+BreaksFirst rules Over = rules InTime × rules InRange × rules Known × rules New × rules WithinLimits × (rules WithinCapacity → ⊥)

@@ -1,9 +1,13 @@
 //! What the lines of a script have said so far.
-ghost use Rattle.std.specs.Prelude.{◌≡◌, ◌≤◌, length, map, unwrap_or};
+ghost use Rattle.std.specs.Prelude.{◌≡◌, ◌≢◌, ◌<◌, ◌≤◌, [], length, map, unwrap_or};
+ghost use Rattle.std.specs.List.{All};
+ghost use Rattle.net_script.specs.Bookings.{AreBooks, IsPlaced, node_of};
+ghost use Rattle.net_script.specs.Draft.{plain_ends};
 ghost use Rattle.net_script.specs.Keys.{key_of};
 
 use crate::names::NameTable;
 use crate::script::{End, Event, Stale};
+use admission_book::Book;
 use indexmap::IndexSet;
 use rsvp_base::{Addr, Flow, Sender, Session};
 use script_words::EndName;
@@ -51,11 +55,18 @@ pub struct Checker {
     /// The sessions that were named.
     pub sessions: IndexSet<Session>,
     pub events: Vec<Event>,
+    /// The book of each node, by number, once there is a left-over reservation.
+    pub books: Vec<Book>,
     pub ghost minute: { unwrap_or period 30000 ≤ 60000 },
     pub ghost few_nodes: { length nodes ≤ 256 },
     pub ghost few_sessions: { length sessions.keys ≤ 32 },
     pub ghost same_names: { end_names ≡ map (λ e. e.name) ends.items },
     pub ghost same_keys: { keys.keys ≡ map key_of stale.items },
+    pub ghost nodes_known: { All (λ e. e.node < length nodes) (plain_ends ends.items) },
+    pub ghost placed: { All (IsPlaced (plain_ends ends.items)) (plain_ends ends.items) },
+    pub ghost facts_known: { All (λ s. node_of s < length nodes) stale.items },
+    pub ghost booked: { AreBooks (plain_ends ends.items) stale.items books.items },
+    pub ghost opened: { stale.items ≢ [] → length books.items ≡ length nodes },
 }
 
 impl Checker {
@@ -76,6 +87,7 @@ impl Checker {
             keys: IndexSet::new(alloc),
             sessions: IndexSet::new(alloc),
             events: Vec::new(alloc),
+            books: Vec::new(alloc),
         }
     }
 }

@@ -6,7 +6,7 @@ use std::alloc::{AllocError, AllocFailed};
 use thiserror::Error;
 
 /// Why a line is bad. The first of these that a line has, in the order in which they are looked for, is its fault: a
-/// length past the limit, `Word`, `Late`, `Range`, `Name`, `Twice`, and last a number past a limit.
+/// length past the limit, `Word`, `Late`, `Range`, `Name`, `Twice`, a number past a limit, and last `Over`.
 #[derive(Clone, Copy, Debug, PartialEq, Eq, Error)]
 pub enum LineWhy {
     /// A first word that is unknown, a wrong number of words, or a word that is not of its form.
@@ -27,6 +27,10 @@ pub enum LineWhy {
     /// A line of more than 2,048 bytes, or one thing more than a script may have.
     #[error("limit")]
     Limit,
+    /// A left-over reservation that its interface cannot have beside those of the lines before: together they pass its
+    /// capacity, or its largest packet passes the MTU.
+    #[error("over")]
+    Over,
 }
 
 /// The first bad line of a script: its number, from 1, and why it is bad.

@@ -7,6 +7,7 @@
 //! caller names this crate alone.
 #![tactic(auto)]
 
+mod books;
 mod draft;
 mod fault;
 pub mod laws;

@@ -1,16 +1,18 @@
 //! Reading a whole script.
-ghost use Rattle.std.specs.Prelude.{◌≡◌, IfOk, IfErr, OnOk, MatchResult};
+ghost use Rattle.std.specs.Prelude.{◌≡◌, IfOk, IfErr, OnOk, MatchResult, length, map};
 ghost use Rattle.net_script.specs.Checked.{draft_of};
+ghost use Rattle.net_script.specs.Draft.{plain_ends};
 ghost use Rattle.net_script.specs.Refusals.{MatchRefusal, MatchParseErr};
 ghost use Rattle.net_script.specs.Grammar.{Follows, HasFault, IsScript, IsBadLine, plan_of, draft_plan};
 
-use crate::draft::Checker;
+use crate::books::open_books;
+use crate::draft::{Checker, DeclaredEnd};
 use crate::fault::{LineErr, LineWhy, ParseErr};
 use crate::line_kinds::read_line;
 use crate::refusal::Refusal;
 use crate::rules::{USUAL_PERIOD, add};
-use crate::script::{EndNames, Script};
-use script_words::{Unread, next_line};
+use crate::script::{End, EndNames, Script};
+use script_words::{EndName, Unread, next_line};
 use std::alloc::Global;
 
 /// The most bytes of a line, its line feed not counted.
@@ -37,22 +39,44 @@ fn take_line<'a>(
 }
 
 // The script of the lines.
-fn finish(alloc: Global, checker: Checker) -> Result<Script, ParseErr>
+fn finish(alloc: Global, mut checker: Checker) -> Result<Script, ParseErr>
     ensures { MatchResult result (λ s. plan_of s ≡ draft_plan (draft_of checker)) (λ e. e ≡ ParseErr.NoMemory) }
 {
-    let mut ends = Vec::with_capacity(alloc, checker.ends.len())?;
-    let mut names = Vec::with_capacity(alloc, checker.ends.len())?;
-    for declared in checker.ends {
-        ends.push(declared.end)?;
-        names.push(declared.name)?;
+    if open_books(alloc, &mut checker).is_err() {
+        return Err(ParseErr::NoMemory);
     }
+    script_of(alloc, checker)
+}
+
+// The script of the lines, where each node has its book.
+fn script_of(alloc: Global, checker: Checker) -> Result<Script, ParseErr>
+    requires { length checker.books.items ≡ length checker.nodes }
+    ensures { MatchResult result (λ s. plan_of s ≡ draft_plan (draft_of checker)) (λ e. e ≡ ParseErr.NoMemory) }
+{
+    let (ends, names) = parted(alloc, checker.ends)?;
     Ok(Script {
         period: checker.period.unwrap_or(USUAL_PERIOD),
         ends,
         names: EndNames::of(names),
         stale: checker.stale,
         events: checker.events,
+        books: checker.books,
     })
+}
+
+// The ends, and their names.
+fn parted(alloc: Global, declared: Vec<DeclaredEnd>) -> Result<(Vec<End>, Vec<EndName>), ParseErr>
+    ensures ends { IfOk result (λ parts. parts.0.items ≡ plain_ends declared.items) }
+    ensures names { IfOk result (λ parts. parts.1.items ≡ map (λ e. e.name) declared.items) }
+    ensures refused { IfErr result (λ e. e ≡ ParseErr.NoMemory) }
+{
+    let mut ends = Vec::with_capacity(alloc, declared.len())?;
+    let mut names = Vec::with_capacity(alloc, declared.len())?;
+    for one in declared {
+        ends.push(one.end)?;
+        names.push(one.name)?;
+    }
+    Ok((ends, names))
 }
 
 /// The script that the bytes are the lines of, or the first line that is bad, with the first fault that it has.

@@ -3,6 +3,7 @@ ghost use Rattle.std.specs.Prelude.{◌≡◌};
 ghost use Rattle.net_script.specs.declared.refusal.Refusal.TheVariants.{NoMemory};
 
 use crate::fault::LineWhy;
+use rsvp_base::NoMemory as OutOfMemory;
 use std::alloc::{AllocError, AllocFailed};
 
 /// Why a line was not taken.
@@ -26,6 +27,14 @@ impl<T: Drop> From<AllocFailed<T>> for Refusal {
     ghost from_gives = { λ _ e. e ≡ NoMemory };
 
     fn from(_: AllocFailed<T>) -> Self {
+        Refusal::NoMemory
+    }
+}
+
+impl From<OutOfMemory> for Refusal {
+    ghost from_gives = { λ _ e. e ≡ NoMemory };
+
+    fn from(_: OutOfMemory) -> Self {
         Refusal::NoMemory
     }
 }

@@ -1,5 +1,9 @@
 //! Scripts.
-use admission_book::Iface;
+ghost use Rattle.std.specs.Prelude.{◌<◌, length};
+ghost use Rattle.std.specs.List.{All};
+ghost use Rattle.net_script.specs.Bookings.{AreBooks, node_of};
+
+use admission_book::{Book, Iface};
 use rsvp_base::{Addr, Flow, Senders, Session, StyleKind};
 use script_words::EndName;
 use std::marker::Model;
@@ -102,4 +106,9 @@ pub struct Script {
     pub stale: Vec<Stale>,
     /// What happens, in order.
     pub events: Vec<Event>,
+    /// The book of each node, by number: what its interfaces have promised to the left-over state at the beginning.
+    pub books: Vec<Book>,
+    pub ghost booked: { AreBooks ends.items stale.items books.items },
+    pub ghost ends_booked: { All (λ e. e.node < length books.items) ends.items },
+    pub ghost facts_booked: { All (λ s. node_of s < length books.items) stale.items },
 }

@@ -1,5 +1,5 @@
 //! The rules of `end`.
-ghost use Rattle.std.specs.Prelude.{◌≡◌, ◌↔◌, ◌++◌, ◌∷◌, ◌==◌, [], IfErr, IfSome, IsSome, None, OnOk, count_by};
+ghost use Rattle.std.specs.Prelude.{◌≡◌, ◌<◌, ◌↔◌, ◌++◌, ◌∷◌, ◌==◌, [], IfErr, IfSome, IsSome, None, OnOk, count_by, length};
 ghost use Rattle.script_words.specs.Addresses.{addr_value};
 ghost use Rattle.net_script.specs.Checked.{draft_of};
 ghost use Rattle.net_script.specs.Draft.{has_addr, place_of, with_end};
@@ -83,18 +83,18 @@ fn ends_of(ends: &[DeclaredEnd], node: usize) -> usize
 }
 
 // Keeps an end of a new name.
-fn declare(
-    alloc: Global,
-    checker: &mut Checker,
-    name: EndName,
-    end: End,
-) -> Result<(), Refusal>
-    requires { place_of checker.old.end_names name ≡ None }
+fn declare(alloc: Global, checker: &mut Checker, name: EndName, end: End) -> Result<(), Refusal>
+    requires new { place_of checker.old.end_names name ≡ None }
+    requires known { end.node < length checker.old.nodes }
+    requires number { end.number ≡ count_by (λ e. e.end.node == end.node) checker.old.ends.items }
+    requires first { checker.old.stale.items ≡ [] }
     ensures ok { OnOk result (draft_of checker.new ≡ record (draft_of checker.old) { ends = checker.old.ends.items ++ (record { name = name; end = end }) ∷ [] }) }
     ensures refused { IfErr result (λ e. e ≡ Refusal.NoMemory) }
 {
     checker.ends.reserve(1)?;
     checker.end_names.add(alloc, name.bytes())?;
+    // Books are opened behind the last end.
+    checker.books.clear();
     let _ = checker.ends.push(DeclaredEnd { name, end });
     Ok(())
 }

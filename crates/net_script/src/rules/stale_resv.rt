@@ -1,18 +1,20 @@
 //! The rules of `stale-resv`.
-ghost use Rattle.std.specs.Prelude.{◌≡◌, ◌≤◌, ◌↔◌, ◌++◌, ◌∷◌, [], IfErr, IfOk, IfSome, IsSome, IsTrue, OnOk, false, length, map};
+ghost use Rattle.std.specs.Prelude.{◌≡◌, ◌<◌, ◌≤◌, ◌↔◌, ◌++◌, ◌∷◌, [], IfErr, IfOk, IfSome, IsSome, IsTrue, OnOk, false, length, map};
 ghost use Rattle.std.specs.Option.{option_copied};
 ghost use Rattle.rsvp_base.specs.Orders.{names_from};
 ghost use Rattle.std.specs.List.{All};
 ghost use Rattle.script_words.specs.Addresses.{IsAddr};
 ghost use Rattle.net_script.specs.Checked.{draft_of};
-ghost use Rattle.net_script.specs.Draft.{end_named, wild_sender, with_line, with_session};
+ghost use Rattle.net_script.specs.Bookings.{IsAdmitted, IsPlaced, iface_of, ifaces_on, node_of};
+ghost use Rattle.net_script.specs.Draft.{end_named, plain_ends, wild_sender, with_line, with_session};
 ghost use Rattle.net_script.specs.Keys.{has_key, key_of};
-ghost use Rattle.net_script.specs.Refusals.{Refuses};
-ghost use Rattle.net_script.specs.Rules.{AreDistinct, HasRoomForFact, IsNewFact, IsStaleInRange, KeepsAll, most_sessions, StaleKeeps};
+ghost use Rattle.net_script.specs.Refusals.{MatchRefusal, Refuses};
+ghost use Rattle.net_script.specs.Rules.{AreDistinct, HasRoomForEntry, HasRoomForFact, IsNewFact, IsStaleInRange, KeepsAll, most_sessions, StaleKeeps};
 ghost use Rattle.net_script.specs.StaleValues.{AreValuesOf};
 ghost use Rattle.net_script.specs.declared.line.Line.TheVariants as kind;
 
 use super::USUAL_PERIOD;
+use crate::books::{charge, open_books};
 use crate::draft::{Checker, DeclaredEnd, StaleKey, StaleValues};
 use crate::fault::LineWhy;
 use crate::line::StaleResvLine;
@@ -33,6 +35,17 @@ pub fn add_stale(alloc: Global, checker: &mut Checker, line: StaleResvLine) -> R
     if !checker.events.is_empty() {
         return Err(Refusal::Fault(LineWhy::Late));
     }
+    open_books(alloc, checker)?;
+    add_fact(alloc, checker, line)
+}
+
+// Adds a left-over reservation that comes before all events, where each node has its book.
+fn add_fact(alloc: Global, checker: &mut Checker, line: StaleResvLine) -> Result<(), Refusal>
+    requires in_time { checker.old.events.items ≡ [] }
+    requires opened { length checker.old.books.items ≡ length checker.old.nodes }
+    ensures ok { OnOk result (KeepsAll (StaleKeeps (draft_of checker.old) line) × (draft_of checker.new ≡ with_line (draft_of checker.old) (kind.StaleResv line))) }
+    ensures refused { IfErr result (Refuses (StaleKeeps (draft_of checker.old) line)) }
+{
     let period = checker.period.unwrap_or(USUAL_PERIOD);
     let Some(values) = stale_values(alloc, period, &line)? else {
         return Err(Refusal::Fault(LineWhy::Range));
@@ -51,6 +64,9 @@ pub fn add_stale(alloc: Global, checker: &mut Checker, line: StaleResvLine) -> R
     let Some(senders) = fitting(&checker.sessions, key.session, values.senders.as_slice()) else {
         return Err(Refusal::Fault(LineWhy::Limit));
     };
+    if !checker.books[key.node as usize].has_room() {
+        return Err(Refusal::Fault(LineWhy::Limit));
+    }
     let fact = Stale::Resv {
         node: key.node,
         iface: key.iface,
@@ -118,7 +134,9 @@ fn wild_senders(alloc: Global, quads: &[DottedQuad]) -> Result<Option<Vec<Sender
 // The end of this name.
 #[tactic(auto, using(crate::proofs::Positions::end_at_place))]
 fn end_named<'a>(checker: &'a Checker, name: &EndName) -> Option<&'a DeclaredEnd>
-    ensures { option_copied result ≡ end_named checker.now.ends.items name.now }
+    ensures named { option_copied result ≡ end_named checker.now.ends.items name.now }
+    ensures known { IfSome result (λ e. e.now.end.node < length checker.now.nodes) }
+    ensures placed { IfSome result (λ e. IsPlaced (plain_ends checker.now.ends.items) e.now.end) }
 {
     let place = checker.end_names.find(name.bytes())?;
     checker.ends.get(place)
@@ -158,12 +176,21 @@ fn keep(checker: &mut Checker, key: StaleKey, fact: Stale) -> Result<(), Refusal
     requires key { key ≡ key_of fact }
     requires absent { has_key checker.old.keys.keys key ≡ false }
     requires few { length (with_session checker.old.sessions.keys key.session) ≤ 32 }
+    requires known { node_of fact < length checker.old.nodes }
+    requires iface { iface_of fact < length (ifaces_on (plain_ends checker.old.ends.items) (node_of fact)) }
+    requires room { HasRoomForEntry checker.old.stale.items (node_of fact) }
+    requires opened { length checker.old.books.items ≡ length checker.old.nodes }
     ensures ok { OnOk result (draft_of checker.new ≡ record (draft_of checker.old) { stale = checker.old.stale.items ++ fact ∷ []; sessions = with_session checker.old.sessions.keys key.session }) }
-    ensures refused { IfErr result (λ e. e ≡ Refusal.NoMemory) }
+    ensures admitted { OnOk result (IsAdmitted (plain_ends checker.old.ends.items) checker.old.stale.items fact) }
+    ensures refused { IfErr result (MatchRefusal (λ why. (why ≡ LineWhy.Over) × (IsAdmitted (plain_ends checker.old.ends.items) checker.old.stale.items fact → ⊥))) }
 {
     checker.stale.reserve(1)?;
+    checker.keys.reserve(1)?;
     checker.sessions.insert(key.session)?;
-    checker.keys.insert(key)?;
+    if charge(&mut checker.books, &fact).is_err() {
+        return Err(Refusal::Fault(LineWhy::Over));
+    }
+    let _ = checker.keys.insert(key);
     let _ = checker.stale.push(fact);
     Ok(())
 }

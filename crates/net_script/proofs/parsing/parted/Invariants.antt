@@ -1,8 +1,8 @@
 use Rattle.std.proofs.Common.{◌≡◌, map}
-use Rattle.net_script.proofs.parsing.finish.Given as goal
+use Rattle.net_script.proofs.parsing.parted.Given as goal
 
-abbrev pub invariant-loop-declared : goal.invariant-loop-declared
-invariant-loop-declared l =
+abbrev pub invariant-loop-one : goal.invariant-loop-one
+invariant-loop-one l =
     record {
       ends : l.ends.items ≡ map (λ e. e.end) l.yielded;
       names : l.names.items ≡ map (λ e. e.name) l.yielded;
