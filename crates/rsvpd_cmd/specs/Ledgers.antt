@@ -1,15 +1,14 @@
 -- Kept reservations in the order of their interfaces and entries, and the facts that they are.
-use Rattle.std.specs.Prelude.{◌≡◌, ℕ, List, unwrap_or, slice_get, refl}
+use Rattle.std.specs.Prelude.{ℕ, List, refl}
 use Rattle.std.specs.Coded.{Coded, code_by, coded×, coded_ℕ}
 use Rattle.rsvp_base.specs.Rows.{AreRows, HasRowAt, LacksRowAt, table_of}
-use Rattle.rsvp_base.specs.Table.{empty, table_code}
+use Rattle.rsvp_base.specs.Table.{table_code}
 use Rattle.rsvp_base.specs.declared.part.Part.{Part}
 use Rattle.rsvp_base.specs.contracts.part.Part as part
 use Rattle.admission_book.specs.EntryKeys.{places}
 use Rattle.admission_book.specs.contracts.key.EntryKey as key
 use Rattle.admission_book.specs.declared.key.EntryKey.{EntryKey}
-use Rattle.net_script.specs.Grammar.{Plan}
-use Rattle.rsvpd_cmd.specs.Facts.{Fact, Facts, facts_of}
+use Rattle.rsvpd_cmd.specs.Facts.{Fact, Facts}
 use Rattle.rsvpd_cmd.specs.declared.kept.Kept.{Kept}
 
 abbrev pub facts_code : Coded Facts
@@ -42,11 +41,3 @@ StandsAt kept place at = HasRowAt places row_of kept place at
 -- this entry has no reservation, and one would go to this place
 abbrev pub GoesTo : List Kept → ℕ × EntryKey → ℕ → Type 0
 GoesTo kept place at = LacksRowAt places row_of kept place at
-
--- ---- the facts of nodes by number
-abbrev pub facts_at : List Facts → ℕ → Facts
-facts_at ledgers node = unwrap_or (slice_get ledgers node) empty
-
--- these are the left-over reservations of a script, node by node
-abbrev pub Holds : Plan → List Facts → Type 0
-Holds p ledgers = (node : ℕ) → facts_at ledgers node ≡ facts_of p node

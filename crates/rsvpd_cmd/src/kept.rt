@@ -1,4 +1,6 @@
 //! Left-over reservations.
+ghost use Rattle.std.specs.Prelude.{◌≡◌, nat_lt};
+
 use admission_book::EntryKey;
 use rsvp_base::Part;
 
@@ -10,4 +12,13 @@ pub struct Kept {
     pub key: EntryKey,
     pub part: Part,
     pub dies: u32,
+}
+
+impl Kept {
+    /// Whether it lives at the moment `clock`, in milliseconds.
+    pub fn lives(&self, clock: u128) -> bool
+        ensures { result ≡ nat_lt clock self.now.dies }
+    {
+        clock < u128::from(self.dies)
+    }
 }

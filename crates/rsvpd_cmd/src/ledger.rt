@@ -46,6 +46,13 @@ impl Ledger {
         }
     }
 
+    /// The reservations, by interface and entry.
+    pub fn as_slice(&self) -> &[Kept]
+        ensures { map row_of result.now ≡ self.now.rows }
+    {
+        self.kept.as_slice()
+    }
+
     /// The reservations on an interface, by entry.
     pub fn on(&self, iface: u8) -> &[Kept]
         ensures { map entry_of result.now ≡ (under numbers entry_keys self.now iface).rows }
