@@ -1,3 +1,10 @@
-pub mod Searches
+pub mod Changes
+pub mod Runs
+pub mod Expiring
+pub mod Charging
+pub mod Nodes
 pub mod Placing
+pub mod AtFirst
+pub mod NeverOver
+pub mod Reports
 pub mod Endings

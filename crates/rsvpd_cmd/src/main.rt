@@ -1,8 +1,12 @@
 //! `rsvpd`: replays the script of a network of RSVP routers, and writes what each link has reserved.
 #![tactic(auto)]
 
+mod expiry;
 mod kept;
 mod ledger;
+mod network;
+mod node;
+mod opening;
 mod replay;
 mod status;
 #[cfg(test)]

@@ -1,184 +1,110 @@
 //! Replaying a script.
-ghost use Rattle.std.specs.Prelude.{◌≡◌, ℕ, ◌<◌, ◌++◌, ◌∷◌, List, length, IfSome, IfOk, OnOk, slice_get};
+ghost use Rattle.std.specs.Prelude.{◌≡◌, ◌≤◌, ◌+◌, ◌^◌, ◌++◌, map, IfOk, OnOk};
 ghost use Rattle.net_script.specs.Grammar.{plan_of};
-ghost use Rattle.net_script.specs.declared.script.Stale.{Stale as StaleOf};
-ghost use Rattle.rsvp_base.specs.Table.{empty, with_rows};
-ghost use Rattle.rsvpd_cmd.specs.Facts.{unit_of, fact_of, end_at, end_of, rows_on};
-ghost use Rattle.rsvpd_cmd.specs.Ledgers.{Holds, row_of, facts_at};
-ghost use Rattle.rsvpd_cmd.specs.Run.{end_text, report_text, text_from, run_text};
+ghost use Rattle.rsvp_base.specs.Keys.{numbers};
+ghost use Rattle.rsvp_base.specs.Under.{under};
+ghost use Rattle.admission_book.specs.Charges.{charges};
+ghost use Rattle.admission_book.specs.EntryKeys.{entry_keys};
+ghost use Rattle.rsvpd_cmd.specs.Ledgers.{entry_of};
+ghost use Rattle.rsvpd_cmd.specs.Nodes.{IsBooked, IsExpired, holdings_in, node_at};
+ghost use Rattle.rsvpd_cmd.specs.Run.{clock_after, end_text, event_text, report_text, run_text, text_from};
 
+use crate::expiry::expire;
 use crate::kept::Kept;
-use crate::ledger::Ledger;
+use crate::network::Network;
+use crate::node::Node;
+use crate::opening::open_nodes;
 use crate::text::put_book;
-use admission_book::EntryKey;
-use net_script::{End, Event, Script, Stale};
-use rsvp_base::{NoMemory, Part, Senders, StyleKind, Unit};
+use net_script::{End, Event, Script};
+use rsvp_base::NoMemory;
 use std::alloc::Global;
 
 /// Writes what a script writes, at the end of `out`. `NoMemory`: there was no memory for its state or its text.
-pub fn replay(alloc: Global, script: &Script, out: &mut Vec<u8>) -> Result<(), NoMemory>
-    ensures { OnOk result (out.new.items ≡ out.old.items ++ run_text (plan_of script.now)) }
+pub fn replay(alloc: Global, script: Script, out: &mut Vec<u8>) -> Result<(), NoMemory>
+    ensures { OnOk result (out.new.items ≡ out.old.items ++ run_text (plan_of script)) }
 {
-    let ledgers = ledgers(alloc, script)?;
-    play(alloc, script, ledgers.as_slice(), out)
+    let Script {
+        period: _,
+        ends,
+        names,
+        stale,
+        events,
+        books,
+    } = script;
+    let nodes = open_nodes(alloc, books, stale.as_slice())?;
+    let mut net = Network { ends, names, nodes };
+    play(alloc, &mut net, events.as_slice(), out)
 }
 
-// The left-over reservations of a script, end by end.
-fn ledgers(alloc: Global, script: &Script) -> Result<Vec<Ledger>, NoMemory>
-    ensures { IfOk result (λ ledgers. Holds (plan_of script.now) ledgers.items) }
-{
-    let ends = script.ends.as_slice();
-    let mut ledgers = none(alloc, ends)?;
-    for stale in script.stale.as_slice() {
-        place(&mut ledgers, ends, stale)?;
-    }
-    Ok(ledgers)
-}
-
-// No reservations, end by end.
-fn none(alloc: Global, ends: &[End]) -> Result<Vec<Ledger>, NoMemory>
-    ensures each { IfOk result (λ ledgers. length ledgers.items ≡ length ends.now) }
-    ensures none { IfOk result (λ ledgers. (k : ℕ) → facts_at ledgers.items k ≡ empty) }
-{
-    let mut ledgers = Vec::new(alloc);
-    for _ in 0..ends.len() {
-        ledgers.push(Ledger::new(alloc)).map_err(|_| NoMemory)?;
-    }
-    Ok(ledgers)
-}
-
-// Keeps a left-over reservation on its end.
-fn place(ledgers: &mut Vec<Ledger>, ends: &[End], stale: &Stale) -> Result<(), NoMemory>
-    requires { length ledgers.old.items ≡ length ends.now }
-    ensures each { length ledgers.new.items ≡ length ledgers.old.items }
-    ensures placed { OnOk result ((k : ℕ) (rest : List StaleOf) →
-        with_rows (facts_at ledgers.new.items k) (rows_on ends.now k rest) ≡ with_rows (facts_at ledgers.old.items k) (rows_on ends.now k (stale.now ∷ rest))) }
-{
-    let Some(end) = end_of(ends, stale) else {
-        return Ok(());
-    };
-    ledgers[end].put(kept(stale))
-}
-
-// The number of the end on which a left-over reservation stands.
-fn end_of(ends: &[End], stale: &Stale) -> Option<usize>
-    ensures end { result ≡ end_of ends.now stale.now }
-    ensures within { IfSome result (λ k. k < length ends.now) }
-{
-    match stale {
-        Stale::Resv { node, iface, .. } => end_number(ends, *node, *iface),
-    }
-}
-
-// What a left-over reservation is at the moment 0.
-fn kept(stale: &Stale) -> Kept
-    ensures { row_of result ≡ fact_of stale.now }
-{
-    match stale {
-        Stale::Resv {
-            session,
-            style,
-            senders,
-            flow,
-            left,
-            ..
-        } => Kept {
-            key: EntryKey {
-                session: *session,
-                style: *style,
-                unit: unit(*style, senders),
-            },
-            part: Part {
-                senders: senders.copy(),
-                flow: *flow,
-            },
-            dies: *left,
-        },
-    }
-}
-
-// The unit of a reservation of this style for these senders.
-fn unit(style: StyleKind, senders: &Senders) -> Unit
-    ensures { result ≡ unit_of style senders.now }
-{
-    match style {
-        StyleKind::Wild => Unit::One,
-        StyleKind::Fixed => match senders.as_slice().first() {
-            Some(s) => Unit::Of(*s),
-            None => Unit::One,
-        },
-        StyleKind::Shared => Unit::One,
-    }
-}
-
-// The number of the end that is this interface of a node.
-fn end_number(ends: &[End], node: u16, iface: u8) -> Option<usize>
-    ensures end { result ≡ end_at ends.now node iface }
-    ensures within { IfSome result (λ k. k < length ends.now) }
-{
-    let mut before = iface;
-    for (k, end) in ends.iter().enumerate() {
-        if end.node == node {
-            if before == 0 {
-                return Some(k);
-            }
-            before -= 1;
-        }
-    }
-    None
-}
-
-// What the events write.
+// What the events write, from the moment 0 on.
 fn play(
     alloc: Global,
-    script: &Script,
-    ledgers: &[Ledger],
+    net: &mut Network,
+    events: &[Event],
     out: &mut Vec<u8>,
 ) -> Result<(), NoMemory>
-    requires { Holds (plan_of script.now) ledgers.now }
-    ensures { OnOk result (out.new.items ≡ out.old.items ++ run_text (plan_of script.now)) }
+    requires { IsBooked 0 net.old.nodes.items }
+    ensures { OnOk result (out.new.items ≡ out.old.items ++ text_from (holdings_in net.old) 0 events.now) }
 {
     let mut clock: u128 = 0;
-    for event in script.events.as_slice() {
-        match event {
-            Event::Wait { ms } => clock += u128::from(*ms),
-            Event::Report { end } => report(alloc, script, ledgers, clock, *end, out)?,
-        }
+    for event in events {
+        clock = step(alloc, net, clock, event, out)?;
     }
     Ok(())
+}
+
+// What an event does at a moment: it gives the moment after it.
+fn step(
+    alloc: Global,
+    net: &mut Network,
+    clock: u128,
+    event: &Event,
+    out: &mut Vec<u8>,
+) -> Result<u128, NoMemory>
+    requires booked { IsBooked clock net.old.nodes.items }
+    requires small { clock ≤ 2 ^ 127 }
+    ensures clock { IfOk result (λ after. after ≡ clock_after clock event.now) }
+    ensures small { IfOk result (λ after. after ≤ clock + 2 ^ 32) }
+    ensures booked { IfOk result (λ after. IsBooked after net.new.nodes.items) }
+    ensures holds { holdings_in net.new ≡ holdings_in net.old }
+    ensures text { OnOk result (out.new.items ≡ out.old.items ++ event_text (holdings_in net.old) clock event.now) }
+{
+    match event {
+        Event::Wait { ms } => Ok(clock + u128::from(*ms)),
+        Event::Report { end } => {
+            report(alloc, net, clock, *end, out)?;
+            Ok(clock)
+        }
+    }
 }
 
 // The report of an end, or of all.
 fn report(
     alloc: Global,
-    script: &Script,
-    ledgers: &[Ledger],
+    net: &mut Network,
     clock: u128,
     end: Option<u16>,
     out: &mut Vec<u8>,
 ) -> Result<(), NoMemory>
-    requires { Holds (plan_of script.now) ledgers.now }
-    ensures { OnOk result (out.new.items ≡ out.old.items ++ report_text (plan_of script.now) clock end) }
+    requires { IsBooked clock net.old.nodes.items }
+    ensures holds { holdings_in net.new ≡ holdings_in net.old }
+    ensures booked { IsBooked clock net.new.nodes.items }
+    ensures text { OnOk result (out.new.items ≡ out.old.items ++ report_text (holdings_in net.old) clock end) }
 {
+    expire(&mut net.nodes, clock);
     match end {
-        Some(k) => put_end(alloc, script, ledgers, clock, k as usize, out),
-        None => put_ends(alloc, script, ledgers, clock, out),
+        Some(k) => put_end(alloc, net, clock, k as usize, out),
+        None => put_ends(alloc, net, clock, out),
     }
 }
 
 // The books of all ends.
-fn put_ends(
-    alloc: Global,
-    script: &Script,
-    ledgers: &[Ledger],
-    clock: u128,
-    out: &mut Vec<u8>,
-) -> Result<(), NoMemory>
-    requires { Holds (plan_of script.now) ledgers.now }
-    ensures { OnOk result (out.new.items ≡ out.old.items ++ report_text (plan_of script.now) clock None) }
+fn put_ends(alloc: Global, net: &Network, clock: u128, out: &mut Vec<u8>) -> Result<(), NoMemory>
+    requires { IsExpired clock net.now.nodes.items }
+    ensures { OnOk result (out.new.items ≡ out.old.items ++ report_text (holdings_in net.now) clock None) }
 {
-    for k in 0..script.ends.len() {
-        put_end(alloc, script, ledgers, clock, k, out)?;
+    for k in 0..net.ends.len() {
+        put_end(alloc, net, clock, k, out)?;
     }
     Ok(())
 }
@@ -186,20 +112,15 @@ fn put_ends(
 // The book of one end, where there is such an end.
 fn put_end(
     alloc: Global,
-    script: &Script,
-    ledgers: &[Ledger],
+    net: &Network,
     clock: u128,
     k: usize,
     out: &mut Vec<u8>,
 ) -> Result<(), NoMemory>
-    requires { Holds (plan_of script.now) ledgers.now }
-    ensures { OnOk result (out.new.items ≡ out.old.items ++ end_text (plan_of script.now) clock k) }
+    requires { IsExpired clock net.now.nodes.items }
+    ensures { OnOk result (out.new.items ≡ out.old.items ++ end_text (holdings_in net.now) clock k) }
 {
-    let (Some(name), Some(end), Some(ledger)) = (
-        script.names.as_slice().get(k),
-        script.ends.get(k),
-        ledgers.get(k),
-    ) else {
+    let (Some(name), Some(end)) = (net.names.as_slice().get(k), net.ends.get(k)) else {
         return Ok(());
     };
     put_book(
@@ -207,7 +128,28 @@ fn put_end(
         out,
         name.bytes(),
         end.iface.capacity,
-        ledger.as_slice(),
+        held_on(&net.nodes, end),
+        kept_on(&net.nodes, end),
         clock,
     )
+}
+
+// What the book of its node says that an end is charged, in bytes per second.
+fn held_on(nodes: &Vec<Node>, end: &End) -> u64
+    ensures { result ≡ charges (node_at nodes.now.items end.now.node).book.entries end.now.number }
+{
+    match nodes.get(end.node as usize) {
+        Some(node) => node.book.held(end.number),
+        None => 0,
+    }
+}
+
+// The reservations on an end, by entry.
+fn kept_on<'a>(nodes: &'a Vec<Node>, end: &End) -> &'a [Kept]
+    ensures { map entry_of result.now ≡ (under numbers entry_keys (node_at nodes.now.items end.now.node).ledger end.now.number).rows }
+{
+    match nodes.get(end.node as usize) {
+        Some(node) => node.ledger.on(end.number),
+        None => &[],
+    }
 }

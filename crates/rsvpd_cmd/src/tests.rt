@@ -80,6 +80,46 @@ end q2 held 1 of 8
 }
 
 #[test]
+fn an_end_promises_its_capacity_and_no_more(rt: HostRuntime) -> Result<(), Fail> {
+    let alloc = rt.alloc();
+    let words = words(alloc, &["replay"])?;
+    let full = b"node r
+end r1 r 10.0.1.2 1000 1500
+stale-resv r1 239.1.1.1/17/5004 WF 10.0.1.1 10.0.9.9 400/400/inf/1/1500 157500
+stale-resv r1 239.1.1.2/17/5004 WF 10.0.1.1 10.0.9.9 500/500/inf/1/1500 100
+stale-resv r1 239.1.1.3/17/5004 WF 10.0.1.1 10.0.9.9 100/101/inf/1/1500 100
+report
+";
+    let over = b"node r
+end r1 r 10.0.1.2 1000 1500
+stale-resv r1 239.1.1.1/17/5004 WF 10.0.1.1 10.0.9.9 400/400/inf/1/1500 157500
+stale-resv r1 239.1.1.2/17/5004 WF 10.0.1.1 10.0.9.9 500/500/inf/1/1500 100
+stale-resv r1 239.1.1.3/17/5004 WF 10.0.1.1 10.0.9.9 101/101/inf/1/1500 100
+report
+";
+    let text = b"end r1 held 1000 of 1000
+239.1.1.1/17/5004 WF 10.0.9.9 400/400/inf/1/1500
+239.1.1.2/17/5004 WF 10.0.9.9 500/500/inf/1/1500
+239.1.1.3/17/5004 WF 10.0.9.9 100/101/inf/1/1500
+";
+    let why = LineErr {
+        line: 5,
+        why: LineWhy::Over,
+    };
+    let table: [(&[u8], &[u8], Status); 2] = [
+        (full, text, Status::Done),
+        (over, b"", Status::BadLine(why)),
+    ];
+    for (script, text, status) in table {
+        let mut source = PlainSource::new(script.to_vec(alloc)?);
+        let mut sink = MemorySink::open(alloc, 1000, Vec::new(alloc), Vec::new(alloc))?;
+        assert_eq!(rt; run(alloc, &words, &mut source, &mut sink), status);
+        assert_eq!(rt; sink.bytes(), text);
+    }
+    Ok(())
+}
+
+#[test]
 fn other_words_are_no_command(rt: HostRuntime) -> Result<(), Fail> {
     let alloc = rt.alloc();
     let table: [&[&str]; 6] = [

@@ -1,11 +1,11 @@
 //! The text of a report.
-ghost use Rattle.std.specs.Prelude.{◌≡◌, ◌++◌, OnOk, codes, map, nat_lt, sum_by};
+ghost use Rattle.std.specs.Prelude.{◌≡◌, ◌++◌, OnOk, codes, map};
 ghost use Rattle.std.specs.Fmt.{decimal};
 ghost use Rattle.std.specs.List.{flat_map};
 ghost use Rattle.rsvp_base.specs.Table.{keys, changed_rows};
 ghost use Rattle.rsvpd_cmd.specs.Facts.{living_part};
-ghost use Rattle.rsvpd_cmd.specs.Ledgers.{row_of};
-ghost use Rattle.rsvpd_cmd.specs.Texts.{addr_text, session_text, style_text, sender_text, name_text, names_text, peak_text, flow_text, entry_text, head_text, book_text};
+ghost use Rattle.rsvpd_cmd.specs.Ledgers.{entry_of};
+ghost use Rattle.rsvpd_cmd.specs.Texts.{addr_text, session_text, style_text, sender_text, name_text, names_text, peak_text, flow_text, entry_text, head_text, held_of, book_text};
 
 use crate::kept::Kept;
 use admission_book::EntryKey;
@@ -19,13 +19,6 @@ fn put(out: &mut Vec<u8>, bytes: &[u8]) -> Result<(), NoMemory>
 }
 
 fn put_number(alloc: Global, out: &mut Vec<u8>, n: u64) -> Result<(), NoMemory>
-    ensures { OnOk result (out.new.items ≡ out.old.items ++ decimal n) }
-{
-    let text = n.to_string(alloc).map_err(|_| NoMemory)?;
-    put(out, text.as_bytes())
-}
-
-fn put_sum(alloc: Global, out: &mut Vec<u8>, n: u128) -> Result<(), NoMemory>
     ensures { OnOk result (out.new.items ≡ out.old.items ++ decimal n) }
 {
     let text = n.to_string(alloc).map_err(|_| NoMemory)?;
@@ -160,7 +153,7 @@ fn put_head(
     alloc: Global,
     out: &mut Vec<u8>,
     name: &[u8],
-    held: u128,
+    held: u64,
     capacity: u64,
 ) -> Result<(), NoMemory>
     ensures { OnOk result (out.new.items ≡ out.old.items ++ head_text name.now held capacity) }
@@ -168,54 +161,37 @@ fn put_head(
     put(out, b"end ")?;
     put(out, name)?;
     put(out, b" held ")?;
-    put_sum(alloc, out, held)?;
+    put_number(alloc, out, held)?;
     put(out, b" of ")?;
     put_number(alloc, out, capacity)?;
     put(out, b"\n")
 }
 
-/// An end with this name and capacity, in bytes per second, and its book at the moment `clock`, in milliseconds: an entry
-/// for each of its reservations that lives then. `NoMemory`: there was no memory for the text.
+/// An end with this name and capacity, in bytes per second, and its book at the moment `clock`, in milliseconds: what the
+/// entries charge together, and an entry for each of its reservations that lives then. `NoMemory`: there was no memory for
+/// the text.
 pub fn put_book(
     alloc: Global,
     out: &mut Vec<u8>,
     name: &[u8],
     capacity: u64,
+    held: u64,
     kept: &[Kept],
     clock: u128,
 ) -> Result<(), NoMemory>
-    ensures { OnOk result (out.new.items ≡ out.old.items ++ book_text name.now capacity (changed_rows (living_part clock) (map row_of kept.now))) }
+    requires { held ≡ held_of (changed_rows (living_part clock) (map entry_of kept.now)) }
+    ensures { OnOk result (out.new.items ≡ out.old.items ++ book_text name.now capacity (changed_rows (living_part clock) (map entry_of kept.now))) }
 {
-    put_head(alloc, out, name, held(kept, clock), capacity)?;
+    put_head(alloc, out, name, held, capacity)?;
     put_entries(alloc, out, kept, clock)
-}
-
-// Whether a reservation lives at a moment.
-fn lives(kept: &Kept, clock: u128) -> bool
-    ensures { result ≡ nat_lt clock kept.now.dies }
-{
-    clock < u128::from(kept.dies)
-}
-
-// What the reservations that live charge together, in bytes per second.
-fn held(kept: &[Kept], clock: u128) -> u128
-    ensures { result ≡ sum_by (λ e. e.1.flow.r) (changed_rows (living_part clock) (map row_of kept.now)) }
-{
-    let mut sum: u128 = 0;
-    for one in kept {
-        if lives(one, clock) {
-            sum += u128::from(one.part.flow.r.value());
-        }
-    }
-    sum
 }
 
 // The entries of the reservations that live.
 fn put_entries(alloc: Global, out: &mut Vec<u8>, kept: &[Kept], clock: u128) -> Result<(), NoMemory>
-    ensures { OnOk result (out.new.items ≡ out.old.items ++ flat_map (λ e. entry_text e.0 e.1) (changed_rows (living_part clock) (map row_of kept.now))) }
+    ensures { OnOk result (out.new.items ≡ out.old.items ++ flat_map (λ e. entry_text e.0 e.1) (changed_rows (living_part clock) (map entry_of kept.now))) }
 {
     for one in kept {
-        if lives(one, clock) {
+        if one.lives(clock) {
             put_entry(alloc, out, one.key, &one.part)?;
         }
     }

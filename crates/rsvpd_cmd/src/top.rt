@@ -5,6 +5,7 @@ ghost use Rattle.net_script.specs.Faults.{Rose};
 ghost use Rattle.net_script.specs.Grammar.{Plan, plan_of, IsScript, IsBadLine};
 ghost use Rattle.net_script.specs.Reading.{most_bytes};
 ghost use Rattle.net_script.specs.declared.fault.LineErr.{LineErr as LineErrOf};
+ghost use Rattle.rsvpd_cmd.specs.Capacity.{IsNeverOver};
 ghost use Rattle.rsvpd_cmd.specs.Run.{run_text};
 ghost use Rattle.rsvpd_cmd.specs.Top.{IsReplay, IsOrNoMemory, IsWrittenOrNot};
 
@@ -18,6 +19,7 @@ use std::alloc::Global;
 /// Refusals come in this order: `Usage`; `ReadFault` or `TooLong` while the input is read; `BadLine`; `WriteFault`. Nothing
 /// is written before all of the input was read and found valid. `NoMemory` may come at any time before the first byte is
 /// written.
+#[tactic(auto, using(crate::proofs::NeverOver::known_never_over))]
 pub fn run<S: Source, K: Sink>(
     alloc: Global,
     words: &Vec<String>,
@@ -34,6 +36,8 @@ pub fn run<S: Source, K: Sink>(
     // What was written of the text, where not all could be.
     ensures front { result ≡ Status.WriteFault → IfSome (S.left source.old) (λ bytes.
         (p : Plan) × IsScript bytes p × (n : ℕ) × Appends (K.holds sink.old) (K.holds sink.new) (take n (run_text p))) }
+    // No book passes its capacity: at every moment of a script, what an end reports is within its interface.
+    ensures within_capacity { IfSome (S.left source.old) (λ bytes. (p : Plan) → IsScript bytes p → IsNeverOver p) }
     // Nothing else ends a run over known input and devices that do not fail.
     ensures complete { IsReplay (map string_bytes words.now.items) → (bytes : List ℕ) → S.left source.old ≡ Some bytes → length bytes ≤ most_bytes → (p : Plan) → IsScript bytes p
         → (Rose (S.faults source.old) (S.faults source.new) → ⊥) → (Rose (K.faults sink.old) (K.faults sink.new) → ⊥) → IsOrNoMemory Status.Done result }
@@ -83,17 +87,17 @@ fn replay_bytes<K: Sink>(alloc: Global, bytes: &[u8], sink: &mut K) -> Status
     ensures others { (result ≢ Status.Usage) × (result ≢ Status.ReadFault) × (result ≢ Status.TooLong) }
 {
     match parse(alloc, bytes) {
-        Ok(script) => replay_script(alloc, &script, sink),
+        Ok(script) => replay_script(alloc, script, sink),
         Err(ParseErr::Line(e)) => Status::BadLine(e),
         Err(ParseErr::NoMemory) => Status::NoMemory,
     }
 }
 
 // Writes what a script writes.
-fn replay_script<K: Sink>(alloc: Global, script: &Script, sink: &mut K) -> Status
-    ensures done { result ≡ Status.Done → Appends (K.holds sink.old) (K.holds sink.new) (run_text (plan_of script.now)) }
+fn replay_script<K: Sink>(alloc: Global, script: Script, sink: &mut K) -> Status
+    ensures done { result ≡ Status.Done → Appends (K.holds sink.old) (K.holds sink.new) (run_text (plan_of script)) }
     ensures write_fault { result ≡ Status.WriteFault → Rose (K.faults sink.old) (K.faults sink.new) }
-    ensures front { result ≡ Status.WriteFault → ((n : ℕ) × Appends (K.holds sink.old) (K.holds sink.new) (take n (run_text (plan_of script.now)))) }
+    ensures front { result ≡ Status.WriteFault → ((n : ℕ) × Appends (K.holds sink.old) (K.holds sink.new) (take n (run_text (plan_of script)))) }
     ensures unwritten { result ≡ Status.NoMemory → Keeps (K.holds sink.old) (K.holds sink.new) }
     ensures others { IsWrittenOrNot result }
 {
