@@ -2,3 +2,4 @@ pub mod Scaled
 pub mod Normal
 pub mod WordAnswers
 pub mod WordLaws
+pub mod Sources
