@@ -6,3 +6,4 @@ pub mod Classes
 pub mod Contents
 pub mod FlowWords
 pub mod Reading
+pub mod Spelling

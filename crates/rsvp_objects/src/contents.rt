@@ -14,18 +14,11 @@ use crate::flow_reading::flow;
 use crate::obj_err::ObjErr;
 use crate::object::Object;
 use crate::places;
+use crate::words::{CONTROLLED_LOAD, FIXED, GENERAL, SHARED_EXPLICIT, STYLE_BITS, WILDCARD};
 use rsvp_base::{Addr, ErrSpec, Hop, Sender, Senders, Session, StyleKind};
 
-// The services of a FLOWSPEC (RFC 2211) and of a SENDER_TSPEC (RFC 2210, 3.1).
-const CONTROLLED_LOAD: u8 = 5;
-const GENERAL: u8 = 1;
 // From here on the service of a FLOWSPEC can be seen.
 const SERVICE_SEEN: usize = 8;
-// The last five bits of an option vector.
-const STYLE_BITS: u8 = 32;
-const WILDCARD: u8 = 0b10001;
-const FIXED: u8 = 0b01010;
-const SHARED_EXPLICIT: u8 = 0b10010;
 
 /// The object with these contents, which have the size of their class, or its fault. `at` is its place.
 #[tactic(auto, unfolding(crate::specs::Reading::contents_of))]

@@ -6,15 +6,8 @@ ghost use Rattle.rsvp_objects.specs.RateFault.{rate_word};
 use crate::fields::{half_at, word_at};
 use crate::places;
 use crate::rate_word::rate_of_word;
+use crate::words::{LENGTH_5, LENGTH_6, LENGTH_7, TOKEN_BUCKET, VERSION_0};
 use rsvp_base::{Flow, Peak, Rate};
-
-// What the first three words say besides the service: version 0, the words behind each, and the one parameter, a token
-// bucket.
-const VERSION_0: u8 = 0;
-const LENGTH_7: u16 = 7;
-const LENGTH_6: u16 = 6;
-const TOKEN_BUCKET: u8 = 127;
-const LENGTH_5: u16 = 5;
 
 /// The flow that the contents of a FLOWSPEC or SENDER_TSPEC of a service say. `None` where they are not the eight words.
 #[tactic(auto, unfolding(crate::specs::FlowWords::flow_in))]
