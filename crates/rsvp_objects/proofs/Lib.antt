@@ -3,3 +3,5 @@ pub mod Normal
 pub mod WordAnswers
 pub mod WordLaws
 pub mod Sources
+pub mod Again
+pub mod Classes

@@ -7,3 +7,4 @@ pub mod Contents
 pub mod FlowWords
 pub mod Reading
 pub mod Spelling
+pub mod Proper
