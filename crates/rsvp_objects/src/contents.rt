@@ -34,10 +34,8 @@ pub fn contents(at: u16, class: Class, body: &[u8]) -> Result<Object, ObjErr>
         Class::RsvpHop => Ok(Object::HopOf(hop(body))),
         Class::TimeValues => Ok(Object::Time(word_at(body, places::PERIOD))),
         Class::ErrorSpec => Ok(Object::Error(error(body))),
-        Class::Scope => scope(body).map_or(Err(ObjErr::Crowd(at)), |s| Ok(Object::Scope(s))),
-        Class::Style => style(body)
-            .map(Object::StyleOf)
-            .ok_or(ObjErr::Style(at)),
+        Class::Scope => scope(body).map(Object::Scope).ok_or(ObjErr::Crowd(at)),
+        Class::Style => style(body).map(Object::StyleOf).ok_or(ObjErr::Style(at)),
         Class::FlowSpec => flow_spec(at, body),
         Class::FilterSpec => Ok(Object::Filter(sender(body))),
         Class::SenderTemplate => Ok(Object::Template(sender(body))),
@@ -113,10 +111,9 @@ fn flow_spec(at: u16, body: &[u8]) -> Result<Object, ObjErr>
     if body.len() >= SERVICE_SEEN && body[places::SERVICE] != CONTROLLED_LOAD {
         return Err(ObjErr::Service(at));
     }
-    match flow(body, CONTROLLED_LOAD) {
-        Some(flow) => Ok(Object::FlowOf(flow)),
-        None => Err(ObjErr::Flow(at)),
-    }
+    flow(body, CONTROLLED_LOAD)
+        .map(Object::FlowOf)
+        .ok_or(ObjErr::Flow(at))
 }
 
 // The addresses of a SCOPE. `None` exactly where they are more than 16.

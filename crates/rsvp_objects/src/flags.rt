@@ -6,7 +6,7 @@ ghost use Rattle.rsvp_objects.specs.Contents.{e_police, in_place, not_guilty};
 use bitflags::{Flag, Flags, bitflag_items};
 
 /// The flags of a SESSION (RFC 2205, A.1). A byte may have others set: they are kept out of the way, and never written.
-#[derive(Clone, Copy, PartialEq, Eq, Debug)]
+#[derive(Clone, Copy)]
 pub struct SessionFlags(u8);
 
 bitflag_items! {
@@ -38,7 +38,7 @@ impl Flags for SessionFlags {
 }
 
 /// The flags of an ERROR_SPEC (RFC 2205, A.5).
-#[derive(Clone, Copy, PartialEq, Eq, Debug)]
+#[derive(Clone, Copy)]
 pub struct ErrorFlags(u8);
 
 bitflag_items! {

@@ -6,26 +6,41 @@ use crate::class::Class;
 
 // Class-Num of the classes that are read (RFC 2205, appendix A).
 const SESSION: u8 = 1;
+
 const RSVP_HOP: u8 = 3;
+
 const TIME_VALUES: u8 = 5;
+
 const ERROR_SPEC: u8 = 6;
+
 const SCOPE: u8 = 7;
+
 const STYLE: u8 = 8;
+
 const FLOWSPEC: u8 = 9;
+
 const FILTER_SPEC: u8 = 10;
+
 const SENDER_TEMPLATE: u8 = 11;
+
 const SENDER_TSPEC: u8 = 12;
+
 const RESV_CONFIRM: u8 = 15;
 
 // And of those that are skipped: these, and unknown ones from the first on that a receiver may skip (RFC 2205, 3.10).
 const NULL: u8 = 0;
+
 const INTEGRITY: u8 = 4;
+
 const ADSPEC: u8 = 13;
+
 const POLICY_DATA: u8 = 14;
+
 const FIRST_SKIPPED: u8 = 128;
 
 // C-Type of the objects that have IPv4 addresses or none, and of those of integrated services (RFC 2210, 3).
 const IPV4: u8 = 1;
+
 const INTSERV: u8 = 2;
 
 impl Class {

@@ -129,8 +129,14 @@ pub fn flow(class: Class, service: u8, flow: &Flow) -> [u8; 36]
     BigEndian::write_u16(&mut body[places::WORDS_BEHIND_SERVICE..], LENGTH_6);
     body[places::PARAMETER] = TOKEN_BUCKET;
     BigEndian::write_u16(&mut body[places::WORDS_BEHIND_PARAMETER..], LENGTH_5);
-    BigEndian::write_u32(&mut body[places::RATE..], word_of_rate(Peak::Finite(flow.r)));
-    BigEndian::write_u32(&mut body[places::DEPTH..], word_of_rate(Peak::Finite(flow.b)));
+    BigEndian::write_u32(
+        &mut body[places::RATE..],
+        word_of_rate(Peak::Finite(flow.r)),
+    );
+    BigEndian::write_u32(
+        &mut body[places::DEPTH..],
+        word_of_rate(Peak::Finite(flow.b)),
+    );
     BigEndian::write_u32(&mut body[places::PEAK..], word_of_rate(flow.p));
     BigEndian::write_u32(&mut body[places::LOW..], flow.low);
     BigEndian::write_u32(&mut body[places::MOST..], flow.most);
