@@ -6,7 +6,7 @@ use crate::addr::Addr;
 pub struct ErrSpec {
     /// The node that found the error, or that confirms.
     pub node: Addr,
-    /// InPlace: a smaller reservation stands where this one was refused. Used in a ResvErr alone.
+    /// InPlace: a reservation still stands where this one was refused. Used in a ResvErr alone.
     pub in_place: bool,
     /// NotGuilty: the flow that was refused asks for more than the receiver of the ResvErr does. Used there alone.
     pub not_guilty: bool,

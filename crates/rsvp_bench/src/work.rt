@@ -1,5 +1,6 @@
 //! The work that is timed.
-ghost use Rattle.std.specs.Prelude.{◌≤◌, ◌*◌, length, IfOk};
+ghost use Rattle.std.specs.Prelude.{◌≤◌, length, IfOk};
+ghost use Rattle.rsvp_bench.specs.Walk.{Stand};
 
 use crate::sample::objects;
 use rsvp_base::Full;
@@ -73,19 +74,18 @@ fn put_all(objects: &[Object], packet: &mut Packet) -> Result<(), Full> {
 // The objects in a text of at most 4,096 bytes, or its first fault.
 fn read_all(text: &[u8]) -> Result<Done, ObjErr>
     requires { length text.now ≤ 4096 }
+    ensures { IfOk result (λ d. Stand d.objects text.now (length text.now)) }
 {
-    let mut done = Done::default();
+    let mut objects = 0;
+    let mut sum = 0u64;
     let mut at = 0;
     while at < text.len() {
         let (object, end) = next_object(text, at)?;
-        let read = Done {
-            objects: 1,
-            sum: weight(&object),
-        };
-        done = both(done, read);
+        objects += 1;
+        sum = sum.wrapping_add(weight(&object));
         at = end;
     }
-    Ok(done)
+    Ok(Done { objects, sum })
 }
 
 // A number of each object, so that what is read is used.
