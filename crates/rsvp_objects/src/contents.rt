@@ -4,8 +4,7 @@ ghost use Rattle.rsvp_base.specs.Table.{size};
 ghost use Rattle.rsvp_objects.specs.Contents as spec;
 ghost use Rattle.rsvp_objects.specs.Contents.{scope_in};
 ghost use Rattle.rsvp_objects.specs.declared.class.Class.TheVariants as Class;
-ghost use Rattle.rsvp_objects.specs.FlowWords.{flow_in};
-ghost use Rattle.rsvp_objects.specs.Reading.{contents_of, is_other_service, IsSized};
+ghost use Rattle.rsvp_objects.specs.Reading.{contents_of, IsSized};
 
 use crate::class::Class;
 use crate::fields::{addr_at, half_at, word_at};
@@ -14,11 +13,8 @@ use crate::flow_reading::flow;
 use crate::obj_err::ObjErr;
 use crate::object::Object;
 use crate::places;
-use crate::words::{CONTROLLED_LOAD, FIXED, GENERAL, SHARED_EXPLICIT, STYLE_BITS, WILDCARD};
+use crate::values::{service, style as options};
 use rsvp_base::{Addr, ErrSpec, Hop, Sender, Senders, Session, StyleKind};
-
-// From here on the service of a FLOWSPEC can be seen.
-const SERVICE_SEEN: usize = 8;
 
 /// The object with these contents, which have the size of their class, or its fault. `at` is its place.
 #[tactic(auto, unfolding(crate::specs::Reading::contents_of))]
@@ -29,20 +25,20 @@ pub fn contents(at: u16, class: Class, body: &[u8]) -> Result<Object, ObjErr>
     match class {
         Class::Session => Ok(Object::Session {
             session: session(body),
-            police: is_police(body[places::SESSION_FLAGS]),
+            police: is_police(body[places::session::FLAGS]),
         }),
         Class::RsvpHop => Ok(Object::HopOf(hop(body))),
-        Class::TimeValues => Ok(Object::Time(word_at(body, places::PERIOD))),
+        Class::TimeValues => Ok(Object::Time(word_at(body, places::time_values::PERIOD))),
         Class::ErrorSpec => Ok(Object::Error(error(body))),
         Class::Scope => scope(body).map(Object::Scope).ok_or(ObjErr::Crowd(at)),
         Class::Style => style(body).map(Object::StyleOf).ok_or(ObjErr::Style(at)),
         Class::FlowSpec => flow_spec(at, body),
         Class::FilterSpec => Ok(Object::Filter(sender(body))),
         Class::SenderTemplate => Ok(Object::Template(sender(body))),
-        Class::SenderTspec => flow(body, GENERAL)
+        Class::SenderTspec => flow(body, service::GENERAL)
             .map(Object::Tspec)
             .ok_or(ObjErr::Tspec(at)),
-        Class::ResvConfirm => Ok(Object::Confirm(addr_at(body, places::RECEIVER))),
+        Class::ResvConfirm => Ok(Object::Confirm(addr_at(body, places::resv_confirm::RECEIVER))),
     }
 }
 
@@ -51,9 +47,9 @@ fn session(body: &[u8]) -> Session
     ensures { result ≡ spec.session_in body.now }
 {
     Session {
-        group: addr_at(body, places::GROUP),
-        proto: body[places::PROTO],
-        port: half_at(body, places::GROUP_PORT),
+        group: addr_at(body, places::session::GROUP),
+        proto: body[places::session::PROTO],
+        port: half_at(body, places::session::PORT),
     }
 }
 
@@ -62,8 +58,8 @@ fn hop(body: &[u8]) -> Hop
     ensures { result ≡ spec.hop_in body.now }
 {
     Hop {
-        addr: addr_at(body, places::HOP),
-        handle: word_at(body, places::HANDLE),
+        addr: addr_at(body, places::hop::ADDR),
+        handle: word_at(body, places::hop::HANDLE),
     }
 }
 
@@ -71,13 +67,13 @@ fn error(body: &[u8]) -> ErrSpec
     requires { length body.now ≡ 8 }
     ensures { result ≡ spec.error_in body.now }
 {
-    let flags = body[places::ERROR_FLAGS];
+    let flags = body[places::error_spec::FLAGS];
     ErrSpec {
-        node: addr_at(body, places::ERROR_NODE),
+        node: addr_at(body, places::error_spec::NODE),
         in_place: is_in_place(flags),
         not_guilty: is_not_guilty(flags),
-        code: body[places::ERROR_CODE],
-        value: half_at(body, places::ERROR_VALUE),
+        code: body[places::error_spec::CODE],
+        value: half_at(body, places::error_spec::VALUE),
     }
 }
 
@@ -86,8 +82,8 @@ fn sender(body: &[u8]) -> Sender
     ensures { result ≡ spec.sender_in body.now }
 {
     Sender {
-        addr: addr_at(body, places::SOURCE),
-        port: half_at(body, places::SOURCE_PORT),
+        addr: addr_at(body, places::sender::ADDR),
+        port: half_at(body, places::sender::PORT),
     }
 }
 
@@ -95,10 +91,10 @@ fn style(body: &[u8]) -> Option<StyleKind>
     requires { length body.now ≡ 4 }
     ensures { result ≡ spec.style_in body.now }
 {
-    match body[places::OPTIONS] % STYLE_BITS {
-        WILDCARD => Some(StyleKind::Wild),
-        FIXED => Some(StyleKind::Fixed),
-        SHARED_EXPLICIT => Some(StyleKind::Shared),
+    match body[places::style::OPTIONS] % options::FIVE_BITS {
+        options::WILDCARD => Some(StyleKind::Wild),
+        options::FIXED => Some(StyleKind::Fixed),
+        options::SHARED_EXPLICIT => Some(StyleKind::Shared),
         _ => None,
     }
 }
@@ -108,10 +104,12 @@ fn style(body: &[u8]) -> Option<StyleKind>
 fn flow_spec(at: u16, body: &[u8]) -> Result<Object, ObjErr>
     ensures { result ≡ contents_of at Class.FlowSpec body.now }
 {
-    if body.len() >= SERVICE_SEEN && body[places::SERVICE] != CONTROLLED_LOAD {
+    if body.len() >= places::flow::SERVICE_SEEN
+        && body[places::flow::SERVICE] != service::CONTROLLED_LOAD
+    {
         return Err(ObjErr::Service(at));
     }
-    flow(body, CONTROLLED_LOAD)
+    flow(body, service::CONTROLLED_LOAD)
         .map(Object::FlowOf)
         .ok_or(ObjErr::Flow(at))
 }
@@ -123,7 +121,7 @@ fn scope(body: &[u8]) -> Option<Senders>
 {
     let mut senders = Senders::new();
     let mut rest = body;
-    while rest.len() >= 4 {
+    while rest.len() >= places::ADDR_SIZE {
         let source = Sender {
             addr: addr_at(rest, 0),
             port: 0,
@@ -131,8 +129,9 @@ fn scope(body: &[u8]) -> Option<Senders>
         if senders.insert(source).is_err() {
             return None;
         }
-        rest = &rest[4..];
+        rest = &rest[places::ADDR_SIZE..];
     }
+    // What is known of the length, at most 16, is then at hand: a scope that was read is no crowd.
     let _ = senders.len();
     Some(senders)
 }

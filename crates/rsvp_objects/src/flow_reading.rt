@@ -4,9 +4,8 @@ ghost use Rattle.rsvp_objects.specs.FlowWords.{peak_in, peak_at, rate_at, has_he
 ghost use Rattle.rsvp_objects.specs.RateFault.{rate_word};
 
 use crate::fields::{half_at, word_at};
-use crate::places;
 use crate::rate_word::rate_of_word;
-use crate::words::{LENGTH_5, LENGTH_6, LENGTH_7, TOKEN_BUCKET, VERSION_0};
+use crate::{places, values};
 use rsvp_base::{Flow, Peak, Rate};
 
 /// The flow that the contents of a FLOWSPEC or SENDER_TSPEC of a service say. `None` where they are not the eight words.
@@ -14,7 +13,7 @@ use rsvp_base::{Flow, Peak, Rate};
 pub fn flow(body: &[u8], service: u8) -> Option<Flow>
     ensures { result ≡ flow_in service body.now }
 {
-    if body.len() != places::FLOW_SIZE || !has_heads(body, service) {
+    if body.len() != places::flow::SIZE || !has_heads(body, service) {
         return None;
     }
     bucket(body)
@@ -25,12 +24,12 @@ fn has_heads(body: &[u8], service: u8) -> bool
     requires { length body.now ≡ 32 }
     ensures { result ≡ has_heads service body.now }
 {
-    body[places::VERSION] / 16 == VERSION_0
-        && half_at(body, places::WORDS_BEHIND_VERSION) == LENGTH_7
-        && body[places::SERVICE] == service
-        && half_at(body, places::WORDS_BEHIND_SERVICE) == LENGTH_6
-        && body[places::PARAMETER] == TOKEN_BUCKET
-        && half_at(body, places::WORDS_BEHIND_PARAMETER) == LENGTH_5
+    body[places::flow::VERSION] / 16 == values::flow::VERSION
+        && half_at(body, places::flow::WORDS_BEHIND_VERSION) == values::flow::BEHIND_VERSION
+        && body[places::flow::SERVICE] == service
+        && half_at(body, places::flow::WORDS_BEHIND_SERVICE) == values::flow::BEHIND_SERVICE
+        && body[places::flow::PARAMETER] == values::flow::TOKEN_BUCKET
+        && half_at(body, places::flow::WORDS_BEHIND_PARAMETER) == values::flow::BEHIND_PARAMETER
 }
 
 // The flow in the other five.
@@ -39,11 +38,11 @@ fn bucket(body: &[u8]) -> Option<Flow>
     requires { length body.now ≡ 32 }
     ensures { result ≡ bucket_in body.now }
 {
-    let r = rate_at(body, places::RATE)?;
-    let b = rate_at(body, places::DEPTH)?;
-    let p = peak_at(body, places::PEAK)?;
-    let low = word_at(body, places::LOW);
-    let most = word_at(body, places::MOST);
+    let r = rate_at(body, places::flow::R)?;
+    let b = rate_at(body, places::flow::B)?;
+    let p = peak_at(body, places::flow::P)?;
+    let low = word_at(body, places::flow::LOW);
+    let most = word_at(body, places::flow::MOST);
     Flow::new(r, b, p, low, most)
 }
 

@@ -23,7 +23,7 @@ mod table;
 #[cfg(test)]
 mod tests;
 mod texts;
-mod words;
+mod values;
 mod writing;
 
 pub use class::Class;

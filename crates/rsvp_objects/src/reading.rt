@@ -21,7 +21,7 @@ pub fn next_object(bytes: &[u8], at: usize) -> Result<(Object, usize), ObjErr>
     ensures bounds { IfOk result (λ r. (at + 4 ≤ r.1) × (r.1 ≤ length bytes.now)) }
 {
     let head = head_at(bytes, at)?;
-    let body = &bytes[at + places::BODY..head.end];
+    let body = &bytes[at + places::object::CONTENTS..head.end];
     let object = object_with(at as u16, head.class, head.ctype, body)?;
     Ok((object, head.end))
 }
@@ -35,16 +35,16 @@ pub fn head_at(bytes: &[u8], at: usize) -> Result<Head, ObjErr>
     ensures bounds { IfOk result (λ h. (at + 4 ≤ h.end) × (h.end ≤ length bytes.now)) }
 {
     let left = &bytes[at..];
-    if left.len() < places::BODY {
+    if left.len() < places::object::CONTENTS {
         return Err(ObjErr::Short(at as u16));
     }
     let length = half_at(left, 0) as usize;
-    if length < places::BODY || length % 4 != 0 || left.len() < length {
+    if length < places::object::CONTENTS || length % 4 != 0 || left.len() < length {
         return Err(ObjErr::Length(at as u16));
     }
     Ok(Head {
-        class: left[places::CLASS],
-        ctype: left[places::CTYPE],
+        class: left[places::object::CLASS],
+        ctype: left[places::object::CTYPE],
         end: at + length,
     })
 }

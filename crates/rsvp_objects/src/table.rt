@@ -1,5 +1,5 @@
 //! The table of objects.
-ghost use Rattle.std.specs.Prelude.{◌≡◌, ◌||◌, is_some, IfSome};
+ghost use Rattle.std.specs.Prelude.{◌≡◌, ◌||◌, is_some};
 ghost use Rattle.rsvp_objects.specs.Classes.{class_number, ctype_of, size_of, class_with, is_skipped};
 
 use crate::class::Class;

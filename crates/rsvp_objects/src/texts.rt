@@ -9,9 +9,8 @@ ghost use Rattle.rsvp_objects.specs.Spelling.{spelt, spelt_as};
 
 use crate::class::Class;
 use crate::flags::{error_flags, session_flags};
-use crate::places;
 use crate::rate_word::word_of_rate;
-use crate::words::{FIXED, LENGTH_5, LENGTH_6, LENGTH_7, SHARED_EXPLICIT, TOKEN_BUCKET, WILDCARD};
+use crate::{places, values};
 use byteorder::{BigEndian, ByteOrder};
 use rsvp_base::{Addr, ErrSpec, Flow, Hop, Peak, Sender, Session, StyleKind};
 
@@ -21,8 +20,8 @@ pub fn put_head(text: &mut [u8], class: Class, size: u16)
     ensures { text.new ≡ half size ++ class_number class ∷ ctype_of class ∷ drop 4 text.old }
 {
     BigEndian::write_u16(text, size);
-    text[places::CLASS] = class.number();
-    text[places::CTYPE] = class.ctype();
+    text[places::object::CLASS] = class.number();
+    text[places::object::CTYPE] = class.ctype();
 }
 
 /// SESSION.
@@ -31,11 +30,11 @@ pub fn session(session: &Session, police: bool) -> [u8; 12]
 {
     let mut text = [0; 12];
     put_head(&mut text, Class::Session, 12);
-    let body = &mut text[places::BODY..];
-    BigEndian::write_u32(&mut body[places::GROUP..], session.group.0);
-    body[places::PROTO] = session.proto;
-    body[places::SESSION_FLAGS] = session_flags(police);
-    BigEndian::write_u16(&mut body[places::GROUP_PORT..], session.port);
+    let body = &mut text[places::object::CONTENTS..];
+    BigEndian::write_u32(&mut body[places::session::GROUP..], session.group.0);
+    body[places::session::PROTO] = session.proto;
+    body[places::session::FLAGS] = session_flags(police);
+    BigEndian::write_u16(&mut body[places::session::PORT..], session.port);
     text
 }
 
@@ -45,9 +44,9 @@ pub fn hop(hop: Hop) -> [u8; 12]
 {
     let mut text = [0; 12];
     put_head(&mut text, Class::RsvpHop, 12);
-    let body = &mut text[places::BODY..];
-    BigEndian::write_u32(&mut body[places::HOP..], hop.addr.0);
-    BigEndian::write_u32(&mut body[places::HANDLE..], hop.handle);
+    let body = &mut text[places::object::CONTENTS..];
+    BigEndian::write_u32(&mut body[places::hop::ADDR..], hop.addr.0);
+    BigEndian::write_u32(&mut body[places::hop::HANDLE..], hop.handle);
     text
 }
 
@@ -57,7 +56,10 @@ pub fn time(period: u32) -> [u8; 8]
 {
     let mut text = [0; 8];
     put_head(&mut text, Class::TimeValues, 8);
-    BigEndian::write_u32(&mut text[places::BODY + places::PERIOD..], period);
+    BigEndian::write_u32(
+        &mut text[places::object::CONTENTS + places::time_values::PERIOD..],
+        period,
+    );
     text
 }
 
@@ -67,11 +69,11 @@ pub fn error(error: &ErrSpec) -> [u8; 12]
 {
     let mut text = [0; 12];
     put_head(&mut text, Class::ErrorSpec, 12);
-    let body = &mut text[places::BODY..];
-    BigEndian::write_u32(&mut body[places::ERROR_NODE..], error.node.0);
-    body[places::ERROR_FLAGS] = error_flags(error.in_place, error.not_guilty);
-    body[places::ERROR_CODE] = error.code;
-    BigEndian::write_u16(&mut body[places::ERROR_VALUE..], error.value);
+    let body = &mut text[places::object::CONTENTS..];
+    BigEndian::write_u32(&mut body[places::error_spec::NODE..], error.node.0);
+    body[places::error_spec::FLAGS] = error_flags(error.in_place, error.not_guilty);
+    body[places::error_spec::CODE] = error.code;
+    BigEndian::write_u16(&mut body[places::error_spec::VALUE..], error.value);
     text
 }
 
@@ -81,7 +83,7 @@ pub fn style(kind: StyleKind) -> [u8; 8]
 {
     let mut text = [0; 8];
     put_head(&mut text, Class::Style, 8);
-    text[places::BODY + places::OPTIONS] = style_number(kind);
+    text[places::object::CONTENTS + places::style::OPTIONS] = style_number(kind);
     text
 }
 
@@ -89,9 +91,9 @@ fn style_number(kind: StyleKind) -> u8
     ensures { result ≡ style_number kind }
 {
     match kind {
-        StyleKind::Wild => WILDCARD,
-        StyleKind::Fixed => FIXED,
-        StyleKind::Shared => SHARED_EXPLICIT,
+        StyleKind::Wild => values::style::WILDCARD,
+        StyleKind::Fixed => values::style::FIXED,
+        StyleKind::Shared => values::style::SHARED_EXPLICIT,
     }
 }
 
@@ -101,9 +103,9 @@ pub fn sender(class: Class, sender: Sender) -> [u8; 12]
 {
     let mut text = [0; 12];
     put_head(&mut text, class, 12);
-    let body = &mut text[places::BODY..];
-    BigEndian::write_u32(&mut body[places::SOURCE..], sender.addr.0);
-    BigEndian::write_u16(&mut body[places::SOURCE_PORT..], sender.port);
+    let body = &mut text[places::object::CONTENTS..];
+    BigEndian::write_u32(&mut body[places::sender::ADDR..], sender.addr.0);
+    BigEndian::write_u16(&mut body[places::sender::PORT..], sender.port);
     text
 }
 
@@ -113,7 +115,10 @@ pub fn confirm(receiver: Addr) -> [u8; 8]
 {
     let mut text = [0; 8];
     put_head(&mut text, Class::ResvConfirm, 8);
-    BigEndian::write_u32(&mut text[places::BODY + places::RECEIVER..], receiver.0);
+    BigEndian::write_u32(
+        &mut text[places::object::CONTENTS + places::resv_confirm::RECEIVER..],
+        receiver.0,
+    );
     text
 }
 
@@ -123,22 +128,31 @@ pub fn flow(class: Class, service: u8, flow: &Flow) -> [u8; 36]
 {
     let mut text = [0; 36];
     put_head(&mut text, class, 36);
-    let body = &mut text[places::BODY..];
-    BigEndian::write_u16(&mut body[places::WORDS_BEHIND_VERSION..], LENGTH_7);
-    body[places::SERVICE] = service;
-    BigEndian::write_u16(&mut body[places::WORDS_BEHIND_SERVICE..], LENGTH_6);
-    body[places::PARAMETER] = TOKEN_BUCKET;
-    BigEndian::write_u16(&mut body[places::WORDS_BEHIND_PARAMETER..], LENGTH_5);
+    let body = &mut text[places::object::CONTENTS..];
+    BigEndian::write_u16(
+        &mut body[places::flow::WORDS_BEHIND_VERSION..],
+        values::flow::BEHIND_VERSION,
+    );
+    body[places::flow::SERVICE] = service;
+    BigEndian::write_u16(
+        &mut body[places::flow::WORDS_BEHIND_SERVICE..],
+        values::flow::BEHIND_SERVICE,
+    );
+    body[places::flow::PARAMETER] = values::flow::TOKEN_BUCKET;
+    BigEndian::write_u16(
+        &mut body[places::flow::WORDS_BEHIND_PARAMETER..],
+        values::flow::BEHIND_PARAMETER,
+    );
     BigEndian::write_u32(
-        &mut body[places::RATE..],
+        &mut body[places::flow::R..],
         word_of_rate(Peak::Finite(flow.r)),
     );
     BigEndian::write_u32(
-        &mut body[places::DEPTH..],
+        &mut body[places::flow::B..],
         word_of_rate(Peak::Finite(flow.b)),
     );
-    BigEndian::write_u32(&mut body[places::PEAK..], word_of_rate(flow.p));
-    BigEndian::write_u32(&mut body[places::LOW..], flow.low);
-    BigEndian::write_u32(&mut body[places::MOST..], flow.most);
+    BigEndian::write_u32(&mut body[places::flow::P..], word_of_rate(flow.p));
+    BigEndian::write_u32(&mut body[places::flow::LOW..], flow.low);
+    BigEndian::write_u32(&mut body[places::flow::MOST..], flow.most);
     text
 }

@@ -1,5 +1,5 @@
 //! Writing objects.
-ghost use Rattle.std.specs.Prelude.{◌≡◌, ◌≤◌, ◌<◌, ◌+◌, ◌++◌, ◌∷◌, [], ◌↔◌, length, OnOk, OnErr, IsErr};
+ghost use Rattle.std.specs.Prelude.{◌≡◌, ◌≤◌, ◌<◌, ◌+◌, ◌++◌, ◌↔◌, length, OnOk, OnErr, IsErr};
 ghost use Rattle.rsvp_objects.specs.declared.class.Class.TheVariants as Class;
 ghost use Rattle.rsvp_objects.specs.Contents.{source_bytes, scope_bytes};
 ghost use Rattle.rsvp_objects.specs.Spelling.{spelt_as, spelling};
@@ -7,8 +7,8 @@ ghost use Rattle.rsvp_objects.specs.Spelling.{spelt_as, spelling};
 use crate::class::Class;
 use crate::object::Object;
 use crate::packet::Packet;
-use crate::texts;
-use crate::words::{CONTROLLED_LOAD, GENERAL};
+use crate::values::service;
+use crate::{places, texts};
 use arrayvec::ArrayVec;
 use byteorder::{BigEndian, ByteOrder};
 use rsvp_base::{Full, Sender, Senders};
@@ -30,10 +30,18 @@ pub fn put_object(object: &Object, packet: &mut Packet) -> Result<(), Full>
         Object::Error(error) => packet.append(&texts::error(error)),
         Object::Scope(senders) => packet.append(scope(senders).as_slice()),
         Object::StyleOf(style) => packet.append(&texts::style(*style)),
-        Object::FlowOf(flow) => packet.append(&texts::flow(Class::FlowSpec, CONTROLLED_LOAD, flow)),
+        Object::FlowOf(flow) => packet.append(&texts::flow(
+            Class::FlowSpec,
+            service::CONTROLLED_LOAD,
+            flow,
+        )),
         Object::Filter(sender) => packet.append(&texts::sender(Class::FilterSpec, *sender)),
         Object::Template(sender) => packet.append(&texts::sender(Class::SenderTemplate, *sender)),
-        Object::Tspec(flow) => packet.append(&texts::flow(Class::SenderTspec, GENERAL, flow)),
+        Object::Tspec(flow) => packet.append(&texts::flow(
+            Class::SenderTspec,
+            service::GENERAL,
+            flow,
+        )),
         Object::Confirm(receiver) => packet.append(&texts::confirm(*receiver)),
         Object::Skipped { class } => packet.append(&[0, 4, *class, 0]),
     }
@@ -59,7 +67,7 @@ fn put_source(source: Sender, text: &mut ArrayVec<u8, MOST_SCOPE>)
     requires { length text.old.items ≤ 64 }
     ensures { text.new.items ≡ text.old.items ++ source_bytes source }
 {
-    let mut addr = [0; 4];
+    let mut addr = [0; places::ADDR_SIZE];
     BigEndian::write_u32(&mut addr, source.addr.0);
     let _ = text.try_extend_from_slice(&addr);
 }
