@@ -1,5 +1,5 @@
 -- What was put is read again.
-use Rattle.std.proofs.Common.{subst, length-append, ◌≡◌, ℕ, ◌+◌, ◌*◌, ◌-◌, ◌/◌, ◌%◌, ◌^◌, ◌<◌, ◌≤◌, Bool, true, false, List, [], ◌∷◌, ◌++◌, length, take, drop, Option, Some, None, Result, Ok, refl, sym, ap, ◌∙◌, arith}
+use Rattle.std.proofs.Common.{length-append, ◌≡◌, ℕ, ◌+◌, ◌*◌, ◌-◌, ◌/◌, ◌%◌, ◌^◌, ◌<◌, ◌≤◌, Bool, true, false, List, [], ◌∷◌, ◌++◌, length, take, drop, Some, Result, Ok, refl, sym, ap, ◌∙◌, arith}
 use Rattle.std.specs.List.{AllByRecursion, flat_map}
 use Rattle.std.proofs.Math.Seq.{drop-append_seam, drop-append-add}
 use Rattle.std.proofs.lemmas.List.{length-map, take_at}
@@ -9,9 +9,7 @@ use Rattle.rsvp_base.specs.Orders.{Names, names_from, senders}
 use Rattle.rsvp_base.specs.Sets.{union}
 use Rattle.rsvp_base.specs.Table.{empty, keys, size}
 use Rattle.rsvp_base.specs.TokenBucket.{TokenBucket}
-use Rattle.rsvp_base.specs.declared.err_spec.ErrSpec.{ErrSpec}
-use Rattle.rsvp_base.specs.declared.flow.Peak.{Peak}
-use Rattle.rsvp_base.specs.declared.flow.Peak.TheVariants.{Finite, Infinite}
+use Rattle.rsvp_base.specs.declared.flow.Peak.TheVariants.{Finite}
 use Rattle.rsvp_base.specs.declared.session.Sender.{Sender}
 use Rattle.rsvp_base.specs.declared.style.StyleKind.TheVariants.{Wild, Fixed, Shared}
 use Rattle.rsvp_base.proofs.Lists.{with_keys-union}
@@ -19,16 +17,14 @@ use Rattle.rsvp_base.proofs.SetLaws.{same_set, has-union}
 use Rattle.rsvp_objects.specs.declared.object.Object.{Object}
 use Rattle.rsvp_objects.specs.declared.object.Object.TheVariants as object
 use Rattle.rsvp_objects.specs.declared.obj_err.ObjErr.{ObjErr}
-use Rattle.rsvp_objects.specs.Fields.{byte_at, half_at, has_flag, flag_if, word}
+use Rattle.rsvp_objects.specs.Fields.{byte_at, half_at, has_flag, flag_if}
 use Rattle.rsvp_objects.specs.Classes.{class_with}
 use Rattle.rsvp_objects.specs.Contents.{e_police, in_place, not_guilty, source, sources_in, scope_in, source_bytes, scope_bytes}
-use Rattle.rsvp_objects.specs.FlowWords.{flow_in, bucket_in, flow_bytes, peak_in}
-use Rattle.rsvp_objects.specs.RateFault.{rate_word}
-use Rattle.rsvp_objects.specs.RateLaws.{IsPeak, HasOneWord}
+use Rattle.rsvp_objects.specs.FlowWords.{flow_in, bucket_in, flow_bytes}
 use Rattle.rsvp_objects.specs.RateWord.{word_of}
 use Rattle.rsvp_objects.specs.Reading.{head_of, body_of, contents_of, by_head, with_end, object_at}
 use Rattle.rsvp_objects.specs.Spelling.{spelling}
-use Rattle.rsvp_objects.specs.Proper.{class_of, ctype_with, IsAddr, IsSource, IsScope, IsFlow, IsProper, IsWholeWords}
+use Rattle.rsvp_objects.specs.Proper.{class_of, ctype_with, IsSource, IsFlow, IsProper, IsWholeWords}
 use Rattle.rsvp_objects.proofs.Sources.{fours}
 use Rattle.rsvp_objects.proofs.WordLaws.{each_rate_has_one_word}
 

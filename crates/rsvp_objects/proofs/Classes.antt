@@ -1,12 +1,11 @@
 -- An object has the class under which it was read.
-use Rattle.std.proofs.Common.{◌≡◌, ℕ, Bool, true, false, List, length, Option, Some, None, Result, Ok, Err, refl, sym, ap, ◌∙◌, inl, inr}
+use Rattle.std.proofs.Common.{◌≡◌, ℕ, Bool, true, false, List, Option, Some, None, Result, Ok, refl, sym, ap, ◌∙◌, inl, inr}
 use Rattle.std.specs.Prelude.{not, nat_lt, ◌==◌, ◌⊎◌, if◌then◌else◌}
 use Rattle.std.proofs.lemmas.Bool.{eqb-true}
 use Rattle.rsvp_base.specs.Table.{size}
 use Rattle.rsvp_objects.specs.declared.class.Class.{Class}
 use Rattle.rsvp_objects.specs.declared.class.Class.TheVariants as class
 use Rattle.rsvp_objects.specs.declared.object.Object.{Object}
-use Rattle.rsvp_objects.specs.declared.object.Object.TheVariants as object
 use Rattle.rsvp_objects.specs.declared.obj_err.ObjErr.{ObjErr}
 use Rattle.rsvp_objects.specs.Classes.{is_skipped, class_number, class_with, ctype_of, size_of, has_size}
 use Rattle.rsvp_objects.specs.Contents.{scope_in}

@@ -6,7 +6,7 @@ use Rattle.rsvp_base.specs.declared.flow.Peak.{Peak}
 use Rattle.rsvp_base.specs.declared.flow.Peak.TheVariants.{Finite, Infinite}
 use Rattle.rsvp_objects.specs.declared.rate_err.RateErr.{RateErr}
 use Rattle.rsvp_objects.specs.declared.rate_err.RateErr.TheVariants.{Signed, NotANumber, Fraction, Large}
-use Rattle.rsvp_objects.specs.RateWord.{sign, exponent, fraction, IsNormal, StandsFor}
+use Rattle.rsvp_objects.specs.RateWord.{exponent, fraction, IsNormal, StandsFor}
 use Rattle.rsvp_objects.specs.RateFault.{IsFirstFault, whole_number, rate_word}
 
 abbrev answer : Result Peak RateErr → Result Peak RateErr

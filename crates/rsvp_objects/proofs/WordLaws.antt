@@ -1,11 +1,10 @@
 -- The laws of rates and words.
-use Rattle.std.proofs.Common.{◌≡◌, ℕ, ◌+◌, ◌-◌, ◌*◌, ◌/◌, ◌%◌, ◌^◌, ◌<◌, ◌≤◌, Result, Ok, Err, refl, sym, ap, subst, ◌∙◌, arith, inl, inr}
-use Rattle.rsvp_base.specs.Rates.{IsRate}
+use Rattle.std.proofs.Common.{◌≡◌, ◌^◌, ◌<◌, Result, Ok, refl, sym, ◌∙◌, arith}
 use Rattle.rsvp_base.specs.declared.flow.Peak.{Peak}
 use Rattle.rsvp_base.specs.declared.flow.Peak.TheVariants.{Finite, Infinite}
 use Rattle.rsvp_objects.specs.declared.rate_err.RateErr.{RateErr}
 use Rattle.rsvp_objects.specs.RateWord.{StandsFor, word_of}
-use Rattle.rsvp_objects.specs.RateLaws.{IsPeak, HasOneWord, EachRateHasOneWord, RatesAreTheNumbersWithAWord, AWordStandsForOneRate}
+use Rattle.rsvp_objects.specs.RateLaws.{IsPeak, EachRateHasOneWord, RatesAreTheNumbersWithAWord, AWordStandsForOneRate}
 use Rattle.rsvp_objects.proofs.Normal.{word_spells, word_short}
 use Rattle.rsvp_objects.proofs.Scaled.{one_word, rate_of_word_number}
 use Rattle.rsvp_objects.proofs.WordAnswers.{read_rate}

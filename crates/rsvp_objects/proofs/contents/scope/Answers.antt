@@ -1,9 +1,8 @@
-use Rattle.std.proofs.Common.{◌≡◌, ◌<◌, ℕ, ◌∷◌, refl, sym, ap, subst, ◌∙◌, arith, drop}
+use Rattle.std.proofs.Common.{◌≡◌, ◌<◌, ◌∷◌, refl, sym, ap, subst, ◌∙◌, arith, drop}
 use Rattle.rsvp_base.specs.Table.{size}
 use Rattle.rsvp_base.specs.Sets.{with_key, with_keys, listed}
 use Rattle.rsvp_base.specs.Orders.{senders}
 use Rattle.rsvp_base.specs.declared.addr.Addr.{Addr}
-use Rattle.rsvp_base.specs.declared.session.Sender.{Sender}
 use Rattle.rsvp_base.proofs.SetLaws.{size-with_rows}
 use Rattle.rsvp_objects.specs.Fields.{word_at}
 use Rattle.rsvp_objects.specs.Contents.{source, sources_in, scope_in}
