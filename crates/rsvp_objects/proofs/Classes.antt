@@ -12,14 +12,14 @@ use Rattle.rsvp_objects.specs.Contents.{scope_in}
 use Rattle.rsvp_objects.specs.Reading.{or_fault, is_other_service, contents_of, by_class, body_of}
 use Rattle.rsvp_objects.specs.Proper.{class_of, ObjectsHaveTheirClass}
 
-abbrev read : Object → Result Object ObjErr
+abbrev pub read : Object → Result Object ObjErr
 read x = Ok x
 
-is_read : {x y : Object} → read x ≡ read y → x ≡ y
+pub is_read : {x y : Object} → read x ≡ read y → x ≡ y
 is_read e = cc
 
 -- a choice is one or the other
-chosen : {A : Type 0} (b : Bool) (x y z : A) → (if b then x else y) ≡ z → ((b ≡ true) × (x ≡ z)) ⊎ ((b ≡ false) × (y ≡ z))
+pub chosen : {A : Type 0} (b : Bool) (x y z : A) → (if b then x else y) ≡ z → ((b ≡ true) × (x ≡ z)) ⊎ ((b ≡ false) × (y ≡ z))
 chosen true x y z e = inl (refl, e)
 chosen false x y z e = inr (refl, e)
 

@@ -5,3 +5,4 @@ pub mod WordLaws
 pub mod Sources
 pub mod Again
 pub mod Classes
+pub mod ReadProper

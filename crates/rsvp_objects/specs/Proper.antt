@@ -116,3 +116,10 @@ SpellingsAreWholeWords = (x : Object) → IsProper x → IsWholeWords (spelling 
 -- an object has the class under which it was read
 abbrev pub ObjectsHaveTheirClass : Type 0
 ObjectsHaveTheirClass = (at n ctype : ℕ) (body : List ℕ) (x : Object) → body_of at n ctype body ≡ Ok x → class_of x ≡ n
+
+abbrev pub AreBytes : List ℕ → Type 0
+AreBytes bytes = AllByRecursion (λ b. b < 2 ^ 8) bytes
+
+-- what is read has a spelling that is read as it
+abbrev pub WhatIsReadIsProper : Type 0
+WhatIsReadIsProper = (bytes : List ℕ) (at next : ℕ) (x : Object) → AreBytes bytes → object_at at bytes ≡ Ok (x, next) → IsProper x

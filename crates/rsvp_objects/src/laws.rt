@@ -1,6 +1,6 @@
 //! The laws of rates and words, and of objects and their spellings.
 ghost use Rattle.rsvp_objects.specs.RateLaws.{EachRateHasOneWord, RatesAreTheNumbersWithAWord, AWordStandsForOneRate};
-ghost use Rattle.rsvp_objects.specs.Proper.{WhatWasPutIsReadAgain, SpellingsAreWholeWords, ObjectsHaveTheirClass};
+ghost use Rattle.rsvp_objects.specs.Proper.{WhatWasPutIsReadAgain, WhatIsReadIsProper, SpellingsAreWholeWords, ObjectsHaveTheirClass};
 
 /// Each rate, and infinity, has exactly one word.
 #[tactic(auto, using(crate::proofs::WordLaws::each_rate_has_one_word))]
@@ -24,6 +24,12 @@ pub fn a_word_stands_for_one_rate()
 #[tactic(auto, using(crate::proofs::Again::read_again))]
 pub fn what_was_put_is_read_again()
     ensures { WhatWasPutIsReadAgain }
+{}
+
+/// What is read can be put and read again: its numbers fit their fields, its flow is sound, and its scope has no ports.
+#[tactic(auto, using(crate::proofs::ReadProper::what_is_read_is_proper))]
+pub fn what_is_read_is_proper()
+    ensures { WhatIsReadIsProper }
 {}
 
 /// A spelling is whole words of four bytes, from 4 to 68 bytes.
