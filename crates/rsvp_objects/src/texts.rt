@@ -1,5 +1,5 @@
 //! The bytes of objects of fixed size.
-ghost use Rattle.std.specs.Prelude.{◌≡◌, ◌≤◌, ◌+◌, ◌++◌, ◌∷◌, length, drop};
+ghost use Rattle.std.specs.Prelude.{◌≡◌, ◌≤◌, ◌+◌, ◌++◌, ◌∷◌, [], length, drop};
 ghost use Rattle.rsvp_objects.specs.declared.class.Class.TheVariants as Class;
 ghost use Rattle.rsvp_objects.specs.Classes.{class_number, ctype_of};
 ghost use Rattle.rsvp_objects.specs.Fields.{half};
@@ -22,6 +22,16 @@ pub fn put_head(text: &mut [u8], class: Class, size: u16)
     BigEndian::write_u16(text, size);
     text[places::object::CLASS] = class.number();
     text[places::object::CTYPE] = class.ctype();
+}
+
+/// An object that is skipped: a head alone.
+pub fn skipped(class: u8) -> [u8; 4]
+    ensures { result ≡ spelt class 0 [] }
+{
+    let mut text = [0; 4];
+    BigEndian::write_u16(&mut text, 4);
+    text[places::object::CLASS] = class;
+    text
 }
 
 /// SESSION.

@@ -43,7 +43,7 @@ pub fn put_object(object: &Object, packet: &mut Packet) -> Result<(), Full>
             flow,
         )),
         Object::Confirm(receiver) => packet.append(&texts::confirm(*receiver)),
-        Object::Skipped { class } => packet.append(&[0, 4, *class, 0]),
+        Object::Skipped { class } => packet.append(&texts::skipped(*class)),
     }
 }
 
