@@ -1,0 +1,137 @@
+//! What the contents of objects say.
+ghost use Rattle.std.specs.Prelude.{◌≡◌, ◌<◌, ◌↔◌, length, IfSome, IsNone};
+ghost use Rattle.rsvp_base.specs.Table.{size};
+ghost use Rattle.rsvp_objects.specs.Contents as spec;
+ghost use Rattle.rsvp_objects.specs.Contents.{scope_in};
+ghost use Rattle.rsvp_objects.specs.declared.class.Class.TheVariants as Class;
+ghost use Rattle.rsvp_objects.specs.Reading.{contents_of, IsSized};
+
+use crate::class::Class;
+use crate::fields::{addr_at, half_at, word_at};
+use crate::flags::{is_in_place, is_not_guilty, is_police};
+use crate::flow_reading::flow;
+use crate::obj_err::ObjErr;
+use crate::object::Object;
+use crate::places;
+use crate::values::{service, style as options};
+use rsvp_base::{Addr, ErrSpec, Hop, Sender, Senders, Session, StyleKind};
+
+/// The object with these contents, which have the size of their class, or its fault. `at` is its place.
+#[tactic(auto, unfolding(crate::specs::Reading::contents_of))]
+pub fn contents(at: u16, class: Class, body: &[u8]) -> Result<Object, ObjErr>
+    requires size { IsSized class body.now }
+    ensures { result ≡ contents_of at class body.now }
+{
+    match class {
+        Class::Session => Ok(Object::Session {
+            session: session(body),
+            police: is_police(body[places::session::FLAGS]),
+        }),
+        Class::RsvpHop => Ok(Object::HopOf(hop(body))),
+        Class::TimeValues => Ok(Object::Time(word_at(body, places::time_values::PERIOD))),
+        Class::ErrorSpec => Ok(Object::Error(error(body))),
+        Class::Scope => scope(body).map(Object::Scope).ok_or(ObjErr::Crowd(at)),
+        Class::Style => style(body).map(Object::StyleOf).ok_or(ObjErr::Style(at)),
+        Class::FlowSpec => flow_spec(at, body),
+        Class::FilterSpec => Ok(Object::Filter(sender(body))),
+        Class::SenderTemplate => Ok(Object::Template(sender(body))),
+        Class::SenderTspec => flow(body, service::GENERAL)
+            .map(Object::Tspec)
+            .ok_or(ObjErr::Tspec(at)),
+        Class::ResvConfirm => Ok(Object::Confirm(addr_at(body, places::resv_confirm::RECEIVER))),
+    }
+}
+
+fn session(body: &[u8]) -> Session
+    requires { length body.now ≡ 8 }
+    ensures { result ≡ spec.session_in body.now }
+{
+    Session {
+        group: addr_at(body, places::session::GROUP),
+        proto: body[places::session::PROTO],
+        port: half_at(body, places::session::PORT),
+    }
+}
+
+fn hop(body: &[u8]) -> Hop
+    requires { length body.now ≡ 8 }
+    ensures { result ≡ spec.hop_in body.now }
+{
+    Hop {
+        addr: addr_at(body, places::hop::ADDR),
+        handle: word_at(body, places::hop::HANDLE),
+    }
+}
+
+fn error(body: &[u8]) -> ErrSpec
+    requires { length body.now ≡ 8 }
+    ensures { result ≡ spec.error_in body.now }
+{
+    let flags = body[places::error_spec::FLAGS];
+    ErrSpec {
+        node: addr_at(body, places::error_spec::NODE),
+        in_place: is_in_place(flags),
+        not_guilty: is_not_guilty(flags),
+        code: body[places::error_spec::CODE],
+        value: half_at(body, places::error_spec::VALUE),
+    }
+}
+
+fn sender(body: &[u8]) -> Sender
+    requires { length body.now ≡ 8 }
+    ensures { result ≡ spec.sender_in body.now }
+{
+    Sender {
+        addr: addr_at(body, places::sender::ADDR),
+        port: half_at(body, places::sender::PORT),
+    }
+}
+
+fn style(body: &[u8]) -> Option<StyleKind>
+    requires { length body.now ≡ 4 }
+    ensures { result ≡ spec.style_in body.now }
+{
+    match body[places::style::OPTIONS] % options::FIVE_BITS {
+        options::WILDCARD => Some(StyleKind::Wild),
+        options::FIXED => Some(StyleKind::Fixed),
+        options::SHARED_EXPLICIT => Some(StyleKind::Shared),
+        _ => None,
+    }
+}
+
+// The service is looked at before the words, so that a flow of another service has a fault of its own.
+#[tactic(auto, unfolding(crate::specs::Reading::contents_of))]
+fn flow_spec(at: u16, body: &[u8]) -> Result<Object, ObjErr>
+    ensures { result ≡ contents_of at Class.FlowSpec body.now }
+{
+    if body.len() >= places::flow::SERVICE_SEEN
+        && body[places::flow::SERVICE] != service::CONTROLLED_LOAD
+    {
+        return Err(ObjErr::Service(at));
+    }
+    flow(body, service::CONTROLLED_LOAD)
+        .map(Object::FlowOf)
+        .ok_or(ObjErr::Flow(at))
+}
+
+// The addresses of a SCOPE. `None` exactly where they are more than 16.
+fn scope(body: &[u8]) -> Option<Senders>
+    ensures some { IfSome result (λ s. s ≡ scope_in body.now) }
+    ensures none { IsNone result ↔ (16 < size (scope_in body.now)) }
+{
+    let mut senders = Senders::new();
+    let mut rest = body;
+    while rest.len() >= places::ADDR_SIZE {
+        let source = Sender {
+            addr: addr_at(rest, 0),
+            port: 0,
+        };
+        if senders.insert(source).is_err() {
+            return None;
+        }
+        rest = &rest[places::ADDR_SIZE..];
+    }
+    // What is known of the length, at most 16, is then at hand: a scope that was read is no crowd.
+    let _ = senders.len();
+    Some(senders)
+}
