@@ -1,0 +1,4 @@
+pub mod Scaled
+pub mod Normal
+pub mod WordAnswers
+pub mod WordLaws

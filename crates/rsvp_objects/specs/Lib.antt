@@ -1,0 +1,3 @@
+pub mod RateWord
+pub mod RateFault
+pub mod RateLaws
