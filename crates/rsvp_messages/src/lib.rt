@@ -6,10 +6,12 @@
 #![tactic(auto)]
 
 mod ask;
+mod fault;
 mod fixed_list;
 mod message;
 
 pub use ask::{Ask, Blame, Tear};
+pub use fault::{Fault, Hint, MsgErr};
 pub use fixed_list::FixedList;
 pub use message::{
     Kind, Message, PathErrMsg, PathMsg, PathTearMsg, ResvConfMsg, ResvErrMsg, ResvMsg, ResvTearMsg,
