@@ -5,11 +5,34 @@
 //! No call takes memory.
 #![tactic(auto)]
 
+mod class;
+mod contents;
+mod fields;
+mod flags;
+mod flow_reading;
+mod head;
 pub mod laws;
+mod obj_err;
+mod object;
+mod packet;
+mod places;
 mod rate_err;
 mod rate_word;
+mod reading;
+mod table;
 #[cfg(test)]
 mod tests;
+mod texts;
+mod words;
+mod writing;
 
+pub use class::Class;
+pub use head::Head;
+pub use obj_err::ObjErr;
+pub use object::Object;
+pub use packet::Packet;
 pub use rate_err::RateErr;
 pub use rate_word::{rate_of_word, word_of_rate};
+pub use reading::{head_at, next_object, object_with};
+pub use table::{is_known, is_skipped};
+pub use writing::put_object;

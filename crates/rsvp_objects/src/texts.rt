@@ -1,0 +1,138 @@
+//! The bytes of objects of fixed size.
+ghost use Rattle.std.specs.Prelude.{◌≡◌, ◌≤◌, ◌+◌, ◌++◌, ◌∷◌, length, drop};
+ghost use Rattle.rsvp_objects.specs.declared.class.Class.TheVariants as Class;
+ghost use Rattle.rsvp_objects.specs.Classes.{class_number, ctype_of};
+ghost use Rattle.rsvp_objects.specs.Fields.{half};
+ghost use Rattle.rsvp_objects.specs.Contents.{session_bytes, hop_bytes, period_bytes, error_bytes, style_number, style_bytes, sender_bytes, confirm_bytes};
+ghost use Rattle.rsvp_objects.specs.FlowWords.{flow_bytes};
+ghost use Rattle.rsvp_objects.specs.Spelling.{spelt, spelt_as};
+
+use crate::class::Class;
+use crate::flags::{error_flags, session_flags};
+use crate::places;
+use crate::rate_word::word_of_rate;
+use crate::words::{FIXED, LENGTH_5, LENGTH_6, LENGTH_7, SHARED_EXPLICIT, TOKEN_BUCKET, WILDCARD};
+use byteorder::{BigEndian, ByteOrder};
+use rsvp_base::{Addr, ErrSpec, Flow, Hop, Peak, Sender, Session, StyleKind};
+
+/// Writes the head of an object of the class, whose text has this many bytes, over the first four.
+pub fn put_head(text: &mut [u8], class: Class, size: u16)
+    requires { 4 ≤ length text.old }
+    ensures { text.new ≡ half size ++ class_number class ∷ ctype_of class ∷ drop 4 text.old }
+{
+    BigEndian::write_u16(text, size);
+    text[places::CLASS] = class.number();
+    text[places::CTYPE] = class.ctype();
+}
+
+/// SESSION.
+pub fn session(session: &Session, police: bool) -> [u8; 12]
+    ensures { result ≡ spelt_as Class.Session (session_bytes session.now police) }
+{
+    let mut text = [0; 12];
+    put_head(&mut text, Class::Session, 12);
+    let body = &mut text[places::BODY..];
+    BigEndian::write_u32(&mut body[places::GROUP..], session.group.0);
+    body[places::PROTO] = session.proto;
+    body[places::SESSION_FLAGS] = session_flags(police);
+    BigEndian::write_u16(&mut body[places::GROUP_PORT..], session.port);
+    text
+}
+
+/// RSVP_HOP.
+pub fn hop(hop: Hop) -> [u8; 12]
+    ensures { result ≡ spelt_as Class.RsvpHop (hop_bytes hop) }
+{
+    let mut text = [0; 12];
+    put_head(&mut text, Class::RsvpHop, 12);
+    let body = &mut text[places::BODY..];
+    BigEndian::write_u32(&mut body[places::HOP..], hop.addr.0);
+    BigEndian::write_u32(&mut body[places::HANDLE..], hop.handle);
+    text
+}
+
+/// TIME_VALUES, of a refresh period in milliseconds.
+pub fn time(period: u32) -> [u8; 8]
+    ensures { result ≡ spelt_as Class.TimeValues (period_bytes period) }
+{
+    let mut text = [0; 8];
+    put_head(&mut text, Class::TimeValues, 8);
+    BigEndian::write_u32(&mut text[places::BODY + places::PERIOD..], period);
+    text
+}
+
+/// ERROR_SPEC.
+pub fn error(error: &ErrSpec) -> [u8; 12]
+    ensures { result ≡ spelt_as Class.ErrorSpec (error_bytes error.now) }
+{
+    let mut text = [0; 12];
+    put_head(&mut text, Class::ErrorSpec, 12);
+    let body = &mut text[places::BODY..];
+    BigEndian::write_u32(&mut body[places::ERROR_NODE..], error.node.0);
+    body[places::ERROR_FLAGS] = error_flags(error.in_place, error.not_guilty);
+    body[places::ERROR_CODE] = error.code;
+    BigEndian::write_u16(&mut body[places::ERROR_VALUE..], error.value);
+    text
+}
+
+/// STYLE.
+pub fn style(kind: StyleKind) -> [u8; 8]
+    ensures { result ≡ spelt_as Class.Style (style_bytes kind) }
+{
+    let mut text = [0; 8];
+    put_head(&mut text, Class::Style, 8);
+    text[places::BODY + places::OPTIONS] = style_number(kind);
+    text
+}
+
+fn style_number(kind: StyleKind) -> u8
+    ensures { result ≡ style_number kind }
+{
+    match kind {
+        StyleKind::Wild => WILDCARD,
+        StyleKind::Fixed => FIXED,
+        StyleKind::Shared => SHARED_EXPLICIT,
+    }
+}
+
+/// FILTER_SPEC or SENDER_TEMPLATE.
+pub fn sender(class: Class, sender: Sender) -> [u8; 12]
+    ensures { result ≡ spelt (class_number class) (ctype_of class) (sender_bytes sender) }
+{
+    let mut text = [0; 12];
+    put_head(&mut text, class, 12);
+    let body = &mut text[places::BODY..];
+    BigEndian::write_u32(&mut body[places::SOURCE..], sender.addr.0);
+    BigEndian::write_u16(&mut body[places::SOURCE_PORT..], sender.port);
+    text
+}
+
+/// RESV_CONFIRM.
+pub fn confirm(receiver: Addr) -> [u8; 8]
+    ensures { result ≡ spelt_as Class.ResvConfirm (confirm_bytes receiver) }
+{
+    let mut text = [0; 8];
+    put_head(&mut text, Class::ResvConfirm, 8);
+    BigEndian::write_u32(&mut text[places::BODY + places::RECEIVER..], receiver.0);
+    text
+}
+
+/// FLOWSPEC or SENDER_TSPEC, with its service.
+pub fn flow(class: Class, service: u8, flow: &Flow) -> [u8; 36]
+    ensures { result ≡ spelt (class_number class) (ctype_of class) (flow_bytes service flow.now) }
+{
+    let mut text = [0; 36];
+    put_head(&mut text, class, 36);
+    let body = &mut text[places::BODY..];
+    BigEndian::write_u16(&mut body[places::WORDS_BEHIND_VERSION..], LENGTH_7);
+    body[places::SERVICE] = service;
+    BigEndian::write_u16(&mut body[places::WORDS_BEHIND_SERVICE..], LENGTH_6);
+    body[places::PARAMETER] = TOKEN_BUCKET;
+    BigEndian::write_u16(&mut body[places::WORDS_BEHIND_PARAMETER..], LENGTH_5);
+    BigEndian::write_u32(&mut body[places::RATE..], word_of_rate(Peak::Finite(flow.r)));
+    BigEndian::write_u32(&mut body[places::DEPTH..], word_of_rate(Peak::Finite(flow.b)));
+    BigEndian::write_u32(&mut body[places::PEAK..], word_of_rate(flow.p));
+    BigEndian::write_u32(&mut body[places::LOW..], flow.low);
+    BigEndian::write_u32(&mut body[places::MOST..], flow.most);
+    text
+}
