@@ -16,7 +16,7 @@ use Rattle.style_rules.specs.Lines.{LineKey, EntryKey, held}
 use Rattle.style_rules.specs.Parts.{IsOfStyle, part_unit}
 use Rattle.router_rules.specs.declared.target.Target.{Target}
 use Rattle.router_rules.specs.declared.target.Target.TheVariants as target
-use Rattle.router_rules.specs.Books.{book, lines}
+use Rattle.router_rules.specs.Books.{book, lines_of}
 use Rattle.router_rules.specs.Facts.{Facts, SenderKey, WantKey, WallKey, PathState, ResvState, Want, Blockade, resvs_of}
 use Rattle.router_rules.specs.Forgetting.{counted}
 use Rattle.router_rules.specs.Place.{Place, period, lifetime, wall_lifetime}
@@ -83,7 +83,7 @@ pub record AreWithinLimits (f : Facts) : Type 0 where
   pub senders : IsWithinSessionLimits by_sender f.senders
   pub wants : IsWithinSessionLimits by_unit f.wants
   pub paths : IsWithinSessionLimits by_sender f.paths
-  pub resvs : (st : StyleKind) → IsWithinLimits st (lines f)
+  pub resvs : (st : StyleKind) → IsWithinLimits st (lines_of st (resvs_of st f))
   pub walls : size f.walls ≤ 512
 
 -- ---- capacity: no book passes that of its interface, and no part the interface's MTU

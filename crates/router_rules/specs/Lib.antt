@@ -18,3 +18,6 @@ pub mod Sends
 pub mod Rule
 pub mod Flags
 pub mod Bounds
+pub mod Line
+pub mod PathRows
+pub mod ResvRows

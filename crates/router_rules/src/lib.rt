@@ -8,6 +8,7 @@
 mod answers;
 mod entry;
 mod route;
+pub mod rows;
 mod target;
 
 pub use answers::{Heard, LocalErr, StaleErr, Why};
