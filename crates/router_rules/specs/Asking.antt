@@ -220,13 +220,13 @@ abbrev pub first_of : List Sender → Option Sender
 first_of [] = None
 first_of (s ∷ ss) = Some s
 
+abbrev pub first_named : Option Names → Option Sender
+first_named None = None
+first_named (Some names) = first_of (keys names)
+
 abbrev pub first_sender : ErrMsg → Option Sender
 first_sender (OfPath m) = m.sender
 first_sender (OfResv m) = first_named m.blame.senders
-  where
-    first_named : Option Names → Option Sender
-    first_named None = None
-    first_named (Some names) = first_of (keys names)
 
 abbrev pub ErrPlace : Type 0
 ErrPlace = NextHop × Option Sender

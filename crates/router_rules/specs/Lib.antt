@@ -18,6 +18,7 @@ pub mod Sends
 pub mod Rule
 pub mod Flags
 pub mod Bounds
+pub mod FactLaws
 pub mod Line
 pub mod PathRows
 pub mod ResvRows

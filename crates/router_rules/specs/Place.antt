@@ -66,13 +66,13 @@ goes_out p s i x = is_out (tree p s x) i
 abbrev pub outward : Place → Session → Sender → List ℕ
 outward p s x = filter (λ i. goes_out p s i x) (range_with_len 0 (length p.ifaces))
 
+abbrev pub is_iface : Option ℕ → ℕ → Bool
+is_iface None i = false
+is_iface (Some j) i = j == i
+
 abbrev pub is_in : Option Route → ℕ → Bool
 is_in None i = false
 is_in (Some r) i = is_iface r.inward i
-  where
-    is_iface : Option ℕ → ℕ → Bool
-    is_iface None i = false
-    is_iface (Some j) i = j == i
 
 -- the sender's tree comes in by the interface
 abbrev pub comes_in : Place → Session → ℕ → Sender → Bool

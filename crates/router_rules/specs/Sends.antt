@@ -110,12 +110,12 @@ path_sends p before after fired = filter_map (path_send_of p before fired) after
 
 -- ---- 6: Resv toward each hop where it changed, or whose session came due; whole
 -- each part of the one has its unit in the other, with a part that can stand for it
+abbrev pub stands_for : Part → Option Part → Bool
+stands_for part None = false
+stands_for part (Some other) = part_le part other
+
 abbrev pub is_part_in : PartTable → UnitOf × Part → Bool
-is_part_in t e = list_any (part_le e.1) (some_list (get t e.0))
-  where
-    some_list : {X : Type 0} → Option X → List X
-    some_list None = []
-    some_list (Some x) = x ∷ []
+is_part_in t e = stands_for e.1 (get t e.0)
 
 abbrev pub parts_le : PartTable → PartTable → Bool
 parts_le s t = list_all (is_part_in t) s.rows
@@ -131,13 +131,13 @@ abbrev pub is_sent_new : Place → Place → Facts → Facts → Lane → Bool
 is_sent_new old p before after l = nat_lt 0 (size (toward p after l)) && is_changed old p before after l
 
 -- a request takes part in what is sent where it is open, or none of its unit is
+abbrev pub is_empty : {X : Type 0} → List X → Bool
+is_empty [] = true
+is_empty (x ∷ xs) = false
+
 abbrev pub takes_part : StyleKind → List Request → Option Request → Bool
 takes_part st all None = false
-takes_part st all (Some r) = not r.blockaded || not (has_some (open_of (requests_at st (request_unit st r) all)))
-  where
-    has_some : {X : Type 0} → List X → Bool
-    has_some [] = false
-    has_some (x ∷ xs) = true
+takes_part st all (Some r) = not r.blockaded || is_empty (open_of (requests_at st (request_unit st r) all))
 
 -- the local wants that are to be confirmed and take part
 abbrev pub is_marked : Place → Facts → Lane → UnitOf × Want → Bool
@@ -148,12 +148,12 @@ marked_units p f l = each (λ e. e.0) (filter (is_marked p f l) (wants_in f l.se
 
 -- whom a Resv that is sent for a change asks to confirm: as the message that made it says, else the node where a marked
 -- want takes part
+abbrev pub own_wish : Place → Lane → List UnitOf → Option Addr
+own_wish p l [] = None
+own_wish p l (u ∷ us) = Some (own p l.hop.0)
+
 abbrev pub confirm_for : Place → Facts → Lane → Option Asked → Option Addr
-confirm_for p f l None = own_wish (marked_units p f l)
-  where
-    own_wish : List UnitOf → Option Addr
-    own_wish [] = None
-    own_wish (u ∷ us) = Some (own p l.hop.0)
+confirm_for p f l None = own_wish p l (marked_units p f l)
 confirm_for p f l (Some a) = Some a.confirm
 
 abbrev pub resv_send : Place → Facts → Lane → Option Addr → Bool → Ask → Send

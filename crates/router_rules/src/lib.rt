@@ -7,6 +7,7 @@
 
 mod answers;
 mod entry;
+pub mod laws;
 mod route;
 pub mod rows;
 mod target;
