@@ -1,3 +1,6 @@
-pub mod Tests
 pub mod Lists
+pub mod Tests
+pub mod Knowing
+pub mod Offering
+pub mod Requesting
 pub mod Worked
