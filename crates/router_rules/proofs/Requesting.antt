@@ -86,7 +86,7 @@ to_request p f l r t =
 
 -- ---- nothing goes toward a hop from which no path comes
 -- a set with a name has one
-one_name : (s : Names) → is_none s ≡ false → (q : Sender) × (has s q ≡ true)
+pub one_name : (s : Names) → is_none s ≡ false → (q : Sender) × (has s q ≡ true)
 one_name s h = by s.rows refl (some_name s h)
   where
     by : (es : List (Sender × Unit {0})) → s.rows ≡ es → 0 < size s → (q : Sender) × (has s q ≡ true)

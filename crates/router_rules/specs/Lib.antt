@@ -19,6 +19,8 @@ pub mod Rule
 pub mod Flags
 pub mod Bounds
 pub mod FactLaws
+pub mod RuleLaws
+pub mod SendLaws
 pub mod Line
 pub mod PathRows
 pub mod ResvRows

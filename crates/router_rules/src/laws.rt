@@ -1,6 +1,7 @@
 //! The laws of the definitions: what the tests tell, what is found where, and what is sent. With them nothing above opens
 //! a definition. The lemmas behind them stand in `proofs/`.
 ghost use Rattle.router_rules.specs.FactLaws.{TestsTell, KnownAndVia, OffersByWay, RequestsAndToward, BooksAndLines};
+ghost use Rattle.router_rules.specs.RuleLaws.{TablesByStyle, WaitingLeavesTheLiving, LeftByNames, ForgettingByNames, CountdownsSettle};
 
 /// Each test tells what it is the test of.
 #[tactic(auto, using(crate::proofs::Tests::tests_tell))]
@@ -31,4 +32,34 @@ pub fn requests_and_toward()
 #[tactic(auto, using(crate::proofs::Requesting::books_and_lines))]
 pub fn books_and_lines()
     ensures { BooksAndLines }
+{}
+
+/// There is one table of reservations for each style, and a change of one leaves the others.
+#[tactic(auto, using(crate::proofs::Leaving::tables_by_style))]
+pub fn tables_by_style()
+    ensures { TablesByStyle }
+{}
+
+/// A wait leaves each fact that dies later than the clock as it is, and no other; sessions whose moment came are due.
+#[tactic(auto, using(crate::proofs::Leaving::waiting_leaves_the_living))]
+pub fn waiting_leaves_the_living()
+    ensures { WaitingLeavesTheLiving }
+{}
+
+/// What is left of a reservation has the names that stay, and all else as it was; without a name nothing is left.
+#[tactic(auto, using(crate::proofs::Leaving::left_by_names))]
+pub fn left_by_names()
+    ensures { LeftByNames }
+{}
+
+/// A name is lost where a sender of it was known before and none is after; reservations lose these names alone.
+#[tactic(auto, using(crate::proofs::Leaving::forgetting_by_names))]
+pub fn forgetting_by_names()
+    ensures { ForgettingByNames }
+{}
+
+/// A countdown stands exactly where its session has a known sender; a new one begins at a period.
+#[tactic(auto, using(crate::proofs::Leaving::countdowns_settle))]
+pub fn countdowns_settle()
+    ensures { CountdownsSettle }
 {}
