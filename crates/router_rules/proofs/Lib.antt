@@ -4,4 +4,8 @@ pub mod Knowing
 pub mod Offering
 pub mod Requesting
 pub mod Leaving
+pub mod Taking
+pub mod Telling
+pub mod Ruling
+pub mod Sending
 pub mod Worked

@@ -59,5 +59,5 @@ module _ (old p : Place) (before after : Facts) (k : Change) (s : Send) where
   IsSend = IsPathTear ⊎ (IsResvTear ⊎ (IsError ⊎ (IsConf ⊎ (IsPath ⊎ IsResv))))
 
 -- each send is one of six kinds, and each of these is sent
-abbrev pub SendsAreOfSixKinds : Type 0
-SendsAreOfSixKinds = (old p : Place) (before after : Facts) (k : Change) (s : Send) → In s (sends old p before after k) ↔ IsSend old p before after k s
+pub record SendsAreOfSixKinds : Type 0 where
+  pub each : (old p : Place) (before after : Facts) (k : Change) (s : Send) → In s (sends old p before after k) ↔ IsSend old p before after k s

@@ -1,7 +1,8 @@
 //! The laws of the definitions: what the tests tell, what is found where, and what is sent. With them nothing above opens
 //! a definition. The lemmas behind them stand in `proofs/`.
 ghost use Rattle.router_rules.specs.FactLaws.{TestsTell, KnownAndVia, OffersByWay, RequestsAndToward, BooksAndLines};
-ghost use Rattle.router_rules.specs.RuleLaws.{TablesByStyle, WaitingLeavesTheLiving, LeftByNames, ForgettingByNames, CountdownsSettle};
+ghost use Rattle.router_rules.specs.RuleLaws.{TablesByStyle, WaitingLeavesTheLiving, LeftByNames, ForgettingByNames, CountdownsSettle, UnitsOneByOne, ErrorsAndWalls, RuleInParts, FrontsAreTheRule};
+ghost use Rattle.router_rules.specs.SendLaws.{SendsAreOfSixKinds};
 
 /// Each test tells what it is the test of.
 #[tactic(auto, using(crate::proofs::Tests::tests_tell))]
@@ -62,4 +63,36 @@ pub fn forgetting_by_names()
 #[tactic(auto, using(crate::proofs::Leaving::countdowns_settle))]
 pub fn countdowns_settle()
     ensures { CountdownsSettle }
+{}
+
+/// The units of a Resv are handled one by one: a unit that is taken changes the reservation of its own key, and one that is
+/// refused or left out changes none.
+#[tactic(auto, using(crate::proofs::Taking::units_one_by_one))]
+pub fn units_one_by_one()
+    ensures { UnitsOneByOne }
+{}
+
+/// An error goes on to reservations that it speaks of; a blockade was there, or an error set it.
+#[tactic(auto, using(crate::proofs::Telling::errors_and_walls))]
+pub fn errors_and_walls()
+    ensures { ErrorsAndWalls }
+{}
+
+/// What a rule leaves is what the input does, with names forgotten, countdowns settled and marks used.
+#[tactic(auto, using(crate::proofs::Ruling::rule_in_parts))]
+pub fn rule_in_parts()
+    ensures { RuleInParts }
+{}
+
+/// The shut fronts, which contracts cite, are the rule.
+#[tactic(auto, using(crate::proofs::Ruling::fronts_are_the_rule))]
+pub fn fronts_are_the_rule()
+    ensures { FrontsAreTheRule }
+{}
+
+/// Each send is a tear of what is gone, an error, a confirmation, or an offer or request that is new or due; and each of
+/// these is sent.
+#[tactic(auto, using(crate::proofs::Sending::sends_are_of_six_kinds))]
+pub fn sends_are_of_six_kinds()
+    ensures { SendsAreOfSixKinds }
 {}
