@@ -1,7 +1,7 @@
 -- The worked rows hold by computing.
 use Rattle.std.specs.Prelude.{refl}
 use Rattle.router_rules.specs.PathRows.{PathGoesOn, PathsDropped, PathsEnd, LocalSenders, PathsMove, FaultsAreAnswered, PathErrorsGoOn}
-use Rattle.router_rules.specs.ResvRows.{ResvGoesOn, RefusedRaiseKeepsTheOld, NoPathNoReservation, StylesMergeByTheirUnits, TearsGoOn, GreedyIsBlockaded, BlockadedMerge, ErrorsGoOn, ConfirmationsComeBack, MarksWait, CallsAreRefused, FlagsAreByPaths}
+use Rattle.router_rules.specs.ResvRows.{ResvGoesOn, RefusedRaiseKeepsTheOld, NoPathNoReservation, LeftOut, StylesMergeByTheirUnits, TearsGoOn, GreedyIsBlockaded, BlockadedMerge, ErrorsGoOn, ConfirmationsComeBack, MarksWait, CallsAreRefused, FlagsAreByPaths}
 
 pub path_goes_on : PathGoesOn
 path_goes_on =
@@ -107,6 +107,15 @@ no_path_no_reservation =
       all = refl;
     }
 
+pub left_out : LeftOut
+left_out =
+    record {
+      told = refl;
+      quiet = refl;
+      kept = refl;
+      another = refl;
+    }
+
 pub styles_merge_by_their_units : StylesMergeByTheirUnits
 styles_merge_by_their_units =
     record {
@@ -200,5 +209,8 @@ flags_are_by_paths =
       merged = refl;
       at_t = refl;
       at_u = refl;
+      smaller = refl;
+      larger = refl;
+      two = refl;
       at_s = refl;
     }

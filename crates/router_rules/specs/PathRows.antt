@@ -36,7 +36,7 @@ pub record PathGoesOn : Type 0 where
   pub again : due.sent ≡ refreshed 1 group (path false r2 first usual) ∷ []
 
 -- sixteen senders, none of them the first
-abbrev sixteen : Facts
+abbrev pub sixteen : Facts
 sixteen = record no_facts {
   paths = with_rows no_facts.paths (each (λ port. ((session, record { addr = s1; port = port }), record { iface = 0; hop = record { addr = s1; handle = 0 }; tspec = usual; police = false; dies = 100000 })) (range_with_len 1 16));
 }

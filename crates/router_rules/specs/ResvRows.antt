@@ -1,5 +1,6 @@
 -- Worked rows of reservations, at the nodes of the line.
 use Rattle.std.specs.Prelude.{◌≡◌, ℕ, true, false, [], ◌∷◌, map as each, Some, None}
+use Rattle.std.specs.List.{range_with_len}
 use Rattle.rsvp_base.specs.declared.session.Sender.{Sender}
 use Rattle.rsvp_base.specs.declared.style.StyleKind.TheVariants.{Wild, Fixed, Shared}
 use Rattle.rsvp_base.specs.declared.style.Unit.TheVariants.{One, Of}
@@ -19,11 +20,11 @@ use Rattle.router_rules.specs.declared.answers.Why.TheVariants as why
 use Rattle.router_rules.specs.declared.target.Target.TheVariants as target
 use Rattle.router_rules.specs.Books.{book}
 use Rattle.router_rules.specs.Calls.{act_stale, call_refusal, stale_refusal}
-use Rattle.router_rules.specs.Facts.{Facts, no_facts}
+use Rattle.router_rules.specs.Facts.{Facts, no_facts, no_resvs}
 use Rattle.router_rules.specs.Flags.{police_at}
 use Rattle.router_rules.specs.Inputs.{SendAs, WantAs, QuitAll, Stale, StaleResv, StaleWall, Send, Clear, Moved}
-use Rattle.router_rules.specs.Line.{s1, r1, r2, t1, r3, u1, group, session, first, second, scope, flow, usual, node, node_s, node_r, node_t, fork_r, iface, came, waited, called, path, path_tear, resv, wild, shared, resv_err, error, conf, sent}
-use Rattle.router_rules.specs.PathRows.{with_path}
+use Rattle.router_rules.specs.Line.{ip, s1, r1, r2, t1, r3, u1, group, session, first, second, scope, flow, usual, node, node_s, node_r, node_t, fork_r, iface, came, waited, called, path, path_tear, resv, wild, shared, resv_err, error, conf, sent}
+use Rattle.router_rules.specs.PathRows.{sixteen, with_path}
 use Rattle.router_rules.specs.Rule.{Outcome, rule}
 
 -- ---- a reservation is made and goes on
@@ -34,7 +35,7 @@ abbrev pub resv_again : Outcome
 resv_again = came (node_r 1000) 0 1 r2 (resv t1 None (wild usual)) (with_resv 1000).facts
 
 abbrev one_more : Outcome
-one_more = came (node_r 1000) 0 1 r2 (resv t1 None (wild (flow 1001 2000 64 1500))) (with_resv 1000).facts
+one_more = came (node_r 1000) 5000 1 r2 (resv t1 None (wild (flow 1001 2000 64 1500))) (with_resv 1000).facts
 
 pub record ResvGoesOn : Type 0 where
   pub taken : (with_resv 10000).heard ≡ heard.Taken
@@ -76,6 +77,23 @@ pub record NoPathNoReservation : Type 0 where
   pub others : (came (node_r 10000) 0 1 r2 (resv t1 None (ask.Wild (Some (set_of ((record { addr = t1; port = 0 }) ∷ []))) usual)) with_path.facts).heard ≡ heard.Answered 4 0
   -- and for all
   pub all : (came (node_r 10000) 0 1 r2 (resv t1 None (ask.Wild None usual)) with_path.facts).sent ≡ sent 0 s1 (resv r1 None (wild usual)) ∷ []
+
+-- ---- room: sixteen names are reserved for t, and a seventeenth is asked for by another next hop
+abbrev crowded : Facts
+crowded = record sixteen {
+  senders = put_in sixteen.senders (session, second) usual;
+  resvs = record no_resvs { shared = put_in empty (session, ((1, t1), One)) (record { part = record { senders = set_of (each (λ port. record { addr = s1; port = port }) (range_with_len 1 16)); flow = flow 1 1 1 1 }; confirm = None; dies = 60000 }) };
+}
+
+abbrev seventeenth : Outcome
+seventeenth = came (node_r 10000) 0 1 r2 (resv (ip 10 0 2 3) None (shared (second ∷ []) (flow 1 1 1 1))) crowded
+
+pub record LeftOut : Type 0 where
+  pub told : seventeenth.heard ≡ heard.Dropped why.Full
+  pub quiet : seventeenth.sent ≡ []
+  pub kept : seventeenth.facts.resvs ≡ crowded.resvs
+  -- one of the sixteen has room
+  pub another : (came (node_r 10000) 0 1 r2 (resv (ip 10 0 2 3) None (shared ((record { addr = s1; port = 1 }) ∷ []) (flow 1 1 1 1))) crowded).heard ≡ heard.Taken
 
 -- ---- styles
 abbrev other_style : Stale
@@ -273,5 +291,10 @@ pub record FlagsAreByPaths : Type 0 where
   pub merged : incomparable.sent ≡ sent 0 s1 (resv r1 None (wild (flow 500 600 64 1500))) ∷ []
   pub at_t : police_at fork_r incomparable.facts 1 (session, (Wild, One)) (record { senders = scope; flow = flow 300 600 64 1500 }) ≡ record { e = true; m = false; b = true }
   pub at_u : police_at fork_r incomparable.facts 2 (session, (Wild, One)) (record { senders = scope; flow = flow 500 400 128 1000 }) ≡ record { e = true; m = false; b = true }
+  -- of two comparable ones the smaller is policed
+  pub smaller : police_at fork_r from_u.facts 1 (session, (Wild, One)) (record { senders = scope; flow = small }) ≡ record { e = true; m = false; b = true }
+  pub larger : police_at fork_r from_u.facts 2 (session, (Wild, One)) (record { senders = scope; flow = greedy }) ≡ record { e = true; m = false; b = false }
+  -- two senders of one address are merged
+  pub two : police_at fork_r two_paths.facts 1 (session, (Wild, One)) (record { senders = scope; flow = small }) ≡ record { e = true; m = true; b = false }
   -- local senders do not count
   pub at_s : police_at (node_s 10000) wish_at_source.facts 0 (session, (Wild, One)) (record { senders = scope; flow = usual }) ≡ record { e = false; m = false; b = false }

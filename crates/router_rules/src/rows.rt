@@ -1,6 +1,6 @@
 //! Worked rows: what a router does at the nodes of a line of three, and of a fork. Each holds by computing the rule.
 ghost use Rattle.router_rules.specs.PathRows.{PathGoesOn, PathsDropped, PathsEnd, LocalSenders, PathsMove, FaultsAreAnswered, PathErrorsGoOn};
-ghost use Rattle.router_rules.specs.ResvRows.{ResvGoesOn, RefusedRaiseKeepsTheOld, NoPathNoReservation, StylesMergeByTheirUnits, TearsGoOn, GreedyIsBlockaded, BlockadedMerge, ErrorsGoOn, ConfirmationsComeBack, MarksWait, CallsAreRefused, FlagsAreByPaths};
+ghost use Rattle.router_rules.specs.ResvRows.{ResvGoesOn, RefusedRaiseKeepsTheOld, NoPathNoReservation, LeftOut, StylesMergeByTheirUnits, TearsGoOn, GreedyIsBlockaded, BlockadedMerge, ErrorsGoOn, ConfirmationsComeBack, MarksWait, CallsAreRefused, FlagsAreByPaths};
 
 /// A Path is learnt and goes on, and again when its session comes due.
 #[tactic(auto, using(crate::proofs::Worked::path_goes_on))]
@@ -60,6 +60,12 @@ pub fn refused_raise_keeps_the_old()
 #[tactic(auto, using(crate::proofs::Worked::no_path_no_reservation))]
 pub fn no_path_no_reservation()
     ensures { NoPathNoReservation }
+{}
+
+/// A unit for which a table has no room is left out, without an error.
+#[tactic(auto, using(crate::proofs::Worked::left_out))]
+pub fn left_out()
+    ensures { LeftOut }
 {}
 
 /// Fixed filters stay apart, shared ones join, and two styles of a session do not meet.
