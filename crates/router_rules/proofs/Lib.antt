@@ -8,4 +8,7 @@ pub mod Taking
 pub mod Telling
 pub mod Ruling
 pub mod Sending
+pub mod Receiving
+pub mod Asks
+pub mod Bounding
 pub mod Worked

@@ -25,10 +25,6 @@ pub some_same : {X : Type 0} (x y : X) → Some x ≡ Some y → x ≡ y
 some_same x y e = cc
 
 -- what a test lets through
-pub in_unless : {A : Type 0} (b : Bool) (x : A) (xs : List A) → In x (cond b [] xs) → b ≡ false
-in_unless true x xs i = absurd i
-in_unless false x xs i = refl
-
 pub passed : {X : Type 0} (b : Bool) (v : Option X) (x : X) → cond b v None ≡ Some x → (b ≡ true) × (v ≡ Some x)
 passed true v x e = (refl, e)
 passed false v x e = cc

@@ -1,10 +1,9 @@
 -- What a list of sends contains.
-use Rattle.std.specs.Prelude.{◌≡◌, ◌⊎◌, Bool, true, false, cond, not, ◌||◌, List, ◌++◌, Option, Some, None, refl}
+use Rattle.std.specs.Prelude.{[], ◌∷◌, ◌≡◌, ◌⊎◌, Bool, true, false, cond, not, ◌||◌, List, ◌++◌, Option, Some, None, refl}
 use Rattle.std.proofs.Common.{sym, ap, subst, ◌∙◌, inl, inr, ⊎_elim}
 use Rattle.std.specs.List.{filter}
 use Rattle.rsvp_base.specs.Members.{In}
-use Rattle.rsvp_base.specs.Orders.{Names}
-use Rattle.rsvp_base.specs.Sets.{cut, is_none}
+use Rattle.rsvp_base.specs.Sets.{is_none}
 use Rattle.rsvp_base.specs.Table.{get, has, keys}
 use Rattle.rsvp_base.proofs.Counts.{in_found, found_in}
 use Rattle.rsvp_base.proofs.Members.{in_append, in_each, in_filter, in_flat_map, in_left, in_right, to_each, to_filter, to_flat_map}
@@ -13,15 +12,15 @@ use Rattle.style_rules.specs.Lines.{NextHop, next_hops}
 use Rattle.router_rules.specs.Asking.{ask_of, err_place, err_places}
 use Rattle.router_rules.specs.Facts.{Facts}
 use Rattle.router_rules.specs.Inputs.{Change, ConfSend, Send, in_order}
-use Rattle.router_rules.specs.Known.{Lane, lane_keys, lanes, names_via}
+use Rattle.router_rules.specs.Known.{Lane, lane_keys, lanes}
 use Rattle.router_rules.specs.Offers.{offer_keys, offers}
 use Rattle.router_rules.specs.Place.{Place}
 use Rattle.router_rules.specs.Requests.{toward}
 use Rattle.router_rules.specs.SendLaws.{IsConf, IsError, IsPath, IsPathTear, IsResv, IsResvTear, IsSend, SendsAreOfSixKinds}
-use Rattle.router_rules.specs.Sends.{conf_send, conf_sends, confirm_for, confirmed, error_send, error_sends, gone_names, is_changed, is_new_offer, path_send, path_send_of, path_sends, path_tear, path_tears, resv_send, resv_send_of, resv_send_to, resv_sends, resv_tear, resv_tear_for, resv_tears, sends}
-use Rattle.router_rules.proofs.Lists.{in_filter_map, in_keys, in_ordered, in_unless, passed, to_filter_map, to_keys, to_ordered}
+use Rattle.router_rules.specs.Sends.{conf_send, conf_sends, confirm_for, confirmed, error_send, error_sends, is_changed, is_new_offer, path_send, path_send_of, path_sends, path_tear, path_tears, resv_send, resv_send_of, resv_send_to, resv_sends, resv_tear, resv_tear_send, resv_tears, sends, torn_names}
+use Rattle.router_rules.proofs.Lists.{in_filter_map, in_keys, in_ordered, passed, to_filter_map, to_keys, to_ordered}
 
-not_told : (b : Bool) → not b ≡ true → b ≡ false
+pub not_told : (b : Bool) → not b ≡ true → b ≡ false
 not_told true e = cc
 not_told false e = refl
 
@@ -41,16 +40,25 @@ module _ (old p : Place) (before after : Facts) (k : Change) (s : Send) where
       subst (λ (z : Send). In z (path_tears p (offers old before) (offers p after))) (sym q.is)
       (to_each (path_tear p) q.key _ (to_filter (λ z. not (has (offers p after) z)) q.key (keys (offers old before)) (to_keys offer_keys (offers old before) q.key q.was) (ap not q.gone)))
 
-  some_torn : (l : Lane) (names : Names) → In s (resv_tear_for p after l names) → is_none names ≡ false
-  some_torn l names i = in_unless (is_none names) s _ i
+  -- a list of one, where a test does not drop it
+  one_unless : (b : Bool) (x : Send) → In s (cond b [] (x ∷ [])) → (b ≡ false) × (s ≡ x)
+  one_unless true x i = absurd i
+  one_unless false x i = ⊎_elim (λ (e : s ≡ x). (refl, e)) (λ (n : ⊥). absurd n) i
+
+  to_one : (b : Bool) (x : Send) → b ≡ false → s ≡ x → In s (cond b [] (x ∷ []))
+  to_one true x e is = absurd (cc)
+  to_one false x e is = inl is
 
   resv_tear_told : In s (resv_tears old p before after) → IsResvTear old p before after k s
   resv_tear_told i =
       let r = in_flat_map (resv_tear old p before after) s (keys (lanes before)) i in
-      record { lane = r.0; was = in_keys lane_keys (lanes before) r.0 r.1; some = some_torn r.0 (cut (gone_names (toward old before r.0) (toward p after r.0)) (names_via after r.0)) r.2; is = r.2 }
+      let t = one_unless (is_none (torn_names old p before after r.0)) (resv_tear_send p after r.0 (torn_names old p before after r.0)) r.2 in
+      record { lane = r.0; was = in_keys lane_keys (lanes before) r.0 r.1; some = t.0; is = t.1 }
 
   resv_tear_made : IsResvTear old p before after k s → In s (resv_tears old p before after)
-  resv_tear_made q = to_flat_map (resv_tear old p before after) q.lane s (keys (lanes before)) (to_keys lane_keys (lanes before) q.lane q.was) q.is
+  resv_tear_made q =
+      to_flat_map (resv_tear old p before after) q.lane s (keys (lanes before)) (to_keys lane_keys (lanes before) q.lane q.was)
+      (to_one (is_none (torn_names old p before after q.lane)) (resv_tear_send p after q.lane (torn_names old p before after q.lane)) q.some q.is)
 
   error_told : In s (error_sends k.errors) → IsError old p before after k s
   error_told i = let r = in_each error_send s (in_order err_places err_place k.errors) i in record { error = r.0; made = in_ordered err_places err_place r.0 k.errors r.1; is = r.2 }

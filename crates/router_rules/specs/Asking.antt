@@ -1,6 +1,7 @@
 -- A Resv is taken or refused unit by unit, and torn down (RFC 2205, 3.5 and appendix B; RFC 2209, 2: Resv, ResvTear).
 use Rattle.std.specs.Prelude.{ℕ, ◌+◌, ◌==◌, nat_le, nat_lt, Bool, true, false, cond, not, ◌&&◌, ◌||◌, List, [], ◌∷◌, ◌++◌, map as each, Option, Some, None}
-use Rattle.std.specs.List.{list_any}
+use Rattle.std.specs.List.{flat_map, list_any}
+use Rattle.std.specs.Option.{option_map}
 use Rattle.admission_book.specs.declared.refused.Refused.{Refused}
 use Rattle.admission_book.specs.declared.refused.Refused.TheVariants as refused
 use Rattle.rsvp_base.specs.declared.addr.Addr.{Addr}
@@ -10,7 +11,7 @@ use Rattle.rsvp_base.specs.declared.session.Session.{Session}
 use Rattle.rsvp_base.specs.declared.style.StyleKind.{StyleKind}
 use Rattle.rsvp_base.specs.declared.style.StyleKind.TheVariants.{Wild, Fixed, Shared}
 use Rattle.rsvp_base.specs.declared.style.Unit.{Unit as UnitOf}
-use Rattle.rsvp_base.specs.declared.style.Unit.TheVariants.{One}
+use Rattle.rsvp_base.specs.declared.style.Unit.TheVariants.{One, Of}
 use Rattle.rsvp_base.specs.Keys.{pairs, options}
 use Rattle.rsvp_base.specs.Keys.{Keys}
 use Rattle.rsvp_base.specs.Orders.{Names, senders}
@@ -24,7 +25,7 @@ use Rattle.rsvp_messages.specs.declared.message.ResvTearMsg.{ResvTearMsg}
 use Rattle.rsvp_messages.specs.FlowTable.{FlowTable}
 use Rattle.rsvp_messages.specs.Units.{AskedUnit, asked_units, ask_style, tear_style, tear_names}
 use Rattle.style_rules.specs.Lines.{NextHop, next_hops, LineKey, EntryKey}
-use Rattle.style_rules.specs.Merge.{PartTable}
+use Rattle.style_rules.specs.Merge.{table_at, PartTable}
 use Rattle.style_rules.specs.Parts.{part_of}
 use Rattle.router_rules.specs.declared.answers.Heard.{Heard}
 use Rattle.router_rules.specs.declared.answers.Heard.TheVariants as heard
@@ -197,13 +198,12 @@ abbrev pub ask_of_part : (Part → Ask) → Option Part → Option Ask
 ask_of_part make None = None
 ask_of_part make (Some part) = Some (make part)
 
-abbrev pub flow_by_sender : List Sender → TokenBucket → FlowTable → FlowTable
-flow_by_sender [] flow t = t
-flow_by_sender (s ∷ ss) flow t = put_in t s flow
+-- the flow of a sender is that of its unit
+abbrev pub flow_at : PartTable → Sender → Option TokenBucket
+flow_at ps x = option_map (λ part. part.flow) (get ps (Of x))
 
-abbrev pub flows_by_sender : List Part → FlowTable
-flows_by_sender [] = empty
-flows_by_sender (p ∷ ps) = flow_by_sender (keys p.senders) p.flow (flows_by_sender ps)
+abbrev pub flows_by_sender : PartTable → FlowTable
+flows_by_sender ps = table_at (flow_at ps) (flat_map (λ part. keys part.senders) (values ps))
 
 abbrev pub fixed_ask : FlowTable → Option Ask
 fixed_ask list = cond (nat_lt 0 (size list)) (Some (ask.Fixed list)) None
@@ -211,7 +211,7 @@ fixed_ask list = cond (nat_lt 0 (size list)) (Some (ask.Fixed list)) None
 -- a wildcard filter with its SCOPE
 abbrev pub ask_of : StyleKind → PartTable → Option Ask
 ask_of Wild ps = ask_of_part (λ part. ask.Wild (Some part.senders) part.flow) (get ps One)
-ask_of Fixed ps = fixed_ask (flows_by_sender (values ps))
+ask_of Fixed ps = fixed_ask (flows_by_sender ps)
 ask_of Shared ps = ask_of_part ask.Shared (get ps One)
 
 -- ---- what was heard

@@ -135,6 +135,10 @@ walled_by e m Shared = each (λ x. (m.session, target.Sender x)) (blamed_senders
 abbrev pub is_admission : ErrSpec → Bool
 is_admission err = (err.code == 1) && ((err.value == 2) || (err.value == 3))
 
+-- it sets blockades
+abbrev pub sets_walls : ResvErrMsg → Bool
+sets_walls m = is_admission m.err && is_some m.blame.flow
+
 abbrev pub blockade_of : Place → ℕ → ResvErrMsg → TokenBucket → Blockade
 blockade_of p c m flow = record { wall = record { flow = flow; sub = m.err.value }; dies = c + wall_lifetime p }
 
@@ -194,6 +198,6 @@ abbrev pub act_resv_err : Place → ℕ → ℕ → ResvErrMsg → Facts → Cha
 act_resv_err p c e m f =
     let new : Walls = walls_with p c e m m.blame.flow f.walls in
     let from_hop : Bool = list_any (came_by (e, m.hop.addr)) (values (paths_in f m.session)) in
-    let room : Bool = nat_le (size new) 512 in
+    let room : Bool = not (sets_walls m) || nat_le (size new) 512 in
     let after : Facts = record f { walls = walls_after from_hop room new f.walls } in
     record (only_heard (walls_heard from_hop room) after) { errors = cond (from_hop && room) (errors_on p after (lane_of e m) m) [] }

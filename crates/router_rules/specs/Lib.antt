@@ -21,6 +21,7 @@ pub mod Bounds
 pub mod FactLaws
 pub mod RuleLaws
 pub mod SendLaws
+pub mod MessageLaws
 pub mod Line
 pub mod PathRows
 pub mod ResvRows

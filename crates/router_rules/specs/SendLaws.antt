@@ -1,17 +1,17 @@
 -- What a list of sends contains: the claim of the public law.
 use Rattle.std.specs.Prelude.{◌≡◌, ◌⊎◌, ◌↔◌, true, false, cond, ◌||◌, ◌++◌, Some, None}
 use Rattle.rsvp_base.specs.Members.{In}
-use Rattle.rsvp_base.specs.Sets.{cut, is_none}
+use Rattle.rsvp_base.specs.Sets.{is_none}
 use Rattle.rsvp_base.specs.Table.{get, has}
 use Rattle.rsvp_messages.specs.declared.ask.Ask.{Ask}
 use Rattle.router_rules.specs.Asking.{ask_of}
 use Rattle.router_rules.specs.Facts.{Facts}
 use Rattle.router_rules.specs.Inputs.{Change, ConfSend, ErrSend, Send}
-use Rattle.router_rules.specs.Known.{Lane, lanes, names_via}
+use Rattle.router_rules.specs.Known.{Lane, lanes}
 use Rattle.router_rules.specs.Offers.{Offer, OfferKey, offers}
 use Rattle.router_rules.specs.Place.{Place}
 use Rattle.router_rules.specs.Requests.{toward}
-use Rattle.router_rules.specs.Sends.{conf_send, confirm_for, confirmed, error_send, gone_names, is_changed, is_new_offer, path_send, path_tear, resv_send, resv_tear, sends}
+use Rattle.router_rules.specs.Sends.{conf_send, confirm_for, confirmed, error_send, is_changed, is_new_offer, path_send, path_tear, resv_send, resv_tear_send, sends, torn_names}
 
 module _ (old p : Place) (before after : Facts) (k : Change) (s : Send) where
   -- an offer that is gone
@@ -25,8 +25,8 @@ module _ (old p : Place) (before after : Facts) (k : Change) (s : Send) where
   pub record IsResvTear : Type 0 where
     pub lane : Lane
     pub was : has (lanes before) lane ≡ true
-    pub some : is_none (cut (gone_names (toward old before lane) (toward p after lane)) (names_via after lane)) ≡ false
-    pub is : In s (resv_tear old p before after lane)
+    pub some : is_none (torn_names old p before after lane) ≡ false
+    pub is : s ≡ resv_tear_send p after lane (torn_names old p before after lane)
 
   pub record IsError : Type 0 where
     pub error : ErrSend

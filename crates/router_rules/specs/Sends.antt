@@ -64,12 +64,15 @@ tear_of Wild names = tear.Wild (Some names)
 tear_of Fixed names = tear.Fixed names
 tear_of Shared names = tear.Shared names
 
-abbrev pub resv_tear_for : Place → Facts → Lane → Names → List Send
-resv_tear_for p f l names = cond (is_none names) [] (once l.hop.0 l.hop.1 (message.ResvTear (record { session = l.session; hop = hop_to p f l; tear = tear_of l.style names })) ∷ [])
+abbrev pub resv_tear_send : Place → Facts → Lane → Names → Send
+resv_tear_send p f l names = once l.hop.0 l.hop.1 (message.ResvTear (record { session = l.session; hop = hop_to p f l; tear = tear_of l.style names }))
 
--- of these the ones that are still via the hop
+-- of the names that are gone the ones that are still via the hop
+abbrev pub torn_names : Place → Place → Facts → Facts → Lane → Names
+torn_names old p before after l = cut (gone_names (toward old before l) (toward p after l)) (names_via after l)
+
 abbrev pub resv_tear : Place → Place → Facts → Facts → Lane → List Send
-resv_tear old p before after l = resv_tear_for p after l (cut (gone_names (toward old before l) (toward p after l)) (names_via after l))
+resv_tear old p before after l = cond (is_none (torn_names old p before after l)) [] (resv_tear_send p after l (torn_names old p before after l) ∷ [])
 
 abbrev pub resv_tears : Place → Place → Facts → Facts → List Send
 resv_tears old p before after = flat_map (resv_tear old p before after) (keys (lanes before))

@@ -3,6 +3,7 @@
 ghost use Rattle.router_rules.specs.FactLaws.{TestsTell, KnownAndVia, OffersByWay, RequestsAndToward, BooksAndLines};
 ghost use Rattle.router_rules.specs.RuleLaws.{TablesByStyle, WaitingLeavesTheLiving, LeftByNames, ForgettingByNames, CountdownsSettle, UnitsOneByOne, ErrorsAndWalls, RuleInParts, FrontsAreTheRule};
 ghost use Rattle.router_rules.specs.SendLaws.{SendsAreOfSixKinds};
+ghost use Rattle.router_rules.specs.MessageLaws.{PathsByTests, ResvTearsByNames, ConfirmationsByWish, AsksOfParts, GoneByUnits, NoFactsAreWithinBounds};
 
 /// Each test tells what it is the test of.
 #[tactic(auto, using(crate::proofs::Tests::tests_tell))]
@@ -95,4 +96,41 @@ pub fn fronts_are_the_rule()
 #[tactic(auto, using(crate::proofs::Sending::sends_are_of_six_kinds))]
 pub fn sends_are_of_six_kinds()
     ensures { SendsAreOfSixKinds }
+{}
+
+/// A Path is dropped for want of a sender, off its tree or for want of room, and else learnt; a PathTear takes away the path
+/// of its own hop alone.
+#[tactic(auto, using(crate::proofs::Receiving::paths_by_tests))]
+pub fn paths_by_tests()
+    ensures { PathsByTests }
+{}
+
+/// A ResvTear takes its names from the reservations of its hop, and changes no other.
+#[tactic(auto, using(crate::proofs::Receiving::resv_tears_by_names))]
+pub fn resv_tears_by_names()
+    ensures { ResvTearsByNames }
+{}
+
+/// A ResvConf goes on to next hops that wanted to hear of a reservation that it speaks of.
+#[tactic(auto, using(crate::proofs::Receiving::confirmations_by_wish))]
+pub fn confirmations_by_wish()
+    ensures { ConfirmationsByWish }
+{}
+
+/// What is sent for a table of parts asks for exactly its parts, unit by unit; nothing is sent for none.
+#[tactic(auto, using(crate::proofs::Asks::asks_of_parts))]
+pub fn asks_of_parts()
+    ensures { AsksOfParts }
+{}
+
+/// The names that are torn down are those of parts whose units are gone.
+#[tactic(auto, using(crate::proofs::Asks::gone_by_units))]
+pub fn gone_by_units()
+    ensures { GoneByUnits }
+{}
+
+/// A node without facts is within bounds.
+#[tactic(auto, using(crate::proofs::Bounding::no_facts_are_within_bounds))]
+pub fn no_facts_are_within_bounds()
+    ensures { NoFactsAreWithinBounds }
 {}

@@ -9,6 +9,8 @@ mod ask;
 mod fault;
 mod fixed_list;
 mod message;
+#[cfg(test)]
+mod tests;
 
 pub use ask::{Ask, Blame, Tear};
 pub use fault::{Fault, Hint, MsgErr};
