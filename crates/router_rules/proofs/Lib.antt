@@ -11,4 +11,6 @@ pub mod Sending
 pub mod Receiving
 pub mod Asks
 pub mod Bounding
+pub mod SessionRoom
+pub mod Rooms
 pub mod Worked

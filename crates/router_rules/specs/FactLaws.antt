@@ -6,8 +6,9 @@ use Rattle.rsvp_base.specs.declared.session.Session.{Session}
 use Rattle.rsvp_base.specs.declared.style.StyleKind.{StyleKind}
 use Rattle.rsvp_base.specs.declared.style.Unit.{Unit as UnitOf}
 use Rattle.rsvp_base.specs.Members.{In}
-use Rattle.rsvp_base.specs.Orders.{Names}
-use Rattle.rsvp_base.specs.Table.{get, has, empty}
+use Rattle.rsvp_base.specs.Orders.{Names, senders, units}
+use Rattle.rsvp_base.specs.SessionLimits.{IsWithinSessionLimits, has_room_at}
+use Rattle.rsvp_base.specs.Table.{empty, get, has, put_in, with_rows}
 use Rattle.rsvp_base.specs.TokenBucket.{TokenBucket}
 use Rattle.style_rules.specs.Limits.{IsWithinLimits}
 use Rattle.style_rules.specs.Lines.{Line, LineKey, EntryKey, NextHop, entry_keys, entry_key, at_end}
@@ -15,7 +16,8 @@ use Rattle.style_rules.specs.Merge.{merge_at, PartTable}
 use Rattle.style_rules.specs.Styles.{name_of}
 use Rattle.style_rules.specs.Toward.{Request, toward_at}
 use Rattle.router_rules.specs.Books.{book, fits, line_of, lines, lines_of}
-use Rattle.router_rules.specs.Facts.{Facts, PathState, Resvs, ResvState, Want, resvs_of}
+use Rattle.router_rules.specs.Facts.{Facts, SenderKey, PathState, Resvs, ResvState, Want, resvs_of}
+use Rattle.router_rules.specs.Calls.{wanted}
 use Rattle.router_rules.specs.Forgetting.{counted}
 use Rattle.router_rules.specs.Known.{Lane, came_by, known, lanes, named_as, names_via, names_via_where, via}
 use Rattle.router_rules.specs.Offers.{OfferKey, offer_at, offers}
@@ -97,3 +99,10 @@ pub record IsLine (f : Facts) (line : Line) : Type 0 where
 pub record BooksAndLines : Type 0 where
   pub each : (f : Facts) (line : Line) → In line (lines f) ↔ IsLine f line
   pub at : (f : Facts) (i : ℕ) (k : EntryKey) → get (book f i) k ≡ merge_at entry_keys entry_key (λ l. l.part) k (at_end i (lines f))
+
+-- ---- limits by session: a table within them, changed at one session, is within them exactly where the test there passes
+pub record RoomTells : Type 0 where
+  pub of_senders : (f : Facts) (k : SenderKey) (tspec : TokenBucket) → IsWithinSessionLimits senders f.senders → IsTrue (has_room_at senders (put_in f.senders k tspec) k.0) ↔ IsWithinSessionLimits senders (put_in f.senders k tspec)
+  pub of_paths : (f : Facts) (k : SenderKey) (x : PathState) → IsWithinSessionLimits senders f.paths → IsTrue (has_room_at senders (put_in f.paths k x) k.0) ↔ IsWithinSessionLimits senders (put_in f.paths k x)
+  pub of_wants : (f : Facts) (s : Session) (st : StyleKind) (names : Names) (flow : TokenBucket) (mark : Bool) → IsWithinSessionLimits units f.wants
+      → IsTrue (has_room_at units (with_rows f.wants (wanted s st names flow mark)) s) ↔ IsWithinSessionLimits units (with_rows f.wants (wanted s st names flow mark))

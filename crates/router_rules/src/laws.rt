@@ -1,6 +1,6 @@
 //! The laws of the definitions: what the tests tell, what is found where, and what is sent. With them nothing above opens
 //! a definition. The lemmas behind them stand in `proofs/`.
-ghost use Rattle.router_rules.specs.FactLaws.{TestsTell, KnownAndVia, OffersByWay, RequestsAndToward, BooksAndLines};
+ghost use Rattle.router_rules.specs.FactLaws.{TestsTell, KnownAndVia, OffersByWay, RequestsAndToward, BooksAndLines, RoomTells};
 ghost use Rattle.router_rules.specs.RuleLaws.{TablesByStyle, WaitingLeavesTheLiving, LeftByNames, ForgettingByNames, CountdownsSettle, UnitsOneByOne, ErrorsAndWalls, RuleInParts, FrontsAreTheRule};
 ghost use Rattle.router_rules.specs.SendLaws.{SendsAreOfSixKinds};
 ghost use Rattle.router_rules.specs.MessageLaws.{PathsByTests, ResvTearsByNames, ConfirmationsByWish, AsksOfParts, GoneByUnits, NoFactsAreWithinBounds};
@@ -9,6 +9,12 @@ ghost use Rattle.router_rules.specs.MessageLaws.{PathsByTests, ResvTearsByNames,
 #[tactic(auto, using(crate::proofs::Tests::tests_tell))]
 pub fn tests_tell()
     ensures { TestsTell }
+{}
+
+/// A table of senders, paths or wants that changed at one session is within its limits exactly where the test there passes.
+#[tactic(auto, using(crate::proofs::Rooms::room_tells))]
+pub fn room_tells()
+    ensures { RoomTells }
 {}
 
 /// A sender is known where it is a local one or has a path; a name is via a hop where a path of it comes from there; a
