@@ -1,0 +1,16 @@
+pub mod Lists
+pub mod Tests
+pub mod Knowing
+pub mod Offering
+pub mod Requesting
+pub mod Leaving
+pub mod Taking
+pub mod Telling
+pub mod Ruling
+pub mod Sending
+pub mod Receiving
+pub mod Asks
+pub mod Bounding
+pub mod SessionRoom
+pub mod Rooms
+pub mod Worked

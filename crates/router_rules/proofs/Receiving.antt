@@ -1,0 +1,126 @@
+-- What Paths, PathTears, ResvTears and ResvConfs do.
+use Rattle.std.specs.Prelude.{◌≡◌, ℕ, ◌⊎◌, Bool, true, false, cond, ◌&&◌, Option, Some, None, refl}
+use Rattle.std.proofs.Common.{sym, ap, ◌∙◌, inl, inr, ⊎_elim}
+use Rattle.std.specs.List.{filter_map}
+use Rattle.rsvp_base.specs.declared.session.Sender.{Sender}
+use Rattle.rsvp_base.specs.declared.style.StyleKind.{StyleKind}
+use Rattle.rsvp_base.specs.declared.style.StyleKind.TheVariants.{Wild, Fixed, Shared}
+use Rattle.rsvp_base.specs.Keys.{pairs}
+use Rattle.rsvp_base.specs.Members.{In}
+use Rattle.rsvp_base.specs.Orders.{senders, sessions, units}
+use Rattle.rsvp_base.specs.SessionLimits.{has_room_at}
+use Rattle.rsvp_base.specs.Table.{empty, get, put_in, with_rows}
+use Rattle.rsvp_base.specs.TokenBucket.{TokenBucket}
+use Rattle.rsvp_base.proofs.Counts.{in_found}
+use Rattle.rsvp_base.proofs.SetLaws.{and_both}
+use Rattle.rsvp_base.proofs.Tables.{get-changed, got_changed, then_do}
+use Rattle.rsvp_base.proofs.UnderLaws.{get-under}
+use Rattle.rsvp_messages.specs.declared.message.PathMsg.{PathMsg}
+use Rattle.rsvp_messages.specs.declared.message.PathTearMsg.{PathTearMsg}
+use Rattle.rsvp_messages.specs.declared.message.ResvConfMsg.{ResvConfMsg}
+use Rattle.rsvp_messages.specs.declared.message.ResvTearMsg.{ResvTearMsg}
+use Rattle.rsvp_messages.specs.Units.{ask_style, tear_names, tear_style}
+use Rattle.style_rules.specs.Lines.{LineKey, NextHop, line_keys, next_hops}
+use Rattle.router_rules.specs.declared.answers.Heard.TheVariants as heard
+use Rattle.router_rules.specs.declared.answers.Why.TheVariants as why
+use Rattle.router_rules.specs.Asking.{act_resv_tear, is_of_hop, left_of, names_one, stays, torn_resv, torn_resvs}
+use Rattle.router_rules.specs.Confirming.{conf_on, confs_on, is_wish, speaks_of}
+use Rattle.router_rules.specs.Facts.{Facts, PathState, Resvs, ResvState, ResvTables, resvs_in, resvs_of, table_of, with_resvs, with_table}
+use Rattle.router_rules.specs.Inputs.{ConfSend, only_heard}
+use Rattle.router_rules.specs.MessageLaws.{ConfirmationsByWish, IsConfOn, PathsByTests, ResvTearsByNames}
+use Rattle.router_rules.specs.Paths.{act_path, act_path_tear, is_path_by, learn, learn_inward, learnt, path_state, tear_path, torn_path, with_paths}
+use Rattle.router_rules.specs.Place.{Place, comes_in}
+use Rattle.router_rules.specs.RuleLaws.{IsLeft}
+use Rattle.router_rules.proofs.Leaving.{left_told, table_put}
+use Rattle.router_rules.proofs.Lists.{got_with_rows, in_filter_map, in_values, passed, some_same}
+
+-- ---- Paths
+inward_is : (p : Place) (c e : ℕ) (m : PathMsg) (f : Facts) (x : Sender) (tspec : TokenBucket) (b : Bool) → m.sender ≡ Some (x, tspec) → comes_in p m.session e x ≡ b → act_path p c e m f ≡ with_paths f (learn_inward p c e m x tspec b f.paths)
+inward_is p c e m f x tspec b s t = ap (λ w. with_paths f (learn p c e m w f.paths)) s ∙ ap (λ b. with_paths f (learn_inward p c e m x tspec b f.paths)) t
+
+room_is : (p : Place) (c e : ℕ) (m : PathMsg) (f : Facts) (x : Sender) (tspec : TokenBucket) (b : Bool) → m.sender ≡ Some (x, tspec) → comes_in p m.session e x ≡ true
+    → has_room_at senders (put_in f.paths (m.session, x) (path_state p c e m tspec)) m.session ≡ b → act_path p c e m f ≡ with_paths f (learnt b (put_in f.paths (m.session, x) (path_state p c e m tspec)) f.paths)
+room_is p c e m f x tspec b s t r = inward_is p c e m f x tspec true s t ∙ ap (λ b. with_paths f (learnt b (put_in f.paths (m.session, x) (path_state p c e m tspec)) f.paths)) r
+
+tear_is : (e : ℕ) (m : PathTearMsg) (f : Facts) (x : Sender) (w : Option PathState) (b : Bool) → m.sender ≡ Some x → get f.paths (m.session, x) ≡ w → is_path_by (e, m.hop.addr) w ≡ b → act_path_tear e m f ≡ with_paths f (torn_path b (m.session, x) f.paths)
+tear_is e m f x w b s g t =
+    ap (λ v. with_paths f (tear_path e m v f.paths)) s ∙ ap (λ v. with_paths f (torn_path (is_path_by (e, m.hop.addr) v) (m.session, x) f.paths)) g ∙ ap (λ b. with_paths f (torn_path b (m.session, x) f.paths)) t
+
+pub paths_by_tests : PathsByTests
+paths_by_tests =
+    record {
+      no_sender = λ p c e m f s. ap (λ w. with_paths f (learn p c e m w f.paths)) s;
+      not_inward = λ p c e m f x tspec s t. inward_is p c e m f x tspec false s t;
+      full = λ p c e m f x tspec s t r. room_is p c e m f x tspec false s t r;
+      learnt = λ p c e m f x tspec s t r. room_is p c e m f x tspec true s t r;
+      tear_of_nobody = λ e m f s. ap (λ w. with_paths f (tear_path e m w f.paths)) s;
+      tear_of_none = λ e m f x s g. tear_is e m f x None false s g refl;
+      tear_elsewhere = λ e m f x path s g t. tear_is e m f x (Some path) false s g t;
+      torn = λ e m f x path s g t. tear_is e m f x (Some path) true s g t;
+    }
+
+-- ---- ResvTears
+as_it_was : (st : StyleKind) (ts : ResvTables) → with_table st (table_of st ts) ts ≡ ts
+as_it_was Wild ts = refl
+as_it_was Fixed ts = refl
+as_it_was Shared ts = refl
+
+-- the table that a ResvTear changes, after it
+torn_table : (e : ℕ) (m : ResvTearMsg) (f : Facts) → resvs_of (tear_style m.tear) (act_resv_tear e m f).facts ≡ torn_resvs (names_one m.session (e, m.hop.addr) (tear_names m.tear) (resvs_of (tear_style m.tear) f)) m.session (e, m.hop.addr) (tear_names m.tear) (resvs_of (tear_style m.tear) f)
+torn_table e m f = table_put (tear_style m.tear) _ f.resvs
+
+module _ (e : ℕ) (m : ResvTearMsg) where
+  torn_source : (t : Resvs) (k : LineKey) (x : ResvState) (b : Bool) → get (torn_resvs b m.session (e, m.hop.addr) (tear_names m.tear) t) k ≡ Some x → (r : ResvState) × (get t k ≡ Some r) × ((x ≡ r) ⊎ IsLeft (stays (tear_names m.tear)) r x)
+  torn_source t k x false h = (x, h, inl refl)
+  torn_source t k x true h =
+      let g = got_changed line_keys (torn_resv m.session (e, m.hop.addr) (tear_names m.tear)) t k x h in (g.0, g.1, by g.0 (is_of_hop m.session (e, m.hop.addr) k) g.2)
+    where
+      by : (r : ResvState) (b : Bool) → cond b (left_of (stays (tear_names m.tear)) r) (Some r) ≡ Some x → (x ≡ r) ⊎ IsLeft (stays (tear_names m.tear)) r x
+      by r true h = inr (left_told (stays (tear_names m.tear)) r x h)
+      by r false h = inl (sym (some_same r x h))
+
+  torn_other : (t : Resvs) (k : LineKey) (b : Bool) → is_of_hop m.session (e, m.hop.addr) k ≡ false → get (torn_resvs b m.session (e, m.hop.addr) (tear_names m.tear) t) k ≡ get t k
+  torn_other t k false h = refl
+  torn_other t k true h = get-changed line_keys (torn_resv m.session (e, m.hop.addr) (tear_names m.tear)) t k ∙ by (get t k)
+    where
+      by : (w : Option ResvState) → then_do w (torn_resv m.session (e, m.hop.addr) (tear_names m.tear) k) ≡ w
+      by None = refl
+      by (Some r) = ap (λ b. cond b (left_of (stays (tear_names m.tear)) r) (Some r)) h
+
+tear_none : (e : ℕ) (m : ResvTearMsg) (f : Facts) → names_one m.session (e, m.hop.addr) (tear_names m.tear) (resvs_of (tear_style m.tear) f) ≡ false → act_resv_tear e m f ≡ only_heard (heard.Dropped why.NoState) f
+tear_none e m f h =
+    ap (λ (b : Bool). only_heard (cond b heard.Taken (heard.Dropped why.NoState)) (with_resvs (tear_style m.tear) (torn_resvs b m.session (e, m.hop.addr) (tear_names m.tear) (resvs_of (tear_style m.tear) f)) f)) h
+    ∙ ap (λ (ts : ResvTables). only_heard (heard.Dropped why.NoState) (record f { resvs = ts })) (as_it_was (tear_style m.tear) f.resvs)
+
+pub resv_tears_by_names : ResvTearsByNames
+resv_tears_by_names =
+    record {
+      none = tear_none;
+      source = λ e m f k x h. torn_source e m (resvs_of (tear_style m.tear) f) k x _ (ap (λ (t : Resvs). get t k) (sym (torn_table e m f)) ∙ h);
+      others = λ e m f k h. ap (λ (t : Resvs). get t k) (torn_table e m f) ∙ torn_other e m (resvs_of (tear_style m.tear) f) k _ h;
+    }
+
+-- ---- ResvConfs
+pub conf_told : (m : ResvConfMsg) (f : Facts) (s : ConfSend) → In s (confs_on m f) → IsConfOn m f s
+conf_told m f s i =
+    let rows = (resvs_in (ask_style m.ask) f m.session).rows in
+    let v = in_values next_hops (with_rows (empty {o = next_hops}) (filter_map (conf_on m) rows)) s i in
+    ⊎_elim (λ (none : get (empty {o = next_hops}) v.0 ≡ Some s). absurd (cc))
+    (λ (j : In (v.0, s) (filter_map (conf_on m) rows)).
+    let t = in_filter_map (conf_on m) (v.0, s) rows j in
+    let q = passed (is_wish t.0.1.confirm m.confirm && speaks_of m.ask t.0.1.part.senders) (Some (t.0.0.0, record { iface = t.0.0.0.0; dst = t.0.0.0.1; conf = m })) (v.0, s) t.2 in
+    let both = and_both _ _ q.0 in
+    let same = some_same {X = NextHop × ConfSend} (t.0.0.0, record { iface = t.0.0.0.0; dst = t.0.0.0.1; conf = m }) (v.0, s) q.1 in
+    record {
+      hop = t.0.0.0;
+      unit = t.0.0.1;
+      resv = t.0.1;
+      there = sym (get-under sessions (pairs next_hops units) (resvs_of (ask_style m.ask) f) m.session t.0.0) ∙ in_found (pairs next_hops units) (resvs_in (ask_style m.ask) f m.session) t.0.0 t.0.1 t.1;
+      wanted = both.0;
+      speaks = both.1;
+      is = sym (ap (λ (z : NextHop × ConfSend). z.1) same);
+    })
+    (got_with_rows next_hops (filter_map (conf_on m) rows) (empty {o = next_hops}) v.0 s v.1)
+
+pub confirmations_by_wish : ConfirmationsByWish
+confirmations_by_wish = record { on = conf_told }

@@ -1,0 +1,46 @@
+-- What a node offers: each known sender, by each interface by which its tree goes on (RFC 2205, 3.1.3; RFC 2209, 2).
+use Rattle.std.specs.Prelude.{◌≡◌, ℕ, Bool, true, false, List, map as each, Option}
+use Rattle.std.specs.List.{flat_map}
+use Rattle.std.specs.Option.{option_map}
+use Rattle.rsvp_base.specs.declared.session.Sender.{Sender}
+use Rattle.rsvp_base.specs.declared.session.Session.{Session}
+use Rattle.rsvp_base.specs.Keys.{Keys, numbers, by, pairs}
+use Rattle.rsvp_base.specs.Orders.{sessions, senders}
+use Rattle.rsvp_base.specs.Table.{Table, get, keys}
+use Rattle.rsvp_base.specs.TokenBucket.{TokenBucket}
+use Rattle.style_rules.specs.Merge.{table_at}
+use Rattle.style_rules.specs.Toward.{or_else}
+use Rattle.router_rules.specs.Facts.{Facts, SenderKey}
+use Rattle.router_rules.specs.Place.{Place, outward}
+use Rattle.std.specs.Prelude.{◌++◌}
+
+pub record OfferKey : Type 0 where
+  pub session : Session
+  pub sender : Sender
+  pub iface : ℕ
+
+pub offer_apart : (a b : OfferKey) → ◌≡◌ {A = Session × (Sender × ℕ)} (a.session, (a.sender, a.iface)) (b.session, (b.sender, b.iface)) → a ≡ b
+offer_apart a b e = λ i. record { session = (e i).0; sender = (e i).1.0; iface = (e i).1.1 }
+
+abbrev pub offer_keys : Keys OfferKey
+offer_keys = by (λ (k : OfferKey). (k.session, (k.sender, k.iface))) offer_apart (pairs sessions (pairs senders numbers))
+
+-- what a sender sends, and whether it is a local one
+pub record Offer : Type 0 where
+  pub tspec : TokenBucket
+  pub local : Bool
+
+abbrev pub Offers : Type 0
+Offers = Table offer_keys Offer
+
+-- of a local sender its own words, else those of its path
+abbrev pub offer_at : Facts → OfferKey → Option Offer
+offer_at f k =
+    or_else (option_map (λ flow. record { tspec = flow; local = true }) (get f.senders (k.session, k.sender)))
+    (option_map (λ path. record { tspec = path.tspec; local = false }) (get f.paths (k.session, k.sender)))
+
+abbrev pub ways_of : Place → SenderKey → List OfferKey
+ways_of p k = each (λ i. record { session = k.0; sender = k.1; iface = i }) (outward p k.0 k.1)
+
+abbrev pub offers : Place → Facts → Offers
+offers p f = table_at (offer_at f) (flat_map (ways_of p) (keys f.senders ++ keys f.paths))

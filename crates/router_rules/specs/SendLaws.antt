@@ -1,0 +1,63 @@
+-- What a list of sends contains: the claim of the public law.
+use Rattle.std.specs.Prelude.{◌≡◌, ◌⊎◌, ◌↔◌, true, false, cond, ◌||◌, ◌++◌, Some, None}
+use Rattle.rsvp_base.specs.Members.{In}
+use Rattle.rsvp_base.specs.Sets.{is_none}
+use Rattle.rsvp_base.specs.Table.{get, has}
+use Rattle.rsvp_messages.specs.declared.ask.Ask.{Ask}
+use Rattle.router_rules.specs.Asking.{ask_of}
+use Rattle.router_rules.specs.Facts.{Facts}
+use Rattle.router_rules.specs.Inputs.{Change, ConfSend, ErrSend, Send}
+use Rattle.router_rules.specs.Known.{Lane, lanes}
+use Rattle.router_rules.specs.Offers.{Offer, OfferKey, offers}
+use Rattle.router_rules.specs.Place.{Place}
+use Rattle.router_rules.specs.Requests.{toward}
+use Rattle.router_rules.specs.Sends.{conf_send, confirm_for, confirmed, error_send, is_changed, is_new_offer, path_send, path_tear, resv_send, resv_tear_send, sends, torn_names}
+
+module _ (old p : Place) (before after : Facts) (k : Change) (s : Send) where
+  -- an offer that is gone
+  pub record IsPathTear : Type 0 where
+    pub key : OfferKey
+    pub was : has (offers old before) key ≡ true
+    pub gone : has (offers p after) key ≡ false
+    pub is : s ≡ path_tear p key
+
+  -- units that are gone toward a hop, with the names that are still via it
+  pub record IsResvTear : Type 0 where
+    pub lane : Lane
+    pub was : has (lanes before) lane ≡ true
+    pub some : is_none (torn_names old p before after lane) ≡ false
+    pub is : s ≡ resv_tear_send p after lane (torn_names old p before after lane)
+
+  pub record IsError : Type 0 where
+    pub error : ErrSend
+    pub made : In error k.errors
+    pub is : s ≡ error_send error
+
+  pub record IsConf : Type 0 where
+    pub conf : ConfSend
+    pub made : In conf (k.confs ++ confirmed old p before after k.asked)
+    pub is : s ≡ conf_send conf
+
+  -- an offer whose session came due, or that is new; it is a refresh where its session came due
+  pub record IsPath : Type 0 where
+    pub key : OfferKey
+    pub offer : Offer
+    pub offered : get (offers p after) key ≡ Some offer
+    pub why : (has k.fired key.session || is_new_offer offer (get (offers old before) key)) ≡ true
+    pub is : s ≡ path_send p (has k.fired key.session) (key, offer)
+
+  -- what goes toward a hop whose session came due, or where it changed; it is a refresh where its session came due
+  pub record IsResv : Type 0 where
+    pub lane : Lane
+    pub there : has (lanes after) lane ≡ true
+    pub ask : Ask
+    pub whole : ask_of lane.style (toward p after lane) ≡ Some ask
+    pub why : (has k.fired lane.session || is_changed old p before after lane) ≡ true
+    pub is : s ≡ resv_send p after lane (cond (is_changed old p before after lane) (confirm_for p after lane k.asked) None) (has k.fired lane.session) ask
+
+  abbrev pub IsSend : Type 0
+  IsSend = IsPathTear ⊎ (IsResvTear ⊎ (IsError ⊎ (IsConf ⊎ (IsPath ⊎ IsResv))))
+
+-- each send is one of six kinds, and each of these is sent
+pub record SendsAreOfSixKinds : Type 0 where
+  pub each : (old p : Place) (before after : Facts) (k : Change) (s : Send) → In s (sends old p before after k) ↔ IsSend old p before after k s

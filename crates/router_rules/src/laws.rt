@@ -1,0 +1,142 @@
+//! The laws of the definitions: what the tests tell, what is found where, and what is sent. With them nothing above opens
+//! a definition. The lemmas behind them stand in `proofs/`.
+ghost use Rattle.router_rules.specs.FactLaws.{TestsTell, KnownAndVia, OffersByWay, RequestsAndToward, BooksAndLines, RoomTells};
+ghost use Rattle.router_rules.specs.RuleLaws.{TablesByStyle, WaitingLeavesTheLiving, LeftByNames, ForgettingByNames, CountdownsSettle, UnitsOneByOne, ErrorsAndWalls, RuleInParts, FrontsAreTheRule};
+ghost use Rattle.router_rules.specs.SendLaws.{SendsAreOfSixKinds};
+ghost use Rattle.router_rules.specs.MessageLaws.{PathsByTests, ResvTearsByNames, ConfirmationsByWish, AsksOfParts, GoneByUnits, NoFactsAreWithinBounds};
+
+/// Each test tells what it is the test of.
+#[tactic(auto, using(crate::proofs::Tests::tests_tell))]
+pub fn tests_tell()
+    ensures { TestsTell }
+{}
+
+/// A table of senders, paths or wants that changed at one session is within its limits exactly where the test there passes.
+#[tactic(auto, using(crate::proofs::Rooms::room_tells))]
+pub fn room_tells()
+    ensures { RoomTells }
+{}
+
+/// A sender is known where it is a local one or has a path; a name is via a hop where a path of it comes from there; a
+/// session counts where a sender of it is known.
+#[tactic(auto, using(crate::proofs::Knowing::known_and_via))]
+pub fn known_and_via()
+    ensures { KnownAndVia }
+{}
+
+/// A sender is offered by each interface by which its tree goes out, and by no other.
+#[tactic(auto, using(crate::proofs::Offering::offers_by_way))]
+pub fn offers_by_way()
+    ensures { OffersByWay }
+{}
+
+/// The requests toward a hop are what is left of reservations and of wants; nothing goes where no path comes from.
+#[tactic(auto, using(crate::proofs::Requesting::requests_and_toward))]
+pub fn requests_and_toward()
+    ensures { RequestsAndToward }
+{}
+
+/// The lines of a node are its reservations, and an entry of a book is the merge of those on its interface.
+#[tactic(auto, using(crate::proofs::Requesting::books_and_lines))]
+pub fn books_and_lines()
+    ensures { BooksAndLines }
+{}
+
+/// There is one table of reservations for each style, and a change of one leaves the others.
+#[tactic(auto, using(crate::proofs::Leaving::tables_by_style))]
+pub fn tables_by_style()
+    ensures { TablesByStyle }
+{}
+
+/// A wait leaves each fact that dies later than the clock as it is, and no other; sessions whose moment came are due.
+#[tactic(auto, using(crate::proofs::Leaving::waiting_leaves_the_living))]
+pub fn waiting_leaves_the_living()
+    ensures { WaitingLeavesTheLiving }
+{}
+
+/// What is left of a reservation has the names that stay, and all else as it was; without a name nothing is left.
+#[tactic(auto, using(crate::proofs::Leaving::left_by_names))]
+pub fn left_by_names()
+    ensures { LeftByNames }
+{}
+
+/// A name is lost where a sender of it was known before and none is after; reservations lose these names alone.
+#[tactic(auto, using(crate::proofs::Leaving::forgetting_by_names))]
+pub fn forgetting_by_names()
+    ensures { ForgettingByNames }
+{}
+
+/// A countdown stands exactly where its session has a known sender; a new one begins at a period.
+#[tactic(auto, using(crate::proofs::Leaving::countdowns_settle))]
+pub fn countdowns_settle()
+    ensures { CountdownsSettle }
+{}
+
+/// The units of a Resv are handled one by one: a unit that is taken changes the reservation of its own key, and one that is
+/// refused or left out changes none.
+#[tactic(auto, using(crate::proofs::Taking::units_one_by_one))]
+pub fn units_one_by_one()
+    ensures { UnitsOneByOne }
+{}
+
+/// An error goes on to reservations that it speaks of; a blockade was there, or an error set it.
+#[tactic(auto, using(crate::proofs::Telling::errors_and_walls))]
+pub fn errors_and_walls()
+    ensures { ErrorsAndWalls }
+{}
+
+/// What a rule leaves is what the input does, with names forgotten, countdowns settled and marks used.
+#[tactic(auto, using(crate::proofs::Ruling::rule_in_parts))]
+pub fn rule_in_parts()
+    ensures { RuleInParts }
+{}
+
+/// The shut fronts, which contracts cite, are the rule.
+#[tactic(auto, using(crate::proofs::Ruling::fronts_are_the_rule))]
+pub fn fronts_are_the_rule()
+    ensures { FrontsAreTheRule }
+{}
+
+/// Each send is a tear of what is gone, an error, a confirmation, or an offer or request that is new or due; and each of
+/// these is sent.
+#[tactic(auto, using(crate::proofs::Sending::sends_are_of_six_kinds))]
+pub fn sends_are_of_six_kinds()
+    ensures { SendsAreOfSixKinds }
+{}
+
+/// A Path is dropped for want of a sender, off its tree or for want of room, and else learnt; a PathTear takes away the path
+/// of its own hop alone.
+#[tactic(auto, using(crate::proofs::Receiving::paths_by_tests))]
+pub fn paths_by_tests()
+    ensures { PathsByTests }
+{}
+
+/// A ResvTear takes its names from the reservations of its hop, and changes no other.
+#[tactic(auto, using(crate::proofs::Receiving::resv_tears_by_names))]
+pub fn resv_tears_by_names()
+    ensures { ResvTearsByNames }
+{}
+
+/// A ResvConf goes on to next hops that wanted to hear of a reservation that it speaks of.
+#[tactic(auto, using(crate::proofs::Receiving::confirmations_by_wish))]
+pub fn confirmations_by_wish()
+    ensures { ConfirmationsByWish }
+{}
+
+/// What is sent for a table of parts asks for exactly its parts, unit by unit; nothing is sent for none.
+#[tactic(auto, using(crate::proofs::Asks::asks_of_parts))]
+pub fn asks_of_parts()
+    ensures { AsksOfParts }
+{}
+
+/// The names that are torn down are those of parts whose units are gone.
+#[tactic(auto, using(crate::proofs::Asks::gone_by_units))]
+pub fn gone_by_units()
+    ensures { GoneByUnits }
+{}
+
+/// A node without facts is within bounds.
+#[tactic(auto, using(crate::proofs::Bounding::no_facts_are_within_bounds))]
+pub fn no_facts_are_within_bounds()
+    ensures { NoFactsAreWithinBounds }
+{}

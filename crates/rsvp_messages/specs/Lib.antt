@@ -1,0 +1,4 @@
+pub mod FlowTable
+pub mod Kinds
+pub mod Units
+pub mod Proper
