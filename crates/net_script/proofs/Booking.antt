@@ -19,7 +19,7 @@ use Rattle.net_script.specs.declared.script.End.{End}
 use Rattle.net_script.specs.declared.script.Stale.{Stale}
 
 -- ---- lists
-with_rows-append : {K X : Type 0} {o : Keys K} (m : Table o X) (xs ys : List (K × X)) → with_rows m (xs ++ ys) ≡ with_rows (with_rows m xs) ys
+pub with_rows-append : {K X : Type 0} {o : Keys K} (m : Table o X) (xs ys : List (K × X)) → with_rows m (xs ++ ys) ≡ with_rows (with_rows m xs) ys
 with_rows-append m [] ys = refl
 with_rows-append m (x ∷ xs) ys = with_rows-append (put_in m x.0 x.1) xs ys
 

@@ -12,6 +12,7 @@ pub mod LineKinds
 pub mod Draft
 pub mod Keys
 pub mod Bookings
+pub mod Named
 pub mod Rules
 pub mod StaleValues
 pub mod Checked

@@ -1,5 +1,5 @@
 -- The rules of script lines, and the fault of a line that breaks one.
-use Rattle.std.specs.Prelude.{◌≡◌, ℕ, ◌%◌, ◌^◌, ◌<◌, ◌≤◌, List, [], ◌∷◌, map as each, None, Bool, true, false, IsSome, IfSome, length, count_by}
+use Rattle.std.specs.Prelude.{◌≡◌, ℕ, ◌%◌, ◌^◌, ◌<◌, ◌≤◌, List, [], ◌∷◌, ◌++◌, map as each, None, Bool, true, false, IsSome, IfSome, length, count_by}
 use Rattle.std.specs.List.{All, Contains}
 use Rattle.rsvp_base.specs.Table.{size}
 use Rattle.rsvp_base.specs.Orders.{names_from}
@@ -10,7 +10,8 @@ use Rattle.script_words.specs.Sessions.{IsSession, session_value}
 use Rattle.script_words.specs.Flows.{IsFlow}
 use Rattle.net_script.specs.Keys.{key_of, has_key}
 use Rattle.net_script.specs.Draft.{Draft, place_of, end_names, plain_ends, period_of, lifetime, node_number, ends_of, has_addr, end_named, stale_value, with_session, wild_sender}
-use Rattle.net_script.specs.Bookings.{entries_on, IsAdmitted}
+use Rattle.net_script.specs.Bookings.{entries_on, node_of, IsAdmitted}
+use Rattle.net_script.specs.Named.{line_of, names_on}
 use Rattle.net_script.specs.declared.draft.DeclaredEnd.{DeclaredEnd}
 use Rattle.net_script.specs.declared.draft.StaleKey.{StaleKey}
 use Rattle.net_script.specs.declared.fault.LineWhy.{LineWhy}
@@ -119,9 +120,10 @@ pub record HasRoomForFact (named : List Session) (session : Session) (senders : 
   pub few_senders : size (names_from senders) ≤ most_senders
   pub few_sessions : length (with_session named session) ≤ most_sessions
 
--- the book of the node has room for one entry more
-abbrev pub HasRoomForEntry : List Stale → ℕ → Type 0
-HasRoomForEntry stale node = size (entries_on stale node) < most_entries
+-- in its node, there are room for its entry in the book, and not too many senders of its session together
+pub record HasRoomInNode (stale : List Stale) (s : Stale) : Type 0 where
+  pub few_entries : size (entries_on stale (node_of s)) < most_entries
+  pub few_names : size (names_on (stale ++ s ∷ []) (node_of s) (line_of s).style (line_of s).session) ≤ most_senders
 
 abbrev pub is_report : Event → Bool
 is_report (Wait ms) = false
@@ -157,7 +159,7 @@ StaleKeeps d l InTime = d.events ≡ []
 StaleKeeps d l InRange = IsStaleInRange (period_of d) l
 StaleKeeps d l Known = IsSome (end_named d.ends l.end)
 StaleKeeps d l New = IfSome (end_named d.ends l.end) (λ e. IsNewFact (each key_of d.stale) (key_value e l) (each wild_sender l.senders))
-StaleKeeps d l WithinLimits = HasRoomForFact d.sessions (session_value l.session) (each wild_sender l.senders) × IfSome (end_named d.ends l.end) (λ e. HasRoomForEntry d.stale e.end.node)
+StaleKeeps d l WithinLimits = HasRoomForFact d.sessions (session_value l.session) (each wild_sender l.senders) × IfSome (end_named d.ends l.end) (λ e. HasRoomInNode d.stale (stale_value e l))
 StaleKeeps d l WithinCapacity = IfSome (end_named d.ends l.end) (λ e. IsAdmitted (plain_ends d.ends) d.stale (stale_value e l))
 
 abbrev pub WaitKeeps : ℕ → Rule → Type 0

@@ -1,12 +1,16 @@
 //! What the lines of a script have said so far.
-ghost use Rattle.std.specs.Prelude.{◌≡◌, ◌≢◌, ◌<◌, ◌≤◌, [], length, map, unwrap_or};
+ghost use Rattle.std.specs.Prelude.{◌≡◌, ◌≢◌, ℕ, ◌<◌, ◌≤◌, [], length, map, unwrap_or};
 ghost use Rattle.std.specs.List.{All};
 ghost use Rattle.net_script.specs.Bookings.{AreBooks, IsPlaced, node_of};
 ghost use Rattle.net_script.specs.Draft.{plain_ends};
 ghost use Rattle.net_script.specs.Keys.{key_of};
+ghost use Rattle.net_script.specs.Named.{names_at, names_on};
+ghost use Rattle.rsvp_base.specs.declared.session.Session.{Session as SessionOf};
+ghost use Rattle.rsvp_base.specs.declared.style.StyleKind.TheVariants.{Wild as WildOf};
 
 use crate::names::NameTable;
 use crate::script::{End, Event, Stale};
+use crate::session_names::SessionNames;
 use admission_book::Book;
 use indexmap::IndexSet;
 use rsvp_base::{Addr, Flow, Sender, Session};
@@ -57,6 +61,8 @@ pub struct Checker {
     pub events: Vec<Event>,
     /// The book of each node, by number, once there is a left-over reservation.
     pub books: Vec<Book>,
+    /// The senders that are named for each node and session.
+    pub names: SessionNames,
     pub ghost minute: { unwrap_or period 30000 ≤ 60000 },
     pub ghost few_nodes: { length nodes ≤ 256 },
     pub ghost few_sessions: { length sessions.keys ≤ 32 },
@@ -66,6 +72,7 @@ pub struct Checker {
     pub ghost placed: { All (IsPlaced (plain_ends ends.items)) (plain_ends ends.items) },
     pub ghost facts_known: { All (λ s. node_of s < length nodes) stale.items },
     pub ghost booked: { AreBooks (plain_ends ends.items) stale.items books.items },
+    pub ghost named: { (node : ℕ) (session : SessionOf) → names_at names node session ≡ names_on stale.items node WildOf session },
     pub ghost opened: { stale.items ≢ [] → length books.items ≡ length nodes },
 }
 
@@ -88,6 +95,7 @@ impl Checker {
             sessions: IndexSet::new(alloc),
             events: Vec::new(alloc),
             books: Vec::new(alloc),
+            names: SessionNames::new(alloc),
         }
     }
 }

@@ -18,6 +18,7 @@ mod parsing;
 mod refusal;
 mod rules;
 mod script;
+mod session_names;
 #[cfg(test)]
 mod tests;
 

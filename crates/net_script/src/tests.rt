@@ -1,5 +1,5 @@
 //! What no clause says: that the grammar is the format's, that memory suffices, and the texts of the errors.
-use crate::LineWhy::{Late, Limit, Name, Range, Twice, Word};
+use crate::LineWhy::{Late, Limit, Name, Over, Range, Twice, Word};
 use crate::{EndName, EndNames, Event, LineErr, LineWhy, MOST_LINE, ParseErr, Stale, parse};
 use rsvp_base::{Addr, Flow, Peak, Rate, Sender, Session, StyleKind};
 use std::alloc::{AllocError, Global};
@@ -222,7 +222,25 @@ fn a_bad_line_has_its_first_fault(rt: HostRuntime) -> Result<(), Fail> {
             3,
             Twice,
         ),
+        (
+            FACT,
+            "stale-resv r1 239.1.1.2/17/5004 WF 10.0.1.1 10.0.9.9 601/1/inf/1/1500 1",
+            4,
+            Over,
+        ),
+        (
+            END,
+            "stale-resv r1 239.1.1.1/17/5004 WF 10.0.1.1 10.0.9.9 1/1/inf/1/1501 1",
+            3,
+            Over,
+        ),
         // two faults in one line
+        (
+            FACT,
+            "stale-resv r1 239.1.1.1/17/5004 WF 10.0.1.1 10.0.9.9 601/1/inf/1/1501 1",
+            4,
+            Twice,
+        ),
         ("wait 1\n", "node X", 2, Word),
         ("wait 1\n", "period 1002", 2, Late),
         ("", "end a1 a 10.0.0.1 5 0", 1, Range),
@@ -293,6 +311,58 @@ fn a_script_has_limits(rt: HostRuntime) -> Result<(), Fail> {
 }
 
 #[test]
+fn an_interface_has_what_its_reservations_ask_for(rt: HostRuntime) -> Result<(), Fail> {
+    let alloc = rt.alloc();
+    let two = format!(in alloc;
+        "{END}end r2 r 10.0.2.2 500 1500\nnode s\nend s1 s 10.0.2.3 500 1500\n\
+        stale-resv r1 239.1.1.1/17/1 WF 10.0.1.1 {SIXTEEN} 400/1/inf/1/1500 1\n"
+    )?;
+    let rows = [
+        // as much as is free, and no more
+        (
+            "stale-resv r1 239.1.1.2/17/1 WF 10.0.1.1 1.0.0.17 600/1/inf/1/1500 1",
+            None,
+        ),
+        (
+            "stale-resv r1 239.1.1.2/17/1 WF 10.0.1.1 1.0.0.17 601/1/inf/1/1500 1",
+            Some(Over),
+        ),
+        // each interface by itself
+        (
+            "stale-resv r2 239.1.1.2/17/1 WF 10.0.2.1 1.0.0.17 500/1/inf/1/1500 1",
+            None,
+        ),
+        (
+            "stale-resv r2 239.1.1.2/17/1 WF 10.0.2.1 1.0.0.17 501/1/inf/1/1500 1",
+            Some(Over),
+        ),
+        // the senders of a session in a node together
+        (
+            "stale-resv r2 239.1.1.1/17/1 WF 10.0.2.1 1.0.0.16 1/1/inf/1/1500 1",
+            None,
+        ),
+        (
+            "stale-resv r2 239.1.1.1/17/1 WF 10.0.2.1 1.0.0.17 1/1/inf/1/1500 1",
+            Some(Limit),
+        ),
+        (
+            "stale-resv r2 239.1.1.1/17/1 WF 10.0.2.1 1.0.0.17 501/1/inf/1/1500 1",
+            Some(Limit),
+        ),
+        (
+            "stale-resv s1 239.1.1.1/17/1 WF 10.0.2.1 1.0.0.17 1/1/inf/1/1500 1",
+            None,
+        ),
+    ];
+    for (line, why) in rows {
+        let text = format!(in alloc; "{two}{line}")?;
+        let wanted = why.map(|why| ParseErr::Line(LineErr { line: 7, why }));
+        assert_eq!(rt; parse(alloc, text.as_bytes()).err(), wanted, "at {line}");
+    }
+    Ok(())
+}
+
+#[test]
 fn ends_have_names(rt: HostRuntime) -> Result<(), Fail> {
     let alloc = rt.alloc();
     let mut list = Vec::new(alloc);
@@ -314,6 +384,7 @@ fn errors_are_the_status_texts(rt: HostRuntime) -> Result<(), Fail> {
         (Name, "line 7: name"),
         (Twice, "line 7: twice"),
         (Limit, "line 7: limit"),
+        (Over, "line 7: over"),
     ];
     for (why, text) in rows {
         let error = LineErr { line: 7, why };

@@ -5,11 +5,15 @@ ghost use Rattle.rsvp_base.specs.Orders.{names_from};
 ghost use Rattle.std.specs.List.{All};
 ghost use Rattle.script_words.specs.Addresses.{IsAddr};
 ghost use Rattle.net_script.specs.Checked.{draft_of};
-ghost use Rattle.net_script.specs.Bookings.{IsAdmitted, IsPlaced, iface_of, ifaces_on, node_of};
+ghost use Rattle.net_script.specs.Bookings.{IsAdmitted, IsPlaced, entries_on, iface_of, ifaces_on, node_of};
 ghost use Rattle.net_script.specs.Draft.{end_named, plain_ends, wild_sender, with_line, with_session};
 ghost use Rattle.net_script.specs.Keys.{has_key, key_of};
+ghost use Rattle.net_script.specs.Named.{line_of, names_on};
+ghost use Rattle.rsvp_base.specs.Sets.{union};
+ghost use Rattle.rsvp_base.specs.Table.{size};
+ghost use Rattle.rsvp_base.specs.declared.style.StyleKind.TheVariants.{Wild as WildOf};
 ghost use Rattle.net_script.specs.Refusals.{MatchRefusal, Refuses};
-ghost use Rattle.net_script.specs.Rules.{AreDistinct, HasRoomForEntry, HasRoomForFact, IsNewFact, IsStaleInRange, KeepsAll, most_sessions, StaleKeeps};
+ghost use Rattle.net_script.specs.Rules.{AreDistinct, HasRoomForFact, IsNewFact, IsStaleInRange, KeepsAll, most_entries, most_senders, most_sessions, StaleKeeps};
 ghost use Rattle.net_script.specs.StaleValues.{AreValuesOf};
 ghost use Rattle.net_script.specs.declared.line.Line.TheVariants as kind;
 
@@ -20,6 +24,7 @@ use crate::fault::LineWhy;
 use crate::line::StaleResvLine;
 use crate::refusal::Refusal;
 use crate::script::Stale;
+use crate::session_names::NodeSession;
 use indexmap::IndexSet;
 use rsvp_base::{Sender, Senders, Session, StyleKind};
 use script_words::{DottedQuad, EndName};
@@ -64,9 +69,13 @@ fn add_fact(alloc: Global, checker: &mut Checker, line: StaleResvLine) -> Result
     let Some(senders) = fitting(&checker.sessions, key.session, values.senders.as_slice()) else {
         return Err(Refusal::Fault(LineWhy::Limit));
     };
-    if !checker.books[key.node as usize].has_room() {
+    let place = NodeSession {
+        node: key.node,
+        session: key.session,
+    };
+    let Some(names) = names_with(checker, place, &senders) else {
         return Err(Refusal::Fault(LineWhy::Limit));
-    }
+    };
     let fact = Stale::Resv {
         node: key.node,
         iface: key.iface,
@@ -77,7 +86,7 @@ fn add_fact(alloc: Global, checker: &mut Checker, line: StaleResvLine) -> Result
         flow: values.flow,
         left: values.left,
     };
-    keep(checker, key, fact)
+    keep(checker, key, fact, names)
 }
 
 // What the numbers of a left-over reservation stand for; none where one is out of range.
@@ -171,14 +180,29 @@ fn fitting(sessions: &IndexSet<Session>, session: Session, senders: &[Sender]) -
     Senders::of(senders).ok()
 }
 
+// The senders that the reservations of a session name together in a node, with these; where that is not too many, and the
+// book of the node has room for an entry.
+fn names_with(checker: &Checker, at: NodeSession, senders: &Senders) -> Option<Senders>
+    requires known { at.node < length checker.now.books.items }
+    ensures some { IsSome result ↔ ((size (entries_on checker.now.stale.items at.node) < most_entries) × (size (union (names_on checker.now.stale.items at.node WildOf at.session) senders.now) ≤ most_senders)) }
+    ensures names { IfSome result (λ names. names ≡ union (names_on checker.now.stale.items at.node WildOf at.session) senders.now) }
+{
+    if !checker.books[at.node as usize].has_room() {
+        return None;
+    }
+    checker.names.with(at, senders).ok()
+}
+
 // Keeps a fact of a new key, and names its session.
-fn keep(checker: &mut Checker, key: StaleKey, fact: Stale) -> Result<(), Refusal>
+fn keep(checker: &mut Checker, key: StaleKey, fact: Stale, names: Senders) -> Result<(), Refusal>
     requires key { key ≡ key_of fact }
     requires absent { has_key checker.old.keys.keys key ≡ false }
     requires few { length (with_session checker.old.sessions.keys key.session) ≤ 32 }
     requires known { node_of fact < length checker.old.nodes }
     requires iface { iface_of fact < length (ifaces_on (plain_ends checker.old.ends.items) (node_of fact)) }
-    requires room { HasRoomForEntry checker.old.stale.items (node_of fact) }
+    requires room { size (entries_on checker.old.stale.items (node_of fact)) < most_entries }
+    requires wild { (line_of fact).style ≡ WildOf }
+    requires names { names ≡ union (names_on checker.old.stale.items (node_of fact) WildOf (line_of fact).session) (line_of fact).part.senders }
     requires opened { length checker.old.books.items ≡ length checker.old.nodes }
     ensures ok { OnOk result (draft_of checker.new ≡ record (draft_of checker.old) { stale = checker.old.stale.items ++ fact ∷ []; sessions = with_session checker.old.sessions.keys key.session }) }
     ensures admitted { OnOk result (IsAdmitted (plain_ends checker.old.ends.items) checker.old.stale.items fact) }
@@ -186,10 +210,16 @@ fn keep(checker: &mut Checker, key: StaleKey, fact: Stale) -> Result<(), Refusal
 {
     checker.stale.reserve(1)?;
     checker.keys.reserve(1)?;
+    checker.names.reserve()?;
     checker.sessions.insert(key.session)?;
     if charge(&mut checker.books, &fact).is_err() {
         return Err(Refusal::Fault(LineWhy::Over));
     }
+    let place = NodeSession {
+        node: key.node,
+        session: key.session,
+    };
+    checker.names.put(place, names);
     let _ = checker.keys.insert(key);
     let _ = checker.stale.push(fact);
     Ok(())

@@ -1,28 +1,23 @@
-use Rattle.std.proofs.Common.{◌≡◌, ◌<◌, refl, sym, ap, ◌∙◌, subst, arith}
+use Rattle.std.proofs.Common.{refl, sym, ap, ◌∙◌, subst}
 use Rattle.std.specs.Prelude.{IsSome}
-use Rattle.std.proofs.lemmas.Option.{get_or_from_slice_get}
+use Rattle.std.proofs.lemmas.Bool.{false≢true}
 use Rattle.rsvp_base.specs.Orders.{names_from}
-use Rattle.rsvp_base.specs.Table.{size}
-use Rattle.admission_book.specs.Book.{Bookings}
-use Rattle.net_script.specs.Bookings.{bookings_on}
 use Rattle.net_script.specs.Checked.{draft_of}
 use Rattle.net_script.specs.Draft.{plain_ends}
-use Rattle.net_script.specs.Rules.{HasRoomForFact, IsNewFact, IsStaleInRange}
+use Rattle.net_script.specs.Rules.{HasRoomForFact, HasRoomInNode, IsNewFact, IsStaleInRange}
 use Rattle.net_script.specs.declared.draft.DeclaredEnd.{DeclaredEnd}
 use Rattle.net_script.specs.declared.draft.StaleValues.{StaleValues}
-use Rattle.net_script.proofs.StaleRules.{KeepsOthers, key_at, kept, refused}
+use Rattle.net_script.proofs.Booking.{number_within}
+use Rattle.net_script.proofs.StaleRules.{KeepsOthers, fact_at, its_room, key_at, kept, no_room, refused, room}
 use Rattle.net_script.proofs.rules.stale_resv.add_fact.Goals as goal
-use Rattle.net_script.proofs.rules.stale_resv.add_fact.Goals.{After-keep}
+use Rattle.net_script.proofs.rules.stale_resv.add_fact.Goals.{After-keep, After-names_with}
 
-module _ (c : After-keep) where
+module _ (c : After-names_with) where
   abbrev end : DeclaredEnd
   end = c.in-Some-end_named.declared.now
 
   abbrev values : StaleValues
   values = c.in-Some.values
-
-  its_book : c.index.result.now ≡ bookings_on (plain_ends c.args.checker.now.ends.items) c.args.checker.now.stale.items end.end.node
-  its_book = c.index.ensures ∙ get_or_from_slice_get c.args.checker.now.books.items end.end.node _ c.index.result.now (c.args.checker.now.booked end.end.node (omega (arith, c.requires.opened, c.in-Some-end_named.ensures.known)))
 
   others : KeepsOthers (draft_of c.args.checker.now) c.args.line end values c.in-Some-fitting.senders c.args.checker.now.keys.keys
   others =
@@ -35,11 +30,26 @@ module _ (c : After-keep) where
         in_range = subst (λ period. IsStaleInRange period c.args.line) c.unwrap_or-period.ensures (c.in_ok-values.ensures.some.0 (subst IsSome (sym c.in-Some.is) refl));
         new = subst (λ ss. IsNewFact c.args.checker.now.keys.keys (key_at end values) ss) c.as_slice.ensures.value (c.is_new.ensures.0 c.if-not-is_new.false);
         room = subst (λ ss. HasRoomForFact c.args.checker.now.sessions.keys values.session ss) c.as_slice-2.ensures.value (c.in-Some-fitting.ensures.some.0 refl);
-        entry = subst (λ (b : Bookings). size b.entries < 3072) its_book (c.has_room.ensures.0 c.if-not-has_room.false);
       }
 
+pub returns-in_default-names_with-clause-refused : goal.returns-in_default-names_with-clause-refused
+returns-in_default-names_with-clause-refused c =
+    let d = (goal.at.returns-in_default-names_with-clause-refused c).After-names_with in
+    no_room (draft_of c.args.checker.now) c.args.line _ _ _ _ (others d) (λ is. false≢true (subst IsSome c.in_default-names_with.is (c.names_with.ensures.some.1 (its_room c.args.checker.now.stale.items (end d) (values d) _ is))))
+
+pub keep-requires-clause-iface : goal.keep-requires-clause-iface
+keep-requires-clause-iface c = number_within (plain_ends c.args.checker.now.ends.items) c.in-Some-end_named.declared.now.end c.in-Some-end_named.ensures.placed
+
+module _ (c : After-keep) where
+  in_node : HasRoomInNode c.args.checker.now.stale.items (fact_at c.in-Some-end_named.declared.now c.in-Some.values c.in-Some-fitting.senders)
+  in_node = room c.args.checker.now.stale.items c.in-Some-end_named.declared.now c.in-Some.values c.in-Some-fitting.senders (c.in-Some-names_with.ensures.some.0 refl)
+
 pub returns-clause-ok : goal.returns-clause-ok
-returns-clause-ok c = let d = (goal.at.returns-clause-ok c).After-keep in kept (draft_of c.args.checker.now) c.args.line _ _ _ _ (others d) c.keep.result _ c.keep.ensures.ok c.keep.ensures.admitted
+returns-clause-ok c =
+    let d = (goal.at.returns-clause-ok c).After-names_with in
+    kept (draft_of c.args.checker.now) c.args.line _ _ _ _ (others d) c.keep.result _ (in_node (goal.at.returns-clause-ok c).After-keep) c.keep.ensures.ok c.keep.ensures.admitted
 
 pub returns-clause-refused : goal.returns-clause-refused
-returns-clause-refused c = let d = (goal.at.returns-clause-refused c).After-keep in refused (draft_of c.args.checker.now) c.args.line _ _ _ _ (others d) c.keep.result c.keep.ensures.refused
+returns-clause-refused c =
+    let d = (goal.at.returns-clause-refused c).After-names_with in
+    refused (draft_of c.args.checker.now) c.args.line _ _ _ _ (others d) c.keep.result (in_node (goal.at.returns-clause-refused c).After-keep) c.keep.ensures.refused

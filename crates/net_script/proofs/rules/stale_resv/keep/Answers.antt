@@ -1,12 +1,17 @@
-use Rattle.std.proofs.Common.{◌≡◌, ◌<◌, ◌++◌, ◌∷◌, [], List, length, map, slice_get, refl, sym, ap, ◌∙◌, subst, arith}
-use Rattle.std.specs.Prelude.{Some}
+use Rattle.std.proofs.Common.{ℕ, ◌≡◌, ◌<◌, ◌++◌, ◌∷◌, [], List, length, map, slice_get, refl, sym, ap, ◌∙◌, subst, arith}
+use Rattle.std.specs.Prelude.{◌==◌, ◌&&◌, if◌then◌else◌, Some}
 use Rattle.std.specs.List.{All}
 use Rattle.std.proofs.lemmas.Grind.{common_steps}
 use Rattle.std.proofs.lemmas.List.{map-append, length-set}
 use Rattle.std.proofs.lemmas.List.Elements.{All-push}
 use Rattle.net_script.specs.Bookings.{AreBooks, bookings_on, node_of}
 use Rattle.net_script.specs.Draft.{plain_ends}
-use Rattle.net_script.specs.Keys.{key_of}
+use Rattle.net_script.specs.Keys.{key_of, same_session}
+use Rattle.net_script.specs.Named.{line_of, names_at, names_on}
+use Rattle.rsvp_base.specs.Orders.{Names}
+use Rattle.rsvp_base.specs.declared.session.Session.{Session}
+use Rattle.rsvp_base.specs.declared.style.StyleKind.TheVariants.{Wild}
+use Rattle.net_script.proofs.Naming.{key_node, key_session, names_with}
 use Rattle.net_script.specs.declared.draft.StaleKey.{StaleKey}
 use Rattle.net_script.specs.declared.script.End.{End}
 use Rattle.net_script.specs.declared.script.Stale.{Stale}
@@ -67,3 +72,16 @@ invariant_of-checker-2-clause-opened c =
     let d = (goal.at.invariant_of-checker-2-clause-opened c).After-is_err in
     let changed = not_failed c.charge.result _ c.is_err.ensures.value c.if-is_err.false c.charge.ensures.ok _ (its_book d) in
     λ _. ap length changed ∙ length-set c.args.checker.now.books.items (node_of c.args.fact) _ ∙ c.requires.opened
+
+pub invariant_of-checker-2-clause-named : goal.invariant_of-checker-2-clause-named
+invariant_of-checker-2-clause-named c =
+    let d = (goal.at.invariant_of-checker-2-clause-named c).After-push in
+    let old = c.args.checker.now in
+    let at : (node : ℕ) (session : Session) → ((c.args.key.node == node) && same_session c.args.key.session session) ≡ ((node_of c.args.fact == node) && same_session (line_of c.args.fact).session session) =
+    λ node session. ap (λ (k : StaleKey). (k.node == node) && same_session k.session session) c.requires.key ∙ ap (λ n. (n == node) && same_session (key_of c.args.fact).session session) (key_node c.args.fact) ∙ ap (λ s. (node_of c.args.fact == node) && same_session s session) (key_session c.args.fact) in
+    λ node session.
+    c.put.ensures node session
+    ∙ ap (λ b. if b then c.args.names else names_at c.reserve-3.new.self node session) (at node session)
+    ∙ ap (λ (rest : Names). if (node_of c.args.fact == node) && same_session (line_of c.args.fact).session session then c.args.names else rest) (c.reserve-3.ensures.same node session ∙ old.named node session)
+    ∙ sym (names_with old.stale.items c.args.fact Wild c.args.names (sym c.requires.wild) c.requires.names node session)
+    ∙ ap (λ ss. names_on ss node Wild session) (sym (kept d))
