@@ -11,6 +11,5 @@ pub mod Sending
 pub mod Receiving
 pub mod Asks
 pub mod Bounding
-pub mod SessionRoom
 pub mod Rooms
 pub mod Worked

@@ -11,7 +11,7 @@ use Rattle.rsvp_base.specs.Orders.{Names, senders, units}
 use Rattle.rsvp_base.specs.Table.{keys}
 use Rattle.rsvp_base.specs.TokenBucket.{TokenBucket}
 use Rattle.rsvp_base.proofs.Members.{in_each}
-use Rattle.router_rules.proofs.SessionRoom.{put_room, rows_room}
+use Rattle.rsvp_base.proofs.SessionRoom.{put_room, rows_room}
 use Rattle.rsvp_messages.specs.Units.{only}
 use Rattle.router_rules.specs.Calls.{wanted}
 use Rattle.router_rules.specs.FactLaws.{RoomTells}

@@ -1,7 +1,7 @@
 -- The worked rows hold by computing.
 use Rattle.std.specs.Prelude.{refl}
 use Rattle.router_rules.specs.PathRows.{PathGoesOn, PathsDropped, PathsEnd, LocalSenders, PathsMove, FaultsAreAnswered, PathErrorsGoOn}
-use Rattle.router_rules.specs.ResvRows.{ResvGoesOn, RefusedRaiseKeepsTheOld, NoPathNoReservation, LeftOut, StylesMergeByTheirUnits, TearsGoOn, GreedyIsBlockaded, BlockadedMerge, ErrorsGoOn, ConfirmationsComeBack, MarksWait, CallsAreRefused, FlagsAreByPaths}
+use Rattle.router_rules.specs.ResvRows.{ResvGoesOn, RefusedRaiseKeepsTheOld, NoPathNoReservation, LeftOut, StylesMergeByTheirUnits, NextHopsMerge, TearsGoOn, GreedyIsBlockaded, BlockadedMerge, ErrorsGoOn, ConfirmationsComeBack, MarksWait, CallsAreRefused, FlagsAreByPaths}
 
 pub path_goes_on : PathGoesOn
 path_goes_on =
@@ -59,6 +59,8 @@ faults_are_answered =
     record {
       told = refl;
       answer = refl;
+      service = refl;
+      service_answer = refl;
       not_here = refl;
       no_code = refl;
     }
@@ -122,6 +124,15 @@ styles_merge_by_their_units =
       conflict = refl;
       apart = refl;
       joined = refl;
+    }
+
+pub next_hops_merge : NextHopsMerge
+next_hops_merge =
+    record {
+      taken = refl;
+      two = refl;
+      merged = refl;
+      holds = refl;
     }
 
 pub tears_go_on : TearsGoOn

@@ -45,7 +45,7 @@ abbrev pub with_errors : Facts → ErrorsHeard → Change
 with_errors f r = record (only_heard r.1 f) { errors = r.0 }
 
 -- ---- messages that are not spelt
--- code and value of a fault of a Path or a Resv: an unknown class (13) or C-Type (14), a traffic control system error (21)
+-- code and value of a fault of a Path or a Resv: an unknown class (13) or C-Type (14), a traffic control error (21)
 abbrev pub object_code : Kind → ObjErr → Option (ℕ × ℕ)
 object_code kind.Path (obj.Class at class ctype) = Some (13, 256 * class + ctype)
 object_code kind.Resv (obj.Class at class ctype) = Some (13, 256 * class + ctype)

@@ -40,7 +40,7 @@ pub data Input : Type 0 where
   Clear : Input
   -- by an interface, to an address
   Came : ℕ → Addr → Arrival → Input
-  -- the routes are others than before
+  -- the routes are others than before (RFC 2205, 3.6)
   Moved : Input
 
 -- facts that a node is given and did not learn

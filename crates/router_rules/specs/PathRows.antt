@@ -1,6 +1,7 @@
 -- Worked rows of path state, at router r of the line.
 use Rattle.std.specs.Prelude.{◌≡◌, true, false, [], ◌∷◌, map as each, Some, None}
 use Rattle.std.specs.List.{range_with_len}
+use Rattle.rsvp_base.specs.declared.style.StyleKind.TheVariants.{Wild}
 use Rattle.rsvp_base.specs.Table.{size, with_rows}
 use Rattle.rsvp_messages.specs.declared.message.Message.{Message}
 use Rattle.rsvp_messages.specs.declared.message.Message.TheVariants as message
@@ -15,7 +16,7 @@ use Rattle.router_rules.specs.declared.answers.LocalErr.TheVariants as local
 use Rattle.router_rules.specs.Calls.{call_refusal}
 use Rattle.router_rules.specs.Facts.{Facts, no_facts}
 use Rattle.router_rules.specs.Inputs.{Came, Unspelt, SendAs, DropAs, Clear, Moved}
-use Rattle.router_rules.specs.Line.{ip, s1, r1, r2, t1, group, session, first, second, flow, usual, node, node_s, node_r, iface, came, waited, called, path, path_tear, sent, refreshed, error}
+use Rattle.router_rules.specs.Line.{ip, s1, r1, r2, t1, group, session, first, second, flow, usual, node, node_s, node_r, iface, came, waited, called, path, path_tear, resv_err, sent, refreshed, error}
 use Rattle.router_rules.specs.Rule.{Outcome, rule}
 
 -- r with the path of the first sender
@@ -88,9 +89,19 @@ unknown why = record { fault = why; kind = Some kind.Path; hint = record { sessi
 abbrev of_class : Outcome
 of_class = rule (node_r 10000) (node_r 10000) 0 (Came 0 group (Unspelt (unknown (fault.Object (obj.Class 20 64 1))))) no_facts
 
+-- a Resv that asks for another service than controlled load
+abbrev of_service : Outcome
+of_service = rule (node_r 10000) (node_r 10000) 0 (Came 1 r2 (Unspelt (record {
+  fault = fault.Object (obj.Service 60);
+  kind = Some kind.Resv;
+  hint = record { session = Some session; hop = Some (record { addr = t1; handle = 0 }); style = Some Wild; sender = None };
+}))) with_path.facts
+
 pub record FaultsAreAnswered : Type 0 where
   pub told : of_class.heard ≡ heard.Answered 13 16385
   pub answer : of_class.sent ≡ sent 0 s1 (message.PathErr (record { session = session; err = error r1 false 13 16385; sender = Some first })) ∷ []
+  pub service : of_service.heard ≡ heard.Answered 21 2
+  pub service_answer : of_service.sent ≡ sent 1 t1 (resv_err r2 (error r2 false 21 2) Wild None None) ∷ []
   pub not_here : (rule (node_r 10000) (node_r 10000) 0 (Came 0 r1 (Unspelt (unknown (fault.Object (obj.Class 20 64 1))))) no_facts).heard ≡ heard.Dropped why.Unspelt
   pub no_code : (rule (node_r 10000) (node_r 10000) 0 (Came 0 group (Unspelt (unknown (fault.Missing 5)))) no_facts).heard ≡ heard.Dropped why.Unspelt
 

@@ -117,6 +117,16 @@ pub record StylesMergeByTheirUnits : Type 0 where
   pub apart : two_fixed.sent ≡ sent 0 s1 (resv r1 None (ask.Fixed (put_in (put_in empty first (flow 300 300 64 1500)) second (flow 500 500 64 1500)))) ∷ []
   pub joined : two_shared.sent ≡ sent 0 s1 (resv r1 None (shared (first ∷ second ∷ []) (flow 500 500 64 1500))) ∷ []
 
+-- ---- two next hops of one interface: the book has their merge, and what goes on is from both
+abbrev beside_r : Outcome
+beside_r = came (node_s 10000) 0 0 s1 (resv (ip 10 0 1 3) None (wild (flow 500 400 128 1000))) (came (node_s 10000) 0 0 s1 (resv r1 None (wild (flow 300 600 64 1500))) (called (node_s 10000) 0 (SendAs session first usual) no_facts).facts).facts
+
+pub record NextHopsMerge : Type 0 where
+  pub taken : beside_r.heard ≡ heard.Taken
+  pub two : size beside_r.facts.resvs.wild ≡ 2
+  pub merged : (book beside_r.facts 0).rows ≡ ((session, (Wild, One)), record { senders = scope; flow = flow 500 600 64 1500 }) ∷ []
+  pub holds : held (book beside_r.facts 0) ≡ 500
+
 -- ---- tears
 abbrev quit : Outcome
 quit = came (node_r 10000) 0 1 r2 (message.ResvTear (record { session = session; hop = record { addr = t1; handle = 0 }; tear = tear.Wild (Some scope) })) (with_resv 10000).facts

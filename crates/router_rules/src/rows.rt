@@ -1,6 +1,6 @@
 //! Worked rows: what a router does at the nodes of a line of three, and of a fork. Each holds by computing the rule.
 ghost use Rattle.router_rules.specs.PathRows.{PathGoesOn, PathsDropped, PathsEnd, LocalSenders, PathsMove, FaultsAreAnswered, PathErrorsGoOn};
-ghost use Rattle.router_rules.specs.ResvRows.{ResvGoesOn, RefusedRaiseKeepsTheOld, NoPathNoReservation, LeftOut, StylesMergeByTheirUnits, TearsGoOn, GreedyIsBlockaded, BlockadedMerge, ErrorsGoOn, ConfirmationsComeBack, MarksWait, CallsAreRefused, FlagsAreByPaths};
+ghost use Rattle.router_rules.specs.ResvRows.{ResvGoesOn, RefusedRaiseKeepsTheOld, NoPathNoReservation, LeftOut, StylesMergeByTheirUnits, NextHopsMerge, TearsGoOn, GreedyIsBlockaded, BlockadedMerge, ErrorsGoOn, ConfirmationsComeBack, MarksWait, CallsAreRefused, FlagsAreByPaths};
 
 /// A Path is learnt and goes on, and again when its session comes due.
 #[tactic(auto, using(crate::proofs::Worked::path_goes_on))]
@@ -72,6 +72,12 @@ pub fn left_out()
 #[tactic(auto, using(crate::proofs::Worked::styles_merge_by_their_units))]
 pub fn styles_merge_by_their_units()
     ensures { StylesMergeByTheirUnits }
+{}
+
+/// Reservations of two next hops on one interface are merged in its book.
+#[tactic(auto, using(crate::proofs::Worked::next_hops_merge))]
+pub fn next_hops_merge()
+    ensures { NextHopsMerge }
 {}
 
 /// A ResvTear goes on; a sender that is gone leaves the reservations; a tree that moves takes them with it.

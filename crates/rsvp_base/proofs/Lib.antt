@@ -8,3 +8,4 @@ pub mod RateBits
 pub mod Members
 pub mod Counts
 pub mod Rows
+pub mod SessionRoom

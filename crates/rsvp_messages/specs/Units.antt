@@ -1,6 +1,6 @@
 -- What a Resv, a ResvTear or a ResvErr is about: units with their names (RFC 2205, 1.3 and 3.1). A wildcard message
 -- without SCOPE, and an error without senders, has no list of names, which is a case of its own and no empty list.
-use Rattle.std.specs.Prelude.{ℕ, List, [], ◌∷◌, map as each, Option, Some, None}
+use Rattle.std.specs.Prelude.{List, [], ◌∷◌, map as each, Option, Some, None}
 use Rattle.rsvp_base.specs.declared.session.Sender.{Sender}
 use Rattle.rsvp_base.specs.declared.style.StyleKind.{StyleKind}
 use Rattle.rsvp_base.specs.declared.style.StyleKind.TheVariants as style

@@ -4,7 +4,7 @@ ghost use Rattle.std.specs.Prelude.{◌≡◌};
 use crate::fixed_list::FixedList;
 use rsvp_base::{Flow, Part, Senders, StyleKind};
 
-/// What a Resv asks for, or a ResvConf confirms: a style with its flow descriptors (RFC 2205, 3.1.4 and 3.1.8).
+/// What a Resv asks for, or a ResvConf confirms: a style with its flow descriptors (RFC 2205, 3.1.4 and 3.1.9).
 #[derive(Drop)]
 pub enum Ask {
     /// One flow for all senders whose addresses the SCOPE lists (ports 0), or, where there is none, for all.
