@@ -4,3 +4,4 @@ pub mod Chains
 pub mod Ranks
 pub mod Valid
 pub mod Laws
+pub mod Codes

@@ -1,0 +1,4 @@
+pub mod MarkLaws
+pub mod Vertices
+pub mod LeastLaws
+pub mod Loops

@@ -1,0 +1,35 @@
+-- What a topology answers for a hop.
+use Rattle.std.specs.Prelude.{◌≡◌, ◌⊎◌, ℕ, ◌<◌, ◌≤◌, List, [], ◌∷◌, ◌++◌, Result, Ok, Err}
+use Rattle.rsvp_base.specs.declared.addr.Addr.{Addr}
+use Rattle.tree_laws.specs.declared.hops.Hop.{Hop}
+use Rattle.tree_laws.specs.declared.hops.TreeHop.{TreeHop}
+use Rattle.tree_laws.specs.Networks.{Net}
+use Rattle.tree_laws.specs.Trees.{tree, Grows}
+use Rattle.tree_laws.specs.Ranks.{IsLoopFreeIn, IsOnLoop}
+use Rattle.tree_routing.specs.declared.hop_err.HopErr.{HopErr}
+use Rattle.tree_routing.specs.declared.hop_err.HopErr.TheVariants.{NotTree, Loop, NoMemory}
+
+-- the network with one more hop
+abbrev pub with_hop : Net → TreeHop → Net
+with_hop net r = record { nodes = net.nodes; ends = net.ends; links = net.links; hops = net.hops ++ r ∷ [] }
+
+-- the tree of the hop can grow by it
+abbrev pub Fits : Net → TreeHop → Type 0
+Fits net r = Grows net r.source (tree net.hops r.group r.source) r.hop
+
+-- hops in order: by the end that they go out of, then by the one that they go into
+abbrev pub IsUpTo : Hop → Hop → Type 0
+IsUpTo a b = (a.from < b.from) ⊎ ((a.from ≡ b.from) × (a.to ≤ b.to))
+
+-- the least hop of the group that stands on a closed chain
+pub record IsLeastOnLoop (net : Net) (g : Addr) (h : Hop) : Type 0 where
+  pub on : IsOnLoop net g h
+  pub least : (x : Hop) → IsOnLoop net g x → IsUpTo h x
+
+-- taken: the tree grows, and no chain of the group is closed. Not of the tree: it can't grow by the hop. A loop: it can, and
+-- then this is the least hop on a closed chain of the group
+abbrev pub HopAnswer : Net → TreeHop → Result (Unit {0}) HopErr → Type 0
+HopAnswer net r (Ok u) = Fits net r × IsLoopFreeIn (with_hop net r) r.group
+HopAnswer net r (Err NotTree) = Fits net r → ⊥
+HopAnswer net r (Err (Loop group from to)) = Fits net r × (group ≡ r.group) × IsLeastOnLoop (with_hop net r) r.group (record { from = from; to = to })
+HopAnswer net r (Err NoMemory) = Unit {0}

@@ -1,0 +1,6 @@
+pub mod Known
+pub mod Walks
+pub mod Marks
+pub mod Found
+pub mod Answers
+pub mod Checks
