@@ -1,5 +1,5 @@
 -- Where no chain is closed, a hop stands higher than each that follows it.
-use Rattle.std.proofs.Common.{◌≡◌, ℕ, zero, suc, ◌≤◌, ◌<◌, List, [], ◌∷◌, length, map, max, ◌⊎◌, inl, inr, ⊎_elim, arith, sym, refl, ap, subst}
+use Rattle.std.proofs.Common.{◌≡◌, ℕ, zero, suc, ◌+◌, ◌-◌, ◌∙◌, ◌≤◌, ◌<◌, List, [], ◌∷◌, length, map, max, ◌⊎◌, inl, inr, ⊎_elim, arith, sym, refl, ap, subst}
 use Rattle.rsvp_base.specs.Members.{In}
 use Rattle.tree_laws.specs.Chains.{last_of, largest, NoRepeats, Chain, HasNoLoop, height}
 use Rattle.tree_laws.proofs.Counts.{not_longer}
@@ -63,7 +63,7 @@ module _ {A : Type 0} (follow : A → List A) (all : List A) where
         by_next rec (inl e) = let g : largest (map (λ h'. height follow (suc n) h') (follow h)) ≡ 0 = rw e in ([], i, omega arith)
         by_next rec (inr t) = let s = rec t.0 t.1 in (t.0 ∷ s.0, (i, t.1, s.1), omega (arith, t.2, s.2))
 
-    height_le : (n : ℕ) (h : A) → In h all → height follow n h ≤ length all
+    pub height_le : (n : ℕ) (h : A) → In h all → height follow n h ≤ length all
     height_le zero h i = omega arith
     height_le (suc n) h i =
         let c = chain_of n h i in
@@ -118,3 +118,16 @@ module _ {A : Type 0} (follow : A → List A) (all : List A) where
             let c = chain_of n h i in
             let up = chain_within h c.0 c.1 in
             (c.0, c.1, let le : height follow (length all) h ≤ suc (length c.0) = subst (λ m. height follow m h ≤ suc (length c.0)) e c.2 in omega arith)
+
+    -- more fuel than there are hops changes nothing
+    enough_by : (d : ℕ) (h : A) → In h all → height follow (d + length all) h ≡ height follow (length all) h
+    enough_by zero h i = let e : 0 + length all ≡ length all = omega arith in ap (λ (n : ℕ). height follow n h) e
+    enough_by (suc d) h i =
+        let e : suc d + length all ≡ suc (d + length all) = omega arith in
+        let le = height_le (suc (d + length all)) h i in
+        ap (λ (n : ℕ). height follow n h) e ∙ stable (d + length all) h (omega arith) ∙ enough_by d h i
+
+    pub height_enough : (n : ℕ) (h : A) → In h all → length all ≤ n → height follow n h ≡ height follow (length all) h
+    height_enough n h i le =
+        let e : n ≡ (n - length all) + length all = omega arith in
+        ap (λ (m : ℕ). height follow m h) e ∙ enough_by (n - length all) h i

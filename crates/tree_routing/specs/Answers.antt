@@ -1,6 +1,7 @@
 -- What a topology answers for a hop.
-use Rattle.std.specs.Prelude.{◌≡◌, ◌⊎◌, ℕ, ◌<◌, ◌≤◌, List, [], ◌∷◌, ◌++◌, Result, Ok, Err}
+use Rattle.std.specs.Prelude.{◌≡◌, ◌⊎◌, ℕ, ◌+◌, nat_lt, if◌then◌else◌, ◌<◌, ◌≤◌, List, [], ◌∷◌, ◌++◌, Result, Ok, Err}
 use Rattle.rsvp_base.specs.declared.addr.Addr.{Addr}
+use Rattle.tree_laws.specs.declared.hops.End.{End}
 use Rattle.tree_laws.specs.declared.hops.Hop.{Hop}
 use Rattle.tree_laws.specs.declared.hops.TreeHop.{TreeHop}
 use Rattle.tree_laws.specs.Networks.{Net}
@@ -9,7 +10,23 @@ use Rattle.tree_laws.specs.Ranks.{IsLoopFreeIn, IsOnLoop}
 use Rattle.tree_routing.specs.declared.hop_err.HopErr.{HopErr}
 use Rattle.tree_routing.specs.declared.hop_err.HopErr.TheVariants.{NotTree, Loop, NoMemory}
 
--- the network with one more hop
+-- no nodes
+abbrev pub no_net : Net
+no_net = record { nodes = 0; ends = []; links = []; hops = [] }
+
+-- the network with one more node, end, link or hop
+abbrev pub with_node : Net → Net
+with_node net = record { nodes = net.nodes + 1; ends = net.ends; links = net.links; hops = net.hops }
+
+abbrev pub with_end : Net → End → Net
+with_end net e = record { nodes = net.nodes; ends = net.ends ++ e ∷ []; links = net.links; hops = net.hops }
+
+abbrev pub in_order : ℕ → ℕ → List ℕ
+in_order a b = if nat_lt a b then a ∷ b ∷ [] else b ∷ a ∷ []
+
+abbrev pub with_link : Net → ℕ → ℕ → Net
+with_link net a b = record { nodes = net.nodes; ends = net.ends; links = net.links ++ in_order a b ∷ []; hops = net.hops }
+
 abbrev pub with_hop : Net → TreeHop → Net
 with_hop net r = record { nodes = net.nodes; ends = net.ends; links = net.links; hops = net.hops ++ r ∷ [] }
 

@@ -63,7 +63,7 @@ pub(crate) fn is_linked(links: &[Link], hop: Hop) -> bool
 }
 
 // Whether a hop is of the tree.
-fn is_in_tree(hop: &Known, group: Addr, source: Addr) -> bool
+pub(crate) fn is_in_tree(hop: &Known, group: Addr, source: Addr) -> bool
     ensures { result ≡ of_tree group source hop.now.hop }
 {
     hop.hop.group.0 == group.0 && hop.hop.source.0 == source.0

@@ -8,10 +8,17 @@
 
 mod ask;
 mod hop_err;
+mod keys;
 mod known;
 mod least;
+mod levels;
 mod link;
 mod marks;
+mod routing;
+mod topology;
+mod ways;
 
 pub use hop_err::HopErr;
+pub use routing::Routing;
+pub use topology::Topology;
 pub use tree_laws::{End, Hop, LocalSender, LocalWant, TreeHop};
