@@ -1,5 +1,5 @@
 -- Depth goes up by one along a hop, and with rank stays within the longest chain.
-use Rattle.std.specs.Prelude.{◌≡◌, ◌⊎◌, ℕ, ◌+◌, ◌≤◌, ◌<◌, Bool, true, false, ◌==◌, List, [], ◌∷◌, ◌++◌, None, Some, refl}
+use Rattle.std.specs.Prelude.{◌≡◌, ◌⊎◌, ℕ, ◌+◌, ◌≤◌, Bool, true, false, ◌==◌, List, [], ◌∷◌, ◌++◌, None, Some, refl}
 use Rattle.std.proofs.Common.{zero, suc, sym, ap, subst, ◌∙◌, inl, inr, ⊎_elim, arith}
 use Rattle.rsvp_base.specs.Members.{In}
 use Rattle.rsvp_base.specs.declared.addr.Addr.{Addr}

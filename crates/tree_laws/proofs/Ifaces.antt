@@ -1,8 +1,8 @@
 -- Interfaces of nodes and numbers of ends.
 use Rattle.std.specs.Prelude.{◌≡◌, ℕ, ◌+◌, ◌<◌, Bool, true, false, ◌==◌, List, [], ◌∷◌, length, take, Some, slice_get, refl, if◌then◌else◌}
-use Rattle.std.proofs.Common.{zero, suc, sym, ap, subst, ◌∙◌, arith}
+use Rattle.std.proofs.Common.{zero, suc, ap, ◌∙◌, arith}
 use Rattle.tree_laws.specs.declared.hops.End.{End}
-use Rattle.tree_laws.specs.Networks.{Net, node_of, ends_from, ends_of, end_at, iface_of}
+use Rattle.tree_laws.specs.Networks.{Net, node_of, ends_from}
 use Rattle.tree_laws.specs.Laws.{InterfacesAreEnds}
 use Rattle.tree_laws.proofs.Following.{same_number, number_same}
 
@@ -62,12 +62,11 @@ interfaces_are_ends net =
     record {
       end_of_iface = λ e lt. end_there 0 net.ends e (node_of net.ends e) lt refl ∙ ap Some (let z : 0 + e ≡ e = omega arith in z);
       iface_of_end = λ n i e is.
-        let f = found 0 net.ends n i e is in
-        let same : e ≡ f.place = let z = f.number_is in omega arith in
-        let at : node_of net.ends e ≡ n = ap (node_of net.ends) same ∙ f.at in
-        (
-          let z = f.inside in omega arith,
-          at,
-          ap (λ (m : ℕ). length (ends_from 0 (take e net.ends) m)) at ∙ ap (λ (k : ℕ). length (ends_from 0 (take k net.ends) n)) same ∙ f.before,
-        );
+          let f = found 0 net.ends n i e is in
+          let same : e ≡ f.place = let z = f.number_is in omega arith in
+          let at : node_of net.ends e ≡ n = ap (node_of net.ends) same ∙ f.at in (
+            let z = f.inside in omega arith,
+            at,
+            ap (λ (m : ℕ). length (ends_from 0 (take e net.ends) m)) at ∙ ap (λ (k : ℕ). length (ends_from 0 (take k net.ends) n)) same ∙ f.before,
+          );
     }

@@ -1,18 +1,16 @@
 -- On a link one end alone sends for a tree.
-use Rattle.std.specs.Prelude.{◌≡◌, ◌⊎◌, ℕ, Bool, true, false, not, ◌||◌, ◌==◌, List, [], ◌∷◌, ◌++◌, Some, refl, if◌then◌else◌}
-use Rattle.std.specs.List.{filter, list_any, list_all}
-use Rattle.std.proofs.Common.{sym, ap, subst, ◌∙◌, inl, inr, ⊎_elim}
+use Rattle.std.specs.Prelude.{◌≡◌, ℕ, Bool, true, false, not, ◌||◌, ◌==◌, List, [], ◌∷◌, ◌++◌, Some, refl, if◌then◌else◌}
+use Rattle.std.proofs.Common.{sym, ap, subst, ◌∙◌, inl, inr}
 use Rattle.rsvp_base.specs.Members.{In}
 use Rattle.rsvp_base.specs.declared.addr.Addr.{Addr}
-use Rattle.rsvp_base.proofs.Members.{in_filter, to_filter, in_any, any_in, all_in, in_left, in_right}
-use Rattle.rsvp_base.proofs.Tables.{either}
+use Rattle.rsvp_base.proofs.Members.{in_filter, in_any, any_in, all_in, in_left, in_right}
 use Rattle.tree_laws.specs.declared.hops.Hop.{Hop}
 use Rattle.tree_laws.specs.Networks.{Net, node_of, among, link_of, peers}
-use Rattle.tree_laws.specs.Trees.{tree, is_linked, sends_alone, Grows, IsGrownFrom, inward, outward}
+use Rattle.tree_laws.specs.Trees.{tree, is_linked, sends_alone, IsGrownFrom, inward, outward}
 use Rattle.tree_laws.specs.Valid.{IsValid}
 use Rattle.tree_laws.specs.Laws.{OneSendingEndOnALink}
 use Rattle.tree_laws.proofs.Following.{same_number, number_same}
-use Rattle.tree_laws.proofs.TreeLaws.{true_false, out_told, way_in_told}
+use Rattle.tree_laws.proofs.TreeLaws.{out_told, way_in_told}
 
 pub among_in : (e : ℕ) (es : List ℕ) → among e es ≡ true → In e es
 among_in e es t = let x = in_any (λ x. x == e) es t in subst (λ (a : ℕ). In a es) (same_number x.0 e x.2) x.1

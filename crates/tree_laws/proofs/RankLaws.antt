@@ -1,14 +1,14 @@
 -- Ranks fall along followers; the largest is the length of the longest chain.
-use Rattle.std.specs.Prelude.{◌≡◌, ◌⊎◌, ℕ, ◌<◌, ◌≤◌, Bool, true, false, List, [], ◌∷◌, length, map as each, max, refl, if◌then◌else◌}
-use Rattle.std.proofs.Common.{sym, ap, subst, ◌∙◌, inl, inr, ⊎_elim, arith}
+use Rattle.std.specs.Prelude.{◌≡◌, ◌⊎◌, ℕ, ◌<◌, ◌≤◌, Bool, true, false, List, [], ◌∷◌, length, map as each, refl, if◌then◌else◌}
+use Rattle.std.proofs.Common.{sym, ap, ◌∙◌, inl, inr, arith}
 use Rattle.rsvp_base.specs.Members.{In}
 use Rattle.rsvp_base.specs.declared.addr.Addr.{Addr}
 use Rattle.rsvp_base.proofs.Tables.{either}
 use Rattle.tree_laws.specs.declared.hops.Hop.{Hop}
 use Rattle.tree_laws.specs.declared.hops.TreeHop.{TreeHop}
-use Rattle.tree_laws.specs.Networks.{Net, node_of}
-use Rattle.tree_laws.specs.Trees.{tree, hops_of}
-use Rattle.tree_laws.specs.Chains.{largest, height, Chain}
+use Rattle.tree_laws.specs.Networks.{Net}
+use Rattle.tree_laws.specs.Trees.{hops_of}
+use Rattle.tree_laws.specs.Chains.{largest, height}
 use Rattle.tree_laws.specs.Ranks.{Follows, has_hop, followers, IsChain, IsLoopFree, rank, rank_of, longest}
 use Rattle.tree_laws.specs.Laws.{RankFallsAlongFollowers, LongestIsOfChains}
 use Rattle.tree_laws.proofs.Following.{in_has_hop, has_hop_in, in_group, to_group, tree_group, follower_of_group, follows_follower}

@@ -1,15 +1,14 @@
 -- Trees that were grown: one hop into a node, none into the root.
-use Rattle.std.specs.Prelude.{◌≡◌, ◌↔◌, ◌⊎◌, ℕ, Bool, true, false, not, ◌&&◌, ◌||◌, ◌==◌, List, [], ◌∷◌, ◌++◌, map as each, Option, None, Some, refl}
+use Rattle.std.specs.Prelude.{◌≡◌, ◌⊎◌, ℕ, Bool, true, false, ◌||◌, List, [], ◌∷◌, ◌++◌, Option, None, Some, refl}
 use Rattle.std.specs.List.{filter, list_any}
 use Rattle.std.proofs.Common.{sym, ap, subst, ◌∙◌, inl, inr, ⊎_elim, append_assoc}
 use Rattle.rsvp_base.specs.Members.{In}
 use Rattle.rsvp_base.specs.declared.addr.Addr.{Addr}
 use Rattle.rsvp_base.proofs.Members.{in_each, to_each, in_filter, to_filter, in_any, any_in, in_left, in_right}
-use Rattle.rsvp_base.proofs.Tables.{either}
 use Rattle.tree_laws.specs.declared.hops.End.{End}
 use Rattle.tree_laws.specs.declared.hops.Hop.{Hop}
 use Rattle.tree_laws.specs.Networks.{Net, node_of, owner}
-use Rattle.tree_laws.specs.Trees.{tree, goes_into, goes_out_of, is_node, is_reached, Grows, IsGrownFrom, first_by, end_into, inward, outward}
+use Rattle.tree_laws.specs.Trees.{tree, goes_into, goes_out_of, is_node, is_reached, IsGrownFrom, first_by, end_into, inward, outward}
 use Rattle.tree_laws.specs.Valid.{IsValid}
 use Rattle.tree_laws.specs.Laws.{OneHopIntoANode, OutwardIsByHops, TheRootHasNoInward}
 use Rattle.tree_laws.proofs.Following.{same_number, number_same}

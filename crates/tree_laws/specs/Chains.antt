@@ -1,5 +1,5 @@
 -- Chains: lists in which each is followed by the next; of any things, by what may follow each.
-use Rattle.std.specs.Prelude.{ℕ, ◌≡◌, ◌≤◌, length, List, [], ◌∷◌, map as each, max}
+use Rattle.std.specs.Prelude.{ℕ, List, [], ◌∷◌, map as each, max}
 use Rattle.std.proofs.Common.{zero, suc}
 use Rattle.rsvp_base.specs.Members.{In}
 

@@ -1,12 +1,11 @@
 -- The claims of the public laws.
-use Rattle.std.specs.Prelude.{◌≡◌, ◌↔◌, ◌⊎◌, ℕ, ◌+◌, ◌<◌, ◌≤◌, true, List, length, Option, None, Some}
+use Rattle.std.specs.Prelude.{◌≡◌, ◌↔◌, ◌⊎◌, ℕ, ◌+◌, ◌<◌, ◌≤◌, List, length, None, Some}
 use Rattle.rsvp_base.specs.Members.{In}
 use Rattle.rsvp_base.specs.declared.addr.Addr.{Addr}
 use Rattle.tree_laws.specs.declared.hops.Hop.{Hop}
-use Rattle.tree_laws.specs.Networks.{Net, node_of, ends_of, end_at, iface_of, owner, among, link_of, peers}
-use Rattle.tree_laws.specs.Trees.{tree, hops_of, inward, outward, depth, is_linked}
+use Rattle.tree_laws.specs.Networks.{Net, node_of, end_at, iface_of, owner, link_of, peers}
+use Rattle.tree_laws.specs.Trees.{tree, hops_of, inward, outward, depth}
 use Rattle.tree_laws.specs.Ranks.{Follows, followers, IsChain, rank, longest}
-use Rattle.tree_laws.specs.Valid.{IsValid}
 
 -- ---- interfaces and ends
 -- each end is the interface of its node that its number says, and an interface is of its node

@@ -1,6 +1,6 @@
 -- Networks: nodes, link ends, links, and the hops of all trees (RFC 2205, 1.1 and 2: a session's data goes along multicast
 -- trees, reservations the other way).
-use Rattle.std.specs.Prelude.{ℕ, ◌+◌, Bool, false, not, ◌&&◌, ◌==◌, List, [], ◌∷◌, length, take, Option, None, Some, slice_get, if◌then◌else◌}
+use Rattle.std.specs.Prelude.{ℕ, ◌+◌, Bool, not, ◌==◌, List, [], ◌∷◌, length, take, Option, None, Some, slice_get, if◌then◌else◌}
 use Rattle.std.specs.List.{filter, list_any}
 use Rattle.rsvp_base.specs.declared.addr.Addr.{Addr}
 use Rattle.tree_laws.specs.declared.hops.End.{End}

@@ -1,7 +1,6 @@
 -- Trees: for a group and the address of a source, the hops along which what the source sends goes away from its node.
 use Rattle.std.specs.Prelude.{◌≡◌, ℕ, suc, Bool, true, false, not, ◌&&◌, ◌||◌, ◌==◌, List, [], ◌∷◌, ◌++◌, map as each, Option, None, Some}
 use Rattle.std.specs.List.{filter, list_any, list_all}
-use Rattle.rsvp_base.specs.Members.{In}
 use Rattle.rsvp_base.specs.declared.addr.Addr.{Addr}
 use Rattle.tree_laws.specs.declared.hops.End.{End}
 use Rattle.tree_laws.specs.declared.hops.Hop.{Hop}

@@ -1,5 +1,5 @@
 -- Trees and chains carry over to a network whose hops are the same and whose ends and links say the same of them.
-use Rattle.std.specs.Prelude.{◌≡◌, ◌⊎◌, ℕ, Bool, true, false, not, ◌||◌, ◌==◌, List, [], ◌∷◌, ◌++◌, Option, None, Some, refl}
+use Rattle.std.specs.Prelude.{◌≡◌, ℕ, true, not, ◌||◌, ◌==◌, List, [], ◌∷◌, ◌++◌, Some}
 use Rattle.std.specs.List.{list_all}
 use Rattle.std.proofs.Common.{sym, ap, subst, ◌∙◌, inl, inr, ⊎_elim}
 use Rattle.rsvp_base.specs.Members.{In}
@@ -8,8 +8,8 @@ use Rattle.rsvp_base.proofs.Members.{in_append}
 use Rattle.rsvp_base.proofs.Tables.{either}
 use Rattle.tree_laws.specs.declared.hops.Hop.{Hop}
 use Rattle.tree_laws.specs.Networks.{Net, node_of, owner, among, link_of}
-use Rattle.tree_laws.specs.Trees.{tree, hops_of, is_linked, is_reached, sends_alone, Grows, IsGrownFrom, IsGrown}
-use Rattle.tree_laws.specs.Chains.{Chain, Closed, HasNoLoop, last_of}
+use Rattle.tree_laws.specs.Trees.{tree, hops_of, is_linked, is_reached, Grows, IsGrownFrom, IsGrown}
+use Rattle.tree_laws.specs.Chains.{Chain, HasNoLoop, last_of}
 use Rattle.tree_laws.specs.Ranks.{Follows, followers, IsLoopFreeIn}
 use Rattle.tree_laws.proofs.Following.{follower_follows, follows_follower}
 use Rattle.tree_laws.proofs.TreeLaws.{Leads, reached_told, reached_tested, true_false}
@@ -54,19 +54,18 @@ module _ (net more : Net) (same : (h : Hop) → is_linked net.links h ≡ true �
           linked = i.linked;
           from_reached = reached_tested more.ends s hs (node_of more.ends h.from) (subst (λ n. Leads more.ends s hs n) (sym i.from) (leads_on hs all (node_of net.ends h.from) (reached_told net.ends s hs (node_of net.ends h.from) g.from_reached)));
           to_new = either (is_reached more.ends s hs (node_of more.ends h.to))
-            (λ t. absurd (true_false _ (reached_tested net.ends s hs (node_of net.ends h.to) (leads_back hs all (node_of net.ends h.to) (subst (λ n. Leads more.ends s hs n) i.to (reached_told more.ends s hs (node_of more.ends h.to) t)))) g.to_new))
-            (λ f. f);
+              (λ t. absurd (true_false _ (reached_tested net.ends s hs (node_of net.ends h.to) (leads_back hs all (node_of net.ends h.to) (subst (λ n. Leads more.ends s hs n) i.to (reached_told more.ends s hs (node_of more.ends h.to) t)))) g.to_new))
+              (λ f. f);
           alone = ap (λ (l : List ℕ). list_all (λ (x : Hop). not (among x.from l) || (x.from == h.from)) hs) i.link ∙ g.alone;
         }
 
     grown_on : (before hs : List Hop) → ((x : Hop) → In x before → is_linked net.links x ≡ true) → IsGrownFrom net s before hs → IsGrownFrom more s before hs
     grown_on before [] all grown = tt
-    grown_on before (h ∷ hs) all grown =
-        (
-          grows_on before h all grown.0,
-          grown_on (before ++ h ∷ []) hs
+    grown_on before (h ∷ hs) all grown = (
+      grows_on before h all grown.0,
+      grown_on (before ++ h ∷ []) hs
           (λ x i. ⊎_elim (λ (j : In x before). all x j) (λ (j : In x (h ∷ [])). ⊎_elim (λ (e : x ≡ h). ap (is_linked net.links) e ∙ grown.0.linked) (λ (k : ⊥). absurd k) j) (in_append x before (h ∷ []) i)) grown.1,
-        )
+    )
 
   -- a tree that has a hop has a root
   pub grown_over : (s : Addr) (hs : List Hop) → ((n : ℕ) → owner net.ends s ≡ Some n → owner more.ends s ≡ Some n) → IsGrown net s hs → IsGrown more s hs

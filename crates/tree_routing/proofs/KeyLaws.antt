@@ -1,15 +1,14 @@
 -- The trees that have a hop, as a list in order.
-use Rattle.std.specs.Prelude.{◌≡◌, ℕ, ◌+◌, ◌<◌, ◌≤◌, true, List, [], ◌∷◌, ◌++◌, length, map as each, is_some, Option, Some, refl, slice_index_or}
+use Rattle.std.specs.Prelude.{◌≡◌, ℕ, ◌+◌, ◌<◌, ◌≤◌, List, [], ◌∷◌, ◌++◌, length, map as each, is_some, refl, slice_index_or}
 use Rattle.std.proofs.Common.{zero, suc, sym, ap, ◌∙◌, take, arith}
 use Rattle.std.proofs.lemmas.List.{map-append}
 use Rattle.rsvp_base.specs.Keys.{Keys}
 use Rattle.rsvp_base.specs.Rows.{AreRows, table_of, HasRowAt}
 use Rattle.rsvp_base.specs.Sets.{Set, set_of, with_key, with_keys}
-use Rattle.rsvp_base.specs.Table.{Table, empty, keys, rows_of}
+use Rattle.rsvp_base.specs.Table.{empty}
 use Rattle.rsvp_base.specs.declared.addr.Addr.{Addr}
 use Rattle.rsvp_base.proofs.Rows.{are_rows, table_is}
 use Rattle.rsvp_base.proofs.SetLaws.{with_key_present}
-use Rattle.tree_laws.specs.declared.hops.TreeHop.{TreeHop}
 use Rattle.tree_routing.specs.declared.known.Known.{Known}
 use Rattle.tree_routing.specs.Known.{plain}
 use Rattle.tree_routing.specs.Routes.{tree_keys, key_of, trees_of, as_row, IsWithTree}
@@ -36,8 +35,8 @@ one_tree_more xs ys ks i k d lt is e f =
     let t : Addr × Addr = (k.hop.group, k.hop.source) in
     let table : table_of tree_keys as_row xs up ≡ set_at (take i ks) = table_is tree_keys as_row xs up (set_at (take i ks)) e in
     let list : each key_of (plain (take (i + 1) ks)) ≡ each key_of (plain (take i ks)) ++ key_of k.hop ∷ [] =
-        ap (λ (x : List Known). each key_of (plain x)) (take_one_more ks i d lt) ∙ ap (λ (x : Known). each key_of (plain (take i ks ++ x ∷ []))) (sym is)
-        ∙ ap (each key_of) (map-append (λ (k : Known). k.hop) (take i ks) (k ∷ [])) ∙ map-append key_of (plain (take i ks)) (k.hop ∷ []) in
+    ap (λ (x : List Known). each key_of (plain x)) (take_one_more ks i d lt) ∙ ap (λ (x : Known). each key_of (plain (take i ks ++ x ∷ []))) (sym is)
+    ∙ ap (each key_of) (map-append (λ (k : Known). k.hop) (take i ks) (k ∷ [])) ∙ map-append key_of (plain (take i ks)) (k.hop ∷ []) in
     f up ∙ ap (λ (m : Set tree_keys). (with_key m t).rows) table
     ∙ sym (ap (λ (x : List (Addr × Addr)). (set_of {o = tree_keys} x).rows) list ∙ ap (λ (m : Set tree_keys). m.rows) (set_push {o = tree_keys} empty (each key_of (plain (take i ks))) t))
 

@@ -70,19 +70,19 @@ module _ (ks some : List Known) (new : Known) (before : ℕ) (k : Known) (least 
         there = inr (k, in_right k some (k ∷ []) (inl refl), b.0, refl, b.2);
         first = up_along k.hop.hop least new.hop.hop less so_far.first;
         least = λ x i g w.
-          ⊎_elim (λ (j : In x some). up_along k.hop.hop least x.hop.hop less (so_far.least x j g w))
-          (λ (j : In x (k ∷ [])). ⊎_elim (λ (e : x ≡ k). subst (λ (y : Known). IsUpTo k.hop.hop y.hop.hop) (sym e) (up_itself k.hop.hop)) (λ (j : ⊥). absurd j) j) (in_append x some (k ∷ []) i);
+            ⊎_elim (λ (j : In x some). up_along k.hop.hop least x.hop.hop less (so_far.least x j g w))
+            (λ (j : In x (k ∷ [])). ⊎_elim (λ (e : x ≡ k). subst (λ (y : Known). IsUpTo k.hop.hop y.hop.hop) (sym e) (up_itself k.hop.hop)) (λ (j : ⊥). absurd j) j) (in_append x some (k ∷ []) i);
       }
 
   same_least : (IsBetter ks new before k least → ⊥) → IsLeastAmong ks (some ++ k ∷ []) new before least
   same_least no_better =
       record {
         there = ⊎_elim (λ (e : least ≡ new.hop.hop). inl e)
-          (λ (x : (x : Known) × In x some × (x.hop.group ≡ new.hop.group) × (least ≡ x.hop.hop) × IsBetween ks new.vertex before x.vertex). inr (x.0, in_left x.0 some (k ∷ []) x.1, x.2, x.3, x.4)) so_far.there;
+            (λ (x : (x : Known) × In x some × (x.hop.group ≡ new.hop.group) × (least ≡ x.hop.hop) × IsBetween ks new.vertex before x.vertex). inr (x.0, in_left x.0 some (k ∷ []) x.1, x.2, x.3, x.4)) so_far.there;
         first = so_far.first;
         least = λ x i g w.
-          ⊎_elim (λ (j : In x some). so_far.least x j g w)
-          (λ (j : In x (k ∷ [])). ⊎_elim (λ (e : x ≡ k). by_order x e g w (up_order least x.hop.hop)) (λ (j : ⊥). absurd j) j) (in_append x some (k ∷ []) i);
+            ⊎_elim (λ (j : In x some). so_far.least x j g w)
+            (λ (j : In x (k ∷ [])). ⊎_elim (λ (e : x ≡ k). by_order x e g w (up_order least x.hop.hop)) (λ (j : ⊥). absurd j) j) (in_append x some (k ∷ []) i);
       }
     where
       by_order : (x : Known) → x ≡ k → x.hop.group ≡ new.hop.group → IsBetween ks new.vertex before x.vertex → IsUpTo least x.hop.hop ⊎ (IsUpTo least x.hop.hop → ⊥) → IsUpTo least x.hop.hop

@@ -1,10 +1,9 @@
 -- The highest level is the length of the longest chain.
-use Rattle.std.specs.Prelude.{◌≡◌, ◌⊎◌, ℕ, ◌+◌, ◌<◌, ◌≤◌, nat_le, nat_lt, Bool, true, false, ◌&&◌, List, [], ◌∷◌, ◌++◌, length, map as each, replicate, Option, None, Some, slice_get, slice_index, slice_set, refl, max, if◌then◌else◌}
+use Rattle.std.specs.Prelude.{◌≡◌, ◌⊎◌, ℕ, ◌+◌, ◌<◌, ◌≤◌, Bool, true, false, List, [], ◌∷◌, length, map as each, replicate, Option, None, Some, slice_get, slice_set, refl, if◌then◌else◌}
 use Rattle.std.proofs.Common.{zero, suc, sym, ap, subst, ◌∙◌, inl, inr, ⊎_elim, arith}
 use Rattle.std.proofs.lemmas.Bool.Decides.{nat_tests}
 use Rattle.rsvp_base.specs.Members.{In}
 use Rattle.rsvp_base.specs.declared.addr.Addr.{Addr}
-use Rattle.rsvp_base.proofs.Tables.{either}
 use Rattle.tree_laws.specs.declared.hops.End.{End}
 use Rattle.tree_laws.specs.declared.hops.Hop.{Hop}
 use Rattle.tree_laws.specs.declared.hops.TreeHop.{TreeHop}
@@ -18,14 +17,13 @@ use Rattle.std.proofs.lemmas.List.{length-map}
 use Rattle.rsvp_base.proofs.Lists.{length_filter}
 use Rattle.tree_laws.proofs.Following.{follower_follows, follower_of_group}
 use Rattle.tree_laws.proofs.Heights.{largest_is, height_le, height_enough}
-use Rattle.tree_laws.proofs.RankLaws.{rank_of_hop, rank_some, rank_falls_at, rank_within, bound}
+use Rattle.tree_laws.proofs.RankLaws.{rank_of_hop, rank_some, rank_falls_at}
 use Rattle.tree_laws.proofs.TreeLaws.{one}
 use Rattle.tree_routing.specs.declared.known.Known.{Known}
 use Rattle.tree_routing.specs.declared.link.Link.{Link}
-use Rattle.tree_routing.specs.Known.{plain, net_of, is_pair, vertex_at, first_place, comes_to, AreKnown}
-use Rattle.tree_routing.specs.Walks.{Edge}
+use Rattle.tree_routing.specs.Known.{plain, net_of, is_pair, vertex_at, AreKnown}
 use Rattle.tree_routing.specs.Levels.{level, rises, lift_along, lift, lifts, levels, highest}
-use Rattle.tree_routing.proofs.Vertices.{place_found, pair_told, pair_itself, pair_made, tree_known, known_tree, group_known, known_group, comes_told, comes_made, before_told, before_found, vertex_below}
+use Rattle.tree_routing.proofs.Vertices.{place_found, pair_told, pair_itself, tree_known, known_tree, known_group, comes_told, comes_made, before_told, before_found, vertex_below}
 
 -- ---- levels set
 set_here : (ls : List ℕ) (a x : ℕ) → a < length ls → level (slice_set ls a x) a ≡ x

@@ -1,5 +1,5 @@
 -- A new hop closes a chain exactly where edges lead from it to the hop before it in its tree.
-use Rattle.std.specs.Prelude.{◌≡◌, ◌⊎◌, ℕ, ◌<◌, ◌≤◌, true, List, [], ◌∷◌, ◌++◌, length, Option, None, Some, Result, Ok, Err, refl}
+use Rattle.std.specs.Prelude.{◌≡◌, ◌⊎◌, ℕ, ◌<◌, ◌≤◌, List, [], ◌∷◌, ◌++◌, Some, Result, Ok, Err, refl}
 use Rattle.std.proofs.Common.{sym, ap, subst, ◌∙◌, inl, inr, ⊎_elim, arith}
 use Rattle.rsvp_base.specs.Members.{In}
 use Rattle.rsvp_base.specs.declared.addr.Addr.{Addr}
@@ -8,16 +8,16 @@ use Rattle.tree_laws.specs.declared.hops.End.{End}
 use Rattle.tree_laws.specs.declared.hops.Hop.{Hop}
 use Rattle.tree_laws.specs.declared.hops.TreeHop.{TreeHop}
 use Rattle.tree_laws.specs.Networks.{Net, node_of}
-use Rattle.tree_laws.specs.Trees.{tree, hops_of, is_reached}
-use Rattle.tree_laws.specs.Chains.{last_of, Chain, Closed, StandsOnLoop}
-use Rattle.tree_laws.specs.Ranks.{Follows, followers, IsLoopFreeIn, IsLoopFree, IsOnLoop, rank}
+use Rattle.tree_laws.specs.Trees.{tree, hops_of}
+use Rattle.tree_laws.specs.Chains.{last_of, Chain}
+use Rattle.tree_laws.specs.Ranks.{Follows, followers, IsLoopFreeIn, IsOnLoop, rank}
 use Rattle.tree_laws.specs.Valid.{IsValid}
 use Rattle.tree_laws.proofs.Following.{in_tree, to_tree, in_group, to_group, tree_group, follower_follows, follows_follower}
 use Rattle.tree_laws.proofs.TreeLaws.{Leads, from_leads, reached_told, reached_tested, true_false, one}
 use Rattle.tree_laws.proofs.RankLaws.{rank_falls_at}
 use Rattle.tree_routing.specs.declared.known.Known.{Known}
 use Rattle.tree_routing.specs.declared.link.Link.{Link}
-use Rattle.tree_routing.specs.Known.{plain, net_of, is_pair, vertex_at, comes_to, vertex_before, IsKnown, AreKnown}
+use Rattle.tree_routing.specs.Known.{plain, net_of, is_pair, vertex_at, vertex_before, AreKnown}
 use Rattle.tree_routing.specs.Walks.{Steps, Walk, Edge}
 use Rattle.tree_routing.specs.Walks as walks
 use Rattle.tree_routing.specs.declared.hop_err.HopErr.{HopErr}
@@ -25,7 +25,7 @@ use Rattle.tree_routing.specs.declared.hop_err.HopErr.TheVariants.{NotTree, Loop
 use Rattle.tree_routing.specs.Answers.{with_hop, Fits, IsUpTo, IsLeastOnLoop, HopAnswer}
 use Rattle.tree_routing.specs.Checks.{IsBetween, Closes, IsLeastBetween, LoopAnswer}
 use Rattle.tree_routing.proofs.MarkLaws.{walk_none, walk_step, walk_on}
-use Rattle.tree_routing.proofs.Vertices.{place_kept, place_new, pair_made, pair_itself, one_pair, tree_known, known_tree, group_known, known_group, comes_told, comes_made, before_told, before_found}
+use Rattle.tree_routing.proofs.Vertices.{place_kept, place_new, pair_made, pair_itself, one_pair, tree_known, known_tree, comes_told, comes_made, before_told, before_found}
 
 -- ---- walks of which each step is old, or goes by the way of a new one
 module _ {A : Type 0} (Old New : A → A → Type 0) (IsBefore : A → Type 0) (new : A) (split : (a b : A) → New a b → Old a b ⊎ (IsBefore a × (b ≡ new))) where
@@ -220,8 +220,7 @@ module _ (nodes : ℕ) (ends : List End) (links : List Link) (ks : List Known) (
       let pair = pair_at x.0 x.1 a l x.3 in
       let group : k.hop.group ≡ g = sym c.0 ∙ pair.0 in
       let first : In a (tree (plain ks) g k.hop.source) = subst (λ (y : Hop). In y (tree (plain ks) g k.hop.source)) pair.1 (subst (λ (s : Addr). In x.0.hop.hop (tree (plain ks) g s)) c.1 (subst (λ (b : Addr). In x.0.hop.hop (tree (plain ks) b x.0.hop.source)) pair.0 (known_tree ks x.0 x.1))) in
-      let second : In k.hop.hop (tree (plain ks) g k.hop.source) = subst (λ (b : Addr). In k.hop.hop (tree (plain ks) b k.hop.source)) group (known_tree ks k edge.among) in
-      (
+      let second : In k.hop.hop (tree (plain ks) g k.hop.source) = subst (λ (b : Addr). In k.hop.hop (tree (plain ks) b k.hop.source)) group (known_tree ks k edge.among) in (
         k.hop.hop,
         kept_old k edge.among group,
         record { source = k.hop.source; first = first; second = second; meet = sym c.2 ∙ ap (λ (y : Hop). node_of ends y.to) pair.1 },
@@ -280,8 +279,7 @@ module _ (nodes : ℕ) (ends : List End) (links : List Link) (ks : List Known) (
       let y = before_found ends new.hop ks b.0 b.1 (comes_made ends new.hop b.0 b.2 b.3 to) in
       let c2 = comes_told ends new.hop y.0 y.2 in
       let in_both : In y.0.hop.hop (tree (plain ks) g new.hop.source) = subst (λ (s : Addr). In y.0.hop.hop (tree (plain ks) g s)) c2.1 (subst (λ (a : Addr). In y.0.hop.hop (tree (plain ks) a y.0.hop.source)) c2.0 (known_tree ks y.0 y.1)) in
-      let is : y.0.hop.hop ≡ t.before = one net valid g new.hop.source y.0.hop.hop t.before in_both t.is.0 (c2.2 ∙ sym t.is.1) in
-      (
+      let is : y.0.hop.hop ≡ t.before = one net valid g new.hop.source y.0.hop.hop t.before in_both t.is.0 (c2.2 ∙ sym t.is.1) in (
         k,
         (
           v t.before,

@@ -1,13 +1,13 @@
 -- Marks along edges: what a pass keeps, what it marks, and where none moves.
-use Rattle.std.specs.Prelude.{◌≡◌, ◌⊎◌, ℕ, ◌+◌, ◌<◌, ◌≤◌, Bool, true, false, not, ◌&&◌, ◌||◌, List, [], ◌∷◌, length, Option, None, Some, slice_get, slice_set, replicate, refl, if◌then◌else◌}
+use Rattle.std.specs.Prelude.{◌≡◌, ◌⊎◌, ℕ, ◌+◌, ◌<◌, ◌≤◌, Bool, true, false, ◌&&◌, ◌||◌, List, [], ◌∷◌, length, Option, None, Some, slice_set, replicate, refl, if◌then◌else◌}
 use Rattle.std.proofs.Common.{zero, suc, sym, ap, subst, ◌∙◌, inl, inr, ⊎_elim, arith}
 use Rattle.rsvp_base.specs.Members.{In}
-use Rattle.rsvp_base.proofs.SetLaws.{and_both, and_made}
+use Rattle.rsvp_base.proofs.SetLaws.{and_both}
 use Rattle.rsvp_base.proofs.Tables.{either}
 use Rattle.tree_laws.specs.Chains.{last_of}
 use Rattle.tree_routing.specs.declared.known.Known.{Known}
 use Rattle.tree_routing.specs.Walks.{Steps, Walk, Edge, Leads}
-use Rattle.tree_routing.specs.Marks.{is_on, is_off, marked, unmarked, moves_along, along, pass, moves, passes, off, bit, IsReach}
+use Rattle.tree_routing.specs.Marks.{marked, unmarked, moves_along, along, pass, moves, passes, off, bit, IsReach}
 
 -- ---- a mark set
 set_keeps : (ms : List Bool) (v w : ℕ) → marked ms w ≡ true → marked (slice_set ms v true) w ≡ true
@@ -196,9 +196,9 @@ reach_is ks from n start ms is none here only below =
       here = ap (λ (x : List Bool). marked x from) is ∙ passes_keeps ks n start from here;
       leads = λ w e. passes_leads ks from n start (λ w e. subst (λ (v : ℕ). Leads ks from v) (sym (only w e)) (walk_none (Edge ks) from)) w (ap (λ (x : List Bool). marked x w) (sym is) ∙ e);
       closed = λ a b edge on.
-        let b_is = edge.vertex in
-        let lt : edge.known.vertex < length ms = let l = below edge.known edge.among in let s = ap length is in let t = length_passes ks n start in omega arith in
-        ap (marked ms) (sym b_is) ∙ still_closed ks ms none edge.known edge.among a edge.before lt on;
+          let b_is = edge.vertex in
+          let lt : edge.known.vertex < length ms = let l = below edge.known edge.among in let s = ap length is in let t = length_passes ks n start in omega arith in
+          ap (marked ms) (sym b_is) ∙ still_closed ks ms none edge.known edge.among a edge.before lt on;
     }
 
 pub reached : (ks : List Known) (from to : ℕ) (ms : List Bool) → IsReach ks from ms → Leads ks from to → marked ms to ≡ true

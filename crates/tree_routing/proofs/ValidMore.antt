@@ -1,11 +1,11 @@
 -- A valid network stays valid with one more node, end, link or hop.
-use Rattle.std.specs.Prelude.{◌≡◌, ◌⊎◌, ℕ, ◌+◌, ◌*◌, ◌<◌, ◌≤◌, nat_lt, Bool, true, false, not, ◌&&◌, ◌||◌, ◌==◌, List, [], ◌∷◌, ◌++◌, length, map as each, Option, None, Some, Result, Ok, Err, slice_get, refl, if◌then◌else◌}
-use Rattle.std.specs.List.{filter, list_any}
+use Rattle.std.specs.Prelude.{◌≡◌, ◌⊎◌, ℕ, ◌+◌, ◌*◌, ◌<◌, ◌≤◌, nat_lt, Bool, true, false, not, ◌&&◌, ◌==◌, List, [], ◌∷◌, ◌++◌, length, map as each, Option, None, Some, Result, Ok, slice_get, refl, if◌then◌else◌}
+use Rattle.std.specs.List.{filter}
 use Rattle.std.proofs.Common.{zero, suc, sym, ap, subst, ◌∙◌, inl, inr, ⊎_elim, arith, append_assoc, length-append}
 use Rattle.std.proofs.lemmas.List.{map-append}
 use Rattle.rsvp_base.specs.Members.{In}
 use Rattle.rsvp_base.specs.declared.addr.Addr.{Addr}
-use Rattle.rsvp_base.proofs.Members.{in_append, in_left, in_right, in_each, to_each, in_filter}
+use Rattle.rsvp_base.proofs.Members.{in_append, in_filter}
 use Rattle.rsvp_base.proofs.SetLaws.{and_both}
 use Rattle.rsvp_base.proofs.Tables.{either}
 use Rattle.tree_laws.specs.declared.hops.End.{End}
@@ -13,20 +13,20 @@ use Rattle.tree_laws.specs.declared.hops.Hop.{Hop}
 use Rattle.tree_laws.specs.declared.hops.TreeHop.{TreeHop}
 use Rattle.tree_laws.specs.Networks.{Net, node_of, node_of_end, ends_from, ends_of, owner, among, link_of, peers}
 use Rattle.tree_laws.specs.Trees.{of_group, of_tree, tree, hops_of, is_linked, Grows, IsGrownFrom, IsGrown}
-use Rattle.tree_laws.specs.Ranks.{Follows, followers, IsLoopFree, IsLoopFreeIn}
+use Rattle.tree_laws.specs.Ranks.{followers, IsLoopFree, IsLoopFreeIn}
 use Rattle.tree_laws.specs.Valid.{IsValid}
-use Rattle.tree_laws.proofs.Following.{same_number, number_same, addr_same, addr_itself, in_tree, to_tree, in_group, to_group, tree_group, follower_follows, follows_follower}
+use Rattle.tree_laws.proofs.Following.{same_number, number_same, addr_same, in_tree, to_tree, in_group, to_group, follower_follows, follows_follower}
 use Rattle.tree_laws.proofs.TreeLaws.{Leads, from_leads, reached_told, reached_tested, true_false}
 use Rattle.tree_laws.proofs.Links.{among_in, in_among, of_own_link, linked_from}
 use Rattle.tree_routing.specs.declared.known.Known.{Known}
 use Rattle.tree_routing.specs.declared.link.Link.{Link}
 use Rattle.tree_routing.specs.Known.{plain, link_ends, net_of, is_pair, vertex_at, comes_to, vertex_before, IsKnown, AreKnown}
-use Rattle.tree_routing.specs.Answers.{no_net, with_node, with_end, with_link, in_order, with_hop, Fits, HopAnswer}
+use Rattle.tree_routing.specs.Answers.{TakesEnd, TakesLink, with_node, with_end, with_link, in_order, with_hop, Fits, HopAnswer}
 use Rattle.tree_routing.proofs.Carried.{free_map, Same, grown_over, free_over}
 use Rattle.tree_routing.specs.declared.hop_err.HopErr.{HopErr}
 use Rattle.tree_routing.specs.Checks.{LoopAnswer}
 use Rattle.tree_routing.proofs.Loops.{kept_answer}
-use Rattle.tree_routing.proofs.Vertices.{vertex_below, place_most, got_below, place_kept, place_new, pair_itself, tree_known, known_tree, comes_told, comes_made, before_told, before_found}
+use Rattle.tree_routing.proofs.Vertices.{vertex_below, place_most, place_kept, place_new, pair_itself, known_tree, comes_told}
 
 -- ---- lists
 got_append : {X : Type 0} (xs : List X) (y : X) (i : ℕ) (d : X) → slice_get (xs ++ y ∷ []) i ≡ Some d → (slice_get xs i ≡ Some d) ⊎ ((i ≡ length xs) × (d ≡ y))
@@ -86,6 +86,7 @@ valid_node net valid lt =
       placed = λ e i. let p = valid.placed e i in omega arith;
       one_address = valid.one_address;
       linked = valid.linked;
+      nodes_apart = valid.nodes_apart;
       ends_of_links = valid.ends_of_links;
       one_link = valid.one_link;
       grown = λ g s. grown_over net (with_node net) (λ h e. record { linked = e; from = refl; to = refl; link = refl }) s (tree net.hops g s) (λ n e. e) (valid.grown g s);
@@ -130,7 +131,21 @@ owner_more (x ∷ xs) e s n is = by (x.iface.addr.0 == s.0) is (owner_more xs e 
     by true is rest = is
     by false is rest = rest is
 
-module _ (net : Net) (valid : IsValid net) (e : End) (node : e.node < net.nodes) (room : length (ends_of net.ends e.node) < 16) (address : (other : End) → In other net.ends → other.iface.addr ≡ e.iface.addr → ⊥) where
+-- an address that no end has
+address_new : (xs : List End) (a : Addr) → owner xs a ≡ None → (x : End) → In x xs → x.iface.addr ≡ a → ⊥
+address_new [] a e x i same = i
+address_new (y ∷ ys) a e x i same = by (y.iface.addr.0 == a.0) refl e (address_new ys a)
+  where
+    by : (b : Bool) → (y.iface.addr.0 == a.0) ≡ b → (if b then Some y.node else owner ys a) ≡ None → (owner ys a ≡ None → (z : End) → In z ys → z.iface.addr ≡ a → ⊥) → ⊥
+    by true t e rest = cc
+    by false t e rest =
+        ⊎_elim (λ (s : x ≡ y). true_false _ (number_same y.iface.addr.0 a.0 (ap (λ (z : End). z.iface.addr.0) (sym s) ∙ ap (λ (b : Addr). b.0) same)) t)
+        (λ (j : In x ys). rest e x j same) i
+
+module _ (net : Net) (valid : IsValid net) (e : End) (takes : TakesEnd net e) where
+  address : (other : End) → In other net.ends → other.iface.addr ≡ e.iface.addr → ⊥
+  address other i same = address_new net.ends e.iface.addr takes.address other i same
+
   same_end : (h : Hop) → is_linked net.links h ≡ true → Same net (with_end net e) h
   same_end h t =
       record {
@@ -153,12 +168,14 @@ module _ (net : Net) (valid : IsValid net) (e : End) (node : e.node < net.nodes)
   valid_end =
       record {
         few_nodes = valid.few_nodes;
-        few_ends = few_more net.ends e valid.few_ends room;
+        few_ends = few_more net.ends e valid.few_ends takes.room;
         few_links = valid.few_links;
         few_hops = valid.few_hops;
-        placed = λ x i. ⊎_elim (λ (j : In x net.ends). valid.placed x j) (λ (j : In x (e ∷ [])). ⊎_elim (λ (s : x ≡ e). let k = ap (λ (y : End). y.node) s in let lt : x.node < net.nodes = omega arith in lt) (λ (k : ⊥). absurd k) j) (in_append x net.ends (e ∷ []) i);
+        placed = λ x i. ⊎_elim (λ (j : In x net.ends). valid.placed x j) (λ (j : In x (e ∷ [])). ⊎_elim (λ (s : x ≡ e). let k = ap (λ (y : End). y.node) s in let n = takes.node in let lt : x.node < net.nodes = omega arith in lt) (λ (k : ⊥). absurd k) j) (in_append x net.ends (e ∷ []) i);
         one_address = one_more;
         linked = valid.linked;
+        nodes_apart = λ l a b i j k same.
+            valid.nodes_apart l a b i j k (sym (ap node_of_end (got_left net.ends (e ∷ []) a (valid.ends_of_links l a i j))) ∙ same ∙ ap node_of_end (got_left net.ends (e ∷ []) b (valid.ends_of_links l b i k)));
         ends_of_links = λ l x i j. let lt = valid.ends_of_links l x i j in let size = length-append net.ends (e ∷ []) in omega arith;
         one_link = valid.one_link;
         grown = λ g s. grown_over net (with_end net e) same_end s (tree net.hops g s) (owner_more net.ends e s) (valid.grown g s);
@@ -207,7 +224,7 @@ some_or_none : (l : List ℕ) → (l ≡ []) ⊎ ((x : ℕ) × In x l)
 some_or_none [] = inl refl
 some_or_none (x ∷ xs) = inr (x, inl refl)
 
-module _ (net : Net) (valid : IsValid net) (a b : ℕ) (a_in : a < length net.ends) (b_in : b < length net.ends) (a_free : link_of net.links a ≡ []) (b_free : link_of net.links b ≡ []) (room : length net.links < 512) where
+module _ (net : Net) (valid : IsValid net) (a b : ℕ) (takes : TakesLink net a b) where
   abbrev l : List ℕ
   l = in_order a b
 
@@ -215,7 +232,7 @@ module _ (net : Net) (valid : IsValid net) (a b : ℕ) (a_in : a < length net.en
   long x i = (valid.linked x i).0
 
   free_of : (x : ℕ) → In x l → link_of net.links x ≡ []
-  free_of x i = ⊎_elim (λ (e : x ≡ a). ap (link_of net.links) e ∙ a_free) (λ (e : x ≡ b). ap (link_of net.links) e ∙ b_free) (order_has a b x i)
+  free_of x i = ⊎_elim (λ (e : x ≡ a). ap (link_of net.links) e ∙ takes.one_free) (λ (e : x ≡ b). ap (link_of net.links) e ∙ takes.other_free) (order_has a b x i)
 
   new_link : (x : ℕ) → In x l → link_of (net.links ++ l ∷ []) x ≡ l
   new_link x i = link_new net.links l x (free_of x i) long ∙ ap (λ (t : Bool). if t then l else []) (in_among x l i)
@@ -248,19 +265,28 @@ module _ (net : Net) (valid : IsValid net) (a b : ℕ) (a_in : a < length net.en
       record {
         few_nodes = valid.few_nodes;
         few_ends = valid.few_ends;
-        few_links = let size = length-append net.links (l ∷ []) in omega arith;
+        few_links = let size = length-append net.links (l ∷ []) in let room = takes.room in omega arith;
         few_hops = valid.few_hops;
         placed = valid.placed;
         one_address = valid.one_address;
         linked = λ x i. ⊎_elim (λ (j : In x net.links). valid.linked x j) (λ (j : In x (l ∷ [])). ⊎_elim (λ (e : x ≡ l). let n = ap length e ∙ order_length a b in (omega arith, omega arith)) (λ (k : ⊥). absurd k) j) (in_append x net.links (l ∷ []) i);
+        nodes_apart = λ x c d i j k same.
+            ⊎_elim (λ (o : In x net.links). valid.nodes_apart x c d o j k same)
+            (λ (o : In x (l ∷ [])). ⊎_elim (λ (e : x ≡ l). apart c d (order_has a b c (subst (λ (m : List ℕ). In c m) e j)) (order_has a b d (subst (λ (m : List ℕ). In d m) e k)) same) (λ (n : ⊥). absurd n) o) (in_append x net.links (l ∷ []) i);
         ends_of_links = λ x y i j. ⊎_elim (λ (k : In x net.links). valid.ends_of_links x y k j) (λ (k : In x (l ∷ [])). ⊎_elim (λ (e : x ≡ l). inside y (subst (λ (m : List ℕ). In y m) e j)) (λ (o : ⊥). absurd o) k) (in_append x net.links (l ∷ []) i);
         one_link = one_link;
         grown = λ g s. grown_over net (with_link net a b) same_link s (tree net.hops g s) (λ n e. e) (valid.grown g s);
         loop_free = λ g. free_over net (with_link net a b) same_link g refl (valid.grown g) (valid.loop_free g);
       }
     where
+      apart : (c d : ℕ) → (c ≡ a) ⊎ (c ≡ b) → (d ≡ a) ⊎ (d ≡ b) → node_of net.ends c ≡ node_of net.ends d → c ≡ d
+      apart c d (inl p) (inl q) same = p ∙ sym q
+      apart c d (inr p) (inr q) same = p ∙ sym q
+      apart c d (inl p) (inr q) same = absurd (takes.nodes (ap (node_of net.ends) (sym p) ∙ same ∙ ap (node_of net.ends) q))
+      apart c d (inr p) (inl q) same = absurd (takes.nodes (ap (node_of net.ends) (sym q) ∙ sym same ∙ ap (node_of net.ends) p))
+
       inside : (y : ℕ) → In y l → y < length net.ends
-      inside y i = ⊎_elim (λ (e : y ≡ a). let z : y < length net.ends = omega arith in z) (λ (e : y ≡ b). let z : y < length net.ends = omega arith in z) (order_has a b y i)
+      inside y i = ⊎_elim (λ (e : y ≡ a). let o = takes.one in let z : y < length net.ends = omega arith in z) (λ (e : y ≡ b). let o = takes.other in let z : y < length net.ends = omega arith in z) (order_has a b y i)
 
 -- ---- a hop
 grown_push : (net : Net) (s : Addr) (before hs : List Hop) (h : Hop) → IsGrownFrom net s before hs → Grows net s (before ++ hs) h → IsGrownFrom net s before (hs ++ h ∷ [])
@@ -348,6 +374,7 @@ module _ (net : Net) (valid : IsValid net) (r : TreeHop) (room : length net.hops
         placed = valid.placed;
         one_address = valid.one_address;
         linked = valid.linked;
+        nodes_apart = valid.nodes_apart;
         ends_of_links = valid.ends_of_links;
         one_link = valid.one_link;
         grown = grown_more;
@@ -536,8 +563,7 @@ hop_kept net nodes ends ends' links ks ks' r new is e k h v b valid known room a
     let vertex = v ∙ ap (λ (x : List Known). vertex_at x r.group r.hop) k ∙ ap (λ (q : TreeHop). vertex_at ks q.group q.hop) (sym h) in
     let before = b ∙ ap (λ (x : List End). vertex_before x r ks') e ∙ ap (λ (x : List Known). vertex_before ends r x) k ∙ ap (λ (q : TreeHop). vertex_before ends q ks) (sym h) in
     let here : HopAnswer (net_of nodes ends links ks) new.hop (Ok tt) = subst (λ (q : TreeHop). HopAnswer (net_of nodes ends links ks) q (Ok tt)) (sym h) (subst (λ (m : Net). HopAnswer m r (Ok tt)) is a) in
-    let few : length (plain ks) < 8192 = subst (λ (m : Net). length m.hops < 8192) is room in
-    (
+    let few : length (plain ks) < 8192 = subst (λ (m : Net). length m.hops < 8192) is room in (
       subst (λ (m : Net). IsValid m) (sym (net_push nodes ends links ks new)) (valid_hop (net_of nodes ends links ks) valid new.hop few here.0 here.1),
       known_more nodes ends links ks valid known new vertex before here.0,
     )

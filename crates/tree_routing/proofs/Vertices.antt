@@ -1,9 +1,9 @@
 -- Hops and the vertices that stand for them.
-use Rattle.std.specs.Prelude.{◌≡◌, ◌⊎◌, ℕ, ◌<◌, ◌≤◌, Bool, true, false, ◌&&◌, ◌==◌, List, [], ◌∷◌, ◌++◌, length, map as each, Option, None, Some, slice_get, refl, if◌then◌else◌}
-use Rattle.std.proofs.Common.{zero, suc, sym, ap, subst, ◌∙◌, inl, inr, ⊎_elim, arith}
+use Rattle.std.specs.Prelude.{◌≡◌, ℕ, ◌<◌, ◌≤◌, Bool, true, false, ◌==◌, List, [], ◌∷◌, ◌++◌, length, Some, slice_get, refl, if◌then◌else◌}
+use Rattle.std.proofs.Common.{zero, suc, sym, ap, ◌∙◌, inl, inr, ⊎_elim, arith}
 use Rattle.rsvp_base.specs.Members.{In}
 use Rattle.rsvp_base.specs.declared.addr.Addr.{Addr}
-use Rattle.rsvp_base.proofs.Members.{in_each, to_each, in_append, in_left, in_right}
+use Rattle.rsvp_base.proofs.Members.{in_each, to_each}
 use Rattle.rsvp_base.proofs.SetLaws.{and_both, and_made}
 use Rattle.rsvp_base.proofs.Tables.{either}
 use Rattle.tree_laws.specs.declared.hops.End.{End}
@@ -14,7 +14,7 @@ use Rattle.tree_laws.specs.Trees.{of_group, of_tree, tree, hops_of}
 use Rattle.tree_laws.specs.Ranks.{same_hop}
 use Rattle.tree_laws.proofs.Following.{same_number, number_same, hop_same, same_itself, addr_same, addr_itself, in_tree, to_tree, in_group, to_group}
 use Rattle.tree_routing.specs.declared.known.Known.{Known}
-use Rattle.tree_routing.specs.Known.{first_place, plain, is_pair, vertex_at, comes_to, vertex_before, IsKnown, AreKnown}
+use Rattle.tree_routing.specs.Known.{first_place, plain, is_pair, vertex_at, comes_to, vertex_before, AreKnown}
 
 -- ---- the first that passes a test
 pub place_found : {X : Type 0} (p : X → Bool) (xs : List X) (x : X) → In x xs → p x ≡ true → (y : X) × (slice_get xs (first_place p xs) ≡ Some y) × (p y ≡ true)

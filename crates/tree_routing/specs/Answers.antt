@@ -1,10 +1,10 @@
 -- What a topology answers for a hop.
-use Rattle.std.specs.Prelude.{◌≡◌, ◌⊎◌, ℕ, ◌+◌, nat_lt, if◌then◌else◌, ◌<◌, ◌≤◌, List, [], ◌∷◌, ◌++◌, Result, Ok, Err}
+use Rattle.std.specs.Prelude.{◌≡◌, ◌⊎◌, ℕ, ◌+◌, nat_lt, if◌then◌else◌, ◌<◌, ◌≤◌, List, [], ◌∷◌, ◌++◌, Result, Ok, Err, length, None}
 use Rattle.rsvp_base.specs.declared.addr.Addr.{Addr}
 use Rattle.tree_laws.specs.declared.hops.End.{End}
 use Rattle.tree_laws.specs.declared.hops.Hop.{Hop}
 use Rattle.tree_laws.specs.declared.hops.TreeHop.{TreeHop}
-use Rattle.tree_laws.specs.Networks.{Net}
+use Rattle.tree_laws.specs.Networks.{Net, node_of, ends_of, owner, link_of}
 use Rattle.tree_laws.specs.Trees.{tree, Grows}
 use Rattle.tree_laws.specs.Ranks.{IsLoopFreeIn, IsOnLoop}
 use Rattle.tree_routing.specs.declared.hop_err.HopErr.{HopErr}
@@ -29,6 +29,21 @@ with_link net a b = record { nodes = net.nodes; ends = net.ends; links = net.lin
 
 abbrev pub with_hop : Net → TreeHop → Net
 with_hop net r = record { nodes = net.nodes; ends = net.ends; links = net.links; hops = net.hops ++ r ∷ [] }
+
+-- the end can be added: its node is there and has fewer than 16 ends, and no end has its address
+pub record TakesEnd (net : Net) (e : End) : Type 0 where
+  pub node : e.node < net.nodes
+  pub room : length (ends_of net.ends e.node) < 16
+  pub address : owner net.ends e.iface.addr ≡ None
+
+-- the link can be added: its ends are there, of two nodes, and in no link
+pub record TakesLink (net : Net) (a b : ℕ) : Type 0 where
+  pub one : a < length net.ends
+  pub other : b < length net.ends
+  pub nodes : node_of net.ends a ≡ node_of net.ends b → ⊥
+  pub one_free : link_of net.links a ≡ []
+  pub other_free : link_of net.links b ≡ []
+  pub room : length net.links < 512
 
 -- the tree of the hop can grow by it
 abbrev pub Fits : Net → TreeHop → Type 0

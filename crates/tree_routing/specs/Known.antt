@@ -1,5 +1,5 @@
 -- What a topology keeps of a hop, and the network that it keeps.
-use Rattle.std.specs.Prelude.{◌≡◌, ℕ, suc, Bool, ◌&&◌, ◌==◌, List, [], ◌∷◌, map as each, Option, None, Some, if◌then◌else◌}
+use Rattle.std.specs.Prelude.{◌≡◌, ℕ, suc, Bool, ◌&&◌, List, [], ◌∷◌, map as each, Option, None, Some, if◌then◌else◌}
 use Rattle.rsvp_base.specs.Members.{In}
 use Rattle.rsvp_base.specs.declared.addr.Addr.{Addr}
 use Rattle.tree_laws.specs.declared.hops.End.{End}

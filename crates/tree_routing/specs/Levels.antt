@@ -1,5 +1,5 @@
 -- Levels of vertices, lifted along edges: how long a chain from each is, at least.
-use Rattle.std.specs.Prelude.{◌≡◌, ℕ, ◌+◌, zero, suc, Bool, false, ◌&&◌, nat_le, nat_lt, List, [], ◌∷◌, length, map as each, replicate, Option, None, Some, slice_index, slice_set, if◌then◌else◌}
+use Rattle.std.specs.Prelude.{ℕ, ◌+◌, zero, suc, Bool, false, ◌&&◌, nat_le, nat_lt, List, [], ◌∷◌, length, map as each, replicate, Option, None, Some, slice_index, slice_set, if◌then◌else◌}
 use Rattle.tree_laws.specs.Chains.{largest}
 use Rattle.tree_routing.specs.declared.known.Known.{Known}
 

@@ -1,5 +1,5 @@
 //! Questions to lists of ends, links and hops.
-ghost use Rattle.std.specs.Prelude.{◌≡◌, ◌≤◌, length, map};
+ghost use Rattle.std.specs.Prelude.{◌≡◌, ◌↔◌, ◌≤◌, [], length, map, IsTrue};
 ghost use Rattle.std.specs.List.{list_all, list_any};
 ghost use Rattle.tree_laws.specs.Networks.{node_of, owner, among, link_of};
 ghost use Rattle.tree_laws.specs.Trees.{of_tree, tree, is_linked, is_reached, sends_alone, goes_into};
@@ -52,6 +52,13 @@ pub(crate) fn link_of(links: &[Link], end: u16) -> Option<Link>
     None
 }
 
+/// Whether an end is in no link.
+pub(crate) fn is_free(links: &[Link], end: u16) -> bool
+    ensures { IsTrue result ↔ (link_of (map link_ends links.now) end ≡ []) }
+{
+    link_of(links, end).is_none()
+}
+
 /// Whether the two ends of a hop are of one link.
 pub(crate) fn is_linked(links: &[Link], hop: Hop) -> bool
     ensures { result ≡ is_linked (map link_ends links.now) hop }
@@ -82,13 +89,7 @@ fn is_entered(ends: &[End], hops: &[Known], group: Addr, source: Addr, node: u16
 }
 
 /// Whether the tree has reached the node: it is the root, or a hop of the tree goes into it.
-pub(crate) fn is_reached(
-    ends: &[End],
-    hops: &[Known],
-    group: Addr,
-    source: Addr,
-    node: u16,
-) -> bool
+pub(crate) fn is_reached(ends: &[End], hops: &[Known], group: Addr, source: Addr, node: u16) -> bool
     ensures { result ≡ is_reached ends.now source (tree (plain hops.now) group source) node }
 {
     match owner(ends, source) {
@@ -108,13 +109,7 @@ fn is_sent_alone(links: &[Link], end: u16, hop: Hop) -> bool
 }
 
 /// Whether each hop of the tree on the link of an end goes out of that end.
-pub(crate) fn is_alone(
-    links: &[Link],
-    hops: &[Known],
-    group: Addr,
-    source: Addr,
-    end: u16,
-) -> bool
+pub(crate) fn is_alone(links: &[Link], hops: &[Known], group: Addr, source: Addr, end: u16) -> bool
     ensures { result ≡ list_all (sends_alone (map link_ends links.now) end) (tree (plain hops.now) group source) }
 {
     for hop in hops {

@@ -81,12 +81,7 @@ fn lesser(
 }
 
 // The least hop on a chain from the new hop to the hop before it.
-fn least_between(
-    alloc: Global,
-    hops: &[Known],
-    new: &Known,
-    before: u16,
-) -> Result<Hop, NoMemory>
+fn least_between(alloc: Global, hops: &[Known], new: &Known, before: u16) -> Result<Hop, NoMemory>
     requires below { AreBelow (length hops.now) hops.now }
     requires from { new.now.vertex ≤ length hops.now }
     requires few { length hops.now ≤ 8192 }

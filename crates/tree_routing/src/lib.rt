@@ -15,6 +15,8 @@ mod levels;
 mod link;
 mod marks;
 mod routing;
+#[cfg(test)]
+mod tests;
 mod topology;
 mod ways;
 

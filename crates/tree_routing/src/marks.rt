@@ -106,12 +106,7 @@ pub(crate) fn reach(alloc: Global, hops: &[Known], from: u16) -> Result<Vec<bool
 }
 
 /// Whether edges lead from the one vertex to the other. `NoMemory`: there was no room for the marks.
-pub(crate) fn leads(
-    alloc: Global,
-    hops: &[Known],
-    from: u16,
-    to: u16,
-) -> Result<bool, NoMemory>
+pub(crate) fn leads(alloc: Global, hops: &[Known], from: u16, to: u16) -> Result<bool, NoMemory>
     requires below { AreBelow (length hops.now) hops.now }
     requires from { from ≤ length hops.now }
     requires few { length hops.now ≤ 8192 }

@@ -1,13 +1,13 @@
 //! The topology of a network, as it is put together.
 ghost use Rattle.std.specs.Prelude.{◌≡◌, ◌↔◌, ◌<◌, ◌≤◌, ◌+◌, length, map, [], ◌∷◌, ◌++◌, IsTrue, IfOk, OnOk, OnErr};
-ghost use Rattle.rsvp_base.specs.Members.{In};
-ghost use Rattle.tree_laws.specs.declared.hops.End.{End};
 ghost use Rattle.tree_laws.specs.declared.hops.TreeHop.{TreeHop};
 ghost use Rattle.tree_laws.specs.Networks.{Net, node_of, ends_of, link_of};
 ghost use Rattle.tree_routing.specs.Known.{net_of, vertex_at, vertex_before, link_ends};
-ghost use Rattle.tree_routing.specs.Answers.{no_net, with_node, with_end, with_link, in_order, with_hop, Fits, HopAnswer};
+ghost use Rattle.tree_routing.specs.Answers.{no_net, TakesEnd, TakesLink, with_node, with_end, with_link, in_order, with_hop, Fits, HopAnswer};
 
-use crate::ask::{is_alone, is_linked, is_reached, node_of, vertex_at, vertex_before};
+use crate::ask::{
+    is_alone, is_free, is_linked, is_reached, node_of, owner, vertex_at, vertex_before,
+};
 use crate::hop_err::HopErr;
 use crate::keys::trees_of;
 use crate::known::Known;
@@ -15,6 +15,7 @@ use crate::least::check_loop;
 use crate::levels::longest;
 use crate::link::Link;
 use crate::routing::Routing;
+use crate::ways::count_of;
 use rsvp_base::{Addr, NoMemory};
 use std::alloc::Global;
 use std::marker::Model;
@@ -61,6 +62,13 @@ impl Topology {
         })
     }
 
+    /// Whether there is room for another node: fewer than 256 are there.
+    pub fn has_room_for_node(&self) -> bool
+        ensures { IsTrue result ↔ (self.now.nodes < 256) }
+    {
+        self.nodes < 256
+    }
+
     /// Adds a node, and gives its number.
     pub fn add_node(&mut self) -> Result<u16, NoMemory>
         requires { self.old.nodes < 256 }
@@ -73,12 +81,20 @@ impl Topology {
         Ok(number)
     }
 
-    /// Adds an end of a node that is there, as its next interface, and gives its number. No end has its address yet.
-    /// `NoMemory`: there was no room for it; nothing changes then.
+    /// Whether an end can be added: its node is there and has fewer than 16 ends, and no end has its address.
+    pub fn takes_end(&self, end: &End) -> bool
+        ensures { IsTrue result ↔ TakesEnd self.now end.now }
+    {
+        let ends = self.ends.as_slice();
+        end.node < self.nodes
+            && count_of(ends, end.node) < 16
+            && owner(ends, end.iface.addr).is_none()
+    }
+
+    /// Adds an end of a node, as its next interface, and gives its number. `NoMemory`: there was no room for it; nothing
+    /// changes then.
     pub fn add_end(&mut self, end: End) -> Result<u16, NoMemory>
-        requires node { end.node < self.old.nodes }
-        requires room { length (ends_of self.old.ends end.node) < 16 }
-        requires address { (other : End) → In other self.old.ends → other.iface.addr ≡ end.iface.addr → ⊥ }
+        requires { TakesEnd self.old end }
         ensures ok { OnOk result (self.new ≡ with_end self.old end) }
         ensures number { IfOk result (λ number. number ≡ length self.old.ends) }
         ensures err { OnErr result (self.new ≡ self.old) }
@@ -90,15 +106,22 @@ impl Topology {
         Ok(number)
     }
 
-    /// Adds a link of two ends that are there, of two nodes, and in no link yet. `NoMemory`: there was no room for it;
-    /// nothing changes then.
+    /// Whether a link can be added: its two ends are there, of two nodes and in no link, and there are fewer than 512 links.
+    pub fn takes_link(&self, one: u16, other: u16) -> bool
+        ensures { IsTrue result ↔ TakesLink self.now one other }
+    {
+        let ends = self.ends.as_slice();
+        (one as usize) < ends.len()
+            && (other as usize) < ends.len()
+            && node_of(ends, one) != node_of(ends, other)
+            && is_free(self.links.as_slice(), one)
+            && is_free(self.links.as_slice(), other)
+            && self.links.len() < 512
+    }
+
+    /// Adds a link of two ends. `NoMemory`: there was no room for it; nothing changes then.
     pub fn add_link(&mut self, one: u16, other: u16) -> Result<(), NoMemory>
-        requires one { one < length self.old.ends }
-        requires other { other < length self.old.ends }
-        requires nodes { node_of self.old.ends one ≡ node_of self.old.ends other → ⊥ }
-        requires one_free { link_of self.old.links one ≡ [] }
-        requires other_free { link_of self.old.links other ≡ [] }
-        requires room { length self.old.links < 512 }
+        requires { TakesLink self.old one other }
         ensures ok { OnOk result (self.new ≡ with_link self.old one other) }
         ensures err { OnErr result (self.new ≡ self.old) }
     {
@@ -106,6 +129,13 @@ impl Topology {
             return Err(NoMemory);
         }
         Ok(())
+    }
+
+    /// Whether there is room for another hop: all trees have fewer than 8,192 hops.
+    pub fn has_room_for_hop(&self) -> bool
+        ensures { IsTrue result ↔ (length self.now.hops < 8192) }
+    {
+        self.hops.len() < 8192
     }
 
     /// Adds a hop to the tree of its group and source, whose root is the node that has the end of this address.
@@ -116,13 +146,7 @@ impl Topology {
     /// stands on a closed chain.
     /// `HopErr::NoMemory`: there was no room for the hop, or for the check.
     /// Nothing changes after any of these.
-    pub fn add_hop(
-        &mut self,
-        group: Addr,
-        source: Addr,
-        from: u16,
-        to: u16,
-    ) -> Result<(), HopErr>
+    pub fn add_hop(&mut self, group: Addr, source: Addr, from: u16, to: u16) -> Result<(), HopErr>
         requires { length self.old.hops < 8192 }
         ensures ok { OnOk result (self.new ≡ with_hop self.old (record { group = group; source = source; hop = record { from = from; to = to } })) }
         ensures answer { HopAnswer self.old (record { group = group; source = source; hop = record { from = from; to = to } }) result }

@@ -31,8 +31,8 @@ pub(crate) fn hop_into(
     None
 }
 
-// How many of the ends are of the node.
-fn count_of(ends: &[End], node: u16) -> u8
+/// How many of the ends are of the node.
+pub(crate) fn count_of(ends: &[End], node: u16) -> u8
     requires { length (ends_of ends.now node) ≤ 16 }
     ensures { result ≡ length (ends_of ends.now node) }
 {
@@ -71,14 +71,7 @@ fn is_left(ends: &[End], hop: &Known, group: Addr, source: Addr, node: u16) -> b
 }
 
 // The interfaces by which the tree leaves the node, with that of one more hop.
-fn with_hop(
-    ends: &[End],
-    hop: &Known,
-    group: Addr,
-    source: Addr,
-    node: u16,
-    ways: u16,
-) -> u16
+fn with_hop(ends: &[End], hop: &Known, group: Addr, source: Addr, node: u16, ways: u16) -> u16
     requires few { (n : ℕ) → length (ends_of ends.now n) ≤ 16 }
     requires inside { hop.now.hop.hop.from < length ends.now }
     ensures { (i : ℕ) → (bit_at result i ≡ 1) ↔ (IsWayOf ends.now group source node hop.now i ⊎ (bit_at ways i ≡ 1)) }
@@ -90,13 +83,7 @@ fn with_hop(
 }
 
 /// The interfaces by which the tree leaves the node: bit i stands for interface i.
-pub(crate) fn ways_out(
-    ends: &[End],
-    hops: &[Known],
-    group: Addr,
-    source: Addr,
-    node: u16,
-) -> u16
+pub(crate) fn ways_out(ends: &[End], hops: &[Known], group: Addr, source: Addr, node: u16) -> u16
     requires few { (n : ℕ) → length (ends_of ends.now n) ≤ 16 }
     requires inside { (k : Known) → In k hops.now → k.hop.hop.from < length ends.now }
     ensures { (i : ℕ) → (bit_at result i ≡ 1) ↔ IsWay ends.now group source node hops.now i }

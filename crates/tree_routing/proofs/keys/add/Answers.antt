@@ -1,6 +1,3 @@
-use Rattle.std.proofs.Common.{◌≡◌, subst}
-use Rattle.rsvp_base.specs.Rows.{HasRowAt}
-use Rattle.tree_routing.specs.Routes.{tree_keys, as_row}
 use Rattle.tree_routing.proofs.KeyLaws.{there_already}
 use Rattle.tree_routing.proofs.keys.add.Goals as goal
 

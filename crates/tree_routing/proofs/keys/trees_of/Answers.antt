@@ -1,6 +1,5 @@
-use Rattle.std.proofs.Common.{◌≡◌, ◌≤◌, ◌∙◌, refl, take, length, ap, arith}
-use Rattle.tree_routing.specs.declared.known.Known.{Known}
-use Rattle.tree_routing.proofs.KeyLaws.{set_at, rows_up, one_tree_more, trees_are, all_taken}
+use Rattle.std.proofs.Common.{◌∙◌, refl, take, arith}
+use Rattle.tree_routing.proofs.KeyLaws.{rows_up, one_tree_more, trees_are, all_taken}
 use Rattle.tree_routing.proofs.keys.trees_of.Goals as goal
 
 pub add-requires : goal.add-requires

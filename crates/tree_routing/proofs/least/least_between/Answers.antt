@@ -1,5 +1,4 @@
-use Rattle.std.proofs.Common.{◌≡◌, ◌≤◌, ◌<◌, arith, subst, sym, take, length, List}
-use Rattle.rsvp_base.specs.Members.{In}
+use Rattle.std.proofs.Common.{◌<◌, arith, subst, sym, take, length, List}
 use Rattle.tree_routing.specs.declared.known.Known.{Known}
 use Rattle.tree_routing.specs.Checks.{IsLeastAmong}
 use Rattle.tree_routing.proofs.LeastLaws.{take_one_more, least_more, vertex_within}

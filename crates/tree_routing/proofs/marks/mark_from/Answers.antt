@@ -1,7 +1,5 @@
-use Rattle.std.proofs.Common.{◌≡◌, sym, ap, subst, arith}
-use Rattle.std.specs.Prelude.{true, slice_set, length, ◌<◌}
-use Rattle.rsvp_base.specs.Members.{In}
-use Rattle.tree_routing.specs.declared.known.Known.{Known}
+use Rattle.std.proofs.Common.{arith}
+use Rattle.std.specs.Prelude.{true, slice_set}
 use Rattle.tree_routing.proofs.MarkLaws.{reach_is, set_here, set_only, length_set}
 use Rattle.tree_routing.proofs.marks.mark_from.Goals as goal
 

@@ -1,9 +1,10 @@
-use Rattle.std.proofs.Common.{◌≡◌, ◌<◌, ◌≤◌, ◌++◌, ◌∷◌, [], List, length, arith, sym, subst}
+use Rattle.std.proofs.Common.{◌≡◌, ◌<◌, ◌++◌, ◌∷◌, [], List, length, arith, sym, subst}
 use Rattle.std.proofs.lemmas.Grind.{common_steps}
 use Rattle.rsvp_base.specs.Members.{In}
 use Rattle.tree_laws.specs.declared.hops.End.{End}
 use Rattle.tree_laws.specs.Networks.{Net, ends_of}
 use Rattle.tree_laws.specs.Valid.{IsValid}
+use Rattle.tree_routing.specs.Answers.{TakesEnd}
 use Rattle.tree_routing.specs.Known.{net_of, AreKnown}
 use Rattle.tree_routing.proofs.ValidMore.{valid_end, known_end, few_ends_in_all}
 use Rattle.tree_routing.proofs.topology.Topology.add_end.Goals as goal
@@ -17,9 +18,7 @@ pub invariant_of-self-2 : goal.invariant_of-self-2
 invariant_of-self-2 c =
     let is : c.push.new.self.items ≡ c.self.inside.ends.items ++ c.args.end ∷ [] = grind (arith, common_steps) in
     let net = net_of c.self.inside.nodes c.self.inside.ends.items c.self.inside.links.items c.self.inside.hops.items in
-    subst (λ (xs : List End). IsValid (net_of c.self.inside.nodes xs c.self.inside.links.items c.self.inside.hops.items) × AreKnown xs c.self.inside.hops.items) (sym is)
-    (
-      valid_end net c.self.invariant.0 c.args.end (subst (λ (n : Net). c.args.end.node < n.nodes) (sym c.self.view_is) c.requires.node) (subst (λ (n : Net). length (ends_of n.ends c.args.end.node) < 16) (sym c.self.view_is) c.requires.room)
-        (subst (λ (n : Net). (other : End) → In other n.ends → other.iface.addr ≡ c.args.end.iface.addr → ⊥) (sym c.self.view_is) c.requires.address),
+    subst (λ (xs : List End). IsValid (net_of c.self.inside.nodes xs c.self.inside.links.items c.self.inside.hops.items) × AreKnown xs c.self.inside.hops.items) (sym is) (
+      valid_end net c.self.invariant.0 c.args.end (subst (λ (n : Net). TakesEnd n c.args.end) (sym c.self.view_is) c.requires),
       known_end c.self.inside.nodes c.self.inside.ends.items c.self.inside.links.items c.self.inside.hops.items c.args.end c.self.invariant.0 c.self.invariant.1,
     )
