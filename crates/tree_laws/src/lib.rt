@@ -8,7 +8,5 @@
 
 mod hops;
 pub mod laws;
-mod locals;
 
 pub use hops::{End, Hop, TreeHop};
-pub use locals::{LocalSender, LocalWant};

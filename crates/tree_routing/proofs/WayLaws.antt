@@ -1,5 +1,6 @@
 -- Ways into a node and out of it.
-use Rattle.std.specs.Prelude.{◌≡◌, ◌↔◌, ◌⊎◌, ℕ, ◌+◌, ◌*◌, ◌^◌, ◌%◌, ◌<◌, ◌≤◌, Bool, true, false, ◌==◌, List, [], ◌∷◌, length, take, Some, slice_index_or, bit_or, refl, if◌then◌else◌}
+use Rattle.std.specs.Prelude.{◌≡◌, ◌↔◌, ◌⊎◌, ℕ, ◌+◌, ◌*◌, ◌^◌, ◌%◌, ◌<◌, ◌≤◌, Bool, true, false, ◌==◌, List, [], ◌∷◌, length, take, Some, slice_index_or, bit_or, refl, if◌then◌else◌, not, ◌||◌}
+use Rattle.std.specs.List.{list_all}
 use Rattle.std.proofs.Common.{zero, suc, sym, ap, subst, ◌∙◌, inl, inr, ⊎_elim, arith, w16}
 use Rattle.std.specs.Int.{bit_at}
 use Rattle.std.proofs.lemmas.Bool.{cases_eq}
@@ -10,8 +11,8 @@ use Rattle.rsvp_base.proofs.Members.{in_append, in_left, in_right}
 use Rattle.rsvp_base.proofs.SetLaws.{and_both, and_made}
 use Rattle.tree_laws.specs.declared.hops.End.{End}
 use Rattle.tree_laws.specs.declared.hops.Hop.{Hop}
-use Rattle.tree_laws.specs.Networks.{Net, node_of, ends_from, ends_of, iface_of}
-use Rattle.tree_laws.specs.Trees.{of_group, of_tree, tree, goes_out_of, first_by, goes_into, end_into, inward}
+use Rattle.tree_laws.specs.Networks.{Net, node_of, ends_from, ends_of, iface_of, among, link_of}
+use Rattle.tree_laws.specs.Trees.{of_group, of_tree, tree, goes_out_of, first_by, goes_into, end_into, inward, sends_alone}
 use Rattle.tree_laws.specs.Valid.{IsValid}
 use Rattle.tree_laws.proofs.Following.{same_number, number_same, addr_same}
 use Rattle.tree_laws.proofs.TreeLaws.{out_told, out_tested, way_in_told}
@@ -127,3 +128,11 @@ module _ (nodes : ℕ) (ends : List End) (links : List Link) (ks : List Known) (
       let here : (bit_at bits i ≡ 1) ↔ IsWay ends g s n ks i = subst (λ (x : List Known). (bit_at bits i ≡ 1) ↔ IsWay ends g s n x i) b (subst (λ (x : List End). (bit_at bits i ≡ 1) ↔ IsWay x g s n ks' i) a w) in
       let l = ways_leave n i g s in
       subst (λ (x : Net). (bit_at bits i ≡ 1) ↔ LeavesBy x n g s i) (sym is) ((λ t. l.0 (here.0 t)), (λ t. here.1 (l.1 t)))
+
+-- ---- an end in no link shares none
+pub none_on_no_link : (links : List (List ℕ)) (e : ℕ) (hs : List Hop) → link_of links e ≡ [] → list_all (sends_alone links e) hs ≡ true
+none_on_no_link links e hs free = ap (λ (l : List ℕ). list_all (λ (x : Hop). not (among x.from l) || (x.from == e)) hs) free ∙ all_true hs
+  where
+    all_true : (xs : List Hop) → list_all (λ (x : Hop). not (among x.from []) || (x.from == e)) xs ≡ true
+    all_true [] = refl
+    all_true (x ∷ xs) = all_true xs

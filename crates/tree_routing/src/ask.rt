@@ -4,7 +4,7 @@ ghost use Rattle.std.specs.List.{list_all, list_any};
 ghost use Rattle.tree_laws.specs.Networks.{node_of, owner, among, link_of};
 ghost use Rattle.tree_laws.specs.Trees.{of_tree, tree, is_linked, is_reached, sends_alone, goes_into};
 ghost use Rattle.tree_routing.specs.Known.{plain, link_ends, is_pair, vertex_at, comes_to, vertex_before};
-ghost use Rattle.tree_routing.specs.Found.{ends_found};
+ghost use Rattle.tree_routing.specs.Found.{ends_found, leaves_link};
 
 use crate::known::Known;
 use crate::link::Link;
@@ -98,26 +98,33 @@ pub(crate) fn is_reached(ends: &[End], hops: &[Known], group: Addr, source: Addr
     }
 }
 
-// Whether a hop of a tree on the link of an end goes out of that end, or is not on the link.
-fn is_sent_alone(links: &[Link], end: u16, hop: Hop) -> bool
-    ensures { result ≡ sends_alone (map link_ends links.now) end hop }
+// Whether a hop of a tree goes out of the end, or is not on the link.
+fn is_sent_alone(link: &Link, end: u16, hop: Hop) -> bool
+    ensures { result ≡ leaves_link (link_ends link.now) end hop }
 {
-    match link_of(links, end) {
-        Some(link) => !is_of(&link, hop.from) || hop.from == end,
-        None => true,
+    !is_of(link, hop.from) || hop.from == end
+}
+
+// Whether each hop of the tree on the link goes out of the end.
+fn all_alone(link: &Link, hops: &[Known], group: Addr, source: Addr, end: u16) -> bool
+    ensures { result ≡ list_all (leaves_link (link_ends link.now) end) (tree (plain hops.now) group source) }
+{
+    for hop in hops {
+        if is_in_tree(hop, group, source) && !is_sent_alone(link, end, hop.hop.hop) {
+            return false;
+        }
     }
+    true
 }
 
 /// Whether each hop of the tree on the link of an end goes out of that end.
 pub(crate) fn is_alone(links: &[Link], hops: &[Known], group: Addr, source: Addr, end: u16) -> bool
     ensures { result ≡ list_all (sends_alone (map link_ends links.now) end) (tree (plain hops.now) group source) }
 {
-    for hop in hops {
-        if is_in_tree(hop, group, source) && !is_sent_alone(links, end, hop.hop.hop) {
-            return false;
-        }
+    match link_of(links, end) {
+        Some(link) => all_alone(&link, hops, group, source, end),
+        None => true,
     }
-    true
 }
 
 // Whether it is this hop of this group.

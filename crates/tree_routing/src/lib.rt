@@ -23,4 +23,4 @@ mod ways;
 pub use hop_err::HopErr;
 pub use routing::Routing;
 pub use topology::Topology;
-pub use tree_laws::{End, Hop, LocalSender, LocalWant, TreeHop};
+pub use tree_laws::{End, Hop, TreeHop};

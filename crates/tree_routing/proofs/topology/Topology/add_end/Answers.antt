@@ -1,8 +1,7 @@
-use Rattle.std.proofs.Common.{◌≡◌, ◌<◌, ◌++◌, ◌∷◌, [], List, length, arith, sym, subst}
+use Rattle.std.proofs.Common.{◌≡◌, ◌++◌, ◌∷◌, [], List, arith, sym, subst}
 use Rattle.std.proofs.lemmas.Grind.{common_steps}
-use Rattle.rsvp_base.specs.Members.{In}
 use Rattle.tree_laws.specs.declared.hops.End.{End}
-use Rattle.tree_laws.specs.Networks.{Net, ends_of}
+use Rattle.tree_laws.specs.Networks.{Net}
 use Rattle.tree_laws.specs.Valid.{IsValid}
 use Rattle.tree_routing.specs.Answers.{TakesEnd}
 use Rattle.tree_routing.specs.Known.{net_of, AreKnown}
