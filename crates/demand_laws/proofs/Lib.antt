@@ -1,0 +1,2 @@
+pub mod FuelLaws
+pub mod WantLaws

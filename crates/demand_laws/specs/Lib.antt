@@ -1,0 +1,4 @@
+pub mod Fuel
+pub mod Wants
+pub mod Goals
+pub mod Laws

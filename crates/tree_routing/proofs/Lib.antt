@@ -1,0 +1,9 @@
+pub mod MarkLaws
+pub mod Vertices
+pub mod LeastLaws
+pub mod Loops
+pub mod Carried
+pub mod ValidMore
+pub mod LevelLaws
+pub mod KeyLaws
+pub mod WayLaws

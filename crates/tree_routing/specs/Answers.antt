@@ -1,0 +1,67 @@
+-- What a topology answers for a hop.
+use Rattle.std.specs.Prelude.{◌≡◌, ◌⊎◌, ℕ, ◌+◌, nat_lt, if◌then◌else◌, ◌<◌, ◌≤◌, List, [], ◌∷◌, ◌++◌, Result, Ok, Err, length, None}
+use Rattle.rsvp_base.specs.declared.addr.Addr.{Addr}
+use Rattle.tree_laws.specs.declared.hops.End.{End}
+use Rattle.tree_laws.specs.declared.hops.Hop.{Hop}
+use Rattle.tree_laws.specs.declared.hops.TreeHop.{TreeHop}
+use Rattle.tree_laws.specs.Networks.{Net, node_of, ends_of, owner, link_of}
+use Rattle.tree_laws.specs.Trees.{tree, Grows}
+use Rattle.tree_laws.specs.Ranks.{IsLoopFreeIn, IsOnLoop}
+use Rattle.tree_routing.specs.declared.hop_err.HopErr.{HopErr}
+use Rattle.tree_routing.specs.declared.hop_err.HopErr.TheVariants.{NotTree, Loop, NoMemory}
+
+-- no nodes
+abbrev pub no_net : Net
+no_net = record { nodes = 0; ends = []; links = []; hops = [] }
+
+-- the network with one more node, end, link or hop
+abbrev pub with_node : Net → Net
+with_node net = record { nodes = net.nodes + 1; ends = net.ends; links = net.links; hops = net.hops }
+
+abbrev pub with_end : Net → End → Net
+with_end net e = record { nodes = net.nodes; ends = net.ends ++ e ∷ []; links = net.links; hops = net.hops }
+
+abbrev pub in_order : ℕ → ℕ → List ℕ
+in_order a b = if nat_lt a b then a ∷ b ∷ [] else b ∷ a ∷ []
+
+abbrev pub with_link : Net → ℕ → ℕ → Net
+with_link net a b = record { nodes = net.nodes; ends = net.ends; links = net.links ++ in_order a b ∷ []; hops = net.hops }
+
+abbrev pub with_hop : Net → TreeHop → Net
+with_hop net r = record { nodes = net.nodes; ends = net.ends; links = net.links; hops = net.hops ++ r ∷ [] }
+
+-- the end can be added: its node is there and has fewer than 16 ends, and no end has its address
+pub record TakesEnd (net : Net) (e : End) : Type 0 where
+  pub node : e.node < net.nodes
+  pub room : length (ends_of net.ends e.node) < 16
+  pub address : owner net.ends e.iface.addr ≡ None
+
+-- the link can be added: its ends are there, of two nodes, and in no link
+pub record TakesLink (net : Net) (a b : ℕ) : Type 0 where
+  pub one : a < length net.ends
+  pub other : b < length net.ends
+  pub nodes : node_of net.ends a ≡ node_of net.ends b → ⊥
+  pub one_free : link_of net.links a ≡ []
+  pub other_free : link_of net.links b ≡ []
+  pub room : length net.links < 512
+
+-- the tree of the hop can grow by it
+abbrev pub Fits : Net → TreeHop → Type 0
+Fits net r = Grows net r.source (tree net.hops r.group r.source) r.hop
+
+-- hops in order: by the end that they go out of, then by the one that they go into
+abbrev pub IsUpTo : Hop → Hop → Type 0
+IsUpTo a b = (a.from < b.from) ⊎ ((a.from ≡ b.from) × (a.to ≤ b.to))
+
+-- the least hop of the group that stands on a closed chain
+pub record IsLeastOnLoop (net : Net) (g : Addr) (h : Hop) : Type 0 where
+  pub on : IsOnLoop net g h
+  pub least : (x : Hop) → IsOnLoop net g x → IsUpTo h x
+
+-- taken: the tree grows, and no chain of the group is closed. Not of the tree: it can't grow by the hop. A loop: it can, and
+-- then this is the least hop on a closed chain of the group
+abbrev pub HopAnswer : Net → TreeHop → Result (Unit {0}) HopErr → Type 0
+HopAnswer net r (Ok u) = Fits net r × IsLoopFreeIn (with_hop net r) r.group
+HopAnswer net r (Err NotTree) = Fits net r → ⊥
+HopAnswer net r (Err (Loop group from to)) = Fits net r × (group ≡ r.group) × IsLeastOnLoop (with_hop net r) r.group (record { from = from; to = to })
+HopAnswer net r (Err NoMemory) = Unit {0}

@@ -1,0 +1,56 @@
+-- What a routing answers.
+use Rattle.std.specs.Prelude.{◌≡◌, ℕ, Bool, true, ◌&&◌, List, map as each, Option, None, Some}
+use Rattle.rsvp_base.specs.Keys.{Keys, pairs}
+use Rattle.rsvp_base.specs.Members.{In}
+use Rattle.rsvp_base.specs.Orders.{addrs}
+use Rattle.rsvp_base.specs.Rows.{AreRows, table_of}
+use Rattle.rsvp_base.specs.Sets.{set_of, with_key}
+use Rattle.rsvp_base.specs.Table.{keys}
+use Rattle.rsvp_base.specs.declared.addr.Addr.{Addr}
+use Rattle.tree_laws.specs.declared.hops.End.{End}
+use Rattle.tree_laws.specs.declared.hops.TreeHop.{TreeHop}
+use Rattle.tree_routing.specs.declared.known.Known.{Known}
+use Rattle.tree_laws.specs.Networks.{Net, iface_of}
+use Rattle.tree_laws.specs.Trees.{of_tree, goes_out_of, inward, outward}
+
+-- the interface of an end
+abbrev pub iface_in : Net → Option ℕ → Option ℕ
+iface_in net None = None
+iface_in net (Some e) = Some (iface_of net.ends e)
+
+-- the interface by which the tree comes into a node
+abbrev pub inward_iface : Net → ℕ → Addr → Addr → Option ℕ
+inward_iface net n g s = iface_in net (inward net n g s)
+
+-- an interface by which the tree leaves a node
+abbrev pub LeavesBy : Net → ℕ → Addr → Addr → ℕ → Type 0
+LeavesBy net n g s i = (e : ℕ) × In e (outward net n g s) × (iface_of net.ends e ≡ i)
+
+-- the trees that have a hop, by group and source
+abbrev pub tree_keys : Keys (Addr × Addr)
+tree_keys = pairs addrs addrs
+
+abbrev pub key_of : TreeHop → Addr × Addr
+key_of r = (r.group, r.source)
+
+abbrev pub trees_of : List TreeHop → List (Addr × Addr)
+trees_of hops = keys (set_of {o = tree_keys} (each key_of hops))
+
+-- ---- over what is kept of hops
+abbrev pub is_left : List End → Addr → Addr → ℕ → Known → Bool
+is_left ends g s n k = of_tree g s k.hop && goes_out_of ends n k.hop.hop
+
+-- the interface is that by which the hop leaves the node
+abbrev pub IsWayOf : List End → Addr → Addr → ℕ → Known → ℕ → Type 0
+IsWayOf ends g s n k i = (is_left ends g s n k ≡ true) × (iface_of ends k.hop.hop.from ≡ i)
+
+abbrev pub IsWay : List End → Addr → Addr → ℕ → List Known → ℕ → Type 0
+IsWay ends g s n ks i = (k : Known) × In k ks × IsWayOf ends g s n k i
+
+-- a tree as a row of a set
+abbrev pub as_row : Addr × Addr → (Addr × Addr) × Unit {0}
+as_row t = (t, tt)
+
+-- the list of a set of trees with one more
+abbrev pub IsWithTree : List (Addr × Addr) → Addr × Addr → List (Addr × Addr) → Type 0
+IsWithTree xs t ys = (up : AreRows tree_keys as_row xs) → each as_row ys ≡ (with_key (table_of tree_keys as_row xs up) t).rows

@@ -1,0 +1,170 @@
+//! Questions to lists of ends, links and hops.
+ghost use Rattle.std.specs.Prelude.{◌≡◌, ◌↔◌, ◌≤◌, [], length, map, IsTrue};
+ghost use Rattle.std.specs.List.{list_all, list_any};
+ghost use Rattle.tree_laws.specs.Networks.{node_of, owner, among, link_of};
+ghost use Rattle.tree_laws.specs.Trees.{of_tree, tree, is_linked, is_reached, sends_alone, goes_into};
+ghost use Rattle.tree_routing.specs.Known.{plain, link_ends, is_pair, vertex_at, comes_to, vertex_before};
+ghost use Rattle.tree_routing.specs.Found.{ends_found, leaves_link};
+
+use crate::known::Known;
+use crate::link::Link;
+use rsvp_base::Addr;
+use tree_laws::{End, Hop, TreeHop};
+
+/// The node of an end; 0 where there is no such end.
+pub(crate) fn node_of(ends: &[End], end: u16) -> u16
+    ensures { result ≡ node_of ends.now end }
+{
+    match ends.get(end as usize) {
+        Some(end) => end.node,
+        None => 0,
+    }
+}
+
+/// The node that has the end of this address.
+pub(crate) fn owner(ends: &[End], address: Addr) -> Option<u16>
+    ensures { result ≡ owner ends.now address }
+{
+    for end in ends {
+        if end.iface.addr.0 == address.0 {
+            return Some(end.node);
+        }
+    }
+    None
+}
+
+// Whether an end is one of the link's.
+fn is_of(link: &Link, end: u16) -> bool
+    ensures { result ≡ among end (link_ends link.now) }
+{
+    link.low == end || link.high == end
+}
+
+/// The link that an end is in.
+pub(crate) fn link_of(links: &[Link], end: u16) -> Option<Link>
+    ensures { link_of (map link_ends links.now) end ≡ ends_found result }
+{
+    for link in links {
+        if is_of(link, end) {
+            return Some(*link);
+        }
+    }
+    None
+}
+
+/// Whether an end is in no link.
+pub(crate) fn is_free(links: &[Link], end: u16) -> bool
+    ensures { IsTrue result ↔ (link_of (map link_ends links.now) end ≡ []) }
+{
+    link_of(links, end).is_none()
+}
+
+/// Whether the two ends of a hop are of one link.
+pub(crate) fn is_linked(links: &[Link], hop: Hop) -> bool
+    ensures { result ≡ is_linked (map link_ends links.now) hop }
+{
+    match link_of(links, hop.from) {
+        Some(link) => hop.to != hop.from && is_of(&link, hop.to),
+        None => false,
+    }
+}
+
+// Whether a hop is of the tree.
+pub(crate) fn is_in_tree(hop: &Known, group: Addr, source: Addr) -> bool
+    ensures { result ≡ of_tree group source hop.now.hop }
+{
+    hop.hop.group.0 == group.0 && hop.hop.source.0 == source.0
+}
+
+// Whether a hop of the tree goes into the node.
+fn is_entered(ends: &[End], hops: &[Known], group: Addr, source: Addr, node: u16) -> bool
+    ensures { result ≡ list_any (goes_into ends.now node) (tree (plain hops.now) group source) }
+{
+    for hop in hops {
+        if is_in_tree(hop, group, source) && node_of(ends, hop.hop.hop.to) == node {
+            return true;
+        }
+    }
+    false
+}
+
+/// Whether the tree has reached the node: it is the root, or a hop of the tree goes into it.
+pub(crate) fn is_reached(ends: &[End], hops: &[Known], group: Addr, source: Addr, node: u16) -> bool
+    ensures { result ≡ is_reached ends.now source (tree (plain hops.now) group source) node }
+{
+    match owner(ends, source) {
+        Some(root) => root == node || is_entered(ends, hops, group, source, node),
+        None => is_entered(ends, hops, group, source, node),
+    }
+}
+
+// Whether a hop of a tree goes out of the end, or is not on the link.
+fn is_sent_alone(link: &Link, end: u16, hop: Hop) -> bool
+    ensures { result ≡ leaves_link (link_ends link.now) end hop }
+{
+    !is_of(link, hop.from) || hop.from == end
+}
+
+// Whether each hop of the tree on the link goes out of the end.
+fn all_alone(link: &Link, hops: &[Known], group: Addr, source: Addr, end: u16) -> bool
+    ensures { result ≡ list_all (leaves_link (link_ends link.now) end) (tree (plain hops.now) group source) }
+{
+    for hop in hops {
+        if is_in_tree(hop, group, source) && !is_sent_alone(link, end, hop.hop.hop) {
+            return false;
+        }
+    }
+    true
+}
+
+/// Whether each hop of the tree on the link of an end goes out of that end.
+pub(crate) fn is_alone(links: &[Link], hops: &[Known], group: Addr, source: Addr, end: u16) -> bool
+    ensures { result ≡ list_all (sends_alone (map link_ends links.now) end) (tree (plain hops.now) group source) }
+{
+    match link_of(links, end) {
+        Some(link) => all_alone(&link, hops, group, source, end),
+        None => true,
+    }
+}
+
+// Whether it is this hop of this group.
+fn is_pair(group: Addr, hop: Hop, known: &Known) -> bool
+    ensures { result ≡ is_pair group hop known.now }
+{
+    known.hop.group.0 == group.0 && hop.from == known.hop.hop.from && hop.to == known.hop.hop.to
+}
+
+/// The place at which this hop of this group stands first; the length of the list where it does not stand.
+pub(crate) fn vertex_at(hops: &[Known], group: Addr, hop: Hop) -> u16
+    requires { length hops.now ≤ 8192 }
+    ensures { result ≡ vertex_at hops.now group hop }
+{
+    let mut place = 0;
+    for known in hops {
+        if is_pair(group, hop, known) {
+            return place;
+        }
+        place += 1;
+    }
+    place
+}
+
+// Whether it is a hop of the same tree into the node that this one goes out of.
+fn comes_to(ends: &[End], hop: &TreeHop, known: &Known) -> bool
+    ensures { result ≡ comes_to ends.now hop.now known.now }
+{
+    is_in_tree(known, hop.group, hop.source)
+        && node_of(ends, known.hop.hop.to) == node_of(ends, hop.hop.from)
+}
+
+/// The vertex of the hop before this one in its tree.
+pub(crate) fn vertex_before(ends: &[End], hops: &[Known], hop: &TreeHop) -> Option<u16>
+    ensures { result ≡ vertex_before ends.now hop.now hops.now }
+{
+    for known in hops {
+        if comes_to(ends, hop, known) {
+            return Some(known.vertex);
+        }
+    }
+    None
+}

@@ -1,0 +1,26 @@
+//! The topology of a network, and the routing that comes of it: which hops the trees of a group have, and the check that
+//! no chain of hops is closed.
+//!
+//! `Topology` takes nodes, link ends, links and hops one by one. A hop is refused exactly where its tree cannot grow by it,
+//! or where it would close a chain of its group; a refusal changes nothing. `Routing` is a topology that is closed, and
+//! answers where a tree comes into a node and leaves it. What is said of both stands in `tree_laws`.
+#![tactic(auto)]
+
+mod ask;
+mod hop_err;
+mod keys;
+mod known;
+mod least;
+mod levels;
+mod link;
+mod marks;
+mod routing;
+#[cfg(test)]
+mod tests;
+mod topology;
+mod ways;
+
+pub use hop_err::HopErr;
+pub use routing::Routing;
+pub use topology::Topology;
+pub use tree_laws::{End, Hop, TreeHop};

@@ -1,0 +1,142 @@
+//! The routing of a network.
+ghost use Rattle.std.specs.Prelude.{◌≡◌, ◌↔◌, ◌==◌, not, ℕ, [], ◌∷◌, slice_get};
+ghost use Rattle.std.specs.List.{filter};
+ghost use Rattle.tree_routing.specs.Known.{link_ends};
+ghost use Rattle.std.specs.Int.{bit_at};
+ghost use Rattle.tree_laws.specs.Networks.{peers};
+ghost use Rattle.tree_laws.specs.Ranks.{longest};
+ghost use Rattle.tree_routing.specs.Routes.{inward_iface, LeavesBy, trees_of};
+
+use crate::ask::link_of;
+use crate::known::Known;
+use crate::link::Link;
+use crate::ways::{hop_into, iface_of, ways_out};
+use rsvp_base::Addr;
+use std::marker::Model;
+use tree_laws::End;
+
+/// A network whose topology is closed: where each tree comes into a node and leaves it. Contracts see the network, which is
+/// valid: within its limits, its trees grown hop by hop, and without a closed chain. No call takes memory.
+#[derive(Drop)]
+pub struct Routing {
+    pub(crate) nodes: u16,
+    pub(crate) ends: Vec<End>,
+    pub(crate) links: Vec<Link>,
+    pub(crate) hops: Vec<Known>,
+    // The length of the longest chain.
+    pub(crate) chain: u16,
+    // The group and source of each tree, in order.
+    pub(crate) trees: Vec<(Addr, Addr)>,
+}
+
+impl Model for Routing {
+    ghost use Rattle.std.specs.Prelude.{◌≡◌};
+    ghost use Rattle.tree_laws.specs.Networks.{Net};
+    ghost use Rattle.tree_laws.specs.Codes.{net_code};
+    ghost use Rattle.tree_laws.specs.Ranks.{longest};
+    ghost use Rattle.tree_laws.specs.Valid.{IsValid};
+    ghost use Rattle.tree_routing.specs.Known.{plain, net_of};
+    ghost use Rattle.tree_routing.specs.Routes.{trees_of};
+
+    ghost Value = { Net };
+
+    ghost coded = { net_code };
+
+    ghost view = { λ r. net_of r.nodes r.ends.items r.links.items r.hops.items };
+
+    ghost invariant = { λ r. IsValid (net_of r.nodes r.ends.items r.links.items r.hops.items) × (r.chain ≡ longest (net_of r.nodes r.ends.items r.links.items r.hops.items)) × (r.trees.items ≡ trees_of (plain r.hops.items)) };
+}
+
+impl Routing {
+    ghost use Rattle.tree_laws.specs.Valid.{IsValid};
+
+    /// How many nodes were added.
+    pub fn nodes(&self) -> u16
+        ensures nodes { result ≡ self.now.nodes }
+        ensures valid { IsValid self.now }
+    {
+        self.nodes
+    }
+
+    /// The length of the longest chain of hops of a group; 0 where there is no hop.
+    pub fn longest(&self) -> u32
+        ensures { result ≡ longest self.now }
+    {
+        u32::from(self.chain)
+    }
+
+    /// The interface by which the tree of a group and source comes into a node. `None` exactly where no hop of the tree goes
+    /// into it.
+    pub fn inward(&self, node: u16, group: Addr, source: Addr) -> Option<u8>
+        ensures { result ≡ inward_iface self.now node group source }
+    {
+        let into = hop_into(
+            self.ends.as_slice(),
+            self.hops.as_slice(),
+            group,
+            source,
+            node,
+        )?;
+        Some(iface_of(self.ends.as_slice(), into))
+    }
+
+    /// The interfaces by which the tree of a group and source leaves a node: bit i stands for interface i.
+    pub fn outward(&self, node: u16, group: Addr, source: Addr) -> u16
+        ensures { (i : ℕ) → (bit_at result i ≡ 1) ↔ LeavesBy self.now node group source i }
+    {
+        ways_out(
+            self.ends.as_slice(),
+            self.hops.as_slice(),
+            group,
+            source,
+            node,
+        )
+    }
+
+    /// The group and source of the k-th tree that has a hop, by group and source, from 0. `None` exactly where k is not
+    /// below their number.
+    pub fn tree(&self, k: usize) -> Option<(Addr, Addr)>
+        ensures { result ≡ slice_get (trees_of self.now.hops) k }
+    {
+        self.trees.get(k).copied()
+    }
+
+    /// The k-th other end of the link of an end, in order, from 0. `None` exactly where k is not below their number; an end
+    /// in no link has none.
+    pub fn far(&self, end: u16, k: usize) -> Option<u16>
+        ensures { result ≡ slice_get (peers self.now.links end) k }
+    {
+        let link = link_of(self.links.as_slice(), end)?;
+        other_end(&link, end, k)
+    }
+}
+
+// The k-th end of the link that is not this one.
+fn other_end(link: &Link, end: u16, k: usize) -> Option<u16>
+    ensures { result ≡ slice_get (filter (λ x. not (x == end)) (link_ends link.now)) k }
+{
+    if link.low == end {
+        return if link.high == end {
+            None
+        } else {
+            only(link.high, k)
+        };
+    }
+    if link.high == end {
+        return only(link.low, k);
+    }
+    match k {
+        0 => Some(link.low),
+        _ => only(link.high, k - 1),
+    }
+}
+
+// The k-th of one.
+fn only(end: u16, k: usize) -> Option<u16>
+    ensures { result ≡ slice_get (end ∷ []) k }
+{
+    match k {
+        0 => Some(end),
+        _ => None,
+    }
+}

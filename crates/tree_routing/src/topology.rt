@@ -1,0 +1,235 @@
+//! The topology of a network, as it is put together.
+ghost use Rattle.std.specs.Prelude.{◌≡◌, ◌↔◌, ◌<◌, ◌≤◌, ◌+◌, length, map, [], ◌∷◌, ◌++◌, IsTrue, IfOk, OnOk, OnErr};
+ghost use Rattle.tree_laws.specs.declared.hops.TreeHop.{TreeHop};
+ghost use Rattle.tree_laws.specs.Networks.{Net, node_of, ends_of, link_of};
+ghost use Rattle.tree_routing.specs.Known.{net_of, vertex_at, vertex_before, link_ends};
+ghost use Rattle.tree_routing.specs.Answers.{no_net, TakesEnd, TakesLink, with_node, with_end, with_link, in_order, with_hop, Fits, HopAnswer};
+
+use crate::ask::{
+    is_alone, is_free, is_linked, is_reached, node_of, owner, vertex_at, vertex_before,
+};
+use crate::hop_err::HopErr;
+use crate::keys::trees_of;
+use crate::known::Known;
+use crate::least::check_loop;
+use crate::levels::longest;
+use crate::link::Link;
+use crate::routing::Routing;
+use crate::ways::count_of;
+use rsvp_base::{Addr, NoMemory};
+use std::alloc::Global;
+use std::marker::Model;
+use tree_laws::{End, Hop, TreeHop};
+
+/// A network that is put together: nodes, link ends, links, and for each group and source address the hops of a tree. Nodes
+/// and ends are numbered from 0 in the order in which they are added. Contracts see the network; it is valid at every
+/// moment: within its limits, its trees grown hop by hop, and without a closed chain.
+#[derive(Drop)]
+pub struct Topology {
+    alloc: Global,
+    nodes: u16,
+    ends: Vec<End>,
+    links: Vec<Link>,
+    hops: Vec<Known>,
+}
+
+impl Model for Topology {
+    ghost use Rattle.tree_laws.specs.Networks.{Net};
+    ghost use Rattle.tree_laws.specs.Codes.{net_code};
+    ghost use Rattle.tree_laws.specs.Valid.{IsValid};
+    ghost use Rattle.tree_routing.specs.Known.{net_of, AreKnown};
+
+    ghost Value = { Net };
+
+    ghost coded = { net_code };
+
+    ghost view = { λ t. net_of t.nodes t.ends.items t.links.items t.hops.items };
+
+    ghost invariant = { λ t. IsValid (net_of t.nodes t.ends.items t.links.items t.hops.items) × AreKnown t.ends.items t.hops.items };
+}
+
+impl Topology {
+    /// A network without nodes.
+    pub fn new(alloc: Global) -> Result<Topology, NoMemory>
+        ensures { IfOk result (λ t. t ≡ no_net) }
+    {
+        Ok(Topology {
+            alloc,
+            nodes: 0,
+            ends: Vec::new(alloc),
+            links: Vec::new(alloc),
+            hops: Vec::new(alloc),
+        })
+    }
+
+    /// Whether there is room for another node: fewer than 256 are there.
+    pub fn has_room_for_node(&self) -> bool
+        ensures { IsTrue result ↔ (self.now.nodes < 256) }
+    {
+        self.nodes < 256
+    }
+
+    /// Adds a node, and gives its number.
+    pub fn add_node(&mut self) -> Result<u16, NoMemory>
+        requires { self.old.nodes < 256 }
+        ensures ok { OnOk result (self.new ≡ with_node self.old) }
+        ensures number { IfOk result (λ number. number ≡ self.old.nodes) }
+        ensures err { OnErr result (self.new ≡ self.old) }
+    {
+        let number = self.nodes;
+        self.nodes += 1;
+        Ok(number)
+    }
+
+    /// Whether an end can be added: its node is there and has fewer than 16 ends, and no end has its address.
+    pub fn takes_end(&self, end: &End) -> bool
+        ensures { IsTrue result ↔ TakesEnd self.now end.now }
+    {
+        let ends = self.ends.as_slice();
+        end.node < self.nodes
+            && count_of(ends, end.node) < 16
+            && owner(ends, end.iface.addr).is_none()
+    }
+
+    /// Adds an end of a node, as its next interface, and gives its number. `NoMemory`: there was no room for it; nothing
+    /// changes then.
+    pub fn add_end(&mut self, end: End) -> Result<u16, NoMemory>
+        requires { TakesEnd self.old end }
+        ensures ok { OnOk result (self.new ≡ with_end self.old end) }
+        ensures number { IfOk result (λ number. number ≡ length self.old.ends) }
+        ensures err { OnErr result (self.new ≡ self.old) }
+    {
+        let number = self.ends.len() as u16;
+        if self.ends.push(end).is_err() {
+            return Err(NoMemory);
+        }
+        Ok(number)
+    }
+
+    /// Whether a link can be added: its two ends are there, of two nodes and in no link, and there are fewer than 512 links.
+    pub fn takes_link(&self, one: u16, other: u16) -> bool
+        ensures { IsTrue result ↔ TakesLink self.now one other }
+    {
+        let ends = self.ends.as_slice();
+        (one as usize) < ends.len()
+            && (other as usize) < ends.len()
+            && node_of(ends, one) != node_of(ends, other)
+            && is_free(self.links.as_slice(), one)
+            && is_free(self.links.as_slice(), other)
+            && self.links.len() < 512
+    }
+
+    /// Adds a link of two ends. `NoMemory`: there was no room for it; nothing changes then.
+    pub fn add_link(&mut self, one: u16, other: u16) -> Result<(), NoMemory>
+        requires { TakesLink self.old one other }
+        ensures ok { OnOk result (self.new ≡ with_link self.old one other) }
+        ensures err { OnErr result (self.new ≡ self.old) }
+    {
+        if self.links.push(link(one, other)).is_err() {
+            return Err(NoMemory);
+        }
+        Ok(())
+    }
+
+    /// Whether there is room for another hop: all trees have fewer than 8,192 hops.
+    pub fn has_room_for_hop(&self) -> bool
+        ensures { IsTrue result ↔ (length self.now.hops < 8192) }
+    {
+        self.hops.len() < 8192
+    }
+
+    /// Adds a hop to the tree of its group and source, whose root is the node that has the end of this address.
+    ///
+    /// `HopErr::NotTree`: exactly where the ends do not share a link, the tree has not reached the node of `from` or has
+    /// reached that of `to`, or a hop of the tree goes out of another end of the link.
+    /// `HopErr::Loop`: this is not so, and with the hop a chain of the group's hops is closed. It names the least hop that
+    /// stands on a closed chain.
+    /// `HopErr::NoMemory`: there was no room for the hop, or for the check.
+    /// Nothing changes after any of these.
+    pub fn add_hop(&mut self, group: Addr, source: Addr, from: u16, to: u16) -> Result<(), HopErr>
+        requires { length self.old.hops < 8192 }
+        ensures ok { OnOk result (self.new ≡ with_hop self.old (record { group = group; source = source; hop = record { from = from; to = to } })) }
+        ensures answer { HopAnswer self.old (record { group = group; source = source; hop = record { from = from; to = to } }) result }
+        ensures err { OnErr result (self.new ≡ self.old) }
+    {
+        let hop = TreeHop {
+            group,
+            source,
+            hop: Hop { from, to },
+        };
+        if !self.can_grow(&hop) {
+            return Err(HopErr::NotTree);
+        }
+        let known = know(self.ends.as_slice(), self.hops.as_slice(), hop);
+        match check_loop(self.alloc, self.hops.as_slice(), &known) {
+            Ok(()) => {
+                if self.hops.push(known).is_err() {
+                    return Err(HopErr::NoMemory);
+                }
+                Ok(())
+            }
+            Err(why) => Err(why),
+        }
+    }
+
+    /// Closes the topology. `NoMemory`: there was no room for what the routing keeps beside it; the topology is gone.
+    pub fn close(self) -> Result<Routing, NoMemory>
+        ensures { IfOk result (λ routing. routing ≡ self) }
+    {
+        let chain = longest(self.alloc, self.hops.as_slice())?;
+        let trees = trees_of(self.alloc, self.hops.as_slice())?;
+        Ok(Routing {
+            nodes: self.nodes,
+            ends: self.ends,
+            links: self.links,
+            hops: self.hops,
+            chain,
+            trees,
+        })
+    }
+
+    // Whether the tree of the hop can grow by it.
+    fn can_grow(&self, hop: &TreeHop) -> bool
+        ensures { IsTrue result ↔ Fits self.now hop.now }
+    {
+        let ends = self.ends.as_slice();
+        let hops = self.hops.as_slice();
+        let links = self.links.as_slice();
+        let TreeHop { group, source, hop } = *hop;
+        is_linked(links, hop)
+            && is_reached(ends, hops, group, source, node_of(ends, hop.from))
+            && !is_reached(ends, hops, group, source, node_of(ends, hop.to))
+            && is_alone(links, hops, group, source, hop.from)
+    }
+}
+
+// The link of two ends.
+fn link(one: u16, other: u16) -> Link
+    ensures { link_ends result ≡ in_order one other }
+{
+    if one < other {
+        Link {
+            low: one,
+            high: other,
+        }
+    } else {
+        Link {
+            low: other,
+            high: one,
+        }
+    }
+}
+
+// What is kept of a hop.
+fn know(ends: &[End], hops: &[Known], hop: TreeHop) -> Known
+    requires { length hops.now ≤ 8192 }
+    ensures hop { result.hop ≡ hop }
+    ensures vertex { result.vertex ≡ vertex_at hops.now hop.group hop.hop }
+    ensures before { result.before ≡ vertex_before ends.now hop hops.now }
+{
+    Known {
+        hop,
+        vertex: vertex_at(hops, hop.group, hop.hop),
+        before: vertex_before(ends, hops, &hop),
+    }
+}
