@@ -1,14 +1,24 @@
--- How flows, units and parts are stored as numbers: what values of models need.
-use Rattle.std.specs.Prelude.{◌≡◌, ℕ, Option, Some, None, refl}
-use Rattle.std.specs.Coded.{Coded, code_by, coded×, coded_ℕ, coded_option}
+-- How hops, errors, flows, units and parts are stored as numbers: what values of models need.
+use Rattle.std.specs.Prelude.{◌≡◌, ℕ, Bool, Option, Some, None, refl}
+use Rattle.std.specs.Coded.{Coded, code_by, coded×, coded_ℕ, coded_bool, coded_option}
+use Rattle.rsvp_base.specs.declared.err_spec.ErrSpec.{ErrSpec}
 use Rattle.rsvp_base.specs.declared.flow.Peak.{Peak}
 use Rattle.rsvp_base.specs.declared.flow.Peak.TheVariants.{Finite, Infinite}
+use Rattle.rsvp_base.specs.declared.hop.Hop.{Hop}
 use Rattle.rsvp_base.specs.declared.part.Part.{Part}
 use Rattle.rsvp_base.specs.declared.session.Sender.{Sender}
 use Rattle.rsvp_base.specs.declared.style.Unit.{Unit as UnitOf}
 use Rattle.rsvp_base.specs.declared.style.Unit.TheVariants.{One, Of}
-use Rattle.rsvp_base.specs.Orders.{Names, unit_sender, sender_code, names_code}
+use Rattle.rsvp_base.specs.Orders.{Names, unit_sender, addr_code, sender_code, names_code}
 use Rattle.rsvp_base.specs.TokenBucket.{TokenBucket}
+
+abbrev pub hop_code : Coded Hop
+hop_code = code_by (_ × ℕ) (coded× addr_code coded_ℕ) (λ h. (h.addr, h.handle)) (λ t. record { addr = t.0; handle = t.1 }) (λ _. refl)
+
+abbrev pub err_spec_code : Coded ErrSpec
+err_spec_code =
+    code_by ((_ × ℕ) × ((Bool × Bool) × ℕ)) (coded× (coded× addr_code coded_ℕ) (coded× (coded× coded_bool coded_bool) coded_ℕ))
+    (λ e. ((e.node, e.code), ((e.in_place, e.not_guilty), e.value))) (λ t. record { node = t.0.0; in_place = t.1.0.0; not_guilty = t.1.0.1; code = t.0.1; value = t.1.1 }) (λ _. refl)
 
 abbrev pub peak_rate : Peak → Option ℕ
 peak_rate (Finite x) = Some x

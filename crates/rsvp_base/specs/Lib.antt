@@ -9,3 +9,4 @@ pub mod TokenBucket
 pub mod Members
 pub mod Rows
 pub mod Codes
+pub mod SessionLimits

@@ -1,4 +1,4 @@
-//! Values that every layer shares: addresses, sessions, senders, rates, flows and parts of reservations.
+//! Values that every layer shares: addresses, sessions, senders, hops, errors, rates, flows and parts of reservations.
 //!
 //! Each value is what RFC 2205 and RFC 2210 mean by it, and a caller sees nothing else of it: a `Rate` is a number, a
 //! `Flow` a token bucket, `Senders` a finite set. No call takes memory.
@@ -7,7 +7,9 @@
 #![tactic(auto)]
 
 mod addr;
+mod err_spec;
 mod flow;
+mod hop;
 mod part;
 mod rate;
 mod room;
@@ -18,7 +20,9 @@ mod style;
 mod tests;
 
 pub use addr::Addr;
+pub use err_spec::ErrSpec;
 pub use flow::{Flow, Peak};
+pub use hop::Hop;
 pub use part::Part;
 pub use rate::Rate;
 pub use room::{Full, NoMemory};
