@@ -1,0 +1,119 @@
+-- The senders by one interface and hop, a fact more at a time.
+use Rattle.std.proofs.Common.{◌≡◌, ◌<◌, ◌≤◌, ◌+◌, ◌++◌, ◌||◌, ℕ, zero, suc, Bool, true, false, cond, List, [], ◌∷◌, length, map as each, take, Option, Some, None, Bor, refl, sym, ap, ◌∙◌, arith}
+use Rattle.std.specs.Prelude.{slice_get, if◌then◌else◌}
+use Rattle.std.specs.List.{filter, list_any}
+use Rattle.std.specs.Option.{option_map, option_copied}
+use Rattle.std.specs.Ordering.{eq_by_cmp}
+use Rattle.std.proofs.lemmas.List.{length-map, length-take}
+use Rattle.rsvp_base.specs.Orders.{senders, Names, names_from}
+use Rattle.rsvp_base.specs.Sets.{with_key}
+use Rattle.rsvp_base.specs.Table.{has, size}
+use Rattle.rsvp_base.specs.declared.addr.Addr.{Addr}
+use Rattle.rsvp_base.specs.declared.session.Sender.{Sender}
+use Rattle.rsvp_base.proofs.Counts.{has-set_of, size-set_of}
+use Rattle.rsvp_base.proofs.Lists.{length_filter}
+use Rattle.rsvp_base.proofs.SetLaws.{same_set, has-with_key, size-with_key}
+use Rattle.rsvp_base.proofs.Tables.{either}
+use Rattle.path_state.specs.declared.fact.PathFact.{PathFact}
+use Rattle.path_state.specs.Paths.{comes_by, senders_by}
+
+any_last : {A : Type 0} (p : A → Bool) (xs : List A) (x : A) → list_any p (xs ++ x ∷ []) ≡ (p x || list_any p xs)
+any_last p [] x = refl
+any_last p (y ∷ ys) x = ap (λ b. p y || b) (any_last p ys x) ∙ swapped (p y) (p x) (list_any p ys)
+  where
+    swapped : (a b c : Bool) → (a || (b || c)) ≡ (b || (a || c))
+    swapped true true c = refl
+    swapped true false c = refl
+    swapped false b c = refl
+
+-- a sender more
+names_last : (xs : List Sender) (x : Sender) → names_from (xs ++ x ∷ []) ≡ with_key (names_from xs) x
+names_last xs x =
+    same_set senders _ _ (λ q. has-set_of senders (xs ++ x ∷ []) q ∙ any_last (eq_by_cmp senders.cmp q) xs x ∙ ap (λ b. eq_by_cmp senders.cmp q x || b) (sym (has-set_of senders xs q)) ∙ sym (has-with_key senders (names_from xs) x q))
+
+abbrev Row : Type 0
+Row = Sender × (PathFact × ℕ)
+
+senders_last : (i : ℕ) (a : Addr) (es : List Row) (e : Row) → senders_by i a (es ++ e ∷ []) ≡ if comes_by i a e.1.0 then (senders_by i a es ++ e.1.0.sender ∷ []) else senders_by i a es
+senders_last i a [] e = by (comes_by i a e.1.0)
+  where
+    by : (b : Bool) → each (λ (e : Row). e.1.0.sender) (cond b (e ∷ []) []) ≡ if b then (e.1.0.sender ∷ []) else []
+    by true = refl
+    by false = refl
+senders_last i a (x ∷ es) e = by (comes_by i a x.1.0) (comes_by i a e.1.0) (senders_last i a es e)
+  where
+    by : (b t : Bool) → senders_by i a (es ++ e ∷ []) ≡ if t then (senders_by i a es ++ e.1.0.sender ∷ []) else senders_by i a es
+        → each (λ (e : Row). e.1.0.sender) (cond b (x ∷ filter (λ e. comes_by i a e.1.0) (es ++ e ∷ [])) (filter (λ e. comes_by i a e.1.0) (es ++ e ∷ [])))
+        ≡ if t then (each (λ (e : Row). e.1.0.sender) (cond b (x ∷ filter (λ e. comes_by i a e.1.0) es) (filter (λ e. comes_by i a e.1.0) es)) ++ e.1.0.sender ∷ []) else each (λ (e : Row). e.1.0.sender) (cond b (x ∷ filter (λ e. comes_by i a e.1.0) es) (filter (λ e. comes_by i a e.1.0) es))
+    by true true rest = ap (λ ss. x.1.0.sender ∷ ss) rest
+    by true false rest = ap (λ ss. x.1.0.sender ∷ ss) rest
+    by false true rest = rest
+    by false false rest = rest
+
+take_next : {A : Type 0} (xs : List A) (k : ℕ) (x : A) → slice_get xs k ≡ Some x → take (k + 1) xs ≡ take k xs ++ x ∷ []
+take_next [] k x e = cc
+take_next (y ∷ ys) zero x e = let is : y ≡ x = cc in ap (λ z. z ∷ []) is
+take_next (y ∷ ys) (suc k) x e = ap (λ n. take n (y ∷ ys)) (one_on k) ∙ ap (λ zs. y ∷ zs) (take_next ys k x e)
+  where
+    one_on : (k : ℕ) → suc k + 1 ≡ suc (k + 1)
+    one_on k = omega arith
+
+take_past : {A : Type 0} (xs : List A) (k : ℕ) → slice_get xs k ≡ None → take k xs ≡ xs
+take_past [] zero e = refl
+take_past [] (suc k) e = refl
+take_past (y ∷ ys) zero e = cc
+take_past (y ∷ ys) (suc k) e = ap (λ zs. y ∷ zs) (take_past ys k e)
+
+none_next : {A : Type 0} (xs : List A) (k : ℕ) → slice_get xs k ≡ None → slice_get xs (suc k) ≡ None
+none_next [] k e = refl
+none_next (y ∷ ys) zero e = cc
+none_next (y ∷ ys) (suc k) e = none_next ys k e
+
+copied_some : (r : Option (Bor PathFact)) (o : Option Row) (f : Bor PathFact) → r ≡ Some f → option_copied r ≡ option_map (λ e. e.1.0) o → (e : Row) × (o ≡ Some e) × (e.1.0 ≡ f.now)
+copied_some r None f is e = let z : Some f.now ≡ None = ap option_copied (sym is) ∙ e in absurd (cc)
+copied_some r (Some x) f is e = let z : Some f.now ≡ Some x.1.0 = ap option_copied (sym is) ∙ e in let y : f.now ≡ x.1.0 = cc in (x, refl, sym y)
+
+copied_none : (r : Option (Bor PathFact)) (o : Option Row) → r ≡ None → option_copied r ≡ option_map (λ e. e.1.0) o → o ≡ None
+copied_none r None is e = refl
+copied_none r (Some x) is e = let z : None ≡ Some x.1.0 = ap option_copied (sym is) ∙ e in absurd (cc)
+
+module _ (i : ℕ) (a : Addr) (us : List Row) (k : ℕ) (r : Option (Bor PathFact)) (read : option_copied r ≡ option_map (λ (e : Row). e.1.0) (slice_get us k)) where
+  pub via_more : (f : Bor PathFact) (old new : Names) → r ≡ Some f → old ≡ names_from (senders_by i a (take k us)) → new ≡ if comes_by i a f.now then with_key old f.now.sender else old → new ≡ names_from (senders_by i a (take (k + 1) us))
+  via_more f old new is so_far next =
+      let e = copied_some r (slice_get us k) f is read in
+      let xs = senders_by i a (take k us) in
+      let after : names_from (senders_by i a (take (k + 1) us)) ≡ if comes_by i a f.now then with_key old f.now.sender else old =
+      ap (λ es. names_from (senders_by i a es)) (take_next us k e.0 e.1) ∙ ap names_from (senders_last i a (take k us) e.0)
+      ∙ ap (λ (g : PathFact). names_from (if comes_by i a g then (xs ++ g.sender ∷ []) else xs)) e.2 ∙ by (comes_by i a f.now) in
+      next ∙ sym after
+    where
+      by : (b : Bool) → names_from (if b then (senders_by i a (take k us) ++ f.now.sender ∷ []) else senders_by i a (take k us)) ≡ if b then with_key old f.now.sender else old
+      by true = names_last (senders_by i a (take k us)) f.now.sender ∙ ap (λ (n : Names). with_key n f.now.sender) (sym so_far)
+      by false = sym so_far
+
+  pub via_past : (old : Names) → r ≡ None → old ≡ names_from (senders_by i a (take k us)) → old ≡ names_from (senders_by i a (take (k + 1) us))
+  via_past old is so_far =
+      let none = copied_none r (slice_get us k) is read in
+      so_far ∙ ap (λ es. names_from (senders_by i a es)) (take_past us k none ∙ sym (take_past us (suc k) (none_next us k none)) ∙ ap (λ n. take n us) one_on)
+    where
+      one_on : suc k ≡ k + 1
+      one_on = omega arith
+
+pub via_few : (i : ℕ) (a : Addr) (us : List Row) (k : ℕ) (old : Names) (s : Sender) → k < 16 → old ≡ names_from (senders_by i a (take k us)) → size (with_key old s) ≤ 16
+via_few i a us k old s lt so_far =
+    let many = ap size so_far in
+    let few = size-set_of senders (senders_by i a (take k us)) in
+    let listed = length-map (filter (λ (e : Row). comes_by i a e.1.0) (take k us)) (λ (e : Row). e.1.0.sender) in
+    let fewer = length_filter (λ (e : Row). comes_by i a e.1.0) (take k us) in
+    either (has old s)
+    (λ t. let n = size-with_key senders old s ∙ ap (λ b. cond b (size old) (size old + 1)) t in omega (arith, n, many, few, listed, fewer, length-take k us))
+    (λ t. let n = size-with_key senders old s ∙ ap (λ b. cond b (size old) (size old + 1)) t in omega (arith, n, many, few, listed, fewer, length-take k us))
+
+pub via_all : (i : ℕ) (a : Addr) (us : List Row) (k : ℕ) (old : Names) → length us ≤ k → old ≡ names_from (senders_by i a (take k us)) → old ≡ names_from (senders_by i a us)
+via_all i a us k old le so_far = so_far ∙ ap (λ es. names_from (senders_by i a es)) (whole us k le)
+  where
+    whole : (xs : List Row) (n : ℕ) → length xs ≤ n → take n xs ≡ xs
+    whole [] zero le = refl
+    whole [] (suc n) le = refl
+    whole (x ∷ xs) zero le = absurd (omega arith)
+    whole (x ∷ xs) (suc n) le = ap (λ zs. x ∷ zs) (whole xs n (omega arith))

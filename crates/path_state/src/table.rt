@@ -1,0 +1,163 @@
+//! The table of paths.
+ghost use Rattle.std.specs.Prelude.{◌≡◌, ◌≤◌, ℕ, ◌↔◌, [], false, if◌then◌else◌, IsErr, IsNone, IfOk, IfSome, OnOk, OnErr, Some, slice_get};
+ghost use Rattle.std.specs.Option.{option_map};
+ghost use Rattle.rsvp_base.specs.Orders.{sessions, senders};
+ghost use Rattle.rsvp_base.specs.Rows.{AreRows, table_of};
+ghost use Rattle.rsvp_base.specs.Sets.{with_key};
+ghost use Rattle.rsvp_base.specs.SessionLimits.{has_room_at, IsWithinSessionLimits};
+ghost use Rattle.rsvp_base.specs.Table.{empty, get, put_in, size, without, changed};
+ghost use Rattle.rsvp_base.specs.Under.{under};
+ghost use Rattle.path_state.specs.Paths.{path_keys, fact_row, dead_row, comes_by, via, later, dead_after};
+
+use crate::fact::PathFact;
+use rsvp_base::{Addr, Full, NoMemory, Sender, Senders, Session};
+use soft_table::SoftTable;
+use std::alloc::Global;
+use std::marker::Model;
+
+// At most so many sessions, and so many senders of each.
+const SESSIONS: usize = 32;
+
+const SENDERS: usize = 16;
+
+/// The paths that a node knows, one for a session and sender. Contracts see a finite map from session and sender to the fact
+/// and the milliseconds that are left of it, and a finite map of the dead facts that wait to be pulled. At most 32 sessions
+/// have facts, and 16 senders of each.
+#[derive(Drop)]
+pub struct PathTable {
+    table: SoftTable<PathFact>,
+    ghost facts: { AreRows path_keys fact_row table.facts },
+    ghost dead: { AreRows path_keys dead_row table.dead },
+    ghost room: { table.room ≡ 512 },
+    ghost within: { IsWithinSessionLimits senders (table_of path_keys fact_row table.facts facts) },
+}
+
+impl Model for PathTable {
+    ghost use Rattle.rsvp_base.specs.Rows.{table_of};
+    ghost use Rattle.path_state.specs.Paths.{PathMap, path_map_code, path_keys, fact_row, dead_row};
+
+    ghost Value = { PathMap };
+
+    ghost coded = { path_map_code };
+
+    ghost view = { λ t. record { facts = table_of path_keys fact_row t.table.facts t.facts; dead = table_of path_keys dead_row t.table.dead t.dead } };
+}
+
+impl PathTable {
+    /// A table without paths. It takes no memory later. `NoMemory`: its room could not be had.
+    pub fn open(alloc: Global) -> Result<PathTable, NoMemory>
+        ensures { IfOk result (λ t. t ≡ record { facts = empty; dead = empty }) }
+    {
+        let table = SoftTable::open(alloc, SESSIONS * SENDERS)?;
+        Ok(PathTable { table })
+    }
+
+    /// Keeps a fact with this much left, in milliseconds, in place of that of its session and sender. `Full` exactly where
+    /// this would be a fact of a 33rd session, or of a 17th sender of its session; nothing changes then. No dead fact may
+    /// wait.
+    pub fn learn(&mut self, fact: PathFact, left: u32) -> Result<(), Full>
+        requires some { 1 ≤ left }
+        requires pulled { self.old.dead.rows ≡ [] }
+        ensures ok { OnOk result (self.new ≡ record self.old { facts = put_in self.old.facts (fact.session, fact.sender) (fact, left) }) }
+        ensures full { IsErr result ↔ (has_room_at senders (put_in self.old.facts (fact.session, fact.sender) (fact, left)) fact.session ≡ false) }
+        ensures err { OnErr result (self.new ≡ self.old) }
+    {
+        if !self.has_room(fact.session, fact.sender) {
+            return Err(Full);
+        }
+        let Ok(()) = self.table.put(fact, left) else {
+            unreachable!();
+        };
+        Ok(())
+    }
+
+    // Whether a fact of this session and sender may be kept.
+    fn has_room(&self, session: Session, sender: Sender) -> bool
+        ensures { (e : PathFact × ℕ) → result ≡ has_room_at senders (put_in self.now.facts (session, sender) e) session }
+    {
+        if self.table.find(session, sender).is_some() {
+            return true;
+        }
+        if self.table.at(session, 0).is_some() {
+            return self.table.at(session, SENDERS - 1).is_none();
+        }
+        self.table.sessions() < SESSIONS
+    }
+
+    /// Takes the fact of a session and sender out. `None` exactly where there is none; nothing changes then.
+    pub fn tear(&mut self, session: Session, sender: Sender) -> Option<PathFact>
+        ensures was { result ≡ option_map (λ e. e.0) (get self.old.facts (session, sender)) }
+        ensures gone { self.new ≡ record self.old { facts = without self.old.facts (session, sender) } }
+    {
+        self.table.remove(session, sender)
+    }
+
+    /// The fact of a session and sender. `None` exactly where there is none.
+    pub fn find(&self, session: Session, sender: Sender) -> Option<PathFact>
+        ensures { result ≡ option_map (λ e. e.0) (get self.now.facts (session, sender)) }
+    {
+        self.table.find(session, sender).copied()
+    }
+
+    /// The k-th fact of a session by sender, from 0. `None` exactly where k is not below their number.
+    pub fn at(&self, session: Session, k: usize) -> Option<PathFact>
+        ensures { result ≡ option_map (λ e. e.1.0) (slice_get (under sessions senders self.now.facts session).rows k) }
+    {
+        self.table.at(session, k).copied()
+    }
+
+    /// The senders of a session whose facts have this interface and this hop address.
+    pub fn senders_via(&self, session: Session, iface: u8, addr: Addr) -> Senders
+        ensures { result ≡ via self.now.facts session iface addr }
+    {
+        let mut found = Senders::new();
+        for k in 0..SENDERS {
+            if let Some(fact) = self.table.at(session, k) {
+                add_via(&mut found, fact, iface, addr);
+            }
+        }
+        found
+    }
+
+    /// Lets time pass, in milliseconds. The facts with at most so much left are dead then, and wait to be pulled; the others
+    /// have so much less left. No dead fact may wait from before.
+    pub fn advance(&mut self, ms: u32)
+        requires { self.old.dead.rows ≡ [] }
+        ensures facts { self.new.facts ≡ changed (later ms) self.old.facts }
+        ensures dead { self.new.dead ≡ changed (dead_after ms) self.old.facts }
+    {
+        self.table.advance(ms);
+    }
+
+    /// Takes a dead fact out. `None` exactly where none waits; nothing changes then.
+    pub fn pull_dead(&mut self) -> Option<PathFact>
+        ensures dead { IfSome result (λ f. get self.old.dead (f.session, f.sender) ≡ Some f) }
+        ensures pulled { IfSome result (λ f. self.new ≡ record self.old { dead = without self.old.dead (f.session, f.sender) }) }
+        ensures none { IsNone result → self.old.dead.rows ≡ [] }
+        ensures unchanged { IsNone result → self.new ≡ self.old }
+    {
+        let Some(fact) = self.table.pull_dead() else {
+            return None;
+        };
+        Some(fact)
+    }
+
+    /// Takes all facts out, the dead that wait too.
+    pub fn clear(&mut self)
+        ensures { self.new ≡ record { facts = empty; dead = empty } }
+    {
+        self.table.clear();
+    }
+}
+
+// One sender more, if its fact has this interface and this hop address.
+fn add_via(found: &mut Senders, fact: &PathFact, iface: u8, addr: Addr)
+    requires { size (with_key found.old fact.now.sender) ≤ 16 }
+    ensures { found.new ≡ if comes_by iface addr fact.now then with_key found.old fact.now.sender else found.old }
+{
+    if fact.iface == iface && fact.hop.addr == addr {
+        let Ok(()) = found.insert(fact.sender) else {
+            unreachable!();
+        };
+    }
+}

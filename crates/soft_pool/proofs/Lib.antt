@@ -1,0 +1,4 @@
+pub mod Slots
+pub mod Dues
+pub mod Aging
+pub mod Pools

@@ -1,0 +1,153 @@
+//! The pool.
+ghost use Rattle.std.specs.Prelude.{◌≡◌, ◌≤◌, ◌<◌, ℕ, IsTrue, IsNone, IfOk, IfErr, IfSome, Some, slice_get, slice_set, map, replicate, length};
+ghost use Rattle.soft_pool.specs.declared.cell.Cell.TheVariants.{Free, Live, Due};
+ghost use Rattle.soft_pool.specs.Cells.{is_live, IsLiveWith, aged, NoneDue, NoneFree};
+
+use crate::cell::{Cell, Entry, Slot};
+use crate::entries::{age_all, clear_all, first_free, swap_cell, take_live};
+use rsvp_base::NoMemory;
+use std::alloc::Global;
+use std::marker::Model;
+
+/// Slots for values that expire. Contracts see the list of what is in each slot.
+#[derive(Drop)]
+pub struct Pool<T> {
+    entries: Vec<Entry<T>>,
+    // Where the list of the due slots begins.
+    due: Option<u32>,
+}
+
+impl<T> Model for Pool<T> {
+    ghost use Rattle.std.specs.Prelude.{List};
+    ghost use Rattle.soft_pool.specs.declared.cell.Cell.{Cell};
+    ghost use Rattle.soft_pool.specs.DueList.{cells_of, IsPool};
+
+    ghost Value = { List (Cell T) };
+
+    ghost view = { λ p. cells_of p.entries.items };
+
+    ghost invariant = { λ p. IsPool p.entries.items p.due };
+}
+
+impl<T: Drop> Pool<T> {
+    /// A pool of so many slots, at most 65,536, all free. It takes no memory later. `NoMemory`: the slots could not be had.
+    pub fn open(alloc: Global, slots: usize) -> Result<Pool<T>, NoMemory>
+        requires { slots ≤ 65536 }
+        ensures { IfOk result (λ p. p ≡ replicate slots Free) }
+    {
+        let mut entries = Vec::with_capacity(alloc, slots).map_err(|_| NoMemory)?;
+        for _slot in 0..slots {
+            let entry = Entry {
+                cell: Cell::Free,
+                next: None,
+            };
+            entries.push(entry).map_err(|_| NoMemory)?;
+        }
+        Ok(Pool { entries, due: None })
+    }
+
+    /// Whether a slot is live.
+    pub fn live(&self, slot: Slot) -> bool
+        requires { slot.0 < length self.now }
+        ensures { result ≡ is_live (slice_get self.now slot.0) }
+    {
+        let entry = &self.entries[slot.0 as usize];
+        matches!(entry.cell, Cell::Live(_, _))
+    }
+
+    /// Puts a value with this much left, in milliseconds, into a free slot. The value comes back exactly where no slot is
+    /// free; nothing changes then.
+    pub fn add(&mut self, value: T, left: u32) -> Result<Slot, T>
+        requires { 1 ≤ left }
+        ensures free { IfOk result (λ s. slice_get self.old s.0 ≡ Some Free) }
+        ensures placed { IfOk result (λ s. self.new ≡ slice_set self.old s.0 (Live value left)) }
+        ensures full { IfErr result (λ v. NoneFree self.old) }
+        ensures back { IfErr result (λ v. v ≡ value) }
+        ensures err { IfErr result (λ v. self.new ≡ self.old) }
+    {
+        let Some(at) = first_free(self.entries.as_slice()) else {
+            return Err(value);
+        };
+        swap_cell(&mut self.entries, at, Cell::Live(value, left));
+        Ok(Slot(at as u32))
+    }
+
+    /// The value of a live slot.
+    pub fn get(&self, slot: Slot) -> &T
+        requires { IsTrue (is_live (slice_get self.now slot.0)) }
+        ensures { IsLiveWith (slice_get self.now slot.0) result.now }
+    {
+        let entry = &self.entries[slot.0 as usize];
+        match &entry.cell {
+            Cell::Live(value, _) => value,
+            _ => unreachable!(),
+        }
+    }
+
+    /// Puts a value in place of that of a live slot, and hands back the old one. What is left stays.
+    pub fn set(&mut self, slot: Slot, value: T) -> T
+        requires { IsTrue (is_live (slice_get self.old slot.0)) }
+        ensures { (left : ℕ) × (slice_get self.old slot.0 ≡ Some (Live result left)) × (self.new ≡ slice_set self.old slot.0 (Live value left)) }
+    {
+        let at = slot.0 as usize;
+        let (old, left) = take_live(&mut self.entries, at);
+        swap_cell(&mut self.entries, at, Cell::Live(value, left));
+        old
+    }
+
+    /// Takes the value of a live slot out. The slot is free then.
+    pub fn remove(&mut self, slot: Slot) -> T
+        requires { IsTrue (is_live (slice_get self.old slot.0)) }
+        ensures was { IsLiveWith (slice_get self.old slot.0) result }
+        ensures gone { self.new ≡ slice_set self.old slot.0 Free }
+    {
+        let (value, _) = take_live(&mut self.entries, slot.0 as usize);
+        value
+    }
+
+    /// Leaves this much of a live slot's value, in milliseconds, whatever was left of it before.
+    pub fn renew(&mut self, slot: Slot, left: u32)
+        requires live { IsTrue (is_live (slice_get self.old slot.0)) }
+        requires some { 1 ≤ left }
+        ensures { (v : T) × (was : ℕ) × (slice_get self.old slot.0 ≡ Some (Live v was)) × (self.new ≡ slice_set self.old slot.0 (Live v left)) }
+    {
+        let at = slot.0 as usize;
+        let (value, _) = take_live(&mut self.entries, at);
+        swap_cell(&mut self.entries, at, Cell::Live(value, left));
+    }
+
+    /// Lets time pass, in milliseconds. The values with at most so much left are due then, whatever `ms` is, and the others
+    /// have so much less left. No due value may wait from before.
+    pub fn advance(&mut self, ms: u32)
+        requires { NoneDue self.old }
+        ensures { self.new ≡ map (aged ms) self.old }
+    {
+        self.due = age_all(&mut self.entries, ms);
+    }
+
+    /// Takes a due value out of its slot, which is free then. `None` exactly where no due value waits; nothing changes then.
+    pub fn pull_due(&mut self) -> Option<(Slot, T)>
+        ensures due { IfSome result (λ r. slice_get self.old r.0.0 ≡ Some (Due r.1)) }
+        ensures freed { IfSome result (λ r. self.new ≡ slice_set self.old r.0.0 Free) }
+        ensures none { IsNone result → NoneDue self.old }
+        ensures unchanged { IsNone result → self.new ≡ self.old }
+    {
+        let Some(first) = self.due else {
+            return None;
+        };
+        let at = first as usize;
+        self.due = self.entries[at].next;
+        match swap_cell(&mut self.entries, at, Cell::Free) {
+            Cell::Due(value) => Some((Slot(first), value)),
+            _ => unreachable!(),
+        }
+    }
+
+    /// Empties every slot, live or due.
+    pub fn clear(&mut self)
+        ensures { self.new ≡ map (λ _. Free) self.old }
+    {
+        clear_all(&mut self.entries);
+        self.due = None;
+    }
+}

@@ -1,0 +1,5 @@
+pub mod Slots
+pub mod Links
+pub mod Views
+pub mod Changes
+pub mod Walks

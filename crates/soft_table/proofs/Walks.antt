@@ -1,0 +1,220 @@
+-- Walks along the rows of an index, a row more at a time.
+use Rattle.std.proofs.Common.{◌≡◌, ◌<◌, ◌+◌, ◌-◌, ◌||◌, ◌&&◌, not, ℕ, zero, suc, Bool, true, false, cond, T, List, [], ◌∷◌, length, drop, get_or, map as each, Option, Some, None, refl, sym, ap, subst, ◌∙◌, arith, inl, inr}
+use Rattle.std.specs.Prelude.{slice_get}
+use Rattle.std.specs.List.{list_any}
+use Rattle.std.specs.Option.{option_map}
+use Rattle.std.specs.Ordering.{eq_by_cmp, is_lt, is_eq, ordering_then, ordering_reverse}
+use Rattle.std.specs.declared.cmp.Ordering.{Ordering}
+use Rattle.std.specs.declared.cmp.Ordering.TheVariants.{Less, Equal, Greater}
+use Rattle.std.specs.FinMap.Entries.{is_sorted, below_all, where_key}
+use Rattle.std.proofs.lemmas.Bool.{both_ways}
+use Rattle.std.proofs.lemmas.List.{drop_more}
+use Rattle.std.proofs.lemmas.Simd.{map-map}
+use Rattle.rsvp_base.specs.Keys.{Keys}
+use Rattle.rsvp_base.specs.Orders.{sessions}
+use Rattle.rsvp_base.specs.Sets.{set_of, with_key}
+use Rattle.rsvp_base.specs.Table.{changed_rows, size, first, second, kept_row}
+use Rattle.rsvp_base.specs.Under.{rows_under}
+use Rattle.rsvp_base.specs.declared.session.Session.{Session}
+use Rattle.rsvp_base.proofs.Counts.{has-set_of}
+use Rattle.rsvp_base.proofs.SetLaws.{and_both, has-with_key, same_set, size-with_key}
+use Rattle.rsvp_base.proofs.Tables.{either, tied_same}
+use Rattle.soft_pool.specs.declared.cell.Cell.{Cell}
+use Rattle.soft_pool.specs.declared.cell.Cell.TheVariants.{Free, Live, Due}
+use Rattle.soft_pool.specs.Cells.{is_live}
+use Rattle.soft_table.specs.declared.row.Row.{Row}
+use Rattle.soft_table.specs.Facts.{fact_keys, facts_by, sessions_in}
+use Rattle.soft_table.specs.Index.{live_in, facts_in, index_row, IsIndex}
+use Rattle.soft_table.specs.Walks.{AreSlots, live_rows, facts_under, sessions_of, is_last, changes}
+use Rattle.soft_table.proofs.Slots.{value_within}
+use Rattle.soft_table.proofs.Changes.{not_live_none}
+use Rattle.soft_table.proofs.Views.{facts_seen}
+use Rattle.rsvp_base.proofs.Counts.{in_found}
+use Rattle.rsvp_base.specs.Members.{In}
+use Rattle.rsvp_base.proofs.Members.{to_each}
+use Rattle.soft_table.proofs.Links.{seen}
+
+not_true : (b : Bool) → not b ≡ true → b ≡ false
+not_true true e = absurd (both_ways _ refl e)
+not_true false e = refl
+
+not_false : (b : Bool) → not b ≡ false → b ≡ true
+not_false true e = refl
+not_false false e = absurd (both_ways _ e refl)
+
+-- a live slot has a fact
+pub live_some : {F : Type 0} (c : Option (Cell F)) → is_live c ≡ true → (e : F × ℕ) × (live_in c ≡ Some e)
+live_some None e = absurd (both_ways _ refl e)
+live_some (Some Free) e = absurd (both_ways _ refl e)
+live_some (Some (Live f left)) e = ((f, left), refl)
+live_some (Some (Due f)) e = absurd (both_ways _ refl e)
+
+-- the list from a place on
+pub from_here : {A : Type 0} (xs : List A) (i : ℕ) (x : A) → i < length xs → x ≡ get_or xs i x → drop i xs ≡ x ∷ drop (i + 1) xs
+from_here xs i x lt is = drop_more xs i x lt ∙ ap (λ y. y ∷ drop (i + 1) xs) (sym is)
+
+module _ {F R : Type 0} (rests : Keys R) (s : Session) (cells : List (Cell F)) where
+  -- ---- the facts of a session
+  under_not_live : (r : Row R) (rs : List (Row R)) → live_in (slice_get cells r.slot.0) ≡ None → facts_under rests s cells (r ∷ rs) ≡ facts_under rests s cells rs
+  under_not_live r rs none = ap (λ w. rows_under sessions rests s (kept_row (r.session, r.rest) w (live_rows cells rs))) none
+
+  abbrev cut_to : Bool → (Session × R) × (F × ℕ) → List ((Session × R) × (F × ℕ)) → List (R × (F × ℕ))
+  cut_to b e es = each (λ e. (e.0.1, e.1)) (cond b (e ∷ where_key (fact_keys rests).cmp (λ k. eq_by_cmp sessions.cmp s k.0) es) (where_key (fact_keys rests).cmp (λ k. eq_by_cmp sessions.cmp s k.0) es))
+
+  under_other : (r : Row R) (rs : List (Row R)) → eq_by_cmp sessions.cmp s r.session ≡ false → facts_under rests s cells (r ∷ rs) ≡ facts_under rests s cells rs
+  under_other r rs apart = by (live_in (slice_get cells r.slot.0))
+    where
+      by : (w : Option (F × ℕ)) → rows_under sessions rests s (kept_row (r.session, r.rest) w (live_rows cells rs)) ≡ facts_under rests s cells rs
+      by None = refl
+      by (Some e) = ap (λ b. cut_to b ((r.session, r.rest), e) (live_rows cells rs)) apart
+
+  under_here : (r : Row R) (rs : List (Row R)) (e : F × ℕ) → eq_by_cmp sessions.cmp s r.session ≡ true → live_in (slice_get cells r.slot.0) ≡ Some e → facts_under rests s cells (r ∷ rs) ≡ (r.rest, e) ∷ facts_under rests s cells rs
+  under_here r rs e tie some =
+      ap (λ w. rows_under sessions rests s (kept_row (r.session, r.rest) w (live_rows cells rs))) some ∙ ap (λ b. cut_to b ((r.session, r.rest), e) (live_rows cells rs)) tie
+
+  -- a row that does not count, and one that does
+  pub skipped : (rows : List (Row R)) (i : ℕ) (r : Row R) → i < length rows → r ≡ get_or rows i r → (eq_by_cmp sessions.cmp s r.session && is_live (slice_get cells r.slot.0)) ≡ false
+      → facts_under rests s cells (drop i rows) ≡ facts_under rests s cells (drop (i + 1) rows)
+  skipped rows i r lt is out =
+      ap (facts_under rests s cells) (from_here rows i r lt is)
+      ∙ either (eq_by_cmp sessions.cmp s r.session) (λ t. under_not_live r (drop (i + 1) rows) (not_live_none _ (ap (λ b. b && is_live (slice_get cells r.slot.0)) (sym t) ∙ out))) (λ t. under_other r (drop (i + 1) rows) t)
+
+  pub counted : (rows : List (Row R)) (i : ℕ) (r : Row R) → i < length rows → r ≡ get_or rows i r → (eq_by_cmp sessions.cmp s r.session && is_live (slice_get cells r.slot.0)) ≡ true
+      → (e : F × ℕ) × (live_in (slice_get cells r.slot.0) ≡ Some e) × (facts_under rests s cells (drop i rows) ≡ (r.rest, e) ∷ facts_under rests s cells (drop (i + 1) rows))
+  counted rows i r lt is both =
+      let parts = and_both (eq_by_cmp sessions.cmp s r.session) (is_live (slice_get cells r.slot.0)) both in
+      let e = live_some (slice_get cells r.slot.0) parts.1 in
+      (e.0, e.1, ap (facts_under rests s cells) (from_here rows i r lt is) ∙ under_here r (drop (i + 1) rows) e.0 parts.0 e.1)
+
+pub later_one : {A : Type 0} (x : A) (xs : List A) (n : ℕ) → (n ≡ 0 → ⊥) → slice_get (x ∷ xs) n ≡ slice_get xs (n - 1)
+later_one x xs zero ne = absurd (ne refl)
+later_one x xs (suc n) ne = ap (slice_get xs) (one_less n)
+  where
+    one_less : (n : ℕ) → n ≡ suc n - 1
+    one_less n = omega arith
+
+pub past_end : {A : Type 0} (xs : List A) (i : ℕ) → i ≡ length xs → drop i xs ≡ []
+past_end {A} xs i e = ap (λ n. drop n xs) e ∙ whole xs
+  where
+    whole : (ys : List A) → drop (length ys) ys ≡ []
+    whole [] = refl
+    whole (y ∷ ys) = whole ys
+
+-- ---- how many sessions
+module _ {F R : Type 0} (cells : List (Cell F)) where
+  sessions_cons : (last : Option Session) (r : Row R) (rs : List (Row R)) (e : F × ℕ) → live_in (slice_get cells r.slot.0) ≡ Some e → changes last (sessions_of cells (r ∷ rs)) ≡ cond (is_last last r.session) (changes last (sessions_of cells rs)) (1 + changes (Some r.session) (sessions_of cells rs))
+  sessions_cons last r rs e some = ap (λ w. changes last (each (λ e. e.0.0) (kept_row (r.session, r.rest) w (live_rows cells rs)))) some
+
+  sessions_skip : (last : Option Session) (r : Row R) (rs : List (Row R)) → live_in (slice_get cells r.slot.0) ≡ None → changes last (sessions_of cells (r ∷ rs)) ≡ changes last (sessions_of cells rs)
+  sessions_skip last r rs none = ap (λ w. changes last (each (λ e. e.0.0) (kept_row (r.session, r.rest) w (live_rows cells rs)))) none
+
+  pub more_sessions : (last : Option Session) (rows : List (Row R)) (i : ℕ) (r : Row R) → i < length rows → r ≡ get_or rows i r → (is_live (slice_get cells r.slot.0) && not (is_last last r.session)) ≡ true
+      → changes last (sessions_of cells (drop i rows)) ≡ 1 + changes (Some r.session) (sessions_of cells (drop (i + 1) rows))
+  more_sessions last rows i r lt is next =
+      let parts = and_both (is_live (slice_get cells r.slot.0)) (not (is_last last r.session)) next in
+      let new = not_true (is_last last r.session) parts.1 in
+      let e = live_some (slice_get cells r.slot.0) parts.0 in
+      ap (λ rs. changes last (sessions_of cells rs)) (from_here rows i r lt is) ∙ sessions_cons last r (drop (i + 1) rows) e.0 e.1
+      ∙ ap (λ b. cond b (changes last (sessions_of cells (drop (i + 1) rows))) (1 + changes (Some r.session) (sessions_of cells (drop (i + 1) rows)))) new
+
+  pub same_sessions : (last : Option Session) (rows : List (Row R)) (i : ℕ) (r : Row R) → i < length rows → r ≡ get_or rows i r → (is_live (slice_get cells r.slot.0) && not (is_last last r.session)) ≡ false
+      → changes last (sessions_of cells (drop i rows)) ≡ changes last (sessions_of cells (drop (i + 1) rows))
+  same_sessions last rows i r lt is next =
+      ap (λ rs. changes last (sessions_of cells rs)) (from_here rows i r lt is)
+      ∙ either (is_live (slice_get cells r.slot.0))
+      (λ t.
+      let e = live_some (slice_get cells r.slot.0) t in
+      let old = not_false (is_last last r.session) (ap (λ b. b && not (is_last last r.session)) (sym t) ∙ next) in
+      sessions_cons last r (drop (i + 1) rows) e.0 e.1 ∙ ap (λ b. cond b (changes last (sessions_of cells (drop (i + 1) rows))) (1 + changes (Some r.session) (sessions_of cells (drop (i + 1) rows)))) old)
+      (λ t. sessions_skip last r (drop (i + 1) rows) (not_live_none _ t))
+
+-- ---- rows in order change their session as often as there are sessions
+not_after : (r q : Ordering) → T (is_lt (ordering_then r q)) → r ≡ Greater → ⊥
+not_after Less q h e = cc
+not_after Equal q h e = cc
+not_after Greater q h e = h
+
+before : (r q : Ordering) → T (is_lt (ordering_then r q)) → is_eq r ≡ false → r ≡ Less
+before Less q h e = refl
+before Equal q h e = absurd (both_ways _ e refl)
+before Greater q h e = absurd h
+
+set_cons : (a : Session) (ss : List Session) → set_of {o = sessions} (a ∷ ss) ≡ with_key (set_of ss) a
+set_cons a ss = same_set sessions _ _ (λ q. has-set_of sessions (a ∷ ss) q ∙ ap (λ b. eq_by_cmp sessions.cmp q a || b) (sym (has-set_of sessions ss q)) ∙ sym (has-with_key sessions (set_of ss) a q))
+
+size_cons : (a : Session) (ss : List Session) → size (set_of {o = sessions} (a ∷ ss)) ≡ cond (list_any (eq_by_cmp sessions.cmp a) ss) (size (set_of {o = sessions} ss)) (size (set_of {o = sessions} ss) + 1)
+size_cons a ss =
+    ap size (set_cons a ss) ∙ size-with_key sessions (set_of ss) a ∙ ap (λ b. cond b (size (set_of {o = sessions} ss)) (size (set_of {o = sessions} ss) + 1)) (has-set_of sessions ss a)
+
+module _ {R V : Type 0} (rests : Keys R) where
+  abbrev firsts : List ((Session × R) × V) → List Session
+  firsts es = each (λ e. e.0.0) es
+
+  -- a session before that of a row is not that of a later row
+  none_later : (a : Session) (f : Session × R) (es : List ((Session × R) × V)) → sessions.cmp a f.0 ≡ Less → T (below_all (fact_keys rests).cmp f es) → list_any (eq_by_cmp sessions.cmp a) (firsts es) ≡ false
+  none_later a f [] lt h = refl
+  none_later a f (g ∷ es) lt h =
+      let apart : eq_by_cmp sessions.cmp a g.0.0 ≡ false =
+      either (eq_by_cmp sessions.cmp a g.0.0)
+      (λ t.
+      let is = tied_same sessions a g.0.0 t in
+      let back : sessions.cmp f.0 g.0.0 ≡ Greater = sessions.total.antisymm f.0 g.0.0 ∙ ap ordering_reverse (ap (λ x. sessions.cmp x f.0) (sym is) ∙ lt) in
+      absurd (not_after (sessions.cmp f.0 g.0.0) (rests.cmp f.1 g.0.1) (first _ _ h) back))
+      (λ t. t) in
+      ap (λ b. b || list_any (eq_by_cmp sessions.cmp a) (firsts es)) apart ∙ none_later a f es lt (second _ _ h)
+
+  one_more : (e : (Session × R) × V) (es : List ((Session × R) × V)) → T (is_sorted (fact_keys rests).cmp (e ∷ es)) → size (set_of {o = sessions} (firsts (e ∷ es))) ≡ 1 + changes (Some e.0.0) (firsts es)
+  one_more e [] h = size_cons e.0.0 []
+  one_more e (f ∷ es) h =
+      let a = e.0.0 in
+      let b = f.0.0 in
+      let rest = one_more f es (second _ _ h) in
+      either (eq_by_cmp sessions.cmp a b)
+      (λ t.
+      size_cons a (firsts (f ∷ es)) ∙ ap (λ w. cond (w || list_any (eq_by_cmp sessions.cmp a) (firsts es)) (size (set_of {o = sessions} (firsts (f ∷ es)))) (size (set_of {o = sessions} (firsts (f ∷ es))) + 1)) t
+      ∙ rest ∙ ap (λ x. 1 + changes (Some x) (firsts es)) (sym (tied_same sessions a b t)) ∙ ap (λ w. 1 + cond w (changes (Some a) (firsts es)) (1 + changes (Some b) (firsts es))) (sym t))
+      (λ t.
+      let less = before (sessions.cmp a b) (rests.cmp e.0.1 f.0.1) (first _ _ (first _ _ h)) t in
+      let gone : (eq_by_cmp sessions.cmp a b || list_any (eq_by_cmp sessions.cmp a) (firsts es)) ≡ false = ap (λ w. w || list_any (eq_by_cmp sessions.cmp a) (firsts es)) t ∙ none_later a f.0 es less (first _ _ (second _ _ h)) in
+      let more : size (set_of {o = sessions} (firsts (e ∷ f ∷ es))) ≡ size (set_of {o = sessions} (firsts (f ∷ es))) + 1 = size_cons a (firsts (f ∷ es)) ∙ ap (λ w. cond w (size (set_of {o = sessions} (firsts (f ∷ es)))) (size (set_of {o = sessions} (firsts (f ∷ es))) + 1)) gone in
+      let change : changes (Some a) (firsts (f ∷ es)) ≡ 1 + changes (Some b) (firsts es) = ap (λ w. cond w (changes (Some a) (firsts es)) (1 + changes (Some b) (firsts es))) t in
+      omega (arith, more, rest, change))
+
+  pub all_changes : (es : List ((Session × R) × V)) → T (is_sorted (fact_keys rests).cmp es) → changes None (firsts es) ≡ size (set_of {o = sessions} (firsts es))
+  all_changes [] h = refl
+  all_changes (e ∷ es) h = sym (one_more e es h)
+
+module _ {F R : Type 0} (rests : Keys R) (key : F → Session × R) (cells : List (Cell F)) (rows : List (Row R)) (ix : IsIndex rests key cells rows) where
+  pub sessions_counted : (fs : List (F × ℕ)) → fs ≡ facts_in cells rows → changes None (sessions_of cells rows) ≡ size (sessions_in key fs)
+  sessions_counted fs is =
+      let listed : each (λ e. (key e.0).0) (facts_in cells rows) ≡ each (λ (e : (Session × R) × (F × ℕ)). e.0.0) (facts_by key (facts_in cells rows)) = sym (map-map (λ (e : (Session × R) × (F × ℕ)). e.0.0) (λ (e : F × ℕ). (key e.0, e)) (facts_in cells rows)) in
+      let seen_rows : live_rows cells rows ≡ (seen rests key live_in cells ix.slots).rows = ap (λ es. changed_rows (λ k s. live_in (slice_get cells s)) es) ix.is in
+      let facts_rows = facts_seen rests key cells rows ix in
+      ap (λ es. changes None (firsts rests es)) seen_rows ∙ all_changes rests (seen rests key live_in cells ix.slots).rows (seen rests key live_in cells ix.slots).sorted
+      ∙ ap (λ es. size (set_of {o = sessions} (firsts rests es))) (sym facts_rows) ∙ ap (λ ss. size (set_of {o = sessions} ss)) (sym listed) ∙ ap (λ gs. size (sessions_in key gs)) (sym is)
+
+  pub are_slots : AreSlots cells rows
+  are_slots i r at =
+      let g = ix.linked.holds (r.session, r.rest) r.slot.0 (in_found (fact_keys rests) ix.slots (r.session, r.rest) r.slot.0 (subst (λ es. In ((r.session, r.rest), r.slot.0) es) ix.is (to_each index_row r rows (read_in rows i r at)))) in
+      value_within cells r.slot.0 g.0 g.1
+    where
+      read_in : (xs : List (Row R)) (j : ℕ) (x : Row R) → slice_get xs j ≡ Some x → In x xs
+      read_in [] j x e = cc
+      read_in (y ∷ ys) zero x e = let is : y ≡ x = cc in inl (sym is)
+      read_in (y ∷ ys) (suc j) x e = inr (read_in ys j x e)
+
+  -- the rows of the facts
+  pub live_are : live_rows cells rows ≡ facts_by key (facts_in cells rows)
+  live_are =
+      let seen_rows : live_rows cells rows ≡ (seen rests key live_in cells ix.slots).rows = ap (λ es. changed_rows (λ k s. live_in (slice_get cells s)) es) ix.is in
+      seen_rows ∙ sym (facts_seen rests key cells rows ix)
+
+  pub kth_fact : (s : Session) (k : ℕ) (e : Option (F × ℕ)) → option_map (λ (e : R × (F × ℕ)). e.1) (slice_get (facts_under rests s cells rows) k) ≡ e → option_map (λ (e : F × ℕ). e.0) e ≡ option_map (λ (e : R × (F × ℕ)). e.1.0) (slice_get (rows_under sessions rests s (facts_by key (facts_in cells rows))) k)
+  kth_fact s k e is = ap (option_map (λ (e : F × ℕ). e.0)) (sym is) ∙ inner (slice_get (facts_under rests s cells rows) k) ∙ ap (λ es. option_map (λ (e : R × (F × ℕ)). e.1.0) (slice_get (rows_under sessions rests s es) k)) live_are
+    where
+      inner : (o : Option (R × (F × ℕ))) → option_map (λ (e : F × ℕ). e.0) (option_map (λ (e : R × (F × ℕ)). e.1) o) ≡ option_map (λ (e : R × (F × ℕ)). e.1.0) o
+      inner None = refl
+      inner (Some x) = refl
+
+  pub no_kth_fact : (s : Session) (k : ℕ) → slice_get (facts_under rests s cells rows) k ≡ None → None ≡ option_map (λ (e : R × (F × ℕ)). e.1.0) (slice_get (rows_under sessions rests s (facts_by key (facts_in cells rows))) k)
+  no_kth_fact s k none = kth_fact s k None (ap (option_map (λ (e : R × (F × ℕ)). e.1)) none)

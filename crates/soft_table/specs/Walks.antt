@@ -1,0 +1,35 @@
+-- Walks along the rows of an index: the facts of a session, and how many sessions there are.
+use Rattle.std.specs.Prelude.{◌≡◌, ◌+◌, ◌<◌, ℕ, Bool, false, cond, List, [], ◌∷◌, map as each, length, Option, Some, None, slice_get}
+use Rattle.std.specs.Ordering.{eq_by_cmp}
+use Rattle.rsvp_base.specs.Keys.{Keys}
+use Rattle.rsvp_base.specs.Orders.{sessions}
+use Rattle.rsvp_base.specs.Table.{changed_rows}
+use Rattle.rsvp_base.specs.Under.{rows_under}
+use Rattle.rsvp_base.specs.declared.session.Session.{Session}
+use Rattle.soft_pool.specs.declared.cell.Cell.{Cell}
+use Rattle.soft_table.specs.declared.row.Row.{Row}
+use Rattle.soft_table.specs.Index.{live_in, index_row}
+
+-- each row's slot is one of the slots
+abbrev pub AreSlots : {F R : Type 0} → List (Cell F) → List (Row R) → Type 0
+AreSlots {R = R} cells rows = (i : ℕ) (r : Row R) → slice_get rows i ≡ Some r → r.slot.0 < length cells
+
+abbrev pub live_rows : {F R : Type 0} → List (Cell F) → List (Row R) → List ((Session × R) × (F × ℕ))
+live_rows cells rows = changed_rows (λ k s. live_in (slice_get cells s)) (each index_row rows)
+
+-- the facts of a session
+abbrev pub facts_under : {F R : Type 0} → Keys R → Session → List (Cell F) → List (Row R) → List (R × (F × ℕ))
+facts_under rests s cells rows = rows_under sessions rests s (live_rows cells rows)
+
+-- the session of each fact
+abbrev pub sessions_of : {F R : Type 0} → List (Cell F) → List (Row R) → List Session
+sessions_of cells rows = each (λ e. e.0.0) (live_rows cells rows)
+
+abbrev pub is_last : Option Session → Session → Bool
+is_last None s = false
+is_last (Some t) s = eq_by_cmp sessions.cmp t s
+
+-- how often the session is another than the one before
+abbrev pub changes : Option Session → List Session → ℕ
+changes last [] = 0
+changes last (s ∷ ss) = cond (is_last last s) (changes last ss) (1 + changes (Some s) ss)

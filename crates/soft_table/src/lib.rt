@@ -1,0 +1,16 @@
+//! Tables of facts that expire, one fact for a key, over a pool of slots: what the tables of paths, reservations and
+//! blockades have in common (RFC 2205, 2.3 and 3.7).
+//!
+//! Contracts see the facts in the order of their keys, each with the milliseconds that are left of it, and the dead facts
+//! that wait to be pulled. Memory is taken when a table is opened, and never later.
+#![tactic(auto)]
+
+mod fact;
+mod row;
+mod rows;
+mod table;
+#[cfg(test)]
+mod tests;
+
+pub use fact::Fact;
+pub use table::SoftTable;

@@ -1,0 +1,179 @@
+//! The table.
+ghost use Rattle.std.specs.Prelude.{◌≡◌, ◌≤◌, ◌<◌, ◌↔◌, [], not, length, map, IsErr, IsNone, IfOk, IfSome, OnOk, OnErr, None, Some, slice_get};
+ghost use Rattle.std.specs.List.{filter_map};
+ghost use Rattle.std.specs.Option.{option_copied, option_map};
+ghost use Rattle.std.specs.Ordering.{eq_by_cmp};
+ghost use Rattle.std.specs.FinMap.Entries.{find, put, where_key};
+ghost use Rattle.rsvp_base.specs.Orders.{sessions};
+ghost use Rattle.rsvp_base.specs.Table.{size};
+ghost use Rattle.rsvp_base.specs.Under.{rows_under};
+ghost use Rattle.soft_table.specs.Facts.{fact_keys, facts_by, dead_by, sessions_in, IsInOrder, lives_on, dies};
+
+use crate::fact::Fact;
+use crate::row::Row;
+use crate::rows::{count_sessions, fact_in, insert_row, nth, search};
+use rsvp_base::{Full, NoMemory, Session};
+use soft_pool::Pool;
+use std::alloc::Global;
+use std::marker::Model;
+
+/// Facts that expire, one for a key. Contracts see the facts in the order of their keys with what is left of each, the
+/// dead facts that wait to be pulled, and for how many facts there is room.
+#[derive(Drop)]
+pub struct SoftTable<F: Fact> {
+    pool: Pool<F>,
+    // In the order of keys. A dead fact has its row until it is pulled.
+    rows: Vec<Row<F::Rest>>,
+}
+
+impl<F: Fact> Model for SoftTable<F> {
+    ghost use Rattle.std.specs.Prelude.{◌≤◌, length, vec_capacity};
+    ghost use Rattle.soft_table.specs.Facts.{Kept};
+    ghost use Rattle.soft_table.specs.Index.{facts_in, dead_in, IsIndex};
+
+    ghost Value = { Kept F };
+
+    ghost view = { λ t. record { facts = facts_in t.pool t.rows.items; dead = dead_in t.pool t.rows.items; room = length t.pool } };
+
+    ghost invariant = { λ t. IsIndex F.rests F.key_of t.pool t.rows.items × (length t.pool ≤ vec_capacity t.rows) };
+}
+
+impl<F: Fact> SoftTable<F> {
+    /// A table with room for so many facts, at most 65,536, without any. It takes no memory later. `NoMemory`: the room
+    /// could not be had.
+    pub fn open(alloc: Global, room: usize) -> Result<SoftTable<F>, NoMemory>
+        requires { room ≤ 65536 }
+        ensures { IfOk result (λ t. t ≡ record { facts = []; dead = []; room = room }) }
+    {
+        let pool = Pool::open(alloc, room)?;
+        let rows = Vec::with_capacity(alloc, room).map_err(|_| NoMemory)?;
+        Ok(SoftTable { pool, rows })
+    }
+
+    /// The fact of a key. `None` exactly where there is none. A dead fact does not count.
+    pub fn find(&self, session: Session, rest: F::Rest) -> Option<&F>
+        ensures { option_copied result ≡ option_map (λ e. e.0) (find (fact_keys F.rests).cmp (session, rest) (facts_by F.key_of self.now.facts)) }
+    {
+        match search::<F>(self.rows.as_slice(), session, &rest) {
+            Ok(at) => fact_in(&self.pool, self.rows[at].slot),
+            Err(_) => None,
+        }
+    }
+
+    /// Puts a fact in place of that of its key, with this much left, in milliseconds. `Full` exactly where there is none of
+    /// its key and no room; nothing changes then. No dead fact may wait.
+    pub fn put(&mut self, fact: F, left: u32) -> Result<(), Full>
+        requires some { 1 ≤ left }
+        requires pulled { self.old.dead ≡ [] }
+        ensures ok { OnOk result (facts_by F.key_of self.new.facts ≡ put (fact_keys F.rests).cmp (F.key_of fact) (fact, left) (facts_by F.key_of self.old.facts)) }
+        ensures order { IsInOrder F.rests F.key_of self.new }
+        ensures dead { self.new.dead ≡ self.old.dead }
+        ensures room { self.new.room ≡ self.old.room }
+        ensures full { IsErr result ↔ ((find (fact_keys F.rests).cmp (F.key_of fact) (facts_by F.key_of self.old.facts) ≡ None) × (length self.old.facts ≡ self.old.room)) }
+        ensures err { OnErr result (self.new ≡ self.old) }
+    {
+        let (session, rest) = fact.key();
+        match search::<F>(self.rows.as_slice(), session, &rest) {
+            Ok(at) => {
+                let slot = self.rows[at].slot;
+                self.pool.set(slot, fact);
+                self.pool.renew(slot, left);
+            }
+            Err(at) => {
+                let Ok(slot) = self.pool.add(fact, left) else {
+                    return Err(Full);
+                };
+                insert_row(
+                    &mut self.rows,
+                    at,
+                    Row {
+                        session,
+                        rest,
+                        slot,
+                    },
+                );
+            }
+        }
+        Ok(())
+    }
+
+    /// Takes the fact of a key out. `None` exactly where there is none; nothing changes then. A dead fact does not count.
+    pub fn remove(&mut self, session: Session, rest: F::Rest) -> Option<F>
+        ensures was { result ≡ option_map (λ e. e.0) (find (fact_keys F.rests).cmp (session, rest) (facts_by F.key_of self.old.facts)) }
+        ensures gone { facts_by F.key_of self.new.facts ≡ where_key (fact_keys F.rests).cmp (λ k. not (eq_by_cmp (fact_keys F.rests).cmp (session, rest) k)) (facts_by F.key_of self.old.facts) }
+        ensures order { IsInOrder F.rests F.key_of self.new }
+        ensures dead { self.new.dead ≡ self.old.dead }
+        ensures room { self.new.room ≡ self.old.room }
+    {
+        let Ok(at) = search::<F>(self.rows.as_slice(), session, &rest) else {
+            return None;
+        };
+        let slot = self.rows[at].slot;
+        if !self.pool.live(slot) {
+            return None;
+        }
+        self.rows.remove(at);
+        Some(self.pool.remove(slot))
+    }
+
+    /// Lets time pass, in milliseconds. The facts with at most so much left are dead then, and wait to be pulled; the others
+    /// have so much less left. No dead fact may wait from before.
+    pub fn advance(&mut self, ms: u32)
+        requires { self.old.dead ≡ [] }
+        ensures facts { self.new.facts ≡ filter_map (lives_on ms) self.old.facts }
+        ensures dead { self.new.dead ≡ filter_map (dies ms) self.old.facts }
+        ensures room { self.new.room ≡ self.old.room }
+        ensures order { IsInOrder F.rests F.key_of self.new }
+    {
+        self.pool.advance(ms);
+    }
+
+    /// Takes a dead fact out. `None` exactly where none waits; nothing changes then.
+    pub fn pull_dead(&mut self) -> Option<F>
+        ensures dead { IfSome result (λ f. find (fact_keys F.rests).cmp (F.key_of f) (dead_by F.key_of self.old.dead) ≡ Some f) }
+        ensures pulled { IfSome result (λ f. dead_by F.key_of self.new.dead ≡ where_key (fact_keys F.rests).cmp (λ k. not (eq_by_cmp (fact_keys F.rests).cmp (F.key_of f) k)) (dead_by F.key_of self.old.dead)) }
+        ensures order { IsInOrder F.rests F.key_of self.new }
+        ensures facts { self.new.facts ≡ self.old.facts }
+        ensures room { self.new.room ≡ self.old.room }
+        ensures none { IsNone result → self.old.dead ≡ [] }
+        ensures unchanged { IsNone result → self.new ≡ self.old }
+    {
+        let Some((_, fact)) = self.pool.pull_due() else {
+            return None;
+        };
+        let (session, rest) = fact.key();
+        let Ok(at) = search::<F>(self.rows.as_slice(), session, &rest) else {
+            unreachable!();
+        };
+        self.rows.remove(at);
+        Some(fact)
+    }
+
+    /// The k-th fact of a session by the rest of its key, from 0. `None` exactly where k is not below their number. Dead
+    /// facts do not count.
+    pub fn at(&self, session: Session, k: usize) -> Option<&F>
+        ensures { option_copied result ≡ option_map (λ e. e.1.0) (slice_get (rows_under sessions F.rests session (facts_by F.key_of self.now.facts)) k) }
+    {
+        match nth::<F>(&self.pool, self.rows.as_slice(), session, k) {
+            Some(slot) => fact_in(&self.pool, slot),
+            None => None,
+        }
+    }
+
+    /// How many sessions have facts. Dead facts do not count.
+    pub fn sessions(&self) -> usize
+        ensures { result ≡ size (sessions_in F.key_of self.now.facts) }
+    {
+        count_sessions::<F>(&self.pool, self.rows.as_slice())
+    }
+
+    /// Takes all facts out, the dead that wait too.
+    pub fn clear(&mut self)
+        ensures facts { self.new.facts ≡ [] }
+        ensures dead { self.new.dead ≡ [] }
+        ensures room { self.new.room ≡ self.old.room }
+    {
+        self.pool.clear();
+        self.rows.clear();
+    }
+}
