@@ -35,7 +35,7 @@ end_pairs = pairs numbers numbers
 abbrev pub hops_in_order : List Hop → List Hop
 hops_in_order hs = each (λ p. record { from = p.0; to = p.1 }) (keys (set_of {o = end_pairs} (each (λ h. (h.from, h.to)) hs)))
 
--- the sessions that someone sends in or wants, each once
+-- the sessions that someone wants something of, each once
 abbrev pub sessions_named : Locals → List Session
 sessions_named l = keys (set_of {o = sessions} (flat_map (λ w. w.session ∷ []) l.wants))
 
