@@ -1,0 +1,4 @@
+pub mod Machine
+pub mod Rounds
+pub mod Hold
+pub mod Lines
