@@ -5,14 +5,14 @@ use Rattle.rsvp_base.proofs.Members.{in_append, in_left, in_right}
 use Rattle.calm_rounds.specs.Machine.{Machine, run, all_sent, all_arrived, items_of, Fresh, Happens, IsClocked, IsStamped}
 use Rattle.calm_rounds.specs.Rounds.{AreQuiet, Calm, Rounds}
 use Rattle.calm_rounds.specs.Hold.{Visited, Hold}
-use Rattle.calm_rounds.specs.Lines.{Line, LineLaws, Stands, Good, Moves}
+use Rattle.calm_rounds.specs.Lines.{Line, DueLaws, Stands, Good, Moves}
 use Rattle.calm_rounds.proofs.Holding.{visited_start, visited_map, visited_end, visited_both, hold_both, hold_later, hold_flush, clock_run}
 
 pub in_option : {A : Type 0} (x : A) (o : Option A) → In x (items_of o) → o ≡ Some x
 in_option x None i = absurd i
 in_option x (Some y) i = ⊎_elim (λ (e : x ≡ y). ap (λ z. Some z) (sym e)) (λ (j : ⊥). absurd j) i
 
-module _ {W S I K V : Type 0} (m : Machine W S I K) (c : IsClocked m) (l : Line W S I K V) (laws : LineLaws m l) where
+module _ {W S I K V : Type 0} (m : Machine W S I K) (c : IsClocked m) (l : Line W S I K V) (laws : DueLaws m l) where
   -- the next refresh is due before b, or it has happened
   due_by : (b : ℕ) (ss : List S) (w : W) → AreQuiet m ss → Visited m (λ u. l.sane u × ((t : ℕ) × (l.due u ≡ Some t))) ss w
       → (t : ℕ) → l.due w ≡ Some t → t ≤ b → b ≤ m.clock (run m ss w) → Happens m l.fires ss w
@@ -31,7 +31,7 @@ module _ {W S I K V : Type 0} (m : Machine W S I K) (c : IsClocked m) (l : Line 
       due_by (m.clock w + 6 * m.quarter) r w calm.silent (visited_both m l.sane (λ u. (t : ℕ) × (l.due u ≡ Some t)) r w sane counts)
       d.0 d.1 (laws.due_room w d.0 q d.1).1 (omega (arith, clock_run m c r w calm.silent, calm.long))
 
-module _ {W S I K V : Type 0} (m : Machine W S I K) (c : IsClocked m) (stamps : IsStamped m) (l : Line W S I K V) (laws : LineLaws m l) where
+module _ {W S I K V : Type 0} (m : Machine W S I K) (c : IsClocked m) (stamps : IsStamped m) (l : Line W S I K V) (laws : DueLaws m l) where
   -- the value stands, and no death comes before c + life
   abbrev pub Firm : V → ℕ → W → Type 0
   Firm v b u = (d : ℕ) × (l.kept u ≡ Some (v, d)) × (b + 21 * m.quarter ≤ d) × (b ≤ m.clock u)

@@ -28,14 +28,17 @@ abbrev pub IsClosed : {V : Type 0} → (V → V → Type 0) → (V → Type 0) �
 IsClosed {V} below P = (v v0 : V) → below v v0 → P v0 → P v
 
 module _ {W S I K V : Type 0} (m : Machine W S I K) (l : Line W S I K V) where
-  -- the laws of a line, for quiet steps between sane worlds
-  pub record LineLaws : Type 0 where
+  -- how what is kept comes and goes, by quiet steps between sane worlds
+  pub record KeepLaws : Type 0 where
     -- what is kept is a cut of what was kept and dies when that would, or is a cut of what an item says that arrives
     pub set : (s : S) (u : W) (v : V) (d : ℕ) → m.quiet s ≡ true → l.sane u → l.sane (m.step s u) → l.kept (m.step s u) ≡ Some (v, d)
         → ((v0 : V) × (l.kept u ≡ Some (v0, d)) × l.below v v0)
         ⊎ ((x : I) × (v0 : V) × (m.arrived s u ≡ Some x) × l.says x v0 × l.below v v0)
     -- what is kept lives, for 21 quarters of a period at most
     pub room : (u : W) (v : V) (d : ℕ) → l.sane u → l.kept u ≡ Some (v, d) → (m.clock u < d) × (d ≤ m.clock u + 21 * m.quarter)
+
+  -- when the sending node refreshes, by quiet steps between sane worlds
+  pub record DueLaws : Type 0 where
     -- the moment of the next refresh moves only by a refresh
     pub moved : (s : S) (u : W) (t t' : ℕ) → m.quiet s ≡ true → l.sane u → l.sane (m.step s u) → l.due u ≡ Some t → l.due (m.step s u) ≡ Some t' → (t' ≡ t) ⊎ l.fires s u
     -- the next refresh is due within 6 quarters of a period
