@@ -3,7 +3,6 @@ use Rattle.std.proofs.Common.{◌≡◌, ℕ, zero, suc, ◌+◌, ◌≤◌, ◌
 use Rattle.std.specs.Prelude.{nat_lt}
 use Rattle.std.proofs.lemmas.Bool.{ltb-true, lt-ltb}
 use Rattle.rsvp_base.specs.Members.{In}
-use Rattle.rsvp_base.proofs.Members.{in_append}
 use Rattle.calm_rounds.specs.Machine.{items_of, IsClocked, IsStamped, run}
 use Rattle.calm_rounds.specs.Rounds.{Calm, Rounds}
 use Rattle.calm_rounds.specs.Hold.{Hold}
@@ -40,9 +39,7 @@ stamped = record {
 
     appended : (s : Step) (u : World) (x : Signal) → In x ((after s u).flight) → In x u.flight ⊎ (u.made ≤ x.born)
     appended Flash u x i =
-        ⊎_elim (λ (old : In x u.flight). inl old)
-        (λ (new : In x (flash u ∷ [])). ⊎_elim (λ (e : x ≡ flash u). let b : x.born ≡ u.made = ap (λ (z : Signal). z.born) e in inr (omega arith)) (λ (none : ⊥). absurd none) new)
-        (in_append x u.flight (flash u ∷ []) i)
+        ⊎_elim (λ (e : x ≡ flash u). let b : x.born ≡ u.made = ap (λ (z : Signal). z.born) e in inr (omega arith)) (λ (old : In x u.flight). inl old) i
     appended Arrive u x i = inl (in_rest x u.flight i)
 
     sent : (s : Step) (u : World) (x : Signal) (b : Bool) → In (x, b) (beacon.sent s u) → u.made ≤ x.born
@@ -120,9 +117,7 @@ moves n = record { rests = λ s u d q g g' none e lt. rests s u d none e lt; cal
 -- what is in flight is what is sent, as far as it is not old
 says_step : (n : ℕ) (s : Step) (u : World) → SaysOnly beacon place (λ v. v ≡ told) n u → SaysOnly beacon place (λ v. v ≡ told) n (after s u)
 says_step n Flash u h x v i le e =
-    ⊎_elim (λ (old : In x u.flight). h x v old le e)
-    (λ (new : In x (flash u ∷ [])). ⊎_elim (λ (f : x ≡ flash u). e ∙ ap (λ (z : Signal). z.number) f) (λ (none : ⊥). absurd none) new)
-    (in_append x u.flight (flash u ∷ []) i)
+    ⊎_elim (λ (f : x ≡ flash u). e ∙ ap (λ (z : Signal). z.number) f) (λ (old : In x u.flight). h x v old le e) i
 says_step n Arrive u h x v i le e = h x v (in_rest x u.flight i) le e
 
 good : (n : ℕ) (u : World) → IsSane u → SaysOnly beacon place (λ v. v ≡ told) n u → Good beacon place told n u
@@ -147,26 +142,26 @@ calm_from c n k None = record {
   long = omega arith;
   short = omega arith;
   flushed = λ x i. absurd i;
-  crossed = λ x i. (record { number = told; born = suc n }, inl refl, refl, inl refl);
+  crossed = λ x i. (record { number = told; born = n }, inl refl, refl, inl refl);
 }
 calm_from c n k (Some y) = record {
   silent = (refl, (refl, (refl, tt)));
   long = omega arith;
   short = omega arith;
   flushed = λ x i. absurd i;
-  crossed = λ x i. (record { number = told; born = suc n }, inl refl, refl, inr (inl refl));
+  crossed = λ x i. (record { number = told; born = n }, inl refl, refl, inl refl);
 }
 
 rounds_from : (r : ℕ) (c n : ℕ) (k : Option (ℕ × ℕ)) (o : Option Signal) → Rounds beacon (some_rounds r) (world_of c n k o)
 rounds_from zero c n k o = tt
 rounds_from (suc r) c n k None = (calm_from c n k None, rounds_from r (c + 6) (suc (suc (suc n))) (Some (told, (c + 6) + 21)) None)
-rounds_from (suc r) c n k (Some y) = (calm_from c n k (Some y), rounds_from r (c + 6) (suc (suc (suc n))) (Some (told, (c + 6) + 21)) None)
+rounds_from (suc r) c n k (Some y) = (calm_from c n k (Some y), rounds_from r (c + 6) (suc (suc (suc n))) (Some (y.number, (c + 6) + 21)) None)
 
 first_rounds : (r : ℕ) → Rounds beacon (some_rounds r) first_world
 first_rounds r = rounds_from r 0 1 (Some (7, 21)) (Some (record { number = 7; born = 0 }))
 
 later_rounds : (r : ℕ) → Rounds beacon (some_rounds r) (run beacon a_round first_world)
-later_rounds r = rounds_from r 6 4 (Some (told, 27)) None
+later_rounds r = rounds_from r 6 4 (Some (7, 27)) None
 
 sane_first : IsSane first_world
 sane_first v d e = let s : ◌≡◌ {A = ℕ × ℕ} (7, 21) (v, d) = cc in let f : 21 ≡ d = ap (λ (z : ℕ × ℕ). z.1) s in (omega (arith, f), omega (arith, f))
@@ -196,4 +191,6 @@ meets_the_premises = record {
   good = λ r. hold_map beacon (λ u. IsSane u × SaysOnly beacon place (λ v. v ≡ told) 1 u) (Good beacon place told 1) (λ u h. good 1 u h.0 h.1) 0 (some_rounds r) first_world
       (hold_both beacon IsSane (SaysOnly beacon place (λ v. v ≡ told) 1) 0 (some_rounds r) first_world (sane_always r) (says_always r));
   not_yet = λ h. let no : 7 ≡ told = h 7 21 refl in absurd (omega (arith, no));
+  not_in_one = λ h. let e : ◌≡◌ {A = Option (ℕ × ℕ)} (Some (7, 27)) (Some (told, h.0)) = h.1 in
+      let s : ◌≡◌ {A = ℕ × ℕ} (7, 27) (told, h.0) = cc in let no : 7 ≡ told = ap (λ (z : ℕ × ℕ). z.0) s in absurd (omega (arith, no));
 }

@@ -1,11 +1,11 @@
--- A beacon: a small machine that meets the premises of all laws. It sends one number again and again to one place, which
+-- A beacon: a small machine that meets the premises of the laws. It sends one number again and again to one place, which
 -- keeps the number that arrived last until that dies. In the world in which it starts, another number is kept, and is in
--- flight too.
-use Rattle.std.specs.Prelude.{◌≡◌, ℕ, zero, suc, ◌+◌, ◌<◌, ◌≤◌, List, [], ◌∷◌, ◌++◌, Bool, true, Option, None, Some, cond, nat_lt}
+-- flight too. A mute beacon sends nothing.
+use Rattle.std.specs.Prelude.{◌≡◌, ℕ, zero, suc, ◌+◌, ◌<◌, ◌≤◌, List, [], ◌∷◌, Bool, true, Option, None, Some, cond, nat_lt}
 use Rattle.calm_rounds.specs.Machine.{Machine, IsClocked, IsStamped, run}
 use Rattle.calm_rounds.specs.Rounds.{Rounds}
 use Rattle.calm_rounds.specs.Hold.{Hold}
-use Rattle.calm_rounds.specs.Lines.{Line, KeepLaws, DueLaws, SaysOnly, KeepsOnly, Good, Moves}
+use Rattle.calm_rounds.specs.Lines.{Line, KeepLaws, DueLaws, SaysOnly, KeepsOnly, Stands, Good, Moves}
 
 -- a number on its way, and the step that sent it
 pub record Signal : Type 0 where
@@ -19,7 +19,7 @@ pub record World : Type 0 where
   -- what is kept, and the moment at which it dies
   pub kept : Option (ℕ × ℕ)
 
--- six milliseconds pass, or the first signal in flight arrives
+-- six milliseconds pass and a signal is sent, or the first signal in flight arrives, which is the one sent last
 pub data Step : Type 0 where
   Flash : Step
   Arrive : Step
@@ -50,7 +50,7 @@ taken c None kept = kept
 taken c (Some x) kept = Some (x.number, c + 21)
 
 abbrev pub after : Step → World → World
-after Flash w = record { clock = w.clock + 6; made = suc w.made; flight = w.flight ++ (flash w ∷ []); kept = living (w.clock + 6) w.kept }
+after Flash w = record { clock = w.clock + 6; made = suc w.made; flight = flash w ∷ w.flight; kept = living (w.clock + 6) w.kept }
 after Arrive w = record { clock = w.clock; made = suc w.made; flight = rest_of w.flight; kept = taken w.clock (first_of w.flight) w.kept }
 
 abbrev pub length_of : Step → ℕ
@@ -101,7 +101,7 @@ abbrev pub first_world : World
 first_world = record { clock = 0; made = 1; flight = record { number = 7; born = 0 } ∷ []; kept = Some (7, 21) }
 
 abbrev pub a_round : List Step
-a_round = Arrive ∷ Flash ∷ Arrive ∷ []
+a_round = Flash ∷ Arrive ∷ Arrive ∷ []
 
 abbrev pub some_rounds : ℕ → List (List Step)
 some_rounds zero = []
@@ -120,5 +120,54 @@ pub record MeetsThePremises : Type 0 where
   pub says : (k : ℕ) → Hold beacon 0 (some_rounds k) first_world (SaysOnly beacon place (λ v. v ≡ told) (first_world.made))
   pub says_later : (k : ℕ) → Hold beacon 0 (some_rounds k) (run beacon a_round first_world) (SaysOnly beacon place (λ v. v ≡ told) 0)
   pub good : (k : ℕ) → Hold beacon 0 (some_rounds k) first_world (Good beacon place told (first_world.made))
-  -- what the laws promise does not hold at the start
+  -- at the start another number is kept, and after one round one still is, which was on its way
   pub not_yet : KeepsOnly beacon place (λ v. v ≡ told) first_world → ⊥
+  pub not_in_one : Hold beacon 1 (some_rounds 1) first_world (Stands beacon place told) → ⊥
+
+-- six milliseconds pass and nothing is sent, or the first signal in flight arrives
+abbrev pub after_mute : Step → World → World
+after_mute Flash w = record { clock = w.clock + 6; made = suc w.made; flight = w.flight; kept = living (w.clock + 6) w.kept }
+after_mute Arrive w = after Arrive w
+
+abbrev pub mute : Machine World Step Signal (Unit {0})
+mute = record {
+  quarter = 1;
+  step = after_mute;
+  quiet = λ _. true;
+  ms = length_of;
+  clock = λ w. w.clock;
+  made = λ w. w.made;
+  flight = λ w. w.flight;
+  born = λ x. x.born;
+  lane = λ _. Some tt;
+  sent = λ _ _. [];
+  arrived = arrives_by;
+}
+
+-- a number is kept and nothing in flight
+abbrev pub kept_world : World
+kept_world = record { clock = 0; made = 1; flight = []; kept = Some (7, 21) }
+
+-- a number is in flight and nothing kept
+abbrev pub told_world : World
+told_world = record { clock = 0; made = 1; flight = record { number = 7; born = 0 } ∷ []; kept = None }
+
+abbrev pub a_mute_round : List Step
+a_mute_round = Flash ∷ Arrive ∷ []
+
+abbrev pub mute_rounds : ℕ → List (List Step)
+mute_rounds zero = []
+mute_rounds (suc n) = a_mute_round ∷ mute_rounds n
+
+-- all premises are met, with no value allowed: what is kept at the start is so after three rounds, and what is in flight
+-- at the start is kept after four
+pub record TakesTheRounds : Type 0 where
+  pub clocked : IsClocked mute
+  pub stamped : IsStamped mute
+  pub keeps : KeepLaws mute place
+  pub rounds : (k : ℕ) → Rounds mute (mute_rounds k) kept_world × Rounds mute (mute_rounds k) told_world
+  pub sane : (k : ℕ) → Hold mute 0 (mute_rounds k) kept_world IsSane × Hold mute 0 (mute_rounds k) told_world IsSane
+  pub says_nothing : (k : ℕ) → Hold mute 0 (mute_rounds k) kept_world (SaysOnly mute place (λ _. ⊥) 0)
+  pub not_in_three : Hold mute 3 (mute_rounds 3) kept_world (KeepsOnly mute place (λ _. ⊥)) → ⊥
+  pub says_nothing_new : (k : ℕ) → Hold mute 0 (mute_rounds k) told_world (SaysOnly mute place (λ _. ⊥) (told_world.made))
+  pub not_in_four : Hold mute 4 (mute_rounds 4) told_world (KeepsOnly mute place (λ _. ⊥)) → ⊥
