@@ -6,9 +6,9 @@ use Rattle.rsvp_base.specs.Members.{In}
 use Rattle.calm_rounds.specs.Machine.{items_of, IsClocked, IsStamped, run}
 use Rattle.calm_rounds.specs.Rounds.{Calm, Rounds}
 use Rattle.calm_rounds.specs.Hold.{Hold}
-use Rattle.calm_rounds.specs.Lines.{KeepLaws, DueLaws, SaysOnly, Good, Moves}
-use Rattle.calm_rounds.specs.Beacon.{Signal, World, Step, Flash, Arrive, told, flash, first_of, rest_of, living, taken, after, beacon, IsSane, place, first_world, a_round, some_rounds, MeetsThePremises}
-use Rattle.calm_rounds.proofs.Holding.{hold_map, hold_both, hold_always}
+use Rattle.calm_rounds.specs.Lines.{KeepLaws, DueLaws, SaysOnly, KeepsOnly, Good, Moves}
+use Rattle.calm_rounds.specs.Beacon.{Signal, World, Step, Flash, Arrive, told, flash, first_of, rest_of, living, taken, after, beacon, IsSane, place, first_world, a_round, some_rounds, MeetsThePremises, after_mute, mute, kept_world, told_world, a_mute_round, mute_rounds, TakesTheRounds}
+use Rattle.calm_rounds.proofs.Holding.{hold_map, hold_both, hold_always, hold_end}
 
 first_in : (x : Signal) (xs : List Signal) → first_of xs ≡ Some x → In x xs
 first_in x [] e = absurd (cc)
@@ -193,4 +193,73 @@ meets_the_premises = record {
   not_yet = λ h. let no : 7 ≡ told = h 7 21 refl in absurd (omega (arith, no));
   not_in_one = λ h. let e : ◌≡◌ {A = Option (ℕ × ℕ)} (Some (7, 27)) (Some (told, h.0)) = h.1 in
       let s : ◌≡◌ {A = ℕ × ℕ} (7, 27) (told, h.0) = cc in let no : 7 ≡ told = ap (λ (z : ℕ × ℕ). z.0) s in absurd (omega (arith, no));
+}
+
+-- ---- the mute beacon
+mute_clocked : IsClocked mute
+mute_clocked = record { clock = λ s u q. by_step s u }
+  where
+    by_step : (s : Step) (u : World) → (after_mute s u).clock ≡ u.clock + mute.ms s
+    by_step Flash u = refl
+    by_step Arrive u = omega arith
+
+mute_stays : (s : Step) (u : World) (x : Signal) → In x ((after_mute s u).flight) → In x u.flight
+mute_stays Flash u x i = i
+mute_stays Arrive u x i = in_rest x u.flight i
+
+mute_stamped : IsStamped mute
+mute_stamped = record {
+  made = λ s u. made s u;
+  appended = λ s u x q i. inl (mute_stays s u x i);
+  sent = λ s u x b q i. absurd i;
+  arrived = λ s u x e. stamped.arrived s u x e;
+}
+  where
+    made : (s : Step) (u : World) → u.made ≤ (after_mute s u).made
+    made Flash u = omega arith
+    made Arrive u = omega arith
+
+mute_sane_step : (s : Step) (u : World) → IsSane u → IsSane (after_mute s u)
+mute_sane_step Flash u h = sane_step Flash u h
+mute_sane_step Arrive u h = sane_step Arrive u h
+
+mute_keeps : KeepLaws mute place
+mute_keeps = record { set = λ s u v d q h h' e. set s u v d h e; room = λ u v d h e. h v d e }
+  where
+    set : (s : Step) (u : World) (v d : ℕ) → IsSane u → (after_mute s u).kept ≡ Some (v, d)
+        → ((v0 : ℕ) × (u.kept ≡ Some (v0, d)) × (v ≡ v0)) ⊎ ((x : Signal) × (v0 : ℕ) × (mute.arrived s u ≡ Some x) × (v0 ≡ x.number) × (v ≡ v0))
+    set Flash u v d h e = inl (v, (lives (u.clock + 6) u.kept v d e).0, refl)
+    set Arrive u v d h e = keeps.set Arrive u v d refl h (sane_step Arrive u h) e
+
+mute_calm : (c n : ℕ) (k : Option (ℕ × ℕ)) (o : Option Signal) → Calm mute a_mute_round (world_of c n k o)
+mute_calm c n k None = record { silent = (refl, (refl, tt)); long = omega arith; short = omega arith; flushed = λ x i. absurd i; crossed = λ x i. absurd i }
+mute_calm c n k (Some y) = record { silent = (refl, (refl, tt)); long = omega arith; short = omega arith; flushed = λ x i. absurd i; crossed = λ x i. absurd i }
+
+mute_from : (r : ℕ) (c n : ℕ) (k : Option (ℕ × ℕ)) (o : Option Signal) → Rounds mute (mute_rounds r) (world_of c n k o)
+mute_from zero c n k o = tt
+mute_from (suc r) c n k None = (mute_calm c n k None, mute_from r (c + 6) (suc (suc n)) (living (c + 6) k) None)
+mute_from (suc r) c n k (Some y) = (mute_calm c n k (Some y), mute_from r (c + 6) (suc (suc n)) (Some (y.number, (c + 6) + 21)) None)
+
+mute_kept : (r : ℕ) → Rounds mute (mute_rounds r) kept_world
+mute_kept r = mute_from r 0 1 (Some (7, 21)) None
+
+mute_told : (r : ℕ) → Rounds mute (mute_rounds r) told_world
+mute_told r = mute_from r 0 1 None (Some (record { number = 7; born = 0 }))
+
+pub takes_the_rounds : TakesTheRounds
+takes_the_rounds = record {
+  clocked = mute_clocked;
+  stamped = mute_stamped;
+  keeps = mute_keeps;
+  rounds = λ r. (mute_kept r, mute_told r);
+  sane = λ r. (
+    hold_always mute IsSane (λ s u q h. mute_sane_step s u h) (mute_rounds r) kept_world (mute_kept r) sane_first,
+    hold_always mute IsSane (λ s u q h. mute_sane_step s u h) (mute_rounds r) told_world (mute_told r) (λ v d e. absurd (cc)),
+  );
+  says_nothing = λ r. hold_always mute (SaysOnly mute place (λ _. ⊥) 0) (λ s u q h x v i le e. h x v (mute_stays s u x i) le e) (mute_rounds r) kept_world (mute_kept r)
+      (λ x v i le e. absurd i);
+  not_in_three = λ h. hold_end mute (KeepsOnly mute place (λ _. ⊥)) 3 (mute_rounds 3) kept_world (omega arith) h 7 21 refl;
+  says_nothing_new = λ r. hold_always mute (SaysOnly mute place (λ _. ⊥) 1) (λ s u q h x v i le e. h x v (mute_stays s u x i) le e) (mute_rounds r) told_world (mute_told r)
+      (λ x v i le e. ⊎_elim (λ (f : x ≡ record { number = 7; born = 0 }). let b : x.born ≡ 0 = ap (λ (z : Signal). z.born) f in absurd (omega arith)) (λ (none : ⊥). absurd none) i);
+  not_in_four = λ h. hold_end mute (KeepsOnly mute place (λ _. ⊥)) 4 (mute_rounds 4) told_world (omega arith) h 7 27 refl;
 }

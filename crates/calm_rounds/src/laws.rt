@@ -4,7 +4,7 @@ ghost use Rattle.calm_rounds.specs.Machine.{Machine, IsClocked, IsStamped, Fresh
 ghost use Rattle.calm_rounds.specs.Rounds.{Calm, Rounds, run_rounds};
 ghost use Rattle.calm_rounds.specs.Hold.{Visited, Hold, Keep};
 ghost use Rattle.calm_rounds.specs.Lines.{KeepLaws, DueLaws, IsClosed, SaysOnly, KeepsOnly, Stands, Good, Moves};
-ghost use Rattle.calm_rounds.specs.Beacon.{MeetsThePremises};
+ghost use Rattle.calm_rounds.specs.Beacon.{MeetsThePremises, TakesTheRounds};
 
 use crate::claims::{Claim, Key};
 
@@ -88,7 +88,14 @@ pub fn what_is_said_is_kept<W, S, I, K, L: Key<W, S, I, K>>()
         → Moves m L.line v (m.made w) → Hold m 0 rs w L.line.sane → Hold m 0 rs w (Good m L.line v (m.made w)) → Hold m 2 rs w (Stands m L.line v) }
 {}
 
-/// A small machine meets the premises of all these laws, in a world in which what the last two promise does not hold yet.
+/// A small machine meets the premises of these laws, and at its start what they promise does not hold yet. For
+/// `what_is_said_is_kept` one round is not enough.
 pub fn a_beacon_meets_the_premises()
     ensures { MeetsThePremises }
+{}
+
+/// Fewer rounds are not enough: a mute beacon meets the premises of `dies_out` and of `only_what_is_said_is_kept`, and what
+/// they exclude is kept after three and after four rounds.
+pub fn a_mute_beacon_takes_the_rounds()
+    ensures { TakesTheRounds }
 {}
