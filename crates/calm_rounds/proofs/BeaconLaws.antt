@@ -183,6 +183,8 @@ meets_the_premises = record {
   keeps = keeps;
   falls_due = falls_due;
   moves = moves;
+  closed = λ v v0 e p. e ∙ p;
+  quarter = omega arith;
   rounds = first_rounds;
   sane = sane_always;
   says = says_always;
@@ -251,6 +253,7 @@ takes_the_rounds = record {
   clocked = mute_clocked;
   stamped = mute_stamped;
   keeps = mute_keeps;
+  closed = λ v v0 e p. p;
   rounds = λ r. (mute_kept r, mute_told r);
   sane = λ r. (
     hold_always mute IsSane (λ s u q h. mute_sane_step s u h) (mute_rounds r) kept_world (mute_kept r) sane_first,

@@ -6,7 +6,7 @@ use Rattle.calm_rounds.specs.Machine.{Machine, run, all_sent, all_arrived, items
 use Rattle.calm_rounds.specs.Rounds.{AreQuiet, Calm, Rounds}
 use Rattle.calm_rounds.specs.Hold.{Visited, Hold}
 use Rattle.calm_rounds.specs.Lines.{Line, DueLaws, Stands, Good, Moves}
-use Rattle.calm_rounds.proofs.Holding.{visited_start, visited_map, visited_end, visited_both, hold_both, hold_later, hold_flush, clock_run}
+use Rattle.calm_rounds.proofs.Holding.{visited_start, visited_map, visited_end, visited_both, hold_map, hold_both, hold_later, hold_flush, clock_run}
 
 pub in_option : {A : Type 0} (x : A) (o : Option A) → In x (items_of o) → o ≡ Some x
 in_option x None i = absurd i
@@ -124,10 +124,11 @@ module _ {W S I K V : Type 0} (m : Machine W S I K) (c : IsClocked m) (stamps : 
     )
 
   pub what_is_said_is_kept : (v : V) → (1 ≤ m.quarter) → (rs : List (List S)) (w : W) → Rounds m rs w → Moves m l v (m.made w)
-      → Hold m 0 rs w l.sane → Hold m 0 rs w (Good m l v (m.made w)) → Hold m 2 rs w (Stands m l v)
-  what_is_said_is_kept v q [] w calm moves sane good = tt
-  what_is_said_is_kept v q (r ∷ []) w calm moves sane good = tt
-  what_is_said_is_kept v q (r ∷ r2 ∷ rs) w calm moves sane good =
+      → Hold m 0 rs w (Good m l v (m.made w)) → Hold m 2 rs w (Stands m l v)
+  what_is_said_is_kept v q [] w calm moves good = tt
+  what_is_said_is_kept v q (r ∷ []) w calm moves good = tt
+  what_is_said_is_kept v q (r ∷ r2 ∷ rs) w calm moves good =
+      let sane = hold_map m (Good m l v (m.made w)) l.sane (λ u g. g.sane) 0 (r ∷ r2 ∷ rs) w good in
       let able = hold_both m (Good m l v (m.made w)) (Fresh m (m.made w)) 1 (r ∷ r2 ∷ rs) w
       (hold_later m (Good m l v (m.made w)) 0 1 (r ∷ r2 ∷ rs) w (omega arith) good) (hold_flush m stamps (r ∷ r2 ∷ rs) w calm) in
       firm_rounds v (m.made w) moves q (m.clock (run m r w)) rs (run m r2 (run m r w)) calm.1.1 sane.1.1 able.1

@@ -5,7 +5,7 @@ use Rattle.std.specs.Prelude.{◌≡◌, ℕ, zero, suc, ◌+◌, ◌<◌, ◌�
 use Rattle.calm_rounds.specs.Machine.{Machine, IsClocked, IsStamped, run}
 use Rattle.calm_rounds.specs.Rounds.{Rounds}
 use Rattle.calm_rounds.specs.Hold.{Hold}
-use Rattle.calm_rounds.specs.Lines.{Line, KeepLaws, DueLaws, SaysOnly, KeepsOnly, Stands, Good, Moves}
+use Rattle.calm_rounds.specs.Lines.{Line, KeepLaws, DueLaws, IsClosed, SaysOnly, KeepsOnly, Stands, Good, Moves}
 
 -- a number on its way, and the step that sent it
 pub record Signal : Type 0 where
@@ -113,6 +113,8 @@ pub record MeetsThePremises : Type 0 where
   pub keeps : KeepLaws beacon place
   pub falls_due : DueLaws beacon place
   pub moves : (n : ℕ) → Moves beacon place told n
+  pub closed : IsClosed place.below (λ v. v ≡ told)
+  pub quarter : 1 ≤ beacon.quarter
   -- however many rounds, they are calm
   pub rounds : (k : ℕ) → Rounds beacon (some_rounds k) first_world
   pub sane : (k : ℕ) → Hold beacon 0 (some_rounds k) first_world IsSane
@@ -165,6 +167,7 @@ pub record TakesTheRounds : Type 0 where
   pub clocked : IsClocked mute
   pub stamped : IsStamped mute
   pub keeps : KeepLaws mute place
+  pub closed : IsClosed place.below (λ _. ⊥)
   pub rounds : (k : ℕ) → Rounds mute (mute_rounds k) kept_world × Rounds mute (mute_rounds k) told_world
   pub sane : (k : ℕ) → Hold mute 0 (mute_rounds k) kept_world IsSane × Hold mute 0 (mute_rounds k) told_world IsSane
   pub says_nothing : (k : ℕ) → Hold mute 0 (mute_rounds k) kept_world (SaysOnly mute place (λ _. ⊥) 0)

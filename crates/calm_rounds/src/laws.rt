@@ -45,7 +45,7 @@ pub fn hold_always<W, S, I, K, J: Claim<W>>()
     ensures { (m : Machine W S I K) → ((s : S) (u : W) → m.quiet s ≡ true → J.holds u → J.holds (m.step s u)) → (rs : List (List S)) (w : W) → Rounds m rs w → J.holds w → Hold m 0 rs w J.holds }
 {}
 
-/// What holds from one round on holds of the last world, where there are as many rounds.
+/// What holds from one round on holds of the last world, where there are at least as many rounds.
 pub fn hold_end<W, S, I, K, Q: Claim<W>>()
     ensures { (m : Machine W S I K) (k : ℕ) (rs : List (List S)) (w : W) → k ≤ length rs → Hold m k rs w Q.holds → Q.holds (run_rounds m rs w) }
 {}
@@ -85,7 +85,7 @@ pub fn comes_due<W, S, I, K, L: Key<W, S, I, K>>()
 /// kept.
 pub fn what_is_said_is_kept<W, S, I, K, L: Key<W, S, I, K>>()
     ensures { (m : Machine W S I K) → IsClocked m → IsStamped m → DueLaws m L.line → 1 ≤ m.quarter → (v : L.Value) (rs : List (List S)) (w : W) → Rounds m rs w
-        → Moves m L.line v (m.made w) → Hold m 0 rs w L.line.sane → Hold m 0 rs w (Good m L.line v (m.made w)) → Hold m 2 rs w (Stands m L.line v) }
+        → Moves m L.line v (m.made w) → Hold m 0 rs w (Good m L.line v (m.made w)) → Hold m 2 rs w (Stands m L.line v) }
 {}
 
 /// A small machine meets the premises of these laws, and at its start what they promise does not hold yet. For
