@@ -29,7 +29,6 @@ stamped : IsStamped beacon
 stamped = record {
   made = λ s u. made s u;
   appended = λ s u x q i. appended s u x i;
-  sent = λ s u x b q i. sent s u x b i;
   arrived = λ s u x e. arrived s u x e;
 }
   where
@@ -41,10 +40,6 @@ stamped = record {
     appended Flash u x i =
         ⊎_elim (λ (e : x ≡ flash u). let b : x.born ≡ u.made = ap (λ (z : Signal). z.born) e in inr (omega arith)) (λ (old : In x u.flight). inl old) i
     appended Arrive u x i = inl (in_rest x u.flight i)
-
-    sent : (s : Step) (u : World) (x : Signal) (b : Bool) → In (x, b) (beacon.sent s u) → u.made ≤ x.born
-    sent Flash u x b i = ⊎_elim (λ (e : (x, b) ≡ (flash u, true)). let n : x.born ≡ u.made = ap (λ (z : Signal × Bool). z.0.born) e in omega arith) (λ (none : ⊥). absurd none) i
-    sent Arrive u x b i = absurd i
 
     arrived : (s : Step) (u : World) (x : Signal) → beacon.arrived s u ≡ Some x → In x u.flight
     arrived Flash u x e = absurd (cc)
@@ -213,7 +208,6 @@ mute_stamped : IsStamped mute
 mute_stamped = record {
   made = λ s u. made s u;
   appended = λ s u x q i. inl (mute_stays s u x i);
-  sent = λ s u x b q i. absurd i;
   arrived = λ s u x e. stamped.arrived s u x e;
 }
   where

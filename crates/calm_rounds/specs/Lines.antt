@@ -23,7 +23,7 @@ pub record Line (W S I K V : Type 0) : Type 1 where
   pub fires : S → W → Type 0
   pub lane : Option K
 
--- what has a cut with P has P: each cut of a value with P has P
+-- each cut of a value with P has P
 abbrev pub IsClosed : {V : Type 0} → (V → V → Type 0) → (V → Type 0) → Type 0
 IsClosed {V} below P = (v v0 : V) → below v v0 → P v0 → P v
 

@@ -68,6 +68,5 @@ module _ {W S I K : Type 0} (m : Machine W S I K) where
     pub made : (s : S) (u : W) → m.made u ≤ m.made (m.step s u)
     -- what is in flight was in flight before, or is not older than the step
     pub appended : (s : S) (u : W) (x : I) → m.quiet s ≡ true → In x (m.flight (m.step s u)) → In x (m.flight u) ⊎ (m.made u ≤ m.born x)
-    pub sent : (s : S) (u : W) (x : I) (b : Bool) → m.quiet s ≡ true → In (x, b) (m.sent s u) → m.made u ≤ m.born x
     -- what arrives was in flight
     pub arrived : (s : S) (u : W) (x : I) → m.arrived s u ≡ Some x → In x (m.flight u)
