@@ -1,0 +1,4 @@
+pub mod Holding
+pub mod Settling
+pub mod Renewing
+pub mod BeaconLaws
