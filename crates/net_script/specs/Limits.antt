@@ -1,4 +1,4 @@
--- What every script keeps, said of its values and not of its lines.
+-- Limits that every script keeps, said of its values and not of its lines.
 use Rattle.std.specs.Prelude.{◌≡◌, ℕ, ◌<◌, ◌≤◌, List, length, count_by, ◌==◌}
 use Rattle.std.specs.List.{All}
 use Rattle.admission_book.specs.Within.{IsWithin}

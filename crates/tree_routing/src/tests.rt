@@ -88,7 +88,7 @@ fn a_loop_across_trees(rt: HostRuntime) -> Result<(), Fail> {
         (C2, 0, 2, looped),
         // The refusal changed nothing: the hop is refused for the same reason.
         (C2, 0, 2, looped),
-        // The least hop on the loop is named, whichever hop closes it.
+        // Another hop can still be added.
         (B1, 3, 4, Ok(())),
     ] {
         if !net.has_room_for_hop() {
