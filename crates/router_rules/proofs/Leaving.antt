@@ -1,6 +1,8 @@
 -- What waiting, forgetting and settling leave.
-use Rattle.std.specs.Prelude.{◌≡◌, ℕ, ◌+◌, ◌<◌, ◌≤◌, nat_le, nat_lt, Bool, true, false, cond, not, ◌&&◌, is_some, Option, Some, None, refl}
-use Rattle.std.proofs.Common.{sym, ap, subst, ◌∙◌}
+use Rattle.std.specs.Prelude.{◌≡◌, ℕ, ◌+◌, ◌<◌, ◌≤◌, ◌==◌, nat_le, nat_lt, List, [], ◌∷◌, length, Bool, true, false, cond, not, ◌&&◌, is_some, Option, Some, None, refl}
+use Rattle.std.proofs.Common.{sym, ap, subst, ◌∙◌, arith}
+use Rattle.std.proofs.lemmas.Bool.Decides.{nat_tests}
+use Rattle.std.specs.FinMap.Entries.{find}
 use Rattle.std.proofs.lemmas.Bool.{ltb-true, lt-ltb, leb-true, le-leb}
 use Rattle.std.specs.Option.{unwrap_or}
 use Rattle.rsvp_base.specs.declared.part.Part.{Part}
@@ -145,8 +147,20 @@ left_nobody stays r none = ap (with_part r) (part_of_none (kept stays r.part.sen
         let one = one_name (kept stays r.part.senders) e in
         absurd (drop (has r.part.senders one.0) (stays one.0) (none one.0) (sym (has-kept senders stays r.part.senders one.0) ∙ one.1))
 
+-- a set with a member is not empty
+has_member : (rows : List (Sender × Unit {0})) (s : Sender) → is_some (find senders.cmp s rows) ≡ true → (length rows == 0) ≡ false
+has_member [] s e = cc
+has_member (r ∷ rs) s e = grind (arith, nat_tests)
+
+pub left_some : (stays : Sender → Bool) (r : ResvState) (s : Sender) → has r.part.senders s ≡ true → stays s ≡ true → (x : ResvState) × (left_of stays r ≡ Some x)
+left_some stays r s there keeps =
+    let member : has (kept stays r.part.senders) s ≡ true = has-kept senders stays r.part.senders s ∙ and_made _ _ there keeps in
+    let some : is_none (kept stays r.part.senders) ≡ false = has_member (kept stays r.part.senders).rows s member in
+    let part : Part = record { senders = kept stays r.part.senders; flow = r.part.flow } in
+    (record r { part = part }, ap (λ b. with_part r (cond b None (Some part))) some)
+
 pub left_by_names : LeftByNames
-left_by_names = record { told = left_told; whole = left_whole; nobody = left_nobody }
+left_by_names = record { told = left_told; some = left_some; whole = left_whole; nobody = left_nobody }
 
 -- ---- forgetting
 abbrev forgotten : Facts → Facts → StyleKind → Resvs → Resvs
@@ -174,6 +188,9 @@ forgetting_by_names =
       at = got_forget;
       lost = λ st before after s x. (lost_told st before after s x, λ r. and_made _ _ r.0 (ap not r.1));
       stays = λ before after st k r e named all. get-forget before after st k r e ∙ left_whole (λ x. not (is_lost st before after k.0 x)) r named (λ x h. ap not (all x h));
+      some = λ before after st k r s e there keeps.
+          let left = left_some (λ y. not (is_lost st before after k.0 y)) r s there (ap not keeps) in
+          (left.0, get-forget before after st k r e ∙ left.1, left_told (λ y. not (is_lost st before after k.0 y)) r left.0 left.1);
       goes = λ before after st k r e all. get-forget before after st k r e ∙ left_nobody (λ x. not (is_lost st before after k.0 x)) r (λ x h. ap not (all x h));
     }
 

@@ -12,6 +12,7 @@ use Rattle.rsvp_base.proofs.UnderLaws.{get-under}
 use Rattle.style_rules.specs.Toward.{Request}
 use Rattle.style_rules.specs.Toward.{toward as merged_toward}
 use Rattle.router_rules.specs.Act.{act}
+use Rattle.router_rules.specs.Flags.{entries_of}
 use Rattle.router_rules.specs.Facts.{Facts, Want, WantKey, want_keys, resvs_in, wants_in}
 use Rattle.router_rules.specs.Inputs.{Change}
 use Rattle.router_rules.specs.Known.{Lane}
@@ -66,6 +67,8 @@ rule_in_parts =
       resvs = λ old p c i f. refl;
       due = λ old p c i f. refl;
       wants = λ old p c i f key x. wants_of old p f (settled p c f (act p c i f).facts) (act p c i f) (is_silent i) key x;
+      marks = λ old p c i f e. ap (λ b. (spoken b old p f (settled p c f (act p c i f).facts) (act p c i f)).facts.wants) e;
+      quiet = λ old p c i f e. ap (λ b. (spoken b old p f (settled p c f (act p c i f).facts) (act p c i f)).facts.wants) e;
       heard = λ old p c i f. refl;
       loud = λ old p c i f e. ap (λ b. (spoken b old p f (settled p c f (act p c i f).facts) (act p c i f)).sent) e;
       silent = λ old p c i f e. ap (λ b. (spoken b old p f (settled p c f (act p c i f).facts) (act p c i f)).sent) e;
@@ -73,7 +76,7 @@ rule_in_parts =
     }
 
 pub fronts_are_the_rule : FrontsAreTheRule
-unfolding facts_after sent_after heard_after refusal_of_call facts_with refusal_of_stale
+unfolding facts_after sent_after heard_after refusal_of_call facts_with refusal_of_stale entries_of
 fronts_are_the_rule =
     record {
       facts = λ old p c i f. refl;
@@ -82,4 +85,5 @@ fronts_are_the_rule =
       call = λ p l f. refl;
       left = λ p c i f. refl;
       stale = λ p i f. refl;
+      entries = λ p f i. refl;
     }

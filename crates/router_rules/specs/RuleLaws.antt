@@ -1,5 +1,5 @@
 -- What the rule leaves, table by table: the claims of the public laws on waiting, forgetting, countdowns, Resvs and errors.
-use Rattle.std.specs.Prelude.{◌≡◌, ℕ, ◌+◌, ◌<◌, ◌≤◌, ◌⊎◌, ◌↔◌, Bool, true, false, cond, List, [], Option, Some, None}
+use Rattle.std.specs.Prelude.{◌≡◌, not, ℕ, ◌+◌, ◌<◌, ◌≤◌, ◌⊎◌, ◌↔◌, Bool, true, false, cond, List, [], Option, Some, None}
 use Rattle.std.specs.Option.{unwrap_or}
 use Rattle.admission_book.specs.declared.refused.Refused.{Refused}
 use Rattle.rsvp_base.specs.declared.addr.Addr.{Addr}
@@ -10,7 +10,7 @@ use Rattle.rsvp_base.specs.declared.style.StyleKind.{StyleKind}
 use Rattle.rsvp_base.specs.declared.style.Unit.{Unit as UnitOf}
 use Rattle.rsvp_base.specs.Members.{In}
 use Rattle.rsvp_base.specs.Orders.{Names}
-use Rattle.rsvp_base.specs.Table.{get, has, kept}
+use Rattle.rsvp_base.specs.Table.{get, has, kept, changed}
 use Rattle.rsvp_base.specs.TokenBucket.{TokenBucket}
 use Rattle.rsvp_messages.specs.declared.message.ResvErrMsg.{ResvErrMsg}
 use Rattle.rsvp_messages.specs.Units.{AskedUnit}
@@ -27,8 +27,9 @@ use Rattle.router_rules.specs.Known.{Lane, known, named_as}
 use Rattle.router_rules.specs.Place.{Place, period}
 use Rattle.router_rules.specs.Requests.{toward}
 use Rattle.router_rules.specs.Rule.{facts_after, facts_with, heard_after, is_silent, refusal_of_call, refusal_of_stale, rule, sent_after, settled}
-use Rattle.router_rules.specs.Sends.{sends}
+use Rattle.router_rules.specs.Sends.{sends, unmarked, used_marks}
 use Rattle.router_rules.specs.Waiting.{act_wait, next_due}
+use Rattle.router_rules.specs.Flags.{entries_of, entries_at}
 
 -- ---- one table of reservations for each style
 pub record TablesByStyle : Type 0 where
@@ -54,6 +55,8 @@ pub record IsLeft (stays : Sender → Bool) (r x : ResvState) : Type 0 where
 
 pub record LeftByNames : Type 0 where
   pub told : (stays : Sender → Bool) (r x : ResvState) → left_of stays r ≡ Some x → IsLeft stays r x
+  -- something is left where one name stays
+  pub some : (stays : Sender → Bool) (r : ResvState) (s : Sender) → has r.part.senders s ≡ true → stays s ≡ true → (x : ResvState) × (left_of stays r ≡ Some x)
   pub whole : (stays : Sender → Bool) (r : ResvState) → has_name r.part ≡ true → ((s : Sender) → has r.part.senders s ≡ true → stays s ≡ true) → left_of stays r ≡ Some r
   pub nobody : (stays : Sender → Bool) (r : ResvState) → ((s : Sender) → has r.part.senders s ≡ true → stays s ≡ false) → left_of stays r ≡ None
 
@@ -64,6 +67,9 @@ pub record ForgettingByNames : Type 0 where
   -- a reservation that loses no name stays as it is
   pub stays : (before after : Facts) (st : StyleKind) (k : LineKey) (r : ResvState) → get (resvs_of st after) k ≡ Some r → has_name r.part ≡ true → ((x : Sender) → has r.part.senders x ≡ true → is_lost st before after k.0 x ≡ false)
       → get (resvs_of st (forget before after)) k ≡ Some r
+  -- one that keeps a name stays with the names that it keeps
+  pub some : (before after : Facts) (st : StyleKind) (k : LineKey) (r : ResvState) (s : Sender) → get (resvs_of st after) k ≡ Some r → has r.part.senders s ≡ true → is_lost st before after k.0 s ≡ false
+      → (x : ResvState) × (get (resvs_of st (forget before after)) k ≡ Some x) × IsLeft (λ y. not (is_lost st before after k.0 y)) r x
   -- and one that loses all goes
   pub goes : (before after : Facts) (st : StyleKind) (k : LineKey) (r : ResvState) → get (resvs_of st after) k ≡ Some r → ((x : Sender) → has r.part.senders x ≡ true → is_lost st before after k.0 x ≡ true)
       → get (resvs_of st (forget before after)) k ≡ None
@@ -134,6 +140,9 @@ pub record RuleInParts : Type 0 where
   pub resvs : (old p : Place) (c : ℕ) (i : Input) (f : Facts) → (rule old p c i f).facts.resvs ≡ (forget f (act p c i f).facts).resvs
   pub due : (old p : Place) (c : ℕ) (i : Input) (f : Facts) → (rule old p c i f).facts.due ≡ (settle p c (act p c i f).facts).due
   pub wants : (old p : Place) (c : ℕ) (i : Input) (f : Facts) (k : WantKey) (x : Want) → get (rule old p c i f).facts.wants k ≡ Some x → (w : Want) × (get (act p c i f).facts.wants k ≡ Some w) × IsWant w x
+  -- each want is still there, its mark used where a request that holds it was sent for a change
+  pub marks : (old p : Place) (c : ℕ) (i : Input) (f : Facts) → is_silent i ≡ false → (rule old p c i f).facts.wants ≡ changed (unmarked (used_marks old p f (settled p c f (act p c i f).facts) (act p c i f).asked)) (act p c i f).facts.wants
+  pub quiet : (old p : Place) (c : ℕ) (i : Input) (f : Facts) → is_silent i ≡ true → (rule old p c i f).facts.wants ≡ (act p c i f).facts.wants
   pub heard : (old p : Place) (c : ℕ) (i : Input) (f : Facts) → (rule old p c i f).heard ≡ (act p c i f).heard
   pub loud : (old p : Place) (c : ℕ) (i : Input) (f : Facts) → is_silent i ≡ false → (rule old p c i f).sent ≡ sends old p f (settled p c f (act p c i f).facts) (act p c i f)
   pub silent : (old p : Place) (c : ℕ) (i : Input) (f : Facts) → is_silent i ≡ true → (rule old p c i f).sent ≡ []
@@ -148,3 +157,4 @@ pub record FrontsAreTheRule : Type 0 where
   pub call : (p : Place) (l : Local) (f : Facts) → refusal_of_call p l f ≡ call_refusal p l f
   pub left : (p : Place) (c : ℕ) (i : Stale) (f : Facts) → facts_with p c i f ≡ settled p c f (act_stale p i f)
   pub stale : (p : Place) (i : Stale) (f : Facts) → refusal_of_stale p i f ≡ stale_refusal p i f
+  pub entries : (p : Place) (f : Facts) (i : ℕ) → entries_of p f i ≡ entries_at p f i

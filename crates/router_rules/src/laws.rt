@@ -1,5 +1,5 @@
-//! The laws of the definitions: what the tests tell, what is found where, and what is sent. With them nothing above opens
-//! a definition. The lemmas behind them stand in `proofs/`.
+//! Laws of the definitions: what the tests tell, what is found where, and what is sent, so that proofs above need not open
+//! these definitions. The lemmas behind them stand in `proofs/`.
 ghost use Rattle.router_rules.specs.FactLaws.{TestsTell, KnownAndVia, OffersByWay, RequestsAndToward, BooksAndLines, RoomTells};
 ghost use Rattle.router_rules.specs.RuleLaws.{TablesByStyle, WaitingLeavesTheLiving, LeftByNames, ForgettingByNames, CountdownsSettle, UnitsOneByOne, ErrorsAndWalls, RuleInParts, FrontsAreTheRule};
 ghost use Rattle.router_rules.specs.SendLaws.{SendsAreOfSixKinds};
