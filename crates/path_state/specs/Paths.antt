@@ -1,10 +1,10 @@
 -- The paths that a node knows.
-use Rattle.std.specs.Prelude.{◌==◌, ◌&&◌, ◌-◌, cond, nat_le, map as each, ℕ, Bool, List, Option, Some, None, refl}
+use Rattle.std.specs.Prelude.{◌≡◌, ◌==◌, ◌&&◌, ◌-◌, cond, nat_le, map as each, ℕ, Bool, List, Option, Some, None, refl}
 use Rattle.std.specs.Coded.{Coded, code_by, coded×, coded_ℕ}
 use Rattle.std.specs.List.{filter}
 use Rattle.rsvp_base.specs.Keys.{Keys, pairs}
 use Rattle.rsvp_base.specs.Orders.{sessions, senders, Names, names_from, sender_code}
-use Rattle.rsvp_base.specs.Table.{Table, table_code}
+use Rattle.rsvp_base.specs.Table.{Table, get, table_code}
 use Rattle.rsvp_base.specs.Under.{under}
 use Rattle.rsvp_base.specs.declared.addr.Addr.{Addr}
 use Rattle.rsvp_base.specs.declared.session.Sender.{Sender}
@@ -23,6 +23,10 @@ path_key f = (f.session, f.sender)
 pub record PathMap : Type 0 where
   pub facts : Table path_keys (PathFact × ℕ)
   pub dead : Table path_keys PathFact
+
+-- each fact stands under its own session and sender
+abbrev pub AreByKey : Table path_keys (PathFact × ℕ) → Type 0
+AreByKey m = (k : Session × Sender) (e : PathFact × ℕ) → get m k ≡ Some e → path_key e.0 ≡ k
 
 abbrev pub fact_row : PathFact × ℕ → (Session × Sender) × (PathFact × ℕ)
 fact_row e = (path_key e.0, e)

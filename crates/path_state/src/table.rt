@@ -7,7 +7,7 @@ ghost use Rattle.rsvp_base.specs.Sets.{with_key};
 ghost use Rattle.rsvp_base.specs.SessionLimits.{has_room_at, IsWithinSessionLimits};
 ghost use Rattle.rsvp_base.specs.Table.{empty, get, put_in, size, without, changed};
 ghost use Rattle.rsvp_base.specs.Under.{under};
-ghost use Rattle.path_state.specs.Paths.{path_keys, fact_row, dead_row, comes_by, via, later, dead_after};
+ghost use Rattle.path_state.specs.Paths.{AreByKey, path_keys, fact_row, dead_row, comes_by, via, later, dead_after};
 
 use crate::fact::PathFact;
 use rsvp_base::{Addr, Full, NoMemory, Sender, Senders, Session};
@@ -94,7 +94,10 @@ impl PathTable {
 
     /// The fact of a session and sender. `None` exactly where there is none.
     pub fn find(&self, session: Session, sender: Sender) -> Option<PathFact>
-        ensures { result ≡ option_map (λ e. e.0) (get self.now.facts (session, sender)) }
+        ensures fact { result ≡ option_map (λ e. e.0) (get self.now.facts (session, sender)) }
+        // What holds of every table.
+        ensures keyed { AreByKey self.now.facts }
+        ensures within { IsWithinSessionLimits senders self.now.facts }
     {
         self.table.find(session, sender).copied()
     }
