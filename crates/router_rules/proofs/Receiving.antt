@@ -7,7 +7,8 @@ use Rattle.rsvp_base.specs.declared.style.StyleKind.{StyleKind}
 use Rattle.rsvp_base.specs.declared.style.StyleKind.TheVariants.{Wild, Fixed, Shared}
 use Rattle.rsvp_base.specs.Keys.{pairs}
 use Rattle.rsvp_base.specs.Members.{In}
-use Rattle.rsvp_base.specs.Orders.{senders, sessions, units}
+use Rattle.rsvp_base.specs.Orders.{Names, senders, sessions, units}
+use Rattle.rsvp_base.specs.declared.session.Session.{Session}
 use Rattle.rsvp_base.specs.SessionLimits.{has_room_at}
 use Rattle.rsvp_base.specs.Table.{empty, get, put_in, with_rows}
 use Rattle.rsvp_base.specs.TokenBucket.{TokenBucket}
@@ -87,6 +88,11 @@ module _ (e : ℕ) (m : ResvTearMsg) where
       by None = refl
       by (Some r) = ap (λ b. cond b (left_of (stays (tear_names m.tear)) r) (Some r)) h
 
+tear_own : (s : Session) (hop : NextHop) (names : Option Names) (t : Resvs) (k : LineKey) (r : ResvState) (b : Bool) → b ≡ true → is_of_hop s hop k ≡ true → get t k ≡ Some r → get (torn_resvs b s hop names t) k ≡ left_of (stays names) r
+tear_own s hop names t k r false e h g = cc
+tear_own s hop names t k r true e h g =
+    get-changed line_keys (torn_resv s hop names) t k ∙ ap (λ w. then_do w (torn_resv s hop names k)) g ∙ ap (λ b. cond b (left_of (stays names) r) (Some r)) h
+
 tear_none : (e : ℕ) (m : ResvTearMsg) (f : Facts) → names_one m.session (e, m.hop.addr) (tear_names m.tear) (resvs_of (tear_style m.tear) f) ≡ false → act_resv_tear e m f ≡ only_heard (heard.Dropped why.NoState) f
 tear_none e m f h =
     ap (λ (b : Bool). only_heard (cond b heard.Taken (heard.Dropped why.NoState)) (with_resvs (tear_style m.tear) (torn_resvs b m.session (e, m.hop.addr) (tear_names m.tear) (resvs_of (tear_style m.tear) f)) f)) h
@@ -96,6 +102,9 @@ pub resv_tears_by_names : ResvTearsByNames
 resv_tears_by_names =
     record {
       none = tear_none;
+      own = λ e m f k r found h g. ap (λ (t : Resvs). get t k) (torn_table e m f) ∙ tear_own m.session (e, m.hop.addr) (tear_names m.tear) (resvs_of (tear_style m.tear) f) k r _ found h g;
+      taken = λ e m f found. ap (λ (b : Bool). cond b heard.Taken (heard.Dropped why.NoState)) found;
+      rest = λ e m f. refl;
       source = λ e m f k x h. torn_source e m (resvs_of (tear_style m.tear) f) k x _ (ap (λ (t : Resvs). get t k) (sym (torn_table e m f)) ∙ h);
       others = λ e m f k h. ap (λ (t : Resvs). get t k) (torn_table e m f) ∙ torn_other e m (resvs_of (tear_style m.tear) f) k _ h;
     }

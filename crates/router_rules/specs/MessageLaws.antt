@@ -20,7 +20,7 @@ use Rattle.style_rules.specs.Merge.{PartTable}
 use Rattle.style_rules.specs.Parts.{IsOfStyle, part_unit}
 use Rattle.router_rules.specs.declared.answers.Heard.TheVariants as heard
 use Rattle.router_rules.specs.declared.answers.Why.TheVariants as why
-use Rattle.router_rules.specs.Asking.{act_resv_tear, ask_of, is_of_hop, names_one, stays}
+use Rattle.router_rules.specs.Asking.{act_resv_tear, ask_of, is_of_hop, left_of, names_one, stays}
 use Rattle.router_rules.specs.Bounds.{IsWithinBounds}
 use Rattle.router_rules.specs.Confirming.{confs_on, is_wish, speaks_of}
 use Rattle.router_rules.specs.Facts.{Facts, PathState, ResvState, no_facts, resvs_of}
@@ -49,6 +49,12 @@ pub record PathsByTests : Type 0 where
 -- ---- a ResvTear takes its names from the reservations of its hop, and changes no other
 pub record ResvTearsByNames : Type 0 where
   pub none : (e : ℕ) (m : ResvTearMsg) (f : Facts) → names_one m.session (e, m.hop.addr) (tear_names m.tear) (resvs_of (tear_style m.tear) f) ≡ false → act_resv_tear e m f ≡ only_heard (heard.Dropped why.NoState) f
+  -- where a name is found, each reservation of the hop keeps the names that stay
+  pub own : (e : ℕ) (m : ResvTearMsg) (f : Facts) (k : LineKey) (r : ResvState) → names_one m.session (e, m.hop.addr) (tear_names m.tear) (resvs_of (tear_style m.tear) f) ≡ true → is_of_hop m.session (e, m.hop.addr) k ≡ true
+      → get (resvs_of (tear_style m.tear) f) k ≡ Some r → get (resvs_of (tear_style m.tear) (act_resv_tear e m f).facts) k ≡ left_of (stays (tear_names m.tear)) r
+  pub taken : (e : ℕ) (m : ResvTearMsg) (f : Facts) → names_one m.session (e, m.hop.addr) (tear_names m.tear) (resvs_of (tear_style m.tear) f) ≡ true → (act_resv_tear e m f).heard ≡ heard.Taken
+  -- all else stays as it was
+  pub rest : (e : ℕ) (m : ResvTearMsg) (f : Facts) → record (act_resv_tear e m f).facts { resvs = f.resvs } ≡ f
   pub source : (e : ℕ) (m : ResvTearMsg) (f : Facts) (k : LineKey) (x : ResvState) → get (resvs_of (tear_style m.tear) (act_resv_tear e m f).facts) k ≡ Some x
       → (r : ResvState) × (get (resvs_of (tear_style m.tear) f) k ≡ Some r) × ((x ≡ r) ⊎ IsLeft (stays (tear_names m.tear)) r x)
   pub others : (e : ℕ) (m : ResvTearMsg) (f : Facts) (k : LineKey) → is_of_hop m.session (e, m.hop.addr) k ≡ false → get (resvs_of (tear_style m.tear) (act_resv_tear e m f).facts) k ≡ get (resvs_of (tear_style m.tear) f) k

@@ -79,7 +79,7 @@ pub fn units_one_by_one()
     ensures { UnitsOneByOne }
 {}
 
-/// An error goes on to reservations that it speaks of; a blockade was there, or an error set it.
+/// An error goes on to nobody but next hops of reservations that it speaks of; a blockade was there, or an error set it.
 #[tactic(auto, using(crate::proofs::Telling::errors_and_walls))]
 pub fn errors_and_walls()
     ensures { ErrorsAndWalls }
@@ -98,7 +98,7 @@ pub fn fronts_are_the_rule()
 {}
 
 /// Each send is a tear of what is gone, an error, a confirmation, or an offer or request that is new or due; and each of
-/// these is sent.
+/// these is sent. In which order is not told.
 #[tactic(auto, using(crate::proofs::Sending::sends_are_of_six_kinds))]
 pub fn sends_are_of_six_kinds()
     ensures { SendsAreOfSixKinds }
@@ -111,13 +111,13 @@ pub fn paths_by_tests()
     ensures { PathsByTests }
 {}
 
-/// A ResvTear takes its names from the reservations of its hop, and changes no other.
+/// A ResvTear takes its names from the reservations of its hop, where it finds one of them, and changes nothing else.
 #[tactic(auto, using(crate::proofs::Receiving::resv_tears_by_names))]
 pub fn resv_tears_by_names()
     ensures { ResvTearsByNames }
 {}
 
-/// A ResvConf goes on to next hops that wanted to hear of a reservation that it speaks of.
+/// A ResvConf goes on to nobody but next hops that wanted to hear of a reservation that it speaks of.
 #[tactic(auto, using(crate::proofs::Receiving::confirmations_by_wish))]
 pub fn confirmations_by_wish()
     ensures { ConfirmationsByWish }
