@@ -14,7 +14,7 @@ use Rattle.tree_laws.specs.declared.hops.TreeHop.{TreeHop}
 use Rattle.tree_laws.specs.Networks.{Net, node_of, node_of_end, ends_from, ends_of, owner, among, link_of, peers}
 use Rattle.tree_laws.specs.Trees.{of_group, of_tree, tree, hops_of, is_linked, Grows, IsGrownFrom, IsGrown}
 use Rattle.tree_laws.specs.Ranks.{followers, IsLoopFree, IsLoopFreeIn}
-use Rattle.tree_laws.specs.Valid.{IsValid}
+use Rattle.tree_laws.specs.Valid.{AreRising, IsValid}
 use Rattle.tree_laws.proofs.Following.{same_number, number_same, addr_same, in_tree, to_tree, in_group, to_group, follower_follows, follows_follower}
 use Rattle.tree_laws.proofs.TreeLaws.{Leads, from_leads, reached_told, reached_tested, true_false}
 use Rattle.tree_laws.proofs.Links.{among_in, in_among, of_own_link, linked_from}
@@ -88,6 +88,8 @@ valid_node net valid lt =
       linked = valid.linked;
       nodes_apart = valid.nodes_apart;
       ends_of_links = valid.ends_of_links;
+      rising = valid.rising;
+      apart = valid.apart;
       one_link = valid.one_link;
       grown = λ g s. grown_over net (with_node net) (λ h e. record { linked = e; from = refl; to = refl; link = refl }) s (tree net.hops g s) (λ n e. e) (valid.grown g s);
       loop_free = valid.loop_free;
@@ -177,6 +179,8 @@ module _ (net : Net) (valid : IsValid net) (e : End) (takes : TakesEnd net e) wh
         nodes_apart = λ l a b i j k same.
             valid.nodes_apart l a b i j k (sym (ap node_of_end (got_left net.ends (e ∷ []) a (valid.ends_of_links l a i j))) ∙ same ∙ ap node_of_end (got_left net.ends (e ∷ []) b (valid.ends_of_links l b i k)));
         ends_of_links = λ l x i j. let lt = valid.ends_of_links l x i j in let size = length-append net.ends (e ∷ []) in omega arith;
+        rising = valid.rising;
+        apart = valid.apart;
         one_link = valid.one_link;
         grown = λ g s. grown_over net (with_end net e) same_end s (tree net.hops g s) (owner_more net.ends e s) (valid.grown g s);
         loop_free = λ g. free_over net (with_end net e) same_end g refl (valid.grown g) (valid.loop_free g);
@@ -220,6 +224,23 @@ order_has a b x i = by (nat_lt a b) i
     by false (inr (inl e)) = inl e
     by false (inr (inr k)) = absurd k
 
+order_rises : (a b : ℕ) → (a ≡ b → ⊥) → AreRising (in_order a b)
+order_rises a b ne = by (nat_lt a b) refl
+  where
+    by : (t : Bool) → nat_lt a b ≡ t → AreRising (if t then a ∷ b ∷ [] else b ∷ a ∷ [])
+    by true e = (let z : a < b = grind (arith, e) in z, tt)
+    by false e = (let le : b ≤ a = grind (arith, e) in let z : b < a = omega (arith, le, ne) in z, tt)
+
+-- an end of a link that stands somewhere is in a link
+linked_somewhere : (links : List (List ℕ)) (l : List ℕ) (e : ℕ) → In l links → In e l → link_of links e ≡ [] → ⊥
+linked_somewhere [] l e i j none = i
+linked_somewhere (x ∷ xs) l e i j none = by (among e x) refl none i (λ k. linked_somewhere xs l e k j)
+  where
+    by : (t : Bool) → among e x ≡ t → (if t then x else link_of xs e) ≡ [] → (l ≡ x) ⊎ In l xs → (In l xs → link_of xs e ≡ [] → ⊥) → ⊥
+    by true t none i rest = subst (λ (m : List ℕ). In e m) none (among_in e x t)
+    by false t none (inl s) rest = true_false _ (in_among e x (subst (λ (m : List ℕ). In e m) s j)) t
+    by false t none (inr k) rest = rest k none
+
 some_or_none : (l : List ℕ) → (l ≡ []) ⊎ ((x : ℕ) × In x l)
 some_or_none [] = inl refl
 some_or_none (x ∷ xs) = inr (x, inl refl)
@@ -233,6 +254,21 @@ module _ (net : Net) (valid : IsValid net) (a b : ℕ) (takes : TakesLink net a 
 
   free_of : (x : ℕ) → In x l → link_of net.links x ≡ []
   free_of x i = ⊎_elim (λ (e : x ≡ a). ap (link_of net.links) e ∙ takes.one_free) (λ (e : x ≡ b). ap (link_of net.links) e ∙ takes.other_free) (order_has a b x i)
+
+  two : a ≡ b → ⊥
+  two e = takes.nodes (ap (node_of net.ends) e)
+
+  share_none : (i j : ℕ) (x y : List ℕ) (e : ℕ) → slice_get (net.links ++ l ∷ []) i ≡ Some x → slice_get (net.links ++ l ∷ []) j ≡ Some y → In e x → In e y → i ≡ j
+  share_none i j x y e p q u v = by (got_append net.links l i x p) (got_append net.links l j y q)
+    where
+      new_only : (k : ℕ) (m o : List ℕ) → slice_get net.links k ≡ Some m → In e m → o ≡ l → In e o → ⊥
+      new_only k m o g w s t = linked_somewhere net.links m e (got_in net.links k m g) w (free_of e (subst (λ (z : List ℕ). In e z) s t))
+
+      by : (slice_get net.links i ≡ Some x) ⊎ ((i ≡ length net.links) × (x ≡ l)) → (slice_get net.links j ≡ Some y) ⊎ ((j ≡ length net.links) × (y ≡ l)) → i ≡ j
+      by (inl c) (inl d) = valid.apart i j x y e c d u v
+      by (inl c) (inr d) = absurd (new_only i x y c u d.1 v)
+      by (inr c) (inl d) = absurd (new_only j y x d v c.1 u)
+      by (inr c) (inr d) = c.0 ∙ sym d.0
 
   new_link : (x : ℕ) → In x l → link_of (net.links ++ l ∷ []) x ≡ l
   new_link x i = link_new net.links l x (free_of x i) long ∙ ap (λ (t : Bool). if t then l else []) (in_among x l i)
@@ -274,6 +310,8 @@ module _ (net : Net) (valid : IsValid net) (a b : ℕ) (takes : TakesLink net a 
             ⊎_elim (λ (o : In x net.links). valid.nodes_apart x c d o j k same)
             (λ (o : In x (l ∷ [])). ⊎_elim (λ (e : x ≡ l). apart c d (order_has a b c (subst (λ (m : List ℕ). In c m) e j)) (order_has a b d (subst (λ (m : List ℕ). In d m) e k)) same) (λ (n : ⊥). absurd n) o) (in_append x net.links (l ∷ []) i);
         ends_of_links = λ x y i j. ⊎_elim (λ (k : In x net.links). valid.ends_of_links x y k j) (λ (k : In x (l ∷ [])). ⊎_elim (λ (e : x ≡ l). inside y (subst (λ (m : List ℕ). In y m) e j)) (λ (o : ⊥). absurd o) k) (in_append x net.links (l ∷ []) i);
+        rising = λ x i. ⊎_elim (λ (j : In x net.links). valid.rising x j) (λ (j : In x (l ∷ [])). ⊎_elim (λ (e : x ≡ l). subst AreRising (sym e) (order_rises a b two)) (λ (k : ⊥). absurd k) j) (in_append x net.links (l ∷ []) i);
+        apart = share_none;
         one_link = one_link;
         grown = λ g s. grown_over net (with_link net a b) same_link s (tree net.hops g s) (λ n e. e) (valid.grown g s);
         loop_free = λ g. free_over net (with_link net a b) same_link g refl (valid.grown g) (valid.loop_free g);
@@ -376,6 +414,8 @@ module _ (net : Net) (valid : IsValid net) (r : TreeHop) (room : length net.hops
         linked = valid.linked;
         nodes_apart = valid.nodes_apart;
         ends_of_links = valid.ends_of_links;
+        rising = valid.rising;
+        apart = valid.apart;
         one_link = valid.one_link;
         grown = grown_more;
         loop_free = free_more;
