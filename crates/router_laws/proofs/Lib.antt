@@ -1,1 +1,4 @@
+pub mod Framing
 pub mod Learning
+pub mod Counting
+pub mod Speaking

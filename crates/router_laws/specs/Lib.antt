@@ -1,2 +1,5 @@
 pub mod Steps
+pub mod FrameLaws
 pub mod PathLaws
+pub mod CountdownLaws
+pub mod SpeakingLaws
