@@ -1,0 +1,10 @@
+pub mod Worlds
+pub mod Links
+pub mod Steps
+pub mod Events
+pub mod Texts
+pub mod Runs
+pub mod Locals
+pub mod Sound
+pub mod Bounds
+pub mod Rows

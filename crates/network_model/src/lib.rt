@@ -1,0 +1,4 @@
+//! A network of routers: its worlds, its steps, and the run of a script, as definitions.
+#![tactic(auto)]
+
+pub mod rows;
