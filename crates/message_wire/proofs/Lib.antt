@@ -1,0 +1,5 @@
+pub mod Gathered
+pub mod Standing
+pub mod Hinted
+pub mod OneAnswer
+pub mod Lists

@@ -1,0 +1,22 @@
+use Rattle.std.proofs.Common.{◌≡◌, [], ◌∷◌, ◌++◌, Ok, sym, ap, subst, ◌∙◌}
+use Rattle.message_wire.specs.declared.seen.Seen.{Seen}
+use Rattle.message_wire.specs.Said.{with_object}
+use Rattle.message_wire.specs.Places.{object_in}
+use Rattle.message_wire.proofs.Gathered.{seen_more}
+use Rattle.message_wire.proofs.Standing.{stand_more}
+use Rattle.message_wire.proofs.reading.walk.Goals as goal
+
+pub loop-at-preserved : goal.loop-at-preserved
+loop-at-preserved c =
+    let far = c.loop-at.invariant.so_far in
+    let x = c.in_ok-object.object in
+    let next = c.in_ok-object.next in
+    let here = subst (λ (s : Seen). object_in c.args.kind s c.loop-at.at c.args.bytes.now ≡ Ok (x, next)) far.2 (sym c.in_ok-object.ensures.is) in
+    record {
+      inside = c.in_ok-object.ensures.bounds.1;
+      so_far = (
+        far.0 ++ x ∷ [],
+        stand_more c.args.kind c.args.bytes.now [] 8 far.0 c.loop-at.at x next far.1 here,
+        c.add.ensures ∙ ap (λ (s : Seen). with_object s x) far.2 ∙ sym (seen_more far.0 x),
+      );
+    }

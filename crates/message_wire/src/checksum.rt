@@ -1,0 +1,45 @@
+//! The checksum of a message (RFC 2205, 3.1.1).
+ghost use Rattle.std.specs.Prelude.{◌≡◌, ◌≤◌, length};
+ghost use Rattle.message_wire.specs.Sum.{plus, ones_sum, is_right};
+
+use byteorder::{BigEndian, ByteOrder};
+
+// Where the checksum stands in the header.
+const CHECKSUM: usize = 2;
+
+// All bits of a 16-bit word.
+const ONES: u32 = 0xffff;
+
+/// The one's complement sum of the 16-bit words of bytes, at most 65,535.
+pub fn ones_sum(bytes: &[u8]) -> u32
+    ensures is { result ≡ ones_sum bytes.now }
+    ensures word { result ≤ 65535 }
+{
+    let mut rest = bytes;
+    let mut sum = 0;
+    while rest.len() >= 2 {
+        sum = plus(sum, BigEndian::read_u16(rest) as u32);
+        rest = &rest[2..];
+    }
+    if rest.is_empty() {
+        return sum;
+    }
+    plus(sum, rest[0] as u32 * 256)
+}
+
+fn plus(x: u32, y: u32) -> u32
+    requires x { x ≤ 65535 }
+    requires y { y ≤ 65535 }
+    ensures is { result ≡ plus x y }
+    ensures word { result ≤ 65535 }
+{
+    (x + y) % 65536 + (x + y) / 65536
+}
+
+/// Whether no checksum was sent, or the right one.
+pub fn is_right(bytes: &[u8]) -> bool
+    requires { 8 ≤ length bytes.now }
+    ensures { result ≡ is_right bytes.now }
+{
+    BigEndian::read_u16(&bytes[CHECKSUM..]) == 0 || ones_sum(bytes) == ONES
+}

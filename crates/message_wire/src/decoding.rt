@@ -1,0 +1,103 @@
+//! Reading messages.
+ghost use Rattle.std.specs.Prelude.{◌≡◌, ◌≤◌, length, IfOk, IfErr, Ok, Err};
+ghost use Rattle.rsvp_messages.specs.declared.fault.MsgErr.{MsgErr as AnError};
+ghost use Rattle.rsvp_messages.specs.declared.message.Message.{Message as AMessage};
+ghost use Rattle.rsvp_messages.specs.Proper.{IsProper};
+ghost use Rattle.message_wire.specs.Spells.{kind_with, header_of, Says, Fails, Spells, IsFirstFault};
+
+use crate::checksum::is_right;
+use crate::hinting::{hint, no_hint};
+use crate::making::message;
+use crate::reading::{HEADER, walk};
+use byteorder::{BigEndian, ByteOrder};
+use rsvp_messages::{Fault, Kind, Message, MsgErr};
+
+// Where the fields of the common header stand (RFC 2205, 3.1.1).
+const VERSION: usize = 0;
+
+const KIND: usize = 1;
+
+const LENGTH: usize = 6;
+
+// The most bytes that a message may have.
+const MOST_BYTES: usize = 4096;
+
+/// The message that bytes spell (RFC 2205, 3.1). Else their first fault, with the kind of the message where the header told
+/// one, and what could be read.
+pub fn decode(bytes: &[u8]) -> Result<Message, MsgErr>
+    ensures ok { IfOk result (Spells bytes.now) }
+    ensures err { IfErr result (IsFirstFault bytes.now) }
+    ensures only { (v : AMessage) → Spells bytes.now v → result ≡ Ok v }
+    ensures first { (e : AnError) → IsFirstFault bytes.now e → result ≡ Err e }
+{
+    let kind = match header(bytes) {
+        Ok(kind) => kind,
+        Err(fault) => {
+            return Err(MsgErr {
+                fault,
+                kind: None,
+                hint: no_hint(),
+            })
+        }
+    };
+    match objects(kind, bytes) {
+        Ok(message) => Ok(message),
+        Err(fault) => Err(MsgErr {
+            fault,
+            kind: Some(kind),
+            hint: hint(bytes),
+        }),
+    }
+}
+
+// The message that the bytes behind the header make, or their first fault.
+fn objects(kind: Kind, bytes: &[u8]) -> Result<Message, Fault>
+    requires long { 8 ≤ length bytes.now }
+    requires short { length bytes.now ≤ 65535 }
+    ensures ok { IfOk result (Says kind bytes.now) }
+    ensures err { IfErr result (Fails kind bytes.now) }
+{
+    let seen = walk(kind, bytes)?;
+    message(kind, seen)
+}
+
+// The kind that the header names, or the header's first fault.
+#[tactic(auto, unfolding(crate::specs::Spells::header_of))]
+fn header(bytes: &[u8]) -> Result<Kind, Fault>
+    ensures is { result ≡ header_of bytes.now }
+    ensures long { IfOk result (λ _. 8 ≤ length bytes.now) }
+    ensures short { IfOk result (λ _. length bytes.now ≤ 4096) }
+{
+    if bytes.len() > MOST_BYTES {
+        return Err(Fault::TooLong);
+    }
+    if bytes.len() < HEADER {
+        return Err(Fault::Short);
+    }
+    if bytes[VERSION] / 16 != 1 {
+        return Err(Fault::Version);
+    }
+    if BigEndian::read_u16(&bytes[LENGTH..]) as usize != bytes.len() {
+        return Err(Fault::Length);
+    }
+    if !is_right(bytes) {
+        return Err(Fault::Checksum);
+    }
+    kind_with(bytes[KIND])
+}
+
+// The kind with a message type.
+fn kind_with(number: u8) -> Result<Kind, Fault>
+    ensures { result ≡ kind_with number }
+{
+    match number {
+        1 => Ok(Kind::Path),
+        2 => Ok(Kind::Resv),
+        3 => Ok(Kind::PathErr),
+        4 => Ok(Kind::ResvErr),
+        5 => Ok(Kind::PathTear),
+        6 => Ok(Kind::ResvTear),
+        7 => Ok(Kind::ResvConf),
+        _ => Err(Fault::Kind),
+    }
+}

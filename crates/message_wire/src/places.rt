@@ -1,0 +1,136 @@
+//! Where objects may stand in messages.
+ghost use Rattle.std.specs.Prelude.{◌≡◌};
+ghost use Rattle.message_wire.specs.Places.{has_no_filter, list_place, error_place, tear_place, place_after_style, has_place, stood, is_repeated, name_fault};
+
+use crate::role::Role;
+use crate::seen::Seen;
+use crate::table::{class, is_anywhere, role};
+use rsvp_base::StyleKind;
+use rsvp_messages::{Fault, Kind};
+use rsvp_objects::{ObjErr, Object};
+
+/// Whether an object of this class may stand behind those that were seen.
+#[tactic(auto, unfolding(crate::specs::Places::has_place))]
+pub fn has_place(kind: Kind, seen: &Seen, number: u8) -> bool
+    ensures { result ≡ has_place kind seen.now number }
+{
+    if is_anywhere(number) {
+        return true;
+    }
+    if number == class::INTEGRITY {
+        return !seen.begun;
+    }
+    match seen.style {
+        None => !matches!(role(kind, number), Role::Nowhere),
+        Some(style) => place_after_style(kind, style, seen, number),
+    }
+}
+
+// Whether the list of the message's kind and style has a place for this class.
+fn place_after_style(kind: Kind, style: StyleKind, seen: &Seen, number: u8) -> bool
+    ensures { result ≡ place_after_style kind style seen.now number }
+{
+    match kind {
+        Kind::Resv | Kind::ResvConf => list_place(style, seen, number),
+        Kind::ResvErr => error_place(style, seen, number),
+        Kind::ResvTear => tear_place(style, number),
+        Kind::Path | Kind::PathErr | Kind::PathTear => false,
+    }
+}
+
+// The flow descriptors of a Resv or a ResvConf (RFC 2205, 3.1.4).
+fn list_place(style: StyleKind, seen: &Seen, number: u8) -> bool
+    ensures { result ≡ list_place style seen.now number }
+{
+    match style {
+        StyleKind::Wild => number == class::FLOWSPEC && seen.flow.is_none(),
+        StyleKind::Fixed => {
+            (number == class::FLOWSPEC && !seen.due)
+                || (number == class::FILTER_SPEC && seen.flow.is_some())
+        }
+        StyleKind::Shared => {
+            (number == class::FLOWSPEC && seen.flow.is_none())
+                || (number == class::FILTER_SPEC && seen.flow.is_some())
+        }
+    }
+}
+
+// The error flow descriptor of a ResvErr (RFC 2205, 3.1.8).
+fn error_place(style: StyleKind, seen: &Seen, number: u8) -> bool
+    ensures { result ≡ error_place style seen.now number }
+{
+    match style {
+        StyleKind::Wild => number == class::FLOWSPEC && seen.flow.is_none(),
+        StyleKind::Fixed => {
+            (number == class::FLOWSPEC && seen.flow.is_none())
+                || (number == class::FILTER_SPEC && seen.flow.is_some() && has_no_filter(seen))
+        }
+        StyleKind::Shared => {
+            (number == class::FLOWSPEC && seen.flow.is_none())
+                || (number == class::FILTER_SPEC && seen.flow.is_some())
+        }
+    }
+}
+
+fn has_no_filter(seen: &Seen) -> bool
+    ensures { result ≡ has_no_filter seen.now }
+{
+    seen.filters.as_slice().is_empty()
+}
+
+// The filters of a ResvTear (RFC 2205, 3.1.6).
+fn tear_place(style: StyleKind, number: u8) -> bool
+    ensures { result ≡ tear_place style number }
+{
+    match style {
+        StyleKind::Wild => number == class::FLOWSPEC,
+        StyleKind::Fixed | StyleKind::Shared => {
+            number == class::FLOWSPEC || number == class::FILTER_SPEC
+        }
+    }
+}
+
+/// Whether an object of this class, which stands once, stood before.
+#[tactic(auto, unfolding(crate::specs::Places::is_repeated))]
+pub fn is_repeated(kind: Kind, seen: &Seen, number: u8) -> bool
+    ensures { result ≡ is_repeated kind seen.now number }
+{
+    match role(kind, number) {
+        Role::Needed | Role::Once => stood(seen, number),
+        Role::Unread | Role::Nowhere => false,
+    }
+}
+
+#[tactic(auto, unfolding(crate::specs::Places::stood))]
+fn stood(seen: &Seen, number: u8) -> bool
+    ensures { result ≡ stood seen.now number }
+{
+    match number {
+        class::SESSION => seen.session.is_some(),
+        class::RSVP_HOP => seen.hop.is_some(),
+        class::TIME_VALUES => seen.period.is_some(),
+        class::ERROR_SPEC => seen.error.is_some(),
+        class::SCOPE => seen.scope.is_some(),
+        class::STYLE => seen.style.is_some(),
+        class::SENDER_TEMPLATE => seen.template.is_some(),
+        class::SENDER_TSPEC => seen.tspec.is_some(),
+        class::ADSPEC => seen.adspec,
+        _ => seen.confirm.is_some(),
+    }
+}
+
+/// The fault of a FILTER_SPEC whose sender stood in the list before, or is a 17th. `at` is its place.
+pub fn name_fault(at: u16, seen: &Seen, object: &Object) -> Option<Fault>
+    ensures { result ≡ name_fault at seen.now object.now }
+{
+    let Object::Filter(sender) = object else {
+        return None;
+    };
+    if seen.filters.has(*sender) {
+        return Some(Fault::Repeated(at));
+    }
+    if seen.filters.is_full() {
+        return Some(Fault::Object(ObjErr::Crowd(at)));
+    }
+    None
+}
