@@ -227,7 +227,7 @@ asks_of_parts = record { style = style_told; units = units_told; nothing = nothi
 abbrev gone_rows : PartTable → PartTable → List (UnitOf × Part)
 gone_rows before after = filter (λ e. not (has after e.0)) before.rows
 
-gone_told : (before after : PartTable) (x : Sender) → has (gone_names before after) x ≡ true → IsGone before after x
+pub gone_told : (before after : PartTable) (x : Sender) → has (gone_names before after) x ≡ true → IsGone before after x
 gone_told before after x h =
     let r = in_flat_map (λ (e : UnitOf × Part). keys e.1.senders) x (gone_rows before after) (set_of_in senders (flat_map (λ e. keys e.1.senders) (gone_rows before after)) x h) in
     let t = in_filter (λ (e : UnitOf × Part). not (has after e.0)) r.0 before.rows r.1 in

@@ -1,4 +1,5 @@
 pub mod Lists
+pub mod Once
 pub mod Tests
 pub mod Knowing
 pub mod Offering
@@ -6,9 +7,15 @@ pub mod Requesting
 pub mod Leaving
 pub mod Taking
 pub mod Telling
+pub mod Erring
+pub mod Answering
 pub mod Ruling
 pub mod Sending
 pub mod Receiving
+pub mod Styling
+pub mod Wholes
+pub mod Quiet
+pub mod Calling
 pub mod Asks
 pub mod Bounding
 pub mod Rooms

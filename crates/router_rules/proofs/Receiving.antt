@@ -1,10 +1,11 @@
 -- What Paths, PathTears, ResvTears and ResvConfs do.
-use Rattle.std.specs.Prelude.{◌≡◌, ℕ, ◌⊎◌, Bool, true, false, cond, ◌&&◌, Option, Some, None, refl}
+use Rattle.std.specs.Prelude.{◌≡◌, ℕ, ◌⊎◌, Bool, true, false, cond, ◌&&◌, List, [], ◌∷◌, Option, Some, None, refl}
 use Rattle.std.proofs.Common.{sym, ap, ◌∙◌, inl, inr, ⊎_elim}
 use Rattle.std.specs.List.{filter_map}
 use Rattle.rsvp_base.specs.declared.session.Sender.{Sender}
 use Rattle.rsvp_base.specs.declared.style.StyleKind.{StyleKind}
 use Rattle.rsvp_base.specs.declared.style.StyleKind.TheVariants.{Wild, Fixed, Shared}
+use Rattle.rsvp_base.specs.declared.style.Unit.{Unit as UnitOf}
 use Rattle.rsvp_base.specs.Keys.{pairs}
 use Rattle.rsvp_base.specs.Members.{In}
 use Rattle.rsvp_base.specs.Orders.{Names, senders, sessions, units}
@@ -12,8 +13,8 @@ use Rattle.rsvp_base.specs.declared.session.Session.{Session}
 use Rattle.rsvp_base.specs.SessionLimits.{has_room_at}
 use Rattle.rsvp_base.specs.Table.{empty, get, put_in, with_rows}
 use Rattle.rsvp_base.specs.TokenBucket.{TokenBucket}
-use Rattle.rsvp_base.proofs.Counts.{in_found}
-use Rattle.rsvp_base.proofs.SetLaws.{and_both}
+use Rattle.rsvp_base.proofs.Counts.{found_in, in_found}
+use Rattle.rsvp_base.proofs.SetLaws.{and_both, and_made}
 use Rattle.rsvp_base.proofs.Tables.{get-changed, got_changed, then_do}
 use Rattle.rsvp_base.proofs.UnderLaws.{get-under}
 use Rattle.rsvp_messages.specs.declared.message.PathMsg.{PathMsg}
@@ -25,7 +26,7 @@ use Rattle.style_rules.specs.Lines.{LineKey, NextHop, line_keys, next_hops}
 use Rattle.router_rules.specs.declared.answers.Heard.TheVariants as heard
 use Rattle.router_rules.specs.declared.answers.Why.TheVariants as why
 use Rattle.router_rules.specs.Asking.{act_resv_tear, is_of_hop, left_of, names_one, stays, torn_resv, torn_resvs}
-use Rattle.router_rules.specs.Confirming.{conf_on, confs_on, is_wish, speaks_of}
+use Rattle.router_rules.specs.Confirming.{conf_on, confs_heard, confs_on, is_wish, speaks_of, with_confs}
 use Rattle.router_rules.specs.Facts.{Facts, PathState, Resvs, ResvState, ResvTables, resvs_in, resvs_of, table_of, with_resvs, with_table}
 use Rattle.router_rules.specs.Inputs.{ConfSend, only_heard}
 use Rattle.router_rules.specs.MessageLaws.{ConfirmationsByWish, IsConfOn, PathsByTests, ResvTearsByNames}
@@ -33,7 +34,8 @@ use Rattle.router_rules.specs.Paths.{act_path, act_path_tear, is_path_by, learn,
 use Rattle.router_rules.specs.Place.{Place, comes_in}
 use Rattle.router_rules.specs.RuleLaws.{IsLeft}
 use Rattle.router_rules.proofs.Leaving.{left_told, table_put}
-use Rattle.router_rules.proofs.Lists.{got_with_rows, in_filter_map, in_values, passed, some_same}
+use Rattle.router_rules.proofs.Lists.{got_with_rows, in_filter_map, in_values, passed, some_same, to_values}
+use Rattle.router_rules.proofs.Once.{given_rise, last_stands, last_told, someone_last}
 
 -- ---- Paths
 inward_is : (p : Place) (c e : ℕ) (m : PathMsg) (f : Facts) (x : Sender) (tspec : TokenBucket) (b : Bool) → m.sender ≡ Some (x, tspec) → comes_in p m.session e x ≡ b → act_path p c e m f ≡ with_paths f (learn_inward p c e m x tspec b f.paths)
@@ -61,7 +63,7 @@ paths_by_tests =
     }
 
 -- ---- ResvTears
-as_it_was : (st : StyleKind) (ts : ResvTables) → with_table st (table_of st ts) ts ≡ ts
+pub as_it_was : (st : StyleKind) (ts : ResvTables) → with_table st (table_of st ts) ts ≡ ts
 as_it_was Wild ts = refl
 as_it_was Fixed ts = refl
 as_it_was Shared ts = refl
@@ -110,6 +112,21 @@ resv_tears_by_names =
     }
 
 -- ---- ResvConfs
+-- whoever is told of a hop, is told the same
+given_is : (m : ResvConfMsg) (y : (NextHop × UnitOf) × ResvState) (hop : NextHop) (s : ConfSend) → conf_on m y ≡ Some (hop, s) → s ≡ record { iface = hop.0; dst = hop.1; conf = m }
+given_is m y hop s h =
+    let q = passed (is_wish y.1.confirm m.confirm && speaks_of m.ask y.1.part.senders) (Some (y.0.0, record { iface = y.0.0.0; dst = y.0.0.1; conf = m })) (hop, s) h in
+    let same = some_same {X = NextHop × ConfSend} (y.0.0, record { iface = y.0.0.0; dst = y.0.0.1; conf = m }) (hop, s) q.1 in
+    ap (λ (z : NextHop × ConfSend). z.1) (sym same) ∙ ap (λ (z : NextHop × ConfSend). record { iface = z.0.0; dst = z.0.1; conf = m }) same
+
+of_none : (f : Facts) (ss : List ConfSend) → ((s : ConfSend) → In s ss → ⊥) → with_confs f (confs_heard false ss) ≡ only_heard (heard.Dropped why.NoState) f
+of_none f [] none = refl
+of_none f (s ∷ ss) none = absurd (none s (inl refl))
+
+of_some : (f : Facts) (s : ConfSend) (ss : List ConfSend) → In s ss → with_confs f (confs_heard false ss) ≡ record (only_heard heard.Taken f) { confs = ss }
+of_some f s [] i = absurd i
+of_some f s (z ∷ zs) i = refl
+
 pub conf_told : (m : ResvConfMsg) (f : Facts) (s : ConfSend) → In s (confs_on m f) → IsConfOn m f s
 conf_told m f s i =
     let rows = (resvs_in (ask_style m.ask) f m.session).rows in
@@ -131,5 +148,25 @@ conf_told m f s i =
     })
     (got_with_rows next_hops (filter_map (conf_on m) rows) (empty {o = next_hops}) v.0 s v.1)
 
+pub conf_made : (m : ResvConfMsg) (f : Facts) (s : ConfSend) → IsConfOn m f s → In s (confs_on m f)
+conf_made m f s q =
+    let rows = (resvs_in (ask_style m.ask) f m.session).rows in
+    let row : (NextHop × UnitOf) × ResvState = ((q.hop, q.unit), q.resv) in
+    let there : In row rows = found_in (pairs next_hops units) (resvs_in (ask_style m.ask) f m.session) (q.hop, q.unit) q.resv (get-under sessions (pairs next_hops units) (resvs_of (ask_style m.ask) f) m.session (q.hop, q.unit) ∙ q.there) in
+    let gives : conf_on m row ≡ Some (q.hop, s) =
+    ap (λ b. cond b (Some (q.hop, record { iface = q.hop.0; dst = q.hop.1; conf = m })) None) (and_made _ _ q.wanted q.speaks) ∙ ap (λ z. Some (q.hop, z)) (sym q.is) in
+    let r = someone_last next_hops (conf_on m) rows q.hop row s there gives in
+    let g = last_stands next_hops (conf_on m) rows (empty {o = next_hops}) q.hop r.0 r.1 in
+    let t = last_told next_hops (pairs next_hops units) (conf_on m) rows q.hop r.0 (resvs_in (ask_style m.ask) f m.session).sorted r.1 in
+    let k = given_is m t.giver q.hop r.0 t.gives in
+    to_values next_hops (with_rows (empty {o = next_hops}) (filter_map (conf_on m) rows)) q.hop s (g ∙ ap Some (k ∙ sym q.is))
+
 pub confirmations_by_wish : ConfirmationsByWish
-confirmations_by_wish = record { on = conf_told }
+confirmations_by_wish =
+    record {
+      on = λ m f s. (conf_told m f s, conf_made m f s);
+      once = λ m f. given_rise next_hops (conf_on m) (λ (s : ConfSend). (s.iface, s.dst)) (resvs_in (ask_style m.ask) f m.session).rows (λ y k s h. ap (λ (z : ConfSend). (z.iface, z.dst)) (given_is m y k s h));
+      own = λ p m f own. ap (λ b. with_confs f (confs_heard b (confs_on m f))) own;
+      nobody = λ p m f own none. ap (λ b. with_confs f (confs_heard b (confs_on m f))) own ∙ of_none f (confs_on m f) (λ s i. none s (conf_told m f s i));
+      passed = λ p m f s own q. ap (λ b. with_confs f (confs_heard b (confs_on m f))) own ∙ of_some f s (confs_on m f) (conf_made m f s q);
+    }

@@ -29,7 +29,7 @@ module _ (old p : Place) (before after : Facts) (k : Change) (s : Send) where
   conf_key x = (x.iface, x.dst)
 
   -- ---- the six kinds, each in its list
-  path_tear_told : In s (path_tears p (offers old before) (offers p after)) → IsPathTear old p before after k s
+  pub path_tear_told : In s (path_tears p (offers old before) (offers p after)) → IsPathTear old p before after k s
   path_tear_told i =
       let r = in_each (path_tear p) s (filter (λ q. not (has (offers p after) q)) (keys (offers old before))) i in
       let t = in_filter (λ q. not (has (offers p after) q)) r.0 (keys (offers old before)) r.1 in
@@ -49,7 +49,7 @@ module _ (old p : Place) (before after : Facts) (k : Change) (s : Send) where
   to_one true x e is = absurd (cc)
   to_one false x e is = inl is
 
-  resv_tear_told : In s (resv_tears old p before after) → IsResvTear old p before after k s
+  pub resv_tear_told : In s (resv_tears old p before after) → IsResvTear old p before after k s
   resv_tear_told i =
       let r = in_flat_map (resv_tear old p before after) s (keys (lanes before)) i in
       let t = one_unless (is_none (torn_names old p before after r.0)) (resv_tear_send p after r.0 (torn_names old p before after r.0)) r.2 in
@@ -75,7 +75,7 @@ module _ (old p : Place) (before after : Facts) (k : Change) (s : Send) where
   conf_made : IsConf old p before after k s → In s (conf_sends confs)
   conf_made q = subst (λ (z : Send). In z (conf_sends confs)) (sym q.is) (to_each conf_send q.conf (in_order next_hops conf_key confs) (to_ordered next_hops conf_key q.conf confs q.made))
 
-  path_told : In s (path_sends p (offers old before) (offers p after) k.fired) → IsPath old p before after k s
+  pub path_told : In s (path_sends p (offers old before) (offers p after) k.fired) → IsPath old p before after k s
   path_told i =
       let r = in_filter_map (path_send_of p (offers old before) k.fired) s (offers p after).rows i in
       let t = passed (has k.fired r.0.0.session || is_new_offer r.0.1 (get (offers old before) r.0.0)) (Some (path_send p (has k.fired r.0.0.session) r.0)) s r.2 in
@@ -106,7 +106,7 @@ module _ (old p : Place) (before after : Facts) (k : Change) (s : Send) where
   to_sent l false true ask why is = ap Some (sym is)
   to_sent l false false ask why is = absurd (cc)
 
-  resv_told : In s (resv_sends old p before after k.fired k.asked) → IsResv old p before after k s
+  pub resv_told : In s (resv_sends old p before after k.fired k.asked) → IsResv old p before after k s
   resv_told i =
       let r = in_filter_map (resv_send_to old p before after k.fired k.asked) s (keys (lanes after)) i in
       let t = sent_to r.0 (is_changed old p before after r.0) (has k.fired r.0.session) (ask_of r.0.style (toward p after r.0)) r.2 in

@@ -23,10 +23,10 @@ use Rattle.router_rules.specs.RuleLaws.{IsOfUnit, UnitsOneByOne}
 
 module _ (p : Place) (o : Asker) (f : Facts) (all : Names) where
   -- what was done before the unit is put in its place
-  abbrev told : Taking → AskedUnit → Taking
+  abbrev pub told : Taking → AskedUnit → Taking
   told t u = tell_lost p o u.flow (lost o.style u.names all) t
 
-  unit_by : (t : Taking) (u : AskedUnit) (part : Part) (room : Bool) (why : Option Refused) → part_of (names_that_match u.names all) u.flow ≡ Some part → has_room o u.unit part t.table ≡ room
+  pub unit_by : (t : Taking) (u : AskedUnit) (part : Part) (room : Bool) (why : Option Refused) → part_of (names_that_match u.names all) u.flow ≡ Some part → has_room o u.unit part t.table ≡ room
       → book_refuses p o f u.unit part t.table ≡ why → take_unit p o f all t u ≡ put_tested p o f u.unit part room why (told t u)
   unit_by t u part room why is r w =
       ap (λ v. put_unit p o f u.unit v (told t u)) is ∙ ap (λ b. put_tested p o f u.unit part b (book_refuses p o f u.unit part t.table) (told t u)) r

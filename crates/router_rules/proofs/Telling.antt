@@ -1,54 +1,30 @@
--- Where errors go on to, and what they blockade.
+-- What errors blockade, and to whom one goes.
 use Rattle.std.specs.Prelude.{◌≡◌, ℕ, ◌⊎◌, Bool, true, false, cond, List, [], ◌∷◌, map as each, Option, Some, None, refl}
 use Rattle.std.proofs.Common.{sym, ap, subst, ◌∙◌, inl, inr, ⊎_elim}
-use Rattle.std.specs.List.{filter_map}
 use Rattle.std.specs.Ordering.{eq_by_cmp}
-use Rattle.rsvp_base.specs.Keys.{Keys, pairs}
+use Rattle.rsvp_base.specs.Keys.{Keys}
 use Rattle.rsvp_base.specs.Members.{In}
-use Rattle.rsvp_base.specs.Orders.{sessions, units, Names}
-use Rattle.rsvp_base.specs.Table.{Table, empty, get, put_in, with_rows}
+use Rattle.rsvp_base.specs.Orders.{Names}
+use Rattle.rsvp_base.specs.Table.{Table, get, put_in, with_rows}
 use Rattle.rsvp_base.specs.TokenBucket.{TokenBucket}
-use Rattle.rsvp_base.proofs.Counts.{in_found}
 use Rattle.rsvp_base.proofs.Members.{in_each}
 use Rattle.rsvp_base.proofs.Tables.{either, get-put_in_other, get-put_in_same, tied_same}
-use Rattle.rsvp_base.proofs.UnderLaws.{get-under}
 use Rattle.rsvp_messages.specs.declared.message.ResvErrMsg.{ResvErrMsg}
-use Rattle.style_rules.specs.Lines.{NextHop, next_hops}
-use Rattle.router_rules.specs.Errors.{blamed, blockade_of, error_on, error_to, errors_on, is_admission, is_told, walled_by, walls_with}
-use Rattle.router_rules.specs.Facts.{Blockade, Facts, WallKey, Walls, resvs_in, resvs_of, wall_keys}
+use Rattle.style_rules.specs.Lines.{NextHop}
+use Rattle.router_rules.specs.Errors.{blockade_of, error_to, is_admission, walled_by, walls_with}
+use Rattle.router_rules.specs.Facts.{Blockade, WallKey, Walls, wall_keys}
 use Rattle.router_rules.specs.Inputs.{ErrSend}
-use Rattle.router_rules.specs.Known.{Lane}
 use Rattle.router_rules.specs.Place.{Place}
-use Rattle.router_rules.specs.RuleLaws.{ErrorsAndWalls, IsErrorOn}
-use Rattle.router_rules.proofs.Lists.{got_with_rows, in_filter_map, in_values, passed, some_same}
+use Rattle.router_rules.specs.RuleLaws.{ErrorsAndWalls}
+use Rattle.router_rules.proofs.Lists.{got_with_rows, some_same}
 
 -- ---- errors that go on
-same_hop : (p : Place) (m : ResvErrMsg) (hop : NextHop) (w : Option (Option Names)) (k : NextHop) (e : ErrSend) → error_to p m hop w ≡ Some (k, e)
+pub same_hop : (p : Place) (m : ResvErrMsg) (hop : NextHop) (w : Option (Option Names)) (k : NextHop) (e : ErrSend) → error_to p m hop w ≡ Some (k, e)
     → (names : Option Names) × (w ≡ Some names) × (error_to p m hop (Some names) ≡ Some (hop, e))
 same_hop p m hop None k e h = absurd (cc)
 same_hop p m hop (Some names) k e h =
     let at : hop ≡ k = ap (λ (z : NextHop × ErrSend). z.0) (some_same _ _ h) in
     (names, refl, subst (λ (z : NextHop). error_to p m hop (Some names) ≡ Some (z, e)) (sym at) h)
-
-pub errors_told : (p : Place) (f : Facts) (l : Lane) (m : ResvErrMsg) (e : ErrSend) → In e (errors_on p f l m) → IsErrorOn p f l m e
-errors_told p f l m e i =
-    let v = in_values next_hops (with_rows (empty {o = next_hops}) (filter_map (error_on p f l m) (resvs_in l.style f l.session).rows)) e i in
-    ⊎_elim (λ (none : get (empty {o = next_hops}) v.0 ≡ Some e). absurd (cc))
-    (λ (j : In (v.0, e) (filter_map (error_on p f l m) (resvs_in l.style f l.session).rows)).
-    let t = in_filter_map (error_on p f l m) (v.0, e) (resvs_in l.style f l.session).rows j in
-    let q = passed (is_told p f l m t.0) (error_to p m t.0.0.0 (blamed l.style m.blame.senders t.0.1.part.senders)) (v.0, e) t.2 in
-    let s = same_hop p m t.0.0.0 (blamed l.style m.blame.senders t.0.1.part.senders) v.0 e q.1 in
-    record {
-      hop = t.0.0.0;
-      unit = t.0.0.1;
-      resv = t.0.1;
-      there = sym (get-under sessions (pairs next_hops units) (resvs_of l.style f) l.session t.0.0) ∙ in_found (pairs next_hops units) (resvs_in l.style f l.session) t.0.0 t.0.1 t.1;
-      told = q.0;
-      names = s.0;
-      speaks = s.1;
-      is = s.2;
-    })
-    (got_with_rows next_hops (filter_map (error_on p f l m) (resvs_in l.style f l.session).rows) (empty {o = next_hops}) v.0 e v.1)
 
 -- ---- blockades
 -- rows that all have one value
@@ -87,4 +63,4 @@ walls_set p c e m w k flow t i =
     ap (λ b. get (cond b (with_rows w (each (row_of p c m flow) (walled_by e m m.blame.style))) w) k) t ∙ all_put wall_keys (blockade_of p c m flow) (walled_by e m m.blame.style) w k i
 
 pub errors_and_walls : ErrorsAndWalls
-errors_and_walls = record { on = errors_told; source = λ p c e m w k b h. walls_source p c e m w k b m.blame.flow refl h; set = walls_set }
+errors_and_walls = record { source = λ p c e m w k b h. walls_source p c e m w k b m.blame.flow refl h; set = walls_set }

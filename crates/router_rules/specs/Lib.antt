@@ -22,6 +22,9 @@ pub mod FactLaws
 pub mod RuleLaws
 pub mod SendLaws
 pub mod MessageLaws
+pub mod ErrorLaws
+pub mod AskLaws
+pub mod CallLaws
 pub mod Line
 pub mod PathRows
 pub mod ResvRows

@@ -1,5 +1,5 @@
 -- What Paths, PathTears and ResvTears do, and what is asked for toward a hop: the claims of the public laws.
-use Rattle.std.specs.Prelude.{◌≡◌, ℕ, ◌⊎◌, ◌↔◌, true, false, Some, None}
+use Rattle.std.specs.Prelude.{◌≡◌, ℕ, ◌⊎◌, ◌↔◌, true, false, map as each, Some, None}
 use Rattle.rsvp_base.specs.declared.part.Part.{Part}
 use Rattle.rsvp_base.specs.declared.session.Sender.{Sender}
 use Rattle.rsvp_base.specs.declared.style.StyleKind.{StyleKind}
@@ -22,12 +22,13 @@ use Rattle.router_rules.specs.declared.answers.Heard.TheVariants as heard
 use Rattle.router_rules.specs.declared.answers.Why.TheVariants as why
 use Rattle.router_rules.specs.Asking.{act_resv_tear, ask_of, is_of_hop, left_of, names_one, stays}
 use Rattle.router_rules.specs.Bounds.{IsWithinBounds}
-use Rattle.router_rules.specs.Confirming.{confs_on, is_wish, speaks_of}
+use Rattle.router_rules.specs.Confirming.{act_resv_conf, confs_on, is_wish, speaks_of}
+use Rattle.router_rules.specs.ErrorLaws.{AreOnce}
 use Rattle.router_rules.specs.Facts.{Facts, PathState, ResvState, no_facts, resvs_of}
 use Rattle.router_rules.specs.Inputs.{ConfSend, only_heard}
 use Rattle.router_rules.specs.Known.{came_by}
 use Rattle.router_rules.specs.Paths.{act_path, act_path_tear, path_state}
-use Rattle.router_rules.specs.Place.{Place, comes_in}
+use Rattle.router_rules.specs.Place.{Place, comes_in, is_own}
 use Rattle.router_rules.specs.RuleLaws.{IsLeft}
 use Rattle.router_rules.specs.Sends.{gone_names}
 
@@ -69,8 +70,14 @@ pub record IsConfOn (m : ResvConfMsg) (f : Facts) (s : ConfSend) : Type 0 where
   pub speaks : speaks_of m.ask resv.part.senders ≡ true
   pub is : s ≡ record { iface = hop.0; dst = hop.1; conf = m }
 
+-- it ends at this node where the address is its own; else it goes to each who wanted to hear, once, and to nobody else; where
+-- nobody did it is dropped
 pub record ConfirmationsByWish : Type 0 where
-  pub on : (m : ResvConfMsg) (f : Facts) (s : ConfSend) → In s (confs_on m f) → IsConfOn m f s
+  pub on : (m : ResvConfMsg) (f : Facts) (s : ConfSend) → In s (confs_on m f) ↔ IsConfOn m f s
+  pub once : (m : ResvConfMsg) (f : Facts) → AreOnce (each (λ (s : ConfSend). (s.iface, s.dst)) (confs_on m f))
+  pub own : (p : Place) (m : ResvConfMsg) (f : Facts) → is_own p m.confirm ≡ true → act_resv_conf p m f ≡ only_heard heard.Taken f
+  pub nobody : (p : Place) (m : ResvConfMsg) (f : Facts) → is_own p m.confirm ≡ false → ((s : ConfSend) → IsConfOn m f s → ⊥) → act_resv_conf p m f ≡ only_heard (heard.Dropped why.NoState) f
+  pub passed : (p : Place) (m : ResvConfMsg) (f : Facts) (s : ConfSend) → is_own p m.confirm ≡ false → IsConfOn m f s → act_resv_conf p m f ≡ record (only_heard heard.Taken f) { confs = confs_on m f }
 
 -- ---- what parts by unit ask for
 -- each part is of its style and stands under its unit

@@ -1,5 +1,5 @@
 -- What the rule leaves, table by table: the claims of the public laws on waiting, forgetting, countdowns, Resvs and errors.
-use Rattle.std.specs.Prelude.{◌≡◌, not, ℕ, ◌+◌, ◌<◌, ◌≤◌, ◌⊎◌, ◌↔◌, Bool, true, false, cond, List, [], Option, Some, None}
+use Rattle.std.specs.Prelude.{◌≡◌, not, ℕ, ◌+◌, ◌<◌, ◌≤◌, ◌⊎◌, ◌↔◌, Bool, true, false, cond, List, [], Some, None}
 use Rattle.std.specs.Option.{unwrap_or}
 use Rattle.admission_book.specs.declared.refused.Refused.{Refused}
 use Rattle.rsvp_base.specs.declared.addr.Addr.{Addr}
@@ -14,12 +14,12 @@ use Rattle.rsvp_base.specs.Table.{get, has, kept, changed}
 use Rattle.rsvp_base.specs.TokenBucket.{TokenBucket}
 use Rattle.rsvp_messages.specs.declared.message.ResvErrMsg.{ResvErrMsg}
 use Rattle.rsvp_messages.specs.Units.{AskedUnit}
-use Rattle.style_rules.specs.Lines.{LineKey, NextHop}
+use Rattle.style_rules.specs.Lines.{LineKey}
 use Rattle.style_rules.specs.Parts.{has_name, part_of}
 use Rattle.router_rules.specs.Act.{act}
 use Rattle.router_rules.specs.Asking.{Asker, Taking, book_refuses, has_room, key_at, left_of, names_that_match, resv_state, table_with, take_unit, take_units}
 use Rattle.router_rules.specs.Calls.{act_stale, call_refusal, stale_refusal}
-use Rattle.router_rules.specs.Errors.{blamed, blockade_of, error_to, errors_on, is_admission, is_told, walled_by, walls_with}
+use Rattle.router_rules.specs.Errors.{blockade_of, is_admission, walled_by, walls_with}
 use Rattle.router_rules.specs.Facts.{Facts, Blockade, PathState, Resvs, ResvState, ResvTables, SenderKey, WallKey, Walls, Want, WantKey, each_table, resvs_of, table_of, with_resvs}
 use Rattle.router_rules.specs.Forgetting.{counted, forget, is_lost, remembered, settle}
 use Rattle.router_rules.specs.Inputs.{Arrival, Came, ErrSend, Input, Local, Stale}
@@ -108,20 +108,8 @@ pub record UnitsOneByOne : Type 0 where
   -- and a refusal that was made stays made
   pub errors : (p : Place) (o : Asker) (f : Facts) (all : Names) (us : List AskedUnit) (t : Taking) (e : ErrSend) → In e t.errors → In e (take_units p o f all t us).errors
 
--- ---- errors that go on, and what they blockade
--- to the next hop of a reservation of the lane's style and session, with those of its names that the error has
-pub record IsErrorOn (p : Place) (f : Facts) (l : Lane) (m : ResvErrMsg) (e : ErrSend) : Type 0 where
-  pub hop : NextHop
-  pub unit : UnitOf
-  pub resv : ResvState
-  pub there : get (resvs_of l.style f) (l.session, (hop, unit)) ≡ Some resv
-  pub told : is_told p f l m ((hop, unit), resv) ≡ true
-  pub names : Option Names
-  pub speaks : blamed l.style m.blame.senders resv.part.senders ≡ Some names
-  pub is : error_to p m hop (Some names) ≡ Some (hop, e)
-
+-- ---- what errors blockade
 pub record ErrorsAndWalls : Type 0 where
-  pub on : (p : Place) (f : Facts) (l : Lane) (m : ResvErrMsg) (e : ErrSend) → In e (errors_on p f l m) → IsErrorOn p f l m e
   -- a blockade was there, or the error set it
   pub source : (p : Place) (c e : ℕ) (m : ResvErrMsg) (w : Walls) (k : WallKey) (b : Blockade) → get (walls_with p c e m m.blame.flow w) k ≡ Some b
       → (get w k ≡ Some b) ⊎ ((flow : TokenBucket) × (m.blame.flow ≡ Some flow) × (is_admission m.err ≡ true) × In k (walled_by e m m.blame.style) × (b ≡ blockade_of p c m flow))
