@@ -24,7 +24,7 @@ use Rattle.router_laws.proofs.Framing.{spelt_leaves}
 
 -- ---- after settling
 module _ (old p : Place) (c : ℕ) (i : Input) (f : Facts) (s : Session) where
-  due_then : get (facts_then old p c i f).due s ≡ cond (has (counted (act p c i f).facts) s) (Some (unwrap_or (get (act p c i f).facts.due s) (c + period p))) None
+  pub due_then : get (facts_then old p c i f).due s ≡ cond (has (counted (act p c i f).facts) s) (Some (unwrap_or (get (act p c i f).facts.due s) (c + period p))) None
   due_then = countdowns_settle p c (act p c i f).facts s
 
   -- what stands after is what was left, or began at a period
@@ -43,7 +43,7 @@ module _ (old p : Place) (c : ℕ) (i : Input) (f : Facts) (s : Session) where
       by false = refl
 
 -- ---- what a calm input does by itself
-quiet_due : (p : Place) (c e : ℕ) (dst : Addr) (a : Arrival) (f : Facts) → ((act p c (Came e dst a) f).facts.due ≡ f.due) × ((act p c (Came e dst a) f).fired ≡ empty)
+pub quiet_due : (p : Place) (c e : ℕ) (dst : Addr) (a : Arrival) (f : Facts) → ((act p c (Came e dst a) f).facts.due ≡ f.due) × ((act p c (Came e dst a) f).fired ≡ empty)
 quiet_due p c e dst (Unspelt m) f = (refl, refl)
 quiet_due p c e dst (Spelt m) f = let l = spelt_leaves p c e m (is_mine p e dst m) f in (l.due, l.fired)
 

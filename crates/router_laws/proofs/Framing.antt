@@ -80,7 +80,7 @@ same_either : {E X : Type 0} (w : Option E) (x : X) → unless w x x ≡ x
 same_either None x = refl
 same_either (Some e) x = refl
 
-act_senders : (p : Place) (c : ℕ) (i : Input) (f : Facts) → on_senders i ≡ false → (act p c i f).facts.senders ≡ f.senders
+pub act_senders : (p : Place) (c : ℕ) (i : Input) (f : Facts) → on_senders i ≡ false → (act p c i f).facts.senders ≡ f.senders
 act_senders p c (Call (SendAs s x tspec)) f n = absurd (cc)
 act_senders p c (Call (DropAs s x)) f n = absurd (cc)
 act_senders p c (Call (WantAs s st names flow mark)) f n = same_either _ _
@@ -91,7 +91,7 @@ act_senders p c Moved f n = refl
 act_senders p c (Came e dst (Unspelt m)) f n = refl
 act_senders p c (Came e dst (Spelt m)) f n = (spelt_leaves p c e m (is_mine p e dst m) f).senders
 
-act_wants : (p : Place) (c : ℕ) (i : Input) (f : Facts) → on_wants i ≡ false → (act p c i f).facts.wants ≡ f.wants
+pub act_wants : (p : Place) (c : ℕ) (i : Input) (f : Facts) → on_wants i ≡ false → (act p c i f).facts.wants ≡ f.wants
 act_wants p c (Call (SendAs s x tspec)) f n = same_either _ _
 act_wants p c (Call (DropAs s x)) f n = same_either _ _
 act_wants p c (Call (WantAs s st names flow mark)) f n = absurd (cc)

@@ -98,7 +98,7 @@ spelt_paths p c e dst f k x (message.ResvConf m) true is h = inl h
 pub lives_as_is : {X : Type 0} (c : ℕ) (dies : X → ℕ) (x y : X) → living c dies x ≡ Some y → x ≡ y
 lives_as_is c dies x y e = some_same x y (passed (nat_lt c (dies x)) (Some x) y e).1
 
-came_from : (old p : Place) (c : ℕ) (i : Input) (f : Facts) (k : SenderKey) (x : PathState) → get (facts_then old p c i f).paths k ≡ Some x → (get f.paths k ≡ Some x) ⊎ IsLearnt p c i k x
+pub came_from : (old p : Place) (c : ℕ) (i : Input) (f : Facts) (k : SenderKey) (x : PathState) → get (facts_then old p c i f).paths k ≡ Some x → (get f.paths k ≡ Some x) ⊎ IsLearnt p c i k x
 came_from old p c (Call l) f k x h = inl h
 came_from old p c (Wait ms word) f k x h =
     let r = got_changed sender_keys (λ q. living c (λ (y : PathState). y.dies)) f.paths k x h in inl (r.1 ∙ ap (λ z. Some z) (lives_as_is c (λ (y : PathState). y.dies) r.0 x r.2))

@@ -2,3 +2,10 @@ pub mod Framing
 pub mod Learning
 pub mod Counting
 pub mod Speaking
+pub mod Shrinking
+pub mod Putting
+pub mod Folding
+pub mod Reserving
+pub mod Keeping
+pub mod LocalFacts
+pub mod Bounded

@@ -3,3 +3,4 @@ pub mod FrameLaws
 pub mod PathLaws
 pub mod CountdownLaws
 pub mod SpeakingLaws
+pub mod BoundLaws
