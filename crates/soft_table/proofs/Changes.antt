@@ -117,6 +117,26 @@ module _ {F R : Type 0} (rests : Keys R) (key : F → Session × R) where
               ∙ ap (where_key o.cmp (λ x. not (eq_by_cmp o.cmp k x))) (sym (dead_seen rests key cells rows ix) ∙ ap (dead_by key) none));
         }
 
+    -- a live fact in place of a live one, whatever is dead
+    pub record Replaces (k : Session × R) (e : F × ℕ) (cells2 : List (Cell F)) : Type 0 where
+      pub index : IsIndex rests key cells2 rows
+      pub facts : facts_by key (facts_in cells2 rows) ≡ put o.cmp k e (facts_by key (facts_in cells rows))
+      pub dead : dead_in cells2 rows ≡ dead_in cells rows
+
+    pub replaces : (k : Session × R) (t : ℕ) (old f : F) (left : ℕ) (cells2 : List (Cell F)) → get ix.slots k ≡ Some t → slice_get cells t ≡ Some (Live old left) → cells2 ≡ set cells t (Live f left) → key f ≡ k → Replaces k (f, left) cells2
+    replaces k t old f left cells2 at here is own =
+        let linked = linked_replaced rests key cells ix.slots ix.linked k t at (Live f left) (Live old left) f here refl refl own in
+        let ix2 : IsIndex rests key cells2 rows = record { slots = ix.slots; is = ix.is; linked = subst (λ cs. IsLinked rests key cs ix.slots) (sym is) linked } in
+        record {
+          index = ix2;
+          facts = facts_seen rests key cells2 rows ix2 ∙ ap (λ cs. (seen rests key live_in cs ix.slots).rows) is
+              ∙ ap (λ (t : Table (fact_keys rests) (F × ℕ)). t.rows) (seen_replaced rests key cells ix.slots ix.linked k t at (Live f left) live_in) ∙ ap (put o.cmp k (f, left)) (sym (facts_seen rests key cells rows ix));
+          dead = same_dead (dead_in cells2 rows) (dead_in cells rows) (dead_seen rests key cells2 rows ix2 ∙ ap (λ cs. (seen rests key due_in cs ix.slots).rows) is
+              ∙ ap (λ (t : Table (fact_keys rests) F). t.rows) (seen_replaced rests key cells ix.slots ix.linked k t at (Live f left) due_in)
+              ∙ ap (λ (t : Table (fact_keys rests) F). t.rows) (without_absent o (seen rests key due_in cells ix.slots) k (get-seen rests key due_in cells ix.slots k ∙ ap (λ w. then_do w (λ s. due_in (slice_get cells s))) at ∙ ap due_in here))
+              ∙ sym (dead_seen rests key cells rows ix));
+        }
+
     pub puts_new : (k : Session × R) (t i : ℕ) (f : F) (left : ℕ) (cells2 : List (Cell F)) (rows2 : List (Row R)) (r : Row R) → LacksRowAt o index_row rows k i → dead_in cells rows ≡ [] → slice_get cells t ≡ Some Free → cells2 ≡ set cells t (Live f left)
         → rows2 ≡ insert rows i r → index_row r ≡ (k, t) → key f ≡ k → Puts k (f, left) cells2 rows2
     puts_new k t i f left cells2 rows2 r lacks none free is rows_is row_is own =

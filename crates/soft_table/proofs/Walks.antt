@@ -1,5 +1,5 @@
 -- Walks along the rows of an index, a row more at a time.
-use Rattle.std.proofs.Common.{◌≡◌, ◌<◌, ◌+◌, ◌-◌, ◌||◌, ◌&&◌, not, ℕ, zero, suc, Bool, true, false, cond, T, List, [], ◌∷◌, length, drop, get_or, map as each, Option, Some, None, refl, sym, ap, subst, ◌∙◌, arith, inl, inr}
+use Rattle.std.proofs.Common.{◌≡◌, ◌<◌, ◌≤◌, ◌+◌, ◌-◌, ◌||◌, ◌&&◌, not, ℕ, zero, suc, Bool, true, false, cond, T, List, [], ◌∷◌, length, drop, get_or, map as each, Option, Some, None, refl, sym, ap, subst, ◌∙◌, arith, inl, inr}
 use Rattle.std.specs.Prelude.{slice_get}
 use Rattle.std.specs.List.{list_any}
 use Rattle.std.specs.Option.{option_map}
@@ -23,9 +23,9 @@ use Rattle.soft_pool.specs.declared.cell.Cell.{Cell}
 use Rattle.soft_pool.specs.declared.cell.Cell.TheVariants.{Free, Live, Due}
 use Rattle.soft_pool.specs.Cells.{is_live}
 use Rattle.soft_table.specs.declared.row.Row.{Row}
-use Rattle.soft_table.specs.Facts.{fact_keys, facts_by, sessions_in}
+use Rattle.soft_table.specs.Facts.{fact_keys, facts_by, rows_behind, sessions_in}
 use Rattle.soft_table.specs.Index.{live_in, facts_in, index_row, IsIndex}
-use Rattle.soft_table.specs.Walks.{AreSlots, live_rows, facts_under, sessions_of, is_last, changes}
+use Rattle.soft_table.specs.Walks.{AreSlots, OthersBelow, OthersFrom, BehindFrom, is_behind, live_rows, facts_under, sessions_of, is_last, changes}
 use Rattle.soft_table.proofs.Slots.{value_within}
 use Rattle.soft_table.proofs.Changes.{not_live_none}
 use Rattle.soft_table.proofs.Views.{facts_seen}
@@ -34,11 +34,11 @@ use Rattle.rsvp_base.specs.Members.{In}
 use Rattle.rsvp_base.proofs.Members.{to_each}
 use Rattle.soft_table.proofs.Links.{seen}
 
-not_true : (b : Bool) → not b ≡ true → b ≡ false
+pub not_true : (b : Bool) → not b ≡ true → b ≡ false
 not_true true e = absurd (both_ways _ refl e)
 not_true false e = refl
 
-not_false : (b : Bool) → not b ≡ false → b ≡ true
+pub not_false : (b : Bool) → not b ≡ false → b ≡ true
 not_false true e = refl
 not_false false e = absurd (both_ways _ e refl)
 
@@ -85,6 +85,63 @@ module _ {F R : Type 0} (rests : Keys R) (s : Session) (cells : List (Cell F)) w
       let parts = and_both (eq_by_cmp sessions.cmp s r.session) (is_live (slice_get cells r.slot.0)) both in
       let e = live_some (slice_get cells r.slot.0) parts.1 in
       (e.0, e.1, ap (facts_under rests s cells) (from_here rows i r lt is) ∙ under_here r (drop (i + 1) rows) e.0 parts.0 e.1)
+
+  -- rows of other sessions
+  pub none_from : (rows : List (Row R)) (n j : ℕ) → OthersFrom s rows n → n ≤ j → facts_under rests s cells (drop j rows) ≡ []
+  none_from [] n zero others le = refl
+  none_from [] n (suc j) others le = refl
+  none_from (r ∷ rs) zero zero others le = under_other r rs (others 0 r (omega arith) (omega arith)) ∙ none_from rs zero zero (λ i d low high. others (suc i) d (omega arith) (omega arith)) (omega arith)
+  none_from (r ∷ rs) (suc n) zero others le = absurd (omega arith)
+  none_from (r ∷ rs) n (suc j) others le = none_from rs j j (λ i d low high. others (suc i) d (omega arith) (omega arith)) (omega arith)
+
+  pub all_from : (rows : List (Row R)) (j : ℕ) → OthersBelow s rows j → facts_under rests s cells (drop j rows) ≡ facts_under rests s cells rows
+  all_from [] zero others = refl
+  all_from [] (suc j) others = refl
+  all_from (r ∷ rs) zero others = refl
+  all_from (r ∷ rs) (suc j) others = all_from rs j (λ i d low high. others (suc i) d (omega arith) (omega arith)) ∙ sym (under_other r rs (others 0 r (omega arith) (omega arith)))
+
+  -- rows behind a key
+  module _ (rest : R) where
+    here_behind : (r : Row R) → eq_by_cmp sessions.cmp s r.session ≡ true → is_behind rests s rest r ≡ is_lt (rests.cmp rest r.rest)
+    here_behind r tie = by (sessions.cmp s r.session) tie
+      where
+        by : (w : Ordering) → is_eq w ≡ true → is_lt (ordering_then w (rests.cmp rest r.rest)) ≡ is_lt (rests.cmp rest r.rest)
+        by Less e = cc
+        by Equal e = refl
+        by Greater e = cc
+
+    -- a row that is not behind, and one that is
+    not_behind : (r : Row R) (rs : List (Row R)) → is_behind rests s rest r ≡ false → rows_behind rests rest (facts_under rests s cells (r ∷ rs)) ≡ rows_behind rests rest (facts_under rests s cells rs)
+    not_behind r rs out =
+        either (eq_by_cmp sessions.cmp s r.session)
+        (λ t. either (is_live (slice_get cells r.slot.0))
+        (λ l.
+        let e = live_some (slice_get cells r.slot.0) l in
+        ap (rows_behind rests rest) (under_here r rs e.0 t e.1) ∙ ap (λ b. cond b ((r.rest, e.0) ∷ rows_behind rests rest (facts_under rests s cells rs)) (rows_behind rests rest (facts_under rests s cells rs))) (sym (here_behind r t) ∙ out))
+        (λ l. ap (rows_behind rests rest) (under_not_live r rs (not_live_none _ l))))
+        (λ t. ap (rows_behind rests rest) (under_other r rs t))
+
+    so_behind : (r : Row R) (rs : List (Row R)) → is_behind rests s rest r ≡ true → rows_behind rests rest (facts_under rests s cells rs) ≡ facts_under rests s cells rs → rows_behind rests rest (facts_under rests s cells (r ∷ rs)) ≡ facts_under rests s cells (r ∷ rs)
+    so_behind r rs here ih =
+        either (eq_by_cmp sessions.cmp s r.session)
+        (λ t. either (is_live (slice_get cells r.slot.0))
+        (λ l.
+        let e = live_some (slice_get cells r.slot.0) l in
+        ap (rows_behind rests rest) (under_here r rs e.0 t e.1) ∙ ap (λ b. cond b ((r.rest, e.0) ∷ rows_behind rests rest (facts_under rests s cells rs)) (rows_behind rests rest (facts_under rests s cells rs))) (sym (here_behind r t) ∙ here)
+        ∙ ap (λ es. (r.rest, e.0) ∷ es) ih ∙ sym (under_here r rs e.0 t e.1))
+        (λ l. ap (rows_behind rests rest) (under_not_live r rs (not_live_none _ l)) ∙ ih ∙ sym (under_not_live r rs (not_live_none _ l))))
+        (λ t. ap (rows_behind rests rest) (under_other r rs t) ∙ ih ∙ sym (under_other r rs t))
+
+    all_behind : (rows : List (Row R)) → ((i : ℕ) (d : Row R) → i < length rows → is_behind rests s rest (get_or rows i d) ≡ true) → rows_behind rests rest (facts_under rests s cells rows) ≡ facts_under rests s cells rows
+    all_behind [] h = refl
+    all_behind (r ∷ rs) h = so_behind r rs (h 0 r (omega arith)) (all_behind rs (λ i d lt. h (suc i) d (omega arith)))
+
+    pub behind_from : (rows : List (Row R)) (j : ℕ) → BehindFrom rests s rest rows j → facts_under rests s cells (drop j rows) ≡ rows_behind rests rest (facts_under rests s cells rows)
+    behind_from [] zero at = refl
+    behind_from [] (suc j) at = refl
+    behind_from (r ∷ rs) zero at = sym (all_behind (r ∷ rs) (λ i d lt. at.from i d (omega arith) lt))
+    behind_from (r ∷ rs) (suc j) at =
+        behind_from rs j (record { up_to = λ i d low high. at.up_to (suc i) d (omega arith) (omega arith); from = λ i d low high. at.from (suc i) d (omega arith) (omega arith) }) ∙ sym (not_behind r rs (at.up_to 0 r (omega arith) (omega arith)))
 
 pub later_one : {A : Type 0} (x : A) (xs : List A) (n : ℕ) → (n ≡ 0 → ⊥) → slice_get (x ∷ xs) n ≡ slice_get xs (n - 1)
 later_one x xs zero ne = absurd (ne refl)
@@ -218,3 +275,18 @@ module _ {F R : Type 0} (rests : Keys R) (key : F → Session × R) (cells : Lis
 
   pub no_kth_fact : (s : Session) (k : ℕ) → slice_get (facts_under rests s cells rows) k ≡ None → None ≡ option_map (λ (e : R × (F × ℕ)). e.1.0) (slice_get (rows_under sessions rests s (facts_by key (facts_in cells rows))) k)
   no_kth_fact s k none = kth_fact s k None (ap (option_map (λ (e : R × (F × ℕ)). e.1)) none)
+
+  -- and of those behind a rest
+  pub next_fact : (s : Session) (rest : R) (e : Option (F × ℕ)) → option_map (λ (e : R × (F × ℕ)). e.1) (slice_get (rows_behind rests rest (facts_under rests s cells rows)) 0) ≡ e
+      → option_map (λ (e : F × ℕ). e.0) e ≡ option_map (λ (e : R × (F × ℕ)). e.1.0) (slice_get (rows_behind rests rest (rows_under sessions rests s (facts_by key (facts_in cells rows)))) 0)
+  next_fact s rest e is =
+      ap (option_map (λ (e : F × ℕ). e.0)) (sym is) ∙ inner (slice_get (rows_behind rests rest (facts_under rests s cells rows)) 0)
+      ∙ ap (λ es. option_map (λ (e : R × (F × ℕ)). e.1.0) (slice_get (rows_behind rests rest (rows_under sessions rests s es)) 0)) live_are
+    where
+      inner : (o : Option (R × (F × ℕ))) → option_map (λ (e : F × ℕ). e.0) (option_map (λ (e : R × (F × ℕ)). e.1) o) ≡ option_map (λ (e : R × (F × ℕ)). e.1.0) o
+      inner None = refl
+      inner (Some x) = refl
+
+  pub no_next_fact : (s : Session) (rest : R) → slice_get (rows_behind rests rest (facts_under rests s cells rows)) 0 ≡ None
+      → None ≡ option_map (λ (e : R × (F × ℕ)). e.1.0) (slice_get (rows_behind rests rest (rows_under sessions rests s (facts_by key (facts_in cells rows)))) 0)
+  no_next_fact s rest none = next_fact s rest None (ap (option_map (λ (e : R × (F × ℕ)). e.1)) none)

@@ -1,6 +1,7 @@
 -- What a table of facts is seen as: the facts in the order of their keys, with what is left of each, and the dead that wait.
 use Rattle.std.specs.Prelude.{◌-◌, ℕ, List, IsTrue, map as each, Option, Some, None, nat_le, cond}
-use Rattle.std.specs.FinMap.Entries.{is_sorted}
+use Rattle.std.specs.FinMap.Entries.{is_sorted, where_key}
+use Rattle.std.specs.Ordering.{is_lt}
 use Rattle.rsvp_base.specs.Keys.{Keys, pairs}
 use Rattle.rsvp_base.specs.Orders.{sessions}
 use Rattle.rsvp_base.specs.Sets.{Set, set_of}
@@ -28,6 +29,10 @@ module _ {F R : Type 0} (key : F → Session × R) where
 -- the sessions that have facts
 abbrev pub sessions_in : {F R : Type 0} → (F → Session × R) → List (F × ℕ) → Set sessions
 sessions_in key fs = set_of (each (λ e. (key e.0).0) fs)
+
+-- of rows by the rest of their keys, those behind a rest
+abbrev pub rows_behind : {R X : Type 0} → Keys R → R → List (R × X) → List (R × X)
+rows_behind rests r es = where_key rests.cmp (λ q. is_lt (rests.cmp r q)) es
 
 abbrev pub IsInOrder : {F R : Type 0} → Keys R → (F → Session × R) → Kept F → Type 0
 IsInOrder rests key t = IsTrue (is_sorted (fact_keys rests).cmp (facts_by key t.facts)) × IsTrue (is_sorted (fact_keys rests).cmp (dead_by key t.dead))

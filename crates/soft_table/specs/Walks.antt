@@ -1,6 +1,6 @@
 -- Walks along the rows of an index: the facts of a session, and how many sessions there are.
-use Rattle.std.specs.Prelude.{◌≡◌, ◌+◌, ◌<◌, ℕ, Bool, false, cond, List, [], ◌∷◌, map as each, length, Option, Some, None, slice_get}
-use Rattle.std.specs.Ordering.{eq_by_cmp}
+use Rattle.std.specs.Prelude.{◌≡◌, ◌+◌, ◌<◌, ◌≤◌, ℕ, Bool, true, false, cond, slice_index_or, List, [], ◌∷◌, map as each, length, Option, Some, None, slice_get}
+use Rattle.std.specs.Ordering.{eq_by_cmp, is_lt}
 use Rattle.rsvp_base.specs.Keys.{Keys}
 use Rattle.rsvp_base.specs.Orders.{sessions}
 use Rattle.rsvp_base.specs.Table.{changed_rows}
@@ -8,6 +8,7 @@ use Rattle.rsvp_base.specs.Under.{rows_under}
 use Rattle.rsvp_base.specs.declared.session.Session.{Session}
 use Rattle.soft_pool.specs.declared.cell.Cell.{Cell}
 use Rattle.soft_table.specs.declared.row.Row.{Row}
+use Rattle.soft_table.specs.Facts.{fact_keys}
 use Rattle.soft_table.specs.Index.{live_in, index_row}
 
 -- each row's slot is one of the slots
@@ -20,6 +21,21 @@ live_rows cells rows = changed_rows (λ k s. live_in (slice_get cells s)) (each 
 -- the facts of a session
 abbrev pub facts_under : {F R : Type 0} → Keys R → Session → List (Cell F) → List (Row R) → List (R × (F × ℕ))
 facts_under rests s cells rows = rows_under sessions rests s (live_rows cells rows)
+
+-- the rows below a place, or from a place on, are not the session's
+abbrev pub OthersBelow : {R : Type 0} → Session → List (Row R) → ℕ → Type 0
+OthersBelow {R} s rows n = (i : ℕ) (d : Row R) → i < n → i < length rows → eq_by_cmp sessions.cmp s (slice_index_or rows i d).session ≡ false
+
+abbrev pub OthersFrom : {R : Type 0} → Session → List (Row R) → ℕ → Type 0
+OthersFrom {R} s rows n = (i : ℕ) (d : Row R) → n ≤ i → i < length rows → eq_by_cmp sessions.cmp s (slice_index_or rows i d).session ≡ false
+
+abbrev pub is_behind : {R : Type 0} → Keys R → Session → R → Row R → Bool
+is_behind rests s rest r = is_lt ((fact_keys rests).cmp (s, rest) (r.session, r.rest))
+
+-- the rows from a place on, and no others, are behind a key
+pub record BehindFrom {R : Type 0} (rests : Keys R) (s : Session) (rest : R) (rows : List (Row R)) (n : ℕ) : Type 0 where
+  pub up_to : (i : ℕ) (d : Row R) → i < n → i < length rows → is_behind rests s rest (slice_index_or rows i d) ≡ false
+  pub from : (i : ℕ) (d : Row R) → n ≤ i → i < length rows → is_behind rests s rest (slice_index_or rows i d) ≡ true
 
 -- the session of each fact
 abbrev pub sessions_of : {F R : Type 0} → List (Cell F) → List (Row R) → List Session

@@ -1,14 +1,14 @@
 //! The index of a table: found by binary search, changed in place.
-ghost use Rattle.std.specs.Prelude.{◌≡◌, ◌<◌, ◌≤◌, ◌&&◌, not, length, vec_capacity, IfOk, IfErr, IfSome, IsNone, None, slice_get};
+ghost use Rattle.std.specs.Prelude.{◌≡◌, ◌<◌, ◌≤◌, ◌&&◌, not, drop, length, vec_capacity, IfOk, IfErr, IfSome, IsNone, None, slice_get};
 ghost use Rattle.std.specs.List.{insert};
 ghost use Rattle.std.specs.Option.{option_copied, option_map};
 ghost use Rattle.rsvp_base.specs.Rows.{AreRows, HasRowAt, LacksRowAt};
 ghost use Rattle.soft_table.specs.Facts.{fact_keys};
-ghost use Rattle.std.specs.Ordering.{eq_by_cmp};
+ghost use Rattle.std.specs.Ordering.{eq_by_cmp, is_lt};
 ghost use Rattle.rsvp_base.specs.Orders.{sessions};
 ghost use Rattle.soft_pool.specs.Cells.{is_live};
 ghost use Rattle.soft_table.specs.Index.{index_row, live_in};
-ghost use Rattle.soft_table.specs.Walks.{AreSlots, facts_under, is_last, changes, sessions_of};
+ghost use Rattle.soft_table.specs.Walks.{AreSlots, OthersBelow, OthersFrom, BehindFrom, facts_under, is_last, changes, sessions_of};
 
 use crate::fact::Fact;
 use crate::row::Row;
@@ -66,20 +66,73 @@ fn is_of<F: Drop, R: Copy>(pool: &Pool<F>, row: &Row<R>, session: Session) -> bo
     session.cmp(&row.session) == Ordering::Equal && pool.live(row.slot)
 }
 
-// The slot of the k-th fact of the session.
+// Whether a row stands before those of the session.
+fn is_before<R: Copy>(row: &Row<R>, session: Session) -> bool
+    ensures { result ≡ is_lt (sessions.cmp row.now.session session) }
+{
+    row.session.cmp(&session).is_lt()
+}
+
+// Whether a row stands behind those of the session.
+fn is_behind<R: Copy>(row: &Row<R>, session: Session) -> bool
+    ensures { result ≡ is_lt (sessions.cmp session row.now.session) }
+{
+    session.cmp(&row.session).is_lt()
+}
+
+// Whether a row stands behind that of a key.
+fn is_behind_key<F: Fact>(row: &Row<F::Rest>, session: Session, rest: &F::Rest) -> bool
+    ensures { result ≡ is_lt ((fact_keys F.rests).cmp (session, rest.now) (row.now.session, row.now.rest)) }
+{
+    session
+        .cmp(&row.session)
+        .then(F::order(rest, &row.rest))
+        .is_lt()
+}
+
+// Where the rows of the session begin.
+pub(crate) fn first<F: Fact>(rows: &[Row<F::Rest>], session: Session) -> usize
+    requires { AreRows (fact_keys F.rests) index_row rows.now }
+    ensures { OthersBelow session rows.now result }
+{
+    rows.partition_point(|row| is_before(row, session))
+}
+
+// Where they end.
+pub(crate) fn past<F: Fact>(rows: &[Row<F::Rest>], session: Session) -> usize
+    requires { AreRows (fact_keys F.rests) index_row rows.now }
+    ensures within { result ≤ length rows.now }
+    ensures others { OthersFrom session rows.now result }
+{
+    rows.partition_point(|row| !is_behind(row, session))
+}
+
+// Where the rows behind a key begin.
+pub(crate) fn behind<F: Fact>(rows: &[Row<F::Rest>], session: Session, rest: &F::Rest) -> usize
+    requires { AreRows (fact_keys F.rests) index_row rows.now }
+    ensures { BehindFrom F.rests session rest.now rows.now result }
+{
+    rows.partition_point(|row| !is_behind_key::<F>(row, session, rest))
+}
+
+// The slot of the k-th fact of the session among the rows from one place on. Those of the session end before the other.
 pub(crate) fn nth<F: Fact>(
     pool: &Pool<F>,
     rows: &[Row<F::Rest>],
     session: Session,
+    from: usize,
+    to: usize,
     k: usize,
 ) -> Option<Slot>
-    requires { AreSlots pool.now rows.now }
-    ensures some { IfSome result (λ s. option_map (λ e. e.1) (slice_get (facts_under F.rests session pool.now rows.now) k) ≡ live_in (slice_get pool.now s.0)) }
+    requires slots { AreSlots pool.now rows.now }
+    requires within { to ≤ length rows.now }
+    requires others { OthersFrom session rows.now to }
+    ensures some { IfSome result (λ s. option_map (λ e. e.1) (slice_get (facts_under F.rests session pool.now (drop from rows.now)) k) ≡ live_in (slice_get pool.now s.0)) }
     ensures within { IfSome result (λ s. s.0 < length pool.now) }
-    ensures none { IsNone result → slice_get (facts_under F.rests session pool.now rows.now) k ≡ None }
+    ensures none { IsNone result → slice_get (facts_under F.rests session pool.now (drop from rows.now)) k ≡ None }
 {
     let mut left = k;
-    for i in 0..rows.len() {
+    for i in from..to {
         let row = rows[i];
         if is_of(pool, &row, session) {
             if left == 0 {

@@ -1,5 +1,5 @@
 //! The table.
-ghost use Rattle.std.specs.Prelude.{◌≡◌, ◌≤◌, ◌<◌, ◌↔◌, [], not, length, map, IsErr, IsNone, IfOk, IfSome, OnOk, OnErr, None, Some, slice_get};
+ghost use Rattle.std.specs.Prelude.{◌≡◌, ◌≤◌, ◌<◌, ℕ, ◌↔◌, [], true, false, not, length, map, IsErr, IsNone, IfOk, IfSome, OnOk, OnErr, None, Some, slice_get};
 ghost use Rattle.std.specs.List.{filter_map};
 ghost use Rattle.std.specs.Option.{option_copied, option_map};
 ghost use Rattle.std.specs.Ordering.{eq_by_cmp};
@@ -7,11 +7,11 @@ ghost use Rattle.std.specs.FinMap.Entries.{find, put, where_key};
 ghost use Rattle.rsvp_base.specs.Orders.{sessions};
 ghost use Rattle.rsvp_base.specs.Table.{size};
 ghost use Rattle.rsvp_base.specs.Under.{rows_under};
-ghost use Rattle.soft_table.specs.Facts.{fact_keys, facts_by, dead_by, sessions_in, IsInOrder, lives_on, dies};
+ghost use Rattle.soft_table.specs.Facts.{fact_keys, facts_by, dead_by, sessions_in, rows_behind, IsInOrder, lives_on, dies};
 
 use crate::fact::Fact;
 use crate::row::Row;
-use crate::rows::{count_sessions, fact_in, insert_row, nth, search};
+use crate::rows::{behind, count_sessions, fact_in, first, insert_row, nth, past, search};
 use rsvp_base::{Full, NoMemory, Session};
 use soft_pool::Pool;
 use std::alloc::Global;
@@ -97,6 +97,29 @@ impl<F: Fact> SoftTable<F> {
         Ok(())
     }
 
+    /// Puts a fact in place of that of its key, and leaves what is left of that. False exactly where there is none; nothing
+    /// changes then. A dead fact does not count.
+    pub fn replace(&mut self, fact: F) -> bool
+        ensures there { result ≡ true → (was : F) × (left : ℕ) × (find (fact_keys F.rests).cmp (F.key_of fact) (facts_by F.key_of self.old.facts) ≡ Some (was, left)) × (facts_by F.key_of self.new.facts ≡ put (fact_keys F.rests).cmp (F.key_of fact) (fact, left) (facts_by F.key_of self.old.facts)) }
+        ensures absent { result ≡ false → find (fact_keys F.rests).cmp (F.key_of fact) (facts_by F.key_of self.old.facts) ≡ None }
+        ensures unchanged { result ≡ false → self.new ≡ self.old }
+        ensures order { IsInOrder F.rests F.key_of self.new }
+        ensures dead { self.new.dead ≡ self.old.dead }
+        ensures room { self.new.room ≡ self.old.room }
+    {
+        let (session, rest) = fact.key();
+        let Ok(at) = search::<F>(self.rows.as_slice(), session, &rest) else {
+            return false;
+        };
+        let slot = self.rows[at].slot;
+        let stands = self.pool.live(slot);
+        if !stands {
+            return false;
+        }
+        self.pool.set(slot, fact);
+        true
+    }
+
     /// Takes the fact of a key out. `None` exactly where there is none; nothing changes then. A dead fact does not count.
     pub fn remove(&mut self, session: Session, rest: F::Rest) -> Option<F>
         ensures was { result ≡ option_map (λ e. e.0) (find (fact_keys F.rests).cmp (session, rest) (facts_by F.key_of self.old.facts)) }
@@ -154,10 +177,35 @@ impl<F: Fact> SoftTable<F> {
     pub fn at(&self, session: Session, k: usize) -> Option<&F>
         ensures { option_copied result ≡ option_map (λ e. e.1.0) (slice_get (rows_under sessions F.rests session (facts_by F.key_of self.now.facts)) k) }
     {
-        match nth::<F>(&self.pool, self.rows.as_slice(), session, k) {
+        let rows = self.rows.as_slice();
+        let from = first::<F>(rows, session);
+        let to = past::<F>(rows, session);
+        match nth::<F>(&self.pool, rows, session, from, to, k) {
             Some(slot) => fact_in(&self.pool, slot),
             None => None,
         }
+    }
+
+    /// The fact of a session that comes next behind the rest of a key. `None` exactly where none does. Dead facts do not
+    /// count. So a session's facts are gone through one by one: from the 0th on, each behind the last.
+    pub fn after(&self, session: Session, rest: F::Rest) -> Option<&F>
+        ensures { option_copied result ≡ option_map (λ e. e.1.0) (slice_get (rows_behind F.rests rest (rows_under sessions F.rests session (facts_by F.key_of self.now.facts))) 0) }
+    {
+        let rows = self.rows.as_slice();
+        let from = behind::<F>(rows, session, &rest);
+        let to = past::<F>(rows, session);
+        match nth::<F>(&self.pool, rows, session, from, to, 0) {
+            Some(slot) => fact_in(&self.pool, slot),
+            None => None,
+        }
+    }
+
+    /// How many facts there are. No dead fact may wait.
+    pub fn len(&self) -> usize
+        requires { self.now.dead ≡ [] }
+        ensures { result ≡ length self.now.facts }
+    {
+        self.rows.len()
     }
 
     /// How many sessions have facts. Dead facts do not count.

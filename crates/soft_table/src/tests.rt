@@ -63,6 +63,15 @@ fn facts_are_put_found_removed_and_die(rt: HostRuntime) -> Result<(), Fail> {
     assert!(rt; table.at(session(2), 0).map(|m| m.number) == Some(9));
     assert!(rt; table.at(session(2), 1).is_none());
     assert!(rt; table.sessions() == 2);
+    let None = table.pull_dead() else {
+        return Err(Fail::from("a dead fact waits"));
+    };
+    assert!(rt; table.len() == 2);
+    assert!(rt; table.after(session(2), 0).map(|m| m.number) == Some(9));
+    assert!(rt; table.after(session(2), 1).is_none());
+    assert!(rt; table.replace(make_note(1, 1, 6)));
+    assert!(rt; !table.replace(make_note(1, 2, 6)));
+    assert!(rt; table.replace(make_note(1, 1, 8)));
     assert!(rt; table.remove(session(1), 1) == Some(make_note(1, 1, 8)));
     let None = table.pull_dead() else {
         return Err(Fail::from("a dead fact waits"));

@@ -1,13 +1,15 @@
-use Rattle.std.proofs.Common.{◌+◌, length, drop, refl, sym, ap, ◌∙◌}
+use Rattle.std.proofs.Common.{◌+◌, ◌<◌, length, drop, refl, sym, ap, ◌∙◌, arith}
 use Rattle.std.specs.Prelude.{slice_get}
 use Rattle.std.proofs.lemmas.Option.{slice_get_read}
 use Rattle.soft_table.specs.Walks.{facts_under}
-use Rattle.soft_table.proofs.Walks.{skipped, counted, later_one}
+use Rattle.soft_table.proofs.Walks.{skipped, counted, later_one, none_from}
 use Rattle.soft_table.proofs.rows.nth.Goals as goal
 use Rattle.soft_table.proofs.rows.nth.Goals.{then-is_of+else-left-eq0, else-is_of}
 
 pub is_of-requires : goal.is_of-requires
-is_of-requires g c = c.requires c.loop-i.i c.index-rows-i.result (slice_get_read c.args.rows.now (length c.args.rows.now) c.loop-i.i c.index-rows-i.result refl c.loop-i-test.true c.index-rows-i.is)
+is_of-requires g c =
+    let within : c.loop-i.i < length c.args.rows.now = omega (arith, c.loop-i-test.true, c.requires.within) in
+    c.requires.slots c.loop-i.i c.index-rows-i.result (slice_get_read c.args.rows.now (length c.args.rows.now) c.loop-i.i c.index-rows-i.result refl within c.index-rows-i.is)
 
 pub loop-i-preserved : goal.loop-i-preserved
 loop-i-preserved g c =
@@ -15,11 +17,15 @@ loop-i-preserved g c =
     let rows = c.args.rows.now in
     let rests = g.F.Fact.rests in
     let pool = c.args.pool.now in
+    let within : c.loop-i.i < length c.args.rows.now = omega (arith, c.loop-i-test.true, c.requires.within) in
     c.loop-i.invariant ∙ elim c.if-is_of.branch [
       | then-is_of+else-left-eq0 w ↦
-          let here = counted rests c.args.session pool rows c.loop-i.i row c.loop-i-test.true c.index-rows-i.is (sym c.is_of.ensures ∙ w.if-is_of.true) in
+          let here = counted rests c.args.session pool rows c.loop-i.i row within c.index-rows-i.is (sym c.is_of.ensures ∙ w.if-is_of.true) in
           ap (λ es. slice_get es c.loop-i.left) here.2 ∙ later_one (row.rest, here.0) (facts_under rests c.args.session pool (drop (c.loop-i.i + 1) rows)) c.loop-i.left w.if-left-eq0.false ∙ ap (slice_get (facts_under rests c.args.session pool (drop (c.loop-i.i + 1) rows))) (sym w.left-is)
       | else-is_of w ↦
-          ap (λ es. slice_get es c.loop-i.left) (skipped rests c.args.session pool rows c.loop-i.i row c.loop-i-test.true c.index-rows-i.is (sym c.is_of.ensures ∙ w.if-is_of.false))
+          ap (λ es. slice_get es c.loop-i.left) (skipped rests c.args.session pool rows c.loop-i.i row within c.index-rows-i.is (sym c.is_of.ensures ∙ w.if-is_of.false))
           ∙ ap (slice_get (facts_under rests c.args.session pool (drop (c.loop-i.i + 1) rows))) (sym w.left-is)
     ]
+
+pub returns-clause-none : goal.returns-clause-none
+returns-clause-none g c = λ _. c.loop-i.invariant ∙ ap (λ es. slice_get es c.loop-i.left) (none_from g.F.Fact.rests c.args.session c.args.pool.now c.args.rows.now c.args.to c.loop-i.i c.requires.others (omega (arith, c.loop-i-test.false)))
