@@ -1,1 +1,5 @@
+pub mod Listing
+pub mod Stepping
+pub mod Machines
+pub mod Quiet
 pub mod Worked

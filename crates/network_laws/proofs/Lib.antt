@@ -1,0 +1,6 @@
+pub mod Standing
+pub mod PathLines
+pub mod PathSends
+pub mod SoundPaths
+pub mod Passing
+pub mod Calming

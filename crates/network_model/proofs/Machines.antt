@@ -1,0 +1,69 @@
+-- The network is a machine of rounds: its clock runs, and its items are numbered.
+use Rattle.std.proofs.Common.{◌≡◌, ℕ, Bool, true, Some, ◌⊎◌, inl, inr, ⊎_elim, arith, refl, sym, ap, subst}
+use Rattle.std.specs.Prelude.{slice_get, map as each}
+use Rattle.rsvp_base.specs.Members.{In}
+use Rattle.rsvp_base.proofs.Members.{in_append, in_each}
+use Rattle.calm_rounds.specs.Machine.{IsClocked, IsStamped, items_of}
+use Rattle.calm_rounds.proofs.Renewing.{in_option}
+use Rattle.network_model.specs.Steps.{Step, Piece, Deliver, Lose, Copy, At, ClearAt, Trace, Report, Flags, Inject, Reroute, is_quiet, arrived, rest, sent, outcome, step, machine}
+use Rattle.network_model.specs.Worlds.{Item, World}
+use Rattle.network_model.proofs.Listing.{in_remove, in_place}
+use Rattle.network_model.proofs.Stepping.{copies_found, sent_found}
+
+pub born_sent : (q : ℕ) (s : Step) (w : World) (x : Item × Bool) → In x (sent q s w) → x.0.born ≡ w.made
+born_sent q s w x i =
+    let n = sent_found q s w x i in
+    let c = copies_found w.net w.made n.0 (outcome q s w n.0 n.1).sent x n.3 in
+    ap (λ (z : Item × Bool). z.0.born) c.4
+
+-- what stays in flight was there
+pub in_rest : (s : Step) (w : World) (x : Item) → is_quiet s ≡ true → In x (rest s w) → In x w.flight
+in_rest (Piece ms) w x q i = i
+in_rest (Deliver k) w x q i = in_remove x k w.flight i
+in_rest (Lose k) w x q i = in_remove x k w.flight i
+in_rest (Copy k) w x q i =
+    ⊎_elim (λ (j : In x w.flight). j)
+    (λ (j : In x (items_of (slice_get w.flight k))). in_place x k w.flight (in_option x (slice_get w.flight k) j))
+    (in_append x w.flight (items_of (slice_get w.flight k)) i)
+in_rest (At n l) w x q i = i
+in_rest (ClearAt n) w x q i = i
+in_rest (Trace on) w x q i = i
+in_rest (Report e) w x q i = i
+in_rest Flags w x q i = i
+in_rest (Inject e dst a) w x q i = absurd (cc)
+in_rest (Reroute g s hops) w x q i = i
+
+in_arrived : (s : Step) (w : World) (x : Item) → arrived s w ≡ Some x → In x w.flight
+in_arrived (Piece ms) w x e = absurd (cc)
+in_arrived (Deliver k) w x e = in_place x k w.flight e
+in_arrived (Lose k) w x e = absurd (cc)
+in_arrived (Copy k) w x e = absurd (cc)
+in_arrived (At n l) w x e = absurd (cc)
+in_arrived (ClearAt n) w x e = absurd (cc)
+in_arrived (Trace on) w x e = absurd (cc)
+in_arrived (Report r) w x e = absurd (cc)
+in_arrived Flags w x e = absurd (cc)
+in_arrived (Inject t dst a) w x e = absurd (cc)
+in_arrived (Reroute g s hops) w x e = absurd (cc)
+
+-- what is in flight after a step was there, or is sent by it
+pub in_flight_after : (q : ℕ) (s : Step) (u : World) (x : Item) → is_quiet s ≡ true → In x (step q s u).flight → In x u.flight ⊎ ((b : Bool) × In (x, b) (sent q s u))
+in_flight_after q s u x quiet i =
+    ⊎_elim (λ (j : In x (rest s u)). inl (in_rest s u x quiet j))
+    (λ (j : In x (each (λ y. y.0) (sent q s u))).
+    let r = in_each (λ (y : Item × Bool). y.0) x (sent q s u) j in
+    inr (r.0.1, subst (λ (z : Item). In (z, r.0.1) (sent q s u)) (sym r.2) r.1))
+    (in_append x (rest s u) (each (λ y. y.0) (sent q s u)) i)
+
+pub time_passes : (q : ℕ) → IsClocked (machine q)
+time_passes q = record { clock = λ s u e. refl }
+
+pub items_are_numbered : (q : ℕ) → IsStamped (machine q)
+items_are_numbered q = record {
+  made = λ s u. omega arith;
+  appended = λ s u x e i.
+      ⊎_elim (λ (old : In x u.flight). inl old)
+      (λ (new : (b : Bool) × In (x, b) (sent q s u)). let born = born_sent q s u (x, new.0) new.1 in inr (omega arith))
+      (in_flight_after q s u x e i);
+  arrived = λ s u x e. in_arrived s u x e;
+}
