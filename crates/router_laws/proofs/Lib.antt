@@ -9,3 +9,5 @@ pub mod Reserving
 pub mod Keeping
 pub mod LocalFacts
 pub mod Bounded
+pub mod Accepting
+pub mod Admitting

@@ -42,7 +42,7 @@ line_under st k r x l less is =
     record { style = ap (λ (z : Line). z.style) is; key = ap line_key is; part = subst (λ (z : Part). IsPartAtMost z r.part) (sym (ap (λ (z : Line). z.part) is)) less }
 
 module _ (f g : Facts) (less : AreFewer f g) where
-  lines_under : AreUnder (lines g) (lines f)
+  pub lines_under : AreUnder (lines g) (lines f)
   lines_under l i =
       let t = lines_told g l i in
       let r = less t.style t.key t.resv t.there in (

@@ -4,3 +4,4 @@ pub mod PathLaws
 pub mod CountdownLaws
 pub mod SpeakingLaws
 pub mod BoundLaws
+pub mod AcceptingLaws

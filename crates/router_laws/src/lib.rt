@@ -5,6 +5,7 @@
 //! so. Each public function has an empty body and a law as its promise; the statements are definitions in `specs/`.
 #![tactic(auto)]
 
+pub mod acceptance;
 pub mod bounds;
 pub mod countdowns;
 pub mod frames;
