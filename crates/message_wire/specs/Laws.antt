@@ -1,7 +1,16 @@
 -- The laws of what bytes spell.
-use Rattle.std.specs.Prelude.{◌≡◌, ℕ, List}
+use Rattle.std.specs.Prelude.{◌≡◌, ◌≤◌, ℕ, true, false, ◌||◌, ◌==◌, List, [], ◌∷◌, ◌++◌, length, Some, None}
+use Rattle.std.specs.List.{filter}
+use Rattle.rsvp_base.specs.declared.style.StyleKind.{StyleKind}
 use Rattle.rsvp_messages.specs.declared.fault.MsgErr.{MsgErr}
 use Rattle.rsvp_messages.specs.declared.message.Message.{Message}
+use Rattle.rsvp_messages.specs.Proper.{IsProper}
+use Rattle.rsvp_messages.specs.declared.message.Kind.{Kind}
+use Rattle.rsvp_objects.specs.declared.object.Object.{Object}
+use Rattle.rsvp_objects.specs.Proper.{AreBytes, class_of}
+use Rattle.message_wire.specs.Places.{has_place, is_repeated, name_fault, Stand}
+use Rattle.message_wire.specs.Said.{style_said, last_said, seen_of}
+use Rattle.message_wire.specs.Table.{flowspec, filter_spec, role_of, stands_once, is_anywhere}
 use Rattle.message_wire.specs.Spells.{Spells, IsFirstFault}
 
 -- bytes spell at most one message
@@ -15,3 +24,31 @@ NoFaultWhereSpelt = (b : List ℕ) (v : Message) (e : MsgErr) → Spells b v →
 -- bytes have at most one first fault, with one kind and one hint
 abbrev pub TheFirstFaultIsOne : Type 0
 TheFirstFaultIsOne = (b : List ℕ) (e f : MsgErr) → IsFirstFault b e → IsFirstFault b f → e ≡ f
+
+-- a message that bytes spell is proper
+abbrev pub WhatIsSpeltIsProper : Type 0
+WhatIsSpeltIsProper = (b : List ℕ) (v : Message) → AreBytes b → Spells b v → IsProper v
+
+-- ---- what may be said of all objects of a message at once
+
+-- an object is in its place, its class did not stand before where it stands once, and its sender is new
+pub record IsInPlace (kind : Kind) (before : List Object) (x : Object) : Type 0 where
+  pub place : has_place kind (seen_of before) (class_of x) ≡ true
+  pub once : is_repeated kind (seen_of before) (class_of x) ≡ false
+  pub name : (at : ℕ) → name_fault at (seen_of before) x ≡ None
+
+-- each object of a list that stands somewhere is in its place behind those before it, whatever the bytes are
+abbrev pub EachObjectIsInPlace : Type 0
+EachObjectIsInPlace = (kind : Kind) (b : List ℕ) (end : ℕ) (before after : List Object) (x : Object) → Stand kind b [] 8 (before ++ x ∷ after) end → IsInPlace kind before x
+
+abbrev pub how_many : ℕ → List Object → ℕ
+how_many n xs = length (filter (λ x. class_of x == n) xs)
+
+-- a class that stands once by the table stands at most once
+abbrev pub WhatStandsOnceIsSaidOnce : Type 0
+WhatStandsOnceIsSaidOnce = (kind : Kind) (b : List ℕ) (xs : List Object) (end n : ℕ) → AreBytes b → Stand kind b [] 8 xs end → stands_once (role_of kind n) ≡ true → how_many n xs ≤ 1
+
+-- behind a STYLE stand FLOWSPECs, FILTER_SPECs, and what may stand anywhere
+abbrev pub BehindStyleStandsTheList : Type 0
+BehindStyleStandsTheList = (kind : Kind) (b : List ℕ) (end : ℕ) (before after : List Object) (x : Object) (k : StyleKind) → Stand kind b [] 8 (before ++ x ∷ after) end → last_said style_said before ≡ Some k
+    → (is_anywhere (class_of x) || (class_of x == flowspec || class_of x == filter_spec)) ≡ true

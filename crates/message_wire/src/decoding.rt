@@ -29,6 +29,7 @@ pub fn decode(bytes: &[u8]) -> Result<Message, MsgErr>
     ensures err { IfErr result (IsFirstFault bytes.now) }
     ensures only { (v : AMessage) → Spells bytes.now v → result ≡ Ok v }
     ensures first { (e : AnError) → IsFirstFault bytes.now e → result ≡ Err e }
+    ensures proper { IfOk result IsProper }
 {
     let kind = match header(bytes) {
         Ok(kind) => kind,

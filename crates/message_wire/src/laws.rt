@@ -1,5 +1,5 @@
 //! The laws of what bytes spell.
-ghost use Rattle.message_wire.specs.Laws.{AMessageIsOne, NoFaultWhereSpelt, TheFirstFaultIsOne};
+ghost use Rattle.message_wire.specs.Laws.{AMessageIsOne, NoFaultWhereSpelt, TheFirstFaultIsOne, WhatIsSpeltIsProper, EachObjectIsInPlace, WhatStandsOnceIsSaidOnce, BehindStyleStandsTheList};
 
 /// Bytes spell at most one message.
 pub fn a_message_is_one()
@@ -14,4 +14,24 @@ pub fn no_fault_where_spelt()
 /// Bytes have at most one first fault, with one kind and one hint.
 pub fn the_first_fault_is_one()
     ensures { TheFirstFaultIsOne }
+{}
+
+/// A message that bytes spell is proper.
+pub fn what_is_spelt_is_proper()
+    ensures { WhatIsSpeltIsProper }
+{}
+
+/// Where objects stand one after the other, each is in its place behind those before it.
+pub fn each_object_is_in_place()
+    ensures { EachObjectIsInPlace }
+{}
+
+/// Where objects stand one after the other, a class that stands once by the table stands at most once.
+pub fn what_stands_once_is_said_once()
+    ensures { WhatStandsOnceIsSaidOnce }
+{}
+
+/// Behind a STYLE stand FLOWSPECs, FILTER_SPECs, and what may stand anywhere.
+pub fn behind_style_stands_the_list()
+    ensures { BehindStyleStandsTheList }
 {}

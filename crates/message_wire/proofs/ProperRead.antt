@@ -1,0 +1,342 @@
+-- What bytes spell is proper.
+use Rattle.std.proofs.Common.{◌≡◌, ℕ, suc, ◌+◌, ◌<◌, ◌≤◌, Bool, true, false, cond, List, [], ◌∷◌, ◌++◌, length, get_or, Option, Some, None, Result, Ok, Err, refl, sym, subst, ◌∙◌, arith, inl, inr}
+use Rattle.std.specs.List.{AllByRecursion}
+use Rattle.std.specs.Prelude.{map as each}
+use Rattle.rsvp_base.specs.declared.session.Sender.{Sender}
+use Rattle.rsvp_base.specs.declared.style.StyleKind.{StyleKind}
+use Rattle.rsvp_base.specs.declared.style.StyleKind.TheVariants.{Wild, Fixed, Shared}
+use Rattle.rsvp_base.specs.Members.{In}
+use Rattle.rsvp_base.specs.Orders.{Names, senders}
+use Rattle.rsvp_base.specs.Sets.{with_key, listed}
+use Rattle.rsvp_base.specs.Table.{empty, has, keys, size, put_in, with_rows}
+use Rattle.rsvp_base.specs.TokenBucket.{TokenBucket, IsSound}
+use Rattle.rsvp_base.proofs.Lists.{has_keys}
+use Rattle.rsvp_base.proofs.Members.{in_tied}
+use Rattle.rsvp_base.proofs.SetLaws.{size-with_rows}
+use Rattle.rsvp_base.proofs.Tables.{got_put_in, size-put_in}
+use Rattle.rsvp_objects.specs.declared.object.Object.{Object}
+use Rattle.rsvp_objects.specs.declared.object.Object.TheVariants as object
+use Rattle.rsvp_objects.specs.Proper as objects
+use Rattle.rsvp_objects.specs.Proper.{IsSource, AreBytes}
+use Rattle.rsvp_objects.proofs.Classes.{chosen}
+use Rattle.rsvp_messages.specs.declared.ask.Ask.{Ask}
+use Rattle.rsvp_messages.specs.declared.ask.Blame.{Blame}
+use Rattle.rsvp_messages.specs.declared.ask.Tear.{Tear}
+use Rattle.rsvp_messages.specs.declared.fault.Fault.{Fault}
+use Rattle.rsvp_messages.specs.declared.message.Kind.{Kind}
+use Rattle.rsvp_messages.specs.declared.message.Kind.TheVariants as kind
+use Rattle.rsvp_messages.specs.declared.message.Message.{Message}
+use Rattle.rsvp_messages.specs.FlowTable.{FlowTable}
+use Rattle.rsvp_messages.specs.Proper.{IsSome, IsScope, WhereThere, AreFlows, IsProperAsk, HasNoScope, IsProperTear, IsProperBlame, IsProper}
+use Rattle.message_wire.specs.declared.seen.Seen.{Seen}
+use Rattle.message_wire.specs.Laws.{WhatIsSpeltIsProper}
+use Rattle.message_wire.specs.Messages.{◌>>=◌, needed, sender_of, names_in, named, first_named, pairs_in, table_of_pairs, fixed_of, ask_of, tear_of, blame_of, path_of, resv_of, path_err_of, resv_err_of, path_tear_of, resv_tear_of, resv_conf_of, message_of}
+use Rattle.message_wire.specs.Places.{Stand}
+use Rattle.message_wire.specs.Said.{scope_said, tspec_said, flow_said, or_else, last_said, filter_with, filters_after, seen_of}
+use Rattle.message_wire.specs.Table.{is_unread}
+use Rattle.message_wire.proofs.Placed.{IsPlaced, placed, read_proper}
+use Rattle.message_wire.proofs.Standing.{good, good_is}
+
+-- ---- objects
+
+-- flows are sound, scopes name addresses alone
+abbrev pub IsSaid : Object → Type 0
+IsSaid (object.Scope names) = IsScope names
+IsSaid (object.FlowOf f) = IsSound f
+IsSaid (object.Tspec f) = IsSound f
+IsSaid _ = Unit {0}
+
+member_is : (P : Sender → Type 0) (xs : List Sender) (s : Sender) → AllByRecursion P xs → In s xs → P s
+member_is P [] s h i = absurd i
+member_is P (x ∷ xs) s h (inl e) = subst P (sym e) h.0
+member_is P (x ∷ xs) s h (inr i) = member_is P xs s h.1 i
+
+scope_is : (names : Names) → AllByRecursion IsSource (keys names) → IsScope names
+scope_is names h = λ s e. (member_is IsSource (keys names) s h (in_tied senders s (keys names) (sym (has_keys names s) ∙ e))).port
+
+said_is : (x : Object) → objects.IsProper x → IsSaid x
+said_is (object.Session s police) h = tt
+said_is (object.HopOf x) h = tt
+said_is (object.Time n) h = tt
+said_is (object.Error e) h = tt
+said_is (object.Scope names) h = scope_is names h.sources
+said_is (object.StyleOf k) h = tt
+said_is (object.FlowOf f) h = h.sound
+said_is (object.Filter s) h = tt
+said_is (object.Template s) h = tt
+said_is (object.Tspec f) h = h.sound
+said_is (object.Confirm a) h = tt
+said_is (object.Skipped n) h = tt
+
+placed_said : (kind : Kind) (s : Seen) (at : ℕ) (b : List ℕ) (x : Object) → AreBytes b → IsPlaced kind s at b x → IsSaid x
+placed_said kind s at b x bytes p = by_kind (is_unread kind p.head.class) refl
+  where
+    by_kind : (t : Bool) → is_unread kind p.head.class ≡ t → IsSaid x
+    by_kind false read = said_is x (read_proper kind s at b x bytes p read)
+    by_kind true unread =
+        elim (chosen (is_unread kind p.head.class) _ _ _ p.is_read) [
+          | inl q ↦ subst IsSaid (let same : object.Skipped p.head.class ≡ x = cc in same) tt
+          | inr q ↦ absurd (let z = sym unread ∙ q.0 in cc)
+        ]
+
+all_said : (kind : Kind) (b : List ℕ) (before : List Object) (at : ℕ) (xs : List Object) (end : ℕ) → AreBytes b → Stand kind b before at xs end → AllByRecursion IsSaid xs
+all_said kind b before at [] end bytes s = tt
+all_said kind b before at (x ∷ xs) end bytes s = (placed_said kind (seen_of before) at b x bytes (placed kind (seen_of before) at b x s.0 s.1), all_said kind b (before ++ x ∷ []) s.0 xs end bytes s.2)
+
+-- ---- what they say together
+
+or_is : {A : Type 0} (P : A → Type 0) (a b : Option A) → WhereThere P a → WhereThere P b → WhereThere P (or_else a b)
+or_is P (Some x) b p q = p
+or_is P None b p q = q
+
+last_is : {A : Type 0} (P : A → Type 0) (f : Object → Option A) → ((x : Object) → IsSaid x → WhereThere P (f x)) → (xs : List Object) → AllByRecursion IsSaid xs → WhereThere P (last_said f xs)
+unfolding last_said
+last_is P f each [] h = tt
+last_is P f each (x ∷ xs) h = or_is P (last_said f xs) (f x) (last_is P f each xs h.1) (each x h.0)
+
+scope_each : (x : Object) → IsSaid x → WhereThere IsScope (scope_said x)
+scope_each (object.Scope names) h = h
+scope_each (object.Session s p) h = tt
+scope_each (object.HopOf x) h = tt
+scope_each (object.Time n) h = tt
+scope_each (object.Error e) h = tt
+scope_each (object.StyleOf k) h = tt
+scope_each (object.FlowOf f) h = tt
+scope_each (object.Filter s) h = tt
+scope_each (object.Template s) h = tt
+scope_each (object.Tspec f) h = tt
+scope_each (object.Confirm a) h = tt
+scope_each (object.Skipped n) h = tt
+
+tspec_each : (x : Object) → IsSaid x → WhereThere IsSound (tspec_said x)
+tspec_each (object.Tspec f) h = h
+tspec_each (object.Session s p) h = tt
+tspec_each (object.HopOf x) h = tt
+tspec_each (object.Time n) h = tt
+tspec_each (object.Error e) h = tt
+tspec_each (object.Scope names) h = tt
+tspec_each (object.StyleOf k) h = tt
+tspec_each (object.FlowOf f) h = tt
+tspec_each (object.Filter s) h = tt
+tspec_each (object.Template s) h = tt
+tspec_each (object.Confirm a) h = tt
+tspec_each (object.Skipped n) h = tt
+
+flow_each : (x : Object) → IsSaid x → WhereThere IsSound (flow_said x)
+flow_each (object.FlowOf f) h = h
+flow_each (object.Session s p) h = tt
+flow_each (object.HopOf x) h = tt
+flow_each (object.Time n) h = tt
+flow_each (object.Error e) h = tt
+flow_each (object.Scope names) h = tt
+flow_each (object.StyleOf k) h = tt
+flow_each (object.Filter s) h = tt
+flow_each (object.Template s) h = tt
+flow_each (object.Tspec f) h = tt
+flow_each (object.Confirm a) h = tt
+flow_each (object.Skipped n) h = tt
+
+abbrev Filter : Type 0
+Filter = Sender × Option TokenBucket
+
+abbrev HasSound : Filter → Type 0
+HasSound e = WhereThere IsSound e.1
+
+filters_join : (es fs : List Filter) → AllByRecursion HasSound es → AllByRecursion HasSound fs → AllByRecursion HasSound (es ++ fs)
+filters_join [] fs p q = q
+filters_join (e ∷ es) fs p q = (p.0, filters_join es fs p.1 q)
+
+filter_each : (f : Option TokenBucket) (x : Object) → WhereThere IsSound f → AllByRecursion HasSound (filter_with f x)
+filter_each f (object.Filter s) h = (h, tt)
+filter_each f (object.Session s p) h = tt
+filter_each f (object.HopOf x) h = tt
+filter_each f (object.Time n) h = tt
+filter_each f (object.Error e) h = tt
+filter_each f (object.Scope names) h = tt
+filter_each f (object.StyleOf k) h = tt
+filter_each f (object.FlowOf g) h = tt
+filter_each f (object.Template s) h = tt
+filter_each f (object.Tspec g) h = tt
+filter_each f (object.Confirm a) h = tt
+filter_each f (object.Skipped n) h = tt
+
+filters_each : (f : Option TokenBucket) (xs : List Object) → WhereThere IsSound f → AllByRecursion IsSaid xs → AllByRecursion HasSound (filters_after f xs)
+unfolding filters_after
+filters_each f [] p h = tt
+filters_each f (x ∷ xs) p h = filters_join (filter_with f x) (filters_after (or_else (flow_said x) f) xs) (filter_each f x p) (filters_each (or_else (flow_said x) f) xs (or_is IsSound (flow_said x) f (flow_each x h.0) p) h.1)
+
+record IsSeenProper (s : Seen) : Type 0 where
+  scope : WhereThere IsScope s.scope
+  tspec : WhereThere IsSound s.tspec
+  flow : WhereThere IsSound s.flow
+  filters : AllByRecursion HasSound s.filters
+
+seen_proper : (xs : List Object) → AllByRecursion IsSaid xs → IsSeenProper (seen_of xs)
+seen_proper xs h =
+    record {
+      scope = last_is IsScope scope_said scope_each xs h;
+      tspec = last_is IsSound tspec_said tspec_each xs h;
+      flow = last_is IsSound flow_said flow_each xs h;
+      filters = filters_each None xs tt h;
+    }
+
+-- ---- lists of the styles
+
+-- what a step of a reading gave
+record Gave {A B : Type 0} (f : A → Result B Fault) (r : Result A Fault) (y : B) : Type 0 where
+  value : A
+  was : r ≡ good value
+  rest : f value ≡ good y
+
+gave : {A B : Type 0} (f : A → Result B Fault) (r : Result A Fault) (y : B) → (r >>= f) ≡ good y → Gave f r y
+gave f (Ok x) y e = record { value = x; was = refl; rest = e }
+gave f (Err g) y e = absurd cc
+
+there : {A : Type 0} (P : A → Type 0) (n : ℕ) (o : Option A) (x : A) → WhereThere P o → needed n o ≡ good x → P x
+there P n (Some y) x p e = subst P (good_is e) p
+there P n None x p e = absurd cc
+
+names_some : (e : Filter) (es : List Filter) → IsSome (names_in (e ∷ es))
+names_some e es = size-with_rows senders (listed (each (λ (f : Filter). f.0) es)) (with_key empty e.0)
+
+named_some : (es : List Filter) → WhereThere IsSome (named es)
+named_some [] = tt
+named_some (e ∷ es) = names_some e es
+
+first_one : (es : List Filter) → WhereThere (λ (n : Names). size n ≡ 1) (first_named es)
+first_one [] = tt
+first_one (e ∷ es) = refl
+
+abbrev HasSoundFlow : Sender × TokenBucket → Type 0
+HasSoundFlow e = IsSound e.1
+
+pairs_each : (es : List Filter) → AllByRecursion HasSound es → AllByRecursion HasSoundFlow (pairs_in es)
+pairs_each [] h = tt
+pairs_each ((s, Some f) ∷ es) h = (h.0, pairs_each es h.1)
+pairs_each ((s, None) ∷ es) h = pairs_each es h.1
+
+no_fewer : (b : Bool) (n : ℕ) → n ≤ cond b n (n + 1)
+no_fewer true n = omega arith
+no_fewer false n = omega arith
+
+rows_grow : (es : List (Sender × TokenBucket)) (t : FlowTable) → size t ≤ size (with_rows t es)
+rows_grow [] t = omega arith
+rows_grow (e ∷ es) t =
+    let step : size t ≤ size (put_in t e.0 e.1) = subst (λ (n : ℕ). size t ≤ n) (sym (size-put_in senders t e.0 e.1)) (no_fewer (has t e.0) (size t)) in
+    let rest = rows_grow es (put_in t e.0 e.1) in
+    omega arith
+
+put_flows : (t : FlowTable) (e : Sender × TokenBucket) → AreFlows t → IsSound e.1 → AreFlows (put_in t e.0 e.1)
+put_flows t e h p = λ s f is. elim (got_put_in senders t e.0 e.1 s f is) [ inl q ↦ subst IsSound (sym q.1) p | inr q ↦ h s f q ]
+
+rows_flows : (es : List (Sender × TokenBucket)) (t : FlowTable) → AreFlows t → AllByRecursion HasSoundFlow es → AreFlows (with_rows t es)
+rows_flows [] t h p = h
+rows_flows (e ∷ es) t h p = rows_flows es (put_in t e.0 e.1) (put_flows t e h p.0) p.1
+
+no_flows : AreFlows empty
+no_flows s f e = absurd cc
+
+table_proper : (es : List (Sender × TokenBucket)) → AllByRecursion HasSoundFlow es → WhereThere (λ (t : FlowTable). (0 < size t) × AreFlows t) (table_of_pairs es)
+table_proper [] h = tt
+table_proper (e ∷ es) h = (rows_grow es (put_in empty e.0 e.1), rows_flows (e ∷ es) empty no_flows h)
+
+fixed_proper : (due : Bool) (es : List Filter) (t : FlowTable) → AllByRecursion HasSound es → fixed_of due es ≡ good t → (0 < size t) × AreFlows t
+fixed_proper true es t h e = absurd cc
+fixed_proper false es t h e = there (λ (t : FlowTable). (0 < size t) × AreFlows t) 10 (table_of_pairs (pairs_in es)) t (table_proper (pairs_in es) (pairs_each es h)) e
+
+ask_proper : (scope : Option Names) (due : Bool) (es : List Filter) (f : TokenBucket) (k : StyleKind) (a : Ask) → WhereThere IsScope scope → AllByRecursion HasSound es → IsSound f → ask_of scope due es f k ≡ good a → IsProperAsk a
+ask_proper scope due es f Wild a p q r e = subst IsProperAsk (good_is e) (record { scope_is = p; flow_is = r })
+ask_proper scope due es f Fixed a p q r e =
+    let g = gave _ (fixed_of due es) a e in
+    let t = fixed_proper due es g.value q g.was in
+    subst IsProperAsk (good_is g.rest) (record { some = t.0; flows = t.1 })
+ask_proper scope due es f Shared a p q r e =
+    let g = gave _ (needed 10 (named es)) a e in
+    subst IsProperAsk (good_is g.rest) (record { some = there IsSome 10 (named es) g.value (named_some es) g.was; flow = r })
+
+no_scope : (due : Bool) (es : List Filter) (f : TokenBucket) (k : StyleKind) (a : Ask) → ask_of None due es f k ≡ good a → HasNoScope a
+no_scope due es f Wild a e = subst HasNoScope (good_is e) refl
+no_scope due es f Fixed a e = let g = gave _ (fixed_of due es) a e in subst HasNoScope (good_is g.rest) tt
+no_scope due es f Shared a e = let g = gave _ (needed 10 (named es)) a e in subst HasNoScope (good_is g.rest) tt
+
+tear_proper : (scope : Option Names) (es : List Filter) (k : StyleKind) (t : Tear) → WhereThere IsScope scope → tear_of scope es k ≡ good t → IsProperTear t
+tear_proper scope es Wild t p e = subst IsProperTear (good_is e) p
+tear_proper scope es Fixed t p e = let g = gave _ (needed 10 (named es)) t e in subst IsProperTear (good_is g.rest) (there IsSome 10 (named es) g.value (named_some es) g.was)
+tear_proper scope es Shared t p e = let g = gave _ (needed 10 (named es)) t e in subst IsProperTear (good_is g.rest) (there IsSome 10 (named es) g.value (named_some es) g.was)
+
+blame_proper : (scope : Option Names) (es : List Filter) (f : Option TokenBucket) (k : StyleKind) (x : Blame) → WhereThere IsScope scope → WhereThere IsSound f → blame_of scope es f k ≡ good x → IsProperBlame x
+blame_proper scope es f Wild x p q e = subst IsProperBlame (good_is e) (p, q)
+blame_proper scope es None Fixed x p q e = subst IsProperBlame (good_is e) tt
+blame_proper scope es (Some f) Fixed x p q e =
+    let g = gave _ (needed 10 (first_named es)) x e in
+    subst IsProperBlame (good_is g.rest) (there (λ (n : Names). size n ≡ 1) 10 (first_named es) g.value (first_one es) g.was, q)
+blame_proper scope es None Shared x p q e = subst IsProperBlame (good_is e) tt
+blame_proper scope es (Some f) Shared x p q e =
+    let g = gave _ (needed 10 (named es)) x e in
+    subst IsProperBlame (good_is g.rest) (there IsSome 10 (named es) g.value (named_some es) g.was, q)
+
+-- ---- messages
+
+sender_proper : (s : Option Sender) (f : Option TokenBucket) (o : Option (Sender × TokenBucket)) → WhereThere IsSound f → sender_of s f ≡ good o → WhereThere (λ (e : Sender × TokenBucket). IsSound e.1) o
+sender_proper (Some s) (Some f) o h e = subst (WhereThere HasSoundFlow) (good_is e) h
+sender_proper (Some s) None o h e = absurd cc
+sender_proper None (Some f) o h e = absurd cc
+sender_proper None None o h e = subst (WhereThere HasSoundFlow) (good_is e) tt
+
+made_proper : (k : Kind) (s : Seen) (v : Message) → IsSeenProper s → message_of k s ≡ good v → IsProper v
+unfolding message_of path_of resv_of path_err_of resv_err_of path_tear_of resv_tear_of resv_conf_of
+made_proper kind.Path s v h e =
+    let who = gave _ (needed 1 s.session) v e in
+    let hop = gave _ (needed 3 s.hop) v who.rest in
+    let period = gave _ (needed 5 s.period) v hop.rest in
+    let sender = gave _ (sender_of s.template s.tspec) v period.rest in
+    subst IsProper (good_is sender.rest) (sender_proper s.template s.tspec sender.value h.tspec sender.was)
+made_proper kind.Resv s v h e =
+    let who = gave _ (needed 1 s.session) v e in
+    let hop = gave _ (needed 3 s.hop) v who.rest in
+    let period = gave _ (needed 5 s.period) v hop.rest in
+    let style = gave _ (needed 8 s.style) v period.rest in
+    let flow = gave _ (needed 9 s.flow) v style.rest in
+    let a = gave _ (ask_of s.scope s.due s.filters flow.value style.value) v flow.rest in
+    subst IsProper (good_is a.rest) (ask_proper s.scope s.due s.filters flow.value style.value a.value h.scope h.filters (there IsSound 9 s.flow flow.value h.flow flow.was) a.was)
+made_proper kind.PathErr s v h e =
+    let who = gave _ (needed 1 s.session) v e in
+    let err = gave _ (needed 6 s.error) v who.rest in
+    subst IsProper (good_is err.rest) tt
+made_proper kind.ResvErr s v h e =
+    let who = gave _ (needed 1 s.session) v e in
+    let hop = gave _ (needed 3 s.hop) v who.rest in
+    let err = gave _ (needed 6 s.error) v hop.rest in
+    let style = gave _ (needed 8 s.style) v err.rest in
+    let blame = gave _ (blame_of s.scope s.filters s.flow style.value) v style.rest in
+    subst IsProper (good_is blame.rest) (blame_proper s.scope s.filters s.flow style.value blame.value h.scope h.flow blame.was)
+made_proper kind.PathTear s v h e =
+    let who = gave _ (needed 1 s.session) v e in
+    let hop = gave _ (needed 3 s.hop) v who.rest in
+    subst IsProper (good_is hop.rest) tt
+made_proper kind.ResvTear s v h e =
+    let who = gave _ (needed 1 s.session) v e in
+    let hop = gave _ (needed 3 s.hop) v who.rest in
+    let style = gave _ (needed 8 s.style) v hop.rest in
+    let t = gave _ (tear_of s.scope s.filters style.value) v style.rest in
+    subst IsProper (good_is t.rest) (tear_proper s.scope s.filters style.value t.value h.scope t.was)
+made_proper kind.ResvConf s v h e =
+    let who = gave _ (needed 1 s.session) v e in
+    let err = gave _ (needed 6 s.error) v who.rest in
+    let style = gave _ (needed 8 s.style) v err.rest in
+    let flow = gave _ (needed 9 s.flow) v style.rest in
+    let a = gave _ (ask_of None s.due s.filters flow.value style.value) v flow.rest in
+    let confirm = gave _ (needed 15 s.confirm) v a.rest in
+    subst IsProper (good_is confirm.rest) (
+      ask_proper None s.due s.filters flow.value style.value a.value tt h.filters (there IsSound 9 s.flow flow.value h.flow flow.was) a.was,
+      no_scope s.due s.filters flow.value style.value a.value a.was,
+    )
+
+pub what_is_spelt_is_proper : WhatIsSpeltIsProper
+what_is_spelt_is_proper b v bytes s = made_proper s.0 (seen_of s.2.0) v (seen_proper s.2.0 (all_said s.0 b [] 8 s.2.0 (length b) bytes s.2.1)) s.2.2
+
+-- ---- bytes of a slice
+
+pub bytes_of : (b : List ℕ) → ((i : ℕ) → get_or b i 0 < 256) → AreBytes b
+bytes_of [] h = tt
+bytes_of (x ∷ xs) h = (omega (arith, h 0), bytes_of xs (λ i. h (suc i)))
