@@ -1,5 +1,6 @@
 pub mod Lists
 pub mod Once
+pub mod Ordering
 pub mod Tests
 pub mod Knowing
 pub mod Offering
@@ -16,7 +17,11 @@ pub mod Styling
 pub mod Wholes
 pub mod Quiet
 pub mod Calling
+pub mod Wishing
+pub mod Flagging
 pub mod Asks
 pub mod Bounding
 pub mod Rooms
 pub mod Worked
+pub mod WorkedEdges
+pub mod Lived

@@ -87,7 +87,7 @@ module _ {K X : Type 0} (o : Keys K) where
 
 -- ---- lists in order have the same members
 module _ {X K : Type 0} (o : Keys K) (key : X → K) where
-  in_put : (y x : X) (xs : List X) → In y (put_in_order o key x xs) → (y ≡ x) ⊎ In y xs
+  pub in_put : (y x : X) (xs : List X) → In y (put_in_order o key x xs) → (y ≡ x) ⊎ In y xs
   in_put y x [] i = i
   in_put y x (z ∷ zs) i = by (is_lt (o.cmp (key z) (key x))) (in_put y x zs) i
     where

@@ -65,12 +65,12 @@ module _ (p : Place) (c : ℕ) (f : Facts) (ok : IsWithinBounds p c f) where
   settled_same = ap (λ (ts : ResvTables). settle p c (record f { resvs = ts })) tables_same ∙ ap (λ (t : Table sessions ℕ). record f { due = t }) due_same
 
 -- ---- sends
-none_in : {A : Type 0} (xs : List A) → ((x : A) → In x xs → ⊥) → xs ≡ []
+pub none_in : {A : Type 0} (xs : List A) → ((x : A) → In x xs → ⊥) → xs ≡ []
 none_in [] none = refl
 none_in (x ∷ xs) none = absurd (none x (inl refl))
 
 -- a set that is not without has a member
-some_member : (s : Names) → is_none s ≡ false → (x : Sender) × (has s x ≡ true)
+pub some_member : (s : Names) → is_none s ≡ false → (x : Sender) × (has s x ≡ true)
 some_member s e = by s.rows refl
   where
     by : (es : List (Sender × Unit {0})) → s.rows ≡ es → (x : Sender) × (has s x ≡ true)

@@ -47,15 +47,15 @@ row_counts {K} {X} o m k x g = by m.rows (found_in o m k x g)
     by (r ∷ es) i = lt-ltb 0 (length (r ∷ es)) (omega arith)
 
 -- ---- styles
-or_told : (a b : Bool) → (a || b) ≡ true → (a ≡ true) ⊎ (b ≡ true)
+pub or_told : (a b : Bool) → (a || b) ≡ true → (a ≡ true) ⊎ (b ≡ true)
 or_told true b e = inl refl
 or_told false b e = inr e
 
-or_left : (a b : Bool) → a ≡ true → (a || b) ≡ true
+pub or_left : (a b : Bool) → a ≡ true → (a || b) ≡ true
 or_left true b e = refl
 or_left false b e = absurd (cc)
 
-or_right : (a b : Bool) → b ≡ true → (a || b) ≡ true
+pub or_right : (a b : Bool) → b ≡ true → (a || b) ≡ true
 or_right true b e = refl
 or_right false b e = e
 
@@ -193,7 +193,7 @@ matched_made p f o x n =
     (record { sender = n.sender; among = has-kept senders (goes_out p o.session o.iface) (known f o.session) n.sender ∙ and_made _ _ n.among n.passes; passes = refl; name = n.name })
 
 -- a set with a member is not without
-has_some : (s : Names) (x : Sender) → has s x ≡ true → is_none s ≡ false
+pub has_some : (s : Names) (x : Sender) → has s x ≡ true → is_none s ≡ false
 has_some s x e = by s.rows (some_there (get s x) refl e)
   where
     some_there : (w : Option (Unit {0})) → get s x ≡ w → is_some w ≡ true → In (x, tt) s.rows

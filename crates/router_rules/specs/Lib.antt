@@ -21,10 +21,15 @@ pub mod Bounds
 pub mod FactLaws
 pub mod RuleLaws
 pub mod SendLaws
+pub mod OrderLaws
 pub mod MessageLaws
 pub mod ErrorLaws
 pub mod AskLaws
 pub mod CallLaws
+pub mod WishLaws
+pub mod FlagLaws
 pub mod Line
 pub mod PathRows
 pub mod ResvRows
+pub mod EdgeRows
+pub mod BoundRows

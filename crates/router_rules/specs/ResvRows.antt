@@ -99,10 +99,10 @@ pub record LeftOut : Type 0 where
 abbrev other_style : Stale
 other_style = StaleResv Fixed (session, ((1, t1), Of first)) (record { part = record { senders = set_of (first ∷ []); flow = flow 50 50 64 1500 }; confirm = None; dies = 60000 })
 
-abbrev two_paths : Outcome
+abbrev pub two_paths : Outcome
 two_paths = came fork_r 0 0 group (path true s1 second usual) (came fork_r 0 0 group (path true s1 first usual) no_facts).facts
 
-abbrev fixed_for : Sender → TokenBucket → Ask
+abbrev pub fixed_for : Sender → TokenBucket → Ask
 fixed_for x f = ask.Fixed (put_in empty x f)
 
 abbrev two_fixed : Outcome
@@ -147,10 +147,10 @@ pub record TearsGoOn : Type 0 where
       ≡ sent 1 group (path_tear r2 first) ∷ sent 0 s1 (message.ResvTear (record { session = session; hop = record { addr = r1; handle = 0 }; tear = tear.Wild (Some scope) })) ∷ []
 
 -- ---- blockades: 4 from t and 10 from u toward a link of 8
-abbrev small : TokenBucket
+abbrev pub small : TokenBucket
 small = flow 4 8 1 1500
 
-abbrev greedy : TokenBucket
+abbrev pub greedy : TokenBucket
 greedy = flow 10 8 1 1500
 
 abbrev fork_path : Outcome
@@ -218,7 +218,7 @@ both_walled = came fork_r 0 2 r3 (resv u1 None (wild (flow 10 8 4 1000))) (came 
 abbrev high_wall : Stale
 high_wall = StaleWall (session, target.Hop 0 s1) (record { wall = record { flow = flow 10 1 1 1500; sub = 2 }; dies = 60000 })
 
-abbrev one_walled : Outcome
+abbrev pub one_walled : Outcome
 one_walled = came fork_r 0 2 r3 (resv u1 None (wild (flow 10 8 4 1000))) (came fork_r 0 1 r2 (resv t1 None (wild (flow 9 20 1 1500))) (act_stale fork_r high_wall fork_path.facts)).facts
 
 pub record BlockadedMerge : Type 0 where

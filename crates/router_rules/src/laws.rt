@@ -5,6 +5,9 @@ ghost use Rattle.router_rules.specs.RuleLaws.{TablesByStyle, WaitingLeavesTheLiv
 ghost use Rattle.router_rules.specs.SendLaws.{SendsAreOfSixKinds};
 ghost use Rattle.router_rules.specs.AskLaws.{StylesInConflict, LossesByNames, UnitsInFull, ResvsInSteps};
 ghost use Rattle.router_rules.specs.CallLaws.{StepsWithoutChange, CallRefusals, CallsLeave, StaleRefusals, StaleLeaves, ClearLeaves};
+ghost use Rattle.router_rules.specs.WishLaws.{WishesAreGranted, MarksAreUsed};
+ghost use Rattle.router_rules.specs.FlagLaws.{FlagsByPathsAndResvs};
+ghost use Rattle.router_rules.specs.OrderLaws.{SendsInOrder};
 ghost use Rattle.router_rules.specs.ErrorLaws.{ArrivalsByAddress, FaultsByHint, PathErrsByTests, ResvErrsByTests, ErrorsOnceEach};
 ghost use Rattle.router_rules.specs.MessageLaws.{PathsByTests, ResvTearsByNames, ConfirmationsByWish, AsksOfParts, GoneByUnits, NoFactsAreWithinBounds};
 
@@ -101,7 +104,7 @@ pub fn fronts_are_the_rule()
 {}
 
 /// Each send is a tear of what is gone, an error, a confirmation, or an offer or request that is new or due; and each of
-/// these is sent. In which order is not told.
+/// these is sent.
 #[tactic(auto, using(crate::proofs::Sending::sends_are_of_six_kinds))]
 pub fn sends_are_of_six_kinds()
     ensures { SendsAreOfSixKinds }
@@ -233,4 +236,28 @@ pub fn stale_leaves()
 #[tactic(auto, using(crate::proofs::Calling::clear_leaves))]
 pub fn clear_leaves()
     ensures { ClearLeaves }
+{}
+
+/// Sends go in six lists one after another, each in the order of its keys, and once for each key.
+#[tactic(auto, using(crate::proofs::Ordering::sends_in_order))]
+pub fn sends_in_order()
+    ensures { SendsInOrder }
+{}
+
+/// A wish to be confirmed is granted here where something was taken and nothing new goes on for its session.
+#[tactic(auto, using(crate::proofs::Wishing::wishes_are_granted))]
+pub fn wishes_are_granted()
+    ensures { WishesAreGranted }
+{}
+
+/// A mark is used where its want takes part in a Resv that goes for a change; where a message has a wish of its own it waits.
+#[tactic(auto, using(crate::proofs::Wishing::marks_are_used))]
+pub fn marks_are_used()
+    ensures { MarksAreUsed }
+{}
+
+/// Policing flags tell of the paths that match an entry, and of reservations beside it.
+#[tactic(auto, using(crate::proofs::Flagging::flags_by_paths_and_resvs))]
+pub fn flags_by_paths_and_resvs()
+    ensures { FlagsByPathsAndResvs }
 {}

@@ -1,4 +1,6 @@
 //! Worked rows: what a router does at the nodes of a line of three, and of a fork. Each holds by computing the rule.
+ghost use Rattle.router_rules.specs.BoundRows.{LivedIsWithinBounds};
+ghost use Rattle.router_rules.specs.EdgeRows.{SomeNamesLeave, SendersAreBlockaded, ErrorsTogether, TooManyNames, WantsConflict, HandlesGoBack, RefusalsArrive};
 ghost use Rattle.router_rules.specs.PathRows.{PathGoesOn, PathsDropped, PathsEnd, LocalSenders, PathsMove, FaultsAreAnswered, PathErrorsGoOn};
 ghost use Rattle.router_rules.specs.ResvRows.{ResvGoesOn, RefusedRaiseKeepsTheOld, NoPathNoReservation, LeftOut, StylesMergeByTheirUnits, NextHopsMerge, TearsGoOn, GreedyIsBlockaded, BlockadedMerge, ErrorsGoOn, ConfirmationsComeBack, MarksWait, CallsAreRefused, FlagsAreByPaths};
 
@@ -126,4 +128,52 @@ pub fn calls_are_refused()
 #[tactic(auto, using(crate::proofs::Worked::flags_are_by_paths))]
 pub fn flags_are_by_paths()
     ensures { FlagsAreByPaths }
+{}
+
+/// A router with a sender and a receiver of its own, a path, a reservation and a blockade is within bounds.
+#[tactic(auto, using(crate::proofs::Lived::lived_is_within_bounds))]
+pub fn lived_is_within_bounds()
+    ensures { LivedIsWithinBounds }
+{}
+
+/// A reservation that loses some of its names stays with the others, and what goes on is sent anew.
+#[tactic(auto, using(crate::proofs::WorkedEdges::some_names_leave))]
+pub fn some_names_leave()
+    ensures { SomeNamesLeave }
+{}
+
+/// FF and SE requests are held back by the blockade of any of their senders.
+#[tactic(auto, using(crate::proofs::WorkedEdges::senders_are_blockaded))]
+pub fn senders_are_blockaded()
+    ensures { SendersAreBlockaded }
+{}
+
+/// Two errors of one Resv go in the order of their senders, and the first is heard.
+#[tactic(auto, using(crate::proofs::WorkedEdges::errors_together))]
+pub fn errors_together()
+    ensures { ErrorsTogether }
+{}
+
+/// A WF Resv for all is left out where more than sixteen addresses match.
+#[tactic(auto, using(crate::proofs::WorkedEdges::too_many_names))]
+pub fn too_many_names()
+    ensures { TooManyNames }
+{}
+
+/// A Resv of another style than a local want's is refused.
+#[tactic(auto, using(crate::proofs::WorkedEdges::wants_conflict))]
+pub fn wants_conflict()
+    ensures { WantsConflict }
+{}
+
+/// The handle that a previous hop gave goes back to it.
+#[tactic(auto, using(crate::proofs::WorkedEdges::handles_go_back))]
+pub fn handles_go_back()
+    ensures { HandlesGoBack }
+{}
+
+/// A refusal reaches the receiver and changes nothing there but its blockade; an open request alone goes on.
+#[tactic(auto, using(crate::proofs::WorkedEdges::refusals_arrive))]
+pub fn refusals_arrive()
+    ensures { RefusalsArrive }
 {}
