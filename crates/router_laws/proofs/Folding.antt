@@ -75,7 +75,7 @@ matching_within : (names : Option Names) (all : Names) → IsWithin (names_that_
 matching_within None all x e = e
 matching_within (Some names) all x e = (and_both _ _ (sym (has-cut senders names all x) ∙ e)).1
 
-only_one : (s x : Sender) → has (only s) x ≡ true → x ≡ s
+pub only_one : (s x : Sender) → has (only s) x ≡ true → x ≡ s
 only_one s x e = ⊎_elim (λ (is : x ≡ s). is) (λ (n : ⊥). absurd n) (set_of_in senders (s ∷ []) x e)
 
 wild_shape : (scope : Option Names) (flow : TokenBucket) (all : Names) (part : Part) → IsSound flow → ((x : Sender) → has all x ≡ true → name_of Wild x ≡ x) → part_of (names_that_match scope all) flow ≡ Some part → IsUnitShape Wild One part

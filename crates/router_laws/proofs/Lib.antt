@@ -11,3 +11,4 @@ pub mod LocalFacts
 pub mod Bounded
 pub mod Accepting
 pub mod Admitting
+pub mod Exemplary

@@ -98,7 +98,7 @@ left_is_left stays r x h =
     }
 
 -- a reservation with a name is what is left of itself
-itself : (r : ResvState) → has_name r.part ≡ true → IsLeftOf r r
+pub itself : (r : ResvState) → has_name r.part ≡ true → IsLeftOf r r
 itself r named = record { names = λ s e. e; flow = refl; named = named; dies = refl }
 
 pub forgotten_fewer : (before after : Facts) → AreFewer after (forget before after)

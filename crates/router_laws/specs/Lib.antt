@@ -5,3 +5,4 @@ pub mod CountdownLaws
 pub mod SpeakingLaws
 pub mod BoundLaws
 pub mod AcceptingLaws
+pub mod Examples
