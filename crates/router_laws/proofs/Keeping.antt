@@ -177,7 +177,7 @@ walls_source p c (Came e dst (Unspelt m)) f k x fit h = inl h
 walls_source p c (Came e dst (Spelt m)) f k x fit h = spelt_walls_set p c e m (is_mine p e dst m) f k x fit.0 fit.1 h
 
 -- where an error sets none, the blockades are as they were
-unset : (p : Place) (c e : ℕ) (m : ResvErrMsg) (flow : Option TokenBucket) (w : Walls) → (is_admission m.err && is_some flow) ≡ false → walls_with p c e m flow w ≡ w
+pub unset : (p : Place) (c e : ℕ) (m : ResvErrMsg) (flow : Option TokenBucket) (w : Walls) → (is_admission m.err && is_some flow) ≡ false → walls_with p c e m flow w ≡ w
 unset p c e m None w n = refl
 unset p c e m (Some flow) w n = by (is_admission m.err) n
   where

@@ -12,3 +12,4 @@ pub mod Bounded
 pub mod Accepting
 pub mod Admitting
 pub mod Exemplary
+pub mod Erring

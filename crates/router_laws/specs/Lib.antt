@@ -6,3 +6,4 @@ pub mod SpeakingLaws
 pub mod BoundLaws
 pub mod AcceptingLaws
 pub mod Examples
+pub mod ErrorLaws

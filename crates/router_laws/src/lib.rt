@@ -8,6 +8,7 @@
 pub mod acceptance;
 pub mod bounds;
 pub mod countdowns;
+pub mod errors;
 pub mod examples;
 pub mod frames;
 pub mod paths;
