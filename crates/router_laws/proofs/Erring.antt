@@ -22,14 +22,15 @@ use Rattle.router_rules.specs.Errors.{blockade_of, is_admission, walled_by, wall
 use Rattle.router_rules.specs.FactLaws.{ComesBy}
 use Rattle.router_rules.specs.Facts.{Blockade, Facts, WallKey, paths_in}
 use Rattle.router_rules.specs.Forgetting.{counted}
-use Rattle.router_rules.specs.Inputs.{Call, Came, Clear, Input, Moved, Spelt, Unspelt, Wait}
+use Rattle.router_rules.specs.Inputs.{Call, Came, Clear, Moved, Spelt, Unspelt, Wait}
 use Rattle.router_rules.specs.Known.{came_by}
 use Rattle.router_rules.specs.Place.{Place, own, period}
 use Rattle.router_rules.proofs.Leaving.{waiting_leaves_the_living}
 use Rattle.router_rules.proofs.Lists.{in_values}
 use Rattle.router_rules.proofs.Telling.{errors_and_walls}
 use Rattle.router_rules.proofs.Tests.{addr_told}
-use Rattle.router_laws.specs.ErrorLaws.{AnErrorChangesNoFact, IsBlockadeSet, WhereABlockadeComesFrom}
+use Rattle.router_laws.specs.ErrorLaws.{AnErrorChangesNoFact, IsBlockadeSet, WhereABlockadeComesFrom, only_goes_on}
+use Rattle.router_laws.specs.FrameLaws.{on_paths, on_resvs}
 use Rattle.router_laws.specs.Steps.{facts_then}
 use Rattle.router_laws.proofs.Counting.{due_then}
 use Rattle.router_laws.proofs.Framing.{left_as_it_was}
@@ -96,19 +97,35 @@ where_a_blockade_comes_from old p b c (Came e dst (Unspelt m)) f within k x h = 
 where_a_blockade_comes_from old p b c (Came e dst (Spelt m)) f within k x h = spelt_set p c e dst m (is_mine p e dst m) f k x refl h
 
 -- ---- what an error leaves
-abbrev error_in : ℕ → Addr → ResvErrMsg → Input
-error_in e dst m = Came e dst (Spelt (message.ResvErr m))
+-- it may change none of the other tables by itself
+none_of : (e : ℕ) (dst : Addr) (m : Message) → only_goes_on m ≡ true → (on_paths (Came e dst (Spelt m)) ≡ false) × (on_resvs (Came e dst (Spelt m)) ≡ false)
+none_of e dst (message.Path m) q = absurd (cc)
+none_of e dst (message.Resv m) q = absurd (cc)
+none_of e dst (message.PathErr m) q = (refl, refl)
+none_of e dst (message.ResvErr m) q = (refl, refl)
+none_of e dst (message.PathTear m) q = absurd (cc)
+none_of e dst (message.ResvTear m) q = absurd (cc)
+none_of e dst (message.ResvConf m) q = (refl, refl)
+
+-- what a countdown of the session becomes
+abbrev counts_to : ℕ → Facts → Session → Option ℕ
+counts_to from f s = cond (has (counted f) s) (Some (unwrap_or (get f.due s) from)) None
+
+acted : (p : Place) (c e : ℕ) (m : Message) (z : Bool) (f : Facts) (s : Session) → only_goes_on m ≡ true → counts_to (c + period p) (act_spelt p c e m z f).facts s ≡ counts_to (c + period p) f s
+acted p c e m false f s q = refl
+acted p c e (message.Path m) true f s q = absurd (cc)
+acted p c e (message.Resv m) true f s q = absurd (cc)
+acted p c e (message.PathErr m) true f s q = refl
+acted p c e (message.ResvErr m) true f s q = refl
+acted p c e (message.PathTear m) true f s q = absurd (cc)
+acted p c e (message.ResvTear m) true f s q = absurd (cc)
+acted p c e (message.ResvConf m) true f s q = refl
 
 -- countdowns stand where they did: the same senders are known
-error_due : (old p : Place) (b c e : ℕ) (dst : Addr) (m : ResvErrMsg) (f : Facts) → IsWithinBounds old b f → (facts_then old p c (error_in e dst m) f).due ≡ f.due
-error_due old p b c e dst m f within = same_table sessions _ _ (λ s. due_then old p c (error_in e dst m) f s ∙ acted s (is_mine p e dst (message.ResvErr m)) ∙ by s (has (counted f) s) (get f.due s) (within.due.counted s))
+error_due : (old p : Place) (b c e : ℕ) (dst : Addr) (m : Message) (f : Facts) → IsWithinBounds old b f → only_goes_on m ≡ true → (facts_then old p c (Came e dst (Spelt m)) f).due ≡ f.due
+error_due old p b c e dst m f within q =
+    same_table sessions _ _ (λ s. due_then old p c (Came e dst (Spelt m)) f s ∙ acted p c e m (is_mine p e dst m) f s q ∙ by s (has (counted f) s) (get f.due s) (within.due.counted s))
   where
-    acted : (s : Session) (z : Bool)
-        → cond (has (counted (act_spelt p c e (message.ResvErr m) z f).facts) s) (Some (unwrap_or (get (act_spelt p c e (message.ResvErr m) z f).facts.due s) (c + period p))) None
-        ≡ cond (has (counted f) s) (Some (unwrap_or (get f.due s) (c + period p))) None
-    acted s true = refl
-    acted s false = refl
-
     by : (s : Session) (z : Bool) (w : Option ℕ) → is_some w ≡ z → cond z (Some (unwrap_or w (c + period p))) None ≡ w
     by s true None e = absurd (cc)
     by s true (Some t) e = refl
@@ -135,10 +152,11 @@ error_walls p c e m f true h = by _ _
 pub an_error_changes_no_fact : AnErrorChangesNoFact
 an_error_changes_no_fact =
     record {
-      senders = λ old p b c e dst m f within. left_as_it_was.senders old p c (error_in e dst m) f refl;
-      paths = λ old p b c e dst m f within. left_as_it_was.paths old p c (error_in e dst m) f refl;
-      resvs = λ old p b c e dst m f within. left_as_it_was.resvs_whole old p b c (error_in e dst m) f within refl refl refl;
-      wants = λ old p b c e dst m f within. left_as_it_was.wants old p c (error_in e dst m) f refl;
-      due = λ old p b c e dst m f within. error_due old p b c e dst m f within;
+      senders = λ old p b c e dst m f within q. left_as_it_was.senders old p c (Came e dst (Spelt m)) f refl;
+      paths = λ old p b c e dst m f within q. left_as_it_was.paths old p c (Came e dst (Spelt m)) f (none_of e dst m q).0;
+      resvs = λ old p b c e dst m f within q. left_as_it_was.resvs_whole old p b c (Came e dst (Spelt m)) f within (none_of e dst m q).1 refl (none_of e dst m q).0;
+      wants = λ old p b c e dst m f within q. left_as_it_was.wants old p c (Came e dst (Spelt m)) f refl;
+      due = λ old p b c e dst m f within q. error_due old p b c e dst m f within q;
       walls = λ old p b c e dst m f within h. error_walls p c e m f (is_mine p e dst (message.ResvErr m)) h;
+      path_err = λ old p b c e dst m f within. left_as_it_was.walls old p c (Came e dst (Spelt (message.PathErr m))) f refl;
     }

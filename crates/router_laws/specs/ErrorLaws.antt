@@ -1,9 +1,11 @@
 -- Where errors and blockades come from, and that an error changes nothing else: the claims of the public laws.
-use Rattle.std.specs.Prelude.{◌≡◌, ℕ, ◌⊎◌, true, false, Some, None}
+use Rattle.std.specs.Prelude.{◌≡◌, ℕ, ◌⊎◌, Bool, true, false, Some, None}
 use Rattle.rsvp_base.specs.Members.{In}
 use Rattle.rsvp_base.specs.Table.{get}
 use Rattle.rsvp_base.specs.TokenBucket.{TokenBucket}
+use Rattle.rsvp_messages.specs.declared.message.Message.{Message}
 use Rattle.rsvp_messages.specs.declared.message.Message.TheVariants as message
+use Rattle.rsvp_messages.specs.declared.message.PathErrMsg.{PathErrMsg}
 use Rattle.rsvp_messages.specs.declared.message.ResvErrMsg.{ResvErrMsg}
 use Rattle.router_rules.specs.Bounds.{IsWithinBounds}
 use Rattle.router_rules.specs.Errors.{blockade_of, is_admission, walled_by}
@@ -33,13 +35,23 @@ abbrev pub WhereABlockadeComesFrom : Type 0
 WhereABlockadeComesFrom =
     (old p : Place) (b c : ℕ) (i : Input) (f : Facts) → IsWithinBounds old b f → (k : WallKey) (x : Blockade) → get (facts_then old p c i f).walls k ≡ Some x → (get f.walls k ≡ Some x) ⊎ IsBlockadeSet p c i f k x
 
--- ---- a PathErr, a ResvErr, and what is not spelt change no fact but blockades; of wants marks are used
+-- ---- a PathErr, a ResvErr and a ResvConf go on or end, and change no fact but blockades; marks of wants are used
+abbrev pub only_goes_on : Message → Bool
+only_goes_on (message.Path m) = false
+only_goes_on (message.Resv m) = false
+only_goes_on (message.PathErr m) = true
+only_goes_on (message.ResvErr m) = true
+only_goes_on (message.PathTear m) = false
+only_goes_on (message.ResvTear m) = false
+only_goes_on (message.ResvConf m) = true
+
 pub record AnErrorChangesNoFact : Type 0 where
-  pub senders : (old p : Place) (b c e : ℕ) (dst : Addr) (m : ResvErrMsg) (f : Facts) → IsWithinBounds old b f → (facts_then old p c (Came e dst (Spelt (message.ResvErr m))) f).senders ≡ f.senders
-  pub paths : (old p : Place) (b c e : ℕ) (dst : Addr) (m : ResvErrMsg) (f : Facts) → IsWithinBounds old b f → (facts_then old p c (Came e dst (Spelt (message.ResvErr m))) f).paths ≡ f.paths
-  pub resvs : (old p : Place) (b c e : ℕ) (dst : Addr) (m : ResvErrMsg) (f : Facts) → IsWithinBounds old b f → (facts_then old p c (Came e dst (Spelt (message.ResvErr m))) f).resvs ≡ f.resvs
-  pub wants : (old p : Place) (b c e : ℕ) (dst : Addr) (m : ResvErrMsg) (f : Facts) → IsWithinBounds old b f → AreSameButMarks f.wants (facts_then old p c (Came e dst (Spelt (message.ResvErr m))) f).wants
-  pub due : (old p : Place) (b c e : ℕ) (dst : Addr) (m : ResvErrMsg) (f : Facts) → IsWithinBounds old b f → (facts_then old p c (Came e dst (Spelt (message.ResvErr m))) f).due ≡ f.due
-  -- and where it is of no flow, or not of admission control, no blockade either
+  pub senders : (old p : Place) (b c e : ℕ) (dst : Addr) (m : Message) (f : Facts) → IsWithinBounds old b f → only_goes_on m ≡ true → (facts_then old p c (Came e dst (Spelt m)) f).senders ≡ f.senders
+  pub paths : (old p : Place) (b c e : ℕ) (dst : Addr) (m : Message) (f : Facts) → IsWithinBounds old b f → only_goes_on m ≡ true → (facts_then old p c (Came e dst (Spelt m)) f).paths ≡ f.paths
+  pub resvs : (old p : Place) (b c e : ℕ) (dst : Addr) (m : Message) (f : Facts) → IsWithinBounds old b f → only_goes_on m ≡ true → (facts_then old p c (Came e dst (Spelt m)) f).resvs ≡ f.resvs
+  pub wants : (old p : Place) (b c e : ℕ) (dst : Addr) (m : Message) (f : Facts) → IsWithinBounds old b f → only_goes_on m ≡ true → AreSameButMarks f.wants (facts_then old p c (Came e dst (Spelt m)) f).wants
+  pub due : (old p : Place) (b c e : ℕ) (dst : Addr) (m : Message) (f : Facts) → IsWithinBounds old b f → only_goes_on m ≡ true → (facts_then old p c (Came e dst (Spelt m)) f).due ≡ f.due
+  -- blockades neither, but by a ResvErr of admission control with a flow
   pub walls : (old p : Place) (b c e : ℕ) (dst : Addr) (m : ResvErrMsg) (f : Facts) → IsWithinBounds old b f → (m.blame.flow ≡ None) ⊎ (is_admission m.err ≡ false)
       → (facts_then old p c (Came e dst (Spelt (message.ResvErr m))) f).walls ≡ f.walls
+  pub path_err : (old p : Place) (b c e : ℕ) (dst : Addr) (m : PathErrMsg) (f : Facts) → IsWithinBounds old b f → (facts_then old p c (Came e dst (Spelt (message.PathErr m))) f).walls ≡ f.walls

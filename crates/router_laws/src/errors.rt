@@ -7,7 +7,7 @@ pub fn where_a_blockade_comes_from()
     ensures { WhereABlockadeComesFrom }
 {}
 
-/// A ResvErr changes no fact but blockades, and those only where it is of admission control and has a flow.
+/// A PathErr, a ResvErr and a ResvConf change no fact but blockades, and those only a ResvErr of admission control with a flow.
 #[tactic(auto, using(crate::proofs::Erring::an_error_changes_no_fact))]
 pub fn an_error_changes_no_fact()
     ensures { AnErrorChangesNoFact }
