@@ -1,5 +1,5 @@
 -- The rounds of a script are calm.
-use Rattle.std.proofs.Common.{◌≡◌, ℕ, zero, suc, ◌+◌, ◌*◌, ◌≤◌, List, [], ◌∷◌, ◌++◌, length, Bool, true, false, None, ◌⊎◌, inl, inr, ⊎_elim, arith, sym, refl, ap, subst, ◌∙◌}
+use Rattle.std.proofs.Common.{le-leb, ◌≡◌, ℕ, zero, suc, ◌+◌, ◌*◌, ◌≤◌, List, [], ◌∷◌, ◌++◌, length, Bool, true, false, None, ◌⊎◌, inl, inr, ⊎_elim, arith, sym, refl, ap, subst, ◌∙◌}
 use Rattle.rsvp_base.specs.Members.{In}
 use Rattle.rsvp_base.specs.Table.{has}
 use Rattle.rsvp_base.specs.declared.session.Session.{Session}
@@ -123,7 +123,7 @@ module _ (q : ℕ) where
 
   quiet_pass : (n : ℕ) → AreQuiet (machine q) (deliveries q n)
   quiet_pass zero = tt
-  quiet_pass (suc n) = (refl, quiet_pass n)
+  quiet_pass (suc n) = (le-leb 0 (2 * q) (omega arith), quiet_pass n)
 
   waits_pass : (n : ℕ) → waits (machine q) (deliveries q n) ≡ 0
   waits_pass zero = refl
@@ -133,7 +133,7 @@ module _ (q : ℕ) where
   quiet_halves zero w = tt
   quiet_halves (suc n) w =
       quiet_append (machine q) (half q w) (halves q n (run (machine q) (half q w) w))
-      (refl, quiet_pass (length (step q (Piece (2 * q)) w).flight)) (quiet_halves n (run (machine q) (half q w) w))
+      (le-leb (2 * q) (2 * q) (omega arith), quiet_pass (length (step q (Piece (2 * q)) w).flight)) (quiet_halves n (run (machine q) (half q w) w))
 
   waits_halves : (n : ℕ) (w : World) → waits (machine q) (halves q n w) ≡ 2 * q * n
   waits_halves zero w = omega arith

@@ -23,6 +23,7 @@ use Rattle.network_model.specs.Bounds.{AreBounds}
 use Rattle.network_model.specs.Locals.{senders_at}
 use Rattle.network_model.specs.Steps.{Step, is_quiet, ms_of, arrived, word_for, input_at, outcome, still, step, machine}
 use Rattle.network_model.specs.Worlds.{Item, World, place_of}
+use Rattle.network_model.proofs.Machines.{quiet_of}
 use Rattle.network_model.proofs.Quiet.{IsWaited, IsCame, FollowsRule, input_found, net_quiet, outcome_quiet}
 use Rattle.network_model.proofs.Stepping.{facts_after_found, facts_after_made}
 use Rattle.network_laws.specs.Lines.{IsSameNet, PathValue, value_of, path_at, by_iface, path_line}
@@ -187,7 +188,7 @@ path_keeps q w k e lt = record {
         },
         refl,
       ))
-      (path_source q s u quiet a.bounds n k x.0 x.1);
+      (path_source q s u (quiet_of q s quiet) a.bounds n k x.0 x.1);
   room = λ u v d a h.
       let x = iface_found (iface_of w.net.ends e) (path_at u (node_of w.net.ends e) k) v d h in
       let r = path_room q u (node_of w.net.ends e) k x.0 a.bounds x.1 in

@@ -1,5 +1,5 @@
 -- What a Path says that a quiet step sends.
-use Rattle.std.proofs.Common.{◌≡◌, ℕ, ◌+◌, ◌*◌, ◌<◌, List, [], ◌∷◌, length, Bool, true, false, Option, None, Some, ◌⊎◌, inl, inr, ⊎_elim, sym, ap, subst, ◌∙◌}
+use Rattle.std.proofs.Common.{refl, ◌≡◌, ℕ, ◌+◌, ◌*◌, ◌<◌, List, [], ◌∷◌, length, Bool, true, false, Option, None, Some, ◌⊎◌, inl, inr, ⊎_elim, sym, ap, subst, ◌∙◌}
 use Rattle.std.specs.Prelude.{slice_get}
 use Rattle.std.specs.List.{filter}
 use Rattle.rsvp_base.specs.declared.addr.Addr.{Addr}
@@ -40,6 +40,10 @@ in_toward net false dst es e i = by (filter (λ x. is_addr (addr_of net x) dst) 
 
 pub goes_to_peers : (net : Net) (o : Option ℕ) (a : ℕ) (dst : Addr) (e : ℕ) → o ≡ Some a → In e (goes_to net o dst) → In e (peers net.links a)
 goes_to_peers net o a dst e is i = in_toward net (is_group dst) dst (peers net.links a) e (subst (λ (z : Option ℕ). In e (goes_to net z dst)) is i)
+
+pub goes_to_end : (net : Net) (o : Option ℕ) (dst : Addr) (e : ℕ) → In e (goes_to net o dst) → (a : ℕ) × (o ≡ Some a)
+goes_to_end net None dst e i = absurd i
+goes_to_end net (Some a) dst e i = (a, refl)
 
 -- ---- a Path in flight that a node sent in the step
 -- the node knows the sender after the step, and sends by an end by which the sender's tree leaves

@@ -30,7 +30,7 @@ use Rattle.network_model.specs.Locals.{IsLive}
 use Rattle.network_model.specs.Sound.{IsSoundAt, ArePathsSound}
 use Rattle.network_model.specs.Steps.{Step, is_quiet, sent, step, machine}
 use Rattle.network_model.specs.Worlds.{Item, World}
-use Rattle.network_model.proofs.Machines.{time_passes, items_are_numbered, in_flight_after}
+use Rattle.network_model.proofs.Machines.{quiet_of, time_passes, items_are_numbered, in_flight_after}
 use Rattle.network_laws.specs.Lines.{IsSameNet, IsKnown, PathValue, value_of, path_at, SaysPath, path_line}
 use Rattle.network_laws.proofs.PathLines.{path_made, iface_made, same_kept, path_keeps}
 use Rattle.network_laws.proofs.PathSends.{IsPathSent, path_sent}
@@ -44,7 +44,7 @@ pub known_hold : (q : ℕ) (w : World) (rs : List (List Step)) → Rounds (machi
 known_hold q w rs calm bounds =
     hold_map (machine q) (λ u. AreBounds q u × IsSameNet w u) (IsKnown q w) (λ u h. record { bounds = h.0; same = h.1 }) 0 rs w
     (hold_both (machine q) (AreBounds q) (IsSameNet w) 0 rs w bounds
-    (hold_keep (machine q) (AreBounds q) (IsSameNet w) (λ s u quiet b b' same. same_kept q s u quiet b w same) rs w calm bounds
+    (hold_keep (machine q) (AreBounds q) (IsSameNet w) (λ s u quiet b b' same. same_kept q s u (quiet_of q s quiet) b w same) rs w calm bounds
     (record { net = refl; trees = refl; senders = λ n. refl })))
 
 -- a sender that is live in the one is so in the other
@@ -154,7 +154,7 @@ module _ (q : ℕ) (o : World) (valid : IsValid o.net) where
       (λ a.
       only_what_is_said_is_kept (machine q) (time_passes q) (items_are_numbered q) (path_line q o a.0 a.1) (path_keeps q o a.0 a.1 a.2) (IsSoundAt o a.0 a.1) (λ v v0 b f. subst (IsSoundAt o a.0 a.1) (sym b) f) rs w calm known
       (hold_keep (machine q) (λ u. IsKnown q o u × Level d u) (SaysOnly (machine q) (path_line q o a.0 a.1) (IsSoundAt o a.0 a.1) w.made)
-      (λ s u quiet b b' j. says_step d w.made a.0 a.1 a.3 s u quiet b b' j) rs w calm both
+      (λ s u quiet b b' j. says_step d w.made a.0 a.1 a.3 s u (quiet_of q s quiet) b b' j) rs w calm both
       (λ y v i born says. let old = ((hold_start (machine q) (IsKnown q o) rs w known).bounds.flight y i).born in absurd (omega arith))))
 
   levels : (d : ℕ) (rs : List (List Step)) (w : World) → Rounds (machine q) rs w → Hold (machine q) 0 rs w (IsKnown q o) → Hold (machine q) (4 + 5 * d) rs w (Level d)
@@ -184,7 +184,7 @@ module _ (q : ℕ) (o : World) (valid : IsValid o.net) where
       hold_map (machine q) (λ u. AreNamed w.made u × Fresh (machine q) w.made u) (AreNamed 0) (λ u h y m i le. h.0 y m i (h.1 y i)) 1 rs w
       (hold_both (machine q) (AreNamed w.made) (Fresh (machine q) w.made) 1 rs w
       (hold_later (machine q) (AreNamed w.made) 0 1 rs w (omega arith)
-      (hold_keep (machine q) (IsKnown q o) (AreNamed w.made) (λ s u quiet a a' j. named_step w.made s u quiet a j) rs w calm known
+      (hold_keep (machine q) (IsKnown q o) (AreNamed w.made) (λ s u quiet a a' j. named_step w.made s u (quiet_of q s quiet) a j) rs w calm known
       (λ y m i born. let old = ((hold_start (machine q) (IsKnown q o) rs w known).bounds.flight y i).born in absurd (omega arith))))
       (hold_flush (machine q) (items_are_numbered q) rs w calm))
 

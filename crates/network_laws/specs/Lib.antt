@@ -1,2 +1,4 @@
 pub mod Rounds
 pub mod Lines
+pub mod Keeping
+pub mod Example

@@ -9,6 +9,9 @@ ghost use Rattle.network_model.specs.Bounds.{AreBounds};
 ghost use Rattle.network_model.specs.Sound.{ArePathsSound};
 ghost use Rattle.network_model.specs.Steps.{Step, machine};
 ghost use Rattle.network_model.specs.Worlds.{World};
+ghost use Rattle.network_model.specs.Steps.{step};
+ghost use Rattle.network_laws.specs.Example.{MeetsThePremises};
+ghost use Rattle.network_laws.specs.Keeping.{IsFitStep, SendsAreProper};
 ghost use Rattle.network_laws.specs.Lines.{PathValue, path_line};
 ghost use Rattle.network_laws.specs.Rounds.{RoundsIsCalm};
 
@@ -29,4 +32,20 @@ pub fn only_said_paths_are_kept()
 /// does each Path in flight; H is the length of the longest chain.
 pub fn paths_are_sound()
     ensures { (q : ℕ) (w : World) (rs : List (List Step)) → Rounds (machine q) rs w → Hold (machine q) 0 rs w (AreBounds q) → Hold (machine q) (4 + 5 * longest w.net) rs w ArePathsSound }
+{}
+
+/// Each step keeps a world within bounds, whatever step it is, where its piece, its call, its injected datagram or its new
+/// tree is fit; over what the rules of a router owe, that they send proper messages.
+pub fn each_step_keeps_a_world_within_bounds()
+    ensures { SendsAreProper → (q : ℕ) (w : World) (s : Step) → IsFitStep q w s → AreBounds q w → AreBounds q (step q s w) }
+{}
+
+/// So each world of a stretch of calm rounds is within bounds where the first one is.
+pub fn calm_rounds_keep_bounds()
+    ensures { SendsAreProper → (q : ℕ) (w : World) (rs : List (List Step)) → Rounds (machine q) rs w → AreBounds q w → Hold (machine q) 0 rs w (AreBounds q) }
+{}
+
+/// A small network meets the premises of these laws, and at its start what they promise does not hold yet.
+pub fn a_pair_meets_the_premises()
+    ensures { MeetsThePremises }
 {}

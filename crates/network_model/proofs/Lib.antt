@@ -2,4 +2,5 @@ pub mod Listing
 pub mod Stepping
 pub mod Machines
 pub mod Quiet
+pub mod Changing
 pub mod Worked

@@ -1,14 +1,23 @@
 -- The network is a machine of rounds: its clock runs, and its items are numbered.
 use Rattle.std.proofs.Common.{◌≡◌, ℕ, Bool, true, Some, ◌⊎◌, inl, inr, ⊎_elim, arith, refl, sym, ap, subst}
-use Rattle.std.specs.Prelude.{slice_get, map as each}
+use Rattle.std.proofs.lemmas.Bool.{leb-true}
+use Rattle.rsvp_base.proofs.SetLaws.{and_both}
+use Rattle.std.specs.Prelude.{nat_le, ◌*◌, ◌≤◌, slice_get, map as each}
 use Rattle.rsvp_base.specs.Members.{In}
 use Rattle.rsvp_base.proofs.Members.{in_append, in_each}
 use Rattle.calm_rounds.specs.Machine.{IsClocked, IsStamped, items_of}
 use Rattle.calm_rounds.proofs.Renewing.{in_option}
-use Rattle.network_model.specs.Steps.{Step, Piece, Deliver, Lose, Copy, At, ClearAt, Trace, Report, Flags, Inject, Reroute, is_quiet, arrived, rest, sent, outcome, step, machine}
+use Rattle.network_model.specs.Steps.{Step, Piece, Deliver, Lose, Copy, At, ClearAt, Trace, Report, Flags, Inject, Reroute, is_calm, is_quiet, ms_of, arrived, rest, sent, outcome, step, machine}
 use Rattle.network_model.specs.Worlds.{Item, World}
 use Rattle.network_model.proofs.Listing.{in_remove, in_place}
 use Rattle.network_model.proofs.Stepping.{copies_found, sent_found}
+
+-- a step of a calm round is quiet and short
+pub quiet_of : (q : ℕ) (s : Step) → is_calm q s ≡ true → is_quiet s ≡ true
+quiet_of q s e = (and_both (is_quiet s) (nat_le (ms_of s) (2 * q)) e).0
+
+pub short_of : (q : ℕ) (s : Step) → is_calm q s ≡ true → ms_of s ≤ 2 * q
+short_of q s e = leb-true (ms_of s) (2 * q) (and_both (is_quiet s) (nat_le (ms_of s) (2 * q)) e).1
 
 pub born_sent : (q : ℕ) (s : Step) (w : World) (x : Item × Bool) → In x (sent q s w) → x.0.born ≡ w.made
 born_sent q s w x i =
@@ -33,7 +42,7 @@ in_rest Flags w x q i = i
 in_rest (Inject e dst a) w x q i = absurd (cc)
 in_rest (Reroute g s hops) w x q i = i
 
-in_arrived : (s : Step) (w : World) (x : Item) → arrived s w ≡ Some x → In x w.flight
+pub in_arrived : (s : Step) (w : World) (x : Item) → arrived s w ≡ Some x → In x w.flight
 in_arrived (Piece ms) w x e = absurd (cc)
 in_arrived (Deliver k) w x e = in_place x k w.flight e
 in_arrived (Lose k) w x e = absurd (cc)
@@ -64,6 +73,6 @@ items_are_numbered q = record {
   appended = λ s u x e i.
       ⊎_elim (λ (old : In x u.flight). inl old)
       (λ (new : (b : Bool) × In (x, b) (sent q s u)). let born = born_sent q s u (x, new.0) new.1 in inr (omega arith))
-      (in_flight_after q s u x e i);
+      (in_flight_after q s u x (quiet_of q s e) i);
   arrived = λ s u x e. in_arrived s u x e;
 }

@@ -38,7 +38,7 @@ pub record IsCame (s : Step) (w : World) (n : ℕ) (i : Input) : Type 0 where
   pub node : end.node ≡ n
   pub is : i ≡ Came (iface_of w.net.ends item.end) item.dst item.arrival
 
-at_node_found : (m n : ℕ) (i j : Input) → at_node m i n ≡ Some j → (m ≡ n) × (j ≡ i)
+pub at_node_found : (m n : ℕ) (i j : Input) → at_node m i n ≡ Some j → (m ≡ n) × (j ≡ i)
 at_node_found m n i j e = by (m == n) refl e
   where
     by : (b : Bool) → (m == n) ≡ b → cond b (Some i) None ≡ Some j → (m ≡ n) × (j ≡ i)

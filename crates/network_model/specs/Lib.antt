@@ -7,4 +7,5 @@ pub mod Runs
 pub mod Locals
 pub mod Sound
 pub mod Bounds
+pub mod Laws
 pub mod Rows

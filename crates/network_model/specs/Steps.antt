@@ -1,5 +1,5 @@
 -- Steps of a network: each leads from a world to a world, and tells what it sends and what arrives by it.
-use Rattle.std.specs.Prelude.{ℕ, suc, ◌+◌, ◌*◌, ◌/◌, ◌%◌, ◌==◌, Bool, true, false, cond, not, List, [], ◌∷◌, ◌++◌, map as each, length, Option, None, Some, slice_get}
+use Rattle.std.specs.Prelude.{ℕ, suc, ◌+◌, ◌*◌, ◌/◌, ◌%◌, ◌==◌, nat_le, ◌&&◌, Bool, true, false, cond, not, List, [], ◌∷◌, ◌++◌, map as each, length, Option, None, Some, slice_get}
 use Rattle.std.proofs.Common.{zero}
 use Rattle.std.specs.List.{filter, remove}
 use Rattle.rsvp_base.specs.declared.addr.Addr.{Addr}
@@ -146,6 +146,10 @@ trace_after _ w = w.trace
 abbrev pub still : Facts → Outcome
 still f = record { facts = f; sent = []; heard = heard.Taken }
 
+-- a step of which calm rounds are made: a quiet one that waits half a period at most
+abbrev pub is_calm : ℕ → Step → Bool
+is_calm q s = is_quiet s && nat_le (ms_of s) (2 * q)
+
 module _ (q : ℕ) where
   abbrev pub outcome_of : Option Input → Step → World → ℕ → Facts → Outcome
   outcome_of None s w n f = still f
@@ -218,7 +222,7 @@ abbrev pub machine : ℕ → Machine World Step Item Lane
 machine q = record {
   quarter = q;
   step = step q;
-  quiet = is_quiet;
+  quiet = is_calm q;
   ms = ms_of;
   clock = λ w. w.clock;
   made = λ w. w.made;
