@@ -106,7 +106,7 @@ rerouted p routes b f w =
       booked = record { capacity = λ i on e. w.booked.capacity i on e; mtu = λ i on k part e g. w.booked.mtu i on k part e g };
     }
 
-same_node : (old p : Place) (b : ℕ) (f : Facts) → IsSameNode old p → IsWithinBounds old b f → IsWithinBounds p b f
+pub same_node : (old p : Place) (b : ℕ) (f : Facts) → IsSameNode old p → IsWithinBounds old b f → IsWithinBounds p b f
 same_node old p b f same w =
     rerouted (record old { quarter = p.quarter; ifaces = p.ifaces }) p.routes b f
     (subst (λ (z : ℕ × List Iface). IsWithinBounds (record old { quarter = z.0; ifaces = z.1 }) b f) (λ j. (same.quarter j, same.ifaces j)) w)

@@ -13,3 +13,4 @@ pub mod Accepting
 pub mod Admitting
 pub mod Exemplary
 pub mod Erring
+pub mod Wording

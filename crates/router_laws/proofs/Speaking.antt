@@ -81,6 +81,9 @@ offered p f k o e =
     let w = and_both (nat_lt k.iface (length p.ifaces)) (goes_out p k.session k.iface k.sender) t.0 in
     record { way = t.0; at = t.1; there = ltb-true k.iface (length p.ifaces) w.0; out = w.1; known_one = sym (offered_is_known f k) ∙ ap is_some t.1 }
 
+pub offer_of : (p : Place) (f : Facts) (k : OfferKey) (o : Offer) → get (offers p f) k ≡ Some o → offer_at f k ≡ Some o
+offer_of p f k o e = (offered p f k o e).at
+
 not_offered : (p : Place) (f : Facts) (k : OfferKey) → has (offers p f) k ≡ false → (is_way p k ≡ false) ⊎ (has (known f k.session) k.sender ≡ false)
 not_offered p f k e = by (is_way p k) refl (ap is_some (sym (offers_by_way p f k)) ∙ e)
   where

@@ -7,3 +7,4 @@ pub mod BoundLaws
 pub mod AcceptingLaws
 pub mod Examples
 pub mod ErrorLaws
+pub mod ProperLaws
