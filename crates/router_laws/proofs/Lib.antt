@@ -14,3 +14,8 @@ pub mod Admitting
 pub mod Exemplary
 pub mod Erring
 pub mod Wording
+pub mod Asking
+pub mod Hopward
+pub mod Blaming
+pub mod Blockading
+pub mod Instances

@@ -147,7 +147,7 @@ module _ (p : Place) (c e : ℕ) (m : ResvMsg) (f : Facts) (inside : e < length 
   resv_within w = taken_within w (is_none (known f m.session)) (style_conflict f m.session (ask_style m.ask))
 
 -- ---- a ResvTear
-tear_fewer : (e : ℕ) (m : ResvTearMsg) (f : Facts) → ((st : StyleKind) (k : LineKey) (r : ResvState) → get (resvs_of st f) k ≡ Some r → has_name r.part ≡ true) → AreFewer f (act_resv_tear e m f).facts
+pub tear_fewer : (e : ℕ) (m : ResvTearMsg) (f : Facts) → ((st : StyleKind) (k : LineKey) (r : ResvState) → get (resvs_of st f) k ≡ Some r → has_name r.part ≡ true) → AreFewer f (act_resv_tear e m f).facts
 tear_fewer e m f named st k x h =
     ⊎_elim
     (λ (same : st ≡ tear_style m.tear).

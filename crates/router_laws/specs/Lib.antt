@@ -8,3 +8,6 @@ pub mod AcceptingLaws
 pub mod Examples
 pub mod ErrorLaws
 pub mod ProperLaws
+pub mod ReservationLaws
+pub mod BlameLaws
+pub mod ReservationExamples

@@ -1,4 +1,5 @@
 //! Facts and inputs that meet the premises of the laws: no law speaks of nothing.
+ghost use Rattle.router_laws.specs.ReservationExamples.{ReservationLawsHaveExamples, BlameLawsHaveExamples};
 ghost use Rattle.router_laws.specs.Examples.{PathLawsHaveExamples, FrameLawsHaveExamples, CountdownLawHasExamples, SendLawsHaveExamples, BoundLawsHaveExamples, AcceptanceHasExamples};
 
 /// A Path that is learnt, one that finds no room, and path state that dies or is torn down.
@@ -35,4 +36,16 @@ pub fn bound_laws_have_examples()
 #[tactic(auto, using(crate::proofs::Exemplary::acceptance_has_examples))]
 pub fn acceptance_has_examples()
     ensures { AcceptanceHasExamples }
+{}
+
+/// A reservation that is asked for, stays and is torn down, with the Resv and the ResvTear that are sent.
+#[tactic(auto, using(crate::proofs::Instances::reservation_laws_have_examples))]
+pub fn reservation_laws_have_examples()
+    ensures { ReservationLawsHaveExamples }
+{}
+
+/// A refusal, an error that goes on, and a unit that goes toward a hop under a blockade.
+#[tactic(auto, using(crate::proofs::Instances::blame_laws_have_examples))]
+pub fn blame_laws_have_examples()
+    ensures { BlameLawsHaveExamples }
 {}

@@ -12,4 +12,5 @@ pub mod errors;
 pub mod examples;
 pub mod frames;
 pub mod paths;
+pub mod reservations;
 pub mod sends;

@@ -1,5 +1,5 @@
 -- What a node makes of where a message came, of messages that are not spelt, and of errors.
-use Rattle.std.specs.Prelude.{◌≡◌, ℕ, ◌<◌, ◌≤◌, nat_le, Bool, true, false, cond, not, ◌&&◌, ◌||◌, is_some, List, [], ◌∷◌, map as each, Option, Some, None, refl}
+use Rattle.std.specs.Prelude.{◌⊎◌, ◌≡◌, ℕ, ◌<◌, ◌≤◌, nat_le, Bool, true, false, cond, not, ◌&&◌, ◌||◌, is_some, List, [], ◌∷◌, map as each, Option, Some, None, refl}
 use Rattle.std.proofs.Common.{sym, ap, subst, ◌∙◌, inl, inr, ⊎_elim}
 use Rattle.std.proofs.lemmas.Bool.{le-leb, lt-leb}
 use Rattle.std.proofs.lemmas.Cmp.{tied_itself}
@@ -22,7 +22,7 @@ use Rattle.style_rules.specs.Lines.{NextHop, next_hops}
 use Rattle.router_rules.specs.declared.answers.Heard.TheVariants as heard
 use Rattle.router_rules.specs.declared.answers.Why.TheVariants as why
 use Rattle.router_rules.specs.Errors.{act_path_err, act_resv_err, blamed, blockade_of, error_on, error_to, errors_on, is_admission, is_told, lane_of, path_err, path_err_on, sets_walls, walled_by, walls_after, walls_heard, walls_with, with_errors}
-use Rattle.router_rules.specs.ErrorLaws.{ErrorsOnceEach, IsErrorTo, IsSpokenOf, PathErrsByTests, ResvErrsByTests, walls_set}
+use Rattle.router_rules.specs.ErrorLaws.{ErrorsOnceEach, IsErrorTo, IsSpokenOf, PathErrsByTests, ResvErrsByTests, errors_with, walls_set}
 use Rattle.router_rules.specs.FactLaws.{ComesBy}
 use Rattle.router_rules.specs.Facts.{Facts, PathState, ResvState, WallKey, Walls, paths_in, resvs_in, resvs_of, wall_keys}
 use Rattle.router_rules.specs.Inputs.{Change, ErrSend, only_heard}
@@ -78,12 +78,15 @@ from_hop : (e : ℕ) (m : ResvErrMsg) (f : Facts) (x : Sender) → ComesBy f m.s
 from_hop e m f x q =
     any_in (came_by (e, m.hop.addr)) q.path (values (paths_in f m.session)) (to_values senders (paths_in f m.session) x q.path (get-under sessions senders f.paths m.session x ∙ q.there)) q.by
 
-from_nowhere : (e : ℕ) (m : ResvErrMsg) (f : Facts) → ((x : Sender) → ComesBy f m.session (e, m.hop.addr) x → ⊥) → (b : Bool) → is_from e m f ≡ b → b ≡ false
-from_nowhere e m f none false s = refl
-from_nowhere e m f none true s =
+hop_found : (e : ℕ) (m : ResvErrMsg) (f : Facts) → is_from e m f ≡ true → (x : Sender) × ComesBy f m.session (e, m.hop.addr) x
+hop_found e m f s =
     let r = in_any (came_by (e, m.hop.addr)) (values (paths_in f m.session)) s in
     let v = in_values senders (paths_in f m.session) r.0 r.1 in
-    absurd (none v.0 (record { path = r.0; there = sym (get-under sessions senders f.paths m.session v.0) ∙ v.1; by = r.2 }))
+    (v.0, record { path = r.0; there = sym (get-under sessions senders f.paths m.session v.0) ∙ v.1; by = r.2 })
+
+from_nowhere : (e : ℕ) (m : ResvErrMsg) (f : Facts) → ((x : Sender) → ComesBy f m.session (e, m.hop.addr) x → ⊥) → (b : Bool) → is_from e m f ≡ b → b ≡ false
+from_nowhere e m f none false s = refl
+from_nowhere e m f none true s = let r = hop_found e m f s in absurd (none r.0 r.1)
 
 sets_none : (p : Place) (c e : ℕ) (m : ResvErrMsg) (w : Walls) (said : Option TokenBucket) → m.blame.flow ≡ said → (is_admission m.err && is_some said) ≡ false → walls_with p c e m said w ≡ w
 sets_none p c e m w None s h = refl
@@ -129,12 +132,19 @@ taken_with : (p : Place) (c e : ℕ) (m : ResvErrMsg) (f : Facts) (w : Walls) �
 taken_with p c e m f w is s r =
     err_is p c e m f true true s r ∙ ap (λ (v : Walls). record (only_heard heard.Taken (record f { walls = v })) { errors = errors_on p (record f { walls = v }) (lane_of e m) m }) is
 
+one_of_three : (p : Place) (c e : ℕ) (m : ResvErrMsg) (f : Facts) (from room : Bool) → is_from e m f ≡ from → has_place p c e m f ≡ room
+    → (act_resv_err p c e m f ≡ only_heard (heard.Dropped why.NoState) f) ⊎ (((x : Sender) × ComesBy f m.session (e, m.hop.addr) x) × ((act_resv_err p c e m f ≡ only_heard (heard.Dropped why.Full) f) ⊎ (act_resv_err p c e m f ≡ errors_with p c e m f)))
+one_of_three p c e m f false room s r = inl (err_elsewhere p c e m f room r s)
+one_of_three p c e m f true false s r = inr (hop_found e m f s, inl (err_is p c e m f true false s r))
+one_of_three p c e m f true true s r = inr (hop_found e m f s, inr (taken_with p c e m f (walls_set p c e m f) refl s r))
+
 pub resv_errs_by_tests : ResvErrsByTests
 resv_errs_by_tests =
     record {
       no_state = λ p c e m f none. err_elsewhere p c e m f (has_place p c e m f) refl (from_nowhere e m f none (is_from e m f) refl);
       full = λ p c e m f x q s many. err_is p c e m f true false (from_hop e m f x q) (no_room p c e m f s many);
       taken = λ p c e m f x q few. taken_with p c e m f (walls_set p c e m f) refl (from_hop e m f x q) (room_is p c e m f few);
+      one = λ p c e m f. one_of_three p c e m f (is_from e m f) (has_place p c e m f) refl refl;
       sets_none = sets_none_of;
       taken_too = λ p c e m f x q s. taken_with p c e m f f.walls (sets_none_of p c e m f s) (from_hop e m f x q) (no_test p c e m f s);
       beside = λ p c e m f k none. wall_beside p c e m f.walls k none m.blame.flow;

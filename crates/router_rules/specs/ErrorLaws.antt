@@ -26,7 +26,7 @@ use Rattle.router_rules.specs.Asking.{answered}
 use Rattle.router_rules.specs.Errors.{act_path_err, act_resv_err, act_unspelt, answer_of, blamed, error_to, errors_on, is_told, lane_of, reply_to, sets_walls, walled_by, walls_with}
 use Rattle.router_rules.specs.FactLaws.{ComesBy}
 use Rattle.router_rules.specs.Facts.{Facts, PathState, ResvState, WallKey, Walls, resvs_of}
-use Rattle.router_rules.specs.Inputs.{Came, ErrSend, OfPath, OfResv, Spelt, Unspelt, only_heard}
+use Rattle.router_rules.specs.Inputs.{Came, Change, ErrSend, OfPath, OfResv, Spelt, Unspelt, only_heard}
 use Rattle.router_rules.specs.Known.{Lane}
 use Rattle.router_rules.specs.Place.{Place, goes_out, own}
 
@@ -96,11 +96,18 @@ pub record PathErrsByTests : Type 0 where
 abbrev pub walls_set : Place → ℕ → ℕ → ResvErrMsg → Facts → Walls
 walls_set p c e m f = walls_with p c e m m.blame.flow f.walls
 
+-- what it does where a previous hop sent it and all of its blockades fit
+abbrev pub errors_with : Place → ℕ → ℕ → ResvErrMsg → Facts → Change
+errors_with p c e m f = record (only_heard heard.Taken (record f { walls = walls_set p c e m f })) { errors = errors_on p (record f { walls = walls_set p c e m f }) (lane_of e m) m }
+
 pub record ResvErrsByTests : Type 0 where
   pub no_state : (p : Place) (c e : ℕ) (m : ResvErrMsg) (f : Facts) → ((x : Sender) → ComesBy f m.session (e, m.hop.addr) x → ⊥) → act_resv_err p c e m f ≡ only_heard (heard.Dropped why.NoState) f
   pub full : (p : Place) (c e : ℕ) (m : ResvErrMsg) (f : Facts) (x : Sender) → ComesBy f m.session (e, m.hop.addr) x → sets_walls m ≡ true → 512 < size (walls_set p c e m f) → act_resv_err p c e m f ≡ only_heard (heard.Dropped why.Full) f
   pub taken : (p : Place) (c e : ℕ) (m : ResvErrMsg) (f : Facts) (x : Sender) → ComesBy f m.session (e, m.hop.addr) x → size (walls_set p c e m f) ≤ 512
-      → act_resv_err p c e m f ≡ record (only_heard heard.Taken (record f { walls = walls_set p c e m f })) { errors = errors_on p (record f { walls = walls_set p c e m f }) (lane_of e m) m }
+      → act_resv_err p c e m f ≡ errors_with p c e m f
+  -- it does one of the three
+  pub one : (p : Place) (c e : ℕ) (m : ResvErrMsg) (f : Facts)
+      → (act_resv_err p c e m f ≡ only_heard (heard.Dropped why.NoState) f) ⊎ (((x : Sender) × ComesBy f m.session (e, m.hop.addr) x) × ((act_resv_err p c e m f ≡ only_heard (heard.Dropped why.Full) f) ⊎ (act_resv_err p c e m f ≡ errors_with p c e m f)))
   -- one that sets none is not tested for room
   pub sets_none : (p : Place) (c e : ℕ) (m : ResvErrMsg) (f : Facts) → sets_walls m ≡ false → walls_set p c e m f ≡ f.walls
   pub taken_too : (p : Place) (c e : ℕ) (m : ResvErrMsg) (f : Facts) (x : Sender) → ComesBy f m.session (e, m.hop.addr) x → sets_walls m ≡ false → act_resv_err p c e m f ≡ record (only_heard heard.Taken f) { errors = errors_on p f (lane_of e m) m }
