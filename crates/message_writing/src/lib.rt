@@ -1,0 +1,12 @@
+//! Writing messages as bytes (RFC 2205, 3.1).
+//!
+//! `encode` writes each message in one way: the objects that it has, in one order, behind a header with the checksum. It
+//! stands on the objects of `rsvp_objects` and the checksum of `message_wire`. No call takes memory.
+#![tactic(auto)]
+
+mod encoding;
+mod lengths;
+mod lists;
+mod messages;
+
+pub use encoding::encode;

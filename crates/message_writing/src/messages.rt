@@ -1,0 +1,146 @@
+//! Writing the objects of each kind of message.
+ghost use Rattle.std.specs.Prelude.{◌≡◌, ◌<◌, ◌+◌, ◌++◌, false, length, OnOk, IsErr};
+ghost use Rattle.rsvp_objects.specs.declared.object.Object.TheVariants as AnObject;
+ghost use Rattle.message_writing.specs.Encoding.{spellings};
+ghost use Rattle.message_writing.specs.Objects.{where_there, sender_objects, path_objects, resv_objects, path_err_objects, resv_err_objects, path_tear_objects, resv_tear_objects, resv_conf_objects, objects_of};
+
+use crate::lists::{put_ask, put_blame, put_tear};
+use rsvp_base::{Addr, Flow, Full, Sender, Session};
+use rsvp_messages::{
+    Message, PathErrMsg, PathMsg, PathTearMsg, ResvConfMsg, ResvErrMsg, ResvMsg, ResvTearMsg,
+};
+use rsvp_objects::{Object, Packet, put_object};
+
+/// The objects of a message. `Full` only where they do not fit.
+pub fn put_objects(message: &Message, packet: &mut Packet) -> Result<(), Full>
+    ensures ok { OnOk result (packet.new ≡ packet.old ++ spellings (objects_of message.now)) }
+    ensures full { IsErr result → 4096 < length packet.old + length (spellings (objects_of message.now)) }
+{
+    match message {
+        Message::Path(m) => put_path(m, packet),
+        Message::Resv(m) => put_resv(m, packet),
+        Message::PathErr(m) => put_path_err(m, packet),
+        Message::ResvErr(m) => put_resv_err(m, packet),
+        Message::PathTear(m) => put_path_tear(m, packet),
+        Message::ResvTear(m) => put_resv_tear(m, packet),
+        Message::ResvConf(m) => put_resv_conf(m, packet),
+    }
+}
+
+fn put_path(m: &PathMsg, packet: &mut Packet) -> Result<(), Full>
+    ensures ok { OnOk result (packet.new ≡ packet.old ++ spellings (path_objects m.now)) }
+    ensures full { IsErr result → 4096 < length packet.old + length (spellings (path_objects m.now)) }
+{
+    put_object(
+        &Object::Session {
+            session: m.session,
+            police: m.police,
+        },
+        packet,
+    )?;
+    put_object(&Object::HopOf(m.hop), packet)?;
+    put_object(&Object::Time(m.period), packet)?;
+    put_offer(&m.sender, packet)
+}
+
+fn put_resv(m: &ResvMsg, packet: &mut Packet) -> Result<(), Full>
+    ensures ok { OnOk result (packet.new ≡ packet.old ++ spellings (resv_objects m.now)) }
+    ensures full { IsErr result → 4096 < length packet.old + length (spellings (resv_objects m.now)) }
+{
+    put_object(&session(m.session), packet)?;
+    put_object(&Object::HopOf(m.hop), packet)?;
+    put_object(&Object::Time(m.period), packet)?;
+    put_confirm(m.confirm, packet)?;
+    put_ask(&m.ask, packet)
+}
+
+fn put_path_err(m: &PathErrMsg, packet: &mut Packet) -> Result<(), Full>
+    ensures ok { OnOk result (packet.new ≡ packet.old ++ spellings (path_err_objects m.now)) }
+    ensures full { IsErr result → 4096 < length packet.old + length (spellings (path_err_objects m.now)) }
+{
+    put_object(&session(m.session), packet)?;
+    put_object(&Object::Error(m.err), packet)?;
+    put_template(m.sender, packet)
+}
+
+fn put_resv_err(m: &ResvErrMsg, packet: &mut Packet) -> Result<(), Full>
+    ensures ok { OnOk result (packet.new ≡ packet.old ++ spellings (resv_err_objects m.now)) }
+    ensures full { IsErr result → 4096 < length packet.old + length (spellings (resv_err_objects m.now)) }
+{
+    put_object(&session(m.session), packet)?;
+    put_object(&Object::HopOf(m.hop), packet)?;
+    put_object(&Object::Error(m.err), packet)?;
+    put_blame(&m.blame, packet)
+}
+
+fn put_path_tear(m: &PathTearMsg, packet: &mut Packet) -> Result<(), Full>
+    ensures ok { OnOk result (packet.new ≡ packet.old ++ spellings (path_tear_objects m.now)) }
+    ensures full { IsErr result → 4096 < length packet.old + length (spellings (path_tear_objects m.now)) }
+{
+    put_object(&session(m.session), packet)?;
+    put_object(&Object::HopOf(m.hop), packet)?;
+    put_template(m.sender, packet)
+}
+
+fn put_resv_tear(m: &ResvTearMsg, packet: &mut Packet) -> Result<(), Full>
+    ensures ok { OnOk result (packet.new ≡ packet.old ++ spellings (resv_tear_objects m.now)) }
+    ensures full { IsErr result → 4096 < length packet.old + length (spellings (resv_tear_objects m.now)) }
+{
+    put_object(&session(m.session), packet)?;
+    put_object(&Object::HopOf(m.hop), packet)?;
+    put_tear(&m.tear, packet)
+}
+
+fn put_resv_conf(m: &ResvConfMsg, packet: &mut Packet) -> Result<(), Full>
+    ensures ok { OnOk result (packet.new ≡ packet.old ++ spellings (resv_conf_objects m.now)) }
+    ensures full { IsErr result → 4096 < length packet.old + length (spellings (resv_conf_objects m.now)) }
+{
+    put_object(&session(m.session), packet)?;
+    put_object(&Object::Error(m.err), packet)?;
+    put_object(&Object::Confirm(m.confirm), packet)?;
+    put_ask(&m.ask, packet)
+}
+
+// A SESSION outside a Path.
+fn session(session: Session) -> Object
+    ensures { result ≡ AnObject.Session session false }
+{
+    Object::Session {
+        session,
+        police: false,
+    }
+}
+
+// SENDER_TEMPLATE and SENDER_TSPEC.
+fn put_offer(offer: &Option<(Sender, Flow)>, packet: &mut Packet) -> Result<(), Full>
+    ensures ok { OnOk result (packet.new ≡ packet.old ++ spellings (sender_objects offer.now)) }
+    ensures full { IsErr result → 4096 < length packet.old + length (spellings (sender_objects offer.now)) }
+{
+    match offer {
+        None => Ok(()),
+        Some((sender, flow)) => {
+            put_object(&Object::Template(*sender), packet)?;
+            put_object(&Object::Tspec(*flow), packet)
+        }
+    }
+}
+
+fn put_template(sender: Option<Sender>, packet: &mut Packet) -> Result<(), Full>
+    ensures ok { OnOk result (packet.new ≡ packet.old ++ spellings (where_there AnObject.Template sender)) }
+    ensures full { IsErr result → 4096 < length packet.old + length (spellings (where_there AnObject.Template sender)) }
+{
+    match sender {
+        None => Ok(()),
+        Some(sender) => put_object(&Object::Template(sender), packet),
+    }
+}
+
+fn put_confirm(receiver: Option<Addr>, packet: &mut Packet) -> Result<(), Full>
+    ensures ok { OnOk result (packet.new ≡ packet.old ++ spellings (where_there AnObject.Confirm receiver)) }
+    ensures full { IsErr result → 4096 < length packet.old + length (spellings (where_there AnObject.Confirm receiver)) }
+{
+    match receiver {
+        None => Ok(()),
+        Some(receiver) => put_object(&Object::Confirm(receiver), packet),
+    }
+}
