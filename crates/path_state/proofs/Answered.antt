@@ -16,7 +16,8 @@ use Rattle.rsvp_base.specs.SessionLimits.{sessions_in, has_room_at, IsWithinSess
 use Rattle.rsvp_base.specs.Table.{Table, empty, get, size, put_in, without, changed, changed_rows, kept_row, same_rows}
 use Rattle.path_state.specs.declared.fact.PathFact.{PathFact}
 use Rattle.path_state.specs.Paths.{PathMap, path_keys, path_key, fact_row, dead_row, later, dead_after}
-use Rattle.path_state.proofs.Limits.{is_full, within_put, within_fewer, within_none, all_at_most}
+use Rattle.soft_table.proofs.Counts.{is_full}
+use Rattle.path_state.proofs.Limits.{within_put, within_fewer, within_none, all_at_most}
 use Rattle.soft_table.specs.Facts as soft
 
 -- an answer that is lent is there where the fact is

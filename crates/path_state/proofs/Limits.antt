@@ -17,102 +17,36 @@ use Rattle.rsvp_base.proofs.Counts.{has-set_of, size_below}
 use Rattle.rsvp_base.proofs.SetLaws.{and_both, same_set, has-with_key, size-with_key}
 use Rattle.rsvp_base.proofs.Tables.{either, tied_same, tied_self, size-put_in, get-kept, get-without}
 use Rattle.rsvp_base.proofs.UnderLaws.{get-under, under-put_in_same, under-put_in_other}
+use Rattle.soft_table.proofs.Counts.{is_full, full_if, if_full, if_empty, at_most, is_at_most, has_session, some_rows, size_sessions, size_under}
 use Rattle.soft_table.proofs.Links.{size-without}
 
-abbrev pub is_full : {A : Type 0} → List A → Bool
-is_full [] = false
-is_full (x ∷ xs) = true
-
-full_if : {A : Type 0} (xs : List A) → 1 ≤ length xs → is_full xs ≡ true
-full_if [] le = absurd (omega arith)
-full_if (x ∷ xs) le = refl
-
-if_full : {A : Type 0} (xs : List A) → is_full xs ≡ true → 1 ≤ length xs
-if_full [] e = absurd (both_ways _ refl e)
-if_full (x ∷ xs) e = omega arith
-
-if_empty : {A : Type 0} (xs : List A) → is_full xs ≡ false → length xs ≡ 0
-if_empty [] e = refl
-if_empty (x ∷ xs) e = absurd (both_ways _ e refl)
-
-at_most : (a b : ℕ) → a ≤ b → nat_le a b ≡ true
-at_most a b le = grind (arith, nat_tests)
-
-is_at_most : (a b : ℕ) → nat_le a b ≡ true → a ≤ b
-is_at_most a b e = grind (arith, nat_tests)
-
 module _ {B X : Type 0} (o : Keys B) where
-  -- a session has a key where there is something under it
-  any_under : (q : Session) (es : List ((Session × B) × X)) → list_any (eq_by_cmp sessions.cmp q) (each (λ k. k.0) (each (λ e. e.0) es)) ≡ is_full (rows_under sessions o q es)
-  any_under q [] = refl
-  any_under q (e ∷ es) = by (eq_by_cmp sessions.cmp q e.0.0) (any_under q es)
-    where
-      by : (b : Bool) → list_any (eq_by_cmp sessions.cmp q) (each (λ k. k.0) (each (λ e. e.0) es)) ≡ is_full (rows_under sessions o q es)
-          → (b || list_any (eq_by_cmp sessions.cmp q) (each (λ k. k.0) (each (λ e. e.0) es))) ≡ is_full {A = B × X} (each (λ (e : (Session × B) × X). (e.0.1, e.1)) (cond b (e ∷ where_key (pairs sessions o).cmp (λ k. eq_by_cmp sessions.cmp q k.0) es) (where_key (pairs sessions o).cmp (λ k. eq_by_cmp sessions.cmp q k.0) es)))
-      by true rest = refl
-      by false rest = rest
-
-  pub has_session : (m : Table (pairs sessions o) X) (q : Session) → has (sessions_in o m) q ≡ is_full (under sessions o m q).rows
-  has_session m q = has-set_of sessions (each (λ k. k.0) (each (λ e. e.0) m.rows)) q ∙ any_under q m.rows
-
-  pub some_rows : (b : B) (es : List (B × X)) → is_some (find o.cmp b es) ≡ true → 1 ≤ length es
-  some_rows b [] h = absurd (both_ways _ refl h)
-  some_rows b (e ∷ es) h = omega arith
-
-  full_put : (m : Table o X) (b : B) (v : X) → is_full (put_in m b v).rows ≡ true
-  full_put m b v = full_if (put_in m b v).rows many
-    where
-      many : 1 ≤ size (put_in m b v)
-      many =
-          either (has m b)
-          (λ t. let n = size-put_in o m b v ∙ ap (λ w. cond w (size m) (size m + 1)) t in omega (arith, n, some_rows b m.rows t))
-          (λ t. let n = size-put_in o m b v ∙ ap (λ w. cond w (size m) (size m + 1)) t in omega (arith, n))
-
-  -- the sessions of a table with one more fact
-  pub sessions_put : (m : Table (pairs sessions o) X) (s : Session) (b : B) (v : X) → sessions_in o (put_in m (s, b) v) ≡ with_key (sessions_in o m) s
-  sessions_put m s b v =
-      same_set sessions _ _ (λ q. has_session (put_in m (s, b) v) q ∙ either (eq_by_cmp sessions.cmp q s)
-      (λ t.
-      let is = tied_same sessions q s t in
-      ap (λ x. is_full (under sessions o (put_in m (s, b) v) x).rows) is ∙ ap (λ (u : Table o X). is_full u.rows) (under-put_in_same sessions o m s b v) ∙ full_put (under sessions o m s) b v
-      ∙ sym (has-with_key sessions (sessions_in o m) s q ∙ ap (λ w. w || has (sessions_in o m) q) t))
-      (λ t.
-      ap (λ (u : Table o X). is_full u.rows) (under-put_in_other sessions o m s q b v t) ∙ sym (has_session m q)
-      ∙ sym (has-with_key sessions (sessions_in o m) s q ∙ ap (λ w. w || has (sessions_in o m) q) t)))
-
-  size_sessions : (m : Table (pairs sessions o) X) (s : Session) (b : B) (v : X) → size (sessions_in o (put_in m (s, b) v)) ≡ cond (is_full (under sessions o m s).rows) (size (sessions_in o m)) (size (sessions_in o m) + 1)
-  size_sessions m s b v = ap size (sessions_put m s b v) ∙ size-with_key sessions (sessions_in o m) s ∙ ap (λ w. cond w (size (sessions_in o m)) (size (sessions_in o m) + 1)) (has_session m s)
-
-  size_under : (m : Table (pairs sessions o) X) (s : Session) (b : B) (v : X) → size (under sessions o (put_in m (s, b) v) s) ≡ cond (is_some (get m (s, b))) (size (under sessions o m s)) (size (under sessions o m s) + 1)
-  size_under m s b v =
-      ap size (under-put_in_same sessions o m s b v) ∙ size-put_in o (under sessions o m s) b v ∙ ap (λ w. cond (is_some w) (size (under sessions o m s)) (size (under sessions o m s) + 1)) (get-under sessions o m s b)
-
   module _ (m : Table (pairs sessions o) X) (within : IsWithinSessionLimits o m) (s : Session) (b : B) (v : X) where
     -- where the key is there
     pub room_over : is_some (get m (s, b)) ≡ true → has_room_at o (put_in m (s, b) v) s ≡ true
     room_over there =
         let few : size (sessions_in o (put_in m (s, b) v)) ≡ size (sessions_in o m) =
-        size_sessions m s b v ∙ ap (λ w. cond w (size (sessions_in o m)) (size (sessions_in o m) + 1)) (full_if (under sessions o m s).rows (some_rows b (under sessions o m s).rows (ap is_some (get-under sessions o m s b) ∙ there))) in
-        let one = size_under m s b v ∙ ap (λ w. cond w (size (under sessions o m s)) (size (under sessions o m s) + 1)) there in
+        size_sessions o m s b v ∙ ap (λ w. cond w (size (sessions_in o m)) (size (sessions_in o m) + 1)) (full_if (under sessions o m s).rows (some_rows o b (under sessions o m s).rows (ap is_some (get-under sessions o m s b) ∙ there))) in
+        let one = size_under o m s b v ∙ ap (λ w. cond w (size (under sessions o m s)) (size (under sessions o m s) + 1)) there in
         ap (λ n. nat_le n 32 && nat_le (size (under sessions o (put_in m (s, b) v) s)) 16) few ∙ ap (λ n. nat_le (size (sessions_in o m)) 32 && nat_le n 16) one
         ∙ ap (λ t. t && nat_le (size (under sessions o m s)) 16) (at_most _ 32 within.all) ∙ at_most _ 16 (within.one s)
 
     -- where the session has facts
     pub room_among : is_some (get m (s, b)) ≡ false → is_full (under sessions o m s).rows ≡ true → has_room_at o (put_in m (s, b) v) s ≡ nat_le (size (under sessions o m s) + 1) 16
     room_among new some =
-        let few : size (sessions_in o (put_in m (s, b) v)) ≡ size (sessions_in o m) = size_sessions m s b v ∙ ap (λ w. cond w (size (sessions_in o m)) (size (sessions_in o m) + 1)) some in
-        let one = size_under m s b v ∙ ap (λ w. cond w (size (under sessions o m s)) (size (under sessions o m s) + 1)) new in
+        let few : size (sessions_in o (put_in m (s, b) v)) ≡ size (sessions_in o m) = size_sessions o m s b v ∙ ap (λ w. cond w (size (sessions_in o m)) (size (sessions_in o m) + 1)) some in
+        let one = size_under o m s b v ∙ ap (λ w. cond w (size (under sessions o m s)) (size (under sessions o m s) + 1)) new in
         ap (λ n. nat_le n 32 && nat_le (size (under sessions o (put_in m (s, b) v) s)) 16) few ∙ ap (λ n. nat_le (size (sessions_in o m)) 32 && nat_le n 16) one
         ∙ ap (λ t. t && nat_le (size (under sessions o m s) + 1) 16) (at_most _ 32 within.all)
 
     -- where it has none
     pub room_first : is_full (under sessions o m s).rows ≡ false → has_room_at o (put_in m (s, b) v) s ≡ nat_le (size (sessions_in o m) + 1) 32
     room_first none =
-        let few : size (sessions_in o (put_in m (s, b) v)) ≡ size (sessions_in o m) + 1 = size_sessions m s b v ∙ ap (λ w. cond w (size (sessions_in o m)) (size (sessions_in o m) + 1)) none in
+        let few : size (sessions_in o (put_in m (s, b) v)) ≡ size (sessions_in o m) + 1 = size_sessions o m s b v ∙ ap (λ w. cond w (size (sessions_in o m)) (size (sessions_in o m) + 1)) none in
         let no : is_some (get m (s, b)) ≡ false =
-        either (is_some (get m (s, b))) (λ t. absurd (omega (arith, if_empty (under sessions o m s).rows none, some_rows b (under sessions o m s).rows (ap is_some (get-under sessions o m s b) ∙ t)))) (λ t. t) in
+        either (is_some (get m (s, b))) (λ t. absurd (omega (arith, if_empty (under sessions o m s).rows none, some_rows o b (under sessions o m s).rows (ap is_some (get-under sessions o m s b) ∙ t)))) (λ t. t) in
         let one : size (under sessions o (put_in m (s, b) v) s) ≡ 1 =
-        size_under m s b v ∙ ap (λ w. cond w (size (under sessions o m s)) (size (under sessions o m s) + 1)) no ∙ ap (λ n. n + 1) (if_empty (under sessions o m s).rows none) in
+        size_under o m s b v ∙ ap (λ w. cond w (size (under sessions o m s)) (size (under sessions o m s) + 1)) no ∙ ap (λ n. n + 1) (if_empty (under sessions o m s).rows none) in
         ap (λ n. nat_le n 32 && nat_le (size (under sessions o (put_in m (s, b) v) s)) 16) few ∙ ap (λ n. nat_le (size (sessions_in o m) + 1) 32 && nat_le n 16) one ∙ and_true (nat_le (size (sessions_in o m) + 1) 32)
       where
         and_true : (t : Bool) → (t && true) ≡ t

@@ -4,5 +4,7 @@ pub mod Views
 pub mod Changes
 pub mod Walks
 pub mod Edges
+pub mod Steps
+pub mod Counts
 pub mod Maps
 pub mod Valued

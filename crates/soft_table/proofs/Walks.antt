@@ -10,7 +10,7 @@ use Rattle.std.specs.FinMap.Entries.{is_sorted, below_all, where_key}
 use Rattle.std.proofs.lemmas.Bool.{both_ways}
 use Rattle.std.proofs.lemmas.List.{drop_more}
 use Rattle.std.proofs.lemmas.Simd.{map-map}
-use Rattle.rsvp_base.specs.Keys.{Keys}
+use Rattle.rsvp_base.specs.Keys.{Keys, pairs}
 use Rattle.rsvp_base.specs.Orders.{sessions}
 use Rattle.rsvp_base.specs.Sets.{set_of, with_key}
 use Rattle.rsvp_base.specs.Table.{changed_rows, size, first, second, kept_row}
@@ -159,33 +159,33 @@ past_end {A} xs i e = ap (λ n. drop n xs) e ∙ whole xs
 
 -- ---- how many sessions
 module _ {F R : Type 0} (cells : List (Cell F)) where
-  sessions_cons : (last : Option Session) (r : Row R) (rs : List (Row R)) (e : F × ℕ) → live_in (slice_get cells r.slot.0) ≡ Some e → changes last (sessions_of cells (r ∷ rs)) ≡ cond (is_last last r.session) (changes last (sessions_of cells rs)) (1 + changes (Some r.session) (sessions_of cells rs))
-  sessions_cons last r rs e some = ap (λ w. changes last (each (λ e. e.0.0) (kept_row (r.session, r.rest) w (live_rows cells rs)))) some
+  sessions_cons : (last : Option Session) (r : Row R) (rs : List (Row R)) (e : F × ℕ) → live_in (slice_get cells r.slot.0) ≡ Some e → changes sessions last (sessions_of cells (r ∷ rs)) ≡ cond (is_last sessions last r.session) (changes sessions last (sessions_of cells rs)) (1 + changes sessions (Some r.session) (sessions_of cells rs))
+  sessions_cons last r rs e some = ap (λ w. changes sessions last (each (λ e. e.0.0) (kept_row (r.session, r.rest) w (live_rows cells rs)))) some
 
-  sessions_skip : (last : Option Session) (r : Row R) (rs : List (Row R)) → live_in (slice_get cells r.slot.0) ≡ None → changes last (sessions_of cells (r ∷ rs)) ≡ changes last (sessions_of cells rs)
-  sessions_skip last r rs none = ap (λ w. changes last (each (λ e. e.0.0) (kept_row (r.session, r.rest) w (live_rows cells rs)))) none
+  sessions_skip : (last : Option Session) (r : Row R) (rs : List (Row R)) → live_in (slice_get cells r.slot.0) ≡ None → changes sessions last (sessions_of cells (r ∷ rs)) ≡ changes sessions last (sessions_of cells rs)
+  sessions_skip last r rs none = ap (λ w. changes sessions last (each (λ e. e.0.0) (kept_row (r.session, r.rest) w (live_rows cells rs)))) none
 
-  pub more_sessions : (last : Option Session) (rows : List (Row R)) (i : ℕ) (r : Row R) → i < length rows → r ≡ get_or rows i r → (is_live (slice_get cells r.slot.0) && not (is_last last r.session)) ≡ true
-      → changes last (sessions_of cells (drop i rows)) ≡ 1 + changes (Some r.session) (sessions_of cells (drop (i + 1) rows))
+  pub more_sessions : (last : Option Session) (rows : List (Row R)) (i : ℕ) (r : Row R) → i < length rows → r ≡ get_or rows i r → (is_live (slice_get cells r.slot.0) && not (is_last sessions last r.session)) ≡ true
+      → changes sessions last (sessions_of cells (drop i rows)) ≡ 1 + changes sessions (Some r.session) (sessions_of cells (drop (i + 1) rows))
   more_sessions last rows i r lt is next =
-      let parts = and_both (is_live (slice_get cells r.slot.0)) (not (is_last last r.session)) next in
-      let new = not_true (is_last last r.session) parts.1 in
+      let parts = and_both (is_live (slice_get cells r.slot.0)) (not (is_last sessions last r.session)) next in
+      let new = not_true (is_last sessions last r.session) parts.1 in
       let e = live_some (slice_get cells r.slot.0) parts.0 in
-      ap (λ rs. changes last (sessions_of cells rs)) (from_here rows i r lt is) ∙ sessions_cons last r (drop (i + 1) rows) e.0 e.1
-      ∙ ap (λ b. cond b (changes last (sessions_of cells (drop (i + 1) rows))) (1 + changes (Some r.session) (sessions_of cells (drop (i + 1) rows)))) new
+      ap (λ rs. changes sessions last (sessions_of cells rs)) (from_here rows i r lt is) ∙ sessions_cons last r (drop (i + 1) rows) e.0 e.1
+      ∙ ap (λ b. cond b (changes sessions last (sessions_of cells (drop (i + 1) rows))) (1 + changes sessions (Some r.session) (sessions_of cells (drop (i + 1) rows)))) new
 
-  pub same_sessions : (last : Option Session) (rows : List (Row R)) (i : ℕ) (r : Row R) → i < length rows → r ≡ get_or rows i r → (is_live (slice_get cells r.slot.0) && not (is_last last r.session)) ≡ false
-      → changes last (sessions_of cells (drop i rows)) ≡ changes last (sessions_of cells (drop (i + 1) rows))
+  pub same_sessions : (last : Option Session) (rows : List (Row R)) (i : ℕ) (r : Row R) → i < length rows → r ≡ get_or rows i r → (is_live (slice_get cells r.slot.0) && not (is_last sessions last r.session)) ≡ false
+      → changes sessions last (sessions_of cells (drop i rows)) ≡ changes sessions last (sessions_of cells (drop (i + 1) rows))
   same_sessions last rows i r lt is next =
-      ap (λ rs. changes last (sessions_of cells rs)) (from_here rows i r lt is)
+      ap (λ rs. changes sessions last (sessions_of cells rs)) (from_here rows i r lt is)
       ∙ either (is_live (slice_get cells r.slot.0))
       (λ t.
       let e = live_some (slice_get cells r.slot.0) t in
-      let old = not_false (is_last last r.session) (ap (λ b. b && not (is_last last r.session)) (sym t) ∙ next) in
-      sessions_cons last r (drop (i + 1) rows) e.0 e.1 ∙ ap (λ b. cond b (changes last (sessions_of cells (drop (i + 1) rows))) (1 + changes (Some r.session) (sessions_of cells (drop (i + 1) rows)))) old)
+      let old = not_false (is_last sessions last r.session) (ap (λ b. b && not (is_last sessions last r.session)) (sym t) ∙ next) in
+      sessions_cons last r (drop (i + 1) rows) e.0 e.1 ∙ ap (λ b. cond b (changes sessions last (sessions_of cells (drop (i + 1) rows))) (1 + changes sessions (Some r.session) (sessions_of cells (drop (i + 1) rows)))) old)
       (λ t. sessions_skip last r (drop (i + 1) rows) (not_live_none _ t))
 
--- ---- rows in order change their session as often as there are sessions
+-- ---- rows in order change the first part of their keys as often as there are such parts
 not_after : (r q : Ordering) → T (is_lt (ordering_then r q)) → r ≡ Greater → ⊥
 not_after Less q h e = cc
 not_after Equal q h e = cc
@@ -196,59 +196,59 @@ before Less q h e = refl
 before Equal q h e = absurd (both_ways _ e refl)
 before Greater q h e = absurd h
 
-set_cons : (a : Session) (ss : List Session) → set_of {o = sessions} (a ∷ ss) ≡ with_key (set_of ss) a
-set_cons a ss = same_set sessions _ _ (λ q. has-set_of sessions (a ∷ ss) q ∙ ap (λ b. eq_by_cmp sessions.cmp q a || b) (sym (has-set_of sessions ss q)) ∙ sym (has-with_key sessions (set_of ss) a q))
+set_cons : {A : Type 0} (o : Keys A) (a : A) (ss : List A) → set_of {o = o} (a ∷ ss) ≡ with_key (set_of ss) a
+set_cons o a ss = same_set o _ _ (λ q. has-set_of o (a ∷ ss) q ∙ ap (λ b. eq_by_cmp o.cmp q a || b) (sym (has-set_of o ss q)) ∙ sym (has-with_key o (set_of ss) a q))
 
-size_cons : (a : Session) (ss : List Session) → size (set_of {o = sessions} (a ∷ ss)) ≡ cond (list_any (eq_by_cmp sessions.cmp a) ss) (size (set_of {o = sessions} ss)) (size (set_of {o = sessions} ss) + 1)
-size_cons a ss =
-    ap size (set_cons a ss) ∙ size-with_key sessions (set_of ss) a ∙ ap (λ b. cond b (size (set_of {o = sessions} ss)) (size (set_of {o = sessions} ss) + 1)) (has-set_of sessions ss a)
+size_cons : {A : Type 0} (o : Keys A) (a : A) (ss : List A) → size (set_of {o = o} (a ∷ ss)) ≡ cond (list_any (eq_by_cmp o.cmp a) ss) (size (set_of {o = o} ss)) (size (set_of {o = o} ss) + 1)
+size_cons o a ss =
+    ap size (set_cons o a ss) ∙ size-with_key o (set_of ss) a ∙ ap (λ b. cond b (size (set_of {o = o} ss)) (size (set_of {o = o} ss) + 1)) (has-set_of o ss a)
 
-module _ {R V : Type 0} (rests : Keys R) where
-  abbrev firsts : List ((Session × R) × V) → List Session
+module _ {A R V : Type 0} (o : Keys A) (rests : Keys R) where
+  abbrev firsts : List ((A × R) × V) → List A
   firsts es = each (λ e. e.0.0) es
 
   -- a session before that of a row is not that of a later row
-  none_later : (a : Session) (f : Session × R) (es : List ((Session × R) × V)) → sessions.cmp a f.0 ≡ Less → T (below_all (fact_keys rests).cmp f es) → list_any (eq_by_cmp sessions.cmp a) (firsts es) ≡ false
+  none_later : (a : A) (f : A × R) (es : List ((A × R) × V)) → o.cmp a f.0 ≡ Less → T (below_all (pairs o rests).cmp f es) → list_any (eq_by_cmp o.cmp a) (firsts es) ≡ false
   none_later a f [] lt h = refl
   none_later a f (g ∷ es) lt h =
-      let apart : eq_by_cmp sessions.cmp a g.0.0 ≡ false =
-      either (eq_by_cmp sessions.cmp a g.0.0)
+      let apart : eq_by_cmp o.cmp a g.0.0 ≡ false =
+      either (eq_by_cmp o.cmp a g.0.0)
       (λ t.
-      let is = tied_same sessions a g.0.0 t in
-      let back : sessions.cmp f.0 g.0.0 ≡ Greater = sessions.total.antisymm f.0 g.0.0 ∙ ap ordering_reverse (ap (λ x. sessions.cmp x f.0) (sym is) ∙ lt) in
-      absurd (not_after (sessions.cmp f.0 g.0.0) (rests.cmp f.1 g.0.1) (first _ _ h) back))
+      let is = tied_same o a g.0.0 t in
+      let back : o.cmp f.0 g.0.0 ≡ Greater = o.total.antisymm f.0 g.0.0 ∙ ap ordering_reverse (ap (λ x. o.cmp x f.0) (sym is) ∙ lt) in
+      absurd (not_after (o.cmp f.0 g.0.0) (rests.cmp f.1 g.0.1) (first _ _ h) back))
       (λ t. t) in
-      ap (λ b. b || list_any (eq_by_cmp sessions.cmp a) (firsts es)) apart ∙ none_later a f es lt (second _ _ h)
+      ap (λ b. b || list_any (eq_by_cmp o.cmp a) (firsts es)) apart ∙ none_later a f es lt (second _ _ h)
 
-  one_more : (e : (Session × R) × V) (es : List ((Session × R) × V)) → T (is_sorted (fact_keys rests).cmp (e ∷ es)) → size (set_of {o = sessions} (firsts (e ∷ es))) ≡ 1 + changes (Some e.0.0) (firsts es)
-  one_more e [] h = size_cons e.0.0 []
+  one_more : (e : (A × R) × V) (es : List ((A × R) × V)) → T (is_sorted (pairs o rests).cmp (e ∷ es)) → size (set_of {o = o} (firsts (e ∷ es))) ≡ 1 + changes o (Some e.0.0) (firsts es)
+  one_more e [] h = size_cons o e.0.0 []
   one_more e (f ∷ es) h =
       let a = e.0.0 in
       let b = f.0.0 in
       let rest = one_more f es (second _ _ h) in
-      either (eq_by_cmp sessions.cmp a b)
+      either (eq_by_cmp o.cmp a b)
       (λ t.
-      size_cons a (firsts (f ∷ es)) ∙ ap (λ w. cond (w || list_any (eq_by_cmp sessions.cmp a) (firsts es)) (size (set_of {o = sessions} (firsts (f ∷ es)))) (size (set_of {o = sessions} (firsts (f ∷ es))) + 1)) t
-      ∙ rest ∙ ap (λ x. 1 + changes (Some x) (firsts es)) (sym (tied_same sessions a b t)) ∙ ap (λ w. 1 + cond w (changes (Some a) (firsts es)) (1 + changes (Some b) (firsts es))) (sym t))
+      size_cons o a (firsts (f ∷ es)) ∙ ap (λ w. cond (w || list_any (eq_by_cmp o.cmp a) (firsts es)) (size (set_of {o = o} (firsts (f ∷ es)))) (size (set_of {o = o} (firsts (f ∷ es))) + 1)) t
+      ∙ rest ∙ ap (λ x. 1 + changes o (Some x) (firsts es)) (sym (tied_same o a b t)) ∙ ap (λ w. 1 + cond w (changes o (Some a) (firsts es)) (1 + changes o (Some b) (firsts es))) (sym t))
       (λ t.
-      let less = before (sessions.cmp a b) (rests.cmp e.0.1 f.0.1) (first _ _ (first _ _ h)) t in
-      let gone : (eq_by_cmp sessions.cmp a b || list_any (eq_by_cmp sessions.cmp a) (firsts es)) ≡ false = ap (λ w. w || list_any (eq_by_cmp sessions.cmp a) (firsts es)) t ∙ none_later a f.0 es less (first _ _ (second _ _ h)) in
-      let more : size (set_of {o = sessions} (firsts (e ∷ f ∷ es))) ≡ size (set_of {o = sessions} (firsts (f ∷ es))) + 1 = size_cons a (firsts (f ∷ es)) ∙ ap (λ w. cond w (size (set_of {o = sessions} (firsts (f ∷ es)))) (size (set_of {o = sessions} (firsts (f ∷ es))) + 1)) gone in
-      let change : changes (Some a) (firsts (f ∷ es)) ≡ 1 + changes (Some b) (firsts es) = ap (λ w. cond w (changes (Some a) (firsts es)) (1 + changes (Some b) (firsts es))) t in
+      let less = before (o.cmp a b) (rests.cmp e.0.1 f.0.1) (first _ _ (first _ _ h)) t in
+      let gone : (eq_by_cmp o.cmp a b || list_any (eq_by_cmp o.cmp a) (firsts es)) ≡ false = ap (λ w. w || list_any (eq_by_cmp o.cmp a) (firsts es)) t ∙ none_later a f.0 es less (first _ _ (second _ _ h)) in
+      let more : size (set_of {o = o} (firsts (e ∷ f ∷ es))) ≡ size (set_of {o = o} (firsts (f ∷ es))) + 1 = size_cons o a (firsts (f ∷ es)) ∙ ap (λ w. cond w (size (set_of {o = o} (firsts (f ∷ es)))) (size (set_of {o = o} (firsts (f ∷ es))) + 1)) gone in
+      let change : changes o (Some a) (firsts (f ∷ es)) ≡ 1 + changes o (Some b) (firsts es) = ap (λ w. cond w (changes o (Some a) (firsts es)) (1 + changes o (Some b) (firsts es))) t in
       omega (arith, more, rest, change))
 
-  pub all_changes : (es : List ((Session × R) × V)) → T (is_sorted (fact_keys rests).cmp es) → changes None (firsts es) ≡ size (set_of {o = sessions} (firsts es))
+  pub all_changes : (es : List ((A × R) × V)) → T (is_sorted (pairs o rests).cmp es) → changes o None (firsts es) ≡ size (set_of {o = o} (firsts es))
   all_changes [] h = refl
   all_changes (e ∷ es) h = sym (one_more e es h)
 
 module _ {F R : Type 0} (rests : Keys R) (key : F → Session × R) (cells : List (Cell F)) (rows : List (Row R)) (ix : IsIndex rests key cells rows) where
-  pub sessions_counted : (fs : List (F × ℕ)) → fs ≡ facts_in cells rows → changes None (sessions_of cells rows) ≡ size (sessions_in key fs)
+  pub sessions_counted : (fs : List (F × ℕ)) → fs ≡ facts_in cells rows → changes sessions None (sessions_of cells rows) ≡ size (sessions_in key fs)
   sessions_counted fs is =
       let listed : each (λ e. (key e.0).0) (facts_in cells rows) ≡ each (λ (e : (Session × R) × (F × ℕ)). e.0.0) (facts_by key (facts_in cells rows)) = sym (map-map (λ (e : (Session × R) × (F × ℕ)). e.0.0) (λ (e : F × ℕ). (key e.0, e)) (facts_in cells rows)) in
       let seen_rows : live_rows cells rows ≡ (seen rests key live_in cells ix.slots).rows = ap (λ es. changed_rows (λ k s. live_in (slice_get cells s)) es) ix.is in
       let facts_rows = facts_seen rests key cells rows ix in
-      ap (λ es. changes None (firsts rests es)) seen_rows ∙ all_changes rests (seen rests key live_in cells ix.slots).rows (seen rests key live_in cells ix.slots).sorted
-      ∙ ap (λ es. size (set_of {o = sessions} (firsts rests es))) (sym facts_rows) ∙ ap (λ ss. size (set_of {o = sessions} ss)) (sym listed) ∙ ap (λ gs. size (sessions_in key gs)) (sym is)
+      ap (λ es. changes sessions None (firsts sessions rests es)) seen_rows ∙ all_changes sessions rests (seen rests key live_in cells ix.slots).rows (seen rests key live_in cells ix.slots).sorted
+      ∙ ap (λ es. size (set_of {o = sessions} (firsts sessions rests es))) (sym facts_rows) ∙ ap (λ ss. size (set_of {o = sessions} ss)) (sym listed) ∙ ap (λ gs. size (sessions_in key gs)) (sym is)
 
   pub are_slots : AreSlots cells rows
   are_slots i r at =

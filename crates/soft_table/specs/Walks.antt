@@ -41,11 +41,11 @@ pub record BehindFrom {R : Type 0} (rests : Keys R) (s : Session) (rest : R) (ro
 abbrev pub sessions_of : {F R : Type 0} → List (Cell F) → List (Row R) → List Session
 sessions_of cells rows = each (λ e. e.0.0) (live_rows cells rows)
 
-abbrev pub is_last : Option Session → Session → Bool
-is_last None s = false
-is_last (Some t) s = eq_by_cmp sessions.cmp t s
+abbrev pub is_last : {A : Type 0} → Keys A → Option A → A → Bool
+is_last o None a = false
+is_last o (Some b) a = eq_by_cmp o.cmp b a
 
--- how often the session is another than the one before
-abbrev pub changes : Option Session → List Session → ℕ
-changes last [] = 0
-changes last (s ∷ ss) = cond (is_last last s) (changes last ss) (1 + changes (Some s) ss)
+-- how often the key is another than the one before
+abbrev pub changes : {A : Type 0} → Keys A → Option A → List A → ℕ
+changes o last [] = 0
+changes o last (a ∷ rest) = cond (is_last o last a) (changes o last rest) (1 + changes o (Some a) rest)

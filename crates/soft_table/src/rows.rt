@@ -146,7 +146,7 @@ pub(crate) fn nth<F: Fact>(
 
 // Whether the session is the last one met.
 fn is_last(last: Option<Session>, session: Session) -> bool
-    ensures { result ≡ is_last last session }
+    ensures { result ≡ is_last sessions last session }
 {
     match last {
         Some(s) => s.cmp(&session) == Ordering::Equal,
@@ -157,7 +157,7 @@ fn is_last(last: Option<Session>, session: Session) -> bool
 // Whether a row is that of a fact, and of another session than the last one met.
 fn is_next<F: Drop, R: Copy>(pool: &Pool<F>, row: &Row<R>, last: Option<Session>) -> bool
     requires { row.now.slot.0 < length pool.now }
-    ensures { result ≡ (is_live (slice_get pool.now row.now.slot.0) && not (is_last last row.now.session)) }
+    ensures { result ≡ (is_live (slice_get pool.now row.now.slot.0) && not (is_last sessions last row.now.session)) }
 {
     pool.live(row.slot) && !is_last(last, row.session)
 }
@@ -165,7 +165,7 @@ fn is_next<F: Drop, R: Copy>(pool: &Pool<F>, row: &Row<R>, last: Option<Session>
 // How many sessions have facts: rows of one session stand together.
 pub(crate) fn count_sessions<F: Fact>(pool: &Pool<F>, rows: &[Row<F::Rest>]) -> usize
     requires { AreSlots pool.now rows.now }
-    ensures { result ≡ changes None (sessions_of pool.now rows.now) }
+    ensures { result ≡ changes sessions None (sessions_of pool.now rows.now) }
 {
     let mut count = 0;
     let mut last = None;

@@ -1,0 +1,4 @@
+pub mod Facts
+pub mod Walked
+pub mod Limits
+pub mod Units

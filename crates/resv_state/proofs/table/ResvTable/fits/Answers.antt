@@ -1,0 +1,40 @@
+use Rattle.std.proofs.Common.{◌≡◌, ◌+◌, ◌&&◌, cond, is_some, length, ap, ◌∙◌}
+use Rattle.std.specs.Prelude.{nat_le}
+use Rattle.std.specs.FinMap.Entries.{find}
+use Rattle.rsvp_base.specs.Table.{size, put_in}
+use Rattle.style_rules.specs.Limits.{within_limits}
+use Rattle.style_rules.specs.Lines.{line_keys}
+use Rattle.soft_table.specs.Facts.{facts_by}
+use Rattle.resv_state.specs.Resvs.{ResvMap, resv_key, resv_lines, held_key}
+use Rattle.resv_state.specs.Walks.{Rest, held_under, with_names}
+use Rattle.resv_state.proofs.Facts.{no_dead}
+use Rattle.resv_state.proofs.Limits.{fits_is, one_fact, one_session, few_facts, few_under, few_sessions}
+use Rattle.resv_state.proofs.table.ResvTable.fits.Goals as goal
+
+pub fits_fact-room-requires-clause-pulled : goal.fits_fact-room-requires-clause-pulled
+fits_fact-room-requires-clause-pulled g c = no_dead c.self.inside.table.dead (ap (λ (m : ResvMap). m.dead.rows) c.self.view_is ∙ c.requires.pulled)
+
+pub fits_fact-room-requires-clause-few : goal.fits_fact-room-requires-clause-few
+fits_fact-room-requires-clause-few g c = few_facts g.S.Style.kind_is c.self.inside.table.facts c.self.inside.facts c.args.fact.now.session (resv_key g.S.Style.kind_is c.args.fact.now).1 (c.args.fact.now, 0) c.self.inside.within
+
+pub fits_session-known-requires : goal.fits_session-known-requires
+fits_session-known-requires g c = few_sessions g.S.Style.kind_is c.self.inside.table.facts c.self.inside.facts c.args.fact.now.session (resv_key g.S.Style.kind_is c.args.fact.now).1 (c.args.fact.now, 0) c.self.inside.within
+
+pub fits_hop-near-requires-clause-few : goal.fits_hop-near-requires-clause-few
+fits_hop-near-requires-clause-few g c = few_under g.S.Style.kind_is c.self.inside.table.facts c.self.inside.facts c.args.fact.now.session (resv_key g.S.Style.kind_is c.args.fact.now).1 (c.args.fact.now, 0) c.self.inside.within
+
+pub fits_names-named-requires-clause-few : goal.fits_names-named-requires-clause-few
+fits_names-named-requires-clause-few g c = few_under g.S.Style.kind_is c.self.inside.table.facts c.self.inside.facts c.args.fact.now.session (resv_key g.S.Style.kind_is c.args.fact.now).1 (c.args.fact.now, 0) c.self.inside.within
+
+pub returns : goal.returns
+returns g c = λ left.
+    let st = g.S.Style.kind_is in
+    let s = c.args.fact.now.session in
+    let r : Rest = (resv_key st c.args.fact.now).1 in
+    let fs = c.self.inside.table.facts in
+    let own : ◌≡◌ {A = Rest} ((c.args.fact.now.iface, c.args.fact.now.next), c.unit_of.result) r = ap (λ u. ((c.args.fact.now.iface, c.args.fact.now.next), u)) c.unit_of.ensures in
+    let a = c.fits_fact-room.ensures ∙ ap (λ (q : Rest). nat_le (cond (is_some (find line_keys.cmp (s, q) (facts_by held_key fs))) (length fs) (length fs + 1)) 1024) own ∙ one_fact st c.self.inside.table.facts c.self.inside.facts s r (c.args.fact.now, left) in
+    let b = c.fits_session-known.ensures ∙ one_session st c.self.inside.table.facts c.self.inside.facts s r (c.args.fact.now, left) in
+    let d = c.fits_names-named.ensures ∙ ap (λ (q : Rest). nat_le (size (with_names q c.args.fact.now.part.senders (held_under s fs))) 16) own in
+    c.are_all.ensures ∙ (λ i. a i && (b i && (c.fits_hop-near.ensures i && d i))) ∙ fits_is st c.self.inside.table.facts c.self.inside.facts s r (c.args.fact.now, left) c.self.inside.within
+    ∙ ap (λ (m : ResvMap). within_limits st (resv_lines st (put_in m.facts (resv_key st c.args.fact.now) (c.args.fact.now, left)))) c.self.view_is

@@ -1,0 +1,2 @@
+pub mod Resvs
+pub mod Walks

@@ -1,0 +1,160 @@
+//! The table of reservations of a style.
+ghost use Rattle.std.specs.Prelude.{◌≡◌, ◌≤◌, ◌<◌, ℕ, ◌↔◌, [], true, false, ◌||◌, is_some, IsErr, IsNone, IsTrue, IfOk, IfSome, OnOk, OnErr, None, Some, slice_get};
+ghost use Rattle.std.specs.Option.{option_copied, option_map};
+ghost use Rattle.rsvp_base.specs.Keys.{pairs};
+ghost use Rattle.rsvp_base.specs.Orders.{sessions, units};
+ghost use Rattle.rsvp_base.specs.Rows.{AreRows, table_of};
+ghost use Rattle.rsvp_base.specs.Table.{empty, get, put_in, size, without, changed};
+ghost use Rattle.rsvp_base.specs.Under.{under};
+ghost use Rattle.style_rules.specs.Limits.{within_limits, IsWithinLimits};
+ghost use Rattle.style_rules.specs.Lines.{line_keys, next_hops};
+ghost use Rattle.style_rules.specs.Parts.{IsOfStyle, part_unit};
+ghost use Rattle.resv_state.specs.Resvs.{ResvFacts, AreOfStyle, AreUnderTheirKeys, resv_key, resv_lines, held_row, dead_row, fact_of, dead_of, later, dead_after};
+
+use crate::fact::{Held, ResvFact};
+use crate::walks::{FACTS, are_all, fits_fact, fits_hop, fits_names, fits_session};
+use rsvp_base::{Addr, Full, NoMemory, Part, Senders, Session, Unit};
+use soft_table::SoftTable;
+use std::alloc::Global;
+use std::marker::{Model, PhantomData};
+use style_rules::Style;
+
+/// The reservations of a style that a node keeps, one for a session, next hop and unit. Contracts see a finite map from
+/// session, next hop (interface and address) and unit to the fact and the milliseconds that are left of it, and a finite
+/// map of the dead facts that wait to be pulled. It is within the limits of a table of reservations.
+#[derive(Drop)]
+pub struct ResvTable<S: Style> {
+    table: SoftTable<Held>,
+    of: PhantomData<S>,
+    ghost facts: { AreRows line_keys held_row table.facts },
+    ghost dead: { AreRows line_keys dead_row table.dead },
+    ghost room: { table.room ≡ 1024 },
+    ghost style: { AreOfStyle S.kind_is (changed fact_of (table_of line_keys held_row table.facts facts)) },
+    ghost gone: { AreUnderTheirKeys S.kind_is (changed dead_of (table_of line_keys dead_row table.dead dead)) },
+    ghost within: { IsWithinLimits S.kind_is (resv_lines S.kind_is (changed fact_of (table_of line_keys held_row table.facts facts))) },
+}
+
+impl<S: Style> Model for ResvTable<S> {
+    ghost use Rattle.rsvp_base.specs.Rows.{table_of};
+    ghost use Rattle.rsvp_base.specs.Table.{changed};
+    ghost use Rattle.style_rules.specs.Lines.{line_keys};
+    ghost use Rattle.resv_state.specs.Resvs.{ResvMap, resv_map_code, held_row, dead_row, fact_of, dead_of};
+
+    ghost Value = { ResvMap };
+
+    ghost coded = { resv_map_code };
+
+    ghost view = { λ t. record { facts = changed fact_of (table_of line_keys held_row t.table.facts t.facts); dead = changed dead_of (table_of line_keys dead_row t.table.dead t.dead) } };
+}
+
+impl<S: Style> ResvTable<S> {
+    /// A table without reservations. It takes no memory later. `NoMemory`: its room could not be had.
+    pub fn open(alloc: Global) -> Result<ResvTable<S>, NoMemory>
+        ensures { IfOk result (λ t. t ≡ record { facts = empty; dead = empty }) }
+    {
+        let table = SoftTable::open(alloc, FACTS)?;
+        Ok(ResvTable {
+            table,
+            of: PhantomData,
+        })
+    }
+
+    /// Keeps a reservation with this much left, in milliseconds, in place of that of its session, next hop and unit. `Full`
+    /// exactly where the table would not be within its limits: a 1,025th reservation, a 33rd session, a 65th next hop of a
+    /// session, or a 17th name of one; nothing changes then. The reservation is of the style, and no dead one may wait.
+    pub fn put(&mut self, fact: ResvFact, left: u32) -> Result<(), Full>
+        requires style { IsOfStyle S.kind_is fact.part }
+        requires some { 1 ≤ left }
+        requires pulled { self.old.dead.rows ≡ [] }
+        ensures ok { OnOk result (self.new ≡ record self.old { facts = put_in self.old.facts (resv_key S.kind_is fact) (fact, left) }) }
+        ensures full { IsErr result ↔ (within_limits S.kind_is (resv_lines S.kind_is (put_in self.old.facts (resv_key S.kind_is fact) (fact, left))) ≡ false) }
+        ensures err { OnErr result (self.new ≡ self.old) }
+    {
+        if !self.fits(&fact) {
+            return Err(Full);
+        }
+        let unit = unit_of::<S>(&fact.part);
+        let Ok(()) = self.table.put(Held { unit, fact }, left) else {
+            unreachable!();
+        };
+        Ok(())
+    }
+
+    /// Whether `put` would keep a reservation. It is of the style, and no dead one may wait.
+    pub fn fits(&self, fact: &ResvFact) -> bool
+        requires style { IsOfStyle S.kind_is fact.now.part }
+        requires pulled { self.now.dead.rows ≡ [] }
+        ensures { (left : ℕ) → result ≡ within_limits S.kind_is (resv_lines S.kind_is (put_in self.now.facts (resv_key S.kind_is fact.now) (fact.now, left))) }
+    {
+        let hop = (fact.iface, fact.next);
+        let key = (hop, unit_of::<S>(&fact.part));
+        let room = fits_fact(&self.table, fact.session, &key);
+        let known = fits_session(&self.table, fact.session);
+        let near = fits_hop(&self.table, fact.session, hop);
+        let named = fits_names(&self.table, fact.session, &key, &fact.part);
+        are_all(room, known, near, named)
+    }
+
+    /// The reservation of a session, next hop and unit. `None` exactly where there is none.
+    pub fn find(&self, session: Session, iface: u8, next: Addr, unit: Unit) -> Option<ResvFact>
+        ensures fact { result ≡ option_map (λ e. e.0) (get self.now.facts (session, ((iface, next), unit))) }
+        // What holds of every table.
+        ensures style { AreOfStyle S.kind_is self.now.facts }
+        ensures within { IsWithinLimits S.kind_is (resv_lines S.kind_is self.now.facts) }
+    {
+        match self.table.find(session, ((iface, next), unit)) {
+            Some(held) => Some(held.fact.copy()),
+            None => None,
+        }
+    }
+
+    /// The k-th reservation of a session by next hop and unit, from 0. `None` exactly where k is not below their number.
+    pub fn at(&self, session: Session, k: usize) -> Option<ResvFact>
+        ensures { result ≡ option_map (λ e. e.1.0) (slice_get (under sessions (pairs next_hops units) self.now.facts session).rows k) }
+    {
+        match self.table.at(session, k) {
+            Some(held) => Some(held.fact.copy()),
+            None => None,
+        }
+    }
+
+    /// Lets time pass, in milliseconds. The reservations with at most so much left are dead then, and wait to be pulled; the
+    /// others have so much less left. No dead one may wait from before.
+    pub fn advance(&mut self, ms: u32)
+        requires { self.old.dead.rows ≡ [] }
+        ensures facts { self.new.facts ≡ changed (later ms) self.old.facts }
+        ensures dead { self.new.dead ≡ changed (dead_after ms) self.old.facts }
+    {
+        self.table.advance(ms);
+    }
+
+    /// Takes a dead reservation out. `None` exactly where none waits; nothing changes then.
+    pub fn pull_dead(&mut self) -> Option<ResvFact>
+        ensures dead { IfSome result (λ f. get self.old.dead (resv_key S.kind_is f) ≡ Some f) }
+        ensures pulled { IfSome result (λ f. self.new ≡ record self.old { dead = without self.old.dead (resv_key S.kind_is f) }) }
+        ensures none { IsNone result → self.old.dead.rows ≡ [] }
+        ensures unchanged { IsNone result → self.new ≡ self.old }
+    {
+        let Some(held) = self.table.pull_dead() else {
+            return None;
+        };
+        Some(held.fact)
+    }
+
+    /// Takes all reservations out, the dead that wait too.
+    pub fn clear(&mut self)
+        ensures { self.new ≡ record { facts = empty; dead = empty } }
+    {
+        self.table.clear();
+    }
+}
+
+// The unit of a part: that of its first name.
+fn unit_of<S: Style>(part: &Part) -> Unit
+    ensures { result ≡ part_unit S.kind_is part.now }
+{
+    match part.senders.at(0) {
+        Some(first) => S::unit_of(first),
+        None => Unit::One,
+    }
+}

@@ -1,0 +1,164 @@
+//! Walks along the reservations of a session: what one more would make of its next hops and names.
+ghost use Rattle.std.specs.Prelude.{◌≡◌, ◌≤◌, ◌+◌, ◌&&◌, [], None, is_some, length, cond, nat_le};
+ghost use Rattle.std.specs.FinMap.Entries.{find};
+ghost use Rattle.soft_table.specs.Facts.{facts_by, sessions_in};
+ghost use Rattle.std.specs.List.{list_any};
+ghost use Rattle.std.specs.Ordering.{eq_by_cmp};
+ghost use Rattle.rsvp_base.specs.Rows.{AreRows};
+ghost use Rattle.rsvp_base.specs.Table.{size};
+ghost use Rattle.style_rules.specs.Lines.{line_keys, next_hops};
+ghost use Rattle.soft_table.specs.Walks.{is_last, changes};
+ghost use Rattle.resv_state.specs.Resvs.{held_key, held_row};
+ghost use Rattle.resv_state.specs.Walks.{AreFew, held_under, hops_in, is_full, rests, with_hop, with_names};
+
+use crate::fact::{Held, rest_order};
+use rsvp_base::{Addr, Part, Session, Unit};
+use soft_table::{Fact, SoftTable};
+use std::cmp::Ordering;
+
+// At most so many facts, and next hops of a session.
+pub(crate) const FACTS: usize = 1024;
+
+const SESSIONS: usize = 32;
+
+const NEXT_HOPS: usize = 64;
+
+// Whether two next hops are one.
+fn is_hop(a: (u8, Addr), b: (u8, Addr)) -> bool
+    ensures { result ≡ eq_by_cmp next_hops.cmp a b }
+{
+    a.0.cmp(&b.0).then(a.1.cmp(&b.1)) == Ordering::Equal
+}
+
+// Whether the next hop is the last one met.
+fn is_last_hop(last: Option<(u8, Addr)>, hop: (u8, Addr)) -> bool
+    ensures { result ≡ is_last next_hops last hop }
+{
+    match last {
+        Some(other) => is_hop(other, hop),
+        None => false,
+    }
+}
+
+// Whether two keys of a session are one.
+fn is_rest(a: &((u8, Addr), Unit), b: &((u8, Addr), Unit)) -> bool
+    ensures { result ≡ eq_by_cmp rests.cmp a.now b.now }
+{
+    rest_order(a, b) == Ordering::Equal
+}
+
+// How many next hops a session has: those of one stand together.
+fn count_hops(table: &SoftTable<Held>, session: Session) -> usize
+    requires rising { AreRows line_keys held_row table.now.facts }
+    requires few { AreFew (held_under session table.now.facts) }
+    ensures { result ≡ changes next_hops None (hops_in (held_under session table.now.facts)) }
+{
+    let mut count = 0;
+    let mut last = None;
+    let mut next = table.at(session, 0);
+    for k in 0..FACTS {
+        let Some(held) = next else {
+            return count;
+        };
+        let (_, rest) = held.key();
+        if !is_last_hop(last, rest.0) {
+            count += 1;
+            last = Some(rest.0);
+        }
+        next = table.after(session, rest);
+    }
+    count
+}
+
+// Whether a session has a next hop.
+fn has_hop(table: &SoftTable<Held>, session: Session, hop: (u8, Addr)) -> bool
+    requires rising { AreRows line_keys held_row table.now.facts }
+    requires few { AreFew (held_under session table.now.facts) }
+    ensures { result ≡ list_any (eq_by_cmp next_hops.cmp hop) (hops_in (held_under session table.now.facts)) }
+{
+    let mut next = table.at(session, 0);
+    for k in 0..FACTS {
+        let Some(held) = next else {
+            return false;
+        };
+        let (_, rest) = held.key();
+        if is_hop(hop, rest.0) {
+            return true;
+        }
+        next = table.after(session, rest);
+    }
+    false
+}
+
+// Whether a session may have this next hop, beside its others.
+pub(crate) fn fits_hop(table: &SoftTable<Held>, session: Session, hop: (u8, Addr)) -> bool
+    requires rising { AreRows line_keys held_row table.now.facts }
+    requires few { AreFew (held_under session table.now.facts) }
+    ensures { result ≡ nat_le (size (with_hop hop (held_under session table.now.facts))) 64 }
+{
+    let count = count_hops(table, session);
+    if has_hop(table, session, hop) {
+        count <= NEXT_HOPS
+    } else {
+        count < NEXT_HOPS
+    }
+}
+
+// Whether a session may have the names of this part, beside those of its reservations but the one of this key.
+pub(crate) fn fits_names(
+    table: &SoftTable<Held>,
+    session: Session,
+    key: &((u8, Addr), Unit),
+    part: &Part,
+) -> bool
+    requires rising { AreRows line_keys held_row table.now.facts }
+    requires few { AreFew (held_under session table.now.facts) }
+    ensures { result ≡ nat_le (size (with_names key.now part.now.senders (held_under session table.now.facts))) 16 }
+{
+    let mut names = part.senders.copy();
+    let mut next = table.at(session, 0);
+    for k in 0..FACTS {
+        let Some(held) = next else {
+            return names.len() <= 16;
+        };
+        let (_, rest) = held.key();
+        if !is_rest(key, &rest) {
+            match names.union(&held.fact.part.senders) {
+                Ok(all) => names = all,
+                Err(_) => return false,
+            }
+        }
+        next = table.after(session, rest);
+    }
+    names.len() <= 16
+}
+
+// Whether the table may have a fact of this key beside its others.
+pub(crate) fn fits_fact(table: &SoftTable<Held>, session: Session, key: &((u8, Addr), Unit)) -> bool
+    requires pulled { table.now.dead ≡ [] }
+    requires few { length table.now.facts ≤ 1024 }
+    ensures { result ≡ nat_le (cond (is_some (find line_keys.cmp (session, key.now) (facts_by held_key table.now.facts))) (length table.now.facts) (length table.now.facts + 1)) 1024 }
+{
+    if table.find(session, *key).is_some() {
+        return true;
+    }
+    table.len() < FACTS
+}
+
+// Whether the table may have this session beside its others.
+pub(crate) fn fits_session(table: &SoftTable<Held>, session: Session) -> bool
+    requires { size (sessions_in held_key table.now.facts) ≤ 32 }
+    ensures { result ≡ nat_le (cond (is_full (held_under session table.now.facts)) (size (sessions_in held_key table.now.facts)) (size (sessions_in held_key table.now.facts) + 1)) 32 }
+{
+    if table.at(session, 0).is_some() {
+        return true;
+    }
+    table.sessions() < SESSIONS
+}
+
+// Whether all four hold.
+pub(crate) fn are_all(a: bool, b: bool, c: bool, d: bool) -> bool
+    ensures { result ≡ (a && (b && (c && d))) }
+{
+    a && b && c && d
+}
