@@ -28,7 +28,7 @@ use Rattle.router_rules.proofs.Lists.{some_same}
 use Rattle.router_rules.proofs.Bounding.{no_facts_are_within_bounds}
 use Rattle.router_laws.specs.AcceptingLaws.{CanBeHeld, IsPlaced, line_at}
 use Rattle.router_laws.specs.BoundLaws.{AreFewer, IsFit, IsSameNode}
-use Rattle.router_laws.specs.Examples.{AcceptanceHasExamples, BoundLawsHaveExamples, CountdownLawHasExamples, FrameLawsHaveExamples, PathLawsHaveExamples, SendLawsHaveExamples, half_later, of_port, one_path, one_resv, path_in, r, resv_in, resv_msg, the_lines, with_paths_of}
+use Rattle.router_laws.specs.Examples.{AcceptanceHasExamples, BoundLawsHaveExamples, CountdownLawHasExamples, ErrorLawsHaveExamples, FrameLawsHaveExamples, PathLawsHaveExamples, SendLawsHaveExamples, half_later, of_port, one_path, one_resv, path_in, r, resv_in, resv_msg, the_lines, with_paths_of}
 use Rattle.router_laws.specs.Steps.{facts_then}
 use Rattle.router_laws.proofs.Folding.{only_one}
 use Rattle.router_laws.proofs.Reserving.{forgotten_fewer}
@@ -187,3 +187,7 @@ acceptance_has_examples =
           };
       too_much = λ h. let most = h.capacity 1 (iface r2 10000) refl in omega (arith, most);
     }
+
+-- ---- an error
+pub error_laws_have_examples : ErrorLawsHaveExamples
+error_laws_have_examples = record { within = resv_within; fit = (omega arith, (resv_fit.1.scope_is, sound)); before = refl; after = refl; goes_on = refl; told = inl refl }

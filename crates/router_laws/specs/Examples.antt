@@ -13,14 +13,16 @@ use Rattle.rsvp_messages.specs.declared.message.ResvMsg.{ResvMsg}
 use Rattle.style_rules.specs.Lines.{Line}
 use Rattle.router_rules.specs.Asking.{ask_of, asker_of}
 use Rattle.router_rules.specs.Bounds.{IsWithinBounds}
-use Rattle.router_rules.specs.Facts.{Facts, PathState, SenderKey, no_facts}
+use Rattle.router_rules.specs.declared.target.Target.TheVariants as target
+use Rattle.router_rules.specs.Facts.{Facts, PathState, SenderKey, WallKey, no_facts}
 use Rattle.router_rules.specs.Inputs.{Input, Came, Moved, Spelt, Wait}
 use Rattle.router_rules.specs.Known.{Lane}
-use Rattle.router_rules.specs.Line.{first, flow, group, node_r, path, path_tear, r1, r2, refreshed, resv, s1, scope, sent, session, t1, usual, wild}
+use Rattle.router_rules.specs.Line.{error, first, flow, group, node_r, path, path_tear, r1, r2, refreshed, resv, resv_err, s1, scope, sent, session, t1, usual, wild}
 use Rattle.router_rules.specs.Place.{Place}
 use Rattle.router_rules.specs.Requests.{toward}
 use Rattle.router_laws.specs.AcceptingLaws.{CanBeHeld, CanBeTaken, line_at}
 use Rattle.router_laws.specs.BoundLaws.{AreFewer, IsFit, IsSameNode}
+use Rattle.router_laws.specs.ErrorLaws.{only_goes_on}
 use Rattle.router_laws.specs.FrameLaws.{on_paths, on_resvs, on_senders, on_walls, on_wants}
 use Rattle.router_laws.specs.PathLaws.{CameOnTree, PathDies, PathIsTorn, said_by}
 use Rattle.router_laws.specs.Steps.{facts_then, fired_then, is_calm, sent_then}
@@ -136,3 +138,21 @@ pub record AcceptanceHasExamples : Type 0 where
   pub can_be_taken : CanBeTaken r 0 1 resv_msg one_path the_lines
   -- not those of a flow one byte per second above the capacity
   pub too_much : CanBeHeld r (line_at (asker_of r 0 1 resv_msg) One (record { senders = scope; flow = flow 10001 2000 64 1500 }) ∷ []) → ⊥
+
+-- ---- errors
+-- the previous hop refuses what went to it
+abbrev pub error_in : Input
+error_in = Came 0 r1 (Spelt (resv_err s1 (error s1 false 1 2) Wild (Some scope) (Some usual)))
+
+abbrev pub wall_key : WallKey
+wall_key = (session, target.Hop 0 s1)
+
+pub record ErrorLawsHaveExamples : Type 0 where
+  pub within : IsWithinBounds r 0 one_resv
+  pub fit : IsFit r error_in
+  -- a blockade that was not there is set
+  pub before : get one_resv.walls wall_key ≡ None
+  pub after : get (facts_then r r 0 error_in one_resv).walls wall_key ≡ Some (record { wall = record { flow = usual; sub = 2 }; dies = 120000 })
+  pub goes_on : only_goes_on (resv_err s1 (error s1 false 1 2) Wild (Some scope) (Some usual)) ≡ true
+  -- and the next hop is told
+  pub told : In (sent 1 t1 (resv_err r2 (error s1 false 1 2) Wild (Some scope) (Some usual))) (sent_then r r 0 error_in one_resv)

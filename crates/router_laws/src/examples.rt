@@ -1,6 +1,6 @@
 //! Facts and inputs that meet the premises of the laws: no law speaks of nothing.
 ghost use Rattle.router_laws.specs.ReservationExamples.{ReservationLawsHaveExamples, BlameLawsHaveExamples};
-ghost use Rattle.router_laws.specs.Examples.{PathLawsHaveExamples, FrameLawsHaveExamples, CountdownLawHasExamples, SendLawsHaveExamples, BoundLawsHaveExamples, AcceptanceHasExamples};
+ghost use Rattle.router_laws.specs.Examples.{PathLawsHaveExamples, FrameLawsHaveExamples, CountdownLawHasExamples, SendLawsHaveExamples, BoundLawsHaveExamples, AcceptanceHasExamples, ErrorLawsHaveExamples};
 
 /// A Path that is learnt, one that finds no room, and path state that dies or is torn down.
 #[tactic(auto, using(crate::proofs::Exemplary::path_laws_have_examples))]
@@ -48,4 +48,10 @@ pub fn reservation_laws_have_examples()
 #[tactic(auto, using(crate::proofs::Instances::blame_laws_have_examples))]
 pub fn blame_laws_have_examples()
     ensures { BlameLawsHaveExamples }
+{}
+
+/// A ResvErr that sets a blockade and goes on.
+#[tactic(auto, using(crate::proofs::Exemplary::error_laws_have_examples))]
+pub fn error_laws_have_examples()
+    ensures { ErrorLawsHaveExamples }
 {}
