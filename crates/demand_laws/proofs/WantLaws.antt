@@ -12,20 +12,24 @@ use Rattle.rsvp_base.specs.declared.session.Sender.{Sender}
 use Rattle.rsvp_base.specs.declared.style.StyleKind.{StyleKind}
 use Rattle.rsvp_base.specs.declared.style.StyleKind.TheVariants.{Wild, Fixed, Shared}
 use Rattle.rsvp_base.specs.declared.style.Unit.{Unit as UnitOf}
-use Rattle.rsvp_base.specs.Orders.{Names, senders, units}
+use Rattle.rsvp_base.specs.declared.style.Unit.TheVariants.{Of}
+use Rattle.rsvp_base.specs.Orders.{Names, senders, styles, units}
 use Rattle.rsvp_base.specs.Sets.{set_of, cut, IsWithin, is_none}
-use Rattle.rsvp_base.specs.Table.{empty, get, has, values}
-use Rattle.rsvp_base.proofs.Counts.{in_set_of, set_of_in}
+use Rattle.rsvp_base.specs.Table.{empty, get, has, size, values}
+use Rattle.rsvp_base.proofs.Counts.{in_found, in_set_of, set_of_in}
+use Rattle.rsvp_base.proofs.Tables.{tied_same}
 use Rattle.rsvp_base.proofs.Members.{in_each, to_each, in_filter, to_filter, in_flat_map, in_append, all_in, in_all}
 use Rattle.rsvp_base.proofs.SetLaws.{and_both, has-cut}
 use Rattle.style_rules.specs.Styles.{name_of}
-use Rattle.style_rules.specs.Parts.{part_cut, part_unit}
+use Rattle.style_rules.specs.Parts.{part_cut, part_unit, IsOfStyle}
 use Rattle.style_rules.specs.PartLaws.{union_least, most_below}
 use Rattle.style_rules.specs.CutLaws.{made_of, cut_senders, part_of_none}
 use Rattle.style_rules.specs.Merge.{merge, PartTable}
 use Rattle.style_rules.specs.Lines.{at_end}
 use Rattle.style_rules.proofs.Merges.{merge_keeps}
 use Rattle.style_rules.proofs.Books.{under_at_end, book_below, held_at_end_below}
+use Rattle.style_rules.proofs.Claims.{merge_keeps_the_style}
+use Rattle.style_rules.proofs.StyleLaws.{cut_of_style, fixed_parts, unit_of_names}
 use Rattle.style_rules.proofs.Room.{within_below}
 use Rattle.tree_laws.specs.declared.hops.Hop.{Hop}
 use Rattle.tree_laws.specs.Networks.{Net, node_of}
@@ -34,9 +38,10 @@ use Rattle.tree_laws.specs.Ranks.{has_hop, followers, rank, IsLoopFree}
 use Rattle.tree_laws.proofs.Following.{has_hop_in, in_has_hop, tree_group, follower_follows, follower_of_group}
 use Rattle.tree_laws.proofs.RankLaws.{rank_some, rank_falls_at}
 use Rattle.demand_laws.specs.Fuel.{by_fuel}
+use Rattle.demand_laws.specs.declared.locals.LocalWant.{LocalWant}
 use Rattle.demand_laws.specs.Wants.{Locals, live, goes_over, names, as_list, wanted_of, is_wanted_at, own, brought, want_from, want}
 use Rattle.demand_laws.specs.Goals.{goal, DemandsFit}
-use Rattle.demand_laws.specs.Laws.{WantEquation, WantNames, CommonNameMakesAFollower, FitBoundsTheGoal}
+use Rattle.demand_laws.specs.Laws.{WantEquation, WantNames, AFixedUnitIsItsName, CommonNameMakesAFollower, FitBoundsTheGoal}
 use Rattle.demand_laws.proofs.FuelLaws.{equation, alone}
 
 -- ---- lists
@@ -52,7 +57,7 @@ flat_none : {A B : Type 0} (f : A → List B) (xs : List A) → ((x : A) → f x
 flat_none f [] e = refl
 flat_none {A} {B} f (x ∷ xs) e = ap (λ (ys : List B). ys ++ flat_map f xs) (e x) ∙ flat_none f xs e
 
-in_as_list : (o : Option Part) (p : Part) → In p (as_list o) → o ≡ Some p
+pub in_as_list : (o : Option Part) (p : Part) → In p (as_list o) → o ≡ Some p
 in_as_list None p i = absurd i
 in_as_list (Some q) p i = ⊎_elim (λ (e : p ≡ q). ap Some (sym e)) (λ (j : ⊥). absurd j) i
 
@@ -79,7 +84,7 @@ module _ (st : StyleKind) (net : Net) (l : Locals) (s : Session) where
   in_over hs a f = in_all (has_hop (tree net.hops s.group a.addr)) hs (λ h i. in_has_hop (tree net.hops s.group a.addr) h (f h i))
 
   -- names over more hops are fewer
-  both_one : (h h' : Hop) → IsWithin (names st net l s (h ∷ h' ∷ [])) (names st net l s (h ∷ []))
+  pub both_one : (h h' : Hop) → IsWithin (names st net l s (h ∷ h' ∷ [])) (names st net l s (h ∷ []))
   both_one h h' x e =
       let a = name_told (h ∷ h' ∷ []) x e in
       let over = in_over (h ∷ []) a.0 (λ y i. over_in (h ∷ h' ∷ []) a.0 a.2 y (⊎_elim (λ (q : y ≡ h). inl q) (λ (j : ⊥). absurd j) i)) in
@@ -192,6 +197,40 @@ module _ (st : StyleKind) (net : Net) (l : Locals) (s : Session) where
         subst (λ (y : Sender). has (names st net l s (h ∷ h' ∷ [])) y ≡ true) (sym a.3) (name_made (h ∷ h' ∷ []) a.0 a.1 over),
         record { source = a.0.addr; first = one; second = two; meet = meet },
       )
+
+-- ---- fixed filters
+module _ (net : Net) (l : Locals) (s : Session) (one : (w : LocalWant) → In w l.wants → w.style ≡ Fixed → size w.part.senders ≡ 1) where
+  own_fixed : (h : Hop) (q : Part) → In q (own Fixed net l s h) → IsOfStyle Fixed q
+  own_fixed h q i =
+      let w = in_flat_map (λ w. as_list (wanted_of Fixed (names Fixed net l s (h ∷ [])) w.part)) q (filter (is_wanted_at Fixed s (node_of net.ends h.to)) l.wants) i in
+      let f = in_filter (is_wanted_at Fixed s (node_of net.ends h.to)) w.0 l.wants w.1 in
+      let at = and_both _ _ (and_both _ _ f.1).1 in
+      cut_of_style Fixed w.0.part q (names Fixed net l s (h ∷ [])) ((fixed_parts w.0.part).1 (one w.0 f.0 (sym (tied_same styles Fixed w.0.style at.1)))) (in_as_list (part_cut w.0.part (names Fixed net l s (h ∷ []))) q w.2)
+
+  fixed_by : (n : ℕ) (h : Hop) (u : UnitOf) (p : Part) → get (by_fuel (want_from Fixed net l s) empty n h) u ≡ Some p → IsOfStyle Fixed p × (part_unit Fixed p ≡ u)
+  fixed_by zero h u p e = cc
+  fixed_by (suc n) h u p e =
+      (merge_keeps_the_style Fixed).merge (own Fixed net l s h ++ flat_map (brought Fixed net l s h (λ y. by_fuel (want_from Fixed net l s) empty n y)) (followers net s.group h)) u p
+      (λ q is.
+      ⊎_elim (λ (j : In q (own Fixed net l s h)). own_fixed h q j)
+      (λ (j : In q (flat_map (brought Fixed net l s h (λ y. by_fuel (want_from Fixed net l s) empty n y)) (followers net s.group h))).
+      let y = in_flat_map (brought Fixed net l s h (λ y. by_fuel (want_from Fixed net l s) empty n y)) q (followers net s.group h) j in
+      let r = in_flat_map (λ p. as_list (part_cut p (names Fixed net l s (h ∷ y.0 ∷ [])))) q (values (by_fuel (want_from Fixed net l s) empty n y.0)) y.2 in
+      let e = in_each (λ (e : UnitOf × Part). e.1) r.0 (by_fuel (want_from Fixed net l s) empty n y.0).rows r.1 in
+      let at : In (e.0.0, r.0) (by_fuel (want_from Fixed net l s) empty n y.0).rows = subst (λ (z : Part). In (e.0.0, z) (by_fuel (want_from Fixed net l s) empty n y.0).rows) (sym e.2) e.1 in
+      let style = fixed_by n y.0 e.0.0 r.0 (in_found units (by_fuel (want_from Fixed net l s) empty n y.0) e.0.0 r.0 at) in
+      cut_of_style Fixed r.0 q (names Fixed net l s (h ∷ y.0 ∷ [])) style.0 (in_as_list (part_cut r.0 (names Fixed net l s (h ∷ y.0 ∷ []))) q r.2))
+      (in_append q (own Fixed net l s h) (flat_map (brought Fixed net l s h (λ y. by_fuel (want_from Fixed net l s) empty n y)) (followers net s.group h)) is.among))
+      e
+
+  fixed_of : (h : Hop) (u : UnitOf) (p : Part) → get (want Fixed net l s h) u ≡ Some p → (size p.senders ≡ 1) × ((x : Sender) → has p.senders x ≡ true → u ≡ Of x)
+  unfolding want
+  fixed_of h u p e =
+      let r = fixed_by (rank net s.group h) h u p e in
+      ((fixed_parts p).0 r.0, λ x t. sym r.1 ∙ unit_of_names Fixed p x r.0 t)
+
+pub a_fixed_unit_is_its_name : (net : Net) (l : Locals) (s : Session) → AFixedUnitIsItsName net l s
+a_fixed_unit_is_its_name net l s one h u p e = fixed_of net l s one h u p e
 
 -- ---- lines under the goal
 pub fit_bounds : (net : Net) (l : Locals) → DemandsFit net l → FitBoundsTheGoal net l

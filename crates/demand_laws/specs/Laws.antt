@@ -5,9 +5,11 @@ use Rattle.rsvp_base.specs.declared.part.Part.{Part}
 use Rattle.rsvp_base.specs.declared.session.Session.{Session}
 use Rattle.rsvp_base.specs.declared.session.Sender.{Sender}
 use Rattle.rsvp_base.specs.declared.style.StyleKind.{StyleKind}
+use Rattle.rsvp_base.specs.declared.style.StyleKind.TheVariants.{Fixed}
 use Rattle.rsvp_base.specs.declared.style.Unit.{Unit as UnitOf}
+use Rattle.rsvp_base.specs.declared.style.Unit.TheVariants.{Of}
 use Rattle.rsvp_base.specs.Sets.{IsWithin}
-use Rattle.rsvp_base.specs.Table.{empty, get, has}
+use Rattle.rsvp_base.specs.Table.{empty, get, has, size}
 use Rattle.style_rules.specs.Merge.{PartTable}
 use Rattle.style_rules.specs.Lines.{Line, EntryKey, AreUnder, book_of_end, held}
 use Rattle.style_rules.specs.Limits.{IsWithinLimits}
@@ -16,6 +18,7 @@ use Rattle.tree_laws.specs.declared.hops.Hop.{Hop}
 use Rattle.tree_laws.specs.Networks.{Net, node_of}
 use Rattle.tree_laws.specs.Trees.{hops_of}
 use Rattle.tree_laws.specs.Ranks.{Follows}
+use Rattle.demand_laws.specs.declared.locals.LocalWant.{LocalWant}
 use Rattle.demand_laws.specs.Wants.{Locals, names, want_from, want}
 use Rattle.demand_laws.specs.Goals.{goal}
 
@@ -29,6 +32,11 @@ pub record WantEquation (st : StyleKind) (net : Net) (l : Locals) (s : Session) 
 -- a part that is wanted over a hop names senders whose trees have it
 abbrev pub WantNames : StyleKind → Net → Locals → Session → Type 0
 WantNames st net l s = (h : Hop) (u : UnitOf) (p : Part) → get (want st net l s h) u ≡ Some p → IsWithin p.senders (names st net l s (h ∷ []))
+
+-- where each local want of a fixed filter names one sender, so does each part that is wanted over a hop, and its unit is that name
+abbrev pub AFixedUnitIsItsName : Net → Locals → Session → Type 0
+AFixedUnitIsItsName net l s = ((w : LocalWant) → In w l.wants → w.style ≡ Fixed → size w.part.senders ≡ 1)
+    → (h : Hop) (u : UnitOf) (p : Part) → get (want Fixed net l s h) u ≡ Some p → (size p.senders ≡ 1) × ((x : Sender) → has p.senders x ≡ true → u ≡ Of x)
 
 -- a name over two hops that meet in a node is over both together, and then the one follows the other
 abbrev pub CommonNameMakesAFollower : StyleKind → Net → Locals → Session → Type 0

@@ -5,7 +5,7 @@ ghost use Rattle.tree_laws.specs.Networks.{Net};
 ghost use Rattle.tree_laws.specs.Ranks.{IsLoopFree};
 ghost use Rattle.demand_laws.specs.Wants.{Locals};
 ghost use Rattle.demand_laws.specs.Goals.{DemandsFit};
-ghost use Rattle.demand_laws.specs.Laws.{WantEquation, WantNames, CommonNameMakesAFollower, FitBoundsTheGoal};
+ghost use Rattle.demand_laws.specs.Laws.{WantEquation, WantNames, AFixedUnitIsItsName, CommonNameMakesAFollower, FitBoundsTheGoal};
 
 /// Where no chain is closed, the want of a hop is the style merge of the wants at the node that it goes into and of those
 /// of the hops that follow it, each cut to the names that go that way; and these equations have no other solution.
@@ -16,6 +16,11 @@ pub fn want_equation()
 /// A part that is wanted over a hop names senders whose trees have the hop.
 pub fn want_names()
     ensures { (st : StyleKind) (net : Net) (l : Locals) (s : Session) → WantNames st net l s }
+{}
+
+/// Of a fixed filter each part that is wanted over a hop names one sender, and its unit is that name.
+pub fn a_fixed_unit_is_its_name()
+    ensures { (net : Net) (l : Locals) (s : Session) → AFixedUnitIsItsName net l s }
 {}
 
 /// A name that is over each of two hops that meet in a node is over both together, and the second follows the first.

@@ -301,7 +301,7 @@ module _ (nodes : ℕ) (ends : List End) (links : List Link) (ks : List Known) (
       let e : n + suc j ≡ suc n + j = omega arith in
       subst (λ (m : ℕ). High m (lifts n ks (lift ks ls))) e (high_lifts n (suc j) (lift ks ls) (high_next j ls h))
 
-  level_is_rank : (k : Known) → In k ks → level (levels ks) k.vertex ≡ rank net k.hop.group k.hop.hop
+  pub level_is_rank : (k : Known) → In k ks → level (levels ks) k.vertex ≡ rank net k.hop.group k.hop.hop
   level_is_rank k i =
       let g = k.hop.group in
       let h = high_lifts (length ks) 0 (replicate (length ks) 1) high_start in

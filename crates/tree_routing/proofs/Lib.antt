@@ -7,3 +7,4 @@ pub mod ValidMore
 pub mod LevelLaws
 pub mod KeyLaws
 pub mod WayLaws
+pub mod OrderLaws

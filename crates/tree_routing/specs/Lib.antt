@@ -6,3 +6,4 @@ pub mod Found
 pub mod Answers
 pub mod Checks
 pub mod Routes
+pub mod Order

@@ -6,8 +6,8 @@ use crate::known::Known;
 use rsvp_base::NoMemory;
 use std::alloc::Global;
 
-// The level of a vertex; 0 where it is not there.
-fn level(levels: &[u16], vertex: u16) -> u16
+/// The level of a vertex; 0 where it is not there.
+pub(crate) fn level(levels: &[u16], vertex: u16) -> u16
     ensures { result ≡ level levels.now vertex }
 {
     match levels.get(vertex as usize) {
@@ -67,8 +67,8 @@ fn lowest(alloc: Global, n: usize) -> Result<Vec<u16>, NoMemory>
     vec![in alloc; 1u16; n].map_err(|_| NoMemory)
 }
 
-// The highest level of a hop.
-fn highest(levels: &[u16], hops: &[Known]) -> u16
+/// The highest level of a hop: the length of the longest chain.
+pub(crate) fn highest(levels: &[u16], hops: &[Known]) -> u16
     ensures { result ≡ highest hops.now levels.now }
 {
     let mut most = 0;
@@ -78,11 +78,11 @@ fn highest(levels: &[u16], hops: &[Known]) -> u16
     most
 }
 
-/// The highest level that a hop comes to: the length of the longest chain. `NoMemory`: there was no room for the levels.
-pub(crate) fn longest(alloc: Global, hops: &[Known]) -> Result<u16, NoMemory>
-    ensures { IfOk result (λ most. most ≡ highest hops.now (levels hops.now)) }
+/// The level of each vertex: how long a chain from it is. `NoMemory`: there was no room for them.
+pub(crate) fn levels(alloc: Global, hops: &[Known]) -> Result<Vec<u16>, NoMemory>
+    ensures { IfOk result (λ all. all.items ≡ levels hops.now) }
 {
     let mut levels = lowest(alloc, hops.len())?;
     settle(levels.as_mut_slice(), hops);
-    Ok(highest(levels.as_slice(), hops))
+    Ok(levels)
 }

@@ -7,6 +7,7 @@
 #![tactic(auto)]
 
 mod ask;
+mod group_hop;
 mod hop_err;
 mod keys;
 mod known;
@@ -14,12 +15,14 @@ mod least;
 mod levels;
 mod link;
 mod marks;
+mod order;
 mod routing;
 #[cfg(test)]
 mod tests;
 mod topology;
 mod ways;
 
+pub use group_hop::GroupHop;
 pub use hop_err::HopErr;
 pub use routing::Routing;
 pub use topology::Topology;

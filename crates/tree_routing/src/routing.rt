@@ -3,17 +3,20 @@ ghost use Rattle.std.specs.Prelude.{◌≡◌, ◌↔◌, ◌==◌, not, ℕ, []
 ghost use Rattle.std.specs.List.{filter};
 ghost use Rattle.tree_routing.specs.Known.{link_ends};
 ghost use Rattle.std.specs.Int.{bit_at};
-ghost use Rattle.tree_laws.specs.Networks.{peers};
-ghost use Rattle.tree_laws.specs.Ranks.{longest};
+ghost use Rattle.tree_laws.specs.Networks.{node_of, peers};
+ghost use Rattle.tree_laws.specs.Ranks.{has_hop, longest};
+ghost use Rattle.tree_laws.specs.Trees.{tree};
+ghost use Rattle.tree_routing.specs.Order.{AreByRank};
 ghost use Rattle.tree_routing.specs.Routes.{inward_iface, LeavesBy, trees_of};
 
-use crate::ask::link_of;
+use crate::ask::{is_hop, link_of, node_of};
+use crate::group_hop::GroupHop;
 use crate::known::Known;
 use crate::link::Link;
 use crate::ways::{hop_into, iface_of, ways_out};
 use rsvp_base::Addr;
 use std::marker::Model;
-use tree_laws::End;
+use tree_laws::{End, Hop};
 
 /// A network whose topology is closed: where each tree comes into a node and leaves it. Contracts see the network, which is
 /// valid: within its limits, its trees grown hop by hop, and without a closed chain. No call takes memory.
@@ -25,6 +28,8 @@ pub struct Routing {
     pub(crate) hops: Vec<Known>,
     // The length of the longest chain.
     pub(crate) chain: u16,
+    // The hops of all groups, by rank.
+    pub(crate) order: Vec<GroupHop>,
     // The group and source of each tree, in order.
     pub(crate) trees: Vec<(Addr, Addr)>,
 }
@@ -36,6 +41,7 @@ impl Model for Routing {
     ghost use Rattle.tree_laws.specs.Ranks.{longest};
     ghost use Rattle.tree_laws.specs.Valid.{IsValid};
     ghost use Rattle.tree_routing.specs.Known.{plain, net_of};
+    ghost use Rattle.tree_routing.specs.Order.{AreByRank};
     ghost use Rattle.tree_routing.specs.Routes.{trees_of};
 
     ghost Value = { Net };
@@ -44,7 +50,7 @@ impl Model for Routing {
 
     ghost view = { λ r. net_of r.nodes r.ends.items r.links.items r.hops.items };
 
-    ghost invariant = { λ r. IsValid (net_of r.nodes r.ends.items r.links.items r.hops.items) × (r.chain ≡ longest (net_of r.nodes r.ends.items r.links.items r.hops.items)) × (r.trees.items ≡ trees_of (plain r.hops.items)) };
+    ghost invariant = { λ r. IsValid (net_of r.nodes r.ends.items r.links.items r.hops.items) × (r.chain ≡ longest (net_of r.nodes r.ends.items r.links.items r.hops.items)) × (r.trees.items ≡ trees_of (plain r.hops.items)) × AreByRank (net_of r.nodes r.ends.items r.links.items r.hops.items) r.order.items };
 }
 
 impl Routing {
@@ -56,6 +62,36 @@ impl Routing {
         ensures valid { IsValid self.now }
     {
         self.nodes
+    }
+
+    /// The ends of links, by number.
+    pub fn ends(&self) -> &[End]
+        ensures ends { result.now ≡ self.now.ends }
+        ensures valid { IsValid self.now }
+    {
+        self.ends.as_slice()
+    }
+
+    /// The node of an end; 0 where there is no such end.
+    pub fn node_of(&self, end: u16) -> u16
+        ensures { result ≡ node_of self.now.ends end }
+    {
+        node_of(self.ends.as_slice(), end)
+    }
+
+    /// The hops of all groups by rank, the length of the longest chain that begins with a hop: a hop of a group stands once,
+    /// in however many trees it is, and behind each hop that follows it.
+    pub fn by_rank(&self) -> &[GroupHop]
+        ensures { AreByRank self.now result.now }
+    {
+        self.order.as_slice()
+    }
+
+    /// Whether the tree of a group and source has the hop.
+    pub fn has_hop(&self, group: Addr, source: Addr, hop: Hop) -> bool
+        ensures { result ≡ has_hop (tree self.now.hops group source) hop }
+    {
+        is_hop(self.hops.as_slice(), group, source, hop)
     }
 
     /// The length of the longest chain of hops of a group; 0 where there is no hop.

@@ -12,8 +12,9 @@ use crate::hop_err::HopErr;
 use crate::keys::trees_of;
 use crate::known::Known;
 use crate::least::check_loop;
-use crate::levels::longest;
+use crate::levels::{highest, levels};
 use crate::link::Link;
+use crate::order::by_level;
 use crate::routing::Routing;
 use crate::ways::count_of;
 use rsvp_base::{Addr, NoMemory};
@@ -176,7 +177,9 @@ impl Topology {
     pub fn close(self) -> Result<Routing, NoMemory>
         ensures { IfOk result (λ routing. routing ≡ self) }
     {
-        let chain = longest(self.alloc, self.hops.as_slice())?;
+        let levels = levels(self.alloc, self.hops.as_slice())?;
+        let chain = highest(levels.as_slice(), self.hops.as_slice());
+        let order = by_level(self.alloc, self.hops.as_slice(), levels.as_slice(), chain)?;
         let trees = trees_of(self.alloc, self.hops.as_slice())?;
         Ok(Routing {
             nodes: self.nodes,
@@ -184,6 +187,7 @@ impl Topology {
             links: self.links,
             hops: self.hops,
             chain,
+            order,
             trees,
         })
     }
