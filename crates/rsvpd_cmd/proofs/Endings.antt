@@ -1,30 +1,31 @@
 -- How the run over known bytes ends.
 use Rattle.std.specs.Prelude.{◌≡◌, ℕ, List, Option, Some, None, ◌++◌}
 use Rattle.std.specs.Io.KnownBytes.{Consumes, IsAtEnd}
-use Rattle.std.proofs.Common.{inl, inr, ap, sym, ◌∙◌, append-nil, refl}
-use Rattle.net_script.specs.Grammar.{Plan, IsScript, IsBadLine}
+use Rattle.std.proofs.Common.{inl, ap, sym, ◌∙◌, append-nil}
 use Rattle.net_script.specs.declared.fault.LineErr.{LineErr}
-use Rattle.net_script.proofs.Scripts.{script_or_bad, one_bad_line_law}
-use Rattle.rsvpd_cmd.specs.declared.status.Status.{Status}
-use Rattle.rsvpd_cmd.specs.declared.status.Status.TheVariants.{Done, Usage, BadLine, ReadFault, WriteFault, NoMemory, TooLong}
-use Rattle.rsvpd_cmd.specs.Top.{IsOrNoMemory, IsWrittenOrNot}
+use Rattle.net_script.proofs.Scripts.{script_or_bad, one_bad_line_law as one_script_line_law}
+use Rattle.net_script.specs.Lines.{lines_of}
+use Rattle.message_show.proofs.Shown.{all_right, bad_is_not_right_law, one_bad_line_law}
+use Rattle.rsvpd_cmd.specs.declared.status.Status.TheVariants.{BadLine}
+use Rattle.rsvpd_cmd.specs.Tasks.{IsFirstBad, Takes, Writes}
+use Rattle.rsvpd_cmd.specs.declared.task.Task.{Task}
+use Rattle.rsvpd_cmd.specs.declared.task.Task.TheVariants.{Replay, Show}
+use Rattle.rsvpd_cmd.specs.Top.{IsOrNoMemory}
 
--- a text whose writing did not fail was written, unless memory ran out
-pub written : (got : Status) {Rose : Type 0} → IsWrittenOrNot got → (got ≡ WriteFault → Rose) → (Rose → ⊥) → IsOrNoMemory Done got
-written Done w cause calm = inl refl
-written WriteFault w cause calm = absurd (calm (cause refl))
-written NoMemory w cause calm = inr refl
-written Usage w cause calm = absurd w
-written (BadLine e) w cause calm = absurd w
-written ReadFault w cause calm = absurd w
-written TooLong w cause calm = absurd w
+-- an input that a task takes has no bad line
+pub taken_or_bad : (t : Task) (input : List ℕ) (e : LineErr) → Takes t input → IsFirstBad t input e → ⊥
+taken_or_bad Replay input e is bad = script_or_bad input is.0 e is.1 bad
+taken_or_bad Show input e right bad = bad_is_not_right_law input e right bad
 
--- a bad line is no script's
-pub not_both : {A : Type 0} (bytes : List ℕ) (p : Plan) (e : LineErr) → IsScript bytes p → IsBadLine bytes e → A
-not_both bytes p e is bad = absurd (script_or_bad bytes p e is bad)
+-- nor has one for which it writes something
+pub written_or_bad : (t : Task) (input text : List ℕ) (e : LineErr) → Writes t input text → IsFirstBad t input e → ⊥
+written_or_bad Replay input text e is bad = script_or_bad input is.0 e is.1 bad
+written_or_bad Show input text e shown bad = bad_is_not_right_law input e (all_right (lines_of input) text shown) bad
 
-pub same_line : (bytes : List ℕ) (d e : LineErr) → IsBadLine bytes d → IsBadLine bytes e → IsOrNoMemory (BadLine e) (BadLine d)
-same_line bytes d e x y = inl (ap BadLine (one_bad_line_law bytes d e x y))
+-- the first bad line is one
+pub same_line : (t : Task) (input : List ℕ) (d e : LineErr) → IsFirstBad t input d → IsFirstBad t input e → IsOrNoMemory (BadLine e) (BadLine d)
+same_line Replay input d e x y = inl (ap BadLine (one_script_line_law input d e x y))
+same_line Show input d e x y = inl (ap BadLine (one_bad_line_law input d e x y))
 
 -- what was taken to the end is all that was left
 pub all_taken : (old new : Option (List ℕ)) (taken bytes : List ℕ) → Consumes old new taken → IsAtEnd new → old ≡ Some bytes → bytes ≡ taken

@@ -5,4 +5,5 @@ pub mod Ledgers
 pub mod Expiry
 pub mod Nodes
 pub mod Capacity
+pub mod Tasks
 pub mod Top

@@ -1,11 +1,7 @@
--- The words of the command line, and how runs end.
-use Rattle.std.specs.Prelude.{◌≡◌, ◌⊎◌, ℕ, List, [], ◌∷◌, codes}
+-- How runs end.
+use Rattle.std.specs.Prelude.{◌≡◌, ◌⊎◌, ℕ}
 use Rattle.rsvpd_cmd.specs.declared.status.Status.{Status}
 use Rattle.rsvpd_cmd.specs.declared.status.Status.TheVariants.{Done, Usage, BadLine, ReadFault, WriteFault, NoMemory, TooLong}
-
--- the one word `replay`
-abbrev pub IsReplay : List (List ℕ) → Type 0
-IsReplay words = words ≡ codes "replay" ∷ []
 
 -- the exit status
 abbrev pub code_of : Status → ℕ
@@ -25,8 +21,4 @@ IsOrNoMemory wanted got = (got ≡ wanted) ⊎ (got ≡ NoMemory)
 abbrev pub IsWrittenOrNot : Status → Type 0
 IsWrittenOrNot Done = Unit {0}
 IsWrittenOrNot WriteFault = Unit {0}
-IsWrittenOrNot NoMemory = Unit {0}
-IsWrittenOrNot Usage = ⊥
-IsWrittenOrNot (BadLine e) = ⊥
-IsWrittenOrNot ReadFault = ⊥
-IsWrittenOrNot TooLong = ⊥
+IsWrittenOrNot _ = ⊥

@@ -1,4 +1,5 @@
-//! `rsvpd`: replays the script of a network of RSVP routers, and writes what each link has reserved.
+//! `rsvpd`: replays the script of a network of RSVP routers, and writes what each link has reserved; or shows messages in
+//! words.
 #![tactic(auto)]
 
 mod expiry;
@@ -9,6 +10,7 @@ mod node;
 mod opening;
 mod replay;
 mod status;
+mod task;
 #[cfg(test)]
 mod tests;
 mod text;

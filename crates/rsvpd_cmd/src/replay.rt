@@ -33,34 +33,23 @@ pub fn replay(alloc: Global, script: Script, out: &mut Vec<u8>) -> Result<(), No
     } = script;
     let nodes = open_nodes(alloc, books, stale.as_slice())?;
     let mut net = Network { ends, names, nodes };
-    play(alloc, &mut net, events.as_slice(), out)
+    play(&mut net, events.as_slice(), out)
 }
 
 // What the events write, from the moment 0 on.
-fn play(
-    alloc: Global,
-    net: &mut Network,
-    events: &[Event],
-    out: &mut Vec<u8>,
-) -> Result<(), NoMemory>
+fn play(net: &mut Network, events: &[Event], out: &mut Vec<u8>) -> Result<(), NoMemory>
     requires { IsBooked 0 net.old.nodes.items }
     ensures { OnOk result (out.new.items ≡ out.old.items ++ text_from (holdings_in net.old) 0 events.now) }
 {
     let mut clock: u128 = 0;
     for event in events {
-        clock = step(alloc, net, clock, event, out)?;
+        clock = step(net, clock, event, out)?;
     }
     Ok(())
 }
 
 // What an event does at a moment: it gives the moment after it.
-fn step(
-    alloc: Global,
-    net: &mut Network,
-    clock: u128,
-    event: &Event,
-    out: &mut Vec<u8>,
-) -> Result<u128, NoMemory>
+fn step(net: &mut Network, clock: u128, event: &Event, out: &mut Vec<u8>) -> Result<u128, NoMemory>
     requires booked { IsBooked clock net.old.nodes.items }
     requires small { clock ≤ 2 ^ 127 }
     ensures clock { IfOk result (λ after. after ≡ clock_after clock event.now) }
@@ -72,7 +61,7 @@ fn step(
     match event {
         Event::Wait { ms } => Ok(clock + u128::from(*ms)),
         Event::Report { end } => {
-            report(alloc, net, clock, *end, out)?;
+            report(net, clock, *end, out)?;
             Ok(clock)
         }
     }
@@ -80,7 +69,6 @@ fn step(
 
 // The report of an end, or of all.
 fn report(
-    alloc: Global,
     net: &mut Network,
     clock: u128,
     end: Option<u16>,
@@ -93,30 +81,24 @@ fn report(
 {
     expire(&mut net.nodes, clock);
     match end {
-        Some(k) => put_end(alloc, net, clock, k as usize, out),
-        None => put_ends(alloc, net, clock, out),
+        Some(k) => put_end(net, clock, k as usize, out),
+        None => put_ends(net, clock, out),
     }
 }
 
 // The books of all ends.
-fn put_ends(alloc: Global, net: &Network, clock: u128, out: &mut Vec<u8>) -> Result<(), NoMemory>
+fn put_ends(net: &Network, clock: u128, out: &mut Vec<u8>) -> Result<(), NoMemory>
     requires { IsExpired clock net.now.nodes.items }
     ensures { OnOk result (out.new.items ≡ out.old.items ++ report_text (holdings_in net.now) clock None) }
 {
     for k in 0..net.ends.len() {
-        put_end(alloc, net, clock, k, out)?;
+        put_end(net, clock, k, out)?;
     }
     Ok(())
 }
 
 // The book of one end, where there is such an end.
-fn put_end(
-    alloc: Global,
-    net: &Network,
-    clock: u128,
-    k: usize,
-    out: &mut Vec<u8>,
-) -> Result<(), NoMemory>
+fn put_end(net: &Network, clock: u128, k: usize, out: &mut Vec<u8>) -> Result<(), NoMemory>
     requires { IsExpired clock net.now.nodes.items }
     ensures { OnOk result (out.new.items ≡ out.old.items ++ end_text (holdings_in net.now) clock k) }
 {
@@ -124,7 +106,6 @@ fn put_end(
         return Ok(());
     };
     put_book(
-        alloc,
         out,
         name.bytes(),
         end.iface.capacity,

@@ -122,12 +122,14 @@ report
 #[test]
 fn other_words_are_no_command(rt: HostRuntime) -> Result<(), Fail> {
     let alloc = rt.alloc();
-    let table: [&[&str]; 6] = [
+    let table: [&[&str]; 8] = [
         &[],
         &["demand"],
+        &["grow", "--seed", "3"],
         &["Replay"],
         &["replay", "replay"],
         &["replay", "--seed", "3"],
+        &["show", "--seed=3"],
         &["--help"],
     ];
     for list in table {
@@ -193,5 +195,65 @@ fn a_bad_line_is_refused_with_its_number(rt: HostRuntime) -> Result<(), Fail> {
     };
     assert_eq!(rt; status, Status::BadLine(why));
     assert_eq!(rt; sink.count(), 0);
+    Ok(())
+}
+
+const PATH: &[u8] =
+    b"10014cde40000058000c0101ef0101011101138c000c03010a000101000000000008050100007530000c0b010a0001010000138c00240c0200000007010000067f000005447a000044fa00007f80000000000040000005dc";
+
+const RESV: &[u8] =
+    b"10025a4f4000005c000c0101ef0101011100138c000c03010a000202000000000008050100007530000807010a00010100080801000000110024090200000007050000067f000005447a000044fa00007f80000000000040000005dc";
+
+#[test]
+fn messages_are_shown(rt: HostRuntime) -> Result<(), Fail> {
+    let alloc = rt.alloc();
+    let words = words(alloc, &["show"])?;
+    let too_long = vec![in alloc; b'0'; 8194]?;
+    let an_unknown_object =
+        b"100100004000005c000c0101ef0101011101138c00044001000c03010a000101000000000008050100007530000c0b010a0001010000138c00240c0200000007010000067f000005447a000044fa00007f80000000000040000005dc";
+    let no_period =
+        b"1001000040000050000c0101ef0101011101138c000c03010a00010100000000000c0b010a0001010000138c00240c0200000007010000067f000005447a000044fa00007f80000000000040000005dc";
+    let table: [(&[u8], &[u8]); 6] = [
+        (
+            PATH,
+            b"Path 239.1.1.1/17/5004 police hop 10.0.1.1/0 period 30000 sender 10.0.1.1:5004 1000/2000/inf/64/1500\n",
+        ),
+        (
+            RESV,
+            b"Resv 239.1.1.1/17/5004 hop 10.0.2.2/0 period 30000 WF scope 10.0.1.1 1000/2000/inf/64/1500\n",
+        ),
+        (too_long.as_slice(), b"refused TooLong\n"),
+        (&PATH[..174], b"refused Length\n"),
+        (an_unknown_object, b"refused Class 20 64/1\n"),
+        (no_period, b"refused Missing 5\n"),
+    ];
+    for (line, text) in table {
+        let mut source = MemorySource::new(line.to_vec(alloc)?, Vec::new(alloc), 50);
+        let mut sink = MemorySink::open(alloc, 1000, Vec::new(alloc), Vec::new(alloc))?;
+        assert_eq!(rt; run(alloc, &words, &mut source, &mut sink), Status::Done);
+        assert_eq!(rt; sink.bytes(), text);
+    }
+    Ok(())
+}
+
+#[test]
+fn nothing_is_shown_before_a_bad_line(rt: HostRuntime) -> Result<(), Fail> {
+    let alloc = rt.alloc();
+    let words = words(alloc, &["show"])?;
+    let long = vec![in alloc; b'x'; 8195]?;
+    let table: [(&[u8], u32, LineWhy); 3] = [
+        (b"0", 1, LineWhy::Word),
+        (b"00\n\n0g\n", 3, LineWhy::Word),
+        (long.as_slice(), 1, LineWhy::Limit),
+    ];
+    for (input, line, why) in table {
+        let mut source = PlainSource::new(input.to_vec(alloc)?);
+        let mut sink = PlainSink::new();
+        assert_eq!(rt;
+            run(alloc, &words, &mut source, &mut sink),
+            Status::BadLine(LineErr { line, why })
+        );
+        assert_eq!(rt; sink.count(), 0);
+    }
     Ok(())
 }

@@ -1,0 +1,18 @@
+use Rattle.std.proofs.Common.{◌≡◌, ℕ, ◌-◌, ◌^◌, ◌++◌, List, length, min}
+use Rattle.script_words.specs.Lines.{lines_of}
+use Rattle.message_show.specs.ShowLines.{AreShown}
+use Rattle.message_show.proofs.lines.show.Given as goal
+
+-- what is written is what is shown of the lines before
+abbrev pub invariant-loop-line : goal.invariant-loop-line
+invariant-loop-line l =
+    record {
+      before : List (List ℕ);
+      parts : lines_of l.input ≡ before ++ lines_of l.rest;
+      number : l.number ≡ min (length before) (2 ^ 32 - 1);
+      shown : AreShown before l.out.items;
+      room : length l.room ≡ 4097;
+    }
+
+abbrev pub decreases-loop-line : goal.decreases-loop-line
+decreases-loop-line l = length l.rest

@@ -1,0 +1,144 @@
+//! The lines of messages.
+ghost use Rattle.std.specs.Prelude.{◌≡◌, ◌++◌, OnOk};
+ghost use Rattle.message_show.specs.PartTexts.{confirm_text, where_there};
+ghost use Rattle.message_show.specs.MessageText.{message_text, only_sender_text, path_err_text, path_sender_text, path_tear_text, path_text, resv_conf_text, resv_err_text, resv_tear_text, resv_text, words_text};
+
+use crate::parts::{
+    put_ask, put_blame, put_confirm, put_error, put_hop, put_offer, put_period, put_tear, put_where,
+};
+use rsvp_base::{Addr, Flow, NoMemory, Sender};
+use rsvp_messages::{
+    Message, PathErrMsg, PathMsg, PathTearMsg, ResvConfMsg, ResvErrMsg, ResvMsg, ResvTearMsg,
+};
+use value_texts::{put, put_sender, put_session};
+
+#[tactic(auto, unfolding(crate::specs::MessageText::path_sender_text))]
+fn put_path_sender(out: &mut Vec<u8>, sender: Option<(Sender, Flow)>) -> Result<(), NoMemory>
+    ensures { OnOk result (out.new.items ≡ out.old.items ++ where_there path_sender_text sender) }
+{
+    let Some(offer) = sender else {
+        return Ok(());
+    };
+    put(out, b" sender")?;
+    put_offer(out, offer)
+}
+
+#[tactic(auto, unfolding(crate::specs::MessageText::only_sender_text))]
+fn put_only_sender(out: &mut Vec<u8>, sender: Option<Sender>) -> Result<(), NoMemory>
+    ensures { OnOk result (out.new.items ≡ out.old.items ++ where_there only_sender_text sender) }
+{
+    let Some(sender) = sender else {
+        return Ok(());
+    };
+    put(out, b" sender ")?;
+    put_sender(out, sender)
+}
+
+fn put_wish(out: &mut Vec<u8>, confirm: Option<Addr>) -> Result<(), NoMemory>
+    ensures { OnOk result (out.new.items ≡ out.old.items ++ where_there confirm_text confirm) }
+{
+    match confirm {
+        Some(addr) => put_confirm(out, addr),
+        None => Ok(()),
+    }
+}
+
+#[tactic(auto, unfolding(crate::specs::MessageText::path_text))]
+fn put_path(out: &mut Vec<u8>, m: &PathMsg) -> Result<(), NoMemory>
+    ensures { OnOk result (out.new.items ≡ out.old.items ++ path_text m.now) }
+{
+    put(out, b"Path ")?;
+    put_session(out, m.session)?;
+    put_where(out, m.police, b" police")?;
+    put_hop(out, m.hop)?;
+    put_period(out, m.period)?;
+    put_path_sender(out, m.sender)
+}
+
+#[tactic(auto, unfolding(crate::specs::MessageText::resv_text))]
+fn put_resv(out: &mut Vec<u8>, m: &ResvMsg) -> Result<(), NoMemory>
+    ensures { OnOk result (out.new.items ≡ out.old.items ++ resv_text m.now) }
+{
+    put(out, b"Resv ")?;
+    put_session(out, m.session)?;
+    put_hop(out, m.hop)?;
+    put_period(out, m.period)?;
+    put_wish(out, m.confirm)?;
+    put_ask(out, &m.ask)
+}
+
+#[tactic(auto, unfolding(crate::specs::MessageText::path_err_text))]
+fn put_path_err(out: &mut Vec<u8>, m: &PathErrMsg) -> Result<(), NoMemory>
+    ensures { OnOk result (out.new.items ≡ out.old.items ++ path_err_text m.now) }
+{
+    put(out, b"PathErr ")?;
+    put_session(out, m.session)?;
+    put_error(out, m.err)?;
+    put_only_sender(out, m.sender)
+}
+
+#[tactic(auto, unfolding(crate::specs::MessageText::resv_err_text))]
+fn put_resv_err(out: &mut Vec<u8>, m: &ResvErrMsg) -> Result<(), NoMemory>
+    ensures { OnOk result (out.new.items ≡ out.old.items ++ resv_err_text m.now) }
+{
+    put(out, b"ResvErr ")?;
+    put_session(out, m.session)?;
+    put_hop(out, m.hop)?;
+    put_error(out, m.err)?;
+    put_blame(out, &m.blame)
+}
+
+#[tactic(auto, unfolding(crate::specs::MessageText::path_tear_text))]
+fn put_path_tear(out: &mut Vec<u8>, m: &PathTearMsg) -> Result<(), NoMemory>
+    ensures { OnOk result (out.new.items ≡ out.old.items ++ path_tear_text m.now) }
+{
+    put(out, b"PathTear ")?;
+    put_session(out, m.session)?;
+    put_hop(out, m.hop)?;
+    put_only_sender(out, m.sender)
+}
+
+#[tactic(auto, unfolding(crate::specs::MessageText::resv_tear_text))]
+fn put_resv_tear(out: &mut Vec<u8>, m: &ResvTearMsg) -> Result<(), NoMemory>
+    ensures { OnOk result (out.new.items ≡ out.old.items ++ resv_tear_text m.now) }
+{
+    put(out, b"ResvTear ")?;
+    put_session(out, m.session)?;
+    put_hop(out, m.hop)?;
+    put_tear(out, &m.tear)
+}
+
+#[tactic(auto, unfolding(crate::specs::MessageText::resv_conf_text))]
+fn put_resv_conf(out: &mut Vec<u8>, m: &ResvConfMsg) -> Result<(), NoMemory>
+    ensures { OnOk result (out.new.items ≡ out.old.items ++ resv_conf_text m.now) }
+{
+    put(out, b"ResvConf ")?;
+    put_session(out, m.session)?;
+    put_error(out, m.err)?;
+    put_confirm(out, m.confirm)?;
+    put_ask(out, &m.ask)
+}
+
+fn put_words(out: &mut Vec<u8>, message: &Message) -> Result<(), NoMemory>
+    ensures { OnOk result (out.new.items ≡ out.old.items ++ words_text message.now) }
+{
+    match message {
+        Message::Path(m) => put_path(out, m),
+        Message::Resv(m) => put_resv(out, m),
+        Message::PathErr(m) => put_path_err(out, m),
+        Message::ResvErr(m) => put_resv_err(out, m),
+        Message::PathTear(m) => put_path_tear(out, m),
+        Message::ResvTear(m) => put_resv_tear(out, m),
+        Message::ResvConf(m) => put_resv_conf(out, m),
+    }
+}
+
+/// Appends the line of a message: its kind, its session, and what its objects say (RFC 2205, 3.1). `NoMemory`: there was
+/// no memory for the text.
+#[tactic(auto, unfolding(crate::specs::MessageText::message_text))]
+pub fn put_message(out: &mut Vec<u8>, message: &Message) -> Result<(), NoMemory>
+    ensures { OnOk result (out.new.items ≡ out.old.items ++ message_text message.now) }
+{
+    put_words(out, message)?;
+    put(out, b"\n")
+}
