@@ -1,0 +1,9 @@
+pub mod WantSteps
+pub mod Merged
+pub mod Pools
+pub mod Inside
+pub mod Changes
+pub mod BookLaws
+pub mod GoalLaws
+pub mod AllowedLaws
+pub mod SessionLists

@@ -1,0 +1,4 @@
+pub mod Steps
+pub mod Asked
+pub mod Books
+pub mod Demands
