@@ -4,5 +4,7 @@ pub mod PathSends
 pub mod SoundPaths
 pub mod Keeping
 pub mod Example
+pub mod LiveSenders
+pub mod CompletePaths
 pub mod Passing
 pub mod Calming
