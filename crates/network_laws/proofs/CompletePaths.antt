@@ -1,6 +1,6 @@
 -- Paths are complete: two rounds for each hop.
-use Rattle.std.proofs.Common.{◌≡◌, ℕ, zero, suc, ◌+◌, ◌*◌, ◌<◌, ◌≤◌, List, [], ◌∷◌, length, Bool, true, false, cond, Option, None, Some, ◌⊎◌, inl, inr, ⊎_elim, arith, sym, refl, ap, subst, ◌∙◌}
-use Rattle.std.specs.Prelude.{slice_get, ◌==◌, ◌&&◌, ◌||◌, is_some, option_and_then, nat_lt, max, min, ◌/◌}
+use Rattle.std.proofs.Common.{◌≡◌, ℕ, zero, suc, ◌+◌, ◌*◌, ◌<◌, ◌≤◌, List, [], length, Bool, true, false, Option, None, Some, ◌⊎◌, inl, inr, ⊎_elim, arith, sym, refl, ap, subst, ◌∙◌}
+use Rattle.std.specs.Prelude.{slice_get, ◌==◌, ◌||◌, is_some, option_and_then, max, min, ◌/◌}
 use Rattle.std.specs.Ordering.{eq_by_cmp}
 use Rattle.std.specs.Option.{option_map}
 use Rattle.std.proofs.lemmas.Bool.{lt-ltb}
@@ -20,18 +20,16 @@ use Rattle.rsvp_messages.specs.declared.message.Message.TheVariants as message
 use Rattle.rsvp_messages.specs.declared.message.PathMsg.{PathMsg}
 use Rattle.rsvp_messages.specs.declared.message.PathTearMsg.{PathTearMsg}
 use Rattle.rsvp_messages.specs.Units.{ask_style}
-use Rattle.calm_rounds.specs.Machine.{Fresh}
 use Rattle.calm_rounds.specs.Rounds.{Rounds}
 use Rattle.calm_rounds.specs.Hold.{Hold}
 use Rattle.calm_rounds.specs.Lines.{DueLaws, Good, Moves, Stands}
 use Rattle.calm_rounds.proofs.Holding.{hold_map, hold_both, hold_all, hold_later, hold_start, hold_stack, hold_keep}
 use Rattle.calm_rounds.proofs.Renewing.{what_is_said_is_kept}
 use Rattle.demand_laws.specs.Goals.{addr_of}
-use Rattle.router_laws.specs.BoundLaws.{IsSameNode}
 use Rattle.router_laws.specs.CountdownLaws.{IsMoved}
-use Rattle.router_laws.specs.PathLaws.{CameOnTree, IsLearnt, IsReplaced, PathDies, PathGoes, PathIsTorn, said_by}
+use Rattle.router_laws.specs.PathLaws.{CameOnTree, IsReplaced, PathGoes, said_by}
 use Rattle.router_laws.specs.SpeakingLaws.{IsOfGoneOffer}
-use Rattle.router_laws.specs.Steps.{is_calm as calm_one, facts_then, fired_then, sent_then}
+use Rattle.router_laws.specs.Steps.{is_calm as calm_one, facts_then, fired_then}
 use Rattle.router_laws.proofs.Counting.{countdowns_move_by_their_rule, fires}
 use Rattle.router_laws.proofs.Learning.{a_path_on_the_tree_is_learnt, how_a_path_fact_goes}
 use Rattle.router_laws.proofs.Speaking.{refreshes_are_marked, why_a_path_tear_is_sent}
@@ -40,15 +38,12 @@ use Rattle.router_rules.specs.Facts.{Facts, SenderKey, PathState, sender_keys}
 use Rattle.router_rules.specs.Forgetting.{counted}
 use Rattle.router_rules.specs.Inputs.{Arrival, Input, Wait, Clear, Came, Send, Spelt, Unspelt}
 use Rattle.router_rules.specs.Known.{known, came_by}
-use Rattle.router_rules.specs.Offers.{Offer, OfferKey}
-use Rattle.router_rules.specs.Paths.{path_state}
+use Rattle.router_rules.specs.Offers.{OfferKey}
 use Rattle.router_rules.specs.Place.{Place, own, goes_out, comes_in}
-use Rattle.router_rules.specs.Rule.{Outcome, rule}
+use Rattle.router_rules.specs.Rule.{Outcome}
 use Rattle.router_rules.specs.Sends.{path_send}
 use Rattle.router_rules.proofs.Knowing.{known_and_via, has-known}
-use Rattle.tree_laws.specs.declared.hops.End.{End}
 use Rattle.tree_laws.specs.declared.hops.Hop.{Hop}
-use Rattle.tree_laws.specs.declared.hops.TreeHop.{TreeHop}
 use Rattle.tree_laws.specs.Networks.{Net, node_of, node_of_end, end_at, iface_of, owner, peers}
 use Rattle.tree_laws.specs.Ranks.{longest}
 use Rattle.tree_laws.specs.Trees.{tree, inward, outward, depth}
@@ -61,19 +56,19 @@ use Rattle.tree_laws.proofs.TreeLaws.{one, out_told, out_tested, the_root_has_no
 use Rattle.network_model.specs.Bounds.{AreBounds, AreLocals}
 use Rattle.network_model.specs.Links.{is_group, goes_to, copy_to}
 use Rattle.network_model.specs.Locals.{senders_at, IsLive}
-use Rattle.network_model.specs.Sound.{IsSoundAt, ArePathsSound, IsPathAt, ArePathsComplete}
-use Rattle.network_model.specs.Steps.{Step, Piece, Deliver, Lose, Copy, At, ClearAt, Trace, Report, Flags, Inject, Reroute, Lane, Refreshed, OfSender, OfStyle, is_calm, is_quiet, ms_of, arrived, input_at, word_for, outcome, still, sender_of, lane, path_lane, arrival_lane, sent, step, machine}
+use Rattle.network_model.specs.Sound.{ArePathsSound, ArePathsComplete}
+use Rattle.network_model.specs.Steps.{Step, Piece, Deliver, Lose, Copy, At, ClearAt, Trace, Report, Flags, Inject, Reroute, Lane, OfSender, OfStyle, is_quiet, ms_of, arrived, input_at, word_for, outcome, still, sender_of, lane, path_lane, arrival_lane, sent, step, machine}
 use Rattle.network_model.specs.Worlds.{Item, World, place_of}
 use Rattle.network_model.proofs.Changing.{where_a_send_goes}
 use Rattle.network_model.proofs.Listing.{in_place}
 use Rattle.network_model.proofs.Machines.{quiet_of, time_passes, items_are_numbered, in_flight_after}
 use Rattle.network_model.proofs.Quiet.{IsWaited, IsCame, FollowsRule, input_found, input_came, outcome_quiet}
-use Rattle.network_model.proofs.Stepping.{copies_found, copies_made, facts_after_found, facts_after_made, sent_found, sent_made}
-use Rattle.network_laws.specs.Lines.{IsSameNet, IsKnown, PathValue, value_of, path_at, by_iface, SaysPath}
+use Rattle.network_model.proofs.Stepping.{copies_found, copies_made, facts_after_made, sent_found, sent_made}
+use Rattle.network_laws.specs.Lines.{IsSameNet, IsKnown, PathValue, path_at, by_iface}
 use Rattle.network_laws.specs.Telling.{TellsPath, is_of, letter_message, letter_arrival, is_letter, life_of, due_at, Refreshes, IsCompleteTo, IsSure, renewed_line}
 use Rattle.network_laws.proofs.LiveSenders.{senders_found, one_flow, live_fits}
 use Rattle.network_laws.proofs.PathLines.{path_found, path_made, iface_found, iface_made, full_life}
-use Rattle.network_laws.proofs.PathSends.{IsPathSent, path_sent, goes_to_peers}
+use Rattle.network_laws.proofs.PathSends.{path_sent, goes_to_peers}
 use Rattle.network_laws.proofs.SoundPaths.{of_some, known_hold, paths_are_sound}
 use Rattle.network_laws.proofs.Standing.{own_end, end_of, iface_less, comes_in_told, comes_in_made, goes_out_told, goes_out_made, from_there, to_there, same_end, some_at}
 

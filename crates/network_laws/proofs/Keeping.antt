@@ -13,6 +13,7 @@ use Rattle.calm_rounds.proofs.Holding.{hold_always}
 use Rattle.calm_rounds.proofs.Renewing.{in_option}
 use Rattle.router_laws.specs.BoundLaws.{IsSameNode, IsFit, IsFitArrival, clock_after}
 use Rattle.router_laws.proofs.Bounded.{a_step_keeps_a_node_within_bounds}
+use Rattle.router_laws.proofs.Wording.{what_is_sent_is_proper}
 use Rattle.router_rules.specs.Bounds.{IsWithinBounds}
 use Rattle.router_rules.specs.Facts.{Facts}
 use Rattle.router_rules.specs.Inputs.{Arrival, Input, Call, Wait, Clear, Moved, Send, Spelt, Unspelt}
@@ -30,7 +31,7 @@ use Rattle.network_model.proofs.Listing.{in_remove, in_place}
 use Rattle.network_model.proofs.Machines.{in_arrived, quiet_of, short_of}
 use Rattle.network_model.proofs.Quiet.{IsWaited, IsCame, at_node_found, input_found}
 use Rattle.network_model.proofs.Stepping.{copies_found, facts_after_found, sent_found}
-use Rattle.network_laws.specs.Keeping.{IsFitStep, SendsAreProper}
+use Rattle.network_laws.specs.Keeping.{IsFitStep}
 use Rattle.network_laws.proofs.PathSends.{goes_to_peers, goes_to_end}
 use Rattle.network_laws.proofs.Standing.{iface_less, peer_there}
 
@@ -195,8 +196,8 @@ module _ (q : ℕ) (s : Step) (w : World) (bounds : AreBounds q w) (fit : IsFitS
   abbrev pub AreProperSent : Type 0
   AreProperSent = (x : Item) (b : Bool) → In (x, b) (sent q s w) → IsProperArrival x.arrival
 
-  pub proper_sent : SendsAreProper → AreProperSent
-  proper_sent proper x b i =
+  pub proper_sent : AreProperSent
+  proper_sent x b i =
       let n = sent_found q s w (x, b) i in
       let c = copies_found w.net w.made n.0 (outcome q s w n.0 n.1).sent (x, b) n.3 in
       subst IsProperArrival (sym (ap (λ (z : Item × Bool). z.0.arrival) c.4)) (proper_send n.0 n.1 c.0 n.2 (input_at s w n.0) refl c.2)
@@ -205,7 +206,7 @@ module _ (q : ℕ) (s : Step) (w : World) (bounds : AreBounds q w) (fit : IsFitS
       proper_send n f send a None e i = absurd i
       proper_send n f send a (Some k) e i =
           let is = fit_input q s w n k bounds fit e in
-          proper (place_of q w.net w.trees n) (place_of q (net_after s w) w.trees n) w.clock k f (same_node q s w n bounds.period) is.fit (bounds.facts n f a) send
+          what_is_sent_is_proper (place_of q w.net w.trees n) (place_of q (net_after s w) w.trees n) w.clock k f (same_node q s w n bounds.period) is.fit (bounds.facts n f a) send
           (subst (λ (c : ℕ). In send (rule (place_of q w.net w.trees n) (place_of q (net_after s w) w.trees n) c k f).sent) is.clock i)
 
   sent_item : AreProperSent → (x : Item) (b : Bool) → In (x, b) (sent q s w) → (x.end < length w.net.ends) × (x.born ≡ w.made) × IsProperArrival x.arrival
@@ -262,9 +263,9 @@ calm_fit q Flags w c = tt
 calm_fit q (Inject e dst a) w c = let no : is_quiet (Inject e dst a) ≡ true = quiet_of q (Inject e dst a) c in absurd (cc)
 calm_fit q (Reroute g s hops) w c = let no : is_quiet (Reroute g s hops) ≡ true = quiet_of q (Reroute g s hops) c in absurd (cc)
 
-pub each_step_keeps_a_world_within_bounds : SendsAreProper → (q : ℕ) (w : World) (s : Step) → IsFitStep q w s → AreBounds q w → AreBounds q (step q s w)
-each_step_keeps_a_world_within_bounds proper q w s fit bounds = step_keeps q s w bounds fit (proper_sent q s w bounds fit proper)
+pub each_step_keeps_a_world_within_bounds : (q : ℕ) (w : World) (s : Step) → IsFitStep q w s → AreBounds q w → AreBounds q (step q s w)
+each_step_keeps_a_world_within_bounds q w s fit bounds = step_keeps q s w bounds fit (proper_sent q s w bounds fit)
 
-pub calm_rounds_keep_bounds : SendsAreProper → (q : ℕ) (w : World) (rs : List (List Step)) → Rounds (machine q) rs w → AreBounds q w → Hold (machine q) 0 rs w (AreBounds q)
-calm_rounds_keep_bounds proper q w rs calm bounds =
-    hold_always (machine q) (AreBounds q) (λ s u c b. step_keeps q s u b (calm_fit q s u c) (proper_sent q s u b (calm_fit q s u c) proper)) rs w calm bounds
+pub calm_rounds_keep_bounds : (q : ℕ) (w : World) (rs : List (List Step)) → Rounds (machine q) rs w → AreBounds q w → Hold (machine q) 0 rs w (AreBounds q)
+calm_rounds_keep_bounds q w rs calm bounds =
+    hold_always (machine q) (AreBounds q) (λ s u c b. step_keeps q s u b (calm_fit q s u c) (proper_sent q s u b (calm_fit q s u c))) rs w calm bounds

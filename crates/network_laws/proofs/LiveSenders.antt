@@ -1,5 +1,5 @@
 -- Live senders: there are few, each has one flow, and what is kept of them alone is within the limits of a table.
-use Rattle.std.proofs.Common.{◌≡◌, ℕ, zero, suc, ◌≤◌, List, [], ◌∷◌, ◌++◌, length, Bool, true, false, Option, None, Some, inl, inr, ⊎_elim, arith, sym, refl, ap, subst, ◌∙◌}
+use Rattle.std.proofs.Common.{◌≡◌, ℕ, zero, suc, List, [], ◌∷◌, true, Option, None, Some, arith, sym, refl, ap, subst, ◌∙◌}
 use Rattle.std.specs.Prelude.{slice_get, map as each, is_some}
 use Rattle.std.specs.Option.{option_map}
 use Rattle.std.proofs.lemmas.List.{length-map}
@@ -7,9 +7,9 @@ use Rattle.rsvp_base.specs.declared.session.Sender.{Sender}
 use Rattle.rsvp_base.specs.declared.session.Session.{Session}
 use Rattle.rsvp_base.specs.Members.{In}
 use Rattle.rsvp_base.specs.Orders.{sessions, senders}
-use Rattle.rsvp_base.specs.Sets.{Set, set_of}
+use Rattle.rsvp_base.specs.Sets.{set_of}
 use Rattle.rsvp_base.specs.SessionLimits.{IsWithinSessionLimits}
-use Rattle.rsvp_base.specs.Table.{Table, get, has, keys, size}
+use Rattle.rsvp_base.specs.Table.{Table, get, has, keys}
 use Rattle.rsvp_base.specs.TokenBucket.{TokenBucket}
 use Rattle.rsvp_base.specs.Under.{under}
 use Rattle.rsvp_base.proofs.Counts.{in_found, found_in, in_set_of, set_below, size-set_of, size_below}
@@ -20,7 +20,7 @@ use Rattle.demand_laws.specs.declared.locals.LocalSender.{LocalSender}
 use Rattle.demand_laws.specs.Wants.{live, of_session}
 use Rattle.router_rules.specs.Facts.{Facts, SenderKey, sender_keys}
 use Rattle.network_model.specs.Bounds.{AreLocals}
-use Rattle.network_model.specs.Locals.{sender_at, senders_from, locals_of, sessions_of, senders_at, IsLive}
+use Rattle.network_model.specs.Locals.{sender_at, senders_from, locals_of, senders_at, IsLive}
 use Rattle.network_model.specs.Worlds.{World}
 
 pub senders_found : (o : World) (n : ℕ) (m : Table sender_keys TokenBucket) → senders_at o n ≡ Some m → (f : Facts) × (slice_get o.nodes n ≡ Some f) × (f.senders ≡ m)

@@ -1,13 +1,7 @@
--- What a step may be, so that a world within bounds stays so; and what its rules still owe.
+-- What a step may be, so that a world within bounds stays so.
 use Rattle.std.specs.Prelude.{ℕ, ◌*◌, ◌<◌, ◌≤◌, length}
 use Rattle.rsvp_base.specs.Members.{In}
-use Rattle.rsvp_messages.specs.Proper.{IsProper}
-use Rattle.router_laws.specs.BoundLaws.{IsSameNode, IsFit, IsFitCall, clock_after}
-use Rattle.router_laws.specs.Steps.{sent_then}
-use Rattle.router_rules.specs.Bounds.{IsWithinBounds}
-use Rattle.router_rules.specs.Facts.{Facts}
-use Rattle.router_rules.specs.Inputs.{Input, Send}
-use Rattle.router_rules.specs.Place.{Place}
+use Rattle.router_laws.specs.BoundLaws.{IsFitCall}
 use Rattle.tree_laws.specs.Valid.{IsValid}
 use Rattle.network_model.specs.Bounds.{IsProperArrival}
 use Rattle.network_model.specs.Steps.{Step, Piece, Deliver, Lose, Copy, At, ClearAt, Trace, Report, Flags, Inject, Reroute, rerouted}
@@ -27,8 +21,3 @@ IsFitStep q w (Report e) = Unit {0}
 IsFitStep q w Flags = Unit {0}
 IsFitStep q w (Inject e dst a) = (e < length w.net.ends) × IsProperArrival a
 IsFitStep q w (Reroute g s hops) = In (g, s) w.trees × IsValid (rerouted w.net g s hops)
-
--- what a node within bounds sends is proper: of the rules, this is not proved yet
-abbrev pub SendsAreProper : Type 0
-SendsAreProper =
-    (old p : Place) (b : ℕ) (i : Input) (f : Facts) → IsSameNode old p → IsFit p i → IsWithinBounds old b f → (s : Send) → In s (sent_then old p (clock_after b i) i f) → IsProper s.message
