@@ -1,2 +1,6 @@
 pub mod Sums
 pub mod Sizes
+pub mod Fitting
+pub mod Own
+pub mod Listed
+pub mod ReadAgain

@@ -1,8 +1,9 @@
 //! Messages as bytes.
 ghost use Rattle.std.specs.Prelude.{◌≡◌, ◌≤◌, ◌+◌, ◌++◌, length};
 ghost use Rattle.rsvp_messages.specs.Kinds.{kind_of};
+ghost use Rattle.message_wire.specs.Spells.{Spells};
 ghost use Rattle.message_wire.specs.Sum.{ones_sum};
-ghost use Rattle.message_writing.specs.Encoding.{kind_number, header, checksum, sealed, body_of, encoding};
+ghost use Rattle.message_writing.specs.Encoding.{kind_number, header, checksum, sealed, body_of, encoding, IsWritable};
 
 use crate::lengths::know_lengths;
 use crate::messages::put_objects;
@@ -16,6 +17,7 @@ pub fn encode(message: &Message) -> Packet
     ensures text { result ≡ encoding message.now }
     ensures short { length result ≤ 1024 }
     ensures right { ones_sum result ≡ 65535 }
+    ensures again { IsWritable message.now → Spells result message.now }
 {
     sealed(message.kind(), body(message).bytes())
 }
