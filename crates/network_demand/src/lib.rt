@@ -13,6 +13,8 @@ mod ends;
 mod hop_want;
 mod locals;
 mod owed;
+#[cfg(test)]
+mod tests;
 mod wants;
 
 pub use admission_book::EntryKey;

@@ -1,0 +1,268 @@
+//! What the ends of worked networks owe.
+use crate::{Demand, End, LocalSender, LocalWant, Locals, Routing, Topology, can_ask, demand};
+use admission_book::Iface;
+use rsvp_base::{Addr, Flow, Part, Peak, Rate, Sender, Senders, Session, StyleKind};
+use std::alloc::Global;
+use std::test::Fail;
+
+const GROUP: Addr = Addr(0xef01_0101);
+
+const SESSION: Session = Session {
+    group: GROUP,
+    proto: 17,
+    port: 5004,
+};
+
+fn flow(r: u64, b: u64, low: u32, most: u32) -> Option<Flow> {
+    Flow::new(Rate::of(r)?, Rate::of(b)?, Peak::Infinite, low, most)
+}
+
+fn sender(addr: u32, port: u16) -> Sender {
+    Sender {
+        addr: Addr(addr),
+        port,
+    }
+}
+
+// The network of these nodes, ends, links and hops; a hop as its group, source and ends.
+fn routing(
+    alloc: Global,
+    nodes: u16,
+    ends: &[(u16, u32)],
+    links: &[(u16, u16)],
+    hops: &[(u32, u32, u16, u16)],
+) -> Result<Routing, Fail> {
+    let mut net = Topology::new(alloc).ok().ok_or("room")?;
+    for _ in 0..nodes {
+        if !net.has_room_for_node() {
+            return Err("node".into());
+        }
+        net.add_node().ok().ok_or("room")?;
+    }
+    for (node, addr) in ends {
+        let end = End {
+            node: *node,
+            iface: Iface {
+                addr: Addr(*addr),
+                capacity: 10_000,
+                mtu: 1500,
+            },
+        };
+        if !net.takes_end(&end) {
+            return Err("end".into());
+        }
+        net.add_end(end).ok().ok_or("room")?;
+    }
+    for (one, other) in links {
+        if !net.takes_link(*one, *other) {
+            return Err("link".into());
+        }
+        net.add_link(*one, *other).ok().ok_or("room")?;
+    }
+    for (group, source, from, to) in hops {
+        if !net.has_room_for_hop() {
+            return Err("hop".into());
+        }
+        net.add_hop(Addr(*group), Addr(*source), *from, *to)
+            .ok()
+            .ok_or("hop")?;
+    }
+    Ok(net.close().ok().ok_or("room")?)
+}
+
+// What these senders and wants come to.
+fn settled(
+    alloc: Global,
+    net: &Routing,
+    senders: &[(u16, Session, Sender)],
+    wants: Vec<LocalWant>,
+) -> Result<Demand, Fail> {
+    let mut all = Vec::new(alloc);
+    for (node, session, sender) in senders {
+        all.push(LocalSender {
+            node: *node,
+            session: *session,
+            sender: *sender,
+        })?;
+    }
+    let locals = Locals {
+        senders: all,
+        wants,
+    };
+    if !can_ask(net, &locals) {
+        return Err("locals".into());
+    }
+    Ok(demand(alloc, net, &locals).ok().ok_or("room")?)
+}
+
+// A want at a node.
+fn want(
+    node: u16,
+    session: Session,
+    style: StyleKind,
+    names: &[Sender],
+    flow: Flow,
+) -> Result<LocalWant, Fail> {
+    let senders = Senders::of(names).ok().ok_or("names")?;
+    Ok(LocalWant {
+        node,
+        session,
+        style,
+        part: Part { senders, flow },
+    })
+}
+
+// Whether the entry of an end at this place is for this session and style, names these senders and has this flow.
+fn is_entry(
+    demand: &Demand,
+    end: usize,
+    place: usize,
+    session: Session,
+    style: StyleKind,
+    names: &[Sender],
+    flow: Flow,
+) -> bool {
+    match demand.ends.get(end) {
+        Some(book) => match book.as_slice().get(place) {
+            Some((key, part)) => {
+                key.session == session
+                    && key.style == style
+                    && part.flow == flow
+                    && part.senders.len() == names.len()
+                    && names.iter().all(|name| part.senders.has(*name))
+            }
+            None => false,
+        },
+        None => false,
+    }
+}
+
+// How many entries an end has.
+fn entries(demand: &Demand, end: usize) -> Option<usize> {
+    Some(demand.ends.get(end)?.as_slice().len())
+}
+
+const S1: u32 = 0x0a00_0101;
+
+// A host s sends by way of a router r to hosts t and u: the ends s1, r1, r2, t1, r3, u1.
+fn fork(alloc: Global) -> Result<Routing, Fail> {
+    routing(
+        alloc,
+        4,
+        &[
+            (0, S1),
+            (1, 0x0a00_0102),
+            (1, 0x0a00_0201),
+            (2, 0x0a00_0202),
+            (1, 0x0a00_0301),
+            (3, 0x0a00_0302),
+        ],
+        &[(0, 1), (2, 3), (4, 5)],
+        &[
+            (GROUP.0, S1, 0, 1),
+            (GROUP.0, S1, 2, 3),
+            (GROUP.0, S1, 4, 5),
+        ],
+    )
+}
+
+#[test]
+fn styles_merge_toward_the_source(rt: HostRuntime) -> Result<(), Fail> {
+    let net = fork(rt.alloc())?;
+    let first = sender(S1, 5004);
+    let second = sender(S1, 5006);
+    let small = flow(300, 300, 64, 1500).ok_or("flow")?;
+    let large = flow(500, 500, 64, 1500).ok_or("flow")?;
+
+    // The larger rate, not the sum; and of each other value the larger, or the smaller least size.
+    let mut wants = Vec::new(rt.alloc());
+    wants.push(want(
+        2,
+        SESSION,
+        StyleKind::Wild,
+        &[],
+        flow(300, 600, 64, 1500).ok_or("flow")?,
+    )?)?;
+    wants.push(want(
+        3,
+        SESSION,
+        StyleKind::Wild,
+        &[],
+        flow(500, 400, 128, 1000).ok_or("flow")?,
+    )?)?;
+    let wild = settled(rt.alloc(), &net, &[(0, SESSION, first)], wants)?;
+    let merged = flow(500, 600, 64, 1500).ok_or("flow")?;
+    assert_eq!(rt; entries(&wild, 0), Some(1));
+    assert!(rt;
+        is_entry(
+            &wild,
+            0,
+            0,
+            SESSION,
+            StyleKind::Wild,
+            &[sender(S1, 0)],
+            merged
+        )
+    );
+
+    // Fixed filters add up, and a shared filter joins.
+    for (style, count) in [(StyleKind::Fixed, 2usize), (StyleKind::Shared, 1)] {
+        let mut wants = Vec::new(rt.alloc());
+        wants.push(want(2, SESSION, style, &[first], small)?)?;
+        wants.push(want(3, SESSION, style, &[second], large)?)?;
+        let demand = settled(
+            rt.alloc(),
+            &net,
+            &[(0, SESSION, first), (0, SESSION, second)],
+            wants,
+        )?;
+        assert_eq!(rt; entries(&demand, 0), Some(count));
+        if count == 2 {
+            assert!(rt; is_entry(&demand, 0, 0, SESSION, style, &[first], small));
+            assert!(rt; is_entry(&demand, 0, 1, SESSION, style, &[second], large));
+        } else {
+            assert!(rt; is_entry(&demand, 0, 0, SESSION, style, &[first, second], large));
+        }
+    }
+    Ok(())
+}
+
+#[test]
+fn both_ends_send_and_receive(rt: HostRuntime) -> Result<(), Fail> {
+    let a = 0x0a00_0101;
+    let b = 0x0a00_0102;
+    let net = routing(
+        rt.alloc(),
+        2,
+        &[(0, a), (1, b)],
+        &[(0, 1)],
+        &[(GROUP.0, a, 0, 1), (GROUP.0, b, 1, 0)],
+    )?;
+    let small = flow(100, 100, 1, 1500).ok_or("flow")?;
+    let large = flow(200, 200, 1, 1500).ok_or("flow")?;
+    let mut wants = Vec::new(rt.alloc());
+    wants.push(want(0, SESSION, StyleKind::Wild, &[], small)?)?;
+    wants.push(want(1, SESSION, StyleKind::Wild, &[], large)?)?;
+    let demand = settled(
+        rt.alloc(),
+        &net,
+        &[(0, SESSION, sender(a, 5004)), (1, SESSION, sender(b, 5004))],
+        wants,
+    )?;
+    assert_eq!(rt; net.longest(), 1);
+    for (end, addr, flow) in [(0usize, a, large), (1, b, small)] {
+        assert_eq!(rt; entries(&demand, end), Some(1));
+        assert!(rt;
+            is_entry(
+                &demand,
+                end,
+                0,
+                SESSION,
+                StyleKind::Wild,
+                &[sender(addr, 0)],
+                flow
+            )
+        );
+    }
+    Ok(())
+}
