@@ -266,3 +266,116 @@ fn both_ends_send_and_receive(rt: HostRuntime) -> Result<(), Fail> {
     }
     Ok(())
 }
+
+const AUDIO: Session = Session {
+    group: Addr(0xef02_0001),
+    proto: 17,
+    port: 5004,
+};
+
+const VIDEO: Session = Session {
+    group: Addr(0xef02_0002),
+    proto: 17,
+    port: 5006,
+};
+
+// The address 10.1.i.1 of the host s of this number.
+fn source(i: u16) -> u32 {
+    0x0a01_0001 + 256 * u32::from(i)
+}
+
+// Routers p and q (nodes 0 and 1), hosts s1 to s4 at p (nodes 2 to 5), t1 to t10 at p and t11 to t20 at q (nodes 6 to 25).
+// Link k has the ends 2k of a host and 2k + 1 of its router; the last link is that of p and q.
+fn conference(alloc: Global) -> Result<Routing, Fail> {
+    let mut ends = Vec::new(alloc);
+    let mut links = Vec::new(alloc);
+    for i in 1..5u16 {
+        let addr = 0x0a01_0001 + 256 * u32::from(i);
+        ends.push((1 + i, addr))?;
+        ends.push((0, addr + 1))?;
+    }
+    for j in 1..21u16 {
+        let addr = 0x0a02_0001 + 256 * u32::from(j);
+        ends.push((5 + j, addr))?;
+        ends.push((if j <= 10 { 0 } else { 1 }, addr + 1))?;
+    }
+    ends.push((0, 0x0a09_0001))?;
+    ends.push((1, 0x0a09_0002))?;
+    for k in 0..25u16 {
+        links.push((2 * k, 2 * k + 1))?;
+    }
+    let mut hops = Vec::new(alloc);
+    for group in [AUDIO.group.0, VIDEO.group.0] {
+        for i in 1..5u16 {
+            hops.push((group, source(i), 2 * i - 2, 2 * i - 1))?;
+            hops.push((group, source(i), 48, 49))?;
+            for j in 1..21u16 {
+                hops.push((group, source(i), 2 * j + 7, 2 * j + 6))?;
+            }
+        }
+    }
+    routing(alloc, 26, &ends, &links, &hops)
+}
+
+#[test]
+fn a_conference(rt: HostRuntime) -> Result<(), Fail> {
+    let net = conference(rt.alloc())?;
+    assert_eq!(rt; net.longest(), 3);
+    let audio = flow(8000, 16_000, 64, 1500).ok_or("flow")?;
+    let small = flow(62_500, 125_000, 64, 1500).ok_or("flow")?;
+    let large = flow(125_000, 250_000, 64, 1500).ok_or("flow")?;
+    let first = sender(source(1), 5006);
+    let second = sender(source(2), 5006);
+    let mut senders = Vec::new(rt.alloc());
+    for i in 1..5u16 {
+        senders.push((1 + i, AUDIO, sender(source(i), 5004)))?;
+        senders.push((1 + i, VIDEO, sender(source(i), 5006)))?;
+    }
+    let mut wants = Vec::new(rt.alloc());
+    for j in 1..21u16 {
+        wants.push(want(5 + j, AUDIO, StyleKind::Wild, &[], audio)?)?;
+        if j > 15 {
+            wants.push(want(5 + j, VIDEO, StyleKind::Shared, &[first, second], small)?)?;
+        } else if j > 10 {
+            wants.push(want(5 + j, VIDEO, StyleKind::Shared, &[first], large)?)?;
+        }
+    }
+    let demand = settled(rt.alloc(), &net, &senders, wants)?;
+    let all = [
+        sender(source(1), 0),
+        sender(source(2), 0),
+        sender(source(3), 0),
+        sender(source(4), 0),
+    ];
+    for (end, count) in [(48usize, 2usize), (2, 2), (4, 1), (39, 2)] {
+        assert_eq!(rt; entries(&demand, end), Some(count), "at {end}");
+    }
+    assert!(rt; is_entry(&demand, 48, 0, AUDIO, StyleKind::Wild, &all, audio));
+    assert!(rt;
+        is_entry(
+            &demand,
+            48,
+            1,
+            VIDEO,
+            StyleKind::Shared,
+            &[first, second],
+            large
+        )
+    );
+    assert!(rt; is_entry(&demand, 2, 0, AUDIO, StyleKind::Wild, &all[1..2], audio));
+    assert!(rt; is_entry(&demand, 2, 1, VIDEO, StyleKind::Shared, &[second], large));
+    assert!(rt; is_entry(&demand, 4, 0, AUDIO, StyleKind::Wild, &all[2..3], audio));
+    assert!(rt; is_entry(&demand, 39, 0, AUDIO, StyleKind::Wild, &all, audio));
+    assert!(rt;
+        is_entry(
+            &demand,
+            39,
+            1,
+            VIDEO,
+            StyleKind::Shared,
+            &[first, second],
+            small
+        )
+    );
+    Ok(())
+}
