@@ -21,7 +21,7 @@ use Rattle.router_laws.specs.BoundLaws.{IsLeftOf}
 use Rattle.router_laws.specs.ReservationLaws.{IsAskedFor, IsListed}
 use Rattle.router_laws.proofs.Asking.{where_a_reservation_fact_comes_from}
 use Rattle.router_rules.specs.Facts.{Facts, ResvState, resvs_of}
-use Rattle.router_rules.specs.Inputs.{Wait, Came, Spelt}
+use Rattle.router_rules.specs.Inputs.{Input, Wait, Came, Spelt}
 use Rattle.router_rules.specs.Place.{own}
 use Rattle.router_rules.specs.Rule.{Outcome}
 use Rattle.tree_laws.specs.Networks.{Net, node_of, node_of_end, end_at, iface_of}
@@ -78,6 +78,13 @@ module _ (q : ℕ) (o : World) (k : ResvKey) (lt : k.to < length o.net.ends) (s 
   abbrev key : LineKey
   key = line_key_of o.net k
 
+  -- what comes to the node by the interface comes to the end
+  pub end_found : (i : Input) (t : IsCame s u n i) → iface_of u.net.ends t.item.end ≡ iface_of o.net.ends k.to → t.item.end ≡ k.to
+  end_found i t iface =
+      let inside : t.item.end < length o.net.ends = subst (λ (z : Net). t.item.end < length z.ends) a.same.net (slice_get_within u.net.ends t.item.end t.end t.there) in
+      let node : node_of o.net.ends t.item.end ≡ n = ap (λ (z : Net). node_of z.ends t.item.end) (sym a.same.net) ∙ ap node_of_end t.there ∙ t.node in
+      same_end o.net t.item.end k.to inside lt node (ap (λ (z : Net). iface_of z.ends t.item.end) (sym a.same.net) ∙ iface)
+
   asked : (f : Facts) (x : ResvState) (h : FollowsRule q s u n f (outcome q s u n f)) → IsAskedFor (place_of q u.net u.trees n) (u.clock + ms_of s) h.input f k.style key x → IsAsked o.net k s u x
   asked f x h l =
       let i : ℕ = iface_of o.net.ends k.to in
@@ -89,9 +96,7 @@ module _ (q : ℕ) (o : World) (k : ResvKey) (lt : k.to < length o.net.ends) (s 
       let iface : iface_of u.net.ends t.item.end ≡ i = cc in
       let spelt : t.item.arrival ≡ Spelt (message.Resv l.by.resv) = cc in
       let to : t.item.dst ≡ dst = cc in
-      let inside : t.item.end < length o.net.ends = subst (λ (z : Net). t.item.end < length z.ends) a.same.net (slice_get_within u.net.ends t.item.end t.end t.there) in
-      let node : node_of o.net.ends t.item.end ≡ n = ap (λ (z : Net). node_of z.ends t.item.end) (sym a.same.net) ∙ ap node_of_end t.there ∙ t.node in
-      let end : t.item.end ≡ k.to = same_end o.net t.item.end k.to inside lt node (ap (λ (z : Net). iface_of z.ends t.item.end) (sym a.same.net) ∙ iface) in
+      let end : t.item.end ≡ k.to = end_found h.input t iface in
       let at : end_at u.net.ends n i ≡ Some k.to = subst (λ (z : Net). end_at z.ends n i ≡ Some k.to) (sym a.same.net) ((interfaces_are_ends o.net).end_of_iface k.to lt) in
       let addr : dst ≡ addr_of o.net k.to = own_end q u.net u.trees n i k.to at ∙ ap (λ (z : Net). addr_of z k.to) a.same.net in
       let part = asked_part l.unit.names x.part l.listed l.named in

@@ -1,1 +1,2 @@
 pub mod ResvLines
+pub mod Said
