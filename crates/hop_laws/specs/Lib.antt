@@ -1,2 +1,3 @@
 pub mod ResvLines
 pub mod Said
+pub mod Hops
