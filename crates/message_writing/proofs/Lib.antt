@@ -4,3 +4,4 @@ pub mod Fitting
 pub mod Own
 pub mod Listed
 pub mod ReadAgain
+pub mod Ranged

@@ -1,10 +1,12 @@
 //! Messages as bytes.
 ghost use Rattle.std.specs.Prelude.{◌≡◌, ◌≤◌, ◌+◌, ◌++◌, length};
 ghost use Rattle.rsvp_messages.specs.Kinds.{kind_of};
+ghost use Rattle.rsvp_messages.specs.Proper.{IsProper};
 ghost use Rattle.message_wire.specs.Spells.{Spells};
 ghost use Rattle.message_wire.specs.Sum.{ones_sum};
-ghost use Rattle.message_writing.specs.Encoding.{kind_number, header, checksum, sealed, body_of, encoding, IsWritable};
+ghost use Rattle.message_writing.specs.Encoding.{kind_number, header, checksum, sealed, body_of, encoding};
 
+use crate::fields::know_fields;
 use crate::lengths::know_lengths;
 use crate::messages::put_objects;
 use message_wire::ones_sum;
@@ -12,13 +14,16 @@ use rsvp_messages::{Kind, Message};
 use rsvp_objects::Packet;
 
 /// The bytes of a message (RFC 2205, 3.1), at most 1,024: its objects in one order, behind a header with the checksum.
+/// They spell each message that is proper, so that `decode` gives it back.
 #[tactic(auto, unfolding(crate::specs::Encoding::encoding))]
 pub fn encode(message: &Message) -> Packet
     ensures text { result ≡ encoding message.now }
     ensures short { length result ≤ 1024 }
     ensures right { ones_sum result ≡ 65535 }
-    ensures again { IsWritable message.now → Spells result message.now }
+    ensures again { IsProper message.now → Spells result message.now }
 {
+    know_lengths(message);
+    know_fields(message);
     sealed(message.kind(), body(message).bytes())
 }
 

@@ -5,6 +5,7 @@
 #![tactic(auto)]
 
 mod encoding;
+mod fields;
 mod lengths;
 mod lists;
 mod messages;
