@@ -1,3 +1,4 @@
 pub mod ResvLines
 pub mod Said
 pub mod Hops
+pub mod Example

@@ -12,6 +12,7 @@ ghost use Rattle.tree_laws.specs.Networks.{peers};
 ghost use Rattle.network_model.specs.Bounds.{AreBounds};
 ghost use Rattle.network_model.specs.Steps.{Step, machine, sent};
 ghost use Rattle.network_model.specs.Worlds.{Item, World};
+ghost use Rattle.hop_laws.specs.Example.{SaysAReservation};
 ghost use Rattle.hop_laws.specs.Hops.{LeavesBy, hop_of};
 ghost use Rattle.hop_laws.specs.ResvLines.{ResvKey, AllowsCuts, resv_line};
 ghost use Rattle.hop_laws.specs.Said.{IsSaid};
@@ -37,4 +38,10 @@ pub fn said_resvs_are_kept()
 /// the end of its node by which it leaves.
 pub fn the_hop_of_what_is_sent()
     ensures { (q : ℕ) (s : Step) (w : World) (y : Item) (mark : Bool) (m : Message) (a : Addr) → In (y, mark) (sent q s w) → y.arrival ≡ Spelt m → hop_of m ≡ Some a → LeavesBy q s w (y, mark) a }
+{}
+
+/// A small network meets the premises of `said_resvs_are_kept` through two calm rounds, and at their start what it promises
+/// does not hold yet.
+pub fn a_pair_says_a_reservation()
+    ensures { SaysAReservation }
 {}
