@@ -1,5 +1,5 @@
 -- The small network says its reservation: a test of worlds, computed in each that is visited.
-use Rattle.std.proofs.Common.{◌≡◌, ℕ, ◌+◌, List, [], ◌∷◌, Bool, true, false, Option, None, Some, inl, arith, sym, refl, ap, subst, ◌∙◌}
+use Rattle.std.proofs.Common.{◌≡◌, ℕ, ◌+◌, Bool, true, false, Option, None, Some, inl, arith, sym, refl, ap, subst, ◌∙◌}
 use Rattle.std.specs.Prelude.{slice_get, ◌==◌, ◌&&◌}
 use Rattle.std.specs.List.{list_all}
 use Rattle.rsvp_base.specs.declared.part.Part.{Part}
@@ -19,8 +19,7 @@ use Rattle.rsvp_messages.specs.declared.message.ResvMsg.{ResvMsg}
 use Rattle.rsvp_messages.specs.Units.{AskedUnit, ask_style, asked_units}
 use Rattle.style_rules.specs.Parts.{part_le}
 use Rattle.style_rules.specs.PartLaws.{part_at_most_told, part_at_most_both_ways}
-use Rattle.calm_rounds.specs.Hold.{Visited, Hold}
-use Rattle.calm_rounds.specs.Machine.{run}
+use Rattle.calm_rounds.proofs.Holding.{hold_map}
 use Rattle.router_laws.specs.Steps.{facts_then}
 use Rattle.router_rules.specs.Asking.{ask_of}
 use Rattle.router_rules.specs.Facts.{Facts, ResvState, resvs_of}
@@ -33,7 +32,7 @@ use Rattle.router_rules.proofs.Tests.{addr_told, session_told}
 use Rattle.tree_laws.proofs.Following.{same_number}
 use Rattle.network_model.specs.Bounds.{AreBounds}
 use Rattle.network_model.specs.Laws.{place_in}
-use Rattle.network_model.specs.Steps.{Step, At, Deliver as Delivers, step, machine}
+use Rattle.network_model.specs.Steps.{At, Deliver as Delivers, step, machine}
 use Rattle.network_model.specs.Worlds.{Item, World}
 use Rattle.network_laws.specs.Example.{pair_net, sending_world}
 use Rattle.network_laws.specs.Rounds.{rounds_of}
@@ -43,6 +42,7 @@ use Rattle.network_laws.proofs.Keeping.{each_step_keeps_a_world_within_bounds}
 use Rattle.hop_laws.specs.Example.{asking_world, back, asked, SaysAReservation}
 use Rattle.hop_laws.specs.ResvLines.{SaysResv, line_key_of}
 use Rattle.hop_laws.specs.Said.{IsSaid, lane_of}
+use Rattle.hop_laws.proofs.Computed.{Passes, through}
 
 -- ---- tests
 abbrev is_asked : Part → Bool
@@ -150,23 +150,7 @@ said_told b u t =
       known = λ f there x h. (part_at_most_told asked (record { senders = named_as Wild (known f session); flow = usual }) (ap does_know (sym there) ∙ two.1)).names x h;
     }
 
--- ---- in each world that is visited
-abbrev said_in : List Step → World → Bool
-said_in [] w = is_said w
-said_in (s ∷ ss) w = is_said w && said_in ss (step 7500 s w)
-
-abbrev said_through : List (List Step) → World → Bool
-said_through [] w = is_said w
-said_through (r ∷ rs) w = said_in r w && said_through rs (run (machine 7500) r w)
-
-visited : (b : ℕ) (ss : List Step) (w : World) → said_in ss w ≡ true → Visited (machine 7500) (IsSaid 7500 pair_net back asked b) ss w
-visited b [] w t = said_told b w t
-visited b (s ∷ ss) w t = let r = and_both (is_said w) (said_in ss (step 7500 s w)) t in (said_told b w r.0, visited b ss (step 7500 s w) r.1)
-
-through : (b : ℕ) (rs : List (List Step)) (w : World) → said_through rs w ≡ true → Hold (machine 7500) 0 rs w (IsSaid 7500 pair_net back asked b)
-through b [] w t = said_told b w t
-through b (r ∷ rs) w t = let x = and_both (said_in r w) (said_through rs (run (machine 7500) r w)) t in (visited b r w x.0, through b rs (run (machine 7500) r w) x.1)
-
+-- ---- all together
 bounds : AreBounds 7500 asking_world
 bounds =
     each_step_keeps_a_world_within_bounds 7500 (step 7500 (Delivers 0) sending_world) (At 1 (WantAs session Wild empty usual false)) (tt, record { rate = omega arith; depth = omega arith; low = omega arith; most = omega arith })
@@ -177,6 +161,7 @@ a_pair_says_a_reservation = record {
   bounds = bounds;
   linked = inl refl;
   rounds = calm_rounds 7500 2 asking_world;
-  said = through asking_world.made (rounds_of 7500 2 asking_world) asking_world refl;
+  said = hold_map (machine 7500) (Passes 7500 is_said) (IsSaid 7500 pair_net back asked asking_world.made) (said_told asking_world.made) 0 (rounds_of 7500 2 asking_world) asking_world
+      (through 7500 is_said (rounds_of 7500 2 asking_world) asking_world refl);
   not_yet = λ s. let none : None ≡ Some (asked, s.0) = s.1 in absurd (cc);
 }

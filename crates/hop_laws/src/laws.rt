@@ -15,6 +15,7 @@ ghost use Rattle.network_model.specs.Worlds.{Item, World};
 ghost use Rattle.hop_laws.specs.Example.{SaysAReservation};
 ghost use Rattle.hop_laws.specs.Hops.{LeavesBy, hop_of};
 ghost use Rattle.hop_laws.specs.ResvLines.{ResvKey, AllowsCuts, resv_line};
+ghost use Rattle.hop_laws.specs.Sure.{IsSureOfPaths};
 ghost use Rattle.hop_laws.specs.Said.{IsSaid};
 
 /// One hop settles, for a reservation: where all Resvs that are sent over a hop from now on ask, for a session, style and
@@ -44,4 +45,10 @@ pub fn the_hop_of_what_is_sent()
 /// does not hold yet.
 pub fn a_pair_says_a_reservation()
     ensures { SaysAReservation }
+{}
+
+/// A small network meets the premises of the law on Paths that are said over a hop (`said_paths_are_kept` of `network_laws`)
+/// through two calm rounds, and at their start what it promises does not hold yet.
+pub fn a_pair_is_sure()
+    ensures { IsSureOfPaths }
 {}
