@@ -371,3 +371,17 @@ module _ (st : StyleKind) (fs : List (Held × ℕ)) (up : AreRows line_keys held
       let new : is_some (get m (s, r)) ≡ false = ap is_some (get-valued line_keys said t (s, r)) ∙ is_some_said (get t (s, r)) ∙ ap is_some none in
       let more = size-put_in line_keys m (s, r) v ∙ ap (λ b. cond b (size m) (size m + 1)) new in
       omega (arith, a, more, facts_many, many, w.lines)
+
+-- a session has no more than the table
+fewer : (s : Session) (es : List (LineKey × (ResvFact × ℕ))) → length (where_key line_keys.cmp (λ k. eq_by_cmp sessions.cmp s k.0) es) ≤ length es
+fewer s [] = omega arith
+fewer s (e ∷ es) = by (eq_by_cmp sessions.cmp s e.0.0) (fewer s es)
+  where
+    by : (b : Bool) → length (where_key line_keys.cmp (λ k. eq_by_cmp sessions.cmp s k.0) es) ≤ length es → length {A = LineKey × (ResvFact × ℕ)} (cond b (e ∷ where_key line_keys.cmp (λ k. eq_by_cmp sessions.cmp s k.0) es) (where_key line_keys.cmp (λ k. eq_by_cmp sessions.cmp s k.0) es)) ≤ length (e ∷ es)
+    by true rest = omega arith
+    by false rest = omega arith
+
+pub few_of_session : (st : StyleKind) (m : ResvFacts) (s : Session) → IsWithinLimits st (resv_lines st m) → size (under sessions rests m s) ≤ 1024
+few_of_session st m s w =
+    let cut : LineKey × (ResvFact × ℕ) → Rest × (ResvFact × ℕ) = λ e. (e.0.1, e.1) in
+    omega (arith, lines_counted st m, w.lines, ap (λ ls. size (line_keys_of ls)) (one_style st m), fewer s m.rows, length-map (where_key line_keys.cmp (λ k. eq_by_cmp sessions.cmp s k.0) m.rows) cut)

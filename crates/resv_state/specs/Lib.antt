@@ -1,2 +1,4 @@
+pub mod Leaving
+pub mod Merging
 pub mod Resvs
 pub mod Walks

@@ -6,6 +6,8 @@
 #![tactic(auto)]
 
 mod fact;
+mod leaving;
+mod merging;
 mod table;
 #[cfg(test)]
 mod tests;

@@ -1,23 +1,31 @@
 //! The table of reservations of a style.
-ghost use Rattle.std.specs.Prelude.{◌≡◌, ◌≤◌, ◌<◌, ℕ, ◌↔◌, [], true, false, ◌||◌, is_some, IsErr, IsNone, IsTrue, IfOk, IfSome, OnOk, OnErr, None, Some, slice_get};
+ghost use Rattle.std.specs.Prelude.{◌≡◌, ◌≤◌, ◌<◌, ℕ, ◌↔◌, [], map, true, false, ◌||◌, is_some, IsErr, IsNone, IsTrue, IfOk, IfSome, OnOk, OnErr, None, Some, slice_get};
 ghost use Rattle.std.specs.Option.{option_copied, option_map};
 ghost use Rattle.rsvp_base.specs.Keys.{pairs};
 ghost use Rattle.rsvp_base.specs.Orders.{sessions, units};
 ghost use Rattle.rsvp_base.specs.Rows.{AreRows, table_of};
-ghost use Rattle.rsvp_base.specs.Table.{empty, get, put_in, size, without, changed};
+ghost use Rattle.rsvp_base.specs.Table.{empty, get, keys, put_in, size, without, changed};
 ghost use Rattle.rsvp_base.specs.Under.{under};
 ghost use Rattle.style_rules.specs.Limits.{within_limits, IsWithinLimits};
 ghost use Rattle.style_rules.specs.Lines.{line_keys, next_hops};
+ghost use Rattle.style_rules.specs.Merge.{merge};
 ghost use Rattle.style_rules.specs.Parts.{IsOfStyle, part_unit};
+ghost use Rattle.style_rules.specs.Toward.{toward};
+ghost use Rattle.resv_state.specs.Merging.{parts_on, requests_toward};
+ghost use Rattle.soft_table.specs.Facts.{rows_behind};
+ghost use Rattle.resv_state.specs.Walks.{rests};
+ghost use Rattle.resv_state.specs.Leaving.{torn, hop_has_one, forgotten, lessened, key_has_one};
 ghost use Rattle.resv_state.specs.Resvs.{ResvFacts, AreOfStyle, AreUnderTheirKeys, resv_key, resv_lines, held_row, dead_row, fact_of, dead_of, later, dead_after};
 
 use crate::fact::{Held, ResvFact};
+use crate::leaving::{lessen, only, rest_of};
+use crate::merging::{merge_on, merge_toward};
 use crate::walks::{FACTS, are_all, fits_fact, fits_hop, fits_names, fits_session};
-use rsvp_base::{Addr, Full, NoMemory, Part, Senders, Session, Unit};
+use rsvp_base::{Addr, Full, NoMemory, Part, Sender, Senders, Session, Unit};
 use soft_table::SoftTable;
 use std::alloc::Global;
 use std::marker::{Model, PhantomData};
-use style_rules::Style;
+use style_rules::{Parts, Style, Upstream};
 
 /// The reservations of a style that a node keeps, one for a session, next hop and unit. Contracts see a finite map from
 /// session, next hop (interface and address) and unit to the fact and the milliseconds that are left of it, and a finite
@@ -38,6 +46,9 @@ impl<S: Style> Model for ResvTable<S> {
     ghost use Rattle.rsvp_base.specs.Rows.{table_of};
     ghost use Rattle.rsvp_base.specs.Table.{changed};
     ghost use Rattle.style_rules.specs.Lines.{line_keys};
+    ghost use Rattle.soft_table.specs.Facts.{rows_behind};
+    ghost use Rattle.resv_state.specs.Walks.{rests};
+    ghost use Rattle.resv_state.specs.Leaving.{torn, hop_has_one, forgotten, lessened, key_has_one};
     ghost use Rattle.resv_state.specs.Resvs.{ResvMap, resv_map_code, held_row, dead_row, fact_of, dead_of};
 
     ghost Value = { ResvMap };
@@ -116,6 +127,92 @@ impl<S: Style> ResvTable<S> {
             Some(held) => Some(held.fact.copy()),
             None => None,
         }
+    }
+
+    /// The senders `gone` leave the reservations of a session's next hop; those that are left without senders go, and the
+    /// others keep what is left of them. False exactly where no reservation of that next hop had one of them; nothing changes
+    /// then.
+    pub fn remove(&mut self, session: Session, iface: u8, next: Addr, gone: &Senders) -> bool
+        ensures facts { self.new ≡ record self.old { facts = changed (torn session (iface, next) gone.now) self.old.facts } }
+        ensures had { result ≡ hop_has_one session (iface, next) gone.now self.old.facts }
+        ensures unchanged { result ≡ false → self.new ≡ self.old }
+    {
+        self.is_sound();
+        let mut had = false;
+        for name in gone.as_slice() {
+            let rest = ((iface, next), S::unit_of(*name));
+            if self.leave(session, rest, gone) {
+                had = true;
+            }
+        }
+        had
+    }
+
+    /// A sender leaves all reservations of a session; those that are left without senders go, and the others keep what is
+    /// left of them.
+    pub fn forget_sender(&mut self, session: Session, name: Sender)
+        ensures { self.new ≡ record self.old { facts = changed (forgotten session name) self.old.facts } }
+    {
+        let gone = only(name);
+        let mut next = self.first_rest(session);
+        for k in 0..FACTS {
+            let Some(rest) = next else {
+                return;
+            };
+            self.leave(session, rest, &gone);
+            next = self.next_rest(session, rest);
+        }
+    }
+
+    // Where the first reservation of a session stands.
+    fn first_rest(&self, session: Session) -> Option<((u8, Addr), Unit)>
+        ensures first { result ≡ slice_get (keys (under sessions rests self.now.facts session)) 0 }
+        ensures few { size (under sessions rests self.now.facts session) ≤ 1024 }
+    {
+        rest_of(self.table.at(session, 0))
+    }
+
+    // Where the one stands that comes next behind another.
+    fn next_rest(&self, session: Session, rest: ((u8, Addr), Unit)) -> Option<((u8, Addr), Unit)>
+        ensures { result ≡ slice_get (map (λ e. e.0) (rows_behind rests rest (under sessions rests self.now.facts session).rows)) 0 }
+    {
+        rest_of(self.table.after(session, rest))
+    }
+
+    // What holds of every table.
+    fn is_sound(&self)
+        ensures { AreOfStyle S.kind_is self.now.facts }
+    {
+        let _table = &self.table;
+    }
+
+    // The senders leave the reservation of a key, which goes where none is left. Whether it had one of them.
+    fn leave(&mut self, session: Session, rest: ((u8, Addr), Unit), gone: &Senders) -> bool
+        ensures facts { self.new ≡ record self.old { facts = changed (lessened (session, rest) gone.now) self.old.facts } }
+        ensures had { result ≡ key_has_one gone.now (get self.old.facts (session, rest)) }
+        ensures unchanged { result ≡ false → self.new ≡ self.old }
+    {
+        lessen(&mut self.table, session, rest, gone)
+    }
+
+    /// The merge of the reservations of a session on an interface: of each unit the senders of all, and the join of the flows
+    /// (RFC 2205, 2.2).
+    pub fn parts(&self, session: Session, iface: u8) -> Parts
+        ensures { result ≡ merge S.kind_is (parts_on iface (under sessions rests self.now.facts session).rows) }
+    {
+        merge_on::<S>(&self.table, session, iface).finish()
+    }
+
+    /// What goes toward a previous hop (RFC 2205, 2.2 and 3.5). `up` has the names whose paths come from there, each with the
+    /// interfaces by which its tree goes out, and with its blockade; for the wildcard style the hop's blockade stands in each
+    /// line. A reservation of the session is cut to the names whose tree goes out of its interface, and a local want of `own`
+    /// to all names. What is left is blockaded by the blockade of any of its names. Of each unit it is the join of those that
+    /// are not blockaded, or, where all are, their meet.
+    pub fn toward(&self, session: Session, up: &Upstream, own: &Parts) -> Parts
+        ensures { result ≡ toward S.kind_is (requests_toward up.now (under sessions rests self.now.facts session).rows own.now) }
+    {
+        prove!(up.len() <= 16);
+        merge_toward::<S>(&self.table, session, up, own).finish()
     }
 
     /// Lets time pass, in milliseconds. The reservations with at most so much left are dead then, and wait to be pulled; the

@@ -1,0 +1,27 @@
+use Rattle.std.proofs.Common.{◌≡◌, ◌+◌, cond, length, take, get_or, sym, ap, subst, ◌∙◌, arith}
+use Rattle.std.proofs.Math.Seq.{take-length}
+use Rattle.rsvp_base.specs.Orders.{Names}
+use Rattle.rsvp_base.specs.Table.{has, without}
+use Rattle.rsvp_base.specs.declared.session.Sender.{Sender}
+use Rattle.resv_state.specs.Merging.{names_by}
+use Rattle.resv_state.proofs.Merged.{AreKept, has-by, one_kept, all_kept}
+use Rattle.resv_state.proofs.merging.names_by.Goals as goal
+
+abbrev blank : Sender
+blank = record { addr = record { 0 = 0 }; port = 0 }
+
+pub loop-name-preserved : goal.loop-name-preserved
+loop-name-preserved c =
+    let xs = c.as_slice-name-items.result.now in
+    let x = get_or xs c.loop-name.name-index blank in
+    let left = c.loop-name.left in
+    subst (λ (s : Names). AreKept (has (names_by c.args.iface c.args.up.now)) c.args.names.now s (take (c.loop-name.name-index + 1) xs))
+    (sym (c.keep_if.ensures ∙ ap (λ b. cond b left (without left x)) (c.is_by-stays.ensures ∙ sym (has-by c.args.iface c.args.up.now x))))
+    (one_kept (has (names_by c.args.iface c.args.up.now)) c.args.names.now left xs c.loop-name.name-index blank c.loop-name-test.true c.loop-name.invariant)
+
+pub returns : goal.returns
+returns c =
+    let xs = c.as_slice-name-items.result.now in
+    let end : c.loop-name.name-index ≡ length xs = omega arith in
+    all_kept (has (names_by c.args.iface c.args.up.now)) c.args.names.now c.loop-name.left
+    (subst (λ zs. AreKept (has (names_by c.args.iface c.args.up.now)) c.args.names.now c.loop-name.left zs) (ap (λ i. take i xs) end ∙ take-length xs ∙ c.as_slice-name-items.ensures.senders) c.loop-name.invariant)
