@@ -1,22 +1,21 @@
 -- The books of lines, with one line more.
-use Rattle.std.specs.Prelude.{◌≡◌, ◌⊎◌, ℕ, ◌+◌, ◌<◌, ◌≤◌, Bool, true, false, ◌&&◌, ◌==◌, cond, List, [], ◌∷◌, ◌++◌, map as each, length, Option, None, Some, slice_set, slice_get, slice_index_or, refl, if◌then◌else◌}
-use Rattle.std.specs.List.{filter}
+use Rattle.std.specs.Prelude.{◌≡◌, ℕ, ◌+◌, ◌<◌, ◌≤◌, Bool, true, false, ◌&&◌, ◌==◌, cond, List, [], ◌∷◌, ◌++◌, map as each, length, Option, None, Some, slice_set, slice_index_or, refl, if◌then◌else◌}
 use Rattle.std.specs.Ordering.{eq_by_cmp}
-use Rattle.std.proofs.Common.{zero, suc, sym, ap, subst, ◌∙◌, inl, inr, ⊎_elim, arith, append_assoc, take}
+use Rattle.std.proofs.Common.{zero, suc, sym, ap, subst, ◌∙◌, ⊎_elim, arith, append_assoc, take}
 use Rattle.std.proofs.lemmas.List.{map-append}
 use Rattle.rsvp_base.specs.Members.{In}
 use Rattle.rsvp_base.specs.Orders.{Names, senders}
 use Rattle.rsvp_base.specs.Sets.{union, IsWithin}
-use Rattle.rsvp_base.specs.Table.{get, put_in, size, empty}
+use Rattle.rsvp_base.specs.Table.{get, size}
 use Rattle.rsvp_base.specs.declared.part.Part.{Part}
 use Rattle.rsvp_base.specs.declared.session.Session.{Session}
 use Rattle.rsvp_base.specs.declared.style.StyleKind.{StyleKind}
 use Rattle.rsvp_base.specs.declared.style.Unit.{Unit as UnitOf}
-use Rattle.rsvp_base.proofs.SetLaws.{and_both, size_within}
-use Rattle.rsvp_base.proofs.Tables.{either, tied_same, tied_self, same_table, get-put_in, got_put_in}
+use Rattle.rsvp_base.proofs.SetLaws.{size_within}
+use Rattle.rsvp_base.proofs.Tables.{either, tied_same, same_table, get-put_in, got_put_in}
 use Rattle.style_rules.specs.Parts.{has_name, part_join}
 use Rattle.style_rules.specs.PartLaws.{union_least}
-use Rattle.style_rules.specs.Merge.{merge_at, those_at, all_by}
+use Rattle.style_rules.specs.Merge.{those_at, all_by}
 use Rattle.style_rules.specs.Lines.{Line, EntryKey, entry_keys, entry_key, BookTable, merged_book, at_end, book_of_end}
 use Rattle.style_rules.proofs.Folds.{all_push, all_push_first}
 use Rattle.style_rules.proofs.Merges.{get-merge_of}

@@ -1,17 +1,13 @@
 -- A change of an end's book that may fail.
-use Rattle.std.specs.Prelude.{◌≡◌, ℕ, ◌<◌, ◌≤◌, List, map as each, length, Result, Ok, Err, OnOk, OnErr, Some, slice_index_or}
+use Rattle.std.specs.Prelude.{◌≡◌, List, map as each, Result, Ok, Err, OnOk, OnErr}
 use Rattle.std.proofs.Common.{sym, ap, ◌∙◌, subst}
 use Rattle.std.specs.FinMap.Entries.{find, put}
 use Rattle.rsvp_base.specs.declared.part.Part.{Part}
-use Rattle.rsvp_base.specs.Sets.{union}
-use Rattle.rsvp_base.specs.Table.{put_in, size}
 use Rattle.rsvp_base.proofs.Rows.{are_rows, table_is}
-use Rattle.rsvp_base.specs.Rows.{table_of, HasRowAt}
+use Rattle.rsvp_base.specs.Rows.{table_of}
 use Rattle.admission_book.specs.declared.key.EntryKey.{EntryKey as KeptKey}
 use Rattle.style_rules.specs.Lines.{EntryKey, entry_keys, BookTable}
-use Rattle.style_rules.specs.Parts.{part_join}
-use Rattle.style_rules.specs.PartLaws.{same_part}
-use Rattle.network_demand.specs.Books.{book_row, key_of, joined_with, charged, AreInOrder}
+use Rattle.network_demand.specs.Books.{book_row, joined_with, charged, AreInOrder}
 
 abbrev table_in : (rows : List (KeptKey × Part)) → AreInOrder rows → BookTable
 table_in rows up = table_of entry_keys book_row rows up

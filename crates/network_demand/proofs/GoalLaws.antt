@@ -1,16 +1,15 @@
 -- The lines of all wants are those of the goals of all nodes.
-use Rattle.std.specs.Prelude.{◌≡◌, ◌↔◌, ◌⊎◌, replicate, ℕ, ◌+◌, ◌<◌, ◌≤◌, nat_lt, Bool, true, false, ◌==◌, List, [], ◌∷◌, ◌++◌, map as each, length, is_some, Option, None, Some, refl, slice_index_or}
+use Rattle.std.specs.Prelude.{◌≡◌, ◌↔◌, replicate, ℕ, ◌+◌, ◌<◌, ◌≤◌, nat_lt, Bool, true, false, ◌==◌, List, [], ◌∷◌, ◌++◌, map as each, length, is_some, Option, None, Some, refl, slice_index_or}
 use Rattle.std.specs.List.{filter, flat_map}
 use Rattle.std.proofs.Common.{zero, suc, sym, ap, subst, ◌∙◌, inl, inr, ⊎_elim, arith, take, append_assoc}
 use Rattle.std.proofs.lemmas.List.{length-map}
-use Rattle.rsvp_base.specs.Keys.{Keys, numbers, pairs}
+use Rattle.rsvp_base.specs.Keys.{Keys}
 use Rattle.rsvp_base.specs.Members.{In}
 use Rattle.rsvp_base.specs.Orders.{sessions, senders, units}
 use Rattle.rsvp_base.specs.Sets.{Set, set_of, IsWithin}
-use Rattle.rsvp_base.specs.Table.{empty, get, has, keys, values, size}
+use Rattle.rsvp_base.specs.Table.{empty, get, has, keys, size}
 use Rattle.rsvp_base.specs.declared.addr.Addr.{Addr}
 use Rattle.rsvp_base.specs.declared.part.Part.{Part}
-use Rattle.rsvp_base.specs.declared.session.Sender.{Sender}
 use Rattle.rsvp_base.specs.declared.session.Session.{Session}
 use Rattle.rsvp_base.specs.declared.style.StyleKind.{StyleKind}
 use Rattle.rsvp_base.specs.declared.style.StyleKind.TheVariants.{Wild, Fixed, Shared}
@@ -20,7 +19,6 @@ use Rattle.rsvp_base.proofs.Members.{in_left, in_right, in_append, in_each, to_e
 use Rattle.style_rules.specs.Styles.{name_of}
 use Rattle.style_rules.specs.Parts.{part_unit}
 use Rattle.style_rules.specs.PartLaws.{part_at_most_itself, union_least}
-use Rattle.style_rules.specs.Merge.{merge}
 use Rattle.style_rules.specs.Lines.{Line, EntryKey, entry_keys, entry_key, BookTable, at_end, book_of_end}
 use Rattle.style_rules.proofs.Merges.{merges_same, merge_named, merge_keeps}
 use Rattle.tree_laws.specs.declared.hops.Hop.{Hop}
@@ -50,7 +48,7 @@ past_all (b ∷ bs) zero le = absurd (omega arith)
 past_all (b ∷ bs) (suc e) le = past_all bs e (omega arith)
 
 -- ---- keys of a set
-in_keys : {K : Type 0} (o : Keys K) (m : Set o) (k : K) → In k (keys m) → has m k ≡ true
+pub in_keys : {K : Type 0} (o : Keys K) (m : Set o) (k : K) → In k (keys m) → has m k ≡ true
 in_keys {K} o m k i = let r = in_each (λ (e : K × Unit {0}). e.0) k m.rows i in ap is_some (in_found o m k r.0.1 (subst (λ (z : K). In (z, r.0.1) m.rows) (sym r.2) r.1))
 
 to_keys : {K : Type 0} (o : Keys K) (m : Set o) (k : K) → has m k ≡ true → In k (keys m)
@@ -89,13 +87,13 @@ named_session l s i =
 
 module _ (net : Net) (l : Locals) (order : List GroupHop) (by : AreByRank net order) where
   -- hops of a group in the order of all hops
-  from_hops : (g : Addr) (h : Hop) → In h (hops_in g order) → In h (hops_of net.hops g)
+  pub from_hops : (g : Addr) (h : Hop) → In h (hops_in g order) → In h (hops_of net.hops g)
   from_hops g h i =
       let x = in_each (λ (x : GroupHop). x.hop) h (filter (λ (x : GroupHop). x.group.0 == g.0) order) i in
       let f = in_filter (λ (x : GroupHop). x.group.0 == g.0) x.0 order x.1 in
       subst (λ (a : Addr). In h (hops_of net.hops a)) (addr_same x.0.group g f.1) (subst (λ (y : Hop). In y (hops_of net.hops x.0.group)) (sym x.2) (by.hops x.0 f.0))
 
-  to_hops : (g : Addr) (h : Hop) → In h (hops_of net.hops g) → In h (hops_in g order)
+  pub to_hops : (g : Addr) (h : Hop) → In h (hops_of net.hops g) → In h (hops_in g order)
   to_hops g h i = in_hops g order h (by.all g h i)
 
   abbrev want_of : StyleKind → Session → Hop → HopWant
@@ -173,7 +171,7 @@ module _ (net : Net) (l : Locals) (order : List GroupHop) (by : AreByRank net or
         (x, to_filter (λ (x : Line). x.end == e) x all_lines (style_in t.0 x t.1) f.1, refl, part_at_most_itself x.part))
 
   -- ---- room
-  proper_lines : (st : StyleKind) (s : Session) → AreProper l (wants_lines st s net (hop_wants st net l s order))
+  pub proper_lines : (st : StyleKind) (s : Session) → AreProper l (wants_lines st s net (hop_wants st net l s order))
   proper_lines st s x i =
       let t = line_told st s x i in
       let e = in_each (λ (e : UnitOf × Part). record { style = st; session = s; end = t.0.from; next = addr_of net t.0.to; unit = e.0; part = e.1 }) x (want st net l s t.0).rows t.2 in

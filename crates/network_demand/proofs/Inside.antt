@@ -1,6 +1,6 @@
 -- The ends of a network's hops are of its nodes.
 use Rattle.std.specs.Prelude.{◌≡◌, ℕ, ◌<◌, List, [], ◌∷◌, length, Some, slice_get, slice_index_or, refl}
-use Rattle.std.proofs.Common.{zero, suc, ap, subst, sym, inl, inr, arith}
+use Rattle.std.proofs.Common.{zero, suc, ap, subst, inl, inr, arith}
 use Rattle.rsvp_base.specs.Members.{In}
 use Rattle.rsvp_base.specs.declared.addr.Addr.{Addr}
 use Rattle.tree_laws.specs.declared.hops.End.{End}
@@ -17,7 +17,7 @@ index_in [] i d lt = absurd (omega arith)
 index_in (x ∷ xs) zero d lt = inl refl
 index_in (x ∷ xs) (suc i) d lt = inr (index_in xs i d (omega arith))
 
-end_there : (ends : List End) (e : ℕ) → e < length ends → (x : End) × In x ends × (slice_get ends e ≡ Some x)
+pub end_there : (ends : List End) (e : ℕ) → e < length ends → (x : End) × In x ends × (slice_get ends e ≡ Some x)
 end_there [] e lt = absurd (omega arith)
 end_there (x ∷ xs) zero lt = (x, inl refl, refl)
 end_there (x ∷ xs) (suc e) lt = let r = end_there xs e (omega arith) in (r.0, inr r.1, r.2)

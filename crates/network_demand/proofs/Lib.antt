@@ -7,3 +7,7 @@ pub mod BookLaws
 pub mod GoalLaws
 pub mod AllowedLaws
 pub mod SessionLists
+pub mod Rooms
+pub mod LimitLaws
+pub mod FitLaws
+pub mod Carrying

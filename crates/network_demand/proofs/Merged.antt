@@ -1,14 +1,11 @@
 -- Parts that are merged without walls.
-use Rattle.std.specs.Prelude.{◌≡◌, ℕ, ◌+◌, ◌<◌, ◌≤◌, false, List, [], ◌∷◌, ◌++◌, map as each, length, Option, None, Some, refl, slice_index_or}
-use Rattle.std.specs.List.{flat_map}
-use Rattle.std.proofs.Common.{zero, suc, sym, ap, subst, ◌∙◌, take, arith, ⊎_elim}
-use Rattle.std.proofs.lemmas.List.{map-append}
+use Rattle.std.specs.Prelude.{◌≡◌, ℕ, ◌+◌, ◌<◌, ◌≤◌, false, List, [], ◌∷◌, ◌++◌, map as each, length, Some, refl, slice_index_or}
+use Rattle.std.proofs.Common.{sym, ap, subst, ◌∙◌, take, arith}
 use Rattle.rsvp_base.specs.declared.part.Part.{Part}
-use Rattle.rsvp_base.specs.declared.session.Sender.{Sender}
 use Rattle.rsvp_base.specs.declared.style.StyleKind.{StyleKind}
 use Rattle.rsvp_base.specs.Members.{In}
 use Rattle.rsvp_base.specs.Orders.{Names, senders}
-use Rattle.rsvp_base.specs.Sets.{union, IsWithin, cut}
+use Rattle.rsvp_base.specs.Sets.{union, IsWithin}
 use Rattle.rsvp_base.specs.Table.{has, size, keys}
 use Rattle.rsvp_base.proofs.Counts.{set_of_in}
 use Rattle.rsvp_base.proofs.Members.{in_each, in_flat_map}

@@ -1,8 +1,8 @@
 -- What is asked at nodes grows with each local want and with the want of each hop.
-use Rattle.std.specs.Prelude.{◌≡◌, ◌↔◌, ◌⊎◌, ℕ, ◌+◌, ◌-◌, ◌<◌, ◌≤◌, Bool, true, false, cond, ◌&&◌, ◌==◌, List, [], ◌∷◌, ◌++◌, map as each, length, replicate, Result, Ok, Err, OnOk, IsErr, IfOk, refl, slice_get, slice_set, slice_index_or, if◌then◌else◌, unwrap_or}
+use Rattle.std.specs.Prelude.{◌≡◌, ◌↔◌, ℕ, ◌+◌, ◌-◌, ◌<◌, ◌≤◌, Bool, true, false, cond, ◌&&◌, ◌==◌, List, [], ◌∷◌, ◌++◌, map as each, length, replicate, Result, Ok, Err, OnOk, IsErr, refl, slice_set, slice_index_or, if◌then◌else◌}
 use Rattle.std.specs.List.{filter, flat_map}
 use Rattle.std.specs.Ordering.{eq_by_cmp}
-use Rattle.std.proofs.Common.{zero, suc, sym, ap, subst, ◌∙◌, inl, inr, ⊎_elim, take, drop, arith, append_assoc}
+use Rattle.std.proofs.Common.{zero, suc, sym, ap, subst, ◌∙◌, take, drop, arith, append_assoc}
 use Rattle.std.proofs.lemmas.List.{map-append}
 use Rattle.rsvp_base.specs.Members.{In}
 use Rattle.rsvp_base.specs.declared.addr.Addr.{Addr}
@@ -11,7 +11,7 @@ use Rattle.rsvp_base.specs.declared.session.Sender.{Sender}
 use Rattle.rsvp_base.specs.declared.session.Session.{Session}
 use Rattle.rsvp_base.specs.declared.style.StyleKind.{StyleKind}
 use Rattle.rsvp_base.specs.Orders.{sessions, styles, senders, Names}
-use Rattle.rsvp_base.specs.Sets.{set_of, with_key, with_keys}
+use Rattle.rsvp_base.specs.Sets.{with_key, with_keys}
 use Rattle.rsvp_base.specs.Table.{size, has, values}
 use Rattle.rsvp_base.proofs.SetLaws.{and_made, size-with_key}
 use Rattle.rsvp_base.proofs.Tables.{either}

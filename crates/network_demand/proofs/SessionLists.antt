@@ -1,13 +1,22 @@
 -- Lists of sessions, each once.
-use Rattle.std.specs.Prelude.{◌≡◌, ◌↔◌, ◌⊎◌, ℕ, ◌+◌, ◌<◌, ◌≤◌, List, [], ◌∷◌, ◌++◌, map as each, length, slice_index_or}
+use Rattle.std.specs.Prelude.{◌≡◌, ◌↔◌, ℕ, ◌+◌, ◌<◌, ◌≤◌, Bool, cond, List, [], ◌∷◌, ◌++◌, map as each, length, refl, slice_index_or}
 use Rattle.std.specs.List.{All}
-use Rattle.std.proofs.Common.{zero, suc, sym, ap, subst, ◌∙◌, inl, inr, ⊎_elim, take, arith}
+use Rattle.std.proofs.Common.{sym, ap, subst, ◌∙◌, inl, inr, ⊎_elim, take, arith}
 use Rattle.std.proofs.Math.Seq.{take-length}
 use Rattle.std.proofs.lemmas.List.{map-append}
 use Rattle.rsvp_base.specs.Members.{In}
-use Rattle.rsvp_base.proofs.Members.{in_left, in_append}
+use Rattle.rsvp_base.specs.Keys.{Keys}
+use Rattle.rsvp_base.specs.Orders.{sessions}
+use Rattle.rsvp_base.specs.Sets.{Set, set_of, with_key, with_keys}
+use Rattle.rsvp_base.specs.Table.{empty, has, size}
+use Rattle.rsvp_base.specs.declared.session.Session.{Session}
+use Rattle.rsvp_base.proofs.Counts.{in_set_of, set_of_in}
+use Rattle.rsvp_base.proofs.Members.{in_left, in_append, in_each, to_each}
+use Rattle.rsvp_base.proofs.SetLaws.{size-with_key}
+use Rattle.rsvp_base.proofs.Tables.{either}
 use Rattle.tree_laws.specs.Chains.{NoRepeats}
 use Rattle.network_demand.proofs.AllowedLaws.{all_in, in_all}
+use Rattle.network_demand.proofs.Inside.{index_in}
 use Rattle.network_demand.proofs.Pools.{take_more}
 
 pub among_already : {X : Type 0} (xs : List X) (y : X) → In y xs → (s : X) → In s xs ↔ In s (xs ++ y ∷ [])
@@ -45,3 +54,34 @@ all_more {X} P xs i d lt all p =
 
 pub taken_all : {X : Type 0} (xs : List X) (i : ℕ) → length xs ≤ i → i ≤ length xs → take i xs ≡ xs
 taken_all xs i a b = ap (λ k. take k xs) (let e : i ≡ length xs = omega arith in e) ∙ take-length xs
+
+-- ---- the sessions of wants one by one
+pub named_there : {W X : Type 0} (f : W → X) (ws : List W) (i : ℕ) (d w : W) (s : X) → i < length ws → w ≡ slice_index_or ws i d → s ≡ f w → In s (each f ws)
+named_there {W} {X} f ws i d w s lt is e = subst (λ (x : X). In x (each f ws)) (sym (e ∙ ap f is)) (to_each f (slice_index_or ws i d) ws (index_in ws i d lt))
+
+pub none_more : {W X : Type 0} (f : W → X) (ws : List W) (i : ℕ) (d w : W) (s : X) → i < length ws → w ≡ slice_index_or ws i d → (In s (each f (take i ws)) → ⊥) → (s ≡ f w → ⊥) → In s (each f (take (i + 1) ws)) → ⊥
+none_more {W} {X} f ws i d w s lt is none other j =
+    let r = in_each f s (take (i + 1) ws) j in
+    ⊎_elim (λ (k : In r.0 (take i ws)). none (subst (λ (x : X). In x (each f (take i ws))) (sym r.2) (to_each f r.0 (take i ws) k)))
+    (λ (k : In r.0 (w ∷ [])). ⊎_elim (λ (e : r.0 ≡ w). other (r.2 ∙ ap f e)) (λ (n : ⊥). n) k) (in_append r.0 (take i ws) (w ∷ []) (subst (λ (xs : List W). In r.0 xs) (take_more ws i d w lt is) r.1))
+
+with_last : {K : Type 0} (o : Keys K) (m : Set o) (ks : List K) (k : K) → with_keys m (ks ++ k ∷ []) ≡ with_key (with_keys m ks) k
+with_last o m [] k = refl
+with_last o m (q ∷ ks) k = with_last o (with_key m q) ks k
+
+module _ {W : Type 0} (f : W → Session) (ws : List W) (i : ℕ) (d w : W) (lt : i < length ws) (is : w ≡ slice_index_or ws i d) where
+  abbrev before : List Session
+  before = each f (take i ws)
+
+  one_last : size (set_of {o = sessions} (each f (take (i + 1) ws))) ≡ cond (has (set_of {o = sessions} before) (f w)) (size (set_of {o = sessions} before)) (size (set_of {o = sessions} before) + 1)
+  one_last =
+      ap (λ (ks : List Session). size (set_of {o = sessions} ks)) (ap (each f) (take_more ws i d w lt is) ∙ map-append f (take i ws) (w ∷ [])) ∙ ap (λ (m : Set sessions). size m) (with_last sessions empty before (f w)) ∙ size-with_key sessions (set_of before) (f w)
+
+  pub size_old : In (f w) before → size (set_of {o = sessions} (each f (take (i + 1) ws))) ≡ size (set_of {o = sessions} before) + 0
+  size_old j = one_last ∙ ap (λ (b : Bool). cond b (size (set_of {o = sessions} before)) (size (set_of {o = sessions} before) + 1)) (in_set_of sessions before (f w) j) ∙ omega arith
+
+  pub size_new : (In (f w) before → ⊥) → size (set_of {o = sessions} (each f (take (i + 1) ws))) ≡ size (set_of {o = sessions} before) + 1
+  size_new none =
+      one_last
+      ∙ ap (λ (b : Bool). cond b (size (set_of {o = sessions} before)) (size (set_of {o = sessions} before) + 1))
+      (either (has (set_of {o = sessions} before) (f w)) (λ t. absurd (none (set_of_in sessions before (f w) t))) (λ e. e))

@@ -1,6 +1,6 @@
 -- What is asked at a node by its local wants and over hops out of it, cut to the names over a hop into it, merges to the want
 -- of that hop, if each hop that follows is among them.
-use Rattle.std.specs.Prelude.{◌≡◌, ◌⊎◌, ℕ, ◌<◌, ◌≤◌, Bool, true, false, not, ◌==◌, List, [], ◌∷◌, ◌++◌, map as each, length, Option, None, Some, refl, slice_get, slice_index_or}
+use Rattle.std.specs.Prelude.{◌≡◌, ℕ, ◌<◌, Bool, true, false, not, ◌==◌, List, [], ◌∷◌, ◌++◌, map as each, length, Option, None, Some, refl, slice_index_or}
 use Rattle.std.specs.List.{filter, flat_map}
 use Rattle.std.proofs.Common.{zero, suc, sym, ap, subst, ◌∙◌, inl, inr, ⊎_elim, take, arith}
 use Rattle.rsvp_base.specs.Members.{In}
@@ -12,13 +12,13 @@ use Rattle.rsvp_base.specs.declared.style.StyleKind.{StyleKind}
 use Rattle.rsvp_base.specs.declared.style.StyleKind.TheVariants.{Wild, Fixed, Shared}
 use Rattle.rsvp_base.specs.declared.style.Unit.{Unit as UnitOf}
 use Rattle.rsvp_base.specs.Orders.{Names, senders, units}
-use Rattle.rsvp_base.specs.Sets.{set_of, cut, IsWithin, is_none}
-use Rattle.rsvp_base.specs.Table.{get, has, values}
+use Rattle.rsvp_base.specs.Sets.{cut, IsWithin, is_none}
+use Rattle.rsvp_base.specs.Table.{has, values}
 use Rattle.rsvp_base.proofs.Counts.{in_found, in_set_of}
 use Rattle.rsvp_base.proofs.Members.{in_each, to_each, in_filter, to_filter, in_flat_map, to_flat_map, in_append, in_left, in_right}
 use Rattle.rsvp_base.proofs.SetLaws.{and_both, and_made, has-cut}
 use Rattle.style_rules.specs.Styles.{name_of}
-use Rattle.style_rules.specs.Parts.{has_name, part_cut, part_of, part_unit}
+use Rattle.style_rules.specs.Parts.{part_cut, part_of, part_unit}
 use Rattle.style_rules.specs.PartLaws.{same_names, part_at_most_itself}
 use Rattle.style_rules.specs.CutLaws.{cut_senders, cut_named}
 use Rattle.style_rules.specs.Merge.{merge}
@@ -26,14 +26,14 @@ use Rattle.style_rules.proofs.Merges.{merges_same}
 use Rattle.style_rules.proofs.StyleLaws.{a_name}
 use Rattle.tree_laws.specs.declared.hops.Hop.{Hop}
 use Rattle.tree_laws.specs.Networks.{Net, node_of}
-use Rattle.tree_laws.specs.Trees.{hops_of, goes_out_of}
-use Rattle.tree_laws.specs.Ranks.{followers, rank, IsLoopFree}
-use Rattle.tree_laws.proofs.Following.{same_number, number_same, addr_same, addr_itself, follower_follows, follows_follower, follower_of_group}
+use Rattle.tree_laws.specs.Trees.{goes_out_of}
+use Rattle.tree_laws.specs.Ranks.{followers, IsLoopFree}
+use Rattle.tree_laws.proofs.Following.{same_number, number_same, addr_itself, follower_follows, follows_follower, follower_of_group}
 use Rattle.tree_laws.proofs.RankLaws.{rank_falls_at}
 use Rattle.tree_routing.specs.declared.group_hop.GroupHop.{GroupHop}
 use Rattle.tree_routing.specs.Order.{rank_in, AreRanked, AreByRank}
 use Rattle.demand_laws.specs.declared.locals.LocalWant.{LocalWant}
-use Rattle.demand_laws.specs.Wants.{Locals, live, names, as_list, wanted_of, is_wanted_at, own, brought, want_from, want}
+use Rattle.demand_laws.specs.Wants.{Locals, live, names, as_list, wanted_of, is_wanted_at, own, brought, want}
 use Rattle.demand_laws.proofs.WantLaws.{in_as_list, name_told, both_one, want_equation, want_names, a_common_name}
 use Rattle.network_demand.specs.Steps.{all_names, widened, local_at, wants_at, asked_at, cuts, hops_in}
 

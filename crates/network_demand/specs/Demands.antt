@@ -2,7 +2,9 @@
 use Rattle.std.specs.Prelude.{◌≡◌, ℕ, ◌<◌, ◌≤◌, List, map as each, length}
 use Rattle.std.specs.List.{filter, flat_map}
 use Rattle.rsvp_base.specs.Members.{In}
-use Rattle.rsvp_base.specs.Sets.{IsWithin}
+use Rattle.rsvp_base.specs.Orders.{sessions}
+use Rattle.rsvp_base.specs.Sets.{IsWithin, set_of}
+use Rattle.rsvp_base.specs.Table.{size}
 use Rattle.rsvp_base.specs.declared.session.Session.{Session}
 use Rattle.rsvp_base.specs.declared.style.StyleKind.{StyleKind}
 use Rattle.style_rules.specs.Lines.{Line, BookTable}
@@ -15,9 +17,10 @@ use Rattle.demand_laws.specs.Goals.{demand_of}
 use Rattle.network_demand.specs.Books.{book_at, HaveLines, wants_lines}
 use Rattle.network_demand.specs.Steps.{all_names, hop_wants}
 
--- what may be asked of a network: wants are at its nodes, and a session has at most 16 senders
+-- what may be asked of a network: wants are at its nodes, of at most 32 sessions, and a session has at most 16 senders
 pub record AreLocals (net : Net) (l : Locals) : Type 0 where
   pub nodes : (w : LocalWant) → In w l.wants → w.node < net.nodes
+  pub few_sessions : size (set_of {o = sessions} (each (λ (w : LocalWant). w.session) l.wants)) ≤ 32
   pub few_senders : (s : Session) → length (live l s) ≤ 16
 
 -- each end, by number, has its demand

@@ -2,3 +2,4 @@ pub mod Steps
 pub mod Asked
 pub mod Books
 pub mod Demands
+pub mod Fits

@@ -1,5 +1,6 @@
 //! The demand of an end.
-ghost use Rattle.std.specs.Prelude.{◌≡◌, ◌≤◌, map, IfOk, IfErr, OnOk, OnErr, Some};
+ghost use Rattle.std.specs.Prelude.{◌≡◌, ◌↔◌, ◌≤◌, map, sum_by, IfOk, IfErr, IsTrue, OnOk, OnErr, Some};
+ghost use Rattle.std.specs.List.{All};
 ghost use Rattle.std.specs.Result.{ForOk, ForErr};
 ghost use Rattle.std.specs.FinMap.Entries.{find, put};
 ghost use Rattle.rsvp_base.specs.declared.part.Part.{Part};
@@ -7,14 +8,15 @@ ghost use Rattle.rsvp_base.specs.Rows.{HasRowAt, LacksRowAt};
 ghost use Rattle.rsvp_base.specs.Sets.{union};
 ghost use Rattle.rsvp_base.specs.Table.{size};
 ghost use Rattle.style_rules.specs.Lines.{entry_keys};
+ghost use Rattle.style_rules.specs.Parts.{part_charge};
 ghost use Rattle.network_demand.specs.Books.{key_of, book_row, joined_with, AreInOrder};
 
-use admission_book::EntryKey;
+use admission_book::{EntryKey, Iface};
 use rsvp_base::{NoMemory, Part};
 use std::alloc::Global;
 use std::cmp::Ordering;
 use std::marker::Model;
-use style_rules::Style;
+use style_rules::{Style, charge};
 
 /// What an end owes, by session, style and unit. Contracts see the table of it.
 #[derive(Drop)]
@@ -38,6 +40,7 @@ impl Model for EndBook {
 impl EndBook {
     ghost use Rattle.rsvp_base.specs.Table.{empty, get};
     ghost use Rattle.network_demand.specs.Books.{charged};
+    ghost use Rattle.network_demand.specs.Fits.{IsCarried};
 
     /// Nothing.
     pub fn new(alloc: Global) -> EndBook
@@ -64,6 +67,42 @@ impl EndBook {
         let place = search(self.rows.as_slice(), &key);
         join_at::<S>(&mut self.rows, place, key, part)
     }
+
+    /// Whether an interface can carry this: the token bucket rates together are within its capacity, and no packet is larger
+    /// than its MTU.
+    pub(crate) fn is_carried(&self, iface: &Iface) -> bool
+        ensures { IsTrue result ↔ IsCarried self.now iface.now }
+    {
+        is_within(self.rows.as_slice(), iface.capacity)
+            && are_short(self.rows.as_slice(), iface.mtu)
+    }
+}
+
+// Whether the rates of entries together are within a capacity.
+fn is_within(rows: &[(EntryKey, Part)], capacity: u64) -> bool
+    ensures { IsTrue result ↔ (sum_by (λ r. part_charge r.1) rows.now ≤ capacity) }
+{
+    let mut left = capacity;
+    for row in rows {
+        let rate = charge(&row.1);
+        if left < rate {
+            return false;
+        }
+        left -= rate;
+    }
+    true
+}
+
+// Whether no entry's packets are larger than this.
+fn are_short(rows: &[(EntryKey, Part)], mtu: u32) -> bool
+    ensures { IsTrue result ↔ All (λ r. r.1.flow.most ≤ mtu) rows.now }
+{
+    for row in rows {
+        if row.1.flow.most > mtu {
+            return false;
+        }
+    }
+    true
 }
 
 // How an entry stands to a key.

@@ -10,11 +10,15 @@ ghost use Rattle.tree_laws.specs.Valid.{IsValid};
 ghost use Rattle.network_demand.specs.Asked.{locals_of};
 ghost use Rattle.network_demand.specs.Books.{HaveLines};
 ghost use Rattle.network_demand.specs.Demands.{AreLocals, AreDemands, AreFed, style_lines};
+ghost use Rattle.demand_laws.specs.Goals.{DemandsFit};
+ghost use Rattle.network_demand.specs.Fits.{FindRoom};
 
 use crate::charging::charge_wants;
 use crate::end_book::EndBook;
+use crate::fits::{are_met, find_room};
 use crate::locals::{Locals, is_session};
 use crate::owed::Demand;
+use crate::room::rooms;
 use crate::wants::hop_wants;
 use demand_laws::LocalWant;
 use rsvp_base::{NoMemory, Session};
@@ -71,7 +75,7 @@ fn nothing_owed(alloc: Global, ends: usize) -> Result<Vec<EndBook>, NoMemory>
     Ok(books)
 }
 
-// Charges what is wanted of these sessions in a style.
+// Charges what is wanted of these sessions in a style. Whether it finds room at the nodes.
 fn charge_style<S: Style>(
     alloc: Global,
     routing: &Routing,
@@ -79,7 +83,7 @@ fn charge_style<S: Style>(
     locals: &Locals,
     sessions: &[Session],
     books: &mut Vec<EndBook>,
-) -> Result<(), NoMemory>
+) -> Result<bool, NoMemory>
     requires valid { IsValid routing.now }
     requires order { AreByRank routing.now order.now }
     requires locals { AreLocals routing.now (locals_of locals.now) }
@@ -88,24 +92,37 @@ fn charge_style<S: Style>(
     ensures ends { OnOk result (length books.new.items ≡ length routing.now.ends) }
     ensures fed { OnOk result (AreFed (locals_of locals.now) books.new.items) }
     ensures lines { OnOk result ((fed : List Line) → HaveLines fed books.old.items → HaveLines (fed ++ style_lines S.kind_is routing.now (locals_of locals.now) order.now sessions.now) books.new.items) }
+    ensures room { IfOk result (λ fits. IsTrue fits ↔ FindRoom S.kind_is routing.now (locals_of locals.now) order.now sessions.now) }
 {
+    let mut lines = rooms(alloc, routing.nodes(), 1024)?;
+    let mut fits = true;
     for session in sessions {
         let wants = hop_wants::<S>(alloc, routing, order, locals, *session)?;
         charge_wants::<S>(books, *session, wants.as_slice())?;
+        fits = find_room(alloc, routing, &mut lines, wants.as_slice(), fits)?;
     }
-    Ok(())
+    Ok(fits)
+}
+
+// Whether all three hold.
+fn are_all(wild: bool, fixed: bool, shared: bool) -> bool
+    ensures { IsTrue result ↔ (IsTrue wild × (IsTrue fixed × IsTrue shared)) }
+{
+    wild && fixed && shared
 }
 
 /// What each end of a network owes when all is settled, by what its hosts ask of it: of each session and style, the style
-/// merge (RFC 2205, 2.2) of what is wanted over the hops that go out of the end. `NoMemory`: there was no room for it.
+/// merge (RFC 2205, 2.2) of what is wanted over the hops that go out of the end; and whether it fits. `NoMemory`: there was
+/// no room for it.
 pub fn demand(alloc: Global, routing: &Routing, locals: &Locals) -> Result<Demand, NoMemory>
     requires { AreLocals routing.now (locals_of locals.now) }
     ensures ends { IfOk result (λ d. AreDemands routing.now (locals_of locals.now) d.ends.items) }
+    ensures fits { IfOk result (λ d. IsTrue d.fits ↔ DemandsFit routing.now (locals_of locals.now)) }
 {
     let order = routing.by_rank();
     let sessions = sessions_of(alloc, locals.wants.as_slice())?;
     let mut ends = nothing_owed(alloc, routing.ends().len())?;
-    charge_style::<Wild>(
+    let wild = charge_style::<Wild>(
         alloc,
         routing,
         order,
@@ -113,7 +130,7 @@ pub fn demand(alloc: Global, routing: &Routing, locals: &Locals) -> Result<Deman
         sessions.as_slice(),
         &mut ends,
     )?;
-    charge_style::<Fixed>(
+    let fixed = charge_style::<Fixed>(
         alloc,
         routing,
         order,
@@ -121,7 +138,7 @@ pub fn demand(alloc: Global, routing: &Routing, locals: &Locals) -> Result<Deman
         sessions.as_slice(),
         &mut ends,
     )?;
-    charge_style::<Shared>(
+    let shared = charge_style::<Shared>(
         alloc,
         routing,
         order,
@@ -129,5 +146,11 @@ pub fn demand(alloc: Global, routing: &Routing, locals: &Locals) -> Result<Deman
         sessions.as_slice(),
         &mut ends,
     )?;
-    Ok(Demand { ends })
+    let fits = are_met(
+        are_all(wild, fixed, shared),
+        locals.wants.as_slice(),
+        ends.as_slice(),
+        routing.ends(),
+    );
+    Ok(Demand { ends, fits })
 }

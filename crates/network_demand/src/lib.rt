@@ -10,9 +10,11 @@ mod asked;
 mod charging;
 mod end_book;
 mod ends;
+mod fits;
 mod hop_want;
 mod locals;
 mod owed;
+mod room;
 #[cfg(test)]
 mod tests;
 mod wants;

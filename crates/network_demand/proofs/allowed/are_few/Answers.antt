@@ -1,4 +1,4 @@
-use Rattle.std.proofs.Common.{◌≤◌, List, length, get_or, refl, subst, arith}
+use Rattle.std.proofs.Common.{List, get_or, refl, subst, arith}
 use Rattle.std.specs.List.{All}
 use Rattle.demand_laws.specs.declared.locals.LocalSender.{LocalSender}
 use Rattle.network_demand.specs.Demands.{few_of}

@@ -1,4 +1,4 @@
-use Rattle.std.proofs.Common.{◌≡◌, ◌∙◌, slice_set, ap, sym, arith}
+use Rattle.std.proofs.Common.{◌≡◌, ◌∙◌, slice_set, ap, sym}
 use Rattle.rsvp_base.specs.Table.{get}
 use Rattle.network_demand.specs.Books.{book_at, charged}
 use Rattle.network_demand.proofs.BookLaws.{read_at}

@@ -1,5 +1,4 @@
 use Rattle.std.proofs.Common.{◌≡◌, ◌∙◌, Some, map as each, refl, sym, ap, arith}
-use Rattle.std.specs.Option.{option_map}
 use Rattle.std.specs.FinMap.Entries.{find, put}
 use Rattle.rsvp_base.specs.declared.part.Part.{Part}
 use Rattle.admission_book.specs.declared.key.EntryKey.{EntryKey as KeptKey}

@@ -1,9 +1,9 @@
-use Rattle.std.proofs.Common.{◌≡◌, ◌∙◌, ◌<◌, ◌∷◌, [], ◌++◌, ◌==◌, List, length, get_or, map, true, ap, sym, refl, arith}
+use Rattle.std.proofs.Common.{◌≡◌, ◌∙◌, ◌<◌, ◌∷◌, [], ◌++◌, ◌==◌, List, length, get_or, map, true, ap, refl, arith}
 use Rattle.std.specs.List.{filter}
 use Rattle.std.proofs.lemmas.Grind.{common_steps}
 use Rattle.rsvp_base.specs.declared.session.Sender.{Sender}
 use Rattle.demand_laws.specs.declared.locals.LocalSender.{LocalSender}
-use Rattle.demand_laws.specs.Wants.{of_session, live, want}
+use Rattle.demand_laws.specs.Wants.{of_session, live}
 use Rattle.style_rules.specs.Merge.{merge}
 use Rattle.tree_laws.specs.Networks.{node_of}
 use Rattle.tree_laws.proofs.Following.{number_same}
