@@ -5,3 +5,4 @@ pub mod Own
 pub mod Listed
 pub mod ReadAgain
 pub mod Ranged
+pub mod Spelt

@@ -23,18 +23,18 @@ use Rattle.rsvp_messages.specs.declared.message.Message.TheVariants as message
 use Rattle.rsvp_messages.specs.Proper.{IsScope, WhereThere, IsProperAsk, IsProperTear, IsProperBlameOf, IsProper}
 use Rattle.message_writing.specs.Encoding.{IsFew, IsWritable}
 use Rattle.message_writing.specs.Objects.{where_there, sender_objects, pair_objects, filter_objects, ask_objects, tear_objects, named_objects, blame_by_style, objects_of}
-use Rattle.message_writing.specs.Ranges.{HasRoom, IsInRange}
+use Rattle.message_writing.specs.Ranges.{IsInRange, AreInRange}
 
-all_join : (P : Object → Type 0) (xs ys : List Object) → AllByRecursion P xs → AllByRecursion P ys → AllByRecursion P (xs ++ ys)
+pub all_join : {A : Type 0} (P : A → Type 0) (xs ys : List A) → AllByRecursion P xs → AllByRecursion P ys → AllByRecursion P (xs ++ ys)
 all_join P [] ys p q = q
 all_join P (x ∷ xs) ys p q = (p.0, all_join P xs ys p.1 q)
 
 -- ---- room
 
-pub room_join : (xs ys : List Object) → AllByRecursion HasRoom xs → AllByRecursion HasRoom ys → AllByRecursion HasRoom (xs ++ ys)
-room_join xs ys p q = all_join HasRoom xs ys p q
+pub room_join : (xs ys : List Object) → AllByRecursion IsInRange xs → AllByRecursion IsInRange ys → AllByRecursion IsInRange (xs ++ ys)
+room_join xs ys p q = all_join IsInRange xs ys p q
 
-pub filters_room : (ss : List Sender) → AllByRecursion IsSender ss → AllByRecursion HasRoom (filter_objects ss)
+pub filters_room : (ss : List Sender) → AllByRecursion IsSender ss → AllByRecursion IsInRange (filter_objects ss)
 filters_room [] h = tt
 filters_room (s ∷ ss) h = (h.0, filters_room ss h.1)
 
@@ -106,7 +106,7 @@ sources : (ss : List Sender) → ((s : Sender) → In s ss → s.port ≡ 0) →
 sources [] p h = tt
 sources (s ∷ ss) p h = (record { addr = h.0.addr; port = p s (inl refl) }, sources ss (λ t i. p t (inr i)) h.1)
 
-proper_object : (x : Object) → HasRoom x → HasNoPorts x → IsProperObject x
+proper_object : (x : Object) → IsInRange x → HasNoPorts x → IsProperObject x
 proper_object (object.Session s police) h p = h
 proper_object (object.HopOf x) h p = h
 proper_object (object.Time n) h p = h
@@ -120,9 +120,9 @@ proper_object (object.Tspec f) h p = h
 proper_object (object.Confirm a) h p = h
 proper_object (object.Skipped n) h p = h
 
-proper_objects : (xs : List Object) → AllByRecursion HasRoom xs → AllByRecursion HasNoPorts xs → AllByRecursion IsProperObject xs
+proper_objects : (xs : List Object) → AllByRecursion IsInRange xs → AllByRecursion HasNoPorts xs → AllByRecursion IsProperObject xs
 proper_objects [] h p = tt
 proper_objects (x ∷ xs) h p = (proper_object x h.0 p.0, proper_objects xs h.1 p.1)
 
-pub writable : (v : Message) → IsProper v → IsInRange v → IsFew v → IsWritable v
+pub writable : (v : Message) → IsProper v → AreInRange v → IsFew v → IsWritable v
 writable v proper range few = record { proper = proper; fields = proper_objects (objects_of v) range (ports_of v proper); few = few }

@@ -1,3 +1,4 @@
 pub mod Objects
 pub mod Ranges
 pub mod Encoding
+pub mod Laws

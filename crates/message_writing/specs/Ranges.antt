@@ -9,10 +9,10 @@ use Rattle.rsvp_messages.specs.declared.message.Message.{Message}
 use Rattle.message_writing.specs.Objects.{objects_of}
 
 -- proper, but for the ports of a SCOPE
-abbrev pub HasRoom : Object → Type 0
-HasRoom (object.Scope names) = (size names ≤ 16) × AllByRecursion IsSender (keys names)
-HasRoom x = IsProper x
+abbrev pub IsInRange : Object → Type 0
+IsInRange (object.Scope names) = (size names ≤ 16) × AllByRecursion IsSender (keys names)
+IsInRange x = IsProper x
 
 -- each object of a message is so
-abbrev pub IsInRange : Message → Type 0
-IsInRange v = AllByRecursion HasRoom (objects_of v)
+abbrev pub AreInRange : Message → Type 0
+AreInRange v = AllByRecursion IsInRange (objects_of v)

@@ -5,7 +5,7 @@ ghost use Rattle.rsvp_objects.specs.declared.object.Object.TheVariants as AnObje
 ghost use Rattle.rsvp_objects.specs.Proper.{IsSession, IsSender, IsFlow, IsHop, IsError, IsAddr};
 ghost use Rattle.rsvp_objects.specs.RateLaws.{IsPeak};
 ghost use Rattle.message_writing.specs.Objects.{where_there, sender_objects, pair_objects, filter_objects, ask_objects, tear_objects, named_objects, blame_objects, path_objects, resv_objects, path_err_objects, resv_err_objects, path_tear_objects, resv_tear_objects, resv_conf_objects};
-ghost use Rattle.message_writing.specs.Ranges.{HasRoom, IsInRange};
+ghost use Rattle.message_writing.specs.Ranges.{IsInRange, AreInRange};
 
 use rsvp_base::{Addr, ErrSpec, Flow, Hop, Peak, Sender, Senders, Session, StyleKind};
 use rsvp_messages::{
@@ -15,7 +15,7 @@ use rsvp_messages::{
 
 /// Each number of a message has room in its field, and its flows are sound, with rates that have words.
 pub fn know_fields(message: &Message)
-    ensures { IsInRange message.now }
+    ensures { AreInRange message.now }
 {
     match message {
         Message::Path(m) => know_path(m),
@@ -31,7 +31,7 @@ pub fn know_fields(message: &Message)
 // ---- kinds of messages
 
 fn know_path(m: &PathMsg)
-    ensures { AllByRecursion HasRoom (path_objects m.now) }
+    ensures { AllByRecursion IsInRange (path_objects m.now) }
 {
     know_session(m.session);
     know_hop(m.hop);
@@ -41,7 +41,7 @@ fn know_path(m: &PathMsg)
 
 #[tactic(auto, using(crate::proofs::Ranged::room_join))]
 fn know_resv(m: &ResvMsg)
-    ensures { AllByRecursion HasRoom (resv_objects m.now) }
+    ensures { AllByRecursion IsInRange (resv_objects m.now) }
 {
     know_session(m.session);
     know_hop(m.hop);
@@ -51,7 +51,7 @@ fn know_resv(m: &ResvMsg)
 }
 
 fn know_path_err(m: &PathErrMsg)
-    ensures { AllByRecursion HasRoom (path_err_objects m.now) }
+    ensures { AllByRecursion IsInRange (path_err_objects m.now) }
 {
     know_session(m.session);
     know_error(m.err);
@@ -59,7 +59,7 @@ fn know_path_err(m: &PathErrMsg)
 }
 
 fn know_resv_err(m: &ResvErrMsg)
-    ensures { AllByRecursion HasRoom (resv_err_objects m.now) }
+    ensures { AllByRecursion IsInRange (resv_err_objects m.now) }
 {
     know_session(m.session);
     know_hop(m.hop);
@@ -68,7 +68,7 @@ fn know_resv_err(m: &ResvErrMsg)
 }
 
 fn know_path_tear(m: &PathTearMsg)
-    ensures { AllByRecursion HasRoom (path_tear_objects m.now) }
+    ensures { AllByRecursion IsInRange (path_tear_objects m.now) }
 {
     know_session(m.session);
     know_hop(m.hop);
@@ -76,7 +76,7 @@ fn know_path_tear(m: &PathTearMsg)
 }
 
 fn know_resv_tear(m: &ResvTearMsg)
-    ensures { AllByRecursion HasRoom (resv_tear_objects m.now) }
+    ensures { AllByRecursion IsInRange (resv_tear_objects m.now) }
 {
     know_session(m.session);
     know_hop(m.hop);
@@ -84,7 +84,7 @@ fn know_resv_tear(m: &ResvTearMsg)
 }
 
 fn know_resv_conf(m: &ResvConfMsg)
-    ensures { AllByRecursion HasRoom (resv_conf_objects m.now) }
+    ensures { AllByRecursion IsInRange (resv_conf_objects m.now) }
 {
     know_session(m.session);
     know_error(m.err);
@@ -96,7 +96,7 @@ fn know_resv_conf(m: &ResvConfMsg)
 
 #[tactic(auto, using(crate::proofs::Ranged::room_join))]
 fn know_ask(ask: &Ask)
-    ensures { AllByRecursion HasRoom (ask_objects ask.now) }
+    ensures { AllByRecursion IsInRange (ask_objects ask.now) }
 {
     match ask {
         Ask::Wild { scope, flow } => {
@@ -113,7 +113,7 @@ fn know_ask(ask: &Ask)
 
 #[tactic(auto, using(crate::proofs::Ranged::room_join))]
 fn know_tear(tear: &Tear)
-    ensures { AllByRecursion HasRoom (tear_objects tear.now) }
+    ensures { AllByRecursion IsInRange (tear_objects tear.now) }
 {
     match tear {
         Tear::Wild { scope } => know_scope(scope),
@@ -124,7 +124,7 @@ fn know_tear(tear: &Tear)
 
 #[tactic(auto, using(crate::proofs::Ranged::room_join))]
 fn know_blame(blame: &Blame)
-    ensures { AllByRecursion HasRoom (blame_objects blame.now) }
+    ensures { AllByRecursion IsInRange (blame_objects blame.now) }
 {
     know_blamed(blame.flow);
     match blame.style {
@@ -135,7 +135,7 @@ fn know_blame(blame: &Blame)
 }
 
 fn know_scope(scope: &Option<Senders>)
-    ensures { AllByRecursion HasRoom (where_there AnObject.Scope scope.now) }
+    ensures { AllByRecursion IsInRange (where_there AnObject.Scope scope.now) }
 {
     if let Some(senders) = scope {
         let _ = senders.len();
@@ -144,7 +144,7 @@ fn know_scope(scope: &Option<Senders>)
 }
 
 fn know_blamed(flow: Option<Flow>)
-    ensures { AllByRecursion HasRoom (where_there AnObject.FlowOf flow) }
+    ensures { AllByRecursion IsInRange (where_there AnObject.FlowOf flow) }
 {
     if let Some(flow) = flow {
         know_flow(flow);
@@ -152,7 +152,7 @@ fn know_blamed(flow: Option<Flow>)
 }
 
 fn know_named(senders: &Option<Senders>)
-    ensures { AllByRecursion HasRoom (named_objects senders.now) }
+    ensures { AllByRecursion IsInRange (named_objects senders.now) }
 {
     if let Some(senders) = senders {
         know_filters(senders.as_slice());
@@ -161,7 +161,7 @@ fn know_named(senders: &Option<Senders>)
 
 #[tactic(auto, using(crate::proofs::Ranged::filters_room))]
 fn know_filters(senders: &[Sender])
-    ensures { AllByRecursion HasRoom (filter_objects senders.now) }
+    ensures { AllByRecursion IsInRange (filter_objects senders.now) }
 {
     know_senders(senders);
 }
@@ -179,7 +179,7 @@ fn know_senders(senders: &[Sender])
 }
 
 fn know_pairs(pairs: &[(Sender, Flow)])
-    ensures { AllByRecursion HasRoom (pair_objects pairs.now) }
+    ensures { AllByRecursion IsInRange (pair_objects pairs.now) }
 {
     match pairs {
         [] => {}
@@ -194,7 +194,7 @@ fn know_pairs(pairs: &[(Sender, Flow)])
 // ---- objects
 
 fn know_offer(offer: Option<(Sender, Flow)>)
-    ensures { AllByRecursion HasRoom (sender_objects offer) }
+    ensures { AllByRecursion IsInRange (sender_objects offer) }
 {
     if let Some((sender, flow)) = offer {
         know_sender(sender);
@@ -203,7 +203,7 @@ fn know_offer(offer: Option<(Sender, Flow)>)
 }
 
 fn know_template(sender: Option<Sender>)
-    ensures { AllByRecursion HasRoom (where_there AnObject.Template sender) }
+    ensures { AllByRecursion IsInRange (where_there AnObject.Template sender) }
 {
     if let Some(sender) = sender {
         know_sender(sender);
@@ -211,7 +211,7 @@ fn know_template(sender: Option<Sender>)
 }
 
 fn know_confirm(receiver: Option<Addr>)
-    ensures { AllByRecursion HasRoom (where_there AnObject.Confirm receiver) }
+    ensures { AllByRecursion IsInRange (where_there AnObject.Confirm receiver) }
 {
     if let Some(receiver) = receiver {
         know_addr(receiver);

@@ -6,8 +6,10 @@
 
 mod encoding;
 mod fields;
+mod laws;
 mod lengths;
 mod lists;
 mod messages;
 
 pub use encoding::encode;
+pub use laws::what_is_spelt_is_writable;
