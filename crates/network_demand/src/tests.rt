@@ -379,3 +379,42 @@ fn a_conference(rt: HostRuntime) -> Result<(), Fail> {
     );
     Ok(())
 }
+
+// Wants of two senders beyond one link of 10,000 bytes per second and an MTU of 1,500.
+#[test]
+fn demands_fit_or_not(rt: HostRuntime) -> Result<(), Fail> {
+    let net = fork(rt.alloc())?;
+    let first = sender(S1, 5004);
+    let second = sender(S1, 5006);
+    for (one, other, most, rate, fits) in [
+        (StyleKind::Fixed, StyleKind::Fixed, 1500u32, 6000u64, true),
+        (StyleKind::Fixed, StyleKind::Fixed, 1500, 6001, false),
+        (StyleKind::Shared, StyleKind::Shared, 1500, 6001, true),
+        (StyleKind::Shared, StyleKind::Shared, 1501, 6000, false),
+        (StyleKind::Fixed, StyleKind::Shared, 1500, 6000, false),
+    ] {
+        let mut wants = Vec::new(rt.alloc());
+        wants.push(want(
+            2,
+            SESSION,
+            one,
+            &[first],
+            flow(4000, 4000, 64, 1500).ok_or("flow")?,
+        )?)?;
+        wants.push(want(
+            3,
+            SESSION,
+            other,
+            &[second],
+            flow(rate, 6000, 64, most).ok_or("flow")?,
+        )?)?;
+        let demand = settled(
+            rt.alloc(),
+            &net,
+            &[(0, SESSION, first), (0, SESSION, second)],
+            wants,
+        )?;
+        assert_eq!(rt; demand.fits, fits, "{rate} and {most}");
+    }
+    Ok(())
+}
