@@ -14,31 +14,49 @@ use Rattle.tree_routing.specs.Known.{plain}
 use Rattle.tree_routing.specs.Routes.{tree_keys, key_of, trees_of, as_row, IsWithTree}
 use Rattle.tree_routing.proofs.LeastLaws.{take_one_more}
 
--- the set of the trees of hops
-abbrev pub set_at : List Known → Set tree_keys
-set_at ks = set_of {o = tree_keys} (each key_of (plain ks))
-
+-- ---- the set of what a list of hops gives, hop by hop
 set_push : {K : Type 0} {o : Keys K} (m : Set o) (xs : List K) (y : K) → with_keys m (xs ++ y ∷ []) ≡ with_key (with_keys m xs) y
 set_push m [] y = refl
 set_push m (x ∷ xs) y = set_push (with_key m x) xs y
 
+-- a key as a row of a set
+abbrev alone : {K : Type 0} → K → K × Unit {0}
+alone k = (k, tt)
+
+module _ {K : Type 0} (o : Keys K) (list : List Known → List K) (key : Known → K) where
+  -- a key that is there
+  pub key_there : (xs : List K) (t : K) (i : ℕ) → HasRowAt o (alone {K = K}) xs t i → (up : AreRows o (alone {K = K}) xs) → each (alone {K = K}) xs ≡ (with_key (table_of o (alone {K = K}) xs up) t).rows
+  key_there xs t i h up = sym (ap (λ (m : Set o). m.rows) (with_key_present o (table_of o (alone {K = K}) xs up) t (ap is_some (h.found t))))
+
+  -- one hop more
+  pub one_key_more : (pushed : (xs : List Known) (k : Known) → list (xs ++ k ∷ []) ≡ list xs ++ key k ∷ []) (xs ys : List K) (ks : List Known) (i : ℕ) (k d : Known) → i < length ks → k ≡ slice_index_or ks i d
+      → each (alone {K = K}) xs ≡ (set_of {o = o} (list (take i ks))).rows → ((up : AreRows o (alone {K = K}) xs) → each (alone {K = K}) ys ≡ (with_key (table_of o (alone {K = K}) xs up) (key k)).rows)
+      → each (alone {K = K}) ys ≡ (set_of {o = o} (list (take (i + 1) ks))).rows
+  one_key_more pushed xs ys ks i k d lt is e f =
+      let up = are_rows o (alone {K = K}) xs (set_of {o = o} (list (take i ks))) e in
+      let table : table_of o (alone {K = K}) xs up ≡ set_of {o = o} (list (take i ks)) = table_is o (alone {K = K}) xs up (set_of {o = o} (list (take i ks))) e in
+      let more : list (take (i + 1) ks) ≡ list (take i ks) ++ key k ∷ [] =
+      ap list (take_one_more ks i d lt) ∙ ap (λ (x : Known). list (take i ks ++ x ∷ [])) (sym is) ∙ pushed (take i ks) k in
+      f up ∙ ap (λ (m : Set o). (with_key m (key k)).rows) table
+      ∙ sym (ap (λ (x : List K). (set_of {o = o} x).rows) more ∙ ap (λ (m : Set o). m.rows) (set_push {o = o} empty (list (take i ks)) (key k)))
+
+-- ---- trees
+-- the set of the trees of hops
+abbrev pub set_at : List Known → Set tree_keys
+set_at ks = set_of {o = tree_keys} (each key_of (plain ks))
+
+tree_pushed : (xs : List Known) (k : Known) → each key_of (plain (xs ++ k ∷ [])) ≡ each key_of (plain xs) ++ (k.hop.group, k.hop.source) ∷ []
+tree_pushed xs k = ap (each key_of) (map-append (λ (k : Known). k.hop) xs (k ∷ [])) ∙ map-append key_of (plain xs) (k.hop ∷ [])
+
 -- a tree that is there
 pub there_already : (xs : List (Addr × Addr)) (t : Addr × Addr) (i : ℕ) → HasRowAt tree_keys as_row xs t i → IsWithTree xs t xs
-there_already xs t i h up = sym (ap (λ (m : Set tree_keys). m.rows) (with_key_present tree_keys (table_of tree_keys as_row xs up) t (ap is_some (h.found t))))
+there_already xs t i h = key_there tree_keys (λ ks. each key_of (plain ks)) (λ k. (k.hop.group, k.hop.source)) xs t i h
 
 pub rows_up : (xs : List (Addr × Addr)) (ks : List Known) → each as_row xs ≡ (set_at ks).rows → AreRows tree_keys as_row xs
 rows_up xs ks e = are_rows tree_keys as_row xs (set_at ks) e
 
 pub one_tree_more : (xs ys : List (Addr × Addr)) (ks : List Known) (i : ℕ) (k d : Known) → i < length ks → k ≡ slice_index_or ks i d → each as_row xs ≡ (set_at (take i ks)).rows → IsWithTree xs (k.hop.group, k.hop.source) ys → each as_row ys ≡ (set_at (take (i + 1) ks)).rows
-one_tree_more xs ys ks i k d lt is e f =
-    let up = rows_up xs (take i ks) e in
-    let t : Addr × Addr = (k.hop.group, k.hop.source) in
-    let table : table_of tree_keys as_row xs up ≡ set_at (take i ks) = table_is tree_keys as_row xs up (set_at (take i ks)) e in
-    let list : each key_of (plain (take (i + 1) ks)) ≡ each key_of (plain (take i ks)) ++ key_of k.hop ∷ [] =
-    ap (λ (x : List Known). each key_of (plain x)) (take_one_more ks i d lt) ∙ ap (λ (x : Known). each key_of (plain (take i ks ++ x ∷ []))) (sym is)
-    ∙ ap (each key_of) (map-append (λ (k : Known). k.hop) (take i ks) (k ∷ [])) ∙ map-append key_of (plain (take i ks)) (k.hop ∷ []) in
-    f up ∙ ap (λ (m : Set tree_keys). (with_key m t).rows) table
-    ∙ sym (ap (λ (x : List (Addr × Addr)). (set_of {o = tree_keys} x).rows) list ∙ ap (λ (m : Set tree_keys). m.rows) (set_push {o = tree_keys} empty (each key_of (plain (take i ks))) t))
+one_tree_more xs ys ks i k d lt is e f = one_key_more tree_keys (λ ks. each key_of (plain ks)) (λ k. (k.hop.group, k.hop.source)) tree_pushed xs ys ks i k d lt is e f
 
 firsts : (xs : List (Addr × Addr)) → each (λ e. e.0) (each as_row xs) ≡ xs
 firsts [] = refl
@@ -47,7 +65,7 @@ firsts (x ∷ xs) = ap (λ (ys : List (Addr × Addr)). x ∷ ys) (firsts xs)
 pub trees_are : (xs : List (Addr × Addr)) (ks : List Known) → each as_row xs ≡ (set_at ks).rows → xs ≡ trees_of (plain ks)
 trees_are xs ks e = sym (firsts xs) ∙ ap (each (λ (r : (Addr × Addr) × Unit {0}). r.0)) e
 
-take_all : {X : Type 0} (xs : List X) (n : ℕ) → length xs ≤ n → take n xs ≡ xs
+pub take_all : {X : Type 0} (xs : List X) (n : ℕ) → length xs ≤ n → take n xs ≡ xs
 take_all [] zero le = refl
 take_all [] (suc n) le = refl
 take_all (x ∷ xs) zero le = absurd (omega arith)

@@ -6,5 +6,6 @@ pub mod Carried
 pub mod ValidMore
 pub mod LevelLaws
 pub mod KeyLaws
+pub mod HopLaws
 pub mod WayLaws
 pub mod OrderLaws

@@ -1,6 +1,6 @@
 -- What a routing answers.
 use Rattle.std.specs.Prelude.{◌≡◌, ℕ, Bool, true, ◌&&◌, List, map as each, Option, None, Some}
-use Rattle.rsvp_base.specs.Keys.{Keys, pairs}
+use Rattle.rsvp_base.specs.Keys.{Keys, by, numbers, pairs}
 use Rattle.rsvp_base.specs.Members.{In}
 use Rattle.rsvp_base.specs.Orders.{addrs}
 use Rattle.rsvp_base.specs.Rows.{AreRows, table_of}
@@ -36,6 +36,13 @@ key_of r = (r.group, r.source)
 abbrev pub trees_of : List TreeHop → List (Addr × Addr)
 trees_of hops = keys (set_of {o = tree_keys} (each key_of hops))
 
+-- hops of trees by group, source, and the ends that they go out of and into
+pub hop_apart : (a b : TreeHop) → ◌≡◌ {A = (Addr × Addr) × (ℕ × ℕ)} ((a.group, a.source), (a.hop.from, a.hop.to)) ((b.group, b.source), (b.hop.from, b.hop.to)) → a ≡ b
+hop_apart a b e = λ i. record { group = (e i).0.0; source = (e i).0.1; hop = record { from = (e i).1.0; to = (e i).1.1 } }
+
+abbrev pub hop_keys : Keys TreeHop
+hop_keys = by (λ (r : TreeHop). ((r.group, r.source), (r.hop.from, r.hop.to))) hop_apart (pairs (pairs addrs addrs) (pairs numbers numbers))
+
 -- ---- over what is kept of hops
 abbrev pub is_left : List End → Addr → Addr → ℕ → Known → Bool
 is_left ends g s n k = of_tree g s k.hop && goes_out_of ends n k.hop.hop
@@ -54,3 +61,15 @@ as_row t = (t, tt)
 -- the list of a set of trees with one more
 abbrev pub IsWithTree : List (Addr × Addr) → Addr × Addr → List (Addr × Addr) → Type 0
 IsWithTree xs t ys = (up : AreRows tree_keys as_row xs) → each as_row ys ≡ (with_key (table_of tree_keys as_row xs up) t).rows
+
+-- a hop as a row of a set
+abbrev pub hop_row : TreeHop → TreeHop × Unit {0}
+hop_row r = (r, tt)
+
+-- the list of a set of hops with one more
+abbrev pub IsWithHop : List TreeHop → TreeHop → List TreeHop → Type 0
+IsWithHop xs r ys = (up : AreRows hop_keys hop_row xs) → each hop_row ys ≡ (with_key (table_of hop_keys hop_row xs up) r).rows
+
+-- these are the hops of all trees in order, each once
+abbrev pub AreInOrder : List TreeHop → List TreeHop → Type 0
+AreInOrder hops xs = each hop_row xs ≡ (set_of {o = hop_keys} hops).rows

@@ -3,7 +3,6 @@ ghost use Rattle.std.specs.Prelude.{◌≡◌, ◌↔◌, ◌≤◌, [], length,
 ghost use Rattle.std.specs.List.{list_all, list_any};
 ghost use Rattle.tree_laws.specs.Networks.{node_of, owner, among, link_of};
 ghost use Rattle.tree_laws.specs.Trees.{of_tree, tree, is_linked, is_reached, sends_alone, goes_into};
-ghost use Rattle.tree_laws.specs.Ranks.{has_hop};
 ghost use Rattle.tree_routing.specs.Known.{plain, link_ends, is_pair, vertex_at, comes_to, vertex_before};
 ghost use Rattle.tree_routing.specs.Found.{ends_found, leaves_link};
 
@@ -75,18 +74,6 @@ pub(crate) fn is_in_tree(hop: &Known, group: Addr, source: Addr) -> bool
     ensures { result ≡ of_tree group source hop.now.hop }
 {
     hop.hop.group.0 == group.0 && hop.hop.source.0 == source.0
-}
-
-/// Whether the tree has the hop.
-pub(crate) fn is_hop(hops: &[Known], group: Addr, source: Addr, hop: Hop) -> bool
-    ensures { result ≡ has_hop (tree (plain hops.now) group source) hop }
-{
-    for known in hops {
-        if is_in_tree(known, group, source) && known.hop.hop == hop {
-            return true;
-        }
-    }
-    false
 }
 
 // Whether a hop of the tree goes into the node.

@@ -9,6 +9,7 @@
 mod ask;
 mod group_hop;
 mod hop_err;
+mod in_order;
 mod keys;
 mod known;
 mod least;

@@ -9,14 +9,15 @@ ghost use Rattle.tree_laws.specs.Trees.{tree};
 ghost use Rattle.tree_routing.specs.Order.{AreByRank};
 ghost use Rattle.tree_routing.specs.Routes.{inward_iface, LeavesBy, trees_of};
 
-use crate::ask::{is_hop, link_of, node_of};
+use crate::ask::{link_of, node_of};
 use crate::group_hop::GroupHop;
+use crate::in_order::is_among;
 use crate::known::Known;
 use crate::link::Link;
 use crate::ways::{hop_into, iface_of, ways_out};
 use rsvp_base::Addr;
 use std::marker::Model;
-use tree_laws::{End, Hop};
+use tree_laws::{End, Hop, TreeHop};
 
 /// A network whose topology is closed: where each tree comes into a node and leaves it. Contracts see the network, which is
 /// valid: within its limits, its trees grown hop by hop, and without a closed chain. No call takes memory.
@@ -32,6 +33,8 @@ pub struct Routing {
     pub(crate) order: Vec<GroupHop>,
     // The group and source of each tree, in order.
     pub(crate) trees: Vec<(Addr, Addr)>,
+    // The hops of all trees, by group, source and hop.
+    pub(crate) sorted: Vec<TreeHop>,
 }
 
 impl Model for Routing {
@@ -42,7 +45,7 @@ impl Model for Routing {
     ghost use Rattle.tree_laws.specs.Valid.{IsValid};
     ghost use Rattle.tree_routing.specs.Known.{plain, net_of};
     ghost use Rattle.tree_routing.specs.Order.{AreByRank};
-    ghost use Rattle.tree_routing.specs.Routes.{trees_of};
+    ghost use Rattle.tree_routing.specs.Routes.{trees_of, AreInOrder};
 
     ghost Value = { Net };
 
@@ -50,7 +53,7 @@ impl Model for Routing {
 
     ghost view = { λ r. net_of r.nodes r.ends.items r.links.items r.hops.items };
 
-    ghost invariant = { λ r. IsValid (net_of r.nodes r.ends.items r.links.items r.hops.items) × (r.chain ≡ longest (net_of r.nodes r.ends.items r.links.items r.hops.items)) × (r.trees.items ≡ trees_of (plain r.hops.items)) × AreByRank (net_of r.nodes r.ends.items r.links.items r.hops.items) r.order.items };
+    ghost invariant = { λ r. IsValid (net_of r.nodes r.ends.items r.links.items r.hops.items) × (r.chain ≡ longest (net_of r.nodes r.ends.items r.links.items r.hops.items)) × (r.trees.items ≡ trees_of (plain r.hops.items)) × AreInOrder (plain r.hops.items) r.sorted.items × AreByRank (net_of r.nodes r.ends.items r.links.items r.hops.items) r.order.items };
 }
 
 impl Routing {
@@ -91,7 +94,7 @@ impl Routing {
     pub fn has_hop(&self, group: Addr, source: Addr, hop: Hop) -> bool
         ensures { result ≡ has_hop (tree self.now.hops group source) hop }
     {
-        is_hop(self.hops.as_slice(), group, source, hop)
+        is_among(self.sorted.as_slice(), &TreeHop { group, source, hop })
     }
 
     /// The length of the longest chain of hops of a group; 0 where there is no hop.

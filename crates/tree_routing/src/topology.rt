@@ -9,6 +9,7 @@ use crate::ask::{
     is_alone, is_free, is_linked, is_reached, node_of, owner, vertex_at, vertex_before,
 };
 use crate::hop_err::HopErr;
+use crate::in_order::in_order;
 use crate::keys::trees_of;
 use crate::known::Known;
 use crate::least::check_loop;
@@ -181,6 +182,7 @@ impl Topology {
         let chain = highest(levels.as_slice(), self.hops.as_slice());
         let order = by_level(self.alloc, self.hops.as_slice(), levels.as_slice(), chain)?;
         let trees = trees_of(self.alloc, self.hops.as_slice())?;
+        let sorted = in_order(self.alloc, self.hops.as_slice())?;
         Ok(Routing {
             nodes: self.nodes,
             ends: self.ends,
@@ -189,6 +191,7 @@ impl Topology {
             chain,
             order,
             trees,
+            sorted,
         })
     }
 

@@ -1,9 +1,9 @@
-use Rattle.std.proofs.Common.{◌≡◌, ◌∙◌, ap, List}
+use Rattle.std.proofs.Common.{◌≡◌, ◌∙◌, ap, subst, List}
 use Rattle.tree_laws.specs.Ranks.{longest}
 use Rattle.tree_routing.specs.declared.known.Known.{Known}
 use Rattle.tree_routing.specs.Known.{plain, net_of}
 use Rattle.tree_routing.specs.Levels.{levels, highest}
-use Rattle.tree_routing.specs.Routes.{trees_of}
+use Rattle.tree_routing.specs.Routes.{trees_of, AreInOrder}
 use Rattle.tree_routing.proofs.LevelLaws.{highest_is_longest}
 use Rattle.tree_routing.proofs.OrderLaws.{by_rank_of}
 use Rattle.tree_routing.proofs.topology.Topology.close.Goals as goal
@@ -21,6 +21,7 @@ invariant_of-result c =
       c.self.invariant.0,
       chain,
       c.in_ok-trees.ensures ∙ ap (λ (ks : List Known). trees_of (plain ks)) c.as_slice-6.ensures.value,
+      subst (λ (ks : List Known). AreInOrder (plain ks) c.in_ok-sorted.sorted.items) c.as_slice-7.ensures.value c.in_ok-sorted.ensures,
       by_rank_of nodes ends links ks c.self.invariant.0 c.self.invariant.1 c.as_slice-4.result.now c.as_slice.result.now c.in_ok-levels.levels.items c.as_slice-5.result.now c.highest-chain.result c.in_ok-order.order.items c.in_ok-order.ensures
           c.as_slice-4.ensures.value c.as_slice-5.ensures.value c.in_ok-levels.ensures c.as_slice.ensures.value chain,
     )
