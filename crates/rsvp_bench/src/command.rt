@@ -1,10 +1,12 @@
 //! The command line.
+use crate::trees::{Forest, Until};
 
 /// What is timed.
 #[derive(Clone, Copy, Debug, PartialEq, Eq)]
 pub enum Verb {
     Read,
     Write,
+    Grow(Forest),
 }
 
 /// What is timed, and how many times it is done.
@@ -28,6 +30,16 @@ fn verb_of(word: &str) -> Option<Verb> {
     match word {
         "read" => Some(Verb::Read),
         "write" => Some(Verb::Write),
+        "grow" => Some(trees(false, Until::Grown)),
+        "close" => Some(trees(false, Until::Closed)),
+        "owe" => Some(trees(false, Until::Owed)),
+        "grow-apart" => Some(trees(true, Until::Grown)),
+        "close-apart" => Some(trees(true, Until::Closed)),
+        "owe-apart" => Some(trees(true, Until::Owed)),
         _ => None,
     }
+}
+
+fn trees(is_apart: bool, until: Until) -> Verb {
+    Verb::Grow(Forest { is_apart, until })
 }

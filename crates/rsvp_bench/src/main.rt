@@ -2,18 +2,27 @@
 //!
 //! `rsvp_bench read N` reads the objects of one message N times, and `rsvp_bench write N` writes them N times. Both print
 //! how many objects that were, and a sum over what was read or written, so that no work can be left out.
+//!
+//! `rsvp_bench grow N` adds the hops of the largest network, all of one group, N times; `close` closes the topology too, and
+//! `owe` works out what each end owes. With `-apart` behind it each tree has a group of its own. They print how many hops
+//! were added, and a sum over what came of it.
 #![tactic(auto)]
 
 mod command;
 mod sample;
 #[cfg(test)]
 mod tests;
+mod trees;
 mod work;
 
 use command::{Command, Verb, command_of};
 use std::process::ExitCode;
 use std::{env, io};
-use work::{Done, read_times, write_times};
+use trees::grow_times;
+use work::{read_times, write_times};
+
+// The exit status where memory ran out.
+const NO_MEMORY: u8 = 1;
 
 // The exit status of a faulty command line.
 const USAGE: u8 = 2;
@@ -24,17 +33,28 @@ fn main(rt: HostRuntime) -> io::Result<ExitCode> {
         words.push(word)?;
     }
     let Some(command) = command_of(&words) else {
-        eprintln!(rt; "usage: rsvp_bench read|write N")?;
+        eprintln!(rt;
+            "usage: rsvp_bench read|write|grow|close|owe|grow-apart|close-apart|owe-apart N"
+        )?;
         return Ok(ExitCode::from(USAGE));
     };
-    let done = carry_out(command);
-    println!(rt; "objects {} sum {}", done.objects, done.sum)?;
-    Ok(ExitCode::SUCCESS)
-}
-
-fn carry_out(command: Command) -> Done {
-    match command.verb {
-        Verb::Read => read_times(command.times),
-        Verb::Write => write_times(command.times),
+    let Command { verb, times } = command;
+    match verb {
+        Verb::Read => {
+            let done = read_times(times);
+            println!(rt; "objects {} sum {}", done.objects, done.sum)?;
+        }
+        Verb::Write => {
+            let done = write_times(times);
+            println!(rt; "objects {} sum {}", done.objects, done.sum)?;
+        }
+        Verb::Grow(forest) => {
+            let Some(grown) = grow_times(rt.alloc(), forest, times) else {
+                eprintln!(rt; "out of memory")?;
+                return Ok(ExitCode::from(NO_MEMORY));
+            };
+            println!(rt; "hops {} sum {}", grown.hops, grown.sum)?;
+        }
     }
+    Ok(ExitCode::SUCCESS)
 }
