@@ -1,7 +1,8 @@
 -- The worked rows hold by computing.
 use Rattle.std.specs.Prelude.{refl}
 use Rattle.std.specs.Fmt.{digits}
-use Rattle.network_model.specs.Texts.{addr_text, session_text, sender_text, flow_text, entry_line, head_text}
+use Rattle.value_texts.specs.Texts.{addr_text, session_text, sender_text, flow_text}
+use Rattle.network_model.specs.Texts.{entry_line, head_text}
 use Rattle.network_model.specs.Rows.{OneReceiver, FirstRun, LargerRate, Traced, Injected, SharedLink, MovedTree}
 
 pub one_receiver : OneReceiver
