@@ -1,7 +1,8 @@
 -- Lines: what stands on a link end for a next hop. The reservation facts of a node, the wants of a network and the left-over
 -- lines of a script are lists of them, and so have one book and one set of limits.
-use Rattle.std.specs.Prelude.{◌≡◌, ℕ, ◌==◌, List, sum_by}
+use Rattle.std.specs.Prelude.{◌≡◌, ℕ, ◌==◌, Bool, ◌&&◌, List, sum_by}
 use Rattle.std.specs.List.{filter}
+use Rattle.std.specs.Ordering.{eq_by_cmp}
 use Rattle.rsvp_base.specs.declared.addr.Addr.{Addr}
 use Rattle.rsvp_base.specs.declared.part.Part.{Part}
 use Rattle.rsvp_base.specs.declared.session.Session.{Session}
@@ -43,6 +44,10 @@ line_keys = pairs sessions (pairs next_hops units)
 
 abbrev pub line_key : Line → LineKey
 line_key l = (l.session, (next_hop l, l.unit))
+
+-- the line is of a session and next hop
+abbrev pub is_of_hop : Session → NextHop → LineKey → Bool
+is_of_hop s hop k = eq_by_cmp sessions.cmp s k.0 && eq_by_cmp next_hops.cmp hop k.1.0
 
 -- an entry of a book: its session, style and unit
 abbrev pub EntryKey : Type 0

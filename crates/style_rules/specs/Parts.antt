@@ -7,7 +7,7 @@ use Rattle.rsvp_base.specs.declared.style.StyleKind.{StyleKind}
 use Rattle.rsvp_base.specs.declared.style.Unit.{Unit as UnitOf}
 use Rattle.rsvp_base.specs.Orders.{Names}
 use Rattle.rsvp_base.specs.Sets.{union, cut, IsWithin, is_none}
-use Rattle.rsvp_base.specs.Table.{has, keys}
+use Rattle.rsvp_base.specs.Table.{has, keys, kept}
 use Rattle.rsvp_base.specs.TokenBucket.{TokenBucket}
 use Rattle.flow_merge.specs.FlowOrder.{IsAtMost, flow_le, flow_join, flow_meet}
 use Rattle.style_rules.specs.Styles.{name_of, unit_of, unit_of_first}
@@ -40,6 +40,10 @@ part_of s f = cond (is_none s) None (Some (record { senders = s; flow = f }))
 -- the part with the senders that are among these names, if one is
 abbrev pub part_cut : Part → Names → Option Part
 part_cut p names = part_of (cut p.senders names) p.flow
+
+-- what is left of a part with the names that stay, if one is
+abbrev pub part_kept : (Sender → Bool) → Part → Option Part
+part_kept stays p = part_of (kept stays p.senders) p.flow
 
 -- what a part takes of a link's capacity
 abbrev pub part_charge : Part → ℕ

@@ -8,9 +8,16 @@ use Rattle.rsvp_base.specs.declared.style.Unit.{Unit as UnitOf}
 use Rattle.rsvp_base.specs.Members.{In}
 use Rattle.rsvp_base.specs.Orders.{units}
 use Rattle.rsvp_base.specs.TokenBucket.{TokenBucket}
+use Rattle.flow_merge.specs.Blockade.{does_blockade}
 use Rattle.flow_merge.specs.FlowOrder.{flow_meet}
+use Rattle.style_rules.specs.declared.wall.Wall.{Wall}
 use Rattle.style_rules.specs.Parts.{has_name, part_join, part_meet, part_unit}
 use Rattle.style_rules.specs.Merge.{table_at, all_by, those_at, PartTable}
+
+-- a blockade, where there is one, keeps such a flow back
+abbrev pub is_walled : TokenBucket → Option Wall → Bool
+is_walled asked None = false
+is_walled asked (Some wall) = does_blockade wall.flow wall.sub asked
 
 -- a request toward a hop, and whether it is blockaded there
 pub record Request : Type 0 where
