@@ -23,7 +23,7 @@ use Rattle.style_rules.specs.CutLaws.{made_of, part_of_itself, some_within}
 use Rattle.style_rules.specs.Limits.{IsWithinLimits}
 use Rattle.style_rules.specs.Lines.{LineKey, line_keys}
 use Rattle.style_rules.specs.PartLaws.{part_at_most_itself}
-use Rattle.style_rules.specs.Parts.{IsOfStyle, IsPartAtMost, has_name, part_of}
+use Rattle.style_rules.specs.Parts.{IsOfStyle, IsPartAtMost, has_name, part_of, part_kept}
 use Rattle.style_rules.proofs.StyleLaws.{a_name, within_style, within_unit}
 use Rattle.flow_merge.specs.FlowOrder.{IsAtMost}
 use Rattle.soft_table.specs.Facts.{facts_by}
@@ -31,7 +31,7 @@ use Rattle.soft_table.proofs.Valued.{valued-changed}
 use Rattle.resv_state.specs.declared.fact.Held.{Held}
 use Rattle.resv_state.specs.declared.fact.ResvFact.{ResvFact}
 use Rattle.resv_state.specs.Resvs.{ResvFacts, AreOfStyle, resv_key, resv_lines, held_key, held_row, fact_of}
-use Rattle.resv_state.specs.Leaving.{stays, part_without, with_part, left_of, has_one, lessened, key_has_one, held_with, held_left, held_lessened, held_has_one}
+use Rattle.resv_state.specs.Leaving.{stays, with_part, left_of, has_one, lessened, key_has_one, held_with, held_left, held_lessened, held_has_one}
 use Rattle.resv_state.proofs.Facts.{said, limits_below}
 
 -- ---- names, one at a time
@@ -114,28 +114,28 @@ yes_not true e = cc
 yes_not false e = refl
 
 -- a part that has none of the names stays as it is
-pub whole : (gone : Names) (p : Part) → has_one gone p ≡ false → has_name p ≡ true → part_without gone p ≡ Some p
+pub whole : (gone : Names) (p : Part) → has_one gone p ≡ false → has_name p ≡ true → part_kept (stays gone) p ≡ Some p
 whole gone p none named = ap (λ s. part_of s p.flow) (stay_all gone p.senders (no_not _ none)) ∙ part_of_itself p named
 
 -- what is left is less, and of the style
-pub left_within : (gone : Names) (p x : Part) → part_without gone p ≡ Some x → IsWithin x.senders p.senders
+pub left_within : (gone : Names) (p x : Part) → part_kept (stays gone) p ≡ Some x → IsWithin x.senders p.senders
 left_within gone p x is q h =
     let m = made_of (kept (stays gone) p.senders) p.flow x is in
     (and_both (has p.senders q) (stays gone q) (sym (has-kept senders (stays gone) p.senders q) ∙ ap (λ s. has s q) (sym m.senders) ∙ h)).0
 
-pub left_named : (gone : Names) (p x : Part) → part_without gone p ≡ Some x → has_name x ≡ true
+pub left_named : (gone : Names) (p x : Part) → part_kept (stays gone) p ≡ Some x → has_name x ≡ true
 left_named gone p x is = let m = made_of (kept (stays gone) p.senders) p.flow x is in ap (λ s. not (is_none s)) m.senders ∙ ap not m.some
 
-pub left_below : (gone : Names) (p x : Part) → part_without gone p ≡ Some x → IsPartAtMost x p
+pub left_below : (gone : Names) (p x : Part) → part_kept (stays gone) p ≡ Some x → IsPartAtMost x p
 left_below gone p x is =
     let m = made_of (kept (stays gone) p.senders) p.flow x is in
     record { names = left_within gone p x is; flow = subst (λ f. IsAtMost f p.flow) (sym m.flow) (part_at_most_itself p).flow }
 
-pub left_style : (st : StyleKind) (gone : Names) (p x : Part) → IsOfStyle st p → part_without gone p ≡ Some x → IsOfStyle st x
+pub left_style : (st : StyleKind) (gone : Names) (p x : Part) → IsOfStyle st p → part_kept (stays gone) p ≡ Some x → IsOfStyle st x
 left_style st gone p x own is = within_style st p x own (left_named gone p x is) (left_within gone p x is)
 
 -- what is left has none of the names
-pub none_left : (gone : Names) (p x : Part) → part_without gone p ≡ Some x → has_one gone x ≡ false
+pub none_left : (gone : Names) (p x : Part) → part_kept (stays gone) p ≡ Some x → has_one gone x ≡ false
 none_left gone p x is =
     let m = made_of (kept (stays gone) p.senders) p.flow x is in
     either (is_none (cut x.senders gone))
@@ -219,7 +219,7 @@ module _ (fs : List (Held × ℕ)) (up : AreRows line_keys held_row fs) (k : Lin
           (λ f. f)
 
   pub left_key : (h x : Held) (left : ℕ) → get t k ≡ Some (h, left) → held_left gone h ≡ Some x → held_key x ≡ k
-  left_key h x left at is = same (part_without gone h.fact.part) is ∙ own_key k fs (h, left) (found_in line_keys t k (h, left) at)
+  left_key h x left at is = same (part_kept (stays gone) h.fact.part) is ∙ own_key k fs (h, left) (found_in line_keys t k (h, left) at)
     where
       same : (w : Option Part) → option_map (held_with h) w ≡ Some x → held_key x ≡ held_key h
       same None e = cc
@@ -227,7 +227,7 @@ module _ (fs : List (Held × ℕ)) (up : AreRows line_keys held_row fs) (k : Lin
 
 -- ---- the map of reservations
 pub less_said : (k : LineKey) (gone : Names) (t : Table line_keys (Held × ℕ)) → changed fact_of (changed (held_lessened k gone) t) ≡ changed (lessened k gone) (changed fact_of t)
-less_said k gone t = valued-changed line_keys said said (held_lessened k gone) (lessened k gone) (λ q e. by (eq_by_cmp line_keys.cmp q k) e (part_without gone e.0.fact.part)) t
+less_said k gone t = valued-changed line_keys said said (held_lessened k gone) (lessened k gone) (λ q e. by (eq_by_cmp line_keys.cmp q k) e (part_kept (stays gone) e.0.fact.part)) t
   where
     by : (b : Bool) (e : Held × ℕ) (w : Option Part) → option_map said (cond b (option_map (λ h. (h, e.1)) (option_map (held_with e.0) w)) (Some e)) ≡ cond b (option_map (with_part (said e)) w) (Some (said e))
     by true e None = refl
@@ -241,9 +241,9 @@ pub record Lessened (gone : Names) (e d : ResvFact × ℕ) : Type 0 where
 
 less_is : (gone : Names) (b : Bool) (e d : ResvFact × ℕ) → cond b (left_of gone d) (Some d) ≡ Some e → Lessened gone e d
 less_is gone false e d is = let same : d ≡ e = cc in subst (λ z. Lessened gone z d) same (record { below = part_at_most_itself d.0.part; style = λ st h. h; key = λ st h. refl })
-less_is gone true e d is = by (part_without gone d.0.part) refl is
+less_is gone true e d is = by (part_kept (stays gone) d.0.part) refl is
   where
-    by : (w : Option Part) → part_without gone d.0.part ≡ w → option_map (with_part d) w ≡ Some e → Lessened gone e d
+    by : (w : Option Part) → part_kept (stays gone) d.0.part ≡ w → option_map (with_part d) w ≡ Some e → Lessened gone e d
     by None from got = cc
     by (Some p) from got =
         let same : with_part d p ≡ e = cc in

@@ -36,7 +36,7 @@ use Rattle.style_rules.specs.CutLaws.{cut_senders}
 use Rattle.style_rules.specs.PartLaws.{union_least}
 use Rattle.style_rules.specs.Parts.{part_cut}
 use Rattle.style_rules.specs.Tally.{tally_of, names_of_tally, names_of_requests}
-use Rattle.style_rules.specs.Toward.{Request, parts_of}
+use Rattle.style_rules.specs.Toward.{Request, is_walled, parts_of}
 use Rattle.style_rules.specs.Ways.{Way, WayTable, line_of}
 use Rattle.style_rules.proofs.TallyRoom.{merger_has_room}
 use Rattle.soft_table.proofs.Steps.{Step}
@@ -44,7 +44,7 @@ use Rattle.soft_table.proofs.Valued.{size-valued, get-valued}
 use Rattle.resv_state.specs.declared.fact.Held.{Held}
 use Rattle.resv_state.specs.Resvs.{held_key, held_row, fact_of, resv_lines}
 use Rattle.resv_state.specs.Walks.{Rest, rests, held_under}
-use Rattle.resv_state.specs.Merging.{SessionRow, parts_on, names_via, names_out, is_out, is_walled, is_way_walled, is_blockaded, request_of, want_request, names_by, is_by, one_of, open_on, held_said, held_on, held_toward, held_names}
+use Rattle.resv_state.specs.Merging.{SessionRow, parts_on, names_via, names_out, is_out, is_way_walled, is_blockaded, request_of, want_request, names_by, is_by, one_of, open_on, held_said, held_on, held_toward, held_names}
 use Rattle.resv_state.proofs.Facts.{said, under_said}
 use Rattle.resv_state.proofs.Forgets.{taken_one, got_in}
 use Rattle.resv_state.proofs.Limits.{one_style, names_made, few_of_session}

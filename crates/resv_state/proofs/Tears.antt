@@ -18,21 +18,22 @@ use Rattle.rsvp_base.proofs.Counts.{in_found, found_in}
 use Rattle.rsvp_base.proofs.Members.{in_any, any_in, in_append}
 use Rattle.rsvp_base.proofs.SetLaws.{has-cut, and_both, and_made}
 use Rattle.rsvp_base.proofs.Tables.{either, tied_same, tied_self, then_do, same_table, get-changed}
-use Rattle.style_rules.specs.Lines.{LineKey, NextHop, line_keys, next_hops}
+use Rattle.style_rules.specs.Lines.{LineKey, NextHop, line_keys, next_hops, is_of_hop}
+use Rattle.style_rules.specs.Parts.{part_kept}
 use Rattle.style_rules.specs.Styles.{unit_of}
 use Rattle.style_rules.proofs.StyleLaws.{a_name, unit_of_names}
 use Rattle.resv_state.specs.declared.fact.ResvFact.{ResvFact}
 use Rattle.resv_state.specs.Resvs.{ResvFacts, ResvMap, AreOfStyle}
-use Rattle.resv_state.specs.Leaving.{part_without, with_part, left_of, has_one, is_of_hop, torn, hop_has_one, lessened, key_has_one}
+use Rattle.resv_state.specs.Leaving.{stays, with_part, left_of, has_one, torn, hop_has_one, lessened, key_has_one}
 use Rattle.resv_state.proofs.Facts.{same_map}
 use Rattle.resv_state.proofs.Left.{whole, none_left, left_named, in_keys, then_same}
 
 -- ---- names leave twice as once
 left_twice : (gone : Names) (w : Option (ResvFact × ℕ)) → then_do (then_do w (left_of gone)) (left_of gone) ≡ then_do w (left_of gone)
 left_twice gone None = refl
-left_twice gone (Some e) = by (part_without gone e.0.part) refl
+left_twice gone (Some e) = by (part_kept (stays gone) e.0.part) refl
   where
-    by : (p : Option Part) → part_without gone e.0.part ≡ p → then_do (option_map (with_part e) p) (left_of gone) ≡ option_map (with_part e) p
+    by : (p : Option Part) → part_kept (stays gone) e.0.part ≡ p → then_do (option_map (with_part e) p) (left_of gone) ≡ option_map (with_part e) p
     by None is = refl
     by (Some x) is = ap (option_map (with_part (with_part e x))) (whole gone x (none_left gone e.0.part x is) (left_named gone e.0.part x is))
 

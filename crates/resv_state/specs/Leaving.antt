@@ -5,12 +5,12 @@ use Rattle.std.specs.Option.{option_map}
 use Rattle.std.specs.Ordering.{eq_by_cmp}
 use Rattle.rsvp_base.specs.Orders.{Names, sessions}
 use Rattle.rsvp_base.specs.Sets.{set_of, cut, is_none}
-use Rattle.rsvp_base.specs.Table.{has, kept}
+use Rattle.rsvp_base.specs.Table.{has}
 use Rattle.rsvp_base.specs.declared.part.Part.{Part}
 use Rattle.rsvp_base.specs.declared.session.Sender.{Sender}
 use Rattle.rsvp_base.specs.declared.session.Session.{Session}
-use Rattle.style_rules.specs.Lines.{LineKey, NextHop, line_keys, next_hops}
-use Rattle.style_rules.specs.Parts.{part_of}
+use Rattle.style_rules.specs.Lines.{LineKey, NextHop, line_keys, is_of_hop}
+use Rattle.style_rules.specs.Parts.{part_kept}
 use Rattle.resv_state.specs.declared.fact.Held.{Held}
 use Rattle.resv_state.specs.declared.fact.ResvFact.{ResvFact}
 use Rattle.resv_state.specs.Resvs.{ResvFacts}
@@ -19,25 +19,18 @@ use Rattle.resv_state.specs.Resvs.{ResvFacts}
 abbrev pub stays : Names → Sender → Bool
 stays gone x = not (has gone x)
 
--- what is left of a part, if a name is left
-abbrev pub part_without : Names → Part → Option Part
-part_without gone p = part_of (kept (stays gone) p.senders) p.flow
-
--- and of a reservation, with as long to live
+-- what is left of a reservation, with as long to live, if a name is left
 abbrev pub with_part : ResvFact × ℕ → Part → ResvFact × ℕ
 with_part e p = (record e.0 { part = p }, e.1)
 
 abbrev pub left_of : Names → ResvFact × ℕ → Option (ResvFact × ℕ)
-left_of gone e = option_map (with_part e) (part_without gone e.0.part)
+left_of gone e = option_map (with_part e) (part_kept (stays gone) e.0.part)
 
 -- a part has one of the names
 abbrev pub has_one : Names → Part → Bool
 has_one gone p = not (is_none (cut p.senders gone))
 
 -- ---- of a session's next hop
-abbrev pub is_of_hop : Session → NextHop → LineKey → Bool
-is_of_hop s hop k = eq_by_cmp sessions.cmp s k.0 && eq_by_cmp next_hops.cmp hop k.1.0
-
 abbrev pub torn : Session → NextHop → Names → LineKey → ResvFact × ℕ → Option (ResvFact × ℕ)
 torn s hop gone k e = cond (is_of_hop s hop k) (left_of gone e) (Some e)
 
@@ -61,7 +54,7 @@ abbrev pub held_with : Held → Part → Held
 held_with h p = record h { fact = record h.fact { part = p } }
 
 abbrev pub held_left : Names → Held → Option Held
-held_left gone h = option_map (held_with h) (part_without gone h.fact.part)
+held_left gone h = option_map (held_with h) (part_kept (stays gone) h.fact.part)
 
 abbrev pub held_lessened : LineKey → Names → LineKey → Held × ℕ → Option (Held × ℕ)
 held_lessened at gone k e = cond (eq_by_cmp line_keys.cmp k at) (option_map (λ h. (h, e.1)) (held_left gone e.0)) (Some e)

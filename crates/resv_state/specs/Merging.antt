@@ -9,11 +9,9 @@ use Rattle.rsvp_base.specs.Table.{get, keys, changed}
 use Rattle.rsvp_base.specs.TokenBucket.{TokenBucket}
 use Rattle.rsvp_base.specs.declared.part.Part.{Part}
 use Rattle.rsvp_base.specs.declared.style.Unit.{Unit as UnitOf}
-use Rattle.flow_merge.specs.Blockade.{does_blockade}
-use Rattle.style_rules.specs.declared.wall.Wall.{Wall}
 use Rattle.style_rules.specs.Merge.{PartTable}
 use Rattle.style_rules.specs.Parts.{part_cut}
-use Rattle.style_rules.specs.Toward.{Request}
+use Rattle.style_rules.specs.Toward.{Request, is_walled}
 use Rattle.style_rules.specs.Ways.{Way, WayTable}
 use Rattle.resv_state.specs.declared.fact.Held.{Held}
 use Rattle.resv_state.specs.declared.fact.ResvFact.{ResvFact}
@@ -41,11 +39,7 @@ is_out iface way = bit_at way.outward iface == 1
 abbrev pub names_out : WayTable → ℕ → Names
 names_out up iface = changed (λ x way. cond (is_out iface way) (Some tt) None) up
 
--- a blockade of a name keeps such a flow back
-abbrev pub is_walled : TokenBucket → Option Wall → Bool
-is_walled asked None = false
-is_walled asked (Some wall) = does_blockade wall.flow wall.sub asked
-
+-- the blockade of a name keeps such a flow back
 abbrev pub is_way_walled : TokenBucket → Option Way → Bool
 is_way_walled asked None = false
 is_way_walled asked (Some way) = is_walled asked way.wall

@@ -6,11 +6,11 @@ ghost use Rattle.rsvp_base.specs.Rows.{AreRows};
 ghost use Rattle.rsvp_base.specs.Sets.{set_of};
 ghost use Rattle.rsvp_base.specs.Table.{changed_rows, kept};
 ghost use Rattle.style_rules.specs.Lines.{LineKey, line_keys};
-ghost use Rattle.style_rules.specs.Parts.{has_name};
+ghost use Rattle.style_rules.specs.Parts.{has_name, part_kept};
 ghost use Rattle.soft_table.specs.Facts.{facts_by, IsInOrder};
 ghost use Rattle.resv_state.specs.Resvs.{held_key, held_row, dead_row};
 ghost use Rattle.resv_state.specs.Walks.{rests};
-ghost use Rattle.resv_state.specs.Leaving.{stays, part_without, has_one, held_left, held_lessened, held_has_one};
+ghost use Rattle.resv_state.specs.Leaving.{stays, has_one, held_left, held_lessened, held_has_one};
 ghost use Rattle.resv_state.specs.declared.fact.Held.{Held};
 
 use crate::fact::{Held, ResvFact};
@@ -30,7 +30,7 @@ fn without_all(senders: &Senders, gone: &Senders) -> Senders
 
 // What is left of a part, if a sender is left.
 fn part_without(part: &Part, gone: &Senders) -> Option<Part>
-    ensures { result ≡ part_without gone.now part.now }
+    ensures { result ≡ part_kept (stays gone.now) part.now }
 {
     let senders = without_all(&part.senders, gone);
     if senders.is_empty() {

@@ -8,10 +8,10 @@ ghost use Rattle.rsvp_base.specs.Table.{get, has, kept, size, without};
 ghost use Rattle.style_rules.specs.Lines.{line_keys};
 ghost use Rattle.style_rules.specs.Parts.{part_cut};
 ghost use Rattle.style_rules.specs.Tally.{tally_of, names_of_tally};
-ghost use Rattle.style_rules.specs.Toward.{Request};
+ghost use Rattle.style_rules.specs.Toward.{Request, is_walled};
 ghost use Rattle.resv_state.specs.Resvs.{held_row};
 ghost use Rattle.resv_state.specs.Walks.{AreFew, held_under};
-ghost use Rattle.resv_state.specs.Merging.{names_by, names_via, is_by, is_walled, is_way_walled, is_blockaded, request_of, one_of, open_on, held_names, held_on, held_toward, want_request};
+ghost use Rattle.resv_state.specs.Merging.{names_by, names_via, is_by, is_way_walled, is_blockaded, request_of, one_of, open_on, held_names, held_on, held_toward, want_request};
 
 use crate::fact::{Held, ResvFact};
 use crate::walks::FACTS;
