@@ -28,7 +28,7 @@ use Rattle.router_rules.specs.Known.{known, named_as}
 use Rattle.router_rules.specs.Line.{s1, r1, session, usual}
 use Rattle.router_rules.specs.Place.{is_addr, is_session, lifetime}
 use Rattle.router_rules.specs.Requests.{toward}
-use Rattle.router_rules.proofs.Tests.{addr_told, session_told}
+use Rattle.rule_laws.proofs.Tests.{addr_told, session_told}
 use Rattle.tree_laws.proofs.Following.{same_number}
 use Rattle.network_model.specs.Bounds.{AreBounds}
 use Rattle.network_model.specs.Laws.{place_in}

@@ -20,22 +20,22 @@ use Rattle.router_rules.specs.declared.answers.Heard.TheVariants as heard
 use Rattle.router_rules.specs.declared.answers.Why.TheVariants as why
 use Rattle.router_rules.specs.Act.{act, act_spelt, is_mine}
 use Rattle.router_rules.specs.Asking.{act_resv, asker_of, matched, nothing_taken, refusal, style_conflict, taking_of}
-use Rattle.router_rules.specs.AskLaws.{IsLoss, IsBookRefusal}
-use Rattle.router_rules.specs.ErrorLaws.{IsPathReply, IsResvReply, errors_with, walls_set}
 use Rattle.router_rules.specs.Confirming.{ConfsHeard, confs_heard, confs_on, with_confs}
 use Rattle.router_rules.specs.Errors.{act_resv_err, lane_of, path_err, path_err_on, replied, reply_to}
-use Rattle.router_rules.specs.FactLaws.{ComesBy}
 use Rattle.router_rules.specs.Facts.{Facts, PathState, resvs_of}
 use Rattle.router_rules.specs.Inputs.{Call, Came, Change, Clear, ErrMsg, ErrSend, Input, Moved, OfPath, OfResv, Send, Spelt, Unspelt, Wait, only_heard}
 use Rattle.router_rules.specs.Known.{known}
 use Rattle.router_rules.specs.Place.{Place, addr_of as own_of, goes_out, is_own, own}
 use Rattle.router_rules.specs.Rule.{settled}
-use Rattle.router_rules.specs.SendLaws.{IsSend}
 use Rattle.router_rules.specs.Sends.{error_message, error_send}
-use Rattle.router_rules.proofs.Answering.{faults_by_hint}
-use Rattle.router_rules.proofs.Erring.{errors_once_each, resv_errs_by_tests}
-use Rattle.router_rules.proofs.Lists.{some_same}
-use Rattle.router_rules.proofs.Wholes.{units_in_full}
+use Rattle.rule_laws.specs.AskLaws.{IsLoss, IsBookRefusal}
+use Rattle.rule_laws.specs.ErrorLaws.{IsPathReply, IsResvReply, errors_with, walls_set}
+use Rattle.rule_laws.specs.FactLaws.{ComesBy}
+use Rattle.rule_laws.specs.SendLaws.{IsSend}
+use Rattle.rule_laws.proofs.Answering.{faults_by_hint}
+use Rattle.rule_laws.proofs.Erring.{errors_once_each, resv_errs_by_tests}
+use Rattle.rule_laws.proofs.Lists.{some_same}
+use Rattle.rule_laws.proofs.Wholes.{units_in_full}
 use Rattle.router_laws.specs.Steps.{sent_then}
 use Rattle.router_laws.proofs.Speaking.{send_told}
 use Rattle.demand_laws.specs.Goals.{addr_of}

@@ -42,10 +42,10 @@ use Rattle.router_rules.specs.Place.{Place, own, is_addr, is_session, lifetime}
 use Rattle.router_rules.specs.Requests.{toward, is_style}
 use Rattle.router_rules.specs.Rule.{Outcome}
 use Rattle.router_rules.specs.Sends.{resv_send}
-use Rattle.router_rules.proofs.Asks.{style_told as ask_told}
-use Rattle.router_rules.proofs.Knowing.{has-known, lanes_told, counted_made}
-use Rattle.router_rules.proofs.Requesting.{nowhere}
-use Rattle.router_rules.proofs.Tests.{ties, addr_told, addr_tested, session_told, style_told}
+use Rattle.rule_laws.proofs.Asks.{style_told as ask_told}
+use Rattle.rule_laws.proofs.Knowing.{has-known, lanes_told, counted_made}
+use Rattle.rule_laws.proofs.Requesting.{nowhere}
+use Rattle.rule_laws.proofs.Tests.{ties, addr_told, addr_tested, session_told, style_told}
 use Rattle.tree_laws.specs.Networks.{Net, node_of, node_of_end, end_at, iface_of, among, link_of, peers}
 use Rattle.tree_laws.specs.Valid.{IsValid}
 use Rattle.tree_laws.proofs.Following.{same_number, number_same}

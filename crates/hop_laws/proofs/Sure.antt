@@ -24,7 +24,7 @@ use Rattle.router_rules.specs.Inputs.{Arrival, Spelt, Unspelt}
 use Rattle.router_rules.specs.Line.{s1, group, session, first, usual}
 use Rattle.router_rules.specs.Place.{is_addr}
 use Rattle.router_rules.specs.Sends.{same_flow}
-use Rattle.router_rules.proofs.Tests.{addr_told, flow_told}
+use Rattle.rule_laws.proofs.Tests.{addr_told, flow_told}
 use Rattle.tree_laws.specs.Networks.{Net, node_of, end_at}
 use Rattle.tree_laws.specs.Trees.{depth}
 use Rattle.tree_laws.proofs.Depths.{depth_and_rank_within_longest}

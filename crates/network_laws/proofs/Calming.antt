@@ -13,8 +13,8 @@ use Rattle.router_rules.specs.Facts.{Facts}
 use Rattle.router_rules.specs.Inputs.{Arrival, Change, Input, Wait, Came, Send}
 use Rattle.router_rules.specs.Place.{Place}
 use Rattle.router_rules.specs.Rule.{Outcome, rule, settled}
-use Rattle.router_rules.specs.SendLaws.{IsPathTear, IsResvTear, IsError, IsConf, IsPath, IsResv}
-use Rattle.router_rules.proofs.Sending.{sends_are_of_six_kinds}
+use Rattle.rule_laws.specs.SendLaws.{IsPathTear, IsResvTear, IsError, IsConf, IsPath, IsResv}
+use Rattle.rule_laws.proofs.Sending.{sends_are_of_six_kinds}
 use Rattle.tree_laws.specs.Networks.{iface_of}
 use Rattle.router_laws.proofs.Counting.{reached}
 use Rattle.network_model.specs.Events.{pass, half, halves, a_round, rounds}

@@ -33,7 +33,6 @@ use Rattle.router_laws.specs.Steps.{is_calm as calm_one, facts_then, fired_then}
 use Rattle.router_laws.proofs.Counting.{countdowns_move_by_their_rule, fires}
 use Rattle.router_laws.proofs.Learning.{a_path_on_the_tree_is_learnt, how_a_path_fact_goes}
 use Rattle.router_laws.proofs.Speaking.{refreshes_are_marked, why_a_path_tear_is_sent}
-use Rattle.router_rules.specs.FactLaws.{is_way}
 use Rattle.router_rules.specs.Facts.{Facts, SenderKey, PathState, sender_keys}
 use Rattle.router_rules.specs.Forgetting.{counted}
 use Rattle.router_rules.specs.Inputs.{Arrival, Input, Wait, Clear, Came, Send, Spelt, Unspelt}
@@ -42,7 +41,8 @@ use Rattle.router_rules.specs.Offers.{OfferKey}
 use Rattle.router_rules.specs.Place.{Place, own, goes_out, comes_in}
 use Rattle.router_rules.specs.Rule.{Outcome}
 use Rattle.router_rules.specs.Sends.{path_send}
-use Rattle.router_rules.proofs.Knowing.{known_and_via, has-known}
+use Rattle.rule_laws.specs.FactLaws.{is_way}
+use Rattle.rule_laws.proofs.Knowing.{known_and_via, has-known}
 use Rattle.tree_laws.specs.declared.hops.Hop.{Hop}
 use Rattle.tree_laws.specs.Networks.{Net, node_of, node_of_end, end_at, iface_of, owner, peers}
 use Rattle.tree_laws.specs.Ranks.{longest}

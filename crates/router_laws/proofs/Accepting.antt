@@ -30,8 +30,8 @@ use Rattle.router_rules.specs.Asking.{Asker, entry_at, has_room, table_with}
 use Rattle.router_rules.specs.Books.{book, line_of, lines, lines_of}
 use Rattle.router_rules.specs.Facts.{Facts, Resvs, resvs_of, with_resvs}
 use Rattle.router_rules.specs.Place.{Place}
-use Rattle.router_rules.proofs.Leaving.{table_put}
-use Rattle.router_rules.proofs.Requesting.{lines_told, to_lines}
+use Rattle.rule_laws.proofs.Leaving.{table_put}
+use Rattle.rule_laws.proofs.Requesting.{lines_told, to_lines}
 use Rattle.router_laws.specs.AcceptingLaws.{CanBeHeld, HasPlace, IsBooked, line_at}
 use Rattle.router_laws.proofs.Putting.{IsPut, put_source}
 use Rattle.router_laws.proofs.Shrinking.{table_lines_told}

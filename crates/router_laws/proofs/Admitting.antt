@@ -45,14 +45,14 @@ use Rattle.router_rules.specs.Known.{known, named_as}
 use Rattle.router_rules.specs.Place.{Place, goes_out, own}
 use Rattle.router_rules.specs.Requests.{is_style}
 use Rattle.router_rules.specs.Rule.{settled}
-use Rattle.router_rules.specs.RuleLaws.{IsOfUnit}
-use Rattle.router_rules.specs.SendLaws.{IsConf, IsError, IsPath, IsPathTear, IsResv, IsResvTear}
-use Rattle.router_rules.proofs.Knowing.{named_told}
-use Rattle.router_rules.proofs.Leaving.{forgetting_by_names, table_put}
-use Rattle.router_rules.proofs.Lists.{in_values, some_is, some_same}
-use Rattle.router_rules.proofs.Requesting.{one_name}
-use Rattle.router_rules.proofs.Taking.{units_source}
-use Rattle.router_rules.proofs.Tests.{addr_tested, style_told}
+use Rattle.rule_laws.specs.RuleLaws.{IsOfUnit}
+use Rattle.rule_laws.specs.SendLaws.{IsConf, IsError, IsPath, IsPathTear, IsResv, IsResvTear}
+use Rattle.rule_laws.proofs.Knowing.{named_told}
+use Rattle.rule_laws.proofs.Leaving.{forgetting_by_names, table_put}
+use Rattle.rule_laws.proofs.Lists.{in_values, some_is, some_same}
+use Rattle.rule_laws.proofs.Requesting.{one_name}
+use Rattle.rule_laws.proofs.Taking.{units_source}
+use Rattle.rule_laws.proofs.Tests.{addr_tested, style_told}
 use Rattle.router_laws.specs.AcceptingLaws.{CanBeHeld, CanBeTaken, IsBooked, IsPlaced, IsTaken, WhatIsAccepted, came_resv}
 use Rattle.router_laws.specs.Steps.{facts_then, sent_then}
 use Rattle.router_laws.proofs.Accepting.{under_along, unit_booked}

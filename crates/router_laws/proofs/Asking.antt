@@ -27,12 +27,12 @@ use Rattle.router_rules.specs.Forgetting.{is_lost}
 use Rattle.router_rules.specs.Inputs.{Call, Came, Clear, Input, Moved, Spelt, Unspelt, Wait}
 use Rattle.router_rules.specs.Known.{known, named_as}
 use Rattle.router_rules.specs.Place.{Place, is_addr, is_session, own}
-use Rattle.router_rules.specs.RuleLaws.{IsOfUnit}
-use Rattle.router_rules.proofs.Leaving.{forgetting_by_names, table_other, waiting_leaves_the_living}
-use Rattle.router_rules.proofs.Receiving.{resv_tears_by_names}
-use Rattle.router_rules.proofs.Taking.{units_other, units_source}
-use Rattle.router_rules.proofs.Tests.{addr_told, session_told}
-use Rattle.router_rules.proofs.Wholes.{resvs_in_steps}
+use Rattle.rule_laws.specs.RuleLaws.{IsOfUnit}
+use Rattle.rule_laws.proofs.Leaving.{forgetting_by_names, table_other, waiting_leaves_the_living}
+use Rattle.rule_laws.proofs.Receiving.{resv_tears_by_names}
+use Rattle.rule_laws.proofs.Taking.{units_other, units_source}
+use Rattle.rule_laws.proofs.Tests.{addr_told, session_told}
+use Rattle.rule_laws.proofs.Wholes.{resvs_in_steps}
 use Rattle.router_laws.specs.BoundLaws.{IsLeftOf}
 use Rattle.router_laws.specs.ReservationLaws.{IsAskedFor, IsListed, SpeaksOf, Touches, TouchesBy, WhatKeepsAReservationFact, WhereAReservationFactComesFrom}
 use Rattle.router_laws.specs.Steps.{facts_then}

@@ -23,21 +23,21 @@ use Rattle.router_rules.specs.declared.answers.Heard.TheVariants as heard
 use Rattle.router_rules.specs.declared.answers.Why.TheVariants as why
 use Rattle.router_rules.specs.Act.{act, act_spelt, is_mine}
 use Rattle.router_rules.specs.Asking.{answered, act_resv, err_place, err_places, errors_in_order, heard_of, taking}
-use Rattle.router_rules.specs.ErrorLaws.{IsPathReply, IsResvReply, errors_with, walls_set}
 use Rattle.router_rules.specs.Confirming.{ConfsHeard, confs_heard, confs_on, with_confs}
 use Rattle.router_rules.specs.Errors.{act_resv_err, blamed, lane_of, path_err, path_err_on, replied, reply_to}
-use Rattle.router_rules.specs.FactLaws.{ComesBy}
 use Rattle.router_rules.specs.Facts.{Facts, PathState, ResvState}
 use Rattle.router_rules.specs.Inputs.{Call, Came, Change, Clear, ErrMsg, ErrSend, Input, Moved, OfPath, OfResv, Send, Spelt, Unspelt, Wait, only_heard}
 use Rattle.router_rules.specs.Place.{Place, goes_out, is_own, own}
 use Rattle.router_rules.specs.Rule.{rule, settled}
-use Rattle.router_rules.specs.SendLaws.{IsConf, IsError, IsPath, IsPathTear, IsResv, IsResvTear, IsSend}
 use Rattle.router_rules.specs.Sends.{error_message, error_send}
-use Rattle.router_rules.proofs.Answering.{faults_by_hint}
-use Rattle.router_rules.proofs.Erring.{errors_once_each, resv_errs_by_tests}
-use Rattle.router_rules.proofs.Lists.{some_same, to_ordered}
-use Rattle.router_rules.proofs.Sending.{not_told}
-use Rattle.router_rules.proofs.Tests.{addr_told}
+use Rattle.rule_laws.specs.ErrorLaws.{IsPathReply, IsResvReply, errors_with, walls_set}
+use Rattle.rule_laws.specs.FactLaws.{ComesBy}
+use Rattle.rule_laws.specs.SendLaws.{IsConf, IsError, IsPath, IsPathTear, IsResv, IsResvTear, IsSend}
+use Rattle.rule_laws.proofs.Answering.{faults_by_hint}
+use Rattle.rule_laws.proofs.Erring.{errors_once_each, resv_errs_by_tests}
+use Rattle.rule_laws.proofs.Lists.{some_same, to_ordered}
+use Rattle.rule_laws.proofs.Sending.{not_told}
+use Rattle.rule_laws.proofs.Tests.{addr_told}
 use Rattle.router_laws.specs.BlameLaws.{AreBlamed, IsPassedOn, IsRefusal, WhereAnErrorWithAFlowComesFrom}
 use Rattle.router_laws.specs.Steps.{sent_then}
 use Rattle.router_laws.proofs.Speaking.{send_told}

@@ -16,7 +16,7 @@ use Rattle.router_rules.specs.Facts.{Facts, ResvState, Walls, Want, resvs_in, wa
 use Rattle.router_rules.specs.Known.{Lane, names_via}
 use Rattle.router_rules.specs.Place.{Place}
 use Rattle.router_rules.specs.Requests.{is_style, request_of, requests, resv_part, resv_request, want_part, want_request}
-use Rattle.router_rules.proofs.Requesting.{requests_and_toward}
+use Rattle.rule_laws.proofs.Requesting.{requests_and_toward}
 use Rattle.router_laws.specs.BlameLaws.{UnitsOfTowardDoNotDependOnBlockade}
 
 abbrev part_in : Request → Part

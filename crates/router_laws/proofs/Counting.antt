@@ -15,9 +15,9 @@ use Rattle.router_rules.specs.Forgetting.{counted}
 use Rattle.router_rules.specs.Inputs.{Arrival, Input, Call, Wait, Clear, Came, Moved, Spelt, Unspelt}
 use Rattle.router_rules.specs.Place.{Place, period}
 use Rattle.router_rules.specs.Waiting.{next_due}
-use Rattle.router_rules.proofs.Knowing.{known_and_via}
-use Rattle.router_rules.proofs.Leaving.{countdowns_settle, waiting_leaves_the_living}
-use Rattle.router_rules.proofs.Lists.{some_same}
+use Rattle.rule_laws.proofs.Knowing.{known_and_via}
+use Rattle.rule_laws.proofs.Leaving.{countdowns_settle, waiting_leaves_the_living}
+use Rattle.rule_laws.proofs.Lists.{some_same}
 use Rattle.router_laws.specs.CountdownLaws.{CountdownsMoveByTheirRule, IsMoved, IsReached}
 use Rattle.router_laws.specs.Steps.{facts_then, fired_then, is_calm}
 use Rattle.router_laws.proofs.Framing.{spelt_leaves}

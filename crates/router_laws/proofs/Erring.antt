@@ -19,16 +19,16 @@ use Rattle.rsvp_messages.specs.declared.message.ResvErrMsg.{ResvErrMsg}
 use Rattle.router_rules.specs.Act.{act_spelt, is_mine}
 use Rattle.router_rules.specs.Bounds.{IsWithinBounds}
 use Rattle.router_rules.specs.Errors.{blockade_of, is_admission, walled_by, walls_after, walls_with}
-use Rattle.router_rules.specs.FactLaws.{ComesBy}
 use Rattle.router_rules.specs.Facts.{Blockade, Facts, WallKey, paths_in}
 use Rattle.router_rules.specs.Forgetting.{counted}
 use Rattle.router_rules.specs.Inputs.{Call, Came, Clear, Moved, Spelt, Unspelt, Wait}
 use Rattle.router_rules.specs.Known.{came_by}
 use Rattle.router_rules.specs.Place.{Place, own, period}
-use Rattle.router_rules.proofs.Leaving.{waiting_leaves_the_living}
-use Rattle.router_rules.proofs.Lists.{in_values}
-use Rattle.router_rules.proofs.Telling.{errors_and_walls}
-use Rattle.router_rules.proofs.Tests.{addr_told}
+use Rattle.rule_laws.specs.FactLaws.{ComesBy}
+use Rattle.rule_laws.proofs.Leaving.{waiting_leaves_the_living}
+use Rattle.rule_laws.proofs.Lists.{in_values}
+use Rattle.rule_laws.proofs.Telling.{errors_and_walls}
+use Rattle.rule_laws.proofs.Tests.{addr_told}
 use Rattle.router_laws.specs.ErrorLaws.{AnErrorChangesNoFact, IsBlockadeSet, WhereABlockadeComesFrom, only_goes_on}
 use Rattle.router_laws.specs.FrameLaws.{on_paths, on_resvs}
 use Rattle.router_laws.specs.Steps.{facts_then}

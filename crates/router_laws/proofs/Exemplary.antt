@@ -23,9 +23,9 @@ use Rattle.router_rules.specs.Facts.{Facts, ResvState, no_facts, resvs_of}
 use Rattle.router_rules.specs.Inputs.{Wait}
 use Rattle.router_rules.specs.Line.{first, iface, r2, s1, scope, session, usual}
 use Rattle.router_rules.specs.Act.{act}
-use Rattle.router_rules.proofs.Leaving.{waiting_leaves_the_living}
-use Rattle.router_rules.proofs.Lists.{some_same}
 use Rattle.router_rules.proofs.Bounding.{no_facts_are_within_bounds}
+use Rattle.rule_laws.proofs.Leaving.{waiting_leaves_the_living}
+use Rattle.rule_laws.proofs.Lists.{some_same}
 use Rattle.router_laws.specs.AcceptingLaws.{CanBeHeld, IsPlaced, line_at}
 use Rattle.router_laws.specs.BoundLaws.{AreFewer, IsFit, IsSameNode}
 use Rattle.router_laws.specs.Examples.{AcceptanceHasExamples, BoundLawsHaveExamples, CountdownLawHasExamples, ErrorLawsHaveExamples, FrameLawsHaveExamples, PathLawsHaveExamples, SendLawsHaveExamples, half_later, of_port, one_path, one_resv, path_in, r, resv_in, resv_msg, the_lines, with_paths_of}

@@ -22,8 +22,8 @@ use Rattle.router_rules.specs.Known.{known, named_as}
 use Rattle.router_rules.specs.Place.{Place}
 use Rattle.router_rules.specs.Rule.{is_silent, settled, spoken}
 use Rattle.router_rules.specs.Sends.{unmarked, used_marks}
-use Rattle.router_rules.proofs.Leaving.{left_whole}
-use Rattle.router_rules.proofs.Lists.{some_same}
+use Rattle.rule_laws.proofs.Leaving.{left_whole}
+use Rattle.rule_laws.proofs.Lists.{some_same}
 use Rattle.router_laws.specs.FrameLaws.{AreSameButMarks, CalmStepsKeepTheLocals, LeftAsItWas, on_paths, on_resvs, on_senders, on_walls, on_wants, tells_of_paths, tells_of_resvs, tells_of_walls}
 use Rattle.router_laws.specs.Steps.{facts_then, is_calm}
 

@@ -25,14 +25,14 @@ use Rattle.router_rules.specs.Known.{Lane, names_via}
 use Rattle.router_rules.specs.Place.{Place}
 use Rattle.router_rules.specs.Requests.{toward}
 use Rattle.router_rules.specs.Rule.{settled}
-use Rattle.router_rules.specs.SendLaws.{IsConf, IsError, IsPath, IsPathTear, IsResv, IsResvTear, IsSend}
 use Rattle.router_rules.specs.Sends.{error_message, gone_names, is_changed, torn_names}
-use Rattle.router_rules.proofs.Asks.{gone_told, style_told}
-use Rattle.router_rules.proofs.Knowing.{lanes_told}
-use Rattle.router_rules.proofs.Quiet.{some_member}
-use Rattle.router_rules.proofs.Ruling.{rule_in_parts}
-use Rattle.router_rules.proofs.Sending.{not_told}
-use Rattle.router_rules.proofs.Tests.{parts_tested}
+use Rattle.rule_laws.specs.SendLaws.{IsConf, IsError, IsPath, IsPathTear, IsResv, IsResvTear, IsSend}
+use Rattle.rule_laws.proofs.Asks.{gone_told, style_told}
+use Rattle.rule_laws.proofs.Knowing.{lanes_told}
+use Rattle.rule_laws.proofs.Quiet.{some_member}
+use Rattle.rule_laws.proofs.Ruling.{rule_in_parts}
+use Rattle.rule_laws.proofs.Sending.{not_told}
+use Rattle.rule_laws.proofs.Tests.{parts_tested}
 use Rattle.router_laws.specs.ReservationLaws.{IsOfGoneUnits, IsOfLane, WhatAResvSentSays, WhyAResvTearIsSent}
 use Rattle.router_laws.specs.Steps.{facts_then, fired_then, sent_then}
 use Rattle.router_laws.proofs.Speaking.{send_told}

@@ -34,9 +34,9 @@ use Rattle.router_rules.specs.Inputs.{Input, Call, Wait, Clear, Came, Moved, Spe
 use Rattle.router_rules.specs.Paths.{is_path_by, learn, learn_inward, learnt, path_state, tear_path, torn_path}
 use Rattle.router_rules.specs.Place.{Place, comes_in, period, wall_lifetime}
 use Rattle.router_rules.specs.Waiting.{next_due}
-use Rattle.router_rules.proofs.Leaving.{waiting_leaves_the_living}
-use Rattle.router_rules.proofs.Lists.{some_is, some_same}
-use Rattle.router_rules.proofs.Telling.{errors_and_walls}
+use Rattle.rule_laws.proofs.Leaving.{waiting_leaves_the_living}
+use Rattle.rule_laws.proofs.Lists.{some_is, some_same}
+use Rattle.rule_laws.proofs.Telling.{errors_and_walls}
 use Rattle.router_laws.specs.BoundLaws.{IsFit, clock_after}
 use Rattle.router_laws.specs.PathLaws.{CameOnTree}
 use Rattle.router_laws.specs.Steps.{facts_then}

@@ -29,9 +29,9 @@ use Rattle.router_rules.specs.Facts.{Facts, SenderKey, Want, WantKey, Wants, sen
 use Rattle.router_rules.specs.Inputs.{Input, Call, Wait, Clear, Came, Moved, SendAs, DropAs, WantAs, QuitAll}
 use Rattle.router_rules.specs.Place.{Place, is_own, is_session}
 use Rattle.router_rules.specs.Requests.{is_style}
-use Rattle.router_rules.proofs.Lists.{got_with_rows, to_values}
-use Rattle.router_rules.proofs.Rooms.{room_tells}
-use Rattle.router_rules.proofs.Tests.{style_told}
+use Rattle.rule_laws.proofs.Lists.{got_with_rows, to_values}
+use Rattle.rule_laws.proofs.Rooms.{room_tells}
+use Rattle.rule_laws.proofs.Tests.{style_told}
 use Rattle.router_laws.specs.BoundLaws.{IsFit, IsFitList}
 use Rattle.router_laws.specs.FrameLaws.{AreSameButMarks}
 use Rattle.router_laws.proofs.Framing.{act_senders, act_wants}

@@ -31,8 +31,8 @@ use Rattle.router_rules.specs.Books.{book, lines, lines_of}
 use Rattle.router_rules.specs.Bounds.{AreBooked}
 use Rattle.router_rules.specs.Facts.{Facts, Resvs, ResvState, resvs_of, with_resvs}
 use Rattle.router_rules.specs.Place.{Place}
-use Rattle.router_rules.proofs.Leaving.{table_other, table_put}
-use Rattle.router_rules.proofs.Requesting.{lines_told, to_lines}
+use Rattle.rule_laws.proofs.Leaving.{table_other, table_put}
+use Rattle.rule_laws.proofs.Requesting.{lines_told, to_lines}
 
 -- ---- two styles are one, or are not
 pub style_same : (a b : StyleKind) → (a ≡ b) ⊎ (a ≡ b → ⊥)

@@ -28,9 +28,9 @@ use Rattle.router_rules.specs.Forgetting.{forget, is_lost}
 use Rattle.router_rules.specs.Inputs.{Input, Call, Wait, Clear, Came, Moved, Spelt, Unspelt}
 use Rattle.router_rules.specs.Known.{known}
 use Rattle.router_rules.specs.Place.{Place, goes_out, lifetime, period}
-use Rattle.router_rules.specs.RuleLaws.{IsLeft}
-use Rattle.router_rules.proofs.Leaving.{got_forget, left_told, table_other, waiting_leaves_the_living}
-use Rattle.router_rules.proofs.Receiving.{resv_tears_by_names}
+use Rattle.rule_laws.specs.RuleLaws.{IsLeft}
+use Rattle.rule_laws.proofs.Leaving.{got_forget, left_told, table_other, waiting_leaves_the_living}
+use Rattle.rule_laws.proofs.Receiving.{resv_tears_by_names}
 use Rattle.router_laws.specs.BoundLaws.{AreFewer, IsFit, IsLeftOf, clock_after}
 use Rattle.router_laws.specs.Steps.{facts_then}
 use Rattle.router_laws.proofs.Folding.{Keeps, names_listed, unit_shape, units_keep}

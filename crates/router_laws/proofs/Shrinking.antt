@@ -22,7 +22,7 @@ use Rattle.router_rules.specs.Books.{book, line_of, lines, lines_of}
 use Rattle.router_rules.specs.Bounds.{AreBooked}
 use Rattle.router_rules.specs.Facts.{Facts, Resvs, ResvState, resvs_of}
 use Rattle.router_rules.specs.Place.{Place}
-use Rattle.router_rules.proofs.Requesting.{lines_told, to_lines}
+use Rattle.rule_laws.proofs.Requesting.{lines_told, to_lines}
 use Rattle.router_laws.specs.BoundLaws.{AreFewer, FewerFactsSmallerBook, IsLeftOf, ResvsAreShaped}
 
 -- ---- lines of a table

@@ -20,7 +20,6 @@ use Rattle.rsvp_messages.specs.declared.message.PathTearMsg.{PathTearMsg}
 use Rattle.style_rules.specs.Toward.{or_else}
 use Rattle.router_rules.specs.Act.{act}
 use Rattle.router_rules.specs.Asking.{ask_of}
-use Rattle.router_rules.specs.FactLaws.{is_way}
 use Rattle.router_rules.specs.Facts.{Facts, PathState}
 use Rattle.router_rules.specs.Inputs.{ErrMsg, Input, OfPath, OfResv, Send, Wait}
 use Rattle.router_rules.specs.Known.{Lane, known, lanes}
@@ -28,14 +27,15 @@ use Rattle.router_rules.specs.Offers.{Offer, OfferKey, offer_at, offers}
 use Rattle.router_rules.specs.Place.{Place, goes_out, own, period}
 use Rattle.router_rules.specs.Requests.{toward}
 use Rattle.router_rules.specs.Rule.{is_silent, settled, spoken}
-use Rattle.router_rules.specs.SendLaws.{IsConf, IsError, IsPath, IsPathTear, IsResv, IsResvTear, IsSend}
 use Rattle.router_rules.specs.Sends.{confirm_for, error_message, is_changed, is_new_offer, path_send, resv_send}
-use Rattle.router_rules.proofs.Knowing.{has-known}
-use Rattle.router_rules.proofs.Lists.{passed, some_is}
-use Rattle.router_rules.proofs.Offering.{offers_by_way}
-use Rattle.router_rules.proofs.Requesting.{requests_and_toward}
-use Rattle.router_rules.proofs.Ruling.{rule_in_parts}
-use Rattle.router_rules.proofs.Sending.{sends_are_of_six_kinds}
+use Rattle.rule_laws.specs.FactLaws.{is_way}
+use Rattle.rule_laws.specs.SendLaws.{IsConf, IsError, IsPath, IsPathTear, IsResv, IsResvTear, IsSend}
+use Rattle.rule_laws.proofs.Knowing.{has-known}
+use Rattle.rule_laws.proofs.Lists.{passed, some_is}
+use Rattle.rule_laws.proofs.Offering.{offers_by_way}
+use Rattle.rule_laws.proofs.Requesting.{requests_and_toward}
+use Rattle.rule_laws.proofs.Ruling.{rule_in_parts}
+use Rattle.rule_laws.proofs.Sending.{sends_are_of_six_kinds}
 use Rattle.router_laws.specs.SpeakingLaws.{IsLocalOffer, IsOfGoneOffer, IsOfOffer, IsPathOffer, IsPathRefresh, IsResvRefresh, RefreshesAreMarked, WhatAPathSentSays, WhyAPathTearIsSent}
 use Rattle.router_laws.specs.Steps.{facts_then, fired_then, sent_then}
 use Rattle.router_laws.proofs.Counting.{reached}

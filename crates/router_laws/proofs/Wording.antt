@@ -45,29 +45,29 @@ use Rattle.style_rules.proofs.StyleLaws.{cut_of_style, fixed_parts, wild_parts}
 use Rattle.router_rules.specs.declared.answers.Heard.TheVariants as heard
 use Rattle.router_rules.specs.declared.answers.Why.TheVariants as why
 use Rattle.router_rules.specs.Act.{act, act_spelt, is_mine}
-use Rattle.router_rules.specs.AskLaws.{IsBookRefusal, IsLoss, IsTaken}
 use Rattle.router_rules.specs.Asking.{Asker, act_resv, ask_of, ask_of_part, asker_of, asked_of, flow_at, flows_by_sender, lost, matched, names_that_match, nothing_taken, refusal, style_conflict, taking, taking_of, unmatched}
 use Rattle.router_rules.specs.Bounds.{IsWantShape, IsWantShaped, IsWithinBounds}
 use Rattle.router_rules.specs.Confirming.{confs_heard, confs_on}
 use Rattle.router_rules.specs.Errors.{blamed, errors_on, lane_of, path_err, path_err_on, replied, reply_to}
-use Rattle.router_rules.specs.ErrorLaws.{IsPathReply, IsResvReply}
-use Rattle.router_rules.specs.FactLaws.{IsResvRequest, IsWantRequest}
 use Rattle.router_rules.specs.Facts.{Facts, PathState, ResvState, Want, WantKey, resvs_of}
 use Rattle.router_rules.specs.Inputs.{Asked, Call, Came, Clear, ConfSend, ErrSend, Input, Moved, Send, Spelt, Unspelt, Wait}
 use Rattle.router_rules.specs.Known.{Lane, known, named_as, names_via, names_via_where, via}
 use Rattle.router_rules.specs.Place.{Place, goes_out, is_own}
 use Rattle.router_rules.specs.Requests.{requests, toward, want_part}
 use Rattle.router_rules.specs.Rule.{settled}
-use Rattle.router_rules.specs.SendLaws.{IsConf, IsError, IsPath, IsPathTear, IsResv, IsResvTear}
 use Rattle.router_rules.specs.Sends.{conf_for, confirmed, error_message, goes_on, gone_names, tear_of, without_scope}
-use Rattle.router_rules.proofs.Answering.{faults_by_hint}
-use Rattle.router_rules.proofs.Lists.{passed, some_same}
-use Rattle.router_rules.proofs.Receiving.{conf_told}
-use Rattle.router_rules.proofs.Requesting.{request_told, requests_and_toward}
-use Rattle.router_rules.proofs.Ruling.{rule_in_parts}
-use Rattle.router_rules.proofs.Erring.{errors_once_each}
-use Rattle.router_rules.proofs.Wholes.{takes_told}
-use Rattle.router_rules.proofs.Wholes.{errors_told as unit_errors_told}
+use Rattle.rule_laws.specs.AskLaws.{IsBookRefusal, IsLoss, IsTaken}
+use Rattle.rule_laws.specs.ErrorLaws.{IsPathReply, IsResvReply}
+use Rattle.rule_laws.specs.FactLaws.{IsResvRequest, IsWantRequest}
+use Rattle.rule_laws.specs.SendLaws.{IsConf, IsError, IsPath, IsPathTear, IsResv, IsResvTear}
+use Rattle.rule_laws.proofs.Answering.{faults_by_hint}
+use Rattle.rule_laws.proofs.Lists.{passed, some_same}
+use Rattle.rule_laws.proofs.Receiving.{conf_told}
+use Rattle.rule_laws.proofs.Requesting.{request_told, requests_and_toward}
+use Rattle.rule_laws.proofs.Ruling.{rule_in_parts}
+use Rattle.rule_laws.proofs.Erring.{errors_once_each}
+use Rattle.rule_laws.proofs.Wholes.{takes_told}
+use Rattle.rule_laws.proofs.Wholes.{errors_told as unit_errors_told}
 use Rattle.router_laws.specs.BoundLaws.{IsFit, clock_after}
 use Rattle.router_laws.specs.ProperLaws.{WhatIsSentIsProper}
 use Rattle.router_laws.specs.SpeakingLaws.{IsLocalOffer, IsPathOffer}

@@ -18,7 +18,6 @@ use Rattle.router_rules.specs.declared.answers.Heard.TheVariants as heard
 use Rattle.router_rules.specs.Asking.{taking}
 use Rattle.router_rules.specs.Bounds.{IsWithinBounds}
 use Rattle.router_rules.specs.Errors.{blamed}
-use Rattle.router_rules.specs.FactLaws.{ComesBy}
 use Rattle.router_rules.specs.Facts.{Facts, ResvState, Walls, resvs_of}
 use Rattle.router_rules.specs.Inputs.{Came, ErrSend, Input, Send, Spelt}
 use Rattle.router_rules.specs.Known.{Lane}
@@ -26,6 +25,7 @@ use Rattle.router_rules.specs.Place.{Place, own}
 use Rattle.router_rules.specs.Requests.{toward}
 use Rattle.router_rules.specs.Rule.{rule}
 use Rattle.router_rules.specs.Sends.{error_send}
+use Rattle.rule_laws.specs.FactLaws.{ComesBy}
 use Rattle.router_laws.specs.ReservationLaws.{IsListed}
 use Rattle.router_laws.specs.Steps.{sent_then}
 

@@ -9,10 +9,10 @@ use Rattle.rsvp_messages.specs.declared.message.PathErrMsg.{PathErrMsg}
 use Rattle.rsvp_messages.specs.declared.message.ResvErrMsg.{ResvErrMsg}
 use Rattle.router_rules.specs.Bounds.{IsWithinBounds}
 use Rattle.router_rules.specs.Errors.{blockade_of, is_admission, walled_by}
-use Rattle.router_rules.specs.FactLaws.{ComesBy}
 use Rattle.router_rules.specs.Facts.{Blockade, Facts, WallKey}
 use Rattle.router_rules.specs.Inputs.{Came, Input, Spelt}
 use Rattle.router_rules.specs.Place.{Place, own}
+use Rattle.rule_laws.specs.FactLaws.{ComesBy}
 use Rattle.router_laws.specs.FrameLaws.{AreSameButMarks}
 use Rattle.router_laws.specs.Steps.{facts_then}
 use Rattle.rsvp_base.specs.declared.addr.Addr.{Addr}

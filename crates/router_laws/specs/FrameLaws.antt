@@ -8,7 +8,7 @@ use Rattle.router_rules.specs.Facts.{Facts, Want, WantKey, Wants}
 use Rattle.router_rules.specs.Forgetting.{forget}
 use Rattle.router_rules.specs.Inputs.{Local, SendAs, DropAs, WantAs, QuitAll, Input, Call, Wait, Clear, Came, Moved, Spelt, Unspelt}
 use Rattle.router_rules.specs.Place.{Place}
-use Rattle.router_rules.specs.RuleLaws.{IsWant}
+use Rattle.rule_laws.specs.RuleLaws.{IsWant}
 use Rattle.router_laws.specs.Steps.{facts_then, is_calm}
 
 -- ---- which kinds of message may change a table

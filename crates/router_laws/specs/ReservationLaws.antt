@@ -18,16 +18,16 @@ use Rattle.style_rules.specs.Lines.{LineKey}
 use Rattle.style_rules.specs.Parts.{has_name}
 use Rattle.router_rules.specs.Asking.{ask_of, asker_of, matched}
 use Rattle.router_rules.specs.Bounds.{IsWithinBounds}
-use Rattle.router_rules.specs.FactLaws.{ComesBy}
 use Rattle.router_rules.specs.Facts.{Facts, ResvState, resvs_of}
 use Rattle.router_rules.specs.Forgetting.{is_lost}
 use Rattle.router_rules.specs.Inputs.{Call, Came, Clear, Input, Moved, Send, Spelt, Unspelt, Wait}
 use Rattle.router_rules.specs.Known.{Lane, known, lanes, named_as, names_via}
-use Rattle.router_rules.specs.MessageLaws.{IsGone}
 use Rattle.router_rules.specs.Place.{Place, lifetime, own, period}
 use Rattle.router_rules.specs.Requests.{toward}
-use Rattle.router_rules.specs.RuleLaws.{IsLeft}
 use Rattle.router_rules.specs.Sends.{hop_to, tear_of}
+use Rattle.rule_laws.specs.FactLaws.{ComesBy}
+use Rattle.rule_laws.specs.MessageLaws.{IsGone}
+use Rattle.rule_laws.specs.RuleLaws.{IsLeft}
 use Rattle.router_laws.specs.BoundLaws.{IsLeftOf}
 use Rattle.router_laws.specs.Steps.{facts_then, fired_then, sent_then}
 

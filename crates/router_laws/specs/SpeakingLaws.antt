@@ -12,7 +12,6 @@ use Rattle.rsvp_messages.specs.declared.message.PathTearMsg.{PathTearMsg}
 use Rattle.rsvp_messages.specs.declared.message.ResvMsg.{ResvMsg}
 use Rattle.router_rules.specs.Asking.{ask_of}
 use Rattle.router_rules.specs.Bounds.{IsWithinBounds}
-use Rattle.router_rules.specs.FactLaws.{is_way}
 use Rattle.router_rules.specs.Facts.{Facts, PathState}
 use Rattle.router_rules.specs.Inputs.{Input, Send, Wait}
 use Rattle.router_rules.specs.Known.{Lane, known}
@@ -20,6 +19,7 @@ use Rattle.router_rules.specs.Offers.{Offer, OfferKey, offer_at, offers}
 use Rattle.router_rules.specs.Place.{Place, goes_out, own, period}
 use Rattle.router_rules.specs.Requests.{toward}
 use Rattle.router_rules.specs.Sends.{is_new_offer, path_send, resv_send}
+use Rattle.rule_laws.specs.FactLaws.{is_way}
 use Rattle.router_laws.specs.Steps.{facts_then, fired_then, sent_then}
 
 -- ---- an offer is of a local sender, with its words, or else of path state, with those of its Path

@@ -6,9 +6,9 @@ use Rattle.rsvp_base.specs.declared.style.StyleKind.TheVariants.{Wild, Fixed, Sh
 use Rattle.rsvp_base.specs.Table.{get}
 use Rattle.style_rules.specs.Limits.{IsWithinLimits}
 use Rattle.style_rules.specs.Lines.{LineKey}
+use Rattle.router_rules.specs.BoundRows.{NoFactsAreWithinBounds}
 use Rattle.router_rules.specs.Books.{lines_of}
 use Rattle.router_rules.specs.Facts.{ResvState, no_facts, resvs_of}
-use Rattle.router_rules.specs.MessageLaws.{NoFactsAreWithinBounds}
 
 no_resv : (st : StyleKind) (k : LineKey) (r : ResvState) → get (resvs_of st no_facts) k ≡ Some r → ⊥
 no_resv Wild k r e = cc

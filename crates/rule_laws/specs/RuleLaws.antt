@@ -1,0 +1,135 @@
+-- What the rule leaves, table by table: the claims of the public laws on waiting, forgetting, countdowns, Resvs and errors.
+use Rattle.std.specs.Prelude.{◌≡◌, not, ℕ, ◌+◌, ◌<◌, ◌≤◌, ◌⊎◌, ◌↔◌, Bool, true, false, cond, List, [], Some, None}
+use Rattle.std.specs.Option.{unwrap_or}
+use Rattle.admission_book.specs.declared.refused.Refused.{Refused}
+use Rattle.rsvp_base.specs.declared.part.Part.{Part}
+use Rattle.rsvp_base.specs.declared.session.Sender.{Sender}
+use Rattle.rsvp_base.specs.declared.session.Session.{Session}
+use Rattle.rsvp_base.specs.declared.style.StyleKind.{StyleKind}
+use Rattle.rsvp_base.specs.declared.style.Unit.{Unit as UnitOf}
+use Rattle.rsvp_base.specs.Members.{In}
+use Rattle.rsvp_base.specs.Orders.{Names}
+use Rattle.rsvp_base.specs.Table.{get, has, kept, changed}
+use Rattle.rsvp_base.specs.TokenBucket.{TokenBucket}
+use Rattle.rsvp_messages.specs.declared.message.ResvErrMsg.{ResvErrMsg}
+use Rattle.rsvp_messages.specs.Units.{AskedUnit}
+use Rattle.style_rules.specs.Lines.{LineKey}
+use Rattle.style_rules.specs.Parts.{has_name, part_of}
+use Rattle.router_rules.specs.Act.{act}
+use Rattle.router_rules.specs.Asking.{Asker, Taking, book_refuses, has_room, key_at, left_of, names_that_match, resv_state, table_with, take_unit, take_units}
+use Rattle.router_rules.specs.Errors.{blockade_of, is_admission, walled_by, walls_with}
+use Rattle.router_rules.specs.Facts.{Facts, Blockade, PathState, Resvs, ResvState, ResvTables, SenderKey, WallKey, Walls, Want, WantKey, each_table, resvs_of, table_of, with_resvs}
+use Rattle.router_rules.specs.Forgetting.{counted, forget, is_lost, remembered, settle}
+use Rattle.router_rules.specs.Inputs.{ErrSend, Input}
+use Rattle.router_rules.specs.Known.{Lane, known, named_as}
+use Rattle.router_rules.specs.Place.{Place, period}
+use Rattle.router_rules.specs.Requests.{toward}
+use Rattle.router_rules.specs.Rule.{is_silent, rule, settled}
+use Rattle.router_rules.specs.Sends.{sends, unmarked, used_marks}
+use Rattle.router_rules.specs.Waiting.{act_wait, next_due}
+
+-- ---- one table of reservations for each style
+pub record TablesByStyle : Type 0 where
+  pub each : (st : StyleKind) (g : StyleKind → Resvs → Resvs) (ts : ResvTables) → table_of st (each_table g ts) ≡ g st (table_of st ts)
+  pub put : (st : StyleKind) (t : Resvs) (f : Facts) → resvs_of st (with_resvs st t f) ≡ t
+  pub other : (st other : StyleKind) (t : Resvs) (f : Facts) → (st ≡ other → ⊥) → resvs_of st (with_resvs other t f) ≡ resvs_of st f
+
+-- ---- waiting: what dies later than the clock stays as it is, and what is due moves
+pub record WaitingLeavesTheLiving : Type 0 where
+  pub of_paths : (p : Place) (c word : ℕ) (f : Facts) (k : SenderKey) (x : PathState) → (get (act_wait p c word f).facts.paths k ≡ Some x) ↔ ((get f.paths k ≡ Some x) × (c < x.dies))
+  pub of_resvs : (p : Place) (c word : ℕ) (f : Facts) (st : StyleKind) (k : LineKey) (r : ResvState) → (get (resvs_of st (act_wait p c word f).facts) k ≡ Some r) ↔ ((get (resvs_of st f) k ≡ Some r) × (c < r.dies))
+  pub of_walls : (p : Place) (c word : ℕ) (f : Facts) (k : WallKey) (b : Blockade) → (get (act_wait p c word f).facts.walls k ≡ Some b) ↔ ((get f.walls k ≡ Some b) × (c < b.dies))
+  pub of_due : (p : Place) (c word : ℕ) (f : Facts) (s : Session) (t : ℕ) → get f.due s ≡ Some t → get (act_wait p c word f).facts.due s ≡ Some (next_due p c word t)
+  pub of_fired : (p : Place) (c word : ℕ) (f : Facts) (s : Session) → (has (act_wait p c word f).fired s ≡ true) ↔ ((t : ℕ) × (get f.due s ≡ Some t) × (t ≤ c))
+
+-- ---- what is left of a reservation: the names that stay, if one does, and all else as it was
+pub record IsLeft (stays : Sender → Bool) (r x : ResvState) : Type 0 where
+  pub senders : x.part.senders ≡ kept stays r.part.senders
+  pub flow : x.part.flow ≡ r.part.flow
+  pub confirm : x.confirm ≡ r.confirm
+  pub dies : x.dies ≡ r.dies
+  pub named : has_name x.part ≡ true
+
+pub record LeftByNames : Type 0 where
+  pub told : (stays : Sender → Bool) (r x : ResvState) → left_of stays r ≡ Some x → IsLeft stays r x
+  -- something is left where one name stays
+  pub some : (stays : Sender → Bool) (r : ResvState) (s : Sender) → has r.part.senders s ≡ true → stays s ≡ true → (x : ResvState) × (left_of stays r ≡ Some x)
+  pub whole : (stays : Sender → Bool) (r : ResvState) → has_name r.part ≡ true → ((s : Sender) → has r.part.senders s ≡ true → stays s ≡ true) → left_of stays r ≡ Some r
+  pub nobody : (stays : Sender → Bool) (r : ResvState) → ((s : Sender) → has r.part.senders s ≡ true → stays s ≡ false) → left_of stays r ≡ None
+
+-- ---- forgetting
+pub record ForgettingByNames : Type 0 where
+  pub at : (before after : Facts) (st : StyleKind) (k : LineKey) (x : ResvState) → get (resvs_of st (forget before after)) k ≡ Some x → (r : ResvState) × (get (resvs_of st after) k ≡ Some r) × (remembered st before after k r ≡ Some x)
+  pub lost : (st : StyleKind) (before after : Facts) (s : Session) (x : Sender) → (is_lost st before after s x ≡ true) ↔ ((has (named_as st (known before s)) x ≡ true) × (has (named_as st (known after s)) x ≡ false))
+  -- a reservation that loses no name stays as it is
+  pub stays : (before after : Facts) (st : StyleKind) (k : LineKey) (r : ResvState) → get (resvs_of st after) k ≡ Some r → has_name r.part ≡ true → ((x : Sender) → has r.part.senders x ≡ true → is_lost st before after k.0 x ≡ false)
+      → get (resvs_of st (forget before after)) k ≡ Some r
+  -- one that keeps a name stays with the names that it keeps
+  pub some : (before after : Facts) (st : StyleKind) (k : LineKey) (r : ResvState) (s : Sender) → get (resvs_of st after) k ≡ Some r → has r.part.senders s ≡ true → is_lost st before after k.0 s ≡ false
+      → (x : ResvState) × (get (resvs_of st (forget before after)) k ≡ Some x) × IsLeft (λ y. not (is_lost st before after k.0 y)) r x
+  -- and one that loses all goes
+  pub goes : (before after : Facts) (st : StyleKind) (k : LineKey) (r : ResvState) → get (resvs_of st after) k ≡ Some r → ((x : Sender) → has r.part.senders x ≡ true → is_lost st before after k.0 x ≡ true)
+      → get (resvs_of st (forget before after)) k ≡ None
+
+-- ---- countdowns
+abbrev pub CountdownsSettle : Type 0
+CountdownsSettle = (p : Place) (c : ℕ) (f : Facts) (s : Session) → get (settle p c f).due s ≡ cond (has (counted f) s) (Some (unwrap_or (get f.due s) (c + period p))) None
+
+-- ---- the units of a Resv, one by one
+-- a reservation that a unit of the list made
+pub record IsOfUnit (o : Asker) (all : Names) (us : List AskedUnit) (k : LineKey) (r : ResvState) : Type 0 where
+  pub unit : AskedUnit
+  pub asks : In unit us
+  pub key : k ≡ key_at o unit.unit
+  pub senders : r.part.senders ≡ names_that_match unit.names all
+  pub flow : r.part.flow ≡ unit.flow
+  pub named : has_name r.part ≡ true
+  pub dies : r.dies ≡ o.dies
+
+pub record UnitsOneByOne : Type 0 where
+  -- a unit that has room and is not refused takes its place
+  pub taken : (p : Place) (o : Asker) (f : Facts) (all : Names) (t : Taking) (u : AskedUnit) (part : Part) → part_of (names_that_match u.names all) u.flow ≡ Some part → has_room o u.unit part t.table ≡ true
+      → book_refuses p o f u.unit part t.table ≡ None → (take_unit p o f all t u).table ≡ table_with o u.unit part t.table
+  -- one that is refused, or left out, or has nobody, changes no reservation
+  pub refused : (p : Place) (o : Asker) (f : Facts) (all : Names) (t : Taking) (u : AskedUnit) (part : Part) (why : Refused) → part_of (names_that_match u.names all) u.flow ≡ Some part → has_room o u.unit part t.table ≡ true
+      → book_refuses p o f u.unit part t.table ≡ Some why → (take_unit p o f all t u).table ≡ t.table
+  pub left_out : (p : Place) (o : Asker) (f : Facts) (all : Names) (t : Taking) (u : AskedUnit) (part : Part) → part_of (names_that_match u.names all) u.flow ≡ Some part → has_room o u.unit part t.table ≡ false
+      → ((take_unit p o f all t u).table ≡ t.table) × ((take_unit p o f all t u).left_out ≡ true)
+  pub nobody : (p : Place) (o : Asker) (f : Facts) (all : Names) (t : Taking) (u : AskedUnit) → part_of (names_that_match u.names all) u.flow ≡ None → (take_unit p o f all t u).table ≡ t.table
+  -- its place is that of its next hop and unit, and no other reservation changes
+  pub at : (o : Asker) (u : UnitOf) (part : Part) (t : Resvs) → get (table_with o u part t) (key_at o u) ≡ Some (resv_state o part (get t (key_at o u)))
+  pub beside : (o : Asker) (u : UnitOf) (part : Part) (t : Resvs) (k : LineKey) → (k ≡ key_at o u → ⊥) → get (table_with o u part t) k ≡ get t k
+  -- so what stands after all of them stood before, or is of one of them
+  pub source : (p : Place) (o : Asker) (f : Facts) (all : Names) (us : List AskedUnit) (t : Taking) (k : LineKey) (r : ResvState) → get (take_units p o f all t us).table k ≡ Some r → (get t.table k ≡ Some r) ⊎ IsOfUnit o all us k r
+  pub others : (p : Place) (o : Asker) (f : Facts) (all : Names) (us : List AskedUnit) (t : Taking) (k : LineKey) → ((u : AskedUnit) → In u us → k ≡ key_at o u.unit → ⊥) → get (take_units p o f all t us).table k ≡ get t.table k
+  -- and a refusal that was made stays made
+  pub errors : (p : Place) (o : Asker) (f : Facts) (all : Names) (us : List AskedUnit) (t : Taking) (e : ErrSend) → In e t.errors → In e (take_units p o f all t us).errors
+
+-- ---- what errors blockade
+pub record ErrorsAndWalls : Type 0 where
+  -- a blockade was there, or the error set it
+  pub source : (p : Place) (c e : ℕ) (m : ResvErrMsg) (w : Walls) (k : WallKey) (b : Blockade) → get (walls_with p c e m m.blame.flow w) k ≡ Some b
+      → (get w k ≡ Some b) ⊎ ((flow : TokenBucket) × (m.blame.flow ≡ Some flow) × (is_admission m.err ≡ true) × In k (walled_by e m m.blame.style) × (b ≡ blockade_of p c m flow))
+  pub set : (p : Place) (c e : ℕ) (m : ResvErrMsg) (w : Walls) (k : WallKey) (flow : TokenBucket) → is_admission m.err ≡ true → In k (walled_by e m m.blame.style) → get (walls_with p c e m (Some flow) w) k ≡ Some (blockade_of p c m flow)
+
+-- ---- the rule in its parts
+-- a want keeps all but its mark
+pub record IsWant (w x : Want) : Type 0 where
+  pub style : x.style ≡ w.style
+  pub part : x.part ≡ w.part
+
+pub record RuleInParts : Type 0 where
+  pub senders : (old p : Place) (c : ℕ) (i : Input) (f : Facts) → (rule old p c i f).facts.senders ≡ (act p c i f).facts.senders
+  pub paths : (old p : Place) (c : ℕ) (i : Input) (f : Facts) → (rule old p c i f).facts.paths ≡ (act p c i f).facts.paths
+  pub walls : (old p : Place) (c : ℕ) (i : Input) (f : Facts) → (rule old p c i f).facts.walls ≡ (act p c i f).facts.walls
+  pub resvs : (old p : Place) (c : ℕ) (i : Input) (f : Facts) → (rule old p c i f).facts.resvs ≡ (forget f (act p c i f).facts).resvs
+  pub due : (old p : Place) (c : ℕ) (i : Input) (f : Facts) → (rule old p c i f).facts.due ≡ (settle p c (act p c i f).facts).due
+  pub wants : (old p : Place) (c : ℕ) (i : Input) (f : Facts) (k : WantKey) (x : Want) → get (rule old p c i f).facts.wants k ≡ Some x → (w : Want) × (get (act p c i f).facts.wants k ≡ Some w) × IsWant w x
+  -- each want is still there, its mark used where a request that holds it was sent for a change
+  pub marks : (old p : Place) (c : ℕ) (i : Input) (f : Facts) → is_silent i ≡ false → (rule old p c i f).facts.wants ≡ changed (unmarked (used_marks old p f (settled p c f (act p c i f).facts) (act p c i f).asked)) (act p c i f).facts.wants
+  pub quiet : (old p : Place) (c : ℕ) (i : Input) (f : Facts) → is_silent i ≡ true → (rule old p c i f).facts.wants ≡ (act p c i f).facts.wants
+  pub heard : (old p : Place) (c : ℕ) (i : Input) (f : Facts) → (rule old p c i f).heard ≡ (act p c i f).heard
+  pub loud : (old p : Place) (c : ℕ) (i : Input) (f : Facts) → is_silent i ≡ false → (rule old p c i f).sent ≡ sends old p f (settled p c f (act p c i f).facts) (act p c i f)
+  pub silent : (old p : Place) (c : ℕ) (i : Input) (f : Facts) → is_silent i ≡ true → (rule old p c i f).sent ≡ []
+  -- marks do not matter to what goes toward a hop
+  pub toward_same : (old p : Place) (c : ℕ) (i : Input) (f : Facts) (l : Lane) → toward p (rule old p c i f).facts l ≡ toward p (settled p c f (act p c i f).facts) l
