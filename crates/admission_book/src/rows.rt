@@ -2,10 +2,11 @@
 ghost use Rattle.std.specs.Prelude.{◌≡◌, ◌<◌, ◌≤◌, length, IsSome, IsErr, IfOk, IfErr, OnErr, slice_get, slice_index_or, vec_len, vec_capacity};
 ghost use Rattle.std.specs.Result.{ForOk, ForErr};
 ghost use Rattle.rsvp_base.specs.Keys.{numbers};
+ghost use Rattle.rsvp_base.specs.Rows.{HasRowAt, LacksRowAt};
 ghost use Rattle.rsvp_base.specs.Under.{rows_under};
 ghost use Rattle.admission_book.specs.EntryKeys.{entry_keys, places};
 ghost use Rattle.admission_book.specs.Book.{changed_at};
-ghost use Rattle.admission_book.specs.Rows.{IsRising, StandsAt, GoesTo, as_entries, entries_of, own};
+ghost use Rattle.admission_book.specs.Rows.{IsRising, as_entry, as_entries, entries_of, own};
 
 use crate::key::EntryKey;
 use crate::row::Row;
@@ -22,8 +23,8 @@ fn order(row: &Row, iface: u8, key: &EntryKey) -> Ordering
 // Where the entry's row stands, or where it would go.
 pub(crate) fn search(rows: &[Row], iface: u8, key: &EntryKey) -> Result<usize, usize>
     requires { IsRising rows.now }
-    ensures there { IfOk result (StandsAt rows.now (iface, key.now)) }
-    ensures absent { IfErr result (GoesTo rows.now (iface, key.now)) }
+    ensures there { IfOk result (HasRowAt places as_entry rows.now (iface, key.now)) }
+    ensures absent { IfErr result (LacksRowAt places as_entry rows.now (iface, key.now)) }
 {
     rows.binary_search_by(|row| order(row, iface, key))
 }
@@ -51,8 +52,8 @@ pub(crate) fn change(
     key: EntryKey,
     now: Option<Flow>,
 )
-    requires there { ForOk place (StandsAt rows.old.items (iface, key)) }
-    requires absent { ForErr place (GoesTo rows.old.items (iface, key)) }
+    requires there { ForOk place (HasRowAt places as_entry rows.old.items (iface, key)) }
+    requires absent { ForErr place (LacksRowAt places as_entry rows.old.items (iface, key)) }
     requires room { IsErr place → IsSome now → vec_len rows.old < 3072 }
     requires few { vec_len rows.old ≤ 3072 }
     requires capacity { 3072 ≤ vec_capacity rows.old }

@@ -22,9 +22,9 @@ module _ {K X : Type 0} (o : Keys K) where
   in_rows k v (e ∷ es) h i =
       ⊎_elim (λ (q : (k, v) ≡ e). subst (λ (z : K × X). find o.cmp k (z ∷ es) ≡ Some v) q (ap (λ b. cond b (Some v) (find o.cmp k es)) (tied_self o k)))
       (λ (j : In (k, v) es).
-      let rest : find o.cmp k es ≡ Some v = in_rows k v es (second _ _ h) j in
+      let rest : find o.cmp k es ≡ Some v = in_rows k v es (second (below_all o.cmp e.0 es) (is_sorted o.cmp es) h) j in
       either (eq_by_cmp o.cmp k e.0)
-      (λ t. let none : find o.cmp k es ≡ None = ap (λ q. find o.cmp q es) (tied_same o k e.0 t) ∙ none_above o e.0 es (first _ _ h) in let z : Some v ≡ None = sym rest ∙ none in absurd (cc))
+      (λ t. let none : find o.cmp k es ≡ None = ap (λ q. find o.cmp q es) (tied_same o k e.0 t) ∙ none_above o e.0 es (first (below_all o.cmp e.0 es) (is_sorted o.cmp es) h) in let z : Some v ≡ None = sym rest ∙ none in absurd (cc))
       (λ t. ap (λ b. cond b (Some e.1) (find o.cmp k es)) t ∙ rest)) i
 
   -- a row is what stands under its key
@@ -65,7 +65,7 @@ module _ {K X : Type 0} (o : Keys K) where
       let g : find o.cmp k es ≡ Some y = sym (ap (λ b. cond b (Some z.1) (find o.cmp k es)) t) ∙ e in
       let keep : where_key o.cmp (λ x. not (eq_by_cmp o.cmp k x)) (z ∷ es) ≡ z ∷ where_key o.cmp (λ x. not (eq_by_cmp o.cmp k x)) es =
       ap (λ b. cond (not b) (z ∷ where_key o.cmp (λ x. not (eq_by_cmp o.cmp k x)) es) (where_key o.cmp (λ x. not (eq_by_cmp o.cmp k x)) es)) t in
-      let rest : sum_by w es ≡ w (k, y) + sum_by w (where_key o.cmp (λ x. not (eq_by_cmp o.cmp k x)) es) = sum_rows-without w k y es (second _ _ h) g in
+      let rest : sum_by w es ≡ w (k, y) + sum_by w (where_key o.cmp (λ x. not (eq_by_cmp o.cmp k x)) es) = sum_rows-without w k y es (second (below_all o.cmp z.0 es) (is_sorted o.cmp es) h) g in
       let all = sum_by-cons w z es in
       let others = sum_by-cons w z (where_key o.cmp (λ x. not (eq_by_cmp o.cmp k x)) es) in
       rw keep (omega (arith, rest, all, others)))
@@ -82,7 +82,7 @@ module _ {K X Y : Type 0} (o : Keys K) where
       let here : find o.cmp e.0 (e ∷ es) ≡ Some e.1 = ap (λ b. cond b (Some e.1) (find o.cmp e.0 es)) (tied_self o e.0) in
       let a = u e.0 e.1 here in
       let s : sum_by v t.rows ≡ v (e.0, a.0) + sum_by v (without t e.0).rows = sum-without o v t e.0 a.0 a.1 in
-      let rest : sum_by w es ≤ sum_by v (without t e.0).rows = sum_rows w v es (without t e.0) (second _ _ h) (λ k x g. lower k x g) in
+      let rest : sum_by w es ≤ sum_by v (without t e.0).rows = sum_rows w v es (without t e.0) (second (below_all o.cmp e.0 es) (is_sorted o.cmp es) h) (λ k x g. lower k x g) in
       let all = sum_by-cons w e es in
       omega (arith, s, rest, all, a.2)
     where

@@ -4,6 +4,7 @@ use Rattle.std.proofs.Common.{◌≤◌, sym, ap, subst, ◌∙◌, arith, T, ge
 use Rattle.std.proofs.Math.Seq.{take-length}
 use Rattle.std.proofs.lemmas.List.{length-map, take-append-le}
 use Rattle.std.specs.List.{insert, refill}
+use Rattle.std.specs.Result.{is_ok}
 use Rattle.std.specs.FinMap.Entries.{find, put, is_sorted}
 use Rattle.std.specs.List.Sorted.{IsBinarySearchResult, IsSearchInRange}
 use Rattle.rsvp_base.specs.Keys.{Keys}
@@ -38,6 +39,11 @@ module _ {A K X : Type 0} (o : Keys K) (row : A → K × X) where
         absent = find_absent o row k xs i range parts;
         inserted = λ a v e. put_absent o row k v a e xs i range parts;
       }
+
+  -- a row was found exactly where the key has one
+  pub found_where_some : (xs : List A) (k : K) (r : Result ℕ ℕ) → IfOk r (HasRowAt o row xs k) → IfErr r (LacksRowAt o row xs k) → is_ok r ≡ is_some (find o.cmp k (each row xs))
+  found_where_some xs k (Ok i) has lacks = by_some xs i has.within (λ d. sym (ap is_some (has.found d)))
+  found_where_some xs k (Err i) has lacks = sym (ap is_some lacks.absent)
 
   -- rows in order are the table that has them
   pub table_is : (xs : List A) (up : AreRows o row xs) (m : Table o X) → each row xs ≡ m.rows → table_of o row xs up ≡ m

@@ -1,5 +1,5 @@
 -- The limits of tables by session and something of it, as senders or units: at most 32 sessions, and 16 of each.
-use Rattle.std.specs.Prelude.{ℕ, ◌≤◌, nat_le, Bool, ◌&&◌, map as each}
+use Rattle.std.specs.Prelude.{◌≤◌, nat_le, Bool, ◌&&◌, map as each}
 use Rattle.rsvp_base.specs.Keys.{Keys, pairs}
 use Rattle.rsvp_base.specs.Sets.{Set, set_of}
 use Rattle.rsvp_base.specs.Table.{Table, keys, size}

@@ -1,7 +1,7 @@
-use Rattle.std.proofs.Common.{arith, sym, ap, ◌∙◌}
+use Rattle.std.proofs.Common.{arith, refl, sym, ap, ◌∙◌}
 use Rattle.admission_book.specs.Book.{changed_at}
 use Rattle.admission_book.specs.Rows.{entries_of}
-use Rattle.admission_book.proofs.RowLemmas.{unchanged}
+use Rattle.admission_book.proofs.RowLemmas.{row_of, unchanged}
 use Rattle.admission_book.proofs.rows.change.Goals as goal
 
 pub index_mut-requires : goal.index_mut-requires
@@ -13,7 +13,7 @@ remove-requires c = let stands = c.requires.there c.in-Ok-None.at c.in-Ok-None.i
 pub returns-in-Ok-Some-clause-rows : goal.returns-in-Ok-Some-clause-rows
 returns-in-Ok-Some-clause-rows c = λ up.
     let stands = c.requires.there c.in-Ok-Some.at c.in-Ok-Some.is-0 in
-    sym (stands.put c.in-Ok-Some.flow) ∙ ap (λ now. (changed_at (entries_of c.args.rows.now.items up) c.args.iface c.args.key now).rows) (sym c.in-Ok-Some.is-1)
+    sym (stands.replaced (row_of (c.args.iface, c.args.key) c.in-Ok-Some.flow) c.in-Ok-Some.flow refl) ∙ ap (λ now. (changed_at (entries_of c.args.rows.now.items up) c.args.iface c.args.key now).rows) (sym c.in-Ok-Some.is-1)
 
 pub returns-in-Err-None-clause-rows : goal.returns-in-Err-None-clause-rows
 returns-in-Err-None-clause-rows c = λ up.

@@ -4,11 +4,13 @@ use Rattle.std.proofs.lemmas.List.{get_or_default}
 use Rattle.std.proofs.lemmas.Option.{slice_get_read}
 use Rattle.std.proofs.lemmas.Result.{err_from_is_err_and}
 use Rattle.rsvp_base.specs.Table.{get, without}
+use Rattle.rsvp_base.proofs.Rows.{are_rows, table_is, size_rows}
 use Rattle.admission_book.specs.Book.{Bookings, Entries, changed_at}
 use Rattle.admission_book.specs.Charges.{charge, charges, refusal, refusal_beside}
-use Rattle.admission_book.specs.Rows.{entries_of}
+use Rattle.admission_book.specs.EntryKeys.{places}
+use Rattle.admission_book.specs.Rows.{as_entry, entries_of}
 use Rattle.admission_book.specs.Within.{IsKept}
-use Rattle.admission_book.proofs.RowLemmas.{charge_found, rising_as, entries_as, size_as, same_bookings}
+use Rattle.admission_book.proofs.RowLemmas.{charge_found, same_bookings}
 use Rattle.admission_book.proofs.ChargeLaws.{charges_at, others_at_most}
 use Rattle.admission_book.proofs.WithinLaws.{kept_after, refusal_on}
 use Rattle.admission_book.proofs.book.Book.try_change.Goals as goal
@@ -57,20 +59,21 @@ returns-in_err-sum-clause-cause c =
     rw (p.1, p.2) (asked d ∙ c.in_err-sum.ensures.cause)
 
 pub invariant_of-self-inside : goal.invariant_of-self-inside
-invariant_of-self-inside c = (rising_as c.change.new.rows.items (changed_at (entries_of c.self.inside.rows.items c.self.inside.rising) c.args.iface c.args.key c.args.now) (c.change.ensures.rows c.self.inside.rising), tt)
+invariant_of-self-inside c = (are_rows places as_entry c.change.new.rows.items (changed_at (entries_of c.self.inside.rows.items c.self.inside.rising) c.args.iface c.args.key c.args.now) (c.change.ensures.rows c.self.inside.rising), tt)
 
 pub invariant_of-self : goal.invariant_of-self
 invariant_of-self c =
     let d = (goal.at.invariant_of-self c).After-charge_at in
     let after = changed_at (book d).entries c.args.iface c.args.key c.args.now in
     let rows = c.change.ensures.rows c.self.inside.rising in
+    let up = are_rows places as_entry c.change.new.rows.items after rows in
     let taken = ap (λ (b : Bookings). refusal b c.args.iface c.args.key c.args.now) c.self.view_is ∙ asked d ∙ c.in_ok-sum.ensures.cause in
-    let kept = kept_after (book d) c.self.inside.held.items c.args.iface c.args.key c.args.now c.in_ok-sum.sum c.self.invariant.0 (there d) taken (c.in_ok-sum.ensures.sum ∙ ap (λ n. n + charge c.args.now) (others d)) (omega (arith, size_as c.change.new.rows.items after rows, c.change.ensures.few)) in
-    (subst (λ (t : Entries). IsKept (record { ifaces = (book d).ifaces; entries = t }) (slice_set c.self.inside.held.items c.args.iface c.in_ok-sum.sum)) (sym (entries_as c.change.new.rows.items _ after rows)) kept, c.change.ensures.capacity)
+    let kept = kept_after (book d) c.self.inside.held.items c.args.iface c.args.key c.args.now c.in_ok-sum.sum c.self.invariant.0 (there d) taken (c.in_ok-sum.ensures.sum ∙ ap (λ n. n + charge c.args.now) (others d)) (omega (arith, size_rows places as_entry c.change.new.rows.items up after (table_is places as_entry c.change.new.rows.items up after rows), c.change.ensures.few)) in
+    (subst (λ (t : Entries). IsKept (record { ifaces = (book d).ifaces; entries = t }) (slice_set c.self.inside.held.items c.args.iface c.in_ok-sum.sum)) (sym (table_is places as_entry c.change.new.rows.items _ after rows)) kept, c.change.ensures.capacity)
 
 pub returns-clause-ok : goal.returns-clause-ok
 returns-clause-ok c =
-    let changed = entries_as c.change.new.rows.items _ (changed_at (entries_of c.self.inside.rows.items c.self.inside.rising) c.args.iface c.args.key c.args.now) (c.change.ensures.rows c.self.inside.rising) in
+    let changed = table_is places as_entry c.change.new.rows.items _ (changed_at (entries_of c.self.inside.rows.items c.self.inside.rising) c.args.iface c.args.key c.args.now) (c.change.ensures.rows c.self.inside.rising) in
     same_bookings _ _ (ap (λ (b : Bookings). b.ifaces) c.self.view_is) (changed ∙ ap (λ (b : Bookings). changed_at b.entries c.args.iface c.args.key c.args.now) c.self.view_is)
 
 pub returns-clause-cause : goal.returns-clause-cause
