@@ -1,5 +1,5 @@
 -- The lines of a node's goal are counted by what the wants of each session take there.
-use Rattle.std.specs.Prelude.{◌≡◌, ◌↔◌, ◌⊎◌, ℕ, ◌+◌, ◌≤◌, ◌==◌, ◌||◌, Bool, true, false, cond, List, [], ◌∷◌, ◌++◌, map as each, length, sum_by, Some, None, refl}
+use Rattle.std.specs.Prelude.{◌≡◌, ◌↔◌, ◌⊎◌, ℕ, ◌+◌, ◌≤◌, ◌==◌, ◌||◌, Bool, true, false, cond, List, [], ◌∷◌, map as each, length, sum_by, Some, None, refl}
 use Rattle.std.specs.List.{filter, flat_map}
 use Rattle.std.specs.Ordering.{eq_by_cmp}
 use Rattle.std.specs.FinMap.Entries.{is_sorted}
@@ -18,7 +18,7 @@ use Rattle.rsvp_base.specs.declared.session.Session.{Session}
 use Rattle.rsvp_base.specs.declared.style.StyleKind.{StyleKind}
 use Rattle.rsvp_base.specs.declared.style.Unit.{Unit as UnitOf}
 use Rattle.rsvp_base.proofs.Counts.{in_found, set_of_in, set_below, size_below, size-set_of}
-use Rattle.rsvp_base.proofs.Members.{in_append, in_each, to_each, in_filter, to_filter, in_flat_map, to_flat_map}
+use Rattle.rsvp_base.proofs.Members.{in_each, to_each, in_filter, to_filter, in_flat_map, to_flat_map}
 use Rattle.rsvp_base.proofs.SetLaws.{has-with_key, size-with_key}
 use Rattle.rsvp_base.proofs.Tables.{either, tied_same, tied_self, none_above}
 use Rattle.style_rules.specs.Styles.{name_of}
@@ -29,6 +29,7 @@ use Rattle.tree_laws.specs.declared.hops.Hop.{Hop}
 use Rattle.tree_laws.specs.Networks.{Net, node_of}
 use Rattle.tree_laws.specs.Trees.{hops_of, goes_out_of}
 use Rattle.tree_laws.specs.Valid.{IsValid}
+use Rattle.tree_laws.proofs.Counts.{once_append}
 use Rattle.tree_laws.proofs.Following.{same_number, number_same, addr_same}
 use Rattle.tree_routing.specs.declared.group_hop.GroupHop.{GroupHop}
 use Rattle.tree_routing.specs.Order.{AreByRank}
@@ -44,11 +45,6 @@ use Rattle.network_demand.proofs.GoalLaws.{in_keys, from_hops, to_hops, line_tol
 use Rattle.network_demand.proofs.Inside.{end_there, ends_inside}
 
 -- ---- lists without repeats
-once_append : {A : Type 0} (xs ys : List A) → NoRepeats xs → NoRepeats ys → ((z : A) → In z xs → In z ys → ⊥) → NoRepeats (xs ++ ys)
-once_append [] ys a b apart = b
-once_append {A} (x ∷ xs) ys a b apart =
-    (λ i. ⊎_elim (λ (j : In x xs). a.0 j) (λ (j : In x ys). apart x (inl refl) j) (in_append x xs ys i), once_append xs ys a.1 b (λ z i j. apart z (inr i) j))
-
 once_flat : {A B : Type 0} (f : A → List B) (xs : List A) → NoRepeats xs → ((x : A) → In x xs → NoRepeats (f x)) → ((x y : A) (z : B) → In x xs → In y xs → In z (f x) → In z (f y) → x ≡ y) → NoRepeats (flat_map f xs)
 once_flat f [] once all apart = tt
 once_flat {A} f (x ∷ xs) once all apart =

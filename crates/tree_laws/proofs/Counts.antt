@@ -1,7 +1,14 @@
--- A list with no repeats is no longer than a list that has its members.
-use Rattle.std.proofs.Common.{◌≡◌, suc, ◌≤◌, List, [], ◌∷◌, length, inl, inr, arith, sym, refl, ◌∙◌, ap, subst}
+-- Lists with no repeats: put together; and none is longer than a list that has its members.
+use Rattle.std.proofs.Common.{◌≡◌, suc, ◌≤◌, List, [], ◌∷◌, ◌++◌, length, inl, inr, ⊎_elim, arith, sym, refl, ◌∙◌, ap, subst}
 use Rattle.rsvp_base.specs.Members.{In}
+use Rattle.rsvp_base.proofs.Members.{in_append}
 use Rattle.tree_laws.specs.Chains.{NoRepeats}
+
+-- two that have no member in common
+pub once_append : {A : Type 0} (xs ys : List A) → NoRepeats xs → NoRepeats ys → ((z : A) → In z xs → In z ys → ⊥) → NoRepeats (xs ++ ys)
+once_append [] ys a b apart = b
+once_append {A} (x ∷ xs) ys a b apart =
+    (λ i. ⊎_elim (λ (j : In x xs). a.0 j) (λ (j : In x ys). apart x (inl refl) j) (in_append x xs ys i), once_append xs ys a.1 b (λ z i j. apart z (inr i) j))
 
 -- the list without one of its members
 abbrev pub but : {A : Type 0} (x : A) (ys : List A) → In x ys → List A

@@ -29,33 +29,28 @@ found : (number : ℕ) (ends : List End) (n i e : ℕ) → slice_get (ends_from 
 found number [] n i e is = cc
 found number (x ∷ xs) n i e is = by (x.node == n) refl i is (found (number + 1) xs n)
   where
-    later : (j : ℕ) → (x.node == n) ≡ true → Found (number + 1) xs n j e → Found number (x ∷ xs) n (suc j) e
-    later j t f =
+    -- one place further on
+    behind : (i j : ℕ) → (f : Found (number + 1) xs n j e) → length (ends_from number (x ∷ take f.place xs) n) ≡ i → Found number (x ∷ xs) n i e
+    behind i j f before =
         record {
           place = suc f.place;
           number_is = let z = f.number_is in omega arith;
           inside = let z = f.inside in omega arith;
           at = f.at;
-          before = ap (λ (b : Bool). length (if b then number ∷ ends_from (number + 1) (take f.place xs) n else ends_from (number + 1) (take f.place xs) n)) t ∙ ap suc f.before;
+          before = before;
         }
 
-    other : (j : ℕ) → (x.node == n) ≡ false → Found (number + 1) xs n j e → Found number (x ∷ xs) n j e
-    other j t f =
-        record {
-          place = suc f.place;
-          number_is = let z = f.number_is in omega arith;
-          inside = let z = f.inside in omega arith;
-          at = f.at;
-          before = ap (λ (b : Bool). length (if b then number ∷ ends_from (number + 1) (take f.place xs) n else ends_from (number + 1) (take f.place xs) n)) t ∙ f.before;
-        }
+    -- how many stand before it, by whether the first is of the node
+    counted : (b : Bool) → (x.node == n) ≡ b → (k : ℕ) → length (ends_from number (x ∷ take k xs) n) ≡ length (if b then number ∷ ends_from (number + 1) (take k xs) n else ends_from (number + 1) (take k xs) n)
+    counted b t k = ap (λ (b : Bool). length (if b then number ∷ ends_from (number + 1) (take k xs) n else ends_from (number + 1) (take k xs) n)) t
 
     by : (b : Bool) → (x.node == n) ≡ b → (i : ℕ) → slice_get (if b then number ∷ ends_from (number + 1) xs n else ends_from (number + 1) xs n) i ≡ Some e
         → ((j e' : ℕ) → slice_get (ends_from (number + 1) xs n) j ≡ Some e' → Found (number + 1) xs n j e') → Found number (x ∷ xs) n i e
     by true t zero is rest =
         let here : number ≡ e = cc in
         record { place = 0; number_is = omega arith; inside = omega arith; at = same_number x.node n t; before = refl }
-    by true t (suc j) is rest = later j t (rest j e is)
-    by false t i is rest = other i t (rest i e is)
+    by true t (suc j) is rest = let f = rest j e is in behind (suc j) j f (counted true t f.place ∙ ap suc f.before)
+    by false t i is rest = let f = rest i e is in behind i i f (counted false t f.place ∙ f.before)
 
 pub interfaces_are_ends : (net : Net) → InterfacesAreEnds net
 interfaces_are_ends net =

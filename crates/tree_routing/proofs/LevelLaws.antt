@@ -244,7 +244,7 @@ module _ (nodes : ℕ) (ends : List End) (links : List Link) (ks : List Known) (
       omega arith
 
   -- each follower stands behind an edge
-  edge_of : (g : Addr) (a b : Hop) → Follows net g a b → (k : Known) × In k ks × (k.hop.group ≡ g) × (k.hop.hop ≡ b) × (k.before ≡ Some (vertex_at ks g a))
+  pub edge_of : (g : Addr) (a b : Hop) → Follows net g a b → (k : Known) × In k ks × (k.hop.group ≡ g) × (k.hop.hop ≡ b) × (k.before ≡ Some (vertex_at ks g a))
   edge_of g a b f =
       let x = tree_known ks g f.source a f.first in
       let k = tree_known ks g f.source b f.second in

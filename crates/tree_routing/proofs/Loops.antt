@@ -24,6 +24,7 @@ use Rattle.tree_routing.specs.declared.hop_err.HopErr.{HopErr}
 use Rattle.tree_routing.specs.declared.hop_err.HopErr.TheVariants.{NotTree, Loop, NoMemory}
 use Rattle.tree_routing.specs.Answers.{with_hop, Fits, IsUpTo, IsLeastOnLoop, HopAnswer}
 use Rattle.tree_routing.specs.Checks.{IsBetween, Closes, IsLeastBetween, LoopAnswer}
+use Rattle.tree_routing.proofs.LevelLaws.{edge_of}
 use Rattle.tree_routing.proofs.MarkLaws.{walk_none, walk_step, walk_on}
 use Rattle.tree_routing.proofs.Vertices.{place_kept, place_new, pair_made, pair_itself, one_pair, tree_known, known_tree, comes_told, comes_made, before_told, before_found}
 
@@ -190,19 +191,8 @@ module _ (nodes : ℕ) (ends : List End) (links : List Link) (ks : List Known) (
 
   old_edge : (a b : Hop) → Old a b → Edge ks (v a) (v b)
   old_edge a b f =
-      let x = tree_known ks g f.source a f.first in
-      let k = tree_known ks g f.source b f.second in
-      let to : node_of ends x.0.hop.hop.to ≡ node_of ends k.0.hop.hop.from = ap (λ (y : Hop). node_of ends y.to) x.4 ∙ sym f.meet ∙ ap (λ (y : Hop). node_of ends y.from) (sym k.4) in
-      let y = before_found ends k.0.hop ks x.0 x.1 (comes_made ends k.0.hop x.0 (x.2 ∙ sym k.2) (x.3 ∙ sym k.3) to) in
-      let c = comes_told ends k.0.hop y.0 y.2 in
-      let in_both : In y.0.hop.hop (tree (plain ks) g f.source) = subst (λ (s : Addr). In y.0.hop.hop (tree (plain ks) g s)) (c.1 ∙ k.3) (subst (λ (a : Addr). In y.0.hop.hop (tree (plain ks) a y.0.hop.source)) (c.0 ∙ k.2) (known_tree ks y.0 y.1)) in
-      let is : y.0.hop.hop ≡ a = one net valid g f.source y.0.hop.hop a in_both f.first (c.2 ∙ ap (λ (z : Hop). node_of ends z.from) k.4 ∙ f.meet) in
-      record {
-        known = k.0;
-        among = k.1;
-        before = (known k.0 k.1).before ∙ y.3 ∙ ap Some (kept_vertex a y.0 y.1 (c.0 ∙ k.2) is);
-        vertex = kept_vertex b k.0 k.1 k.2 k.4;
-      }
+      let k = edge_of nodes ends links ks valid known g a b f in
+      record { known = k.0; among = k.1; before = k.4; vertex = kept_vertex b k.0 k.1 k.2 k.3 }
 
   old_leads : (a b : Hop) → Walk Old a b → walks.Leads ks (v a) (v b)
   old_leads a b w = by a w.path w.steps w.ends

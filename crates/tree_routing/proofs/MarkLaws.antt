@@ -2,7 +2,7 @@
 use Rattle.std.specs.Prelude.{◌≡◌, ◌⊎◌, ℕ, ◌+◌, ◌<◌, ◌≤◌, Bool, true, false, ◌&&◌, ◌||◌, List, [], ◌∷◌, length, Option, None, Some, slice_set, replicate, refl, if◌then◌else◌}
 use Rattle.std.proofs.Common.{zero, suc, sym, ap, subst, ◌∙◌, inl, inr, ⊎_elim, arith}
 use Rattle.rsvp_base.specs.Members.{In}
-use Rattle.rsvp_base.proofs.SetLaws.{and_both}
+use Rattle.rsvp_base.proofs.SetLaws.{or_either, and_both}
 use Rattle.rsvp_base.proofs.Tables.{either}
 use Rattle.tree_laws.specs.Chains.{last_of}
 use Rattle.tree_routing.specs.declared.known.Known.{Known}
@@ -106,10 +106,6 @@ pass_keeps (k ∷ ks) ms w e = pass_keeps ks (along k.before k.vertex ms) w (alo
 or_parts : (a b : Bool) → (a || b) ≡ false → (a ≡ false) × (b ≡ false)
 or_parts true b e = cc
 or_parts false b e = (refl, e)
-
-or_either : (a b : Bool) → (a || b) ≡ true → (a ≡ true) ⊎ (b ≡ true)
-or_either true b e = inl refl
-or_either false b e = inr e
 
 -- where none moves, a pass changes nothing
 pub still : (ks : List Known) (ms : List Bool) → moves ks ms ≡ false → pass ks ms ≡ ms
