@@ -1,37 +1,37 @@
 -- Where reservations come from, and what keeps them.
-use Rattle.std.specs.Prelude.{◌≡◌, ℕ, ◌<◌, ◌⊎◌, ◌==◌, Bool, true, false, not, [], ◌&&◌, Option, Some, None, refl}
+use Rattle.std.specs.Prelude.{◌≡◌, ℕ, ◌<◌, ◌⊎◌, Bool, true, false, not, [], ◌&&◌, Option, Some, None, refl}
 use Rattle.std.proofs.Common.{sym, ap, subst, ◌∙◌, inl, inr, ⊎_elim}
-use Rattle.std.proofs.lemmas.Bool.{eqb-true}
+use Rattle.std.specs.Ordering.{eq_by_cmp}
 use Rattle.rsvp_base.specs.declared.addr.Addr.{Addr}
 use Rattle.rsvp_base.specs.declared.session.Sender.{Sender}
 use Rattle.rsvp_base.specs.declared.session.Session.{Session}
 use Rattle.rsvp_base.specs.declared.style.StyleKind.{StyleKind}
 use Rattle.rsvp_base.specs.declared.style.StyleKind.TheVariants.{Wild, Fixed, Shared}
 use Rattle.rsvp_base.specs.Members.{In}
-use Rattle.rsvp_base.specs.Orders.{Names, senders}
+use Rattle.rsvp_base.specs.Orders.{Names, senders, sessions}
 use Rattle.rsvp_base.specs.Table.{get, has}
 use Rattle.rsvp_base.proofs.SetLaws.{and_both, has-cut}
-use Rattle.rsvp_base.proofs.Tables.{either}
+use Rattle.rsvp_base.proofs.Tables.{either, tied_same}
 use Rattle.rsvp_messages.specs.declared.message.Message.{Message}
 use Rattle.rsvp_messages.specs.declared.message.Message.TheVariants as message
 use Rattle.rsvp_messages.specs.declared.message.ResvMsg.{ResvMsg}
 use Rattle.rsvp_messages.specs.declared.message.ResvTearMsg.{ResvTearMsg}
 use Rattle.rsvp_messages.specs.Units.{AskedUnit, ask_style, asked_units, tear_style}
-use Rattle.style_rules.specs.Lines.{LineKey}
+use Rattle.style_rules.specs.Lines.{LineKey, NextHop, is_of_hop, next_hops}
 use Rattle.style_rules.specs.Parts.{has_name}
 use Rattle.router_rules.specs.Act.{act, act_spelt, is_mine}
-use Rattle.router_rules.specs.Asking.{Asker, act_resv, act_resv_tear, asker_of, is_of_hop, key_at, matched, names_that_match, nothing_taken, taking_of}
+use Rattle.router_rules.specs.Asking.{Asker, act_resv, act_resv_tear, asker_of, key_at, matched, names_that_match, nothing_taken, taking_of}
 use Rattle.router_rules.specs.Bounds.{IsWithinBounds}
 use Rattle.router_rules.specs.Facts.{Facts, ResvState, Resvs, resvs_of}
 use Rattle.router_rules.specs.Forgetting.{is_lost}
 use Rattle.router_rules.specs.Inputs.{Call, Came, Clear, Input, Moved, Spelt, Unspelt, Wait}
 use Rattle.router_rules.specs.Known.{known, named_as}
-use Rattle.router_rules.specs.Place.{Place, is_addr, is_session, own}
+use Rattle.router_rules.specs.Place.{Place, own}
 use Rattle.rule_laws.specs.RuleLaws.{IsOfUnit}
 use Rattle.rule_laws.proofs.Leaving.{forgetting_by_names, table_other, waiting_leaves_the_living}
 use Rattle.rule_laws.proofs.Receiving.{resv_tears_by_names}
 use Rattle.rule_laws.proofs.Taking.{units_other, units_source}
-use Rattle.rule_laws.proofs.Tests.{addr_told, session_told}
+use Rattle.rule_laws.proofs.Tests.{addr_told}
 use Rattle.rule_laws.proofs.Wholes.{resvs_in_steps}
 use Rattle.router_laws.specs.BoundLaws.{IsLeftOf}
 use Rattle.router_laws.specs.ReservationLaws.{IsAskedFor, IsListed, SpeaksOf, Touches, TouchesBy, WhatKeepsAReservationFact, WhereAReservationFactComesFrom}
@@ -156,9 +156,9 @@ module _ (p : Place) (c e : ℕ) (m : ResvMsg) (f : Facts) (k : LineKey) (apart 
 -- the next hop of a ResvTear, by its parts
 of_hop_told : (s : Session) (e : ℕ) (a : Addr) (k : LineKey) → is_of_hop s (e, a) k ≡ true → (s ≡ k.0) × (e ≡ k.1.0.0) × (a ≡ k.1.0.1)
 of_hop_told s e a k h =
-    let r = and_both (is_session k.0 s) ((k.1.0.0 == e) && is_addr k.1.0.1 a) h in
-    let t = and_both (k.1.0.0 == e) (is_addr k.1.0.1 a) r.1 in
-    (sym (session_told k.0 s r.0), sym (eqb-true k.1.0.0 e t.0), sym (addr_told k.1.0.1 a t.1))
+    let r = and_both (eq_by_cmp sessions.cmp s k.0) (eq_by_cmp next_hops.cmp (e, a) k.1.0) h in
+    let hop = tied_same next_hops (e, a) k.1.0 r.1 in
+    (tied_same sessions s k.0 r.0, ap (λ (n : NextHop). n.0) hop, ap (λ (n : NextHop). n.1) hop)
 
 module _ (p : Place) (c : ℕ) (f : Facts) (st : StyleKind) (k : LineKey) (r : ResvState) (there : get (resvs_of st f) k ≡ Some r) where
   kept_by_resv : (e : ℕ) (m : ResvMsg) → (SpeaksOf m.session e m.hop.addr (ask_style m.ask) st k → ⊥) → get (resvs_of st (act_resv p c e m f).facts) k ≡ Some r

@@ -1,5 +1,5 @@
 -- A Resv is taken or refused unit by unit, and torn down (RFC 2205, 3.5 and appendix B; RFC 2209, 2: Resv, ResvTear).
-use Rattle.std.specs.Prelude.{ℕ, ◌+◌, ◌==◌, nat_le, nat_lt, Bool, true, false, cond, not, ◌&&◌, ◌||◌, List, [], ◌∷◌, ◌++◌, map as each, Option, Some, None}
+use Rattle.std.specs.Prelude.{ℕ, ◌+◌, nat_le, nat_lt, Bool, true, false, cond, not, ◌&&◌, ◌||◌, List, [], ◌∷◌, ◌++◌, map as each, Option, Some, None}
 use Rattle.std.specs.List.{flat_map, list_any}
 use Rattle.std.specs.Option.{option_map}
 use Rattle.admission_book.specs.declared.refused.Refused.{Refused}
@@ -24,9 +24,9 @@ use Rattle.rsvp_messages.specs.declared.message.ResvMsg.{ResvMsg}
 use Rattle.rsvp_messages.specs.declared.message.ResvTearMsg.{ResvTearMsg}
 use Rattle.rsvp_messages.specs.FlowTable.{FlowTable}
 use Rattle.rsvp_messages.specs.Units.{AskedUnit, asked_units, ask_style, tear_style, tear_names}
-use Rattle.style_rules.specs.Lines.{NextHop, next_hops, LineKey, EntryKey}
+use Rattle.style_rules.specs.Lines.{NextHop, next_hops, LineKey, EntryKey, is_of_hop}
 use Rattle.style_rules.specs.Merge.{table_at, PartTable}
-use Rattle.style_rules.specs.Parts.{part_of}
+use Rattle.style_rules.specs.Parts.{part_kept, part_of}
 use Rattle.router_rules.specs.declared.answers.Heard.{Heard}
 use Rattle.router_rules.specs.declared.answers.Heard.TheVariants as heard
 use Rattle.router_rules.specs.declared.answers.Why.TheVariants as why
@@ -35,7 +35,7 @@ use Rattle.router_rules.specs.Books.{refused as refused_entry}
 use Rattle.router_rules.specs.Facts.{Facts, ResvState, Resvs, resvs_of, with_resvs, resvs_in, wants_in}
 use Rattle.router_rules.specs.Inputs.{Change, only_heard, Asked, ErrMsg, ErrSend, OfPath, OfResv, in_order}
 use Rattle.router_rules.specs.Known.{known, named_as}
-use Rattle.router_rules.specs.Place.{Place, goes_out, lifetime, own, is_addr, is_session}
+use Rattle.router_rules.specs.Place.{Place, goes_out, lifetime, own}
 use Rattle.router_rules.specs.Requests.{is_style}
 
 -- ---- who asks
@@ -267,18 +267,13 @@ abbrev pub act_resv : Place → ℕ → ℕ → ResvMsg → Facts → Change
 act_resv p c e m f = end_taking (asker_of p c e m) f (taking p c e m f)
 
 -- ---- what is left of a reservation when names leave it, if a name is left
-abbrev pub with_part : ResvState → Option Part → Option ResvState
-with_part r None = None
-with_part r (Some part) = Some (record r { part = part })
+abbrev pub with_part : ResvState → Part → ResvState
+with_part r part = record r { part = part }
 
 abbrev pub left_of : (Sender → Bool) → ResvState → Option ResvState
-left_of stays r = with_part r (part_of (kept stays r.part.senders) r.part.flow)
+left_of stays r = option_map (with_part r) (part_kept stays r.part)
 
 -- ---- ResvTear
--- the reservations of a session and next hop
-abbrev pub is_of_hop : Session → NextHop → LineKey → Bool
-is_of_hop s hop k = is_session k.0 s && ((k.1.0.0 == hop.0) && is_addr k.1.0.1 hop.1)
-
 -- without a list nobody stays
 abbrev pub stays : Option Names → Sender → Bool
 stays None x = false

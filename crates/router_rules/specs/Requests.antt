@@ -1,7 +1,8 @@
 -- What is asked for toward a previous hop (RFC 2205, 2.2 and 3.5): reservations and local wants, each cut to the senders
 -- whose Paths come from there, and blockaded or not; and their merge.
-use Rattle.std.specs.Prelude.{Bool, false, cond, ◌++◌, List, Option, Some, None}
+use Rattle.std.specs.Prelude.{Bool, cond, ◌++◌, List, Option, Some, None}
 use Rattle.std.specs.List.{list_any, filter_map}
+use Rattle.std.specs.Option.{option_map}
 use Rattle.std.specs.Ordering.{eq_by_cmp}
 use Rattle.rsvp_base.specs.declared.part.Part.{Part}
 use Rattle.rsvp_base.specs.declared.style.StyleKind.{StyleKind}
@@ -10,14 +11,14 @@ use Rattle.rsvp_base.specs.declared.style.Unit.{Unit as UnitOf}
 use Rattle.rsvp_base.specs.Orders.{styles, Names}
 use Rattle.rsvp_base.specs.Table.{get, keys}
 use Rattle.rsvp_base.specs.TokenBucket.{TokenBucket}
-use Rattle.flow_merge.specs.Blockade.{does_blockade}
+use Rattle.style_rules.specs.declared.wall.Wall.{Wall}
 use Rattle.style_rules.specs.Lines.{NextHop}
 use Rattle.style_rules.specs.Merge.{PartTable}
 use Rattle.style_rules.specs.Parts.{part_of, part_cut}
-use Rattle.style_rules.specs.Toward.{Request}
+use Rattle.style_rules.specs.Toward.{Request, is_walled}
 use Rattle.style_rules.specs.Toward.{toward as merged_toward}
 use Rattle.router_rules.specs.declared.target.Target.TheVariants as target
-use Rattle.router_rules.specs.Facts.{Facts, ResvState, Want, Blockade, Walls, resvs_in, wants_in}
+use Rattle.router_rules.specs.Facts.{Facts, ResvState, Want, Blockade, WallKey, Walls, resvs_in, wants_in}
 use Rattle.router_rules.specs.Known.{Lane, names_via, names_via_where}
 use Rattle.router_rules.specs.Place.{Place, goes_out}
 
@@ -25,15 +26,14 @@ abbrev pub is_style : StyleKind → StyleKind → Bool
 is_style a b = eq_by_cmp styles.cmp a b
 
 -- ---- blockaded
-abbrev pub is_walled : TokenBucket → Option Blockade → Bool
-is_walled asked None = false
-is_walled asked (Some b) = does_blockade b.wall.flow b.wall.sub asked
+abbrev pub wall_at : Walls → WallKey → Option Wall
+wall_at w k = option_map (λ (b : Blockade). b.wall) (get w k)
 
 abbrev pub is_hop_walled : Walls → Lane → TokenBucket → Bool
-is_hop_walled w l asked = is_walled asked (get w (l.session, target.Hop l.hop.0 l.hop.1))
+is_hop_walled w l asked = is_walled asked (wall_at w (l.session, target.Hop l.hop.0 l.hop.1))
 
 abbrev pub is_sender_walled : Walls → Lane → Part → Bool
-is_sender_walled w l p = list_any (λ s. is_walled p.flow (get w (l.session, target.Sender s))) (keys p.senders)
+is_sender_walled w l p = list_any (λ s. is_walled p.flow (wall_at w (l.session, target.Sender s))) (keys p.senders)
 
 -- a wildcard request by the blockade of the hop, another by that of any sender that it has there
 abbrev pub is_blockaded : StyleKind → Walls → Lane → Part → Bool

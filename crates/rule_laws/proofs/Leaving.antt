@@ -4,7 +4,7 @@ use Rattle.std.proofs.Common.{sym, ap, subst, ◌∙◌, arith}
 use Rattle.std.proofs.lemmas.Bool.Decides.{nat_tests}
 use Rattle.std.specs.FinMap.Entries.{find}
 use Rattle.std.proofs.lemmas.Bool.{ltb-true, lt-ltb, leb-true, le-leb}
-use Rattle.std.specs.Option.{unwrap_or}
+use Rattle.std.specs.Option.{option_map, unwrap_or}
 use Rattle.rsvp_base.specs.declared.part.Part.{Part}
 use Rattle.rsvp_base.specs.declared.session.Sender.{Sender}
 use Rattle.rsvp_base.specs.declared.session.Session.{Session}
@@ -50,6 +50,12 @@ table_other Fixed Shared t ts h = refl
 table_other Shared Wild t ts h = refl
 table_other Shared Fixed t ts h = refl
 table_other Shared Shared t ts h = absurd (h refl)
+
+-- a table put where it stood
+pub as_it_was : (st : StyleKind) (ts : ResvTables) → with_table st (table_of st ts) ts ≡ ts
+as_it_was Wild ts = refl
+as_it_was Fixed ts = refl
+as_it_was Shared ts = refl
 
 pub tables_by_style : TablesByStyle
 tables_by_style = record { each = table_of_each; put = λ st t f. table_put st t f.resvs; other = λ st other t f h. table_other st other t f.resvs h }
@@ -102,7 +108,7 @@ waiting_leaves_the_living =
 pub left_told : (stays : Sender → Bool) (r x : ResvState) → left_of stays r ≡ Some x → IsLeft stays r x
 left_told stays r x e = by (part_of (kept stays r.part.senders) r.part.flow) refl e
   where
-    by : (w : Option Part) → part_of (kept stays r.part.senders) r.part.flow ≡ w → with_part r w ≡ Some x → IsLeft stays r x
+    by : (w : Option Part) → part_of (kept stays r.part.senders) r.part.flow ≡ w → option_map (with_part r) w ≡ Some x → IsLeft stays r x
     by None is e = absurd (cc)
     by (Some part) is e =
         let same : ◌≡◌ {A = ResvState} (record r { part = part }) x = cc in
@@ -132,10 +138,10 @@ kept_all stays s all = same_set senders (kept stays s) s (λ x. has-kept senders
 
 pub left_whole : (stays : Sender → Bool) (r : ResvState) → has_name r.part ≡ true → ((s : Sender) → has r.part.senders s ≡ true → stays s ≡ true) → left_of stays r ≡ Some r
 left_whole stays r named all =
-    ap (λ names. with_part r (part_of names r.part.flow)) (kept_all stays r.part.senders all) ∙ ap (with_part r) (part_of_some r.part.senders r.part.flow (some_none r.part.senders named))
+    ap (λ names. option_map (with_part r) (part_of names r.part.flow)) (kept_all stays r.part.senders all) ∙ ap (option_map (with_part r)) (part_of_some r.part.senders r.part.flow (some_none r.part.senders named))
 
 pub left_nobody : (stays : Sender → Bool) (r : ResvState) → ((s : Sender) → has r.part.senders s ≡ true → stays s ≡ false) → left_of stays r ≡ None
-left_nobody stays r none = ap (with_part r) (part_of_none (kept stays r.part.senders) r.part.flow (nobody (is_none (kept stays r.part.senders)) refl))
+left_nobody stays r none = ap (option_map (with_part r)) (part_of_none (kept stays r.part.senders) r.part.flow (nobody (is_none (kept stays r.part.senders)) refl))
   where
     drop : (a b : Bool) → (a ≡ true → b ≡ false) → (a && b) ≡ true → ⊥
     drop true b h e = let z : true ≡ false = sym e ∙ h refl in cc
@@ -157,7 +163,7 @@ left_some stays r s there keeps =
     let member : has (kept stays r.part.senders) s ≡ true = has-kept senders stays r.part.senders s ∙ and_made _ _ there keeps in
     let some : is_none (kept stays r.part.senders) ≡ false = has_member (kept stays r.part.senders).rows s member in
     let part : Part = record { senders = kept stays r.part.senders; flow = r.part.flow } in
-    (record r { part = part }, ap (λ b. with_part r (cond b None (Some part))) some)
+    (record r { part = part }, ap (λ b. option_map (with_part r) (cond b None (Some part))) some)
 
 pub left_by_names : LeftByNames
 left_by_names = record { told = left_told; some = left_some; whole = left_whole; nobody = left_nobody }

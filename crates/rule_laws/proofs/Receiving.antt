@@ -3,8 +3,6 @@ use Rattle.std.specs.Prelude.{◌≡◌, ℕ, ◌⊎◌, Bool, true, false, cond
 use Rattle.std.proofs.Common.{sym, ap, ◌∙◌, inl, inr, ⊎_elim}
 use Rattle.std.specs.List.{filter_map}
 use Rattle.rsvp_base.specs.declared.session.Sender.{Sender}
-use Rattle.rsvp_base.specs.declared.style.StyleKind.{StyleKind}
-use Rattle.rsvp_base.specs.declared.style.StyleKind.TheVariants.{Wild, Fixed, Shared}
 use Rattle.rsvp_base.specs.declared.style.Unit.{Unit as UnitOf}
 use Rattle.rsvp_base.specs.Keys.{pairs}
 use Rattle.rsvp_base.specs.Members.{In}
@@ -22,18 +20,18 @@ use Rattle.rsvp_messages.specs.declared.message.PathTearMsg.{PathTearMsg}
 use Rattle.rsvp_messages.specs.declared.message.ResvConfMsg.{ResvConfMsg}
 use Rattle.rsvp_messages.specs.declared.message.ResvTearMsg.{ResvTearMsg}
 use Rattle.rsvp_messages.specs.Units.{ask_style, tear_names, tear_style}
-use Rattle.style_rules.specs.Lines.{LineKey, NextHop, line_keys, next_hops}
+use Rattle.style_rules.specs.Lines.{LineKey, NextHop, is_of_hop, line_keys, next_hops}
 use Rattle.router_rules.specs.declared.answers.Heard.TheVariants as heard
 use Rattle.router_rules.specs.declared.answers.Why.TheVariants as why
-use Rattle.router_rules.specs.Asking.{act_resv_tear, is_of_hop, left_of, names_one, stays, torn_resv, torn_resvs}
+use Rattle.router_rules.specs.Asking.{act_resv_tear, left_of, names_one, stays, torn_resv, torn_resvs}
 use Rattle.router_rules.specs.Confirming.{conf_on, confs_heard, confs_on, is_wish, speaks_of, with_confs}
-use Rattle.router_rules.specs.Facts.{Facts, PathState, Resvs, ResvState, ResvTables, resvs_in, resvs_of, table_of, with_resvs, with_table}
+use Rattle.router_rules.specs.Facts.{Facts, PathState, Resvs, ResvState, ResvTables, resvs_in, resvs_of, with_resvs}
 use Rattle.router_rules.specs.Inputs.{ConfSend, only_heard}
 use Rattle.router_rules.specs.Paths.{act_path, act_path_tear, is_path_by, learn, learn_inward, learnt, path_state, tear_path, torn_path, with_paths}
 use Rattle.router_rules.specs.Place.{Place, comes_in}
 use Rattle.rule_laws.specs.MessageLaws.{ConfirmationsByWish, IsConfOn, PathsByTests, ResvTearsByNames}
 use Rattle.rule_laws.specs.RuleLaws.{IsLeft}
-use Rattle.rule_laws.proofs.Leaving.{left_told, table_put}
+use Rattle.rule_laws.proofs.Leaving.{as_it_was, left_told, table_put}
 use Rattle.rule_laws.proofs.Lists.{got_with_rows, in_filter_map, in_values, passed, some_same, to_values}
 use Rattle.rule_laws.proofs.Once.{given_rise, last_stands, last_told, someone_last}
 
@@ -63,11 +61,6 @@ paths_by_tests =
     }
 
 -- ---- ResvTears
-pub as_it_was : (st : StyleKind) (ts : ResvTables) → with_table st (table_of st ts) ts ≡ ts
-as_it_was Wild ts = refl
-as_it_was Fixed ts = refl
-as_it_was Shared ts = refl
-
 -- the table that a ResvTear changes, after it
 torn_table : (e : ℕ) (m : ResvTearMsg) (f : Facts) → resvs_of (tear_style m.tear) (act_resv_tear e m f).facts ≡ torn_resvs (names_one m.session (e, m.hop.addr) (tear_names m.tear) (resvs_of (tear_style m.tear) f)) m.session (e, m.hop.addr) (tear_names m.tear) (resvs_of (tear_style m.tear) f)
 torn_table e m f = table_put (tear_style m.tear) _ f.resvs

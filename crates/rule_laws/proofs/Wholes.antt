@@ -22,8 +22,7 @@ use Rattle.router_rules.specs.Inputs.{ErrSend}
 use Rattle.router_rules.specs.Known.{known}
 use Rattle.router_rules.specs.Place.{Place}
 use Rattle.rule_laws.specs.AskLaws.{IsBookRefusal, IsLeftOut, IsLoss, IsTaken, IsTried, IsUnitAt, ResvsInSteps, UnitsInFull, book_refusal, told_before}
-use Rattle.rule_laws.proofs.Leaving.{table_other, table_put}
-use Rattle.rule_laws.proofs.Receiving.{as_it_was}
+use Rattle.rule_laws.proofs.Leaving.{as_it_was, table_other, table_put}
 use Rattle.rule_laws.proofs.Taking.{unit_by, units_errors}
 
 -- ---- units with all that is done

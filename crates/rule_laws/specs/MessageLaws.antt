@@ -15,12 +15,12 @@ use Rattle.rsvp_messages.specs.declared.message.PathTearMsg.{PathTearMsg}
 use Rattle.rsvp_messages.specs.declared.message.ResvConfMsg.{ResvConfMsg}
 use Rattle.rsvp_messages.specs.declared.message.ResvTearMsg.{ResvTearMsg}
 use Rattle.rsvp_messages.specs.Units.{AskedUnit, ask_style, asked_units, tear_names, tear_style}
-use Rattle.style_rules.specs.Lines.{LineKey, NextHop}
+use Rattle.style_rules.specs.Lines.{LineKey, NextHop, is_of_hop}
 use Rattle.style_rules.specs.Merge.{PartTable}
 use Rattle.style_rules.specs.Parts.{IsOfStyle, part_unit}
 use Rattle.router_rules.specs.declared.answers.Heard.TheVariants as heard
 use Rattle.router_rules.specs.declared.answers.Why.TheVariants as why
-use Rattle.router_rules.specs.Asking.{act_resv_tear, ask_of, is_of_hop, left_of, names_one, stays}
+use Rattle.router_rules.specs.Asking.{act_resv_tear, ask_of, left_of, names_one, stays}
 use Rattle.router_rules.specs.Confirming.{act_resv_conf, confs_on, is_wish, speaks_of}
 use Rattle.router_rules.specs.Facts.{Facts, PathState, ResvState, resvs_of}
 use Rattle.router_rules.specs.Inputs.{ConfSend, only_heard}
