@@ -26,7 +26,7 @@ use Rattle.style_rules.specs.Parts.{part_charge}
 use Rattle.style_rules.proofs.Books.{book_below, held_at_end_below, under_at_end}
 use Rattle.style_rules.proofs.Room.{within_below, within_tested}
 use Rattle.style_rules.proofs.StyleLaws.{named_in}
-use Rattle.router_rules.specs.Asking.{Asker, entry_at, has_room, table_with}
+use Rattle.router_rules.specs.Asking.{Asker, entry_at, has_room, key_at, resv_state, table_with}
 use Rattle.router_rules.specs.Books.{book, line_of, lines, lines_of}
 use Rattle.router_rules.specs.Facts.{Facts, Resvs, resvs_of, with_resvs}
 use Rattle.router_rules.specs.Place.{Place}
@@ -53,10 +53,10 @@ module _ (p : Place) (o : Asker) (f : Facts) (t : Resvs) (u : UnitOf) (part : Pa
   after_under l i =
       let s = lines_told after_it l i in
       ⊎_elim
-      (λ (new : IsPut p o f u part t s.style s.key s.resv).
+      (λ (new : IsPut p o.style (key_at o u) (resv_state o part (get t (key_at o u))) f t s.style s.key s.resv).
       let is : l ≡ line_at o u part = s.is ∙ (λ j. line_of (new.style j) (new.key j, new.is j)) in (place.0, place.1, under_as l (line_at o u part) place.0 is place.2))
       (λ (old : get (resvs_of s.style (with_resvs o.style t f)) s.key ≡ Some s.resv). there l (to_lines (with_resvs o.style t f) l (record { style = s.style; key = s.key; resv = s.resv; there = old; is = s.is })))
-      (put_source p o f u part t s.style s.key s.resv s.there)
+      (put_source p o.style (key_at o u) (resv_state o part (get t (key_at o u))) f t s.style s.key s.resv s.there)
 
   -- ---- room
   table_under : AreUnder (lines_of o.style (table_with o u part t)) gs

@@ -11,7 +11,7 @@ use Rattle.rsvp_base.specs.Table.{empty, get, has}
 use Rattle.rsvp_base.proofs.Tables.{either, get-changed, then_do}
 use Rattle.router_rules.specs.Act.{act, is_mine}
 use Rattle.router_rules.specs.Facts.{Facts}
-use Rattle.router_rules.specs.Forgetting.{counted}
+use Rattle.router_rules.specs.Forgetting.{counted, settle}
 use Rattle.router_rules.specs.Inputs.{Arrival, Input, Call, Wait, Clear, Came, Moved, Spelt, Unspelt}
 use Rattle.router_rules.specs.Place.{Place, period}
 use Rattle.router_rules.specs.Waiting.{next_due}
@@ -23,6 +23,13 @@ use Rattle.router_laws.specs.Steps.{facts_then, fired_then, is_calm}
 use Rattle.router_laws.proofs.Framing.{spelt_leaves}
 
 -- ---- after settling
+pub stands_settled : (p : Place) (c : ℕ) (f : Facts) (s : Session) → has (settle p c f).due s ≡ has (counted f) s
+stands_settled p c f s = ap is_some (countdowns_settle p c f s) ∙ by (has (counted f) s)
+  where
+    by : (b : Bool) → is_some (cond b (Some (unwrap_or (get f.due s) (c + period p))) None) ≡ b
+    by true = refl
+    by false = refl
+
 module _ (old p : Place) (c : ℕ) (i : Input) (f : Facts) (s : Session) where
   pub due_then : get (facts_then old p c i f).due s ≡ cond (has (counted (act p c i f).facts) s) (Some (unwrap_or (get (act p c i f).facts.due s) (c + period p))) None
   due_then = countdowns_settle p c (act p c i f).facts s
@@ -35,12 +42,8 @@ module _ (old p : Place) (c : ℕ) (i : Input) (f : Facts) (s : Session) where
       by true e = sym (some_same _ to e) ∙ ap (λ v. unwrap_or v (c + period p)) is
       by false e = absurd (cc)
 
-  pub stands_where : has (facts_then old p c i f).due s ≡ has (counted (facts_then old p c i f)) s
-  stands_where = ap is_some due_then ∙ by (has (counted (act p c i f).facts) s)
-    where
-      by : (b : Bool) → is_some (cond b (Some (unwrap_or (get (act p c i f).facts.due s) (c + period p))) None) ≡ b
-      by true = refl
-      by false = refl
+  stands_where : has (facts_then old p c i f).due s ≡ has (counted (facts_then old p c i f)) s
+  stands_where = stands_settled p c (act p c i f).facts s
 
 -- ---- what a calm input does by itself
 pub quiet_due : (p : Place) (c e : ℕ) (dst : Addr) (a : Arrival) (f : Facts) → ((act p c (Came e dst a) f).facts.due ≡ f.due) × ((act p c (Came e dst a) f).fired ≡ empty)

@@ -28,7 +28,7 @@ use Rattle.rule_laws.proofs.Leaving.{waiting_leaves_the_living}
 use Rattle.rule_laws.proofs.Lists.{some_same}
 use Rattle.router_laws.specs.AcceptingLaws.{CanBeHeld, IsPlaced, line_at}
 use Rattle.router_laws.specs.BoundLaws.{AreFewer, IsFit, IsSameNode}
-use Rattle.router_laws.specs.Examples.{AcceptanceHasExamples, BoundLawsHaveExamples, CountdownLawHasExamples, ErrorLawsHaveExamples, FrameLawsHaveExamples, PathLawsHaveExamples, SendLawsHaveExamples, half_later, of_port, one_path, one_resv, path_in, r, resv_in, resv_msg, the_lines, with_paths_of}
+use Rattle.router_laws.specs.Examples.{AcceptanceHasExamples, BoundLawsHaveExamples, CountdownLawHasExamples, ErrorLawsHaveExamples, FrameLawsHaveExamples, PathLawsHaveExamples, SendLawsHaveExamples, half_later, of_port, of_t, one_path, one_resv, path_in, r, reserved, resv_in, resv_msg, the_lines, with_paths_of}
 use Rattle.router_laws.specs.Steps.{facts_then}
 use Rattle.router_laws.proofs.Folding.{only_one}
 use Rattle.router_laws.proofs.Reserving.{forgotten_fewer}
@@ -110,7 +110,18 @@ later_fewer st k x e =
     let was = (waiting_leaves_the_living.of_resvs r 15000 0 one_resv st k left.0).0 left.1 in (left.0, was.0, left.2)
 
 pub bound_laws_have_examples : BoundLawsHaveExamples
-bound_laws_have_examples = record { same = same; path_fit = path_fit 5004; resv_fit = resv_fit; wait_fit = wait_fit; within = resv_within; fewer = later_fewer }
+bound_laws_have_examples =
+    record {
+      same = same;
+      path_fit = path_fit 5004;
+      resv_fit = resv_fit;
+      wait_fit = wait_fit;
+      within = resv_within;
+      fewer = later_fewer;
+      path_left = (record { later = omega arith; soon = omega arith }, record { iface = omega arith; tspec = sound });
+      resv_left = (resv_within.alive.resvs Wild of_t reserved refl, resv_within.shapes.resvs Wild of_t reserved refl);
+      wall_left = (record { later = omega arith; soon = omega arith }, record { iface = omega arith; flow = sound });
+    }
 
 -- ---- the line of the Resv
 abbrev capacity_of : Option Iface → ℕ

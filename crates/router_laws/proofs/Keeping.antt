@@ -29,18 +29,18 @@ use Rattle.router_rules.specs.Act.{act, act_spelt, is_mine}
 use Rattle.router_rules.specs.Bounds.{AreDue, IsTarget, LivesUpTo}
 use Rattle.router_rules.specs.Errors.{blamed_senders, blockade_of, is_admission, walled_by, walls_after, walls_with}
 use Rattle.router_rules.specs.Facts.{Blockade, Facts, PathState, Paths, SenderKey, WallKey, Walls, sender_keys, wall_keys}
-use Rattle.router_rules.specs.Forgetting.{counted}
+use Rattle.router_rules.specs.Forgetting.{counted, settle}
 use Rattle.router_rules.specs.Inputs.{Input, Call, Wait, Clear, Came, Moved, Spelt, Unspelt}
 use Rattle.router_rules.specs.Paths.{is_path_by, learn, learn_inward, learnt, path_state, tear_path, torn_path}
 use Rattle.router_rules.specs.Place.{Place, comes_in, period, wall_lifetime}
 use Rattle.router_rules.specs.Waiting.{next_due}
-use Rattle.rule_laws.proofs.Leaving.{waiting_leaves_the_living}
+use Rattle.rule_laws.proofs.Leaving.{countdowns_settle, waiting_leaves_the_living}
 use Rattle.rule_laws.proofs.Lists.{some_is, some_same}
 use Rattle.rule_laws.proofs.Telling.{errors_and_walls}
 use Rattle.router_laws.specs.BoundLaws.{IsFit, clock_after}
 use Rattle.router_laws.specs.PathLaws.{CameOnTree}
 use Rattle.router_laws.specs.Steps.{facts_then}
-use Rattle.router_laws.proofs.Counting.{due_then, quiet_due, stands_where}
+use Rattle.router_laws.proofs.Counting.{quiet_due, stands_settled}
 
 -- ---- paths
 -- what stands after an input lives longer than its clock
@@ -239,14 +239,16 @@ due_left p b Clear f s t fit some w e = absurd (cc)
 due_left p b Moved f s t fit some w e = w t e
 due_left p b (Came at dst a) f s t fit some w e = w t (ap (λ d. get d s) (sym (quiet_due p b at dst a f).0) ∙ e)
 
+-- countdowns that live, once settled
+pub due_settled : (p : Place) (c : ℕ) (f : Facts) → 1 ≤ p.quarter → ((s : Session) (t : ℕ) → get f.due s ≡ Some t → LivesUpTo c (6 * p.quarter) t) → AreDue p c (settle p c f)
+due_settled p c f some lives = record { counted = λ s. stands_settled p c f s; moment = λ s t e. at s t (has (counted f) s) (get f.due s) refl (sym (countdowns_settle p c f s) ∙ e) }
+  where
+    at : (s : Session) (t : ℕ) (z : Bool) (v : Option ℕ) → get f.due s ≡ v → cond z (Some (unwrap_or v (c + period p))) None ≡ Some t → LivesUpTo c (6 * p.quarter) t
+    at s t false v is e = absurd (cc)
+    at s t true None is e = let same : c + period p ≡ t = some_same _ t e in record { later = omega (arith, same, some); soon = omega (arith, same) }
+    at s t true (Some u) is e = subst (LivesUpTo c (6 * p.quarter)) (some_same u t e) (lives s u is)
+
 pub due_within : (old p : Place) (b : ℕ) (i : Input) (f : Facts) → IsFit p i → 1 ≤ p.quarter → AreDue p b f → AreDue p (clock_after b i) (facts_then old p (clock_after b i) i f)
 due_within old p b i f fit some w =
-    record {
-      counted = λ s. stands_where old p (clock_after b i) i f s;
-      moment = λ s t e. at s t (has (counted (act p (clock_after b i) i f).facts) s) (get (act p (clock_after b i) i f).facts.due s) refl (sym (due_then old p (clock_after b i) i f s) ∙ e);
-    }
-  where
-    at : (s : Session) (t : ℕ) (z : Bool) (v : Option ℕ) → get (act p (clock_after b i) i f).facts.due s ≡ v → cond z (Some (unwrap_or v (clock_after b i + period p))) None ≡ Some t → LivesUpTo (clock_after b i) (6 * p.quarter) t
-    at s t false v is e = absurd (cc)
-    at s t true None is e = let same : clock_after b i + period p ≡ t = some_same _ t e in record { later = omega (arith, same, some); soon = omega (arith, same) }
-    at s t true (Some u) is e = subst (LivesUpTo (clock_after b i) (6 * p.quarter)) (some_same u t e) (due_left p b i f s u fit some (w.moment s) is)
+    let due = due_settled p (clock_after b i) (act p (clock_after b i) i f).facts some (λ s t e. due_left p b i f s t fit some (w.moment s) e) in
+    record { counted = λ s. due.counted s; moment = λ s t e. due.moment s t e }

@@ -9,6 +9,7 @@ pub mod Reserving
 pub mod Keeping
 pub mod LocalFacts
 pub mod Bounded
+pub mod LeftOver
 pub mod Accepting
 pub mod Admitting
 pub mod Exemplary

@@ -1,4 +1,4 @@
--- A unit of a Resv takes its place: what becomes of the lines and the books.
+-- A reservation takes its place: what becomes of the lines and the books.
 use Rattle.std.specs.Prelude.{◌≡◌, ℕ, ◌+◌, ◌-◌, ◌≤◌, ◌==◌, nat_lt, ◌⊎◌, Bool, true, false, cond, not, ◌&&◌, List, [], ◌∷◌, slice_get, map as each, option_and_then, Option, Some, None, refl}
 use Rattle.std.proofs.Common.{sym, ap, subst, ◌∙◌, inl, inr, ⊎_elim, arith}
 use Rattle.std.proofs.lemmas.Bool.{ltb-false, eqb-true, eqb-false}
@@ -9,13 +9,11 @@ use Rattle.admission_book.specs.declared.iface.Iface.{Iface}
 use Rattle.admission_book.specs.Charges.{refusal_beside}
 use Rattle.rsvp_base.specs.declared.part.Part.{Part}
 use Rattle.rsvp_base.specs.declared.style.StyleKind.{StyleKind}
-use Rattle.rsvp_base.specs.declared.style.Unit.{Unit as UnitOf}
 use Rattle.rsvp_base.specs.Members.{In}
 use Rattle.rsvp_base.specs.Orders.{styles}
-use Rattle.rsvp_base.specs.Table.{get, without}
+use Rattle.rsvp_base.specs.Table.{get, put_in, without}
 use Rattle.rsvp_base.proofs.Counts.{sum_below}
 use Rattle.rsvp_base.proofs.Members.{in_filter, to_filter}
-use Rattle.rsvp_base.proofs.SetLaws.{and_both}
 use Rattle.rsvp_base.proofs.Sums.{number_of, sum-without}
 use Rattle.rsvp_base.proofs.Tables.{either, get-without, got_put_in, tied_same, tied_self}
 use Rattle.style_rules.specs.Limits.{IsWithinLimits}
@@ -26,9 +24,9 @@ use Rattle.style_rules.specs.Parts.{IsPartAtMost, has_name, part_charge, part_jo
 use Rattle.style_rules.proofs.Books.{book_below, held_below}
 use Rattle.style_rules.proofs.Merges.{get-merge_of, in_those}
 use Rattle.style_rules.proofs.Room.{within_told}
-use Rattle.router_rules.specs.Asking.{Asker, book_refuses, entry_at, has_room, key_at, resv_state, table_with}
-use Rattle.router_rules.specs.Books.{book, lines, lines_of}
+use Rattle.router_rules.specs.Books.{book, fits, lines, lines_of, refused}
 use Rattle.router_rules.specs.Bounds.{AreBooked}
+use Rattle.router_rules.specs.Calls.{entry_of}
 use Rattle.router_rules.specs.Facts.{Facts, Resvs, ResvState, resvs_of, with_resvs}
 use Rattle.router_rules.specs.Place.{Place}
 use Rattle.rule_laws.proofs.Leaving.{table_other, table_put}
@@ -60,40 +58,46 @@ admitted true b x y e = absurd (cc)
 admitted false true x y e = absurd (cc)
 admitted false false x y e = (refl, refl)
 
-module _ (p : Place) (o : Asker) (f : Facts) (u : UnitOf) (part : Part) (t : Resvs) where
+module _ (p : Place) (st : StyleKind) (k : LineKey) (x : ResvState) (f : Facts) (t : Resvs) where
   -- facts before and after
   abbrev pub before_put : Facts
-  before_put = with_resvs o.style t f
+  before_put = with_resvs st t f
 
   abbrev pub after_put : Facts
-  after_put = with_resvs o.style (table_with o u part t) f
+  after_put = with_resvs st (put_in t k x) f
 
-  -- a reservation is the unit's, or was there
-  pub record IsPut (st : StyleKind) (k : LineKey) (r : ResvState) : Type 0 where
-    pub style : st ≡ o.style
-    pub key : k ≡ key_at o u
-    pub is : r ≡ resv_state o part (get t (key_at o u))
+  -- a reservation is the new one, or was there
+  pub record IsPut (s : StyleKind) (q : LineKey) (r : ResvState) : Type 0 where
+    pub style : s ≡ st
+    pub key : q ≡ k
+    pub is : r ≡ x
 
-  pub put_source : (st : StyleKind) (k : LineKey) (r : ResvState) → get (resvs_of st after_put) k ≡ Some r → IsPut st k r ⊎ (get (resvs_of st before_put) k ≡ Some r)
-  put_source st k r e =
+  pub put_source : (s : StyleKind) (q : LineKey) (r : ResvState) → get (resvs_of s after_put) q ≡ Some r → IsPut s q r ⊎ (get (resvs_of s before_put) q ≡ Some r)
+  put_source s q r e =
       ⊎_elim
-      (λ (same : st ≡ o.style).
-      let here : get (table_with o u part t) k ≡ Some r = sym (ap (λ (z : Resvs). get z k) (ap (λ s. resvs_of s after_put) same ∙ table_put o.style (table_with o u part t) f.resvs)) ∙ e in
+      (λ (same : s ≡ st).
+      let here : get (put_in t k x) q ≡ Some r = sym (ap (λ (z : Resvs). get z q) (ap (λ z. resvs_of z after_put) same ∙ table_put st (put_in t k x) f.resvs)) ∙ e in
       ⊎_elim
-      (λ (new : (k ≡ key_at o u) × (r ≡ resv_state o part (get t (key_at o u)))). inl (record { style = same; key = new.0; is = new.1 }))
-      (λ (old : get t k ≡ Some r). inr (ap (λ (z : Resvs). get z k) (ap (λ s. resvs_of s before_put) same ∙ table_put o.style t f.resvs) ∙ old))
-      (got_put_in line_keys t (key_at o u) (resv_state o part (get t (key_at o u))) k r here))
-      (λ (other : st ≡ o.style → ⊥).
-      inr (ap (λ (z : Resvs). get z k) (table_other st o.style t f.resvs other ∙ sym (table_other st o.style (table_with o u part t) f.resvs other)) ∙ e))
-      (style_same st o.style)
+      (λ (new : (q ≡ k) × (r ≡ x)). inl (record { style = same; key = new.0; is = new.1 }))
+      (λ (old : get t q ≡ Some r). inr (ap (λ (z : Resvs). get z q) (ap (λ z. resvs_of z before_put) same ∙ table_put st t f.resvs) ∙ old))
+      (got_put_in line_keys t k x q r here))
+      (λ (other : s ≡ st → ⊥).
+      inr (ap (λ (z : Resvs). get z q) (table_other s st t f.resvs other ∙ sym (table_other s st (put_in t k x) f.resvs other)) ∙ e))
+      (style_same s st)
 
   -- ---- lines
-  line_source : (l : Line) → In l (lines after_put) → ((l.end ≡ o.iface) × (entry_key l ≡ entry_at o u)) ⊎ In l (lines before_put)
+  abbrev at : ℕ
+  at = k.1.0.0
+
+  abbrev entry : EntryKey
+  entry = entry_of st k
+
+  line_source : (l : Line) → In l (lines after_put) → ((l.end ≡ at) × (entry_key l ≡ entry)) ⊎ In l (lines before_put)
   line_source l i =
       let s = lines_told after_put l i in
       ⊎_elim
       (λ (new : IsPut s.style s.key s.resv). inl (
-        ap (λ (z : Line). z.end) s.is ∙ ap (λ (k : LineKey). k.1.0.0) new.key,
+        ap (λ (z : Line). z.end) s.is ∙ ap (λ (q : LineKey). q.1.0.0) new.key,
         ap entry_key s.is ∙ (λ j. ((new.key j).0, (new.style j, (new.key j).1.1))),
       ))
       (λ (old : get (resvs_of s.style before_put) s.key ≡ Some s.resv). inr (to_lines before_put l (record { style = s.style; key = s.key; resv = s.resv; there = old; is = s.is })))
@@ -103,14 +107,14 @@ module _ (p : Place) (o : Asker) (f : Facts) (u : UnitOf) (part : Part) (t : Res
   itself l = record { style = refl; key = refl; part = part_at_most_itself l.part }
 
   -- at other interfaces all is as it was
-  elsewhere : (i : ℕ) → (i ≡ o.iface → ⊥) → AreUnder (at_end i (lines after_put)) (at_end i (lines before_put))
+  elsewhere : (i : ℕ) → (i ≡ at → ⊥) → AreUnder (at_end i (lines after_put)) (at_end i (lines before_put))
   elsewhere i other l h =
       let s = in_filter (λ (z : Line). z.end == i) l (lines after_put) h in
-      let at : l.end ≡ i = eqb-true l.end i s.1 in
-      ⊎_elim (λ (new : (l.end ≡ o.iface) × (entry_key l ≡ entry_at o u)). absurd (other (sym at ∙ new.0))) (λ (old : In l (lines before_put)). (l, to_filter (λ (z : Line). z.end == i) l (lines before_put) old s.1, itself l)) (line_source l s.0)
+      let here : l.end ≡ i = eqb-true l.end i s.1 in
+      ⊎_elim (λ (new : (l.end ≡ at) × (entry_key l ≡ entry)). absurd (other (sym here ∙ new.0))) (λ (old : In l (lines before_put)). (l, to_filter (λ (z : Line). z.end == i) l (lines before_put) old s.1, itself l)) (line_source l s.0)
 
   -- and so are the other entries of the interface
-  pub other_entries : (i : ℕ) (q : EntryKey) (x : Part) → (q ≡ entry_at o u → ⊥) → get (book after_put i) q ≡ Some x → (y : Part) × (get (book before_put i) q ≡ Some y) × IsPartAtMost x y
+  pub other_entries : (i : ℕ) (q : EntryKey) (x : Part) → (q ≡ entry → ⊥) → get (book after_put i) q ≡ Some x → (y : Part) × (get (book before_put i) q ≡ Some y) × IsPartAtMost x y
   other_entries i q x other e =
       book_below (those_at entry_keys entry_key (λ l. l.part) q (at_end i (lines after_put))) (at_end i (lines before_put)) under q x (only_its_lines (at_end i (lines after_put)) q ∙ e)
     where
@@ -118,91 +122,90 @@ module _ (p : Place) (o : Asker) (f : Facts) (u : UnitOf) (part : Part) (t : Res
       under l h =
           let m = in_those entry_keys entry_key (λ (z : Line). z.part) q l (at_end i (lines after_put)) h in
           let s = in_filter (λ (z : Line). z.end == i) l (lines after_put) m.0 in
-          ⊎_elim (λ (new : (l.end ≡ o.iface) × (entry_key l ≡ entry_at o u)). absurd (other (m.2 ∙ new.1))) (λ (old : In l (lines before_put)). (l, to_filter (λ (z : Line). z.end == i) l (lines before_put) old s.1, itself l)) (line_source l s.0)
+          ⊎_elim (λ (new : (l.end ≡ at) × (entry_key l ≡ entry)). absurd (other (m.2 ∙ new.1))) (λ (old : In l (lines before_put)). (l, to_filter (λ (z : Line). z.end == i) l (lines before_put) old s.1, itself l)) (line_source l s.0)
 
-  others_held : (i : ℕ) → held (without (book after_put i) (entry_at o u)) ≤ held (book before_put i)
-  others_held i = sum_below entry_keys (λ e. part_charge e.1) (λ e. part_charge e.1) (without (book after_put i) (entry_at o u)) (book before_put i) each_one
+  others_held : (i : ℕ) → held (without (book after_put i) entry) ≤ held (book before_put i)
+  others_held i = sum_below entry_keys (λ e. part_charge e.1) (λ e. part_charge e.1) (without (book after_put i) entry) (book before_put i) each_one
     where
-      each_one : (q : EntryKey) (x : Part) → get (without (book after_put i) (entry_at o u)) q ≡ Some x → (y : Part) × (get (book before_put i) q ≡ Some y) × (part_charge x ≤ part_charge y)
-      each_one q x e = by (eq_by_cmp entry_keys.cmp (entry_at o u) q) refl (sym (get-without entry_keys (book after_put i) (entry_at o u) q) ∙ e)
+      each_one : (q : EntryKey) (x : Part) → get (without (book after_put i) entry) q ≡ Some x → (y : Part) × (get (book before_put i) q ≡ Some y) × (part_charge x ≤ part_charge y)
+      each_one q x e = by (eq_by_cmp entry_keys.cmp entry q) refl (sym (get-without entry_keys (book after_put i) entry q) ∙ e)
         where
-          by : (b : Bool) → eq_by_cmp entry_keys.cmp (entry_at o u) q ≡ b → cond (not b) (get (book after_put i) q) None ≡ Some x → (y : Part) × (get (book before_put i) q ≡ Some y) × (part_charge x ≤ part_charge y)
+          by : (b : Bool) → eq_by_cmp entry_keys.cmp entry q ≡ b → cond (not b) (get (book after_put i) q) None ≡ Some x → (y : Part) × (get (book before_put i) q ≡ Some y) × (part_charge x ≤ part_charge y)
           by true tie e = absurd (cc)
           by false apart e =
-              let other : q ≡ entry_at o u → ⊥ = λ same. let z : true ≡ false = sym (ap (eq_by_cmp entry_keys.cmp (entry_at o u)) same ∙ tied_self entry_keys (entry_at o u)) ∙ apart in cc in
+              let other : q ≡ entry → ⊥ = λ same. let z : true ≡ false = sym (ap (eq_by_cmp entry_keys.cmp entry) same ∙ tied_self entry_keys entry) ∙ apart in cc in
               let y = other_entries i q x other e in (y.0, y.1, charge_below x y.0 y.2)
 
   -- ---- capacity and packet size, where the book does not refuse the entry
-  module _ (w : AreBooked p before_put) (on : Iface) (there : slice_get p.ifaces o.iface ≡ Some on) (open_to : book_refuses p o f u part t ≡ None) where
+  module _ (w : AreBooked p before_put) (on : Iface) (there : slice_get p.ifaces at ≡ Some on) (open_to : refused p at entry (book after_put at) ≡ None) where
     abbrev b1 : BookTable
-    b1 = book after_put o.iface
+    b1 = book after_put at
 
     abbrev others : ℕ
-    others = held (without b1 (entry_at o u))
+    others = held (without b1 entry)
 
-    admits : refusal_beside on others (option_map (λ (z : Part). z.flow) (get b1 (entry_at o u))) ≡ None
-    admits = sym (ap (λ v. option_and_then (λ (on : Iface). refusal_beside on others (option_map (λ (z : Part). z.flow) (get b1 (entry_at o u)))) v) there) ∙ open_to
+    admits : refusal_beside on others (option_map (λ (z : Part). z.flow) (get b1 entry)) ≡ None
+    admits = sym (ap (λ v. option_and_then (λ (on : Iface). refusal_beside on others (option_map (λ (z : Part). z.flow) (get b1 entry))) v) there) ∙ open_to
 
     record Admitted (y : Part) : Type 0 where
       size : y.flow.most ≤ on.mtu
       rate : y.flow.r ≤ on.capacity - others
 
-    entry_admitted : (y : Part) → get b1 (entry_at o u) ≡ Some y → Admitted y
+    entry_admitted : (y : Part) → get b1 entry ≡ Some y → Admitted y
     entry_admitted y e =
         let a = admitted (nat_lt on.mtu y.flow.most) (nat_lt (on.capacity - others) y.flow.r) _ _ (sym (ap (λ v. refusal_beside on others (option_map (λ (z : Part). z.flow) v)) e) ∙ admits) in
         record { size = ltb-false on.mtu y.flow.most a.0; rate = ltb-false (on.capacity - others) y.flow.r a.1 }
 
     pub put_capacity : held b1 ≤ on.capacity
-    put_capacity = by (get b1 (entry_at o u)) refl
+    put_capacity = by (get b1 entry) refl
       where
-        sums : held b1 ≡ others + number_of (λ (e : EntryKey × Part). part_charge e.1) (entry_at o u) (get b1 (entry_at o u))
-        sums = sum-without entry_keys (λ (e : EntryKey × Part). part_charge e.1) b1 (entry_at o u)
+        sums : held b1 ≡ others + number_of (λ (e : EntryKey × Part). part_charge e.1) entry (get b1 entry)
+        sums = sum-without entry_keys (λ (e : EntryKey × Part). part_charge e.1) b1 entry
 
-        by : (v : Option Part) → get b1 (entry_at o u) ≡ v → held b1 ≤ on.capacity
+        by : (v : Option Part) → get b1 entry ≡ v → held b1 ≤ on.capacity
         by None e =
-            let s : held b1 ≡ others + 0 = sums ∙ ap (λ v. others + number_of (λ (e : EntryKey × Part). part_charge e.1) (entry_at o u) v) e in
-            let less = others_held o.iface in let most = w.capacity o.iface on there in omega (arith, s, less, most)
+            let s : held b1 ≡ others + 0 = sums ∙ ap (λ v. others + number_of (λ (e : EntryKey × Part). part_charge e.1) entry v) e in
+            let less = others_held at in let most = w.capacity at on there in omega (arith, s, less, most)
         by (Some y) e =
-            let s : held b1 ≡ others + y.flow.r = sums ∙ ap (λ v. others + number_of (λ (e : EntryKey × Part). part_charge e.1) (entry_at o u) v) e in
-            let less = others_held o.iface in let most = w.capacity o.iface on there in let rate = (entry_admitted y e).rate in omega (arith, s, less, most, rate)
+            let s : held b1 ≡ others + y.flow.r = sums ∙ ap (λ v. others + number_of (λ (e : EntryKey × Part). part_charge e.1) entry v) e in
+            let less = others_held at in let most = w.capacity at on there in let rate = (entry_admitted y e).rate in omega (arith, s, less, most, rate)
 
     pub put_mtu : (q : EntryKey) (x : Part) → get b1 q ≡ Some x → x.flow.most ≤ on.mtu
     put_mtu q x e =
-        either (eq_by_cmp entry_keys.cmp q (entry_at o u))
-        (λ tie. (entry_admitted x (ap (get b1) (sym (tied_same entry_keys q (entry_at o u) tie)) ∙ e)).size)
+        either (eq_by_cmp entry_keys.cmp q entry)
+        (λ tie. (entry_admitted x (ap (get b1) (sym (tied_same entry_keys q entry tie)) ∙ e)).size)
         (λ apart.
-        let other : q ≡ entry_at o u → ⊥ = λ same. let z : true ≡ false = sym (ap (λ k. eq_by_cmp entry_keys.cmp q k) (sym same) ∙ tied_self entry_keys q) ∙ apart in cc in
-        let y = other_entries o.iface q x other e in let less = most_below x y.0 y.2 in let most = w.mtu o.iface on q y.0 there y.1 in omega (arith, less, most))
+        let other : q ≡ entry → ⊥ = λ same. let z : true ≡ false = sym (ap (λ k. eq_by_cmp entry_keys.cmp q k) (sym same) ∙ tied_self entry_keys q) ∙ apart in cc in
+        let y = other_entries at q x other e in let less = most_below x y.0 y.2 in let most = w.mtu at on q y.0 there y.1 in omega (arith, less, most))
 
-  pub put_booked : AreBooked p before_put → book_refuses p o f u part t ≡ None → AreBooked p after_put
+  pub put_booked : AreBooked p before_put → refused p at entry (book after_put at) ≡ None → AreBooked p after_put
   put_booked w open_to =
       record {
-        capacity = λ i on e. at_iface i on e (either (i == o.iface) (λ b. inl (eqb-true i o.iface b)) (λ b. inr (not_same i b)));
-        mtu = λ i on k x e h. mtu_at i on e k x h (either (i == o.iface) (λ b. inl (eqb-true i o.iface b)) (λ b. inr (not_same i b)));
+        capacity = λ i on e. at_iface i on e (either (i == at) (λ b. inl (eqb-true i at b)) (λ b. inr (not_same i b)));
+        mtu = λ i on k x e h. mtu_at i on e k x h (either (i == at) (λ b. inl (eqb-true i at b)) (λ b. inr (not_same i b)));
       }
     where
-      not_same : (i : ℕ) → (i == o.iface) ≡ false → i ≡ o.iface → ⊥
-      not_same i b e = let n = eqb-false i o.iface b in n e
+      not_same : (i : ℕ) → (i == at) ≡ false → i ≡ at → ⊥
+      not_same i b e = let n = eqb-false i at b in n e
 
-      at_iface : (i : ℕ) (on : Iface) → slice_get p.ifaces i ≡ Some on → (i ≡ o.iface) ⊎ (i ≡ o.iface → ⊥) → held (book after_put i) ≤ on.capacity
+      at_iface : (i : ℕ) (on : Iface) → slice_get p.ifaces i ≡ Some on → (i ≡ at) ⊎ (i ≡ at → ⊥) → held (book after_put i) ≤ on.capacity
       at_iface i on e s =
-          ⊎_elim (λ (same : i ≡ o.iface). subst (λ j. held (book after_put j) ≤ on.capacity) (sym same) (put_capacity w on (ap (slice_get p.ifaces) (sym same) ∙ e) open_to))
-          (λ (other : i ≡ o.iface → ⊥). let less = held_below (at_end i (lines after_put)) (at_end i (lines before_put)) (elsewhere i other) in let most = w.capacity i on e in omega (arith, less, most)) s
+          ⊎_elim (λ (same : i ≡ at). subst (λ j. held (book after_put j) ≤ on.capacity) (sym same) (put_capacity w on (ap (slice_get p.ifaces) (sym same) ∙ e) open_to))
+          (λ (other : i ≡ at → ⊥). let less = held_below (at_end i (lines after_put)) (at_end i (lines before_put)) (elsewhere i other) in let most = w.capacity i on e in omega (arith, less, most)) s
 
-      mtu_at : (i : ℕ) (on : Iface) → slice_get p.ifaces i ≡ Some on → (k : EntryKey) (x : Part) → get (book after_put i) k ≡ Some x → (i ≡ o.iface) ⊎ (i ≡ o.iface → ⊥) → x.flow.most ≤ on.mtu
+      mtu_at : (i : ℕ) (on : Iface) → slice_get p.ifaces i ≡ Some on → (k : EntryKey) (x : Part) → get (book after_put i) k ≡ Some x → (i ≡ at) ⊎ (i ≡ at → ⊥) → x.flow.most ≤ on.mtu
       mtu_at i on e k x h s =
-          ⊎_elim (λ (same : i ≡ o.iface). put_mtu w on (ap (slice_get p.ifaces) (sym same) ∙ e) open_to k x (ap (λ j. get (book after_put j) k) (sym same) ∙ h))
-          (λ (other : i ≡ o.iface → ⊥).
+          ⊎_elim (λ (same : i ≡ at). put_mtu w on (ap (slice_get p.ifaces) (sym same) ∙ e) open_to k x (ap (λ j. get (book after_put j) k) (sym same) ∙ h))
+          (λ (other : i ≡ at → ⊥).
           let y = book_below (at_end i (lines after_put)) (at_end i (lines before_put)) (elsewhere i other) k x h in let less = most_below x y.0 y.2 in let most = w.mtu i on k y.0 e y.1 in omega (arith, less, most)) s
 
   -- ---- limits, where there is room
-  pub put_limits : ((st : StyleKind) → IsWithinLimits st (lines_of st (resvs_of st before_put))) → has_room o u part t ≡ true → (st : StyleKind) → IsWithinLimits st (lines_of st (resvs_of st after_put))
-  put_limits w room st =
+  pub put_limits : ((s : StyleKind) → IsWithinLimits s (lines_of s (resvs_of s before_put))) → fits st (put_in t k x) ≡ true → (s : StyleKind) → IsWithinLimits s (lines_of s (resvs_of s after_put))
+  put_limits w room s =
       ⊎_elim
-      (λ (same : st ≡ o.style).
-      let put : resvs_of st after_put ≡ table_with o u part t = ap (λ s. resvs_of s after_put) same ∙ table_put o.style (table_with o u part t) f.resvs in
-      let fits = (and_both _ _ room).1 in
-      subst (λ (z : StyleKind × Resvs). IsWithinLimits z.0 (lines_of z.0 z.1)) (λ j. (sym same j, sym put j)) (within_told o.style (lines_of o.style (table_with o u part t)) fits))
-      (λ (other : st ≡ o.style → ⊥).
-      subst (λ (z : Resvs). IsWithinLimits st (lines_of st z)) (table_other st o.style t f.resvs other ∙ sym (table_other st o.style (table_with o u part t) f.resvs other)) (w st))
-      (style_same st o.style)
+      (λ (same : s ≡ st).
+      let put : resvs_of s after_put ≡ put_in t k x = ap (λ z. resvs_of z after_put) same ∙ table_put st (put_in t k x) f.resvs in
+      subst (λ (z : StyleKind × Resvs). IsWithinLimits z.0 (lines_of z.0 z.1)) (λ j. (sym same j, sym put j)) (within_told st (lines_of st (put_in t k x)) room))
+      (λ (other : s ≡ st → ⊥).
+      subst (λ (z : Resvs). IsWithinLimits s (lines_of s z)) (table_other s st t f.resvs other ∙ sym (table_other s st (put_in t k x) f.resvs other)) (w s))
+      (style_same s st)

@@ -8,7 +8,7 @@ use Rattle.rsvp_base.specs.declared.style.StyleKind.TheVariants.{Wild, Fixed, Sh
 use Rattle.rsvp_base.specs.Members.{In}
 use Rattle.rsvp_base.specs.Orders.{Names, senders}
 use Rattle.rsvp_base.specs.Sets.{is_none}
-use Rattle.rsvp_base.specs.Table.{get, has, kept, size}
+use Rattle.rsvp_base.specs.Table.{get, has, kept, put_in, size}
 use Rattle.rsvp_base.proofs.SetLaws.{and_both, has-kept}
 use Rattle.rsvp_messages.specs.declared.message.Message.{Message}
 use Rattle.rsvp_messages.specs.declared.message.Message.TheVariants as message
@@ -20,16 +20,17 @@ use Rattle.style_rules.specs.Limits.{IsWithinLimits}
 use Rattle.style_rules.specs.Lines.{LineKey}
 use Rattle.style_rules.specs.Parts.{has_name}
 use Rattle.router_rules.specs.Act.{act, act_spelt, is_mine}
-use Rattle.router_rules.specs.Asking.{Asker, act_resv_tear, asker_of, matched, nothing_taken, stays, style_conflict, taking_of}
-use Rattle.router_rules.specs.Books.{lines_of}
+use Rattle.router_rules.specs.Asking.{Asker, act_resv_tear, asker_of, key_at, matched, nothing_taken, resv_state, stays, style_conflict, taking_of}
+use Rattle.router_rules.specs.Books.{book, fits, lines_of, refused}
 use Rattle.router_rules.specs.Bounds.{AreBooked, IsShaped, IsWithinBounds, LivesUpTo}
-use Rattle.router_rules.specs.Facts.{Facts, Resvs, ResvState, ResvTables, no_resvs, resvs_of, table_of, with_resvs, with_table}
+use Rattle.router_rules.specs.Calls.{entry_of}
+use Rattle.router_rules.specs.Facts.{Facts, Resvs, ResvState, ResvTables, no_resvs, resvs_of, with_resvs}
 use Rattle.router_rules.specs.Forgetting.{forget, is_lost}
 use Rattle.router_rules.specs.Inputs.{Input, Call, Wait, Clear, Came, Moved, Spelt, Unspelt}
 use Rattle.router_rules.specs.Known.{known}
 use Rattle.router_rules.specs.Place.{Place, goes_out, lifetime, period}
 use Rattle.rule_laws.specs.RuleLaws.{IsLeft}
-use Rattle.rule_laws.proofs.Leaving.{got_forget, left_told, table_other, waiting_leaves_the_living}
+use Rattle.rule_laws.proofs.Leaving.{as_it_was, got_forget, left_told, table_other, waiting_leaves_the_living}
 use Rattle.rule_laws.proofs.Receiving.{resv_tears_by_names}
 use Rattle.router_laws.specs.BoundLaws.{AreFewer, IsFit, IsLeftOf, clock_after}
 use Rattle.router_laws.specs.Steps.{facts_then}
@@ -105,12 +106,30 @@ pub forgotten_fewer : (before after : Facts) → AreFewer after (forget before a
 forgotten_fewer before after st k x e =
     let r = got_forget before after st k x e in (r.0, r.1, left_is_left (λ y. not (is_lost st before after k.0 y)) r.0 x (left_told (λ y. not (is_lost st before after k.0 y)) r.0 x r.2))
 
--- ---- a Resv
-as_it_was : (st : StyleKind) (ts : ResvTables) → with_table st (table_of st ts) ts ≡ ts
-as_it_was Wild ts = refl
-as_it_was Fixed ts = refl
-as_it_was Shared ts = refl
+-- once names are forgotten
+pub forgotten_within : (p : Place) (c : ℕ) (before after : Facts) → AreResvsWithin p c after → AreResvsWithin p c (forget before after)
+forgotten_within p c before after w = fewer_now p c after (forget before after) (forgotten_fewer before after) w
 
+-- ---- a reservation takes its place, where the table has room and the book does not refuse it
+pub placed_within : (p : Place) (c : ℕ) (st : StyleKind) (k : LineKey) (x : ResvState) (f : Facts) (t : Resvs) → LivesUpTo c (lifetime p (period p)) x.dies → IsShaped p st k x → fits st (put_in t k x) ≡ true
+    → refused p k.1.0.0 (entry_of st k) (book (with_resvs st (put_in t k x) f) k.1.0.0) ≡ None → AreResvsWithin p c (with_resvs st t f) → AreResvsWithin p c (with_resvs st (put_in t k x) f)
+placed_within p c st k x f t lives shape room open_to w =
+    record {
+      lives = λ s q r e.
+          ⊎_elim (λ (new : IsPut p st k x f t s q r). subst (λ (z : ResvState). LivesUpTo c (lifetime p (period p)) z.dies) (sym new.is) lives) (λ (old : get (resvs_of s (with_resvs st t f)) q ≡ Some r). w.lives s q r old) (put_source p st k x f t s q r e);
+      shapes = λ s q r e.
+          ⊎_elim (λ (new : IsPut p st k x f t s q r). subst (λ (z : StyleKind × (LineKey × ResvState)). IsShaped p z.0 z.1.0 z.1.1) (λ j. (sym new.style j, (sym new.key j, sym new.is j))) shape)
+          (λ (old : get (resvs_of s (with_resvs st t f)) q ≡ Some r). w.shapes s q r old)
+          (put_source p st k x f t s q r e);
+      limits = put_limits p st k x f t w.limits room;
+      booked = put_booked p st k x f t w.booked open_to;
+    }
+
+-- a table put where it stood
+pub replaced_within : (p : Place) (c : ℕ) (st : StyleKind) (f : Facts) → AreResvsWithin p c f → AreResvsWithin p c (with_resvs st (resvs_of st f) f)
+replaced_within p c st f w = same_resvs p c f (with_resvs st (resvs_of st f) f) (sym (as_it_was st f.resvs)) w
+
+-- ---- a Resv
 module _ (p : Place) (c e : ℕ) (m : ResvMsg) (f : Facts) (inside : e < length p.ifaces) (proper : IsProperAsk m.ask) where
   abbrev o : Asker
   o = asker_of p c e m
@@ -121,22 +140,13 @@ module _ (p : Place) (c e : ℕ) (m : ResvMsg) (f : Facts) (inside : e < length 
   unit_within : (u : AskedUnit) → In u (asked_units m.ask) → Keeps p o f (matched p f o) Within u
   unit_within u i part is t w room open_to =
       let shape = unit_shape m.ask proper (matched p f o) (λ x h. names_listed o.style (kept (goes_out p o.session o.iface) (known f o.session)) x h) u i part is in
-      let few = leb-true (size part.senders) 16 (and_both _ _ room).0 in
-      record {
-        lives = λ st k r e.
-            ⊎_elim (λ (new : IsPut p o f u.unit part t st k r). lives_new p c m.period r.dies (ap (λ (z : ResvState). z.dies) new.is)) (λ (old : get (resvs_of st (with_resvs o.style t f)) k ≡ Some r). w.lives st k r old) (put_source p o f u.unit part t st k r e);
-        shapes = λ st k r e.
-            ⊎_elim (λ (new : IsPut p o f u.unit part t st k r).
-            subst (λ (z : StyleKind × (LineKey × ResvState)). IsShaped p z.0 z.1.0 z.1.1) (λ j. (sym new.style j, (sym new.key j, sym new.is j)))
-            (record { iface = inside; style = shape.style; unit = shape.unit; names = few; flow = shape.flow }))
-            (λ (old : get (resvs_of st (with_resvs o.style t f)) k ≡ Some r). w.shapes st k r old)
-            (put_source p o f u.unit part t st k r e);
-        limits = put_limits p o f u.unit part t w.limits room;
-        booked = put_booked p o f u.unit part t w.booked open_to;
-      }
+      let tests = and_both _ _ room in
+      let few = leb-true (size part.senders) 16 tests.0 in
+      placed_within p c o.style (key_at o u.unit) (resv_state o part (get t (key_at o u.unit))) f t (lives_new p c m.period o.dies refl)
+      (record { iface = inside; style = shape.style; unit = shape.unit; names = few; flow = shape.flow }) tests.1 open_to w
 
   before_units : AreResvsWithin p c f → Within (resvs_of o.style f)
-  before_units w = same_resvs p c f (with_resvs o.style (resvs_of o.style f) f) (sym (as_it_was o.style f.resvs)) w
+  before_units w = replaced_within p c o.style f w
 
   taken_within : AreResvsWithin p c f → (b : Bool) (other : Option StyleKind) → Within (taking_of p o (asked_units m.ask) f b other).table
   taken_within w true other = before_units w
@@ -193,4 +203,4 @@ pub resvs_within : (old p : Place) (b : ℕ) (i : Input) (f : Facts) → IsFit p
 resvs_within old p b i f fit w =
     let c = clock_after b i in
     same_resvs p (clock_after b i) (forget f (act p (clock_after b i) i f).facts) (facts_then old p (clock_after b i) i f) refl
-    (fewer_now p (clock_after b i) (act p (clock_after b i) i f).facts (forget f (act p (clock_after b i) i f).facts) (forgotten_fewer f (act p (clock_after b i) i f).facts) (act_within p b i f fit w))
+    (forgotten_within p (clock_after b i) f (act p (clock_after b i) i f).facts (act_within p b i f fit w))

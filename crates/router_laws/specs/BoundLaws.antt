@@ -12,10 +12,11 @@ use Rattle.style_rules.specs.Limits.{IsWithinLimits}
 use Rattle.style_rules.specs.Lines.{EntryKey, LineKey, held}
 use Rattle.style_rules.specs.Parts.{IsPartAtMost, has_name}
 use Rattle.router_rules.specs.Books.{book, lines_of}
-use Rattle.router_rules.specs.Bounds.{AreBooked, IsShaped, IsWithinBounds}
+use Rattle.router_rules.specs.Bounds.{AreBooked, IsPathShaped, IsShaped, IsWallShaped, IsWithinBounds, LivesUpTo}
 use Rattle.router_rules.specs.Facts.{Facts, ResvState, resvs_of}
-use Rattle.router_rules.specs.Inputs.{Arrival, Spelt, Unspelt, Local, SendAs, DropAs, WantAs, QuitAll, Input, Call, Wait, Clear, Came, Moved}
-use Rattle.router_rules.specs.Place.{Place}
+use Rattle.router_rules.specs.Inputs.{Arrival, Spelt, Unspelt, Local, SendAs, DropAs, WantAs, QuitAll, Input, Call, Wait, Clear, Came, Moved, Stale, StalePath, StaleResv, StaleWall}
+use Rattle.router_rules.specs.Place.{Place, lifetime, period, wall_lifetime}
+use Rattle.router_rules.specs.Rule.{facts_with}
 use Rattle.router_laws.specs.Steps.{facts_then}
 
 -- ---- fewer facts, smaller book
@@ -82,3 +83,13 @@ clock_after b Moved = b
 abbrev pub AStepKeepsANodeWithinBounds : Type 0
 AStepKeepsANodeWithinBounds =
     (old p : Place) (b : ℕ) (i : Input) (f : Facts) → IsSameNode old p → IsFit p i → IsWithinBounds old b f → IsWithinBounds p (clock_after b i) (facts_then old p (clock_after b i) i f)
+
+-- ---- what may be left over at a node
+-- a left-over fact lives no longer than one that was just refreshed, and has the shape of one
+abbrev pub IsFitStale : Place → ℕ → Stale → Type 0
+IsFitStale p c (StalePath k x) = LivesUpTo c (lifetime p (period p)) x.dies × IsPathShaped p x
+IsFitStale p c (StaleResv st k r) = LivesUpTo c (lifetime p (period p)) r.dies × IsShaped p st k r
+IsFitStale p c (StaleWall k b) = LivesUpTo c (wall_lifetime p) b.dies × IsWallShaped p k b
+
+abbrev pub LeftOverFactsAreWithinBounds : Type 0
+LeftOverFactsAreWithinBounds = (p : Place) (c : ℕ) (i : Stale) (f : Facts) → 1 ≤ p.quarter → IsFitStale p c i → IsWithinBounds p c f → IsWithinBounds p c (facts_with p c i f)

@@ -10,18 +10,18 @@ use Rattle.rsvp_base.specs.SessionLimits.{IsWithinSessionLimits}
 use Rattle.rsvp_base.specs.Table.{get, has, put_in}
 use Rattle.rsvp_messages.specs.declared.message.Message.TheVariants as message
 use Rattle.rsvp_messages.specs.declared.message.ResvMsg.{ResvMsg}
-use Rattle.style_rules.specs.Lines.{Line}
+use Rattle.style_rules.specs.Lines.{Line, LineKey}
 use Rattle.router_rules.specs.Asking.{ask_of, asker_of}
 use Rattle.router_rules.specs.Bounds.{IsWithinBounds}
 use Rattle.router_rules.specs.declared.target.Target.TheVariants as target
-use Rattle.router_rules.specs.Facts.{Facts, PathState, SenderKey, WallKey, no_facts}
-use Rattle.router_rules.specs.Inputs.{Input, Came, Moved, Spelt, Wait}
+use Rattle.router_rules.specs.Facts.{Blockade, Facts, PathState, ResvState, SenderKey, WallKey, no_facts}
+use Rattle.router_rules.specs.Inputs.{Input, Came, Moved, Spelt, StalePath, StaleResv, StaleWall, Wait}
 use Rattle.router_rules.specs.Known.{Lane}
 use Rattle.router_rules.specs.Line.{error, first, flow, group, node_r, path, path_tear, r1, r2, refreshed, resv, resv_err, s1, scope, sent, session, t1, usual, wild}
 use Rattle.router_rules.specs.Place.{Place}
 use Rattle.router_rules.specs.Requests.{toward}
 use Rattle.router_laws.specs.AcceptingLaws.{CanBeHeld, CanBeTaken, line_at}
-use Rattle.router_laws.specs.BoundLaws.{AreFewer, IsFit, IsSameNode}
+use Rattle.router_laws.specs.BoundLaws.{AreFewer, IsFit, IsFitStale, IsSameNode}
 use Rattle.router_laws.specs.ErrorLaws.{only_goes_on}
 use Rattle.router_laws.specs.FrameLaws.{on_paths, on_resvs, on_senders, on_walls, on_wants}
 use Rattle.router_laws.specs.PathLaws.{CameOnTree, PathDies, PathIsTorn, said_by}
@@ -119,6 +119,19 @@ pub record SendLawsHaveExamples : Type 0 where
   pub resv_again : In (refreshed 0 s1 (resv r1 None (wild usual))) (sent_then r r 30000 (Wait 15000 0) half_later)
 
 -- ---- bounds; while half a period passes, each reservation is left
+-- the reservation of t, and the blockade that stands where s refuses it
+abbrev pub of_t : LineKey
+of_t = (session, ((1, t1), One))
+
+abbrev pub reserved : ResvState
+reserved = record { part = record { senders = scope; flow = usual }; confirm = None; dies = 157500 }
+
+abbrev pub wall_key : WallKey
+wall_key = (session, target.Hop 0 s1)
+
+abbrev pub blockaded : Blockade
+blockaded = record { wall = record { flow = usual; sub = 2 }; dies = 120000 }
+
 pub record BoundLawsHaveExamples : Type 0 where
   pub same : IsSameNode r r
   pub path_fit : IsFit r (path_in first)
@@ -126,6 +139,10 @@ pub record BoundLawsHaveExamples : Type 0 where
   pub wait_fit : IsFit r (Wait 15000 0)
   pub within : IsWithinBounds r 0 one_resv
   pub fewer : AreFewer one_resv half_later
+  -- and what may be left over
+  pub path_left : IsFitStale r 0 (StalePath first_key here)
+  pub resv_left : IsFitStale r 0 (StaleResv Wild of_t reserved)
+  pub wall_left : IsFitStale r 0 (StaleWall wall_key blockaded)
 
 -- ---- acceptance
 -- lines that the node can hold: one for the Resv
@@ -144,15 +161,12 @@ pub record AcceptanceHasExamples : Type 0 where
 abbrev pub error_in : Input
 error_in = Came 0 r1 (Spelt (resv_err s1 (error s1 false 1 2) Wild (Some scope) (Some usual)))
 
-abbrev pub wall_key : WallKey
-wall_key = (session, target.Hop 0 s1)
-
 pub record ErrorLawsHaveExamples : Type 0 where
   pub within : IsWithinBounds r 0 one_resv
   pub fit : IsFit r error_in
   -- a blockade that was not there is set
   pub before : get one_resv.walls wall_key ≡ None
-  pub after : get (facts_then r r 0 error_in one_resv).walls wall_key ≡ Some (record { wall = record { flow = usual; sub = 2 }; dies = 120000 })
+  pub after : get (facts_then r r 0 error_in one_resv).walls wall_key ≡ Some blockaded
   pub goes_on : only_goes_on (resv_err s1 (error s1 false 1 2) Wild (Some scope) (Some usual)) ≡ true
   -- and the next hop is told
   pub told : In (sent 1 t1 (resv_err r2 (error s1 false 1 2) Wild (Some scope) (Some usual))) (sent_then r r 0 error_in one_resv)

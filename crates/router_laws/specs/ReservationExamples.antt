@@ -9,22 +9,14 @@ use Rattle.rsvp_base.specs.Table.{get, has}
 use Rattle.rsvp_base.specs.TokenBucket.{TokenBucket}
 use Rattle.rsvp_messages.specs.declared.ask.Tear.TheVariants as tear
 use Rattle.rsvp_messages.specs.declared.message.Message.TheVariants as message
-use Rattle.style_rules.specs.Lines.{LineKey}
 use Rattle.router_rules.specs.Bounds.{IsWithinBounds}
-use Rattle.router_rules.specs.Facts.{ResvState, resvs_of}
+use Rattle.router_rules.specs.Facts.{resvs_of}
 use Rattle.router_rules.specs.Inputs.{Came, Input, Spelt, Wait}
 use Rattle.router_rules.specs.Line.{error, flow, r1, r2, resv, resv_err, s1, scope, sent, session, t1, usual, wild}
 use Rattle.router_rules.specs.Requests.{toward}
-use Rattle.router_laws.specs.Examples.{back, one_path, one_resv, r, resv_in}
+use Rattle.router_laws.specs.Examples.{back, of_t, one_path, one_resv, r, reserved, resv_in}
 use Rattle.router_laws.specs.ReservationLaws.{IsKnownThen, Touches}
 use Rattle.router_laws.specs.Steps.{facts_then, sent_then}
-
--- the reservation of t
-abbrev pub of_t : LineKey
-of_t = (session, ((1, t1), One))
-
-abbrev pub reserved : ResvState
-reserved = record { part = record { senders = scope; flow = usual }; confirm = None; dies = 157500 }
 
 -- t tears it down, asks for more than the link has, or hears that s refused it
 abbrev pub torn_in : Input
