@@ -18,13 +18,13 @@ use Rattle.router_rules.specs.Place.{Place, addr_of as own_of, own, is_addr, is_
 use Rattle.tree_laws.specs.declared.hops.End.{End}
 use Rattle.tree_laws.specs.declared.hops.Hop.{Hop}
 use Rattle.tree_laws.specs.Networks.{Net, node_of, ends_of, end_at, iface_of, among, link_of, peers}
-use Rattle.tree_laws.specs.Trees.{tree, inward, outward}
+use Rattle.tree_laws.specs.Trees.{tree, iface_in, inward, outward}
 use Rattle.tree_laws.specs.Valid.{IsValid}
 use Rattle.tree_laws.proofs.Following.{same_number, number_same, addr_same, addr_itself}
 use Rattle.tree_laws.proofs.Ifaces.{interfaces_are_ends}
 use Rattle.tree_laws.proofs.Links.{among_in, of_own_link, hop_linked}
 use Rattle.tree_laws.proofs.TreeLaws.{way_in_told}
-use Rattle.network_model.specs.Worlds.{iface_in, bits_of, route_of, with_iface, ifaces_at, place_of}
+use Rattle.network_model.specs.Worlds.{bits_of, route_of, with_iface, ifaces_at, place_of}
 
 -- ---- numbers as bits
 pub bits_told : (is : List ℕ) (i : ℕ) → bit_at (bits_of is) i ≡ 1 → In i is

@@ -19,10 +19,11 @@ use Rattle.router_rules.specs.Place.{Place}
 use Rattle.router_rules.specs.Rule.{settled}
 use Rattle.tree_laws.specs.declared.hops.End.{End}
 use Rattle.tree_laws.specs.Networks.{Net, iface_of}
+use Rattle.tree_laws.specs.Trees.{trees_of}
 use Rattle.network_model.specs.Events.{Event, all_steps}
 use Rattle.network_model.specs.Steps.{Step, Deliver, Report, Flags, step, outcome, machine}
 use Rattle.network_model.specs.Texts.{table_text, flags_text}
-use Rattle.network_model.specs.Worlds.{Item, World, place_of, trees_of}
+use Rattle.network_model.specs.Worlds.{Item, World, place_of}
 
 -- what a script says: the network, the names of its ends, what is left over at which nodes, and what happens
 pub record Plan : Type 0 where

@@ -1,19 +1,14 @@
 -- Worlds: a network at a moment. The facts of its nodes, what is in flight, and the trees that are in force.
 use Rattle.std.specs.Prelude.{ℕ, ◌^◌, Bool, List, [], ◌∷◌, map as each, Option, None, Some, bit_or, slice_get}
 use Rattle.rsvp_base.specs.declared.addr.Addr.{Addr}
-use Rattle.rsvp_base.specs.Keys.{pairs}
-use Rattle.rsvp_base.specs.Orders.{addrs}
-use Rattle.rsvp_base.specs.Sets.{set_of}
-use Rattle.rsvp_base.specs.Table.{keys}
 use Rattle.admission_book.specs.declared.iface.Iface.{Iface}
 use Rattle.router_rules.specs.declared.route.Route.{Route}
 use Rattle.router_rules.specs.Facts.{Facts}
 use Rattle.router_rules.specs.Inputs.{Arrival}
 use Rattle.router_rules.specs.Place.{Place}
 use Rattle.tree_laws.specs.declared.hops.End.{End}
-use Rattle.tree_laws.specs.declared.hops.TreeHop.{TreeHop}
 use Rattle.tree_laws.specs.Networks.{Net, ends_of, iface_of}
-use Rattle.tree_laws.specs.Trees.{inward, outward}
+use Rattle.tree_laws.specs.Trees.{iface_in, inward, outward}
 
 -- ---- items: datagrams on their way, each to an end. A copy keeps the number of its original
 pub record Item : Type 0 where
@@ -42,15 +37,7 @@ pub record World : Type 0 where
   -- in the order of sending
   pub flight : List Item
 
--- the groups and sources of hops, each once
-abbrev pub trees_of : List TreeHop → List (Addr × Addr)
-trees_of hops = keys (set_of {o = pairs addrs addrs} (each (λ r. (r.group, r.source)) hops))
-
 -- ---- where a node stands
-abbrev pub iface_in : List End → Option ℕ → Option ℕ
-iface_in ends None = None
-iface_in ends (Some e) = Some (iface_of ends e)
-
 -- numbers as bits: bit i where i is among them
 abbrev pub bits_of : List ℕ → ℕ
 bits_of [] = 0

@@ -2,10 +2,14 @@
 use Rattle.std.specs.Prelude.{◌≡◌, ℕ, suc, Bool, true, false, not, ◌&&◌, ◌||◌, ◌==◌, List, [], ◌∷◌, ◌++◌, map as each, Option, None, Some}
 use Rattle.std.specs.List.{filter, list_any, list_all}
 use Rattle.rsvp_base.specs.declared.addr.Addr.{Addr}
+use Rattle.rsvp_base.specs.Keys.{Keys, pairs}
+use Rattle.rsvp_base.specs.Orders.{addrs}
+use Rattle.rsvp_base.specs.Sets.{set_of}
+use Rattle.rsvp_base.specs.Table.{keys}
 use Rattle.tree_laws.specs.declared.hops.End.{End}
 use Rattle.tree_laws.specs.declared.hops.Hop.{Hop}
 use Rattle.tree_laws.specs.declared.hops.TreeHop.{TreeHop}
-use Rattle.tree_laws.specs.Networks.{Net, node_of, owner, among, link_of, peers}
+use Rattle.tree_laws.specs.Networks.{Net, node_of, iface_of, owner, among, link_of, peers}
 
 abbrev pub of_group : Addr → TreeHop → Bool
 of_group g r = r.group.0 == g.0
@@ -20,6 +24,16 @@ tree hops g s = each (λ r. r.hop) (filter (of_tree g s) hops)
 -- the hops of a group, one for each tree that has it
 abbrev pub hops_of : List TreeHop → Addr → List Hop
 hops_of hops g = each (λ r. r.hop) (filter (of_group g) hops)
+
+-- the trees that have a hop, by group and source, each once
+abbrev pub tree_keys : Keys (Addr × Addr)
+tree_keys = pairs addrs addrs
+
+abbrev pub key_of : TreeHop → Addr × Addr
+key_of r = (r.group, r.source)
+
+abbrev pub trees_of : List TreeHop → List (Addr × Addr)
+trees_of hops = keys (set_of {o = tree_keys} (each key_of hops))
 
 -- ---- a tree grows from the node of its source
 abbrev pub goes_into : List End → ℕ → Hop → Bool
@@ -73,6 +87,11 @@ end_into (Some h) = Some h.to
 -- the end by which the tree comes into a node
 abbrev pub inward : Net → ℕ → Addr → Addr → Option ℕ
 inward net n g s = end_into (first_by (goes_into net.ends n) (tree net.hops g s))
+
+-- the interface of an end
+abbrev pub iface_in : List End → Option ℕ → Option ℕ
+iface_in ends None = None
+iface_in ends (Some e) = Some (iface_of ends e)
 
 -- the ends by which it leaves a node, one for each hop
 abbrev pub outward : Net → ℕ → Addr → Addr → List ℕ

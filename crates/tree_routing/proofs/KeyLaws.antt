@@ -11,7 +11,8 @@ use Rattle.rsvp_base.proofs.Rows.{are_rows, table_is}
 use Rattle.rsvp_base.proofs.SetLaws.{with_key_present}
 use Rattle.tree_routing.specs.declared.known.Known.{Known}
 use Rattle.tree_routing.specs.Known.{plain}
-use Rattle.tree_routing.specs.Routes.{tree_keys, key_of, trees_of, as_row, IsWithTree}
+use Rattle.tree_laws.specs.Trees.{tree_keys, key_of, trees_of}
+use Rattle.tree_routing.specs.Routes.{as_row, IsWithTree}
 use Rattle.tree_routing.proofs.LeastLaws.{take_one_more}
 
 -- ---- the set of what a list of hops gives, hop by hop

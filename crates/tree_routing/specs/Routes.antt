@@ -1,40 +1,24 @@
 -- What a routing answers.
-use Rattle.std.specs.Prelude.{◌≡◌, ℕ, Bool, true, ◌&&◌, List, map as each, Option, None, Some}
+use Rattle.std.specs.Prelude.{◌≡◌, ℕ, Bool, true, ◌&&◌, List, map as each, Option}
 use Rattle.rsvp_base.specs.Keys.{Keys, by, numbers, pairs}
 use Rattle.rsvp_base.specs.Members.{In}
 use Rattle.rsvp_base.specs.Orders.{addrs}
 use Rattle.rsvp_base.specs.Rows.{AreRows, table_of}
 use Rattle.rsvp_base.specs.Sets.{set_of, with_key}
-use Rattle.rsvp_base.specs.Table.{keys}
 use Rattle.rsvp_base.specs.declared.addr.Addr.{Addr}
 use Rattle.tree_laws.specs.declared.hops.End.{End}
 use Rattle.tree_laws.specs.declared.hops.TreeHop.{TreeHop}
 use Rattle.tree_routing.specs.declared.known.Known.{Known}
 use Rattle.tree_laws.specs.Networks.{Net, iface_of}
-use Rattle.tree_laws.specs.Trees.{of_tree, goes_out_of, inward, outward}
-
--- the interface of an end
-abbrev pub iface_in : Net → Option ℕ → Option ℕ
-iface_in net None = None
-iface_in net (Some e) = Some (iface_of net.ends e)
+use Rattle.tree_laws.specs.Trees.{tree_keys, of_tree, goes_out_of, iface_in, inward, outward}
 
 -- the interface by which the tree comes into a node
 abbrev pub inward_iface : Net → ℕ → Addr → Addr → Option ℕ
-inward_iface net n g s = iface_in net (inward net n g s)
+inward_iface net n g s = iface_in net.ends (inward net n g s)
 
 -- an interface by which the tree leaves a node
 abbrev pub LeavesBy : Net → ℕ → Addr → Addr → ℕ → Type 0
 LeavesBy net n g s i = (e : ℕ) × In e (outward net n g s) × (iface_of net.ends e ≡ i)
-
--- the trees that have a hop, by group and source
-abbrev pub tree_keys : Keys (Addr × Addr)
-tree_keys = pairs addrs addrs
-
-abbrev pub key_of : TreeHop → Addr × Addr
-key_of r = (r.group, r.source)
-
-abbrev pub trees_of : List TreeHop → List (Addr × Addr)
-trees_of hops = keys (set_of {o = tree_keys} (each key_of hops))
 
 -- hops of trees by group, source, and the ends that they go out of and into
 pub hop_apart : (a b : TreeHop) → ◌≡◌ {A = (Addr × Addr) × (ℕ × ℕ)} ((a.group, a.source), (a.hop.from, a.hop.to)) ((b.group, b.source), (b.hop.from, b.hop.to)) → a ≡ b

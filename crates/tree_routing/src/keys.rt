@@ -3,7 +3,8 @@ ghost use Rattle.std.specs.Prelude.{◌≡◌, ◌↔◌, ◌<◌, ◌≤◌, le
 ghost use Rattle.rsvp_base.specs.Rows.{AreRows, HasRowAt, LacksRowAt};
 ghost use Rattle.rsvp_base.specs.Sets.{listed};
 ghost use Rattle.tree_routing.specs.Known.{plain};
-ghost use Rattle.tree_routing.specs.Routes.{tree_keys, key_of, trees_of, as_row, IsWithTree};
+ghost use Rattle.tree_laws.specs.Trees.{tree_keys, key_of, trees_of};
+ghost use Rattle.tree_routing.specs.Routes.{as_row, IsWithTree};
 
 use crate::known::Known;
 use rsvp_base::{Addr, NoMemory};

@@ -7,7 +7,8 @@ ghost use Rattle.tree_laws.specs.Networks.{node_of, peers};
 ghost use Rattle.tree_laws.specs.Ranks.{has_hop, longest};
 ghost use Rattle.tree_laws.specs.Trees.{tree};
 ghost use Rattle.tree_routing.specs.Order.{AreByRank};
-ghost use Rattle.tree_routing.specs.Routes.{inward_iface, LeavesBy, trees_of};
+ghost use Rattle.tree_routing.specs.Routes.{inward_iface, LeavesBy};
+ghost use Rattle.tree_laws.specs.Trees.{trees_of};
 
 use crate::ask::{link_of, node_of};
 use crate::group_hop::GroupHop;
@@ -45,7 +46,8 @@ impl Model for Routing {
     ghost use Rattle.tree_laws.specs.Valid.{IsValid};
     ghost use Rattle.tree_routing.specs.Known.{plain, net_of};
     ghost use Rattle.tree_routing.specs.Order.{AreByRank};
-    ghost use Rattle.tree_routing.specs.Routes.{trees_of, AreInOrder};
+    ghost use Rattle.tree_routing.specs.Routes.{AreInOrder};
+    ghost use Rattle.tree_laws.specs.Trees.{trees_of};
 
     ghost Value = { Net };
 

@@ -3,7 +3,8 @@ use Rattle.tree_laws.specs.Ranks.{longest}
 use Rattle.tree_routing.specs.declared.known.Known.{Known}
 use Rattle.tree_routing.specs.Known.{plain, net_of}
 use Rattle.tree_routing.specs.Levels.{levels, highest}
-use Rattle.tree_routing.specs.Routes.{trees_of, AreInOrder}
+use Rattle.tree_laws.specs.Trees.{trees_of}
+use Rattle.tree_routing.specs.Routes.{AreInOrder}
 use Rattle.tree_routing.proofs.LevelLaws.{highest_is_longest}
 use Rattle.tree_routing.proofs.OrderLaws.{by_rank_of}
 use Rattle.tree_routing.proofs.topology.Topology.close.Goals as goal
