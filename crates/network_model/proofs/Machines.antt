@@ -10,6 +10,7 @@ use Rattle.calm_rounds.proofs.Renewing.{in_option}
 use Rattle.network_model.specs.Steps.{Step, Piece, Deliver, Lose, Copy, At, ClearAt, Trace, Report, Flags, Inject, Reroute, is_calm, is_quiet, ms_of, arrived, rest, sent, outcome, step, machine}
 use Rattle.network_model.specs.Worlds.{Item, World}
 use Rattle.network_model.proofs.Listing.{in_remove, in_place}
+use Rattle.network_model.proofs.Quiet.{arrival_is}
 use Rattle.network_model.proofs.Stepping.{copies_found, sent_found}
 
 -- a step of a calm round is quiet and short
@@ -43,17 +44,7 @@ in_rest (Inject e dst a) w x q i = absurd (cc)
 in_rest (Reroute g s hops) w x q i = i
 
 pub in_arrived : (s : Step) (w : World) (x : Item) → arrived s w ≡ Some x → In x w.flight
-in_arrived (Piece ms) w x e = absurd (cc)
-in_arrived (Deliver k) w x e = in_place x k w.flight e
-in_arrived (Lose k) w x e = absurd (cc)
-in_arrived (Copy k) w x e = absurd (cc)
-in_arrived (At n l) w x e = absurd (cc)
-in_arrived (ClearAt n) w x e = absurd (cc)
-in_arrived (Trace on) w x e = absurd (cc)
-in_arrived (Report r) w x e = absurd (cc)
-in_arrived Flags w x e = absurd (cc)
-in_arrived (Inject t dst a) w x e = absurd (cc)
-in_arrived (Reroute g s hops) w x e = absurd (cc)
+in_arrived s w x e = let d = arrival_is s w x e in in_place x d.0 w.flight d.2
 
 -- what is in flight after a step was there, or is sent by it
 pub in_flight_after : (q : ℕ) (s : Step) (u : World) (x : Item) → is_quiet s ≡ true → In x (step q s u).flight → In x u.flight ⊎ ((b : Bool) × In (x, b) (sent q s u))

@@ -66,20 +66,31 @@ input_found Flags w n i q e = absurd (cc)
 input_found (Inject t dst a) w n i q e = absurd (cc)
 input_found (Reroute g s hops) w n i q e = absurd (cc)
 
--- what arrives comes to the node of its end
+-- what arrives by a step is delivered by it
+pub arrival_is : (s : Step) (w : World) (x : Item) → arrived s w ≡ Some x → (k : ℕ) × (s ≡ Deliver k) × (slice_get w.flight k ≡ Some x)
+arrival_is (Deliver k) w x e = (k, refl, e)
+arrival_is (Piece ms) w x e = absurd (cc)
+arrival_is (Lose k) w x e = absurd (cc)
+arrival_is (Copy k) w x e = absurd (cc)
+arrival_is (At n l) w x e = absurd (cc)
+arrival_is (ClearAt n) w x e = absurd (cc)
+arrival_is (Trace on) w x e = absurd (cc)
+arrival_is (Report r) w x e = absurd (cc)
+arrival_is Flags w x e = absurd (cc)
+arrival_is (Inject t dst a) w x e = absurd (cc)
+arrival_is (Reroute g s hops) w x e = absurd (cc)
+
+-- it takes no time, and comes to the node of its end
+pub arrival_takes_no_time : (s : Step) (w : World) (x : Item) → arrived s w ≡ Some x → ms_of s ≡ 0
+arrival_takes_no_time s w x a = ap ms_of (arrival_is s w x a).1
+
 pub input_came : (s : Step) (w : World) (x : Item) (e : End) → arrived s w ≡ Some x → slice_get w.net.ends x.end ≡ Some e → input_at s w e.node ≡ Some (Came (iface_of w.net.ends x.end) x.dst x.arrival)
-input_came (Deliver k) w x e a t =
-    ap (λ (o : Option Item). came w o e.node) a ∙ ap (λ (o : Option End). came_by_end x (iface_of w.net.ends x.end) o e.node) t ∙ ap (λ (b : Bool). cond b (Some (Came (iface_of w.net.ends x.end) x.dst x.arrival)) None) (number_same e.node e.node refl)
-input_came (Piece ms) w x e a t = absurd (cc)
-input_came (Lose k) w x e a t = absurd (cc)
-input_came (Copy k) w x e a t = absurd (cc)
-input_came (At n l) w x e a t = absurd (cc)
-input_came (ClearAt n) w x e a t = absurd (cc)
-input_came (Trace on) w x e a t = absurd (cc)
-input_came (Report r) w x e a t = absurd (cc)
-input_came Flags w x e a t = absurd (cc)
-input_came (Inject d dst b) w x e a t = absurd (cc)
-input_came (Reroute g s hops) w x e a t = absurd (cc)
+input_came s w x e a t =
+    let d = arrival_is s w x a in
+    ap (λ (z : Step). input_at z w e.node) d.1
+    ∙ ap (λ (o : Option Item). came w o e.node) d.2
+    ∙ ap (λ (o : Option End). came_by_end x (iface_of w.net.ends x.end) o e.node) t
+    ∙ ap (λ (b : Bool). cond b (Some (Came (iface_of w.net.ends x.end) x.dst x.arrival)) None) (number_same e.node e.node refl)
 
 -- a node stays as it is, or follows its rule where it stands
 pub record FollowsRule (q : ℕ) (s : Step) (w : World) (n : ℕ) (f : Facts) (o : Outcome) : Type 0 where

@@ -11,7 +11,7 @@ use Rattle.router_rules.specs.Rule.{rule}
 use Rattle.tree_laws.specs.declared.hops.End.{End}
 use Rattle.tree_laws.specs.Networks.{Net, end_at, iface_of, link_of, peers}
 use Rattle.network_model.specs.Links.{is_group, goes_to, copy_to}
-use Rattle.network_model.specs.Steps.{Step, Piece, Deliver, Lose, Copy, At, ClearAt, Trace, Report, Flags, Inject, Reroute, word_for, outcome, sent, step}
+use Rattle.network_model.specs.Steps.{Step, Piece, Deliver, Lose, Copy, Trace, Report, Flags, Inject, word_for, outcome, sent, step}
 use Rattle.network_model.specs.Worlds.{Item, World, place_of}
 
 abbrev pub place_in : ℕ → World → ℕ → Place
@@ -31,17 +31,13 @@ APieceChangesEveryNode q w ms =
 
 -- what is lost, copied, written or injected
 abbrev pub is_still : Step → Bool
-is_still (Piece ms) = false
-is_still (Deliver k) = false
 is_still (Lose k) = true
 is_still (Copy k) = true
-is_still (At n l) = false
-is_still (ClearAt n) = false
 is_still (Trace on) = true
 is_still (Report e) = true
 is_still Flags = true
 is_still (Inject e dst a) = true
-is_still (Reroute g s hops) = false
+is_still _ = false
 
 pub record TheRestChangeNoNode (q : ℕ) (w : World) (s : Step) : Type 0 where
   pub nodes : (step q s w).nodes ≡ w.nodes

@@ -66,17 +66,11 @@ ms_of _ = 0
 
 -- time passes, an item is delivered, lost or copied, or something is written
 abbrev pub is_quiet : Step → Bool
-is_quiet (Piece ms) = true
-is_quiet (Deliver k) = true
-is_quiet (Lose k) = true
-is_quiet (Copy k) = true
 is_quiet (At n l) = false
 is_quiet (ClearAt n) = false
-is_quiet (Trace on) = true
-is_quiet (Report e) = true
-is_quiet Flags = true
 is_quiet (Inject e dst a) = false
 is_quiet (Reroute g s hops) = false
+is_quiet _ = true
 
 -- what arrives by a step
 abbrev pub arrived : Step → World → Option Item
