@@ -37,12 +37,12 @@ use Rattle.network_model.specs.Worlds.{Item, World}
 use Rattle.network_laws.specs.Example.{pair_net, sending_world}
 use Rattle.network_laws.specs.Rounds.{rounds_of}
 use Rattle.network_laws.proofs.Calming.{calm_rounds}
-use Rattle.network_laws.proofs.Example.{a_pair_meets_the_premises}
+use Rattle.network_laws.proofs.Example.{a_pair_stays_within_bounds}
 use Rattle.network_laws.proofs.Keeping.{each_step_keeps_a_world_within_bounds}
 use Rattle.hop_laws.specs.Example.{asking_world, back, asked, SaysAReservation}
 use Rattle.hop_laws.specs.ResvLines.{SaysResv, line_key_of}
 use Rattle.hop_laws.specs.Said.{IsSaid, lane_of}
-use Rattle.hop_laws.proofs.Computed.{Passes, through}
+use Rattle.network_laws.proofs.Computed.{Passes, through}
 
 -- ---- tests
 abbrev is_asked : Part → Bool
@@ -154,7 +154,7 @@ said_told b u t =
 bounds : AreBounds 7500 asking_world
 bounds =
     each_step_keeps_a_world_within_bounds 7500 (step 7500 (Delivers 0) sending_world) (At 1 (WantAs session Wild empty usual false)) (tt, record { rate = omega arith; depth = omega arith; low = omega arith; most = omega arith })
-    (each_step_keeps_a_world_within_bounds 7500 sending_world (Delivers 0) tt a_pair_meets_the_premises.bounds)
+    (each_step_keeps_a_world_within_bounds 7500 sending_world (Delivers 0) tt a_pair_stays_within_bounds.bounds)
 
 pub a_pair_says_a_reservation : SaysAReservation
 a_pair_says_a_reservation = record {

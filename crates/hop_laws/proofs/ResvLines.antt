@@ -2,7 +2,6 @@
 use Rattle.std.proofs.Common.{◌≡◌, ℕ, ◌+◌, ◌*◌, ◌<◌, ◌≤◌, List, length, Bool, true, Option, None, Some, ◌⊎◌, inl, inr, ⊎_elim, arith, sym, refl, ap, subst, ◌∙◌}
 use Rattle.std.specs.Prelude.{slice_get, option_and_then}
 use Rattle.std.specs.Option.{option_map}
-use Rattle.std.proofs.lemmas.Option.{slice_get_within}
 use Rattle.rsvp_base.specs.declared.addr.Addr.{Addr}
 use Rattle.rsvp_base.specs.declared.part.Part.{Part}
 use Rattle.rsvp_base.specs.declared.session.Sender.{Sender}
@@ -21,10 +20,10 @@ use Rattle.router_laws.specs.BoundLaws.{IsLeftOf}
 use Rattle.router_laws.specs.ReservationLaws.{IsAskedFor, IsListed}
 use Rattle.router_laws.proofs.Asking.{where_a_reservation_fact_comes_from}
 use Rattle.router_rules.specs.Facts.{Facts, ResvState, resvs_of}
-use Rattle.router_rules.specs.Inputs.{Input, Wait, Came, Spelt}
+use Rattle.router_rules.specs.Inputs.{Wait, Came, Spelt}
 use Rattle.router_rules.specs.Place.{own}
 use Rattle.router_rules.specs.Rule.{Outcome}
-use Rattle.tree_laws.specs.Networks.{Net, node_of, node_of_end, end_at, iface_of}
+use Rattle.tree_laws.specs.Networks.{Net, node_of, end_at, iface_of}
 use Rattle.tree_laws.proofs.Ifaces.{interfaces_are_ends}
 use Rattle.network_model.specs.Bounds.{AreBounds}
 use Rattle.network_model.specs.Steps.{Step, is_quiet, ms_of, arrived, word_for, input_at, outcome, still, step, machine}
@@ -32,10 +31,10 @@ use Rattle.network_model.specs.Worlds.{Item, World, place_of}
 use Rattle.network_model.proofs.Machines.{quiet_of, time_passes, items_are_numbered}
 use Rattle.network_model.proofs.Quiet.{IsWaited, IsCame, FollowsRule, input_found, outcome_quiet}
 use Rattle.network_model.proofs.Stepping.{facts_after_found}
-use Rattle.network_laws.specs.Lines.{IsKnown}
-use Rattle.network_laws.proofs.PathLines.{full_life}
-use Rattle.network_laws.proofs.SoundPaths.{known_hold}
-use Rattle.network_laws.proofs.Standing.{own_end, same_end}
+use Rattle.network_laws.specs.Known.{IsKnown}
+use Rattle.network_laws.proofs.Due.{full_life}
+use Rattle.network_laws.proofs.Known.{known_hold, end_found}
+use Rattle.network_laws.proofs.Standing.{own_end}
 use Rattle.hop_laws.specs.ResvLines.{ResvKey, IsCut, AllowsCuts, AsksFor, SaysResv, line_key_of, resv_at, kept_of, resv_line}
 
 -- ---- look-up
@@ -78,13 +77,6 @@ module _ (q : ℕ) (o : World) (k : ResvKey) (lt : k.to < length o.net.ends) (s 
   abbrev key : LineKey
   key = line_key_of o.net k
 
-  -- what comes to the node by the interface comes to the end
-  pub end_found : (i : Input) (t : IsCame s u n i) → iface_of u.net.ends t.item.end ≡ iface_of o.net.ends k.to → t.item.end ≡ k.to
-  end_found i t iface =
-      let inside : t.item.end < length o.net.ends = subst (λ (z : Net). t.item.end < length z.ends) a.same.net (slice_get_within u.net.ends t.item.end t.end t.there) in
-      let node : node_of o.net.ends t.item.end ≡ n = ap (λ (z : Net). node_of z.ends t.item.end) (sym a.same.net) ∙ ap node_of_end t.there ∙ t.node in
-      same_end o.net t.item.end k.to inside lt node (ap (λ (z : Net). iface_of z.ends t.item.end) (sym a.same.net) ∙ iface)
-
   asked : (f : Facts) (x : ResvState) (h : FollowsRule q s u n f (outcome q s u n f)) → IsAskedFor (place_of q u.net u.trees n) (u.clock + ms_of s) h.input f k.style key x → IsAsked o.net k s u x
   asked f x h l =
       let i : ℕ = iface_of o.net.ends k.to in
@@ -96,7 +88,7 @@ module _ (q : ℕ) (o : World) (k : ResvKey) (lt : k.to < length o.net.ends) (s 
       let iface : iface_of u.net.ends t.item.end ≡ i = cc in
       let spelt : t.item.arrival ≡ Spelt (message.Resv l.by.resv) = cc in
       let to : t.item.dst ≡ dst = cc in
-      let end : t.item.end ≡ k.to = end_found h.input t iface in
+      let end : t.item.end ≡ k.to = end_found q o u a k.to lt s h.input t iface in
       let at : end_at u.net.ends n i ≡ Some k.to = subst (λ (z : Net). end_at z.ends n i ≡ Some k.to) (sym a.same.net) ((interfaces_are_ends o.net).end_of_iface k.to lt) in
       let addr : dst ≡ addr_of o.net k.to = own_end q u.net u.trees n i k.to at ∙ ap (λ (z : Net). addr_of z k.to) a.same.net in
       let part = asked_part l.unit.names x.part l.listed l.named in

@@ -1,7 +1,7 @@
 -- What is said again and again over a hop is kept: a reservation that is refreshed.
-use Rattle.std.proofs.Common.{◌≡◌, ℕ, ◌+◌, ◌*◌, ◌<◌, ◌≤◌, List, [], ◌∷◌, length, Bool, true, false, cond, Option, None, Some, ◌⊎◌, inl, inr, ⊎_elim, arith, sym, refl, ap, subst, ◌∙◌}
-use Rattle.std.specs.Prelude.{slice_get, ◌==◌, ◌&&◌, ◌||◌, not, is_some, max, min, ◌/◌}
-use Rattle.std.specs.Option.{option_map, option_and_then}
+use Rattle.std.proofs.Common.{◌≡◌, ℕ, ◌+◌, ◌*◌, ◌<◌, ◌≤◌, List, length, Bool, true, false, Option, None, Some, ◌⊎◌, inl, inr, ⊎_elim, arith, sym, refl, ap, subst, ◌∙◌}
+use Rattle.std.specs.Prelude.{slice_get, ◌==◌, ◌&&◌, ◌||◌, is_some, max, min, ◌/◌}
+use Rattle.std.specs.Option.{option_map}
 use Rattle.rsvp_base.specs.declared.addr.Addr.{Addr}
 use Rattle.rsvp_base.specs.declared.part.Part.{Part}
 use Rattle.rsvp_base.specs.declared.session.Sender.{Sender}
@@ -12,7 +12,6 @@ use Rattle.rsvp_base.specs.Members.{In}
 use Rattle.rsvp_base.specs.Orders.{sessions, styles}
 use Rattle.rsvp_base.specs.Table.{get, has, empty}
 use Rattle.rsvp_base.proofs.SetLaws.{and_both, and_made}
-use Rattle.rsvp_base.proofs.Members.{in_filter}
 use Rattle.rsvp_messages.specs.declared.ask.Ask.{Ask}
 use Rattle.rsvp_messages.specs.declared.message.Message.{Message}
 use Rattle.rsvp_messages.specs.declared.message.Message.TheVariants as message
@@ -26,11 +25,10 @@ use Rattle.calm_rounds.specs.Rounds.{Rounds}
 use Rattle.calm_rounds.proofs.Holding.{hold_map, hold_both, hold_start, hold_keep}
 use Rattle.calm_rounds.proofs.Renewing.{what_is_said_is_kept}
 use Rattle.demand_laws.specs.Goals.{addr_of}
-use Rattle.router_laws.specs.CountdownLaws.{IsMoved}
 use Rattle.router_laws.specs.ReservationLaws.{Touches, TouchesBy}
-use Rattle.router_laws.specs.Steps.{is_calm as calm_one, facts_then, fired_then}
+use Rattle.router_laws.specs.Steps.{facts_then, fired_then}
 use Rattle.router_laws.proofs.Asking.{what_keeps_a_reservation_fact}
-use Rattle.router_laws.proofs.Counting.{countdowns_move_by_their_rule, fires}
+use Rattle.router_laws.proofs.Counting.{fires}
 use Rattle.router_laws.proofs.Hopward.{what_a_resv_sent_says}
 use Rattle.router_laws.proofs.Speaking.{refreshes_are_marked}
 use Rattle.router_rules.specs.Asking.{ask_of}
@@ -46,29 +44,28 @@ use Rattle.rule_laws.proofs.Asks.{style_told as ask_told}
 use Rattle.rule_laws.proofs.Knowing.{has-known, lanes_told, counted_made}
 use Rattle.rule_laws.proofs.Requesting.{nowhere}
 use Rattle.rule_laws.proofs.Tests.{ties, addr_told, addr_tested, session_told, style_told}
-use Rattle.tree_laws.specs.Networks.{Net, node_of, node_of_end, end_at, iface_of, among, link_of, peers}
+use Rattle.tree_laws.specs.Networks.{Net, node_of, end_at, iface_of, peers}
 use Rattle.tree_laws.specs.Valid.{IsValid}
 use Rattle.tree_laws.proofs.Following.{same_number, number_same}
 use Rattle.tree_laws.proofs.Ifaces.{interfaces_are_ends}
-use Rattle.tree_laws.proofs.Links.{among_in, of_own_link}
 use Rattle.network_model.specs.Bounds.{AreBounds}
 use Rattle.network_model.specs.Laws.{place_in}
 use Rattle.network_model.specs.Links.{is_group, goes_to, copy_to}
-use Rattle.network_model.specs.Steps.{Step, Piece, Deliver, Lose, Copy, At, ClearAt, Trace, Report, Flags, Inject, Reroute, Lane, OfSender, OfStyle, is_quiet, ms_of, arrived, input_at, word_for, outcome, still, lane, arrival_lane, path_lane, sender_of, sent, step, machine}
+use Rattle.network_model.specs.Steps.{Step, Lane, OfSender, OfStyle, is_quiet, ms_of, arrived, input_at, word_for, outcome, still, lane, arrival_lane, path_lane, sender_of, sent, step, machine}
 use Rattle.network_model.specs.Worlds.{Item, World, place_of}
 use Rattle.network_model.proofs.Changing.{where_a_send_goes}
-use Rattle.network_model.proofs.Listing.{in_place}
 use Rattle.network_model.proofs.Machines.{quiet_of, time_passes, items_are_numbered, in_flight_after, in_arrived}
-use Rattle.network_model.proofs.Quiet.{IsWaited, IsCame, FollowsRule, input_found, input_came, net_quiet, outcome_quiet}
-use Rattle.network_model.proofs.Stepping.{copies_found, copies_made, facts_after_made, sent_found, sent_made}
-use Rattle.network_laws.specs.Lines.{IsKnown}
-use Rattle.network_laws.specs.Telling.{due_at, Refreshes}
-use Rattle.network_laws.proofs.PathLines.{full_life}
-use Rattle.network_laws.proofs.SoundPaths.{of_some, known_hold}
-use Rattle.network_laws.proofs.Standing.{own_end, peer_there, some_at}
+use Rattle.network_model.proofs.Quiet.{IsWaited, IsCame, FollowsRule, input_found, arrival_takes_no_time, net_quiet, outcome_quiet}
+use Rattle.network_model.proofs.Stepping.{copies_made, facts_after_made, sent_made}
+use Rattle.network_laws.specs.Known.{IsKnown}
+use Rattle.network_laws.specs.Refreshes.{due_at, Refreshes}
+use Rattle.network_laws.proofs.Due.{full_life, due_found, due_made, due_moves}
+use Rattle.network_laws.proofs.Known.{of_some, has_some, or_true, known_hold, node_there, end_found, came_there}
+use Rattle.network_laws.proofs.Sends.{sent_by_rule}
+use Rattle.network_laws.proofs.Standing.{own_end, peer_there, linked_there}
 use Rattle.hop_laws.specs.ResvLines.{ResvKey, SaysResv, IsCut, line_key_of, resv_at, kept_of, kept_at, resv_line}
 use Rattle.hop_laws.specs.Said.{IsOver, IsSaid, lane_of}
-use Rattle.hop_laws.proofs.ResvLines.{resv_found, resv_made, kept_found, end_found}
+use Rattle.hop_laws.proofs.ResvLines.{resv_found, resv_made, kept_found}
 
 -- ---- letters: Resvs and ResvTears of the session and style, from the end that asks to the end that keeps
 abbrev speaks : Net → ResvKey → Session → Addr → StyleKind → Bool
@@ -104,73 +101,12 @@ abbrev life_of : ℕ → Arrival → ℕ
 life_of q (Spelt m) = life_of_message q m
 life_of q (Unspelt e) = 0
 
--- ---- ends of links are there
-link_there : (links : List (List ℕ)) (e x n : ℕ) → ((l : List ℕ) → In l links → In x l → x < n) → In x (link_of links e) → x < n
-link_there [] e x n f i = absurd i
-link_there (l ∷ ls) e x n f i = by (among e l) (link_there ls e x n (λ m j. f m (inr j))) i
-  where
-    by : (b : Bool) → (In x (link_of ls e) → x < n) → In x (cond b l (link_of ls e)) → x < n
-    by true rest i = f l (inl refl) i
-    by false rest i = rest i
-
--- what arrives takes no time
-no_time : (s : Step) (w : World) (x : Item) → arrived s w ≡ Some x → ms_of s ≡ 0
-no_time (Piece ms) w x e = absurd (cc)
-no_time (Deliver k) w x e = refl
-no_time (Lose k) w x e = refl
-no_time (Copy k) w x e = refl
-no_time (At n l) w x e = refl
-no_time (ClearAt n) w x e = refl
-no_time (Trace on) w x e = refl
-no_time (Report e) w x t = refl
-no_time Flags w x e = refl
-no_time (Inject t dst a) w x e = refl
-no_time (Reroute g s hops) w x e = refl
-
--- ---- a countdown moves only where its node refreshes
-due_found : (u : World) (n : ℕ) (s : Session) (t : ℕ) → due_at u n s ≡ Some t → (f : Facts) × (slice_get u.nodes n ≡ Some f) × (get f.due s ≡ Some t)
-due_found u n s t e = by (slice_get u.nodes n) refl e
-  where
-    by : (o : Option Facts) → slice_get u.nodes n ≡ o → option_and_then (λ (f : Facts). get f.due s) o ≡ Some t → (f : Facts) × (slice_get u.nodes n ≡ Some f) × (get f.due s ≡ Some t)
-    by None a h = absurd (cc)
-    by (Some f) a h = (f, a, h)
-
-due_moves : (q : ℕ) (s : Step) (u : World) (n : ℕ) (session : Session) (t t' : ℕ) → is_quiet s ≡ true → AreBounds q u → due_at u n session ≡ Some t → due_at (step q s u) n session ≡ Some t' → (t' ≡ t) ⊎ Refreshes n session s u
-due_moves q s u n session t t' quiet bounds e e' =
-    let f = due_found u n session t e in
-    let p : Place = place_of q u.net u.trees n in
-    let now : get (outcome q s u n f.0).facts.due session ≡ Some t' = sym (ap (λ (o : Option Facts). option_and_then (λ (g : Facts). get g.due session) o) (facts_after_made q s u n f.0 f.1)) ∙ e' in
-    ⊎_elim
-    (λ (z : (input_at s u n ≡ None) × (outcome q s u n f.0 ≡ still f.0)). inl (of_some t' t (sym now ∙ ap (λ (w : Outcome). get w.facts.due session) z.1 ∙ f.2)))
-    (λ (r : FollowsRule q s u n f.0 (outcome q s u n f.0)).
-    let came = input_found s u n r.input quiet r.came in
-    let to : get (facts_then p p (u.clock + ms_of s) r.input f.0).due session ≡ Some t' = ap (λ (w : Outcome). get w.facts.due session) (sym r.is) ∙ now in
-    let calm : calm_one r.input ≡ true = ⊎_elim (λ (w : IsWaited s u n r.input). ap calm_one w.is) (λ (c : IsCame s u n r.input). ap calm_one c.is) came in
-    ⊎_elim
-    (λ (stay : (t' ≡ t) × (has (fired_then p (u.clock + ms_of s) r.input f.0) session ≡ false)). inl stay.0)
-    (λ (go : IsMoved p (u.clock + ms_of s) r.input t t' × (has (fired_then p (u.clock + ms_of s) r.input f.0) session ≡ true)).
-    ⊎_elim
-    (λ (w : IsWaited s u n r.input). inr (record { ms = w.ms; waits = w.step; facts = f.0; there = f.1; moment = t; due = f.2; reached = (let z = go.0.reached in let ms = ap ms_of w.step in omega arith) }))
-    (λ (c : IsCame s u n r.input). let bad : Came (iface_of u.net.ends c.item.end) c.item.dst c.item.arrival ≡ Wait go.0.ms go.0.word = sym c.is ∙ go.0.waited in absurd (cc)) came)
-    (countdowns_move_by_their_rule.moves p p u.clock (u.clock + ms_of s) r.input f.0 (bounds.facts n f.0 f.1) session t t' calm f.2 to))
-    (outcome_quiet q s u n f.0 quiet)
-
 -- ---- Resvs are sent for a full lifetime
 full_period : (q : ℕ) (s : Step) (u : World) (y : Item) (b : Bool) (m : ResvMsg) → is_quiet s ≡ true → AreBounds q u → In (y, b) (sent q s u) → y.arrival ≡ Spelt (message.Resv m) → m.period ≡ 4 * q
 full_period q s u y b m quiet bounds i spelt =
-    let n = sent_found q s u (y, b) i in
-    let o : Outcome = outcome q s u n.0 n.1 in
-    let p : Place = place_of q u.net u.trees n.0 in
-    let c = copies_found u.net u.made n.0 o.sent (y, b) n.3 in
-    let copied : Spelt c.0.message ≡ Spelt (message.Resv m) = sym (ap (λ (z : Item × Bool). z.0.arrival) c.4) ∙ spelt in
-    let says : c.0.message ≡ message.Resv m = cc in
-    ⊎_elim
-    (λ (h : (input_at s u n.0 ≡ None) × (o ≡ still n.1)).
-    let none : o.sent ≡ [] = ap (λ (z : Outcome). z.sent) h.1 in
-    absurd (subst (λ (z : List Send). In c.0 z) none c.2))
-    (λ (h : FollowsRule q s u n.0 n.1 o).
-    (what_a_resv_sent_says.says p p u.clock (u.clock + ms_of s) h.input n.1 (bounds.facts n.0 n.1 n.2) c.0 m (subst (λ (z : Outcome). In c.0 z.sent) h.is c.2) says).period)
-    (outcome_quiet q s u n.0 n.1 quiet)
+    let r = sent_by_rule q s u y b (message.Resv m) quiet i spelt in
+    let p : Place = place_of q u.net u.trees r.node in
+    (what_a_resv_sent_says.says p p u.clock (u.clock + ms_of s) r.by.input r.facts (bounds.facts r.node r.facts r.there) r.send m r.sent r.says).period
 
 abbrev AreFull : ℕ → ℕ → World → Type 0
 AreFull q b u = (y : Item) (m : ResvMsg) → In y u.flight → b ≤ y.born → y.arrival ≡ Spelt (message.Resv m) → m.period ≡ 4 * q
@@ -202,18 +138,7 @@ module _ (q : ℕ) (o : World) (k : ResvKey) (valid : IsValid o.net) (linked : I
 
   -- the other end is on the link too
   from_there : k.from < length o.net.ends
-  from_there =
-      let both : In k.to (link_of o.net.links k.from) = (in_filter (λ x. not (x == k.from)) k.to (link_of o.net.links k.from) linked).0 in
-      let own = among_in k.from (link_of o.net.links k.from) (of_own_link o.net.links k.from k.to both) in
-      link_there o.net.links k.from k.from (length o.net.ends) (λ l i. valid.ends_of_links l k.from i) own
-
-  node_facts : (u : World) (e : ℕ) → e < length o.net.ends → IsKnown q o u → (f : Facts) × (slice_get u.nodes (node_of o.net.ends e) ≡ Some f)
-  node_facts u e there a =
-      let x = some_at o.net.ends e there in
-      let inside : node_of o.net.ends e < o.net.nodes = subst (λ (z : ℕ). z < o.net.nodes) (sym (ap node_of_end x.1)) (valid.placed x.0 (in_place x.0 e o.net.ends x.1)) in
-      let many = a.bounds.nodes in
-      let same = ap (λ (z : Net). z.nodes) a.same.net in
-      some_at u.nodes (node_of o.net.ends e) (omega arith)
+  from_there = linked_there o.net valid k.from k.to linked
 
   pub record IsFirm (u : World) : Type 0 where
     pub known : IsKnown q o u
@@ -262,21 +187,16 @@ module _ (q : ℕ) (o : World) (k : ResvKey) (valid : IsValid o.net) (linked : I
   -- ---- what is said and arrives is taken
   takes : (s : Step) (u : World) (y : Item) → is_quiet s ≡ true → IsFirm u → arrived s u ≡ Some y → b ≤ y.born → SaysResv o.net k y v → life_of q y.arrival ≡ 21 * q → kept_at o.net k (step q s u) ≡ Some (v, u.clock + 21 * q)
   takes s u y quiet g arr born says life =
-      let f = node_facts u k.to lt g.known in
+      let f = node_there q o valid u k.to g.known lt in
       let p : Place = place_of q u.net u.trees at_to in
-      let x = some_at o.net.ends k.to lt in
-      let there : slice_get u.net.ends y.end ≡ Some x.0 = ap (λ (z : Net). slice_get z.ends y.end) g.known.same.net ∙ ap (λ (z : ℕ). slice_get o.net.ends z) says.end ∙ x.1 in
-      let node : x.0.node ≡ at_to = sym (ap node_of_end x.1) in
-      let in_u : input_at s u at_to ≡ Some (Came (iface_of u.net.ends y.end) y.dst y.arrival) = ap (λ (z : ℕ). input_at s u z) (sym node) ∙ input_came s u y x.0 arr there in
-      let iface : iface_of u.net.ends y.end ≡ iface_of o.net.ends k.to = ap (λ (z : Net). iface_of z.ends y.end) g.known.same.net ∙ ap (iface_of o.net.ends) says.end in
       let input : Input = Came (iface_of o.net.ends k.to) y.dst (Spelt (message.Resv says.resv)) in
-      let came : input_at s u at_to ≡ Some input = in_u ∙ (λ i. Some (Came (iface i) y.dst (says.spelt i))) in
+      let came : input_at s u at_to ≡ Some input = came_there q o u g.known k.to lt s y arr says.end ∙ (λ i. Some (Came (iface_of o.net.ends k.to) y.dst (says.spelt i))) in
       let taken = g.said.taken y (in_arrived s u y arr) born says f.0 f.1 in
       ⊎_elim
       (λ (z : (input_at s u at_to ≡ None) × (outcome q s u at_to f.0 ≡ still f.0)). let bad : None ≡ Some input = sym z.0 ∙ came in absurd (cc))
       (λ (r : FollowsRule q s u at_to f.0 (outcome q s u at_to f.0)).
       let is : r.input ≡ input = of_some r.input input (sym r.came ∙ came) in
-      let ms : u.clock + ms_of s ≡ u.clock = (let e = no_time s u y arr in omega arith) in
+      let ms : u.clock + ms_of s ≡ u.clock = (let e = arrival_takes_no_time s u y arr in omega arith) in
       let same : (outcome q s u at_to f.0).facts ≡ facts_then p p u.clock input f.0 = ap (λ (z : Outcome). z.facts) r.is ∙ (λ i. facts_then p p (ms i) (is i) f.0) in
       let after : slice_get (step q s u).nodes at_to ≡ Some (outcome q s u at_to f.0).facts = facts_after_made q s u at_to f.0 f.1 in
       let kept : resv_at (step q s u) at_to k.style key ≡ Some taken.0 = resv_made (step q s u) at_to k.style key (outcome q s u at_to f.0).facts after ∙ ap (λ (z : Facts). get (resvs_of k.style z) key) same ∙ taken.1 in
@@ -288,7 +208,7 @@ module _ (q : ℕ) (o : World) (k : ResvKey) (valid : IsValid o.net) (linked : I
   -- ---- the node that asks has a moment for its next refresh
   counts : (u : World) → IsFirm u → (t : ℕ) × (due_at u at_from k.session ≡ Some t)
   counts u g =
-      let f = node_facts u k.from from_there g.known in
+      let f = node_there q o valid u k.from g.known from_there in
       let p : Place = place_of q u.net u.trees at_from in
       let l : HopLane = lane_of o.net k in
       let ask = g.said.asks f.0 f.1 in
@@ -296,17 +216,9 @@ module _ (q : ℕ) (o : World) (k : ResvKey) (valid : IsValid o.net) (linked : I
       let path : has f.0.paths (k.session, by.0) ≡ true = ap (λ (z : Option PathState). is_some z) by.1.there in
       let one : has (known f.0 k.session) by.0 ≡ true = has-known f.0 k.session by.0 ∙ ap (λ (x : Bool). has f.0.senders (k.session, by.0) || x) path ∙ or_true (has f.0.senders (k.session, by.0)) in
       let due : has f.0.due k.session ≡ true = (g.known.bounds.facts at_from f.0 f.1).due.counted k.session ∙ counted_made f.0 k.session by.0 one in
-      let m = some_of (get f.0.due k.session) due in
-      (m.0, ap (λ (z : Option Facts). option_and_then (λ (h : Facts). get h.due k.session) z) f.1 ∙ m.1)
+      let m = has_some (get f.0.due k.session) due in
+      (m.0, due_made u at_from k.session m.0 f.0 f.1 m.1)
     where
-      or_true : (x : Bool) → (x || true) ≡ true
-      or_true true = refl
-      or_true false = refl
-
-      some_of : (x : Option ℕ) → is_some x ≡ true → (m : ℕ) × (x ≡ Some m)
-      some_of None e = absurd (cc)
-      some_of (Some m) e = (m, refl)
-
       is_lane : (f : Facts) (l : HopLane) (p : Place) (a : Ask) → ask_of l.style (toward p f l) ≡ Some a → (x : Bool) → has (lanes f) l ≡ x → has (lanes f) l ≡ true
       is_lane f l p a e true h = h
       is_lane f l p a e false h = absurd (asks_of_none l.style a (sym (ap (ask_of l.style) (nowhere p f l h)) ∙ e))
@@ -326,7 +238,7 @@ module _ (q : ℕ) (o : World) (k : ResvKey) (valid : IsValid o.net) (linked : I
     where
       no : (m : Message) → c.item.arrival ≡ Spelt m → iface_of u.net.ends c.item.end ≡ iface_of o.net.ends k.to → letter_message o.net k m ≡ true → ⊥
       no m e iface letter =
-          let end : c.item.end ≡ k.to = end_found q o k lt s u quiet a i c iface in
+          let end : c.item.end ≡ k.to = end_found q o u a k.to lt s i c iface in
           let yes : is_letter o.net k c.item ≡ true = and_made _ _ (number_same c.item.end k.to end) (ap (letter_arrival o.net k) e ∙ letter) in
           let bad : true ≡ false = sym yes ∙ none c.item c.arrives in
           absurd (cc)

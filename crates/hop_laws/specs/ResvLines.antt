@@ -21,7 +21,7 @@ use Rattle.router_rules.specs.Inputs.{Spelt}
 use Rattle.tree_laws.specs.Networks.{Net, node_of, iface_of}
 use Rattle.network_model.specs.Steps.{Step, Lane}
 use Rattle.network_model.specs.Worlds.{Item, World}
-use Rattle.network_laws.specs.Lines.{IsKnown}
+use Rattle.network_laws.specs.Known.{IsKnown}
 
 -- ---- a session, style and unit over a hop, from the end that asks to the end that keeps
 pub record ResvKey : Type 0 where

@@ -1,21 +1,16 @@
 //! The laws.
-ghost use Rattle.std.specs.Prelude.{◌≡◌, ◌<◌, ℕ, List, Bool, true, Some, length};
+ghost use Rattle.std.specs.Prelude.{◌≡◌, ◌<◌, ℕ, List, Bool, true, length};
 ghost use Rattle.rsvp_base.specs.declared.part.Part.{Part};
 ghost use Rattle.rsvp_base.specs.Members.{In};
 ghost use Rattle.calm_rounds.specs.Hold.{Hold};
 ghost use Rattle.calm_rounds.specs.Lines.{KeepsOnly, SaysOnly, Stands};
 ghost use Rattle.calm_rounds.specs.Rounds.{Rounds};
-ghost use Rattle.rsvp_base.specs.declared.addr.Addr.{Addr};
-ghost use Rattle.rsvp_messages.specs.declared.message.Message.{Message};
-ghost use Rattle.router_rules.specs.Inputs.{Spelt};
 ghost use Rattle.tree_laws.specs.Networks.{peers};
 ghost use Rattle.network_model.specs.Bounds.{AreBounds};
-ghost use Rattle.network_model.specs.Steps.{Step, machine, sent};
-ghost use Rattle.network_model.specs.Worlds.{Item, World};
+ghost use Rattle.network_model.specs.Steps.{Step, machine};
+ghost use Rattle.network_model.specs.Worlds.{World};
 ghost use Rattle.hop_laws.specs.Example.{SaysAReservation};
-ghost use Rattle.hop_laws.specs.Hops.{LeavesBy, hop_of};
 ghost use Rattle.hop_laws.specs.ResvLines.{ResvKey, AllowsCuts, resv_line};
-ghost use Rattle.hop_laws.specs.Sure.{IsSureOfPaths};
 ghost use Rattle.hop_laws.specs.Said.{IsSaid};
 
 /// One hop settles, for a reservation: where all Resvs that are sent over a hop from now on ask, for a session, style and
@@ -35,20 +30,8 @@ pub fn said_resvs_are_kept()
         → Hold (machine q) 0 rs w (IsSaid q w.net k v w.made) → Hold (machine q) 2 rs w (Stands (machine q) (resv_line q w k) v) }
 {}
 
-/// The RSVP_HOP of each Path, PathTear, Resv, ResvTear and ResvErr that a node sends, by whatever step, has the address of
-/// the end of its node by which it leaves.
-pub fn the_hop_of_what_is_sent()
-    ensures { (q : ℕ) (s : Step) (w : World) (y : Item) (mark : Bool) (m : Message) (a : Addr) → In (y, mark) (sent q s w) → y.arrival ≡ Spelt m → hop_of m ≡ Some a → LeavesBy q s w (y, mark) a }
-{}
-
 /// A small network meets the premises of `said_resvs_are_kept` through two calm rounds, and at their start what it promises
 /// does not hold yet.
 pub fn a_pair_says_a_reservation()
     ensures { SaysAReservation }
-{}
-
-/// A small network meets the premises of the law on Paths that are said over a hop (`said_paths_are_kept` of `network_laws`)
-/// through two calm rounds, and at their start what it promises does not hold yet.
-pub fn a_pair_is_sure()
-    ensures { IsSureOfPaths }
 {}

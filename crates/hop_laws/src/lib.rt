@@ -1,5 +1,4 @@
-//! Laws of one hop of a network: what a node keeps of the reservations that come over the hop, after so many calm rounds; and
-//! by which end a message leaves that says a hop.
+//! Laws of one hop of a network: what a node keeps of the reservations that come over the hop, after so many calm rounds.
 //!
 //! A reservation goes against a sender's tree, from the node behind the hop to the node before it (RFC 2205, 3.1.4). Over one
 //! hop it is refreshed in each round (RFC 2205, 2.3 and 3.7). What is kept of a session, style and unit is then what is said,

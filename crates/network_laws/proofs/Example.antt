@@ -1,49 +1,42 @@
--- The small network meets the premises of the laws.
-use Rattle.std.proofs.Common.{◌≡◌, ℕ, zero, suc, ◌<◌, ◌≤◌, List, [], ◌∷◌, length, Bool, true, false, cond, Option, None, Some, ◌⊎◌, inl, inr, ⊎_elim, arith, sym, refl, ap, subst, ◌∙◌}
+-- The small network is within bounds.
+use Rattle.std.proofs.Common.{◌≡◌, ℕ, zero, suc, ◌<◌, ◌≤◌, List, [], ◌∷◌, length, Bool, true, false, Option, None, Some, ◌⊎◌, inl, inr, ⊎_elim, arith, sym, refl, ap, subst, ◌∙◌}
 use Rattle.std.specs.Prelude.{slice_get, map as each, ◌==◌, ◌&&◌, nat_le, if◌then◌else◌}
 use Rattle.std.specs.List.{list_all}
 use Rattle.std.proofs.lemmas.Bool.{leb-true}
 use Rattle.rsvp_base.specs.declared.addr.Addr.{Addr}
 use Rattle.rsvp_base.specs.Members.{In}
-use Rattle.rsvp_base.specs.Orders.{sessions}
-use Rattle.rsvp_base.specs.Table.{Table, empty, get, put_in}
 use Rattle.rsvp_base.specs.declared.session.Sender.{Sender}
 use Rattle.rsvp_messages.specs.Proper.{WhereThere}
-use Rattle.std.specs.Ordering.{eq_by_cmp}
-use Rattle.demand_laws.specs.declared.locals.LocalSender.{LocalSender}
 use Rattle.rsvp_messages.specs.declared.message.Message.{Message}
 use Rattle.rsvp_messages.specs.declared.message.Message.TheVariants as message
 use Rattle.rsvp_base.specs.TokenBucket.{TokenBucket, IsSound}
 use Rattle.rsvp_base.proofs.Members.{all_in}
 use Rattle.rsvp_base.proofs.SetLaws.{and_both}
-use Rattle.rsvp_base.proofs.Tables.{got_put_in}
 use Rattle.calm_rounds.specs.Rounds.{AreQuiet}
 use Rattle.calm_rounds.specs.Hold.{Visited}
 use Rattle.calm_rounds.proofs.Holding.{visited_end}
 use Rattle.router_rules.specs.Bounds.{IsWithinBounds}
-use Rattle.router_rules.specs.Facts.{Facts, SenderKey, sender_keys, no_facts}
+use Rattle.router_rules.specs.Facts.{Facts, no_facts}
 use Rattle.router_rules.specs.Inputs.{Arrival, Spelt, Unspelt, SendAs}
 use Rattle.router_rules.specs.Line.{s1, r1, session, first, usual}
 use Rattle.router_rules.proofs.Bounding.{no_facts_are_within_bounds}
 use Rattle.tree_laws.specs.declared.hops.End.{End}
 use Rattle.tree_laws.specs.declared.hops.Hop.{Hop}
 use Rattle.tree_laws.specs.declared.hops.TreeHop.{TreeHop}
-use Rattle.tree_laws.specs.Networks.{node_of, owner, among, link_of}
+use Rattle.tree_laws.specs.Networks.{node_of, among, link_of}
 use Rattle.tree_laws.specs.Ranks.{Follows, followers}
 use Rattle.tree_laws.specs.Trees.{of_tree, tree, Grows, IsGrown}
 use Rattle.tree_laws.specs.Valid.{IsValid, AreRising}
 use Rattle.tree_laws.proofs.Following.{addr_same, in_tree, followers_follow}
-use Rattle.network_model.specs.Bounds.{AreBounds, AreLocals, IsProperArrival}
+use Rattle.network_model.specs.Bounds.{AreBounds, IsProperArrival}
 use Rattle.network_model.specs.Events.{a_round}
-use Rattle.network_model.specs.Links.{is_group}
-use Rattle.network_model.specs.Locals.{IsLive, sessions_of}
 use Rattle.network_model.specs.Rows.{end_of, hop_of}
-use Rattle.network_model.specs.Sound.{ArePathsComplete}
 use Rattle.network_model.specs.Steps.{Step, At, sent, step, machine}
 use Rattle.network_model.specs.Worlds.{Item, World, place_of}
-use Rattle.network_laws.specs.Example.{pair_net, quiet_world, sending_world, MeetsThePremises}
+use Rattle.network_laws.specs.Example.{pair_net, quiet_world, sending_world, APairStaysWithinBounds}
 use Rattle.network_laws.proofs.Calming.{calm_rounds}
 use Rattle.network_laws.proofs.Keeping.{calm_fit, step_keeps}
+use Rattle.network_laws.proofs.Known.{of_some}
 
 -- ---- the network is valid
 abbrev zero_one : List ℕ
@@ -70,13 +63,10 @@ other_addr d e a b same =
     let n = ap (λ (z : Addr). z.0) same in
     omega arith
 
-some_is : {A : Type 0} (a b : A) → Some a ≡ Some b → a ≡ b
-some_is a b e = cc
-
 one_address : (i j : ℕ) (d e : End) → slice_get pair_net.ends i ≡ Some d → slice_get pair_net.ends j ≡ Some e → d.iface.addr ≡ e.iface.addr → i ≡ j
 one_address zero zero d e a b same = refl
-one_address zero (suc zero) d e a b same = absurd (other_addr d e (some_is _ _ a) (some_is _ _ b) same)
-one_address (suc zero) zero d e a b same = absurd (other_addr e d (some_is _ _ b) (some_is _ _ a) (sym same))
+one_address zero (suc zero) d e a b same = absurd (other_addr d e (of_some _ _ a) (of_some _ _ b) same)
+one_address (suc zero) zero d e a b same = absurd (other_addr e d (of_some _ _ b) (of_some _ _ a) (sym same))
 one_address (suc zero) (suc zero) d e a b same = refl
 one_address zero (suc (suc j)) d e a b same = absurd (cc)
 one_address (suc zero) (suc (suc j)) d e a b same = absurd (cc)
@@ -162,8 +152,8 @@ valid = record {
 
 -- ---- the worlds are within bounds
 nothing_there : (n : ℕ) (f : Facts) → slice_get quiet_world.nodes n ≡ Some f → no_facts ≡ f
-nothing_there zero f e = some_is _ _ e
-nothing_there (suc zero) f e = some_is _ _ e
+nothing_there zero f e = of_some _ _ e
+nothing_there (suc zero) f e = of_some _ _ e
 nothing_there (suc (suc n)) f e = absurd (cc)
 
 quiet : AreBounds 7500 quiet_world
@@ -235,53 +225,10 @@ visited (s ∷ ss) w b q t =
 one_round : Visited (machine 7500) (AreBounds 7500) (a_round 7500 sending_world) sending_world
 one_round = visited (a_round 7500 sending_world) sending_world bounds (calm_rounds 7500 1 sending_world).0.silent refl
 
--- ---- the one local sender
-abbrev none_yet : Table sender_keys TokenBucket
-none_yet = empty
-
-sender_is : (n : ℕ) (f : Facts) (k : SenderKey) (t : TokenBucket) → slice_get sending_world.nodes n ≡ Some f → get f.senders k ≡ Some t → (n ≡ 0) × (k ≡ (session, first))
-sender_is zero f k t e h =
-    let same = some_is _ _ e in
-    ⊎_elim
-    (λ (here : (k ≡ (session, first)) × (t ≡ usual)). (refl, here.0))
-    (λ (old : get none_yet k ≡ Some t). absurd (cc))
-    (got_put_in sender_keys none_yet (session, first) usual k t (ap (λ (z : Facts). get z.senders k) same ∙ h))
-sender_is (suc zero) f k t e h =
-    let same : no_facts ≡ f = some_is _ _ e in
-    let none : get no_facts.senders k ≡ Some t = ap (λ (z : Facts). get z.senders k) same ∙ h in
-    absurd (cc)
-sender_is (suc (suc n)) f k t e h = absurd (cc)
-
-locals : AreLocals sending_world
-locals = record {
-  placed = λ n f k t e h. let is = sender_is n f k t e h in ap (λ (z : SenderKey). owner pair_net.ends z.1.addr) is.1 ∙ ap Some (sym is.0);
-  groups = λ n f k t e h. let is = sender_is n f k t e h in ap (λ (z : SenderKey). is_group z.0.group) is.1;
-  few_senders = λ s. few (eq_by_cmp sessions.cmp s session);
-  few_sessions = let n : length (sessions_of sending_world) ≡ 1 = refl in omega arith;
-}
-  where
-    few : (b : Bool) → length (each (λ (x : LocalSender). x.sender) (cond b ((record { node = 0; session = session; sender = first }) ∷ []) [])) ≤ 16
-    few true = omega arith
-    few false = omega arith
-
-live : IsLive sending_world (session, first) usual
-live = record { node = 0; senders = put_in none_yet (session, first) usual; at = refl; sends = refl }
-
-not_yet : ArePathsComplete sending_world → ⊥
-not_yet complete =
-    let p = complete (session, first) usual (record { from = 0; to = 1 }) live (inl refl) in
-    let same : no_facts ≡ p.facts = some_is _ _ p.node in
-    let none : get no_facts.paths (session, first) ≡ Some p.path = ap (λ (z : Facts). get z.paths (session, first)) same ∙ p.there in
-    cc
-
-pub a_pair_meets_the_premises : MeetsThePremises
-a_pair_meets_the_premises = record {
+pub a_pair_stays_within_bounds : APairStaysWithinBounds
+a_pair_stays_within_bounds = record {
   quiet = quiet;
   bounds = bounds;
-  locals = locals;
-  live = live;
-  hop = refl;
   rounds = λ k. calm_rounds 7500 k sending_world;
   one_round = (one_round, visited_end (machine 7500) (AreBounds 7500) (a_round 7500 sending_world) sending_world one_round);
-  not_yet = not_yet;
 }

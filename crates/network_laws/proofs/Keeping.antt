@@ -3,6 +3,7 @@ use Rattle.std.proofs.Common.{◌≡◌, ℕ, suc, ◌+◌, ◌<◌, ◌≤◌, 
 use Rattle.std.specs.Prelude.{slice_get, map as each, not}
 use Rattle.std.specs.List.{filter}
 use Rattle.std.proofs.lemmas.Option.{slice_get_within}
+use Rattle.rsvp_base.specs.declared.addr.Addr.{Addr}
 use Rattle.rsvp_base.specs.Members.{In}
 use Rattle.rsvp_base.proofs.Members.{in_append, in_each, in_filter}
 use Rattle.rsvp_messages.specs.Proper.{IsProper}
@@ -19,48 +20,43 @@ use Rattle.router_rules.specs.Facts.{Facts}
 use Rattle.router_rules.specs.Inputs.{Arrival, Input, Call, Wait, Clear, Moved, Send, Spelt, Unspelt}
 use Rattle.router_rules.specs.Rule.{rule}
 use Rattle.tree_laws.specs.declared.hops.End.{End}
+use Rattle.tree_laws.specs.declared.hops.Hop.{Hop}
 use Rattle.tree_laws.specs.declared.hops.TreeHop.{TreeHop}
 use Rattle.tree_laws.specs.Networks.{Net, node_of, node_of_end, end_at, ends_of, iface_of}
 use Rattle.tree_laws.specs.Trees.{of_tree}
 use Rattle.tree_laws.specs.Valid.{IsValid}
 use Rattle.tree_laws.proofs.Ifaces.{interfaces_are_ends}
 use Rattle.network_model.specs.Bounds.{IsItem, IsProperArrival, AreBounds}
-use Rattle.network_model.specs.Steps.{Step, Piece, Deliver, Lose, Copy, At, ClearAt, Trace, Report, Flags, Inject, Reroute, is_calm, is_quiet, ms_of, net_after, tree_hop, input_at, word_for, rest, outcome_of, outcome, facts_from, sent, step, machine}
+use Rattle.network_model.specs.Steps.{Step, Piece, Deliver, Lose, Copy, At, ClearAt, Trace, Report, Flags, Inject, Reroute, is_calm, is_quiet, ms_of, net_after, rerouted, tree_hop, input_at, word_for, rest, outcome_of, outcome, facts_from, sent, step, machine}
 use Rattle.network_model.specs.Worlds.{Item, World, ifaces_at, place_of}
 use Rattle.network_model.proofs.Listing.{in_remove, in_place}
 use Rattle.network_model.proofs.Machines.{in_arrived, quiet_of, short_of}
 use Rattle.network_model.proofs.Quiet.{IsWaited, IsCame, at_node_found, input_found}
 use Rattle.network_model.proofs.Stepping.{copies_found, facts_after_found, sent_found}
 use Rattle.network_laws.specs.Keeping.{IsFitStep}
-use Rattle.network_laws.proofs.PathSends.{goes_to_peers, goes_to_end}
+use Rattle.network_laws.proofs.Sends.{goes_to_peers, goes_to_end}
 use Rattle.network_laws.proofs.Standing.{iface_less, peer_there}
 
 -- ---- the network after a step
-ends_same : (s : Step) (w : World) → (net_after s w).ends ≡ w.net.ends
-ends_same (Piece ms) w = refl
-ends_same (Deliver k) w = refl
-ends_same (Lose k) w = refl
-ends_same (Copy k) w = refl
-ends_same (At n l) w = refl
-ends_same (ClearAt n) w = refl
-ends_same (Trace on) w = refl
-ends_same (Report e) w = refl
-ends_same Flags w = refl
-ends_same (Inject e dst a) w = refl
-ends_same (Reroute g s hops) w = refl
+-- what a new tree leaves alone no step changes
+net_kept : {X : Type 0} (part : Net → X) → ((net : Net) (g s : Addr) (hops : List Hop) → part (rerouted net g s hops) ≡ part net) → (s : Step) (w : World) → part (net_after s w) ≡ part w.net
+net_kept part same (Piece ms) w = refl
+net_kept part same (Deliver k) w = refl
+net_kept part same (Lose k) w = refl
+net_kept part same (Copy k) w = refl
+net_kept part same (At n l) w = refl
+net_kept part same (ClearAt n) w = refl
+net_kept part same (Trace on) w = refl
+net_kept part same (Report e) w = refl
+net_kept part same Flags w = refl
+net_kept part same (Inject e dst a) w = refl
+net_kept part same (Reroute g s hops) w = same w.net g s hops
+
+pub ends_same : (s : Step) (w : World) → (net_after s w).ends ≡ w.net.ends
+ends_same s w = net_kept (λ (n : Net). n.ends) (λ n g x hops. refl) s w
 
 nodes_same : (s : Step) (w : World) → (net_after s w).nodes ≡ w.net.nodes
-nodes_same (Piece ms) w = refl
-nodes_same (Deliver k) w = refl
-nodes_same (Lose k) w = refl
-nodes_same (Copy k) w = refl
-nodes_same (At n l) w = refl
-nodes_same (ClearAt n) w = refl
-nodes_same (Trace on) w = refl
-nodes_same (Report e) w = refl
-nodes_same Flags w = refl
-nodes_same (Inject e dst a) w = refl
-nodes_same (Reroute g s hops) w = refl
+nodes_same s w = net_kept (λ (n : Net). n.nodes) (λ n g x hops. refl) s w
 
 valid_after : (q : ℕ) (s : Step) (w : World) → IsFitStep q w s → IsValid w.net → IsValid (net_after s w)
 valid_after q (Piece ms) w fit v = v

@@ -1,10 +1,10 @@
 pub mod Standing
-pub mod PathLines
-pub mod PathSends
-pub mod SoundPaths
+pub mod Known
+pub mod Due
+pub mod Sends
 pub mod Keeping
+pub mod Hops
+pub mod Computed
 pub mod Example
-pub mod LiveSenders
-pub mod CompletePaths
 pub mod Passing
 pub mod Calming

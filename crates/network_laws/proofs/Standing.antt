@@ -23,7 +23,7 @@ use Rattle.tree_laws.specs.Valid.{IsValid}
 use Rattle.tree_laws.proofs.Following.{same_number, number_same, addr_same, addr_itself}
 use Rattle.tree_laws.proofs.Ifaces.{interfaces_are_ends}
 use Rattle.tree_laws.proofs.Links.{among_in, of_own_link, hop_linked}
-use Rattle.tree_laws.proofs.TreeLaws.{way_in_told}
+use Rattle.tree_laws.proofs.TreeLaws.{out_told, way_in_told}
 use Rattle.network_model.specs.Worlds.{bits_of, route_of, with_iface, ifaces_at, place_of}
 
 -- ---- numbers as bits
@@ -179,12 +179,16 @@ module _ (net : Net) (valid : IsValid net) where
   pub to_there : (g s : Addr) (h : Hop) → In h (tree net.hops g s) → h.to < length net.ends
   to_there g s h i = peer_there h.from h.to (hop_linked net valid g s h i)
 
+  -- an end whose link has another one is there
+  pub linked_there : (a e : ℕ) → In e (peers net.links a) → a < length net.ends
+  linked_there a e i =
+      let linked = (in_filter (λ x. not (x == a)) e (link_of net.links a) i).0 in
+      let own = among_in a (link_of net.links a) (of_own_link net.links a e linked) in
+      let l = link_member net.links a a own in
+      valid.ends_of_links l.0 a l.1 l.2
+
   pub from_there : (g s : Addr) (h : Hop) → In h (tree net.hops g s) → h.from < length net.ends
-  from_there g s h i =
-      let linked = (in_filter (λ x. not (x == h.from)) h.to (link_of net.links h.from) (hop_linked net valid g s h i)).0 in
-      let own = among_in h.from (link_of net.links h.from) (of_own_link net.links h.from h.to linked) in
-      let l = link_member net.links h.from h.from own in
-      valid.ends_of_links l.0 h.from l.1 l.2
+  from_there g s h i = linked_there h.from h.to (hop_linked net valid g s h i)
 
   pub inward_there : (n e : ℕ) (g s : Addr) → inward net n g s ≡ Some e → (e < length net.ends) × (node_of net.ends e ≡ n)
   inward_there n e g s is =
@@ -198,3 +202,15 @@ same_end net d e a b node iface =
     let y = (interfaces_are_ends net).end_of_iface e b in
     let z : Some d ≡ Some e = sym x ∙ ap (λ (k : ℕ). end_at net.ends k (iface_of net.ends d)) node ∙ ap (λ (k : ℕ). end_at net.ends (node_of net.ends e) k) iface ∙ y in
     cc
+
+-- the end by which a tree leaves a node, from its interface
+pub way_out : (q : ℕ) (net : Net) (trees : List (Addr × Addr)) (n : ℕ) → IsValid net → (s : Session) (i : ℕ) (x : Sender) → i < length (place_of q net trees n).ifaces → goes_out (place_of q net trees n) s i x ≡ true
+    → (e : ℕ) × (end_at net.ends n i ≡ Some e) × (node_of net.ends e ≡ n) × In e (outward net n s.group x.addr)
+way_out q net trees n valid s i x lt way =
+    let e = end_of q net trees n i lt in
+    let of = (interfaces_are_ends net).iface_of_end n i e.0 e.1 in
+    let out = goes_out_told q net trees n s i x way in
+    let h = out_told net n out.0 s.group x.addr out.1 in
+    let inside : out.0 < length net.ends = subst (λ (z : ℕ). z < length net.ends) h.2 (from_there net valid s.group x.addr h.0 h.1) in
+    let same : out.0 ≡ e.0 = same_end net out.0 e.0 inside of.0 (h.3 ∙ sym of.1) (out.2 ∙ sym of.2) in
+    (e.0, e.1, of.1, subst (λ (z : ℕ). In z (outward net n s.group x.addr)) same out.1)

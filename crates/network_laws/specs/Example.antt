@@ -1,17 +1,13 @@
--- A small network that meets the premises of the laws: two nodes on one link, a tree of one hop, and a sender whose first
--- Path is on its way.
-use Rattle.std.specs.Prelude.{◌≡◌, ℕ, [], ◌∷◌, false}
+-- A small network within bounds: two nodes on one link, a tree of one hop, and a sender whose first Path is on its way.
+use Rattle.std.specs.Prelude.{ℕ, [], ◌∷◌, false}
 use Rattle.calm_rounds.specs.Rounds.{Rounds}
 use Rattle.calm_rounds.specs.Hold.{Hold}
 use Rattle.router_rules.specs.Facts.{no_facts}
 use Rattle.router_rules.specs.Inputs.{SendAs}
 use Rattle.router_rules.specs.Line.{s1, r1, group, session, first, usual}
 use Rattle.tree_laws.specs.Networks.{Net}
-use Rattle.tree_laws.specs.Ranks.{longest}
-use Rattle.network_model.specs.Bounds.{AreBounds, AreLocals}
-use Rattle.network_model.specs.Locals.{IsLive}
+use Rattle.network_model.specs.Bounds.{AreBounds}
 use Rattle.network_model.specs.Rows.{end_of, hop_of}
-use Rattle.network_model.specs.Sound.{ArePathsComplete}
 use Rattle.network_model.specs.Steps.{At, step, machine}
 use Rattle.network_model.specs.Worlds.{World}
 use Rattle.network_laws.specs.Rounds.{rounds_of}
@@ -26,14 +22,9 @@ quiet_world = record { net = pair_net; trees = (group, s1) ∷ []; clock = 0; no
 abbrev pub sending_world : World
 sending_world = step 7500 (At 0 (SendAs session first usual)) quiet_world
 
-pub record MeetsThePremises : Type 0 where
+pub record APairStaysWithinBounds : Type 0 where
   pub quiet : AreBounds 7500 quiet_world
   pub bounds : AreBounds 7500 sending_world
-  pub locals : AreLocals sending_world
-  pub live : IsLive sending_world (session, first) usual
-  pub hop : longest sending_world.net ≡ 1
   -- however many rounds, they are calm; and through the first of them each world is within bounds
   pub rounds : (k : ℕ) → Rounds (machine 7500) (rounds_of 7500 k sending_world) sending_world
   pub one_round : Hold (machine 7500) 0 (rounds_of 7500 1 sending_world) sending_world (AreBounds 7500)
-  -- what is promised does not hold yet
-  pub not_yet : ArePathsComplete sending_world → ⊥

@@ -1,5 +1,6 @@
 pub mod Rounds
-pub mod Lines
-pub mod Telling
 pub mod Keeping
+pub mod Known
+pub mod Refreshes
+pub mod Hops
 pub mod Example

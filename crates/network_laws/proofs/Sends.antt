@@ -1,0 +1,72 @@
+-- Where what is sent out of an end goes, and who sends a message.
+use Rattle.std.proofs.Common.{refl, ◌≡◌, ℕ, ◌+◌, List, [], ◌∷◌, Bool, true, false, Option, None, Some, ⊎_elim, sym, ap, subst, ◌∙◌}
+use Rattle.std.specs.Prelude.{slice_get}
+use Rattle.std.specs.List.{filter}
+use Rattle.rsvp_base.specs.declared.addr.Addr.{Addr}
+use Rattle.rsvp_base.specs.Members.{In}
+use Rattle.rsvp_base.proofs.Members.{in_filter}
+use Rattle.rsvp_messages.specs.declared.message.Message.{Message}
+use Rattle.demand_laws.specs.Goals.{addr_of}
+use Rattle.router_rules.specs.Facts.{Facts}
+use Rattle.router_rules.specs.Inputs.{Send, Spelt}
+use Rattle.router_rules.specs.Place.{is_addr}
+use Rattle.router_rules.specs.Rule.{Outcome, rule}
+use Rattle.tree_laws.specs.Networks.{Net, end_at, peers}
+use Rattle.network_model.specs.Links.{is_group, or_all, ends_toward, goes_to}
+use Rattle.network_model.specs.Steps.{Step, is_quiet, ms_of, input_at, outcome, still, sent}
+use Rattle.network_model.specs.Worlds.{Item, World, place_of}
+use Rattle.network_model.proofs.Quiet.{FollowsRule, outcome_quiet}
+use Rattle.network_model.proofs.Stepping.{copies_found, sent_found}
+
+-- ---- what goes out of an end goes to others of its link
+pub in_toward : (net : Net) (b : Bool) (dst : Addr) (es : List ℕ) (e : ℕ) → In e (ends_toward net b dst es) → In e es
+in_toward net true dst es e i = i
+in_toward net false dst es e i = by (filter (λ x. is_addr (addr_of net x) dst) es) (λ j. (in_filter (λ x. is_addr (addr_of net x) dst) e es j).0) i
+  where
+    by : (xs : List ℕ) → (In e xs → In e es) → In e (or_all xs es) → In e es
+    by [] f i = i
+    by (x ∷ xs) f i = f i
+
+pub goes_to_peers : (net : Net) (o : Option ℕ) (a : ℕ) (dst : Addr) (e : ℕ) → o ≡ Some a → In e (goes_to net o dst) → In e (peers net.links a)
+goes_to_peers net o a dst e is i = in_toward net (is_group dst) dst (peers net.links a) e (subst (λ (z : Option ℕ). In e (goes_to net z dst)) is i)
+
+pub goes_to_end : (net : Net) (o : Option ℕ) (dst : Addr) (e : ℕ) → In e (goes_to net o dst) → (a : ℕ) × (o ≡ Some a)
+goes_to_end net None dst e i = absurd i
+goes_to_end net (Some a) dst e i = (a, refl)
+
+-- ---- a message that a quiet step sends is sent by a node that follows its rule
+pub record IsSentByRule (q : ℕ) (s : Step) (u : World) (y : Item) (m : Message) : Type 0 where
+  pub node : ℕ
+  pub facts : Facts
+  pub there : slice_get u.nodes node ≡ Some facts
+  pub by : FollowsRule q s u node facts (outcome q s u node facts)
+  pub send : Send
+  pub sent : In send (rule (place_of q u.net u.trees node) (place_of q u.net u.trees node) (u.clock + ms_of s) by.input facts).sent
+  pub says : send.message ≡ m
+  pub dst : y.dst ≡ send.dst
+  pub to : In y.end (goes_to u.net (end_at u.net.ends node send.iface) send.dst)
+
+pub sent_by_rule : (q : ℕ) (s : Step) (u : World) (y : Item) (b : Bool) (m : Message) → is_quiet s ≡ true → In (y, b) (sent q s u) → y.arrival ≡ Spelt m → IsSentByRule q s u y m
+sent_by_rule q s u y b m quiet i spelt =
+    let n = sent_found q s u (y, b) i in
+    let o : Outcome = outcome q s u n.0 n.1 in
+    let c = copies_found u.net u.made n.0 o.sent (y, b) n.3 in
+    let copied : Spelt c.0.message ≡ Spelt m = sym (ap (λ (z : Item × Bool). z.0.arrival) c.4) ∙ spelt in
+    let says : c.0.message ≡ m = cc in
+    ⊎_elim
+    (λ (h : (input_at s u n.0 ≡ None) × (o ≡ still n.1)).
+    let none : o.sent ≡ [] = ap (λ (z : Outcome). z.sent) h.1 in
+    absurd (subst (λ (z : List Send). In c.0 z) none c.2))
+    (λ (h : FollowsRule q s u n.0 n.1 o).
+    record {
+      node = n.0;
+      facts = n.1;
+      there = n.2;
+      by = h;
+      send = c.0;
+      sent = subst (λ (z : Outcome). In c.0 z.sent) h.is c.2;
+      says = says;
+      dst = ap (λ (z : Item × Bool). z.0.dst) c.4;
+      to = subst (λ (z : ℕ). In z (goes_to u.net (end_at u.net.ends n.0 c.0.iface) c.0.dst)) (sym (ap (λ (z : Item × Bool). z.0.end) c.4)) c.3;
+    })
+    (outcome_quiet q s u n.0 n.1 quiet)
