@@ -132,7 +132,7 @@ none_follows g h h' i =
     let no : ◌≡◌ {A = ℕ} 0 1 = sym (ap (node_of pair_net.ends) b.0) ∙ f.meet ∙ ap (node_of pair_net.ends) a.1 in
     absurd (omega arith)
 
-valid : IsValid pair_net
+pub valid : IsValid pair_net
 valid = record {
   few_nodes = omega arith;
   few_ends = λ n. few_of (0 == n) (1 == n);

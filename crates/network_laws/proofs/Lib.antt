@@ -6,5 +6,6 @@ pub mod Keeping
 pub mod Hops
 pub mod Computed
 pub mod Example
+pub mod Beginning
 pub mod Passing
 pub mod Calming

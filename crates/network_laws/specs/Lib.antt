@@ -4,3 +4,4 @@ pub mod Known
 pub mod Refreshes
 pub mod Hops
 pub mod Example
+pub mod Beginning

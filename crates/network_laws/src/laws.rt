@@ -7,8 +7,10 @@ ghost use Rattle.calm_rounds.specs.Hold.{Hold};
 ghost use Rattle.calm_rounds.specs.Rounds.{Rounds};
 ghost use Rattle.router_rules.specs.Inputs.{Spelt};
 ghost use Rattle.network_model.specs.Bounds.{AreBounds};
+ghost use Rattle.network_model.specs.Runs.{Plan, first_world};
 ghost use Rattle.network_model.specs.Steps.{Step, machine, sent, step};
 ghost use Rattle.network_model.specs.Worlds.{Item, World};
+ghost use Rattle.network_laws.specs.Beginning.{APlanIsFit, IsFitPlan};
 ghost use Rattle.network_laws.specs.Example.{APairStaysWithinBounds};
 ghost use Rattle.network_laws.specs.Hops.{LeavesBy, hop_of};
 ghost use Rattle.network_laws.specs.Keeping.{IsFitStep};
@@ -17,6 +19,12 @@ ghost use Rattle.network_laws.specs.Rounds.{RoundsIsCalm};
 /// The command `rounds n` is n calm rounds, one after the other.
 pub fn rounds_is_calm()
     ensures { (q n : ℕ) (w : World) → RoundsIsCalm q n w }
+{}
+
+/// The first world of a script is within bounds, where the script has a period and a valid network, and what is left over at
+/// each node is fit there: it lives no longer than what was just refreshed, and has the shape of that.
+pub fn the_first_world_is_within_bounds()
+    ensures { (p : Plan) → IsFitPlan p → AreBounds p.quarter (first_world p) }
 {}
 
 /// Each step keeps a world within bounds, whatever step it is, where its piece, its call, its injected datagram or its new
@@ -39,4 +47,9 @@ pub fn the_hop_of_what_is_sent()
 /// A small network is within bounds, and stays so through a round.
 pub fn a_pair_stays_within_bounds()
     ensures { APairStaysWithinBounds }
+{}
+
+/// A script of a small network with a left-over reservation is such a one, and its first world has that reservation.
+pub fn a_plan_is_fit()
+    ensures { APlanIsFit }
 {}

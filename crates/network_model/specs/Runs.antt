@@ -11,12 +11,11 @@ use Rattle.router_rules.specs.declared.answers.Heard.TheVariants as heard
 use Rattle.router_rules.specs.declared.answers.Why.{Why}
 use Rattle.router_rules.specs.declared.answers.Why.TheVariants as why
 use Rattle.router_rules.specs.Books.{book}
-use Rattle.router_rules.specs.Calls.{act_stale}
 use Rattle.router_rules.specs.Facts.{Facts, no_facts}
 use Rattle.router_rules.specs.Flags.{entries_at}
 use Rattle.router_rules.specs.Inputs.{Arrival, Spelt, Unspelt, Stale}
 use Rattle.router_rules.specs.Place.{Place}
-use Rattle.router_rules.specs.Rule.{settled}
+use Rattle.router_rules.specs.Rule.{facts_with}
 use Rattle.tree_laws.specs.declared.hops.End.{End}
 use Rattle.tree_laws.specs.Networks.{Net, iface_of}
 use Rattle.tree_laws.specs.Trees.{trees_of}
@@ -35,12 +34,9 @@ pub record Plan : Type 0 where
   pub events : List Event
 
 -- ---- the first world: what is left over, at the moment 0
-abbrev pub with_stale : Place → Stale → Facts → Facts
-with_stale p i f = settled p 0 f (act_stale p i f)
-
 abbrev pub left_over : Place → ℕ → List (ℕ × Stale) → Facts → Facts
 left_over p n [] f = f
-left_over p n (s ∷ ss) f = left_over p n ss (cond (s.0 == n) (with_stale p s.1 f) f)
+left_over p n (s ∷ ss) f = left_over p n ss (cond (s.0 == n) (facts_with p 0 s.1 f) f)
 
 abbrev pub first_facts : Plan → ℕ → Facts
 first_facts p n = left_over (place_of p.quarter p.net (trees_of p.net.hops) n) n p.stale no_facts
