@@ -1,6 +1,6 @@
--- What a Resv, a ResvTear or a ResvErr is about: units with their names (RFC 2205, 1.3 and 3.1). A wildcard message
--- without SCOPE, and an error without senders, has no list of names, which is a case of its own and no empty list.
-use Rattle.std.specs.Prelude.{List, [], ◌∷◌, map as each, Option, Some, None}
+-- What a Resv or a ResvTear is about: its style, units and names (RFC 2205, 1.3 and 3.1). A wildcard message without
+-- SCOPE has no list of names, which is a case of its own and no empty list.
+use Rattle.std.specs.Prelude.{List, [], ◌∷◌, map as each, Option, Some}
 use Rattle.rsvp_base.specs.declared.session.Sender.{Sender}
 use Rattle.rsvp_base.specs.declared.style.StyleKind.{StyleKind}
 use Rattle.rsvp_base.specs.declared.style.StyleKind.TheVariants as style
@@ -8,11 +8,9 @@ use Rattle.rsvp_base.specs.declared.style.Unit.{Unit as UnitOf}
 use Rattle.rsvp_base.specs.declared.style.Unit.TheVariants.{One, Of}
 use Rattle.rsvp_base.specs.Orders.{Names}
 use Rattle.rsvp_base.specs.Sets.{set_of}
-use Rattle.rsvp_base.specs.Table.{keys}
 use Rattle.rsvp_base.specs.TokenBucket.{TokenBucket}
 use Rattle.rsvp_messages.specs.declared.ask.Ask.{Ask}
 use Rattle.rsvp_messages.specs.declared.ask.Ask.TheVariants as ask
-use Rattle.rsvp_messages.specs.declared.ask.Blame.{Blame}
 use Rattle.rsvp_messages.specs.declared.ask.Tear.{Tear}
 use Rattle.rsvp_messages.specs.declared.ask.Tear.TheVariants as tear
 
@@ -41,12 +39,7 @@ asked_units (ask.Wild scope flow) = (record { unit = One; names = scope; flow = 
 asked_units (ask.Fixed list) = each fixed_unit list.rows
 asked_units (ask.Shared part) = (record { unit = One; names = Some part.senders; flow = part.flow }) ∷ []
 
--- ---- what is torn down, and what is blamed
--- a unit with its names; none where they are missing
-pub record NamedUnit : Type 0 where
-  pub unit : UnitOf
-  pub names : Option Names
-
+-- ---- what is torn down
 abbrev pub tear_style : Tear → StyleKind
 tear_style (tear.Wild scope) = style.Wild
 tear_style (tear.Fixed senders) = style.Fixed
@@ -57,24 +50,3 @@ abbrev pub tear_names : Tear → Option Names
 tear_names (tear.Wild scope) = scope
 tear_names (tear.Fixed senders) = Some senders
 tear_names (tear.Shared senders) = Some senders
-
-abbrev pub one_unit : Option Names → List NamedUnit
-one_unit names = (record { unit = One; names = names }) ∷ []
-
-abbrev pub each_unit : Names → List NamedUnit
-each_unit names = each (λ s. record { unit = Of s; names = Some (only s) }) (keys names)
-
-abbrev pub torn_units : Tear → List NamedUnit
-torn_units (tear.Wild scope) = one_unit scope
-torn_units (tear.Fixed senders) = each_unit senders
-torn_units (tear.Shared senders) = one_unit (Some senders)
-
-abbrev pub units_named : StyleKind → Option Names → List NamedUnit
-units_named style.Wild names = one_unit names
-units_named style.Fixed None = []
-units_named style.Fixed (Some names) = each_unit names
-units_named style.Shared names = one_unit names
-
--- a fixed filter without senders is of no unit that could be told
-abbrev pub blamed_units : Blame → List NamedUnit
-blamed_units b = units_named b.style b.senders
