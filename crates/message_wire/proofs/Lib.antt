@@ -4,5 +4,6 @@ pub mod Hinted
 pub mod OneAnswer
 pub mod Lists
 pub mod Placed
+pub mod Made
 pub mod ProperRead
 pub mod Whole

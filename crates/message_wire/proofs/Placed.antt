@@ -2,6 +2,7 @@
 use Rattle.std.proofs.Common.{◌≡◌, ℕ, Bool, true, false, List, drop, Option, Some, None, Result, Ok, Err, refl, sym, ap, subst, ◌∙◌, inl, inr}
 use Rattle.std.specs.Prelude.{not}
 use Rattle.rsvp_objects.specs.declared.object.Object.{Object}
+use Rattle.rsvp_objects.specs.declared.object.Object.TheVariants as object
 use Rattle.rsvp_objects.specs.declared.obj_err.ObjErr.{ObjErr}
 use Rattle.rsvp_objects.specs.declared.head.Head.{Head}
 use Rattle.rsvp_objects.specs.Proper.{class_of, AreBytes, IsProper}
@@ -87,3 +88,15 @@ read_proper kind s at b x bytes p read =
           let whole : reading.object_at at b ≡ Ok (x, p.head.end) = by_its_head at b ∙ ap (reading.by_head at b) p.is_head ∙ body in
           what_is_read_is_proper b at p.head.end x bytes whole
     ]
+
+-- what holds of what is skipped, and of each proper object, holds of an object that stands somewhere
+pub placed_has : (P : Object → Type 0) → ((n : ℕ) → P (object.Skipped n)) → ((x : Object) → IsProper x → P x) → (kind : Kind) (s : Seen) (at : ℕ) (b : List ℕ) (x : Object) → AreBytes b → IsPlaced kind s at b x → P x
+placed_has P skipped proper kind s at b x bytes p = by_kind (is_unread kind p.head.class) refl
+  where
+    by_kind : (t : Bool) → is_unread kind p.head.class ≡ t → P x
+    by_kind false read = proper x (read_proper kind s at b x bytes p read)
+    by_kind true unread =
+        elim (chosen (is_unread kind p.head.class) _ _ _ p.is_read) [
+          | inl q ↦ subst P (read_is q.1) (skipped p.head.class)
+          | inr q ↦ absurd (let z = sym unread ∙ q.0 in cc)
+        ]

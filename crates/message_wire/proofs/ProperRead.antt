@@ -1,5 +1,5 @@
 -- What bytes spell is proper.
-use Rattle.std.proofs.Common.{◌≡◌, ℕ, suc, ◌+◌, ◌<◌, ◌≤◌, Bool, true, false, cond, List, [], ◌∷◌, ◌++◌, length, get_or, Option, Some, None, Result, Ok, Err, refl, sym, subst, ◌∙◌, arith, inl, inr}
+use Rattle.std.proofs.Common.{◌≡◌, ℕ, suc, ◌+◌, ◌<◌, ◌≤◌, Bool, true, false, cond, List, [], ◌∷◌, ◌++◌, length, get_or, Option, Some, None, refl, sym, subst, ◌∙◌, arith, inl, inr}
 use Rattle.std.specs.List.{AllByRecursion}
 use Rattle.std.specs.Prelude.{map as each}
 use Rattle.rsvp_base.specs.declared.session.Sender.{Sender}
@@ -18,33 +18,28 @@ use Rattle.rsvp_objects.specs.declared.object.Object.{Object}
 use Rattle.rsvp_objects.specs.declared.object.Object.TheVariants as object
 use Rattle.rsvp_objects.specs.Proper as objects
 use Rattle.rsvp_objects.specs.Proper.{IsSource, AreBytes}
-use Rattle.rsvp_objects.proofs.Classes.{chosen}
 use Rattle.rsvp_messages.specs.declared.ask.Ask.{Ask}
 use Rattle.rsvp_messages.specs.declared.ask.Blame.{Blame}
 use Rattle.rsvp_messages.specs.declared.ask.Tear.{Tear}
-use Rattle.rsvp_messages.specs.declared.fault.Fault.{Fault}
 use Rattle.rsvp_messages.specs.declared.message.Kind.{Kind}
-use Rattle.rsvp_messages.specs.declared.message.Kind.TheVariants as kind
-use Rattle.rsvp_messages.specs.declared.message.Message.{Message}
 use Rattle.rsvp_messages.specs.FlowTable.{FlowTable}
 use Rattle.rsvp_messages.specs.Proper.{IsSome, IsScope, WhereThere, AreFlows, IsProperAsk, HasNoScope, IsProperTear, IsProperBlame, IsProper}
 use Rattle.message_wire.specs.declared.seen.Seen.{Seen}
 use Rattle.message_wire.specs.Laws.{WhatIsSpeltIsProper}
-use Rattle.message_wire.specs.Messages.{◌>>=◌, needed, sender_of, names_in, named, first_named, pairs_in, table_of_pairs, fixed_of, ask_of, tear_of, blame_of, path_of, resv_of, path_err_of, resv_err_of, path_tear_of, resv_tear_of, resv_conf_of, message_of}
+use Rattle.message_wire.specs.Messages.{needed, sender_of, names_in, named, first_named, pairs_in, table_of_pairs, fixed_of, ask_of, tear_of, blame_of}
 use Rattle.message_wire.specs.Places.{Stand}
 use Rattle.message_wire.specs.Said.{scope_said, tspec_said, flow_said, or_else, last_said, filter_with, filters_after, seen_of}
-use Rattle.message_wire.specs.Table.{is_unread}
-use Rattle.message_wire.proofs.Placed.{IsPlaced, placed, read_proper}
+use Rattle.message_wire.proofs.Made.{gave, there, HoldsByParts, by_parts}
+use Rattle.message_wire.proofs.Placed.{placed, placed_has}
 use Rattle.message_wire.proofs.Standing.{good, good_is}
 
 -- ---- objects
 
--- flows are sound, scopes name addresses alone
-abbrev pub IsSaid : Object → Type 0
-IsSaid (object.Scope names) = IsScope names
-IsSaid (object.FlowOf f) = IsSound f
-IsSaid (object.Tspec f) = IsSound f
-IsSaid _ = Unit {0}
+-- a scope that it says names addresses alone, and a flow is sound
+record IsSaid (x : Object) : Type 0 where
+  scope : WhereThere IsScope (scope_said x)
+  flow : WhereThere IsSound (flow_said x)
+  tspec : WhereThere IsSound (tspec_said x)
 
 member_is : (P : Sender → Type 0) (xs : List Sender) (s : Sender) → AllByRecursion P xs → In s xs → P s
 member_is P [] s h i = absurd i
@@ -55,35 +50,28 @@ scope_is : (names : Names) → AllByRecursion IsSource (keys names) → IsScope 
 scope_is names h = λ s e. (member_is IsSource (keys names) s h (in_tied senders s (keys names) (sym (has_keys names s) ∙ e))).port
 
 said_is : (x : Object) → objects.IsProper x → IsSaid x
-said_is (object.Session s police) h = tt
-said_is (object.HopOf x) h = tt
-said_is (object.Time n) h = tt
-said_is (object.Error e) h = tt
-said_is (object.Scope names) h = scope_is names h.sources
-said_is (object.StyleOf k) h = tt
-said_is (object.FlowOf f) h = h.sound
-said_is (object.Filter s) h = tt
-said_is (object.Template s) h = tt
-said_is (object.Tspec f) h = h.sound
-said_is (object.Confirm a) h = tt
-said_is (object.Skipped n) h = tt
-
-placed_said : (kind : Kind) (s : Seen) (at : ℕ) (b : List ℕ) (x : Object) → AreBytes b → IsPlaced kind s at b x → IsSaid x
-placed_said kind s at b x bytes p = by_kind (is_unread kind p.head.class) refl
-  where
-    by_kind : (t : Bool) → is_unread kind p.head.class ≡ t → IsSaid x
-    by_kind false read = said_is x (read_proper kind s at b x bytes p read)
-    by_kind true unread =
-        elim (chosen (is_unread kind p.head.class) _ _ _ p.is_read) [
-          | inl q ↦ subst IsSaid (let same : object.Skipped p.head.class ≡ x = cc in same) tt
-          | inr q ↦ absurd (let z = sym unread ∙ q.0 in cc)
-        ]
+said_is (object.Session s police) h = record { scope = tt; flow = tt; tspec = tt }
+said_is (object.HopOf x) h = record { scope = tt; flow = tt; tspec = tt }
+said_is (object.Time n) h = record { scope = tt; flow = tt; tspec = tt }
+said_is (object.Error e) h = record { scope = tt; flow = tt; tspec = tt }
+said_is (object.Scope names) h = record { scope = scope_is names h.sources; flow = tt; tspec = tt }
+said_is (object.StyleOf k) h = record { scope = tt; flow = tt; tspec = tt }
+said_is (object.FlowOf f) h = record { scope = tt; flow = h.sound; tspec = tt }
+said_is (object.Filter s) h = record { scope = tt; flow = tt; tspec = tt }
+said_is (object.Template s) h = record { scope = tt; flow = tt; tspec = tt }
+said_is (object.Tspec f) h = record { scope = tt; flow = tt; tspec = h.sound }
+said_is (object.Confirm a) h = record { scope = tt; flow = tt; tspec = tt }
+said_is (object.Skipped n) h = record { scope = tt; flow = tt; tspec = tt }
 
 all_said : (kind : Kind) (b : List ℕ) (before : List Object) (at : ℕ) (xs : List Object) (end : ℕ) → AreBytes b → Stand kind b before at xs end → AllByRecursion IsSaid xs
 all_said kind b before at [] end bytes s = tt
-all_said kind b before at (x ∷ xs) end bytes s = (placed_said kind (seen_of before) at b x bytes (placed kind (seen_of before) at b x s.0 s.1), all_said kind b (before ++ x ∷ []) s.0 xs end bytes s.2)
+all_said kind b before at (x ∷ xs) end bytes s = (placed_has IsSaid (λ n. record { scope = tt; flow = tt; tspec = tt }) said_is kind (seen_of before) at b x bytes (placed kind (seen_of before) at b x s.0 s.1), all_said kind b (before ++ x ∷ []) s.0 xs end bytes s.2)
 
 -- ---- what they say together
+
+pub all_join : {A : Type 0} (P : A → Type 0) (xs ys : List A) → AllByRecursion P xs → AllByRecursion P ys → AllByRecursion P (xs ++ ys)
+all_join P [] ys p q = q
+all_join P (x ∷ xs) ys p q = (p.0, all_join P xs ys p.1 q)
 
 or_is : {A : Type 0} (P : A → Type 0) (a b : Option A) → WhereThere P a → WhereThere P b → WhereThere P (or_else a b)
 or_is P (Some x) b p q = p
@@ -94,57 +82,11 @@ unfolding last_said
 last_is P f each [] h = tt
 last_is P f each (x ∷ xs) h = or_is P (last_said f xs) (f x) (last_is P f each xs h.1) (each x h.0)
 
-scope_each : (x : Object) → IsSaid x → WhereThere IsScope (scope_said x)
-scope_each (object.Scope names) h = h
-scope_each (object.Session s p) h = tt
-scope_each (object.HopOf x) h = tt
-scope_each (object.Time n) h = tt
-scope_each (object.Error e) h = tt
-scope_each (object.StyleOf k) h = tt
-scope_each (object.FlowOf f) h = tt
-scope_each (object.Filter s) h = tt
-scope_each (object.Template s) h = tt
-scope_each (object.Tspec f) h = tt
-scope_each (object.Confirm a) h = tt
-scope_each (object.Skipped n) h = tt
-
-tspec_each : (x : Object) → IsSaid x → WhereThere IsSound (tspec_said x)
-tspec_each (object.Tspec f) h = h
-tspec_each (object.Session s p) h = tt
-tspec_each (object.HopOf x) h = tt
-tspec_each (object.Time n) h = tt
-tspec_each (object.Error e) h = tt
-tspec_each (object.Scope names) h = tt
-tspec_each (object.StyleOf k) h = tt
-tspec_each (object.FlowOf f) h = tt
-tspec_each (object.Filter s) h = tt
-tspec_each (object.Template s) h = tt
-tspec_each (object.Confirm a) h = tt
-tspec_each (object.Skipped n) h = tt
-
-flow_each : (x : Object) → IsSaid x → WhereThere IsSound (flow_said x)
-flow_each (object.FlowOf f) h = h
-flow_each (object.Session s p) h = tt
-flow_each (object.HopOf x) h = tt
-flow_each (object.Time n) h = tt
-flow_each (object.Error e) h = tt
-flow_each (object.Scope names) h = tt
-flow_each (object.StyleOf k) h = tt
-flow_each (object.Filter s) h = tt
-flow_each (object.Template s) h = tt
-flow_each (object.Tspec f) h = tt
-flow_each (object.Confirm a) h = tt
-flow_each (object.Skipped n) h = tt
-
 abbrev Filter : Type 0
 Filter = Sender × Option TokenBucket
 
 abbrev HasSound : Filter → Type 0
 HasSound e = WhereThere IsSound e.1
-
-filters_join : (es fs : List Filter) → AllByRecursion HasSound es → AllByRecursion HasSound fs → AllByRecursion HasSound (es ++ fs)
-filters_join [] fs p q = q
-filters_join (e ∷ es) fs p q = (p.0, filters_join es fs p.1 q)
 
 filter_each : (f : Option TokenBucket) (x : Object) → WhereThere IsSound f → AllByRecursion HasSound (filter_with f x)
 filter_each f (object.Filter s) h = (h, tt)
@@ -163,7 +105,7 @@ filter_each f (object.Skipped n) h = tt
 filters_each : (f : Option TokenBucket) (xs : List Object) → WhereThere IsSound f → AllByRecursion IsSaid xs → AllByRecursion HasSound (filters_after f xs)
 unfolding filters_after
 filters_each f [] p h = tt
-filters_each f (x ∷ xs) p h = filters_join (filter_with f x) (filters_after (or_else (flow_said x) f) xs) (filter_each f x p) (filters_each (or_else (flow_said x) f) xs (or_is IsSound (flow_said x) f (flow_each x h.0) p) h.1)
+filters_each f (x ∷ xs) p h = all_join HasSound (filter_with f x) (filters_after (or_else (flow_said x) f) xs) (filter_each f x p) (filters_each (or_else (flow_said x) f) xs (or_is IsSound (flow_said x) f h.0.flow p) h.1)
 
 record IsSeenProper (s : Seen) : Type 0 where
   scope : WhereThere IsScope s.scope
@@ -174,27 +116,13 @@ record IsSeenProper (s : Seen) : Type 0 where
 seen_proper : (xs : List Object) → AllByRecursion IsSaid xs → IsSeenProper (seen_of xs)
 seen_proper xs h =
     record {
-      scope = last_is IsScope scope_said scope_each xs h;
-      tspec = last_is IsSound tspec_said tspec_each xs h;
-      flow = last_is IsSound flow_said flow_each xs h;
+      scope = last_is IsScope scope_said (λ x h. h.scope) xs h;
+      tspec = last_is IsSound tspec_said (λ x h. h.tspec) xs h;
+      flow = last_is IsSound flow_said (λ x h. h.flow) xs h;
       filters = filters_each None xs tt h;
     }
 
 -- ---- lists of the styles
-
--- what a step of a reading gave
-record Gave {A B : Type 0} (f : A → Result B Fault) (r : Result A Fault) (y : B) : Type 0 where
-  value : A
-  was : r ≡ good value
-  rest : f value ≡ good y
-
-gave : {A B : Type 0} (f : A → Result B Fault) (r : Result A Fault) (y : B) → (r >>= f) ≡ good y → Gave f r y
-gave f (Ok x) y e = record { value = x; was = refl; rest = e }
-gave f (Err g) y e = absurd cc
-
-there : {A : Type 0} (P : A → Type 0) (n : ℕ) (o : Option A) (x : A) → WhereThere P o → needed n o ≡ good x → P x
-there P n (Some y) x p e = subst P (good_is e) p
-there P n None x p e = absurd cc
 
 names_some : (e : Filter) (es : List Filter) → IsSome (names_in (e ∷ es))
 names_some e es = size-with_rows senders (listed (each (λ (f : Filter). f.0) es)) (with_key empty e.0)
@@ -283,57 +211,20 @@ sender_proper (Some s) None o h e = absurd cc
 sender_proper None (Some f) o h e = absurd cc
 sender_proper None None o h e = subst (WhereThere HasSoundFlow) (good_is e) tt
 
-made_proper : (k : Kind) (s : Seen) (v : Message) → IsSeenProper s → message_of k s ≡ good v → IsProper v
-unfolding message_of path_of resv_of path_err_of resv_err_of path_tear_of resv_tear_of resv_conf_of
-made_proper kind.Path s v h e =
-    let who = gave _ (needed 1 s.session) v e in
-    let hop = gave _ (needed 3 s.hop) v who.rest in
-    let period = gave _ (needed 5 s.period) v hop.rest in
-    let sender = gave _ (sender_of s.template s.tspec) v period.rest in
-    subst IsProper (good_is sender.rest) (sender_proper s.template s.tspec sender.value h.tspec sender.was)
-made_proper kind.Resv s v h e =
-    let who = gave _ (needed 1 s.session) v e in
-    let hop = gave _ (needed 3 s.hop) v who.rest in
-    let period = gave _ (needed 5 s.period) v hop.rest in
-    let style = gave _ (needed 8 s.style) v period.rest in
-    let flow = gave _ (needed 9 s.flow) v style.rest in
-    let a = gave _ (ask_of s.scope s.due s.filters flow.value style.value) v flow.rest in
-    subst IsProper (good_is a.rest) (ask_proper s.scope s.due s.filters flow.value style.value a.value h.scope h.filters (there IsSound 9 s.flow flow.value h.flow flow.was) a.was)
-made_proper kind.PathErr s v h e =
-    let who = gave _ (needed 1 s.session) v e in
-    let err = gave _ (needed 6 s.error) v who.rest in
-    subst IsProper (good_is err.rest) tt
-made_proper kind.ResvErr s v h e =
-    let who = gave _ (needed 1 s.session) v e in
-    let hop = gave _ (needed 3 s.hop) v who.rest in
-    let err = gave _ (needed 6 s.error) v hop.rest in
-    let style = gave _ (needed 8 s.style) v err.rest in
-    let blame = gave _ (blame_of s.scope s.filters s.flow style.value) v style.rest in
-    subst IsProper (good_is blame.rest) (blame_proper s.scope s.filters s.flow style.value blame.value h.scope h.flow blame.was)
-made_proper kind.PathTear s v h e =
-    let who = gave _ (needed 1 s.session) v e in
-    let hop = gave _ (needed 3 s.hop) v who.rest in
-    subst IsProper (good_is hop.rest) tt
-made_proper kind.ResvTear s v h e =
-    let who = gave _ (needed 1 s.session) v e in
-    let hop = gave _ (needed 3 s.hop) v who.rest in
-    let style = gave _ (needed 8 s.style) v hop.rest in
-    let t = gave _ (tear_of s.scope s.filters style.value) v style.rest in
-    subst IsProper (good_is t.rest) (tear_proper s.scope s.filters style.value t.value h.scope t.was)
-made_proper kind.ResvConf s v h e =
-    let who = gave _ (needed 1 s.session) v e in
-    let err = gave _ (needed 6 s.error) v who.rest in
-    let style = gave _ (needed 8 s.style) v err.rest in
-    let flow = gave _ (needed 9 s.flow) v style.rest in
-    let a = gave _ (ask_of None s.due s.filters flow.value style.value) v flow.rest in
-    let confirm = gave _ (needed 15 s.confirm) v a.rest in
-    subst IsProper (good_is confirm.rest) (
-      ask_proper None s.due s.filters flow.value style.value a.value tt h.filters (there IsSound 9 s.flow flow.value h.flow flow.was) a.was,
-      no_scope s.due s.filters flow.value style.value a.value a.was,
-    )
+made_proper : (s : Seen) → IsSeenProper s → HoldsByParts IsProper s
+made_proper s h =
+    record {
+      path = λ x hop t o _ _ _ sent. sender_proper s.template s.tspec o h.tspec sent;
+      resv = λ x hop t k f a _ _ _ flow asked. ask_proper s.scope s.due s.filters f k a h.scope h.filters (there IsSound 9 s.flow f h.flow flow) asked;
+      path_err = λ x e _ _. tt;
+      resv_err = λ x hop e k b _ _ _ blamed. blame_proper s.scope s.filters s.flow k b h.scope h.flow blamed;
+      path_tear = λ x hop _ _. tt;
+      resv_tear = λ x hop k t _ _ torn. tear_proper s.scope s.filters k t h.scope torn;
+      resv_conf = λ x e k f a c _ _ flow asked _. (ask_proper None s.due s.filters f k a tt h.filters (there IsSound 9 s.flow f h.flow flow) asked, no_scope s.due s.filters f k a asked);
+    }
 
 pub what_is_spelt_is_proper : WhatIsSpeltIsProper
-what_is_spelt_is_proper b v bytes s = made_proper s.0 (seen_of s.2.0) v (seen_proper s.2.0 (all_said s.0 b [] 8 s.2.0 (length b) bytes s.2.1)) s.2.2
+what_is_spelt_is_proper b v bytes s = by_parts IsProper (seen_of s.2.0) (made_proper (seen_of s.2.0) (seen_proper s.2.0 (all_said s.0 b [] 8 s.2.0 (length b) bytes s.2.1))) s.0 v s.2.2
 
 -- ---- bytes of a slice
 

@@ -191,25 +191,22 @@ role_read Once e = refl
 role_read Unread e = absurd cc
 role_read Nowhere e = refl
 
-no_flowspec : (k : Kind) → stands_once (role_of k 9) ≡ true → ⊥
+-- no kind has a FLOWSPEC or a FILTER_SPEC that stands once
+listed_classes : (k : Kind) → (stands_once (role_of k 9) ≡ false) × (stands_once (role_of k 10) ≡ false)
 unfolding role_of
-no_flowspec kind.Path e = cc
-no_flowspec kind.Resv e = cc
-no_flowspec kind.PathErr e = cc
-no_flowspec kind.ResvErr e = cc
-no_flowspec kind.PathTear e = cc
-no_flowspec kind.ResvTear e = cc
-no_flowspec kind.ResvConf e = cc
+listed_classes kind.Path = (refl, refl)
+listed_classes kind.Resv = (refl, refl)
+listed_classes kind.PathErr = (refl, refl)
+listed_classes kind.ResvErr = (refl, refl)
+listed_classes kind.PathTear = (refl, refl)
+listed_classes kind.ResvTear = (refl, refl)
+listed_classes kind.ResvConf = (refl, refl)
+
+no_flowspec : (k : Kind) → stands_once (role_of k 9) ≡ true → ⊥
+no_flowspec k e = let z = sym e ∙ (listed_classes k).0 in cc
 
 no_filter_spec : (k : Kind) → stands_once (role_of k 10) ≡ true → ⊥
-unfolding role_of
-no_filter_spec kind.Path e = cc
-no_filter_spec kind.Resv e = cc
-no_filter_spec kind.PathErr e = cc
-no_filter_spec kind.ResvErr e = cc
-no_filter_spec kind.PathTear e = cc
-no_filter_spec kind.ResvTear e = cc
-no_filter_spec kind.ResvConf e = cc
+no_filter_spec k e = let z = sym e ∙ (listed_classes k).1 in cc
 
 not_nine : (k : Kind) (n : ℕ) → stands_once (role_of k n) ≡ true → (t : Bool) → (n == 9) ≡ t → t ≡ false
 not_nine k n once true e = absurd (no_flowspec k (subst (λ (m : ℕ). stands_once (role_of k m) ≡ true) (eqb-true n 9 e) once))

@@ -21,13 +21,10 @@ use Rattle.rsvp_messages.specs.declared.ask.Tear.TheVariants as tear
 use Rattle.rsvp_messages.specs.declared.message.Message.{Message}
 use Rattle.rsvp_messages.specs.declared.message.Message.TheVariants as message
 use Rattle.rsvp_messages.specs.Proper.{IsScope, WhereThere, IsProperAsk, IsProperTear, IsProperBlameOf, IsProper}
+use Rattle.message_wire.proofs.ProperRead.{all_join}
 use Rattle.message_writing.specs.Encoding.{IsFew, IsWritable}
 use Rattle.message_writing.specs.Objects.{where_there, sender_objects, pair_objects, filter_objects, ask_objects, tear_objects, named_objects, blame_by_style, objects_of}
 use Rattle.message_writing.specs.Ranges.{IsInRange, AreInRange}
-
-pub all_join : {A : Type 0} (P : A → Type 0) (xs ys : List A) → AllByRecursion P xs → AllByRecursion P ys → AllByRecursion P (xs ++ ys)
-all_join P [] ys p q = q
-all_join P (x ∷ xs) ys p q = (p.0, all_join P xs ys p.1 q)
 
 -- ---- room
 

@@ -1,5 +1,5 @@
 -- What bytes spell is writable.
-use Rattle.std.proofs.Common.{◌≡◌, ℕ, ◌+◌, ◌<◌, ◌≤◌, ◌^◌, Bool, true, false, cond, List, [], ◌∷◌, ◌++◌, length, Option, Some, None, Result, Ok, Err, refl, sym, ap, subst, ◌∙◌, append_assoc, length-append, arith, inl, inr, T}
+use Rattle.std.proofs.Common.{◌≡◌, ℕ, ◌+◌, ◌<◌, ◌≤◌, ◌^◌, Bool, true, false, cond, List, [], ◌∷◌, ◌++◌, length, Option, Some, None, sym, ap, subst, ◌∙◌, append_assoc, length-append, arith, inl, inr, T}
 use Rattle.std.specs.List.{AllByRecursion}
 use Rattle.std.specs.Prelude.{map as each, ◌==◌}
 use Rattle.std.specs.Ordering.{eq_by_cmp}
@@ -7,6 +7,8 @@ use Rattle.std.specs.FinMap.Entries.{find, is_sorted}
 use Rattle.std.proofs.lemmas.Bool.{eq-eqb}
 use Rattle.std.proofs.lemmas.List.{append-nil}
 use Rattle.rsvp_base.specs.declared.addr.Addr.{Addr}
+use Rattle.rsvp_base.specs.declared.err_spec.ErrSpec.{ErrSpec}
+use Rattle.rsvp_base.specs.declared.hop.Hop.{Hop}
 use Rattle.rsvp_base.specs.declared.session.Sender.{Sender}
 use Rattle.rsvp_base.specs.declared.session.Session.{Session}
 use Rattle.rsvp_base.specs.declared.style.StyleKind.{StyleKind}
@@ -24,27 +26,25 @@ use Rattle.rsvp_objects.proofs.Classes.{chosen}
 use Rattle.rsvp_messages.specs.declared.ask.Ask.{Ask}
 use Rattle.rsvp_messages.specs.declared.ask.Blame.{Blame}
 use Rattle.rsvp_messages.specs.declared.ask.Tear.{Tear}
-use Rattle.rsvp_messages.specs.declared.fault.Fault.{Fault}
 use Rattle.rsvp_messages.specs.declared.message.Kind.{Kind}
-use Rattle.rsvp_messages.specs.declared.message.Kind.TheVariants as kind
 use Rattle.rsvp_messages.specs.declared.message.Message.{Message}
 use Rattle.rsvp_messages.specs.FlowTable.{FlowTable}
 use Rattle.rsvp_messages.specs.Proper.{WhereThere}
 use Rattle.message_wire.specs.declared.seen.Seen.{Seen}
-use Rattle.message_wire.specs.Messages.{◌>>=◌, needed, sender_of, names_in, named, first_named, pairs_in, table_of_pairs, fixed_of, ask_of, tear_of, blame_of, path_of, resv_of, path_err_of, resv_err_of, path_tear_of, resv_tear_of, resv_conf_of, message_of}
+use Rattle.message_wire.specs.Messages.{needed, sender_of, names_in, named, first_named, pairs_in, table_of_pairs, fixed_of, ask_of, tear_of, blame_of}
 use Rattle.message_wire.specs.Places.{is_named, name_fault, Stand}
 use Rattle.message_wire.specs.Said.{last_said, filters_after, seen_of, with_object}
-use Rattle.message_wire.specs.Table.{is_unread}
 use Rattle.message_wire.proofs.Gathered.{seen_more}
-use Rattle.message_wire.proofs.Placed.{IsPlaced, placed, read_proper}
-use Rattle.message_wire.proofs.ProperRead.{what_is_spelt_is_proper}
+use Rattle.message_wire.proofs.Made.{gave, there, HoldsByParts, by_parts}
+use Rattle.message_wire.proofs.Placed.{placed, placed_has}
+use Rattle.message_wire.proofs.ProperRead.{all_join, what_is_spelt_is_proper}
 use Rattle.message_wire.proofs.Standing.{good, good_is}
 use Rattle.message_writing.specs.Encoding.{AreFew, IsAskFew, IsTearFew, IsFew}
 use Rattle.message_writing.specs.Laws.{WhatIsSpeltIsWritable}
 use Rattle.message_writing.specs.Objects.{where_there, sender_objects, pair_objects, ask_objects, tear_objects, blame_objects}
 use Rattle.message_writing.specs.Ranges.{IsInRange, AreInRange}
 use Rattle.message_writing.proofs.Own.{Filter}
-use Rattle.message_writing.proofs.Ranged.{all_join, room_join, filters_room, writable}
+use Rattle.message_writing.proofs.Ranged.{room_join, filters_room, writable}
 
 -- ---- what a list of objects says has room
 
@@ -92,17 +92,6 @@ read_is (object.Tspec f) h = h
 read_is (object.Confirm a) h = h
 read_is (object.Skipped n) h = tt
 
-placed_is : (kind : Kind) (s : Seen) (at : ℕ) (b : List ℕ) (x : Object) → AreBytes b → IsPlaced kind s at b x → IsRead x
-placed_is kind s at b x bytes p = by_kind (is_unread kind p.head.class) refl
-  where
-    by_kind : (t : Bool) → is_unread kind p.head.class ≡ t → IsRead x
-    by_kind false read = read_is x (read_proper kind s at b x bytes p read)
-    by_kind true unread =
-        elim (chosen (is_unread kind p.head.class) _ _ _ p.is_read) [
-          | inl q ↦ subst IsRead (let same : object.Skipped p.head.class ≡ x = cc in same) tt
-          | inr q ↦ absurd (let z = sym unread ∙ q.0 in cc)
-        ]
-
 kept : (es : List Filter) → AreRows es → AreRows (es ++ [])
 kept es h = subst AreRows (sym (append-nil es)) h
 
@@ -138,7 +127,7 @@ all_roomy : (kind : Kind) (b : List ℕ) (before : List Object) (at : ℕ) (xs :
 all_roomy kind b before at [] end bytes s h = subst (λ (ys : List Object). IsRoomy (seen_of ys)) (sym (append-nil before)) h
 all_roomy kind b before at (x ∷ xs) end bytes s h =
     let p = placed kind (seen_of before) at b x s.0 s.1 in
-    let next : IsRoomy (seen_of (before ++ x ∷ [])) = subst IsRoomy (sym (seen_more before x)) (more at (seen_of before) x h (placed_is kind (seen_of before) at b x bytes p) p.name) in
+    let next : IsRoomy (seen_of (before ++ x ∷ [])) = subst IsRoomy (sym (seen_more before x)) (more at (seen_of before) x h (placed_has IsRead (λ n. tt) read_is kind (seen_of before) at b x bytes p) p.name) in
     subst (λ (ys : List Object). IsRoomy (seen_of ys)) (append_assoc before (x ∷ []) xs) (all_roomy kind b (before ++ x ∷ []) s.0 xs end bytes s.2 next)
 
 nothing : IsRoomy (seen_of [])
@@ -182,20 +171,6 @@ module _ {X : Type 0} (P : Sender × X → Type 0) where
       omega arith
 
 -- ---- lists of the styles
-
--- what a step of a reading gave
-record Gave {A B : Type 0} (f : A → Result B Fault) (r : Result A Fault) (y : B) : Type 0 where
-  value : A
-  was : r ≡ good value
-  rest : f value ≡ good y
-
-gave : {A B : Type 0} (f : A → Result B Fault) (r : Result A Fault) (y : B) → (r >>= f) ≡ good y → Gave f r y
-gave f (Ok x) y e = record { value = x; was = refl; rest = e }
-gave f (Err g) y e = absurd cc
-
-there : {A : Type 0} (P : A → Type 0) (n : ℕ) (o : Option A) (x : A) → WhereThere P o → needed n o ≡ good x → P x
-there P n (Some y) x p e = subst P (good_is e) p
-there P n None x p e = absurd cc
 
 few_of : (n m k : ℕ) → n ≤ 0 + m → m ≤ k → k ≤ 16 → n ≤ 16
 few_of n m k p q r = omega arith
@@ -338,62 +313,40 @@ offer_fits None None o p q e = subst OfferFits (good_is e) tt
 abbrev MessageFits : Message → Type 0
 MessageFits v = AreInRange v × IsFew v
 
-who_is : (s : Seen) (w : Session × Bool) → IsRoomy s → needed 1 s.session ≡ good w → IsSession w.0
-who_is s w h e = there (λ (x : Session × Bool). IsSession x.0) 1 s.session w h.session e
+who_fits : (s : Seen) (x : Session × Bool) → IsRoomy s → needed 1 s.session ≡ good x → IsSession x.0
+who_fits s x h e = there (λ (x : Session × Bool). IsSession x.0) 1 s.session x h.session e
 
-made_fits : (k : Kind) (s : Seen) (v : Message) → IsRoomy s → message_of k s ≡ good v → MessageFits v
-unfolding message_of path_of resv_of path_err_of resv_err_of path_tear_of resv_tear_of resv_conf_of
-made_fits kind.Path s v h e =
-    let who = gave _ (needed 1 s.session) v e in
-    let hop = gave _ (needed 3 s.hop) v who.rest in
-    let period = gave _ (needed 5 s.period) v hop.rest in
-    let sender = gave _ (sender_of s.template s.tspec) v period.rest in
-    let room = offer_fits s.template s.tspec sender.value h.template h.tspec sender.was in
-    subst MessageFits (good_is sender.rest) ((who_is s who.value h who.was, (there IsHop 3 s.hop hop.value h.hop hop.was, (there (λ (n : ℕ). n < 2 ^ 32) 5 s.period period.value h.period period.was, room))), tt)
-made_fits kind.Resv s v h e =
-    let who = gave _ (needed 1 s.session) v e in
-    let hop = gave _ (needed 3 s.hop) v who.rest in
-    let period = gave _ (needed 5 s.period) v hop.rest in
-    let style = gave _ (needed 8 s.style) v period.rest in
-    let flow = gave _ (needed 9 s.flow) v style.rest in
-    let a = gave _ (ask_of s.scope s.due s.filters flow.value style.value) v flow.rest in
-    let fit = ask_fits s.scope s.due s.filters flow.value style.value a.value h.scope h.rows (there IsFlow 9 s.flow flow.value h.flow flow.was) a.was in
-    let room = room_join (where_there object.Confirm s.confirm) (ask_objects a.value) (confirm_room s.confirm h.confirm) fit.0 in
-    subst MessageFits (good_is a.rest) ((who_is s who.value h who.was, (there IsHop 3 s.hop hop.value h.hop hop.was, (there (λ (n : ℕ). n < 2 ^ 32) 5 s.period period.value h.period period.was, room))), fit.1)
-made_fits kind.PathErr s v h e =
-    let who = gave _ (needed 1 s.session) v e in
-    let err = gave _ (needed 6 s.error) v who.rest in
-    subst MessageFits (good_is err.rest) ((who_is s who.value h who.was, (there IsError 6 s.error err.value h.error err.was, template_room s.template h.template)), tt)
-made_fits kind.ResvErr s v h e =
-    let who = gave _ (needed 1 s.session) v e in
-    let hop = gave _ (needed 3 s.hop) v who.rest in
-    let err = gave _ (needed 6 s.error) v hop.rest in
-    let style = gave _ (needed 8 s.style) v err.rest in
-    let blame = gave _ (blame_of s.scope s.filters s.flow style.value) v style.rest in
-    let fit = blame_fits s.scope s.filters s.flow style.value blame.value h.scope h.rows h.flow blame.was in
-    subst MessageFits (good_is blame.rest) ((who_is s who.value h who.was, (there IsHop 3 s.hop hop.value h.hop hop.was, (there IsError 6 s.error err.value h.error err.was, fit.0))), fit.1)
-made_fits kind.PathTear s v h e =
-    let who = gave _ (needed 1 s.session) v e in
-    let hop = gave _ (needed 3 s.hop) v who.rest in
-    subst MessageFits (good_is hop.rest) ((who_is s who.value h who.was, (there IsHop 3 s.hop hop.value h.hop hop.was, template_room s.template h.template)), tt)
-made_fits kind.ResvTear s v h e =
-    let who = gave _ (needed 1 s.session) v e in
-    let hop = gave _ (needed 3 s.hop) v who.rest in
-    let style = gave _ (needed 8 s.style) v hop.rest in
-    let t = gave _ (tear_of s.scope s.filters style.value) v style.rest in
-    let fit = tear_fits s.scope s.filters style.value t.value h.scope h.rows t.was in
-    subst MessageFits (good_is t.rest) ((who_is s who.value h who.was, (there IsHop 3 s.hop hop.value h.hop hop.was, fit.0)), fit.1)
-made_fits kind.ResvConf s v h e =
-    let who = gave _ (needed 1 s.session) v e in
-    let err = gave _ (needed 6 s.error) v who.rest in
-    let style = gave _ (needed 8 s.style) v err.rest in
-    let flow = gave _ (needed 9 s.flow) v style.rest in
-    let a = gave _ (ask_of None s.due s.filters flow.value style.value) v flow.rest in
-    let confirm = gave _ (needed 15 s.confirm) v a.rest in
-    let fit = ask_fits None s.due s.filters flow.value style.value a.value tt h.rows (there IsFlow 9 s.flow flow.value h.flow flow.was) a.was in
-    subst MessageFits (good_is confirm.rest) ((who_is s who.value h who.was, (there IsError 6 s.error err.value h.error err.was, (there IsAddr 15 s.confirm confirm.value h.confirm confirm.was, fit.0))), fit.1)
+hop_fits : (s : Seen) (x : Hop) → IsRoomy s → needed 3 s.hop ≡ good x → IsHop x
+hop_fits s x h e = there IsHop 3 s.hop x h.hop e
+
+period_fits : (s : Seen) (t : ℕ) → IsRoomy s → needed 5 s.period ≡ good t → t < 2 ^ 32
+period_fits s t h e = there (λ (n : ℕ). n < 2 ^ 32) 5 s.period t h.period e
+
+error_fits : (s : Seen) (x : ErrSpec) → IsRoomy s → needed 6 s.error ≡ good x → IsError x
+error_fits s x h e = there IsError 6 s.error x h.error e
+
+made_fits : (s : Seen) → IsRoomy s → HoldsByParts MessageFits s
+made_fits s h =
+    record {
+      path = λ x hop t o who via period sent. ((who_fits s x h who, (hop_fits s hop h via, (period_fits s t h period, offer_fits s.template s.tspec o h.template h.tspec sent))), tt);
+      resv = λ x hop t k f a who via period flow asked.
+          let fit = ask_fits s.scope s.due s.filters f k a h.scope h.rows (there IsFlow 9 s.flow f h.flow flow) asked in
+          let room = room_join (where_there object.Confirm s.confirm) (ask_objects a) (confirm_room s.confirm h.confirm) fit.0 in
+          ((who_fits s x h who, (hop_fits s hop h via, (period_fits s t h period, room))), fit.1);
+      path_err = λ x e who error. ((who_fits s x h who, (error_fits s e h error, template_room s.template h.template)), tt);
+      resv_err = λ x hop e k b who via error blamed.
+          let fit = blame_fits s.scope s.filters s.flow k b h.scope h.rows h.flow blamed in
+          ((who_fits s x h who, (hop_fits s hop h via, (error_fits s e h error, fit.0))), fit.1);
+      path_tear = λ x hop who via. ((who_fits s x h who, (hop_fits s hop h via, template_room s.template h.template)), tt);
+      resv_tear = λ x hop k t who via torn.
+          let fit = tear_fits s.scope s.filters k t h.scope h.rows torn in
+          ((who_fits s x h who, (hop_fits s hop h via, fit.0)), fit.1);
+      resv_conf = λ x e k f a c who error flow asked confirmed.
+          let fit = ask_fits None s.due s.filters f k a tt h.rows (there IsFlow 9 s.flow f h.flow flow) asked in
+          ((who_fits s x h who, (error_fits s e h error, (there IsAddr 15 s.confirm c h.confirm confirmed, fit.0))), fit.1);
+    }
 
 pub what_is_spelt_is_writable : WhatIsSpeltIsWritable
 what_is_spelt_is_writable b v bytes s =
-    let fit = made_fits s.0 (seen_of s.2.0) v (all_roomy s.0 b [] 8 s.2.0 (length b) bytes s.2.1 nothing) s.2.2 in
+    let fit = by_parts MessageFits (seen_of s.2.0) (made_fits (seen_of s.2.0) (all_roomy s.0 b [] 8 s.2.0 (length b) bytes s.2.1 nothing)) s.0 v s.2.2 in
     writable v (what_is_spelt_is_proper b v bytes s) fit.0 fit.1
