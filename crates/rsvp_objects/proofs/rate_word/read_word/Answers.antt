@@ -14,6 +14,13 @@ exponent_is w = and_mask (w / 2 ^ 23) 8
 fraction_is : (w : ℕ) → bit_and w 8388607 ≡ fraction w
 fraction_is w = and_mask w 23
 
+-- how far down the mantissa goes, and the mantissa
+down_is : (w : ℕ) → 150 - bit_and (w / 2 ^ 23) 255 ≡ 150 - exponent w
+down_is w = ap (λ x. 150 - x) (exponent_is w)
+
+mantissa_is : (w : ℕ) → 2 ^ 23 + bit_and w 8388607 ≡ 2 ^ 23 + fraction w
+mantissa_is w = ap (λ x. 2 ^ 23 + x) (fraction_is w)
+
 pub returns-then-up-ge-ROOM_ABOVE-clause-err : goal.returns-then-up-ge-ROOM_ABOVE-clause-err
 returns-then-up-ge-ROOM_ABOVE-clause-err c =
     let w = c.args.word in
@@ -80,21 +87,18 @@ pub returns-then-down-gt-EXPONENT_AT-clause-err : goal.returns-then-down-gt-EXPO
 returns-then-down-gt-EXPONENT_AT-clause-err c =
     let w = c.args.word in
     let e = exponent_is w in
-    let f = fraction_is w in
     let k = 150 - exponent w in
     let m = 2 ^ 23 + fraction w in
     let short : m < 2 ^ 24 = omega arith in
     let low : 2 ^ 23 ≤ m = omega arith in
     let sum : k + exponent w ≡ 150 = omega (arith, e) in
-    let k_is : 150 - bit_and (w / 2 ^ 23) 255 ≡ k = ap (λ x. 150 - x) e in
-    let m_is : 2 ^ 23 + bit_and w 8388607 ≡ m = ap (λ x. 2 ^ 23 + x) f in
     inr (
       record { unsigned = omega arith; not_least = omega (arith, e); not_most = omega (arith, e) },
       λ n eq.
           let whole = unscaled_down n m k 150 (exponent w) sum eq in
           elim c.then-down-gt-EXPONENT_AT.branch [
-            | then-down-gt-EXPONENT_AT-via-then-down-gt-EXPONENT_AT v ↦ too_far n m k (omega (arith, v.if-down-gt-EXPONENT_AT.true, k_is)) low short whole
-            | then-down-gt-EXPONENT_AT-via-else-down-gt-EXPONENT_AT+then-mantissa-down v ↦ not_whole n m k _ _ m_is k_is short v.if-down-gt-EXPONENT_AT.false v.if-mantissa-down.true whole
+            | then-down-gt-EXPONENT_AT-via-then-down-gt-EXPONENT_AT v ↦ too_far n m k (omega (arith, v.if-down-gt-EXPONENT_AT.true, down_is w)) low short whole
+            | then-down-gt-EXPONENT_AT-via-else-down-gt-EXPONENT_AT+then-mantissa-down v ↦ not_whole n m k _ _ (mantissa_is w) (down_is w) short v.if-down-gt-EXPONENT_AT.false v.if-mantissa-down.true whole
           ],
     )
 
@@ -102,14 +106,9 @@ pub returns-clause-ok : goal.returns-clause-ok
 returns-clause-ok c =
     let w = c.args.word in
     let e = exponent_is w in
-    let f = fraction_is w in
     let k = 150 - exponent w in
-    let m = 2 ^ 23 + fraction w in
-    let short : m < 2 ^ 24 = omega arith in
     let sum : k + exponent w ≡ 150 = omega (arith, e) in
-    let k_is : 150 - bit_and (w / 2 ^ 23) 255 ≡ k = ap (λ x. 150 - x) e in
-    let m_is : 2 ^ 23 + bit_and w 8388607 ≡ m = ap (λ x. 2 ^ 23 + x) f in
-    let r = whole_down w k _ _ c.moved_up-2.result m_is k_is c.if-down-gt-EXPONENT_AT.false sum c.if-mantissa-down.false c.moved_up-2.ensures in
+    let r = whole_down w k _ _ c.moved_up-2.result (mantissa_is w) (down_is w) c.if-down-gt-EXPONENT_AT.false sum c.if-mantissa-down.false c.moved_up-2.ensures in
     inr (record {
       positive = r.0;
       below = r.1;
