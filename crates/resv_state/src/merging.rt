@@ -16,7 +16,7 @@ ghost use Rattle.resv_state.specs.Merging.{names_by, names_via, is_by, is_way_wa
 use crate::fact::{Held, ResvFact};
 use crate::walks::FACTS;
 use rsvp_base::{Flow, Part, Sender, Senders, Session};
-use soft_table::{Fact, SoftTable};
+use soft_table::{Fact, Finger, SoftTable};
 use style_rules::{Merger, Parts, Style, Upstream, Wall};
 
 // ---- blockades
@@ -139,6 +139,7 @@ pub(crate) fn merge_on<S: Style>(table: &SoftTable<Held>, session: Session, ifac
     ensures { result ≡ tally_of S.kind_is (filter_map (held_on iface) (held_under session table.now.facts)) }
 {
     let mut merger = Merger::new();
+    let mut finger = Finger::default();
     let mut next = table.at(session, 0);
     for k in 0..FACTS {
         let Some(held) = next else {
@@ -146,7 +147,7 @@ pub(crate) fn merge_on<S: Style>(table: &SoftTable<Held>, session: Session, ifac
         };
         let (_, rest) = held.key();
         add_on(&mut merger, &held.fact, iface);
-        next = table.after(session, rest);
+        next = table.after(session, rest, &mut finger);
     }
     merger
 }
@@ -159,6 +160,7 @@ fn merge_resvs<S: Style>(table: &SoftTable<Held>, session: Session, up: &Upstrea
     ensures { result ≡ tally_of S.kind_is (filter_map (held_toward up.now) (held_under session table.now.facts)) }
 {
     let mut merger = Merger::new();
+    let mut finger = Finger::default();
     let mut next = table.at(session, 0);
     for k in 0..FACTS {
         let Some(held) = next else {
@@ -166,7 +168,7 @@ fn merge_resvs<S: Style>(table: &SoftTable<Held>, session: Session, up: &Upstrea
         };
         let (_, rest) = held.key();
         add_cut(&mut merger, &held.fact.part, up, Some(held.fact.iface));
-        next = table.after(session, rest);
+        next = table.after(session, rest, &mut finger);
     }
     merger
 }

@@ -22,7 +22,7 @@ use crate::leaving::{lessen, only, rest_of};
 use crate::merging::{merge_on, merge_toward};
 use crate::walks::{FACTS, are_all, fits_fact, fits_hop, fits_names, fits_session};
 use rsvp_base::{Addr, Full, NoMemory, Part, Sender, Senders, Session, Unit};
-use soft_table::SoftTable;
+use soft_table::{Finger, SoftTable};
 use std::alloc::Global;
 use std::marker::{Model, PhantomData};
 use style_rules::{Parts, Style, Upstream};
@@ -176,7 +176,7 @@ impl<S: Style> ResvTable<S> {
     fn next_rest(&self, session: Session, rest: ((u8, Addr), Unit)) -> Option<((u8, Addr), Unit)>
         ensures { result ≡ slice_get (map (λ e. e.0) (rows_behind rests rest (under sessions rests self.now.facts session).rows)) 0 }
     {
-        rest_of(self.table.after(session, rest))
+        rest_of(self.table.after(session, rest, &mut Finger::default()))
     }
 
     // What holds of every table.

@@ -13,7 +13,7 @@ ghost use Rattle.resv_state.specs.Walks.{AreFew, held_under, hops_in, is_full, r
 
 use crate::fact::{Held, rest_order};
 use rsvp_base::{Addr, Part, Session, Unit};
-use soft_table::{Fact, SoftTable};
+use soft_table::{Fact, Finger, SoftTable};
 use std::cmp::Ordering;
 
 // At most so many facts, and next hops of a session.
@@ -55,6 +55,7 @@ fn count_hops(table: &SoftTable<Held>, session: Session) -> usize
 {
     let mut count = 0;
     let mut last = None;
+    let mut finger = Finger::default();
     let mut next = table.at(session, 0);
     for k in 0..FACTS {
         let Some(held) = next else {
@@ -65,7 +66,7 @@ fn count_hops(table: &SoftTable<Held>, session: Session) -> usize
             count += 1;
             last = Some(rest.0);
         }
-        next = table.after(session, rest);
+        next = table.after(session, rest, &mut finger);
     }
     count
 }
@@ -76,6 +77,7 @@ fn has_hop(table: &SoftTable<Held>, session: Session, hop: (u8, Addr)) -> bool
     requires few { AreFew (held_under session table.now.facts) }
     ensures { result ≡ list_any (eq_by_cmp next_hops.cmp hop) (hops_in (held_under session table.now.facts)) }
 {
+    let mut finger = Finger::default();
     let mut next = table.at(session, 0);
     for k in 0..FACTS {
         let Some(held) = next else {
@@ -85,7 +87,7 @@ fn has_hop(table: &SoftTable<Held>, session: Session, hop: (u8, Addr)) -> bool
         if is_hop(hop, rest.0) {
             return true;
         }
-        next = table.after(session, rest);
+        next = table.after(session, rest, &mut finger);
     }
     false
 }
@@ -116,6 +118,7 @@ pub(crate) fn fits_names(
     ensures { result ≡ nat_le (size (with_names key.now part.now.senders (held_under session table.now.facts))) 16 }
 {
     let mut names = part.senders.copy();
+    let mut finger = Finger::default();
     let mut next = table.at(session, 0);
     for k in 0..FACTS {
         let Some(held) = next else {
@@ -128,7 +131,7 @@ pub(crate) fn fits_names(
                 Err(_) => return false,
             }
         }
-        next = table.after(session, rest);
+        next = table.after(session, rest, &mut finger);
     }
     names.len() <= 16
 }

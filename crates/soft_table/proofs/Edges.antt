@@ -1,5 +1,6 @@
 -- Where the rows of a session begin and end, and those behind a key.
-use Rattle.std.proofs.Common.{◌≡◌, ◌<◌, ◌≤◌, ℕ, true, false, not, List, length, get_or, ◌⊎◌, refl, sym, ap, subst, ◌∙◌, arith, inl, inr}
+use Rattle.std.proofs.Common.{◌≡◌, ◌<◌, ◌≤◌, ◌+◌, ℕ, true, false, not, List, length, get_or, ◌⊎◌, refl, sym, ap, subst, ◌∙◌, arith, inl, inr}
+use Rattle.std.proofs.lemmas.List.{get_or_default}
 use Rattle.std.specs.Cmp.{tied_itself}
 use Rattle.std.specs.List.Sorted.{IsPartitionedBy}
 use Rattle.std.specs.Ordering.{eq_by_cmp, is_lt, is_eq, ordering_then, ordering_index, ordering_reverse}
@@ -10,12 +11,13 @@ use Rattle.rsvp_base.specs.Orders.{sessions}
 use Rattle.rsvp_base.specs.Rows.{AreRows}
 use Rattle.rsvp_base.specs.Table.{passes}
 use Rattle.rsvp_base.specs.declared.session.Session.{Session}
-use Rattle.rsvp_base.proofs.Places.{rising}
-use Rattle.rsvp_base.proofs.Tables.{either}
+use Rattle.rsvp_base.proofs.Places.{rising, greater}
+use Rattle.rsvp_base.proofs.Tables.{either, tied_same}
 use Rattle.soft_table.specs.declared.row.Row.{Row}
 use Rattle.soft_table.specs.Facts.{fact_keys}
 use Rattle.soft_table.specs.Index.{index_row}
-use Rattle.soft_table.specs.Walks.{is_behind}
+use Rattle.soft_table.specs.Walks.{is_behind, OthersFrom, BehindFrom}
+use Rattle.soft_table.proofs.Walks.{not_true}
 
 less_if : (w : Ordering) → is_lt w ≡ true → w ≡ Less
 less_if Less e = refl
@@ -79,8 +81,20 @@ module _ {R : Type 0} (rests : Keys R) (rows : List (Row R)) (up : AreRows (fact
   pub before_parts : (s : Session) → IsPartitionedBy (λ (r : Row R). is_lt (sessions.cmp r.session s)) rows
   before_parts s i j d le lt t = up_to sessions _ _ s (firsts rests _ _ (in_order i j d le lt)) t
 
-  pub past_parts : (s : Session) → IsPartitionedBy (λ (r : Row R). not (is_lt (sessions.cmp s r.session))) rows
-  past_parts s i j d le lt t = not_beyond sessions s _ _ (firsts rests _ _ (in_order i j d le lt)) t
-
   pub behind_parts : (s : Session) (rest : R) → IsPartitionedBy (λ (r : Row R). not (is_behind rests s rest r)) rows
   behind_parts s rest i j d le lt t = not_beyond o (s, rest) _ _ (in_order i j d le lt) t
+
+  -- a row of a later session, and those after it, are not the session's
+  pub later_from : (s : Session) (i : ℕ) (r : Row R) → i < length rows → r ≡ get_or rows i r → is_lt (sessions.cmp s r.session) ≡ true → OthersFrom s rows i
+  later_from s i r lt is behind =
+      λ j d low high. let here : get_or rows i d ≡ r = get_or_default rows i d r lt ∙ sym is in
+      apart_above sessions _ s (beyond sessions s _ _ (firsts rests _ _ (in_order i j d low high)) (ap (λ (z : Row R). is_lt (sessions.cmp s z.session)) here ∙ behind))
+
+  -- behind the row of a key stand those behind the key
+  pub behind_row : (s : Session) (rest : R) (n : ℕ) (r : Row R) → n < length rows → r ≡ get_or rows n r → eq_by_cmp o.cmp (key r) (s, rest) ≡ true → BehindFrom rests s rest rows (n + 1)
+  behind_row s rest n r lt is tie =
+      let at : (d : Row R) → key (get_or rows n d) ≡ (s, rest) = λ d. ap key (get_or_default rows n d r lt ∙ sym is) ∙ tied_same o (key r) (s, rest) tie in
+      record {
+        up_to = λ i d low high. not_true _ (not_beyond o (s, rest) _ _ (subst (λ k. AtMost o (key (get_or rows i d)) k) (at d) (in_order i n d (omega arith) lt)) (ap (λ w. not (is_lt w)) (tied_itself o.total (s, rest))));
+        from = λ i d low high. subst (λ k. is_lt (o.cmp k (key (get_or rows i d))) ≡ true) (at d) (ap is_lt (greater o index_row rows (passes _ up) n i d (omega arith) high));
+      }

@@ -6,6 +6,7 @@
 #![tactic(auto)]
 
 mod fact;
+mod finger;
 mod row;
 mod rows;
 mod table;
@@ -13,4 +14,5 @@ mod table;
 mod tests;
 
 pub use fact::Fact;
+pub use finger::Finger;
 pub use table::SoftTable;

@@ -90,6 +90,13 @@ fn is_behind_key<F: Fact>(row: &Row<F::Rest>, session: Session, rest: &F::Rest) 
         .is_lt()
 }
 
+// Whether a row is that of a key.
+fn is_row<F: Fact>(row: &Row<F::Rest>, session: Session, rest: &F::Rest) -> bool
+    ensures { result ≡ eq_by_cmp (fact_keys F.rests).cmp (row.now.session, row.now.rest) (session, rest.now) }
+{
+    order::<F>(row, session, rest) == Ordering::Equal
+}
+
 // Where the rows of the session begin.
 pub(crate) fn first<F: Fact>(rows: &[Row<F::Rest>], session: Session) -> usize
     requires { AreRows (fact_keys F.rests) index_row rows.now }
@@ -98,45 +105,45 @@ pub(crate) fn first<F: Fact>(rows: &[Row<F::Rest>], session: Session) -> usize
     rows.partition_point(|row| is_before(row, session))
 }
 
-// Where they end.
-pub(crate) fn past<F: Fact>(rows: &[Row<F::Rest>], session: Session) -> usize
-    requires { AreRows (fact_keys F.rests) index_row rows.now }
-    ensures within { result ≤ length rows.now }
-    ensures others { OthersFrom session rows.now result }
-{
-    rows.partition_point(|row| !is_behind(row, session))
-}
-
-// Where the rows behind a key begin.
-pub(crate) fn behind<F: Fact>(rows: &[Row<F::Rest>], session: Session, rest: &F::Rest) -> usize
+// Where the rows behind a key begin. Nothing is searched where the key's row stands at the place `near`.
+pub(crate) fn behind<F: Fact>(
+    rows: &[Row<F::Rest>],
+    session: Session,
+    rest: &F::Rest,
+    near: usize,
+) -> usize
     requires { AreRows (fact_keys F.rests) index_row rows.now }
     ensures { BehindFrom F.rests session rest.now rows.now result }
 {
+    if near < rows.len() && is_row::<F>(&rows[near], session, rest) {
+        return near + 1;
+    }
     rows.partition_point(|row| !is_behind_key::<F>(row, session, rest))
 }
 
-// The slot of the k-th fact of the session among the rows from one place on. Those of the session end before the other.
+// The k-th fact of the session among the rows from one place on: its row's place, and its slot.
 pub(crate) fn nth<F: Fact>(
     pool: &Pool<F>,
     rows: &[Row<F::Rest>],
     session: Session,
     from: usize,
-    to: usize,
     k: usize,
-) -> Option<Slot>
+) -> Option<(usize, Slot)>
+    requires rising { AreRows (fact_keys F.rests) index_row rows.now }
     requires slots { AreSlots pool.now rows.now }
-    requires within { to ≤ length rows.now }
-    requires others { OthersFrom session rows.now to }
-    ensures some { IfSome result (λ s. option_map (λ e. e.1) (slice_get (facts_under F.rests session pool.now (drop from rows.now)) k) ≡ live_in (slice_get pool.now s.0)) }
-    ensures within { IfSome result (λ s. s.0 < length pool.now) }
+    ensures some { IfSome result (λ r. option_map (λ e. e.1) (slice_get (facts_under F.rests session pool.now (drop from rows.now)) k) ≡ live_in (slice_get pool.now r.1.0)) }
+    ensures within { IfSome result (λ r. r.1.0 < length pool.now) }
     ensures none { IsNone result → slice_get (facts_under F.rests session pool.now (drop from rows.now)) k ≡ None }
 {
     let mut left = k;
-    for i in from..to {
+    for i in from..rows.len() {
         let row = rows[i];
+        if is_behind(&row, session) {
+            return None;
+        }
         if is_of(pool, &row, session) {
             if left == 0 {
-                return Some(row.slot);
+                return Some((i, row.slot));
             }
             left -= 1;
         }

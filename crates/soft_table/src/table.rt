@@ -10,8 +10,9 @@ ghost use Rattle.rsvp_base.specs.Under.{rows_under};
 ghost use Rattle.soft_table.specs.Facts.{fact_keys, facts_by, dead_by, sessions_in, rows_behind, IsInOrder, lives_on, dies};
 
 use crate::fact::Fact;
+use crate::finger::Finger;
 use crate::row::Row;
-use crate::rows::{behind, count_sessions, fact_in, first, insert_row, nth, past, search};
+use crate::rows::{behind, count_sessions, fact_in, first, insert_row, nth, search};
 use rsvp_base::{Full, NoMemory, Session};
 use soft_pool::Pool;
 use std::alloc::Global;
@@ -179,23 +180,25 @@ impl<F: Fact> SoftTable<F> {
     {
         let rows = self.rows.as_slice();
         let from = first::<F>(rows, session);
-        let to = past::<F>(rows, session);
-        match nth::<F>(&self.pool, rows, session, from, to, k) {
-            Some(slot) => fact_in(&self.pool, slot),
+        match nth::<F>(&self.pool, rows, session, from, k) {
+            Some((_, slot)) => fact_in(&self.pool, slot),
             None => None,
         }
     }
 
     /// The fact of a session that comes next behind the rest of a key. `None` exactly where none does. Dead facts do not
-    /// count. So a session's facts are gone through one by one: from the 0th on, each behind the last.
-    pub fn after(&self, session: Session, rest: F::Rest) -> Option<&F>
+    /// count. So a session's facts are gone through one by one: from the 0th on, each behind the last. The finger only saves
+    /// searching: it is left on the fact that is answered, and where it stands on that of `rest` the next one is beside it.
+    pub fn after(&self, session: Session, rest: F::Rest, finger: &mut Finger) -> Option<&F>
         ensures { option_copied result ≡ option_map (λ e. e.1.0) (slice_get (rows_behind F.rests rest (rows_under sessions F.rests session (facts_by F.key_of self.now.facts))) 0) }
     {
         let rows = self.rows.as_slice();
-        let from = behind::<F>(rows, session, &rest);
-        let to = past::<F>(rows, session);
-        match nth::<F>(&self.pool, rows, session, from, to, 0) {
-            Some(slot) => fact_in(&self.pool, slot),
+        let from = behind::<F>(rows, session, &rest, finger.place);
+        match nth::<F>(&self.pool, rows, session, from, 0) {
+            Some((place, slot)) => {
+                finger.place = place;
+                fact_in(&self.pool, slot)
+            }
             None => None,
         }
     }

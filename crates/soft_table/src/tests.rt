@@ -1,5 +1,5 @@
 //! A table of two facts.
-use crate::{Fact, SoftTable};
+use crate::{Fact, Finger, SoftTable};
 use rsvp_base::{Addr, Full, Session};
 use std::cmp::Ordering;
 use std::test::Fail;
@@ -67,8 +67,9 @@ fn facts_are_put_found_removed_and_die(rt: HostRuntime) -> Result<(), Fail> {
         return Err(Fail::from("a dead fact waits"));
     };
     assert!(rt; table.len() == 2);
-    assert!(rt; table.after(session(2), 0).map(|m| m.number) == Some(9));
-    assert!(rt; table.after(session(2), 1).is_none());
+    let mut finger = Finger::default();
+    assert!(rt; table.after(session(2), 0, &mut finger).map(|m| m.number) == Some(9));
+    assert!(rt; table.after(session(2), 1, &mut finger).is_none());
     assert!(rt; table.replace(make_note(1, 1, 6)));
     assert!(rt; !table.replace(make_note(1, 2, 6)));
     assert!(rt; table.replace(make_note(1, 1, 8)));

@@ -1,9 +1,12 @@
-use Rattle.std.proofs.Common.{rules, not, arith}
+use Rattle.std.proofs.Common.{rules, not, arith, refl, sym, ◌∙◌}
 use Rattle.std.proofs.lemmas.List.Sorted.{IsPartitionPoint-from_clause}
 use Rattle.soft_table.specs.Walks.{is_behind}
-use Rattle.soft_table.proofs.Edges.{behind_parts}
+use Rattle.soft_table.proofs.Edges.{behind_parts, behind_row}
 use Rattle.soft_table.proofs.Walks.{not_true, not_false}
 use Rattle.soft_table.proofs.rows.behind.Goals as goal
+
+pub returns-then-is_row : goal.returns-then-is_row
+returns-then-is_row g c = behind_row g.F.Fact.rests c.args.rows.now c.requires c.args.session c.args.rest.now c.args.near c.index-rows-near.result c.if-near-rows.true c.index-rows-near.is (sym c.is_row.ensures ∙ c.if-is_row.true)
 
 pub returns : goal.returns
 returns g c =

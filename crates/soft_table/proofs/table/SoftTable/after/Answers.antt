@@ -11,9 +11,6 @@ use Rattle.soft_table.proofs.table.SoftTable.after.Goals as goal
 pub behind-from-requires : goal.behind-from-requires
 behind-from-requires g c = rw c.as_slice-rows.ensures.value (rising g.F.Fact.rests g.F.Fact.key_of c.self.inside.pool c.self.inside.rows.items c.self.invariant.0)
 
-pub past-to-requires : goal.past-to-requires
-past-to-requires g c = rw c.as_slice-rows.ensures.value (rising g.F.Fact.rests g.F.Fact.key_of c.self.inside.pool c.self.inside.rows.items c.self.invariant.0)
-
 pub nth-requires-clause-slots : goal.nth-requires-clause-slots
 nth-requires-clause-slots g c = rw c.as_slice-rows.ensures.value (are_slots g.F.Fact.rests g.F.Fact.key_of c.self.inside.pool c.self.inside.rows.items c.self.invariant.0)
 
