@@ -1,4 +1,5 @@
 //! The command line.
+use crate::tables::{Calls, Desk};
 use crate::trees::{Forest, Until};
 
 /// What is timed.
@@ -7,6 +8,7 @@ pub enum Verb {
     Read,
     Write,
     Grow(Forest),
+    Serve(Desk),
 }
 
 /// What is timed, and how many times it is done.
@@ -36,10 +38,22 @@ fn verb_of(word: &str) -> Option<Verb> {
         "grow-apart" => Some(trees(true, Until::Grown)),
         "close-apart" => Some(trees(true, Until::Closed)),
         "owe-apart" => Some(trees(true, Until::Owed)),
+        "fill" => Some(tables(false, Calls::Fill)),
+        "put" => Some(tables(false, Calls::Refresh)),
+        "parts" => Some(tables(false, Calls::Parts)),
+        "toward" => Some(tables(false, Calls::Toward)),
+        "fill-shared" => Some(tables(true, Calls::Fill)),
+        "put-shared" => Some(tables(true, Calls::Refresh)),
+        "parts-shared" => Some(tables(true, Calls::Parts)),
+        "toward-shared" => Some(tables(true, Calls::Toward)),
         _ => None,
     }
 }
 
 fn trees(is_apart: bool, until: Until) -> Verb {
     Verb::Grow(Forest { is_apart, until })
+}
+
+fn tables(is_shared: bool, calls: Calls) -> Verb {
+    Verb::Serve(Desk { is_shared, calls })
 }

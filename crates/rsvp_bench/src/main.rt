@@ -6,10 +6,16 @@
 //! `rsvp_bench grow N` adds the hops of the largest network, all of one group, N times; `close` closes the topology too, and
 //! `owe` works out what each end owes. With `-apart` behind it each tree has a group of its own. They print how many hops
 //! were added, and a sum over what came of it.
+//!
+//! `rsvp_bench put N` puts each reservation of a full table of fixed filters anew N times; `fill` puts them into the empty
+//! table, `parts` merges what is on interfaces, and `toward` what goes toward a previous hop. With `-shared` behind it the
+//! table is of shared filters. They print how many calls were made, and a sum over what came of them.
 #![tactic(auto)]
 
 mod command;
+mod reservations;
 mod sample;
+mod tables;
 #[cfg(test)]
 mod tests;
 mod trees;
@@ -18,6 +24,7 @@ mod work;
 use command::{Command, Verb, command_of};
 use std::process::ExitCode;
 use std::{env, io};
+use tables::serve_times;
 use trees::grow_times;
 use work::{read_times, write_times};
 
@@ -34,7 +41,7 @@ fn main(rt: HostRuntime) -> io::Result<ExitCode> {
     }
     let Some(command) = command_of(&words) else {
         eprintln!(rt;
-            "usage: rsvp_bench read|write|grow|close|owe|grow-apart|close-apart|owe-apart N"
+            "usage: rsvp_bench read|write|grow|close|owe|grow-apart|close-apart|owe-apart|fill|put|parts|toward|fill-shared|put-shared|parts-shared|toward-shared N"
         )?;
         return Ok(ExitCode::from(USAGE));
     };
@@ -54,6 +61,13 @@ fn main(rt: HostRuntime) -> io::Result<ExitCode> {
                 return Ok(ExitCode::from(NO_MEMORY));
             };
             println!(rt; "hops {} sum {}", grown.hops, grown.sum)?;
+        }
+        Verb::Serve(desk) => {
+            let Some(served) = serve_times(rt.alloc(), desk, times) else {
+                eprintln!(rt; "out of memory")?;
+                return Ok(ExitCode::from(NO_MEMORY));
+            };
+            println!(rt; "calls {} sum {}", served.calls, served.sum)?;
         }
     }
     Ok(ExitCode::SUCCESS)

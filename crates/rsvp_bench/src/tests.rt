@@ -1,4 +1,5 @@
 //! What the work counts.
+use crate::tables::{Calls, Desk, Served, serve_times};
 use crate::work::{Done, read_times, write_times};
 
 #[test]
@@ -18,4 +19,25 @@ fn each_time_counts(rt: HostRuntime) {
             sum: 92 + 184
         }
     );
+}
+
+// Of each of 32 sessions 32 reservations, of rates from 1,000 on. What comes of a session, by hand: fixed filters on both
+// interfaces are 32 parts; toward the hop they are 16, of the larger of two rates but where a blockade at 1,010 leaves the
+// smaller. Shared filters are one part of 16 names, and toward the hop its rate stays below the blockade.
+#[test]
+fn a_full_table_answers_for_all(rt: HostRuntime) {
+    for (is_shared, calls, expected) in [
+        (false, Calls::Fill, (1024u64, 1024u64)),
+        (false, Calls::Refresh, (1024, 1024)),
+        (false, Calls::Parts, (64, 32 * (32 + 32_496))),
+        (false, Calls::Toward, (32, 32 * (16 + 12_288 + 4024))),
+        (true, Calls::Fill, (1024, 1024)),
+        (true, Calls::Refresh, (1024, 1024)),
+        (true, Calls::Parts, (64, 32 * (16 + 1015 + 16 + 1031))),
+        (true, Calls::Toward, (32, 32 * (16 + 1009))),
+    ] {
+        let (number, sum) = expected;
+        let served = serve_times(rt.alloc(), Desk { is_shared, calls }, 1);
+        assert_eq!(rt; served, Some(Served { calls: number, sum }));
+    }
 }
