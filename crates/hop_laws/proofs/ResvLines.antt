@@ -16,13 +16,13 @@ use Rattle.calm_rounds.specs.Lines.{KeepLaws, KeepsOnly, SaysOnly}
 use Rattle.calm_rounds.specs.Rounds.{Rounds}
 use Rattle.calm_rounds.proofs.Settling.{only_what_is_said_is_kept}
 use Rattle.demand_laws.specs.Goals.{addr_of}
-use Rattle.router_laws.specs.BoundLaws.{IsLeftOf}
-use Rattle.router_laws.specs.ReservationLaws.{IsAskedFor, IsListed}
-use Rattle.router_laws.proofs.Asking.{where_a_reservation_fact_comes_from}
 use Rattle.router_rules.specs.Facts.{Facts, ResvState, resvs_of}
 use Rattle.router_rules.specs.Inputs.{Wait, Came, Spelt}
 use Rattle.router_rules.specs.Place.{own}
 use Rattle.router_rules.specs.Rule.{Outcome}
+use Rattle.bound_laws.specs.BoundLaws.{IsLeftOf}
+use Rattle.resv_laws.specs.ReservationLaws.{IsAskedFor, IsListed}
+use Rattle.resv_laws.proofs.Asking.{where_a_reservation_fact_comes_from}
 use Rattle.tree_laws.specs.Networks.{Net, node_of, end_at, iface_of}
 use Rattle.tree_laws.proofs.Ifaces.{interfaces_are_ends}
 use Rattle.network_model.specs.Bounds.{AreBounds}

@@ -25,12 +25,6 @@ use Rattle.calm_rounds.specs.Rounds.{Rounds}
 use Rattle.calm_rounds.proofs.Holding.{hold_map, hold_both, hold_start, hold_keep}
 use Rattle.calm_rounds.proofs.Renewing.{what_is_said_is_kept}
 use Rattle.demand_laws.specs.Goals.{addr_of}
-use Rattle.router_laws.specs.ReservationLaws.{Touches, TouchesBy}
-use Rattle.router_laws.specs.Steps.{facts_then, fired_then}
-use Rattle.router_laws.proofs.Asking.{what_keeps_a_reservation_fact}
-use Rattle.router_laws.proofs.Counting.{fires}
-use Rattle.router_laws.proofs.Hopward.{what_a_resv_sent_says}
-use Rattle.router_laws.proofs.Speaking.{refreshes_are_marked}
 use Rattle.router_rules.specs.Asking.{ask_of}
 use Rattle.router_rules.specs.Facts.{Facts, PathState, resvs_of}
 use Rattle.router_rules.specs.Inputs.{Arrival, Input, Wait, Came, Send, Spelt, Unspelt}
@@ -44,6 +38,12 @@ use Rattle.rule_laws.proofs.Asks.{style_told as ask_told}
 use Rattle.rule_laws.proofs.Knowing.{has-known, lanes_told, counted_made}
 use Rattle.rule_laws.proofs.Requesting.{nowhere}
 use Rattle.rule_laws.proofs.Tests.{ties, addr_told, addr_tested, session_told, style_told}
+use Rattle.router_laws.specs.Steps.{facts_then, fired_then}
+use Rattle.router_laws.proofs.Counting.{fires}
+use Rattle.router_laws.proofs.Speaking.{refreshes_are_marked}
+use Rattle.resv_laws.specs.ReservationLaws.{Touches, TouchesBy}
+use Rattle.resv_laws.proofs.Asking.{what_keeps_a_reservation_fact}
+use Rattle.resv_laws.proofs.Hopward.{what_a_resv_sent_says}
 use Rattle.tree_laws.specs.Networks.{Net, node_of, end_at, iface_of, peers}
 use Rattle.tree_laws.specs.Valid.{IsValid}
 use Rattle.tree_laws.proofs.Following.{same_number, number_same}

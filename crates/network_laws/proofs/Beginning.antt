@@ -14,8 +14,6 @@ use Rattle.rsvp_base.specs.Table.{get, has}
 use Rattle.rsvp_base.proofs.Counts.{found_in, in_set_of, set_of_in}
 use Rattle.rsvp_base.proofs.Members.{to_each}
 use Rattle.style_rules.specs.Styles.{name_of}
-use Rattle.router_laws.specs.BoundLaws.{IsFitStale}
-use Rattle.router_laws.proofs.LeftOver.{left_over_facts_are_within_bounds}
 use Rattle.router_rules.specs.Bounds.{IsWithinBounds}
 use Rattle.router_rules.specs.Facts.{Facts, no_facts}
 use Rattle.router_rules.specs.Inputs.{Stale, StaleResv}
@@ -23,6 +21,8 @@ use Rattle.router_rules.specs.Line.{s1, scope}
 use Rattle.router_rules.specs.Place.{Place}
 use Rattle.router_rules.specs.Rule.{facts_with}
 use Rattle.router_rules.proofs.Bounding.{no_facts_are_within_bounds}
+use Rattle.bound_laws.specs.BoundLaws.{IsFitStale}
+use Rattle.bound_laws.proofs.LeftOver.{left_over_facts_are_within_bounds}
 use Rattle.tree_laws.specs.declared.hops.TreeHop.{TreeHop}
 use Rattle.tree_laws.specs.Trees.{tree_keys, key_of, trees_of}
 use Rattle.tree_laws.proofs.Following.{same_number}

@@ -12,13 +12,13 @@ use Rattle.calm_rounds.specs.Rounds.{Rounds}
 use Rattle.calm_rounds.specs.Hold.{Hold}
 use Rattle.calm_rounds.proofs.Holding.{hold_always}
 use Rattle.calm_rounds.proofs.Renewing.{in_option}
-use Rattle.router_laws.specs.BoundLaws.{IsSameNode, IsFit, IsFitArrival, clock_after}
-use Rattle.router_laws.proofs.Bounded.{a_step_keeps_a_node_within_bounds}
-use Rattle.router_laws.proofs.Wording.{what_is_sent_is_proper}
 use Rattle.router_rules.specs.Bounds.{IsWithinBounds}
 use Rattle.router_rules.specs.Facts.{Facts}
 use Rattle.router_rules.specs.Inputs.{Arrival, Input, Call, Wait, Clear, Moved, Send, Spelt, Unspelt}
 use Rattle.router_rules.specs.Rule.{rule}
+use Rattle.bound_laws.specs.BoundLaws.{IsSameNode, IsFit, IsFitArrival, clock_after}
+use Rattle.bound_laws.proofs.Bounded.{a_step_keeps_a_node_within_bounds}
+use Rattle.bound_laws.proofs.Wording.{what_is_sent_is_proper}
 use Rattle.tree_laws.specs.declared.hops.End.{End}
 use Rattle.tree_laws.specs.declared.hops.Hop.{Hop}
 use Rattle.tree_laws.specs.declared.hops.TreeHop.{TreeHop}

@@ -5,10 +5,10 @@ use Rattle.rsvp_base.specs.declared.style.Unit.TheVariants.{One}
 use Rattle.rsvp_base.specs.Members.{In}
 use Rattle.rsvp_base.specs.Table.{get}
 use Rattle.style_rules.specs.Lines.{LineKey}
-use Rattle.router_laws.specs.BoundLaws.{IsFitStale}
 use Rattle.router_rules.specs.Facts.{ResvState, resvs_of}
 use Rattle.router_rules.specs.Inputs.{Stale, StaleResv}
 use Rattle.router_rules.specs.Line.{r1, session, scope, usual}
+use Rattle.bound_laws.specs.BoundLaws.{IsFitStale}
 use Rattle.tree_laws.specs.Trees.{trees_of}
 use Rattle.tree_laws.specs.Valid.{IsValid}
 use Rattle.network_model.specs.Runs.{Plan, first_facts}

@@ -3,11 +3,3 @@ pub mod FrameLaws
 pub mod PathLaws
 pub mod CountdownLaws
 pub mod SpeakingLaws
-pub mod BoundLaws
-pub mod AcceptingLaws
-pub mod Examples
-pub mod ErrorLaws
-pub mod ProperLaws
-pub mod ReservationLaws
-pub mod BlameLaws
-pub mod ReservationExamples

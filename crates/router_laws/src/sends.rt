@@ -1,5 +1,4 @@
 //! Laws of what is sent for path state, and of refreshes (RFC 2205, 3.1.3, 3.1.5 and 3.7).
-ghost use Rattle.router_laws.specs.ProperLaws.{WhatIsSentIsProper};
 ghost use Rattle.router_laws.specs.SpeakingLaws.{WhatAPathSentSays, WhyAPathTearIsSent, RefreshesAreMarked};
 
 /// A Path that is sent has a sender that is known after the step, by an interface out of which its tree goes; it goes to the
@@ -18,9 +17,4 @@ pub fn why_a_path_tear_is_sent()
 #[tactic(auto, using(crate::proofs::Speaking::refreshes_are_marked))]
 pub fn refreshes_are_marked()
     ensures { RefreshesAreMarked }
-{}
-
-/// What a node within bounds sends is proper, where what came to it was fit.
-pub fn what_is_sent_is_proper()
-    ensures { WhatIsSentIsProper }
 {}

@@ -1,0 +1,9 @@
+pub mod Shrinking
+pub mod Putting
+pub mod Folding
+pub mod Reserving
+pub mod Keeping
+pub mod LocalFacts
+pub mod Bounded
+pub mod LeftOver
+pub mod Wording
