@@ -20,7 +20,7 @@ use Rattle.rsvp_base.specs.declared.style.StyleKind.{StyleKind}
 use Rattle.rsvp_base.specs.declared.style.Unit.{Unit as UnitOf}
 use Rattle.rsvp_base.proofs.Counts.{in_set_of, set_of_in, size_below, in_found, found_in}
 use Rattle.rsvp_base.proofs.Members.{in_any, any_in, in_each, to_each, in_filter, to_filter, in_flat_map, to_flat_map}
-use Rattle.rsvp_base.proofs.SetLaws.{and_both, and_made, has-with_key, has-union}
+use Rattle.rsvp_base.proofs.SetLaws.{and_both, and_made, or_assoc, or_false, or_left, or_right, has-with_key, has-union}
 use Rattle.rsvp_base.proofs.Tables.{either, tied_same, tied_self, get-put_in_same, get-put_in_other, size-put_in}
 use Rattle.rsvp_base.proofs.UnderLaws.{get-under}
 use Rattle.style_rules.specs.Lines.{Line, LineKey, NextHop, line_keys, line_key, next_hops, next_hop}
@@ -117,24 +117,8 @@ module _ (st : StyleKind) (m : ResvFacts) where
 abbrev pub is_beside : Rest → Sender → Rest × (Held × ℕ) → Bool
 is_beside r q e = not (eq_by_cmp rests.cmp r e.0) && has e.1.0.fact.part.senders q
 
-or_none : (a : Bool) → a ≡ (a || false)
-or_none true = refl
-or_none false = refl
-
-or_assoc : (a b c : Bool) → ((a || b) || c) ≡ (a || (b || c))
-or_assoc true b c = refl
-or_assoc false b c = refl
-
-or_right : (a b : Bool) → b ≡ true → (a || b) ≡ true
-or_right true b e = refl
-or_right false b e = e
-
-or_left : (a b : Bool) → a ≡ true → (a || b) ≡ true
-or_left true b e = refl
-or_left false b e = cc
-
 has-with_names : (r : Rest) (q : Sender) (es : List (Rest × (Held × ℕ))) (names : Names) → has (with_names r names es) q ≡ (has names q || list_any (is_beside r q) es)
-has-with_names r q [] names = or_none (has names q)
+has-with_names r q [] names = sym (or_false (has names q))
 has-with_names r q (e ∷ es) names = by (eq_by_cmp rests.cmp r e.0) (λ n. has-with_names r q es n)
   where
     by : (b : Bool) → ((n : Names) → has (with_names r n es) q ≡ (has n q || list_any (is_beside r q) es))
