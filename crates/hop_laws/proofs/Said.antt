@@ -27,7 +27,7 @@ use Rattle.calm_rounds.proofs.Renewing.{what_is_said_is_kept}
 use Rattle.demand_laws.specs.Goals.{addr_of}
 use Rattle.router_rules.specs.Asking.{ask_of}
 use Rattle.router_rules.specs.Facts.{Facts, PathState, resvs_of}
-use Rattle.router_rules.specs.Inputs.{Arrival, Input, Wait, Came, Send, Spelt, Unspelt}
+use Rattle.router_rules.specs.Inputs.{Arrival, Input, Came, Send, Spelt, Unspelt}
 use Rattle.router_rules.specs.Known.{known, named_as, lanes}
 use Rattle.router_rules.specs.Known.{Lane as HopLane}
 use Rattle.router_rules.specs.Place.{Place, own, is_addr, is_session, lifetime}
@@ -38,8 +38,7 @@ use Rattle.rule_laws.proofs.Asks.{style_told as ask_told}
 use Rattle.rule_laws.proofs.Knowing.{has-known, lanes_told, counted_made}
 use Rattle.rule_laws.proofs.Requesting.{nowhere}
 use Rattle.rule_laws.proofs.Tests.{ties, addr_told, addr_tested, session_told, style_told}
-use Rattle.router_laws.specs.Steps.{facts_then, fired_then}
-use Rattle.router_laws.proofs.Counting.{fires}
+use Rattle.router_laws.specs.Steps.{facts_then}
 use Rattle.router_laws.proofs.Speaking.{refreshes_are_marked}
 use Rattle.resv_laws.specs.ReservationLaws.{Touches, TouchesBy}
 use Rattle.resv_laws.proofs.Asking.{what_keeps_a_reservation_fact}
@@ -51,15 +50,15 @@ use Rattle.tree_laws.proofs.Ifaces.{interfaces_are_ends}
 use Rattle.network_model.specs.Bounds.{AreBounds}
 use Rattle.network_model.specs.Laws.{place_in}
 use Rattle.network_model.specs.Links.{is_group, goes_to, copy_to}
-use Rattle.network_model.specs.Steps.{Step, Lane, OfSender, OfStyle, is_quiet, ms_of, arrived, input_at, word_for, outcome, still, lane, arrival_lane, path_lane, sender_of, sent, step, machine}
+use Rattle.network_model.specs.Steps.{Step, Lane, OfSender, OfStyle, is_quiet, ms_of, arrived, input_at, outcome, still, lane, arrival_lane, path_lane, sender_of, sent, step, machine}
 use Rattle.network_model.specs.Worlds.{Item, World, place_of}
 use Rattle.network_model.proofs.Changing.{where_a_send_goes}
 use Rattle.network_model.proofs.Machines.{quiet_of, time_passes, items_are_numbered, in_flight_after, in_arrived}
-use Rattle.network_model.proofs.Quiet.{IsWaited, IsCame, FollowsRule, input_found, arrival_takes_no_time, net_quiet, outcome_quiet}
+use Rattle.network_model.proofs.Quiet.{IsWaited, IsCame, FollowsRule, input_found, arrival_takes_no_time, net_quiet, outcome_by, outcome_quiet}
 use Rattle.network_model.proofs.Stepping.{copies_made, facts_after_made, sent_made}
 use Rattle.network_laws.specs.Known.{IsKnown}
 use Rattle.network_laws.specs.Refreshes.{due_at, Refreshes}
-use Rattle.network_laws.proofs.Due.{full_life, due_found, due_made, due_moves}
+use Rattle.network_laws.proofs.Due.{full_life, due_found, due_made, due_moves, refresh_follows}
 use Rattle.network_laws.proofs.Known.{of_some, has_some, or_true, known_hold, node_there, end_found, came_there}
 use Rattle.network_laws.proofs.Sends.{sent_by_rule}
 use Rattle.network_laws.proofs.Standing.{own_end, peer_there, linked_there}
@@ -192,18 +191,13 @@ module _ (q : ℕ) (o : World) (k : ResvKey) (valid : IsValid o.net) (linked : I
       let input : Input = Came (iface_of o.net.ends k.to) y.dst (Spelt (message.Resv says.resv)) in
       let came : input_at s u at_to ≡ Some input = came_there q o u g.known k.to lt s y arr says.end ∙ (λ i. Some (Came (iface_of o.net.ends k.to) y.dst (says.spelt i))) in
       let taken = g.said.taken y (in_arrived s u y arr) born says f.0 f.1 in
-      ⊎_elim
-      (λ (z : (input_at s u at_to ≡ None) × (outcome q s u at_to f.0 ≡ still f.0)). let bad : None ≡ Some input = sym z.0 ∙ came in absurd (cc))
-      (λ (r : FollowsRule q s u at_to f.0 (outcome q s u at_to f.0)).
-      let is : r.input ≡ input = of_some r.input input (sym r.came ∙ came) in
       let ms : u.clock + ms_of s ≡ u.clock = (let e = arrival_takes_no_time s u y arr in omega arith) in
-      let same : (outcome q s u at_to f.0).facts ≡ facts_then p p u.clock input f.0 = ap (λ (z : Outcome). z.facts) r.is ∙ (λ i. facts_then p p (ms i) (is i) f.0) in
+      let same : (outcome q s u at_to f.0).facts ≡ facts_then p p u.clock input f.0 = ap (λ (z : Outcome). z.facts) (outcome_by q s u at_to f.0 input quiet came) ∙ (λ i. facts_then p p (ms i) input f.0) in
       let after : slice_get (step q s u).nodes at_to ≡ Some (outcome q s u at_to f.0).facts = facts_after_made q s u at_to f.0 f.1 in
       let kept : resv_at (step q s u) at_to k.style key ≡ Some taken.0 = resv_made (step q s u) at_to k.style key (outcome q s u at_to f.0).facts after ∙ ap (λ (z : Facts). get (resvs_of k.style z) key) same ∙ taken.1 in
       let full : lifetime p says.resv.period ≡ 21 * q = ap (life_of q) (sym says.spelt) ∙ life in
       let dies : taken.0.dies ≡ u.clock + 21 * q = taken.3 ∙ ap (λ (z : ℕ). u.clock + z) full in
-      ap (option_map kept_of) kept ∙ (λ i. Some (taken.2 i, dies i)))
-      (outcome_quiet q s u at_to f.0 quiet)
+      ap (option_map kept_of) kept ∙ (λ i. Some (taken.2 i, dies i))
 
   -- ---- the node that asks has a moment for its next refresh
   counts : (u : World) → IsFirm u → (t : ℕ) × (due_at u at_from k.session ≡ Some t)
@@ -293,31 +287,24 @@ module _ (q : ℕ) (o : World) (k : ResvKey) (valid : IsValid o.net) (linked : I
       let c : ℕ = u.clock + ms_of s in
       let l : HopLane = lane_of o.net k in
       let o_facts : Facts = (outcome q s u at_from r.facts).facts in
-      let waits : input_at s u at_from ≡ Some (Wait r.ms (word_for u.words at_from)) = ap (λ (z : Step). input_at z u at_from) r.waits in
       let at : end_at u.net.ends at_from (iface_of o.net.ends k.from) ≡ Some k.from =
       subst (λ (z : Net). end_at z.ends at_from (iface_of o.net.ends k.from) ≡ Some k.from) (sym g.known.same.net) ((interfaces_are_ends o.net).end_of_iface k.from from_there) in
-      ⊎_elim
-      (λ (z : (input_at s u at_from ≡ None) × (outcome q s u at_from r.facts ≡ still r.facts)). let bad : None ≡ Some (Wait r.ms (word_for u.words at_from)) = sym z.0 ∙ waits in absurd (cc))
-      (λ (f : FollowsRule q s u at_from r.facts (outcome q s u at_from r.facts)).
-      let input : f.input ≡ Wait r.ms (word_for u.words at_from) = of_some f.input _ (sym f.came ∙ waits) in
+      let two = refresh_follows q s u at_from k.session quiet r in
+      let f = two.0 in
       let within = g.known.bounds.facts at_from r.facts r.there in
-      let reached : r.moment ≤ c = (let ms = ap ms_of r.waits in let le = r.reached in omega arith) in
-      let fired : has (fired_then p c f.input r.facts) k.session ≡ true =
-      fires p c f.input r.facts k.session (record { ms = r.ms; word = word_for u.words at_from; waited = input; moment = r.moment; due = r.due; reached = reached }) in
       let after : slice_get (step q s u).nodes at_from ≡ Some o_facts = facts_after_made q s u at_from r.facts r.there in
       let ask = g'.said.asks o_facts after in
       let same : facts_then p p c f.input r.facts ≡ o_facts = ap (λ (z : Outcome). z.facts) (sym f.is) in
       let asks : ask_of l.style (toward p (facts_then p p c f.input r.facts) l) ≡ Some ask.0 =
       ap (λ (z : Net). ask_of l.style (toward (place_of q z u.trees at_from) (facts_then p p c f.input r.facts) l)) (sym (net_quiet s u quiet))
       ∙ ap (λ (z : Facts). ask_of l.style (toward (place_in q (step q s u) at_from) z l)) same ∙ ask.1 in
-      let refresh = refreshes_are_marked.resvs p p u.clock c f.input r.facts within l ask.0 fired asks in
+      let refresh = refreshes_are_marked.resvs p p u.clock c f.input r.facts within l ask.0 two.1 asks in
       let send : Send = resv_send p (facts_then p p c f.input r.facts) l refresh.0 true ask.0 in
       let sends : In send (outcome q s u at_from r.facts).sent = subst (λ (z : Outcome). In send z.sent) (sym f.is) refresh.1 in
       let made = copies_made u.net u.made at_from (outcome q s u at_from r.facts).sent send k.to sends (goes u g.known (end_at u.net.ends at_from (iface_of o.net.ends k.from)) at) in
       let own_is : own p (iface_of o.net.ends k.from) ≡ addr_of o.net k.from = own_end q u.net u.trees at_from (iface_of o.net.ends k.from) k.from at ∙ ap (λ (z : Net). addr_of z k.from) g.known.same.net in
       let style_is : ask_style ask.0 ≡ k.style = ask_told l.style (toward p (facts_then p p c f.input r.facts) l) ask.0 asks in
-      ((copy_to u.made send k.to).0, sent_made q s u at_from r.facts (copy_to u.made send k.to) r.there made, (λ i. Some (record { from = own_is i; to = k.to; session = k.session; key = OfStyle (style_is i) }))))
-      (outcome_quiet q s u at_from r.facts quiet)
+      ((copy_to u.made send k.to).0, sent_made q s u at_from r.facts (copy_to u.made send k.to) r.there made, (λ i. Some (record { from = own_is i; to = k.to; session = k.session; key = OfStyle (style_is i) })))
 
   -- what goes on the lane is a letter
   on_lane : (y : Item) → lane y ≡ Some over → is_letter o.net k y ≡ true

@@ -24,7 +24,7 @@ use Rattle.network_model.specs.Bounds.{all_of}
 use Rattle.network_laws.specs.Rounds.{rounds_of, RoundsIsCalm}
 use Rattle.network_model.proofs.Machines.{items_are_numbered, born_sent}
 use Rattle.network_model.proofs.Quiet.{IsWaited, IsCame, FollowsRule, input_found, outcome_quiet}
-use Rattle.network_model.proofs.Stepping.{copies_found, sent_found}
+use Rattle.network_model.proofs.Changing.{what_is_sent_is_copied}
 use Rattle.network_laws.proofs.Passing.{items, deliveries, pass_arrives, pass_leaves}
 
 -- ---- stretches of steps put together
@@ -95,23 +95,22 @@ module _ (q : ℕ) where
   -- a delivery sends no refresh
   none_in_delivery : (w : World) (k : ℕ) (x : Item) → In (x, true) (sent q (Deliver k) w) → ⊥
   none_in_delivery w k x i =
-      let n = sent_found q (Deliver k) w (x, true) i in
-      let o : Outcome = outcome q (Deliver k) w n.0 n.1 in
-      let c = copies_found w.net w.made n.0 o.sent (x, true) n.3 in
-      let mark : c.0.refresh ≡ true = sym (ap (λ (z : Item × Bool). z.1) c.4) in
+      let c = (what_is_sent_is_copied q (Deliver k) w (x, true)).0 i in
+      let o : Outcome = outcome q (Deliver k) w c.node c.facts in
+      let p : Place = place_of q w.net w.trees c.node in
+      let mark : c.send.refresh ≡ true = sym (ap (λ (z : Item × Bool). z.1) c.is) in
       ⊎_elim
-      (λ (h : (input_at (Deliver k) w n.0 ≡ None) × (o ≡ still n.1)).
+      (λ (h : (input_at (Deliver k) w c.node ≡ None) × (o ≡ still c.facts)).
       let none : o.sent ≡ [] = ap (λ (z : Outcome). z.sent) h.1 in
-      absurd (subst (λ (z : List Send). In c.0 z) none c.2))
-      (λ (h : FollowsRule q (Deliver k) w n.0 n.1 o).
-      let sends : In c.0 (rule (place_of q w.net w.trees n.0) (place_of q w.net w.trees n.0) (w.clock + 0) h.input n.1).sent = subst (λ (z : Outcome). In c.0 z.sent) h.is c.2 in
+      absurd (subst (λ (z : List Send). In c.send z) none c.sent))
+      (λ (h : FollowsRule q (Deliver k) w c.node c.facts o).
+      let sends : In c.send (rule p p (w.clock + 0) h.input c.facts).sent = subst (λ (z : Outcome). In c.send z.sent) h.is c.sent in
       ⊎_elim
-      (λ (t : IsWaited (Deliver k) w n.0 h.input). let no : Deliver k ≡ Piece t.ms = t.step in absurd (cc))
-      (λ (t : IsCame (Deliver k) w n.0 h.input).
-      came_unmarked (place_of q w.net w.trees n.0) (w.clock + 0) (iface_of w.net.ends t.item.end) t.item.dst t.item.arrival n.1 c.0
-      (subst (λ (z : Input). In c.0 (rule (place_of q w.net w.trees n.0) (place_of q w.net w.trees n.0) (w.clock + 0) z n.1).sent) t.is sends) mark)
-      (input_found (Deliver k) w n.0 h.input refl h.came))
-      (outcome_quiet q (Deliver k) w n.0 n.1 refl)
+      (λ (t : IsWaited (Deliver k) w c.node h.input). let no : Deliver k ≡ Piece t.ms = t.step in absurd (cc))
+      (λ (t : IsCame (Deliver k) w c.node h.input).
+      came_unmarked p (w.clock + 0) (iface_of w.net.ends t.item.end) t.item.dst t.item.arrival c.facts c.send (subst (λ (z : Input). In c.send (rule p p (w.clock + 0) z c.facts).sent) t.is sends) mark)
+      (input_found (Deliver k) w c.node h.input refl h.came))
+      (outcome_quiet q (Deliver k) w c.node c.facts refl)
 
   none_in_pass : (n : ℕ) (w : World) (x : Item) → In (x, true) (all_sent (machine q) (deliveries q n) w) → ⊥
   none_in_pass zero w x i = absurd i

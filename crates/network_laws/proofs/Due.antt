@@ -5,16 +5,16 @@ use Rattle.rsvp_base.specs.declared.session.Session.{Session}
 use Rattle.rsvp_base.specs.Table.{get, has}
 use Rattle.router_laws.specs.CountdownLaws.{IsMoved}
 use Rattle.router_laws.specs.Steps.{is_calm, facts_then, fired_then}
-use Rattle.router_laws.proofs.Counting.{countdowns_move_by_their_rule}
+use Rattle.router_laws.proofs.Counting.{countdowns_move_by_their_rule, fires}
 use Rattle.router_rules.specs.Facts.{Facts}
-use Rattle.router_rules.specs.Inputs.{Wait, Came}
+use Rattle.router_rules.specs.Inputs.{Input, Wait, Came}
 use Rattle.router_rules.specs.Place.{Place}
 use Rattle.router_rules.specs.Rule.{Outcome}
 use Rattle.tree_laws.specs.Networks.{iface_of}
 use Rattle.network_model.specs.Bounds.{AreBounds}
-use Rattle.network_model.specs.Steps.{Step, is_quiet, ms_of, input_at, outcome, still, step}
+use Rattle.network_model.specs.Steps.{Step, is_quiet, ms_of, input_at, word_for, outcome, still, step}
 use Rattle.network_model.specs.Worlds.{World, place_of}
-use Rattle.network_model.proofs.Quiet.{IsWaited, IsCame, FollowsRule, input_found, outcome_quiet}
+use Rattle.network_model.proofs.Quiet.{IsWaited, IsCame, FollowsRule, input_found, outcome_by, outcome_quiet}
 use Rattle.network_model.proofs.Stepping.{facts_after_made}
 use Rattle.network_laws.specs.Refreshes.{due_at, Refreshes}
 use Rattle.network_laws.proofs.Known.{of_some, calm_input}
@@ -56,3 +56,14 @@ due_moves q s u n session t t' quiet bounds e e' =
     (λ (c : IsCame s u n r.input). let bad : Came (iface_of u.net.ends c.item.end) c.item.dst c.item.arrival ≡ Wait go.0.ms go.0.word = sym c.is ∙ go.0.waited in absurd (cc)) came)
     (countdowns_move_by_their_rule.moves p p u.clock (u.clock + ms_of s) r.input f.0 (bounds.facts n f.0 f.1) session t t' calm f.2 to))
     (outcome_quiet q s u n f.0 quiet)
+
+-- ---- a node that refreshes a session follows its rule, and the session is fired
+pub refresh_follows : (q : ℕ) (s : Step) (u : World) (n : ℕ) (session : Session) → is_quiet s ≡ true → (r : Refreshes n session s u)
+    → (f : FollowsRule q s u n r.facts (outcome q s u n r.facts)) × (has (fired_then (place_of q u.net u.trees n) (u.clock + ms_of s) f.input r.facts) session ≡ true)
+refresh_follows q s u n session quiet r =
+    let input : Input = Wait r.ms (word_for u.words n) in
+    let waits : input_at s u n ≡ Some input = ap (λ (z : Step). input_at z u n) r.waits in
+    let reached : r.moment ≤ u.clock + ms_of s = (let ms = ap ms_of r.waits in let le = r.reached in omega arith) in (
+      record { input = input; came = waits; is = outcome_by q s u n r.facts input quiet waits },
+      fires (place_of q u.net u.trees n) (u.clock + ms_of s) input r.facts session (record { ms = r.ms; word = word_for u.words n; waited = refl; moment = r.moment; due = r.due; reached = reached }),
+    )

@@ -42,9 +42,9 @@ use Rattle.demand_laws.specs.Goals.{addr_of}
 use Rattle.tree_laws.specs.declared.hops.End.{End}
 use Rattle.tree_laws.specs.Networks.{end_at, ends_of}
 use Rattle.network_model.specs.Links.{goes_to}
-use Rattle.network_model.specs.Steps.{Step, input_at, ms_of, net_after, outcome, outcome_of, sent}
+use Rattle.network_model.specs.Steps.{Step, input_at, ms_of, net_after, outcome_of, sent}
 use Rattle.network_model.specs.Worlds.{Item, World, ifaces_at, place_of}
-use Rattle.network_model.proofs.Stepping.{copies_found, sent_found}
+use Rattle.network_model.proofs.Changing.{what_is_sent_is_copied}
 use Rattle.network_laws.proofs.Keeping.{ends_same}
 use Rattle.network_laws.proofs.Sends.{goes_to_end, goes_to_peers}
 use Rattle.network_laws.proofs.Standing.{own_end}
@@ -163,18 +163,17 @@ module _ (old p : Place) (c : ℕ) (i : Input) (f : Facts) (s : Send) (a : Addr)
 -- ---- in a network
 pub the_hop_of_what_is_sent : (q : ℕ) (s : Step) (w : World) (y : Item) (mark : Bool) (m : Message) (a : Addr) → In (y, mark) (sent q s w) → y.arrival ≡ Spelt m → hop_of m ≡ Some a → LeavesBy q s w (y, mark) a
 the_hop_of_what_is_sent q s w y mark m a i spelt hop =
-    let n = sent_found q s w (y, mark) i in
-    let c = copies_found w.net w.made n.0 (outcome q s w n.0 n.1).sent (y, mark) n.3 in
-    let copied : Spelt c.0.message ≡ Spelt m = sym (ap (λ (z : Item × Bool). z.0.arrival) c.4) ∙ spelt in
-    let says : c.0.message ≡ m = cc in
-    let to : In y.end (goes_to w.net (end_at w.net.ends n.0 c.0.iface) c.0.dst) = subst (λ (z : ℕ). In z (goes_to w.net (end_at w.net.ends n.0 c.0.iface) c.0.dst)) (sym (ap (λ (z : Item × Bool). z.0.end) c.4)) c.3 in
-    let end = goes_to_end w.net (end_at w.net.ends n.0 c.0.iface) c.0.dst y.end to in
+    let c = (what_is_sent_is_copied q s w (y, mark)).0 i in
+    let copied : Spelt c.send.message ≡ Spelt m = sym (ap (λ (z : Item × Bool). z.0.arrival) c.is) ∙ spelt in
+    let says : c.send.message ≡ m = cc in
+    let to : In y.end (goes_to w.net (end_at w.net.ends c.node c.send.iface) c.send.dst) = subst (λ (z : ℕ). In z (goes_to w.net (end_at w.net.ends c.node c.send.iface) c.send.dst)) (sym (ap (λ (z : Item × Bool). z.0.end) c.is)) c.goes in
+    let end = goes_to_end w.net (end_at w.net.ends c.node c.send.iface) c.send.dst y.end to in
     record {
-      copy = record { node = n.0; facts = n.1; there = n.2; send = c.0; sent = c.2; end = c.1; goes = c.3; is = c.4 };
+      copy = c;
       end = end.0;
       at = end.1;
-      addr = by (input_at s w n.0) n.0 n.1 c.0 end.0 end.1 c.2 (ap hop_of says ∙ hop);
-      to = goes_to_peers w.net (end_at w.net.ends n.0 c.0.iface) end.0 c.0.dst y.end end.1 to;
+      addr = by (input_at s w c.node) c.node c.facts c.send end.0 end.1 c.sent (ap hop_of says ∙ hop);
+      to = goes_to_peers w.net (end_at w.net.ends c.node c.send.iface) end.0 c.send.dst y.end end.1 to;
     }
   where
     by : (o : Option Input) (n : ℕ) (f : Facts) (x : Send) (e : ℕ) → end_at w.net.ends n x.iface ≡ Some e → In x (outcome_of q o s w n f).sent → hop_of x.message ≡ Some a → a ≡ addr_of w.net e

@@ -29,10 +29,11 @@ use Rattle.tree_laws.proofs.Ifaces.{interfaces_are_ends}
 use Rattle.network_model.specs.Bounds.{IsItem, IsProperArrival, AreBounds}
 use Rattle.network_model.specs.Steps.{Step, Piece, Deliver, Lose, Copy, At, ClearAt, Trace, Report, Flags, Inject, Reroute, is_calm, is_quiet, ms_of, net_after, rerouted, tree_hop, input_at, word_for, rest, outcome_of, outcome, facts_from, sent, step, machine}
 use Rattle.network_model.specs.Worlds.{Item, World, ifaces_at, place_of}
+use Rattle.network_model.proofs.Changing.{what_is_sent_is_copied}
 use Rattle.network_model.proofs.Listing.{in_remove, in_place}
 use Rattle.network_model.proofs.Machines.{in_arrived, quiet_of, short_of}
 use Rattle.network_model.proofs.Quiet.{IsWaited, IsCame, at_node_found, input_found}
-use Rattle.network_model.proofs.Stepping.{copies_found, facts_after_found, sent_found}
+use Rattle.network_model.proofs.Stepping.{facts_after_found}
 use Rattle.network_laws.specs.Keeping.{IsFitStep}
 use Rattle.network_laws.proofs.Sends.{goes_to_peers, goes_to_end}
 use Rattle.network_laws.proofs.Standing.{iface_less, peer_there}
@@ -194,9 +195,8 @@ module _ (q : ℕ) (s : Step) (w : World) (bounds : AreBounds q w) (fit : IsFitS
 
   pub proper_sent : AreProperSent
   proper_sent x b i =
-      let n = sent_found q s w (x, b) i in
-      let c = copies_found w.net w.made n.0 (outcome q s w n.0 n.1).sent (x, b) n.3 in
-      subst IsProperArrival (sym (ap (λ (z : Item × Bool). z.0.arrival) c.4)) (proper_send n.0 n.1 c.0 n.2 (input_at s w n.0) refl c.2)
+      let c = (what_is_sent_is_copied q s w (x, b)).0 i in
+      subst IsProperArrival (sym (ap (λ (z : Item × Bool). z.0.arrival) c.is)) (proper_send c.node c.facts c.send c.there (input_at s w c.node) refl c.sent)
     where
       proper_send : (n : ℕ) (f : Facts) (send : Send) → slice_get w.nodes n ≡ Some f → (o : Option Input) → input_at s w n ≡ o → In send (outcome_of q o s w n f).sent → IsProper send.message
       proper_send n f send a None e i = absurd i
@@ -207,12 +207,11 @@ module _ (q : ℕ) (s : Step) (w : World) (bounds : AreBounds q w) (fit : IsFitS
 
   sent_item : AreProperSent → (x : Item) (b : Bool) → In (x, b) (sent q s w) → (x.end < length w.net.ends) × (x.born ≡ w.made) × IsProperArrival x.arrival
   sent_item proper x b i =
-      let n = sent_found q s w (x, b) i in
-      let c = copies_found w.net w.made n.0 (outcome q s w n.0 n.1).sent (x, b) n.3 in
-      let a = goes_to_end w.net (end_at w.net.ends n.0 c.0.iface) c.0.dst c.1 c.3 in
-      let peer = goes_to_peers w.net (end_at w.net.ends n.0 c.0.iface) a.0 c.0.dst c.1 a.1 c.3 in (
-        subst (λ (z : ℕ). z < length w.net.ends) (sym (ap (λ (z : Item × Bool). z.0.end) c.4)) (peer_there w.net bounds.net a.0 c.1 peer),
-        ap (λ (z : Item × Bool). z.0.born) c.4,
+      let c = (what_is_sent_is_copied q s w (x, b)).0 i in
+      let a = goes_to_end w.net (end_at w.net.ends c.node c.send.iface) c.send.dst c.end c.goes in
+      let peer = goes_to_peers w.net (end_at w.net.ends c.node c.send.iface) a.0 c.send.dst c.end a.1 c.goes in (
+        subst (λ (z : ℕ). z < length w.net.ends) (sym (ap (λ (z : Item × Bool). z.0.end) c.is)) (peer_there w.net bounds.net a.0 c.end peer),
+        ap (λ (z : Item × Bool). z.0.born) c.is,
         proper x b i,
       )
 

@@ -15,8 +15,8 @@ use Rattle.tree_laws.specs.Networks.{Net, end_at, peers}
 use Rattle.network_model.specs.Links.{is_group, or_all, ends_toward, goes_to}
 use Rattle.network_model.specs.Steps.{Step, is_quiet, ms_of, input_at, outcome, still, sent}
 use Rattle.network_model.specs.Worlds.{Item, World, place_of}
+use Rattle.network_model.proofs.Changing.{what_is_sent_is_copied}
 use Rattle.network_model.proofs.Quiet.{FollowsRule, outcome_quiet}
-use Rattle.network_model.proofs.Stepping.{copies_found, sent_found}
 
 -- ---- what goes out of an end goes to others of its link
 pub in_toward : (net : Net) (b : Bool) (dst : Addr) (es : List ℕ) (e : ℕ) → In e (ends_toward net b dst es) → In e es
@@ -48,25 +48,23 @@ pub record IsSentByRule (q : ℕ) (s : Step) (u : World) (y : Item) (m : Message
 
 pub sent_by_rule : (q : ℕ) (s : Step) (u : World) (y : Item) (b : Bool) (m : Message) → is_quiet s ≡ true → In (y, b) (sent q s u) → y.arrival ≡ Spelt m → IsSentByRule q s u y m
 sent_by_rule q s u y b m quiet i spelt =
-    let n = sent_found q s u (y, b) i in
-    let o : Outcome = outcome q s u n.0 n.1 in
-    let c = copies_found u.net u.made n.0 o.sent (y, b) n.3 in
-    let copied : Spelt c.0.message ≡ Spelt m = sym (ap (λ (z : Item × Bool). z.0.arrival) c.4) ∙ spelt in
-    let says : c.0.message ≡ m = cc in
+    let c = (what_is_sent_is_copied q s u (y, b)).0 i in
+    let copied : Spelt c.send.message ≡ Spelt m = sym (ap (λ (z : Item × Bool). z.0.arrival) c.is) ∙ spelt in
+    let says : c.send.message ≡ m = cc in
     ⊎_elim
-    (λ (h : (input_at s u n.0 ≡ None) × (o ≡ still n.1)).
-    let none : o.sent ≡ [] = ap (λ (z : Outcome). z.sent) h.1 in
-    absurd (subst (λ (z : List Send). In c.0 z) none c.2))
-    (λ (h : FollowsRule q s u n.0 n.1 o).
+    (λ (h : (input_at s u c.node ≡ None) × (outcome q s u c.node c.facts ≡ still c.facts)).
+    let none : (outcome q s u c.node c.facts).sent ≡ [] = ap (λ (z : Outcome). z.sent) h.1 in
+    absurd (subst (λ (z : List Send). In c.send z) none c.sent))
+    (λ (h : FollowsRule q s u c.node c.facts (outcome q s u c.node c.facts)).
     record {
-      node = n.0;
-      facts = n.1;
-      there = n.2;
+      node = c.node;
+      facts = c.facts;
+      there = c.there;
       by = h;
-      send = c.0;
-      sent = subst (λ (z : Outcome). In c.0 z.sent) h.is c.2;
+      send = c.send;
+      sent = subst (λ (z : Outcome). In c.send z.sent) h.is c.sent;
       says = says;
-      dst = ap (λ (z : Item × Bool). z.0.dst) c.4;
-      to = subst (λ (z : ℕ). In z (goes_to u.net (end_at u.net.ends n.0 c.0.iface) c.0.dst)) (sym (ap (λ (z : Item × Bool). z.0.end) c.4)) c.3;
+      dst = ap (λ (z : Item × Bool). z.0.dst) c.is;
+      to = subst (λ (z : ℕ). In z (goes_to u.net (end_at u.net.ends c.node c.send.iface) c.send.dst)) (sym (ap (λ (z : Item × Bool). z.0.end) c.is)) c.goes;
     })
-    (outcome_quiet q s u n.0 n.1 quiet)
+    (outcome_quiet q s u c.node c.facts quiet)

@@ -7,11 +7,11 @@ use Rattle.rsvp_base.specs.Members.{In}
 use Rattle.rsvp_base.proofs.Members.{in_append, in_each}
 use Rattle.calm_rounds.specs.Machine.{IsClocked, IsStamped, items_of}
 use Rattle.calm_rounds.proofs.Renewing.{in_option}
-use Rattle.network_model.specs.Steps.{Step, Piece, Deliver, Lose, Copy, At, ClearAt, Trace, Report, Flags, Inject, Reroute, is_calm, is_quiet, ms_of, arrived, rest, sent, outcome, step, machine}
+use Rattle.network_model.specs.Steps.{Step, Piece, Deliver, Lose, Copy, At, ClearAt, Trace, Report, Flags, Inject, Reroute, is_calm, is_quiet, ms_of, arrived, rest, sent, step, machine}
 use Rattle.network_model.specs.Worlds.{Item, World}
+use Rattle.network_model.proofs.Changing.{what_is_sent_is_copied}
 use Rattle.network_model.proofs.Listing.{in_remove, in_place}
 use Rattle.network_model.proofs.Quiet.{arrival_is}
-use Rattle.network_model.proofs.Stepping.{copies_found, sent_found}
 
 -- a step of a calm round is quiet and short
 pub quiet_of : (q : ℕ) (s : Step) → is_calm q s ≡ true → is_quiet s ≡ true
@@ -21,10 +21,7 @@ pub short_of : (q : ℕ) (s : Step) → is_calm q s ≡ true → ms_of s ≤ 2 *
 short_of q s e = leb-true (ms_of s) (2 * q) (and_both (is_quiet s) (nat_le (ms_of s) (2 * q)) e).1
 
 pub born_sent : (q : ℕ) (s : Step) (w : World) (x : Item × Bool) → In x (sent q s w) → x.0.born ≡ w.made
-born_sent q s w x i =
-    let n = sent_found q s w x i in
-    let c = copies_found w.net w.made n.0 (outcome q s w n.0 n.1).sent x n.3 in
-    ap (λ (z : Item × Bool). z.0.born) c.4
+born_sent q s w x i = ap (λ (z : Item × Bool). z.0.born) ((what_is_sent_is_copied q s w x).0 i).is
 
 -- what stays in flight was there
 pub in_rest : (s : Step) (w : World) (x : Item) → is_quiet s ≡ true → In x (rest s w) → In x w.flight

@@ -98,9 +98,13 @@ pub record FollowsRule (q : ℕ) (s : Step) (w : World) (n : ℕ) (f : Facts) (o
   pub came : input_at s w n ≡ Some input
   pub is : o ≡ rule (place_of q w.net w.trees n) (place_of q w.net w.trees n) (w.clock + ms_of s) input f
 
+pub outcome_by : (q : ℕ) (s : Step) (w : World) (n : ℕ) (f : Facts) (i : Input) → is_quiet s ≡ true → input_at s w n ≡ Some i → outcome q s w n f ≡ rule (place_of q w.net w.trees n) (place_of q w.net w.trees n) (w.clock + ms_of s) i f
+outcome_by q s w n f i quiet e =
+    ap (λ (o : Option Input). outcome_of q o s w n f) e ∙ ap (λ (net : Net). rule (place_of q w.net w.trees n) (place_of q net w.trees n) (w.clock + ms_of s) i f) (net_quiet s w quiet)
+
 pub outcome_quiet : (q : ℕ) (s : Step) (w : World) (n : ℕ) (f : Facts) → is_quiet s ≡ true → ((input_at s w n ≡ None) × (outcome q s w n f ≡ still f)) ⊎ FollowsRule q s w n f (outcome q s w n f)
 outcome_quiet q s w n f quiet = by (input_at s w n) refl
   where
-    by : (o : Option Input) → input_at s w n ≡ o → ((input_at s w n ≡ None) × (outcome_of q o s w n f ≡ still f)) ⊎ FollowsRule q s w n f (outcome_of q o s w n f)
-    by None e = inl (e, refl)
-    by (Some i) e = inr (record { input = i; came = e; is = ap (λ (net : Net). rule (place_of q w.net w.trees n) (place_of q net w.trees n) (w.clock + ms_of s) i f) (net_quiet s w quiet) })
+    by : (o : Option Input) → input_at s w n ≡ o → ((input_at s w n ≡ None) × (outcome q s w n f ≡ still f)) ⊎ FollowsRule q s w n f (outcome q s w n f)
+    by None e = inl (e, ap (λ (o : Option Input). outcome_of q o s w n f) e)
+    by (Some i) e = inr (record { input = i; came = e; is = outcome_by q s w n f i quiet e })

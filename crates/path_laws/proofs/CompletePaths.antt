@@ -23,8 +23,7 @@ use Rattle.calm_rounds.proofs.Holding.{hold_map, hold_both, hold_all, hold_later
 use Rattle.calm_rounds.proofs.Renewing.{what_is_said_is_kept}
 use Rattle.demand_laws.specs.Goals.{addr_of}
 use Rattle.router_laws.specs.PathLaws.{CameOnTree, IsReplaced, PathGoes, said_by}
-use Rattle.router_laws.specs.Steps.{facts_then, fired_then}
-use Rattle.router_laws.proofs.Counting.{fires}
+use Rattle.router_laws.specs.Steps.{facts_then}
 use Rattle.router_laws.proofs.Learning.{a_path_on_the_tree_is_learnt, how_a_path_fact_goes}
 use Rattle.router_laws.proofs.Speaking.{refreshes_are_marked}
 use Rattle.router_rules.specs.Facts.{Facts, SenderKey, PathState, sender_keys}
@@ -54,11 +53,11 @@ use Rattle.network_model.specs.Steps.{Step, Lane, OfSender, OfStyle, is_quiet, m
 use Rattle.network_model.specs.Worlds.{Item, World, place_of}
 use Rattle.network_model.proofs.Changing.{where_a_send_goes}
 use Rattle.network_model.proofs.Machines.{quiet_of, time_passes, items_are_numbered, in_flight_after}
-use Rattle.network_model.proofs.Quiet.{IsWaited, IsCame, FollowsRule, input_found, arrival_takes_no_time, outcome_quiet}
+use Rattle.network_model.proofs.Quiet.{IsWaited, IsCame, FollowsRule, input_found, arrival_takes_no_time, outcome_by, outcome_quiet}
 use Rattle.network_model.proofs.Stepping.{copies_made, facts_after_made, sent_made}
 use Rattle.network_laws.specs.Known.{IsSameNet, IsKnown}
 use Rattle.network_laws.specs.Refreshes.{due_at, Refreshes}
-use Rattle.network_laws.proofs.Due.{full_life, due_found, due_made, due_moves}
+use Rattle.network_laws.proofs.Due.{full_life, due_found, due_made, due_moves, refresh_follows}
 use Rattle.network_laws.proofs.Known.{of_some, has_some, or_true, known_hold, node_there, end_found, came_there}
 use Rattle.network_laws.proofs.Standing.{own_end, iface_less, comes_in_told, comes_in_made, goes_out_made, from_there, to_there}
 use Rattle.path_laws.specs.Lines.{PathValue, path_at, by_iface}
@@ -211,26 +210,22 @@ module _ (q : ℕ) (o : World) (valid : IsValid o.net) (locals : AreLocals o) wh
         let f = node_there q o valid u h.to sure.known (to_there o.net valid k.0.group k.1.addr h there) in
         let p : Place = place_of q u.net u.trees at_to in
         let c : ℕ = u.clock + ms_of s in
-        let came : input_at s u at_to ≡ Some (Came (iface_of o.net.ends h.to) y.dst y.arrival) = came_there q o u sure.known h.to (to_there o.net valid k.0.group k.1.addr h there) s y arr says.end in
-        ⊎_elim
-        (λ (z : (input_at s u at_to ≡ None) × (outcome q s u at_to f.0 ≡ still f.0)). let bad : None ≡ Some (Came (iface_of o.net.ends h.to) y.dst y.arrival) = sym z.0 ∙ came in absurd (cc))
-        (λ (r : FollowsRule q s u at_to f.0 (outcome q s u at_to f.0)).
-        let input : r.input ≡ Came (iface_of o.net.ends h.to) k.0.group (Spelt (message.Path says.path)) =
-        of_some r.input _ (sym r.came ∙ came) ∙ (λ j. Came (iface_of o.net.ends h.to) (tells.dst j) (says.spelt j)) in
+        let input : Input = Came (iface_of o.net.ends h.to) k.0.group (Spelt (message.Path says.path)) in
+        let came : input_at s u at_to ≡ Some input =
+        came_there q o u sure.known h.to (to_there o.net valid k.0.group k.1.addr h there) s y arr says.end ∙ (λ j. Some (Came (iface_of o.net.ends h.to) (tells.dst j) (says.spelt j))) in
         let tree_in : comes_in p k.0 (iface_of o.net.ends h.to) k.1 ≡ true =
         subst (λ (z : Net). comes_in (place_of q z u.trees at_to) k.0 (iface_of o.net.ends h.to) k.1 ≡ true) (sym sure.known.same.net)
         (comes_in_made q o.net u.trees at_to k.0 h.to k.1 (routed u k.0.group k.1.addr h sure.known there) into) in
-        let by : CameOnTree p r.input k = record { at = iface_of o.net.ends h.to; path = says.path; tspec = t; came = input; session = says.session; sender = says.sender; tree = tree_in } in
-        let learnt = (a_path_on_the_tree_is_learnt.learnt p p u.clock c r.input f.0 (sure.known.bounds.facts at_to f.0 f.1) k by (live_keys u sure f.0 f.1 (said_by p c r.input k by))).0 in
-        let x : PathState = said_by p c r.input k by in
+        let by : CameOnTree p input k = record { at = iface_of o.net.ends h.to; path = says.path; tspec = t; came = refl; session = says.session; sender = says.sender; tree = tree_in } in
+        let learnt = (a_path_on_the_tree_is_learnt.learnt p p u.clock c input f.0 (sure.known.bounds.facts at_to f.0 f.1) k by (live_keys u sure f.0 f.1 (said_by p c input k by))).0 in
+        let x : PathState = said_by p c input k by in
         let after : slice_get (step q s u).nodes at_to ≡ Some (outcome q s u at_to f.0).facts = facts_after_made q s u at_to f.0 f.1 in
         let has_it : get (outcome q s u at_to f.0).facts.paths k ≡ Some x =
-        ap (λ (z : Outcome). get z.facts.paths k) r.is ∙ ap (λ (z : _). get z k) learnt ∙ get-put_in_same sender_keys f.0.paths k x in
+        ap (λ (z : Outcome). get z.facts.paths k) (outcome_by q s u at_to f.0 input quiet came) ∙ ap (λ (z : _). get z k) learnt ∙ get-put_in_same sender_keys f.0.paths k x in
         let kept = iface_made (iface_of o.net.ends h.to) (path_at (step q s u) at_to k) x (path_made (step q s u) at_to k x (outcome q s u at_to f.0).facts after has_it) refl in
         let dies : x.dies ≡ u.clock + 21 * q = (let ms = arrival_takes_no_time s u y arr in let full : life_of q (Spelt (message.Path says.path)) ≡ 21 * q = ap (life_of q) (sym says.spelt) ∙ life in omega arith) in
         let hop = sym says.hop in
-        kept ∙ (λ j. Some ((hop j, t), dies j)))
-        (outcome_quiet q s u at_to f.0 quiet)
+        kept ∙ (λ j. Some ((hop j, t), dies j))
 
     -- a node that knows the sender has a moment for its next refresh
     counts : (u : World) → IsSure q o d u → (m : ℕ) × (due_at u at_from k.0 ≡ Some m)
@@ -313,22 +308,16 @@ module _ (q : ℕ) (o : World) (valid : IsValid o.net) (locals : AreLocals o) wh
         let p : Place = place_of q u.net u.trees at_from in
         let c : ℕ = u.clock + ms_of s in
         let i : ℕ = iface_of o.net.ends h.from in
-        let waits : input_at s u at_from ≡ Some (Wait r.ms (word_for u.words at_from)) = ap (λ (z : Step). input_at z u at_from) r.waits in
         let at : end_at u.net.ends at_from i ≡ Some h.from = subst (λ (z : Net). end_at z.ends at_from i ≡ Some h.from) (sym sure.known.same.net) ((interfaces_are_ends o.net).end_of_iface h.from (from_there o.net valid k.0.group k.1.addr h there)) in
-        ⊎_elim
-        (λ (z : (input_at s u at_from ≡ None) × (outcome q s u at_from r.facts ≡ still r.facts)). let bad : None ≡ Some (Wait r.ms (word_for u.words at_from)) = sym z.0 ∙ waits in absurd (cc))
-        (λ (f : FollowsRule q s u at_from r.facts (outcome q s u at_from r.facts)).
-        let input : f.input ≡ Wait r.ms (word_for u.words at_from) = of_some f.input _ (sym f.came ∙ waits) in
+        let two = refresh_follows q s u at_from k.0 quiet r in
+        let f = two.0 in
         let within = sure.known.bounds.facts at_from r.facts r.there in
-        let reached : r.moment ≤ c = (let ms = ap ms_of r.waits in let le = r.reached in omega arith) in
-        let fired : has (fired_then p c f.input r.facts) k.0 ≡ true =
-        fires p c f.input r.facts k.0 (record { ms = r.ms; word = word_for u.words at_from; waited = input; moment = r.moment; due = r.due; reached = reached }) in
         let after : slice_get (step q s u).nodes at_from ≡ Some (outcome q s u at_from r.facts).facts = facts_after_made q s u at_from r.facts r.there in
         let known_then : has (known (facts_then p p c f.input r.facts) k.0) k.1 ≡ true = ap (λ (z : Outcome). has (known z.facts k.0) k.1) (sym f.is) ∙ known_at (step q s u) sure'.known sure'.complete (outcome q s u at_from r.facts).facts after in
         let out : goes_out p k.0 i k.1 ≡ true =
         subst (λ (z : Net). goes_out (place_of q z u.trees at_from) k.0 i k.1 ≡ true) (sym sure.known.same.net) (goes_out_made q o.net u.trees at_from k.0 h.from k.1 (routed u k.0.group k.1.addr h sure.known there) leaves) in
         let less = iface_less q u.net u.trees at_from i h.from at in
-        let offer = refreshes_are_marked.known_ones p p u.clock c f.input r.facts within k.0 k.1 i fired known_then less out in
+        let offer = refreshes_are_marked.known_ones p p u.clock c f.input r.facts within k.0 k.1 i two.1 known_then less out in
         let key : OfferKey = record { session = k.0; sender = k.1; iface = i } in
         let send : Send = path_send p true (key, offer.0) in
         let sends : In send (outcome q s u at_from r.facts).sent = subst (λ (z : Outcome). In send z.sent) (sym f.is) offer.2 in
@@ -338,8 +327,7 @@ module _ (q : ℕ) (o : World) (valid : IsValid o.net) (locals : AreLocals o) wh
         subst (λ (z : Option ℕ). In h.to (goes_to u.net z k.0.group)) (sym at) (subst (λ (z : List ℕ). In h.to z) (sym ((where_a_send_goes u.net h.from k.0.group).group group)) peer) in
         let made = copies_made u.net u.made at_from (outcome q s u at_from r.facts).sent send h.to sends goes in
         let own_is : own p i ≡ addr_of o.net h.from = own_end q u.net u.trees at_from i h.from at ∙ ap (λ (z : Net). addr_of z h.from) sure.known.same.net in
-        ((copy_to u.made send h.to).0, sent_made q s u at_from r.facts (copy_to u.made send h.to) r.there made, (λ j. Some (record { from = own_is j; to = h.to; session = k.0; key = OfSender k.1 }))))
-        (outcome_quiet q s u at_from r.facts quiet)
+        ((copy_to u.made send h.to).0, sent_made q s u at_from r.facts (copy_to u.made send h.to) r.there made, (λ j. Some (record { from = own_is j; to = h.to; session = k.0; key = OfSender k.1 })))
 
     -- what goes on the lane is a letter
     lanes : (y : Item) → lane y ≡ Some (record { from = addr_of o.net h.from; to = h.to; session = k.0; key = OfSender k.1 }) → is_letter k h.to y ≡ true
