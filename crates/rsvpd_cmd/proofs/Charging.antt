@@ -14,7 +14,7 @@ use Rattle.admission_book.specs.EntryKeys.{entry_keys, places}
 use Rattle.admission_book.specs.declared.key.EntryKey.{EntryKey}
 use Rattle.rsvpd_cmd.specs.Expiry.{living_flow, living_entries}
 use Rattle.rsvpd_cmd.specs.Facts.{Fact, Facts, living_part, book_at}
-use Rattle.rsvpd_cmd.specs.Texts.{held_of}
+use Rattle.report_texts.specs.Texts.{held_of}
 
 abbrev flow_in : EntryKey → Part → Option TokenBucket
 flow_in key part = Some part.flow

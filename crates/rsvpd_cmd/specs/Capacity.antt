@@ -8,7 +8,7 @@ use Rattle.net_script.specs.Grammar.{Plan}
 use Rattle.net_script.specs.declared.script.End.{End}
 use Rattle.rsvpd_cmd.specs.Facts.{book_at}
 use Rattle.rsvpd_cmd.specs.Run.{Holdings, holdings_of}
-use Rattle.rsvpd_cmd.specs.Texts.{held_of}
+use Rattle.report_texts.specs.Texts.{held_of}
 
 -- at this moment the entries of an end charge it at most its capacity, and none has packets larger than its MTU
 -- (RFC 2205, 1: admission control)

@@ -1,5 +1,4 @@
 pub mod Facts
-pub mod Texts
 pub mod Run
 pub mod Ledgers
 pub mod Expiry

@@ -5,7 +5,7 @@ use Rattle.net_script.specs.declared.script.End.{End}
 use Rattle.net_script.specs.declared.script.Event.{Event}
 use Rattle.net_script.specs.declared.script.Event.TheVariants.{Wait, Report}
 use Rattle.rsvpd_cmd.specs.Facts.{Facts, facts_of, book_at}
-use Rattle.rsvpd_cmd.specs.Texts.{book_text}
+use Rattle.report_texts.specs.Texts.{book_text}
 
 -- what a network holds: its ends with their names, and the facts of its nodes
 pub record Holdings : Type 0 where

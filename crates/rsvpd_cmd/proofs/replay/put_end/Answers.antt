@@ -3,7 +3,7 @@ use Rattle.admission_book.specs.Charges.{charges}
 use Rattle.rsvp_base.specs.Table.{changed_rows}
 use Rattle.rsvpd_cmd.specs.Facts.{living_part}
 use Rattle.rsvpd_cmd.specs.Nodes.{node_at}
-use Rattle.rsvpd_cmd.specs.Texts.{held_of}
+use Rattle.report_texts.specs.Texts.{held_of}
 use Rattle.rsvpd_cmd.proofs.Charging.{charges_of_living}
 use Rattle.rsvpd_cmd.proofs.replay.put_end.Goals as goal
 

@@ -3,7 +3,7 @@ use Rattle.std.specs.List.{flat_map}
 use Rattle.rsvp_base.specs.Table.{changed_rows}
 use Rattle.rsvpd_cmd.specs.Facts.{living_part}
 use Rattle.rsvpd_cmd.specs.Ledgers.{entry_of}
-use Rattle.rsvpd_cmd.specs.Texts.{entry_text}
+use Rattle.report_texts.specs.Texts.{entry_text}
 use Rattle.rsvpd_cmd.proofs.text.put_entries.Given as goal
 
 -- what is written and what the rest writes is the whole text
