@@ -2,7 +2,6 @@ pub mod WantSteps
 pub mod Merged
 pub mod Pools
 pub mod Inside
-pub mod Changes
 pub mod BookLaws
 pub mod GoalLaws
 pub mod AllowedLaws

@@ -9,3 +9,5 @@ pub mod Members
 pub mod Counts
 pub mod Rows
 pub mod SessionRoom
+pub mod Changes
+pub mod Together

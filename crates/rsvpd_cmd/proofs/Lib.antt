@@ -1,4 +1,3 @@
-pub mod Changes
 pub mod Runs
 pub mod Expiring
 pub mod Charging
