@@ -49,8 +49,7 @@ use Rattle.rule_laws.specs.RuleLaws.{IsOfUnit}
 use Rattle.rule_laws.specs.SendLaws.{IsConf, IsError, IsPath, IsPathTear, IsResv, IsResvTear}
 use Rattle.rule_laws.proofs.Knowing.{named_told}
 use Rattle.rule_laws.proofs.Leaving.{forgetting_by_names, table_put}
-use Rattle.rule_laws.proofs.Lists.{in_values, some_is, some_same}
-use Rattle.rule_laws.proofs.Requesting.{one_name}
+use Rattle.rule_laws.proofs.Lists.{in_values, one_name, some_is, some_same}
 use Rattle.rule_laws.proofs.Taking.{units_source}
 use Rattle.rule_laws.proofs.Tests.{addr_tested, style_told}
 use Rattle.router_laws.specs.Steps.{facts_then, sent_then}

@@ -29,10 +29,10 @@ use Rattle.router_rules.specs.Sends.{error_message, gone_names, is_changed, torn
 use Rattle.rule_laws.specs.SendLaws.{IsConf, IsError, IsPath, IsPathTear, IsResv, IsResvTear, IsSend}
 use Rattle.rule_laws.proofs.Asks.{gone_told, style_told}
 use Rattle.rule_laws.proofs.Knowing.{lanes_told}
-use Rattle.rule_laws.proofs.Quiet.{some_member}
 use Rattle.rule_laws.proofs.Ruling.{rule_in_parts}
 use Rattle.rule_laws.proofs.Sending.{not_told}
 use Rattle.rule_laws.proofs.Tests.{parts_tested}
+use Rattle.rule_laws.proofs.Lists.{one_name}
 use Rattle.router_laws.specs.Steps.{facts_then, fired_then, sent_then}
 use Rattle.router_laws.proofs.Speaking.{send_told}
 use Rattle.resv_laws.specs.ReservationLaws.{IsOfGoneUnits, IsOfLane, WhatAResvSentSays, WhyAResvTearIsSent}
@@ -154,7 +154,7 @@ module _ (old p : Place) (c : ℕ) (i : Input) (f : Facts) where
         lane = r.lane;
         was = r.was;
         names = torn_names old p f after r.lane;
-        some = some_member (torn_names old p f after r.lane) r.some;
+        some = one_name (torn_names old p f after r.lane) r.some;
         gone = λ x n.
             gone_told (toward old f r.lane) (toward p then_facts r.lane) x
             (ap (λ (z : PartTable). has (gone_names (toward old f r.lane) z) x) (toward_then r.lane) ∙ (and_both _ _ (sym (has-cut senders gone (names_via after r.lane) x) ∙ n)).0);

@@ -26,7 +26,7 @@ use Rattle.router_rules.specs.Place.{Place, lifetime, own, period}
 use Rattle.router_rules.specs.Requests.{toward}
 use Rattle.router_rules.specs.Sends.{hop_to, tear_of}
 use Rattle.rule_laws.specs.FactLaws.{ComesBy}
-use Rattle.rule_laws.specs.MessageLaws.{IsGone}
+use Rattle.rule_laws.specs.SendLaws.{IsGone}
 use Rattle.rule_laws.specs.RuleLaws.{IsLeft}
 use Rattle.router_laws.specs.Steps.{facts_then, fired_then, sent_then}
 use Rattle.bound_laws.specs.BoundLaws.{IsLeftOf}

@@ -16,6 +16,7 @@ use Rattle.rsvp_base.proofs.Counts.{found_in, in_found}
 use Rattle.rsvp_base.proofs.Members.{any_in, in_any}
 use Rattle.rsvp_base.proofs.Tables.{either, get-put_in_other, tied_same}
 use Rattle.rsvp_base.proofs.UnderLaws.{get-under}
+use Rattle.rsvp_base.proofs.SetLaws.{or_right}
 use Rattle.rsvp_messages.specs.declared.message.PathErrMsg.{PathErrMsg}
 use Rattle.rsvp_messages.specs.declared.message.ResvErrMsg.{ResvErrMsg}
 use Rattle.style_rules.specs.Lines.{NextHop, next_hops}
@@ -98,10 +99,6 @@ sets_none p c e m w (Some flow) s h = by (is_admission m.err) h
 
 sets_none_of : (p : Place) (c e : ℕ) (m : ResvErrMsg) (f : Facts) → sets_walls m ≡ false → walls_set p c e m f ≡ f.walls
 sets_none_of p c e m f h = sets_none p c e m f.walls m.blame.flow refl h
-
-or_right : (a b : Bool) → b ≡ true → (a || b) ≡ true
-or_right true b e = refl
-or_right false b e = e
 
 room_is : (p : Place) (c e : ℕ) (m : ResvErrMsg) (f : Facts) → size (walls_set p c e m f) ≤ 512 → has_place p c e m f ≡ true
 room_is p c e m f few = or_right (not (sets_walls m)) (nat_le (size (walls_set p c e m f)) 512) (le-leb (size (walls_set p c e m f)) 512 few)

@@ -15,7 +15,7 @@ use Rattle.rsvp_base.specs.Sets.{Set, cut, is_none, with_key}
 use Rattle.rsvp_base.specs.Table.{Table, empty, first, get, has, kept, size}
 use Rattle.rsvp_base.proofs.Counts.{found_in, in_found, size_below}
 use Rattle.rsvp_base.proofs.Members.{any_in, in_any, in_each, in_filter, to_each, to_filter}
-use Rattle.rsvp_base.proofs.SetLaws.{and_both, and_made, has-cut, has-with_key, size-with_key}
+use Rattle.rsvp_base.proofs.SetLaws.{and_both, and_made, has-cut, has-with_key, or_either, size-with_key}
 use Rattle.rsvp_base.proofs.Tables.{either, get-kept, got_kept, holds, tied_same}
 use Rattle.rsvp_base.proofs.UnderLaws.{get-under}
 use Rattle.flow_merge.specs.FlowOrder.{flow_le}
@@ -28,11 +28,9 @@ use Rattle.router_rules.specs.Flags.{beside, entries_at, entry_at, is_beside, po
 use Rattle.router_rules.specs.Place.{Place, goes_out}
 use Rattle.router_rules.specs.Requests.{is_style}
 use Rattle.rule_laws.specs.FlagLaws.{AreMerged, AsksForPolicing, FlagsByPathsAndResvs, HasBeside, IsMatch}
-use Rattle.rule_laws.proofs.Lists.{some_is}
+use Rattle.rule_laws.proofs.Lists.{has_some, one_name, some_is}
 use Rattle.rule_laws.proofs.Once.{not_below_itself}
-use Rattle.rule_laws.proofs.Quiet.{some_member}
 use Rattle.rule_laws.proofs.Sending.{not_told}
-use Rattle.rule_laws.proofs.Styling.{has_some, or_told}
 use Rattle.rule_laws.proofs.Tests.{style_told, ties}
 
 -- ---- tables with two keys
@@ -68,8 +66,8 @@ of_two : {K : Type 0} (o : Keys K) (a b k : K) → has (with_key (with_key (noth
 of_two o a b k h =
     ⊎_elim (λ (tie : eq_by_cmp o.cmp k b ≡ true). inr (tied_same o k b tie))
     (λ (old : has (with_key (nothing o) a) k ≡ true).
-    ⊎_elim (λ (tie : eq_by_cmp o.cmp k a ≡ true). inl (tied_same o k a tie)) (λ (none : has (nothing o) k ≡ true). let z : false ≡ true = none in absurd (cc)) (or_told _ _ (sym (has-with_key o (nothing o) a k) ∙ old)))
-    (or_told _ _ (sym (has-with_key o (with_key (nothing o) a) b k) ∙ h))
+    ⊎_elim (λ (tie : eq_by_cmp o.cmp k a ≡ true). inl (tied_same o k a tie)) (λ (none : has (nothing o) k ≡ true). let z : false ≡ true = none in absurd (cc)) (or_either _ _ (sym (has-with_key o (nothing o) a k) ∙ old)))
+    (or_either _ _ (sym (has-with_key o (with_key (nothing o) a) b k) ∙ h))
 
 two_made : {K X : Type 0} (o : Keys K) (m : Table o X) → TwoKeys o m → 1 < size m
 two_made {K} {X} o m q =
@@ -144,7 +142,7 @@ module _ (p : Place) (f : Facts) (i : ℕ) (k : BookKey) (part : Part) where
       let r = in_any is_larger (beside f k.0 k.1.0 i k.1.1 part) h in
       let t = in_filter (is_beside i k.1.1 part) r.0 all_resvs.rows r.1 in
       let b = and_both (not (here r.0)) (not (is_none (cut part.senders r.0.1.part.senders))) t.1 in
-      let x = some_member (cut part.senders r.0.1.part.senders) (not_told _ b.1) in
+      let x = one_name (cut part.senders r.0.1.part.senders) (not_told _ b.1) in
       let s = and_both _ _ (sym (has-cut senders part.senders r.0.1.part.senders x.0) ∙ x.1) in
       record {
         hop = r.0.0.0;

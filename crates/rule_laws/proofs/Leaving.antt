@@ -1,8 +1,6 @@
 -- What waiting, forgetting and settling leave.
-use Rattle.std.specs.Prelude.{◌≡◌, ℕ, ◌+◌, ◌<◌, ◌≤◌, ◌==◌, nat_le, nat_lt, List, [], ◌∷◌, length, Bool, true, false, cond, not, ◌&&◌, is_some, Option, Some, None, refl}
-use Rattle.std.proofs.Common.{sym, ap, subst, ◌∙◌, arith}
-use Rattle.std.proofs.lemmas.Bool.Decides.{nat_tests}
-use Rattle.std.specs.FinMap.Entries.{find}
+use Rattle.std.specs.Prelude.{◌≡◌, ℕ, ◌+◌, ◌<◌, ◌≤◌, nat_le, nat_lt, Bool, true, false, cond, not, ◌&&◌, is_some, Option, Some, None, refl}
+use Rattle.std.proofs.Common.{sym, ap, subst, ◌∙◌}
 use Rattle.std.proofs.lemmas.Bool.{ltb-true, lt-ltb, leb-true, le-leb}
 use Rattle.std.specs.Option.{option_map, unwrap_or}
 use Rattle.rsvp_base.specs.declared.part.Part.{Part}
@@ -26,8 +24,7 @@ use Rattle.router_rules.specs.Known.{known, named_as}
 use Rattle.router_rules.specs.Place.{Place, period}
 use Rattle.router_rules.specs.Waiting.{act_wait, living, next_due}
 use Rattle.rule_laws.specs.RuleLaws.{CountdownsSettle, ForgettingByNames, IsLeft, LeftByNames, TablesByStyle, WaitingLeavesTheLiving}
-use Rattle.rule_laws.proofs.Lists.{passed, some_is}
-use Rattle.rule_laws.proofs.Requesting.{one_name}
+use Rattle.rule_laws.proofs.Lists.{has_some, one_name, passed, some_is}
 
 -- ---- one table for each style
 pub table_of_each : (st : StyleKind) (g : StyleKind → Resvs → Resvs) (ts : ResvTables) → table_of st (each_table g ts) ≡ g st (table_of st ts)
@@ -153,15 +150,10 @@ left_nobody stays r none = ap (option_map (with_part r)) (part_of_none (kept sta
         let one = one_name (kept stays r.part.senders) e in
         absurd (drop (has r.part.senders one.0) (stays one.0) (none one.0) (sym (has-kept senders stays r.part.senders one.0) ∙ one.1))
 
--- a set with a member is not empty
-has_member : (rows : List (Sender × Unit {0})) (s : Sender) → is_some (find senders.cmp s rows) ≡ true → (length rows == 0) ≡ false
-has_member [] s e = cc
-has_member (r ∷ rs) s e = grind (arith, nat_tests)
-
 pub left_some : (stays : Sender → Bool) (r : ResvState) (s : Sender) → has r.part.senders s ≡ true → stays s ≡ true → (x : ResvState) × (left_of stays r ≡ Some x)
 left_some stays r s there keeps =
     let member : has (kept stays r.part.senders) s ≡ true = has-kept senders stays r.part.senders s ∙ and_made _ _ there keeps in
-    let some : is_none (kept stays r.part.senders) ≡ false = has_member (kept stays r.part.senders).rows s member in
+    let some : is_none (kept stays r.part.senders) ≡ false = has_some (kept stays r.part.senders) s member in
     let part : Part = record { senders = kept stays r.part.senders; flow = r.part.flow } in
     (record r { part = part }, ap (λ b. option_map (with_part r) (cond b None (Some part))) some)
 

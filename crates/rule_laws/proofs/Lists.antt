@@ -1,11 +1,15 @@
 -- Members of lists that are cut, numbered, ordered, or put into tables.
-use Rattle.std.specs.Prelude.{◌≡◌, ℕ, suc, ◌+◌, ◌≤◌, ◌<◌, ◌⊎◌, ◌≢◌, eqb, Bool, true, false, cond, List, [], ◌∷◌, is_some, Option, Some, None, refl}
+use Rattle.std.specs.Prelude.{◌≡◌, ℕ, suc, ◌+◌, ◌≤◌, ◌<◌, ◌⊎◌, ◌≢◌, ◌==◌, eqb, Bool, true, false, cond, List, [], ◌∷◌, length, is_some, Option, Some, None, refl}
 use Rattle.std.proofs.Common.{zero, sym, ap, subst, ◌∙◌, arith, inl, inr, ⊎_elim}
+use Rattle.std.proofs.lemmas.Bool.{ne_eqb}
 use Rattle.std.proofs.lemmas.Bool.Decides.{eqb_tells}
 use Rattle.std.specs.List.{cons_option, filter_map, range_with_len}
 use Rattle.std.specs.Ordering.{is_lt}
+use Rattle.rsvp_base.specs.declared.session.Sender.{Sender}
 use Rattle.rsvp_base.specs.Keys.{Keys}
 use Rattle.rsvp_base.specs.Members.{In}
+use Rattle.rsvp_base.specs.Orders.{Names, senders}
+use Rattle.rsvp_base.specs.Sets.{is_none}
 use Rattle.rsvp_base.specs.Table.{Table, get, has, keys, put_in, values, with_rows}
 use Rattle.rsvp_base.proofs.Counts.{found_in, in_found}
 use Rattle.rsvp_base.proofs.Members.{in_each, to_each}
@@ -110,3 +114,28 @@ module _ {X K : Type 0} (o : Keys K) (key : X → K) where
   pub to_ordered : (y : X) (xs : List X) → In y xs → In y (in_order o key xs)
   to_ordered y [] i = i
   to_ordered y (x ∷ xs) i = to_put y x (in_order o key xs) (⊎_elim (λ (e : y ≡ x). inl e) (λ (j : In y xs). inr (to_ordered y xs j)) i)
+
+pub none_in : {A : Type 0} (xs : List A) → ((x : A) → In x xs → ⊥) → xs ≡ []
+none_in [] none = refl
+none_in (x ∷ xs) none = absurd (none x (inl refl))
+
+-- ---- sets of names
+-- a set that is not without has a member
+pub one_name : (s : Names) → is_none s ≡ false → (x : Sender) × (has s x ≡ true)
+one_name s e = by s.rows refl
+  where
+    by : (es : List (Sender × Unit {0})) → s.rows ≡ es → (x : Sender) × (has s x ≡ true)
+    by [] is = let z : true ≡ false = sym (ap (λ es. length es == 0) is) ∙ e in absurd (cc)
+    by (r ∷ es) is = (r.0, ap is_some (in_found senders s r.0 r.1 (subst (λ es. In (r.0, r.1) es) (sym is) (inl refl))))
+
+-- a set with a member is not without
+pub has_some : (s : Names) (x : Sender) → has s x ≡ true → is_none s ≡ false
+has_some s x e = by s.rows (some_there (get s x) refl e)
+  where
+    some_there : (w : Option (Unit {0})) → get s x ≡ w → is_some w ≡ true → In (x, tt) s.rows
+    some_there None g e = absurd (cc)
+    some_there (Some u) g e = found_in senders s x tt g
+
+    by : (es : List (Sender × Unit {0})) → In (x, tt) es → (length es == 0) ≡ false
+    by [] i = absurd i
+    by (r ∷ es) i = ne_eqb (length (r ∷ es)) 0 (λ n. omega (arith, n))

@@ -1,17 +1,15 @@
 -- What follows where no fact changes: nothing but the errors and confirmations that were made.
-use Rattle.std.specs.Prelude.{◌≡◌, ℕ, ◌+◌, nat_lt, ◌==◌, Bool, true, false, cond, not, is_some, ◌&&◌, ◌||◌, List, [], ◌∷◌, ◌++◌, length, map as each, Option, Some, None, refl}
-use Rattle.std.proofs.Common.{sym, ap, subst, ◌∙◌, inl}
+use Rattle.std.specs.Prelude.{◌≡◌, ℕ, ◌+◌, nat_lt, Bool, true, false, cond, not, is_some, ◌&&◌, ◌||◌, List, [], ◌∷◌, ◌++◌, map as each, Option, Some, None, refl}
+use Rattle.std.proofs.Common.{sym, ap, ◌∙◌}
 use Rattle.std.specs.List.{filter, flat_map}
 use Rattle.std.specs.Option.{unwrap_or}
 use Rattle.rsvp_base.specs.declared.session.Sender.{Sender}
 use Rattle.rsvp_base.specs.declared.session.Session.{Session}
 use Rattle.rsvp_base.specs.declared.style.StyleKind.{StyleKind}
 use Rattle.rsvp_base.specs.declared.style.StyleKind.TheVariants.{Wild, Fixed, Shared}
-use Rattle.rsvp_base.specs.Members.{In}
-use Rattle.rsvp_base.specs.Orders.{Names, senders, sessions}
-use Rattle.rsvp_base.specs.Sets.{Set, is_none, set_of}
+use Rattle.rsvp_base.specs.Orders.{senders, sessions}
+use Rattle.rsvp_base.specs.Sets.{Set, set_of}
 use Rattle.rsvp_base.specs.Table.{Table, changed, empty, get, has, keys, size}
-use Rattle.rsvp_base.proofs.Counts.{in_found}
 use Rattle.rsvp_base.proofs.Members.{in_filter}
 use Rattle.rsvp_base.proofs.SetLaws.{and_both, has-cut}
 use Rattle.rsvp_base.proofs.Tables.{get-changed, same_table, then_do}
@@ -33,6 +31,7 @@ use Rattle.rule_laws.proofs.Asks.{gone_told}
 use Rattle.rule_laws.proofs.Leaving.{countdowns_settle, left_whole}
 use Rattle.rule_laws.proofs.Sending.{path_tear_told, path_told, resv_tear_told, resv_told}
 use Rattle.rule_laws.proofs.Tests.{flow_tested, parts_tested}
+use Rattle.rule_laws.proofs.Lists.{none_in, one_name}
 
 -- ---- facts
 both_not : (b : Bool) → (b && not b) ≡ false
@@ -65,18 +64,6 @@ module _ (p : Place) (c : ℕ) (f : Facts) (ok : IsWithinBounds p c f) where
   settled_same = ap (λ (ts : ResvTables). settle p c (record f { resvs = ts })) tables_same ∙ ap (λ (t : Table sessions ℕ). record f { due = t }) due_same
 
 -- ---- sends
-pub none_in : {A : Type 0} (xs : List A) → ((x : A) → In x xs → ⊥) → xs ≡ []
-none_in [] none = refl
-none_in (x ∷ xs) none = absurd (none x (inl refl))
-
--- a set that is not without has a member
-pub some_member : (s : Names) → is_none s ≡ false → (x : Sender) × (has s x ≡ true)
-some_member s e = by s.rows refl
-  where
-    by : (es : List (Sender × Unit {0})) → s.rows ≡ es → (x : Sender) × (has s x ≡ true)
-    by [] is = let z : true ≡ false = sym (ap (λ es. length es == 0) is) ∙ e in absurd (cc)
-    by (r ∷ es) is = (r.0, ap is_some (in_found senders s r.0 r.1 (subst (λ es. In (r.0, r.1) es) (sym is) (inl refl))))
-
 same_toward : (p : Place) (f : Facts) (l : Lane) → is_changed p p f f l ≡ false
 same_toward p f l = ap not (parts_tested (toward p f l) (toward p f l) refl)
 
@@ -89,7 +76,7 @@ module _ (p : Place) (f : Facts) (k : Change) where
       none_in (resv_tears p p f f)
       (λ s i.
       let q = resv_tear_told p p f f k s i in
-      let x = some_member (torn_names p p f f q.lane) q.some in
+      let x = one_name (torn_names p p f f q.lane) q.some in
       let a = and_both _ _ (sym (has-cut senders (gone_names (toward p f q.lane) (toward p f q.lane)) (names_via f q.lane) x.0) ∙ x.1) in
       let g = gone_told (toward p f q.lane) (toward p f q.lane) x.0 a.0 in
       let z : true ≡ false = sym (ap is_some g.was) ∙ g.gone in

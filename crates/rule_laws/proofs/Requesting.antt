@@ -1,6 +1,6 @@
 -- Requests, what goes toward a hop, and books, by look-up.
-use Rattle.std.specs.Prelude.{◌≡◌, ◌<◌, ◌⊎◌, length, true, false, cond, List, [], ◌∷◌, ◌++◌, is_some, Option, Some, None, refl}
-use Rattle.std.proofs.Common.{sym, ap, subst, ◌∙◌, arith, inl, inr, ⊎_elim}
+use Rattle.std.specs.Prelude.{◌≡◌, ◌⊎◌, true, false, cond, List, [], ◌∷◌, ◌++◌, Option, Some, None, refl}
+use Rattle.std.proofs.Common.{sym, ap, subst, ◌∙◌, inl, inr, ⊎_elim}
 use Rattle.std.specs.List.{filter_map}
 use Rattle.rsvp_base.specs.declared.part.Part.{Part}
 use Rattle.rsvp_base.specs.declared.session.Sender.{Sender}
@@ -9,13 +9,13 @@ use Rattle.rsvp_base.specs.declared.style.StyleKind.TheVariants.{Wild, Fixed, Sh
 use Rattle.rsvp_base.specs.Keys.{pairs}
 use Rattle.rsvp_base.specs.Members.{In}
 use Rattle.rsvp_base.specs.Orders.{sessions, senders, styles, units, Names}
-use Rattle.rsvp_base.specs.Sets.{cut, is_none}
-use Rattle.rsvp_base.specs.Table.{empty, get, has, size}
+use Rattle.rsvp_base.specs.Sets.{cut}
+use Rattle.rsvp_base.specs.Table.{empty, get, has}
 use Rattle.rsvp_base.proofs.Counts.{in_found, found_in}
 use Rattle.rsvp_base.proofs.Members.{in_append, in_left, in_right, in_each, to_each}
 use Rattle.rsvp_base.proofs.SetLaws.{and_both, has-cut}
 use Rattle.rsvp_base.proofs.UnderLaws.{get-under}
-use Rattle.style_rules.specs.CutLaws.{cut_of, made_of, some_name}
+use Rattle.style_rules.specs.CutLaws.{cut_of, made_of}
 use Rattle.style_rules.specs.Lines.{Line, LineKey, next_hops, line_keys, entry_keys, entry_key, at_end}
 use Rattle.style_rules.specs.Parts.{part_cut}
 use Rattle.style_rules.specs.Toward.{Request}
@@ -29,7 +29,7 @@ use Rattle.router_rules.specs.Place.{Place, goes_out}
 use Rattle.router_rules.specs.Requests.{is_blockaded, is_style, request_of, requests, resv_part, resv_request, toward, want_part, want_request}
 use Rattle.rule_laws.specs.FactLaws.{IsResvRequest, IsWantRequest, IsLine, RequestsAndToward, BooksAndLines}
 use Rattle.rule_laws.proofs.Knowing.{names_told, named_told, via_told, lanes_made}
-use Rattle.rule_laws.proofs.Lists.{in_filter_map, to_filter_map, passed}
+use Rattle.rule_laws.proofs.Lists.{in_filter_map, one_name, passed, to_filter_map}
 use Rattle.rule_laws.proofs.Tests.{style_told, ties}
 
 -- ---- requests
@@ -85,14 +85,6 @@ to_request p f l r t =
     t
 
 -- ---- nothing goes toward a hop from which no path comes
--- a set with a name has one
-pub one_name : (s : Names) → is_none s ≡ false → (q : Sender) × (has s q ≡ true)
-one_name s h = by s.rows refl (some_name s h)
-  where
-    by : (es : List (Sender × Unit {0})) → s.rows ≡ es → 0 < size s → (q : Sender) × (has s q ≡ true)
-    by [] e lt = let none : size s ≡ 0 = ap length e in absurd (omega (arith, none, lt))
-    by (z ∷ zs) e lt = (z.0, ap is_some (in_found senders s z.0 z.1 (subst (In z) (sym e) (inl refl))))
-
 -- what is left of a part has a name of the set
 some_left : (part x : Part) (names : Names) → part_cut part names ≡ Some x → (s : Sender) × (has names s ≡ true)
 some_left part x names e = let r = one_name (cut part.senders names) (cut_of part x names e).some in (r.0, (and_both _ _ (sym (has-cut senders part.senders names r.0) ∙ r.1)).1)

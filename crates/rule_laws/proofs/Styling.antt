@@ -1,7 +1,7 @@
 -- Styles in conflict, and names that do not match.
-use Rattle.std.specs.Prelude.{◌≡◌, ◌⊎◌, ◌↔◌, nat_lt, ◌==◌, Bool, true, false, cond, not, is_some, ◌&&◌, ◌||◌, List, [], ◌∷◌, length, Option, Some, None, refl}
+use Rattle.std.specs.Prelude.{◌≡◌, ◌⊎◌, ◌↔◌, nat_lt, ◌==◌, Bool, true, false, cond, not, is_some, ◌&&◌, List, [], ◌∷◌, length, Option, Some, None, refl}
 use Rattle.std.proofs.Common.{arith, sym, ap, subst, ◌∙◌, inl, inr, ⊎_elim}
-use Rattle.std.proofs.lemmas.Bool.{lt-ltb, ne_eqb}
+use Rattle.std.proofs.lemmas.Bool.{lt-ltb}
 use Rattle.std.specs.List.{list_any}
 use Rattle.std.specs.Ordering.{is_lt}
 use Rattle.rsvp_base.specs.declared.session.Sender.{Sender}
@@ -15,7 +15,7 @@ use Rattle.rsvp_base.specs.Sets.{is_none}
 use Rattle.rsvp_base.specs.Table.{Table, get, has, kept, size, values}
 use Rattle.rsvp_base.proofs.Counts.{found_in, in_found}
 use Rattle.rsvp_base.proofs.Members.{any_in, in_any}
-use Rattle.rsvp_base.proofs.SetLaws.{and_both, and_made, has-kept}
+use Rattle.rsvp_base.proofs.SetLaws.{and_both, and_made, has-kept, or_either, or_left, or_right}
 use Rattle.rsvp_base.proofs.Tables.{either}
 use Rattle.rsvp_base.proofs.UnderLaws.{get-under}
 use Rattle.style_rules.specs.Lines.{next_hops}
@@ -27,7 +27,7 @@ use Rattle.router_rules.specs.Requests.{is_style}
 use Rattle.rule_laws.specs.AskLaws.{IsConflict, IsResvIn, IsWantIn, LossesByNames, StylesInConflict}
 use Rattle.rule_laws.specs.FactLaws.{IsNamed}
 use Rattle.rule_laws.proofs.Knowing.{named_told, named_made}
-use Rattle.rule_laws.proofs.Lists.{in_values, some_same, to_values}
+use Rattle.rule_laws.proofs.Lists.{has_some, in_values, some_same, to_values}
 use Rattle.rule_laws.proofs.Sending.{not_told}
 use Rattle.rule_laws.proofs.Tests.{style_told, ties}
 
@@ -47,18 +47,6 @@ row_counts {K} {X} o m k x g = by m.rows (found_in o m k x g)
     by (r ∷ es) i = lt-ltb 0 (length (r ∷ es)) (omega arith)
 
 -- ---- styles
-pub or_told : (a b : Bool) → (a || b) ≡ true → (a ≡ true) ⊎ (b ≡ true)
-or_told true b e = inl refl
-or_told false b e = inr e
-
-pub or_left : (a b : Bool) → a ≡ true → (a || b) ≡ true
-or_left true b e = refl
-or_left false b e = absurd (cc)
-
-pub or_right : (a b : Bool) → b ≡ true → (a || b) ≡ true
-or_right true b e = refl
-or_right false b e = e
-
 module _ (f : Facts) (s : Session) where
   had_told : (st : StyleKind) → has_style f s st ≡ true → IsResvIn f s st ⊎ IsWantIn f s st
   had_told st e =
@@ -69,7 +57,7 @@ module _ (f : Facts) (s : Session) where
       let r = in_any (λ (w : Want). is_style w.style st) (values (wants_in f s)) a in
       let v = in_values units (wants_in f s) r.0 r.1 in
       inr (record { unit = v.0; want = r.0; there = sym (get-under sessions units f.wants s v.0) ∙ v.1; style = style_told r.0.style st r.2 }))
-      (or_told (nat_lt 0 (size (resvs_in st f s))) (list_any (λ (w : Want). is_style w.style st) (values (wants_in f s))) e)
+      (or_either (nat_lt 0 (size (resvs_in st f s))) (list_any (λ (w : Want). is_style w.style st) (values (wants_in f s))) e)
 
   had_made : (st : StyleKind) → IsResvIn f s st ⊎ IsWantIn f s st → has_style f s st ≡ true
   had_made st q =
@@ -191,18 +179,6 @@ matched_made : (p : Place) (f : Facts) (o : Asker) (x : Sender) → IsNamed o.st
 matched_made p f o x n =
     named_made o.style (kept (goes_out p o.session o.iface) (known f o.session)) x
     (record { sender = n.sender; among = has-kept senders (goes_out p o.session o.iface) (known f o.session) n.sender ∙ and_made _ _ n.among n.passes; passes = refl; name = n.name })
-
--- a set with a member is not without
-pub has_some : (s : Names) (x : Sender) → has s x ≡ true → is_none s ≡ false
-has_some s x e = by s.rows (some_there (get s x) refl e)
-  where
-    some_there : (w : Option (Unit {0})) → get s x ≡ w → is_some w ≡ true → In (x, tt) s.rows
-    some_there None g e = absurd (cc)
-    some_there (Some u) g e = found_in senders s x tt g
-
-    by : (es : List (Sender × Unit {0})) → In (x, tt) es → (length es == 0) ≡ false
-    by [] i = absurd i
-    by (r ∷ es) i = ne_eqb (length (r ∷ es)) 0 (λ n. omega (arith, n))
 
 lost_as : (st : StyleKind) (names all : Names) → (st ≡ Wild → ⊥) → lost st (Some names) all ≡ cond (is_none (kept (λ x. not (has all x)) names)) None (Some (Some (kept (λ x. not (has all x)) names)))
 lost_as Wild names all n = absurd (n refl)

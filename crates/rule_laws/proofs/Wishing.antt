@@ -12,7 +12,7 @@ use Rattle.rsvp_base.specs.Orders.{sessions, units}
 use Rattle.rsvp_base.specs.Table.{empty, has, keys, size, same_rows}
 use Rattle.rsvp_base.proofs.Counts.{found_in, in_found, in_set_of, set_of_in}
 use Rattle.rsvp_base.proofs.Members.{any_in, in_any, in_each, in_filter, in_flat_map, to_each, to_filter, to_flat_map}
-use Rattle.rsvp_base.proofs.SetLaws.{and_both, and_made}
+use Rattle.rsvp_base.proofs.SetLaws.{and_both, and_made, or_either, or_left, or_right}
 use Rattle.rsvp_base.proofs.Tables.{either, get-changed, then_do}
 use Rattle.rsvp_base.proofs.UnderLaws.{get-under}
 use Rattle.rsvp_messages.specs.declared.ask.Ask.{Ask}
@@ -26,10 +26,8 @@ use Rattle.router_rules.specs.Place.{Place, is_session, own}
 use Rattle.router_rules.specs.Requests.{requests, toward, want_request}
 use Rattle.router_rules.specs.Sends.{conf_for, confirmed, goes_on, is_changed, is_empty, is_marked, is_sent_new, marked_units, own_wish, same_parts, takes_part, unmarked, used_marks}
 use Rattle.rule_laws.specs.WishLaws.{GoesOn, IsGranted, IsMarked, IsNewThere, IsUsed, MarksAreUsed, TakesPart, WishesAreGranted}
-use Rattle.rule_laws.proofs.Lists.{in_keys, some_same, to_keys}
-use Rattle.rule_laws.proofs.Quiet.{none_in}
+use Rattle.rule_laws.proofs.Lists.{in_keys, none_in, some_same, to_keys}
 use Rattle.rule_laws.proofs.Sending.{not_told}
-use Rattle.rule_laws.proofs.Styling.{or_left, or_right, or_told}
 use Rattle.rule_laws.proofs.Tests.{parts_told, parts_tested, session_told, ties}
 
 -- ---- what goes toward a hop for a change
@@ -104,7 +102,7 @@ takes_told st all r e =
     absurd
     (empty_told (open_of (requests_at st (request_unit st r) all)) a q
     (to_filter (λ (q : Request). not q.blockaded) q (requests_at st (request_unit st r) all) (to_those units (request_unit st) (λ (q : Request). q.part) (request_unit st r) q all is.among is.named is.unit) (ap not b))))))
-    (or_told (not r.blockaded) (is_empty (open_of (requests_at st (request_unit st r) all))) e)
+    (or_either (not r.blockaded) (is_empty (open_of (requests_at st (request_unit st r) all))) e)
 
 takes_made : (st : StyleKind) (all : List Request) (r : Request) → TakesPart st all r → takes_part st all (Some r) ≡ true
 takes_made st all r t =

@@ -1,33 +1,27 @@
--- What Paths, PathTears and ResvTears do, and what is asked for toward a hop: the claims of the public laws.
+-- What Paths, PathTears, ResvTears and ResvConfs do: the claims of the public laws.
 use Rattle.std.specs.Prelude.{◌≡◌, ℕ, ◌⊎◌, ◌↔◌, true, false, map as each, Some, None}
-use Rattle.rsvp_base.specs.declared.part.Part.{Part}
 use Rattle.rsvp_base.specs.declared.session.Sender.{Sender}
-use Rattle.rsvp_base.specs.declared.style.StyleKind.{StyleKind}
 use Rattle.rsvp_base.specs.declared.style.Unit.{Unit as UnitOf}
 use Rattle.rsvp_base.specs.Members.{In}
 use Rattle.rsvp_base.specs.Orders.{senders}
 use Rattle.rsvp_base.specs.SessionLimits.{has_room_at}
-use Rattle.rsvp_base.specs.Table.{empty, get, has, put_in, without}
+use Rattle.rsvp_base.specs.Table.{get, put_in, without}
 use Rattle.rsvp_base.specs.TokenBucket.{TokenBucket}
-use Rattle.rsvp_messages.specs.declared.ask.Ask.{Ask}
 use Rattle.rsvp_messages.specs.declared.message.PathMsg.{PathMsg}
 use Rattle.rsvp_messages.specs.declared.message.PathTearMsg.{PathTearMsg}
 use Rattle.rsvp_messages.specs.declared.message.ResvConfMsg.{ResvConfMsg}
 use Rattle.rsvp_messages.specs.declared.message.ResvTearMsg.{ResvTearMsg}
-use Rattle.rsvp_messages.specs.Units.{AskedUnit, ask_style, asked_units, tear_names, tear_style}
+use Rattle.rsvp_messages.specs.Units.{ask_style, tear_names, tear_style}
 use Rattle.style_rules.specs.Lines.{LineKey, NextHop, is_of_hop}
-use Rattle.style_rules.specs.Merge.{PartTable}
-use Rattle.style_rules.specs.Parts.{IsOfStyle, part_unit}
 use Rattle.router_rules.specs.declared.answers.Heard.TheVariants as heard
 use Rattle.router_rules.specs.declared.answers.Why.TheVariants as why
-use Rattle.router_rules.specs.Asking.{act_resv_tear, ask_of, left_of, names_one, stays}
+use Rattle.router_rules.specs.Asking.{act_resv_tear, left_of, names_one, stays}
 use Rattle.router_rules.specs.Confirming.{act_resv_conf, confs_on, is_wish, speaks_of}
 use Rattle.router_rules.specs.Facts.{Facts, PathState, ResvState, resvs_of}
 use Rattle.router_rules.specs.Inputs.{ConfSend, only_heard}
 use Rattle.router_rules.specs.Known.{came_by}
 use Rattle.router_rules.specs.Paths.{act_path, act_path_tear, path_state}
 use Rattle.router_rules.specs.Place.{Place, comes_in, is_own}
-use Rattle.router_rules.specs.Sends.{gone_names}
 use Rattle.rule_laws.specs.ErrorLaws.{AreOnce}
 use Rattle.rule_laws.specs.RuleLaws.{IsLeft}
 
@@ -77,31 +71,3 @@ pub record ConfirmationsByWish : Type 0 where
   pub own : (p : Place) (m : ResvConfMsg) (f : Facts) → is_own p m.confirm ≡ true → act_resv_conf p m f ≡ only_heard heard.Taken f
   pub nobody : (p : Place) (m : ResvConfMsg) (f : Facts) → is_own p m.confirm ≡ false → ((s : ConfSend) → IsConfOn m f s → ⊥) → act_resv_conf p m f ≡ only_heard (heard.Dropped why.NoState) f
   pub passed : (p : Place) (m : ResvConfMsg) (f : Facts) (s : ConfSend) → is_own p m.confirm ≡ false → IsConfOn m f s → act_resv_conf p m f ≡ record (only_heard heard.Taken f) { confs = confs_on m f }
-
--- ---- what parts by unit ask for
--- each part is of its style and stands under its unit
-abbrev pub ArePartsOf : StyleKind → PartTable → Type 0
-ArePartsOf st ps = (u : UnitOf) (part : Part) → get ps u ≡ Some part → IsOfStyle st part × (part_unit st part ≡ u)
-
--- the unit is asked for with its part's names and flow
-pub record IsAskedOf (ps : PartTable) (u : AskedUnit) : Type 0 where
-  pub part : Part
-  pub there : get ps u.unit ≡ Some part
-  pub names : u.names ≡ Some part.senders
-  pub flow : u.flow ≡ part.flow
-
-pub record AsksOfParts : Type 0 where
-  pub style : (st : StyleKind) (ps : PartTable) (a : Ask) → ask_of st ps ≡ Some a → ask_style a ≡ st
-  pub units : (st : StyleKind) (ps : PartTable) (a : Ask) (u : AskedUnit) → ArePartsOf st ps → ask_of st ps ≡ Some a → In u (asked_units a) ↔ IsAskedOf ps u
-  pub nothing : (st : StyleKind) (ps : PartTable) → ArePartsOf st ps → ask_of st ps ≡ None → ps ≡ empty
-
--- ---- units that are gone
-pub record IsGone (before after : PartTable) (x : Sender) : Type 0 where
-  pub unit : UnitOf
-  pub part : Part
-  pub was : get before unit ≡ Some part
-  pub gone : has after unit ≡ false
-  pub named : has part.senders x ≡ true
-
-pub record GoneByUnits : Type 0 where
-  pub each : (before after : PartTable) (x : Sender) → (has (gone_names before after) x ≡ true) ↔ IsGone before after x

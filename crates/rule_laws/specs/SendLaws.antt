@@ -1,9 +1,16 @@
--- What a list of sends contains: the claim of the public law.
+-- What a list of sends contains, what it asks for, and which units are gone: the claims of the public laws.
 use Rattle.std.specs.Prelude.{◌≡◌, ◌⊎◌, ◌↔◌, true, false, cond, ◌||◌, ◌++◌, Some, None}
+use Rattle.rsvp_base.specs.declared.part.Part.{Part}
+use Rattle.rsvp_base.specs.declared.session.Sender.{Sender}
+use Rattle.rsvp_base.specs.declared.style.StyleKind.{StyleKind}
+use Rattle.rsvp_base.specs.declared.style.Unit.{Unit as UnitOf}
 use Rattle.rsvp_base.specs.Members.{In}
 use Rattle.rsvp_base.specs.Sets.{is_none}
-use Rattle.rsvp_base.specs.Table.{get, has}
+use Rattle.rsvp_base.specs.Table.{empty, get, has}
 use Rattle.rsvp_messages.specs.declared.ask.Ask.{Ask}
+use Rattle.rsvp_messages.specs.Units.{AskedUnit, ask_style, asked_units}
+use Rattle.style_rules.specs.Merge.{PartTable}
+use Rattle.style_rules.specs.Parts.{IsOfStyle, part_unit}
 use Rattle.router_rules.specs.Asking.{ask_of}
 use Rattle.router_rules.specs.Facts.{Facts}
 use Rattle.router_rules.specs.Inputs.{Change, ConfSend, ErrSend, Send}
@@ -11,7 +18,7 @@ use Rattle.router_rules.specs.Known.{Lane, lanes}
 use Rattle.router_rules.specs.Offers.{Offer, OfferKey, offers}
 use Rattle.router_rules.specs.Place.{Place}
 use Rattle.router_rules.specs.Requests.{toward}
-use Rattle.router_rules.specs.Sends.{conf_send, confirm_for, confirmed, error_send, is_changed, is_new_offer, path_send, path_tear, resv_send, resv_tear_send, sends, torn_names}
+use Rattle.router_rules.specs.Sends.{conf_send, confirm_for, confirmed, error_send, gone_names, is_changed, is_new_offer, path_send, path_tear, resv_send, resv_tear_send, sends, torn_names}
 
 module _ (old p : Place) (before after : Facts) (k : Change) (s : Send) where
   -- an offer that is gone
@@ -61,3 +68,31 @@ module _ (old p : Place) (before after : Facts) (k : Change) (s : Send) where
 -- each send is one of six kinds, and each of these is sent
 pub record SendsAreOfSixKinds : Type 0 where
   pub each : (old p : Place) (before after : Facts) (k : Change) (s : Send) → In s (sends old p before after k) ↔ IsSend old p before after k s
+
+-- ---- what parts by unit ask for
+-- each part is of its style and stands under its unit
+abbrev pub ArePartsOf : StyleKind → PartTable → Type 0
+ArePartsOf st ps = (u : UnitOf) (part : Part) → get ps u ≡ Some part → IsOfStyle st part × (part_unit st part ≡ u)
+
+-- the unit is asked for with its part's names and flow
+pub record IsAskedOf (ps : PartTable) (u : AskedUnit) : Type 0 where
+  pub part : Part
+  pub there : get ps u.unit ≡ Some part
+  pub names : u.names ≡ Some part.senders
+  pub flow : u.flow ≡ part.flow
+
+pub record AsksOfParts : Type 0 where
+  pub style : (st : StyleKind) (ps : PartTable) (a : Ask) → ask_of st ps ≡ Some a → ask_style a ≡ st
+  pub units : (st : StyleKind) (ps : PartTable) (a : Ask) (u : AskedUnit) → ArePartsOf st ps → ask_of st ps ≡ Some a → In u (asked_units a) ↔ IsAskedOf ps u
+  pub nothing : (st : StyleKind) (ps : PartTable) → ArePartsOf st ps → ask_of st ps ≡ None → ps ≡ empty
+
+-- ---- units that are gone
+pub record IsGone (before after : PartTable) (x : Sender) : Type 0 where
+  pub unit : UnitOf
+  pub part : Part
+  pub was : get before unit ≡ Some part
+  pub gone : has after unit ≡ false
+  pub named : has part.senders x ≡ true
+
+pub record GoneByUnits : Type 0 where
+  pub each : (before after : PartTable) (x : Sender) → (has (gone_names before after) x ≡ true) ↔ IsGone before after x

@@ -1,14 +1,14 @@
 //! Laws of the rules of a router: what the tests tell, what is found where, what each input does, and what is sent.
 ghost use Rattle.rule_laws.specs.FactLaws.{TestsTell, KnownAndVia, OffersByWay, RequestsAndToward, BooksAndLines, RoomTells};
 ghost use Rattle.rule_laws.specs.RuleLaws.{TablesByStyle, WaitingLeavesTheLiving, LeftByNames, ForgettingByNames, CountdownsSettle, UnitsOneByOne, ErrorsAndWalls, RuleInParts};
-ghost use Rattle.rule_laws.specs.SendLaws.{SendsAreOfSixKinds};
+ghost use Rattle.rule_laws.specs.SendLaws.{AsksOfParts, GoneByUnits, SendsAreOfSixKinds};
 ghost use Rattle.rule_laws.specs.AskLaws.{StylesInConflict, LossesByNames, UnitsInFull, ResvsInSteps};
 ghost use Rattle.rule_laws.specs.CallLaws.{StepsWithoutChange, CallRefusals, CallsLeave, StaleRefusals, StaleLeaves, ClearLeaves};
 ghost use Rattle.rule_laws.specs.WishLaws.{WishesAreGranted, MarksAreUsed};
 ghost use Rattle.rule_laws.specs.FlagLaws.{FlagsByPathsAndResvs};
 ghost use Rattle.rule_laws.specs.OrderLaws.{SendsInOrder};
 ghost use Rattle.rule_laws.specs.ErrorLaws.{ArrivalsByAddress, FaultsByHint, PathErrsByTests, ResvErrsByTests, ErrorsOnceEach};
-ghost use Rattle.rule_laws.specs.MessageLaws.{PathsByTests, ResvTearsByNames, ConfirmationsByWish, AsksOfParts, GoneByUnits};
+ghost use Rattle.rule_laws.specs.MessageLaws.{PathsByTests, ResvTearsByNames, ConfirmationsByWish};
 
 /// Each test tells what it is the test of.
 #[tactic(auto, using(crate::proofs::Tests::tests_tell))]
