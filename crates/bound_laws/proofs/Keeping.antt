@@ -36,7 +36,7 @@ use Rattle.router_rules.specs.Place.{Place, comes_in, period, wall_lifetime}
 use Rattle.router_rules.specs.Waiting.{next_due}
 use Rattle.rule_laws.proofs.Leaving.{countdowns_settle, waiting_leaves_the_living}
 use Rattle.rule_laws.proofs.Lists.{some_is, some_same}
-use Rattle.rule_laws.proofs.Telling.{errors_and_walls}
+use Rattle.input_laws.proofs.Telling.{errors_and_walls}
 use Rattle.router_laws.specs.PathLaws.{CameOnTree}
 use Rattle.router_laws.specs.Steps.{facts_then}
 use Rattle.router_laws.proofs.Counting.{quiet_due, stands_settled}

@@ -31,7 +31,7 @@ use Rattle.router_rules.specs.Known.{known}
 use Rattle.router_rules.specs.Place.{Place, goes_out, lifetime, period}
 use Rattle.rule_laws.specs.RuleLaws.{IsLeft}
 use Rattle.rule_laws.proofs.Leaving.{as_it_was, got_forget, left_told, table_other, waiting_leaves_the_living}
-use Rattle.rule_laws.proofs.Receiving.{resv_tears_by_names}
+use Rattle.input_laws.proofs.Receiving.{resv_tears_by_names}
 use Rattle.router_laws.specs.Steps.{facts_then}
 use Rattle.bound_laws.specs.BoundLaws.{AreFewer, IsFit, IsLeftOf, clock_after}
 use Rattle.bound_laws.proofs.Folding.{Keeps, names_listed, unit_shape, units_keep}

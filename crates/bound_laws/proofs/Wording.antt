@@ -56,18 +56,18 @@ use Rattle.router_rules.specs.Place.{Place, goes_out, is_own}
 use Rattle.router_rules.specs.Requests.{requests, toward, want_part}
 use Rattle.router_rules.specs.Rule.{settled}
 use Rattle.router_rules.specs.Sends.{conf_for, confirmed, error_message, goes_on, gone_names, tear_of, without_scope}
-use Rattle.rule_laws.specs.AskLaws.{IsBookRefusal, IsLoss, IsTaken}
-use Rattle.rule_laws.specs.ErrorLaws.{IsPathReply, IsResvReply}
 use Rattle.rule_laws.specs.FactLaws.{IsResvRequest, IsWantRequest}
 use Rattle.rule_laws.specs.SendLaws.{IsConf, IsError, IsPath, IsPathTear, IsResv, IsResvTear}
-use Rattle.rule_laws.proofs.Answering.{faults_by_hint}
 use Rattle.rule_laws.proofs.Lists.{passed, some_same}
-use Rattle.rule_laws.proofs.Receiving.{conf_told}
 use Rattle.rule_laws.proofs.Requesting.{request_told, requests_and_toward}
 use Rattle.rule_laws.proofs.Ruling.{rule_in_parts}
-use Rattle.rule_laws.proofs.Erring.{errors_once_each}
-use Rattle.rule_laws.proofs.Wholes.{takes_told}
-use Rattle.rule_laws.proofs.Wholes.{errors_told as unit_errors_told}
+use Rattle.input_laws.specs.AskLaws.{IsBookRefusal, IsLoss, IsTaken}
+use Rattle.input_laws.specs.ErrorLaws.{IsPathReply, IsResvReply}
+use Rattle.input_laws.proofs.Answering.{faults_by_hint}
+use Rattle.input_laws.proofs.Receiving.{conf_told}
+use Rattle.input_laws.proofs.Erring.{errors_once_each}
+use Rattle.input_laws.proofs.Wholes.{takes_told}
+use Rattle.input_laws.proofs.Wholes.{errors_told as unit_errors_told}
 use Rattle.router_laws.specs.SpeakingLaws.{IsLocalOffer, IsPathOffer}
 use Rattle.router_laws.specs.Steps.{facts_then, sent_then}
 use Rattle.router_laws.proofs.Speaking.{offer_of, offer_source, send_told}

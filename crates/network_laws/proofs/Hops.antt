@@ -28,14 +28,14 @@ use Rattle.router_rules.specs.Known.{known}
 use Rattle.router_rules.specs.Place.{Place, addr_of as own_of, goes_out, is_own, own}
 use Rattle.router_rules.specs.Rule.{settled}
 use Rattle.router_rules.specs.Sends.{error_message, error_send}
-use Rattle.rule_laws.specs.AskLaws.{IsLoss, IsBookRefusal}
-use Rattle.rule_laws.specs.ErrorLaws.{IsPathReply, IsResvReply, errors_with, walls_set}
 use Rattle.rule_laws.specs.FactLaws.{ComesBy}
 use Rattle.rule_laws.specs.SendLaws.{IsSend}
-use Rattle.rule_laws.proofs.Answering.{faults_by_hint}
-use Rattle.rule_laws.proofs.Erring.{errors_once_each, resv_errs_by_tests}
 use Rattle.rule_laws.proofs.Lists.{some_same}
-use Rattle.rule_laws.proofs.Wholes.{units_in_full}
+use Rattle.input_laws.specs.AskLaws.{IsLoss, IsBookRefusal}
+use Rattle.input_laws.specs.ErrorLaws.{IsPathReply, IsResvReply, errors_with, walls_set}
+use Rattle.input_laws.proofs.Answering.{faults_by_hint}
+use Rattle.input_laws.proofs.Erring.{errors_once_each, resv_errs_by_tests}
+use Rattle.input_laws.proofs.Wholes.{units_in_full}
 use Rattle.router_laws.specs.Steps.{sent_then}
 use Rattle.router_laws.proofs.Speaking.{send_told}
 use Rattle.demand_laws.specs.Goals.{addr_of}

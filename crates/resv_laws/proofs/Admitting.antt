@@ -45,13 +45,13 @@ use Rattle.router_rules.specs.Known.{known, named_as}
 use Rattle.router_rules.specs.Place.{Place, goes_out, own}
 use Rattle.router_rules.specs.Requests.{is_style}
 use Rattle.router_rules.specs.Rule.{settled}
-use Rattle.rule_laws.specs.RuleLaws.{IsOfUnit}
 use Rattle.rule_laws.specs.SendLaws.{IsConf, IsError, IsPath, IsPathTear, IsResv, IsResvTear}
 use Rattle.rule_laws.proofs.Knowing.{named_told}
 use Rattle.rule_laws.proofs.Leaving.{forgetting_by_names, table_put}
 use Rattle.rule_laws.proofs.Lists.{in_values, one_name, some_is, some_same}
-use Rattle.rule_laws.proofs.Taking.{units_source}
 use Rattle.rule_laws.proofs.Tests.{addr_tested, style_told}
+use Rattle.input_laws.specs.AskLaws.{IsOfUnit}
+use Rattle.input_laws.proofs.Taking.{units_source}
 use Rattle.router_laws.specs.Steps.{facts_then, sent_then}
 use Rattle.router_laws.proofs.Speaking.{send_told}
 use Rattle.bound_laws.proofs.Reserving.{forgotten_fewer}

@@ -27,12 +27,12 @@ use Rattle.router_rules.specs.Forgetting.{is_lost}
 use Rattle.router_rules.specs.Inputs.{Call, Came, Clear, Input, Moved, Spelt, Unspelt, Wait}
 use Rattle.router_rules.specs.Known.{known, named_as}
 use Rattle.router_rules.specs.Place.{Place, own}
-use Rattle.rule_laws.specs.RuleLaws.{IsOfUnit}
 use Rattle.rule_laws.proofs.Leaving.{forgetting_by_names, table_other, waiting_leaves_the_living}
-use Rattle.rule_laws.proofs.Receiving.{resv_tears_by_names}
-use Rattle.rule_laws.proofs.Taking.{units_other, units_source}
 use Rattle.rule_laws.proofs.Tests.{addr_told}
-use Rattle.rule_laws.proofs.Wholes.{resvs_in_steps}
+use Rattle.input_laws.specs.AskLaws.{IsOfUnit}
+use Rattle.input_laws.proofs.Receiving.{resv_tears_by_names}
+use Rattle.input_laws.proofs.Taking.{units_other, units_source}
+use Rattle.input_laws.proofs.Wholes.{resvs_in_steps}
 use Rattle.router_laws.specs.Steps.{facts_then}
 use Rattle.bound_laws.specs.BoundLaws.{IsLeftOf}
 use Rattle.bound_laws.proofs.Putting.{style_same}

@@ -30,14 +30,14 @@ use Rattle.router_rules.specs.Inputs.{Call, Came, Change, Clear, ErrMsg, ErrSend
 use Rattle.router_rules.specs.Place.{Place, goes_out, is_own, own}
 use Rattle.router_rules.specs.Rule.{rule, settled}
 use Rattle.router_rules.specs.Sends.{error_message, error_send}
-use Rattle.rule_laws.specs.ErrorLaws.{IsPathReply, IsResvReply, errors_with, walls_set}
 use Rattle.rule_laws.specs.FactLaws.{ComesBy}
 use Rattle.rule_laws.specs.SendLaws.{IsConf, IsError, IsPath, IsPathTear, IsResv, IsResvTear, IsSend}
-use Rattle.rule_laws.proofs.Answering.{faults_by_hint}
-use Rattle.rule_laws.proofs.Erring.{errors_once_each, resv_errs_by_tests}
 use Rattle.rule_laws.proofs.Lists.{some_same, to_ordered}
 use Rattle.rule_laws.proofs.Sending.{not_told}
 use Rattle.rule_laws.proofs.Tests.{addr_told}
+use Rattle.input_laws.specs.ErrorLaws.{IsPathReply, IsResvReply, errors_with, walls_set}
+use Rattle.input_laws.proofs.Answering.{faults_by_hint}
+use Rattle.input_laws.proofs.Erring.{errors_once_each, resv_errs_by_tests}
 use Rattle.router_laws.specs.Steps.{sent_then}
 use Rattle.router_laws.proofs.Speaking.{send_told}
 use Rattle.resv_laws.specs.BlameLaws.{AreBlamed, IsPassedOn, IsRefusal, WhereAnErrorWithAFlowComesFrom}

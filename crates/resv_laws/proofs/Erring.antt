@@ -27,8 +27,8 @@ use Rattle.router_rules.specs.Place.{Place, own, period}
 use Rattle.rule_laws.specs.FactLaws.{ComesBy}
 use Rattle.rule_laws.proofs.Leaving.{waiting_leaves_the_living}
 use Rattle.rule_laws.proofs.Lists.{in_values}
-use Rattle.rule_laws.proofs.Telling.{errors_and_walls}
 use Rattle.rule_laws.proofs.Tests.{addr_told}
+use Rattle.input_laws.proofs.Telling.{errors_and_walls}
 use Rattle.router_laws.specs.FrameLaws.{on_paths, on_resvs}
 use Rattle.router_laws.specs.Steps.{facts_then}
 use Rattle.router_laws.proofs.Counting.{due_then}

@@ -27,8 +27,8 @@ use Rattle.router_rules.specs.Place.{Place, comes_in, is_addr}
 use Rattle.router_rules.specs.Rule.{rule}
 use Rattle.router_rules.specs.Waiting.{living}
 use Rattle.rule_laws.proofs.Lists.{passed, some_same}
-use Rattle.rule_laws.proofs.Receiving.{paths_by_tests}
 use Rattle.rule_laws.proofs.Tests.{addr_told, addr_tested}
+use Rattle.input_laws.proofs.Receiving.{paths_by_tests}
 use Rattle.router_laws.specs.PathLaws.{APathOnTheTreeIsLearnt, HowAPathFactGoes, IsLearnt, IsReplaced, PathGoes, WhereAPathFactComesFrom, said_by}
 use Rattle.router_laws.specs.Steps.{facts_then}
 

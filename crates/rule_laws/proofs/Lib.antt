@@ -6,17 +6,8 @@ pub mod Knowing
 pub mod Offering
 pub mod Requesting
 pub mod Leaving
-pub mod Taking
-pub mod Telling
-pub mod Erring
-pub mod Answering
 pub mod Ruling
 pub mod Sending
-pub mod Receiving
-pub mod Styling
-pub mod Wholes
-pub mod Quiet
-pub mod Calling
 pub mod Wishing
 pub mod Flagging
 pub mod Asks

@@ -2,9 +2,5 @@ pub mod FactLaws
 pub mod RuleLaws
 pub mod SendLaws
 pub mod OrderLaws
-pub mod MessageLaws
-pub mod ErrorLaws
-pub mod AskLaws
-pub mod CallLaws
 pub mod WishLaws
 pub mod FlagLaws

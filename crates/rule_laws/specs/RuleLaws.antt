@@ -1,4 +1,4 @@
--- What the rule leaves, table by table: the claims of the public laws on waiting, forgetting, countdowns, Resvs and errors.
+-- What the rule leaves, table by table: the claims of the public laws on waiting, forgetting and countdowns.
 use Rattle.std.specs.Prelude.{◌≡◌, not, ℕ, ◌+◌, ◌<◌, ◌≤◌, ◌⊎◌, ◌↔◌, Bool, true, false, cond, List, [], Some, None}
 use Rattle.std.specs.Option.{unwrap_or}
 use Rattle.admission_book.specs.declared.refused.Refused.{Refused}
@@ -74,43 +74,6 @@ pub record ForgettingByNames : Type 0 where
 -- ---- countdowns
 abbrev pub CountdownsSettle : Type 0
 CountdownsSettle = (p : Place) (c : ℕ) (f : Facts) (s : Session) → get (settle p c f).due s ≡ cond (has (counted f) s) (Some (unwrap_or (get f.due s) (c + period p))) None
-
--- ---- the units of a Resv, one by one
--- a reservation that a unit of the list made
-pub record IsOfUnit (o : Asker) (all : Names) (us : List AskedUnit) (k : LineKey) (r : ResvState) : Type 0 where
-  pub unit : AskedUnit
-  pub asks : In unit us
-  pub key : k ≡ key_at o unit.unit
-  pub senders : r.part.senders ≡ names_that_match unit.names all
-  pub flow : r.part.flow ≡ unit.flow
-  pub named : has_name r.part ≡ true
-  pub dies : r.dies ≡ o.dies
-
-pub record UnitsOneByOne : Type 0 where
-  -- a unit that has room and is not refused takes its place
-  pub taken : (p : Place) (o : Asker) (f : Facts) (all : Names) (t : Taking) (u : AskedUnit) (part : Part) → part_of (names_that_match u.names all) u.flow ≡ Some part → has_room o u.unit part t.table ≡ true
-      → book_refuses p o f u.unit part t.table ≡ None → (take_unit p o f all t u).table ≡ table_with o u.unit part t.table
-  -- one that is refused, or left out, or has nobody, changes no reservation
-  pub refused : (p : Place) (o : Asker) (f : Facts) (all : Names) (t : Taking) (u : AskedUnit) (part : Part) (why : Refused) → part_of (names_that_match u.names all) u.flow ≡ Some part → has_room o u.unit part t.table ≡ true
-      → book_refuses p o f u.unit part t.table ≡ Some why → (take_unit p o f all t u).table ≡ t.table
-  pub left_out : (p : Place) (o : Asker) (f : Facts) (all : Names) (t : Taking) (u : AskedUnit) (part : Part) → part_of (names_that_match u.names all) u.flow ≡ Some part → has_room o u.unit part t.table ≡ false
-      → ((take_unit p o f all t u).table ≡ t.table) × ((take_unit p o f all t u).left_out ≡ true)
-  pub nobody : (p : Place) (o : Asker) (f : Facts) (all : Names) (t : Taking) (u : AskedUnit) → part_of (names_that_match u.names all) u.flow ≡ None → (take_unit p o f all t u).table ≡ t.table
-  -- its place is that of its next hop and unit, and no other reservation changes
-  pub at : (o : Asker) (u : UnitOf) (part : Part) (t : Resvs) → get (table_with o u part t) (key_at o u) ≡ Some (resv_state o part (get t (key_at o u)))
-  pub beside : (o : Asker) (u : UnitOf) (part : Part) (t : Resvs) (k : LineKey) → (k ≡ key_at o u → ⊥) → get (table_with o u part t) k ≡ get t k
-  -- so what stands after all of them stood before, or is of one of them
-  pub source : (p : Place) (o : Asker) (f : Facts) (all : Names) (us : List AskedUnit) (t : Taking) (k : LineKey) (r : ResvState) → get (take_units p o f all t us).table k ≡ Some r → (get t.table k ≡ Some r) ⊎ IsOfUnit o all us k r
-  pub others : (p : Place) (o : Asker) (f : Facts) (all : Names) (us : List AskedUnit) (t : Taking) (k : LineKey) → ((u : AskedUnit) → In u us → k ≡ key_at o u.unit → ⊥) → get (take_units p o f all t us).table k ≡ get t.table k
-  -- and a refusal that was made stays made
-  pub errors : (p : Place) (o : Asker) (f : Facts) (all : Names) (us : List AskedUnit) (t : Taking) (e : ErrSend) → In e t.errors → In e (take_units p o f all t us).errors
-
--- ---- what errors blockade
-pub record ErrorsAndWalls : Type 0 where
-  -- a blockade was there, or the error set it
-  pub source : (p : Place) (c e : ℕ) (m : ResvErrMsg) (w : Walls) (k : WallKey) (b : Blockade) → get (walls_with p c e m m.blame.flow w) k ≡ Some b
-      → (get w k ≡ Some b) ⊎ ((flow : TokenBucket) × (m.blame.flow ≡ Some flow) × (is_admission m.err ≡ true) × In k (walled_by e m m.blame.style) × (b ≡ blockade_of p c m flow))
-  pub set : (p : Place) (c e : ℕ) (m : ResvErrMsg) (w : Walls) (k : WallKey) (flow : TokenBucket) → is_admission m.err ≡ true → In k (walled_by e m m.blame.style) → get (walls_with p c e m (Some flow) w) k ≡ Some (blockade_of p c m flow)
 
 -- ---- the rule in its parts
 -- a want keeps all but its mark

@@ -19,7 +19,7 @@ use Rattle.router_rules.specs.Asking.{Asker, Taking, book_refuses, has_entry, ha
 use Rattle.router_rules.specs.Facts.{Facts, ResvState}
 use Rattle.router_rules.specs.Inputs.{ErrSend}
 use Rattle.router_rules.specs.Place.{Place}
-use Rattle.rule_laws.specs.RuleLaws.{IsOfUnit, UnitsOneByOne}
+use Rattle.input_laws.specs.AskLaws.{IsOfUnit, UnitsOneByOne}
 
 module _ (p : Place) (o : Asker) (f : Facts) (all : Names) where
   -- what was done before the unit is put in its place

@@ -26,12 +26,12 @@ use Rattle.router_rules.specs.Place.{Place, period}
 use Rattle.router_rules.specs.Requests.{toward}
 use Rattle.router_rules.specs.Rule.{is_silent, rule, settled, spoken}
 use Rattle.router_rules.specs.Sends.{conf_sends, error_sends, gone_names, is_changed, is_new_offer, is_sent_new, marked_units, path_sends, path_tears, resv_sends, resv_tears, sends, torn_names, unmarked, used_marks}
-use Rattle.rule_laws.specs.CallLaws.{StepsWithoutChange}
 use Rattle.rule_laws.proofs.Asks.{gone_told}
 use Rattle.rule_laws.proofs.Leaving.{countdowns_settle, left_whole}
 use Rattle.rule_laws.proofs.Sending.{path_tear_told, path_told, resv_tear_told, resv_told}
 use Rattle.rule_laws.proofs.Tests.{flow_tested, parts_tested}
 use Rattle.rule_laws.proofs.Lists.{none_in, one_name}
+use Rattle.input_laws.specs.CallLaws.{StepsWithoutChange}
 
 -- ---- facts
 both_not : (b : Bool) → (b && not b) ≡ false

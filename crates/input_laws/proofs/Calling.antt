@@ -34,12 +34,12 @@ use Rattle.router_rules.specs.Inputs.{Call, Local, QuitAll, Stale, only_heard}
 use Rattle.router_rules.specs.Place.{Place, is_own, is_session}
 use Rattle.router_rules.specs.Requests.{is_style}
 use Rattle.router_rules.specs.Rule.{settled}
-use Rattle.rule_laws.specs.CallLaws.{CallRefusals, CallsLeave, ClearLeaves, HasOtherStyle, StaleLeaves, StaleRefusals, room_for, room_for_wants}
 use Rattle.rule_laws.proofs.Lists.{got_with_rows, in_values, some_is, to_values}
-use Rattle.rule_laws.proofs.Quiet.{settled_same, step_made}
 use Rattle.rule_laws.proofs.Sending.{not_told}
 use Rattle.rule_laws.proofs.Tests.{session_told, style_told, ties}
-use Rattle.rule_laws.proofs.Styling.{row_counts, some_row}
+use Rattle.input_laws.specs.CallLaws.{CallRefusals, CallsLeave, ClearLeaves, HasOtherStyle, StaleLeaves, StaleRefusals, room_for, room_for_wants}
+use Rattle.input_laws.proofs.Quiet.{settled_same, step_made}
+use Rattle.input_laws.proofs.Styling.{row_counts, some_row}
 
 -- ---- one test, and two
 module _ {E : Type 0} (e : E) where

@@ -27,11 +27,11 @@ use Rattle.router_rules.specs.Facts.{Facts, PathState, ResvState, WallKey, Walls
 use Rattle.router_rules.specs.Inputs.{Change, ErrSend, only_heard}
 use Rattle.router_rules.specs.Known.{Lane, came_by}
 use Rattle.router_rules.specs.Place.{Place, goes_out}
-use Rattle.rule_laws.specs.ErrorLaws.{ErrorsOnceEach, IsErrorTo, IsSpokenOf, PathErrsByTests, ResvErrsByTests, errors_with, walls_set}
 use Rattle.rule_laws.specs.FactLaws.{ComesBy}
 use Rattle.rule_laws.proofs.Lists.{in_values, passed, some_same, to_values}
 use Rattle.rule_laws.proofs.Once.{LastGives, given_rise, last_made, last_stands, last_told, someone_last, stands_last}
-use Rattle.rule_laws.proofs.Telling.{same_hop}
+use Rattle.input_laws.specs.ErrorLaws.{ErrorsOnceEach, IsErrorTo, IsSpokenOf, PathErrsByTests, ResvErrsByTests, errors_with, walls_set}
+use Rattle.input_laws.proofs.Telling.{same_hop}
 
 -- ---- PathErr
 path_err_by : (p : Place) (e : ℕ) (m : PathErrMsg) (f : Facts) (x : Sender) (out : Bool) → m.sender ≡ Some x → goes_out p m.session e x ≡ out

@@ -2,7 +2,6 @@
 -- claims of the public laws.
 use Rattle.std.specs.Prelude.{◌≡◌, ℕ, ◌⊎◌, ◌↔◌, true, false, cond, List, [], ◌∷◌, ◌++◌, Option, Some, None}
 use Rattle.std.specs.Ordering.{is_lt}
-use Rattle.admission_book.specs.declared.refused.Refused.{Refused}
 use Rattle.rsvp_base.specs.declared.addr.Addr.{Addr}
 use Rattle.rsvp_base.specs.declared.part.Part.{Part}
 use Rattle.rsvp_base.specs.declared.session.Sender.{Sender}
@@ -14,14 +13,15 @@ use Rattle.rsvp_base.specs.Members.{In}
 use Rattle.rsvp_base.specs.Orders.{Names, styles}
 use Rattle.rsvp_base.specs.Sets.{is_none}
 use Rattle.rsvp_base.specs.Table.{get, has, put_in}
+use Rattle.style_rules.specs.Lines.{NextHop, LineKey}
+use Rattle.style_rules.specs.Parts.{part_of, has_name}
+use Rattle.admission_book.specs.declared.refused.Refused.{Refused}
 use Rattle.rsvp_messages.specs.declared.message.ResvMsg.{ResvMsg}
 use Rattle.rsvp_messages.specs.Units.{AskedUnit, ask_style, asked_units}
-use Rattle.style_rules.specs.Lines.{NextHop}
-use Rattle.style_rules.specs.Parts.{part_of}
 use Rattle.router_rules.specs.declared.answers.Heard.TheVariants as heard
 use Rattle.router_rules.specs.declared.answers.Why.TheVariants as why
-use Rattle.router_rules.specs.Asking.{Asker, Taking, act_resv, answered, ask_of, asker_of, book_refuses, errors_in_order, has_entry, has_room, has_style, lost, matched, names_that_match, nothing_taken, refusal, refuse_all, style_conflict, style_value, table_with, take_unit, take_units, taking, tell_lost, value_of}
-use Rattle.router_rules.specs.Facts.{Facts, ResvState, Want, resvs_of}
+use Rattle.router_rules.specs.Asking.{Asker, Taking, act_resv, answered, ask_of, asker_of, book_refuses, errors_in_order, has_entry, has_room, has_style, lost, matched, names_that_match, nothing_taken, refusal, refuse_all, style_conflict, style_value, table_with, take_unit, take_units, taking, tell_lost, value_of, key_at, resv_state}
+use Rattle.router_rules.specs.Facts.{Facts, ResvState, Want, resvs_of, Resvs}
 use Rattle.router_rules.specs.Inputs.{ErrSend}
 use Rattle.router_rules.specs.Known.{known}
 use Rattle.router_rules.specs.Place.{Place, goes_out}
@@ -158,3 +158,33 @@ pub record ResvsInSteps : Type 0 where
   pub no_wish : (p : Place) (c e : ℕ) (m : ResvMsg) (f : Facts) → m.confirm ≡ None → (act_resv p c e m f).asked ≡ None
   pub wish : (p : Place) (c e : ℕ) (m : ResvMsg) (f : Facts) (a : Addr) → m.confirm ≡ Some a
       → (act_resv p c e m f).asked ≡ Some (record { session = m.session; confirm = a; iface = e; hop = m.hop.addr; taken = ask_of (ask_style m.ask) (taking p c e m f).taken })
+
+-- ---- the units of a Resv, one by one
+-- a reservation that a unit of the list made
+pub record IsOfUnit (o : Asker) (all : Names) (us : List AskedUnit) (k : LineKey) (r : ResvState) : Type 0 where
+  pub unit : AskedUnit
+  pub asks : In unit us
+  pub key : k ≡ key_at o unit.unit
+  pub senders : r.part.senders ≡ names_that_match unit.names all
+  pub flow : r.part.flow ≡ unit.flow
+  pub named : has_name r.part ≡ true
+  pub dies : r.dies ≡ o.dies
+
+pub record UnitsOneByOne : Type 0 where
+  -- a unit that has room and is not refused takes its place
+  pub taken : (p : Place) (o : Asker) (f : Facts) (all : Names) (t : Taking) (u : AskedUnit) (part : Part) → part_of (names_that_match u.names all) u.flow ≡ Some part → has_room o u.unit part t.table ≡ true
+      → book_refuses p o f u.unit part t.table ≡ None → (take_unit p o f all t u).table ≡ table_with o u.unit part t.table
+  -- one that is refused, or left out, or has nobody, changes no reservation
+  pub refused : (p : Place) (o : Asker) (f : Facts) (all : Names) (t : Taking) (u : AskedUnit) (part : Part) (why : Refused) → part_of (names_that_match u.names all) u.flow ≡ Some part → has_room o u.unit part t.table ≡ true
+      → book_refuses p o f u.unit part t.table ≡ Some why → (take_unit p o f all t u).table ≡ t.table
+  pub left_out : (p : Place) (o : Asker) (f : Facts) (all : Names) (t : Taking) (u : AskedUnit) (part : Part) → part_of (names_that_match u.names all) u.flow ≡ Some part → has_room o u.unit part t.table ≡ false
+      → ((take_unit p o f all t u).table ≡ t.table) × ((take_unit p o f all t u).left_out ≡ true)
+  pub nobody : (p : Place) (o : Asker) (f : Facts) (all : Names) (t : Taking) (u : AskedUnit) → part_of (names_that_match u.names all) u.flow ≡ None → (take_unit p o f all t u).table ≡ t.table
+  -- its place is that of its next hop and unit, and no other reservation changes
+  pub at : (o : Asker) (u : UnitOf) (part : Part) (t : Resvs) → get (table_with o u part t) (key_at o u) ≡ Some (resv_state o part (get t (key_at o u)))
+  pub beside : (o : Asker) (u : UnitOf) (part : Part) (t : Resvs) (k : LineKey) → (k ≡ key_at o u → ⊥) → get (table_with o u part t) k ≡ get t k
+  -- so what stands after all of them stood before, or is of one of them
+  pub source : (p : Place) (o : Asker) (f : Facts) (all : Names) (us : List AskedUnit) (t : Taking) (k : LineKey) (r : ResvState) → get (take_units p o f all t us).table k ≡ Some r → (get t.table k ≡ Some r) ⊎ IsOfUnit o all us k r
+  pub others : (p : Place) (o : Asker) (f : Facts) (all : Names) (us : List AskedUnit) (t : Taking) (k : LineKey) → ((u : AskedUnit) → In u us → k ≡ key_at o u.unit → ⊥) → get (take_units p o f all t us).table k ≡ get t.table k
+  -- and a refusal that was made stays made
+  pub errors : (p : Place) (o : Asker) (f : Facts) (all : Names) (us : List AskedUnit) (t : Taking) (e : ErrSend) → In e t.errors → In e (take_units p o f all t us).errors

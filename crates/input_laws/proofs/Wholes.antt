@@ -21,9 +21,9 @@ use Rattle.router_rules.specs.Facts.{Facts, Resvs, ResvTables, with_resvs}
 use Rattle.router_rules.specs.Inputs.{ErrSend}
 use Rattle.router_rules.specs.Known.{known}
 use Rattle.router_rules.specs.Place.{Place}
-use Rattle.rule_laws.specs.AskLaws.{IsBookRefusal, IsLeftOut, IsLoss, IsTaken, IsTried, IsUnitAt, ResvsInSteps, UnitsInFull, book_refusal, told_before}
 use Rattle.rule_laws.proofs.Leaving.{as_it_was, table_other, table_put}
-use Rattle.rule_laws.proofs.Taking.{unit_by, units_errors}
+use Rattle.input_laws.specs.AskLaws.{IsBookRefusal, IsLeftOut, IsLoss, IsTaken, IsTried, IsUnitAt, ResvsInSteps, UnitsInFull, book_refusal, told_before}
+use Rattle.input_laws.proofs.Taking.{unit_by, units_errors}
 
 -- ---- units with all that is done
 module _ (p : Place) (o : Asker) (f : Facts) (all : Names) where

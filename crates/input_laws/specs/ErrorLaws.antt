@@ -13,18 +13,19 @@ use Rattle.rsvp_base.specs.Members.{In}
 use Rattle.rsvp_base.specs.Orders.{Names, units}
 use Rattle.rsvp_base.specs.Sets.{listed}
 use Rattle.rsvp_base.specs.Table.{get, has, size}
+use Rattle.rsvp_base.specs.TokenBucket.{TokenBucket}
+use Rattle.style_rules.specs.Lines.{NextHop, next_hops}
 use Rattle.rsvp_messages.specs.declared.fault.MsgErr.{MsgErr}
 use Rattle.rsvp_messages.specs.declared.message.Kind.TheVariants as kind
 use Rattle.rsvp_messages.specs.declared.message.Message.{Message}
 use Rattle.rsvp_messages.specs.declared.message.PathErrMsg.{PathErrMsg}
 use Rattle.rsvp_messages.specs.declared.message.ResvErrMsg.{ResvErrMsg}
-use Rattle.style_rules.specs.Lines.{NextHop, next_hops}
 use Rattle.router_rules.specs.declared.answers.Heard.TheVariants as heard
 use Rattle.router_rules.specs.declared.answers.Why.TheVariants as why
 use Rattle.router_rules.specs.Act.{act, act_message, is_mine}
 use Rattle.router_rules.specs.Asking.{answered}
-use Rattle.router_rules.specs.Errors.{act_path_err, act_resv_err, act_unspelt, answer_of, blamed, error_to, errors_on, is_told, lane_of, reply_to, sets_walls, walled_by, walls_with}
-use Rattle.router_rules.specs.Facts.{Facts, PathState, ResvState, WallKey, Walls, resvs_of}
+use Rattle.router_rules.specs.Errors.{act_path_err, act_resv_err, act_unspelt, answer_of, blamed, error_to, errors_on, is_told, lane_of, reply_to, sets_walls, walled_by, walls_with, blockade_of, is_admission}
+use Rattle.router_rules.specs.Facts.{Facts, PathState, ResvState, WallKey, Walls, resvs_of, Blockade}
 use Rattle.router_rules.specs.Inputs.{Came, Change, ErrSend, OfPath, OfResv, Spelt, Unspelt, only_heard}
 use Rattle.router_rules.specs.Known.{Lane}
 use Rattle.router_rules.specs.Place.{Place, goes_out, own}
@@ -139,3 +140,10 @@ pub record ErrorsOnceEach : Type 0 where
   pub exactly : (p : Place) (f : Facts) (l : Lane) (m : ResvErrMsg) (e : ErrSend) → In e (errors_on p f l m) ↔ IsErrorTo p f l m e
   pub told : (p : Place) (f : Facts) (l : Lane) (m : ResvErrMsg) (hop : NextHop) (unit : UnitOf) (names : Option Names) → IsSpokenOf p f l m hop unit names → (e : ErrSend) × In e (errors_on p f l m) × (e.iface ≡ hop.0) × (e.dst ≡ hop.1)
   pub once : (p : Place) (f : Facts) (l : Lane) (m : ResvErrMsg) → AreOnce (each (λ (e : ErrSend). (e.iface, e.dst)) (errors_on p f l m))
+
+-- ---- what errors blockade
+pub record ErrorsAndWalls : Type 0 where
+  -- a blockade was there, or the error set it
+  pub source : (p : Place) (c e : ℕ) (m : ResvErrMsg) (w : Walls) (k : WallKey) (b : Blockade) → get (walls_with p c e m m.blame.flow w) k ≡ Some b
+      → (get w k ≡ Some b) ⊎ ((flow : TokenBucket) × (m.blame.flow ≡ Some flow) × (is_admission m.err ≡ true) × In k (walled_by e m m.blame.style) × (b ≡ blockade_of p c m flow))
+  pub set : (p : Place) (c e : ℕ) (m : ResvErrMsg) (w : Walls) (k : WallKey) (flow : TokenBucket) → is_admission m.err ≡ true → In k (walled_by e m m.blame.style) → get (walls_with p c e m (Some flow) w) k ≡ Some (blockade_of p c m flow)

@@ -29,11 +29,11 @@ use Rattle.router_rules.specs.Facts.{Facts, PathState, Resvs, ResvState, ResvTab
 use Rattle.router_rules.specs.Inputs.{ConfSend, only_heard}
 use Rattle.router_rules.specs.Paths.{act_path, act_path_tear, is_path_by, learn, learn_inward, learnt, path_state, tear_path, torn_path, with_paths}
 use Rattle.router_rules.specs.Place.{Place, comes_in}
-use Rattle.rule_laws.specs.MessageLaws.{ConfirmationsByWish, IsConfOn, PathsByTests, ResvTearsByNames}
 use Rattle.rule_laws.specs.RuleLaws.{IsLeft}
 use Rattle.rule_laws.proofs.Leaving.{as_it_was, left_told, table_put}
 use Rattle.rule_laws.proofs.Lists.{got_with_rows, in_filter_map, in_values, passed, some_same, to_values}
 use Rattle.rule_laws.proofs.Once.{given_rise, last_stands, last_told, someone_last}
+use Rattle.input_laws.specs.MessageLaws.{ConfirmationsByWish, IsConfOn, PathsByTests, ResvTearsByNames}
 
 -- ---- Paths
 inward_is : (p : Place) (c e : ℕ) (m : PathMsg) (f : Facts) (x : Sender) (tspec : TokenBucket) (b : Bool) → m.sender ≡ Some (x, tspec) → comes_in p m.session e x ≡ b → act_path p c e m f ≡ with_paths f (learn_inward p c e m x tspec b f.paths)

@@ -15,8 +15,8 @@ use Rattle.router_rules.specs.Errors.{blockade_of, error_to, is_admission, walle
 use Rattle.router_rules.specs.Facts.{Blockade, WallKey, Walls, wall_keys}
 use Rattle.router_rules.specs.Inputs.{ErrSend}
 use Rattle.router_rules.specs.Place.{Place}
-use Rattle.rule_laws.specs.RuleLaws.{ErrorsAndWalls}
 use Rattle.rule_laws.proofs.Lists.{got_with_rows, some_same}
+use Rattle.input_laws.specs.ErrorLaws.{ErrorsAndWalls}
 
 -- ---- errors that go on
 pub same_hop : (p : Place) (m : ResvErrMsg) (hop : NextHop) (w : Option (Option Names)) (k : NextHop) (e : ErrSend) → error_to p m hop w ≡ Some (k, e)

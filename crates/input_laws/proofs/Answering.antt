@@ -12,9 +12,9 @@ use Rattle.router_rules.specs.Act.{act_spelt}
 use Rattle.router_rules.specs.Errors.{PathFrom, ResvFrom, addressee, answer_of, fault_code, replied, reply, reply_to, with_errors}
 use Rattle.router_rules.specs.Inputs.{ErrSend}
 use Rattle.router_rules.specs.Place.{Place, is_addr, own}
-use Rattle.rule_laws.specs.ErrorLaws.{ArrivalsByAddress, FaultsByHint, IsPathReply, IsResvReply, path_reply, resv_reply}
 use Rattle.rule_laws.proofs.Lists.{passed, some_same}
 use Rattle.rule_laws.proofs.Tests.{addr_told, addr_tested}
+use Rattle.input_laws.specs.ErrorLaws.{ArrivalsByAddress, FaultsByHint, IsPathReply, IsResvReply, path_reply, resv_reply}
 
 pub arrivals_by_address : ArrivalsByAddress
 arrivals_by_address =

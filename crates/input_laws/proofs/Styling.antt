@@ -24,12 +24,12 @@ use Rattle.router_rules.specs.Facts.{Facts, Want, resvs_in, resvs_of, wants_in}
 use Rattle.router_rules.specs.Known.{known}
 use Rattle.router_rules.specs.Place.{Place, goes_out}
 use Rattle.router_rules.specs.Requests.{is_style}
-use Rattle.rule_laws.specs.AskLaws.{IsConflict, IsResvIn, IsWantIn, LossesByNames, StylesInConflict}
 use Rattle.rule_laws.specs.FactLaws.{IsNamed}
 use Rattle.rule_laws.proofs.Knowing.{named_told, named_made}
 use Rattle.rule_laws.proofs.Lists.{has_some, in_values, some_same, to_values}
 use Rattle.rule_laws.proofs.Sending.{not_told}
 use Rattle.rule_laws.proofs.Tests.{style_told, ties}
+use Rattle.input_laws.specs.AskLaws.{IsConflict, IsResvIn, IsWantIn, LossesByNames, StylesInConflict}
 
 -- ---- tables that have a row
 pub some_row : {K X : Type 0} (o : Keys K) (m : Table o X) → nat_lt 0 (size m) ≡ true → (k : K) × (x : X) × (get m k ≡ Some x)

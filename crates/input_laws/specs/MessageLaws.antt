@@ -22,8 +22,8 @@ use Rattle.router_rules.specs.Inputs.{ConfSend, only_heard}
 use Rattle.router_rules.specs.Known.{came_by}
 use Rattle.router_rules.specs.Paths.{act_path, act_path_tear, path_state}
 use Rattle.router_rules.specs.Place.{Place, comes_in, is_own}
-use Rattle.rule_laws.specs.ErrorLaws.{AreOnce}
 use Rattle.rule_laws.specs.RuleLaws.{IsLeft}
+use Rattle.input_laws.specs.ErrorLaws.{AreOnce}
 
 -- ---- a Path is dropped for one of three reasons, and else learnt; a PathTear takes away the path of its hop
 pub record PathsByTests : Type 0 where

@@ -1,0 +1,9 @@
+pub mod Taking
+pub mod Telling
+pub mod Erring
+pub mod Answering
+pub mod Receiving
+pub mod Styling
+pub mod Wholes
+pub mod Quiet
+pub mod Calling

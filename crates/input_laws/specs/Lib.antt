@@ -1,0 +1,4 @@
+pub mod MessageLaws
+pub mod ErrorLaws
+pub mod AskLaws
+pub mod CallLaws
