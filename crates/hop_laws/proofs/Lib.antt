@@ -1,3 +1,4 @@
 pub mod ResvLines
+pub mod Tears
 pub mod Said
 pub mod Example

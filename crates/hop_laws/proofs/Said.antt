@@ -1,6 +1,7 @@
 -- What is said again and again over a hop is kept: a reservation that is refreshed.
 use Rattle.std.proofs.Common.{◌≡◌, ℕ, ◌+◌, ◌*◌, ◌<◌, ◌≤◌, List, length, Bool, true, false, Option, None, Some, ◌⊎◌, inl, inr, ⊎_elim, arith, sym, refl, ap, subst, ◌∙◌}
-use Rattle.std.specs.Prelude.{slice_get, ◌==◌, ◌&&◌, ◌||◌, is_some, max, min, ◌/◌}
+use Rattle.std.specs.Prelude.{slice_get, ◌==◌, ◌&&◌, ◌||◌, not, is_some, max, min, ◌/◌}
+use Rattle.std.specs.List.{list_all}
 use Rattle.std.specs.Option.{option_map}
 use Rattle.rsvp_base.specs.declared.addr.Addr.{Addr}
 use Rattle.rsvp_base.specs.declared.part.Part.{Part}
@@ -9,15 +10,18 @@ use Rattle.rsvp_base.specs.declared.session.Session.{Session}
 use Rattle.rsvp_base.specs.declared.style.StyleKind.{StyleKind}
 use Rattle.rsvp_base.specs.declared.style.StyleKind.TheVariants.{Wild, Fixed, Shared}
 use Rattle.rsvp_base.specs.Members.{In}
-use Rattle.rsvp_base.specs.Orders.{sessions, styles}
+use Rattle.rsvp_base.specs.Orders.{senders, sessions, styles}
 use Rattle.rsvp_base.specs.Table.{get, has, empty}
+use Rattle.rsvp_base.proofs.Counts.{found_in, in_found}
+use Rattle.rsvp_base.proofs.Members.{all_in, in_all}
 use Rattle.rsvp_base.proofs.SetLaws.{and_both, and_made}
 use Rattle.rsvp_messages.specs.declared.ask.Ask.{Ask}
 use Rattle.rsvp_messages.specs.declared.message.Message.{Message}
 use Rattle.rsvp_messages.specs.declared.message.Message.TheVariants as message
 use Rattle.rsvp_messages.specs.declared.message.PathMsg.{PathMsg}
 use Rattle.rsvp_messages.specs.declared.message.ResvMsg.{ResvMsg}
-use Rattle.rsvp_messages.specs.Units.{ask_style, tear_style}
+use Rattle.rsvp_messages.specs.declared.message.ResvTearMsg.{ResvTearMsg}
+use Rattle.rsvp_messages.specs.Units.{ask_style, tear_names, tear_style}
 use Rattle.style_rules.specs.Lines.{LineKey}
 use Rattle.calm_rounds.specs.Hold.{Hold}
 use Rattle.calm_rounds.specs.Lines.{Line, DueLaws, Good, Moves, Stands}
@@ -25,7 +29,7 @@ use Rattle.calm_rounds.specs.Rounds.{Rounds}
 use Rattle.calm_rounds.proofs.Holding.{hold_map, hold_both, hold_start, hold_keep}
 use Rattle.calm_rounds.proofs.Renewing.{what_is_said_is_kept}
 use Rattle.demand_laws.specs.Goals.{addr_of}
-use Rattle.router_rules.specs.Asking.{ask_of}
+use Rattle.router_rules.specs.Asking.{ask_of, stays}
 use Rattle.router_rules.specs.Facts.{Facts, PathState, resvs_of}
 use Rattle.router_rules.specs.Inputs.{Arrival, Input, Came, Send, Spelt, Unspelt}
 use Rattle.router_rules.specs.Known.{known, named_as, lanes}
@@ -63,24 +67,37 @@ use Rattle.network_laws.proofs.Known.{of_some, has_some, or_true, known_hold, no
 use Rattle.network_laws.proofs.Sends.{sent_by_rule}
 use Rattle.network_laws.proofs.Standing.{own_end, peer_there, linked_there}
 use Rattle.hop_laws.specs.ResvLines.{ResvKey, SaysResv, IsCut, line_key_of, resv_at, kept_of, kept_at, resv_line}
-use Rattle.hop_laws.specs.Said.{IsOver, IsSaid, lane_of}
+use Rattle.hop_laws.specs.Said.{IsOver, IsSaid, Spares, lane_of}
 use Rattle.hop_laws.proofs.ResvLines.{resv_found, resv_made, kept_found}
+use Rattle.hop_laws.proofs.Tears.{a_sparing_tear_leaves_it}
 
--- ---- letters: Resvs and ResvTears of the session and style, from the end that asks to the end that keeps
+-- ---- letters: Resvs of the session and style, from the end that asks to the end that keeps, and such ResvTears that take a
+-- name of the part
 abbrev speaks : Net → ResvKey → Session → Addr → StyleKind → Bool
 speaks net k s a st = is_session s k.session && (is_addr a (addr_of net k.from) && is_style st k.style)
 
-abbrev letter_message : Net → ResvKey → Message → Bool
-letter_message net k (message.Resv m) = speaks net k m.session m.hop.addr (ask_style m.ask)
-letter_message net k (message.ResvTear m) = speaks net k m.session m.hop.addr (tear_style m.tear)
-letter_message net k _ = false
+abbrev spares_all : ResvTearMsg → Part → Bool
+spares_all m v = list_all (λ (e : Sender × Unit {0}). stays (tear_names m.tear) e.0) v.senders.rows
 
-abbrev letter_arrival : Net → ResvKey → Arrival → Bool
-letter_arrival net k (Spelt m) = letter_message net k m
-letter_arrival net k (Unspelt e) = false
+abbrev letter_message : Net → ResvKey → Part → Message → Bool
+letter_message net k v (message.Resv m) = speaks net k m.session m.hop.addr (ask_style m.ask)
+letter_message net k v (message.ResvTear m) = speaks net k m.session m.hop.addr (tear_style m.tear) && not (spares_all m v)
+letter_message net k v _ = false
 
-abbrev is_letter : Net → ResvKey → Item → Bool
-is_letter net k y = (y.end == k.to) && letter_arrival net k y.arrival
+abbrev letter_arrival : Net → ResvKey → Part → Arrival → Bool
+letter_arrival net k v (Spelt m) = letter_message net k v m
+letter_arrival net k v (Unspelt e) = false
+
+abbrev is_letter : Net → ResvKey → Part → Item → Bool
+is_letter net k v y = (y.end == k.to) && letter_arrival net k v y.arrival
+
+spares_told : (m : ResvTearMsg) (v : Part) → spares_all m v ≡ true → Spares m v
+spares_told m v t x h =
+    let w = has_some (get v.senders x) h in
+    all_in (λ (e : Sender × Unit {0}). stays (tear_names m.tear) e.0) v.senders.rows t (x, w.0) (found_in senders v.senders x w.0 w.1)
+
+spares_made : (m : ResvTearMsg) (v : Part) → Spares m v → spares_all m v ≡ true
+spares_made m v spared = in_all (λ (e : Sender × Unit {0}). stays (tear_names m.tear) e.0) v.senders.rows (λ e i. spared e.0 (ap (λ (o : Option (Unit {0})). is_some o) (in_found senders v.senders e.0 e.1 i)))
 
 speaks_told : (net : Net) (k : ResvKey) (y : Item) (s : Session) (a : Addr) (st : StyleKind) → y.end ≡ k.to → speaks net k s a st ≡ true → IsOver net k y s a st
 speaks_told net k y s a st end e =
@@ -152,7 +169,7 @@ module _ (q : ℕ) (o : World) (k : ResvKey) (valid : IsValid o.net) (linked : I
     sane = IsFirm;
     kept = kept_at o.net k;
     says = λ y x. (b ≤ y.born) × SaysResv o.net k y x;
-    letter = is_letter o.net k;
+    letter = is_letter o.net k v;
     life = λ y. life_of q y.arrival;
     below = IsCut;
     due = λ u. due_at u at_from k.session;
@@ -164,22 +181,26 @@ module _ (q : ℕ) (o : World) (k : ResvKey) (valid : IsValid o.net) (linked : I
   abbrev Tells : Item → Type 0
   Tells y = ((b ≤ y.born) × SaysResv o.net k y v) × (life_of q y.arrival ≡ 21 * q)
 
-  letters : (u : World) → IsFirm u → (y : Item) → In y u.flight → b ≤ y.born → is_letter o.net k y ≡ true → Tells y
-  letters u g y i born is = let both = and_both (y.end == k.to) (letter_arrival o.net k y.arrival) is in by y.arrival refl (same_number y.end k.to both.0) both.1
+  letters : (u : World) → IsFirm u → (y : Item) → In y u.flight → b ≤ y.born → is_letter o.net k v y ≡ true → Tells y
+  letters u g y i born is = let both = and_both (y.end == k.to) (letter_arrival o.net k v y.arrival) is in by y.arrival refl (same_number y.end k.to both.0) both.1
     where
-      by_message : (m : Message) → y.arrival ≡ Spelt m → y.end ≡ k.to → letter_message o.net k m ≡ true → Tells y
+      by_message : (m : Message) → y.arrival ≡ Spelt m → y.end ≡ k.to → letter_message o.net k v m ≡ true → Tells y
       by_message (message.Resv m) a end h = (
         (born, g.said.carried y m i born a (speaks_told o.net k y m.session m.hop.addr (ask_style m.ask) end h)),
         ap (life_of q) a ∙ ap (λ (z : ℕ). (21 * max 1 (min z (4 * q)) + 3) / 4) (g.full y m i born a) ∙ full_life q g.known.bounds.period,
       )
-      by_message (message.ResvTear m) a end h = absurd (g.said.no_tear y m i born a (speaks_told o.net k y m.session m.hop.addr (tear_style m.tear) end h))
+      by_message (message.ResvTear m) a end h =
+          let both = and_both (speaks o.net k m.session m.hop.addr (tear_style m.tear)) (not (spares_all m v)) h in
+          let spared = g.said.spared y m i born a (speaks_told o.net k y m.session m.hop.addr (tear_style m.tear) end both.0) in
+          let bad : true ≡ false = sym both.1 ∙ ap not (spares_made m v spared) in
+          absurd (cc)
       by_message (message.Path m) a end h = absurd (cc)
       by_message (message.PathTear m) a end h = absurd (cc)
       by_message (message.PathErr m) a end h = absurd (cc)
       by_message (message.ResvErr m) a end h = absurd (cc)
       by_message (message.ResvConf m) a end h = absurd (cc)
 
-      by : (x : Arrival) → y.arrival ≡ x → y.end ≡ k.to → letter_arrival o.net k x ≡ true → Tells y
+      by : (x : Arrival) → y.arrival ≡ x → y.end ≡ k.to → letter_arrival o.net k v x ≡ true → Tells y
       by (Spelt m) a end h = by_message m a end h
       by (Unspelt f) a end h = absurd (cc)
 
@@ -226,31 +247,58 @@ module _ (q : ℕ) (o : World) (k : ResvKey) (valid : IsValid o.net) (linked : I
   }
 
   -- ---- where no letter arrives it stays until it dies
-  untouched : (s : Step) (u : World) → IsKnown q o u → ((y : Item) → arrived s u ≡ Some y → is_letter o.net k y ≡ false) → is_quiet s ≡ true → (i : Input) → IsWaited s u at_to i ⊎ IsCame s u at_to i → Touches i k.style key → ⊥
-  untouched s u a none quiet i (inl w) t = subst (λ (z : Input). Touches z k.style key) w.is t
-  untouched s u a none quiet i (inr c) t = by c.item.arrival refl (subst (λ (z : Input). Touches z k.style key) c.is t)
+  pub record IsSpared (i : Input) : Type 0 where
+    pub at : ℕ
+    pub dst : Addr
+    pub tear : ResvTearMsg
+    pub came : i ≡ Came at dst (Spelt (message.ResvTear tear))
+    pub style : tear_style tear.tear ≡ k.style
+    pub spared : Spares tear v
+
+  untouched : (s : Step) (u : World) → IsKnown q o u → ((y : Item) → arrived s u ≡ Some y → is_letter o.net k v y ≡ false) → is_quiet s ≡ true → (i : Input) → IsWaited s u at_to i ⊎ IsCame s u at_to i → (Touches i k.style key → ⊥) ⊎ IsSpared i
+  untouched s u a none quiet i (inl w) = inl (λ t. subst (λ (z : Input). Touches z k.style key) w.is t)
+  untouched s u a none quiet i (inr c) = by c.item.arrival refl
     where
-      no : (m : Message) → c.item.arrival ≡ Spelt m → iface_of u.net.ends c.item.end ≡ iface_of o.net.ends k.to → letter_message o.net k m ≡ true → ⊥
+      came : (x : Arrival) → c.item.arrival ≡ x → i ≡ Came (iface_of u.net.ends c.item.end) c.item.dst x
+      came x e = c.is ∙ ap (Came (iface_of u.net.ends c.item.end) c.item.dst) e
+
+      apart : (m : Message) → c.item.arrival ≡ Spelt m → (TouchesBy (iface_of u.net.ends c.item.end) m k.style key → ⊥) → (Touches i k.style key → ⊥) ⊎ IsSpared i
+      apart m e other = inl (λ t. other (subst (λ (z : Input). Touches z k.style key) (came (Spelt m) e) t))
+
+      no : (m : Message) → c.item.arrival ≡ Spelt m → iface_of u.net.ends c.item.end ≡ iface_of o.net.ends k.to → letter_message o.net k v m ≡ true → ⊥
       no m e iface letter =
           let end : c.item.end ≡ k.to = end_found q o u a k.to lt s i c iface in
-          let yes : is_letter o.net k c.item ≡ true = and_made _ _ (number_same c.item.end k.to end) (ap (letter_arrival o.net k) e ∙ letter) in
+          let yes : is_letter o.net k v c.item ≡ true = and_made _ _ (number_same c.item.end k.to end) (ap (letter_arrival o.net k v) e ∙ letter) in
           let bad : true ≡ false = sym yes ∙ none c.item c.arrives in
           absurd (cc)
 
-      by_message : (m : Message) → c.item.arrival ≡ Spelt m → TouchesBy (iface_of u.net.ends c.item.end) m k.style key → ⊥
-      by_message (message.Resv m) e t = no (message.Resv m) e t.1 (speaks_made o.net k m.session m.hop.addr (ask_style m.ask) t.0 t.2 t.3)
-      by_message (message.ResvTear m) e t = no (message.ResvTear m) e t.1 (speaks_made o.net k m.session m.hop.addr (tear_style m.tear) t.0 t.2 t.3)
-      by_message (message.Path m) e t = t
-      by_message (message.PathTear m) e t = t
-      by_message (message.PathErr m) e t = t
-      by_message (message.ResvErr m) e t = t
-      by_message (message.ResvConf m) e t = t
+      by_tear : (m : ResvTearMsg) → c.item.arrival ≡ Spelt (message.ResvTear m) → (x y : Bool) → speaks o.net k m.session m.hop.addr (tear_style m.tear) ≡ x → spares_all m v ≡ y → (Touches i k.style key → ⊥) ⊎ IsSpared i
+      by_tear m e false y h g = apart (message.ResvTear m) e (λ t. let bad : true ≡ false = sym (speaks_made o.net k m.session m.hop.addr (tear_style m.tear) t.0 t.2 t.3) ∙ h in absurd (cc))
+      by_tear m e true false h g = apart (message.ResvTear m) e (λ t. no (message.ResvTear m) e t.1 (and_made _ _ h (ap not g)))
+      by_tear m e true true h g =
+          inr (record {
+            at = iface_of u.net.ends c.item.end;
+            dst = c.item.dst;
+            tear = m;
+            came = came (Spelt (message.ResvTear m)) e;
+            style = style_told (tear_style m.tear) k.style (and_both _ _ (and_both _ _ h).1).1;
+            spared = spares_told m v g;
+          })
 
-      by : (x : Arrival) → c.item.arrival ≡ x → Touches (Came (iface_of u.net.ends c.item.end) c.item.dst x) k.style key → ⊥
-      by (Spelt m) e t = by_message m e t
-      by (Unspelt f) e t = t
+      by_message : (m : Message) → c.item.arrival ≡ Spelt m → (Touches i k.style key → ⊥) ⊎ IsSpared i
+      by_message (message.Resv m) e = apart (message.Resv m) e (λ t. no (message.Resv m) e t.1 (speaks_made o.net k m.session m.hop.addr (ask_style m.ask) t.0 t.2 t.3))
+      by_message (message.ResvTear m) e = by_tear m e (speaks o.net k m.session m.hop.addr (tear_style m.tear)) (spares_all m v) refl refl
+      by_message (message.Path m) e = apart (message.Path m) e (λ t. t)
+      by_message (message.PathTear m) e = apart (message.PathTear m) e (λ t. t)
+      by_message (message.PathErr m) e = apart (message.PathErr m) e (λ t. t)
+      by_message (message.ResvErr m) e = apart (message.ResvErr m) e (λ t. t)
+      by_message (message.ResvConf m) e = apart (message.ResvConf m) e (λ t. t)
 
-  rests : (s : Step) (u : World) (dies : ℕ) → is_quiet s ≡ true → IsFirm u → IsFirm (step q s u) → ((y : Item) → arrived s u ≡ Some y → is_letter o.net k y ≡ false) → kept_at o.net k u ≡ Some (v, dies) → (step q s u).clock < dies → kept_at o.net k (step q s u) ≡ Some (v, dies)
+      by : (x : Arrival) → c.item.arrival ≡ x → (Touches i k.style key → ⊥) ⊎ IsSpared i
+      by (Spelt m) e = by_message m e
+      by (Unspelt f) e = inl (λ t. subst (λ (z : Input). Touches z k.style key) (came (Unspelt f) e) t)
+
+  rests : (s : Step) (u : World) (dies : ℕ) → is_quiet s ≡ true → IsFirm u → IsFirm (step q s u) → ((y : Item) → arrived s u ≡ Some y → is_letter o.net k v y ≡ false) → kept_at o.net k u ≡ Some (v, dies) → (step q s u).clock < dies → kept_at o.net k (step q s u) ≡ Some (v, dies)
   rests s u dies quiet g g' none kept later =
       let x = kept_found (resv_at u at_to k.style key) v dies kept in
       let f = resv_found u at_to k.style key x.0 x.1 in
@@ -264,10 +312,15 @@ module _ (q : ℕ) (o : World) (k : ResvKey) (valid : IsValid o.net) (linked : I
       (λ (r : FollowsRule q s u at_to f.0 (outcome q s u at_to f.0)).
       let same : (outcome q s u at_to f.0).facts ≡ facts_then p p c r.input f.0 = ap (λ (z : Outcome). z.facts) r.is in
       let lives : c < x.0.dies = omega (arith, later, x.3) in
+      let within = g.known.bounds.facts at_to f.0 f.1 in
+      let all : (name : Sender) → has x.0.part.senders name ≡ true → has (named_as k.style (known (facts_then p p c r.input f.0) k.session)) name ≡ true =
+      (λ name has_it. ap (λ (z : Facts). has (named_as k.style (known z k.session)) name) (sym same) ∙ g'.said.known (outcome q s u at_to f.0).facts after name (ap (λ (z : Part). has z.senders name) x.2 ∙ has_it)) in
       ends
       (ap (λ (z : Facts). get (resvs_of k.style z) key) same
-      ∙ what_keeps_a_reservation_fact.whole p p u.clock c r.input f.0 (g.known.bounds.facts at_to f.0 f.1) k.style key x.0 f.2 lives (untouched s u g.known none quiet r.input (input_found s u at_to r.input quiet r.came))
-      (λ name has_it. ap (λ (z : Facts). has (named_as k.style (known z k.session)) name) (sym same) ∙ g'.said.known (outcome q s u at_to f.0).facts after name (ap (λ (z : Part). has z.senders name) x.2 ∙ has_it))))
+      ∙ ⊎_elim (λ (apart : Touches r.input k.style key → ⊥). what_keeps_a_reservation_fact.whole p p u.clock c r.input f.0 within k.style key x.0 f.2 lives apart all)
+      (λ (t : IsSpared r.input).
+      a_sparing_tear_leaves_it p p c t.at t.dst t.tear r.input f.0 k.style key x.0 t.came t.style (within.shapes.resvs k.style key x.0 f.2).style.named (λ y h. t.spared y (ap (λ (z : Part). has z.senders y) x.2 ∙ h)) f.2 all)
+      (untouched s u g.known none quiet r.input (input_found s u at_to r.input quiet r.came))))
       (outcome_quiet q s u at_to f.0 quiet)
 
   -- ---- the refresh of the hop
@@ -307,21 +360,21 @@ module _ (q : ℕ) (o : World) (k : ResvKey) (valid : IsValid o.net) (linked : I
       ((copy_to u.made send k.to).0, sent_made q s u at_from r.facts (copy_to u.made send k.to) r.there made, (λ i. Some (record { from = own_is i; to = k.to; session = k.session; key = OfStyle (style_is i) })))
 
   -- what goes on the lane is a letter
-  on_lane : (y : Item) → lane y ≡ Some over → is_letter o.net k y ≡ true
+  on_lane : (y : Item) → lane y ≡ Some over → is_letter o.net k v y ≡ true
   on_lane y e = by y.arrival refl e
     where
       no_path : (m : PathMsg) (x : Option Sender) → path_lane y.end m.hop.addr m.session x ≡ Some over → ⊥
       no_path m None f = absurd (cc)
       no_path m (Some x) f = let same = of_some _ over f in let bad : OfSender x ≡ OfStyle k.style = ap (λ (z : Lane). z.key) same in absurd (cc)
 
-      by_message : (m : Message) → y.arrival ≡ Spelt m → arrival_lane y.end (Spelt m) ≡ Some over → is_letter o.net k y ≡ true
+      by_message : (m : Message) → y.arrival ≡ Spelt m → arrival_lane y.end (Spelt m) ≡ Some over → is_letter o.net k v y ≡ true
       by_message (message.Resv m) a f =
           let same : ◌≡◌ {A = Lane} (record { from = m.hop.addr; to = y.end; session = m.session; key = OfStyle (ask_style m.ask) }) over = of_some _ over f in
           let to : y.end ≡ k.to = ap (λ (z : Lane). z.to) same in
           let of : OfStyle (ask_style m.ask) ≡ OfStyle k.style = ap (λ (z : Lane). z.key) same in
           let style : ask_style m.ask ≡ k.style = cc in
           and_made _ _ (number_same y.end k.to to)
-          (ap (letter_arrival o.net k) a ∙ speaks_made o.net k m.session m.hop.addr (ask_style m.ask) (ap (λ (z : Lane). z.session) same) (ap (λ (z : Lane). z.from) same) style)
+          (ap (letter_arrival o.net k v) a ∙ speaks_made o.net k m.session m.hop.addr (ask_style m.ask) (ap (λ (z : Lane). z.session) same) (ap (λ (z : Lane). z.from) same) style)
       by_message (message.Path m) a f = absurd (no_path m (sender_of m.sender) f)
       by_message (message.PathTear m) a f = absurd (cc)
       by_message (message.PathErr m) a f = absurd (cc)
@@ -329,7 +382,7 @@ module _ (q : ℕ) (o : World) (k : ResvKey) (valid : IsValid o.net) (linked : I
       by_message (message.ResvTear m) a f = absurd (cc)
       by_message (message.ResvConf m) a f = absurd (cc)
 
-      by : (x : Arrival) → y.arrival ≡ x → arrival_lane y.end x ≡ Some over → is_letter o.net k y ≡ true
+      by : (x : Arrival) → y.arrival ≡ x → arrival_lane y.end x ≡ Some over → is_letter o.net k v y ≡ true
       by (Spelt m) a f = by_message m a f
       by (Unspelt g) a f = absurd (cc)
 

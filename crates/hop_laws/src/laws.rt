@@ -23,8 +23,9 @@ pub fn only_said_resvs_are_kept()
 {}
 
 /// One hop settles, for a reservation: where from now on each Resv of a session and style that is sent over a hop carries a
-/// part for a unit, no such ResvTear is sent over it, what arrives is taken, the node that asks has something to ask for, and
-/// the node that keeps knows the senders of the part, two calm rounds on the reservation there is the part, and stays so.
+/// part for a unit, no such ResvTear takes a name of the part, what arrives is taken, the node that asks has something to ask
+/// for, and the node that keeps knows the senders of the part, two calm rounds on the reservation there is the part, and stays
+/// so.
 pub fn said_resvs_are_kept()
     ensures { (q : ℕ) (w : World) (k : ResvKey) (v : Part) → In k.to (peers w.net.links k.from) → (rs : List (List Step)) → Rounds (machine q) rs w → AreBounds q w
         → Hold (machine q) 0 rs w (IsSaid q w.net k v w.made) → Hold (machine q) 2 rs w (Stands (machine q) (resv_line q w k) v) }
