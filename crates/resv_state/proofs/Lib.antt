@@ -4,5 +4,6 @@ pub mod Tears
 pub mod Forgets
 pub mod Walked
 pub mod Limits
+pub mod Refresh
 pub mod Merged
 pub mod Units

@@ -1,6 +1,6 @@
 -- What a walk along a session's reservations finds, one at a time.
 use Rattle.std.proofs.Common.{◌≡◌, ◌≤◌, ◌<◌, ◌+◌, ℕ, zero, suc, Bool, true, false, cond, ◌||◌, List, [], ◌∷◌, length, drop, Option, Some, None, refl, sym, ap, ◌∙◌, arith}
-use Rattle.std.specs.Prelude.{nat_le, nat_lt}
+use Rattle.std.specs.Prelude.{nat_eq, nat_le, nat_lt}
 use Rattle.std.specs.List.{list_any}
 use Rattle.std.specs.Ordering.{eq_by_cmp}
 use Rattle.std.proofs.lemmas.Bool.Decides.{nat_tests}
@@ -12,6 +12,7 @@ use Rattle.rsvp_base.specs.Under.{sorted_under}
 use Rattle.rsvp_base.specs.declared.session.Session.{Session}
 use Rattle.rsvp_base.proofs.Counts.{has-set_of}
 use Rattle.rsvp_base.proofs.SetLaws.{size-with_key, size-with_rows}
+use Rattle.rsvp_base.proofs.Tables.{either}
 use Rattle.style_rules.specs.Lines.{NextHop, line_keys, next_hops}
 use Rattle.soft_table.specs.Facts.{facts_by}
 use Rattle.soft_table.specs.Walks.{is_last, changes}
@@ -53,13 +54,44 @@ hops_with hop s fs b is =
 below : (n : ℕ) → nat_lt n 64 ≡ nat_le (n + 1) 64
 below n = grind (arith, nat_tests)
 
-pub hop_there : (hop : NextHop) (s : Session) (fs : List (Held × ℕ)) (n : ℕ) → AreRows line_keys held_row fs → n ≡ changes next_hops None (hops_in (held_under s fs)) → list_any (eq_by_cmp next_hops.cmp hop) (hops_in (held_under s fs)) ≡ true
+hop_there : (hop : NextHop) (s : Session) (fs : List (Held × ℕ)) (n : ℕ) → AreRows line_keys held_row fs → n ≡ changes next_hops None (hops_in (held_under s fs)) → list_any (eq_by_cmp next_hops.cmp hop) (hops_in (held_under s fs)) ≡ true
     → nat_le n 64 ≡ nat_le (size (with_hop hop (held_under s fs))) 64
 hop_there hop s fs n up is there = ap (λ m. nat_le m 64) (is ∙ counted s fs up ∙ sym (hops_with hop s fs true there))
 
-pub hop_new : (hop : NextHop) (s : Session) (fs : List (Held × ℕ)) (n : ℕ) → AreRows line_keys held_row fs → n ≡ changes next_hops None (hops_in (held_under s fs)) → list_any (eq_by_cmp next_hops.cmp hop) (hops_in (held_under s fs)) ≡ false
+hop_new : (hop : NextHop) (s : Session) (fs : List (Held × ℕ)) (n : ℕ) → AreRows line_keys held_row fs → n ≡ changes next_hops None (hops_in (held_under s fs)) → list_any (eq_by_cmp next_hops.cmp hop) (hops_in (held_under s fs)) ≡ false
     → nat_lt n 64 ≡ nat_le (size (with_hop hop (held_under s fs))) 64
 hop_new hop s fs n up is new = below n ∙ ap (λ m. nat_le m 64) (ap (λ m. m + 1) (is ∙ counted s fs up) ∙ sym (hops_with hop s fs false new))
+
+-- with fewer than 64 there is room for any
+pub hop_near : (hop : NextHop) (s : Session) (fs : List (Held × ℕ)) (n : ℕ) → AreRows line_keys held_row fs → n ≡ changes next_hops None (hops_in (held_under s fs)) → n < 64 → true ≡ nat_le (size (with_hop hop (held_under s fs))) 64
+hop_near hop s fs n up is few =
+    either (list_any (eq_by_cmp next_hops.cmp hop) (hops_in (held_under s fs))) (λ t. le_test n few ∙ hop_there hop s fs n up is t) (λ t. lt_test n few ∙ hop_new hop s fs n up is t)
+  where
+    le_test : (n : ℕ) → n < 64 → true ≡ nat_le n 64
+    le_test n lt = grind (arith, nat_tests)
+
+    lt_test : (n : ℕ) → n < 64 → true ≡ nat_lt n 64
+    lt_test n lt = grind (arith, nat_tests)
+
+-- with 64 there is room for one of them alone
+pub hop_full : (hop : NextHop) (s : Session) (fs : List (Held × ℕ)) (n : ℕ) → AreRows line_keys held_row fs → n ≡ changes next_hops None (hops_in (held_under s fs)) → n ≡ 64
+    → list_any (eq_by_cmp next_hops.cmp hop) (hops_in (held_under s fs)) ≡ nat_le (size (with_hop hop (held_under s fs))) 64
+hop_full hop s fs n up is full =
+    either (list_any (eq_by_cmp next_hops.cmp hop) (hops_in (held_under s fs)))
+    (λ t. t ∙ ap (λ m. nat_le m 64) (sym full) ∙ hop_there hop s fs n up is t)
+    (λ t. t ∙ ap (λ m. nat_lt m 64) (sym full) ∙ hop_new hop s fs n up is t)
+
+-- and with more for none
+pub hop_over : (hop : NextHop) (s : Session) (fs : List (Held × ℕ)) (n : ℕ) → AreRows line_keys held_row fs → n ≡ changes next_hops None (hops_in (held_under s fs)) → 64 ≤ n → (n ≡ 64 → ⊥)
+    → nat_eq n 64 ≡ nat_le (size (with_hop hop (held_under s fs))) 64
+hop_over hop s fs n up is many more =
+    either (list_any (eq_by_cmp next_hops.cmp hop) (hops_in (held_under s fs))) (λ t. le_test n many more ∙ hop_there hop s fs n up is t) (λ t. lt_test n many more ∙ hop_new hop s fs n up is t)
+  where
+    le_test : (n : ℕ) → 64 ≤ n → (n ≡ 64 → ⊥) → nat_eq n 64 ≡ nat_le n 64
+    le_test n many more = grind (arith, nat_tests)
+
+    lt_test : (n : ℕ) → 64 ≤ n → (n ≡ 64 → ⊥) → nat_eq n 64 ≡ nat_lt n 64
+    lt_test n many more = grind (arith, nat_tests)
 
 -- ---- names
 pub names_here : (r : Rest) (names : Names) (s : Session) (fs : List (Held × ℕ)) (k : ℕ) (f : Held) (st : Step rests held_key s fs k f)

@@ -20,7 +20,7 @@ ghost use Rattle.resv_state.specs.Resvs.{ResvFacts, AreOfStyle, AreUnderTheirKey
 use crate::fact::{Held, ResvFact};
 use crate::leaving::{lessen, only, rest_of};
 use crate::merging::{merge_on, merge_toward};
-use crate::walks::{FACTS, are_all, fits_fact, fits_hop, fits_names, fits_session};
+use crate::walks::{FACTS, are_all, fits_fact, fits_hop, fits_names, fits_session, is_refresh};
 use rsvp_base::{Addr, Full, NoMemory, Part, Sender, Senders, Session, Unit};
 use soft_table::{Finger, SoftTable};
 use std::alloc::Global;
@@ -99,6 +99,9 @@ impl<S: Style> ResvTable<S> {
     {
         let hop = (fact.iface, fact.next);
         let key = (hop, unit_of::<S>(&fact.part));
+        if is_refresh(&self.table, fact.session, &key, &fact.part.senders) {
+            return true;
+        }
         let room = fits_fact(&self.table, fact.session, &key);
         let known = fits_session(&self.table, fact.session);
         let near = fits_hop(&self.table, fact.session, hop);

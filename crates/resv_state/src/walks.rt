@@ -1,18 +1,20 @@
 //! Walks along the reservations of a session: what one more would make of its next hops and names.
-ghost use Rattle.std.specs.Prelude.{◌≡◌, ◌≤◌, ◌+◌, ◌&&◌, [], None, is_some, length, cond, nat_le};
+ghost use Rattle.std.specs.Prelude.{◌≡◌, ◌≤◌, ◌+◌, ◌&&◌, ℕ, [], true, None, Some, is_some, length, cond, nat_le};
 ghost use Rattle.std.specs.FinMap.Entries.{find};
 ghost use Rattle.soft_table.specs.Facts.{facts_by, sessions_in};
 ghost use Rattle.std.specs.List.{list_any};
 ghost use Rattle.std.specs.Ordering.{eq_by_cmp};
 ghost use Rattle.rsvp_base.specs.Rows.{AreRows};
+ghost use Rattle.rsvp_base.specs.Sets.{IsWithin};
 ghost use Rattle.rsvp_base.specs.Table.{size};
+ghost use Rattle.resv_state.specs.declared.fact.Held.{Held};
 ghost use Rattle.style_rules.specs.Lines.{line_keys, next_hops};
 ghost use Rattle.soft_table.specs.Walks.{is_last, changes};
 ghost use Rattle.resv_state.specs.Resvs.{held_key, held_row};
 ghost use Rattle.resv_state.specs.Walks.{AreFew, held_under, hops_in, is_full, rests, with_hop, with_names};
 
 use crate::fact::{Held, rest_order};
-use rsvp_base::{Addr, Part, Session, Unit};
+use rsvp_base::{Addr, Part, Senders, Session, Unit};
 use soft_table::{Fact, Finger, SoftTable};
 use std::cmp::Ordering;
 
@@ -99,11 +101,10 @@ pub(crate) fn fits_hop(table: &SoftTable<Held>, session: Session, hop: (u8, Addr
     ensures { result ≡ nat_le (size (with_hop hop (held_under session table.now.facts))) 64 }
 {
     let count = count_hops(table, session);
-    if has_hop(table, session, hop) {
-        count <= NEXT_HOPS
-    } else {
-        count < NEXT_HOPS
+    if count < NEXT_HOPS {
+        return true;
     }
+    count == NEXT_HOPS && has_hop(table, session, hop)
 }
 
 // Whether a session may have the names of this part, beside those of its reservations but the one of this key.
@@ -134,6 +135,21 @@ pub(crate) fn fits_names(
         next = table.after(session, rest, &mut finger);
     }
     names.len() <= 16
+}
+
+// Whether the fact of a key has all of these senders, so that one with them takes no more room in its place.
+pub(crate) fn is_refresh(
+    table: &SoftTable<Held>,
+    session: Session,
+    key: &((u8, Addr), Unit),
+    senders: &Senders,
+) -> bool
+    ensures { result ≡ true → (e : Held × ℕ) × (find line_keys.cmp (session, key.now) (facts_by held_key table.now.facts) ≡ Some e) × IsWithin senders.now e.0.fact.part.senders }
+{
+    match table.find(session, *key) {
+        Some(held) => senders.is_within(&held.fact.part.senders),
+        None => false,
+    }
 }
 
 // Whether the table may have a fact of this key beside its others.

@@ -1,13 +1,18 @@
-use Rattle.std.proofs.Common.{◌≡◌, ◌+◌, ◌&&◌, cond, is_some, length, ap, ◌∙◌}
+use Rattle.std.proofs.Common.{◌≡◌, ◌+◌, ◌&&◌, Some, cond, is_some, length, sym, ap, ◌∙◌}
+use Rattle.std.specs.Option.{option_map}
 use Rattle.std.specs.Prelude.{nat_le}
 use Rattle.std.specs.FinMap.Entries.{find}
-use Rattle.rsvp_base.specs.Table.{size, put_in}
+use Rattle.rsvp_base.specs.Rows.{table_of}
+use Rattle.rsvp_base.specs.Table.{changed, get, size, put_in}
 use Rattle.style_rules.specs.Limits.{within_limits}
 use Rattle.style_rules.specs.Lines.{line_keys}
+use Rattle.style_rules.proofs.Room.{within_tested}
+use Rattle.soft_table.proofs.Valued.{get-valued}
 use Rattle.soft_table.specs.Facts.{facts_by}
-use Rattle.resv_state.specs.Resvs.{ResvMap, resv_key, resv_lines, held_key}
+use Rattle.resv_state.specs.Resvs.{ResvMap, resv_key, resv_lines, held_key, held_row, fact_of}
 use Rattle.resv_state.specs.Walks.{Rest, held_under, with_names}
-use Rattle.resv_state.proofs.Facts.{no_dead}
+use Rattle.resv_state.proofs.Facts.{no_dead, said}
+use Rattle.resv_state.proofs.Refresh.{still_within}
 use Rattle.resv_state.proofs.Limits.{fits_is, one_fact, one_session, few_facts, few_under, few_sessions}
 use Rattle.resv_state.proofs.table.ResvTable.fits.Goals as goal
 
@@ -37,4 +42,16 @@ returns g c = λ left.
     let b = c.fits_session-known.ensures ∙ one_session st c.self.inside.table.facts c.self.inside.facts s r (c.args.fact.now, left) in
     let d = c.fits_names-named.ensures ∙ ap (λ (q : Rest). nat_le (size (with_names q c.args.fact.now.part.senders (held_under s fs))) 16) own in
     c.are_all.ensures ∙ (λ i. a i && (b i && (c.fits_hop-near.ensures i && d i))) ∙ fits_is st c.self.inside.table.facts c.self.inside.facts s r (c.args.fact.now, left) c.self.inside.within
+    ∙ ap (λ (m : ResvMap). within_limits st (resv_lines st (put_in m.facts (resv_key st c.args.fact.now) (c.args.fact.now, left)))) c.self.view_is
+
+pub returns-then-is_refresh : goal.returns-then-is_refresh
+returns-then-is_refresh g c = λ left.
+    let st = g.S.Style.kind_is in
+    let s = c.args.fact.now.session in
+    let r : Rest = (resv_key st c.args.fact.now).1 in
+    let t = table_of line_keys held_row c.self.inside.table.facts c.self.inside.facts in
+    let own : ◌≡◌ {A = Rest} ((c.args.fact.now.iface, c.args.fact.now.next), c.unit_of.result) r = ap (λ u. ((c.args.fact.now.iface, c.args.fact.now.next), u)) c.unit_of.ensures in
+    let e = c.is_refresh.ensures c.if-is_refresh.true in
+    let stood : get (changed fact_of t) (s, r) ≡ Some (said e.0) = get-valued line_keys said t (s, r) ∙ ap (λ (q : Rest). option_map said (get t (s, q))) (sym own) ∙ ap (option_map said) e.1 in
+    sym (within_tested st _ (still_within st (changed fact_of t) (s, r) (c.args.fact.now, left) (said e.0) stood e.2 c.self.inside.within))
     ∙ ap (λ (m : ResvMap). within_limits st (resv_lines st (put_in m.facts (resv_key st c.args.fact.now) (c.args.fact.now, left)))) c.self.view_is
