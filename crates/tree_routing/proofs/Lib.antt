@@ -9,3 +9,4 @@ pub mod KeyLaws
 pub mod HopLaws
 pub mod WayLaws
 pub mod OrderLaws
+pub mod Together

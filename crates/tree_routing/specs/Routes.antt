@@ -1,5 +1,6 @@
 -- What a routing answers.
-use Rattle.std.specs.Prelude.{◌≡◌, ℕ, Bool, true, ◌&&◌, List, map as each, Option}
+use Rattle.std.specs.Prelude.{◌≡◌, ℕ, true, List, map as each, Option}
+use Rattle.std.specs.declared.cmp.Ordering.{Ordering}
 use Rattle.rsvp_base.specs.Keys.{Keys, by, numbers, pairs}
 use Rattle.rsvp_base.specs.Members.{In}
 use Rattle.rsvp_base.specs.Orders.{addrs}
@@ -8,9 +9,8 @@ use Rattle.rsvp_base.specs.Sets.{set_of, with_key}
 use Rattle.rsvp_base.specs.declared.addr.Addr.{Addr}
 use Rattle.tree_laws.specs.declared.hops.End.{End}
 use Rattle.tree_laws.specs.declared.hops.TreeHop.{TreeHop}
-use Rattle.tree_routing.specs.declared.known.Known.{Known}
 use Rattle.tree_laws.specs.Networks.{Net, iface_of}
-use Rattle.tree_laws.specs.Trees.{tree_keys, of_tree, goes_out_of, iface_in, inward, outward}
+use Rattle.tree_laws.specs.Trees.{tree_keys, key_of, goes_out_of, iface_in, inward, outward}
 
 -- the interface by which the tree comes into a node
 abbrev pub inward_iface : Net → ℕ → Addr → Addr → Option ℕ
@@ -27,16 +27,17 @@ hop_apart a b e = λ i. record { group = (e i).0.0; source = (e i).0.1; hop = re
 abbrev pub hop_keys : Keys TreeHop
 hop_keys = by (λ (r : TreeHop). ((r.group, r.source), (r.hop.from, r.hop.to))) hop_apart (pairs (pairs addrs addrs) (pairs numbers numbers))
 
--- ---- over what is kept of hops
-abbrev pub is_left : List End → Addr → Addr → ℕ → Known → Bool
-is_left ends g s n k = of_tree g s k.hop && goes_out_of ends n k.hop.hop
+-- how a hop stands to those of a tree
+abbrev pub against_tree : Addr → Addr → TreeHop → Ordering
+against_tree g s r = tree_keys.cmp (key_of r) (g, s)
 
--- the interface is that by which the hop leaves the node
-abbrev pub IsWayOf : List End → Addr → Addr → ℕ → Known → ℕ → Type 0
-IsWayOf ends g s n k i = (is_left ends g s n k ≡ true) × (iface_of ends k.hop.hop.from ≡ i)
+-- ---- over the hops of a tree
+-- the hop goes out of the node by this interface
+abbrev pub IsWayOf : List End → ℕ → TreeHop → ℕ → Type 0
+IsWayOf ends n r i = (goes_out_of ends n r.hop ≡ true) × (iface_of ends r.hop.from ≡ i)
 
-abbrev pub IsWay : List End → Addr → Addr → ℕ → List Known → ℕ → Type 0
-IsWay ends g s n ks i = (k : Known) × In k ks × IsWayOf ends g s n k i
+abbrev pub IsWay : List End → ℕ → List TreeHop → ℕ → Type 0
+IsWay ends n rs i = (r : TreeHop) × In r rs × IsWayOf ends n r i
 
 -- a tree as a row of a set
 abbrev pub as_row : Addr × Addr → (Addr × Addr) × Unit {0}

@@ -12,7 +12,7 @@ ghost use Rattle.tree_laws.specs.Trees.{trees_of};
 
 use crate::ask::{link_of, node_of};
 use crate::group_hop::GroupHop;
-use crate::in_order::is_among;
+use crate::in_order::{is_among, of_tree};
 use crate::known::Known;
 use crate::link::Link;
 use crate::ways::{hop_into, iface_of, ways_out};
@@ -111,13 +111,8 @@ impl Routing {
     pub fn inward(&self, node: u16, group: Addr, source: Addr) -> Option<u8>
         ensures { result ≡ inward_iface self.now node group source }
     {
-        let into = hop_into(
-            self.ends.as_slice(),
-            self.hops.as_slice(),
-            group,
-            source,
-            node,
-        )?;
+        let hops = of_tree(self.sorted.as_slice(), group, source);
+        let into = hop_into(self.ends.as_slice(), hops, node)?;
         Some(iface_of(self.ends.as_slice(), into))
     }
 
@@ -125,13 +120,8 @@ impl Routing {
     pub fn outward(&self, node: u16, group: Addr, source: Addr) -> u16
         ensures { (i : ℕ) → (bit_at result i ≡ 1) ↔ LeavesBy self.now node group source i }
     {
-        ways_out(
-            self.ends.as_slice(),
-            self.hops.as_slice(),
-            group,
-            source,
-            node,
-        )
+        let hops = of_tree(self.sorted.as_slice(), group, source);
+        ways_out(self.ends.as_slice(), hops, node)
     }
 
     /// The group and source of the k-th tree that has a hop, by group and source, from 0. `None` exactly where k is not

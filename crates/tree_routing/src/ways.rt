@@ -1,31 +1,22 @@
 //! Where a tree comes into a node and leaves it.
-ghost use Rattle.std.specs.Prelude.{◌≡◌, ◌↔◌, ◌⊎◌, ◌<◌, ◌≤◌, ℕ, length};
+ghost use Rattle.std.specs.Prelude.{◌≡◌, ◌↔◌, ◌⊎◌, ◌<◌, ◌≤◌, ℕ, length, map};
 ghost use Rattle.std.specs.Int.{bit_at};
 ghost use Rattle.tree_laws.specs.Networks.{iface_of, ends_of};
-ghost use Rattle.tree_laws.specs.Trees.{tree, first_by, goes_into, end_into};
+ghost use Rattle.tree_laws.specs.Trees.{first_by, goes_into, end_into};
 ghost use Rattle.rsvp_base.specs.Members.{In};
-ghost use Rattle.tree_routing.specs.declared.known.Known.{Known};
-ghost use Rattle.tree_routing.specs.Known.{plain};
-ghost use Rattle.tree_routing.specs.Routes.{is_left, IsWayOf, IsWay};
+ghost use Rattle.tree_laws.specs.declared.hops.TreeHop.{TreeHop};
+ghost use Rattle.tree_routing.specs.Routes.{IsWayOf, IsWay};
 
-use crate::ask::{is_in_tree, node_of};
-use crate::known::Known;
-use rsvp_base::Addr;
-use tree_laws::End;
+use crate::ask::node_of;
+use tree_laws::{End, TreeHop};
 
-/// The end by which the tree comes into the node.
-pub(crate) fn hop_into(
-    ends: &[End],
-    hops: &[Known],
-    group: Addr,
-    source: Addr,
-    node: u16,
-) -> Option<u16>
-    ensures { result ≡ end_into (first_by (goes_into ends.now node) (tree (plain hops.now) group source)) }
+/// The end by which the first of these hops that goes into the node does so.
+pub(crate) fn hop_into(ends: &[End], hops: &[TreeHop], node: u16) -> Option<u16>
+    ensures { result ≡ end_into (first_by (goes_into ends.now node) (map (λ r. r.hop) hops.now)) }
 {
     for hop in hops {
-        if is_in_tree(hop, group, source) && node_of(ends, hop.hop.hop.to) == node {
-            return Some(hop.hop.hop.to);
+        if node_of(ends, hop.hop.to) == node {
+            return Some(hop.hop.to);
         }
     }
     None
@@ -63,34 +54,27 @@ fn with_way(ways: u16, iface: u8) -> u16
     ways | 1 << iface
 }
 
-// Whether the hop is of the tree and goes out of the node.
-fn is_left(ends: &[End], hop: &Known, group: Addr, source: Addr, node: u16) -> bool
-    ensures { result ≡ is_left ends.now group source node hop.now }
-{
-    is_in_tree(hop, group, source) && node_of(ends, hop.hop.hop.from) == node
-}
-
-// The interfaces by which the tree leaves the node, with that of one more hop.
-fn with_hop(ends: &[End], hop: &Known, group: Addr, source: Addr, node: u16, ways: u16) -> u16
+// The interfaces by which hops leave the node, with that of one more hop.
+fn with_hop(ends: &[End], hop: &TreeHop, node: u16, ways: u16) -> u16
     requires few { (n : ℕ) → length (ends_of ends.now n) ≤ 16 }
-    requires inside { hop.now.hop.hop.from < length ends.now }
-    ensures { (i : ℕ) → (bit_at result i ≡ 1) ↔ (IsWayOf ends.now group source node hop.now i ⊎ (bit_at ways i ≡ 1)) }
+    requires inside { hop.now.hop.from < length ends.now }
+    ensures { (i : ℕ) → (bit_at result i ≡ 1) ↔ (IsWayOf ends.now node hop.now i ⊎ (bit_at ways i ≡ 1)) }
 {
-    if is_left(ends, hop, group, source, node) {
-        return with_way(ways, iface_of(ends, hop.hop.hop.from));
+    if node_of(ends, hop.hop.from) == node {
+        return with_way(ways, iface_of(ends, hop.hop.from));
     }
     ways
 }
 
-/// The interfaces by which the tree leaves the node: bit i stands for interface i.
-pub(crate) fn ways_out(ends: &[End], hops: &[Known], group: Addr, source: Addr, node: u16) -> u16
+/// The interfaces by which these hops leave the node: bit i stands for interface i.
+pub(crate) fn ways_out(ends: &[End], hops: &[TreeHop], node: u16) -> u16
     requires few { (n : ℕ) → length (ends_of ends.now n) ≤ 16 }
-    requires inside { (k : Known) → In k hops.now → k.hop.hop.from < length ends.now }
-    ensures { (i : ℕ) → (bit_at result i ≡ 1) ↔ IsWay ends.now group source node hops.now i }
+    requires inside { (r : TreeHop) → In r hops.now → r.hop.from < length ends.now }
+    ensures { (i : ℕ) → (bit_at result i ≡ 1) ↔ IsWay ends.now node hops.now i }
 {
     let mut ways = 0;
     for hop in hops {
-        ways = with_hop(ends, hop, group, source, node, ways);
+        ways = with_hop(ends, hop, node, ways);
     }
     ways
 }

@@ -6,4 +6,4 @@ pub with_hop-ways-requires-clause-inside : goal.with_hop-ways-requires-clause-in
 with_hop-ways-requires-clause-inside c = at_inside c.args.ends.now c.args.hops.now c.loop-hop.hop-index _ c.requires.inside (omega arith)
 
 pub loop-hop-preserved : goal.loop-hop-preserved
-loop-hop-preserved c = ways_more c.args.ends.now c.args.group c.args.source c.args.node c.args.hops.now c.loop-hop.hop-index _ c.loop-hop.ways c.with_hop-ways.result (omega arith) c.loop-hop.invariant c.with_hop-ways.ensures
+loop-hop-preserved c = ways_more c.args.ends.now c.args.node c.args.hops.now c.loop-hop.hop-index _ c.loop-hop.ways c.with_hop-ways.result (omega arith) c.loop-hop.invariant c.with_hop-ways.ensures
