@@ -10,3 +10,4 @@ pub mod Rooms
 pub mod LimitLaws
 pub mod FitLaws
 pub mod Carrying
+pub mod StyleLists

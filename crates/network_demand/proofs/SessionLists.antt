@@ -1,20 +1,18 @@
 -- Lists of sessions, each once.
-use Rattle.std.specs.Prelude.{◌≡◌, ◌↔◌, ℕ, ◌+◌, ◌<◌, ◌≤◌, Bool, cond, List, [], ◌∷◌, ◌++◌, map as each, length, refl, slice_index_or}
+use Rattle.std.specs.Prelude.{◌≡◌, ◌↔◌, ℕ, ◌+◌, ◌<◌, ◌≤◌, true, List, [], ◌∷◌, ◌++◌, map as each, length, Option, None, Some, is_some, refl, slice_index_or}
 use Rattle.std.specs.List.{All}
-use Rattle.std.proofs.Common.{sym, ap, subst, ◌∙◌, inl, inr, ⊎_elim, take, arith}
+use Rattle.std.proofs.Common.{sym, ap, subst, ◌∙◌, inl, inr, ⊎_elim, take, drop, arith}
 use Rattle.std.proofs.Math.Seq.{take-length}
-use Rattle.std.proofs.lemmas.List.{map-append}
+use Rattle.std.proofs.lemmas.List.{length-map, map-append, take-append-drop}
 use Rattle.rsvp_base.specs.Members.{In}
-use Rattle.rsvp_base.specs.Keys.{Keys}
 use Rattle.rsvp_base.specs.Orders.{sessions}
-use Rattle.rsvp_base.specs.Sets.{Set, set_of, with_key, with_keys}
-use Rattle.rsvp_base.specs.Table.{empty, has, size}
+use Rattle.rsvp_base.specs.Sets.{set_of}
+use Rattle.rsvp_base.specs.Table.{get, keys, size}
 use Rattle.rsvp_base.specs.declared.session.Session.{Session}
-use Rattle.rsvp_base.proofs.Counts.{in_set_of, set_of_in}
+use Rattle.rsvp_base.proofs.Counts.{found_in, in_set_of, set_below, size-set_of}
 use Rattle.rsvp_base.proofs.Members.{in_left, in_append, in_each, to_each}
-use Rattle.rsvp_base.proofs.SetLaws.{size-with_key}
-use Rattle.rsvp_base.proofs.Tables.{either}
 use Rattle.tree_laws.specs.Chains.{NoRepeats}
+use Rattle.tree_laws.proofs.Counts.{not_longer}
 use Rattle.network_demand.proofs.AllowedLaws.{all_in, in_all}
 use Rattle.network_demand.proofs.Inside.{index_in}
 use Rattle.network_demand.proofs.Pools.{take_more}
@@ -59,29 +57,29 @@ taken_all xs i a b = ap (λ k. take k xs) (let e : i ≡ length xs = omega arith
 pub named_there : {W X : Type 0} (f : W → X) (ws : List W) (i : ℕ) (d w : W) (s : X) → i < length ws → w ≡ slice_index_or ws i d → s ≡ f w → In s (each f ws)
 named_there {W} {X} f ws i d w s lt is e = subst (λ (x : X). In x (each f ws)) (sym (e ∙ ap f is)) (to_each f (slice_index_or ws i d) ws (index_in ws i d lt))
 
-pub none_more : {W X : Type 0} (f : W → X) (ws : List W) (i : ℕ) (d w : W) (s : X) → i < length ws → w ≡ slice_index_or ws i d → (In s (each f (take i ws)) → ⊥) → (s ≡ f w → ⊥) → In s (each f (take (i + 1) ws)) → ⊥
-none_more {W} {X} f ws i d w s lt is none other j =
-    let r = in_each f s (take (i + 1) ws) j in
-    ⊎_elim (λ (k : In r.0 (take i ws)). none (subst (λ (x : X). In x (each f (take i ws))) (sym r.2) (to_each f r.0 (take i ws) k)))
-    (λ (k : In r.0 (w ∷ [])). ⊎_elim (λ (e : r.0 ≡ w). other (r.2 ∙ ap f e)) (λ (n : ⊥). n) k) (in_append r.0 (take i ws) (w ∷ []) (subst (λ (xs : List W). In r.0 xs) (take_more ws i d w lt is) r.1))
+pub named_before : {W X : Type 0} (f : W → X) (ws : List W) (i : ℕ) (s : X) → In s (each f (take i ws)) → In s (each f ws)
+named_before {W} {X} f ws i s j =
+    let r = in_each f s (take i ws) j in
+    subst (λ (x : X). In x (each f ws)) (sym r.2) (to_each f r.0 ws (subst (λ (ys : List W). In r.0 ys) (take-append-drop i ws) (in_left r.0 (take i ws) (drop i ws) r.1)))
 
-with_last : {K : Type 0} (o : Keys K) (m : Set o) (ks : List K) (k : K) → with_keys m (ks ++ k ∷ []) ≡ with_key (with_keys m ks) k
-with_last o m [] k = refl
-with_last o m (q ∷ ks) k = with_last o (with_key m q) ks k
+-- ---- how many sessions there are
+some_nothing : (w : Option (Unit {0})) → is_some w ≡ true → w ≡ Some tt
+some_nothing None e = cc
+some_nothing (Some u) e = refl
 
-module _ {W : Type 0} (f : W → Session) (ws : List W) (i : ℕ) (d w : W) (lt : i < length ws) (is : w ≡ slice_index_or ws i d) where
-  abbrev before : List Session
-  before = each f (take i ws)
+in_its_keys : (xs : List Session) (s : Session) → In s xs → In s (keys (set_of {o = sessions} xs))
+in_its_keys xs s i =
+    let m = set_of {o = sessions} xs in
+    to_each (λ (e : Session × Unit {0}). e.0) (s, tt) m.rows (found_in sessions m s tt (some_nothing (get m s) (in_set_of sessions xs s i)))
 
-  one_last : size (set_of {o = sessions} (each f (take (i + 1) ws))) ≡ cond (has (set_of {o = sessions} before) (f w)) (size (set_of {o = sessions} before)) (size (set_of {o = sessions} before) + 1)
-  one_last =
-      ap (λ (ks : List Session). size (set_of {o = sessions} ks)) (ap (each f) (take_more ws i d w lt is) ∙ map-append f (take i ws) (w ∷ [])) ∙ ap (λ (m : Set sessions). size m) (with_last sessions empty before (f w)) ∙ size-with_key sessions (set_of before) (f w)
+-- all are among few
+pub few_told : (xs found : List Session) → ((s : Session) → In s xs → In s found) → length found ≤ 32 → size (set_of {o = sessions} xs) ≤ 32
+few_told xs found f few = let less = set_below sessions xs found f in let all = size-set_of sessions found in omega arith
 
-  pub size_old : In (f w) before → size (set_of {o = sessions} (each f (take (i + 1) ws))) ≡ size (set_of {o = sessions} before) + 0
-  size_old j = one_last ∙ ap (λ (b : Bool). cond b (size (set_of {o = sessions} before)) (size (set_of {o = sessions} before) + 1)) (in_set_of sessions before (f w) j) ∙ omega arith
-
-  pub size_new : (In (f w) before → ⊥) → size (set_of {o = sessions} (each f (take (i + 1) ws))) ≡ size (set_of {o = sessions} before) + 1
-  size_new none =
-      one_last
-      ∙ ap (λ (b : Bool). cond b (size (set_of {o = sessions} before)) (size (set_of {o = sessions} before) + 1))
-      (either (has (set_of {o = sessions} before) (f w)) (λ t. absurd (none (set_of_in sessions before (f w) t))) (λ e. e))
+-- 32 others and this one are among them
+pub many_told : (xs found : List Session) (s : Session) → NoRepeats found → (In s found → ⊥) → In s xs → ((z : Session) → In z found → In z xs) → length found ≡ 32 → size (set_of {o = sessions} xs) ≤ 32 → ⊥
+many_told xs found s once new there sub full few =
+    let m = set_of {o = sessions} xs in
+    let less = not_longer (s ∷ found) (keys m) (new, once) (λ z i. in_its_keys xs z (⊎_elim (λ (e : z ≡ s). subst (λ (y : Session). In y xs) (sym e) there) (λ (j : In z found). sub z j) i)) in
+    let all = length-map m.rows (λ e. e.0) in
+    omega arith

@@ -1,5 +1,6 @@
 -- Whether demands fit: what wants take of the limits of each node's tables, and what ends can carry.
 use Rattle.std.specs.Prelude.{◌≡◌, ℕ, ◌==◌, ◌≤◌, Bool, true, false, cond, List, [], ◌∷◌, length, Some, sum_by, unwrap_or, slice_get}
+use Rattle.std.specs.List.{All}
 use Rattle.std.specs.Ordering.{eq_by_cmp}
 use Rattle.rsvp_base.specs.Members.{In}
 use Rattle.rsvp_base.specs.Orders.{sessions}
@@ -7,6 +8,7 @@ use Rattle.rsvp_base.specs.Table.{get}
 use Rattle.rsvp_base.specs.declared.part.Part.{Part}
 use Rattle.rsvp_base.specs.declared.session.Session.{Session}
 use Rattle.rsvp_base.specs.declared.style.StyleKind.{StyleKind}
+use Rattle.rsvp_base.specs.declared.style.StyleKind.TheVariants.{Wild}
 use Rattle.admission_book.specs.declared.iface.Iface.{Iface}
 use Rattle.style_rules.specs.Lines.{EntryKey, BookTable, held}
 use Rattle.tree_laws.specs.declared.hops.End.{End}
@@ -61,6 +63,10 @@ AreCarried books ends = (e : ℕ) (x : End) → slice_get ends e ≡ Some x → 
 abbrev pub first_style : Session → StyleKind → List LocalWant → StyleKind
 first_style s st [] = st
 first_style s st (w ∷ ws) = cond (eq_by_cmp sessions.cmp s w.session) w.style (first_style s st ws)
+
+-- each of these wants that is of the session has the style of the first
+abbrev pub IsOfOneStyle : List LocalWant → Session → Type 0
+IsOfOneStyle ws s = All (λ w. w.session ≡ s → w.style ≡ first_style s Wild ws) ws
 
 abbrev pub AreOfOneStyle : List LocalWant → Type 0
 AreOfOneStyle ws = (v w : LocalWant) → In v ws → In w ws → v.session ≡ w.session → v.style ≡ w.style

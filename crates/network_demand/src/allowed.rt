@@ -1,15 +1,18 @@
 //! Whether a network can be asked for something.
-ghost use Rattle.std.specs.Prelude.{◌≡◌, ◌↔◌, ◌<◌, ◌≤◌, ◌+◌, length, map, take, IsTrue};
+ghost use Rattle.std.specs.Prelude.{◌≡◌, ◌↔◌, ◌<◌, ◌≤◌, false, [], ◌∷◌, ◌++◌, length, map, IsTrue};
 ghost use Rattle.std.specs.List.{All, filter};
 ghost use Rattle.rsvp_base.specs.Members.{In};
 ghost use Rattle.rsvp_base.specs.Orders.{sessions};
 ghost use Rattle.rsvp_base.specs.Sets.{set_of};
 ghost use Rattle.rsvp_base.specs.Table.{size};
+ghost use Rattle.rsvp_base.specs.declared.session.Session.{Session};
+ghost use Rattle.tree_laws.specs.Chains.{NoRepeats};
 ghost use Rattle.demand_laws.specs.Wants.{of_session};
 ghost use Rattle.network_demand.specs.Asked.{locals_of};
 ghost use Rattle.network_demand.specs.Demands.{AreLocals, few_of};
 
-use crate::locals::{Locals, is_session};
+use crate::locals::{Locals, is_among, is_session};
+use arrayvec::ArrayVec;
 use demand_laws::{LocalSender, LocalWant};
 use rsvp_base::Session;
 use tree_routing::Routing;
@@ -26,45 +29,37 @@ pub fn can_ask(routing: &Routing, locals: &Locals) -> bool
 fn are_bounded(locals: &Locals) -> bool
     ensures { IsTrue result ↔ ((size (set_of {o = sessions} (map (λ w. w.session) locals.now.wants.items)) ≤ 32) × All (few_of locals.now.senders.items) locals.now.senders.items) }
 {
-    if named(locals.wants.as_slice()) > 32 {
+    are_few_sessions(locals.wants.as_slice()) && are_few(locals.senders.as_slice())
+}
+
+// Keeps a session, if it is not there. False exactly where it is not, and 32 are.
+fn keep(found: &mut ArrayVec<Session, 32>, session: Session) -> bool
+    ensures few { length found.new.items ≤ 32 }
+    ensures once { NoRepeats found.old.items → NoRepeats found.new.items }
+    ensures kept { IsTrue result → (s : Session) → In s found.new.items ↔ In s (found.old.items ++ session ∷ []) }
+    ensures full { result ≡ false → (length found.old.items ≡ 32) × (In session found.old.items → ⊥) }
+{
+    if is_among(found.as_slice(), session) {
+        return true;
+    }
+    if found.is_full() {
         return false;
     }
-    are_few(locals.senders.as_slice())
+    found.push(session);
+    true
 }
 
-// Whether one of these wants is of the session.
-fn is_named(wants: &[LocalWant], session: Session) -> bool
-    ensures { IsTrue result ↔ In session (map (λ w. w.session) wants.now) }
+// Whether at most 32 sessions are wanted.
+fn are_few_sessions(wants: &[LocalWant]) -> bool
+    ensures { IsTrue result ↔ (size (set_of {o = sessions} (map (λ w. w.session) wants.now)) ≤ 32) }
 {
+    let mut found = ArrayVec::new();
     for want in wants {
-        if is_session(session, want.session) {
-            return true;
+        if !keep(&mut found, want.session) {
+            return false;
         }
     }
-    false
-}
-
-// How many sessions the want of this number adds to those before it: one or none.
-fn added(wants: &[LocalWant], i: usize) -> usize
-    requires { i < length wants.now }
-    ensures one { result ≤ 1 }
-    ensures added { size (set_of {o = sessions} (map (λ w. w.session) (take (i + 1) wants.now))) ≡ size (set_of {o = sessions} (map (λ w. w.session) (take i wants.now))) + result }
-{
-    if is_named(&wants[..i], wants[i].session) {
-        return 0;
-    }
-    1
-}
-
-// How many sessions are wanted.
-fn named(wants: &[LocalWant]) -> usize
-    ensures { result ≡ size (set_of {o = sessions} (map (λ w. w.session) wants.now)) }
-{
-    let mut count = 0;
-    for i in 0..wants.len() {
-        count += added(wants, i);
-    }
-    count
+    true
 }
 
 // Whether each want is at a node below this number.

@@ -16,7 +16,7 @@ ghost use Rattle.network_demand.specs.Fits.{FindRoom};
 use crate::charging::charge_wants;
 use crate::end_book::EndBook;
 use crate::fits::{are_met, find_room};
-use crate::locals::{Locals, is_session};
+use crate::locals::{Locals, is_among};
 use crate::owed::Demand;
 use crate::room::rooms;
 use crate::wants::hop_wants;
@@ -25,18 +25,6 @@ use rsvp_base::{NoMemory, Session};
 use std::alloc::Global;
 use style_rules::{Fixed, Shared, Style, Wild};
 use tree_routing::{GroupHop, Routing};
-
-// Whether a session is among these.
-fn is_among(sessions: &[Session], session: Session) -> bool
-    ensures { IsTrue result ↔ In session sessions.now }
-{
-    for one in sessions {
-        if is_session(session, *one) {
-            return true;
-        }
-    }
-    false
-}
 
 // Adds a session, if it is not there.
 fn add_session(sessions: &mut Vec<Session>, session: Session) -> Result<(), NoMemory>
@@ -149,6 +137,7 @@ pub fn demand(alloc: Global, routing: &Routing, locals: &Locals) -> Result<Deman
     let fits = are_met(
         are_all(wild, fixed, shared),
         locals.wants.as_slice(),
+        sessions.as_slice(),
         ends.as_slice(),
         routing.ends(),
     );

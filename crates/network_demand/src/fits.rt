@@ -4,8 +4,9 @@ ghost use Rattle.std.specs.List.{All};
 ghost use Rattle.rsvp_base.specs.Members.{In};
 ghost use Rattle.style_rules.specs.Parts.{part_charge};
 ghost use Rattle.tree_laws.specs.Networks.{node_of};
+ghost use Rattle.demand_laws.specs.declared.locals.LocalWant.{LocalWant};
 ghost use Rattle.network_demand.specs.declared.hop_want.HopWant.{HopWant};
-ghost use Rattle.network_demand.specs.Fits.{taken_at, room_at, AreCarried, first_style};
+ghost use Rattle.network_demand.specs.Fits.{taken_at, room_at, AreCarried, first_style, IsOfOneStyle};
 
 use crate::end_book::EndBook;
 use crate::hop_want::HopWant;
@@ -43,12 +44,20 @@ pub(crate) fn find_room(
     Ok(take_all(routing, lines, wants, false))
 }
 
-/// Whether there is room at the nodes, each session is wanted in one style, and each end can carry what it owes.
-pub(crate) fn are_met(room: bool, wants: &[LocalWant], books: &[EndBook], ends: &[End]) -> bool
-    requires { length books.now ≡ length ends.now }
+/// Whether there is room at the nodes, each session is wanted in one style, and each end can carry what it owes. These are
+/// the sessions that are wanted.
+pub(crate) fn are_met(
+    room: bool,
+    wants: &[LocalWant],
+    sessions: &[Session],
+    books: &[EndBook],
+    ends: &[End],
+) -> bool
+    requires ends { length books.now ≡ length ends.now }
+    requires sessions { (w : LocalWant) → In w wants.now → In w.session sessions.now }
     ensures { IsTrue result ↔ (IsTrue room × (All (λ w. first_style w.session w.style wants.now ≡ w.style) wants.now × AreCarried books.now ends.now)) }
 {
-    room && are_of_one_style(wants) && are_carried(books, ends)
+    room && are_of_one_style(wants, sessions) && are_carried(books, ends)
 }
 
 // The style of the first want of a session; this one, if there is none.
@@ -63,13 +72,33 @@ fn first_style(wants: &[LocalWant], session: Session, style: StyleKind) -> Style
     style
 }
 
-// Whether all wants of a session have one style.
-fn are_of_one_style(wants: &[LocalWant]) -> bool
+// Whether a want has this style, if it is of this session.
+fn has_style(want: &LocalWant, session: Session, style: StyleKind) -> bool
+    ensures { IsTrue result ↔ (want.now.session ≡ session → want.now.style ≡ style) }
+{
+    !is_session(session, want.session) || is_style(style, want.style)
+}
+
+// Whether all wants of a session have the style of its first.
+fn is_of_one_style(wants: &[LocalWant], session: Session) -> bool
+    ensures { IsTrue result ↔ IsOfOneStyle wants.now session }
+{
+    let first = first_style(wants, session, StyleKind::Wild);
+    for want in wants {
+        if !has_style(want, session, first) {
+            return false;
+        }
+    }
+    true
+}
+
+// Whether all wants of a session have one style. These are the sessions.
+fn are_of_one_style(wants: &[LocalWant], sessions: &[Session]) -> bool
+    requires { (w : LocalWant) → In w wants.now → In w.session sessions.now }
     ensures { IsTrue result ↔ All (λ w. first_style w.session w.style wants.now ≡ w.style) wants.now }
 {
-    for want in wants {
-        let first = first_style(wants, want.session, want.style);
-        if !is_style(first, want.style) {
+    for session in sessions {
+        if !is_of_one_style(wants, *session) {
             return false;
         }
     }

@@ -2,6 +2,7 @@
 ghost use Rattle.std.specs.Prelude.{◌≡◌, ◌≤◌, ◌↔◌, length, map, IsTrue, IfOk};
 ghost use Rattle.std.specs.List.{filter};
 ghost use Rattle.std.specs.Ordering.{eq_by_cmp};
+ghost use Rattle.rsvp_base.specs.Members.{In};
 ghost use Rattle.rsvp_base.specs.Orders.{sessions, styles};
 ghost use Rattle.rsvp_base.specs.Sets.{set_of};
 ghost use Rattle.style_rules.specs.Styles.{name_of};
@@ -31,6 +32,18 @@ pub(crate) fn is_style(style: StyleKind, other: StyleKind) -> bool
     ensures { result ≡ eq_by_cmp styles.cmp style other }
 {
     style.cmp(&other).is_eq()
+}
+
+/// Whether a session is among these.
+pub(crate) fn is_among(sessions: &[Session], session: Session) -> bool
+    ensures { IsTrue result ↔ In session sessions.now }
+{
+    for one in sessions {
+        if is_session(session, *one) {
+            return true;
+        }
+    }
+    false
 }
 
 /// The senders of a session.

@@ -1,8 +1,9 @@
-use Rattle.std.proofs.Common.{◌≡◌, ◌↔◌, true, ◌++◌, [], List, length, map, sym, subst}
+use Rattle.std.proofs.Common.{◌≡◌, ◌↔◌, true, ◌∙◌, ◌++◌, [], List, length, map, sym, subst}
 use Rattle.std.specs.List.{All}
 use Rattle.rsvp_base.specs.Members.{In}
 use Rattle.rsvp_base.specs.declared.session.Session.{Session}
 use Rattle.rsvp_base.specs.declared.style.StyleKind.TheVariants.{Wild, Fixed, Shared}
+use Rattle.rsvp_base.proofs.Members.{to_each}
 use Rattle.demand_laws.specs.declared.locals.LocalWant.{LocalWant}
 use Rattle.style_rules.specs.Lines.{BookTable}
 use Rattle.tree_laws.specs.declared.hops.End.{End}
@@ -13,6 +14,11 @@ use Rattle.network_demand.specs.Fits.{FindRoom, AreCarried, first_style}
 use Rattle.network_demand.proofs.FitLaws.{fits_are}
 use Rattle.network_demand.proofs.GoalLaws.{nothing_first, demands_are}
 use Rattle.network_demand.proofs.ends.demand.Goals as goal
+
+pub are_met-fits-requires-clause-sessions : goal.are_met-fits-requires-clause-sessions
+are_met-fits-requires-clause-sessions c = λ w i.
+    let there = to_each (λ (v : LocalWant). v.session) w c.as_slice.result.now (subst (λ (ws : List LocalWant). In w ws) (c.as_slice-5.ensures.value ∙ sym c.as_slice.ensures.value) i) in
+    subst (λ (ss : List Session). In w.session ss) (sym c.as_slice-6.ensures.value) ((c.in_ok-sessions.ensures.all w.session).1 there)
 
 pub returns : goal.returns
 returns c =
@@ -29,8 +35,8 @@ returns c =
     (λ fed have. subst (λ (xs : List Session). HaveLines (fed ++ style_lines Fixed net l order xs) f) c.as_slice-3.ensures.value (c.in_ok-fixed.ensures.lines fed have))
     (λ fed have. subst (λ (xs : List Session). HaveLines (fed ++ style_lines Shared net l order xs) s) c.as_slice-4.ensures.value (c.in_ok-shared.ensures.lines fed have)) first
     c.in_ok-shared.ensures.ends in
-    let met_wants = subst (λ (ws : List LocalWant). (c.are_met-fits.result ≡ true) ↔ ((c.are_all.result ≡ true) × (All (λ w. first_style w.session w.style ws ≡ w.style) ws × AreCarried c.as_slice-6.result.now c.ends-2.result.now))) c.as_slice-5.ensures.value c.are_met-fits.ensures in
-    let met_books = subst (λ (bs : List BookTable). (c.are_met-fits.result ≡ true) ↔ ((c.are_all.result ≡ true) × (All (λ w. first_style w.session w.style l.wants ≡ w.style) l.wants × AreCarried bs c.ends-2.result.now))) c.as_slice-6.ensures.value met_wants in
+    let met_wants = subst (λ (ws : List LocalWant). (c.are_met-fits.result ≡ true) ↔ ((c.are_all.result ≡ true) × (All (λ w. first_style w.session w.style ws ≡ w.style) ws × AreCarried c.as_slice-7.result.now c.ends-2.result.now))) c.as_slice-5.ensures.value c.are_met-fits.ensures in
+    let met_books = subst (λ (bs : List BookTable). (c.are_met-fits.result ≡ true) ↔ ((c.are_all.result ≡ true) × (All (λ w. first_style w.session w.style l.wants ≡ w.style) l.wants × AreCarried bs c.ends-2.result.now))) c.as_slice-7.ensures.value met_wants in
     let met = subst (λ (es : List End). (c.are_met-fits.result ≡ true) ↔ ((c.are_all.result ≡ true) × (All (λ w. first_style w.session w.style l.wants ≡ w.style) l.wants × AreCarried s es))) c.ends-2.ensures.ends met_books in
     record {
       ends = demands;

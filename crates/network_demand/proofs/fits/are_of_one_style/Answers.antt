@@ -1,15 +1,21 @@
-use Rattle.std.proofs.Common.{◌≡◌, ◌∙◌, true, subst, sym, arith}
-use Rattle.rsvp_base.specs.Orders.{styles}
-use Rattle.rsvp_base.proofs.Tables.{tied_same}
-use Rattle.demand_laws.specs.declared.locals.LocalWant.{LocalWant}
-use Rattle.network_demand.specs.Fits.{first_style}
-use Rattle.network_demand.proofs.SessionLists.{all_more}
+use Rattle.std.proofs.Common.{◌≡◌, List, get_or, true, false, refl, subst}
+use Rattle.std.specs.List.{All}
+use Rattle.rsvp_base.specs.declared.session.Session.{Session}
+use Rattle.network_demand.specs.Fits.{IsOfOneStyle}
+use Rattle.network_demand.proofs.SessionLists.{all_more, taken_all}
+use Rattle.network_demand.proofs.StyleLists.{styles_told, styles_tested}
 use Rattle.network_demand.proofs.fits.are_of_one_style.Goals as goal
 
-pub loop-want-preserved : goal.loop-want-preserved
-loop-want-preserved c =
-    let w : LocalWant = c.want-item.result in
-    let ws = c.args.wants.now in
-    let t : c.is_style.result ≡ true = grind (arith, c.if-not-is_style.false) in
-    let here : first_style w.session w.style ws ≡ w.style = sym c.first_style-first.ensures ∙ tied_same styles c.first_style-first.result w.style (sym c.is_style.ensures ∙ t) in
-    all_more (λ (x : LocalWant). first_style x.session x.style ws ≡ x.style) ws c.loop-want.want-index w c.loop-want-test.true c.loop-want.invariant (subst (λ (x : LocalWant). first_style x.session x.style ws ≡ x.style) c.want-item.is here)
+pub returns-then-not-is_of_one_style : goal.returns-then-not-is_of_one_style
+returns-then-not-is_of_one_style c = (λ t. absurd (let z : false ≡ true = t in cc), λ all. c.if-not-is_of_one_style.ensures.1 (styles_tested c.args.wants.now _ all))
+
+pub loop-session-preserved : goal.loop-session-preserved
+loop-session-preserved c =
+    let d : Session = record { group = record { 0 = 0 }; proto = 0; port = 0 } in
+    let here : IsOfOneStyle c.args.wants.now (get_or c.args.sessions.now c.loop-session.session-index d) = c.is_of_one_style.ensures.0 c.if-not-is_of_one_style.false in
+    all_more (IsOfOneStyle c.args.wants.now) c.args.sessions.now c.loop-session.session-index d c.loop-session-test.true c.loop-session.invariant here
+
+pub returns : goal.returns
+returns c =
+    let all = taken_all c.args.sessions.now c.loop-session.session-index c.loop-session-test.false c.loop-session.auto.session-index-end in
+    (λ t. styles_told c.args.wants.now c.args.sessions.now c.requires (subst (λ (ss : List Session). All (IsOfOneStyle c.args.wants.now) ss) all c.loop-session.invariant), λ few. refl)

@@ -1,6 +1,6 @@
 use Rattle.std.proofs.Common.{◌↔◌, drop}
 use Rattle.rsvp_base.specs.Members.{In}
-use Rattle.network_demand.proofs.ends.is_among.Given as goal
+use Rattle.network_demand.proofs.locals.is_among.Given as goal
 
 -- it is among the rest, if it is among them
 abbrev pub invariant-loop-one : goal.invariant-loop-one

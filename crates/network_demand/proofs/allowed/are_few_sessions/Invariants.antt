@@ -1,0 +1,14 @@
+use Rattle.std.proofs.Common.{◌↔◌, ◌≤◌, length, map, take}
+use Rattle.rsvp_base.specs.Members.{In}
+use Rattle.rsvp_base.specs.declared.session.Session.{Session}
+use Rattle.tree_laws.specs.Chains.{NoRepeats}
+use Rattle.network_demand.proofs.allowed.are_few_sessions.Given as goal
+
+-- the sessions of the wants so far, each once
+abbrev pub invariant-loop-want : goal.invariant-loop-want
+invariant-loop-want l =
+    record {
+      few : length l.found.items ≤ 32;
+      once : NoRepeats l.found.items;
+      all : (s : Session) → In s l.found.items ↔ In s (map (λ w. w.session) (take l.want-index l.wants));
+    }
