@@ -2,7 +2,7 @@
 ghost use Rattle.std.specs.Prelude.{◌≡◌, ◌↔◌, ◌<◌, ◌≤◌, ◌⊎◌, ℕ, length, IsTrue, IfOk};
 ghost use Rattle.tree_routing.specs.Marks.{AreBelow};
 ghost use Rattle.tree_routing.specs.Answers.{IsUpTo};
-ghost use Rattle.tree_routing.specs.Checks.{IsBetween, IsBetter, IsLesser, IsLeastBetween, LoopAnswer};
+ghost use Rattle.tree_routing.specs.Checks.{IsBetween, IsBetter, IsLeastBetween, LoopAnswer};
 
 use crate::hop_err::HopErr;
 use crate::known::Known;
@@ -59,27 +59,6 @@ fn is_better(
     is_between(alloc, hops, new.vertex, before, hop.vertex)
 }
 
-// The hop, where it is such a hop and less than the least so far, or else the least so far.
-fn lesser(
-    alloc: Global,
-    hops: &[Known],
-    new: &Known,
-    before: u16,
-    hop: &Known,
-    least: Hop,
-) -> Result<Hop, NoMemory>
-    requires below { AreBelow (length hops.now) hops.now }
-    requires from { new.now.vertex ≤ length hops.now }
-    requires vertex { hop.now.vertex ≤ length hops.now }
-    requires few { length hops.now ≤ 8192 }
-    ensures { IfOk result (IsLesser hops.now new.now before hop.now least) }
-{
-    if is_better(alloc, hops, new, before, hop, least)? {
-        return Ok(hop.hop.hop);
-    }
-    Ok(least)
-}
-
 // The least hop on a chain from the new hop to the hop before it.
 fn least_between(alloc: Global, hops: &[Known], new: &Known, before: u16) -> Result<Hop, NoMemory>
     requires below { AreBelow (length hops.now) hops.now }
@@ -89,7 +68,9 @@ fn least_between(alloc: Global, hops: &[Known], new: &Known, before: u16) -> Res
 {
     let mut least = new.hop.hop;
     for hop in hops {
-        least = lesser(alloc, hops, new, before, hop, least)?;
+        if is_better(alloc, hops, new, before, hop, least)? {
+            least = hop.hop.hop;
+        }
     }
     Ok(least)
 }

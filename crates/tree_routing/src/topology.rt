@@ -71,7 +71,8 @@ impl Topology {
         self.nodes < 256
     }
 
-    /// Adds a node, and gives its number.
+    /// Adds a node, where there is room for one, and gives its number. `NoMemory`: it could not be added; nothing changes
+    /// then.
     pub fn add_node(&mut self) -> Result<u16, NoMemory>
         requires { self.old.nodes < 256 }
         ensures ok { OnOk result (self.new ≡ with_node self.old) }
@@ -93,8 +94,8 @@ impl Topology {
             && owner(ends, end.iface.addr).is_none()
     }
 
-    /// Adds an end of a node, as its next interface, and gives its number. `NoMemory`: there was no room for it; nothing
-    /// changes then.
+    /// Adds an end that can be added, as the next interface of its node, and gives its number. `NoMemory`: there was no room
+    /// for it; nothing changes then.
     pub fn add_end(&mut self, end: End) -> Result<u16, NoMemory>
         requires { TakesEnd self.old end }
         ensures ok { OnOk result (self.new ≡ with_end self.old end) }
@@ -121,7 +122,7 @@ impl Topology {
             && self.links.len() < 512
     }
 
-    /// Adds a link of two ends. `NoMemory`: there was no room for it; nothing changes then.
+    /// Adds a link of two ends, where it can be added. `NoMemory`: there was no room for it; nothing changes then.
     pub fn add_link(&mut self, one: u16, other: u16) -> Result<(), NoMemory>
         requires { TakesLink self.old one other }
         ensures ok { OnOk result (self.new ≡ with_link self.old one other) }
@@ -140,7 +141,8 @@ impl Topology {
         self.hops.len() < 8192
     }
 
-    /// Adds a hop to the tree of its group and source, whose root is the node that has the end of this address.
+    /// Adds a hop, where there is room for one, to the tree of its group and source, whose root is the node that has the end
+    /// of this address.
     ///
     /// `HopErr::NotTree`: exactly where the ends do not share a link, the tree has not reached the node of `from` or has
     /// reached that of `to`, or a hop of the tree goes out of another end of the link.
