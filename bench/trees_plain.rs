@@ -131,6 +131,29 @@ struct Routing {
     sorted: Vec<(u32, u32, Hop)>,
 }
 
+impl Routing {
+    fn tree(&self, group: u32, source: u32) -> &[(u32, u32, Hop)] {
+        let start = self.sorted.partition_point(|row| (row.0, row.1) < (group, source));
+        let end = self.sorted.partition_point(|row| (row.0, row.1) <= (group, source));
+        &self.sorted[start..end]
+    }
+
+    fn iface_of(&self, end: u16) -> u8 {
+        let node = self.net.node_of(end);
+        self.net.ends[..end as usize].iter().filter(|end| end.node == node).count() as u8
+    }
+
+    fn inward(&self, node: u16, group: u32, source: u32) -> Option<u8> {
+        let row = self.tree(group, source).iter().find(|row| self.net.node_of(row.2.to) == node)?;
+        Some(self.iface_of(row.2.to))
+    }
+
+    fn outward(&self, node: u16, group: u32, source: u32) -> u16 {
+        let rows = self.tree(group, source).iter().filter(|row| self.net.node_of(row.2.from) == node);
+        rows.fold(0, |ways, row| ways | 1 << self.iface_of(row.2.from))
+    }
+}
+
 type Sender = (u32, u16);
 type Session = (u32, u16);
 
@@ -276,6 +299,10 @@ fn session(is_apart: bool, tree: u16) -> Session {
     (group(is_apart, tree), if is_apart { 5004 } else { 5004 + tree / 11 })
 }
 
+fn is_wanted(is_apart: bool, tree: u16) -> bool {
+    if is_apart { tree < 32 } else { tree % 11 == 0 }
+}
+
 fn grow(is_apart: bool, until: &str) -> Option<(u64, u64)> {
     let mut net = chain();
     for tree in 0..TREES {
@@ -304,11 +331,22 @@ fn grow(is_apart: bool, until: &str) -> Option<(u64, u64)> {
     if until == "close" {
         return Some((hops, sum));
     }
+    if until == "ask" {
+        let mut ways = 0;
+        for tree in 0..TREES {
+            let (group, source) = (group(is_apart, tree), addr(2 * tree * 7));
+            for node in 0..NODES {
+                ways += routing.inward(node, group, source).map_or(0, |iface| 1 + iface as u64);
+                ways += routing.outward(node, group, source) as u64;
+            }
+        }
+        return Some((hops, sum + ways));
+    }
     let (mut senders, mut wants) = (Vec::new(), Vec::new());
     for tree in 0..TREES {
         let sender = (addr(2 * tree * 7), 5004);
         senders.push((session(is_apart, tree), sender));
-        if is_apart || tree % 11 == 0 {
+        if is_wanted(is_apart, tree) {
             for node in 0..NODES {
                 let style = [Style::Wild, Style::Fixed, Style::Shared][node as usize % 3];
                 let names = if style == Style::Wild { Vec::new() } else { vec![sender] };

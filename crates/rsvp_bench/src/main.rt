@@ -3,9 +3,9 @@
 //! `rsvp_bench read N` reads the objects of one message N times, and `rsvp_bench write N` writes them N times. Both print
 //! how many objects that were, and a sum over what was read or written, so that no work can be left out.
 //!
-//! `rsvp_bench grow N` adds the hops of the largest network, all of one group, N times; `close` closes the topology too, and
-//! `owe` works out what each end owes. With `-apart` behind it each tree has a group of its own. They print how many hops
-//! were added, and a sum over what came of it.
+//! `rsvp_bench grow N` adds the hops of the largest network, all of one group, N times; `close` closes the topology too.
+//! `ask` then asks where each tree comes into each node and leaves it, and `owe` works out what each end owes. With `-apart`
+//! behind it each tree has a group of its own. They print how many hops were added, and a sum over what came of it.
 //!
 //! `rsvp_bench put N` puts each reservation of a full table of fixed filters anew N times; `fill` puts them into the empty
 //! table, `parts` merges what is on interfaces, and `toward` what goes toward a previous hop. With `-shared` behind it the
@@ -41,7 +41,7 @@ fn main(rt: HostRuntime) -> io::Result<ExitCode> {
     }
     let Some(command) = command_of(&words) else {
         eprintln!(rt;
-            "usage: rsvp_bench read|write|grow|close|owe|grow-apart|close-apart|owe-apart|fill|put|parts|toward|fill-shared|put-shared|parts-shared|toward-shared N"
+            "usage: rsvp_bench read|write|grow|close|ask|owe|grow-apart|close-apart|ask-apart|owe-apart|fill|put|parts|toward|fill-shared|put-shared|parts-shared|toward-shared N"
         )?;
         return Ok(ExitCode::from(USAGE));
     };

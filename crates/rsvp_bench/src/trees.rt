@@ -15,7 +15,9 @@ pub enum Until {
     Grown,
     /// And the topology is closed.
     Closed,
-    /// And what each end owes is worked out.
+    /// And it is asked where each tree comes into each node and leaves it.
+    Asked,
+    /// Or what each end owes is worked out.
     Owed,
 }
 
@@ -67,6 +69,13 @@ fn grow(alloc: Global, forest: Forest) -> Option<Grown> {
     let sum = u64::from(routing.longest());
     if forest.until == Until::Closed {
         return Some(Grown { hops, sum });
+    }
+    if forest.until == Until::Asked {
+        let ways = ways(&routing, forest);
+        return Some(Grown {
+            hops,
+            sum: sum.wrapping_add(ways),
+        });
     }
     let locals = locals(alloc, forest)?;
     if !can_ask(&routing, &locals) {
@@ -177,7 +186,28 @@ fn session(forest: Forest, tree: u16) -> Session {
     }
 }
 
-// Each source sends to its session, and each node wants something of each session, in one of the three styles.
+// A sum over the ways of each tree at each node.
+fn ways(routing: &Routing, forest: Forest) -> u64 {
+    let mut sum = 0u64;
+    for tree in 0..TREES {
+        let source = addr(2 * root(tree));
+        for node in 0..NODES {
+            sum = sum.wrapping_add(ways_at(routing, node, group(forest, tree), source));
+        }
+    }
+    sum
+}
+
+// The way into a node, counted from 1, and the ways out of it.
+fn ways_at(routing: &Routing, node: u16, group: Addr, source: Addr) -> u64 {
+    let inward = match routing.inward(node, group, source) {
+        Some(iface) => 1 + u64::from(iface),
+        None => 0,
+    };
+    inward + u64::from(routing.outward(node, group, source))
+}
+
+// Each source sends to its session, and each node wants something of each session (32 at most), in one of the three styles.
 fn locals(alloc: Global, forest: Forest) -> Option<Locals> {
     let mut senders = Vec::new(alloc);
     let mut wants = Vec::new(alloc);
@@ -189,13 +219,21 @@ fn locals(alloc: Global, forest: Forest) -> Option<Locals> {
                 sender: sender(tree),
             })
             .ok()?;
-        if forest.is_apart || tree % 11 == 0 {
+        if is_wanted(forest, tree) {
             for node in 0..NODES {
                 wants.push(want(forest, tree, node)?).ok()?;
             }
         }
     }
     Some(Locals { senders, wants })
+}
+
+// Whether something is wanted of the session of a tree: once of each session, and of 32 at most.
+fn is_wanted(forest: Forest, tree: u16) -> bool {
+    if forest.is_apart {
+        return tree < 32;
+    }
+    tree % 11 == 0
 }
 
 // The sender of a tree.
