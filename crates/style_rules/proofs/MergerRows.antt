@@ -26,12 +26,9 @@ use Rattle.style_rules.specs.TallyRows.{standing_of, tally_row}
 use Rattle.style_rules.proofs.TallyRoom.{row_of_name, name_of_row, row_fits, room_after, named_after, rows_le_names}
 
 -- ---- the first name
-pub first_unit : (st : StyleKind) (p : Part) (s : Sender) → slice_get (keys p.senders) 0 ≡ Some s → part_unit st p ≡ unit_of st s
-first_unit st p s e = by (keys p.senders) e
-  where
-    by : (ks : List Sender) → slice_get ks 0 ≡ Some s → unit_of_first st ks ≡ unit_of st s
-    by [] e = absurd (cc)
-    by (k ∷ ks) e = let is : k ≡ s = cc in ap (unit_of st) is
+pub unit_first : (st : StyleKind) (ks : List Sender) (s : Sender) → slice_get ks 0 ≡ Some s → unit_of st s ≡ unit_of_first st ks
+unit_first st [] s e = absurd (cc)
+unit_first st (k ∷ ks) s e = let is : k ≡ s = cc in ap (unit_of st) (sym is)
 
 rows_named : (es : List (Sender × Unit {0})) (s : Sender) → slice_get (each (λ e. e.0) es) 0 ≡ Some s → 0 < length es
 rows_named [] s e = absurd (cc)

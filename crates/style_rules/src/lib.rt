@@ -14,6 +14,7 @@ mod row;
 mod style;
 #[cfg(test)]
 mod tests;
+mod units;
 mod upstream;
 mod wall;
 
@@ -21,5 +22,6 @@ pub use cuts::{charge, cut};
 pub use merger::Merger;
 pub use parts::Parts;
 pub use style::{Fixed, Shared, Style, Wild};
+pub use units::unit_of;
 pub use upstream::Upstream;
 pub use wall::{UpLine, Wall};
