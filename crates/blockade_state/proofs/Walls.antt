@@ -1,8 +1,7 @@
 -- The map of blockades: what it answers, and how many there are.
-use Rattle.std.proofs.Common.{◌≡◌, ◌<◌, ◌≤◌, ◌+◌, ◌-◌, ℕ, Bool, true, false, cond, List, [], ◌∷◌, length, map as each, is_some, Option, Some, None, refl, sym, ap, ◌∙◌, arith}
-use Rattle.std.specs.Prelude.{nat_le, not, ◌↔◌, Result, Ok, Err, IsErr, OnOk, OnErr, IfSome}
+use Rattle.std.proofs.Common.{◌≡◌, ◌<◌, ◌≤◌, ◌+◌, ℕ, Bool, true, false, cond, List, [], ◌∷◌, length, map as each, is_some, Option, Some, None, refl, sym, ap, ◌∙◌, arith}
+use Rattle.std.specs.Prelude.{not, ◌↔◌, Result, Ok, Err, IsErr, OnOk, OnErr, IfSome}
 use Rattle.std.specs.List.{filter_map, cons_option}
-use Rattle.std.specs.Option.{option_map}
 use Rattle.std.specs.Ordering.{eq_by_cmp}
 use Rattle.std.specs.FinMap.Entries.{find, where_key}
 use Rattle.std.proofs.lemmas.List.{length-map}
@@ -11,40 +10,26 @@ use Rattle.rsvp_base.specs.Table.{Table, get, size, put_in, changed}
 use Rattle.rsvp_base.proofs.Tables.{either, size-put_in}
 use Rattle.router_rules.specs.Facts.{WallKey, wall_keys}
 use Rattle.style_rules.specs.declared.wall.Wall.{Wall}
-use Rattle.soft_table.specs.Facts.{dead_by, lives_on}
-use Rattle.soft_table.proofs.Valued.{size-valued, valued-put_in, valued-changed}
+use Rattle.soft_table.specs.Facts.{dead_by}
+use Rattle.soft_table.proofs.Keyed.{where_no_more}
+use Rattle.soft_table.proofs.Valued.{size-valued, valued-put_in}
 use Rattle.blockade_state.specs.declared.fact.Kept.{Kept}
-use Rattle.blockade_state.specs.Blockades.{wall_key, fact_row, wall_of, later}
+use Rattle.blockade_state.specs.Blockades.{wall_key, fact_row, wall_of}
 
 abbrev pub said : Kept × ℕ → Wall × ℕ
 said e = (e.0.wall, e.1)
-
--- the wall of a fact that was found
-pub looked_up : (r : Option Kept) (w : Option (Kept × ℕ)) → r ≡ option_map (λ e. e.0) w → option_map (λ (f : Kept). f.wall) r ≡ option_map (λ (e : Wall × ℕ). e.0) (option_map said w)
-looked_up None None e = refl
-looked_up None (Some x) e = cc
-looked_up (Some f) None e = cc
-looked_up (Some f) (Some x) e = let is : f ≡ x.0 = cc in ap (λ (f : Kept). Some f.wall) is
 
 none_if : {A : Type 0} (w : Option A) → is_some w ≡ false → w ≡ None
 none_if None e = refl
 none_if (Some x) e = cc
 
 -- ---- one dead fact fewer
-fewer_or_all : {X : Type 0} (p : WallKey → Bool) (es : List (WallKey × X)) → length (where_key wall_keys.cmp p es) ≤ length es
-fewer_or_all p [] = omega arith
-fewer_or_all {X} p (e ∷ es) = by (p e.0) (fewer_or_all p es)
-  where
-    by : (b : Bool) → length (where_key wall_keys.cmp p es) ≤ length es → length {A = WallKey × X} (cond b (e ∷ where_key wall_keys.cmp p es) (where_key wall_keys.cmp p es)) ≤ length (e ∷ es)
-    by true rest = omega arith
-    by false rest = omega arith
-
 fewer : {X : Type 0} (k : WallKey) (v : X) (es : List (WallKey × X)) → find wall_keys.cmp k es ≡ Some v → length (where_key wall_keys.cmp (λ x. not (eq_by_cmp wall_keys.cmp k x)) es) < length es
 fewer k v [] e = cc
 fewer {X} k v (e ∷ es) found = by (λ h. fewer k v es h) (eq_by_cmp wall_keys.cmp k e.0) found
   where
     by : (find wall_keys.cmp k es ≡ Some v → length (where_key wall_keys.cmp (λ x. not (eq_by_cmp wall_keys.cmp k x)) es) < length es) → (b : Bool) → cond b (Some e.1) (find wall_keys.cmp k es) ≡ Some v → length {A = WallKey × X} (cond (not b) (e ∷ where_key wall_keys.cmp (λ x. not (eq_by_cmp wall_keys.cmp k x)) es) (where_key wall_keys.cmp (λ x. not (eq_by_cmp wall_keys.cmp k x)) es)) < length (e ∷ es)
-    by ih true h = let rest = fewer_or_all (λ x. not (eq_by_cmp wall_keys.cmp k x)) es in omega arith
+    by ih true h = let rest = where_no_more wall_keys (λ x. not (eq_by_cmp wall_keys.cmp k x)) es in omega arith
     by ih false h = let rest = ih h in omega arith
 
 pub pulled_one : (r : Option Kept) (old new : List Kept) → is_some r ≡ true → IfSome r (λ f. find wall_keys.cmp (wall_key f) (dead_by wall_key old) ≡ Some f)
@@ -108,11 +93,3 @@ module _ (fs : List (Kept × ℕ)) (up : AreRows wall_keys fact_row fs) where
       let m = n ∙ ap (λ b. cond b (length fs) (length fs + 1)) t in
       let never : length fs ≡ 512 → ⊥ = λ q. let err : false ≡ true = full.1 (none_if (get facts k) t, q ∙ sym is) in absurd (cc) in
       omega (arith, m, few, never))
-
-  -- time
-  pub lived_on : (ms : ℕ) → changed wall_of (changed (λ k e. lives_on ms e) facts) ≡ changed (later ms) (changed wall_of facts)
-  lived_on ms = valued-changed wall_keys said said (λ k e. lives_on ms e) (later ms) (λ k e. by e (nat_le e.1 ms)) facts
-    where
-      by : (e : Kept × ℕ) (b : Bool) → option_map said (cond b None (Some (e.0, e.1 - ms))) ≡ cond b None (Some (e.0.wall, e.1 - ms))
-      by e true = refl
-      by e false = refl

@@ -1,10 +1,8 @@
 -- What a table below says, as the map of reservations: the facts by key, and what changes of them keep.
-use Rattle.std.proofs.Common.{◌≡◌, ◌-◌, ℕ, zero, suc, Bool, true, false, cond, not, List, [], ◌∷◌, map as each, Option, Some, None, refl, sym, ap, subst, ◌∙◌, arith, inl, inr}
-use Rattle.std.specs.Prelude.{nat_le, slice_get, IfSome, IsNone, Result, Ok, Err, IsErr, OnOk}
-use Rattle.std.specs.Option.{option_map}
+use Rattle.std.proofs.Common.{◌≡◌, ◌-◌, ℕ, Bool, true, false, cond, not, List, [], ◌∷◌, map as each, Option, Some, None, refl, sym, ap, subst, ◌∙◌, arith, inl, inr}
+use Rattle.std.specs.Prelude.{nat_le, IfSome, IsNone}
 use Rattle.std.specs.Ordering.{eq_by_cmp}
-use Rattle.rsvp_base.specs.Keys.{pairs}
-use Rattle.rsvp_base.specs.Orders.{sessions, units}
+use Rattle.rsvp_base.specs.Orders.{sessions}
 use Rattle.rsvp_base.specs.Rows.{AreRows, table_of}
 use Rattle.rsvp_base.specs.Table.{Table, empty, get, put_in, without, changed, changed_rows, same_rows}
 use Rattle.rsvp_base.specs.Under.{under}
@@ -13,17 +11,18 @@ use Rattle.rsvp_base.specs.declared.style.StyleKind.{StyleKind}
 use Rattle.rsvp_base.specs.declared.style.Unit.{Unit as UnitOf}
 use Rattle.rsvp_base.proofs.Counts.{in_found, found_in}
 use Rattle.rsvp_base.proofs.Members.{in_each, to_each}
-use Rattle.rsvp_base.proofs.Tables.{same_table, got_changed, got_without, got_put_in}
-use Rattle.rsvp_base.proofs.UnderLaws.{get-under}
-use Rattle.style_rules.specs.Lines.{Line, LineKey, NextHop, line_keys, next_hops, AreUnder}
+use Rattle.rsvp_base.proofs.Tables.{got_changed, got_without, got_put_in}
+use Rattle.style_rules.specs.Lines.{Line, LineKey, line_keys, AreUnder}
 use Rattle.style_rules.specs.Limits.{IsWithinLimits}
-use Rattle.style_rules.specs.Parts.{IsOfStyle, IsPartAtMost}
+use Rattle.style_rules.specs.Parts.{IsOfStyle, IsPartAtMost, part_unit}
 use Rattle.style_rules.specs.PartLaws.{part_at_most_itself}
 use Rattle.style_rules.proofs.Room.{within_below}
 use Rattle.std.specs.FinMap.Entries.{put, where_key}
-use Rattle.soft_table.specs.Facts.{Kept, dead_by, lives_on, dies}
-use Rattle.soft_table.proofs.Valued.{valued, get-valued, valued-put_in, valued-without, valued-changed}
+use Rattle.soft_table.specs.Facts.{Kept, dead_by}
+use Rattle.soft_table.proofs.Told.{under-valued}
+use Rattle.soft_table.proofs.Valued.{valued-put_in, valued-without}
 use Rattle.resv_state.specs.declared.fact.Held.{Held}
+use Rattle.resv_state.specs.Walks.{held_under, rests}
 use Rattle.resv_state.specs.declared.fact.ResvFact.{ResvFact}
 use Rattle.resv_state.specs.Resvs.{ResvFacts, ResvMap, AreOfStyle, AreUnderTheirKeys, resv_key, resv_line, resv_lines, held_key, held_row, dead_row, fact_of, dead_of, later, dead_after}
 
@@ -35,44 +34,6 @@ told h = h.fact
 
 pub same_map : (m n : ResvMap) → m.facts ≡ n.facts → m.dead ≡ n.dead → m ≡ n
 same_map m n f d = λ i. record { facts = f i; dead = d i }
-
--- ---- what was found
-pub looked_up : (r : Option Held) (w : Option (Held × ℕ)) → r ≡ option_map (λ e. e.0) w → option_map told r ≡ option_map (λ (e : ResvFact × ℕ). e.0) (option_map said w)
-looked_up None None e = refl
-looked_up None (Some x) e = cc
-looked_up (Some f) None e = cc
-looked_up (Some f) (Some x) e = let is : f ≡ x.0 = cc in ap (λ (h : Held). Some h.fact) is
-
-pub kth_told : (r : Option Held) (w : Option ((NextHop × UnitOf) × (Held × ℕ))) → r ≡ option_map (λ e. e.1.0) w → option_map told r ≡ option_map (λ (e : (NextHop × UnitOf) × (ResvFact × ℕ)). e.1.0) (option_map (λ e. (e.0, said e.1)) w)
-kth_told None None e = refl
-kth_told None (Some x) e = cc
-kth_told (Some f) None e = cc
-kth_told (Some f) (Some x) e = let is : f ≡ x.1.0 = cc in ap (λ (h : Held). Some h.fact) is
-
-pub kth_said : (es : List ((NextHop × UnitOf) × (Held × ℕ))) (k : ℕ) → slice_get (changed_rows (λ k e. Some (said e)) es) k ≡ option_map (λ e. (e.0, said e.1)) (slice_get es k)
-kth_said [] k = refl
-kth_said (e ∷ es) zero = refl
-kth_said (e ∷ es) (suc k) = kth_said es k
-
-pub under_said : (t : Table line_keys (Held × ℕ)) (s : Session) → under sessions (pairs next_hops units) (changed fact_of t) s ≡ valued said (under sessions (pairs next_hops units) t s)
-under_said t s =
-    same_table (pairs next_hops units) _ _ (λ b. get-under sessions (pairs next_hops units) (changed fact_of t) s b ∙ get-valued line_keys said t (s, b)
-    ∙ ap (option_map said) (sym (get-under sessions (pairs next_hops units) t s b)) ∙ sym (get-valued (pairs next_hops units) said (under sessions (pairs next_hops units) t s) b))
-
--- ---- time
-pub lived_on : (ms : ℕ) (t : Table line_keys (Held × ℕ)) → changed fact_of (changed (λ k e. lives_on ms e) t) ≡ changed (later ms) (changed fact_of t)
-lived_on ms t = valued-changed line_keys said said (λ k e. lives_on ms e) (later ms) (λ k e. by e (nat_le e.1 ms)) t
-  where
-    by : (e : Held × ℕ) (b : Bool) → option_map said (cond b None (Some (e.0, e.1 - ms))) ≡ cond b None (Some (e.0.fact, e.1 - ms))
-    by e true = refl
-    by e false = refl
-
-pub died : (ms : ℕ) (t : Table line_keys (Held × ℕ)) → changed dead_of (changed (λ k e. dies ms e) t) ≡ changed (dead_after ms) (changed fact_of t)
-died ms t = valued-changed line_keys said told (λ k e. dies ms e) (dead_after ms) (λ k e. by e (nat_le e.1 ms)) t
-  where
-    by : (e : Held × ℕ) (b : Bool) → option_map told (cond b (Some e.0) None) ≡ cond b (Some e.0.fact) None
-    by e true = refl
-    by e false = refl
 
 -- ---- fewer and smaller reservations
 -- each reservation of the one has one of the other above it, under the same key
@@ -167,14 +128,21 @@ put_style st m f left own h =
       ];
     }
 
--- an answer that is not refused
-pub when_ok : {A E : Type 0} (r : Result A E) {P : Type 0} → (IsErr r → ⊥) → OnOk r P → P
-when_ok (Ok x) never ok = ok
-when_ok (Err e) never ok = absurd (never refl)
+-- the key of a fact with its unit below
+pub own_unit : (st : StyleKind) (f : ResvFact) (u : UnitOf) → u ≡ part_unit st f.part → held_key (record { unit = u; fact = f }) ≡ resv_key st f
+own_unit st f u is = ap (λ (v : UnitOf). (f.session, ((f.iface, f.next), v))) is
 
--- the map after a fact was put in below
-pub put_said : (fs : List (Held × ℕ)) (up : AreRows line_keys held_row fs) (k : LineKey) (h : Held) (left : ℕ) (m : ResvFacts) → m.rows ≡ changed_rows fact_of (put line_keys.cmp (held_key h) (h, left) (each held_row fs)) → held_key h ≡ k
-    → m ≡ put_in (changed fact_of (table_of line_keys held_row fs up)) k (h.fact, left)
-put_said fs up k h left m is own =
-    let t : Table line_keys (Held × ℕ) = table_of line_keys held_row fs up in
-    same_rows m (changed fact_of (put_in t (held_key h) (h, left))) is ∙ valued-put_in line_keys said t (held_key h) (h, left) ∙ ap (λ z. put_in (changed fact_of t) z (h.fact, left)) own
+module _ (fs : List (Held × ℕ)) (up : AreRows line_keys held_row fs) where
+  abbrev t : Table line_keys (Held × ℕ)
+  t = table_of line_keys held_row fs up
+
+  -- the map after a fact was put in below
+  pub put_said : (st : StyleKind) (f : ResvFact) (left : ℕ) (u : UnitOf) → u ≡ part_unit st f.part → (m : ResvFacts) → m.rows ≡ changed_rows fact_of (put line_keys.cmp (held_key (record { unit = u; fact = f })) (record { unit = u; fact = f }, left) (each held_row fs))
+      → m ≡ put_in (changed fact_of t) (resv_key st f) (f, left)
+  put_said st f left u unit m is =
+      let h : Held = record { unit = u; fact = f } in
+      same_rows m (changed fact_of (put_in t (held_key h) (h, left))) is ∙ valued-put_in line_keys said t (held_key h) (h, left) ∙ ap (λ z. put_in (changed fact_of t) z (f, left)) (own_unit st f u unit)
+
+  -- the rows of a session
+  pub rows_said : (now : ResvFacts) → changed fact_of t ≡ now → (s : Session) → changed_rows (λ k e. Some (said e)) (held_under s fs) ≡ (under sessions rests now s).rows
+  rows_said now is s = ap (λ (u : Table rests (ResvFact × ℕ)). u.rows) (sym (under-valued said sessions rests t s)) ∙ ap (λ (m : ResvFacts). (under sessions rests m s).rows) is

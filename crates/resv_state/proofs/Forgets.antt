@@ -1,28 +1,25 @@
 -- A name leaves the reservations of a session, one after another.
-use Rattle.std.proofs.Common.{◌≡◌, ◌≤◌, ◌+◌, ℕ, zero, suc, Bool, true, false, cond, T, ◌||◌, ◌&&◌, List, [], ◌∷◌, ◌++◌, length, take, drop, map as each, Option, Some, None, refl, sym, ap, subst, ◌∙◌, arith, inl, inr}
+use Rattle.std.proofs.Common.{◌≡◌, ◌+◌, ℕ, suc, Bool, true, false, cond, ◌||◌, ◌&&◌, List, [], ◌∷◌, ◌++◌, take, drop, Option, Some, None, refl, sym, ap, subst, ◌∙◌, arith}
 use Rattle.std.specs.Prelude.{slice_get}
 use Rattle.std.specs.Cmp.{both_ways}
-use Rattle.std.specs.FinMap.Entries.{where_key, is_sorted, below_all}
 use Rattle.std.specs.List.{list_any}
 use Rattle.std.specs.Option.{option_map}
-use Rattle.std.specs.Ordering.{eq_by_cmp, is_lt, ordering_reverse}
-use Rattle.std.specs.declared.cmp.Ordering.{Ordering}
-use Rattle.std.specs.declared.cmp.Ordering.TheVariants.{Less, Equal, Greater}
+use Rattle.std.specs.Ordering.{eq_by_cmp, is_lt}
 use Rattle.std.proofs.lemmas.List.Folds.{list_any-append}
-use Rattle.rsvp_base.specs.Keys.{Keys}
-use Rattle.rsvp_base.specs.Members.{In}
 use Rattle.rsvp_base.specs.Orders.{Names, sessions}
 use Rattle.rsvp_base.specs.Rows.{AreRows, table_of}
-use Rattle.rsvp_base.specs.Table.{Table, get, keys, kept, changed, changed_rows, passes, first, second}
+use Rattle.rsvp_base.specs.Table.{Table, get, keys, kept, changed, changed_rows}
 use Rattle.rsvp_base.specs.Under.{under}
 use Rattle.rsvp_base.specs.declared.session.Session.{Session}
 use Rattle.rsvp_base.proofs.Counts.{in_found, found_in}
+use Rattle.rsvp_base.proofs.Fronts.{front_more, got_in}
 use Rattle.rsvp_base.proofs.Members.{to_each, any_in}
 use Rattle.rsvp_base.proofs.SetLaws.{and_both, and_made}
-use Rattle.rsvp_base.proofs.Tables.{either, less_not_equal, tied_same, tied_self, then_do, same_table, get-kept, got_kept, get-changed}
+use Rattle.rsvp_base.proofs.Tables.{either, tied_same, tied_self, then_do, same_table, get-kept, got_kept, get-changed}
 use Rattle.rsvp_base.proofs.UnderLaws.{get-under}
 use Rattle.style_rules.specs.Lines.{LineKey, line_keys}
 use Rattle.soft_table.specs.Facts.{rows_behind}
+use Rattle.soft_table.proofs.Keyed.{keys_of, key_got, row_got, first_key, none_upto, keys-valued, keys_where-valued}
 use Rattle.soft_table.proofs.Steps.{behind_drop}
 use Rattle.resv_state.specs.declared.fact.Held.{Held}
 use Rattle.resv_state.specs.declared.fact.ResvFact.{ResvFact}
@@ -32,79 +29,6 @@ use Rattle.resv_state.specs.Leaving.{left_of, lessened}
 use Rattle.resv_state.proofs.Facts.{said, same_map}
 use Rattle.resv_state.proofs.Left.{then_same, own_key}
 use Rattle.resv_state.proofs.Tears.{after_some, one_more_key}
-
--- ---- lists
-pub taken_one : {A : Type 0} (xs : List A) (i : ℕ) (x : A) → slice_get xs i ≡ Some x → take (suc i) xs ≡ take i xs ++ x ∷ []
-taken_one [] i x at = cc
-taken_one (y ∷ ys) zero x at = let is : y ≡ x = cc in ap (λ z. z ∷ []) is
-taken_one (y ∷ ys) (suc i) x at = ap (λ zs. y ∷ zs) (taken_one ys i x at)
-
-pub taken_end : {A : Type 0} (xs : List A) (i : ℕ) → slice_get xs i ≡ None → take i xs ≡ xs
-taken_end [] zero at = refl
-taken_end [] (suc i) at = refl
-taken_end (x ∷ xs) zero at = cc
-taken_end (x ∷ xs) (suc i) at = ap (λ zs. x ∷ zs) (taken_end xs i at)
-
-pub taken_all : {A : Type 0} (xs : List A) (i : ℕ) → length xs ≤ i → take i xs ≡ xs
-taken_all [] zero h = refl
-taken_all [] (suc i) h = refl
-taken_all (x ∷ xs) zero h = absurd (omega arith)
-taken_all (x ∷ xs) (suc i) h = ap (λ zs. x ∷ zs) (taken_all xs i (omega arith))
-
-pub got_in : {A : Type 0} (xs : List A) (i : ℕ) (x : A) → slice_get xs i ≡ Some x → In x xs
-got_in [] i x at = absurd (cc)
-got_in (y ∷ ys) zero x at = let is : y ≡ x = cc in inl (sym is)
-got_in (y ∷ ys) (suc i) x at = inr (got_in ys i x at)
-
-abbrev keys_of : {R X : Type 0} → List (R × X) → List R
-keys_of es = each (λ e. e.0) es
-
-key_got : {R X : Type 0} (es : List (R × X)) (i : ℕ) → slice_get (keys_of es) i ≡ option_map (λ e. e.0) (slice_get es i)
-key_got [] i = refl
-key_got (e ∷ es) zero = refl
-key_got (e ∷ es) (suc i) = key_got es i
-
-row_got : {R X : Type 0} (es : List (R × X)) (i : ℕ) (r : R) → slice_get (keys_of es) i ≡ Some r → (x : R × X) × (slice_get es i ≡ Some x) × (x.0 ≡ r)
-row_got {R} {X} es i r at = by (slice_get es i) refl (sym (key_got es i) ∙ at)
-  where
-    by : (w : Option (R × X)) → slice_get es i ≡ w → option_map (λ (e : R × X). e.0) w ≡ Some r → (x : R × X) × (slice_get es i ≡ Some x) × (x.0 ≡ r)
-    by None is e = cc
-    by (Some x) is e = (x, is, (cc))
-
-first_key : {R X : Type 0} (es : List (R × X)) (n : ℕ) → slice_get (keys_of (drop n es)) 0 ≡ slice_get (keys_of es) n
-first_key [] zero = refl
-first_key [] (suc n) = refl
-first_key (e ∷ es) zero = refl
-first_key (e ∷ es) (suc n) = first_key es n
-
-less_is : (w : Ordering) → T (is_lt w) → w ≡ Less
-less_is Less h = refl
-less_is Equal h = absurd h
-less_is Greater h = absurd h
-
-or_both : (a b : Bool) → a ≡ false → b ≡ false → (a || b) ≡ false
-or_both true b e f = cc
-or_both false b e f = f
-
-module _ {R X : Type 0} (o : Keys R) where
-  below_kth : (r : R) (es : List (R × X)) (k : ℕ) (x : R × X) → T (below_all o.cmp r es) → slice_get es k ≡ Some x → o.cmp r x.0 ≡ Less
-  below_kth r [] k x h at = cc
-  below_kth r (e ∷ es) zero x h at = let is : e ≡ x = cc in ap (λ (z : R × X). o.cmp r z.0) (sym is) ∙ less_is _ (first _ _ h)
-  below_kth r (e ∷ es) (suc k) x h at = below_kth r es k x (second _ _ h) at
-
-  -- up to a row, no key stands behind it
-  none_upto : (es : List (R × X)) (i : ℕ) (x : R × X) (b : R) → T (is_sorted o.cmp es) → slice_get es i ≡ Some x → is_lt (o.cmp x.0 b) ≡ true → list_any (λ c. eq_by_cmp o.cmp c b) (take (suc i) (keys_of es)) ≡ false
-  none_upto [] i x b up at lt = cc
-  none_upto (e ∷ es) zero x b up at lt = let is : e ≡ x = cc in or_both _ false (ap (λ (z : R × X). eq_by_cmp o.cmp z.0 b) is ∙ less_not_equal _ (passes _ lt)) refl
-  none_upto (e ∷ es) (suc i) x b up at lt =
-      or_both _ _
-      (either (eq_by_cmp o.cmp e.0 b)
-      (λ tie.
-      let over : o.cmp x.0 e.0 ≡ Greater = o.total.antisymm x.0 e.0 ∙ ap ordering_reverse (below_kth e.0 es i x (first _ _ up) at) in
-      let z : true ≡ false = sym lt ∙ ap (λ c. is_lt (o.cmp x.0 c)) (sym (tied_same o e.0 b tie)) ∙ ap is_lt over in
-      absurd (cc))
-      (λ f. f))
-      (none_upto es i x b (second _ _ up) at lt)
 
 -- ---- a session's reservations
 session_ties : (s : Session) (r : Rest) (q : LineKey) → eq_by_cmp line_keys.cmp q (s, r) ≡ (eq_by_cmp sessions.cmp s q.0 && eq_by_cmp rests.cmp r q.1)
@@ -119,6 +43,9 @@ session_ties s r q =
     let rest : r ≡ q.1 = tied_same rests r q.1 two.1 in
     let is : ◌≡◌ {A = LineKey} q (s, r) = λ i. (sym session i, sym rest i) in
     ap (λ z. eq_by_cmp line_keys.cmp z (s, r)) is ∙ tied_self line_keys (s, r))
+
+one_front : {A : Type 0} (xs : List A) (k : ℕ) (x : A) → slice_get xs k ≡ Some x → take (suc k) xs ≡ take k xs ++ x ∷ []
+one_front xs k x at = let one : suc k ≡ k + 1 = omega arith in ap (λ n. take n xs) one ∙ front_more xs k x at
 
 module _ (s : Session) (gone : Names) (old : ResvMap) where
   abbrev those : Table rests (ResvFact × ℕ)
@@ -148,7 +75,7 @@ module _ (s : Session) (gone : Names) (old : ResvMap) where
   met_more : (k : ℕ) (r : Rest) → slice_get (keys those) k ≡ Some r → (q : LineKey) → is_met (take (suc k) (keys those)) q ≡ (is_met (take k (keys those)) q || eq_by_cmp line_keys.cmp q (s, r))
   met_more k r at q =
       let test : Rest → Bool = λ r. eq_by_cmp rests.cmp r q.1 in
-      ap (λ b. eq_by_cmp sessions.cmp s q.0 && b) (ap (list_any test) (taken_one (keys those) k r at) ∙ list_any-append test (take k (keys those)) (r ∷ []))
+      ap (λ b. eq_by_cmp sessions.cmp s q.0 && b) (ap (list_any test) (one_front (keys those) k r at) ∙ list_any-append test (take k (keys those)) (r ∷ []))
       ∙ apart (eq_by_cmp sessions.cmp s q.0) (list_any test (take k (keys those))) (eq_by_cmp rests.cmp r q.1)
       ∙ ap (λ b. is_met (take k (keys those)) q || b) (sym (session_ties s r q))
 
@@ -213,19 +140,6 @@ keyed u own i = by (slice_get u.rows i) refl ∙ sym (key_got u.rows i)
     by None at = refl
     by (Some x) at = ap Some (own x.0 x.1 (in_found rests u x.0 x.1 (got_in u.rows i x at)))
 
-said_keys : (es : List (Rest × (Held × ℕ))) → keys_of (changed_rows (λ k e. Some (said e)) es) ≡ keys_of es
-said_keys [] = refl
-said_keys (e ∷ es) = ap (λ rs. e.0 ∷ rs) (said_keys es)
-
-said_behind : (test : Rest → Bool) (es : List (Rest × (Held × ℕ))) → keys_of (where_key rests.cmp test (changed_rows (λ k e. Some (said e)) es)) ≡ keys_of (where_key rests.cmp test es)
-said_behind test [] = refl
-said_behind test (e ∷ es) = by (test e.0) (said_behind test es)
-  where
-    by : (b : Bool) → keys_of (where_key rests.cmp test (changed_rows (λ k e. Some (said e)) es)) ≡ keys_of (where_key rests.cmp test es)
-        → keys_of {X = ResvFact × ℕ} (cond b ((e.0, said e.1) ∷ where_key rests.cmp test (changed_rows (λ k e. Some (said e)) es)) (where_key rests.cmp test (changed_rows (λ k e. Some (said e)) es))) ≡ keys_of {X = Held × ℕ} (cond b (e ∷ where_key rests.cmp test es) (where_key rests.cmp test es))
-    by true ih = ap (λ rs. e.0 ∷ rs) ih
-    by false ih = ih
-
 module _ (fs : List (Held × ℕ)) (up : AreRows line_keys held_row fs) (s : Session) where
   abbrev below : Table rests (Held × ℕ)
   below = under sessions rests (table_of line_keys held_row fs up) s
@@ -235,10 +149,10 @@ module _ (fs : List (Held × ℕ)) (up : AreRows line_keys held_row fs) (s : Ses
 
   -- the first, and the one behind a rest
   pub first_told : (m : Table rests (ResvFact × ℕ)) → m.rows ≡ changed_rows (λ k e. Some (said e)) below.rows → option_map (λ (h : Held). (held_key h).1) (option_map (λ (e : Rest × (Held × ℕ)). e.1.0) (slice_get below.rows 0)) ≡ slice_get (keys m) 0
-  first_told m is = keyed below own 0 ∙ ap (λ rs. slice_get rs 0) (sym (ap keys_of is ∙ said_keys below.rows))
+  first_told m is = keyed below own 0 ∙ ap (λ rs. slice_get rs 0) (sym (ap keys_of is ∙ keys-valued said below.rows))
 
   pub behind_told : (r : Rest) (m : Table rests (ResvFact × ℕ)) → m.rows ≡ changed_rows (λ k e. Some (said e)) below.rows
       → option_map (λ (h : Held). (held_key h).1) (option_map (λ (e : Rest × (Held × ℕ)). e.1.0) (slice_get (rows_behind rests r below.rows) 0)) ≡ slice_get (keys_of (rows_behind rests r m.rows)) 0
   behind_told r m is =
       keyed (kept (λ q. is_lt (rests.cmp r q)) below) (λ b e at. own b e (got_kept rests (λ q. is_lt (rests.cmp r q)) below b e at).1) 0
-      ∙ ap (λ rs. slice_get rs 0) (sym (ap (λ es. keys_of (rows_behind rests r es)) is ∙ said_behind (λ q. is_lt (rests.cmp r q)) below.rows))
+      ∙ ap (λ rs. slice_get rs 0) (sym (ap (λ es. keys_of (rows_behind rests r es)) is ∙ keys_where-valued said rests (λ q. is_lt (rests.cmp r q)) below.rows))

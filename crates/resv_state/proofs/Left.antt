@@ -1,22 +1,18 @@
 -- What is left of reservations when names leave them.
-use Rattle.std.proofs.Common.{◌≡◌, ◌<◌, ◌+◌, ℕ, suc, Bool, true, false, cond, not, ◌||◌, ◌&&◌, is_some, List, [], ◌∷◌, ◌++◌, length, take, get_or, Option, Some, None, refl, sym, ap, subst, ◌∙◌, arith}
-use Rattle.std.specs.Cmp.{both_ways}
+use Rattle.std.proofs.Common.{◌≡◌, ℕ, Bool, true, false, cond, not, ◌&&◌, is_some, List, [], ◌∷◌, Option, Some, None, refl, sym, ap, subst, ◌∙◌}
 use Rattle.std.specs.FinMap.Entries.{find}
-use Rattle.std.specs.List.{list_any}
 use Rattle.std.specs.Option.{option_map}
 use Rattle.std.specs.Ordering.{eq_by_cmp}
-use Rattle.std.proofs.Math.Seq.{take-suc}
-use Rattle.std.proofs.lemmas.List.Folds.{list_any-append}
 use Rattle.rsvp_base.specs.Members.{In}
 use Rattle.rsvp_base.specs.Orders.{Names, senders}
 use Rattle.rsvp_base.specs.Rows.{AreRows, table_of}
 use Rattle.rsvp_base.specs.Sets.{cut, is_none, IsWithin}
-use Rattle.rsvp_base.specs.Table.{Table, get, has, keys, kept, without, put_in, changed, changed_rows}
+use Rattle.rsvp_base.specs.Table.{Table, get, has, kept, without, put_in, changed, changed_rows}
 use Rattle.rsvp_base.specs.declared.part.Part.{Part}
 use Rattle.rsvp_base.specs.declared.session.Sender.{Sender}
 use Rattle.rsvp_base.specs.declared.style.StyleKind.{StyleKind}
-use Rattle.rsvp_base.proofs.Counts.{in_found, found_in}
-use Rattle.rsvp_base.proofs.Members.{in_each, to_each, in_any, any_in}
+use Rattle.rsvp_base.proofs.Counts.{found_in}
+use Rattle.rsvp_base.proofs.Members.{in_each}
 use Rattle.rsvp_base.proofs.SetLaws.{has-kept, has-cut, same_set, and_both}
 use Rattle.rsvp_base.proofs.Tables.{either, tied_same, tied_self, then_do, same_table, get-put_in_same, get-put_in_other, get-without, get-changed, got_changed}
 use Rattle.style_rules.specs.CutLaws.{made_of, part_of_itself, some_within}
@@ -33,50 +29,6 @@ use Rattle.resv_state.specs.declared.fact.ResvFact.{ResvFact}
 use Rattle.resv_state.specs.Resvs.{ResvFacts, AreOfStyle, resv_key, resv_lines, held_key, held_row, fact_of}
 use Rattle.resv_state.specs.Leaving.{stays, with_part, left_of, has_one, lessened, key_has_one, held_with, held_left, held_lessened, held_has_one}
 use Rattle.resv_state.proofs.Facts.{said, limits_below}
-
--- ---- names, one at a time
-abbrev pub is_name : Sender → Sender → Bool
-is_name q x = eq_by_cmp senders.cmp x q
-
--- the names of a set without the first of a list
-abbrev pub AreWithout : Names → Names → List Sender → Type 0
-AreWithout from left xs = (q : Sender) → has left q ≡ (has from q && not (list_any (is_name q) xs))
-
-apart : (a b e : Bool) → ((a && not b) && not e) ≡ (a && not (b || (e || false)))
-apart true true e = refl
-apart true false true = refl
-apart true false false = refl
-apart false b e = refl
-
-pub take_one : (xs : List Sender) (i : ℕ) (d : Sender) → i < length xs → take (i + 1) xs ≡ take i xs ++ get_or xs i d ∷ []
-take_one xs i d lt = let one : i + 1 ≡ suc i = omega arith in ap (λ n. take n xs) one ∙ take-suc xs i d lt
-
-pub one_gone : (from left : Names) (xs : List Sender) (i : ℕ) (d : Sender) → i < length xs → AreWithout from left (take i xs) → AreWithout from (without left (get_or xs i d)) (take (i + 1) xs)
-one_gone from left xs i d lt h q =
-    has-kept senders (λ x. not (eq_by_cmp senders.cmp (get_or xs i d) x)) left q ∙ ap (λ b. b && not (is_name q (get_or xs i d))) (h q)
-    ∙ apart (has from q) (list_any (is_name q) (take i xs)) (is_name q (get_or xs i d))
-    ∙ ap (λ b. has from q && not b) (sym (ap (list_any (is_name q)) (take_one xs i d lt) ∙ list_any-append (is_name q) (take i xs) (get_or xs i d ∷ [])))
-
-some_there : (w : Option (Unit {0})) → is_some w ≡ true → w ≡ Some tt
-some_there None e = cc
-some_there (Some u) e = refl
-
-pub in_keys : (s : Names) (q : Sender) → has s q ≡ true → In q (keys s)
-in_keys s q h = to_each (λ (e : Sender × Unit {0}). e.0) (q, tt) s.rows (found_in senders s q tt (some_there (get s q) h))
-
-pub keys_in : (s : Names) (q : Sender) → In q (keys s) → has s q ≡ true
-keys_in s q i =
-    let e = in_each (λ (e : Sender × Unit {0}). e.0) q s.rows i in
-    ap (has s) e.2 ∙ ap is_some (in_found senders s e.0.0 e.0.1 e.1)
-
-any_key : (s : Names) (q : Sender) → list_any (is_name q) (keys s) ≡ has s q
-any_key s q =
-    both_ways _ _
-    (λ h. let x = in_any (is_name q) (keys s) h in ap (has s) (sym (tied_same senders x.0 q x.2)) ∙ keys_in s x.0 x.1)
-    (λ h. any_in (is_name q) q (keys s) (in_keys s q h) (tied_self senders q))
-
-pub all_gone : (from left gone : Names) → AreWithout from left (keys gone) → left ≡ kept (stays gone) from
-all_gone from left gone h = same_set senders left (kept (stays gone) from) (λ q. h q ∙ ap (λ b. has from q && not b) (any_key gone q) ∙ sym (has-kept senders (stays gone) from q))
 
 -- ---- parts
 abbrev alone : Sender → Names

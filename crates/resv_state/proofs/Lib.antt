@@ -1,4 +1,5 @@
 pub mod Facts
+pub mod Kept
 pub mod Left
 pub mod Tears
 pub mod Forgets

@@ -25,19 +25,22 @@ use Rattle.rsvp_base.proofs.Tables.{either, tied_same, tied_self, get-put_in_sam
 use Rattle.rsvp_base.proofs.UnderLaws.{get-under}
 use Rattle.style_rules.specs.Lines.{Line, LineKey, NextHop, line_keys, line_key, next_hops, next_hop}
 use Rattle.style_rules.specs.Limits.{of_style, of_session, line_keys_of, sessions_of, next_hops_of, names_of, IsWithinLimits, within_limits}
+use Rattle.style_rules.specs.Parts.{part_unit}
 use Rattle.style_rules.proofs.Room.{within_told, within_tested, of_style_all}
 use Rattle.style_rules.proofs.StyleLaws.{named_in, in_named}
-use Rattle.std.specs.FinMap.Entries.{find, where_key}
+use Rattle.std.specs.FinMap.Entries.{find}
 use Rattle.soft_table.specs.Facts as soft_facts
 use Rattle.soft_table.specs.Facts.{facts_by}
 use Rattle.soft_table.proofs.Counts as soft
 use Rattle.soft_table.proofs.Counts.{size_sessions}
+use Rattle.soft_table.proofs.Keyed.{under_no_more}
 use Rattle.soft_table.proofs.Valued.{get-valued, size-valued}
 use Rattle.resv_state.specs.declared.fact.Held.{Held}
 use Rattle.resv_state.specs.declared.fact.ResvFact.{ResvFact}
-use Rattle.resv_state.specs.Resvs.{ResvFacts, resv_line, resv_lines, held_key, held_row, fact_of}
+use Rattle.resv_state.specs.Resvs.{ResvFacts, resv_key, resv_line, resv_lines, held_key, held_row, fact_of}
 use Rattle.resv_state.specs.Walks.{Rest, rests, held_under, hops_in, is_full, with_names, with_hop}
-use Rattle.resv_state.proofs.Facts.{said, under_said}
+use Rattle.soft_table.proofs.Told.{under-valued}
+use Rattle.resv_state.proofs.Facts.{said, own_unit}
 
 -- ---- what the lines say, by look-up
 pub record Named (m : ResvFacts) (s : Session) (q : Sender) : Type 0 where
@@ -324,25 +327,12 @@ module _ (st : StyleKind) (fs : List (Held × ℕ)) (up : AreRows line_keys held
 
   pub one_session : nat_le (cond (is_full us) (size (soft_facts.sessions_in held_key fs)) (size (soft_facts.sessions_in held_key fs) + 1)) 32 ≡ nat_le (size (sessions_in rests m2)) 32
   one_session =
-      ap (λ n. nat_le n 32) (sym (size_sessions rests m s r v ∙ ap (λ b. cond b (size (sessions_in rests m)) (size (sessions_in rests m) + 1)) (ap (λ (z : Table rests (ResvFact × ℕ)). soft.is_full z.rows) (under_said t s) ∙ full_said us)
+      ap (λ n. nat_le n 32) (sym (size_sessions rests m s r v ∙ ap (λ b. cond b (size (sessions_in rests m)) (size (sessions_in rests m) + 1)) (ap (λ (z : Table rests (ResvFact × ℕ)). soft.is_full z.rows) (under-valued said sessions rests t s) ∙ full_said us)
       ∙ ap (λ n. cond (is_full us) n (n + 1)) sessions_many))
 
-  shorter : (es : List (LineKey × (Held × ℕ))) → length (where_key line_keys.cmp (λ k. eq_by_cmp sessions.cmp s k.0) es) ≤ length es
-  shorter [] = omega arith
-  shorter (e ∷ es) = by (eq_by_cmp sessions.cmp s e.0.0) (shorter es)
-    where
-      by : (b : Bool) → length (where_key line_keys.cmp (λ k. eq_by_cmp sessions.cmp s k.0) es) ≤ length es → length {A = LineKey × (Held × ℕ)} (cond b (e ∷ where_key line_keys.cmp (λ k. eq_by_cmp sessions.cmp s k.0) es) (where_key line_keys.cmp (λ k. eq_by_cmp sessions.cmp s k.0) es)) ≤ length (e ∷ es)
-      by true rest = omega arith
-      by false rest = omega arith
-
-  -- within the limits a session has few
+  -- within the limits there are few
   pub few_facts : IsWithinLimits st (resv_lines st m) → length fs ≤ 1024
   few_facts w = omega (arith, facts_many, lines_counted st m, w.lines, ap (λ ls. size (line_keys_of ls)) (one_style st m))
-
-  pub few_under : IsWithinLimits st (resv_lines st m) → length us ≤ 1024
-  few_under w =
-      let cut : LineKey × (Held × ℕ) → Rest × (Held × ℕ) = λ e. (e.0.1, e.1) in
-      omega (arith, few_facts w, shorter (facts_by held_key fs), length-map fs held_row, length-map (where_key line_keys.cmp (λ k. eq_by_cmp sessions.cmp s k.0) (facts_by held_key fs)) cut)
 
   pub few_sessions : IsWithinLimits st (resv_lines st m) → size (soft_facts.sessions_in held_key fs) ≤ 32
   few_sessions w = omega (arith, sessions_many, ap size (sessions_counted st m), w.sessions, ap (λ ls. size (sessions_of ls)) (one_style st m))
@@ -356,16 +346,13 @@ module _ (st : StyleKind) (fs : List (Held × ℕ)) (up : AreRows line_keys held
       let more = size-put_in line_keys m (s, r) v ∙ ap (λ b. cond b (size m) (size m + 1)) new in
       omega (arith, a, more, facts_many, many, w.lines)
 
--- a session has no more than the table
-fewer : (s : Session) (es : List (LineKey × (ResvFact × ℕ))) → length (where_key line_keys.cmp (λ k. eq_by_cmp sessions.cmp s k.0) es) ≤ length es
-fewer s [] = omega arith
-fewer s (e ∷ es) = by (eq_by_cmp sessions.cmp s e.0.0) (fewer s es)
-  where
-    by : (b : Bool) → length (where_key line_keys.cmp (λ k. eq_by_cmp sessions.cmp s k.0) es) ≤ length es → length {A = LineKey × (ResvFact × ℕ)} (cond b (e ∷ where_key line_keys.cmp (λ k. eq_by_cmp sessions.cmp s k.0) es) (where_key line_keys.cmp (λ k. eq_by_cmp sessions.cmp s k.0) es)) ≤ length (e ∷ es)
-    by true rest = omega arith
-    by false rest = omega arith
+-- no refusal below where the map with it is within the limits
+pub not_refused : (fs : List (Held × ℕ)) (up : AreRows line_keys held_row fs) (st : StyleKind) (f : ResvFact) (left : ℕ) (u : UnitOf) → u ≡ part_unit st f.part → (now : ResvFacts) → changed fact_of (table_of line_keys held_row fs up) ≡ now → within_limits st (resv_lines st (put_in now (resv_key st f) (f, left))) ≡ true
+    → (room : ℕ) → room ≡ 1024 → (find line_keys.cmp (held_key (record { unit = u; fact = f })) (facts_by held_key fs) ≡ None) × (length fs ≡ room) → ⊥
+not_refused fs up st f left u unit now is fits room many why =
+    let k = resv_key st f in
+    never_full st fs up k.0 k.1 (f, left) (ap (λ (z : ResvFacts). within_limits st (resv_lines st (put_in z k (f, left)))) is ∙ fits) (ap (λ z. find line_keys.cmp z (facts_by held_key fs)) (sym (own_unit st f u unit)) ∙ why.0) (why.1 ∙ many)
 
+-- a session has no more than the table
 pub few_of_session : (st : StyleKind) (m : ResvFacts) (s : Session) → IsWithinLimits st (resv_lines st m) → size (under sessions rests m s) ≤ 1024
-few_of_session st m s w =
-    let cut : LineKey × (ResvFact × ℕ) → Rest × (ResvFact × ℕ) = λ e. (e.0.1, e.1) in
-    omega (arith, lines_counted st m, w.lines, ap (λ ls. size (line_keys_of ls)) (one_style st m), fewer s m.rows, length-map (where_key line_keys.cmp (λ k. eq_by_cmp sessions.cmp s k.0) m.rows) cut)
+few_of_session st m s w = omega (arith, lines_counted st m, w.lines, ap (λ ls. size (line_keys_of ls)) (one_style st m), under_no_more sessions rests s m.rows)

@@ -1,23 +1,20 @@
 -- Requests as they are added to a merger, and the room for them.
-use Rattle.std.proofs.Common.{◌≡◌, ◌≤◌, ◌<◌, ◌+◌, ℕ, zero, suc, Bool, true, false, cond, not, ◌||◌, ◌&&◌, ◌==◌, ◌/◌, ◌^◌, is_some, List, [], ◌∷◌, ◌++◌, length, take, get_or, Option, Some, None, refl, sym, ap, subst, ◌∙◌, arith, inl, inr, ⊎_elim}
-use Rattle.std.specs.Prelude.{slice_get, ◌⊎◌, nat_lt}
-use Rattle.std.specs.Cmp.{both_ways}
+use Rattle.std.proofs.Common.{◌≡◌, ◌≤◌, ◌<◌, ◌+◌, ℕ, Bool, true, false, cond, ◌==◌, ◌/◌, ◌^◌, is_some, List, [], ◌∷◌, ◌++◌, length, take, get_or, Option, Some, None, refl, sym, ap, subst, ◌∙◌, arith, ⊎_elim}
+use Rattle.std.specs.Prelude.{slice_get, nat_lt}
 use Rattle.std.specs.Int.{bit_at}
 use Rattle.std.specs.Int.Bits.{bit_and}
-use Rattle.std.proofs.Math.Seq.{take-suc}
 use Rattle.std.proofs.lemmas.Bool.Decides.{nat_tests}
 use Rattle.std.proofs.lemmas.Nat.Bits.{shr_and_one, bit_at_above}
-use Rattle.std.specs.List.{list_any, filter_map, cons_option}
+use Rattle.std.specs.List.{filter_map, cons_option}
 use Rattle.std.specs.Option.{option_map}
-use Rattle.std.specs.Ordering.{eq_by_cmp}
 use Rattle.std.proofs.lemmas.List.Elements.{filter_map-append}
-use Rattle.std.proofs.lemmas.List.Folds.{list_any-append}
+use Rattle.std.proofs.lemmas.Option.{slice_get-get_or}
 use Rattle.rsvp_base.specs.Members.{In}
 use Rattle.rsvp_base.specs.Orders.{Names, senders, sessions}
 use Rattle.rsvp_base.specs.Rows.{AreRows, table_of}
 use Rattle.rsvp_base.specs.Under.{under}
 use Rattle.rsvp_base.specs.Sets.{union, cut, IsWithin}
-use Rattle.rsvp_base.specs.Table.{Table, get, has, keys, kept, size, without, changed, changed_rows}
+use Rattle.rsvp_base.specs.Table.{Table, get, has, keys, size, changed, changed_rows}
 use Rattle.rsvp_base.specs.TokenBucket.{TokenBucket}
 use Rattle.rsvp_base.specs.declared.part.Part.{Part}
 use Rattle.rsvp_base.specs.declared.session.Sender.{Sender}
@@ -25,9 +22,10 @@ use Rattle.rsvp_base.specs.declared.session.Session.{Session}
 use Rattle.rsvp_base.specs.declared.style.StyleKind.{StyleKind}
 use Rattle.rsvp_base.specs.declared.style.Unit.{Unit as UnitOf}
 use Rattle.rsvp_base.proofs.Counts.{in_set_of, set_of_in, in_found, size_below}
-use Rattle.rsvp_base.proofs.Members.{in_any, any_in, in_append, in_flat_map, to_flat_map}
-use Rattle.rsvp_base.proofs.SetLaws.{has-kept, has-cut, same_set, and_both, and_made, size_within, within_union_left, within_union_right}
-use Rattle.rsvp_base.proofs.Tables.{either, tied_same, tied_self, then_do, get-changed}
+use Rattle.rsvp_base.proofs.Fronts.{front_more, in_front, got_in, in_filter_map, in_keys, to_keys}
+use Rattle.rsvp_base.proofs.Members.{in_append, in_flat_map, to_flat_map}
+use Rattle.rsvp_base.proofs.SetLaws.{has-cut, and_both, size_within, within_union_left, within_union_right}
+use Rattle.rsvp_base.proofs.Tables.{then_do, get-changed}
 use Rattle.rsvp_base.proofs.UnderLaws.{get-under}
 use Rattle.style_rules.specs.declared.wall.UpLine.{UpLine}
 use Rattle.style_rules.specs.Limits.{IsWithinLimits, names_of, of_session}
@@ -45,35 +43,17 @@ use Rattle.resv_state.specs.declared.fact.Held.{Held}
 use Rattle.resv_state.specs.Resvs.{held_key, held_row, fact_of, resv_lines}
 use Rattle.resv_state.specs.Walks.{Rest, rests, held_under}
 use Rattle.resv_state.specs.Merging.{SessionRow, parts_on, names_via, names_out, is_out, is_way_walled, is_blockaded, request_of, want_request, names_by, is_by, one_of, open_on, held_said, held_on, held_toward, held_names}
-use Rattle.resv_state.proofs.Facts.{said, under_said}
-use Rattle.resv_state.proofs.Forgets.{taken_one, got_in}
+use Rattle.resv_state.proofs.Facts.{said}
+use Rattle.soft_table.proofs.Told.{under-valued}
 use Rattle.resv_state.proofs.Limits.{one_style, names_made, few_of_session}
-use Rattle.resv_state.proofs.Left.{in_keys, keys_in, take_one}
 
 -- ---- lists
-in_taken : {A : Type 0} (x : A) (k : ℕ) (xs : List A) → In x (take k xs) → In x xs
-in_taken x zero xs i = absurd i
-in_taken x (suc k) [] i = absurd i
-in_taken x (suc k) (y ∷ ys) i = ⊎_elim (λ (e : x ≡ y). inl e) (λ (j : In x (take k ys)). inr (in_taken x k ys j)) i
-
-in_cons : {B : Type 0} (w : Option B) (y : B) (ys : List B) → In y (cons_option w ys) → (w ≡ Some y) ⊎ In y ys
-in_cons None y ys i = inr i
-in_cons (Some z) y ys i = ⊎_elim (λ (e : y ≡ z). inl (ap Some (sym e))) (λ (j : In y ys). inr j) i
-
-in_filter_map : {A B : Type 0} (h : A → Option B) (y : B) (xs : List A) → In y (filter_map h xs) → (x : A) × In x xs × (h x ≡ Some y)
-in_filter_map h y [] i = absurd i
-in_filter_map h y (x ∷ xs) i =
-    ⊎_elim (λ (e : h x ≡ Some y). (x, inl refl, e)) (λ (j : In y (filter_map h xs)). let r = in_filter_map h y xs j in (r.0, inr r.1, r.2)) (in_cons (h x) y (filter_map h xs) i)
-
 single : {B : Type 0} (w : Option B) → cons_option w [] ≡ one_of w
 single None = refl
 single (Some x) = refl
 
-one_taken : {A : Type 0} (es : List A) (k : ℕ) (x : A) → slice_get es k ≡ Some x → take (k + 1) es ≡ take k es ++ x ∷ []
-one_taken es k x at = let one : k + 1 ≡ suc k = omega arith in ap (λ n. take n es) one ∙ taken_one es k x at
-
 pub filter_one : {A B : Type 0} (h : A → Option B) (es : List A) (k : ℕ) (x : A) → slice_get es k ≡ Some x → filter_map h (take (k + 1) es) ≡ filter_map h (take k es) ++ one_of (h x)
-filter_one h es k x at = ap (filter_map h) (one_taken es k x at) ∙ filter_map-append h (take k es) (x ∷ []) ∙ ap (λ ys. filter_map h (take k es) ++ ys) (single (h x))
+filter_one h es k x at = ap (filter_map h) (front_more es k x at) ∙ filter_map-append h (take k es) (x ∷ []) ∙ ap (λ ys. filter_map h (take k es) ++ ys) (single (h x))
 
 pub none_at : {A B : Type 0} (f : A → B) (w : Option A) → None ≡ option_map f w → w ≡ None
 none_at f None e = refl
@@ -109,63 +89,6 @@ by_any iface (Some way) e = refl
 by_within : (iface : Option ℕ) (up : WayTable) → IsWithin (names_by iface up) (names_via up)
 by_within iface up q h = has-by None up q ∙ by_any iface (get up q) (sym (has-by iface up q) ∙ h)
 
--- ---- names kept, one at a time
-module _ (test : Sender → Bool) where
-  abbrev is_lost : Sender → Sender → Bool
-  is_lost q x = eq_by_cmp senders.cmp x q && not (test x)
-
-  abbrev pub AreKept : Names → Names → List Sender → Type 0
-  AreKept from left xs = (q : Sender) → has left q ≡ (has from q && not (list_any (is_lost q) xs))
-
-  stays : (a b e : Bool) → (a && not b) ≡ (a && not (b || ((e && false) || false)))
-  stays true true e = refl
-  stays true false true = refl
-  stays true false false = refl
-  stays false b e = refl
-
-  goes : (a b e : Bool) → ((a && not b) && not e) ≡ (a && not (b || ((e && true) || false)))
-  goes true true e = refl
-  goes true false true = refl
-  goes true false false = refl
-  goes false b e = refl
-
-  pub one_kept : (from left : Names) (xs : List Sender) (i : ℕ) (d : Sender) → i < length xs → AreKept from left (take i xs) → AreKept from (cond (test (get_or xs i d)) left (without left (get_or xs i d))) (take (i + 1) xs)
-  one_kept from left xs i d lt h q =
-      by (test x) refl ∙ ap (λ b. has from q && not b) (sym (ap (list_any (is_lost q)) (take_one xs i d lt) ∙ list_any-append (is_lost q) (take i xs) (x ∷ [])))
-    where
-      x : Sender
-      x = get_or xs i d
-
-      by : (b : Bool) → test x ≡ b → has (cond (test x) left (without left x)) q ≡ (has from q && not (list_any (is_lost q) (take i xs) || (is_lost q x || false)))
-      by true is =
-          ap (λ b. has (cond b left (without left x)) q) is ∙ h q ∙ stays (has from q) (list_any (is_lost q) (take i xs)) (eq_by_cmp senders.cmp x q)
-          ∙ ap (λ b. has from q && not (list_any (is_lost q) (take i xs) || ((eq_by_cmp senders.cmp x q && not b) || false))) (sym is)
-      by false is =
-          ap (λ b. has (cond b left (without left x)) q) is ∙ has-kept senders (λ z. not (eq_by_cmp senders.cmp x z)) left q ∙ ap (λ b. b && not (eq_by_cmp senders.cmp x q)) (h q)
-          ∙ goes (has from q) (list_any (is_lost q) (take i xs)) (eq_by_cmp senders.cmp x q)
-          ∙ ap (λ b. has from q && not (list_any (is_lost q) (take i xs) || ((eq_by_cmp senders.cmp x q && not b) || false))) (sym is)
-
-  twice : (b : Bool) → not (not b) ≡ b
-  twice true = refl
-  twice false = refl
-
-  lost : (from : Names) (q : Sender) → has from q ≡ true → list_any (is_lost q) (keys from) ≡ not (test q)
-  lost from q h =
-      both_ways _ _
-      (λ e.
-      let x = in_any (is_lost q) (keys from) e in
-      let two = and_both (eq_by_cmp senders.cmp x.0 q) (not (test x.0)) x.2 in
-      ap (λ z. not (test z)) (sym (tied_same senders x.0 q two.0)) ∙ two.1)
-      (λ e. any_in (is_lost q) q (keys from) (in_keys from q h) (and_made _ _ (tied_self senders q) e))
-
-  pub all_kept : (from left : Names) → AreKept from left (keys from) → left ≡ kept test from
-  all_kept from left h =
-      same_set senders left (kept test from) (λ q.
-      h q ∙ either (has from q)
-      (λ there. ap (λ b. has from q && not b) (lost from q there) ∙ ap (λ b. has from q && b) (twice (test q)))
-      (λ none. ap (λ b. b && not (list_any (is_lost q) (keys from))) none ∙ sym (ap (λ b. b && test q) none))
-      ∙ sym (has-kept senders test from q))
-
 -- ---- room
 abbrev pub AreWithin : Names → List Request → Type 0
 AreWithin all rs = (r : Request) → In r rs → IsWithin r.part.senders all
@@ -173,7 +96,7 @@ AreWithin all rs = (r : Request) → In r rs → IsWithin r.part.senders all
 named_within : (all : Names) (rs : List Request) → AreWithin all rs → IsWithin (names_of_requests rs) all
 named_within all rs h q is =
     let r = in_flat_map (λ (r : Request). keys r.part.senders) q rs (set_of_in senders _ q is) in
-    h r.0 r.1 q (keys_in r.0.part.senders q r.2)
+    h r.0 r.1 q (in_keys senders r.0.part.senders q r.2)
 
 pub room : (st : StyleKind) (all : Names) (rs : List Request) (p : Part) → size all ≤ 16 → AreWithin all rs → IsWithin p.senders all → size (union (names_of_tally (tally_of st rs)) p.senders) ≤ 16
 room st all rs p few h own =
@@ -215,13 +138,13 @@ on_is iface at p r is = by (at == iface) is
     by false e = absurd (let z : None ≡ Some r = e in cc)
 
 row_named : (us : List (Rest × (Held × ℕ))) (e : Rest × (Held × ℕ)) → In e us → IsWithin e.1.0.fact.part.senders (held_names us)
-row_named us e i q h = in_set_of senders _ q (to_flat_map (λ (z : Rest × (Held × ℕ)). keys z.1.0.fact.part.senders) e q us i (in_keys e.1.0.fact.part.senders q h))
+row_named us e i q h = in_set_of senders _ q (to_flat_map (λ (z : Rest × (Held × ℕ)). keys z.1.0.fact.part.senders) e q us i (to_keys senders e.1.0.fact.part.senders q h))
 
 on_within : (iface : ℕ) (us : List (Rest × (Held × ℕ))) (k : ℕ) → AreWithin (held_names us) (filter_map (held_on iface) (take k us))
 on_within iface us k r i =
     let e = in_filter_map (held_on iface) r (take k us) i in
     let p = on_is iface e.0.0.0.0 e.0.1.0.fact.part r e.2 in
-    subst (λ (z : Part). IsWithin z.senders (held_names us)) (sym p.0) (row_named us e.0 (in_taken e.0 k us e.1))
+    subst (λ (z : Part). IsWithin z.senders (held_names us)) (sym p.0) (row_named us e.0 (in_front e.0 k us e.1))
 
 pub all_open : (iface : ℕ) (es : List (Rest × (Held × ℕ))) (r : Request) → In r (filter_map (held_on iface) es) → r.blockaded ≡ false
 all_open iface es r i = let e = in_filter_map (held_on iface) r es i in (on_is iface e.0.0.0.0 e.0.1.0.fact.part r e.2).1
@@ -268,7 +191,7 @@ module _ (st : StyleKind) (fs : List (Held × ℕ)) (up : AreRows line_keys held
 
   pub held_few : IsWithinLimits st (resv_lines st (changed fact_of below)) → length (held_under s fs) ≤ 1024
   held_few w =
-      let is : size (under sessions rests (changed fact_of below) s) ≡ size (under sessions rests below s) = ap size (under_said below s) ∙ size-valued rests said (under sessions rests below s) in
+      let is : size (under sessions rests (changed fact_of below) s) ≡ size (under sessions rests below s) = ap size (under-valued said sessions rests below s) ∙ size-valued rests said (under sessions rests below s) in
       let few = few_of_session st (changed fact_of below) s w in
       omega (arith, is, few)
 
@@ -281,7 +204,7 @@ module _ (st : StyleKind) (fs : List (Held × ℕ)) (up : AreRows line_keys held
         rest = e.0.0;
         row = said e.0.1;
         at = get-valued line_keys said below (s, e.0.0) ∙ ap (option_map said) (sym (get-under sessions rests below s e.0.0) ∙ in_found rests (under sessions rests below s) e.0.0 e.0.1 e.1);
-        named = keys_in e.0.1.0.fact.part.senders q e.2;
+        named = in_keys senders e.0.1.0.fact.part.senders q e.2;
       })) in
       let same = ap (λ ls. size (names_of (of_session s ls))) (one_style st m) in
       omega (arith, less, same, w.names s)
@@ -323,15 +246,5 @@ cut_room t names left h few =
     let less = size_within senders (union t left) (union t names) (union_least t left (union t names) (within_union_left senders t names) (λ q is. within_union_right senders t names q (h q is))) in
     omega (arith, less, few)
 
-pub and_none : {A : Type 0} (xs : List A) → xs ≡ xs ++ []
-and_none [] = refl
-and_none (x ∷ xs) = ap (λ ys. x ∷ ys) (and_none xs)
-
-pub and_more : {A : Type 0} (xs ys zs : List A) → (xs ++ ys) ++ zs ≡ xs ++ (ys ++ zs)
-and_more [] ys zs = refl
-and_more (x ∷ xs) ys zs = ap (λ ws. x ∷ ws) (and_more xs ys zs)
-
 pub filter_got : {A B : Type 0} (h : A → Option B) (es : List A) (i : ℕ) (d : A) → i < length es → filter_map h (take (i + 1) es) ≡ filter_map h (take i es) ++ one_of (h (get_or es i d))
-filter_got h es i d lt =
-    let one : i + 1 ≡ suc i = omega arith in
-    ap (λ n. filter_map h (take n es)) one ∙ ap (filter_map h) (take-suc es i d lt) ∙ filter_map-append h (take i es) (get_or es i d ∷ []) ∙ ap (λ ys. filter_map h (take i es) ++ ys) (single (h (get_or es i d)))
+filter_got h es i d lt = filter_one h es i (get_or es i d) (slice_get-get_or es i d lt)

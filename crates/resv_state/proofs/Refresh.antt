@@ -1,5 +1,5 @@
 -- A reservation that is put in place of one with all of its names takes no room.
-use Rattle.std.proofs.Common.{◌≡◌, ◌≤◌, ℕ, Bool, true, Option, Some, None, is_some, refl, sym, ap, subst, ◌∙◌, arith}
+use Rattle.std.proofs.Common.{◌≡◌, ◌≤◌, ℕ, true, Option, Some, None, is_some, refl, sym, ap, subst, ◌∙◌, arith}
 use Rattle.std.specs.Option.{option_map}
 use Rattle.std.specs.Ordering.{eq_by_cmp}
 use Rattle.rsvp_base.specs.Orders.{sessions, senders}
@@ -13,7 +13,7 @@ use Rattle.style_rules.specs.Limits.{of_session, line_keys_of, sessions_of, next
 use Rattle.style_rules.specs.Lines.{Line, LineKey, line_keys, next_hops}
 use Rattle.resv_state.specs.declared.fact.ResvFact.{ResvFact}
 use Rattle.resv_state.specs.Resvs.{ResvFacts, resv_line, resv_lines}
-use Rattle.resv_state.proofs.Limits.{Named, Hopped, lines_counted, one_style, hops_told, hops_made, names_told, names_made}
+use Rattle.resv_state.proofs.Limits.{lines_counted, one_style, hops_told, hops_made, names_told, names_made}
 
 -- what an option that came of another holds
 pub held_by : {A B : Type 0} (w : Option (A × B)) (a : A) → option_map (λ (e : A × B). e.0) w ≡ Some a → (e : A × B) × (w ≡ Some e) × (e.0 ≡ a)

@@ -1,9 +1,10 @@
 -- Names leave the reservations of one key after another, until all have left.
-use Rattle.std.proofs.Common.{◌≡◌, ℕ, Bool, true, false, cond, not, ◌||◌, ◌&&◌, List, [], ◌∷◌, ◌++◌, Option, Some, None, refl, sym, ap, subst, ◌∙◌, inl, inr, ⊎_elim}
+use Rattle.std.proofs.Common.{◌≡◌, ◌≤◌, ℕ, Bool, true, false, cond, not, ◌||◌, ◌&&◌, List, [], ◌∷◌, ◌++◌, length, take, Option, Some, None, refl, sym, ap, subst, ◌∙◌, inl, inr, ⊎_elim}
 use Rattle.std.specs.Cmp.{both_ways}
 use Rattle.std.specs.List.{list_any}
 use Rattle.std.specs.Option.{option_map}
 use Rattle.std.specs.Ordering.{eq_by_cmp}
+use Rattle.std.proofs.lemmas.List.{take_all}
 use Rattle.std.proofs.lemmas.List.Folds.{list_any-append}
 use Rattle.rsvp_base.specs.Members.{In}
 use Rattle.rsvp_base.specs.Orders.{Names, sessions, units, senders}
@@ -15,6 +16,7 @@ use Rattle.rsvp_base.specs.declared.session.Session.{Session}
 use Rattle.rsvp_base.specs.declared.style.StyleKind.{StyleKind}
 use Rattle.rsvp_base.specs.declared.style.Unit.{Unit as UnitOf}
 use Rattle.rsvp_base.proofs.Counts.{in_found, found_in}
+use Rattle.rsvp_base.proofs.Fronts.{to_keys}
 use Rattle.rsvp_base.proofs.Members.{in_any, any_in, in_append}
 use Rattle.rsvp_base.proofs.SetLaws.{has-cut, and_both, and_made}
 use Rattle.rsvp_base.proofs.Tables.{either, tied_same, tied_self, then_do, same_table, get-changed}
@@ -26,7 +28,7 @@ use Rattle.resv_state.specs.declared.fact.ResvFact.{ResvFact}
 use Rattle.resv_state.specs.Resvs.{ResvFacts, ResvMap, AreOfStyle}
 use Rattle.resv_state.specs.Leaving.{stays, with_part, left_of, has_one, torn, hop_has_one, lessened, key_has_one}
 use Rattle.resv_state.proofs.Facts.{same_map}
-use Rattle.resv_state.proofs.Left.{whole, none_left, left_named, in_keys, then_same}
+use Rattle.resv_state.proofs.Left.{whole, none_left, left_named, then_same}
 
 -- ---- names leave twice as once
 left_twice : (gone : Names) (w : Option (ResvFact × ℕ)) → then_do (then_do w (left_of gone)) (left_of gone) ≡ then_do w (left_of gone)
@@ -160,12 +162,12 @@ module _ (st : StyleKind) (s : Session) (hop : NextHop) (gone : Names) where
         either (has_one gone e.0.part)
             (λ one.
             let x = common q e old own at one in
-            let z : true ≡ false = sym (any_in (λ x. eq_by_cmp units.cmp (unit_of st x) q.1.1) x.0 (keys gone) (in_keys gone x.0 x.1) (ap (eq_by_cmp units.cmp (unit_of st x.0)) (sym x.2) ∙ tied_self units (unit_of st x.0))) ∙ none in
+            let z : true ≡ false = sym (any_in (λ x. eq_by_cmp units.cmp (unit_of st x) q.1.1) x.0 (keys gone) (to_keys senders gone x.0 x.1) (ap (eq_by_cmp units.cmp (unit_of st x.0)) (sym x.2) ∙ tied_self units (unit_of st x.0))) ∙ none in
             absurd (cc))
             (λ no. no),
       )
 
-  pub torn_all : (old now : ResvMap) (had : Bool) → AreOfStyle st old.facts → Torn old now had (keys gone) → now ≡ record old { facts = changed (torn s hop gone) old.facts }
+  torn_all : (old now : ResvMap) (had : Bool) → AreOfStyle st old.facts → Torn old now had (keys gone) → now ≡ record old { facts = changed (torn s hop gone) old.facts }
   torn_all old now had own t =
       same_map now (record old { facts = changed (torn s hop gone) old.facts })
       (same_table line_keys now.facts (changed (torn s hop gone) old.facts) (λ q. t.facts q ∙ by q (is_of_hop s hop q) (list_any (λ x. eq_by_cmp units.cmp (unit_of st x) q.1.1) (keys gone)) refl (get old.facts q) refl ∙ sym (get-changed line_keys (torn s hop gone) old.facts q))) t.dead
@@ -176,7 +178,7 @@ module _ (st : StyleKind) (s : Session) (hop : NextHop) (gone : Names) where
       by q true false e None at = refl
       by q true false e (Some r) at = sym (unreached q r old.facts own at e)
 
-  pub had_all : (old now : ResvMap) (had : Bool) → AreOfStyle st old.facts → Torn old now had (keys gone) → had ≡ hop_has_one s hop gone old.facts
+  had_all : (old now : ResvMap) (had : Bool) → AreOfStyle st old.facts → Torn old now had (keys gone) → had ≡ hop_has_one s hop gone old.facts
   had_all old now had own t =
       both_ways had _ t.some
       (λ h.
@@ -190,5 +192,11 @@ module _ (st : StyleKind) (s : Session) (hop : NextHop) (gone : Names) where
       let is : ◌≡◌ {A = LineKey} (key x.0) r.0.0 = λ i. (session i, (same i, x.2 i)) in
       either had (λ y. y)
       (λ no.
-      let z : true ≡ false = sym two.1 ∙ sym (ap (key_has_one gone) (ap (get old.facts) is ∙ at)) ∙ t.none no x.0 (in_keys gone x.0 x.1) in
+      let z : true ≡ false = sym two.1 ∙ sym (ap (key_has_one gone) (ap (get old.facts) is ∙ at)) ∙ t.none no x.0 (to_keys senders gone x.0 x.1) in
       absurd (cc)))
+
+  -- both, when all names have left
+  pub torn_end : (old now : ResvMap) (had : Bool) (i : ℕ) (xs : List Sender) → AreOfStyle st old.facts → length xs ≤ i → xs ≡ keys gone → Torn old now had (take i xs) → (now ≡ record old { facts = changed (torn s hop gone) old.facts }) × (had ≡ hop_has_one s hop gone old.facts)
+  torn_end old now had i xs own far is t =
+      let all = subst (λ zs. Torn old now had zs) (take_all i xs far ∙ is) t in
+      (torn_all old now had own all, had_all old now had own all)

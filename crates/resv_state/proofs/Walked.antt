@@ -1,5 +1,5 @@
 -- What a walk along a session's reservations finds, one at a time.
-use Rattle.std.proofs.Common.{◌≡◌, ◌≤◌, ◌<◌, ◌+◌, ℕ, zero, suc, Bool, true, false, cond, ◌||◌, List, [], ◌∷◌, length, drop, Option, Some, None, refl, sym, ap, ◌∙◌, arith}
+use Rattle.std.proofs.Common.{◌≡◌, ◌≤◌, ◌<◌, ◌+◌, ℕ, suc, Bool, true, false, cond, ◌||◌, List, [], ◌∷◌, drop, Option, Some, None, sym, ap, ◌∙◌, arith}
 use Rattle.std.specs.Prelude.{nat_eq, nat_le, nat_lt}
 use Rattle.std.specs.List.{list_any}
 use Rattle.std.specs.Ordering.{eq_by_cmp}
@@ -119,13 +119,3 @@ no_room r names s fs k f st apart over all is =
     let here = names_here r names s fs k f st ∙ ap (λ b. with_names r (cond b names (union names f.fact.part.senders)) (drop (k + 1) (held_under s fs))) apart in
     let grown = more r (union names f.fact.part.senders) (drop (k + 1) (held_under s fs)) in
     too_many (size all) (omega (arith, over, grown, ap size (sym here ∙ is)))
-
--- past the last
-pub past_all : (es : List (Rest × (Held × ℕ))) (k : ℕ) → length es ≤ 1024 → 1024 ≤ k → drop k es ≡ []
-past_all es k few le = gone es k (omega arith)
-  where
-    gone : (xs : List (Rest × (Held × ℕ))) (n : ℕ) → length xs ≤ n → drop n xs ≡ []
-    gone [] zero h = refl
-    gone [] (suc n) h = refl
-    gone (x ∷ xs) zero h = absurd (omega arith)
-    gone (x ∷ xs) (suc n) h = gone xs n (omega arith)

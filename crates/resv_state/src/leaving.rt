@@ -1,12 +1,12 @@
 //! Names leave reservations.
-ghost use Rattle.std.specs.Prelude.{◌≡◌, false, true, Some, ℕ, [], ◌∷◌};
+ghost use Rattle.std.specs.Prelude.{◌≡◌, false, true, Some, ℕ, [], ◌∷◌, cond};
 ghost use Rattle.std.specs.FinMap.Entries.{find};
 ghost use Rattle.std.specs.Option.{option_map, option_copied};
 ghost use Rattle.rsvp_base.specs.Rows.{AreRows};
 ghost use Rattle.rsvp_base.specs.Sets.{set_of};
-ghost use Rattle.rsvp_base.specs.Table.{changed_rows, kept};
+ghost use Rattle.rsvp_base.specs.Table.{changed_rows, kept, without};
 ghost use Rattle.style_rules.specs.Lines.{LineKey, line_keys};
-ghost use Rattle.style_rules.specs.Parts.{has_name, part_kept};
+ghost use Rattle.style_rules.specs.Parts.{has_name, part_kept, part_of};
 ghost use Rattle.soft_table.specs.Facts.{facts_by, IsInOrder};
 ghost use Rattle.resv_state.specs.Resvs.{held_key, held_row, dead_row};
 ghost use Rattle.resv_state.specs.Walks.{rests};
@@ -14,32 +14,44 @@ ghost use Rattle.resv_state.specs.Leaving.{stays, has_one, held_left, held_lesse
 ghost use Rattle.resv_state.specs.declared.fact.Held.{Held};
 
 use crate::fact::{Held, ResvFact};
-use rsvp_base::{Addr, Part, Sender, Senders, Session, Unit};
+use rsvp_base::{Addr, Flow, Part, Sender, Senders, Session, Unit};
 use soft_table::{Fact, SoftTable};
+
+// Without the name, unless it may stay.
+pub(crate) fn keep_if(names: &mut Senders, name: Sender, stays: bool)
+    ensures { names.new ≡ cond stays names.old (without names.old name) }
+{
+    if !stays {
+        names.remove(name);
+    }
+}
 
 // The senders that are not among those that go.
 fn without_all(senders: &Senders, gone: &Senders) -> Senders
     ensures { result ≡ kept (stays gone.now) senders.now }
 {
     let mut left = senders.copy();
-    for name in gone.as_slice() {
-        left.remove(*name);
+    for name in senders.as_slice() {
+        keep_if(&mut left, *name, !gone.has(*name));
     }
     left
+}
+
+// The part of these senders, if there is one.
+pub(crate) fn part_of(senders: Senders, flow: Flow) -> Option<Part>
+    ensures { result ≡ part_of senders flow }
+{
+    if senders.is_empty() {
+        return None;
+    }
+    Some(Part { senders, flow })
 }
 
 // What is left of a part, if a sender is left.
 fn part_without(part: &Part, gone: &Senders) -> Option<Part>
     ensures { result ≡ part_kept (stays gone.now) part.now }
 {
-    let senders = without_all(&part.senders, gone);
-    if senders.is_empty() {
-        return None;
-    }
-    Some(Part {
-        senders,
-        flow: part.flow,
-    })
+    part_of(without_all(&part.senders, gone), part.flow)
 }
 
 // What is left of a reservation.

@@ -1,10 +1,10 @@
 //! The merge of what a session's reservations ask for: on an interface, and toward a previous hop.
-ghost use Rattle.std.specs.Prelude.{◌≡◌, ◌≤◌, ◌==◌, ◌++◌, List, cond};
+ghost use Rattle.std.specs.Prelude.{◌≡◌, ◌≤◌, ◌==◌, ◌++◌, List};
 ghost use Rattle.std.specs.Int.{bit_at};
 ghost use Rattle.std.specs.List.{filter_map};
 ghost use Rattle.rsvp_base.specs.Rows.{AreRows};
 ghost use Rattle.rsvp_base.specs.Sets.{union};
-ghost use Rattle.rsvp_base.specs.Table.{get, has, kept, size, without};
+ghost use Rattle.rsvp_base.specs.Table.{get, has, kept, size};
 ghost use Rattle.style_rules.specs.Lines.{line_keys};
 ghost use Rattle.style_rules.specs.Parts.{part_cut};
 ghost use Rattle.style_rules.specs.Tally.{tally_of, names_of_tally};
@@ -14,9 +14,10 @@ ghost use Rattle.resv_state.specs.Walks.{AreFew, held_under};
 ghost use Rattle.resv_state.specs.Merging.{names_by, names_via, is_by, is_way_walled, is_blockaded, request_of, one_of, open_on, held_names, held_on, held_toward, want_request};
 
 use crate::fact::{Held, ResvFact};
-use crate::walks::FACTS;
+use crate::leaving::{keep_if, part_of};
+use crate::walks::{FACTS, behind};
 use rsvp_base::{Flow, Part, Sender, Senders, Session};
-use soft_table::{Fact, Finger, SoftTable};
+use soft_table::{Finger, SoftTable};
 use style_rules::{Merger, Parts, Style, Upstream, Wall};
 
 // ---- blockades
@@ -73,15 +74,6 @@ fn is_by(up: &Upstream, name: Sender, iface: Option<u8>) -> bool
     }
 }
 
-// Without the name, unless it may stay.
-fn keep_if(names: &mut Senders, name: Sender, stays: bool)
-    ensures { names.new ≡ cond stays names.old (without names.old name) }
-{
-    if !stays {
-        names.remove(name);
-    }
-}
-
 // The names that come from the hop (and whose trees go out of the interface).
 fn names_by(names: &Senders, up: &Upstream, iface: Option<u8>) -> Senders
     ensures { result ≡ kept (has (names_by iface up.now)) names.now }
@@ -98,14 +90,7 @@ fn names_by(names: &Senders, up: &Upstream, iface: Option<u8>) -> Senders
 fn cut_by(part: &Part, up: &Upstream, iface: Option<u8>) -> Option<Part>
     ensures { result ≡ part_cut part.now (names_by iface up.now) }
 {
-    let senders = names_by(&part.senders, up, iface);
-    if senders.is_empty() {
-        return None;
-    }
-    Some(Part {
-        senders,
-        flow: part.flow,
-    })
+    part_of(names_by(&part.senders, up, iface), part.flow)
 }
 
 // One request more: the part with them, if there is one.
@@ -145,9 +130,8 @@ pub(crate) fn merge_on<S: Style>(table: &SoftTable<Held>, session: Session, ifac
         let Some(held) = next else {
             return merger;
         };
-        let (_, rest) = held.key();
         add_on(&mut merger, &held.fact, iface);
-        next = table.after(session, rest, &mut finger);
+        next = behind(table, session, held, &mut finger);
     }
     merger
 }
@@ -166,9 +150,8 @@ fn merge_resvs<S: Style>(table: &SoftTable<Held>, session: Session, up: &Upstrea
         let Some(held) = next else {
             return merger;
         };
-        let (_, rest) = held.key();
         add_cut(&mut merger, &held.fact.part, up, Some(held.fact.iface));
-        next = table.after(session, rest, &mut finger);
+        next = behind(table, session, held, &mut finger);
     }
     merger
 }

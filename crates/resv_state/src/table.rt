@@ -140,7 +140,8 @@ impl<S: Style> ResvTable<S> {
         ensures had { result ≡ hop_has_one session (iface, next) gone.now self.old.facts }
         ensures unchanged { result ≡ false → self.new ≡ self.old }
     {
-        self.is_sound();
+        // The proof sees here that the table's reservations are of the style, so that each stands under a unit of its names.
+        let _table = &self.table;
         let mut had = false;
         for name in gone.as_slice() {
             let rest = ((iface, next), S::unit_of(*name));
@@ -180,13 +181,6 @@ impl<S: Style> ResvTable<S> {
         ensures { result ≡ slice_get (map (λ e. e.0) (rows_behind rests rest (under sessions rests self.now.facts session).rows)) 0 }
     {
         rest_of(self.table.after(session, rest, &mut Finger::default()))
-    }
-
-    // What holds of every table.
-    fn is_sound(&self)
-        ensures { AreOfStyle S.kind_is self.now.facts }
-    {
-        let _table = &self.table;
     }
 
     // The senders leave the reservation of a key, which goes where none is left. Whether it had one of them.
@@ -249,12 +243,9 @@ impl<S: Style> ResvTable<S> {
     }
 }
 
-// The unit of a part: that of its first name.
+// The unit of a part.
 fn unit_of<S: Style>(part: &Part) -> Unit
     ensures { result ≡ part_unit S.kind_is part.now }
 {
-    match part.senders.at(0) {
-        Some(first) => S::unit_of(first),
-        None => Unit::One,
-    }
+    style_rules::unit_of(S::kind(), &part.senders)
 }

@@ -3,13 +3,14 @@ ghost use Rattle.std.specs.Prelude.{◌≡◌, ◌≤◌, ◌+◌, ◌&&◌, ℕ
 ghost use Rattle.std.specs.FinMap.Entries.{find};
 ghost use Rattle.soft_table.specs.Facts.{facts_by, sessions_in};
 ghost use Rattle.std.specs.List.{list_any};
+ghost use Rattle.std.specs.Option.{option_copied};
 ghost use Rattle.std.specs.Ordering.{eq_by_cmp};
 ghost use Rattle.rsvp_base.specs.Rows.{AreRows};
 ghost use Rattle.rsvp_base.specs.Sets.{IsWithin};
 ghost use Rattle.rsvp_base.specs.Table.{size};
 ghost use Rattle.resv_state.specs.declared.fact.Held.{Held};
 ghost use Rattle.style_rules.specs.Lines.{line_keys, next_hops};
-ghost use Rattle.soft_table.specs.Walks.{is_last, changes};
+ghost use Rattle.soft_table.specs.Walks.{changes, fact_at, is_last};
 ghost use Rattle.resv_state.specs.Resvs.{held_key, held_row};
 ghost use Rattle.resv_state.specs.Walks.{AreFew, held_under, hops_in, is_full, rests, with_hop, with_names};
 
@@ -49,6 +50,20 @@ fn is_rest(a: &((u8, Addr), Unit), b: &((u8, Addr), Unit)) -> bool
     rest_order(a, b) == Ordering::Equal
 }
 
+// The reservation of a session that comes next behind one of it.
+pub(crate) fn behind<'a>(
+    table: &'a SoftTable<Held>,
+    session: Session,
+    held: &Held,
+    finger: &mut Finger,
+) -> Option<&'a Held>
+    requires { AreRows line_keys held_row table.now.facts }
+    ensures { (k : ℕ) → Some held.now ≡ fact_at rests held_key session table.now.facts k → option_copied result ≡ fact_at rests held_key session table.now.facts (k + 1) }
+{
+    let (_, rest) = held.key();
+    table.after(session, rest, finger)
+}
+
 // How many next hops a session has: those of one stand together.
 fn count_hops(table: &SoftTable<Held>, session: Session) -> usize
     requires rising { AreRows line_keys held_row table.now.facts }
@@ -63,12 +78,12 @@ fn count_hops(table: &SoftTable<Held>, session: Session) -> usize
         let Some(held) = next else {
             return count;
         };
-        let (_, rest) = held.key();
-        if !is_last_hop(last, rest.0) {
+        let hop = (held.fact.iface, held.fact.next);
+        if !is_last_hop(last, hop) {
             count += 1;
-            last = Some(rest.0);
+            last = Some(hop);
         }
-        next = table.after(session, rest, &mut finger);
+        next = behind(table, session, held, &mut finger);
     }
     count
 }
@@ -85,11 +100,10 @@ fn has_hop(table: &SoftTable<Held>, session: Session, hop: (u8, Addr)) -> bool
         let Some(held) = next else {
             return false;
         };
-        let (_, rest) = held.key();
-        if is_hop(hop, rest.0) {
+        if is_hop(hop, (held.fact.iface, held.fact.next)) {
             return true;
         }
-        next = table.after(session, rest, &mut finger);
+        next = behind(table, session, held, &mut finger);
     }
     false
 }
@@ -132,7 +146,7 @@ pub(crate) fn fits_names(
                 Err(_) => return false,
             }
         }
-        next = table.after(session, rest, &mut finger);
+        next = behind(table, session, held, &mut finger);
     }
     names.len() <= 16
 }

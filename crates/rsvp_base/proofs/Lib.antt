@@ -11,3 +11,4 @@ pub mod Rows
 pub mod SessionRoom
 pub mod Changes
 pub mod Together
+pub mod Fronts

@@ -1,6 +1,6 @@
 -- How many sessions a table has, and how many facts of one, as a fact is put in.
-use Rattle.std.proofs.Common.{◌≡◌, ◌≤◌, ◌+◌, ◌*◌, ◌||◌, ◌&&◌, ℕ, zero, suc, Bool, true, false, cond, is_some, List, [], ◌∷◌, length, map as each, Option, Some, None, refl, sym, ap, subst, ◌∙◌, arith}
-use Rattle.std.specs.Prelude.{nat_le, not}
+use Rattle.std.proofs.Common.{◌≡◌, ◌≤◌, ◌+◌, ◌||◌, ℕ, Bool, true, false, cond, is_some, List, [], ◌∷◌, length, map as each, refl, sym, ap, ◌∙◌, arith}
+use Rattle.std.specs.Prelude.{nat_le}
 use Rattle.std.specs.List.{list_any}
 use Rattle.std.specs.Ordering.{eq_by_cmp}
 use Rattle.std.specs.FinMap.Entries.{where_key, find}
@@ -9,15 +9,14 @@ use Rattle.std.proofs.lemmas.Bool.Decides.{nat_tests}
 use Rattle.rsvp_base.specs.Keys.{Keys, pairs}
 use Rattle.rsvp_base.specs.Orders.{sessions}
 use Rattle.rsvp_base.specs.Sets.{with_key}
-use Rattle.rsvp_base.specs.Table.{Table, empty, get, has, size, put_in, kept, without}
+use Rattle.rsvp_base.specs.Table.{Table, get, has, size, put_in}
 use Rattle.rsvp_base.specs.Under.{rows_under, under}
-use Rattle.rsvp_base.specs.SessionLimits.{sessions_in, has_room_at, IsWithinSessionLimits}
+use Rattle.rsvp_base.specs.SessionLimits.{sessions_in}
 use Rattle.rsvp_base.specs.declared.session.Session.{Session}
-use Rattle.rsvp_base.proofs.Counts.{has-set_of, size_below}
-use Rattle.rsvp_base.proofs.SetLaws.{and_both, same_set, has-with_key, size-with_key}
-use Rattle.rsvp_base.proofs.Tables.{either, tied_same, tied_self, size-put_in, get-kept, get-without}
+use Rattle.rsvp_base.proofs.Counts.{has-set_of}
+use Rattle.rsvp_base.proofs.SetLaws.{same_set, has-with_key, size-with_key}
+use Rattle.rsvp_base.proofs.Tables.{either, tied_same, size-put_in}
 use Rattle.rsvp_base.proofs.UnderLaws.{get-under, under-put_in_same, under-put_in_other}
-use Rattle.soft_table.proofs.Links.{size-without}
 
 abbrev pub is_full : {A : Type 0} → List A → Bool
 is_full [] = false

@@ -8,3 +8,5 @@ pub mod Steps
 pub mod Counts
 pub mod Maps
 pub mod Valued
+pub mod Keyed
+pub mod Told

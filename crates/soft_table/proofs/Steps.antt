@@ -13,6 +13,7 @@ use Rattle.rsvp_base.specs.Table.{passes, first, second}
 use Rattle.rsvp_base.specs.Under.{rows_under, sorted_under}
 use Rattle.rsvp_base.specs.declared.session.Session.{Session}
 use Rattle.soft_table.specs.Facts.{fact_keys, facts_by, rows_behind}
+use Rattle.soft_table.specs.Walks.{fact_at}
 
 less_is : (w : Ordering) → T (is_lt w) → w ≡ Less
 less_is Less h = refl
@@ -25,7 +26,7 @@ module _ {R X : Type 0} (rests : Keys R) where
   all_above r [] h = refl
   all_above r (e ∷ es) h = ap (λ w. cond (is_lt w) (e ∷ rows_behind rests r es) (rows_behind rests r es)) (less_is _ (first _ _ h)) ∙ ap (λ zs. e ∷ zs) (all_above r es (second _ _ h))
 
-  below_kth : (r : R) (es : List (R × X)) (k : ℕ) (x : R × X) → T (below_all rests.cmp r es) → slice_get es k ≡ Some x → rests.cmp r x.0 ≡ Less
+  pub below_kth : (r : R) (es : List (R × X)) (k : ℕ) (x : R × X) → T (below_all rests.cmp r es) → slice_get es k ≡ Some x → rests.cmp r x.0 ≡ Less
   below_kth r [] k x h at = cc
   below_kth r (e ∷ es) zero x h at = let is : e ≡ x = cc in ap (λ (z : R × X). rests.cmp r z.0) (sym is) ∙ less_is _ (first _ _ h)
   below_kth r (e ∷ es) (suc k) x h at = below_kth r es k x (second _ _ h) at
@@ -50,7 +51,7 @@ dropped_all [] (suc k) at = refl
 dropped_all (e ∷ es) zero at = cc
 dropped_all (e ∷ es) (suc k) at = dropped_all es k at
 
-first_dropped : {A : Type 0} (es : List A) (k : ℕ) → slice_get (drop k es) 0 ≡ slice_get es k
+pub first_dropped : {A : Type 0} (es : List A) (k : ℕ) → slice_get (drop k es) 0 ≡ slice_get es k
 first_dropped [] zero = refl
 first_dropped [] (suc k) = refl
 first_dropped (e ∷ es) zero = refl
@@ -60,9 +61,6 @@ module _ {F R : Type 0} (rests : Keys R) (key : F → Session × R) (s : Session
   -- the session's facts, by the rest of their keys
   abbrev pub those : List (R × (F × ℕ))
   those = rows_under sessions rests s (facts_by key fs)
-
-  abbrev pub fact_at : ℕ → Option F
-  fact_at k = option_map (λ (e : R × (F × ℕ)). e.1.0) (slice_get those k)
 
   own : (gs : List (F × ℕ)) (k : ℕ) (x : R × (F × ℕ)) → slice_get (rows_under sessions rests s (facts_by key gs)) k ≡ Some x → x.0 ≡ (key x.1.0).1
   own [] k x at = cc
@@ -83,7 +81,7 @@ module _ {F R : Type 0} (rests : Keys R) (key : F → Session × R) (s : Session
     pub fact : row.1.0 ≡ f
     pub rest : row.0 ≡ (key f).1
 
-  pub step : (k : ℕ) (f : F) → Some f ≡ fact_at k → Step k f
+  pub step : (k : ℕ) (f : F) → Some f ≡ fact_at rests key s fs k → Step k f
   step k f is = by (slice_get those k) refl is
     where
       by : (w : Option (R × (F × ℕ))) → slice_get those k ≡ w → Some f ≡ option_map (λ (e : R × (F × ℕ)). e.1.0) w → Step k f
@@ -92,7 +90,7 @@ module _ {F R : Type 0} (rests : Keys R) (key : F → Session × R) (s : Session
           let same : x.1.0 ≡ f = cc in
           record { row = x; at = at; here = dropped_at those k x at; fact = same; rest = own fs k x at ∙ ap (λ g. (key g).1) same }
 
-  pub end : (k : ℕ) → None ≡ fact_at k → drop k those ≡ []
+  pub end : (k : ℕ) → None ≡ fact_at rests key s fs k → drop k those ≡ []
   end k is = by (slice_get those k) refl is
     where
       by : (w : Option (R × (F × ℕ))) → slice_get those k ≡ w → None ≡ option_map (λ (e : R × (F × ℕ)). e.1.0) w → drop k those ≡ []
@@ -100,11 +98,11 @@ module _ {F R : Type 0} (rests : Keys R) (key : F → Session × R) (s : Session
       by (Some x) at e = cc
 
   -- the fact behind it is the next
-  pub next : IsTrue (is_sorted (fact_keys rests).cmp (facts_by key fs)) → (k : ℕ) (f : F) → Step k f → (r : Option F) → r ≡ option_map (λ (e : R × (F × ℕ)). e.1.0) (slice_get (rows_behind rests (key f).1 those) 0) → r ≡ fact_at (k + 1)
+  pub next : IsTrue (is_sorted (fact_keys rests).cmp (facts_by key fs)) → (k : ℕ) (f : F) → Step k f → (r : Option F) → r ≡ option_map (λ (e : R × (F × ℕ)). e.1.0) (slice_get (rows_behind rests (key f).1 those) 0) → r ≡ fact_at rests key s fs (k + 1)
   next up k f st r is =
       is ∙ ap (λ q. option_map (λ (e : R × (F × ℕ)). e.1.0) (slice_get (rows_behind rests q those) 0)) (sym st.rest)
       ∙ ap (λ es. option_map (λ (e : R × (F × ℕ)). e.1.0) (slice_get es 0)) (behind_drop rests those k st.row (sorted_under sessions rests s (facts_by key fs) (passes _ up)) st.at)
-      ∙ ap (option_map (λ (e : R × (F × ℕ)). e.1.0)) (first_dropped those (suc k)) ∙ ap fact_at (one_more k)
+      ∙ ap (option_map (λ (e : R × (F × ℕ)). e.1.0)) (first_dropped those (suc k)) ∙ ap (fact_at rests key s fs) (one_more k)
     where
       one_more : (n : ℕ) → suc n ≡ n + 1
       one_more n = omega arith

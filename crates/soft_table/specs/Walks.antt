@@ -1,5 +1,6 @@
 -- Walks along the rows of an index: the facts of a session, and how many sessions there are.
 use Rattle.std.specs.Prelude.{◌≡◌, ◌+◌, ◌<◌, ◌≤◌, ℕ, Bool, true, false, cond, slice_index_or, List, [], ◌∷◌, map as each, length, Option, Some, None, slice_get}
+use Rattle.std.specs.Option.{option_map}
 use Rattle.std.specs.Ordering.{eq_by_cmp, is_lt}
 use Rattle.rsvp_base.specs.Keys.{Keys}
 use Rattle.rsvp_base.specs.Orders.{sessions}
@@ -8,7 +9,7 @@ use Rattle.rsvp_base.specs.Under.{rows_under}
 use Rattle.rsvp_base.specs.declared.session.Session.{Session}
 use Rattle.soft_pool.specs.declared.cell.Cell.{Cell}
 use Rattle.soft_table.specs.declared.row.Row.{Row}
-use Rattle.soft_table.specs.Facts.{fact_keys}
+use Rattle.soft_table.specs.Facts.{fact_keys, facts_by}
 use Rattle.soft_table.specs.Index.{live_in, index_row}
 
 -- each row's slot is one of the slots
@@ -21,6 +22,10 @@ live_rows cells rows = changed_rows (λ k s. live_in (slice_get cells s)) (each 
 -- the facts of a session
 abbrev pub facts_under : {F R : Type 0} → Keys R → Session → List (Cell F) → List (Row R) → List (R × (F × ℕ))
 facts_under rests s cells rows = rows_under sessions rests s (live_rows cells rows)
+
+-- the k-th of a session's facts, by the rests of their keys
+abbrev pub fact_at : {F R : Type 0} → Keys R → (F → Session × R) → Session → List (F × ℕ) → ℕ → Option F
+fact_at rests key s fs k = option_map (λ e. e.1.0) (slice_get (rows_under sessions rests s (facts_by key fs)) k)
 
 -- the rows below a place, or from a place on, are not the session's
 abbrev pub OthersBelow : {R : Type 0} → Session → List (Row R) → ℕ → Type 0

@@ -1,8 +1,9 @@
-use Rattle.std.proofs.Common.{◌≡◌, ◌+◌, length, take, sym, ap, subst, ◌∙◌, arith}
-use Rattle.std.proofs.Math.Seq.{take-length}
+use Rattle.std.proofs.Common.{◌+◌, cond, not, take, get_or, sym, ap, subst, ◌∙◌, arith}
 use Rattle.rsvp_base.specs.Orders.{Names}
+use Rattle.rsvp_base.specs.Table.{without}
 use Rattle.rsvp_base.specs.declared.session.Sender.{Sender}
-use Rattle.resv_state.proofs.Left.{AreWithout, one_gone, all_gone}
+use Rattle.resv_state.specs.Leaving.{stays}
+use Rattle.resv_state.proofs.Kept.{AreKept, one_kept, kept_end}
 use Rattle.resv_state.proofs.leaving.without_all.Goals as goal
 
 abbrev blank : Sender
@@ -10,12 +11,11 @@ blank = record { addr = record { 0 = 0 }; port = 0 }
 
 pub loop-name-preserved : goal.loop-name-preserved
 loop-name-preserved c =
-    subst (λ (s : Names). AreWithout c.args.senders.now s (take (c.loop-name.name-index + 1) c.as_slice-name-items.result.now)) (sym c.remove.ensures.gone)
-    (one_gone c.args.senders.now c.loop-name.left c.as_slice-name-items.result.now c.loop-name.name-index blank c.loop-name-test.true c.loop-name.invariant)
+    let xs = c.as_slice-name-items.result.now in
+    let x = get_or xs c.loop-name.name-index blank in
+    let left = c.loop-name.left in
+    subst (λ (s : Names). AreKept (stays c.args.gone.now) c.args.senders.now s (take (c.loop-name.name-index + 1) xs)) (sym (c.keep_if.ensures ∙ ap (λ b. cond (not b) left (without left x)) c.has.ensures))
+    (one_kept (stays c.args.gone.now) c.args.senders.now left xs c.loop-name.name-index blank c.loop-name-test.true c.loop-name.invariant)
 
 pub returns : goal.returns
-returns c =
-    let xs = c.as_slice-name-items.result.now in
-    let end : c.loop-name.name-index ≡ length xs = omega arith in
-    all_gone c.args.senders.now c.loop-name.left c.args.gone.now
-    (subst (λ zs. AreWithout c.args.senders.now c.loop-name.left zs) (ap (λ i. take i xs) end ∙ take-length xs ∙ c.as_slice-name-items.ensures.senders) c.loop-name.invariant)
+returns c = kept_end (stays c.args.gone.now) c.args.senders.now c.loop-name.left c.loop-name.name-index c.as_slice-name-items.result.now (omega arith) c.as_slice-name-items.ensures.senders c.loop-name.invariant

@@ -2,7 +2,8 @@ use Rattle.std.proofs.Common.{◌≡◌, [], ◌∷◌, ◌++◌, Some, sym, ap,
 use Rattle.style_rules.specs.Parts.{part_cut}
 use Rattle.style_rules.specs.Tally.{tally_of, names_of_tally}
 use Rattle.resv_state.specs.Merging.{names_by, names_via, request_of, one_of}
-use Rattle.resv_state.proofs.Merged.{left_within_names, cut_room, and_none}
+use Rattle.resv_state.proofs.Merged.{left_within_names, cut_room}
+use Rattle.std.proofs.lemmas.List.{append-nil}
 use Rattle.resv_state.proofs.merging.add_cut.Goals as goal
 
 pub add-requires : goal.add-requires
@@ -17,4 +18,4 @@ returns-in-Some g c = λ rs e.
 
 pub returns-in_default : goal.returns-in_default
 returns-in_default g c = λ rs e.
-    e ∙ ap (tally_of g.S.Style.kind_is) (and_none rs) ∙ ap (λ w. tally_of g.S.Style.kind_is (rs ++ one_of (request_of c.args.up.now w))) (sym c.in_default.is ∙ c.cut_by.ensures)
+    e ∙ ap (tally_of g.S.Style.kind_is) (sym (append-nil rs)) ∙ ap (λ w. tally_of g.S.Style.kind_is (rs ++ one_of (request_of c.args.up.now w))) (sym c.in_default.is ∙ c.cut_by.ensures)

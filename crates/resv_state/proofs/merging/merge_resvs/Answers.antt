@@ -1,17 +1,16 @@
 use Rattle.std.proofs.Common.{◌≤◌, take, sym, ap, subst, ◌∙◌, arith}
 use Rattle.std.specs.List.{filter_map}
 use Rattle.std.specs.Prelude.{slice_get}
-use Rattle.std.specs.Option.{option_map, option_copied}
+use Rattle.std.specs.Option.{option_copied}
 use Rattle.rsvp_base.specs.Sets.{union}
 use Rattle.rsvp_base.specs.Table.{size}
-use Rattle.style_rules.specs.Lines.{LineKey}
 use Rattle.style_rules.specs.Tally.{TallyTable, tally_of, names_of_tally}
-use Rattle.soft_table.specs.Facts.{rows_behind}
-use Rattle.soft_table.proofs.Steps.{step, next}
+use Rattle.soft_table.proofs.Steps.{step}
 use Rattle.resv_state.specs.Merging.{held_toward, names_via}
 use Rattle.resv_state.specs.Resvs.{held_key}
 use Rattle.resv_state.specs.Walks.{rests, held_under}
-use Rattle.resv_state.proofs.Forgets.{taken_end, taken_all}
+use Rattle.std.proofs.lemmas.List.{take_all}
+use Rattle.rsvp_base.proofs.Fronts.{front_all}
 use Rattle.resv_state.proofs.Merged.{none_at, room_via, toward_within, toward_more}
 use Rattle.resv_state.proofs.merging.merge_resvs.Goals as goal
 
@@ -25,16 +24,16 @@ pub loop-k-preserved : goal.loop-k-preserved
 loop-k-preserved g c =
     let st = step rests held_key c.args.session c.args.table.now.facts c.loop-k.k c.in-Some.held.now (sym (ap option_copied c.in-Some.is) ∙ c.loop-k.invariant.at) in
     record {
-      at = next rests held_key c.args.session c.args.table.now.facts c.requires.rising c.loop-k.k c.in-Some.held.now st (option_copied c.after-next.result) (c.after-next.ensures ∙ ap (λ (q : LineKey). option_map (λ e. e.1.0) (slice_get (rows_behind rests q.1 (held_under c.args.session c.args.table.now.facts)) 0)) c.key.ensures);
+      at = c.behind-next.ensures c.loop-k.k (sym (ap option_copied c.in-Some.is) ∙ c.loop-k.invariant.at);
       merged = c.add_cut.ensures (filter_map (held_toward c.args.up.now) (take c.loop-k.k (held_under c.args.session c.args.table.now.facts))) c.loop-k.invariant.merged ∙ ap (tally_of g.S.Style.kind_is) (sym (toward_more c.args.session c.args.table.now.facts c.loop-k.k c.in-Some.held.now st c.args.up.now));
     }
 
 pub returns-in_default : goal.returns-in_default
 returns-in_default g c =
     let us = held_under c.args.session c.args.table.now.facts in
-    c.loop-k.invariant.merged ∙ ap (λ es. tally_of g.S.Style.kind_is (filter_map (held_toward c.args.up.now) es)) (taken_end us c.loop-k.k (none_at (λ e. e.1.0) (slice_get us c.loop-k.k) (sym (ap option_copied c.in_default.is) ∙ c.loop-k.invariant.at)))
+    c.loop-k.invariant.merged ∙ ap (λ es. tally_of g.S.Style.kind_is (filter_map (held_toward c.args.up.now) es)) (front_all us c.loop-k.k (none_at (λ e. e.1.0) (slice_get us c.loop-k.k) (sym (ap option_copied c.in_default.is) ∙ c.loop-k.invariant.at)))
 
 pub returns : goal.returns
 returns g c =
     let us = held_under c.args.session c.args.table.now.facts in
-    c.loop-k.invariant.merged ∙ ap (λ es. tally_of g.S.Style.kind_is (filter_map (held_toward c.args.up.now) es)) (taken_all us c.loop-k.k (omega (arith, c.requires.few, c.loop-k-test.false)))
+    c.loop-k.invariant.merged ∙ ap (λ es. tally_of g.S.Style.kind_is (filter_map (held_toward c.args.up.now) es)) (take_all c.loop-k.k us (omega (arith, c.requires.few, c.loop-k-test.false)))

@@ -2,7 +2,7 @@ use Rattle.std.proofs.Common.{◌≡◌, take}
 use Rattle.std.specs.List.{filter_map}
 use Rattle.std.specs.Option.{option_copied}
 use Rattle.style_rules.specs.Tally.{tally_of}
-use Rattle.soft_table.proofs.Steps.{fact_at}
+use Rattle.soft_table.specs.Walks.{fact_at}
 use Rattle.resv_state.specs.Merging.{held_toward}
 use Rattle.resv_state.specs.Resvs.{held_key}
 use Rattle.resv_state.specs.Walks.{held_under, rests}

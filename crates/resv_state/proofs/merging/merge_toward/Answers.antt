@@ -9,11 +9,12 @@ use Rattle.style_rules.specs.Tally.{TallyTable, tally_of, names_of_tally}
 use Rattle.style_rules.specs.Toward.{Request}
 use Rattle.resv_state.specs.Merging.{names_via, held_toward, want_request, one_of}
 use Rattle.resv_state.specs.Walks.{held_under}
-use Rattle.resv_state.proofs.Merged.{room_via, append_within, toward_within, wants_within, filter_got, and_none, and_more}
+use Rattle.resv_state.proofs.Merged.{room_via, append_within, toward_within, wants_within, filter_got}
+use Rattle.std.proofs.lemmas.List.{append-nil, append_assoc}
 use Rattle.resv_state.proofs.merging.merge_toward.Goals as goal
 
 pub loop-row-init : goal.loop-row-init
-loop-row-init g c = c.merge_resvs-merger.ensures ∙ ap (tally_of g.S.Style.kind_is) (and_none (filter_map (held_toward c.args.up.now) (held_under c.args.session c.args.table.now.facts)))
+loop-row-init g c = c.merge_resvs-merger.ensures ∙ ap (tally_of g.S.Style.kind_is) (sym (append-nil (filter_map (held_toward c.args.up.now) (held_under c.args.session c.args.table.now.facts))))
 
 pub add_cut-requires : goal.add_cut-requires
 add_cut-requires g c =
@@ -34,7 +35,7 @@ loop-row-preserved g c =
     let front : List Request = filter_map (held_toward up) (held_under c.args.session c.args.table.now.facts) in
     let so_far : List Request = filter_map (want_request up) (take i ws) in
     c.add_cut.ensures (front ++ so_far) c.loop-row.invariant ∙ ap (λ (w : UnitOf × Part). tally_of st ((front ++ so_far) ++ one_of (want_request up w))) c.row-item.is
-    ∙ ap (tally_of st) (and_more front so_far _ ∙ ap (λ zs. front ++ zs) (sym (filter_got (want_request up) ws i c.row-item.result c.loop-row-test.true)))
+    ∙ ap (tally_of st) (append_assoc front so_far _ ∙ ap (λ zs. front ++ zs) (sym (filter_got (want_request up) ws i c.row-item.result c.loop-row-test.true)))
 
 pub returns : goal.returns
 returns g c =

@@ -1,10 +1,10 @@
-use Rattle.std.proofs.Common.{◌≡◌, ◌+◌, cond, length, take, get_or, sym, ap, subst, ◌∙◌, arith}
-use Rattle.std.proofs.Math.Seq.{take-length}
+use Rattle.std.proofs.Common.{◌+◌, cond, take, get_or, sym, ap, subst, ◌∙◌, arith}
 use Rattle.rsvp_base.specs.Orders.{Names}
 use Rattle.rsvp_base.specs.Table.{has, without}
 use Rattle.rsvp_base.specs.declared.session.Sender.{Sender}
 use Rattle.resv_state.specs.Merging.{names_by}
-use Rattle.resv_state.proofs.Merged.{AreKept, has-by, one_kept, all_kept}
+use Rattle.resv_state.proofs.Kept.{AreKept, one_kept, kept_end}
+use Rattle.resv_state.proofs.Merged.{has-by}
 use Rattle.resv_state.proofs.merging.names_by.Goals as goal
 
 abbrev blank : Sender
@@ -20,8 +20,4 @@ loop-name-preserved c =
     (one_kept (has (names_by c.args.iface c.args.up.now)) c.args.names.now left xs c.loop-name.name-index blank c.loop-name-test.true c.loop-name.invariant)
 
 pub returns : goal.returns
-returns c =
-    let xs = c.as_slice-name-items.result.now in
-    let end : c.loop-name.name-index ≡ length xs = omega arith in
-    all_kept (has (names_by c.args.iface c.args.up.now)) c.args.names.now c.loop-name.left
-    (subst (λ zs. AreKept (has (names_by c.args.iface c.args.up.now)) c.args.names.now c.loop-name.left zs) (ap (λ i. take i xs) end ∙ take-length xs ∙ c.as_slice-name-items.ensures.senders) c.loop-name.invariant)
+returns c = kept_end (has (names_by c.args.iface c.args.up.now)) c.args.names.now c.loop-name.left c.loop-name.name-index c.as_slice-name-items.result.now (omega arith) c.as_slice-name-items.ensures.senders c.loop-name.invariant

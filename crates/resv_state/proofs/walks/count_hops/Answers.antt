@@ -1,13 +1,12 @@
 use Rattle.std.proofs.Common.{◌≡◌, ◌≤◌, ◌+◌, true, false, cond, drop, Some, sym, ap, ◌∙◌, arith}
-use Rattle.std.specs.Prelude.{slice_get}
-use Rattle.std.specs.Option.{option_map, option_copied}
-use Rattle.style_rules.specs.Lines.{LineKey, next_hops}
-use Rattle.soft_table.specs.Facts.{rows_behind}
+use Rattle.std.specs.Option.{option_copied}
+use Rattle.style_rules.specs.Lines.{next_hops}
 use Rattle.soft_table.specs.Walks.{is_last, changes}
-use Rattle.soft_table.proofs.Steps.{step, end, next}
+use Rattle.soft_table.proofs.Steps.{step, end}
 use Rattle.resv_state.specs.Resvs.{held_key}
 use Rattle.resv_state.specs.Walks.{rests, held_under, hops_in}
-use Rattle.resv_state.proofs.Walked.{hop_here, past_all}
+use Rattle.resv_state.proofs.Walked.{hop_here}
+use Rattle.std.proofs.lemmas.List.{drop_all}
 use Rattle.resv_state.proofs.walks.count_hops.Goals as goal
 use Rattle.resv_state.proofs.walks.count_hops.Goals.{then-not-is_last_hop, else-not-is_last_hop}
 
@@ -18,7 +17,7 @@ returns-in_default c =
 
 pub returns : goal.returns
 returns c =
-    let e = ap (λ es. c.loop-k.count + changes next_hops c.loop-k.last (hops_in es)) (past_all (held_under c.args.session c.args.table.now.facts) c.loop-k.k c.requires.few (omega (arith, c.loop-k-test.false))) in
+    let e = ap (λ es. c.loop-k.count + changes next_hops c.loop-k.last (hops_in es)) (drop_all c.loop-k.k (held_under c.args.session c.args.table.now.facts) (omega (arith, c.requires.few, c.loop-k-test.false))) in
     omega (arith, e, c.loop-k.invariant.counted)
 
 pub loop-k-preserved : goal.loop-k-preserved
@@ -27,19 +26,18 @@ loop-k-preserved c =
     let rest = hops_in (drop (c.loop-k.k + 1) (held_under c.args.session c.args.table.now.facts)) in
     let here = hop_here c.loop-k.last c.args.session c.args.table.now.facts c.loop-k.k c.in-Some.held.now st in
     let hop = (held_key c.in-Some.held.now).1.0 in
-    let own : c.key.result.1.0 ≡ hop = ap (λ (q : LineKey). q.1.0) c.key.ensures in
     let counted : c.loop-k.count + changes next_hops c.loop-k.last (hops_in (drop c.loop-k.k (held_under c.args.session c.args.table.now.facts))) ≡ c.if-not-is_last_hop.count + changes next_hops c.if-not-is_last_hop.last rest =
     elim c.if-not-is_last_hop.branch [
       | then-not-is_last_hop w ↦
-          let new : is_last next_hops c.loop-k.last hop ≡ false = ap (is_last next_hops c.loop-k.last) (sym own) ∙ sym c.is_last_hop.ensures ∙ w.if-not-is_last_hop.true in
+          let new : is_last next_hops c.loop-k.last hop ≡ false = sym c.is_last_hop.ensures ∙ w.if-not-is_last_hop.true in
           let step : changes next_hops c.loop-k.last (hops_in (drop c.loop-k.k (held_under c.args.session c.args.table.now.facts))) ≡ 1 + changes next_hops (Some hop) rest = here ∙ ap (λ b. cond b (changes next_hops c.loop-k.last rest) (1 + changes next_hops (Some hop) rest)) new in
-          let after : changes next_hops c.if-not-is_last_hop.last rest ≡ changes next_hops (Some hop) rest = ap (λ l. changes next_hops l rest) (w.last-is ∙ ap Some own) in
+          let after : changes next_hops c.if-not-is_last_hop.last rest ≡ changes next_hops (Some hop) rest = ap (λ l. changes next_hops l rest) w.last-is in
           omega (arith, step, after, w.count-is)
       | else-not-is_last_hop w ↦
-          let old : is_last next_hops c.loop-k.last hop ≡ true = ap (is_last next_hops c.loop-k.last) (sym own) ∙ sym c.is_last_hop.ensures ∙ w.if-not-is_last_hop.false in
+          let old : is_last next_hops c.loop-k.last hop ≡ true = sym c.is_last_hop.ensures ∙ w.if-not-is_last_hop.false in
           let step : changes next_hops c.loop-k.last (hops_in (drop c.loop-k.k (held_under c.args.session c.args.table.now.facts))) ≡ changes next_hops c.loop-k.last rest = here ∙ ap (λ b. cond b (changes next_hops c.loop-k.last rest) (1 + changes next_hops (Some hop) rest)) old in
           let after : changes next_hops c.if-not-is_last_hop.last rest ≡ changes next_hops c.loop-k.last rest = ap (λ l. changes next_hops l rest) w.last-is in
           omega (arith, step, after, w.count-is)
     ] in
     let few : c.if-not-is_last_hop.count ≤ c.loop-k.k + 1 = elim c.if-not-is_last_hop.branch [ then-not-is_last_hop w ↦ omega (arith, w.count-is, c.loop-k.invariant.few) | else-not-is_last_hop w ↦ omega (arith, w.count-is, c.loop-k.invariant.few) ] in
-    record { at = next rests held_key c.args.session c.args.table.now.facts c.requires.rising c.loop-k.k c.in-Some.held.now st (option_copied c.after-next.result) (c.after-next.ensures ∙ ap (λ (q : LineKey). option_map (λ e. e.1.0) (slice_get (rows_behind rests q.1 (held_under c.args.session c.args.table.now.facts)) 0)) c.key.ensures); counted = sym counted ∙ c.loop-k.invariant.counted; few = few }
+    record { at = c.behind-next.ensures c.loop-k.k (sym (ap option_copied c.in-Some.is) ∙ c.loop-k.invariant.at); counted = sym counted ∙ c.loop-k.invariant.counted; few = few }

@@ -2,7 +2,7 @@ use Rattle.std.proofs.Common.{◌≡◌, ◌≤◌, ◌+◌, drop, None}
 use Rattle.std.specs.Option.{option_copied}
 use Rattle.style_rules.specs.Lines.{next_hops}
 use Rattle.soft_table.specs.Walks.{changes}
-use Rattle.soft_table.proofs.Steps.{fact_at}
+use Rattle.soft_table.specs.Walks.{fact_at}
 use Rattle.resv_state.specs.Resvs.{held_key}
 use Rattle.resv_state.specs.Walks.{held_under, hops_in, rests}
 use Rattle.resv_state.proofs.walks.count_hops.Given as goal

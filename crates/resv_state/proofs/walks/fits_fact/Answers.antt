@@ -3,7 +3,8 @@ use Rattle.std.specs.FinMap.Entries.{find}
 use Rattle.style_rules.specs.Lines.{line_keys}
 use Rattle.soft_table.specs.Facts.{facts_by}
 use Rattle.resv_state.specs.Resvs.{held_key}
-use Rattle.resv_state.proofs.Units.{some_copied, known, fresh}
+use Rattle.resv_state.proofs.Units.{known, fresh}
+use Rattle.soft_table.proofs.Told.{some_copied}
 use Rattle.resv_state.proofs.walks.fits_fact.Goals as goal
 
 pub returns-then-is_some : goal.returns-then-is_some

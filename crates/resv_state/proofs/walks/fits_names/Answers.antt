@@ -1,15 +1,15 @@
 use Rattle.std.proofs.Common.{◌≡◌, ◌+◌, cond, drop, refl, sym, ap, ◌∙◌, arith}
-use Rattle.std.specs.Prelude.{slice_get, nat_le}
-use Rattle.std.specs.Option.{option_map, option_copied}
+use Rattle.std.specs.Prelude.{nat_le}
+use Rattle.std.specs.Option.{option_copied}
 use Rattle.std.specs.Ordering.{eq_by_cmp}
 use Rattle.rsvp_base.specs.Sets.{union}
 use Rattle.rsvp_base.specs.Table.{size}
 use Rattle.style_rules.specs.Lines.{LineKey}
-use Rattle.soft_table.specs.Facts.{rows_behind}
-use Rattle.soft_table.proofs.Steps.{step, end, next}
+use Rattle.soft_table.proofs.Steps.{step, end}
 use Rattle.resv_state.specs.Resvs.{held_key}
 use Rattle.resv_state.specs.Walks.{rests, held_under, with_names}
-use Rattle.resv_state.proofs.Walked.{names_here, no_room, past_all}
+use Rattle.resv_state.proofs.Walked.{names_here, no_room}
+use Rattle.std.proofs.lemmas.List.{drop_all}
 use Rattle.resv_state.proofs.walks.fits_names.Goals as goal
 use Rattle.resv_state.proofs.walks.fits_names.Goals.{then-not-is_rest+in-Ok, else-not-is_rest}
 
@@ -17,7 +17,7 @@ pub returns-in_default : goal.returns-in_default
 returns-in_default c = ap (λ n. nat_le n 16) (c.len.ensures.size ∙ ap (λ es. size (with_names c.args.key.now c.loop-k.names es)) (sym (end rests held_key c.args.session c.args.table.now.facts c.loop-k.k (sym (ap option_copied c.in_default.is) ∙ c.loop-k.invariant.at))) ∙ ap size c.loop-k.invariant.named)
 
 pub returns : goal.returns
-returns c = ap (λ n. nat_le n 16) (c.len-2.ensures.size ∙ ap (λ es. size (with_names c.args.key.now c.loop-k.names es)) (sym (past_all (held_under c.args.session c.args.table.now.facts) c.loop-k.k c.requires.few (omega (arith, c.loop-k-test.false)))) ∙ ap size c.loop-k.invariant.named)
+returns c = ap (λ n. nat_le n 16) (c.len-2.ensures.size ∙ ap (λ es. size (with_names c.args.key.now c.loop-k.names es)) (sym (drop_all c.loop-k.k (held_under c.args.session c.args.table.now.facts) (omega (arith, c.requires.few, c.loop-k-test.false)))) ∙ ap size c.loop-k.invariant.named)
 
 pub returns-in-Err : goal.returns-in-Err
 returns-in-Err c =
@@ -36,4 +36,4 @@ loop-k-preserved c =
       | then-not-is_rest+in-Ok w ↦ ap (λ b. with_names c.args.key.now (cond b c.loop-k.names (union c.loop-k.names c.in-Some.held.now.fact.part.senders)) rest) (ap (eq_by_cmp rests.cmp c.args.key.now) (sym own) ∙ sym c.is_rest.ensures ∙ w.if-not-is_rest.true) ∙ ap (λ n. with_names c.args.key.now n rest) (sym (w.names-is ∙ w.in-Ok.ensures.ok))
       | else-not-is_rest w ↦ ap (λ b. with_names c.args.key.now (cond b c.loop-k.names (union c.loop-k.names c.in-Some.held.now.fact.part.senders)) rest) (ap (eq_by_cmp rests.cmp c.args.key.now) (sym own) ∙ sym c.is_rest.ensures ∙ w.if-not-is_rest.false) ∙ ap (λ n. with_names c.args.key.now n rest) (sym w.names-is)
     ] in
-    record { at = next rests held_key c.args.session c.args.table.now.facts c.requires.rising c.loop-k.k c.in-Some.held.now st (option_copied c.after-next.result) (c.after-next.ensures ∙ ap (λ (q : LineKey). option_map (λ e. e.1.0) (slice_get (rows_behind rests q.1 (held_under c.args.session c.args.table.now.facts)) 0)) c.key.ensures); named = sym named ∙ c.loop-k.invariant.named }
+    record { at = c.behind-next.ensures c.loop-k.k (sym (ap option_copied c.in-Some.is) ∙ c.loop-k.invariant.at); named = sym named ∙ c.loop-k.invariant.named }

@@ -1,6 +1,6 @@
 use Rattle.std.proofs.Common.{◌≡◌, drop}
 use Rattle.std.specs.Option.{option_copied}
-use Rattle.soft_table.proofs.Steps.{fact_at}
+use Rattle.soft_table.specs.Walks.{fact_at}
 use Rattle.resv_state.specs.Resvs.{held_key}
 use Rattle.resv_state.specs.Walks.{held_under, rests, with_names}
 use Rattle.resv_state.proofs.walks.fits_names.Given as goal

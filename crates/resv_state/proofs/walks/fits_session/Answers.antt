@@ -4,7 +4,8 @@ use Rattle.rsvp_base.specs.Table.{size}
 use Rattle.soft_table.specs.Facts.{sessions_in}
 use Rattle.resv_state.specs.Resvs.{held_key}
 use Rattle.resv_state.specs.Walks.{held_under}
-use Rattle.resv_state.proofs.Units.{some_copied, first_full, known, fresh}
+use Rattle.resv_state.proofs.Units.{first_full, known, fresh}
+use Rattle.soft_table.proofs.Told.{some_copied}
 use Rattle.resv_state.proofs.walks.fits_session.Goals as goal
 
 pub returns-then-is_some : goal.returns-then-is_some

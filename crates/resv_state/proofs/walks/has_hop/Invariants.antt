@@ -3,7 +3,7 @@ use Rattle.std.specs.List.{list_any}
 use Rattle.std.specs.Ordering.{eq_by_cmp}
 use Rattle.std.specs.Option.{option_copied}
 use Rattle.style_rules.specs.Lines.{next_hops}
-use Rattle.soft_table.proofs.Steps.{fact_at}
+use Rattle.soft_table.specs.Walks.{fact_at}
 use Rattle.resv_state.specs.Resvs.{held_key}
 use Rattle.resv_state.specs.Walks.{held_under, hops_in, rests}
 use Rattle.resv_state.proofs.walks.has_hop.Given as goal

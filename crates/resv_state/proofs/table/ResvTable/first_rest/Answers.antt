@@ -1,26 +1,22 @@
-use Rattle.std.proofs.Common.{◌≤◌, ℕ, ap, subst, ◌∙◌}
-use Rattle.std.specs.Prelude.{slice_get}
+use Rattle.std.proofs.Common.{◌≤◌, sym, ap, subst, ◌∙◌}
 use Rattle.rsvp_base.specs.Orders.{sessions}
 use Rattle.rsvp_base.specs.Rows.{table_of}
-use Rattle.rsvp_base.specs.Table.{Table, keys, size, changed}
+use Rattle.rsvp_base.specs.Table.{size, changed}
 use Rattle.rsvp_base.specs.Under.{under}
 use Rattle.style_rules.specs.Lines.{line_keys}
 use Rattle.std.specs.Option.{option_map}
 use Rattle.resv_state.specs.declared.fact.Held.{Held}
-use Rattle.resv_state.specs.declared.fact.ResvFact.{ResvFact}
 use Rattle.resv_state.specs.Resvs.{ResvMap, held_key, held_row, fact_of}
 use Rattle.resv_state.specs.Walks.{rests}
-use Rattle.resv_state.proofs.Facts.{under_said}
+use Rattle.resv_state.proofs.Facts.{rows_said}
 use Rattle.resv_state.proofs.Forgets.{first_told}
 use Rattle.resv_state.proofs.Limits.{few_of_session}
 use Rattle.resv_state.proofs.table.ResvTable.first_rest.Goals as goal
 
 pub returns-clause-first : goal.returns-clause-first
 returns-clause-first g c =
-    let t = table_of line_keys held_row c.self.inside.table.facts c.self.inside.facts in
     c.rest_of.ensures ∙ ap (option_map (λ (h : Held). (held_key h).1)) c.at.ensures
-    ∙ first_told c.self.inside.table.facts c.self.inside.facts c.args.session (under sessions rests (changed fact_of t) c.args.session) (ap (λ (z : Table rests (ResvFact × ℕ)). z.rows) (under_said t c.args.session))
-    ∙ ap (λ (m : ResvMap). slice_get (keys (under sessions rests m.facts c.args.session)) 0) c.self.view_is
+    ∙ first_told c.self.inside.table.facts c.self.inside.facts c.args.session (under sessions rests c.args.self.now.facts c.args.session) (sym (rows_said c.self.inside.table.facts c.self.inside.facts _ (ap (λ (m : ResvMap). m.facts) c.self.view_is) c.args.session))
 
 pub returns-clause-few : goal.returns-clause-few
 returns-clause-few g c =

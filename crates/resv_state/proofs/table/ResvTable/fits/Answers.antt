@@ -13,7 +13,8 @@ use Rattle.resv_state.specs.Resvs.{ResvMap, resv_key, resv_lines, held_key, held
 use Rattle.resv_state.specs.Walks.{Rest, held_under, with_names}
 use Rattle.resv_state.proofs.Facts.{no_dead, said}
 use Rattle.resv_state.proofs.Refresh.{still_within}
-use Rattle.resv_state.proofs.Limits.{fits_is, one_fact, one_session, few_facts, few_under, few_sessions}
+use Rattle.resv_state.proofs.Limits.{fits_is, one_fact, one_session, few_facts, few_sessions}
+use Rattle.resv_state.proofs.Merged.{held_few}
 use Rattle.resv_state.proofs.table.ResvTable.fits.Goals as goal
 
 pub fits_fact-room-requires-clause-pulled : goal.fits_fact-room-requires-clause-pulled
@@ -26,10 +27,10 @@ pub fits_session-known-requires : goal.fits_session-known-requires
 fits_session-known-requires g c = few_sessions g.S.Style.kind_is c.self.inside.table.facts c.self.inside.facts c.args.fact.now.session (resv_key g.S.Style.kind_is c.args.fact.now).1 (c.args.fact.now, 0) c.self.inside.within
 
 pub fits_hop-near-requires-clause-few : goal.fits_hop-near-requires-clause-few
-fits_hop-near-requires-clause-few g c = few_under g.S.Style.kind_is c.self.inside.table.facts c.self.inside.facts c.args.fact.now.session (resv_key g.S.Style.kind_is c.args.fact.now).1 (c.args.fact.now, 0) c.self.inside.within
+fits_hop-near-requires-clause-few g c = held_few g.S.Style.kind_is c.self.inside.table.facts c.self.inside.facts c.args.fact.now.session c.self.inside.within
 
 pub fits_names-named-requires-clause-few : goal.fits_names-named-requires-clause-few
-fits_names-named-requires-clause-few g c = few_under g.S.Style.kind_is c.self.inside.table.facts c.self.inside.facts c.args.fact.now.session (resv_key g.S.Style.kind_is c.args.fact.now).1 (c.args.fact.now, 0) c.self.inside.within
+fits_names-named-requires-clause-few g c = held_few g.S.Style.kind_is c.self.inside.table.facts c.self.inside.facts c.args.fact.now.session c.self.inside.within
 
 pub returns : goal.returns
 returns g c = λ left.

@@ -1,11 +1,11 @@
-use Rattle.std.proofs.Common.{◌≡◌, true, false, length, take, get_or, sym, ap, subst, ◌∙◌, arith}
-use Rattle.std.proofs.Math.Seq.{take-length}
+use Rattle.std.proofs.Common.{◌≡◌, true, false, take, get_or, sym, ap, subst, ◌∙◌, arith}
 use Rattle.rsvp_base.specs.Table.{get, changed}
 use Rattle.rsvp_base.specs.declared.session.Sender.{Sender}
 use Rattle.style_rules.specs.Styles.{unit_of}
 use Rattle.resv_state.specs.Leaving.{lessened, key_has_one}
-use Rattle.resv_state.proofs.Left.{take_one}
-use Rattle.resv_state.proofs.Tears.{Torn, torn_more, torn_all, had_all}
+use Rattle.std.proofs.lemmas.List.{take_more}
+use Rattle.resv_state.specs.Resvs.{ResvMap, AreOfStyle}
+use Rattle.resv_state.proofs.Tears.{Torn, torn_more, torn_end}
 use Rattle.resv_state.proofs.table.ResvTable.remove.Goals as goal
 use Rattle.resv_state.proofs.table.ResvTable.remove.Goals.{then-leave, else-leave}
 
@@ -27,7 +27,7 @@ loop-name-preserved g c =
       | then-leave w ↦ let z : true ≡ false = sym w.if-leave.true ∙ e in absurd (cc)
       | else-leave w ↦ w.had-is
     ] in
-    subst (λ zs. Torn st c.args.session (c.args.iface, c.args.next) c.args.gone.now c.args.self.now c.leave.new.self c.if-leave.had zs) (sym (take_one xs c.loop-name.name-index blank c.loop-name-test.true))
+    subst (λ zs. Torn st c.args.session (c.args.iface, c.args.next) c.args.gone.now c.args.self.now c.leave.new.self c.if-leave.had zs) (sym (take_more xs c.loop-name.name-index blank c.loop-name-test.true))
     (torn_more st c.args.session (c.args.iface, c.args.next) c.args.gone.now c.args.self.now now c.leave.new.self c.loop-name.had c.leave.result c.if-leave.had (take c.loop-name.name-index xs) x c.loop-name.invariant
     (c.leave.ensures.facts ∙ ap (λ u. record now { facts = changed (lessened (c.args.session, ((c.args.iface, c.args.next), u)) c.args.gone.now) now.facts }) unit)
     (c.leave.ensures.had ∙ ap (λ u. key_has_one c.args.gone.now (get now.facts (c.args.session, ((c.args.iface, c.args.next), u)))) unit)
@@ -35,14 +35,8 @@ loop-name-preserved g c =
 
 pub returns-clause-facts : goal.returns-clause-facts
 returns-clause-facts g c =
-    let xs = c.as_slice-name-items.result.now in
-    let end : c.loop-name.name-index ≡ length xs = omega arith in
-    torn_all g.S.Style.kind_is c.args.session (c.args.iface, c.args.next) c.args.gone.now c.args.self.now c.loop-name.self c.loop-name.had c.is_sound.ensures
-    (subst (λ zs. Torn g.S.Style.kind_is c.args.session (c.args.iface, c.args.next) c.args.gone.now c.args.self.now c.loop-name.self c.loop-name.had zs) (ap (λ i. take i xs) end ∙ take-length xs ∙ c.as_slice-name-items.ensures.senders) c.loop-name.invariant)
+    (torn_end g.S.Style.kind_is c.args.session (c.args.iface, c.args.next) c.args.gone.now c.args.self.now c.loop-name.self c.loop-name.had c.loop-name.name-index c.as_slice-name-items.result.now (subst (λ (m : ResvMap). AreOfStyle g.S.Style.kind_is m.facts) c.self.view_is c.self.inside.style) (omega arith) c.as_slice-name-items.ensures.senders c.loop-name.invariant).0
 
 pub returns-clause-had : goal.returns-clause-had
 returns-clause-had g c =
-    let xs = c.as_slice-name-items.result.now in
-    let end : c.loop-name.name-index ≡ length xs = omega arith in
-    had_all g.S.Style.kind_is c.args.session (c.args.iface, c.args.next) c.args.gone.now c.args.self.now c.loop-name.self c.loop-name.had c.is_sound.ensures
-    (subst (λ zs. Torn g.S.Style.kind_is c.args.session (c.args.iface, c.args.next) c.args.gone.now c.args.self.now c.loop-name.self c.loop-name.had zs) (ap (λ i. take i xs) end ∙ take-length xs ∙ c.as_slice-name-items.ensures.senders) c.loop-name.invariant)
+    (torn_end g.S.Style.kind_is c.args.session (c.args.iface, c.args.next) c.args.gone.now c.args.self.now c.loop-name.self c.loop-name.had c.loop-name.name-index c.as_slice-name-items.result.now (subst (λ (m : ResvMap). AreOfStyle g.S.Style.kind_is m.facts) c.self.view_is c.self.inside.style) (omega arith) c.as_slice-name-items.ensures.senders c.loop-name.invariant).1
