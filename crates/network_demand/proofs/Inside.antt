@@ -10,6 +10,8 @@ use Rattle.tree_laws.specs.Trees.{hops_of}
 use Rattle.tree_laws.specs.Valid.{IsValid}
 use Rattle.tree_laws.proofs.Following.{in_group, to_tree}
 use Rattle.tree_laws.proofs.Links.{in_among, one_sending_end_on_a_link}
+use Rattle.tree_routing.specs.declared.group_hop.GroupHop.{GroupHop}
+use Rattle.tree_routing.specs.Order.{AreByRank}
 use Rattle.tree_routing.proofs.ValidMore.{from_inside, to_inside}
 
 pub index_in : {X : Type 0} (xs : List X) (i : ℕ) (d : X) → i < length xs → In (slice_index_or xs i d) xs
@@ -35,3 +37,13 @@ module _ (net : Net) (valid : IsValid net) where
 
   pub nodes_inside : (g : Addr) (h : Hop) → In h (hops_of net.hops g) → (node_of net.ends h.from < net.nodes) × (node_of net.ends h.to < net.nodes)
   nodes_inside g h i = let e = ends_inside g h i in (node_inside h.from e.0, node_inside h.to e.1)
+
+  -- those of hops by rank, by how many nodes there are
+  pub ranked_inside : (order : List GroupHop) → AreByRank net order → (k : ℕ) → k ≡ net.nodes → (i : ℕ) (d : GroupHop) → i < length order
+      → (node_of net.ends (slice_index_or order i d).hop.from < k) × (node_of net.ends (slice_index_or order i d).hop.to < k)
+  ranked_inside order ranked k size i d lt =
+      let x = slice_index_or order i d in
+      let inside = nodes_inside x.group x.hop (ranked.hops x (index_in order i d lt)) in
+      let from = inside.0 in
+      let to = inside.1 in
+      (omega arith, omega arith)
