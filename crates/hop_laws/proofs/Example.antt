@@ -142,7 +142,7 @@ said_told b u t =
     (λ y m i spelt. ap (is_fine_arrival u y) (sym spelt) ∙ all_in (is_fine u) u.flight one.0 y i) in
     record {
       carried = λ y m i born spelt over. say_told y m spelt (and_both (does_say y m) (does_take u y m (slice_get u.nodes 0)) (fine y (message.Resv m) i spelt)).0;
-      spared = λ y m i born spelt over x h. let no : false ≡ true = fine y (message.ResvTear m) i spelt in absurd (cc);
+      spared = λ y m i born spelt over t. let no : false ≡ true = fine y (message.ResvTear m) i spelt in absurd (cc);
       taken = λ y i born says f there.
           let both = and_both (does_say y says.resv) (does_take u y says.resv (slice_get u.nodes 0)) (fine y (message.Resv says.resv) i says.spelt) in
           kept_told (u.clock + lifetime (place_in 7500 u 0) says.resv.period) (then_kept u y says.resv f) (ap (does_take u y says.resv) (sym there) ∙ both.1);

@@ -1,4 +1,3 @@
 pub mod ResvLines
-pub mod Tears
 pub mod Said
 pub mod Example

@@ -15,6 +15,7 @@ use Rattle.rsvp_base.specs.Table.{get, has, empty}
 use Rattle.rsvp_base.proofs.Counts.{found_in, in_found}
 use Rattle.rsvp_base.proofs.Members.{all_in, in_all}
 use Rattle.rsvp_base.proofs.SetLaws.{and_both, and_made}
+use Rattle.rsvp_base.proofs.Tables.{either}
 use Rattle.rsvp_messages.specs.declared.ask.Ask.{Ask}
 use Rattle.rsvp_messages.specs.declared.message.Message.{Message}
 use Rattle.rsvp_messages.specs.declared.message.Message.TheVariants as message
@@ -30,7 +31,7 @@ use Rattle.calm_rounds.proofs.Holding.{hold_map, hold_both, hold_start, hold_kee
 use Rattle.calm_rounds.proofs.Renewing.{what_is_said_is_kept}
 use Rattle.demand_laws.specs.Goals.{addr_of}
 use Rattle.router_rules.specs.Asking.{ask_of, stays}
-use Rattle.router_rules.specs.Facts.{Facts, PathState, resvs_of}
+use Rattle.router_rules.specs.Facts.{Facts, PathState, ResvState, resvs_of}
 use Rattle.router_rules.specs.Inputs.{Arrival, Input, Came, Send, Spelt, Unspelt}
 use Rattle.router_rules.specs.Known.{known, named_as, lanes}
 use Rattle.router_rules.specs.Known.{Lane as HopLane}
@@ -44,7 +45,7 @@ use Rattle.rule_laws.proofs.Requesting.{nowhere}
 use Rattle.rule_laws.proofs.Tests.{ties, addr_told, addr_tested, session_told, style_told}
 use Rattle.router_laws.specs.Steps.{facts_then}
 use Rattle.router_laws.proofs.Speaking.{refreshes_are_marked}
-use Rattle.resv_laws.specs.ReservationLaws.{Touches, TouchesBy}
+use Rattle.resv_laws.specs.ReservationLaws.{TakesName, Touches, TouchesBy}
 use Rattle.resv_laws.proofs.Asking.{what_keeps_a_reservation_fact}
 use Rattle.resv_laws.proofs.Hopward.{what_a_resv_sent_says}
 use Rattle.tree_laws.specs.Networks.{Net, node_of, end_at, iface_of, peers}
@@ -67,9 +68,8 @@ use Rattle.network_laws.proofs.Known.{of_some, has_some, or_true, known_hold, no
 use Rattle.network_laws.proofs.Sends.{sent_by_rule}
 use Rattle.network_laws.proofs.Standing.{own_end, peer_there, linked_there}
 use Rattle.hop_laws.specs.ResvLines.{ResvKey, SaysResv, IsCut, line_key_of, resv_at, kept_of, kept_at, resv_line}
-use Rattle.hop_laws.specs.Said.{IsOver, IsSaid, Spares, lane_of}
+use Rattle.hop_laws.specs.Said.{IsOver, IsSaid, lane_of}
 use Rattle.hop_laws.proofs.ResvLines.{resv_found, resv_made, kept_found}
-use Rattle.hop_laws.proofs.Tears.{a_sparing_tear_leaves_it}
 
 -- ---- letters: Resvs of the session and style, from the end that asks to the end that keeps, and such ResvTears that take a
 -- name of the part
@@ -91,13 +91,16 @@ letter_arrival net k v (Unspelt e) = false
 abbrev is_letter : Net → ResvKey → Part → Item → Bool
 is_letter net k v y = (y.end == k.to) && letter_arrival net k v y.arrival
 
-spares_told : (m : ResvTearMsg) (v : Part) → spares_all m v ≡ true → Spares m v
-spares_told m v t x h =
-    let w = has_some (get v.senders x) h in
-    all_in (λ (e : Sender × Unit {0}). stays (tear_names m.tear) e.0) v.senders.rows t (x, w.0) (found_in senders v.senders x w.0 w.1)
+spares_told : (m : ResvTearMsg) (v : Part) → spares_all m v ≡ true → TakesName m v → ⊥
+spares_told m v all t =
+    let w = has_some (get v.senders t.name) t.was in
+    let bad : true ≡ false = sym (all_in (λ (e : Sender × Unit {0}). stays (tear_names m.tear) e.0) v.senders.rows all (t.name, w.0) (found_in senders v.senders t.name w.0 w.1)) ∙ t.goes in
+    absurd (cc)
 
-spares_made : (m : ResvTearMsg) (v : Part) → Spares m v → spares_all m v ≡ true
-spares_made m v spared = in_all (λ (e : Sender × Unit {0}). stays (tear_names m.tear) e.0) v.senders.rows (λ e i. spared e.0 (ap (λ (o : Option (Unit {0})). is_some o) (in_found senders v.senders e.0 e.1 i)))
+spares_made : (m : ResvTearMsg) (v : Part) → (TakesName m v → ⊥) → spares_all m v ≡ true
+spares_made m v spared =
+    in_all (λ (e : Sender × Unit {0}). stays (tear_names m.tear) e.0) v.senders.rows
+    (λ e i. either (stays (tear_names m.tear) e.0) (λ t. t) (λ goes. absurd (spared (record { name = e.0; was = ap (λ (o : Option (Unit {0})). is_some o) (in_found senders v.senders e.0 e.1 i); goes = goes }))))
 
 speaks_told : (net : Net) (k : ResvKey) (y : Item) (s : Session) (a : Addr) (st : StyleKind) → y.end ≡ k.to → speaks net k s a st ≡ true → IsOver net k y s a st
 speaks_told net k y s a st end e =
@@ -247,24 +250,10 @@ module _ (q : ℕ) (o : World) (k : ResvKey) (valid : IsValid o.net) (linked : I
   }
 
   -- ---- where no letter arrives it stays until it dies
-  pub record IsSpared (i : Input) : Type 0 where
-    pub at : ℕ
-    pub dst : Addr
-    pub tear : ResvTearMsg
-    pub came : i ≡ Came at dst (Spelt (message.ResvTear tear))
-    pub style : tear_style tear.tear ≡ k.style
-    pub spared : Spares tear v
-
-  untouched : (s : Step) (u : World) → IsKnown q o u → ((y : Item) → arrived s u ≡ Some y → is_letter o.net k v y ≡ false) → is_quiet s ≡ true → (i : Input) → IsWaited s u at_to i ⊎ IsCame s u at_to i → (Touches i k.style key → ⊥) ⊎ IsSpared i
-  untouched s u a none quiet i (inl w) = inl (λ t. subst (λ (z : Input). Touches z k.style key) w.is t)
-  untouched s u a none quiet i (inr c) = by c.item.arrival refl
+  untouched : (s : Step) (u : World) → IsKnown q o u → ((y : Item) → arrived s u ≡ Some y → is_letter o.net k v y ≡ false) → is_quiet s ≡ true → (r : ResvState) → r.part ≡ v → (i : Input) → IsWaited s u at_to i ⊎ IsCame s u at_to i → Touches i k.style key r → ⊥
+  untouched s u a none quiet r part i (inl w) t = subst (λ (z : Input). Touches z k.style key r) w.is t
+  untouched s u a none quiet r part i (inr c) t = by c.item.arrival refl
     where
-      came : (x : Arrival) → c.item.arrival ≡ x → i ≡ Came (iface_of u.net.ends c.item.end) c.item.dst x
-      came x e = c.is ∙ ap (Came (iface_of u.net.ends c.item.end) c.item.dst) e
-
-      apart : (m : Message) → c.item.arrival ≡ Spelt m → (TouchesBy (iface_of u.net.ends c.item.end) m k.style key → ⊥) → (Touches i k.style key → ⊥) ⊎ IsSpared i
-      apart m e other = inl (λ t. other (subst (λ (z : Input). Touches z k.style key) (came (Spelt m) e) t))
-
       no : (m : Message) → c.item.arrival ≡ Spelt m → iface_of u.net.ends c.item.end ≡ iface_of o.net.ends k.to → letter_message o.net k v m ≡ true → ⊥
       no m e iface letter =
           let end : c.item.end ≡ k.to = end_found q o u a k.to lt s i c iface in
@@ -272,31 +261,25 @@ module _ (q : ℕ) (o : World) (k : ResvKey) (valid : IsValid o.net) (linked : I
           let bad : true ≡ false = sym yes ∙ none c.item c.arrives in
           absurd (cc)
 
-      by_tear : (m : ResvTearMsg) → c.item.arrival ≡ Spelt (message.ResvTear m) → (x y : Bool) → speaks o.net k m.session m.hop.addr (tear_style m.tear) ≡ x → spares_all m v ≡ y → (Touches i k.style key → ⊥) ⊎ IsSpared i
-      by_tear m e false y h g = apart (message.ResvTear m) e (λ t. let bad : true ≡ false = sym (speaks_made o.net k m.session m.hop.addr (tear_style m.tear) t.0 t.2 t.3) ∙ h in absurd (cc))
-      by_tear m e true false h g = apart (message.ResvTear m) e (λ t. no (message.ResvTear m) e t.1 (and_made _ _ h (ap not g)))
-      by_tear m e true true h g =
-          inr (record {
-            at = iface_of u.net.ends c.item.end;
-            dst = c.item.dst;
-            tear = m;
-            came = came (Spelt (message.ResvTear m)) e;
-            style = style_told (tear_style m.tear) k.style (and_both _ _ (and_both _ _ h).1).1;
-            spared = spares_told m v g;
-          })
+      -- a ResvTear that touches it takes a name of the part
+      takes : (m : ResvTearMsg) → TakesName m r.part → not (spares_all m v) ≡ true
+      takes m t = ap not (either (spares_all m v) (λ all. absurd (spares_told m v all (subst (λ (z : Part). TakesName m z) part t))) (λ n. n))
 
-      by_message : (m : Message) → c.item.arrival ≡ Spelt m → (Touches i k.style key → ⊥) ⊎ IsSpared i
-      by_message (message.Resv m) e = apart (message.Resv m) e (λ t. no (message.Resv m) e t.1 (speaks_made o.net k m.session m.hop.addr (ask_style m.ask) t.0 t.2 t.3))
-      by_message (message.ResvTear m) e = by_tear m e (speaks o.net k m.session m.hop.addr (tear_style m.tear)) (spares_all m v) refl refl
-      by_message (message.Path m) e = apart (message.Path m) e (λ t. t)
-      by_message (message.PathTear m) e = apart (message.PathTear m) e (λ t. t)
-      by_message (message.PathErr m) e = apart (message.PathErr m) e (λ t. t)
-      by_message (message.ResvErr m) e = apart (message.ResvErr m) e (λ t. t)
-      by_message (message.ResvConf m) e = apart (message.ResvConf m) e (λ t. t)
+      by_message : (m : Message) → c.item.arrival ≡ Spelt m → TouchesBy (iface_of u.net.ends c.item.end) m k.style key r → ⊥
+      by_message (message.Resv m) e t = no (message.Resv m) e t.1 (speaks_made o.net k m.session m.hop.addr (ask_style m.ask) t.0 t.2 t.3)
+      by_message (message.ResvTear m) e t = no (message.ResvTear m) e t.0.1 (and_made _ _ (speaks_made o.net k m.session m.hop.addr (tear_style m.tear) t.0.0 t.0.2 t.0.3) (takes m t.1))
+      by_message (message.Path m) e t = t
+      by_message (message.PathTear m) e t = t
+      by_message (message.PathErr m) e t = t
+      by_message (message.ResvErr m) e t = t
+      by_message (message.ResvConf m) e t = t
 
-      by : (x : Arrival) → c.item.arrival ≡ x → (Touches i k.style key → ⊥) ⊎ IsSpared i
-      by (Spelt m) e = by_message m e
-      by (Unspelt f) e = inl (λ t. subst (λ (z : Input). Touches z k.style key) (came (Unspelt f) e) t)
+      touched : (x : Arrival) → c.item.arrival ≡ x → Touches (Came (iface_of u.net.ends c.item.end) c.item.dst x) k.style key r
+      touched x e = subst (λ (z : Input). Touches z k.style key r) (c.is ∙ ap (Came (iface_of u.net.ends c.item.end) c.item.dst) e) t
+
+      by : (x : Arrival) → c.item.arrival ≡ x → ⊥
+      by (Spelt m) e = by_message m e (touched (Spelt m) e)
+      by (Unspelt f) e = touched (Unspelt f) e
 
   rests : (s : Step) (u : World) (dies : ℕ) → is_quiet s ≡ true → IsFirm u → IsFirm (step q s u) → ((y : Item) → arrived s u ≡ Some y → is_letter o.net k v y ≡ false) → kept_at o.net k u ≡ Some (v, dies) → (step q s u).clock < dies → kept_at o.net k (step q s u) ≡ Some (v, dies)
   rests s u dies quiet g g' none kept later =
@@ -312,15 +295,11 @@ module _ (q : ℕ) (o : World) (k : ResvKey) (valid : IsValid o.net) (linked : I
       (λ (r : FollowsRule q s u at_to f.0 (outcome q s u at_to f.0)).
       let same : (outcome q s u at_to f.0).facts ≡ facts_then p p c r.input f.0 = ap (λ (z : Outcome). z.facts) r.is in
       let lives : c < x.0.dies = omega (arith, later, x.3) in
-      let within = g.known.bounds.facts at_to f.0 f.1 in
       let all : (name : Sender) → has x.0.part.senders name ≡ true → has (named_as k.style (known (facts_then p p c r.input f.0) k.session)) name ≡ true =
       (λ name has_it. ap (λ (z : Facts). has (named_as k.style (known z k.session)) name) (sym same) ∙ g'.said.known (outcome q s u at_to f.0).facts after name (ap (λ (z : Part). has z.senders name) x.2 ∙ has_it)) in
       ends
       (ap (λ (z : Facts). get (resvs_of k.style z) key) same
-      ∙ ⊎_elim (λ (apart : Touches r.input k.style key → ⊥). what_keeps_a_reservation_fact.whole p p u.clock c r.input f.0 within k.style key x.0 f.2 lives apart all)
-      (λ (t : IsSpared r.input).
-      a_sparing_tear_leaves_it p p c t.at t.dst t.tear r.input f.0 k.style key x.0 t.came t.style (within.shapes.resvs k.style key x.0 f.2).style.named (λ y h. t.spared y (ap (λ (z : Part). has z.senders y) x.2 ∙ h)) f.2 all)
-      (untouched s u g.known none quiet r.input (input_found s u at_to r.input quiet r.came))))
+      ∙ what_keeps_a_reservation_fact.whole p p u.clock c r.input f.0 (g.known.bounds.facts at_to f.0 f.1) k.style key x.0 f.2 lives (untouched s u g.known none quiet x.0 (sym x.2) r.input (input_found s u at_to r.input quiet r.came)) all))
       (outcome_quiet q s u at_to f.0 quiet)
 
   -- ---- the refresh of the hop

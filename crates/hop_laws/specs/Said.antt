@@ -11,10 +11,10 @@ use Rattle.rsvp_messages.specs.declared.ask.Ask.{Ask}
 use Rattle.rsvp_messages.specs.declared.message.Message.TheVariants as message
 use Rattle.rsvp_messages.specs.declared.message.ResvMsg.{ResvMsg}
 use Rattle.rsvp_messages.specs.declared.message.ResvTearMsg.{ResvTearMsg}
-use Rattle.rsvp_messages.specs.Units.{ask_style, tear_names, tear_style}
+use Rattle.rsvp_messages.specs.Units.{ask_style, tear_style}
 use Rattle.demand_laws.specs.Goals.{addr_of}
 use Rattle.router_laws.specs.Steps.{facts_then}
-use Rattle.router_rules.specs.Asking.{ask_of, stays}
+use Rattle.router_rules.specs.Asking.{ask_of}
 use Rattle.router_rules.specs.Facts.{Facts, ResvState, resvs_of}
 use Rattle.router_rules.specs.Inputs.{Came, Spelt}
 use Rattle.router_rules.specs.Known.{Lane, known, named_as}
@@ -23,6 +23,7 @@ use Rattle.router_rules.specs.Requests.{toward}
 use Rattle.tree_laws.specs.Networks.{Net, node_of, iface_of}
 use Rattle.network_model.specs.Laws.{place_in}
 use Rattle.network_model.specs.Worlds.{Item, World}
+use Rattle.resv_laws.specs.ReservationLaws.{TakesName}
 use Rattle.hop_laws.specs.ResvLines.{ResvKey, SaysResv, line_key_of}
 
 -- the item goes to the end that keeps, and its message is of the session and style, from the end that asks
@@ -44,15 +45,11 @@ IsTaken q net k v u y m =
     (f : Facts) → slice_get u.nodes n ≡ Some f
     → (r : ResvState) × (get (resvs_of k.style (facts_then (place_in q u n) (place_in q u n) u.clock (Came (iface_of net.ends k.to) y.dst (Spelt (message.Resv m))) f)) (line_key_of net k) ≡ Some r) × (r.part ≡ v) × (r.dies ≡ u.clock + lifetime (place_in q u n) m.period)
 
--- a ResvTear takes none of the names of a part
-abbrev pub Spares : ResvTearMsg → Part → Type 0
-Spares m v = (x : Sender) → has v.senders x ≡ true → stays (tear_names m.tear) x ≡ true
-
 -- ---- the part is said over the hop and is kept, of what is sent from step b on
 pub record IsSaid (q : ℕ) (net : Net) (k : ResvKey) (v : Part) (b : ℕ) (u : World) : Type 0 where
   -- each Resv of the session and style that is sent over the hop carries the part, and no such ResvTear takes a name of it
   pub carried : (y : Item) (m : ResvMsg) → In y u.flight → b ≤ y.born → y.arrival ≡ Spelt (message.Resv m) → IsOver net k y m.session m.hop.addr (ask_style m.ask) → SaysResv net k y v
-  pub spared : (y : Item) (m : ResvTearMsg) → In y u.flight → b ≤ y.born → y.arrival ≡ Spelt (message.ResvTear m) → IsOver net k y m.session m.hop.addr (tear_style m.tear) → Spares m v
+  pub spared : (y : Item) (m : ResvTearMsg) → In y u.flight → b ≤ y.born → y.arrival ≡ Spelt (message.ResvTear m) → IsOver net k y m.session m.hop.addr (tear_style m.tear) → TakesName m v → ⊥
   -- each that arrives is taken
   pub taken : (y : Item) → In y u.flight → b ≤ y.born → (says : SaysResv net k y v) → IsTaken q net k v u y says.resv
   -- the node that asks has something to ask for

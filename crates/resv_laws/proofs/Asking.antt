@@ -16,18 +16,18 @@ use Rattle.rsvp_messages.specs.declared.message.Message.{Message}
 use Rattle.rsvp_messages.specs.declared.message.Message.TheVariants as message
 use Rattle.rsvp_messages.specs.declared.message.ResvMsg.{ResvMsg}
 use Rattle.rsvp_messages.specs.declared.message.ResvTearMsg.{ResvTearMsg}
-use Rattle.rsvp_messages.specs.Units.{AskedUnit, ask_style, asked_units, tear_style}
+use Rattle.rsvp_messages.specs.Units.{AskedUnit, ask_style, asked_units, tear_names, tear_style}
 use Rattle.style_rules.specs.Lines.{LineKey, NextHop, is_of_hop, next_hops}
 use Rattle.style_rules.specs.Parts.{has_name}
 use Rattle.router_rules.specs.Act.{act, act_spelt, is_mine}
-use Rattle.router_rules.specs.Asking.{Asker, act_resv, act_resv_tear, asker_of, key_at, matched, names_that_match, nothing_taken, taking_of}
+use Rattle.router_rules.specs.Asking.{Asker, act_resv, act_resv_tear, asker_of, key_at, matched, names_one, names_that_match, nothing_taken, stays, taking_of}
 use Rattle.router_rules.specs.Bounds.{IsWithinBounds}
 use Rattle.router_rules.specs.Facts.{Facts, ResvState, Resvs, resvs_of}
 use Rattle.router_rules.specs.Forgetting.{is_lost}
-use Rattle.router_rules.specs.Inputs.{Call, Came, Clear, Input, Moved, Spelt, Unspelt, Wait}
+use Rattle.router_rules.specs.Inputs.{Call, Came, Change, Clear, Input, Moved, Spelt, Unspelt, Wait}
 use Rattle.router_rules.specs.Known.{known, named_as}
 use Rattle.router_rules.specs.Place.{Place, own}
-use Rattle.rule_laws.proofs.Leaving.{forgetting_by_names, table_other, waiting_leaves_the_living}
+use Rattle.rule_laws.proofs.Leaving.{forgetting_by_names, left_by_names, table_other, waiting_leaves_the_living}
 use Rattle.rule_laws.proofs.Tests.{addr_told}
 use Rattle.input_laws.specs.AskLaws.{IsOfUnit}
 use Rattle.input_laws.proofs.Receiving.{resv_tears_by_names}
@@ -37,7 +37,7 @@ use Rattle.router_laws.specs.Steps.{facts_then}
 use Rattle.bound_laws.specs.BoundLaws.{IsLeftOf}
 use Rattle.bound_laws.proofs.Putting.{style_same}
 use Rattle.bound_laws.proofs.Reserving.{forgotten_fewer, itself, tear_fewer}
-use Rattle.resv_laws.specs.ReservationLaws.{IsAskedFor, IsListed, SpeaksOf, Touches, TouchesBy, WhatKeepsAReservationFact, WhereAReservationFactComesFrom}
+use Rattle.resv_laws.specs.ReservationLaws.{IsAskedFor, IsListed, SpeaksOf, TakesName, Touches, TouchesBy, WhatKeepsAReservationFact, WhereAReservationFactComesFrom}
 
 -- ---- where a reservation comes from
 pub left_along : (r y x : ResvState) → IsLeftOf r y → IsLeftOf y x → IsLeftOf r x
@@ -160,7 +160,21 @@ of_hop_told s e a k h =
     let hop = tied_same next_hops (e, a) k.1.0 r.1 in
     (tied_same sessions s k.0 r.0, ap (λ (n : NextHop). n.0) hop, ap (λ (n : NextHop). n.1) hop)
 
-module _ (p : Place) (c : ℕ) (f : Facts) (st : StyleKind) (k : LineKey) (r : ResvState) (there : get (resvs_of st f) k ≡ Some r) where
+-- a ResvTear of another hop, or that takes none of its names, leaves it
+module _ (e : ℕ) (m : ResvTearMsg) (f : Facts) (k : LineKey) (r : ResvState) (there : get (resvs_of (tear_style m.tear) f) k ≡ Some r) (named : has_name r.part ≡ true) (apart : SpeaksOf m.session e m.hop.addr (tear_style m.tear) (tear_style m.tear) k × TakesName m r.part → ⊥) where
+  spared : is_of_hop m.session (e, m.hop.addr) k ≡ true → (x : Sender) → has r.part.senders x ≡ true → stays (tear_names m.tear) x ≡ true
+  spared hop x h = either (stays (tear_names m.tear) x) (λ t. t) (λ goes. let q = of_hop_told m.session e m.hop.addr k hop in absurd (apart ((q.0, q.1, q.2, refl), record { name = x; was = h; goes = goes })))
+
+  by_hop : (hop found : Bool) → is_of_hop m.session (e, m.hop.addr) k ≡ hop → names_one m.session (e, m.hop.addr) (tear_names m.tear) (resvs_of (tear_style m.tear) f) ≡ found
+      → get (resvs_of (tear_style m.tear) (act_resv_tear e m f).facts) k ≡ Some r
+  by_hop false found h g = resv_tears_by_names.others e m f k h ∙ there
+  by_hop true true h g = resv_tears_by_names.own e m f k r g h there ∙ left_by_names.whole (stays (tear_names m.tear)) r named (spared h)
+  by_hop true false h g = ap (λ (z : Change). get (resvs_of (tear_style m.tear) z.facts) k) (resv_tears_by_names.none e m f g) ∙ there
+
+  left_by_tear : get (resvs_of (tear_style m.tear) (act_resv_tear e m f).facts) k ≡ Some r
+  left_by_tear = by_hop (is_of_hop m.session (e, m.hop.addr) k) (names_one m.session (e, m.hop.addr) (tear_names m.tear) (resvs_of (tear_style m.tear) f)) refl refl
+
+module _ (p : Place) (c : ℕ) (f : Facts) (st : StyleKind) (k : LineKey) (r : ResvState) (there : get (resvs_of st f) k ≡ Some r) (named : has_name r.part ≡ true) where
   kept_by_resv : (e : ℕ) (m : ResvMsg) → (SpeaksOf m.session e m.hop.addr (ask_style m.ask) st k → ⊥) → get (resvs_of st (act_resv p c e m f).facts) k ≡ Some r
   kept_by_resv e m apart =
       ⊎_elim
@@ -169,16 +183,15 @@ module _ (p : Place) (c : ℕ) (f : Facts) (st : StyleKind) (k : LineKey) (r : R
       ∙ taken_other p c e m f k (λ q. apart (q.0, q.1, q.2, sym same)) _ _ ∙ ap (λ z. get (resvs_of z f) k) (sym same) ∙ there)
       (λ (other : st ≡ ask_style m.ask → ⊥). ap (λ (t : Resvs). get t k) (resvs_in_steps.others p c e m f st other) ∙ there) (style_same st (ask_style m.ask))
 
-  kept_by_tear : (e : ℕ) (m : ResvTearMsg) → (SpeaksOf m.session e m.hop.addr (tear_style m.tear) st k → ⊥) → get (resvs_of st (act_resv_tear e m f).facts) k ≡ Some r
+  kept_by_tear : (e : ℕ) (m : ResvTearMsg) → (SpeaksOf m.session e m.hop.addr (tear_style m.tear) st k × TakesName m r.part → ⊥) → get (resvs_of st (act_resv_tear e m f).facts) k ≡ Some r
   kept_by_tear e m apart =
       ⊎_elim
       (λ (same : st ≡ tear_style m.tear).
       ap (λ z. get (resvs_of z (act_resv_tear e m f).facts) k) same
-      ∙ resv_tears_by_names.others e m f k
-      (either (is_of_hop m.session (e, m.hop.addr) k) (λ h. let q = of_hop_told m.session e m.hop.addr k h in absurd (apart (q.0, q.1, q.2, sym same))) (λ n. n)) ∙ ap (λ z. get (resvs_of z f) k) (sym same) ∙ there)
+      ∙ left_by_tear e m f k r (ap (λ z. get (resvs_of z f) k) (sym same) ∙ there) named (λ (t : SpeaksOf m.session e m.hop.addr (tear_style m.tear) (tear_style m.tear) k × TakesName m r.part). apart ((t.0.0, t.0.1, t.0.2, sym same), t.1)))
       (λ (other : st ≡ tear_style m.tear → ⊥). ap (λ (t : Resvs). get t k) (table_other st (tear_style m.tear) _ f.resvs other) ∙ there) (style_same st (tear_style m.tear))
 
-  kept_by_message : (e : ℕ) (m : Message) (mine : Bool) → (TouchesBy e m st k → ⊥) → get (resvs_of st (act_spelt p c e m mine f).facts) k ≡ Some r
+  kept_by_message : (e : ℕ) (m : Message) (mine : Bool) → (TouchesBy e m st k r → ⊥) → get (resvs_of st (act_spelt p c e m mine f).facts) k ≡ Some r
   kept_by_message e m false apart = there
   kept_by_message e (message.Resv m) true apart = kept_by_resv e m apart
   kept_by_message e (message.ResvTear m) true apart = kept_by_tear e m apart
@@ -188,7 +201,7 @@ module _ (p : Place) (c : ℕ) (f : Facts) (st : StyleKind) (k : LineKey) (r : R
   kept_by_message e (message.PathTear m) true apart = there
   kept_by_message e (message.ResvConf m) true apart = there
 
-  pub kept_by : (i : Input) → c < r.dies → (Touches i st k → ⊥) → get (resvs_of st (act p c i f).facts) k ≡ Some r
+  pub kept_by : (i : Input) → c < r.dies → (Touches i st k r → ⊥) → get (resvs_of st (act p c i f).facts) k ≡ Some r
   kept_by (Call l) later apart = there
   kept_by (Wait ms word) later apart = (waiting_leaves_the_living.of_resvs p c word f st k r).1 (there, later)
   kept_by Clear later apart = absurd (apart tt)
@@ -209,6 +222,8 @@ pub what_keeps_a_reservation_fact : WhatKeepsAReservationFact
 what_keeps_a_reservation_fact =
     record {
       whole = λ old p b c i f within st k r there later apart all.
-          forgetting_by_names.stays f (act p c i f).facts st k r (kept_by p c f st k r there i later apart) (within.shapes.resvs st k r there).style.named (λ x h. not_lost st f (act p c i f).facts k.0 x (all x h));
-      some = λ old p b c i f within st k r there later apart x h one. forgetting_by_names.some f (act p c i f).facts st k r x (kept_by p c f st k r there i later apart) h (not_lost st f (act p c i f).facts k.0 x one);
+          let named = (within.shapes.resvs st k r there).style.named in
+          forgetting_by_names.stays f (act p c i f).facts st k r (kept_by p c f st k r there named i later apart) named (λ x h. not_lost st f (act p c i f).facts k.0 x (all x h));
+      some = λ old p b c i f within st k r there later apart x h one.
+          forgetting_by_names.some f (act p c i f).facts st k r x (kept_by p c f st k r there (within.shapes.resvs st k r there).style.named i later apart) h (not_lost st f (act p c i f).facts k.0 x one);
     }

@@ -1,6 +1,7 @@
 -- Where reservations come from, what keeps them, and what is sent for them: the claims of the public laws.
 use Rattle.std.specs.Prelude.{◌≡◌, ℕ, ◌+◌, ◌<◌, ◌⊎◌, true, false, not, Option, Some, None}
 use Rattle.rsvp_base.specs.declared.addr.Addr.{Addr}
+use Rattle.rsvp_base.specs.declared.part.Part.{Part}
 use Rattle.rsvp_base.specs.declared.session.Sender.{Sender}
 use Rattle.rsvp_base.specs.declared.session.Session.{Session}
 use Rattle.rsvp_base.specs.declared.style.StyleKind.{StyleKind}
@@ -13,10 +14,10 @@ use Rattle.rsvp_messages.specs.declared.message.Message.{Message}
 use Rattle.rsvp_messages.specs.declared.message.Message.TheVariants as message
 use Rattle.rsvp_messages.specs.declared.message.ResvMsg.{ResvMsg}
 use Rattle.rsvp_messages.specs.declared.message.ResvTearMsg.{ResvTearMsg}
-use Rattle.rsvp_messages.specs.Units.{AskedUnit, ask_style, asked_units, tear_style}
+use Rattle.rsvp_messages.specs.Units.{AskedUnit, ask_style, asked_units, tear_names, tear_style}
 use Rattle.style_rules.specs.Lines.{LineKey}
 use Rattle.style_rules.specs.Parts.{has_name}
-use Rattle.router_rules.specs.Asking.{ask_of, asker_of, matched}
+use Rattle.router_rules.specs.Asking.{ask_of, asker_of, matched, stays}
 use Rattle.router_rules.specs.Bounds.{IsWithinBounds}
 use Rattle.router_rules.specs.Facts.{Facts, ResvState, resvs_of}
 use Rattle.router_rules.specs.Forgetting.{is_lost}
@@ -65,27 +66,33 @@ WhereAReservationFactComesFrom =
     → ((r : ResvState) × (get (resvs_of st f) k ≡ Some r) × IsLeftOf r x) ⊎ IsAskedFor p c i f st k x
 
 -- ---- what keeps a reservation
--- a message that may take a reservation away or replace it is a Resv or a ResvTear of its session and style, by its interface
--- from its next hop
+-- a message that may take a reservation away or replace it is of its session and style, by its interface from its next hop: a
+-- Resv, or a ResvTear that takes one of its names (RFC 2209, 2)
 abbrev pub SpeaksOf : Session → ℕ → Addr → StyleKind → StyleKind → LineKey → Type 0
 SpeaksOf s e a said st k = (s ≡ k.0) × (e ≡ k.1.0.0) × (a ≡ k.1.0.1) × (said ≡ st)
 
-abbrev pub TouchesBy : ℕ → Message → StyleKind → LineKey → Type 0
-TouchesBy e (message.Path m) st k = ⊥
-TouchesBy e (message.Resv m) st k = SpeaksOf m.session e m.hop.addr (ask_style m.ask) st k
-TouchesBy e (message.PathErr m) st k = ⊥
-TouchesBy e (message.ResvErr m) st k = ⊥
-TouchesBy e (message.PathTear m) st k = ⊥
-TouchesBy e (message.ResvTear m) st k = SpeaksOf m.session e m.hop.addr (tear_style m.tear) st k
-TouchesBy e (message.ResvConf m) st k = ⊥
+-- a ResvTear takes a name of the part
+pub record TakesName (m : ResvTearMsg) (v : Part) : Type 0 where
+  pub name : Sender
+  pub was : has v.senders name ≡ true
+  pub goes : stays (tear_names m.tear) name ≡ false
 
-abbrev pub Touches : Input → StyleKind → LineKey → Type 0
-Touches (Call l) st k = ⊥
-Touches (Wait ms word) st k = ⊥
-Touches Clear st k = Unit {0}
-Touches (Came e dst (Spelt m)) st k = TouchesBy e m st k
-Touches (Came e dst (Unspelt m)) st k = ⊥
-Touches Moved st k = ⊥
+abbrev pub TouchesBy : ℕ → Message → StyleKind → LineKey → ResvState → Type 0
+TouchesBy e (message.Path m) st k r = ⊥
+TouchesBy e (message.Resv m) st k r = SpeaksOf m.session e m.hop.addr (ask_style m.ask) st k
+TouchesBy e (message.PathErr m) st k r = ⊥
+TouchesBy e (message.ResvErr m) st k r = ⊥
+TouchesBy e (message.PathTear m) st k r = ⊥
+TouchesBy e (message.ResvTear m) st k r = SpeaksOf m.session e m.hop.addr (tear_style m.tear) st k × TakesName m r.part
+TouchesBy e (message.ResvConf m) st k r = ⊥
+
+abbrev pub Touches : Input → StyleKind → LineKey → ResvState → Type 0
+Touches (Call l) st k r = ⊥
+Touches (Wait ms word) st k r = ⊥
+Touches Clear st k r = Unit {0}
+Touches (Came e dst (Spelt m)) st k r = TouchesBy e m st k r
+Touches (Came e dst (Unspelt m)) st k r = ⊥
+Touches Moved st k r = ⊥
 
 -- the name of a known sender, after the step
 abbrev pub IsKnownThen : Place → Place → ℕ → Input → Facts → StyleKind → Session → Sender → Type 0
@@ -93,10 +100,10 @@ IsKnownThen old p c i f st s x = has (named_as st (known (facts_then old p c i f
 
 pub record WhatKeepsAReservationFact : Type 0 where
   -- it stays as it is while it lives, nothing touches it, and each of its names is known
-  pub whole : (old p : Place) (b c : ℕ) (i : Input) (f : Facts) → IsWithinBounds old b f → (st : StyleKind) (k : LineKey) (r : ResvState) → get (resvs_of st f) k ≡ Some r → c < r.dies → (Touches i st k → ⊥)
+  pub whole : (old p : Place) (b c : ℕ) (i : Input) (f : Facts) → IsWithinBounds old b f → (st : StyleKind) (k : LineKey) (r : ResvState) → get (resvs_of st f) k ≡ Some r → c < r.dies → (Touches i st k r → ⊥)
       → ((x : Sender) → has r.part.senders x ≡ true → IsKnownThen old p c i f st k.0 x) → get (resvs_of st (facts_then old p c i f)) k ≡ Some r
   -- and with the names that are not forgotten while one of its names is known
-  pub some : (old p : Place) (b c : ℕ) (i : Input) (f : Facts) → IsWithinBounds old b f → (st : StyleKind) (k : LineKey) (r : ResvState) → get (resvs_of st f) k ≡ Some r → c < r.dies → (Touches i st k → ⊥)
+  pub some : (old p : Place) (b c : ℕ) (i : Input) (f : Facts) → IsWithinBounds old b f → (st : StyleKind) (k : LineKey) (r : ResvState) → get (resvs_of st f) k ≡ Some r → c < r.dies → (Touches i st k r → ⊥)
       → (x : Sender) → has r.part.senders x ≡ true → IsKnownThen old p c i f st k.0 x
       → (y : ResvState) × (get (resvs_of st (facts_then old p c i f)) k ≡ Some y) × IsLeft (λ s. not (is_lost st f (facts_then old p c i f) k.0 s)) r y
 

@@ -38,7 +38,8 @@ pub fn acceptance_has_examples()
     ensures { AcceptanceHasExamples }
 {}
 
-/// A reservation that is asked for, stays and is torn down, with the Resv and the ResvTear that are sent.
+/// A reservation that is asked for, stays, beside a ResvTear of another sender too, and is torn down, with the Resv and the
+/// ResvTear that are sent.
 #[tactic(auto, using(crate::proofs::Instances::reservation_laws_have_examples))]
 pub fn reservation_laws_have_examples()
     ensures { ReservationLawsHaveExamples }

@@ -8,8 +8,8 @@ pub fn where_a_reservation_fact_comes_from()
     ensures { WhereAReservationFactComesFrom }
 {}
 
-/// A reservation stays while it lives, its senders are known, and neither a Resv or ResvTear of its next hop nor a clear
-/// touches it; it loses the names alone of senders that are known no more.
+/// A reservation stays while it lives, its senders are known, and neither a Resv of its next hop, nor a ResvTear of that hop
+/// that takes one of its names, nor a clear touches it; it loses the names alone of senders that are known no more.
 #[tactic(auto, using(crate::proofs::Asking::what_keeps_a_reservation_fact))]
 pub fn what_keeps_a_reservation_fact()
     ensures { WhatKeepsAReservationFact }
