@@ -7,3 +7,4 @@ pub mod Placed
 pub mod Made
 pub mod ProperRead
 pub mod Whole
+pub mod Grammar

@@ -171,7 +171,7 @@ once_kept kind.PathTear = (inl refl, tt)
 once_kept kind.ResvTear = (inl refl, tt)
 once_kept kind.ResvConf = tt
 
-role_tells : (a b c : Bool) → stands_once (if a then Needed else if b then Once else if c then Unread else Nowhere) ≡ true → (a ≡ true) ⊎ (b ≡ true)
+pub role_tells : (a b c : Bool) → stands_once (if a then Needed else if b then Once else if c then Unread else Nowhere) ≡ true → (a ≡ true) ⊎ (b ≡ true)
 role_tells true b c e = inl refl
 role_tells false true c e = inr refl
 role_tells false false true e = absurd cc
@@ -277,10 +277,10 @@ still_stood s x n =
 
 -- ---- and so it stands at most once
 
-hit : (n : ℕ) (x : Object) (xs : List Object) → (class_of x == n) ≡ true → how_many n (x ∷ xs) ≡ how_many n xs + 1
+pub hit : (n : ℕ) (x : Object) (xs : List Object) → (class_of x == n) ≡ true → how_many n (x ∷ xs) ≡ how_many n xs + 1
 hit n x xs e = rw e (omega arith)
 
-miss : (n : ℕ) (x : Object) (xs : List Object) → (class_of x == n) ≡ false → how_many n (x ∷ xs) ≡ how_many n xs
+pub miss : (n : ℕ) (x : Object) (xs : List Object) → (class_of x == n) ≡ false → how_many n (x ∷ xs) ≡ how_many n xs
 miss n x xs e = rw e refl
 
 both_true : (a b : Bool) → (a && b) ≡ false → a ≡ true → b ≡ true → ⊥

@@ -1,16 +1,18 @@
 -- The laws of what bytes spell.
 use Rattle.std.specs.Prelude.{◌≡◌, ◌≤◌, ℕ, true, false, ◌||◌, ◌==◌, List, [], ◌∷◌, ◌++◌, length, Some, None}
-use Rattle.std.specs.List.{filter}
+use Rattle.std.specs.List.{filter, list_any}
+use Rattle.rsvp_base.specs.declared.session.Sender.{Sender}
 use Rattle.rsvp_base.specs.declared.style.StyleKind.{StyleKind}
 use Rattle.rsvp_messages.specs.declared.fault.MsgErr.{MsgErr}
 use Rattle.rsvp_messages.specs.declared.message.Message.{Message}
 use Rattle.rsvp_messages.specs.Proper.{IsProper}
 use Rattle.rsvp_messages.specs.declared.message.Kind.{Kind}
 use Rattle.rsvp_objects.specs.declared.object.Object.{Object}
+use Rattle.rsvp_objects.specs.declared.object.Object.TheVariants as object
 use Rattle.rsvp_objects.specs.Proper.{AreBytes, class_of}
-use Rattle.message_wire.specs.Places.{has_place, is_repeated, name_fault, Stand}
-use Rattle.message_wire.specs.Said.{style_said, last_said, seen_of}
-use Rattle.message_wire.specs.Table.{flowspec, filter_spec, role_of, stands_once, is_anywhere}
+use Rattle.message_wire.specs.Places.{place_after_style, has_place, is_repeated, is_named, name_fault, Stand}
+use Rattle.message_wire.specs.Said.{style_said, last_said, filters_after, is_object, seen_of}
+use Rattle.message_wire.specs.Table.{integrity, flowspec, filter_spec, role_of, may_stand, stands_once, is_anywhere}
 use Rattle.message_wire.specs.Spells.{Spells, IsFirstFault}
 
 -- bytes spell at most one message
@@ -52,3 +54,19 @@ WhatStandsOnceIsSaidOnce = (kind : Kind) (b : List ℕ) (xs : List Object) (end 
 abbrev pub BehindStyleStandsTheList : Type 0
 BehindStyleStandsTheList = (kind : Kind) (b : List ℕ) (end : ℕ) (before after : List Object) (x : Object) (k : StyleKind) → Stand kind b [] 8 (before ++ x ∷ after) end → last_said style_said before ≡ Some k
     → (is_anywhere (class_of x) || (class_of x == flowspec || class_of x == filter_spec)) ≡ true
+
+-- ---- and the other way round
+
+-- what the grammar of a kind asks of its objects (RFC 2205, 3.1.3 to 3.1.9), but for those that may stand anywhere: a class
+-- that stands once is there at most once, INTEGRITY has nothing but NULL before it, before a STYLE stand the classes of the
+-- table, behind it stands its list, and a list names nobody twice and at most 16
+pub record IsInGrammar (kind : Kind) (xs : List Object) : Type 0 where
+  pub once : (n : ℕ) → stands_once (role_of kind n) ≡ true → how_many n xs ≤ 1
+  pub first : (before after : List Object) (x : Object) → xs ≡ before ++ x ∷ after → class_of x ≡ integrity → list_any is_object before ≡ false
+  pub front : (before after : List Object) (x : Object) → xs ≡ before ++ x ∷ after → last_said style_said before ≡ None → (is_anywhere (class_of x) || (class_of x == integrity || may_stand (role_of kind (class_of x)))) ≡ true
+  pub list : (before after : List Object) (x : Object) (k : StyleKind) → xs ≡ before ++ x ∷ after → last_said style_said before ≡ Some k → (is_anywhere (class_of x) || (class_of x == integrity || place_after_style kind k (seen_of before) (class_of x))) ≡ true
+  pub names : (before after : List Object) (s : Sender) → xs ≡ before ++ object.Filter s ∷ after → (is_named s (filters_after None before) ≡ false) × (length (filters_after None before) ≤ 15)
+
+-- what is in the grammar of its kind is in its place, object by object
+abbrev pub WhatIsInGrammarIsInPlace : Type 0
+WhatIsInGrammarIsInPlace = (kind : Kind) (before after : List Object) (x : Object) → IsInGrammar kind (before ++ x ∷ after) → IsInPlace kind before x

@@ -1,5 +1,5 @@
 //! The laws of what bytes spell.
-ghost use Rattle.message_wire.specs.Laws.{AMessageIsOne, NoFaultWhereSpelt, TheFirstFaultIsOne, WhatIsSpeltIsProper, EachObjectIsInPlace, WhatStandsOnceIsSaidOnce, BehindStyleStandsTheList};
+ghost use Rattle.message_wire.specs.Laws.{AMessageIsOne, NoFaultWhereSpelt, TheFirstFaultIsOne, WhatIsSpeltIsProper, EachObjectIsInPlace, WhatStandsOnceIsSaidOnce, BehindStyleStandsTheList, WhatIsInGrammarIsInPlace};
 
 /// Bytes spell at most one message.
 pub fn a_message_is_one()
@@ -34,4 +34,9 @@ pub fn what_stands_once_is_said_once()
 /// Behind a STYLE stand FLOWSPECs, FILTER_SPECs, and what may stand anywhere.
 pub fn behind_style_stands_the_list()
     ensures { BehindStyleStandsTheList }
+{}
+
+/// What the grammar of a kind allows of the whole list (RFC 2205, 3.1.3 to 3.1.9) is in its place, object by object.
+pub fn what_is_in_grammar_is_in_place()
+    ensures { WhatIsInGrammarIsInPlace }
 {}

@@ -14,6 +14,7 @@ use Rattle.rsvp_objects.proofs.Again.{head_again, body_again}
 use Rattle.rsvp_messages.specs.declared.message.Kind.{Kind}
 use Rattle.rsvp_messages.specs.declared.message.Message.{Message}
 use Rattle.message_wire.specs.declared.seen.Seen.{Seen}
+use Rattle.message_wire.specs.Laws.{IsInPlace}
 use Rattle.message_wire.specs.Messages.{message_of}
 use Rattle.message_wire.specs.Places.{has_place, is_repeated, name_fault, is_unknown, by_head, object_in, Stand}
 use Rattle.message_wire.specs.Said.{seen_of, with_object}
@@ -22,6 +23,7 @@ use Rattle.message_wire.specs.Table.{is_unread}
 use Rattle.message_wire.proofs.Gathered.{seen_more}
 use Rattle.message_wire.proofs.Standing.{good}
 use Rattle.message_writing.specs.Encoding.{spellings}
+use Rattle.message_writing.specs.Laws.{IsReadIn, WhatIsInPlaceStands}
 
 -- an object may stand behind what was said, and is read there
 pub record Fits (kind : Kind) (s : Seen) (x : Object) : Type 0 where
@@ -98,3 +100,21 @@ says kind b front xs v e n proper fit m =
     let d : drop 8 b ≡ spellings xs = ap (drop 8) e ∙ drop_at front (spellings xs) 8 n in
     let len : length b ≡ 8 + length (spellings xs) = ap length e ∙ length-append front (spellings xs) ∙ ap (λ (k : ℕ). k + length (spellings xs)) n in
     (xs, stand_again kind b [] start 8 xs (length b) d refl proper fit len, ap (message_of kind) (with_objects-is [] xs) ∙ m)
+
+-- ---- and where objects are each in their place, they fit
+
+fit_in_place : (kind : Kind) (before : List Object) (s : Seen) (xs : List Object) → seen_of before ≡ s → AllByRecursion (IsReadIn kind) xs
+    → ((some after : List Object) (x : Object) → xs ≡ some ++ x ∷ after → IsInPlace kind (before ++ some) x) → Fit kind s xs
+fit_in_place kind before s [] is read place = tt
+fit_in_place kind before s (x ∷ xs) is read place =
+    let p : IsInPlace kind before x = subst (λ (ys : List Object). IsInPlace kind ys x) (append-nil before) (place [] xs x refl) in
+    let next : seen_of (before ++ x ∷ []) ≡ with_object s x = seen_more before x ∙ ap (λ (t : Seen). with_object t x) is in
+    let here : Fits kind (seen_of before) x = record { place = p.place; once = p.once; read = read.0; name = p.name } in (
+      subst (λ (t : Seen). Fits kind t x) is here,
+      fit_in_place kind (before ++ x ∷ []) (with_object s x) xs next read.1 (λ some after y e. subst (λ (ys : List Object). IsInPlace kind ys y) (sym (append_assoc before (x ∷ []) some)) (place (x ∷ some) after y (ap (λ (zs : List Object). x ∷ zs) e))),
+    )
+
+pub what_is_in_place_stands : WhatIsInPlaceStands
+what_is_in_place_stands kind front xs n proper read place =
+    let b = front ++ spellings xs in
+    stand_again kind b [] start 8 xs (length b) (drop_at front (spellings xs) 8 n) refl proper (fit_in_place kind [] start xs refl read place) (omega (arith, n, length-append front (spellings xs)))

@@ -1,7 +1,12 @@
 //! The laws of what is written.
-ghost use Rattle.message_writing.specs.Laws.{WhatIsSpeltIsWritable};
+ghost use Rattle.message_writing.specs.Laws.{WhatIsSpeltIsWritable, WhatIsInPlaceStands};
 
 /// What bytes spell is writable: whatever was read can be written, and read again.
 pub fn what_is_spelt_is_writable()
     ensures { WhatIsSpeltIsWritable }
+{}
+
+/// Objects that are each in their place behind those before them are read one after the other, as they are spelt.
+pub fn what_is_in_place_stands()
+    ensures { WhatIsInPlaceStands }
 {}

@@ -12,4 +12,4 @@ mod lists;
 mod messages;
 
 pub use encoding::encode;
-pub use laws::what_is_spelt_is_writable;
+pub use laws::{what_is_in_place_stands, what_is_spelt_is_writable};

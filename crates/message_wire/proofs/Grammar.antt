@@ -1,0 +1,217 @@
+-- From the whole list to places: what the grammar of a kind allows stands in its place.
+use Rattle.std.proofs.Common.{◌≡◌, ℕ, ◌+◌, ◌≤◌, Bool, true, false, List, [], ◌∷◌, ◌++◌, length, Option, Some, None, refl, sym, ap, subst, ◌∙◌, append_assoc, arith, inl, inr, ◌⊎◌}
+use Rattle.std.specs.Prelude.{not, ◌&&◌, ◌||◌, ◌==◌, if◌then◌else◌}
+use Rattle.std.specs.List.{AllByRecursion}
+use Rattle.std.proofs.lemmas.Bool.{eqb-true, eq-eqb}
+use Rattle.std.proofs.lemmas.List.{append-nil}
+use Rattle.rsvp_base.specs.declared.session.Sender.{Sender}
+use Rattle.rsvp_base.specs.declared.style.StyleKind.{StyleKind}
+use Rattle.rsvp_objects.specs.declared.object.Object.{Object}
+use Rattle.rsvp_objects.specs.declared.object.Object.TheVariants as object
+use Rattle.rsvp_objects.specs.Proper.{class_of}
+use Rattle.rsvp_messages.specs.declared.message.Kind.{Kind}
+use Rattle.rsvp_messages.specs.declared.message.Kind.TheVariants as kind
+use Rattle.message_wire.specs.declared.seen.Seen.{Seen}
+use Rattle.message_wire.specs.Laws.{how_many, WhatIsInGrammarIsInPlace}
+use Rattle.message_wire.specs.Places.{has_place, place_by_style, stood, is_repeated, is_named, name_fault}
+use Rattle.message_wire.specs.Said.{last_said, style_said, seen_of, with_object}
+use Rattle.message_wire.specs.Table.{row_of, is_among, role_of, stands_once, is_anywhere}
+use Rattle.message_wire.proofs.Gathered.{seen_more}
+use Rattle.message_wire.proofs.Whole.{role_tells, hit, miss}
+
+-- ---- the classes that stand once
+
+abbrev single : List ℕ
+single = 1 ∷ 3 ∷ 5 ∷ 6 ∷ 7 ∷ 8 ∷ 11 ∷ 12 ∷ 13 ∷ 15 ∷ []
+
+abbrev IsSingle : ℕ → Type 0
+IsSingle n = is_among n single ≡ true
+
+among_single : (n : ℕ) (ms : List ℕ) → AllByRecursion IsSingle ms → is_among n ms ≡ true → IsSingle n
+among_single n [] h e = absurd cc
+among_single n (m ∷ ms) h e = by_test (among_single n ms h.1) (n == m) refl e
+  where
+    by_test : (is_among n ms ≡ true → IsSingle n) → (t : Bool) → (n == m) ≡ t → (t || is_among n ms) ≡ true → IsSingle n
+    by_test rest true same e = subst IsSingle (sym (eqb-true n m same)) h.0
+    by_test rest false same e = rest e
+
+needed_single : (k : Kind) → AllByRecursion IsSingle (row_of k).needed
+needed_single kind.Path = (refl, (refl, (refl, tt)))
+needed_single kind.Resv = (refl, (refl, (refl, (refl, tt))))
+needed_single kind.PathErr = (refl, (refl, tt))
+needed_single kind.ResvErr = (refl, (refl, (refl, (refl, tt))))
+needed_single kind.PathTear = (refl, (refl, tt))
+needed_single kind.ResvTear = (refl, (refl, (refl, tt)))
+needed_single kind.ResvConf = (refl, (refl, (refl, (refl, tt))))
+
+once_single : (k : Kind) → AllByRecursion IsSingle (row_of k).once
+once_single kind.Path = (refl, (refl, (refl, tt)))
+once_single kind.Resv = (refl, (refl, tt))
+once_single kind.PathErr = (refl, tt)
+once_single kind.ResvErr = (refl, tt)
+once_single kind.PathTear = (refl, tt)
+once_single kind.ResvTear = (refl, tt)
+once_single kind.ResvConf = tt
+
+is_single : (k : Kind) (n : ℕ) → stands_once (role_of k n) ≡ true → IsSingle n
+unfolding role_of
+is_single k n e =
+    elim (role_tells (is_among n (row_of k).needed) (is_among n (row_of k).once) (is_among n (row_of k).unread) e) [
+      | inl p ↦ among_single n (row_of k).needed (needed_single k) p
+      | inr p ↦ among_single n (row_of k).once (once_single k) p
+    ]
+
+-- ---- an object of another class changes nothing of what stood
+
+both_sides : {A : Type 0} (b : Bool) (x x' y y' : A) → (b ≡ true → x ≡ x') → (b ≡ false → y ≡ y') → (if b then x else y) ≡ (if b then x' else y')
+both_sides true x x' y y' p q = p refl
+both_sides false x x' y y' p q = q refl
+
+or_false : (a : Bool) → (a || false) ≡ a
+or_false true = refl
+or_false false = refl
+
+-- of a class that is skipped, whether it is ADSPEC
+other_skipped : (n m : ℕ) (a : Bool) → (n == m) ≡ false → (n == 13) ≡ true → (a || (m == 13)) ≡ a
+other_skipped n m a apart at = by_test (m == 13) refl
+  where
+    by_test : (t : Bool) → (m == 13) ≡ t → (a || t) ≡ a
+    by_test true e = absurd (let z = sym apart ∙ eq-eqb n m (eqb-true n 13 at ∙ sym (eqb-true m 13 e)) in cc)
+    by_test false e = or_false a
+
+other_class : (s : Seen) (x : Object) (n : ℕ) → IsSingle n → (n == class_of x) ≡ false → stood (with_object s x) n ≡ stood s n
+unfolding stood with_object
+other_class s (object.Session a b) n one e = rw (e, or_false s.adspec) refl
+other_class s (object.HopOf a) n one e = rw (e, or_false s.adspec) refl
+other_class s (object.Time a) n one e = rw (e, or_false s.adspec) refl
+other_class s (object.Error a) n one e = rw (e, or_false s.adspec) refl
+other_class s (object.Scope a) n one e = rw (e, or_false s.adspec) refl
+other_class s (object.StyleOf a) n one e = rw (e, or_false s.adspec) refl
+other_class s (object.FlowOf a) n one e = rw (or_false s.adspec) refl
+other_class s (object.Filter a) n one e = rw (or_false s.adspec) refl
+other_class s (object.Template a) n one e = rw (e, or_false s.adspec) refl
+other_class s (object.Tspec a) n one e = rw (e, or_false s.adspec) refl
+other_class s (object.Confirm a) n one e =
+    both_sides (n == 1) _ _ _ _ (λ _. refl) (λ e1.
+    both_sides (n == 3) _ _ _ _ (λ _. refl) (λ e2.
+    both_sides (n == 5) _ _ _ _ (λ _. refl) (λ e3.
+    both_sides (n == 6) _ _ _ _ (λ _. refl) (λ e4.
+    both_sides (n == 7) _ _ _ _ (λ _. refl) (λ e5.
+    both_sides (n == 8) _ _ _ _ (λ _. refl) (λ e6.
+    both_sides (n == 11) _ _ _ _ (λ _. refl) (λ e7.
+    both_sides (n == 12) _ _ _ _ (λ _. refl) (λ e8.
+    both_sides (n == 13) _ _ _ _ (λ _. or_false s.adspec) (λ e9. let none : is_among n single ≡ false = rw (e1, e2, e3, e4, e5, e6, e7, e8, e9, e) refl in absurd (let z = sym none ∙ one in cc))))))))))
+other_class s (object.Skipped m) n one e =
+    both_sides (n == 1) _ _ _ _ (λ _. refl) (λ _.
+    both_sides (n == 3) _ _ _ _ (λ _. refl) (λ _.
+    both_sides (n == 5) _ _ _ _ (λ _. refl) (λ _.
+    both_sides (n == 6) _ _ _ _ (λ _. refl) (λ _.
+    both_sides (n == 7) _ _ _ _ (λ _. refl) (λ _.
+    both_sides (n == 8) _ _ _ _ (λ _. refl) (λ _.
+    both_sides (n == 11) _ _ _ _ (λ _. refl) (λ _.
+    both_sides (n == 12) _ _ _ _ (λ _. refl) (λ _.
+    both_sides (n == 13) _ _ _ _ (λ at. other_skipped n m s.adspec e at) (λ _. refl)))))))))
+
+-- ---- so what stood is counted
+
+neither : (b x y : Bool) → x ≡ false → y ≡ false → (if b then x else y) ≡ false
+neither true x y p q = p
+neither false x y p q = q
+
+none_stood : (n : ℕ) → stood (seen_of []) n ≡ false
+unfolding stood last_said
+none_stood n =
+    neither (n == 1) _ _ refl (neither (n == 3) _ _ refl (neither (n == 5) _ _ refl (neither (n == 6) _ _ refl (neither (n == 7) _ _ refl (neither (n == 8) _ _ refl (neither (n == 11) _ _ refl (neither (n == 12) _ _ refl (neither (n == 13) _ _ refl refl))))))))
+
+counted_from : (n : ℕ) (before xs : List Object) → IsSingle n → stood (seen_of (before ++ xs)) n ≡ true → (stood (seen_of before) n ≡ true) ⊎ (1 ≤ how_many n xs)
+counted_from n before [] one h = inl (subst (λ (ys : List Object). stood (seen_of ys) n ≡ true) (append-nil before) h)
+counted_from n before (x ∷ xs) one h =
+    by_rest (counted_from n (before ++ x ∷ []) xs one (subst (λ (ys : List Object). stood (seen_of ys) n ≡ true) (sym (append_assoc before (x ∷ []) xs)) h))
+  where
+    more : (t : Bool) → (class_of x == n) ≡ t → how_many n xs ≤ how_many n (x ∷ xs)
+    more true e = let here = hit n x xs e in omega arith
+    more false e = let here = miss n x xs e in omega arith
+
+    by_class : stood (with_object (seen_of before) x) n ≡ true → (t : Bool) → (n == class_of x) ≡ t → (stood (seen_of before) n ≡ true) ⊎ (1 ≤ how_many n (x ∷ xs))
+    by_class p true e = let here = hit n x xs (eq-eqb (class_of x) n (sym (eqb-true n (class_of x) e))) in inr (omega arith)
+    by_class p false e = inl (sym (other_class (seen_of before) x n one e) ∙ p)
+
+    by_rest : (stood (seen_of (before ++ x ∷ [])) n ≡ true) ⊎ (1 ≤ how_many n xs) → (stood (seen_of before) n ≡ true) ⊎ (1 ≤ how_many n (x ∷ xs))
+    by_rest (inl p) = by_class (subst (λ (t : Seen). stood t n ≡ true) (seen_more before x) p) (n == class_of x) refl
+    by_rest (inr q) = let grown = more (class_of x == n) refl in inr (omega arith)
+
+counted : (n : ℕ) (xs : List Object) → IsSingle n → stood (seen_of xs) n ≡ true → 1 ≤ how_many n xs
+counted n xs one h = elim (counted_from n [] xs one h) [ inl p ↦ absurd (let z = sym (none_stood n) ∙ p in cc) | inr q ↦ q ]
+
+-- ---- each object in its place
+
+how_many-append : (n : ℕ) (xs ys : List Object) → how_many n (xs ++ ys) ≡ how_many n xs + how_many n ys
+how_many-append n [] ys = omega arith
+how_many-append n (x ∷ xs) ys = by_class (how_many-append n xs ys) (class_of x == n) refl
+  where
+    by_class : how_many n (xs ++ ys) ≡ how_many n xs + how_many n ys → (t : Bool) → (class_of x == n) ≡ t → how_many n (x ∷ xs ++ ys) ≡ how_many n (x ∷ xs) + how_many n ys
+    by_class rest true e = let a = hit n x (xs ++ ys) e in let b = hit n x xs e in omega arith
+    by_class rest false e = let a = miss n x (xs ++ ys) e in let b = miss n x xs e in omega arith
+
+never_both : (a b : Bool) → (a ≡ true → b ≡ true → ⊥) → (a && b) ≡ false
+never_both true true apart = absurd (apart refl refl)
+never_both true false apart = refl
+never_both false b apart = refl
+
+not_repeated : (kind : Kind) (before after : List Object) (x : Object) → ((n : ℕ) → stands_once (role_of kind n) ≡ true → how_many n (before ++ x ∷ after) ≤ 1) → is_repeated kind (seen_of before) (class_of x) ≡ false
+unfolding is_repeated
+not_repeated kind before after x few =
+    never_both _ _ (λ once there.
+    let n = class_of x in
+    let most = few n once in
+    let first = counted n before (is_single kind n once) there in
+    let here = hit n x after (eq-eqb n n refl) in
+    let all = how_many-append n before (x ∷ after) in
+    omega arith)
+
+place_made : (a i d t : Bool) → (i ≡ true → d ≡ false) → (a || (i || t)) ≡ true → (a || (if i then not d else t)) ≡ true
+place_made true i d t first e = refl
+place_made false true d t first e = ap not (first refl)
+place_made false false d t first e = e
+
+placed_by : (kind : Kind) (before : List Object) (n : ℕ) → ((n == 4) ≡ true → (seen_of before).begun ≡ false) → (o : Option StyleKind) → last_said style_said before ≡ o → (is_anywhere n || ((n == 4) || place_by_style kind (seen_of before) n o)) ≡ true
+    → has_place kind (seen_of before) n ≡ true
+unfolding has_place
+placed_by kind before n first o is e =
+    place_made (is_anywhere n) (n == 4) (seen_of before).begun (place_by_style kind (seen_of before) n (seen_of before).style) first (ap (λ (w : Option StyleKind). is_anywhere n || ((n == 4) || place_by_style kind (seen_of before) n w)) is ∙ e)
+
+room_left : (n : ℕ) → n ≤ 15 → (n == 16) ≡ false
+room_left n few = by_test (n == 16) refl
+  where
+    by_test : (t : Bool) → (n == 16) ≡ t → t ≡ false
+    by_test true e = let z = eqb-true n 16 e in absurd (omega arith)
+    by_test false e = refl
+
+no_name_fault : (s : Seen) (x : Object) → ((q : Sender) → x ≡ object.Filter q → (is_named q s.filters ≡ false) × (length s.filters ≤ 15)) → (at : ℕ) → name_fault at s x ≡ None
+no_name_fault s (object.Filter q) new at = let is = new q refl in rw (is.0, room_left (length s.filters) is.1) refl
+no_name_fault s (object.Session a b) new at = refl
+no_name_fault s (object.HopOf a) new at = refl
+no_name_fault s (object.Time a) new at = refl
+no_name_fault s (object.Error a) new at = refl
+no_name_fault s (object.Scope a) new at = refl
+no_name_fault s (object.StyleOf a) new at = refl
+no_name_fault s (object.FlowOf a) new at = refl
+no_name_fault s (object.Template a) new at = refl
+no_name_fault s (object.Tspec a) new at = refl
+no_name_fault s (object.Confirm a) new at = refl
+no_name_fault s (object.Skipped a) new at = refl
+
+pub what_is_in_grammar_is_in_place : WhatIsInGrammarIsInPlace
+what_is_in_grammar_is_in_place kind before after x g =
+    record {
+      place = by_style (last_said style_said before) refl;
+      once = not_repeated kind before after x g.once;
+      name = no_name_fault (seen_of before) x (λ q is. g.names before after q (ap (λ (y : Object). before ++ y ∷ after) is));
+    }
+  where
+    first : (class_of x == 4) ≡ true → (seen_of before).begun ≡ false
+    first e = g.first before after x refl (eqb-true (class_of x) 4 e)
+
+    by_style : (o : Option StyleKind) → last_said style_said before ≡ o → has_place kind (seen_of before) (class_of x) ≡ true
+    by_style None e = placed_by kind before (class_of x) first None e (g.front before after x refl e)
+    by_style (Some k) e = placed_by kind before (class_of x) first (Some k) e (g.list before after x k refl e)
