@@ -1,18 +1,13 @@
 -- What the interfaces of nodes have promised to left-over reservations.
-use Rattle.std.specs.Prelude.{◌≡◌, ℕ, ◌<◌, ◌==◌, List, [], ◌∷◌, map as each, Some, None, length, slice_get}
+use Rattle.std.specs.Prelude.{◌≡◌, ℕ, ◌<◌, ◌==◌, List, map as each, Some, None, length, slice_get}
 use Rattle.std.specs.List.{filter}
 use Rattle.rsvp_base.specs.Table.{empty, with_rows, keys}
 use Rattle.rsvp_base.specs.TokenBucket.{TokenBucket}
-use Rattle.rsvp_base.specs.Orders.{Names}
-use Rattle.rsvp_base.specs.declared.session.Sender.{Sender}
-use Rattle.rsvp_base.specs.declared.style.StyleKind.{StyleKind}
-use Rattle.rsvp_base.specs.declared.style.StyleKind.TheVariants.{Wild, Fixed, Shared}
-use Rattle.rsvp_base.specs.declared.style.Unit.{Unit as UnitOf}
-use Rattle.rsvp_base.specs.declared.style.Unit.TheVariants.{One, Of}
 use Rattle.admission_book.specs.Book.{Entries, Bookings}
 use Rattle.admission_book.specs.Charges.{refusal}
 use Rattle.admission_book.specs.declared.iface.Iface.{Iface}
 use Rattle.admission_book.specs.declared.key.EntryKey.{EntryKey}
+use Rattle.style_rules.specs.Styles.{unit_of_first}
 use Rattle.net_script.specs.declared.script.End.{End}
 use Rattle.net_script.specs.declared.script.Stale.{Stale}
 use Rattle.net_script.specs.declared.script.Stale.TheVariants.{Resv}
@@ -27,25 +22,15 @@ abbrev pub IsPlaced : List End → End → Type 0
 IsPlaced ends e = slice_get (ifaces_on ends e.node) e.number ≡ Some e.iface
 
 -- ---- what a left-over reservation asks for
--- the unit of a reservation: for a fixed filter its sender, else all that it names (RFC 2205, 1.3)
-abbrev pub first_unit : List Sender → UnitOf
-first_unit [] = One
-first_unit (s ∷ ss) = Of s
-
-abbrev pub unit_of : StyleKind → Names → UnitOf
-unit_of Wild senders = One
-unit_of Fixed senders = first_unit (keys senders)
-unit_of Shared senders = One
-
 abbrev pub node_of : Stale → ℕ
 node_of (Resv node iface session style next senders flow left) = node
 
 abbrev pub iface_of : Stale → ℕ
 iface_of (Resv node iface session style next senders flow left) = iface
 
--- the entry that it makes in the book of its node
+-- the entry that it makes in the book of its node, under the unit of its senders (RFC 2205, 1.3)
 abbrev pub entry_key_of : Stale → EntryKey
-entry_key_of (Resv node iface session style next senders flow left) = record { session = session; style = style; unit = unit_of style senders }
+entry_key_of (Resv node iface session style next senders flow left) = record { session = session; style = style; unit = unit_of_first style (keys senders) }
 
 abbrev pub flow_of : Stale → TokenBucket
 flow_of (Resv node iface session style next senders flow left) = flow

@@ -2,13 +2,14 @@
 use Rattle.std.specs.Prelude.{ℕ, ◌==◌, ◌&&◌, Bool, List, map as each, unwrap_or}
 use Rattle.std.specs.List.{filter}
 use Rattle.rsvp_base.specs.Orders.{Names}
-use Rattle.rsvp_base.specs.Table.{empty}
+use Rattle.rsvp_base.specs.Table.{empty, keys}
 use Rattle.rsvp_base.specs.declared.session.Session.{Session}
 use Rattle.rsvp_base.specs.declared.style.StyleKind.{StyleKind}
 use Rattle.style_rules.specs.Lines.{Line}
 use Rattle.style_rules.specs.Limits.{of_style, of_session, names_of}
+use Rattle.style_rules.specs.Styles.{unit_of_first}
 use Rattle.indexmap.specs.IndexMap.{get}
-use Rattle.net_script.specs.Bookings.{node_of, unit_of}
+use Rattle.net_script.specs.Bookings.{node_of}
 use Rattle.net_script.specs.Keys.{same_session}
 use Rattle.net_script.specs.declared.script.Stale.{Stale}
 use Rattle.net_script.specs.declared.script.Stale.TheVariants.{Resv}
@@ -18,7 +19,7 @@ use Rattle.net_script.specs.declared.session_names.SessionNames.{SessionNames}
 -- a left-over reservation as a line of a table of reservations
 abbrev pub line_of : Stale → Line
 line_of (Resv node iface session style next senders flow left) =
-    record { style = style; session = session; end = iface; next = next; unit = unit_of style senders; part = record { senders = senders; flow = flow } }
+    record { style = style; session = session; end = iface; next = next; unit = unit_of_first style (keys senders); part = record { senders = senders; flow = flow } }
 
 -- the lines of a node
 abbrev pub lines_on : List Stale → ℕ → List Line

@@ -3,7 +3,7 @@ ghost use Rattle.std.specs.Prelude.{◌≡◌, ◌<◌, ◌++◌, ◌∷◌, [],
 ghost use Rattle.rsvp_base.specs.Table.{size};
 ghost use Rattle.admission_book.specs.Book.{Bookings, changed_at};
 ghost use Rattle.admission_book.specs.Charges.{refusal};
-ghost use Rattle.net_script.specs.Bookings.{AreBooks, bookings_on, entry_key_of, flow_of, iface_of, ifaces_on, node_of, unit_of};
+ghost use Rattle.net_script.specs.Bookings.{AreBooks, bookings_on, entry_key_of, flow_of, iface_of, ifaces_on, node_of};
 ghost use Rattle.net_script.specs.Checked.{draft_of};
 ghost use Rattle.net_script.specs.Draft.{plain_ends};
 
@@ -11,8 +11,8 @@ use crate::draft::{Checker, DeclaredEnd};
 use crate::refusal::Refusal;
 use crate::script::Stale;
 use admission_book::{Book, EntryKey, Iface, Refused};
-use rsvp_base::{Senders, StyleKind, Unit};
 use std::alloc::Global;
+use style_rules::unit_of;
 
 /// Opens the book of each node, where no left-over reservation came before.
 pub fn open_books(alloc: Global, checker: &mut Checker) -> Result<(), Refusal>
@@ -77,32 +77,26 @@ pub fn charge(books: &mut Vec<Book>, fact: &Stale) -> Result<(), Refused>
         Stale::Resv {
             node,
             iface,
-            session,
-            style,
-            senders,
             flow,
             ..
-        } => {
-            let key = EntryKey {
-                session: *session,
-                style: *style,
-                unit: unit_of(*style, senders),
-            };
-            books[*node as usize].try_change(*iface, key, Some(*flow))
-        }
+        } => books[*node as usize].try_change(*iface, entry_key(fact), Some(*flow)),
     }
 }
 
-// The unit of a reservation of this style for these senders.
-fn unit_of(style: StyleKind, senders: &Senders) -> Unit
-    ensures { result ≡ unit_of style senders.now }
+/// The entry that a left-over reservation makes in the book of its node.
+pub fn entry_key(fact: &Stale) -> EntryKey
+    ensures { result ≡ entry_key_of fact.now }
 {
-    match style {
-        StyleKind::Wild => Unit::One,
-        StyleKind::Fixed => match senders.as_slice().first() {
-            Some(s) => Unit::Of(*s),
-            None => Unit::One,
+    match fact {
+        Stale::Resv {
+            session,
+            style,
+            senders,
+            ..
+        } => EntryKey {
+            session: *session,
+            style: *style,
+            unit: unit_of(*style, senders),
         },
-        StyleKind::Shared => Unit::One,
     }
 }

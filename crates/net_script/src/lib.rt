@@ -22,6 +22,7 @@ mod session_names;
 #[cfg(test)]
 mod tests;
 
+pub use books::entry_key;
 pub use byte_streams::{
     Failed, MOST_BYTES, MemorySink, MemorySource, PlainSink, PlainSource, ReadErr, Sink, Source,
     StdSink, StdSource, read_all, write_all,

@@ -7,7 +7,7 @@ use Rattle.rsvp_base.specs.Under.{under}
 use Rattle.rsvp_base.specs.declared.part.Part.{Part}
 use Rattle.admission_book.specs.EntryKeys.{entry_keys, places}
 use Rattle.admission_book.specs.declared.key.EntryKey.{EntryKey}
-use Rattle.net_script.specs.Bookings.{node_of, unit_of}
+use Rattle.net_script.specs.Bookings.{entry_key_of, iface_of, node_of}
 use Rattle.net_script.specs.declared.script.Stale.{Stale}
 use Rattle.net_script.specs.declared.script.Stale.TheVariants.{Resv}
 
@@ -22,9 +22,12 @@ abbrev pub Facts : Type 0
 Facts = Table places Fact
 
 -- what a left-over reservation is at the moment 0
+abbrev pub kept_of : Stale → Fact
+kept_of (Resv node iface session style next senders flow left) = record { part = record { senders = senders; flow = flow }; dies = left }
+
+-- and under which interface and entry
 abbrev pub fact_of : Stale → (ℕ × EntryKey) × Fact
-fact_of (Resv node iface session style next senders flow left) =
-    ((iface, record { session = session; style = style; unit = unit_of style senders }), record { part = record { senders = senders; flow = flow }; dies = left })
+fact_of s = ((iface_of s, entry_key_of s), kept_of s)
 
 abbrev pub facts_of : List Stale → ℕ → Facts
 facts_of stale node = with_rows empty (each fact_of (filter (λ s. node_of s == node) stale))

@@ -3,7 +3,7 @@ ghost use Rattle.std.specs.Prelude.{◌≡◌, ℕ, ◌<◌, ◌∷◌, ◌==◌
 ghost use Rattle.std.specs.List.{All, filter};
 ghost use Rattle.net_script.specs.declared.script.Stale.{Stale as StaleOf};
 ghost use Rattle.rsvp_base.specs.Table.{empty, with_rows};
-ghost use Rattle.net_script.specs.Bookings.{node_of, unit_of};
+ghost use Rattle.net_script.specs.Bookings.{node_of};
 ghost use Rattle.rsvpd_cmd.specs.Facts.{fact_of, facts_of};
 ghost use Rattle.rsvpd_cmd.specs.Ledgers.{row_of};
 ghost use Rattle.rsvpd_cmd.specs.Nodes.{node_at};
@@ -11,9 +11,9 @@ ghost use Rattle.rsvpd_cmd.specs.Nodes.{node_at};
 use crate::kept::Kept;
 use crate::ledger::Ledger;
 use crate::node::Node;
-use admission_book::{Book, EntryKey};
-use net_script::Stale;
-use rsvp_base::{NoMemory, Part, Senders, StyleKind, Unit};
+use admission_book::Book;
+use net_script::{Stale, entry_key};
+use rsvp_base::{NoMemory, Part};
 use std::alloc::Global;
 
 /// The nodes with these books, by number, and these left-over reservations. `NoMemory`: there was no memory for them.
@@ -69,38 +69,18 @@ fn kept(stale: &Stale) -> Kept
     match stale {
         Stale::Resv {
             iface,
-            session,
-            style,
             senders,
             flow,
             left,
             ..
         } => Kept {
             iface: *iface,
-            key: EntryKey {
-                session: *session,
-                style: *style,
-                unit: unit(*style, senders),
-            },
+            key: entry_key(stale),
             part: Part {
                 senders: senders.copy(),
                 flow: *flow,
             },
             dies: *left,
         },
-    }
-}
-
-// The unit of a reservation of this style for these senders.
-fn unit(style: StyleKind, senders: &Senders) -> Unit
-    ensures { result ≡ unit_of style senders.now }
-{
-    match style {
-        StyleKind::Wild => Unit::One,
-        StyleKind::Fixed => match senders.as_slice().first() {
-            Some(s) => Unit::Of(*s),
-            None => Unit::One,
-        },
-        StyleKind::Shared => Unit::One,
     }
 }
