@@ -76,7 +76,8 @@ impl Book {
     }
 
     /// Puts the flow `now` in the place of the interface's entry of this key, if there is one, and takes that entry out
-    /// where `now` is `None`, which is never refused.
+    /// where `now` is `None`, which is never refused. The interface is one of the book's, and for a new entry the book has
+    /// fewer than 3,072.
     ///
     /// `Refused::Mtu`: the flow's largest packet, `most`, is larger than the interface's MTU.
     /// `Refused::Rate`: this is not so, and the flow's rate, `want`, is more than the interface's capacity less the rates

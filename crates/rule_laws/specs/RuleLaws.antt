@@ -1,26 +1,17 @@
 -- What the rule leaves, table by table: the claims of the public laws on waiting, forgetting and countdowns.
-use Rattle.std.specs.Prelude.{◌≡◌, not, ℕ, ◌+◌, ◌<◌, ◌≤◌, ◌⊎◌, ◌↔◌, Bool, true, false, cond, List, [], Some, None}
+use Rattle.std.specs.Prelude.{◌≡◌, not, ℕ, ◌+◌, ◌<◌, ◌≤◌, ◌↔◌, Bool, true, false, cond, [], Some, None}
 use Rattle.std.specs.Option.{unwrap_or}
-use Rattle.admission_book.specs.declared.refused.Refused.{Refused}
-use Rattle.rsvp_base.specs.declared.part.Part.{Part}
 use Rattle.rsvp_base.specs.declared.session.Sender.{Sender}
 use Rattle.rsvp_base.specs.declared.session.Session.{Session}
 use Rattle.rsvp_base.specs.declared.style.StyleKind.{StyleKind}
-use Rattle.rsvp_base.specs.declared.style.Unit.{Unit as UnitOf}
-use Rattle.rsvp_base.specs.Members.{In}
-use Rattle.rsvp_base.specs.Orders.{Names}
 use Rattle.rsvp_base.specs.Table.{get, has, kept, changed}
-use Rattle.rsvp_base.specs.TokenBucket.{TokenBucket}
-use Rattle.rsvp_messages.specs.declared.message.ResvErrMsg.{ResvErrMsg}
-use Rattle.rsvp_messages.specs.Units.{AskedUnit}
 use Rattle.style_rules.specs.Lines.{LineKey}
-use Rattle.style_rules.specs.Parts.{has_name, part_of}
+use Rattle.style_rules.specs.Parts.{has_name}
 use Rattle.router_rules.specs.Act.{act}
-use Rattle.router_rules.specs.Asking.{Asker, Taking, book_refuses, has_room, key_at, left_of, names_that_match, resv_state, table_with, take_unit, take_units}
-use Rattle.router_rules.specs.Errors.{blockade_of, is_admission, walled_by, walls_with}
-use Rattle.router_rules.specs.Facts.{Facts, Blockade, PathState, Resvs, ResvState, ResvTables, SenderKey, WallKey, Walls, Want, WantKey, each_table, resvs_of, table_of, with_resvs}
+use Rattle.router_rules.specs.Asking.{left_of}
+use Rattle.router_rules.specs.Facts.{Facts, Blockade, PathState, Resvs, ResvState, ResvTables, SenderKey, WallKey, Want, WantKey, each_table, resvs_of, table_of, with_resvs}
 use Rattle.router_rules.specs.Forgetting.{counted, forget, is_lost, remembered, settle}
-use Rattle.router_rules.specs.Inputs.{ErrSend, Input}
+use Rattle.router_rules.specs.Inputs.{Input}
 use Rattle.router_rules.specs.Known.{Lane, known, named_as}
 use Rattle.router_rules.specs.Place.{Place, period}
 use Rattle.router_rules.specs.Requests.{toward}

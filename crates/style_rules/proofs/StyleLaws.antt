@@ -1,6 +1,6 @@
 -- Units and names of parts as a style has them.
-use Rattle.std.specs.Prelude.{◌≡◌, ◌↔◌, ◌<◌, ◌⊎◌, Bool, true, false, cond, not, ◌||◌, List, [], ◌∷◌, map as each, length, is_some, Option, Some, None, refl}
-use Rattle.std.proofs.Common.{sym, ap, subst, ◌∙◌, arith, inl, inr, ⊎_elim}
+use Rattle.std.specs.Prelude.{◌≡◌, ◌↔◌, ◌<◌, ◌⊎◌, Bool, true, false, cond, not, List, [], ◌∷◌, map as each, length, is_some, Option, Some, None, refl}
+use Rattle.std.proofs.Common.{sym, ap, subst, ◌∙◌, arith, inl, ⊎_elim}
 use Rattle.std.specs.Ordering.{eq_by_cmp}
 use Rattle.std.specs.FinMap.Entries.{find}
 use Rattle.rsvp_base.specs.declared.part.Part.{Part}
@@ -14,7 +14,7 @@ use Rattle.rsvp_base.specs.Sets.{union, set_of, IsWithin, is_none}
 use Rattle.rsvp_base.specs.Table.{has, size, keys}
 use Rattle.rsvp_base.proofs.Lists.{has_keys}
 use Rattle.rsvp_base.proofs.Tables.{tied_same, either}
-use Rattle.rsvp_base.proofs.SetLaws.{size_within, has-union, within_union_left, cut_within}
+use Rattle.rsvp_base.proofs.SetLaws.{or_either, size_within, has-union, within_union_left, cut_within}
 use Rattle.rsvp_base.proofs.Members.{in_tied, tied_in}
 use Rattle.rsvp_base.proofs.Counts.{in_set_of}
 use Rattle.style_rules.specs.Styles.{name_of, unit_of, unit_of_first}
@@ -100,9 +100,6 @@ united_style st a b x is_a is_b same e =
       one_unit = λ s t i j. sym (unit_in s i) ∙ unit_in t j;
     }
   where
-    or_either : (p q : Bool) → (p || q) ≡ true → (p ≡ true) ⊎ (q ≡ true)
-    or_either true q e = inl refl
-    or_either false q e = inr e
 
     either_of : (s : Sender) → has x.senders s ≡ true → (has a.senders s ≡ true) ⊎ (has b.senders s ≡ true)
     either_of s i = or_either (has a.senders s) (has b.senders s) (sym (has-union senders a.senders b.senders s) ∙ (ap (λ m. has m s) (sym e) ∙ i))

@@ -1,6 +1,6 @@
 -- The names that a tally's rows have, and as many rows as names at most.
-use Rattle.std.specs.Prelude.{◌≡◌, ◌≤◌, ◌⊎◌, Bool, true, false, cond, not, ◌||◌, List, map as each, length, is_some, Option, Some, None, refl}
-use Rattle.std.proofs.Common.{sym, ap, subst, ◌∙◌, arith, inl, inr, ⊎_elim}
+use Rattle.std.specs.Prelude.{◌≡◌, ◌≤◌, Bool, true, false, cond, not, List, map as each, length, is_some, Option, Some, None, refl}
+use Rattle.std.proofs.Common.{sym, ap, subst, ◌∙◌, arith, ⊎_elim}
 use Rattle.std.proofs.lemmas.List.{length-map}
 use Rattle.std.specs.List.{flat_map}
 use Rattle.std.specs.Option.{option_map}
@@ -14,7 +14,7 @@ use Rattle.rsvp_base.specs.Orders.{units, senders, Names}
 use Rattle.rsvp_base.specs.Sets.{union, set_of, IsWithin}
 use Rattle.rsvp_base.specs.Table.{get, has, size, keys, put_in}
 use Rattle.rsvp_base.proofs.Tables.{tied_same, tied_self, got_put_in}
-use Rattle.rsvp_base.proofs.SetLaws.{has-union, size_within, within_union_left, within_union_right}
+use Rattle.rsvp_base.proofs.SetLaws.{or_either, has-union, size_within, within_union_left, within_union_right}
 use Rattle.rsvp_base.proofs.Members.{in_flat_map, to_flat_map, in_each, to_each, in_filter, all_in, in_all, in_any, any_in, in_tied}
 use Rattle.rsvp_base.proofs.Lists.{has_keys}
 use Rattle.rsvp_base.proofs.Counts.{in_found, found_in, in_set_of, set_of_in, size_below, size-set_of}
@@ -38,10 +38,6 @@ row_of_name es s h =
 pub name_of_row : (es : List (UnitOf × Standing)) (e : UnitOf × Standing) (s : Sender) → In e es → has e.1.part.senders s ≡ true → has (names_of_rows es) s ≡ true
 name_of_row es e s i h =
     in_set_of senders (flat_map (λ (z : UnitOf × Standing). keys z.1.part.senders) es) s (to_flat_map (λ (z : UnitOf × Standing). keys z.1.part.senders) e s es i (named_in e.1.part s h))
-
-or_either : (p q : Bool) → (p || q) ≡ true → (p ≡ true) ⊎ (q ≡ true)
-or_either true q e = inl refl
-or_either false q e = inr e
 
 union_wider : (a b c d : Names) → IsWithin a c → IsWithin b d → IsWithin (union a b) (union c d)
 union_wider a b c d h g s e =
