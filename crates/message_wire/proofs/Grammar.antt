@@ -1,23 +1,29 @@
--- From the whole list to places: what the grammar of a kind allows stands in its place.
-use Rattle.std.proofs.Common.{◌≡◌, ℕ, ◌+◌, ◌≤◌, Bool, true, false, List, [], ◌∷◌, ◌++◌, length, Option, Some, None, refl, sym, ap, subst, ◌∙◌, append_assoc, arith, inl, inr, ◌⊎◌}
+-- From the whole list to places, and back: what the grammar of a kind allows is in its place, and what stands is in the
+-- grammar.
+use Rattle.std.proofs.Common.{◌≡◌, ℕ, ◌+◌, ◌≤◌, Bool, true, false, List, [], ◌∷◌, ◌++◌, length, Option, Some, None, refl, sym, ap, subst, ◌∙◌, append_assoc, length-append, arith, inl, inr, ◌⊎◌}
 use Rattle.std.specs.Prelude.{not, ◌&&◌, ◌||◌, ◌==◌, if◌then◌else◌}
 use Rattle.std.specs.List.{AllByRecursion}
-use Rattle.std.proofs.lemmas.Bool.{eqb-true, eq-eqb}
+use Rattle.std.proofs.lemmas.Bool.{eqb-true, eqb-false, eq-eqb}
 use Rattle.std.proofs.lemmas.List.{append-nil}
 use Rattle.rsvp_base.specs.declared.session.Sender.{Sender}
 use Rattle.rsvp_base.specs.declared.style.StyleKind.{StyleKind}
+use Rattle.rsvp_base.specs.TokenBucket.{TokenBucket}
 use Rattle.rsvp_objects.specs.declared.object.Object.{Object}
 use Rattle.rsvp_objects.specs.declared.object.Object.TheVariants as object
+use Rattle.rsvp_objects.specs.declared.obj_err.ObjErr.TheVariants.{Crowd}
 use Rattle.rsvp_objects.specs.Proper.{class_of}
+use Rattle.rsvp_messages.specs.declared.fault.Fault.{Fault}
+use Rattle.rsvp_messages.specs.declared.fault.Fault.TheVariants as fault
 use Rattle.rsvp_messages.specs.declared.message.Kind.{Kind}
 use Rattle.rsvp_messages.specs.declared.message.Kind.TheVariants as kind
 use Rattle.message_wire.specs.declared.seen.Seen.{Seen}
-use Rattle.message_wire.specs.Laws.{how_many, WhatIsInGrammarIsInPlace}
-use Rattle.message_wire.specs.Places.{has_place, place_by_style, stood, is_repeated, is_named, name_fault}
-use Rattle.message_wire.specs.Said.{last_said, style_said, seen_of, with_object}
+use Rattle.message_wire.specs.Laws.{IsInPlace, how_many, WhatIsInGrammarIsInPlace, WhatStandsIsInGrammar}
+use Rattle.message_wire.specs.Places.{Stand, has_place, place_by_style, stood, is_repeated, is_named, name_fault}
+use Rattle.message_wire.specs.Said.{last_said, style_said, seen_of, with_object, filters_after}
 use Rattle.message_wire.specs.Table.{row_of, is_among, role_of, stands_once, is_anywhere}
 use Rattle.message_wire.proofs.Gathered.{seen_more}
-use Rattle.message_wire.proofs.Whole.{role_tells, hit, miss}
+use Rattle.message_wire.proofs.Placed.{placed}
+use Rattle.message_wire.proofs.Whole.{role_tells, hit, miss, each_object_is_in_place, what_stands_once_is_said_once}
 
 -- ---- the classes that stand once
 
@@ -215,3 +221,80 @@ what_is_in_grammar_is_in_place kind before after x g =
     by_style : (o : Option StyleKind) → last_said style_said before ≡ o → has_place kind (seen_of before) (class_of x) ≡ true
     by_style None e = placed_by kind before (class_of x) first None e (g.front before after x refl e)
     by_style (Some k) e = placed_by kind before (class_of x) first (Some k) e (g.list before after x k refl e)
+
+-- ---- and what stands is in the grammar
+
+has_first : (a i d t : Bool) → (a || (if i then not d else t)) ≡ true → a ≡ false → i ≡ true → d ≡ false
+has_first true i d t e none is = absurd cc
+has_first false true true t e none is = absurd cc
+has_first false true false t e none is = refl
+has_first false false d t e none is = absurd cc
+
+has_place_by : (a i d t : Bool) → (a || (if i then not d else t)) ≡ true → (a || (i || t)) ≡ true
+has_place_by true i d t e = refl
+has_place_by false true d t e = refl
+has_place_by false false d t e = e
+
+new_name : (at n : ℕ) (named : Bool) → ◌≡◌ {A = Option Fault} (if named then Some (fault.Repeated at) else if n == 16 then Some (fault.Object (Crowd at)) else None) None → n ≤ 16 → (named ≡ false) × (n ≤ 15)
+new_name at n true e most = absurd cc
+new_name at n false e most = (refl, by_test (n == 16) refl e)
+  where
+    by_test : (t : Bool) → (n == 16) ≡ t → ◌≡◌ {A = Option Fault} (if t then Some (fault.Object (Crowd at)) else None) None → n ≤ 15
+    by_test true is e = absurd cc
+    by_test false is e = let apart = eqb-false n 16 is in omega (arith, apart)
+
+no_more_filters : (s : Seen) → length s.filters ≤ 16 → length (s.filters ++ []) ≤ 16
+no_more_filters s n = subst (λ (es : List (Sender × Option TokenBucket)). length es ≤ 16) (sym (append-nil s.filters)) n
+
+few_more : (s : Seen) (x : Object) (at : ℕ) → name_fault at s x ≡ None → length s.filters ≤ 16 → length (with_object s x).filters ≤ 16
+unfolding with_object
+few_more s (object.Filter q) at e n =
+    let is = new_name at (length s.filters) (is_named q s.filters) e n in
+    subst (λ (k : ℕ). k ≤ 16) (sym (length-append s.filters ((q, s.flow) ∷ []))) (omega (arith, is.1))
+few_more s (object.Session a b) at e n = no_more_filters s n
+few_more s (object.HopOf a) at e n = no_more_filters s n
+few_more s (object.Time a) at e n = no_more_filters s n
+few_more s (object.Error a) at e n = no_more_filters s n
+few_more s (object.Scope a) at e n = no_more_filters s n
+few_more s (object.StyleOf a) at e n = no_more_filters s n
+few_more s (object.FlowOf a) at e n = no_more_filters s n
+few_more s (object.Template a) at e n = no_more_filters s n
+few_more s (object.Tspec a) at e n = no_more_filters s n
+few_more s (object.Confirm a) at e n = no_more_filters s n
+few_more s (object.Skipped a) at e n = no_more_filters s n
+
+few_before : (kind : Kind) (b : List ℕ) (start : List Object) (at end : ℕ) (before after : List Object) (x : Object) → Stand kind b start at (before ++ x ∷ after) end → length (seen_of start).filters ≤ 16 → length (seen_of (start ++ before)).filters ≤ 16
+few_before kind b start at end [] after x s n = subst (λ (ys : List Object). length (seen_of ys).filters ≤ 16) (sym (append-nil start)) n
+few_before kind b start at end (y ∷ before) after x s n =
+    let more = few_more (seen_of start) y at (placed kind (seen_of start) at b y s.0 s.1).name n in
+    subst (λ (ys : List Object). length (seen_of ys).filters ≤ 16) (append_assoc start (y ∷ []) before) (few_before kind b (start ++ y ∷ []) s.0 end before after x s.2 (subst (λ (t : Seen). length t.filters ≤ 16) (sym (seen_more start y)) more))
+
+none_yet : length (seen_of []).filters ≤ 16
+unfolding filters_after
+none_yet = omega arith
+
+place_is : (kind : Kind) (before : List Object) (x : Object) → IsInPlace kind before x
+    → (is_anywhere (class_of x) || (if class_of x == 4 then not (seen_of before).begun else place_by_style kind (seen_of before) (class_of x) (seen_of before).style)) ≡ true
+unfolding has_place
+place_is kind before x p = p.place
+
+pub what_stands_is_in_grammar : WhatStandsIsInGrammar
+what_stands_is_in_grammar kind b xs end bytes s =
+    record {
+      once = λ n one. what_stands_once_is_said_once kind b xs end n bytes s one;
+      first = λ before after x is c. has_first (is_anywhere (class_of x)) (class_of x == 4) (seen_of before).begun _ (placed_in before after x is) (subst (λ (n : ℕ). is_anywhere n ≡ false) (sym c) refl) (eq-eqb (class_of x) 4 c);
+      front = λ before after x is e. told before after x is None e;
+      list = λ before after x k is e. told before after x is (Some k) e;
+      names = λ before after q is. new_name 0 (length (filters_after None before)) (is_named q (filters_after None before)) ((each_object_is_in_place kind b end before after (object.Filter q) (split before after (object.Filter q) is)).name 0) (few_before kind b [] 8 end before after (object.Filter q) (split before after (object.Filter q) is) none_yet);
+    }
+  where
+    split : (before after : List Object) (x : Object) → xs ≡ before ++ x ∷ after → Stand kind b [] 8 (before ++ x ∷ after) end
+    split before after x is = subst (λ (ys : List Object). Stand kind b [] 8 ys end) is s
+
+    placed_in : (before after : List Object) (x : Object) → xs ≡ before ++ x ∷ after → (is_anywhere (class_of x) || (if class_of x == 4 then not (seen_of before).begun else place_by_style kind (seen_of before) (class_of x) (seen_of before).style)) ≡ true
+    placed_in before after x is = place_is kind before x (each_object_is_in_place kind b end before after x (split before after x is))
+
+    told : (before after : List Object) (x : Object) → xs ≡ before ++ x ∷ after → (o : Option StyleKind) → last_said style_said before ≡ o → (is_anywhere (class_of x) || ((class_of x == 4) || place_by_style kind (seen_of before) (class_of x) o)) ≡ true
+    told before after x is o e =
+        sym (ap (λ (w : Option StyleKind). is_anywhere (class_of x) || ((class_of x == 4) || place_by_style kind (seen_of before) (class_of x) w)) e)
+        ∙ has_place_by (is_anywhere (class_of x)) (class_of x == 4) (seen_of before).begun (place_by_style kind (seen_of before) (class_of x) (seen_of before).style) (placed_in before after x is)

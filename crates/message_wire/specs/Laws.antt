@@ -70,3 +70,7 @@ pub record IsInGrammar (kind : Kind) (xs : List Object) : Type 0 where
 -- what is in the grammar of its kind is in its place, object by object
 abbrev pub WhatIsInGrammarIsInPlace : Type 0
 WhatIsInGrammarIsInPlace = (kind : Kind) (before after : List Object) (x : Object) → IsInGrammar kind (before ++ x ∷ after) → IsInPlace kind before x
+
+-- and what stands somewhere is in the grammar
+abbrev pub WhatStandsIsInGrammar : Type 0
+WhatStandsIsInGrammar = (kind : Kind) (b : List ℕ) (xs : List Object) (end : ℕ) → AreBytes b → Stand kind b [] 8 xs end → IsInGrammar kind xs

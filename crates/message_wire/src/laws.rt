@@ -1,5 +1,5 @@
 //! The laws of what bytes spell.
-ghost use Rattle.message_wire.specs.Laws.{AMessageIsOne, NoFaultWhereSpelt, TheFirstFaultIsOne, WhatIsSpeltIsProper, EachObjectIsInPlace, WhatStandsOnceIsSaidOnce, BehindStyleStandsTheList, WhatIsInGrammarIsInPlace};
+ghost use Rattle.message_wire.specs.Laws.{AMessageIsOne, NoFaultWhereSpelt, TheFirstFaultIsOne, WhatIsSpeltIsProper, EachObjectIsInPlace, WhatStandsOnceIsSaidOnce, BehindStyleStandsTheList, WhatIsInGrammarIsInPlace, WhatStandsIsInGrammar};
 
 /// Bytes spell at most one message.
 pub fn a_message_is_one()
@@ -39,4 +39,9 @@ pub fn behind_style_stands_the_list()
 /// What the grammar of a kind allows of the whole list (RFC 2205, 3.1.3 to 3.1.9) is in its place, object by object.
 pub fn what_is_in_grammar_is_in_place()
     ensures { WhatIsInGrammarIsInPlace }
+{}
+
+/// Objects that stand one after the other are in the grammar of their kind.
+pub fn what_stands_is_in_grammar()
+    ensures { WhatStandsIsInGrammar }
 {}
