@@ -41,7 +41,7 @@ fn main(rt: HostRuntime) -> io::Result<ExitCode> {
     }
     let Some(command) = command_of(&words) else {
         eprintln!(rt;
-            "usage: rsvp_bench read|write|grow|close|ask|owe|grow-apart|close-apart|ask-apart|owe-apart|fill|put|parts|toward|fill-shared|put-shared|parts-shared|toward-shared N"
+            "usage: rsvp_bench read|write|(grow|close|ask|owe)[-apart]|(fill|put|parts|toward)[-shared] N"
         )?;
         return Ok(ExitCode::from(USAGE));
     };
