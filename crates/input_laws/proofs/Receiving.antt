@@ -31,7 +31,8 @@ use Rattle.router_rules.specs.Paths.{act_path, act_path_tear, is_path_by, learn,
 use Rattle.router_rules.specs.Place.{Place, comes_in}
 use Rattle.rule_laws.specs.RuleLaws.{IsLeft}
 use Rattle.rule_laws.proofs.Leaving.{as_it_was, left_told, table_put}
-use Rattle.rule_laws.proofs.Lists.{got_with_rows, in_filter_map, in_values, passed, some_same, to_values}
+use Rattle.rsvp_base.proofs.Fronts.{in_filter_map}
+use Rattle.rule_laws.proofs.Lists.{got_with_rows, in_values, passed, some_same, to_values}
 use Rattle.rule_laws.proofs.Once.{given_rise, last_stands, last_told, someone_last}
 use Rattle.input_laws.specs.MessageLaws.{ConfirmationsByWish, IsConfOn, PathsByTests, ResvTearsByNames}
 

@@ -1,20 +1,20 @@
 -- The lines of all wants are those of the goals of all nodes.
-use Rattle.std.specs.Prelude.{◌≡◌, ◌↔◌, replicate, ℕ, ◌+◌, ◌<◌, ◌≤◌, nat_lt, Bool, true, false, ◌==◌, List, [], ◌∷◌, ◌++◌, map as each, length, is_some, Option, None, Some, refl, slice_index_or}
+use Rattle.std.specs.Prelude.{◌≡◌, ◌↔◌, replicate, ℕ, ◌+◌, ◌<◌, ◌≤◌, nat_lt, Bool, true, false, ◌==◌, List, [], ◌∷◌, ◌++◌, map as each, length, Some, refl, slice_index_or}
 use Rattle.std.specs.List.{filter, flat_map}
 use Rattle.std.proofs.Common.{zero, suc, sym, ap, subst, ◌∙◌, inl, inr, ⊎_elim, arith, take, append_assoc}
 use Rattle.std.proofs.lemmas.List.{length-map}
-use Rattle.rsvp_base.specs.Keys.{Keys}
 use Rattle.rsvp_base.specs.Members.{In}
 use Rattle.rsvp_base.specs.Orders.{sessions, senders, units}
-use Rattle.rsvp_base.specs.Sets.{Set, set_of, IsWithin}
-use Rattle.rsvp_base.specs.Table.{empty, get, has, keys, size}
+use Rattle.rsvp_base.specs.Sets.{set_of, IsWithin}
+use Rattle.rsvp_base.specs.Table.{empty, get, keys, size}
 use Rattle.rsvp_base.specs.declared.addr.Addr.{Addr}
 use Rattle.rsvp_base.specs.declared.part.Part.{Part}
 use Rattle.rsvp_base.specs.declared.session.Session.{Session}
 use Rattle.rsvp_base.specs.declared.style.StyleKind.{StyleKind}
 use Rattle.rsvp_base.specs.declared.style.StyleKind.TheVariants.{Wild, Fixed, Shared}
 use Rattle.rsvp_base.specs.declared.style.Unit.{Unit as UnitOf}
-use Rattle.rsvp_base.proofs.Counts.{in_found, found_in, in_set_of, set_of_in, size-set_of}
+use Rattle.rsvp_base.proofs.Counts.{in_found, in_set_of, set_of_in, size-set_of}
+use Rattle.rsvp_base.proofs.Fronts.{in_keys, to_keys}
 use Rattle.rsvp_base.proofs.Members.{in_left, in_right, in_append, in_each, to_each, in_filter, to_filter, in_flat_map, to_flat_map}
 use Rattle.style_rules.specs.Styles.{name_of}
 use Rattle.style_rules.specs.Parts.{part_unit}
@@ -46,17 +46,6 @@ past_all : (books : List BookTable) (e : ℕ) → length books ≤ e → book_at
 past_all [] e le = refl
 past_all (b ∷ bs) zero le = absurd (omega arith)
 past_all (b ∷ bs) (suc e) le = past_all bs e (omega arith)
-
--- ---- keys of a set
-pub in_keys : {K : Type 0} (o : Keys K) (m : Set o) (k : K) → In k (keys m) → has m k ≡ true
-in_keys {K} o m k i = let r = in_each (λ (e : K × Unit {0}). e.0) k m.rows i in ap is_some (in_found o m k r.0.1 (subst (λ (z : K). In (z, r.0.1) m.rows) (sym r.2) r.1))
-
-to_keys : {K : Type 0} (o : Keys K) (m : Set o) (k : K) → has m k ≡ true → In k (keys m)
-to_keys {K} o m k e = by (get m k) refl e
-  where
-    by : (w : Option (Unit {0})) → get m k ≡ w → is_some w ≡ true → In k (keys m)
-    by None f e = cc
-    by (Some v) f e = to_each (λ (e : K × Unit {0}). e.0) (k, v) m.rows (found_in o m k v f)
 
 -- ---- hops in order
 abbrev pair_of : Hop → ℕ × ℕ

@@ -41,7 +41,8 @@ use Rattle.network_demand.specs.Books.{wants_lines}
 use Rattle.network_demand.specs.Demands.{AreLocals, style_lines}
 use Rattle.network_demand.specs.Fits.{one_at_most, amount, amount_at, taken_at, all_taken, FindRoom}
 use Rattle.network_demand.specs.Steps.{all_names, hops_in, hop_wants}
-use Rattle.network_demand.proofs.GoalLaws.{in_keys, from_hops, to_hops, line_told, line_made, goal_made, goal_told, proper_lines, session_named, named_session}
+use Rattle.rsvp_base.proofs.Fronts.{in_keys}
+use Rattle.network_demand.proofs.GoalLaws.{from_hops, to_hops, line_told, line_made, goal_made, goal_told, proper_lines, session_named, named_session}
 use Rattle.network_demand.proofs.Inside.{end_there, ends_inside}
 
 -- ---- lists without repeats

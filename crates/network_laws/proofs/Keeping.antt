@@ -30,7 +30,8 @@ use Rattle.network_model.specs.Bounds.{IsItem, IsProperArrival, AreBounds}
 use Rattle.network_model.specs.Steps.{Step, Piece, Deliver, Lose, Copy, At, ClearAt, Trace, Report, Flags, Inject, Reroute, is_calm, is_quiet, ms_of, net_after, rerouted, tree_hop, input_at, word_for, rest, outcome_of, outcome, facts_from, sent, step, machine}
 use Rattle.network_model.specs.Worlds.{Item, World, ifaces_at, place_of}
 use Rattle.network_model.proofs.Changing.{what_is_sent_is_copied}
-use Rattle.network_model.proofs.Listing.{in_remove, in_place}
+use Rattle.rsvp_base.proofs.Fronts.{got_in}
+use Rattle.network_model.proofs.Listing.{in_remove}
 use Rattle.network_model.proofs.Machines.{in_arrived, quiet_of, short_of}
 use Rattle.network_model.proofs.Quiet.{IsWaited, IsCame, at_node_found, input_found}
 use Rattle.network_model.proofs.Stepping.{facts_after_found}
@@ -173,7 +174,7 @@ module _ (q : ℕ) (s : Step) (w : World) (bounds : AreBounds q w) (fit : IsFitS
       by (Deliver k) g j = inl (in_remove x k w.flight j)
       by (Lose k) g j = inl (in_remove x k w.flight j)
       by (Copy k) g j =
-          inl (⊎_elim (λ (h : In x w.flight). h) (λ (h : In x (items_of (slice_get w.flight k))). in_place x k w.flight (in_option x (slice_get w.flight k) h)) (in_append x w.flight (items_of (slice_get w.flight k)) j))
+          inl (⊎_elim (λ (h : In x w.flight). h) (λ (h : In x (items_of (slice_get w.flight k))). got_in w.flight k x (in_option x (slice_get w.flight k) h)) (in_append x w.flight (items_of (slice_get w.flight k)) j))
       by (At n l) g j = inl j
       by (ClearAt n) g j = inl j
       by (Trace on) g j = inl j

@@ -17,7 +17,7 @@ use Rattle.network_model.specs.Bounds.{AreBounds}
 use Rattle.network_model.specs.Locals.{senders_at}
 use Rattle.network_model.specs.Steps.{Step, is_quiet, ms_of, arrived, input_at, outcome, still, step, machine}
 use Rattle.network_model.specs.Worlds.{Item, World, place_of}
-use Rattle.network_model.proofs.Listing.{in_place}
+use Rattle.rsvp_base.proofs.Fronts.{got_in}
 use Rattle.network_model.proofs.Machines.{quiet_of}
 use Rattle.network_model.proofs.Quiet.{IsWaited, IsCame, FollowsRule, input_found, input_came, net_quiet, outcome_quiet}
 use Rattle.network_model.proofs.Stepping.{facts_after_found, facts_after_made}
@@ -81,7 +81,7 @@ known_hold q w rs calm bounds =
 pub node_there : (q : ℕ) (o : World) → IsValid o.net → (u : World) (e : ℕ) → IsKnown q o u → e < length o.net.ends → (f : Facts) × (slice_get u.nodes (node_of o.net.ends e) ≡ Some f)
 node_there q o valid u e a lt =
     let x = some_at o.net.ends e lt in
-    let inside : node_of o.net.ends e < o.net.nodes = subst (λ (z : ℕ). z < o.net.nodes) (sym (ap node_of_end x.1)) (valid.placed x.0 (in_place x.0 e o.net.ends x.1)) in
+    let inside : node_of o.net.ends e < o.net.nodes = subst (λ (z : ℕ). z < o.net.nodes) (sym (ap node_of_end x.1)) (valid.placed x.0 (got_in o.net.ends e x.0 x.1)) in
     let many = a.bounds.nodes in
     let same = ap (λ (z : Net). z.nodes) a.same.net in
     some_at u.nodes (node_of o.net.ends e) (omega arith)

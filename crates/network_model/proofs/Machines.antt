@@ -10,7 +10,8 @@ use Rattle.calm_rounds.proofs.Renewing.{in_option}
 use Rattle.network_model.specs.Steps.{Step, Piece, Deliver, Lose, Copy, At, ClearAt, Trace, Report, Flags, Inject, Reroute, is_calm, is_quiet, ms_of, arrived, rest, sent, step, machine}
 use Rattle.network_model.specs.Worlds.{Item, World}
 use Rattle.network_model.proofs.Changing.{what_is_sent_is_copied}
-use Rattle.network_model.proofs.Listing.{in_remove, in_place}
+use Rattle.rsvp_base.proofs.Fronts.{got_in}
+use Rattle.network_model.proofs.Listing.{in_remove}
 use Rattle.network_model.proofs.Quiet.{arrival_is}
 
 -- a step of a calm round is quiet and short
@@ -30,7 +31,7 @@ in_rest (Deliver k) w x q i = in_remove x k w.flight i
 in_rest (Lose k) w x q i = in_remove x k w.flight i
 in_rest (Copy k) w x q i =
     ⊎_elim (λ (j : In x w.flight). j)
-    (λ (j : In x (items_of (slice_get w.flight k))). in_place x k w.flight (in_option x (slice_get w.flight k) j))
+    (λ (j : In x (items_of (slice_get w.flight k))). got_in w.flight k x (in_option x (slice_get w.flight k) j))
     (in_append x w.flight (items_of (slice_get w.flight k)) i)
 in_rest (At n l) w x q i = i
 in_rest (ClearAt n) w x q i = i
@@ -41,7 +42,7 @@ in_rest (Inject e dst a) w x q i = absurd (cc)
 in_rest (Reroute g s hops) w x q i = i
 
 pub in_arrived : (s : Step) (w : World) (x : Item) → arrived s w ≡ Some x → In x w.flight
-in_arrived s w x e = let d = arrival_is s w x e in in_place x d.0 w.flight d.2
+in_arrived s w x e = let d = arrival_is s w x e in got_in w.flight d.0 x d.2
 
 -- what is in flight after a step was there, or is sent by it
 pub in_flight_after : (q : ℕ) (s : Step) (u : World) (x : Item) → is_quiet s ≡ true → In x (step q s u).flight → In x u.flight ⊎ ((b : Bool) × In (x, b) (sent q s u))

@@ -1,7 +1,6 @@
 -- What the answers of the table below say of the map of paths.
-use Rattle.std.proofs.Common.{◌≡◌, ◌+◌, ℕ, zero, suc, Bool, true, false, ltb, not, cond, ◌-◌, is_some, List, [], ◌∷◌, length, map as each, Option, Some, None, Bor, refl, sym, ap, subst, ◌∙◌, arith}
-use Rattle.std.specs.Prelude.{nat_le, slice_get, Result, Ok, Err, IsErr, OnOk}
-use Rattle.std.specs.Option.{option_map, option_copied}
+use Rattle.std.proofs.Common.{◌≡◌, ◌+◌, ℕ, zero, suc, Bool, true, false, ltb, not, cond, ◌-◌, is_some, List, [], ◌∷◌, length, map as each, Option, Some, None, refl, sym, ap, subst, ◌∙◌, arith}
+use Rattle.std.specs.Prelude.{nat_le, slice_get}
 use Rattle.std.specs.List.{filter_map, cons_option}
 use Rattle.std.specs.Ordering.{eq_by_cmp}
 use Rattle.std.proofs.lemmas.Bool.{both_ways}
@@ -19,13 +18,6 @@ use Rattle.path_state.specs.Paths.{PathMap, path_keys, path_key, fact_row, dead_
 use Rattle.soft_table.proofs.Counts.{is_full}
 use Rattle.path_state.proofs.Limits.{within_put, within_fewer, within_none, all_at_most}
 use Rattle.soft_table.specs.Facts as soft
-
--- an answer that is lent is there where the fact is
-pub some_copied : {A B : Type 0} (f : B → A) (r : Option (Bor A)) (o : Option B) → option_copied r ≡ option_map f o → is_some o ≡ is_some r
-some_copied f None None e = refl
-some_copied f None (Some x) e = cc
-some_copied f (Some a) None e = cc
-some_copied f (Some a) (Some x) e = refl
 
 pub first_there : {A : Type 0} (es : List A) → is_some (slice_get es 0) ≡ is_full es
 first_there [] = refl
@@ -127,8 +119,3 @@ never_full k e m within room none full =
     let few = all_at_most senders 32 (put_in m k e) after.all after.one in
     let more = size-put_in path_keys m k e ∙ ap (λ w. cond (is_some w) (size m) (size m + 1)) none in
     omega (arith, few, more, full)
-
--- an answer that is not refused
-pub when_ok : {A E : Type 0} (r : Result A E) {P : Type 0} → (IsErr r → ⊥) → OnOk r P → P
-when_ok (Ok x) never ok = ok
-when_ok (Err e) never ok = absurd (never refl)

@@ -3,20 +3,18 @@ use Rattle.std.proofs.Common.{◌≡◌, ◌≤◌, ◌+◌, ◌*◌, ◌||◌, 
 use Rattle.std.specs.Prelude.{nat_le, not}
 use Rattle.std.specs.List.{list_any}
 use Rattle.std.specs.Ordering.{eq_by_cmp}
-use Rattle.std.specs.FinMap.Entries.{where_key, find}
+use Rattle.std.specs.FinMap.Entries.{where_key}
 use Rattle.std.proofs.lemmas.Bool.{both_ways}
-use Rattle.std.proofs.lemmas.Bool.Decides.{nat_tests}
 use Rattle.rsvp_base.specs.Keys.{Keys, pairs}
 use Rattle.rsvp_base.specs.Orders.{sessions}
-use Rattle.rsvp_base.specs.Sets.{with_key}
 use Rattle.rsvp_base.specs.Table.{Table, empty, get, has, size, put_in, kept, without}
 use Rattle.rsvp_base.specs.Under.{rows_under, under}
 use Rattle.rsvp_base.specs.SessionLimits.{sessions_in, has_room_at, IsWithinSessionLimits}
 use Rattle.rsvp_base.specs.declared.session.Session.{Session}
 use Rattle.rsvp_base.proofs.Counts.{has-set_of, size_below}
-use Rattle.rsvp_base.proofs.SetLaws.{and_both, same_set, has-with_key, size-with_key}
-use Rattle.rsvp_base.proofs.Tables.{either, tied_same, tied_self, size-put_in, get-kept, get-without}
-use Rattle.rsvp_base.proofs.UnderLaws.{get-under, under-put_in_same, under-put_in_other}
+use Rattle.rsvp_base.proofs.SetLaws.{and_both}
+use Rattle.rsvp_base.proofs.Tables.{either, tied_same, tied_self, get-kept, get-without}
+use Rattle.rsvp_base.proofs.UnderLaws.{get-under, under-put_in_other}
 use Rattle.soft_table.proofs.Counts.{is_full, full_if, if_full, if_empty, at_most, is_at_most, has_session, some_rows, size_sessions, size_under}
 use Rattle.soft_table.proofs.Links.{size-without}
 

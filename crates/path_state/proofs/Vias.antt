@@ -11,6 +11,7 @@ use Rattle.rsvp_base.specs.Table.{has, size}
 use Rattle.rsvp_base.specs.declared.addr.Addr.{Addr}
 use Rattle.rsvp_base.specs.declared.session.Sender.{Sender}
 use Rattle.rsvp_base.proofs.Counts.{has-set_of, size-set_of}
+use Rattle.rsvp_base.proofs.Fronts.{front_more, front_all}
 use Rattle.rsvp_base.proofs.Lists.{length_filter}
 use Rattle.rsvp_base.proofs.SetLaws.{same_set, has-with_key, size-with_key}
 use Rattle.rsvp_base.proofs.Tables.{either}
@@ -50,20 +51,6 @@ senders_last i a (x ∷ es) e = by (comes_by i a x.1.0) (comes_by i a e.1.0) (se
     by false true rest = rest
     by false false rest = rest
 
-take_next : {A : Type 0} (xs : List A) (k : ℕ) (x : A) → slice_get xs k ≡ Some x → take (k + 1) xs ≡ take k xs ++ x ∷ []
-take_next [] k x e = cc
-take_next (y ∷ ys) zero x e = let is : y ≡ x = cc in ap (λ z. z ∷ []) is
-take_next (y ∷ ys) (suc k) x e = ap (λ n. take n (y ∷ ys)) (one_on k) ∙ ap (λ zs. y ∷ zs) (take_next ys k x e)
-  where
-    one_on : (k : ℕ) → suc k + 1 ≡ suc (k + 1)
-    one_on k = omega arith
-
-take_past : {A : Type 0} (xs : List A) (k : ℕ) → slice_get xs k ≡ None → take k xs ≡ xs
-take_past [] zero e = refl
-take_past [] (suc k) e = refl
-take_past (y ∷ ys) zero e = cc
-take_past (y ∷ ys) (suc k) e = ap (λ zs. y ∷ zs) (take_past ys k e)
-
 none_next : {A : Type 0} (xs : List A) (k : ℕ) → slice_get xs k ≡ None → slice_get xs (suc k) ≡ None
 none_next [] k e = refl
 none_next (y ∷ ys) zero e = cc
@@ -83,7 +70,7 @@ module _ (i : ℕ) (a : Addr) (us : List Row) (k : ℕ) (r : Option (Bor PathFac
       let e = copied_some r (slice_get us k) f is read in
       let xs = senders_by i a (take k us) in
       let after : names_from (senders_by i a (take (k + 1) us)) ≡ if comes_by i a f.now then with_key old f.now.sender else old =
-      ap (λ es. names_from (senders_by i a es)) (take_next us k e.0 e.1) ∙ ap names_from (senders_last i a (take k us) e.0)
+      ap (λ es. names_from (senders_by i a es)) (front_more us k e.0 e.1) ∙ ap names_from (senders_last i a (take k us) e.0)
       ∙ ap (λ (g : PathFact). names_from (if comes_by i a g then (xs ++ g.sender ∷ []) else xs)) e.2 ∙ by (comes_by i a f.now) in
       next ∙ sym after
     where
@@ -94,7 +81,7 @@ module _ (i : ℕ) (a : Addr) (us : List Row) (k : ℕ) (r : Option (Bor PathFac
   pub via_past : (old : Names) → r ≡ None → old ≡ names_from (senders_by i a (take k us)) → old ≡ names_from (senders_by i a (take (k + 1) us))
   via_past old is so_far =
       let none = copied_none r (slice_get us k) is read in
-      so_far ∙ ap (λ es. names_from (senders_by i a es)) (take_past us k none ∙ sym (take_past us (suc k) (none_next us k none)) ∙ ap (λ n. take n us) one_on)
+      so_far ∙ ap (λ es. names_from (senders_by i a es)) (front_all us k none ∙ sym (front_all us (suc k) (none_next us k none)) ∙ ap (λ n. take n us) one_on)
     where
       one_on : suc k ≡ k + 1
       one_on = omega arith

@@ -30,7 +30,8 @@ use Rattle.style_rules.proofs.Merges.{get-table_at_all}
 use Rattle.router_rules.specs.Asking.{ask_of, ask_of_part, flow_at, flows_by_sender}
 use Rattle.router_rules.specs.Sends.{gone_names}
 use Rattle.rule_laws.specs.SendLaws.{ArePartsOf, AsksOfParts, GoneByUnits, IsAskedOf, IsGone}
-use Rattle.rule_laws.proofs.Lists.{in_keys, to_keys, to_values}
+use Rattle.rsvp_base.proofs.Fronts.{in_keys, to_keys}
+use Rattle.rule_laws.proofs.Lists.{to_values}
 use Rattle.rule_laws.proofs.Sending.{not_told}
 
 -- ---- one unit for all

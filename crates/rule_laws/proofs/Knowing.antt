@@ -21,7 +21,8 @@ use Rattle.router_rules.specs.Facts.{Facts, PathState, SenderKey, paths_in, send
 use Rattle.router_rules.specs.Forgetting.{counted}
 use Rattle.router_rules.specs.Known.{Lane, came_by, keys_where, known, lane_keys, lanes, lanes_of, named_as, names_via, names_via_where, via}
 use Rattle.rule_laws.specs.FactLaws.{ComesBy, IsNamed, KnownAndVia}
-use Rattle.rule_laws.proofs.Lists.{some_is, passed, in_keys, to_keys}
+use Rattle.rsvp_base.proofs.Fronts.{in_keys, to_keys}
+use Rattle.rule_laws.proofs.Lists.{some_is, passed}
 use Rattle.rule_laws.proofs.Tests.{came_told, came_tested}
 
 -- ---- keys that pass a test

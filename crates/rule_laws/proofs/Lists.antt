@@ -3,14 +3,14 @@ use Rattle.std.specs.Prelude.{◌≡◌, ℕ, suc, ◌+◌, ◌≤◌, ◌<◌, 
 use Rattle.std.proofs.Common.{zero, sym, ap, subst, ◌∙◌, arith, inl, inr, ⊎_elim}
 use Rattle.std.proofs.lemmas.Bool.{ne_eqb}
 use Rattle.std.proofs.lemmas.Bool.Decides.{eqb_tells}
-use Rattle.std.specs.List.{cons_option, filter_map, range_with_len}
+use Rattle.std.specs.List.{range_with_len}
 use Rattle.std.specs.Ordering.{is_lt}
 use Rattle.rsvp_base.specs.declared.session.Sender.{Sender}
 use Rattle.rsvp_base.specs.Keys.{Keys}
 use Rattle.rsvp_base.specs.Members.{In}
 use Rattle.rsvp_base.specs.Orders.{Names, senders}
 use Rattle.rsvp_base.specs.Sets.{is_none}
-use Rattle.rsvp_base.specs.Table.{Table, get, has, keys, put_in, values, with_rows}
+use Rattle.rsvp_base.specs.Table.{Table, get, has, put_in, values, with_rows}
 use Rattle.rsvp_base.proofs.Counts.{found_in, in_found}
 use Rattle.rsvp_base.proofs.Members.{in_each, to_each}
 use Rattle.rsvp_base.proofs.Tables.{got_put_in}
@@ -32,25 +32,6 @@ some_same x y e = cc
 pub passed : {X : Type 0} (b : Bool) (v : Option X) (x : X) → cond b v None ≡ Some x → (b ≡ true) × (v ≡ Some x)
 passed true v x e = (refl, e)
 passed false v x e = cc
-
--- ---- what h gives of some
-in_cons : {B : Type 0} (w : Option B) (y : B) (ys : List B) → In y (cons_option w ys) → (w ≡ Some y) ⊎ In y ys
-in_cons None y ys i = inr i
-in_cons (Some z) y ys i = ⊎_elim (λ (e : y ≡ z). inl (ap Some (sym e))) (λ (j : In y ys). inr j) i
-
-to_cons : {B : Type 0} (w : Option B) (y : B) (ys : List B) → (w ≡ Some y) ⊎ In y ys → In y (cons_option w ys)
-to_cons None y ys i = ⊎_elim (λ (e : None ≡ Some y). absurd (cc)) (λ (j : In y ys). j) i
-to_cons (Some z) y ys i = ⊎_elim (λ (e : Some z ≡ Some y). let q : y ≡ z = cc in inl q) (λ (j : In y ys). inr j) i
-
-pub in_filter_map : {A B : Type 0} (h : A → Option B) (y : B) (xs : List A) → In y (filter_map h xs) → (x : A) × In x xs × (h x ≡ Some y)
-in_filter_map h y [] i = absurd i
-in_filter_map h y (x ∷ xs) i =
-    ⊎_elim (λ (e : h x ≡ Some y). (x, inl refl, e)) (λ (j : In y (filter_map h xs)). let r = in_filter_map h y xs j in (r.0, inr r.1, r.2)) (in_cons (h x) y (filter_map h xs) i)
-
-pub to_filter_map : {A B : Type 0} (h : A → Option B) (y : B) (x : A) (xs : List A) → In x xs → h x ≡ Some y → In y (filter_map h xs)
-to_filter_map h y x [] i e = absurd i
-to_filter_map h y x (z ∷ xs) i e =
-    to_cons (h z) y (filter_map h xs) (⊎_elim (λ (s : x ≡ z). inl (ap h (sym s) ∙ e)) (λ (j : In x xs). inr (to_filter_map h y x xs j e)) i)
 
 -- ---- numbers in a row
 pub in_range : (a n i : ℕ) → In i (range_with_len a n) → (a ≤ i) × (i < a + n)
@@ -82,12 +63,6 @@ module _ {K X : Type 0} (o : Keys K) where
 
   pub to_values : (m : Table o X) (k : K) (x : X) → get m k ≡ Some x → In x (values m)
   to_values m k x e = to_each (λ (z : K × X). z.1) (k, x) m.rows (found_in o m k x e)
-
-  pub in_keys : (m : Table o X) (k : K) → In k (keys m) → has m k ≡ true
-  in_keys m k i = let r = in_each (λ (e : K × X). e.0) k m.rows i in ap is_some (in_found o m k r.0.1 (subst (λ (z : K). In (z, r.0.1) m.rows) (sym r.2) r.1))
-
-  pub to_keys : (m : Table o X) (k : K) → has m k ≡ true → In k (keys m)
-  to_keys m k e = let r = some_is (get m k) e in to_each (λ (z : K × X). z.0) (k, r.0) m.rows (found_in o m k r.0 r.1)
 
 -- ---- lists in order have the same members
 module _ {X K : Type 0} (o : Keys K) (key : X → K) where

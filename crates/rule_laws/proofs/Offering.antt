@@ -19,7 +19,8 @@ use Rattle.router_rules.specs.Facts.{Facts, PathState, SenderKey}
 use Rattle.router_rules.specs.Offers.{Offer, OfferKey, offer_at, offer_keys, ways_of}
 use Rattle.router_rules.specs.Place.{Place, goes_out, outward}
 use Rattle.rule_laws.specs.FactLaws.{OffersByWay, is_way}
-use Rattle.rule_laws.proofs.Lists.{in_range, to_range, to_keys}
+use Rattle.rsvp_base.proofs.Fronts.{to_keys}
+use Rattle.rule_laws.proofs.Lists.{in_range, to_range}
 
 abbrev all_ways : Place → Facts → List OfferKey
 all_ways p f = flat_map (ways_of p) (keys f.senders ++ keys f.paths)

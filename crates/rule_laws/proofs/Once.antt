@@ -12,7 +12,8 @@ use Rattle.rsvp_base.specs.Sets.{Set, listed}
 use Rattle.rsvp_base.specs.Table.{Table, changed, changed_rows, empty, first, get, keys, put_in, second, values, with_rows}
 use Rattle.rsvp_base.proofs.Counts.{in_found}
 use Rattle.rsvp_base.proofs.Tables.{either, get-put_in_other, get-put_in_same, holds, tied_same, tied_self}
-use Rattle.rule_laws.proofs.Lists.{got_with_rows, in_filter_map}
+use Rattle.rsvp_base.proofs.Fronts.{in_filter_map}
+use Rattle.rule_laws.proofs.Lists.{got_with_rows}
 
 -- ---- rows in order
 below_each : {K X : Type 0} (o : Keys K) (k : K) (y : K × X) (es : List (K × X)) → T (below_all o.cmp k es) → In y es → is_lt (o.cmp k y.0) ≡ true

@@ -29,7 +29,8 @@ use Rattle.router_rules.specs.Place.{Place, goes_out}
 use Rattle.router_rules.specs.Requests.{is_blockaded, is_style, request_of, requests, resv_part, resv_request, toward, want_part, want_request}
 use Rattle.rule_laws.specs.FactLaws.{IsResvRequest, IsWantRequest, IsLine, RequestsAndToward, BooksAndLines}
 use Rattle.rule_laws.proofs.Knowing.{names_told, named_told, via_told, lanes_made}
-use Rattle.rule_laws.proofs.Lists.{in_filter_map, one_name, passed, to_filter_map}
+use Rattle.rsvp_base.proofs.Fronts.{in_filter_map, to_filter_map}
+use Rattle.rule_laws.proofs.Lists.{one_name, passed}
 use Rattle.rule_laws.proofs.Tests.{style_told, ties}
 
 -- ---- requests

@@ -18,7 +18,8 @@ use Rattle.router_rules.specs.Place.{Place}
 use Rattle.router_rules.specs.Requests.{toward}
 use Rattle.router_rules.specs.Sends.{conf_send, conf_sends, confirm_for, confirmed, error_send, error_sends, is_changed, is_new_offer, path_send, path_send_of, path_sends, path_tear, path_tears, resv_send, resv_send_of, resv_send_to, resv_sends, resv_tear, resv_tear_send, resv_tears, sends, torn_names}
 use Rattle.rule_laws.specs.SendLaws.{IsConf, IsError, IsPath, IsPathTear, IsResv, IsResvTear, IsSend, SendsAreOfSixKinds}
-use Rattle.rule_laws.proofs.Lists.{in_filter_map, in_keys, in_ordered, passed, to_filter_map, to_keys, to_ordered}
+use Rattle.rsvp_base.proofs.Fronts.{in_filter_map, in_keys, to_filter_map, to_keys}
+use Rattle.rule_laws.proofs.Lists.{in_ordered, passed, to_ordered}
 
 pub not_told : (b : Bool) → not b ≡ true → b ≡ false
 not_told true e = cc

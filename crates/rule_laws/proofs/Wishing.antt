@@ -26,7 +26,8 @@ use Rattle.router_rules.specs.Place.{Place, is_session, own}
 use Rattle.router_rules.specs.Requests.{requests, toward, want_request}
 use Rattle.router_rules.specs.Sends.{conf_for, confirmed, goes_on, is_changed, is_empty, is_marked, is_sent_new, marked_units, own_wish, same_parts, takes_part, unmarked, used_marks}
 use Rattle.rule_laws.specs.WishLaws.{GoesOn, IsGranted, IsMarked, IsNewThere, IsUsed, MarksAreUsed, TakesPart, WishesAreGranted}
-use Rattle.rule_laws.proofs.Lists.{in_keys, none_in, some_same, to_keys}
+use Rattle.rsvp_base.proofs.Fronts.{in_keys, to_keys}
+use Rattle.rule_laws.proofs.Lists.{none_in, some_same}
 use Rattle.rule_laws.proofs.Sending.{not_told}
 use Rattle.rule_laws.proofs.Tests.{parts_told, parts_tested, session_told, ties}
 

@@ -100,7 +100,6 @@ united_style st a b x is_a is_b same e =
       one_unit = λ s t i j. sym (unit_in s i) ∙ unit_in t j;
     }
   where
-
     either_of : (s : Sender) → has x.senders s ≡ true → (has a.senders s ≡ true) ⊎ (has b.senders s ≡ true)
     either_of s i = or_either (has a.senders s) (has b.senders s) (sym (has-union senders a.senders b.senders s) ∙ (ap (λ m. has m s) (sym e) ∙ i))
 

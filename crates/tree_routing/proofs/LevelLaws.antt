@@ -2,6 +2,7 @@
 use Rattle.std.specs.Prelude.{◌≡◌, ◌⊎◌, ℕ, ◌+◌, ◌<◌, ◌≤◌, Bool, true, false, List, [], ◌∷◌, length, map as each, replicate, Option, None, Some, slice_get, slice_set, refl, if◌then◌else◌}
 use Rattle.std.proofs.Common.{zero, suc, sym, ap, subst, ◌∙◌, inl, inr, ⊎_elim, arith}
 use Rattle.std.proofs.lemmas.Bool.Decides.{nat_tests}
+use Rattle.rsvp_base.proofs.Fronts.{got_in}
 use Rattle.rsvp_base.specs.Members.{In}
 use Rattle.rsvp_base.specs.declared.addr.Addr.{Addr}
 use Rattle.tree_laws.specs.declared.hops.End.{End}
@@ -195,11 +196,6 @@ module _ (nodes : ℕ) (ends : List End) (links : List Link) (ks : List Known) (
       let le = height_le (followers net g) (hops_of net.hops g) (follower_of_group net g) (valid.loop_free g) (length (hops_of net.hops g)) k.hop.hop (in_group_of k i) in
       let f = few_of_group g in
       omega arith
-
-  got_in : {X : Type 0} (xs : List X) (i : ℕ) (d : X) → slice_get xs i ≡ Some d → In d xs
-  got_in [] i d e = cc
-  got_in (x ∷ xs) zero d e = let s : d ≡ x = cc in inl s
-  got_in (x ∷ xs) (suc i) d e = inr (got_in xs i d e)
 
   none_past : {X : Type 0} (xs : List X) (i : ℕ) → slice_get xs i ≡ None → length xs ≤ i
   none_past [] i e = omega arith

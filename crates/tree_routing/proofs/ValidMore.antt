@@ -3,6 +3,7 @@ use Rattle.std.specs.Prelude.{◌≡◌, ◌⊎◌, ℕ, ◌+◌, ◌*◌, ◌<�
 use Rattle.std.specs.List.{filter}
 use Rattle.std.proofs.Common.{zero, suc, sym, ap, subst, ◌∙◌, inl, inr, ⊎_elim, arith, append_assoc, length-append}
 use Rattle.std.proofs.lemmas.List.{map-append}
+use Rattle.rsvp_base.proofs.Fronts.{got_in}
 use Rattle.rsvp_base.specs.Members.{In}
 use Rattle.rsvp_base.specs.declared.addr.Addr.{Addr}
 use Rattle.rsvp_base.proofs.Members.{in_append, in_filter}
@@ -35,11 +36,6 @@ got_append [] y (suc i) d e = cc
 got_append (x ∷ xs) y zero d e = inl e
 got_append (x ∷ xs) y (suc i) d e =
     ⊎_elim (λ (h : slice_get xs i ≡ Some d). inl h) (λ (h : (i ≡ length xs) × (d ≡ y)). inr (ap suc h.0, h.1)) (got_append xs y i d e)
-
-got_in : {X : Type 0} (xs : List X) (i : ℕ) (d : X) → slice_get xs i ≡ Some d → In d xs
-got_in [] i d e = cc
-got_in (x ∷ xs) zero d e = let s : d ≡ x = cc in inl s
-got_in (x ∷ xs) (suc i) d e = inr (got_in xs i d e)
 
 got_left : {X : Type 0} (xs ys : List X) (i : ℕ) → i < length xs → slice_get (xs ++ ys) i ≡ slice_get xs i
 got_left [] ys i lt = absurd (omega arith)

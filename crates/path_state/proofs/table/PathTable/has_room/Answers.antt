@@ -8,7 +8,8 @@ use Rattle.rsvp_base.specs.Under.{under}
 use Rattle.path_state.specs.declared.fact.PathFact.{PathFact}
 use Rattle.path_state.specs.Paths.{path_keys, fact_row}
 use Rattle.path_state.proofs.Limits.{room_over, room_among, room_first}
-use Rattle.path_state.proofs.Answered.{some_copied, first_there, flipped, room_for_one, room_for_session, same_sessions}
+use Rattle.soft_table.proofs.Told.{some_copied}
+use Rattle.path_state.proofs.Answered.{first_there, flipped, room_for_one, room_for_session, same_sessions}
 use Rattle.path_state.proofs.table.PathTable.has_room.Goals as goal
 
 pub returns-then-is_some : goal.returns-then-is_some

@@ -6,7 +6,8 @@ use Rattle.rsvp_base.specs.SessionLimits.{has_room_at}
 use Rattle.rsvp_base.specs.Table.{Table, put_in, same_rows}
 use Rattle.path_state.specs.declared.fact.PathFact.{PathFact}
 use Rattle.path_state.specs.Paths.{path_keys, path_key, fact_row, dead_row}
-use Rattle.path_state.proofs.Answered.{nil_of, same_map, within_more, never_full, when_ok}
+use Rattle.soft_table.proofs.Told.{when_ok}
+use Rattle.path_state.proofs.Answered.{nil_of, same_map, within_more, never_full}
 use Rattle.path_state.proofs.table.PathTable.learn.Goals as goal
 
 pub put-requires-clause-pulled : goal.put-requires-clause-pulled
