@@ -18,7 +18,8 @@ use Rattle.soft_pool.specs.Cells.{aged, is_live}
 use Rattle.soft_table.specs.declared.row.Row.{Row}
 use Rattle.soft_table.specs.Facts.{fact_keys, facts_by, dead_by}
 use Rattle.soft_table.specs.Index.{value_in, live_in, due_in, index_row, facts_in, dead_in, IsLinked, IsIndex}
-use Rattle.soft_table.proofs.Slots.{set_read, value_within, counts}
+use Rattle.soft_pool.proofs.Slots.{set_read}
+use Rattle.soft_table.proofs.Slots.{value_within, counts}
 use Rattle.soft_table.proofs.Links.{seen, get-seen, seen_replaced, seen_taken, seen_new, linked_replaced, linked_taken, linked_new, linked_later, linked_none, linked_freed}
 use Rattle.soft_table.proofs.Views.{facts_seen, dead_seen}
 

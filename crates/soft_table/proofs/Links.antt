@@ -16,7 +16,8 @@ use Rattle.soft_pool.specs.declared.cell.Cell.TheVariants.{Free}
 use Rattle.soft_pool.specs.Cells.{aged}
 use Rattle.soft_table.specs.Facts.{fact_keys}
 use Rattle.soft_table.specs.Index.{value_in, IsLinked}
-use Rattle.soft_table.proofs.Slots.{within, set_read, set_elsewhere, value_within, counts, used_set, used_none, used_freed, none_in, none_freed, value_later, used_later}
+use Rattle.soft_pool.proofs.Slots.{within, set_read, set_elsewhere}
+use Rattle.soft_table.proofs.Slots.{value_within, counts, used_set, used_none, used_freed, none_in, none_freed, value_later, used_later}
 
 pub turned : {K : Type 0} (o : Keys K) (q k : K) → eq_by_cmp o.cmp q k ≡ false → eq_by_cmp o.cmp k q ≡ false
 turned o q k apart =

@@ -12,25 +12,6 @@ use Rattle.rsvp_base.proofs.Tables.{then_do}
 use Rattle.soft_table.specs.Facts.{lives_on, dies}
 use Rattle.soft_table.specs.Index.{value_in, live_in, due_in, used}
 
-pub within : {A : Type 0} (xs : List A) (i : ℕ) (x : A) → slice_get xs i ≡ Some x → i < length xs
-within xs i x e =
-    elim (cases_lt i (length xs)) [
-      | inl lt ↦ lt
-      | inr past ↦ let none : None ≡ Some x = sym (slice_get_past xs i past) ∙ e in absurd (cc)
-    ]
-
-pub set_read : {A : Type 0} (xs : List A) (i : ℕ) (a : A) → i < length xs → slice_get (set xs i a) i ≡ Some a
-set_read [] i a lt = absurd (omega arith)
-set_read (x ∷ xs) zero a lt = refl
-set_read (x ∷ xs) (suc i) a lt = set_read xs i a (omega arith)
-
-pub set_elsewhere : {A : Type 0} (xs : List A) (i j : ℕ) (a : A) → (j ≡ i → ⊥) → slice_get (set xs i a) j ≡ slice_get xs j
-set_elsewhere [] i j a ne = refl
-set_elsewhere (x ∷ xs) zero zero a ne = absurd (ne refl)
-set_elsewhere (x ∷ xs) zero (suc j) a ne = refl
-set_elsewhere (x ∷ xs) (suc i) zero a ne = refl
-set_elsewhere (x ∷ xs) (suc i) (suc j) a ne = set_elsewhere xs i j a (λ e. ne (omega (arith, e)))
-
 read_each : {A B : Type 0} (f : A → B) (xs : List A) (i : ℕ) → slice_get (each f xs) i ≡ option_map f (slice_get xs i)
 read_each f [] i = refl
 read_each f (x ∷ xs) zero = refl

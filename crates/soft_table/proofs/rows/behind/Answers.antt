@@ -1,4 +1,4 @@
-use Rattle.std.proofs.Common.{rules, not, arith, refl, sym, ◌∙◌}
+use Rattle.std.proofs.Common.{rules, not, arith, sym, ◌∙◌}
 use Rattle.std.proofs.lemmas.List.Sorted.{IsPartitionPoint-from_clause}
 use Rattle.soft_table.specs.Walks.{is_behind}
 use Rattle.soft_table.proofs.Edges.{behind_parts, behind_row}
