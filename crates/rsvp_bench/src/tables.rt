@@ -75,6 +75,11 @@ fn both(a: Served, b: Served) -> Served {
     }
 }
 
+// One call.
+fn once(sum: u64) -> Served {
+    Served { calls: 1, sum }
+}
+
 // Puts each reservation.
 fn fill<S: Sample>(table: &mut ResvTable<S>) -> Option<Served> {
     let mut served = Served::default();
@@ -85,7 +90,7 @@ fn fill<S: Sample>(table: &mut ResvTable<S>) -> Option<Served> {
                 return None;
             }
             table.put(fact, LIFETIME).ok()?;
-            served = both(served, Served { calls: 1, sum: 1 });
+            served = both(served, once(1));
         }
     }
     Some(served)
@@ -97,13 +102,7 @@ fn merge_all<S: Sample>(table: &ResvTable<S>) -> Served {
     for number in 0..SESSIONS {
         for iface in 0u8..2 {
             let parts = table.parts(session(number), iface);
-            served = both(
-                served,
-                Served {
-                    calls: 1,
-                    sum: weight(&parts),
-                },
-            );
+            served = both(served, once(weight(&parts)));
         }
     }
     served
@@ -115,13 +114,7 @@ fn send_all<S: Sample>(table: &ResvTable<S>, up: &Upstream) -> Served {
     let mut served = Served::default();
     for number in 0..SESSIONS {
         let parts = table.toward(session(number), up, &own);
-        served = both(
-            served,
-            Served {
-                calls: 1,
-                sum: weight(&parts),
-            },
-        );
+        served = both(served, once(weight(&parts)));
     }
     served
 }
