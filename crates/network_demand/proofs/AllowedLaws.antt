@@ -10,10 +10,10 @@ use Rattle.rsvp_base.specs.Table.{size}
 use Rattle.rsvp_base.specs.declared.session.Session.{Session}
 use Rattle.rsvp_base.proofs.Members.{in_filter}
 use Rattle.rsvp_base.proofs.Tables.{tied_same}
-use Rattle.tree_laws.specs.Networks.{Net}
-use Rattle.demand_laws.specs.declared.locals.LocalSender.{LocalSender}
-use Rattle.demand_laws.specs.declared.locals.LocalWant.{LocalWant}
-use Rattle.demand_laws.specs.Wants.{Locals, of_session, live}
+use Rattle.tree_model.specs.Networks.{Net}
+use Rattle.tree_model.specs.declared.locals.LocalSender.{LocalSender}
+use Rattle.tree_model.specs.declared.locals.LocalWant.{LocalWant}
+use Rattle.tree_model.specs.Wants.{Locals, of_session, live}
 use Rattle.network_demand.specs.Demands.{AreLocals, few_of}
 use Rattle.network_demand.proofs.Inside.{index_in}
 

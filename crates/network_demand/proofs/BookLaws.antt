@@ -19,10 +19,10 @@ use Rattle.style_rules.specs.Merge.{those_at, all_by}
 use Rattle.style_rules.specs.Lines.{Line, EntryKey, entry_keys, entry_key, BookTable, merged_book, at_end, book_of_end}
 use Rattle.style_rules.proofs.Folds.{all_push, all_push_first}
 use Rattle.style_rules.proofs.Merges.{get-merge_of}
-use Rattle.tree_laws.proofs.Following.{same_number, number_same}
-use Rattle.tree_laws.specs.Networks.{Net}
+use Rattle.tree_model.proofs.Following.{same_number, number_same}
+use Rattle.tree_model.specs.Networks.{Net}
 use Rattle.rsvp_base.specs.declared.addr.Addr.{Addr}
-use Rattle.demand_laws.specs.Goals.{addr_of}
+use Rattle.tree_model.specs.Goals.{addr_of}
 use Rattle.network_demand.specs.declared.hop_want.HopWant.{HopWant}
 use Rattle.network_demand.specs.Books.{joined_with, charged, book_at, HaveLines, NameOnly, want_lines, wants_lines}
 use Rattle.network_demand.proofs.Pools.{take_more, filter_append, flat_append, append_none}

@@ -13,16 +13,16 @@ use Rattle.rsvp_base.proofs.Members.{in_each}
 use Rattle.rsvp_base.proofs.Tables.{tied_same, tied_self}
 use Rattle.style_rules.specs.Lines.{BookTable, held}
 use Rattle.style_rules.specs.Limits.{IsWithinLimits}
-use Rattle.tree_laws.specs.Chains.{NoRepeats}
-use Rattle.tree_laws.specs.declared.hops.End.{End}
-use Rattle.tree_laws.specs.declared.hops.Hop.{Hop}
-use Rattle.tree_laws.specs.Networks.{Net, node_of}
-use Rattle.tree_laws.specs.Valid.{IsValid}
+use Rattle.tree_model.specs.Chains.{NoRepeats}
+use Rattle.tree_model.specs.declared.hops.End.{End}
+use Rattle.tree_model.specs.declared.hops.Hop.{Hop}
+use Rattle.tree_model.specs.Networks.{Net, node_of}
+use Rattle.tree_model.specs.Valid.{IsValid}
 use Rattle.tree_routing.specs.declared.group_hop.GroupHop.{GroupHop}
 use Rattle.tree_routing.specs.Order.{AreByRank}
-use Rattle.demand_laws.specs.declared.locals.LocalWant.{LocalWant}
-use Rattle.demand_laws.specs.Wants.{Locals, want}
-use Rattle.demand_laws.specs.Goals.{goal, DemandsFit}
+use Rattle.tree_model.specs.declared.locals.LocalWant.{LocalWant}
+use Rattle.tree_model.specs.Wants.{Locals, want}
+use Rattle.tree_model.specs.Goals.{goal, DemandsFit}
 use Rattle.network_demand.specs.declared.hop_want.HopWant.{HopWant}
 use Rattle.network_demand.specs.Demands.{AreLocals, AreDemands}
 use Rattle.network_demand.specs.Fits.{FindRoom, AreCarried, first_style, AreOfOneStyle}

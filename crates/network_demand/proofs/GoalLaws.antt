@@ -21,18 +21,18 @@ use Rattle.style_rules.specs.Parts.{part_unit}
 use Rattle.style_rules.specs.PartLaws.{part_at_most_itself, union_least}
 use Rattle.style_rules.specs.Lines.{Line, EntryKey, entry_keys, entry_key, BookTable, at_end, book_of_end}
 use Rattle.style_rules.proofs.Merges.{merges_same, merge_named, merge_keeps}
-use Rattle.tree_laws.specs.declared.hops.Hop.{Hop}
-use Rattle.tree_laws.specs.Networks.{Net, node_of}
-use Rattle.tree_laws.specs.Trees.{hops_of, goes_out_of}
-use Rattle.tree_laws.specs.Ranks.{followers}
-use Rattle.tree_laws.specs.Valid.{IsValid}
-use Rattle.tree_laws.proofs.Following.{same_number, number_same, addr_same}
+use Rattle.tree_model.specs.declared.hops.Hop.{Hop}
+use Rattle.tree_model.specs.Networks.{Net, node_of}
+use Rattle.tree_model.specs.Trees.{hops_of, goes_out_of}
+use Rattle.tree_model.specs.Ranks.{followers}
+use Rattle.tree_model.specs.Valid.{IsValid}
+use Rattle.tree_model.proofs.Following.{same_number, number_same, addr_same}
 use Rattle.tree_routing.specs.declared.group_hop.GroupHop.{GroupHop}
 use Rattle.tree_routing.specs.Order.{AreByRank}
-use Rattle.demand_laws.specs.declared.locals.LocalWant.{LocalWant}
-use Rattle.demand_laws.specs.Wants.{Locals, live, own, brought, want}
-use Rattle.demand_laws.specs.Goals.{addr_of, end_pairs, hops_in_order, sessions_named, lines_of, goal, demand_of}
-use Rattle.demand_laws.proofs.WantLaws.{want_equation}
+use Rattle.tree_model.specs.declared.locals.LocalWant.{LocalWant}
+use Rattle.tree_model.specs.Wants.{Locals, live, own, brought, want}
+use Rattle.tree_model.specs.Goals.{addr_of, end_pairs, hops_in_order, sessions_named, lines_of, goal, demand_of}
+use Rattle.tree_model.proofs.WantLaws.{want_equation}
 use Rattle.network_demand.specs.declared.hop_want.HopWant.{HopWant}
 use Rattle.network_demand.specs.Books.{book_at, HaveLines, NameOnly, HasRoom, AreInside, want_lines, wants_lines}
 use Rattle.network_demand.specs.Demands.{AreDemands, AreProper, AreFed, style_lines}

@@ -3,13 +3,13 @@ use Rattle.std.specs.Prelude.{◌≡◌, ℕ, ◌<◌, List, [], ◌∷◌, leng
 use Rattle.std.proofs.Common.{zero, suc, ap, subst, inl, inr, arith}
 use Rattle.rsvp_base.specs.Members.{In}
 use Rattle.rsvp_base.specs.declared.addr.Addr.{Addr}
-use Rattle.tree_laws.specs.declared.hops.End.{End}
-use Rattle.tree_laws.specs.declared.hops.Hop.{Hop}
-use Rattle.tree_laws.specs.Networks.{Net, node_of, node_of_end, peers}
-use Rattle.tree_laws.specs.Trees.{hops_of}
-use Rattle.tree_laws.specs.Valid.{IsValid}
-use Rattle.tree_laws.proofs.Following.{in_group, to_tree}
-use Rattle.tree_laws.proofs.Links.{in_among, one_sending_end_on_a_link}
+use Rattle.tree_model.specs.declared.hops.End.{End}
+use Rattle.tree_model.specs.declared.hops.Hop.{Hop}
+use Rattle.tree_model.specs.Networks.{Net, node_of, node_of_end, peers}
+use Rattle.tree_model.specs.Trees.{hops_of}
+use Rattle.tree_model.specs.Valid.{IsValid}
+use Rattle.tree_model.proofs.Following.{in_group, to_tree}
+use Rattle.tree_model.proofs.Links.{in_among, one_sending_end_on_a_link}
 use Rattle.tree_routing.specs.declared.group_hop.GroupHop.{GroupHop}
 use Rattle.tree_routing.specs.Order.{AreByRank}
 use Rattle.tree_routing.proofs.ValidMore.{from_inside, to_inside}

@@ -24,18 +24,18 @@ use Rattle.rsvp_base.proofs.Tables.{either, tied_same, tied_self, none_above}
 use Rattle.style_rules.specs.Styles.{name_of}
 use Rattle.style_rules.specs.Lines.{Line, LineKey, line_keys, line_key, NextHop, next_hops, next_hop}
 use Rattle.style_rules.specs.Limits.{of_style, of_session, line_keys_of, sessions_of, next_hops_of, names_of, IsWithinLimits}
-use Rattle.tree_laws.specs.Chains.{NoRepeats}
-use Rattle.tree_laws.specs.declared.hops.Hop.{Hop}
-use Rattle.tree_laws.specs.Networks.{Net, node_of}
-use Rattle.tree_laws.specs.Trees.{hops_of, goes_out_of}
-use Rattle.tree_laws.specs.Valid.{IsValid}
-use Rattle.tree_laws.proofs.Counts.{once_append}
-use Rattle.tree_laws.proofs.Following.{same_number, number_same, addr_same}
+use Rattle.tree_model.specs.Chains.{NoRepeats}
+use Rattle.tree_model.specs.declared.hops.Hop.{Hop}
+use Rattle.tree_model.specs.Networks.{Net, node_of}
+use Rattle.tree_model.specs.Trees.{hops_of, goes_out_of}
+use Rattle.tree_model.specs.Valid.{IsValid}
+use Rattle.tree_model.proofs.Counts.{once_append}
+use Rattle.tree_model.proofs.Following.{same_number, number_same, addr_same}
 use Rattle.tree_routing.specs.declared.group_hop.GroupHop.{GroupHop}
 use Rattle.tree_routing.specs.Order.{AreByRank}
-use Rattle.demand_laws.specs.declared.locals.LocalWant.{LocalWant}
-use Rattle.demand_laws.specs.Wants.{Locals, live, want}
-use Rattle.demand_laws.specs.Goals.{addr_of, addr_of_end, goal}
+use Rattle.tree_model.specs.declared.locals.LocalWant.{LocalWant}
+use Rattle.tree_model.specs.Wants.{Locals, live, want}
+use Rattle.tree_model.specs.Goals.{addr_of, addr_of_end, goal}
 use Rattle.network_demand.specs.declared.hop_want.HopWant.{HopWant}
 use Rattle.network_demand.specs.Books.{wants_lines}
 use Rattle.network_demand.specs.Demands.{AreLocals, style_lines}

@@ -17,8 +17,8 @@ use Rattle.style_rules.specs.Tally.{tally_of, names_of_requests, names_of_tally}
 use Rattle.style_rules.specs.Toward.{Request, parts_of}
 use Rattle.style_rules.proofs.StyleLaws.{in_named}
 use Rattle.style_rules.proofs.TallyRoom.{merger_has_room}
-use Rattle.demand_laws.specs.Wants.{as_list}
-use Rattle.demand_laws.proofs.WantLaws.{in_as_list}
+use Rattle.tree_model.specs.Wants.{as_list}
+use Rattle.tree_model.proofs.WantLaws.{in_as_list}
 use Rattle.network_demand.specs.Steps.{cuts}
 use Rattle.network_demand.proofs.Pools.{take_more, flat_append, append_none}
 

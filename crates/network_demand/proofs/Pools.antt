@@ -16,15 +16,15 @@ use Rattle.rsvp_base.specs.Table.{size, has, values}
 use Rattle.rsvp_base.proofs.SetLaws.{and_made, size-with_key}
 use Rattle.rsvp_base.proofs.Tables.{either}
 use Rattle.style_rules.specs.Merge.{merge, PartTable}
-use Rattle.tree_laws.specs.declared.hops.Hop.{Hop}
-use Rattle.tree_laws.specs.Networks.{Net, node_of}
-use Rattle.tree_laws.specs.Trees.{goes_out_of}
-use Rattle.tree_laws.specs.Ranks.{followers, IsLoopFree}
-use Rattle.tree_laws.proofs.Following.{same_number, number_same, addr_same}
+use Rattle.tree_model.specs.declared.hops.Hop.{Hop}
+use Rattle.tree_model.specs.Networks.{Net, node_of}
+use Rattle.tree_model.specs.Trees.{goes_out_of}
+use Rattle.tree_model.specs.Ranks.{followers, IsLoopFree}
+use Rattle.tree_model.proofs.Following.{same_number, number_same, addr_same}
 use Rattle.tree_routing.specs.declared.group_hop.GroupHop.{GroupHop}
 use Rattle.tree_routing.specs.Order.{AreByRank}
-use Rattle.demand_laws.specs.declared.locals.LocalWant.{LocalWant}
-use Rattle.demand_laws.specs.Wants.{Locals, names, is_wanted_at, want}
+use Rattle.tree_model.specs.declared.locals.LocalWant.{LocalWant}
+use Rattle.tree_model.specs.Wants.{Locals, names, is_wanted_at, want}
 use Rattle.network_demand.specs.declared.hop_want.HopWant.{HopWant}
 use Rattle.network_demand.specs.Steps.{widened, local_parts, local_at, wants_at, asked_at, cuts, hops_in, at_node, hop_wants}
 use Rattle.network_demand.proofs.WantSteps.{want_step, followers_before}

@@ -6,9 +6,9 @@ use Rattle.rsvp_base.specs.Members.{In}
 use Rattle.rsvp_base.specs.declared.session.Session.{Session}
 use Rattle.rsvp_base.specs.declared.style.StyleKind.{StyleKind}
 use Rattle.rsvp_base.proofs.Members.{in_append}
-use Rattle.tree_laws.specs.Networks.{Net}
+use Rattle.tree_model.specs.Networks.{Net}
 use Rattle.tree_routing.specs.declared.group_hop.GroupHop.{GroupHop}
-use Rattle.demand_laws.specs.Wants.{Locals}
+use Rattle.tree_model.specs.Wants.{Locals}
 use Rattle.network_demand.specs.Fits.{taken_at, room_at, all_taken, FindRoom}
 use Rattle.network_demand.specs.Steps.{hop_wants}
 use Rattle.network_demand.proofs.Pools.{take_more}

@@ -11,8 +11,8 @@ use Rattle.rsvp_base.specs.Table.{get, keys, size}
 use Rattle.rsvp_base.specs.declared.session.Session.{Session}
 use Rattle.rsvp_base.proofs.Counts.{found_in, in_set_of, set_below, size-set_of}
 use Rattle.rsvp_base.proofs.Members.{in_left, in_append, in_each, to_each}
-use Rattle.tree_laws.specs.Chains.{NoRepeats}
-use Rattle.tree_laws.proofs.Counts.{not_longer}
+use Rattle.tree_model.specs.Chains.{NoRepeats}
+use Rattle.tree_model.proofs.Counts.{not_longer}
 use Rattle.network_demand.proofs.AllowedLaws.{all_in, in_all}
 use Rattle.network_demand.proofs.Inside.{index_in}
 use Rattle.network_demand.proofs.Pools.{take_more}

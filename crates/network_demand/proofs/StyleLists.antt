@@ -9,7 +9,7 @@ use Rattle.rsvp_base.specs.declared.session.Session.{Session}
 use Rattle.rsvp_base.specs.declared.style.StyleKind.{StyleKind}
 use Rattle.rsvp_base.specs.declared.style.StyleKind.TheVariants.{Wild}
 use Rattle.rsvp_base.proofs.Tables.{tied_self}
-use Rattle.demand_laws.specs.declared.locals.LocalWant.{LocalWant}
+use Rattle.tree_model.specs.declared.locals.LocalWant.{LocalWant}
 use Rattle.network_demand.specs.Fits.{first_style, IsOfOneStyle}
 use Rattle.network_demand.proofs.AllowedLaws.{all_in, in_all}
 

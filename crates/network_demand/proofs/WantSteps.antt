@@ -24,17 +24,17 @@ use Rattle.style_rules.specs.CutLaws.{cut_senders, cut_named}
 use Rattle.style_rules.specs.Merge.{merge}
 use Rattle.style_rules.proofs.Merges.{merges_same}
 use Rattle.style_rules.proofs.StyleLaws.{a_name}
-use Rattle.tree_laws.specs.declared.hops.Hop.{Hop}
-use Rattle.tree_laws.specs.Networks.{Net, node_of}
-use Rattle.tree_laws.specs.Trees.{goes_out_of}
-use Rattle.tree_laws.specs.Ranks.{followers, IsLoopFree}
-use Rattle.tree_laws.proofs.Following.{same_number, number_same, addr_itself, follower_follows, follows_follower, follower_of_group}
-use Rattle.tree_laws.proofs.RankLaws.{rank_falls_at}
+use Rattle.tree_model.specs.declared.hops.Hop.{Hop}
+use Rattle.tree_model.specs.Networks.{Net, node_of}
+use Rattle.tree_model.specs.Trees.{goes_out_of}
+use Rattle.tree_model.specs.Ranks.{followers, IsLoopFree}
+use Rattle.tree_model.proofs.Following.{same_number, number_same, addr_itself, follower_follows, follows_follower, follower_of_group}
+use Rattle.tree_model.proofs.RankLaws.{rank_falls_at}
 use Rattle.tree_routing.specs.declared.group_hop.GroupHop.{GroupHop}
 use Rattle.tree_routing.specs.Order.{rank_in, AreRanked, AreByRank}
-use Rattle.demand_laws.specs.declared.locals.LocalWant.{LocalWant}
-use Rattle.demand_laws.specs.Wants.{Locals, live, names, as_list, wanted_of, is_wanted_at, own, brought, want}
-use Rattle.demand_laws.proofs.WantLaws.{in_as_list, name_told, both_one, want_equation, want_names, a_common_name}
+use Rattle.tree_model.specs.declared.locals.LocalWant.{LocalWant}
+use Rattle.tree_model.specs.Wants.{Locals, live, names, as_list, wanted_of, is_wanted_at, own, brought, want}
+use Rattle.tree_model.proofs.WantLaws.{in_as_list, name_told, both_one, want_equation, want_names, a_common_name}
 use Rattle.network_demand.specs.Steps.{all_names, widened, local_at, wants_at, asked_at, cuts, hops_in}
 
 to_as_list : (o : Option Part) (p : Part) → o ≡ Some p → In p (as_list o)

@@ -18,8 +18,8 @@ use Rattle.rsvp_base.specs.contracts.style.StyleKind as style
 use Rattle.admission_book.specs.declared.key.EntryKey.{EntryKey as KeptKey}
 use Rattle.style_rules.specs.Parts.{part_join, has_name}
 use Rattle.style_rules.specs.Lines.{Line, EntryKey, entry_keys, BookTable, book_of_end}
-use Rattle.tree_laws.specs.Networks.{Net}
-use Rattle.demand_laws.specs.Goals.{addr_of}
+use Rattle.tree_model.specs.Networks.{Net}
+use Rattle.tree_model.specs.Goals.{addr_of}
 use Rattle.network_demand.specs.declared.hop_want.HopWant.{HopWant}
 
 abbrev pub book_code : Coded BookTable

@@ -8,12 +8,12 @@ use Rattle.rsvp_base.specs.Table.{size}
 use Rattle.rsvp_base.specs.declared.session.Session.{Session}
 use Rattle.rsvp_base.specs.declared.style.StyleKind.{StyleKind}
 use Rattle.style_rules.specs.Lines.{Line, BookTable}
-use Rattle.tree_laws.specs.Networks.{Net}
+use Rattle.tree_model.specs.Networks.{Net}
 use Rattle.tree_routing.specs.declared.group_hop.GroupHop.{GroupHop}
-use Rattle.demand_laws.specs.declared.locals.LocalSender.{LocalSender}
-use Rattle.demand_laws.specs.declared.locals.LocalWant.{LocalWant}
-use Rattle.demand_laws.specs.Wants.{Locals, of_session, live}
-use Rattle.demand_laws.specs.Goals.{demand_of}
+use Rattle.tree_model.specs.declared.locals.LocalSender.{LocalSender}
+use Rattle.tree_model.specs.declared.locals.LocalWant.{LocalWant}
+use Rattle.tree_model.specs.Wants.{Locals, of_session, live}
+use Rattle.tree_model.specs.Goals.{demand_of}
 use Rattle.network_demand.specs.Books.{book_at, HaveLines, wants_lines}
 use Rattle.network_demand.specs.Steps.{all_names, hop_wants}
 

@@ -12,14 +12,14 @@ use Rattle.rsvp_base.specs.Sets.{set_of}
 use Rattle.rsvp_base.specs.Table.{values}
 use Rattle.style_rules.specs.Styles.{name_of}
 use Rattle.style_rules.specs.Parts.{part_cut}
-use Rattle.tree_laws.specs.declared.hops.Hop.{Hop}
-use Rattle.tree_laws.specs.Networks.{Net}
-use Rattle.tree_laws.specs.Trees.{tree, goes_out_of}
-use Rattle.tree_laws.specs.Ranks.{has_hop}
+use Rattle.tree_model.specs.declared.hops.Hop.{Hop}
+use Rattle.tree_model.specs.Networks.{Net}
+use Rattle.tree_model.specs.Trees.{tree, goes_out_of}
+use Rattle.tree_model.specs.Ranks.{has_hop}
 use Rattle.tree_routing.specs.declared.group_hop.GroupHop.{GroupHop}
-use Rattle.demand_laws.specs.declared.locals.LocalWant.{LocalWant}
+use Rattle.tree_model.specs.declared.locals.LocalWant.{LocalWant}
 use Rattle.network_demand.specs.declared.hop_want.HopWant.{HopWant}
-use Rattle.demand_laws.specs.Wants.{Locals, live, as_list, is_wanted_at, want}
+use Rattle.tree_model.specs.Wants.{Locals, live, as_list, is_wanted_at, want}
 
 -- the names of all live senders of a session
 abbrev pub all_names : StyleKind → Locals → Session → Names

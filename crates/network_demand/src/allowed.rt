@@ -6,14 +6,14 @@ ghost use Rattle.rsvp_base.specs.Orders.{sessions};
 ghost use Rattle.rsvp_base.specs.Sets.{set_of};
 ghost use Rattle.rsvp_base.specs.Table.{size};
 ghost use Rattle.rsvp_base.specs.declared.session.Session.{Session};
-ghost use Rattle.tree_laws.specs.Chains.{NoRepeats};
-ghost use Rattle.demand_laws.specs.Wants.{of_session};
+ghost use Rattle.tree_model.specs.Chains.{NoRepeats};
+ghost use Rattle.tree_model.specs.Wants.{of_session};
 ghost use Rattle.network_demand.specs.Asked.{locals_of};
 ghost use Rattle.network_demand.specs.Demands.{AreLocals, few_of};
 
 use crate::locals::{Locals, is_among, is_session};
 use arrayvec::ArrayVec;
-use demand_laws::{LocalSender, LocalWant};
+use tree_model::{LocalSender, LocalWant};
 use rsvp_base::Session;
 use tree_routing::Routing;
 

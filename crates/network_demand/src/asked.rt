@@ -2,11 +2,11 @@
 ghost use Rattle.std.specs.Prelude.{◌≡◌, ◌++◌, ◌<◌, ◌∷◌, [], ℕ, List, length, replicate, slice_set, IfOk, OnOk, OnErr};
 ghost use Rattle.std.specs.List.{All};
 ghost use Rattle.rsvp_base.specs.Table.{values};
-ghost use Rattle.demand_laws.specs.declared.locals.LocalWant.{LocalWant};
+ghost use Rattle.tree_model.specs.declared.locals.LocalWant.{LocalWant};
 ghost use Rattle.network_demand.specs.Steps.{widened, local_parts, at_node};
 
 use crate::locals::{is_session, is_style};
-use demand_laws::LocalWant;
+use tree_model::LocalWant;
 use rsvp_base::{NoMemory, Part, Senders, Session, StyleKind};
 use std::alloc::Global;
 use std::marker::Model;

@@ -8,7 +8,7 @@ ghost use Rattle.rsvp_base.specs.Sets.{union, IsWithin};
 ghost use Rattle.rsvp_base.specs.Table.{get, size};
 ghost use Rattle.rsvp_base.specs.Members.{In};
 ghost use Rattle.style_rules.specs.Lines.{Line};
-ghost use Rattle.tree_laws.specs.Networks.{Net};
+ghost use Rattle.tree_model.specs.Networks.{Net};
 ghost use Rattle.network_demand.specs.Books.{charged, book_at, HaveLines, NameOnly, HasRoom, AreInside, want_lines, wants_lines};
 
 use crate::end_book::EndBook;

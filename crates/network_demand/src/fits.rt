@@ -3,8 +3,8 @@ ghost use Rattle.std.specs.Prelude.{◌≡◌, ◌↔◌, ◌≤◌, ◌<◌, �
 ghost use Rattle.std.specs.List.{All};
 ghost use Rattle.rsvp_base.specs.Members.{In};
 ghost use Rattle.style_rules.specs.Parts.{part_charge};
-ghost use Rattle.tree_laws.specs.Networks.{node_of};
-ghost use Rattle.demand_laws.specs.declared.locals.LocalWant.{LocalWant};
+ghost use Rattle.tree_model.specs.Networks.{node_of};
+ghost use Rattle.tree_model.specs.declared.locals.LocalWant.{LocalWant};
 ghost use Rattle.network_demand.specs.declared.hop_want.HopWant.{HopWant};
 ghost use Rattle.network_demand.specs.Fits.{taken_at, room_at, AreCarried, first_style, IsOfOneStyle};
 
@@ -12,7 +12,7 @@ use crate::end_book::EndBook;
 use crate::hop_want::HopWant;
 use crate::locals::{is_session, is_style};
 use crate::room::{rooms, take_all};
-use demand_laws::LocalWant;
+use tree_model::LocalWant;
 use rsvp_base::{NoMemory, Session, StyleKind};
 use std::alloc::Global;
 use tree_routing::{End, Routing};

@@ -1,6 +1,6 @@
 //! What is wanted over a hop.
 use style_rules::Parts;
-use tree_laws::Hop;
+use tree_model::Hop;
 
 /// What is wanted over a hop, of a session and style.
 #[derive(Drop)]

@@ -2,7 +2,7 @@
 //!
 //! `demand` gives for each end the style merge (RFC 2205, 2.2) of what is wanted over the hops that go out of it. Wants are
 //! computed once for each hop, in the order of ranks, so that those of the hops that follow are there. What is said of wants
-//! and demands stands in `demand_laws`.
+//! and demands stands in `tree_model`.
 #![tactic(auto)]
 
 mod allowed;
@@ -21,7 +21,7 @@ mod wants;
 
 pub use admission_book::EntryKey;
 pub use allowed::can_ask;
-pub use demand_laws::{LocalSender, LocalWant};
+pub use tree_model::{LocalSender, LocalWant};
 pub use end_book::EndBook;
 pub use ends::demand;
 pub use locals::Locals;

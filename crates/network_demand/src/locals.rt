@@ -6,9 +6,9 @@ ghost use Rattle.rsvp_base.specs.Members.{In};
 ghost use Rattle.rsvp_base.specs.Orders.{sessions, styles};
 ghost use Rattle.rsvp_base.specs.Sets.{set_of};
 ghost use Rattle.style_rules.specs.Styles.{name_of};
-ghost use Rattle.demand_laws.specs.Wants.{of_session, is_wanted_at};
+ghost use Rattle.tree_model.specs.Wants.{of_session, is_wanted_at};
 
-use demand_laws::{LocalSender, LocalWant};
+use tree_model::{LocalSender, LocalWant};
 use rsvp_base::{NoMemory, Sender, Senders, Session, StyleKind};
 use std::alloc::Global;
 use style_rules::Style;

@@ -1,7 +1,7 @@
 //! Room at the nodes of a network for what is wanted over hops.
 ghost use Rattle.std.specs.Prelude.{◌≡◌, ◌+◌, ◌<◌, ◌==◌, ℕ, false, cond, length, replicate, IfOk, IsTrue};
 ghost use Rattle.rsvp_base.specs.Members.{In};
-ghost use Rattle.tree_laws.specs.Networks.{node_of};
+ghost use Rattle.tree_model.specs.Networks.{node_of};
 ghost use Rattle.network_demand.specs.declared.hop_want.HopWant.{HopWant};
 ghost use Rattle.network_demand.specs.Fits.{amount, taken_at, room_at};
 

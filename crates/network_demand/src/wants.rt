@@ -5,10 +5,10 @@ ghost use Rattle.rsvp_base.specs.Sets.{with_keys};
 ghost use Rattle.rsvp_base.specs.Table.{size, values};
 ghost use Rattle.style_rules.specs.Styles.{name_of};
 ghost use Rattle.style_rules.specs.Merge.{merge};
-ghost use Rattle.tree_laws.specs.Networks.{node_of};
+ghost use Rattle.tree_model.specs.Networks.{node_of};
 ghost use Rattle.rsvp_base.specs.declared.session.Sender.{Sender};
 ghost use Rattle.tree_routing.specs.Order.{AreByRank};
-ghost use Rattle.demand_laws.specs.Wants.{live};
+ghost use Rattle.tree_model.specs.Wants.{live};
 ghost use Rattle.network_demand.specs.Steps.{cuts, at_node, goes_over, names_among, hop_wants};
 ghost use Rattle.network_demand.specs.Asked.{locals_of};
 
@@ -18,7 +18,7 @@ use crate::locals::{Locals, live, names_of};
 use rsvp_base::{Addr, NoMemory, Part, Sender, Senders, Session};
 use std::alloc::Global;
 use style_rules::{Merger, Parts, Style, cut};
-use tree_laws::Hop;
+use tree_model::Hop;
 use tree_routing::{GroupHop, Routing};
 
 // Whether the tree of the sender's address has the hop.

@@ -5,14 +5,14 @@ use Rattle.std.specs.List.{filter}
 use Rattle.rsvp_base.specs.declared.addr.Addr.{Addr}
 use Rattle.rsvp_base.specs.Members.{In}
 use Rattle.rsvp_base.proofs.Members.{in_filter, to_filter}
-use Rattle.demand_laws.specs.Goals.{addr_of}
+use Rattle.tree_model.specs.Goals.{addr_of}
 use Rattle.router_rules.specs.Facts.{Facts}
 use Rattle.router_rules.specs.Inputs.{Input, Came}
 use Rattle.router_rules.specs.Place.{is_addr}
 use Rattle.router_rules.specs.Rule.{Outcome, rule}
-use Rattle.tree_laws.specs.declared.hops.End.{End}
-use Rattle.tree_laws.specs.Networks.{Net, iface_of, peers}
-use Rattle.tree_laws.proofs.Following.{addr_same, addr_itself}
+use Rattle.tree_model.specs.declared.hops.End.{End}
+use Rattle.tree_model.specs.Networks.{Net, iface_of, peers}
+use Rattle.tree_model.proofs.Following.{addr_same, addr_itself}
 use Rattle.network_model.specs.Laws.{ADeliveryChangesOneNode, APieceChangesEveryNode, is_still, TheRestChangeNoNode, WhereASendGoes, WhatIsSentIsCopied}
 use Rattle.network_model.specs.Links.{is_group, or_all, ends_toward, goes_to, all_copies}
 use Rattle.network_model.specs.Steps.{Step, Piece, Deliver, Lose, Copy, At, ClearAt, Trace, Report, Flags, Inject, Reroute, input_at, still, outcome_of, outcome, facts_from, sent_from, step}

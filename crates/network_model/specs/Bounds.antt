@@ -7,15 +7,15 @@ use Rattle.rsvp_base.specs.TokenBucket.{TokenBucket}
 use Rattle.rsvp_messages.specs.Proper.{IsProper}
 use Rattle.calm_rounds.specs.Machine.{run}
 use Rattle.calm_rounds.specs.Rounds.{Rounds}
-use Rattle.demand_laws.specs.Goals.{DemandsFit}
-use Rattle.demand_laws.specs.Wants.{live}
+use Rattle.tree_model.specs.Goals.{DemandsFit}
+use Rattle.tree_model.specs.Wants.{live}
 use Rattle.router_rules.specs.Bounds.{IsWithinBounds}
 use Rattle.router_rules.specs.Facts.{Facts, SenderKey}
 use Rattle.router_rules.specs.Inputs.{Arrival, Spelt, Unspelt}
-use Rattle.tree_laws.specs.declared.hops.TreeHop.{TreeHop}
-use Rattle.tree_laws.specs.Networks.{owner}
-use Rattle.tree_laws.specs.Ranks.{longest}
-use Rattle.tree_laws.specs.Valid.{IsValid}
+use Rattle.tree_model.specs.declared.hops.TreeHop.{TreeHop}
+use Rattle.tree_model.specs.Networks.{owner}
+use Rattle.tree_model.specs.Ranks.{longest}
+use Rattle.tree_model.specs.Valid.{IsValid}
 use Rattle.network_model.specs.Links.{is_group}
 use Rattle.network_model.specs.Locals.{locals_of, sessions_of}
 use Rattle.network_model.specs.Steps.{Step, machine}

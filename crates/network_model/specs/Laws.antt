@@ -3,13 +3,13 @@ use Rattle.std.specs.Prelude.{◌≡◌, ◌↔◌, ℕ, ◌+◌, Bool, true, fa
 use Rattle.std.specs.List.{remove}
 use Rattle.rsvp_base.specs.declared.addr.Addr.{Addr}
 use Rattle.rsvp_base.specs.Members.{In}
-use Rattle.demand_laws.specs.Goals.{addr_of}
+use Rattle.tree_model.specs.Goals.{addr_of}
 use Rattle.router_rules.specs.Facts.{Facts}
 use Rattle.router_rules.specs.Inputs.{Wait, Came, Send}
 use Rattle.router_rules.specs.Place.{Place}
 use Rattle.router_rules.specs.Rule.{rule}
-use Rattle.tree_laws.specs.declared.hops.End.{End}
-use Rattle.tree_laws.specs.Networks.{Net, end_at, iface_of, link_of, peers}
+use Rattle.tree_model.specs.declared.hops.End.{End}
+use Rattle.tree_model.specs.Networks.{Net, end_at, iface_of, link_of, peers}
 use Rattle.network_model.specs.Links.{is_group, goes_to, copy_to}
 use Rattle.network_model.specs.Steps.{Step, Piece, Deliver, Lose, Copy, Trace, Report, Flags, Inject, word_for, outcome, sent, step}
 use Rattle.network_model.specs.Worlds.{Item, World, place_of}

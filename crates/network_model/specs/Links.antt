@@ -2,10 +2,10 @@
 use Rattle.std.specs.Prelude.{ℕ, nat_le, nat_lt, Bool, true, false, ◌&&◌, List, [], ◌∷◌, map as each, Option, None, Some}
 use Rattle.std.specs.List.{filter, flat_map}
 use Rattle.rsvp_base.specs.declared.addr.Addr.{Addr}
-use Rattle.demand_laws.specs.Goals.{addr_of}
+use Rattle.tree_model.specs.Goals.{addr_of}
 use Rattle.router_rules.specs.Inputs.{Send, Spelt}
 use Rattle.router_rules.specs.Place.{is_addr}
-use Rattle.tree_laws.specs.Networks.{Net, end_at, peers}
+use Rattle.tree_model.specs.Networks.{Net, end_at, peers}
 use Rattle.network_model.specs.Worlds.{Item}
 
 -- a multicast group: 224.0.0.0 to 239.255.255.255 (RFC 1112, 4)

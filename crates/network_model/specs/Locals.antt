@@ -6,9 +6,9 @@ use Rattle.rsvp_base.specs.Orders.{sessions}
 use Rattle.rsvp_base.specs.Sets.{set_of}
 use Rattle.rsvp_base.specs.Table.{Table, get, keys}
 use Rattle.rsvp_base.specs.TokenBucket.{TokenBucket}
-use Rattle.demand_laws.specs.declared.locals.LocalSender.{LocalSender}
-use Rattle.demand_laws.specs.declared.locals.LocalWant.{LocalWant}
-use Rattle.demand_laws.specs.Wants.{Locals}
+use Rattle.tree_model.specs.declared.locals.LocalSender.{LocalSender}
+use Rattle.tree_model.specs.declared.locals.LocalWant.{LocalWant}
+use Rattle.tree_model.specs.Wants.{Locals}
 use Rattle.router_rules.specs.Facts.{Facts, SenderKey, sender_keys, WantKey, Want}
 use Rattle.network_model.specs.Worlds.{World}
 

@@ -16,9 +16,9 @@ use Rattle.router_rules.specs.Flags.{entries_at}
 use Rattle.router_rules.specs.Inputs.{Arrival, Spelt, Unspelt, Stale}
 use Rattle.router_rules.specs.Place.{Place}
 use Rattle.router_rules.specs.Rule.{facts_with}
-use Rattle.tree_laws.specs.declared.hops.End.{End}
-use Rattle.tree_laws.specs.Networks.{Net, iface_of}
-use Rattle.tree_laws.specs.Trees.{trees_of}
+use Rattle.tree_model.specs.declared.hops.End.{End}
+use Rattle.tree_model.specs.Networks.{Net, iface_of}
+use Rattle.tree_model.specs.Trees.{trees_of}
 use Rattle.network_model.specs.Events.{Event, all_steps}
 use Rattle.network_model.specs.Steps.{Step, Deliver, Report, Flags, step, outcome, machine}
 use Rattle.network_model.specs.Texts.{table_text, flags_text}

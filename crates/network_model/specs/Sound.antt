@@ -14,15 +14,15 @@ use Rattle.rsvp_messages.specs.declared.message.Message.TheVariants as message
 use Rattle.rsvp_messages.specs.declared.message.PathMsg.{PathMsg}
 use Rattle.rsvp_messages.specs.declared.message.ResvMsg.{ResvMsg}
 use Rattle.rsvp_messages.specs.Units.{AskedUnit, ask_style, asked_units}
-use Rattle.demand_laws.specs.Goals.{addr_of}
-use Rattle.demand_laws.specs.Wants.{want}
+use Rattle.tree_model.specs.Goals.{addr_of}
+use Rattle.tree_model.specs.Wants.{want}
 use Rattle.router_rules.specs.Facts.{Facts, SenderKey, PathState, ResvState, resvs_of}
 use Rattle.router_rules.specs.Inputs.{Spelt}
 use Rattle.style_rules.specs.Lines.{LineKey}
 use Rattle.style_rules.specs.Parts.{part_le}
-use Rattle.tree_laws.specs.declared.hops.Hop.{Hop}
-use Rattle.tree_laws.specs.Networks.{node_of, end_at, iface_of}
-use Rattle.tree_laws.specs.Trees.{tree, hops_of, inward}
+use Rattle.tree_model.specs.declared.hops.Hop.{Hop}
+use Rattle.tree_model.specs.Networks.{node_of, end_at, iface_of}
+use Rattle.tree_model.specs.Trees.{tree, hops_of, inward}
 use Rattle.network_model.specs.Locals.{IsLive, locals_of}
 use Rattle.network_model.specs.Worlds.{Item, World}
 

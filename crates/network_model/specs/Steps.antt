@@ -14,11 +14,11 @@ use Rattle.router_rules.specs.declared.answers.Heard.TheVariants as heard
 use Rattle.router_rules.specs.Facts.{Facts}
 use Rattle.router_rules.specs.Inputs.{Arrival, Spelt, Unspelt, Input, Call, Wait, Clear, Came, Moved, Local}
 use Rattle.router_rules.specs.Rule.{Outcome, rule}
-use Rattle.tree_laws.specs.declared.hops.End.{End}
-use Rattle.tree_laws.specs.declared.hops.Hop.{Hop}
-use Rattle.tree_laws.specs.declared.hops.TreeHop.{TreeHop}
-use Rattle.tree_laws.specs.Networks.{Net, iface_of}
-use Rattle.tree_laws.specs.Trees.{of_tree}
+use Rattle.tree_model.specs.declared.hops.End.{End}
+use Rattle.tree_model.specs.declared.hops.Hop.{Hop}
+use Rattle.tree_model.specs.declared.hops.TreeHop.{TreeHop}
+use Rattle.tree_model.specs.Networks.{Net, iface_of}
+use Rattle.tree_model.specs.Trees.{of_tree}
 use Rattle.network_model.specs.Links.{all_copies}
 use Rattle.network_model.specs.Worlds.{Item, World, place_of}
 

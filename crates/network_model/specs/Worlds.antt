@@ -6,9 +6,9 @@ use Rattle.router_rules.specs.declared.route.Route.{Route}
 use Rattle.router_rules.specs.Facts.{Facts}
 use Rattle.router_rules.specs.Inputs.{Arrival}
 use Rattle.router_rules.specs.Place.{Place}
-use Rattle.tree_laws.specs.declared.hops.End.{End}
-use Rattle.tree_laws.specs.Networks.{Net, ends_of, iface_of}
-use Rattle.tree_laws.specs.Trees.{iface_in, inward, outward}
+use Rattle.tree_model.specs.declared.hops.End.{End}
+use Rattle.tree_model.specs.Networks.{Net, ends_of, iface_of}
+use Rattle.tree_model.specs.Trees.{iface_in, inward, outward}
 
 -- ---- items: datagrams on their way, each to an end. A copy keeps the number of its original
 pub record Item : Type 0 where

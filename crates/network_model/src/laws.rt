@@ -1,8 +1,8 @@
 //! Laws of the steps of a network.
 ghost use Rattle.std.specs.Prelude.{◌≡◌, ℕ, true, slice_get, Some};
 ghost use Rattle.rsvp_base.specs.declared.addr.Addr.{Addr};
-ghost use Rattle.tree_laws.specs.declared.hops.End.{End};
-ghost use Rattle.tree_laws.specs.Networks.{Net};
+ghost use Rattle.tree_model.specs.declared.hops.End.{End};
+ghost use Rattle.tree_model.specs.Networks.{Net};
 ghost use Rattle.calm_rounds.specs.Machine.{IsClocked, IsStamped};
 ghost use Rattle.network_model.specs.Laws.{ADeliveryChangesOneNode, APieceChangesEveryNode, TheRestChangeNoNode, WhereASendGoes, WhatIsSentIsCopied, is_still};
 ghost use Rattle.network_model.specs.Steps.{Step, machine};

@@ -6,14 +6,14 @@ use Rattle.rsvp_base.specs.Members.{In}
 use Rattle.rsvp_base.specs.declared.addr.Addr.{Addr}
 use Rattle.rsvp_base.proofs.Members.{in_append}
 use Rattle.rsvp_base.proofs.Tables.{either}
-use Rattle.tree_laws.specs.declared.hops.Hop.{Hop}
-use Rattle.tree_laws.specs.Networks.{Net, node_of, owner, among, link_of}
-use Rattle.tree_laws.specs.Trees.{tree, hops_of, is_linked, is_reached, Grows, IsGrownFrom, IsGrown}
-use Rattle.tree_laws.specs.Chains.{Chain, HasNoLoop, last_of}
-use Rattle.tree_laws.specs.Ranks.{Follows, followers, IsLoopFreeIn}
-use Rattle.tree_laws.proofs.Following.{follower_follows, follows_follower}
-use Rattle.tree_laws.proofs.TreeLaws.{Leads, reached_told, reached_tested, true_false}
-use Rattle.tree_laws.proofs.Links.{linked_from}
+use Rattle.tree_model.specs.declared.hops.Hop.{Hop}
+use Rattle.tree_model.specs.Networks.{Net, node_of, owner, among, link_of}
+use Rattle.tree_model.specs.Trees.{tree, hops_of, is_linked, is_reached, Grows, IsGrownFrom, IsGrown}
+use Rattle.tree_model.specs.Chains.{Chain, HasNoLoop, last_of}
+use Rattle.tree_model.specs.Ranks.{Follows, followers, IsLoopFreeIn}
+use Rattle.tree_model.proofs.Following.{follower_follows, follows_follower}
+use Rattle.tree_model.proofs.TreeLaws.{Leads, reached_told, reached_tested, true_false}
+use Rattle.tree_model.proofs.Links.{linked_from}
 
 -- ---- chains
 pub chain_map : {A : Type 0} (follow follow' : A → List A) (all all' : List A) → ((x : A) → In x all → In x all') → ((x y : A) → In x all → In y (follow x) → In y (follow' x)) → (c : List A) → Chain follow all c → Chain follow' all' c

@@ -11,7 +11,7 @@ use Rattle.rsvp_base.proofs.Rows.{are_rows, table_is}
 use Rattle.rsvp_base.proofs.SetLaws.{with_key_present}
 use Rattle.tree_routing.specs.declared.known.Known.{Known}
 use Rattle.tree_routing.specs.Known.{plain}
-use Rattle.tree_laws.specs.Trees.{tree_keys, key_of, trees_of}
+use Rattle.tree_model.specs.Trees.{tree_keys, key_of, trees_of}
 use Rattle.tree_routing.specs.Routes.{as_row, IsWithTree}
 use Rattle.tree_routing.proofs.LeastLaws.{take_one_more}
 

@@ -3,7 +3,7 @@ use Rattle.std.specs.Prelude.{◌≡◌, ◌⊎◌, ℕ, ◌+◌, ◌<◌, ◌�
 use Rattle.std.proofs.Common.{zero, suc, sym, ap, subst, ◌∙◌, inl, inr, ⊎_elim, arith, take}
 use Rattle.rsvp_base.specs.Members.{In}
 use Rattle.rsvp_base.proofs.Members.{in_left, in_right, in_append}
-use Rattle.tree_laws.specs.declared.hops.Hop.{Hop}
+use Rattle.tree_model.specs.declared.hops.Hop.{Hop}
 use Rattle.tree_routing.specs.declared.known.Known.{Known}
 use Rattle.tree_routing.specs.Answers.{IsUpTo}
 use Rattle.tree_routing.specs.Marks.{AreBelow}

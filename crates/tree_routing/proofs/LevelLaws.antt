@@ -5,21 +5,21 @@ use Rattle.std.proofs.lemmas.Bool.Decides.{nat_tests}
 use Rattle.rsvp_base.proofs.Fronts.{got_in}
 use Rattle.rsvp_base.specs.Members.{In}
 use Rattle.rsvp_base.specs.declared.addr.Addr.{Addr}
-use Rattle.tree_laws.specs.declared.hops.End.{End}
-use Rattle.tree_laws.specs.declared.hops.Hop.{Hop}
-use Rattle.tree_laws.specs.declared.hops.TreeHop.{TreeHop}
-use Rattle.tree_laws.specs.Networks.{Net, node_of}
-use Rattle.tree_laws.specs.Trees.{of_group, tree, hops_of}
-use Rattle.tree_laws.specs.Chains.{largest, height}
-use Rattle.tree_laws.specs.Ranks.{Follows, followers, rank, rank_of, longest}
-use Rattle.tree_laws.specs.Valid.{IsValid}
+use Rattle.tree_model.specs.declared.hops.End.{End}
+use Rattle.tree_model.specs.declared.hops.Hop.{Hop}
+use Rattle.tree_model.specs.declared.hops.TreeHop.{TreeHop}
+use Rattle.tree_model.specs.Networks.{Net, node_of}
+use Rattle.tree_model.specs.Trees.{of_group, tree, hops_of}
+use Rattle.tree_model.specs.Chains.{largest, height}
+use Rattle.tree_model.specs.Ranks.{Follows, followers, rank, rank_of, longest}
+use Rattle.tree_model.specs.Valid.{IsValid}
 use Rattle.std.specs.List.{filter}
 use Rattle.std.proofs.lemmas.List.{length-map}
 use Rattle.rsvp_base.proofs.Lists.{length_filter}
-use Rattle.tree_laws.proofs.Following.{follower_follows, follower_of_group}
-use Rattle.tree_laws.proofs.Heights.{largest_is, height_le, height_enough}
-use Rattle.tree_laws.proofs.RankLaws.{rank_of_hop, rank_some, rank_falls_at}
-use Rattle.tree_laws.proofs.TreeLaws.{one}
+use Rattle.tree_model.proofs.Following.{follower_follows, follower_of_group}
+use Rattle.tree_model.proofs.Heights.{largest_is, height_le, height_enough}
+use Rattle.tree_model.proofs.RankLaws.{rank_of_hop, rank_some, rank_falls_at}
+use Rattle.tree_model.proofs.TreeLaws.{one}
 use Rattle.tree_routing.specs.declared.known.Known.{Known}
 use Rattle.tree_routing.specs.declared.link.Link.{Link}
 use Rattle.tree_routing.specs.Known.{plain, net_of, is_pair, vertex_at, AreKnown}

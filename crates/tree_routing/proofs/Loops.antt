@@ -4,17 +4,17 @@ use Rattle.std.proofs.Common.{sym, ap, subst, ◌∙◌, inl, inr, ⊎_elim, ari
 use Rattle.rsvp_base.specs.Members.{In}
 use Rattle.rsvp_base.specs.declared.addr.Addr.{Addr}
 use Rattle.rsvp_base.proofs.Members.{in_each, to_each, in_append, in_left, in_right}
-use Rattle.tree_laws.specs.declared.hops.End.{End}
-use Rattle.tree_laws.specs.declared.hops.Hop.{Hop}
-use Rattle.tree_laws.specs.declared.hops.TreeHop.{TreeHop}
-use Rattle.tree_laws.specs.Networks.{Net, node_of}
-use Rattle.tree_laws.specs.Trees.{tree, hops_of}
-use Rattle.tree_laws.specs.Chains.{last_of, Chain}
-use Rattle.tree_laws.specs.Ranks.{Follows, followers, IsLoopFreeIn, IsOnLoop, rank}
-use Rattle.tree_laws.specs.Valid.{IsValid}
-use Rattle.tree_laws.proofs.Following.{in_tree, to_tree, in_group, to_group, tree_group, follower_follows, follows_follower}
-use Rattle.tree_laws.proofs.TreeLaws.{Leads, from_leads, reached_told, reached_tested, true_false, one}
-use Rattle.tree_laws.proofs.RankLaws.{rank_falls_at}
+use Rattle.tree_model.specs.declared.hops.End.{End}
+use Rattle.tree_model.specs.declared.hops.Hop.{Hop}
+use Rattle.tree_model.specs.declared.hops.TreeHop.{TreeHop}
+use Rattle.tree_model.specs.Networks.{Net, node_of}
+use Rattle.tree_model.specs.Trees.{tree, hops_of}
+use Rattle.tree_model.specs.Chains.{last_of, Chain}
+use Rattle.tree_model.specs.Ranks.{Follows, followers, IsLoopFreeIn, IsOnLoop, rank}
+use Rattle.tree_model.specs.Valid.{IsValid}
+use Rattle.tree_model.proofs.Following.{in_tree, to_tree, in_group, to_group, tree_group, follower_follows, follows_follower}
+use Rattle.tree_model.proofs.TreeLaws.{Leads, from_leads, reached_told, reached_tested, true_false, one}
+use Rattle.tree_model.proofs.RankLaws.{rank_falls_at}
 use Rattle.tree_routing.specs.declared.known.Known.{Known}
 use Rattle.tree_routing.specs.declared.link.Link.{Link}
 use Rattle.tree_routing.specs.Known.{plain, net_of, is_pair, vertex_at, vertex_before, AreKnown}

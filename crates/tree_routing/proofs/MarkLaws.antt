@@ -4,7 +4,7 @@ use Rattle.std.proofs.Common.{zero, suc, sym, ap, subst, ◌∙◌, inl, inr, �
 use Rattle.rsvp_base.specs.Members.{In}
 use Rattle.rsvp_base.proofs.SetLaws.{or_either, and_both}
 use Rattle.rsvp_base.proofs.Tables.{either}
-use Rattle.tree_laws.specs.Chains.{last_of}
+use Rattle.tree_model.specs.Chains.{last_of}
 use Rattle.tree_routing.specs.declared.known.Known.{Known}
 use Rattle.tree_routing.specs.Walks.{Steps, Walk, Edge, Leads}
 use Rattle.tree_routing.specs.Marks.{marked, unmarked, moves_along, along, pass, moves, passes, off, bit, IsReach}

@@ -9,16 +9,16 @@ use Rattle.rsvp_base.specs.declared.addr.Addr.{Addr}
 use Rattle.rsvp_base.proofs.Members.{in_append, in_filter}
 use Rattle.rsvp_base.proofs.SetLaws.{and_both}
 use Rattle.rsvp_base.proofs.Tables.{either}
-use Rattle.tree_laws.specs.declared.hops.End.{End}
-use Rattle.tree_laws.specs.declared.hops.Hop.{Hop}
-use Rattle.tree_laws.specs.declared.hops.TreeHop.{TreeHop}
-use Rattle.tree_laws.specs.Networks.{Net, node_of, node_of_end, ends_from, ends_of, owner, among, link_of, peers}
-use Rattle.tree_laws.specs.Trees.{of_group, of_tree, tree, hops_of, is_linked, Grows, IsGrownFrom, IsGrown}
-use Rattle.tree_laws.specs.Ranks.{followers, IsLoopFree, IsLoopFreeIn}
-use Rattle.tree_laws.specs.Valid.{AreRising, IsValid}
-use Rattle.tree_laws.proofs.Following.{same_number, number_same, addr_same, in_tree, to_tree, in_group, to_group, follower_follows, follows_follower}
-use Rattle.tree_laws.proofs.TreeLaws.{Leads, from_leads, reached_told, reached_tested, true_false}
-use Rattle.tree_laws.proofs.Links.{among_in, in_among, of_own_link, linked_from}
+use Rattle.tree_model.specs.declared.hops.End.{End}
+use Rattle.tree_model.specs.declared.hops.Hop.{Hop}
+use Rattle.tree_model.specs.declared.hops.TreeHop.{TreeHop}
+use Rattle.tree_model.specs.Networks.{Net, node_of, node_of_end, ends_from, ends_of, owner, among, link_of, peers}
+use Rattle.tree_model.specs.Trees.{of_group, of_tree, tree, hops_of, is_linked, Grows, IsGrownFrom, IsGrown}
+use Rattle.tree_model.specs.Ranks.{followers, IsLoopFree, IsLoopFreeIn}
+use Rattle.tree_model.specs.Valid.{AreRising, IsValid}
+use Rattle.tree_model.proofs.Following.{same_number, number_same, addr_same, in_tree, to_tree, in_group, to_group, follower_follows, follows_follower}
+use Rattle.tree_model.proofs.TreeLaws.{Leads, from_leads, reached_told, reached_tested, true_false}
+use Rattle.tree_model.proofs.Links.{among_in, in_among, of_own_link, linked_from}
 use Rattle.tree_routing.specs.declared.known.Known.{Known}
 use Rattle.tree_routing.specs.declared.link.Link.{Link}
 use Rattle.tree_routing.specs.Known.{plain, link_ends, net_of, is_pair, vertex_at, comes_to, vertex_before, IsKnown, AreKnown}

@@ -6,13 +6,13 @@ use Rattle.rsvp_base.specs.declared.addr.Addr.{Addr}
 use Rattle.rsvp_base.proofs.Members.{in_each, to_each}
 use Rattle.rsvp_base.proofs.SetLaws.{and_both, and_made}
 use Rattle.rsvp_base.proofs.Tables.{either}
-use Rattle.tree_laws.specs.declared.hops.End.{End}
-use Rattle.tree_laws.specs.declared.hops.Hop.{Hop}
-use Rattle.tree_laws.specs.declared.hops.TreeHop.{TreeHop}
-use Rattle.tree_laws.specs.Networks.{node_of}
-use Rattle.tree_laws.specs.Trees.{of_group, of_tree, tree, hops_of}
-use Rattle.tree_laws.specs.Ranks.{same_hop}
-use Rattle.tree_laws.proofs.Following.{same_number, number_same, hop_same, same_itself, addr_same, addr_itself, in_tree, to_tree, in_group, to_group}
+use Rattle.tree_model.specs.declared.hops.End.{End}
+use Rattle.tree_model.specs.declared.hops.Hop.{Hop}
+use Rattle.tree_model.specs.declared.hops.TreeHop.{TreeHop}
+use Rattle.tree_model.specs.Networks.{node_of}
+use Rattle.tree_model.specs.Trees.{of_group, of_tree, tree, hops_of}
+use Rattle.tree_model.specs.Ranks.{same_hop}
+use Rattle.tree_model.proofs.Following.{same_number, number_same, hop_same, same_itself, addr_same, addr_itself, in_tree, to_tree, in_group, to_group}
 use Rattle.tree_routing.specs.declared.known.Known.{Known}
 use Rattle.tree_routing.specs.Known.{first_place, plain, is_pair, vertex_at, comes_to, vertex_before, AreKnown}
 

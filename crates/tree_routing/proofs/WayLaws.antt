@@ -8,16 +8,16 @@ use Rattle.std.proofs.lemmas.Nat.Bits.{bit_at_set_same, bit_at_set_other, bit_at
 use Rattle.rsvp_base.specs.Members.{In}
 use Rattle.rsvp_base.specs.declared.addr.Addr.{Addr}
 use Rattle.rsvp_base.proofs.Members.{in_append, in_each, to_each, in_filter, in_left, in_right}
-use Rattle.tree_laws.specs.declared.hops.End.{End}
-use Rattle.tree_laws.specs.declared.hops.Hop.{Hop}
-use Rattle.tree_laws.specs.declared.hops.TreeHop.{TreeHop}
-use Rattle.tree_laws.specs.Networks.{Net, node_of, ends_from, ends_of, iface_of, among, link_of}
-use Rattle.tree_laws.specs.Trees.{of_tree, tree, first_by, goes_into, end_into, inward, sends_alone}
-use Rattle.tree_laws.specs.Valid.{IsValid}
-use Rattle.tree_laws.proofs.Following.{same_number, number_same, to_tree}
-use Rattle.tree_laws.proofs.TreeLaws.{out_told, out_tested, way_in_told, way_in_tested, first_told, first_none, none_first}
-use Rattle.tree_laws.proofs.Ifaces.{interfaces_are_ends}
-use Rattle.tree_laws.proofs.Links.{linked_from}
+use Rattle.tree_model.specs.declared.hops.End.{End}
+use Rattle.tree_model.specs.declared.hops.Hop.{Hop}
+use Rattle.tree_model.specs.declared.hops.TreeHop.{TreeHop}
+use Rattle.tree_model.specs.Networks.{Net, node_of, ends_from, ends_of, iface_of, among, link_of}
+use Rattle.tree_model.specs.Trees.{of_tree, tree, first_by, goes_into, end_into, inward, sends_alone}
+use Rattle.tree_model.specs.Valid.{IsValid}
+use Rattle.tree_model.proofs.Following.{same_number, number_same, to_tree}
+use Rattle.tree_model.proofs.TreeLaws.{out_told, out_tested, way_in_told, way_in_tested, first_told, first_none, none_first}
+use Rattle.tree_model.proofs.Ifaces.{interfaces_are_ends}
+use Rattle.tree_model.proofs.Links.{linked_from}
 use Rattle.tree_routing.specs.Routes.{AreInOrder, LeavesBy, IsWayOf, IsWay}
 use Rattle.tree_routing.proofs.HopLaws.{from_order, tree_from_order, tree_to_order}
 use Rattle.tree_routing.proofs.LeastLaws.{take_one_more, at_in}

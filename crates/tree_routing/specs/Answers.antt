@@ -1,12 +1,12 @@
 -- What a topology answers for a hop.
 use Rattle.std.specs.Prelude.{◌≡◌, ◌⊎◌, ℕ, ◌+◌, nat_lt, if◌then◌else◌, ◌<◌, ◌≤◌, List, [], ◌∷◌, ◌++◌, Result, Ok, Err, length, None}
 use Rattle.rsvp_base.specs.declared.addr.Addr.{Addr}
-use Rattle.tree_laws.specs.declared.hops.End.{End}
-use Rattle.tree_laws.specs.declared.hops.Hop.{Hop}
-use Rattle.tree_laws.specs.declared.hops.TreeHop.{TreeHop}
-use Rattle.tree_laws.specs.Networks.{Net, node_of, ends_of, owner, link_of}
-use Rattle.tree_laws.specs.Trees.{tree, Grows}
-use Rattle.tree_laws.specs.Ranks.{IsLoopFreeIn, IsOnLoop}
+use Rattle.tree_model.specs.declared.hops.End.{End}
+use Rattle.tree_model.specs.declared.hops.Hop.{Hop}
+use Rattle.tree_model.specs.declared.hops.TreeHop.{TreeHop}
+use Rattle.tree_model.specs.Networks.{Net, node_of, ends_of, owner, link_of}
+use Rattle.tree_model.specs.Trees.{tree, Grows}
+use Rattle.tree_model.specs.Ranks.{IsLoopFreeIn, IsOnLoop}
 use Rattle.tree_routing.specs.declared.hop_err.HopErr.{HopErr}
 use Rattle.tree_routing.specs.declared.hop_err.HopErr.TheVariants.{NotTree, Loop, NoMemory}
 

@@ -1,7 +1,7 @@
 -- The loop check, over the graph of a topology.
 use Rattle.std.specs.Prelude.{◌≡◌, ◌⊎◌, ℕ, List, Result, Ok, Err, Some}
 use Rattle.rsvp_base.specs.Members.{In}
-use Rattle.tree_laws.specs.declared.hops.Hop.{Hop}
+use Rattle.tree_model.specs.declared.hops.Hop.{Hop}
 use Rattle.tree_routing.specs.declared.known.Known.{Known}
 use Rattle.tree_routing.specs.declared.hop_err.HopErr.{HopErr}
 use Rattle.tree_routing.specs.declared.hop_err.HopErr.TheVariants.{NotTree, Loop, NoMemory}

@@ -1,6 +1,6 @@
 -- Levels of vertices, lifted along edges: how long a chain from each is, at least.
 use Rattle.std.specs.Prelude.{ℕ, ◌+◌, zero, suc, Bool, false, ◌&&◌, nat_le, nat_lt, List, [], ◌∷◌, length, map as each, replicate, Option, None, Some, slice_index, slice_set, if◌then◌else◌}
-use Rattle.tree_laws.specs.Chains.{largest}
+use Rattle.tree_model.specs.Chains.{largest}
 use Rattle.tree_routing.specs.declared.known.Known.{Known}
 
 abbrev pub level : List ℕ → ℕ → ℕ

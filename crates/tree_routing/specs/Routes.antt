@@ -7,10 +7,10 @@ use Rattle.rsvp_base.specs.Orders.{addrs}
 use Rattle.rsvp_base.specs.Rows.{AreRows, table_of}
 use Rattle.rsvp_base.specs.Sets.{set_of, with_key}
 use Rattle.rsvp_base.specs.declared.addr.Addr.{Addr}
-use Rattle.tree_laws.specs.declared.hops.End.{End}
-use Rattle.tree_laws.specs.declared.hops.TreeHop.{TreeHop}
-use Rattle.tree_laws.specs.Networks.{Net, iface_of}
-use Rattle.tree_laws.specs.Trees.{tree_keys, key_of, goes_out_of, iface_in, inward, outward}
+use Rattle.tree_model.specs.declared.hops.End.{End}
+use Rattle.tree_model.specs.declared.hops.TreeHop.{TreeHop}
+use Rattle.tree_model.specs.Networks.{Net, iface_of}
+use Rattle.tree_model.specs.Trees.{tree_keys, key_of, goes_out_of, iface_in, inward, outward}
 
 -- the interface by which the tree comes into a node
 abbrev pub inward_iface : Net → ℕ → Addr → Addr → Option ℕ

@@ -1,7 +1,7 @@
 -- Walks: of any things, by which step may follow; and along the edges of a topology's graph.
 use Rattle.std.specs.Prelude.{◌≡◌, ℕ, List, [], ◌∷◌, Some}
 use Rattle.rsvp_base.specs.Members.{In}
-use Rattle.tree_laws.specs.Chains.{last_of}
+use Rattle.tree_model.specs.Chains.{last_of}
 use Rattle.tree_routing.specs.declared.known.Known.{Known}
 
 -- each is a step from the one before

@@ -1,15 +1,15 @@
 //! Questions to lists of ends, links and hops.
 ghost use Rattle.std.specs.Prelude.{◌≡◌, ◌↔◌, ◌≤◌, [], length, map, IsTrue};
 ghost use Rattle.std.specs.List.{list_all, list_any};
-ghost use Rattle.tree_laws.specs.Networks.{node_of, owner, among, link_of};
-ghost use Rattle.tree_laws.specs.Trees.{of_tree, tree, is_linked, is_reached, sends_alone, goes_into};
+ghost use Rattle.tree_model.specs.Networks.{node_of, owner, among, link_of};
+ghost use Rattle.tree_model.specs.Trees.{of_tree, tree, is_linked, is_reached, sends_alone, goes_into};
 ghost use Rattle.tree_routing.specs.Known.{plain, link_ends, is_pair, vertex_at, comes_to, vertex_before};
 ghost use Rattle.tree_routing.specs.Found.{ends_found, leaves_link};
 
 use crate::known::Known;
 use crate::link::Link;
 use rsvp_base::Addr;
-use tree_laws::{End, Hop, TreeHop};
+use tree_model::{End, Hop, TreeHop};
 
 /// The node of an end; 0 where there is no such end.
 pub(crate) fn node_of(ends: &[End], end: u16) -> u16

@@ -1,6 +1,6 @@
 //! Hops of groups.
 use rsvp_base::Addr;
-use tree_laws::Hop;
+use tree_model::Hop;
 
 /// A hop of a group, in however many of its trees it stands.
 #[derive(Clone, Copy, Debug, PartialEq, Eq)]

@@ -3,7 +3,7 @@ ghost use Rattle.std.specs.Prelude.{◌≡◌, ◌↔◌, ◌<◌, ◌≤◌, le
 ghost use Rattle.rsvp_base.specs.Rows.{AreRows, HasRowAt, LacksRowAt};
 ghost use Rattle.rsvp_base.specs.Sets.{listed};
 ghost use Rattle.tree_routing.specs.Known.{plain};
-ghost use Rattle.tree_laws.specs.Trees.{tree_keys, key_of, trees_of};
+ghost use Rattle.tree_model.specs.Trees.{tree_keys, key_of, trees_of};
 ghost use Rattle.tree_routing.specs.Routes.{as_row, IsWithTree};
 
 use crate::known::Known;

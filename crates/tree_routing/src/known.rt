@@ -1,5 +1,5 @@
 //! What a topology keeps of a hop.
-use tree_laws::TreeHop;
+use tree_model::TreeHop;
 
 /// A hop of a tree, and where it stands in the graph of its group. A hop is one vertex there, in however many trees it
 /// stands, and an edge leads to it from the hop before it in each of them.

@@ -9,7 +9,7 @@ use crate::known::Known;
 use crate::marks::leads;
 use rsvp_base::NoMemory;
 use std::alloc::Global;
-use tree_laws::Hop;
+use tree_model::Hop;
 
 // Whether the first hop comes before the second or is it: by the end that they go out of, then by the other.
 fn is_up_to(a: Hop, b: Hop) -> bool

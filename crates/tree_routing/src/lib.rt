@@ -3,7 +3,7 @@
 //!
 //! `Topology` takes nodes, link ends, links and hops one by one. A hop is refused exactly where its tree cannot grow by it,
 //! or where it would close a chain of its group; a refusal changes nothing. `Routing` is a topology that is closed, and
-//! answers where a tree comes into a node and leaves it. What is said of both stands in `tree_laws`.
+//! answers where a tree comes into a node and leaves it. What is said of both stands in `tree_model`.
 #![tactic(auto)]
 
 mod ask;
@@ -27,4 +27,4 @@ pub use group_hop::GroupHop;
 pub use hop_err::HopErr;
 pub use routing::Routing;
 pub use topology::Topology;
-pub use tree_laws::{End, Hop, TreeHop};
+pub use tree_model::{End, Hop, TreeHop};

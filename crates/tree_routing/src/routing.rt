@@ -3,12 +3,12 @@ ghost use Rattle.std.specs.Prelude.{◌≡◌, ◌↔◌, ◌==◌, not, ℕ, []
 ghost use Rattle.std.specs.List.{filter};
 ghost use Rattle.tree_routing.specs.Known.{link_ends};
 ghost use Rattle.std.specs.Int.{bit_at};
-ghost use Rattle.tree_laws.specs.Networks.{node_of, peers};
-ghost use Rattle.tree_laws.specs.Ranks.{has_hop, longest};
-ghost use Rattle.tree_laws.specs.Trees.{tree};
+ghost use Rattle.tree_model.specs.Networks.{node_of, peers};
+ghost use Rattle.tree_model.specs.Ranks.{has_hop, longest};
+ghost use Rattle.tree_model.specs.Trees.{tree};
 ghost use Rattle.tree_routing.specs.Order.{AreByRank};
 ghost use Rattle.tree_routing.specs.Routes.{inward_iface, LeavesBy};
-ghost use Rattle.tree_laws.specs.Trees.{trees_of};
+ghost use Rattle.tree_model.specs.Trees.{trees_of};
 
 use crate::ask::{link_of, node_of};
 use crate::group_hop::GroupHop;
@@ -18,7 +18,7 @@ use crate::link::Link;
 use crate::ways::{hop_into, iface_of, ways_out};
 use rsvp_base::Addr;
 use std::marker::Model;
-use tree_laws::{End, Hop, TreeHop};
+use tree_model::{End, Hop, TreeHop};
 
 /// A network whose topology is closed: where each tree comes into a node and leaves it. Contracts see the network, which is
 /// valid: within its limits, its trees grown hop by hop, and without a closed chain. No call takes memory.
@@ -40,14 +40,14 @@ pub struct Routing {
 
 impl Model for Routing {
     ghost use Rattle.std.specs.Prelude.{◌≡◌};
-    ghost use Rattle.tree_laws.specs.Networks.{Net};
-    ghost use Rattle.tree_laws.specs.Codes.{net_code};
-    ghost use Rattle.tree_laws.specs.Ranks.{longest};
-    ghost use Rattle.tree_laws.specs.Valid.{IsValid};
+    ghost use Rattle.tree_model.specs.Networks.{Net};
+    ghost use Rattle.tree_model.specs.Codes.{net_code};
+    ghost use Rattle.tree_model.specs.Ranks.{longest};
+    ghost use Rattle.tree_model.specs.Valid.{IsValid};
     ghost use Rattle.tree_routing.specs.Known.{plain, net_of};
     ghost use Rattle.tree_routing.specs.Order.{AreByRank};
     ghost use Rattle.tree_routing.specs.Routes.{AreInOrder};
-    ghost use Rattle.tree_laws.specs.Trees.{trees_of};
+    ghost use Rattle.tree_model.specs.Trees.{trees_of};
 
     ghost Value = { Net };
 
@@ -59,7 +59,7 @@ impl Model for Routing {
 }
 
 impl Routing {
-    ghost use Rattle.tree_laws.specs.Valid.{IsValid};
+    ghost use Rattle.tree_model.specs.Valid.{IsValid};
 
     /// How many nodes were added.
     pub fn nodes(&self) -> u16

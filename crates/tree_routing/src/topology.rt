@@ -1,7 +1,7 @@
 //! The topology of a network, as it is put together.
 ghost use Rattle.std.specs.Prelude.{◌≡◌, ◌↔◌, ◌<◌, ◌≤◌, ◌+◌, length, map, [], ◌∷◌, ◌++◌, IsTrue, IfOk, OnOk, OnErr};
-ghost use Rattle.tree_laws.specs.declared.hops.TreeHop.{TreeHop};
-ghost use Rattle.tree_laws.specs.Networks.{Net, node_of, ends_of, link_of};
+ghost use Rattle.tree_model.specs.declared.hops.TreeHop.{TreeHop};
+ghost use Rattle.tree_model.specs.Networks.{Net, node_of, ends_of, link_of};
 ghost use Rattle.tree_routing.specs.Known.{net_of, vertex_at, vertex_before, link_ends};
 ghost use Rattle.tree_routing.specs.Answers.{no_net, TakesEnd, TakesLink, with_node, with_end, with_link, in_order, with_hop, Fits, HopAnswer};
 
@@ -21,7 +21,7 @@ use crate::ways::count_of;
 use rsvp_base::{Addr, NoMemory};
 use std::alloc::Global;
 use std::marker::Model;
-use tree_laws::{End, Hop, TreeHop};
+use tree_model::{End, Hop, TreeHop};
 
 /// A network that is put together: nodes, link ends, links, and for each group and source address the hops of a tree. Nodes
 /// and ends are numbered from 0 in the order in which they are added. Contracts see the network; it is valid at every
@@ -36,9 +36,9 @@ pub struct Topology {
 }
 
 impl Model for Topology {
-    ghost use Rattle.tree_laws.specs.Networks.{Net};
-    ghost use Rattle.tree_laws.specs.Codes.{net_code};
-    ghost use Rattle.tree_laws.specs.Valid.{IsValid};
+    ghost use Rattle.tree_model.specs.Networks.{Net};
+    ghost use Rattle.tree_model.specs.Codes.{net_code};
+    ghost use Rattle.tree_model.specs.Valid.{IsValid};
     ghost use Rattle.tree_routing.specs.Known.{net_of, AreKnown};
 
     ghost Value = { Net };

@@ -1,14 +1,14 @@
 //! Where a tree comes into a node and leaves it.
 ghost use Rattle.std.specs.Prelude.{◌≡◌, ◌↔◌, ◌⊎◌, ◌<◌, ◌≤◌, ℕ, length, map};
 ghost use Rattle.std.specs.Int.{bit_at};
-ghost use Rattle.tree_laws.specs.Networks.{iface_of, ends_of};
-ghost use Rattle.tree_laws.specs.Trees.{first_by, goes_into, end_into};
+ghost use Rattle.tree_model.specs.Networks.{iface_of, ends_of};
+ghost use Rattle.tree_model.specs.Trees.{first_by, goes_into, end_into};
 ghost use Rattle.rsvp_base.specs.Members.{In};
-ghost use Rattle.tree_laws.specs.declared.hops.TreeHop.{TreeHop};
+ghost use Rattle.tree_model.specs.declared.hops.TreeHop.{TreeHop};
 ghost use Rattle.tree_routing.specs.Routes.{IsWayOf, IsWay};
 
 use crate::ask::node_of;
-use tree_laws::{End, TreeHop};
+use tree_model::{End, TreeHop};
 
 /// The end by which the first of these hops that goes into the node does so.
 pub(crate) fn hop_into(ends: &[End], hops: &[TreeHop], node: u16) -> Option<u16>

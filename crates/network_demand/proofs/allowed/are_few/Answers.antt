@@ -1,6 +1,6 @@
 use Rattle.std.proofs.Common.{List, get_or, refl, subst, arith}
 use Rattle.std.specs.List.{All}
-use Rattle.demand_laws.specs.declared.locals.LocalSender.{LocalSender}
+use Rattle.tree_model.specs.declared.locals.LocalSender.{LocalSender}
 use Rattle.network_demand.specs.Demands.{few_of}
 use Rattle.network_demand.proofs.SessionLists.{all_more, taken_all}
 use Rattle.network_demand.proofs.allowed.are_few.Goals as goal

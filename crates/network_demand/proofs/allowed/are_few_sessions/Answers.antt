@@ -1,6 +1,6 @@
 use Rattle.std.proofs.Common.{◌≡◌, List, map, true, false, refl, subst, sym}
 use Rattle.rsvp_base.specs.Members.{In}
-use Rattle.demand_laws.specs.declared.locals.LocalWant.{LocalWant}
+use Rattle.tree_model.specs.declared.locals.LocalWant.{LocalWant}
 use Rattle.network_demand.proofs.SessionLists.{few_told, many_told, named_before, named_there, one_more_of, taken_all}
 use Rattle.network_demand.proofs.allowed.are_few_sessions.Goals as goal
 

@@ -1,6 +1,6 @@
 use Rattle.std.proofs.Common.{◌≡◌, ◌+◌, ◌≤◌, length, drop}
 use Rattle.std.specs.List.{filter}
-use Rattle.demand_laws.specs.Wants.{of_session}
+use Rattle.tree_model.specs.Wants.{of_session}
 use Rattle.network_demand.proofs.allowed.count.Given as goal
 
 -- those so far and of the rest are all

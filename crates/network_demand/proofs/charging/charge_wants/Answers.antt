@@ -2,7 +2,7 @@ use Rattle.std.proofs.Common.{◌≡◌, ◌∙◌, ◌++◌, List, length, take
 use Rattle.std.proofs.Math.Seq.{take-length}
 use Rattle.rsvp_base.specs.Members.{In}
 use Rattle.style_rules.specs.Lines.{Line}
-use Rattle.demand_laws.specs.Goals.{addr_of}
+use Rattle.tree_model.specs.Goals.{addr_of}
 use Rattle.network_demand.specs.declared.hop_want.HopWant.{HopWant}
 use Rattle.network_demand.specs.Books.{HaveLines, wants_lines}
 use Rattle.network_demand.proofs.BookLaws.{wants_more, only_one}

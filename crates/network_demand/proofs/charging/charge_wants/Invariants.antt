@@ -5,7 +5,7 @@ use Rattle.rsvp_base.specs.Members.{In}
 use Rattle.rsvp_base.specs.Orders.{Names}
 use Rattle.rsvp_base.specs.Sets.{IsWithin}
 use Rattle.style_rules.specs.Lines.{Line}
-use Rattle.tree_laws.specs.Networks.{Net}
+use Rattle.tree_model.specs.Networks.{Net}
 use Rattle.network_demand.specs.declared.hop_want.HopWant.{HopWant}
 use Rattle.network_demand.specs.Books.{HaveLines, NameOnly, wants_lines}
 use Rattle.network_demand.proofs.charging.charge_wants.Given as goal

@@ -2,7 +2,7 @@ use Rattle.std.proofs.Common.{◌≡◌, ◌++◌, ◌∷◌, [], ◌∙◌, Lis
 use Rattle.std.proofs.lemmas.Grind.{common_steps}
 use Rattle.rsvp_base.specs.Members.{In}
 use Rattle.rsvp_base.specs.declared.session.Session.{Session}
-use Rattle.tree_laws.specs.Chains.{NoRepeats}
+use Rattle.tree_model.specs.Chains.{NoRepeats}
 use Rattle.network_demand.proofs.SessionLists.{among_already, once_push}
 use Rattle.network_demand.proofs.ends.add_session.Goals as goal
 

@@ -8,7 +8,7 @@ use Rattle.network_demand.specs.Books.{HaveLines, HasRoom, AreInside, wants_line
 use Rattle.network_demand.specs.Demands.{style_lines}
 use Rattle.network_demand.specs.Steps.{hop_wants}
 use Rattle.rsvp_base.proofs.Tables.{either}
-use Rattle.tree_laws.specs.Networks.{node_of}
+use Rattle.tree_model.specs.Networks.{node_of}
 use Rattle.rsvp_base.specs.Members.{In}
 use Rattle.network_demand.specs.Fits.{taken_at, room_at}
 use Rattle.network_demand.proofs.FitLaws.{wants_inside}

@@ -4,9 +4,9 @@ use Rattle.rsvp_base.specs.Members.{In}
 use Rattle.rsvp_base.specs.declared.session.Session.{Session}
 use Rattle.rsvp_base.specs.declared.style.StyleKind.TheVariants.{Wild, Fixed, Shared}
 use Rattle.rsvp_base.proofs.Members.{to_each}
-use Rattle.demand_laws.specs.declared.locals.LocalWant.{LocalWant}
+use Rattle.tree_model.specs.declared.locals.LocalWant.{LocalWant}
 use Rattle.style_rules.specs.Lines.{BookTable}
-use Rattle.tree_laws.specs.declared.hops.End.{End}
+use Rattle.tree_model.specs.declared.hops.End.{End}
 use Rattle.network_demand.specs.Asked.{locals_of}
 use Rattle.network_demand.specs.Books.{HaveLines}
 use Rattle.network_demand.specs.Demands.{style_lines}

@@ -1,7 +1,7 @@
 use Rattle.std.proofs.Common.{◌↔◌, List, map, subst}
 use Rattle.rsvp_base.specs.Members.{In}
 use Rattle.rsvp_base.specs.declared.session.Session.{Session}
-use Rattle.demand_laws.specs.declared.locals.LocalWant.{LocalWant}
+use Rattle.tree_model.specs.declared.locals.LocalWant.{LocalWant}
 use Rattle.network_demand.proofs.SessionLists.{one_more_of, taken_all}
 use Rattle.network_demand.proofs.ends.sessions_of.Goals as goal
 

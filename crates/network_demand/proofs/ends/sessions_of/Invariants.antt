@@ -1,7 +1,7 @@
 use Rattle.std.proofs.Common.{◌↔◌, map, take}
 use Rattle.rsvp_base.specs.Members.{In}
 use Rattle.rsvp_base.specs.declared.session.Session.{Session}
-use Rattle.tree_laws.specs.Chains.{NoRepeats}
+use Rattle.tree_model.specs.Chains.{NoRepeats}
 use Rattle.network_demand.proofs.ends.sessions_of.Given as goal
 
 -- the sessions of the wants so far, each once

@@ -1,5 +1,5 @@
 use Rattle.std.proofs.Common.{◌≡◌, ◌<◌, ℕ, Some, slice_get}
-use Rattle.tree_laws.specs.declared.hops.End.{End}
+use Rattle.tree_model.specs.declared.hops.End.{End}
 use Rattle.network_demand.specs.Books.{book_at}
 use Rattle.network_demand.specs.Fits.{IsCarried}
 use Rattle.network_demand.proofs.fits.are_carried.Given as goal

@@ -1,6 +1,6 @@
 use Rattle.std.proofs.Common.{◌≡◌, ◌++◌, map, drop}
 use Rattle.std.specs.List.{filter}
-use Rattle.demand_laws.specs.Wants.{of_session}
+use Rattle.tree_model.specs.Wants.{of_session}
 use Rattle.network_demand.proofs.locals.live.Given as goal
 
 -- those so far and of the rest are all

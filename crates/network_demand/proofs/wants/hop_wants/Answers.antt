@@ -2,11 +2,11 @@ use Rattle.std.proofs.Common.{◌≡◌, ◌∙◌, ◌<◌, ◌∷◌, [], ◌+
 use Rattle.std.specs.List.{filter}
 use Rattle.std.proofs.lemmas.Grind.{common_steps}
 use Rattle.rsvp_base.specs.declared.session.Sender.{Sender}
-use Rattle.demand_laws.specs.declared.locals.LocalSender.{LocalSender}
-use Rattle.demand_laws.specs.Wants.{of_session, live}
+use Rattle.tree_model.specs.declared.locals.LocalSender.{LocalSender}
+use Rattle.tree_model.specs.Wants.{of_session, live}
 use Rattle.style_rules.specs.Merge.{merge}
-use Rattle.tree_laws.specs.Networks.{node_of}
-use Rattle.tree_laws.proofs.Following.{number_same}
+use Rattle.tree_model.specs.Networks.{node_of}
+use Rattle.tree_model.proofs.Following.{number_same}
 use Rattle.tree_routing.specs.declared.group_hop.GroupHop.{GroupHop}
 use Rattle.network_demand.specs.Asked.{locals_of}
 use Rattle.network_demand.specs.Steps.{cuts, at_node, names_among}

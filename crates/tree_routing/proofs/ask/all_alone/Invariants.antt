@@ -1,6 +1,6 @@
 use Rattle.std.proofs.Common.{◌≡◌, drop}
 use Rattle.std.specs.List.{list_all}
-use Rattle.tree_laws.specs.Trees.{tree}
+use Rattle.tree_model.specs.Trees.{tree}
 use Rattle.tree_routing.specs.Known.{plain, link_ends}
 use Rattle.tree_routing.specs.Found.{leaves_link}
 use Rattle.tree_routing.proofs.ask.all_alone.Given as goal

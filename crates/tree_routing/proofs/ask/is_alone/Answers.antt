@@ -1,5 +1,5 @@
 use Rattle.std.proofs.Common.{sym, map as each}
-use Rattle.tree_laws.specs.Trees.{tree}
+use Rattle.tree_model.specs.Trees.{tree}
 use Rattle.tree_routing.specs.Known.{plain, link_ends}
 use Rattle.tree_routing.proofs.WayLaws.{none_on_no_link}
 use Rattle.tree_routing.proofs.ask.is_alone.Goals as goal

@@ -1,6 +1,6 @@
 use Rattle.std.proofs.Common.{◌≡◌, drop}
 use Rattle.std.specs.List.{list_any}
-use Rattle.tree_laws.specs.Trees.{goes_into, tree}
+use Rattle.tree_model.specs.Trees.{goes_into, tree}
 use Rattle.tree_routing.specs.Known.{plain}
 use Rattle.tree_routing.proofs.ask.is_entered.Given as goal
 

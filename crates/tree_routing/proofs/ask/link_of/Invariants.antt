@@ -1,5 +1,5 @@
 use Rattle.std.proofs.Common.{◌≡◌, drop, map as each}
-use Rattle.tree_laws.specs.Networks.{link_of}
+use Rattle.tree_model.specs.Networks.{link_of}
 use Rattle.tree_routing.specs.Known.{link_ends}
 use Rattle.tree_routing.proofs.ask.link_of.Given as goal
 

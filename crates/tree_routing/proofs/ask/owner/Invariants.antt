@@ -1,5 +1,5 @@
 use Rattle.std.proofs.Common.{◌≡◌, drop}
-use Rattle.tree_laws.specs.Networks.{owner}
+use Rattle.tree_model.specs.Networks.{owner}
 use Rattle.tree_routing.proofs.ask.owner.Given as goal
 
 -- the end is among the rest

@@ -1,7 +1,7 @@
 use Rattle.std.proofs.Common.{rules}
 use Rattle.std.proofs.lemmas.Fn.{always_returns_same}
 use Rattle.rsvp_base.proofs.Rows.{searched_found, searched_absent}
-use Rattle.tree_laws.specs.Trees.{tree_keys}
+use Rattle.tree_model.specs.Trees.{tree_keys}
 use Rattle.tree_routing.specs.Routes.{as_row}
 use Rattle.tree_routing.proofs.keys.search.Goals as goal
 

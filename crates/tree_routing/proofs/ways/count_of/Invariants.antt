@@ -1,5 +1,5 @@
 use Rattle.std.proofs.Common.{◌≡◌, ◌+◌, length, drop}
-use Rattle.tree_laws.specs.Networks.{ends_from, ends_of}
+use Rattle.tree_model.specs.Networks.{ends_from, ends_of}
 use Rattle.tree_routing.proofs.ways.count_of.Given as goal
 
 -- those so far and those of the rest are all

@@ -1,5 +1,5 @@
 use Rattle.std.proofs.Common.{◌≡◌, drop, map}
-use Rattle.tree_laws.specs.Trees.{first_by, goes_into, end_into}
+use Rattle.tree_model.specs.Trees.{first_by, goes_into, end_into}
 use Rattle.tree_routing.proofs.ways.hop_into.Given as goal
 
 -- the hop is among the rest

@@ -1,5 +1,5 @@
 use Rattle.std.proofs.Common.{◌≡◌, ◌∙◌, ap, length, take, arith}
-use Rattle.tree_laws.specs.Networks.{ends_of, iface_of}
+use Rattle.tree_model.specs.Networks.{ends_of, iface_of}
 use Rattle.tree_routing.proofs.WayLaws.{few_before, iface_below}
 use Rattle.tree_routing.proofs.ways.iface_of.Goals as goal
 

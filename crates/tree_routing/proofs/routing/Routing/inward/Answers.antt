@@ -1,7 +1,7 @@
 use Rattle.std.proofs.Common.{◌≡◌, ◌∙◌, List, Some, ap, sym}
-use Rattle.tree_laws.specs.declared.hops.End.{End}
-use Rattle.tree_laws.specs.Networks.{Net, iface_of}
-use Rattle.tree_laws.specs.Trees.{iface_in, inward}
+use Rattle.tree_model.specs.declared.hops.End.{End}
+use Rattle.tree_model.specs.Networks.{Net, iface_of}
+use Rattle.tree_model.specs.Trees.{iface_in, inward}
 use Rattle.tree_routing.specs.Known.{net_of}
 use Rattle.tree_routing.proofs.WayLaws.{into_at, into_below}
 use Rattle.tree_routing.proofs.routing.Routing.inward.Goals as goal

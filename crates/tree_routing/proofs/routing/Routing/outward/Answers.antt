@@ -1,7 +1,7 @@
 use Rattle.std.proofs.Common.{◌≡◌, subst}
 use Rattle.std.specs.Prelude.{◌↔◌}
 use Rattle.std.specs.Int.{bit_at}
-use Rattle.tree_laws.specs.Networks.{Net}
+use Rattle.tree_model.specs.Networks.{Net}
 use Rattle.tree_routing.specs.Known.{net_of}
 use Rattle.tree_routing.specs.Routes.{LeavesBy}
 use Rattle.tree_routing.proofs.WayLaws.{from_below, leaves_at}

@@ -1,8 +1,8 @@
 use Rattle.std.proofs.Common.{◌≡◌, ◌++◌, ◌∷◌, [], List, arith, sym, subst}
 use Rattle.std.proofs.lemmas.Grind.{common_steps}
-use Rattle.tree_laws.specs.declared.hops.End.{End}
-use Rattle.tree_laws.specs.Networks.{Net}
-use Rattle.tree_laws.specs.Valid.{IsValid}
+use Rattle.tree_model.specs.declared.hops.End.{End}
+use Rattle.tree_model.specs.Networks.{Net}
+use Rattle.tree_model.specs.Valid.{IsValid}
 use Rattle.tree_routing.specs.Answers.{TakesEnd}
 use Rattle.tree_routing.specs.Known.{net_of, AreKnown}
 use Rattle.tree_routing.proofs.ValidMore.{valid_end, known_end, few_ends_in_all}

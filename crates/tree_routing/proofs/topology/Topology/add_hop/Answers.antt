@@ -1,6 +1,6 @@
 use Rattle.std.proofs.Common.{◌≡◌, ◌++◌, ◌∷◌, [], List, arith, sym, subst, true, Ok, Err}
 use Rattle.std.proofs.lemmas.Grind.{common_steps}
-use Rattle.tree_laws.specs.Valid.{IsValid}
+use Rattle.tree_model.specs.Valid.{IsValid}
 use Rattle.tree_routing.specs.declared.known.Known.{Known}
 use Rattle.tree_routing.specs.Known.{net_of, AreKnown}
 use Rattle.tree_routing.proofs.ValidMore.{below_all, vertex_most, hop_answer, hop_kept}

@@ -1,7 +1,7 @@
 use Rattle.std.proofs.Common.{◌≡◌, ◌++◌, ◌∷◌, [], List, arith, sym, subst}
 use Rattle.std.proofs.lemmas.Grind.{common_steps}
-use Rattle.tree_laws.specs.Networks.{Net}
-use Rattle.tree_laws.specs.Valid.{IsValid}
+use Rattle.tree_model.specs.Networks.{Net}
+use Rattle.tree_model.specs.Valid.{IsValid}
 use Rattle.tree_routing.specs.declared.link.Link.{Link}
 use Rattle.tree_routing.specs.Answers.{TakesLink}
 use Rattle.tree_routing.specs.Known.{net_of}

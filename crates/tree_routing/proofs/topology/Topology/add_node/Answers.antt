@@ -1,5 +1,5 @@
 use Rattle.std.proofs.Common.{◌<◌, sym, subst}
-use Rattle.tree_laws.specs.Networks.{Net}
+use Rattle.tree_model.specs.Networks.{Net}
 use Rattle.tree_routing.specs.Known.{net_of}
 use Rattle.tree_routing.proofs.ValidMore.{valid_node}
 use Rattle.tree_routing.proofs.topology.Topology.add_node.Goals as goal

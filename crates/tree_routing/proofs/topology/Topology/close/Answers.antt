@@ -1,9 +1,9 @@
 use Rattle.std.proofs.Common.{◌≡◌, ◌∙◌, ap, subst, List}
-use Rattle.tree_laws.specs.Ranks.{longest}
+use Rattle.tree_model.specs.Ranks.{longest}
 use Rattle.tree_routing.specs.declared.known.Known.{Known}
 use Rattle.tree_routing.specs.Known.{plain, net_of}
 use Rattle.tree_routing.specs.Levels.{levels, highest}
-use Rattle.tree_laws.specs.Trees.{trees_of}
+use Rattle.tree_model.specs.Trees.{trees_of}
 use Rattle.tree_routing.specs.Routes.{AreInOrder}
 use Rattle.tree_routing.proofs.LevelLaws.{highest_is_longest}
 use Rattle.tree_routing.proofs.OrderLaws.{by_rank_of}

@@ -1,2 +1,0 @@
-pub mod FuelLaws
-pub mod WantLaws

@@ -1,5 +1,0 @@
-use Rattle.demand_laws.proofs.WantLaws.{a_fixed_unit_is_its_name}
-use Rattle.demand_laws.proofs.laws.a_fixed_unit_is_its_name.Goals as goal
-
-pub returns : goal.returns
-returns c = λ net l s. a_fixed_unit_is_its_name net l s

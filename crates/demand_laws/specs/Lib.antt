@@ -1,4 +1,0 @@
-pub mod Fuel
-pub mod Wants
-pub mod Goals
-pub mod Laws

@@ -1,6 +1,0 @@
-use Rattle.network_laws.proofs.Keeping.{calm_rounds_keep_bounds}
-use Rattle.hop_laws.proofs.ResvLines.{only_said_resvs_are_kept}
-use Rattle.hop_laws.proofs.laws.only_said_resvs_are_kept.Goals as goal
-
-pub returns : goal.returns
-returns c q w k lt allowed cuts rs calm bounds says = only_said_resvs_are_kept q w k lt allowed cuts rs calm (calm_rounds_keep_bounds q w rs calm bounds) says

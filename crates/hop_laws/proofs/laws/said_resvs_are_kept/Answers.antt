@@ -1,6 +1,0 @@
-use Rattle.network_laws.proofs.Keeping.{calm_rounds_keep_bounds}
-use Rattle.hop_laws.proofs.Said.{said_resvs_are_kept}
-use Rattle.hop_laws.proofs.laws.said_resvs_are_kept.Goals as goal
-
-pub returns : goal.returns
-returns c q w k v linked rs calm bounds said = said_resvs_are_kept q w k v linked rs calm (calm_rounds_keep_bounds q w rs calm bounds) said

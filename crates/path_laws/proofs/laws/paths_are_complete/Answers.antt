@@ -1,6 +1,0 @@
-use Rattle.network_laws.proofs.Keeping.{calm_rounds_keep_bounds}
-use Rattle.path_laws.proofs.CompletePaths.{paths_are_complete}
-use Rattle.path_laws.proofs.laws.paths_are_complete.Goals as goal
-
-pub returns : goal.returns
-returns c q w rs calm locals bounds sound = paths_are_complete q w rs calm locals (calm_rounds_keep_bounds q w rs calm bounds) sound

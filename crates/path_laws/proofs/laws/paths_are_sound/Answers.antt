@@ -1,6 +1,0 @@
-use Rattle.network_laws.proofs.Keeping.{calm_rounds_keep_bounds}
-use Rattle.path_laws.proofs.SoundPaths.{paths_are_sound}
-use Rattle.path_laws.proofs.laws.paths_are_sound.Goals as goal
-
-pub returns : goal.returns
-returns c q w rs calm bounds = paths_are_sound q w rs calm (calm_rounds_keep_bounds q w rs calm bounds)

@@ -1,5 +1,0 @@
-use Rattle.path_laws.proofs.CompletePaths.{said_paths_are_kept}
-use Rattle.path_laws.proofs.laws.said_paths_are_kept.Goals as goal
-
-pub returns : goal.returns
-returns c q w d k t h locals live there deep rs calm sure = said_paths_are_kept q w d k t h locals live there deep rs calm sure

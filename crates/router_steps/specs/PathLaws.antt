@@ -1,0 +1,78 @@
+-- Where path state comes from, and how it goes: the claims of the public laws.
+use Rattle.std.specs.Prelude.{◌≡◌, ℕ, ◌≤◌, ◌⊎◌, true, Some, None}
+use Rattle.rsvp_base.specs.Orders.{senders}
+use Rattle.rsvp_base.specs.SessionLimits.{IsWithinSessionLimits}
+use Rattle.rsvp_base.specs.Table.{get, put_in}
+use Rattle.rsvp_base.specs.TokenBucket.{TokenBucket}
+use Rattle.rsvp_messages.specs.declared.message.Message.TheVariants as message
+use Rattle.rsvp_messages.specs.declared.message.PathMsg.{PathMsg}
+use Rattle.rsvp_messages.specs.declared.message.PathTearMsg.{PathTearMsg}
+use Rattle.router_rules.specs.declared.answers.Heard.TheVariants as heard
+use Rattle.router_rules.specs.declared.answers.Why.TheVariants as why
+use Rattle.router_rules.specs.Bounds.{IsWithinBounds}
+use Rattle.router_rules.specs.Facts.{Facts, PathState, SenderKey}
+use Rattle.router_rules.specs.Inputs.{Input, Wait, Clear, Came, Spelt}
+use Rattle.router_rules.specs.Known.{came_by}
+use Rattle.router_rules.specs.Paths.{path_state}
+use Rattle.router_rules.specs.Place.{Place, comes_in}
+use Rattle.router_rules.specs.Rule.{rule}
+use Rattle.router_steps.specs.Steps.{facts_then}
+
+-- ---- a Path that counts: it came to its group, with a sender, by the interface that leads to the sender
+pub record CameOnTree (p : Place) (i : Input) (k : SenderKey) : Type 0 where
+  pub at : ℕ
+  pub path : PathMsg
+  pub tspec : TokenBucket
+  pub came : i ≡ Came at k.0.group (Spelt (message.Path path))
+  pub session : path.session ≡ k.0
+  pub sender : path.sender ≡ Some (k.1, tspec)
+  pub tree : comes_in p k.0 at k.1 ≡ true
+
+-- what such a Path says
+abbrev pub said_by : (p : Place) (c : ℕ) (i : Input) (k : SenderKey) → CameOnTree p i k → PathState
+said_by p c i k by = path_state p c by.at by.path by.tspec
+
+pub record IsLearnt (p : Place) (c : ℕ) (i : Input) (k : SenderKey) (x : PathState) : Type 0 where
+  pub by : CameOnTree p i k
+  pub is : x ≡ said_by p c i k by
+
+abbrev pub WhereAPathFactComesFrom : Type 0
+WhereAPathFactComesFrom =
+    (old p : Place) (b c : ℕ) (i : Input) (f : Facts) → IsWithinBounds old b f → (k : SenderKey) (x : PathState) → get (facts_then old p c i f).paths k ≡ Some x → (get f.paths k ≡ Some x) ⊎ IsLearnt p c i k x
+
+-- ---- it is learnt exactly where the table with it is within its limits
+pub record APathOnTheTreeIsLearnt : Type 0 where
+  pub learnt : (old p : Place) (b c : ℕ) (i : Input) (f : Facts) → IsWithinBounds old b f → (k : SenderKey) (by : CameOnTree p i k) → IsWithinSessionLimits senders (put_in f.paths k (said_by p c i k by))
+      → ((facts_then old p c i f).paths ≡ put_in f.paths k (said_by p c i k by)) × ((rule old p c i f).heard ≡ heard.Taken)
+  pub full : (old p : Place) (b c : ℕ) (i : Input) (f : Facts) → IsWithinBounds old b f → (k : SenderKey) (by : CameOnTree p i k) → (IsWithinSessionLimits senders (put_in f.paths k (said_by p c i k by)) → ⊥)
+      → ((facts_then old p c i f).paths ≡ f.paths) × ((rule old p c i f).heard ≡ heard.Dropped why.Full)
+
+-- ---- it goes for one of three reasons
+pub record PathDies (c : ℕ) (i : Input) (x : PathState) : Type 0 where
+  pub ms : ℕ
+  pub word : ℕ
+  pub waited : i ≡ Wait ms word
+  pub dies : x.dies ≤ c
+
+-- from the hop by which the path came
+pub record PathIsTorn (i : Input) (k : SenderKey) (x : PathState) : Type 0 where
+  pub at : ℕ
+  pub tear : PathTearMsg
+  pub came : i ≡ Came at k.0.group (Spelt (message.PathTear tear))
+  pub session : tear.session ≡ k.0
+  pub sender : tear.sender ≡ Some k.1
+  pub hop : came_by (at, tear.hop.addr) x ≡ true
+
+abbrev pub PathGoes : ℕ → Input → SenderKey → PathState → Type 0
+PathGoes c i k x = PathDies c i x ⊎ (PathIsTorn i k x ⊎ (i ≡ Clear))
+
+-- it stays, or is replaced, or goes and nothing is in its place
+pub record IsReplaced (p : Place) (c : ℕ) (i : Input) (f : Facts) (k : SenderKey) : Type 0 where
+  pub new : PathState
+  pub there : get f.paths k ≡ Some new
+  pub learnt : IsLearnt p c i k new
+
+abbrev pub HowAPathFactGoes : Type 0
+HowAPathFactGoes =
+    (old p : Place) (b c : ℕ) (i : Input) (f : Facts) → IsWithinBounds old b f → (k : SenderKey) (x : PathState) → get f.paths k ≡ Some x
+    → (get (facts_then old p c i f).paths k ≡ Some x) ⊎ (IsReplaced p c i (facts_then old p c i f) k ⊎ ((get (facts_then old p c i f).paths k ≡ None) × PathGoes c i k x))

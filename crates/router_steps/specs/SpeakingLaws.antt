@@ -1,0 +1,99 @@
+-- What is sent for path state, and why; and which sends are refreshes: the claims of the public laws.
+use Rattle.std.specs.Prelude.{◌≡◌, ℕ, ◌<◌, ◌⊎◌, true, false, length, Option, Some, None}
+use Rattle.rsvp_base.specs.declared.addr.Addr.{Addr}
+use Rattle.rsvp_base.specs.declared.session.Sender.{Sender}
+use Rattle.rsvp_base.specs.declared.session.Session.{Session}
+use Rattle.rsvp_base.specs.Members.{In}
+use Rattle.rsvp_base.specs.Table.{get, has}
+use Rattle.rsvp_messages.specs.declared.ask.Ask.{Ask}
+use Rattle.rsvp_messages.specs.declared.message.Message.TheVariants as message
+use Rattle.rsvp_messages.specs.declared.message.PathMsg.{PathMsg}
+use Rattle.rsvp_messages.specs.declared.message.PathTearMsg.{PathTearMsg}
+use Rattle.rsvp_messages.specs.declared.message.ResvMsg.{ResvMsg}
+use Rattle.router_rules.specs.Asking.{ask_of}
+use Rattle.router_rules.specs.Bounds.{IsWithinBounds}
+use Rattle.router_rules.specs.Facts.{Facts, PathState}
+use Rattle.router_rules.specs.Inputs.{Input, Send, Wait}
+use Rattle.router_rules.specs.Known.{Lane, known}
+use Rattle.router_rules.specs.Offers.{Offer, OfferKey, offer_at, offers}
+use Rattle.router_rules.specs.Place.{Place, goes_out, own, period}
+use Rattle.router_rules.specs.Requests.{toward}
+use Rattle.router_rules.specs.Sends.{is_new_offer, path_send, resv_send}
+use Rattle.router_lookups.specs.FactLaws.{is_way}
+use Rattle.router_steps.specs.Steps.{facts_then, fired_then, sent_then}
+
+-- ---- an offer is of a local sender, with its words, or else of path state, with those of its Path
+pub record IsLocalOffer (f : Facts) (k : OfferKey) (o : Offer) : Type 0 where
+  pub there : get f.senders (k.session, k.sender) ≡ Some o.tspec
+  pub local : o.local ≡ true
+
+pub record IsPathOffer (f : Facts) (k : OfferKey) (o : Offer) : Type 0 where
+  pub no_local : get f.senders (k.session, k.sender) ≡ None
+  pub path : PathState
+  pub there : get f.paths (k.session, k.sender) ≡ Some path
+  pub tspec : o.tspec ≡ path.tspec
+  pub local : o.local ≡ false
+
+-- ---- a Path that is sent is of an offer after the step: its sender is known then, and its tree goes out of the interface,
+-- which is there. It goes to the group, and its hop is the node's own address of the interface
+pub record IsOfOffer (p : Place) (f : Facts) (s : Send) (m : PathMsg) : Type 0 where
+  pub key : OfferKey
+  pub offer : Offer
+  pub known_then : has (known f key.session) key.sender ≡ true
+  pub there : key.iface < length p.ifaces
+  pub way : goes_out p key.session key.iface key.sender ≡ true
+  pub offered : offer_at f key ≡ Some offer
+  pub source : IsLocalOffer f key offer ⊎ IsPathOffer f key offer
+  pub iface : s.iface ≡ key.iface
+  pub dst : s.dst ≡ key.session.group
+  pub is : m ≡ record { session = key.session; police = offer.local; hop = record { addr = own p key.iface; handle = 0 }; period = period p; sender = Some (key.sender, offer.tspec) }
+
+pub record WhatAPathSentSays : Type 0 where
+  pub says : (old p : Place) (b c : ℕ) (i : Input) (f : Facts) → IsWithinBounds old b f → (s : Send) (m : PathMsg) → In s (sent_then old p c i f) → s.message ≡ message.Path m → IsOfOffer p (facts_then old p c i f) s m
+  -- it is the refresh of a session that came due, or its offer is new or has another tspec
+  pub refresh : (old p : Place) (b c : ℕ) (i : Input) (f : Facts) → IsWithinBounds old b f → (s : Send) (m : PathMsg) → In s (sent_then old p c i f) → s.message ≡ message.Path m → s.refresh ≡ has (fired_then p c i f) m.session
+  pub why : (old p : Place) (b c : ℕ) (i : Input) (f : Facts) → IsWithinBounds old b f → (s : Send) (m : PathMsg) → In s (sent_then old p c i f) → s.message ≡ message.Path m → s.refresh ≡ false
+      → (key : OfferKey) × (offer : Offer) × (s ≡ path_send p false (key, offer)) × (get (offers p (facts_then old p c i f)) key ≡ Some offer) × (is_new_offer offer (get (offers old f) key) ≡ true)
+
+-- ---- a PathTear is sent for an offer of before that is none after: its sender is known no more, or its tree goes out there
+-- no more. It goes where the Paths of the offer went
+pub record IsOfGoneOffer (old p : Place) (before after : Facts) (s : Send) (m : PathTearMsg) : Type 0 where
+  pub key : OfferKey
+  pub was : has (offers old before) key ≡ true
+  pub known_before : has (known before key.session) key.sender ≡ true
+  pub there : key.iface < length old.ifaces
+  pub way : goes_out old key.session key.iface key.sender ≡ true
+  pub gone : (is_way p key ≡ false) ⊎ (has (known after key.session) key.sender ≡ false)
+  pub iface : s.iface ≡ key.iface
+  pub dst : s.dst ≡ key.session.group
+  pub is : m ≡ record { session = key.session; hop = record { addr = own p key.iface; handle = 0 }; sender = Some key.sender }
+  pub refresh : s.refresh ≡ false
+
+abbrev pub WhyAPathTearIsSent : Type 0
+WhyAPathTearIsSent =
+    (old p : Place) (b c : ℕ) (i : Input) (f : Facts) → IsWithinBounds old b f → (s : Send) (m : PathTearMsg) → In s (sent_then old p c i f) → s.message ≡ message.PathTear m → IsOfGoneOffer old p f (facts_then old p c i f) s m
+
+-- ---- refreshes
+-- a Path or a Resv of a session that came due
+pub record IsPathRefresh (p : Place) (c : ℕ) (i : Input) (f : Facts) (s : Send) : Type 0 where
+  pub path : PathMsg
+  pub says : s.message ≡ message.Path path
+  pub fired : has (fired_then p c i f) path.session ≡ true
+
+pub record IsResvRefresh (p : Place) (c : ℕ) (i : Input) (f : Facts) (s : Send) : Type 0 where
+  pub resv : ResvMsg
+  pub says : s.message ≡ message.Resv resv
+  pub fired : has (fired_then p c i f) resv.session ≡ true
+
+pub record RefreshesAreMarked : Type 0 where
+  -- of a session that came due each offer is sent, with the mark; so each known sender goes out of each interface of its tree
+  pub offered : (old p : Place) (b c : ℕ) (i : Input) (f : Facts) → IsWithinBounds old b f → (key : OfferKey) (offer : Offer) → has (fired_then p c i f) key.session ≡ true → get (offers p (facts_then old p c i f)) key ≡ Some offer
+      → In (path_send p true (key, offer)) (sent_then old p c i f)
+  pub known_ones : (old p : Place) (b c : ℕ) (i : Input) (f : Facts) → IsWithinBounds old b f → (s : Session) (x : Sender) (e : ℕ) → has (fired_then p c i f) s ≡ true → has (known (facts_then old p c i f) s) x ≡ true → e < length p.ifaces
+      → goes_out p s e x ≡ true → (offer : Offer) × (offer_at (facts_then old p c i f) (record { session = s; sender = x; iface = e }) ≡ Some offer) × In (path_send p true (record { session = s; sender = x; iface = e }, offer)) (sent_then old p c i f)
+  -- and what goes toward each hop, if something does
+  pub resvs : (old p : Place) (b c : ℕ) (i : Input) (f : Facts) → IsWithinBounds old b f → (l : Lane) (ask : Ask) → has (fired_then p c i f) l.session ≡ true → ask_of l.style (toward p (facts_then old p c i f) l) ≡ Some ask
+      → (confirm : Option Addr) × In (resv_send p (facts_then old p c i f) l confirm true ask) (sent_then old p c i f)
+  -- nothing else has the mark, and it is set while time passes alone
+  pub only : (old p : Place) (b c : ℕ) (i : Input) (f : Facts) → IsWithinBounds old b f → (s : Send) → In s (sent_then old p c i f) → s.refresh ≡ true → IsPathRefresh p c i f s ⊎ IsResvRefresh p c i f s
+  pub waited : (old p : Place) (b c : ℕ) (i : Input) (f : Facts) → IsWithinBounds old b f → (s : Send) → In s (sent_then old p c i f) → s.refresh ≡ true → (ms : ℕ) × (word : ℕ) × (i ≡ Wait ms word)

@@ -1,0 +1,70 @@
+-- The pair of nodes meets the premises of the laws of paths.
+use Rattle.std.proofs.Common.{◌≡◌, ℕ, zero, suc, ◌≤◌, [], ◌∷◌, length, Bool, true, false, cond, Some, inl, ⊎_elim, arith, sym, refl, ap, ◌∙◌}
+use Rattle.std.specs.Prelude.{slice_get, map as each}
+use Rattle.std.specs.Ordering.{eq_by_cmp}
+use Rattle.rsvp_base.specs.Orders.{sessions}
+use Rattle.rsvp_base.specs.Table.{Table, empty, get, put_in}
+use Rattle.rsvp_base.specs.TokenBucket.{TokenBucket}
+use Rattle.rsvp_base.proofs.Tables.{got_put_in}
+use Rattle.tree_model.specs.declared.locals.LocalSender.{LocalSender}
+use Rattle.router_rules.specs.Facts.{Facts, SenderKey, sender_keys, no_facts}
+use Rattle.router_rules.specs.Line.{session, first, usual}
+use Rattle.tree_model.specs.Networks.{owner}
+use Rattle.network_model.specs.Bounds.{AreLocals}
+use Rattle.network_model.specs.Links.{is_group}
+use Rattle.network_model.specs.Locals.{IsLive, sessions_of}
+use Rattle.network_model.specs.Sound.{ArePathsComplete}
+use Rattle.network_steps.specs.Example.{pair_net, sending_world}
+use Rattle.network_steps.proofs.Calming.{calm_rounds}
+use Rattle.network_steps.proofs.Example.{a_pair_stays_within_bounds}
+use Rattle.network_steps.proofs.Known.{of_some}
+use Rattle.settle_paths.specs.Example.{MeetsThePremises}
+
+-- ---- the one local sender
+abbrev none_yet : Table sender_keys TokenBucket
+none_yet = empty
+
+sender_is : (n : ℕ) (f : Facts) (k : SenderKey) (t : TokenBucket) → slice_get sending_world.nodes n ≡ Some f → get f.senders k ≡ Some t → (n ≡ 0) × (k ≡ (session, first))
+sender_is zero f k t e h =
+    let same = of_some _ _ e in
+    ⊎_elim
+    (λ (here : (k ≡ (session, first)) × (t ≡ usual)). (refl, here.0))
+    (λ (old : get none_yet k ≡ Some t). absurd (cc))
+    (got_put_in sender_keys none_yet (session, first) usual k t (ap (λ (z : Facts). get z.senders k) same ∙ h))
+sender_is (suc zero) f k t e h =
+    let same : no_facts ≡ f = of_some _ _ e in
+    let none : get no_facts.senders k ≡ Some t = ap (λ (z : Facts). get z.senders k) same ∙ h in
+    absurd (cc)
+sender_is (suc (suc n)) f k t e h = absurd (cc)
+
+locals : AreLocals sending_world
+locals = record {
+  placed = λ n f k t e h. let is = sender_is n f k t e h in ap (λ (z : SenderKey). owner pair_net.ends z.1.addr) is.1 ∙ ap Some (sym is.0);
+  groups = λ n f k t e h. let is = sender_is n f k t e h in ap (λ (z : SenderKey). is_group z.0.group) is.1;
+  few_senders = λ s. few (eq_by_cmp sessions.cmp s session);
+  few_sessions = let n : length (sessions_of sending_world) ≡ 1 = refl in omega arith;
+}
+  where
+    few : (b : Bool) → length (each (λ (x : LocalSender). x.sender) (cond b ((record { node = 0; session = session; sender = first }) ∷ []) [])) ≤ 16
+    few true = omega arith
+    few false = omega arith
+
+live : IsLive sending_world (session, first) usual
+live = record { node = 0; senders = put_in none_yet (session, first) usual; at = refl; sends = refl }
+
+not_yet : ArePathsComplete sending_world → ⊥
+not_yet complete =
+    let p = complete (session, first) usual (record { from = 0; to = 1 }) live (inl refl) in
+    let same : no_facts ≡ p.facts = of_some _ _ p.node in
+    let none : get no_facts.paths (session, first) ≡ Some p.path = ap (λ (z : Facts). get z.paths (session, first)) same ∙ p.there in
+    cc
+
+pub a_pair_meets_the_premises : MeetsThePremises
+a_pair_meets_the_premises = record {
+  bounds = a_pair_stays_within_bounds.bounds;
+  locals = locals;
+  live = live;
+  hop = refl;
+  rounds = λ k. calm_rounds 7500 k sending_world;
+  not_yet = not_yet;
+}

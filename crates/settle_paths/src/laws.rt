@@ -1,0 +1,66 @@
+//! The laws.
+ghost use Rattle.std.specs.Prelude.{◌≡◌, ◌+◌, ◌*◌, ◌<◌, ◌≤◌, ℕ, suc, List, Bool, true, length};
+ghost use Rattle.rsvp_base.specs.Members.{In};
+ghost use Rattle.rsvp_base.specs.TokenBucket.{TokenBucket};
+ghost use Rattle.tree_model.specs.Goals.{addr_of};
+ghost use Rattle.tree_model.specs.declared.hops.Hop.{Hop};
+ghost use Rattle.tree_model.specs.Networks.{node_of};
+ghost use Rattle.tree_model.specs.Ranks.{longest};
+ghost use Rattle.tree_model.specs.Trees.{tree, depth};
+ghost use Rattle.calm_rounds.specs.Hold.{Hold};
+ghost use Rattle.calm_rounds.specs.Lines.{KeepsOnly, SaysOnly, Stands};
+ghost use Rattle.calm_rounds.specs.Rounds.{Rounds};
+ghost use Rattle.router_rules.specs.Facts.{SenderKey};
+ghost use Rattle.network_model.specs.Bounds.{AreBounds, AreLocals};
+ghost use Rattle.network_model.specs.Locals.{IsLive};
+ghost use Rattle.network_model.specs.Sound.{ArePathsComplete, ArePathsSound};
+ghost use Rattle.network_model.specs.Steps.{Step, machine};
+ghost use Rattle.network_model.specs.Worlds.{World};
+ghost use Rattle.settle_paths.specs.Example.{MeetsThePremises};
+ghost use Rattle.settle_paths.specs.Lines.{PathValue, path_line};
+ghost use Rattle.settle_paths.specs.Sure.{IsSureOfPaths};
+ghost use Rattle.settle_paths.specs.Telling.{IsSure, renewed_line};
+
+/// One hop settles, for a Path: where all Paths of a sender that are sent over a hop from now on say what is allowed, from
+/// the fifth calm round on the path there is one that is allowed, and the Paths in flight say only that.
+pub fn only_said_paths_are_kept()
+    ensures { (q : ℕ) (w : World) (k : SenderKey) (e : ℕ) → e < length w.net.ends → (allowed : PathValue → Bool) (rs : List (List Step)) → Rounds (machine q) rs w → AreBounds q w
+        → Hold (machine q) 0 rs w (SaysOnly (machine q) (path_line q w k e) (λ v. allowed v ≡ true) w.made)
+        → Hold (machine q) 5 rs w (λ u. KeepsOnly (machine q) (path_line q w k e) (λ v. allowed v ≡ true) u × SaysOnly (machine q) (path_line q w k e) (λ v. allowed v ≡ true) 0 u) }
+{}
+
+/// Paths are sound: in a network within bounds, 5 H + 4 calm rounds on, each path says what a live sender's tree says, and so
+/// does each Path in flight; H is the length of the longest chain.
+pub fn paths_are_sound()
+    ensures { (q : ℕ) (w : World) (rs : List (List Step)) → Rounds (machine q) rs w → AreBounds q w → Hold (machine q) (4 + 5 * longest w.net) rs w ArePathsSound }
+{}
+
+/// One hop settles, for a Path: where the node before the hop knows the sender and paths are sound, two calm rounds on the path
+/// of a live sender stands at the end of the hop, from the node before, with the sender's flow.
+pub fn said_paths_are_kept()
+    ensures { (q : ℕ) (w : World) (d : ℕ) (k : SenderKey) (t : TokenBucket) (h : Hop) → AreLocals w → IsLive w k t → In h (tree w.net.hops k.0.group k.1.addr) → depth w.net k.0.group k.1.addr (node_of w.net.ends h.to) ≤ suc d
+        → (rs : List (List Step)) → Rounds (machine q) rs w → Hold (machine q) 0 rs w (IsSure q w d) → Hold (machine q) 2 rs w (Stands (machine q) (renewed_line q w k h d) (addr_of w.net h.from, t)) }
+{}
+
+/// Paths are complete: where paths are sound, 2 H calm rounds on each live sender has its path at each hop of its tree.
+pub fn paths_are_complete()
+    ensures { (q : ℕ) (w : World) (rs : List (List Step)) → Rounds (machine q) rs w → AreLocals w → AreBounds q w → Hold (machine q) 0 rs w ArePathsSound → Hold (machine q) (2 * longest w.net) rs w ArePathsComplete }
+{}
+
+/// Paths settle: in a network within bounds, 7 H + 4 calm rounds on, paths are sound and complete, whatever nodes kept and
+/// whatever was in flight.
+pub fn paths_settle()
+    ensures { (q : ℕ) (w : World) (rs : List (List Step)) → Rounds (machine q) rs w → AreLocals w → AreBounds q w
+        → Hold (machine q) ((4 + 5 * longest w.net) + 2 * longest w.net) rs w (λ u. ArePathsSound u × ArePathsComplete u) }
+{}
+
+/// A small network meets the premises of these laws, and at its start what they promise does not hold yet.
+pub fn a_pair_meets_the_premises()
+    ensures { MeetsThePremises }
+{}
+
+/// A small network meets the premises of the law on Paths that are said over a hop (`said_paths_are_kept`)
+/// through two calm rounds, and at their start what it promises does not hold yet.
+pub fn a_pair_is_sure()
+    ensures { IsSureOfPaths }
+{}

@@ -1,0 +1,11 @@
+pub mod Networks
+pub mod Trees
+pub mod Chains
+pub mod Ranks
+pub mod Valid
+pub mod Laws
+pub mod Codes
+pub mod Fuel
+pub mod Wants
+pub mod Goals
+pub mod DemandLaws
