@@ -21,7 +21,7 @@ use Rattle.router_rules.specs.Line.{s1, scope}
 use Rattle.router_rules.specs.Place.{Place}
 use Rattle.router_rules.specs.Rule.{facts_with}
 use Rattle.router_rules.proofs.Bounding.{no_facts_are_within_bounds}
-use Rattle.router_bounds.specs.BoundLaws.{IsFitStale}
+use Rattle.router_rules.specs.Steps.{IsFitStale}
 use Rattle.router_bounds.proofs.LeftOver.{left_over_facts_are_within_bounds}
 use Rattle.tree_model.specs.declared.hops.TreeHop.{TreeHop}
 use Rattle.tree_model.specs.Trees.{tree_keys, key_of, trees_of}

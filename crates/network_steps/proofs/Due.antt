@@ -4,7 +4,7 @@ use Rattle.std.specs.Prelude.{slice_get, option_and_then, max, min}
 use Rattle.rsvp_base.specs.declared.session.Session.{Session}
 use Rattle.rsvp_base.specs.Table.{get, has}
 use Rattle.router_steps.specs.CountdownLaws.{IsMoved}
-use Rattle.router_steps.specs.Steps.{is_calm, facts_then, fired_then}
+use Rattle.router_rules.specs.Steps.{is_calm, facts_then, fired_then}
 use Rattle.router_steps.proofs.Counting.{countdowns_move_by_their_rule, fires}
 use Rattle.router_rules.specs.Facts.{Facts}
 use Rattle.router_rules.specs.Inputs.{Input, Wait, Came}

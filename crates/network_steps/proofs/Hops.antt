@@ -36,8 +36,8 @@ use Rattle.router_inputs.specs.ErrorLaws.{IsPathReply, IsResvReply, errors_with,
 use Rattle.router_inputs.proofs.Answering.{faults_by_hint}
 use Rattle.router_inputs.proofs.Erring.{errors_once_each, resv_errs_by_tests}
 use Rattle.router_inputs.proofs.Wholes.{units_in_full}
-use Rattle.router_steps.specs.Steps.{sent_then}
-use Rattle.router_steps.proofs.Speaking.{send_told}
+use Rattle.router_rules.specs.Steps.{sent_then}
+use Rattle.router_inputs.proofs.Stepping.{send_told}
 use Rattle.tree_model.specs.Goals.{addr_of}
 use Rattle.tree_model.specs.declared.hops.End.{End}
 use Rattle.tree_model.specs.Networks.{end_at, ends_of}

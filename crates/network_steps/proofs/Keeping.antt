@@ -16,7 +16,7 @@ use Rattle.router_rules.specs.Bounds.{IsWithinBounds}
 use Rattle.router_rules.specs.Facts.{Facts}
 use Rattle.router_rules.specs.Inputs.{Arrival, Input, Call, Wait, Clear, Moved, Send, Spelt, Unspelt}
 use Rattle.router_rules.specs.Rule.{rule}
-use Rattle.router_bounds.specs.BoundLaws.{IsSameNode, IsFit, IsFitArrival, clock_after}
+use Rattle.router_rules.specs.Steps.{IsSameNode, IsFit, IsFitArrival, clock_after}
 use Rattle.router_bounds.proofs.Bounded.{a_step_keeps_a_node_within_bounds}
 use Rattle.router_bounds.proofs.Wording.{what_is_sent_is_proper}
 use Rattle.tree_model.specs.declared.hops.End.{End}

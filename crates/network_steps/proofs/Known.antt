@@ -6,7 +6,7 @@ use Rattle.std.proofs.lemmas.Option.{slice_get_within}
 use Rattle.calm_rounds.specs.Hold.{Hold}
 use Rattle.calm_rounds.specs.Rounds.{Rounds}
 use Rattle.calm_rounds.proofs.Holding.{hold_map, hold_both, hold_keep}
-use Rattle.router_steps.specs.Steps.{is_calm}
+use Rattle.router_rules.specs.Steps.{is_calm}
 use Rattle.router_steps.proofs.Framing.{calm_steps_keep_the_locals}
 use Rattle.router_rules.specs.Facts.{Facts}
 use Rattle.router_rules.specs.Inputs.{Input, Came}

@@ -8,7 +8,7 @@ use Rattle.style_rules.specs.Lines.{LineKey}
 use Rattle.router_rules.specs.Facts.{ResvState, resvs_of}
 use Rattle.router_rules.specs.Inputs.{Stale, StaleResv}
 use Rattle.router_rules.specs.Line.{r1, session, scope, usual}
-use Rattle.router_bounds.specs.BoundLaws.{IsFitStale}
+use Rattle.router_rules.specs.Steps.{IsFitStale}
 use Rattle.tree_model.specs.Trees.{trees_of}
 use Rattle.tree_model.specs.Valid.{IsValid}
 use Rattle.network_model.specs.Runs.{Plan, first_facts}

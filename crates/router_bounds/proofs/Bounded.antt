@@ -11,11 +11,11 @@ use Rattle.router_rules.specs.Bounds.{AreAlive, AreShaped, AreWithinLimits, IsPa
 use Rattle.router_rules.specs.Facts.{Facts, PathState}
 use Rattle.router_rules.specs.Inputs.{Input}
 use Rattle.router_rules.specs.Place.{Place}
-use Rattle.router_steps.specs.PathLaws.{IsLearnt}
-use Rattle.router_steps.specs.Steps.{facts_then}
-use Rattle.router_steps.proofs.Framing.{wants_then}
-use Rattle.router_steps.proofs.Learning.{came_from}
-use Rattle.router_bounds.specs.BoundLaws.{AStepKeepsANodeWithinBounds, IsFit, IsSameNode, clock_after}
+use Rattle.router_inputs.specs.Sources.{IsLearnt}
+use Rattle.router_rules.specs.Steps.{IsFit, IsSameNode, clock_after, facts_then}
+use Rattle.router_inputs.proofs.Framing.{wants_then}
+use Rattle.router_inputs.proofs.Stepping.{came_from}
+use Rattle.router_bounds.specs.BoundLaws.{AStepKeepsANodeWithinBounds}
 use Rattle.router_bounds.proofs.Keeping.{IsSet, due_within, few_walls, lives_on, path_fits, paths_outlive, paths_within, time_passes, walls_outlive, walls_source}
 use Rattle.router_bounds.proofs.LocalFacts.{AreSendersWithin, AreWantsWithin, marks_keep, senders_keep, wants_keep}
 use Rattle.router_bounds.proofs.Reserving.{AreResvsWithin, lives_new, of_bounds, resvs_within}

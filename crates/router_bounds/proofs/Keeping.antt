@@ -37,10 +37,9 @@ use Rattle.router_rules.specs.Waiting.{next_due}
 use Rattle.router_lookups.proofs.Leaving.{countdowns_settle, waiting_leaves_the_living}
 use Rattle.router_lookups.proofs.Lists.{some_is, some_same}
 use Rattle.router_inputs.proofs.Telling.{errors_and_walls}
-use Rattle.router_steps.specs.PathLaws.{CameOnTree}
-use Rattle.router_steps.specs.Steps.{facts_then}
-use Rattle.router_steps.proofs.Counting.{quiet_due, stands_settled}
-use Rattle.router_bounds.specs.BoundLaws.{IsFit, clock_after}
+use Rattle.router_inputs.specs.Sources.{CameOnTree}
+use Rattle.router_rules.specs.Steps.{IsFit, clock_after, facts_then}
+use Rattle.router_inputs.proofs.Stepping.{quiet_due, stands_settled}
 
 -- ---- paths
 -- what stands after an input lives longer than its clock

@@ -21,7 +21,8 @@ use Rattle.router_rules.specs.Inputs.{Stale, StalePath, StaleResv, StaleWall}
 use Rattle.router_rules.specs.Place.{Place, lifetime, period, wall_lifetime}
 use Rattle.router_rules.specs.Rule.{settled}
 use Rattle.router_rules.proofs.Fronting.{fronts_are_the_rule}
-use Rattle.router_bounds.specs.BoundLaws.{IsFitStale, LeftOverFactsAreWithinBounds}
+use Rattle.router_rules.specs.Steps.{IsFitStale}
+use Rattle.router_bounds.specs.BoundLaws.{LeftOverFactsAreWithinBounds}
 use Rattle.router_bounds.proofs.Keeping.{due_settled}
 use Rattle.router_bounds.proofs.Reserving.{AreResvsWithin, forgotten_within, of_bounds, placed_within, replaced_within, same_resvs}
 

@@ -32,9 +32,9 @@ use Rattle.router_rules.specs.Requests.{is_style}
 use Rattle.router_lookups.proofs.Lists.{got_with_rows, to_values}
 use Rattle.router_lookups.proofs.Rooms.{room_tells}
 use Rattle.router_lookups.proofs.Tests.{style_told}
-use Rattle.router_steps.specs.FrameLaws.{AreSameButMarks}
-use Rattle.router_steps.proofs.Framing.{act_senders, act_wants}
-use Rattle.router_bounds.specs.BoundLaws.{IsFit, IsFitList}
+use Rattle.router_inputs.specs.Frames.{AreSameButMarks}
+use Rattle.router_inputs.proofs.Framing.{act_senders, act_wants}
+use Rattle.router_rules.specs.Steps.{IsFit, IsFitList}
 use Rattle.router_bounds.proofs.Keeping.{fewer_rows}
 
 -- ---- a call that is refused changes nothing

@@ -32,8 +32,7 @@ use Rattle.router_rules.specs.Place.{Place, goes_out, lifetime, period}
 use Rattle.router_lookups.specs.RuleLaws.{IsLeft}
 use Rattle.router_lookups.proofs.Leaving.{as_it_was, got_forget, left_told, table_other, waiting_leaves_the_living}
 use Rattle.router_inputs.proofs.Receiving.{resv_tears_by_names}
-use Rattle.router_steps.specs.Steps.{facts_then}
-use Rattle.router_bounds.specs.BoundLaws.{AreFewer, IsFit, IsLeftOf, clock_after}
+use Rattle.router_rules.specs.Steps.{AreFewer, IsFit, IsLeftOf, clock_after, facts_then}
 use Rattle.router_bounds.proofs.Folding.{Keeps, names_listed, unit_shape, units_keep}
 use Rattle.router_bounds.proofs.Putting.{IsPut, put_booked, put_limits, put_source, style_same}
 use Rattle.router_bounds.proofs.Shrinking.{fewer_booked, fewer_limits, fewer_shapes}

@@ -23,7 +23,8 @@ use Rattle.router_rules.specs.Bounds.{AreBooked}
 use Rattle.router_rules.specs.Facts.{Facts, Resvs, ResvState, resvs_of}
 use Rattle.router_rules.specs.Place.{Place}
 use Rattle.router_lookups.proofs.Requesting.{lines_told, to_lines}
-use Rattle.router_bounds.specs.BoundLaws.{AreFewer, FewerFactsSmallerBook, IsLeftOf, ResvsAreShaped}
+use Rattle.router_rules.specs.Steps.{AreFewer, IsLeftOf}
+use Rattle.router_bounds.specs.BoundLaws.{FewerFactsSmallerBook, ResvsAreShaped}
 
 -- ---- lines of a table
 pub table_lines_told : (st : StyleKind) (t : Resvs) (l : Line) → In l (lines_of st t) → (k : LineKey) × (r : ResvState) × (get t k ≡ Some r) × (l ≡ line_of st (k, r))

@@ -68,10 +68,9 @@ use Rattle.router_inputs.proofs.Receiving.{conf_told}
 use Rattle.router_inputs.proofs.Erring.{errors_once_each}
 use Rattle.router_inputs.proofs.Wholes.{takes_told}
 use Rattle.router_inputs.proofs.Wholes.{errors_told as unit_errors_told}
-use Rattle.router_steps.specs.SpeakingLaws.{IsLocalOffer, IsPathOffer}
-use Rattle.router_steps.specs.Steps.{facts_then, sent_then}
-use Rattle.router_steps.proofs.Speaking.{offer_of, offer_source, send_told}
-use Rattle.router_bounds.specs.BoundLaws.{IsFit, clock_after}
+use Rattle.router_inputs.specs.Sources.{IsLocalOffer, IsPathOffer}
+use Rattle.router_rules.specs.Steps.{IsFit, clock_after, facts_then, sent_then}
+use Rattle.router_inputs.proofs.Stepping.{offer_of, offer_source, send_told}
 use Rattle.router_bounds.specs.ProperLaws.{WhatIsSentIsProper}
 use Rattle.router_bounds.proofs.Bounded.{kept_within, same_node}
 use Rattle.router_bounds.proofs.Folding.{IsUnitShape, names_listed, unit_shape}

@@ -6,8 +6,7 @@ use Rattle.router_rules.specs.Bounds.{IsWithinBounds}
 use Rattle.router_rules.specs.Facts.{Facts}
 use Rattle.router_rules.specs.Inputs.{Input, Send}
 use Rattle.router_rules.specs.Place.{Place}
-use Rattle.router_steps.specs.Steps.{sent_then}
-use Rattle.router_bounds.specs.BoundLaws.{IsFit, IsSameNode, clock_after}
+use Rattle.router_rules.specs.Steps.{IsFit, IsSameNode, clock_after, sent_then}
 
 -- a node within bounds to which something fit came sends proper messages
 abbrev pub WhatIsSentIsProper : Type 0

@@ -7,3 +7,5 @@ pub mod Styling
 pub mod Wholes
 pub mod Quiet
 pub mod Calling
+pub mod Framing
+pub mod Stepping

@@ -2,3 +2,5 @@ pub mod MessageLaws
 pub mod ErrorLaws
 pub mod AskLaws
 pub mod CallLaws
+pub mod Frames
+pub mod Sources

@@ -52,8 +52,8 @@ use Rattle.router_lookups.proofs.Lists.{in_values, one_name, some_is, some_same}
 use Rattle.router_lookups.proofs.Tests.{addr_tested, style_told}
 use Rattle.router_inputs.specs.AskLaws.{IsOfUnit}
 use Rattle.router_inputs.proofs.Taking.{units_source}
-use Rattle.router_steps.specs.Steps.{facts_then, sent_then}
-use Rattle.router_steps.proofs.Speaking.{send_told}
+use Rattle.router_rules.specs.Steps.{facts_then, sent_then}
+use Rattle.router_inputs.proofs.Stepping.{send_told}
 use Rattle.router_bounds.proofs.Reserving.{forgotten_fewer}
 use Rattle.router_bounds.proofs.Shrinking.{lines_under}
 use Rattle.router_resvs.specs.AcceptingLaws.{CanBeHeld, CanBeTaken, IsBooked, IsPlaced, IsTaken, WhatIsAccepted, came_resv}

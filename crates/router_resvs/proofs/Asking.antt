@@ -33,8 +33,7 @@ use Rattle.router_inputs.specs.AskLaws.{IsOfUnit}
 use Rattle.router_inputs.proofs.Receiving.{resv_tears_by_names}
 use Rattle.router_inputs.proofs.Taking.{units_other, units_source}
 use Rattle.router_inputs.proofs.Wholes.{resvs_in_steps}
-use Rattle.router_steps.specs.Steps.{facts_then}
-use Rattle.router_bounds.specs.BoundLaws.{IsLeftOf}
+use Rattle.router_rules.specs.Steps.{IsLeftOf, facts_then}
 use Rattle.router_bounds.proofs.Putting.{style_same}
 use Rattle.router_bounds.proofs.Reserving.{forgotten_fewer, itself, tear_fewer}
 use Rattle.router_resvs.specs.ReservationLaws.{IsAskedFor, IsListed, SpeaksOf, TakesName, Touches, TouchesBy, WhatKeepsAReservationFact, WhereAReservationFactComesFrom}

@@ -38,8 +38,8 @@ use Rattle.router_lookups.proofs.Tests.{addr_told}
 use Rattle.router_inputs.specs.ErrorLaws.{IsPathReply, IsResvReply, errors_with, walls_set}
 use Rattle.router_inputs.proofs.Answering.{faults_by_hint}
 use Rattle.router_inputs.proofs.Erring.{errors_once_each, resv_errs_by_tests}
-use Rattle.router_steps.specs.Steps.{sent_then}
-use Rattle.router_steps.proofs.Speaking.{send_told}
+use Rattle.router_rules.specs.Steps.{sent_then}
+use Rattle.router_inputs.proofs.Stepping.{send_told}
 use Rattle.router_resvs.specs.BlameLaws.{AreBlamed, IsPassedOn, IsRefusal, WhereAnErrorWithAFlowComesFrom}
 
 -- ---- sends that are ResvErrs

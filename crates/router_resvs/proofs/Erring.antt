@@ -29,8 +29,8 @@ use Rattle.router_lookups.proofs.Leaving.{waiting_leaves_the_living}
 use Rattle.router_lookups.proofs.Lists.{in_values}
 use Rattle.router_lookups.proofs.Tests.{addr_told}
 use Rattle.router_inputs.proofs.Telling.{errors_and_walls}
-use Rattle.router_steps.specs.FrameLaws.{on_paths, on_resvs}
-use Rattle.router_steps.specs.Steps.{facts_then}
+use Rattle.router_inputs.specs.Frames.{on_paths, on_resvs}
+use Rattle.router_rules.specs.Steps.{facts_then}
 use Rattle.router_steps.proofs.Counting.{due_then}
 use Rattle.router_steps.proofs.Framing.{left_as_it_was}
 use Rattle.router_bounds.proofs.Keeping.{unset}

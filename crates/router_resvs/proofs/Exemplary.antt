@@ -26,8 +26,7 @@ use Rattle.router_rules.specs.Act.{act}
 use Rattle.router_rules.proofs.Bounding.{no_facts_are_within_bounds}
 use Rattle.router_lookups.proofs.Leaving.{waiting_leaves_the_living}
 use Rattle.router_lookups.proofs.Lists.{some_same}
-use Rattle.router_steps.specs.Steps.{facts_then}
-use Rattle.router_bounds.specs.BoundLaws.{AreFewer, IsFit, IsSameNode}
+use Rattle.router_rules.specs.Steps.{AreFewer, IsFit, IsSameNode, facts_then}
 use Rattle.router_bounds.proofs.Folding.{only_one}
 use Rattle.router_bounds.proofs.Reserving.{forgotten_fewer}
 use Rattle.router_bounds.proofs.Bounded.{a_step_keeps_a_node_within_bounds}

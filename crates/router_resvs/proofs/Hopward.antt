@@ -33,8 +33,8 @@ use Rattle.router_lookups.proofs.Ruling.{rule_in_parts}
 use Rattle.router_lookups.proofs.Sending.{not_told}
 use Rattle.router_lookups.proofs.Tests.{parts_tested}
 use Rattle.router_lookups.proofs.Lists.{one_name}
-use Rattle.router_steps.specs.Steps.{facts_then, fired_then, sent_then}
-use Rattle.router_steps.proofs.Speaking.{send_told}
+use Rattle.router_rules.specs.Steps.{facts_then, fired_then, sent_then}
+use Rattle.router_inputs.proofs.Stepping.{send_told}
 use Rattle.router_resvs.specs.ReservationLaws.{IsOfGoneUnits, IsOfLane, WhatAResvSentSays, WhyAResvTearIsSent}
 
 no_error : (w : ErrMsg) (m : ResvMsg) → error_message w ≡ message.Resv m → ⊥

@@ -23,7 +23,7 @@ use Rattle.router_rules.specs.Facts.{Facts, Resvs, ResvState, Want, resvs_of, wi
 use Rattle.router_rules.specs.Inputs.{Came, Input, Send, Spelt}
 use Rattle.router_rules.specs.Place.{Place, lifetime, own}
 use Rattle.router_rules.specs.Rule.{rule}
-use Rattle.router_steps.specs.Steps.{facts_then, sent_then}
+use Rattle.router_rules.specs.Steps.{facts_then, sent_then}
 
 -- ---- lines that a node can hold: within the limits of each table, and within capacity and MTU at each interface
 pub record CanBeHeld (p : Place) (gs : List Line) : Type 0 where

@@ -26,7 +26,7 @@ use Rattle.router_rules.specs.Requests.{toward}
 use Rattle.router_rules.specs.Rule.{rule}
 use Rattle.router_rules.specs.Sends.{error_send}
 use Rattle.router_lookups.specs.FactLaws.{ComesBy}
-use Rattle.router_steps.specs.Steps.{sent_then}
+use Rattle.router_rules.specs.Steps.{sent_then}
 use Rattle.router_resvs.specs.ReservationLaws.{IsListed}
 
 -- ---- where an error with a flow comes from

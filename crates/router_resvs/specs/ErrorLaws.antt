@@ -13,8 +13,8 @@ use Rattle.router_rules.specs.Facts.{Blockade, Facts, WallKey}
 use Rattle.router_rules.specs.Inputs.{Came, Input, Spelt}
 use Rattle.router_rules.specs.Place.{Place, own}
 use Rattle.router_lookups.specs.FactLaws.{ComesBy}
-use Rattle.router_steps.specs.FrameLaws.{AreSameButMarks}
-use Rattle.router_steps.specs.Steps.{facts_then}
+use Rattle.router_inputs.specs.Frames.{AreSameButMarks}
+use Rattle.router_rules.specs.Steps.{facts_then}
 use Rattle.rsvp_base.specs.declared.addr.Addr.{Addr}
 use Rattle.rsvp_base.specs.declared.session.Sender.{Sender}
 

@@ -20,10 +20,10 @@ use Rattle.router_rules.specs.Known.{Lane}
 use Rattle.router_rules.specs.Line.{error, first, flow, group, node_r, path, path_tear, r1, r2, refreshed, resv, resv_err, s1, scope, sent, session, t1, usual, wild}
 use Rattle.router_rules.specs.Place.{Place}
 use Rattle.router_rules.specs.Requests.{toward}
-use Rattle.router_steps.specs.FrameLaws.{on_paths, on_resvs, on_senders, on_walls, on_wants}
-use Rattle.router_steps.specs.PathLaws.{CameOnTree, PathDies, PathIsTorn, said_by}
-use Rattle.router_steps.specs.Steps.{facts_then, fired_then, is_calm, sent_then}
-use Rattle.router_bounds.specs.BoundLaws.{AreFewer, IsFit, IsFitStale, IsSameNode}
+use Rattle.router_inputs.specs.Frames.{on_paths, on_resvs, on_senders, on_walls, on_wants}
+use Rattle.router_inputs.specs.Sources.{CameOnTree, said_by}
+use Rattle.router_steps.specs.PathLaws.{PathDies, PathIsTorn}
+use Rattle.router_rules.specs.Steps.{AreFewer, IsFit, IsFitStale, IsSameNode, facts_then, fired_then, is_calm, sent_then}
 use Rattle.router_resvs.specs.AcceptingLaws.{CanBeHeld, CanBeTaken, line_at}
 use Rattle.router_resvs.specs.ErrorLaws.{only_goes_on}
 

@@ -15,7 +15,7 @@ use Rattle.router_rules.specs.Facts.{resvs_of}
 use Rattle.router_rules.specs.Inputs.{Came, Input, Spelt, Wait}
 use Rattle.router_rules.specs.Line.{error, flow, r1, r2, resv, resv_err, s1, scope, sent, session, t1, usual, wild}
 use Rattle.router_rules.specs.Requests.{toward}
-use Rattle.router_steps.specs.Steps.{facts_then, sent_then}
+use Rattle.router_rules.specs.Steps.{facts_then, sent_then}
 use Rattle.router_resvs.specs.Examples.{back, of_t, one_path, one_resv, r, reserved, resv_in}
 use Rattle.router_resvs.specs.ReservationLaws.{IsKnownThen, Touches}
 

@@ -29,8 +29,7 @@ use Rattle.router_rules.specs.Sends.{hop_to, tear_of}
 use Rattle.router_lookups.specs.FactLaws.{ComesBy}
 use Rattle.router_lookups.specs.SendLaws.{IsGone}
 use Rattle.router_lookups.specs.RuleLaws.{IsLeft}
-use Rattle.router_steps.specs.Steps.{facts_then, fired_then, sent_then}
-use Rattle.router_bounds.specs.BoundLaws.{IsLeftOf}
+use Rattle.router_rules.specs.Steps.{IsLeftOf, facts_then, fired_then, sent_then}
 
 -- ---- where a reservation comes from
 -- names that are listed; all are where there is no list

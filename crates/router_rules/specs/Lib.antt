@@ -19,6 +19,7 @@ pub mod Rule
 pub mod Flags
 pub mod Fronts
 pub mod Bounds
+pub mod Steps
 pub mod Line
 pub mod PathRows
 pub mod ResvRows

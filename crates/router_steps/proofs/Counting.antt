@@ -3,32 +3,23 @@ use Rattle.std.specs.Prelude.{◌≡◌, ℕ, ◌+◌, ◌*◌, ◌%◌, nat_le,
 use Rattle.std.proofs.Common.{sym, ap, ◌∙◌, inl, inr, ⊎_elim}
 use Rattle.std.proofs.lemmas.Bool.{leb-true}
 use Rattle.std.specs.Option.{unwrap_or}
-use Rattle.rsvp_base.specs.declared.addr.Addr.{Addr}
 use Rattle.rsvp_base.specs.declared.session.Session.{Session}
 use Rattle.rsvp_base.specs.Orders.{sessions}
 use Rattle.rsvp_base.specs.Sets.{Set}
 use Rattle.rsvp_base.specs.Table.{empty, get, has}
 use Rattle.rsvp_base.proofs.Tables.{either, get-changed, then_do}
-use Rattle.router_rules.specs.Act.{act, is_mine}
+use Rattle.router_rules.specs.Act.{act}
 use Rattle.router_rules.specs.Facts.{Facts}
-use Rattle.router_rules.specs.Forgetting.{counted, settle}
-use Rattle.router_rules.specs.Inputs.{Arrival, Input, Call, Wait, Clear, Came, Moved, Spelt, Unspelt}
+use Rattle.router_rules.specs.Forgetting.{counted}
+use Rattle.router_rules.specs.Inputs.{Input, Call, Wait, Clear, Came, Moved}
 use Rattle.router_rules.specs.Place.{Place, period}
 use Rattle.router_rules.specs.Waiting.{next_due}
 use Rattle.router_lookups.proofs.Knowing.{known_and_via}
 use Rattle.router_lookups.proofs.Leaving.{countdowns_settle, waiting_leaves_the_living}
 use Rattle.router_lookups.proofs.Lists.{some_same}
 use Rattle.router_steps.specs.CountdownLaws.{CountdownsMoveByTheirRule, IsMoved, IsReached}
-use Rattle.router_steps.specs.Steps.{facts_then, fired_then, is_calm}
-use Rattle.router_steps.proofs.Framing.{spelt_leaves}
-
--- ---- after settling
-pub stands_settled : (p : Place) (c : ℕ) (f : Facts) (s : Session) → has (settle p c f).due s ≡ has (counted f) s
-stands_settled p c f s = ap is_some (countdowns_settle p c f s) ∙ by (has (counted f) s)
-  where
-    by : (b : Bool) → is_some (cond b (Some (unwrap_or (get f.due s) (c + period p))) None) ≡ b
-    by true = refl
-    by false = refl
+use Rattle.router_rules.specs.Steps.{facts_then, fired_then, is_calm}
+use Rattle.router_inputs.proofs.Stepping.{stands_settled, quiet_due}
 
 module _ (old p : Place) (c : ℕ) (i : Input) (f : Facts) (s : Session) where
   pub due_then : get (facts_then old p c i f).due s ≡ cond (has (counted (act p c i f).facts) s) (Some (unwrap_or (get (act p c i f).facts.due s) (c + period p))) None
@@ -44,11 +35,6 @@ module _ (old p : Place) (c : ℕ) (i : Input) (f : Facts) (s : Session) where
 
   stands_where : has (facts_then old p c i f).due s ≡ has (counted (facts_then old p c i f)) s
   stands_where = stands_settled p c (act p c i f).facts s
-
--- ---- what a calm input does by itself
-pub quiet_due : (p : Place) (c e : ℕ) (dst : Addr) (a : Arrival) (f : Facts) → ((act p c (Came e dst a) f).facts.due ≡ f.due) × ((act p c (Came e dst a) f).fired ≡ empty)
-quiet_due p c e dst (Unspelt m) f = (refl, refl)
-quiet_due p c e dst (Spelt m) f = let l = spelt_leaves p c e m (is_mine p e dst m) f in (l.due, l.fired)
 
 waits_move : (old p : Place) (c ms word : ℕ) (f : Facts) (s : Session) (t to : ℕ) → get f.due s ≡ Some t → get (facts_then old p c (Wait ms word) f).due s ≡ Some to
     → ((to ≡ t) × (has (fired_then p c (Wait ms word) f) s ≡ false)) ⊎ (IsMoved p c (Wait ms word) t to × (has (fired_then p c (Wait ms word) f) s ≡ true))

@@ -1,8 +1,7 @@
 -- What is sent for path state, and refreshes.
-use Rattle.std.specs.Prelude.{◌≡◌, ℕ, ◌<◌, ◌⊎◌, ◌||◌, nat_lt, Bool, true, false, cond, length, is_some, List, Option, Some, None, refl}
+use Rattle.std.specs.Prelude.{◌≡◌, ℕ, ◌<◌, ◌⊎◌, ◌||◌, Bool, true, false, cond, length, is_some, List, Option, Some, None, refl}
 use Rattle.std.proofs.Common.{sym, ap, subst, ◌∙◌, inl, inr, ⊎_elim}
-use Rattle.std.proofs.lemmas.Bool.{ltb-true, lt-ltb}
-use Rattle.std.specs.Option.{option_map}
+use Rattle.std.proofs.lemmas.Bool.{lt-ltb}
 use Rattle.rsvp_base.specs.declared.addr.Addr.{Addr}
 use Rattle.rsvp_base.specs.declared.session.Sender.{Sender}
 use Rattle.rsvp_base.specs.declared.session.Session.{Session}
@@ -10,79 +9,33 @@ use Rattle.rsvp_base.specs.declared.style.StyleKind.{StyleKind}
 use Rattle.rsvp_base.specs.declared.style.StyleKind.TheVariants.{Wild, Fixed, Shared}
 use Rattle.rsvp_base.specs.Members.{In}
 use Rattle.rsvp_base.specs.Table.{empty, get, has}
-use Rattle.rsvp_base.specs.TokenBucket.{TokenBucket}
-use Rattle.rsvp_base.proofs.SetLaws.{and_both, and_made}
+use Rattle.rsvp_base.proofs.SetLaws.{and_made}
 use Rattle.rsvp_base.proofs.Tables.{either}
 use Rattle.rsvp_messages.specs.declared.ask.Ask.{Ask}
 use Rattle.rsvp_messages.specs.declared.message.Message.TheVariants as message
 use Rattle.rsvp_messages.specs.declared.message.PathMsg.{PathMsg}
 use Rattle.rsvp_messages.specs.declared.message.PathTearMsg.{PathTearMsg}
-use Rattle.style_rules.specs.Toward.{or_else}
 use Rattle.router_rules.specs.Act.{act}
 use Rattle.router_rules.specs.Asking.{ask_of}
-use Rattle.router_rules.specs.Facts.{Facts, PathState}
+use Rattle.router_rules.specs.Facts.{Facts}
 use Rattle.router_rules.specs.Inputs.{ErrMsg, Input, OfPath, OfResv, Send, Wait}
 use Rattle.router_rules.specs.Known.{Lane, known, lanes}
 use Rattle.router_rules.specs.Offers.{Offer, OfferKey, offer_at, offers}
 use Rattle.router_rules.specs.Place.{Place, goes_out, own, period}
 use Rattle.router_rules.specs.Requests.{toward}
-use Rattle.router_rules.specs.Rule.{is_silent, settled, spoken}
+use Rattle.router_rules.specs.Rule.{is_silent, settled}
 use Rattle.router_rules.specs.Sends.{confirm_for, error_message, is_changed, is_new_offer, path_send, resv_send}
 use Rattle.router_lookups.specs.FactLaws.{is_way}
 use Rattle.router_lookups.specs.SendLaws.{IsConf, IsError, IsPath, IsPathTear, IsResv, IsResvTear, IsSend}
-use Rattle.router_lookups.proofs.Knowing.{has-known}
-use Rattle.router_lookups.proofs.Lists.{passed, some_is}
+use Rattle.router_lookups.proofs.Lists.{some_is}
 use Rattle.router_lookups.proofs.Offering.{offers_by_way}
 use Rattle.router_lookups.proofs.Requesting.{requests_and_toward}
 use Rattle.router_lookups.proofs.Ruling.{rule_in_parts}
 use Rattle.router_lookups.proofs.Sending.{sends_are_of_six_kinds}
-use Rattle.router_steps.specs.SpeakingLaws.{IsLocalOffer, IsOfGoneOffer, IsOfOffer, IsPathOffer, IsPathRefresh, IsResvRefresh, RefreshesAreMarked, WhatAPathSentSays, WhyAPathTearIsSent}
-use Rattle.router_steps.specs.Steps.{facts_then, fired_then, sent_then}
+use Rattle.router_steps.specs.SpeakingLaws.{IsOfGoneOffer, IsOfOffer, IsPathRefresh, IsResvRefresh, RefreshesAreMarked, WhatAPathSentSays, WhyAPathTearIsSent}
 use Rattle.router_steps.proofs.Counting.{reached}
-
--- ---- offers
-abbrev of_local : TokenBucket → Offer
-of_local flow = record { tspec = flow; local = true }
-
-abbrev of_path : PathState → Offer
-of_path path = record { tspec = path.tspec; local = false }
-
-source_by : (f : Facts) (k : OfferKey) (o : Offer) (u : Option TokenBucket) (w : Option PathState) → get f.senders (k.session, k.sender) ≡ u → get f.paths (k.session, k.sender) ≡ w → or_else (option_map of_local u) (option_map of_path w) ≡ Some o
-    → IsLocalOffer f k o ⊎ IsPathOffer f k o
-source_by f k o (Some flow) w g h e =
-    let is : of_local flow ≡ o = cc in inl (record { there = g ∙ ap (λ (z : Offer). Some z.tspec) is; local = ap (λ (z : Offer). z.local) (sym is) })
-source_by f k o None (Some path) g h e =
-    let is : of_path path ≡ o = cc in inr (record { no_local = g; path = path; there = h; tspec = ap (λ (z : Offer). z.tspec) (sym is); local = ap (λ (z : Offer). z.local) (sym is) })
-source_by f k o None None g h e = absurd (cc)
-
-pub offer_source : (f : Facts) (k : OfferKey) (o : Offer) → offer_at f k ≡ Some o → IsLocalOffer f k o ⊎ IsPathOffer f k o
-offer_source f k o e = source_by f k o (get f.senders (k.session, k.sender)) (get f.paths (k.session, k.sender)) refl refl e
-
--- a sender is offered exactly where it is known
-offered_is_known : (f : Facts) (k : OfferKey) → is_some (offer_at f k) ≡ has (known f k.session) k.sender
-offered_is_known f k = by (get f.senders (k.session, k.sender)) (get f.paths (k.session, k.sender)) ∙ sym (has-known f k.session k.sender)
-  where
-    by : (u : Option TokenBucket) (w : Option PathState) → is_some (or_else (option_map of_local u) (option_map of_path w)) ≡ (is_some u || is_some w)
-    by (Some flow) w = refl
-    by None (Some path) = refl
-    by None None = refl
-
--- what is offered has a way, and its sender is known
-record IsOffered (p : Place) (f : Facts) (k : OfferKey) (o : Offer) : Type 0 where
-  way : is_way p k ≡ true
-  at : offer_at f k ≡ Some o
-  there : k.iface < length p.ifaces
-  out : goes_out p k.session k.iface k.sender ≡ true
-  known_one : has (known f k.session) k.sender ≡ true
-
-offered : (p : Place) (f : Facts) (k : OfferKey) (o : Offer) → get (offers p f) k ≡ Some o → IsOffered p f k o
-offered p f k o e =
-    let t = passed (is_way p k) (offer_at f k) o (sym (offers_by_way p f k) ∙ e) in
-    let w = and_both (nat_lt k.iface (length p.ifaces)) (goes_out p k.session k.iface k.sender) t.0 in
-    record { way = t.0; at = t.1; there = ltb-true k.iface (length p.ifaces) w.0; out = w.1; known_one = sym (offered_is_known f k) ∙ ap is_some t.1 }
-
-pub offer_of : (p : Place) (f : Facts) (k : OfferKey) (o : Offer) → get (offers p f) k ≡ Some o → offer_at f k ≡ Some o
-offer_of p f k o e = (offered p f k o e).at
+use Rattle.router_rules.specs.Steps.{facts_then, sent_then, fired_then}
+use Rattle.router_inputs.proofs.Stepping.{offer_source, offered_is_known, offered, send_told}
 
 not_offered : (p : Place) (f : Facts) (k : OfferKey) → has (offers p f) k ≡ false → (is_way p k ≡ false) ⊎ (has (known f k.session) k.sender ≡ false)
 not_offered p f k e = by (is_way p k) refl (ap is_some (sym (offers_by_way p f k)) ∙ e)
@@ -106,13 +59,6 @@ module _ (old p : Place) (c : ℕ) (i : Input) (f : Facts) where
 
   abbrev IsSendThen : Send → Type 0
   IsSendThen s = IsSend old p f after (act p c i f) s
-
-  pub send_told : (s : Send) → In s (sent_then old p c i f) → IsSendThen s
-  send_told s h = by (is_silent i) h
-    where
-      by : (b : Bool) → In s (spoken b old p f after (act p c i f)).sent → IsSendThen s
-      by true h = absurd h
-      by false h = (sends_are_of_six_kinds.each old p f after (act p c i f) s).0 h
 
   pub send_made : (s : Send) → is_silent i ≡ false → IsSendThen s → In s (sent_then old p c i f)
   send_made s loud k = subst (λ (xs : List Send). In s xs) (sym (rule_in_parts.loud old p c i f loud)) ((sends_are_of_six_kinds.each old p f after (act p c i f) s).1 k)

@@ -8,7 +8,7 @@ use Rattle.router_rules.specs.Facts.{Facts}
 use Rattle.router_rules.specs.Inputs.{Input, Wait, Clear}
 use Rattle.router_rules.specs.Known.{known}
 use Rattle.router_rules.specs.Place.{Place, period}
-use Rattle.router_steps.specs.Steps.{facts_then, fired_then, is_calm}
+use Rattle.router_rules.specs.Steps.{facts_then, fired_then, is_calm}
 
 -- a wait reached the moment t, and it moved by half a period and up to one more
 pub record IsMoved (p : Place) (c : ℕ) (i : Input) (t to : ℕ) : Type 0 where

@@ -1,4 +1,3 @@
-pub mod Steps
 pub mod FrameLaws
 pub mod PathLaws
 pub mod CountdownLaws

@@ -3,9 +3,7 @@ use Rattle.std.specs.Prelude.{◌≡◌, ℕ, ◌≤◌, ◌⊎◌, true, Some, 
 use Rattle.rsvp_base.specs.Orders.{senders}
 use Rattle.rsvp_base.specs.SessionLimits.{IsWithinSessionLimits}
 use Rattle.rsvp_base.specs.Table.{get, put_in}
-use Rattle.rsvp_base.specs.TokenBucket.{TokenBucket}
 use Rattle.rsvp_messages.specs.declared.message.Message.TheVariants as message
-use Rattle.rsvp_messages.specs.declared.message.PathMsg.{PathMsg}
 use Rattle.rsvp_messages.specs.declared.message.PathTearMsg.{PathTearMsg}
 use Rattle.router_rules.specs.declared.answers.Heard.TheVariants as heard
 use Rattle.router_rules.specs.declared.answers.Why.TheVariants as why
@@ -13,29 +11,12 @@ use Rattle.router_rules.specs.Bounds.{IsWithinBounds}
 use Rattle.router_rules.specs.Facts.{Facts, PathState, SenderKey}
 use Rattle.router_rules.specs.Inputs.{Input, Wait, Clear, Came, Spelt}
 use Rattle.router_rules.specs.Known.{came_by}
-use Rattle.router_rules.specs.Paths.{path_state}
-use Rattle.router_rules.specs.Place.{Place, comes_in}
+use Rattle.router_rules.specs.Place.{Place}
 use Rattle.router_rules.specs.Rule.{rule}
-use Rattle.router_steps.specs.Steps.{facts_then}
+use Rattle.router_rules.specs.Steps.{facts_then}
+use Rattle.router_inputs.specs.Sources.{CameOnTree, said_by, IsLearnt}
 
--- ---- a Path that counts: it came to its group, with a sender, by the interface that leads to the sender
-pub record CameOnTree (p : Place) (i : Input) (k : SenderKey) : Type 0 where
-  pub at : ℕ
-  pub path : PathMsg
-  pub tspec : TokenBucket
-  pub came : i ≡ Came at k.0.group (Spelt (message.Path path))
-  pub session : path.session ≡ k.0
-  pub sender : path.sender ≡ Some (k.1, tspec)
-  pub tree : comes_in p k.0 at k.1 ≡ true
-
--- what such a Path says
-abbrev pub said_by : (p : Place) (c : ℕ) (i : Input) (k : SenderKey) → CameOnTree p i k → PathState
-said_by p c i k by = path_state p c by.at by.path by.tspec
-
-pub record IsLearnt (p : Place) (c : ℕ) (i : Input) (k : SenderKey) (x : PathState) : Type 0 where
-  pub by : CameOnTree p i k
-  pub is : x ≡ said_by p c i k by
-
+-- ---- it was there, or a Path brought it
 abbrev pub WhereAPathFactComesFrom : Type 0
 WhereAPathFactComesFrom =
     (old p : Place) (b c : ℕ) (i : Input) (f : Facts) → IsWithinBounds old b f → (k : SenderKey) (x : PathState) → get (facts_then old p c i f).paths k ≡ Some x → (get f.paths k ≡ Some x) ⊎ IsLearnt p c i k x

@@ -1,5 +1,5 @@
 -- What is sent for path state, and why; and which sends are refreshes: the claims of the public laws.
-use Rattle.std.specs.Prelude.{◌≡◌, ℕ, ◌<◌, ◌⊎◌, true, false, length, Option, Some, None}
+use Rattle.std.specs.Prelude.{◌≡◌, ℕ, ◌<◌, ◌⊎◌, true, false, length, Option, Some}
 use Rattle.rsvp_base.specs.declared.addr.Addr.{Addr}
 use Rattle.rsvp_base.specs.declared.session.Sender.{Sender}
 use Rattle.rsvp_base.specs.declared.session.Session.{Session}
@@ -12,7 +12,7 @@ use Rattle.rsvp_messages.specs.declared.message.PathTearMsg.{PathTearMsg}
 use Rattle.rsvp_messages.specs.declared.message.ResvMsg.{ResvMsg}
 use Rattle.router_rules.specs.Asking.{ask_of}
 use Rattle.router_rules.specs.Bounds.{IsWithinBounds}
-use Rattle.router_rules.specs.Facts.{Facts, PathState}
+use Rattle.router_rules.specs.Facts.{Facts}
 use Rattle.router_rules.specs.Inputs.{Input, Send, Wait}
 use Rattle.router_rules.specs.Known.{Lane, known}
 use Rattle.router_rules.specs.Offers.{Offer, OfferKey, offer_at, offers}
@@ -20,19 +20,8 @@ use Rattle.router_rules.specs.Place.{Place, goes_out, own, period}
 use Rattle.router_rules.specs.Requests.{toward}
 use Rattle.router_rules.specs.Sends.{is_new_offer, path_send, resv_send}
 use Rattle.router_lookups.specs.FactLaws.{is_way}
-use Rattle.router_steps.specs.Steps.{facts_then, fired_then, sent_then}
-
--- ---- an offer is of a local sender, with its words, or else of path state, with those of its Path
-pub record IsLocalOffer (f : Facts) (k : OfferKey) (o : Offer) : Type 0 where
-  pub there : get f.senders (k.session, k.sender) ≡ Some o.tspec
-  pub local : o.local ≡ true
-
-pub record IsPathOffer (f : Facts) (k : OfferKey) (o : Offer) : Type 0 where
-  pub no_local : get f.senders (k.session, k.sender) ≡ None
-  pub path : PathState
-  pub there : get f.paths (k.session, k.sender) ≡ Some path
-  pub tspec : o.tspec ≡ path.tspec
-  pub local : o.local ≡ false
+use Rattle.router_rules.specs.Steps.{facts_then, fired_then, sent_then}
+use Rattle.router_inputs.specs.Sources.{IsLocalOffer, IsPathOffer}
 
 -- ---- a Path that is sent is of an offer after the step: its sender is known then, and its tree goes out of the interface,
 -- which is there. It goes to the group, and its hop is the node's own address of the interface

@@ -22,8 +22,9 @@ use Rattle.calm_rounds.specs.Lines.{DueLaws, Good, Moves, Stands}
 use Rattle.calm_rounds.proofs.Holding.{hold_map, hold_both, hold_all, hold_later, hold_start, hold_stack, hold_keep}
 use Rattle.calm_rounds.proofs.Renewing.{what_is_said_is_kept}
 use Rattle.tree_model.specs.Goals.{addr_of}
-use Rattle.router_steps.specs.PathLaws.{CameOnTree, IsReplaced, PathGoes, said_by}
-use Rattle.router_steps.specs.Steps.{facts_then}
+use Rattle.router_inputs.specs.Sources.{CameOnTree, said_by}
+use Rattle.router_steps.specs.PathLaws.{IsReplaced, PathGoes}
+use Rattle.router_rules.specs.Steps.{facts_then}
 use Rattle.router_steps.proofs.Learning.{a_path_on_the_tree_is_learnt, how_a_path_fact_goes}
 use Rattle.router_steps.proofs.Speaking.{refreshes_are_marked}
 use Rattle.router_rules.specs.Facts.{Facts, SenderKey, PathState, sender_keys}

@@ -7,7 +7,7 @@ use Rattle.rsvp_base.specs.TokenBucket.{TokenBucket}
 use Rattle.rsvp_messages.specs.declared.message.Message.TheVariants as message
 use Rattle.rsvp_messages.specs.declared.message.PathMsg.{PathMsg}
 use Rattle.calm_rounds.specs.Lines.{KeepLaws}
-use Rattle.router_steps.specs.PathLaws.{IsLearnt}
+use Rattle.router_inputs.specs.Sources.{IsLearnt}
 use Rattle.router_steps.proofs.Learning.{where_a_path_fact_comes_from}
 use Rattle.router_rules.specs.Facts.{Facts, SenderKey, PathState}
 use Rattle.router_rules.specs.Inputs.{Wait, Came, Spelt}

@@ -20,7 +20,7 @@ use Rattle.rsvp_messages.specs.Units.{AskedUnit, ask_style, asked_units}
 use Rattle.style_rules.specs.Parts.{part_le}
 use Rattle.style_rules.specs.PartLaws.{part_at_most_told, part_at_most_both_ways}
 use Rattle.calm_rounds.proofs.Holding.{hold_map}
-use Rattle.router_steps.specs.Steps.{facts_then}
+use Rattle.router_rules.specs.Steps.{facts_then}
 use Rattle.router_rules.specs.Asking.{ask_of}
 use Rattle.router_rules.specs.Facts.{Facts, ResvState, resvs_of}
 use Rattle.router_rules.specs.Inputs.{Arrival, Came, Spelt, Unspelt, WantAs}

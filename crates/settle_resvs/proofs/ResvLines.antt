@@ -20,7 +20,7 @@ use Rattle.router_rules.specs.Facts.{Facts, ResvState, resvs_of}
 use Rattle.router_rules.specs.Inputs.{Wait, Came, Spelt}
 use Rattle.router_rules.specs.Place.{own}
 use Rattle.router_rules.specs.Rule.{Outcome}
-use Rattle.router_bounds.specs.BoundLaws.{IsLeftOf}
+use Rattle.router_rules.specs.Steps.{IsLeftOf}
 use Rattle.router_resvs.specs.ReservationLaws.{IsAskedFor, IsListed}
 use Rattle.router_resvs.proofs.Asking.{where_a_reservation_fact_comes_from}
 use Rattle.tree_model.specs.Networks.{Net, node_of, end_at, iface_of}

@@ -13,7 +13,7 @@ use Rattle.rsvp_messages.specs.declared.message.ResvMsg.{ResvMsg}
 use Rattle.rsvp_messages.specs.declared.message.ResvTearMsg.{ResvTearMsg}
 use Rattle.rsvp_messages.specs.Units.{ask_style, tear_style}
 use Rattle.tree_model.specs.Goals.{addr_of}
-use Rattle.router_steps.specs.Steps.{facts_then}
+use Rattle.router_rules.specs.Steps.{facts_then}
 use Rattle.router_rules.specs.Asking.{ask_of}
 use Rattle.router_rules.specs.Facts.{Facts, ResvState, resvs_of}
 use Rattle.router_rules.specs.Inputs.{Came, Spelt}
