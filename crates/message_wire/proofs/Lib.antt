@@ -8,3 +8,4 @@ pub mod Made
 pub mod ProperRead
 pub mod Whole
 pub mod Grammar
+pub mod Closed

@@ -15,6 +15,35 @@ pub fn ones_sum(bytes: &[u8]) -> u32
     ensures is { result ≡ ones_sum bytes.now }
     ensures word { result ≤ 65535 }
 {
+    if bytes.len() <= 4096 {
+        return folded(bytes);
+    }
+    summed(bytes)
+}
+
+// The sum of a message: it is folded once, at the end.
+#[tactic(auto, using(crate::proofs::Closed::plus_closed))]
+fn folded(bytes: &[u8]) -> u32
+    requires { length bytes.now ≤ 4096 }
+    ensures is { result ≡ ones_sum bytes.now }
+    ensures word { result ≤ 65535 }
+{
+    let mut rest = bytes;
+    let mut sum: u32 = 0;
+    while rest.len() >= 2 {
+        sum += BigEndian::read_u16(rest) as u32;
+        rest = &rest[2..];
+    }
+    if !rest.is_empty() {
+        sum += rest[0] as u32 * 256;
+    }
+    if sum == 0 { 0 } else { (sum - 1) % 65535 + 1 }
+}
+
+fn summed(bytes: &[u8]) -> u32
+    ensures is { result ≡ ones_sum bytes.now }
+    ensures word { result ≤ 65535 }
+{
     let mut rest = bytes;
     let mut sum = 0;
     while rest.len() >= 2 {

@@ -34,6 +34,7 @@ impl Seen {
 
     /// Adds what one more object says.
     #[tactic(auto, unfolding(crate::specs::Said::with_object))]
+    #[inline(always)]
     pub fn add(&mut self, object: Object)
         requires { HasRoom self.old object }
         ensures { self.new ≡ with_object self.old object }

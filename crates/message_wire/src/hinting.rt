@@ -8,6 +8,7 @@ use rsvp_objects::{ObjErr, Object, head_at, object_with};
 
 /// The hint of bytes: of each of four classes what the first object says that has no fault of its own. The walk goes by the
 /// lengths of objects, up to the first that is broken.
+#[cold]
 pub fn hint(bytes: &[u8]) -> Hint
     requires long { 8 ≤ length bytes.now }
     requires short { length bytes.now ≤ 65535 }

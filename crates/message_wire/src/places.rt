@@ -11,6 +11,7 @@ use rsvp_objects::{ObjErr, Object};
 
 /// Whether an object of this class may stand behind those that were seen.
 #[tactic(auto, unfolding(crate::specs::Places::has_place))]
+#[inline(always)]
 pub fn has_place(kind: Kind, seen: &Seen, number: u8) -> bool
     ensures { result ≡ has_place kind seen.now number }
 {
@@ -92,6 +93,7 @@ fn tear_place(style: StyleKind, number: u8) -> bool
 
 /// Whether an object of this class, which stands once, stood before.
 #[tactic(auto, unfolding(crate::specs::Places::is_repeated))]
+#[inline(always)]
 pub fn is_repeated(kind: Kind, seen: &Seen, number: u8) -> bool
     ensures { result ≡ is_repeated kind seen.now number }
 {
@@ -102,6 +104,7 @@ pub fn is_repeated(kind: Kind, seen: &Seen, number: u8) -> bool
 }
 
 #[tactic(auto, unfolding(crate::specs::Places::stood))]
+#[inline(always)]
 fn stood(seen: &Seen, number: u8) -> bool
     ensures { result ≡ stood seen.now number }
 {
@@ -120,6 +123,7 @@ fn stood(seen: &Seen, number: u8) -> bool
 }
 
 /// The fault of a FILTER_SPEC whose sender stood in the list before, or is a 17th. `at` is its place.
+#[inline(always)]
 pub fn name_fault(at: u16, seen: &Seen, object: &Object) -> Option<Fault>
     ensures { result ≡ name_fault at seen.now object.now }
 {

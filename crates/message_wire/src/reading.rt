@@ -36,6 +36,7 @@ pub fn walk(kind: Kind, bytes: &[u8]) -> Result<Seen, Fault>
 
 // The object at a place behind others, and the place behind it. Else the first fault there.
 #[tactic(auto, unfolding(crate::specs::Places::object_in))]
+#[inline(always)]
 fn object_in(kind: Kind, seen: &Seen, at: usize, bytes: &[u8]) -> Result<(Object, usize), Fault>
     requires inside { at < length bytes.now }
     requires short { length bytes.now ≤ 65535 }
@@ -69,6 +70,7 @@ fn object_in(kind: Kind, seen: &Seen, at: usize, bytes: &[u8]) -> Result<(Object
 }
 
 // The object with these contents; some are not read in messages of a kind.
+#[inline(always)]
 fn read_in(kind: Kind, at: u16, class: u8, ctype: u8, body: &[u8]) -> Result<Object, ObjErr>
     ensures { result ≡ read_in kind at class ctype body.now }
 {

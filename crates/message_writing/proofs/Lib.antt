@@ -6,3 +6,4 @@ pub mod Listed
 pub mod ReadAgain
 pub mod Ranged
 pub mod Spelt
+pub mod Sealing

@@ -1,14 +1,11 @@
--- The checksum that is written is right: in closed form, the one's complement sum is the plain sum modulo 65,535, and 0 only
--- where all words are.
+-- The checksum that is written is right, by the closed form of the one's complement sum.
 use Rattle.std.proofs.Common.{◌≡◌, ℕ, suc, ◌+◌, ◌*◌, ◌-◌, ◌/◌, ◌%◌, ◌≤◌, ◌<◌, List, [], ◌∷◌, ◌++◌, length, get_or, refl, ap, ◌∙◌, arith}
 use Rattle.std.specs.List.{AllByRecursion}
 use Rattle.rsvp_messages.specs.declared.message.Kind.{Kind}
 use Rattle.rsvp_messages.specs.declared.message.Kind.TheVariants as kind
 use Rattle.message_wire.specs.Sum.{words_in, plus, sum_from, ones_sum}
+use Rattle.message_wire.proofs.Closed.{closed, plus_closed}
 use Rattle.message_writing.specs.Encoding.{kind_number, header, checksum}
-
-abbrev closed : ℕ → ℕ
-closed n = n - (n - 1) / 65535 * 65535
 
 abbrev total : List ℕ → ℕ
 total [] = 0
@@ -17,12 +14,9 @@ total (w ∷ ws) = w + total ws
 abbrev IsWord : ℕ → Type 0
 IsWord w = w ≤ 65535
 
-plus_closed : (x n w : ℕ) → x ≡ closed n → w ≤ 65535 → plus x w ≡ closed (n + w)
-plus_closed x n w e h = omega arith
-
 sum_closed : (ws : List ℕ) (n : ℕ) → AllByRecursion IsWord ws → sum_from (closed n) ws ≡ closed (n + total ws)
 sum_closed [] n h = let e : n ≡ n + 0 = omega arith in ap closed e
-sum_closed (w ∷ ws) n h = ap (λ x. sum_from x ws) (plus_closed (closed n) n w refl h.0) ∙ sum_closed ws (n + w) h.1 ∙ (let e : n + w + total ws ≡ n + (w + total ws) = omega arith in ap closed e)
+sum_closed (w ∷ ws) n h = ap (λ x. sum_from x ws) (plus_closed n w h.0) ∙ sum_closed ws (n + w) h.1 ∙ (let e : n + w + total ws ≡ n + (w + total ws) = omega arith in ap closed e)
 
 sum_is : (ws : List ℕ) → AllByRecursion IsWord ws → sum_from 0 ws ≡ closed (total ws)
 sum_is ws h = sum_closed ws 0 h ∙ (let e : 0 + total ws ≡ total ws = omega arith in ap closed e)

@@ -1,5 +1,5 @@
 //! Messages as bytes.
-ghost use Rattle.std.specs.Prelude.{◌≡◌, ◌≤◌, ◌+◌, ◌++◌, length};
+ghost use Rattle.std.specs.Prelude.{◌≡◌, ◌≤◌, ◌+◌, ◌++◌, length, drop, get_or, ℕ, ◌<◌};
 ghost use Rattle.rsvp_messages.specs.Kinds.{kind_of};
 ghost use Rattle.rsvp_messages.specs.Proper.{IsProper};
 ghost use Rattle.message_wire.specs.Spells.{Spells};
@@ -15,57 +15,71 @@ use rsvp_objects::Packet;
 
 /// The bytes of a message (RFC 2205, 3.1), at most 1,024: its objects in one order, behind a header with the checksum.
 /// They spell each message that is proper, so that `decode` gives it back.
-#[tactic(auto, unfolding(crate::specs::Encoding::encoding))]
 pub fn encode(message: &Message) -> Packet
     ensures text { result ≡ encoding message.now }
     ensures short { length result ≤ 1024 }
     ensures right { ones_sum result ≡ 65535 }
     ensures again { IsProper message.now → Spells result message.now }
 {
-    know_lengths(message);
-    know_fields(message);
-    sealed(message.kind(), body(message).bytes())
+    let mut packet = Packet::new();
+    encode_into(message, &mut packet);
+    packet
 }
 
-// The objects of a message.
-fn body(message: &Message) -> Packet
-    ensures text { result ≡ body_of message.now }
+/// Writes the bytes of a message in place of those of a packet.
+#[tactic(auto, unfolding(crate::specs::Encoding::encoding))]
+pub fn encode_into(message: &Message, packet: &mut Packet)
+    ensures text { packet.new ≡ encoding message.now }
+    ensures short { length packet.new ≤ 1024 }
+    ensures right { ones_sum packet.new ≡ 65535 }
+    ensures again { IsProper message.now → Spells packet.new message.now }
+{
+    know_lengths(message);
+    know_fields(message);
+    let kind = message.kind();
+    packet.clear();
+    let _ = packet.append(&header(kind, 0, 0));
+    put_body(message, packet);
+    seal(kind, packet);
+}
+
+// Puts the objects of a message behind a header.
+fn put_body(message: &Message, packet: &mut Packet)
+    requires { length packet.old ≡ 8 }
+    ensures text { packet.new ≡ packet.old ++ body_of message.now }
     ensures short { length (body_of message.now) ≤ 1016 }
 {
     know_lengths(message);
-    let mut body = Packet::new();
-    match put_objects(message, &mut body) {
-        Ok(()) => body,
+    match put_objects(message, packet) {
+        Ok(()) => {}
         Err(_) => unreachable!(),
     }
 }
 
-// A header whose checksum is right, and then a body.
+// Writes the length and the checksum into a header with zeros there.
 #[tactic(auto, unfolding(crate::specs::Encoding::sealed))]
-fn sealed(kind: Kind, body: &[u8]) -> Packet
-    requires { length body.now ≤ 1016 }
-    ensures text { result ≡ sealed kind body.now }
-    ensures long { length (sealed kind body.now) ≡ 8 + length body.now }
-    ensures right { ones_sum (sealed kind body.now) ≡ 65535 }
+fn seal(kind: Kind, packet: &mut Packet)
+    requires head { packet.old ≡ header kind 0 0 ++ drop 8 packet.old }
+    requires short { length packet.old ≤ 1024 }
+    ensures text { packet.new ≡ sealed kind (drop 8 packet.old) }
+    ensures long { length (sealed kind (drop 8 packet.old)) ≡ length packet.old }
+    ensures right { ones_sum (sealed kind (drop 8 packet.old)) ≡ 65535 }
 {
-    let size = 8 + body.len() as u16;
-    let sum = checksum(kind, size, body);
-    let mut packet = Packet::new();
-    let _ = packet.append(&header(kind, sum, size));
-    let _ = packet.append(body);
-    packet
+    let text = packet.bytes();
+    know_bytes(text);
+    let size = (text.len() as u16).to_be_bytes();
+    packet.set(6, size[0]);
+    packet.set(7, size[1]);
+    let sum = (65535 - ones_sum(packet.bytes()) as u16).to_be_bytes();
+    packet.set(2, sum[0]);
+    packet.set(3, sum[1]);
 }
 
-fn checksum(kind: Kind, size: u16, body: &[u8]) -> u16
-    requires whole { size ≡ 8 + length body.now }
-    requires short { size ≤ 1024 }
-    ensures is { result ≡ checksum kind body.now }
-    ensures right { ones_sum (header kind (checksum kind body.now) (8 + length body.now) ++ body.now) ≡ 65535 }
+// Each is a byte.
+fn know_bytes(bytes: &[u8])
+    ensures { (i : ℕ) → get_or bytes.now i 0 < 256 }
 {
-    let mut packet = Packet::new();
-    let _ = packet.append(&header(kind, 0, size));
-    let _ = packet.append(body);
-    65535 - ones_sum(packet.bytes()) as u16
+    let _ = bytes;
 }
 
 // The common header (RFC 2205, 3.1.1): version 1 without flags, type, checksum, Send_TTL 64, length.

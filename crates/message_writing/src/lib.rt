@@ -11,5 +11,5 @@ mod lengths;
 mod lists;
 mod messages;
 
-pub use encoding::encode;
+pub use encoding::{encode, encode_into};
 pub use laws::{what_is_in_place_stands, what_is_spelt_is_writable};

@@ -18,6 +18,7 @@ use rsvp_base::{Addr, ErrSpec, Hop, Sender, Senders, Session, StyleKind};
 
 /// The object with these contents, which have the size of their class, or its fault. `at` is its place.
 #[tactic(auto, unfolding(crate::specs::Reading::contents_of))]
+#[inline(always)]
 pub fn contents(at: u16, class: Class, body: &[u8]) -> Result<Object, ObjErr>
     requires size { IsSized class body.now }
     ensures { result ≡ contents_of at class body.now }
@@ -101,6 +102,7 @@ fn style(body: &[u8]) -> Option<StyleKind>
 
 // The service is looked at before the words, so that a flow of another service has a fault of its own.
 #[tactic(auto, unfolding(crate::specs::Reading::contents_of))]
+#[inline(always)]
 fn flow_spec(at: u16, body: &[u8]) -> Result<Object, ObjErr>
     ensures { result ≡ contents_of at Class.FlowSpec body.now }
 {

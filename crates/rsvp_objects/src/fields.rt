@@ -6,6 +6,7 @@ use byteorder::{BigEndian, ByteOrder};
 use rsvp_base::Addr;
 
 /// The 16-bit number at a place.
+#[inline(always)]
 pub fn half_at(bytes: &[u8], place: usize) -> u16
     requires { place + 2 ≤ length bytes.now }
     ensures { result ≡ spec.half_at place bytes.now }
@@ -14,6 +15,7 @@ pub fn half_at(bytes: &[u8], place: usize) -> u16
 }
 
 /// The 32-bit number at a place.
+#[inline(always)]
 pub fn word_at(bytes: &[u8], place: usize) -> u32
     requires { place + 4 ≤ length bytes.now }
     ensures { result ≡ spec.word_at place bytes.now }
@@ -22,6 +24,7 @@ pub fn word_at(bytes: &[u8], place: usize) -> u32
 }
 
 /// The address at a place.
+#[inline(always)]
 pub fn addr_at(bytes: &[u8], place: usize) -> Addr
     requires { place + 4 ≤ length bytes.now }
     ensures { result ≡ spec.addr_at place bytes.now }

@@ -10,6 +10,7 @@ use rsvp_base::{Flow, Peak, Rate};
 
 /// The flow that the contents of a FLOWSPEC or SENDER_TSPEC of a service say. `None` where they are not the eight words.
 #[tactic(auto, unfolding(crate::specs::FlowWords::flow_in))]
+#[inline(always)]
 pub fn flow(body: &[u8], service: u8) -> Option<Flow>
     ensures { result ≡ flow_in service body.now }
 {
@@ -20,6 +21,7 @@ pub fn flow(body: &[u8], service: u8) -> Option<Flow>
 }
 
 // Whether the first three words are right.
+#[inline(always)]
 fn has_heads(body: &[u8], service: u8) -> bool
     requires { length body.now ≡ 32 }
     ensures { result ≡ has_heads service body.now }
@@ -34,6 +36,7 @@ fn has_heads(body: &[u8], service: u8) -> bool
 
 // The flow in the other five.
 #[tactic(auto, unfolding(crate::specs::FlowWords::bucket_in))]
+#[inline(always)]
 fn bucket(body: &[u8]) -> Option<Flow>
     requires { length body.now ≡ 32 }
     ensures { result ≡ bucket_in body.now }
@@ -47,6 +50,7 @@ fn bucket(body: &[u8]) -> Option<Flow>
 }
 
 // The rate of the word at a place, if it is finite.
+#[inline(always)]
 fn rate_at(body: &[u8], place: usize) -> Option<Rate>
     requires { place + 4 ≤ length body.now }
     ensures { result ≡ rate_at place body.now }
@@ -58,6 +62,7 @@ fn rate_at(body: &[u8], place: usize) -> Option<Rate>
 }
 
 // The rate or infinity of the word at a place.
+#[inline(always)]
 fn peak_at(body: &[u8], place: usize) -> Option<Peak>
     requires { place + 4 ≤ length body.now }
     ensures { result ≡ peak_at place body.now }

@@ -1,5 +1,5 @@
 //! Packets.
-ghost use Rattle.std.specs.Prelude.{◌≡◌, ◌≤◌, ◌<◌, ◌+◌, ◌++◌, ◌↔◌, [], length, IfOk, OnOk, OnErr, IsErr};
+ghost use Rattle.std.specs.Prelude.{◌≡◌, ◌≤◌, ◌<◌, ◌+◌, ◌++◌, ◌↔◌, [], length, slice_set, IfOk, OnOk, OnErr, IsErr};
 
 use arrayvec::ArrayVec;
 use rsvp_base::Full;
@@ -62,6 +62,22 @@ impl Packet {
             Ok(()) => Ok(()),
             Err(_) => Err(Full),
         }
+    }
+
+    /// Takes all bytes out.
+    pub fn clear(&mut self)
+        ensures { self.new ≡ [] }
+    {
+        self.list.clear();
+    }
+
+    /// Writes a byte over the one at a place.
+    #[tactic(auto, using(rsvp_base::proofs::Rows::written_back))]
+    pub fn set(&mut self, at: usize, byte: u8)
+        requires { at < length self.old }
+        ensures { self.new ≡ slice_set self.old at byte }
+    {
+        self.list[at] = byte;
     }
 
     /// An equal packet.

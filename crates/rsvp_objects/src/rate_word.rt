@@ -33,6 +33,7 @@ const ROOM_ABOVE: u32 = 23;
 ///
 /// Refused with the first of the causes of `RateErr` that holds.
 #[tactic(auto, using(crate::proofs::WordAnswers::only_answer))]
+#[inline(always)]
 pub fn rate_of_word(word: u32) -> Result<Peak, RateErr>
     ensures ok { IfOk result (StandsFor word) }
     ensures err { IfErr result (IsFirstFault word) }
@@ -42,6 +43,7 @@ pub fn rate_of_word(word: u32) -> Result<Peak, RateErr>
     read_word(word)
 }
 
+#[inline(always)]
 fn read_word(word: u32) -> Result<Peak, RateErr>
     ensures ok { IfOk result (StandsFor word) }
     ensures err { IfErr result (IsFirstFault word) }
@@ -79,6 +81,7 @@ fn read_word(word: u32) -> Result<Peak, RateErr>
 }
 
 // The rate `mantissa << up`.
+#[inline(always)]
 fn moved_up(mantissa: u64, up: u32) -> Rate
     requires short { mantissa < 2 ^ 24 }
     requires low { up < 23 }

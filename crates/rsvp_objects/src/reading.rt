@@ -28,6 +28,7 @@ pub fn next_object(bytes: &[u8], at: usize) -> Result<(Object, usize), ObjErr>
 
 /// The head of the object at a place. Refused as `Short` or `Length` alone.
 #[tactic(auto, unfolding(crate::specs::Reading::head_of))]
+#[inline(always)]
 pub fn head_at(bytes: &[u8], at: usize) -> Result<Head, ObjErr>
     requires inside { at ≤ length bytes.now }
     requires short { length bytes.now ≤ 65535 }
@@ -51,6 +52,7 @@ pub fn head_at(bytes: &[u8], at: usize) -> Result<Head, ObjErr>
 
 /// The object with this Class-Num, C-Type and contents. `at` is its place, for the fault that it has otherwise.
 #[tactic(auto, unfolding(crate::specs::Reading::body_of))]
+#[inline(always)]
 pub fn object_with(at: u16, class: u8, ctype: u8, body: &[u8]) -> Result<Object, ObjErr>
     ensures { result ≡ body_of at class ctype body.now }
 {
@@ -70,6 +72,7 @@ pub fn object_with(at: u16, class: u8, ctype: u8, body: &[u8]) -> Result<Object,
 }
 
 // Whether contents have the size, where it is fixed.
+#[inline(always)]
 fn has_size(size: Option<usize>, body: &[u8]) -> bool
     ensures { result ≡ has_size size body.now }
 {

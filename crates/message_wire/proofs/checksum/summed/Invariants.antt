@@ -1,6 +1,6 @@
 use Rattle.std.proofs.Common.{◌≡◌, ◌≤◌, length}
 use Rattle.message_wire.specs.Sum.{sum_from, words_in, ones_sum}
-use Rattle.message_wire.proofs.checksum.ones_sum.Given as goal
+use Rattle.message_wire.proofs.checksum.summed.Given as goal
 
 abbrev pub invariant-loop-rest : goal.invariant-loop-rest
 invariant-loop-rest l = record {
