@@ -4,3 +4,4 @@ pub mod Machines
 pub mod Quiet
 pub mod Changing
 pub mod Worked
+pub mod NodeLocals

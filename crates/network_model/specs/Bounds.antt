@@ -16,7 +16,7 @@ use Rattle.tree_model.specs.declared.hops.TreeHop.{TreeHop}
 use Rattle.tree_model.specs.Networks.{owner}
 use Rattle.tree_model.specs.Ranks.{longest}
 use Rattle.tree_model.specs.Valid.{IsValid}
-use Rattle.network_model.specs.Links.{is_group}
+use Rattle.network_model.specs.Links.{is_group, NoEndIsAGroup}
 use Rattle.network_model.specs.Locals.{locals_of, sessions_of}
 use Rattle.network_model.specs.Steps.{Step, machine}
 use Rattle.network_model.specs.Worlds.{Item, World, place_of}
@@ -35,6 +35,7 @@ pub record IsItem (w : World) (x : Item) : Type 0 where
 pub record AreBounds (q : ℕ) (w : World) : Type 0 where
   pub period : 1 ≤ q
   pub net : IsValid w.net
+  pub hosts : NoEndIsAGroup w.net
   -- nodes have a route for each tree that has a hop
   pub routed : (r : TreeHop) → In r w.net.hops → In (r.group, r.source) w.trees
   pub nodes : length w.nodes ≡ w.net.nodes

@@ -1,16 +1,21 @@
 -- Where a datagram goes that is sent out of an end of a link (a shared medium has up to eight ends).
-use Rattle.std.specs.Prelude.{ℕ, nat_le, nat_lt, Bool, true, false, ◌&&◌, List, [], ◌∷◌, map as each, Option, None, Some}
+use Rattle.std.specs.Prelude.{◌≡◌, ℕ, nat_le, nat_lt, Bool, true, false, ◌&&◌, List, [], ◌∷◌, map as each, Option, None, Some, slice_get}
 use Rattle.std.specs.List.{filter, flat_map}
 use Rattle.rsvp_base.specs.declared.addr.Addr.{Addr}
 use Rattle.tree_model.specs.Goals.{addr_of}
 use Rattle.router_rules.specs.Inputs.{Send, Spelt}
 use Rattle.router_rules.specs.Place.{is_addr}
+use Rattle.tree_model.specs.declared.hops.End.{End}
 use Rattle.tree_model.specs.Networks.{Net, end_at, peers}
 use Rattle.network_model.specs.Worlds.{Item}
 
 -- a multicast group: 224.0.0.0 to 239.255.255.255 (RFC 1112, 4)
 abbrev pub is_group : Addr → Bool
 is_group a = nat_le 3758096384 a.0 && nat_lt a.0 4026531840
+
+-- an end has the address of a host, so what is sent to it goes nowhere else
+abbrev pub NoEndIsAGroup : Net → Type 0
+NoEndIsAGroup net = (e : ℕ) (x : End) → slice_get net.ends e ≡ Some x → is_group x.iface.addr ≡ false
 
 -- those of the ends that have the address, or else all
 abbrev pub or_all : List ℕ → List ℕ → List ℕ

@@ -12,6 +12,7 @@ use Rattle.rsvp_base.specs.Table.{get, size}
 use Rattle.rsvp_base.specs.TokenBucket.{TokenBucket}
 use Rattle.rsvp_messages.specs.declared.message.Message.TheVariants as message
 use Rattle.rsvp_messages.specs.declared.message.PathMsg.{PathMsg}
+use Rattle.rsvp_messages.specs.declared.message.ResvErrMsg.{ResvErrMsg}
 use Rattle.rsvp_messages.specs.declared.message.ResvMsg.{ResvMsg}
 use Rattle.rsvp_messages.specs.Units.{AskedUnit, ask_style, asked_units}
 use Rattle.tree_model.specs.Goals.{addr_of}
@@ -24,6 +25,7 @@ use Rattle.tree_model.specs.declared.hops.Hop.{Hop}
 use Rattle.tree_model.specs.Networks.{node_of, end_at, iface_of}
 use Rattle.tree_model.specs.Trees.{tree, hops_of, inward}
 use Rattle.network_model.specs.Locals.{IsLive, locals_of}
+use Rattle.network_model.specs.Steps.{Step, arrived, outcome}
 use Rattle.network_model.specs.Worlds.{Item, World}
 
 -- ---- paths
@@ -105,5 +107,16 @@ abbrev pub AreResvsExact : World → Type 0
 AreResvsExact w = (st : StyleKind) (s : Session) (h : Hop) → In h (hops_of w.net.hops s.group) → IsExact st w s h
 
 -- ---- no refusal and no blockade is left
+-- each unit of each Resv that arrives by the step stands at the node to which it comes as it was asked for: none is refused,
+-- left out or cut
+abbrev pub TakesAll : ℕ → Step → World → Type 0
+TakesAll q s w =
+    (y : Item) (m : ResvMsg) (f : Facts) (u : AskedUnit) → arrived s w ≡ Some y → y.arrival ≡ Spelt (message.Resv m) → slice_get w.nodes (node_of w.net.ends y.end) ≡ Some f → In u (asked_units m.ask)
+    → (r : ResvState) × (get (resvs_of (ask_style m.ask) (outcome q s w (node_of w.net.ends y.end) f).facts) (m.session, ((iface_of w.net.ends y.end, m.hop.addr), u.unit)) ≡ Some r) × (u.names ≡ Some r.part.senders) × (u.flow ≡ r.part.flow)
+
+-- no ResvErr with a flow is in flight: none that sets a blockade
+abbrev pub HasNoFlowError : World → Type 0
+HasNoFlowError w = (y : Item) (m : ResvErrMsg) → In y w.flight → y.arrival ≡ Spelt (message.ResvErr m) → m.blame.flow ≡ None
+
 pub record IsFreeOfBlockade (w : World) : Type 0 where
   pub walls : (n : ℕ) (f : Facts) → slice_get w.nodes n ≡ Some f → size f.walls ≡ 0

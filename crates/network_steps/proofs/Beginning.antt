@@ -31,7 +31,7 @@ use Rattle.network_model.specs.Runs.{Plan, left_over, first_facts, first_world}
 use Rattle.network_model.specs.Worlds.{place_of}
 use Rattle.network_steps.specs.Example.{pair_net}
 use Rattle.network_steps.specs.Beginning.{IsFitPlan, left_key, left_resv, APlanIsFit}
-use Rattle.network_steps.proofs.Example.{valid}
+use Rattle.network_steps.proofs.Example.{hosts, valid}
 use Rattle.network_steps.proofs.Known.{has_some}
 
 -- ---- nodes have a route for each tree that has a hop
@@ -67,6 +67,7 @@ the_first_world_is_within_bounds p fit =
     record {
       period = fit.period;
       net = fit.net;
+      hosts = fit.hosts;
       routed = routed_first p.net.hops;
       nodes = many;
       facts = λ n f there.
@@ -103,6 +104,7 @@ a_plan_is_fit = record {
   fit = record {
     period = omega arith;
     net = valid;
+    hosts = hosts;
     stale = λ n i lt j.
         ⊎_elim
         (λ (same : (n, i) ≡ (0, StaleResv Wild left_key left_resv)). subst (λ (z : ℕ × Stale). IsFitStale (place_of 7500 pair_net (trees_of pair_net.hops) z.0) 0 z.1) (sym same) fit_resv)

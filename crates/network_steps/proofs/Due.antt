@@ -17,7 +17,8 @@ use Rattle.network_model.specs.Worlds.{World, place_of}
 use Rattle.network_model.proofs.Quiet.{IsWaited, IsCame, FollowsRule, input_found, outcome_by, outcome_quiet}
 use Rattle.network_model.proofs.Stepping.{facts_after_made}
 use Rattle.network_steps.specs.Refreshes.{due_at, Refreshes}
-use Rattle.network_steps.proofs.Known.{of_some, calm_input}
+use Rattle.network_steps.proofs.Known.{of_some}
+use Rattle.network_steps.proofs.Locals.{calm_input}
 
 -- ---- a refreshed life is 21 quarters
 pub full_life : (q : ℕ) → 1 ≤ q → (21 * max 1 (min (4 * q) (4 * q)) + 3) / 4 ≡ 21 * q

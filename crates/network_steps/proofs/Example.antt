@@ -30,6 +30,7 @@ use Rattle.tree_model.specs.Valid.{IsValid, AreRising}
 use Rattle.tree_model.proofs.Following.{addr_same, in_tree, followers_follow}
 use Rattle.network_model.specs.Bounds.{AreBounds, IsProperArrival}
 use Rattle.network_model.specs.Events.{a_round}
+use Rattle.network_model.specs.Links.{is_group, NoEndIsAGroup}
 use Rattle.network_model.specs.Rows.{end_of, hop_of}
 use Rattle.network_model.specs.Steps.{Step, At, sent, step, machine}
 use Rattle.network_model.specs.Worlds.{Item, World, place_of}
@@ -55,6 +56,11 @@ placed : (e : End) → In e pair_net.ends → e.node < 2
 placed e (inl same) = let n = ap (λ (z : End). z.node) same in omega arith
 placed e (inr (inl same)) = let n = ap (λ (z : End). z.node) same in omega arith
 placed e (inr (inr never)) = absurd never
+
+pub hosts : NoEndIsAGroup pair_net
+hosts zero x a = let same : end_of 0 s1 ≡ x = of_some _ x a in ap (λ (z : End). is_group z.iface.addr) (sym same)
+hosts (suc zero) x a = let same : end_of 1 r1 ≡ x = of_some _ x a in ap (λ (z : End). is_group z.iface.addr) (sym same)
+hosts (suc (suc e)) x a = absurd (cc)
 
 other_addr : (d e : End) → end_of 0 s1 ≡ d → end_of 1 r1 ≡ e → d.iface.addr ≡ e.iface.addr → ⊥
 other_addr d e a b same =
@@ -160,6 +166,7 @@ quiet : AreBounds 7500 quiet_world
 quiet = record {
   period = omega arith;
   net = valid;
+  hosts = hosts;
   routed = λ r i. ⊎_elim (λ (same : r ≡ hop_of 0 1). inl (ap (λ (z : TreeHop). (z.group, z.source)) same)) (λ (never : ⊥). absurd never) i;
   nodes = refl;
   facts = λ n f e. subst (λ (z : Facts). IsWithinBounds (place_of 7500 pair_net quiet_world.trees n) 0 z) (nothing_there n f e) (no_facts_are_within_bounds (place_of 7500 pair_net quiet_world.trees n) 0);

@@ -221,6 +221,7 @@ module _ (q : ℕ) (s : Step) (w : World) (bounds : AreBounds q w) (fit : IsFitS
       record {
         period = bounds.period;
         net = valid_after q s w fit bounds.net;
+        hosts = λ e x a. bounds.hosts e x (ap (λ (ends : List End). slice_get ends e) (sym (ends_same s w)) ∙ a);
         routed = routed_after q s w fit bounds.routed;
         nodes = facts_length w.nodes 0 ∙ bounds.nodes ∙ sym (nodes_same s w);
         facts = λ n g a.

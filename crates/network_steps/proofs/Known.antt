@@ -6,7 +6,6 @@ use Rattle.std.proofs.lemmas.Option.{slice_get_within}
 use Rattle.calm_rounds.specs.Hold.{Hold}
 use Rattle.calm_rounds.specs.Rounds.{Rounds}
 use Rattle.calm_rounds.proofs.Holding.{hold_map, hold_both, hold_keep}
-use Rattle.router_rules.specs.Steps.{is_calm}
 use Rattle.router_steps.proofs.Framing.{calm_steps_keep_the_locals}
 use Rattle.router_rules.specs.Facts.{Facts}
 use Rattle.router_rules.specs.Inputs.{Input, Came}
@@ -19,9 +18,10 @@ use Rattle.network_model.specs.Steps.{Step, is_quiet, ms_of, arrived, input_at, 
 use Rattle.network_model.specs.Worlds.{Item, World, place_of}
 use Rattle.rsvp_base.proofs.Fronts.{got_in}
 use Rattle.network_model.proofs.Machines.{quiet_of}
-use Rattle.network_model.proofs.Quiet.{IsWaited, IsCame, FollowsRule, input_found, input_came, net_quiet, outcome_quiet}
+use Rattle.network_model.proofs.Quiet.{IsCame, FollowsRule, input_came, net_quiet, outcome_quiet}
 use Rattle.network_model.proofs.Stepping.{facts_after_found, facts_after_made}
 use Rattle.network_steps.specs.Known.{IsSameNet, IsKnown}
+use Rattle.network_steps.proofs.Locals.{calm_input, locals_kept}
 use Rattle.network_steps.proofs.Standing.{same_end, some_at}
 
 -- ---- values that may be there
@@ -36,11 +36,7 @@ pub or_true : (b : Bool) → (b || true) ≡ true
 or_true true = refl
 or_true false = refl
 
--- ---- quiet steps keep the network and the local senders
-pub calm_input : (s : Step) (u : World) (n : ℕ) (i : Input) → is_quiet s ≡ true → input_at s u n ≡ Some i → is_calm i ≡ true
-calm_input s u n i quiet e =
-    ⊎_elim (λ (t : IsWaited s u n i). ap is_calm t.is) (λ (t : IsCame s u n i). ap is_calm t.is) (input_found s u n i quiet e)
-
+-- ---- quiet steps keep the network and what its hosts ask of it
 module _ (q : ℕ) (s : Step) (u : World) (quiet : is_quiet s ≡ true) (bounds : AreBounds q u) where
   senders_outcome : (n : ℕ) (f : Facts) → slice_get u.nodes n ≡ Some f → (outcome q s u n f).facts.senders ≡ f.senders
   senders_outcome n f a =
@@ -67,15 +63,16 @@ module _ (q : ℕ) (s : Step) (u : World) (quiet : is_quiet s ≡ true) (bounds 
     net = net_quiet s u quiet ∙ same.net;
     trees = same.trees;
     senders = λ n. senders_kept n ∙ same.senders n;
+    locals = locals_kept q s u quiet bounds ∙ same.locals;
   }
 
--- ---- worlds with one network and the same local senders
+-- ---- worlds with one network of which the same is asked
 pub known_hold : (q : ℕ) (w : World) (rs : List (List Step)) → Rounds (machine q) rs w → Hold (machine q) 0 rs w (AreBounds q) → Hold (machine q) 0 rs w (IsKnown q w)
 known_hold q w rs calm bounds =
     hold_map (machine q) (λ u. AreBounds q u × IsSameNet w u) (IsKnown q w) (λ u h. record { bounds = h.0; same = h.1 }) 0 rs w
     (hold_both (machine q) (AreBounds q) (IsSameNet w) 0 rs w bounds
     (hold_keep (machine q) (AreBounds q) (IsSameNet w) (λ s u quiet b b' same. same_kept q s u (quiet_of q s quiet) b w same) rs w calm bounds
-    (record { net = refl; trees = refl; senders = λ n. refl })))
+    (record { net = refl; trees = refl; senders = λ n. refl; locals = refl })))
 
 -- ---- the node of an end is there
 pub node_there : (q : ℕ) (o : World) → IsValid o.net → (u : World) (e : ℕ) → IsKnown q o u → e < length o.net.ends → (f : Facts) × (slice_get u.nodes (node_of o.net.ends e) ≡ Some f)

@@ -1,4 +1,5 @@
 pub mod Standing
+pub mod Locals
 pub mod Known
 pub mod Due
 pub mod Sends
@@ -9,3 +10,4 @@ pub mod Example
 pub mod Beginning
 pub mod Passing
 pub mod Calming
+pub mod Runs

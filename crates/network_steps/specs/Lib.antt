@@ -5,3 +5,4 @@ pub mod Refreshes
 pub mod Hops
 pub mod Example
 pub mod Beginning
+pub mod Runs

@@ -3,18 +3,20 @@ ghost use Rattle.std.specs.Prelude.{◌≡◌, ℕ, List, Bool, Some};
 ghost use Rattle.rsvp_base.specs.declared.addr.Addr.{Addr};
 ghost use Rattle.rsvp_base.specs.Members.{In};
 ghost use Rattle.rsvp_messages.specs.declared.message.Message.{Message};
-ghost use Rattle.calm_rounds.specs.Hold.{Hold};
+ghost use Rattle.calm_rounds.specs.Hold.{Hold, Visited};
 ghost use Rattle.calm_rounds.specs.Rounds.{Rounds};
 ghost use Rattle.router_rules.specs.Inputs.{Spelt};
 ghost use Rattle.network_model.specs.Bounds.{AreBounds};
-ghost use Rattle.network_model.specs.Runs.{Plan, first_world};
+ghost use Rattle.network_model.specs.Runs.{Plan, first_world, steps_of_run};
 ghost use Rattle.network_model.specs.Steps.{Step, machine, sent, step};
 ghost use Rattle.network_model.specs.Worlds.{Item, World};
 ghost use Rattle.network_steps.specs.Beginning.{APlanIsFit, IsFitPlan};
 ghost use Rattle.network_steps.specs.Example.{APairStaysWithinBounds};
 ghost use Rattle.network_steps.specs.Hops.{LeavesBy, hop_of};
 ghost use Rattle.network_steps.specs.Keeping.{IsFitStep};
+ghost use Rattle.network_steps.specs.Known.{IsSameNet};
 ghost use Rattle.network_steps.specs.Rounds.{RoundsIsCalm};
+ghost use Rattle.network_steps.specs.Runs.{IsFitRun};
 
 /// The command `rounds n` is n calm rounds, one after the other.
 pub fn rounds_is_calm()
@@ -27,6 +29,11 @@ pub fn the_first_world_is_within_bounds()
     ensures { (p : Plan) → IsFitPlan p → AreBounds p.quarter (first_world p) }
 {}
 
+/// So is each world of the run of a script, where what its events call, inject and reroute is fit besides.
+pub fn each_world_of_a_run_is_within_bounds()
+    ensures { (p : Plan) → IsFitRun p → Visited (machine p.quarter) (AreBounds p.quarter) (steps_of_run p) (first_world p) }
+{}
+
 /// Each step keeps a world within bounds, whatever step it is, where its piece, its call, its injected datagram or its new
 /// tree is fit.
 pub fn each_step_keeps_a_world_within_bounds()
@@ -36,6 +43,12 @@ pub fn each_step_keeps_a_world_within_bounds()
 /// So each world of a stretch of calm rounds is within bounds where the first one is.
 pub fn calm_rounds_keep_bounds()
     ensures { (q : ℕ) (w : World) (rs : List (List Step)) → Rounds (machine q) rs w → AreBounds q w → Hold (machine q) 0 rs w (AreBounds q) }
+{}
+
+/// Calm rounds keep the network, its routes, and what its hosts ask of it: who sends, and what is wanted, but for marks of
+/// confirmations. So wants, goals and demands are those of the first world all the while.
+pub fn calm_rounds_keep_what_is_asked()
+    ensures { (q : ℕ) (w : World) (rs : List (List Step)) → Rounds (machine q) rs w → AreBounds q w → Hold (machine q) 0 rs w (IsSameNet w) }
 {}
 
 /// The RSVP_HOP of each Path, PathTear, Resv, ResvTear and ResvErr that a node sends, by whatever step, has the address of
