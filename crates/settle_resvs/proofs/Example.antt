@@ -41,7 +41,7 @@ use Rattle.network_steps.proofs.Example.{a_pair_stays_within_bounds}
 use Rattle.network_steps.proofs.Keeping.{each_step_keeps_a_world_within_bounds}
 use Rattle.settle_resvs.specs.Example.{asking_world, back, asked, SaysAReservation}
 use Rattle.settle_resvs.specs.ResvLines.{SaysResv, line_key_of}
-use Rattle.settle_resvs.specs.Said.{IsSaid, lane_of}
+use Rattle.settle_resvs.specs.Said.{IsSaid, lane_of, resv_key}
 use Rattle.network_steps.proofs.Computed.{Passes, through}
 
 -- ---- tests
@@ -60,7 +60,7 @@ is_kept d None = false
 is_kept d (Some r) = is_asked r.part && (r.dies == d)
 
 abbrev then_kept : World → Item → ResvMsg → Facts → Option ResvState
-then_kept u y m f = get (resvs_of Wild (facts_then (place_in 7500 u 0) (place_in 7500 u 0) u.clock (Came 0 y.dst (Spelt (message.Resv m))) f)) (line_key_of pair_net back)
+then_kept u y m f = get (resvs_of Wild (facts_then (place_in 7500 u 0) (place_in 7500 u 0) u.clock (Came 0 y.dst (Spelt (message.Resv m))) f)) (line_key_of pair_net (resv_key pair_net back))
 
 abbrev does_take : World → Item → ResvMsg → Option Facts → Bool
 does_take u y m None = true
@@ -103,7 +103,7 @@ ask_told (ask.Wild None flow) t = absurd (cc)
 ask_told (ask.Fixed list) t = absurd (cc)
 ask_told (ask.Shared part) t = absurd (cc)
 
-say_told : (y : Item) (m : ResvMsg) → y.arrival ≡ Spelt (message.Resv m) → does_say y m ≡ true → SaysResv pair_net back y asked
+say_told : (y : Item) (m : ResvMsg) → y.arrival ≡ Spelt (message.Resv m) → does_say y m ≡ true → SaysResv pair_net (resv_key pair_net back) y asked
 say_told y m spelt t =
     let a = and_both (y.end == 0) _ t in
     let b = and_both (is_addr y.dst s1) _ a.1 in

@@ -1,5 +1,5 @@
 -- How a reservation that comes over a hop comes and goes, by quiet steps of a network; and that only what is said is kept.
-use Rattle.std.proofs.Common.{◌≡◌, ℕ, ◌+◌, ◌*◌, ◌<◌, ◌≤◌, List, length, Bool, true, Option, None, Some, ◌⊎◌, inl, inr, ⊎_elim, arith, sym, refl, ap, subst, ◌∙◌}
+use Rattle.std.proofs.Common.{◌≡◌, ℕ, ◌+◌, ◌*◌, ◌<◌, ◌≤◌, List, length, true, Option, None, Some, ◌⊎◌, inl, inr, ⊎_elim, arith, sym, refl, ap, subst, ◌∙◌}
 use Rattle.std.specs.Prelude.{slice_get, option_and_then}
 use Rattle.std.specs.Option.{option_map}
 use Rattle.rsvp_base.specs.declared.addr.Addr.{Addr}
@@ -12,7 +12,7 @@ use Rattle.rsvp_messages.specs.declared.message.Message.TheVariants as message
 use Rattle.style_rules.specs.Lines.{LineKey}
 use Rattle.style_rules.specs.Parts.{has_name}
 use Rattle.calm_rounds.specs.Hold.{Hold}
-use Rattle.calm_rounds.specs.Lines.{KeepLaws, KeepsOnly, SaysOnly}
+use Rattle.calm_rounds.specs.Lines.{IsClosed, KeepLaws, KeepsOnly, SaysOnly}
 use Rattle.calm_rounds.specs.Rounds.{Rounds}
 use Rattle.calm_rounds.proofs.Settling.{only_what_is_said_is_kept}
 use Rattle.tree_model.specs.Goals.{addr_of}
@@ -35,7 +35,7 @@ use Rattle.network_steps.specs.Known.{IsKnown}
 use Rattle.network_steps.proofs.Due.{full_life}
 use Rattle.network_steps.proofs.Known.{known_hold, end_found}
 use Rattle.network_steps.proofs.Standing.{own_end}
-use Rattle.settle_resvs.specs.ResvLines.{ResvKey, IsCut, AllowsCuts, AsksFor, SaysResv, line_key_of, resv_at, kept_of, resv_line}
+use Rattle.settle_resvs.specs.ResvLines.{ResvKey, IsCut, AsksFor, SaysResv, line_key_of, resv_at, kept_of, resv_line}
 
 -- ---- look-up
 pub resv_found : (u : World) (n : ℕ) (st : StyleKind) (key : LineKey) (r : ResvState) → resv_at u n st key ≡ Some r → (f : Facts) × (slice_get u.nodes n ≡ Some f) × (get (resvs_of st f) key ≡ Some r)
@@ -160,8 +160,9 @@ resv_keeps q w k lt = record {
       (omega (arith, r.0, x.3), omega (arith, r.1, x.3));
 }
 
-pub only_said_resvs_are_kept : (q : ℕ) (w : World) (k : ResvKey) → k.to < length w.net.ends → (allowed : Part → Bool) → AllowsCuts allowed → (rs : List (List Step)) → Rounds (machine q) rs w → Hold (machine q) 0 rs w (AreBounds q)
-    → Hold (machine q) 0 rs w (SaysOnly (machine q) (resv_line q w k) (λ v. allowed v ≡ true) w.made)
-    → Hold (machine q) 5 rs w (λ u. KeepsOnly (machine q) (resv_line q w k) (λ v. allowed v ≡ true) u × SaysOnly (machine q) (resv_line q w k) (λ v. allowed v ≡ true) 0 u)
-only_said_resvs_are_kept q w k lt allowed cuts rs calm bounds says =
-    only_what_is_said_is_kept (machine q) (time_passes q) (items_are_numbered q) (resv_line q w k) (resv_keeps q w k lt) (λ v. allowed v ≡ true) cuts rs w calm (known_hold q w rs calm bounds) says
+-- ---- only what is said is kept
+pub only_resvs_as_claimed_are_kept : (q : ℕ) (w : World) (k : ResvKey) → k.to < length w.net.ends → (claim : Part → Type 0) → IsClosed IsCut claim → (rs : List (List Step)) → Rounds (machine q) rs w → Hold (machine q) 0 rs w (AreBounds q)
+    → Hold (machine q) 0 rs w (SaysOnly (machine q) (resv_line q w k) claim w.made)
+    → Hold (machine q) 5 rs w (λ u. KeepsOnly (machine q) (resv_line q w k) claim u × SaysOnly (machine q) (resv_line q w k) claim 0 u)
+only_resvs_as_claimed_are_kept q w k lt claim cuts rs calm bounds says =
+    only_what_is_said_is_kept (machine q) (time_passes q) (items_are_numbered q) (resv_line q w k) (resv_keeps q w k lt) claim cuts rs w calm (known_hold q w rs calm bounds) says

@@ -67,28 +67,28 @@ use Rattle.network_steps.proofs.Due.{full_life, due_found, due_made, due_moves, 
 use Rattle.network_steps.proofs.Known.{of_some, has_some, or_true, known_hold, node_there, end_found, came_there}
 use Rattle.network_steps.proofs.Sends.{sent_by_rule}
 use Rattle.network_steps.proofs.Standing.{own_end, peer_there, linked_there}
-use Rattle.settle_resvs.specs.ResvLines.{ResvKey, SaysResv, IsCut, line_key_of, resv_at, kept_of, kept_at, resv_line}
-use Rattle.settle_resvs.specs.Said.{IsOver, IsSaid, lane_of}
+use Rattle.settle_resvs.specs.ResvLines.{SaysResv, IsCut, line_key_of, resv_at, kept_of, kept_at, resv_line}
+use Rattle.settle_resvs.specs.Said.{HopKey, IsOver, IsSaid, lane_of, resv_key}
 use Rattle.settle_resvs.proofs.ResvLines.{resv_found, resv_made, kept_found}
 
 -- ---- letters: Resvs of the session and style, from the end that asks to the end that keeps, and such ResvTears that take a
 -- name of the part
-abbrev speaks : Net → ResvKey → Session → Addr → StyleKind → Bool
+abbrev speaks : Net → HopKey → Session → Addr → StyleKind → Bool
 speaks net k s a st = is_session s k.session && (is_addr a (addr_of net k.from) && is_style st k.style)
 
 abbrev spares_all : ResvTearMsg → Part → Bool
 spares_all m v = list_all (λ (e : Sender × Unit {0}). stays (tear_names m.tear) e.0) v.senders.rows
 
-abbrev letter_message : Net → ResvKey → Part → Message → Bool
+abbrev letter_message : Net → HopKey → Part → Message → Bool
 letter_message net k v (message.Resv m) = speaks net k m.session m.hop.addr (ask_style m.ask)
 letter_message net k v (message.ResvTear m) = speaks net k m.session m.hop.addr (tear_style m.tear) && not (spares_all m v)
 letter_message net k v _ = false
 
-abbrev letter_arrival : Net → ResvKey → Part → Arrival → Bool
+abbrev letter_arrival : Net → HopKey → Part → Arrival → Bool
 letter_arrival net k v (Spelt m) = letter_message net k v m
 letter_arrival net k v (Unspelt e) = false
 
-abbrev is_letter : Net → ResvKey → Part → Item → Bool
+abbrev is_letter : Net → HopKey → Part → Item → Bool
 is_letter net k v y = (y.end == k.to) && letter_arrival net k v y.arrival
 
 spares_told : (m : ResvTearMsg) (v : Part) → spares_all m v ≡ true → TakesName m v → ⊥
@@ -102,13 +102,13 @@ spares_made m v spared =
     in_all (λ (e : Sender × Unit {0}). stays (tear_names m.tear) e.0) v.senders.rows
     (λ e i. either (stays (tear_names m.tear) e.0) (λ t. t) (λ goes. absurd (spared (record { name = e.0; was = ap (λ (o : Option (Unit {0})). is_some o) (in_found senders v.senders e.0 e.1 i); goes = goes }))))
 
-speaks_told : (net : Net) (k : ResvKey) (y : Item) (s : Session) (a : Addr) (st : StyleKind) → y.end ≡ k.to → speaks net k s a st ≡ true → IsOver net k y s a st
+speaks_told : (net : Net) (k : HopKey) (y : Item) (s : Session) (a : Addr) (st : StyleKind) → y.end ≡ k.to → speaks net k s a st ≡ true → IsOver net k y s a st
 speaks_told net k y s a st end e =
     let one = and_both _ _ e in
     let two = and_both _ _ one.1 in
     record { end = end; session = session_told s k.session one.0; from = addr_told a (addr_of net k.from) two.0; style = style_told st k.style two.1 }
 
-speaks_made : (net : Net) (k : ResvKey) (s : Session) (a : Addr) (st : StyleKind) → s ≡ k.session → a ≡ addr_of net k.from → st ≡ k.style → speaks net k s a st ≡ true
+speaks_made : (net : Net) (k : HopKey) (s : Session) (a : Addr) (st : StyleKind) → s ≡ k.session → a ≡ addr_of net k.from → st ≡ k.style → speaks net k s a st ≡ true
 speaks_made net k s a st x y z = and_made _ _ (ties sessions s k.session x) (and_made _ _ (addr_tested a (addr_of net k.from) y) (ties styles st k.style z))
 
 -- how long it lives what a Resv sets
@@ -142,7 +142,7 @@ asks_of_none Wild a e = absurd (cc)
 asks_of_none Fixed a e = absurd (cc)
 asks_of_none Shared a e = absurd (cc)
 
-module _ (q : ℕ) (o : World) (k : ResvKey) (valid : IsValid o.net) (linked : In k.to (peers o.net.links k.from)) (v : Part) (b : ℕ) where
+module _ (q : ℕ) (o : World) (k : HopKey) (valid : IsValid o.net) (linked : In k.to (peers o.net.links k.from)) (v : Part) (b : ℕ) where
   abbrev at_to : ℕ
   at_to = node_of o.net.ends k.to
 
@@ -150,7 +150,7 @@ module _ (q : ℕ) (o : World) (k : ResvKey) (valid : IsValid o.net) (linked : I
   at_from = node_of o.net.ends k.from
 
   abbrev key : LineKey
-  key = line_key_of o.net k
+  key = line_key_of o.net (resv_key o.net k)
 
   lt : k.to < length o.net.ends
   lt = peer_there o.net valid k.from k.to linked
@@ -170,8 +170,8 @@ module _ (q : ℕ) (o : World) (k : ResvKey) (valid : IsValid o.net) (linked : I
   abbrev line : Line World Step Item Lane Part
   line = record {
     sane = IsFirm;
-    kept = kept_at o.net k;
-    says = λ y x. (b ≤ y.born) × SaysResv o.net k y x;
+    kept = kept_at o.net (resv_key o.net k);
+    says = λ y x. (b ≤ y.born) × SaysResv o.net (resv_key o.net k) y x;
     letter = is_letter o.net k v;
     life = λ y. life_of q y.arrival;
     below = IsCut;
@@ -182,7 +182,7 @@ module _ (q : ℕ) (o : World) (k : ResvKey) (valid : IsValid o.net) (linked : I
 
   -- ---- a letter says the part, for a full lifetime
   abbrev Tells : Item → Type 0
-  Tells y = ((b ≤ y.born) × SaysResv o.net k y v) × (life_of q y.arrival ≡ 21 * q)
+  Tells y = ((b ≤ y.born) × SaysResv o.net (resv_key o.net k) y v) × (life_of q y.arrival ≡ 21 * q)
 
   letters : (u : World) → IsFirm u → (y : Item) → In y u.flight → b ≤ y.born → is_letter o.net k v y ≡ true → Tells y
   letters u g y i born is = let both = and_both (y.end == k.to) (letter_arrival o.net k v y.arrival) is in by y.arrival refl (same_number y.end k.to both.0) both.1
@@ -208,7 +208,7 @@ module _ (q : ℕ) (o : World) (k : ResvKey) (valid : IsValid o.net) (linked : I
       by (Unspelt f) a end h = absurd (cc)
 
   -- ---- what is said and arrives is taken
-  takes : (s : Step) (u : World) (y : Item) → is_quiet s ≡ true → IsFirm u → arrived s u ≡ Some y → b ≤ y.born → SaysResv o.net k y v → life_of q y.arrival ≡ 21 * q → kept_at o.net k (step q s u) ≡ Some (v, u.clock + 21 * q)
+  takes : (s : Step) (u : World) (y : Item) → is_quiet s ≡ true → IsFirm u → arrived s u ≡ Some y → b ≤ y.born → SaysResv o.net (resv_key o.net k) y v → life_of q y.arrival ≡ 21 * q → kept_at o.net (resv_key o.net k) (step q s u) ≡ Some (v, u.clock + 21 * q)
   takes s u y quiet g arr born says life =
       let f = node_there q o valid u k.to g.known lt in
       let p : Place = place_of q u.net u.trees at_to in
@@ -281,14 +281,14 @@ module _ (q : ℕ) (o : World) (k : ResvKey) (valid : IsValid o.net) (linked : I
       by (Spelt m) e = by_message m e (touched (Spelt m) e)
       by (Unspelt f) e = touched (Unspelt f) e
 
-  rests : (s : Step) (u : World) (dies : ℕ) → is_quiet s ≡ true → IsFirm u → IsFirm (step q s u) → ((y : Item) → arrived s u ≡ Some y → is_letter o.net k v y ≡ false) → kept_at o.net k u ≡ Some (v, dies) → (step q s u).clock < dies → kept_at o.net k (step q s u) ≡ Some (v, dies)
+  rests : (s : Step) (u : World) (dies : ℕ) → is_quiet s ≡ true → IsFirm u → IsFirm (step q s u) → ((y : Item) → arrived s u ≡ Some y → is_letter o.net k v y ≡ false) → kept_at o.net (resv_key o.net k) u ≡ Some (v, dies) → (step q s u).clock < dies → kept_at o.net (resv_key o.net k) (step q s u) ≡ Some (v, dies)
   rests s u dies quiet g g' none kept later =
       let x = kept_found (resv_at u at_to k.style key) v dies kept in
       let f = resv_found u at_to k.style key x.0 x.1 in
       let p : Place = place_of q u.net u.trees at_to in
       let c : ℕ = u.clock + ms_of s in
       let after : slice_get (step q s u).nodes at_to ≡ Some (outcome q s u at_to f.0).facts = facts_after_made q s u at_to f.0 f.1 in
-      let ends : get (resvs_of k.style (outcome q s u at_to f.0).facts) key ≡ Some x.0 → kept_at o.net k (step q s u) ≡ Some (v, dies) =
+      let ends : get (resvs_of k.style (outcome q s u at_to f.0).facts) key ≡ Some x.0 → kept_at o.net (resv_key o.net k) (step q s u) ≡ Some (v, dies) =
       (λ e. ap (option_map kept_of) (resv_made (step q s u) at_to k.style key (outcome q s u at_to f.0).facts after ∙ e) ∙ (λ i. Some (sym x.2 i, sym x.3 i))) in
       ⊎_elim
       (λ (z : (input_at s u at_to ≡ None) × (outcome q s u at_to f.0 ≡ still f.0)). ends (ap (λ (w : Outcome). get (resvs_of k.style w.facts) key) z.1 ∙ f.2))
@@ -378,8 +378,8 @@ module _ (q : ℕ) (o : World) (k : ResvKey) (valid : IsValid o.net) (linked : I
     due_room = λ u t a e. let f = due_found u at_from k.session t e in let r = (a.known.bounds.facts at_from f.0 f.1).due.moment k.session t f.2 in (r.later, r.soon);
   }
 
-pub said_resvs_are_kept : (q : ℕ) (w : World) (k : ResvKey) (v : Part) → In k.to (peers w.net.links k.from) → (rs : List (List Step)) → Rounds (machine q) rs w → Hold (machine q) 0 rs w (AreBounds q)
-    → Hold (machine q) 0 rs w (IsSaid q w.net k v w.made) → Hold (machine q) 2 rs w (Stands (machine q) (resv_line q w k) v)
+pub said_resvs_are_kept : (q : ℕ) (w : World) (k : HopKey) (v : Part) → In k.to (peers w.net.links k.from) → (rs : List (List Step)) → Rounds (machine q) rs w → Hold (machine q) 0 rs w (AreBounds q)
+    → Hold (machine q) 0 rs w (IsSaid q w.net k v w.made) → Hold (machine q) 2 rs w (Stands (machine q) (resv_line q w (resv_key w.net k)) v)
 said_resvs_are_kept q w k v linked rs calm bounds said =
     let first : AreBounds q w = hold_start (machine q) (AreBounds q) rs w bounds in
     let firm : Hold (machine q) 0 rs w (IsFirm q w k first.net linked v w.made) =

@@ -17,14 +17,14 @@ use Rattle.network_model.specs.Steps.{At, Deliver, step, machine}
 use Rattle.network_model.specs.Worlds.{World}
 use Rattle.network_steps.specs.Example.{pair_net, sending_world}
 use Rattle.network_steps.specs.Rounds.{rounds_of}
-use Rattle.settle_resvs.specs.ResvLines.{ResvKey, resv_line}
-use Rattle.settle_resvs.specs.Said.{IsSaid}
+use Rattle.settle_resvs.specs.ResvLines.{resv_line}
+use Rattle.settle_resvs.specs.Said.{HopKey, IsSaid, resv_key}
 
 -- the first Path has come, and a host at the second node asks for what the sender sends
 abbrev pub asking_world : World
 asking_world = step 7500 (At 1 (WantAs session Wild empty usual false)) (step 7500 (Deliver 0) sending_world)
 
-abbrev pub back : ResvKey
+abbrev pub back : HopKey
 back = record { session = session; style = Wild; unit = One; from = 1; to = 0 }
 
 abbrev pub asked : Part
@@ -36,4 +36,4 @@ pub record SaysAReservation : Type 0 where
   pub rounds : Rounds (machine 7500) (rounds_of 7500 2 asking_world) asking_world
   pub said : Hold (machine 7500) 0 (rounds_of 7500 2 asking_world) asking_world (IsSaid 7500 pair_net back asked asking_world.made)
   -- what is promised does not hold yet
-  pub not_yet : Stands (machine 7500) (resv_line 7500 asking_world back) asked asking_world → ⊥
+  pub not_yet : Stands (machine 7500) (resv_line 7500 asking_world (resv_key pair_net back)) asked asking_world → ⊥

@@ -1,6 +1,7 @@
 -- A reservation that comes over a hop, as a line: what is kept there, and which Resvs speak of it (RFC 2205, 3.1.4).
 use Rattle.std.specs.Prelude.{◌≡◌, ℕ, Bool, true, false, Option, None, Some, slice_get}
 use Rattle.std.specs.Option.{option_map, option_and_then}
+use Rattle.rsvp_base.specs.declared.addr.Addr.{Addr}
 use Rattle.rsvp_base.specs.declared.part.Part.{Part}
 use Rattle.rsvp_base.specs.declared.session.Session.{Session}
 use Rattle.rsvp_base.specs.declared.style.StyleKind.{StyleKind}
@@ -23,17 +24,18 @@ use Rattle.network_model.specs.Steps.{Step, Lane}
 use Rattle.network_model.specs.Worlds.{Item, World}
 use Rattle.network_steps.specs.Known.{IsKnown}
 
--- ---- a session, style and unit over a hop, from the end that asks to the end that keeps
+-- ---- a session, style and unit, from the next hop that asks to the end that keeps. Whether an end has the address of the next
+-- hop is left open: what is left over may name any
 pub record ResvKey : Type 0 where
   pub session : Session
   pub style : StyleKind
   pub unit : UnitOf
-  pub from : ℕ
+  pub next : Addr
   pub to : ℕ
 
--- the reservation of the key is on the interface of the end that keeps, of the next hop that has the address of the other end
+-- the reservation of the key is on the interface of the end that keeps, of the next hop
 abbrev pub line_key_of : Net → ResvKey → LineKey
-line_key_of net k = (k.session, ((iface_of net.ends k.to, addr_of net k.from), k.unit))
+line_key_of net k = (k.session, ((iface_of net.ends k.to, k.next), k.unit))
 
 -- ---- what is kept
 abbrev pub resv_at : World → ℕ → StyleKind → LineKey → Option ResvState
@@ -61,7 +63,7 @@ abbrev pub AsksFor : Option Names → Names → Type 0
 AsksFor None names = Unit {0}
 AsksFor (Some list) names = names ≡ list
 
--- the item is a Resv of the session and style, to the end that keeps, from the end that asks; one of its units is the key's,
+-- the item is a Resv of the session and style, to the end that keeps, from the next hop that asks; one of its units is the key's,
 -- and asks for the part. A wildcard Resv without SCOPE asks for each part with its flow
 pub record SaysResv (net : Net) (k : ResvKey) (y : Item) (v : Part) : Type 0 where
   pub end : y.end ≡ k.to
@@ -70,7 +72,7 @@ pub record SaysResv (net : Net) (k : ResvKey) (y : Item) (v : Part) : Type 0 whe
   pub spelt : y.arrival ≡ Spelt (message.Resv resv)
   pub session : resv.session ≡ k.session
   pub style : ask_style resv.ask ≡ k.style
-  pub hop : resv.hop.addr ≡ addr_of net k.from
+  pub hop : resv.hop.addr ≡ k.next
   pub unit : AskedUnit
   pub asks : In unit (asked_units resv.ask)
   pub at : unit.unit ≡ k.unit
