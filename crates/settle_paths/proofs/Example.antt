@@ -1,5 +1,5 @@
 -- The pair of nodes meets the premises of the laws of paths.
-use Rattle.std.proofs.Common.{◌≡◌, ℕ, zero, suc, ◌≤◌, [], ◌∷◌, length, Bool, true, false, cond, Some, inl, ⊎_elim, arith, sym, refl, ap, ◌∙◌}
+use Rattle.std.proofs.Common.{◌≡◌, ℕ, zero, suc, ◌≤◌, [], ◌∷◌, length, Bool, true, false, cond, Some, inl, ⊎_elim, arith, sym, refl, ap, subst, ◌∙◌}
 use Rattle.std.specs.Prelude.{slice_get, map as each}
 use Rattle.std.specs.Ordering.{eq_by_cmp}
 use Rattle.rsvp_base.specs.Orders.{sessions}
@@ -8,17 +8,24 @@ use Rattle.rsvp_base.specs.TokenBucket.{TokenBucket}
 use Rattle.rsvp_base.proofs.Tables.{got_put_in}
 use Rattle.tree_model.specs.declared.locals.LocalSender.{LocalSender}
 use Rattle.router_rules.specs.Facts.{Facts, SenderKey, sender_keys, no_facts}
+use Rattle.router_rules.specs.Inputs.{Stale, StalePath}
 use Rattle.router_rules.specs.Line.{session, first, usual}
+use Rattle.router_rules.specs.Rule.{facts_with}
+use Rattle.router_rules.specs.Steps.{IsFitStale}
 use Rattle.tree_model.specs.Networks.{owner}
-use Rattle.network_model.specs.Bounds.{AreLocals}
+use Rattle.tree_model.specs.Trees.{trees_of}
+use Rattle.network_model.specs.Bounds.{AreBounds, AreLocals}
 use Rattle.network_model.specs.Links.{is_group}
-use Rattle.network_model.specs.Locals.{IsLive, sessions_of}
+use Rattle.network_model.specs.Locals.{IsLive, senders_at, sessions_of}
+use Rattle.network_model.specs.Runs.{first_facts}
 use Rattle.network_model.specs.Sound.{ArePathsComplete}
+use Rattle.network_model.specs.Worlds.{place_of}
 use Rattle.network_steps.specs.Example.{pair_net, sending_world}
+use Rattle.network_steps.proofs.Beginning.{the_first_world_is_within_bounds}
 use Rattle.network_steps.proofs.Calming.{calm_rounds}
-use Rattle.network_steps.proofs.Example.{a_pair_stays_within_bounds}
+use Rattle.network_steps.proofs.Example.{a_pair_stays_within_bounds, hosts, valid}
 use Rattle.network_steps.proofs.Known.{of_some}
-use Rattle.settle_paths.specs.Example.{MeetsThePremises}
+use Rattle.settle_paths.specs.Example.{MeetsThePremises, APathIsLeftOver, stale_path, stale_plan, stale_world}
 
 -- ---- the one local sender
 abbrev none_yet : Table sender_keys TokenBucket
@@ -67,4 +74,46 @@ a_pair_meets_the_premises = record {
   hop = refl;
   rounds = λ k. calm_rounds 7500 k sending_world;
   not_yet = not_yet;
+}
+
+-- ---- a left-over path
+fit_path : IsFitStale (place_of 7500 pair_net (trees_of pair_net.hops) 1) 0 (StalePath (session, first) stale_path)
+fit_path = (
+  record { later = omega arith; soon = omega arith },
+  record { iface = omega arith; tspec = record { rate = omega arith; depth = omega arith; low = omega arith; most = omega arith } },
+)
+
+stale_bounds : AreBounds 7500 stale_world
+stale_bounds =
+    the_first_world_is_within_bounds stale_plan
+    (record {
+      period = omega arith;
+      net = valid;
+      hosts = hosts;
+      stale = λ n i lt j.
+          ⊎_elim
+          (λ (same : (n, i) ≡ (1, StalePath (session, first) stale_path)). subst (λ (z : ℕ × Stale). IsFitStale (place_of 7500 pair_net (trees_of pair_net.hops) z.0) 0 z.1) (sym same) fit_path)
+          (λ (no : ⊥). absurd no) j;
+    })
+
+-- nobody sends
+nobody : (n : ℕ) (m : Table sender_keys TokenBucket) (k : SenderKey) (t : TokenBucket) → senders_at stale_world n ≡ Some m → get m k ≡ Some t → ⊥
+unfolding facts_with
+nobody zero m k t e h =
+    let same : none_yet ≡ m = of_some _ _ e in
+    let none : get none_yet k ≡ Some t = ap (λ (z : Table sender_keys TokenBucket). get z k) same ∙ h in
+    cc
+nobody (suc zero) m k t e h =
+    let same : none_yet ≡ m = of_some _ _ e in
+    let none : get none_yet k ≡ Some t = ap (λ (z : Table sender_keys TokenBucket). get z k) same ∙ h in
+    cc
+nobody (suc (suc n)) m k t e h = cc
+
+pub a_path_is_left_over : APathIsLeftOver
+unfolding facts_with
+a_path_is_left_over = record {
+  bounds = stale_bounds;
+  rounds = λ k. calm_rounds 7500 k stale_world;
+  there = refl;
+  not_yet = λ sound. let l = (sound.facts 1 (first_facts stale_plan 1) (session, first) stale_path refl refl).sound.live in nobody l.node l.senders (session, first) usual l.at l.sends;
 }

@@ -3,6 +3,8 @@ pub mod PathSends
 pub mod SoundPaths
 pub mod LiveSenders
 pub mod Letters
+pub mod SaidPaths
 pub mod CompletePaths
 pub mod Example
 pub mod Sure
+pub mod PreviousHops

@@ -1,5 +1,5 @@
 -- The small network is sure of its paths: a test of worlds, computed in each that is visited.
-use Rattle.std.proofs.Common.{◌≡◌, ℕ, zero, suc, List, Bool, true, false, Option, None, Some, inl, arith, sym, refl, ap, subst, ◌∙◌}
+use Rattle.std.proofs.Common.{◌≡◌, ◌≤◌, ℕ, zero, suc, List, Bool, true, false, Option, None, Some, inl, arith, sym, refl, ap, subst, ◌∙◌}
 use Rattle.std.specs.Prelude.{slice_get, ◌==◌, ◌&&◌}
 use Rattle.std.specs.List.{list_all}
 use Rattle.std.specs.Ordering.{eq_by_cmp}
@@ -40,6 +40,7 @@ use Rattle.network_steps.proofs.Calming.{calm_rounds}
 use Rattle.settle_paths.proofs.Example.{a_pair_meets_the_premises}
 use Rattle.network_steps.proofs.Keeping.{calm_rounds_keep_bounds}
 use Rattle.network_steps.proofs.Known.{known_hold}
+use Rattle.settle_paths.proofs.CompletePaths.{said_hold}
 use Rattle.settle_paths.proofs.SoundPaths.{sound_again}
 use Rattle.settle_paths.specs.Sure.{forth, IsSureOfPaths}
 use Rattle.network_steps.proofs.Computed.{Passes, in_rounds, through}
@@ -144,13 +145,20 @@ sure_all rs calm t =
     (hold_both (machine 7500) (IsKnown 7500 sending_world) (Passes 7500 is_sure) 0 rs sending_world
     (known_hold 7500 sending_world rs calm (calm_rounds_keep_bounds 7500 sending_world rs calm a_pair_meets_the_premises.bounds)) (through 7500 is_sure rs sending_world t))
 
+sure : Hold (machine 7500) 0 (rounds_of 7500 2 sending_world) sending_world (IsSure 7500 sending_world 0)
+sure = sure_all (rounds_of 7500 2 sending_world) (calm_rounds 7500 2 sending_world) refl
+
+deep : depth pair_net group s1 (node_of pair_net.ends 1) ≤ 1
+deep = let d : depth pair_net group s1 (node_of pair_net.ends 1) ≡ 1 = refl in omega arith
+
 pub a_pair_is_sure : IsSureOfPaths
 a_pair_is_sure = record {
   locals = a_pair_meets_the_premises.locals;
   live = a_pair_meets_the_premises.live;
   there = inl refl;
-  deep = let d : depth pair_net group s1 (node_of pair_net.ends 1) ≡ 1 = refl in omega arith;
+  deep = deep;
   rounds = calm_rounds 7500 2 sending_world;
-  sure = sure_all (rounds_of 7500 2 sending_world) (calm_rounds 7500 2 sending_world) refl;
+  sure = sure;
+  said = said_hold 7500 sending_world a_pair_meets_the_premises.bounds.net a_pair_meets_the_premises.locals 0 key usual forth a_pair_meets_the_premises.live (inl refl) deep (rounds_of 7500 2 sending_world) sending_world (calm_rounds 7500 2 sending_world) sure;
   not_yet = λ s. let none : None ≡ Some ((s1, usual), s.0) = s.1 in absurd (cc);
 }

@@ -1,4 +1,6 @@
 pub mod Lines
 pub mod Telling
+pub mod Said
 pub mod Example
 pub mod Sure
+pub mod PreviousHops

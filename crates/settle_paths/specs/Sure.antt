@@ -14,7 +14,9 @@ use Rattle.network_model.specs.Locals.{IsLive}
 use Rattle.network_model.specs.Steps.{machine}
 use Rattle.network_steps.specs.Example.{pair_net, sending_world}
 use Rattle.network_steps.specs.Rounds.{rounds_of}
-use Rattle.settle_paths.specs.Telling.{IsSure, renewed_line}
+use Rattle.settle_paths.specs.Lines.{path_line}
+use Rattle.settle_paths.specs.Said.{IsSaidPath}
+use Rattle.settle_paths.specs.Telling.{IsSure}
 
 abbrev pub forth : Hop
 forth = record { from = 0; to = 1 }
@@ -26,5 +28,6 @@ pub record IsSureOfPaths : Type 0 where
   pub deep : depth pair_net group s1 (node_of pair_net.ends 1) ≤ 1
   pub rounds : Rounds (machine 7500) (rounds_of 7500 2 sending_world) sending_world
   pub sure : Hold (machine 7500) 0 (rounds_of 7500 2 sending_world) sending_world (IsSure 7500 sending_world 0)
+  pub said : Hold (machine 7500) 0 (rounds_of 7500 2 sending_world) sending_world (IsSaidPath 7500 pair_net (session, first) forth (addr_of pair_net 0, usual) sending_world.made)
   -- what is promised does not hold yet
-  pub not_yet : Stands (machine 7500) (renewed_line 7500 sending_world (session, first) forth 0) (addr_of pair_net 0, usual) sending_world → ⊥
+  pub not_yet : Stands (machine 7500) (path_line 7500 sending_world (session, first) 1) (addr_of pair_net 0, usual) sending_world → ⊥

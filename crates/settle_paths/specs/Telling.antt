@@ -1,5 +1,5 @@
--- Path state at the end of a hop of a sender's tree, as a line that is renewed: which datagrams can touch it, for how long a
--- Path sets it, and when the node before it refreshes.
+-- Path state at the end of a hop of a sender's tree: which datagrams can touch it, for how long a Path sets it, and how far paths
+-- are complete.
 use Rattle.std.specs.Prelude.{◌≡◌, ℕ, ◌+◌, ◌*◌, ◌/◌, ◌≤◌, ◌==◌, ◌&&◌, max, min, Bool, false, Option, None, Some}
 use Rattle.std.specs.Ordering.{eq_by_cmp}
 use Rattle.rsvp_base.specs.declared.session.Sender.{Sender}
@@ -8,25 +8,18 @@ use Rattle.rsvp_base.specs.Members.{In}
 use Rattle.rsvp_base.specs.TokenBucket.{TokenBucket}
 use Rattle.rsvp_messages.specs.declared.message.Message.{Message}
 use Rattle.rsvp_messages.specs.declared.message.Message.TheVariants as message
-use Rattle.calm_rounds.specs.Lines.{Line}
 use Rattle.tree_model.specs.Goals.{addr_of}
 use Rattle.router_rules.specs.Facts.{SenderKey, sender_keys}
 use Rattle.router_rules.specs.Inputs.{Arrival, Spelt, Unspelt}
 use Rattle.tree_model.specs.declared.hops.Hop.{Hop}
-use Rattle.tree_model.specs.Networks.{Net, node_of, iface_of}
+use Rattle.tree_model.specs.Networks.{node_of, iface_of}
 use Rattle.tree_model.specs.Trees.{tree, depth}
 use Rattle.network_model.specs.Locals.{IsLive}
 use Rattle.network_model.specs.Sound.{ArePathsSound}
-use Rattle.network_model.specs.Steps.{Step, Lane, OfSender, sender_of}
+use Rattle.network_model.specs.Steps.{sender_of}
 use Rattle.network_model.specs.Worlds.{Item, World}
 use Rattle.network_steps.specs.Known.{IsKnown}
-use Rattle.network_steps.specs.Refreshes.{due_at, Refreshes}
-use Rattle.settle_paths.specs.Lines.{PathValue, path_at, by_iface, SaysPath}
-
--- a Path that says the value, and goes to its group
-pub record TellsPath (net : Net) (k : SenderKey) (e : ℕ) (y : Item) (v : PathValue) : Type 0 where
-  pub says : SaysPath net k e y v
-  pub dst : y.dst ≡ k.0.group
+use Rattle.settle_paths.specs.Lines.{path_at, by_iface}
 
 -- ---- letters: Paths and PathTears of the key that come to the end
 abbrev pub is_of : SenderKey → Session → Option Sender → Bool
@@ -60,21 +53,8 @@ IsCompleteTo o d u =
     (k : SenderKey) (t : TokenBucket) (h : Hop) → IsLive o k t → In h (tree o.net.hops k.0.group k.1.addr) → depth o.net k.0.group k.1.addr (node_of o.net.ends h.to) ≤ d
     → (dies : ℕ) × (by_iface (iface_of o.net.ends h.to) (path_at u (node_of o.net.ends h.to) k) ≡ Some ((addr_of o.net h.from, t), dies))
 
--- ---- the line, where paths are sound and complete to the node before
+-- ---- a known world in which paths are sound, and complete to a depth
 pub record IsSure (q : ℕ) (o : World) (d : ℕ) (u : World) : Type 0 where
   pub known : IsKnown q o u
   pub sound : ArePathsSound u
   pub complete : IsCompleteTo o d u
-
-abbrev pub renewed_line : ℕ → World → SenderKey → Hop → ℕ → Line World Step Item Lane PathValue
-renewed_line q o k h d = record {
-  sane = IsSure q o d;
-  kept = λ u. by_iface (iface_of o.net.ends h.to) (path_at u (node_of o.net.ends h.to) k);
-  says = TellsPath o.net k h.to;
-  letter = is_letter k h.to;
-  life = λ y. life_of q y.arrival;
-  below = λ v v0. v ≡ v0;
-  due = λ u. due_at u (node_of o.net.ends h.from) k.0;
-  fires = Refreshes (node_of o.net.ends h.from) k.0;
-  lane = Some (record { from = addr_of o.net h.from; to = h.to; session = k.0; key = OfSender k.1 });
-}
