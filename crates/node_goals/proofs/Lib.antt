@@ -1,0 +1,4 @@
+pub mod Lists
+pub mod WantStyles
+pub mod GoalByIface
+pub mod UnderTheGoal

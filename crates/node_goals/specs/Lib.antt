@@ -1,0 +1,2 @@
+pub mod GoalByIface
+pub mod Laws
