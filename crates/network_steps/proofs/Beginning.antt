@@ -41,7 +41,7 @@ routed_first hops r i =
     to_each (λ (e : (Addr × Addr) × Unit {0}). e.0) (key_of r, v.0) (set_of {o = tree_keys} (each key_of hops)).rows (found_in tree_keys (set_of {o = tree_keys} (each key_of hops)) (key_of r) v.0 v.1)
 
 -- ---- what stands at a place of a list that is made place by place
-each_found : {X : Type 0} (f : ℕ → X) (a n k : ℕ) (x : X) → slice_get (each f (range_with_len a n)) k ≡ Some x → f (a + k) ≡ x
+pub each_found : {X : Type 0} (f : ℕ → X) (a n k : ℕ) (x : X) → slice_get (each f (range_with_len a n)) k ≡ Some x → f (a + k) ≡ x
 each_found f a zero k x e = absurd (cc)
 each_found f a (suc n) zero x e =
     let at : a + 0 ≡ a = omega arith in

@@ -11,3 +11,4 @@ pub mod Beginning
 pub mod Passing
 pub mod Calming
 pub mod Runs
+pub mod Hosts

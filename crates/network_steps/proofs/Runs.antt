@@ -37,19 +37,16 @@ visited_less q P Q f (s ∷ ss) w a = (f w a.0, visited_less q P Q f ss (step q 
 
 -- ---- the steps of most events are calm
 module _ (q : ℕ) (some : 1 ≤ q) where
-  pub AreCalm : List Step → Type 0
+  abbrev pub AreCalm : List Step → Type 0
   AreCalm ss = (s : Step) → In s ss → is_calm q s ≡ true
 
   both_calm : (ss ts : List Step) → AreCalm ss → AreCalm ts → AreCalm (ss ++ ts)
-  unfolding AreCalm
   both_calm ss ts a b s i = ⊎_elim (λ (j : In s ss). a s j) (λ (j : In s ts). b s j) (in_append s ss ts i)
 
   one_calm : (x : Step) → is_calm q x ≡ true → AreCalm (x ∷ [])
-  unfolding AreCalm
   one_calm x e s i = ⊎_elim (λ (same : s ≡ x). ap (is_calm q) same ∙ e) (λ (no : ⊥). absurd no) i
 
   many_calm : (n : ℕ) (x : Step) → is_calm q x ≡ true → AreCalm (repeat n (x ∷ []))
-  unfolding AreCalm
   many_calm n x e s i = ap (is_calm q) (in_repeat n x s i) ∙ e
 
   pub no_time : nat_le 0 (2 * q) ≡ true
@@ -59,7 +56,6 @@ module _ (q : ℕ) (some : 1 ≤ q) where
   piece_calm ms le = le-leb ms (2 * q) le
 
   pub pieces_calm : (ms : ℕ) → AreCalm (pieces q ms)
-  unfolding AreCalm
   pieces_calm ms =
       both_calm (repeat (ms / (2 * q)) (Piece (2 * q) ∷ [])) (last_piece q (ms % (2 * q))) (many_calm (ms / (2 * q)) (Piece (2 * q)) (piece_calm (2 * q) (omega arith)))
       (by (nat_lt 0 (ms % (2 * q))))
@@ -75,7 +71,6 @@ module _ (q : ℕ) (some : 1 ≤ q) where
   pass_calm w = many_calm (length w.flight) (Deliver 0) no_time
 
   pub passes_calm : (n : ℕ) (w : World) → AreCalm (passes q n w)
-  unfolding AreCalm
   passes_calm zero w = λ s i. absurd i
   passes_calm (suc n) w = both_calm (pass q w) (passes q n (run (machine q) (pass q w) w)) (pass_calm w) (passes_calm n (run (machine q) (pass q w) w))
 
@@ -83,17 +78,14 @@ module _ (q : ℕ) (some : 1 ≤ q) where
   half_calm w = both_calm (Piece (2 * q) ∷ []) (pass q (step q (Piece (2 * q)) w)) (one_calm (Piece (2 * q)) (piece_calm (2 * q) (omega arith))) (pass_calm (step q (Piece (2 * q)) w))
 
   halves_calm : (n : ℕ) (w : World) → AreCalm (halves q n w)
-  unfolding AreCalm
   halves_calm zero w = λ s i. absurd i
   halves_calm (suc n) w = both_calm (half q w) (halves q n (run (machine q) (half q w) w)) (half_calm w) (halves_calm n (run (machine q) (half q w) w))
 
   pub rounds_calm : (n : ℕ) (w : World) → AreCalm (rounds q n w)
-  unfolding AreCalm
   rounds_calm zero w = λ s i. absurd i
   rounds_calm (suc n) w = both_calm (a_round q w) (rounds q n (run (machine q) (a_round q w) w)) (halves_calm 4 w) (rounds_calm n (run (machine q) (a_round q w) w))
 
   pub place_calm : (f : ℕ → Step) (k : ℕ) → ((n : ℕ) → is_calm q (f n) ≡ true) → AreCalm (at_place f k)
-  unfolding AreCalm
   place_calm f zero e = λ s i. absurd i
   place_calm f (suc k) e = one_calm (f k) (e k)
 
@@ -121,7 +113,6 @@ module _ (q : ℕ) (some : 1 ≤ q) where
         ((i.bounds, r.0), r.1)
 
     calm_event : (net : Net) (ss : List Step) (w : World) → AreCalm ss → IsIn net w → Visited (machine q) (AreBounds q) ss w × IsIn net (run (machine q) ss w)
-    unfolding AreCalm
     calm_event net ss w calm i = through_steps net ss w (λ s j. calm_keeps net s (calm s j)) i
 
     one_event : (net : Net) (s : Step) (w : World) → Keeps net s → IsIn net w → Visited (machine q) (AreBounds q) (s ∷ []) w × IsIn net (run (machine q) (s ∷ []) w)

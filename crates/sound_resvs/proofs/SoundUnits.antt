@@ -68,7 +68,7 @@ unit_sound q o valid u firm level y m v i spelt asks own = by v.names refl
         record { names = names; named = e; sound = part_again (ask_style m.ask) o u m.session y.end m.hop.addr v.unit part (sym firm.known.same.net) (sym firm.known.same.locals) (g.sound most.1) }
 
 -- ---- each Resv goes to the end whose address it is sent to
-abbrev IsAddressed : ℕ → World → Type 0
+abbrev pub IsAddressed : ℕ → World → Type 0
 IsAddressed n u = (y : Item) (m : ResvMsg) → In y u.flight → n ≤ y.born → y.arrival ≡ Spelt (message.Resv m) → y.dst ≡ addr_of u.net y.end
 
 -- two ends of a link are each a peer of the other
@@ -114,7 +114,7 @@ module _ (q : ℕ) (o : World) (valid : IsValid o.net) where
       (λ (new : (b : Bool) × In (y, b) (sent q s u)). sent_addressed (step q s u) a' y m (sent_here q o valid s u quiet a a' y new.0 m new.1 spelt))
       (in_flight_after q s u y quiet i)
 
-  addressed : (rs : List (List Step)) (w : World) → Rounds (machine q) rs w → Hold (machine q) 0 rs w (IsFirm q o) → Hold (machine q) 1 rs w (IsAddressed 0)
+  pub addressed : (rs : List (List Step)) (w : World) → Rounds (machine q) rs w → Hold (machine q) 0 rs w (IsFirm q o) → Hold (machine q) 1 rs w (IsAddressed 0)
   addressed rs w calm firm =
       hold_map (machine q) (λ u. IsAddressed w.made u × Fresh (machine q) w.made u) (IsAddressed 0) (λ u h y m i le. h.0 y m i (h.1 y i)) 1 rs w
       (hold_both (machine q) (IsAddressed w.made) (Fresh (machine q) w.made) 1 rs w
