@@ -15,8 +15,8 @@ use Rattle.rsvp_base.specs.SessionLimits.{sessions_in, has_room_at, IsWithinSess
 use Rattle.rsvp_base.specs.Table.{Table, empty, get, size, put_in, without, changed, changed_rows, kept_row, same_rows}
 use Rattle.path_state.specs.declared.fact.PathFact.{PathFact}
 use Rattle.path_state.specs.Paths.{PathMap, path_keys, path_key, fact_row, dead_row, later, dead_after}
-use Rattle.soft_table.proofs.Counts.{is_full}
-use Rattle.path_state.proofs.Limits.{within_put, within_fewer, within_none, all_at_most}
+use Rattle.rsvp_base.proofs.SessionCounts.{is_full}
+use Rattle.rsvp_base.proofs.SessionCounts.{within_put, within_fewer, within_none, all_at_most}
 use Rattle.soft_table.specs.Facts as soft
 
 pub first_there : {A : Type 0} (es : List A) → is_some (slice_get es 0) ≡ is_full es

@@ -1,4 +1,4 @@
-pub mod Limits
 pub mod Answered
 pub mod Vias
 pub mod ByKey
+pub mod Walked

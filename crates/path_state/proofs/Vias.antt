@@ -18,7 +18,7 @@ use Rattle.rsvp_base.proofs.Tables.{either}
 use Rattle.path_state.specs.declared.fact.PathFact.{PathFact}
 use Rattle.path_state.specs.Paths.{comes_by, senders_by}
 
-any_last : {A : Type 0} (p : A → Bool) (xs : List A) (x : A) → list_any p (xs ++ x ∷ []) ≡ (p x || list_any p xs)
+pub any_last : {A : Type 0} (p : A → Bool) (xs : List A) (x : A) → list_any p (xs ++ x ∷ []) ≡ (p x || list_any p xs)
 any_last p [] x = refl
 any_last p (y ∷ ys) x = ap (λ b. p y || b) (any_last p ys x) ∙ swapped (p y) (p x) (list_any p ys)
   where

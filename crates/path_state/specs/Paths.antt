@@ -2,10 +2,12 @@
 use Rattle.std.specs.Prelude.{◌≡◌, ◌==◌, ◌&&◌, ◌-◌, cond, nat_le, map as each, ℕ, Bool, List, Option, Some, None, refl}
 use Rattle.std.specs.Coded.{Coded, code_by, coded×, coded_ℕ}
 use Rattle.std.specs.List.{filter}
-use Rattle.rsvp_base.specs.Keys.{Keys, pairs}
-use Rattle.rsvp_base.specs.Orders.{sessions, senders, Names, names_from, sender_code}
+use Rattle.rsvp_base.specs.Keys.{Keys, numbers, pairs}
+use Rattle.rsvp_base.specs.Orders.{addrs, sessions, senders, Names, names_from, addr_code, sender_code}
+use Rattle.rsvp_base.specs.Sets.{Set, set_of, set_code}
 use Rattle.rsvp_base.specs.Table.{Table, get, table_code}
-use Rattle.rsvp_base.specs.Under.{under}
+use Rattle.rsvp_base.specs.Under.{rows_under, under}
+use Rattle.soft_table.specs.Facts.{facts_by}
 use Rattle.rsvp_base.specs.declared.addr.Addr.{Addr}
 use Rattle.rsvp_base.specs.declared.session.Sender.{Sender}
 use Rattle.rsvp_base.specs.declared.session.Session.{Session}
@@ -43,6 +45,10 @@ path_map_code =
     code_by (Table path_keys (PathFact × ℕ) × Table path_keys PathFact) (coded× (table_code path_keys key_code (coded× (fact.the_row).coded coded_ℕ)) (table_code path_keys key_code (fact.the_row).coded))
     (λ m. (m.facts, m.dead)) (λ p. record { facts = p.0; dead = p.1 }) (λ _. refl)
 
+-- ---- the paths of a session, by sender
+abbrev pub paths_under : Session → List (PathFact × ℕ) → List (Sender × (PathFact × ℕ))
+paths_under s fs = rows_under sessions senders s (facts_by path_key fs)
+
 -- ---- the senders of a session by one interface and hop
 abbrev pub comes_by : ℕ → Addr → PathFact → Bool
 comes_by iface addr f = f.iface == iface && f.hop.addr.0 == addr.0
@@ -53,6 +59,30 @@ senders_by iface addr es = each (λ e. e.1.0.sender) (filter (λ e. comes_by ifa
 
 abbrev pub via : Table path_keys (PathFact × ℕ) → Session → ℕ → Addr → Names
 via m session iface addr = names_from (senders_by iface addr (under sessions senders m session).rows)
+
+-- ---- previous hops: an interface, and the address of the node behind it
+abbrev pub path_hops : Keys (ℕ × Addr)
+path_hops = pairs numbers addrs
+
+abbrev pub HopSet : Type 0
+HopSet = Set path_hops
+
+abbrev pub hop_of : Sender × (PathFact × ℕ) → ℕ × Addr
+hop_of e = (e.1.0.iface, e.1.0.hop.addr)
+
+-- of these paths of a session
+abbrev pub hops_by : List (Sender × (PathFact × ℕ)) → HopSet
+hops_by es = set_of (each hop_of es)
+
+abbrev pub hop_row : ℕ × Addr → (ℕ × Addr) × Unit {0}
+hop_row h = (h, tt)
+
+abbrev pub hop_set_code : Coded HopSet
+hop_set_code = set_code path_hops (coded× coded_ℕ addr_code)
+
+-- ---- addresses
+abbrev pub is_from : Addr → Sender → Bool
+is_from addr x = x.addr.0 == addr.0
 
 -- ---- time
 -- a fact with more left than this time has so much less left

@@ -5,9 +5,12 @@
 #![tactic(auto)]
 
 mod fact;
+mod hops;
 mod table;
 #[cfg(test)]
 mod tests;
+mod walks;
 
 pub use fact::PathFact;
+pub use hops::Hops;
 pub use table::PathTable;

@@ -1,15 +1,18 @@
 //! The table of paths.
-ghost use Rattle.std.specs.Prelude.{◌≡◌, ◌≤◌, ℕ, ◌↔◌, [], false, if◌then◌else◌, IsErr, IsNone, IfOk, IfSome, OnOk, OnErr, Some, slice_get};
+ghost use Rattle.std.specs.Prelude.{◌≡◌, ◌≤◌, ℕ, ◌↔◌, [], false, if◌then◌else◌, nat_lt, IsErr, IsNone, IfOk, IfSome, OnOk, OnErr, Some, slice_get};
+ghost use Rattle.std.specs.List.{list_any};
 ghost use Rattle.std.specs.Option.{option_map};
 ghost use Rattle.rsvp_base.specs.Orders.{sessions, senders};
 ghost use Rattle.rsvp_base.specs.Rows.{AreRows, table_of};
 ghost use Rattle.rsvp_base.specs.Sets.{with_key};
 ghost use Rattle.rsvp_base.specs.SessionLimits.{has_room_at, IsWithinSessionLimits};
-ghost use Rattle.rsvp_base.specs.Table.{empty, get, put_in, size, without, changed};
+ghost use Rattle.rsvp_base.specs.Table.{empty, get, keys, put_in, size, without, changed};
 ghost use Rattle.rsvp_base.specs.Under.{under};
-ghost use Rattle.path_state.specs.Paths.{AreByKey, path_keys, fact_row, dead_row, comes_by, via, later, dead_after};
+ghost use Rattle.path_state.specs.Paths.{AreByKey, path_keys, fact_row, dead_row, comes_by, hops_by, is_from, via, later, dead_after};
 
 use crate::fact::PathFact;
+use crate::hops::Hops;
+use crate::walks;
 use rsvp_base::{Addr, Full, NoMemory, Sender, Senders, Session};
 use soft_table::SoftTable;
 use std::alloc::Global;
@@ -120,6 +123,27 @@ impl PathTable {
             }
         }
         found
+    }
+
+    /// The previous hops of a session: the interface and the hop address of each of its facts.
+    pub fn hops(&self, session: Session) -> Hops
+        ensures { result ≡ hops_by (under sessions senders self.now.facts session).rows }
+    {
+        walks::hops(&self.table, session)
+    }
+
+    /// Whether a session has a fact of a sender with this address.
+    pub fn has_address(&self, session: Session, addr: Addr) -> bool
+        ensures { result ≡ list_any (is_from addr) (keys (under sessions senders self.now.facts session)) }
+    {
+        walks::has_address(&self.table, session, addr)
+    }
+
+    /// Whether a session has facts.
+    pub fn has_session(&self, session: Session) -> bool
+        ensures { result ≡ nat_lt 0 (size (under sessions senders self.now.facts session)) }
+    {
+        self.table.at(session, 0).is_some()
     }
 
     /// Lets time pass, in milliseconds. The facts with at most so much left are dead then, and wait to be pulled; the others

@@ -41,6 +41,10 @@ fn a_session_has_16_senders_and_no_17th(rt: HostRuntime) -> Result<(), Fail> {
     assert!(rt; table.at(first.session, 16).is_none());
     assert!(rt; table.senders_via(first.session, 0, Addr(7)).len() == 16);
     assert!(rt; table.senders_via(first.session, 1, Addr(7)).is_empty());
+    assert!(rt; table.hops(first.session).as_slice() == [(0u8, Addr(7))].as_slice());
+    assert!(rt; table.has_address(first.session, Addr(1)));
+    assert!(rt; !table.has_address(first.session, Addr(2)));
+    assert!(rt; table.has_session(first.session));
     assert!(rt; table.tear(first.session, first.sender) == Some(first));
     assert!(rt; table.find(first.session, first.sender).is_none());
     let None = table.pull_dead() else {

@@ -31,8 +31,8 @@ use Rattle.style_rules.proofs.StyleLaws.{named_in, in_named}
 use Rattle.std.specs.FinMap.Entries.{find}
 use Rattle.soft_table.specs.Facts as soft_facts
 use Rattle.soft_table.specs.Facts.{facts_by}
-use Rattle.soft_table.proofs.Counts as soft
-use Rattle.soft_table.proofs.Counts.{size_sessions}
+use Rattle.rsvp_base.proofs.SessionCounts as soft
+use Rattle.rsvp_base.proofs.SessionCounts.{size_sessions}
 use Rattle.soft_table.proofs.Keyed.{under_no_more}
 use Rattle.soft_table.proofs.Valued.{get-valued, size-valued}
 use Rattle.resv_state.specs.declared.fact.Held.{Held}

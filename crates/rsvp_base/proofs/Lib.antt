@@ -12,3 +12,4 @@ pub mod SessionRoom
 pub mod Changes
 pub mod Together
 pub mod Fronts
+pub mod SessionCounts

@@ -5,7 +5,6 @@ pub mod Changes
 pub mod Walks
 pub mod Edges
 pub mod Steps
-pub mod Counts
 pub mod Maps
 pub mod Valued
 pub mod Keyed

@@ -4,9 +4,7 @@ use Rattle.std.specs.Prelude.{slice_get, replicate}
 use Rattle.std.specs.Ordering.{eq_by_cmp}
 use Rattle.std.proofs.lemmas.Bool.{both_ways}
 use Rattle.std.proofs.lemmas.Bool.{cases_eq}
-use Rattle.std.specs.Prelude.{sum_by}
-use Rattle.std.proofs.lemmas.List.Sums.{sum_by-cons}
-use Rattle.rsvp_base.proofs.Counts.{sum-without}
+use Rattle.rsvp_base.proofs.SessionCounts.{size-without}
 use Rattle.rsvp_base.specs.Keys.{Keys}
 use Rattle.rsvp_base.specs.Table.{Table, get, size, empty, put_in, without, changed}
 use Rattle.rsvp_base.specs.declared.session.Session.{Session}
@@ -24,16 +22,6 @@ turned o q k apart =
     either (eq_by_cmp o.cmp k q)
     (λ t. absurd (both_ways (eq_by_cmp o.cmp q k) apart (ap (λ z. eq_by_cmp o.cmp q z) (tied_same o k q t) ∙ tied_self o q)))
     (λ t. t)
-
--- a key less
-pub size-without : {K X : Type 0} (o : Keys K) (m : Table o X) (k : K) (v : X) → get m k ≡ Some v → size (without m k) + 1 ≡ size m
-size-without o m k v at =
-    let ones = sum-without o (λ e. 1) m k v at in
-    omega (arith, ones, all_ones m.rows, all_ones (without m k).rows)
-  where
-    all_ones : {A : Type 0} (xs : List A) → sum_by (λ (x : A). 1) xs ≡ length xs
-    all_ones [] = refl
-    all_ones (x ∷ xs) = omega (arith, all_ones xs, sum_by-cons (λ z. 1) x xs)
 
 -- ---- a row in a table, or none
 module _ {K X : Type 0} (o : Keys K) where

@@ -106,3 +106,8 @@ module _ {F R : Type 0} (rests : Keys R) (key : F → Session × R) (s : Session
     where
       one_more : (n : ℕ) → suc n ≡ n + 1
       one_more n = omega arith
+
+-- nothing was found where nothing is
+pub none_at : {A B : Type 0} (f : A → B) (w : Option A) → None ≡ option_map f w → w ≡ None
+none_at f None e = refl
+none_at f (Some x) e = cc

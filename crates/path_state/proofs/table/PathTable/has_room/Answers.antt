@@ -7,7 +7,7 @@ use Rattle.rsvp_base.specs.Table.{Table, get, put_in, size}
 use Rattle.rsvp_base.specs.Under.{under}
 use Rattle.path_state.specs.declared.fact.PathFact.{PathFact}
 use Rattle.path_state.specs.Paths.{path_keys, fact_row}
-use Rattle.path_state.proofs.Limits.{room_over, room_among, room_first}
+use Rattle.rsvp_base.proofs.SessionCounts.{room_over, room_among, room_first}
 use Rattle.soft_table.proofs.Told.{some_copied}
 use Rattle.path_state.proofs.Answered.{first_there, flipped, room_for_one, room_for_session, same_sessions}
 use Rattle.path_state.proofs.table.PathTable.has_room.Goals as goal

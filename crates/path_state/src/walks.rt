@@ -1,0 +1,75 @@
+//! Walks along the paths of a session.
+ghost use Rattle.std.specs.Prelude.{◌≡◌, ◌≤◌, ◌+◌, ℕ, Some, map, length};
+ghost use Rattle.std.specs.List.{list_any};
+ghost use Rattle.std.specs.Option.{option_copied};
+ghost use Rattle.rsvp_base.specs.Orders.{senders};
+ghost use Rattle.rsvp_base.specs.Rows.{AreRows};
+ghost use Rattle.soft_table.specs.Walks.{fact_at};
+ghost use Rattle.path_state.specs.Paths.{path_key, path_keys, fact_row, hops_by, is_from, paths_under};
+
+use crate::fact::PathFact;
+use crate::hops::Hops;
+use rsvp_base::{Addr, Sender, Session};
+use soft_table::{Finger, SoftTable};
+
+// At most so many senders of a session.
+pub(crate) const SENDERS: usize = 16;
+
+// The path of a session that comes next behind one of it.
+pub(crate) fn behind<'a>(
+    table: &'a SoftTable<PathFact>,
+    session: Session,
+    fact: &PathFact,
+    finger: &mut Finger,
+) -> Option<&'a PathFact>
+    requires { AreRows path_keys fact_row table.now.facts }
+    ensures { (k : ℕ) → Some fact.now ≡ fact_at senders path_key session table.now.facts k → option_copied result ≡ fact_at senders path_key session table.now.facts (k + 1) }
+{
+    table.after(session, fact.sender, finger)
+}
+
+// Whether a sender has this address.
+fn is_address(sender: Sender, addr: Addr) -> bool
+    ensures { result ≡ is_from addr sender }
+{
+    sender.addr == addr
+}
+
+// The previous hops of a session.
+pub(crate) fn hops(table: &SoftTable<PathFact>, session: Session) -> Hops
+    requires rising { AreRows path_keys fact_row table.now.facts }
+    requires few { length (paths_under session table.now.facts) ≤ 16 }
+    ensures { result ≡ hops_by (paths_under session table.now.facts) }
+{
+    let mut found = Hops::new();
+    let mut finger = Finger::default();
+    let mut next = table.at(session, 0);
+    for k in 0..SENDERS {
+        let Some(fact) = next else {
+            return found;
+        };
+        found.add((fact.iface, fact.hop.addr));
+        next = behind(table, session, fact, &mut finger);
+    }
+    found
+}
+
+// Whether a session has a path of a sender with this address.
+pub(crate) fn has_address(table: &SoftTable<PathFact>, session: Session, addr: Addr) -> bool
+    requires rising { AreRows path_keys fact_row table.now.facts }
+    requires few { length (paths_under session table.now.facts) ≤ 16 }
+    ensures { result ≡ list_any (is_from addr) (map (λ e. e.0) (paths_under session table.now.facts)) }
+{
+    let mut finger = Finger::default();
+    let mut next = table.at(session, 0);
+    for k in 0..SENDERS {
+        let Some(fact) = next else {
+            return false;
+        };
+        if is_address(fact.sender, addr) {
+            return true;
+        }
+        next = behind(table, session, fact, &mut finger);
+    }
+    false
+}
