@@ -10,3 +10,4 @@ pub mod Tallies
 pub mod TallyRoom
 pub mod MergerRows
 mod Worked
+pub mod Same

@@ -7,6 +7,7 @@ pub mod Toward
 pub mod Lines
 pub mod Limits
 pub mod Ways
+pub mod Same
 pub mod Tally
 pub mod TallyRows
 pub mod Laws

@@ -3,8 +3,10 @@ ghost use Rattle.std.specs.Prelude.{◌≡◌, ◌≤◌, ◌<◌, ◌↔◌, le
 ghost use Rattle.std.specs.Option.{option_copied};
 ghost use Rattle.rsvp_base.specs.Orders.{units};
 ghost use Rattle.rsvp_base.specs.Rows.{AreRows, HasRowAt, LacksRowAt};
+ghost use Rattle.style_rules.specs.Same.{is_part_in, parts_le};
 
 use crate::order::unit_order;
+use crate::style::le_parts;
 use arrayvec::ArrayVec;
 use rsvp_base::{Full, Part, Unit};
 use std::marker::Model;
@@ -113,6 +115,13 @@ impl Parts {
         }
     }
 
+    /// Whether the other list is the same: the same units with the same parts.
+    pub fn is_same(&self, other: &Parts) -> bool
+        ensures { IsTrue result ↔ (self.now ≡ other.now) }
+    {
+        are_in(self, other) && are_in(other, self)
+    }
+
     // The parts of these rows.
     pub(crate) fn of_rows(rows: ArrayVec<(Unit, Part), 16>) -> Parts
         requires rising { AreRows units (λ e. e) rows.items }
@@ -131,6 +140,23 @@ impl Parts {
             rows.push((*unit, part.copy()));
         }
         Parts { rows }
+    }
+}
+
+// Whether each part of the one list has one of its unit in the other that can stand for it.
+fn are_in(parts: &Parts, others: &Parts) -> bool
+    ensures { result ≡ parts_le parts.now others.now }
+{
+    parts.as_slice().iter().all(|row| is_in(row, others))
+}
+
+// Whether a part has one of its unit in a list that can stand for it.
+fn is_in(row: &(Unit, Part), others: &Parts) -> bool
+    ensures { result ≡ is_part_in others.now row.now }
+{
+    match others.get(row.0) {
+        Some(part) => le_parts(&row.1, part),
+        None => false,
     }
 }
 

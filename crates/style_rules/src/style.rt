@@ -139,7 +139,7 @@ fn meet_parts(a: &Part, b: &Part) -> Part
 }
 
 // Whether the senders of one are among those of the other, whose flow can stand for its.
-fn le_parts(a: &Part, b: &Part) -> bool
+pub(crate) fn le_parts(a: &Part, b: &Part) -> bool
     ensures { IsTrue result ↔ IsPartAtMost a.now b.now }
 {
     a.senders.is_within(&b.senders) && flow_merge::le(&a.flow, &b.flow)

@@ -70,6 +70,7 @@ fn fixed_parts_stay_apart_and_shared_ones_join(rt: HostRuntime) -> Result<(), Fa
             .is_some_and(|part| is_part(&part, &[5004, 5006], large))
     );
     assert!(rt; shared.at(1).is_none());
+    assert!(rt; fixed.is_same(&fixed.copy()) && !fixed.is_same(&shared));
     Ok(())
 }
 
