@@ -8,3 +8,5 @@ pub mod Limits
 pub mod Refresh
 pub mod Merged
 pub mod Units
+pub mod Entries
+pub mod Behind

@@ -1,9 +1,11 @@
 -- What the reservations of a session ask for: on an interface, and toward a previous hop (RFC 2205, 2.2 and 3.5).
-use Rattle.std.specs.Prelude.{◌==◌, ℕ, Bool, true, false, cond, List, [], ◌∷◌, ◌++◌, Option, Some, None}
+use Rattle.std.specs.Prelude.{◌==◌, ℕ, Bool, true, false, cond, not, ◌&&◌, List, [], ◌∷◌, ◌++◌, Option, Some, None}
 use Rattle.std.specs.Int.{bit_at}
 use Rattle.std.specs.List.{list_any, filter_map, flat_map}
 use Rattle.std.specs.Option.{option_map}
-use Rattle.rsvp_base.specs.Orders.{Names}
+use Rattle.std.specs.Ordering.{eq_by_cmp}
+use Rattle.flow_merge.specs.FlowOrder.{flow_join}
+use Rattle.rsvp_base.specs.Orders.{Names, units}
 use Rattle.rsvp_base.specs.Sets.{set_of}
 use Rattle.rsvp_base.specs.Table.{get, keys, changed}
 use Rattle.rsvp_base.specs.TokenBucket.{TokenBucket}
@@ -15,7 +17,7 @@ use Rattle.style_rules.specs.Toward.{Request, is_walled}
 use Rattle.style_rules.specs.Ways.{Way, WayTable}
 use Rattle.resv_state.specs.declared.fact.Held.{Held}
 use Rattle.resv_state.specs.declared.fact.ResvFact.{ResvFact}
-use Rattle.resv_state.specs.Walks.{Rest}
+use Rattle.resv_state.specs.Walks.{Rest, rests}
 
 -- a reservation of a session, by next hop and unit
 abbrev pub SessionRow : Type 0
@@ -92,3 +94,13 @@ held_toward up e = resv_request up (held_said e)
 
 abbrev pub held_names : List (Rest × (Held × ℕ)) → Names
 held_names es = set_of (flat_map (λ e. keys e.1.0.fact.part.senders) es)
+
+-- ---- what an entry would be with another reservation in place of one
+-- a reservation of the same interface and unit, of another next hop
+abbrev pub is_beside : Rest → Rest → Bool
+is_beside r q = (r.0.0 == q.0.0) && (eq_by_cmp units.cmp r.1 q.1 && not (eq_by_cmp rests.cmp r q))
+
+-- the join of a flow with theirs
+abbrev pub joined_with : Rest → TokenBucket → List SessionRow → TokenBucket
+joined_with r f [] = f
+joined_with r f (e ∷ es) = joined_with r (cond (is_beside r e.0) (flow_join f e.1.0.part.flow) f) es

@@ -5,6 +5,7 @@
 //! previous hop. Memory is taken when a table is opened, and never later.
 #![tactic(auto)]
 
+mod beside;
 mod fact;
 mod leaving;
 mod merging;
@@ -14,4 +15,5 @@ mod tests;
 mod walks;
 
 pub use fact::ResvFact;
+pub use soft_table::Finger;
 pub use table::ResvTable;

@@ -1,5 +1,5 @@
 //! The table of reservations of a style.
-ghost use Rattle.std.specs.Prelude.{◌≡◌, ◌≤◌, ◌<◌, ℕ, ◌↔◌, [], map, true, false, ◌||◌, is_some, IsErr, IsNone, IsTrue, IfOk, IfSome, OnOk, OnErr, None, Some, slice_get};
+ghost use Rattle.std.specs.Prelude.{◌≡◌, ◌≤◌, ◌<◌, ◌+◌, ℕ, ◌↔◌, [], map, true, false, ◌||◌, is_some, IsErr, IsNone, IsTrue, IfOk, IfSome, OnOk, OnErr, None, Some, slice_get};
 ghost use Rattle.std.specs.Option.{option_copied, option_map};
 ghost use Rattle.rsvp_base.specs.Keys.{pairs};
 ghost use Rattle.rsvp_base.specs.Orders.{sessions, units};
@@ -14,14 +14,16 @@ ghost use Rattle.style_rules.specs.Toward.{toward};
 ghost use Rattle.resv_state.specs.Merging.{parts_on, requests_toward};
 ghost use Rattle.soft_table.specs.Facts.{rows_behind};
 ghost use Rattle.resv_state.specs.Walks.{rests};
+ghost use Rattle.resv_state.specs.declared.fact.Held.{Held};
 ghost use Rattle.resv_state.specs.Leaving.{torn, hop_has_one, forgotten, lessened, key_has_one};
 ghost use Rattle.resv_state.specs.Resvs.{ResvFacts, AreOfStyle, AreUnderTheirKeys, resv_key, resv_lines, held_row, dead_row, fact_of, dead_of, later, dead_after};
 
+use crate::beside::join_beside;
 use crate::fact::{Held, ResvFact};
 use crate::leaving::{lessen, only, rest_of};
 use crate::merging::{merge_on, merge_toward};
 use crate::walks::{FACTS, are_all, fits_fact, fits_hop, fits_names, fits_session, is_refresh};
-use rsvp_base::{Addr, Full, NoMemory, Part, Sender, Senders, Session, Unit};
+use rsvp_base::{Addr, Flow, Full, NoMemory, Part, Sender, Senders, Session, Unit};
 use soft_table::{Finger, SoftTable};
 use std::alloc::Global;
 use std::marker::{Model, PhantomData};
@@ -132,6 +134,24 @@ impl<S: Style> ResvTable<S> {
         }
     }
 
+    /// The first reservation of a session by next hop and unit. `None` exactly where it has none.
+    pub fn first(&self, session: Session) -> Option<&ResvFact>
+        ensures { option_copied result ≡ option_map (λ e. e.1.0) (slice_get (under sessions rests self.now.facts session).rows 0) }
+    {
+        fact_in(self.table.at(session, 0))
+    }
+
+    /// The reservation of a session that comes next behind one of it, by next hop and unit. `None` exactly where none does. So
+    /// a session's reservations are gone through one by one: from the first on, each behind the last. The finger only saves
+    /// searching.
+    pub fn after(&self, fact: &ResvFact, finger: &mut Finger) -> Option<&ResvFact>
+        ensures behind { option_copied result ≡ option_map (λ e. e.1.0) (slice_get (rows_behind rests (resv_key S.kind_is fact.now).1 (under sessions rests self.now.facts fact.now.session).rows) 0) }
+        ensures next { (k : ℕ) → Some fact.now ≡ option_map (λ e. e.1.0) (slice_get (under sessions rests self.now.facts fact.now.session).rows k) → option_copied result ≡ option_map (λ e. e.1.0) (slice_get (under sessions rests self.now.facts fact.now.session).rows (k + 1)) }
+    {
+        let rest = ((fact.iface, fact.next), unit_of::<S>(&fact.part));
+        fact_in(self.table.after(fact.session, rest, finger))
+    }
+
     /// The senders `gone` leave the reservations of a session's next hop; those that are left without senders go, and the
     /// others keep what is left of them. False exactly where no reservation of that next hop had one of them; nothing changes
     /// then.
@@ -200,6 +220,16 @@ impl<S: Style> ResvTable<S> {
         merge_on::<S>(&self.table, session, iface).finish()
     }
 
+    /// The flow of an entry as if a reservation stood in its place: the join of its flow with those of the other next hops
+    /// on its interface and of its unit (RFC 2205, 2.2). The reservation is of the style.
+    pub fn entry_with(&self, fact: &ResvFact) -> Flow
+        requires { IsOfStyle S.kind_is fact.now.part }
+        ensures { (left : ℕ) → option_map (λ p. p.flow) (get (merge S.kind_is (parts_on fact.now.iface (under sessions rests (put_in self.now.facts (resv_key S.kind_is fact.now) (fact.now, left)) fact.now.session).rows)) (part_unit S.kind_is fact.now.part)) ≡ Some result }
+    {
+        let key = ((fact.iface, fact.next), unit_of::<S>(&fact.part));
+        join_beside(&self.table, fact.session, &key, fact.part.flow)
+    }
+
     /// What goes toward a previous hop (RFC 2205, 2.2 and 3.5). `up` has the names whose paths come from there, each with the
     /// interfaces by which its tree goes out, and with its blockade; for the wildcard style the hop's blockade stands in each
     /// line. A reservation of the session is cut to the names whose tree goes out of its interface, and a local want of `own`
@@ -240,6 +270,16 @@ impl<S: Style> ResvTable<S> {
         ensures { self.new ≡ record { facts = empty; dead = empty } }
     {
         self.table.clear();
+    }
+}
+
+// The reservation of what a table keeps.
+fn fact_in(held: Option<&Held>) -> Option<&ResvFact>
+    ensures { option_copied result ≡ option_map (λ (h : Held). h.fact) (option_copied held.entry) }
+{
+    match held {
+        Some(held) => Some(&held.fact),
+        None => None,
     }
 }
 

@@ -4,7 +4,7 @@ ghost use Rattle.rsvp_base.specs.declared.style.StyleKind.{StyleKind};
 ghost use Rattle.style_rules.specs.Parts.{IsOfStyle};
 
 use crate::leaving::only;
-use crate::{ResvFact, ResvTable};
+use crate::{Finger, ResvFact, ResvTable};
 use rsvp_base::{Addr, Flow, Part, Peak, Rate, Sender, Session, Unit};
 use std::test::Fail;
 use style_rules::{Fixed, Parts, Shared, Style, UpLine, Upstream, Wall, Wild};
@@ -76,6 +76,24 @@ fn up_by(wall: Option<Wall>) -> Option<Upstream> {
     Some(up)
 }
 
+// Whether a session's three reservations are gone through, and one of a smaller flow would leave an entry as it is.
+fn is_walked<S: Style>(table: &ResvTable<S>, rate: Flow) -> bool {
+    let mut finger = Finger::default();
+    let Some(first) = table.first(session(1)) else {
+        return false;
+    };
+    let Some(second) = table.after(first, &mut finger) else {
+        return false;
+    };
+    let Some(third) = table.after(second, &mut finger) else {
+        return false;
+    };
+    let fact = make_fact(1, 1, 8, 3, rate);
+    table.entry_with(&fact) == rate
+        && (first.iface, second.iface, third.iface) == (0, 1, 2)
+        && table.after(third, &mut finger).is_none()
+}
+
 // The calls of a table, each once. True where all answer as they must.
 fn answers<S: Style>(table: &mut ResvTable<S>, rate: Flow) -> bool {
     let Some(up) = up_by(None) else {
@@ -85,6 +103,9 @@ fn answers<S: Style>(table: &mut ResvTable<S>, rate: Flow) -> bool {
         if !is_put(table, 1, iface, 7, 3, rate) {
             return false;
         }
+    }
+    if !is_walked(table, rate) {
+        return false;
     }
     let named = only(sender(3));
     if table.parts(session(1), 2).len() != 1 || table.parts(session(1), 3).len() != 0 {

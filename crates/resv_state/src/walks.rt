@@ -44,7 +44,7 @@ fn is_last_hop(last: Option<(u8, Addr)>, hop: (u8, Addr)) -> bool
 }
 
 // Whether two keys of a session are one.
-fn is_rest(a: &((u8, Addr), Unit), b: &((u8, Addr), Unit)) -> bool
+pub(crate) fn is_rest(a: &((u8, Addr), Unit), b: &((u8, Addr), Unit)) -> bool
     ensures { result ≡ eq_by_cmp rests.cmp a.now b.now }
 {
     rest_order(a, b) == Ordering::Equal
