@@ -5,14 +5,14 @@ use Rattle.rsvp_base.proofs.Members.{in_append, in_left, in_right}
 use Rattle.calm_rounds.specs.Machine.{Machine, run, all_sent, all_arrived, items_of, Fresh, Happens, IsClocked, IsStamped}
 use Rattle.calm_rounds.specs.Rounds.{AreQuiet, Calm, Rounds}
 use Rattle.calm_rounds.specs.Hold.{Visited, Hold}
-use Rattle.calm_rounds.specs.Lines.{Line, DueLaws, Stands, Good, Moves}
+use Rattle.calm_rounds.specs.SoftStates.{SoftState, DueLaws, Stands, Good, Moves}
 use Rattle.calm_rounds.proofs.Holding.{visited_start, visited_map, visited_end, visited_both, hold_map, hold_both, hold_later, hold_flush, clock_run}
 
 pub in_option : {A : Type 0} (x : A) (o : Option A) → In x (items_of o) → o ≡ Some x
 in_option x None i = absurd i
 in_option x (Some y) i = ⊎_elim (λ (e : x ≡ y). ap (λ z. Some z) (sym e)) (λ (j : ⊥). absurd j) i
 
-module _ {W S I K V : Type 0} (m : Machine W S I K) (c : IsClocked m) (l : Line W S I K V) (laws : DueLaws m l) where
+module _ {W S I K V : Type 0} (m : Machine W S I K) (c : IsClocked m) (l : SoftState W S I K V) (laws : DueLaws m l) where
   -- the next refresh is due before b, or it has happened
   due_by : (b : ℕ) (ss : List S) (w : W) → AreQuiet m ss → Visited m (λ u. l.sane u × ((t : ℕ) × (l.due u ≡ Some t))) ss w
       → (t : ℕ) → l.due w ≡ Some t → t ≤ b → b ≤ m.clock (run m ss w) → Happens m l.fires ss w
@@ -31,7 +31,7 @@ module _ {W S I K V : Type 0} (m : Machine W S I K) (c : IsClocked m) (l : Line 
       due_by (m.clock w + 6 * m.quarter) r w calm.silent (visited_both m l.sane (λ u. (t : ℕ) × (l.due u ≡ Some t)) r w sane counts)
       d.0 d.1 (laws.due_room w d.0 q d.1).1 (omega (arith, clock_run m c r w calm.silent, calm.long))
 
-module _ {W S I K V : Type 0} (m : Machine W S I K) (c : IsClocked m) (stamps : IsStamped m) (l : Line W S I K V) (laws : DueLaws m l) where
+module _ {W S I K V : Type 0} (m : Machine W S I K) (c : IsClocked m) (stamps : IsStamped m) (l : SoftState W S I K V) (laws : DueLaws m l) where
   -- the value stands, and no death comes before c + life
   abbrev pub Firm : V → ℕ → W → Type 0
   Firm v b u = (d : ℕ) × (l.kept u ≡ Some (v, d)) × (b + 21 * m.quarter ≤ d) × (b ≤ m.clock u)
@@ -85,8 +85,8 @@ module _ {W S I K V : Type 0} (m : Machine W S I K) (c : IsClocked m) (stamps : 
         firm_got b y is ss (m.step s w) quiet.1 a.1 (omega (arith, c.clock s w quiet.0)) before later)
         (in_append y (items_of (m.arrived s w)) (all_arrived m ss (m.step s w)) i)
 
-    -- a refresh of the line was sent
-    called : (ss : List S) (w : W) → AreQuiet m ss → Visited m Able ss w → Happens m l.fires ss w → (x : I) × In (x, true) (all_sent m ss w) × (m.lane x ≡ l.lane)
+    -- a refresh of it was sent
+    called : (ss : List S) (w : W) → AreQuiet m ss → Visited m Able ss w → Happens m l.fires ss w → (x : I) × In (x, true) (all_sent m ss w) × (m.track x ≡ l.track)
     called [] w quiet a f = absurd f
     called (s ∷ ss) w quiet a f =
         ⊎_elim
@@ -98,11 +98,11 @@ module _ {W S I K V : Type 0} (m : Machine W S I K) (c : IsClocked m) (stamps : 
         (x.0, in_right (x.0, true) (m.sent s w) (all_sent m ss (m.step s w)) x.1, x.2))
         f
 
-    sent_letter : (y : I) → m.lane y ≡ l.lane → (ss : List S) (w : W) → AreQuiet m ss → Visited m Able ss w → In (y, true) (all_sent m ss w) → l.letter y ≡ true
+    sent_letter : (y : I) → m.track y ≡ l.track → (ss : List S) (w : W) → AreQuiet m ss → Visited m Able ss w → In (y, true) (all_sent m ss w) → l.letter y ≡ true
     sent_letter y e [] w quiet a i = absurd i
     sent_letter y e (s ∷ ss) w quiet a i =
         ⊎_elim
-        (λ (now : In (y, true) (m.sent s w)). moves.lanes s w y quiet.0 a.0.0 (visited_start m Able ss (m.step s w) a.1).0 now e)
+        (λ (now : In (y, true) (m.sent s w)). moves.tracks s w y quiet.0 a.0.0 (visited_start m Able ss (m.step s w) a.1).0 now e)
         (λ (later : In (y, true) (all_sent m ss (m.step s w))). sent_letter y e ss (m.step s w) quiet.1 a.1 later)
         (in_append (y, true) (m.sent s w) (all_sent m ss (m.step s w)) i)
 

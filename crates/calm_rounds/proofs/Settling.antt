@@ -3,10 +3,10 @@ use Rattle.std.proofs.Common.{◌≡◌, ℕ, ◌+◌, ◌*◌, ◌≤◌, List,
 use Rattle.calm_rounds.specs.Machine.{Machine, Fresh, IsClocked, IsStamped}
 use Rattle.calm_rounds.specs.Rounds.{Rounds}
 use Rattle.calm_rounds.specs.Hold.{Hold}
-use Rattle.calm_rounds.specs.Lines.{Line, KeepLaws, IsClosed, SaysOnly, KeepsOnly}
+use Rattle.calm_rounds.specs.SoftStates.{SoftState, KeepLaws, IsClosed, SaysOnly, KeepsOnly}
 use Rattle.calm_rounds.proofs.Holding.{hold_map, hold_both, hold_later, hold_stack, hold_keep, hold_clock, hold_flush, hold_start}
 
-module _ {W S I K V : Type 0} (m : Machine W S I K) (c : IsClocked m) (stamps : IsStamped m) (l : Line W S I K V) (laws : KeepLaws m l) where
+module _ {W S I K V : Type 0} (m : Machine W S I K) (c : IsClocked m) (stamps : IsStamped m) (l : SoftState W S I K V) (laws : KeepLaws m l) where
   -- an old value keeps its moment of death, and a new one is allowed
   abbrev Old : (V → Type 0) → ℕ → W → Type 0
   Old P b u = (v : V) (d : ℕ) → l.kept u ≡ Some (v, d) → P v ⊎ (d ≤ b)

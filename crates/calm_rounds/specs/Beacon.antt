@@ -5,7 +5,7 @@ use Rattle.std.specs.Prelude.{◌≡◌, ℕ, zero, suc, ◌+◌, ◌<◌, ◌�
 use Rattle.calm_rounds.specs.Machine.{Machine, IsClocked, IsStamped, run}
 use Rattle.calm_rounds.specs.Rounds.{Rounds}
 use Rattle.calm_rounds.specs.Hold.{Hold}
-use Rattle.calm_rounds.specs.Lines.{Line, KeepLaws, DueLaws, IsClosed, SaysOnly, KeepsOnly, Stands, Good, Moves}
+use Rattle.calm_rounds.specs.SoftStates.{SoftState, KeepLaws, DueLaws, IsClosed, SaysOnly, KeepsOnly, Stands, Good, Moves}
 
 -- a number on its way, and the step that sent it
 pub record Signal : Type 0 where
@@ -20,9 +20,9 @@ pub record World : Type 0 where
   pub kept : Option (ℕ × ℕ)
 
 -- six milliseconds pass and a signal is sent, or the first signal in flight arrives, which is the one sent last
-pub data Step : Type 0 where
-  Flash : Step
-  Arrive : Step
+pub data BeaconStep : Type 0 where
+  Flash : BeaconStep
+  Arrive : BeaconStep
 
 -- the number that the beacon sends
 abbrev pub told : ℕ
@@ -49,23 +49,23 @@ abbrev pub taken : ℕ → Option Signal → Option (ℕ × ℕ) → Option (ℕ
 taken c None kept = kept
 taken c (Some x) kept = Some (x.number, c + 21)
 
-abbrev pub after : Step → World → World
+abbrev pub after : BeaconStep → World → World
 after Flash w = record { clock = w.clock + 6; made = suc w.made; flight = flash w ∷ w.flight; kept = living (w.clock + 6) w.kept }
 after Arrive w = record { clock = w.clock; made = suc w.made; flight = rest_of w.flight; kept = taken w.clock (first_of w.flight) w.kept }
 
-abbrev pub length_of : Step → ℕ
+abbrev pub length_of : BeaconStep → ℕ
 length_of Flash = 6
 length_of Arrive = 0
 
-abbrev pub sent_by : Step → World → List (Signal × Bool)
+abbrev pub sent_by : BeaconStep → World → List (Signal × Bool)
 sent_by Flash w = (flash w, true) ∷ []
 sent_by Arrive w = []
 
-abbrev pub arrives_by : Step → World → Option Signal
+abbrev pub arrives_by : BeaconStep → World → Option Signal
 arrives_by Flash w = None
 arrives_by Arrive w = first_of w.flight
 
-abbrev pub beacon : Machine World Step Signal (Unit {0})
+abbrev pub beacon : Machine World BeaconStep Signal (Unit {0})
 beacon = record {
   quarter = 1;
   step = after;
@@ -75,7 +75,7 @@ beacon = record {
   made = λ w. w.made;
   flight = λ w. w.flight;
   born = λ x. x.born;
-  lane = λ _. Some tt;
+  track = λ _. Some tt;
   sent = sent_by;
   arrived = arrives_by;
 }
@@ -84,7 +84,7 @@ beacon = record {
 abbrev pub IsSane : World → Type 0
 IsSane w = (v d : ℕ) → w.kept ≡ Some (v, d) → (w.clock < d) × (d ≤ w.clock + 21)
 
-abbrev pub place : Line World Step Signal (Unit {0}) ℕ
+abbrev pub place : SoftState World BeaconStep Signal (Unit {0}) ℕ
 place = record {
   sane = IsSane;
   kept = λ w. w.kept;
@@ -94,16 +94,16 @@ place = record {
   below = λ v v0. v ≡ v0;
   due = λ w. Some (w.clock + 6);
   fires = λ s _. s ≡ Flash;
-  lane = Some tt;
+  track = Some tt;
 }
 
 abbrev pub first_world : World
 first_world = record { clock = 0; made = 1; flight = record { number = 7; born = 0 } ∷ []; kept = Some (7, 21) }
 
-abbrev pub a_round : List Step
+abbrev pub a_round : List BeaconStep
 a_round = Flash ∷ Arrive ∷ Arrive ∷ []
 
-abbrev pub some_rounds : ℕ → List (List Step)
+abbrev pub some_rounds : ℕ → List (List BeaconStep)
 some_rounds zero = []
 some_rounds (suc n) = a_round ∷ some_rounds n
 
@@ -127,11 +127,11 @@ pub record MeetsThePremises : Type 0 where
   pub not_in_one : Hold beacon 1 (some_rounds 1) first_world (Stands beacon place told) → ⊥
 
 -- six milliseconds pass and nothing is sent, or the first signal in flight arrives
-abbrev pub after_mute : Step → World → World
+abbrev pub after_mute : BeaconStep → World → World
 after_mute Flash w = record { clock = w.clock + 6; made = suc w.made; flight = w.flight; kept = living (w.clock + 6) w.kept }
 after_mute Arrive w = after Arrive w
 
-abbrev pub mute : Machine World Step Signal (Unit {0})
+abbrev pub mute : Machine World BeaconStep Signal (Unit {0})
 mute = record {
   quarter = 1;
   step = after_mute;
@@ -141,7 +141,7 @@ mute = record {
   made = λ w. w.made;
   flight = λ w. w.flight;
   born = λ x. x.born;
-  lane = λ _. Some tt;
+  track = λ _. Some tt;
   sent = λ _ _. [];
   arrived = arrives_by;
 }
@@ -154,10 +154,10 @@ kept_world = record { clock = 0; made = 1; flight = []; kept = Some (7, 21) }
 abbrev pub told_world : World
 told_world = record { clock = 0; made = 1; flight = record { number = 7; born = 0 } ∷ []; kept = None }
 
-abbrev pub a_mute_round : List Step
+abbrev pub a_mute_round : List BeaconStep
 a_mute_round = Flash ∷ Arrive ∷ []
 
-abbrev pub mute_rounds : ℕ → List (List Step)
+abbrev pub mute_rounds : ℕ → List (List BeaconStep)
 mute_rounds zero = []
 mute_rounds (suc n) = a_mute_round ∷ mute_rounds n
 

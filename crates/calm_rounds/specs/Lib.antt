@@ -1,5 +1,5 @@
 pub mod Machine
 pub mod Rounds
 pub mod Hold
-pub mod Lines
+pub mod SoftStates
 pub mod Beacon

@@ -1,8 +1,8 @@
--- A machine: worlds, steps from world to world, items that are in flight in a world, and lanes on which items go.
+-- A machine: worlds, steps from world to world, items that are in flight in a world, and tracks on which items go.
 use Rattle.std.specs.Prelude.{◌≡◌, ℕ, ◌+◌, ◌≤◌, List, [], ◌∷◌, ◌++◌, Bool, true, Option, None, Some, ◌⊎◌}
 use Rattle.rsvp_base.specs.Members.{In}
 
--- what is read of a machine with worlds W, steps S, items I and lanes K
+-- what is read of a machine with worlds W, steps S, items I and tracks K
 pub record Machine (W S I K : Type 0) : Type 0 where
   -- a quarter of the refresh period, in milliseconds
   pub quarter : ℕ
@@ -18,7 +18,7 @@ pub record Machine (W S I K : Type 0) : Type 0 where
   pub flight : W → List I
   -- the number of the step that sent the item
   pub born : I → ℕ
-  pub lane : I → Option K
+  pub track : I → Option K
   -- what the step sends in this world; true marks a refresh
   pub sent : S → W → List (I × Bool)
   -- what arrives by the step in this world

@@ -3,7 +3,7 @@ ghost use Rattle.std.specs.Prelude.{◌≡◌, ◌≤◌, ◌+◌, ◌*◌, ℕ,
 ghost use Rattle.calm_rounds.specs.Machine.{Machine, IsClocked, IsStamped, Fresh, Happens};
 ghost use Rattle.calm_rounds.specs.Rounds.{Calm, Rounds, run_rounds};
 ghost use Rattle.calm_rounds.specs.Hold.{Visited, Hold, Keep};
-ghost use Rattle.calm_rounds.specs.Lines.{KeepLaws, DueLaws, IsClosed, SaysOnly, KeepsOnly, Stands, Good, Moves};
+ghost use Rattle.calm_rounds.specs.SoftStates.{KeepLaws, DueLaws, IsClosed, SaysOnly, KeepsOnly, Stands, Good, Moves};
 ghost use Rattle.calm_rounds.specs.Beacon.{MeetsThePremises, TakesTheRounds};
 
 use crate::claims::{Claim, Key};
@@ -63,29 +63,29 @@ pub fn hold_flush<W, S, I, K>()
 /// A value that is not renewed dies out: where all that is in flight says only what has a property that cuts keep, from the
 /// fourth round on what is kept has it.
 pub fn dies_out<W, S, I, K, L: Key<W, S, I, K>, P: Claim<L::Value>>()
-    ensures { (m : Machine W S I K) → IsClocked m → IsStamped m → KeepLaws m L.line → IsClosed L.line.below P.holds → (rs : List (List S)) (w : W) → Rounds m rs w
-        → Hold m 0 rs w L.line.sane → Hold m 0 rs w (SaysOnly m L.line P.holds 0) → Hold m 4 rs w (KeepsOnly m L.line P.holds) }
+    ensures { (m : Machine W S I K) → IsClocked m → IsStamped m → KeepLaws m L.state → IsClosed L.state.below P.holds → (rs : List (List S)) (w : W) → Rounds m rs w
+        → Hold m 0 rs w L.state.sane → Hold m 0 rs w (SaysOnly m L.state P.holds 0) → Hold m 4 rs w (KeepsOnly m L.state P.holds) }
 {}
 
 /// One hop settles, first half: where all that is sent from now on says only what has a property that cuts keep, from the
 /// fifth round on what is kept has it, and what is in flight says only that.
 pub fn only_what_is_said_is_kept<W, S, I, K, L: Key<W, S, I, K>, P: Claim<L::Value>>()
-    ensures { (m : Machine W S I K) → IsClocked m → IsStamped m → KeepLaws m L.line → IsClosed L.line.below P.holds → (rs : List (List S)) (w : W) → Rounds m rs w
-        → Hold m 0 rs w L.line.sane → Hold m 0 rs w (SaysOnly m L.line P.holds (m.made w))
-        → Hold m 5 rs w (λ u. KeepsOnly m L.line P.holds u × SaysOnly m L.line P.holds 0 u) }
+    ensures { (m : Machine W S I K) → IsClocked m → IsStamped m → KeepLaws m L.state → IsClosed L.state.below P.holds → (rs : List (List S)) (w : W) → Rounds m rs w
+        → Hold m 0 rs w L.state.sane → Hold m 0 rs w (SaysOnly m L.state P.holds (m.made w))
+        → Hold m 5 rs w (λ u. KeepsOnly m L.state P.holds u × SaysOnly m L.state P.holds 0 u) }
 {}
 
 /// A refresh comes due in every calm round in which the sending node has a moment for it in each world.
 pub fn comes_due<W, S, I, K, L: Key<W, S, I, K>>()
-    ensures { (m : Machine W S I K) → IsClocked m → DueLaws m L.line → (r : List S) (w : W) → Calm m r w
-        → Visited m L.line.sane r w → Visited m (λ u. (t : ℕ) × (L.line.due u ≡ Some t)) r w → Happens m L.line.fires r w }
+    ensures { (m : Machine W S I K) → IsClocked m → DueLaws m L.state → (r : List S) (w : W) → Calm m r w
+        → Visited m L.state.sane r w → Visited m (λ u. (t : ℕ) × (L.state.due u ≡ Some t)) r w → Happens m L.state.fires r w }
 {}
 
 /// One hop settles, second half: where each refresh says one value, and is taken, from the second round on that value is
 /// kept.
 pub fn what_is_said_is_kept<W, S, I, K, L: Key<W, S, I, K>>()
-    ensures { (m : Machine W S I K) → IsClocked m → IsStamped m → DueLaws m L.line → 1 ≤ m.quarter → (v : L.Value) (rs : List (List S)) (w : W) → Rounds m rs w
-        → Moves m L.line v (m.made w) → Hold m 0 rs w (Good m L.line v (m.made w)) → Hold m 2 rs w (Stands m L.line v) }
+    ensures { (m : Machine W S I K) → IsClocked m → IsStamped m → DueLaws m L.state → 1 ≤ m.quarter → (v : L.Value) (rs : List (List S)) (w : W) → Rounds m rs w
+        → Moves m L.state v (m.made w) → Hold m 0 rs w (Good m L.state v (m.made w)) → Hold m 2 rs w (Stands m L.state v) }
 {}
 
 /// A small machine meets the premises of these laws, and at its start what they promise does not hold yet. For

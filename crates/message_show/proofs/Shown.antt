@@ -5,7 +5,7 @@ use Rattle.std.proofs.Common.{sym, ap, subst, ◌∙◌, append_assoc, append-ni
 use Rattle.std.proofs.lemmas.List.Elements.{All-cons, All-nil, All-get_or, All-tail}
 use Rattle.hex.specs.Hex.{decode_of, decode_pairs}
 use Rattle.hex.specs.declared.error.FromHexError.{FromHexError}
-use Rattle.script_words.specs.Lines.{lines_of}
+use Rattle.script_words.specs.Lines.{text_lines}
 use Rattle.net_script.specs.Grammar.{line_number}
 use Rattle.net_script.specs.declared.fault.LineErr.{LineErr}
 use Rattle.net_script.specs.declared.fault.LineWhy.{LineWhy}
@@ -122,4 +122,4 @@ one_text one none first (line ∷ lines) a b x y =
     x.4 ∙ (λ i. here i ++ there i) ∙ sym y.4
 
 pub one_text_law : AMessageIsOne → NoFaultWhereSpelt → TheFirstFaultIsOne → (input a b : List ℕ) → IsShown input a → IsShown input b → a ≡ b
-one_text_law one none first input a b x y = one_text one none first (lines_of input) a b x y
+one_text_law one none first input a b x y = one_text one none first (text_lines input) a b x y

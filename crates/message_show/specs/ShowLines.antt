@@ -2,7 +2,7 @@
 use Rattle.std.specs.Prelude.{◌≡◌, ℕ, ◌<◌, ◌≤◌, List, [], ◌∷◌, ◌++◌, Ok, IsErr, length}
 use Rattle.std.specs.List.{All}
 use Rattle.hex.specs.Hex.{decode_of}
-use Rattle.script_words.specs.Lines.{lines_of}
+use Rattle.script_words.specs.Lines.{text_lines}
 use Rattle.net_script.specs.Grammar.{line_number}
 use Rattle.net_script.specs.declared.fault.LineErr.{LineErr}
 use Rattle.net_script.specs.declared.fault.LineWhy.{LineWhy}
@@ -23,7 +23,7 @@ IsRight line = (bytes : List ℕ) × Says line bytes
 
 -- each line of the input is right
 abbrev pub AreRight : List ℕ → Type 0
-AreRight input = All IsRight (lines_of input)
+AreRight input = All IsRight (text_lines input)
 
 -- why a line is bad: it is too long, or else its bytes are no digits or their number is odd; there is no other reason
 abbrev pub IsWrong : List ℕ → LineWhy → Type 0
@@ -36,7 +36,7 @@ pub record IsBadDigits (input : List ℕ) (e : LineErr) : Type 0 where
   pub before : List (List ℕ)
   pub line : List ℕ
   pub after : List (List ℕ)
-  pub parts : lines_of input ≡ before ++ line ∷ after
+  pub parts : text_lines input ≡ before ++ line ∷ after
   pub number : e.line ≡ line_number (length before)
   pub right : All IsRight before
   pub fault : IsWrong line e.why
@@ -53,4 +53,4 @@ AreShown (line ∷ lines) text = (first rest : List ℕ) × IsShownOf line first
 
 -- the text is what is shown of the input
 abbrev pub IsShown : List ℕ → List ℕ → Type 0
-IsShown input text = AreShown (lines_of input) text
+IsShown input text = AreShown (text_lines input) text

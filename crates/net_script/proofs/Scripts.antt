@@ -2,7 +2,7 @@
 use Rattle.std.specs.Prelude.{◌≡◌, ℕ, ◌≤◌, List, [], ◌∷◌, ◌++◌, Option, Some, None, Result, Ok, Err, IfErr, length, suc, refl}
 use Rattle.std.proofs.Common.{sym, ap, subst, ◌∙◌, arith}
 use Rattle.net_script.specs.LineKinds.{line_of}
-use Rattle.script_words.specs.Lines.{lines_of}
+use Rattle.script_words.specs.Lines.{text_lines}
 use Rattle.net_script.specs.Draft.{Draft, nothing, with_line}
 use Rattle.net_script.specs.Rules.{Rule, Keeps, KeepsAll, BreaksFirst}
 use Rattle.net_script.specs.Grammar.{Follows, HasFault, too_long, unread, broken, Leads, most_line, Plan, draft_plan, line_number, IsScript, IsBadLine}
@@ -78,7 +78,7 @@ script_or_bad bytes p e s b =
     fault_or_follows b.lines b.text e.why at.2.0 b.fault (subst (λ d. Follows d b.text at.2.0) same at.2.1)
 
 pub one_script_law : (bytes : List ℕ) (p q : Plan) → IsScript bytes p → IsScript bytes q → p ≡ q
-one_script_law bytes p q s t = s.says ∙ ap draft_plan (leads_one nothing (lines_of bytes) s.lines t.lines s.leads t.leads) ∙ sym t.says
+one_script_law bytes p q s t = s.says ∙ ap draft_plan (leads_one nothing (text_lines bytes) s.lines t.lines s.leads t.leads) ∙ sym t.says
 
 -- ---- one fault
 breaks_one : (rules : Rule → Type 0) (a b : LineWhy) → BreaksFirst rules a → BreaksFirst rules b → a ≡ b

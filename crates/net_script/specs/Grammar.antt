@@ -1,6 +1,6 @@
 -- The script grammar: which bytes are a script, and which line is the first bad one.
 use Rattle.std.specs.Prelude.{◌≡◌, ℕ, ◌+◌, ◌-◌, ◌^◌, ◌<◌, ◌≤◌, min, List, [], ◌∷◌, ◌++◌, None, Some, length}
-use Rattle.script_words.specs.Lines.{lines_of}
+use Rattle.script_words.specs.Lines.{text_lines}
 use Rattle.net_script.specs.LineKinds.{line_of}
 use Rattle.net_script.specs.Draft.{Draft, nothing, with_line, period_of, end_names, plain_ends}
 use Rattle.net_script.specs.Rules.{Keeps, KeepsAll, BreaksFirst}
@@ -54,7 +54,7 @@ draft_plan d = record { period = period_of d; ends = plain_ends d.ends; names = 
 -- the bytes are the lines of this script
 pub record IsScript (bytes : List ℕ) (plan : Plan) : Type 0 where
   pub lines : Draft
-  pub leads : Leads nothing (lines_of bytes) lines
+  pub leads : Leads nothing (text_lines bytes) lines
   pub says : plan ≡ draft_plan lines
 
 -- line numbers count from 1, and stand still at the end of their type
@@ -66,7 +66,7 @@ pub record IsBadLine (bytes : List ℕ) (e : LineErr) : Type 0 where
   pub before : List (List ℕ)
   pub text : List ℕ
   pub after : List (List ℕ)
-  pub parts : lines_of bytes ≡ before ++ text ∷ after
+  pub parts : text_lines bytes ≡ before ++ text ∷ after
   pub number : e.line ≡ line_number (length before)
   pub lines : Draft
   pub leads : Leads nothing before lines

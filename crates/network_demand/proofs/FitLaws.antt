@@ -15,7 +15,7 @@ use Rattle.style_rules.specs.Lines.{BookTable, held}
 use Rattle.style_rules.specs.Limits.{IsWithinLimits}
 use Rattle.tree_model.specs.Chains.{NoRepeats}
 use Rattle.tree_model.specs.declared.hops.End.{End}
-use Rattle.tree_model.specs.declared.hops.Hop.{Hop}
+use Rattle.tree_model.specs.declared.hops.LinkHop.{LinkHop}
 use Rattle.tree_model.specs.Networks.{Net, node_of}
 use Rattle.tree_model.specs.Valid.{IsValid}
 use Rattle.tree_routing.specs.declared.group_hop.GroupHop.{GroupHop}
@@ -35,7 +35,7 @@ use Rattle.network_demand.proofs.LimitLaws.{limits_found, found_limits}
 -- hops go out of nodes of the network
 pub wants_inside : (net : Net) (l : Locals) (order : List GroupHop) → IsValid net → AreByRank net order → (st : StyleKind) (s : Session) (w : HopWant) → In w (hop_wants st net l s order) → node_of net.ends w.hop.from < net.nodes
 wants_inside net l order valid by st s w i =
-    let h = in_each (λ (h : Hop). record { hop = h; parts = want st net l s h }) w (hops_in s.group order) i in
+    let h = in_each (λ (h : LinkHop). record { hop = h; parts = want st net l s h }) w (hops_in s.group order) i in
     let lt = (nodes_inside net valid s.group h.0 (from_hops net l order by s.group h.0 h.1)).0 in
     let at = ap (λ (y : HopWant). node_of net.ends y.hop.from) h.2 in
     omega arith

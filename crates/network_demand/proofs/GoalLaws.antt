@@ -21,7 +21,7 @@ use Rattle.style_rules.specs.Parts.{part_unit}
 use Rattle.style_rules.specs.PartLaws.{part_at_most_itself, union_least}
 use Rattle.style_rules.specs.Lines.{Line, EntryKey, entry_keys, entry_key, BookTable, at_end, book_of_end}
 use Rattle.style_rules.proofs.Merges.{merges_same, merge_named, merge_keeps}
-use Rattle.tree_model.specs.declared.hops.Hop.{Hop}
+use Rattle.tree_model.specs.declared.hops.LinkHop.{LinkHop}
 use Rattle.tree_model.specs.Networks.{Net, node_of}
 use Rattle.tree_model.specs.Trees.{hops_of, goes_out_of}
 use Rattle.tree_model.specs.Ranks.{followers}
@@ -31,7 +31,7 @@ use Rattle.tree_routing.specs.declared.group_hop.GroupHop.{GroupHop}
 use Rattle.tree_routing.specs.Order.{AreByRank}
 use Rattle.tree_model.specs.declared.locals.LocalWant.{LocalWant}
 use Rattle.tree_model.specs.Wants.{Locals, live, own, brought, want}
-use Rattle.tree_model.specs.Goals.{addr_of, end_pairs, hops_in_order, sessions_named, lines_of, goal, demand_of}
+use Rattle.tree_model.specs.Goals.{addr_of, end_pairs, hops_in_order, sessions_named, hop_lines, goal, demand_of}
 use Rattle.tree_model.proofs.WantLaws.{want_equation}
 use Rattle.network_demand.specs.declared.hop_want.HopWant.{HopWant}
 use Rattle.network_demand.specs.Books.{book_at, HaveLines, NameOnly, HasRoom, AreInside, want_lines, wants_lines}
@@ -48,20 +48,20 @@ past_all (b ∷ bs) zero le = absurd (omega arith)
 past_all (b ∷ bs) (suc e) le = past_all bs e (omega arith)
 
 -- ---- hops in order
-abbrev pair_of : Hop → ℕ × ℕ
+abbrev pair_of : LinkHop → ℕ × ℕ
 pair_of h = (h.from, h.to)
 
-abbrev hop_of : ℕ × ℕ → Hop
+abbrev hop_of : ℕ × ℕ → LinkHop
 hop_of p = record { from = p.0; to = p.1 }
 
-pub to_order : (hs : List Hop) (h : Hop) → In h hs → In h (hops_in_order hs)
+pub to_order : (hs : List LinkHop) (h : LinkHop) → In h hs → In h (hops_in_order hs)
 to_order hs h i = to_each hop_of (pair_of h) (keys (set_of {o = end_pairs} (each pair_of hs))) (to_keys end_pairs (set_of (each pair_of hs)) (pair_of h) (in_set_of end_pairs (each pair_of hs) (pair_of h) (to_each pair_of h hs i)))
 
-pub from_order : (hs : List Hop) (h : Hop) → In h (hops_in_order hs) → In h hs
+pub from_order : (hs : List LinkHop) (h : LinkHop) → In h (hops_in_order hs) → In h hs
 from_order hs h i =
     let p = in_each hop_of h (keys (set_of {o = end_pairs} (each pair_of hs))) i in
     let q = in_each pair_of p.0 hs (set_of_in end_pairs (each pair_of hs) p.0 (in_keys end_pairs (set_of (each pair_of hs)) p.0 p.1)) in
-    subst (λ (x : Hop). In x hs) (sym (p.2 ∙ ap hop_of q.2)) q.1
+    subst (λ (x : LinkHop). In x hs) (sym (p.2 ∙ ap hop_of q.2)) q.1
 
 -- ---- sessions
 pub session_named : (l : Locals) (s : Session) → In s (each (λ w. w.session) l.wants) → In s (sessions_named l)
@@ -76,30 +76,30 @@ named_session l s i =
 
 module _ (net : Net) (l : Locals) (order : List GroupHop) (by : AreByRank net order) where
   -- hops of a group in the order of all hops
-  pub from_hops : (g : Addr) (h : Hop) → In h (hops_in g order) → In h (hops_of net.hops g)
+  pub from_hops : (g : Addr) (h : LinkHop) → In h (hops_in g order) → In h (hops_of net.hops g)
   from_hops g h i =
       let x = in_each (λ (x : GroupHop). x.hop) h (filter (λ (x : GroupHop). x.group.0 == g.0) order) i in
       let f = in_filter (λ (x : GroupHop). x.group.0 == g.0) x.0 order x.1 in
-      subst (λ (a : Addr). In h (hops_of net.hops a)) (addr_same x.0.group g f.1) (subst (λ (y : Hop). In y (hops_of net.hops x.0.group)) (sym x.2) (by.hops x.0 f.0))
+      subst (λ (a : Addr). In h (hops_of net.hops a)) (addr_same x.0.group g f.1) (subst (λ (y : LinkHop). In y (hops_of net.hops x.0.group)) (sym x.2) (by.hops x.0 f.0))
 
-  pub to_hops : (g : Addr) (h : Hop) → In h (hops_of net.hops g) → In h (hops_in g order)
+  pub to_hops : (g : Addr) (h : LinkHop) → In h (hops_of net.hops g) → In h (hops_in g order)
   to_hops g h i = in_hops g order h (by.all g h i)
 
-  abbrev want_of : StyleKind → Session → Hop → HopWant
+  abbrev want_of : StyleKind → Session → LinkHop → HopWant
   want_of st s h = record { hop = h; parts = want st net l s h }
 
   -- a line of wants
-  pub line_told : (st : StyleKind) (s : Session) (x : Line) → In x (wants_lines st s net (hop_wants st net l s order)) → (h : Hop) × In h (hops_of net.hops s.group) × In x (lines_of st net l s h)
+  pub line_told : (st : StyleKind) (s : Session) (x : Line) → In x (wants_lines st s net (hop_wants st net l s order)) → (h : LinkHop) × In h (hops_of net.hops s.group) × In x (hop_lines st net l s h)
   line_told st s x i =
       let w = in_flat_map (λ (w : HopWant). want_lines st s (addr_of net w.hop.to) w) x (hop_wants st net l s order) i in
       let h = in_each (want_of st s) w.0 (hops_in s.group order) w.1 in
       (h.0, from_hops s.group h.0 h.1, subst (λ (y : HopWant). In x (want_lines st s (addr_of net y.hop.to) y)) h.2 w.2)
 
-  pub line_made : (st : StyleKind) (s : Session) (x : Line) (h : Hop) → In h (hops_of net.hops s.group) → In x (lines_of st net l s h) → In x (wants_lines st s net (hop_wants st net l s order))
+  pub line_made : (st : StyleKind) (s : Session) (x : Line) (h : LinkHop) → In h (hops_of net.hops s.group) → In x (hop_lines st net l s h) → In x (wants_lines st s net (hop_wants st net l s order))
   line_made st s x h i j =
       to_flat_map (λ (w : HopWant). want_lines st s (addr_of net w.hop.to) w) (want_of st s h) x (hop_wants st net l s order) (to_each (want_of st s) h (hops_in s.group order) (to_hops s.group h i)) j
 
-  line_end : (st : StyleKind) (s : Session) (h : Hop) (x : Line) → In x (lines_of st net l s h) → x.end ≡ h.from
+  line_end : (st : StyleKind) (s : Session) (h : LinkHop) (x : Line) → In x (hop_lines st net l s h) → x.end ≡ h.from
   line_end st s h x i = let e = in_each (λ e. record { style = st; session = s; end = h.from; next = addr_of net h.to; unit = e.0; part = e.1 }) x (want st net l s h).rows i in ap (λ (y : Line). y.end) e.2
 
   -- the lines of a style in sessions that are wanted, and the goal of a node
@@ -130,15 +130,15 @@ module _ (net : Net) (l : Locals) (order : List GroupHop) (by : AreByRank net or
         let s = in_flat_map (λ s. wants_lines st s net (hop_wants st net l s order)) x ss i in
         let t = line_told st s.0 x s.2 in
         let out : (node_of net.ends t.0.from == n) ≡ true = number_same _ n (ap (node_of net.ends) (sym (line_end st s.0 t.0 x t.2)) ∙ at) in
-        to_flat_map (λ st. flat_map (λ s. flat_map (lines_of st net l s) (filter (goes_out_of net.ends n) (hops_in_order (hops_of net.hops s.group)))) (sessions_named l)) st x (Wild ∷ Fixed ∷ Shared ∷ []) (style_among st)
-        (to_flat_map (λ s. flat_map (lines_of st net l s) (filter (goes_out_of net.ends n) (hops_in_order (hops_of net.hops s.group)))) s.0 x (sessions_named l) (these s.0 s.1)
-        (to_flat_map (lines_of st net l s.0) t.0 x (filter (goes_out_of net.ends n) (hops_in_order (hops_of net.hops s.0.group))) (to_filter (goes_out_of net.ends n) t.0 (hops_in_order (hops_of net.hops s.0.group)) (to_order (hops_of net.hops s.0.group) t.0 t.1) out) t.2))
+        to_flat_map (λ st. flat_map (λ s. flat_map (hop_lines st net l s) (filter (goes_out_of net.ends n) (hops_in_order (hops_of net.hops s.group)))) (sessions_named l)) st x (Wild ∷ Fixed ∷ Shared ∷ []) (style_among st)
+        (to_flat_map (λ s. flat_map (hop_lines st net l s) (filter (goes_out_of net.ends n) (hops_in_order (hops_of net.hops s.group)))) s.0 x (sessions_named l) (these s.0 s.1)
+        (to_flat_map (hop_lines st net l s.0) t.0 x (filter (goes_out_of net.ends n) (hops_in_order (hops_of net.hops s.0.group))) (to_filter (goes_out_of net.ends n) t.0 (hops_in_order (hops_of net.hops s.0.group)) (to_order (hops_of net.hops s.0.group) t.0 t.1) out) t.2))
 
     pub goal_told : (n : ℕ) (x : Line) → In x (goal net l n) → (st : StyleKind) × In x (style_lines st net l order ss) × (x.style ≡ st) × (node_of net.ends x.end ≡ n)
     goal_told n x i =
-        let st = in_flat_map (λ st. flat_map (λ s. flat_map (lines_of st net l s) (filter (goes_out_of net.ends n) (hops_in_order (hops_of net.hops s.group)))) (sessions_named l)) x (Wild ∷ Fixed ∷ Shared ∷ []) i in
-        let s = in_flat_map (λ s. flat_map (lines_of st.0 net l s) (filter (goes_out_of net.ends n) (hops_in_order (hops_of net.hops s.group)))) x (sessions_named l) st.2 in
-        let h = in_flat_map (lines_of st.0 net l s.0) x (filter (goes_out_of net.ends n) (hops_in_order (hops_of net.hops s.0.group))) s.2 in
+        let st = in_flat_map (λ st. flat_map (λ s. flat_map (hop_lines st net l s) (filter (goes_out_of net.ends n) (hops_in_order (hops_of net.hops s.group)))) (sessions_named l)) x (Wild ∷ Fixed ∷ Shared ∷ []) i in
+        let s = in_flat_map (λ s. flat_map (hop_lines st.0 net l s) (filter (goes_out_of net.ends n) (hops_in_order (hops_of net.hops s.group)))) x (sessions_named l) st.2 in
+        let h = in_flat_map (hop_lines st.0 net l s.0) x (filter (goes_out_of net.ends n) (hops_in_order (hops_of net.hops s.0.group))) s.2 in
         let f = in_filter (goes_out_of net.ends n) h.0 (hops_in_order (hops_of net.hops s.0.group)) h.1 in
         let e = in_each (λ e. record { style = st.0; session = s.0; end = h.0.from; next = addr_of net h.0.to; unit = e.0; part = e.1 }) x (want st.0 net l s.0 h.0).rows h.2 in (
           st.0,

@@ -4,7 +4,7 @@ use Rattle.std.proofs.Common.{zero, suc, ap, subst, inl, inr, arith}
 use Rattle.rsvp_base.specs.Members.{In}
 use Rattle.rsvp_base.specs.declared.addr.Addr.{Addr}
 use Rattle.tree_model.specs.declared.hops.End.{End}
-use Rattle.tree_model.specs.declared.hops.Hop.{Hop}
+use Rattle.tree_model.specs.declared.hops.LinkHop.{LinkHop}
 use Rattle.tree_model.specs.Networks.{Net, node_of, node_of_end, peers}
 use Rattle.tree_model.specs.Trees.{hops_of}
 use Rattle.tree_model.specs.Valid.{IsValid}
@@ -28,14 +28,14 @@ module _ (net : Net) (valid : IsValid net) where
   node_inside : (e : ℕ) → e < length net.ends → node_of net.ends e < net.nodes
   node_inside e lt = let x = end_there net.ends e lt in let p = valid.placed x.0 x.1 in let n = ap node_of_end x.2 in omega arith
 
-  pub ends_inside : (g : Addr) (h : Hop) → In h (hops_of net.hops g) → (h.from < length net.ends) × (h.to < length net.ends)
+  pub ends_inside : (g : Addr) (h : LinkHop) → In h (hops_of net.hops g) → (h.from < length net.ends) × (h.to < length net.ends)
   ends_inside g h i =
       let r = in_group net.hops g h i in
       let on = (one_sending_end_on_a_link net valid).linked r.0.group r.0.source r.0.hop (to_tree net.hops r.0 r.1) in
       let t = in_among r.0.hop.to (peers net.links r.0.hop.from) on in
-      subst (λ (x : Hop). (x.from < length net.ends) × (x.to < length net.ends)) r.3 (from_inside net valid r.0.hop t, to_inside net valid r.0.hop t)
+      subst (λ (x : LinkHop). (x.from < length net.ends) × (x.to < length net.ends)) r.3 (from_inside net valid r.0.hop t, to_inside net valid r.0.hop t)
 
-  pub nodes_inside : (g : Addr) (h : Hop) → In h (hops_of net.hops g) → (node_of net.ends h.from < net.nodes) × (node_of net.ends h.to < net.nodes)
+  pub nodes_inside : (g : Addr) (h : LinkHop) → In h (hops_of net.hops g) → (node_of net.ends h.from < net.nodes) × (node_of net.ends h.to < net.nodes)
   nodes_inside g h i = let e = ends_inside g h i in (node_inside h.from e.0, node_inside h.to e.1)
 
   -- those of hops by rank, by how many nodes there are

@@ -25,7 +25,7 @@ use Rattle.style_rules.specs.Styles.{name_of}
 use Rattle.style_rules.specs.Lines.{Line, LineKey, line_keys, line_key, NextHop, next_hops, next_hop}
 use Rattle.style_rules.specs.Limits.{of_style, of_session, line_keys_of, sessions_of, next_hops_of, names_of, IsWithinLimits}
 use Rattle.tree_model.specs.Chains.{NoRepeats}
-use Rattle.tree_model.specs.declared.hops.Hop.{Hop}
+use Rattle.tree_model.specs.declared.hops.LinkHop.{LinkHop}
 use Rattle.tree_model.specs.Networks.{Net, node_of}
 use Rattle.tree_model.specs.Trees.{hops_of, goes_out_of}
 use Rattle.tree_model.specs.Valid.{IsValid}
@@ -123,27 +123,27 @@ to_one [] x k i = absurd i
 to_one (y ∷ ys) x k i = inl refl
 
 module _ (net : Net) (l : Locals) (order : List GroupHop) (valid : IsValid net) (by : AreByRank net order) (ss : List Session) (locals : AreLocals net l) (once : NoRepeats ss) (these : (s : Session) → In s ss ↔ In s (each (λ (v : LocalWant). v.session) l.wants)) (st : StyleKind) where
-  abbrev want_of : Session → Hop → HopWant
+  abbrev want_of : Session → LinkHop → HopWant
   want_of s h = record { hop = h; parts = want st net l s h }
 
-  abbrev to_next : Hop → NextHop
+  abbrev to_next : LinkHop → NextHop
   to_next h = (h.from, addr_of net h.to)
 
-  abbrev line_over : Session → Hop → UnitOf × Part → Line
+  abbrev line_over : Session → LinkHop → UnitOf × Part → Line
   line_over s h e = record { style = st; session = s; end = h.from; next = addr_of net h.to; unit = e.0; part = e.1 }
 
   abbrev style_goal : ℕ → List Line
   style_goal n = of_style st (goal net l n)
 
   -- hops out of a node, in the order of all hops
-  abbrev hops_at : Session → ℕ → List Hop
+  abbrev hops_at : Session → ℕ → List LinkHop
   hops_at s n = filter (goes_out_of net.ends n) (hops_in s.group order)
 
   -- ---- what is counted
-  abbrev over_keys : Session → Hop → List LineKey
+  abbrev over_keys : Session → LinkHop → List LineKey
   over_keys s h = each (λ e. line_key (line_over s h e)) (want st net l s h).rows
 
-  abbrev over_next : Session → Hop → List NextHop
+  abbrev over_next : Session → LinkHop → List NextHop
   over_next s h = one_of (want st net l s h).rows (to_next h)
 
   abbrev session_keys : ℕ → Session → List LineKey
@@ -155,7 +155,7 @@ module _ (net : Net) (l : Locals) (order : List GroupHop) (valid : IsValid net) 
   abbrev all_next : ℕ → Session → List NextHop
   all_next n s = flat_map (over_next s) (hops_at s n)
 
-  count_over : {K : Type 0} (single : Bool) (f : Hop → List K) (s : Session) (n : ℕ) → ((h : Hop) → length (f h) ≡ amount single (want_of s h)) → (hs : List Hop) → length (flat_map f (filter (goes_out_of net.ends n) hs)) ≡ taken_at single net n (each (want_of s) hs)
+  count_over : {K : Type 0} (single : Bool) (f : LinkHop → List K) (s : Session) (n : ℕ) → ((h : LinkHop) → length (f h) ≡ amount single (want_of s h)) → (hs : List LinkHop) → length (flat_map f (filter (goes_out_of net.ends n) hs)) ≡ taken_at single net n (each (want_of s) hs)
   count_over single f s n same [] = refl
   count_over single f s n same (h ∷ hs) =
       let c = sum_by-cons (amount_at single net n) (want_of s h) (each (want_of s) hs) in
@@ -187,10 +187,10 @@ module _ (net : Net) (l : Locals) (order : List GroupHop) (valid : IsValid net) 
   once_at : (s : Session) (n : ℕ) → NoRepeats (hops_at s n)
   once_at s n = once_filter (goes_out_of net.ends n) (hops_in s.group order) (once_hops s.group)
 
-  in_net : (s : Session) (n : ℕ) (h : Hop) → In h (hops_at s n) → In h (hops_of net.hops s.group)
+  in_net : (s : Session) (n : ℕ) (h : LinkHop) → In h (hops_at s n) → In h (hops_of net.hops s.group)
   in_net s n h i = from_hops net l order by s.group h (in_filter (goes_out_of net.ends n) h (hops_in s.group order) i).0
 
-  one_hop : (s : Session) (n : ℕ) (h k : Hop) → In h (hops_at s n) → In k (hops_at s n) → to_next h ≡ to_next k → h ≡ k
+  one_hop : (s : Session) (n : ℕ) (h k : LinkHop) → In h (hops_at s n) → In k (hops_at s n) → to_next h ≡ to_next k → h ≡ k
   one_hop s n h k i j e =
       let a = end_there net.ends h.to (ends_inside net valid s.group h (in_net s n h i)).1 in
       let b = end_there net.ends k.to (ends_inside net valid s.group k (in_net s n k j)).1 in
@@ -210,7 +210,7 @@ module _ (net : Net) (l : Locals) (order : List GroupHop) (valid : IsValid net) 
       (λ h k z i j a b. one_hop s n h k i j (sym (next_in s h z a) ∙ next_in s k z b)))
       (λ s t z i j a b. sym (session_in n s z a) ∙ session_in n t z b)
     where
-      next_in : (s : Session) (h : Hop) (z : LineKey) → In z (over_keys s h) → z.1.0 ≡ to_next h
+      next_in : (s : Session) (h : LinkHop) (z : LineKey) → In z (over_keys s h) → z.1.0 ≡ to_next h
       next_in s h z i = let r = in_each (λ e. line_key (line_over s h e)) z (want st net l s h).rows i in ap (λ (q : LineKey). q.1.0) r.2
 
       session_in : (n : ℕ) (s : Session) (z : LineKey) → In z (session_keys n s) → z.0 ≡ s
@@ -227,7 +227,7 @@ module _ (net : Net) (l : Locals) (order : List GroupHop) (valid : IsValid net) 
   -- ---- the goal's lines of the style
   pub record IsOver (n : ℕ) (x : Line) : Type 0 where
     pub session : Session
-    pub hop : Hop
+    pub hop : LinkHop
     pub row : UnitOf × Part
     pub wanted : In session ss
     pub out : In hop (hops_at session n)
@@ -256,7 +256,7 @@ module _ (net : Net) (l : Locals) (order : List GroupHop) (valid : IsValid net) 
         proper = s.2;
       }
 
-  made : (n : ℕ) (s : Session) (h : Hop) (e : UnitOf × Part) → In s ss → In h (hops_at s n) → In e (want st net l s h).rows → In (line_over s h e) (style_goal n)
+  made : (n : ℕ) (s : Session) (h : LinkHop) (e : UnitOf × Part) → In s ss → In h (hops_at s n) → In e (want st net l s h).rows → In (line_over s h e) (style_goal n)
   made n s h e i j k =
       let f = in_filter (goes_out_of net.ends n) h (hops_in s.group order) j in
       let x = line_made net l order by st s (line_over s h e) h (in_net s n h j) (to_each (line_over s h) e (want st net l s h).rows k) in
@@ -293,7 +293,7 @@ module _ (net : Net) (l : Locals) (order : List GroupHop) (valid : IsValid net) 
       let d = next_count n s in
       omega (arith, a, b, c, d)
     where
-      over : (t : Session) (x : Line) (h : Hop) (e : UnitOf × Part) (k : NextHop) → t ≡ s → In h (hops_at t n) → In e (want st net l t h).rows → k ≡ to_next h → In k (all_next n s)
+      over : (t : Session) (x : Line) (h : LinkHop) (e : UnitOf × Part) (k : NextHop) → t ≡ s → In h (hops_at t n) → In e (want st net l t h).rows → k ≡ to_next h → In k (all_next n s)
       over t x h e k same i j is =
           subst (λ (q : Session). In k (all_next n q)) same
           (to_flat_map (over_next t) h k (hops_at t n) i (subst (λ (q : NextHop). In q (over_next t h)) (sym is) (to_one (want st net l t h).rows e (to_next h) j)))

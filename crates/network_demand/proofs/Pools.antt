@@ -16,7 +16,7 @@ use Rattle.rsvp_base.specs.Table.{size, has, values}
 use Rattle.rsvp_base.proofs.SetLaws.{and_made, size-with_key}
 use Rattle.rsvp_base.proofs.Tables.{either}
 use Rattle.style_rules.specs.Merge.{merge, PartTable}
-use Rattle.tree_model.specs.declared.hops.Hop.{Hop}
+use Rattle.tree_model.specs.declared.hops.LinkHop.{LinkHop}
 use Rattle.tree_model.specs.Networks.{Net, node_of}
 use Rattle.tree_model.specs.Trees.{goes_out_of}
 use Rattle.tree_model.specs.Ranks.{followers, IsLoopFree}
@@ -165,7 +165,7 @@ insert_more (Err e) old new x i ok full few lt = let a = size_more old x in absu
 
 -- ---- hops
 module _ (st : StyleKind) (net : Net) (l : Locals) (s : Session) where
-  wants_more : (hs : List Hop) (h : Hop) (n : ℕ) → wants_at st net l s (hs ++ h ∷ []) n ≡ wants_at st net l s hs n ++ (if node_of net.ends h.from == n then values (want st net l s h) else [])
+  wants_more : (hs : List LinkHop) (h : LinkHop) (n : ℕ) → wants_at st net l s (hs ++ h ∷ []) n ≡ wants_at st net l s hs n ++ (if node_of net.ends h.from == n then values (want st net l s h) else [])
   wants_more hs h n =
       ap (flat_map (λ h. values (want st net l s h))) (filter_append (goes_out_of net.ends n) hs (h ∷ [])) ∙ flat_append (λ h. values (want st net l s h)) (filter (goes_out_of net.ends n) hs) (filter (goes_out_of net.ends n) (h ∷ []))
       ∙ ap (λ ys. wants_at st net l s hs n ++ ys) (by (node_of net.ends h.from == n))
@@ -196,10 +196,10 @@ module _ (st : StyleKind) (net : Net) (l : Locals) (s : Session) where
     pub wants_then : (x.group.0 == s.group.0) ≡ true → (all more : List HopWant) (p : PartTable) → all ≡ hop_wants st net l s (take i order) → p ≡ want st net l s x.hop → more ≡ all ++ record { hop = x.hop; parts = p } ∷ [] → more ≡ hop_wants st net l s (take (i + 1) order)
     wants_then t all more p e f g =
         g ∙ (λ j. e j ++ record { hop = x.hop; parts = f j } ∷ [])
-        ∙ sym (ap (each (λ (h : Hop). record { hop = h; parts = want st net l s h })) (hops_more t) ∙ map-append (λ (h : Hop). record { hop = h; parts = want st net l s h }) (hops_in s.group (take i order)) (x.hop ∷ []))
+        ∙ sym (ap (each (λ (h : LinkHop). record { hop = h; parts = want st net l s h })) (hops_more t) ∙ map-append (λ (h : LinkHop). record { hop = h; parts = want st net l s h }) (hops_in s.group (take i order)) (x.hop ∷ []))
 
     module _ (free : IsLoopFree net) (by : AreByRank net order) (t : (x.group.0 == s.group.0) ≡ true) (asked : List (List Part)) (sofar : (n : ℕ) → at_node asked n ≡ asked_at st net l s (hops_in s.group (take i order)) n) where
-      before : (y : Hop) → In y (followers net s.group x.hop) → In y (hops_in s.group (take i order))
+      before : (y : LinkHop) → In y (followers net s.group x.hop) → In y (hops_in s.group (take i order))
       before y j =
           let g = addr_same x.group s.group t in
           subst (λ (a : Addr). In y (hops_in a (take i order))) g (followers_before net order i x d free by lt is y (subst (λ (a : Addr). In y (followers net a x.hop)) (sym g) j))

@@ -24,7 +24,7 @@ use Rattle.style_rules.specs.CutLaws.{cut_senders, cut_named}
 use Rattle.style_rules.specs.Merge.{merge}
 use Rattle.style_rules.proofs.Merges.{merges_same}
 use Rattle.style_rules.proofs.StyleLaws.{a_name}
-use Rattle.tree_model.specs.declared.hops.Hop.{Hop}
+use Rattle.tree_model.specs.declared.hops.LinkHop.{LinkHop}
 use Rattle.tree_model.specs.Networks.{Net, node_of}
 use Rattle.tree_model.specs.Trees.{goes_out_of}
 use Rattle.tree_model.specs.Ranks.{followers, IsLoopFree}
@@ -47,7 +47,7 @@ not_none false e = refl
 
 module _ (st : StyleKind) (net : Net) (l : Locals) (s : Session) where
   -- all names over a hop are names of the session
-  pub names_of_all : (h : Hop) → IsWithin (names st net l s (h ∷ [])) (all_names st l s)
+  pub names_of_all : (h : LinkHop) → IsWithin (names st net l s (h ∷ [])) (all_names st l s)
   names_of_all h x e =
       let a = name_told st net l s (h ∷ []) x e in
       in_set_of senders (each (name_of st) (live l s)) x (subst (λ (y : Sender). In y (each (name_of st) (live l s))) (sym a.3) (to_each (name_of st) a.0 (live l s) a.1))
@@ -61,13 +61,13 @@ module _ (st : StyleKind) (net : Net) (l : Locals) (s : Session) where
   wanted_is Shared all ns p h = refl
 
   -- a part of a want names senders whose trees have the hop
-  pub value_names : (y : Hop) (q : Part) → In q (values (want st net l s y)) → IsWithin q.senders (names st net l s (y ∷ []))
+  pub value_names : (y : LinkHop) (q : Part) → In q (values (want st net l s y)) → IsWithin q.senders (names st net l s (y ∷ []))
   value_names y q i =
       let e = in_each (λ (e : UnitOf × Part). e.1) q (want st net l s y).rows i in
       let at : In (e.0.0, q) (want st net l s y).rows = subst (λ (p : Part). In (e.0.0, p) (want st net l s y).rows) (sym e.2) e.1 in
       want_names st net l s y e.0.0 q (in_found units (want st net l s y) e.0.0 q at)
 
-  module _ (h : Hop) where
+  module _ (h : LinkHop) where
     abbrev ns : Names
     ns = names st net l s (h ∷ [])
 
@@ -75,7 +75,7 @@ module _ (st : StyleKind) (net : Net) (l : Locals) (s : Session) where
     n = node_of net.ends h.to
 
     -- what a hop out of the node brings, cut to the names over both hops, is that cut to the names over the first
-    cut_same : (y : Hop) (q : Part) → In q (values (want st net l s y)) → node_of net.ends y.from ≡ n → part_cut q ns ≡ part_cut q (names st net l s (h ∷ y ∷ []))
+    cut_same : (y : LinkHop) (q : Part) → In q (values (want st net l s y)) → node_of net.ends y.from ≡ n → part_cut q ns ≡ part_cut q (names st net l s (h ∷ y ∷ []))
     cut_same y q i meet =
         ap (λ (t : Names). part_of t q.flow)
         (same_names (cut q.senders ns) (cut q.senders (names st net l s (h ∷ y ∷ [])))
@@ -88,13 +88,13 @@ module _ (st : StyleKind) (net : Net) (l : Locals) (s : Session) where
         has-cut senders q.senders ns x ∙ and_made _ _ b.0 (both_one st net l s h y x b.1)))
 
     -- and only a hop that follows brings something
-    brings : (y : Hop) (q p : Part) → In q (values (want st net l s y)) → node_of net.ends y.from ≡ n → part_cut q ns ≡ Some p → In y (followers net s.group h)
+    brings : (y : LinkHop) (q p : Part) → In q (values (want st net l s y)) → node_of net.ends y.from ≡ n → part_cut q ns ≡ Some p → In y (followers net s.group h)
     brings y q p i meet e =
         let x = a_name p.senders (not_none (is_none p.senders) (cut_named q p ns e)) in
         let b = and_both (has q.senders x.0) (has ns x.0) (sym (has-cut senders q.senders ns x.0) ∙ ap (λ (t : Names). has t x.0) (sym (cut_senders q p ns e)) ∙ x.1) in
         follows_follower net s.group h y (a_common_name st net l s h y x.0 b.1 (value_names y q i x.0 b.0) meet).1
 
-    module _ (hs : List Hop) (all : (y : Hop) → In y (followers net s.group h) → In y hs) where
+    module _ (hs : List LinkHop) (all : (y : LinkHop) → In y (followers net s.group h) → In y hs) where
       abbrev wanted : List Part
       wanted = own st net l s h ++ flat_map (brought st net l s h (want st net l s)) (followers net s.group h)
 
@@ -153,11 +153,11 @@ ranked_before net (z ∷ zs) zero x y d up lt is (inr j) less = let a = ap (rank
 ranked_before net (z ∷ zs) (suc i) x y d up lt is (inl e) less = inl e
 ranked_before net (z ∷ zs) (suc i) x y d up lt is (inr j) less = inr (ranked_before net zs i x y d up.1 (omega arith) is j less)
 
-pub in_hops : (g : Addr) (xs : List GroupHop) (h : Hop) → In (record { group = g; hop = h }) xs → In h (hops_in g xs)
+pub in_hops : (g : Addr) (xs : List GroupHop) (h : LinkHop) → In (record { group = g; hop = h }) xs → In h (hops_in g xs)
 in_hops g xs h i = to_each (λ (x : GroupHop). x.hop) (record { group = g; hop = h }) (filter (λ (x : GroupHop). x.group.0 == g.0) xs) (to_filter (λ (x : GroupHop). x.group.0 == g.0) (record { group = g; hop = h }) xs i (addr_itself g))
 
 -- each hop that follows stands before
-pub followers_before : (net : Net) (xs : List GroupHop) (i : ℕ) (x d : GroupHop) → IsLoopFree net → AreByRank net xs → i < length xs → x ≡ slice_index_or xs i d → (y : Hop) → In y (followers net x.group x.hop) → In y (hops_in x.group (take i xs))
+pub followers_before : (net : Net) (xs : List GroupHop) (i : ℕ) (x d : GroupHop) → IsLoopFree net → AreByRank net xs → i < length xs → x ≡ slice_index_or xs i d → (y : LinkHop) → In y (followers net x.group x.hop) → In y (hops_in x.group (take i xs))
 followers_before net xs i x d free by lt is y j =
     let other : GroupHop = record { group = x.group; hop = y } in
     in_hops x.group (take i xs) y

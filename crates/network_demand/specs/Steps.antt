@@ -12,7 +12,7 @@ use Rattle.rsvp_base.specs.Sets.{set_of}
 use Rattle.rsvp_base.specs.Table.{values}
 use Rattle.style_rules.specs.Styles.{name_of}
 use Rattle.style_rules.specs.Parts.{part_cut}
-use Rattle.tree_model.specs.declared.hops.Hop.{Hop}
+use Rattle.tree_model.specs.declared.hops.LinkHop.{LinkHop}
 use Rattle.tree_model.specs.Networks.{Net}
 use Rattle.tree_model.specs.Trees.{tree, goes_out_of}
 use Rattle.tree_model.specs.Ranks.{has_hop}
@@ -38,19 +38,19 @@ local_parts st s all n ws = each (λ w. widened st all w.part) (filter (is_wante
 abbrev pub local_at : StyleKind → Locals → Session → ℕ → List Part
 local_at st l s n = local_parts st s (all_names st l s) n l.wants
 
-abbrev pub wants_at : StyleKind → Net → Locals → Session → List Hop → ℕ → List Part
+abbrev pub wants_at : StyleKind → Net → Locals → Session → List LinkHop → ℕ → List Part
 wants_at st net l s hs n = flat_map (λ h. values (want st net l s h)) (filter (goes_out_of net.ends n) hs)
 
 -- what is asked at a node by its local wants and over these hops
-abbrev pub asked_at : StyleKind → Net → Locals → Session → List Hop → ℕ → List Part
+abbrev pub asked_at : StyleKind → Net → Locals → Session → List LinkHop → ℕ → List Part
 asked_at st net l s hs n = local_at st l s n ++ wants_at st net l s hs n
 
 -- the sender's tree has each of these hops
-abbrev pub goes_over : Net → Addr → List Hop → Sender → Bool
+abbrev pub goes_over : Net → Addr → List LinkHop → Sender → Bool
 goes_over net g hs x = list_all (has_hop (tree net.hops g x.addr)) hs
 
 -- the names of those of some senders whose trees have each of these hops
-abbrev pub names_among : StyleKind → Net → Addr → List Hop → List Sender → Names
+abbrev pub names_among : StyleKind → Net → Addr → List LinkHop → List Sender → Names
 names_among st net g hs xs = set_of (each (name_of st) (filter (goes_over net g hs) xs))
 
 -- parts cut to names; what names nobody falls away
@@ -58,7 +58,7 @@ abbrev pub cuts : Names → List Part → List Part
 cuts names ps = flat_map (λ p. as_list (part_cut p names)) ps
 
 -- the hops of a group
-abbrev pub hops_in : Addr → List GroupHop → List Hop
+abbrev pub hops_in : Addr → List GroupHop → List LinkHop
 hops_in g xs = each (λ x. x.hop) (filter (λ x. x.group.0 == g.0) xs)
 
 -- what stands for a node in a list of what stands for each

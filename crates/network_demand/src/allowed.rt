@@ -13,8 +13,8 @@ ghost use Rattle.network_demand.specs.Demands.{AreLocals, few_of};
 
 use crate::locals::{Locals, is_among, is_session};
 use arrayvec::ArrayVec;
-use tree_model::{LocalSender, LocalWant};
 use rsvp_base::Session;
+use tree_model::{LocalSender, LocalWant};
 use tree_routing::Routing;
 
 /// Whether a network can be asked for this: each want is at one of its nodes, at most 32 sessions are wanted, and a session

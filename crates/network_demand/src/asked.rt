@@ -6,11 +6,11 @@ ghost use Rattle.tree_model.specs.declared.locals.LocalWant.{LocalWant};
 ghost use Rattle.network_demand.specs.Steps.{widened, local_parts, at_node};
 
 use crate::locals::{is_session, is_style};
-use tree_model::LocalWant;
 use rsvp_base::{NoMemory, Part, Senders, Session, StyleKind};
 use std::alloc::Global;
 use std::marker::Model;
 use style_rules::{Parts, Style};
+use tree_model::LocalWant;
 
 /// The parts that are asked at a node. Contracts see their list.
 #[derive(Drop)]

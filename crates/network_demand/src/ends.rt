@@ -20,10 +20,10 @@ use crate::locals::{Locals, is_among};
 use crate::owed::Demand;
 use crate::room::rooms;
 use crate::wants::hop_wants;
-use tree_model::LocalWant;
 use rsvp_base::{NoMemory, Session};
 use std::alloc::Global;
 use style_rules::{Fixed, Shared, Style, Wild};
+use tree_model::LocalWant;
 use tree_routing::{GroupHop, Routing};
 
 // Adds a session, if it is not there.

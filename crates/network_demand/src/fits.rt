@@ -12,9 +12,9 @@ use crate::end_book::EndBook;
 use crate::hop_want::HopWant;
 use crate::locals::{is_session, is_style};
 use crate::room::{rooms, take_all};
-use tree_model::LocalWant;
 use rsvp_base::{NoMemory, Session, StyleKind};
 use std::alloc::Global;
+use tree_model::LocalWant;
 use tree_routing::{End, Routing};
 
 /// Whether what is wanted of a session finds room, where the sessions before it did: 64 next hops at each node, and as many

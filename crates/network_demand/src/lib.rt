@@ -21,9 +21,9 @@ mod wants;
 
 pub use admission_book::EntryKey;
 pub use allowed::can_ask;
-pub use tree_model::{LocalSender, LocalWant};
 pub use end_book::EndBook;
 pub use ends::demand;
 pub use locals::Locals;
 pub use owed::Demand;
-pub use tree_routing::{End, GroupHop, Hop, HopErr, Routing, Topology, TreeHop};
+pub use tree_model::{LocalSender, LocalWant};
+pub use tree_routing::{End, GroupHop, HopErr, LinkHop, Routing, Topology, TreeHop};

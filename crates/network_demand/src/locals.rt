@@ -8,10 +8,10 @@ ghost use Rattle.rsvp_base.specs.Sets.{set_of};
 ghost use Rattle.style_rules.specs.Styles.{name_of};
 ghost use Rattle.tree_model.specs.Wants.{of_session, is_wanted_at};
 
-use tree_model::{LocalSender, LocalWant};
 use rsvp_base::{NoMemory, Sender, Senders, Session, StyleKind};
 use std::alloc::Global;
 use style_rules::Style;
+use tree_model::{LocalSender, LocalWant};
 
 /// What the hosts of a network ask of it: who sends, and who wants what.
 #[derive(Drop)]

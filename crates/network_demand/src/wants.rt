@@ -18,18 +18,24 @@ use crate::locals::{Locals, live, names_of};
 use rsvp_base::{Addr, NoMemory, Part, Sender, Senders, Session};
 use std::alloc::Global;
 use style_rules::{Merger, Parts, Style, cut};
-use tree_model::Hop;
+use tree_model::LinkHop;
 use tree_routing::{GroupHop, Routing};
 
 // Whether the tree of the sender's address has the hop.
-fn goes_over(routing: &Routing, group: Addr, hop: Hop, sender: Sender) -> bool
+fn goes_over(routing: &Routing, group: Addr, hop: LinkHop, sender: Sender) -> bool
     ensures { result ≡ goes_over routing.now group (hop ∷ []) sender }
 {
     routing.has_hop(group, sender.addr, hop)
 }
 
 // The sender's name too, if its tree has the hop.
-fn add_over<S: Style>(names: &mut Senders, routing: &Routing, group: Addr, hop: Hop, sender: Sender)
+fn add_over<S: Style>(
+    names: &mut Senders,
+    routing: &Routing,
+    group: Addr,
+    hop: LinkHop,
+    sender: Sender,
+)
     requires { size names.old < 16 }
     ensures names { (rest : List Sender) → with_keys names.new (map (name_of S.kind_is) (filter (goes_over routing.now group (hop ∷ [])) rest)) ≡ with_keys names.old (map (name_of S.kind_is) (filter (goes_over routing.now group (hop ∷ [])) (sender ∷ rest))) }
     ensures few { size names.new ≤ size names.old + 1 }
@@ -42,7 +48,7 @@ fn add_over<S: Style>(names: &mut Senders, routing: &Routing, group: Addr, hop: 
 }
 
 // The names, as the style lists them, of those of these senders whose trees have the hop.
-fn names_over<S: Style>(routing: &Routing, senders: &[Sender], group: Addr, hop: Hop) -> Senders
+fn names_over<S: Style>(routing: &Routing, senders: &[Sender], group: Addr, hop: LinkHop) -> Senders
     requires { length senders.now ≤ 16 }
     ensures names { result ≡ names_among S.kind_is routing.now group (hop ∷ []) senders.now }
     ensures few { size result ≤ 16 }
@@ -74,7 +80,7 @@ fn next_want<S: Style>(
     asked: &mut Vec<Asked>,
     senders: &[Sender],
     group: Addr,
-    hop: Hop,
+    hop: LinkHop,
 ) -> Result<Parts, NoMemory>
     requires few { length senders.now ≤ 16 }
     requires from { node_of routing.now.ends hop.from < length asked.old.items }

@@ -8,7 +8,7 @@ use Rattle.rsvp_base.proofs.Members.{in_filter, to_filter}
 use Rattle.tree_model.specs.Goals.{addr_of}
 use Rattle.router_rules.specs.Facts.{Facts}
 use Rattle.router_rules.specs.Inputs.{Input, Came}
-use Rattle.router_rules.specs.Place.{is_addr}
+use Rattle.router_rules.specs.NodeConfig.{is_addr}
 use Rattle.router_rules.specs.Rule.{Outcome, rule}
 use Rattle.tree_model.specs.declared.hops.End.{End}
 use Rattle.tree_model.specs.Networks.{Net, iface_of, peers}
@@ -16,7 +16,7 @@ use Rattle.tree_model.proofs.Following.{addr_same, addr_itself}
 use Rattle.network_model.specs.Laws.{ADeliveryChangesOneNode, APieceChangesEveryNode, is_still, TheRestChangeNoNode, WhereASendGoes, WhatIsSentIsCopied}
 use Rattle.network_model.specs.Links.{is_group, or_all, ends_toward, goes_to, all_copies}
 use Rattle.network_model.specs.Steps.{Step, Piece, Deliver, Lose, Copy, At, ClearAt, Trace, Report, Flags, Inject, Reroute, input_at, still, outcome_of, outcome, facts_from, sent_from, step}
-use Rattle.network_model.specs.Worlds.{Item, World, place_of}
+use Rattle.network_model.specs.Worlds.{Item, World, config_of}
 use Rattle.network_model.proofs.Quiet.{IsWaited, IsCame, input_found, input_came}
 use Rattle.network_model.proofs.Stepping.{copies_found, copies_made, facts_after_found, facts_after_made, sent_found, sent_made}
 
@@ -54,7 +54,7 @@ module _ (q : ℕ) (w : World) (k : ℕ) (x : Item) (e : End) (there : slice_get
   a_delivery_changes_one_node = record {
     node = λ f a.
         let here : w.clock + 0 ≡ w.clock = omega arith in
-        subst (λ (c : ℕ). slice_get (step q (Deliver k) w).nodes e.node ≡ Some (rule (place_of q w.net w.trees e.node) (place_of q w.net w.trees e.node) c (Came (iface_of w.net.ends x.end) x.dst x.arrival) f).facts) here
+        subst (λ (c : ℕ). slice_get (step q (Deliver k) w).nodes e.node ≡ Some (rule (config_of q w.net w.trees e.node) (config_of q w.net w.trees e.node) c (Came (iface_of w.net.ends x.end) x.dst x.arrival) f).facts) here
         (facts_after_made q (Deliver k) w e.node f a ∙ ap (λ (i : Option Input). Some (outcome_of q i (Deliver k) w e.node f).facts) (input_came (Deliver k) w x e there end));
     others = λ n other. unchanged q (Deliver k) w n (delivered_to n other);
     flight = refl;

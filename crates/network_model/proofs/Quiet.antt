@@ -8,7 +8,7 @@ use Rattle.router_rules.specs.Rule.{Outcome, rule}
 use Rattle.tree_model.specs.declared.hops.End.{End}
 use Rattle.tree_model.specs.Networks.{Net, iface_of}
 use Rattle.network_model.specs.Steps.{Step, Piece, Deliver, Lose, Copy, At, ClearAt, Trace, Report, Flags, Inject, Reroute, is_quiet, ms_of, arrived, net_after, at_node, came_by_end, came, input_at, word_for, still, outcome_of, outcome}
-use Rattle.network_model.specs.Worlds.{Item, World, place_of}
+use Rattle.network_model.specs.Worlds.{Item, World, config_of}
 
 pub net_quiet : (s : Step) (w : World) → is_quiet s ≡ true → net_after s w ≡ w.net
 net_quiet (Piece ms) w q = refl
@@ -96,11 +96,11 @@ input_came s w x e a t =
 pub record FollowsRule (q : ℕ) (s : Step) (w : World) (n : ℕ) (f : Facts) (o : Outcome) : Type 0 where
   pub input : Input
   pub came : input_at s w n ≡ Some input
-  pub is : o ≡ rule (place_of q w.net w.trees n) (place_of q w.net w.trees n) (w.clock + ms_of s) input f
+  pub is : o ≡ rule (config_of q w.net w.trees n) (config_of q w.net w.trees n) (w.clock + ms_of s) input f
 
-pub outcome_by : (q : ℕ) (s : Step) (w : World) (n : ℕ) (f : Facts) (i : Input) → is_quiet s ≡ true → input_at s w n ≡ Some i → outcome q s w n f ≡ rule (place_of q w.net w.trees n) (place_of q w.net w.trees n) (w.clock + ms_of s) i f
+pub outcome_by : (q : ℕ) (s : Step) (w : World) (n : ℕ) (f : Facts) (i : Input) → is_quiet s ≡ true → input_at s w n ≡ Some i → outcome q s w n f ≡ rule (config_of q w.net w.trees n) (config_of q w.net w.trees n) (w.clock + ms_of s) i f
 outcome_by q s w n f i quiet e =
-    ap (λ (o : Option Input). outcome_of q o s w n f) e ∙ ap (λ (net : Net). rule (place_of q w.net w.trees n) (place_of q net w.trees n) (w.clock + ms_of s) i f) (net_quiet s w quiet)
+    ap (λ (o : Option Input). outcome_of q o s w n f) e ∙ ap (λ (net : Net). rule (config_of q w.net w.trees n) (config_of q net w.trees n) (w.clock + ms_of s) i f) (net_quiet s w quiet)
 
 pub outcome_quiet : (q : ℕ) (s : Step) (w : World) (n : ℕ) (f : Facts) → is_quiet s ≡ true → ((input_at s w n ≡ None) × (outcome q s w n f ≡ still f)) ⊎ FollowsRule q s w n f (outcome q s w n f)
 outcome_quiet q s w n f quiet = by (input_at s w n) refl

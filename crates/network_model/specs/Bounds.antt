@@ -19,7 +19,7 @@ use Rattle.tree_model.specs.Valid.{IsValid}
 use Rattle.network_model.specs.Links.{is_group, NoEndIsAGroup}
 use Rattle.network_model.specs.Locals.{locals_of, sessions_of}
 use Rattle.network_model.specs.Steps.{Step, machine}
-use Rattle.network_model.specs.Worlds.{Item, World, place_of}
+use Rattle.network_model.specs.Worlds.{Item, World, config_of}
 
 -- ---- bounds
 abbrev pub IsProperArrival : Arrival → Type 0
@@ -39,11 +39,11 @@ pub record AreBounds (q : ℕ) (w : World) : Type 0 where
   -- nodes have a route for each tree that has a hop
   pub routed : (r : TreeHop) → In r w.net.hops → In (r.group, r.source) w.trees
   pub nodes : length w.nodes ≡ w.net.nodes
-  pub facts : (n : ℕ) (f : Facts) → slice_get w.nodes n ≡ Some f → IsWithinBounds (place_of q w.net w.trees n) w.clock f
+  pub facts : (n : ℕ) (f : Facts) → slice_get w.nodes n ≡ Some f → IsWithinBounds (config_of q w.net w.trees n) w.clock f
   pub flight : (x : Item) → In x w.flight → IsItem w x
 
 -- ---- what local senders keep besides
-pub record AreLocals (w : World) : Type 0 where
+pub record AreHosts (w : World) : Type 0 where
   -- a sender has an address of its node
   pub placed : (n : ℕ) (f : Facts) (k : SenderKey) (t : TokenBucket) → slice_get w.nodes n ≡ Some f → get f.senders k ≡ Some t → owner w.net.ends k.1.addr ≡ Some n
   pub groups : (n : ℕ) (f : Facts) (k : SenderKey) (t : TokenBucket) → slice_get w.nodes n ≡ Some f → get f.senders k ≡ Some t → is_group k.0.group ≡ true
@@ -53,7 +53,7 @@ pub record AreLocals (w : World) : Type 0 where
 -- ---- where convergence starts: bounds, a routing without loops, and demands that fit
 pub record IsStart (q : ℕ) (w : World) : Type 0 where
   pub bounds : AreBounds q w
-  pub locals : AreLocals w
+  pub locals : AreHosts w
   pub fit : DemandsFit w.net (locals_of w)
 
 -- ---- settled: the steps end in so many calm rounds, one after the other, by the routing in force in them

@@ -5,7 +5,7 @@ use Rattle.std.specs.List.{repeat}
 use Rattle.rsvp_base.specs.declared.addr.Addr.{Addr}
 use Rattle.calm_rounds.specs.Machine.{run}
 use Rattle.router_rules.specs.Inputs.{Arrival, Local}
-use Rattle.tree_model.specs.declared.hops.Hop.{Hop}
+use Rattle.tree_model.specs.declared.hops.LinkHop.{LinkHop}
 use Rattle.network_model.specs.Steps.{Step, Piece, Deliver, Lose, Copy, At, ClearAt, Trace, Report, Flags, Inject, Reroute, step, machine}
 use Rattle.network_model.specs.Worlds.{World}
 
@@ -26,7 +26,7 @@ pub data Event : Type 0 where
   Reports : Option ℕ → Event
   ReportsFlags : Event
   Injects : ℕ → Addr → Arrival → Event
-  Reroutes : Addr → Addr → List Hop → Event
+  Reroutes : Addr → Addr → List LinkHop → Event
 
 -- the place from 0; there is none before the first
 abbrev pub at_place : (ℕ → Step) → ℕ → List Step

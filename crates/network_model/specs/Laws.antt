@@ -6,28 +6,28 @@ use Rattle.rsvp_base.specs.Members.{In}
 use Rattle.tree_model.specs.Goals.{addr_of}
 use Rattle.router_rules.specs.Facts.{Facts}
 use Rattle.router_rules.specs.Inputs.{Wait, Came, Send}
-use Rattle.router_rules.specs.Place.{Place}
+use Rattle.router_rules.specs.NodeConfig.{NodeConfig}
 use Rattle.router_rules.specs.Rule.{rule}
 use Rattle.tree_model.specs.declared.hops.End.{End}
 use Rattle.tree_model.specs.Networks.{Net, end_at, iface_of, link_of, peers}
 use Rattle.network_model.specs.Links.{is_group, goes_to, copy_to}
 use Rattle.network_model.specs.Steps.{Step, Piece, Deliver, Lose, Copy, Trace, Report, Flags, Inject, word_for, outcome, sent, step}
-use Rattle.network_model.specs.Worlds.{Item, World, place_of}
+use Rattle.network_model.specs.Worlds.{Item, World, config_of}
 
-abbrev pub place_in : ℕ → World → ℕ → Place
-place_in q w n = place_of q w.net w.trees n
+abbrev pub config_in : ℕ → World → ℕ → NodeConfig
+config_in q w n = config_of q w.net w.trees n
 
 -- the node of the end follows its rule, all others stay as they are; the item is gone
 pub record ADeliveryChangesOneNode (q : ℕ) (w : World) (k : ℕ) (x : Item) (e : End) : Type 0 where
   pub node : (f : Facts) → slice_get w.nodes e.node ≡ Some f
-      → slice_get (step q (Deliver k) w).nodes e.node ≡ Some (rule (place_in q w e.node) (place_in q w e.node) w.clock (Came (iface_of w.net.ends x.end) x.dst x.arrival) f).facts
+      → slice_get (step q (Deliver k) w).nodes e.node ≡ Some (rule (config_in q w e.node) (config_in q w e.node) w.clock (Came (iface_of w.net.ends x.end) x.dst x.arrival) f).facts
   pub others : (n : ℕ) → (n ≡ e.node → ⊥) → slice_get (step q (Deliver k) w).nodes n ≡ slice_get w.nodes n
   pub flight : (step q (Deliver k) w).flight ≡ remove w.flight k ++ each (λ y. y.0) (sent q (Deliver k) w)
 
 -- each node waits, with a word of its own
 abbrev pub APieceChangesEveryNode : ℕ → World → ℕ → Type 0
 APieceChangesEveryNode q w ms =
-    (n : ℕ) (f : Facts) → slice_get w.nodes n ≡ Some f → slice_get (step q (Piece ms) w).nodes n ≡ Some (rule (place_in q w n) (place_in q w n) (w.clock + ms) (Wait ms (word_for w.words n)) f).facts
+    (n : ℕ) (f : Facts) → slice_get w.nodes n ≡ Some f → slice_get (step q (Piece ms) w).nodes n ≡ Some (rule (config_in q w n) (config_in q w n) (w.clock + ms) (Wait ms (word_for w.words n)) f).facts
 
 -- what is lost, copied, written or injected
 abbrev pub is_still : Step → Bool

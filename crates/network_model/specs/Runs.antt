@@ -14,7 +14,7 @@ use Rattle.router_rules.specs.Books.{book}
 use Rattle.router_rules.specs.Facts.{Facts, no_facts}
 use Rattle.router_rules.specs.Flags.{entries_at}
 use Rattle.router_rules.specs.Inputs.{Arrival, Spelt, Unspelt, Stale}
-use Rattle.router_rules.specs.Place.{Place}
+use Rattle.router_rules.specs.NodeConfig.{NodeConfig}
 use Rattle.router_rules.specs.Rule.{facts_with}
 use Rattle.tree_model.specs.declared.hops.End.{End}
 use Rattle.tree_model.specs.Networks.{Net, iface_of}
@@ -22,7 +22,7 @@ use Rattle.tree_model.specs.Trees.{trees_of}
 use Rattle.network_model.specs.Events.{Event, all_steps}
 use Rattle.network_model.specs.Steps.{Step, Deliver, Report, Flags, step, outcome, machine}
 use Rattle.network_model.specs.Texts.{table_text, flags_text}
-use Rattle.network_model.specs.Worlds.{Item, World, place_of}
+use Rattle.network_model.specs.Worlds.{Item, World, config_of}
 
 -- what a script says: the network, the names of its ends, what is left over at which nodes, and what happens
 pub record Plan : Type 0 where
@@ -34,12 +34,12 @@ pub record Plan : Type 0 where
   pub events : List Event
 
 -- ---- the first world: what is left over, at the moment 0
-abbrev pub left_over : Place → ℕ → List (ℕ × Stale) → Facts → Facts
+abbrev pub left_over : NodeConfig → ℕ → List (ℕ × Stale) → Facts → Facts
 left_over p n [] f = f
 left_over p n (s ∷ ss) f = left_over p n ss (cond (s.0 == n) (facts_with p 0 s.1 f) f)
 
 abbrev pub first_facts : Plan → ℕ → Facts
-first_facts p n = left_over (place_of p.quarter p.net (trees_of p.net.hops) n) n p.stale no_facts
+first_facts p n = left_over (config_of p.quarter p.net (trees_of p.net.hops) n) n p.stale no_facts
 
 abbrev pub first_world : Plan → World
 first_world p = record {
@@ -103,10 +103,10 @@ delivery_text name a h = name ++ codes " " ++ arrival_text a ++ codes " " ++ hea
 
 -- ---- reports
 -- the report of an end of this name, from the facts of its node
-abbrev pub plain_report : Place → List ℕ → End → ℕ → Facts → List ℕ
+abbrev pub plain_report : NodeConfig → List ℕ → End → ℕ → Facts → List ℕ
 plain_report p name e iface f = table_text name e.iface.capacity (book f iface)
 
-abbrev pub flags_report : Place → List ℕ → End → ℕ → Facts → List ℕ
+abbrev pub flags_report : NodeConfig → List ℕ → End → ℕ → Facts → List ℕ
 flags_report p name e iface f = flags_text name e.iface.capacity (entries_at p f iface)
 
 -- of what is there
@@ -121,11 +121,11 @@ node_facts w None = None
 node_facts w (Some e) = slice_get w.nodes e.node
 
 module _ (q : ℕ) (names : List (List ℕ)) where
-  abbrev pub end_report : (Place → List ℕ → End → ℕ → Facts → List ℕ) → World → ℕ → List ℕ
+  abbrev pub end_report : (NodeConfig → List ℕ → End → ℕ → Facts → List ℕ) → World → ℕ → List ℕ
   end_report t w e =
-      with_parts (λ name x f. t (place_of q w.net w.trees x.node) name x (iface_of w.net.ends e) f) (slice_get names e) (slice_get w.net.ends e) (node_facts w (slice_get w.net.ends e))
+      with_parts (λ name x f. t (config_of q w.net w.trees x.node) name x (iface_of w.net.ends e) f) (slice_get names e) (slice_get w.net.ends e) (node_facts w (slice_get w.net.ends e))
 
-  abbrev pub whole_report : (Place → List ℕ → End → ℕ → Facts → List ℕ) → World → List ℕ
+  abbrev pub whole_report : (NodeConfig → List ℕ → End → ℕ → Facts → List ℕ) → World → List ℕ
   whole_report t w = flat_map (end_report t w) (range_with_len 0 (length w.net.ends))
 
   -- what is heard of an item that is delivered

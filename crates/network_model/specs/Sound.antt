@@ -21,7 +21,7 @@ use Rattle.router_rules.specs.Facts.{Facts, SenderKey, PathState, ResvState, res
 use Rattle.router_rules.specs.Inputs.{Spelt}
 use Rattle.style_rules.specs.Lines.{LineKey}
 use Rattle.style_rules.specs.Parts.{part_le}
-use Rattle.tree_model.specs.declared.hops.Hop.{Hop}
+use Rattle.tree_model.specs.declared.hops.LinkHop.{LinkHop}
 use Rattle.tree_model.specs.Networks.{node_of, end_at, iface_of}
 use Rattle.tree_model.specs.Trees.{tree, hops_of, inward}
 use Rattle.network_model.specs.Locals.{IsLive, locals_of}
@@ -32,7 +32,7 @@ use Rattle.network_model.specs.Worlds.{Item, World}
 -- at this end, for a sender of a session, this hop address and flow: a hop of the sender's tree comes here from an end with
 -- the address, and the sender is live and sends the flow
 pub record IsSoundAt (w : World) (k : SenderKey) (e : ℕ) (v : Addr × TokenBucket) : Type 0 where
-  pub hop : Hop
+  pub hop : LinkHop
   pub there : In hop (tree w.net.hops k.0.group k.1.addr)
   pub to : hop.to ≡ e
   pub from : v.0 ≡ addr_of w.net hop.from
@@ -52,7 +52,7 @@ pub record ArePathsSound (w : World) : Type 0 where
   pub named : (y : Item) (m : PathMsg) → In y w.flight → y.arrival ≡ Spelt (message.Path m) → m.sender ≡ None → ⊥
 
 -- a live sender has its fact at a hop of its tree
-pub record IsPathAt (w : World) (k : SenderKey) (t : TokenBucket) (h : Hop) : Type 0 where
+pub record IsPathAt (w : World) (k : SenderKey) (t : TokenBucket) (h : LinkHop) : Type 0 where
   pub facts : Facts
   pub node : slice_get w.nodes (node_of w.net.ends h.to) ≡ Some facts
   pub path : PathState
@@ -63,14 +63,14 @@ pub record IsPathAt (w : World) (k : SenderKey) (t : TokenBucket) (h : Hop) : Ty
 
 -- at each hop of its tree
 abbrev pub ArePathsComplete : World → Type 0
-ArePathsComplete w = (k : SenderKey) (t : TokenBucket) (h : Hop) → IsLive w k t → In h (tree w.net.hops k.0.group k.1.addr) → IsPathAt w k t h
+ArePathsComplete w = (k : SenderKey) (t : TokenBucket) (h : LinkHop) → IsLive w k t → In h (tree w.net.hops k.0.group k.1.addr) → IsPathAt w k t h
 
 -- ---- reservations
 -- at this end, from a next hop of this address: the part names someone, and what is wanted over a hop to there has a part of
 -- its unit that is at least the part
 pub record IsSoundPart (st : StyleKind) (w : World) (s : Session) (e : ℕ) (next : Addr) (u : UnitOf) (p : Part) : Type 0 where
   pub some : 0 < size p.senders
-  pub hop : Hop
+  pub hop : LinkHop
   pub there : In hop (hops_of w.net.hops s.group)
   pub from : hop.from ≡ e
   pub to : addr_of w.net hop.to ≡ next
@@ -95,7 +95,7 @@ pub record AreResvsSound (w : World) : Type 0 where
   pub items : (y : Item) (m : ResvMsg) (u : AskedUnit) → In y w.flight → y.arrival ≡ Spelt (message.Resv m) → In u (asked_units m.ask) → IsSoundUnit w y m u
 
 -- what is wanted over a hop of a style and session is what stands for it, unit by unit
-pub record IsExact (st : StyleKind) (w : World) (s : Session) (h : Hop) : Type 0 where
+pub record IsExact (st : StyleKind) (w : World) (s : Session) (h : LinkHop) : Type 0 where
   pub facts : Facts
   pub node : slice_get w.nodes (node_of w.net.ends h.from) ≡ Some facts
   pub wanted : (u : UnitOf) (p : Part) → get (want st w.net (locals_of w) s h) u ≡ Some p
@@ -104,7 +104,7 @@ pub record IsExact (st : StyleKind) (w : World) (s : Session) (h : Hop) : Type 0
       → get (want st w.net (locals_of w) s h) u ≡ Some r.part
 
 abbrev pub AreResvsExact : World → Type 0
-AreResvsExact w = (st : StyleKind) (s : Session) (h : Hop) → In h (hops_of w.net.hops s.group) → IsExact st w s h
+AreResvsExact w = (st : StyleKind) (s : Session) (h : LinkHop) → In h (hops_of w.net.hops s.group) → IsExact st w s h
 
 -- ---- no refusal and no blockade is left
 -- each unit of each Resv that arrives by the step stands at the node to which it comes as it was asked for: none is refused,

@@ -15,12 +15,12 @@ use Rattle.router_rules.specs.Facts.{Facts}
 use Rattle.router_rules.specs.Inputs.{Arrival, Spelt, Unspelt, Input, Call, Wait, Clear, Came, Moved, Local}
 use Rattle.router_rules.specs.Rule.{Outcome, rule}
 use Rattle.tree_model.specs.declared.hops.End.{End}
-use Rattle.tree_model.specs.declared.hops.Hop.{Hop}
+use Rattle.tree_model.specs.declared.hops.LinkHop.{LinkHop}
 use Rattle.tree_model.specs.declared.hops.TreeHop.{TreeHop}
 use Rattle.tree_model.specs.Networks.{Net, iface_of}
 use Rattle.tree_model.specs.Trees.{of_tree}
 use Rattle.network_model.specs.Links.{all_copies}
-use Rattle.network_model.specs.Worlds.{Item, World, place_of}
+use Rattle.network_model.specs.Worlds.{Item, World, config_of}
 
 -- Places in the list in flight count from 0. A place where nothing is, and a node or end that is not there, change nothing but
 -- the number of steps made.
@@ -41,7 +41,7 @@ pub data Step : Type 0 where
   -- to an end, with a destination
   Inject : ℕ → Addr → Arrival → Step
   -- these hops are from now on the tree of the group and source
-  Reroute : Addr → Addr → List Hop → Step
+  Reroute : Addr → Addr → List LinkHop → Step
 
 -- ---- words (a linear congruential generator)
 abbrev pub next_state : ℕ → ℕ
@@ -78,10 +78,10 @@ arrived (Deliver k) w = slice_get w.flight k
 arrived _ w = None
 
 -- ---- the network after a step
-abbrev pub tree_hop : Addr → Addr → Hop → TreeHop
+abbrev pub tree_hop : Addr → Addr → LinkHop → TreeHop
 tree_hop g s h = record { group = g; source = s; hop = h }
 
-abbrev pub rerouted : Net → Addr → Addr → List Hop → Net
+abbrev pub rerouted : Net → Addr → Addr → List LinkHop → Net
 rerouted net g s hops = record net { hops = filter (λ r. not (of_tree g s r)) net.hops ++ each (tree_hop g s) hops }
 
 abbrev pub net_after : Step → World → Net
@@ -147,7 +147,7 @@ is_calm q s = is_quiet s && nat_le (ms_of s) (2 * q)
 module _ (q : ℕ) where
   abbrev pub outcome_of : Option Input → Step → World → ℕ → Facts → Outcome
   outcome_of None s w n f = still f
-  outcome_of (Some i) s w n f = rule (place_of q w.net w.trees n) (place_of q (net_after s w) w.trees n) (w.clock + ms_of s) i f
+  outcome_of (Some i) s w n f = rule (config_of q w.net w.trees n) (config_of q (net_after s w) w.trees n) (w.clock + ms_of s) i f
 
   -- node n by a step
   abbrev pub outcome : Step → World → ℕ → Facts → Outcome
@@ -179,40 +179,40 @@ module _ (q : ℕ) where
     flight = rest s w ++ each (λ x. x.0) (sent s w);
   }
 
--- ---- lanes: over which end, to which end, and of what a refresh goes
+-- ---- tracks: over which end, to which end, and of what a refresh goes
 pub data Refreshed : Type 0 where
   OfSender : Sender → Refreshed
   OfStyle : StyleKind → Refreshed
 
-pub record Lane : Type 0 where
+pub record Track : Type 0 where
   -- the address that it has as its RSVP_HOP
   pub from : Addr
   pub to : ℕ
   pub session : Session
   pub key : Refreshed
 
-abbrev pub path_lane : ℕ → Addr → Session → Option Sender → Option Lane
-path_lane e from s None = None
-path_lane e from s (Some x) = Some (record { from = from; to = e; session = s; key = OfSender x })
+abbrev pub path_track : ℕ → Addr → Session → Option Sender → Option Track
+path_track e from s None = None
+path_track e from s (Some x) = Some (record { from = from; to = e; session = s; key = OfSender x })
 
 abbrev pub sender_of : {X : Type 0} → Option (Sender × X) → Option Sender
 sender_of None = None
 sender_of (Some x) = Some x.0
 
-abbrev pub message_lane : ℕ → Message → Option Lane
-message_lane e (message.Path m) = path_lane e m.hop.addr m.session (sender_of m.sender)
-message_lane e (message.Resv m) = Some (record { from = m.hop.addr; to = e; session = m.session; key = OfStyle (ask_style m.ask) })
-message_lane e _ = None
+abbrev pub message_track : ℕ → Message → Option Track
+message_track e (message.Path m) = path_track e m.hop.addr m.session (sender_of m.sender)
+message_track e (message.Resv m) = Some (record { from = m.hop.addr; to = e; session = m.session; key = OfStyle (ask_style m.ask) })
+message_track e _ = None
 
-abbrev pub arrival_lane : ℕ → Arrival → Option Lane
-arrival_lane e (Spelt m) = message_lane e m
-arrival_lane e (Unspelt m) = None
+abbrev pub arrival_track : ℕ → Arrival → Option Track
+arrival_track e (Spelt m) = message_track e m
+arrival_track e (Unspelt m) = None
 
-abbrev pub lane : Item → Option Lane
-lane x = arrival_lane x.end x.arrival
+abbrev pub track : Item → Option Track
+track x = arrival_track x.end x.arrival
 
 -- ---- the network as a machine of rounds, with this quarter of a refresh period
-abbrev pub machine : ℕ → Machine World Step Item Lane
+abbrev pub machine : ℕ → Machine World Step Item Track
 machine q = record {
   quarter = q;
   step = step q;
@@ -222,7 +222,7 @@ machine q = record {
   made = λ w. w.made;
   flight = λ w. w.flight;
   born = λ x. x.born;
-  lane = lane;
+  track = track;
   sent = sent q;
   arrived = arrived;
 }

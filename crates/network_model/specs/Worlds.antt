@@ -5,7 +5,7 @@ use Rattle.admission_book.specs.declared.iface.Iface.{Iface}
 use Rattle.router_rules.specs.declared.route.Route.{Route}
 use Rattle.router_rules.specs.Facts.{Facts}
 use Rattle.router_rules.specs.Inputs.{Arrival}
-use Rattle.router_rules.specs.Place.{Place}
+use Rattle.router_rules.specs.NodeConfig.{NodeConfig}
 use Rattle.tree_model.specs.declared.hops.End.{End}
 use Rattle.tree_model.specs.Networks.{Net, ends_of, iface_of}
 use Rattle.tree_model.specs.Trees.{iface_in, inward, outward}
@@ -62,5 +62,5 @@ ifaces_at ends [] = []
 ifaces_at ends (e ∷ es) = with_iface (slice_get ends e) (ifaces_at ends es)
 
 -- where a node stands in a network, with routes for these trees; quarter is a quarter of the refresh period
-abbrev pub place_of : ℕ → Net → List (Addr × Addr) → ℕ → Place
-place_of quarter net trees n = record { quarter = quarter; ifaces = ifaces_at net.ends (ends_of net.ends n); routes = each (route_of net n) trees }
+abbrev pub config_of : ℕ → Net → List (Addr × Addr) → ℕ → NodeConfig
+config_of quarter net trees n = record { quarter = quarter; ifaces = ifaces_at net.ends (ends_of net.ends n); routes = each (route_of net n) trees }

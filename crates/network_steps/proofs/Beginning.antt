@@ -17,8 +17,8 @@ use Rattle.style_rules.specs.Styles.{name_of}
 use Rattle.router_rules.specs.Bounds.{IsWithinBounds}
 use Rattle.router_rules.specs.Facts.{Facts, no_facts}
 use Rattle.router_rules.specs.Inputs.{Stale, StaleResv}
-use Rattle.router_rules.specs.Line.{s1, scope}
-use Rattle.router_rules.specs.Place.{Place}
+use Rattle.router_rows.specs.ThreeRouters.{s1, scope}
+use Rattle.router_rules.specs.NodeConfig.{NodeConfig}
 use Rattle.router_rules.specs.Rule.{facts_with}
 use Rattle.router_rules.proofs.Bounding.{no_facts_are_within_bounds}
 use Rattle.router_rules.specs.Steps.{IsFitStale}
@@ -28,7 +28,7 @@ use Rattle.tree_model.specs.Trees.{tree_keys, key_of, trees_of}
 use Rattle.tree_model.proofs.Following.{same_number}
 use Rattle.network_model.specs.Bounds.{AreBounds}
 use Rattle.network_model.specs.Runs.{Plan, left_over, first_facts, first_world}
-use Rattle.network_model.specs.Worlds.{place_of}
+use Rattle.network_model.specs.Worlds.{config_of}
 use Rattle.network_steps.specs.Example.{pair_net}
 use Rattle.network_steps.specs.Beginning.{IsFitPlan, left_key, left_resv, APlanIsFit}
 use Rattle.network_steps.proofs.Example.{hosts, valid}
@@ -52,7 +52,7 @@ each_found f a (suc n) (suc k) x e =
     ap f at ∙ each_found f (a + 1) n k x e
 
 -- ---- what is left over at a node, one after the other
-left_within : (p : Place) (n : ℕ) → 1 ≤ p.quarter → (ss : List (ℕ × Stale)) (f : Facts) → ((i : Stale) → In (n, i) ss → IsFitStale p 0 i) → IsWithinBounds p 0 f → IsWithinBounds p 0 (left_over p n ss f)
+left_within : (p : NodeConfig) (n : ℕ) → 1 ≤ p.quarter → (ss : List (ℕ × Stale)) (f : Facts) → ((i : Stale) → In (n, i) ss → IsFitStale p 0 i) → IsWithinBounds p 0 f → IsWithinBounds p 0 (left_over p n ss f)
 left_within p n some [] f fit b = b
 left_within p n some (s ∷ ss) f fit b = left_within p n some ss (cond (s.0 == n) (facts_with p 0 s.1 f) f) (λ i j. fit i (inr j)) (by (s.0 == n) refl)
   where
@@ -72,7 +72,7 @@ the_first_world_is_within_bounds p fit =
       nodes = many;
       facts = λ n f there.
           let inside : n < length (each (first_facts p) (range_with_len 0 p.net.nodes)) = slice_get_within (each (first_facts p) (range_with_len 0 p.net.nodes)) n f there in
-          let place : Place = place_of p.quarter p.net (trees_of p.net.hops) n in
+          let place : NodeConfig = config_of p.quarter p.net (trees_of p.net.hops) n in
           let at : n ≡ 0 + n = omega arith in
           let is : first_facts p n ≡ f = ap (first_facts p) at ∙ each_found (first_facts p) 0 p.net.nodes n f there in
           subst (λ (z : Facts). IsWithinBounds place 0 z) is (left_within place n fit.period p.stale no_facts (λ i j. fit.stale n i (omega (arith, inside, many)) j) (no_facts_are_within_bounds place 0));
@@ -80,8 +80,8 @@ the_first_world_is_within_bounds p fit =
     }
 
 -- ---- the example
-abbrev pair_place : Place
-pair_place = place_of 7500 pair_net (trees_of pair_net.hops) 0
+abbrev pair_place : NodeConfig
+pair_place = config_of 7500 pair_net (trees_of pair_net.hops) 0
 
 in_scope : (x : Sender) → has scope x ≡ true → x ≡ record { addr = s1; port = 0 }
 in_scope x h = ⊎_elim (λ (e : x ≡ record { addr = s1; port = 0 }). e) (λ (no : ⊥). absurd no) (set_of_in senders ((record { addr = s1; port = 0 }) ∷ []) x h)
@@ -107,7 +107,7 @@ a_plan_is_fit = record {
     hosts = hosts;
     stale = λ n i lt j.
         ⊎_elim
-        (λ (same : (n, i) ≡ (0, StaleResv Wild left_key left_resv)). subst (λ (z : ℕ × Stale). IsFitStale (place_of 7500 pair_net (trees_of pair_net.hops) z.0) 0 z.1) (sym same) fit_resv)
+        (λ (same : (n, i) ≡ (0, StaleResv Wild left_key left_resv)). subst (λ (z : ℕ × Stale). IsFitStale (config_of 7500 pair_net (trees_of pair_net.hops) z.0) 0 z.1) (sym same) fit_resv)
         (λ (no : ⊥). absurd no) j;
   };
   there = refl;

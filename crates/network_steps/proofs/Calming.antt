@@ -11,7 +11,7 @@ use Rattle.rsvp_base.specs.declared.addr.Addr.{Addr}
 use Rattle.router_rules.specs.Act.{act}
 use Rattle.router_rules.specs.Facts.{Facts}
 use Rattle.router_rules.specs.Inputs.{Arrival, Change, Input, Wait, Came, Send}
-use Rattle.router_rules.specs.Place.{Place}
+use Rattle.router_rules.specs.NodeConfig.{NodeConfig}
 use Rattle.router_rules.specs.Rule.{Outcome, rule, settled}
 use Rattle.router_lookups.specs.SendLaws.{IsPathTear, IsResvTear, IsError, IsConf, IsPath, IsResv}
 use Rattle.router_lookups.proofs.Sending.{sends_are_of_six_kinds}
@@ -19,7 +19,7 @@ use Rattle.tree_model.specs.Networks.{iface_of}
 use Rattle.router_steps.proofs.Counting.{reached}
 use Rattle.network_model.specs.Events.{pass, half, halves, a_round, rounds}
 use Rattle.network_model.specs.Steps.{Step, Piece, Deliver, input_at, outcome, still, sent, step, machine}
-use Rattle.network_model.specs.Worlds.{Item, World, place_of}
+use Rattle.network_model.specs.Worlds.{Item, World, config_of}
 use Rattle.network_model.specs.Bounds.{all_of}
 use Rattle.network_steps.specs.Rounds.{rounds_of, RoundsIsCalm}
 use Rattle.network_model.proofs.Machines.{items_are_numbered, born_sent}
@@ -66,7 +66,7 @@ module _ {W S I K : Type 0} (m : Machine W S I K) where
   fresh_run c n (s ∷ ss) w e h = fresh_run c n ss (m.step s w) e.1 (fresh_step m c n s w e.0 h)
 
 -- ---- what is sent for an arrival is no refresh
-module _ (p : Place) (c e : ℕ) (dst : Addr) (a : Arrival) (f : Facts) (s : Send) where
+module _ (p : NodeConfig) (c e : ℕ) (dst : Addr) (a : Arrival) (f : Facts) (s : Send) where
   abbrev change : Change
   change = act p c (Came e dst a) f
 
@@ -97,7 +97,7 @@ module _ (q : ℕ) where
   none_in_delivery w k x i =
       let c = (what_is_sent_is_copied q (Deliver k) w (x, true)).0 i in
       let o : Outcome = outcome q (Deliver k) w c.node c.facts in
-      let p : Place = place_of q w.net w.trees c.node in
+      let p : NodeConfig = config_of q w.net w.trees c.node in
       let mark : c.send.refresh ≡ true = sym (ap (λ (z : Item × Bool). z.1) c.is) in
       ⊎_elim
       (λ (h : (input_at (Deliver k) w c.node ≡ None) × (o ≡ still c.facts)).

@@ -4,16 +4,16 @@ use Rattle.std.specs.Prelude.{slice_get, option_and_then, max, min}
 use Rattle.rsvp_base.specs.declared.session.Session.{Session}
 use Rattle.rsvp_base.specs.Table.{get, has}
 use Rattle.router_steps.specs.CountdownLaws.{IsMoved}
-use Rattle.router_rules.specs.Steps.{is_calm, facts_then, fired_then}
+use Rattle.router_rules.specs.Steps.{is_calm, facts_then, fired_then, node_step}
 use Rattle.router_steps.proofs.Counting.{countdowns_move_by_their_rule, fires}
 use Rattle.router_rules.specs.Facts.{Facts}
 use Rattle.router_rules.specs.Inputs.{Input, Wait, Came}
-use Rattle.router_rules.specs.Place.{Place}
+use Rattle.router_rules.specs.NodeConfig.{NodeConfig}
 use Rattle.router_rules.specs.Rule.{Outcome}
 use Rattle.tree_model.specs.Networks.{iface_of}
 use Rattle.network_model.specs.Bounds.{AreBounds}
 use Rattle.network_model.specs.Steps.{Step, is_quiet, ms_of, input_at, word_for, outcome, still, step}
-use Rattle.network_model.specs.Worlds.{World, place_of}
+use Rattle.network_model.specs.Worlds.{World, config_of}
 use Rattle.network_model.proofs.Quiet.{IsWaited, IsCame, FollowsRule, input_found, outcome_by, outcome_quiet}
 use Rattle.network_model.proofs.Stepping.{facts_after_made}
 use Rattle.network_steps.specs.Refreshes.{due_at, Refreshes}
@@ -41,7 +41,7 @@ due_made u n s t f a h = ap (λ (o : Option Facts). option_and_then (λ (g : Fac
 pub due_moves : (q : ℕ) (s : Step) (u : World) (n : ℕ) (session : Session) (t t' : ℕ) → is_quiet s ≡ true → AreBounds q u → due_at u n session ≡ Some t → due_at (step q s u) n session ≡ Some t' → (t' ≡ t) ⊎ Refreshes n session s u
 due_moves q s u n session t t' quiet bounds e e' =
     let f = due_found u n session t e in
-    let p : Place = place_of q u.net u.trees n in
+    let p : NodeConfig = config_of q u.net u.trees n in
     let now : get (outcome q s u n f.0).facts.due session ≡ Some t' = sym (ap (λ (o : Option Facts). option_and_then (λ (g : Facts). get g.due session) o) (facts_after_made q s u n f.0 f.1)) ∙ e' in
     ⊎_elim
     (λ (z : (input_at s u n ≡ None) × (outcome q s u n f.0 ≡ still f.0)). inl (of_some t' t (sym now ∙ ap (λ (w : Outcome). get w.facts.due session) z.1 ∙ f.2)))
@@ -55,16 +55,16 @@ due_moves q s u n session t t' quiet bounds e e' =
     ⊎_elim
     (λ (w : IsWaited s u n r.input). inr (record { ms = w.ms; waits = w.step; facts = f.0; there = f.1; moment = t; due = f.2; reached = (let z = go.0.reached in let ms = ap ms_of w.step in omega arith) }))
     (λ (c : IsCame s u n r.input). let bad : Came (iface_of u.net.ends c.item.end) c.item.dst c.item.arrival ≡ Wait go.0.ms go.0.word = sym c.is ∙ go.0.waited in absurd (cc)) came)
-    (countdowns_move_by_their_rule.moves p p u.clock (u.clock + ms_of s) r.input f.0 (bounds.facts n f.0 f.1) session t t' calm f.2 to))
+    (countdowns_move_by_their_rule.moves (node_step p p u.clock (u.clock + ms_of s) r.input f.0) (bounds.facts n f.0 f.1) session t t' calm f.2 to))
     (outcome_quiet q s u n f.0 quiet)
 
 -- ---- a node that refreshes a session follows its rule, and the session is fired
 pub refresh_follows : (q : ℕ) (s : Step) (u : World) (n : ℕ) (session : Session) → is_quiet s ≡ true → (r : Refreshes n session s u)
-    → (f : FollowsRule q s u n r.facts (outcome q s u n r.facts)) × (has (fired_then (place_of q u.net u.trees n) (u.clock + ms_of s) f.input r.facts) session ≡ true)
+    → (f : FollowsRule q s u n r.facts (outcome q s u n r.facts)) × (has (fired_then (config_of q u.net u.trees n) (u.clock + ms_of s) f.input r.facts) session ≡ true)
 refresh_follows q s u n session quiet r =
     let input : Input = Wait r.ms (word_for u.words n) in
     let waits : input_at s u n ≡ Some input = ap (λ (z : Step). input_at z u n) r.waits in
     let reached : r.moment ≤ u.clock + ms_of s = (let ms = ap ms_of r.waits in let le = r.reached in omega arith) in (
       record { input = input; came = waits; is = outcome_by q s u n r.facts input quiet waits },
-      fires (place_of q u.net u.trees n) (u.clock + ms_of s) input r.facts session (record { ms = r.ms; word = word_for u.words n; waited = refl; moment = r.moment; due = r.due; reached = reached }),
+      fires (config_of q u.net u.trees n) (u.clock + ms_of s) input r.facts session (record { ms = r.ms; word = word_for u.words n; waited = refl; moment = r.moment; due = r.due; reached = reached }),
     )

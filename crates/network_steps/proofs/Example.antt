@@ -18,10 +18,10 @@ use Rattle.calm_rounds.proofs.Holding.{visited_end}
 use Rattle.router_rules.specs.Bounds.{IsWithinBounds}
 use Rattle.router_rules.specs.Facts.{Facts, no_facts}
 use Rattle.router_rules.specs.Inputs.{Arrival, Spelt, Unspelt, SendAs}
-use Rattle.router_rules.specs.Line.{s1, r1, session, first, usual}
+use Rattle.router_rows.specs.ThreeRouters.{s1, r1, session, first, usual}
 use Rattle.router_rules.proofs.Bounding.{no_facts_are_within_bounds}
 use Rattle.tree_model.specs.declared.hops.End.{End}
-use Rattle.tree_model.specs.declared.hops.Hop.{Hop}
+use Rattle.tree_model.specs.declared.hops.LinkHop.{LinkHop}
 use Rattle.tree_model.specs.declared.hops.TreeHop.{TreeHop}
 use Rattle.tree_model.specs.Networks.{node_of, among, link_of}
 use Rattle.tree_model.specs.Ranks.{Follows, followers}
@@ -33,7 +33,7 @@ use Rattle.network_model.specs.Events.{a_round}
 use Rattle.network_model.specs.Links.{is_group, NoEndIsAGroup}
 use Rattle.network_model.specs.Rows.{end_of, hop_of}
 use Rattle.network_model.specs.Steps.{Step, At, sent, step, machine}
-use Rattle.network_model.specs.Worlds.{Item, World, place_of}
+use Rattle.network_model.specs.Worlds.{Item, World, config_of}
 use Rattle.network_steps.specs.Example.{pair_net, quiet_world, sending_world, APairStaysWithinBounds}
 use Rattle.network_steps.proofs.Calming.{calm_rounds}
 use Rattle.network_steps.proofs.Keeping.{calm_fit, step_keeps}
@@ -121,16 +121,16 @@ grown g s = by (of_tree g s (hop_of 0 1)) refl
         let source : s1 ≡ s = addr_same s1 s (and_both _ _ t).1 in
         (subst (λ (z : Addr). Grows pair_net z [] (record { from = 0; to = 1 })) source (record { linked = refl; from_reached = refl; to_new = refl; alone = refl }), tt)
 
-the_hop : (g s : Addr) (h : Hop) → In h (tree pair_net.hops g s) → (h.from ≡ 0) × (h.to ≡ 1)
+the_hop : (g s : Addr) (h : LinkHop) → In h (tree pair_net.hops g s) → (h.from ≡ 0) × (h.to ≡ 1)
 the_hop g s h i =
     let r = in_tree pair_net.hops g s h i in
     by r.0 r.1 r.4
   where
     by : (r : TreeHop) → In r pair_net.hops → r.hop ≡ h → (h.from ≡ 0) × (h.to ≡ 1)
-    by r (inl same) e = (sym (ap (λ (z : Hop). z.from) e) ∙ ap (λ (z : TreeHop). z.hop.from) same, sym (ap (λ (z : Hop). z.to) e) ∙ ap (λ (z : TreeHop). z.hop.to) same)
+    by r (inl same) e = (sym (ap (λ (z : LinkHop). z.from) e) ∙ ap (λ (z : TreeHop). z.hop.from) same, sym (ap (λ (z : LinkHop). z.to) e) ∙ ap (λ (z : TreeHop). z.hop.to) same)
     by r (inr never) e = absurd never
 
-none_follows : (g : Addr) (h h' : Hop) → In h' (followers pair_net g h) → ⊥
+none_follows : (g : Addr) (h h' : LinkHop) → In h' (followers pair_net g h) → ⊥
 none_follows g h h' i =
     let f : Follows pair_net g h h' = (followers_follow pair_net g h h').0 i in
     let a = the_hop g f.source h f.first in
@@ -169,7 +169,7 @@ quiet = record {
   hosts = hosts;
   routed = λ r i. ⊎_elim (λ (same : r ≡ hop_of 0 1). inl (ap (λ (z : TreeHop). (z.group, z.source)) same)) (λ (never : ⊥). absurd never) i;
   nodes = refl;
-  facts = λ n f e. subst (λ (z : Facts). IsWithinBounds (place_of 7500 pair_net quiet_world.trees n) 0 z) (nothing_there n f e) (no_facts_are_within_bounds (place_of 7500 pair_net quiet_world.trees n) 0);
+  facts = λ n f e. subst (λ (z : Facts). IsWithinBounds (config_of 7500 pair_net quiet_world.trees n) 0 z) (nothing_there n f e) (no_facts_are_within_bounds (config_of 7500 pair_net quiet_world.trees n) 0);
   flight = λ x i. absurd i;
 }
 

@@ -25,9 +25,10 @@ use Rattle.router_rules.specs.Errors.{act_resv_err, lane_of, path_err, path_err_
 use Rattle.router_rules.specs.Facts.{Facts, PathState, resvs_of}
 use Rattle.router_rules.specs.Inputs.{Call, Came, Change, Clear, ErrMsg, ErrSend, Input, Moved, OfPath, OfResv, Send, Spelt, Unspelt, Wait, only_heard}
 use Rattle.router_rules.specs.Known.{known}
-use Rattle.router_rules.specs.Place.{Place, addr_of as own_of, goes_out, is_own, own}
+use Rattle.router_rules.specs.NodeConfig.{NodeConfig, addr_of as own_of, goes_out, is_own, own}
 use Rattle.router_rules.specs.Rule.{settled}
 use Rattle.router_rules.specs.Sends.{error_message, error_send}
+use Rattle.router_lookups.proofs.Blame.{sent_listing}
 use Rattle.router_lookups.specs.FactLaws.{ComesBy}
 use Rattle.router_lookups.specs.SendLaws.{IsSend}
 use Rattle.router_lookups.proofs.Lists.{some_same}
@@ -43,7 +44,7 @@ use Rattle.tree_model.specs.declared.hops.End.{End}
 use Rattle.tree_model.specs.Networks.{end_at, ends_of}
 use Rattle.network_model.specs.Links.{goes_to}
 use Rattle.network_model.specs.Steps.{Step, input_at, ms_of, net_after, outcome_of, sent}
-use Rattle.network_model.specs.Worlds.{Item, World, ifaces_at, place_of}
+use Rattle.network_model.specs.Worlds.{Item, World, ifaces_at, config_of}
 use Rattle.network_model.proofs.Changing.{what_is_sent_is_copied}
 use Rattle.network_steps.proofs.Keeping.{ends_same}
 use Rattle.network_steps.proofs.Sends.{goes_to_end, goes_to_peers}
@@ -51,11 +52,11 @@ use Rattle.network_steps.proofs.Standing.{own_end}
 use Rattle.network_steps.specs.Hops.{hop_of, LeavesBy}
 
 -- ---- of errors: a ResvErr has the node's own address of the interface by which it goes
-abbrev HasOwnHop : Place → ℕ → ErrMsg → Type 0
+abbrev HasOwnHop : NodeConfig → ℕ → ErrMsg → Type 0
 HasOwnHop p i (OfPath m) = Unit {0}
 HasOwnHop p i (OfResv m) = m.hop.addr ≡ own p i
 
-module _ (p : Place) (c : ℕ) (f : Facts) (e : ErrSend) where
+module _ (p : NodeConfig) (c : ℕ) (f : Facts) (e : ErrSend) where
   abbrev IsOwn : Type 0
   IsOwn = HasOwnHop p e.iface e.error
 
@@ -110,7 +111,7 @@ module _ (p : Place) (c : ℕ) (f : Facts) (e : ErrSend) where
       ⊎_elim (λ (t : act_resv_err p c at m f ≡ only_heard (heard.Dropped why.Full) f). absurd (subst (λ (z : Change). In e z.errors) t h))
       (λ (t : act_resv_err p c at m f ≡ errors_with p c at m f).
       let r = (errors_once_each.exactly p (record f { walls = walls_set p c at m f }) (lane_of at m) m e).0 (subst (λ (z : Change). In e z.errors) t h) in
-      own_as _ (sym (ap (λ (z : NextHop × ErrSend). z.1) (some_same _ _ r.is))) refl) q.1)
+      own_as _ (sym (ap (λ (z : NextHop × ErrSend). z.1) (some_same _ _ (sym (sent_listing p m r.hop r.names) ∙ r.is)))) refl) q.1)
       (resv_errs_by_tests.one p c at m f)
 
   of_message : (at : ℕ) (m : Message) (mine : Bool) → In e (act_spelt p c at m mine f).errors → IsOwn
@@ -135,7 +136,7 @@ module _ (p : Place) (c : ℕ) (f : Facts) (e : ErrSend) where
   error_is_own (Came at dst (Spelt m)) h = of_message at m (is_mine p at dst m) h
 
 -- ---- of all that a node sends
-module _ (old p : Place) (c : ℕ) (i : Input) (f : Facts) (s : Send) (a : Addr) where
+module _ (old p : NodeConfig) (c : ℕ) (i : Input) (f : Facts) (s : Send) (a : Addr) where
   abbrev after : Facts
   after = settled p c f (act p c i f).facts
 
@@ -179,5 +180,5 @@ the_hop_of_what_is_sent q s w y mark m a i spelt hop =
     by : (o : Option Input) (n : ℕ) (f : Facts) (x : Send) (e : ℕ) → end_at w.net.ends n x.iface ≡ Some e → In x (outcome_of q o s w n f).sent → hop_of x.message ≡ Some a → a ≡ addr_of w.net e
     by None n f x e at there h = absurd there
     by (Some i) n f x e at there h =
-        hop_is_own (place_of q w.net w.trees n) (place_of q (net_after s w) w.trees n) (w.clock + ms_of s) i f x a there h
+        hop_is_own (config_of q w.net w.trees n) (config_of q (net_after s w) w.trees n) (w.clock + ms_of s) i f x a there h
         ∙ ap (λ (es : List End). own_of (slice_get (ifaces_at es (ends_of es n)) x.iface)) (ends_same s w) ∙ own_end q w.net w.trees n x.iface e at

@@ -28,9 +28,9 @@ use Rattle.router_rules.specs.declared.answers.StaleErr.{StaleErr}
 use Rattle.router_rules.specs.Calls.{call_refusal, needs, senders_with, stale_refusal, unless, with_left}
 use Rattle.router_rules.specs.Facts.{Facts, SenderKey, no_facts, sender_keys}
 use Rattle.router_rules.specs.Inputs.{Call, Input, Local, SendAs, DropAs, WantAs, QuitAll, Stale, Wait, Clear, Moved}
-use Rattle.router_rules.specs.Place.{Place, is_addr, is_own}
+use Rattle.router_rules.specs.NodeConfig.{NodeConfig, is_addr, is_own}
 use Rattle.router_rules.specs.Rule.{facts_with}
-use Rattle.router_rules.specs.Steps.{facts_then}
+use Rattle.router_rules.specs.Steps.{facts_then, node_step}
 use Rattle.router_steps.proofs.Framing.{left_as_it_was}
 use Rattle.tree_model.specs.declared.hops.End.{End}
 use Rattle.tree_model.specs.declared.locals.LocalSender.{LocalSender}
@@ -42,12 +42,12 @@ use Rattle.tree_model.specs.Wants.{live, of_session}
 use Rattle.tree_model.proofs.Counts.{not_longer}
 use Rattle.tree_model.proofs.Following.{addr_same, addr_itself}
 use Rattle.tree_model.proofs.Ifaces.{interfaces_are_ends}
-use Rattle.network_model.specs.Bounds.{AreBounds, AreLocals}
+use Rattle.network_model.specs.Bounds.{AreBounds, AreHosts}
 use Rattle.network_model.specs.Events.{Event, AtNode, Waits, Pass, DeliverAt, LoseAt, CopyAt, ClearNode, Rounds, Traces, Reports, ReportsFlags, Injects, Reroutes, steps_of, all_steps}
 use Rattle.network_model.specs.Locals.{locals_of, sender_at, senders_from}
 use Rattle.network_model.specs.Runs.{Plan, left_over, first_facts, first_world, steps_of_run}
 use Rattle.network_model.specs.Steps.{Step, Piece, Deliver, Lose, Copy, At, ClearAt, Trace, Report, Flags, Inject, Reroute, is_calm, ms_of, net_after, input_at, outcome, outcome_of, word_for, step, machine}
-use Rattle.network_model.specs.Worlds.{World, with_iface, ifaces_at, place_of}
+use Rattle.network_model.specs.Worlds.{World, with_iface, ifaces_at, config_of}
 use Rattle.network_model.proofs.NodeLocals.{sender_of_node, sender_told}
 use Rattle.network_model.proofs.Quiet.{IsWaited, IsCame, at_node_found, input_found}
 use Rattle.network_model.proofs.Stepping.{facts_after_found}
@@ -92,10 +92,10 @@ iface_told ends (d ∷ es) on i = by (slice_get ends d) refl i (λ j. iface_told
     by None a j rest = let r = rest j in (r.0, r.1, inr r.2, r.3, r.4)
     by (Some x) a j rest = ⊎_elim (λ (same : on ≡ x.iface). (d, x, inl refl, a, same)) (λ (k : In on (ifaces_at ends es)). let r = rest k in (r.0, r.1, inr r.2, r.3, r.4)) j
 
-own_owner : (q : ℕ) (net : Net) (trees : List (Addr × Addr)) (n : ℕ) (a : Addr) → IsValid net → is_own (place_of q net trees n) a ≡ true → owner net.ends a ≡ Some n
+own_owner : (q : ℕ) (net : Net) (trees : List (Addr × Addr)) (n : ℕ) (a : Addr) → IsValid net → is_own (config_of q net trees n) a ≡ true → owner net.ends a ≡ Some n
 unfolding AreApart
 own_owner q net trees n a valid own =
-    let on = in_any (λ (i : Iface). is_addr i.addr a) (place_of q net trees n).ifaces own in
+    let on = in_any (λ (i : Iface). is_addr i.addr a) (config_of q net trees n).ifaces own in
     let e = iface_told net.ends (ends_of net.ends n) on.0 on.1 in
     let k = place_in e.0 (ends_of net.ends n) e.2 in
     let of = (interfaces_are_ends net).iface_of_end n k.0 e.0 k.1 in
@@ -104,7 +104,7 @@ own_owner q net trees n a valid own =
     ap (owner net.ends) (sym addr) ∙ owner_is net.ends valid.one_address e.0 e.1 e.3 ∙ ap Some node
 
 -- ---- what a call leaves: a sender was there, or the call lets it send, with an address of the node
-call_told : (p : Place) (l : Local) (f : Facts) (k : SenderKey) (t : TokenBucket) → get (unless (call_refusal p l f) (senders_with l f.senders) f.senders) k ≡ Some t → (get f.senders k ≡ Some t) ⊎ ((is_own p k.1.addr ≡ true) × In k (sends_of_call l))
+call_told : (p : NodeConfig) (l : Local) (f : Facts) (k : SenderKey) (t : TokenBucket) → get (unless (call_refusal p l f) (senders_with l f.senders) f.senders) k ≡ Some t → (get f.senders k ≡ Some t) ⊎ ((is_own p k.1.addr ≡ true) × In k (sends_of_call l))
 call_told p (DropAs s x) f k t h = by (call_refusal p (DropAs s x) f) h
   where
     by : (o : Option LocalErr) → get (unless o (senders_with (DropAs s x) f.senders) f.senders) k ≡ Some t → (get f.senders k ≡ Some t) ⊎ ((is_own p k.1.addr ≡ true) × In k [])
@@ -167,24 +167,24 @@ module _ (q : ℕ) (ks : List SenderKey) where
       let r = by f.0 f.1 (input_at s u n) refl now in
       (ap (λ (z : List End). owner z k.1.addr) (ends_same s u) ∙ r.0, r.1)
     where
-      of_call : (l : Local) (f : Facts) → slice_get u.nodes n ≡ Some f → s ≡ At n l → get (unless (call_refusal (place_of q (net_after s u) u.trees n) l f) (senders_with l f.senders) f.senders) k ≡ Some t → (owner u.net.ends k.1.addr ≡ Some n) × In k ks
+      of_call : (l : Local) (f : Facts) → slice_get u.nodes n ≡ Some f → s ≡ At n l → get (unless (call_refusal (config_of q (net_after s u) u.trees n) l f) (senders_with l f.senders) f.senders) k ≡ Some t → (owner u.net.ends k.1.addr ≡ Some n) × In k ks
       of_call l f there is e =
           ⊎_elim (λ (old : get f.senders k ≡ Some t). named n f k t there old)
-          (λ (new : (is_own (place_of q (net_after s u) u.trees n) k.1.addr ≡ true) × In k (sends_of_call l)).
+          (λ (new : (is_own (config_of q (net_after s u) u.trees n) k.1.addr ≡ true) × In k (sends_of_call l)).
           let net : net_after s u ≡ u.net = ap (λ (z : Step). net_after z u) is in (
-            own_owner q u.net u.trees n k.1.addr valid (subst (λ (z : Net). is_own (place_of q z u.trees n) k.1.addr ≡ true) net new.0),
+            own_owner q u.net u.trees n k.1.addr valid (subst (λ (z : Net). is_own (config_of q z u.trees n) k.1.addr ≡ true) net new.0),
             among k (subst (λ (z : Step). In k (sends_of_step z)) (sym is) new.1),
           ))
-          (call_told (place_of q (net_after s u) u.trees n) l f k t e)
+          (call_told (config_of q (net_after s u) u.trees n) l f k t e)
 
       by : (f : Facts) → slice_get u.nodes n ≡ Some f → (o : Option Input) → input_at s u n ≡ o → get (outcome_of q o s u n f).facts.senders k ≡ Some t → (owner u.net.ends k.1.addr ≡ Some n) × In k ks
       by f there None e now = named n f k t there now
       by f there (Some i) e now =
           ⊎_elim
           (λ (c : (l : Local) × (s ≡ At n l) × (i ≡ Call l)).
-          of_call c.0 f there c.1 (subst (λ (z : Input). get (facts_then (place_of q u.net u.trees n) (place_of q (net_after s u) u.trees n) (u.clock + ms_of s) z f).senders k ≡ Some t) c.2 now))
+          of_call c.0 f there c.1 (subst (λ (z : Input). get (facts_then (config_of q u.net u.trees n) (config_of q (net_after s u) u.trees n) (u.clock + ms_of s) z f).senders k ≡ Some t) c.2 now))
           (λ (no : on_senders i ≡ false).
-          named n f k t there (ap (λ (z : Table sender_keys TokenBucket). get z k) (sym (left_as_it_was.senders (place_of q u.net u.trees n) (place_of q (net_after s u) u.trees n) (u.clock + ms_of s) i f no)) ∙ now))
+          named n f k t there (ap (λ (z : Table sender_keys TokenBucket). get z k) (sym (left_as_it_was.senders (node_step (config_of q u.net u.trees n) (config_of q (net_after s u) u.trees n) (u.clock + ms_of s) (u.clock + ms_of s) i f) no)) ∙ now))
           (a_call_or_not s u n i e)
 
   -- ---- steps, one after the other
@@ -232,7 +232,7 @@ module _ (q : ℕ) (some : 1 ≤ q) where
       (in_append s (steps_of q e w) (all_steps q es (run (machine q) (steps_of q e w) w)) i)
 
 -- ---- at the beginning nobody sends
-left_senders : (p : Place) (n : ℕ) (ss : List (ℕ × Stale)) (f : Facts) → (left_over p n ss f).senders ≡ f.senders
+left_senders : (p : NodeConfig) (n : ℕ) (ss : List (ℕ × Stale)) (f : Facts) → (left_over p n ss f).senders ≡ f.senders
 unfolding facts_with
 left_senders p n [] f = refl
 left_senders p n (s ∷ ss) f = left_senders p n ss (cond (s.0 == n) (facts_with p 0 s.1 f) f) ∙ by (s.0 == n)
@@ -252,7 +252,7 @@ named_first : (p : Plan) (ks : List SenderKey) → AreNamed ks (first_world p)
 named_first p ks n f k t a h =
     let at : n ≡ 0 + n = omega arith in
     let is : first_facts p n ≡ f = ap (first_facts p) at ∙ each_found (first_facts p) 0 p.net.nodes n f a in
-    let none : get no_facts.senders k ≡ Some t = ap (λ (z : Table sender_keys TokenBucket). get z k) (sym (left_senders (place_of p.quarter p.net (trees_of p.net.hops) n) n p.stale no_facts)) ∙ ap (λ (z : Facts). get z.senders k) is ∙ h in
+    let none : get no_facts.senders k ≡ Some t = ap (λ (z : Table sender_keys TokenBucket). get z k) (sym (left_senders (config_of p.quarter p.net (trees_of p.net.hops) n) n p.stale no_facts)) ∙ ap (λ (z : Facts). get z.senders k) is ∙ h in
     absurd (cc)
 
 -- ---- they are few
@@ -324,7 +324,7 @@ module _ (s : Session) where
 abbrev keys_of : Session → List SenderKey → List Sender
 keys_of s ks = each (λ (k : SenderKey). k.1) (filter (is_of_session s) ks)
 
-locals_kept : (p : Plan) (u : World) → AreFitSenders p → AreNamed (named_senders p) u → AreLocals u
+locals_kept : (p : Plan) (u : World) → AreFitSenders p → AreNamed (named_senders p) u → AreHosts u
 locals_kept p u fit named = record {
   placed = λ n f k t a h. (named n f k t a h).0;
   groups = λ n f k t a h. fit.groups k (named n f k t a h).1;
@@ -363,7 +363,7 @@ locals_kept p u fit named = record {
         subst (λ (z : Session). In z (each (λ (k : SenderKey). k.0) (named_senders p))) (sym e.2) (to_each (λ (k : SenderKey). k.0) (e.0.session, e.0.sender) (named_senders p) (in_named e.0 e.1))
 
 -- ---- so each world of a run keeps them
-pub each_world_of_a_run_keeps_the_locals : (p : Plan) → IsFitRun p → AreFitSenders p → Visited (machine p.quarter) (λ u. AreBounds p.quarter u × AreLocals u) (steps_of_run p) (first_world p)
+pub each_world_of_a_run_keeps_the_locals : (p : Plan) → IsFitRun p → AreFitSenders p → Visited (machine p.quarter) (λ u. AreBounds p.quarter u × AreHosts u) (steps_of_run p) (first_world p)
 each_world_of_a_run_keeps_the_locals p run fit =
-    visited_less p.quarter (λ u. AreBounds p.quarter u × AreNamed (named_senders p) u) (λ u. AreBounds p.quarter u × AreLocals u) (λ u h. (h.0, locals_kept p u fit h.1)) (steps_of_run p) (first_world p)
+    visited_less p.quarter (λ u. AreBounds p.quarter u × AreNamed (named_senders p) u) (λ u. AreBounds p.quarter u × AreHosts u) (λ u h. (h.0, locals_kept p u fit h.1)) (steps_of_run p) (first_world p)
     (named_along p.quarter (named_senders p) (steps_of_run p) (first_world p) (each_world_of_a_run_is_within_bounds p run) (λ s i k j. all_sends p.quarter run.plan.period p.events (first_world p) s k i j) (named_first p (named_senders p)))

@@ -20,7 +20,7 @@ use Rattle.router_rules.specs.Steps.{IsSameNode, IsFit, IsFitArrival, clock_afte
 use Rattle.router_bounds.proofs.Bounded.{a_step_keeps_a_node_within_bounds}
 use Rattle.router_bounds.proofs.Wording.{what_is_sent_is_proper}
 use Rattle.tree_model.specs.declared.hops.End.{End}
-use Rattle.tree_model.specs.declared.hops.Hop.{Hop}
+use Rattle.tree_model.specs.declared.hops.LinkHop.{LinkHop}
 use Rattle.tree_model.specs.declared.hops.TreeHop.{TreeHop}
 use Rattle.tree_model.specs.Networks.{Net, node_of, node_of_end, end_at, ends_of, iface_of}
 use Rattle.tree_model.specs.Trees.{of_tree}
@@ -28,7 +28,7 @@ use Rattle.tree_model.specs.Valid.{IsValid}
 use Rattle.tree_model.proofs.Ifaces.{interfaces_are_ends}
 use Rattle.network_model.specs.Bounds.{IsItem, IsProperArrival, AreBounds}
 use Rattle.network_model.specs.Steps.{Step, Piece, Deliver, Lose, Copy, At, ClearAt, Trace, Report, Flags, Inject, Reroute, is_calm, is_quiet, ms_of, net_after, rerouted, tree_hop, input_at, word_for, rest, outcome_of, outcome, facts_from, sent, step, machine}
-use Rattle.network_model.specs.Worlds.{Item, World, ifaces_at, place_of}
+use Rattle.network_model.specs.Worlds.{Item, World, ifaces_at, config_of}
 use Rattle.network_model.proofs.Changing.{what_is_sent_is_copied}
 use Rattle.rsvp_base.proofs.Fronts.{got_in}
 use Rattle.network_model.proofs.Listing.{in_remove}
@@ -41,7 +41,7 @@ use Rattle.network_steps.proofs.Standing.{iface_less, peer_there}
 
 -- ---- the network after a step
 -- what a new tree leaves alone no step changes
-net_kept : {X : Type 0} (part : Net → X) → ((net : Net) (g s : Addr) (hops : List Hop) → part (rerouted net g s hops) ≡ part net) → (s : Step) (w : World) → part (net_after s w) ≡ part w.net
+net_kept : {X : Type 0} (part : Net → X) → ((net : Net) (g s : Addr) (hops : List LinkHop) → part (rerouted net g s hops) ≡ part net) → (s : Step) (w : World) → part (net_after s w) ≡ part w.net
 net_kept part same (Piece ms) w = refl
 net_kept part same (Deliver k) w = refl
 net_kept part same (Lose k) w = refl
@@ -100,7 +100,7 @@ proper_fit (Unspelt e) h = tt
 -- the clock after the step is that after the input
 pub record IsInput (q : ℕ) (s : Step) (w : World) (n : ℕ) (i : Input) : Type 0 where
   pub clock : w.clock + ms_of s ≡ clock_after w.clock i
-  pub fit : IsFit (place_of q (net_after s w) w.trees n) i
+  pub fit : IsFit (config_of q (net_after s w) w.trees n) i
 
 fit_input : (q : ℕ) (s : Step) (w : World) (n : ℕ) (i : Input) → AreBounds q w → IsFitStep q w s → input_at s w n ≡ Some i → IsInput q s w n i
 fit_input q (Piece ms) w n i b fit e =
@@ -147,23 +147,23 @@ still_world (Inject t dst a) w n e = (refl, refl)
 still_world (Reroute g s hops) w n e = absurd (cc)
 
 -- the node is the same under other trees
-same_node : (q : ℕ) (s : Step) (w : World) (n : ℕ) → 1 ≤ q → IsSameNode (place_of q w.net w.trees n) (place_of q (net_after s w) w.trees n)
+same_node : (q : ℕ) (s : Step) (w : World) (n : ℕ) → 1 ≤ q → IsSameNode (config_of q w.net w.trees n) (config_of q (net_after s w) w.trees n)
 same_node q s w n le = record { quarter = refl; ifaces = ap (λ (ends : List End). ifaces_at ends (ends_of ends n)) (sym (ends_same s w)); some = le }
 
 module _ (q : ℕ) (s : Step) (w : World) (bounds : AreBounds q w) (fit : IsFitStep q w s) where
-  facts_bounded : (n : ℕ) (f : Facts) → slice_get w.nodes n ≡ Some f → IsWithinBounds (place_of q (net_after s w) w.trees n) (w.clock + ms_of s) (outcome q s w n f).facts
+  facts_bounded : (n : ℕ) (f : Facts) → slice_get w.nodes n ≡ Some f → IsWithinBounds (config_of q (net_after s w) w.trees n) (w.clock + ms_of s) (outcome q s w n f).facts
   facts_bounded n f a = by (input_at s w n) refl
     where
-      by : (o : Option Input) → input_at s w n ≡ o → IsWithinBounds (place_of q (net_after s w) w.trees n) (w.clock + ms_of s) (outcome_of q o s w n f).facts
+      by : (o : Option Input) → input_at s w n ≡ o → IsWithinBounds (config_of q (net_after s w) w.trees n) (w.clock + ms_of s) (outcome_of q o s w n f).facts
       by None e =
           let still = still_world s w n e in
           let clock : w.clock + ms_of s ≡ w.clock = (let z = still.0 in omega arith) in
-          subst (λ (c : ℕ). IsWithinBounds (place_of q (net_after s w) w.trees n) c f) (sym clock)
-          (subst (λ (net : Net). IsWithinBounds (place_of q net w.trees n) w.clock f) (sym still.1) (bounds.facts n f a))
+          subst (λ (c : ℕ). IsWithinBounds (config_of q (net_after s w) w.trees n) c f) (sym clock)
+          (subst (λ (net : Net). IsWithinBounds (config_of q net w.trees n) w.clock f) (sym still.1) (bounds.facts n f a))
       by (Some i) e =
           let is = fit_input q s w n i bounds fit e in
-          subst (λ (c : ℕ). IsWithinBounds (place_of q (net_after s w) w.trees n) c (rule (place_of q w.net w.trees n) (place_of q (net_after s w) w.trees n) c i f).facts) (sym is.clock)
-          (a_step_keeps_a_node_within_bounds (place_of q w.net w.trees n) (place_of q (net_after s w) w.trees n) w.clock i f (same_node q s w n bounds.period) is.fit (bounds.facts n f a))
+          subst (λ (c : ℕ). IsWithinBounds (config_of q (net_after s w) w.trees n) c (rule (config_of q w.net w.trees n) (config_of q (net_after s w) w.trees n) c i f).facts) (sym is.clock)
+          (a_step_keeps_a_node_within_bounds (config_of q w.net w.trees n) (config_of q (net_after s w) w.trees n) w.clock i f (same_node q s w n bounds.period) is.fit (bounds.facts n f a))
 
   -- ---- what is in flight
   from_rest : (x : Item) → In x (rest s w) → In x w.flight ⊎ ((x.end < length w.net.ends) × (x.born ≡ w.made) × IsProperArrival x.arrival)
@@ -203,8 +203,8 @@ module _ (q : ℕ) (s : Step) (w : World) (bounds : AreBounds q w) (fit : IsFitS
       proper_send n f send a None e i = absurd i
       proper_send n f send a (Some k) e i =
           let is = fit_input q s w n k bounds fit e in
-          what_is_sent_is_proper (place_of q w.net w.trees n) (place_of q (net_after s w) w.trees n) w.clock k f (same_node q s w n bounds.period) is.fit (bounds.facts n f a) send
-          (subst (λ (c : ℕ). In send (rule (place_of q w.net w.trees n) (place_of q (net_after s w) w.trees n) c k f).sent) is.clock i)
+          what_is_sent_is_proper (config_of q w.net w.trees n) (config_of q (net_after s w) w.trees n) w.clock k f (same_node q s w n bounds.period) is.fit (bounds.facts n f a) send
+          (subst (λ (c : ℕ). In send (rule (config_of q w.net w.trees n) (config_of q (net_after s w) w.trees n) c k f).sent) is.clock i)
 
   sent_item : AreProperSent → (x : Item) (b : Bool) → In (x, b) (sent q s w) → (x.end < length w.net.ends) × (x.born ≡ w.made) × IsProperArrival x.arrival
   sent_item proper x b i =
@@ -226,7 +226,7 @@ module _ (q : ℕ) (s : Step) (w : World) (bounds : AreBounds q w) (fit : IsFitS
         nodes = facts_length w.nodes 0 ∙ bounds.nodes ∙ sym (nodes_same s w);
         facts = λ n g a.
             let f = facts_after_found q s w n g a in
-            subst (λ (z : Facts). IsWithinBounds (place_of q (net_after s w) w.trees n) (w.clock + ms_of s) z) (sym f.2) (facts_bounded n f.0 f.1);
+            subst (λ (z : Facts). IsWithinBounds (config_of q (net_after s w) w.trees n) (w.clock + ms_of s) z) (sym f.2) (facts_bounded n f.0 f.1);
         flight = λ x i.
             ⊎_elim
             (λ (r : In x (rest s w)). ⊎_elim (λ (old : In x w.flight). kept x old) (λ (new : (x.end < length w.net.ends) × (x.born ≡ w.made) × IsProperArrival x.arrival). made x new) (from_rest x r))

@@ -15,7 +15,7 @@ use Rattle.tree_model.specs.Valid.{IsValid}
 use Rattle.network_model.specs.Bounds.{AreBounds}
 use Rattle.network_model.specs.Locals.{senders_at}
 use Rattle.network_model.specs.Steps.{Step, is_quiet, ms_of, arrived, input_at, outcome, still, step, machine}
-use Rattle.network_model.specs.Worlds.{Item, World, place_of}
+use Rattle.network_model.specs.Worlds.{Item, World, config_of}
 use Rattle.rsvp_base.proofs.Fronts.{got_in}
 use Rattle.network_model.proofs.Machines.{quiet_of}
 use Rattle.network_model.proofs.Quiet.{IsCame, FollowsRule, input_came, net_quiet, outcome_quiet}
@@ -23,6 +23,7 @@ use Rattle.network_model.proofs.Stepping.{facts_after_found, facts_after_made}
 use Rattle.network_steps.specs.Known.{IsSameNet, IsKnown}
 use Rattle.network_steps.proofs.Locals.{calm_input, locals_kept}
 use Rattle.network_steps.proofs.Standing.{same_end, some_at}
+use Rattle.router_rules.specs.Steps.{node_step}
 
 -- ---- values that may be there
 pub of_some : {A : Type 0} (a b : A) → Some a ≡ Some b → a ≡ b
@@ -44,7 +45,7 @@ module _ (q : ℕ) (s : Step) (u : World) (quiet : is_quiet s ≡ true) (bounds 
       (λ (h : (input_at s u n ≡ None) × (outcome q s u n f ≡ still f)). ap (λ (o : Outcome). o.facts.senders) h.1)
       (λ (h : FollowsRule q s u n f (outcome q s u n f)).
       ap (λ (o : Outcome). o.facts.senders) h.is
-      ∙ calm_steps_keep_the_locals.senders (place_of q u.net u.trees n) (place_of q u.net u.trees n) u.clock (u.clock + ms_of s) h.input f (bounds.facts n f a) (calm_input s u n h.input quiet h.came))
+      ∙ calm_steps_keep_the_locals.senders (node_step (config_of q u.net u.trees n) (config_of q u.net u.trees n) u.clock (u.clock + ms_of s) h.input f) (bounds.facts n f a) (calm_input s u n h.input quiet h.came))
       (outcome_quiet q s u n f quiet)
 
   pub senders_kept : (n : ℕ) → senders_at (step q s u) n ≡ senders_at u n

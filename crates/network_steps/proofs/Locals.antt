@@ -5,7 +5,7 @@ use Rattle.std.specs.Prelude.{slice_get, is_some, map as each, ◌++◌}
 use Rattle.rsvp_base.specs.Table.{get, keys, changed, changed_rows}
 use Rattle.rsvp_base.proofs.Tables.{same_table, get-changed, then_do}
 use Rattle.router_lookups.specs.RuleLaws.{IsWant}
-use Rattle.router_rules.specs.Steps.{is_calm}
+use Rattle.router_rules.specs.Steps.{is_calm, node_step}
 use Rattle.router_steps.proofs.Framing.{calm_steps_keep_the_locals}
 use Rattle.router_rules.specs.Facts.{Facts, WantKey, Want, Wants, want_keys}
 use Rattle.router_rules.specs.Inputs.{Input}
@@ -13,7 +13,7 @@ use Rattle.router_rules.specs.Rule.{Outcome}
 use Rattle.network_model.specs.Bounds.{AreBounds}
 use Rattle.network_model.specs.Locals.{sender_at, senders_from, want_at, wants_from, locals_of}
 use Rattle.network_model.specs.Steps.{Step, is_quiet, ms_of, input_at, outcome, still, step}
-use Rattle.network_model.specs.Worlds.{World, place_of}
+use Rattle.network_model.specs.Worlds.{World, config_of}
 use Rattle.network_model.proofs.Quiet.{IsWaited, IsCame, FollowsRule, input_found, outcome_quiet}
 use Rattle.network_model.proofs.Stepping.{facts_after_found, facts_after_made}
 use Rattle.router_inputs.specs.Frames.{AreSameButMarks}
@@ -84,8 +84,8 @@ module _ (q : ℕ) (s : Step) (u : World) (quiet : is_quiet s ≡ true) (bounds 
       (λ (h : FollowsRule q s u n f (outcome q s u n f)).
       subst (λ (o : Outcome). HaveSameLocals f o.facts) (sym h.is)
       (record {
-        senders = calm_steps_keep_the_locals.senders (place_of q u.net u.trees n) (place_of q u.net u.trees n) u.clock (u.clock + ms_of s) h.input f (bounds.facts n f a) (calm_input s u n h.input quiet h.came);
-        wants = λ j. same_wants j f.wants _ (calm_steps_keep_the_locals.wants (place_of q u.net u.trees n) (place_of q u.net u.trees n) u.clock (u.clock + ms_of s) h.input f (bounds.facts n f a) (calm_input s u n h.input quiet h.came));
+        senders = calm_steps_keep_the_locals.senders (node_step (config_of q u.net u.trees n) (config_of q u.net u.trees n) u.clock (u.clock + ms_of s) h.input f) (bounds.facts n f a) (calm_input s u n h.input quiet h.came);
+        wants = λ j. same_wants j f.wants _ (calm_steps_keep_the_locals.wants (node_step (config_of q u.net u.trees n) (config_of q u.net u.trees n) u.clock (u.clock + ms_of s) h.input f) (bounds.facts n f a) (calm_input s u n h.input quiet h.came));
       }))
       (outcome_quiet q s u n f quiet)
 

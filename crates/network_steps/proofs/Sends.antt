@@ -9,12 +9,12 @@ use Rattle.rsvp_messages.specs.declared.message.Message.{Message}
 use Rattle.tree_model.specs.Goals.{addr_of}
 use Rattle.router_rules.specs.Facts.{Facts}
 use Rattle.router_rules.specs.Inputs.{Send, Spelt}
-use Rattle.router_rules.specs.Place.{is_addr}
+use Rattle.router_rules.specs.NodeConfig.{is_addr}
 use Rattle.router_rules.specs.Rule.{Outcome, rule}
 use Rattle.tree_model.specs.Networks.{Net, end_at, peers}
 use Rattle.network_model.specs.Links.{is_group, or_all, ends_toward, goes_to}
 use Rattle.network_model.specs.Steps.{Step, is_quiet, ms_of, input_at, outcome, still, sent}
-use Rattle.network_model.specs.Worlds.{Item, World, place_of}
+use Rattle.network_model.specs.Worlds.{Item, World, config_of}
 use Rattle.network_model.proofs.Changing.{what_is_sent_is_copied}
 use Rattle.network_model.proofs.Quiet.{FollowsRule, outcome_quiet}
 
@@ -41,7 +41,7 @@ pub record IsSentByRule (q : ℕ) (s : Step) (u : World) (y : Item) (m : Message
   pub there : slice_get u.nodes node ≡ Some facts
   pub by : FollowsRule q s u node facts (outcome q s u node facts)
   pub send : Send
-  pub sent : In send (rule (place_of q u.net u.trees node) (place_of q u.net u.trees node) (u.clock + ms_of s) by.input facts).sent
+  pub sent : In send (rule (config_of q u.net u.trees node) (config_of q u.net u.trees node) (u.clock + ms_of s) by.input facts).sent
   pub says : send.message ≡ m
   pub dst : y.dst ≡ send.dst
   pub to : In y.end (goes_to u.net (end_at u.net.ends node send.iface) send.dst)

@@ -14,9 +14,9 @@ use Rattle.rsvp_base.proofs.Members.{in_each, to_each, in_filter}
 use Rattle.rsvp_base.proofs.SetLaws.{and_both, and_made}
 use Rattle.tree_model.specs.Goals.{addr_of, addr_of_end}
 use Rattle.router_rules.specs.declared.route.Route.{Route}
-use Rattle.router_rules.specs.Place.{Place, addr_of as own_of, own, is_addr, is_iface, is_in, is_out, route_in, comes_in, goes_out}
+use Rattle.router_rules.specs.NodeConfig.{NodeConfig, addr_of as own_of, own, is_addr, is_iface, is_in, is_out, route_in, comes_in, goes_out}
 use Rattle.tree_model.specs.declared.hops.End.{End}
-use Rattle.tree_model.specs.declared.hops.Hop.{Hop}
+use Rattle.tree_model.specs.declared.hops.LinkHop.{LinkHop}
 use Rattle.tree_model.specs.Networks.{Net, node_of, ends_of, end_at, iface_of, among, link_of, peers}
 use Rattle.tree_model.specs.Trees.{tree, iface_in, inward, outward}
 use Rattle.tree_model.specs.Valid.{IsValid}
@@ -24,7 +24,7 @@ use Rattle.tree_model.proofs.Following.{same_number, number_same, addr_same, add
 use Rattle.tree_model.proofs.Ifaces.{interfaces_are_ends}
 use Rattle.tree_model.proofs.Links.{among_in, of_own_link, hop_linked}
 use Rattle.tree_model.proofs.TreeLaws.{out_told, way_in_told}
-use Rattle.network_model.specs.Worlds.{bits_of, route_of, with_iface, ifaces_at, place_of}
+use Rattle.network_model.specs.Worlds.{bits_of, route_of, with_iface, ifaces_at, config_of}
 
 -- ---- numbers as bits
 pub bits_told : (is : List ℕ) (i : ℕ) → bit_at (bits_of is) i ≡ 1 → In i is
@@ -107,8 +107,8 @@ route_made net n (t ∷ ts) g s i = by (is_addr t.0 g && is_addr t.1 s) refl (ro
 
 -- ---- a node of a valid network
 module _ (q : ℕ) (net : Net) (trees : List (Addr × Addr)) (n : ℕ) where
-  abbrev place : Place
-  place = place_of q net trees n
+  abbrev place : NodeConfig
+  place = config_of q net trees n
 
   of_node : (e : ℕ) → In e (ends_of net.ends n) → e < length net.ends
   of_node e i = let k = place_in e (ends_of net.ends n) i in ((interfaces_are_ends net).iface_of_end n k.0 e k.1).0
@@ -176,7 +176,7 @@ module _ (net : Net) (valid : IsValid net) where
       let l = link_member net.links a e (in_filter (λ x. not (x == a)) e (link_of net.links a) i).0 in
       valid.ends_of_links l.0 e l.1 l.2
 
-  pub to_there : (g s : Addr) (h : Hop) → In h (tree net.hops g s) → h.to < length net.ends
+  pub to_there : (g s : Addr) (h : LinkHop) → In h (tree net.hops g s) → h.to < length net.ends
   to_there g s h i = peer_there h.from h.to (hop_linked net valid g s h i)
 
   -- an end whose link has another one is there
@@ -187,7 +187,7 @@ module _ (net : Net) (valid : IsValid net) where
       let l = link_member net.links a a own in
       valid.ends_of_links l.0 a l.1 l.2
 
-  pub from_there : (g s : Addr) (h : Hop) → In h (tree net.hops g s) → h.from < length net.ends
+  pub from_there : (g s : Addr) (h : LinkHop) → In h (tree net.hops g s) → h.from < length net.ends
   from_there g s h i = linked_there h.from h.to (hop_linked net valid g s h i)
 
   pub inward_there : (n e : ℕ) (g s : Addr) → inward net n g s ≡ Some e → (e < length net.ends) × (node_of net.ends e ≡ n)
@@ -204,7 +204,7 @@ same_end net d e a b node iface =
     cc
 
 -- the end by which a tree leaves a node, from its interface
-pub way_out : (q : ℕ) (net : Net) (trees : List (Addr × Addr)) (n : ℕ) → IsValid net → (s : Session) (i : ℕ) (x : Sender) → i < length (place_of q net trees n).ifaces → goes_out (place_of q net trees n) s i x ≡ true
+pub way_out : (q : ℕ) (net : Net) (trees : List (Addr × Addr)) (n : ℕ) → IsValid net → (s : Session) (i : ℕ) (x : Sender) → i < length (config_of q net trees n).ifaces → goes_out (config_of q net trees n) s i x ≡ true
     → (e : ℕ) × (end_at net.ends n i ≡ Some e) × (node_of net.ends e ≡ n) × In e (outward net n s.group x.addr)
 way_out q net trees n valid s i x lt way =
     let e = end_of q net trees n i lt in

@@ -7,13 +7,13 @@ use Rattle.rsvp_base.specs.Table.{get}
 use Rattle.style_rules.specs.Lines.{LineKey}
 use Rattle.router_rules.specs.Facts.{ResvState, resvs_of}
 use Rattle.router_rules.specs.Inputs.{Stale, StaleResv}
-use Rattle.router_rules.specs.Line.{r1, session, scope, usual}
+use Rattle.router_rows.specs.ThreeRouters.{r1, session, scope, usual}
 use Rattle.router_rules.specs.Steps.{IsFitStale}
 use Rattle.tree_model.specs.Trees.{trees_of}
 use Rattle.tree_model.specs.Valid.{IsValid}
 use Rattle.network_model.specs.Links.{NoEndIsAGroup}
 use Rattle.network_model.specs.Runs.{Plan, first_facts}
-use Rattle.network_model.specs.Worlds.{place_of}
+use Rattle.network_model.specs.Worlds.{config_of}
 use Rattle.network_steps.specs.Example.{pair_net}
 
 -- there is a period, the network is valid, its ends have addresses of hosts, and what is left over at a node is fit there
@@ -21,7 +21,7 @@ pub record IsFitPlan (p : Plan) : Type 0 where
   pub period : 1 ≤ p.quarter
   pub net : IsValid p.net
   pub hosts : NoEndIsAGroup p.net
-  pub stale : (n : ℕ) (i : Stale) → n < p.net.nodes → In (n, i) p.stale → IsFitStale (place_of p.quarter p.net (trees_of p.net.hops) n) 0 i
+  pub stale : (n : ℕ) (i : Stale) → n < p.net.nodes → In (n, i) p.stale → IsFitStale (config_of p.quarter p.net (trees_of p.net.hops) n) 0 i
 
 -- ---- the pair of nodes, with a reservation that is left over at the first
 abbrev pub left_key : LineKey

@@ -6,7 +6,7 @@ ghost use Rattle.rsvp_messages.specs.declared.message.Message.{Message};
 ghost use Rattle.calm_rounds.specs.Hold.{Hold, Visited};
 ghost use Rattle.calm_rounds.specs.Rounds.{Rounds};
 ghost use Rattle.router_rules.specs.Inputs.{Spelt};
-ghost use Rattle.network_model.specs.Bounds.{AreBounds, AreLocals};
+ghost use Rattle.network_model.specs.Bounds.{AreBounds, AreHosts};
 ghost use Rattle.network_model.specs.Runs.{Plan, first_world, steps_of_run};
 ghost use Rattle.network_model.specs.Steps.{Step, machine, sent, step};
 ghost use Rattle.network_model.specs.Worlds.{Item, World};
@@ -37,7 +37,7 @@ pub fn each_world_of_a_run_is_within_bounds()
 /// Where the events besides let few senders send, each to a group, the local senders of each world of the run keep what "paths
 /// are complete" asks of them: each has an address of its node and sends to a group, and they are few.
 pub fn each_world_of_a_run_keeps_the_locals()
-    ensures { (p : Plan) → IsFitRun p → AreFitSenders p → Visited (machine p.quarter) (λ u. AreBounds p.quarter u × AreLocals u) (steps_of_run p) (first_world p) }
+    ensures { (p : Plan) → IsFitRun p → AreFitSenders p → Visited (machine p.quarter) (λ u. AreBounds p.quarter u × AreHosts u) (steps_of_run p) (first_world p) }
 {}
 
 /// Each step keeps a world within bounds, whatever step it is, where its piece, its call, its injected datagram or its new

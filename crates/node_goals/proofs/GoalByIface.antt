@@ -22,16 +22,16 @@ use Rattle.style_rules.specs.Limits.{IsWithinLimits, of_style, of_session, line_
 use Rattle.style_rules.specs.Lines.{Line, LineKey, NextHop, line_key, line_keys, next_hop, next_hops, entry_key, entry_keys, merged_book, BookTable, book_of_end, held}
 use Rattle.style_rules.proofs.Merges.{merge_of-each}
 use Rattle.tree_model.specs.declared.hops.End.{End}
-use Rattle.tree_model.specs.declared.hops.Hop.{Hop}
+use Rattle.tree_model.specs.declared.hops.LinkHop.{LinkHop}
 use Rattle.tree_model.specs.Networks.{Net, node_of, ends_of, end_at, iface_of}
 use Rattle.tree_model.specs.Trees.{hops_of, goes_out_of}
 use Rattle.tree_model.specs.Valid.{IsValid}
 use Rattle.tree_model.proofs.Following.{same_number, number_same}
 use Rattle.tree_model.proofs.Ifaces.{interfaces_are_ends}
-use Rattle.tree_model.specs.Goals.{DemandsFit, demand_of, end_pairs, goal, hops_in_order, lines_of, sessions_named}
+use Rattle.tree_model.specs.Goals.{DemandsFit, demand_of, end_pairs, goal, hops_in_order, hop_lines, sessions_named}
 use Rattle.tree_model.specs.Wants.{Locals, want}
 use Rattle.router_resvs.specs.AcceptingLaws.{CanBeHeld}
-use Rattle.network_model.specs.Worlds.{ifaces_at, with_iface, place_of}
+use Rattle.network_model.specs.Worlds.{ifaces_at, with_iface, config_of}
 use Rattle.network_steps.proofs.Known.{of_some}
 use Rattle.network_steps.proofs.Standing.{some_at, place_in, same_end}
 use Rattle.settle_paths.proofs.PreviousHops.{ends_there}
@@ -85,20 +85,20 @@ module _ (net : Net) where
       at s = ap (of_session s) (of_style_at st gs) ∙ of_session_at s (of_style st gs)
 
 -- ---- lines of the goal are at ends of the node
-pub hop_in_order : (hs : List Hop) (h : Hop) → In h (hops_in_order hs) → In h hs
+pub hop_in_order : (hs : List LinkHop) (h : LinkHop) → In h (hops_in_order hs) → In h hs
 hop_in_order hs h i =
-    let p = in_each (λ (p : ℕ × ℕ). record { from = p.0; to = p.1 }) h (keys (set_of {o = end_pairs} (each (λ (h : Hop). (h.from, h.to)) hs))) i in
-    let there = set_of_in end_pairs (each (λ (h : Hop). (h.from, h.to)) hs) p.0 (listed_key end_pairs (set_of {o = end_pairs} (each (λ (h : Hop). (h.from, h.to)) hs)) p.0 p.1) in
-    let x = in_each (λ (h : Hop). (h.from, h.to)) p.0 hs there in
+    let p = in_each (λ (p : ℕ × ℕ). record { from = p.0; to = p.1 }) h (keys (set_of {o = end_pairs} (each (λ (h : LinkHop). (h.from, h.to)) hs))) i in
+    let there = set_of_in end_pairs (each (λ (h : LinkHop). (h.from, h.to)) hs) p.0 (listed_key end_pairs (set_of {o = end_pairs} (each (λ (h : LinkHop). (h.from, h.to)) hs)) p.0 p.1) in
+    let x = in_each (λ (h : LinkHop). (h.from, h.to)) p.0 hs there in
     let same : h ≡ x.0 = p.2 ∙ (λ i. record { from = (x.2 i).0; to = (x.2 i).1 }) in
-    subst (λ (z : Hop). In z hs) (sym same) x.1
+    subst (λ (z : LinkHop). In z hs) (sym same) x.1
 
 module _ (net : Net) (valid : IsValid net) (l : Locals) (n : ℕ) where
   pub goal_end : (g : Line) → In g (goal net l n) → (g.end < length net.ends) × (node_of net.ends g.end ≡ n)
   goal_end g i =
-      let a = in_flat_map (λ st. flat_map (λ s. flat_map (lines_of st net l s) (filter (goes_out_of net.ends n) (hops_in_order (hops_of net.hops s.group)))) (sessions_named l)) g (Wild ∷ Fixed ∷ Shared ∷ []) i in
-      let b = in_flat_map (λ s. flat_map (lines_of a.0 net l s) (filter (goes_out_of net.ends n) (hops_in_order (hops_of net.hops s.group)))) g (sessions_named l) a.2 in
-      let c = in_flat_map (lines_of a.0 net l b.0) g (filter (goes_out_of net.ends n) (hops_in_order (hops_of net.hops b.0.group))) b.2 in
+      let a = in_flat_map (λ st. flat_map (λ s. flat_map (hop_lines st net l s) (filter (goes_out_of net.ends n) (hops_in_order (hops_of net.hops s.group)))) (sessions_named l)) g (Wild ∷ Fixed ∷ Shared ∷ []) i in
+      let b = in_flat_map (λ s. flat_map (hop_lines a.0 net l s) (filter (goes_out_of net.ends n) (hops_in_order (hops_of net.hops s.group)))) g (sessions_named l) a.2 in
+      let c = in_flat_map (hop_lines a.0 net l b.0) g (filter (goes_out_of net.ends n) (hops_in_order (hops_of net.hops b.0.group))) b.2 in
       let f = in_filter (goes_out_of net.ends n) c.0 (hops_in_order (hops_of net.hops b.0.group)) c.1 in
       let e = in_each (λ (e : UnitOf × Part). line_over net a.0 b.0 c.0 e) g (want a.0 net l b.0 c.0).rows c.2 in
       let end : g.end ≡ c.0.from = ap (λ (z : Line). z.end) e.2 in
@@ -136,7 +136,7 @@ iface_told ends (d ∷ es) inside (suc k) on h =
     (r.0, r.1, r.2, r.3, r.4)
 
 -- where the demands fit, a node can hold its goal
-pub fit_can_be_held : (q : ℕ) (net : Net) (trees : List (Addr × Addr)) (l : Locals) (n : ℕ) → IsValid net → DemandsFit net l → CanBeHeld (place_of q net trees n) (goal_at net l n)
+pub fit_can_be_held : (q : ℕ) (net : Net) (trees : List (Addr × Addr)) (l : Locals) (n : ℕ) → IsValid net → DemandsFit net l → CanBeHeld (config_of q net trees n) (goal_at net l n)
 fit_can_be_held q net trees l n valid fit = record {
   limits = λ st. limits_at net st (goal net l n) (fit.limits n st);
   capacity = λ i on is.
@@ -156,7 +156,7 @@ fit_can_be_held q net trees l n valid fit = record {
     inside : (e : ℕ) → In e (ends_of net.ends n) → e < length net.ends
     inside e i = let k = place_in e (ends_of net.ends n) i in ((interfaces_are_ends net).iface_of_end n k.0 e k.1).0
 
-    told : (i : ℕ) (on : Iface) → slice_get (place_of q net trees n).ifaces i ≡ Some on → (e : ℕ) × (x : End) × (end_at net.ends n i ≡ Some e) × (slice_get net.ends e ≡ Some x) × (x.iface ≡ on)
+    told : (i : ℕ) (on : Iface) → slice_get (config_of q net trees n).ifaces i ≡ Some on → (e : ℕ) × (x : End) × (end_at net.ends n i ≡ Some e) × (slice_get net.ends e ≡ Some x) × (x.iface ≡ on)
     told i on h = iface_told net.ends (ends_of net.ends n) inside i on h
 
     node : (e i : ℕ) → end_at net.ends n i ≡ Some e → book_of_end e (goal net l n) ≡ demand_of net l e

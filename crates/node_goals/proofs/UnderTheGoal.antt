@@ -19,7 +19,7 @@ use Rattle.style_rules.specs.Lines.{Line, LineKey, AreUnder, line_key}
 use Rattle.style_rules.specs.PartLaws.{part_at_most_told}
 use Rattle.style_rules.specs.Parts.{part_cut, part_unit, IsPartAtMost}
 use Rattle.style_rules.proofs.Merges.{merge_source}
-use Rattle.tree_model.specs.declared.hops.Hop.{Hop}
+use Rattle.tree_model.specs.declared.hops.LinkHop.{LinkHop}
 use Rattle.tree_model.specs.Networks.{Net, node_of, iface_of}
 use Rattle.tree_model.specs.Ranks.{followers, rank}
 use Rattle.tree_model.specs.Trees.{hops_of, goes_out_of}
@@ -27,7 +27,7 @@ use Rattle.tree_model.proofs.Following.{number_same}
 use Rattle.tree_model.proofs.Ifaces.{interfaces_are_ends}
 use Rattle.tree_model.specs.Fuel.{by_fuel}
 use Rattle.tree_model.specs.declared.locals.LocalWant.{LocalWant}
-use Rattle.tree_model.specs.Goals.{DemandsFit, end_pairs, goal, hops_in_order, lines_of, sessions_named}
+use Rattle.tree_model.specs.Goals.{DemandsFit, end_pairs, goal, hops_in_order, hop_lines, sessions_named}
 use Rattle.tree_model.specs.Wants.{Locals, names, as_list, wanted_of, is_wanted_at, own, brought, want_from, want}
 use Rattle.router_resvs.specs.AcceptingLaws.{HasPlace}
 use Rattle.router_rules.specs.Asking.{Asker}
@@ -43,7 +43,7 @@ use Rattle.node_goals.proofs.Lists.{key_listed}
 
 -- ---- a want needs a local want
 module _ (st : StyleKind) (net : Net) (l : Locals) (s : Session) where
-  needs : (n : ℕ) (h : Hop) (u : UnitOf) (p : Part) → get (by_fuel (want_from st net l s) empty n h) u ≡ Some p → IsWantedBySomeone st l s
+  needs : (n : ℕ) (h : LinkHop) (u : UnitOf) (p : Part) → get (by_fuel (want_from st net l s) empty n h) u ≡ Some p → IsWantedBySomeone st l s
   needs zero h u p e = cc
   needs (suc n) h u p e =
       let m = merge_source units (part_unit st) (λ (p : Part). p) (own st net l s h ++ flat_map (brought st net l s h (λ y. by_fuel (want_from st net l s) empty n y)) (followers net s.group h)) u p e in
@@ -61,12 +61,12 @@ module _ (st : StyleKind) (net : Net) (l : Locals) (s : Session) where
       needs n y.0 e.0.0 r.0 (in_found units (by_fuel (want_from st net l s) empty n y.0) e.0.0 r.0 at))
       (in_append m.0 (own st net l s h) (flat_map (brought st net l s h (λ y. by_fuel (want_from st net l s) empty n y)) (followers net s.group h)) m.1)
 
-  pub want_needs : (h : Hop) (u : UnitOf) (p : Part) → get (want st net l s h) u ≡ Some p → IsWantedBySomeone st l s
+  pub want_needs : (h : LinkHop) (u : UnitOf) (p : Part) → get (want st net l s h) u ≡ Some p → IsWantedBySomeone st l s
   unfolding want
   want_needs h u p e = needs (rank net s.group h) h u p e
 
 -- where the demands fit, what is wanted of a session has one style
-pub one_style : (net : Net) (l : Locals) → DemandsFit net l → (s : Session) (a b : StyleKind) (h g : Hop) (u v : UnitOf) (p r : Part) → get (want a net l s h) u ≡ Some p → get (want b net l s g) v ≡ Some r → a ≡ b
+pub one_style : (net : Net) (l : Locals) → DemandsFit net l → (s : Session) (a b : StyleKind) (h g : LinkHop) (u v : UnitOf) (p r : Part) → get (want a net l s h) u ≡ Some p → get (want b net l s g) v ≡ Some r → a ≡ b
 one_style net l fit s a b h g u v p r e f =
     let x = want_needs a net l s h u p e in
     let y = want_needs b net l s g v r f in
@@ -78,13 +78,13 @@ a_style Wild = inl refl
 a_style Fixed = inr (inl refl)
 a_style Shared = inr (inr (inl refl))
 
-in_order : (hs : List Hop) (h : Hop) → In h hs → In h (hops_in_order hs)
+in_order : (hs : List LinkHop) (h : LinkHop) → In h hs → In h (hops_in_order hs)
 in_order hs h i =
-    to_each (λ (p : ℕ × ℕ). record { from = p.0; to = p.1 }) (h.from, h.to) (keys (set_of {o = end_pairs} (each (λ (h : Hop). (h.from, h.to)) hs)))
-    (key_listed end_pairs (set_of {o = end_pairs} (each (λ (h : Hop). (h.from, h.to)) hs)) (h.from, h.to)
-    (in_set_of end_pairs (each (λ (h : Hop). (h.from, h.to)) hs) (h.from, h.to) (to_each (λ (h : Hop). (h.from, h.to)) h hs i)))
+    to_each (λ (p : ℕ × ℕ). record { from = p.0; to = p.1 }) (h.from, h.to) (keys (set_of {o = end_pairs} (each (λ (h : LinkHop). (h.from, h.to)) hs)))
+    (key_listed end_pairs (set_of {o = end_pairs} (each (λ (h : LinkHop). (h.from, h.to)) hs)) (h.from, h.to)
+    (in_set_of end_pairs (each (λ (h : LinkHop). (h.from, h.to)) hs) (h.from, h.to) (to_each (λ (h : LinkHop). (h.from, h.to)) h hs i)))
 
-pub goal_made : (st : StyleKind) (net : Net) (l : Locals) (n : ℕ) (s : Session) (h : Hop) (u : UnitOf) (p : Part) → In h (hops_of net.hops s.group) → node_of net.ends h.from ≡ n → get (want st net l s h) u ≡ Some p
+pub goal_made : (st : StyleKind) (net : Net) (l : Locals) (n : ℕ) (s : Session) (h : LinkHop) (u : UnitOf) (p : Part) → In h (hops_of net.hops s.group) → node_of net.ends h.from ≡ n → get (want st net l s h) u ≡ Some p
     → In (line_over net st s h (u, p)) (goal net l n)
 goal_made st net l n s h u p there node e =
     let by = want_needs st net l s h u p e in
@@ -93,9 +93,9 @@ goal_made st net l n s h u p there node e =
     (in_set_of sessions (flat_map (λ (w : LocalWant). w.session ∷ []) l.wants) s (to_flat_map (λ (w : LocalWant). w.session ∷ []) by.want s l.wants by.there (inl (sym by.session)))) in
     let row = to_each (line_over net st s h) (u, p) (want st net l s h).rows (found_in units (want st net l s h) u p e) in
     let out = to_filter (goes_out_of net.ends n) h (hops_in_order (hops_of net.hops s.group)) (in_order (hops_of net.hops s.group) h there) (number_same (node_of net.ends h.from) n node) in
-    to_flat_map (λ st. flat_map (λ s. flat_map (lines_of st net l s) (filter (goes_out_of net.ends n) (hops_in_order (hops_of net.hops s.group)))) (sessions_named l)) st (line_over net st s h (u, p)) (Wild ∷ Fixed ∷ Shared ∷ []) (a_style st)
-    (to_flat_map (λ s. flat_map (lines_of st net l s) (filter (goes_out_of net.ends n) (hops_in_order (hops_of net.hops s.group)))) s (line_over net st s h (u, p)) (sessions_named l) named
-    (to_flat_map (lines_of st net l s) h (line_over net st s h (u, p)) (filter (goes_out_of net.ends n) (hops_in_order (hops_of net.hops s.group))) out row))
+    to_flat_map (λ st. flat_map (λ s. flat_map (hop_lines st net l s) (filter (goes_out_of net.ends n) (hops_in_order (hops_of net.hops s.group)))) (sessions_named l)) st (line_over net st s h (u, p)) (Wild ∷ Fixed ∷ Shared ∷ []) (a_style st)
+    (to_flat_map (λ s. flat_map (hop_lines st net l s) (filter (goes_out_of net.ends n) (hops_in_order (hops_of net.hops s.group)))) s (line_over net st s h (u, p)) (sessions_named l) named
+    (to_flat_map (hop_lines st net l s) h (line_over net st s h (u, p)) (filter (goes_out_of net.ends n) (hops_in_order (hops_of net.hops s.group))) out row))
 
 -- ---- sound reservations lie under the goal of their node, by interface
 pub sound_under : (w : World) (n : ℕ) (f : Facts) → ((st : StyleKind) (k : LineKey) (r : ResvState) → get (resvs_of st f) k ≡ Some r → IsSoundResv st w n k r) → AreUnder (lines f) (goal_at w.net (locals_of w) n)

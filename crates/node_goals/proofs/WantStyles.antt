@@ -20,7 +20,7 @@ use Rattle.style_rules.specs.Parts.{part_cut, part_unit, IsOfStyle}
 use Rattle.style_rules.specs.CutLaws.{made_of, made_named}
 use Rattle.style_rules.proofs.Claims.{merge_keeps_the_style}
 use Rattle.style_rules.proofs.StyleLaws.{cut_of_style, wild_parts}
-use Rattle.tree_model.specs.declared.hops.Hop.{Hop}
+use Rattle.tree_model.specs.declared.hops.LinkHop.{LinkHop}
 use Rattle.tree_model.specs.Networks.{Net, node_of}
 use Rattle.tree_model.specs.Ranks.{followers, rank}
 use Rattle.tree_model.specs.Fuel.{by_fuel}
@@ -47,11 +47,11 @@ name_again Fixed a = refl
 name_again Shared a = refl
 
 module _ (st : StyleKind) (net : Net) (l : Locals) (s : Session) where
-  listed : (hs : List Hop) (x : Sender) → has (names st net l s hs) x ≡ true → name_of st x ≡ x
+  listed : (hs : List LinkHop) (x : Sender) → has (names st net l s hs) x ≡ true → name_of st x ≡ x
   listed hs x e = let a = name_told st net l s hs x e in ap (name_of st) a.3 ∙ name_again st a.0 ∙ sym a.3
 
   module _ (parts : AreWantParts l) where
-    pub own_style : (h : Hop) (q : Part) → In q (own st net l s h) → IsOfStyle st q
+    pub own_style : (h : LinkHop) (q : Part) → In q (own st net l s h) → IsOfStyle st q
     own_style h q i =
         let w = in_flat_map (λ w. as_list (wanted_of st (names st net l s (h ∷ [])) w.part)) q (filter (is_wanted_at st s (node_of net.ends h.to)) l.wants) i in
         let f = in_filter (is_wanted_at st s (node_of net.ends h.to)) w.0 l.wants w.1 in
@@ -59,7 +59,7 @@ module _ (st : StyleKind) (net : Net) (l : Locals) (s : Session) where
         wanted_style st (names st net l s (h ∷ [])) (listed (h ∷ [])) w.0.part q (subst (λ (z : StyleKind). IsWantPart z w.0.part) (sym (tied_same styles st w.0.style at.1)) (parts w.0 f.0))
         (in_as_list (wanted_of st (names st net l s (h ∷ [])) w.0.part) q w.2)
 
-    styled : (n : ℕ) (h : Hop) (u : UnitOf) (p : Part) → get (by_fuel (want_from st net l s) empty n h) u ≡ Some p → IsOfStyle st p × (part_unit st p ≡ u)
+    styled : (n : ℕ) (h : LinkHop) (u : UnitOf) (p : Part) → get (by_fuel (want_from st net l s) empty n h) u ≡ Some p → IsOfStyle st p × (part_unit st p ≡ u)
     styled zero h u p e = cc
     styled (suc n) h u p e =
         (merge_keeps_the_style st).merge (own st net l s h ++ flat_map (brought st net l s h (λ y. by_fuel (want_from st net l s) empty n y)) (followers net s.group h)) u p
@@ -76,7 +76,7 @@ module _ (st : StyleKind) (net : Net) (l : Locals) (s : Session) where
         e
 
     -- what is wanted over a hop is of its style, and its unit is the one under which it stands
-    pub want_style : (h : Hop) (u : UnitOf) (p : Part) → get (want st net l s h) u ≡ Some p → IsOfStyle st p × (part_unit st p ≡ u)
+    pub want_style : (h : LinkHop) (u : UnitOf) (p : Part) → get (want st net l s h) u ≡ Some p → IsOfStyle st p × (part_unit st p ≡ u)
     unfolding want
     want_style h u p e = styled (rank net s.group h) h u p e
 

@@ -17,7 +17,7 @@ use Rattle.router_resvs.specs.AcceptingLaws.{HasPlace}
 use Rattle.router_rules.specs.Asking.{Asker}
 use Rattle.router_rules.specs.Books.{lines}
 use Rattle.router_rules.specs.Facts.{Facts, ResvState, resvs_of}
-use Rattle.tree_model.specs.declared.hops.Hop.{Hop}
+use Rattle.tree_model.specs.declared.hops.LinkHop.{LinkHop}
 use Rattle.tree_model.specs.Networks.{Net, node_of, end_at, iface_of}
 use Rattle.network_model.specs.Locals.{locals_of}
 use Rattle.network_model.specs.Sound.{IsSoundPart, IsSoundResv}
@@ -43,12 +43,12 @@ pub record IsWantedBySomeone (st : StyleKind) (l : Locals) (s : Session) : Type 
 
 -- what is wanted over a hop is of its style, stands under its unit, and is wanted by someone
 pub record WantsHaveStyles (net : Net) (l : Locals) : Type 0 where
-  pub shaped : (st : StyleKind) (s : Session) (h : Hop) (u : UnitOf) (p : Part) → get (want st net l s h) u ≡ Some p → IsOfStyle st p × (part_unit st p ≡ u)
-  pub needs : (st : StyleKind) (s : Session) (h : Hop) (u : UnitOf) (p : Part) → get (want st net l s h) u ≡ Some p → IsWantedBySomeone st l s
+  pub shaped : (st : StyleKind) (s : Session) (h : LinkHop) (u : UnitOf) (p : Part) → get (want st net l s h) u ≡ Some p → IsOfStyle st p × (part_unit st p ≡ u)
+  pub needs : (st : StyleKind) (s : Session) (h : LinkHop) (u : UnitOf) (p : Part) → get (want st net l s h) u ≡ Some p → IsWantedBySomeone st l s
 
 -- what is wanted of a session, over whatever hop, has one style
 abbrev pub HasOneStyle : Net → Locals → Type 0
-HasOneStyle net l = (s : Session) (a b : StyleKind) (h g : Hop) (u v : UnitOf) (p r : Part) → get (want a net l s h) u ≡ Some p → get (want b net l s g) v ≡ Some r → a ≡ b
+HasOneStyle net l = (s : Session) (a b : StyleKind) (h g : LinkHop) (u v : UnitOf) (p r : Part) → get (want a net l s h) u ≡ Some p → get (want b net l s g) v ≡ Some r → a ≡ b
 
 -- ---- the goal by interface: within the limits of the goal, and the book of an interface is that of its end
 pub record IsTheGoalByIface (net : Net) (l : Locals) (n : ℕ) : Type 0 where

@@ -8,7 +8,7 @@ ghost use Rattle.tree_model.specs.Networks.{Net};
 ghost use Rattle.tree_model.specs.Valid.{IsValid};
 ghost use Rattle.network_model.specs.Bounds.{AreBounds};
 ghost use Rattle.network_model.specs.Locals.{locals_of};
-ghost use Rattle.network_model.specs.Worlds.{World, place_of};
+ghost use Rattle.network_model.specs.Worlds.{World, config_of};
 ghost use Rattle.node_goals.specs.GoalByIface.{goal_at};
 ghost use Rattle.node_goals.specs.Laws.{AreWantParts, HasOneStyle, IsTheGoalByIface, SoundIsUnderTheGoal, WantsHaveStyles};
 
@@ -36,7 +36,7 @@ pub fn the_goal_by_iface()
 /// Where the demands fit, a node can hold its goal: within the limits of its tables, and at each interface within capacity and
 /// MTU.
 pub fn fitting_demands_can_be_held()
-    ensures { (q : ℕ) (net : Net) (trees : List (Addr × Addr)) (l : Locals) (n : ℕ) → IsValid net → DemandsFit net l → CanBeHeld (place_of q net trees n) (goal_at net l n) }
+    ensures { (q : ℕ) (net : Net) (trees : List (Addr × Addr)) (l : Locals) (n : ℕ) → IsValid net → DemandsFit net l → CanBeHeld (config_of q net trees n) (goal_at net l n) }
 {}
 
 /// Sound reservations lie under the goal of their node, and a unit that is sound has a place among the lines of the goal.

@@ -24,7 +24,7 @@ use Rattle.soft_table.proofs.Valued.{valued-put_in, valued-without}
 use Rattle.resv_state.specs.declared.fact.Held.{Held}
 use Rattle.resv_state.specs.Walks.{held_under, rests}
 use Rattle.resv_state.specs.declared.fact.ResvFact.{ResvFact}
-use Rattle.resv_state.specs.Resvs.{ResvFacts, ResvMap, AreOfStyle, AreUnderTheirKeys, resv_key, resv_line, resv_lines, held_key, held_row, dead_row, fact_of, dead_of, later, dead_after}
+use Rattle.resv_state.specs.Resvs.{ResvFacts, ResvMap, AreOfStyle, AreUnderTheirKeys, resv_key, soft_resv, resv_lines, held_key, held_row, dead_row, fact_of, dead_of, later, dead_after}
 
 abbrev pub said : Held × ℕ → ResvFact × ℕ
 said e = (e.0.fact, e.1)
@@ -43,10 +43,10 @@ AreBelow m n = (k : LineKey) (e : ResvFact × ℕ) → get m k ≡ Some e → (d
 module _ (st : StyleKind) where
   pub lines_below : (m n : ResvFacts) → AreBelow m n → AreUnder (resv_lines st m) (resv_lines st n)
   lines_below m n h l i =
-      let r = in_each (resv_line st) l m.rows i in
+      let r = in_each (soft_resv st) l m.rows i in
       let d = h r.0.0 r.0.1 (in_found line_keys m r.0.0 r.0.1 r.1) in (
-        resv_line st (r.0.0, d.0),
-        to_each (resv_line st) (r.0.0, d.0) n.rows (found_in line_keys n r.0.0 d.0 d.1),
+        soft_resv st (r.0.0, d.0),
+        to_each (soft_resv st) (r.0.0, d.0) n.rows (found_in line_keys n r.0.0 d.0 d.1),
         record { style = ap (λ (z : Line). z.style) r.2; key = ap (λ (z : Line). (z.session, ((z.end, z.next), z.unit))) r.2; part = subst (λ (z : Line). IsPartAtMost z.part d.0.0.part) (sym r.2) d.2 },
       )
 

@@ -37,7 +37,7 @@ use Rattle.soft_table.proofs.Keyed.{under_no_more}
 use Rattle.soft_table.proofs.Valued.{get-valued, size-valued}
 use Rattle.resv_state.specs.declared.fact.Held.{Held}
 use Rattle.resv_state.specs.declared.fact.ResvFact.{ResvFact}
-use Rattle.resv_state.specs.Resvs.{ResvFacts, resv_key, resv_line, resv_lines, held_key, held_row, fact_of}
+use Rattle.resv_state.specs.Resvs.{ResvFacts, resv_key, soft_resv, resv_lines, held_key, held_row, fact_of}
 use Rattle.resv_state.specs.Walks.{Rest, rests, held_under, hops_in, is_full, with_names, with_hop}
 use Rattle.soft_table.proofs.Told.{under-valued}
 use Rattle.resv_state.proofs.Facts.{said, own_unit}
@@ -55,17 +55,17 @@ pub record Hopped (m : ResvFacts) (s : Session) (h : NextHop) : Type 0 where
   pub at : get m (s, (h, unit)) ≡ Some row
 
 module _ (st : StyleKind) (m : ResvFacts) where
-  line_in : (s : Session) (l : Line) → In l (of_session s (resv_lines st m)) → (r : Rest) × (e : ResvFact × ℕ) × (get m (s, r) ≡ Some e) × (l ≡ resv_line st ((s, r), e))
+  line_in : (s : Session) (l : Line) → In l (of_session s (resv_lines st m)) → (r : Rest) × (e : ResvFact × ℕ) × (get m (s, r) ≡ Some e) × (l ≡ soft_resv st ((s, r), e))
   line_in s l i =
       let f = in_filter (λ (z : Line). eq_by_cmp sessions.cmp s z.session) l (resv_lines st m) i in
-      let x = in_each (resv_line st) l m.rows f.0 in
+      let x = in_each (soft_resv st) l m.rows f.0 in
       let own : s ≡ x.0.0.0 = tied_same sessions s x.0.0.0 (ap (λ (z : Line). eq_by_cmp sessions.cmp s z.session) (sym x.2) ∙ f.1) in
       let key : ◌≡◌ {A = LineKey} (s, x.0.0.1) x.0.0 = λ i. (own i, x.0.0.1) in
-      (x.0.0.1, x.0.1, ap (get m) key ∙ in_found line_keys m x.0.0 x.0.1 x.1, x.2 ∙ ap (λ k. resv_line st (k, x.0.1)) (sym key))
+      (x.0.0.1, x.0.1, ap (get m) key ∙ in_found line_keys m x.0.0 x.0.1 x.1, x.2 ∙ ap (λ k. soft_resv st (k, x.0.1)) (sym key))
 
-  in_line : (s : Session) (r : Rest) (e : ResvFact × ℕ) → get m (s, r) ≡ Some e → In (resv_line st ((s, r), e)) (of_session s (resv_lines st m))
+  in_line : (s : Session) (r : Rest) (e : ResvFact × ℕ) → get m (s, r) ≡ Some e → In (soft_resv st ((s, r), e)) (of_session s (resv_lines st m))
   in_line s r e at =
-      to_filter (λ (z : Line). eq_by_cmp sessions.cmp s z.session) (resv_line st ((s, r), e)) (resv_lines st m) (to_each (resv_line st) ((s, r), e) m.rows (found_in line_keys m (s, r) e at)) (tied_self sessions s)
+      to_filter (λ (z : Line). eq_by_cmp sessions.cmp s z.session) (soft_resv st ((s, r), e)) (resv_lines st m) (to_each (soft_resv st) ((s, r), e) m.rows (found_in line_keys m (s, r) e at)) (tied_self sessions s)
 
   pub names_told : (s : Session) (q : Sender) → has (names_of (of_session s (resv_lines st m))) q ≡ true → Named m s q
   names_told s q h =
@@ -75,7 +75,7 @@ module _ (st : StyleKind) (m : ResvFacts) where
 
   pub names_made : (s : Session) (q : Sender) → Named m s q → has (names_of (of_session s (resv_lines st m))) q ≡ true
   names_made s q n =
-      let l = resv_line st ((s, n.rest), n.row) in
+      let l = soft_resv st ((s, n.rest), n.row) in
       in_set_of senders _ q (to_flat_map (λ (l : Line). keys l.part.senders) l q (of_session s (resv_lines st m)) (in_line s n.rest n.row n.at) (named_in l.part q n.named))
 
   pub hops_told : (s : Session) (h : NextHop) → has (next_hops_of (of_session s (resv_lines st m))) h ≡ true → Hopped m s h
@@ -86,19 +86,19 @@ module _ (st : StyleKind) (m : ResvFacts) where
       record { unit = x.0.1; row = x.1; at = ap (λ (z : NextHop). get m (s, (z, x.0.1))) (sym own) ∙ x.2 }
 
   pub hops_made : (s : Session) (h : NextHop) → Hopped m s h → has (next_hops_of (of_session s (resv_lines st m))) h ≡ true
-  hops_made s h n = in_set_of next_hops _ h (to_each next_hop (resv_line st ((s, (h, n.unit)), n.row)) (of_session s (resv_lines st m)) (in_line s (h, n.unit) n.row n.at))
+  hops_made s h n = in_set_of next_hops _ h (to_each next_hop (soft_resv st ((s, (h, n.unit)), n.row)) (of_session s (resv_lines st m)) (in_line s (h, n.unit) n.row n.at))
 
   -- as many lines as keys
   pub lines_counted : size (line_keys_of (resv_lines st m)) ≡ size m
   lines_counted =
       let less = size_below line_keys (line_keys_of (resv_lines st m)) m (λ k h.
       let f = in_each line_key k (resv_lines st m) (set_of_in line_keys _ k h) in
-      let x = in_each (resv_line st) f.0 m.rows f.1 in
+      let x = in_each (soft_resv st) f.0 m.rows f.1 in
       let own : x.0.0 ≡ k = ap line_key (sym x.2) ∙ sym f.2 in
       ap (λ z. has m z) (sym own) ∙ ap is_some (in_found line_keys m x.0.0 x.0.1 x.1)) in
       let more = size_below line_keys m (line_keys_of (resv_lines st m)) (λ k h.
       let e = some_of (get m k) h in
-      in_set_of line_keys _ k (to_each line_key (resv_line st (k, e.0)) (resv_lines st m) (to_each (resv_line st) (k, e.0) m.rows (found_in line_keys m k e.0 e.1)))) in
+      in_set_of line_keys _ k (to_each line_key (soft_resv st (k, e.0)) (resv_lines st m) (to_each (soft_resv st) (k, e.0) m.rows (found_in line_keys m k e.0 e.1)))) in
       omega (arith, less, more)
     where
       some_of : (w : Option (ResvFact × ℕ)) → is_some w ≡ true → (e : ResvFact × ℕ) × (w ≡ Some e)
@@ -108,13 +108,13 @@ module _ (st : StyleKind) (m : ResvFacts) where
   pub sessions_counted : sessions_of (resv_lines st m) ≡ sessions_in rests m
   sessions_counted = ap (λ ss. set_of {o = sessions} ss) (by m.rows)
     where
-      by : (es : List (LineKey × (ResvFact × ℕ))) → each (λ (l : Line). l.session) (each (resv_line st) es) ≡ each (λ (k : LineKey). k.0) (each (λ (e : LineKey × (ResvFact × ℕ)). e.0) es)
+      by : (es : List (LineKey × (ResvFact × ℕ))) → each (λ (l : Line). l.session) (each (soft_resv st) es) ≡ each (λ (k : LineKey). k.0) (each (λ (e : LineKey × (ResvFact × ℕ)). e.0) es)
       by [] = refl
       by (e ∷ es) = ap (λ ss. e.0.0 ∷ ss) (by es)
 
   -- all lines have the style
   pub one_style : of_style st (resv_lines st m) ≡ resv_lines st m
-  one_style = of_style_all st (resv_lines st m) (λ l i. let x = in_each (resv_line st) l m.rows i in ap (λ (z : Line). z.style) x.2)
+  one_style = of_style_all st (resv_lines st m) (λ l i. let x = in_each (soft_resv st) l m.rows i in ap (λ (z : Line). z.style) x.2)
 
 -- ---- the walks say so too
 abbrev pub is_beside : Rest → Sender → Rest × (Held × ℕ) → Bool

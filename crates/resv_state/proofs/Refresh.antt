@@ -12,7 +12,7 @@ use Rattle.rsvp_base.proofs.Tables.{either, tied_same, get-put_in_same, get-put_
 use Rattle.style_rules.specs.Limits.{of_session, line_keys_of, sessions_of, next_hops_of, names_of, IsWithinLimits}
 use Rattle.style_rules.specs.Lines.{Line, LineKey, line_keys, next_hops}
 use Rattle.resv_state.specs.declared.fact.ResvFact.{ResvFact}
-use Rattle.resv_state.specs.Resvs.{ResvFacts, resv_line, resv_lines}
+use Rattle.resv_state.specs.Resvs.{ResvFacts, soft_resv, resv_lines}
 use Rattle.resv_state.proofs.Limits.{lines_counted, one_style, hops_told, hops_made, names_told, names_made}
 
 -- what an option that came of another holds
@@ -46,11 +46,11 @@ module _ (st : StyleKind) (m : ResvFacts) (k : LineKey) (v was : ResvFact × ℕ
   sessions_less =
       size_below sessions (sessions_of (resv_lines st m2)) (sessions_of (resv_lines st m)) (λ x h.
       let l = in_each (λ (l : Line). l.session) x (resv_lines st m2) (set_of_in sessions _ x h) in
-      let r = in_each (resv_line st) l.0 m2.rows l.1 in
+      let r = in_each (soft_resv st) l.0 m2.rows l.1 in
       let d = before r.0.0 r.0.1 (in_found line_keys m2 r.0.0 r.0.1 r.1) in
       let own : r.0.0.0 ≡ x = ap (λ (z : Line). z.session) (sym r.2) ∙ sym l.2 in
       ap (has (sessions_of (resv_lines st m))) (sym own)
-      ∙ in_set_of sessions _ r.0.0.0 (to_each (λ (l : Line). l.session) (resv_line st (r.0.0, d.0)) (resv_lines st m) (to_each (resv_line st) (r.0.0, d.0) m.rows (found_in line_keys m r.0.0 d.0 d.1))))
+      ∙ in_set_of sessions _ r.0.0.0 (to_each (λ (l : Line). l.session) (soft_resv st (r.0.0, d.0)) (resv_lines st m) (to_each (soft_resv st) (r.0.0, d.0) m.rows (found_in line_keys m r.0.0 d.0 d.1))))
 
   pub still_within : IsWithinLimits st (resv_lines st m) → IsWithinLimits st (resv_lines st m2)
   still_within w =

@@ -33,11 +33,11 @@ abbrev pub AreUnderTheirKeys : StyleKind → Table line_keys ResvFact → Type 0
 AreUnderTheirKeys st m = (k : LineKey) (f : ResvFact) → get m k ≡ Some f → resv_key st f ≡ k
 
 -- ---- the lines that a table stands for
-abbrev pub resv_line : StyleKind → LineKey × (ResvFact × ℕ) → Line
-resv_line st e = record { style = st; session = e.0.0; end = e.0.1.0.0; next = e.0.1.0.1; unit = e.0.1.1; part = e.1.0.part }
+abbrev pub soft_resv : StyleKind → LineKey × (ResvFact × ℕ) → Line
+soft_resv st e = record { style = st; session = e.0.0; end = e.0.1.0.0; next = e.0.1.0.1; unit = e.0.1.1; part = e.1.0.part }
 
 abbrev pub resv_lines : StyleKind → ResvFacts → List Line
-resv_lines st m = each (resv_line st) m.rows
+resv_lines st m = each (soft_resv st) m.rows
 
 -- ---- how a table keeps them
 abbrev pub held_key : Held → LineKey

@@ -10,7 +10,7 @@ use Rattle.router_rules.specs.Act.{act}
 use Rattle.router_rules.specs.Bounds.{AreAlive, AreShaped, AreWithinLimits, IsPathShaped, IsTarget, IsWithinBounds}
 use Rattle.router_rules.specs.Facts.{Facts, PathState}
 use Rattle.router_rules.specs.Inputs.{Input}
-use Rattle.router_rules.specs.Place.{Place}
+use Rattle.router_rules.specs.NodeConfig.{NodeConfig}
 use Rattle.router_inputs.specs.Sources.{IsLearnt}
 use Rattle.router_rules.specs.Steps.{IsFit, IsSameNode, clock_after, facts_then}
 use Rattle.router_inputs.proofs.Framing.{wants_then}
@@ -20,7 +20,7 @@ use Rattle.router_bounds.proofs.Keeping.{IsSet, due_within, few_walls, lives_on,
 use Rattle.router_bounds.proofs.LocalFacts.{AreSendersWithin, AreWantsWithin, marks_keep, senders_keep, wants_keep}
 use Rattle.router_bounds.proofs.Reserving.{AreResvsWithin, lives_new, of_bounds, resvs_within}
 
-module _ (old p : Place) (b : ℕ) (i : Input) (f : Facts) (some : 1 ≤ p.quarter) (fit : IsFit p i) (w : IsWithinBounds p b f) where
+module _ (old p : NodeConfig) (b : ℕ) (i : Input) (f : Facts) (some : 1 ≤ p.quarter) (fit : IsFit p i) (w : IsWithinBounds p b f) where
   abbrev c : ℕ
   c = clock_after b i
 
@@ -84,11 +84,11 @@ module _ (old p : Place) (b : ℕ) (i : Input) (f : Facts) (some : 1 ≤ p.quart
   kept_within = record { alive = alive; due = due_within old p b i f fit some w.due; shapes = shapes; limits = limits; booked = resvs.booked }
 
 -- ---- bounds know no routes
-target_there : (p : Place) (routes : List Route) (t : Target) → IsTarget p t → IsTarget (record p { routes = routes }) t
+target_there : (p : NodeConfig) (routes : List Route) (t : Target) → IsTarget p t → IsTarget (record p { routes = routes }) t
 target_there p routes (target.Hop i a) h = h
 target_there p routes (target.Sender s) h = h
 
-rerouted : (p : Place) (routes : List Route) (b : ℕ) (f : Facts) → IsWithinBounds p b f → IsWithinBounds (record p { routes = routes }) b f
+rerouted : (p : NodeConfig) (routes : List Route) (b : ℕ) (f : Facts) → IsWithinBounds p b f → IsWithinBounds (record p { routes = routes }) b f
 rerouted p routes b f w =
     record {
       alive = record { paths = λ k x e. w.alive.paths k x e; resvs = λ st k r e. w.alive.resvs st k r e; walls = λ k x e. w.alive.walls k x e };
@@ -106,7 +106,7 @@ rerouted p routes b f w =
       booked = record { capacity = λ i on e. w.booked.capacity i on e; mtu = λ i on k part e g. w.booked.mtu i on k part e g };
     }
 
-pub same_node : (old p : Place) (b : ℕ) (f : Facts) → IsSameNode old p → IsWithinBounds old b f → IsWithinBounds p b f
+pub same_node : (old p : NodeConfig) (b : ℕ) (f : Facts) → IsSameNode old p → IsWithinBounds old b f → IsWithinBounds p b f
 same_node old p b f same w =
     rerouted (record old { quarter = p.quarter; ifaces = p.ifaces }) p.routes b f
     (subst (λ (z : ℕ × List Iface). IsWithinBounds (record old { quarter = z.0; ifaces = z.1 }) b f) (λ j. (same.quarter j, same.ifaces j)) w)

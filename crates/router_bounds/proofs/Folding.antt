@@ -27,10 +27,10 @@ use Rattle.style_rules.proofs.StyleLaws.{unit_name}
 use Rattle.router_rules.specs.Asking.{Asker, Taking, book_refuses, has_room, lost, names_that_match, put_tested, put_unit, table_with, take_unit, take_units, tell_lost}
 use Rattle.router_rules.specs.Facts.{Facts, Resvs}
 use Rattle.router_rules.specs.Known.{named_as}
-use Rattle.router_rules.specs.Place.{Place}
+use Rattle.router_rules.specs.NodeConfig.{NodeConfig}
 use Rattle.router_lookups.proofs.Knowing.{named_told}
 
-module _ (p : Place) (o : Asker) (f : Facts) (all : Names) (P : Resvs → Type 0) where
+module _ (p : NodeConfig) (o : Asker) (f : Facts) (all : Names) (P : Resvs → Type 0) where
   -- what a unit keeps that has room and is not refused
   abbrev pub Keeps : AskedUnit → Type 0
   Keeps u = (part : Part) → part_of (names_that_match u.names all) u.flow ≡ Some part → (t : Resvs) → P t → has_room o u.unit part t ≡ true → book_refuses p o f u.unit part t ≡ None → P (table_with o u.unit part t)

@@ -32,7 +32,7 @@ use Rattle.router_rules.specs.Facts.{Blockade, Facts, PathState, Paths, SenderKe
 use Rattle.router_rules.specs.Forgetting.{counted, settle}
 use Rattle.router_rules.specs.Inputs.{Input, Call, Wait, Clear, Came, Moved, Spelt, Unspelt}
 use Rattle.router_rules.specs.Paths.{is_path_by, learn, learn_inward, learnt, path_state, tear_path, torn_path}
-use Rattle.router_rules.specs.Place.{Place, comes_in, period, wall_lifetime}
+use Rattle.router_rules.specs.NodeConfig.{NodeConfig, comes_in, period, wall_lifetime}
 use Rattle.router_rules.specs.Waiting.{next_due}
 use Rattle.router_lookups.proofs.Leaving.{countdowns_settle, waiting_leaves_the_living}
 use Rattle.router_lookups.proofs.Lists.{some_is, some_same}
@@ -43,14 +43,14 @@ use Rattle.router_inputs.proofs.Stepping.{quiet_due, stands_settled}
 
 -- ---- paths
 -- what stands after an input lives longer than its clock
-pub paths_outlive : (p : Place) (b : ℕ) (i : Input) (f : Facts) (k : SenderKey) (x : PathState) → get (act p (clock_after b i) i f).facts.paths k ≡ Some x → b < x.dies → clock_after b i < x.dies
+pub paths_outlive : (p : NodeConfig) (b : ℕ) (i : Input) (f : Facts) (k : SenderKey) (x : PathState) → get (act p (clock_after b i) i f).facts.paths k ≡ Some x → b < x.dies → clock_after b i < x.dies
 paths_outlive p b (Call l) f k x e lives = lives
 paths_outlive p b (Wait ms word) f k x e lives = ((waiting_leaves_the_living.of_paths p (b + ms) word f k x).0 e).1
 paths_outlive p b Clear f k x e lives = lives
 paths_outlive p b (Came at dst a) f k x e lives = lives
 paths_outlive p b Moved f k x e lives = lives
 
-pub walls_outlive : (p : Place) (b : ℕ) (i : Input) (f : Facts) (k : WallKey) (x : Blockade) → get (act p (clock_after b i) i f).facts.walls k ≡ Some x → b < x.dies → clock_after b i < x.dies
+pub walls_outlive : (p : NodeConfig) (b : ℕ) (i : Input) (f : Facts) (k : WallKey) (x : Blockade) → get (act p (clock_after b i) i f).facts.walls k ≡ Some x → b < x.dies → clock_after b i < x.dies
 walls_outlive p b (Call l) f k x e lives = lives
 walls_outlive p b (Wait ms word) f k x e lives = ((waiting_leaves_the_living.of_walls p (b + ms) word f k x).0 e).1
 walls_outlive p b Clear f k x e lives = lives
@@ -69,7 +69,7 @@ pub lives_on : (b c life dies : ℕ) → b ≤ c → LivesUpTo b life dies → c
 lives_on b c life dies later l h = let soon = l.soon in record { later = h; soon = omega (arith, later, soon) }
 
 -- a Path that came
-pub path_fits : (p : Place) (i : Input) (k : SenderKey) (by : CameOnTree p i k) → IsFit p i → (by.at < length p.ifaces) × IsSound by.tspec
+pub path_fits : (p : NodeConfig) (i : Input) (k : SenderKey) (by : CameOnTree p i k) → IsFit p i → (by.at < length p.ifaces) × IsSound by.tspec
 path_fits p i k by fit =
     let came : IsFit p (Came by.at k.0.group (Spelt (message.Path by.path))) = subst (IsFit p) by.came fit in
     (came.0, subst (WhereThere (λ (e : Sender × TokenBucket). IsSound e.1)) by.sender came.1)
@@ -79,7 +79,7 @@ learnt_within : (t new : Paths) (s : Session) (b : Bool) → has_room_at senders
 learnt_within t new s true r room w = room r
 learnt_within t new s false r room w = w
 
-learn_within : (p : Place) (c e : ℕ) (m : PathMsg) (o : Option (Sender × TokenBucket)) (t : Paths) → IsWithinSessionLimits senders t → IsWithinSessionLimits senders (learn p c e m o t).0
+learn_within : (p : NodeConfig) (c e : ℕ) (m : PathMsg) (o : Option (Sender × TokenBucket)) (t : Paths) → IsWithinSessionLimits senders t → IsWithinSessionLimits senders (learn p c e m o t).0
 learn_within p c e m None t w = w
 learn_within p c e m (Some s) t w = by (comes_in p m.session e s.0)
   where
@@ -100,7 +100,7 @@ tear_within e m (Some s) t w = by (is_path_by (e, m.hop.addr) (get t (m.session,
     by false = w
     by true = fewer_rows senders t (without t (m.session, s)) (λ k x h. got_without sender_keys t (m.session, s) k x h) w
 
-spelt_paths_within : (p : Place) (c e : ℕ) (m : Message) (b : Bool) (f : Facts) → IsWithinSessionLimits senders f.paths → IsWithinSessionLimits senders (act_spelt p c e m b f).facts.paths
+spelt_paths_within : (p : NodeConfig) (c e : ℕ) (m : Message) (b : Bool) (f : Facts) → IsWithinSessionLimits senders f.paths → IsWithinSessionLimits senders (act_spelt p c e m b f).facts.paths
 spelt_paths_within p c e m false f w = w
 spelt_paths_within p c e (message.Path m) true f w = learn_within p c e m m.sender f.paths w
 spelt_paths_within p c e (message.PathTear m) true f w = tear_within e m m.sender f.paths w
@@ -110,7 +110,7 @@ spelt_paths_within p c e (message.ResvErr m) true f w = w
 spelt_paths_within p c e (message.ResvTear m) true f w = w
 spelt_paths_within p c e (message.ResvConf m) true f w = w
 
-pub paths_within : (p : Place) (c : ℕ) (i : Input) (f : Facts) → IsWithinSessionLimits senders f.paths → IsWithinSessionLimits senders (act p c i f).facts.paths
+pub paths_within : (p : NodeConfig) (c : ℕ) (i : Input) (f : Facts) → IsWithinSessionLimits senders f.paths → IsWithinSessionLimits senders (act p c i f).facts.paths
 paths_within p c (Call l) f w = w
 paths_within p c (Wait ms word) f w = fewer_rows senders f.paths (act p c (Wait ms word) f).facts.paths (λ k x h. ((waiting_leaves_the_living.of_paths p c word f k x).0 h).0) w
 paths_within p c Clear f w = fewer_rows senders f.paths empty (λ k x h. absurd (cc)) w
@@ -119,13 +119,13 @@ paths_within p c (Came e dst (Unspelt m)) f w = w
 paths_within p c (Came e dst (Spelt m)) f w = spelt_paths_within p c e m (is_mine p e dst m) f w
 
 -- ---- blockades
-pub record IsSet (p : Place) (c : ℕ) (k : WallKey) (x : Blockade) : Type 0 where
+pub record IsSet (p : NodeConfig) (c : ℕ) (k : WallKey) (x : Blockade) : Type 0 where
   pub target : IsTarget p k.1
   pub flow : IsSound x.wall.flow
   pub dies : x.dies ≡ c + wall_lifetime p
 
 -- a target that an error blockades is behind the interface by which it came, or a sender
-walled_target : (p : Place) (e : ℕ) (m : ResvErrMsg) (st : StyleKind) (k : WallKey) → e < length p.ifaces → In k (walled_by e m st) → IsTarget p k.1
+walled_target : (p : NodeConfig) (e : ℕ) (m : ResvErrMsg) (st : StyleKind) (k : WallKey) → e < length p.ifaces → In k (walled_by e m st) → IsTarget p k.1
 walled_target p e m Wild k inside i = ⊎_elim (λ (is : k ≡ (m.session, target.Hop e m.hop.addr)). subst (λ (z : WallKey). IsTarget p z.1) (sym is) inside) (λ (n : ⊥). absurd n) i
 walled_target p e m Fixed k inside i = let r = in_each (λ (x : Sender). (m.session, target.Sender x)) k (blamed_senders m.blame.senders) i in subst (λ (z : WallKey). IsTarget p z.1) (sym r.2) tt
 walled_target p e m Shared k inside i = let r = in_each (λ (x : Sender). (m.session, target.Sender x)) k (blamed_senders m.blame.senders) i in subst (λ (z : WallKey). IsTarget p z.1) (sym r.2) tt
@@ -139,7 +139,7 @@ blame_sound Wild names flow h = h.1
 blame_sound Fixed names flow h = both_sound _ names flow h
 blame_sound Shared names flow h = both_sound _ names flow h
 
-walls_set : (p : Place) (c e : ℕ) (m : ResvErrMsg) (w : Walls) (k : WallKey) (x : Blockade) → e < length p.ifaces → IsProper (message.ResvErr m) → get (walls_with p c e m m.blame.flow w) k ≡ Some x → (get w k ≡ Some x) ⊎ IsSet p c k x
+walls_set : (p : NodeConfig) (c e : ℕ) (m : ResvErrMsg) (w : Walls) (k : WallKey) (x : Blockade) → e < length p.ifaces → IsProper (message.ResvErr m) → get (walls_with p c e m m.blame.flow w) k ≡ Some x → (get w k ≡ Some x) ⊎ IsSet p c k x
 walls_set p c e m w k x inside proper h =
     ⊎_elim (λ (old : get w k ≡ Some x). inl old)
     (λ (new : (flow : TokenBucket) × (m.blame.flow ≡ Some flow) × (is_admission m.err ≡ true) × In k (walled_by e m m.blame.style) × (x ≡ blockade_of p c m flow)).
@@ -155,7 +155,7 @@ after_walls true true new old k x h = inl h
 after_walls true false new old k x h = inr h
 after_walls false room new old k x h = inr h
 
-spelt_walls_set : (p : Place) (c e : ℕ) (m : Message) (b : Bool) (f : Facts) (k : WallKey) (x : Blockade) → e < length p.ifaces → IsProper m → get (act_spelt p c e m b f).facts.walls k ≡ Some x → (get f.walls k ≡ Some x) ⊎ IsSet p c k x
+spelt_walls_set : (p : NodeConfig) (c e : ℕ) (m : Message) (b : Bool) (f : Facts) (k : WallKey) (x : Blockade) → e < length p.ifaces → IsProper m → get (act_spelt p c e m b f).facts.walls k ≡ Some x → (get f.walls k ≡ Some x) ⊎ IsSet p c k x
 spelt_walls_set p c e m false f k x inside proper h = inl h
 spelt_walls_set p c e (message.ResvErr m) true f k x inside proper h =
     ⊎_elim (λ (new : get (walls_with p c e m m.blame.flow f.walls) k ≡ Some x). walls_set p c e m f.walls k x inside proper new) (λ (old : get f.walls k ≡ Some x). inl old)
@@ -167,7 +167,7 @@ spelt_walls_set p c e (message.PathTear m) true f k x inside proper h = inl h
 spelt_walls_set p c e (message.ResvTear m) true f k x inside proper h = inl h
 spelt_walls_set p c e (message.ResvConf m) true f k x inside proper h = inl h
 
-pub walls_source : (p : Place) (c : ℕ) (i : Input) (f : Facts) (k : WallKey) (x : Blockade) → IsFit p i → get (act p c i f).facts.walls k ≡ Some x → (get f.walls k ≡ Some x) ⊎ IsSet p c k x
+pub walls_source : (p : NodeConfig) (c : ℕ) (i : Input) (f : Facts) (k : WallKey) (x : Blockade) → IsFit p i → get (act p c i f).facts.walls k ≡ Some x → (get f.walls k ≡ Some x) ⊎ IsSet p c k x
 walls_source p c (Call l) f k x fit h = inl h
 walls_source p c (Wait ms word) f k x fit h = inl ((waiting_leaves_the_living.of_walls p c word f k x).0 h).0
 walls_source p c Clear f k x fit h = absurd (cc)
@@ -176,7 +176,7 @@ walls_source p c (Came e dst (Unspelt m)) f k x fit h = inl h
 walls_source p c (Came e dst (Spelt m)) f k x fit h = spelt_walls_set p c e m (is_mine p e dst m) f k x fit.0 fit.1 h
 
 -- where an error sets none, the blockades are as they were
-pub unset : (p : Place) (c e : ℕ) (m : ResvErrMsg) (flow : Option TokenBucket) (w : Walls) → (is_admission m.err && is_some flow) ≡ false → walls_with p c e m flow w ≡ w
+pub unset : (p : NodeConfig) (c e : ℕ) (m : ResvErrMsg) (flow : Option TokenBucket) (w : Walls) → (is_admission m.err && is_some flow) ≡ false → walls_with p c e m flow w ≡ w
 unset p c e m None w n = refl
 unset p c e m (Some flow) w n = by (is_admission m.err) n
   where
@@ -184,14 +184,14 @@ unset p c e m (Some flow) w n = by (is_admission m.err) n
     by true n = absurd (cc)
     by false n = refl
 
-walls_few : (p : Place) (c e : ℕ) (m : ResvErrMsg) (w : Walls) (hop sets fits : Bool) → (is_admission m.err && is_some m.blame.flow) ≡ sets → nat_le (size (walls_with p c e m m.blame.flow w)) 512 ≡ fits → size w ≤ 512
+walls_few : (p : NodeConfig) (c e : ℕ) (m : ResvErrMsg) (w : Walls) (hop sets fits : Bool) → (is_admission m.err && is_some m.blame.flow) ≡ sets → nat_le (size (walls_with p c e m m.blame.flow w)) 512 ≡ fits → size w ≤ 512
     → size (walls_after hop (not sets || fits) (walls_with p c e m m.blame.flow w) w) ≤ 512
 walls_few p c e m w false sets fits s t few = few
 walls_few p c e m w true true true s t few = leb-true (size (walls_with p c e m m.blame.flow w)) 512 t
 walls_few p c e m w true true false s t few = few
 walls_few p c e m w true false fits s t few = subst (λ (z : Walls). size z ≤ 512) (sym (unset p c e m m.blame.flow w s)) few
 
-spelt_walls_few : (p : Place) (c e : ℕ) (m : Message) (b : Bool) (f : Facts) → size f.walls ≤ 512 → size (act_spelt p c e m b f).facts.walls ≤ 512
+spelt_walls_few : (p : NodeConfig) (c e : ℕ) (m : Message) (b : Bool) (f : Facts) → size f.walls ≤ 512 → size (act_spelt p c e m b f).facts.walls ≤ 512
 spelt_walls_few p c e m false f few = few
 spelt_walls_few p c e (message.ResvErr m) true f few = walls_few p c e m f.walls _ _ _ refl refl few
 spelt_walls_few p c e (message.Path m) true f few = few
@@ -201,7 +201,7 @@ spelt_walls_few p c e (message.PathTear m) true f few = few
 spelt_walls_few p c e (message.ResvTear m) true f few = few
 spelt_walls_few p c e (message.ResvConf m) true f few = few
 
-pub few_walls : (p : Place) (c : ℕ) (i : Input) (f : Facts) → size f.walls ≤ 512 → size (act p c i f).facts.walls ≤ 512
+pub few_walls : (p : NodeConfig) (c : ℕ) (i : Input) (f : Facts) → size f.walls ≤ 512 → size (act p c i f).facts.walls ≤ 512
 few_walls p c (Call l) f few = few
 few_walls p c (Wait ms word) f few =
     let less = size_below wall_keys (act p c (Wait ms word) f).facts.walls f.walls (λ k h. let x = some_is (get (act p c (Wait ms word) f).facts.walls k) h in ap is_some ((waiting_leaves_the_living.of_walls p c word f k x.0).0 x.1).0) in omega (arith, less, few)
@@ -212,7 +212,7 @@ few_walls p c (Came e dst (Spelt m)) f few = spelt_walls_few p c e m (is_mine p 
 
 -- ---- countdowns
 -- a moment that waiting leaves
-next_lives : (p : Place) (b ms word t : ℕ) → ms ≤ 2 * p.quarter → 1 ≤ p.quarter → LivesUpTo b (6 * p.quarter) t → LivesUpTo (b + ms) (6 * p.quarter) (next_due p (b + ms) word t)
+next_lives : (p : NodeConfig) (b ms word t : ℕ) → ms ≤ 2 * p.quarter → 1 ≤ p.quarter → LivesUpTo b (6 * p.quarter) t → LivesUpTo (b + ms) (6 * p.quarter) (next_due p (b + ms) word t)
 next_lives p b ms word t short some l = by (nat_le t (b + ms)) refl
   where
     part : ℕ
@@ -226,7 +226,7 @@ next_lives p b ms word t short some l = by (nat_le t (b + ms)) refl
         record { later = omega (arith, later, short); soon = omega (arith, reached, below) }
     by false is = let ahead = leb-false t (b + ms) is in let soon = l.soon in record { later = omega (arith, ahead); soon = omega (arith, soon) }
 
-due_left : (p : Place) (b : ℕ) (i : Input) (f : Facts) (s : Session) (t : ℕ) → IsFit p i → 1 ≤ p.quarter → ((t : ℕ) → get f.due s ≡ Some t → LivesUpTo b (6 * p.quarter) t) → get (act p (clock_after b i) i f).facts.due s ≡ Some t
+due_left : (p : NodeConfig) (b : ℕ) (i : Input) (f : Facts) (s : Session) (t : ℕ) → IsFit p i → 1 ≤ p.quarter → ((t : ℕ) → get f.due s ≡ Some t → LivesUpTo b (6 * p.quarter) t) → get (act p (clock_after b i) i f).facts.due s ≡ Some t
     → LivesUpTo (clock_after b i) (6 * p.quarter) t
 due_left p b (Call l) f s t fit some w e = w t e
 due_left p b (Wait ms word) f s t fit some w e = by (get f.due s) refl
@@ -239,7 +239,7 @@ due_left p b Moved f s t fit some w e = w t e
 due_left p b (Came at dst a) f s t fit some w e = w t (ap (λ d. get d s) (sym (quiet_due p b at dst a f).0) ∙ e)
 
 -- countdowns that live, once settled
-pub due_settled : (p : Place) (c : ℕ) (f : Facts) → 1 ≤ p.quarter → ((s : Session) (t : ℕ) → get f.due s ≡ Some t → LivesUpTo c (6 * p.quarter) t) → AreDue p c (settle p c f)
+pub due_settled : (p : NodeConfig) (c : ℕ) (f : Facts) → 1 ≤ p.quarter → ((s : Session) (t : ℕ) → get f.due s ≡ Some t → LivesUpTo c (6 * p.quarter) t) → AreDue p c (settle p c f)
 due_settled p c f some lives = record { counted = λ s. stands_settled p c f s; moment = λ s t e. at s t (has (counted f) s) (get f.due s) refl (sym (countdowns_settle p c f s) ∙ e) }
   where
     at : (s : Session) (t : ℕ) (z : Bool) (v : Option ℕ) → get f.due s ≡ v → cond z (Some (unwrap_or v (c + period p))) None ≡ Some t → LivesUpTo c (6 * p.quarter) t
@@ -247,7 +247,7 @@ due_settled p c f some lives = record { counted = λ s. stands_settled p c f s; 
     at s t true None is e = let same : c + period p ≡ t = some_same _ t e in record { later = omega (arith, same, some); soon = omega (arith, same) }
     at s t true (Some u) is e = subst (LivesUpTo c (6 * p.quarter)) (some_same u t e) (lives s u is)
 
-pub due_within : (old p : Place) (b : ℕ) (i : Input) (f : Facts) → IsFit p i → 1 ≤ p.quarter → AreDue p b f → AreDue p (clock_after b i) (facts_then old p (clock_after b i) i f)
+pub due_within : (old p : NodeConfig) (b : ℕ) (i : Input) (f : Facts) → IsFit p i → 1 ≤ p.quarter → AreDue p b f → AreDue p (clock_after b i) (facts_then old p (clock_after b i) i f)
 due_within old p b i f fit some w =
     let due = due_settled p (clock_after b i) (act p (clock_after b i) i f).facts some (λ s t e. due_left p b i f s t fit some (w.moment s) e) in
     record { counted = λ s. due.counted s; moment = λ s t e. due.moment s t e }

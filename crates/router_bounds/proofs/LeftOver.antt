@@ -18,7 +18,7 @@ use Rattle.router_rules.specs.Calls.{act_stale, entry_of, needs, stale_refusal, 
 use Rattle.router_rules.specs.Facts.{Blockade, Facts, PathState, ResvState, SenderKey, WallKey, resvs_of, sender_keys, wall_keys, with_resvs}
 use Rattle.router_rules.specs.Forgetting.{forget}
 use Rattle.router_rules.specs.Inputs.{Stale, StalePath, StaleResv, StaleWall}
-use Rattle.router_rules.specs.Place.{Place, lifetime, period, wall_lifetime}
+use Rattle.router_rules.specs.NodeConfig.{NodeConfig, lifetime, period, wall_lifetime}
 use Rattle.router_rules.specs.Rule.{settled}
 use Rattle.router_rules.proofs.Fronting.{fronts_are_the_rule}
 use Rattle.router_rules.specs.Steps.{IsFitStale}
@@ -41,17 +41,17 @@ by_refusal P None new old taken left = taken refl
 by_refusal P (Some e) new old taken left = left
 
 -- ---- within bounds but for countdowns, which live and may not have settled yet
-record IsUnsettled (p : Place) (c : ℕ) (f : Facts) : Type 0 where
+record IsUnsettled (p : NodeConfig) (c : ℕ) (f : Facts) : Type 0 where
   alive : AreAlive p c f
   due : (s : Session) (t : ℕ) → get f.due s ≡ Some t → LivesUpTo c (6 * p.quarter) t
   shapes : AreShaped p f
   limits : AreWithinLimits f
   booked : AreBooked p f
 
-unsettled : (p : Place) (c : ℕ) (f : Facts) → IsWithinBounds p c f → IsUnsettled p c f
+unsettled : (p : NodeConfig) (c : ℕ) (f : Facts) → IsWithinBounds p c f → IsUnsettled p c f
 unsettled p c f w = record { alive = w.alive; due = w.due.moment; shapes = w.shapes; limits = w.limits; booked = w.booked }
 
-settled_within : (p : Place) (c : ℕ) (f g : Facts) → 1 ≤ p.quarter → IsUnsettled p c g → IsWithinBounds p c (settled p c f g)
+settled_within : (p : NodeConfig) (c : ℕ) (f g : Facts) → 1 ≤ p.quarter → IsUnsettled p c g → IsWithinBounds p c (settled p c f g)
 settled_within p c f g some w =
     let there : AreResvsWithin p c g = record { lives = w.alive.resvs; shapes = w.shapes.resvs; limits = w.limits.resvs; booked = w.booked } in
     let resvs = same_resvs p c (forget f g) (settled p c f g) refl (forgotten_within p c f g there) in
@@ -65,7 +65,7 @@ settled_within p c f g some w =
     }
 
 -- ---- each of them, where it is not refused
-module _ (p : Place) (c : ℕ) (f : Facts) (w : IsWithinBounds p c f) where
+module _ (p : NodeConfig) (c : ℕ) (f : Facts) (w : IsWithinBounds p c f) where
   path_left : (k : SenderKey) (x : PathState) → IsFitStale p c (StalePath k x) → stale_refusal p (StalePath k x) f ≡ None → IsUnsettled p c (with_left (StalePath k x) f)
   path_left k x fit open_to =
       record {

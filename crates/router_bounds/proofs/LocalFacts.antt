@@ -27,7 +27,7 @@ use Rattle.router_rules.specs.Bounds.{IsWantShape, IsWantShaped}
 use Rattle.router_rules.specs.Calls.{SendersOf, call_refusal, needs, unless, wanted}
 use Rattle.router_rules.specs.Facts.{Facts, SenderKey, Want, WantKey, Wants, sender_keys, want_keys, wants_in}
 use Rattle.router_rules.specs.Inputs.{Input, Call, Wait, Clear, Came, Moved, SendAs, DropAs, WantAs, QuitAll}
-use Rattle.router_rules.specs.Place.{Place, is_own, is_session}
+use Rattle.router_rules.specs.NodeConfig.{NodeConfig, is_own, is_session}
 use Rattle.router_rules.specs.Requests.{is_style}
 use Rattle.router_lookups.proofs.Lists.{got_with_rows, to_values}
 use Rattle.router_lookups.proofs.Rooms.{room_tells}
@@ -50,7 +50,7 @@ needs_told false e later h = absurd (cc)
 abbrev AllSound : SendersOf → Type 0
 AllSound t = (k : SenderKey) (tspec : TokenBucket) → get t k ≡ Some tspec → IsSound tspec
 
-senders_sound : (p : Place) (c : ℕ) (i : Input) (f : Facts) → IsFit p i → AllSound f.senders → AllSound (act p c i f).facts.senders
+senders_sound : (p : NodeConfig) (c : ℕ) (i : Input) (f : Facts) → IsFit p i → AllSound f.senders → AllSound (act p c i f).facts.senders
 senders_sound p c (Call (SendAs s x tspec)) f fit w =
     unless_by AllSound (call_refusal p (SendAs s x tspec) f) (put_in f.senders (s, x) tspec) f.senders
     (λ n k t e. ⊎_elim (λ (new : (k ≡ (s, x)) × (t ≡ tspec)). subst IsSound (sym new.1) fit) (λ (old : get f.senders k ≡ Some t). w k t old) (got_put_in sender_keys f.senders (s, x) tspec k t e))
@@ -64,7 +64,7 @@ senders_sound p c Clear f fit w = w
 senders_sound p c Moved f fit w = w
 senders_sound p c (Came e dst a) f fit w = subst AllSound (sym (act_senders p c (Came e dst a) f refl)) w
 
-senders_within : (p : Place) (c : ℕ) (i : Input) (f : Facts) → IsWithinSessionLimits senders f.senders → IsWithinSessionLimits senders (act p c i f).facts.senders
+senders_within : (p : NodeConfig) (c : ℕ) (i : Input) (f : Facts) → IsWithinSessionLimits senders f.senders → IsWithinSessionLimits senders (act p c i f).facts.senders
 senders_within p c (Call (SendAs s x tspec)) f w =
     unless_by (IsWithinSessionLimits senders) (call_refusal p (SendAs s x tspec) f) (put_in f.senders (s, x) tspec) f.senders
     (λ n.
@@ -87,7 +87,7 @@ pub record AreSendersWithin (t : SendersOf) : Type 0 where
   pub sound : (k : SenderKey) (tspec : TokenBucket) → get t k ≡ Some tspec → IsSound tspec
   pub limits : IsWithinSessionLimits senders t
 
-pub senders_keep : (p : Place) (c : ℕ) (i : Input) (f : Facts) → IsFit p i → AreSendersWithin f.senders → AreSendersWithin (act p c i f).facts.senders
+pub senders_keep : (p : NodeConfig) (c : ℕ) (i : Input) (f : Facts) → IsFit p i → AreSendersWithin f.senders → AreSendersWithin (act p c i f).facts.senders
 senders_keep p c i f fit w = record { sound = senders_sound p c i f fit w.sound; limits = senders_within p c i f w.limits }
 
 -- ---- wants
@@ -139,7 +139,7 @@ style_there f s st n u w e =
     any_in (λ (w : Want). not (is_style w.style st)) w (values (wants_in f s)) (to_values units (wants_in f s) u w (get-under sessions units f.wants s u ∙ e)) (ap not no) in
     let z = sym (ap not there) ∙ n in absurd (cc))
 
-module _ (p : Place) (f : Facts) (s : Session) (st : StyleKind) (names : Names) (flow : TokenBucket) (mark : Bool) (list : IsFitList st names) (sound : IsSound flow) (w : AreWantsWithin f.wants)
+module _ (p : NodeConfig) (f : Facts) (s : Session) (st : StyleKind) (names : Names) (flow : TokenBucket) (mark : Bool) (list : IsFitList st names) (sound : IsSound flow) (w : AreWantsWithin f.wants)
     (style : not (list_any (λ (w : Want). not (is_style w.style st)) (values (wants_in f s))) ≡ true) (room : has_room_at units (with_rows f.wants (wanted s st names flow mark)) s ≡ true) where
   abbrev wants_now : Wants
   wants_now = with_rows f.wants (wanted s st names flow mark)
@@ -174,7 +174,7 @@ fewer_wants t n less w =
       limits = fewer_rows units t n less w.limits;
     }
 
-act_wants_keep : (p : Place) (c : ℕ) (i : Input) (f : Facts) → IsFit p i → AreWantsWithin f.wants → AreWantsWithin (act p c i f).facts.wants
+act_wants_keep : (p : NodeConfig) (c : ℕ) (i : Input) (f : Facts) → IsFit p i → AreWantsWithin f.wants → AreWantsWithin (act p c i f).facts.wants
 act_wants_keep p c (Call (WantAs s st names flow mark)) f fit w =
     unless_by AreWantsWithin (call_refusal p (WantAs s st names flow mark) f) (with_rows f.wants (wanted s st names flow mark)) f.wants
     (λ n.
@@ -209,5 +209,5 @@ marks_keep t n same w =
       limits = fewer_within units t n (λ k h. sym (same.there k) ∙ h) w.limits;
     }
 
-pub wants_keep : (p : Place) (c : ℕ) (i : Input) (f : Facts) → IsFit p i → AreWantsWithin f.wants → AreWantsWithin (act p c i f).facts.wants
+pub wants_keep : (p : NodeConfig) (c : ℕ) (i : Input) (f : Facts) → IsFit p i → AreWantsWithin f.wants → AreWantsWithin (act p c i f).facts.wants
 wants_keep p c i f fit w = act_wants_keep p c i f fit w

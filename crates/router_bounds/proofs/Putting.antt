@@ -28,7 +28,7 @@ use Rattle.router_rules.specs.Books.{book, fits, lines, lines_of, refused}
 use Rattle.router_rules.specs.Bounds.{AreBooked}
 use Rattle.router_rules.specs.Calls.{entry_of}
 use Rattle.router_rules.specs.Facts.{Facts, Resvs, ResvState, resvs_of, with_resvs}
-use Rattle.router_rules.specs.Place.{Place}
+use Rattle.router_rules.specs.NodeConfig.{NodeConfig}
 use Rattle.router_lookups.proofs.Leaving.{table_other, table_put}
 use Rattle.router_lookups.proofs.Requesting.{lines_told, to_lines}
 
@@ -58,7 +58,7 @@ admitted true b x y e = absurd (cc)
 admitted false true x y e = absurd (cc)
 admitted false false x y e = (refl, refl)
 
-module _ (p : Place) (st : StyleKind) (k : LineKey) (x : ResvState) (f : Facts) (t : Resvs) where
+module _ (p : NodeConfig) (st : StyleKind) (k : LineKey) (x : ResvState) (f : Facts) (t : Resvs) where
   -- facts before and after
   abbrev pub before_put : Facts
   before_put = with_resvs st t f

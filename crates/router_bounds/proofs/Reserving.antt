@@ -28,7 +28,7 @@ use Rattle.router_rules.specs.Facts.{Facts, Resvs, ResvState, ResvTables, no_res
 use Rattle.router_rules.specs.Forgetting.{forget, is_lost}
 use Rattle.router_rules.specs.Inputs.{Input, Call, Wait, Clear, Came, Moved, Spelt, Unspelt}
 use Rattle.router_rules.specs.Known.{known}
-use Rattle.router_rules.specs.Place.{Place, goes_out, lifetime, period}
+use Rattle.router_rules.specs.NodeConfig.{NodeConfig, goes_out, lifetime, period}
 use Rattle.router_lookups.specs.RuleLaws.{IsLeft}
 use Rattle.router_lookups.proofs.Leaving.{as_it_was, got_forget, left_told, table_other, waiting_leaves_the_living}
 use Rattle.router_inputs.proofs.Receiving.{resv_tears_by_names}
@@ -38,27 +38,27 @@ use Rattle.router_bounds.proofs.Putting.{IsPut, put_booked, put_limits, put_sour
 use Rattle.router_bounds.proofs.Shrinking.{fewer_booked, fewer_limits, fewer_shapes}
 
 -- ---- lifetimes: a new one is at least 1, and at most what a full period gives
-pub lifetime_some : (p : Place) (n : ℕ) → 0 < lifetime p n
+pub lifetime_some : (p : NodeConfig) (n : ℕ) → 0 < lifetime p n
 lifetime_some p n = omega arith
 
-pub lifetime_most : (p : Place) (n : ℕ) → lifetime p n ≤ lifetime p (period p)
+pub lifetime_most : (p : NodeConfig) (n : ℕ) → lifetime p n ≤ lifetime p (period p)
 lifetime_most p n = omega arith
 
-pub lives_new : (p : Place) (c n dies : ℕ) → dies ≡ c + lifetime p n → LivesUpTo c (lifetime p (period p)) dies
+pub lives_new : (p : NodeConfig) (c n dies : ℕ) → dies ≡ c + lifetime p n → LivesUpTo c (lifetime p (period p)) dies
 lives_new p c n dies e = let some = lifetime_some p n in let most = lifetime_most p n in record { later = omega (arith, e, some); soon = omega (arith, e, most) }
 
 -- ---- reservations within bounds
-pub record AreResvsWithin (p : Place) (c : ℕ) (f : Facts) : Type 0 where
+pub record AreResvsWithin (p : NodeConfig) (c : ℕ) (f : Facts) : Type 0 where
   pub lives : (st : StyleKind) (k : LineKey) (r : ResvState) → get (resvs_of st f) k ≡ Some r → LivesUpTo c (lifetime p (period p)) r.dies
   pub shapes : (st : StyleKind) (k : LineKey) (r : ResvState) → get (resvs_of st f) k ≡ Some r → IsShaped p st k r
   pub limits : (st : StyleKind) → IsWithinLimits st (lines_of st (resvs_of st f))
   pub booked : AreBooked p f
 
-pub of_bounds : (p : Place) (c : ℕ) (f : Facts) → IsWithinBounds p c f → AreResvsWithin p c f
+pub of_bounds : (p : NodeConfig) (c : ℕ) (f : Facts) → IsWithinBounds p c f → AreResvsWithin p c f
 of_bounds p c f w = record { lives = w.alive.resvs; shapes = w.shapes.resvs; limits = w.limits.resvs; booked = w.booked }
 
 -- they depend on the reservations alone
-pub same_resvs : (p : Place) (c : ℕ) (f g : Facts) → f.resvs ≡ g.resvs → AreResvsWithin p c f → AreResvsWithin p c g
+pub same_resvs : (p : NodeConfig) (c : ℕ) (f g : Facts) → f.resvs ≡ g.resvs → AreResvsWithin p c f → AreResvsWithin p c g
 same_resvs p c f g same w =
     let moved : AreResvsWithin p c (record f { resvs = g.resvs }) = subst (λ (ts : ResvTables). AreResvsWithin p c (record f { resvs = ts })) same w in
     record {
@@ -69,7 +69,7 @@ same_resvs p c f g same w =
     }
 
 -- fewer of them, of which each lives longer than the clock
-pub fewer_resvs : (p : Place) (b c : ℕ) (f g : Facts) → b ≤ c → AreFewer f g → ((st : StyleKind) (k : LineKey) (r : ResvState) → get (resvs_of st g) k ≡ Some r → c < r.dies) → AreResvsWithin p b f → AreResvsWithin p c g
+pub fewer_resvs : (p : NodeConfig) (b c : ℕ) (f g : Facts) → b ≤ c → AreFewer f g → ((st : StyleKind) (k : LineKey) (r : ResvState) → get (resvs_of st g) k ≡ Some r → c < r.dies) → AreResvsWithin p b f → AreResvsWithin p c g
 fewer_resvs p b c f g later less lives w =
     record {
       lives = λ st k x e.
@@ -83,7 +83,7 @@ fewer_resvs p b c f g later less lives w =
     }
 
 -- fewer of them at the same moment
-pub fewer_now : (p : Place) (c : ℕ) (f g : Facts) → AreFewer f g → AreResvsWithin p c f → AreResvsWithin p c g
+pub fewer_now : (p : NodeConfig) (c : ℕ) (f g : Facts) → AreFewer f g → AreResvsWithin p c f → AreResvsWithin p c g
 fewer_now p c f g less w =
     fewer_resvs p c c f g (omega arith) less (λ st k x e. let r = less st k x e in let lives = (w.lives st k r.0 r.1).later in let same = r.2.dies in omega (arith, lives, same)) w
 
@@ -106,11 +106,11 @@ forgotten_fewer before after st k x e =
     let r = got_forget before after st k x e in (r.0, r.1, left_is_left (λ y. not (is_lost st before after k.0 y)) r.0 x (left_told (λ y. not (is_lost st before after k.0 y)) r.0 x r.2))
 
 -- once names are forgotten
-pub forgotten_within : (p : Place) (c : ℕ) (before after : Facts) → AreResvsWithin p c after → AreResvsWithin p c (forget before after)
+pub forgotten_within : (p : NodeConfig) (c : ℕ) (before after : Facts) → AreResvsWithin p c after → AreResvsWithin p c (forget before after)
 forgotten_within p c before after w = fewer_now p c after (forget before after) (forgotten_fewer before after) w
 
 -- ---- a reservation takes its place, where the table has room and the book does not refuse it
-pub placed_within : (p : Place) (c : ℕ) (st : StyleKind) (k : LineKey) (x : ResvState) (f : Facts) (t : Resvs) → LivesUpTo c (lifetime p (period p)) x.dies → IsShaped p st k x → fits st (put_in t k x) ≡ true
+pub placed_within : (p : NodeConfig) (c : ℕ) (st : StyleKind) (k : LineKey) (x : ResvState) (f : Facts) (t : Resvs) → LivesUpTo c (lifetime p (period p)) x.dies → IsShaped p st k x → fits st (put_in t k x) ≡ true
     → refused p k.1.0.0 (entry_of st k) (book (with_resvs st (put_in t k x) f) k.1.0.0) ≡ None → AreResvsWithin p c (with_resvs st t f) → AreResvsWithin p c (with_resvs st (put_in t k x) f)
 placed_within p c st k x f t lives shape room open_to w =
     record {
@@ -125,11 +125,11 @@ placed_within p c st k x f t lives shape room open_to w =
     }
 
 -- a table put where it stood
-pub replaced_within : (p : Place) (c : ℕ) (st : StyleKind) (f : Facts) → AreResvsWithin p c f → AreResvsWithin p c (with_resvs st (resvs_of st f) f)
+pub replaced_within : (p : NodeConfig) (c : ℕ) (st : StyleKind) (f : Facts) → AreResvsWithin p c f → AreResvsWithin p c (with_resvs st (resvs_of st f) f)
 replaced_within p c st f w = same_resvs p c f (with_resvs st (resvs_of st f) f) (sym (as_it_was st f.resvs)) w
 
 -- ---- a Resv
-module _ (p : Place) (c e : ℕ) (m : ResvMsg) (f : Facts) (inside : e < length p.ifaces) (proper : IsProperAsk m.ask) where
+module _ (p : NodeConfig) (c e : ℕ) (m : ResvMsg) (f : Facts) (inside : e < length p.ifaces) (proper : IsProperAsk m.ask) where
   abbrev o : Asker
   o = asker_of p c e m
 
@@ -171,7 +171,7 @@ tear_fewer e m f named st k x h =
     (style_same st (tear_style m.tear))
 
 -- ---- each input
-spelt_within : (p : Place) (c e : ℕ) (m : Message) (b : Bool) (f : Facts) → e < length p.ifaces → IsProper m → AreResvsWithin p c f → AreResvsWithin p c (act_spelt p c e m b f).facts
+spelt_within : (p : NodeConfig) (c e : ℕ) (m : Message) (b : Bool) (f : Facts) → e < length p.ifaces → IsProper m → AreResvsWithin p c f → AreResvsWithin p c (act_spelt p c e m b f).facts
 spelt_within p c e m false f inside proper w = w
 spelt_within p c e (message.Resv m) true f inside proper w = resv_within p c e m f inside proper w
 spelt_within p c e (message.ResvTear m) true f inside proper w = fewer_now p c f (act_resv_tear e m f).facts (tear_fewer e m f (λ st k r h. (w.shapes st k r h).style.named)) w
@@ -186,7 +186,7 @@ no_resv f Wild k r e = absurd (cc)
 no_resv f Fixed k r e = absurd (cc)
 no_resv f Shared k r e = absurd (cc)
 
-act_within : (p : Place) (b : ℕ) (i : Input) (f : Facts) → IsFit p i → AreResvsWithin p b f → AreResvsWithin p (clock_after b i) (act p (clock_after b i) i f).facts
+act_within : (p : NodeConfig) (b : ℕ) (i : Input) (f : Facts) → IsFit p i → AreResvsWithin p b f → AreResvsWithin p (clock_after b i) (act p (clock_after b i) i f).facts
 act_within p b (Call l) f fit w = same_resvs p b f (act p b (Call l) f).facts refl w
 act_within p b (Wait ms word) f fit w =
     fewer_resvs p b (b + ms) f (act p (b + ms) (Wait ms word) f).facts (omega arith)
@@ -198,7 +198,7 @@ act_within p b Moved f fit w = w
 act_within p b (Came e dst (Unspelt m)) f fit w = same_resvs p b f (act p b (Came e dst (Unspelt m)) f).facts refl w
 act_within p b (Came e dst (Spelt m)) f fit w = spelt_within p b e m (is_mine p e dst m) f fit.0 fit.1 w
 
-pub resvs_within : (old p : Place) (b : ℕ) (i : Input) (f : Facts) → IsFit p i → AreResvsWithin p b f → AreResvsWithin p (clock_after b i) (facts_then old p (clock_after b i) i f)
+pub resvs_within : (old p : NodeConfig) (b : ℕ) (i : Input) (f : Facts) → IsFit p i → AreResvsWithin p b f → AreResvsWithin p (clock_after b i) (facts_then old p (clock_after b i) i f)
 resvs_within old p b i f fit w =
     let c = clock_after b i in
     same_resvs p (clock_after b i) (forget f (act p (clock_after b i) i f).facts) (facts_then old p (clock_after b i) i f) refl

@@ -21,7 +21,7 @@ use Rattle.style_rules.proofs.StyleLaws.{within_style, within_unit}
 use Rattle.router_rules.specs.Books.{book, line_of, lines, lines_of}
 use Rattle.router_rules.specs.Bounds.{AreBooked}
 use Rattle.router_rules.specs.Facts.{Facts, Resvs, ResvState, resvs_of}
-use Rattle.router_rules.specs.Place.{Place}
+use Rattle.router_rules.specs.NodeConfig.{NodeConfig}
 use Rattle.router_lookups.proofs.Requesting.{lines_told, to_lines}
 use Rattle.router_rules.specs.Steps.{AreFewer, IsLeftOf}
 use Rattle.router_bounds.specs.BoundLaws.{FewerFactsSmallerBook, ResvsAreShaped}
@@ -58,7 +58,7 @@ module _ (f g : Facts) (less : AreFewer f g) where
       let r = less st t.0 t.1 t.2 in
       (line_of st (t.0, r.0), to_table_lines st (resvs_of st f) t.0 r.0 r.1, line_under st t.0 r.0 t.1 l (left_at_most r.0 t.1 r.2) t.3)
 
-  pub fewer_shapes : (p : Place) → ResvsAreShaped p f → ResvsAreShaped p g
+  pub fewer_shapes : (p : NodeConfig) → ResvsAreShaped p f → ResvsAreShaped p g
   fewer_shapes p shaped st k x e =
       let r = less st k x e in
       let s = shaped st k r.0 r.1 in
@@ -81,7 +81,7 @@ module _ (f g : Facts) (less : AreFewer f g) where
   pub fewer_entries : (i : ℕ) (k : EntryKey) (x : Part) → get (book g i) k ≡ Some x → (y : Part) × (get (book f i) k ≡ Some y) × IsPartAtMost x y
   fewer_entries i k x e = book_below (at_end i (lines g)) (at_end i (lines f)) (under_at_end i (lines g) (lines f) lines_under) k x e
 
-  pub fewer_booked : (p : Place) → AreBooked p f → AreBooked p g
+  pub fewer_booked : (p : NodeConfig) → AreBooked p f → AreBooked p g
   fewer_booked p w =
       record {
         capacity = λ i on e. let less = fewer_held i in let most = w.capacity i on e in omega (arith, less, most);

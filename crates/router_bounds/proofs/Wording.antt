@@ -45,14 +45,14 @@ use Rattle.style_rules.proofs.StyleLaws.{cut_of_style, fixed_parts, wild_parts}
 use Rattle.router_rules.specs.declared.answers.Heard.TheVariants as heard
 use Rattle.router_rules.specs.declared.answers.Why.TheVariants as why
 use Rattle.router_rules.specs.Act.{act, act_spelt, is_mine}
-use Rattle.router_rules.specs.Asking.{Asker, act_resv, ask_of, ask_of_part, asker_of, asked_of, flow_at, flows_by_sender, lost, matched, names_that_match, nothing_taken, refusal, style_conflict, taking, taking_of, unmatched}
+use Rattle.router_rules.specs.Asking.{Asker, act_resv, ask_of, ask_of_part, asker_of, asked_of, flow_at, flows_by_sender, lost, matched, names_that_match, nothing_taken, refusal, style_conflict, taking, taking_of, unmatched, Nobody, These, as_listed}
 use Rattle.router_rules.specs.Bounds.{IsWantShape, IsWantShaped, IsWithinBounds}
 use Rattle.router_rules.specs.Confirming.{confs_heard, confs_on}
 use Rattle.router_rules.specs.Errors.{blamed, errors_on, lane_of, path_err, path_err_on, replied, reply_to}
 use Rattle.router_rules.specs.Facts.{Facts, PathState, ResvState, Want, WantKey, resvs_of}
 use Rattle.router_rules.specs.Inputs.{Asked, Call, Came, Clear, ConfSend, ErrSend, Input, Moved, Send, Spelt, Unspelt, Wait}
 use Rattle.router_rules.specs.Known.{Lane, known, named_as, names_via, names_via_where, via}
-use Rattle.router_rules.specs.Place.{Place, goes_out, is_own}
+use Rattle.router_rules.specs.NodeConfig.{NodeConfig, goes_out, is_own}
 use Rattle.router_rules.specs.Requests.{requests, toward, want_part}
 use Rattle.router_rules.specs.Rule.{settled}
 use Rattle.router_rules.specs.Sends.{conf_for, confirmed, error_message, goes_on, gone_names, tear_of, without_scope}
@@ -74,6 +74,7 @@ use Rattle.router_inputs.proofs.Stepping.{offer_of, offer_source, send_told}
 use Rattle.router_bounds.specs.ProperLaws.{WhatIsSentIsProper}
 use Rattle.router_bounds.proofs.Bounded.{kept_within, same_node}
 use Rattle.router_bounds.proofs.Folding.{IsUnitShape, names_listed, unit_shape}
+use Rattle.router_lookups.proofs.Blame.{never_nobody, one_list, sent_listing, these_are}
 
 -- ---- names of a style
 scope_of : (names : Names) → ((x : Sender) → has names x ≡ true → name_of Wild x ≡ x) → IsScope names
@@ -107,18 +108,22 @@ unit_blame (ask.Shared part) proper u i =
     ⊎_elim (λ (is : u ≡ record { unit = One; names = Some part.senders; flow = part.flow }). subst (λ (z : AskedUnit). IsProperBlameOf Shared z.names (Some z.flow)) (sym is) (proper.some, proper.flow)) (λ (n : ⊥). absurd n) i
 
 -- ---- those who do not match
-rest_of : (ns all : Names) (names : Option Names) → unmatched (Some ns) all ≡ Some names → (names ≡ Some (kept (λ x. not (has all x)) ns)) × (is_none (kept (λ x. not (has all x)) ns) ≡ false)
+rest_of : (ns all : Names) (names : Option Names) → unmatched (Some ns) all ≡ as_listed names → (names ≡ Some (kept (λ x. not (has all x)) ns)) × (is_none (kept (λ x. not (has all x)) ns) ≡ false)
 rest_of ns all names e = by (is_none (kept (λ x. not (has all x)) ns)) refl e
   where
-    by : (b : Bool) → is_none (kept (λ x. not (has all x)) ns) ≡ b → cond b None (Some (Some (kept (λ x. not (has all x)) ns))) ≡ Some names → (names ≡ Some (kept (λ x. not (has all x)) ns)) × (is_none (kept (λ x. not (has all x)) ns) ≡ false)
-    by true is e = absurd (cc)
-    by false is e = (sym (some_same (Some (kept (λ x. not (has all x)) ns)) names e), is)
+    by : (b : Bool) → is_none (kept (λ x. not (has all x)) ns) ≡ b → cond b Nobody (These (kept (λ x. not (has all x)) ns)) ≡ as_listed names → (names ≡ Some (kept (λ x. not (has all x)) ns)) × (is_none (kept (λ x. not (has all x)) ns) ≡ false)
+    by true is e = never_nobody names e
+    by false is e = (these_are names (kept (λ x. not (has all x)) ns) e, is)
 
 rest_within : (ns all : Names) → IsWithin (kept (λ x. not (has all x)) ns) ns
 rest_within ns all x e = (and_both _ _ (sym (has-kept senders (λ x. not (has all x)) ns x) ∙ e)).0
 
-lost_blame : (st : StyleKind) (given : Option Names) (all : Names) (flow : TokenBucket) (names : Option Names) → IsProperBlameOf st given (Some flow) → lost st given all ≡ Some names → IsProperBlameOf st names (Some flow)
-lost_blame Wild given all flow names h e = subst (λ z. IsProperBlameOf Wild z (Some flow)) (some_same given names (passed (is_none (names_that_match given all)) (Some given) names e).1) h
+lost_blame : (st : StyleKind) (given : Option Names) (all : Names) (flow : TokenBucket) (names : Option Names) → IsProperBlameOf st given (Some flow) → lost st given all ≡ as_listed names → IsProperBlameOf st names (Some flow)
+lost_blame Wild given all flow names h e = subst (λ z. IsProperBlameOf Wild z (Some flow)) (by (is_none (names_that_match given all)) e) h
+  where
+    by : (b : Bool) → cond b (as_listed given) Nobody ≡ as_listed names → given ≡ names
+    by true e = one_list given names e
+    by false e = never_nobody names e
 lost_blame Fixed None all flow names h e = absurd h
 lost_blame Fixed (Some ns) all flow names h e =
     let r = rest_of ns all names e in subst (λ z. IsProperBlameOf Fixed z (Some flow)) (sym r.0) (still_one (kept (λ x. not (has all x)) ns) ns (rest_within ns all) h.0 r.1, h.1)
@@ -132,7 +137,7 @@ IsProperError e = IsProper (error_message e.error)
 unit_among : (us front back : List AskedUnit) (u : AskedUnit) → us ≡ front ++ u ∷ back → In u us
 unit_among us front back u is = subst (λ zs. In u zs) (sym is) (in_right u front (u ∷ back) (inl refl))
 
-module _ (p : Place) (c e : ℕ) (m : ResvMsg) (f : Facts) (proper : IsProperAsk m.ask) where
+module _ (p : NodeConfig) (c e : ℕ) (m : ResvMsg) (f : Facts) (proper : IsProperAsk m.ask) where
   abbrev o : Asker
   o = asker_of p c e m
 
@@ -161,47 +166,47 @@ module _ (p : Place) (c e : ℕ) (m : ResvMsg) (f : Facts) (proper : IsProperAsk
   resv_errors x i = taking_errors (is_none (known f m.session)) (style_conflict f m.session (ask_style m.ask)) x i
 
 -- ---- errors that go on
-some_none : (st : StyleKind) (given : Names) (all : Names) (names : Option Names) → blamed st (Some given) all ≡ Some names → (names ≡ Some (cut all given)) × (is_none (cut all given) ≡ false)
+some_none : (st : StyleKind) (given : Names) (all : Names) (names : Option Names) → blamed st (Some given) all ≡ as_listed names → (names ≡ Some (cut all given)) × (is_none (cut all given) ≡ false)
 some_none st given all names e = by (is_none (cut all given)) refl (as_cond st ∙ e)
   where
-    as_cond : (st : StyleKind) → cond (is_none (cut all given)) None (Some (Some (cut all given))) ≡ blamed st (Some given) all
+    as_cond : (st : StyleKind) → cond (is_none (cut all given)) Nobody (These (cut all given)) ≡ blamed st (Some given) all
     as_cond Wild = refl
     as_cond Fixed = refl
     as_cond Shared = refl
 
-    by : (b : Bool) → is_none (cut all given) ≡ b → cond b None (Some (Some (cut all given))) ≡ Some names → (names ≡ Some (cut all given)) × (is_none (cut all given) ≡ false)
-    by true is e = absurd (cc)
-    by false is e = (sym (some_same (Some (cut all given)) names e), is)
+    by : (b : Bool) → is_none (cut all given) ≡ b → cond b Nobody (These (cut all given)) ≡ as_listed names → (names ≡ Some (cut all given)) × (is_none (cut all given) ≡ false)
+    by true is e = never_nobody names e
+    by false is e = (these_are names (cut all given) e, is)
 
 cut_in : (all given : Names) → IsWithin (cut all given) all
 cut_in all given x e = (and_both _ _ (sym (has-cut senders all given x) ∙ e)).0
 
-blamed_proper : (st : StyleKind) (given : Option Names) (part : Part) (flow : Option TokenBucket) (names : Option Names) → IsOfStyle st part → IsProperBlameOf st given flow → blamed st given part.senders ≡ Some names → IsProperBlameOf st names flow
+blamed_proper : (st : StyleKind) (given : Option Names) (part : Part) (flow : Option TokenBucket) (names : Option Names) → IsOfStyle st part → IsProperBlameOf st given flow → blamed st given part.senders ≡ as_listed names → IsProperBlameOf st names flow
 blamed_proper Wild (Some ns) part flow names is h e =
     let r = some_none Wild ns part.senders names e in
     subst (λ z. IsProperBlameOf Wild z flow) (sym r.0) (scope_of (cut part.senders ns) (λ x g. is.listed x (cut_in part.senders ns x g)), h.1)
-blamed_proper Wild None part flow names is h e = subst (λ z. IsProperBlameOf Wild z flow) (some_same (Some part.senders) names e) (scope_of part.senders is.listed, h.1)
+blamed_proper Wild None part flow names is h e = subst (λ z. IsProperBlameOf Wild z flow) (sym (these_are names part.senders e)) (scope_of part.senders is.listed, h.1)
 blamed_proper Fixed (Some ns) part None names is h e = absurd h
 blamed_proper Fixed (Some ns) part (Some flow) names is h e =
     let r = some_none Fixed ns part.senders names e in
     subst (λ z. IsProperBlameOf Fixed z (Some flow)) (sym r.0) (still_one (cut part.senders ns) part.senders (cut_in part.senders ns) ((fixed_parts part).0 is) r.1, h.1)
-blamed_proper Fixed None part flow names is h e = subst (λ z. IsProperBlameOf Fixed z flow) (some_same None names e) h
+blamed_proper Fixed None part flow names is h e = subst (λ z. IsProperBlameOf Fixed z flow) (one_list None names e) h
 blamed_proper Shared (Some ns) part None names is h e = absurd h
 blamed_proper Shared (Some ns) part (Some flow) names is h e =
     let r = some_none Shared ns part.senders names e in subst (λ z. IsProperBlameOf Shared z (Some flow)) (sym r.0) (some_name (cut part.senders ns) r.1, h.1)
-blamed_proper Shared None part flow names is h e = subst (λ z. IsProperBlameOf Shared z flow) (some_same None names e) h
+blamed_proper Shared None part flow names is h e = subst (λ z. IsProperBlameOf Shared z flow) (one_list None names e) h
 
-error_proper : (p : Place) (f : Facts) (l : Lane) (m : ResvErrMsg) → l.style ≡ m.blame.style → IsProper (message.ResvErr m) → ((st : StyleKind) (k : LineKey) (r : ResvState) → get (resvs_of st f) k ≡ Some r → IsOfStyle st r.part) → (x : ErrSend) → In x (errors_on p f l m) → IsProperError x
+error_proper : (p : NodeConfig) (f : Facts) (l : Lane) (m : ResvErrMsg) → l.style ≡ m.blame.style → IsProper (message.ResvErr m) → ((st : StyleKind) (k : LineKey) (r : ResvState) → get (resvs_of st f) k ≡ Some r → IsOfStyle st r.part) → (x : ErrSend) → In x (errors_on p f l m) → IsProperError x
 error_proper p f l m same proper shaped x i =
     let r = (errors_once_each.exactly p f l m x).0 i in
     let q = r.spoken in
-    let is = some_same _ (r.hop, x) r.is in
-    let blames : blamed m.blame.style m.blame.senders q.resv.part.senders ≡ Some r.names = ap (λ st. blamed st m.blame.senders q.resv.part.senders) (sym same) ∙ q.blames in
+    let is = some_same _ (r.hop, x) (sym (sent_listing p m r.hop r.names) ∙ r.is) in
+    let blames : blamed m.blame.style m.blame.senders q.resv.part.senders ≡ as_listed r.names = ap (λ st. blamed st m.blame.senders q.resv.part.senders) (sym same) ∙ q.blames in
     let style : IsOfStyle m.blame.style q.resv.part = subst (λ st. IsOfStyle st q.resv.part) same (shaped l.style (l.session, (r.hop, r.unit)) q.resv q.there) in
     subst (λ (z : NextHop × ErrSend). IsProperError z.1) is (blamed_proper m.blame.style m.blame.senders q.resv.part m.blame.flow r.names style proper blames)
 
 -- ---- errors of each input
-module _ (p : Place) (c : ℕ) (f : Facts) (shaped : (st : StyleKind) (k : LineKey) (r : ResvState) → get (resvs_of st f) k ≡ Some r → IsOfStyle st r.part) where
+module _ (p : NodeConfig) (c : ℕ) (f : Facts) (shaped : (st : StyleKind) (k : LineKey) (r : ResvState) → get (resvs_of st f) k ≡ Some r → IsOfStyle st r.part) where
   path_err_proper : (e : ℕ) (m : PathErrMsg) (o : Option Sender) (x : ErrSend) → In x (path_err p e m o f).0 → IsProperError x
   path_err_proper e m None x i = absurd i
   path_err_proper e m (Some s) x i = by (goes_out p m.session e s) i
@@ -287,7 +292,7 @@ no_scope (ask.Fixed list) h = (h, tt)
 no_scope (ask.Shared part) h = (h, tt)
 
 -- ---- confirmations
-taken_fine : (p : Place) (c e : ℕ) (m : ResvMsg) (f : Facts) → IsProperAsk m.ask → (b : Bool) (other : Option StyleKind) → AreFine (ask_style m.ask) (taking_of p (asker_of p c e m) (asked_units m.ask) f b other).taken
+taken_fine : (p : NodeConfig) (c e : ℕ) (m : ResvMsg) (f : Facts) → IsProperAsk m.ask → (b : Bool) (other : Option StyleKind) → AreFine (ask_style m.ask) (taking_of p (asker_of p c e m) (asked_units m.ask) f b other).taken
 taken_fine p c e m f proper true other u part g = absurd (cc)
 taken_fine p c e m f proper false (Some other) u part g = absurd (cc)
 taken_fine p c e m f proper false None u part g =
@@ -302,7 +307,7 @@ taken_fine p c e m f proper false None u part g =
 abbrev IsProperWish : Option Asked → Type 0
 IsProperWish w = (a : Asked) (taken : Ask) → w ≡ Some a → a.taken ≡ Some taken → IsProperAsk taken
 
-asked_proper : (p : Place) (c e : ℕ) (m : ResvMsg) (f : Facts) → IsProperAsk m.ask → IsProperWish (act_resv p c e m f).asked
+asked_proper : (p : NodeConfig) (c e : ℕ) (m : ResvMsg) (f : Facts) → IsProperAsk m.ask → IsProperWish (act_resv p c e m f).asked
 asked_proper p c e m f proper a taken is t = by m.confirm is
   where
     ps : PartTable
@@ -317,7 +322,7 @@ asked_proper p c e m f proper a taken is t = by m.confirm is
 no_wish : IsProperWish None
 no_wish a taken is t = absurd (cc)
 
-spelt_wish : (p : Place) (c e : ℕ) (m : Message) (b : Bool) (f : Facts) → IsProper m → IsProperWish (act_spelt p c e m b f).asked
+spelt_wish : (p : NodeConfig) (c e : ℕ) (m : Message) (b : Bool) (f : Facts) → IsProper m → IsProperWish (act_spelt p c e m b f).asked
 spelt_wish p c e m false f proper = no_wish
 spelt_wish p c e (message.Resv m) true f proper = asked_proper p c e m f proper
 spelt_wish p c e (message.Path m) true f proper = no_wish
@@ -327,7 +332,7 @@ spelt_wish p c e (message.PathTear m) true f proper = no_wish
 spelt_wish p c e (message.ResvTear m) true f proper = no_wish
 spelt_wish p c e (message.ResvConf m) true f proper = no_wish
 
-wish_proper : (p : Place) (c : ℕ) (i : Input) (f : Facts) → IsFit p i → IsProperWish (act p c i f).asked
+wish_proper : (p : NodeConfig) (c : ℕ) (i : Input) (f : Facts) → IsFit p i → IsProperWish (act p c i f).asked
 wish_proper p c (Call l) f fit = no_wish
 wish_proper p c (Wait ms word) f fit = no_wish
 wish_proper p c Clear f fit = no_wish
@@ -346,7 +351,7 @@ confs_on_proper m f own x proper i = by own (confs_on m f) (λ j. j) i
     by false [] all i = absurd i
     by false (s ∷ ss) all i = let r = conf_told m f x (all i) in subst IsProperConf (sym r.is) proper
 
-spelt_confs : (p : Place) (c e : ℕ) (m : Message) (b : Bool) (f : Facts) → IsProper m → (x : ConfSend) → In x (act_spelt p c e m b f).confs → IsProperConf x
+spelt_confs : (p : NodeConfig) (c e : ℕ) (m : Message) (b : Bool) (f : Facts) → IsProper m → (x : ConfSend) → In x (act_spelt p c e m b f).confs → IsProperConf x
 spelt_confs p c e m false f proper x i = absurd i
 spelt_confs p c e (message.ResvConf m) true f proper x i = confs_on_proper m f (is_own p m.confirm) x proper i
 spelt_confs p c e (message.Resv m) true f proper x i = absurd i
@@ -356,7 +361,7 @@ spelt_confs p c e (message.ResvErr m) true f proper x i = absurd i
 spelt_confs p c e (message.PathTear m) true f proper x i = absurd i
 spelt_confs p c e (message.ResvTear m) true f proper x i = absurd i
 
-act_confs : (p : Place) (c : ℕ) (i : Input) (f : Facts) → IsFit p i → (x : ConfSend) → In x (act p c i f).confs → IsProperConf x
+act_confs : (p : NodeConfig) (c : ℕ) (i : Input) (f : Facts) → IsFit p i → (x : ConfSend) → In x (act p c i f).confs → IsProperConf x
 act_confs p c (Call l) f fit x h = absurd h
 act_confs p c (Wait ms word) f fit x h = absurd h
 act_confs p c Clear f fit x h = absurd h
@@ -364,7 +369,7 @@ act_confs p c Moved f fit x h = absurd h
 act_confs p c (Came e dst (Unspelt m)) f fit x h = absurd h
 act_confs p c (Came e dst (Spelt m)) f fit x h = spelt_confs p c e m (is_mine p e dst m) f fit.1 x h
 
-confirmed_proper : (old p : Place) (before after : Facts) (w : Option Asked) → IsProperWish w → (x : ConfSend) → In x (confirmed old p before after w) → IsProperConf x
+confirmed_proper : (old p : NodeConfig) (before after : Facts) (w : Option Asked) → IsProperWish w → (x : ConfSend) → In x (confirmed old p before after w) → IsProperConf x
 confirmed_proper old p before after None h x i = absurd i
 confirmed_proper old p before after (Some a) h x i = by (goes_on old p before after a) i
   where
@@ -377,7 +382,7 @@ confirmed_proper old p before after (Some a) h x i = by (goes_on old p before af
     by false i = made a.taken refl i
 
 -- ---- what goes toward a hop
-module _ (p : Place) (c : ℕ) (g : Facts) (w : IsWithinBounds p c g) (l : Lane) where
+module _ (p : NodeConfig) (c : ℕ) (g : Facts) (w : IsWithinBounds p c g) (l : Lane) where
   of_want : (st : StyleKind) (k : WantKey) (want : Want) (names : Names) (x : Part) → IsWantShaped k want → want.style ≡ st → ((y : Sender) → has names y ≡ true → name_of st y ≡ y) → want_part st names want.part ≡ Some x → IsOfStyle st x × IsSound x.flow
   of_want Wild k want names x shaped is listed e =
       let m = made_of names want.part.flow x e in (
@@ -430,7 +435,7 @@ tear_proper Fixed names rest v some = some_name (cut names (named_as Fixed v)) s
 tear_proper Shared names rest v some = some_name (cut names (named_as Shared v)) some
 
 -- ---- all sends
-module _ (old p : Place) (b : ℕ) (i : Input) (f : Facts) (some : 1 ≤ p.quarter) (fit : IsFit p i) (w : IsWithinBounds p b f) where
+module _ (old p : NodeConfig) (b : ℕ) (i : Input) (f : Facts) (some : 1 ≤ p.quarter) (fit : IsFit p i) (w : IsWithinBounds p b f) where
   abbrev after : Facts
   after = settled p (clock_after b i) f (act p (clock_after b i) i f).facts
 

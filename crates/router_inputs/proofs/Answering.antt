@@ -9,9 +9,9 @@ use Rattle.rsvp_messages.specs.declared.fault.MsgErr.{MsgErr}
 use Rattle.rsvp_messages.specs.declared.message.Kind.{Kind}
 use Rattle.rsvp_messages.specs.declared.message.Kind.TheVariants as kind
 use Rattle.router_rules.specs.Act.{act_spelt}
-use Rattle.router_rules.specs.Errors.{PathFrom, ResvFrom, addressee, answer_of, fault_code, replied, reply, reply_to, with_errors}
+use Rattle.router_rules.specs.Errors.{PathFrom, ResvFrom, addressee, fault_code, replied, reply, reply_to, with_errors}
 use Rattle.router_rules.specs.Inputs.{ErrSend}
-use Rattle.router_rules.specs.Place.{Place, is_addr, own}
+use Rattle.router_rules.specs.NodeConfig.{NodeConfig, is_addr, own}
 use Rattle.router_lookups.proofs.Lists.{passed, some_same}
 use Rattle.router_lookups.proofs.Tests.{addr_told, addr_tested}
 use Rattle.router_inputs.specs.ErrorLaws.{ArrivalsByAddress, FaultsByHint, IsPathReply, IsResvReply, path_reply, resv_reply}
@@ -20,19 +20,13 @@ pub arrivals_by_address : ArrivalsByAddress
 arrivals_by_address =
     record { not_mine = λ p c e dst m f no_. ap (λ b. act_spelt p c e m b f) no_; mine = λ p c e dst m f yes. ap (λ b. act_spelt p c e m b f) yes; unspelt = λ p c e dst m f. refl }
 
--- the reply and the code, by the parts of the hint
-module _ (p : Place) (e : ℕ) (dst : Addr) (m : MsgErr) where
+-- the reply, by the parts of the hint
+module _ (p : NodeConfig) (e : ℕ) (dst : Addr) (m : MsgErr) where
   abbrev reply_by : Option Kind → Option Session → Option Hop → Option StyleKind → Option ErrSend
   reply_by kd ss hh st = option_and_then (λ k. option_and_then (λ a. option_and_then (λ code. reply p e dst code a) (fault_code k m.fault)) (addressee k ss hh st m.hint.sender)) kd
 
-  abbrev code_by : Option Kind → Option Session → Option Hop → Option StyleKind → Option (ℕ × ℕ)
-  code_by kd ss hh st = option_and_then (λ k. option_and_then (λ a. fault_code k m.fault) (addressee k ss hh st m.hint.sender)) kd
-
   replied_by : (kd : Option Kind) (ss : Option Session) (hh : Option Hop) (st : Option StyleKind) → m.kind ≡ kd → m.hint.session ≡ ss → m.hint.hop ≡ hh → m.hint.style ≡ st → reply_to p e dst m ≡ reply_by kd ss hh st
   replied_by kd ss hh st a b c d = λ i. reply_by (a i) (b i) (c i) (d i)
-
-  coded_by : (kd : Option Kind) (ss : Option Session) (hh : Option Hop) (st : Option StyleKind) → m.kind ≡ kd → m.hint.session ≡ ss → m.hint.hop ≡ hh → m.hint.style ≡ st → answer_of m ≡ code_by kd ss hh st
-  coded_by kd ss hh st a b c d = λ i. code_by (a i) (b i) (c i) (d i)
 
   -- to a Path's hop, and to a Resv's
   path_told : (s : Session) (h : Hop) (st : Option StyleKind) (code : Option (ℕ × ℕ)) (out : ErrSend) → m.kind ≡ Some kind.Path → m.hint.session ≡ Some s → m.hint.hop ≡ Some h → m.hint.style ≡ st → fault_code kind.Path m.fault ≡ code
@@ -47,7 +41,7 @@ module _ (p : Place) (e : ℕ) (dst : Addr) (m : MsgErr) where
         of_kind = a;
         of = b;
         by = c;
-        told = coded_by (Some kind.Path) (Some s) (Some h) st a b c d ∙ f;
+        told = f;
         mine = addr_told dst s.group q.0;
         is = sym (some_same _ _ q.1);
       }
@@ -66,7 +60,7 @@ module _ (p : Place) (e : ℕ) (dst : Addr) (m : MsgErr) where
         of = b;
         by = c;
         in_style = d;
-        told = coded_by (Some kind.Resv) (Some s) (Some h) (Some st) a b c d ∙ f;
+        told = f;
         mine = addr_told dst (own p e) q.0;
         is = sym (some_same _ _ q.1);
       }
@@ -90,13 +84,13 @@ module _ (p : Place) (e : ℕ) (dst : Addr) (m : MsgErr) where
   path_made : (out : ErrSend) → IsPathReply p e dst m out → reply_to p e dst m ≡ Some out
   path_made out q =
       replied_by (Some kind.Path) (Some q.session) (Some q.hop) m.hint.style q.of_kind q.of q.by refl
-      ∙ ap (option_and_then (λ c. reply p e dst c (PathFrom q.session q.hop m.hint.sender))) (sym (coded_by (Some kind.Path) (Some q.session) (Some q.hop) m.hint.style q.of_kind q.of q.by refl) ∙ q.told)
+      ∙ ap (option_and_then (λ c. reply p e dst c (PathFrom q.session q.hop m.hint.sender))) q.told
       ∙ ap (λ b. cond b (Some (path_reply p e q.code q.session q.hop m.hint.sender)) None) (addr_tested dst q.session.group q.mine) ∙ ap Some (sym q.is)
 
   resv_made : (out : ErrSend) → IsResvReply p e dst m out → reply_to p e dst m ≡ Some out
   resv_made out q =
       replied_by (Some kind.Resv) (Some q.session) (Some q.hop) (Some q.style) q.of_kind q.of q.by q.in_style
-      ∙ ap (option_and_then (λ c. reply p e dst c (ResvFrom q.session q.hop q.style))) (sym (coded_by (Some kind.Resv) (Some q.session) (Some q.hop) (Some q.style) q.of_kind q.of q.by q.in_style) ∙ q.told)
+      ∙ ap (option_and_then (λ c. reply p e dst c (ResvFrom q.session q.hop q.style))) q.told
       ∙ ap (λ b. cond b (Some (resv_reply p e q.code q.session q.hop q.style)) None) (addr_tested dst (own p e) q.mine) ∙ ap Some (sym q.is)
 
 pub faults_by_hint : FaultsByHint

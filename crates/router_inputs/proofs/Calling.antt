@@ -31,7 +31,7 @@ use Rattle.router_rules.specs.Books.{book, fits, refused as refused_entry}
 use Rattle.router_rules.specs.Calls.{act_call, act_stale, call_refusal, entry_of, needs, senders_with, stale_refusal, unless, wanted, wants_with, with_left}
 use Rattle.router_rules.specs.Facts.{Facts, ResvState, Want, WantKey, Wants, resvs_of, want_keys, wants_in, with_resvs}
 use Rattle.router_rules.specs.Inputs.{Call, Local, QuitAll, Stale, only_heard}
-use Rattle.router_rules.specs.Place.{Place, is_own, is_session}
+use Rattle.router_rules.specs.NodeConfig.{NodeConfig, is_own, is_session}
 use Rattle.router_rules.specs.Requests.{is_style}
 use Rattle.router_rules.specs.Rule.{settled}
 use Rattle.router_lookups.proofs.Lists.{got_with_rows, in_values, some_is, to_values}
@@ -179,7 +179,7 @@ wanted_agree s Fixed names flow mark k v w i j =
     ap (λ (z : WantKey × Want). z.1) (a.2 ∙ ap (fixed_row s flow mark) same ∙ sym b.2)
 
 -- ---- what calls leave
-call_by : (p : Place) (l : Local) (f : Facts) (w : Option LocalErr) → call_refusal p l f ≡ w
+call_by : (p : NodeConfig) (l : Local) (f : Facts) (w : Option LocalErr) → call_refusal p l f ≡ w
     → act_call p l f ≡ only_heard heard.Taken (record f { senders = unless w (senders_with l f.senders) f.senders; wants = unless w (wants_with l f.wants) f.wants })
 call_by p l f w e = ap (λ v. only_heard heard.Taken (record f { senders = unless v (senders_with l f.senders) f.senders; wants = unless v (wants_with l f.wants) f.wants })) e
 
@@ -206,7 +206,7 @@ some_tells w = same_as (is_some w) (some_is w) (λ r. ap is_some r.1)
 after_first : {A P Q : Type 0} → (P ↔ Q) → ((A × P) ↔ (A × Q))
 after_first a = (λ r. (r.0, a.0 r.1), λ r. (r.0, a.1 r.1))
 
-abbrev says : Place → Facts → StyleKind → LineKey → ResvState → Option Refused
+abbrev says : NodeConfig → Facts → StyleKind → LineKey → ResvState → Option Refused
 says p f st k r = refused_entry p k.1.0.0 (entry_of st k) (book (with_resvs st (put_in (resvs_of st f) k r) f) k.1.0.0)
 
 few_false : (n : ℕ) → (nat_le n 512 ≡ false) ↔ (512 < n)
@@ -227,7 +227,7 @@ stale_refusals =
       wall = λ p f k b. then_told (one_none stale.Full (nat_le (size (put_in f.walls k b)) 512)) (few_true (size (put_in f.walls k b)));
     }
 
-stale_refused : (p : Place) (i : Stale) (f : Facts) (why : StaleErr) → stale_refusal p i f ≡ Some why → act_stale p i f ≡ f
+stale_refused : (p : NodeConfig) (i : Stale) (f : Facts) (why : StaleErr) → stale_refusal p i f ≡ Some why → act_stale p i f ≡ f
 stale_refused p i f why e = ap (λ w. unless w (with_left i f) f) e
 
 pub stale_leaves : StaleLeaves

@@ -22,24 +22,26 @@ use Rattle.rsvp_messages.specs.declared.message.ResvErrMsg.{ResvErrMsg}
 use Rattle.style_rules.specs.Lines.{NextHop, next_hops}
 use Rattle.router_rules.specs.declared.answers.Heard.TheVariants as heard
 use Rattle.router_rules.specs.declared.answers.Why.TheVariants as why
-use Rattle.router_rules.specs.Errors.{act_path_err, act_resv_err, blamed, blockade_of, error_on, error_to, errors_on, is_admission, is_told, lane_of, path_err, path_err_on, sets_walls, walled_by, walls_after, walls_heard, walls_with, with_errors}
+use Rattle.router_rules.specs.Errors.{act_path_err, act_resv_err, blamed, blockade_of, error_on, error_to, errors_on, is_admission, is_told, lane_of, path_err, path_err_on, sets_walls, walled_by, walls_after, walls_heard, walls_with, with_errors, error_listing}
 use Rattle.router_rules.specs.Facts.{Facts, PathState, ResvState, WallKey, Walls, paths_in, resvs_in, resvs_of, wall_keys}
 use Rattle.router_rules.specs.Inputs.{Change, ErrSend, only_heard}
 use Rattle.router_rules.specs.Known.{Lane, came_by}
-use Rattle.router_rules.specs.Place.{Place, goes_out}
+use Rattle.router_rules.specs.NodeConfig.{NodeConfig, goes_out}
 use Rattle.router_lookups.specs.FactLaws.{ComesBy}
 use Rattle.router_lookups.proofs.Lists.{in_values, passed, some_same, to_values}
 use Rattle.router_lookups.proofs.Once.{LastGives, given_rise, last_made, last_stands, last_told, someone_last, stands_last}
 use Rattle.router_inputs.specs.ErrorLaws.{ErrorsOnceEach, IsErrorTo, IsSpokenOf, PathErrsByTests, ResvErrsByTests, errors_with, walls_set}
 use Rattle.router_inputs.proofs.Telling.{same_hop}
+use Rattle.router_lookups.proofs.Blame.{sent_listing}
+use Rattle.router_rules.specs.Asking.{as_listed}
 
 -- ---- PathErr
-path_err_by : (p : Place) (e : ℕ) (m : PathErrMsg) (f : Facts) (x : Sender) (out : Bool) → m.sender ≡ Some x → goes_out p m.session e x ≡ out
+path_err_by : (p : NodeConfig) (e : ℕ) (m : PathErrMsg) (f : Facts) (x : Sender) (out : Bool) → m.sender ≡ Some x → goes_out p m.session e x ≡ out
     → act_path_err p e m f ≡ with_errors f (cond out (path_err_on m (has f.senders (m.session, x)) (get f.paths (m.session, x))) ([], heard.Dropped why.NotOutward))
 path_err_by p e m f x out s o =
     ap (λ w. with_errors f (path_err p e m w f)) s ∙ ap (λ b. with_errors f (cond b (path_err_on m (has f.senders (m.session, x)) (get f.paths (m.session, x))) ([], heard.Dropped why.NotOutward))) o
 
-path_err_at : (p : Place) (e : ℕ) (m : PathErrMsg) (f : Facts) (x : Sender) (local : Bool) (w : Option PathState) → m.sender ≡ Some x → goes_out p m.session e x ≡ true → has f.senders (m.session, x) ≡ local → get f.paths (m.session, x) ≡ w
+path_err_at : (p : NodeConfig) (e : ℕ) (m : PathErrMsg) (f : Facts) (x : Sender) (local : Bool) (w : Option PathState) → m.sender ≡ Some x → goes_out p m.session e x ≡ true → has f.senders (m.session, x) ≡ local → get f.paths (m.session, x) ≡ w
     → act_path_err p e m f ≡ with_errors f (path_err_on m local w)
 path_err_at p e m f x local w s o h g =
     path_err_by p e m f x true s o ∙ ap (λ b. with_errors f (path_err_on m b (get f.paths (m.session, x)))) h ∙ ap (λ v. with_errors f (path_err_on m local v)) g
@@ -56,7 +58,7 @@ path_errs_by_tests =
 
 -- ---- ResvErr
 -- what it leaves, by whether a previous hop sent it and whether there is room
-abbrev err_by : Place → ℕ → ℕ → ResvErrMsg → Facts → Bool → Bool → Change
+abbrev err_by : NodeConfig → ℕ → ℕ → ResvErrMsg → Facts → Bool → Bool → Change
 err_by p c e m f from room =
     let after : Facts = record f { walls = walls_after from room (walls_set p c e m f) f.walls } in
     record (only_heard (walls_heard from room) after) { errors = cond (from && room) (errors_on p after (lane_of e m) m) [] }
@@ -64,13 +66,13 @@ err_by p c e m f from room =
 abbrev is_from : ℕ → ResvErrMsg → Facts → Bool
 is_from e m f = list_any (came_by (e, m.hop.addr)) (values (paths_in f m.session))
 
-abbrev has_place : Place → ℕ → ℕ → ResvErrMsg → Facts → Bool
+abbrev has_place : NodeConfig → ℕ → ℕ → ResvErrMsg → Facts → Bool
 has_place p c e m f = not (sets_walls m) || nat_le (size (walls_set p c e m f)) 512
 
-err_is : (p : Place) (c e : ℕ) (m : ResvErrMsg) (f : Facts) (from room : Bool) → is_from e m f ≡ from → has_place p c e m f ≡ room → act_resv_err p c e m f ≡ err_by p c e m f from room
+err_is : (p : NodeConfig) (c e : ℕ) (m : ResvErrMsg) (f : Facts) (from room : Bool) → is_from e m f ≡ from → has_place p c e m f ≡ room → act_resv_err p c e m f ≡ err_by p c e m f from room
 err_is p c e m f from room s r = ap (λ b. err_by p c e m f b (has_place p c e m f)) s ∙ ap (λ b. err_by p c e m f from b) r
 
-err_elsewhere : (p : Place) (c e : ℕ) (m : ResvErrMsg) (f : Facts) (room : Bool) → has_place p c e m f ≡ room → is_from e m f ≡ false → act_resv_err p c e m f ≡ only_heard (heard.Dropped why.NoState) f
+err_elsewhere : (p : NodeConfig) (c e : ℕ) (m : ResvErrMsg) (f : Facts) (room : Bool) → has_place p c e m f ≡ room → is_from e m f ≡ false → act_resv_err p c e m f ≡ only_heard (heard.Dropped why.NoState) f
 err_elsewhere p c e m f true r s = err_is p c e m f false true s r
 err_elsewhere p c e m f false r s = err_is p c e m f false false s r
 
@@ -89,7 +91,7 @@ from_nowhere : (e : ℕ) (m : ResvErrMsg) (f : Facts) → ((x : Sender) → Come
 from_nowhere e m f none false s = refl
 from_nowhere e m f none true s = let r = hop_found e m f s in absurd (none r.0 r.1)
 
-sets_none : (p : Place) (c e : ℕ) (m : ResvErrMsg) (w : Walls) (said : Option TokenBucket) → m.blame.flow ≡ said → (is_admission m.err && is_some said) ≡ false → walls_with p c e m said w ≡ w
+sets_none : (p : NodeConfig) (c e : ℕ) (m : ResvErrMsg) (w : Walls) (said : Option TokenBucket) → m.blame.flow ≡ said → (is_admission m.err && is_some said) ≡ false → walls_with p c e m said w ≡ w
 sets_none p c e m w None s h = refl
 sets_none p c e m w (Some flow) s h = by (is_admission m.err) h
   where
@@ -97,26 +99,26 @@ sets_none p c e m w (Some flow) s h = by (is_admission m.err) h
     by true h = absurd (cc)
     by false h = refl
 
-sets_none_of : (p : Place) (c e : ℕ) (m : ResvErrMsg) (f : Facts) → sets_walls m ≡ false → walls_set p c e m f ≡ f.walls
+sets_none_of : (p : NodeConfig) (c e : ℕ) (m : ResvErrMsg) (f : Facts) → sets_walls m ≡ false → walls_set p c e m f ≡ f.walls
 sets_none_of p c e m f h = sets_none p c e m f.walls m.blame.flow refl h
 
-room_is : (p : Place) (c e : ℕ) (m : ResvErrMsg) (f : Facts) → size (walls_set p c e m f) ≤ 512 → has_place p c e m f ≡ true
+room_is : (p : NodeConfig) (c e : ℕ) (m : ResvErrMsg) (f : Facts) → size (walls_set p c e m f) ≤ 512 → has_place p c e m f ≡ true
 room_is p c e m f few = or_right (not (sets_walls m)) (nat_le (size (walls_set p c e m f)) 512) (le-leb (size (walls_set p c e m f)) 512 few)
 
-no_room : (p : Place) (c e : ℕ) (m : ResvErrMsg) (f : Facts) → sets_walls m ≡ true → 512 < size (walls_set p c e m f) → has_place p c e m f ≡ false
+no_room : (p : NodeConfig) (c e : ℕ) (m : ResvErrMsg) (f : Facts) → sets_walls m ≡ true → 512 < size (walls_set p c e m f) → has_place p c e m f ≡ false
 no_room p c e m f s many = ap (λ b. not b || nat_le (size (walls_set p c e m f)) 512) s ∙ lt-leb (size (walls_set p c e m f)) 512 many
 
-no_test : (p : Place) (c e : ℕ) (m : ResvErrMsg) (f : Facts) → sets_walls m ≡ false → has_place p c e m f ≡ true
+no_test : (p : NodeConfig) (c e : ℕ) (m : ResvErrMsg) (f : Facts) → sets_walls m ≡ false → has_place p c e m f ≡ true
 no_test p c e m f s = ap (λ b. not b || nat_le (size (walls_set p c e m f)) 512) s
 
 -- a blockade of something else stays
-beside_put : (p : Place) (c : ℕ) (m : ResvErrMsg) (flow : TokenBucket) (ks : List WallKey) (w : Walls) (k : WallKey) → (In k ks → ⊥) → get (with_rows w (each (λ q. (q, blockade_of p c m flow)) ks)) k ≡ get w k
+beside_put : (p : NodeConfig) (c : ℕ) (m : ResvErrMsg) (flow : TokenBucket) (ks : List WallKey) (w : Walls) (k : WallKey) → (In k ks → ⊥) → get (with_rows w (each (λ q. (q, blockade_of p c m flow)) ks)) k ≡ get w k
 beside_put p c m flow [] w k none = refl
 beside_put p c m flow (q ∷ qs) w k none =
     beside_put p c m flow qs (put_in w q (blockade_of p c m flow)) k (λ i. none (inr i))
     ∙ get-put_in_other wall_keys w q (blockade_of p c m flow) k (either (eq_by_cmp wall_keys.cmp k q) (λ tie. absurd (none (inl (tied_same wall_keys k q tie)))) (λ apart. apart))
 
-wall_beside : (p : Place) (c e : ℕ) (m : ResvErrMsg) (w : Walls) (k : WallKey) → (In k (walled_by e m m.blame.style) → ⊥) → (said : Option TokenBucket) → get (walls_with p c e m said w) k ≡ get w k
+wall_beside : (p : NodeConfig) (c e : ℕ) (m : ResvErrMsg) (w : Walls) (k : WallKey) → (In k (walled_by e m m.blame.style) → ⊥) → (said : Option TokenBucket) → get (walls_with p c e m said w) k ≡ get w k
 wall_beside p c e m w k none None = refl
 wall_beside p c e m w k none (Some flow) = by (is_admission m.err)
   where
@@ -124,12 +126,12 @@ wall_beside p c e m w k none (Some flow) = by (is_admission m.err)
     by true = beside_put p c m flow (walled_by e m m.blame.style) w k none
     by false = refl
 
-taken_with : (p : Place) (c e : ℕ) (m : ResvErrMsg) (f : Facts) (w : Walls) → walls_set p c e m f ≡ w → is_from e m f ≡ true → has_place p c e m f ≡ true
+taken_with : (p : NodeConfig) (c e : ℕ) (m : ResvErrMsg) (f : Facts) (w : Walls) → walls_set p c e m f ≡ w → is_from e m f ≡ true → has_place p c e m f ≡ true
     → act_resv_err p c e m f ≡ record (only_heard heard.Taken (record f { walls = w })) { errors = errors_on p (record f { walls = w }) (lane_of e m) m }
 taken_with p c e m f w is s r =
     err_is p c e m f true true s r ∙ ap (λ (v : Walls). record (only_heard heard.Taken (record f { walls = v })) { errors = errors_on p (record f { walls = v }) (lane_of e m) m }) is
 
-one_of_three : (p : Place) (c e : ℕ) (m : ResvErrMsg) (f : Facts) (from room : Bool) → is_from e m f ≡ from → has_place p c e m f ≡ room
+one_of_three : (p : NodeConfig) (c e : ℕ) (m : ResvErrMsg) (f : Facts) (from room : Bool) → is_from e m f ≡ from → has_place p c e m f ≡ room
     → (act_resv_err p c e m f ≡ only_heard (heard.Dropped why.NoState) f) ⊎ (((x : Sender) × ComesBy f m.session (e, m.hop.addr) x) × ((act_resv_err p c e m f ≡ only_heard (heard.Dropped why.Full) f) ⊎ (act_resv_err p c e m f ≡ errors_with p c e m f)))
 one_of_three p c e m f false room s r = inl (err_elsewhere p c e m f room r s)
 one_of_three p c e m f true false s r = inr (hop_found e m f s, inl (err_is p c e m f true false s r))
@@ -148,7 +150,7 @@ resv_errs_by_tests =
     }
 
 -- ---- errors that go on
-module _ (p : Place) (f : Facts) (l : Lane) (m : ResvErrMsg) where
+module _ (p : NodeConfig) (f : Facts) (l : Lane) (m : ResvErrMsg) where
   abbrev pub rows_of : List ((NextHop × UnitOf) × ResvState)
   rows_of = (resvs_in l.style f l.session).rows
 
@@ -157,26 +159,26 @@ module _ (p : Place) (f : Facts) (l : Lane) (m : ResvErrMsg) where
     pub at : y.0.0 ≡ hop
     pub names : Option Names
     pub spoken : IsSpokenOf p f l m hop y.0.1 names
-    pub is : error_to p m hop (Some names) ≡ Some (hop, e)
+    pub is : error_to p m hop (as_listed names) ≡ Some (hop, e)
 
   given_told : (y : (NextHop × UnitOf) × ResvState) (hop : NextHop) (e : ErrSend) → In y rows_of → error_on p f l m y ≡ Some (hop, e) → GivenBy y hop e
   given_told y hop e i h =
       let q = passed (is_told p f l m y) (error_to p m y.0.0 (blamed l.style m.blame.senders y.1.part.senders)) (hop, e) h in
       let s = same_hop p m y.0.0 (blamed l.style m.blame.senders y.1.part.senders) hop e q.1 in
-      let at : y.0.0 ≡ hop = ap (λ (z : NextHop × ErrSend). z.0) (some_same _ _ (sym (ap (error_to p m y.0.0) s.1) ∙ q.1)) in
+      let at : y.0.0 ≡ hop = ap (λ (z : NextHop × ErrSend). z.0) (some_same _ _ (sym (sent_listing p m y.0.0 s.0) ∙ sym (ap (error_to p m y.0.0) s.1) ∙ q.1)) in
       record {
         at = at;
         names = s.0;
         spoken = subst (λ (z : NextHop). IsSpokenOf p f l m z y.0.1 s.0) at (record { resv = y.1; there = sym (get-under sessions (pairs next_hops units) (resvs_of l.style f) l.session y.0) ∙ in_found (pairs next_hops units) (resvs_in l.style f l.session) y.0 y.1 i; told = q.0; blames = s.1 });
-        is = sym (ap (λ z. error_to p m z (Some s.0)) at) ∙ sym (ap (error_to p m y.0.0) s.1) ∙ q.1;
+        is = sym (ap (λ z. error_to p m z (as_listed s.0)) at) ∙ sym (ap (error_to p m y.0.0) s.1) ∙ q.1;
       }
 
   -- and such a reservation gives one
   row_in : (hop : NextHop) (unit : UnitOf) (names : Option Names) (q : IsSpokenOf p f l m hop unit names) → In ((hop, unit), q.resv) rows_of
   row_in hop unit names q = found_in (pairs next_hops units) (resvs_in l.style f l.session) (hop, unit) q.resv (get-under sessions (pairs next_hops units) (resvs_of l.style f) l.session (hop, unit) ∙ q.there)
 
-  row_gives : (hop : NextHop) (unit : UnitOf) (names : Option Names) (q : IsSpokenOf p f l m hop unit names) → error_on p f l m ((hop, unit), q.resv) ≡ error_to p m hop (Some names)
-  row_gives hop unit names q = ap (λ b. cond b (error_to p m hop (blamed l.style m.blame.senders q.resv.part.senders)) None) q.told ∙ ap (error_to p m hop) q.blames
+  row_gives : (hop : NextHop) (unit : UnitOf) (names : Option Names) (q : IsSpokenOf p f l m hop unit names) → error_on p f l m ((hop, unit), q.resv) ≡ Some (error_listing p m hop names)
+  row_gives hop unit names q = ap (λ b. cond b (error_to p m hop (blamed l.style m.blame.senders q.resv.part.senders)) None) q.told ∙ ap (error_to p m hop) q.blames ∙ sent_listing p m hop names
 
   -- units of one hop are in the order of units
   beside : (hop : NextHop) (u v : UnitOf) → is_lt ((pairs next_hops units).cmp (hop, u) (hop, v)) ≡ is_lt (units.cmp u v)
@@ -208,15 +210,15 @@ module _ (p : Place) (f : Facts) (l : Lane) (m : ResvErrMsg) where
       (record {
         giver = ((q.hop, q.unit), q.spoken.resv);
         among = row_in q.hop q.unit q.names q.spoken;
-        gives = row_gives q.hop q.unit q.names q.spoken ∙ q.is;
+        gives = row_gives q.hop q.unit q.names q.spoken ∙ sym (sent_listing p m q.hop q.names) ∙ q.is;
         last = λ y w i h.
             let b = given_told y q.hop w i h in ap (λ z. is_lt ((pairs next_hops units).cmp (q.hop, q.unit) (z, y.0.1))) b.at ∙ beside q.hop q.unit y.0.1 ∙ q.last y.0.1 b.names b.spoken;
       })))
 
   -- the error to a hop is addressed to it
-  addressed : (hop : NextHop) (names : Option Names) (k : NextHop) (e : ErrSend) → error_to p m hop (Some names) ≡ Some (k, e) → ((e.iface, e.dst) ≡ hop) × (hop ≡ k)
+  addressed : (hop : NextHop) (names : Option Names) (k : NextHop) (e : ErrSend) → error_to p m hop (as_listed names) ≡ Some (k, e) → ((e.iface, e.dst) ≡ hop) × (hop ≡ k)
   addressed hop names k e h =
-      let same = some_same _ _ h in (λ i. ((ap (λ (z : NextHop × ErrSend). z.1.iface) (sym same)) i, (ap (λ (z : NextHop × ErrSend). z.1.dst) (sym same)) i), ap (λ (z : NextHop × ErrSend). z.0) same)
+      let same = some_same _ _ (sym (sent_listing p m hop names) ∙ h) in (λ i. ((ap (λ (z : NextHop × ErrSend). z.1.iface) (sym same)) i, (ap (λ (z : NextHop × ErrSend). z.1.dst) (sym same)) i), ap (λ (z : NextHop × ErrSend). z.0) same)
 
   pub hop_told : (hop : NextHop) (unit : UnitOf) (names : Option Names) → IsSpokenOf p f l m hop unit names → (e : ErrSend) × In e (errors_on p f l m) × (e.iface ≡ hop.0) × (e.dst ≡ hop.1)
   hop_told hop unit names q =

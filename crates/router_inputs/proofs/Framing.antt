@@ -10,7 +10,7 @@ use Rattle.router_rules.specs.Act.{act, act_spelt, is_mine}
 use Rattle.router_rules.specs.Calls.{unless}
 use Rattle.router_rules.specs.Facts.{Facts, Want, WantKey, Wants, want_keys}
 use Rattle.router_rules.specs.Inputs.{Change, Input, Call, Wait, Clear, Came, Moved, Spelt, Unspelt, SendAs, DropAs, WantAs, QuitAll}
-use Rattle.router_rules.specs.Place.{Place}
+use Rattle.router_rules.specs.NodeConfig.{NodeConfig}
 use Rattle.router_rules.specs.Rule.{is_silent, settled, spoken}
 use Rattle.router_rules.specs.Sends.{unmarked, used_marks}
 use Rattle.router_lookups.proofs.Lists.{some_same}
@@ -24,7 +24,7 @@ pub record LeavesLocals (f : Facts) (k : Change) : Type 0 where
   pub due : k.facts.due ≡ f.due
   pub fired : k.fired ≡ empty
 
-pub spelt_leaves : (p : Place) (c e : ℕ) (m : Message) (b : Bool) (f : Facts) → LeavesLocals f (act_spelt p c e m b f)
+pub spelt_leaves : (p : NodeConfig) (c e : ℕ) (m : Message) (b : Bool) (f : Facts) → LeavesLocals f (act_spelt p c e m b f)
 spelt_leaves p c e m false f = record { senders = refl; wants = refl; due = refl; fired = refl }
 spelt_leaves p c e (message.Path m) true f = record { senders = refl; wants = refl; due = refl; fired = refl }
 spelt_leaves p c e (message.Resv m) true f = record { senders = refl; wants = refl; due = refl; fired = refl }
@@ -35,7 +35,7 @@ spelt_leaves p c e (message.ResvTear m) true f = record { senders = refl; wants 
 spelt_leaves p c e (message.ResvConf m) true f = record { senders = refl; wants = refl; due = refl; fired = refl }
 
 -- ---- tables that some messages change
-spelt_paths : (p : Place) (c e : ℕ) (m : Message) (b : Bool) (f : Facts) → tells_of_paths m ≡ false → (act_spelt p c e m b f).facts.paths ≡ f.paths
+spelt_paths : (p : NodeConfig) (c e : ℕ) (m : Message) (b : Bool) (f : Facts) → tells_of_paths m ≡ false → (act_spelt p c e m b f).facts.paths ≡ f.paths
 spelt_paths p c e m false f n = refl
 spelt_paths p c e (message.Path m) true f n = absurd (cc)
 spelt_paths p c e (message.Resv m) true f n = refl
@@ -45,7 +45,7 @@ spelt_paths p c e (message.PathTear m) true f n = absurd (cc)
 spelt_paths p c e (message.ResvTear m) true f n = refl
 spelt_paths p c e (message.ResvConf m) true f n = refl
 
-spelt_resvs : (p : Place) (c e : ℕ) (m : Message) (b : Bool) (f : Facts) → tells_of_resvs m ≡ false → (act_spelt p c e m b f).facts.resvs ≡ f.resvs
+spelt_resvs : (p : NodeConfig) (c e : ℕ) (m : Message) (b : Bool) (f : Facts) → tells_of_resvs m ≡ false → (act_spelt p c e m b f).facts.resvs ≡ f.resvs
 spelt_resvs p c e m false f n = refl
 spelt_resvs p c e (message.Path m) true f n = refl
 spelt_resvs p c e (message.Resv m) true f n = absurd (cc)
@@ -55,7 +55,7 @@ spelt_resvs p c e (message.PathTear m) true f n = refl
 spelt_resvs p c e (message.ResvTear m) true f n = absurd (cc)
 spelt_resvs p c e (message.ResvConf m) true f n = refl
 
-spelt_walls : (p : Place) (c e : ℕ) (m : Message) (b : Bool) (f : Facts) → tells_of_walls m ≡ false → (act_spelt p c e m b f).facts.walls ≡ f.walls
+spelt_walls : (p : NodeConfig) (c e : ℕ) (m : Message) (b : Bool) (f : Facts) → tells_of_walls m ≡ false → (act_spelt p c e m b f).facts.walls ≡ f.walls
 spelt_walls p c e m false f n = refl
 spelt_walls p c e (message.Path m) true f n = refl
 spelt_walls p c e (message.Resv m) true f n = refl
@@ -70,7 +70,7 @@ same_either : {E X : Type 0} (w : Option E) (x : X) → unless w x x ≡ x
 same_either None x = refl
 same_either (Some e) x = refl
 
-pub act_senders : (p : Place) (c : ℕ) (i : Input) (f : Facts) → on_senders i ≡ false → (act p c i f).facts.senders ≡ f.senders
+pub act_senders : (p : NodeConfig) (c : ℕ) (i : Input) (f : Facts) → on_senders i ≡ false → (act p c i f).facts.senders ≡ f.senders
 act_senders p c (Call (SendAs s x tspec)) f n = absurd (cc)
 act_senders p c (Call (DropAs s x)) f n = absurd (cc)
 act_senders p c (Call (WantAs s st names flow mark)) f n = same_either _ _
@@ -81,7 +81,7 @@ act_senders p c Moved f n = refl
 act_senders p c (Came e dst (Unspelt m)) f n = refl
 act_senders p c (Came e dst (Spelt m)) f n = (spelt_leaves p c e m (is_mine p e dst m) f).senders
 
-pub act_wants : (p : Place) (c : ℕ) (i : Input) (f : Facts) → on_wants i ≡ false → (act p c i f).facts.wants ≡ f.wants
+pub act_wants : (p : NodeConfig) (c : ℕ) (i : Input) (f : Facts) → on_wants i ≡ false → (act p c i f).facts.wants ≡ f.wants
 act_wants p c (Call (SendAs s x tspec)) f n = same_either _ _
 act_wants p c (Call (DropAs s x)) f n = same_either _ _
 act_wants p c (Call (WantAs s st names flow mark)) f n = absurd (cc)
@@ -92,7 +92,7 @@ act_wants p c Moved f n = refl
 act_wants p c (Came e dst (Unspelt m)) f n = refl
 act_wants p c (Came e dst (Spelt m)) f n = (spelt_leaves p c e m (is_mine p e dst m) f).wants
 
-pub act_paths : (p : Place) (c : ℕ) (i : Input) (f : Facts) → on_paths i ≡ false → (act p c i f).facts.paths ≡ f.paths
+pub act_paths : (p : NodeConfig) (c : ℕ) (i : Input) (f : Facts) → on_paths i ≡ false → (act p c i f).facts.paths ≡ f.paths
 act_paths p c (Call l) f n = refl
 act_paths p c (Wait ms word) f n = absurd (cc)
 act_paths p c Clear f n = absurd (cc)
@@ -100,7 +100,7 @@ act_paths p c Moved f n = refl
 act_paths p c (Came e dst (Unspelt m)) f n = refl
 act_paths p c (Came e dst (Spelt m)) f n = spelt_paths p c e m (is_mine p e dst m) f n
 
-pub act_resvs : (p : Place) (c : ℕ) (i : Input) (f : Facts) → on_resvs i ≡ false → (act p c i f).facts.resvs ≡ f.resvs
+pub act_resvs : (p : NodeConfig) (c : ℕ) (i : Input) (f : Facts) → on_resvs i ≡ false → (act p c i f).facts.resvs ≡ f.resvs
 act_resvs p c (Call l) f n = refl
 act_resvs p c (Wait ms word) f n = absurd (cc)
 act_resvs p c Clear f n = absurd (cc)
@@ -108,7 +108,7 @@ act_resvs p c Moved f n = refl
 act_resvs p c (Came e dst (Unspelt m)) f n = refl
 act_resvs p c (Came e dst (Spelt m)) f n = spelt_resvs p c e m (is_mine p e dst m) f n
 
-pub act_walls : (p : Place) (c : ℕ) (i : Input) (f : Facts) → on_walls i ≡ false → (act p c i f).facts.walls ≡ f.walls
+pub act_walls : (p : NodeConfig) (c : ℕ) (i : Input) (f : Facts) → on_walls i ≡ false → (act p c i f).facts.walls ≡ f.walls
 act_walls p c (Call l) f n = refl
 act_walls p c (Wait ms word) f n = absurd (cc)
 act_walls p c Clear f n = absurd (cc)
@@ -141,7 +141,7 @@ marks_used used t =
 all_the_same : (t : Wants) → AreSameButMarks t t
 all_the_same t = record { there = λ k. refl; source = λ k x e. (x, e, record { style = refl; part = refl }, λ on. on) }
 
-pub wants_then : (old p : Place) (c : ℕ) (i : Input) (f : Facts) → AreSameButMarks (act p c i f).facts.wants (facts_then old p c i f).wants
+pub wants_then : (old p : NodeConfig) (c : ℕ) (i : Input) (f : Facts) → AreSameButMarks (act p c i f).facts.wants (facts_then old p c i f).wants
 wants_then old p c i f = by (is_silent i)
   where
     by : (b : Bool) → AreSameButMarks (act p c i f).facts.wants (spoken b old p f (settled p c f (act p c i f).facts) (act p c i f)).facts.wants

@@ -22,7 +22,7 @@ use Rattle.router_rules.specs.Forgetting.{counted, is_lost, remembered, settle}
 use Rattle.router_rules.specs.Inputs.{Change, ConfSend, ErrSend, Input, only_heard}
 use Rattle.router_rules.specs.Known.{Lane, known, lanes, named_as, names_via}
 use Rattle.router_rules.specs.Offers.{offers}
-use Rattle.router_rules.specs.Place.{Place, period}
+use Rattle.router_rules.specs.NodeConfig.{NodeConfig, period}
 use Rattle.router_rules.specs.Requests.{toward}
 use Rattle.router_rules.specs.Rule.{is_silent, rule, settled, spoken}
 use Rattle.router_rules.specs.Sends.{conf_sends, error_sends, gone_names, is_changed, is_new_offer, is_sent_new, marked_units, path_sends, path_tears, resv_sends, resv_tears, sends, torn_names, unmarked, used_marks}
@@ -41,7 +41,7 @@ both_not false = refl
 none_lost : (st : StyleKind) (f : Facts) (s : Session) (x : Sender) → is_lost st f f s x ≡ false
 none_lost st f s x = both_not (has (named_as st (known f s)) x)
 
-module _ (p : Place) (c : ℕ) (f : Facts) (ok : IsWithinBounds p c f) where
+module _ (p : NodeConfig) (c : ℕ) (f : Facts) (ok : IsWithinBounds p c f) where
   resvs_same : (st : StyleKind) (t : Resvs) → resvs_of st f ≡ t → changed (remembered st f f) t ≡ t
   resvs_same st t is = same_table line_keys (changed (remembered st f f) t) t (λ k. get-changed line_keys (remembered st f f) t k ∙ by k (get t k) refl)
     where
@@ -64,10 +64,10 @@ module _ (p : Place) (c : ℕ) (f : Facts) (ok : IsWithinBounds p c f) where
   settled_same = ap (λ (ts : ResvTables). settle p c (record f { resvs = ts })) tables_same ∙ ap (λ (t : Table sessions ℕ). record f { due = t }) due_same
 
 -- ---- sends
-same_toward : (p : Place) (f : Facts) (l : Lane) → is_changed p p f f l ≡ false
+same_toward : (p : NodeConfig) (f : Facts) (l : Lane) → is_changed p p f f l ≡ false
 same_toward p f l = ap not (parts_tested (toward p f l) (toward p f l) refl)
 
-module _ (p : Place) (f : Facts) (k : Change) where
+module _ (p : NodeConfig) (f : Facts) (k : Change) where
   no_path_tears : path_tears p (offers p f) (offers p f) ≡ []
   no_path_tears = none_in (path_tears p (offers p f) (offers p f)) (λ s i. let q = path_tear_told p p f f k s i in let z : true ≡ false = sym q.was ∙ q.gone in cc)
 
@@ -105,7 +105,7 @@ and_false : (b : Bool) → (b && false) ≡ false
 and_false true = refl
 and_false false = refl
 
-no_marks : (p : Place) (f : Facts) → used_marks p p f f None ≡ empty
+no_marks : (p : NodeConfig) (f : Facts) → used_marks p p f f None ≡ empty
 no_marks p f =
     ap (λ ls. set_of {o = want_keys} (flat_map (λ l. each (λ u. (l.session, u)) (marked_units p f l)) ls))
     (none_in (filter (is_sent_new p p f f) (keys (lanes f)))
@@ -127,7 +127,7 @@ right_nil : {A : Type 0} (xs : List A) → xs ++ [] ≡ xs
 right_nil [] = refl
 right_nil (x ∷ xs) = λ i. x ∷ right_nil xs i
 
-module _ (p : Place) (c : ℕ) (f : Facts) (h : Heard) (es : List ErrSend) (cs : List ConfSend) where
+module _ (p : NodeConfig) (c : ℕ) (f : Facts) (h : Heard) (es : List ErrSend) (cs : List ConfSend) where
   abbrev made : Change
   made = record (only_heard h f) { errors = es; confs = cs }
 

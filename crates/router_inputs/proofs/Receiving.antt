@@ -28,7 +28,7 @@ use Rattle.router_rules.specs.Confirming.{conf_on, confs_heard, confs_on, is_wis
 use Rattle.router_rules.specs.Facts.{Facts, PathState, Resvs, ResvState, ResvTables, resvs_in, resvs_of, with_resvs}
 use Rattle.router_rules.specs.Inputs.{ConfSend, only_heard}
 use Rattle.router_rules.specs.Paths.{act_path, act_path_tear, is_path_by, learn, learn_inward, learnt, path_state, tear_path, torn_path, with_paths}
-use Rattle.router_rules.specs.Place.{Place, comes_in}
+use Rattle.router_rules.specs.NodeConfig.{NodeConfig, comes_in}
 use Rattle.router_lookups.specs.RuleLaws.{IsLeft}
 use Rattle.router_lookups.proofs.Leaving.{as_it_was, left_told, table_put}
 use Rattle.rsvp_base.proofs.Fronts.{in_filter_map}
@@ -37,10 +37,10 @@ use Rattle.router_lookups.proofs.Once.{given_rise, last_stands, last_told, someo
 use Rattle.router_inputs.specs.MessageLaws.{ConfirmationsByWish, IsConfOn, PathsByTests, ResvTearsByNames}
 
 -- ---- Paths
-inward_is : (p : Place) (c e : ℕ) (m : PathMsg) (f : Facts) (x : Sender) (tspec : TokenBucket) (b : Bool) → m.sender ≡ Some (x, tspec) → comes_in p m.session e x ≡ b → act_path p c e m f ≡ with_paths f (learn_inward p c e m x tspec b f.paths)
+inward_is : (p : NodeConfig) (c e : ℕ) (m : PathMsg) (f : Facts) (x : Sender) (tspec : TokenBucket) (b : Bool) → m.sender ≡ Some (x, tspec) → comes_in p m.session e x ≡ b → act_path p c e m f ≡ with_paths f (learn_inward p c e m x tspec b f.paths)
 inward_is p c e m f x tspec b s t = ap (λ w. with_paths f (learn p c e m w f.paths)) s ∙ ap (λ b. with_paths f (learn_inward p c e m x tspec b f.paths)) t
 
-room_is : (p : Place) (c e : ℕ) (m : PathMsg) (f : Facts) (x : Sender) (tspec : TokenBucket) (b : Bool) → m.sender ≡ Some (x, tspec) → comes_in p m.session e x ≡ true
+room_is : (p : NodeConfig) (c e : ℕ) (m : PathMsg) (f : Facts) (x : Sender) (tspec : TokenBucket) (b : Bool) → m.sender ≡ Some (x, tspec) → comes_in p m.session e x ≡ true
     → has_room_at senders (put_in f.paths (m.session, x) (path_state p c e m tspec)) m.session ≡ b → act_path p c e m f ≡ with_paths f (learnt b (put_in f.paths (m.session, x) (path_state p c e m tspec)) f.paths)
 room_is p c e m f x tspec b s t r = inward_is p c e m f x tspec true s t ∙ ap (λ b. with_paths f (learnt b (put_in f.paths (m.session, x) (path_state p c e m tspec)) f.paths)) r
 

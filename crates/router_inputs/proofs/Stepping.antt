@@ -12,7 +12,7 @@ use Rattle.router_rules.specs.Act.{act, is_mine, act_spelt}
 use Rattle.router_rules.specs.Facts.{Facts, PathState, Paths, SenderKey, sender_keys}
 use Rattle.router_rules.specs.Forgetting.{counted, settle}
 use Rattle.router_rules.specs.Inputs.{Arrival, Input, Call, Wait, Clear, Came, Moved, Spelt, Unspelt, Send}
-use Rattle.router_rules.specs.Place.{Place, period, comes_in, goes_out}
+use Rattle.router_rules.specs.NodeConfig.{NodeConfig, period, comes_in, goes_out}
 use Rattle.router_rules.specs.Waiting.{living}
 use Rattle.router_lookups.proofs.Knowing.{has-known}
 use Rattle.router_lookups.proofs.Leaving.{countdowns_settle}
@@ -40,27 +40,27 @@ use Rattle.router_rules.specs.Steps.{facts_then, sent_then}
 use Rattle.router_inputs.proofs.Framing.{spelt_leaves}
 
 -- ---- countdowns
-pub stands_settled : (p : Place) (c : ℕ) (f : Facts) (s : Session) → has (settle p c f).due s ≡ has (counted f) s
+pub stands_settled : (p : NodeConfig) (c : ℕ) (f : Facts) (s : Session) → has (settle p c f).due s ≡ has (counted f) s
 stands_settled p c f s = ap is_some (countdowns_settle p c f s) ∙ by (has (counted f) s)
   where
     by : (b : Bool) → is_some (cond b (Some (unwrap_or (get f.due s) (c + period p))) None) ≡ b
     by true = refl
     by false = refl
 
-pub quiet_due : (p : Place) (c e : ℕ) (dst : Addr) (a : Arrival) (f : Facts) → ((act p c (Came e dst a) f).facts.due ≡ f.due) × ((act p c (Came e dst a) f).fired ≡ empty)
+pub quiet_due : (p : NodeConfig) (c e : ℕ) (dst : Addr) (a : Arrival) (f : Facts) → ((act p c (Came e dst a) f).facts.due ≡ f.due) × ((act p c (Came e dst a) f).fired ≡ empty)
 quiet_due p c e dst (Unspelt m) f = (refl, refl)
 quiet_due p c e dst (Spelt m) f = let l = spelt_leaves p c e m (is_mine p e dst m) f in (l.due, l.fired)
 
 -- ---- path state
 -- what a Path brought, before it is known that it came to its group
-record Brought (p : Place) (c e : ℕ) (m : PathMsg) (k : SenderKey) (x : PathState) : Type 0 where
+record Brought (p : NodeConfig) (c e : ℕ) (m : PathMsg) (k : SenderKey) (x : PathState) : Type 0 where
   tspec : TokenBucket
   session : m.session ≡ k.0
   sender : m.sender ≡ Some (k.1, tspec)
   tree : comes_in p k.0 e k.1 ≡ true
   is : x ≡ path_state p c e m tspec
 
-module _ (p : Place) (c e : ℕ) (m : PathMsg) (k : SenderKey) (x : PathState) where
+module _ (p : NodeConfig) (c e : ℕ) (m : PathMsg) (k : SenderKey) (x : PathState) where
   put_one : (s : Sender) (tspec : TokenBucket) (t : Paths) → m.sender ≡ Some (s, tspec) → comes_in p m.session e s ≡ true → get (put_in t (m.session, s) (path_state p c e m tspec)) k ≡ Some x
       → (get t k ≡ Some x) ⊎ Brought p c e m k x
   put_one s tspec t said tree h =
@@ -93,7 +93,7 @@ tear_one e m (Some s) t k x h = by (is_path_by (e, m.hop.addr) (get t (m.session
     by true h = got_without sender_keys t (m.session, s) k x h
     by false h = h
 
-spelt_paths : (p : Place) (c e : ℕ) (dst : Addr) (f : Facts) (k : SenderKey) (x : PathState) (m : Message) (b : Bool) → is_mine p e dst m ≡ b → get (act_spelt p c e m b f).facts.paths k ≡ Some x
+spelt_paths : (p : NodeConfig) (c e : ℕ) (dst : Addr) (f : Facts) (k : SenderKey) (x : PathState) (m : Message) (b : Bool) → is_mine p e dst m ≡ b → get (act_spelt p c e m b f).facts.paths k ≡ Some x
     → (get f.paths k ≡ Some x) ⊎ IsLearnt p c (Came e dst (Spelt m)) k x
 spelt_paths p c e dst f k x m false is h = inl h
 spelt_paths p c e dst f k x (message.Path m) true is h =
@@ -117,7 +117,7 @@ spelt_paths p c e dst f k x (message.ResvConf m) true is h = inl h
 pub lives_as_is : {X : Type 0} (c : ℕ) (dies : X → ℕ) (x y : X) → living c dies x ≡ Some y → x ≡ y
 lives_as_is c dies x y e = some_same x y (passed (nat_lt c (dies x)) (Some x) y e).1
 
-pub came_from : (old p : Place) (c : ℕ) (i : Input) (f : Facts) (k : SenderKey) (x : PathState) → get (facts_then old p c i f).paths k ≡ Some x → (get f.paths k ≡ Some x) ⊎ IsLearnt p c i k x
+pub came_from : (old p : NodeConfig) (c : ℕ) (i : Input) (f : Facts) (k : SenderKey) (x : PathState) → get (facts_then old p c i f).paths k ≡ Some x → (get f.paths k ≡ Some x) ⊎ IsLearnt p c i k x
 came_from old p c (Call l) f k x h = inl h
 came_from old p c (Wait ms word) f k x h =
     let r = got_changed sender_keys (λ q. living c (λ (y : PathState). y.dies)) f.paths k x h in inl (r.1 ∙ ap (λ z. Some z) (lives_as_is c (λ (y : PathState). y.dies) r.0 x r.2))
@@ -154,24 +154,24 @@ offered_is_known f k = by (get f.senders (k.session, k.sender)) (get f.paths (k.
     by None None = refl
 
 -- what is offered has a way, and its sender is known
-pub record IsOffered (p : Place) (f : Facts) (k : OfferKey) (o : Offer) : Type 0 where
+pub record IsOffered (p : NodeConfig) (f : Facts) (k : OfferKey) (o : Offer) : Type 0 where
   pub way : is_way p k ≡ true
   pub at : offer_at f k ≡ Some o
   pub there : k.iface < length p.ifaces
   pub out : goes_out p k.session k.iface k.sender ≡ true
   pub known_one : has (known f k.session) k.sender ≡ true
 
-pub offered : (p : Place) (f : Facts) (k : OfferKey) (o : Offer) → get (offers p f) k ≡ Some o → IsOffered p f k o
+pub offered : (p : NodeConfig) (f : Facts) (k : OfferKey) (o : Offer) → get (offers p f) k ≡ Some o → IsOffered p f k o
 offered p f k o e =
     let t = passed (is_way p k) (offer_at f k) o (sym (offers_by_way p f k) ∙ e) in
     let w = and_both (nat_lt k.iface (length p.ifaces)) (goes_out p k.session k.iface k.sender) t.0 in
     record { way = t.0; at = t.1; there = ltb-true k.iface (length p.ifaces) w.0; out = w.1; known_one = sym (offered_is_known f k) ∙ ap is_some t.1 }
 
-pub offer_of : (p : Place) (f : Facts) (k : OfferKey) (o : Offer) → get (offers p f) k ≡ Some o → offer_at f k ≡ Some o
+pub offer_of : (p : NodeConfig) (f : Facts) (k : OfferKey) (o : Offer) → get (offers p f) k ≡ Some o → offer_at f k ≡ Some o
 offer_of p f k o e = (offered p f k o e).at
 
 -- ---- what is sent is of six kinds
-pub send_told : (old p : Place) (c : ℕ) (i : Input) (f : Facts) (s : Send) → In s (sent_then old p c i f) → IsSend old p f (settled p c f (act p c i f).facts) (act p c i f) s
+pub send_told : (old p : NodeConfig) (c : ℕ) (i : Input) (f : Facts) (s : Send) → In s (sent_then old p c i f) → IsSend old p f (settled p c f (act p c i f).facts) (act p c i f) s
 send_told old p c i f s h = by (is_silent i) h
   where
     by : (b : Bool) → In s (spoken b old p f (settled p c f (act p c i f).facts) (act p c i f)).sent → IsSend old p f (settled p c f (act p c i f).facts) (act p c i f) s

@@ -19,10 +19,10 @@ use Rattle.rsvp_base.proofs.SetLaws.{and_both, and_made, has-kept, or_either, or
 use Rattle.rsvp_base.proofs.Tables.{either}
 use Rattle.rsvp_base.proofs.UnderLaws.{get-under}
 use Rattle.style_rules.specs.Lines.{next_hops}
-use Rattle.router_rules.specs.Asking.{Asker, has_style, lost, matched, style_conflict}
+use Rattle.router_rules.specs.Asking.{Asker, has_style, lost, matched, style_conflict, Nobody, These}
 use Rattle.router_rules.specs.Facts.{Facts, Want, resvs_in, resvs_of, wants_in}
 use Rattle.router_rules.specs.Known.{known}
-use Rattle.router_rules.specs.Place.{Place, goes_out}
+use Rattle.router_rules.specs.NodeConfig.{NodeConfig, goes_out}
 use Rattle.router_rules.specs.Requests.{is_style}
 use Rattle.router_lookups.specs.FactLaws.{IsNamed}
 use Rattle.router_lookups.proofs.Knowing.{named_told, named_made}
@@ -169,34 +169,34 @@ styles_in_conflict =
     }
 
 -- ---- names that do not match
-matched_told : (p : Place) (f : Facts) (o : Asker) (x : Sender) → has (matched p f o) x ≡ true → IsNamed o.style (known f o.session) (goes_out p o.session o.iface) x
+matched_told : (p : NodeConfig) (f : Facts) (o : Asker) (x : Sender) → has (matched p f o) x ≡ true → IsNamed o.style (known f o.session) (goes_out p o.session o.iface) x
 matched_told p f o x e =
     let n = named_told o.style (kept (goes_out p o.session o.iface) (known f o.session)) x e in
     let r = and_both _ _ (sym (has-kept senders (goes_out p o.session o.iface) (known f o.session) n.sender) ∙ n.among) in
     record { sender = n.sender; among = r.0; passes = r.1; name = n.name }
 
-matched_made : (p : Place) (f : Facts) (o : Asker) (x : Sender) → IsNamed o.style (known f o.session) (goes_out p o.session o.iface) x → has (matched p f o) x ≡ true
+matched_made : (p : NodeConfig) (f : Facts) (o : Asker) (x : Sender) → IsNamed o.style (known f o.session) (goes_out p o.session o.iface) x → has (matched p f o) x ≡ true
 matched_made p f o x n =
     named_made o.style (kept (goes_out p o.session o.iface) (known f o.session)) x
     (record { sender = n.sender; among = has-kept senders (goes_out p o.session o.iface) (known f o.session) n.sender ∙ and_made _ _ n.among n.passes; passes = refl; name = n.name })
 
-lost_as : (st : StyleKind) (names all : Names) → (st ≡ Wild → ⊥) → lost st (Some names) all ≡ cond (is_none (kept (λ x. not (has all x)) names)) None (Some (Some (kept (λ x. not (has all x)) names)))
+lost_as : (st : StyleKind) (names all : Names) → (st ≡ Wild → ⊥) → lost st (Some names) all ≡ cond (is_none (kept (λ x. not (has all x)) names)) Nobody (These (kept (λ x. not (has all x)) names))
 lost_as Wild names all n = absurd (n refl)
 lost_as Fixed names all n = refl
 lost_as Shared names all n = refl
 
 lost_some : (st : StyleKind) (names all : Names) (x : Sender) → (st ≡ Wild → ⊥) → has names x ≡ true → has all x ≡ false
-    → (rest : Names) × (lost st (Some names) all ≡ Some (Some rest)) × ((y : Sender) → (has rest y ≡ true) ↔ ((has names y ≡ true) × (has all y ≡ false)))
+    → (rest : Names) × (lost st (Some names) all ≡ These rest) × ((y : Sender) → (has rest y ≡ true) ↔ ((has names y ≡ true) × (has all y ≡ false)))
 lost_some st names all x n e h =
     let rest : Names = kept (λ x. not (has all x)) names in
     let there : has rest x ≡ true = has-kept senders (λ x. not (has all x)) names x ∙ and_made _ _ e (ap not h) in (
       rest,
-      lost_as st names all n ∙ ap (λ b. cond b None (Some (Some rest))) (has_some rest x there),
+      lost_as st names all n ∙ ap (λ b. cond b Nobody (These rest)) (has_some rest x there),
       λ y. (λ i. let r = and_both _ _ (sym (has-kept senders (λ x. not (has all x)) names y) ∙ i) in (r.0, not_told _ r.1), λ r. has-kept senders (λ x. not (has all x)) names y ∙ and_made _ _ r.0 (ap not r.1)),
     )
 
-lost_none : (st : StyleKind) (names all : Names) → (st ≡ Wild → ⊥) → ((x : Sender) → has names x ≡ true → has all x ≡ true) → lost st (Some names) all ≡ None
-lost_none st names all n same = lost_as st names all n ∙ ap (λ b. cond b None (Some (Some rest))) (none_left rest.rows (λ x i. i))
+lost_none : (st : StyleKind) (names all : Names) → (st ≡ Wild → ⊥) → ((x : Sender) → has names x ≡ true → has all x ≡ true) → lost st (Some names) all ≡ Nobody
+lost_none st names all n same = lost_as st names all n ∙ ap (λ b. cond b Nobody (These rest)) (none_left rest.rows (λ x i. i))
   where
     rest : Names
     rest = kept (λ x. not (has all x)) names

@@ -18,10 +18,10 @@ use Rattle.style_rules.specs.Parts.{has_name, part_of}
 use Rattle.router_rules.specs.Asking.{Asker, Taking, book_refuses, has_entry, has_room, key_at, losses, lost, names_that_match, put_tested, put_unit, refusal, resv_state, table_with, take_unit, take_units, tell_lost, value_of}
 use Rattle.router_rules.specs.Facts.{Facts, ResvState}
 use Rattle.router_rules.specs.Inputs.{ErrSend}
-use Rattle.router_rules.specs.Place.{Place}
+use Rattle.router_rules.specs.NodeConfig.{NodeConfig}
 use Rattle.router_inputs.specs.AskLaws.{IsOfUnit, UnitsOneByOne}
 
-module _ (p : Place) (o : Asker) (f : Facts) (all : Names) where
+module _ (p : NodeConfig) (o : Asker) (f : Facts) (all : Names) where
   -- what was done before the unit is put in its place
   abbrev pub told : Taking → AskedUnit → Taking
   told t u = tell_lost p o u.flow (lost o.style u.names all) t

@@ -14,17 +14,21 @@ use Rattle.style_rules.specs.Lines.{NextHop}
 use Rattle.router_rules.specs.Errors.{blockade_of, error_to, is_admission, walled_by, walls_with}
 use Rattle.router_rules.specs.Facts.{Blockade, WallKey, Walls, wall_keys}
 use Rattle.router_rules.specs.Inputs.{ErrSend}
-use Rattle.router_rules.specs.Place.{Place}
+use Rattle.router_rules.specs.NodeConfig.{NodeConfig}
 use Rattle.router_lookups.proofs.Lists.{got_with_rows, some_same}
 use Rattle.router_inputs.specs.ErrorLaws.{ErrorsAndWalls}
+use Rattle.router_rules.specs.Asking.{Blamed, Nobody, Everyone, These, as_listed}
 
 -- ---- errors that go on
-pub same_hop : (p : Place) (m : ResvErrMsg) (hop : NextHop) (w : Option (Option Names)) (k : NextHop) (e : ErrSend) → error_to p m hop w ≡ Some (k, e)
-    → (names : Option Names) × (w ≡ Some names) × (error_to p m hop (Some names) ≡ Some (hop, e))
-same_hop p m hop None k e h = absurd (cc)
-same_hop p m hop (Some names) k e h =
+pub same_hop : (p : NodeConfig) (m : ResvErrMsg) (hop : NextHop) (w : Blamed) (k : NextHop) (e : ErrSend) → error_to p m hop w ≡ Some (k, e)
+    → (names : Option Names) × (w ≡ as_listed names) × (error_to p m hop (as_listed names) ≡ Some (hop, e))
+same_hop p m hop Nobody k e h = absurd (cc)
+same_hop p m hop Everyone k e h =
     let at : hop ≡ k = ap (λ (z : NextHop × ErrSend). z.0) (some_same _ _ h) in
-    (names, refl, subst (λ (z : NextHop). error_to p m hop (Some names) ≡ Some (z, e)) (sym at) h)
+    (None, refl, subst (λ (z : NextHop). error_to p m hop Everyone ≡ Some (z, e)) (sym at) h)
+same_hop p m hop (These names) k e h =
+    let at : hop ≡ k = ap (λ (z : NextHop × ErrSend). z.0) (some_same _ _ h) in
+    (Some names, refl, subst (λ (z : NextHop). error_to p m hop (These names) ≡ Some (z, e)) (sym at) h)
 
 -- ---- blockades
 -- rows that all have one value
@@ -40,10 +44,10 @@ module _ {K X : Type 0} (o : Keys K) (x : X) where
   all_put (q ∷ qs) m k i =
       ⊎_elim (λ (e : k ≡ q). same_stays qs (put_in m q x) k (ap (λ z. get (put_in m q x) z) e ∙ get-put_in_same o m q x)) (λ (j : In k qs). all_put qs (put_in m q x) k j) i
 
-abbrev row_of : Place → ℕ → ResvErrMsg → TokenBucket → WallKey → WallKey × Blockade
+abbrev row_of : NodeConfig → ℕ → ResvErrMsg → TokenBucket → WallKey → WallKey × Blockade
 row_of p c m flow k = (k, blockade_of p c m flow)
 
-walls_source : (p : Place) (c e : ℕ) (m : ResvErrMsg) (w : Walls) (k : WallKey) (b : Blockade) (said : Option TokenBucket) → m.blame.flow ≡ said → get (walls_with p c e m said w) k ≡ Some b
+walls_source : (p : NodeConfig) (c e : ℕ) (m : ResvErrMsg) (w : Walls) (k : WallKey) (b : Blockade) (said : Option TokenBucket) → m.blame.flow ≡ said → get (walls_with p c e m said w) k ≡ Some b
     → (get w k ≡ Some b) ⊎ ((flow : TokenBucket) × (m.blame.flow ≡ Some flow) × (is_admission m.err ≡ true) × In k (walled_by e m m.blame.style) × (b ≡ blockade_of p c m flow))
 walls_source p c e m w k b None is h = inl h
 walls_source p c e m w k b (Some flow) is h = by (is_admission m.err) refl h
@@ -58,7 +62,7 @@ walls_source p c e m w k b (Some flow) is h = by (is_admission m.err) refl h
         inr (flow, is, t, subst (λ (z : WallKey). In z (walled_by e m m.blame.style)) (sym (ap (λ (z : WallKey × Blockade). z.0) r.2)) r.1, ap (λ (z : WallKey × Blockade). z.1) r.2))
         (got_with_rows wall_keys (each (row_of p c m flow) (walled_by e m m.blame.style)) w k b h)
 
-walls_set : (p : Place) (c e : ℕ) (m : ResvErrMsg) (w : Walls) (k : WallKey) (flow : TokenBucket) → is_admission m.err ≡ true → In k (walled_by e m m.blame.style) → get (walls_with p c e m (Some flow) w) k ≡ Some (blockade_of p c m flow)
+walls_set : (p : NodeConfig) (c e : ℕ) (m : ResvErrMsg) (w : Walls) (k : WallKey) (flow : TokenBucket) → is_admission m.err ≡ true → In k (walled_by e m m.blame.style) → get (walls_with p c e m (Some flow) w) k ≡ Some (blockade_of p c m flow)
 walls_set p c e m w k flow t i =
     ap (λ b. get (cond b (with_rows w (each (row_of p c m flow) (walled_by e m m.blame.style))) w) k) t ∙ all_put wall_keys (blockade_of p c m flow) (walled_by e m m.blame.style) w k i
 

@@ -16,17 +16,18 @@ use Rattle.rsvp_messages.specs.Units.{AskedUnit, ask_style, asked_units}
 use Rattle.style_rules.specs.Parts.{part_of}
 use Rattle.router_rules.specs.declared.answers.Heard.TheVariants as heard
 use Rattle.router_rules.specs.declared.answers.Why.TheVariants as why
-use Rattle.router_rules.specs.Asking.{Asker, Taking, ask_of, asked_of, asker_of, book_refuses, end_taking, errors_in_order, has_room, heard_of, losses, lost, names_that_match, put_tested, put_unit, refusal, style_conflict, take_unit, take_units, taking, taking_of}
+use Rattle.router_rules.specs.Asking.{Asker, Taking, ask_of, asked_of, asker_of, book_refuses, end_taking, errors_in_order, has_room, heard_of, losses, lost, names_that_match, put_tested, put_unit, refusal, style_conflict, take_unit, take_units, taking, taking_of, Blamed, Nobody, Everyone, These}
 use Rattle.router_rules.specs.Facts.{Facts, Resvs, ResvTables, with_resvs}
 use Rattle.router_rules.specs.Inputs.{ErrSend}
 use Rattle.router_rules.specs.Known.{known}
-use Rattle.router_rules.specs.Place.{Place}
+use Rattle.router_rules.specs.NodeConfig.{NodeConfig}
 use Rattle.router_lookups.proofs.Leaving.{as_it_was, table_other, table_put}
 use Rattle.router_inputs.specs.AskLaws.{IsBookRefusal, IsLeftOut, IsLoss, IsTaken, IsTried, IsUnitAt, ResvsInSteps, UnitsInFull, book_refusal, told_before}
 use Rattle.router_inputs.proofs.Taking.{unit_by, units_errors}
+use Rattle.router_lookups.proofs.Blame.{lost_listing}
 
 -- ---- units with all that is done
-module _ (p : Place) (o : Asker) (f : Facts) (all : Names) where
+module _ (p : NodeConfig) (o : Asker) (f : Facts) (all : Names) where
   units_after : (t : Taking) (us vs : List AskedUnit) → take_units p o f all t (us ++ vs) ≡ take_units p o f all (take_units p o f all t us) vs
   units_after t [] vs = refl
   units_after t (u ∷ us) vs = units_after (take_unit p o f all t u) us vs
@@ -51,10 +52,12 @@ module _ (p : Place) (o : Asker) (f : Facts) (all : Names) where
       ap (take_units p o f all t) q.split ∙ units_after t q.front (unit ∷ q.back) ∙ ap (λ (z : Taking). take_units p o f all (take_unit p o f all z unit) q.back) (sym q.is)
 
   -- ---- errors
-  loss_told : (u : AskedUnit) (us : List AskedUnit) (e : ErrSend) (w : Option (Option Names)) → lost o.style u.names all ≡ w → In e (losses p o u.flow w) → IsLoss p o f all (u ∷ us) e
-  loss_told u us e None is i = absurd i
-  loss_told u us e (Some names) is i =
-      record { unit = u; asks = inl refl; names = names; lost = is; is = ⊎_elim (λ (z : e ≡ refusal p o false 4 0 names u.flow). z) (λ (n : ⊥). absurd n) i }
+  loss_told : (u : AskedUnit) (us : List AskedUnit) (e : ErrSend) (w : Blamed) → lost o.style u.names all ≡ w → In e (losses p o u.flow w) → IsLoss p o f all (u ∷ us) e
+  loss_told u us e Nobody is i = absurd i
+  loss_told u us e Everyone is i =
+      record { unit = u; asks = inl refl; names = None; lost = is; is = ⊎_elim (λ (z : e ≡ refusal p o false 4 0 None u.flow). z) (λ (n : ⊥). absurd n) i }
+  loss_told u us e (These names) is i =
+      record { unit = u; asks = inl refl; names = Some names; lost = is; is = ⊎_elim (λ (z : e ≡ refusal p o false 4 0 (Some names) u.flow). z) (λ (n : ⊥). absurd n) i }
 
   before_told : (t : Taking) (u : AskedUnit) (us : List AskedUnit) (e : ErrSend) → In e (told_before p o all t u).errors → In e t.errors ⊎ (IsLoss p o f all (u ∷ us) e ⊎ IsBookRefusal p o f all t (u ∷ us) e)
   before_told t u us e i =
@@ -118,7 +121,7 @@ module _ (p : Place) (o : Asker) (f : Facts) (all : Names) where
       units_errors p o f all us (take_unit p o f all t u) e
       (told_stays t u e
       (in_right e t.errors (losses p o u.flow (lost o.style u.names all))
-      (subst (λ w. In e (losses p o u.flow w)) (sym (ap (λ (z : AskedUnit). lost o.style z.names all) (sym is) ∙ q.lost)) (inl (q.is ∙ ap (λ (z : AskedUnit). refusal p o false 4 0 q.names z.flow) is))))))
+      (subst (λ w. In e (losses p o u.flow w)) (sym (ap (λ (z : AskedUnit). lost o.style z.names all) (sym is) ∙ q.lost)) (subst (λ zs. In e zs) (sym (lost_listing p o u.flow q.names)) (inl (q.is ∙ ap (λ (z : AskedUnit). refusal p o false 4 0 q.names z.flow) is)))))))
       (λ (i : In q.unit us). loss_made (take_unit p o f all t u) us e (record { unit = q.unit; asks = i; names = q.names; lost = q.lost; is = q.is }))
       q.asks
 
@@ -220,11 +223,11 @@ units_in_full =
     }
 
 -- ---- the Resv as a whole
-taking_by : (p : Place) (c e : ℕ) (m : ResvMsg) (f : Facts) (b : Bool) (w : Option StyleKind) → is_none (known f m.session) ≡ b → style_conflict f m.session (ask_style m.ask) ≡ w
+taking_by : (p : NodeConfig) (c e : ℕ) (m : ResvMsg) (f : Facts) (b : Bool) (w : Option StyleKind) → is_none (known f m.session) ≡ b → style_conflict f m.session (ask_style m.ask) ≡ w
     → taking p c e m f ≡ taking_of p (asker_of p c e m) (asked_units m.ask) f b w
 taking_by p c e m f b w s t = λ i. taking_of p (asker_of p c e m) (asked_units m.ask) f (s i) (t i)
 
-abbrev whole : Place → ℕ → ℕ → ResvMsg → Facts → Taking → Facts
+abbrev whole : NodeConfig → ℕ → ℕ → ResvMsg → Facts → Taking → Facts
 whole p c e m f t = (end_taking (asker_of p c e m) f t).facts
 
 resv_rest : (st : StyleKind) (t : Resvs) (f : Facts) → record (with_resvs st t f) { resvs = f.resvs } ≡ f

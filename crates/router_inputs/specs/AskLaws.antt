@@ -20,11 +20,11 @@ use Rattle.rsvp_messages.specs.declared.message.ResvMsg.{ResvMsg}
 use Rattle.rsvp_messages.specs.Units.{AskedUnit, ask_style, asked_units}
 use Rattle.router_rules.specs.declared.answers.Heard.TheVariants as heard
 use Rattle.router_rules.specs.declared.answers.Why.TheVariants as why
-use Rattle.router_rules.specs.Asking.{Asker, Taking, act_resv, answered, ask_of, asker_of, book_refuses, errors_in_order, has_entry, has_room, has_style, lost, matched, names_that_match, nothing_taken, refusal, refuse_all, style_conflict, style_value, table_with, take_unit, take_units, taking, tell_lost, value_of, key_at, resv_state}
+use Rattle.router_rules.specs.Asking.{Asker, Taking, act_resv, answered, ask_of, asker_of, book_refuses, errors_in_order, has_entry, has_room, has_style, lost, matched, names_that_match, nothing_taken, refusal, refuse_all, style_conflict, style_value, table_with, take_unit, take_units, taking, tell_lost, value_of, key_at, resv_state, as_listed, Nobody, These}
 use Rattle.router_rules.specs.Facts.{Facts, ResvState, Want, resvs_of, Resvs}
 use Rattle.router_rules.specs.Inputs.{ErrSend}
 use Rattle.router_rules.specs.Known.{known}
-use Rattle.router_rules.specs.Place.{Place, goes_out}
+use Rattle.router_rules.specs.NodeConfig.{NodeConfig, goes_out}
 use Rattle.router_lookups.specs.FactLaws.{IsNamed}
 
 -- ---- styles
@@ -52,24 +52,24 @@ pub record StylesInConflict : Type 0 where
 
 -- ---- who matches, and who is refused for want of a sender
 pub record LossesByNames : Type 0 where
-  pub matches : (p : Place) (f : Facts) (o : Asker) (x : Sender) → (has (matched p f o) x ≡ true) ↔ IsNamed o.style (known f o.session) (goes_out p o.session o.iface) x
+  pub matches : (p : NodeConfig) (f : Facts) (o : Asker) (x : Sender) → (has (matched p f o) x ≡ true) ↔ IsNamed o.style (known f o.session) (goes_out p o.session o.iface) x
   -- a wildcard filter of which nobody is left, with its names as they came
-  pub wild : (names : Option Names) (all : Names) → lost Wild names all ≡ cond (is_none (names_that_match names all)) (Some names) None
+  pub wild : (names : Option Names) (all : Names) → lost Wild names all ≡ cond (is_none (names_that_match names all)) (as_listed names) Nobody
   -- of another filter the names that do not match, if there are some
   pub some : (st : StyleKind) (names all : Names) (x : Sender) → (st ≡ Wild → ⊥) → has names x ≡ true → has all x ≡ false
-      → (rest : Names) × (lost st (Some names) all ≡ Some (Some rest)) × ((y : Sender) → (has rest y ≡ true) ↔ ((has names y ≡ true) × (has all y ≡ false)))
-  pub none : (st : StyleKind) (names all : Names) → (st ≡ Wild → ⊥) → ((x : Sender) → has names x ≡ true → has all x ≡ true) → lost st (Some names) all ≡ None
+      → (rest : Names) × (lost st (Some names) all ≡ These rest) × ((y : Sender) → (has rest y ≡ true) ↔ ((has names y ≡ true) × (has all y ≡ false)))
+  pub none : (st : StyleKind) (names all : Names) → (st ≡ Wild → ⊥) → ((x : Sender) → has names x ≡ true → has all x ≡ true) → lost st (Some names) all ≡ Nobody
 
 -- ---- units one by one, with all that is done
 -- the refusal of those who do not match goes before the unit is put in its place
-abbrev pub told_before : Place → Asker → Names → Taking → AskedUnit → Taking
+abbrev pub told_before : NodeConfig → Asker → Names → Taking → AskedUnit → Taking
 told_before p o all t u = tell_lost p o u.flow (lost o.style u.names all) t
 
 -- the book's refusal of a unit
-abbrev pub book_refusal : Place → Asker → Facts → Taking → AskedUnit → Part → Refused → ErrSend
+abbrev pub book_refusal : NodeConfig → Asker → Facts → Taking → AskedUnit → Part → Refused → ErrSend
 book_refusal p o f t u part why = refusal p o (has_entry o f u.unit t.table) 1 (value_of why) (Some part.senders) part.flow
 
-module _ (p : Place) (o : Asker) (f : Facts) (all : Names) where
+module _ (p : NodeConfig) (o : Asker) (f : Facts) (all : Names) where
   -- a unit of the list, and what was done before it
   pub record IsUnitAt (t : Taking) (us : List AskedUnit) (unit : AskedUnit) (before : Taking) : Type 0 where
     pub front : List AskedUnit
@@ -89,7 +89,7 @@ module _ (p : Place) (o : Asker) (f : Facts) (all : Names) where
     pub unit : AskedUnit
     pub asks : In unit us
     pub names : Option Names
-    pub lost : lost o.style unit.names all ≡ Some names
+    pub lost : lost o.style unit.names all ≡ as_listed names
     pub is : e ≡ refusal p o false 4 0 names unit.flow
 
   -- the refusal of a unit by the book
@@ -118,45 +118,45 @@ module _ (p : Place) (o : Asker) (f : Facts) (all : Names) where
     pub tried : IsTried t us unit part before None
 
 pub record UnitsInFull : Type 0 where
-  pub taken : (p : Place) (o : Asker) (f : Facts) (all : Names) (t : Taking) (u : AskedUnit) (part : Part) → part_of (names_that_match u.names all) u.flow ≡ Some part → has_room o u.unit part t.table ≡ true
+  pub taken : (p : NodeConfig) (o : Asker) (f : Facts) (all : Names) (t : Taking) (u : AskedUnit) (part : Part) → part_of (names_that_match u.names all) u.flow ≡ Some part → has_room o u.unit part t.table ≡ true
       → book_refuses p o f u.unit part t.table ≡ None → take_unit p o f all t u ≡ record (told_before p o all t u) { table = table_with o u.unit part t.table; taken = put_in t.taken u.unit part }
-  pub refused : (p : Place) (o : Asker) (f : Facts) (all : Names) (t : Taking) (u : AskedUnit) (part : Part) (why : Refused) → part_of (names_that_match u.names all) u.flow ≡ Some part → has_room o u.unit part t.table ≡ true
+  pub refused : (p : NodeConfig) (o : Asker) (f : Facts) (all : Names) (t : Taking) (u : AskedUnit) (part : Part) (why : Refused) → part_of (names_that_match u.names all) u.flow ≡ Some part → has_room o u.unit part t.table ≡ true
       → book_refuses p o f u.unit part t.table ≡ Some why → take_unit p o f all t u ≡ record (told_before p o all t u) { errors = (told_before p o all t u).errors ++ book_refusal p o f t u part why ∷ [] }
-  pub left_out : (p : Place) (o : Asker) (f : Facts) (all : Names) (t : Taking) (u : AskedUnit) (part : Part) → part_of (names_that_match u.names all) u.flow ≡ Some part → has_room o u.unit part t.table ≡ false
+  pub left_out : (p : NodeConfig) (o : Asker) (f : Facts) (all : Names) (t : Taking) (u : AskedUnit) (part : Part) → part_of (names_that_match u.names all) u.flow ≡ Some part → has_room o u.unit part t.table ≡ false
       → take_unit p o f all t u ≡ record (told_before p o all t u) { left_out = true }
-  pub nobody : (p : Place) (o : Asker) (f : Facts) (all : Names) (t : Taking) (u : AskedUnit) → part_of (names_that_match u.names all) u.flow ≡ None → take_unit p o f all t u ≡ told_before p o all t u
+  pub nobody : (p : NodeConfig) (o : Asker) (f : Facts) (all : Names) (t : Taking) (u : AskedUnit) → part_of (names_that_match u.names all) u.flow ≡ None → take_unit p o f all t u ≡ told_before p o all t u
   -- one list after another
-  pub after : (p : Place) (o : Asker) (f : Facts) (all : Names) (t : Taking) (us vs : List AskedUnit) → take_units p o f all t (us ++ vs) ≡ take_units p o f all (take_units p o f all t us) vs
+  pub after : (p : NodeConfig) (o : Asker) (f : Facts) (all : Names) (t : Taking) (us vs : List AskedUnit) → take_units p o f all t (us ++ vs) ≡ take_units p o f all (take_units p o f all t us) vs
   -- what is refused, and nothing else, is told
-  pub errors : (p : Place) (o : Asker) (f : Facts) (all : Names) (t : Taking) (us : List AskedUnit) (e : ErrSend) → In e (take_units p o f all t us).errors ↔ (In e t.errors ⊎ (IsLoss p o f all us e ⊎ IsBookRefusal p o f all t us e))
+  pub errors : (p : NodeConfig) (o : Asker) (f : Facts) (all : Names) (t : Taking) (us : List AskedUnit) (e : ErrSend) → In e (take_units p o f all t us).errors ↔ (In e t.errors ⊎ (IsLoss p o f all us e ⊎ IsBookRefusal p o f all t us e))
   -- a unit was left out exactly where one had no room
-  pub outs : (p : Place) (o : Asker) (f : Facts) (all : Names) (t : Taking) (us : List AskedUnit) → ((take_units p o f all t us).left_out ≡ true) ↔ ((t.left_out ≡ true) ⊎ IsLeftOut p o f all t us)
+  pub outs : (p : NodeConfig) (o : Asker) (f : Facts) (all : Names) (t : Taking) (us : List AskedUnit) → ((take_units p o f all t us).left_out ≡ true) ↔ ((t.left_out ≡ true) ⊎ IsLeftOut p o f all t us)
   -- and what counts as taken took its place
-  pub takes : (p : Place) (o : Asker) (f : Facts) (all : Names) (t : Taking) (us : List AskedUnit) (u : UnitOf) (part : Part) → get (take_units p o f all t us).taken u ≡ Some part → (get t.taken u ≡ Some part) ⊎ IsTaken p o f all t us u part
+  pub takes : (p : NodeConfig) (o : Asker) (f : Facts) (all : Names) (t : Taking) (us : List AskedUnit) (u : UnitOf) (part : Part) → get (take_units p o f all t us).taken u ≡ Some part → (get t.taken u ≡ Some part) ⊎ IsTaken p o f all t us u part
 
 -- ---- the Resv as a whole
 pub record ResvsInSteps : Type 0 where
   -- no path: each unit is refused, and nothing changes
-  pub no_path : (p : Place) (c e : ℕ) (m : ResvMsg) (f : Facts) → is_none (known f m.session) ≡ true → taking p c e m f ≡ refuse_all p (asker_of p c e m) 3 0 (asked_units m.ask) (resvs_of (ask_style m.ask) f)
+  pub no_path : (p : NodeConfig) (c e : ℕ) (m : ResvMsg) (f : Facts) → is_none (known f m.session) ≡ true → taking p c e m f ≡ refuse_all p (asker_of p c e m) 3 0 (asked_units m.ask) (resvs_of (ask_style m.ask) f)
   -- another style: the same
-  pub conflict : (p : Place) (c e : ℕ) (m : ResvMsg) (f : Facts) (other : StyleKind) → is_none (known f m.session) ≡ false → style_conflict f m.session (ask_style m.ask) ≡ Some other
+  pub conflict : (p : NodeConfig) (c e : ℕ) (m : ResvMsg) (f : Facts) (other : StyleKind) → is_none (known f m.session) ≡ false → style_conflict f m.session (ask_style m.ask) ≡ Some other
       → taking p c e m f ≡ refuse_all p (asker_of p c e m) 5 (style_value other) (asked_units m.ask) (resvs_of (ask_style m.ask) f)
-  pub unchanged : (p : Place) (c e : ℕ) (m : ResvMsg) (f : Facts) (code value : ℕ) → taking p c e m f ≡ refuse_all p (asker_of p c e m) code value (asked_units m.ask) (resvs_of (ask_style m.ask) f) → (act_resv p c e m f).facts ≡ f
+  pub unchanged : (p : NodeConfig) (c e : ℕ) (m : ResvMsg) (f : Facts) (code value : ℕ) → taking p c e m f ≡ refuse_all p (asker_of p c e m) code value (asked_units m.ask) (resvs_of (ask_style m.ask) f) → (act_resv p c e m f).facts ≡ f
   -- else unit by unit
-  pub by_units : (p : Place) (c e : ℕ) (m : ResvMsg) (f : Facts) → is_none (known f m.session) ≡ false → style_conflict f m.session (ask_style m.ask) ≡ None
+  pub by_units : (p : NodeConfig) (c e : ℕ) (m : ResvMsg) (f : Facts) → is_none (known f m.session) ≡ false → style_conflict f m.session (ask_style m.ask) ≡ None
       → taking p c e m f ≡ take_units p (asker_of p c e m) f (matched p f (asker_of p c e m)) (nothing_taken (resvs_of (ask_style m.ask) f) []) (asked_units m.ask)
   -- the reservations of its style are those that it leaves, and all else stays
-  pub table : (p : Place) (c e : ℕ) (m : ResvMsg) (f : Facts) → resvs_of (ask_style m.ask) (act_resv p c e m f).facts ≡ (taking p c e m f).table
-  pub others : (p : Place) (c e : ℕ) (m : ResvMsg) (f : Facts) (st : StyleKind) → (st ≡ ask_style m.ask → ⊥) → resvs_of st (act_resv p c e m f).facts ≡ resvs_of st f
-  pub rest : (p : Place) (c e : ℕ) (m : ResvMsg) (f : Facts) → record (act_resv p c e m f).facts { resvs = f.resvs } ≡ f
-  pub errors : (p : Place) (c e : ℕ) (m : ResvMsg) (f : Facts) → (act_resv p c e m f).errors ≡ (taking p c e m f).errors
+  pub table : (p : NodeConfig) (c e : ℕ) (m : ResvMsg) (f : Facts) → resvs_of (ask_style m.ask) (act_resv p c e m f).facts ≡ (taking p c e m f).table
+  pub others : (p : NodeConfig) (c e : ℕ) (m : ResvMsg) (f : Facts) (st : StyleKind) → (st ≡ ask_style m.ask → ⊥) → resvs_of st (act_resv p c e m f).facts ≡ resvs_of st f
+  pub rest : (p : NodeConfig) (c e : ℕ) (m : ResvMsg) (f : Facts) → record (act_resv p c e m f).facts { resvs = f.resvs } ≡ f
+  pub errors : (p : NodeConfig) (c e : ℕ) (m : ResvMsg) (f : Facts) → (act_resv p c e m f).errors ≡ (taking p c e m f).errors
   -- the first error is heard, else that a unit was left out
-  pub told : (p : Place) (c e : ℕ) (m : ResvMsg) (f : Facts) (s : ErrSend) (ss : List ErrSend) → errors_in_order (taking p c e m f).errors ≡ s ∷ ss → (act_resv p c e m f).heard ≡ answered s.error
-  pub full : (p : Place) (c e : ℕ) (m : ResvMsg) (f : Facts) → (taking p c e m f).errors ≡ [] → (taking p c e m f).left_out ≡ true → (act_resv p c e m f).heard ≡ heard.Dropped why.Full
-  pub taken : (p : Place) (c e : ℕ) (m : ResvMsg) (f : Facts) → (taking p c e m f).errors ≡ [] → (taking p c e m f).left_out ≡ false → (act_resv p c e m f).heard ≡ heard.Taken
+  pub told : (p : NodeConfig) (c e : ℕ) (m : ResvMsg) (f : Facts) (s : ErrSend) (ss : List ErrSend) → errors_in_order (taking p c e m f).errors ≡ s ∷ ss → (act_resv p c e m f).heard ≡ answered s.error
+  pub full : (p : NodeConfig) (c e : ℕ) (m : ResvMsg) (f : Facts) → (taking p c e m f).errors ≡ [] → (taking p c e m f).left_out ≡ true → (act_resv p c e m f).heard ≡ heard.Dropped why.Full
+  pub taken : (p : NodeConfig) (c e : ℕ) (m : ResvMsg) (f : Facts) → (taking p c e m f).errors ≡ [] → (taking p c e m f).left_out ≡ false → (act_resv p c e m f).heard ≡ heard.Taken
   -- a wish to be confirmed is of what was taken
-  pub no_wish : (p : Place) (c e : ℕ) (m : ResvMsg) (f : Facts) → m.confirm ≡ None → (act_resv p c e m f).asked ≡ None
-  pub wish : (p : Place) (c e : ℕ) (m : ResvMsg) (f : Facts) (a : Addr) → m.confirm ≡ Some a
+  pub no_wish : (p : NodeConfig) (c e : ℕ) (m : ResvMsg) (f : Facts) → m.confirm ≡ None → (act_resv p c e m f).asked ≡ None
+  pub wish : (p : NodeConfig) (c e : ℕ) (m : ResvMsg) (f : Facts) (a : Addr) → m.confirm ≡ Some a
       → (act_resv p c e m f).asked ≡ Some (record { session = m.session; confirm = a; iface = e; hop = m.hop.addr; taken = ask_of (ask_style m.ask) (taking p c e m f).taken })
 
 -- ---- the units of a Resv, one by one
@@ -172,19 +172,19 @@ pub record IsOfUnit (o : Asker) (all : Names) (us : List AskedUnit) (k : LineKey
 
 pub record UnitsOneByOne : Type 0 where
   -- a unit that has room and is not refused takes its place
-  pub taken : (p : Place) (o : Asker) (f : Facts) (all : Names) (t : Taking) (u : AskedUnit) (part : Part) → part_of (names_that_match u.names all) u.flow ≡ Some part → has_room o u.unit part t.table ≡ true
+  pub taken : (p : NodeConfig) (o : Asker) (f : Facts) (all : Names) (t : Taking) (u : AskedUnit) (part : Part) → part_of (names_that_match u.names all) u.flow ≡ Some part → has_room o u.unit part t.table ≡ true
       → book_refuses p o f u.unit part t.table ≡ None → (take_unit p o f all t u).table ≡ table_with o u.unit part t.table
   -- one that is refused, or left out, or has nobody, changes no reservation
-  pub refused : (p : Place) (o : Asker) (f : Facts) (all : Names) (t : Taking) (u : AskedUnit) (part : Part) (why : Refused) → part_of (names_that_match u.names all) u.flow ≡ Some part → has_room o u.unit part t.table ≡ true
+  pub refused : (p : NodeConfig) (o : Asker) (f : Facts) (all : Names) (t : Taking) (u : AskedUnit) (part : Part) (why : Refused) → part_of (names_that_match u.names all) u.flow ≡ Some part → has_room o u.unit part t.table ≡ true
       → book_refuses p o f u.unit part t.table ≡ Some why → (take_unit p o f all t u).table ≡ t.table
-  pub left_out : (p : Place) (o : Asker) (f : Facts) (all : Names) (t : Taking) (u : AskedUnit) (part : Part) → part_of (names_that_match u.names all) u.flow ≡ Some part → has_room o u.unit part t.table ≡ false
+  pub left_out : (p : NodeConfig) (o : Asker) (f : Facts) (all : Names) (t : Taking) (u : AskedUnit) (part : Part) → part_of (names_that_match u.names all) u.flow ≡ Some part → has_room o u.unit part t.table ≡ false
       → ((take_unit p o f all t u).table ≡ t.table) × ((take_unit p o f all t u).left_out ≡ true)
-  pub nobody : (p : Place) (o : Asker) (f : Facts) (all : Names) (t : Taking) (u : AskedUnit) → part_of (names_that_match u.names all) u.flow ≡ None → (take_unit p o f all t u).table ≡ t.table
+  pub nobody : (p : NodeConfig) (o : Asker) (f : Facts) (all : Names) (t : Taking) (u : AskedUnit) → part_of (names_that_match u.names all) u.flow ≡ None → (take_unit p o f all t u).table ≡ t.table
   -- its place is that of its next hop and unit, and no other reservation changes
   pub at : (o : Asker) (u : UnitOf) (part : Part) (t : Resvs) → get (table_with o u part t) (key_at o u) ≡ Some (resv_state o part (get t (key_at o u)))
   pub beside : (o : Asker) (u : UnitOf) (part : Part) (t : Resvs) (k : LineKey) → (k ≡ key_at o u → ⊥) → get (table_with o u part t) k ≡ get t k
   -- so what stands after all of them stood before, or is of one of them
-  pub source : (p : Place) (o : Asker) (f : Facts) (all : Names) (us : List AskedUnit) (t : Taking) (k : LineKey) (r : ResvState) → get (take_units p o f all t us).table k ≡ Some r → (get t.table k ≡ Some r) ⊎ IsOfUnit o all us k r
-  pub others : (p : Place) (o : Asker) (f : Facts) (all : Names) (us : List AskedUnit) (t : Taking) (k : LineKey) → ((u : AskedUnit) → In u us → k ≡ key_at o u.unit → ⊥) → get (take_units p o f all t us).table k ≡ get t.table k
+  pub source : (p : NodeConfig) (o : Asker) (f : Facts) (all : Names) (us : List AskedUnit) (t : Taking) (k : LineKey) (r : ResvState) → get (take_units p o f all t us).table k ≡ Some r → (get t.table k ≡ Some r) ⊎ IsOfUnit o all us k r
+  pub others : (p : NodeConfig) (o : Asker) (f : Facts) (all : Names) (us : List AskedUnit) (t : Taking) (k : LineKey) → ((u : AskedUnit) → In u us → k ≡ key_at o u.unit → ⊥) → get (take_units p o f all t us).table k ≡ get t.table k
   -- and a refusal that was made stays made
-  pub errors : (p : Place) (o : Asker) (f : Facts) (all : Names) (us : List AskedUnit) (t : Taking) (e : ErrSend) → In e t.errors → In e (take_units p o f all t us).errors
+  pub errors : (p : NodeConfig) (o : Asker) (f : Facts) (all : Names) (us : List AskedUnit) (t : Taking) (e : ErrSend) → In e t.errors → In e (take_units p o f all t us).errors

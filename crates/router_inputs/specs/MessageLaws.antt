@@ -21,17 +21,17 @@ use Rattle.router_rules.specs.Facts.{Facts, PathState, ResvState, resvs_of}
 use Rattle.router_rules.specs.Inputs.{ConfSend, only_heard}
 use Rattle.router_rules.specs.Known.{came_by}
 use Rattle.router_rules.specs.Paths.{act_path, act_path_tear, path_state}
-use Rattle.router_rules.specs.Place.{Place, comes_in, is_own}
+use Rattle.router_rules.specs.NodeConfig.{NodeConfig, comes_in, is_own}
 use Rattle.router_lookups.specs.RuleLaws.{IsLeft}
 use Rattle.router_inputs.specs.ErrorLaws.{AreOnce}
 
 -- ---- a Path is dropped for one of three reasons, and else learnt; a PathTear takes away the path of its hop
 pub record PathsByTests : Type 0 where
-  pub no_sender : (p : Place) (c e : ℕ) (m : PathMsg) (f : Facts) → m.sender ≡ None → act_path p c e m f ≡ only_heard (heard.Dropped why.NoSender) f
-  pub not_inward : (p : Place) (c e : ℕ) (m : PathMsg) (f : Facts) (x : Sender) (tspec : TokenBucket) → m.sender ≡ Some (x, tspec) → comes_in p m.session e x ≡ false → act_path p c e m f ≡ only_heard (heard.Dropped why.NotInward) f
-  pub full : (p : Place) (c e : ℕ) (m : PathMsg) (f : Facts) (x : Sender) (tspec : TokenBucket) → m.sender ≡ Some (x, tspec) → comes_in p m.session e x ≡ true
+  pub no_sender : (p : NodeConfig) (c e : ℕ) (m : PathMsg) (f : Facts) → m.sender ≡ None → act_path p c e m f ≡ only_heard (heard.Dropped why.NoSender) f
+  pub not_inward : (p : NodeConfig) (c e : ℕ) (m : PathMsg) (f : Facts) (x : Sender) (tspec : TokenBucket) → m.sender ≡ Some (x, tspec) → comes_in p m.session e x ≡ false → act_path p c e m f ≡ only_heard (heard.Dropped why.NotInward) f
+  pub full : (p : NodeConfig) (c e : ℕ) (m : PathMsg) (f : Facts) (x : Sender) (tspec : TokenBucket) → m.sender ≡ Some (x, tspec) → comes_in p m.session e x ≡ true
       → has_room_at senders (put_in f.paths (m.session, x) (path_state p c e m tspec)) m.session ≡ false → act_path p c e m f ≡ only_heard (heard.Dropped why.Full) f
-  pub learnt : (p : Place) (c e : ℕ) (m : PathMsg) (f : Facts) (x : Sender) (tspec : TokenBucket) → m.sender ≡ Some (x, tspec) → comes_in p m.session e x ≡ true
+  pub learnt : (p : NodeConfig) (c e : ℕ) (m : PathMsg) (f : Facts) (x : Sender) (tspec : TokenBucket) → m.sender ≡ Some (x, tspec) → comes_in p m.session e x ≡ true
       → has_room_at senders (put_in f.paths (m.session, x) (path_state p c e m tspec)) m.session ≡ true → act_path p c e m f ≡ only_heard heard.Taken (record f { paths = put_in f.paths (m.session, x) (path_state p c e m tspec) })
   pub tear_of_nobody : (e : ℕ) (m : PathTearMsg) (f : Facts) → m.sender ≡ None → act_path_tear e m f ≡ only_heard (heard.Dropped why.NoSender) f
   pub tear_of_none : (e : ℕ) (m : PathTearMsg) (f : Facts) (x : Sender) → m.sender ≡ Some x → get f.paths (m.session, x) ≡ None → act_path_tear e m f ≡ only_heard (heard.Dropped why.NoState) f
@@ -68,6 +68,6 @@ pub record IsConfOn (m : ResvConfMsg) (f : Facts) (s : ConfSend) : Type 0 where
 pub record ConfirmationsByWish : Type 0 where
   pub on : (m : ResvConfMsg) (f : Facts) (s : ConfSend) → In s (confs_on m f) ↔ IsConfOn m f s
   pub once : (m : ResvConfMsg) (f : Facts) → AreOnce (each (λ (s : ConfSend). (s.iface, s.dst)) (confs_on m f))
-  pub own : (p : Place) (m : ResvConfMsg) (f : Facts) → is_own p m.confirm ≡ true → act_resv_conf p m f ≡ only_heard heard.Taken f
-  pub nobody : (p : Place) (m : ResvConfMsg) (f : Facts) → is_own p m.confirm ≡ false → ((s : ConfSend) → IsConfOn m f s → ⊥) → act_resv_conf p m f ≡ only_heard (heard.Dropped why.NoState) f
-  pub passed : (p : Place) (m : ResvConfMsg) (f : Facts) (s : ConfSend) → is_own p m.confirm ≡ false → IsConfOn m f s → act_resv_conf p m f ≡ record (only_heard heard.Taken f) { confs = confs_on m f }
+  pub own : (p : NodeConfig) (m : ResvConfMsg) (f : Facts) → is_own p m.confirm ≡ true → act_resv_conf p m f ≡ only_heard heard.Taken f
+  pub nobody : (p : NodeConfig) (m : ResvConfMsg) (f : Facts) → is_own p m.confirm ≡ false → ((s : ConfSend) → IsConfOn m f s → ⊥) → act_resv_conf p m f ≡ only_heard (heard.Dropped why.NoState) f
+  pub passed : (p : NodeConfig) (m : ResvConfMsg) (f : Facts) (s : ConfSend) → is_own p m.confirm ≡ false → IsConfOn m f s → act_resv_conf p m f ≡ record (only_heard heard.Taken f) { confs = confs_on m f }

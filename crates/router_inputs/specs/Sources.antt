@@ -8,11 +8,11 @@ use Rattle.rsvp_messages.specs.declared.message.PathMsg.{PathMsg}
 use Rattle.router_rules.specs.Facts.{Facts, PathState, SenderKey}
 use Rattle.router_rules.specs.Inputs.{Input, Came, Spelt}
 use Rattle.router_rules.specs.Paths.{path_state}
-use Rattle.router_rules.specs.Place.{Place, comes_in}
+use Rattle.router_rules.specs.NodeConfig.{NodeConfig, comes_in}
 use Rattle.router_rules.specs.Offers.{Offer, OfferKey}
 
 -- ---- a Path that counts: it came to its group, with a sender, by the interface that leads to the sender
-pub record CameOnTree (p : Place) (i : Input) (k : SenderKey) : Type 0 where
+pub record CameOnTree (p : NodeConfig) (i : Input) (k : SenderKey) : Type 0 where
   pub at : ℕ
   pub path : PathMsg
   pub tspec : TokenBucket
@@ -22,10 +22,10 @@ pub record CameOnTree (p : Place) (i : Input) (k : SenderKey) : Type 0 where
   pub tree : comes_in p k.0 at k.1 ≡ true
 
 -- what such a Path says
-abbrev pub said_by : (p : Place) (c : ℕ) (i : Input) (k : SenderKey) → CameOnTree p i k → PathState
+abbrev pub said_by : (p : NodeConfig) (c : ℕ) (i : Input) (k : SenderKey) → CameOnTree p i k → PathState
 said_by p c i k by = path_state p c by.at by.path by.tspec
 
-pub record IsLearnt (p : Place) (c : ℕ) (i : Input) (k : SenderKey) (x : PathState) : Type 0 where
+pub record IsLearnt (p : NodeConfig) (c : ℕ) (i : Input) (k : SenderKey) (x : PathState) : Type 0 where
   pub by : CameOnTree p i k
   pub is : x ≡ said_by p c i k by
 

@@ -25,7 +25,7 @@ use Rattle.router_rules.specs.declared.entry.Entry.{Entry}
 use Rattle.router_rules.specs.Books.{book}
 use Rattle.router_rules.specs.Facts.{Facts, PathState, ResvState, paths_in, resvs_in, resvs_of}
 use Rattle.router_rules.specs.Flags.{beside, entries_at, entry_at, is_beside, police_at}
-use Rattle.router_rules.specs.Place.{Place, goes_out}
+use Rattle.router_rules.specs.NodeConfig.{NodeConfig, goes_out}
 use Rattle.router_rules.specs.Requests.{is_style}
 use Rattle.router_lookups.specs.FlagLaws.{AreMerged, AsksForPolicing, FlagsByPathsAndResvs, HasBeside, IsMatch}
 use Rattle.router_lookups.proofs.Lists.{has_some, one_name, some_is}
@@ -79,7 +79,7 @@ two_made {K} {X} o m q =
     omega (arith, two, few)
 
 -- ---- paths that match
-module _ (p : Place) (f : Facts) (i : ℕ) (k : BookKey) (part : Part) where
+module _ (p : NodeConfig) (f : Facts) (i : ℕ) (k : BookKey) (part : Part) where
   abbrev matches_by : Sender → Bool
   matches_by x = has part.senders (name_of k.1.0 x) && goes_out p k.0 i x
 
@@ -168,10 +168,10 @@ module _ (p : Place) (f : Facts) (i : ℕ) (k : BookKey) (part : Part) where
       (ap not (has_some (cut part.senders q.resv.part.senders) q.shared (has-cut senders part.senders q.resv.part.senders q.shared ∙ and_made _ _ q.in_entry q.in_resv)))))
       (ap not q.larger)
 
-entry_told : (p : Place) (f : Facts) (i : ℕ) (e : Entry) → In e (entries_at p f i) → (k : BookKey) × (part : Part) × (get (book f i) k ≡ Some part) × (e ≡ entry_at p f i (k, part))
+entry_told : (p : NodeConfig) (f : Facts) (i : ℕ) (e : Entry) → In e (entries_at p f i) → (k : BookKey) × (part : Part) × (get (book f i) k ≡ Some part) × (e ≡ entry_at p f i (k, part))
 entry_told p f i e h = let r = in_each (entry_at p f i) e (book f i).rows h in (r.0.0, r.0.1, in_found entry_keys (book f i) r.0.0 r.0.1 r.1, r.2)
 
-entry_made : (p : Place) (f : Facts) (i : ℕ) (e : Entry) → (k : BookKey) × (part : Part) × (get (book f i) k ≡ Some part) × (e ≡ entry_at p f i (k, part)) → In e (entries_at p f i)
+entry_made : (p : NodeConfig) (f : Facts) (i : ℕ) (e : Entry) → (k : BookKey) × (part : Part) × (get (book f i) k ≡ Some part) × (e ≡ entry_at p f i (k, part)) → In e (entries_at p f i)
 entry_made p f i e q =
     subst (λ z. In z (entries_at p f i)) (sym q.3) (to_each (entry_at p f i) (q.0, q.1) (book f i).rows (found_in entry_keys (book f i) q.0 q.1 q.2))
 

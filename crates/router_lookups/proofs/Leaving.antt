@@ -21,7 +21,7 @@ use Rattle.router_rules.specs.Asking.{left_of, with_part}
 use Rattle.router_rules.specs.Facts.{Blockade, Facts, PathState, Resvs, ResvState, ResvTables, each_table, resvs_of, sender_keys, table_of, wall_keys, with_table}
 use Rattle.router_rules.specs.Forgetting.{counted, forget, is_lost, remembered}
 use Rattle.router_rules.specs.Known.{known, named_as}
-use Rattle.router_rules.specs.Place.{Place, period}
+use Rattle.router_rules.specs.NodeConfig.{NodeConfig, period}
 use Rattle.router_rules.specs.Waiting.{act_wait, living, next_due}
 use Rattle.router_lookups.specs.RuleLaws.{CountdownsSettle, ForgettingByNames, IsLeft, LeftByNames, TablesByStyle, WaitingLeavesTheLiving}
 use Rattle.router_lookups.proofs.Lists.{has_some, one_name, passed, some_is}
@@ -72,7 +72,7 @@ module _ {K X : Type 0} (o : Keys K) (dies : X → ℕ) (c : ℕ) where
 abbrev tick : ℕ → ℕ → Option (Unit {0})
 tick c t = cond (nat_le t c) (Some tt) None
 
-fired_told : (p : Place) (c word : ℕ) (f : Facts) (s : Session) → has (act_wait p c word f).fired s ≡ true → (t : ℕ) × (get f.due s ≡ Some t) × (t ≤ c)
+fired_told : (p : NodeConfig) (c word : ℕ) (f : Facts) (s : Session) → has (act_wait p c word f).fired s ≡ true → (t : ℕ) × (get f.due s ≡ Some t) × (t ≤ c)
 fired_told p c word f s e =
     let u = some_is (get (act_wait p c word f).fired s) e in
     let r = got_changed sessions (λ s t. tick c t) f.due s u.0 u.1 in
@@ -82,7 +82,7 @@ fired_told p c word f s e =
     at_most : (a b : ℕ) → nat_le a b ≡ true → a ≤ b
     at_most a b h = leb-true a b h
 
-fired_made : (p : Place) (c word : ℕ) (f : Facts) (s : Session) (t : ℕ) → get f.due s ≡ Some t → t ≤ c → has (act_wait p c word f).fired s ≡ true
+fired_made : (p : NodeConfig) (c word : ℕ) (f : Facts) (s : Session) (t : ℕ) → get f.due s ≡ Some t → t ≤ c → has (act_wait p c word f).fired s ≡ true
 fired_made p c word f s t g h = ap is_some (get-changed sessions (λ s t. tick c t) f.due s ∙ ap (λ w. then_do w (tick c)) g ∙ ap (λ b. cond b (Some tt) None) (le-leb t c h))
 
 pub waiting_leaves_the_living : WaitingLeavesTheLiving

@@ -12,3 +12,4 @@ pub mod Wishing
 pub mod Flagging
 pub mod Asks
 pub mod Rooms
+pub mod Blame

@@ -17,19 +17,19 @@ use Rattle.style_rules.proofs.Merges.{get-table_at}
 use Rattle.style_rules.specs.Toward.{or_else}
 use Rattle.router_rules.specs.Facts.{Facts, PathState, SenderKey}
 use Rattle.router_rules.specs.Offers.{Offer, OfferKey, offer_at, offer_keys, ways_of}
-use Rattle.router_rules.specs.Place.{Place, goes_out, outward}
+use Rattle.router_rules.specs.NodeConfig.{NodeConfig, goes_out, outward}
 use Rattle.router_lookups.specs.FactLaws.{OffersByWay, is_way}
 use Rattle.rsvp_base.proofs.Fronts.{to_keys}
 use Rattle.router_lookups.proofs.Lists.{in_range, to_range}
 
-abbrev all_ways : Place → Facts → List OfferKey
+abbrev all_ways : NodeConfig → Facts → List OfferKey
 all_ways p f = flat_map (ways_of p) (keys f.senders ++ keys f.paths)
 
 abbrev way : SenderKey → ℕ → OfferKey
 way k i = record { session = k.0; sender = k.1; iface = i }
 
 -- a key of the list is a way
-in_ways : (p : Place) (f : Facts) (k : OfferKey) → In k (all_ways p f) → is_way p k ≡ true
+in_ways : (p : NodeConfig) (f : Facts) (k : OfferKey) → In k (all_ways p f) → is_way p k ≡ true
 in_ways p f k i =
     let r = in_flat_map (ways_of p) k (keys f.senders ++ keys f.paths) i in
     let t = in_each (way r.0) k (outward p r.0.0 r.0.1) r.2 in
@@ -38,7 +38,7 @@ in_ways p f k i =
     subst (λ (z : OfferKey). is_way p z ≡ true) (sym t.2) (and_made _ _ (lt-ltb t.0 (length p.ifaces) (omega (arith, below))) q.1)
 
 -- and a way of a sender that is there is in it
-to_ways : (p : Place) (f : Facts) (k : OfferKey) → In (k.session, k.sender) (keys f.senders ++ keys f.paths) → is_way p k ≡ true → In k (all_ways p f)
+to_ways : (p : NodeConfig) (f : Facts) (k : OfferKey) → In (k.session, k.sender) (keys f.senders ++ keys f.paths) → is_way p k ≡ true → In k (all_ways p f)
 to_ways p f k i e =
     let t = and_both _ _ e in
     let below = ltb-true k.iface (length p.ifaces) t.0 in

@@ -25,7 +25,7 @@ use Rattle.style_rules.proofs.Towards.{get-toward}
 use Rattle.router_rules.specs.Books.{line_of, lines, lines_of}
 use Rattle.router_rules.specs.Facts.{Facts, ResvState, Walls, resvs_of, resvs_in, wants_in}
 use Rattle.router_rules.specs.Known.{Lane, lanes, names_via, names_via_where, via}
-use Rattle.router_rules.specs.Place.{Place, goes_out}
+use Rattle.router_rules.specs.NodeConfig.{NodeConfig, goes_out}
 use Rattle.router_rules.specs.Requests.{is_blockaded, is_style, request_of, requests, resv_part, resv_request, toward, want_part, want_request}
 use Rattle.router_lookups.specs.FactLaws.{IsResvRequest, IsWantRequest, IsLine, RequestsAndToward, BooksAndLines}
 use Rattle.router_lookups.proofs.Knowing.{names_told, named_told, via_told, lanes_made}
@@ -43,7 +43,7 @@ requested w l (Some part) r e =
 to_requested : (w : Walls) (l : Lane) (v : Option Part) (r : Request) → v ≡ Some r.part → r.blockaded ≡ is_blockaded l.style w l r.part → request_of w l v ≡ Some r
 to_requested w l v r e b = ap (request_of w l) e ∙ (λ i. Some (record { part = r.part; blockaded = sym b i }))
 
-pub request_told : (p : Place) (f : Facts) (l : Lane) (r : Request) → In r (requests p f l) → IsResvRequest p f l r ⊎ IsWantRequest f l r
+pub request_told : (p : NodeConfig) (f : Facts) (l : Lane) (r : Request) → In r (requests p f l) → IsResvRequest p f l r ⊎ IsWantRequest f l r
 request_told p f l r i =
     ⊎_elim
     (λ (j : In r (filter_map (resv_request p f l) (resvs_in l.style f l.session).rows)).
@@ -70,7 +70,7 @@ request_told p f l r i =
     }))
     (in_append r _ _ i)
 
-pub to_request : (p : Place) (f : Facts) (l : Lane) (r : Request) → IsResvRequest p f l r ⊎ IsWantRequest f l r → In r (requests p f l)
+pub to_request : (p : NodeConfig) (f : Facts) (l : Lane) (r : Request) → IsResvRequest p f l r ⊎ IsWantRequest f l r → In r (requests p f l)
 to_request p f l r t =
     ⊎_elim
     (λ (q : IsResvRequest p f l r).
@@ -90,7 +90,7 @@ to_request p f l r t =
 some_left : (part x : Part) (names : Names) → part_cut part names ≡ Some x → (s : Sender) × (has names s ≡ true)
 some_left part x names e = let r = one_name (cut part.senders names) (cut_of part x names e).some in (r.0, (and_both _ _ (sym (has-cut senders part.senders names r.0) ∙ r.1)).1)
 
-no_request : (p : Place) (f : Facts) (l : Lane) → has (lanes f) l ≡ false → (r : Request) → In r (requests p f l) → ⊥
+no_request : (p : NodeConfig) (f : Facts) (l : Lane) → has (lanes f) l ≡ false → (r : Request) → In r (requests p f l) → ⊥
 no_request p f l none r i =
     ⊎_elim
     (λ (q : IsResvRequest p f l r).
@@ -118,7 +118,7 @@ no_member : {A : Type 0} (xs : List A) → ((x : A) → In x xs → ⊥) → xs 
 no_member [] h = refl
 no_member (x ∷ xs) h = absurd (h x (inl refl))
 
-pub nowhere : (p : Place) (f : Facts) (l : Lane) → has (lanes f) l ≡ false → toward p f l ≡ empty
+pub nowhere : (p : NodeConfig) (f : Facts) (l : Lane) → has (lanes f) l ≡ false → toward p f l ≡ empty
 nowhere p f l none = ap (merged_toward l.style) (no_member (requests p f l) (no_request p f l none))
 
 pub requests_and_toward : RequestsAndToward

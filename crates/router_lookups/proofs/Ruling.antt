@@ -15,7 +15,7 @@ use Rattle.router_rules.specs.Act.{act}
 use Rattle.router_rules.specs.Facts.{Facts, Want, WantKey, want_keys, resvs_in, wants_in}
 use Rattle.router_rules.specs.Inputs.{Change}
 use Rattle.router_rules.specs.Known.{Lane}
-use Rattle.router_rules.specs.Place.{Place}
+use Rattle.router_rules.specs.NodeConfig.{NodeConfig}
 use Rattle.router_rules.specs.Requests.{resv_request, toward, want_request}
 use Rattle.router_rules.specs.Rule.{is_silent, settled, spoken}
 use Rattle.router_rules.specs.Sends.{unmarked, used_marks}
@@ -39,13 +39,13 @@ same_wants : (h : UnitOf × Want → Option Request) (g : UnitOf → Want → Wa
 same_wants h g same [] = refl
 same_wants h g same (e ∷ es) = λ i. cons_option (same e.0 e.1 i) (same_wants h g same es i)
 
-pub toward_unmarked : (p : Place) (f : Facts) (l : Lane) (used : Set want_keys) → toward p (record f { wants = changed (unmarked used) f.wants }) l ≡ toward p f l
+pub toward_unmarked : (p : NodeConfig) (f : Facts) (l : Lane) (used : Set want_keys) → toward p (record f { wants = changed (unmarked used) f.wants }) l ≡ toward p f l
 toward_unmarked p f l used =
     ap (λ ws. merged_toward l.style (filter_map (resv_request p f l) (resvs_in l.style f l.session).rows ++ ws))
     (ap (λ (t : Table units Want). filter_map (want_request f l) t.rows) (marked_in used f l.session)
     ∙ same_wants (want_request f l) (λ u w. with_mark used (l.session, u) w) (λ u w. refl) (wants_in f l.session).rows)
 
-module _ (old p : Place) (before after : Facts) (k : Change) where
+module _ (old p : NodeConfig) (before after : Facts) (k : Change) where
   wants_of : (b : Bool) (key : WantKey) (x : Want) → get (spoken b old p before after k).facts.wants key ≡ Some x → (w : Want) × (get after.wants key ≡ Some w) × IsWant w x
   wants_of true key x e = (x, e, record { style = refl; part = refl })
   wants_of false key x e =

@@ -14,7 +14,7 @@ use Rattle.router_rules.specs.Facts.{Facts}
 use Rattle.router_rules.specs.Inputs.{Change, ConfSend, Send, in_order}
 use Rattle.router_rules.specs.Known.{Lane, lane_keys, lanes}
 use Rattle.router_rules.specs.Offers.{offer_keys, offers}
-use Rattle.router_rules.specs.Place.{Place}
+use Rattle.router_rules.specs.NodeConfig.{NodeConfig}
 use Rattle.router_rules.specs.Requests.{toward}
 use Rattle.router_rules.specs.Sends.{conf_send, conf_sends, confirm_for, confirmed, error_send, error_sends, is_changed, is_new_offer, path_send, path_send_of, path_sends, path_tear, path_tears, resv_send, resv_send_of, resv_send_to, resv_sends, resv_tear, resv_tear_send, resv_tears, sends, torn_names}
 use Rattle.router_lookups.specs.SendLaws.{IsConf, IsError, IsPath, IsPathTear, IsResv, IsResvTear, IsSend, SendsAreOfSixKinds}
@@ -25,7 +25,7 @@ pub not_told : (b : Bool) → not b ≡ true → b ≡ false
 not_told true e = cc
 not_told false e = refl
 
-module _ (old p : Place) (before after : Facts) (k : Change) (s : Send) where
+module _ (old p : NodeConfig) (before after : Facts) (k : Change) (s : Send) where
   abbrev conf_key : ConfSend → NextHop
   conf_key x = (x.iface, x.dst)
 

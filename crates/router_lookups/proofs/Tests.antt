@@ -26,7 +26,7 @@ use Rattle.style_rules.proofs.Room.{within_told, within_tested}
 use Rattle.router_rules.specs.Books.{lines_of}
 use Rattle.router_rules.specs.Facts.{PathState}
 use Rattle.router_rules.specs.Known.{came_by}
-use Rattle.router_rules.specs.Place.{is_addr, is_session}
+use Rattle.router_rules.specs.NodeConfig.{is_addr, is_session}
 use Rattle.router_rules.specs.Requests.{is_style}
 use Rattle.router_rules.specs.Sends.{is_part_in, parts_le, same_flow, same_parts, stands_for}
 use Rattle.router_lookups.specs.FactLaws.{TestsTell}

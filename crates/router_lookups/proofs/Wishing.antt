@@ -22,7 +22,7 @@ use Rattle.style_rules.proofs.Merges.{in_those, to_those}
 use Rattle.router_rules.specs.Facts.{Facts, Want, WantKey, want_keys, wants_in}
 use Rattle.router_rules.specs.Inputs.{Asked, ConfSend}
 use Rattle.router_rules.specs.Known.{Lane, lane_keys, lanes}
-use Rattle.router_rules.specs.Place.{Place, is_session, own}
+use Rattle.router_rules.specs.NodeConfig.{NodeConfig, is_session, own}
 use Rattle.router_rules.specs.Requests.{requests, toward, want_request}
 use Rattle.router_rules.specs.Sends.{conf_for, confirmed, goes_on, is_changed, is_empty, is_marked, is_sent_new, marked_units, own_wish, same_parts, takes_part, unmarked, used_marks}
 use Rattle.router_lookups.specs.WishLaws.{GoesOn, IsGranted, IsMarked, IsNewThere, IsUsed, MarksAreUsed, TakesPart, WishesAreGranted}
@@ -40,7 +40,7 @@ some_parts t =
     by [] is n = absurd (n (same_rows t empty is))
     by (e ∷ es) is n = ap (λ zs. nat_lt 0 (length zs)) is ∙ lt-ltb 0 (length (e ∷ es)) (omega arith)
 
-module _ (old p : Place) (before after : Facts) where
+module _ (old p : NodeConfig) (before after : Facts) where
   new_told : (l : Lane) → is_sent_new old p before after l ≡ true → IsNewThere old p before after l
   new_told l e =
       let r = and_both (nat_lt 0 (size (toward p after l))) (is_changed old p before after l) e in
@@ -120,7 +120,7 @@ takes_made st all r t =
     t
 
 -- ---- marked wants
-module _ (p : Place) (f : Facts) (l : Lane) where
+module _ (p : NodeConfig) (f : Facts) (l : Lane) where
   marked_told : (u : UnitOf) → In u (marked_units p f l) → IsMarked p f l u
   marked_told u i =
       let r = in_each (λ (e : UnitOf × Want). e.0) u (filter (is_marked p f l) (wants_in f l.session).rows) i in
@@ -156,7 +156,7 @@ module _ (p : Place) (f : Facts) (l : Lane) where
   asks_made a u (v ∷ vs) e i = ap Some (sym e)
 
 -- ---- used marks
-module _ (old p : Place) (before after : Facts) where
+module _ (old p : NodeConfig) (before after : Facts) where
   abbrev keys_of : Lane → List WantKey
   keys_of l = each (λ u. (l.session, u)) (marked_units p after l)
 

@@ -21,7 +21,7 @@ use Rattle.router_rules.specs.Calls.{wanted}
 use Rattle.router_rules.specs.Forgetting.{counted}
 use Rattle.router_rules.specs.Known.{Lane, came_by, known, lanes, named_as, names_via, names_via_where, via}
 use Rattle.router_rules.specs.Offers.{OfferKey, offer_at, offers}
-use Rattle.router_rules.specs.Place.{Place, goes_out, is_addr, is_session}
+use Rattle.router_rules.specs.NodeConfig.{NodeConfig, goes_out, is_addr, is_session}
 use Rattle.router_rules.specs.Requests.{is_blockaded, is_style, requests, resv_part, toward, want_part}
 use Rattle.router_rules.specs.Sends.{same_flow, same_parts}
 
@@ -60,14 +60,14 @@ pub record KnownAndVia : Type 0 where
 
 -- ---- offers
 -- the sender's tree goes out of an interface that is there
-abbrev pub is_way : Place → OfferKey → Bool
+abbrev pub is_way : NodeConfig → OfferKey → Bool
 is_way p k = nat_lt k.iface (length p.ifaces) && goes_out p k.session k.iface k.sender
 
 abbrev pub OffersByWay : Type 0
-OffersByWay = (p : Place) (f : Facts) (k : OfferKey) → get (offers p f) k ≡ cond (is_way p k) (offer_at f k) None
+OffersByWay = (p : NodeConfig) (f : Facts) (k : OfferKey) → get (offers p f) k ≡ cond (is_way p k) (offer_at f k) None
 
 -- ---- requests
-pub record IsResvRequest (p : Place) (f : Facts) (l : Lane) (r : Request) : Type 0 where
+pub record IsResvRequest (p : NodeConfig) (f : Facts) (l : Lane) (r : Request) : Type 0 where
   pub key : NextHop × UnitOf
   pub resv : ResvState
   pub there : get (resvs_of l.style f) (l.session, key) ≡ Some resv
@@ -83,10 +83,10 @@ pub record IsWantRequest (f : Facts) (l : Lane) (r : Request) : Type 0 where
   pub blockaded : r.blockaded ≡ is_blockaded l.style f.walls l r.part
 
 pub record RequestsAndToward : Type 0 where
-  pub each : (p : Place) (f : Facts) (l : Lane) (r : Request) → In r (requests p f l) ↔ (IsResvRequest p f l r ⊎ IsWantRequest f l r)
-  pub at : (p : Place) (f : Facts) (l : Lane) (u : UnitOf) → get (toward p f l) u ≡ toward_at l.style (requests p f l) u
+  pub each : (p : NodeConfig) (f : Facts) (l : Lane) (r : Request) → In r (requests p f l) ↔ (IsResvRequest p f l r ⊎ IsWantRequest f l r)
+  pub at : (p : NodeConfig) (f : Facts) (l : Lane) (u : UnitOf) → get (toward p f l) u ≡ toward_at l.style (requests p f l) u
   -- nothing goes toward a hop from which no path comes
-  pub nowhere : (p : Place) (f : Facts) (l : Lane) → has (lanes f) l ≡ false → toward p f l ≡ empty
+  pub nowhere : (p : NodeConfig) (f : Facts) (l : Lane) → has (lanes f) l ≡ false → toward p f l ≡ empty
 
 -- ---- the book
 pub record IsLine (f : Facts) (line : Line) : Type 0 where

@@ -13,23 +13,23 @@ use Rattle.router_rules.specs.declared.entry.Entry.{Entry}
 use Rattle.router_rules.specs.Books.{book}
 use Rattle.router_rules.specs.Facts.{Facts, PathState, ResvState, resvs_of}
 use Rattle.router_rules.specs.Flags.{entries_at, entry_at, police_at}
-use Rattle.router_rules.specs.Place.{Place, goes_out}
+use Rattle.router_rules.specs.NodeConfig.{NodeConfig, goes_out}
 
 -- a path whose sender the entry names and whose tree goes out of its interface
-pub record IsMatch (p : Place) (f : Facts) (i : ℕ) (k : BookKey) (part : Part) (x : Sender) (path : PathState) : Type 0 where
+pub record IsMatch (p : NodeConfig) (f : Facts) (i : ℕ) (k : BookKey) (part : Part) (x : Sender) (path : PathState) : Type 0 where
   pub there : get f.paths (k.0, x) ≡ Some path
   pub named : has part.senders (name_of k.1.0 x) ≡ true
   pub way : goes_out p k.0 i x ≡ true
 
 -- whose sender asked for policing
-pub record AsksForPolicing (p : Place) (f : Facts) (i : ℕ) (k : BookKey) (part : Part) : Type 0 where
+pub record AsksForPolicing (p : NodeConfig) (f : Facts) (i : ℕ) (k : BookKey) (part : Part) : Type 0 where
   pub sender : Sender
   pub path : PathState
   pub matches : IsMatch p f i k part sender path
   pub asks : path.police ≡ true
 
 -- two of them
-pub record AreMerged (p : Place) (f : Facts) (i : ℕ) (k : BookKey) (part : Part) : Type 0 where
+pub record AreMerged (p : NodeConfig) (f : Facts) (i : ℕ) (k : BookKey) (part : Part) : Type 0 where
   pub first : Sender
   pub second : Sender
   pub first_path : PathState
@@ -52,8 +52,8 @@ pub record HasBeside (f : Facts) (i : ℕ) (k : BookKey) (part : Part) : Type 0 
   pub larger : flow_le resv.part.flow part.flow ≡ false
 
 pub record FlagsByPathsAndResvs : Type 0 where
-  pub e : (p : Place) (f : Facts) (i : ℕ) (k : BookKey) (part : Part) → ((police_at p f i k part).e ≡ true) ↔ AsksForPolicing p f i k part
-  pub m : (p : Place) (f : Facts) (i : ℕ) (k : BookKey) (part : Part) → ((police_at p f i k part).m ≡ true) ↔ ((k.1.0 ≡ Fixed → ⊥) × AreMerged p f i k part)
-  pub b : (p : Place) (f : Facts) (i : ℕ) (k : BookKey) (part : Part) → ((police_at p f i k part).b ≡ true) ↔ HasBeside f i k part
+  pub e : (p : NodeConfig) (f : Facts) (i : ℕ) (k : BookKey) (part : Part) → ((police_at p f i k part).e ≡ true) ↔ AsksForPolicing p f i k part
+  pub m : (p : NodeConfig) (f : Facts) (i : ℕ) (k : BookKey) (part : Part) → ((police_at p f i k part).m ≡ true) ↔ ((k.1.0 ≡ Fixed → ⊥) × AreMerged p f i k part)
+  pub b : (p : NodeConfig) (f : Facts) (i : ℕ) (k : BookKey) (part : Part) → ((police_at p f i k part).b ≡ true) ↔ HasBeside f i k part
   -- the entries are those of the book
-  pub entries : (p : Place) (f : Facts) (i : ℕ) (e : Entry) → In e (entries_at p f i) ↔ ((k : BookKey) × (part : Part) × (get (book f i) k ≡ Some part) × (e ≡ entry_at p f i (k, part)))
+  pub entries : (p : NodeConfig) (f : Facts) (i : ℕ) (e : Entry) → In e (entries_at p f i) ↔ ((k : BookKey) × (part : Part) × (get (book f i) k ≡ Some part) × (e ≡ entry_at p f i (k, part)))

@@ -13,7 +13,7 @@ use Rattle.router_rules.specs.Facts.{Facts}
 use Rattle.router_rules.specs.Inputs.{Change, ConfSend, ErrSend, Send}
 use Rattle.router_rules.specs.Known.{lane_keys, lanes}
 use Rattle.router_rules.specs.Offers.{Offers, offer_keys, offers}
-use Rattle.router_rules.specs.Place.{Place}
+use Rattle.router_rules.specs.NodeConfig.{NodeConfig}
 use Rattle.router_rules.specs.Sends.{conf_send, conf_sends, confirmed, error_sends, path_send_of, path_sends, path_tear, path_tears, resv_send_to, resv_sends, resv_tear_send, resv_tears, sends, torn_names}
 
 -- ---- lists in the order of a key
@@ -33,16 +33,16 @@ module _ {X K : Type 0} (o : Keys K) (key : X → K) where
     pub same : (k : K) → with_key k list ≡ with_key k came
 
 -- ---- tables of what is sent: their keys rise, and each stands once
-abbrev pub tears_by_offer : Place → Offers → Offers → Table offer_keys Send
+abbrev pub tears_by_offer : NodeConfig → Offers → Offers → Table offer_keys Send
 tears_by_offer p before after = changed (λ k o. cond (not (has after k)) (Some (path_tear p k)) None) before
 
-abbrev pub tears_by_lane : Place → Place → Facts → Facts → Table lane_keys Send
+abbrev pub tears_by_lane : NodeConfig → NodeConfig → Facts → Facts → Table lane_keys Send
 tears_by_lane old p before after = changed (λ l u. cond (is_none (torn_names old p before after l)) None (Some (resv_tear_send p after l (torn_names old p before after l)))) (lanes before)
 
-abbrev pub paths_by_offer : Place → Offers → Offers → Set sessions → Table offer_keys Send
+abbrev pub paths_by_offer : NodeConfig → Offers → Offers → Set sessions → Table offer_keys Send
 paths_by_offer p before after fired = changed (λ k o. path_send_of p before fired (k, o)) after
 
-abbrev pub resvs_by_lane : Place → Place → Facts → Facts → Change → Table lane_keys Send
+abbrev pub resvs_by_lane : NodeConfig → NodeConfig → Facts → Facts → Change → Table lane_keys Send
 resvs_by_lane old p before after k = changed (λ l u. resv_send_to old p before after k.fired k.asked l) (lanes after)
 
 abbrev pub conf_place : ConfSend → NextHop
@@ -50,15 +50,15 @@ conf_place s = (s.iface, s.dst)
 
 pub record SendsInOrder : Type 0 where
   -- six lists, one after another
-  pub six : (old p : Place) (before after : Facts) (k : Change) → sends old p before after k
+  pub six : (old p : NodeConfig) (before after : Facts) (k : Change) → sends old p before after k
       ≡ path_tears p (offers old before) (offers p after)
       ++ (resv_tears old p before after ++ (error_sends k.errors ++ (conf_sends (k.confs ++ confirmed old p before after k.asked) ++ (path_sends p (offers old before) (offers p after) k.fired ++ resv_sends old p before after k.fired k.asked))))
   -- by session, sender and interface
-  pub path_tears_by : (p : Place) (before after : Offers) → path_tears p before after ≡ values (tears_by_offer p before after)
-  pub paths_by : (p : Place) (before after : Offers) (fired : Set sessions) → path_sends p before after fired ≡ values (paths_by_offer p before after fired)
+  pub path_tears_by : (p : NodeConfig) (before after : Offers) → path_tears p before after ≡ values (tears_by_offer p before after)
+  pub paths_by : (p : NodeConfig) (before after : Offers) (fired : Set sessions) → path_sends p before after fired ≡ values (paths_by_offer p before after fired)
   -- by session, style, interface and address of the hop
-  pub resv_tears_by : (old p : Place) (before after : Facts) → resv_tears old p before after ≡ values (tears_by_lane old p before after)
-  pub resvs_by : (old p : Place) (before after : Facts) (k : Change) → resv_sends old p before after k.fired k.asked ≡ values (resvs_by_lane old p before after k)
+  pub resv_tears_by : (old p : NodeConfig) (before after : Facts) → resv_tears old p before after ≡ values (tears_by_lane old p before after)
+  pub resvs_by : (old p : NodeConfig) (before after : Facts) (k : Change) → resv_sends old p before after k.fired k.asked ≡ values (resvs_by_lane old p before after k)
   -- errors by interface, next hop and first sender, and confirmations by interface and next hop
   pub errors_by : (ss : List ErrSend) → IsOrdered err_places err_place ss (errors_in_order ss)
   pub confs_by : (ss : List ConfSend) → (list : List ConfSend) × (conf_sends ss ≡ each conf_send list) × IsOrdered next_hops conf_place ss list

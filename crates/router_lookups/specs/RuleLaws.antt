@@ -13,7 +13,7 @@ use Rattle.router_rules.specs.Facts.{Facts, Blockade, PathState, Resvs, ResvStat
 use Rattle.router_rules.specs.Forgetting.{counted, forget, is_lost, remembered, settle}
 use Rattle.router_rules.specs.Inputs.{Input}
 use Rattle.router_rules.specs.Known.{Lane, known, named_as}
-use Rattle.router_rules.specs.Place.{Place, period}
+use Rattle.router_rules.specs.NodeConfig.{NodeConfig, period}
 use Rattle.router_rules.specs.Requests.{toward}
 use Rattle.router_rules.specs.Rule.{is_silent, rule, settled}
 use Rattle.router_rules.specs.Sends.{sends, unmarked, used_marks}
@@ -27,11 +27,11 @@ pub record TablesByStyle : Type 0 where
 
 -- ---- waiting: what dies later than the clock stays as it is, and what is due moves
 pub record WaitingLeavesTheLiving : Type 0 where
-  pub of_paths : (p : Place) (c word : ℕ) (f : Facts) (k : SenderKey) (x : PathState) → (get (act_wait p c word f).facts.paths k ≡ Some x) ↔ ((get f.paths k ≡ Some x) × (c < x.dies))
-  pub of_resvs : (p : Place) (c word : ℕ) (f : Facts) (st : StyleKind) (k : LineKey) (r : ResvState) → (get (resvs_of st (act_wait p c word f).facts) k ≡ Some r) ↔ ((get (resvs_of st f) k ≡ Some r) × (c < r.dies))
-  pub of_walls : (p : Place) (c word : ℕ) (f : Facts) (k : WallKey) (b : Blockade) → (get (act_wait p c word f).facts.walls k ≡ Some b) ↔ ((get f.walls k ≡ Some b) × (c < b.dies))
-  pub of_due : (p : Place) (c word : ℕ) (f : Facts) (s : Session) (t : ℕ) → get f.due s ≡ Some t → get (act_wait p c word f).facts.due s ≡ Some (next_due p c word t)
-  pub of_fired : (p : Place) (c word : ℕ) (f : Facts) (s : Session) → (has (act_wait p c word f).fired s ≡ true) ↔ ((t : ℕ) × (get f.due s ≡ Some t) × (t ≤ c))
+  pub of_paths : (p : NodeConfig) (c word : ℕ) (f : Facts) (k : SenderKey) (x : PathState) → (get (act_wait p c word f).facts.paths k ≡ Some x) ↔ ((get f.paths k ≡ Some x) × (c < x.dies))
+  pub of_resvs : (p : NodeConfig) (c word : ℕ) (f : Facts) (st : StyleKind) (k : LineKey) (r : ResvState) → (get (resvs_of st (act_wait p c word f).facts) k ≡ Some r) ↔ ((get (resvs_of st f) k ≡ Some r) × (c < r.dies))
+  pub of_walls : (p : NodeConfig) (c word : ℕ) (f : Facts) (k : WallKey) (b : Blockade) → (get (act_wait p c word f).facts.walls k ≡ Some b) ↔ ((get f.walls k ≡ Some b) × (c < b.dies))
+  pub of_due : (p : NodeConfig) (c word : ℕ) (f : Facts) (s : Session) (t : ℕ) → get f.due s ≡ Some t → get (act_wait p c word f).facts.due s ≡ Some (next_due p c word t)
+  pub of_fired : (p : NodeConfig) (c word : ℕ) (f : Facts) (s : Session) → (has (act_wait p c word f).fired s ≡ true) ↔ ((t : ℕ) × (get f.due s ≡ Some t) × (t ≤ c))
 
 -- ---- what is left of a reservation: the names that stay, if one does, and all else as it was
 pub record IsLeft (stays : Sender → Bool) (r x : ResvState) : Type 0 where
@@ -64,7 +64,7 @@ pub record ForgettingByNames : Type 0 where
 
 -- ---- countdowns
 abbrev pub CountdownsSettle : Type 0
-CountdownsSettle = (p : Place) (c : ℕ) (f : Facts) (s : Session) → get (settle p c f).due s ≡ cond (has (counted f) s) (Some (unwrap_or (get f.due s) (c + period p))) None
+CountdownsSettle = (p : NodeConfig) (c : ℕ) (f : Facts) (s : Session) → get (settle p c f).due s ≡ cond (has (counted f) s) (Some (unwrap_or (get f.due s) (c + period p))) None
 
 -- ---- the rule in its parts
 -- a want keeps all but its mark
@@ -73,17 +73,17 @@ pub record IsWant (w x : Want) : Type 0 where
   pub part : x.part ≡ w.part
 
 pub record RuleInParts : Type 0 where
-  pub senders : (old p : Place) (c : ℕ) (i : Input) (f : Facts) → (rule old p c i f).facts.senders ≡ (act p c i f).facts.senders
-  pub paths : (old p : Place) (c : ℕ) (i : Input) (f : Facts) → (rule old p c i f).facts.paths ≡ (act p c i f).facts.paths
-  pub walls : (old p : Place) (c : ℕ) (i : Input) (f : Facts) → (rule old p c i f).facts.walls ≡ (act p c i f).facts.walls
-  pub resvs : (old p : Place) (c : ℕ) (i : Input) (f : Facts) → (rule old p c i f).facts.resvs ≡ (forget f (act p c i f).facts).resvs
-  pub due : (old p : Place) (c : ℕ) (i : Input) (f : Facts) → (rule old p c i f).facts.due ≡ (settle p c (act p c i f).facts).due
-  pub wants : (old p : Place) (c : ℕ) (i : Input) (f : Facts) (k : WantKey) (x : Want) → get (rule old p c i f).facts.wants k ≡ Some x → (w : Want) × (get (act p c i f).facts.wants k ≡ Some w) × IsWant w x
+  pub senders : (old p : NodeConfig) (c : ℕ) (i : Input) (f : Facts) → (rule old p c i f).facts.senders ≡ (act p c i f).facts.senders
+  pub paths : (old p : NodeConfig) (c : ℕ) (i : Input) (f : Facts) → (rule old p c i f).facts.paths ≡ (act p c i f).facts.paths
+  pub walls : (old p : NodeConfig) (c : ℕ) (i : Input) (f : Facts) → (rule old p c i f).facts.walls ≡ (act p c i f).facts.walls
+  pub resvs : (old p : NodeConfig) (c : ℕ) (i : Input) (f : Facts) → (rule old p c i f).facts.resvs ≡ (forget f (act p c i f).facts).resvs
+  pub due : (old p : NodeConfig) (c : ℕ) (i : Input) (f : Facts) → (rule old p c i f).facts.due ≡ (settle p c (act p c i f).facts).due
+  pub wants : (old p : NodeConfig) (c : ℕ) (i : Input) (f : Facts) (k : WantKey) (x : Want) → get (rule old p c i f).facts.wants k ≡ Some x → (w : Want) × (get (act p c i f).facts.wants k ≡ Some w) × IsWant w x
   -- each want is still there, its mark used where a request that holds it was sent for a change
-  pub marks : (old p : Place) (c : ℕ) (i : Input) (f : Facts) → is_silent i ≡ false → (rule old p c i f).facts.wants ≡ changed (unmarked (used_marks old p f (settled p c f (act p c i f).facts) (act p c i f).asked)) (act p c i f).facts.wants
-  pub quiet : (old p : Place) (c : ℕ) (i : Input) (f : Facts) → is_silent i ≡ true → (rule old p c i f).facts.wants ≡ (act p c i f).facts.wants
-  pub heard : (old p : Place) (c : ℕ) (i : Input) (f : Facts) → (rule old p c i f).heard ≡ (act p c i f).heard
-  pub loud : (old p : Place) (c : ℕ) (i : Input) (f : Facts) → is_silent i ≡ false → (rule old p c i f).sent ≡ sends old p f (settled p c f (act p c i f).facts) (act p c i f)
-  pub silent : (old p : Place) (c : ℕ) (i : Input) (f : Facts) → is_silent i ≡ true → (rule old p c i f).sent ≡ []
+  pub marks : (old p : NodeConfig) (c : ℕ) (i : Input) (f : Facts) → is_silent i ≡ false → (rule old p c i f).facts.wants ≡ changed (unmarked (used_marks old p f (settled p c f (act p c i f).facts) (act p c i f).asked)) (act p c i f).facts.wants
+  pub quiet : (old p : NodeConfig) (c : ℕ) (i : Input) (f : Facts) → is_silent i ≡ true → (rule old p c i f).facts.wants ≡ (act p c i f).facts.wants
+  pub heard : (old p : NodeConfig) (c : ℕ) (i : Input) (f : Facts) → (rule old p c i f).heard ≡ (act p c i f).heard
+  pub loud : (old p : NodeConfig) (c : ℕ) (i : Input) (f : Facts) → is_silent i ≡ false → (rule old p c i f).sent ≡ sends old p f (settled p c f (act p c i f).facts) (act p c i f)
+  pub silent : (old p : NodeConfig) (c : ℕ) (i : Input) (f : Facts) → is_silent i ≡ true → (rule old p c i f).sent ≡ []
   -- marks do not matter to what goes toward a hop
-  pub toward_same : (old p : Place) (c : ℕ) (i : Input) (f : Facts) (l : Lane) → toward p (rule old p c i f).facts l ≡ toward p (settled p c f (act p c i f).facts) l
+  pub toward_same : (old p : NodeConfig) (c : ℕ) (i : Input) (f : Facts) (l : Lane) → toward p (rule old p c i f).facts l ≡ toward p (settled p c f (act p c i f).facts) l

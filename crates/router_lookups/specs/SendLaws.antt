@@ -16,11 +16,11 @@ use Rattle.router_rules.specs.Facts.{Facts}
 use Rattle.router_rules.specs.Inputs.{Change, ConfSend, ErrSend, Send}
 use Rattle.router_rules.specs.Known.{Lane, lanes}
 use Rattle.router_rules.specs.Offers.{Offer, OfferKey, offers}
-use Rattle.router_rules.specs.Place.{Place}
+use Rattle.router_rules.specs.NodeConfig.{NodeConfig}
 use Rattle.router_rules.specs.Requests.{toward}
 use Rattle.router_rules.specs.Sends.{conf_send, confirm_for, confirmed, error_send, gone_names, is_changed, is_new_offer, path_send, path_tear, resv_send, resv_tear_send, sends, torn_names}
 
-module _ (old p : Place) (before after : Facts) (k : Change) (s : Send) where
+module _ (old p : NodeConfig) (before after : Facts) (k : Change) (s : Send) where
   -- an offer that is gone
   pub record IsPathTear : Type 0 where
     pub key : OfferKey
@@ -67,7 +67,7 @@ module _ (old p : Place) (before after : Facts) (k : Change) (s : Send) where
 
 -- each send is one of six kinds, and each of these is sent
 pub record SendsAreOfSixKinds : Type 0 where
-  pub each : (old p : Place) (before after : Facts) (k : Change) (s : Send) → In s (sends old p before after k) ↔ IsSend old p before after k s
+  pub each : (old p : NodeConfig) (before after : Facts) (k : Change) (s : Send) → In s (sends old p before after k) ↔ IsSend old p before after k s
 
 -- ---- what parts by unit ask for
 -- each part is of its style and stands under its unit

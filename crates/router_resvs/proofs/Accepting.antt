@@ -29,7 +29,7 @@ use Rattle.style_rules.proofs.StyleLaws.{named_in}
 use Rattle.router_rules.specs.Asking.{Asker, entry_at, has_room, key_at, resv_state, table_with}
 use Rattle.router_rules.specs.Books.{book, line_of, lines, lines_of}
 use Rattle.router_rules.specs.Facts.{Facts, Resvs, resvs_of, with_resvs}
-use Rattle.router_rules.specs.Place.{Place}
+use Rattle.router_rules.specs.NodeConfig.{NodeConfig}
 use Rattle.router_lookups.proofs.Leaving.{table_put}
 use Rattle.router_lookups.proofs.Requesting.{lines_told, to_lines}
 use Rattle.router_bounds.proofs.Putting.{IsPut, put_source}
@@ -44,7 +44,7 @@ under_along l g h a b = record { style = a.style ∙ b.style; key = a.key ∙ b.
 under_as : (l k g : Line) → l ≡ k → IsUnder k g → IsUnder l g
 under_as l k g same u = subst (λ (z : Line). IsUnder z g) (sym same) u
 
-module _ (p : Place) (o : Asker) (f : Facts) (t : Resvs) (u : UnitOf) (part : Part) (gs : List Line) (can : CanBeHeld p gs) (there : AreUnder (lines (with_resvs o.style t f)) gs) (place : HasPlace o u part gs) where
+module _ (p : NodeConfig) (o : Asker) (f : Facts) (t : Resvs) (u : UnitOf) (part : Part) (gs : List Line) (can : CanBeHeld p gs) (there : AreUnder (lines (with_resvs o.style t f)) gs) (place : HasPlace o u part gs) where
   abbrev after_it : Facts
   after_it = with_resvs o.style (table_with o u part t) f
 

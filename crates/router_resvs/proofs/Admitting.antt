@@ -36,13 +36,13 @@ use Rattle.style_rules.specs.Lines.{AreUnder, Line, LineKey, NextHop, line_keys,
 use Rattle.style_rules.specs.Parts.{part_of}
 use Rattle.router_rules.specs.declared.answers.Heard.TheVariants as heard
 use Rattle.router_rules.specs.Act.{act, act_spelt}
-use Rattle.router_rules.specs.Asking.{Asker, Taking, act_resv, asker_of, book_refuses, errors_in_order, has_style, heard_of, key_at, lost, matched, names_that_match, nothing_taken, put_tested, put_unit, resv_state, style_conflict, table_with, take_unit, take_units, taking, taking_of, tell_lost}
+use Rattle.router_rules.specs.Asking.{Asker, Taking, act_resv, asker_of, book_refuses, errors_in_order, has_style, heard_of, key_at, lost, matched, names_that_match, nothing_taken, put_tested, put_unit, resv_state, style_conflict, table_with, take_unit, take_units, taking, taking_of, tell_lost, Nobody, These}
 use Rattle.router_rules.specs.Books.{lines}
 use Rattle.router_rules.specs.Facts.{Facts, Resvs, ResvState, ResvTables, Want, resvs_in, resvs_of, table_of, with_resvs, with_table, wants_in}
 use Rattle.router_rules.specs.Forgetting.{forget, is_lost}
 use Rattle.router_rules.specs.Inputs.{Change, ErrSend, Input, Send}
 use Rattle.router_rules.specs.Known.{known, named_as}
-use Rattle.router_rules.specs.Place.{Place, goes_out, own}
+use Rattle.router_rules.specs.NodeConfig.{NodeConfig, goes_out, own}
 use Rattle.router_rules.specs.Requests.{is_style}
 use Rattle.router_rules.specs.Rule.{settled}
 use Rattle.router_lookups.specs.SendLaws.{IsConf, IsError, IsPath, IsPathTear, IsResv, IsResvTear}
@@ -56,7 +56,7 @@ use Rattle.router_rules.specs.Steps.{facts_then, sent_then}
 use Rattle.router_inputs.proofs.Stepping.{send_told}
 use Rattle.router_bounds.proofs.Reserving.{forgotten_fewer}
 use Rattle.router_bounds.proofs.Shrinking.{lines_under}
-use Rattle.router_resvs.specs.AcceptingLaws.{CanBeHeld, CanBeTaken, IsBooked, IsPlaced, IsTaken, WhatIsAccepted, came_resv}
+use Rattle.router_resvs.specs.AcceptingLaws.{CanBeHeld, CanBeTaken, IsBooked, IsPlaced, IsTakenWhole, WhatIsAccepted, came_resv}
 use Rattle.router_resvs.proofs.Accepting.{under_along, unit_booked}
 
 -- ---- names of which all match
@@ -77,16 +77,16 @@ none_unmatched names all match = either (is_none (kept (λ x. not (has all x)) n
     let r = and_both _ _ (sym (has-kept senders (λ x. not (has all x)) names one.0) ∙ one.1) in
     let off = sym (ap not (match one.0 r.0)) ∙ r.1 in absurd (cc))
 
-nobody_lost : (st : StyleKind) (names all : Names) → is_none names ≡ false → IsWithin names all → lost st (Some names) all ≡ None
-nobody_lost Wild names all some match = ap (λ b. cond b (Some (Some names)) None) (ap is_none (all_match names all match) ∙ some)
-nobody_lost Fixed names all some match = ap (λ b. cond b None (Some (Some (kept (λ x. not (has all x)) names)))) (none_unmatched names all match)
-nobody_lost Shared names all some match = ap (λ b. cond b None (Some (Some (kept (λ x. not (has all x)) names)))) (none_unmatched names all match)
+nobody_lost : (st : StyleKind) (names all : Names) → is_none names ≡ false → IsWithin names all → lost st (Some names) all ≡ Nobody
+nobody_lost Wild names all some match = ap (λ b. cond b (These names) Nobody) (ap is_none (all_match names all match) ∙ some)
+nobody_lost Fixed names all some match = ap (λ b. cond b Nobody (These (kept (λ x. not (has all x)) names))) (none_unmatched names all match)
+nobody_lost Shared names all some match = ap (λ b. cond b Nobody (These (kept (λ x. not (has all x)) names))) (none_unmatched names all match)
 
 nothing_more : {A : Type 0} (xs ys : List A) → xs ≡ [] → ys ≡ [] → xs ++ ys ≡ []
 nothing_more xs ys e g = λ i. e i ++ g i
 
 -- ---- the units one after another
-module _ (p : Place) (o : Asker) (f : Facts) (gs : List Line) (can : CanBeHeld p gs) where
+module _ (p : NodeConfig) (o : Asker) (f : Facts) (gs : List Line) (can : CanBeHeld p gs) where
   abbrev all : Names
   all = matched p f o
 
@@ -106,18 +106,18 @@ module _ (p : Place) (o : Asker) (f : Facts) (gs : List Line) (can : CanBeHeld p
     part_is : part_of (names_that_match u.names all) u.flow ≡ Some (the_part place.names u)
     part_is = ap (λ w. part_of (names_that_match w all) u.flow) place.listed ∙ ap (λ names. part_of names u.flow) (all_match place.names all place.match) ∙ part_of_some place.names u.flow place.some
 
-    lost_is : lost o.style u.names all ≡ None
+    lost_is : lost o.style u.names all ≡ Nobody
     lost_is = ap (λ w. lost o.style w all) place.listed ∙ nobody_lost o.style place.names all place.some place.match
 
     booked_is : IsBooked p o f t.table u.unit (the_part place.names u) gs
     booked_is = unit_booked p o f t.table u.unit (the_part place.names u) gs can well.under place.place
 
-    unit_is : take_unit p o f all t u ≡ put_tested p o f u.unit (the_part place.names u) true None (tell_lost p o u.flow None t)
+    unit_is : take_unit p o f all t u ≡ put_tested p o f u.unit (the_part place.names u) true None (tell_lost p o u.flow Nobody t)
     unit_is =
         ap (λ w. put_unit p o f u.unit w (tell_lost p o u.flow (lost o.style u.names all) t)) part_is
         ∙ ap (λ w. put_unit p o f u.unit (Some (the_part place.names u)) (tell_lost p o u.flow w t)) lost_is
-        ∙ ap (λ b. put_tested p o f u.unit (the_part place.names u) b (book_refuses p o f u.unit (the_part place.names u) t.table) (tell_lost p o u.flow None t)) booked_is.room
-        ∙ ap (λ w. put_tested p o f u.unit (the_part place.names u) true w (tell_lost p o u.flow None t)) booked_is.open_to
+        ∙ ap (λ b. put_tested p o f u.unit (the_part place.names u) b (book_refuses p o f u.unit (the_part place.names u) t.table) (tell_lost p o u.flow Nobody t)) booked_is.room
+        ∙ ap (λ w. put_tested p o f u.unit (the_part place.names u) true w (tell_lost p o u.flow Nobody t)) booked_is.open_to
 
     table_is : (take_unit p o f all t u).table ≡ table_with o u.unit (the_part place.names u) t.table
     table_is = ap (λ (z : Taking). z.table) unit_is
@@ -253,7 +253,7 @@ module _ (f : Facts) (s : Session) (st : StyleKind) (of_resvs : (x : StyleKind) 
       ∙ ap (λ b. cond b (Some Fixed) (cond (not (is_style Shared st) && has_style f s Shared) (Some Shared) None)) (not_other Fixed) ∙ ap (λ b. cond b (Some Shared) None) (not_other Shared)
 
 -- ---- the Resv
-module _ (old p : Place) (c e : ℕ) (m : ResvMsg) (f : Facts) (gs : List Line) (h : CanBeTaken p c e m f gs) where
+module _ (old p : NodeConfig) (c e : ℕ) (m : ResvMsg) (f : Facts) (gs : List Line) (h : CanBeTaken p c e m f gs) where
   abbrev o : Asker
   o = asker_of p c e m
 
@@ -357,7 +357,7 @@ module _ (old p : Place) (c e : ℕ) (m : ResvMsg) (f : Facts) (gs : List Line) 
       left_under l i =
           let k = lines_under made (forget f made) (forgotten_fewer f made) l i in let g = ends_well.under k.0 k.1 in (g.0, g.1, under_along l k.0 g.0 k.2 g.2)
 
-  pub is_taken : IsTaken old p c e m f gs
+  pub is_taken : IsTakenWhole old p c e m f gs
   is_taken = record { heard_it = heard_is; no_error = no_errors; facts = unit_there; under = all_under }
 
 pub what_is_accepted : WhatIsAccepted

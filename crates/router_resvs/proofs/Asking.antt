@@ -26,7 +26,7 @@ use Rattle.router_rules.specs.Facts.{Facts, ResvState, Resvs, resvs_of}
 use Rattle.router_rules.specs.Forgetting.{is_lost}
 use Rattle.router_rules.specs.Inputs.{Call, Came, Change, Clear, Input, Moved, Spelt, Unspelt, Wait}
 use Rattle.router_rules.specs.Known.{known, named_as}
-use Rattle.router_rules.specs.Place.{Place, own}
+use Rattle.router_rules.specs.NodeConfig.{NodeConfig, own}
 use Rattle.router_lookups.proofs.Leaving.{forgetting_by_names, left_by_names, table_other, waiting_leaves_the_living}
 use Rattle.router_lookups.proofs.Tests.{addr_told}
 use Rattle.router_inputs.specs.AskLaws.{IsOfUnit}
@@ -52,7 +52,7 @@ match_of None all s h = h
 match_of (Some names) all s h = (and_both _ _ (sym (has-cut senders names all s) ∙ h)).1
 
 -- what a Resv leaves: a unit that it asked for, or what was there
-module _ (p : Place) (c e : ℕ) (m : ResvMsg) (f : Facts) where
+module _ (p : NodeConfig) (c e : ℕ) (m : ResvMsg) (f : Facts) where
   abbrev o : Asker
   o = asker_of p c e m
 
@@ -81,7 +81,7 @@ module _ (p : Place) (c e : ℕ) (m : ResvMsg) (f : Facts) where
         dies = left.dies ∙ q.dies;
       }
 
-module _ (old p : Place) (b c : ℕ) (f : Facts) (within : IsWithinBounds old b f) where
+module _ (old p : NodeConfig) (b c : ℕ) (f : Facts) (within : IsWithinBounds old b f) where
   -- each reservation has a name
   named : (st : StyleKind) (k : LineKey) (r : ResvState) → get (resvs_of st f) k ≡ Some r → has_name r.part ≡ true
   named st k r h = (within.shapes.resvs st k r h).style.named
@@ -136,11 +136,11 @@ module _ (old p : Place) (b c : ℕ) (f : Facts) (within : IsWithinBounds old b 
       ⊎_elim (λ (q : (r : ResvState) × (get (resvs_of st f) k ≡ Some r) × IsLeftOf r y.0). inl (q.0, q.1, left_along q.0 y.0 x q.2 y.2)) (λ (q : (x : ResvState) → IsLeftOf y.0 x → IsAskedFor p c i f st k x). inr (q x y.2)) (by_input i st k y.0 y.1)
 
 pub where_a_reservation_fact_comes_from : WhereAReservationFactComesFrom
-where_a_reservation_fact_comes_from old p b c i f within st k x h = resv_source old p b c f within i st k x h
+where_a_reservation_fact_comes_from step within st k x h = resv_source step.old step.now step.before step.after step.facts within step.input st k x h
 
 -- ---- what keeps a reservation
 -- a key of the Resv's is one that it speaks of
-module _ (p : Place) (c e : ℕ) (m : ResvMsg) (f : Facts) (k : LineKey) (apart : SpeaksOf m.session e m.hop.addr (ask_style m.ask) (ask_style m.ask) k → ⊥) where
+module _ (p : NodeConfig) (c e : ℕ) (m : ResvMsg) (f : Facts) (k : LineKey) (apart : SpeaksOf m.session e m.hop.addr (ask_style m.ask) (ask_style m.ask) k → ⊥) where
   abbrev asker : Asker
   asker = asker_of p c e m
 
@@ -173,7 +173,7 @@ module _ (e : ℕ) (m : ResvTearMsg) (f : Facts) (k : LineKey) (r : ResvState) (
   left_by_tear : get (resvs_of (tear_style m.tear) (act_resv_tear e m f).facts) k ≡ Some r
   left_by_tear = by_hop (is_of_hop m.session (e, m.hop.addr) k) (names_one m.session (e, m.hop.addr) (tear_names m.tear) (resvs_of (tear_style m.tear) f)) refl refl
 
-module _ (p : Place) (c : ℕ) (f : Facts) (st : StyleKind) (k : LineKey) (r : ResvState) (there : get (resvs_of st f) k ≡ Some r) (named : has_name r.part ≡ true) where
+module _ (p : NodeConfig) (c : ℕ) (f : Facts) (st : StyleKind) (k : LineKey) (r : ResvState) (there : get (resvs_of st f) k ≡ Some r) (named : has_name r.part ≡ true) where
   kept_by_resv : (e : ℕ) (m : ResvMsg) → (SpeaksOf m.session e m.hop.addr (ask_style m.ask) st k → ⊥) → get (resvs_of st (act_resv p c e m f).facts) k ≡ Some r
   kept_by_resv e m apart =
       ⊎_elim
@@ -220,9 +220,9 @@ not_lost st before after s x h = by (has (named_as st (known before s)) x) (has 
 pub what_keeps_a_reservation_fact : WhatKeepsAReservationFact
 what_keeps_a_reservation_fact =
     record {
-      whole = λ old p b c i f within st k r there later apart all.
+      whole = λ step within st k r there later apart all.
           let named = (within.shapes.resvs st k r there).style.named in
-          forgetting_by_names.stays f (act p c i f).facts st k r (kept_by p c f st k r there named i later apart) named (λ x h. not_lost st f (act p c i f).facts k.0 x (all x h));
-      some = λ old p b c i f within st k r there later apart x h one.
-          forgetting_by_names.some f (act p c i f).facts st k r x (kept_by p c f st k r there (within.shapes.resvs st k r there).style.named i later apart) h (not_lost st f (act p c i f).facts k.0 x one);
+          forgetting_by_names.stays step.facts (act step.now step.after step.input step.facts).facts st k r (kept_by step.now step.after step.facts st k r there named step.input later apart) named (λ x h. not_lost st step.facts (act step.now step.after step.input step.facts).facts k.0 x (all x h));
+      some = λ step within st k r there later apart x h one.
+          forgetting_by_names.some step.facts (act step.now step.after step.input step.facts).facts st k r x (kept_by step.now step.after step.facts st k r there (within.shapes.resvs st k r there).style.named step.input later apart) h (not_lost st step.facts (act step.now step.after step.input step.facts).facts k.0 x one);
     }

@@ -22,12 +22,12 @@ use Rattle.style_rules.specs.Parts.{has_name}
 use Rattle.router_rules.specs.declared.answers.Heard.TheVariants as heard
 use Rattle.router_rules.specs.declared.answers.Why.TheVariants as why
 use Rattle.router_rules.specs.Act.{act, act_spelt, is_mine}
-use Rattle.router_rules.specs.Asking.{answered, act_resv, err_place, err_places, errors_in_order, heard_of, taking}
+use Rattle.router_rules.specs.Asking.{answered, act_resv, err_place, err_places, errors_in_order, heard_of, taking, Nobody, These, as_listed}
 use Rattle.router_rules.specs.Confirming.{ConfsHeard, confs_heard, confs_on, with_confs}
 use Rattle.router_rules.specs.Errors.{act_resv_err, blamed, lane_of, path_err, path_err_on, replied, reply_to}
 use Rattle.router_rules.specs.Facts.{Facts, PathState, ResvState}
 use Rattle.router_rules.specs.Inputs.{Call, Came, Change, Clear, ErrMsg, ErrSend, Input, Moved, OfPath, OfResv, Send, Spelt, Unspelt, Wait, only_heard}
-use Rattle.router_rules.specs.Place.{Place, goes_out, is_own, own}
+use Rattle.router_rules.specs.NodeConfig.{NodeConfig, goes_out, is_own, own}
 use Rattle.router_rules.specs.Rule.{rule, settled}
 use Rattle.router_rules.specs.Sends.{error_message, error_send}
 use Rattle.router_lookups.specs.FactLaws.{ComesBy}
@@ -41,6 +41,7 @@ use Rattle.router_inputs.proofs.Erring.{errors_once_each, resv_errs_by_tests}
 use Rattle.router_rules.specs.Steps.{sent_then}
 use Rattle.router_inputs.proofs.Stepping.{send_told}
 use Rattle.router_resvs.specs.BlameLaws.{AreBlamed, IsPassedOn, IsRefusal, WhereAnErrorWithAFlowComesFrom}
+use Rattle.router_lookups.proofs.Blame.{never_nobody, these_are}
 
 -- ---- sends that are ResvErrs
 no_path_tear : (w : ErrMsg) (m : ResvErrMsg) → error_message w ≡ message.ResvErr m → w ≡ OfResv m
@@ -53,7 +54,7 @@ resv_err_same x m e = cc
 not_of_path : (x : PathErrMsg) (m : ResvErrMsg) → OfPath x ≡ OfResv m → ⊥
 not_of_path x m e = cc
 
-module _ (old p : Place) (c : ℕ) (i : Input) (f : Facts) where
+module _ (old p : NodeConfig) (c : ℕ) (i : Input) (f : Facts) where
   abbrev after : Facts
   after = settled p c f (act p c i f).facts
 
@@ -87,7 +88,7 @@ heard_not_taken es e out i h = by (errors_in_order es) (to_ordered err_places er
     by (z ∷ zs) j h = answer_not_taken z.error h
 
 -- ---- which errors an input makes
-module _ (old p : Place) (c : ℕ) (f : Facts) (w : ResvErrMsg) (flow : TokenBucket) (said : w.blame.flow ≡ Some flow) (s : Send) (e : ErrSend) (is : s ≡ error_send e) (of_resv : e.error ≡ OfResv w) where
+module _ (old p : NodeConfig) (c : ℕ) (f : Facts) (w : ResvErrMsg) (flow : TokenBucket) (said : w.blame.flow ≡ Some flow) (s : Send) (e : ErrSend) (is : s ≡ error_send e) (of_resv : e.error ≡ OfResv w) where
   abbrev Source : Input → Type 0
   Source i = IsRefusal old p c i f s ⊎ IsPassedOn p i f s w
 
@@ -181,28 +182,27 @@ module _ (old p : Place) (c : ℕ) (f : Facts) (w : ResvErrMsg) (flow : TokenBuc
   error_source (Came at dst (Spelt m)) h = by_message at dst m (is_mine p at dst m) refl refl h
 
 -- names that an error and a reservation have
-blamed_names : (st : StyleKind) (listed out : Option Names) (r : ResvState) → has_name r.part ≡ true → blamed st listed r.part.senders ≡ Some out → (is_some listed ≡ true) ⊎ (st ≡ Wild) → (names : Names) × (out ≡ Some names) × AreBlamed listed r names
+blamed_names : (st : StyleKind) (listed out : Option Names) (r : ResvState) → has_name r.part ≡ true → blamed st listed r.part.senders ≡ as_listed out → (is_some listed ≡ true) ⊎ (st ≡ Wild) → (names : Names) × (out ≡ Some names) × AreBlamed listed r names
 blamed_names st (Some ns) out r named e which = by (is_none (cut r.part.senders ns)) refl e
   where
-    by : (b : Bool) → is_none (cut r.part.senders ns) ≡ b → cond b None (Some (Some (cut r.part.senders ns))) ≡ Some out → (names : Names) × (out ≡ Some names) × AreBlamed (Some ns) r names
-    by true t e = absurd (cc)
-    by false t e =
-        let same = some_same _ _ e in (
-          cut r.part.senders ns,
-          sym same,
-          record {
-            some = t;
-            in_error = λ x h. (and_both _ _ (sym (has-cut senders r.part.senders ns x) ∙ h)).1;
-            in_resv = λ x h. (and_both _ _ (sym (has-cut senders r.part.senders ns x) ∙ h)).0;
-          },
-        )
-blamed_names Wild None out r named e which = (r.part.senders, sym (some_same _ _ e), record { some = not_told _ named; in_error = λ x h. tt; in_resv = λ x h. h })
+    by : (b : Bool) → is_none (cut r.part.senders ns) ≡ b → cond b Nobody (These (cut r.part.senders ns)) ≡ as_listed out → (names : Names) × (out ≡ Some names) × AreBlamed (Some ns) r names
+    by true t e = never_nobody out e
+    by false t e = (
+      cut r.part.senders ns,
+      these_are out (cut r.part.senders ns) e,
+      record {
+        some = t;
+        in_error = λ x h. (and_both _ _ (sym (has-cut senders r.part.senders ns x) ∙ h)).1;
+        in_resv = λ x h. (and_both _ _ (sym (has-cut senders r.part.senders ns x) ∙ h)).0;
+      },
+    )
+blamed_names Wild None out r named e which = (r.part.senders, these_are out r.part.senders e, record { some = not_told _ named; in_error = λ x h. tt; in_resv = λ x h. h })
 blamed_names Fixed None out r named e which = ⊎_elim (λ (h : is_some {T = Names} None ≡ true). absurd (cc)) (λ (h : Fixed ≡ Wild). absurd (cc)) which
 blamed_names Shared None out r named e which = ⊎_elim (λ (h : is_some {T = Names} None ≡ true). absurd (cc)) (λ (h : Shared ≡ Wild). absurd (cc)) which
 
 pub where_an_error_with_a_flow_comes_from : WhereAnErrorWithAFlowComesFrom
 where_an_error_with_a_flow_comes_from =
     record {
-      source = λ old p b c i f within s w flow h e said. let r = error_sent old p c i f s w h e in error_source old p c f w flow said s r.0 r.2 r.3 i r.1;
+      source = λ step within s w flow h e said. let r = error_sent step.old step.now step.after step.input step.facts s w h e in error_source step.old step.now step.after step.facts w flow said s r.0 r.2 r.3 step.input r.1;
       names = λ old b f within st k r listed out there e which. blamed_names st listed out r (within.shapes.resvs st k r there).style.named e which;
     }

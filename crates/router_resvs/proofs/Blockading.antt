@@ -14,7 +14,7 @@ use Rattle.style_rules.specs.Toward.{Request, open_of, or_else, parts_of, reques
 use Rattle.style_rules.proofs.Merges.{those_at-each}
 use Rattle.router_rules.specs.Facts.{Facts, ResvState, Walls, Want, resvs_in, wants_in}
 use Rattle.router_rules.specs.Known.{Lane, names_via}
-use Rattle.router_rules.specs.Place.{Place}
+use Rattle.router_rules.specs.NodeConfig.{NodeConfig}
 use Rattle.router_rules.specs.Requests.{is_style, request_of, requests, resv_part, resv_request, want_part, want_request}
 use Rattle.router_lookups.proofs.Requesting.{requests_and_toward}
 use Rattle.router_resvs.specs.BlameLaws.{UnitsOfTowardDoNotDependOnBlockade}
@@ -41,7 +41,7 @@ parts_together : (xs ys : List Request) → parts_of (xs ++ ys) ≡ parts_of xs 
 parts_together [] ys = refl
 parts_together (x ∷ xs) ys = λ i. x.part ∷ parts_together xs ys i
 
-module _ (p : Place) (f : Facts) (w : Walls) (l : Lane) where
+module _ (p : NodeConfig) (f : Facts) (w : Walls) (l : Lane) where
   abbrev other : Facts
   other = record f { walls = w }
 

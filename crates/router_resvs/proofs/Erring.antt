@@ -21,16 +21,16 @@ use Rattle.router_rules.specs.Bounds.{IsWithinBounds}
 use Rattle.router_rules.specs.Errors.{blockade_of, is_admission, walled_by, walls_after, walls_with}
 use Rattle.router_rules.specs.Facts.{Blockade, Facts, WallKey, paths_in}
 use Rattle.router_rules.specs.Forgetting.{counted}
-use Rattle.router_rules.specs.Inputs.{Call, Came, Clear, Moved, Spelt, Unspelt, Wait}
+use Rattle.router_rules.specs.Inputs.{Input, Call, Came, Clear, Moved, Spelt, Unspelt, Wait}
 use Rattle.router_rules.specs.Known.{came_by}
-use Rattle.router_rules.specs.Place.{Place, own, period}
+use Rattle.router_rules.specs.NodeConfig.{NodeConfig, own, period}
 use Rattle.router_lookups.specs.FactLaws.{ComesBy}
 use Rattle.router_lookups.proofs.Leaving.{waiting_leaves_the_living}
 use Rattle.router_lookups.proofs.Lists.{in_values}
 use Rattle.router_lookups.proofs.Tests.{addr_told}
 use Rattle.router_inputs.proofs.Telling.{errors_and_walls}
 use Rattle.router_inputs.specs.Frames.{on_paths, on_resvs}
-use Rattle.router_rules.specs.Steps.{facts_then}
+use Rattle.router_rules.specs.Steps.{facts_then, node_step}
 use Rattle.router_steps.proofs.Counting.{due_then}
 use Rattle.router_steps.proofs.Framing.{left_as_it_was}
 use Rattle.router_bounds.proofs.Keeping.{unset}
@@ -38,7 +38,7 @@ use Rattle.router_resvs.specs.ErrorLaws.{AnErrorChangesNoFact, IsBlockadeSet, Wh
 
 -- ---- blockades
 -- the error came from a hop, and set this one
-record IsSetFrom (p : Place) (c e : ℕ) (m : ResvErrMsg) (f : Facts) (k : WallKey) (x : Blockade) : Type 0 where
+record IsSetFrom (p : NodeConfig) (c e : ℕ) (m : ResvErrMsg) (f : Facts) (k : WallKey) (x : Blockade) : Type 0 where
   flow : TokenBucket
   from : (s : Sender) × ComesBy f m.session (e, m.hop.addr) s
   says : m.blame.flow ≡ Some flow
@@ -52,7 +52,7 @@ hop_of f e m h =
     let at = in_values senders (paths_in f m.session) one.0 one.1 in
     (at.0, record { path = one.0; there = sym (get-under sessions senders f.paths m.session at.0) ∙ at.1; by = one.2 })
 
-set_by : (p : Place) (c e : ℕ) (m : ResvErrMsg) (f : Facts) (k : WallKey) (x : Blockade) (hop room : Bool) → list_any (came_by (e, m.hop.addr)) (values (paths_in f m.session)) ≡ hop
+set_by : (p : NodeConfig) (c e : ℕ) (m : ResvErrMsg) (f : Facts) (k : WallKey) (x : Blockade) (hop room : Bool) → list_any (came_by (e, m.hop.addr)) (values (paths_in f m.session)) ≡ hop
     → get (walls_after hop room (walls_with p c e m m.blame.flow f.walls) f.walls) k ≡ Some x → (get f.walls k ≡ Some x) ⊎ IsSetFrom p c e m f k x
 set_by p c e m f k x false room is h = inl h
 set_by p c e m f k x true false is h = inl h
@@ -62,7 +62,7 @@ set_by p c e m f k x true true is h =
     inr (record { flow = new.0; from = hop_of f e m is; says = new.1; admission = new.2; target = new.3; is = new.4 }))
     (errors_and_walls.source p c e m f.walls k x h)
 
-spelt_set : (p : Place) (c e : ℕ) (dst : Addr) (m : Message) (b : Bool) (f : Facts) (k : WallKey) (x : Blockade) → is_mine p e dst m ≡ b → get (act_spelt p c e m b f).facts.walls k ≡ Some x
+spelt_set : (p : NodeConfig) (c e : ℕ) (dst : Addr) (m : Message) (b : Bool) (f : Facts) (k : WallKey) (x : Blockade) → is_mine p e dst m ≡ b → get (act_spelt p c e m b f).facts.walls k ≡ Some x
     → (get f.walls k ≡ Some x) ⊎ IsBlockadeSet p c (Came e dst (Spelt m)) f k x
 spelt_set p c e dst m false f k x is h = inl h
 spelt_set p c e dst (message.ResvErr m) true f k x is h =
@@ -88,13 +88,16 @@ spelt_set p c e dst (message.PathTear m) true f k x is h = inl h
 spelt_set p c e dst (message.ResvTear m) true f k x is h = inl h
 spelt_set p c e dst (message.ResvConf m) true f k x is h = inl h
 
+blockade_source : (old p : NodeConfig) (c : ℕ) (i : Input) (f : Facts) (k : WallKey) (x : Blockade) → get (facts_then old p c i f).walls k ≡ Some x → (get f.walls k ≡ Some x) ⊎ IsBlockadeSet p c i f k x
+blockade_source old p c (Call l) f k x h = inl h
+blockade_source old p c (Wait ms word) f k x h = inl ((waiting_leaves_the_living.of_walls p c word f k x).0 h).0
+blockade_source old p c Clear f k x h = absurd (cc)
+blockade_source old p c Moved f k x h = inl h
+blockade_source old p c (Came e dst (Unspelt m)) f k x h = inl h
+blockade_source old p c (Came e dst (Spelt m)) f k x h = spelt_set p c e dst m (is_mine p e dst m) f k x refl h
+
 pub where_a_blockade_comes_from : WhereABlockadeComesFrom
-where_a_blockade_comes_from old p b c (Call l) f within k x h = inl h
-where_a_blockade_comes_from old p b c (Wait ms word) f within k x h = inl ((waiting_leaves_the_living.of_walls p c word f k x).0 h).0
-where_a_blockade_comes_from old p b c Clear f within k x h = absurd (cc)
-where_a_blockade_comes_from old p b c Moved f within k x h = inl h
-where_a_blockade_comes_from old p b c (Came e dst (Unspelt m)) f within k x h = inl h
-where_a_blockade_comes_from old p b c (Came e dst (Spelt m)) f within k x h = spelt_set p c e dst m (is_mine p e dst m) f k x refl h
+where_a_blockade_comes_from step within k x h = blockade_source step.old step.now step.after step.input step.facts k x h
 
 -- ---- what an error leaves
 -- it may change none of the other tables by itself
@@ -111,7 +114,7 @@ none_of e dst (message.ResvConf m) q = (refl, refl)
 abbrev counts_to : ℕ → Facts → Session → Option ℕ
 counts_to from f s = cond (has (counted f) s) (Some (unwrap_or (get f.due s) from)) None
 
-acted : (p : Place) (c e : ℕ) (m : Message) (z : Bool) (f : Facts) (s : Session) → only_goes_on m ≡ true → counts_to (c + period p) (act_spelt p c e m z f).facts s ≡ counts_to (c + period p) f s
+acted : (p : NodeConfig) (c e : ℕ) (m : Message) (z : Bool) (f : Facts) (s : Session) → only_goes_on m ≡ true → counts_to (c + period p) (act_spelt p c e m z f).facts s ≡ counts_to (c + period p) f s
 acted p c e m false f s q = refl
 acted p c e (message.Path m) true f s q = absurd (cc)
 acted p c e (message.Resv m) true f s q = absurd (cc)
@@ -122,7 +125,7 @@ acted p c e (message.ResvTear m) true f s q = absurd (cc)
 acted p c e (message.ResvConf m) true f s q = refl
 
 -- countdowns stand where they did: the same senders are known
-error_due : (old p : Place) (b c e : ℕ) (dst : Addr) (m : Message) (f : Facts) → IsWithinBounds old b f → only_goes_on m ≡ true → (facts_then old p c (Came e dst (Spelt m)) f).due ≡ f.due
+error_due : (old p : NodeConfig) (b c e : ℕ) (dst : Addr) (m : Message) (f : Facts) → IsWithinBounds old b f → only_goes_on m ≡ true → (facts_then old p c (Came e dst (Spelt m)) f).due ≡ f.due
 error_due old p b c e dst m f within q =
     same_table sessions _ _ (λ s. due_then old p c (Came e dst (Spelt m)) f s ∙ acted p c e m (is_mine p e dst m) f s q ∙ by s (has (counted f) s) (get f.due s) (within.due.counted s))
   where
@@ -140,7 +143,7 @@ sets_none m h = ⊎_elim (λ (n : m.blame.flow ≡ None). ap (λ (w : Option Tok
     off true = refl
     off false = refl
 
-error_walls : (p : Place) (c e : ℕ) (m : ResvErrMsg) (f : Facts) (b : Bool) → (m.blame.flow ≡ None) ⊎ (is_admission m.err ≡ false) → (act_spelt p c e (message.ResvErr m) b f).facts.walls ≡ f.walls
+error_walls : (p : NodeConfig) (c e : ℕ) (m : ResvErrMsg) (f : Facts) (b : Bool) → (m.blame.flow ≡ None) ⊎ (is_admission m.err ≡ false) → (act_spelt p c e (message.ResvErr m) b f).facts.walls ≡ f.walls
 error_walls p c e m f false h = refl
 error_walls p c e m f true h = by _ _
   where
@@ -152,11 +155,11 @@ error_walls p c e m f true h = by _ _
 pub an_error_changes_no_fact : AnErrorChangesNoFact
 an_error_changes_no_fact =
     record {
-      senders = λ old p b c e dst m f within q. left_as_it_was.senders old p c (Came e dst (Spelt m)) f refl;
-      paths = λ old p b c e dst m f within q. left_as_it_was.paths old p c (Came e dst (Spelt m)) f (none_of e dst m q).0;
-      resvs = λ old p b c e dst m f within q. left_as_it_was.resvs_whole old p b c (Came e dst (Spelt m)) f within (none_of e dst m q).1 refl (none_of e dst m q).0;
-      wants = λ old p b c e dst m f within q. left_as_it_was.wants old p c (Came e dst (Spelt m)) f refl;
+      senders = λ old p b c e dst m f within q. left_as_it_was.senders (node_step old p c c (Came e dst (Spelt m)) f) refl;
+      paths = λ old p b c e dst m f within q. left_as_it_was.paths (node_step old p c c (Came e dst (Spelt m)) f) (none_of e dst m q).0;
+      resvs = λ old p b c e dst m f within q. left_as_it_was.resvs_whole (node_step old p b c (Came e dst (Spelt m)) f) within (none_of e dst m q).1 refl (none_of e dst m q).0;
+      wants = λ old p b c e dst m f within q. left_as_it_was.wants (node_step old p c c (Came e dst (Spelt m)) f) refl;
       due = λ old p b c e dst m f within q. error_due old p b c e dst m f within q;
       walls = λ old p b c e dst m f within h. error_walls p c e m f (is_mine p e dst (message.ResvErr m)) h;
-      path_err = λ old p b c e dst m f within. left_as_it_was.walls old p c (Came e dst (Spelt (message.PathErr m))) f refl;
+      path_err = λ old p b c e dst m f within. left_as_it_was.walls (node_step old p c c (Came e dst (Spelt (message.PathErr m))) f) refl;
     }

@@ -21,7 +21,7 @@ use Rattle.router_rules.specs.Asking.{asker_of}
 use Rattle.router_rules.specs.Bounds.{IsWithinBounds}
 use Rattle.router_rules.specs.Facts.{Facts, ResvState, no_facts, resvs_of}
 use Rattle.router_rules.specs.Inputs.{Wait}
-use Rattle.router_rules.specs.Line.{first, iface, r2, s1, scope, session, usual}
+use Rattle.router_rows.specs.ThreeRouters.{first, iface, r2, s1, scope, session, usual}
 use Rattle.router_rules.specs.Act.{act}
 use Rattle.router_rules.proofs.Bounding.{no_facts_are_within_bounds}
 use Rattle.router_lookups.proofs.Leaving.{waiting_leaves_the_living}

@@ -22,7 +22,7 @@ use Rattle.router_rules.specs.Asking.{ask_of, ask_of_part, flows_by_sender}
 use Rattle.router_rules.specs.Facts.{Facts}
 use Rattle.router_rules.specs.Inputs.{ErrMsg, Input, OfPath, OfResv, Send}
 use Rattle.router_rules.specs.Known.{Lane, names_via}
-use Rattle.router_rules.specs.Place.{Place}
+use Rattle.router_rules.specs.NodeConfig.{NodeConfig}
 use Rattle.router_rules.specs.Requests.{toward}
 use Rattle.router_rules.specs.Rule.{settled}
 use Rattle.router_rules.specs.Sends.{error_message, gone_names, is_changed, torn_names}
@@ -33,7 +33,7 @@ use Rattle.router_lookups.proofs.Ruling.{rule_in_parts}
 use Rattle.router_lookups.proofs.Sending.{not_told}
 use Rattle.router_lookups.proofs.Tests.{parts_tested}
 use Rattle.router_lookups.proofs.Lists.{one_name}
-use Rattle.router_rules.specs.Steps.{facts_then, fired_then, sent_then}
+use Rattle.router_rules.specs.Steps.{facts_then, fired_then, sent_then, left_by}
 use Rattle.router_inputs.proofs.Stepping.{send_told}
 use Rattle.router_resvs.specs.ReservationLaws.{IsOfGoneUnits, IsOfLane, WhatAResvSentSays, WhyAResvTearIsSent}
 
@@ -69,7 +69,7 @@ scope_of Shared ps scope flow e = by (get ps One) e
     by None e = absurd (cc)
     by (Some part) e = let same : ◌≡◌ {A = Ask} (ask.Shared part) (ask.Wild scope flow) = cc in absurd (cc)
 
-module _ (old p : Place) (c : ℕ) (i : Input) (f : Facts) where
+module _ (old p : NodeConfig) (c : ℕ) (i : Input) (f : Facts) where
   abbrev after : Facts
   after = settled p c f (act p c i f).facts
 
@@ -168,11 +168,11 @@ module _ (old p : Place) (c : ℕ) (i : Input) (f : Facts) where
 pub what_a_resv_sent_says : WhatAResvSentSays
 what_a_resv_sent_says =
     record {
-      says = λ old p b c i f within s m h e. says old p c i f s m h e;
-      scope = λ old p b c i f within s m h e scope flow is. let q = says old p c i f s m h e in scope_of q.lane.style (toward p (facts_then old p c i f) q.lane) scope flow (q.asks ∙ ap Some is);
-      refresh = λ old p b c i f within s m h e. refreshed old p c i f s m h e;
-      why = λ old p b c i f within s m h e quiet. why old p c i f s m h e quiet;
+      says = λ step within s m h e. says step.old step.now step.after step.input step.facts s m h e;
+      scope = λ step within s m h e scope flow is. let q = says step.old step.now step.after step.input step.facts s m h e in scope_of q.lane.style (toward step.now (left_by step) q.lane) scope flow (q.asks ∙ ap Some is);
+      refresh = λ step within s m h e. refreshed step.old step.now step.after step.input step.facts s m h e;
+      why = λ step within s m h e quiet. why step.old step.now step.after step.input step.facts s m h e quiet;
     }
 
 pub why_a_resv_tear_is_sent : WhyAResvTearIsSent
-why_a_resv_tear_is_sent old p b c i f within s m h e = tear_why old p c i f s m h e
+why_a_resv_tear_is_sent step within s m h e = tear_why step.old step.now step.after step.input step.facts s m h e

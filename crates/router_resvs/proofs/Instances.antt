@@ -9,16 +9,17 @@ use Rattle.rsvp_base.specs.Table.{has}
 use Rattle.rsvp_base.proofs.Counts.{set_of_in}
 use Rattle.router_rules.specs.Asking.{stays}
 use Rattle.router_rules.specs.Inputs.{Wait}
-use Rattle.router_rules.specs.Line.{s1, scope, session}
+use Rattle.router_rows.specs.ThreeRouters.{s1, scope, session}
 use Rattle.router_resvs.specs.Examples.{of_t, one_resv, r, reserved}
 use Rattle.router_resvs.specs.ReservationExamples.{BlameLawsHaveExamples, ReservationLawsHaveExamples, spared_in}
 use Rattle.router_resvs.specs.ReservationLaws.{IsKnownThen, Touches}
 use Rattle.router_resvs.proofs.Exemplary.{frame_laws_have_examples, path_laws_have_examples}
+use Rattle.router_rules.specs.Steps.{node_step}
 
 -- the one name of the SCOPE is known
-scope_known : (x : Sender) → has scope x ≡ true → IsKnownThen r r 15000 (Wait 15000 0) one_resv Wild session x
+scope_known : (x : Sender) → has scope x ≡ true → IsKnownThen (node_step r r 15000 15000 (Wait 15000 0) one_resv) Wild session x
 scope_known x h =
-    ⊎_elim (λ (is : x ≡ record { addr = s1; port = 0 }). subst (λ z. IsKnownThen r r 15000 (Wait 15000 0) one_resv Wild session z) (sym is) refl) (λ (n : ⊥). absurd n)
+    ⊎_elim (λ (is : x ≡ record { addr = s1; port = 0 }). subst (λ z. IsKnownThen (node_step r r 15000 15000 (Wait 15000 0) one_resv) Wild session z) (sym is) refl) (λ (n : ⊥). absurd n)
     (set_of_in senders ((record { addr = s1; port = 0 }) ∷ []) x h)
 
 -- a ResvTear of another sender takes no name of it

@@ -21,12 +21,12 @@ use Rattle.router_rules.specs.Books.{lines}
 use Rattle.router_rules.specs.Bounds.{IsWithinBounds}
 use Rattle.router_rules.specs.Facts.{Facts, Resvs, ResvState, Want, resvs_of, with_resvs}
 use Rattle.router_rules.specs.Inputs.{Came, Input, Send, Spelt}
-use Rattle.router_rules.specs.Place.{Place, lifetime, own}
+use Rattle.router_rules.specs.NodeConfig.{NodeConfig, lifetime, own}
 use Rattle.router_rules.specs.Rule.{rule}
 use Rattle.router_rules.specs.Steps.{facts_then, sent_then}
 
 -- ---- lines that a node can hold: within the limits of each table, and within capacity and MTU at each interface
-pub record CanBeHeld (p : Place) (gs : List Line) : Type 0 where
+pub record CanBeHeld (p : NodeConfig) (gs : List Line) : Type 0 where
   pub limits : (st : StyleKind) → IsWithinLimits st gs
   pub capacity : (i : ℕ) (on : Iface) → slice_get p.ifaces i ≡ Some on → held (book_of_end i gs) ≤ on.capacity
   pub mtu : (i : ℕ) (on : Iface) (k : EntryKey) (part : Part) → slice_get p.ifaces i ≡ Some on → get (book_of_end i gs) k ≡ Some part → part.flow.most ≤ on.mtu
@@ -40,21 +40,21 @@ abbrev pub HasPlace : Asker → UnitOf → Part → List Line → Type 0
 HasPlace o u part gs = (g : Line) × In g gs × IsUnder (line_at o u part) g
 
 -- ---- one unit, in the middle of a Resv: the reservations so far are t
-pub record IsBooked (p : Place) (o : Asker) (f : Facts) (t : Resvs) (u : UnitOf) (part : Part) (gs : List Line) : Type 0 where
+pub record IsBooked (p : NodeConfig) (o : Asker) (f : Facts) (t : Resvs) (u : UnitOf) (part : Part) (gs : List Line) : Type 0 where
   pub room : has_room o u part t ≡ true
   pub open_to : book_refuses p o f u part t ≡ None
   pub under : AreUnder (lines (with_resvs o.style (table_with o u part t) f)) gs
 
 -- ---- a whole Resv
 -- a unit that lists names, of which each matches: it is known and its tree goes out of the interface
-pub record IsPlaced (p : Place) (o : Asker) (f : Facts) (gs : List Line) (u : AskedUnit) : Type 0 where
+pub record IsPlaced (p : NodeConfig) (o : Asker) (f : Facts) (gs : List Line) (u : AskedUnit) : Type 0 where
   pub names : Names
   pub listed : u.names ≡ Some names
   pub some : is_none names ≡ false
   pub match : IsWithin names (matched p f o)
   pub place : HasPlace o u.unit (record { senders = names; flow = u.flow }) gs
 
-pub record CanBeTaken (p : Place) (c e : ℕ) (m : ResvMsg) (f : Facts) (gs : List Line) : Type 0 where
+pub record CanBeTaken (p : NodeConfig) (c e : ℕ) (m : ResvMsg) (f : Facts) (gs : List Line) : Type 0 where
   pub proper : IsProperAsk m.ask
   pub lines_held : CanBeHeld p gs
   -- what is there, and what is asked for, lies under the lines
@@ -64,11 +64,11 @@ pub record CanBeTaken (p : Place) (c e : ℕ) (m : ResvMsg) (f : Facts) (gs : Li
   pub resv_style : (st : StyleKind) (k : LineKey) (r : ResvState) → get (resvs_of st f) k ≡ Some r → k.0 ≡ m.session → st ≡ ask_style m.ask
   pub want_style : (u : UnitOf) (w : Want) → get f.wants (m.session, u) ≡ Some w → w.style ≡ ask_style m.ask
 
-abbrev pub came_resv : Place → ℕ → ResvMsg → Input
+abbrev pub came_resv : NodeConfig → ℕ → ResvMsg → Input
 came_resv p e m = Came e (own p e) (Spelt (message.Resv m))
 
 -- it is taken whole: each unit has its reservation, nobody is told of an error, and all still lies under the lines
-pub record IsTaken (old p : Place) (c e : ℕ) (m : ResvMsg) (f : Facts) (gs : List Line) : Type 0 where
+pub record IsTakenWhole (old p : NodeConfig) (c e : ℕ) (m : ResvMsg) (f : Facts) (gs : List Line) : Type 0 where
   pub heard_it : (rule old p c (came_resv p e m) f).heard ≡ heard.Taken
   pub no_error : (s : Send) (w : ResvErrMsg) → In s (sent_then old p c (came_resv p e m) f) → s.message ≡ message.ResvErr w → ⊥
   pub facts : (u : AskedUnit) (names : Names) → In u (asked_units m.ask) → u.names ≡ Some names
@@ -76,5 +76,5 @@ pub record IsTaken (old p : Place) (c e : ℕ) (m : ResvMsg) (f : Facts) (gs : L
   pub under : AreUnder (lines (facts_then old p c (came_resv p e m) f)) gs
 
 pub record WhatIsAccepted : Type 0 where
-  pub unit : (p : Place) (o : Asker) (f : Facts) (t : Resvs) (u : UnitOf) (part : Part) (gs : List Line) → CanBeHeld p gs → AreUnder (lines (with_resvs o.style t f)) gs → HasPlace o u part gs → IsBooked p o f t u part gs
-  pub whole : (old p : Place) (b c e : ℕ) (m : ResvMsg) (f : Facts) (gs : List Line) → IsWithinBounds old b f → CanBeTaken p c e m f gs → IsTaken old p c e m f gs
+  pub unit : (p : NodeConfig) (o : Asker) (f : Facts) (t : Resvs) (u : UnitOf) (part : Part) (gs : List Line) → CanBeHeld p gs → AreUnder (lines (with_resvs o.style t f)) gs → HasPlace o u part gs → IsBooked p o f t u part gs
+  pub whole : (old p : NodeConfig) (b c e : ℕ) (m : ResvMsg) (f : Facts) (gs : List Line) → IsWithinBounds old b f → CanBeTaken p c e m f gs → IsTakenWhole old p c e m f gs

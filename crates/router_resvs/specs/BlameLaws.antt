@@ -15,23 +15,23 @@ use Rattle.rsvp_messages.specs.declared.message.ResvErrMsg.{ResvErrMsg}
 use Rattle.rsvp_messages.specs.declared.message.ResvMsg.{ResvMsg}
 use Rattle.style_rules.specs.Lines.{NextHop}
 use Rattle.router_rules.specs.declared.answers.Heard.TheVariants as heard
-use Rattle.router_rules.specs.Asking.{taking}
+use Rattle.router_rules.specs.Asking.{taking, as_listed}
 use Rattle.router_rules.specs.Bounds.{IsWithinBounds}
 use Rattle.router_rules.specs.Errors.{blamed}
 use Rattle.router_rules.specs.Facts.{Facts, ResvState, Walls, resvs_of}
 use Rattle.router_rules.specs.Inputs.{Came, ErrSend, Input, Send, Spelt}
 use Rattle.router_rules.specs.Known.{Lane}
-use Rattle.router_rules.specs.Place.{Place, own}
+use Rattle.router_rules.specs.NodeConfig.{NodeConfig, own}
 use Rattle.router_rules.specs.Requests.{toward}
 use Rattle.router_rules.specs.Rule.{rule}
 use Rattle.router_rules.specs.Sends.{error_send}
 use Rattle.router_lookups.specs.FactLaws.{ComesBy}
-use Rattle.router_rules.specs.Steps.{sent_then}
+use Rattle.router_rules.specs.Steps.{NodeStep, Begins, sent_by}
 use Rattle.router_resvs.specs.ReservationLaws.{IsListed}
 
 -- ---- where an error with a flow comes from
 -- it is the refusal of a unit of a Resv that came to this node, which is then not heard as taken
-pub record IsRefusal (old p : Place) (c : ℕ) (i : Input) (f : Facts) (s : Send) : Type 0 where
+pub record IsRefusal (old p : NodeConfig) (c : ℕ) (i : Input) (f : Facts) (s : Send) : Type 0 where
   pub at : ℕ
   pub resv : ResvMsg
   pub came : i ≡ Came at (own p at) (Spelt (message.Resv resv))
@@ -41,7 +41,7 @@ pub record IsRefusal (old p : Place) (c : ℕ) (i : Input) (f : Facts) (s : Send
   pub not_taken : (rule old p c i f).heard ≡ heard.Taken → ⊥
 
 -- or an error that came to this node with this flow goes on, to the next hop of a reservation that it speaks of
-pub record IsPassedOn (p : Place) (i : Input) (f : Facts) (s : Send) (w : ResvErrMsg) : Type 0 where
+pub record IsPassedOn (p : NodeConfig) (i : Input) (f : Facts) (s : Send) (w : ResvErrMsg) : Type 0 where
   pub at : ℕ
   pub error : ResvErrMsg
   pub came : i ≡ Came at (own p at) (Spelt (message.ResvErr error))
@@ -56,7 +56,7 @@ pub record IsPassedOn (p : Place) (i : Input) (f : Facts) (s : Send) (w : ResvEr
   pub unit : UnitOf
   pub resv : ResvState
   pub there : get (resvs_of error.blame.style f) (error.session, (hop, unit)) ≡ Some resv
-  pub blames : blamed error.blame.style error.blame.senders resv.part.senders ≡ Some w.blame.senders
+  pub blames : blamed error.blame.style error.blame.senders resv.part.senders ≡ as_listed w.blame.senders
   pub iface : s.iface ≡ hop.0
   pub dst : s.dst ≡ hop.1
   pub here : w.hop ≡ record { addr = own p hop.0; handle = 0 }
@@ -68,13 +68,13 @@ pub record AreBlamed (listed : Option Names) (resv : ResvState) (names : Names) 
   pub in_resv : (x : Sender) → has names x ≡ true → has resv.part.senders x ≡ true
 
 pub record WhereAnErrorWithAFlowComesFrom : Type 0 where
-  pub source : (old p : Place) (b c : ℕ) (i : Input) (f : Facts) → IsWithinBounds old b f → (s : Send) (w : ResvErrMsg) (flow : TokenBucket) → In s (sent_then old p c i f) → s.message ≡ message.ResvErr w → w.blame.flow ≡ Some flow
-      → IsRefusal old p c i f s ⊎ IsPassedOn p i f s w
+  pub source : (step : NodeStep) → Begins step → (s : Send) (w : ResvErrMsg) (flow : TokenBucket) → In s (sent_by step) → s.message ≡ message.ResvErr w → w.blame.flow ≡ Some flow
+      → IsRefusal step.old step.now step.after step.input step.facts s ⊎ IsPassedOn step.now step.input step.facts s w
   -- what goes on names some of the reservation's senders, unless it came without senders for a fixed or a shared filter, which a
   -- proper error with a flow does not
-  pub names : (old : Place) (b : ℕ) (f : Facts) → IsWithinBounds old b f → (st : StyleKind) (k : Session × (NextHop × UnitOf)) (r : ResvState) (listed out : Option Names) → get (resvs_of st f) k ≡ Some r → blamed st listed r.part.senders ≡ Some out
+  pub names : (old : NodeConfig) (b : ℕ) (f : Facts) → IsWithinBounds old b f → (st : StyleKind) (k : Session × (NextHop × UnitOf)) (r : ResvState) (listed out : Option Names) → get (resvs_of st f) k ≡ Some r → blamed st listed r.part.senders ≡ as_listed out
       → (is_some listed ≡ true) ⊎ (st ≡ Wild) → (names : Names) × (out ≡ Some names) × AreBlamed listed r names
 
 -- ---- blockades change what goes toward a hop, but not of which units
 abbrev pub UnitsOfTowardDoNotDependOnBlockade : Type 0
-UnitsOfTowardDoNotDependOnBlockade = (p : Place) (f : Facts) (w : Walls) (l : Lane) (u : UnitOf) → has (toward p (record f { walls = w }) l) u ≡ has (toward p f l) u
+UnitsOfTowardDoNotDependOnBlockade = (p : NodeConfig) (f : Facts) (w : Walls) (l : Lane) (u : UnitOf) → has (toward p (record f { walls = w }) l) u ≡ has (toward p f l) u

@@ -11,16 +11,16 @@ use Rattle.router_rules.specs.Bounds.{IsWithinBounds}
 use Rattle.router_rules.specs.Errors.{blockade_of, is_admission, walled_by}
 use Rattle.router_rules.specs.Facts.{Blockade, Facts, WallKey}
 use Rattle.router_rules.specs.Inputs.{Came, Input, Spelt}
-use Rattle.router_rules.specs.Place.{Place, own}
+use Rattle.router_rules.specs.NodeConfig.{NodeConfig, own}
 use Rattle.router_lookups.specs.FactLaws.{ComesBy}
 use Rattle.router_inputs.specs.Frames.{AreSameButMarks}
-use Rattle.router_rules.specs.Steps.{facts_then}
+use Rattle.router_rules.specs.Steps.{facts_then, NodeStep, Begins, left_by}
 use Rattle.rsvp_base.specs.declared.addr.Addr.{Addr}
 use Rattle.rsvp_base.specs.declared.session.Sender.{Sender}
 
 -- ---- a blockade that an error set: a ResvErr with a flow, of admission control, that came to the node's own address from a
 -- previous hop of its session
-pub record IsBlockadeSet (p : Place) (c : ℕ) (i : Input) (f : Facts) (k : WallKey) (x : Blockade) : Type 0 where
+pub record IsBlockadeSet (p : NodeConfig) (c : ℕ) (i : Input) (f : Facts) (k : WallKey) (x : Blockade) : Type 0 where
   pub at : ℕ
   pub error : ResvErrMsg
   pub flow : TokenBucket
@@ -33,7 +33,7 @@ pub record IsBlockadeSet (p : Place) (c : ℕ) (i : Input) (f : Facts) (k : Wall
 
 abbrev pub WhereABlockadeComesFrom : Type 0
 WhereABlockadeComesFrom =
-    (old p : Place) (b c : ℕ) (i : Input) (f : Facts) → IsWithinBounds old b f → (k : WallKey) (x : Blockade) → get (facts_then old p c i f).walls k ≡ Some x → (get f.walls k ≡ Some x) ⊎ IsBlockadeSet p c i f k x
+    (step : NodeStep) → Begins step → (k : WallKey) (x : Blockade) → get (left_by step).walls k ≡ Some x → (get step.facts.walls k ≡ Some x) ⊎ IsBlockadeSet step.now step.after step.input step.facts k x
 
 -- ---- a PathErr, a ResvErr and a ResvConf go on or end, and change no fact but blockades; marks of wants are used
 abbrev pub only_goes_on : Message → Bool
@@ -46,12 +46,12 @@ only_goes_on (message.ResvTear m) = false
 only_goes_on (message.ResvConf m) = true
 
 pub record AnErrorChangesNoFact : Type 0 where
-  pub senders : (old p : Place) (b c e : ℕ) (dst : Addr) (m : Message) (f : Facts) → IsWithinBounds old b f → only_goes_on m ≡ true → (facts_then old p c (Came e dst (Spelt m)) f).senders ≡ f.senders
-  pub paths : (old p : Place) (b c e : ℕ) (dst : Addr) (m : Message) (f : Facts) → IsWithinBounds old b f → only_goes_on m ≡ true → (facts_then old p c (Came e dst (Spelt m)) f).paths ≡ f.paths
-  pub resvs : (old p : Place) (b c e : ℕ) (dst : Addr) (m : Message) (f : Facts) → IsWithinBounds old b f → only_goes_on m ≡ true → (facts_then old p c (Came e dst (Spelt m)) f).resvs ≡ f.resvs
-  pub wants : (old p : Place) (b c e : ℕ) (dst : Addr) (m : Message) (f : Facts) → IsWithinBounds old b f → only_goes_on m ≡ true → AreSameButMarks f.wants (facts_then old p c (Came e dst (Spelt m)) f).wants
-  pub due : (old p : Place) (b c e : ℕ) (dst : Addr) (m : Message) (f : Facts) → IsWithinBounds old b f → only_goes_on m ≡ true → (facts_then old p c (Came e dst (Spelt m)) f).due ≡ f.due
+  pub senders : (old p : NodeConfig) (b c e : ℕ) (dst : Addr) (m : Message) (f : Facts) → IsWithinBounds old b f → only_goes_on m ≡ true → (facts_then old p c (Came e dst (Spelt m)) f).senders ≡ f.senders
+  pub paths : (old p : NodeConfig) (b c e : ℕ) (dst : Addr) (m : Message) (f : Facts) → IsWithinBounds old b f → only_goes_on m ≡ true → (facts_then old p c (Came e dst (Spelt m)) f).paths ≡ f.paths
+  pub resvs : (old p : NodeConfig) (b c e : ℕ) (dst : Addr) (m : Message) (f : Facts) → IsWithinBounds old b f → only_goes_on m ≡ true → (facts_then old p c (Came e dst (Spelt m)) f).resvs ≡ f.resvs
+  pub wants : (old p : NodeConfig) (b c e : ℕ) (dst : Addr) (m : Message) (f : Facts) → IsWithinBounds old b f → only_goes_on m ≡ true → AreSameButMarks f.wants (facts_then old p c (Came e dst (Spelt m)) f).wants
+  pub due : (old p : NodeConfig) (b c e : ℕ) (dst : Addr) (m : Message) (f : Facts) → IsWithinBounds old b f → only_goes_on m ≡ true → (facts_then old p c (Came e dst (Spelt m)) f).due ≡ f.due
   -- blockades neither, but by a ResvErr of admission control with a flow
-  pub walls : (old p : Place) (b c e : ℕ) (dst : Addr) (m : ResvErrMsg) (f : Facts) → IsWithinBounds old b f → (m.blame.flow ≡ None) ⊎ (is_admission m.err ≡ false)
+  pub walls : (old p : NodeConfig) (b c e : ℕ) (dst : Addr) (m : ResvErrMsg) (f : Facts) → IsWithinBounds old b f → (m.blame.flow ≡ None) ⊎ (is_admission m.err ≡ false)
       → (facts_then old p c (Came e dst (Spelt (message.ResvErr m))) f).walls ≡ f.walls
-  pub path_err : (old p : Place) (b c e : ℕ) (dst : Addr) (m : PathErrMsg) (f : Facts) → IsWithinBounds old b f → (facts_then old p c (Came e dst (Spelt (message.PathErr m))) f).walls ≡ f.walls
+  pub path_err : (old p : NodeConfig) (b c e : ℕ) (dst : Addr) (m : PathErrMsg) (f : Facts) → IsWithinBounds old b f → (facts_then old p c (Came e dst (Spelt (message.PathErr m))) f).walls ≡ f.walls

@@ -17,8 +17,8 @@ use Rattle.router_rules.specs.declared.target.Target.TheVariants as target
 use Rattle.router_rules.specs.Facts.{Blockade, Facts, PathState, ResvState, SenderKey, WallKey, no_facts}
 use Rattle.router_rules.specs.Inputs.{Input, Came, Moved, Spelt, StalePath, StaleResv, StaleWall, Wait}
 use Rattle.router_rules.specs.Known.{Lane}
-use Rattle.router_rules.specs.Line.{error, first, flow, group, node_r, path, path_tear, r1, r2, refreshed, resv, resv_err, s1, scope, sent, session, t1, usual, wild}
-use Rattle.router_rules.specs.Place.{Place}
+use Rattle.router_rows.specs.ThreeRouters.{error, first, flow, group, node_r, path, path_tear, r1, r2, refreshed, resv, resv_err, s1, scope, sent, session, t1, usual, wild}
+use Rattle.router_rules.specs.NodeConfig.{NodeConfig}
 use Rattle.router_rules.specs.Requests.{toward}
 use Rattle.router_inputs.specs.Frames.{on_paths, on_resvs, on_senders, on_walls, on_wants}
 use Rattle.router_inputs.specs.Sources.{CameOnTree, said_by}
@@ -27,7 +27,7 @@ use Rattle.router_rules.specs.Steps.{AreFewer, IsFit, IsFitStale, IsSameNode, fa
 use Rattle.router_resvs.specs.AcceptingLaws.{CanBeHeld, CanBeTaken, line_at}
 use Rattle.router_resvs.specs.ErrorLaws.{only_goes_on}
 
-abbrev pub r : Place
+abbrev pub r : NodeConfig
 r = node_r 10000
 
 -- ---- inputs

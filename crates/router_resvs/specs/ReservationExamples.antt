@@ -13,9 +13,9 @@ use Rattle.rsvp_messages.specs.declared.message.Message.TheVariants as message
 use Rattle.router_rules.specs.Bounds.{IsWithinBounds}
 use Rattle.router_rules.specs.Facts.{resvs_of}
 use Rattle.router_rules.specs.Inputs.{Came, Input, Spelt, Wait}
-use Rattle.router_rules.specs.Line.{error, flow, r1, r2, resv, resv_err, s1, scope, sent, session, t1, usual, wild}
+use Rattle.router_rows.specs.ThreeRouters.{error, flow, r1, r2, resv, resv_err, s1, scope, sent, session, t1, usual, wild}
 use Rattle.router_rules.specs.Requests.{toward}
-use Rattle.router_rules.specs.Steps.{facts_then, sent_then}
+use Rattle.router_rules.specs.Steps.{facts_then, sent_then, node_step}
 use Rattle.router_resvs.specs.Examples.{back, of_t, one_path, one_resv, r, reserved, resv_in}
 use Rattle.router_resvs.specs.ReservationLaws.{IsKnownThen, Touches}
 
@@ -44,7 +44,7 @@ pub record ReservationLawsHaveExamples : Type 0 where
   pub there : get (resvs_of Wild one_resv) of_t ≡ Some reserved
   pub later : 15000 < reserved.dies
   pub untouched : Touches (Wait 15000 0) Wild of_t reserved → ⊥
-  pub known_then : (x : Sender) → has reserved.part.senders x ≡ true → IsKnownThen r r 15000 (Wait 15000 0) one_resv Wild session x
+  pub known_then : (x : Sender) → has reserved.part.senders x ≡ true → IsKnownThen (node_step r r 15000 15000 (Wait 15000 0) one_resv) Wild session x
   pub stays : get (resvs_of Wild (facts_then r r 15000 (Wait 15000 0) one_resv)) of_t ≡ Some reserved
   -- and beside a ResvTear that takes none of its names, but not beside one that does
   pub untouched_too : Touches spared_in Wild of_t reserved → ⊥

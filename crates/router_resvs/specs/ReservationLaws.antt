@@ -18,18 +18,17 @@ use Rattle.rsvp_messages.specs.Units.{AskedUnit, ask_style, asked_units, tear_na
 use Rattle.style_rules.specs.Lines.{LineKey}
 use Rattle.style_rules.specs.Parts.{has_name}
 use Rattle.router_rules.specs.Asking.{ask_of, asker_of, matched, stays}
-use Rattle.router_rules.specs.Bounds.{IsWithinBounds}
 use Rattle.router_rules.specs.Facts.{Facts, ResvState, resvs_of}
 use Rattle.router_rules.specs.Forgetting.{is_lost}
 use Rattle.router_rules.specs.Inputs.{Call, Came, Clear, Input, Moved, Send, Spelt, Unspelt, Wait}
 use Rattle.router_rules.specs.Known.{Lane, known, lanes, named_as, names_via}
-use Rattle.router_rules.specs.Place.{Place, lifetime, own, period}
+use Rattle.router_rules.specs.NodeConfig.{NodeConfig, lifetime, own, period}
 use Rattle.router_rules.specs.Requests.{toward}
 use Rattle.router_rules.specs.Sends.{hop_to, tear_of}
 use Rattle.router_lookups.specs.FactLaws.{ComesBy}
 use Rattle.router_lookups.specs.SendLaws.{IsGone}
 use Rattle.router_lookups.specs.RuleLaws.{IsLeft}
-use Rattle.router_rules.specs.Steps.{IsLeftOf, facts_then, fired_then, sent_then}
+use Rattle.router_rules.specs.Steps.{IsLeftOf, NodeStep, Begins, left_by, sent_by, fired_by}
 
 -- ---- where a reservation comes from
 -- names that are listed; all are where there is no list
@@ -38,7 +37,7 @@ IsListed None x = Unit {0}
 IsListed (Some names) x = has names x ≡ true
 
 -- a Resv that came to this node by the reservation's interface, from its next hop, for its session and style
-pub record CameForIt (p : Place) (i : Input) (st : StyleKind) (k : LineKey) : Type 0 where
+pub record CameForIt (p : NodeConfig) (i : Input) (st : StyleKind) (k : LineKey) : Type 0 where
   pub resv : ResvMsg
   pub came : i ≡ Came k.1.0.0 (own p k.1.0.0) (Spelt (message.Resv resv))
   pub session : resv.session ≡ k.0
@@ -47,7 +46,7 @@ pub record CameForIt (p : Place) (i : Input) (st : StyleKind) (k : LineKey) : Ty
 
 -- the reservation is of a unit that such a Resv asked for: with its flow, and with those of its names that match, which are
 -- known and whose trees go out of the interface
-pub record IsAskedFor (p : Place) (c : ℕ) (i : Input) (f : Facts) (st : StyleKind) (k : LineKey) (x : ResvState) : Type 0 where
+pub record IsAskedFor (p : NodeConfig) (c : ℕ) (i : Input) (f : Facts) (st : StyleKind) (k : LineKey) (x : ResvState) : Type 0 where
   pub by : CameForIt p i st k
   pub unit : AskedUnit
   pub asks : In unit (asked_units by.resv.ask)
@@ -61,8 +60,8 @@ pub record IsAskedFor (p : Place) (c : ℕ) (i : Input) (f : Facts) (st : StyleK
 -- it was there, with all of its names or fewer, its flow and its death; or it was asked for
 abbrev pub WhereAReservationFactComesFrom : Type 0
 WhereAReservationFactComesFrom =
-    (old p : Place) (b c : ℕ) (i : Input) (f : Facts) → IsWithinBounds old b f → (st : StyleKind) (k : LineKey) (x : ResvState) → get (resvs_of st (facts_then old p c i f)) k ≡ Some x
-    → ((r : ResvState) × (get (resvs_of st f) k ≡ Some r) × IsLeftOf r x) ⊎ IsAskedFor p c i f st k x
+    (step : NodeStep) → Begins step → (st : StyleKind) (k : LineKey) (x : ResvState) → get (resvs_of st (left_by step)) k ≡ Some x
+    → ((r : ResvState) × (get (resvs_of st step.facts) k ≡ Some r) × IsLeftOf r x) ⊎ IsAskedFor step.now step.after step.input step.facts st k x
 
 -- ---- what keeps a reservation
 -- a message that may take a reservation away or replace it is of its session and style, by its interface from its next hop: a
@@ -94,21 +93,21 @@ Touches (Came e dst (Unspelt m)) st k r = ⊥
 Touches Moved st k r = ⊥
 
 -- the name of a known sender, after the step
-abbrev pub IsKnownThen : Place → Place → ℕ → Input → Facts → StyleKind → Session → Sender → Type 0
-IsKnownThen old p c i f st s x = has (named_as st (known (facts_then old p c i f) s)) x ≡ true
+abbrev pub IsKnownThen : NodeStep → StyleKind → Session → Sender → Type 0
+IsKnownThen step st s x = has (named_as st (known (left_by step) s)) x ≡ true
 
 pub record WhatKeepsAReservationFact : Type 0 where
   -- it stays as it is while it lives, nothing touches it, and each of its names is known
-  pub whole : (old p : Place) (b c : ℕ) (i : Input) (f : Facts) → IsWithinBounds old b f → (st : StyleKind) (k : LineKey) (r : ResvState) → get (resvs_of st f) k ≡ Some r → c < r.dies → (Touches i st k r → ⊥)
-      → ((x : Sender) → has r.part.senders x ≡ true → IsKnownThen old p c i f st k.0 x) → get (resvs_of st (facts_then old p c i f)) k ≡ Some r
+  pub whole : (step : NodeStep) → Begins step → (st : StyleKind) (k : LineKey) (r : ResvState) → get (resvs_of st step.facts) k ≡ Some r → step.after < r.dies → (Touches step.input st k r → ⊥)
+      → ((x : Sender) → has r.part.senders x ≡ true → IsKnownThen step st k.0 x) → get (resvs_of st (left_by step)) k ≡ Some r
   -- and with the names that are not forgotten while one of its names is known
-  pub some : (old p : Place) (b c : ℕ) (i : Input) (f : Facts) → IsWithinBounds old b f → (st : StyleKind) (k : LineKey) (r : ResvState) → get (resvs_of st f) k ≡ Some r → c < r.dies → (Touches i st k r → ⊥)
-      → (x : Sender) → has r.part.senders x ≡ true → IsKnownThen old p c i f st k.0 x
-      → (y : ResvState) × (get (resvs_of st (facts_then old p c i f)) k ≡ Some y) × IsLeft (λ s. not (is_lost st f (facts_then old p c i f) k.0 s)) r y
+  pub some : (step : NodeStep) → Begins step → (st : StyleKind) (k : LineKey) (r : ResvState) → get (resvs_of st step.facts) k ≡ Some r → step.after < r.dies → (Touches step.input st k r → ⊥)
+      → (x : Sender) → has r.part.senders x ≡ true → IsKnownThen step st k.0 x
+      → (y : ResvState) × (get (resvs_of st (left_by step)) k ≡ Some y) × IsLeft (λ s. not (is_lost st step.facts (left_by step) k.0 s)) r y
 
 -- ---- what a sent Resv says
 -- what goes toward a previous hop after the step, whole
-pub record IsOfLane (p : Place) (f : Facts) (s : Send) (m : ResvMsg) : Type 0 where
+pub record IsOfLane (p : NodeConfig) (f : Facts) (s : Send) (m : ResvMsg) : Type 0 where
   pub lane : Lane
   pub there : has (lanes f) lane ≡ true
   -- a path of the session comes from the hop
@@ -123,18 +122,18 @@ pub record IsOfLane (p : Place) (f : Facts) (s : Send) (m : ResvMsg) : Type 0 wh
   pub dst : s.dst ≡ lane.hop.1
 
 pub record WhatAResvSentSays : Type 0 where
-  pub says : (old p : Place) (b c : ℕ) (i : Input) (f : Facts) → IsWithinBounds old b f → (s : Send) (m : ResvMsg) → In s (sent_then old p c i f) → s.message ≡ message.Resv m → IsOfLane p (facts_then old p c i f) s m
+  pub says : (step : NodeStep) → Begins step → (s : Send) (m : ResvMsg) → In s (sent_by step) → s.message ≡ message.Resv m → IsOfLane step.now (left_by step) s m
   -- a wildcard Resv has its SCOPE
-  pub scope : (old p : Place) (b c : ℕ) (i : Input) (f : Facts) → IsWithinBounds old b f → (s : Send) (m : ResvMsg) → In s (sent_then old p c i f) → s.message ≡ message.Resv m → (scope : Option Names) (flow : TokenBucket) → m.ask ≡ ask.Wild scope flow
+  pub scope : (step : NodeStep) → Begins step → (s : Send) (m : ResvMsg) → In s (sent_by step) → s.message ≡ message.Resv m → (scope : Option Names) (flow : TokenBucket) → m.ask ≡ ask.Wild scope flow
       → (names : Names) × (scope ≡ Some names)
   -- it is the refresh of a session that came due, or what goes toward the hop changed
-  pub refresh : (old p : Place) (b c : ℕ) (i : Input) (f : Facts) → IsWithinBounds old b f → (s : Send) (m : ResvMsg) → In s (sent_then old p c i f) → s.message ≡ message.Resv m → s.refresh ≡ has (fired_then p c i f) m.session
-  pub why : (old p : Place) (b c : ℕ) (i : Input) (f : Facts) → IsWithinBounds old b f → (s : Send) (m : ResvMsg) → In s (sent_then old p c i f) → s.message ≡ message.Resv m → s.refresh ≡ false
-      → (l : Lane) × (s.iface ≡ l.hop.0) × (s.dst ≡ l.hop.1) × (m.session ≡ l.session) × (ask_style m.ask ≡ l.style) × (toward old f l ≡ toward p (facts_then old p c i f) l → ⊥)
+  pub refresh : (step : NodeStep) → Begins step → (s : Send) (m : ResvMsg) → In s (sent_by step) → s.message ≡ message.Resv m → s.refresh ≡ has (fired_by step) m.session
+  pub why : (step : NodeStep) → Begins step → (s : Send) (m : ResvMsg) → In s (sent_by step) → s.message ≡ message.Resv m → s.refresh ≡ false
+      → (l : Lane) × (s.iface ≡ l.hop.0) × (s.dst ≡ l.hop.1) × (m.session ≡ l.session) × (ask_style m.ask ≡ l.style) × (toward step.old step.facts l ≡ toward step.now (left_by step) l → ⊥)
 
 -- ---- why a ResvTear is sent: some units went toward a hop before and do no more. It names those of their names that are
 -- still via the hop
-pub record IsOfGoneUnits (old p : Place) (before after : Facts) (s : Send) (m : ResvTearMsg) : Type 0 where
+pub record IsOfGoneUnits (old p : NodeConfig) (before after : Facts) (s : Send) (m : ResvTearMsg) : Type 0 where
   pub lane : Lane
   pub was : has (lanes before) lane ≡ true
   pub names : Names
@@ -148,4 +147,4 @@ pub record IsOfGoneUnits (old p : Place) (before after : Facts) (s : Send) (m : 
 
 abbrev pub WhyAResvTearIsSent : Type 0
 WhyAResvTearIsSent =
-    (old p : Place) (b c : ℕ) (i : Input) (f : Facts) → IsWithinBounds old b f → (s : Send) (m : ResvTearMsg) → In s (sent_then old p c i f) → s.message ≡ message.ResvTear m → IsOfGoneUnits old p f (facts_then old p c i f) s m
+    (step : NodeStep) → Begins step → (s : Send) (m : ResvTearMsg) → In s (sent_by step) → s.message ≡ message.ResvTear m → IsOfGoneUnits step.old step.now step.facts (left_by step) s m

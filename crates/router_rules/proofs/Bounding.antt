@@ -6,7 +6,7 @@ use Rattle.rsvp_base.specs.declared.style.StyleKind.TheVariants.{Wild, Fixed, Sh
 use Rattle.rsvp_base.specs.Table.{get}
 use Rattle.style_rules.specs.Limits.{IsWithinLimits}
 use Rattle.style_rules.specs.Lines.{LineKey}
-use Rattle.router_rules.specs.BoundRows.{NoFactsAreWithinBounds}
+use Rattle.router_rules.specs.Bounds.{NoFactsAreWithinBounds}
 use Rattle.router_rules.specs.Books.{lines_of}
 use Rattle.router_rules.specs.Facts.{ResvState, no_facts, resvs_of}
 

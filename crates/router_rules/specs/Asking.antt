@@ -1,4 +1,5 @@
--- A Resv is taken or refused unit by unit, and torn down (RFC 2205, 3.5 and appendix B; RFC 2209, 2: Resv, ResvTear).
+-- A Resv is taken or refused unit by unit, and torn down (RFC 2205, 3.5 and appendix B; RFC 2209, 2: RESV MESSAGE ARRIVES,
+-- RESV TEAR MESSAGE ARRIVES; UPDATE TRAFFIC CONTROL where the book is asked for the change of an RSB).
 use Rattle.std.specs.Prelude.{ℕ, ◌+◌, nat_le, nat_lt, Bool, true, false, cond, not, ◌&&◌, ◌||◌, List, [], ◌∷◌, ◌++◌, map as each, Option, Some, None}
 use Rattle.std.specs.List.{flat_map, list_any}
 use Rattle.std.specs.Option.{option_map}
@@ -35,7 +36,7 @@ use Rattle.router_rules.specs.Books.{refused as refused_entry}
 use Rattle.router_rules.specs.Facts.{Facts, ResvState, Resvs, resvs_of, with_resvs, resvs_in, wants_in}
 use Rattle.router_rules.specs.Inputs.{Change, only_heard, Asked, ErrMsg, ErrSend, OfPath, OfResv, in_order}
 use Rattle.router_rules.specs.Known.{known, named_as}
-use Rattle.router_rules.specs.Place.{Place, goes_out, lifetime, own}
+use Rattle.router_rules.specs.NodeConfig.{NodeConfig, goes_out, lifetime, own}
 use Rattle.router_rules.specs.Requests.{is_style}
 
 -- ---- who asks
@@ -48,7 +49,7 @@ pub record Asker : Type 0 where
   pub confirm : Option Addr
   pub dies : ℕ
 
-abbrev pub asker_of : Place → ℕ → ℕ → ResvMsg → Asker
+abbrev pub asker_of : NodeConfig → ℕ → ℕ → ResvMsg → Asker
 asker_of p c e m = record { iface = e; session = m.session; next = m.hop.addr; style = ask_style m.ask; confirm = m.confirm; dies = c + lifetime p m.period }
 
 abbrev pub key_at : Asker → UnitOf → LineKey
@@ -58,7 +59,7 @@ abbrev pub entry_at : Asker → UnitOf → EntryKey
 entry_at o u = (o.session, (o.style, u))
 
 -- a refusal goes back to the next hop, with the style and the flow that were asked for
-abbrev pub refusal : Place → Asker → Bool → ℕ → ℕ → Option Names → TokenBucket → ErrSend
+abbrev pub refusal : NodeConfig → Asker → Bool → ℕ → ℕ → Option Names → TokenBucket → ErrSend
 refusal p o in_place code value names flow = record {
   iface = o.iface;
   dst = o.next;
@@ -69,6 +70,17 @@ refusal p o in_place code value names flow = record {
     blame = record { style = o.style; senders = names; flow = Some flow };
   });
 }
+
+-- whom an error blames: nobody, so that it is not sent; everyone, so that it lists no senders; or these
+pub data Blamed : Type 0 where
+  Nobody : Blamed
+  Everyone : Blamed
+  These : Names → Blamed
+
+-- those whom an error lists
+abbrev pub as_listed : Option Names → Blamed
+as_listed None = Everyone
+as_listed (Some names) = These names
 
 -- ---- what was done with the units so far: the reservations, refusals, whether one was left out, and what was taken
 pub record Taking : Type 0 where
@@ -81,7 +93,7 @@ abbrev pub nothing_taken : Resvs → List ErrSend → Taking
 nothing_taken t errors = record { table = t; errors = errors; left_out = false; taken = empty }
 
 -- ---- senders that match: known, and their tree goes out here; by the style's names
-abbrev pub matched : Place → Facts → Asker → Names
+abbrev pub matched : NodeConfig → Facts → Asker → Names
 matched p f o = named_as o.style (kept (goes_out p o.session o.iface) (known f o.session))
 
 -- without a list, all that match
@@ -90,21 +102,22 @@ names_that_match None all = all
 names_that_match (Some names) all = cut names all
 
 -- the names that do not match, where there are some
-abbrev pub unmatched : Option Names → Names → Option (Option Names)
-unmatched None all = None
-unmatched (Some names) all = cond (is_none (kept (λ x. not (has all x)) names)) None (Some (Some (kept (λ x. not (has all x)) names)))
+abbrev pub unmatched : Option Names → Names → Blamed
+unmatched None all = Nobody
+unmatched (Some names) all = cond (is_none (kept (λ x. not (has all x)) names)) Nobody (These (kept (λ x. not (has all x)) names))
 
 -- the names that are refused for want of a sender: a wildcard filter only where nobody is left, and then with its SCOPE as
 -- it came
-abbrev pub lost : StyleKind → Option Names → Names → Option (Option Names)
-lost Wild names all = cond (is_none (names_that_match names all)) (Some names) None
+abbrev pub lost : StyleKind → Option Names → Names → Blamed
+lost Wild names all = cond (is_none (names_that_match names all)) (as_listed names) Nobody
 lost Fixed names all = unmatched names all
 lost Shared names all = unmatched names all
 
 -- no sender information: error 4
-abbrev pub losses : Place → Asker → TokenBucket → Option (Option Names) → List ErrSend
-losses p o flow None = []
-losses p o flow (Some names) = refusal p o false 4 0 names flow ∷ []
+abbrev pub losses : NodeConfig → Asker → TokenBucket → Blamed → List ErrSend
+losses p o flow Nobody = []
+losses p o flow Everyone = refusal p o false 4 0 None flow ∷ []
+losses p o flow (These names) = refusal p o false 4 0 (Some names) flow ∷ []
 
 -- ---- a unit in its place
 abbrev pub confirm_kept : Option ResvState → Option Addr
@@ -127,10 +140,6 @@ abbrev pub value_of : Refused → ℕ
 value_of (refused.Mtu most mtu) = 3
 value_of (refused.Rate want free) = 2
 
--- the book with the unit in place of what its next hop had
-abbrev pub book_refuses : Place → Asker → Facts → UnitOf → Part → Resvs → Option Refused
-book_refuses p o f u part t = refused_entry p o.iface (entry_at o u) (book (with_resvs o.style (table_with o u part t) f) o.iface)
-
 -- the interface has an entry of the unit, as the units before it left them
 abbrev pub has_entry : Asker → Facts → UnitOf → Resvs → Bool
 has_entry o f u t = has (book (with_resvs o.style t f) o.iface) (entry_at o u)
@@ -139,31 +148,36 @@ has_entry o f u t = has (book (with_resvs o.style t f) o.iface) (entry_at o u)
 abbrev pub has_room : Asker → UnitOf → Part → Resvs → Bool
 has_room o u part t = nat_le (size part.senders) 16 && fits o.style (table_with o u part t)
 
--- a unit without room is left out; one that the book refuses is told, and changes nothing; else it takes its place
-abbrev pub put_tested : Place → Asker → Facts → UnitOf → Part → Bool → Option Refused → Taking → Taking
-put_tested p o f u part false why t = record t { left_out = true }
-put_tested p o f u part true (Some why) t = record t { errors = t.errors ++ refusal p o (has_entry o f u t.table) 1 (value_of why) (Some part.senders) part.flow ∷ [] }
-put_tested p o f u part true None t = record t { table = table_with o u part t.table; taken = put_in t.taken u part }
-
-abbrev pub put_unit : Place → Asker → Facts → UnitOf → Option Part → Taking → Taking
-put_unit p o f u None t = t
-put_unit p o f u (Some part) t = put_tested p o f u part (has_room o u part t.table) (book_refuses p o f u part t.table) t
-
 -- ---- units one after another
-abbrev pub tell_lost : Place → Asker → TokenBucket → Option (Option Names) → Taking → Taking
+abbrev pub tell_lost : NodeConfig → Asker → TokenBucket → Blamed → Taking → Taking
 tell_lost p o flow names t = record t { errors = t.errors ++ losses p o flow names }
 
-abbrev pub take_unit : Place → Asker → Facts → Names → Taking → AskedUnit → Taking
-take_unit p o f all t u = put_unit p o f u.unit (part_of (names_that_match u.names all) u.flow) (tell_lost p o u.flow (lost o.style u.names all) t)
+module _ (p : NodeConfig) (o : Asker) (f : Facts) where
+  -- the book with the unit in place of what its next hop had
+  abbrev pub book_refuses : UnitOf → Part → Resvs → Option Refused
+  book_refuses u part t = refused_entry p o.iface (entry_at o u) (book (with_resvs o.style (table_with o u part t) f) o.iface)
 
--- each is tested against what the ones before it left
-abbrev pub take_units : Place → Asker → Facts → Names → Taking → List AskedUnit → Taking
-take_units p o f all t [] = t
-take_units p o f all t (u ∷ us) = take_units p o f all (take_unit p o f all t u) us
+  -- a unit without room is left out; one that the book refuses is told, and changes nothing; else it takes its place
+  abbrev pub put_tested : UnitOf → Part → Bool → Option Refused → Taking → Taking
+  put_tested u part false why t = record t { left_out = true }
+  put_tested u part true (Some why) t = record t { errors = t.errors ++ refusal p o (has_entry o f u t.table) 1 (value_of why) (Some part.senders) part.flow ∷ [] }
+  put_tested u part true None t = record t { table = table_with o u part t.table; taken = put_in t.taken u part }
+
+  abbrev pub put_unit : UnitOf → Option Part → Taking → Taking
+  put_unit u None t = t
+  put_unit u (Some part) t = put_tested u part (has_room o u part t.table) (book_refuses u part t.table) t
+
+  abbrev pub take_unit : Names → Taking → AskedUnit → Taking
+  take_unit all t u = put_unit u.unit (part_of (names_that_match u.names all) u.flow) (tell_lost p o u.flow (lost o.style u.names all) t)
+
+  -- each is tested against what the ones before it left
+  abbrev pub take_units : Names → Taking → List AskedUnit → Taking
+  take_units all t [] = t
+  take_units all t (u ∷ us) = take_units all (take_unit all t u) us
 
 -- ---- the Resv as a whole
 -- each unit refused alike
-abbrev pub refuse_all : Place → Asker → ℕ → ℕ → List AskedUnit → Resvs → Taking
+abbrev pub refuse_all : NodeConfig → Asker → ℕ → ℕ → List AskedUnit → Resvs → Taking
 refuse_all p o code value us t = nothing_taken t (each (λ u. refusal p o false code value u.names u.flow) us)
 
 -- a reservation or a local want of the session has the style
@@ -185,12 +199,12 @@ abbrev pub style_conflict : Facts → Session → StyleKind → Option StyleKind
 style_conflict f s st = other_style f s st (Wild ∷ Fixed ∷ Shared ∷ [])
 
 -- no path information: error 3; conflicting style: error 5; else unit by unit
-abbrev pub taking_of : Place → Asker → List AskedUnit → Facts → Bool → Option StyleKind → Taking
+abbrev pub taking_of : NodeConfig → Asker → List AskedUnit → Facts → Bool → Option StyleKind → Taking
 taking_of p o us f true other = refuse_all p o 3 0 us (resvs_of o.style f)
 taking_of p o us f false (Some other) = refuse_all p o 5 (style_value other) us (resvs_of o.style f)
 taking_of p o us f false None = take_units p o f (matched p f o) (nothing_taken (resvs_of o.style f) []) us
 
-abbrev pub taking : Place → ℕ → ℕ → ResvMsg → Facts → Taking
+abbrev pub taking : NodeConfig → ℕ → ℕ → ResvMsg → Facts → Taking
 taking p c e m f = taking_of p (asker_of p c e m) (asked_units m.ask) f (is_none (known f m.session)) (style_conflict f m.session (ask_style m.ask))
 
 -- ---- parts by unit, written as what they ask for; nothing of none
@@ -263,7 +277,7 @@ end_taking o f t = record {
   heard = heard_of (errors_in_order t.errors) t.left_out;
 }
 
-abbrev pub act_resv : Place → ℕ → ℕ → ResvMsg → Facts → Change
+abbrev pub act_resv : NodeConfig → ℕ → ℕ → ResvMsg → Facts → Change
 act_resv p c e m f = end_taking (asker_of p c e m) f (taking p c e m f)
 
 -- ---- what is left of a reservation when names leave it, if a name is left

@@ -17,28 +17,28 @@ use Rattle.style_rules.specs.Parts.{IsOfStyle, part_unit}
 use Rattle.router_rules.specs.declared.target.Target.{Target}
 use Rattle.router_rules.specs.declared.target.Target.TheVariants as target
 use Rattle.router_rules.specs.Books.{book, lines_of}
-use Rattle.router_rules.specs.Facts.{Facts, SenderKey, WantKey, WallKey, PathState, ResvState, Want, Blockade, resvs_of}
+use Rattle.router_rules.specs.Facts.{Facts, SenderKey, WantKey, WallKey, PathState, ResvState, Want, Blockade, resvs_of, no_facts}
 use Rattle.router_rules.specs.Forgetting.{counted}
-use Rattle.router_rules.specs.Place.{Place, period, lifetime, wall_lifetime}
+use Rattle.router_rules.specs.NodeConfig.{NodeConfig, period, lifetime, wall_lifetime}
 
 -- ---- lifetimes: each fact dies after the clock, and no later than what was just refreshed
 pub record LivesUpTo (c life dies : ℕ) : Type 0 where
   pub later : c < dies
   pub soon : dies ≤ c + life
 
-pub record AreAlive (p : Place) (c : ℕ) (f : Facts) : Type 0 where
+pub record AreAlive (p : NodeConfig) (c : ℕ) (f : Facts) : Type 0 where
   pub paths : (k : SenderKey) (x : PathState) → get f.paths k ≡ Some x → LivesUpTo c (lifetime p (period p)) x.dies
   pub resvs : (st : StyleKind) (k : LineKey) (r : ResvState) → get (resvs_of st f) k ≡ Some r → LivesUpTo c (lifetime p (period p)) r.dies
   pub walls : (k : WallKey) (b : Blockade) → get f.walls k ≡ Some b → LivesUpTo c (wall_lifetime p) b.dies
 
 -- ---- countdowns: exactly the sessions with a local sender or a path have one, and it is due within 1.5 R
-pub record AreDue (p : Place) (c : ℕ) (f : Facts) : Type 0 where
+pub record AreDue (p : NodeConfig) (c : ℕ) (f : Facts) : Type 0 where
   pub counted : (s : Session) → has f.due s ≡ has (counted f) s
   pub moment : (s : Session) (t : ℕ) → get f.due s ≡ Some t → LivesUpTo c (6 * p.quarter) t
 
 -- ---- shapes
 -- a reservation is of its style, stands under its unit, and names at most 16
-pub record IsShaped (p : Place) (st : StyleKind) (k : LineKey) (r : ResvState) : Type 0 where
+pub record IsShaped (p : NodeConfig) (st : StyleKind) (k : LineKey) (r : ResvState) : Type 0 where
   pub iface : k.1.0.0 < length p.ifaces
   pub style : IsOfStyle st r.part
   pub unit : k.1.1 ≡ part_unit st r.part
@@ -56,20 +56,20 @@ pub record IsWantShaped (k : WantKey) (w : Want) : Type 0 where
   pub names : size w.part.senders ≤ 16
   pub flow : IsSound w.part.flow
 
-pub record IsPathShaped (p : Place) (x : PathState) : Type 0 where
+pub record IsPathShaped (p : NodeConfig) (x : PathState) : Type 0 where
   pub iface : x.iface < length p.ifaces
   pub tspec : IsSound x.tspec
 
 -- a hop is behind an interface that is there
-abbrev pub IsTarget : Place → Target → Type 0
+abbrev pub IsTarget : NodeConfig → Target → Type 0
 IsTarget p (target.Hop i a) = i < length p.ifaces
 IsTarget p (target.Sender s) = Unit {0}
 
-pub record IsWallShaped (p : Place) (k : WallKey) (b : Blockade) : Type 0 where
+pub record IsWallShaped (p : NodeConfig) (k : WallKey) (b : Blockade) : Type 0 where
   pub iface : IsTarget p k.1
   pub flow : IsSound b.wall.flow
 
-pub record AreShaped (p : Place) (f : Facts) : Type 0 where
+pub record AreShaped (p : NodeConfig) (f : Facts) : Type 0 where
   pub senders : (k : SenderKey) (tspec : TokenBucket) → get f.senders k ≡ Some tspec → IsSound tspec
   pub paths : (k : SenderKey) (x : PathState) → get f.paths k ≡ Some x → IsPathShaped p x
   pub resvs : (st : StyleKind) (k : LineKey) (r : ResvState) → get (resvs_of st f) k ≡ Some r → IsShaped p st k r
@@ -87,14 +87,18 @@ pub record AreWithinLimits (f : Facts) : Type 0 where
   pub walls : size f.walls ≤ 512
 
 -- ---- capacity: no book passes that of its interface, and no part the interface's MTU
-pub record AreBooked (p : Place) (f : Facts) : Type 0 where
+pub record AreBooked (p : NodeConfig) (f : Facts) : Type 0 where
   pub capacity : (i : ℕ) (on : Iface) → slice_get p.ifaces i ≡ Some on → held (book f i) ≤ on.capacity
   pub mtu : (i : ℕ) (on : Iface) (k : EntryKey) (part : Part) → slice_get p.ifaces i ≡ Some on → get (book f i) k ≡ Some part → part.flow.most ≤ on.mtu
 
 -- the facts of a node at a moment
-pub record IsWithinBounds (p : Place) (c : ℕ) (f : Facts) : Type 0 where
+pub record IsWithinBounds (p : NodeConfig) (c : ℕ) (f : Facts) : Type 0 where
   pub alive : AreAlive p c f
   pub due : AreDue p c f
   pub shapes : AreShaped p f
   pub limits : AreWithinLimits f
   pub booked : AreBooked p f
+
+-- a router without facts, wherever it stands and at any moment
+abbrev pub NoFactsAreWithinBounds : Type 0
+NoFactsAreWithinBounds = (p : NodeConfig) (c : ℕ) → IsWithinBounds p c no_facts

@@ -1,4 +1,5 @@
--- Local calls, left-over facts, and a node that is cleared. A refused call changes nothing.
+-- Local calls (RFC 2205, 3.11.1: SENDER, RESERVE, RELEASE), left-over facts, and a node that is cleared. A refused call
+-- changes nothing.
 use Rattle.std.specs.Prelude.{nat_le, nat_lt, Bool, true, false, not, List, [], ◌∷◌, map as each, is_some, Option, Some, None}
 use Rattle.std.specs.List.{list_any}
 use Rattle.rsvp_base.specs.declared.session.Session.{Session}
@@ -19,7 +20,7 @@ use Rattle.router_rules.specs.declared.answers.StaleErr.TheVariants as stale
 use Rattle.router_rules.specs.Books.{fits, book, refused}
 use Rattle.router_rules.specs.Facts.{Facts, Paths, ResvTables, Walls, Want, WantKey, Wants, sender_keys, no_resvs, resvs_of, table_of, with_table, with_resvs, wants_in}
 use Rattle.router_rules.specs.Inputs.{Change, only_heard, Local, SendAs, DropAs, WantAs, QuitAll, Stale, StalePath, StaleResv, StaleWall}
-use Rattle.router_rules.specs.Place.{Place, is_own, is_session}
+use Rattle.router_rules.specs.NodeConfig.{NodeConfig, is_own, is_session}
 use Rattle.router_rules.specs.Requests.{is_style}
 
 -- what there is before, where a call is refused, and else what there is with it
@@ -55,7 +56,7 @@ wants_with (WantAs s st names flow mark) t = with_rows t (wanted s st names flow
 wants_with (QuitAll s) t = kept (λ k. not (is_session k.0 s)) t
 
 -- why a call is refused
-abbrev pub call_refusal : Place → Local → Facts → Option LocalErr
+abbrev pub call_refusal : NodeConfig → Local → Facts → Option LocalErr
 call_refusal p (SendAs s x tspec) f = needs (is_own p x.addr) local.NotMine (needs (has_room_at senders (put_in f.senders (s, x) tspec) s) local.Full None)
 call_refusal p (DropAs s x) f = needs (has f.senders (s, x)) local.Absent None
 call_refusal p (WantAs s st names flow mark) f =
@@ -63,7 +64,7 @@ call_refusal p (WantAs s st names flow mark) f =
     (needs (has_room_at units (with_rows f.wants (wanted s st names flow mark)) s) local.Full None)
 call_refusal p (QuitAll s) f = needs (nat_lt 0 (size (wants_in f s))) local.Absent None
 
-abbrev pub act_call : Place → Local → Facts → Change
+abbrev pub act_call : NodeConfig → Local → Facts → Change
 act_call p l f =
     only_heard heard.Taken (record f { senders = unless (call_refusal p l f) (senders_with l f.senders) f.senders; wants = unless (call_refusal p l f) (wants_with l f.wants) f.wants })
 
@@ -90,14 +91,14 @@ abbrev pub entry_of : StyleKind → LineKey → EntryKey
 entry_of st k = (k.0, (st, k.1.1))
 
 -- why a left-over fact is refused
-abbrev pub stale_refusal : Place → Stale → Facts → Option StaleErr
+abbrev pub stale_refusal : NodeConfig → Stale → Facts → Option StaleErr
 stale_refusal p (StalePath k x) f = needs (has_room_at senders (put_in f.paths k x) k.0) stale.Full None
 stale_refusal p (StaleResv st k r) f =
     needs (fits st (put_in (resvs_of st f) k r)) stale.Full
     (needs (not (is_some (refused p k.1.0.0 (entry_of st k) (book (with_resvs st (put_in (resvs_of st f) k r) f) k.1.0.0)))) stale.Over None)
 stale_refusal p (StaleWall k b) f = needs (nat_le (size (put_in f.walls k b)) 512) stale.Full None
 
-abbrev pub act_stale : Place → Stale → Facts → Facts
+abbrev pub act_stale : NodeConfig → Stale → Facts → Facts
 act_stale p i f = unless (stale_refusal p i f) (with_left i f) f
 
 -- ---- clear: local senders and wants stay

@@ -1,4 +1,5 @@
--- A ResvConf goes on to those who wanted to hear (RFC 2205, 2.6 and 3.1.9; RFC 2209, 2: ResvConf).
+-- A ResvConf goes on to those who wanted to hear (RFC 2205, 2.6 and 3.1.9; RFC 2209, 2: RESV
+-- CONFIRM ARRIVES).
 use Rattle.std.specs.Prelude.{Bool, true, false, cond, ◌&&◌, List, [], ◌∷◌, Option, Some, None}
 use Rattle.std.specs.List.{list_any, filter_map}
 use Rattle.rsvp_base.specs.declared.addr.Addr.{Addr}
@@ -15,7 +16,7 @@ use Rattle.router_rules.specs.declared.answers.Heard.TheVariants as heard
 use Rattle.router_rules.specs.declared.answers.Why.TheVariants as why
 use Rattle.router_rules.specs.Facts.{Facts, ResvState, resvs_in}
 use Rattle.router_rules.specs.Inputs.{Change, only_heard, ConfSend}
-use Rattle.router_rules.specs.Place.{Place, is_addr, is_own}
+use Rattle.router_rules.specs.NodeConfig.{NodeConfig, is_addr, is_own}
 
 abbrev pub is_wish : Option Addr → Addr → Bool
 is_wish None a = false
@@ -46,5 +47,5 @@ confs_heard false (s ∷ ss) = (s ∷ ss, heard.Taken)
 abbrev pub with_confs : Facts → ConfsHeard → Change
 with_confs f r = record (only_heard r.1 f) { confs = r.0 }
 
-abbrev pub act_resv_conf : Place → ResvConfMsg → Facts → Change
+abbrev pub act_resv_conf : NodeConfig → ResvConfMsg → Facts → Change
 act_resv_conf p m f = with_confs f (confs_heard (is_own p m.confirm) (confs_on m f))

@@ -1,5 +1,5 @@
--- What a router keeps (RFC 2209, 1: path, reservation and blockade state blocks; RFC 2205, 3.7: each with its lifetime):
--- finite maps by key. A fact that can die has the moment of its death, and lives while the clock is before it.
+-- What a router keeps (RFC 2209, 1: Path State Blocks, PSB; Reservation State Blocks, RSB; Blockade State Blocks, BSB; RFC
+-- 2205, 3.7: each with its lifetime): finite maps by key. A fact that can die has the moment of its death, and lives while the clock is before it.
 use Rattle.std.specs.Prelude.{ℕ, Bool, Option}
 use Rattle.rsvp_base.specs.declared.addr.Addr.{Addr}
 use Rattle.rsvp_base.specs.declared.hop.Hop.{Hop}
@@ -39,7 +39,7 @@ abbrev pub wall_keys : Keys WallKey
 wall_keys = pairs sessions targets
 
 -- ---- facts
--- path state of a sender: the interface by which its Path came, the node that sent it, what the sender sends, E_Police
+-- path state of a sender (PSB): the interface by which its Path came, the node that sent it, what the sender sends, E_Police
 pub record PathState : Type 0 where
   pub iface : ℕ
   pub hop : Hop
@@ -47,7 +47,7 @@ pub record PathState : Type 0 where
   pub police : Bool
   pub dies : ℕ
 
--- reservation state of a next hop and unit; confirm is who wants to hear that it stands
+-- reservation state of a next hop and unit (RSB); confirm is who wants to hear that it stands
 pub record ResvState : Type 0 where
   pub part : Part
   pub confirm : Option Addr
@@ -59,7 +59,7 @@ pub record Want : Type 0 where
   pub part : Part
   pub confirm : Bool
 
--- blockade state: what was refused, and for what (RFC 2205, 3.5)
+-- blockade state (BSB): what was refused, and for what (RFC 2205, 3.5)
 pub record Blockade : Type 0 where
   pub wall : Wall
   pub dies : ℕ

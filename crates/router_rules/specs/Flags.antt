@@ -1,5 +1,5 @@
--- Policing flags, with which an entry of a book is handed to traffic control (RFC 2205, 3.8; RFC 2209, 2: E_Police,
--- M_Police, B_Police).
+-- Policing flags, with which an entry of a book is handed to traffic control (RFC 2205, 3.8; RFC 2209, 2: UPDATE
+-- TRAFFIC CONTROL, E_Police_Flag, M_Police_Flag, B_Police_Flag).
 use Rattle.std.specs.Prelude.{ℕ, ◌==◌, nat_lt, Bool, not, ◌&&◌, List, map as each, length}
 use Rattle.std.specs.List.{filter, list_any}
 use Rattle.std.specs.Ordering.{eq_by_cmp}
@@ -20,14 +20,14 @@ use Rattle.router_rules.specs.declared.entry.Entry.{Entry}
 use Rattle.router_rules.specs.declared.entry.Police.{Police}
 use Rattle.router_rules.specs.Books.{book}
 use Rattle.router_rules.specs.Facts.{Facts, PathState, ResvState, paths_in, resvs_in}
-use Rattle.router_rules.specs.Place.{Place, goes_out}
+use Rattle.router_rules.specs.NodeConfig.{NodeConfig, goes_out}
 use Rattle.router_rules.specs.Requests.{is_style}
 
 -- the paths whose sender the entry names and whose tree goes out of the interface; local senders do not count
-abbrev pub is_matching : Place → Session → StyleKind → ℕ → Part → Sender × PathState → Bool
+abbrev pub is_matching : NodeConfig → Session → StyleKind → ℕ → Part → Sender × PathState → Bool
 is_matching p s st i part e = has part.senders (name_of st e.0) && goes_out p s i e.0
 
-abbrev pub matching : Place → Facts → Session → StyleKind → ℕ → Part → List (Sender × PathState)
+abbrev pub matching : NodeConfig → Facts → Session → StyleKind → ℕ → Part → List (Sender × PathState)
 matching p f s st i part = filter (is_matching p s st i part) (paths_in f s).rows
 
 -- the reservations of the style that share a sender with the entry and are not merged into it
@@ -37,21 +37,22 @@ is_beside i u part e = not ((e.0.0.0 == i) && eq_by_cmp units.cmp e.0.1 u) && no
 abbrev pub beside : Facts → Session → StyleKind → ℕ → UnitOf → Part → List ((NextHop × UnitOf) × ResvState)
 beside f s st i u part = filter (is_beside i u part) (resvs_in st f s).rows
 
--- E: a sender asked for it. M: senders are merged. B: another reservation has a flow for which the entry's cannot stand
-abbrev pub police_at : Place → Facts → ℕ → BookKey → Part → Police
-police_at p f i k part = record {
-  e = list_any (λ x. x.1.police) (matching p f k.0 k.1.0 i part);
-  m = not (is_style k.1.0 Fixed) && nat_lt 1 (length (matching p f k.0 k.1.0 i part));
-  b = list_any (λ r. not (flow_le r.1.part.flow part.flow)) (beside f k.0 k.1.0 i k.1.1 part);
-}
+module _ (p : NodeConfig) (f : Facts) (i : ℕ) where
+  -- E: a sender asked for it. M: senders are merged. B: another reservation has a flow for which the entry's cannot stand
+  abbrev pub police_at : BookKey → Part → Police
+  police_at k part = record {
+    e = list_any (λ x. x.1.police) (matching p f k.0 k.1.0 i part);
+    m = not (is_style k.1.0 Fixed) && nat_lt 1 (length (matching p f k.0 k.1.0 i part));
+    b = list_any (λ r. not (flow_le r.1.part.flow part.flow)) (beside f k.0 k.1.0 i k.1.1 part);
+  }
 
-abbrev pub entry_at : Place → Facts → ℕ → BookKey × Part → Entry
-entry_at p f i e = record { key = record { session = e.0.0; style = e.0.1.0; unit = e.0.1.1 }; part = e.1; police = police_at p f i e.0 e.1 }
+  abbrev pub entry_at : BookKey × Part → Entry
+  entry_at e = record { key = record { session = e.0.0; style = e.0.1.0; unit = e.0.1.1 }; part = e.1; police = police_at e.0 e.1 }
 
--- the entries of an interface's book, by session, style and unit
-abbrev pub entries_at : Place → Facts → ℕ → List Entry
-entries_at p f i = each (entry_at p f i) (book f i).rows
+  -- the entries of an interface's book, by session, style and unit
+  abbrev pub entries_at : List Entry
+  entries_at = each entry_at (book f i).rows
 
 -- a shut front, which contracts cite
-unfoldable pub entries_of : Place → Facts → ℕ → List Entry
+unfoldable pub entries_of : NodeConfig → Facts → ℕ → List Entry
 entries_of p f i = entries_at p f i

@@ -1,4 +1,5 @@
--- What follows each input: senders that are known no more leave the reservations, and countdowns start and go.
+-- What follows each input: senders that are known no more leave the reservations (RFC 2209, 2: PATH TEAR MESSAGE ARRIVES, an
+-- RSB without a matching PSB), and countdowns start and go (the refresh timers of RFC 2205, 3.7).
 use Rattle.std.specs.Prelude.{ℕ, ◌+◌, Bool, not, ◌&&◌, ◌++◌, map as each, Option, Some}
 use Rattle.std.specs.Option.{unwrap_or}
 use Rattle.rsvp_base.specs.declared.session.Sender.{Sender}
@@ -11,7 +12,7 @@ use Rattle.style_rules.specs.Lines.{LineKey}
 use Rattle.router_rules.specs.Asking.{left_of}
 use Rattle.router_rules.specs.Facts.{Facts, ResvState, each_table}
 use Rattle.router_rules.specs.Known.{known, named_as}
-use Rattle.router_rules.specs.Place.{Place, period}
+use Rattle.router_rules.specs.NodeConfig.{NodeConfig, period}
 
 -- ---- forgetting
 -- a name is lost where a sender of it was known before and none is after
@@ -30,5 +31,5 @@ abbrev pub counted : Facts → Set sessions
 counted f = set_of (each (λ k. k.0) (keys f.senders) ++ each (λ k. k.0) (keys f.paths))
 
 -- a countdown starts at R when its session gets the first of these, and goes with the last
-abbrev pub settle : Place → ℕ → Facts → Facts
+abbrev pub settle : NodeConfig → ℕ → Facts → Facts
 settle p c f = record f { due = changed (λ s u. Some (unwrap_or (get f.due s) (c + period p))) (counted f) }

@@ -1,4 +1,4 @@
--- Known senders, and previous hops (RFC 2205, 1.1 and 2.1).
+-- Known senders, and previous hops (RFC 2205, 1.1 and 2.1; RFC 2209, 1: the PHOP of a PSB).
 use Rattle.std.specs.Prelude.{◌≡◌, ◌==◌, Bool, true, cond, ◌&&◌, List, [], ◌∷◌, map as each, Some, None}
 use Rattle.std.specs.List.{flat_map}
 use Rattle.rsvp_base.specs.declared.session.Sender.{Sender}
@@ -12,7 +12,7 @@ use Rattle.rsvp_base.specs.Table.{Table, keys, kept, changed}
 use Rattle.style_rules.specs.Lines.{NextHop, next_hops}
 use Rattle.style_rules.specs.Styles.{name_of}
 use Rattle.router_rules.specs.Facts.{Facts, PathState, SenderKey, senders_in, paths_in}
-use Rattle.router_rules.specs.Place.{is_addr}
+use Rattle.router_rules.specs.NodeConfig.{is_addr}
 
 -- the keys of the rows that pass a test
 abbrev pub keys_where : {K X : Type 0} {o : Keys K} → (K → X → Bool) → Table o X → Set o

@@ -1,6 +1,6 @@
 pub mod Targets
 pub mod Facts
-pub mod Place
+pub mod NodeConfig
 pub mod Known
 pub mod Offers
 pub mod Requests
@@ -20,8 +20,3 @@ pub mod Flags
 pub mod Fronts
 pub mod Bounds
 pub mod Steps
-pub mod Line
-pub mod PathRows
-pub mod ResvRows
-pub mod EdgeRows
-pub mod BoundRows

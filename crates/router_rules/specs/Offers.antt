@@ -1,4 +1,5 @@
--- What a node offers: each known sender, by each interface by which its tree goes on (RFC 2205, 3.1.3; RFC 2209, 2).
+-- What a node offers: each known sender, by each interface by which its tree goes on (RFC 2205, 3.1.3; RFC 2209, 2:
+-- PATH REFRESH, the OutInterface_list of a PSB).
 use Rattle.std.specs.Prelude.{◌≡◌, ℕ, Bool, true, false, List, map as each, Option}
 use Rattle.std.specs.List.{flat_map}
 use Rattle.std.specs.Option.{option_map}
@@ -11,7 +12,7 @@ use Rattle.rsvp_base.specs.TokenBucket.{TokenBucket}
 use Rattle.style_rules.specs.Merge.{table_at}
 use Rattle.style_rules.specs.Toward.{or_else}
 use Rattle.router_rules.specs.Facts.{Facts, SenderKey}
-use Rattle.router_rules.specs.Place.{Place, outward}
+use Rattle.router_rules.specs.NodeConfig.{NodeConfig, outward}
 use Rattle.std.specs.Prelude.{◌++◌}
 
 pub record OfferKey : Type 0 where
@@ -39,8 +40,8 @@ offer_at f k =
     or_else (option_map (λ flow. record { tspec = flow; local = true }) (get f.senders (k.session, k.sender)))
     (option_map (λ path. record { tspec = path.tspec; local = false }) (get f.paths (k.session, k.sender)))
 
-abbrev pub ways_of : Place → SenderKey → List OfferKey
+abbrev pub ways_of : NodeConfig → SenderKey → List OfferKey
 ways_of p k = each (λ i. record { session = k.0; sender = k.1; iface = i }) (outward p k.0 k.1)
 
-abbrev pub offers : Place → Facts → Offers
+abbrev pub offers : NodeConfig → Facts → Offers
 offers p f = table_at (offer_at f) (flat_map (ways_of p) (keys f.senders ++ keys f.paths))

@@ -1,4 +1,4 @@
--- A Path is learnt, and torn down (RFC 2209, 2: Path, PathTear).
+-- A Path is learnt, and torn down (RFC 2209, 2: PATH MESSAGE ARRIVES, PATH TEAR MESSAGE ARRIVES).
 use Rattle.std.specs.Prelude.{ℕ, ◌+◌, Bool, true, false, Option, Some, None}
 use Rattle.rsvp_base.specs.declared.session.Sender.{Sender}
 use Rattle.rsvp_base.specs.Orders.{senders}
@@ -14,7 +14,7 @@ use Rattle.router_rules.specs.declared.answers.Why.TheVariants as why
 use Rattle.router_rules.specs.Facts.{Facts, PathState, Paths, SenderKey}
 use Rattle.router_rules.specs.Inputs.{Change, only_heard}
 use Rattle.router_rules.specs.Known.{came_by}
-use Rattle.router_rules.specs.Place.{Place, lifetime, comes_in}
+use Rattle.router_rules.specs.NodeConfig.{NodeConfig, lifetime, comes_in}
 
 -- paths after, and what was heard
 abbrev pub PathsHeard : Type 0
@@ -23,28 +23,29 @@ PathsHeard = Paths × Heard
 abbrev pub with_paths : Facts → PathsHeard → Change
 with_paths f r = only_heard r.1 (record f { paths = r.0 })
 
--- ---- Path
--- what a Path that came at clock c by interface e says of its sender
-abbrev pub path_state : Place → ℕ → ℕ → PathMsg → TokenBucket → PathState
-path_state p c e m tspec = record { iface = e; hop = m.hop; tspec = tspec; police = m.police; dies = c + lifetime p m.period }
-
 -- where the table has room for it
 abbrev pub learnt : Bool → Paths → Paths → PathsHeard
 learnt true new old = (new, heard.Taken)
 learnt false new old = (old, heard.Dropped why.Full)
 
--- by the interface that leads to the sender alone
-abbrev pub learn_inward : Place → ℕ → ℕ → PathMsg → Sender → TokenBucket → Bool → Paths → PathsHeard
-learn_inward p c e m x tspec false t = (t, heard.Dropped why.NotInward)
-learn_inward p c e m x tspec true t =
-    learnt (has_room_at senders (put_in t (m.session, x) (path_state p c e m tspec)) m.session) (put_in t (m.session, x) (path_state p c e m tspec)) t
+-- ---- Path
+module _ (p : NodeConfig) (clock iface : ℕ) (m : PathMsg) where
+  -- what a Path that came at this clock by this interface says of its sender
+  abbrev pub path_state : TokenBucket → PathState
+  path_state tspec = record { iface = iface; hop = m.hop; tspec = tspec; police = m.police; dies = clock + lifetime p m.period }
 
-abbrev pub learn : Place → ℕ → ℕ → PathMsg → Option (Sender × TokenBucket) → Paths → PathsHeard
-learn p c e m None t = (t, heard.Dropped why.NoSender)
-learn p c e m (Some x) t = learn_inward p c e m x.0 x.1 (comes_in p m.session e x.0) t
+  -- by the interface that leads to the sender alone
+  abbrev pub learn_inward : Sender → TokenBucket → Bool → Paths → PathsHeard
+  learn_inward x tspec false t = (t, heard.Dropped why.NotInward)
+  learn_inward x tspec true t =
+      learnt (has_room_at senders (put_in t (m.session, x) (path_state tspec)) m.session) (put_in t (m.session, x) (path_state tspec)) t
 
-abbrev pub act_path : Place → ℕ → ℕ → PathMsg → Facts → Change
-act_path p c e m f = with_paths f (learn p c e m m.sender f.paths)
+  abbrev pub learn : Option (Sender × TokenBucket) → Paths → PathsHeard
+  learn None t = (t, heard.Dropped why.NoSender)
+  learn (Some x) t = learn_inward x.0 x.1 (comes_in p m.session iface x.0) t
+
+  abbrev pub act_path : Facts → Change
+  act_path f = with_paths f (learn m.sender f.paths)
 
 -- ---- PathTear
 abbrev pub is_path_by : NextHop → Option PathState → Bool

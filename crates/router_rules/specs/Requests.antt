@@ -1,5 +1,5 @@
--- What is asked for toward a previous hop (RFC 2205, 2.2 and 3.5): reservations and local wants, each cut to the senders
--- whose Paths come from there, and blockaded or not; and their merge.
+-- What is asked for toward a previous hop (RFC 2205, 2.2 and 3.5; RFC 2209, 2: RESV REFRESH): reservations and local wants,
+-- each cut to the senders whose Paths come from there, and blockaded or not; and their merge.
 use Rattle.std.specs.Prelude.{Bool, cond, ◌++◌, List, Option, Some, None}
 use Rattle.std.specs.List.{list_any, filter_map}
 use Rattle.std.specs.Option.{option_map}
@@ -20,7 +20,7 @@ use Rattle.style_rules.specs.Toward.{toward as merged_toward}
 use Rattle.router_rules.specs.declared.target.Target.TheVariants as target
 use Rattle.router_rules.specs.Facts.{Facts, ResvState, Want, Blockade, WallKey, Walls, resvs_in, wants_in}
 use Rattle.router_rules.specs.Known.{Lane, names_via, names_via_where}
-use Rattle.router_rules.specs.Place.{Place, goes_out}
+use Rattle.router_rules.specs.NodeConfig.{NodeConfig, goes_out}
 
 abbrev pub is_style : StyleKind → StyleKind → Bool
 is_style a b = eq_by_cmp styles.cmp a b
@@ -47,26 +47,27 @@ abbrev pub request_of : Walls → Lane → Option Part → Option Request
 request_of w l None = None
 request_of w l (Some p) = Some (record { part = p; blockaded = is_blockaded l.style w l p })
 
--- a reservation, cut to the names via the hop whose tree goes out of the reservation's interface
-abbrev pub resv_part : Place → Facts → Lane → (NextHop × UnitOf) × ResvState → Option Part
-resv_part p f l e = part_cut e.1.part (names_via_where f l (goes_out p l.session e.0.0.0))
-
 -- a wildcard want stands for all names via the hop, another one is cut to them
 abbrev pub want_part : StyleKind → Names → Part → Option Part
 want_part Wild names w = part_of names w.flow
 want_part Fixed names w = part_cut w names
 want_part Shared names w = part_cut w names
 
-abbrev pub resv_request : Place → Facts → Lane → (NextHop × UnitOf) × ResvState → Option Request
-resv_request p f l e = request_of f.walls l (resv_part p f l e)
-
 abbrev pub want_request : Facts → Lane → UnitOf × Want → Option Request
 want_request f l e = cond (is_style e.1.style l.style) (request_of f.walls l (want_part l.style (names_via f l) e.1.part)) None
 
-abbrev pub requests : Place → Facts → Lane → List Request
-requests p f l = filter_map (resv_request p f l) (resvs_in l.style f l.session).rows ++ filter_map (want_request f l) (wants_in f l.session).rows
+module _ (p : NodeConfig) (f : Facts) (l : Lane) where
+  -- a reservation, cut to the names via the hop whose tree goes out of the reservation's interface
+  abbrev pub resv_part : (NextHop × UnitOf) × ResvState → Option Part
+  resv_part e = part_cut e.1.part (names_via_where f l (goes_out p l.session e.0.0.0))
 
--- ---- toward
--- of each unit the join of the requests that are not blockaded, or the meet of all where all are
-abbrev pub toward : Place → Facts → Lane → PartTable
-toward p f l = merged_toward l.style (requests p f l)
+  abbrev pub resv_request : (NextHop × UnitOf) × ResvState → Option Request
+  resv_request e = request_of f.walls l (resv_part e)
+
+  abbrev pub requests : List Request
+  requests = filter_map resv_request (resvs_in l.style f l.session).rows ++ filter_map (want_request f l) (wants_in f l.session).rows
+
+  -- ---- toward
+  -- of each unit the join of the requests that are not blockaded, or the meet of all where all are
+  abbrev pub toward : PartTable
+  toward = merged_toward l.style requests

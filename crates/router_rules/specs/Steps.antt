@@ -6,7 +6,7 @@ use Rattle.rsvp_base.specs.Sets.{Set, IsWithin}
 use Rattle.router_rules.specs.Act.{act}
 use Rattle.router_rules.specs.Facts.{Facts, ResvState, resvs_of}
 use Rattle.router_rules.specs.Inputs.{Input, Call, Wait, Clear, Came, Moved, Send, Arrival, Spelt, Unspelt, Local, SendAs, DropAs, WantAs, QuitAll, Stale, StalePath, StaleResv, StaleWall}
-use Rattle.router_rules.specs.Place.{Place, lifetime, period, wall_lifetime}
+use Rattle.router_rules.specs.NodeConfig.{NodeConfig, lifetime, period, wall_lifetime}
 use Rattle.router_rules.specs.Rule.{rule}
 use Rattle.rsvp_base.specs.declared.style.StyleKind.{StyleKind}
 use Rattle.rsvp_base.specs.declared.style.StyleKind.TheVariants.{Wild, Fixed, Shared}
@@ -15,17 +15,44 @@ use Rattle.rsvp_base.specs.TokenBucket.{IsSound}
 use Rattle.rsvp_messages.specs.Proper.{IsProper}
 use Rattle.style_rules.specs.Lines.{LineKey}
 use Rattle.style_rules.specs.Parts.{has_name}
-use Rattle.router_rules.specs.Bounds.{IsPathShaped, IsShaped, IsWallShaped, LivesUpTo}
+use Rattle.router_rules.specs.Bounds.{IsPathShaped, IsShaped, IsWallShaped, LivesUpTo, IsWithinBounds}
 
-abbrev pub facts_then : Place → Place → ℕ → Input → Facts → Facts
+abbrev pub facts_then : NodeConfig → NodeConfig → ℕ → Input → Facts → Facts
 facts_then old p c i f = (rule old p c i f).facts
 
-abbrev pub sent_then : Place → Place → ℕ → Input → Facts → List Send
+abbrev pub sent_then : NodeConfig → NodeConfig → ℕ → Input → Facts → List Send
 sent_then old p c i f = (rule old p c i f).sent
 
 -- the sessions that came due
-abbrev pub fired_then : Place → ℕ → Input → Facts → Set sessions
+abbrev pub fired_then : NodeConfig → ℕ → Input → Facts → Set sessions
 fired_then p c i f = (act p c i f).fired
+
+-- one step of a node: its configuration before and after, which differ in their routes; its clock before and after; an input,
+-- and its facts before
+pub record NodeStep : Type 0 where
+  pub old : NodeConfig
+  pub now : NodeConfig
+  pub before : ℕ
+  pub after : ℕ
+  pub input : Input
+  pub facts : Facts
+
+abbrev pub node_step : NodeConfig → NodeConfig → ℕ → ℕ → Input → Facts → NodeStep
+node_step old p b c i f = record { old = old; now = p; before = b; after = c; input = i; facts = f }
+
+-- it begins within bounds
+abbrev pub Begins : NodeStep → Type 0
+Begins step = IsWithinBounds step.old step.before step.facts
+
+-- the facts that it leaves, what it sends, and the sessions that it finds due
+abbrev pub left_by : NodeStep → Facts
+left_by step = facts_then step.old step.now step.after step.input step.facts
+
+abbrev pub sent_by : NodeStep → List Send
+sent_by step = sent_then step.old step.now step.after step.input step.facts
+
+abbrev pub fired_by : NodeStep → Set sessions
+fired_by step = fired_then step.now step.after step.input step.facts
 
 -- the inputs of which calm rounds are made: nothing is asked for locally, cleared or rerouted
 abbrev pub is_calm : Input → Bool
@@ -37,7 +64,7 @@ is_calm Moved = false
 
 -- ---- what may come to a node
 -- the routes may change, the node does not
-pub record IsSameNode (old p : Place) : Type 0 where
+pub record IsSameNode (old p : NodeConfig) : Type 0 where
   pub quarter : old.quarter ≡ p.quarter
   pub ifaces : old.ifaces ≡ p.ifaces
   pub some : 1 ≤ p.quarter
@@ -59,7 +86,7 @@ IsFitArrival (Spelt m) = IsProper m
 IsFitArrival (Unspelt m) = Unit {0}
 
 -- a call has sound flows, a wait is at most half a period, a message is proper and came by an interface that is there
-abbrev pub IsFit : Place → Input → Type 0
+abbrev pub IsFit : NodeConfig → Input → Type 0
 IsFit p (Call l) = IsFitCall l
 IsFit p (Wait ms word) = ms ≤ 2 * p.quarter
 IsFit p Clear = Unit {0}
@@ -76,7 +103,7 @@ clock_after b Moved = b
 
 -- ---- what may be left over at a node
 -- a left-over fact lives no longer than one that was just refreshed, and has the shape of one
-abbrev pub IsFitStale : Place → ℕ → Stale → Type 0
+abbrev pub IsFitStale : NodeConfig → ℕ → Stale → Type 0
 IsFitStale p c (StalePath k x) = LivesUpTo c (lifetime p (period p)) x.dies × IsPathShaped p x
 IsFitStale p c (StaleResv st k r) = LivesUpTo c (lifetime p (period p)) r.dies × IsShaped p st k r
 IsFitStale p c (StaleWall k b) = LivesUpTo c (wall_lifetime p) b.dies × IsWallShaped p k b

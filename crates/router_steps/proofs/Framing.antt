@@ -15,14 +15,14 @@ use Rattle.router_rules.specs.Facts.{Facts, Resvs, ResvState, resvs_of}
 use Rattle.router_rules.specs.Forgetting.{forget, is_lost, remembered}
 use Rattle.router_rules.specs.Inputs.{Input, Call, Wait, Clear, Came, Moved}
 use Rattle.router_rules.specs.Known.{known, named_as}
-use Rattle.router_rules.specs.Place.{Place}
+use Rattle.router_rules.specs.NodeConfig.{NodeConfig}
 use Rattle.router_lookups.proofs.Leaving.{left_whole}
 use Rattle.router_inputs.specs.Frames.{AreSameButMarks, on_paths, on_resvs, on_senders, on_wants}
 use Rattle.router_steps.specs.FrameLaws.{CalmStepsKeepTheLocals, LeftAsItWas}
-use Rattle.router_rules.specs.Steps.{facts_then, is_calm}
+use Rattle.router_rules.specs.Steps.{facts_then, is_calm, left_by}
 use Rattle.router_inputs.proofs.Framing.{act_senders, act_wants, act_paths, act_resvs, act_walls, wants_then}
 
-wants_left : (old p : Place) (c : ℕ) (i : Input) (f : Facts) → on_wants i ≡ false → AreSameButMarks f.wants (facts_then old p c i f).wants
+wants_left : (old p : NodeConfig) (c : ℕ) (i : Input) (f : Facts) → on_wants i ≡ false → AreSameButMarks f.wants (facts_then old p c i f).wants
 wants_left old p c i f n = subst (λ t. AreSameButMarks t (facts_then old p c i f).wants) (act_wants p c i f n) (wants_then old p c i f)
 
 -- ---- forgetting nobody
@@ -48,7 +48,7 @@ forget_nobody before after same named =
     let fixed = forget_table Fixed before after after.resvs.fixed same (named Fixed) in
     let shared = forget_table Shared before after after.resvs.shared same (named Shared) in λ i. record { wild = wild i; fixed = fixed i; shared = shared i }
 
-whole : (old p : Place) (b c : ℕ) (i : Input) (f : Facts) → IsWithinBounds old b f → on_resvs i ≡ false → on_senders i ≡ false → on_paths i ≡ false → (facts_then old p c i f).resvs ≡ f.resvs
+whole : (old p : NodeConfig) (b c : ℕ) (i : Input) (f : Facts) → IsWithinBounds old b f → on_resvs i ≡ false → on_senders i ≡ false → on_paths i ≡ false → (facts_then old p c i f).resvs ≡ f.resvs
 whole old p b c i f within r s t =
     let from : (act p c i f).facts.resvs ≡ f.resvs = act_resvs p c i f r in
     let senders = sym (act_senders p c i f s) in
@@ -58,12 +58,12 @@ whole old p b c i f within r s t =
 pub left_as_it_was : LeftAsItWas
 left_as_it_was =
     record {
-      senders = λ old p c i f n. act_senders p c i f n;
-      wants = λ old p c i f n. wants_left old p c i f n;
-      paths = λ old p c i f n. act_paths p c i f n;
-      walls = λ old p c i f n. act_walls p c i f n;
-      resvs = λ old p c i f n. ap (λ ts. (forget f (record (facts_then old p c i f) { resvs = ts })).resvs) (act_resvs p c i f n);
-      resvs_whole = whole;
+      senders = λ step n. act_senders step.now step.after step.input step.facts n;
+      wants = λ step n. wants_left step.old step.now step.after step.input step.facts n;
+      paths = λ step n. act_paths step.now step.after step.input step.facts n;
+      walls = λ step n. act_walls step.now step.after step.input step.facts n;
+      resvs = λ step n. ap (λ ts. (forget step.facts (record (left_by step) { resvs = ts })).resvs) (act_resvs step.now step.after step.input step.facts n);
+      resvs_whole = λ step within r s t. whole step.old step.now step.before step.after step.input step.facts within r s t;
     }
 
 calm_on : (i : Input) → is_calm i ≡ true → (on_senders i ≡ false) × (on_wants i ≡ false)
@@ -75,4 +75,7 @@ calm_on Moved q = absurd (cc)
 
 pub calm_steps_keep_the_locals : CalmStepsKeepTheLocals
 calm_steps_keep_the_locals =
-    record { senders = λ old p b c i f within q. act_senders p c i f (calm_on i q).0; wants = λ old p b c i f within q. wants_left old p c i f (calm_on i q).1 }
+    record {
+      senders = λ step within q. act_senders step.now step.after step.input step.facts (calm_on step.input q).0;
+      wants = λ step within q. wants_left step.old step.now step.after step.input step.facts (calm_on step.input q).1;
+    }

@@ -23,21 +23,21 @@ use Rattle.router_rules.specs.Facts.{Facts, PathState, Paths, SenderKey, sender_
 use Rattle.router_rules.specs.Inputs.{Input, Call, Wait, Clear, Came, Change, Moved, Spelt, Unspelt}
 use Rattle.router_rules.specs.Known.{came_by}
 use Rattle.router_rules.specs.Paths.{is_path_by, learn, learn_inward, learnt, path_state, tear_path, torn_path}
-use Rattle.router_rules.specs.Place.{Place, comes_in, is_addr}
+use Rattle.router_rules.specs.NodeConfig.{NodeConfig, comes_in, is_addr}
 use Rattle.router_rules.specs.Rule.{rule}
 use Rattle.router_rules.specs.Waiting.{living}
 use Rattle.router_lookups.proofs.Tests.{addr_told, addr_tested}
 use Rattle.router_inputs.proofs.Receiving.{paths_by_tests}
 use Rattle.router_steps.specs.PathLaws.{APathOnTheTreeIsLearnt, HowAPathFactGoes, IsReplaced, PathGoes, WhereAPathFactComesFrom}
 use Rattle.router_inputs.specs.Sources.{IsLearnt, said_by}
-use Rattle.router_rules.specs.Steps.{facts_then}
+use Rattle.router_rules.specs.Steps.{facts_then, left_by}
 use Rattle.router_inputs.proofs.Stepping.{came_from}
 
 pub where_a_path_fact_comes_from : WhereAPathFactComesFrom
-where_a_path_fact_comes_from old p b c i f within k x h = came_from old p c i f k x h
+where_a_path_fact_comes_from step within k x h = came_from step.old step.now step.after step.input step.facts k x h
 
 -- ---- it is learnt
-module _ (old p : Place) (c : ℕ) (f : Facts) (e : ℕ) (m : PathMsg) (x : Sender) (tspec : TokenBucket) where
+module _ (old p : NodeConfig) (c : ℕ) (f : Facts) (e : ℕ) (m : PathMsg) (x : Sender) (tspec : TokenBucket) where
   abbrev table_with : Session → Paths
   table_with s = put_in f.paths (s, x) (path_state p c e m tspec)
 
@@ -79,13 +79,13 @@ module _ (old p : Place) (c : ℕ) (f : Facts) (e : ℕ) (m : PathMsg) (x : Send
 pub a_path_on_the_tree_is_learnt : APathOnTheTreeIsLearnt
 a_path_on_the_tree_is_learnt =
     record {
-      learnt = λ old p b c i f within k by room.
-          let r = taken_at old p c f by.at by.path k.1 by.tspec k.0 by.session by.sender by.tree ((put_room senders f.paths k (said_by p c i k by) within.limits.paths).1 room) in
-          (ap (λ z. (facts_then old p c z f).paths) by.came ∙ r.0, ap (λ z. (rule old p c z f).heard) by.came ∙ r.1);
-      full = λ old p b c i f within k by none.
-          let no : has_room_at senders (put_in f.paths k (said_by p c i k by)) k.0 ≡ false = either (has_room_at senders (put_in f.paths k (said_by p c i k by)) k.0) (λ yes. absurd (none ((put_room senders f.paths k (said_by p c i k by) within.limits.paths).0 yes))) (λ no. no) in
-          let r = full_at old p c f by.at by.path k.1 by.tspec k.0 by.session by.sender by.tree no in
-          (ap (λ z. (facts_then old p c z f).paths) by.came ∙ r.0, ap (λ z. (rule old p c z f).heard) by.came ∙ r.1);
+      learnt = λ step within k by room.
+          let r = taken_at step.old step.now step.after step.facts by.at by.path k.1 by.tspec k.0 by.session by.sender by.tree ((put_room senders step.facts.paths k (said_by step.now step.after step.input k by) within.limits.paths).1 room) in
+          (ap (λ z. (facts_then step.old step.now step.after z step.facts).paths) by.came ∙ r.0, ap (λ z. (rule step.old step.now step.after z step.facts).heard) by.came ∙ r.1);
+      full = λ step within k by none.
+          let no : has_room_at senders (put_in step.facts.paths k (said_by step.now step.after step.input k by)) k.0 ≡ false = either (has_room_at senders (put_in step.facts.paths k (said_by step.now step.after step.input k by)) k.0) (λ yes. absurd (none ((put_room senders step.facts.paths k (said_by step.now step.after step.input k by) within.limits.paths).0 yes))) (λ no. no) in
+          let r = full_at step.old step.now step.after step.facts by.at by.path k.1 by.tspec k.0 by.session by.sender by.tree no in
+          (ap (λ z. (facts_then step.old step.now step.after z step.facts).paths) by.came ∙ r.0, ap (λ z. (rule step.old step.now step.after z step.facts).heard) by.came ∙ r.1);
     }
 
 -- ---- how it goes
@@ -97,7 +97,7 @@ put_keeps t q k v x h n = by (eq_by_cmp sender_keys.cmp k q) (sym (get-put_in se
     by true e = cc
     by false e = cc
 
-learn_keeps : (p : Place) (c e : ℕ) (m : PathMsg) (o : Option (Sender × TokenBucket)) (t : Paths) (k : SenderKey) (x : PathState) → get t k ≡ Some x → get (learn p c e m o t).0 k ≡ None → ⊥
+learn_keeps : (p : NodeConfig) (c e : ℕ) (m : PathMsg) (o : Option (Sender × TokenBucket)) (t : Paths) (k : SenderKey) (x : PathState) → get t k ≡ Some x → get (learn p c e m o t).0 k ≡ None → ⊥
 learn_keeps p c e m None t k x h n = cc
 learn_keeps p c e m (Some s) t k x h n = by_tree (comes_in p m.session e s.0) n
   where
@@ -132,7 +132,7 @@ tear_gone e m (Some s) t k x h n = by_hop (is_path_by (e, m.hop.addr) (get t (m.
     by_hop false is n = absurd (cc)
     by_hop true is n = by_key is (eq_by_cmp sender_keys.cmp (m.session, s) k) refl (sym (get-without sender_keys t (m.session, s) k) ∙ n)
 
-spelt_gone : (p : Place) (c e : ℕ) (dst : Addr) (f : Facts) (k : SenderKey) (x : PathState) (m : Message) (b : Bool) → is_mine p e dst m ≡ b → get f.paths k ≡ Some x → get (act_spelt p c e m b f).facts.paths k ≡ None
+spelt_gone : (p : NodeConfig) (c e : ℕ) (dst : Addr) (f : Facts) (k : SenderKey) (x : PathState) (m : Message) (b : Bool) → is_mine p e dst m ≡ b → get f.paths k ≡ Some x → get (act_spelt p c e m b f).facts.paths k ≡ None
     → PathGoes c (Came e dst (Spelt m)) k x
 spelt_gone p c e dst f k x m false is h n = absurd (cc)
 spelt_gone p c e dst f k x (message.Path m) true is h n = absurd (learn_keeps p c e m m.sender f.paths k x h n)
@@ -154,7 +154,7 @@ died c dies x n = by (nat_lt c (dies x)) refl n
     by true t n = absurd (cc)
     by false t n = let no = ltb-false c (dies x) t in omega (arith, no)
 
-why_gone : (old p : Place) (c : ℕ) (i : Input) (f : Facts) (k : SenderKey) (x : PathState) → get f.paths k ≡ Some x → get (facts_then old p c i f).paths k ≡ None → PathGoes c i k x
+why_gone : (old p : NodeConfig) (c : ℕ) (i : Input) (f : Facts) (k : SenderKey) (x : PathState) → get f.paths k ≡ Some x → get (facts_then old p c i f).paths k ≡ None → PathGoes c i k x
 why_gone old p c (Call l) f k x h n = absurd (cc)
 why_gone old p c (Wait ms word) f k x h n =
     let d : living c (λ (y : PathState). y.dies) x ≡ None =
@@ -166,10 +166,10 @@ why_gone old p c (Came e dst (Unspelt m)) f k x h n = absurd (cc)
 why_gone old p c (Came e dst (Spelt m)) f k x h n = spelt_gone p c e dst f k x m (is_mine p e dst m) refl h n
 
 pub how_a_path_fact_goes : HowAPathFactGoes
-how_a_path_fact_goes old p b c i f within k x h = by (get (facts_then old p c i f).paths k) refl
+how_a_path_fact_goes step within k x h = by (get (left_by step).paths k) refl
   where
-    by : (w : Option PathState) → get (facts_then old p c i f).paths k ≡ w
-        → (get (facts_then old p c i f).paths k ≡ Some x) ⊎ (IsReplaced p c i (facts_then old p c i f) k ⊎ ((get (facts_then old p c i f).paths k ≡ None) × PathGoes c i k x))
-    by None is = inr (inr (is, why_gone old p c i f k x h is))
+    by : (w : Option PathState) → get (left_by step).paths k ≡ w
+        → (get (left_by step).paths k ≡ Some x) ⊎ (IsReplaced step.now step.after step.input (left_by step) k ⊎ ((get (left_by step).paths k ≡ None) × PathGoes step.after step.input k x))
+    by None is = inr (inr (is, why_gone step.old step.now step.after step.input step.facts k x h is))
     by (Some y) is =
-        ⊎_elim (λ (was : get f.paths k ≡ Some y). inl (is ∙ sym was ∙ h)) (λ (new : IsLearnt p c i k y). inr (inl (record { new = y; there = is; learnt = new }))) (came_from old p c i f k y is)
+        ⊎_elim (λ (was : get step.facts.paths k ≡ Some y). inl (is ∙ sym was ∙ h)) (λ (new : IsLearnt step.now step.after step.input k y). inr (inl (record { new = y; there = is; learnt = new }))) (came_from step.old step.now step.after step.input step.facts k y is)

@@ -21,7 +21,7 @@ use Rattle.router_rules.specs.Facts.{Facts}
 use Rattle.router_rules.specs.Inputs.{ErrMsg, Input, OfPath, OfResv, Send, Wait}
 use Rattle.router_rules.specs.Known.{Lane, known, lanes}
 use Rattle.router_rules.specs.Offers.{Offer, OfferKey, offer_at, offers}
-use Rattle.router_rules.specs.Place.{Place, goes_out, own, period}
+use Rattle.router_rules.specs.NodeConfig.{NodeConfig, goes_out, own, period}
 use Rattle.router_rules.specs.Requests.{toward}
 use Rattle.router_rules.specs.Rule.{is_silent, settled}
 use Rattle.router_rules.specs.Sends.{confirm_for, error_message, is_changed, is_new_offer, path_send, resv_send}
@@ -37,7 +37,7 @@ use Rattle.router_steps.proofs.Counting.{reached}
 use Rattle.router_rules.specs.Steps.{facts_then, sent_then, fired_then}
 use Rattle.router_inputs.proofs.Stepping.{offer_source, offered_is_known, offered, send_told}
 
-not_offered : (p : Place) (f : Facts) (k : OfferKey) → has (offers p f) k ≡ false → (is_way p k ≡ false) ⊎ (has (known f k.session) k.sender ≡ false)
+not_offered : (p : NodeConfig) (f : Facts) (k : OfferKey) → has (offers p f) k ≡ false → (is_way p k ≡ false) ⊎ (has (known f k.session) k.sender ≡ false)
 not_offered p f k e = by (is_way p k) refl (ap is_some (sym (offers_by_way p f k)) ∙ e)
   where
     by : (b : Bool) → is_way p k ≡ b → is_some (cond b (offer_at f k) None) ≡ false → (is_way p k ≡ false) ⊎ (has (known f k.session) k.sender ≡ false)
@@ -53,7 +53,7 @@ no_error_tear : (w : ErrMsg) (m : PathTearMsg) → error_message w ≡ message.P
 no_error_tear (OfPath x) m e = cc
 no_error_tear (OfResv x) m e = cc
 
-module _ (old p : Place) (c : ℕ) (i : Input) (f : Facts) where
+module _ (old p : NodeConfig) (c : ℕ) (i : Input) (f : Facts) where
   abbrev after : Facts
   after = settled p c f (act p c i f).facts
 
@@ -204,25 +204,25 @@ module _ (old p : Place) (c : ℕ) (i : Input) (f : Facts) where
 pub what_a_path_sent_says : WhatAPathSentSays
 what_a_path_sent_says =
     record {
-      says = λ old p b c i f within s m h e. path_says old p c i f s m e (path_only old p c i f s m e (send_told old p c i f s h));
-      refresh = λ old p b c i f within s m h e. path_refresh old p c i f s m e (path_only old p c i f s m e (send_told old p c i f s h));
-      why = λ old p b c i f within s m h e n. path_why old p c i f s n (path_only old p c i f s m e (send_told old p c i f s h));
+      says = λ step within s m h e. path_says step.old step.now step.after step.input step.facts s m e (path_only step.old step.now step.after step.input step.facts s m e (send_told step.old step.now step.after step.input step.facts s h));
+      refresh = λ step within s m h e. path_refresh step.old step.now step.after step.input step.facts s m e (path_only step.old step.now step.after step.input step.facts s m e (send_told step.old step.now step.after step.input step.facts s h));
+      why = λ step within s m h e n. path_why step.old step.now step.after step.input step.facts s n (path_only step.old step.now step.after step.input step.facts s m e (send_told step.old step.now step.after step.input step.facts s h));
     }
 
 pub why_a_path_tear_is_sent : WhyAPathTearIsSent
-why_a_path_tear_is_sent old p b c i f within s m h e = tear_says old p c i f s m e (tear_only old p c i f s m e (send_told old p c i f s h))
+why_a_path_tear_is_sent step within s m h e = tear_says step.old step.now step.after step.input step.facts s m e (tear_only step.old step.now step.after step.input step.facts s m e (send_told step.old step.now step.after step.input step.facts s h))
 
 -- what has the mark is sent while time passes
-while_waiting : (p : Place) (c : ℕ) (i : Input) (f : Facts) (s : Session) → has (fired_then p c i f) s ≡ true → (ms : ℕ) × (word : ℕ) × (i ≡ Wait ms word)
+while_waiting : (p : NodeConfig) (c : ℕ) (i : Input) (f : Facts) (s : Session) → has (fired_then p c i f) s ≡ true → (ms : ℕ) × (word : ℕ) × (i ≡ Wait ms word)
 while_waiting p c i f s e = let r = reached p c i f s e in (r.ms, r.word, r.waited)
 
 pub refreshes_are_marked : RefreshesAreMarked
 refreshes_are_marked =
     record {
-      offered = λ old p b c i f within key offer due e. offer_refreshed old p c i f key offer due e;
-      known_ones = λ old p b c i f within s x e due is less out. known_refreshed old p c i f s x e due is less out;
-      resvs = λ old p b c i f within l ask due e. resv_refreshed old p c i f l ask due e;
-      only = λ old p b c i f within s h e. refresh_only old p c i f s e (send_told old p c i f s h);
-      waited = λ old p b c i f within s h e.
-          ⊎_elim (λ (r : IsPathRefresh p c i f s). while_waiting p c i f r.path.session r.fired) (λ (r : IsResvRefresh p c i f s). while_waiting p c i f r.resv.session r.fired) (refresh_only old p c i f s e (send_told old p c i f s h));
+      offered = λ step within key offer due e. offer_refreshed step.old step.now step.after step.input step.facts key offer due e;
+      known_ones = λ step within s x e due is less out. known_refreshed step.old step.now step.after step.input step.facts s x e due is less out;
+      resvs = λ step within l ask due e. resv_refreshed step.old step.now step.after step.input step.facts l ask due e;
+      only = λ step within s h e. refresh_only step.old step.now step.after step.input step.facts s e (send_told step.old step.now step.after step.input step.facts s h);
+      waited = λ step within s h e.
+          ⊎_elim (λ (r : IsPathRefresh step.now step.after step.input step.facts s). while_waiting step.now step.after step.input step.facts r.path.session r.fired) (λ (r : IsResvRefresh step.now step.after step.input step.facts s). while_waiting step.now step.after step.input step.facts r.resv.session r.fired) (refresh_only step.old step.now step.after step.input step.facts s e (send_told step.old step.now step.after step.input step.facts s h));
     }

@@ -3,15 +3,14 @@ use Rattle.std.specs.Prelude.{◌≡◌, ℕ, ◌+◌, ◌*◌, ◌%◌, ◌≤�
 use Rattle.rsvp_base.specs.declared.session.Sender.{Sender}
 use Rattle.rsvp_base.specs.declared.session.Session.{Session}
 use Rattle.rsvp_base.specs.Table.{get, has}
-use Rattle.router_rules.specs.Bounds.{IsWithinBounds}
 use Rattle.router_rules.specs.Facts.{Facts}
 use Rattle.router_rules.specs.Inputs.{Input, Wait, Clear}
 use Rattle.router_rules.specs.Known.{known}
-use Rattle.router_rules.specs.Place.{Place, period}
-use Rattle.router_rules.specs.Steps.{facts_then, fired_then, is_calm}
+use Rattle.router_rules.specs.NodeConfig.{NodeConfig, period}
+use Rattle.router_rules.specs.Steps.{is_calm, NodeStep, Begins, left_by, fired_by}
 
 -- a wait reached the moment t, and it moved by half a period and up to one more
-pub record IsMoved (p : Place) (c : ℕ) (i : Input) (t to : ℕ) : Type 0 where
+pub record IsMoved (p : NodeConfig) (c : ℕ) (i : Input) (t to : ℕ) : Type 0 where
   pub ms : ℕ
   pub word : ℕ
   pub waited : i ≡ Wait ms word
@@ -29,11 +28,11 @@ pub record IsReached (c : ℕ) (i : Input) (f : Facts) (s : Session) : Type 0 wh
 
 pub record CountdownsMoveByTheirRule : Type 0 where
   -- a moment stays and its session is not due, or it was reached and moved
-  pub moves : (old p : Place) (b c : ℕ) (i : Input) (f : Facts) → IsWithinBounds old b f → (s : Session) (t to : ℕ) → is_calm i ≡ true → get f.due s ≡ Some t → get (facts_then old p c i f).due s ≡ Some to
-      → ((to ≡ t) × (has (fired_then p c i f) s ≡ false)) ⊎ (IsMoved p c i t to × (has (fired_then p c i f) s ≡ true))
+  pub moves : (step : NodeStep) → Begins step → (s : Session) (t to : ℕ) → is_calm step.input ≡ true → get step.facts.due s ≡ Some t → get (left_by step).due s ≡ Some to
+      → ((to ≡ t) × (has (fired_by step) s ≡ false)) ⊎ (IsMoved step.now step.after step.input t to × (has (fired_by step) s ≡ true))
   -- sessions come due where a wait reaches their moments, and nowhere else
-  pub fires : (old p : Place) (b c : ℕ) (i : Input) (f : Facts) → IsWithinBounds old b f → (s : Session) → (has (fired_then p c i f) s ≡ true) ↔ IsReached c i f s
+  pub fires : (step : NodeStep) → Begins step → (s : Session) → (has (fired_by step) s ≡ true) ↔ IsReached step.after step.input step.facts s
   -- a new countdown, and any that stands after the node was cleared, began at a period
-  pub starts : (old p : Place) (b c : ℕ) (i : Input) (f : Facts) → IsWithinBounds old b f → (s : Session) (t : ℕ) → (get f.due s ≡ None) ⊎ (i ≡ Clear) → get (facts_then old p c i f).due s ≡ Some t → t ≡ c + period p
+  pub starts : (step : NodeStep) → Begins step → (s : Session) (t : ℕ) → (get step.facts.due s ≡ None) ⊎ (step.input ≡ Clear) → get (left_by step).due s ≡ Some t → t ≡ step.after + period step.now
   -- it stands exactly where a sender is known: a local one, or one with a path
-  pub stands : (old p : Place) (b c : ℕ) (i : Input) (f : Facts) → IsWithinBounds old b f → (s : Session) → (has (facts_then old p c i f).due s ≡ true) ↔ ((x : Sender) × (has (known (facts_then old p c i f) s) x ≡ true))
+  pub stands : (step : NodeStep) → Begins step → (s : Session) → (has (left_by step).due s ≡ true) ↔ ((x : Sender) × (has (known (left_by step) s) x ≡ true))

@@ -7,26 +7,25 @@ use Rattle.rsvp_messages.specs.declared.message.Message.TheVariants as message
 use Rattle.rsvp_messages.specs.declared.message.PathTearMsg.{PathTearMsg}
 use Rattle.router_rules.specs.declared.answers.Heard.TheVariants as heard
 use Rattle.router_rules.specs.declared.answers.Why.TheVariants as why
-use Rattle.router_rules.specs.Bounds.{IsWithinBounds}
 use Rattle.router_rules.specs.Facts.{Facts, PathState, SenderKey}
 use Rattle.router_rules.specs.Inputs.{Input, Wait, Clear, Came, Spelt}
 use Rattle.router_rules.specs.Known.{came_by}
-use Rattle.router_rules.specs.Place.{Place}
+use Rattle.router_rules.specs.NodeConfig.{NodeConfig}
 use Rattle.router_rules.specs.Rule.{rule}
-use Rattle.router_rules.specs.Steps.{facts_then}
+use Rattle.router_rules.specs.Steps.{NodeStep, Begins, left_by}
 use Rattle.router_inputs.specs.Sources.{CameOnTree, said_by, IsLearnt}
 
 -- ---- it was there, or a Path brought it
 abbrev pub WhereAPathFactComesFrom : Type 0
 WhereAPathFactComesFrom =
-    (old p : Place) (b c : ℕ) (i : Input) (f : Facts) → IsWithinBounds old b f → (k : SenderKey) (x : PathState) → get (facts_then old p c i f).paths k ≡ Some x → (get f.paths k ≡ Some x) ⊎ IsLearnt p c i k x
+    (step : NodeStep) → Begins step → (k : SenderKey) (x : PathState) → get (left_by step).paths k ≡ Some x → (get step.facts.paths k ≡ Some x) ⊎ IsLearnt step.now step.after step.input k x
 
 -- ---- it is learnt exactly where the table with it is within its limits
 pub record APathOnTheTreeIsLearnt : Type 0 where
-  pub learnt : (old p : Place) (b c : ℕ) (i : Input) (f : Facts) → IsWithinBounds old b f → (k : SenderKey) (by : CameOnTree p i k) → IsWithinSessionLimits senders (put_in f.paths k (said_by p c i k by))
-      → ((facts_then old p c i f).paths ≡ put_in f.paths k (said_by p c i k by)) × ((rule old p c i f).heard ≡ heard.Taken)
-  pub full : (old p : Place) (b c : ℕ) (i : Input) (f : Facts) → IsWithinBounds old b f → (k : SenderKey) (by : CameOnTree p i k) → (IsWithinSessionLimits senders (put_in f.paths k (said_by p c i k by)) → ⊥)
-      → ((facts_then old p c i f).paths ≡ f.paths) × ((rule old p c i f).heard ≡ heard.Dropped why.Full)
+  pub learnt : (step : NodeStep) → Begins step → (k : SenderKey) (by : CameOnTree step.now step.input k) → IsWithinSessionLimits senders (put_in step.facts.paths k (said_by step.now step.after step.input k by))
+      → ((left_by step).paths ≡ put_in step.facts.paths k (said_by step.now step.after step.input k by)) × ((rule step.old step.now step.after step.input step.facts).heard ≡ heard.Taken)
+  pub full : (step : NodeStep) → Begins step → (k : SenderKey) (by : CameOnTree step.now step.input k) → (IsWithinSessionLimits senders (put_in step.facts.paths k (said_by step.now step.after step.input k by)) → ⊥)
+      → ((left_by step).paths ≡ step.facts.paths) × ((rule step.old step.now step.after step.input step.facts).heard ≡ heard.Dropped why.Full)
 
 -- ---- it goes for one of three reasons
 pub record PathDies (c : ℕ) (i : Input) (x : PathState) : Type 0 where
@@ -48,12 +47,12 @@ abbrev pub PathGoes : ℕ → Input → SenderKey → PathState → Type 0
 PathGoes c i k x = PathDies c i x ⊎ (PathIsTorn i k x ⊎ (i ≡ Clear))
 
 -- it stays, or is replaced, or goes and nothing is in its place
-pub record IsReplaced (p : Place) (c : ℕ) (i : Input) (f : Facts) (k : SenderKey) : Type 0 where
+pub record IsReplaced (p : NodeConfig) (c : ℕ) (i : Input) (f : Facts) (k : SenderKey) : Type 0 where
   pub new : PathState
   pub there : get f.paths k ≡ Some new
   pub learnt : IsLearnt p c i k new
 
 abbrev pub HowAPathFactGoes : Type 0
 HowAPathFactGoes =
-    (old p : Place) (b c : ℕ) (i : Input) (f : Facts) → IsWithinBounds old b f → (k : SenderKey) (x : PathState) → get f.paths k ≡ Some x
-    → (get (facts_then old p c i f).paths k ≡ Some x) ⊎ (IsReplaced p c i (facts_then old p c i f) k ⊎ ((get (facts_then old p c i f).paths k ≡ None) × PathGoes c i k x))
+    (step : NodeStep) → Begins step → (k : SenderKey) (x : PathState) → get step.facts.paths k ≡ Some x
+    → (get (left_by step).paths k ≡ Some x) ⊎ (IsReplaced step.now step.after step.input (left_by step) k ⊎ ((get (left_by step).paths k ≡ None) × PathGoes step.after step.input k x))

@@ -11,21 +11,20 @@ use Rattle.rsvp_messages.specs.declared.message.PathMsg.{PathMsg}
 use Rattle.rsvp_messages.specs.declared.message.PathTearMsg.{PathTearMsg}
 use Rattle.rsvp_messages.specs.declared.message.ResvMsg.{ResvMsg}
 use Rattle.router_rules.specs.Asking.{ask_of}
-use Rattle.router_rules.specs.Bounds.{IsWithinBounds}
 use Rattle.router_rules.specs.Facts.{Facts}
 use Rattle.router_rules.specs.Inputs.{Input, Send, Wait}
 use Rattle.router_rules.specs.Known.{Lane, known}
 use Rattle.router_rules.specs.Offers.{Offer, OfferKey, offer_at, offers}
-use Rattle.router_rules.specs.Place.{Place, goes_out, own, period}
+use Rattle.router_rules.specs.NodeConfig.{NodeConfig, goes_out, own, period}
 use Rattle.router_rules.specs.Requests.{toward}
 use Rattle.router_rules.specs.Sends.{is_new_offer, path_send, resv_send}
 use Rattle.router_lookups.specs.FactLaws.{is_way}
-use Rattle.router_rules.specs.Steps.{facts_then, fired_then, sent_then}
+use Rattle.router_rules.specs.Steps.{fired_then, NodeStep, Begins, left_by, sent_by, fired_by}
 use Rattle.router_inputs.specs.Sources.{IsLocalOffer, IsPathOffer}
 
 -- ---- a Path that is sent is of an offer after the step: its sender is known then, and its tree goes out of the interface,
 -- which is there. It goes to the group, and its hop is the node's own address of the interface
-pub record IsOfOffer (p : Place) (f : Facts) (s : Send) (m : PathMsg) : Type 0 where
+pub record IsOfOffer (p : NodeConfig) (f : Facts) (s : Send) (m : PathMsg) : Type 0 where
   pub key : OfferKey
   pub offer : Offer
   pub known_then : has (known f key.session) key.sender ≡ true
@@ -38,15 +37,15 @@ pub record IsOfOffer (p : Place) (f : Facts) (s : Send) (m : PathMsg) : Type 0 w
   pub is : m ≡ record { session = key.session; police = offer.local; hop = record { addr = own p key.iface; handle = 0 }; period = period p; sender = Some (key.sender, offer.tspec) }
 
 pub record WhatAPathSentSays : Type 0 where
-  pub says : (old p : Place) (b c : ℕ) (i : Input) (f : Facts) → IsWithinBounds old b f → (s : Send) (m : PathMsg) → In s (sent_then old p c i f) → s.message ≡ message.Path m → IsOfOffer p (facts_then old p c i f) s m
+  pub says : (step : NodeStep) → Begins step → (s : Send) (m : PathMsg) → In s (sent_by step) → s.message ≡ message.Path m → IsOfOffer step.now (left_by step) s m
   -- it is the refresh of a session that came due, or its offer is new or has another tspec
-  pub refresh : (old p : Place) (b c : ℕ) (i : Input) (f : Facts) → IsWithinBounds old b f → (s : Send) (m : PathMsg) → In s (sent_then old p c i f) → s.message ≡ message.Path m → s.refresh ≡ has (fired_then p c i f) m.session
-  pub why : (old p : Place) (b c : ℕ) (i : Input) (f : Facts) → IsWithinBounds old b f → (s : Send) (m : PathMsg) → In s (sent_then old p c i f) → s.message ≡ message.Path m → s.refresh ≡ false
-      → (key : OfferKey) × (offer : Offer) × (s ≡ path_send p false (key, offer)) × (get (offers p (facts_then old p c i f)) key ≡ Some offer) × (is_new_offer offer (get (offers old f) key) ≡ true)
+  pub refresh : (step : NodeStep) → Begins step → (s : Send) (m : PathMsg) → In s (sent_by step) → s.message ≡ message.Path m → s.refresh ≡ has (fired_by step) m.session
+  pub why : (step : NodeStep) → Begins step → (s : Send) (m : PathMsg) → In s (sent_by step) → s.message ≡ message.Path m → s.refresh ≡ false
+      → (key : OfferKey) × (offer : Offer) × (s ≡ path_send step.now false (key, offer)) × (get (offers step.now (left_by step)) key ≡ Some offer) × (is_new_offer offer (get (offers step.old step.facts) key) ≡ true)
 
 -- ---- a PathTear is sent for an offer of before that is none after: its sender is known no more, or its tree goes out there
 -- no more. It goes where the Paths of the offer went
-pub record IsOfGoneOffer (old p : Place) (before after : Facts) (s : Send) (m : PathTearMsg) : Type 0 where
+pub record IsOfGoneOffer (old p : NodeConfig) (before after : Facts) (s : Send) (m : PathTearMsg) : Type 0 where
   pub key : OfferKey
   pub was : has (offers old before) key ≡ true
   pub known_before : has (known before key.session) key.sender ≡ true
@@ -60,29 +59,29 @@ pub record IsOfGoneOffer (old p : Place) (before after : Facts) (s : Send) (m : 
 
 abbrev pub WhyAPathTearIsSent : Type 0
 WhyAPathTearIsSent =
-    (old p : Place) (b c : ℕ) (i : Input) (f : Facts) → IsWithinBounds old b f → (s : Send) (m : PathTearMsg) → In s (sent_then old p c i f) → s.message ≡ message.PathTear m → IsOfGoneOffer old p f (facts_then old p c i f) s m
+    (step : NodeStep) → Begins step → (s : Send) (m : PathTearMsg) → In s (sent_by step) → s.message ≡ message.PathTear m → IsOfGoneOffer step.old step.now step.facts (left_by step) s m
 
 -- ---- refreshes
 -- a Path or a Resv of a session that came due
-pub record IsPathRefresh (p : Place) (c : ℕ) (i : Input) (f : Facts) (s : Send) : Type 0 where
+pub record IsPathRefresh (p : NodeConfig) (c : ℕ) (i : Input) (f : Facts) (s : Send) : Type 0 where
   pub path : PathMsg
   pub says : s.message ≡ message.Path path
   pub fired : has (fired_then p c i f) path.session ≡ true
 
-pub record IsResvRefresh (p : Place) (c : ℕ) (i : Input) (f : Facts) (s : Send) : Type 0 where
+pub record IsResvRefresh (p : NodeConfig) (c : ℕ) (i : Input) (f : Facts) (s : Send) : Type 0 where
   pub resv : ResvMsg
   pub says : s.message ≡ message.Resv resv
   pub fired : has (fired_then p c i f) resv.session ≡ true
 
 pub record RefreshesAreMarked : Type 0 where
   -- of a session that came due each offer is sent, with the mark; so each known sender goes out of each interface of its tree
-  pub offered : (old p : Place) (b c : ℕ) (i : Input) (f : Facts) → IsWithinBounds old b f → (key : OfferKey) (offer : Offer) → has (fired_then p c i f) key.session ≡ true → get (offers p (facts_then old p c i f)) key ≡ Some offer
-      → In (path_send p true (key, offer)) (sent_then old p c i f)
-  pub known_ones : (old p : Place) (b c : ℕ) (i : Input) (f : Facts) → IsWithinBounds old b f → (s : Session) (x : Sender) (e : ℕ) → has (fired_then p c i f) s ≡ true → has (known (facts_then old p c i f) s) x ≡ true → e < length p.ifaces
-      → goes_out p s e x ≡ true → (offer : Offer) × (offer_at (facts_then old p c i f) (record { session = s; sender = x; iface = e }) ≡ Some offer) × In (path_send p true (record { session = s; sender = x; iface = e }, offer)) (sent_then old p c i f)
+  pub offered : (step : NodeStep) → Begins step → (key : OfferKey) (offer : Offer) → has (fired_by step) key.session ≡ true → get (offers step.now (left_by step)) key ≡ Some offer
+      → In (path_send step.now true (key, offer)) (sent_by step)
+  pub known_ones : (step : NodeStep) → Begins step → (s : Session) (x : Sender) (e : ℕ) → has (fired_by step) s ≡ true → has (known (left_by step) s) x ≡ true → e < length step.now.ifaces
+      → goes_out step.now s e x ≡ true → (offer : Offer) × (offer_at (left_by step) (record { session = s; sender = x; iface = e }) ≡ Some offer) × In (path_send step.now true (record { session = s; sender = x; iface = e }, offer)) (sent_by step)
   -- and what goes toward each hop, if something does
-  pub resvs : (old p : Place) (b c : ℕ) (i : Input) (f : Facts) → IsWithinBounds old b f → (l : Lane) (ask : Ask) → has (fired_then p c i f) l.session ≡ true → ask_of l.style (toward p (facts_then old p c i f) l) ≡ Some ask
-      → (confirm : Option Addr) × In (resv_send p (facts_then old p c i f) l confirm true ask) (sent_then old p c i f)
+  pub resvs : (step : NodeStep) → Begins step → (l : Lane) (ask : Ask) → has (fired_by step) l.session ≡ true → ask_of l.style (toward step.now (left_by step) l) ≡ Some ask
+      → (confirm : Option Addr) × In (resv_send step.now (left_by step) l confirm true ask) (sent_by step)
   -- nothing else has the mark, and it is set while time passes alone
-  pub only : (old p : Place) (b c : ℕ) (i : Input) (f : Facts) → IsWithinBounds old b f → (s : Send) → In s (sent_then old p c i f) → s.refresh ≡ true → IsPathRefresh p c i f s ⊎ IsResvRefresh p c i f s
-  pub waited : (old p : Place) (b c : ℕ) (i : Input) (f : Facts) → IsWithinBounds old b f → (s : Send) → In s (sent_then old p c i f) → s.refresh ≡ true → (ms : ℕ) × (word : ℕ) × (i ≡ Wait ms word)
+  pub only : (step : NodeStep) → Begins step → (s : Send) → In s (sent_by step) → s.refresh ≡ true → IsPathRefresh step.now step.after step.input step.facts s ⊎ IsResvRefresh step.now step.after step.input step.facts s
+  pub waited : (step : NodeStep) → Begins step → (s : Send) → In s (sent_by step) → s.refresh ≡ true → (ms : ℕ) × (word : ℕ) × (step.input ≡ Wait ms word)

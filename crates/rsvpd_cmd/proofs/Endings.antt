@@ -4,7 +4,7 @@ use Rattle.std.specs.Io.KnownBytes.{Consumes, IsAtEnd}
 use Rattle.std.proofs.Common.{inl, ap, sym, ◌∙◌, append-nil}
 use Rattle.net_script.specs.declared.fault.LineErr.{LineErr}
 use Rattle.net_script.proofs.Scripts.{script_or_bad, one_bad_line_law as one_script_line_law}
-use Rattle.net_script.specs.Lines.{lines_of}
+use Rattle.net_script.specs.Lines.{text_lines}
 use Rattle.message_show.proofs.Shown.{all_right, bad_is_not_right_law, one_bad_line_law}
 use Rattle.rsvpd_cmd.specs.declared.status.Status.TheVariants.{BadLine}
 use Rattle.rsvpd_cmd.specs.Tasks.{IsFirstBad, Takes, Writes}
@@ -20,7 +20,7 @@ taken_or_bad Show input e right bad = bad_is_not_right_law input e right bad
 -- nor has one for which it writes something
 pub written_or_bad : (t : Task) (input text : List ℕ) (e : LineErr) → Writes t input text → IsFirstBad t input e → ⊥
 written_or_bad Replay input text e is bad = script_or_bad input is.0 e is.1 bad
-written_or_bad Show input text e shown bad = bad_is_not_right_law input e (all_right (lines_of input) text shown) bad
+written_or_bad Show input text e shown bad = bad_is_not_right_law input e (all_right (text_lines input) text shown) bad
 
 -- the first bad line is one
 pub same_line : (t : Task) (input : List ℕ) (d e : LineErr) → IsFirstBad t input d → IsFirstBad t input e → IsOrNoMemory (BadLine e) (BadLine d)

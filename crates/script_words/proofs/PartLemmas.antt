@@ -6,7 +6,7 @@ use Rattle.std.proofs.lemmas.List.{take_rest, drop-drop}
 use Rattle.std.proofs.lemmas.List.Sums.{fails_before_first}
 use Rattle.std.proofs.lemmas.List.Splits.{slice_split_none, slice_split_first, length-slice_split}
 use Rattle.script_words.specs.Parts.{parts_of, two, three, four, five}
-use Rattle.script_words.specs.Lines.{lines_of, without_empty_last}
+use Rattle.script_words.specs.Lines.{text_lines, without_empty_last}
 
 -- the place of the first element that passes
 place_of : {X : Type 0} (p : X → Bool) (xs : List X) (at : ℕ) → position p xs ≡ Some at → (at ≡ position_or_len p xs) × (at < length xs)
@@ -43,7 +43,7 @@ on_first : (line : List ℕ) (parts : List (List ℕ)) → 0 < length parts → 
 on_first line [] h = absurd (omega arith)
 on_first line (part ∷ parts) h = refl
 
-pub lines_found : (text first behind : List ℕ) → parts_of 10 text ≡ first ∷ parts_of 10 behind → lines_of text ≡ first ∷ lines_of behind
+pub lines_found : (text first behind : List ℕ) → parts_of 10 text ≡ first ∷ parts_of 10 behind → text_lines text ≡ first ∷ text_lines behind
 lines_found text first behind e =
     ap without_empty_last e ∙ on_first first (parts_of 10 behind) (omega (arith, length-slice_split (λ c. c == 10) behind))
 
@@ -55,7 +55,7 @@ is_last (c ∷ cs) some = elim (eqb_tells (suc (length cs)) 0) [
 ]
 
 -- a text without a line feed is one line
-pub lines_none : (text : List ℕ) → 0 < length text → parts_of 10 text ≡ text ∷ [] → lines_of text ≡ text ∷ []
+pub lines_none : (text : List ℕ) → 0 < length text → parts_of 10 text ≡ text ∷ [] → text_lines text ≡ text ∷ []
 lines_none text some e = ap without_empty_last e ∙ is_last text some
 
 -- two members in front of others are no pair

@@ -9,5 +9,5 @@ without_empty_last (last ∷ []) = if length last == 0 then [] else last ∷ []
 without_empty_last (line ∷ next ∷ more) = line ∷ without_empty_last (next ∷ more)
 
 -- the lines of a text, each ended by a line feed that the last one may lack
-abbrev pub lines_of : List ℕ → List (List ℕ)
-lines_of text = without_empty_last (parts_of 10 text)
+abbrev pub text_lines : List ℕ → List (List ℕ)
+text_lines text = without_empty_last (parts_of 10 text)

@@ -14,16 +14,16 @@ use Rattle.rsvp_base.proofs.Tables.{got_put_in, get-put_in_same}
 use Rattle.rsvp_messages.specs.declared.message.Message.TheVariants as message
 use Rattle.calm_rounds.specs.Rounds.{Rounds}
 use Rattle.calm_rounds.specs.Hold.{Hold}
-use Rattle.calm_rounds.specs.Lines.{Stands}
+use Rattle.calm_rounds.specs.SoftStates.{Stands}
 use Rattle.calm_rounds.proofs.Holding.{hold_map, hold_both, hold_all, hold_later, hold_start, hold_stack, hold_keep}
 use Rattle.tree_model.specs.Goals.{addr_of}
 use Rattle.router_steps.proofs.Learning.{a_path_on_the_tree_is_learnt}
 use Rattle.router_rules.specs.Facts.{Facts, SenderKey, PathState, sender_keys}
 use Rattle.router_rules.specs.Inputs.{Input, Came, Spelt}
 use Rattle.router_rules.specs.Known.{known}
-use Rattle.router_rules.specs.Place.{Place, own, comes_in}
+use Rattle.router_rules.specs.NodeConfig.{NodeConfig, own, comes_in}
 use Rattle.router_lookups.proofs.Knowing.{has-known}
-use Rattle.tree_model.specs.declared.hops.Hop.{Hop}
+use Rattle.tree_model.specs.declared.hops.LinkHop.{LinkHop}
 use Rattle.tree_model.specs.Networks.{Net, node_of, iface_of, owner, peers}
 use Rattle.tree_model.specs.Ranks.{longest}
 use Rattle.tree_model.specs.Trees.{tree, inward, outward, depth}
@@ -32,33 +32,33 @@ use Rattle.tree_model.proofs.Depths.{depth_and_rank_within_longest}
 use Rattle.tree_model.proofs.Following.{in_tree}
 use Rattle.tree_model.proofs.Links.{one_sending_end_on_a_link}
 use Rattle.tree_model.proofs.TreeLaws.{one, out_tested, the_root_has_no_inward, way_in_told, way_in_tested}
-use Rattle.network_model.specs.Bounds.{AreBounds, AreLocals}
+use Rattle.network_model.specs.Bounds.{AreBounds, AreHosts}
 use Rattle.network_model.specs.Links.{is_group}
 use Rattle.network_model.specs.Locals.{senders_at, IsLive}
 use Rattle.network_model.specs.Sound.{ArePathsSound, ArePathsComplete}
 use Rattle.network_model.specs.Steps.{Step, is_quiet, sent, step, machine}
-use Rattle.network_model.specs.Worlds.{Item, World, place_of}
+use Rattle.network_model.specs.Worlds.{Item, World, config_of}
 use Rattle.network_model.proofs.Machines.{quiet_of, in_flight_after}
 use Rattle.network_steps.specs.Known.{IsSameNet, IsKnown}
 use Rattle.network_steps.proofs.Known.{of_some, or_true, known_hold}
 use Rattle.network_steps.proofs.Standing.{comes_in_made}
-use Rattle.settle_paths.specs.Lines.{PathValue, path_at, by_iface, SaysPath, path_line}
+use Rattle.settle_paths.specs.SoftPaths.{PathValue, path_at, by_iface, SaysPath, soft_path}
 use Rattle.settle_paths.specs.Said.{IsTaken, IsSaidPath}
 use Rattle.settle_paths.specs.Telling.{is_letter, IsCompleteTo, IsSure}
 use Rattle.settle_paths.proofs.Letters.{IsPathLetter, IsTearLetter, letter_found, path_letter, tear_letter}
 use Rattle.settle_paths.proofs.LiveSenders.{senders_found, one_flow, live_fits}
-use Rattle.settle_paths.proofs.PathLines.{path_found, iface_found, iface_made}
+use Rattle.settle_paths.proofs.SoftPaths.{path_found, iface_found, iface_made}
 use Rattle.settle_paths.proofs.PathSends.{IsTearSent, path_sent, tear_sent}
 use Rattle.settle_paths.proofs.SaidPaths.{routed, said_from}
 use Rattle.settle_paths.proofs.SoundPaths.{paths_are_sound}
 use Rattle.router_inputs.specs.Sources.{CameOnTree, said_by}
-use Rattle.router_rules.specs.Steps.{facts_then}
+use Rattle.router_rules.specs.Steps.{facts_then, node_step}
 
 live_back : (o u : World) (k : SenderKey) (t : TokenBucket) → IsSameNet o u → IsLive u k t → IsLive o k t
 live_back o u k t same l = record { node = l.node; senders = l.senders; at = sym (same.senders l.node) ∙ l.at; sends = l.sends }
 
-module _ (q : ℕ) (o : World) (valid : IsValid o.net) (locals : AreLocals o) where
-  module _ (d : ℕ) (k : SenderKey) (t : TokenBucket) (h : Hop) (live : IsLive o k t) (there : In h (tree o.net.hops k.0.group k.1.addr)) (deep : depth o.net k.0.group k.1.addr (node_of o.net.ends h.to) ≤ suc d) where
+module _ (q : ℕ) (o : World) (valid : IsValid o.net) (locals : AreHosts o) where
+  module _ (d : ℕ) (k : SenderKey) (t : TokenBucket) (h : LinkHop) (live : IsLive o k t) (there : In h (tree o.net.hops k.0.group k.1.addr)) (deep : depth o.net k.0.group k.1.addr (node_of o.net.ends h.to) ≤ suc d) where
     abbrev at_to : ℕ
     at_to = node_of o.net.ends h.to
 
@@ -118,7 +118,7 @@ module _ (q : ℕ) (o : World) (valid : IsValid o.net) (locals : AreLocals o) wh
         let to : In h.to (peers o.net.links ts.end) = subst (λ (z : ℕ). In z (peers o.net.links ts.end)) end ts.to in
         let w = (one_sending_end_on_a_link o.net valid).hop k.0.group k.1.addr ts.end h.to out to into in
         let same : w.0 ≡ h = one o.net valid k.0.group k.1.addr w.0 h w.1 there (ap (node_of o.net.ends) w.3) in
-        let node : ts.node ≡ at_from = sym ts.at ∙ ap (node_of o.net.ends) (sym w.2 ∙ ap (λ (z : Hop). z.from) same) in
+        let node : ts.node ≡ at_from = sym ts.at ∙ ap (node_of o.net.ends) (sym w.2 ∙ ap (λ (z : LinkHop). z.from) same) in
         let yes : has (known ts.facts k.0) k.1 ≡ true = known_at u' sure.known sure.complete ts.facts (ap (λ (z : ℕ). slice_get u'.nodes z) (sym node) ∙ ts.after) in
         let none : has (known ts.facts k.0) k.1 ≡ false = ap (λ (z : Session). has (known ts.facts z) k.1) (sym l.session) ∙ ap (λ (z : Sender). has (known ts.facts l.tear.session) z) (sym sender) ∙ ts.gone in
         let bad : true ≡ false = sym yes ∙ none in
@@ -157,7 +157,7 @@ module _ (q : ℕ) (o : World) (valid : IsValid o.net) (locals : AreLocals o) wh
           spelt = l.spelt;
           session = l.session;
           sender = l.sender ∙ ap (λ (z : TokenBucket). Some (k.1, z)) (sym flow);
-          hop = sym (s.from ∙ ap (λ (z : Net). addr_of z s.hop.from) sure.known.same.net ∙ ap (λ (z : Hop). addr_of o.net z.from) same);
+          hop = sym (s.from ∙ ap (λ (z : Net). addr_of z s.hop.from) sure.known.same.net ∙ ap (λ (z : LinkHop). addr_of o.net z.from) same);
           inward = into;
         }
 
@@ -173,14 +173,14 @@ module _ (q : ℕ) (o : World) (valid : IsValid o.net) (locals : AreLocals o) wh
 
     taken : (u : World) → IsSure q o d u → (y : Item) → y.dst ≡ k.0.group → (says : SaysPath o.net k h.to y value) → IsTaken q o.net k h.to value u y says.path
     taken u sure y dst says f is =
-        let p : Place = place_of q u.net u.trees at_to in
+        let p : NodeConfig = config_of q u.net u.trees at_to in
         let input : Input = Came (iface_of o.net.ends h.to) k.0.group (Spelt (message.Path says.path)) in
         let tree_in : comes_in p k.0 (iface_of o.net.ends h.to) k.1 ≡ true =
-        subst (λ (z : Net). comes_in (place_of q z u.trees at_to) k.0 (iface_of o.net.ends h.to) k.1 ≡ true) (sym sure.known.same.net)
+        subst (λ (z : Net). comes_in (config_of q z u.trees at_to) k.0 (iface_of o.net.ends h.to) k.1 ≡ true) (sym sure.known.same.net)
         (comes_in_made q o.net u.trees at_to k.0 h.to k.1 (routed q o u k.0.group k.1.addr h sure.known there) into) in
         let by : CameOnTree p input k = record { at = iface_of o.net.ends h.to; path = says.path; tspec = t; came = refl; session = says.session; sender = says.sender; tree = tree_in } in
         let x : PathState = said_by p u.clock input k by in
-        let learnt = (a_path_on_the_tree_is_learnt.learnt p p u.clock u.clock input f (sure.known.bounds.facts at_to f is) k by (live_keys u sure f is x)).0 in
+        let learnt = (a_path_on_the_tree_is_learnt.learnt (node_step p p u.clock u.clock input f) (sure.known.bounds.facts at_to f is) k by (live_keys u sure f is x)).0 in
         let has_it : get (facts_then p p u.clock input f).paths k ≡ Some x = ap (λ (z : _). get z k) learnt ∙ get-put_in_same sender_keys f.paths k x in
         let hop = sym says.hop in
         ap (λ (z : Addr). by_iface (iface_of o.net.ends h.to) (get (facts_then p p u.clock (Came (iface_of o.net.ends h.to) z (Spelt (message.Path says.path))) f).paths k)) dst
@@ -212,19 +212,19 @@ module _ (q : ℕ) (o : World) (valid : IsValid o.net) (locals : AreLocals o) wh
     pub of_group : is_group k.0.group ≡ true
     of_group = let g = senders_found o live.node live.senders live.at in locals.groups live.node g.0 k t g.1 (ap (λ (z : Table sender_keys TokenBucket). get z k) g.2 ∙ live.sends)
 
-    complete_at : (rs : List (List Step)) (w : World) → Rounds (machine q) rs w → Hold (machine q) 0 rs w (IsSure q o d) → Hold (machine q) 2 rs w (Stands (machine q) (path_line q o k h.to) value)
+    complete_at : (rs : List (List Step)) (w : World) → Rounds (machine q) rs w → Hold (machine q) 0 rs w (IsSure q o d) → Hold (machine q) 2 rs w (Stands (machine q) (soft_path q o k h.to) value)
     complete_at rs w calm sure =
         said_from q o valid k h value there of_group rs w calm (hold_map (machine q) (IsSure q o d) (IsKnown q o) (λ u g. g.known) 0 rs w sure) (said_hold rs w calm sure)
 
   -- ---- level by level
   abbrev HopTo : ℕ → Type 0
-  HopTo d = (k : SenderKey) × (t : TokenBucket) × (h : Hop) × IsLive o k t × In h (tree o.net.hops k.0.group k.1.addr) × (depth o.net k.0.group k.1.addr (node_of o.net.ends h.to) ≤ d)
+  HopTo d = (k : SenderKey) × (t : TokenBucket) × (h : LinkHop) × IsLive o k t × In h (tree o.net.hops k.0.group k.1.addr) × (depth o.net k.0.group k.1.addr (node_of o.net.ends h.to) ≤ d)
 
   complete_up : (d : ℕ) (rs : List (List Step)) (w : World) → Rounds (machine q) rs w → Hold (machine q) 0 rs w (IsSure q o d) → Hold (machine q) 2 rs w (IsCompleteTo o (suc d))
   complete_up d rs w calm sure =
-      hold_map (machine q) (λ u. (a : HopTo (suc d)) → Stands (machine q) (path_line q o a.0 a.2.to) (addr_of o.net a.2.from, a.1) u) (IsCompleteTo o (suc d))
+      hold_map (machine q) (λ u. (a : HopTo (suc d)) → Stands (machine q) (soft_path q o a.0 a.2.to) (addr_of o.net a.2.from, a.1) u) (IsCompleteTo o (suc d))
       (λ u g k t h live there le. g (k, t, h, live, there, le)) 2 rs w
-      (hold_all (machine q) (λ (a : HopTo (suc d)) u. Stands (machine q) (path_line q o a.0 a.2.to) (addr_of o.net a.2.from, a.1) u) 2 rs w
+      (hold_all (machine q) (λ (a : HopTo (suc d)) u. Stands (machine q) (soft_path q o a.0 a.2.to) (addr_of o.net a.2.from, a.1) u) 2 rs w
       (λ a. complete_at d a.0 a.1 a.2 a.3 a.4 a.5 rs w calm sure))
 
   abbrev IsStarted : World → Type 0
@@ -259,7 +259,7 @@ module _ (q : ℕ) (o : World) (valid : IsValid o.net) (locals : AreLocals o) wh
         tspec = sym (ap (λ (z : PathValue). z.1) x.3);
       }
 
-pub paths_are_complete : (q : ℕ) (w : World) (rs : List (List Step)) → Rounds (machine q) rs w → AreLocals w → Hold (machine q) 0 rs w (AreBounds q) → Hold (machine q) 0 rs w ArePathsSound → Hold (machine q) (2 * longest w.net) rs w ArePathsComplete
+pub paths_are_complete : (q : ℕ) (w : World) (rs : List (List Step)) → Rounds (machine q) rs w → AreHosts w → Hold (machine q) 0 rs w (AreBounds q) → Hold (machine q) 0 rs w ArePathsSound → Hold (machine q) (2 * longest w.net) rs w ArePathsComplete
 paths_are_complete q w rs calm locals bounds sound =
     let valid : IsValid w.net = (hold_start (machine q) (AreBounds q) rs w bounds).net in
     let known = known_hold q w rs calm bounds in
@@ -269,13 +269,13 @@ paths_are_complete q w rs calm locals bounds sound =
     (levels q w valid locals (longest w.net) rs w calm (hold_both (machine q) (IsKnown q w) ArePathsSound 0 rs w known sound)))
 
 -- ---- one hop of a live sender's Path
-pub live_paths_are_kept : (q : ℕ) (w : World) (d : ℕ) (k : SenderKey) (t : TokenBucket) (h : Hop) → AreLocals w → IsLive w k t → In h (tree w.net.hops k.0.group k.1.addr) → depth w.net k.0.group k.1.addr (node_of w.net.ends h.to) ≤ suc d
-    → (rs : List (List Step)) → Rounds (machine q) rs w → Hold (machine q) 0 rs w (IsSure q w d) → Hold (machine q) 2 rs w (Stands (machine q) (path_line q w k h.to) (addr_of w.net h.from, t))
+pub live_paths_are_kept : (q : ℕ) (w : World) (d : ℕ) (k : SenderKey) (t : TokenBucket) (h : LinkHop) → AreHosts w → IsLive w k t → In h (tree w.net.hops k.0.group k.1.addr) → depth w.net k.0.group k.1.addr (node_of w.net.ends h.to) ≤ suc d
+    → (rs : List (List Step)) → Rounds (machine q) rs w → Hold (machine q) 0 rs w (IsSure q w d) → Hold (machine q) 2 rs w (Stands (machine q) (soft_path q w k h.to) (addr_of w.net h.from, t))
 live_paths_are_kept q w d k t h locals live there deep rs calm sure =
     complete_at q w (hold_start (machine q) (IsSure q w d) rs w sure).known.bounds.net locals d k t h live there deep rs w calm sure
 
 -- ---- paths settle
-pub paths_settle : (q : ℕ) (w : World) (rs : List (List Step)) → Rounds (machine q) rs w → AreLocals w → Hold (machine q) 0 rs w (AreBounds q)
+pub paths_settle : (q : ℕ) (w : World) (rs : List (List Step)) → Rounds (machine q) rs w → AreHosts w → Hold (machine q) 0 rs w (AreBounds q)
     → Hold (machine q) ((4 + 5 * longest w.net) + 2 * longest w.net) rs w (λ u. ArePathsSound u × ArePathsComplete u)
 paths_settle q w rs calm locals bounds =
     let valid : IsValid w.net = (hold_start (machine q) (AreBounds q) rs w bounds).net in

@@ -9,17 +9,17 @@ use Rattle.rsvp_base.proofs.Tables.{got_put_in}
 use Rattle.tree_model.specs.declared.locals.LocalSender.{LocalSender}
 use Rattle.router_rules.specs.Facts.{Facts, SenderKey, sender_keys, no_facts}
 use Rattle.router_rules.specs.Inputs.{Stale, StalePath}
-use Rattle.router_rules.specs.Line.{session, first, usual}
+use Rattle.router_rows.specs.ThreeRouters.{session, first, usual}
 use Rattle.router_rules.specs.Rule.{facts_with}
 use Rattle.router_rules.specs.Steps.{IsFitStale}
 use Rattle.tree_model.specs.Networks.{owner}
 use Rattle.tree_model.specs.Trees.{trees_of}
-use Rattle.network_model.specs.Bounds.{AreBounds, AreLocals}
+use Rattle.network_model.specs.Bounds.{AreBounds, AreHosts}
 use Rattle.network_model.specs.Links.{is_group}
 use Rattle.network_model.specs.Locals.{IsLive, senders_at, sessions_of}
 use Rattle.network_model.specs.Runs.{first_facts}
 use Rattle.network_model.specs.Sound.{ArePathsComplete}
-use Rattle.network_model.specs.Worlds.{place_of}
+use Rattle.network_model.specs.Worlds.{config_of}
 use Rattle.network_steps.specs.Example.{pair_net, sending_world}
 use Rattle.network_steps.proofs.Beginning.{the_first_world_is_within_bounds}
 use Rattle.network_steps.proofs.Calming.{calm_rounds}
@@ -44,7 +44,7 @@ sender_is (suc zero) f k t e h =
     absurd (cc)
 sender_is (suc (suc n)) f k t e h = absurd (cc)
 
-locals : AreLocals sending_world
+locals : AreHosts sending_world
 locals = record {
   placed = λ n f k t e h. let is = sender_is n f k t e h in ap (λ (z : SenderKey). owner pair_net.ends z.1.addr) is.1 ∙ ap Some (sym is.0);
   groups = λ n f k t e h. let is = sender_is n f k t e h in ap (λ (z : SenderKey). is_group z.0.group) is.1;
@@ -77,7 +77,7 @@ a_pair_meets_the_premises = record {
 }
 
 -- ---- a left-over path
-fit_path : IsFitStale (place_of 7500 pair_net (trees_of pair_net.hops) 1) 0 (StalePath (session, first) stale_path)
+fit_path : IsFitStale (config_of 7500 pair_net (trees_of pair_net.hops) 1) 0 (StalePath (session, first) stale_path)
 fit_path = (
   record { later = omega arith; soon = omega arith },
   record { iface = omega arith; tspec = record { rate = omega arith; depth = omega arith; low = omega arith; most = omega arith } },
@@ -92,7 +92,7 @@ stale_bounds =
       hosts = hosts;
       stale = λ n i lt j.
           ⊎_elim
-          (λ (same : (n, i) ≡ (1, StalePath (session, first) stale_path)). subst (λ (z : ℕ × Stale). IsFitStale (place_of 7500 pair_net (trees_of pair_net.hops) z.0) 0 z.1) (sym same) fit_path)
+          (λ (same : (n, i) ≡ (1, StalePath (session, first) stale_path)). subst (λ (z : ℕ × Stale). IsFitStale (config_of 7500 pair_net (trees_of pair_net.hops) z.0) 0 z.1) (sym same) fit_path)
           (λ (no : ⊥). absurd no) j;
     })
 

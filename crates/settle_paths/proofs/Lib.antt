@@ -1,4 +1,4 @@
-pub mod PathLines
+pub mod SoftPaths
 pub mod PathSends
 pub mod SoundPaths
 pub mod LiveSenders

@@ -19,7 +19,7 @@ use Rattle.rsvp_base.proofs.UnderLaws.{get-under}
 use Rattle.tree_model.specs.declared.locals.LocalSender.{LocalSender}
 use Rattle.tree_model.specs.Wants.{live, of_session}
 use Rattle.router_rules.specs.Facts.{Facts, SenderKey, sender_keys}
-use Rattle.network_model.specs.Bounds.{AreLocals}
+use Rattle.network_model.specs.Bounds.{AreHosts}
 use Rattle.network_model.specs.Locals.{sender_at, senders_from, locals_of, senders_at, IsLive}
 use Rattle.network_model.specs.Worlds.{World}
 use Rattle.network_steps.proofs.Known.{has_some}
@@ -46,7 +46,7 @@ live_listed o k t l =
     let row = found_in sender_keys f.0.senders k t (ap (λ (m : Table sender_keys TokenBucket). get m k) f.2 ∙ l.sends) in
     listed 0 l.node o.nodes f.0 k f.1 (to_each (λ (e : SenderKey × TokenBucket). e.0) (k, t) f.0.senders.rows row)
 
-module _ (o : World) (locals : AreLocals o) where
+module _ (o : World) (locals : AreHosts o) where
   -- a sender has one flow
   pub one_flow : (k : SenderKey) (t t' : TokenBucket) → IsLive o k t → IsLive o k t' → t ≡ t'
   one_flow k t t' a b =

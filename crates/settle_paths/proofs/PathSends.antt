@@ -19,16 +19,17 @@ use Rattle.router_lookups.specs.FactLaws.{is_way}
 use Rattle.router_rules.specs.Facts.{Facts, PathState}
 use Rattle.router_rules.specs.Inputs.{Spelt}
 use Rattle.router_rules.specs.Known.{known}
-use Rattle.router_rules.specs.Place.{Place}
+use Rattle.router_rules.specs.NodeConfig.{NodeConfig}
 use Rattle.router_rules.specs.Rule.{Outcome}
 use Rattle.tree_model.specs.Networks.{Net, node_of, end_at, peers}
 use Rattle.tree_model.specs.Trees.{outward}
 use Rattle.network_model.specs.Bounds.{AreBounds}
 use Rattle.network_model.specs.Steps.{Step, is_quiet, ms_of, outcome, sent, step}
-use Rattle.network_model.specs.Worlds.{Item, World, place_of}
+use Rattle.network_model.specs.Worlds.{Item, World, config_of}
 use Rattle.network_model.proofs.Stepping.{facts_after_made}
 use Rattle.network_steps.proofs.Sends.{goes_to_peers, sent_by_rule}
 use Rattle.network_steps.proofs.Standing.{own_end, way_out}
+use Rattle.router_rules.specs.Steps.{node_step}
 
 -- ---- a Path in flight that a node sent in the step
 -- the node knows the sender after the step, and sends by an end by which the sender's tree leaves
@@ -51,10 +52,10 @@ pub record IsPathSent (q : ℕ) (net : Net) (u' : World) (y : Item) (m : PathMsg
 pub path_sent : (q : ℕ) (s : Step) (u : World) → is_quiet s ≡ true → AreBounds q u → (y : Item) (b : Bool) (m : PathMsg) → In (y, b) (sent q s u) → y.arrival ≡ Spelt (message.Path m) → IsPathSent q u.net (step q s u) y m
 path_sent q s u quiet bounds y b m i spelt =
     let r = sent_by_rule q s u y b (message.Path m) quiet i spelt in
-    let p : Place = place_of q u.net u.trees r.node in
+    let p : NodeConfig = config_of q u.net u.trees r.node in
     let after : Facts = (outcome q s u r.node r.facts).facts in
     let o : IsOfOffer p after r.send m =
-    subst (λ (z : Outcome). IsOfOffer p z.facts r.send m) (sym r.by.is) (what_a_path_sent_says.says p p u.clock (u.clock + ms_of s) r.by.input r.facts (bounds.facts r.node r.facts r.there) r.send m r.sent r.says) in
+    subst (λ (z : Outcome). IsOfOffer p z.facts r.send m) (sym r.by.is) (what_a_path_sent_says.says (node_step p p u.clock (u.clock + ms_of s) r.by.input r.facts) (bounds.facts r.node r.facts r.there) r.send m r.sent r.says) in
     let e = way_out q u.net u.trees r.node bounds.net o.key.session o.key.iface o.key.sender o.there o.way in
     let session : m.session ≡ o.key.session = ap (λ (z : PathMsg). z.session) o.is in
     record {
@@ -92,10 +93,10 @@ pub record IsTearSent (net : Net) (u' : World) (y : Item) (m : PathTearMsg) : Ty
 pub tear_sent : (q : ℕ) (s : Step) (u : World) → is_quiet s ≡ true → AreBounds q u → (y : Item) (b : Bool) (m : PathTearMsg) → In (y, b) (sent q s u) → y.arrival ≡ Spelt (message.PathTear m) → IsTearSent u.net (step q s u) y m
 tear_sent q s u quiet bounds y b m i spelt =
     let r = sent_by_rule q s u y b (message.PathTear m) quiet i spelt in
-    let p : Place = place_of q u.net u.trees r.node in
+    let p : NodeConfig = config_of q u.net u.trees r.node in
     let after : Facts = (outcome q s u r.node r.facts).facts in
     let o : IsOfGoneOffer p p r.facts after r.send m =
-    subst (λ (z : Outcome). IsOfGoneOffer p p r.facts z.facts r.send m) (sym r.by.is) (why_a_path_tear_is_sent p p u.clock (u.clock + ms_of s) r.by.input r.facts (bounds.facts r.node r.facts r.there) r.send m r.sent r.says) in
+    subst (λ (z : Outcome). IsOfGoneOffer p p r.facts z.facts r.send m) (sym r.by.is) (why_a_path_tear_is_sent (node_step p p u.clock (u.clock + ms_of s) r.by.input r.facts) (bounds.facts r.node r.facts r.there) r.send m r.sent r.says) in
     let e = way_out q u.net u.trees r.node bounds.net o.key.session o.key.iface o.key.sender o.there o.way in
     let session : m.session ≡ o.key.session = ap (λ (z : PathTearMsg). z.session) o.is in
     record {

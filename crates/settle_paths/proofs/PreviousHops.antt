@@ -23,14 +23,14 @@ use Rattle.router_rules.specs.Known.{Lane, known, names_via}
 use Rattle.router_lookups.specs.FactLaws.{ComesBy}
 use Rattle.router_lookups.proofs.Knowing.{known_and_via, has-known}
 use Rattle.router_lookups.proofs.Tests.{came_told, came_tested}
-use Rattle.tree_model.specs.declared.hops.Hop.{Hop}
+use Rattle.tree_model.specs.declared.hops.LinkHop.{LinkHop}
 use Rattle.tree_model.specs.Networks.{Net, node_of, iface_of, owner}
 use Rattle.tree_model.specs.Trees.{tree, hops_of, inward}
 use Rattle.tree_model.specs.Valid.{IsValid}
 use Rattle.tree_model.proofs.Following.{has_hop_in, in_has_hop, in_group, to_tree, tree_group}
 use Rattle.tree_model.proofs.Ifaces.{interfaces_are_ends}
 use Rattle.tree_model.proofs.TreeLaws.{way_in_told, way_in_tested}
-use Rattle.network_model.specs.Bounds.{AreLocals}
+use Rattle.network_model.specs.Bounds.{AreHosts}
 use Rattle.network_model.specs.Locals.{IsLive, locals_of, sender_at, senders_from}
 use Rattle.network_model.specs.Sound.{ArePathsSound, ArePathsComplete}
 use Rattle.network_model.specs.Worlds.{World}
@@ -66,10 +66,10 @@ ahead w n f sound at s hop x c =
 
 -- ---- a previous hop is one hop
 module _ (net : Net) (valid : IsValid net) where
-  pub ends_there : (g : Addr) (h : Hop) → In h (hops_of net.hops g) → (h.from < length net.ends) × (h.to < length net.ends)
+  pub ends_there : (g : Addr) (h : LinkHop) → In h (hops_of net.hops g) → (h.from < length net.ends) × (h.to < length net.ends)
   ends_there g h i =
       let r = in_group net.hops g h i in
-      let there : In h (tree net.hops r.0.group r.0.source) = subst (λ (z : Hop). In z (tree net.hops r.0.group r.0.source)) r.3 (to_tree net.hops r.0 r.1) in
+      let there : In h (tree net.hops r.0.group r.0.source) = subst (λ (z : LinkHop). In z (tree net.hops r.0.group r.0.source)) r.3 (to_tree net.hops r.0 r.1) in
       (from_there net valid r.0.group r.0.source h there, to_there net valid r.0.group r.0.source h there)
 
   pub same_by_addr : (d e : ℕ) → d < length net.ends → e < length net.ends → addr_of net d ≡ addr_of net e → d ≡ e
@@ -78,7 +78,7 @@ module _ (net : Net) (valid : IsValid net) where
       let y = some_at net.ends e b in
       valid.one_address d e x.0 y.0 x.1 y.1 (sym (ap addr_of_end x.1) ∙ same ∙ ap addr_of_end y.1)
 
-  pub one_previous : (n : ℕ) (s : Session) (hop : NextHop) (h h' : Hop) → IsPrevious net n s hop h → IsPrevious net n s hop h' → h ≡ h'
+  pub one_previous : (n : ℕ) (s : Session) (hop : NextHop) (h h' : LinkHop) → IsPrevious net n s hop h → IsPrevious net n s hop h' → h ≡ h'
   one_previous n s hop h h' a b =
       let x = ends_there s.group h a.there in
       let y = ends_there s.group h' b.there in
@@ -88,14 +88,14 @@ module _ (net : Net) (valid : IsValid net) where
 
 -- the names via a previous hop are names over its hop
 module _ (w : World) (n : ℕ) (f : Facts) (valid : IsValid w.net) (sound : ArePathsSound w) (at : slice_get w.nodes n ≡ Some f) where
-  pub via_within : (l : Lane) (h : Hop) → IsPrevious w.net n l.session l.hop h → IsWithin (names_via f l) (names l.style w.net (locals_of w) l.session (h ∷ []))
+  pub via_within : (l : Lane) (h : LinkHop) → IsPrevious w.net n l.session l.hop h → IsWithin (names_via f l) (names l.style w.net (locals_of w) l.session (h ∷ []))
   via_within l h is x e =
       let named = (known_and_via.all_by f l x).0 e in
       let comes = (known_and_via.via_by f l.session l.hop named.sender).0 named.among in
       let a = ahead w n f sound at l.session l.hop named.sender comes in
       let one = one_previous w.net valid n l.session l.hop a.way h a.previous is in
       let over : goes_over w.net l.session (h ∷ []) named.sender ≡ true =
-      and_made _ _ (in_has_hop (tree w.net.hops l.session.group named.sender.addr) h (subst (λ (z : Hop). In z (tree w.net.hops l.session.group named.sender.addr)) one a.there)) refl in
+      and_made _ _ (in_has_hop (tree w.net.hops l.session.group named.sender.addr) h (subst (λ (z : LinkHop). In z (tree w.net.hops l.session.group named.sender.addr)) one a.there)) refl in
       subst (λ (z : Sender). has (names l.style w.net (locals_of w) l.session (h ∷ [])) z ≡ true) (sym named.name) (name_made l.style w.net (locals_of w) l.session (h ∷ []) named.sender a.live over)
 
 pub previous_hops_are_hops : (w : World) → IsValid w.net → ArePathsSound w → ArePreviousHops w
@@ -114,7 +114,7 @@ both_ways false false f g = refl
 
 module _ (w : World) (valid : IsValid w.net) (sound : ArePathsSound w) (complete : ArePathsComplete w) (n : ℕ) (f : Facts) (at : slice_get w.nodes n ≡ Some f) where
   -- a live sender whose tree has a hop into the node comes over it
-  pub comes_over : (s : Session) (x : Sender) (h : Hop) → In x (live (locals_of w) s) → In h (tree w.net.hops s.group x.addr) → node_of w.net.ends h.to ≡ n
+  pub comes_over : (s : Session) (x : Sender) (h : LinkHop) → In x (live (locals_of w) s) → In h (tree w.net.hops s.group x.addr) → node_of w.net.ends h.to ≡ n
       → (p : PathState) × (get f.paths (s, x) ≡ Some p) × (p.iface ≡ iface_of w.net.ends h.to) × (p.hop.addr ≡ addr_of w.net h.from)
   comes_over s x h i there node =
       let l = live_told w s x i in
@@ -122,7 +122,7 @@ module _ (w : World) (valid : IsValid w.net) (sound : ArePathsSound w) (complete
       let same : c.facts ≡ f = of_some c.facts f (sym c.node ∙ ap (λ (z : ℕ). slice_get w.nodes z) node ∙ at) in
       (c.path, ap (λ (z : Facts). get z.paths (s, x)) (sym same) ∙ c.there, c.iface, c.hop)
 
-  pub via_all : (l : Lane) (h : Hop) → IsPrevious w.net n l.session l.hop h → IsWithin (names l.style w.net (locals_of w) l.session (h ∷ [])) (names_via f l)
+  pub via_all : (l : Lane) (h : LinkHop) → IsPrevious w.net n l.session l.hop h → IsWithin (names l.style w.net (locals_of w) l.session (h ∷ [])) (names_via f l)
   via_all l h is x e =
       let a = name_told l.style w.net (locals_of w) l.session (h ∷ []) x e in
       let there = has_hop_in (tree w.net.hops l.session.group a.0.addr) h (and_both _ _ a.2).0 in
@@ -135,12 +135,12 @@ module _ (w : World) (valid : IsValid w.net) (sound : ArePathsSound w) (complete
         name = a.3;
       })
 
-  pub via_is : (l : Lane) (h : Hop) → IsPrevious w.net n l.session l.hop h → names_via f l ≡ names l.style w.net (locals_of w) l.session (h ∷ [])
+  pub via_is : (l : Lane) (h : LinkHop) → IsPrevious w.net n l.session l.hop h → names_via f l ≡ names l.style w.net (locals_of w) l.session (h ∷ [])
   via_is l h is =
       same_set senders (names_via f l) (names l.style w.net (locals_of w) l.session (h ∷ []))
       (λ x. both_ways _ _ (via_within w n f valid sound at l h is x) (via_all l h is x))
 
-  module _ (locals : AreLocals w) (s : Session) (x : Sender) where
+  module _ (locals : AreHosts w) (s : Session) (x : Sender) where
     of_known : has (known f s) x ≡ true → In x (live (locals_of w) s) × Reaches w.net n s.group x.addr
     of_known e = by (has f.senders (s, x)) refl (sym (has-known f s x) ∙ e)
       where
@@ -172,7 +172,7 @@ module _ (w : World) (valid : IsValid w.net) (sound : ArePathsSound w) (complete
         has-known f s x ∙ ap (λ (b : Bool). has f.senders (s, x) || b) some ∙ or_true (has f.senders (s, x)))
         r.1
 
-pub previous_hops_are_all_hops : (w : World) → IsValid w.net → AreLocals w → ArePathsSound w → ArePathsComplete w → AreAllPreviousHops w
+pub previous_hops_are_all_hops : (w : World) → IsValid w.net → AreHosts w → ArePathsSound w → ArePathsComplete w → AreAllPreviousHops w
 previous_hops_are_all_hops w valid locals sound complete = record {
   via = λ n f l h at is. via_is w valid sound complete n f at l h is;
   known = λ n f s x at. (of_known w valid sound complete n f at locals s x, to_known w valid sound complete n f at locals s x);

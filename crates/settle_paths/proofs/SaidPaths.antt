@@ -14,7 +14,7 @@ use Rattle.rsvp_messages.specs.declared.message.PathMsg.{PathMsg}
 use Rattle.rsvp_messages.specs.Units.{ask_style}
 use Rattle.calm_rounds.specs.Rounds.{Rounds}
 use Rattle.calm_rounds.specs.Hold.{Hold}
-use Rattle.calm_rounds.specs.Lines.{Line, DueLaws, Good, Moves, Stands}
+use Rattle.calm_rounds.specs.SoftStates.{SoftState, DueLaws, Good, Moves, Stands}
 use Rattle.calm_rounds.proofs.Holding.{hold_map, hold_both, hold_start, hold_keep}
 use Rattle.calm_rounds.proofs.Renewing.{what_is_said_is_kept}
 use Rattle.tree_model.specs.Goals.{addr_of}
@@ -26,11 +26,11 @@ use Rattle.router_rules.specs.Forgetting.{counted}
 use Rattle.router_rules.specs.Inputs.{Arrival, Input, Wait, Clear, Came, Send, Spelt, Unspelt}
 use Rattle.router_rules.specs.Known.{known, came_by}
 use Rattle.router_rules.specs.Offers.{OfferKey}
-use Rattle.router_rules.specs.Place.{Place, own, goes_out, lifetime}
+use Rattle.router_rules.specs.NodeConfig.{NodeConfig, own, goes_out, lifetime}
 use Rattle.router_rules.specs.Rule.{Outcome}
 use Rattle.router_rules.specs.Sends.{path_send}
 use Rattle.router_lookups.proofs.Knowing.{known_and_via}
-use Rattle.tree_model.specs.declared.hops.Hop.{Hop}
+use Rattle.tree_model.specs.declared.hops.LinkHop.{LinkHop}
 use Rattle.tree_model.specs.Networks.{Net, node_of, end_at, iface_of, peers}
 use Rattle.tree_model.specs.Trees.{tree, inward, outward}
 use Rattle.tree_model.specs.Valid.{IsValid}
@@ -40,8 +40,8 @@ use Rattle.tree_model.proofs.Links.{hop_linked}
 use Rattle.tree_model.proofs.TreeLaws.{out_tested, way_in_tested}
 use Rattle.network_model.specs.Bounds.{AreBounds}
 use Rattle.network_model.specs.Links.{is_group, goes_to, copy_to}
-use Rattle.network_model.specs.Steps.{Step, Lane, OfSender, OfStyle, is_quiet, ms_of, arrived, input_at, word_for, outcome, still, sender_of, lane, path_lane, arrival_lane, sent, step, machine}
-use Rattle.network_model.specs.Worlds.{Item, World, place_of}
+use Rattle.network_model.specs.Steps.{Step, Track, OfSender, OfStyle, is_quiet, ms_of, arrived, input_at, word_for, outcome, still, sender_of, track, path_track, arrival_track, sent, step, machine}
+use Rattle.network_model.specs.Worlds.{Item, World, config_of}
 use Rattle.network_model.proofs.Changing.{where_a_send_goes}
 use Rattle.network_model.proofs.Machines.{quiet_of, time_passes, items_are_numbered, in_flight_after, in_arrived}
 use Rattle.network_model.proofs.Quiet.{IsWaited, IsCame, FollowsRule, input_found, arrival_takes_no_time, outcome_by, outcome_quiet}
@@ -51,20 +51,20 @@ use Rattle.network_steps.specs.Refreshes.{due_at, Refreshes}
 use Rattle.network_steps.proofs.Due.{full_life, due_found, due_made, due_moves, refresh_follows}
 use Rattle.network_steps.proofs.Known.{of_some, has_some, known_hold, node_there, end_found, came_there}
 use Rattle.network_steps.proofs.Standing.{own_end, iface_less, comes_in_told, goes_out_made, from_there, to_there}
-use Rattle.settle_paths.specs.Lines.{PathValue, path_at, by_iface, SaysPath, path_line}
+use Rattle.settle_paths.specs.SoftPaths.{PathValue, path_at, by_iface, SaysPath, soft_path}
 use Rattle.settle_paths.specs.Said.{IsSaidPath}
 use Rattle.settle_paths.specs.Telling.{letter_message, letter_arrival, is_letter, life_of}
 use Rattle.settle_paths.proofs.Letters.{IsPathLetter, IsTearLetter, of_made, sender_found, letter_found, path_letter}
-use Rattle.settle_paths.proofs.PathLines.{path_found, path_made, iface_found, iface_made}
+use Rattle.settle_paths.proofs.SoftPaths.{path_found, path_made, iface_found, iface_made}
 use Rattle.settle_paths.proofs.PathSends.{path_sent}
-use Rattle.router_rules.specs.Steps.{facts_then}
+use Rattle.router_rules.specs.Steps.{facts_then, node_step}
 
 came_iface : (i : ℕ) (a : Addr) (x : PathState) → came_by (i, a) x ≡ true → x.iface ≡ i
 came_iface i a x e = same_number x.iface i (and_both _ _ e).0
 
 module _ (q : ℕ) (o : World) where
   -- ---- the routes of a tree with a hop are there
-  pub routed : (u : World) (g s : Addr) (h : Hop) → IsKnown q o u → In h (tree o.net.hops g s) → In (g, s) u.trees
+  pub routed : (u : World) (g s : Addr) (h : LinkHop) → IsKnown q o u → In h (tree o.net.hops g s) → In (g, s) u.trees
   routed u g s h a i =
       let r = in_tree o.net.hops g s h i in
       let there : In (r.0.group, r.0.source) u.trees = a.bounds.routed r.0 (subst (λ (z : Net). In r.0 z.hops) (sym a.same.net) r.1) in
@@ -80,7 +80,7 @@ module _ (q : ℕ) (o : World) where
       (λ (new : (mark : Bool) × In (y, mark) (sent q s u)). (path_sent q s u quiet a.bounds y new.0 m new.1 spelt).period)
       (in_flight_after q s u y quiet i)
 
-module _ (q : ℕ) (o : World) (valid : IsValid o.net) (k : SenderKey) (h : Hop) (there : In h (tree o.net.hops k.0.group k.1.addr)) (group : is_group k.0.group ≡ true) (v : PathValue) (b : ℕ) where
+module _ (q : ℕ) (o : World) (valid : IsValid o.net) (k : SenderKey) (h : LinkHop) (there : In h (tree o.net.hops k.0.group k.1.addr)) (group : is_group k.0.group ≡ true) (v : PathValue) (b : ℕ) where
   abbrev at_to : ℕ
   at_to = node_of o.net.ends h.to
 
@@ -98,10 +98,10 @@ module _ (q : ℕ) (o : World) (valid : IsValid o.net) (k : SenderKey) (h : Hop)
     pub said : IsSaidPath q o.net k h v b u
     pub full : AreFull q o b u
 
-  abbrev over : Lane
+  abbrev over : Track
   over = record { from = addr_of o.net h.from; to = h.to; session = k.0; key = OfSender k.1 }
 
-  abbrev line : Line World Step Item Lane PathValue
+  abbrev line : SoftState World Step Item Track PathValue
   line = record {
     sane = IsFirm;
     kept = λ u. by_iface (iface_of o.net.ends h.to) (path_at u at_to k);
@@ -111,7 +111,7 @@ module _ (q : ℕ) (o : World) (valid : IsValid o.net) (k : SenderKey) (h : Hop)
     below = λ x x0. x ≡ x0;
     due = λ u. due_at u at_from k.0;
     fires = Refreshes at_from k.0;
-    lane = Some over;
+    track = Some over;
   }
 
   -- ---- a letter says the value, for a full lifetime
@@ -134,7 +134,7 @@ module _ (q : ℕ) (o : World) (valid : IsValid o.net) (k : SenderKey) (h : Hop)
   takes s u y quiet g arr born says life =
       let lt = to_there o.net valid k.0.group k.1.addr h there in
       let f = node_there q o valid u h.to g.known lt in
-      let p : Place = place_of q u.net u.trees at_to in
+      let p : NodeConfig = config_of q u.net u.trees at_to in
       let input : Input = Came (iface_of o.net.ends h.to) y.dst (Spelt (message.Path says.path)) in
       let came : input_at s u at_to ≡ Some input = came_there q o u g.known h.to lt s y arr says.end ∙ (λ i. Some (Came (iface_of o.net.ends h.to) y.dst (says.spelt i))) in
       let taken = g.said.taken y (in_arrived s u y arr) born says f.0 f.1 in
@@ -183,7 +183,7 @@ module _ (q : ℕ) (o : World) (valid : IsValid o.net) (k : SenderKey) (h : Hop)
   rests s u dies quiet sure none kept lt =
       let x = iface_found (iface_of o.net.ends h.to) (path_at u at_to k) v dies kept in
       let f = path_found u at_to k x.0 x.1 in
-      let p : Place = place_of q u.net u.trees at_to in
+      let p : NodeConfig = config_of q u.net u.trees at_to in
       let after : slice_get (step q s u).nodes at_to ≡ Some (outcome q s u at_to f.0).facts = facts_after_made q s u at_to f.0 f.1 in
       let value_is = sym x.3 in
       let dies_is = sym x.4 in
@@ -196,10 +196,10 @@ module _ (q : ℕ) (o : World) (valid : IsValid o.net) (k : SenderKey) (h : Hop)
       (λ (stays : get (facts_then p p (u.clock + ms_of s) r.input f.0).paths k ≡ Some x.0). end_it (ap (λ (w : Outcome). get w.facts.paths k) r.is ∙ stays))
       (λ (other : IsReplaced p (u.clock + ms_of s) r.input (facts_then p p (u.clock + ms_of s) r.input f.0) k ⊎ ((get (facts_then p p (u.clock + ms_of s) r.input f.0).paths k ≡ None) × PathGoes (u.clock + ms_of s) r.input k x.0)).
       absurd (by_input x.0 x.2 (omega (arith, x.4, lt)) r.input other (input_found s u at_to r.input quiet r.came)))
-      (how_a_path_fact_goes p p u.clock (u.clock + ms_of s) r.input f.0 (sure.known.bounds.facts at_to f.0 f.1) k x.0 f.2))
+      (how_a_path_fact_goes (node_step p p u.clock (u.clock + ms_of s) r.input f.0) (sure.known.bounds.facts at_to f.0 f.1) k x.0 f.2))
       (outcome_quiet q s u at_to f.0 quiet)
     where
-      by_input : (x : PathState) → x.iface ≡ iface_of o.net.ends h.to → u.clock + ms_of s < x.dies → (i : Input) → {f' : Facts} → IsReplaced (place_of q u.net u.trees at_to) (u.clock + ms_of s) i f' k ⊎ ((get f'.paths k ≡ None) × PathGoes (u.clock + ms_of s) i k x)
+      by_input : (x : PathState) → x.iface ≡ iface_of o.net.ends h.to → u.clock + ms_of s < x.dies → (i : Input) → {f' : Facts} → IsReplaced (config_of q u.net u.trees at_to) (u.clock + ms_of s) i f' k ⊎ ((get f'.paths k ≡ None) × PathGoes (u.clock + ms_of s) i k x)
           → IsWaited s u at_to i ⊎ IsCame s u at_to i → ⊥
       by_input x iface later i (inl rep) (inl w) = let bad : Wait w.ms (word_for u.words at_to) ≡ Came rep.learnt.by.at k.0.group (Spelt (message.Path rep.learnt.by.path)) = sym w.is ∙ rep.learnt.by.came in absurd (cc)
       by_input x iface later i (inl rep) (inr c) =
@@ -221,9 +221,9 @@ module _ (q : ℕ) (o : World) (valid : IsValid o.net) (k : SenderKey) (h : Hop)
 
   -- ---- the refresh of the hop
   calls : (s : Step) (u : World) → is_quiet s ≡ true → IsFirm u → IsFirm (step q s u) → Refreshes at_from k.0 s u
-      → (y : Item) × In (y, true) (sent q s u) × (lane y ≡ Some over)
+      → (y : Item) × In (y, true) (sent q s u) × (track y ≡ Some over)
   calls s u quiet sure sure' r =
-      let p : Place = place_of q u.net u.trees at_from in
+      let p : NodeConfig = config_of q u.net u.trees at_from in
       let c : ℕ = u.clock + ms_of s in
       let i : ℕ = iface_of o.net.ends h.from in
       let at : end_at u.net.ends at_from i ≡ Some h.from = subst (λ (z : Net). end_at z.ends at_from i ≡ Some h.from) (sym sure.known.same.net) ((interfaces_are_ends o.net).end_of_iface h.from (from_there o.net valid k.0.group k.1.addr h there)) in
@@ -233,9 +233,9 @@ module _ (q : ℕ) (o : World) (valid : IsValid o.net) (k : SenderKey) (h : Hop)
       let after : slice_get (step q s u).nodes at_from ≡ Some (outcome q s u at_from r.facts).facts = facts_after_made q s u at_from r.facts r.there in
       let known_then : has (known (facts_then p p c f.input r.facts) k.0) k.1 ≡ true = ap (λ (z : Outcome). has (known z.facts k.0) k.1) (sym f.is) ∙ sure'.said.knows (outcome q s u at_from r.facts).facts after in
       let out : goes_out p k.0 i k.1 ≡ true =
-      subst (λ (z : Net). goes_out (place_of q z u.trees at_from) k.0 i k.1 ≡ true) (sym sure.known.same.net) (goes_out_made q o.net u.trees at_from k.0 h.from k.1 (routed q o u k.0.group k.1.addr h sure.known there) leaves) in
+      subst (λ (z : Net). goes_out (config_of q z u.trees at_from) k.0 i k.1 ≡ true) (sym sure.known.same.net) (goes_out_made q o.net u.trees at_from k.0 h.from k.1 (routed q o u k.0.group k.1.addr h sure.known there) leaves) in
       let less = iface_less q u.net u.trees at_from i h.from at in
-      let offer = refreshes_are_marked.known_ones p p u.clock c f.input r.facts within k.0 k.1 i two.1 known_then less out in
+      let offer = refreshes_are_marked.known_ones (node_step p p u.clock c f.input r.facts) within k.0 k.1 i two.1 known_then less out in
       let key : OfferKey = record { session = k.0; sender = k.1; iface = i } in
       let send : Send = path_send p true (key, offer.0) in
       let sends : In send (outcome q s u at_from r.facts).sent = subst (λ (z : Outcome). In send z.sent) (sym f.is) offer.2 in
@@ -246,26 +246,26 @@ module _ (q : ℕ) (o : World) (valid : IsValid o.net) (k : SenderKey) (h : Hop)
       let own_is : own p i ≡ addr_of o.net h.from = own_end q u.net u.trees at_from i h.from at ∙ ap (λ (z : Net). addr_of z h.from) sure.known.same.net in
       ((copy_to u.made send h.to).0, sent_made q s u at_from r.facts (copy_to u.made send h.to) r.there made, (λ j. Some (record { from = own_is j; to = h.to; session = k.0; key = OfSender k.1 })))
 
-  -- what goes on the lane is a letter
-  lanes : (y : Item) → lane y ≡ Some over → is_letter k h.to y ≡ true
+  -- what goes on the track is a letter
+  lanes : (y : Item) → track y ≡ Some over → is_letter k h.to y ≡ true
   lanes y e = by y.arrival refl e
     where
-      on_path : (m : PathMsg) (x : Option Sender) → sender_of m.sender ≡ x → y.arrival ≡ Spelt (message.Path m) → path_lane y.end m.hop.addr m.session x ≡ Some over → is_letter k h.to y ≡ true
+      on_path : (m : PathMsg) (x : Option Sender) → sender_of m.sender ≡ x → y.arrival ≡ Spelt (message.Path m) → path_track y.end m.hop.addr m.session x ≡ Some over → is_letter k h.to y ≡ true
       on_path m None a b f = absurd (cc)
       on_path m (Some x) a b f =
-          let same : ◌≡◌ {A = Lane} (record { from = m.hop.addr; to = y.end; session = m.session; key = OfSender x }) over = of_some _ _ f in
-          let end : y.end ≡ h.to = ap (λ (z : Lane). z.to) same in
-          let session : m.session ≡ k.0 = ap (λ (z : Lane). z.session) same in
-          let key : OfSender x ≡ OfSender k.1 = ap (λ (z : Lane). z.key) same in
+          let same : ◌≡◌ {A = Track} (record { from = m.hop.addr; to = y.end; session = m.session; key = OfSender x }) over = of_some _ _ f in
+          let end : y.end ≡ h.to = ap (λ (z : Track). z.to) same in
+          let session : m.session ≡ k.0 = ap (λ (z : Track). z.session) same in
+          let key : OfSender x ≡ OfSender k.1 = ap (λ (z : Track). z.key) same in
           let sender : x ≡ k.1 = cc in
           let s = sender_found m x a in
           path_letter k h.to y m s.0 end b session (s.1 ∙ ap (λ (z : Sender). Some (z, s.0)) sender)
 
-      by_message : (m : Message) → y.arrival ≡ Spelt m → arrival_lane y.end (Spelt m) ≡ Some over → is_letter k h.to y ≡ true
+      by_message : (m : Message) → y.arrival ≡ Spelt m → arrival_track y.end (Spelt m) ≡ Some over → is_letter k h.to y ≡ true
       by_message (message.Path m) b f = on_path m (sender_of m.sender) refl b f
       by_message (message.Resv m) b f =
-          let same : ◌≡◌ {A = Lane} (record { from = m.hop.addr; to = y.end; session = m.session; key = OfStyle (ask_style m.ask) }) over = of_some _ _ f in
-          let key : OfStyle (ask_style m.ask) ≡ OfSender k.1 = ap (λ (z : Lane). z.key) same in
+          let same : ◌≡◌ {A = Track} (record { from = m.hop.addr; to = y.end; session = m.session; key = OfStyle (ask_style m.ask) }) over = of_some _ _ f in
+          let key : OfStyle (ask_style m.ask) ≡ OfSender k.1 = ap (λ (z : Track). z.key) same in
           absurd (cc)
       by_message (message.PathErr m) b f = absurd (cc)
       by_message (message.ResvErr m) b f = absurd (cc)
@@ -273,7 +273,7 @@ module _ (q : ℕ) (o : World) (valid : IsValid o.net) (k : SenderKey) (h : Hop)
       by_message (message.ResvTear m) b f = absurd (cc)
       by_message (message.ResvConf m) b f = absurd (cc)
 
-      by : (b : Arrival) → y.arrival ≡ b → arrival_lane y.end b ≡ Some over → is_letter k h.to y ≡ true
+      by : (b : Arrival) → y.arrival ≡ b → arrival_track y.end b ≡ Some over → is_letter k h.to y ≡ true
       by (Spelt m) b f = by_message m b f
       by (Unspelt g) b f = absurd (cc)
 
@@ -281,7 +281,7 @@ module _ (q : ℕ) (o : World) (valid : IsValid o.net) (k : SenderKey) (h : Hop)
   moves = record {
     rests = λ s u dies calm g g' none kept lt. rests s u dies (quiet_of q s calm) g.sane none kept lt;
     calls = λ s u calm g g' r. calls s u (quiet_of q s calm) g.sane g'.sane r;
-    lanes = λ s u y calm g g' i e. lanes y e;
+    tracks = λ s u y calm g g' i e. lanes y e;
   }
 
   -- ---- the moment of the next refresh
@@ -292,8 +292,8 @@ module _ (q : ℕ) (o : World) (valid : IsValid o.net) (k : SenderKey) (h : Hop)
   }
 
 -- ---- two rounds on it is kept, in worlds with the network of o
-pub said_from : (q : ℕ) (o : World) (valid : IsValid o.net) (k : SenderKey) (h : Hop) (v : PathValue) → In h (tree o.net.hops k.0.group k.1.addr) → is_group k.0.group ≡ true → (rs : List (List Step)) (w : World) → Rounds (machine q) rs w
-    → Hold (machine q) 0 rs w (IsKnown q o) → Hold (machine q) 0 rs w (IsSaidPath q o.net k h v w.made) → Hold (machine q) 2 rs w (Stands (machine q) (path_line q o k h.to) v)
+pub said_from : (q : ℕ) (o : World) (valid : IsValid o.net) (k : SenderKey) (h : LinkHop) (v : PathValue) → In h (tree o.net.hops k.0.group k.1.addr) → is_group k.0.group ≡ true → (rs : List (List Step)) (w : World) → Rounds (machine q) rs w
+    → Hold (machine q) 0 rs w (IsKnown q o) → Hold (machine q) 0 rs w (IsSaidPath q o.net k h v w.made) → Hold (machine q) 2 rs w (Stands (machine q) (soft_path q o k h.to) v)
 said_from q o valid k h v there group rs w calm known said =
     let first = hold_start (machine q) (IsKnown q o) rs w known in
     let firm : Hold (machine q) 0 rs w (IsFirm q o valid k h there group v w.made) =
@@ -305,7 +305,7 @@ said_from q o valid k h v there group rs w calm known said =
     what_is_said_is_kept (machine q) (time_passes q) (items_are_numbered q) (line q o valid k h there group v w.made) (falls_due q o valid k h there group v w.made) v first.bounds.period rs w calm (moves q o valid k h there group v w.made)
     (hold_map (machine q) (IsFirm q o valid k h there group v w.made) (Good (machine q) (line q o valid k h there group v w.made) v w.made) (λ u g. good q o valid k h there group v w.made u g) 0 rs w firm)
 
-pub said_paths_are_kept : (q : ℕ) (w : World) (k : SenderKey) (h : Hop) (v : PathValue) → In h (tree w.net.hops k.0.group k.1.addr) → is_group k.0.group ≡ true → (rs : List (List Step)) → Rounds (machine q) rs w → Hold (machine q) 0 rs w (AreBounds q)
-    → Hold (machine q) 0 rs w (IsSaidPath q w.net k h v w.made) → Hold (machine q) 2 rs w (Stands (machine q) (path_line q w k h.to) v)
+pub said_paths_are_kept : (q : ℕ) (w : World) (k : SenderKey) (h : LinkHop) (v : PathValue) → In h (tree w.net.hops k.0.group k.1.addr) → is_group k.0.group ≡ true → (rs : List (List Step)) → Rounds (machine q) rs w → Hold (machine q) 0 rs w (AreBounds q)
+    → Hold (machine q) 0 rs w (IsSaidPath q w.net k h v w.made) → Hold (machine q) 2 rs w (Stands (machine q) (soft_path q w k h.to) v)
 said_paths_are_kept q w k h v there group rs calm bounds said =
     said_from q w (hold_start (machine q) (AreBounds q) rs w bounds).net k h v there group rs w calm (known_hold q w rs calm bounds) said

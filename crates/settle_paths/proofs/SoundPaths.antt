@@ -11,7 +11,7 @@ use Rattle.rsvp_messages.specs.declared.message.PathMsg.{PathMsg}
 use Rattle.calm_rounds.specs.Machine.{Fresh}
 use Rattle.calm_rounds.specs.Rounds.{Rounds}
 use Rattle.calm_rounds.specs.Hold.{Hold}
-use Rattle.calm_rounds.specs.Lines.{SaysOnly, KeepsOnly}
+use Rattle.calm_rounds.specs.SoftStates.{SaysOnly, KeepsOnly}
 use Rattle.calm_rounds.proofs.Holding.{hold_map, hold_both, hold_all, hold_later, hold_start, hold_stack, hold_keep, hold_flush}
 use Rattle.calm_rounds.proofs.Settling.{dies_out, only_what_is_said_is_kept}
 use Rattle.tree_model.specs.Goals.{addr_of}
@@ -33,8 +33,8 @@ use Rattle.network_model.specs.Worlds.{Item, World}
 use Rattle.network_model.proofs.Machines.{quiet_of, time_passes, items_are_numbered, in_flight_after}
 use Rattle.network_steps.specs.Known.{IsSameNet, IsKnown}
 use Rattle.network_steps.proofs.Known.{of_some, known_hold}
-use Rattle.settle_paths.specs.Lines.{PathValue, value_of, path_at, SaysPath, path_line}
-use Rattle.settle_paths.proofs.PathLines.{path_made, iface_made, path_keeps}
+use Rattle.settle_paths.specs.SoftPaths.{PathValue, value_of, path_at, SaysPath, soft_path}
+use Rattle.settle_paths.proofs.SoftPaths.{path_made, iface_made, path_keeps}
 use Rattle.settle_paths.proofs.PathSends.{IsPathSent, path_sent}
 use Rattle.network_steps.proofs.Standing.{end_of, inward_there}
 
@@ -66,7 +66,7 @@ module _ (q : ℕ) (o : World) (valid : IsValid o.net) where
   Spot d = (k : SenderKey) × (e : ℕ) × (e < length o.net.ends) × (depth o.net k.0.group k.1.addr (node_of o.net.ends e) ≤ d)
 
   abbrev SoundIn : SenderKey → ℕ → World → Type 0
-  SoundIn k e u = KeepsOnly (machine q) (path_line q o k e) (IsSoundAt o k e) u × SaysOnly (machine q) (path_line q o k e) (IsSoundAt o k e) 0 u
+  SoundIn k e u = KeepsOnly (machine q) (soft_path q o k e) (IsSoundAt o k e) u × SaysOnly (machine q) (soft_path q o k e) (IsSoundAt o k e) 0 u
 
   abbrev pub Level : ℕ → World → Type 0
   Level d u = (a : Spot d) → SoundIn a.0 a.1 u
@@ -83,10 +83,10 @@ module _ (q : ℕ) (o : World) (valid : IsValid o.net) where
   level_0 rs w calm known =
       hold_all (machine q) (λ (a : Spot 0) u. SoundIn a.0 a.1 u) 4 rs w
       (λ a.
-      hold_map (machine q) (KeepsOnly (machine q) (path_line q o a.0 a.1) (λ _. ⊥)) (SoundIn a.0 a.1)
+      hold_map (machine q) (KeepsOnly (machine q) (soft_path q o a.0 a.1) (λ _. ⊥)) (SoundIn a.0 a.1)
       (λ u none. ((λ v d h. absurd (none v d h)), (λ y v i le says. absurd (no_one a.0 a.1 a.3 y v says)))) 4 rs w
-      (dies_out (machine q) (time_passes q) (items_are_numbered q) (path_line q o a.0 a.1) (path_keeps q o a.0 a.1 a.2) (λ _. ⊥) (λ v v0 b f. f) rs w calm known
-      (hold_map (machine q) (IsKnown q o) (SaysOnly (machine q) (path_line q o a.0 a.1) (λ _. ⊥) 0) (λ u g y v i le says. no_one a.0 a.1 a.3 y v says) 0 rs w known)))
+      (dies_out (machine q) (time_passes q) (items_are_numbered q) (soft_path q o a.0 a.1) (path_keeps q o a.0 a.1 a.2) (λ _. ⊥) (λ v v0 b f. f) rs w calm known
+      (hold_map (machine q) (IsKnown q o) (SaysOnly (machine q) (soft_path q o a.0 a.1) (λ _. ⊥) 0) (λ u g y v i le says. no_one a.0 a.1 a.3 y v says) 0 rs w known)))
 
   -- ---- what a node sends that is less far from the root is sound
   sent_sound : (d : ℕ) (k : SenderKey) (e : ℕ) → depth o.net k.0.group k.1.addr (node_of o.net.ends e) ≤ suc d → (u' : World) → IsKnown q o u' → Level d u'
@@ -129,7 +129,7 @@ module _ (q : ℕ) (o : World) (valid : IsValid o.net) where
 
   says_step : (d n : ℕ) (k : SenderKey) (e : ℕ) → depth o.net k.0.group k.1.addr (node_of o.net.ends e) ≤ suc d → (s : Step) (u : World) → is_quiet s ≡ true
       → IsKnown q o u × Level d u → IsKnown q o (step q s u) × Level d (step q s u)
-      → SaysOnly (machine q) (path_line q o k e) (IsSoundAt o k e) n u → SaysOnly (machine q) (path_line q o k e) (IsSoundAt o k e) n (step q s u)
+      → SaysOnly (machine q) (soft_path q o k e) (IsSoundAt o k e) n u → SaysOnly (machine q) (soft_path q o k e) (IsSoundAt o k e) n (step q s u)
   says_step d n k e le s u quiet a a' j y v i born says =
       ⊎_elim
       (λ (old : In y u.flight). j y v old born says)
@@ -143,8 +143,8 @@ module _ (q : ℕ) (o : World) (valid : IsValid o.net) where
       let known : Hold (machine q) 0 rs w (IsKnown q o) = hold_map (machine q) (λ u. IsKnown q o u × Level d u) (IsKnown q o) (λ u h. h.0) 0 rs w both in
       hold_all (machine q) (λ (a : Spot (suc d)) u. SoundIn a.0 a.1 u) 5 rs w
       (λ a.
-      only_what_is_said_is_kept (machine q) (time_passes q) (items_are_numbered q) (path_line q o a.0 a.1) (path_keeps q o a.0 a.1 a.2) (IsSoundAt o a.0 a.1) (λ v v0 b f. subst (IsSoundAt o a.0 a.1) (sym b) f) rs w calm known
-      (hold_keep (machine q) (λ u. IsKnown q o u × Level d u) (SaysOnly (machine q) (path_line q o a.0 a.1) (IsSoundAt o a.0 a.1) w.made)
+      only_what_is_said_is_kept (machine q) (time_passes q) (items_are_numbered q) (soft_path q o a.0 a.1) (path_keeps q o a.0 a.1 a.2) (IsSoundAt o a.0 a.1) (λ v v0 b f. subst (IsSoundAt o a.0 a.1) (sym b) f) rs w calm known
+      (hold_keep (machine q) (λ u. IsKnown q o u × Level d u) (SaysOnly (machine q) (soft_path q o a.0 a.1) (IsSoundAt o a.0 a.1) w.made)
       (λ s u quiet b b' j. says_step d w.made a.0 a.1 a.3 s u (quiet_of q s quiet) b b' j) rs w calm both
       (λ y v i born says. let old = ((hold_start (machine q) (IsKnown q o) rs w known).bounds.flight y i).born in absurd (omega arith))))
 
@@ -212,8 +212,8 @@ paths_are_sound q w rs calm bounds =
 
 -- ---- one hop of a Path: only what is said is kept
 pub only_said_paths_are_kept : (q : ℕ) (w : World) (k : SenderKey) (e : ℕ) → e < length w.net.ends → (allowed : PathValue → Bool) (rs : List (List Step)) → Rounds (machine q) rs w → Hold (machine q) 0 rs w (AreBounds q)
-    → Hold (machine q) 0 rs w (SaysOnly (machine q) (path_line q w k e) (λ v. allowed v ≡ true) w.made)
-    → Hold (machine q) 5 rs w (λ u. KeepsOnly (machine q) (path_line q w k e) (λ v. allowed v ≡ true) u × SaysOnly (machine q) (path_line q w k e) (λ v. allowed v ≡ true) 0 u)
+    → Hold (machine q) 0 rs w (SaysOnly (machine q) (soft_path q w k e) (λ v. allowed v ≡ true) w.made)
+    → Hold (machine q) 5 rs w (λ u. KeepsOnly (machine q) (soft_path q w k e) (λ v. allowed v ≡ true) u × SaysOnly (machine q) (soft_path q w k e) (λ v. allowed v ≡ true) 0 u)
 only_said_paths_are_kept q w k e lt allowed rs calm bounds says =
-    only_what_is_said_is_kept (machine q) (time_passes q) (items_are_numbered q) (path_line q w k e) (path_keeps q w k e lt) (λ v. allowed v ≡ true)
+    only_what_is_said_is_kept (machine q) (time_passes q) (items_are_numbered q) (soft_path q w k e) (path_keeps q w k e lt) (λ v. allowed v ≡ true)
     (λ v v0 b f. ap allowed b ∙ f) rs w calm (known_hold q w rs calm bounds) says

@@ -4,9 +4,9 @@ use Rattle.rsvp_base.specs.Table.{get}
 use Rattle.calm_rounds.specs.Rounds.{Rounds}
 use Rattle.router_rules.specs.Facts.{PathState}
 use Rattle.router_rules.specs.Inputs.{StalePath}
-use Rattle.router_rules.specs.Line.{s1, session, first, usual}
+use Rattle.router_rows.specs.ThreeRouters.{s1, session, first, usual}
 use Rattle.tree_model.specs.Ranks.{longest}
-use Rattle.network_model.specs.Bounds.{AreBounds, AreLocals}
+use Rattle.network_model.specs.Bounds.{AreBounds, AreHosts}
 use Rattle.network_model.specs.Locals.{IsLive}
 use Rattle.network_model.specs.Runs.{Plan, first_facts, first_world}
 use Rattle.network_model.specs.Sound.{ArePathsComplete, ArePathsSound}
@@ -17,7 +17,7 @@ use Rattle.network_steps.specs.Rounds.{rounds_of}
 
 pub record MeetsThePremises : Type 0 where
   pub bounds : AreBounds 7500 sending_world
-  pub locals : AreLocals sending_world
+  pub locals : AreHosts sending_world
   pub live : IsLive sending_world (session, first) usual
   pub hop : longest sending_world.net ≡ 1
   -- however many rounds, they are calm

@@ -1,4 +1,4 @@
-pub mod Lines
+pub mod SoftPaths
 pub mod Telling
 pub mod Said
 pub mod Example

@@ -11,7 +11,7 @@ use Rattle.rsvp_messages.specs.declared.message.Message.TheVariants as message
 use Rattle.tree_model.specs.Goals.{addr_of}
 use Rattle.router_rules.specs.Facts.{SenderKey, sender_keys}
 use Rattle.router_rules.specs.Inputs.{Arrival, Spelt, Unspelt}
-use Rattle.tree_model.specs.declared.hops.Hop.{Hop}
+use Rattle.tree_model.specs.declared.hops.LinkHop.{LinkHop}
 use Rattle.tree_model.specs.Networks.{node_of, iface_of}
 use Rattle.tree_model.specs.Trees.{tree, depth}
 use Rattle.network_model.specs.Locals.{IsLive}
@@ -19,7 +19,7 @@ use Rattle.network_model.specs.Sound.{ArePathsSound}
 use Rattle.network_model.specs.Steps.{sender_of}
 use Rattle.network_model.specs.Worlds.{Item, World}
 use Rattle.network_steps.specs.Known.{IsKnown}
-use Rattle.settle_paths.specs.Lines.{path_at, by_iface}
+use Rattle.settle_paths.specs.SoftPaths.{path_at, by_iface}
 
 -- ---- letters: Paths and PathTears of the key that come to the end
 abbrev pub is_of : SenderKey → Session → Option Sender → Bool
@@ -50,7 +50,7 @@ life_of q (Unspelt e) = 0
 -- ---- paths are complete to a depth: at each hop of a live sender's tree to a node that is so many hops from the root at most
 abbrev pub IsCompleteTo : World → ℕ → World → Type 0
 IsCompleteTo o d u =
-    (k : SenderKey) (t : TokenBucket) (h : Hop) → IsLive o k t → In h (tree o.net.hops k.0.group k.1.addr) → depth o.net k.0.group k.1.addr (node_of o.net.ends h.to) ≤ d
+    (k : SenderKey) (t : TokenBucket) (h : LinkHop) → IsLive o k t → In h (tree o.net.hops k.0.group k.1.addr) → depth o.net k.0.group k.1.addr (node_of o.net.ends h.to) ≤ d
     → (dies : ℕ) × (by_iface (iface_of o.net.ends h.to) (path_at u (node_of o.net.ends h.to) k) ≡ Some ((addr_of o.net h.from, t), dies))
 
 -- ---- a known world in which paths are sound, and complete to a depth

@@ -3,23 +3,23 @@ ghost use Rattle.std.specs.Prelude.{◌≡◌, ◌+◌, ◌*◌, ◌<◌, ◌≤
 ghost use Rattle.rsvp_base.specs.Members.{In};
 ghost use Rattle.rsvp_base.specs.TokenBucket.{TokenBucket};
 ghost use Rattle.tree_model.specs.Goals.{addr_of};
-ghost use Rattle.tree_model.specs.declared.hops.Hop.{Hop};
+ghost use Rattle.tree_model.specs.declared.hops.LinkHop.{LinkHop};
 ghost use Rattle.tree_model.specs.Networks.{node_of};
 ghost use Rattle.tree_model.specs.Ranks.{longest};
 ghost use Rattle.tree_model.specs.Trees.{tree, depth};
 ghost use Rattle.tree_model.specs.Valid.{IsValid};
 ghost use Rattle.calm_rounds.specs.Hold.{Hold};
-ghost use Rattle.calm_rounds.specs.Lines.{KeepsOnly, SaysOnly, Stands};
+ghost use Rattle.calm_rounds.specs.SoftStates.{KeepsOnly, SaysOnly, Stands};
 ghost use Rattle.calm_rounds.specs.Rounds.{Rounds};
 ghost use Rattle.router_rules.specs.Facts.{SenderKey};
-ghost use Rattle.network_model.specs.Bounds.{AreBounds, AreLocals};
+ghost use Rattle.network_model.specs.Bounds.{AreBounds, AreHosts};
 ghost use Rattle.network_model.specs.Links.{is_group};
 ghost use Rattle.network_model.specs.Locals.{IsLive};
 ghost use Rattle.network_model.specs.Sound.{ArePathsComplete, ArePathsSound};
 ghost use Rattle.network_model.specs.Steps.{Step, machine};
 ghost use Rattle.network_model.specs.Worlds.{World};
 ghost use Rattle.settle_paths.specs.Example.{APathIsLeftOver, MeetsThePremises};
-ghost use Rattle.settle_paths.specs.Lines.{PathValue, path_line};
+ghost use Rattle.settle_paths.specs.SoftPaths.{PathValue, soft_path};
 ghost use Rattle.settle_paths.specs.PreviousHops.{ArePreviousHops, AreAllPreviousHops};
 ghost use Rattle.settle_paths.specs.Said.{IsSaidPath};
 ghost use Rattle.settle_paths.specs.Sure.{IsSureOfPaths};
@@ -29,8 +29,8 @@ ghost use Rattle.settle_paths.specs.Telling.{IsSure};
 /// the fifth calm round on the path there is one that is allowed, and the Paths in flight say only that.
 pub fn only_said_paths_are_kept()
     ensures { (q : ℕ) (w : World) (k : SenderKey) (e : ℕ) → e < length w.net.ends → (allowed : PathValue → Bool) (rs : List (List Step)) → Rounds (machine q) rs w → AreBounds q w
-        → Hold (machine q) 0 rs w (SaysOnly (machine q) (path_line q w k e) (λ v. allowed v ≡ true) w.made)
-        → Hold (machine q) 5 rs w (λ u. KeepsOnly (machine q) (path_line q w k e) (λ v. allowed v ≡ true) u × SaysOnly (machine q) (path_line q w k e) (λ v. allowed v ≡ true) 0 u) }
+        → Hold (machine q) 0 rs w (SaysOnly (machine q) (soft_path q w k e) (λ v. allowed v ≡ true) w.made)
+        → Hold (machine q) 5 rs w (λ u. KeepsOnly (machine q) (soft_path q w k e) (λ v. allowed v ≡ true) u × SaysOnly (machine q) (soft_path q w k e) (λ v. allowed v ≡ true) 0 u) }
 {}
 
 /// Paths are sound: in a network within bounds, 5 H + 4 calm rounds on, each path says what a live sender's tree says, and so
@@ -43,26 +43,26 @@ pub fn paths_are_sound()
 /// PathTear of the sender is sent over it, what arrives is taken, and the node before the hop knows the sender, two calm
 /// rounds on the path state there is the value, and stays so.
 pub fn said_paths_are_kept()
-    ensures { (q : ℕ) (w : World) (k : SenderKey) (h : Hop) (v : PathValue) → In h (tree w.net.hops k.0.group k.1.addr) → is_group k.0.group ≡ true → (rs : List (List Step)) → Rounds (machine q) rs w → AreBounds q w
-        → Hold (machine q) 0 rs w (IsSaidPath q w.net k h v w.made) → Hold (machine q) 2 rs w (Stands (machine q) (path_line q w k h.to) v) }
+    ensures { (q : ℕ) (w : World) (k : SenderKey) (h : LinkHop) (v : PathValue) → In h (tree w.net.hops k.0.group k.1.addr) → is_group k.0.group ≡ true → (rs : List (List Step)) → Rounds (machine q) rs w → AreBounds q w
+        → Hold (machine q) 0 rs w (IsSaidPath q w.net k h v w.made) → Hold (machine q) 2 rs w (Stands (machine q) (soft_path q w k h.to) v) }
 {}
 
 /// So it is with a live sender's Path, where the node before the hop knows the sender and paths are sound: the value is the
 /// address of the node before, with the sender's flow.
 pub fn live_paths_are_kept()
-    ensures { (q : ℕ) (w : World) (d : ℕ) (k : SenderKey) (t : TokenBucket) (h : Hop) → AreLocals w → IsLive w k t → In h (tree w.net.hops k.0.group k.1.addr) → depth w.net k.0.group k.1.addr (node_of w.net.ends h.to) ≤ suc d
-        → (rs : List (List Step)) → Rounds (machine q) rs w → Hold (machine q) 0 rs w (IsSure q w d) → Hold (machine q) 2 rs w (Stands (machine q) (path_line q w k h.to) (addr_of w.net h.from, t)) }
+    ensures { (q : ℕ) (w : World) (d : ℕ) (k : SenderKey) (t : TokenBucket) (h : LinkHop) → AreHosts w → IsLive w k t → In h (tree w.net.hops k.0.group k.1.addr) → depth w.net k.0.group k.1.addr (node_of w.net.ends h.to) ≤ suc d
+        → (rs : List (List Step)) → Rounds (machine q) rs w → Hold (machine q) 0 rs w (IsSure q w d) → Hold (machine q) 2 rs w (Stands (machine q) (soft_path q w k h.to) (addr_of w.net h.from, t)) }
 {}
 
 /// Paths are complete: where paths are sound, 2 H calm rounds on each live sender has its path at each hop of its tree.
 pub fn paths_are_complete()
-    ensures { (q : ℕ) (w : World) (rs : List (List Step)) → Rounds (machine q) rs w → AreLocals w → AreBounds q w → Hold (machine q) 0 rs w ArePathsSound → Hold (machine q) (2 * longest w.net) rs w ArePathsComplete }
+    ensures { (q : ℕ) (w : World) (rs : List (List Step)) → Rounds (machine q) rs w → AreHosts w → AreBounds q w → Hold (machine q) 0 rs w ArePathsSound → Hold (machine q) (2 * longest w.net) rs w ArePathsComplete }
 {}
 
 /// Paths settle: in a network within bounds, 7 H + 4 calm rounds on, paths are sound and complete, whatever nodes kept and
 /// whatever was in flight.
 pub fn paths_settle()
-    ensures { (q : ℕ) (w : World) (rs : List (List Step)) → Rounds (machine q) rs w → AreLocals w → AreBounds q w
+    ensures { (q : ℕ) (w : World) (rs : List (List Step)) → Rounds (machine q) rs w → AreHosts w → AreBounds q w
         → Hold (machine q) ((4 + 5 * longest w.net) + 2 * longest w.net) rs w (λ u. ArePathsSound u × ArePathsComplete u) }
 {}
 
@@ -75,7 +75,7 @@ pub fn previous_hops_are_hops()
 /// Where paths are complete too, the senders via a previous hop are exactly the names over its hop, and a node knows exactly
 /// the live senders whose tree begins at it or comes to it.
 pub fn previous_hops_are_all_hops()
-    ensures { (w : World) → IsValid w.net → AreLocals w → ArePathsSound w → ArePathsComplete w → AreAllPreviousHops w }
+    ensures { (w : World) → IsValid w.net → AreHosts w → ArePathsSound w → ArePathsComplete w → AreAllPreviousHops w }
 {}
 
 /// A small network meets the premises of these laws, and at its start what they promise does not hold yet.

@@ -25,13 +25,13 @@ use Rattle.router_rules.specs.Asking.{ask_of}
 use Rattle.router_rules.specs.Facts.{Facts, ResvState, resvs_of}
 use Rattle.router_rules.specs.Inputs.{Arrival, Came, Spelt, Unspelt, WantAs}
 use Rattle.router_rules.specs.Known.{known, named_as}
-use Rattle.router_rules.specs.Line.{s1, r1, session, usual}
-use Rattle.router_rules.specs.Place.{is_addr, is_session, lifetime}
+use Rattle.router_rows.specs.ThreeRouters.{s1, r1, session, usual}
+use Rattle.router_rules.specs.NodeConfig.{is_addr, is_session, lifetime}
 use Rattle.router_rules.specs.Requests.{toward}
 use Rattle.router_lookups.proofs.Tests.{addr_told, session_told}
 use Rattle.tree_model.proofs.Following.{same_number}
 use Rattle.network_model.specs.Bounds.{AreBounds}
-use Rattle.network_model.specs.Laws.{place_in}
+use Rattle.network_model.specs.Laws.{config_in}
 use Rattle.network_model.specs.Steps.{At, Deliver as Delivers, step, machine}
 use Rattle.network_model.specs.Worlds.{Item, World}
 use Rattle.network_steps.specs.Example.{pair_net, sending_world}
@@ -40,7 +40,7 @@ use Rattle.network_steps.proofs.Calming.{calm_rounds}
 use Rattle.network_steps.proofs.Example.{a_pair_stays_within_bounds}
 use Rattle.network_steps.proofs.Keeping.{each_step_keeps_a_world_within_bounds}
 use Rattle.settle_resvs.specs.Example.{asking_world, back, asked, SaysAReservation}
-use Rattle.settle_resvs.specs.ResvLines.{SaysResv, line_key_of}
+use Rattle.settle_resvs.specs.SoftResvs.{SaysResv, line_key_of}
 use Rattle.settle_resvs.specs.Said.{IsSaid, lane_of, resv_key}
 use Rattle.network_steps.proofs.Computed.{Passes, through}
 
@@ -60,11 +60,11 @@ is_kept d None = false
 is_kept d (Some r) = is_asked r.part && (r.dies == d)
 
 abbrev then_kept : World → Item → ResvMsg → Facts → Option ResvState
-then_kept u y m f = get (resvs_of Wild (facts_then (place_in 7500 u 0) (place_in 7500 u 0) u.clock (Came 0 y.dst (Spelt (message.Resv m))) f)) (line_key_of pair_net (resv_key pair_net back))
+then_kept u y m f = get (resvs_of Wild (facts_then (config_in 7500 u 0) (config_in 7500 u 0) u.clock (Came 0 y.dst (Spelt (message.Resv m))) f)) (line_key_of pair_net (resv_key pair_net back))
 
 abbrev does_take : World → Item → ResvMsg → Option Facts → Bool
 does_take u y m None = true
-does_take u y m (Some f) = is_kept (u.clock + lifetime (place_in 7500 u 0) m.period) (then_kept u y m f)
+does_take u y m (Some f) = is_kept (u.clock + lifetime (config_in 7500 u 0) m.period) (then_kept u y m f)
 
 abbrev is_fine_message : World → Item → Message → Bool
 is_fine_message u y (message.Resv m) = does_say y m && does_take u y m (slice_get u.nodes 0)
@@ -84,7 +84,7 @@ has_ask (Some a) = true
 
 abbrev does_ask : World → Option Facts → Bool
 does_ask u None = true
-does_ask u (Some f) = has_ask (ask_of Wild (toward (place_in 7500 u 1) f (lane_of pair_net back)))
+does_ask u (Some f) = has_ask (ask_of Wild (toward (config_in 7500 u 1) f (lane_of pair_net back)))
 
 abbrev does_know : Option Facts → Bool
 does_know None = true
@@ -145,8 +145,8 @@ said_told b u t =
       spared = λ y m i born spelt over t. let no : false ≡ true = fine y (message.ResvTear m) i spelt in absurd (cc);
       taken = λ y i born says f there.
           let both = and_both (does_say y says.resv) (does_take u y says.resv (slice_get u.nodes 0)) (fine y (message.Resv says.resv) i says.spelt) in
-          kept_told (u.clock + lifetime (place_in 7500 u 0) says.resv.period) (then_kept u y says.resv f) (ap (does_take u y says.resv) (sym there) ∙ both.1);
-      asks = λ f there. some_ask (ask_of Wild (toward (place_in 7500 u 1) f (lane_of pair_net back))) (ap (does_ask u) (sym there) ∙ two.0);
+          kept_told (u.clock + lifetime (config_in 7500 u 0) says.resv.period) (then_kept u y says.resv f) (ap (does_take u y says.resv) (sym there) ∙ both.1);
+      asks = λ f there. some_ask (ask_of Wild (toward (config_in 7500 u 1) f (lane_of pair_net back))) (ap (does_ask u) (sym there) ∙ two.0);
       known = λ f there x h. (part_at_most_told asked (record { senders = named_as Wild (known f session); flow = usual }) (ap does_know (sym there) ∙ two.1)).names x h;
     }
 

@@ -1,3 +1,3 @@
-pub mod ResvLines
+pub mod SoftResvs
 pub mod Said
 pub mod Example

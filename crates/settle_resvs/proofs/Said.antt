@@ -25,7 +25,7 @@ use Rattle.rsvp_messages.specs.declared.message.ResvTearMsg.{ResvTearMsg}
 use Rattle.rsvp_messages.specs.Units.{ask_style, tear_names, tear_style}
 use Rattle.style_rules.specs.Lines.{LineKey}
 use Rattle.calm_rounds.specs.Hold.{Hold}
-use Rattle.calm_rounds.specs.Lines.{Line, DueLaws, Good, Moves, Stands}
+use Rattle.calm_rounds.specs.SoftStates.{SoftState, DueLaws, Good, Moves, Stands}
 use Rattle.calm_rounds.specs.Rounds.{Rounds}
 use Rattle.calm_rounds.proofs.Holding.{hold_map, hold_both, hold_start, hold_keep}
 use Rattle.calm_rounds.proofs.Renewing.{what_is_said_is_kept}
@@ -33,9 +33,8 @@ use Rattle.tree_model.specs.Goals.{addr_of}
 use Rattle.router_rules.specs.Asking.{ask_of, stays}
 use Rattle.router_rules.specs.Facts.{Facts, PathState, ResvState, resvs_of}
 use Rattle.router_rules.specs.Inputs.{Arrival, Input, Came, Send, Spelt, Unspelt}
-use Rattle.router_rules.specs.Known.{known, named_as, lanes}
-use Rattle.router_rules.specs.Known.{Lane as HopLane}
-use Rattle.router_rules.specs.Place.{Place, own, is_addr, is_session, lifetime}
+use Rattle.router_rules.specs.Known.{Lane, known, named_as, lanes}
+use Rattle.router_rules.specs.NodeConfig.{NodeConfig, own, is_addr, is_session, lifetime}
 use Rattle.router_rules.specs.Requests.{toward, is_style}
 use Rattle.router_rules.specs.Rule.{Outcome}
 use Rattle.router_rules.specs.Sends.{resv_send}
@@ -43,7 +42,7 @@ use Rattle.router_lookups.proofs.Asks.{style_told as ask_told}
 use Rattle.router_lookups.proofs.Knowing.{has-known, lanes_told, counted_made}
 use Rattle.router_lookups.proofs.Requesting.{nowhere}
 use Rattle.router_lookups.proofs.Tests.{ties, addr_told, addr_tested, session_told, style_told}
-use Rattle.router_rules.specs.Steps.{facts_then}
+use Rattle.router_rules.specs.Steps.{facts_then, node_step}
 use Rattle.router_steps.proofs.Speaking.{refreshes_are_marked}
 use Rattle.router_resvs.specs.ReservationLaws.{TakesName, Touches, TouchesBy}
 use Rattle.router_resvs.proofs.Asking.{what_keeps_a_reservation_fact}
@@ -53,10 +52,10 @@ use Rattle.tree_model.specs.Valid.{IsValid}
 use Rattle.tree_model.proofs.Following.{same_number, number_same}
 use Rattle.tree_model.proofs.Ifaces.{interfaces_are_ends}
 use Rattle.network_model.specs.Bounds.{AreBounds}
-use Rattle.network_model.specs.Laws.{place_in}
+use Rattle.network_model.specs.Laws.{config_in}
 use Rattle.network_model.specs.Links.{is_group, goes_to, copy_to}
-use Rattle.network_model.specs.Steps.{Step, Lane, OfSender, OfStyle, is_quiet, ms_of, arrived, input_at, outcome, still, lane, arrival_lane, path_lane, sender_of, sent, step, machine}
-use Rattle.network_model.specs.Worlds.{Item, World, place_of}
+use Rattle.network_model.specs.Steps.{Step, Track, OfSender, OfStyle, is_quiet, ms_of, arrived, input_at, outcome, still, track, arrival_track, path_track, sender_of, sent, step, machine}
+use Rattle.network_model.specs.Worlds.{Item, World, config_of}
 use Rattle.network_model.proofs.Changing.{where_a_send_goes}
 use Rattle.network_model.proofs.Machines.{quiet_of, time_passes, items_are_numbered, in_flight_after, in_arrived}
 use Rattle.network_model.proofs.Quiet.{IsWaited, IsCame, FollowsRule, input_found, arrival_takes_no_time, net_quiet, outcome_by, outcome_quiet}
@@ -67,9 +66,9 @@ use Rattle.network_steps.proofs.Due.{full_life, due_found, due_made, due_moves, 
 use Rattle.network_steps.proofs.Known.{of_some, has_some, or_true, known_hold, node_there, end_found, came_there}
 use Rattle.network_steps.proofs.Sends.{sent_by_rule}
 use Rattle.network_steps.proofs.Standing.{own_end, peer_there, linked_there}
-use Rattle.settle_resvs.specs.ResvLines.{SaysResv, IsCut, line_key_of, resv_at, kept_of, kept_at, resv_line}
+use Rattle.settle_resvs.specs.SoftResvs.{SaysResv, IsCut, line_key_of, resv_at, kept_of, kept_at, soft_resv}
 use Rattle.settle_resvs.specs.Said.{HopKey, IsOver, IsSaid, lane_of, resv_key}
-use Rattle.settle_resvs.proofs.ResvLines.{resv_found, resv_made, kept_found}
+use Rattle.settle_resvs.proofs.SoftResvs.{resv_found, resv_made, kept_found}
 
 -- ---- letters: Resvs of the session and style, from the end that asks to the end that keeps, and such ResvTears that take a
 -- name of the part
@@ -124,8 +123,8 @@ life_of q (Unspelt e) = 0
 full_period : (q : ℕ) (s : Step) (u : World) (y : Item) (b : Bool) (m : ResvMsg) → is_quiet s ≡ true → AreBounds q u → In (y, b) (sent q s u) → y.arrival ≡ Spelt (message.Resv m) → m.period ≡ 4 * q
 full_period q s u y b m quiet bounds i spelt =
     let r = sent_by_rule q s u y b (message.Resv m) quiet i spelt in
-    let p : Place = place_of q u.net u.trees r.node in
-    (what_a_resv_sent_says.says p p u.clock (u.clock + ms_of s) r.by.input r.facts (bounds.facts r.node r.facts r.there) r.send m r.sent r.says).period
+    let p : NodeConfig = config_of q u.net u.trees r.node in
+    (what_a_resv_sent_says.says (node_step p p u.clock (u.clock + ms_of s) r.by.input r.facts) (bounds.facts r.node r.facts r.there) r.send m r.sent r.says).period
 
 abbrev AreFull : ℕ → ℕ → World → Type 0
 AreFull q b u = (y : Item) (m : ResvMsg) → In y u.flight → b ≤ y.born → y.arrival ≡ Spelt (message.Resv m) → m.period ≡ 4 * q
@@ -164,10 +163,10 @@ module _ (q : ℕ) (o : World) (k : HopKey) (valid : IsValid o.net) (linked : In
     pub said : IsSaid q o.net k v b u
     pub full : AreFull q b u
 
-  abbrev over : Lane
+  abbrev over : Track
   over = record { from = addr_of o.net k.from; to = k.to; session = k.session; key = OfStyle k.style }
 
-  abbrev line : Line World Step Item Lane Part
+  abbrev line : SoftState World Step Item Track Part
   line = record {
     sane = IsFirm;
     kept = kept_at o.net (resv_key o.net k);
@@ -177,7 +176,7 @@ module _ (q : ℕ) (o : World) (k : HopKey) (valid : IsValid o.net) (linked : In
     below = IsCut;
     due = λ u. due_at u at_from k.session;
     fires = Refreshes at_from k.session;
-    lane = Some over;
+    track = Some over;
   }
 
   -- ---- a letter says the part, for a full lifetime
@@ -211,7 +210,7 @@ module _ (q : ℕ) (o : World) (k : HopKey) (valid : IsValid o.net) (linked : In
   takes : (s : Step) (u : World) (y : Item) → is_quiet s ≡ true → IsFirm u → arrived s u ≡ Some y → b ≤ y.born → SaysResv o.net (resv_key o.net k) y v → life_of q y.arrival ≡ 21 * q → kept_at o.net (resv_key o.net k) (step q s u) ≡ Some (v, u.clock + 21 * q)
   takes s u y quiet g arr born says life =
       let f = node_there q o valid u k.to g.known lt in
-      let p : Place = place_of q u.net u.trees at_to in
+      let p : NodeConfig = config_of q u.net u.trees at_to in
       let input : Input = Came (iface_of o.net.ends k.to) y.dst (Spelt (message.Resv says.resv)) in
       let came : input_at s u at_to ≡ Some input = came_there q o u g.known k.to lt s y arr says.end ∙ (λ i. Some (Came (iface_of o.net.ends k.to) y.dst (says.spelt i))) in
       let taken = g.said.taken y (in_arrived s u y arr) born says f.0 f.1 in
@@ -227,8 +226,8 @@ module _ (q : ℕ) (o : World) (k : HopKey) (valid : IsValid o.net) (linked : In
   counts : (u : World) → IsFirm u → (t : ℕ) × (due_at u at_from k.session ≡ Some t)
   counts u g =
       let f = node_there q o valid u k.from g.known from_there in
-      let p : Place = place_of q u.net u.trees at_from in
-      let l : HopLane = lane_of o.net k in
+      let p : NodeConfig = config_of q u.net u.trees at_from in
+      let l : Lane = lane_of o.net k in
       let ask = g.said.asks f.0 f.1 in
       let by = lanes_told f.0 l (is_lane f.0 l p ask.0 ask.1 (has (lanes f.0) l) refl) in
       let path : has f.0.paths (k.session, by.0) ≡ true = ap (λ (z : Option PathState). is_some z) by.1.there in
@@ -237,7 +236,7 @@ module _ (q : ℕ) (o : World) (k : HopKey) (valid : IsValid o.net) (linked : In
       let m = has_some (get f.0.due k.session) due in
       (m.0, due_made u at_from k.session m.0 f.0 f.1 m.1)
     where
-      is_lane : (f : Facts) (l : HopLane) (p : Place) (a : Ask) → ask_of l.style (toward p f l) ≡ Some a → (x : Bool) → has (lanes f) l ≡ x → has (lanes f) l ≡ true
+      is_lane : (f : Facts) (l : Lane) (p : NodeConfig) (a : Ask) → ask_of l.style (toward p f l) ≡ Some a → (x : Bool) → has (lanes f) l ≡ x → has (lanes f) l ≡ true
       is_lane f l p a e true h = h
       is_lane f l p a e false h = absurd (asks_of_none l.style a (sym (ap (ask_of l.style) (nowhere p f l h)) ∙ e))
 
@@ -285,7 +284,7 @@ module _ (q : ℕ) (o : World) (k : HopKey) (valid : IsValid o.net) (linked : In
   rests s u dies quiet g g' none kept later =
       let x = kept_found (resv_at u at_to k.style key) v dies kept in
       let f = resv_found u at_to k.style key x.0 x.1 in
-      let p : Place = place_of q u.net u.trees at_to in
+      let p : NodeConfig = config_of q u.net u.trees at_to in
       let c : ℕ = u.clock + ms_of s in
       let after : slice_get (step q s u).nodes at_to ≡ Some (outcome q s u at_to f.0).facts = facts_after_made q s u at_to f.0 f.1 in
       let ends : get (resvs_of k.style (outcome q s u at_to f.0).facts) key ≡ Some x.0 → kept_at o.net (resv_key o.net k) (step q s u) ≡ Some (v, dies) =
@@ -299,7 +298,7 @@ module _ (q : ℕ) (o : World) (k : HopKey) (valid : IsValid o.net) (linked : In
       (λ name has_it. ap (λ (z : Facts). has (named_as k.style (known z k.session)) name) (sym same) ∙ g'.said.known (outcome q s u at_to f.0).facts after name (ap (λ (z : Part). has z.senders name) x.2 ∙ has_it)) in
       ends
       (ap (λ (z : Facts). get (resvs_of k.style z) key) same
-      ∙ what_keeps_a_reservation_fact.whole p p u.clock c r.input f.0 (g.known.bounds.facts at_to f.0 f.1) k.style key x.0 f.2 lives (untouched s u g.known none quiet x.0 (sym x.2) r.input (input_found s u at_to r.input quiet r.came)) all))
+      ∙ what_keeps_a_reservation_fact.whole (node_step p p u.clock c r.input f.0) (g.known.bounds.facts at_to f.0 f.1) k.style key x.0 f.2 lives (untouched s u g.known none quiet x.0 (sym x.2) r.input (input_found s u at_to r.input quiet r.came)) all))
       (outcome_quiet q s u at_to f.0 quiet)
 
   -- ---- the refresh of the hop
@@ -313,11 +312,11 @@ module _ (q : ℕ) (o : World) (k : HopKey) (valid : IsValid o.net) (linked : In
       by true e peer addr = subst (λ (z : List ℕ). In k.to z) (sym ((where_a_send_goes u.net k.from (addr_of o.net k.to)).group e)) peer
       by false e peer addr = ((where_a_send_goes u.net k.from (addr_of o.net k.to)).one e k.to peer addr k.to).1 (peer, addr)
 
-  calls : (s : Step) (u : World) → is_quiet s ≡ true → IsFirm u → IsFirm (step q s u) → Refreshes at_from k.session s u → (y : Item) × In (y, true) (sent q s u) × (lane y ≡ Some over)
+  calls : (s : Step) (u : World) → is_quiet s ≡ true → IsFirm u → IsFirm (step q s u) → Refreshes at_from k.session s u → (y : Item) × In (y, true) (sent q s u) × (track y ≡ Some over)
   calls s u quiet g g' r =
-      let p : Place = place_of q u.net u.trees at_from in
+      let p : NodeConfig = config_of q u.net u.trees at_from in
       let c : ℕ = u.clock + ms_of s in
-      let l : HopLane = lane_of o.net k in
+      let l : Lane = lane_of o.net k in
       let o_facts : Facts = (outcome q s u at_from r.facts).facts in
       let at : end_at u.net.ends at_from (iface_of o.net.ends k.from) ≡ Some k.from =
       subst (λ (z : Net). end_at z.ends at_from (iface_of o.net.ends k.from) ≡ Some k.from) (sym g.known.same.net) ((interfaces_are_ends o.net).end_of_iface k.from from_there) in
@@ -328,9 +327,9 @@ module _ (q : ℕ) (o : World) (k : HopKey) (valid : IsValid o.net) (linked : In
       let ask = g'.said.asks o_facts after in
       let same : facts_then p p c f.input r.facts ≡ o_facts = ap (λ (z : Outcome). z.facts) (sym f.is) in
       let asks : ask_of l.style (toward p (facts_then p p c f.input r.facts) l) ≡ Some ask.0 =
-      ap (λ (z : Net). ask_of l.style (toward (place_of q z u.trees at_from) (facts_then p p c f.input r.facts) l)) (sym (net_quiet s u quiet))
-      ∙ ap (λ (z : Facts). ask_of l.style (toward (place_in q (step q s u) at_from) z l)) same ∙ ask.1 in
-      let refresh = refreshes_are_marked.resvs p p u.clock c f.input r.facts within l ask.0 two.1 asks in
+      ap (λ (z : Net). ask_of l.style (toward (config_of q z u.trees at_from) (facts_then p p c f.input r.facts) l)) (sym (net_quiet s u quiet))
+      ∙ ap (λ (z : Facts). ask_of l.style (toward (config_in q (step q s u) at_from) z l)) same ∙ ask.1 in
+      let refresh = refreshes_are_marked.resvs (node_step p p u.clock c f.input r.facts) within l ask.0 two.1 asks in
       let send : Send = resv_send p (facts_then p p c f.input r.facts) l refresh.0 true ask.0 in
       let sends : In send (outcome q s u at_from r.facts).sent = subst (λ (z : Outcome). In send z.sent) (sym f.is) refresh.1 in
       let made = copies_made u.net u.made at_from (outcome q s u at_from r.facts).sent send k.to sends (goes u g.known (end_at u.net.ends at_from (iface_of o.net.ends k.from)) at) in
@@ -338,22 +337,22 @@ module _ (q : ℕ) (o : World) (k : HopKey) (valid : IsValid o.net) (linked : In
       let style_is : ask_style ask.0 ≡ k.style = ask_told l.style (toward p (facts_then p p c f.input r.facts) l) ask.0 asks in
       ((copy_to u.made send k.to).0, sent_made q s u at_from r.facts (copy_to u.made send k.to) r.there made, (λ i. Some (record { from = own_is i; to = k.to; session = k.session; key = OfStyle (style_is i) })))
 
-  -- what goes on the lane is a letter
-  on_lane : (y : Item) → lane y ≡ Some over → is_letter o.net k v y ≡ true
-  on_lane y e = by y.arrival refl e
+  -- what goes on the track is a letter
+  on_track : (y : Item) → track y ≡ Some over → is_letter o.net k v y ≡ true
+  on_track y e = by y.arrival refl e
     where
-      no_path : (m : PathMsg) (x : Option Sender) → path_lane y.end m.hop.addr m.session x ≡ Some over → ⊥
+      no_path : (m : PathMsg) (x : Option Sender) → path_track y.end m.hop.addr m.session x ≡ Some over → ⊥
       no_path m None f = absurd (cc)
-      no_path m (Some x) f = let same = of_some _ over f in let bad : OfSender x ≡ OfStyle k.style = ap (λ (z : Lane). z.key) same in absurd (cc)
+      no_path m (Some x) f = let same = of_some _ over f in let bad : OfSender x ≡ OfStyle k.style = ap (λ (z : Track). z.key) same in absurd (cc)
 
-      by_message : (m : Message) → y.arrival ≡ Spelt m → arrival_lane y.end (Spelt m) ≡ Some over → is_letter o.net k v y ≡ true
+      by_message : (m : Message) → y.arrival ≡ Spelt m → arrival_track y.end (Spelt m) ≡ Some over → is_letter o.net k v y ≡ true
       by_message (message.Resv m) a f =
-          let same : ◌≡◌ {A = Lane} (record { from = m.hop.addr; to = y.end; session = m.session; key = OfStyle (ask_style m.ask) }) over = of_some _ over f in
-          let to : y.end ≡ k.to = ap (λ (z : Lane). z.to) same in
-          let of : OfStyle (ask_style m.ask) ≡ OfStyle k.style = ap (λ (z : Lane). z.key) same in
+          let same : ◌≡◌ {A = Track} (record { from = m.hop.addr; to = y.end; session = m.session; key = OfStyle (ask_style m.ask) }) over = of_some _ over f in
+          let to : y.end ≡ k.to = ap (λ (z : Track). z.to) same in
+          let of : OfStyle (ask_style m.ask) ≡ OfStyle k.style = ap (λ (z : Track). z.key) same in
           let style : ask_style m.ask ≡ k.style = cc in
           and_made _ _ (number_same y.end k.to to)
-          (ap (letter_arrival o.net k v) a ∙ speaks_made o.net k m.session m.hop.addr (ask_style m.ask) (ap (λ (z : Lane). z.session) same) (ap (λ (z : Lane). z.from) same) style)
+          (ap (letter_arrival o.net k v) a ∙ speaks_made o.net k m.session m.hop.addr (ask_style m.ask) (ap (λ (z : Track). z.session) same) (ap (λ (z : Track). z.from) same) style)
       by_message (message.Path m) a f = absurd (no_path m (sender_of m.sender) f)
       by_message (message.PathTear m) a f = absurd (cc)
       by_message (message.PathErr m) a f = absurd (cc)
@@ -361,7 +360,7 @@ module _ (q : ℕ) (o : World) (k : HopKey) (valid : IsValid o.net) (linked : In
       by_message (message.ResvTear m) a f = absurd (cc)
       by_message (message.ResvConf m) a f = absurd (cc)
 
-      by : (x : Arrival) → y.arrival ≡ x → arrival_lane y.end x ≡ Some over → is_letter o.net k v y ≡ true
+      by : (x : Arrival) → y.arrival ≡ x → arrival_track y.end x ≡ Some over → is_letter o.net k v y ≡ true
       by (Spelt m) a f = by_message m a f
       by (Unspelt g) a f = absurd (cc)
 
@@ -369,7 +368,7 @@ module _ (q : ℕ) (o : World) (k : HopKey) (valid : IsValid o.net) (linked : In
   moves = record {
     rests = λ s u dies calm g g' none kept later. rests s u dies (quiet_of q s calm) g.sane g'.sane none kept later;
     calls = λ s u calm g g' r. calls s u (quiet_of q s calm) g.sane g'.sane r;
-    lanes = λ s u y calm g g' i e. on_lane y e;
+    tracks = λ s u y calm g g' i e. on_track y e;
   }
 
   falls_due : DueLaws (machine q) line
@@ -379,7 +378,7 @@ module _ (q : ℕ) (o : World) (k : HopKey) (valid : IsValid o.net) (linked : In
   }
 
 pub said_resvs_are_kept : (q : ℕ) (w : World) (k : HopKey) (v : Part) → In k.to (peers w.net.links k.from) → (rs : List (List Step)) → Rounds (machine q) rs w → Hold (machine q) 0 rs w (AreBounds q)
-    → Hold (machine q) 0 rs w (IsSaid q w.net k v w.made) → Hold (machine q) 2 rs w (Stands (machine q) (resv_line q w (resv_key w.net k)) v)
+    → Hold (machine q) 0 rs w (IsSaid q w.net k v w.made) → Hold (machine q) 2 rs w (Stands (machine q) (soft_resv q w (resv_key w.net k)) v)
 said_resvs_are_kept q w k v linked rs calm bounds said =
     let first : AreBounds q w = hold_start (machine q) (AreBounds q) rs w bounds in
     let firm : Hold (machine q) 0 rs w (IsFirm q w k first.net linked v w.made) =

@@ -7,17 +7,17 @@ use Rattle.rsvp_base.specs.declared.style.Unit.TheVariants.{One}
 use Rattle.rsvp_base.specs.Members.{In}
 use Rattle.rsvp_base.specs.Table.{empty}
 use Rattle.calm_rounds.specs.Hold.{Hold}
-use Rattle.calm_rounds.specs.Lines.{Stands}
+use Rattle.calm_rounds.specs.SoftStates.{Stands}
 use Rattle.calm_rounds.specs.Rounds.{Rounds}
 use Rattle.router_rules.specs.Inputs.{WantAs}
-use Rattle.router_rules.specs.Line.{session, scope, usual}
+use Rattle.router_rows.specs.ThreeRouters.{session, scope, usual}
 use Rattle.tree_model.specs.Networks.{peers}
 use Rattle.network_model.specs.Bounds.{AreBounds}
 use Rattle.network_model.specs.Steps.{At, Deliver, step, machine}
 use Rattle.network_model.specs.Worlds.{World}
 use Rattle.network_steps.specs.Example.{pair_net, sending_world}
 use Rattle.network_steps.specs.Rounds.{rounds_of}
-use Rattle.settle_resvs.specs.ResvLines.{resv_line}
+use Rattle.settle_resvs.specs.SoftResvs.{soft_resv}
 use Rattle.settle_resvs.specs.Said.{HopKey, IsSaid, resv_key}
 
 -- the first Path has come, and a host at the second node asks for what the sender sends
@@ -36,4 +36,4 @@ pub record SaysAReservation : Type 0 where
   pub rounds : Rounds (machine 7500) (rounds_of 7500 2 asking_world) asking_world
   pub said : Hold (machine 7500) 0 (rounds_of 7500 2 asking_world) asking_world (IsSaid 7500 pair_net back asked asking_world.made)
   -- what is promised does not hold yet
-  pub not_yet : Stands (machine 7500) (resv_line 7500 asking_world (resv_key pair_net back)) asked asking_world → ⊥
+  pub not_yet : Stands (machine 7500) (soft_resv 7500 asking_world (resv_key pair_net back)) asked asking_world → ⊥

@@ -19,13 +19,13 @@ use Rattle.router_rules.specs.Asking.{ask_of}
 use Rattle.router_rules.specs.Facts.{Facts, ResvState, resvs_of}
 use Rattle.router_rules.specs.Inputs.{Came, Spelt}
 use Rattle.router_rules.specs.Known.{Lane, known, named_as}
-use Rattle.router_rules.specs.Place.{lifetime}
+use Rattle.router_rules.specs.NodeConfig.{lifetime}
 use Rattle.router_rules.specs.Requests.{toward}
 use Rattle.tree_model.specs.Networks.{Net, node_of, iface_of}
-use Rattle.network_model.specs.Laws.{place_in}
+use Rattle.network_model.specs.Laws.{config_in}
 use Rattle.network_model.specs.Worlds.{Item, World}
 use Rattle.router_resvs.specs.ReservationLaws.{TakesName}
-use Rattle.settle_resvs.specs.ResvLines.{ResvKey, SaysResv, line_key_of}
+use Rattle.settle_resvs.specs.SoftResvs.{ResvKey, SaysResv, line_key_of}
 
 -- ---- a session, style and unit over a hop, from the end that asks to the end that keeps
 pub record HopKey : Type 0 where
@@ -52,11 +52,11 @@ lane_of net k = record { session = k.session; style = k.style; hop = (iface_of n
 
 -- the node of the end that keeps has the part once the item has come, for as long as the Resv sets it: it does not refuse the
 -- Resv, leave the unit out or cut it
-abbrev pub IsTaken : ℕ → Net → HopKey → Part → World → Item → ResvMsg → Type 0
-IsTaken q net k v u y m =
+abbrev pub IsKept : ℕ → Net → HopKey → Part → World → Item → ResvMsg → Type 0
+IsKept q net k v u y m =
     let n : ℕ = node_of net.ends k.to in
     (f : Facts) → slice_get u.nodes n ≡ Some f
-    → (r : ResvState) × (get (resvs_of k.style (facts_then (place_in q u n) (place_in q u n) u.clock (Came (iface_of net.ends k.to) y.dst (Spelt (message.Resv m))) f)) (line_key_of net (resv_key net k)) ≡ Some r) × (r.part ≡ v) × (r.dies ≡ u.clock + lifetime (place_in q u n) m.period)
+    → (r : ResvState) × (get (resvs_of k.style (facts_then (config_in q u n) (config_in q u n) u.clock (Came (iface_of net.ends k.to) y.dst (Spelt (message.Resv m))) f)) (line_key_of net (resv_key net k)) ≡ Some r) × (r.part ≡ v) × (r.dies ≡ u.clock + lifetime (config_in q u n) m.period)
 
 -- ---- the part is said over the hop and is kept, of what is sent from step b on
 pub record IsSaid (q : ℕ) (net : Net) (k : HopKey) (v : Part) (b : ℕ) (u : World) : Type 0 where
@@ -64,8 +64,8 @@ pub record IsSaid (q : ℕ) (net : Net) (k : HopKey) (v : Part) (b : ℕ) (u : W
   pub carried : (y : Item) (m : ResvMsg) → In y u.flight → b ≤ y.born → y.arrival ≡ Spelt (message.Resv m) → IsOver net k y m.session m.hop.addr (ask_style m.ask) → SaysResv net (resv_key net k) y v
   pub spared : (y : Item) (m : ResvTearMsg) → In y u.flight → b ≤ y.born → y.arrival ≡ Spelt (message.ResvTear m) → IsOver net k y m.session m.hop.addr (tear_style m.tear) → TakesName m v → ⊥
   -- each that arrives is taken
-  pub taken : (y : Item) → In y u.flight → b ≤ y.born → (says : SaysResv net (resv_key net k) y v) → IsTaken q net k v u y says.resv
+  pub taken : (y : Item) → In y u.flight → b ≤ y.born → (says : SaysResv net (resv_key net k) y v) → IsKept q net k v u y says.resv
   -- the node that asks has something to ask for
-  pub asks : (f : Facts) → slice_get u.nodes (node_of net.ends k.from) ≡ Some f → (ask : Ask) × (ask_of k.style (toward (place_in q u (node_of net.ends k.from)) f (lane_of net k)) ≡ Some ask)
+  pub asks : (f : Facts) → slice_get u.nodes (node_of net.ends k.from) ≡ Some f → (ask : Ask) × (ask_of k.style (toward (config_in q u (node_of net.ends k.from)) f (lane_of net k)) ≡ Some ask)
   -- the node that keeps knows each sender of the part
   pub known : (f : Facts) → slice_get u.nodes (node_of net.ends k.to) ≡ Some f → (x : Sender) → has v.senders x ≡ true → has (named_as k.style (known f k.session)) x ≡ true

@@ -19,17 +19,17 @@ use Rattle.style_rules.specs.Styles.{name_of}
 use Rattle.calm_rounds.proofs.Holding.{hold_map}
 use Rattle.router_rules.specs.Facts.{Facts, SenderKey, no_facts, resvs_of, sender_keys}
 use Rattle.router_rules.specs.Inputs.{Stale, StaleResv}
-use Rattle.router_rules.specs.Line.{s1, r1, session, scope}
+use Rattle.router_rows.specs.ThreeRouters.{s1, r1, session, scope}
 use Rattle.router_rules.specs.Rule.{facts_with}
 use Rattle.tree_model.specs.Goals.{DemandsFit, demand_of}
 use Rattle.tree_model.specs.Trees.{trees_of}
 use Rattle.tree_model.specs.Wants.{want}
-use Rattle.network_model.specs.Bounds.{AreBounds, AreLocals}
+use Rattle.network_model.specs.Bounds.{AreBounds, AreHosts}
 use Rattle.network_model.specs.Locals.{locals_of}
 use Rattle.network_model.specs.Runs.{first_facts}
 use Rattle.network_model.specs.Sound.{ArePathsSound, AreResvsSound}
 use Rattle.network_model.specs.Steps.{machine}
-use Rattle.network_model.specs.Worlds.{World, place_of}
+use Rattle.network_model.specs.Worlds.{World, config_of}
 use Rattle.network_steps.specs.Beginning.{left_resv}
 use Rattle.network_steps.specs.Example.{pair_net}
 use Rattle.network_steps.specs.Rounds.{rounds_of}
@@ -48,7 +48,7 @@ use Rattle.router_rules.specs.Steps.{IsFitStale}
 in_scope : (x : Sender) → has scope x ≡ true → x ≡ record { addr = s1; port = 0 }
 in_scope x h = ⊎_elim (λ (e : x ≡ record { addr = s1; port = 0 }). e) (λ (no : ⊥). absurd no) (set_of_in senders ((record { addr = s1; port = 0 }) ∷ []) x h)
 
-fit_resv : IsFitStale (place_of 7500 pair_net (trees_of pair_net.hops) 0) 0 (StaleResv Wild lost_key left_resv)
+fit_resv : IsFitStale (config_of 7500 pair_net (trees_of pair_net.hops) 0) 0 (StaleResv Wild lost_key left_resv)
 fit_resv = (
   record { later = omega arith; soon = omega arith },
   record {
@@ -69,7 +69,7 @@ bounds =
       hosts = hosts;
       stale = λ n i lt j.
           ⊎_elim
-          (λ (same : (n, i) ≡ (0, StaleResv Wild lost_key left_resv)). subst (λ (z : ℕ × Stale). IsFitStale (place_of 7500 pair_net (trees_of pair_net.hops) z.0) 0 z.1) (sym same) fit_resv)
+          (λ (same : (n, i) ≡ (0, StaleResv Wild lost_key left_resv)). subst (λ (z : ℕ × Stale). IsFitStale (config_of 7500 pair_net (trees_of pair_net.hops) z.0) 0 z.1) (sym same) fit_resv)
           (λ (no : ⊥). absurd no) j;
     })
 
@@ -86,7 +86,7 @@ no_sender (suc zero) f k t e h =
     absurd (cc)
 no_sender (suc (suc n)) f k t e h = absurd (cc)
 
-locals : AreLocals lost_world
+locals : AreHosts lost_world
 unfolding facts_with
 locals = record {
   placed = λ n f k t e h. no_sender n f k t e h;

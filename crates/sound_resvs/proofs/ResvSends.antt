@@ -15,22 +15,23 @@ use Rattle.router_rules.specs.Asking.{ask_of}
 use Rattle.router_rules.specs.Facts.{Facts}
 use Rattle.router_rules.specs.Inputs.{Spelt}
 use Rattle.router_rules.specs.Known.{Lane}
-use Rattle.router_rules.specs.Place.{Place}
+use Rattle.router_rules.specs.NodeConfig.{NodeConfig}
 use Rattle.router_rules.specs.Requests.{toward}
 use Rattle.router_rules.specs.Rule.{Outcome}
-use Rattle.tree_model.specs.declared.hops.Hop.{Hop}
+use Rattle.tree_model.specs.declared.hops.LinkHop.{LinkHop}
 use Rattle.tree_model.specs.Networks.{Net, end_at, peers}
 use Rattle.tree_model.proofs.Ifaces.{interfaces_are_ends}
 use Rattle.network_model.specs.Bounds.{AreBounds}
 use Rattle.network_model.specs.Links.{goes_to}
 use Rattle.network_model.specs.Sound.{ArePathsSound}
 use Rattle.network_model.specs.Steps.{Step, is_quiet, ms_of, outcome, sent, step}
-use Rattle.network_model.specs.Worlds.{Item, World, place_of}
+use Rattle.network_model.specs.Worlds.{Item, World, config_of}
 use Rattle.network_model.proofs.Stepping.{facts_after_made}
 use Rattle.network_steps.proofs.Sends.{goes_to_end, goes_to_peers, sent_by_rule}
 use Rattle.network_steps.proofs.Standing.{own_end, peer_there, same_end}
 use Rattle.settle_paths.specs.PreviousHops.{IsPrevious, IsAhead}
 use Rattle.settle_paths.proofs.PreviousHops.{ahead, ends_there, same_by_addr}
+use Rattle.router_rules.specs.Steps.{node_step}
 
 -- ---- a Resv in flight that a node sent in the step: it says what goes toward a previous hop of the node after the step
 pub record IsResvSent (q : ℕ) (net : Net) (trees : List (Addr × Addr)) (u' : World) (y : Item) (m : ResvMsg) : Type 0 where
@@ -39,7 +40,7 @@ pub record IsResvSent (q : ℕ) (net : Net) (trees : List (Addr × Addr)) (u' : 
   pub after : slice_get u'.nodes node ≡ Some facts
   pub lane : Lane
   pub by : (x : Sender) × ComesBy facts lane.session lane.hop x
-  pub asks : ask_of lane.style (toward (place_of q net trees node) facts lane) ≡ Some m.ask
+  pub asks : ask_of lane.style (toward (config_of q net trees node) facts lane) ≡ Some m.ask
   pub style : ask_style m.ask ≡ lane.style
   pub session : m.session ≡ lane.session
   pub end : ℕ
@@ -53,10 +54,10 @@ pub record IsResvSent (q : ℕ) (net : Net) (trees : List (Addr × Addr)) (u' : 
 pub resv_sent : (q : ℕ) (s : Step) (u : World) → is_quiet s ≡ true → AreBounds q u → (y : Item) (b : Bool) (m : ResvMsg) → In (y, b) (sent q s u) → y.arrival ≡ Spelt (message.Resv m) → IsResvSent q u.net u.trees (step q s u) y m
 resv_sent q s u quiet bounds y b m i spelt =
     let r = sent_by_rule q s u y b (message.Resv m) quiet i spelt in
-    let p : Place = place_of q u.net u.trees r.node in
+    let p : NodeConfig = config_of q u.net u.trees r.node in
     let after : Facts = (outcome q s u r.node r.facts).facts in
     let o : IsOfLane p after r.send m =
-    subst (λ (z : Outcome). IsOfLane p z.facts r.send m) (sym r.by.is) (what_a_resv_sent_says.says p p u.clock (u.clock + ms_of s) r.by.input r.facts (bounds.facts r.node r.facts r.there) r.send m r.sent r.says) in
+    subst (λ (z : Outcome). IsOfLane p z.facts r.send m) (sym r.by.is) (what_a_resv_sent_says.says (node_step p p u.clock (u.clock + ms_of s) r.by.input r.facts) (bounds.facts r.node r.facts r.there) r.send m r.sent r.says) in
     let e = goes_to_end u.net (end_at u.net.ends r.node r.send.iface) r.send.dst y.end r.to in
     let at : end_at u.net.ends r.node o.lane.hop.0 ≡ Some e.0 = ap (end_at u.net.ends r.node) (sym o.iface) ∙ e.1 in
     record {
@@ -83,7 +84,7 @@ module _ (q : ℕ) (w : World) (bounds : AreBounds q w) (paths : ArePathsSound w
   way = ahead w p.node p.facts paths p.after p.lane.session p.lane.hop p.by.0 p.by.1
 
   -- the hop goes out of the end to which it comes, into the end by which it left
-  pub over_hop : y.dst ≡ addr_of w.net y.end → (h : Hop) × IsPrevious w.net p.node p.lane.session p.lane.hop h × (h.from ≡ y.end) × (h.to ≡ p.end)
+  pub over_hop : y.dst ≡ addr_of w.net y.end → (h : LinkHop) × IsPrevious w.net p.node p.lane.session p.lane.hop h × (h.from ≡ y.end) × (h.to ≡ p.end)
   over_hop own =
       let h = way.way in
       let there = ends_there w.net bounds.net p.lane.session.group h way.previous.there in

@@ -21,7 +21,7 @@ use Rattle.style_rules.specs.PartLaws.{part_at_most_told, part_at_most_tested, s
 use Rattle.style_rules.specs.Parts.{has_name}
 use Rattle.calm_rounds.specs.Rounds.{Rounds}
 use Rattle.calm_rounds.specs.Hold.{Hold}
-use Rattle.calm_rounds.specs.Lines.{SaysOnly, KeepsOnly}
+use Rattle.calm_rounds.specs.SoftStates.{SaysOnly, KeepsOnly}
 use Rattle.calm_rounds.proofs.Holding.{hold_map, hold_both, hold_all, hold_later, hold_start, hold_stack, hold_keep}
 use Rattle.calm_rounds.proofs.Settling.{only_what_is_said_is_kept}
 use Rattle.tree_model.specs.Goals.{addr_of}
@@ -31,7 +31,7 @@ use Rattle.router_rules.specs.Inputs.{Spelt}
 use Rattle.router_rules.specs.Requests.{toward}
 use Rattle.router_lookups.specs.SendLaws.{IsAskedOf}
 use Rattle.router_lookups.proofs.Asks.{units_told}
-use Rattle.tree_model.specs.declared.hops.Hop.{Hop}
+use Rattle.tree_model.specs.declared.hops.LinkHop.{LinkHop}
 use Rattle.tree_model.specs.Networks.{Net, node_of, end_at, iface_of}
 use Rattle.tree_model.specs.Ranks.{longest, rank}
 use Rattle.tree_model.specs.Trees.{hops_of}
@@ -42,16 +42,16 @@ use Rattle.network_model.specs.Bounds.{AreBounds}
 use Rattle.network_model.specs.Locals.{locals_of}
 use Rattle.network_model.specs.Sound.{ArePathsSound, IsSoundPart, IsSoundResv}
 use Rattle.network_model.specs.Steps.{Step, is_quiet, sent, step, machine}
-use Rattle.network_model.specs.Worlds.{Item, World, place_of}
+use Rattle.network_model.specs.Worlds.{Item, World, config_of}
 use Rattle.network_model.proofs.Machines.{quiet_of, time_passes, items_are_numbered, in_flight_after}
 use Rattle.network_steps.specs.Known.{IsKnown}
 use Rattle.network_steps.proofs.Known.{known_hold}
 use Rattle.network_steps.proofs.Standing.{end_of, same_end}
 use Rattle.settle_paths.specs.PreviousHops.{IsPrevious}
 use Rattle.sound_resvs.specs.Below.{AreSoundBelow}
-use Rattle.settle_resvs.specs.ResvLines.{ResvKey, IsCut, AsksFor, SaysResv, line_key_of, resv_at, kept_of, resv_line}
+use Rattle.settle_resvs.specs.SoftResvs.{ResvKey, IsCut, AsksFor, SaysResv, line_key_of, resv_at, kept_of, soft_resv}
 use Rattle.settle_paths.proofs.PreviousHops.{ends_there, same_by_addr, via_within}
-use Rattle.settle_resvs.proofs.ResvLines.{resv_made, resv_keeps}
+use Rattle.settle_resvs.proofs.SoftResvs.{resv_made, resv_keeps}
 use Rattle.sound_resvs.proofs.ResvSends.{IsResvSent, resv_sent, over_hop}
 use Rattle.sound_resvs.proofs.TowardNames.{parts_of_style, toward_names}
 use Rattle.sound_resvs.proofs.TowardWants.{toward_is_at_most_the_want}
@@ -59,7 +59,7 @@ use Rattle.sound_resvs.proofs.TowardWants.{toward_is_at_most_the_want}
 -- ---- a part that names live senders over a hop from this end to this address, and nobody else
 pub record IsNamedBy (st : StyleKind) (net : Net) (l : Locals) (s : Session) (e : ℕ) (next : Addr) (v : Part) : Type 0 where
   pub some : has_name v ≡ true
-  pub hop : Hop
+  pub hop : LinkHop
   pub there : In hop (hops_of net.hops s.group)
   pub from : hop.from ≡ e
   pub to : addr_of net hop.to ≡ next
@@ -122,7 +122,7 @@ module _ (q : ℕ) (o : World) (valid : IsValid o.net) where
   Spot = (k : ResvKey) × (k.to < length o.net.ends)
 
   abbrev GoodIn : ℕ → ResvKey → World → Type 0
-  GoodIn r k u = KeepsOnly (machine q) (resv_line q o k) (IsGood o r k) u × SaysOnly (machine q) (resv_line q o k) (IsGood o r k) 0 u
+  GoodIn r k u = KeepsOnly (machine q) (soft_resv q o k) (IsGood o r k) u × SaysOnly (machine q) (soft_resv q o k) (IsGood o r k) 0 u
 
   abbrev pub Level : ℕ → World → Type 0
   Level r u = (a : Spot) → GoodIn r a.0 u
@@ -194,13 +194,13 @@ module _ (q : ℕ) (o : World) (valid : IsValid o.net) where
     pub session : p.lane.session ≡ k.session
     session = sym p.session ∙ says.session
 
-    pub over : (h : Hop) × IsPrevious u.net p.node p.lane.session p.lane.hop h × (h.from ≡ y.end) × (h.to ≡ p.end)
+    pub over : (h : LinkHop) × IsPrevious u.net p.node p.lane.session p.lane.hop h × (h.from ≡ y.end) × (h.to ≡ p.end)
     over = over_hop q u firm.known.bounds firm.paths y says.resv p own
 
-    pub asked : IsAskedOf (toward (place_of q u.net u.trees p.node) p.facts p.lane) says.unit
+    pub asked : IsAskedOf (toward (config_of q u.net u.trees p.node) p.facts p.lane) says.unit
     asked =
-        (units_told p.lane.style (toward (place_of q u.net u.trees p.node) p.facts p.lane) says.resv.ask says.unit
-        (parts_of_style (place_of q u.net u.trees p.node) u.clock p.facts (firm.known.bounds.facts p.node p.facts p.after) p.lane) p.asks).0 says.asks
+        (units_told p.lane.style (toward (config_of q u.net u.trees p.node) p.facts p.lane) says.resv.ask says.unit
+        (parts_of_style (config_of q u.net u.trees p.node) u.clock p.facts (firm.known.bounds.facts p.node p.facts p.after) p.lane) p.asks).0 says.asks
 
     pub same : v ≡ asked.part
     same = same_part v asked.part (subst (λ (z : Option Names). AsksFor z v.senders) asked.names says.names) (says.flow ∙ asked.flow)
@@ -210,7 +210,7 @@ module _ (q : ℕ) (o : World) (valid : IsValid o.net) where
 
     pub sent_named : IsNamedBy k.style o.net (locals_of o) k.session k.to k.next v
     sent_named =
-        let t = toward_names (place_of q u.net u.trees p.node) u.clock p.facts (firm.known.bounds.facts p.node p.facts p.after) p.lane says.unit.unit asked.part asked.there in
+        let t = toward_names (config_of q u.net u.trees p.node) u.clock p.facts (firm.known.bounds.facts p.node p.facts p.after) p.lane says.unit.unit asked.part asked.there in
         let via = via_within u p.node p.facts firm.known.bounds.net firm.paths p.after p.lane over.0 over.1 in
         let there : IsNamedBy p.lane.style u.net (locals_of u) p.lane.session k.to k.next asked.part =
         record { some = t.0; hop = over.0; there = over.1.there; from = over.2 ∙ says.end; to = next; within = λ x e. via x (t.1 x e) } in
@@ -250,7 +250,7 @@ module _ (q : ℕ) (o : World) (valid : IsValid o.net) where
 
   -- ---- five rounds at each rank
   first_step : (n : ℕ) (k : ResvKey) (s : Step) (u : World) → is_quiet s ≡ true → IsFirm q o u → IsFirm q o (step q s u)
-      → SaysOnly (machine q) (resv_line q o k) (IsGood o 0 k) n u → SaysOnly (machine q) (resv_line q o k) (IsGood o 0 k) n (step q s u)
+      → SaysOnly (machine q) (soft_resv q o k) (IsGood o 0 k) n u → SaysOnly (machine q) (soft_resv q o k) (IsGood o 0 k) n (step q s u)
   first_step n k s u quiet a a' j y v i born says =
       ⊎_elim
       (λ (old : In y u.flight). j y v old born says)
@@ -258,7 +258,7 @@ module _ (q : ℕ) (o : World) (valid : IsValid o.net) where
       (in_flight_after q s u y quiet i)
 
   next_step : (r n : ℕ) (k : ResvKey) (s : Step) (u : World) → is_quiet s ≡ true → IsFirm q o u → IsFirm q o (step q s u) × Level r (step q s u)
-      → SaysOnly (machine q) (resv_line q o k) (IsGood o (suc r) k) n u → SaysOnly (machine q) (resv_line q o k) (IsGood o (suc r) k) n (step q s u)
+      → SaysOnly (machine q) (soft_resv q o k) (IsGood o (suc r) k) n u → SaysOnly (machine q) (soft_resv q o k) (IsGood o (suc r) k) n (step q s u)
   next_step r n k s u quiet a a' j y v i born says =
       ⊎_elim
       (λ (old : In y u.flight). j y v old born says)
@@ -272,8 +272,8 @@ module _ (q : ℕ) (o : World) (valid : IsValid o.net) where
   level_0 rs w calm firm =
       hold_all (machine q) (λ (a : Spot) u. GoodIn 0 a.0 u) 5 rs w
       (λ a.
-      only_what_is_said_is_kept (machine q) (time_passes q) (items_are_numbered q) (resv_line q o a.0) (resv_keeps q o a.0 a.1) (IsGood o 0 a.0) (λ v v0 b f. good_cut o 0 a.0 v v0 b f) rs w calm (known_of rs w firm)
-      (hold_keep (machine q) (IsFirm q o) (SaysOnly (machine q) (resv_line q o a.0) (IsGood o 0 a.0) w.made)
+      only_what_is_said_is_kept (machine q) (time_passes q) (items_are_numbered q) (soft_resv q o a.0) (resv_keeps q o a.0 a.1) (IsGood o 0 a.0) (λ v v0 b f. good_cut o 0 a.0 v v0 b f) rs w calm (known_of rs w firm)
+      (hold_keep (machine q) (IsFirm q o) (SaysOnly (machine q) (soft_resv q o a.0) (IsGood o 0 a.0) w.made)
       (λ s u quiet b b' j. first_step w.made a.0 s u (quiet_of q s quiet) b b' j) rs w calm firm
       (λ y v i born says. let old = ((hold_start (machine q) (IsFirm q o) rs w firm).known.bounds.flight y i).born in absurd (omega arith))))
 
@@ -282,8 +282,8 @@ module _ (q : ℕ) (o : World) (valid : IsValid o.net) where
       let firm : Hold (machine q) 0 rs w (IsFirm q o) = hold_map (machine q) (λ u. IsFirm q o u × Level r u) (IsFirm q o) (λ u h. h.0) 0 rs w both in
       hold_all (machine q) (λ (a : Spot) u. GoodIn (suc r) a.0 u) 5 rs w
       (λ a.
-      only_what_is_said_is_kept (machine q) (time_passes q) (items_are_numbered q) (resv_line q o a.0) (resv_keeps q o a.0 a.1) (IsGood o (suc r) a.0) (λ v v0 b f. good_cut o (suc r) a.0 v v0 b f) rs w calm (known_of rs w firm)
-      (hold_keep (machine q) (λ u. IsFirm q o u × Level r u) (SaysOnly (machine q) (resv_line q o a.0) (IsGood o (suc r) a.0) w.made)
+      only_what_is_said_is_kept (machine q) (time_passes q) (items_are_numbered q) (soft_resv q o a.0) (resv_keeps q o a.0 a.1) (IsGood o (suc r) a.0) (λ v v0 b f. good_cut o (suc r) a.0 v v0 b f) rs w calm (known_of rs w firm)
+      (hold_keep (machine q) (λ u. IsFirm q o u × Level r u) (SaysOnly (machine q) (soft_resv q o a.0) (IsGood o (suc r) a.0) w.made)
       (λ s u quiet b b' j. next_step r w.made a.0 s u (quiet_of q s quiet) b.0 b' j) rs w calm both
       (λ y v i born says. let old = ((hold_start (machine q) (IsFirm q o) rs w firm).known.bounds.flight y i).born in absurd (omega arith))))
 

@@ -38,7 +38,7 @@ use Rattle.rsvp_base.proofs.Members.{in_filter, to_filter}
 use Rattle.tree_model.specs.Networks.{link_of}
 use Rattle.settle_paths.proofs.PreviousHops.{ahead, ends_there}
 use Rattle.sound_resvs.proofs.ResvSends.{IsResvSent}
-use Rattle.settle_resvs.specs.ResvLines.{ResvKey, AsksFor}
+use Rattle.settle_resvs.specs.SoftResvs.{ResvKey, AsksFor}
 use Rattle.sound_resvs.proofs.SoundResvs.{IsFirm, IsGood, Level, levels, firm_hold, sent_here, all_facts_sound, part_again}
 
 abbrev spot_of : Item → ResvMsg → AskedUnit → ResvKey

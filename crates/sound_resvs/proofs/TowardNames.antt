@@ -22,7 +22,7 @@ use Rattle.style_rules.proofs.Towards.{toward_keeps}
 use Rattle.router_rules.specs.Bounds.{IsWithinBounds, IsWantShape}
 use Rattle.router_rules.specs.Facts.{Facts}
 use Rattle.router_rules.specs.Known.{Lane, names_via, names_via_where}
-use Rattle.router_rules.specs.Place.{Place, goes_out}
+use Rattle.router_rules.specs.NodeConfig.{NodeConfig, goes_out}
 use Rattle.router_rules.specs.Requests.{requests, want_part, toward}
 use Rattle.router_lookups.specs.FactLaws.{IsResvRequest, IsWantRequest}
 use Rattle.router_lookups.specs.SendLaws.{ArePartsOf}
@@ -53,7 +53,7 @@ name_again Wild a = refl
 name_again Fixed a = refl
 name_again Shared a = refl
 
-module _ (p : Place) (c : ℕ) (f : Facts) (bounds : IsWithinBounds p c f) (l : Lane) where
+module _ (p : NodeConfig) (c : ℕ) (f : Facts) (bounds : IsWithinBounds p c f) (l : Lane) where
   listed : (x : Sender) → has (names_via f l) x ≡ true → name_of l.style x ≡ x
   listed x e = let a = (known_and_via.all_by f l x).0 e in ap (name_of l.style) a.name ∙ name_again l.style a.sender ∙ sym a.name
 

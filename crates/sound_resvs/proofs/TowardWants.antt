@@ -33,12 +33,12 @@ use Rattle.tree_model.specs.Wants.{names, as_list, wanted_of, is_wanted_at, own,
 use Rattle.tree_model.proofs.WantLaws.{want_equation, want_names, a_common_name}
 use Rattle.router_rules.specs.Facts.{Facts}
 use Rattle.router_rules.specs.Known.{Lane, names_via, names_via_where}
-use Rattle.router_rules.specs.Place.{goes_out}
+use Rattle.router_rules.specs.NodeConfig.{goes_out}
 use Rattle.router_rules.specs.Requests.{requests, want_part, toward}
 use Rattle.router_lookups.specs.FactLaws.{IsResvRequest, IsWantRequest}
 use Rattle.router_lookups.proofs.Knowing.{known_and_via}
 use Rattle.router_lookups.proofs.Requesting.{requests_and_toward}
-use Rattle.tree_model.specs.declared.hops.Hop.{Hop}
+use Rattle.tree_model.specs.declared.hops.LinkHop.{LinkHop}
 use Rattle.tree_model.specs.Networks.{node_of}
 use Rattle.tree_model.specs.Ranks.{Follows, followers, rank}
 use Rattle.tree_model.proofs.Following.{number_same, follows_follower}
@@ -47,7 +47,7 @@ use Rattle.tree_model.proofs.RankLaws.{rank_falls_at}
 use Rattle.network_model.specs.Bounds.{AreBounds}
 use Rattle.network_model.specs.Locals.{locals_of, want_at}
 use Rattle.network_model.specs.Sound.{IsSoundPart, ArePathsSound}
-use Rattle.network_model.specs.Worlds.{World, place_of}
+use Rattle.network_model.specs.Worlds.{World, config_of}
 use Rattle.network_steps.proofs.Known.{of_some}
 use Rattle.settle_paths.specs.PreviousHops.{IsPrevious}
 use Rattle.sound_resvs.specs.Below.{AreSoundBelow}
@@ -84,9 +84,9 @@ want_more Shared s t less p x named e =
     above (cut p.senders t) x p.flow named (cut_in p.senders s t x m.senders less) (subst (λ (z : TokenBucket). IsAtMost z p.flow) (sym m.flow) (at_most_itself p.flow))
 
 -- ---- toward a previous hop
-module _ (q : ℕ) (w : World) (bounds : AreBounds q w) (paths : ArePathsSound w) (n : ℕ) (f : Facts) (at : slice_get w.nodes n ≡ Some f) (l : Lane) (h : Hop) (is : IsPrevious w.net n l.session l.hop h)
+module _ (q : ℕ) (w : World) (bounds : AreBounds q w) (paths : ArePathsSound w) (n : ℕ) (f : Facts) (at : slice_get w.nodes n ≡ Some f) (l : Lane) (h : LinkHop) (is : IsPrevious w.net n l.session l.hop h)
     (low : AreSoundBelow l.style w n f l.session (rank w.net l.session.group h)) where
-  abbrev over : List Hop → Names
+  abbrev over : List LinkHop → Names
   over hs = names l.style w.net (locals_of w) l.session hs
 
   abbrev parts : List Part
@@ -120,17 +120,17 @@ module _ (q : ℕ) (w : World) (bounds : AreBounds q w) (paths : ArePathsSound w
       }
 
   -- names of a request of a reservation are over the hop
-  in_via : (i : ℕ) → IsWithin (names_via_where f l (goes_out (place_of q w.net w.trees n) l.session i)) (names_via f l)
+  in_via : (i : ℕ) → IsWithin (names_via_where f l (goes_out (config_of q w.net w.trees n) l.session i)) (names_via f l)
   in_via i x e =
-      let a = (known_and_via.names_by f l (goes_out (place_of q w.net w.trees n) l.session i) x).0 e in
+      let a = (known_and_via.names_by f l (goes_out (config_of q w.net w.trees n) l.session i) x).0 e in
       (known_and_via.all_by f l x).1 (record { sender = a.sender; among = a.among; passes = refl; name = a.name })
 
-  of_resv : (x : Request) → has_name x.part ≡ true → IsResvRequest (place_of q w.net w.trees n) f l x → Stands x.part
+  of_resv : (x : Request) → has_name x.part ≡ true → IsResvRequest (config_of q w.net w.trees n) f l x → Stands x.part
   of_resv x named r =
-      let m = cut_of r.resv.part x.part (names_via_where f l (goes_out (place_of q w.net w.trees n) l.session r.key.0.0)) r.part in
+      let m = cut_of r.resv.part x.part (names_via_where f l (goes_out (config_of q w.net w.trees n) l.session r.key.0.0)) r.part in
       let both : (y : Sender) → has x.part.senders y ≡ true → (has r.resv.part.senders y ≡ true) × (has (over (h ∷ [])) y ≡ true) =
       λ y e.
-      let b = and_both _ _ (sym (has-cut senders r.resv.part.senders (names_via_where f l (goes_out (place_of q w.net w.trees n) l.session r.key.0.0)) y) ∙ subst (λ (z : Names). has z y ≡ true) m.senders e) in
+      let b = and_both _ _ (sym (has-cut senders r.resv.part.senders (names_via_where f l (goes_out (config_of q w.net w.trees n) l.session r.key.0.0)) y) ∙ subst (λ (z : Names). has z y ≡ true) m.senders e) in
       (b.0, via y (in_via r.key.0.0 y b.1)) in
       let first = unit_name l.style x.part named in
       let good = low.named (l.session, r.key) r.resv r.there refl in
@@ -156,13 +156,13 @@ module _ (q : ℕ) (w : World) (bounds : AreBounds q w) (paths : ArePathsSound w
         style = cut_of_style l.style s.wanted y.0 (over (h ∷ s.hop ∷ [])) (want_style l.style w.net (locals_of w) l.session (want_parts q w bounds) s.hop r.key.1 s.wanted s.is).0 y.1;
       }
 
-  of_request : (u : UnitOf) (x : Request) → IsRequestOf l.style (requests (place_of q w.net w.trees n) f l) u x → Stands x.part
+  of_request : (u : UnitOf) (x : Request) → IsRequestOf l.style (requests (config_of q w.net w.trees n) f l) u x → Stands x.part
   of_request u x r =
-      ⊎_elim (λ (a : IsResvRequest (place_of q w.net w.trees n) f l x). of_resv x r.named a) (λ (a : IsWantRequest f l x). of_want x r.named a)
-      ((requests_and_toward.each (place_of q w.net w.trees n) f l x).0 r.among)
+      ⊎_elim (λ (a : IsResvRequest (config_of q w.net w.trees n) f l x). of_resv x r.named a) (λ (a : IsWantRequest f l x). of_want x r.named a)
+      ((requests_and_toward.each (config_of q w.net w.trees n) f l x).0 r.among)
 
   -- the want of the hop has a part of the unit that stands above the request
-  want_above : (u : UnitOf) (x : Request) → IsRequestOf l.style (requests (place_of q w.net w.trees n) f l) u x → (v : Part) × (get (want l.style w.net (locals_of w) l.session h) u ≡ Some v) × IsPartAtMost x.part v
+  want_above : (u : UnitOf) (x : Request) → IsRequestOf l.style (requests (config_of q w.net w.trees n) f l) u x → (v : Part) × (get (want l.style w.net (locals_of w) l.session h) u ≡ Some v) × IsPartAtMost x.part v
   want_above u x r =
       let s = of_request u x r in
       let m = merge_above units (part_unit l.style) (λ (p : Part). p) parts s.part s.among s.style.named in
@@ -170,16 +170,16 @@ module _ (q : ℕ) (w : World) (bounds : AreBounds q w) (paths : ArePathsSound w
       (m.0, ap (λ (t : PartTable). get t u) ((want_equation l.style w.net (locals_of w) l.session bounds.net.loop_free).equation h) ∙ ap (get (merge l.style parts)) unit ∙ m.1, part_at_most_along x.part s.part m.0 s.above_it m.2)
 
   -- what goes toward the previous hop is sound there
-  pub toward_is_at_most_the_want : (u : UnitOf) (t : Part) → get (toward (place_of q w.net w.trees n) f l) u ≡ Some t → IsSoundPart l.style w l.session h.from (addr_of w.net h.to) u t
+  pub toward_is_at_most_the_want : (u : UnitOf) (t : Part) → get (toward (config_of q w.net w.trees n) f l) u ≡ Some t → IsSoundPart l.style w l.session h.from (addr_of w.net h.to) u t
   toward_is_at_most_the_want u t e =
-      let first = toward_source l.style (requests (place_of q w.net w.trees n) f l) u (ap is_some e) in
+      let first = toward_source l.style (requests (config_of q w.net w.trees n) f l) u (ap is_some e) in
       let v = want_above u first.0 first.1 in
-      let every : (x : Request) → IsRequestOf l.style (requests (place_of q w.net w.trees n) f l) u x → (has_name x.part ≡ true) × IsPartAtMost x.part v.0 =
+      let every : (x : Request) → IsRequestOf l.style (requests (config_of q w.net w.trees n) f l) u x → (has_name x.part ≡ true) × IsPartAtMost x.part v.0 =
       λ x r. let a = want_above u x r in let same : Some a.0 ≡ Some v.0 = sym a.1 ∙ v.1 in (r.named, subst (λ (z : Part). IsPartAtMost x.part z) (of_some a.0 v.0 same) a.2) in
       let k = toward_keeps l.style (λ p. (has_name p ≡ true) × IsPartAtMost p v.0)
       (λ a b x y. (two a b x.0, part_join_least a b v.0 x.1 y.1))
       (λ a b x y. (two a b x.0, part_at_most_along (part_meet a b) (part_join a b) v.0 (part_meet_below_join a b) (part_join_least a b v.0 x.1 y.1)))
-      (requests (place_of q w.net w.trees n) f l) u t e every in
+      (requests (config_of q w.net w.trees n) f l) u t e every in
       record {
         some = some_name t.senders (not_false (is_none t.senders) k.0);
         hop = h;

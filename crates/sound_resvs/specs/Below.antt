@@ -14,19 +14,19 @@ use Rattle.tree_model.specs.Wants.{names}
 use Rattle.router_rules.specs.Facts.{Facts, ResvState, resvs_of}
 use Rattle.router_rules.specs.Known.{Lane}
 use Rattle.router_rules.specs.Requests.{toward}
-use Rattle.tree_model.specs.declared.hops.Hop.{Hop}
+use Rattle.tree_model.specs.declared.hops.LinkHop.{LinkHop}
 use Rattle.tree_model.specs.Networks.{node_of, iface_of}
 use Rattle.tree_model.specs.Ranks.{rank}
 use Rattle.tree_model.specs.Trees.{hops_of}
 use Rattle.network_model.specs.Locals.{locals_of}
 use Rattle.network_model.specs.Sound.{IsSoundPart, IsSoundResv}
-use Rattle.network_model.specs.Worlds.{World, place_of}
+use Rattle.network_model.specs.Worlds.{World, config_of}
 use Rattle.settle_paths.specs.PreviousHops.{IsPrevious}
 
 -- a reservation names someone, and only live senders whose trees have a hop out of its interface to its next hop
 pub record IsNamedResv (st : StyleKind) (w : World) (n : ℕ) (k : LineKey) (r : ResvState) : Type 0 where
   pub some : has_name r.part ≡ true
-  pub hop : Hop
+  pub hop : LinkHop
   pub there : In hop (hops_of w.net.hops k.0.group)
   pub node : node_of w.net.ends hop.from ≡ n
   pub iface : iface_of w.net.ends hop.from ≡ k.1.0.0
@@ -42,5 +42,5 @@ pub record AreSoundBelow (st : StyleKind) (w : World) (n : ℕ) (f : Facts) (s :
 -- over the hop
 abbrev pub TowardIsAtMostTheWant : ℕ → World → Type 0
 TowardIsAtMostTheWant q w =
-    (n : ℕ) (f : Facts) (l : Lane) (h : Hop) → slice_get w.nodes n ≡ Some f → IsPrevious w.net n l.session l.hop h → AreSoundBelow l.style w n f l.session (rank w.net l.session.group h)
-    → (u : UnitOf) (t : Part) → get (toward (place_of q w.net w.trees n) f l) u ≡ Some t → IsSoundPart l.style w l.session h.from (addr_of w.net h.to) u t
+    (n : ℕ) (f : Facts) (l : Lane) (h : LinkHop) → slice_get w.nodes n ≡ Some f → IsPrevious w.net n l.session l.hop h → AreSoundBelow l.style w n f l.session (rank w.net l.session.group h)
+    → (u : UnitOf) (t : Part) → get (toward (config_of q w.net w.trees n) f l) u ≡ Some t → IsSoundPart l.style w l.session h.from (addr_of w.net h.to) u t

@@ -4,7 +4,7 @@ use Rattle.std.proofs.Common.{sym, ap, subst, ◌∙◌, inl, inr}
 use Rattle.rsvp_base.specs.Members.{In}
 use Rattle.rsvp_base.specs.declared.addr.Addr.{Addr}
 use Rattle.rsvp_base.proofs.Members.{in_filter, in_any, any_in, all_in, in_left, in_right}
-use Rattle.tree_model.specs.declared.hops.Hop.{Hop}
+use Rattle.tree_model.specs.declared.hops.LinkHop.{LinkHop}
 use Rattle.tree_model.specs.Networks.{Net, node_of, among, link_of, peers}
 use Rattle.tree_model.specs.Trees.{tree, is_linked, sends_alone, IsGrownFrom, inward, outward}
 use Rattle.tree_model.specs.Valid.{IsValid}
@@ -27,7 +27,7 @@ of_own_link (l ∷ ls) e x i = by (of_own_link ls e x) (among e l) refl i
     by rest true t i = t
     by rest false t i = rest i
 
-alone_told : (links : List (List ℕ)) (e : ℕ) (x : Hop) → sends_alone links e x ≡ true → among x.from (link_of links e) ≡ true → x.from ≡ e
+alone_told : (links : List (List ℕ)) (e : ℕ) (x : LinkHop) → sends_alone links e x ≡ true → among x.from (link_of links e) ≡ true → x.from ≡ e
 alone_told links e x t on = same_number x.from e (by (among x.from (link_of links e)) on t)
   where
     by : (b : Bool) → b ≡ true → (not b || (x.from == e)) ≡ true → (x.from == e) ≡ true
@@ -35,26 +35,26 @@ alone_told links e x t on = same_number x.from e (by (among x.from (link_of link
     by false on t = cc
 
 module _ (net : Net) (s : Addr) where
-  alone_before : (before hs : List Hop) → IsGrownFrom net s before hs → (x y : Hop) → In x before → In y hs → among x.from (link_of net.links y.from) ≡ true → x.from ≡ y.from
+  alone_before : (before hs : List LinkHop) → IsGrownFrom net s before hs → (x y : LinkHop) → In x before → In y hs → among x.from (link_of net.links y.from) ≡ true → x.from ≡ y.from
   alone_before before [] grown x y i j on = absurd j
   alone_before before (z ∷ zs) grown x y i (inr j) on = alone_before (before ++ z ∷ []) zs grown.1 x y (in_left x before (z ∷ []) i) j on
   alone_before before (z ∷ zs) grown x y i (inl e) on =
-      alone_told net.links y.from x (subst (λ (w : Hop). sends_alone net.links w.from x ≡ true) (sym e) (all_in (sends_alone net.links z.from) before grown.0.alone x i)) on
+      alone_told net.links y.from x (subst (λ (w : LinkHop). sends_alone net.links w.from x ≡ true) (sym e) (all_in (sends_alone net.links z.from) before grown.0.alone x i)) on
 
-  pub alone_from : (before hs : List Hop) → IsGrownFrom net s before hs → (x y : Hop) → In x hs → In y hs → among x.from (link_of net.links y.from) ≡ true → among y.from (link_of net.links x.from) ≡ true → x.from ≡ y.from
+  pub alone_from : (before hs : List LinkHop) → IsGrownFrom net s before hs → (x y : LinkHop) → In x hs → In y hs → among x.from (link_of net.links y.from) ≡ true → among y.from (link_of net.links x.from) ≡ true → x.from ≡ y.from
   alone_from before [] grown x y i j on no_ = absurd i
-  alone_from before (z ∷ zs) grown x y (inl p) (inl q) on back = ap (λ (h : Hop). h.from) (p ∙ sym q)
+  alone_from before (z ∷ zs) grown x y (inl p) (inl q) on back = ap (λ (h : LinkHop). h.from) (p ∙ sym q)
   alone_from before (z ∷ zs) grown x y (inl p) (inr j) on back = alone_before (before ++ z ∷ []) zs grown.1 x y (in_right x before (z ∷ []) (inl p)) j on
   alone_from before (z ∷ zs) grown x y (inr i) (inl q) on back = sym (alone_before (before ++ z ∷ []) zs grown.1 y x (in_right y before (z ∷ []) (inl q)) i back)
   alone_from before (z ∷ zs) grown x y (inr i) (inr j) on back = alone_from (before ++ z ∷ []) zs grown.1 x y i j on back
 
-  pub linked_from : (before hs : List Hop) → IsGrownFrom net s before hs → (x : Hop) → In x hs → is_linked net.links x ≡ true
+  pub linked_from : (before hs : List LinkHop) → IsGrownFrom net s before hs → (x : LinkHop) → In x hs → is_linked net.links x ≡ true
   linked_from before [] grown x i = absurd i
   linked_from before (z ∷ zs) grown x (inl p) = ap (is_linked net.links) p ∙ grown.0.linked
   linked_from before (z ∷ zs) grown x (inr i) = linked_from (before ++ z ∷ []) zs grown.1 x i
 
 module _ (net : Net) (valid : IsValid net) where
-  pub hop_linked : (g s : Addr) (h : Hop) → In h (tree net.hops g s) → In h.to (peers net.links h.from)
+  pub hop_linked : (g s : Addr) (h : LinkHop) → In h (tree net.hops g s) → In h.to (peers net.links h.from)
   hop_linked g s h i = among_in h.to (peers net.links h.from) (linked_from net s [] (tree net.hops g s) (valid.grown g s) h i)
 
   peer_of_link : (a e : ℕ) → In e (peers net.links a) → In e (link_of net.links a)
@@ -66,7 +66,7 @@ module _ (net : Net) (valid : IsValid net) where
       let same = valid.one_link a b (in_among b (link_of net.links a) i) in
       (same, ap (among a) same ∙ of_own_link net.links a b i)
 
-  alone_ : (g s : Addr) (x y : Hop) → In x (tree net.hops g s) → In y (tree net.hops g s) → In y.from (link_of net.links x.from) → x.from ≡ y.from
+  alone_ : (g s : Addr) (x y : LinkHop) → In x (tree net.hops g s) → In y (tree net.hops g s) → In y.from (link_of net.links x.from) → x.from ≡ y.from
   alone_ g s x y i j on =
       let back = both_ways x.from y.from on in
       alone_from net s [] (tree net.hops g s) (valid.grown g s) x y i j back.1 (in_among y.from (link_of net.links x.from) on)
@@ -78,7 +78,7 @@ module _ (net : Net) (valid : IsValid net) where
       sym x.2 ∙ alone_ g s x.0 y.0 x.1 y.1 (subst (λ (e : ℕ). In y.0.from (link_of net.links e)) (sym x.2) (subst (λ (e : ℕ). In e (link_of net.links a)) (sym y.2) on)) ∙ y.2
 
   hop : (g s : Addr) (a e : ℕ) → In a (outward net (node_of net.ends a) g s) → In e (peers net.links a) → inward net (node_of net.ends e) g s ≡ Some e
-      → (h : Hop) × In h (tree net.hops g s) × (h.from ≡ a) × (h.to ≡ e)
+      → (h : LinkHop) × In h (tree net.hops g s) × (h.from ≡ a) × (h.to ≡ e)
   hop g s a e i j is =
       let x = out_told net (node_of net.ends a) a g s i in
       let h = way_in_told net valid (node_of net.ends e) e g s is in

@@ -4,7 +4,7 @@ use Rattle.std.proofs.Common.{sym, ap, ◌∙◌, inl, inr, arith}
 use Rattle.rsvp_base.specs.Members.{In}
 use Rattle.rsvp_base.specs.declared.addr.Addr.{Addr}
 use Rattle.rsvp_base.proofs.Tables.{either}
-use Rattle.tree_model.specs.declared.hops.Hop.{Hop}
+use Rattle.tree_model.specs.declared.hops.LinkHop.{LinkHop}
 use Rattle.tree_model.specs.declared.hops.TreeHop.{TreeHop}
 use Rattle.tree_model.specs.Networks.{Net}
 use Rattle.tree_model.specs.Trees.{hops_of}
@@ -23,21 +23,21 @@ if_false true m n e = cc
 if_false false m n e = refl
 
 module _ (net : Net) (g : Addr) where
-  pub rank_of_hop : (h : Hop) → In h (hops_of net.hops g) → rank net g h ≡ height (followers net g) (length (hops_of net.hops g)) h
+  pub rank_of_hop : (h : LinkHop) → In h (hops_of net.hops g) → rank net g h ≡ height (followers net g) (length (hops_of net.hops g)) h
   rank_of_hop h i = if_true (has_hop (hops_of net.hops g) h) _ 0 (in_has_hop (hops_of net.hops g) h i)
 
-  pub rank_of_other : (h : Hop) → (In h (hops_of net.hops g) → ⊥) → rank net g h ≡ 0
+  pub rank_of_other : (h : LinkHop) → (In h (hops_of net.hops g) → ⊥) → rank net g h ≡ 0
   rank_of_other h off = either (has_hop (hops_of net.hops g) h) (λ t. absurd (off (has_hop_in (hops_of net.hops g) h t))) (λ f. if_false (has_hop (hops_of net.hops g) h) _ 0 f)
 
-  pub rank_within : (h : Hop) → In h (hops_of net.hops g) → rank net g h ≤ longest net
+  pub rank_within : (h : LinkHop) → In h (hops_of net.hops g) → rank net g h ≤ longest net
   rank_within h i =
       let r = in_group net.hops g h i in
-      let e : rank net r.0.group r.0.hop ≡ rank net g h = ap (λ (a : Addr). rank net a r.0.hop) r.2 ∙ ap (λ (x : Hop). rank net g x) r.3 in
+      let e : rank net r.0.group r.0.hop ≡ rank net g h = ap (λ (a : Addr). rank net a r.0.hop) r.2 ∙ ap (λ (x : LinkHop). rank net g x) r.3 in
       let b = below_largest (rank_of net) r.0 net.hops r.1 in
       omega arith
 
 module _ (net : Net) (free : IsLoopFree net) where
-  pub rank_falls_at : (g : Addr) (h h' : Hop) → Follows net g h h' → rank net g h' < rank net g h
+  pub rank_falls_at : (g : Addr) (h h' : LinkHop) → Follows net g h h' → rank net g h' < rank net g h
   rank_falls_at g h h' f =
       let i = tree_group net.hops g f.source h f.first in
       let i' = tree_group net.hops g f.source h' f.second in
@@ -46,13 +46,13 @@ module _ (net : Net) (free : IsLoopFree net) where
       let e' = rank_of_hop net g h' i' in
       omega arith
 
-  pub rank_some : (g : Addr) (h : Hop) → In h (hops_of net.hops g) → 1 ≤ rank net g h
+  pub rank_some : (g : Addr) (h : LinkHop) → In h (hops_of net.hops g) → 1 ≤ rank net g h
   rank_some g h i =
       let e = rank_of_hop net g h i in
       let some = height_some (followers net g) (hops_of net.hops g) (follower_of_group net g) (free g) h i in
       omega arith
 
-  pub bound : (g : Addr) (c : List Hop) → IsChain net g c → length c ≤ longest net
+  pub bound : (g : Addr) (c : List LinkHop) → IsChain net g c → length c ≤ longest net
   bound g [] chain = omega arith
   bound g (h ∷ c) chain =
       let i = first_in c chain in
@@ -61,14 +61,14 @@ module _ (net : Net) (free : IsLoopFree net) where
       let le = rank_within net g h i in
       omega arith
     where
-      first_in : (c : List Hop) → IsChain net g (h ∷ c) → In h (hops_of net.hops g)
+      first_in : (c : List LinkHop) → IsChain net g (h ∷ c) → In h (hops_of net.hops g)
       first_in [] chain = chain
       first_in (y ∷ ys) chain = chain.0
 
-  pub met : (longest net ≡ 0) ⊎ ((g : Addr) × (c : List Hop) × IsChain net g c × (length c ≡ longest net))
+  pub met : (longest net ≡ 0) ⊎ ((g : Addr) × (c : List LinkHop) × IsChain net g c × (length c ≡ longest net))
   met = by (largest_is (rank_of net) net.hops)
     where
-      by : (net.hops ≡ []) ⊎ ((r : TreeHop) × In r net.hops × (rank_of net r ≡ largest (each (rank_of net) net.hops))) → (longest net ≡ 0) ⊎ ((g : Addr) × (c : List Hop) × IsChain net g c × (length c ≡ longest net))
+      by : (net.hops ≡ []) ⊎ ((r : TreeHop) × In r net.hops × (rank_of net r ≡ largest (each (rank_of net) net.hops))) → (longest net ≡ 0) ⊎ ((g : Addr) × (c : List LinkHop) × IsChain net g c × (length c ≡ longest net))
       by (inl e) = inl (ap (λ (rs : List TreeHop). largest (each (rank_of net) rs)) e)
       by (inr r) =
           let i = to_group net.hops r.0 r.1 in

@@ -31,7 +31,7 @@ use Rattle.style_rules.proofs.Books.{under_at_end, book_below, held_at_end_below
 use Rattle.style_rules.proofs.Claims.{merge_keeps_the_style}
 use Rattle.style_rules.proofs.StyleLaws.{cut_of_style, fixed_parts, unit_of_names}
 use Rattle.style_rules.proofs.Room.{within_below}
-use Rattle.tree_model.specs.declared.hops.Hop.{Hop}
+use Rattle.tree_model.specs.declared.hops.LinkHop.{LinkHop}
 use Rattle.tree_model.specs.Networks.{Net, node_of}
 use Rattle.tree_model.specs.Trees.{tree, hops_of}
 use Rattle.tree_model.specs.Ranks.{has_hop, followers, rank, IsLoopFree}
@@ -67,38 +67,38 @@ nobody = empty
 -- ---- names
 module _ (st : StyleKind) (net : Net) (l : Locals) (s : Session) where
   -- a name stands for a live sender whose tree has the hops
-  pub name_told : (hs : List Hop) (x : Sender) → has (names st net l s hs) x ≡ true → (a : Sender) × In a (live l s) × (goes_over net s hs a ≡ true) × (x ≡ name_of st a)
+  pub name_told : (hs : List LinkHop) (x : Sender) → has (names st net l s hs) x ≡ true → (a : Sender) × In a (live l s) × (goes_over net s hs a ≡ true) × (x ≡ name_of st a)
   name_told hs x e =
       let i = set_of_in senders (each (name_of st) (filter (goes_over net s hs) (live l s))) x e in
       let a = in_each (name_of st) x (filter (goes_over net s hs) (live l s)) i in
       let f = in_filter (goes_over net s hs) a.0 (live l s) a.1 in
       (a.0, f.0, f.1, a.2)
 
-  pub name_made : (hs : List Hop) (a : Sender) → In a (live l s) → goes_over net s hs a ≡ true → has (names st net l s hs) (name_of st a) ≡ true
+  pub name_made : (hs : List LinkHop) (a : Sender) → In a (live l s) → goes_over net s hs a ≡ true → has (names st net l s hs) (name_of st a) ≡ true
   name_made hs a i t = in_set_of senders (each (name_of st) (filter (goes_over net s hs) (live l s))) (name_of st a) (to_each (name_of st) a (filter (goes_over net s hs) (live l s)) (to_filter (goes_over net s hs) a (live l s) i t))
 
-  over_in : (hs : List Hop) (a : Sender) → goes_over net s hs a ≡ true → (h : Hop) → In h hs → In h (tree net.hops s.group a.addr)
+  over_in : (hs : List LinkHop) (a : Sender) → goes_over net s hs a ≡ true → (h : LinkHop) → In h hs → In h (tree net.hops s.group a.addr)
   over_in hs a t h i = has_hop_in (tree net.hops s.group a.addr) h (all_in (has_hop (tree net.hops s.group a.addr)) hs t h i)
 
-  in_over : (hs : List Hop) (a : Sender) → ((h : Hop) → In h hs → In h (tree net.hops s.group a.addr)) → goes_over net s hs a ≡ true
+  in_over : (hs : List LinkHop) (a : Sender) → ((h : LinkHop) → In h hs → In h (tree net.hops s.group a.addr)) → goes_over net s hs a ≡ true
   in_over hs a f = in_all (has_hop (tree net.hops s.group a.addr)) hs (λ h i. in_has_hop (tree net.hops s.group a.addr) h (f h i))
 
   -- names over more hops are fewer
-  pub both_one : (h h' : Hop) → IsWithin (names st net l s (h ∷ h' ∷ [])) (names st net l s (h ∷ []))
+  pub both_one : (h h' : LinkHop) → IsWithin (names st net l s (h ∷ h' ∷ [])) (names st net l s (h ∷ []))
   both_one h h' x e =
       let a = name_told (h ∷ h' ∷ []) x e in
       let over = in_over (h ∷ []) a.0 (λ y i. over_in (h ∷ h' ∷ []) a.0 a.2 y (⊎_elim (λ (q : y ≡ h). inl q) (λ (j : ⊥). absurd j) i)) in
       subst (λ (y : Sender). has (names st net l s (h ∷ [])) y ≡ true) (sym a.3) (name_made (h ∷ []) a.0 a.1 over)
 
   -- what is no hop of the group has no names
-  no_names : (h : Hop) → (In h (hops_of net.hops s.group) → ⊥) → names st net l s (h ∷ []) ≡ empty
+  no_names : (h : LinkHop) → (In h (hops_of net.hops s.group) → ⊥) → names st net l s (h ∷ []) ≡ empty
   no_names h off =
       ap (λ (xs : List Sender). set_of {o = senders} (each (name_of st) xs))
       (none_in (filter (goes_over net s (h ∷ [])) (live l s))
       (λ a i. let f = in_filter (goes_over net s (h ∷ [])) a (live l s) i in off (tree_group net.hops s.group a.addr h (over_in (h ∷ []) a f.1 h (inl refl)))))
 
   -- ---- the equation
-  same_want : (h : Hop) (f g : Hop → PartTable) → ((y : Hop) → In y (followers net s.group h) → f y ≡ g y) → want_from st net l s h f ≡ want_from st net l s h g
+  same_want : (h : LinkHop) (f g : LinkHop → PartTable) → ((y : LinkHop) → In y (followers net s.group h) → f y ≡ g y) → want_from st net l s h f ≡ want_from st net l s h g
   same_want h f g e =
       ap (λ (ps : List Part). merge st (own st net l s h ++ ps))
       (flat_same (brought st net l s h f) (brought st net l s h g) (followers net s.group h)
@@ -119,23 +119,23 @@ module _ (st : StyleKind) (net : Net) (l : Locals) (s : Session) where
   wanted_nothing Fixed p = cut_nothing p
   wanted_nothing Shared p = cut_nothing p
 
-  off_tree : (h : Hop) (f : Hop → PartTable) → (In h (hops_of net.hops s.group) → ⊥) → want_from st net l s h f ≡ empty
+  off_tree : (h : LinkHop) (f : LinkHop → PartTable) → (In h (hops_of net.hops s.group) → ⊥) → want_from st net l s h f ≡ empty
   off_tree h f off =
       let no_own : own st net l s h ≡ [] =
       flat_none (λ w. as_list (wanted_of st (names st net l s (h ∷ [])) w.part)) (filter (is_wanted_at st s (node_of net.ends h.to)) l.wants)
       (λ w. ap (λ (ns : Names). as_list (wanted_of st ns w.part)) (no_names h off) ∙ ap as_list (wanted_nothing st w.part)) in
       let no_more : followers net s.group h ≡ [] = none_in (followers net s.group h) (λ y i. let r = follower_follows net s.group h y i in off (tree_group net.hops s.group r.source h r.first)) in
       ap (λ (ps : List Part). merge st (ps ++ flat_map (brought st net l s h f) (followers net s.group h))) no_own
-      ∙ ap (λ (hs : List Hop). merge st (flat_map (brought st net l s h f) hs)) no_more
+      ∙ ap (λ (hs : List LinkHop). merge st (flat_map (brought st net l s h f) hs)) no_more
 
   module _ (free : IsLoopFree net) where
-    rank_zero : (h : Hop) → rank net s.group h ≡ 0 → In h (hops_of net.hops s.group) → ⊥
+    rank_zero : (h : LinkHop) → rank net s.group h ≡ 0 → In h (hops_of net.hops s.group) → ⊥
     rank_zero h e i = let some = rank_some net free s.group h i in omega arith
 
-    off : (h : Hop) (f : Hop → PartTable) → rank net s.group h ≡ 0 → want_from st net l s h f ≡ empty
+    off : (h : LinkHop) (f : LinkHop → PartTable) → rank net s.group h ≡ 0 → want_from st net l s h f ≡ empty
     off h f e = off_tree h f (rank_zero h e)
 
-    fall : (h y : Hop) → In y (followers net s.group h) → rank net s.group y < rank net s.group h
+    fall : (h y : LinkHop) → In y (followers net s.group h) → rank net s.group y < rank net s.group h
     fall h y i = rank_falls_at net free s.group h y (follower_follows net s.group h y i)
 
     pub want_equation : WantEquation st net l s
@@ -156,7 +156,7 @@ module _ (st : StyleKind) (net : Net) (l : Locals) (s : Session) where
   wanted_within Fixed ns p q e = subst (λ (t : Names). IsWithin t ns) (sym (cut_senders p q ns e)) (within_right p.senders ns)
   wanted_within Shared ns p q e = subst (λ (t : Names). IsWithin t ns) (sym (cut_senders p q ns e)) (within_right p.senders ns)
 
-  parts_within : (h : Hop) (f : Hop → PartTable) (q : Part) → In q (own st net l s h ++ flat_map (brought st net l s h f) (followers net s.group h)) → IsWithin q.senders (names st net l s (h ∷ []))
+  parts_within : (h : LinkHop) (f : LinkHop → PartTable) (q : Part) → In q (own st net l s h ++ flat_map (brought st net l s h f) (followers net s.group h)) → IsWithin q.senders (names st net l s (h ∷ []))
   parts_within h f q i =
       ⊎_elim
       (λ (j : In q (own st net l s h)).
@@ -169,7 +169,7 @@ module _ (st : StyleKind) (net : Net) (l : Locals) (s : Session) where
       λ x t. both_one h y.0 x (within_right p.0.senders (names st net l s (h ∷ y.0 ∷ [])) x (subst (λ (u : Names). has u x ≡ true) (cut_senders p.0 q (names st net l s (h ∷ y.0 ∷ [])) e) t)))
       (in_append q (own st net l s h) (flat_map (brought st net l s h f) (followers net s.group h)) i)
 
-  fuel_within : (n : ℕ) (h : Hop) (u : UnitOf) (p : Part) → get (by_fuel (want_from st net l s) empty n h) u ≡ Some p → IsWithin p.senders (names st net l s (h ∷ []))
+  fuel_within : (n : ℕ) (h : LinkHop) (u : UnitOf) (p : Part) → get (by_fuel (want_from st net l s) empty n h) u ≡ Some p → IsWithin p.senders (names st net l s (h ∷ []))
   fuel_within zero h u p e = cc
   fuel_within (suc n) h u p e =
       merge_keeps units (part_unit st) (λ p. p) (λ q. IsWithin q.senders (names st net l s (h ∷ []))) (λ a b x y. union_least a.senders b.senders (names st net l s (h ∷ [])) x y)
@@ -193,21 +193,21 @@ module _ (st : StyleKind) (net : Net) (l : Locals) (s : Session) where
       let one = over_in (h ∷ []) a.0 a.2 h (inl refl) in
       let addr = same_addr st b.0 a.0 (sym b.3 ∙ a.3) in
       let two = subst (λ (y : Addr). In h' (tree net.hops s.group y)) addr (over_in (h' ∷ []) b.0 b.2 h' (inl refl)) in
-      let over = in_over (h ∷ h' ∷ []) a.0 (λ y i. ⊎_elim (λ (q : y ≡ h). subst (λ (z : Hop). In z (tree net.hops s.group a.0.addr)) (sym q) one) (λ (j : In y (h' ∷ [])). ⊎_elim (λ (q : y ≡ h'). subst (λ (z : Hop). In z (tree net.hops s.group a.0.addr)) (sym q) two) (λ (k : ⊥). absurd k) j) i) in (
+      let over = in_over (h ∷ h' ∷ []) a.0 (λ y i. ⊎_elim (λ (q : y ≡ h). subst (λ (z : LinkHop). In z (tree net.hops s.group a.0.addr)) (sym q) one) (λ (j : In y (h' ∷ [])). ⊎_elim (λ (q : y ≡ h'). subst (λ (z : LinkHop). In z (tree net.hops s.group a.0.addr)) (sym q) two) (λ (k : ⊥). absurd k) j) i) in (
         subst (λ (y : Sender). has (names st net l s (h ∷ h' ∷ [])) y ≡ true) (sym a.3) (name_made (h ∷ h' ∷ []) a.0 a.1 over),
         record { source = a.0.addr; first = one; second = two; meet = meet },
       )
 
 -- ---- fixed filters
 module _ (net : Net) (l : Locals) (s : Session) (one : (w : LocalWant) → In w l.wants → w.style ≡ Fixed → size w.part.senders ≡ 1) where
-  own_fixed : (h : Hop) (q : Part) → In q (own Fixed net l s h) → IsOfStyle Fixed q
+  own_fixed : (h : LinkHop) (q : Part) → In q (own Fixed net l s h) → IsOfStyle Fixed q
   own_fixed h q i =
       let w = in_flat_map (λ w. as_list (wanted_of Fixed (names Fixed net l s (h ∷ [])) w.part)) q (filter (is_wanted_at Fixed s (node_of net.ends h.to)) l.wants) i in
       let f = in_filter (is_wanted_at Fixed s (node_of net.ends h.to)) w.0 l.wants w.1 in
       let at = and_both _ _ (and_both _ _ f.1).1 in
       cut_of_style Fixed w.0.part q (names Fixed net l s (h ∷ [])) ((fixed_parts w.0.part).1 (one w.0 f.0 (sym (tied_same styles Fixed w.0.style at.1)))) (in_as_list (part_cut w.0.part (names Fixed net l s (h ∷ []))) q w.2)
 
-  fixed_by : (n : ℕ) (h : Hop) (u : UnitOf) (p : Part) → get (by_fuel (want_from Fixed net l s) empty n h) u ≡ Some p → IsOfStyle Fixed p × (part_unit Fixed p ≡ u)
+  fixed_by : (n : ℕ) (h : LinkHop) (u : UnitOf) (p : Part) → get (by_fuel (want_from Fixed net l s) empty n h) u ≡ Some p → IsOfStyle Fixed p × (part_unit Fixed p ≡ u)
   fixed_by zero h u p e = cc
   fixed_by (suc n) h u p e =
       (merge_keeps_the_style Fixed).merge (own Fixed net l s h ++ flat_map (brought Fixed net l s h (λ y. by_fuel (want_from Fixed net l s) empty n y)) (followers net s.group h)) u p
@@ -223,7 +223,7 @@ module _ (net : Net) (l : Locals) (s : Session) (one : (w : LocalWant) → In w 
       (in_append q (own Fixed net l s h) (flat_map (brought Fixed net l s h (λ y. by_fuel (want_from Fixed net l s) empty n y)) (followers net s.group h)) is.among))
       e
 
-  fixed_of : (h : Hop) (u : UnitOf) (p : Part) → get (want Fixed net l s h) u ≡ Some p → (size p.senders ≡ 1) × ((x : Sender) → has p.senders x ≡ true → u ≡ Of x)
+  fixed_of : (h : LinkHop) (u : UnitOf) (p : Part) → get (want Fixed net l s h) u ≡ Some p → (size p.senders ≡ 1) × ((x : Sender) → has p.senders x ≡ true → u ≡ Of x)
   unfolding want
   fixed_of h u p e =
       let r = fixed_by (rank net s.group h) h u p e in

@@ -14,7 +14,7 @@ use Rattle.style_rules.specs.Merge.{PartTable}
 use Rattle.style_rules.specs.Lines.{Line, EntryKey, AreUnder, book_of_end, held}
 use Rattle.style_rules.specs.Limits.{IsWithinLimits}
 use Rattle.tree_model.specs.declared.hops.End.{End}
-use Rattle.tree_model.specs.declared.hops.Hop.{Hop}
+use Rattle.tree_model.specs.declared.hops.LinkHop.{LinkHop}
 use Rattle.tree_model.specs.Networks.{Net, node_of}
 use Rattle.tree_model.specs.Trees.{hops_of}
 use Rattle.tree_model.specs.Ranks.{Follows}
@@ -25,22 +25,22 @@ use Rattle.tree_model.specs.Goals.{goal}
 -- where no chain is closed, the want of each hop comes of those of the hops that follow it; what is no hop of the group has
 -- none; and no other values do so
 pub record WantEquation (st : StyleKind) (net : Net) (l : Locals) (s : Session) : Type 0 where
-  pub equation : (h : Hop) → want st net l s h ≡ want_from st net l s h (want st net l s)
-  pub others : (h : Hop) → (In h (hops_of net.hops s.group) → ⊥) → want st net l s h ≡ empty
-  pub alone : (f : Hop → PartTable) → ((h : Hop) → In h (hops_of net.hops s.group) → f h ≡ want_from st net l s h f) → (h : Hop) → In h (hops_of net.hops s.group) → f h ≡ want st net l s h
+  pub equation : (h : LinkHop) → want st net l s h ≡ want_from st net l s h (want st net l s)
+  pub others : (h : LinkHop) → (In h (hops_of net.hops s.group) → ⊥) → want st net l s h ≡ empty
+  pub alone : (f : LinkHop → PartTable) → ((h : LinkHop) → In h (hops_of net.hops s.group) → f h ≡ want_from st net l s h f) → (h : LinkHop) → In h (hops_of net.hops s.group) → f h ≡ want st net l s h
 
 -- a part that is wanted over a hop names senders whose trees have it
 abbrev pub WantNames : StyleKind → Net → Locals → Session → Type 0
-WantNames st net l s = (h : Hop) (u : UnitOf) (p : Part) → get (want st net l s h) u ≡ Some p → IsWithin p.senders (names st net l s (h ∷ []))
+WantNames st net l s = (h : LinkHop) (u : UnitOf) (p : Part) → get (want st net l s h) u ≡ Some p → IsWithin p.senders (names st net l s (h ∷ []))
 
 -- where each local want of a fixed filter names one sender, so does each part that is wanted over a hop, and its unit is that name
 abbrev pub AFixedUnitIsItsName : Net → Locals → Session → Type 0
 AFixedUnitIsItsName net l s = ((w : LocalWant) → In w l.wants → w.style ≡ Fixed → size w.part.senders ≡ 1)
-    → (h : Hop) (u : UnitOf) (p : Part) → get (want Fixed net l s h) u ≡ Some p → (size p.senders ≡ 1) × ((x : Sender) → has p.senders x ≡ true → u ≡ Of x)
+    → (h : LinkHop) (u : UnitOf) (p : Part) → get (want Fixed net l s h) u ≡ Some p → (size p.senders ≡ 1) × ((x : Sender) → has p.senders x ≡ true → u ≡ Of x)
 
 -- a name over two hops that meet in a node is over both together, and then the one follows the other
 abbrev pub CommonNameMakesAFollower : StyleKind → Net → Locals → Session → Type 0
-CommonNameMakesAFollower st net l s = (h h' : Hop) (x : Sender) → has (names st net l s (h ∷ [])) x ≡ true → has (names st net l s (h' ∷ [])) x ≡ true → node_of net.ends h'.from ≡ node_of net.ends h.to
+CommonNameMakesAFollower st net l s = (h h' : LinkHop) (x : Sender) → has (names st net l s (h ∷ [])) x ≡ true → has (names st net l s (h' ∷ [])) x ≡ true → node_of net.ends h'.from ≡ node_of net.ends h.to
     → (has (names st net l s (h ∷ h' ∷ [])) x ≡ true) × Follows net s.group h h'
 
 -- where the demands fit, lines that are each under a line of a node's goal are within the limits of its tables, and at each of

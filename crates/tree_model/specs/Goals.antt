@@ -14,7 +14,7 @@ use Rattle.rsvp_base.specs.Table.{keys, get}
 use Rattle.style_rules.specs.Lines.{Line, EntryKey, BookTable, book_of_end, held}
 use Rattle.style_rules.specs.Limits.{IsWithinLimits}
 use Rattle.tree_model.specs.declared.hops.End.{End}
-use Rattle.tree_model.specs.declared.hops.Hop.{Hop}
+use Rattle.tree_model.specs.declared.hops.LinkHop.{LinkHop}
 use Rattle.tree_model.specs.Networks.{Net, node_of}
 use Rattle.tree_model.specs.Trees.{hops_of, goes_out_of}
 use Rattle.tree_model.specs.declared.locals.LocalWant.{LocalWant}
@@ -32,7 +32,7 @@ addr_of net e = addr_of_end (slice_get net.ends e)
 abbrev pub end_pairs : Keys (ℕ × ℕ)
 end_pairs = pairs numbers numbers
 
-abbrev pub hops_in_order : List Hop → List Hop
+abbrev pub hops_in_order : List LinkHop → List LinkHop
 hops_in_order hs = each (λ p. record { from = p.0; to = p.1 }) (keys (set_of {o = end_pairs} (each (λ h. (h.from, h.to)) hs)))
 
 -- the sessions that someone wants something of, each once
@@ -40,13 +40,13 @@ abbrev pub sessions_named : Locals → List Session
 sessions_named l = keys (set_of {o = sessions} (flat_map (λ w. w.session ∷ []) l.wants))
 
 -- what is wanted over a hop, as lines at the end that it goes out of
-abbrev pub lines_of : StyleKind → Net → Locals → Session → Hop → List Line
-lines_of st net l s h = each (λ e. record { style = st; session = s; end = h.from; next = addr_of net h.to; unit = e.0; part = e.1 }) (want st net l s h).rows
+abbrev pub hop_lines : StyleKind → Net → Locals → Session → LinkHop → List Line
+hop_lines st net l s h = each (λ e. record { style = st; session = s; end = h.from; next = addr_of net h.to; unit = e.0; part = e.1 }) (want st net l s h).rows
 
 -- what is wanted over all hops out of a node, by style, session, end, next hop and unit
 abbrev pub goal : Net → Locals → ℕ → List Line
 goal net l n =
-    flat_map (λ st. flat_map (λ s. flat_map (lines_of st net l s) (filter (goes_out_of net.ends n) (hops_in_order (hops_of net.hops s.group)))) (sessions_named l)) (Wild ∷ Fixed ∷ Shared ∷ [])
+    flat_map (λ st. flat_map (λ s. flat_map (hop_lines st net l s) (filter (goes_out_of net.ends n) (hops_in_order (hops_of net.hops s.group)))) (sessions_named l)) (Wild ∷ Fixed ∷ Shared ∷ [])
 
 -- the demand of an end: of each session and style, the merge of the wants of its hops
 abbrev pub demand_of : Net → Locals → ℕ → BookTable

@@ -13,7 +13,7 @@ use Rattle.rsvp_base.specs.Table.{empty, values}
 use Rattle.style_rules.specs.Styles.{name_of}
 use Rattle.style_rules.specs.Parts.{part_cut, part_of}
 use Rattle.style_rules.specs.Merge.{merge, PartTable}
-use Rattle.tree_model.specs.declared.hops.Hop.{Hop}
+use Rattle.tree_model.specs.declared.hops.LinkHop.{LinkHop}
 use Rattle.tree_model.specs.Networks.{Net, node_of}
 use Rattle.tree_model.specs.Trees.{tree}
 use Rattle.tree_model.specs.Ranks.{has_hop, followers, rank}
@@ -35,11 +35,11 @@ abbrev pub live : Locals → Session → List Sender
 live l s = each (λ x. x.sender) (filter (of_session s) l.senders)
 
 -- the tree of the sender's address in the session's group has each of these hops
-abbrev pub goes_over : Net → Session → List Hop → Sender → Bool
+abbrev pub goes_over : Net → Session → List LinkHop → Sender → Bool
 goes_over net s hs x = list_all (has_hop (tree net.hops s.group x.addr)) hs
 
 -- the names, as the style lists them, of the live senders whose trees have each of these hops
-abbrev pub names : StyleKind → Net → Locals → Session → List Hop → Names
+abbrev pub names : StyleKind → Net → Locals → Session → List LinkHop → Names
 names st net l s hs = set_of (each (name_of st) (filter (goes_over net s hs) (live l s)))
 
 -- ---- wants
@@ -58,17 +58,17 @@ abbrev pub is_wanted_at : StyleKind → Session → ℕ → LocalWant → Bool
 is_wanted_at st s n w = (w.node == n) && (eq_by_cmp sessions.cmp s w.session && eq_by_cmp styles.cmp st w.style)
 
 -- the local wants at the node that the hop goes into
-abbrev pub own : StyleKind → Net → Locals → Session → Hop → List Part
+abbrev pub own : StyleKind → Net → Locals → Session → LinkHop → List Part
 own st net l s h = flat_map (λ w. as_list (wanted_of st (names st net l s (h ∷ [])) w.part)) (filter (is_wanted_at st s (node_of net.ends h.to)) l.wants)
 
 -- what a hop that follows brings: its want, cut to the names whose trees have both hops
-abbrev pub brought : StyleKind → Net → Locals → Session → Hop → (Hop → PartTable) → Hop → List Part
+abbrev pub brought : StyleKind → Net → Locals → Session → LinkHop → (LinkHop → PartTable) → LinkHop → List Part
 brought st net l s h want h' = flat_map (λ p. as_list (part_cut p (names st net l s (h ∷ h' ∷ [])))) (values (want h'))
 
 -- the want of a hop from those of the hops that follow it
-abbrev pub want_from : StyleKind → Net → Locals → Session → Hop → (Hop → PartTable) → PartTable
+abbrev pub want_from : StyleKind → Net → Locals → Session → LinkHop → (LinkHop → PartTable) → PartTable
 want_from st net l s h want = merge st (own st net l s h ++ flat_map (brought st net l s h want) (followers net s.group h))
 
 -- the want of a hop; chains from it are as long as its rank at most
-unfoldable pub want : StyleKind → Net → Locals → Session → Hop → PartTable
+unfoldable pub want : StyleKind → Net → Locals → Session → LinkHop → PartTable
 want st net l s h = by_fuel (want_from st net l s) empty (rank net s.group h) h

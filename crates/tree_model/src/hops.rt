@@ -13,7 +13,7 @@ pub struct End {
 
 /// A hop: an ordered pair of ends of one link, by their numbers. Hops are ordered by the first end, then the second.
 #[derive(Clone, Copy, Debug, PartialEq, Eq, PartialOrd, Ord, Hash)]
-pub struct Hop {
+pub struct LinkHop {
     /// The end that it goes out of.
     pub from: u16,
     /// The end that it goes into.
@@ -25,5 +25,5 @@ pub struct Hop {
 pub struct TreeHop {
     pub group: Addr,
     pub source: Addr,
-    pub hop: Hop,
+    pub hop: LinkHop,
 }

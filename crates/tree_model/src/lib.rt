@@ -17,5 +17,5 @@ mod hops;
 pub mod laws;
 mod locals;
 
-pub use hops::{End, Hop, TreeHop};
+pub use hops::{End, LinkHop, TreeHop};
 pub use locals::{LocalSender, LocalWant};

@@ -6,7 +6,7 @@ use Rattle.rsvp_base.specs.Members.{In}
 use Rattle.rsvp_base.specs.declared.addr.Addr.{Addr}
 use Rattle.rsvp_base.proofs.Members.{in_append}
 use Rattle.rsvp_base.proofs.Tables.{either}
-use Rattle.tree_model.specs.declared.hops.Hop.{Hop}
+use Rattle.tree_model.specs.declared.hops.LinkHop.{LinkHop}
 use Rattle.tree_model.specs.Networks.{Net, node_of, owner, among, link_of}
 use Rattle.tree_model.specs.Trees.{tree, hops_of, is_linked, is_reached, Grows, IsGrownFrom, IsGrown}
 use Rattle.tree_model.specs.Chains.{Chain, HasNoLoop, last_of}
@@ -31,23 +31,23 @@ free_map follow follow' all all' f s free h c closed =
 
 -- ---- trees
 -- of a hop that was linked the new network says the same
-pub record Same (net more : Net) (h : Hop) : Type 0 where
+pub record Same (net more : Net) (h : LinkHop) : Type 0 where
   pub linked : is_linked more.links h ≡ true
   pub from : node_of more.ends h.from ≡ node_of net.ends h.from
   pub to : node_of more.ends h.to ≡ node_of net.ends h.to
   pub link : link_of more.links h.from ≡ link_of net.links h.from
 
-module _ (net more : Net) (same : (h : Hop) → is_linked net.links h ≡ true → Same net more h) where
+module _ (net more : Net) (same : (h : LinkHop) → is_linked net.links h ≡ true → Same net more h) where
   module _ (s : Addr) (root : owner more.ends s ≡ owner net.ends s) where
-    leads_on : (hs : List Hop) → ((x : Hop) → In x hs → is_linked net.links x ≡ true) → (n : ℕ) → Leads net.ends s hs n → Leads more.ends s hs n
+    leads_on : (hs : List LinkHop) → ((x : LinkHop) → In x hs → is_linked net.links x ≡ true) → (n : ℕ) → Leads net.ends s hs n → Leads more.ends s hs n
     leads_on hs all n (inl e) = inl (root ∙ e)
     leads_on hs all n (inr h) = inr (h.0, h.1, (same h.0 (all h.0 h.1)).to ∙ h.2)
 
-    leads_back : (hs : List Hop) → ((x : Hop) → In x hs → is_linked net.links x ≡ true) → (n : ℕ) → Leads more.ends s hs n → Leads net.ends s hs n
+    leads_back : (hs : List LinkHop) → ((x : LinkHop) → In x hs → is_linked net.links x ≡ true) → (n : ℕ) → Leads more.ends s hs n → Leads net.ends s hs n
     leads_back hs all n (inl e) = inl (sym root ∙ e)
     leads_back hs all n (inr h) = inr (h.0, h.1, sym (same h.0 (all h.0 h.1)).to ∙ h.2)
 
-    grows_on : (hs : List Hop) (h : Hop) → ((x : Hop) → In x hs → is_linked net.links x ≡ true) → Grows net s hs h → Grows more s hs h
+    grows_on : (hs : List LinkHop) (h : LinkHop) → ((x : LinkHop) → In x hs → is_linked net.links x ≡ true) → Grows net s hs h → Grows more s hs h
     grows_on hs h all g =
         let i = same h g.linked in
         record {
@@ -56,10 +56,10 @@ module _ (net more : Net) (same : (h : Hop) → is_linked net.links h ≡ true �
           to_new = either (is_reached more.ends s hs (node_of more.ends h.to))
               (λ t. absurd (true_false _ (reached_tested net.ends s hs (node_of net.ends h.to) (leads_back hs all (node_of net.ends h.to) (subst (λ n. Leads more.ends s hs n) i.to (reached_told more.ends s hs (node_of more.ends h.to) t)))) g.to_new))
               (λ f. f);
-          alone = ap (λ (l : List ℕ). list_all (λ (x : Hop). not (among x.from l) || (x.from == h.from)) hs) i.link ∙ g.alone;
+          alone = ap (λ (l : List ℕ). list_all (λ (x : LinkHop). not (among x.from l) || (x.from == h.from)) hs) i.link ∙ g.alone;
         }
 
-    grown_on : (before hs : List Hop) → ((x : Hop) → In x before → is_linked net.links x ≡ true) → IsGrownFrom net s before hs → IsGrownFrom more s before hs
+    grown_on : (before hs : List LinkHop) → ((x : LinkHop) → In x before → is_linked net.links x ≡ true) → IsGrownFrom net s before hs → IsGrownFrom more s before hs
     grown_on before [] all grown = tt
     grown_on before (h ∷ hs) all grown = (
       grows_on before h all grown.0,
@@ -68,7 +68,7 @@ module _ (net more : Net) (same : (h : Hop) → is_linked net.links h ≡ true �
     )
 
   -- a tree that has a hop has a root
-  pub grown_over : (s : Addr) (hs : List Hop) → ((n : ℕ) → owner net.ends s ≡ Some n → owner more.ends s ≡ Some n) → IsGrown net s hs → IsGrown more s hs
+  pub grown_over : (s : Addr) (hs : List LinkHop) → ((n : ℕ) → owner net.ends s ≡ Some n → owner more.ends s ≡ Some n) → IsGrown net s hs → IsGrown more s hs
   grown_over s [] root grown = tt
   grown_over s (h ∷ hs) root grown = by (reached_told net.ends s [] (node_of net.ends h.from) grown.0.from_reached)
     where
@@ -82,7 +82,7 @@ module _ (net more : Net) (same : (h : Hop) → is_linked net.links h ≡ true �
       free_map (followers more g) (followers net g) (hops_of more.hops g) (hops_of net.hops g) (λ x i. subst (λ hops. In x (hops_of hops g)) e i)
       (λ x y i j. follows_follower net g x y (back x y (follower_follows more g x y j))) free
     where
-      back : (x y : Hop) → Follows more g x y → Follows net g x y
+      back : (x y : LinkHop) → Follows more g x y → Follows net g x y
       back x y f =
           let i = subst (λ hops. In x (tree hops g f.source)) e f.first in
           let j = subst (λ hops. In y (tree hops g f.source)) e f.second in

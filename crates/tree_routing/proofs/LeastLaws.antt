@@ -3,7 +3,7 @@ use Rattle.std.specs.Prelude.{◌≡◌, ◌⊎◌, ℕ, ◌+◌, ◌<◌, ◌�
 use Rattle.std.proofs.Common.{zero, suc, sym, ap, subst, ◌∙◌, inl, inr, ⊎_elim, arith, take}
 use Rattle.rsvp_base.specs.Members.{In}
 use Rattle.rsvp_base.proofs.Members.{in_left, in_right, in_append}
-use Rattle.tree_model.specs.declared.hops.Hop.{Hop}
+use Rattle.tree_model.specs.declared.hops.LinkHop.{LinkHop}
 use Rattle.tree_routing.specs.declared.known.Known.{Known}
 use Rattle.tree_routing.specs.Answers.{IsUpTo}
 use Rattle.tree_routing.specs.Marks.{AreBelow}
@@ -19,7 +19,7 @@ take_one_more [] i d lt = absurd (omega arith)
 take_one_more (x ∷ xs) zero d lt = refl
 take_one_more {X} (x ∷ xs) (suc i) d lt = let e : suc i + 1 ≡ suc (i + 1) = omega arith in ap (λ (n : ℕ). take n (x ∷ xs)) e ∙ ap (λ (ys : List X). x ∷ ys) (take_one_more xs i d (omega arith))
 
-up_order : (a b : Hop) → IsUpTo a b ⊎ (IsUpTo a b → ⊥)
+up_order : (a b : LinkHop) → IsUpTo a b ⊎ (IsUpTo a b → ⊥)
 up_order a b = by_from (grind arith)
   where
     by_to : a.from ≡ b.from → (a.to ≤ b.to) ⊎ (b.to < a.to) → IsUpTo a b ⊎ (IsUpTo a b → ⊥)
@@ -35,7 +35,7 @@ up_order a b = by_from (grind arith)
     by_from (inr r) = by_same r
 
 -- what is not at most the other is more
-pub up_other : (a b : Hop) → (IsUpTo a b → ⊥) → IsUpTo b a
+pub up_other : (a b : LinkHop) → (IsUpTo a b → ⊥) → IsUpTo b a
 up_other a b not_up = by (grind arith)
   where
     by_to : a.from ≡ b.from → (a.to ≤ b.to) ⊎ (b.to < a.to) → IsUpTo b a
@@ -50,19 +50,19 @@ up_other a b not_up = by (grind arith)
     by (inl lt) = absurd (not_up (inl lt))
     by (inr r) = by_same r
 
-pub up_along : (a b c : Hop) → IsUpTo a b → IsUpTo b c → IsUpTo a c
+pub up_along : (a b c : LinkHop) → IsUpTo a b → IsUpTo b c → IsUpTo a c
 up_along a b c (inl l) (inl m) = inl (omega arith)
 up_along a b c (inl l) (inr m) = let e = m.0 in inl (omega arith)
 up_along a b c (inr l) (inl m) = let e = l.0 in inl (omega arith)
 up_along a b c (inr l) (inr m) = let e = l.1 in let f = m.1 in inr (l.0 ∙ m.0, omega arith)
 
-pub up_itself : (a : Hop) → IsUpTo a a
+pub up_itself : (a : LinkHop) → IsUpTo a a
 up_itself a = inr (refl, omega arith)
 
 pub least_start : (ks : List Known) (new : Known) (before : ℕ) → IsLeastAmong ks [] new before new.hop.hop
 least_start ks new before = record { there = inl refl; first = up_itself new.hop.hop; least = λ k i g b. absurd i }
 
-module _ (ks some : List Known) (new : Known) (before : ℕ) (k : Known) (least : Hop) (so_far : IsLeastAmong ks some new before least) where
+module _ (ks some : List Known) (new : Known) (before : ℕ) (k : Known) (least : LinkHop) (so_far : IsLeastAmong ks some new before least) where
   better_first : IsBetter ks new before k least → IsLeastAmong ks (some ++ k ∷ []) new before k.hop.hop
   better_first b =
       let less = up_other least k.hop.hop b.1 in
@@ -89,9 +89,9 @@ module _ (ks some : List Known) (new : Known) (before : ℕ) (k : Known) (least 
       by_order x e g w (inl up) = up
       by_order x e g w (inr not_up) = absurd (no_better (subst (λ (y : Known). IsBetter ks new before y least) e (g, not_up, w)))
 
-  pub least_more : (h : Hop) → IsLesser ks new before k least h → IsLeastAmong ks (some ++ k ∷ []) new before h
-  least_more h (inl b) = subst (λ (x : Hop). IsLeastAmong ks (some ++ k ∷ []) new before x) (sym b.1) (better_first b.0)
-  least_more h (inr b) = subst (λ (x : Hop). IsLeastAmong ks (some ++ k ∷ []) new before x) (sym b.1) (same_least b.0)
+  pub least_more : (h : LinkHop) → IsLesser ks new before k least h → IsLeastAmong ks (some ++ k ∷ []) new before h
+  least_more h (inl b) = subst (λ (x : LinkHop). IsLeastAmong ks (some ++ k ∷ []) new before x) (sym b.1) (better_first b.0)
+  least_more h (inr b) = subst (λ (x : LinkHop). IsLeastAmong ks (some ++ k ∷ []) new before x) (sym b.1) (same_least b.0)
 
 pub vertex_within : (ks : List Known) (n i : ℕ) (d : Known) → AreBelow n ks → i < length ks → (slice_index_or ks i d).vertex ≤ n
 vertex_within ks n i d below lt = let r = below (slice_index_or ks i d) (at_in ks i d lt) in omega arith

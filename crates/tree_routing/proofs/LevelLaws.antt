@@ -6,7 +6,7 @@ use Rattle.rsvp_base.proofs.Fronts.{got_in}
 use Rattle.rsvp_base.specs.Members.{In}
 use Rattle.rsvp_base.specs.declared.addr.Addr.{Addr}
 use Rattle.tree_model.specs.declared.hops.End.{End}
-use Rattle.tree_model.specs.declared.hops.Hop.{Hop}
+use Rattle.tree_model.specs.declared.hops.LinkHop.{LinkHop}
 use Rattle.tree_model.specs.declared.hops.TreeHop.{TreeHop}
 use Rattle.tree_model.specs.Networks.{Net, node_of}
 use Rattle.tree_model.specs.Trees.{of_group, tree, hops_of}
@@ -177,7 +177,7 @@ module _ (nodes : ℕ) (ends : List End) (links : List Link) (ks : List Known) (
   top_at k i =
       let x = place_found (is_pair k.hop.group k.hop.hop) ks k i (pair_itself k) in
       let p = pair_told k.hop.group k.hop.hop x.0 x.2 in
-      ap (λ (v : ℕ). rank_at (slice_get ks v)) (known k i).vertex ∙ ap rank_at x.1 ∙ ap (λ (a : Addr). rank net a x.0.hop.hop) p.0 ∙ ap (λ (h : Hop). rank net k.hop.group h) p.1
+      ap (λ (v : ℕ). rank_at (slice_get ks v)) (known k i).vertex ∙ ap rank_at x.1 ∙ ap (λ (a : Addr). rank net a x.0.hop.hop) p.0 ∙ ap (λ (h : LinkHop). rank net k.hop.group h) p.1
 
   few_of_group : (g : Addr) → length (hops_of (plain ks) g) ≤ length ks
   few_of_group g =
@@ -240,16 +240,16 @@ module _ (nodes : ℕ) (ends : List End) (links : List Link) (ks : List Known) (
       omega arith
 
   -- each follower stands behind an edge
-  pub edge_of : (g : Addr) (a b : Hop) → Follows net g a b → (k : Known) × In k ks × (k.hop.group ≡ g) × (k.hop.hop ≡ b) × (k.before ≡ Some (vertex_at ks g a))
+  pub edge_of : (g : Addr) (a b : LinkHop) → Follows net g a b → (k : Known) × In k ks × (k.hop.group ≡ g) × (k.hop.hop ≡ b) × (k.before ≡ Some (vertex_at ks g a))
   edge_of g a b f =
       let x = tree_known ks g f.source a f.first in
       let k = tree_known ks g f.source b f.second in
-      let to : node_of ends x.0.hop.hop.to ≡ node_of ends k.0.hop.hop.from = ap (λ (y : Hop). node_of ends y.to) x.4 ∙ sym f.meet ∙ ap (λ (y : Hop). node_of ends y.from) (sym k.4) in
+      let to : node_of ends x.0.hop.hop.to ≡ node_of ends k.0.hop.hop.from = ap (λ (y : LinkHop). node_of ends y.to) x.4 ∙ sym f.meet ∙ ap (λ (y : LinkHop). node_of ends y.from) (sym k.4) in
       let y = before_found ends k.0.hop ks x.0 x.1 (comes_made ends k.0.hop x.0 (x.2 ∙ sym k.2) (x.3 ∙ sym k.3) to) in
       let c = comes_told ends k.0.hop y.0 y.2 in
       let in_both : In y.0.hop.hop (tree (plain ks) g f.source) = subst (λ (s : Addr). In y.0.hop.hop (tree (plain ks) g s)) (c.1 ∙ k.3) (subst (λ (d : Addr). In y.0.hop.hop (tree (plain ks) d y.0.hop.source)) (c.0 ∙ k.2) (known_tree ks y.0 y.1)) in
-      let is : y.0.hop.hop ≡ a = one net valid g f.source y.0.hop.hop a in_both f.first (c.2 ∙ ap (λ (z : Hop). node_of ends z.from) k.4 ∙ f.meet) in
-      let vertex : y.0.vertex ≡ vertex_at ks g a = (known y.0 y.1).vertex ∙ ap (λ (d : Addr). vertex_at ks d y.0.hop.hop) (c.0 ∙ k.2) ∙ ap (λ (z : Hop). vertex_at ks g z) is in
+      let is : y.0.hop.hop ≡ a = one net valid g f.source y.0.hop.hop a in_both f.first (c.2 ∙ ap (λ (z : LinkHop). node_of ends z.from) k.4 ∙ f.meet) in
+      let vertex : y.0.vertex ≡ vertex_at ks g a = (known y.0 y.1).vertex ∙ ap (λ (d : Addr). vertex_at ks d y.0.hop.hop) (c.0 ∙ k.2) ∙ ap (λ (z : LinkHop). vertex_at ks g z) is in
       (k.0, k.1, k.2, k.4, (known k.0 k.1).before ∙ y.3 ∙ ap Some vertex)
 
   -- levels that are at least so high, and no higher than ranks
@@ -277,17 +277,17 @@ module _ (nodes : ℕ) (ends : List End) (links : List Link) (ks : List Known) (
         least = λ k i. by k i (largest_is (λ x. height (followers net k.hop.group) j x) (followers net k.hop.group k.hop.hop));
       }
     where
-      by : (k : Known) → In k ks → (followers net k.hop.group k.hop.hop ≡ []) ⊎ ((x : Hop) × In x (followers net k.hop.group k.hop.hop) × (height (followers net k.hop.group) j x ≡ largest (each (λ x. height (followers net k.hop.group) j x) (followers net k.hop.group k.hop.hop))))
+      by : (k : Known) → In k ks → (followers net k.hop.group k.hop.hop ≡ []) ⊎ ((x : LinkHop) × In x (followers net k.hop.group k.hop.hop) × (height (followers net k.hop.group) j x ≡ largest (each (λ x. height (followers net k.hop.group) j x) (followers net k.hop.group k.hop.hop))))
           → height (followers net k.hop.group) (suc j) k.hop.hop ≤ level (lift ks ls) k.vertex
       by k i (inl e) =
-          let none : largest (each (λ x. height (followers net k.hop.group) j x) (followers net k.hop.group k.hop.hop)) ≡ 0 = ap (λ (xs : List Hop). largest (each (λ x. height (followers net k.hop.group) j x) xs)) e in
+          let none : largest (each (λ x. height (followers net k.hop.group) j x) (followers net k.hop.group k.hop.hop)) ≡ 0 = ap (λ (xs : List LinkHop). largest (each (λ x. height (followers net k.hop.group) j x) xs)) e in
           let a = h.some k i in let b = lift_more ks ls k.vertex in omega arith
       by k i (inr x) =
           let g = k.hop.group in
           let y = edge_of g k.hop.hop x.0 (follower_follows net g k.hop.hop x.0 x.1) in
           let before : y.0.before ≡ Some k.vertex = y.4 ∙ ap Some (sym (known k i).vertex) in
           let up = lift_edge top top_small ks ls edge_falls h.most y.0 y.1 k.vertex before (let lt = vertex_below ends ks known k i in let s = h.size in omega arith) in
-          let low : height (followers net g) j x.0 ≤ level ls y.0.vertex = subst (λ (z : Hop). height (followers net g) j z ≤ level ls y.0.vertex) y.3 (subst (λ (d : Addr). height (followers net d) j y.0.hop.hop ≤ level ls y.0.vertex) y.2 (h.least y.0 y.1)) in
+          let low : height (followers net g) j x.0 ≤ level ls y.0.vertex = subst (λ (z : LinkHop). height (followers net g) j z ≤ level ls y.0.vertex) y.3 (subst (λ (d : Addr). height (followers net d) j y.0.hop.hop ≤ level ls y.0.vertex) y.2 (h.least y.0 y.1)) in
           let at = x.2 in
           omega arith
 

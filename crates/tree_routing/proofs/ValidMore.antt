@@ -10,7 +10,7 @@ use Rattle.rsvp_base.proofs.Members.{in_append, in_filter}
 use Rattle.rsvp_base.proofs.SetLaws.{and_both}
 use Rattle.rsvp_base.proofs.Tables.{either}
 use Rattle.tree_model.specs.declared.hops.End.{End}
-use Rattle.tree_model.specs.declared.hops.Hop.{Hop}
+use Rattle.tree_model.specs.declared.hops.LinkHop.{LinkHop}
 use Rattle.tree_model.specs.declared.hops.TreeHop.{TreeHop}
 use Rattle.tree_model.specs.Networks.{Net, node_of, node_of_end, ends_from, ends_of, owner, among, link_of, peers}
 use Rattle.tree_model.specs.Trees.{of_group, of_tree, tree, hops_of, is_linked, Grows, IsGrownFrom, IsGrown}
@@ -52,7 +52,7 @@ module _ (net : Net) (valid : IsValid net) where
       by true rest i = inl refl
       by false rest i = inr (rest i)
 
-  pub to_there : (h : Hop) → is_linked net.links h ≡ true → In h.to (link_of net.links h.from)
+  pub to_there : (h : LinkHop) → is_linked net.links h ≡ true → In h.to (link_of net.links h.from)
   to_there h e = in_peer (among_in h.to (peers net.links h.from) e)
     where
       in_peer : In h.to (peers net.links h.from) → In h.to (link_of net.links h.from)
@@ -61,12 +61,12 @@ module _ (net : Net) (valid : IsValid net) where
           filtered : (xs : List ℕ) → In h.to (filter (λ x. not (x == h.from)) xs) → In h.to xs
           filtered xs i = (in_filter (λ x. not (x == h.from)) h.to xs i).0
 
-  pub from_inside : (h : Hop) → is_linked net.links h ≡ true → h.from < length net.ends
+  pub from_inside : (h : LinkHop) → is_linked net.links h ≡ true → h.from < length net.ends
   from_inside h e =
       let i = to_there h e in
       valid.ends_of_links (link_of net.links h.from) h.from (link_is net.links h.from h.to i) (among_in h.from (link_of net.links h.from) (of_own_link net.links h.from h.to i))
 
-  pub to_inside : (h : Hop) → is_linked net.links h ≡ true → h.to < length net.ends
+  pub to_inside : (h : LinkHop) → is_linked net.links h ≡ true → h.to < length net.ends
   to_inside h e =
       let i = to_there h e in
       valid.ends_of_links (link_of net.links h.from) h.to (link_is net.links h.from h.to i) i
@@ -144,7 +144,7 @@ module _ (net : Net) (valid : IsValid net) (e : End) (takes : TakesEnd net e) wh
   address : (other : End) → In other net.ends → other.iface.addr ≡ e.iface.addr → ⊥
   address other i same = address_new net.ends e.iface.addr takes.address other i same
 
-  same_end : (h : Hop) → is_linked net.links h ≡ true → Same net (with_end net e) h
+  same_end : (h : LinkHop) → is_linked net.links h ≡ true → Same net (with_end net e) h
   same_end h t =
       record {
         linked = t;
@@ -269,7 +269,7 @@ module _ (net : Net) (valid : IsValid net) (a b : ℕ) (takes : TakesLink net a 
   new_link : (x : ℕ) → In x l → link_of (net.links ++ l ∷ []) x ≡ l
   new_link x i = link_new net.links l x (free_of x i) long ∙ ap (λ (t : Bool). if t then l else []) (in_among x l i)
 
-  same_link : (h : Hop) → is_linked net.links h ≡ true → Same net (with_link net a b) h
+  same_link : (h : LinkHop) → is_linked net.links h ≡ true → Same net (with_link net a b) h
   same_link h t =
       let i = to_there net valid h t in
       let e = link_kept net.links l h.from h.to i in
@@ -323,13 +323,13 @@ module _ (net : Net) (valid : IsValid net) (a b : ℕ) (takes : TakesLink net a 
       inside y i = ⊎_elim (λ (e : y ≡ a). let o = takes.one in let z : y < length net.ends = omega arith in z) (λ (e : y ≡ b). let o = takes.other in let z : y < length net.ends = omega arith in z) (order_has a b y i)
 
 -- ---- a hop
-grown_push : (net : Net) (s : Addr) (before hs : List Hop) (h : Hop) → IsGrownFrom net s before hs → Grows net s (before ++ hs) h → IsGrownFrom net s before (hs ++ h ∷ [])
-grown_push net s before [] h grown grows = (subst (λ (xs : List Hop). Grows net s xs h) (append_none before) grows, tt)
+grown_push : (net : Net) (s : Addr) (before hs : List LinkHop) (h : LinkHop) → IsGrownFrom net s before hs → Grows net s (before ++ hs) h → IsGrownFrom net s before (hs ++ h ∷ [])
+grown_push net s before [] h grown grows = (subst (λ (xs : List LinkHop). Grows net s xs h) (append_none before) grows, tt)
   where
-    append_none : (xs : List Hop) → xs ++ [] ≡ xs
+    append_none : (xs : List LinkHop) → xs ++ [] ≡ xs
     append_none [] = refl
-    append_none (x ∷ xs) = ap (λ (ys : List Hop). x ∷ ys) (append_none xs)
-grown_push net s before (x ∷ xs) h grown grows = (grown.0, grown_push net s (before ++ x ∷ []) xs h grown.1 (subst (λ (ys : List Hop). Grows net s ys h) (sym (append_assoc before (x ∷ []) xs)) grows))
+    append_none (x ∷ xs) = ap (λ (ys : List LinkHop). x ∷ ys) (append_none xs)
+grown_push net s before (x ∷ xs) h grown grows = (grown.0, grown_push net s (before ++ x ∷ []) xs h grown.1 (subst (λ (ys : List LinkHop). Grows net s ys h) (sym (append_assoc before (x ∷ []) xs)) grows))
 
 tree_push : (hops : List TreeHop) (r : TreeHop) (g s : Addr) → tree (hops ++ r ∷ []) g s ≡ tree hops g s ++ (if of_tree g s r then r.hop ∷ [] else [])
 tree_push [] r g s = by (of_tree g s r)
@@ -341,27 +341,27 @@ tree_push (q ∷ qs) r g s = by (of_tree g s q) (tree_push qs r g s)
   where
     by : (b : Bool) → tree (qs ++ r ∷ []) g s ≡ tree qs g s ++ (if of_tree g s r then r.hop ∷ [] else [])
         → each (λ (q : TreeHop). q.hop) (if b then q ∷ filter (of_tree g s) (qs ++ r ∷ []) else filter (of_tree g s) (qs ++ r ∷ [])) ≡ each (λ (q : TreeHop). q.hop) (if b then q ∷ filter (of_tree g s) qs else filter (of_tree g s) qs) ++ (if of_tree g s r then r.hop ∷ [] else [])
-    by true e = ap (λ (ys : List Hop). q.hop ∷ ys) e
+    by true e = ap (λ (ys : List LinkHop). q.hop ∷ ys) e
     by false e = e
 
 module _ (net : Net) (valid : IsValid net) (r : TreeHop) (room : length net.hops < 8192) (fits : Fits net r) (free : IsLoopFreeIn (with_hop net r) r.group) where
   abbrev more : Net
   more = with_hop net r
 
-  same_hop_of : (h : Hop) → is_linked net.links h ≡ true → Same net more h
+  same_hop_of : (h : LinkHop) → is_linked net.links h ≡ true → Same net more h
   same_hop_of h t = record { linked = t; from = refl; to = refl; link = refl }
 
-  grows_more : (s : Addr) (hs : List Hop) (h : Hop) → Grows net s hs h → Grows more s hs h
+  grows_more : (s : Addr) (hs : List LinkHop) (h : LinkHop) → Grows net s hs h → Grows more s hs h
   grows_more s hs h g = record { linked = g.linked; from_reached = g.from_reached; to_new = g.to_new; alone = g.alone }
 
   grown_more : (g s : Addr) → IsGrown more s (tree more.hops g s)
   grown_more g s =
       let old = grown_over net more same_hop_of s (tree net.hops g s) (λ n e. e) (valid.grown g s) in
-      subst (λ (hs : List Hop). IsGrown more s hs) (sym (tree_push net.hops r g s)) (by (of_tree g s r) refl old)
+      subst (λ (hs : List LinkHop). IsGrown more s hs) (sym (tree_push net.hops r g s)) (by (of_tree g s r) refl old)
     where
-      none : (xs : List Hop) → xs ++ [] ≡ xs
+      none : (xs : List LinkHop) → xs ++ [] ≡ xs
       none [] = refl
-      none (x ∷ xs) = ap (λ (ys : List Hop). x ∷ ys) (none xs)
+      none (x ∷ xs) = ap (λ (ys : List LinkHop). x ∷ ys) (none xs)
 
       by : (b : Bool) → of_tree g s r ≡ b → IsGrown more s (tree net.hops g s) → IsGrown more s (tree net.hops g s ++ (if b then r.hop ∷ [] else []))
       by true t old =
@@ -370,23 +370,23 @@ module _ (net : Net) (valid : IsValid net) (r : TreeHop) (room : length net.hops
           let source = addr_same r.source s both.1 in
           let here : Grows net s (tree net.hops g s) r.hop = subst (λ (a : Addr). Grows net a (tree net.hops g a) r.hop) source (subst (λ (a : Addr). Grows net r.source (tree net.hops a r.source) r.hop) group fits) in
           grown_push more s [] (tree net.hops g s) r.hop old (grows_more s (tree net.hops g s) r.hop here)
-      by false t old = subst (λ (hs : List Hop). IsGrown more s hs) (sym (none (tree net.hops g s))) old
+      by false t old = subst (λ (hs : List LinkHop). IsGrown more s hs) (sym (none (tree net.hops g s))) old
 
   old_hop : (g : Addr) → (r.group ≡ g → ⊥) → (q : TreeHop) → In q more.hops → q.group ≡ g → In q net.hops
   old_hop g ne q i e =
       ⊎_elim (λ (j : In q net.hops). j) (λ (j : In q (r ∷ [])). ⊎_elim (λ (is : q ≡ r). absurd (ne (ap (λ (x : TreeHop). x.group) (sym is) ∙ e))) (λ (k : ⊥). absurd k) j) (in_append q net.hops (r ∷ []) i)
 
-  old_group : (g : Addr) → (r.group ≡ g → ⊥) → (x : Hop) → In x (hops_of more.hops g) → In x (hops_of net.hops g)
+  old_group : (g : Addr) → (r.group ≡ g → ⊥) → (x : LinkHop) → In x (hops_of more.hops g) → In x (hops_of net.hops g)
   old_group g ne x i =
       let q = in_group more.hops g x i in
       let j = old_hop g ne q.0 q.1 q.2 in
-      subst (λ (a : Addr). In x (hops_of net.hops a)) q.2 (subst (λ (y : Hop). In y (hops_of net.hops q.0.group)) q.3 (to_group net.hops q.0 j))
+      subst (λ (a : Addr). In x (hops_of net.hops a)) q.2 (subst (λ (y : LinkHop). In y (hops_of net.hops q.0.group)) q.3 (to_group net.hops q.0 j))
 
-  old_tree : (g s : Addr) → (r.group ≡ g → ⊥) → (x : Hop) → In x (tree more.hops g s) → In x (tree net.hops g s)
+  old_tree : (g s : Addr) → (r.group ≡ g → ⊥) → (x : LinkHop) → In x (tree more.hops g s) → In x (tree net.hops g s)
   old_tree g s ne x i =
       let q = in_tree more.hops g s x i in
       let j = old_hop g ne q.0 q.1 q.2 in
-      subst (λ (a : Addr). In x (tree net.hops a s)) q.2 (subst (λ (a : Addr). In x (tree net.hops q.0.group a)) q.3 (subst (λ (y : Hop). In y (tree net.hops q.0.group q.0.source)) q.4 (to_tree net.hops q.0 j)))
+      subst (λ (a : Addr). In x (tree net.hops a s)) q.2 (subst (λ (a : Addr). In x (tree net.hops q.0.group a)) q.3 (subst (λ (y : LinkHop). In y (tree net.hops q.0.group q.0.source)) q.4 (to_tree net.hops q.0 j)))
 
   free_other : (g : Addr) → (r.group ≡ g → ⊥) → IsLoopFreeIn more g
   free_other g ne =
@@ -435,7 +435,7 @@ module _ (nodes : ℕ) (ends : List End) (links : List Link) (ks : List Known) (
   abbrev s : Addr
   s = new.hop.source
 
-  abbrev grown_tree : List Hop
+  abbrev grown_tree : List LinkHop
   grown_tree = tree (plain ks) new.hop.group s
 
   unreached : Leads ends s grown_tree (node_of ends new.hop.hop.to) → ⊥
@@ -607,7 +607,7 @@ hop_kept net nodes ends ends' links ks ks' r new is e k h v b valid known room a
 pub below_all : (ends : List End) (ks ks' : List Known) → AreKnown ends ks → ks' ≡ ks → (k : Known) → In k ks' → k.vertex < length ks'
 below_all ends ks ks' known e k i = let lt = vertex_below ends ks known k (subst (λ (x : List Known). In k x) e i) in let size = ap length e in omega arith
 
-pub vertex_most : (ks ks' ks'' : List Known) (n : ℕ) (g : Addr) (h : Hop) → n ≡ vertex_at ks' g h → ks' ≡ ks → ks'' ≡ ks → n ≤ length ks''
+pub vertex_most : (ks ks' ks'' : List Known) (n : ℕ) (g : Addr) (h : LinkHop) → n ≡ vertex_at ks' g h → ks' ≡ ks → ks'' ≡ ks → n ≤ length ks''
 vertex_most ks ks' ks'' n g h is e f =
     let le = place_most (is_pair g h) ks in
     let at : n ≡ vertex_at ks g h = is ∙ ap (λ (x : List Known). vertex_at x g h) e in

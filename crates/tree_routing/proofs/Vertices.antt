@@ -7,7 +7,7 @@ use Rattle.rsvp_base.proofs.Members.{in_each, to_each}
 use Rattle.rsvp_base.proofs.SetLaws.{and_both, and_made}
 use Rattle.rsvp_base.proofs.Tables.{either}
 use Rattle.tree_model.specs.declared.hops.End.{End}
-use Rattle.tree_model.specs.declared.hops.Hop.{Hop}
+use Rattle.tree_model.specs.declared.hops.LinkHop.{LinkHop}
 use Rattle.tree_model.specs.declared.hops.TreeHop.{TreeHop}
 use Rattle.tree_model.specs.Networks.{node_of}
 use Rattle.tree_model.specs.Trees.{of_group, of_tree, tree, hops_of}
@@ -56,7 +56,7 @@ place_most p (z ∷ zs) =
     (λ f. let e : first_place p (z ∷ zs) ≡ suc (first_place p zs) = ap (λ b. if b then 0 else suc (first_place p zs)) f in omega arith)
 
 -- ---- a hop of a group is one vertex
-pub pair_told : (g : Addr) (h : Hop) (k : Known) → is_pair g h k ≡ true → (k.hop.group ≡ g) × (k.hop.hop ≡ h)
+pub pair_told : (g : Addr) (h : LinkHop) (k : Known) → is_pair g h k ≡ true → (k.hop.group ≡ g) × (k.hop.hop ≡ h)
 pair_told g h k e =
     let both = and_both (of_group g k.hop) (same_hop h k.hop.hop) e in
     (addr_same k.hop.group g both.0, sym (hop_same h k.hop.hop both.1))
@@ -64,11 +64,11 @@ pair_told g h k e =
 pub pair_itself : (k : Known) → is_pair k.hop.group k.hop.hop k ≡ true
 pair_itself k = and_made _ _ (addr_itself k.hop.group) (same_itself k.hop.hop)
 
-pub pair_made : (g : Addr) (h : Hop) (k : Known) → k.hop.group ≡ g → k.hop.hop ≡ h → is_pair g h k ≡ true
-pair_made g h k e f = ap (λ (a : Addr). is_pair a h k) (sym e) ∙ ap (λ (x : Hop). is_pair k.hop.group x k) (sym f) ∙ pair_itself k
+pub pair_made : (g : Addr) (h : LinkHop) (k : Known) → k.hop.group ≡ g → k.hop.hop ≡ h → is_pair g h k ≡ true
+pair_made g h k e f = ap (λ (a : Addr). is_pair a h k) (sym e) ∙ ap (λ (x : LinkHop). is_pair k.hop.group x k) (sym f) ∙ pair_itself k
 
 -- equal vertices, of a hop that stands, are of one hop of one group
-pub one_pair : (ks : List Known) (k : Known) → In k ks → (g g' : Addr) (h h' : Hop) → is_pair g h k ≡ true → (k' : Known) → In k' ks → is_pair g' h' k' ≡ true → vertex_at ks g h ≡ vertex_at ks g' h' → (g ≡ g') × (h ≡ h')
+pub one_pair : (ks : List Known) (k : Known) → In k ks → (g g' : Addr) (h h' : LinkHop) → is_pair g h k ≡ true → (k' : Known) → In k' ks → is_pair g' h' k' ≡ true → vertex_at ks g h ≡ vertex_at ks g' h' → (g ≡ g') × (h ≡ h')
 one_pair ks k i g g' h h' t k' i' t' e =
     let x = place_found (is_pair g h) ks k i t in
     let x' = place_found (is_pair g' h') ks k' i' t' in
@@ -78,7 +78,7 @@ one_pair ks k i g g' h h' t k' i' t' e =
     (sym a.0 ∙ ap (λ (y : Known). y.hop.group) same ∙ a'.0, sym a.1 ∙ ap (λ (y : Known). y.hop.hop) same ∙ a'.1)
 
 -- ---- hops of trees and groups are hops that are kept
-pub tree_known : (ks : List Known) (g s : Addr) (h : Hop) → In h (tree (plain ks) g s) → (k : Known) × In k ks × (k.hop.group ≡ g) × (k.hop.source ≡ s) × (k.hop.hop ≡ h)
+pub tree_known : (ks : List Known) (g s : Addr) (h : LinkHop) → In h (tree (plain ks) g s) → (k : Known) × In k ks × (k.hop.group ≡ g) × (k.hop.source ≡ s) × (k.hop.hop ≡ h)
 tree_known ks g s h i =
     let r = in_tree (plain ks) g s h i in
     let k = in_each (λ (k : Known). k.hop) r.0 ks r.1 in
@@ -87,7 +87,7 @@ tree_known ks g s h i =
 pub known_tree : (ks : List Known) (k : Known) → In k ks → In k.hop.hop (tree (plain ks) k.hop.group k.hop.source)
 known_tree ks k i = to_tree (plain ks) k.hop (to_each (λ (k : Known). k.hop) k ks i)
 
-pub group_known : (ks : List Known) (g : Addr) (h : Hop) → In h (hops_of (plain ks) g) → (k : Known) × In k ks × (k.hop.group ≡ g) × (k.hop.hop ≡ h)
+pub group_known : (ks : List Known) (g : Addr) (h : LinkHop) → In h (hops_of (plain ks) g) → (k : Known) × In k ks × (k.hop.group ≡ g) × (k.hop.hop ≡ h)
 group_known ks g h i =
     let r = in_group (plain ks) g h i in
     let k = in_each (λ (k : Known). k.hop) r.0 ks r.1 in

@@ -9,7 +9,7 @@ use Rattle.rsvp_base.specs.Members.{In}
 use Rattle.rsvp_base.specs.declared.addr.Addr.{Addr}
 use Rattle.rsvp_base.proofs.Members.{in_append, in_each, to_each, in_filter, in_left, in_right}
 use Rattle.tree_model.specs.declared.hops.End.{End}
-use Rattle.tree_model.specs.declared.hops.Hop.{Hop}
+use Rattle.tree_model.specs.declared.hops.LinkHop.{LinkHop}
 use Rattle.tree_model.specs.declared.hops.TreeHop.{TreeHop}
 use Rattle.tree_model.specs.Networks.{Net, node_of, ends_from, ends_of, iface_of, among, link_of}
 use Rattle.tree_model.specs.Trees.{of_tree, tree, first_by, goes_into, end_into, inward, sends_alone}
@@ -97,7 +97,7 @@ module _ (net : Net) (valid : IsValid net) (sorted : List TreeHop) (order : AreI
   into_in_order : (n : ℕ) (g s : Addr) → end_into (first_by (goes_into net.ends n) (tree sorted g s)) ≡ inward net n g s
   into_in_order n g s = by (first_by (goes_into net.ends n) (tree sorted g s)) refl
     where
-      by : (o : Option Hop) → first_by (goes_into net.ends n) (tree sorted g s) ≡ o → end_into (first_by (goes_into net.ends n) (tree sorted g s)) ≡ inward net n g s
+      by : (o : Option LinkHop) → first_by (goes_into net.ends n) (tree sorted g s) ≡ o → end_into (first_by (goes_into net.ends n) (tree sorted g s)) ≡ inward net n g s
       by None e =
           ap end_into e
           ∙ sym (ap end_into (none_first (goes_into net.ends n) (tree net.hops g s) (λ h i t. first_none (goes_into net.ends n) (tree sorted g s) e h (tree_to_order net.hops sorted order g s h i) t)))
@@ -113,7 +113,7 @@ module _ (net : Net) (valid : IsValid net) (sorted : List TreeHop) (order : AreI
     λ l.
         let h = out_told net n l.0 g s l.1 in
         let r = in_each (λ (r : TreeHop). r.hop) h.0 (filter (of_tree g s) sorted) (tree_to_order net.hops sorted order g s h.0 h.1) in
-        let from : r.0.hop.from ≡ l.0 = ap (λ (x : Hop). x.from) (sym r.2) ∙ h.2 in
+        let from : r.0.hop.from ≡ l.0 = ap (λ (x : LinkHop). x.from) (sym r.2) ∙ h.2 in
         (r.0, r.1, (number_same _ _ (ap (node_of net.ends) from ∙ h.3), ap (iface_of net.ends) from ∙ l.2)),
   )
 
@@ -140,9 +140,9 @@ module _ (net : Net) (valid : IsValid net) (sorted : List TreeHop) (order : AreI
         ((λ t. l.0 (here.0 t)), λ t. here.1 (l.1 t))
 
 -- ---- an end in no link shares none
-pub none_on_no_link : (links : List (List ℕ)) (e : ℕ) (hs : List Hop) → link_of links e ≡ [] → list_all (sends_alone links e) hs ≡ true
-none_on_no_link links e hs free = ap (λ (l : List ℕ). list_all (λ (x : Hop). not (among x.from l) || (x.from == e)) hs) free ∙ all_true hs
+pub none_on_no_link : (links : List (List ℕ)) (e : ℕ) (hs : List LinkHop) → link_of links e ≡ [] → list_all (sends_alone links e) hs ≡ true
+none_on_no_link links e hs free = ap (λ (l : List ℕ). list_all (λ (x : LinkHop). not (among x.from l) || (x.from == e)) hs) free ∙ all_true hs
   where
-    all_true : (xs : List Hop) → list_all (λ (x : Hop). not (among x.from []) || (x.from == e)) xs ≡ true
+    all_true : (xs : List LinkHop) → list_all (λ (x : LinkHop). not (among x.from []) || (x.from == e)) xs ≡ true
     all_true [] = refl
     all_true (x ∷ xs) = all_true xs

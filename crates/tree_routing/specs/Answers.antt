@@ -2,7 +2,7 @@
 use Rattle.std.specs.Prelude.{◌≡◌, ◌⊎◌, ℕ, ◌+◌, nat_lt, if◌then◌else◌, ◌<◌, ◌≤◌, List, [], ◌∷◌, ◌++◌, Result, Ok, Err, length, None}
 use Rattle.rsvp_base.specs.declared.addr.Addr.{Addr}
 use Rattle.tree_model.specs.declared.hops.End.{End}
-use Rattle.tree_model.specs.declared.hops.Hop.{Hop}
+use Rattle.tree_model.specs.declared.hops.LinkHop.{LinkHop}
 use Rattle.tree_model.specs.declared.hops.TreeHop.{TreeHop}
 use Rattle.tree_model.specs.Networks.{Net, node_of, ends_of, owner, link_of}
 use Rattle.tree_model.specs.Trees.{tree, Grows}
@@ -50,13 +50,13 @@ abbrev pub Fits : Net → TreeHop → Type 0
 Fits net r = Grows net r.source (tree net.hops r.group r.source) r.hop
 
 -- hops in order: by the end that they go out of, then by the one that they go into
-abbrev pub IsUpTo : Hop → Hop → Type 0
+abbrev pub IsUpTo : LinkHop → LinkHop → Type 0
 IsUpTo a b = (a.from < b.from) ⊎ ((a.from ≡ b.from) × (a.to ≤ b.to))
 
 -- the least hop of the group that stands on a closed chain
-pub record IsLeastOnLoop (net : Net) (g : Addr) (h : Hop) : Type 0 where
+pub record IsLeastOnLoop (net : Net) (g : Addr) (h : LinkHop) : Type 0 where
   pub on : IsOnLoop net g h
-  pub least : (x : Hop) → IsOnLoop net g x → IsUpTo h x
+  pub least : (x : LinkHop) → IsOnLoop net g x → IsUpTo h x
 
 -- taken: the tree grows, and no chain of the group is closed. Not of the tree: it can't grow by the hop. A loop: it can, and
 -- then this is the least hop on a closed chain of the group

@@ -1,7 +1,7 @@
 -- The loop check, over the graph of a topology.
 use Rattle.std.specs.Prelude.{◌≡◌, ◌⊎◌, ℕ, List, Result, Ok, Err, Some}
 use Rattle.rsvp_base.specs.Members.{In}
-use Rattle.tree_model.specs.declared.hops.Hop.{Hop}
+use Rattle.tree_model.specs.declared.hops.LinkHop.{LinkHop}
 use Rattle.tree_routing.specs.declared.known.Known.{Known}
 use Rattle.tree_routing.specs.declared.hop_err.HopErr.{HopErr}
 use Rattle.tree_routing.specs.declared.hop_err.HopErr.TheVariants.{NotTree, Loop, NoMemory}
@@ -19,19 +19,19 @@ pub record Closes (ks : List Known) (new : Known) : Type 0 where
   pub leads : Leads ks new.vertex before
 
 -- a hop of the group by way of which edges lead from the new hop to the hop before it, and which is less than this one
-abbrev pub IsBetter : List Known → Known → ℕ → Known → Hop → Type 0
+abbrev pub IsBetter : List Known → Known → ℕ → Known → LinkHop → Type 0
 IsBetter ks new before k least = (k.hop.group ≡ new.hop.group) × (IsUpTo least k.hop.hop → ⊥) × IsBetween ks new.vertex before k.vertex
 
-abbrev pub IsLesser : List Known → Known → ℕ → Known → Hop → Hop → Type 0
+abbrev pub IsLesser : List Known → Known → ℕ → Known → LinkHop → LinkHop → Type 0
 IsLesser ks new before k least h = (IsBetter ks new before k least × (h ≡ k.hop.hop)) ⊎ ((IsBetter ks new before k least → ⊥) × (h ≡ least))
 
 -- the least of the new hop and those of these hops of its group by way of which edges lead from it to the hop before it
-pub record IsLeastAmong (ks some : List Known) (new : Known) (before : ℕ) (h : Hop) : Type 0 where
+pub record IsLeastAmong (ks some : List Known) (new : Known) (before : ℕ) (h : LinkHop) : Type 0 where
   pub there : (h ≡ new.hop.hop) ⊎ ((k : Known) × In k some × (k.hop.group ≡ new.hop.group) × (h ≡ k.hop.hop) × IsBetween ks new.vertex before k.vertex)
   pub first : IsUpTo h new.hop.hop
   pub least : (k : Known) → In k some → k.hop.group ≡ new.hop.group → IsBetween ks new.vertex before k.vertex → IsUpTo h k.hop.hop
 
-abbrev pub IsLeastBetween : List Known → Known → ℕ → Hop → Type 0
+abbrev pub IsLeastBetween : List Known → Known → ℕ → LinkHop → Type 0
 IsLeastBetween ks new before h = IsLeastAmong ks ks new before h
 
 abbrev pub LoopAnswer : List Known → Known → Result (Unit {0}) HopErr → Type 0

@@ -3,7 +3,7 @@ use Rattle.std.specs.Prelude.{◌≡◌, ℕ, suc, Bool, ◌&&◌, List, [], ◌
 use Rattle.rsvp_base.specs.Members.{In}
 use Rattle.rsvp_base.specs.declared.addr.Addr.{Addr}
 use Rattle.tree_model.specs.declared.hops.End.{End}
-use Rattle.tree_model.specs.declared.hops.Hop.{Hop}
+use Rattle.tree_model.specs.declared.hops.LinkHop.{LinkHop}
 use Rattle.tree_model.specs.declared.hops.TreeHop.{TreeHop}
 use Rattle.tree_model.specs.Networks.{Net, node_of}
 use Rattle.tree_model.specs.Trees.{of_group, of_tree, goes_into}
@@ -25,7 +25,7 @@ net_of nodes ends links ks = record { nodes = nodes; ends = ends; links = each l
 
 -- ---- the graph of a group: a hop is the same in all trees
 -- the same hop of the same group
-abbrev pub is_pair : Addr → Hop → Known → Bool
+abbrev pub is_pair : Addr → LinkHop → Known → Bool
 is_pair g h k = of_group g k.hop && same_hop h k.hop.hop
 
 -- the place of the first that passes a test; the length of the list where none does
@@ -34,7 +34,7 @@ first_place p [] = 0
 first_place p (x ∷ xs) = if p x then 0 else suc (first_place p xs)
 
 -- where the hop of the group stands first; the length of the list where it does not stand
-abbrev pub vertex_at : List Known → Addr → Hop → ℕ
+abbrev pub vertex_at : List Known → Addr → LinkHop → ℕ
 vertex_at ks g h = first_place (is_pair g h) ks
 
 -- a hop of the same tree into the node that this one goes out of

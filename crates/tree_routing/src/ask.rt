@@ -9,7 +9,7 @@ ghost use Rattle.tree_routing.specs.Found.{ends_found, leaves_link};
 use crate::known::Known;
 use crate::link::Link;
 use rsvp_base::Addr;
-use tree_model::{End, Hop, TreeHop};
+use tree_model::{End, LinkHop, TreeHop};
 
 /// The node of an end; 0 where there is no such end.
 pub(crate) fn node_of(ends: &[End], end: u16) -> u16
@@ -60,7 +60,7 @@ pub(crate) fn is_free(links: &[Link], end: u16) -> bool
 }
 
 /// Whether the two ends of a hop are of one link.
-pub(crate) fn is_linked(links: &[Link], hop: Hop) -> bool
+pub(crate) fn is_linked(links: &[Link], hop: LinkHop) -> bool
     ensures { result ≡ is_linked (map link_ends links.now) hop }
 {
     match link_of(links, hop.from) {
@@ -99,7 +99,7 @@ pub(crate) fn is_reached(ends: &[End], hops: &[Known], group: Addr, source: Addr
 }
 
 // Whether a hop of a tree goes out of the end, or is not on the link.
-fn is_sent_alone(link: &Link, end: u16, hop: Hop) -> bool
+fn is_sent_alone(link: &Link, end: u16, hop: LinkHop) -> bool
     ensures { result ≡ leaves_link (link_ends link.now) end hop }
 {
     !is_of(link, hop.from) || hop.from == end
@@ -128,14 +128,14 @@ pub(crate) fn is_alone(links: &[Link], hops: &[Known], group: Addr, source: Addr
 }
 
 // Whether it is this hop of this group.
-fn is_pair(group: Addr, hop: Hop, known: &Known) -> bool
+fn is_pair(group: Addr, hop: LinkHop, known: &Known) -> bool
     ensures { result ≡ is_pair group hop known.now }
 {
     known.hop.group.0 == group.0 && hop.from == known.hop.hop.from && hop.to == known.hop.hop.to
 }
 
 /// The place at which this hop of this group stands first; the length of the list where it does not stand.
-pub(crate) fn vertex_at(hops: &[Known], group: Addr, hop: Hop) -> u16
+pub(crate) fn vertex_at(hops: &[Known], group: Addr, hop: LinkHop) -> u16
     requires { length hops.now ≤ 8192 }
     ensures { result ≡ vertex_at hops.now group hop }
 {

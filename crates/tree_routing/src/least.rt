@@ -9,10 +9,10 @@ use crate::known::Known;
 use crate::marks::leads;
 use rsvp_base::NoMemory;
 use std::alloc::Global;
-use tree_model::Hop;
+use tree_model::LinkHop;
 
 // Whether the first hop comes before the second or is it: by the end that they go out of, then by the other.
-fn is_up_to(a: Hop, b: Hop) -> bool
+fn is_up_to(a: LinkHop, b: LinkHop) -> bool
     ensures { IsTrue result ↔ IsUpTo a b }
 {
     a.from < b.from || (a.from == b.from && a.to <= b.to)
@@ -45,7 +45,7 @@ fn is_better(
     new: &Known,
     before: u16,
     hop: &Known,
-    least: Hop,
+    least: LinkHop,
 ) -> Result<bool, NoMemory>
     requires below { AreBelow (length hops.now) hops.now }
     requires from { new.now.vertex ≤ length hops.now }
@@ -60,7 +60,12 @@ fn is_better(
 }
 
 // The least hop on a chain from the new hop to the hop before it.
-fn least_between(alloc: Global, hops: &[Known], new: &Known, before: u16) -> Result<Hop, NoMemory>
+fn least_between(
+    alloc: Global,
+    hops: &[Known],
+    new: &Known,
+    before: u16,
+) -> Result<LinkHop, NoMemory>
     requires below { AreBelow (length hops.now) hops.now }
     requires from { new.now.vertex ≤ length hops.now }
     requires few { length hops.now ≤ 8192 }

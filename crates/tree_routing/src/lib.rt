@@ -27,4 +27,4 @@ pub use group_hop::GroupHop;
 pub use hop_err::HopErr;
 pub use routing::Routing;
 pub use topology::Topology;
-pub use tree_model::{End, Hop, TreeHop};
+pub use tree_model::{End, LinkHop, TreeHop};

@@ -18,7 +18,7 @@ use crate::link::Link;
 use crate::ways::{hop_into, iface_of, ways_out};
 use rsvp_base::Addr;
 use std::marker::Model;
-use tree_model::{End, Hop, TreeHop};
+use tree_model::{End, LinkHop, TreeHop};
 
 /// A network whose topology is closed: where each tree comes into a node and leaves it. Contracts see the network, which is
 /// valid: within its limits, its trees grown hop by hop, and without a closed chain. No call takes memory.
@@ -93,7 +93,7 @@ impl Routing {
     }
 
     /// Whether the tree of a group and source has the hop.
-    pub fn has_hop(&self, group: Addr, source: Addr, hop: Hop) -> bool
+    pub fn has_hop(&self, group: Addr, source: Addr, hop: LinkHop) -> bool
         ensures { result ≡ has_hop (tree self.now.hops group source) hop }
     {
         is_among(self.sorted.as_slice(), &TreeHop { group, source, hop })

@@ -21,7 +21,7 @@ use crate::ways::count_of;
 use rsvp_base::{Addr, NoMemory};
 use std::alloc::Global;
 use std::marker::Model;
-use tree_model::{End, Hop, TreeHop};
+use tree_model::{End, LinkHop, TreeHop};
 
 /// A network that is put together: nodes, link ends, links, and for each group and source address the hops of a tree. Nodes
 /// and ends are numbered from 0 in the order in which they are added. Contracts see the network; it is valid at every
@@ -159,7 +159,7 @@ impl Topology {
         let hop = TreeHop {
             group,
             source,
-            hop: Hop { from, to },
+            hop: LinkHop { from, to },
         };
         if !self.can_grow(&hop) {
             return Err(HopErr::NotTree);

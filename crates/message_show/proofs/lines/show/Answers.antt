@@ -1,5 +1,5 @@
 use Rattle.std.proofs.Common.{[], ◌∷◌, ◌++◌, length-append, append_assoc, sym, ap, ◌∙◌, subst, rules, arith}
-use Rattle.script_words.specs.Lines.{lines_of}
+use Rattle.script_words.specs.Lines.{text_lines}
 use Rattle.message_show.specs.ShowLines.{AreShown}
 use Rattle.message_show.proofs.Shown.{all_right, shown_on}
 use Rattle.message_show.proofs.lines.show.Goals as goal
@@ -12,7 +12,7 @@ loop-line-preserved c =
     let shown : AreShown (i.before ++ line ∷ []) c.put_line.new.out.items = subst (AreShown (i.before ++ line ∷ [])) (sym one.2) (shown_on i.before c.loop-line.out.items line one.0 i.shown one.1) in
     record {
       before = i.before ++ line ∷ [];
-      parts = i.parts ∙ ap (λ ls. i.before ++ ls) c.in-Some.ensures.lines ∙ sym (append_assoc i.before (line ∷ []) (lines_of c.in-Some.behind.now));
+      parts = i.parts ∙ ap (λ ls. i.before ++ ls) c.in-Some.ensures.lines ∙ sym (append_assoc i.before (line ∷ []) (text_lines c.in-Some.behind.now));
       number = let count = length-append i.before (line ∷ []) in omega (arith, c.saturating_add-number.ensures, i.number, count);
       shown = shown;
       room = search rules;
@@ -24,7 +24,7 @@ returns-in-Err-Bad-clause-refused c =
     record {
       before = i.before;
       line = c.in-Some.line.now;
-      after = lines_of c.in-Some.behind.now;
+      after = text_lines c.in-Some.behind.now;
       parts = i.parts ∙ ap (λ ls. i.before ++ ls) c.in-Some.ensures.lines;
       number = omega (arith, c.saturating_add-number.ensures, i.number);
       right = all_right i.before c.loop-line.out.items i.shown;

@@ -1,5 +1,5 @@
 use Rattle.std.proofs.Common.{◌≡◌, ℕ, ◌-◌, ◌^◌, ◌++◌, List, length, min}
-use Rattle.script_words.specs.Lines.{lines_of}
+use Rattle.script_words.specs.Lines.{text_lines}
 use Rattle.message_show.specs.ShowLines.{AreShown}
 use Rattle.message_show.proofs.lines.show.Given as goal
 
@@ -8,7 +8,7 @@ abbrev pub invariant-loop-line : goal.invariant-loop-line
 invariant-loop-line l =
     record {
       before : List (List ℕ);
-      parts : lines_of l.input ≡ before ++ lines_of l.rest;
+      parts : text_lines l.input ≡ before ++ text_lines l.rest;
       number : l.number ≡ min (length before) (2 ^ 32 - 1);
       shown : AreShown before l.out.items;
       room : length l.room ≡ 4097;

@@ -1,6 +1,6 @@
 use Rattle.std.specs.Prelude.{◌≡◌, true}
 use Rattle.network_steps.proofs.Keeping.{calm_rounds_keep_bounds}
-use Rattle.settle_resvs.proofs.ResvLines.{only_resvs_as_claimed_are_kept}
+use Rattle.settle_resvs.proofs.SoftResvs.{only_resvs_as_claimed_are_kept}
 use Rattle.settle_resvs.proofs.laws.only_said_resvs_are_kept.Goals as goal
 
 pub returns : goal.returns

@@ -11,7 +11,7 @@ use Rattle.rsvp_base.specs.declared.session.Session.{Session}
 use Rattle.router_rules.specs.declared.route.Route.{Route}
 
 -- quarter is a quarter of the refresh period R
-pub record Place : Type 0 where
+pub record NodeConfig : Type 0 where
   pub quarter : ℕ
   pub ifaces : List Iface
   pub routes : List Route
@@ -23,15 +23,15 @@ abbrev pub is_session : Session → Session → Bool
 is_session s t = eq_by_cmp sessions.cmp s t
 
 -- ---- times (RFC 2205, 3.7)
-abbrev pub period : Place → ℕ
+abbrev pub period : NodeConfig → ℕ
 period p = 4 * p.quarter
 
 -- 5.25 times the period that a message says, brought into the range from 1 to R; rounded down
-abbrev pub lifetime : Place → ℕ → ℕ
+abbrev pub lifetime : NodeConfig → ℕ → ℕ
 lifetime p said = (21 * max 1 (min said (period p)) + 3) / 4
 
 -- how long a blockade lives: 4 R
-abbrev pub wall_lifetime : Place → ℕ
+abbrev pub wall_lifetime : NodeConfig → ℕ
 wall_lifetime p = 4 * period p
 
 -- ---- interfaces
@@ -40,10 +40,10 @@ addr_of None = record { 0 = 0 }
 addr_of (Some i) = i.addr
 
 -- the node's own address of an interface
-abbrev pub own : Place → ℕ → Addr
+abbrev pub own : NodeConfig → ℕ → Addr
 own p i = addr_of (slice_get p.ifaces i)
 
-abbrev pub is_own : Place → Addr → Bool
+abbrev pub is_own : NodeConfig → Addr → Bool
 is_own p a = list_any (λ i. is_addr i.addr a) p.ifaces
 
 -- ---- trees
@@ -52,7 +52,7 @@ route_in [] g a = None
 route_in (r ∷ rs) g a = cond (is_addr r.group g && is_addr r.source a) (Some r) (route_in rs g a)
 
 -- a sender's tree in a session is that of the session's group and the sender's address
-abbrev pub tree : Place → Session → Sender → Option Route
+abbrev pub tree : NodeConfig → Session → Sender → Option Route
 tree p s x = route_in p.routes s.group x.addr
 
 abbrev pub is_out : Option Route → ℕ → Bool
@@ -60,10 +60,10 @@ is_out None i = false
 is_out (Some r) i = bit_at r.outward i == 1
 
 -- the sender's tree goes out of the interface
-abbrev pub goes_out : Place → Session → ℕ → Sender → Bool
+abbrev pub goes_out : NodeConfig → Session → ℕ → Sender → Bool
 goes_out p s i x = is_out (tree p s x) i
 
-abbrev pub outward : Place → Session → Sender → List ℕ
+abbrev pub outward : NodeConfig → Session → Sender → List ℕ
 outward p s x = filter (λ i. goes_out p s i x) (range_with_len 0 (length p.ifaces))
 
 abbrev pub is_iface : Option ℕ → ℕ → Bool
@@ -75,5 +75,5 @@ is_in None i = false
 is_in (Some r) i = is_iface r.inward i
 
 -- the sender's tree comes in by the interface
-abbrev pub comes_in : Place → Session → ℕ → Sender → Bool
+abbrev pub comes_in : NodeConfig → Session → ℕ → Sender → Bool
 comes_in p s i x = is_in (tree p s x) i

@@ -22,12 +22,12 @@ use Rattle.style_rules.specs.Parts.{IsOfStyle}
 use Rattle.style_rules.specs.Styles.{name_of}
 use Rattle.style_rules.proofs.Room.{within_told}
 use Rattle.router_rules.specs.declared.target.Target.TheVariants as target
-use Rattle.router_rules.specs.BoundRows.{LivedIsWithinBounds, lived, own_sender}
+use Rattle.router_rows.specs.BoundRows.{LivedIsWithinBounds, lived, own_sender}
 use Rattle.router_rules.specs.Books.{book, lines_of}
 use Rattle.router_rules.specs.Bounds.{IsPathShaped, IsShaped, IsWallShaped, IsWantShaped, LivesUpTo}
 use Rattle.router_rules.specs.Facts.{Blockade, PathState, ResvState, WallKey, Want, WantKey, resvs_of, sender_keys, wall_keys, want_keys}
 use Rattle.router_rules.specs.Forgetting.{counted}
-use Rattle.router_rules.specs.Line.{flow, iface, first, node_r, r2, s1, scope, session, t1, usual}
+use Rattle.router_rows.specs.ThreeRouters.{flow, iface, first, node_r, r2, s1, scope, session, t1, usual}
 
 -- a table of one row has that row alone
 only_row : {K X : Type 0} (o : Keys K) (m : Table o X) (r : K × X) → m.rows ≡ r ∷ [] → (k : K) (x : X) → get m k ≡ Some x → (k ≡ r.0) × (x ≡ r.1)

@@ -16,11 +16,11 @@ use Rattle.router_rules.specs.declared.target.Target.TheVariants as target
 use Rattle.router_rules.specs.Facts.{Facts, no_facts}
 use Rattle.router_rules.specs.Inputs.{WantAs}
 use Rattle.router_rules.specs.Known.{Lane}
-use Rattle.router_rules.specs.Line.{called, came, error, first, flow, fork_r, group, iface, ip, node_r, node_t, path, path_tear, r1, r2, r3, resv, resv_err, s1, scope, second, sent, session, shared, t1, u1, usual, wild}
-use Rattle.router_rules.specs.PathRows.{with_path}
-use Rattle.router_rules.specs.Place.{Place}
+use Rattle.router_rows.specs.ThreeRouters.{called, came, error, first, flow, fork_r, group, iface, ip, node_r, node_t, path, path_tear, r1, r2, r3, resv, resv_err, s1, scope, second, sent, session, shared, t1, u1, usual, wild}
+use Rattle.router_rows.specs.PathRows.{with_path}
+use Rattle.router_rules.specs.NodeConfig.{NodeConfig}
 use Rattle.router_rules.specs.Requests.{toward}
-use Rattle.router_rules.specs.ResvRows.{fixed_for, greedy, one_walled, small, two_paths}
+use Rattle.router_rows.specs.ResvRows.{fixed_for, greedy, one_walled, small, two_paths}
 use Rattle.router_rules.specs.Rule.{Outcome}
 
 -- ---- a sender goes, and the reservation keeps the other's name: what goes on is sent anew, and no unit is torn down
@@ -92,7 +92,7 @@ pub record ErrorsTogether : Type 0 where
 abbrev address : ℕ → Sender
 address i = record { addr = ip 10 0 9 i; port = 0 }
 
-abbrev sixteen_ways : Place
+abbrev sixteen_ways : NodeConfig
 sixteen_ways = record {
   quarter = 7500;
   ifaces = iface r1 10000 ∷ iface r2 10000 ∷ [];

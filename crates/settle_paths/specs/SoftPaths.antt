@@ -1,4 +1,4 @@
--- Path state of a sender at an end, as a line: what is kept there, and which Paths speak of it.
+-- Path state of a sender at an end, as soft state: what is kept there, and which Paths speak of it.
 use Rattle.std.specs.Prelude.{◌≡◌, ℕ, ◌==◌, cond, false, Option, None, Some, slice_get}
 use Rattle.std.specs.Option.{option_and_then}
 use Rattle.rsvp_base.specs.declared.addr.Addr.{Addr}
@@ -6,12 +6,12 @@ use Rattle.rsvp_base.specs.Table.{get}
 use Rattle.rsvp_base.specs.TokenBucket.{TokenBucket}
 use Rattle.rsvp_messages.specs.declared.message.Message.TheVariants as message
 use Rattle.rsvp_messages.specs.declared.message.PathMsg.{PathMsg}
-use Rattle.calm_rounds.specs.Lines.{Line}
+use Rattle.calm_rounds.specs.SoftStates.{SoftState}
 use Rattle.router_rules.specs.Facts.{SenderKey, PathState}
 use Rattle.router_rules.specs.Inputs.{Spelt}
 use Rattle.tree_model.specs.Networks.{Net, node_of, iface_of}
 use Rattle.tree_model.specs.Trees.{inward}
-use Rattle.network_model.specs.Steps.{Step, Lane}
+use Rattle.network_model.specs.Steps.{Step, Track}
 use Rattle.network_model.specs.Worlds.{Item, World}
 use Rattle.network_steps.specs.Known.{IsKnown}
 
@@ -42,8 +42,8 @@ pub record SaysPath (net : Net) (k : SenderKey) (e : ℕ) (y : Item) (v : PathVa
   pub inward : inward net (node_of net.ends e) k.0.group k.1.addr ≡ Some e
 
 -- of what is renewed nothing is said yet
-abbrev pub path_line : ℕ → World → SenderKey → ℕ → Line World Step Item Lane PathValue
-path_line q w k e = record {
+abbrev pub soft_path : ℕ → World → SenderKey → ℕ → SoftState World Step Item Track PathValue
+soft_path q w k e = record {
   sane = IsKnown q w;
   kept = λ u. by_iface (iface_of w.net.ends e) (path_at u (node_of w.net.ends e) k);
   says = SaysPath w.net k e;
@@ -52,5 +52,5 @@ path_line q w k e = record {
   below = λ v v0. v ≡ v0;
   due = λ u. None;
   fires = λ s u. ⊥;
-  lane = None;
+  track = None;
 }

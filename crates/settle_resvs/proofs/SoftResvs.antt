@@ -12,22 +12,22 @@ use Rattle.rsvp_messages.specs.declared.message.Message.TheVariants as message
 use Rattle.style_rules.specs.Lines.{LineKey}
 use Rattle.style_rules.specs.Parts.{has_name}
 use Rattle.calm_rounds.specs.Hold.{Hold}
-use Rattle.calm_rounds.specs.Lines.{IsClosed, KeepLaws, KeepsOnly, SaysOnly}
+use Rattle.calm_rounds.specs.SoftStates.{IsClosed, KeepLaws, KeepsOnly, SaysOnly}
 use Rattle.calm_rounds.specs.Rounds.{Rounds}
 use Rattle.calm_rounds.proofs.Settling.{only_what_is_said_is_kept}
 use Rattle.tree_model.specs.Goals.{addr_of}
 use Rattle.router_rules.specs.Facts.{Facts, ResvState, resvs_of}
 use Rattle.router_rules.specs.Inputs.{Wait, Came, Spelt}
-use Rattle.router_rules.specs.Place.{own}
+use Rattle.router_rules.specs.NodeConfig.{own}
 use Rattle.router_rules.specs.Rule.{Outcome}
-use Rattle.router_rules.specs.Steps.{IsLeftOf}
+use Rattle.router_rules.specs.Steps.{IsLeftOf, node_step}
 use Rattle.router_resvs.specs.ReservationLaws.{IsAskedFor, IsListed}
 use Rattle.router_resvs.proofs.Asking.{where_a_reservation_fact_comes_from}
 use Rattle.tree_model.specs.Networks.{Net, node_of, end_at, iface_of}
 use Rattle.tree_model.proofs.Ifaces.{interfaces_are_ends}
 use Rattle.network_model.specs.Bounds.{AreBounds}
 use Rattle.network_model.specs.Steps.{Step, is_quiet, ms_of, arrived, word_for, input_at, outcome, still, step, machine}
-use Rattle.network_model.specs.Worlds.{Item, World, place_of}
+use Rattle.network_model.specs.Worlds.{Item, World, config_of}
 use Rattle.network_model.proofs.Machines.{quiet_of, time_passes, items_are_numbered}
 use Rattle.network_model.proofs.Quiet.{IsWaited, IsCame, FollowsRule, input_found, outcome_quiet}
 use Rattle.network_model.proofs.Stepping.{facts_after_found}
@@ -35,7 +35,7 @@ use Rattle.network_steps.specs.Known.{IsKnown}
 use Rattle.network_steps.proofs.Due.{full_life}
 use Rattle.network_steps.proofs.Known.{known_hold, end_found}
 use Rattle.network_steps.proofs.Standing.{own_end}
-use Rattle.settle_resvs.specs.ResvLines.{ResvKey, IsCut, AsksFor, SaysResv, line_key_of, resv_at, kept_of, resv_line}
+use Rattle.settle_resvs.specs.SoftResvs.{ResvKey, IsCut, AsksFor, SaysResv, line_key_of, resv_at, kept_of, soft_resv}
 
 -- ---- look-up
 pub resv_found : (u : World) (n : ℕ) (st : StyleKind) (key : LineKey) (r : ResvState) → resv_at u n st key ≡ Some r → (f : Facts) × (slice_get u.nodes n ≡ Some f) × (get (resvs_of st f) key ≡ Some r)
@@ -77,10 +77,10 @@ module _ (q : ℕ) (o : World) (k : ResvKey) (lt : k.to < length o.net.ends) (s 
   abbrev key : LineKey
   key = line_key_of o.net k
 
-  asked : (f : Facts) (x : ResvState) (h : FollowsRule q s u n f (outcome q s u n f)) → IsAskedFor (place_of q u.net u.trees n) (u.clock + ms_of s) h.input f k.style key x → IsAsked o.net k s u x
+  asked : (f : Facts) (x : ResvState) (h : FollowsRule q s u n f (outcome q s u n f)) → IsAskedFor (config_of q u.net u.trees n) (u.clock + ms_of s) h.input f k.style key x → IsAsked o.net k s u x
   asked f x h l =
       let i : ℕ = iface_of o.net.ends k.to in
-      let dst : Addr = own (place_of q u.net u.trees n) i in
+      let dst : Addr = own (config_of q u.net u.trees n) i in
       ⊎_elim
       (λ (t : IsWaited s u n h.input). let no : Wait t.ms (word_for u.words n) ≡ Came i dst (Spelt (message.Resv l.by.resv)) = sym t.is ∙ l.by.came in absurd (cc))
       (λ (t : IsCame s u n h.input).
@@ -128,8 +128,8 @@ module _ (q : ℕ) (o : World) (k : ResvKey) (lt : k.to < length o.net.ends) (s 
       (λ (h : FollowsRule q s u n f.0 (outcome q s u n f.0)).
       ⊎_elim
       (λ (old : (r : ResvState) × (get (resvs_of k.style f.0) key ≡ Some r) × IsLeftOf r x). inl (record { resv = old.0; there = there ∙ old.1; left = old.2 }))
-      (λ (new : IsAskedFor (place_of q u.net u.trees n) (u.clock + ms_of s) h.input f.0 k.style key x). inr (asked f.0 x h new))
-      (where_a_reservation_fact_comes_from (place_of q u.net u.trees n) (place_of q u.net u.trees n) u.clock (u.clock + ms_of s) h.input f.0 (a.bounds.facts n f.0 f.1) k.style key x (sym (ap (λ (z : Outcome). get (resvs_of k.style z.facts) key) h.is) ∙ now)))
+      (λ (new : IsAskedFor (config_of q u.net u.trees n) (u.clock + ms_of s) h.input f.0 k.style key x). inr (asked f.0 x h new))
+      (where_a_reservation_fact_comes_from (node_step (config_of q u.net u.trees n) (config_of q u.net u.trees n) u.clock (u.clock + ms_of s) h.input f.0) (a.bounds.facts n f.0 f.1) k.style key x (sym (ap (λ (z : Outcome). get (resvs_of k.style z.facts) key) h.is) ∙ now)))
       (outcome_quiet q s u n f.0 quiet)
 
 -- ---- how long it lives
@@ -139,8 +139,8 @@ resv_room q u n st key r bounds e =
     let lives = (bounds.facts n f.0 f.1).alive.resvs st key r f.2 in
     (lives.later, subst (λ (z : ℕ). r.dies ≤ u.clock + z) (full_life q bounds.period) lives.soon)
 
--- ---- the line
-pub resv_keeps : (q : ℕ) (w : World) (k : ResvKey) → k.to < length w.net.ends → KeepLaws (machine q) (resv_line q w k)
+-- ---- the soft state
+pub resv_keeps : (q : ℕ) (w : World) (k : ResvKey) → k.to < length w.net.ends → KeepLaws (machine q) (soft_resv q w k)
 resv_keeps q w k lt = record {
   set = λ s u v d quiet a a' h.
       let n : ℕ = node_of w.net.ends k.to in
@@ -162,7 +162,7 @@ resv_keeps q w k lt = record {
 
 -- ---- only what is said is kept
 pub only_resvs_as_claimed_are_kept : (q : ℕ) (w : World) (k : ResvKey) → k.to < length w.net.ends → (claim : Part → Type 0) → IsClosed IsCut claim → (rs : List (List Step)) → Rounds (machine q) rs w → Hold (machine q) 0 rs w (AreBounds q)
-    → Hold (machine q) 0 rs w (SaysOnly (machine q) (resv_line q w k) claim w.made)
-    → Hold (machine q) 5 rs w (λ u. KeepsOnly (machine q) (resv_line q w k) claim u × SaysOnly (machine q) (resv_line q w k) claim 0 u)
+    → Hold (machine q) 0 rs w (SaysOnly (machine q) (soft_resv q w k) claim w.made)
+    → Hold (machine q) 5 rs w (λ u. KeepsOnly (machine q) (soft_resv q w k) claim u × SaysOnly (machine q) (soft_resv q w k) claim 0 u)
 only_resvs_as_claimed_are_kept q w k lt claim cuts rs calm bounds says =
-    only_what_is_said_is_kept (machine q) (time_passes q) (items_are_numbered q) (resv_line q w k) (resv_keeps q w k lt) claim cuts rs w calm (known_hold q w rs calm bounds) says
+    only_what_is_said_is_kept (machine q) (time_passes q) (items_are_numbered q) (soft_resv q w k) (resv_keeps q w k lt) claim cuts rs w calm (known_hold q w rs calm bounds) says

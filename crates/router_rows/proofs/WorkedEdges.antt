@@ -1,6 +1,6 @@
 -- The worked rows at the edges of the rules hold by computing.
 use Rattle.std.specs.Prelude.{refl}
-use Rattle.router_rules.specs.EdgeRows.{SomeNamesLeave, SendersAreBlockaded, ErrorsTogether, TooManyNames, WantsConflict, HandlesGoBack, RefusalsArrive}
+use Rattle.router_rows.specs.EdgeRows.{SomeNamesLeave, SendersAreBlockaded, ErrorsTogether, TooManyNames, WantsConflict, HandlesGoBack, RefusalsArrive}
 
 pub some_names_leave : SomeNamesLeave
 some_names_leave =

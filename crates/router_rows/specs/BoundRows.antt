@@ -1,18 +1,13 @@
--- Routers within bounds: one without facts, and one with something in each table: router r of the line, with a sender and a
--- receiver of its own, the path of the first sender, the reservation of t, and a blockade.
-use Rattle.std.specs.Prelude.{◌≡◌, ℕ, true, false, Some, None}
+-- A router within bounds with something in each table: router r of the line, with a sender and a receiver of its own, the
+-- path of the first sender, the reservation of t, and a blockade.
+use Rattle.std.specs.Prelude.{◌≡◌, true, false, Some, None}
 use Rattle.rsvp_base.specs.declared.session.Sender.{Sender}
 use Rattle.rsvp_base.specs.declared.style.StyleKind.TheVariants.{Wild}
 use Rattle.rsvp_base.specs.Table.{empty, size}
 use Rattle.router_rules.specs.Bounds.{IsWithinBounds}
 use Rattle.router_rules.specs.Facts.{Facts, no_facts}
 use Rattle.router_rules.specs.Inputs.{SendAs, WantAs}
-use Rattle.router_rules.specs.Line.{called, came, error, first, flow, group, node_r, path, r1, r2, resv, resv_err, s1, scope, session, t1, usual, wild}
-use Rattle.router_rules.specs.Place.{Place}
-
--- a router without facts, wherever it stands and at any moment
-abbrev pub NoFactsAreWithinBounds : Type 0
-NoFactsAreWithinBounds = (p : Place) (c : ℕ) → IsWithinBounds p c no_facts
+use Rattle.router_rows.specs.ThreeRouters.{called, came, error, first, flow, group, node_r, path, r1, r2, resv, resv_err, s1, scope, session, t1, usual, wild}
 
 -- ---- router r
 -- a sender at r itself

@@ -17,7 +17,7 @@ use Rattle.rsvp_messages.specs.declared.message.Message.{Message}
 use Rattle.rsvp_messages.specs.declared.message.Message.TheVariants as message
 use Rattle.router_rules.specs.Facts.{Facts}
 use Rattle.router_rules.specs.Inputs.{Call, Came, Local, Send, Spelt, Wait}
-use Rattle.router_rules.specs.Place.{Place}
+use Rattle.router_rules.specs.NodeConfig.{NodeConfig}
 use Rattle.router_rules.specs.Rule.{Outcome, rule}
 
 abbrev pub ip : ℕ → ℕ → ℕ → ℕ → Addr
@@ -70,31 +70,31 @@ usual = flow 1000 2000 64 1500
 abbrev pub iface : Addr → ℕ → Iface
 iface addr capacity = record { addr = addr; capacity = capacity; mtu = 1500 }
 
-abbrev pub node : List Iface → Option ℕ → ℕ → Place
+abbrev pub node : List Iface → Option ℕ → ℕ → NodeConfig
 node ifaces inward outward = record { quarter = 7500; ifaces = ifaces; routes = (record { group = group; source = s1; inward = inward; outward = outward }) ∷ [] }
 
-abbrev pub node_s : ℕ → Place
+abbrev pub node_s : ℕ → NodeConfig
 node_s capacity = node (iface s1 capacity ∷ []) None 1
 
 -- in the line, with the capacity of r2
-abbrev pub node_r : ℕ → Place
+abbrev pub node_r : ℕ → NodeConfig
 node_r capacity = node (iface r1 10000 ∷ iface r2 capacity ∷ []) (Some 0) 2
 
-abbrev pub node_t : Place
+abbrev pub node_t : NodeConfig
 node_t = node (iface t1 10000 ∷ []) (Some 0) 0
 
 -- with two receivers behind it
-abbrev pub fork_r : Place
+abbrev pub fork_r : NodeConfig
 fork_r = node (iface r1 10000 ∷ iface r2 10000 ∷ iface r3 10000 ∷ []) (Some 0) 6
 
 -- ---- inputs
-abbrev pub came : Place → ℕ → ℕ → Addr → Message → Facts → Outcome
+abbrev pub came : NodeConfig → ℕ → ℕ → Addr → Message → Facts → Outcome
 came p clock e dst m f = rule p p clock (Came e dst (Spelt m)) f
 
-abbrev pub waited : Place → ℕ → ℕ → ℕ → Facts → Outcome
+abbrev pub waited : NodeConfig → ℕ → ℕ → ℕ → Facts → Outcome
 waited p clock ms word f = rule p p clock (Wait ms word) f
 
-abbrev pub called : Place → ℕ → Local → Facts → Outcome
+abbrev pub called : NodeConfig → ℕ → Local → Facts → Outcome
 called p clock l f = rule p p clock (Call l) f
 
 -- ---- messages, whose hops have handle 0 and whose period is 30 seconds

@@ -1,10 +1,10 @@
--- A line: one key at one hop. What is kept under it, which items speak of it, and when its next refresh is due.
+-- Soft state: one key at one hop. What is kept under it, which items speak of it, and when its next refresh is due.
 use Rattle.std.specs.Prelude.{◌≡◌, ℕ, ◌+◌, ◌*◌, ◌≤◌, ◌<◌, Bool, true, false, Option, Some, ◌⊎◌}
 use Rattle.rsvp_base.specs.Members.{In}
 use Rattle.calm_rounds.specs.Machine.{Machine}
 
--- what is read of a line whose values are V
-pub record Line (W S I K V : Type 0) : Type 1 where
+-- what is read of soft state whose values are V
+pub record SoftState (W S I K V : Type 0) : Type 1 where
   -- what is known of each world
   pub sane : W → Type 0
   -- the value that is kept, and the moment at which it dies
@@ -21,13 +21,13 @@ pub record Line (W S I K V : Type 0) : Type 1 where
   pub due : W → Option ℕ
   -- the step makes the sending node refresh
   pub fires : S → W → Type 0
-  pub lane : Option K
+  pub track : Option K
 
 -- each cut of a value with P has P
 abbrev pub IsClosed : {V : Type 0} → (V → V → Type 0) → (V → Type 0) → Type 0
 IsClosed {V} below P = (v v0 : V) → below v v0 → P v0 → P v
 
-module _ {W S I K V : Type 0} (m : Machine W S I K) (l : Line W S I K V) where
+module _ {W S I K V : Type 0} (m : Machine W S I K) (l : SoftState W S I K V) where
   -- how what is kept comes and goes, by quiet steps between sane worlds
   pub record KeepLaws : Type 0 where
     -- what is kept is a cut of what was kept and dies when that would, or is a cut of what an item says that arrives
@@ -71,7 +71,7 @@ module _ {W S I K V : Type 0} (m : Machine W S I K) (l : Line W S I K V) where
     -- where no letter arrives and the value is not due to die, it stays
     pub rests : (s : S) (u : W) (d : ℕ) → m.quiet s ≡ true → Good v n u → Good v n (m.step s u)
         → ((x : I) → m.arrived s u ≡ Some x → l.letter x ≡ false) → l.kept u ≡ Some (v, d) → m.clock (m.step s u) < d → l.kept (m.step s u) ≡ Some (v, d)
-    -- where the sending node refreshes, it sends a refresh on the lane
-    pub calls : (s : S) (u : W) → m.quiet s ≡ true → Good v n u → Good v n (m.step s u) → l.fires s u → (x : I) × In (x, true) (m.sent s u) × (m.lane x ≡ l.lane)
-    -- a refresh that is sent on the lane is a letter
-    pub lanes : (s : S) (u : W) (x : I) → m.quiet s ≡ true → Good v n u → Good v n (m.step s u) → In (x, true) (m.sent s u) → m.lane x ≡ l.lane → l.letter x ≡ true
+    -- where the sending node refreshes, it sends a refresh on the track
+    pub calls : (s : S) (u : W) → m.quiet s ≡ true → Good v n u → Good v n (m.step s u) → l.fires s u → (x : I) × In (x, true) (m.sent s u) × (m.track x ≡ l.track)
+    -- a refresh that is sent on the track is a letter
+    pub tracks : (s : S) (u : W) (x : I) → m.quiet s ≡ true → Good v n u → Good v n (m.step s u) → In (x, true) (m.sent s u) → m.track x ≡ l.track → l.letter x ≡ true

@@ -1,4 +1,4 @@
--- A reservation that comes over a hop, as a line: what is kept there, and which Resvs speak of it (RFC 2205, 3.1.4).
+-- A reservation that comes over a hop, as soft state: what is kept there, and which Resvs speak of it (RFC 2205, 3.1.4).
 use Rattle.std.specs.Prelude.{◌≡◌, ℕ, Bool, true, false, Option, None, Some, slice_get}
 use Rattle.std.specs.Option.{option_map, option_and_then}
 use Rattle.rsvp_base.specs.declared.addr.Addr.{Addr}
@@ -15,12 +15,12 @@ use Rattle.rsvp_messages.specs.declared.message.ResvMsg.{ResvMsg}
 use Rattle.rsvp_messages.specs.Units.{AskedUnit, ask_style, asked_units}
 use Rattle.style_rules.specs.Lines.{LineKey}
 use Rattle.style_rules.specs.Parts.{has_name}
-use Rattle.calm_rounds.specs.Lines.{Line}
+use Rattle.calm_rounds.specs.SoftStates.{SoftState}
 use Rattle.tree_model.specs.Goals.{addr_of}
 use Rattle.router_rules.specs.Facts.{ResvState, resvs_of}
 use Rattle.router_rules.specs.Inputs.{Spelt}
 use Rattle.tree_model.specs.Networks.{Net, node_of, iface_of}
-use Rattle.network_model.specs.Steps.{Step, Lane}
+use Rattle.network_model.specs.Steps.{Step, Track}
 use Rattle.network_model.specs.Worlds.{Item, World}
 use Rattle.network_steps.specs.Known.{IsKnown}
 
@@ -79,9 +79,9 @@ pub record SaysResv (net : Net) (k : ResvKey) (y : Item) (v : Part) : Type 0 whe
   pub names : AsksFor unit.names v.senders
   pub flow : v.flow ≡ unit.flow
 
--- ---- the line; of what is renewed nothing is said yet
-abbrev pub resv_line : ℕ → World → ResvKey → Line World Step Item Lane Part
-resv_line q w k = record {
+-- ---- the soft state; of what is renewed nothing is said yet
+abbrev pub soft_resv : ℕ → World → ResvKey → SoftState World Step Item Track Part
+soft_resv q w k = record {
   sane = IsKnown q w;
   kept = kept_at w.net k;
   says = SaysResv w.net k;
@@ -90,5 +90,5 @@ resv_line q w k = record {
   below = IsCut;
   due = λ u. None;
   fires = λ s u. ⊥;
-  lane = None;
+  track = None;
 }

@@ -16,7 +16,7 @@ use Rattle.router_rules.specs.declared.answers.LocalErr.TheVariants as local
 use Rattle.router_rules.specs.Calls.{call_refusal}
 use Rattle.router_rules.specs.Facts.{Facts, no_facts}
 use Rattle.router_rules.specs.Inputs.{Came, Unspelt, SendAs, DropAs, Clear, Moved}
-use Rattle.router_rules.specs.Line.{ip, s1, r1, r2, t1, group, session, first, second, flow, usual, node, node_s, node_r, iface, came, waited, called, path, path_tear, resv_err, sent, refreshed, error}
+use Rattle.router_rows.specs.ThreeRouters.{ip, s1, r1, r2, t1, group, session, first, second, flow, usual, node, node_s, node_r, iface, came, waited, called, path, path_tear, resv_err, sent, refreshed, error}
 use Rattle.router_rules.specs.Rule.{Outcome, rule}
 
 -- r with the path of the first sender

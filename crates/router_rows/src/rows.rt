@@ -1,8 +1,8 @@
-//! Worked rows: what a router does at the nodes of a line of three, and of a fork. Each holds by computing the rule.
-ghost use Rattle.router_rules.specs.BoundRows.{LivedIsWithinBounds, NoFactsAreWithinBounds};
-ghost use Rattle.router_rules.specs.EdgeRows.{SomeNamesLeave, SendersAreBlockaded, ErrorsTogether, TooManyNames, WantsConflict, HandlesGoBack, RefusalsArrive};
-ghost use Rattle.router_rules.specs.PathRows.{PathGoesOn, PathsDropped, PathsEnd, LocalSenders, PathsMove, FaultsAreAnswered, PathErrorsGoOn};
-ghost use Rattle.router_rules.specs.ResvRows.{ResvGoesOn, RefusedRaiseKeepsTheOld, NoPathNoReservation, LeftOut, StylesMergeByTheirUnits, NextHopsMerge, TearsGoOn, GreedyIsBlockaded, BlockadedMerge, ErrorsGoOn, ConfirmationsComeBack, MarksWait, CallsAreRefused, FlagsAreByPaths};
+//! The rows. Each holds by computing the rule.
+ghost use Rattle.router_rows.specs.BoundRows.{LivedIsWithinBounds};
+ghost use Rattle.router_rows.specs.EdgeRows.{SomeNamesLeave, SendersAreBlockaded, ErrorsTogether, TooManyNames, WantsConflict, HandlesGoBack, RefusalsArrive};
+ghost use Rattle.router_rows.specs.PathRows.{PathGoesOn, PathsDropped, PathsEnd, LocalSenders, PathsMove, FaultsAreAnswered, PathErrorsGoOn};
+ghost use Rattle.router_rows.specs.ResvRows.{ResvGoesOn, RefusedRaiseKeepsTheOld, NoPathNoReservation, LeftOut, StylesMergeByTheirUnits, NextHopsMerge, TearsGoOn, GreedyIsBlockaded, BlockadedMerge, ErrorsGoOn, ConfirmationsComeBack, MarksWait, CallsAreRefused, FlagsAreByPaths};
 
 /// A Path is learnt and goes on, and again when its session comes due.
 #[tactic(auto, using(crate::proofs::Worked::path_goes_on))]
@@ -128,12 +128,6 @@ pub fn calls_are_refused()
 #[tactic(auto, using(crate::proofs::Worked::flags_are_by_paths))]
 pub fn flags_are_by_paths()
     ensures { FlagsAreByPaths }
-{}
-
-/// A router without facts is within bounds.
-#[tactic(auto, using(crate::proofs::Bounding::no_facts_are_within_bounds))]
-pub fn no_facts_are_within_bounds()
-    ensures { NoFactsAreWithinBounds }
 {}
 
 /// A router with a sender and a receiver of its own, a path, a reservation and a blockade is within bounds.

@@ -1,7 +1,7 @@
 -- The worked rows hold by computing.
 use Rattle.std.specs.Prelude.{refl}
-use Rattle.router_rules.specs.PathRows.{PathGoesOn, PathsDropped, PathsEnd, LocalSenders, PathsMove, FaultsAreAnswered, PathErrorsGoOn}
-use Rattle.router_rules.specs.ResvRows.{ResvGoesOn, RefusedRaiseKeepsTheOld, NoPathNoReservation, LeftOut, StylesMergeByTheirUnits, NextHopsMerge, TearsGoOn, GreedyIsBlockaded, BlockadedMerge, ErrorsGoOn, ConfirmationsComeBack, MarksWait, CallsAreRefused, FlagsAreByPaths}
+use Rattle.router_rows.specs.PathRows.{PathGoesOn, PathsDropped, PathsEnd, LocalSenders, PathsMove, FaultsAreAnswered, PathErrorsGoOn}
+use Rattle.router_rows.specs.ResvRows.{ResvGoesOn, RefusedRaiseKeepsTheOld, NoPathNoReservation, LeftOut, StylesMergeByTheirUnits, NextHopsMerge, TearsGoOn, GreedyIsBlockaded, BlockadedMerge, ErrorsGoOn, ConfirmationsComeBack, MarksWait, CallsAreRefused, FlagsAreByPaths}
 
 pub path_goes_on : PathGoesOn
 path_goes_on =

@@ -23,8 +23,8 @@ use Rattle.router_rules.specs.Calls.{act_stale, call_refusal, stale_refusal}
 use Rattle.router_rules.specs.Facts.{Facts, no_facts, no_resvs}
 use Rattle.router_rules.specs.Flags.{police_at}
 use Rattle.router_rules.specs.Inputs.{SendAs, WantAs, QuitAll, Stale, StaleResv, StaleWall, Send, Clear, Moved}
-use Rattle.router_rules.specs.Line.{ip, s1, r1, r2, t1, r3, u1, group, session, first, second, scope, flow, usual, node, node_s, node_r, node_t, fork_r, iface, came, waited, called, path, path_tear, resv, wild, shared, resv_err, error, conf, sent}
-use Rattle.router_rules.specs.PathRows.{sixteen, with_path}
+use Rattle.router_rows.specs.ThreeRouters.{ip, s1, r1, r2, t1, r3, u1, group, session, first, second, scope, flow, usual, node, node_s, node_r, node_t, fork_r, iface, came, waited, called, path, path_tear, resv, wild, shared, resv_err, error, conf, sent}
+use Rattle.router_rows.specs.PathRows.{sixteen, with_path}
 use Rattle.router_rules.specs.Rule.{Outcome, rule}
 
 -- ---- a reservation is made and goes on

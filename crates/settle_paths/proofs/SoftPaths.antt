@@ -6,7 +6,7 @@ use Rattle.rsvp_base.specs.Table.{get}
 use Rattle.rsvp_base.specs.TokenBucket.{TokenBucket}
 use Rattle.rsvp_messages.specs.declared.message.Message.TheVariants as message
 use Rattle.rsvp_messages.specs.declared.message.PathMsg.{PathMsg}
-use Rattle.calm_rounds.specs.Lines.{KeepLaws}
+use Rattle.calm_rounds.specs.SoftStates.{KeepLaws}
 use Rattle.router_inputs.specs.Sources.{IsLearnt}
 use Rattle.router_steps.proofs.Learning.{where_a_path_fact_comes_from}
 use Rattle.router_rules.specs.Facts.{Facts, SenderKey, PathState}
@@ -18,13 +18,14 @@ use Rattle.tree_model.specs.Trees.{inward}
 use Rattle.tree_model.proofs.Following.{same_number, number_same}
 use Rattle.network_model.specs.Bounds.{AreBounds}
 use Rattle.network_model.specs.Steps.{Step, is_quiet, ms_of, arrived, word_for, input_at, outcome, still, step, machine}
-use Rattle.network_model.specs.Worlds.{Item, World, place_of}
+use Rattle.network_model.specs.Worlds.{Item, World, config_of}
 use Rattle.network_model.proofs.Machines.{quiet_of}
 use Rattle.network_model.proofs.Quiet.{IsWaited, IsCame, FollowsRule, input_found, outcome_quiet}
 use Rattle.network_model.proofs.Stepping.{facts_after_found}
-use Rattle.settle_paths.specs.Lines.{PathValue, value_of, path_at, by_iface, path_line}
+use Rattle.settle_paths.specs.SoftPaths.{PathValue, value_of, path_at, by_iface, soft_path}
 use Rattle.network_steps.proofs.Due.{full_life}
 use Rattle.network_steps.proofs.Standing.{comes_in_told, inward_there, same_end}
+use Rattle.router_rules.specs.Steps.{node_step}
 
 -- ---- look-up
 pub path_found : (u : World) (n : ℕ) (k : SenderKey) (x : PathState) → path_at u n k ≡ Some x → (f : Facts) × (slice_get u.nodes n ≡ Some f) × (get f.paths k ≡ Some x)
@@ -64,10 +65,10 @@ pub record IsBrought (q : ℕ) (net : Net) (s : Step) (u : World) (n : ℕ) (k :
   pub session : path.session ≡ k.0
   pub sender : path.sender ≡ Some (k.1, tspec)
   pub inward : inward net n k.0.group k.1.addr ≡ Some item.end
-  pub is : x ≡ path_state (place_of q net u.trees n) (u.clock + ms_of s) (iface_of net.ends item.end) path tspec
+  pub is : x ≡ path_state (config_of q net u.trees n) (u.clock + ms_of s) (iface_of net.ends item.end) path tspec
 
 module _ (q : ℕ) (s : Step) (u : World) (quiet : is_quiet s ≡ true) (bounds : AreBounds q u) where
-  brought : (n : ℕ) (f : Facts) (k : SenderKey) (x : PathState) (h : FollowsRule q s u n f (outcome q s u n f)) → IsLearnt (place_of q u.net u.trees n) (u.clock + ms_of s) h.input k x → IsBrought q u.net s u n k x
+  brought : (n : ℕ) (f : Facts) (k : SenderKey) (x : PathState) (h : FollowsRule q s u n f (outcome q s u n f)) → IsLearnt (config_of q u.net u.trees n) (u.clock + ms_of s) h.input k x → IsBrought q u.net s u n k x
   brought n f k x h l =
       ⊎_elim
       (λ (t : IsWaited s u n h.input). let no : Wait t.ms (word_for u.words n) ≡ Came l.by.at k.0.group (Spelt (message.Path l.by.path)) = sym t.is ∙ l.by.came in absurd (cc))
@@ -93,7 +94,7 @@ module _ (q : ℕ) (s : Step) (u : World) (quiet : is_quiet s ≡ true) (bounds 
         session = l.by.session;
         sender = l.by.sender;
         inward = way.1 ∙ ap Some end;
-        is = l.is ∙ ap (λ (i : ℕ). path_state (place_of q u.net u.trees n) (u.clock + ms_of s) i l.by.path l.by.tspec) (sym iface);
+        is = l.is ∙ ap (λ (i : ℕ). path_state (config_of q u.net u.trees n) (u.clock + ms_of s) i l.by.path l.by.tspec) (sym iface);
       })
       (input_found s u n h.input quiet h.came)
 
@@ -107,8 +108,8 @@ module _ (q : ℕ) (s : Step) (u : World) (quiet : is_quiet s ≡ true) (bounds 
       (λ (h : FollowsRule q s u n f.0 (outcome q s u n f.0)).
       ⊎_elim
       (λ (old : get f.0.paths k ≡ Some x). inl (path_made u n k x f.0 f.1 old))
-      (λ (new : IsLearnt (place_of q u.net u.trees n) (u.clock + ms_of s) h.input k x). inr (brought n f.0 k x h new))
-      (where_a_path_fact_comes_from (place_of q u.net u.trees n) (place_of q u.net u.trees n) u.clock (u.clock + ms_of s) h.input f.0 (bounds.facts n f.0 f.1) k x (sym (ap (λ (o : Outcome). get o.facts.paths k) h.is) ∙ now)))
+      (λ (new : IsLearnt (config_of q u.net u.trees n) (u.clock + ms_of s) h.input k x). inr (brought n f.0 k x h new))
+      (where_a_path_fact_comes_from (node_step (config_of q u.net u.trees n) (config_of q u.net u.trees n) u.clock (u.clock + ms_of s) h.input f.0) (bounds.facts n f.0 f.1) k x (sym (ap (λ (o : Outcome). get o.facts.paths k) h.is) ∙ now)))
       (outcome_quiet q s u n f.0 quiet)
 
 -- ---- how long it lives
@@ -118,8 +119,8 @@ path_room q u n k x bounds e =
     let lives = (bounds.facts n f.0 f.1).alive.paths k x f.2 in
     (lives.later, subst (λ (z : ℕ). x.dies ≤ u.clock + z) (full_life q bounds.period) lives.soon)
 
--- ---- the line
-pub path_keeps : (q : ℕ) (w : World) (k : SenderKey) (e : ℕ) → e < length w.net.ends → KeepLaws (machine q) (path_line q w k e)
+-- ---- the soft state
+pub path_keeps : (q : ℕ) (w : World) (k : SenderKey) (e : ℕ) → e < length w.net.ends → KeepLaws (machine q) (soft_path q w k e)
 path_keeps q w k e lt = record {
   set = λ s u v d quiet a a' h.
       let n : ℕ = node_of w.net.ends e in
