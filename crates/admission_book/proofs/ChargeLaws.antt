@@ -8,10 +8,10 @@ use Rattle.rsvp_base.specs.Table.{Table, get, kept, without}
 use Rattle.rsvp_base.specs.TokenBucket.{TokenBucket}
 use Rattle.rsvp_base.proofs.UnderLaws.{get-under, under-put_in_same, under-put_in_other, under-without_same, under-without_other, under-kept}
 use Rattle.rsvp_base.proofs.Sums.{number_of, sum-put_in, sum-without, sum_kept_at_most}
-use Rattle.admission_book.specs.EntryKeys.{entry_keys}
+use Rattle.rsvp_base.specs.Orders.{entry_keys}
 use Rattle.admission_book.specs.Book.{Entries, entries_on, changed_at}
 use Rattle.admission_book.specs.Charges.{charges, charge}
-use Rattle.admission_book.specs.declared.key.EntryKey.{EntryKey}
+use Rattle.rsvp_base.specs.declared.entry_key.EntryKey.{EntryKey}
 
 abbrev rate : EntryKey × TokenBucket → ℕ
 rate e = e.1.r

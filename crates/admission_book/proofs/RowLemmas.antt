@@ -11,7 +11,7 @@ use Rattle.admission_book.specs.EntryKeys.{places}
 use Rattle.admission_book.specs.Book.{Bookings}
 use Rattle.admission_book.specs.Charges.{charge}
 use Rattle.admission_book.specs.Rows.{as_entry, as_entries, entries_of, IsRising}
-use Rattle.admission_book.specs.declared.key.EntryKey.{EntryKey}
+use Rattle.rsvp_base.specs.declared.entry_key.EntryKey.{EntryKey}
 use Rattle.admission_book.specs.declared.row.Row.{Row}
 
 abbrev pub row_of : ℕ × EntryKey → TokenBucket → Row

@@ -6,9 +6,9 @@ use Rattle.std.proofs.lemmas.Bool.Decides.{nat_tests}
 use Rattle.std.specs.List.Sorted.{IsNonDecreasingBy, IsPartitionPoint}
 use Rattle.rsvp_base.specs.TokenBucket.{TokenBucket}
 use Rattle.rsvp_base.proofs.Together.{numbers_rise, rows_of, rows_cons, none_past, tied, untied}
-use Rattle.admission_book.specs.EntryKeys.{entry_keys}
+use Rattle.rsvp_base.specs.Orders.{entry_keys}
 use Rattle.admission_book.specs.Rows.{as_entry, IsRising, own}
-use Rattle.admission_book.specs.declared.key.EntryKey.{EntryKey}
+use Rattle.rsvp_base.specs.declared.entry_key.EntryKey.{EntryKey}
 use Rattle.admission_book.specs.declared.row.Row.{Row}
 
 abbrev pub rows_on : ℕ → List Row → List (EntryKey × TokenBucket)

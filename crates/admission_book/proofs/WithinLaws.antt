@@ -11,8 +11,8 @@ use Rattle.admission_book.specs.EntryKeys.{places}
 use Rattle.admission_book.specs.Book.{Bookings, Entries, changed_at}
 use Rattle.admission_book.specs.Charges.{charges, charge, refusal_beside, refusal}
 use Rattle.admission_book.specs.Within.{IsWithin, IsKept}
-use Rattle.admission_book.specs.declared.iface.Iface.{Iface}
-use Rattle.admission_book.specs.declared.key.EntryKey.{EntryKey}
+use Rattle.rsvp_base.specs.declared.iface.Iface.{Iface}
+use Rattle.rsvp_base.specs.declared.entry_key.EntryKey.{EntryKey}
 use Rattle.admission_book.proofs.ChargeLaws.{charges_changed, charges_elsewhere, charges_kept_at_most, others_at_most}
 
 -- ---- what an interface does not refuse

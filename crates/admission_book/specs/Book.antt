@@ -6,11 +6,12 @@ use Rattle.rsvp_base.specs.Table.{Table, put_in, without, table_code}
 use Rattle.rsvp_base.specs.Under.{under}
 use Rattle.rsvp_base.specs.TokenBucket.{TokenBucket}
 use Rattle.rsvp_base.specs.contracts.flow.Flow as flow
-use Rattle.admission_book.specs.EntryKeys.{entry_keys, places}
-use Rattle.admission_book.specs.declared.iface.Iface.{Iface}
-use Rattle.admission_book.specs.declared.key.EntryKey.{EntryKey}
-use Rattle.admission_book.specs.contracts.iface.Iface as iface
-use Rattle.admission_book.specs.contracts.key.EntryKey as key
+use Rattle.admission_book.specs.EntryKeys.{places}
+use Rattle.rsvp_base.specs.Orders.{entry_keys}
+use Rattle.rsvp_base.specs.declared.iface.Iface.{Iface}
+use Rattle.rsvp_base.specs.declared.entry_key.EntryKey.{EntryKey}
+use Rattle.rsvp_base.specs.contracts.iface.Iface as iface
+use Rattle.rsvp_base.specs.contracts.entry_key.EntryKey as key
 
 -- a flow for each interface and key that has one
 abbrev pub Entries : Type 0

@@ -3,8 +3,8 @@ use Rattle.std.specs.Prelude.{ℕ, ◌-◌, Option, Some, None, sum_by, nat_lt, 
 use Rattle.rsvp_base.specs.Table.{without}
 use Rattle.rsvp_base.specs.TokenBucket.{TokenBucket}
 use Rattle.admission_book.specs.Book.{Entries, Bookings, entries_on}
-use Rattle.admission_book.specs.declared.iface.Iface.{Iface}
-use Rattle.admission_book.specs.declared.key.EntryKey.{EntryKey}
+use Rattle.rsvp_base.specs.declared.iface.Iface.{Iface}
+use Rattle.rsvp_base.specs.declared.entry_key.EntryKey.{EntryKey}
 use Rattle.admission_book.specs.declared.refused.Refused.{Refused}
 use Rattle.admission_book.specs.declared.refused.Refused.TheVariants.{Mtu, Rate}
 

@@ -4,7 +4,7 @@ use Rattle.rsvp_base.specs.Rows.{AreRows, table_of}
 use Rattle.rsvp_base.specs.TokenBucket.{TokenBucket}
 use Rattle.admission_book.specs.EntryKeys.{places}
 use Rattle.admission_book.specs.Book.{Entries}
-use Rattle.admission_book.specs.declared.key.EntryKey.{EntryKey}
+use Rattle.rsvp_base.specs.declared.entry_key.EntryKey.{EntryKey}
 use Rattle.admission_book.specs.declared.row.Row.{Row}
 
 abbrev pub as_entry : Row → (ℕ × EntryKey) × TokenBucket

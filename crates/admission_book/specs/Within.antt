@@ -4,8 +4,8 @@ use Rattle.rsvp_base.specs.Table.{get, size}
 use Rattle.rsvp_base.specs.TokenBucket.{TokenBucket}
 use Rattle.admission_book.specs.Book.{Bookings}
 use Rattle.admission_book.specs.Charges.{charges}
-use Rattle.admission_book.specs.declared.iface.Iface.{Iface}
-use Rattle.admission_book.specs.declared.key.EntryKey.{EntryKey}
+use Rattle.rsvp_base.specs.declared.iface.Iface.{Iface}
+use Rattle.rsvp_base.specs.declared.entry_key.EntryKey.{EntryKey}
 
 -- no interface has promised more than its capacity, or packets that it does not send; each entry's interface is there
 pub record IsWithin (b : Bookings) : Type 0 where

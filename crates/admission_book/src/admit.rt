@@ -2,9 +2,8 @@
 ghost use Rattle.std.specs.Prelude.{◌≡◌, ◌+◌, ◌≤◌, IfOk, MatchResult, Some, None};
 ghost use Rattle.admission_book.specs.Charges.{charge, refusal_beside};
 
-use crate::iface::Iface;
 use crate::refused::Refused;
-use rsvp_base::Flow;
+use rsvp_base::{Flow, Iface};
 
 // What the interface's entries charge it with this flow, or without one, beside others that charge `others`; or why the
 // flow is refused.

@@ -7,12 +7,11 @@ ghost use Rattle.admission_book.specs.Within.{IsWithin};
 ghost use Rattle.admission_book.specs.Rows.{IsRising};
 
 use crate::admit::admit;
-use crate::iface::Iface;
-use crate::key::EntryKey;
 use crate::refused::Refused;
 use crate::row::Row;
-use crate::rows::{change, charge_at, nth, search};
-use rsvp_base::{Flow, NoMemory};
+use crate::rows::{change, charge_at, nth};
+use rsvp_base::sorted::search;
+use rsvp_base::{EntryKey, Flow, Iface, NoMemory};
 use std::alloc::Global;
 use std::marker::Model;
 
@@ -51,9 +50,9 @@ impl Book {
     pub fn open(alloc: Global, ifaces: &Vec<Iface>) -> Result<Book, NoMemory>
         ensures { IfOk result (λ b. b ≡ record { ifaces = ifaces.now.items; entries = empty }) }
     {
-        let copy = ifaces.as_slice().to_vec(alloc).map_err(|_| NoMemory)?;
-        let held = vec![in alloc; 0u64; ifaces.len()].map_err(|_| NoMemory)?;
-        let rows = Vec::with_capacity(alloc, ROOM).map_err(|_| NoMemory)?;
+        let copy = ifaces.as_slice().to_vec(alloc)?;
+        let held = vec![in alloc; 0u64; ifaces.len()]?;
+        let rows = Vec::with_capacity(alloc, ROOM)?;
         Ok(Book {
             ifaces: copy,
             held,
@@ -92,7 +91,7 @@ impl Book {
     {
         let number = iface as usize;
         let on = self.ifaces[number];
-        let place = search(self.rows.as_slice(), iface, &key);
+        let place = search(self.rows.as_slice(), &(iface, key));
         let others = self.held[number] - charge_at(self.rows.as_slice(), place);
         let sum = admit(&on, others, &now)?;
         change(&mut self.rows, place, iface, key, now);
@@ -114,7 +113,7 @@ impl Book {
         ensures flow { result ≡ get self.now.entries (iface, key.now) }
         ensures within { IsWithin self.now }
     {
-        let place = search(self.rows.as_slice(), iface, key).ok()?;
+        let place = search(self.rows.as_slice(), &(iface, *key)).ok()?;
         Some(self.rows[place].flow)
     }
 

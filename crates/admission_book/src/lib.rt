@@ -7,8 +7,6 @@
 
 mod admit;
 mod book;
-mod iface;
-mod key;
 mod refused;
 mod row;
 mod rows;
@@ -16,6 +14,5 @@ mod rows;
 mod tests;
 
 pub use book::Book;
-pub use iface::Iface;
-pub use key::EntryKey;
 pub use refused::Refused;
+pub use rsvp_base::{EntryKey, Iface};

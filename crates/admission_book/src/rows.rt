@@ -1,33 +1,16 @@
 //! Rows in the order of their interfaces and keys: found by binary search, changed in place.
-ghost use Rattle.std.specs.Prelude.{◌≡◌, ◌<◌, ◌≤◌, length, IsSome, IsErr, IfOk, IfErr, OnErr, slice_get, slice_index_or, vec_len, vec_capacity};
+ghost use Rattle.std.specs.Prelude.{◌≡◌, ◌<◌, ◌≤◌, length, IsSome, IsErr, IfOk, OnErr, slice_get, slice_index_or, vec_len, vec_capacity};
 ghost use Rattle.std.specs.Result.{ForOk, ForErr};
 ghost use Rattle.rsvp_base.specs.Keys.{numbers};
 ghost use Rattle.rsvp_base.specs.Rows.{HasRowAt, LacksRowAt};
 ghost use Rattle.rsvp_base.specs.Under.{rows_under};
-ghost use Rattle.admission_book.specs.EntryKeys.{entry_keys, places};
+ghost use Rattle.admission_book.specs.EntryKeys.{places};
+ghost use Rattle.rsvp_base.specs.Orders.{entry_keys};
 ghost use Rattle.admission_book.specs.Book.{changed_at};
 ghost use Rattle.admission_book.specs.Rows.{IsRising, as_entry, as_entries, entries_of, own};
 
-use crate::key::EntryKey;
 use crate::row::Row;
-use rsvp_base::Flow;
-use std::cmp::Ordering;
-
-// How a row stands to the place of an entry.
-fn order(row: &Row, iface: u8, key: &EntryKey) -> Ordering
-    ensures { result ≡ places.cmp (row.now.iface, row.now.key) (iface, key.now) }
-{
-    row.iface.cmp(&iface).then(row.key.cmp(key))
-}
-
-// Where the entry's row stands, or where it would go.
-pub(crate) fn search(rows: &[Row], iface: u8, key: &EntryKey) -> Result<usize, usize>
-    requires { IsRising rows.now }
-    ensures there { IfOk result (HasRowAt places as_entry rows.now (iface, key.now)) }
-    ensures absent { IfErr result (LacksRowAt places as_entry rows.now (iface, key.now)) }
-{
-    rows.binary_search_by(|row| order(row, iface, key))
-}
+use rsvp_base::{EntryKey, Flow};
 
 // What the row at a place charges its interface, in bytes per second; nothing where there is none.
 pub(crate) fn charge_at(rows: &[Row], place: Result<usize, usize>) -> u64

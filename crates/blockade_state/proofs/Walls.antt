@@ -8,7 +8,7 @@ use Rattle.std.proofs.lemmas.List.{length-map}
 use Rattle.rsvp_base.specs.Rows.{AreRows, table_of}
 use Rattle.rsvp_base.specs.Table.{Table, get, size, put_in, changed}
 use Rattle.rsvp_base.proofs.Tables.{either, size-put_in}
-use Rattle.router_rules.specs.Facts.{WallKey, wall_keys}
+use Rattle.style_rules.specs.Targets.{WallKey, wall_keys}
 use Rattle.style_rules.specs.declared.wall.Wall.{Wall}
 use Rattle.soft_table.specs.Facts.{dead_by}
 use Rattle.soft_table.proofs.Keyed.{where_no_more}

@@ -8,10 +8,9 @@ use Rattle.rsvp_base.specs.declared.session.Sender.{Sender}
 use Rattle.style_rules.specs.Lines.{NextHop}
 use Rattle.style_rules.specs.Ways.{wall_code}
 use Rattle.style_rules.specs.declared.wall.Wall.{Wall}
-use Rattle.router_rules.specs.Facts.{WallKey, wall_keys}
-use Rattle.router_rules.specs.Targets.{target_place}
-use Rattle.router_rules.specs.declared.target.Target.{Target}
-use Rattle.router_rules.specs.declared.target.Target.TheVariants as target
+use Rattle.style_rules.specs.Targets.{WallKey, wall_keys, target_place}
+use Rattle.style_rules.specs.declared.target.Target.{Target}
+use Rattle.style_rules.specs.declared.target.Target.TheVariants as target
 use Rattle.blockade_state.specs.declared.fact.Kept.{Kept}
 
 -- by session and target the wall that stands there, with the milliseconds that are left of it

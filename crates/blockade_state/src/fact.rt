@@ -1,12 +1,11 @@
 //! What is kept of a blockade.
 ghost use Rattle.std.specs.Prelude.{◌≡◌};
-ghost use Rattle.router_rules.specs.Targets.{target_place, targets};
+ghost use Rattle.style_rules.specs.Targets.{target_place, targets};
 
-use router_rules::Target;
 use rsvp_base::{Addr, Sender, Session};
 use soft_table::Fact;
 use std::cmp::Ordering;
-use style_rules::Wall;
+use style_rules::{Target, Wall};
 
 // A blockade of a session toward a target.
 #[derive(Clone, Copy)]
@@ -17,7 +16,7 @@ pub(crate) struct Kept {
 }
 
 impl Fact for Kept {
-    ghost use Rattle.router_rules.specs.Targets.{targets};
+    ghost use Rattle.style_rules.specs.Targets.{targets};
 
     type Rest = Target;
 

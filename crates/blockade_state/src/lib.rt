@@ -9,5 +9,5 @@ mod table;
 #[cfg(test)]
 mod tests;
 
-pub use router_rules::Target;
+pub use style_rules::Target;
 pub use table::Blockades;

@@ -3,18 +3,16 @@ ghost use Rattle.std.specs.Prelude.{◌≡◌, ◌≤◌, ◌<◌, ◌-◌, ℕ,
 ghost use Rattle.std.specs.Option.{option_map};
 ghost use Rattle.rsvp_base.specs.Rows.{AreRows};
 ghost use Rattle.rsvp_base.specs.Table.{empty, get, put_in, size, changed};
-ghost use Rattle.router_rules.specs.Facts.{wall_keys};
-ghost use Rattle.router_rules.specs.Targets.{targets};
+ghost use Rattle.style_rules.specs.Targets.{wall_keys, targets};
 ghost use Rattle.soft_table.specs.Facts.{IsInOrder};
 ghost use Rattle.blockade_state.specs.Blockades.{WallMap, wall_key, fact_row, later};
 
 use crate::fact::Kept;
-use router_rules::Target;
 use rsvp_base::{Full, NoMemory, Session};
 use soft_table::SoftTable;
 use std::alloc::Global;
 use std::marker::Model;
-use style_rules::Wall;
+use style_rules::{Target, Wall};
 
 // At most so many blockades.
 const ROOM: usize = 512;
@@ -33,7 +31,7 @@ pub struct Blockades {
 impl Model for Blockades {
     ghost use Rattle.rsvp_base.specs.Rows.{table_of};
     ghost use Rattle.rsvp_base.specs.Table.{changed};
-    ghost use Rattle.router_rules.specs.Facts.{wall_keys};
+    ghost use Rattle.style_rules.specs.Targets.{wall_keys};
     ghost use Rattle.blockade_state.specs.Blockades.{WallMap, wall_map_code, fact_row, wall_of};
 
     ghost Value = { WallMap };

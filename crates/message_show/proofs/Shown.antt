@@ -5,11 +5,10 @@ use Rattle.std.proofs.Common.{sym, ap, subst, ◌∙◌, append_assoc, append-ni
 use Rattle.std.proofs.lemmas.List.Elements.{All-cons, All-nil, All-get_or, All-tail}
 use Rattle.hex.specs.Hex.{decode_of, decode_pairs}
 use Rattle.hex.specs.declared.error.FromHexError.{FromHexError}
-use Rattle.script_words.specs.Lines.{text_lines}
-use Rattle.net_script.specs.Grammar.{line_number}
-use Rattle.net_script.specs.declared.fault.LineErr.{LineErr}
-use Rattle.net_script.specs.declared.fault.LineWhy.{LineWhy}
-use Rattle.net_script.specs.declared.fault.LineWhy.TheVariants.{Word, Late, Range, Name, Twice, Limit, Over}
+use Rattle.script_words.specs.Lines.{text_lines, line_number}
+use Rattle.script_words.specs.declared.fault.LineErr.{LineErr}
+use Rattle.script_words.specs.declared.fault.LineWhy.{LineWhy}
+use Rattle.script_words.specs.declared.fault.LineWhy.TheVariants.{Word, Late, Range, Name, Twice, Limit, Over}
 use Rattle.message_wire.specs.Laws.{AMessageIsOne, NoFaultWhereSpelt, TheFirstFaultIsOne}
 use Rattle.message_show.specs.MessageText.{message_text}
 use Rattle.message_show.specs.RefusalText.{refusal_text}

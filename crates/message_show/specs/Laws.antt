@@ -1,6 +1,6 @@
 -- Laws of what is shown.
 use Rattle.std.specs.Prelude.{◌≡◌, ℕ, List}
-use Rattle.net_script.specs.declared.fault.LineErr.{LineErr}
+use Rattle.script_words.specs.declared.fault.LineErr.{LineErr}
 use Rattle.message_show.specs.ShowLines.{AreRight, IsBadDigits, IsShown}
 
 -- of an input one text is shown

@@ -2,11 +2,10 @@
 use Rattle.std.specs.Prelude.{◌≡◌, ℕ, ◌<◌, ◌≤◌, List, [], ◌∷◌, ◌++◌, Ok, IsErr, length}
 use Rattle.std.specs.List.{All}
 use Rattle.hex.specs.Hex.{decode_of}
-use Rattle.script_words.specs.Lines.{text_lines}
-use Rattle.net_script.specs.Grammar.{line_number}
-use Rattle.net_script.specs.declared.fault.LineErr.{LineErr}
-use Rattle.net_script.specs.declared.fault.LineWhy.{LineWhy}
-use Rattle.net_script.specs.declared.fault.LineWhy.TheVariants.{Word, Limit}
+use Rattle.script_words.specs.Lines.{text_lines, line_number}
+use Rattle.script_words.specs.declared.fault.LineErr.{LineErr}
+use Rattle.script_words.specs.declared.fault.LineWhy.{LineWhy}
+use Rattle.script_words.specs.declared.fault.LineWhy.TheVariants.{Word, Limit}
 use Rattle.message_show.specs.Readings.{IsReading}
 
 -- the most digits of a line: two for each byte of a message, which has at most 4,096, and for one byte more

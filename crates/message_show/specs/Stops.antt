@@ -1,5 +1,5 @@
 -- Why showing stops at a line.
-use Rattle.net_script.specs.declared.fault.LineWhy.{LineWhy}
+use Rattle.script_words.specs.declared.fault.LineWhy.{LineWhy}
 use Rattle.message_show.specs.declared.stop.Stop.{Stop}
 use Rattle.message_show.specs.declared.stop.Stop.TheVariants.{Bad, NoMemory}
 

@@ -1,14 +1,13 @@
 //! Lines of hexadecimal digits.
 ghost use Rattle.std.specs.Prelude.{◌≡◌, ◌++◌, ◌≤◌, ℕ, List, length, take, IfOk, IfErr, OnOk};
-ghost use Rattle.net_script.specs.Refusals.{MatchParseErr};
+ghost use Rattle.script_words.specs.LineFaults.{MatchParseErr};
 ghost use Rattle.message_show.specs.ShowLines.{IsBadDigits, IsShown, IsShownOf, IsWrong, Says};
 ghost use Rattle.message_show.specs.Stops.{MatchStop};
 
 use crate::reading::put_reading;
 use crate::stop::Stop;
 use hex::decode_to_slice;
-use net_script::{LineErr, LineWhy, ParseErr};
-use script_words::next_line;
+use script_words::{LineErr, LineWhy, ParseErr, next_line};
 use std::alloc::Global;
 
 /// The most digits of a line: two for each byte of a message, which has at most 4,096, and for one byte more.

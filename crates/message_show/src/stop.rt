@@ -1,5 +1,5 @@
 //! Why showing stops at a line.
-use net_script::LineWhy;
+use script_words::LineWhy;
 
 /// Why showing stops at a line: it is bad, or there was no memory for what is shown of it.
 #[derive(Clone, Copy)]

@@ -1,7 +1,7 @@
 //! What is shown of a message of each kind, and of each form that a refusal has. The bytes were put together by hand from
 //! the figures of RFC 2205 and RFC 2210.
 use crate::show;
-use net_script::{LineErr, LineWhy, ParseErr};
+use script_words::{LineErr, LineWhy, ParseErr};
 use std::test::Fail;
 
 #[test]

@@ -2,14 +2,14 @@
 use Rattle.std.specs.Prelude.{◌≡◌, ℕ, ◌≤◌, List, [], ◌∷◌, ◌++◌, Option, Some, None, Result, Ok, Err, IfErr, length, suc, refl}
 use Rattle.std.proofs.Common.{sym, ap, subst, ◌∙◌, arith}
 use Rattle.net_script.specs.LineKinds.{line_of}
-use Rattle.script_words.specs.Lines.{text_lines}
+use Rattle.script_words.specs.Lines.{text_lines, line_number}
 use Rattle.net_script.specs.Draft.{Draft, nothing, with_line}
 use Rattle.net_script.specs.Rules.{Rule, Keeps, KeepsAll, BreaksFirst}
-use Rattle.net_script.specs.Grammar.{Follows, HasFault, too_long, unread, broken, Leads, most_line, Plan, draft_plan, line_number, IsScript, IsBadLine}
+use Rattle.net_script.specs.Grammar.{Follows, HasFault, too_long, unread, broken, Leads, most_line, Plan, draft_plan, IsScript, IsBadLine}
 use Rattle.net_script.specs.Refusals.{Refuses, MatchRefusal}
-use Rattle.net_script.specs.declared.fault.LineErr.{LineErr}
-use Rattle.net_script.specs.declared.fault.LineWhy.{LineWhy}
-use Rattle.net_script.specs.declared.fault.LineWhy.TheVariants.{Word, Late, Range, Name, Twice, Limit, Over}
+use Rattle.script_words.specs.declared.fault.LineErr.{LineErr}
+use Rattle.script_words.specs.declared.fault.LineWhy.{LineWhy}
+use Rattle.script_words.specs.declared.fault.LineWhy.TheVariants.{Word, Late, Range, Name, Twice, Limit, Over}
 use Rattle.net_script.specs.declared.line.Line.{Line}
 use Rattle.net_script.specs.declared.refusal.Refusal.{Refusal}
 use Rattle.net_script.specs.declared.refusal.Refusal.TheVariants.{Fault, NoMemory}

@@ -19,7 +19,7 @@ use Rattle.net_script.specs.StaleValues.{AreValuesOf}
 use Rattle.net_script.specs.declared.draft.DeclaredEnd.{DeclaredEnd}
 use Rattle.net_script.specs.declared.draft.StaleKey.{StaleKey}
 use Rattle.net_script.specs.declared.draft.StaleValues.{StaleValues}
-use Rattle.net_script.specs.declared.fault.LineWhy.TheVariants.{Limit, Over}
+use Rattle.script_words.specs.declared.fault.LineWhy.TheVariants.{Limit, Over}
 use Rattle.net_script.specs.declared.line.StaleResvLine.{StaleResvLine}
 use Rattle.net_script.specs.declared.refusal.Refusal.{Refusal}
 use Rattle.net_script.specs.declared.refusal.Refusal.TheVariants.{Fault, NoMemory}

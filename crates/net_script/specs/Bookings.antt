@@ -5,9 +5,9 @@ use Rattle.rsvp_base.specs.Table.{empty, with_rows, keys}
 use Rattle.rsvp_base.specs.TokenBucket.{TokenBucket}
 use Rattle.admission_book.specs.Book.{Entries, Bookings}
 use Rattle.admission_book.specs.Charges.{refusal}
-use Rattle.admission_book.specs.declared.iface.Iface.{Iface}
-use Rattle.admission_book.specs.declared.key.EntryKey.{EntryKey}
-use Rattle.style_rules.specs.Styles.{unit_of_first}
+use Rattle.rsvp_base.specs.declared.iface.Iface.{Iface}
+use Rattle.rsvp_base.specs.declared.entry_key.EntryKey.{EntryKey}
+use Rattle.rsvp_base.specs.Styles.{unit_of_first}
 use Rattle.net_script.specs.declared.script.End.{End}
 use Rattle.net_script.specs.declared.script.Stale.{Stale}
 use Rattle.net_script.specs.declared.script.Stale.TheVariants.{Resv}

@@ -1,12 +1,12 @@
 -- The script grammar: which bytes are a script, and which line is the first bad one.
-use Rattle.std.specs.Prelude.{◌≡◌, ℕ, ◌+◌, ◌-◌, ◌^◌, ◌<◌, ◌≤◌, min, List, [], ◌∷◌, ◌++◌, None, Some, length}
-use Rattle.script_words.specs.Lines.{text_lines}
+use Rattle.std.specs.Prelude.{◌≡◌, ℕ, ◌<◌, ◌≤◌, List, [], ◌∷◌, ◌++◌, None, Some, length}
+use Rattle.script_words.specs.Lines.{text_lines, line_number}
 use Rattle.net_script.specs.LineKinds.{line_of}
 use Rattle.net_script.specs.Draft.{Draft, nothing, with_line, period_of, end_names, plain_ends}
 use Rattle.net_script.specs.Rules.{Keeps, KeepsAll, BreaksFirst}
-use Rattle.net_script.specs.declared.fault.LineErr.{LineErr}
-use Rattle.net_script.specs.declared.fault.LineWhy.{LineWhy}
-use Rattle.net_script.specs.declared.fault.LineWhy.TheVariants.{Word, Limit}
+use Rattle.script_words.specs.declared.fault.LineErr.{LineErr}
+use Rattle.script_words.specs.declared.fault.LineWhy.{LineWhy}
+use Rattle.script_words.specs.declared.fault.LineWhy.TheVariants.{Word, Limit}
 use Rattle.net_script.specs.declared.line.Line.{Line}
 use Rattle.net_script.specs.declared.script.End.{End}
 use Rattle.net_script.specs.declared.script.Stale.{Stale}
@@ -56,10 +56,6 @@ pub record IsScript (bytes : List ℕ) (plan : Plan) : Type 0 where
   pub lines : Draft
   pub leads : Leads nothing (text_lines bytes) lines
   pub says : plan ≡ draft_plan lines
-
--- line numbers count from 1, and stand still at the end of their type
-abbrev pub line_number : ℕ → ℕ
-line_number before = min (before + 1) (2 ^ 32 - 1)
 
 -- the lines before form a valid script, and the line behind them has this fault
 pub record IsBadLine (bytes : List ℕ) (e : LineErr) : Type 0 where

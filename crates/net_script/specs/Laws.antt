@@ -4,7 +4,7 @@ use Rattle.net_script.specs.Draft.{lifetime}
 use Rattle.net_script.specs.Grammar.{Plan, IsScript, IsBadLine}
 use Rattle.net_script.specs.Limits.{IsWithinLimits}
 use Rattle.net_script.specs.Rules.{IsPeriod}
-use Rattle.net_script.specs.declared.fault.LineErr.{LineErr}
+use Rattle.script_words.specs.declared.fault.LineErr.{LineErr}
 
 -- bytes are one script at most
 abbrev pub OneScript : Type 0

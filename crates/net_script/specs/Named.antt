@@ -7,7 +7,7 @@ use Rattle.rsvp_base.specs.declared.session.Session.{Session}
 use Rattle.rsvp_base.specs.declared.style.StyleKind.{StyleKind}
 use Rattle.style_rules.specs.Lines.{Line}
 use Rattle.style_rules.specs.Limits.{of_style, of_session, names_of}
-use Rattle.style_rules.specs.Styles.{unit_of_first}
+use Rattle.rsvp_base.specs.Styles.{unit_of_first}
 use Rattle.indexmap.specs.IndexMap.{get}
 use Rattle.net_script.specs.Bookings.{node_of}
 use Rattle.net_script.specs.Keys.{same_session}

@@ -14,8 +14,8 @@ use Rattle.net_script.specs.Bookings.{entries_on, node_of, IsAdmitted}
 use Rattle.net_script.specs.Named.{line_of, names_on}
 use Rattle.net_script.specs.declared.draft.DeclaredEnd.{DeclaredEnd}
 use Rattle.net_script.specs.declared.draft.StaleKey.{StaleKey}
-use Rattle.net_script.specs.declared.fault.LineWhy.{LineWhy}
-use Rattle.net_script.specs.declared.fault.LineWhy.TheVariants.{Word, Late, Range, Name, Twice, Limit, Over}
+use Rattle.script_words.specs.declared.fault.LineWhy.{LineWhy}
+use Rattle.script_words.specs.declared.fault.LineWhy.TheVariants.{Word, Late, Range, Name, Twice, Limit, Over}
 use Rattle.net_script.specs.declared.line.Line.{Line}
 use Rattle.net_script.specs.declared.line.Line.TheVariants as line
 use Rattle.net_script.specs.declared.line.EndLine.{EndLine}

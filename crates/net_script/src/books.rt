@@ -12,7 +12,6 @@ use crate::refusal::Refusal;
 use crate::script::Stale;
 use admission_book::{Book, EntryKey, Iface, Refused};
 use std::alloc::Global;
-use style_rules::unit_of;
 
 /// Opens the book of each node, where no left-over reservation came before.
 pub fn open_books(alloc: Global, checker: &mut Checker) -> Result<(), Refusal>
@@ -96,7 +95,7 @@ pub fn entry_key(fact: &Stale) -> EntryKey
         } => EntryKey {
             session: *session,
             style: *style,
-            unit: unit_of(*style, senders),
+            unit: senders.unit(*style),
         },
     }
 }

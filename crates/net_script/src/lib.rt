@@ -9,7 +9,6 @@
 
 mod books;
 mod draft;
-mod fault;
 pub mod laws;
 mod line;
 mod line_kinds;
@@ -27,7 +26,6 @@ pub use byte_streams::{
     Failed, MOST_BYTES, MemorySink, MemorySource, PlainSink, PlainSource, ReadErr, Sink, Source,
     StdSink, StdSource, read_all, write_all,
 };
-pub use fault::{LineErr, LineWhy, ParseErr};
 pub use parsing::{MOST_LINE, parse};
 pub use script::{End, EndNames, Event, Script, Stale};
-pub use script_words::EndName;
+pub use script_words::{EndName, LineErr, LineWhy, ParseErr};

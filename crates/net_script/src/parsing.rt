@@ -2,17 +2,17 @@
 ghost use Rattle.std.specs.Prelude.{◌≡◌, IfOk, IfErr, OnOk, MatchResult, length, map};
 ghost use Rattle.net_script.specs.Checked.{draft_of};
 ghost use Rattle.net_script.specs.Draft.{plain_ends};
-ghost use Rattle.net_script.specs.Refusals.{MatchRefusal, MatchParseErr};
+ghost use Rattle.net_script.specs.Refusals.{MatchRefusal};
+ghost use Rattle.script_words.specs.LineFaults.{MatchParseErr};
 ghost use Rattle.net_script.specs.Grammar.{Follows, HasFault, IsScript, IsBadLine, plan_of, draft_plan};
 
 use crate::books::open_books;
 use crate::draft::{Checker, DeclaredEnd};
-use crate::fault::{LineErr, LineWhy, ParseErr};
+use script_words::{EndName, LineErr, LineWhy, ParseErr, Unread, next_line};
 use crate::line_kinds::read_line;
 use crate::refusal::Refusal;
 use crate::rules::{USUAL_PERIOD, add};
 use crate::script::{End, EndNames, Script};
-use script_words::{EndName, Unread, next_line};
 use std::alloc::Global;
 
 /// The most bytes of a line, its line feed not counted.

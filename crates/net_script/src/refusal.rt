@@ -2,7 +2,7 @@
 ghost use Rattle.std.specs.Prelude.{◌≡◌};
 ghost use Rattle.net_script.specs.declared.refusal.Refusal.TheVariants.{NoMemory};
 
-use crate::fault::LineWhy;
+use script_words::LineWhy;
 use rsvp_base::NoMemory as OutOfMemory;
 use std::alloc::{AllocError, AllocFailed};
 

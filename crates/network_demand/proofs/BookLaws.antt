@@ -4,7 +4,7 @@ use Rattle.std.specs.Ordering.{eq_by_cmp}
 use Rattle.std.proofs.Common.{zero, suc, sym, ap, subst, ◌∙◌, ⊎_elim, arith, append_assoc, take}
 use Rattle.std.proofs.lemmas.List.{map-append}
 use Rattle.rsvp_base.specs.Members.{In}
-use Rattle.rsvp_base.specs.Orders.{Names, senders}
+use Rattle.rsvp_base.specs.Orders.{Names, senders, entry_keys}
 use Rattle.rsvp_base.specs.Sets.{union, IsWithin}
 use Rattle.rsvp_base.specs.Table.{get, size}
 use Rattle.rsvp_base.specs.declared.part.Part.{Part}
@@ -16,7 +16,8 @@ use Rattle.rsvp_base.proofs.Tables.{either, tied_same, same_table, get-put_in, g
 use Rattle.style_rules.specs.Parts.{has_name, part_join}
 use Rattle.style_rules.specs.PartLaws.{union_least}
 use Rattle.style_rules.specs.Merge.{those_at, all_by}
-use Rattle.style_rules.specs.Lines.{Line, EntryKey, entry_keys, entry_key, BookTable, merged_book, at_end, book_of_end}
+use Rattle.style_rules.specs.Lines.{Line, entry_key, BookTable, merged_book, at_end, book_of_end}
+use Rattle.rsvp_base.specs.declared.entry_key.EntryKey.{EntryKey}
 use Rattle.style_rules.proofs.Folds.{all_push, all_push_first}
 use Rattle.style_rules.proofs.Merges.{get-merge_of}
 use Rattle.tree_model.proofs.Following.{same_number, number_same}
@@ -105,28 +106,28 @@ lines_more fed l old new named inside is have e lt =
     ap (λ bs. book_at bs e) is ∙ set_apart old l.end e (charged (book_at old l.end) (entry_key l) l.part) ne ∙ have e size ∙ sym (book_elsewhere e fed l ne))
 
 -- names stay among these
-pub names_more : (st : StyleKind) (s : Session) (all : Names) (end : ℕ) (u : UnitOf) (p : Part) (old new : List BookTable) → end < length old → IsWithin p.senders all → new ≡ slice_set old end (charged (book_at old end) (s, (st, u)) p) → NameOnly st s all old → NameOnly st s all new
+pub names_more : (st : StyleKind) (s : Session) (all : Names) (end : ℕ) (u : UnitOf) (p : Part) (old new : List BookTable) → end < length old → IsWithin p.senders all → new ≡ slice_set old end (charged (book_at old end) (record { session = s; style = st; unit = u }) p) → NameOnly st s all old → NameOnly st s all new
 names_more st s all end u p old new inside within is only e v q got = by (end == e) refl
   where
-    joined : (o : Option Part) → get (book_at old end) (s, (st, u)) ≡ o → IsWithin (joined_with o p).senders all
+    joined : (o : Option Part) → get (book_at old end) (record { session = s; style = st; unit = u }) ≡ o → IsWithin (joined_with o p).senders all
     joined None f = within
     joined (Some r) f = union_least r.senders p.senders all (only end u r f) within
 
     by : (b : Bool) → (end == e) ≡ b → IsWithin q.senders all
     by true t =
         let at = same_number end e t in
-        let here : get (charged (book_at old end) (s, (st, u)) p) (s, (st, v)) ≡ Some q =
-        ap (λ b. get b (s, (st, v))) (sym (set_here old end (charged (book_at old end) (s, (st, u)) p) inside) ∙ ap (book_at (slice_set old end (charged (book_at old end) (s, (st, u)) p))) at ∙ ap (λ bs. book_at bs e) (sym is)) ∙ got in
+        let here : get (charged (book_at old end) (record { session = s; style = st; unit = u }) p) (record { session = s; style = st; unit = v }) ≡ Some q =
+        ap (λ b. get b (record { session = s; style = st; unit = v })) (sym (set_here old end (charged (book_at old end) (record { session = s; style = st; unit = u }) p) inside) ∙ ap (book_at (slice_set old end (charged (book_at old end) (record { session = s; style = st; unit = u }) p))) at ∙ ap (λ bs. book_at bs e) (sym is)) ∙ got in
         ⊎_elim
-        (λ (h : ((s, (st, v)) ≡ (s, (st, u))) × (q ≡ joined_with (get (book_at old end) (s, (st, u))) p)). subst (λ (x : Part). IsWithin x.senders all) (sym h.1) (joined (get (book_at old end) (s, (st, u))) refl))
-        (λ (h : get (book_at old end) (s, (st, v)) ≡ Some q). only end v q h)
-        (got_put_in entry_keys (book_at old end) (s, (st, u)) (joined_with (get (book_at old end) (s, (st, u))) p) (s, (st, v)) q here)
+        (λ (h : ((record { session = s; style = st; unit = v }) ≡ (record { session = s; style = st; unit = u })) × (q ≡ joined_with (get (book_at old end) (record { session = s; style = st; unit = u })) p)). subst (λ (x : Part). IsWithin x.senders all) (sym h.1) (joined (get (book_at old end) (record { session = s; style = st; unit = u })) refl))
+        (λ (h : get (book_at old end) (record { session = s; style = st; unit = v }) ≡ Some q). only end v q h)
+        (got_put_in entry_keys (book_at old end) (record { session = s; style = st; unit = u }) (joined_with (get (book_at old end) (record { session = s; style = st; unit = u })) p) (record { session = s; style = st; unit = v }) q here)
     by false f =
         let ne : end ≡ e → ⊥ = λ z. (let t = number_same end e z in let x : true ≡ false = sym t ∙ f in cc) in
-        only e v q (ap (λ b. get b (s, (st, v))) (sym (set_apart old end e (charged (book_at old end) (s, (st, u)) p) ne) ∙ ap (λ bs. book_at bs e) (sym is)) ∙ got)
+        only e v q (ap (λ b. get b (record { session = s; style = st; unit = v })) (sym (set_apart old end e (charged (book_at old end) (record { session = s; style = st; unit = u }) p) ne) ∙ ap (λ bs. book_at bs e) (sym is)) ∙ got)
 
 -- and so there is room for them all
-pub room_for : (st : StyleKind) (s : Session) (all : Names) (end : ℕ) (u : UnitOf) (p q : Part) (books : List BookTable) → size all ≤ 16 → NameOnly st s all books → IsWithin p.senders all → get (book_at books end) (s, (st, u)) ≡ Some q → size (union q.senders p.senders) ≤ 16
+pub room_for : (st : StyleKind) (s : Session) (all : Names) (end : ℕ) (u : UnitOf) (p q : Part) (books : List BookTable) → size all ≤ 16 → NameOnly st s all books → IsWithin p.senders all → get (book_at books end) (record { session = s; style = st; unit = u }) ≡ Some q → size (union q.senders p.senders) ≤ 16
 room_for st s all end u p q books few only within e =
     let le = size_within senders (union q.senders p.senders) all (union_least q.senders p.senders all (only end u q e) within) in
     omega arith

@@ -4,7 +4,7 @@ use Rattle.std.specs.List.{filter, flat_map}
 use Rattle.std.proofs.Common.{zero, suc, sym, ap, subst, ◌∙◌, inl, inr, ⊎_elim, arith, take, append_assoc}
 use Rattle.std.proofs.lemmas.List.{length-map}
 use Rattle.rsvp_base.specs.Members.{In}
-use Rattle.rsvp_base.specs.Orders.{sessions, senders, units}
+use Rattle.rsvp_base.specs.Orders.{sessions, senders, units, entry_keys}
 use Rattle.rsvp_base.specs.Sets.{set_of, IsWithin}
 use Rattle.rsvp_base.specs.Table.{empty, get, keys, size}
 use Rattle.rsvp_base.specs.declared.addr.Addr.{Addr}
@@ -16,10 +16,10 @@ use Rattle.rsvp_base.specs.declared.style.Unit.{Unit as UnitOf}
 use Rattle.rsvp_base.proofs.Counts.{in_found, in_set_of, set_of_in, size-set_of}
 use Rattle.rsvp_base.proofs.Fronts.{in_keys, to_keys}
 use Rattle.rsvp_base.proofs.Members.{in_left, in_right, in_append, in_each, to_each, in_filter, to_filter, in_flat_map, to_flat_map}
-use Rattle.style_rules.specs.Styles.{name_of}
-use Rattle.style_rules.specs.Parts.{part_unit}
+use Rattle.rsvp_base.specs.Styles.{name_of, part_unit}
 use Rattle.style_rules.specs.PartLaws.{part_at_most_itself, union_least}
-use Rattle.style_rules.specs.Lines.{Line, EntryKey, entry_keys, entry_key, BookTable, at_end, book_of_end}
+use Rattle.style_rules.specs.Lines.{Line, entry_key, BookTable, at_end, book_of_end}
+use Rattle.rsvp_base.specs.declared.entry_key.EntryKey.{EntryKey}
 use Rattle.style_rules.proofs.Merges.{merges_same, merge_named, merge_keeps}
 use Rattle.tree_model.specs.declared.hops.LinkHop.{LinkHop}
 use Rattle.tree_model.specs.Networks.{Net, node_of}
@@ -177,12 +177,12 @@ module _ (net : Net) (l : Locals) (order : List GroupHop) (by : AreByRank net or
       at_or_past : (b : Bool) → nat_lt e (length books) ≡ b → IsWithin q.senders (all_names st l s)
       at_or_past true t =
           let lt : e < length books = grind (arith, t) in
-          merge_keeps entry_keys entry_key (λ x. x.part) (λ p. IsWithin p.senders (all_names st l s)) (λ a b h k. union_least a.senders b.senders (all_names st l s) h k) (at_end e fed) (s, (st, u)) q
-          (ap (λ b. get b (s, (st, u))) (sym (have e lt)) ∙ got)
+          merge_keeps entry_keys entry_key (λ x. x.part) (λ p. IsWithin p.senders (all_names st l s)) (λ a b h k. union_least a.senders b.senders (all_names st l s) h k) (at_end e fed) (record { session = s; style = st; unit = u }) q
+          (ap (λ b. get b (record { session = s; style = st; unit = u })) (sym (have e lt)) ∙ got)
           (λ x i named at.
           let f = in_filter (λ (x : Line). x.end == e) x fed i in
-          subst (λ (k : EntryKey). IsWithin x.part.senders (all_names k.1.0 l k.0)) (sym at) (proper x f.0))
-      at_or_past false t = let none = past_all books e (grind (arith, t)) in let z = sym (ap (λ b. get b (s, (st, u))) none) ∙ got in cc
+          subst (λ (k : EntryKey). IsWithin x.part.senders (all_names k.style l k.session)) (sym at) (proper x f.0))
+      at_or_past false t = let none = past_all books e (grind (arith, t)) in let z = sym (ap (λ b. get b (record { session = s; style = st; unit = u })) none) ∙ got in cc
 
   pub has_room : (valid : IsValid net) (fed : List Line) (books : List BookTable) → HaveLines fed books → AreProper l fed → (st : StyleKind) (s : Session) → length (live l s) ≤ 16 → HasRoom st s books (hop_wants st net l s order)
   has_room valid fed books have proper st s few =

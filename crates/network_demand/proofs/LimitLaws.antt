@@ -21,7 +21,7 @@ use Rattle.rsvp_base.proofs.Counts.{in_found, set_of_in, set_below, size_below, 
 use Rattle.rsvp_base.proofs.Members.{in_each, to_each, in_filter, to_filter, in_flat_map, to_flat_map}
 use Rattle.rsvp_base.proofs.SetLaws.{has-with_key, size-with_key}
 use Rattle.rsvp_base.proofs.Tables.{either, tied_same, tied_self, none_above}
-use Rattle.style_rules.specs.Styles.{name_of}
+use Rattle.rsvp_base.specs.Styles.{name_of}
 use Rattle.style_rules.specs.Lines.{Line, LineKey, line_keys, line_key, NextHop, next_hops, next_hop}
 use Rattle.style_rules.specs.Limits.{of_style, of_session, line_keys_of, sessions_of, next_hops_of, names_of, IsWithinLimits}
 use Rattle.tree_model.specs.Chains.{NoRepeats}

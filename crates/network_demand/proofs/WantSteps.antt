@@ -17,8 +17,8 @@ use Rattle.rsvp_base.specs.Table.{has, values}
 use Rattle.rsvp_base.proofs.Counts.{in_found, in_set_of}
 use Rattle.rsvp_base.proofs.Members.{in_each, to_each, in_filter, to_filter, in_flat_map, to_flat_map, in_append, in_left, in_right}
 use Rattle.rsvp_base.proofs.SetLaws.{and_both, and_made, has-cut}
-use Rattle.style_rules.specs.Styles.{name_of}
-use Rattle.style_rules.specs.Parts.{part_cut, part_of, part_unit}
+use Rattle.rsvp_base.specs.Styles.{name_of, part_unit}
+use Rattle.style_rules.specs.Parts.{part_cut, part_of}
 use Rattle.style_rules.specs.PartLaws.{same_names, part_at_most_itself}
 use Rattle.style_rules.specs.CutLaws.{cut_senders, cut_named}
 use Rattle.style_rules.specs.Merge.{merge}

@@ -1,10 +1,10 @@
 -- The books of ends, charged with lines.
 use Rattle.std.specs.Prelude.{◌≡◌, ℕ, ◌<◌, ◌≤◌, true, List, map as each, length, Option, None, Some, unwrap_or, slice_get}
-use Rattle.std.specs.Coded.{Coded, coded×}
+use Rattle.std.specs.Coded.{Coded}
 use Rattle.std.specs.List.{flat_map}
-use Rattle.rsvp_base.specs.Codes.{unit_code, part_code}
+use Rattle.rsvp_base.specs.Codes.{part_code}
 use Rattle.rsvp_base.specs.Members.{In}
-use Rattle.rsvp_base.specs.Orders.{Names}
+use Rattle.rsvp_base.specs.Orders.{Names, entry_keys}
 use Rattle.rsvp_base.specs.Rows.{AreRows}
 use Rattle.rsvp_base.specs.Sets.{IsWithin}
 use Rattle.rsvp_base.specs.Table.{empty, get, put_in, size, table_code}
@@ -13,26 +13,22 @@ use Rattle.rsvp_base.specs.declared.part.Part.{Part}
 use Rattle.rsvp_base.specs.declared.session.Session.{Session}
 use Rattle.rsvp_base.specs.declared.style.StyleKind.{StyleKind}
 use Rattle.rsvp_base.specs.declared.style.Unit.{Unit as UnitOf}
-use Rattle.rsvp_base.specs.contracts.session.Session as session
-use Rattle.rsvp_base.specs.contracts.style.StyleKind as style
-use Rattle.admission_book.specs.declared.key.EntryKey.{EntryKey as KeptKey}
+use Rattle.rsvp_base.specs.contracts.entry_key.EntryKey as key
+use Rattle.rsvp_base.specs.declared.entry_key.EntryKey.{EntryKey}
 use Rattle.style_rules.specs.Parts.{part_join, has_name}
-use Rattle.style_rules.specs.Lines.{Line, EntryKey, entry_keys, BookTable, book_of_end}
+use Rattle.style_rules.specs.Lines.{Line, BookTable, book_of_end}
 use Rattle.tree_model.specs.Networks.{Net}
 use Rattle.tree_model.specs.Goals.{addr_of}
 use Rattle.network_demand.specs.declared.hop_want.HopWant.{HopWant}
 
 abbrev pub book_code : Coded BookTable
-book_code = table_code entry_keys (coded× (session.the_row).coded (coded× (style.the_row).coded unit_code)) part_code
+book_code = table_code entry_keys (key.the_row).coded part_code
 
 -- entries as rows
-abbrev pub key_of : KeptKey → EntryKey
-key_of k = (k.session, (k.style, k.unit))
+abbrev pub book_row : EntryKey × Part → EntryKey × Part
+book_row r = r
 
-abbrev pub book_row : KeptKey × Part → EntryKey × Part
-book_row r = (key_of r.0, r.1)
-
-abbrev pub AreInOrder : List (KeptKey × Part) → Type 0
+abbrev pub AreInOrder : List (EntryKey × Part) → Type 0
 AreInOrder rows = AreRows entry_keys book_row rows
 
 -- ---- one part more
@@ -53,7 +49,7 @@ HaveLines ls books = (e : ℕ) → e < length books → book_at books e ≡ book
 
 -- the entries of this style and session name no one else
 abbrev pub NameOnly : StyleKind → Session → Names → List BookTable → Type 0
-NameOnly st s all books = (e : ℕ) (u : UnitOf) (q : Part) → get (book_at books e) (s, (st, u)) ≡ Some q → IsWithin q.senders all
+NameOnly st s all books = (e : ℕ) (u : UnitOf) (q : Part) → get (book_at books e) (record { session = s; style = st; unit = u }) ≡ Some q → IsWithin q.senders all
 
 -- what is wanted over a hop as lines at the end that it goes out of
 abbrev pub want_lines : StyleKind → Session → Addr → HopWant → List Line

@@ -9,8 +9,9 @@ use Rattle.rsvp_base.specs.declared.part.Part.{Part}
 use Rattle.rsvp_base.specs.declared.session.Session.{Session}
 use Rattle.rsvp_base.specs.declared.style.StyleKind.{StyleKind}
 use Rattle.rsvp_base.specs.declared.style.StyleKind.TheVariants.{Wild}
-use Rattle.admission_book.specs.declared.iface.Iface.{Iface}
-use Rattle.style_rules.specs.Lines.{EntryKey, BookTable, held}
+use Rattle.rsvp_base.specs.declared.iface.Iface.{Iface}
+use Rattle.style_rules.specs.Lines.{BookTable, held}
+use Rattle.rsvp_base.specs.declared.entry_key.EntryKey.{EntryKey}
 use Rattle.tree_model.specs.declared.hops.End.{End}
 use Rattle.tree_model.specs.Networks.{Net, node_of}
 use Rattle.tree_routing.specs.declared.group_hop.GroupHop.{GroupHop}

@@ -13,8 +13,7 @@ ghost use Rattle.network_demand.specs.Books.{charged, book_at, HaveLines, NameOn
 
 use crate::end_book::EndBook;
 use crate::hop_want::HopWant;
-use admission_book::EntryKey;
-use rsvp_base::{NoMemory, Part, Session, Unit};
+use rsvp_base::{EntryKey, NoMemory, Part, Session, Unit};
 use style_rules::Style;
 
 // Charges a unit's part to the entry of an end.
@@ -25,9 +24,9 @@ fn charge_row<S: Style>(
     row: &(Unit, Part),
 ) -> Result<(), NoMemory>
     requires there { end < length books.old.items }
-    requires room { (q : Part) → get (book_at books.old.items end) (session, (S.kind_is, row.now.0)) ≡ Some q → size (union q.senders row.now.1.senders) ≤ 16 }
+    requires room { (q : Part) → get (book_at books.old.items end) (record { session = session; style = S.kind_is; unit = row.now.0 }) ≡ Some q → size (union q.senders row.now.1.senders) ≤ 16 }
     ensures size { OnOk result (length books.new.items ≡ length books.old.items) }
-    ensures books { OnOk result (books.new.items ≡ slice_set books.old.items end (charged (book_at books.old.items end) (session, (S.kind_is, row.now.0)) row.now.1)) }
+    ensures books { OnOk result (books.new.items ≡ slice_set books.old.items end (charged (book_at books.old.items end) (record { session = session; style = S.kind_is; unit = row.now.0 }) row.now.1)) }
 {
     let key = EntryKey {
         session,

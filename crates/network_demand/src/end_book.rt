@@ -7,12 +7,11 @@ ghost use Rattle.rsvp_base.specs.declared.part.Part.{Part};
 ghost use Rattle.rsvp_base.specs.Rows.{HasRowAt, LacksRowAt};
 ghost use Rattle.rsvp_base.specs.Sets.{union};
 ghost use Rattle.rsvp_base.specs.Table.{size};
-ghost use Rattle.style_rules.specs.Lines.{entry_keys};
+ghost use Rattle.rsvp_base.specs.Orders.{entry_keys};
 ghost use Rattle.style_rules.specs.Parts.{part_charge};
-ghost use Rattle.network_demand.specs.Books.{key_of, book_row, joined_with, AreInOrder};
+ghost use Rattle.network_demand.specs.Books.{book_row, joined_with, AreInOrder};
 
-use admission_book::{EntryKey, Iface};
-use rsvp_base::{NoMemory, Part};
+use rsvp_base::{EntryKey, Iface, NoMemory, Part};
 use std::alloc::Global;
 use std::cmp::Ordering;
 use std::marker::Model;
@@ -27,7 +26,8 @@ pub struct EndBook {
 
 impl Model for EndBook {
     ghost use Rattle.rsvp_base.specs.Rows.{table_of};
-    ghost use Rattle.style_rules.specs.Lines.{BookTable, entry_keys};
+    ghost use Rattle.style_rules.specs.Lines.{BookTable};
+    ghost use Rattle.rsvp_base.specs.Orders.{entry_keys};
     ghost use Rattle.network_demand.specs.Books.{book_code, book_row};
 
     ghost Value = { BookTable };
@@ -53,15 +53,15 @@ impl EndBook {
 
     /// The entries, by session, style and unit.
     pub fn as_slice(&self) -> &[(EntryKey, Part)]
-        ensures { map book_row result.now ≡ self.now.rows }
+        ensures { result.now ≡ self.now.rows }
     {
         self.rows.as_slice()
     }
 
     /// One part more of an entry. `NoMemory`: there was no room for it; nothing changes then.
     pub(crate) fn charge<S: Style>(&mut self, key: EntryKey, part: &Part) -> Result<(), NoMemory>
-        requires { (q : Part) → get self.old (key_of key) ≡ Some q → size (union q.senders part.now.senders) ≤ 16 }
-        ensures ok { OnOk result (self.new ≡ charged self.old (key_of key) part.now) }
+        requires { (q : Part) → get self.old key ≡ Some q → size (union q.senders part.now.senders) ≤ 16 }
+        ensures ok { OnOk result (self.new ≡ charged self.old key part.now) }
         ensures err { OnErr result (self.new ≡ self.old) }
     {
         let place = search(self.rows.as_slice(), &key);
@@ -107,7 +107,7 @@ fn are_short(rows: &[(EntryKey, Part)], mtu: u32) -> bool
 
 // How an entry stands to a key.
 fn order(entry: &(EntryKey, Part), key: &EntryKey) -> Ordering
-    ensures { result ≡ entry_keys.cmp (key_of entry.now.0) (key_of key.now) }
+    ensures { result ≡ entry_keys.cmp entry.now.0 key.now }
 {
     entry.0.cmp(key)
 }
@@ -115,8 +115,8 @@ fn order(entry: &(EntryKey, Part), key: &EntryKey) -> Ordering
 // Where the entry of a key stands, or where it would go.
 fn search(rows: &[(EntryKey, Part)], key: &EntryKey) -> Result<usize, usize>
     requires { AreInOrder rows.now }
-    ensures there { IfOk result (HasRowAt entry_keys book_row rows.now (key_of key.now)) }
-    ensures absent { IfErr result (LacksRowAt entry_keys book_row rows.now (key_of key.now)) }
+    ensures there { IfOk result (HasRowAt entry_keys book_row rows.now key.now) }
+    ensures absent { IfErr result (LacksRowAt entry_keys book_row rows.now key.now) }
 {
     rows.binary_search_by(|row| order(row, key))
 }
@@ -128,10 +128,10 @@ fn join_at<S: Style>(
     key: EntryKey,
     part: &Part,
 ) -> Result<(), NoMemory>
-    requires there { ForOk place (HasRowAt entry_keys book_row rows.old.items (key_of key)) }
-    requires absent { ForErr place (LacksRowAt entry_keys book_row rows.old.items (key_of key)) }
-    requires room { (q : Part) → find entry_keys.cmp (key_of key) (map book_row rows.old.items) ≡ Some q → size (union q.senders part.now.senders) ≤ 16 }
-    ensures rows { OnOk result (map book_row rows.new.items ≡ put entry_keys.cmp (key_of key) (joined_with (find entry_keys.cmp (key_of key) (map book_row rows.old.items)) part.now) (map book_row rows.old.items)) }
+    requires there { ForOk place (HasRowAt entry_keys book_row rows.old.items key) }
+    requires absent { ForErr place (LacksRowAt entry_keys book_row rows.old.items key) }
+    requires room { (q : Part) → find entry_keys.cmp key (map book_row rows.old.items) ≡ Some q → size (union q.senders part.now.senders) ≤ 16 }
+    ensures rows { OnOk result (map book_row rows.new.items ≡ put entry_keys.cmp key (joined_with (find entry_keys.cmp key (map book_row rows.old.items)) part.now) (map book_row rows.old.items)) }
     ensures err { OnErr result (rows.new.items ≡ rows.old.items) }
 {
     match place {

@@ -19,7 +19,7 @@ mod room;
 mod tests;
 mod wants;
 
-pub use admission_book::EntryKey;
+pub use rsvp_base::EntryKey;
 pub use allowed::can_ask;
 pub use end_book::EndBook;
 pub use ends::demand;

@@ -5,7 +5,7 @@ ghost use Rattle.std.specs.Ordering.{eq_by_cmp};
 ghost use Rattle.rsvp_base.specs.Members.{In};
 ghost use Rattle.rsvp_base.specs.Orders.{sessions, styles};
 ghost use Rattle.rsvp_base.specs.Sets.{set_of};
-ghost use Rattle.style_rules.specs.Styles.{name_of};
+ghost use Rattle.rsvp_base.specs.Styles.{name_of};
 ghost use Rattle.tree_model.specs.Wants.{of_session, is_wanted_at};
 
 use rsvp_base::{NoMemory, Sender, Senders, Session, StyleKind};

@@ -1,7 +1,6 @@
 //! What the ends of worked networks owe.
 use crate::{Demand, End, LocalSender, LocalWant, Locals, Routing, Topology, can_ask, demand};
-use admission_book::Iface;
-use rsvp_base::{Addr, Flow, Part, Peak, Rate, Sender, Senders, Session, StyleKind};
+use rsvp_base::{Addr, Flow, Iface, Part, Peak, Rate, Sender, Senders, Session, StyleKind};
 use std::alloc::Global;
 use std::test::Fail;
 

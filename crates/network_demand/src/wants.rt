@@ -3,7 +3,7 @@ ghost use Rattle.std.specs.Prelude.{◌≡◌, ◌++◌, ◌+◌, ◌<◌, ◌�
 ghost use Rattle.std.specs.List.{All, filter};
 ghost use Rattle.rsvp_base.specs.Sets.{with_keys};
 ghost use Rattle.rsvp_base.specs.Table.{size, values};
-ghost use Rattle.style_rules.specs.Styles.{name_of};
+ghost use Rattle.rsvp_base.specs.Styles.{name_of};
 ghost use Rattle.style_rules.specs.Merge.{merge};
 ghost use Rattle.tree_model.specs.Networks.{node_of};
 ghost use Rattle.rsvp_base.specs.declared.session.Sender.{Sender};

@@ -1,20 +1,16 @@
 -- The text of a report of a network, in the lines of report_texts: the book of an end, plain and with policing flags.
 use Rattle.std.specs.Prelude.{ℕ, Bool, true, false, List, ◌++◌, map as each, codes}
 use Rattle.std.specs.List.{flat_map}
-use Rattle.admission_book.specs.declared.key.EntryKey.{EntryKey}
+use Rattle.rsvp_base.specs.declared.entry_key.EntryKey.{EntryKey}
 use Rattle.rsvp_base.specs.declared.part.Part.{Part}
 use Rattle.report_texts.specs.Texts.{entry_line, head_text, held_of, book_text}
 use Rattle.router_rules.specs.declared.entry.Entry.{Entry}
 use Rattle.router_rules.specs.declared.entry.Police.{Police}
-use Rattle.style_rules.specs.Lines.{BookTable, EntryKey as BookKey}
+use Rattle.style_rules.specs.Lines.{BookTable}
 
 -- ---- a book without flags
--- the rows of a book, by session, style and unit
-abbrev pub row_of : BookKey × Part → EntryKey × Part
-row_of e = (record { session = e.0.0; style = e.0.1.0; unit = e.0.1.1 }, e.1)
-
 abbrev pub table_text : List ℕ → ℕ → BookTable → List ℕ
-table_text name capacity book = book_text name capacity (each row_of book.rows)
+table_text name capacity book = book_text name capacity book.rows
 
 -- ---- and with them
 abbrev pub flag_text : List ℕ → Bool → List ℕ

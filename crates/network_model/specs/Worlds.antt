@@ -1,7 +1,7 @@
 -- Worlds: a network at a moment. The facts of its nodes, what is in flight, and the trees that are in force.
 use Rattle.std.specs.Prelude.{ℕ, ◌^◌, Bool, List, [], ◌∷◌, map as each, Option, None, Some, bit_or, slice_get}
 use Rattle.rsvp_base.specs.declared.addr.Addr.{Addr}
-use Rattle.admission_book.specs.declared.iface.Iface.{Iface}
+use Rattle.rsvp_base.specs.declared.iface.Iface.{Iface}
 use Rattle.router_rules.specs.declared.route.Route.{Route}
 use Rattle.router_rules.specs.Facts.{Facts}
 use Rattle.router_rules.specs.Inputs.{Arrival}

@@ -13,7 +13,7 @@ use Rattle.rsvp_base.specs.Sets.{set_of}
 use Rattle.rsvp_base.specs.Table.{get, has}
 use Rattle.rsvp_base.proofs.Counts.{found_in, in_set_of, set_of_in}
 use Rattle.rsvp_base.proofs.Members.{to_each}
-use Rattle.style_rules.specs.Styles.{name_of}
+use Rattle.rsvp_base.specs.Styles.{name_of}
 use Rattle.router_rules.specs.Bounds.{IsWithinBounds}
 use Rattle.router_rules.specs.Facts.{Facts, no_facts}
 use Rattle.router_rules.specs.Inputs.{Stale, StaleResv}

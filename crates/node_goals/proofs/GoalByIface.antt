@@ -4,7 +4,7 @@ use Rattle.std.specs.Prelude.{◌≡◌, ℕ, ◌<◌, ◌≤◌, ◌==◌, List
 use Rattle.std.specs.List.{filter, flat_map}
 use Rattle.std.specs.Ordering.{eq_by_cmp}
 use Rattle.std.proofs.Common.{zero, suc, sym, ap, subst, ◌∙◌, inl, inr, arith}
-use Rattle.admission_book.specs.declared.iface.Iface.{Iface}
+use Rattle.rsvp_base.specs.declared.iface.Iface.{Iface}
 use Rattle.rsvp_base.specs.declared.addr.Addr.{Addr}
 use Rattle.rsvp_base.specs.declared.part.Part.{Part}
 use Rattle.rsvp_base.specs.declared.session.Sender.{Sender}
@@ -13,13 +13,13 @@ use Rattle.rsvp_base.specs.declared.style.StyleKind.{StyleKind}
 use Rattle.rsvp_base.specs.declared.style.StyleKind.TheVariants.{Wild, Fixed, Shared}
 use Rattle.rsvp_base.specs.declared.style.Unit.{Unit as UnitOf}
 use Rattle.rsvp_base.specs.Members.{In}
-use Rattle.rsvp_base.specs.Orders.{Names, sessions, styles, senders}
+use Rattle.rsvp_base.specs.Orders.{Names, sessions, styles, senders, entry_keys}
 use Rattle.rsvp_base.specs.Sets.{Set, set_of}
 use Rattle.rsvp_base.specs.Table.{get, keys, size}
 use Rattle.rsvp_base.proofs.Counts.{set_of_in}
 use Rattle.rsvp_base.proofs.Members.{in_each, in_filter, in_flat_map}
 use Rattle.style_rules.specs.Limits.{IsWithinLimits, of_style, of_session, line_keys_of, sessions_of, next_hops_of, names_of}
-use Rattle.style_rules.specs.Lines.{Line, LineKey, NextHop, line_key, line_keys, next_hop, next_hops, entry_key, entry_keys, merged_book, BookTable, book_of_end, held}
+use Rattle.style_rules.specs.Lines.{Line, LineKey, NextHop, line_key, line_keys, next_hop, next_hops, entry_key, merged_book, BookTable, book_of_end, held}
 use Rattle.style_rules.proofs.Merges.{merge_of-each}
 use Rattle.tree_model.specs.declared.hops.End.{End}
 use Rattle.tree_model.specs.declared.hops.LinkHop.{LinkHop}

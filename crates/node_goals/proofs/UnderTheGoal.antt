@@ -17,7 +17,8 @@ use Rattle.rsvp_base.proofs.Members.{in_each, to_each, in_filter, to_filter, in_
 use Rattle.rsvp_base.proofs.SetLaws.{and_both}
 use Rattle.style_rules.specs.Lines.{Line, LineKey, AreUnder, line_key}
 use Rattle.style_rules.specs.PartLaws.{part_at_most_told}
-use Rattle.style_rules.specs.Parts.{part_cut, part_unit, IsPartAtMost}
+use Rattle.style_rules.specs.Parts.{part_cut, IsPartAtMost}
+use Rattle.rsvp_base.specs.Styles.{part_unit}
 use Rattle.style_rules.proofs.Merges.{merge_source}
 use Rattle.tree_model.specs.declared.hops.LinkHop.{LinkHop}
 use Rattle.tree_model.specs.Networks.{Net, node_of, iface_of}

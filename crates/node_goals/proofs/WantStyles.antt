@@ -15,8 +15,8 @@ use Rattle.rsvp_base.proofs.Counts.{in_found}
 use Rattle.rsvp_base.proofs.Tables.{tied_same}
 use Rattle.rsvp_base.proofs.Members.{in_each, in_filter, in_flat_map, in_append}
 use Rattle.rsvp_base.proofs.SetLaws.{and_both}
-use Rattle.style_rules.specs.Styles.{name_of}
-use Rattle.style_rules.specs.Parts.{part_cut, part_unit, IsOfStyle}
+use Rattle.rsvp_base.specs.Styles.{name_of, part_unit}
+use Rattle.style_rules.specs.Parts.{part_cut, IsOfStyle}
 use Rattle.style_rules.specs.CutLaws.{made_of, made_named}
 use Rattle.style_rules.proofs.Claims.{merge_keeps_the_style}
 use Rattle.style_rules.proofs.StyleLaws.{cut_of_style, wild_parts}

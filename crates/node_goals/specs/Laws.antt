@@ -9,7 +9,8 @@ use Rattle.rsvp_base.specs.Members.{In}
 use Rattle.rsvp_base.specs.Table.{get}
 use Rattle.style_rules.specs.Limits.{IsWithinLimits}
 use Rattle.style_rules.specs.Lines.{AreUnder, LineKey, book_of_end}
-use Rattle.style_rules.specs.Parts.{part_unit, IsOfStyle}
+use Rattle.style_rules.specs.Parts.{IsOfStyle}
+use Rattle.rsvp_base.specs.Styles.{part_unit}
 use Rattle.tree_model.specs.declared.locals.LocalWant.{LocalWant}
 use Rattle.tree_model.specs.Goals.{goal}
 use Rattle.tree_model.specs.Wants.{Locals, want}

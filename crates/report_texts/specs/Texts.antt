@@ -4,7 +4,7 @@ use Rattle.std.specs.Fmt.{decimal}
 use Rattle.std.specs.List.{flat_map}
 use Rattle.rsvp_base.specs.Table.{keys}
 use Rattle.rsvp_base.specs.declared.part.Part.{Part}
-use Rattle.admission_book.specs.declared.key.EntryKey.{EntryKey}
+use Rattle.rsvp_base.specs.declared.entry_key.EntryKey.{EntryKey}
 use Rattle.value_texts.specs.Texts.{flow_text, names_text, session_text, style_text}
 
 -- the line of an entry: SESSION STYLE SENDERS FLOW, and what is said besides

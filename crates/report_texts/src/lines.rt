@@ -2,8 +2,7 @@
 ghost use Rattle.std.specs.Prelude.{◌≡◌, ◌++◌, OnOk};
 ghost use Rattle.report_texts.specs.Texts.{entry_line, entry_text, head_text};
 
-use admission_book::EntryKey;
-use rsvp_base::{NoMemory, Part};
+use rsvp_base::{EntryKey, NoMemory, Part};
 use value_texts::{put, put_flow, put_names, put_number, put_session, put_style};
 
 /// Appends the line of an end, as `end NAME held SUM of CAPACITY`: what the entries of its book charge together, and what

@@ -1,7 +1,6 @@
 //! The line of an end, and an entry of each style, with and without what is said besides.
 use crate::{put_entry, put_head, put_line};
-use admission_book::EntryKey;
-use rsvp_base::{Addr, Flow, Part, Peak, Rate, Sender, Senders, Session, StyleKind, Unit};
+use rsvp_base::{Addr, EntryKey, Flow, Part, Peak, Rate, Sender, Senders, Session, StyleKind, Unit};
 use std::test::Fail;
 
 #[test]

@@ -20,7 +20,8 @@ use Rattle.rsvp_base.proofs.SetLaws.{and_both, and_made}
 use Rattle.rsvp_base.proofs.Tables.{either, tied_same, tied_self, get-put_in, get-put_in_same}
 use Rattle.rsvp_base.proofs.UnderLaws.{get-under, under-put_in_same}
 use Rattle.style_rules.specs.Merge.{merge}
-use Rattle.style_rules.specs.Parts.{IsOfStyle, IsPartAtMost, has_name, part_unit}
+use Rattle.style_rules.specs.Parts.{IsOfStyle, IsPartAtMost, has_name}
+use Rattle.rsvp_base.specs.Styles.{part_unit}
 use Rattle.style_rules.proofs.Merges.{merge_above, merge_least}
 use Rattle.soft_table.proofs.Steps.{Step}
 use Rattle.resv_state.specs.declared.fact.Held.{Held}

@@ -14,7 +14,8 @@ use Rattle.rsvp_base.proofs.Members.{in_each, to_each}
 use Rattle.rsvp_base.proofs.Tables.{got_changed, got_without, got_put_in}
 use Rattle.style_rules.specs.Lines.{Line, LineKey, line_keys, AreUnder}
 use Rattle.style_rules.specs.Limits.{IsWithinLimits}
-use Rattle.style_rules.specs.Parts.{IsOfStyle, IsPartAtMost, part_unit}
+use Rattle.style_rules.specs.Parts.{IsOfStyle, IsPartAtMost}
+use Rattle.rsvp_base.specs.Styles.{part_unit}
 use Rattle.style_rules.specs.PartLaws.{part_at_most_itself}
 use Rattle.style_rules.proofs.Room.{within_below}
 use Rattle.std.specs.FinMap.Entries.{put, where_key}

@@ -25,7 +25,7 @@ use Rattle.rsvp_base.proofs.Tables.{either, tied_same, tied_self, get-put_in_sam
 use Rattle.rsvp_base.proofs.UnderLaws.{get-under}
 use Rattle.style_rules.specs.Lines.{Line, LineKey, NextHop, line_keys, line_key, next_hops, next_hop}
 use Rattle.style_rules.specs.Limits.{of_style, of_session, line_keys_of, sessions_of, next_hops_of, names_of, IsWithinLimits, within_limits}
-use Rattle.style_rules.specs.Parts.{part_unit}
+use Rattle.rsvp_base.specs.Styles.{part_unit}
 use Rattle.style_rules.proofs.Room.{within_told, within_tested, of_style_all}
 use Rattle.style_rules.proofs.StyleLaws.{named_in, in_named}
 use Rattle.std.specs.FinMap.Entries.{find}

@@ -22,7 +22,7 @@ use Rattle.rsvp_base.proofs.SetLaws.{has-cut, and_both, and_made}
 use Rattle.rsvp_base.proofs.Tables.{either, tied_same, tied_self, then_do, same_table, get-changed}
 use Rattle.style_rules.specs.Lines.{LineKey, NextHop, line_keys, next_hops, is_of_hop}
 use Rattle.style_rules.specs.Parts.{part_kept}
-use Rattle.style_rules.specs.Styles.{unit_of}
+use Rattle.rsvp_base.specs.Styles.{unit_of}
 use Rattle.style_rules.proofs.StyleLaws.{a_name, unit_of_names}
 use Rattle.resv_state.specs.declared.fact.ResvFact.{ResvFact}
 use Rattle.resv_state.specs.Resvs.{ResvFacts, ResvMap, AreOfStyle}

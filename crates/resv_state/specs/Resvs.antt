@@ -7,7 +7,8 @@ use Rattle.rsvp_base.specs.Table.{Table, get, table_code}
 use Rattle.rsvp_base.specs.contracts.session.Session as session
 use Rattle.rsvp_base.specs.declared.style.StyleKind.{StyleKind}
 use Rattle.style_rules.specs.Lines.{Line, LineKey, line_keys}
-use Rattle.style_rules.specs.Parts.{IsOfStyle, part_unit}
+use Rattle.style_rules.specs.Parts.{IsOfStyle}
+use Rattle.rsvp_base.specs.Styles.{part_unit}
 use Rattle.resv_state.specs.declared.fact.Held.{Held}
 use Rattle.resv_state.specs.declared.fact.ResvFact.{ResvFact}
 use Rattle.resv_state.specs.contracts.fact.ResvFact as fact

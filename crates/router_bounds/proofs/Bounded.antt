@@ -1,11 +1,11 @@
 -- A step keeps a node within bounds: all parts together.
 use Rattle.std.specs.Prelude.{◌≡◌, ℕ, ◌≤◌, List, Some}
 use Rattle.std.proofs.Common.{sym, ap, subst, ⊎_elim, arith}
-use Rattle.admission_book.specs.declared.iface.Iface.{Iface}
+use Rattle.rsvp_base.specs.declared.iface.Iface.{Iface}
 use Rattle.rsvp_base.specs.Table.{get}
 use Rattle.router_rules.specs.declared.route.Route.{Route}
-use Rattle.router_rules.specs.declared.target.Target.{Target}
-use Rattle.router_rules.specs.declared.target.Target.TheVariants as target
+use Rattle.style_rules.specs.declared.target.Target.{Target}
+use Rattle.style_rules.specs.declared.target.Target.TheVariants as target
 use Rattle.router_rules.specs.Act.{act}
 use Rattle.router_rules.specs.Bounds.{AreAlive, AreShaped, AreWithinLimits, IsPathShaped, IsTarget, IsWithinBounds}
 use Rattle.router_rules.specs.Facts.{Facts, PathState}

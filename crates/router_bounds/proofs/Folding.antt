@@ -21,8 +21,8 @@ use Rattle.rsvp_messages.specs.declared.ask.Ask.TheVariants as ask
 use Rattle.rsvp_messages.specs.Proper.{IsProperAsk}
 use Rattle.rsvp_messages.specs.Units.{AskedUnit, asked_units, ask_style, fixed_unit, only}
 use Rattle.style_rules.specs.CutLaws.{made_named, made_of}
-use Rattle.style_rules.specs.Parts.{IsOfStyle, has_name, part_of, part_unit}
-use Rattle.style_rules.specs.Styles.{name_of}
+use Rattle.style_rules.specs.Parts.{IsOfStyle, has_name, part_of}
+use Rattle.rsvp_base.specs.Styles.{part_unit, name_of}
 use Rattle.style_rules.proofs.StyleLaws.{unit_name}
 use Rattle.router_rules.specs.Asking.{Asker, Taking, book_refuses, has_room, lost, names_that_match, put_tested, put_unit, table_with, take_unit, take_units, tell_lost}
 use Rattle.router_rules.specs.Facts.{Facts, Resvs}

@@ -24,11 +24,12 @@ use Rattle.rsvp_messages.specs.declared.message.PathMsg.{PathMsg}
 use Rattle.rsvp_messages.specs.declared.message.PathTearMsg.{PathTearMsg}
 use Rattle.rsvp_messages.specs.declared.message.ResvErrMsg.{ResvErrMsg}
 use Rattle.rsvp_messages.specs.Proper.{AreBothOrNeither, IsProper, IsProperBlameOf, WhereThere}
-use Rattle.router_rules.specs.declared.target.Target.TheVariants as target
+use Rattle.style_rules.specs.declared.target.Target.TheVariants as target
 use Rattle.router_rules.specs.Act.{act, act_spelt, is_mine}
 use Rattle.router_rules.specs.Bounds.{AreDue, IsTarget, LivesUpTo}
 use Rattle.router_rules.specs.Errors.{blamed_senders, blockade_of, is_admission, walled_by, walls_after, walls_with}
-use Rattle.router_rules.specs.Facts.{Blockade, Facts, PathState, Paths, SenderKey, WallKey, Walls, sender_keys, wall_keys}
+use Rattle.router_rules.specs.Facts.{Blockade, Facts, PathState, Paths, SenderKey, Walls, sender_keys}
+use Rattle.style_rules.specs.Targets.{WallKey, wall_keys}
 use Rattle.router_rules.specs.Forgetting.{counted, settle}
 use Rattle.router_rules.specs.Inputs.{Input, Call, Wait, Clear, Came, Moved, Spelt, Unspelt}
 use Rattle.router_rules.specs.Paths.{is_path_by, learn, learn_inward, learnt, path_state, tear_path, torn_path}

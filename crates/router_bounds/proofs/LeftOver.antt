@@ -15,7 +15,8 @@ use Rattle.router_rules.specs.declared.answers.StaleErr.{StaleErr}
 use Rattle.router_rules.specs.Books.{book, fits, refused}
 use Rattle.router_rules.specs.Bounds.{AreAlive, AreBooked, AreShaped, AreWithinLimits, IsPathShaped, IsWallShaped, IsWithinBounds, LivesUpTo}
 use Rattle.router_rules.specs.Calls.{act_stale, entry_of, needs, stale_refusal, unless, with_left}
-use Rattle.router_rules.specs.Facts.{Blockade, Facts, PathState, ResvState, SenderKey, WallKey, resvs_of, sender_keys, wall_keys, with_resvs}
+use Rattle.router_rules.specs.Facts.{Blockade, Facts, PathState, ResvState, SenderKey, resvs_of, sender_keys, with_resvs}
+use Rattle.style_rules.specs.Targets.{WallKey, wall_keys}
 use Rattle.router_rules.specs.Forgetting.{forget}
 use Rattle.router_rules.specs.Inputs.{Stale, StalePath, StaleResv, StaleWall}
 use Rattle.router_rules.specs.NodeConfig.{NodeConfig, lifetime, period, wall_lifetime}

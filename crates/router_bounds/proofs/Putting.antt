@@ -5,19 +5,20 @@ use Rattle.std.proofs.lemmas.Bool.{ltb-false, eqb-true, eqb-false}
 use Rattle.std.specs.Option.{option_map}
 use Rattle.std.specs.List.{filter}
 use Rattle.std.specs.Ordering.{eq_by_cmp}
-use Rattle.admission_book.specs.declared.iface.Iface.{Iface}
+use Rattle.rsvp_base.specs.declared.iface.Iface.{Iface}
 use Rattle.admission_book.specs.Charges.{refusal_beside}
 use Rattle.rsvp_base.specs.declared.part.Part.{Part}
 use Rattle.rsvp_base.specs.declared.style.StyleKind.{StyleKind}
 use Rattle.rsvp_base.specs.Members.{In}
-use Rattle.rsvp_base.specs.Orders.{styles}
+use Rattle.rsvp_base.specs.Orders.{styles, entry_keys}
 use Rattle.rsvp_base.specs.Table.{get, put_in, without}
 use Rattle.rsvp_base.proofs.Counts.{sum_below}
 use Rattle.rsvp_base.proofs.Members.{in_filter, to_filter}
 use Rattle.rsvp_base.proofs.Sums.{number_of, sum-without}
 use Rattle.rsvp_base.proofs.Tables.{either, get-without, got_put_in, tied_same, tied_self}
 use Rattle.style_rules.specs.Limits.{IsWithinLimits}
-use Rattle.style_rules.specs.Lines.{AreUnder, BookTable, EntryKey, IsUnder, Line, LineKey, at_end, entry_key, entry_keys, held, line_keys, merged_book}
+use Rattle.style_rules.specs.Lines.{AreUnder, BookTable, IsUnder, Line, LineKey, at_end, entry_key, held, line_keys, merged_book}
+use Rattle.rsvp_base.specs.declared.entry_key.EntryKey.{EntryKey}
 use Rattle.style_rules.specs.Merge.{all_by, those_at}
 use Rattle.style_rules.specs.PartLaws.{charge_below, most_below, part_at_most_itself}
 use Rattle.style_rules.specs.Parts.{IsPartAtMost, has_name, part_charge, part_join}
@@ -98,7 +99,7 @@ module _ (p : NodeConfig) (st : StyleKind) (k : LineKey) (x : ResvState) (f : Fa
       ⊎_elim
       (λ (new : IsPut s.style s.key s.resv). inl (
         ap (λ (z : Line). z.end) s.is ∙ ap (λ (q : LineKey). q.1.0.0) new.key,
-        ap entry_key s.is ∙ (λ j. ((new.key j).0, (new.style j, (new.key j).1.1))),
+        ap entry_key s.is ∙ (λ j. record { session = (new.key j).0; style = new.style j; unit = (new.key j).1.1 }),
       ))
       (λ (old : get (resvs_of s.style before_put) s.key ≡ Some s.resv). inr (to_lines before_put l (record { style = s.style; key = s.key; resv = s.resv; there = old; is = s.is })))
       (put_source s.style s.key s.resv (s.there))

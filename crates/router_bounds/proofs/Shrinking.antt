@@ -12,7 +12,8 @@ use Rattle.rsvp_base.proofs.SetLaws.{size_within}
 use Rattle.rsvp_base.specs.Orders.{senders}
 use Rattle.flow_merge.specs.FlowOrder.{IsAtMost}
 use Rattle.style_rules.specs.Limits.{IsWithinLimits}
-use Rattle.style_rules.specs.Lines.{AreUnder, EntryKey, IsUnder, Line, LineKey, at_end, held, line_key, line_keys}
+use Rattle.style_rules.specs.Lines.{AreUnder, IsUnder, Line, LineKey, at_end, held, line_key, line_keys}
+use Rattle.rsvp_base.specs.declared.entry_key.EntryKey.{EntryKey}
 use Rattle.style_rules.specs.PartLaws.{most_below, part_at_most_itself}
 use Rattle.style_rules.specs.Parts.{IsPartAtMost}
 use Rattle.style_rules.proofs.Books.{book_below, held_at_end_below, under_at_end}

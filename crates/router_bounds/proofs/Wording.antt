@@ -36,7 +36,7 @@ use Rattle.style_rules.specs.CutLaws.{cut_flow, made_named, made_of, some_name}
 use Rattle.style_rules.specs.Lines.{LineKey, NextHop}
 use Rattle.style_rules.specs.Merge.{PartTable, all_by}
 use Rattle.style_rules.specs.Parts.{IsOfStyle, has_name, part_join, part_meet, part_of}
-use Rattle.style_rules.specs.Styles.{name_of}
+use Rattle.rsvp_base.specs.Styles.{name_of}
 use Rattle.style_rules.specs.Toward.{Request, open_of, or_else, parts_of, request_unit, requests_at}
 use Rattle.style_rules.proofs.Claims.{merge_keeps_the_style}
 use Rattle.style_rules.proofs.Folds.{all_keeps}

@@ -4,7 +4,8 @@ use Rattle.rsvp_base.specs.declared.part.Part.{Part}
 use Rattle.rsvp_base.specs.declared.style.StyleKind.{StyleKind}
 use Rattle.rsvp_base.specs.Table.{get}
 use Rattle.style_rules.specs.Limits.{IsWithinLimits}
-use Rattle.style_rules.specs.Lines.{EntryKey, LineKey, held}
+use Rattle.style_rules.specs.Lines.{LineKey, held}
+use Rattle.rsvp_base.specs.declared.entry_key.EntryKey.{EntryKey}
 use Rattle.style_rules.specs.Parts.{IsPartAtMost}
 use Rattle.router_rules.specs.Books.{book, lines_of}
 use Rattle.router_rules.specs.Bounds.{AreBooked, IsShaped, IsWithinBounds}

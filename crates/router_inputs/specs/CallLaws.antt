@@ -21,7 +21,8 @@ use Rattle.router_rules.specs.Act.{act}
 use Rattle.router_rules.specs.Books.{book, fits, refused as refused_entry}
 use Rattle.router_rules.specs.Bounds.{IsWithinBounds}
 use Rattle.router_rules.specs.Calls.{act_call, act_stale, call_refusal, entry_of, senders_with, stale_refusal, wanted, wants_with, with_left}
-use Rattle.router_rules.specs.Facts.{Blockade, Facts, PathState, ResvState, SenderKey, WallKey, Want, WantKey, Wants, no_facts, resvs_of, with_resvs}
+use Rattle.router_rules.specs.Facts.{Blockade, Facts, PathState, ResvState, SenderKey, Want, WantKey, Wants, no_facts, resvs_of, with_resvs}
+use Rattle.style_rules.specs.Targets.{WallKey}
 use Rattle.router_rules.specs.Forgetting.{counted}
 use Rattle.router_rules.specs.Inputs.{Call, Clear, ConfSend, DropAs, ErrSend, Input, Local, QuitAll, SendAs, Stale, StalePath, StaleResv, StaleWall, WantAs, only_heard}
 use Rattle.router_rules.specs.NodeConfig.{NodeConfig, is_own, period}

@@ -25,7 +25,8 @@ use Rattle.router_rules.specs.declared.answers.Why.TheVariants as why
 use Rattle.router_rules.specs.Act.{act, act_message, is_mine}
 use Rattle.router_rules.specs.Asking.{answered, as_listed}
 use Rattle.router_rules.specs.Errors.{act_path_err, act_resv_err, act_unspelt, fault_code, blamed, error_to, errors_on, is_told, lane_of, reply_to, sets_walls, walled_by, walls_with, blockade_of, is_admission}
-use Rattle.router_rules.specs.Facts.{Facts, PathState, ResvState, WallKey, Walls, resvs_of, Blockade}
+use Rattle.router_rules.specs.Facts.{Facts, PathState, ResvState, Walls, resvs_of, Blockade}
+use Rattle.style_rules.specs.Targets.{WallKey}
 use Rattle.router_rules.specs.Inputs.{Came, Change, ErrSend, OfPath, OfResv, Spelt, Unspelt, only_heard}
 use Rattle.router_rules.specs.Known.{Lane}
 use Rattle.router_rules.specs.NodeConfig.{NodeConfig, goes_out, own}

@@ -10,7 +10,7 @@ use Rattle.rsvp_base.specs.declared.style.StyleKind.TheVariants.{Fixed}
 use Rattle.rsvp_base.specs.declared.style.Unit.{Unit as UnitOf}
 use Rattle.rsvp_base.specs.Keys.{Keys, pairs}
 use Rattle.rsvp_base.specs.Members.{In}
-use Rattle.rsvp_base.specs.Orders.{senders, sessions, styles, units}
+use Rattle.rsvp_base.specs.Orders.{senders, sessions, styles, units, entry_keys}
 use Rattle.rsvp_base.specs.Sets.{Set, cut, is_none, with_key}
 use Rattle.rsvp_base.specs.Table.{Table, empty, first, get, has, kept, size}
 use Rattle.rsvp_base.proofs.Counts.{found_in, in_found, size_below}
@@ -19,8 +19,9 @@ use Rattle.rsvp_base.proofs.SetLaws.{and_both, and_made, has-cut, has-with_key, 
 use Rattle.rsvp_base.proofs.Tables.{either, get-kept, got_kept, holds, tied_same}
 use Rattle.rsvp_base.proofs.UnderLaws.{get-under}
 use Rattle.flow_merge.specs.FlowOrder.{flow_le}
-use Rattle.style_rules.specs.Lines.{EntryKey as BookKey, NextHop, entry_keys, next_hops}
-use Rattle.style_rules.specs.Styles.{name_of}
+use Rattle.style_rules.specs.Lines.{NextHop, next_hops}
+use Rattle.rsvp_base.specs.declared.entry_key.EntryKey.{EntryKey}
+use Rattle.rsvp_base.specs.Styles.{name_of}
 use Rattle.router_rules.specs.declared.entry.Entry.{Entry}
 use Rattle.router_rules.specs.Books.{book}
 use Rattle.router_rules.specs.Facts.{Facts, PathState, ResvState, paths_in, resvs_in, resvs_of}
@@ -79,22 +80,22 @@ two_made {K} {X} o m q =
     omega (arith, two, few)
 
 -- ---- paths that match
-module _ (p : NodeConfig) (f : Facts) (i : ℕ) (k : BookKey) (part : Part) where
+module _ (p : NodeConfig) (f : Facts) (i : ℕ) (k : EntryKey) (part : Part) where
   abbrev matches_by : Sender → Bool
-  matches_by x = has part.senders (name_of k.1.0 x) && goes_out p k.0 i x
+  matches_by x = has part.senders (name_of k.style x) && goes_out p k.session i x
 
   abbrev those : Table senders PathState
-  those = kept matches_by (paths_in f k.0)
+  those = kept matches_by (paths_in f k.session)
 
   match_told : (x : Sender) (path : PathState) → get those x ≡ Some path → IsMatch p f i k part x path
   match_told x path g =
-      let r = got_kept senders matches_by (paths_in f k.0) x path g in
-      let b = and_both (has part.senders (name_of k.1.0 x)) (goes_out p k.0 i x) r.0 in
-      record { there = sym (get-under sessions senders f.paths k.0 x) ∙ r.1; named = b.0; way = b.1 }
+      let r = got_kept senders matches_by (paths_in f k.session) x path g in
+      let b = and_both (has part.senders (name_of k.style x)) (goes_out p k.session i x) r.0 in
+      record { there = sym (get-under sessions senders f.paths k.session x) ∙ r.1; named = b.0; way = b.1 }
 
   match_made : (x : Sender) (path : PathState) → IsMatch p f i k part x path → get those x ≡ Some path
   match_made x path q =
-      get-kept senders matches_by (paths_in f k.0) x ∙ ap (λ b. cond b (get (paths_in f k.0) x) None) (and_made _ _ q.named q.way) ∙ (get-under sessions senders f.paths k.0 x ∙ q.there)
+      get-kept senders matches_by (paths_in f k.session) x ∙ ap (λ b. cond b (get (paths_in f k.session) x) None) (and_made _ _ q.named q.way) ∙ (get-under sessions senders f.paths k.session x ∙ q.there)
 
   e_told : (police_at p f i k part).e ≡ true → AsksForPolicing p f i k part
   e_told h =
@@ -104,19 +105,19 @@ module _ (p : NodeConfig) (f : Facts) (i : ℕ) (k : BookKey) (part : Part) wher
   e_made : AsksForPolicing p f i k part → (police_at p f i k part).e ≡ true
   e_made q = any_in (λ (x : Sender × PathState). x.1.police) (q.sender, q.path) those.rows (found_in senders those q.sender q.path (match_made q.sender q.path q.matches)) q.asks
 
-  m_told : (police_at p f i k part).m ≡ true → (k.1.0 ≡ Fixed → ⊥) × AreMerged p f i k part
+  m_told : (police_at p f i k part).m ≡ true → (k.style ≡ Fixed → ⊥) × AreMerged p f i k part
   m_told h =
-      let b = and_both (not (is_style k.1.0 Fixed)) (nat_lt 1 (length those.rows)) h in
+      let b = and_both (not (is_style k.style Fixed)) (nat_lt 1 (length those.rows)) h in
       let t = two_rows senders those those.rows refl (ltb-true 1 (length those.rows) b.1) in
       let x = some_is (get those t.a) t.has_a in
       let y = some_is (get those t.b) t.has_b in (
-        λ same. let z : true ≡ false = sym (ties styles k.1.0 Fixed same) ∙ not_told _ b.0 in cc,
+        λ same. let z : true ≡ false = sym (ties styles k.style Fixed same) ∙ not_told _ b.0 in cc,
         record { first = t.a; second = t.b; first_path = x.0; second_path = y.0; apart = t.apart; one = match_told t.a x.0 x.1; other = match_told t.b y.0 y.1 },
       )
 
-  m_made : (k.1.0 ≡ Fixed → ⊥) × AreMerged p f i k part → (police_at p f i k part).m ≡ true
+  m_made : (k.style ≡ Fixed → ⊥) × AreMerged p f i k part → (police_at p f i k part).m ≡ true
   m_made q =
-      and_made (not (is_style k.1.0 Fixed)) (nat_lt 1 (length those.rows)) (ap not (either (is_style k.1.0 Fixed) (λ same. absurd (q.0 (style_told k.1.0 Fixed same))) (λ n. n)))
+      and_made (not (is_style k.style Fixed)) (nat_lt 1 (length those.rows)) (ap not (either (is_style k.style Fixed) (λ same. absurd (q.0 (style_told k.style Fixed same))) (λ n. n)))
       (lt-ltb 1 (length those.rows)
       (two_made senders those
       (record {
@@ -132,15 +133,15 @@ module _ (p : NodeConfig) (f : Facts) (i : ℕ) (k : BookKey) (part : Part) wher
   is_larger r = not (flow_le r.1.part.flow part.flow)
 
   abbrev here : (NextHop × UnitOf) × ResvState → Bool
-  here r = (r.0.0.0 == i) && eq_by_cmp units.cmp r.0.1 k.1.1
+  here r = (r.0.0.0 == i) && eq_by_cmp units.cmp r.0.1 k.unit
 
   abbrev all_resvs : Table (pairs next_hops units) ResvState
-  all_resvs = resvs_in k.1.0 f k.0
+  all_resvs = resvs_in k.style f k.session
 
   b_told : (police_at p f i k part).b ≡ true → HasBeside f i k part
   b_told h =
-      let r = in_any is_larger (beside f k.0 k.1.0 i k.1.1 part) h in
-      let t = in_filter (is_beside i k.1.1 part) r.0 all_resvs.rows r.1 in
+      let r = in_any is_larger (beside f k.session k.style i k.unit part) h in
+      let t = in_filter (is_beside i k.unit part) r.0 all_resvs.rows r.1 in
       let b = and_both (not (here r.0)) (not (is_none (cut part.senders r.0.1.part.senders))) t.1 in
       let x = one_name (cut part.senders r.0.1.part.senders) (not_told _ b.1) in
       let s = and_both _ _ (sym (has-cut senders part.senders r.0.1.part.senders x.0) ∙ x.1) in
@@ -148,8 +149,8 @@ module _ (p : NodeConfig) (f : Facts) (i : ℕ) (k : BookKey) (part : Part) wher
         hop = r.0.0.0;
         unit = r.0.0.1;
         resv = r.0.1;
-        there = sym (get-under sessions (pairs next_hops units) (resvs_of k.1.0 f) k.0 r.0.0) ∙ in_found (pairs next_hops units) all_resvs r.0.0 r.0.1 t.0;
-        elsewhere = λ same one. let z : true ≡ false = sym (and_made (r.0.0.0.0 == i) (eq_by_cmp units.cmp r.0.0.1 k.1.1) (eq-eqb r.0.0.0.0 i same) (ties units r.0.0.1 k.1.1 one)) ∙ not_told (here r.0) b.0 in cc;
+        there = sym (get-under sessions (pairs next_hops units) (resvs_of k.style f) k.session r.0.0) ∙ in_found (pairs next_hops units) all_resvs r.0.0 r.0.1 t.0;
+        elsewhere = λ same one. let z : true ≡ false = sym (and_made (r.0.0.0.0 == i) (eq_by_cmp units.cmp r.0.0.1 k.unit) (eq-eqb r.0.0.0.0 i same) (ties units r.0.0.1 k.unit one)) ∙ not_told (here r.0) b.0 in cc;
         shared = x.0;
         in_entry = s.0;
         in_resv = s.1;
@@ -160,18 +161,18 @@ module _ (p : NodeConfig) (f : Facts) (i : ℕ) (k : BookKey) (part : Part) wher
   b_made q =
       let row : (NextHop × UnitOf) × ResvState = ((q.hop, q.unit), q.resv) in
       let not_here : here row ≡ false =
-      either (here row) (λ h. let b = and_both (q.hop.0 == i) (eq_by_cmp units.cmp q.unit k.1.1) h in absurd (q.elsewhere (eqb-true q.hop.0 i b.0) (tied_same units q.unit k.1.1 b.1))) (λ n. n) in
-      any_in is_larger row (beside f k.0 k.1.0 i k.1.1 part)
-      (to_filter (is_beside i k.1.1 part) row all_resvs.rows
-      (found_in (pairs next_hops units) all_resvs (q.hop, q.unit) q.resv (get-under sessions (pairs next_hops units) (resvs_of k.1.0 f) k.0 (q.hop, q.unit) ∙ q.there))
+      either (here row) (λ h. let b = and_both (q.hop.0 == i) (eq_by_cmp units.cmp q.unit k.unit) h in absurd (q.elsewhere (eqb-true q.hop.0 i b.0) (tied_same units q.unit k.unit b.1))) (λ n. n) in
+      any_in is_larger row (beside f k.session k.style i k.unit part)
+      (to_filter (is_beside i k.unit part) row all_resvs.rows
+      (found_in (pairs next_hops units) all_resvs (q.hop, q.unit) q.resv (get-under sessions (pairs next_hops units) (resvs_of k.style f) k.session (q.hop, q.unit) ∙ q.there))
       (and_made (not (here row)) (not (is_none (cut part.senders q.resv.part.senders))) (ap not not_here)
       (ap not (has_some (cut part.senders q.resv.part.senders) q.shared (has-cut senders part.senders q.resv.part.senders q.shared ∙ and_made _ _ q.in_entry q.in_resv)))))
       (ap not q.larger)
 
-entry_told : (p : NodeConfig) (f : Facts) (i : ℕ) (e : Entry) → In e (entries_at p f i) → (k : BookKey) × (part : Part) × (get (book f i) k ≡ Some part) × (e ≡ entry_at p f i (k, part))
+entry_told : (p : NodeConfig) (f : Facts) (i : ℕ) (e : Entry) → In e (entries_at p f i) → (k : EntryKey) × (part : Part) × (get (book f i) k ≡ Some part) × (e ≡ entry_at p f i (k, part))
 entry_told p f i e h = let r = in_each (entry_at p f i) e (book f i).rows h in (r.0.0, r.0.1, in_found entry_keys (book f i) r.0.0 r.0.1 r.1, r.2)
 
-entry_made : (p : NodeConfig) (f : Facts) (i : ℕ) (e : Entry) → (k : BookKey) × (part : Part) × (get (book f i) k ≡ Some part) × (e ≡ entry_at p f i (k, part)) → In e (entries_at p f i)
+entry_made : (p : NodeConfig) (f : Facts) (i : ℕ) (e : Entry) → (k : EntryKey) × (part : Part) × (get (book f i) k ≡ Some part) × (e ≡ entry_at p f i (k, part)) → In e (entries_at p f i)
 entry_made p f i e q =
     subst (λ z. In z (entries_at p f i)) (sym q.3) (to_each (entry_at p f i) (q.0, q.1) (book f i).rows (found_in entry_keys (book f i) q.0 q.1 q.2))
 

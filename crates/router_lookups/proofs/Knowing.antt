@@ -16,7 +16,7 @@ use Rattle.rsvp_base.proofs.SetLaws.{and_both, and_made, has-union, has-kept}
 use Rattle.rsvp_base.proofs.Tables.{get-changed, got_changed, then_do}
 use Rattle.rsvp_base.proofs.UnderLaws.{get-under}
 use Rattle.style_rules.specs.Lines.{NextHop}
-use Rattle.style_rules.specs.Styles.{name_of}
+use Rattle.rsvp_base.specs.Styles.{name_of}
 use Rattle.router_rules.specs.Facts.{Facts, PathState, SenderKey, paths_in, senders_in}
 use Rattle.router_rules.specs.Forgetting.{counted}
 use Rattle.router_rules.specs.Known.{Lane, came_by, keys_where, known, lane_keys, lanes, lanes_of, named_as, names_via, names_via_where, via}

@@ -8,7 +8,7 @@ use Rattle.rsvp_base.specs.declared.style.StyleKind.{StyleKind}
 use Rattle.rsvp_base.specs.declared.style.StyleKind.TheVariants.{Wild, Fixed, Shared}
 use Rattle.rsvp_base.specs.Keys.{pairs}
 use Rattle.rsvp_base.specs.Members.{In}
-use Rattle.rsvp_base.specs.Orders.{sessions, senders, styles, units, Names}
+use Rattle.rsvp_base.specs.Orders.{sessions, senders, styles, units, Names, entry_keys}
 use Rattle.rsvp_base.specs.Sets.{cut}
 use Rattle.rsvp_base.specs.Table.{empty, get, has}
 use Rattle.rsvp_base.proofs.Counts.{in_found, found_in}
@@ -16,7 +16,7 @@ use Rattle.rsvp_base.proofs.Members.{in_append, in_left, in_right, in_each, to_e
 use Rattle.rsvp_base.proofs.SetLaws.{and_both, has-cut}
 use Rattle.rsvp_base.proofs.UnderLaws.{get-under}
 use Rattle.style_rules.specs.CutLaws.{cut_of, made_of}
-use Rattle.style_rules.specs.Lines.{Line, LineKey, next_hops, line_keys, entry_keys, entry_key, at_end}
+use Rattle.style_rules.specs.Lines.{Line, LineKey, next_hops, line_keys, entry_key, at_end}
 use Rattle.style_rules.specs.Parts.{part_cut}
 use Rattle.style_rules.specs.Toward.{Request}
 use Rattle.style_rules.specs.Toward.{toward as merged_toward}

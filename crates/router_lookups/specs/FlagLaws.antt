@@ -7,8 +7,9 @@ use Rattle.rsvp_base.specs.declared.style.Unit.{Unit as UnitOf}
 use Rattle.rsvp_base.specs.Members.{In}
 use Rattle.rsvp_base.specs.Table.{get, has}
 use Rattle.flow_merge.specs.FlowOrder.{flow_le}
-use Rattle.style_rules.specs.Lines.{EntryKey as BookKey, NextHop}
-use Rattle.style_rules.specs.Styles.{name_of}
+use Rattle.style_rules.specs.Lines.{NextHop}
+use Rattle.rsvp_base.specs.declared.entry_key.EntryKey.{EntryKey}
+use Rattle.rsvp_base.specs.Styles.{name_of}
 use Rattle.router_rules.specs.declared.entry.Entry.{Entry}
 use Rattle.router_rules.specs.Books.{book}
 use Rattle.router_rules.specs.Facts.{Facts, PathState, ResvState, resvs_of}
@@ -16,20 +17,20 @@ use Rattle.router_rules.specs.Flags.{entries_at, entry_at, police_at}
 use Rattle.router_rules.specs.NodeConfig.{NodeConfig, goes_out}
 
 -- a path whose sender the entry names and whose tree goes out of its interface
-pub record IsMatch (p : NodeConfig) (f : Facts) (i : ℕ) (k : BookKey) (part : Part) (x : Sender) (path : PathState) : Type 0 where
-  pub there : get f.paths (k.0, x) ≡ Some path
-  pub named : has part.senders (name_of k.1.0 x) ≡ true
-  pub way : goes_out p k.0 i x ≡ true
+pub record IsMatch (p : NodeConfig) (f : Facts) (i : ℕ) (k : EntryKey) (part : Part) (x : Sender) (path : PathState) : Type 0 where
+  pub there : get f.paths (k.session, x) ≡ Some path
+  pub named : has part.senders (name_of k.style x) ≡ true
+  pub way : goes_out p k.session i x ≡ true
 
 -- whose sender asked for policing
-pub record AsksForPolicing (p : NodeConfig) (f : Facts) (i : ℕ) (k : BookKey) (part : Part) : Type 0 where
+pub record AsksForPolicing (p : NodeConfig) (f : Facts) (i : ℕ) (k : EntryKey) (part : Part) : Type 0 where
   pub sender : Sender
   pub path : PathState
   pub matches : IsMatch p f i k part sender path
   pub asks : path.police ≡ true
 
 -- two of them
-pub record AreMerged (p : NodeConfig) (f : Facts) (i : ℕ) (k : BookKey) (part : Part) : Type 0 where
+pub record AreMerged (p : NodeConfig) (f : Facts) (i : ℕ) (k : EntryKey) (part : Part) : Type 0 where
   pub first : Sender
   pub second : Sender
   pub first_path : PathState
@@ -40,20 +41,20 @@ pub record AreMerged (p : NodeConfig) (f : Facts) (i : ℕ) (k : BookKey) (part 
 
 -- a reservation of the session and style that is not merged into the entry, shares a sender with it, and has a flow for which
 -- the entry's cannot stand
-pub record HasBeside (f : Facts) (i : ℕ) (k : BookKey) (part : Part) : Type 0 where
+pub record HasBeside (f : Facts) (i : ℕ) (k : EntryKey) (part : Part) : Type 0 where
   pub hop : NextHop
   pub unit : UnitOf
   pub resv : ResvState
-  pub there : get (resvs_of k.1.0 f) (k.0, (hop, unit)) ≡ Some resv
-  pub elsewhere : hop.0 ≡ i → unit ≡ k.1.1 → ⊥
+  pub there : get (resvs_of k.style f) (k.session, (hop, unit)) ≡ Some resv
+  pub elsewhere : hop.0 ≡ i → unit ≡ k.unit → ⊥
   pub shared : Sender
   pub in_entry : has part.senders shared ≡ true
   pub in_resv : has resv.part.senders shared ≡ true
   pub larger : flow_le resv.part.flow part.flow ≡ false
 
 pub record FlagsByPathsAndResvs : Type 0 where
-  pub e : (p : NodeConfig) (f : Facts) (i : ℕ) (k : BookKey) (part : Part) → ((police_at p f i k part).e ≡ true) ↔ AsksForPolicing p f i k part
-  pub m : (p : NodeConfig) (f : Facts) (i : ℕ) (k : BookKey) (part : Part) → ((police_at p f i k part).m ≡ true) ↔ ((k.1.0 ≡ Fixed → ⊥) × AreMerged p f i k part)
-  pub b : (p : NodeConfig) (f : Facts) (i : ℕ) (k : BookKey) (part : Part) → ((police_at p f i k part).b ≡ true) ↔ HasBeside f i k part
+  pub e : (p : NodeConfig) (f : Facts) (i : ℕ) (k : EntryKey) (part : Part) → ((police_at p f i k part).e ≡ true) ↔ AsksForPolicing p f i k part
+  pub m : (p : NodeConfig) (f : Facts) (i : ℕ) (k : EntryKey) (part : Part) → ((police_at p f i k part).m ≡ true) ↔ ((k.style ≡ Fixed → ⊥) × AreMerged p f i k part)
+  pub b : (p : NodeConfig) (f : Facts) (i : ℕ) (k : EntryKey) (part : Part) → ((police_at p f i k part).b ≡ true) ↔ HasBeside f i k part
   -- the entries are those of the book
-  pub entries : (p : NodeConfig) (f : Facts) (i : ℕ) (e : Entry) → In e (entries_at p f i) ↔ ((k : BookKey) × (part : Part) × (get (book f i) k ≡ Some part) × (e ≡ entry_at p f i (k, part)))
+  pub entries : (p : NodeConfig) (f : Facts) (i : ℕ) (e : Entry) → In e (entries_at p f i) ↔ ((k : EntryKey) × (part : Part) × (get (book f i) k ≡ Some part) × (e ≡ entry_at p f i (k, part)))

@@ -5,13 +5,13 @@ use Rattle.std.proofs.lemmas.Bool.{ltb-true, le-leb}
 use Rattle.std.specs.List.{flat_map}
 use Rattle.std.specs.Option.{option_map}
 use Rattle.std.specs.Ordering.{eq_by_cmp}
-use Rattle.admission_book.specs.declared.iface.Iface.{Iface}
+use Rattle.rsvp_base.specs.declared.iface.Iface.{Iface}
 use Rattle.admission_book.specs.declared.refused.Refused.{Refused}
 use Rattle.admission_book.specs.Charges.{refusal_beside}
 use Rattle.rsvp_base.specs.declared.part.Part.{Part}
 use Rattle.rsvp_base.specs.declared.style.Unit.{Unit as UnitOf}
 use Rattle.rsvp_base.specs.Members.{In}
-use Rattle.rsvp_base.specs.Orders.{senders, sessions, styles}
+use Rattle.rsvp_base.specs.Orders.{senders, sessions, styles, entry_keys}
 use Rattle.rsvp_base.specs.Sets.{IsWithin}
 use Rattle.rsvp_base.specs.Table.{get, keys, size, without}
 use Rattle.rsvp_base.proofs.Counts.{in_set_of}
@@ -20,7 +20,8 @@ use Rattle.rsvp_base.proofs.SetLaws.{and_made, size_within}
 use Rattle.rsvp_base.proofs.Sums.{number_of, sum-without}
 use Rattle.rsvp_base.proofs.Tables.{either, tied_self}
 use Rattle.style_rules.specs.Limits.{names_of, of_session, of_style}
-use Rattle.style_rules.specs.Lines.{AreUnder, BookTable, EntryKey, IsUnder, Line, LineKey, at_end, entry_keys, held}
+use Rattle.style_rules.specs.Lines.{AreUnder, BookTable, IsUnder, Line, LineKey, at_end, held}
+use Rattle.rsvp_base.specs.declared.entry_key.EntryKey.{EntryKey}
 use Rattle.style_rules.specs.PartLaws.{most_below, part_at_most_along}
 use Rattle.style_rules.specs.Parts.{part_charge}
 use Rattle.style_rules.proofs.Books.{book_below, held_at_end_below, under_at_end}

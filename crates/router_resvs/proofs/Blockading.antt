@@ -9,7 +9,8 @@ use Rattle.rsvp_base.specs.declared.style.Unit.{Unit as UnitOf}
 use Rattle.rsvp_base.specs.Orders.{units}
 use Rattle.style_rules.specs.Lines.{NextHop}
 use Rattle.style_rules.specs.Merge.{all_by, those_at}
-use Rattle.style_rules.specs.Parts.{part_join, part_meet, part_unit}
+use Rattle.style_rules.specs.Parts.{part_join, part_meet}
+use Rattle.rsvp_base.specs.Styles.{part_unit}
 use Rattle.style_rules.specs.Toward.{Request, open_of, or_else, parts_of, requests_at, toward_at}
 use Rattle.style_rules.proofs.Merges.{those_at-each}
 use Rattle.router_rules.specs.Facts.{Facts, ResvState, Walls, Want, resvs_in, wants_in}

@@ -19,7 +19,8 @@ use Rattle.rsvp_messages.specs.declared.message.ResvErrMsg.{ResvErrMsg}
 use Rattle.router_rules.specs.Act.{act_spelt, is_mine}
 use Rattle.router_rules.specs.Bounds.{IsWithinBounds}
 use Rattle.router_rules.specs.Errors.{blockade_of, is_admission, walled_by, walls_after, walls_with}
-use Rattle.router_rules.specs.Facts.{Blockade, Facts, WallKey, paths_in}
+use Rattle.router_rules.specs.Facts.{Blockade, Facts, paths_in}
+use Rattle.style_rules.specs.Targets.{WallKey}
 use Rattle.router_rules.specs.Forgetting.{counted}
 use Rattle.router_rules.specs.Inputs.{Input, Call, Came, Clear, Moved, Spelt, Unspelt, Wait}
 use Rattle.router_rules.specs.Known.{came_by}

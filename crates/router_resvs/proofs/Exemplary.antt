@@ -3,7 +3,7 @@ use Rattle.std.specs.Prelude.{◌≡◌, ℕ, zero, suc, ◌≤◌, Bool, true, 
 use Rattle.std.specs.List.{range_with_len}
 use Rattle.std.specs.Ordering.{eq_by_cmp}
 use Rattle.std.proofs.Common.{sym, ap, subst, inl, inr, ⊎_elim, arith}
-use Rattle.admission_book.specs.declared.iface.Iface.{Iface}
+use Rattle.rsvp_base.specs.declared.iface.Iface.{Iface}
 use Rattle.rsvp_base.specs.declared.part.Part.{Part}
 use Rattle.rsvp_base.specs.declared.style.StyleKind.{StyleKind}
 use Rattle.rsvp_base.specs.declared.style.StyleKind.TheVariants.{Wild, Fixed, Shared}
@@ -13,7 +13,9 @@ use Rattle.rsvp_base.specs.Members.{In}
 use Rattle.rsvp_base.specs.Table.{get, has}
 use Rattle.rsvp_base.specs.TokenBucket.{IsSound}
 use Rattle.rsvp_messages.specs.Units.{AskedUnit, asked_units}
-use Rattle.style_rules.specs.Lines.{EntryKey, entry_keys, LineKey, book_of_end, held}
+use Rattle.style_rules.specs.Lines.{LineKey, book_of_end, held}
+use Rattle.rsvp_base.specs.Orders.{entry_keys}
+use Rattle.rsvp_base.specs.declared.entry_key.EntryKey.{EntryKey}
 use Rattle.style_rules.specs.Limits.{IsWithinLimits}
 use Rattle.style_rules.specs.PartLaws.{part_at_most_itself}
 use Rattle.style_rules.proofs.Room.{within_told}
@@ -141,7 +143,7 @@ abbrev the_part : Part
 the_part = record { senders = scope; flow = usual }
 
 one_entry : (k : EntryKey) (part : Part) → get (book_of_end 1 the_lines) k ≡ Some part → the_part ≡ part
-one_entry k part g = by (eq_by_cmp entry_keys.cmp k (session, (Wild, One))) g
+one_entry k part g = by (eq_by_cmp entry_keys.cmp k (record { session = session; style = Wild; unit = One })) g
   where
     by : (b : Bool) → cond b (Some the_part) None ≡ Some part → the_part ≡ part
     by true e = some_same the_part part e

@@ -1,6 +1,6 @@
 -- What is accepted: the claims of the public law.
 use Rattle.std.specs.Prelude.{◌≡◌, ℕ, ◌+◌, ◌≤◌, true, false, List, slice_get, Some, None}
-use Rattle.admission_book.specs.declared.iface.Iface.{Iface}
+use Rattle.rsvp_base.specs.declared.iface.Iface.{Iface}
 use Rattle.rsvp_base.specs.declared.part.Part.{Part}
 use Rattle.rsvp_base.specs.declared.style.StyleKind.{StyleKind}
 use Rattle.rsvp_base.specs.declared.style.Unit.{Unit as UnitOf}
@@ -14,7 +14,8 @@ use Rattle.rsvp_messages.specs.declared.message.ResvMsg.{ResvMsg}
 use Rattle.rsvp_messages.specs.Proper.{IsProperAsk}
 use Rattle.rsvp_messages.specs.Units.{AskedUnit, ask_style, asked_units}
 use Rattle.style_rules.specs.Limits.{IsWithinLimits}
-use Rattle.style_rules.specs.Lines.{AreUnder, EntryKey, IsUnder, Line, LineKey, book_of_end, held}
+use Rattle.style_rules.specs.Lines.{AreUnder, IsUnder, Line, LineKey, book_of_end, held}
+use Rattle.rsvp_base.specs.declared.entry_key.EntryKey.{EntryKey}
 use Rattle.router_rules.specs.declared.answers.Heard.TheVariants as heard
 use Rattle.router_rules.specs.Asking.{Asker, asker_of, book_refuses, has_room, matched, table_with}
 use Rattle.router_rules.specs.Books.{lines}

@@ -9,7 +9,8 @@ use Rattle.rsvp_messages.specs.declared.message.PathErrMsg.{PathErrMsg}
 use Rattle.rsvp_messages.specs.declared.message.ResvErrMsg.{ResvErrMsg}
 use Rattle.router_rules.specs.Bounds.{IsWithinBounds}
 use Rattle.router_rules.specs.Errors.{blockade_of, is_admission, walled_by}
-use Rattle.router_rules.specs.Facts.{Blockade, Facts, WallKey}
+use Rattle.router_rules.specs.Facts.{Blockade, Facts}
+use Rattle.style_rules.specs.Targets.{WallKey}
 use Rattle.router_rules.specs.Inputs.{Came, Input, Spelt}
 use Rattle.router_rules.specs.NodeConfig.{NodeConfig, own}
 use Rattle.router_lookups.specs.FactLaws.{ComesBy}

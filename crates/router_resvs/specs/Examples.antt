@@ -13,8 +13,9 @@ use Rattle.rsvp_messages.specs.declared.message.ResvMsg.{ResvMsg}
 use Rattle.style_rules.specs.Lines.{Line, LineKey}
 use Rattle.router_rules.specs.Asking.{ask_of, asker_of}
 use Rattle.router_rules.specs.Bounds.{IsWithinBounds}
-use Rattle.router_rules.specs.declared.target.Target.TheVariants as target
-use Rattle.router_rules.specs.Facts.{Blockade, Facts, PathState, ResvState, SenderKey, WallKey, no_facts}
+use Rattle.style_rules.specs.declared.target.Target.TheVariants as target
+use Rattle.router_rules.specs.Facts.{Blockade, Facts, PathState, ResvState, SenderKey, no_facts}
+use Rattle.style_rules.specs.Targets.{WallKey}
 use Rattle.router_rules.specs.Inputs.{Input, Came, Moved, Spelt, StalePath, StaleResv, StaleWall, Wait}
 use Rattle.router_rules.specs.Known.{Lane}
 use Rattle.router_rows.specs.ThreeRouters.{error, first, flow, group, node_r, path, path_tear, r1, r2, refreshed, resv, resv_err, s1, scope, sent, session, t1, usual, wild}

@@ -2,7 +2,7 @@
 use Rattle.std.specs.Prelude.{◌≡◌, ℕ, zero, suc, ◌≤◌, Bool, true, false, cond, is_some, [], ◌∷◌, slice_get, Some, None, refl}
 use Rattle.std.proofs.Common.{arith, sym, ap, subst, ◌∙◌, ⊎_elim}
 use Rattle.std.specs.Ordering.{eq_by_cmp}
-use Rattle.admission_book.specs.declared.iface.Iface.{Iface}
+use Rattle.rsvp_base.specs.declared.iface.Iface.{Iface}
 use Rattle.rsvp_base.specs.declared.part.Part.{Part}
 use Rattle.rsvp_base.specs.declared.session.Sender.{Sender}
 use Rattle.rsvp_base.specs.declared.session.Session.{Session}
@@ -11,21 +11,23 @@ use Rattle.rsvp_base.specs.declared.style.StyleKind.TheVariants.{Wild, Fixed, Sh
 use Rattle.rsvp_base.specs.declared.style.Unit.TheVariants.{One}
 use Rattle.rsvp_base.specs.Keys.{Keys}
 use Rattle.rsvp_base.specs.Members.{In}
-use Rattle.rsvp_base.specs.Orders.{senders, sessions, units}
+use Rattle.rsvp_base.specs.Orders.{senders, sessions, units, entry_keys}
 use Rattle.rsvp_base.specs.Table.{Table, get, has, empty}
 use Rattle.rsvp_base.specs.TokenBucket.{IsSound}
 use Rattle.rsvp_base.proofs.Counts.{found_in, set_of_in}
 use Rattle.rsvp_base.proofs.SessionRoom.{put_room}
 use Rattle.style_rules.specs.Limits.{IsWithinLimits}
-use Rattle.style_rules.specs.Lines.{EntryKey, LineKey, entry_keys, held, line_keys}
+use Rattle.style_rules.specs.Lines.{LineKey, held, line_keys}
+use Rattle.rsvp_base.specs.declared.entry_key.EntryKey.{EntryKey}
 use Rattle.style_rules.specs.Parts.{IsOfStyle}
-use Rattle.style_rules.specs.Styles.{name_of}
+use Rattle.rsvp_base.specs.Styles.{name_of}
 use Rattle.style_rules.proofs.Room.{within_told}
-use Rattle.router_rules.specs.declared.target.Target.TheVariants as target
+use Rattle.style_rules.specs.declared.target.Target.TheVariants as target
 use Rattle.router_rows.specs.BoundRows.{LivedIsWithinBounds, lived, own_sender}
 use Rattle.router_rules.specs.Books.{book, lines_of}
 use Rattle.router_rules.specs.Bounds.{IsPathShaped, IsShaped, IsWallShaped, IsWantShaped, LivesUpTo}
-use Rattle.router_rules.specs.Facts.{Blockade, PathState, ResvState, WallKey, Want, WantKey, resvs_of, sender_keys, wall_keys, want_keys}
+use Rattle.router_rules.specs.Facts.{Blockade, PathState, ResvState, Want, WantKey, resvs_of, sender_keys, want_keys}
+use Rattle.style_rules.specs.Targets.{WallKey, wall_keys}
 use Rattle.router_rules.specs.Forgetting.{counted}
 use Rattle.router_rows.specs.ThreeRouters.{flow, iface, first, node_r, r2, s1, scope, session, t1, usual}
 
@@ -100,7 +102,7 @@ fits_mtu : (i : ℕ) (on : Iface) (k : EntryKey) (part : Part) → slice_get (no
 fits_mtu zero on k part e g = absurd (cc)
 fits_mtu (suc zero) on k part e g =
     let is : iface r2 10000 ≡ on = cc in
-    let row = only_row entry_keys (book lived 1) ((session, (Wild, One)), a_resv.part) refl k part g in
+    let row = only_row entry_keys (book lived 1) (record { session = session; style = Wild; unit = One }, a_resv.part) refl k part g in
     subst (λ (z : Iface). part.flow.most ≤ z.mtu) is (subst (λ (z : Part). z.flow.most ≤ 1500) (sym row.1) (omega arith))
 fits_mtu (suc (suc i)) on k part e g = absurd (cc)
 

@@ -17,7 +17,7 @@ use Rattle.router_rules.specs.declared.answers.Heard.TheVariants as heard
 use Rattle.router_rules.specs.declared.answers.LocalErr.TheVariants as local
 use Rattle.router_rules.specs.declared.answers.StaleErr.TheVariants as stale
 use Rattle.router_rules.specs.declared.answers.Why.TheVariants as why
-use Rattle.router_rules.specs.declared.target.Target.TheVariants as target
+use Rattle.style_rules.specs.declared.target.Target.TheVariants as target
 use Rattle.router_rules.specs.Books.{book}
 use Rattle.router_rules.specs.Calls.{act_stale, call_refusal, stale_refusal}
 use Rattle.router_rules.specs.Facts.{Facts, no_facts, no_resvs}
@@ -72,7 +72,7 @@ pub record NoPathNoReservation : Type 0 where
   -- of two senders one has a path: the other is told, and the one has its reservation
   pub half : halved.heard ≡ heard.Answered 4 0
   pub half_sent : halved.sent ≡ sent 1 t1 (resv_err r2 (error r2 false 4 0) Shared (Some (set_of (second ∷ []))) (Some usual)) ∷ sent 0 s1 (resv r1 None (shared (first ∷ []) usual)) ∷ []
-  pub half_book : (book halved.facts 1).rows ≡ ((session, (Shared, One)), record { senders = set_of (first ∷ []); flow = usual }) ∷ []
+  pub half_book : (book halved.facts 1).rows ≡ ((record { session = session; style = Shared; unit = One }), record { senders = set_of (first ∷ []); flow = usual }) ∷ []
   -- a wildcard filter for others alone
   pub others : (came (node_r 10000) 0 1 r2 (resv t1 None (ask.Wild (Some (set_of ((record { addr = t1; port = 0 }) ∷ []))) usual)) with_path.facts).heard ≡ heard.Answered 4 0
   -- and for all
@@ -124,7 +124,7 @@ beside_r = came (node_s 10000) 0 0 s1 (resv (ip 10 0 1 3) None (wild (flow 500 4
 pub record NextHopsMerge : Type 0 where
   pub taken : beside_r.heard ≡ heard.Taken
   pub two : size beside_r.facts.resvs.wild ≡ 2
-  pub merged : (book beside_r.facts 0).rows ≡ ((session, (Wild, One)), record { senders = scope; flow = flow 500 600 64 1500 }) ∷ []
+  pub merged : (book beside_r.facts 0).rows ≡ ((record { session = session; style = Wild; unit = One }), record { senders = scope; flow = flow 500 600 64 1500 }) ∷ []
   pub holds : held (book beside_r.facts 0) ≡ 500
 
 -- ---- tears
@@ -299,12 +299,12 @@ incomparable = came fork_r 0 2 r3 (resv u1 None (wild (flow 500 400 128 1000))) 
 
 pub record FlagsAreByPaths : Type 0 where
   pub merged : incomparable.sent ≡ sent 0 s1 (resv r1 None (wild (flow 500 600 64 1500))) ∷ []
-  pub at_t : police_at fork_r incomparable.facts 1 (session, (Wild, One)) (record { senders = scope; flow = flow 300 600 64 1500 }) ≡ record { e = true; m = false; b = true }
-  pub at_u : police_at fork_r incomparable.facts 2 (session, (Wild, One)) (record { senders = scope; flow = flow 500 400 128 1000 }) ≡ record { e = true; m = false; b = true }
+  pub at_t : police_at fork_r incomparable.facts 1 (record { session = session; style = Wild; unit = One }) (record { senders = scope; flow = flow 300 600 64 1500 }) ≡ record { e = true; m = false; b = true }
+  pub at_u : police_at fork_r incomparable.facts 2 (record { session = session; style = Wild; unit = One }) (record { senders = scope; flow = flow 500 400 128 1000 }) ≡ record { e = true; m = false; b = true }
   -- of two comparable ones the smaller is policed
-  pub smaller : police_at fork_r from_u.facts 1 (session, (Wild, One)) (record { senders = scope; flow = small }) ≡ record { e = true; m = false; b = true }
-  pub larger : police_at fork_r from_u.facts 2 (session, (Wild, One)) (record { senders = scope; flow = greedy }) ≡ record { e = true; m = false; b = false }
+  pub smaller : police_at fork_r from_u.facts 1 (record { session = session; style = Wild; unit = One }) (record { senders = scope; flow = small }) ≡ record { e = true; m = false; b = true }
+  pub larger : police_at fork_r from_u.facts 2 (record { session = session; style = Wild; unit = One }) (record { senders = scope; flow = greedy }) ≡ record { e = true; m = false; b = false }
   -- two senders of one address are merged
-  pub two : police_at fork_r two_paths.facts 1 (session, (Wild, One)) (record { senders = scope; flow = small }) ≡ record { e = true; m = true; b = false }
+  pub two : police_at fork_r two_paths.facts 1 (record { session = session; style = Wild; unit = One }) (record { senders = scope; flow = small }) ≡ record { e = true; m = true; b = false }
   -- local senders do not count
-  pub at_s : police_at (node_s 10000) wish_at_source.facts 0 (session, (Wild, One)) (record { senders = scope; flow = usual }) ≡ record { e = false; m = false; b = false }
+  pub at_s : police_at (node_s 10000) wish_at_source.facts 0 (record { session = session; style = Wild; unit = One }) (record { senders = scope; flow = usual }) ≡ record { e = false; m = false; b = false }

@@ -1,7 +1,7 @@
 -- A line of nodes s, r, t with a sender at s and a receiver at t, and the same with a second receiver at u behind r: what
 -- the worked rows speak of. Their link ends are s1-r1, r2-t1 and r3-u1, of 10,000 bytes per second unless it is said.
 use Rattle.std.specs.Prelude.{ℕ, ◌+◌, ◌*◌, Bool, true, false, List, [], ◌∷◌, Option, Some, None}
-use Rattle.admission_book.specs.declared.iface.Iface.{Iface}
+use Rattle.rsvp_base.specs.declared.iface.Iface.{Iface}
 use Rattle.rsvp_base.specs.declared.addr.Addr.{Addr}
 use Rattle.rsvp_base.specs.declared.err_spec.ErrSpec.{ErrSpec}
 use Rattle.rsvp_base.specs.declared.flow.Peak.TheVariants.{Infinite}

@@ -25,7 +25,8 @@ use Rattle.rsvp_messages.specs.declared.message.ResvMsg.{ResvMsg}
 use Rattle.rsvp_messages.specs.declared.message.ResvTearMsg.{ResvTearMsg}
 use Rattle.rsvp_messages.specs.FlowTable.{FlowTable}
 use Rattle.rsvp_messages.specs.Units.{AskedUnit, asked_units, ask_style, tear_style, tear_names}
-use Rattle.style_rules.specs.Lines.{NextHop, next_hops, LineKey, EntryKey, is_of_hop}
+use Rattle.style_rules.specs.Lines.{NextHop, next_hops, LineKey, is_of_hop}
+use Rattle.rsvp_base.specs.declared.entry_key.EntryKey.{EntryKey}
 use Rattle.style_rules.specs.Merge.{table_at, PartTable}
 use Rattle.style_rules.specs.Parts.{part_kept, part_of}
 use Rattle.router_rules.specs.declared.answers.Heard.{Heard}
@@ -56,7 +57,7 @@ abbrev pub key_at : Asker → UnitOf → LineKey
 key_at o u = (o.session, ((o.iface, o.next), u))
 
 abbrev pub entry_at : Asker → UnitOf → EntryKey
-entry_at o u = (o.session, (o.style, u))
+entry_at o u = record { session = o.session; style = o.style; unit = u }
 
 -- a refusal goes back to the next hop, with the style and the flow that were asked for
 abbrev pub refusal : NodeConfig → Asker → Bool → ℕ → ℕ → Option Names → TokenBucket → ErrSend

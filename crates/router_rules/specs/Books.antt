@@ -8,7 +8,8 @@ use Rattle.rsvp_base.specs.declared.style.StyleKind.{StyleKind}
 use Rattle.rsvp_base.specs.declared.style.StyleKind.TheVariants.{Wild, Fixed, Shared}
 use Rattle.rsvp_base.specs.Table.{get, without}
 use Rattle.style_rules.specs.Limits.{within_limits}
-use Rattle.style_rules.specs.Lines.{Line, LineKey, EntryKey, BookTable, book_of_end, held}
+use Rattle.style_rules.specs.Lines.{Line, LineKey, BookTable, book_of_end, held}
+use Rattle.rsvp_base.specs.declared.entry_key.EntryKey.{EntryKey}
 use Rattle.router_rules.specs.Facts.{Facts, ResvState, Resvs}
 use Rattle.router_rules.specs.NodeConfig.{NodeConfig}
 

@@ -1,6 +1,6 @@
 -- What every node keeps: the bounds within which its facts lie at a moment.
 use Rattle.std.specs.Prelude.{◌≡◌, ℕ, ◌+◌, ◌*◌, ◌≤◌, ◌<◌, length, slice_get, Some}
-use Rattle.admission_book.specs.declared.iface.Iface.{Iface}
+use Rattle.rsvp_base.specs.declared.iface.Iface.{Iface}
 use Rattle.rsvp_base.specs.declared.part.Part.{Part}
 use Rattle.rsvp_base.specs.declared.session.Session.{Session}
 use Rattle.rsvp_base.specs.declared.style.StyleKind.{StyleKind}
@@ -12,12 +12,15 @@ use Rattle.rsvp_base.specs.SessionLimits.{IsWithinSessionLimits}
 use Rattle.rsvp_base.specs.Table.{get, has, size}
 use Rattle.rsvp_base.specs.TokenBucket.{TokenBucket, IsSound}
 use Rattle.style_rules.specs.Limits.{IsWithinLimits}
-use Rattle.style_rules.specs.Lines.{LineKey, EntryKey, held}
-use Rattle.style_rules.specs.Parts.{IsOfStyle, part_unit}
-use Rattle.router_rules.specs.declared.target.Target.{Target}
-use Rattle.router_rules.specs.declared.target.Target.TheVariants as target
+use Rattle.style_rules.specs.Lines.{LineKey, held}
+use Rattle.rsvp_base.specs.declared.entry_key.EntryKey.{EntryKey}
+use Rattle.style_rules.specs.Parts.{IsOfStyle}
+use Rattle.rsvp_base.specs.Styles.{part_unit}
+use Rattle.style_rules.specs.declared.target.Target.{Target}
+use Rattle.style_rules.specs.declared.target.Target.TheVariants as target
 use Rattle.router_rules.specs.Books.{book, lines_of}
-use Rattle.router_rules.specs.Facts.{Facts, SenderKey, WantKey, WallKey, PathState, ResvState, Want, Blockade, resvs_of, no_facts}
+use Rattle.router_rules.specs.Facts.{Facts, SenderKey, WantKey, PathState, ResvState, Want, Blockade, resvs_of, no_facts}
+use Rattle.style_rules.specs.Targets.{WallKey}
 use Rattle.router_rules.specs.Forgetting.{counted}
 use Rattle.router_rules.specs.NodeConfig.{NodeConfig, period, lifetime, wall_lifetime}
 

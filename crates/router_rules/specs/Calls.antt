@@ -11,7 +11,8 @@ use Rattle.rsvp_base.specs.SessionLimits.{has_room_at}
 use Rattle.rsvp_base.specs.Table.{Table, empty, has, keys, kept, put_in, without, size, values, with_rows}
 use Rattle.rsvp_base.specs.TokenBucket.{TokenBucket}
 use Rattle.rsvp_messages.specs.Units.{only}
-use Rattle.style_rules.specs.Lines.{LineKey, EntryKey}
+use Rattle.style_rules.specs.Lines.{LineKey}
+use Rattle.rsvp_base.specs.declared.entry_key.EntryKey.{EntryKey}
 use Rattle.router_rules.specs.declared.answers.Heard.TheVariants as heard
 use Rattle.router_rules.specs.declared.answers.LocalErr.{LocalErr}
 use Rattle.router_rules.specs.declared.answers.LocalErr.TheVariants as local
@@ -88,7 +89,7 @@ abbrev pub with_left : Stale → Facts → Facts
 with_left i f = record f { paths = paths_left i f.paths; resvs = resvs_left i f.resvs; walls = walls_left i f.walls }
 
 abbrev pub entry_of : StyleKind → LineKey → EntryKey
-entry_of st k = (k.0, (st, k.1.1))
+entry_of st k = record { session = k.0; style = st; unit = k.1.1 }
 
 -- why a left-over fact is refused
 abbrev pub stale_refusal : NodeConfig → Stale → Facts → Option StaleErr

@@ -29,9 +29,10 @@ use Rattle.style_rules.specs.Lines.{NextHop, next_hops}
 use Rattle.router_rules.specs.declared.answers.Heard.{Heard}
 use Rattle.router_rules.specs.declared.answers.Heard.TheVariants as heard
 use Rattle.router_rules.specs.declared.answers.Why.TheVariants as why
-use Rattle.router_rules.specs.declared.target.Target.TheVariants as target
+use Rattle.style_rules.specs.declared.target.Target.TheVariants as target
 use Rattle.router_rules.specs.Asking.{answered, Blamed, Nobody, Everyone, These}
-use Rattle.router_rules.specs.Facts.{Facts, PathState, ResvState, Blockade, Walls, WallKey, paths_in, resvs_in}
+use Rattle.router_rules.specs.Facts.{Facts, PathState, ResvState, Blockade, Walls, paths_in, resvs_in}
+use Rattle.style_rules.specs.Targets.{WallKey}
 use Rattle.router_rules.specs.Inputs.{Change, only_heard, ErrSend, OfPath, OfResv}
 use Rattle.router_rules.specs.Known.{Lane, came_by}
 use Rattle.router_rules.specs.NodeConfig.{NodeConfig, goes_out, own, is_addr, wall_lifetime}

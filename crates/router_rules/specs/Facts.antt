@@ -16,8 +16,7 @@ use Rattle.rsvp_base.specs.TokenBucket.{TokenBucket}
 use Rattle.rsvp_base.specs.Under.{under}
 use Rattle.style_rules.specs.declared.wall.Wall.{Wall}
 use Rattle.style_rules.specs.Lines.{next_hops, line_keys}
-use Rattle.router_rules.specs.declared.target.Target.{Target}
-use Rattle.router_rules.specs.Targets.{targets}
+use Rattle.style_rules.specs.Targets.{wall_keys}
 
 -- ---- keys
 abbrev pub SenderKey : Type 0
@@ -31,12 +30,6 @@ WantKey = Session × UnitOf
 
 abbrev pub want_keys : Keys WantKey
 want_keys = pairs sessions units
-
-abbrev pub WallKey : Type 0
-WallKey = Session × Target
-
-abbrev pub wall_keys : Keys WallKey
-wall_keys = pairs sessions targets
 
 -- ---- facts
 -- path state of a sender (PSB): the interface by which its Path came, the node that sent it, what the sender sends, E_Police

@@ -14,8 +14,8 @@ use Rattle.rsvp_base.specs.Sets.{cut, is_none}
 use Rattle.rsvp_base.specs.Table.{has}
 use Rattle.flow_merge.specs.FlowOrder.{flow_le}
 use Rattle.style_rules.specs.Lines.{NextHop}
-use Rattle.style_rules.specs.Lines.{EntryKey as BookKey}
-use Rattle.style_rules.specs.Styles.{name_of}
+use Rattle.rsvp_base.specs.declared.entry_key.EntryKey.{EntryKey}
+use Rattle.rsvp_base.specs.Styles.{name_of}
 use Rattle.router_rules.specs.declared.entry.Entry.{Entry}
 use Rattle.router_rules.specs.declared.entry.Police.{Police}
 use Rattle.router_rules.specs.Books.{book}
@@ -39,15 +39,15 @@ beside f s st i u part = filter (is_beside i u part) (resvs_in st f s).rows
 
 module _ (p : NodeConfig) (f : Facts) (i : ℕ) where
   -- E: a sender asked for it. M: senders are merged. B: another reservation has a flow for which the entry's cannot stand
-  abbrev pub police_at : BookKey → Part → Police
+  abbrev pub police_at : EntryKey → Part → Police
   police_at k part = record {
-    e = list_any (λ x. x.1.police) (matching p f k.0 k.1.0 i part);
-    m = not (is_style k.1.0 Fixed) && nat_lt 1 (length (matching p f k.0 k.1.0 i part));
-    b = list_any (λ r. not (flow_le r.1.part.flow part.flow)) (beside f k.0 k.1.0 i k.1.1 part);
+    e = list_any (λ x. x.1.police) (matching p f k.session k.style i part);
+    m = not (is_style k.style Fixed) && nat_lt 1 (length (matching p f k.session k.style i part));
+    b = list_any (λ r. not (flow_le r.1.part.flow part.flow)) (beside f k.session k.style i k.unit part);
   }
 
-  abbrev pub entry_at : BookKey × Part → Entry
-  entry_at e = record { key = record { session = e.0.0; style = e.0.1.0; unit = e.0.1.1 }; part = e.1; police = police_at e.0 e.1 }
+  abbrev pub entry_at : EntryKey × Part → Entry
+  entry_at e = record { key = e.0; part = e.1; police = police_at e.0 e.1 }
 
   -- the entries of an interface's book, by session, style and unit
   abbrev pub entries_at : List Entry

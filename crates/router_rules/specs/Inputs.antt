@@ -18,7 +18,8 @@ use Rattle.rsvp_messages.specs.declared.message.ResvErrMsg.{ResvErrMsg}
 use Rattle.rsvp_messages.specs.declared.message.ResvConfMsg.{ResvConfMsg}
 use Rattle.style_rules.specs.Lines.{LineKey}
 use Rattle.router_rules.specs.declared.answers.Heard.{Heard}
-use Rattle.router_rules.specs.Facts.{Facts, SenderKey, WallKey, PathState, ResvState, Blockade}
+use Rattle.router_rules.specs.Facts.{Facts, SenderKey, PathState, ResvState, Blockade}
+use Rattle.style_rules.specs.Targets.{WallKey}
 
 -- ---- inputs
 -- what the bytes of a datagram are

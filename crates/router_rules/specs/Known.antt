@@ -10,7 +10,7 @@ use Rattle.rsvp_base.specs.Orders.{sessions, styles, Names}
 use Rattle.rsvp_base.specs.Sets.{Set, set_of, union}
 use Rattle.rsvp_base.specs.Table.{Table, keys, kept, changed}
 use Rattle.style_rules.specs.Lines.{NextHop, next_hops}
-use Rattle.style_rules.specs.Styles.{name_of}
+use Rattle.rsvp_base.specs.Styles.{name_of}
 use Rattle.router_rules.specs.Facts.{Facts, PathState, SenderKey, senders_in, paths_in}
 use Rattle.router_rules.specs.NodeConfig.{is_addr}
 

@@ -1,4 +1,3 @@
-pub mod Targets
 pub mod Facts
 pub mod NodeConfig
 pub mod Known

@@ -17,8 +17,9 @@ use Rattle.style_rules.specs.Merge.{PartTable}
 use Rattle.style_rules.specs.Parts.{part_of, part_cut}
 use Rattle.style_rules.specs.Toward.{Request, is_walled}
 use Rattle.style_rules.specs.Toward.{toward as merged_toward}
-use Rattle.router_rules.specs.declared.target.Target.TheVariants as target
-use Rattle.router_rules.specs.Facts.{Facts, ResvState, Want, Blockade, WallKey, Walls, resvs_in, wants_in}
+use Rattle.style_rules.specs.declared.target.Target.TheVariants as target
+use Rattle.router_rules.specs.Facts.{Facts, ResvState, Want, Blockade, Walls, resvs_in, wants_in}
+use Rattle.style_rules.specs.Targets.{WallKey}
 use Rattle.router_rules.specs.Known.{Lane, names_via, names_via_where}
 use Rattle.router_rules.specs.NodeConfig.{NodeConfig, goes_out}
 

@@ -1,8 +1,7 @@
 //! Entries of a router's book.
 ghost use Rattle.std.specs.Prelude.{◌≡◌};
 
-use admission_book::EntryKey;
-use rsvp_base::Part;
+use rsvp_base::{EntryKey, Part};
 
 /// The flags with which a reservation is handed to traffic control (RFC 2205, 3.8; RFC 2209, 2: E_Police, M_Police,
 /// B_Police).

@@ -11,9 +11,7 @@ pub mod bounds;
 mod entry;
 pub mod fronts;
 mod route;
-mod target;
 
 pub use answers::{Heard, LocalErr, StaleErr, Why};
 pub use entry::{Entry, Police};
 pub use route::Route;
-pub use target::Target;

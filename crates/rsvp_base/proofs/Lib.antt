@@ -13,3 +13,6 @@ pub mod Changes
 pub mod Together
 pub mod Fronts
 pub mod SessionCounts
+pub mod Changed
+pub mod Filters
+pub mod Sizes

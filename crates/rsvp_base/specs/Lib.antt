@@ -4,6 +4,7 @@ pub mod Under
 pub mod Sets
 pub mod Orders
 pub mod Rising
+pub mod Styles
 pub mod Rates
 pub mod TokenBucket
 pub mod Members

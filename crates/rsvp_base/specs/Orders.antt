@@ -1,10 +1,11 @@
--- The orders of addresses, sessions, senders, styles and units.
+-- The orders of addresses, sessions, senders, styles, units and entries of a book.
 use Rattle.std.specs.Prelude.{◌≡◌, ℕ, List, Option, Some, None, refl}
 use Rattle.std.proofs.Common.{ap, arith}
 use Rattle.std.specs.Coded.{Coded, code_by, coded×, coded_ℕ}
 use Rattle.rsvp_base.specs.Keys.{Keys, numbers, by, pairs, options}
 use Rattle.rsvp_base.specs.Sets.{Set, set_of, set_code}
 use Rattle.rsvp_base.specs.declared.addr.Addr.{Addr}
+use Rattle.rsvp_base.specs.declared.entry_key.EntryKey.{EntryKey}
 use Rattle.rsvp_base.specs.declared.session.Session.{Session}
 use Rattle.rsvp_base.specs.declared.session.Sender.{Sender}
 use Rattle.rsvp_base.specs.declared.style.StyleKind.{StyleKind}
@@ -67,6 +68,13 @@ unit_apart (Of s) (Of t) e = let same : s ≡ t = cc in ap Of same
 -- the one unit before each sender's, and these by sender
 abbrev pub units : Keys UnitOf
 units = by unit_sender unit_apart (options senders)
+
+-- entries of a book by session, style and unit
+pub entry_apart : (a b : EntryKey) → ◌≡◌ {A = Session × (StyleKind × UnitOf)} (a.session, (a.style, a.unit)) (b.session, (b.style, b.unit)) → a ≡ b
+entry_apart a b e = λ i. record { session = (e i).0; style = (e i).1.0; unit = (e i).1.1 }
+
+abbrev pub entry_keys : Keys EntryKey
+entry_keys = by (λ (k : EntryKey). (k.session, (k.style, k.unit))) entry_apart (pairs sessions (pairs styles units))
 
 -- ---- sets of senders
 abbrev pub Names : Type 0

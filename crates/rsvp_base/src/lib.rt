@@ -1,4 +1,5 @@
-//! Values that every layer shares: addresses, sessions, senders, hops, errors, rates, flows and parts of reservations.
+//! Values that every layer shares: addresses, sessions, senders, hops, interfaces, errors, rates, flows,
+//! parts of reservations and the keys of a book's entries.
 //!
 //! Each value is what RFC 2205 and RFC 2210 mean by it, and a caller sees nothing else of it: a `Rate` is a number, a
 //! `Flow` a token bucket, `Senders` a finite set. No call takes memory.
@@ -7,22 +8,27 @@
 #![tactic(auto)]
 
 mod addr;
+mod entry_key;
 mod err_spec;
 mod flow;
 mod hop;
+mod iface;
 mod part;
 mod rate;
 mod room;
 mod senders;
 mod session;
+pub mod sorted;
 mod style;
 #[cfg(test)]
 mod tests;
 
 pub use addr::Addr;
+pub use entry_key::EntryKey;
 pub use err_spec::ErrSpec;
 pub use flow::{Flow, Peak};
 pub use hop::Hop;
+pub use iface::Iface;
 pub use part::Part;
 pub use rate::Rate;
 pub use room::{Full, NoMemory};

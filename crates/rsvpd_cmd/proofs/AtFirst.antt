@@ -11,7 +11,7 @@ use Rattle.rsvp_base.specs.TokenBucket.{TokenBucket}
 use Rattle.rsvp_base.proofs.Tables.{either, then_do, get-put_in, get-changed, got_changed, same_table}
 use Rattle.admission_book.specs.Book.{Bookings, Entries}
 use Rattle.admission_book.specs.EntryKeys.{places}
-use Rattle.admission_book.specs.declared.key.EntryKey.{EntryKey}
+use Rattle.rsvp_base.specs.declared.entry_key.EntryKey.{EntryKey}
 use Rattle.net_script.specs.Grammar.{Plan}
 use Rattle.net_script.specs.Bookings.{node_of, entry_of, entries_on, bookings_on, AreBooks}
 use Rattle.net_script.specs.declared.script.End.{End}

@@ -10,8 +10,9 @@ use Rattle.rsvp_base.specs.declared.part.Part.{Part}
 use Rattle.rsvp_base.proofs.Tables.{get-changed, then_do, same_table}
 use Rattle.rsvp_base.proofs.UnderLaws.{get-under}
 use Rattle.admission_book.specs.Charges.{charges}
-use Rattle.admission_book.specs.EntryKeys.{entry_keys, places}
-use Rattle.admission_book.specs.declared.key.EntryKey.{EntryKey}
+use Rattle.admission_book.specs.EntryKeys.{places}
+use Rattle.rsvp_base.specs.Orders.{entry_keys}
+use Rattle.rsvp_base.specs.declared.entry_key.EntryKey.{EntryKey}
 use Rattle.rsvpd_cmd.specs.Expiry.{living_flow, living_entries}
 use Rattle.rsvpd_cmd.specs.Facts.{Fact, Facts, living_part, book_at}
 use Rattle.report_texts.specs.Texts.{held_of}

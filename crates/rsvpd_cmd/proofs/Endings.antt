@@ -2,7 +2,7 @@
 use Rattle.std.specs.Prelude.{◌≡◌, ℕ, List, Option, Some, None, ◌++◌}
 use Rattle.std.specs.Io.KnownBytes.{Consumes, IsAtEnd}
 use Rattle.std.proofs.Common.{inl, ap, sym, ◌∙◌, append-nil}
-use Rattle.net_script.specs.declared.fault.LineErr.{LineErr}
+use Rattle.script_words.specs.declared.fault.LineErr.{LineErr}
 use Rattle.net_script.proofs.Scripts.{script_or_bad, one_bad_line_law as one_script_line_law}
 use Rattle.net_script.specs.Lines.{text_lines}
 use Rattle.message_show.proofs.Shown.{all_right, bad_is_not_right_law, one_bad_line_law}

@@ -10,7 +10,7 @@ use Rattle.rsvp_base.specs.TokenBucket.{TokenBucket}
 use Rattle.rsvp_base.proofs.Tables.{either, tied_same, tied_self, none_above, get-without, get-changed, then_do, same_table}
 use Rattle.admission_book.specs.Book.{Entries}
 use Rattle.admission_book.specs.EntryKeys.{places}
-use Rattle.admission_book.specs.declared.key.EntryKey.{EntryKey}
+use Rattle.rsvp_base.specs.declared.entry_key.EntryKey.{EntryKey}
 use Rattle.rsvpd_cmd.specs.Expiry.{HasLiving, living_flow, living_entries}
 use Rattle.rsvpd_cmd.specs.Facts.{Fact, Facts}
 

@@ -9,8 +9,9 @@ use Rattle.rsvp_base.specs.declared.part.Part.{Part}
 use Rattle.rsvp_base.proofs.Tables.{then_do, get-changed, got_changed, get-kept, same_table}
 use Rattle.rsvp_base.proofs.UnderLaws.{get-under}
 use Rattle.admission_book.specs.Charges.{charges}
-use Rattle.admission_book.specs.EntryKeys.{entry_keys, places}
-use Rattle.admission_book.specs.declared.key.EntryKey.{EntryKey}
+use Rattle.admission_book.specs.EntryKeys.{places}
+use Rattle.rsvp_base.specs.Orders.{entry_keys}
+use Rattle.rsvp_base.specs.declared.entry_key.EntryKey.{EntryKey}
 use Rattle.admission_book.proofs.ChargeLaws.{charges_kept_at_most}
 use Rattle.net_script.specs.Bookings.{IsPlaced, entries_on}
 use Rattle.net_script.specs.Grammar.{Plan, IsScript}

@@ -3,8 +3,8 @@ use Rattle.std.specs.Prelude.{◌≡◌, ℕ, ◌<◌, ◌≤◌, true, false, L
 use Rattle.std.proofs.Common.{zero, suc, ap, ◌∙◌, arith, get_or, take, drop, ltb, leb, ltb-true, ltb-false, leb-true, leb-false}
 use Rattle.std.specs.List.Sorted.{IsNonDecreasingBy, IsPartitionPoint}
 use Rattle.rsvp_base.proofs.Together.{numbers_rise, rows_of, rows_cons, none_past, tied, untied}
-use Rattle.admission_book.specs.EntryKeys.{entry_keys}
-use Rattle.admission_book.specs.declared.key.EntryKey.{EntryKey}
+use Rattle.rsvp_base.specs.Orders.{entry_keys}
+use Rattle.rsvp_base.specs.declared.entry_key.EntryKey.{EntryKey}
 use Rattle.rsvpd_cmd.specs.declared.kept.Kept.{Kept}
 use Rattle.rsvpd_cmd.specs.Facts.{Fact}
 use Rattle.rsvpd_cmd.specs.Ledgers.{row_of, entry_of, IsInOrder}

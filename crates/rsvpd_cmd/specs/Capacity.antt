@@ -3,7 +3,7 @@ use Rattle.std.specs.Prelude.{◌≡◌, ℕ, ◌≤◌, Some}
 use Rattle.std.specs.List.{All}
 use Rattle.rsvp_base.specs.Table.{get}
 use Rattle.rsvp_base.specs.declared.part.Part.{Part}
-use Rattle.admission_book.specs.declared.key.EntryKey.{EntryKey}
+use Rattle.rsvp_base.specs.declared.entry_key.EntryKey.{EntryKey}
 use Rattle.net_script.specs.Grammar.{Plan}
 use Rattle.net_script.specs.declared.script.End.{End}
 use Rattle.rsvpd_cmd.specs.Facts.{book_at}

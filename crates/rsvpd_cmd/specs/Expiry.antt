@@ -3,7 +3,7 @@ use Rattle.std.specs.Prelude.{◌≡◌, ℕ, ◌<◌, Option, None, Some, nat_l
 use Rattle.rsvp_base.specs.Table.{changed, get}
 use Rattle.rsvp_base.specs.TokenBucket.{TokenBucket}
 use Rattle.admission_book.specs.Book.{Entries}
-use Rattle.admission_book.specs.declared.key.EntryKey.{EntryKey}
+use Rattle.rsvp_base.specs.declared.entry_key.EntryKey.{EntryKey}
 use Rattle.rsvpd_cmd.specs.Facts.{Fact, Facts}
 
 -- the flows of the facts that live at a moment

@@ -5,8 +5,9 @@ use Rattle.rsvp_base.specs.Keys.{numbers}
 use Rattle.rsvp_base.specs.Table.{Table, empty, with_rows, changed}
 use Rattle.rsvp_base.specs.Under.{under}
 use Rattle.rsvp_base.specs.declared.part.Part.{Part}
-use Rattle.admission_book.specs.EntryKeys.{entry_keys, places}
-use Rattle.admission_book.specs.declared.key.EntryKey.{EntryKey}
+use Rattle.admission_book.specs.EntryKeys.{places}
+use Rattle.rsvp_base.specs.Orders.{entry_keys}
+use Rattle.rsvp_base.specs.declared.entry_key.EntryKey.{EntryKey}
 use Rattle.net_script.specs.Bookings.{entry_key_of, iface_of, node_of}
 use Rattle.net_script.specs.declared.script.Stale.{Stale}
 use Rattle.net_script.specs.declared.script.Stale.TheVariants.{Resv}

@@ -6,8 +6,8 @@ use Rattle.rsvp_base.specs.Table.{table_code}
 use Rattle.rsvp_base.specs.declared.part.Part.{Part}
 use Rattle.rsvp_base.specs.contracts.part.Part as part
 use Rattle.admission_book.specs.EntryKeys.{places}
-use Rattle.admission_book.specs.contracts.key.EntryKey as key
-use Rattle.admission_book.specs.declared.key.EntryKey.{EntryKey}
+use Rattle.rsvp_base.specs.contracts.entry_key.EntryKey as key
+use Rattle.rsvp_base.specs.declared.entry_key.EntryKey.{EntryKey}
 use Rattle.rsvpd_cmd.specs.Facts.{Fact, Facts}
 use Rattle.rsvpd_cmd.specs.declared.kept.Kept.{Kept}
 

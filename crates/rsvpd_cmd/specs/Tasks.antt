@@ -4,7 +4,7 @@ use Rattle.command_words.specs.Orders.{order_of}
 use Rattle.command_words.specs.declared.order.Order.{Order}
 use Rattle.command_words.specs.declared.order.Order.TheVariants as order
 use Rattle.net_script.specs.Grammar.{Plan, IsScript, IsBadLine}
-use Rattle.net_script.specs.declared.fault.LineErr.{LineErr}
+use Rattle.script_words.specs.declared.fault.LineErr.{LineErr}
 use Rattle.message_show.specs.ShowLines.{AreRight, IsBadDigits, IsShown}
 use Rattle.rsvpd_cmd.specs.Run.{run_text}
 use Rattle.rsvpd_cmd.specs.declared.task.Task.{Task}

@@ -1,8 +1,7 @@
 //! Left-over reservations.
 ghost use Rattle.std.specs.Prelude.{◌≡◌, nat_lt};
 
-use admission_book::EntryKey;
-use rsvp_base::Part;
+use rsvp_base::{EntryKey, Part};
 
 /// A left-over reservation: its interface, the entry that it makes there, what is reserved, and the moment of its death in
 /// milliseconds.

@@ -4,12 +4,12 @@ ghost use Rattle.std.specs.Result.{ForOk, ForErr};
 ghost use Rattle.std.specs.FinMap.Entries.{put};
 ghost use Rattle.rsvp_base.specs.Keys.{numbers};
 ghost use Rattle.rsvp_base.specs.Under.{rows_under};
-ghost use Rattle.admission_book.specs.EntryKeys.{entry_keys, places};
+ghost use Rattle.admission_book.specs.EntryKeys.{places};
+ghost use Rattle.rsvp_base.specs.Orders.{entry_keys};
 ghost use Rattle.rsvpd_cmd.specs.Ledgers.{row_of, entry_of, fact_kept, IsInOrder, StandsAt, GoesTo};
 
 use crate::kept::Kept;
-use admission_book::EntryKey;
-use rsvp_base::NoMemory;
+use rsvp_base::{EntryKey, NoMemory};
 use std::alloc::Global;
 use std::cmp::Ordering;
 use std::marker::Model;

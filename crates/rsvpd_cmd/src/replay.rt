@@ -4,7 +4,7 @@ ghost use Rattle.net_script.specs.Grammar.{plan_of};
 ghost use Rattle.rsvp_base.specs.Keys.{numbers};
 ghost use Rattle.rsvp_base.specs.Under.{under};
 ghost use Rattle.admission_book.specs.Charges.{charges};
-ghost use Rattle.admission_book.specs.EntryKeys.{entry_keys};
+ghost use Rattle.rsvp_base.specs.Orders.{entry_keys};
 ghost use Rattle.rsvpd_cmd.specs.Ledgers.{entry_of};
 ghost use Rattle.rsvpd_cmd.specs.Nodes.{IsBooked, IsExpired, holdings_in, node_at};
 ghost use Rattle.rsvpd_cmd.specs.Run.{clock_after, end_text, event_text, report_text, run_text, text_from};

@@ -1,6 +1,7 @@
 pub mod Steps
 pub mod Parts
 pub mod Lines
+pub mod LineFaults
 pub mod Words
 pub mod Numbers
 pub mod Names

@@ -1,5 +1,5 @@
 -- Lines of a text.
-use Rattle.std.specs.Prelude.{ℕ, List, [], ◌∷◌, ◌==◌, length, if◌then◌else◌}
+use Rattle.std.specs.Prelude.{ℕ, ◌+◌, ◌-◌, ◌^◌, min, List, [], ◌∷◌, ◌==◌, length, if◌then◌else◌}
 use Rattle.script_words.specs.Parts.{parts_of}
 
 -- without the last part where that is empty
@@ -11,3 +11,7 @@ without_empty_last (line ∷ next ∷ more) = line ∷ without_empty_last (next 
 -- the lines of a text, each ended by a line feed that the last one may lack
 abbrev pub text_lines : List ℕ → List (List ℕ)
 text_lines text = without_empty_last (parts_of 10 text)
+
+-- line numbers count from 1, and stand still at the end of their type
+abbrev pub line_number : ℕ → ℕ
+line_number before = min (before + 1) (2 ^ 32 - 1)

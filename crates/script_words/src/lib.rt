@@ -4,9 +4,12 @@
 //! a reader answers `None` where the word has not the form of its kind, and else the numbers that stand in it, whatever
 //! their size. Then their range, which gives a value of `rsvp_base`. Each step is exactly its definition in `specs/`.
 //! Words are read where they lie: only lists of addresses and of senders, and the list of a line's words, take memory.
+//!
+//! `LineErr` says which line of a text is bad, and why.
 #![tactic(auto)]
 
 mod address;
+mod fault;
 mod flow;
 mod lines;
 mod name;
@@ -21,6 +24,7 @@ mod unread;
 mod words;
 
 pub use address::{addresses, is_group, is_host};
+pub use fault::{LineErr, LineWhy, ParseErr};
 pub use lines::next_line;
 pub use name::EndName;
 pub use numbers::number;

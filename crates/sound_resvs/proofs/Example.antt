@@ -15,7 +15,7 @@ use Rattle.rsvp_base.proofs.Members.{all_in}
 use Rattle.rsvp_base.proofs.SetLaws.{and_both}
 use Rattle.style_rules.specs.Limits.{IsWithinLimits}
 use Rattle.style_rules.specs.Lines.{held}
-use Rattle.style_rules.specs.Styles.{name_of}
+use Rattle.rsvp_base.specs.Styles.{name_of}
 use Rattle.calm_rounds.proofs.Holding.{hold_map}
 use Rattle.router_rules.specs.Facts.{Facts, SenderKey, no_facts, resvs_of, sender_keys}
 use Rattle.router_rules.specs.Inputs.{Stale, StaleResv}

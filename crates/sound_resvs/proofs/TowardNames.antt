@@ -14,7 +14,7 @@ use Rattle.rsvp_base.proofs.SetLaws.{and_both, has-cut, within_union_left}
 use Rattle.style_rules.specs.CutLaws.{some_within, made_of, made_named, cut_of}
 use Rattle.style_rules.specs.PartLaws.{union_least}
 use Rattle.style_rules.specs.Parts.{has_name, IsOfStyle}
-use Rattle.style_rules.specs.Styles.{name_of}
+use Rattle.rsvp_base.specs.Styles.{name_of}
 use Rattle.style_rules.specs.Toward.{Request}
 use Rattle.style_rules.proofs.Claims.{merge_keeps_the_style}
 use Rattle.style_rules.proofs.StyleLaws.{wild_parts, cut_of_style}

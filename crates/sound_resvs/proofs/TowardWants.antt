@@ -22,7 +22,8 @@ use Rattle.flow_merge.proofs.Lattice.{at_most_itself}
 use Rattle.style_rules.specs.CutLaws.{some_name, some_within, made_of, part_of_some, cut_of}
 use Rattle.style_rules.specs.Merge.{merge, PartTable}
 use Rattle.style_rules.specs.PartLaws.{part_at_most_told, part_at_most_tested, part_at_most_along, part_join_least, part_meet_below_join}
-use Rattle.style_rules.specs.Parts.{has_name, part_of, part_cut, part_unit, part_join, part_meet, IsPartAtMost, IsOfStyle}
+use Rattle.style_rules.specs.Parts.{has_name, part_of, part_cut, part_join, part_meet, IsPartAtMost, IsOfStyle}
+use Rattle.rsvp_base.specs.Styles.{part_unit}
 use Rattle.style_rules.specs.Toward.{Request, IsRequestOf}
 use Rattle.style_rules.proofs.Merges.{merge_above}
 use Rattle.style_rules.proofs.StyleLaws.{unit_name, within_unit, cut_of_style}

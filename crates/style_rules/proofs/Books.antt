@@ -5,12 +5,14 @@ use Rattle.rsvp_base.specs.declared.part.Part.{Part}
 use Rattle.rsvp_base.specs.Table.{get}
 use Rattle.rsvp_base.proofs.Members.{in_filter, to_filter}
 use Rattle.style_rules.specs.Parts.{part_charge, IsPartAtMost}
-use Rattle.style_rules.specs.Lines.{Line, EntryKey, entry_keys, entry_key, merged_book, at_end, book_of_end, held, IsUnder, AreUnder}
+use Rattle.style_rules.specs.Lines.{Line, entry_key, merged_book, at_end, book_of_end, held, IsUnder, AreUnder}
+use Rattle.rsvp_base.specs.Orders.{entry_keys}
+use Rattle.rsvp_base.specs.declared.entry_key.EntryKey.{EntryKey}
 use Rattle.style_rules.specs.PartLaws.{charge_below}
 use Rattle.style_rules.proofs.Merges.{merge_below, sums_below}
 
 same_entry : (l g : Line) → IsUnder l g → entry_key l ≡ entry_key g
-same_entry l g h = λ i. ((h.key i).0, (h.style i, (h.key i).1.1))
+same_entry l g h = λ i. record { session = (h.key i).0; style = h.style i; unit = (h.key i).1.1 }
 
 pub under_at_end : (e : ℕ) (ls gs : List Line) → AreUnder ls gs → AreUnder (at_end e ls) (at_end e gs)
 under_at_end e ls gs h l i =

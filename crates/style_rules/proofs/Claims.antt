@@ -6,18 +6,20 @@ use Rattle.rsvp_base.specs.declared.part.Part.{Part}
 use Rattle.rsvp_base.specs.declared.session.Sender.{Sender}
 use Rattle.rsvp_base.specs.declared.style.StyleKind.{StyleKind}
 use Rattle.rsvp_base.specs.declared.style.Unit.{Unit as UnitOf}
-use Rattle.rsvp_base.specs.Orders.{Names, senders, units}
+use Rattle.rsvp_base.specs.Orders.{Names, senders, units, entry_keys}
 use Rattle.rsvp_base.specs.Sets.{union, cut, is_none}
 use Rattle.rsvp_base.specs.Table.{get, has}
 use Rattle.rsvp_base.proofs.SetLaws.{has-cut, and_both, and_made}
 use Rattle.rsvp_base.proofs.Tables.{either}
 use Rattle.flow_merge.specs.FlowOrder.{IsAtMost}
-use Rattle.style_rules.specs.Parts.{part_join, part_meet, IsPartAtMost, part_unit, IsOfStyle}
+use Rattle.style_rules.specs.Parts.{part_join, part_meet, IsPartAtMost, IsOfStyle}
+use Rattle.rsvp_base.specs.Styles.{part_unit}
 use Rattle.style_rules.specs.PartLaws.{part_at_most_apart, part_at_most_itself, part_at_most_along, part_at_most_both_ways, part_join_above_left, part_join_above_right, part_join_least, charge_below, most_below, part_at_most_told, part_at_most_tested}
 use Rattle.style_rules.specs.CutLaws.{cut_none, cut_senders, cut_flow, cut_below, cut_monotone, cut_of_cut, cut_of_nothing, name_some}
 use Rattle.style_rules.specs.Merge.{merge, PartTable, IsPartOf, IsMergeOf}
 use Rattle.style_rules.specs.Toward.{Request, toward, IsRequestOf}
-use Rattle.style_rules.specs.Lines.{Line, EntryKey, entry_keys, entry_key, merged_book, at_end, AreUnder}
+use Rattle.style_rules.specs.Lines.{Line, entry_key, merged_book, at_end, AreUnder}
+use Rattle.rsvp_base.specs.declared.entry_key.EntryKey.{EntryKey}
 use Rattle.style_rules.specs.Laws.{AtMostIsAnOrder, AtMostByNamesAndFlow, JoinIsTheLeastAbove, CutByNames, CutIsBelowAndMonotone, CutOfACut, ChargeAndMostAreMonotone, MergeIsTheLeastAboveItsNamedParts, MergeKeepsTheStyle, TowardIsAtMostTheMerge, TowardIsAtLeastTheMeet, TowardIsTheJoinOfTheOpen, PartsOfAStyle, MergeBelow, SumsBelow, TestsTell}
 use Rattle.style_rules.proofs.StyleLaws.{a_name, cut_of_style, cut_keeps_unit, united_style, united_unit, wild_parts, fixed_parts, shared_parts}
 use Rattle.style_rules.proofs.Merges.{merge_source, merge_above, merge_least, merge_alone, merge_keeps, merges_same, get-merge_of}

@@ -17,8 +17,8 @@ use Rattle.rsvp_base.proofs.Rows.{are_rows, rows_are, size_rows, get_found, get_
 use Rattle.rsvp_base.proofs.SetLaws.{union_assoc, size_within, within_union_left, within_union_right}
 use Rattle.rsvp_base.proofs.Members.{in_left, in_right, in_append, in_each, to_each}
 use Rattle.style_rules.specs.declared.row.Row.{Row}
-use Rattle.style_rules.specs.Styles.{unit_of, unit_of_first}
-use Rattle.style_rules.specs.Parts.{has_name, part_unit}
+use Rattle.rsvp_base.specs.Styles.{unit_of, unit_of_first, part_unit}
+use Rattle.style_rules.specs.Parts.{has_name}
 use Rattle.style_rules.specs.PartLaws.{same_names, union_least}
 use Rattle.style_rules.specs.CutLaws.{name_some}
 use Rattle.style_rules.specs.Tally.{Standing, TallyTable, stood_with, first_or_with, with_request, parts_of_tally, names_of_rows, names_of_tally, AreNamed, NamesFit}

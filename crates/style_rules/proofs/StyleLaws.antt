@@ -17,8 +17,8 @@ use Rattle.rsvp_base.proofs.Tables.{tied_same, either}
 use Rattle.rsvp_base.proofs.SetLaws.{or_either, size_within, has-union, within_union_left, cut_within}
 use Rattle.rsvp_base.proofs.Members.{in_tied, tied_in}
 use Rattle.rsvp_base.proofs.Counts.{in_set_of}
-use Rattle.style_rules.specs.Styles.{name_of, unit_of, unit_of_first}
-use Rattle.style_rules.specs.Parts.{has_name, part_cut, part_unit, IsOfStyle}
+use Rattle.rsvp_base.specs.Styles.{name_of, unit_of, unit_of_first, part_unit}
+use Rattle.style_rules.specs.Parts.{has_name, part_cut, IsOfStyle}
 use Rattle.style_rules.specs.CutLaws.{some_name, name_some, some_within, cut_of, cut_named}
 
 length_each : {A B : Type 0} (f : A → B) (xs : List A) → length (each f xs) ≡ length xs

@@ -12,7 +12,8 @@ use Rattle.rsvp_base.specs.Orders.{units}
 use Rattle.rsvp_base.specs.Table.{get, put_in}
 use Rattle.rsvp_base.proofs.Tables.{either, tied_same, get-put_in, get-changed, same_table, then_do}
 use Rattle.rsvp_base.proofs.SetLaws.{and_both}
-use Rattle.style_rules.specs.Parts.{has_name, part_join, part_meet, part_unit}
+use Rattle.style_rules.specs.Parts.{has_name, part_join, part_meet}
+use Rattle.rsvp_base.specs.Styles.{part_unit}
 use Rattle.style_rules.specs.Merge.{all_by}
 use Rattle.style_rules.specs.Toward.{Request, request_unit, parts_of, open_of, requests_at, or_else, toward}
 use Rattle.style_rules.specs.Tally.{Standing, TallyTable, standing_by, standing_at, tally_of, first_or_with, with_request, parts_of_tally}

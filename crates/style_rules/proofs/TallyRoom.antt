@@ -18,8 +18,8 @@ use Rattle.rsvp_base.proofs.SetLaws.{or_either, has-union, size_within, within_u
 use Rattle.rsvp_base.proofs.Members.{in_flat_map, to_flat_map, in_each, to_each, in_filter, all_in, in_all, in_any, any_in, in_tied}
 use Rattle.rsvp_base.proofs.Lists.{has_keys}
 use Rattle.rsvp_base.proofs.Counts.{in_found, found_in, in_set_of, set_of_in, size_below, size-set_of}
-use Rattle.style_rules.specs.Styles.{unit_of}
-use Rattle.style_rules.specs.Parts.{has_name, part_join, part_meet, part_unit}
+use Rattle.rsvp_base.specs.Styles.{unit_of, part_unit}
+use Rattle.style_rules.specs.Parts.{has_name, part_join, part_meet}
 use Rattle.style_rules.specs.Tally.{Standing, TallyTable, standing_by, standing_at, tally_of, names_of_requests, stood_with, first_or_with, names_of_rows, names_of_tally, is_named, AreNamed}
 use Rattle.style_rules.specs.Merge.{all_by}
 use Rattle.style_rules.specs.PartLaws.{union_least}

@@ -16,7 +16,8 @@ use Rattle.rsvp_base.proofs.Tables.{same_table}
 use Rattle.rsvp_base.proofs.SetLaws.{has-union}
 use Rattle.flow_merge.specs.FlowOrder.{IsAtMost, flow_join, flow_meet}
 use Rattle.flow_merge.proofs.Lattice.{at_most_itself, at_most_along, join_above_left, meet_below_left, meet_below_right}
-use Rattle.style_rules.specs.Parts.{part_join, part_meet, part_unit, part_charge, IsPartAtMost}
+use Rattle.style_rules.specs.Parts.{part_join, part_meet, part_charge, IsPartAtMost}
+use Rattle.rsvp_base.specs.Styles.{part_unit}
 use Rattle.style_rules.specs.Merge.{all_by, merge}
 use Rattle.style_rules.specs.Toward.{Request, request_unit, parts_of, open_of, requests_at, or_else, toward_at, toward, IsRequestOf, IsOpenRequestOf, flows_of, meet_at}
 use Rattle.style_rules.specs.PartLaws.{part_at_most_itself, part_at_most_along, part_join_above_left, part_join_above_right, part_join_least}

@@ -58,7 +58,7 @@ line end next p = record { style = Wild; session = session; end = end; next = re
 abbrev lines : List Line
 lines = line 1 7 (part (at 0 ∷ []) (bucket 300 600 64 1500)) ∷ line 1 8 (part (at 0 ∷ []) (bucket 500 400 128 1000)) ∷ line 2 9 (part (at 0 ∷ []) (bucket 800 1 1 1)) ∷ []
 
-book_row : (book_of_end 1 lines).rows ≡ ((session, (Wild, One)), part (at 0 ∷ []) (bucket 500 600 64 1500)) ∷ []
+book_row : (book_of_end 1 lines).rows ≡ (record { session = session; style = Wild; unit = One }, part (at 0 ∷ []) (bucket 500 600 64 1500)) ∷ []
 book_row = refl
 
 held_row : held (book_of_end 1 lines) ≡ 500

@@ -6,15 +6,17 @@ use Rattle.rsvp_base.specs.declared.style.StyleKind.{StyleKind}
 use Rattle.rsvp_base.specs.declared.style.StyleKind.TheVariants.{Wild, Fixed, Shared}
 use Rattle.rsvp_base.specs.declared.style.Unit.{Unit as UnitOf}
 use Rattle.rsvp_base.specs.Members.{In}
-use Rattle.rsvp_base.specs.Orders.{Names}
+use Rattle.rsvp_base.specs.Orders.{Names, entry_keys}
 use Rattle.rsvp_base.specs.Sets.{union, cut, IsWithin}
 use Rattle.rsvp_base.specs.Table.{get, has, size}
 use Rattle.flow_merge.specs.FlowOrder.{IsAtMost, flow_join, flow_meet}
-use Rattle.style_rules.specs.Parts.{has_name, part_join, IsPartAtMost, part_le, part_cut, part_charge, part_unit, IsOfStyle}
+use Rattle.style_rules.specs.Parts.{has_name, part_join, IsPartAtMost, part_le, part_cut, part_charge, IsOfStyle}
+use Rattle.rsvp_base.specs.Styles.{part_unit}
 use Rattle.style_rules.specs.Merge.{merge, merge_at, all_by, PartTable, IsPartOf, IsMergeOf}
 use Rattle.style_rules.specs.Toward.{Request, parts_of, open_of, requests_at, toward_at, toward, IsRequestOf, IsOpenRequestOf, meet_at}
 use Rattle.style_rules.specs.Tally.{tally_of, names_of_requests, names_of_tally}
-use Rattle.style_rules.specs.Lines.{Line, EntryKey, entry_keys, entry_key, merged_book, book_of_end, held, AreUnder}
+use Rattle.style_rules.specs.Lines.{Line, entry_key, merged_book, book_of_end, held, AreUnder}
+use Rattle.rsvp_base.specs.declared.entry_key.EntryKey.{EntryKey}
 use Rattle.style_rules.specs.Limits.{within_limits, IsWithinLimits}
 
 -- ---- the order

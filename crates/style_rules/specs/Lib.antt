@@ -1,4 +1,3 @@
-pub mod Styles
 pub mod Parts
 pub mod PartLaws
 pub mod CutLaws
@@ -8,6 +7,7 @@ pub mod Lines
 pub mod Limits
 pub mod Ways
 pub mod Same
+pub mod Targets
 pub mod Tally
 pub mod TallyRows
 pub mod Laws

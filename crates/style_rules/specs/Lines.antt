@@ -4,6 +4,7 @@ use Rattle.std.specs.Prelude.{◌≡◌, ℕ, ◌==◌, Bool, ◌&&◌, List, su
 use Rattle.std.specs.List.{filter}
 use Rattle.std.specs.Ordering.{eq_by_cmp}
 use Rattle.rsvp_base.specs.declared.addr.Addr.{Addr}
+use Rattle.rsvp_base.specs.declared.entry_key.EntryKey.{EntryKey}
 use Rattle.rsvp_base.specs.declared.part.Part.{Part}
 use Rattle.rsvp_base.specs.declared.session.Session.{Session}
 use Rattle.rsvp_base.specs.declared.style.StyleKind.{StyleKind}
@@ -11,7 +12,7 @@ use Rattle.rsvp_base.specs.declared.style.Unit.{Unit as UnitOf}
 use Rattle.rsvp_base.specs.Keys.{Keys, numbers, pairs}
 use Rattle.rsvp_base.specs.Members.{In}
 use Rattle.rsvp_base.specs.Table.{Table}
-use Rattle.rsvp_base.specs.Orders.{addrs, sessions, styles, units}
+use Rattle.rsvp_base.specs.Orders.{addrs, sessions, units, entry_keys}
 use Rattle.style_rules.specs.Parts.{IsPartAtMost, part_charge}
 use Rattle.style_rules.specs.Merge.{merge_of}
 
@@ -49,15 +50,9 @@ line_key l = (l.session, (next_hop l, l.unit))
 abbrev pub is_of_hop : Session → NextHop → LineKey → Bool
 is_of_hop s hop k = eq_by_cmp sessions.cmp s k.0 && eq_by_cmp next_hops.cmp hop k.1.0
 
--- an entry of a book: its session, style and unit
-abbrev pub EntryKey : Type 0
-EntryKey = Session × (StyleKind × UnitOf)
-
-abbrev pub entry_keys : Keys EntryKey
-entry_keys = pairs sessions (pairs styles units)
-
+-- the entry of a book that it is merged into
 abbrev pub entry_key : Line → EntryKey
-entry_key l = (l.session, (l.style, l.unit))
+entry_key l = record { session = l.session; style = l.style; unit = l.unit }
 
 -- ---- the book
 abbrev pub BookTable : Type 0

@@ -10,7 +10,8 @@ use Rattle.rsvp_base.specs.Keys.{Keys}
 use Rattle.rsvp_base.specs.Members.{In}
 use Rattle.rsvp_base.specs.Table.{Table, empty, get, put_in}
 use Rattle.rsvp_base.specs.Orders.{units}
-use Rattle.style_rules.specs.Parts.{has_name, part_join, part_unit}
+use Rattle.style_rules.specs.Parts.{has_name, part_join}
+use Rattle.rsvp_base.specs.Styles.{part_unit}
 
 abbrev pub put_some : {K X : Type 0} {o : Keys K} → K → Option X → Table o X → Table o X
 put_some k None m = m

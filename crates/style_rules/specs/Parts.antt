@@ -4,13 +4,12 @@ use Rattle.std.specs.List.{list_all}
 use Rattle.rsvp_base.specs.declared.part.Part.{Part}
 use Rattle.rsvp_base.specs.declared.session.Sender.{Sender}
 use Rattle.rsvp_base.specs.declared.style.StyleKind.{StyleKind}
-use Rattle.rsvp_base.specs.declared.style.Unit.{Unit as UnitOf}
 use Rattle.rsvp_base.specs.Orders.{Names}
 use Rattle.rsvp_base.specs.Sets.{union, cut, IsWithin, is_none}
 use Rattle.rsvp_base.specs.Table.{has, keys, kept}
 use Rattle.rsvp_base.specs.TokenBucket.{TokenBucket}
 use Rattle.flow_merge.specs.FlowOrder.{IsAtMost, flow_le, flow_join, flow_meet}
-use Rattle.style_rules.specs.Styles.{name_of, unit_of, unit_of_first}
+use Rattle.rsvp_base.specs.Styles.{name_of, unit_of}
 
 -- the part names someone
 abbrev pub has_name : Part → Bool
@@ -48,10 +47,6 @@ part_kept stays p = part_of (kept stays p.senders) p.flow
 -- what a part takes of a link's capacity
 abbrev pub part_charge : Part → ℕ
 part_charge p = p.flow.r
-
--- the unit under which a part stands
-abbrev pub part_unit : StyleKind → Part → UnitOf
-part_unit st p = unit_of_first st (keys p.senders)
 
 -- a part as the style has them: it names someone, by names that the style lists, and all of them have one unit
 pub record IsOfStyle (st : StyleKind) (p : Part) : Type 0 where

@@ -11,8 +11,8 @@ use Rattle.rsvp_base.specs.Codes.{unit_code, part_code}
 use Rattle.rsvp_base.specs.Orders.{units, Names}
 use Rattle.rsvp_base.specs.Sets.{set_of}
 use Rattle.rsvp_base.specs.Table.{Table, get, size, put_in, changed, keys, table_code}
-use Rattle.style_rules.specs.Styles.{unit_of}
-use Rattle.style_rules.specs.Parts.{has_name, part_join, part_meet, part_unit}
+use Rattle.rsvp_base.specs.Styles.{unit_of, part_unit}
+use Rattle.style_rules.specs.Parts.{has_name, part_join, part_meet}
 use Rattle.style_rules.specs.Merge.{table_at, all_by, PartTable}
 use Rattle.style_rules.specs.Toward.{Request, request_unit, parts_of, open_of, requests_at, or_else}
 

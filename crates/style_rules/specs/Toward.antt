@@ -11,7 +11,8 @@ use Rattle.rsvp_base.specs.TokenBucket.{TokenBucket}
 use Rattle.flow_merge.specs.Blockade.{does_blockade}
 use Rattle.flow_merge.specs.FlowOrder.{flow_meet}
 use Rattle.style_rules.specs.declared.wall.Wall.{Wall}
-use Rattle.style_rules.specs.Parts.{has_name, part_join, part_meet, part_unit}
+use Rattle.style_rules.specs.Parts.{has_name, part_join, part_meet}
+use Rattle.rsvp_base.specs.Styles.{part_unit}
 use Rattle.style_rules.specs.Merge.{table_at, all_by, those_at, PartTable}
 
 -- a blockade, where there is one, keeps such a flow back

@@ -8,13 +8,12 @@
 mod cuts;
 pub mod laws;
 mod merger;
-mod order;
 mod parts;
 mod row;
 mod style;
+mod target;
 #[cfg(test)]
 mod tests;
-mod units;
 mod upstream;
 mod wall;
 
@@ -22,6 +21,6 @@ pub use cuts::{charge, cut};
 pub use merger::Merger;
 pub use parts::Parts;
 pub use style::{Fixed, Shared, Style, Wild};
-pub use units::unit_of;
+pub use target::Target;
 pub use upstream::Upstream;
 pub use wall::{UpLine, Wall};

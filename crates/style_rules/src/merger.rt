@@ -1,17 +1,17 @@
 //! The merge of parts.
 ghost use Rattle.std.specs.Prelude.{◌≡◌, ◌≤◌, ◌↔◌, List, ◌∷◌, ◌++◌, [], map, true, false, IsTrue, IfOk, IfErr};
 ghost use Rattle.rsvp_base.specs.Orders.{units};
-ghost use Rattle.rsvp_base.specs.Rows.{AreRows, HasRowAt, LacksRowAt};
+ghost use Rattle.rsvp_base.specs.Rows.{AreRows};
 ghost use Rattle.rsvp_base.specs.Sets.{union};
 ghost use Rattle.rsvp_base.specs.Table.{size};
 ghost use Rattle.style_rules.specs.Tally.{stood_with, AreNamed, NamesFit};
 ghost use Rattle.style_rules.specs.TallyRows.{standing_of, tally_row};
 
-use crate::order::unit_order;
 use crate::parts::Parts;
 use crate::row::Row;
 use crate::style::Style;
 use arrayvec::ArrayVec;
+use rsvp_base::sorted::search;
 use rsvp_base::{Part, Unit};
 use std::marker::{Model, PhantomData};
 
@@ -43,7 +43,8 @@ impl<S: Style> Merger<S> {
     ghost use Rattle.rsvp_base.specs.declared.part.Part.{Part};
     ghost use Rattle.style_rules.specs.Merge.{merge};
     ghost use Rattle.rsvp_base.specs.Table.{get, put_in};
-    ghost use Rattle.style_rules.specs.Parts.{has_name, part_unit};
+    ghost use Rattle.style_rules.specs.Parts.{has_name};
+    ghost use Rattle.rsvp_base.specs.Styles.{part_unit};
     ghost use Rattle.style_rules.specs.Tally.{first_or_with, with_request, tally_of, parts_of_tally, names_of_tally};
     ghost use Rattle.rsvp_base.specs.declared.style.Unit.{Unit};
     ghost use Rattle.rsvp_base.specs.Members.{In};
@@ -91,7 +92,7 @@ impl<S: Style> Merger<S> {
         requires room { size (union (names_of_tally self.old) part.now.senders) ≤ 16 }
         ensures { self.new ≡ put_in self.old unit (first_or_with (get self.old unit) part.now blockaded) }
     {
-        match search(self.rows.as_slice(), unit) {
+        match search(self.rows.as_slice(), &unit) {
             Ok(place) => stand_with::<S>(&mut self.rows[place], part, blockaded),
             Err(place) => self.rows.insert(
                 place,
@@ -161,13 +162,4 @@ fn stand_with<S: Style>(row: &mut Row, part: &Part, blockaded: bool)
     } else if !row.is_open {
         row.part = S::meet(&row.part, part);
     }
-}
-
-// Where the row of the unit stands, or where it would go.
-fn search(rows: &[Row], unit: Unit) -> Result<usize, usize>
-    requires { AreRows units tally_row rows.now }
-    ensures there { IfOk result (HasRowAt units tally_row rows.now unit) }
-    ensures absent { IfErr result (LacksRowAt units tally_row rows.now unit) }
-{
-    rows.binary_search_by(|row| unit_order(row.unit, unit))
 }

@@ -2,12 +2,12 @@
 ghost use Rattle.std.specs.Prelude.{◌≡◌, ◌≤◌, ◌<◌, ◌↔◌, length, IsTrue, IsErr, OnOk, OnErr, IfOk, IfErr, slice_get};
 ghost use Rattle.std.specs.Option.{option_copied};
 ghost use Rattle.rsvp_base.specs.Orders.{units};
-ghost use Rattle.rsvp_base.specs.Rows.{AreRows, HasRowAt, LacksRowAt};
+ghost use Rattle.rsvp_base.specs.Rows.{AreRows};
 ghost use Rattle.style_rules.specs.Same.{is_part_in, parts_le};
 
-use crate::order::unit_order;
 use crate::style::le_parts;
 use arrayvec::ArrayVec;
+use rsvp_base::sorted::{put_row, search};
 use rsvp_base::{Full, Part, Unit};
 use std::marker::Model;
 
@@ -87,10 +87,8 @@ impl Parts {
     pub fn get(&self, unit: Unit) -> Option<&Part>
         ensures { option_copied result ≡ get self.now unit }
     {
-        match search(self.rows.as_slice(), unit) {
-            Ok(place) => Some(&self.rows.as_slice()[place].1),
-            Err(_) => None,
-        }
+        let place = search(self.rows.as_slice(), &unit).ok()?;
+        Some(&self.rows.as_slice()[place].1)
     }
 
     /// Puts a part in place of that of its unit. `Full` exactly where the unit is new and 16 are there; nothing changes
@@ -100,19 +98,7 @@ impl Parts {
         ensures full { IsErr result ↔ (16 < size (put_in self.old unit part)) }
         ensures err { OnErr result (self.new ≡ self.old) }
     {
-        match search(self.rows.as_slice(), unit) {
-            Ok(place) => {
-                self.rows[place] = (unit, part);
-                Ok(())
-            }
-            Err(place) => {
-                if self.rows.is_full() {
-                    return Err(Full);
-                }
-                self.rows.insert(place, (unit, part));
-                Ok(())
-            }
-        }
+        put_row(&mut self.rows, (unit, part))
     }
 
     /// Whether the other list is the same: the same units with the same parts.
@@ -158,15 +144,6 @@ fn is_in(row: &(Unit, Part), others: &Parts) -> bool
         Some(part) => le_parts(&row.1, part),
         None => false,
     }
-}
-
-// Where the unit's part stands, or where it would go.
-fn search(rows: &[(Unit, Part)], unit: Unit) -> Result<usize, usize>
-    requires { AreRows units (λ e. e) rows.now }
-    ensures there { IfOk result (HasRowAt units (λ e. e) rows.now unit) }
-    ensures absent { IfErr result (LacksRowAt units (λ e. e) rows.now unit) }
-{
-    rows.binary_search_by(|row| unit_order(row.0, unit))
 }
 
 impl Default for Parts {

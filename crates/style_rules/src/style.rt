@@ -8,7 +8,7 @@ ghost use Rattle.rsvp_base.specs.Orders.{Names};
 ghost use Rattle.rsvp_base.specs.Sets.{union, cut, IsWithin};
 ghost use Rattle.rsvp_base.specs.Table.{size};
 ghost use Rattle.flow_merge.specs.FlowOrder.{IsAtMost, flow_join, flow_meet};
-ghost use Rattle.style_rules.specs.Styles.{name_of, unit_of};
+ghost use Rattle.rsvp_base.specs.Styles.{name_of, unit_of};
 ghost use Rattle.style_rules.specs.Parts.{part_join, part_meet, IsPartAtMost, part_cut, part_charge};
 
 use rsvp_base::{Part, Sender, StyleKind, Unit};

@@ -2,12 +2,12 @@
 ghost use Rattle.std.specs.Prelude.{◌≡◌, ◌≤◌, ◌<◌, ◌↔◌, length, map, IsTrue, IsErr, OnOk, OnErr, IfOk, IfErr, slice_get};
 ghost use Rattle.std.specs.Option.{option_copied, option_map};
 ghost use Rattle.rsvp_base.specs.Orders.{senders};
-ghost use Rattle.rsvp_base.specs.Rows.{AreRows, HasRowAt, LacksRowAt};
+ghost use Rattle.rsvp_base.specs.Rows.{AreRows};
 ghost use Rattle.style_rules.specs.Ways.{way_of, line_of};
 
-use crate::order::sender_order;
 use crate::wall::UpLine;
 use arrayvec::ArrayVec;
+use rsvp_base::sorted::search;
 use rsvp_base::{Full, Sender};
 use std::marker::Model;
 
@@ -78,10 +78,8 @@ impl Upstream {
     pub fn get(&self, name: Sender) -> Option<&UpLine>
         ensures { option_copied result ≡ option_map (λ way. line_of (name, way)) (get self.now name) }
     {
-        match search(self.lines.as_slice(), name) {
-            Ok(place) => Some(&self.lines.as_slice()[place]),
-            Err(_) => None,
-        }
+        let place = search(self.lines.as_slice(), &name).ok()?;
+        Some(&self.lines.as_slice()[place])
     }
 
     /// Adds a line, in place of that of its name. `Full` exactly where the name is new and 16 are there; nothing changes
@@ -91,19 +89,16 @@ impl Upstream {
         ensures full { IsErr result ↔ (16 < size (put_in self.old (way_of line).0 (way_of line).1)) }
         ensures err { OnErr result (self.new ≡ self.old) }
     {
-        match search(self.lines.as_slice(), line.name) {
-            Ok(place) => {
-                self.lines[place] = line;
-                Ok(())
-            }
+        match search(self.lines.as_slice(), &line.name) {
+            Ok(place) => self.lines[place] = line,
             Err(place) => {
                 if self.lines.is_full() {
                     return Err(Full);
                 }
                 self.lines.insert(place, line);
-                Ok(())
             }
         }
+        Ok(())
     }
 
     /// An equal list.
@@ -116,15 +111,6 @@ impl Upstream {
         }
         Upstream { lines }
     }
-}
-
-// Where the line of the name stands, or where it would go.
-fn search(lines: &[UpLine], name: Sender) -> Result<usize, usize>
-    requires { AreRows senders way_of lines.now }
-    ensures there { IfOk result (HasRowAt senders way_of lines.now name) }
-    ensures absent { IfErr result (LacksRowAt senders way_of lines.now name) }
-{
-    lines.binary_search_by(|line| sender_order(line.name, name))
 }
 
 impl Default for Upstream {

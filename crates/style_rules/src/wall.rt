@@ -1,4 +1,5 @@
 //! What stands toward a previous hop.
+use rsvp_base::sorted::Row;
 use rsvp_base::{Flow, Sender};
 
 /// A blockade: the flow that was refused, and by the value of its refusal whether for its rate (2) or its packet size (3)
@@ -16,4 +17,18 @@ pub struct UpLine {
     pub name: Sender,
     pub outward: u16,
     pub wall: Option<Wall>,
+}
+
+impl Row for UpLine {
+    ghost use Rattle.style_rules.specs.Ways.{Way, way_of};
+
+    type Key = Sender;
+
+    ghost Rest = { Way };
+
+    ghost as_row = { way_of };
+
+    fn key(&self) -> Sender {
+        self.name
+    }
 }

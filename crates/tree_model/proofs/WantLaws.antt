@@ -20,8 +20,8 @@ use Rattle.rsvp_base.proofs.Counts.{in_found, in_set_of, set_of_in}
 use Rattle.rsvp_base.proofs.Tables.{tied_same}
 use Rattle.rsvp_base.proofs.Members.{in_each, to_each, in_filter, to_filter, in_flat_map, in_append, all_in, in_all}
 use Rattle.rsvp_base.proofs.SetLaws.{and_both, has-cut}
-use Rattle.style_rules.specs.Styles.{name_of}
-use Rattle.style_rules.specs.Parts.{part_cut, part_unit, IsOfStyle}
+use Rattle.rsvp_base.specs.Styles.{name_of, part_unit}
+use Rattle.style_rules.specs.Parts.{part_cut, IsOfStyle}
 use Rattle.style_rules.specs.PartLaws.{union_least, most_below}
 use Rattle.style_rules.specs.CutLaws.{made_of, cut_senders, part_of_none}
 use Rattle.style_rules.specs.Merge.{merge, PartTable}

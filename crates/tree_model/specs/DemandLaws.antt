@@ -11,7 +11,8 @@ use Rattle.rsvp_base.specs.declared.style.Unit.TheVariants.{Of}
 use Rattle.rsvp_base.specs.Sets.{IsWithin}
 use Rattle.rsvp_base.specs.Table.{empty, get, has, size}
 use Rattle.style_rules.specs.Merge.{PartTable}
-use Rattle.style_rules.specs.Lines.{Line, EntryKey, AreUnder, book_of_end, held}
+use Rattle.style_rules.specs.Lines.{Line, AreUnder, book_of_end, held}
+use Rattle.rsvp_base.specs.declared.entry_key.EntryKey.{EntryKey}
 use Rattle.style_rules.specs.Limits.{IsWithinLimits}
 use Rattle.tree_model.specs.declared.hops.End.{End}
 use Rattle.tree_model.specs.declared.hops.LinkHop.{LinkHop}

@@ -11,7 +11,8 @@ use Rattle.rsvp_base.specs.declared.style.StyleKind.TheVariants.{Wild, Fixed, Sh
 use Rattle.rsvp_base.specs.Orders.{sessions}
 use Rattle.rsvp_base.specs.Sets.{set_of}
 use Rattle.rsvp_base.specs.Table.{keys, get}
-use Rattle.style_rules.specs.Lines.{Line, EntryKey, BookTable, book_of_end, held}
+use Rattle.style_rules.specs.Lines.{Line, BookTable, book_of_end, held}
+use Rattle.rsvp_base.specs.declared.entry_key.EntryKey.{EntryKey}
 use Rattle.style_rules.specs.Limits.{IsWithinLimits}
 use Rattle.tree_model.specs.declared.hops.End.{End}
 use Rattle.tree_model.specs.declared.hops.LinkHop.{LinkHop}

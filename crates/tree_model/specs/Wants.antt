@@ -10,7 +10,7 @@ use Rattle.rsvp_base.specs.declared.style.StyleKind.TheVariants.{Wild, Fixed, Sh
 use Rattle.rsvp_base.specs.Orders.{sessions, styles, Names}
 use Rattle.rsvp_base.specs.Sets.{set_of}
 use Rattle.rsvp_base.specs.Table.{empty, values}
-use Rattle.style_rules.specs.Styles.{name_of}
+use Rattle.rsvp_base.specs.Styles.{name_of}
 use Rattle.style_rules.specs.Parts.{part_cut, part_of}
 use Rattle.style_rules.specs.Merge.{merge, PartTable}
 use Rattle.tree_model.specs.declared.hops.LinkHop.{LinkHop}

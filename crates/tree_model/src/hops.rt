@@ -1,6 +1,5 @@
 //! Ends and hops.
-use admission_book::Iface;
-use rsvp_base::Addr;
+use rsvp_base::{Addr, Iface};
 
 /// An end of a link: an interface of a node. Ends are numbered from 0 in the order in which they are added.
 #[derive(Clone, Copy, Debug, PartialEq, Eq)]

@@ -1,7 +1,6 @@
 //! Trees that grow and do not, a loop across trees, and what a routing answers.
 use crate::{End, HopErr, Routing, Topology};
-use admission_book::Iface;
-use rsvp_base::Addr;
+use rsvp_base::{Addr, Iface};
 use std::alloc::Global;
 use std::test::Fail;
 

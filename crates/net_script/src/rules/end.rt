@@ -8,13 +8,11 @@ ghost use Rattle.net_script.specs.Rules.{IsEndInRange, KeepsAll, EndKeeps};
 
 use super::only_declares;
 use crate::draft::{Checker, DeclaredEnd};
-use crate::fault::LineWhy;
+use script_words::{EndName, LineWhy, is_host};
 use crate::line::EndLine;
 use crate::refusal::Refusal;
 use crate::script::End;
-use admission_book::Iface;
-use rsvp_base::Addr;
-use script_words::{EndName, is_host};
+use rsvp_base::{Addr, Iface};
 use std::alloc::Global;
 
 const MOST_IFACES: usize = 16;

@@ -7,7 +7,7 @@ ghost use Rattle.net_script.specs.Rules.{KeepsAll, is_report, ReportKeeps, WaitK
 ghost use Rattle.net_script.specs.declared.script.Event.TheVariants as event;
 
 use crate::draft::Checker;
-use crate::fault::LineWhy;
+use script_words::LineWhy;
 use crate::refusal::Refusal;
 use crate::script::Event;
 

@@ -7,7 +7,7 @@ ghost use Rattle.net_script.specs.Rules.{KeepsAll, PeriodKeeps};
 
 use super::only_declares;
 use crate::draft::Checker;
-use crate::fault::LineWhy;
+use script_words::LineWhy;
 use crate::refusal::Refusal;
 
 /// The period R where no line gives one, in milliseconds (RFC 2205, 3.7).

@@ -1,7 +1,7 @@
 use Rattle.std.proofs.Common.{◌≡◌, ◌+◌, ◌∙◌, ◌<◌, map, drop, ap, refl, get_or, arith}
 use Rattle.rsvp_base.specs.Sets.{with_key, with_keys}
 use Rattle.rsvp_base.specs.declared.session.Sender.{Sender}
-use Rattle.style_rules.specs.Styles.{name_of}
+use Rattle.rsvp_base.specs.Styles.{name_of}
 use Rattle.network_demand.proofs.Pools.{insert_more, one_name}
 use Rattle.network_demand.proofs.locals.names_of.Goals as goal
 

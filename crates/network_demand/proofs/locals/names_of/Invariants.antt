@@ -1,7 +1,7 @@
 use Rattle.std.proofs.Common.{◌≡◌, ◌≤◌, map, drop}
 use Rattle.rsvp_base.specs.Sets.{set_of, with_keys}
 use Rattle.rsvp_base.specs.Table.{size}
-use Rattle.style_rules.specs.Styles.{name_of}
+use Rattle.rsvp_base.specs.Styles.{name_of}
 use Rattle.network_demand.proofs.locals.names_of.Given as goal
 
 -- the names so far and of the rest are all, and no more than there were senders

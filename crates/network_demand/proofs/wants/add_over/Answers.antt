@@ -2,7 +2,7 @@ use Rattle.std.proofs.Common.{◌≡◌, ◌∷◌, [], ◌∙◌, map, ap, sym,
 use Rattle.std.specs.List.{filter}
 use Rattle.rsvp_base.specs.Sets.{with_key, with_keys}
 use Rattle.rsvp_base.specs.Table.{size}
-use Rattle.style_rules.specs.Styles.{name_of}
+use Rattle.rsvp_base.specs.Styles.{name_of}
 use Rattle.network_demand.specs.Steps.{goes_over}
 use Rattle.network_demand.proofs.Pools.{insert_more, names_with}
 use Rattle.network_demand.proofs.wants.add_over.Goals as goal

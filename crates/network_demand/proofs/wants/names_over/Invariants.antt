@@ -2,7 +2,7 @@ use Rattle.std.proofs.Common.{◌≡◌, ◌≤◌, ◌∷◌, [], map, drop}
 use Rattle.std.specs.List.{filter}
 use Rattle.rsvp_base.specs.Sets.{with_keys}
 use Rattle.rsvp_base.specs.Table.{size}
-use Rattle.style_rules.specs.Styles.{name_of}
+use Rattle.rsvp_base.specs.Styles.{name_of}
 use Rattle.network_demand.specs.Steps.{goes_over, names_among}
 use Rattle.network_demand.proofs.wants.names_over.Given as goal
 

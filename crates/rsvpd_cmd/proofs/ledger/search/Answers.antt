@@ -2,7 +2,7 @@ use Rattle.std.proofs.Common.{ℕ, rules, of_calls}
 use Rattle.std.proofs.lemmas.Fn.{always_returns_same}
 use Rattle.rsvp_base.proofs.Rows.{searched_found, searched_absent}
 use Rattle.admission_book.specs.EntryKeys.{places}
-use Rattle.admission_book.specs.declared.key.EntryKey.{EntryKey}
+use Rattle.rsvp_base.specs.declared.entry_key.EntryKey.{EntryKey}
 use Rattle.rsvpd_cmd.specs.declared.kept.Kept.{Kept}
 use Rattle.rsvpd_cmd.specs.Ledgers.{row_of}
 use Rattle.rsvpd_cmd.proofs.ledger.search.Goals as goal

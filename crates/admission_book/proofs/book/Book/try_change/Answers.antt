@@ -1,8 +1,9 @@
 use Rattle.std.proofs.Common.{◌≡◌, ◌<◌, ◌-◌, ◌+◌, length, refl, sym, ap, ◌∙◌, subst, arith}
-use Rattle.std.specs.Prelude.{slice_get, slice_set, Some}
+use Rattle.std.specs.Prelude.{slice_get, slice_set, Some, IfOk}
 use Rattle.std.proofs.lemmas.List.{get_or_default}
 use Rattle.std.proofs.lemmas.Option.{slice_get_read}
 use Rattle.std.proofs.lemmas.Result.{err_from_is_err_and}
+use Rattle.rsvp_base.specs.Rows.{HasRowAt}
 use Rattle.rsvp_base.specs.Table.{get, without}
 use Rattle.rsvp_base.proofs.Rows.{are_rows, table_is, size_rows}
 use Rattle.admission_book.specs.Book.{Bookings, Entries, changed_at}
@@ -78,3 +79,7 @@ returns-clause-ok c =
 
 pub returns-clause-cause : goal.returns-clause-cause
 returns-clause-cause c = asked (goal.at.returns-clause-cause c).After-charge_at ∙ c.in_ok-sum.ensures.cause
+
+pub change-requires-clause-there : goal.change-requires-clause-there
+change-requires-clause-there c = λ at is.
+    subst (λ r. IfOk r (HasRowAt places as_entry c.self.inside.rows.items (c.args.iface, c.args.key))) is (rw c.as_slice.ensures.value at c.search-place.ensures.there)

@@ -3,7 +3,7 @@ use Rattle.rsvp_base.specs.Table.{changed, changed_rows, same_rows}
 use Rattle.soft_table.specs.Facts.{lives_on}
 use Rattle.soft_table.proofs.Maps.{rows_later}
 use Rattle.soft_table.proofs.Told.{lived_on}
-use Rattle.router_rules.specs.Facts.{wall_keys}
+use Rattle.style_rules.specs.Targets.{wall_keys}
 use Rattle.blockade_state.specs.declared.fact.Kept.{Kept}
 use Rattle.blockade_state.specs.Blockades.{wall_key, fact_row, wall_of, later}
 use Rattle.blockade_state.proofs.Walls.{facts, shorter}

@@ -1,7 +1,7 @@
 use Rattle.std.proofs.Common.{sym, ap, ◌∙◌, arith}
 use Rattle.std.specs.Option.{option_map, option_copied}
 use Rattle.rsvp_base.specs.Table.{get, size}
-use Rattle.router_rules.specs.Facts.{WallKey, wall_keys}
+use Rattle.style_rules.specs.Targets.{WallKey, wall_keys}
 use Rattle.soft_table.proofs.Valued.{get-valued}
 use Rattle.blockade_state.specs.declared.fact.Kept.{Kept}
 use Rattle.blockade_state.proofs.Walls.{said, facts, many}

@@ -1,7 +1,7 @@
 use Rattle.std.proofs.Common.{◌<◌, map as each, ap, subst, ◌∙◌}
 use Rattle.std.specs.Prelude.{IsErr, ◌↔◌}
 use Rattle.rsvp_base.specs.Table.{changed, changed_rows, put_in, same_rows, size}
-use Rattle.router_rules.specs.Facts.{WallKey}
+use Rattle.style_rules.specs.Targets.{WallKey}
 use Rattle.soft_table.specs.Facts.{Kept}
 use Rattle.blockade_state.specs.declared.fact.Kept.{Kept as Fact}
 use Rattle.blockade_state.specs.Blockades.{WallMap, fact_row, wall_of}

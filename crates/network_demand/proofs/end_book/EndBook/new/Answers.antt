@@ -3,7 +3,7 @@ use Rattle.std.specs.Prelude.{[], map as each}
 use Rattle.std.proofs.lemmas.Grind.{common_steps}
 use Rattle.rsvp_base.specs.Table.{empty}
 use Rattle.rsvp_base.proofs.Rows.{table_is}
-use Rattle.style_rules.specs.Lines.{entry_keys}
+use Rattle.rsvp_base.specs.Orders.{entry_keys}
 use Rattle.network_demand.specs.Books.{book_row}
 use Rattle.network_demand.proofs.end_book.EndBook.new.Goals as goal
 

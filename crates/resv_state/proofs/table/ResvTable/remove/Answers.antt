@@ -1,7 +1,7 @@
 use Rattle.std.proofs.Common.{◌≡◌, true, false, take, get_or, sym, ap, subst, ◌∙◌, arith}
 use Rattle.rsvp_base.specs.Table.{get, changed}
 use Rattle.rsvp_base.specs.declared.session.Sender.{Sender}
-use Rattle.style_rules.specs.Styles.{unit_of}
+use Rattle.rsvp_base.specs.Styles.{unit_of}
 use Rattle.resv_state.specs.Leaving.{lessened, key_has_one}
 use Rattle.std.proofs.lemmas.List.{take_more}
 use Rattle.resv_state.specs.Resvs.{ResvMap, AreOfStyle}

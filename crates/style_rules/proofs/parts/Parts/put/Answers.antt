@@ -1,35 +1,15 @@
-use Rattle.std.proofs.Common.{length, length-set, map as each, sym, ap, ◌∙◌, arith}
-use Rattle.std.proofs.lemmas.Bool.{eqb-false}
 use Rattle.rsvp_base.specs.Orders.{units}
 use Rattle.rsvp_base.specs.Table.{put_in}
-use Rattle.rsvp_base.proofs.Rows.{are_rows, table_is, put_over, put_new, written_back}
+use Rattle.rsvp_base.proofs.Changes.{order_after, table_after, table_kept}
+use Rattle.style_rules.specs.Merge.{PartTable}
 use Rattle.style_rules.proofs.parts.Parts.put.Goals as goal
 
 pub invariant_of-self-inside : goal.invariant_of-self-inside
 invariant_of-self-inside c =
-    let stands = rw c.as_slice.ensures.value at c.in-Ok.ensures.there in
-    let rows = c.self.inside.rows.items in
-    let back = written_back rows c.deref_mut.result.now c.in-Ok.place (c.args.unit, c.args.part) c.deref_mut.ensures.value in
-    let put = put_over units (λ e. e) rows c.self.inside.rising c.args.self.now c.self.view_is c.args.unit c.args.part (c.args.unit, c.args.part) c.in-Ok.place (λ i. (c.args.unit, c.args.part)) stands in
-    (are_rows units (λ e. e) _ (put_in c.args.self.now c.args.unit c.args.part) (ap (each (λ e. e)) back ∙ put), (omega (arith, ap length back, length-set rows c.in-Ok.place (c.args.unit, c.args.part), c.self.inside.few), tt))
+    (order_after units (λ e. e) c.put_row.result c.self.inside.rows.items c.put_row.new.rows.items c.self.inside.rising (λ (m : PartTable). put_in m c.args.unit c.args.part) (c.put_row.ensures.ok c.self.inside.rising) c.put_row.ensures.err, (c.put_row.ensures.few, tt))
 
-pub returns-in-Ok-clause-ok : goal.returns-in-Ok-clause-ok
-returns-in-Ok-clause-ok c =
-    let stands = rw c.as_slice.ensures.value at c.in-Ok.ensures.there in
-    let rows = c.self.inside.rows.items in
-    let back = written_back rows c.deref_mut.result.now c.in-Ok.place (c.args.unit, c.args.part) c.deref_mut.ensures.value in
-    let put = put_over units (λ e. e) rows c.self.inside.rising c.args.self.now c.self.view_is c.args.unit c.args.part (c.args.unit, c.args.part) c.in-Ok.place (λ i. (c.args.unit, c.args.part)) stands in
-    table_is units (λ e. e) _ _ (put_in c.args.self.now c.args.unit c.args.part) (ap (each (λ e. e)) back ∙ put)
+pub returns-clause-ok : goal.returns-clause-ok
+returns-clause-ok c = table_after units (λ e. e) c.put_row.result c.self.inside.rows.items c.put_row.new.rows.items c.self.inside.rising (λ (m : PartTable). put_in m c.args.unit c.args.part) _ c.args.self.now c.self.view_is (c.put_row.ensures.ok c.self.inside.rising)
 
-pub invariant_of-self-inside-in-Err : goal.invariant_of-self-inside-in-Err
-invariant_of-self-inside-in-Err c =
-    let goes = rw c.as_slice.ensures.value at c.in-Err.ensures.absent in
-    let put = put_new units (λ e. e) c.self.inside.rows.items c.self.inside.rising c.args.self.now c.self.view_is c.args.unit c.args.part (c.args.unit, c.args.part) c.in-Err.place (λ i. (c.args.unit, c.args.part)) goes in
-    let room = eqb-false _ _ (sym c.if-is_full.ensures.value) in
-    (are_rows units (λ e. e) c.insert.new.self.items (put_in c.args.self.now c.args.unit c.args.part) (ap (each (λ e. e)) c.insert.ensures.items ∙ put), (omega (arith, c.self.inside.few, room, c.insert.ensures.len), tt))
-
-pub returns-else-is_full-clause-ok : goal.returns-else-is_full-clause-ok
-returns-else-is_full-clause-ok c =
-    let goes = rw c.as_slice.ensures.value at c.in-Err.ensures.absent in
-    let put = put_new units (λ e. e) c.self.inside.rows.items c.self.inside.rising c.args.self.now c.self.view_is c.args.unit c.args.part (c.args.unit, c.args.part) c.in-Err.place (λ i. (c.args.unit, c.args.part)) goes in
-    table_is units (λ e. e) c.insert.new.self.items _ (put_in c.args.self.now c.args.unit c.args.part) (ap (each (λ e. e)) c.insert.ensures.items ∙ put)
+pub returns-clause-err : goal.returns-clause-err
+returns-clause-err c = table_kept units (λ e. e) c.put_row.result c.self.inside.rows.items c.put_row.new.rows.items c.self.inside.rising (λ (m : PartTable). put_in m c.args.unit c.args.part) _ c.args.self.now c.self.view_is c.put_row.ensures.err

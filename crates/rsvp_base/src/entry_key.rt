@@ -1,5 +1,6 @@
 //! Keys of entries.
-use rsvp_base::{Session, StyleKind, Unit};
+use crate::session::Session;
+use crate::style::{StyleKind, Unit};
 
 /// What an entry of an interface is for (RFC 2205, 1.3): a session, a style of reservation, and the unit of it. Keys stand
 /// in this order.

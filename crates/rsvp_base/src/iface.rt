@@ -1,5 +1,5 @@
 //! Interfaces.
-use rsvp_base::Addr;
+use crate::addr::Addr;
 
 /// An interface of a node, as admission control sees it (RFC 2205, 1).
 #[derive(Clone, Copy, Debug, PartialEq, Eq)]

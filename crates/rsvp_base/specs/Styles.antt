@@ -1,5 +1,7 @@
 -- Names and units of a style (RFC 2205, 1.3 and 2.2).
 use Rattle.std.specs.Prelude.{List, [], ◌∷◌}
+use Rattle.rsvp_base.specs.Table.{keys}
+use Rattle.rsvp_base.specs.declared.part.Part.{Part}
 use Rattle.rsvp_base.specs.declared.session.Sender.{Sender}
 use Rattle.rsvp_base.specs.declared.style.StyleKind.{StyleKind}
 use Rattle.rsvp_base.specs.declared.style.StyleKind.TheVariants.{Wild, Fixed, Shared}
@@ -22,3 +24,7 @@ unit_of Shared s = One
 abbrev pub unit_of_first : StyleKind → List Sender → UnitOf
 unit_of_first st [] = One
 unit_of_first st (s ∷ ss) = unit_of st s
+
+-- the unit under which a part stands
+abbrev pub part_unit : StyleKind → Part → UnitOf
+part_unit st p = unit_of_first st (keys p.senders)

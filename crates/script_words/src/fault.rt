@@ -1,6 +1,6 @@
 //! Faults of scripts.
 ghost use Rattle.std.specs.Prelude.{◌≡◌};
-ghost use Rattle.net_script.specs.declared.fault.ParseErr.TheVariants.{NoMemory};
+ghost use Rattle.script_words.specs.declared.fault.ParseErr.TheVariants.{NoMemory};
 
 use std::alloc::{AllocError, AllocFailed};
 use thiserror::Error;

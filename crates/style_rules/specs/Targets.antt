@@ -3,10 +3,11 @@ use Rattle.std.specs.Prelude.{◌≡◌, Option, Some, None}
 use Rattle.std.proofs.Common.{ap}
 use Rattle.rsvp_base.specs.declared.session.Sender.{Sender}
 use Rattle.rsvp_base.specs.Keys.{Keys, by, pairs, options}
-use Rattle.rsvp_base.specs.Orders.{senders}
+use Rattle.rsvp_base.specs.Orders.{senders, sessions}
+use Rattle.rsvp_base.specs.declared.session.Session.{Session}
 use Rattle.style_rules.specs.Lines.{NextHop, next_hops}
-use Rattle.router_rules.specs.declared.target.Target.{Target}
-use Rattle.router_rules.specs.declared.target.Target.TheVariants as target
+use Rattle.style_rules.specs.declared.target.Target.{Target}
+use Rattle.style_rules.specs.declared.target.Target.TheVariants as target
 
 abbrev pub target_place : Target → Option Sender × NextHop
 target_place (target.Hop i a) = (None, (i, a))
@@ -20,3 +21,10 @@ target_apart (target.Sender s) (target.Sender t) e = let first : ◌≡◌ {A = 
 
 abbrev pub targets : Keys Target
 targets = by target_place target_apart (pairs (options senders) next_hops)
+
+-- a blockade of a session toward a target
+abbrev pub WallKey : Type 0
+WallKey = Session × Target
+
+abbrev pub wall_keys : Keys WallKey
+wall_keys = pairs sessions targets
