@@ -41,7 +41,7 @@ use Rattle.router_inputs.proofs.Erring.{errors_once_each, resv_errs_by_tests}
 use Rattle.router_rules.specs.Steps.{sent_then}
 use Rattle.router_inputs.proofs.Stepping.{send_told}
 use Rattle.router_resvs.specs.BlameLaws.{AreBlamed, IsPassedOn, IsRefusal, WhereAnErrorWithAFlowComesFrom}
-use Rattle.router_lookups.proofs.Blame.{never_nobody, these_are}
+use Rattle.router_lookups.proofs.Blame.{never_nobody, sent_listing, these_are}
 
 -- ---- sends that are ResvErrs
 no_path_tear : (w : ErrMsg) (m : ResvErrMsg) → error_message w ≡ message.ResvErr m → w ≡ OfResv m
@@ -131,7 +131,7 @@ module _ (old p : NodeConfig) (c : ℕ) (f : Facts) (w : ResvErrMsg) (flow : Tok
   passed_on : (i : Input) (at : ℕ) (m : ResvErrMsg) → i ≡ Came at (own p at) (Spelt (message.ResvErr m)) → (x : Sender) × ComesBy f m.session (at, m.hop.addr) x → In e (errors_with p c at m f).errors → Source i
   passed_on i at m came from h =
       let q = (errors_once_each.exactly p (record f { walls = walls_set p c at m f }) (lane_of at m) m e).0 h in
-      let sent = some_same _ _ q.is in
+      let sent = some_same _ _ (sym (sent_listing p m q.hop q.names) ∙ q.is) in
       let err = resv_err_same _ w (ap (λ (z : NextHop × ErrSend). z.1.error) sent ∙ of_resv) in
       inr (record {
         at = at;
@@ -146,7 +146,7 @@ module _ (old p : NodeConfig) (c : ℕ) (f : Facts) (w : ResvErrMsg) (flow : Tok
         unit = q.unit;
         resv = q.spoken.resv;
         there = q.spoken.there;
-        blames = q.spoken.blames ∙ ap (λ (z : ResvErrMsg). Some z.blame.senders) err;
+        blames = q.spoken.blames ∙ ap (λ (z : ResvErrMsg). as_listed z.blame.senders) err;
         iface = ap (λ (z : Send). z.iface) is ∙ ap (λ (z : NextHop × ErrSend). z.1.iface) (sym sent);
         dst = ap (λ (z : Send). z.dst) is ∙ ap (λ (z : NextHop × ErrSend). z.1.dst) (sym sent);
         here = ap (λ (z : ResvErrMsg). z.hop) (sym err);
