@@ -43,7 +43,7 @@ use Rattle.network_steps.specs.Known.{IsSameNet, IsKnown}
 use Rattle.network_steps.proofs.Known.{of_some, or_true, known_hold}
 use Rattle.network_steps.proofs.Standing.{comes_in_made}
 use Rattle.settle_paths.specs.SoftPaths.{PathValue, path_at, by_iface, SaysPath, soft_path}
-use Rattle.settle_paths.specs.Said.{IsTaken, IsSaidPath}
+use Rattle.settle_paths.specs.Said.{IsKeptPath, IsSaidPath}
 use Rattle.settle_paths.specs.Telling.{is_letter, IsCompleteTo, IsSure}
 use Rattle.settle_paths.proofs.Letters.{IsPathLetter, IsTearLetter, letter_found, path_letter, tear_letter}
 use Rattle.settle_paths.proofs.LiveSenders.{senders_found, one_flow, live_fits}
@@ -171,7 +171,7 @@ module _ (q : ℕ) (o : World) (valid : IsValid o.net) (locals : AreHosts o) whe
         (λ (old : get f.paths k' ≡ Some x'). let s = sure.sound.facts at_to f k' x' is old in (x'.tspec, live_back o u k' x'.tspec sure.known.same s.sound.live))
         (got_put_in sender_keys f.paths k x k' x' e))
 
-    taken : (u : World) → IsSure q o d u → (y : Item) → y.dst ≡ k.0.group → (says : SaysPath o.net k h.to y value) → IsTaken q o.net k h.to value u y says.path
+    taken : (u : World) → IsSure q o d u → (y : Item) → y.dst ≡ k.0.group → (says : SaysPath o.net k h.to y value) → IsKeptPath q o.net k h.to value u y says.path
     taken u sure y dst says f is =
         let p : NodeConfig = config_of q u.net u.trees at_to in
         let input : Input = Came (iface_of o.net.ends h.to) k.0.group (Spelt (message.Path says.path)) in
