@@ -157,6 +157,12 @@ module _ (q : ℕ) (w : World) (bounds : AreBounds q w) (paths : ArePathsSound w
         style = cut_of_style l.style s.wanted y.0 (over (h ∷ s.hop ∷ [])) (want_style l.style w.net (locals_of w) l.session (want_parts q w bounds) s.hop r.key.1 s.wanted s.is).0 y.1;
       }
 
+  -- so each request that names someone lies under a part of the equation
+  pub stands_above : (x : Request) → In x (requests (config_of q w.net w.trees n) f l) → has_name x.part ≡ true → (part : Part) × In part parts × IsPartAtMost x.part part × IsOfStyle l.style part
+  stands_above x i named =
+      let s = ⊎_elim (λ (a : IsResvRequest (config_of q w.net w.trees n) f l x). of_resv x named a) (λ (a : IsWantRequest f l x). of_want x named a) ((requests_and_toward.each (config_of q w.net w.trees n) f l x).0 i) in
+      (s.part, s.among, s.above_it, s.style)
+
   of_request : (u : UnitOf) (x : Request) → IsRequestOf l.style (requests (config_of q w.net w.trees n) f l) u x → Stands x.part
   of_request u x r =
       ⊎_elim (λ (a : IsResvRequest (config_of q w.net w.trees n) f l x). of_resv x r.named a) (λ (a : IsWantRequest f l x). of_want x r.named a)

@@ -1,0 +1,9 @@
+pub mod Blockades
+pub mod Accepting
+pub mod Errors
+pub mod TowardIsTheWant
+pub mod ExactResvs
+pub mod Reports
+pub mod Settled
+pub mod RunsSettle
+pub mod Example
