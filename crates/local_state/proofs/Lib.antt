@@ -1,0 +1,5 @@
+pub mod Runs
+pub mod Ticking
+pub mod Taken
+pub mod Held
+pub mod Owned

@@ -1,0 +1,191 @@
+//! Local senders.
+ghost use Rattle.std.specs.Prelude.{◌≡◌, ◌≤◌, ◌<◌, ◌↔◌, false, map, length, vec_capacity, IfOk, IfErr, IsErr, OnOk, OnErr};
+ghost use Rattle.std.specs.List.{insert, list_any};
+ghost use Rattle.std.specs.Ordering.{is_le, is_lt};
+ghost use Rattle.rsvp_base.specs.Orders.{sessions, senders};
+ghost use Rattle.rsvp_base.specs.Rows.{AreRows, HasRowAt, LacksRowAt, table_of};
+ghost use Rattle.rsvp_base.specs.SessionLimits.{IsWithinSessionLimits, has_room_at};
+ghost use Rattle.rsvp_base.specs.Table.{empty, get, has, keys, put_in, without};
+ghost use Rattle.rsvp_base.specs.Under.{rows_under, under};
+ghost use Rattle.router_rules.specs.Facts.{sender_keys};
+ghost use Rattle.router_rules.specs.NodeConfig.{is_addr};
+ghost use Rattle.local_state.specs.Rows.{sender_row, tspec_row, IsCounted};
+
+use crate::sizes::{has_room, with_session, without_session};
+use rsvp_base::{Addr, Flow, Full, NoMemory, Sender, Session};
+use std::alloc::Global;
+use std::marker::Model;
+
+// At most so many senders: 16 of each of 32 sessions.
+const ROOM: usize = 512;
+
+/// A local sender, and the traffic that it announces.
+#[derive(Clone, Copy, Debug, PartialEq, Eq)]
+pub struct LocalSender {
+    pub session: Session,
+    pub sender: Sender,
+    pub tspec: Flow,
+}
+
+/// The local senders, one for a session and sender. Contracts see a finite map from session and sender to the traffic that
+/// the sender announces. At most 32 sessions have some, and at most 16 each.
+#[derive(Drop)]
+pub struct LocalSenders {
+    rows: Vec<LocalSender>,
+    // How many sessions have some.
+    held: usize,
+    ghost rising: { AreRows sender_keys sender_row rows.items },
+    ghost within: { IsWithinSessionLimits senders (table_of sender_keys sender_row rows.items rising) },
+    ghost counted: { IsCounted held (table_of sender_keys sender_row rows.items rising) },
+    ghost room: { 512 ≤ vec_capacity rows },
+}
+
+impl Model for LocalSenders {
+    ghost use Rattle.rsvp_base.specs.Rows.{table_of};
+    ghost use Rattle.rsvp_base.specs.Table.{Table};
+    ghost use Rattle.rsvp_base.specs.TokenBucket.{TokenBucket};
+    ghost use Rattle.router_rules.specs.Facts.{sender_keys};
+    ghost use Rattle.local_state.specs.Rows.{sender_row, senders_code};
+
+    ghost Value = { Table sender_keys TokenBucket };
+
+    ghost coded = { senders_code };
+
+    ghost view = { λ t. table_of sender_keys sender_row t.rows.items t.rising };
+}
+
+impl LocalSenders {
+    /// No sender. It takes no memory later. `NoMemory`: the room could not be had.
+    pub fn open(alloc: Global) -> Result<LocalSenders, NoMemory>
+        ensures { IfOk result (λ t. t ≡ empty) }
+    {
+        let rows = Vec::with_capacity(alloc, ROOM).map_err(|_| NoMemory)?;
+        Ok(LocalSenders { rows, held: 0 })
+    }
+
+    /// What a sender announces. `None` exactly where there is no such local sender.
+    pub fn find(&self, session: Session, sender: Sender) -> Option<Flow>
+        ensures flow { result ≡ get self.now (session, sender) }
+        // What holds of every table.
+        ensures within { IsWithinSessionLimits senders self.now }
+    {
+        match search(self.rows.as_slice(), session, sender) {
+            Ok(at) => Some(self.rows[at].tspec),
+            Err(_) => None,
+        }
+    }
+
+    /// All of them, in order of session and sender.
+    pub fn as_slice(&self) -> &[LocalSender]
+        ensures { map sender_row result.now ≡ self.now.rows }
+    {
+        self.rows.as_slice()
+    }
+
+    /// Those of a session, in order of sender: at most 16.
+    pub fn of(&self, session: Session) -> &[LocalSender]
+        ensures rows { map tspec_row result.now ≡ (under sessions senders self.now session).rows }
+        ensures few { length result.now ≤ 16 }
+    {
+        of_session(self.rows.as_slice(), session)
+    }
+
+    /// Whether a session has a local sender of this address.
+    pub fn has_address(&self, session: Session, addr: Addr) -> bool
+        ensures { result ≡ list_any (λ x. is_addr x.addr addr) (keys (under sessions senders self.now session)) }
+    {
+        any_of_address(self.of(session), addr)
+    }
+
+    /// Puts a sender with what it announces, in place of what it announced before. `Full` exactly where this would be the
+    /// first of a 33rd session, or a 17th of its session; nothing changes then.
+    pub fn put(&mut self, session: Session, sender: Sender, tspec: Flow) -> Result<(), Full>
+        ensures ok { OnOk result (self.new ≡ put_in self.old (session, sender) tspec) }
+        ensures full { IsErr result ↔ (has_room_at senders (put_in self.old (session, sender) tspec) session ≡ false) }
+        ensures err { OnErr result (self.new ≡ self.old) }
+    {
+        let row = LocalSender {
+            session,
+            sender,
+            tspec,
+        };
+        match search(self.rows.as_slice(), session, sender) {
+            Ok(at) => {
+                self.rows[at] = row;
+                Ok(())
+            }
+            Err(at) => {
+                let among = of_session(self.rows.as_slice(), session).len();
+                if !has_room(among, self.held) {
+                    return Err(Full);
+                }
+                self.held = with_session(among, self.held);
+                insert_row(&mut self.rows, at, row);
+                Ok(())
+            }
+        }
+    }
+
+    /// Takes a sender out. False exactly where there is no such local sender; nothing changes then.
+    pub fn remove(&mut self, session: Session, sender: Sender) -> bool
+        ensures was { result ≡ has self.old (session, sender) }
+        ensures gone { self.new ≡ without self.old (session, sender) }
+    {
+        let Ok(at) = search(self.rows.as_slice(), session, sender) else {
+            return false;
+        };
+        self.rows.remove(at);
+        let among = of_session(self.rows.as_slice(), session).len();
+        self.held = without_session(among, self.held);
+        true
+    }
+}
+
+// Where the sender's row stands, or where it would go.
+fn search(rows: &[LocalSender], session: Session, sender: Sender) -> Result<usize, usize>
+    requires { AreRows sender_keys sender_row rows.now }
+    ensures there { IfOk result (HasRowAt sender_keys sender_row rows.now (session, sender)) }
+    ensures absent { IfErr result (LacksRowAt sender_keys sender_row rows.now (session, sender)) }
+{
+    rows.binary_search_by(|row| row.session.cmp(&session).then(row.sender.cmp(&sender)))
+}
+
+// Whether a row stands before those of the session.
+fn is_before(row: &LocalSender, session: Session) -> bool
+    ensures { result ≡ is_lt (sessions.cmp row.now.session session) }
+{
+    row.session.cmp(&session).is_lt()
+}
+
+// Whether a row stands before those of the session or is one of them.
+fn is_up_to(row: &LocalSender, session: Session) -> bool
+    ensures { result ≡ is_le (sessions.cmp row.now.session session) }
+{
+    row.session.cmp(&session).is_le()
+}
+
+// The rows of a session, which stand together.
+fn of_session(rows: &[LocalSender], session: Session) -> &[LocalSender]
+    requires { AreRows sender_keys sender_row rows.now }
+    ensures { map tspec_row result.now ≡ rows_under sessions senders session (map sender_row rows.now) }
+{
+    let from = &rows[rows.partition_point(|row| is_before(row, session))..];
+    &from[..from.partition_point(|row| is_up_to(row, session))]
+}
+
+// Whether one of the senders has this address.
+fn any_of_address(rows: &[LocalSender], addr: Addr) -> bool
+    ensures { result ≡ list_any (λ r. is_addr r.sender.addr addr) rows.now }
+{
+    rows.iter().any(|row| row.sender.addr == addr)
+}
+
+// Puts a row in its place. The room is there, so this takes no memory.
+fn insert_row(rows: &mut Vec<LocalSender>, at: usize, row: LocalSender)
+    requires within { at ≤ length rows.old.items }
+    requires room { length rows.old.items < vec_capacity rows.old }
+    ensures rows { rows.new.items ≡ insert rows.old.items at row }
+    ensures capacity { vec_capacity rows.old ≤ vec_capacity rows.new }
+{
+    let _ = rows.insert(at, row);
+}
