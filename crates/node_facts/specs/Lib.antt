@@ -1,0 +1,6 @@
+pub mod Routes
+pub mod State
+pub mod Changes
+pub mod Forgotten
+pub mod Waited
+pub mod StateLaws
