@@ -1,0 +1,11 @@
+pub mod Elsewhere
+pub mod Towards
+pub mod Seeing
+pub mod Via
+pub mod Onward
+pub mod Lanes
+pub mod Changing
+pub mod Apart
+pub mod Quiet
+pub mod Saying
+pub mod Telling
