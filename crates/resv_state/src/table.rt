@@ -87,7 +87,7 @@ impl<S: Style> ResvTable<S> {
         if !self.fits(&fact) {
             return Err(Full);
         }
-        let unit = fact.part.unit(S::kind());
+        let unit = unit_of::<S>(&fact.part);
         let Ok(()) = self.table.put(Held { unit, fact }, left) else {
             unreachable!();
         };
@@ -101,7 +101,7 @@ impl<S: Style> ResvTable<S> {
         ensures { (left : ℕ) → result ≡ within_limits S.kind_is (resv_lines S.kind_is (put_in self.now.facts (resv_key S.kind_is fact.now) (fact.now, left))) }
     {
         let hop = (fact.iface, fact.next);
-        let key = (hop, fact.part.unit(S::kind()));
+        let key = (hop, unit_of::<S>(&fact.part));
         if is_refresh(&self.table, fact.session, &key, &fact.part.senders) {
             return true;
         }
@@ -149,7 +149,7 @@ impl<S: Style> ResvTable<S> {
         ensures behind { option_copied result ≡ option_map (λ e. e.1.0) (slice_get (rows_behind rests (resv_key S.kind_is fact.now).1 (under sessions rests self.now.facts fact.now.session).rows) 0) }
         ensures next { (k : ℕ) → Some fact.now ≡ option_map (λ e. e.1.0) (slice_get (under sessions rests self.now.facts fact.now.session).rows k) → option_copied result ≡ option_map (λ e. e.1.0) (slice_get (under sessions rests self.now.facts fact.now.session).rows (k + 1)) }
     {
-        let rest = ((fact.iface, fact.next), fact.part.unit(S::kind()));
+        let rest = ((fact.iface, fact.next), unit_of::<S>(&fact.part));
         fact_in(self.table.after(fact.session, rest, finger))
     }
 
@@ -227,7 +227,7 @@ impl<S: Style> ResvTable<S> {
         requires { IsOfStyle S.kind_is fact.now.part }
         ensures { (left : ℕ) → option_map (λ p. p.flow) (get (merge S.kind_is (parts_on fact.now.iface (under sessions rests (put_in self.now.facts (resv_key S.kind_is fact.now) (fact.now, left)) fact.now.session).rows)) (part_unit S.kind_is fact.now.part)) ≡ Some result }
     {
-        let key = ((fact.iface, fact.next), fact.part.unit(S::kind()));
+        let key = ((fact.iface, fact.next), unit_of::<S>(&fact.part));
         join_beside(&self.table, fact.session, &key, fact.part.flow)
     }
 
@@ -282,4 +282,10 @@ fn fact_in(held: Option<&Held>) -> Option<&ResvFact>
         Some(held) => Some(&held.fact),
         None => None,
     }
+}
+
+fn unit_of<S: Style>(part: &Part) -> Unit
+    ensures { result ≡ part_unit S.kind_is part.now }
+{
+    part.unit(S::kind())
 }

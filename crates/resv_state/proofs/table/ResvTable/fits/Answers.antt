@@ -38,7 +38,7 @@ returns g c = λ left.
     let s = c.args.fact.now.session in
     let r : Rest = (resv_key st c.args.fact.now).1 in
     let fs = c.self.inside.table.facts in
-    let own : ◌≡◌ {A = Rest} ((c.args.fact.now.iface, c.args.fact.now.next), c.unit.result) r = ap (λ u. ((c.args.fact.now.iface, c.args.fact.now.next), u)) c.unit.ensures in
+    let own : ◌≡◌ {A = Rest} ((c.args.fact.now.iface, c.args.fact.now.next), c.unit_of.result) r = ap (λ u. ((c.args.fact.now.iface, c.args.fact.now.next), u)) c.unit_of.ensures in
     let a = c.fits_fact-room.ensures ∙ ap (λ (q : Rest). nat_le (cond (is_some (find line_keys.cmp (s, q) (facts_by held_key fs))) (length fs) (length fs + 1)) 1024) own ∙ one_fact st c.self.inside.table.facts c.self.inside.facts s r (c.args.fact.now, left) in
     let b = c.fits_session-known.ensures ∙ one_session st c.self.inside.table.facts c.self.inside.facts s r (c.args.fact.now, left) in
     let d = c.fits_names-named.ensures ∙ ap (λ (q : Rest). nat_le (size (with_names q c.args.fact.now.part.senders (held_under s fs))) 16) own in
@@ -51,7 +51,7 @@ returns-then-is_refresh g c = λ left.
     let s = c.args.fact.now.session in
     let r : Rest = (resv_key st c.args.fact.now).1 in
     let t = table_of line_keys held_row c.self.inside.table.facts c.self.inside.facts in
-    let own : ◌≡◌ {A = Rest} ((c.args.fact.now.iface, c.args.fact.now.next), c.unit.result) r = ap (λ u. ((c.args.fact.now.iface, c.args.fact.now.next), u)) c.unit.ensures in
+    let own : ◌≡◌ {A = Rest} ((c.args.fact.now.iface, c.args.fact.now.next), c.unit_of.result) r = ap (λ u. ((c.args.fact.now.iface, c.args.fact.now.next), u)) c.unit_of.ensures in
     let e = c.is_refresh.ensures c.if-is_refresh.true in
     let stood : get (changed fact_of t) (s, r) ≡ Some (said e.0) = get-valued line_keys said t (s, r) ∙ ap (λ (q : Rest). option_map said (get t (s, q))) (sym own) ∙ ap (option_map said) e.1 in
     sym (within_tested st _ (still_within st (changed fact_of t) (s, r) (c.args.fact.now, left) (said e.0) stood e.2 c.self.inside.within))
