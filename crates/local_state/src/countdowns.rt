@@ -1,15 +1,16 @@
 //! When the refreshes of sessions come due.
-ghost use Rattle.std.specs.Prelude.{◌≡◌, ◌≤◌, ◌<◌, ◌*◌, ◌++◌, [], false, map, length, vec_capacity, IfOk, IfErr, slice_get};
+ghost use Rattle.std.specs.Prelude.{◌≡◌, ◌≤◌, ◌<◌, ◌*◌, ◌++◌, [], false, map, length, vec_capacity, IfOk, slice_get};
 ghost use Rattle.std.specs.List.{insert, cons_option};
 ghost use Rattle.rsvp_base.specs.Orders.{sessions};
-ghost use Rattle.rsvp_base.specs.Rows.{AreRows, HasRowAt, LacksRowAt, table_of};
+ghost use Rattle.rsvp_base.specs.Rows.{AreRows, table_of};
 ghost use Rattle.rsvp_base.specs.Table.{empty, get, has, put_in, size, without, changed};
 ghost use Rattle.local_state.specs.Rows.{count_row, session_row};
 ghost use Rattle.local_state.specs.Counting.{started, ticked_row, later_due, is_fired, fired_row};
 
 use crate::fired::Fired;
 use arrayvec::ArrayVec;
-use rsvp_base::{NoMemory, Session};
+use rsvp_base::sorted::search;
+use rsvp_base::{NoMemory, Session, sorted};
 use std::alloc::Global;
 use std::marker::Model;
 
@@ -21,6 +22,21 @@ const ROOM: usize = 64;
 pub struct Countdown {
     pub session: Session,
     pub left: u32,
+}
+
+impl sorted::Row for Countdown {
+    ghost use Rattle.std.specs.Prelude.{ℕ};
+    ghost use Rattle.local_state.specs.Rows.{count_row};
+
+    type Key = Session;
+
+    ghost Rest = { ℕ };
+
+    ghost as_row = { count_row };
+
+    fn key(&self) -> Session {
+        self.session
+    }
 }
 
 /// The countdowns of sessions, at most 64. Contracts see a finite map from session to the milliseconds that are left.
@@ -75,7 +91,7 @@ impl Countdowns {
     pub fn has(&self, session: Session) -> bool
         ensures { result ≡ has self.now session }
     {
-        search(self.rows.as_slice(), session).is_ok()
+        search(self.rows.as_slice(), &session).is_ok()
     }
 
     /// Starts that of a session, with this much left, in milliseconds, where it has none: then fewer than 64 are there. One
@@ -84,7 +100,7 @@ impl Countdowns {
         requires { has self.old session ≡ false → size self.old < 64 }
         ensures { self.new ≡ started (has self.old session) session left self.old }
     {
-        if let Err(at) = search(self.rows.as_slice(), session) {
+        if let Err(at) = search(self.rows.as_slice(), &session) {
             insert_row(&mut self.rows, at, Countdown { session, left });
         }
     }
@@ -93,7 +109,7 @@ impl Countdowns {
     pub fn stop(&mut self, session: Session)
         ensures { self.new ≡ without self.old session }
     {
-        if let Ok(at) = search(self.rows.as_slice(), session) {
+        if let Ok(at) = search(self.rows.as_slice(), &session) {
             self.rows.remove(at);
         }
     }
@@ -171,15 +187,6 @@ fn add_due(list: &mut ArrayVec<Session, 64>, row: &Countdown, ms: u32)
     if row.left <= ms {
         list.push(row.session);
     }
-}
-
-// Where the session's row stands, or where it would go.
-fn search(rows: &[Countdown], session: Session) -> Result<usize, usize>
-    requires { AreRows sessions count_row rows.now }
-    ensures there { IfOk result (HasRowAt sessions count_row rows.now session) }
-    ensures absent { IfErr result (LacksRowAt sessions count_row rows.now session) }
-{
-    rows.binary_search_by(|row| row.session.cmp(&session))
 }
 
 // Puts a row in its place. The room is there, so this takes no memory.

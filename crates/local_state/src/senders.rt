@@ -1,9 +1,9 @@
 //! Local senders.
-ghost use Rattle.std.specs.Prelude.{◌≡◌, ◌≤◌, ◌<◌, ◌↔◌, false, map, length, vec_capacity, IfOk, IfErr, IsErr, OnOk, OnErr};
+ghost use Rattle.std.specs.Prelude.{◌≡◌, ◌≤◌, ◌<◌, ◌↔◌, false, map, length, vec_capacity, IfOk, IsErr, OnOk, OnErr};
 ghost use Rattle.std.specs.List.{insert, list_any};
 ghost use Rattle.std.specs.Ordering.{is_le, is_lt};
 ghost use Rattle.rsvp_base.specs.Orders.{sessions, senders};
-ghost use Rattle.rsvp_base.specs.Rows.{AreRows, HasRowAt, LacksRowAt, table_of};
+ghost use Rattle.rsvp_base.specs.Rows.{AreRows, table_of};
 ghost use Rattle.rsvp_base.specs.SessionLimits.{IsWithinSessionLimits, has_room_at};
 ghost use Rattle.rsvp_base.specs.Table.{empty, get, has, keys, put_in, without};
 ghost use Rattle.rsvp_base.specs.Under.{rows_under, under};
@@ -12,7 +12,8 @@ ghost use Rattle.router_rules.specs.NodeConfig.{is_addr};
 ghost use Rattle.local_state.specs.Rows.{sender_row, tspec_row, IsCounted};
 
 use crate::sizes::{has_room, with_session, without_session};
-use rsvp_base::{Addr, Flow, Full, NoMemory, Sender, Session};
+use rsvp_base::sorted::search;
+use rsvp_base::{Addr, Flow, Full, NoMemory, Sender, Session, sorted};
 use std::alloc::Global;
 use std::marker::Model;
 
@@ -25,6 +26,21 @@ pub struct LocalSender {
     pub session: Session,
     pub sender: Sender,
     pub tspec: Flow,
+}
+
+impl sorted::Row for LocalSender {
+    ghost use Rattle.rsvp_base.specs.TokenBucket.{TokenBucket};
+    ghost use Rattle.local_state.specs.Rows.{sender_row};
+
+    type Key = (Session, Sender);
+
+    ghost Rest = { TokenBucket };
+
+    ghost as_row = { sender_row };
+
+    fn key(&self) -> (Session, Sender) {
+        (self.session, self.sender)
+    }
 }
 
 /// The local senders, one for a session and sender. Contracts see a finite map from session and sender to the traffic that
@@ -69,7 +85,7 @@ impl LocalSenders {
         // What holds of every table.
         ensures within { IsWithinSessionLimits senders self.now }
     {
-        match search(self.rows.as_slice(), session, sender) {
+        match search(self.rows.as_slice(), &(session, sender)) {
             Ok(at) => Some(self.rows[at].tspec),
             Err(_) => None,
         }
@@ -109,7 +125,7 @@ impl LocalSenders {
             sender,
             tspec,
         };
-        match search(self.rows.as_slice(), session, sender) {
+        match search(self.rows.as_slice(), &(session, sender)) {
             Ok(at) => {
                 self.rows[at] = row;
                 Ok(())
@@ -131,7 +147,7 @@ impl LocalSenders {
         ensures was { result ≡ has self.old (session, sender) }
         ensures gone { self.new ≡ without self.old (session, sender) }
     {
-        let Ok(at) = search(self.rows.as_slice(), session, sender) else {
+        let Ok(at) = search(self.rows.as_slice(), &(session, sender)) else {
             return false;
         };
         self.rows.remove(at);
@@ -139,15 +155,6 @@ impl LocalSenders {
         self.held = without_session(among, self.held);
         true
     }
-}
-
-// Where the sender's row stands, or where it would go.
-fn search(rows: &[LocalSender], session: Session, sender: Sender) -> Result<usize, usize>
-    requires { AreRows sender_keys sender_row rows.now }
-    ensures there { IfOk result (HasRowAt sender_keys sender_row rows.now (session, sender)) }
-    ensures absent { IfErr result (LacksRowAt sender_keys sender_row rows.now (session, sender)) }
-{
-    rows.binary_search_by(|row| row.session.cmp(&session).then(row.sender.cmp(&sender)))
 }
 
 // Whether a row stands before those of the session.

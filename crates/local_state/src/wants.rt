@@ -1,9 +1,9 @@
 //! Local wants.
-ghost use Rattle.std.specs.Prelude.{◌≡◌, ◌≤◌, ◌<◌, ◌↔◌, ◌+◌, false, map, not, cond, nat_lt, length, vec_capacity, IfOk, IfErr, IsErr, OnOk, OnErr};
+ghost use Rattle.std.specs.Prelude.{◌≡◌, ◌≤◌, ◌<◌, ◌↔◌, ◌+◌, false, map, not, cond, nat_lt, length, vec_capacity, IfOk, IsErr, OnOk, OnErr};
 ghost use Rattle.std.specs.List.{filter, insert, list_any};
 ghost use Rattle.std.specs.Ordering.{is_le, is_lt};
 ghost use Rattle.rsvp_base.specs.Orders.{sessions, units};
-ghost use Rattle.rsvp_base.specs.Rows.{AreRows, HasRowAt, LacksRowAt, table_of};
+ghost use Rattle.rsvp_base.specs.Rows.{AreRows, table_of};
 ghost use Rattle.rsvp_base.specs.SessionLimits.{IsWithinSessionLimits, has_room_at};
 ghost use Rattle.rsvp_base.specs.Table.{empty, changed, kept, put_in, size, values};
 ghost use Rattle.rsvp_base.specs.Under.{rows_under, under};
@@ -13,7 +13,8 @@ ghost use Rattle.router_rules.specs.Requests.{is_style};
 ghost use Rattle.local_state.specs.Wants.{want_row, asked_row, want_of, IsHeld, own_part, own_want, unmarked_at};
 
 use crate::sizes::{has_room, with_session, without_all};
-use rsvp_base::{Full, NoMemory, Part, Senders, Session, StyleKind, Unit};
+use rsvp_base::sorted::search;
+use rsvp_base::{Full, NoMemory, Part, Senders, Session, StyleKind, Unit, sorted};
 use std::alloc::Global;
 use std::marker::Model;
 use style_rules::Parts;
@@ -30,6 +31,21 @@ pub struct LocalWant {
     pub style: StyleKind,
     pub part: Part,
     pub confirm: bool,
+}
+
+impl sorted::Row for LocalWant {
+    ghost use Rattle.router_rules.specs.Facts.{Want};
+    ghost use Rattle.local_state.specs.Wants.{want_row};
+
+    type Key = (Session, Unit);
+
+    ghost Rest = { Want };
+
+    ghost as_row = { want_row };
+
+    fn key(&self) -> (Session, Unit) {
+        (self.session, self.unit)
+    }
 }
 
 /// The local wants, one for a session and unit. Contracts see a finite map from session and unit to the style, the part and
@@ -90,7 +106,7 @@ impl LocalWants {
         ensures full { IsErr result ↔ (has_room_at units (put_in self.old (want.session, want.unit) (want_of want)) want.session ≡ false) }
         ensures err { OnErr result (self.new ≡ self.old) }
     {
-        match search(self.rows.as_slice(), want.session, want.unit) {
+        match search(self.rows.as_slice(), &(want.session, want.unit)) {
             Ok(at) => {
                 self.rows[at] = want;
                 Ok(())
@@ -122,7 +138,7 @@ impl LocalWants {
     pub fn unmark(&mut self, session: Session, unit: Unit)
         ensures { self.new ≡ changed (unmarked_at (session, unit)) self.old }
     {
-        if let Ok(at) = search(self.rows.as_slice(), session, unit) {
+        if let Ok(at) = search(self.rows.as_slice(), &(session, unit)) {
             self.rows[at].confirm = false;
         }
     }
@@ -188,15 +204,6 @@ fn any_of_other(wants: &[LocalWant], style: StyleKind) -> bool
     ensures { result ≡ list_any (λ r. not (is_style r.style style)) wants.now }
 {
     wants.iter().any(|want| want.style != style)
-}
-
-// Where the want's row stands, or where it would go.
-fn search(rows: &[LocalWant], session: Session, unit: Unit) -> Result<usize, usize>
-    requires { AreRows want_keys want_row rows.now }
-    ensures there { IfOk result (HasRowAt want_keys want_row rows.now (session, unit)) }
-    ensures absent { IfErr result (LacksRowAt want_keys want_row rows.now (session, unit)) }
-{
-    rows.binary_search_by(|row| row.session.cmp(&session).then(row.unit.cmp(&unit)))
 }
 
 // Whether a row stands before those of the session.
