@@ -351,4 +351,4 @@ pub kept_answer : (nodes : ℕ) (ends : List End) (links : List Link) (ks : List
 kept_answer nodes ends links ks new (Ok u) valid known vertex before fits a = (fits, none_closed nodes ends links ks valid known new vertex before fits a)
 kept_answer nodes ends links ks new (Err NotTree) valid known vertex before fits a = absurd a
 kept_answer nodes ends links ks new (Err (Loop group from to)) valid known vertex before fits a = (fits, a.1, least_closed nodes ends links ks valid known new vertex before fits a.0 (record { from = from; to = to }) a.2)
-kept_answer nodes ends links ks new (Err NoMemory) valid known vertex before fits a = tt
+kept_answer nodes ends links ks new (Err NoMemory) valid known vertex before fits a = fits

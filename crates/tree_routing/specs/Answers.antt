@@ -59,9 +59,9 @@ pub record IsLeastOnLoop (net : Net) (g : Addr) (h : LinkHop) : Type 0 where
   pub least : (x : LinkHop) → IsOnLoop net g x → IsUpTo h x
 
 -- taken: the tree grows, and no chain of the group is closed. Not of the tree: it can't grow by the hop. A loop: it can, and
--- then this is the least hop on a closed chain of the group
+-- then this is the least hop on a closed chain of the group. No memory: it can, and there was no room for the hop or the check
 abbrev pub HopAnswer : Net → TreeHop → Result (Unit {0}) HopErr → Type 0
 HopAnswer net r (Ok u) = Fits net r × IsLoopFreeIn (with_hop net r) r.group
 HopAnswer net r (Err NotTree) = Fits net r → ⊥
 HopAnswer net r (Err (Loop group from to)) = Fits net r × (group ≡ r.group) × IsLeastOnLoop (with_hop net r) r.group (record { from = from; to = to })
-HopAnswer net r (Err NoMemory) = Unit {0}
+HopAnswer net r (Err NoMemory) = Fits net r

@@ -10,6 +10,6 @@ pub enum HopErr {
     /// Its tree can grow by it, but then a chain of the group's hops is closed, so that a shared reservation could circle.
     /// The least hop that stands on a closed chain is named by the numbers of its ends.
     Loop { group: Addr, from: u16, to: u16 },
-    /// Memory ran out.
+    /// Its tree can grow by it, and memory ran out.
     NoMemory,
 }

@@ -1,5 +1,5 @@
 //! The topology of a network, as it is put together.
-ghost use Rattle.std.specs.Prelude.{◌≡◌, ◌↔◌, ◌<◌, ◌≤◌, ◌+◌, length, map, [], ◌∷◌, ◌++◌, IsTrue, IfOk, OnOk, OnErr};
+ghost use Rattle.std.specs.Prelude.{◌≡◌, ◌↔◌, ◌<◌, ◌≤◌, ◌+◌, length, map, [], ◌∷◌, ◌++◌, IsTrue, IsOk, IfOk, OnOk, OnErr};
 ghost use Rattle.tree_model.specs.declared.hops.TreeHop.{TreeHop};
 ghost use Rattle.tree_model.specs.Networks.{Net, node_of, ends_of, link_of};
 ghost use Rattle.tree_routing.specs.Known.{net_of, vertex_at, vertex_before, link_ends};
@@ -51,9 +51,10 @@ impl Model for Topology {
 }
 
 impl Topology {
-    /// A network without nodes.
+    /// A network without nodes. It takes no memory, so it is never refused.
     pub fn new(alloc: Global) -> Result<Topology, NoMemory>
-        ensures { IfOk result (λ t. t ≡ no_net) }
+        ensures empty { IfOk result (λ t. t ≡ no_net) }
+        ensures ok { IsOk result }
     {
         Ok(Topology {
             alloc,
@@ -71,13 +72,12 @@ impl Topology {
         self.nodes < 256
     }
 
-    /// Adds a node, where there is room for one, and gives its number. `NoMemory`: it could not be added; nothing changes
-    /// then.
+    /// Adds a node, where there is room for one, and gives its number. It takes no memory, so it is never refused.
     pub fn add_node(&mut self) -> Result<u16, NoMemory>
         requires { self.old.nodes < 256 }
-        ensures ok { OnOk result (self.new ≡ with_node self.old) }
+        ensures added { self.new ≡ with_node self.old }
         ensures number { IfOk result (λ number. number ≡ self.old.nodes) }
-        ensures err { OnErr result (self.new ≡ self.old) }
+        ensures ok { IsOk result }
     {
         let number = self.nodes;
         self.nodes += 1;
@@ -148,7 +148,7 @@ impl Topology {
     /// reached that of `to`, or a hop of the tree goes out of another end of the link.
     /// `HopErr::Loop`: this is not so, and with the hop a chain of the group's hops is closed. It names the least hop that
     /// stands on a closed chain.
-    /// `HopErr::NoMemory`: there was no room for the hop, or for the check.
+    /// `HopErr::NoMemory`: the tree can grow by the hop, and there was no room for the hop, or for the check of the chains.
     /// Nothing changes after any of these.
     pub fn add_hop(&mut self, group: Addr, source: Addr, from: u16, to: u16) -> Result<(), HopErr>
         requires { length self.old.hops < 8192 }
