@@ -1,0 +1,18 @@
+use Rattle.std.proofs.Common.{◌≡◌, ◌-◌, ◌≤◌, None, length}
+use Rattle.std.specs.Io.KnownBytes.{Keeps, prepend_known}
+use Rattle.line_stream.specs.Streams.{IsCounted}
+use Rattle.line_stream.proofs.reader.LineReader.look.Given as goal
+
+-- what was taken moved, and nothing of it was given
+abbrev pub invariant-loop-self : goal.invariant-loop-self
+invariant-loop-self g l =
+    record {
+      kept : Keeps (prepend_known l.initial.self.bytes (g.S.Source.left l.initial.source)) (prepend_known l.self.bytes (g.S.Source.left l.source));
+      later : g.S.Source.faults l.initial.source ≤ g.S.Source.faults l.source;
+      counted : IsCounted (g.S.Source.left l.initial.source) (g.S.Source.left l.source) l.initial.self.taken l.self.taken;
+      going : l.self.ended ≡ None;
+    }
+
+-- each turn takes a byte at least
+abbrev pub decreases-loop-self : goal.decreases-loop-self
+decreases-loop-self g l = 2049 - length l.self.bytes
