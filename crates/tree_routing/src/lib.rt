@@ -7,6 +7,7 @@
 #![tactic(auto)]
 
 mod ask;
+mod copying;
 mod group_hop;
 mod hop_err;
 mod in_order;

@@ -17,13 +17,15 @@ use crate::known::Known;
 use crate::link::Link;
 use crate::ways::{hop_into, iface_of, ways_out};
 use rsvp_base::Addr;
+use std::alloc::Global;
 use std::marker::Model;
 use tree_model::{End, LinkHop, TreeHop};
 
 /// A network whose topology is closed: where each tree comes into a node and leaves it. Contracts see the network, which is
-/// valid: within its limits, its trees grown hop by hop, and without a closed chain. No call takes memory.
+/// valid: within its limits, its trees grown hop by hop, and without a closed chain. No call but `copy` takes memory.
 #[derive(Drop)]
 pub struct Routing {
+    pub(crate) alloc: Global,
     pub(crate) nodes: u16,
     pub(crate) ends: Vec<End>,
     pub(crate) links: Vec<Link>,

@@ -164,6 +164,7 @@ fn a_routing_knows_its_trees(rt: HostRuntime) -> Result<(), Fail> {
         assert_eq!(rt; net.add_hop(Addr(GROUP.0 - 1), Addr(C1), from, to), Ok(()));
     }
     let net = net.close().ok().ok_or("room")?;
+    let net = net.copy().ok().ok_or("room")?;
     assert_eq!(rt; (net.nodes(), net.longest()), (3, 2));
     assert_eq!(rt; net.tree(0), Some((Addr(GROUP.0 - 1), Addr(C1))));
     assert_eq!(rt; net.tree(1), Some((GROUP, Addr(A1))));

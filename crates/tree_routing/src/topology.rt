@@ -186,6 +186,7 @@ impl Topology {
         let trees = trees_of(self.alloc, self.hops.as_slice())?;
         let sorted = in_order(self.alloc, self.hops.as_slice())?;
         Ok(Routing {
+            alloc: self.alloc,
             nodes: self.nodes,
             ends: self.ends,
             links: self.links,

@@ -1,0 +1,48 @@
+//! A routing once more.
+ghost use Rattle.std.specs.Prelude.{◌≡◌, IfOk};
+
+use crate::routing::Routing;
+use rsvp_base::NoMemory;
+
+impl Routing {
+    /// The same routing once more. `NoMemory`: there was no room for it.
+    pub fn copy(&self) -> Result<Routing, NoMemory>
+        ensures { IfOk result (λ copy. copy ≡ self.now) }
+    {
+        Ok(Routing {
+            alloc: self.alloc,
+            nodes: self.nodes,
+            ends: self
+                .ends
+                .as_slice()
+                .to_vec(self.alloc)
+                .map_err(|_| NoMemory)?,
+            links: self
+                .links
+                .as_slice()
+                .to_vec(self.alloc)
+                .map_err(|_| NoMemory)?,
+            hops: self
+                .hops
+                .as_slice()
+                .to_vec(self.alloc)
+                .map_err(|_| NoMemory)?,
+            chain: self.chain,
+            order: self
+                .order
+                .as_slice()
+                .to_vec(self.alloc)
+                .map_err(|_| NoMemory)?,
+            trees: self
+                .trees
+                .as_slice()
+                .to_vec(self.alloc)
+                .map_err(|_| NoMemory)?,
+            sorted: self
+                .sorted
+                .as_slice()
+                .to_vec(self.alloc)
+                .map_err(|_| NoMemory)?,
+        })
+    }
+}
