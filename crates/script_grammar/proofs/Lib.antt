@@ -1,0 +1,5 @@
+pub mod FoundFaults
+pub mod Happening
+pub mod Lifetimes
+pub mod Pairs
+pub mod Scripts

@@ -1,0 +1,150 @@
+//! What the words of a line say.
+ghost use Rattle.std.specs.Prelude.{◌≡◌, map};
+ghost use Rattle.script_words.specs.Unread.{Reads};
+ghost use Rattle.script_grammar.specs.LineKinds.{line_of, said_at_node, said_by, said_in_flight, said_left_over, said_other};
+
+mod declared;
+mod happens;
+mod left_over;
+mod lists;
+
+use crate::line::Line;
+use declared::{end_line, hop_line, link_line, node_line, period_line, seed_line};
+use happens::{
+    clear_line, copy_line, deliver_line, drop_line, flags_line, inject_line, lose_line, pass_line,
+    quit_line, report_line, reroute_line, rounds_line, send_line, trace_line, wait_line, want_line,
+};
+use left_over::{stale_blockade_line, stale_path_line, stale_resv_line};
+use script_words::{Unread, read_words};
+use std::alloc::Global;
+
+/// What a line says. `words` is working space: it is cleared and filled, so that lines share its memory.
+///
+/// `Word` exactly where the words of a line, whose first byte is no `#`, are not of the form of one of the kinds.
+pub fn read_line<'a>(
+    alloc: Global,
+    text: &'a [u8],
+    words: &mut Vec<&'a [u8]>,
+) -> Result<Line, Unread>
+    ensures { Reads result (line_of text.now) }
+{
+    if text.first() == Some(&b'#') {
+        return Ok(Line::Skipped);
+    }
+    read_words(text, words)?;
+    said_by(alloc, words.as_slice())
+}
+
+// What these words say.
+#[tactic(auto, unfolding(crate::specs::LineKinds::said_by))]
+fn said_by(alloc: Global, words: &[&[u8]]) -> Result<Line, Unread>
+    ensures { Reads result (said_by (map (λ w. w.now) words.now)) }
+{
+    let [first, behind @ ..] = words else {
+        return Ok(Line::Skipped);
+    };
+    if *first == b"period".as_slice() {
+        return period_line(behind).ok_or(Unread::Word);
+    }
+    if *first == b"seed".as_slice() {
+        return seed_line(behind).ok_or(Unread::Word);
+    }
+    if *first == b"node".as_slice() {
+        return node_line(behind).ok_or(Unread::Word);
+    }
+    if *first == b"end".as_slice() {
+        return end_line(behind).ok_or(Unread::Word);
+    }
+    if *first == b"link".as_slice() {
+        return link_line(alloc, behind);
+    }
+    if *first == b"hop".as_slice() {
+        return hop_line(behind).ok_or(Unread::Word);
+    }
+    said_left_over(alloc, first, behind)
+}
+
+#[tactic(auto, unfolding(crate::specs::LineKinds::said_left_over))]
+fn said_left_over(alloc: Global, first: &[u8], behind: &[&[u8]]) -> Result<Line, Unread>
+    ensures { Reads result (said_left_over first.now (map (λ w. w.now) behind.now)) }
+{
+    if first == b"stale-path".as_slice() {
+        return stale_path_line(behind).ok_or(Unread::Word);
+    }
+    if first == b"stale-resv".as_slice() {
+        return stale_resv_line(alloc, behind);
+    }
+    if first == b"stale-blockade".as_slice() {
+        return stale_blockade_line(behind).ok_or(Unread::Word);
+    }
+    said_at_node(alloc, first, behind)
+}
+
+#[tactic(auto, unfolding(crate::specs::LineKinds::said_at_node))]
+fn said_at_node(alloc: Global, first: &[u8], behind: &[&[u8]]) -> Result<Line, Unread>
+    ensures { Reads result (said_at_node first.now (map (λ w. w.now) behind.now)) }
+{
+    if first == b"send".as_slice() {
+        return send_line(behind).ok_or(Unread::Word);
+    }
+    if first == b"drop".as_slice() {
+        return drop_line(behind).ok_or(Unread::Word);
+    }
+    if first == b"want".as_slice() {
+        return want_line(alloc, behind);
+    }
+    if first == b"quit".as_slice() {
+        return quit_line(behind).ok_or(Unread::Word);
+    }
+    if first == b"clear".as_slice() {
+        return clear_line(behind).ok_or(Unread::Word);
+    }
+    said_in_flight(alloc, first, behind)
+}
+
+#[tactic(auto, unfolding(crate::specs::LineKinds::said_in_flight))]
+fn said_in_flight(alloc: Global, first: &[u8], behind: &[&[u8]]) -> Result<Line, Unread>
+    ensures { Reads result (said_in_flight first.now (map (λ w. w.now) behind.now)) }
+{
+    if first == b"wait".as_slice() {
+        return wait_line(behind).ok_or(Unread::Word);
+    }
+    if first == b"pass".as_slice() {
+        return pass_line(behind).ok_or(Unread::Word);
+    }
+    if first == b"rounds".as_slice() {
+        return rounds_line(behind).ok_or(Unread::Word);
+    }
+    if first == b"deliver".as_slice() {
+        return deliver_line(behind).ok_or(Unread::Word);
+    }
+    if first == b"lose".as_slice() {
+        return lose_line(behind).ok_or(Unread::Word);
+    }
+    if first == b"copy".as_slice() {
+        return copy_line(behind).ok_or(Unread::Word);
+    }
+    if first == b"inject".as_slice() {
+        return inject_line(alloc, behind);
+    }
+    said_other(alloc, first, behind)
+}
+
+#[tactic(auto, unfolding(crate::specs::LineKinds::said_other))]
+fn said_other(alloc: Global, first: &[u8], behind: &[&[u8]]) -> Result<Line, Unread>
+    ensures { Reads result (said_other first.now (map (λ w. w.now) behind.now)) }
+{
+    if first == b"trace".as_slice() {
+        return trace_line(behind).ok_or(Unread::Word);
+    }
+    if first == b"report".as_slice() {
+        return report_line(behind).ok_or(Unread::Word);
+    }
+    if first == b"flags".as_slice() {
+        return flags_line(behind).ok_or(Unread::Word);
+    }
+    if first == b"reroute".as_slice() {
+        return reroute_line(alloc, behind);
+    }
+    Err(Unread::Word)
+}
