@@ -1,0 +1,19 @@
+-- What the checker of lines is seen as.
+use Rattle.std.specs.Prelude.{[], map as each}
+use Rattle.script_grammar.specs.Draft.{Draft}
+use Rattle.script_checker.specs.Events.{event_of}
+use Rattle.script_checker.specs.declared.checker.Checker.{Checker}
+
+abbrev pub draft_of : Checker → Draft
+draft_of c = record {
+  period = c.period;
+  seed = c.seed;
+  nodes = c.nodes;
+  names = c.names;
+  net = c.topology;
+  force = c.topology.hops;
+  stale = [];
+  sessions = [];
+  locals = record { senders = []; wants = [] };
+  events = each event_of c.events.items;
+}

@@ -1,0 +1,3 @@
+pub mod Events
+pub mod Checked
+pub mod Refusals

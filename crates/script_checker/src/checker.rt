@@ -1,0 +1,47 @@
+//! What the lines of a script have said so far.
+ghost use Rattle.std.specs.Prelude.{◌≤◌, length};
+
+use crate::event::Event;
+use crate::names::NameTable;
+use rsvp_base::NoMemory;
+use std::alloc::Global;
+use tree_routing::Topology;
+
+/// The lines so far. Names are found by their hash.
+#[derive(Drop)]
+pub struct Checker {
+    pub(crate) alloc: Global,
+    /// In milliseconds, where a line gave one.
+    pub(crate) period: Option<u32>,
+    /// Where the random words start, where a line said so.
+    pub(crate) seed: Option<u64>,
+    /// The names of the nodes, by number.
+    pub(crate) nodes: NameTable,
+    /// The names of the ends, by number.
+    pub(crate) names: NameTable,
+    pub(crate) topology: Topology,
+    pub(crate) events: Vec<Event>,
+    pub ghost as_many: { topology.nodes ≤ length nodes },
+    pub ghost few_nodes: { length nodes ≤ 256 },
+}
+
+impl Checker {
+    ghost use Rattle.std.specs.Prelude.{◌≡◌, IfOk};
+    ghost use Rattle.script_grammar.specs.Draft.{nothing};
+    ghost use Rattle.script_checker.specs.Checked.{draft_of};
+
+    /// No lines. `NoMemory`: there was no room for what is kept of them.
+    pub fn open(alloc: Global) -> Result<Checker, NoMemory>
+        ensures { IfOk result (λ c. draft_of c ≡ nothing) }
+    {
+        Ok(Checker {
+            alloc,
+            period: None,
+            seed: None,
+            nodes: NameTable::new(alloc),
+            names: NameTable::new(alloc),
+            topology: Topology::new(alloc)?,
+            events: Vec::new(alloc),
+        })
+    }
+}

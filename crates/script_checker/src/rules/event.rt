@@ -1,0 +1,172 @@
+//! The rules of lines of part 3.
+ghost use Rattle.std.specs.Prelude.{◌≡◌, IfErr, OnOk};
+ghost use Rattle.script_checker.specs.Checked.{draft_of};
+ghost use Rattle.script_checker.specs.Refusals.{Refuses};
+ghost use Rattle.script_grammar.specs.Adds.{Adds};
+ghost use Rattle.script_grammar.specs.Rules.{Keeps, KeepsAll};
+ghost use Rattle.script_grammar.specs.declared.line.Line.TheVariants as kind;
+ghost use Rattle.std.specs.Prelude.{◌+◌, ◌++◌, ◌∷◌, [], ◌↔◌, ◌≤◌, IfSome, IsSome, IsTrue, None, Some, count_by, map};
+ghost use Rattle.script_grammar.specs.Rules.{HasRoomForReport, is_report};
+ghost use Rattle.script_grammar.specs.Values.{IsFrom1To};
+ghost use Rattle.script_checker.specs.Events.{event_of};
+ghost use Rattle.script_checker.specs.Refusals.{OnlyNoMemory};
+
+use crate::checker::Checker;
+use crate::event::Event;
+use crate::refusal::Refusal;
+use script_grammar::Fault;
+use script_words::EndName;
+
+const MOST_WAIT: u32 = 3_600_000;
+
+const MOST_PASSES: u32 = 1000;
+
+const MOST_ROUNDS: u32 = 10_000;
+
+const MOST_PLACES: u32 = 8192;
+
+const MOST_REPORTS: usize = 16;
+
+// A number from 1 on, where it is not above the most.
+fn from_1_to(most: u32, number: u128) -> Option<u32>
+    ensures some { IsSome result ↔ IsFrom1To most number }
+    ensures value { IfSome result (λ n. n ≡ number) }
+{
+    if number == 0 || number > u128::from(most) {
+        return None;
+    }
+    Some(number as u32)
+}
+
+// Keeps an event.
+fn keep(checker: &mut Checker, event: Event) -> Result<(), Refusal>
+    ensures ok { OnOk result (draft_of checker.new ≡ record (draft_of checker.old) { events = map event_of checker.old.events.items ++ event_of event ∷ [] }) }
+    ensures refused { IfErr result OnlyNoMemory }
+{
+    checker.events.push(event)?;
+    Ok(())
+}
+
+// How many reports are written.
+fn reports(events: &[Event]) -> usize
+    ensures { result ≡ count_by is_report (map event_of events.now) }
+{
+    events
+        .iter()
+        .filter(|event| matches!(event, Event::Report { .. } | Event::Flags))
+        .count()
+}
+
+// Whether there is room for one more report.
+fn has_room(checker: &Checker) -> bool
+    ensures { IsTrue result ↔ HasRoomForReport (draft_of checker.now) }
+{
+    reports(checker.events.as_slice()) < MOST_REPORTS
+}
+
+/// Adds the event of `wait`.
+pub fn add_wait(checker: &mut Checker, ms: u128) -> Result<(), Refusal>
+    ensures ok { OnOk result (KeepsAll (Keeps (draft_of checker.old) (kind.Wait ms)) × Adds (draft_of checker.old) (kind.Wait ms) (draft_of checker.new)) }
+    ensures refused { IfErr result (Refuses (draft_of checker.old) (kind.Wait ms)) }
+{
+    let Some(ms) = from_1_to(MOST_WAIT, ms) else {
+        return Err(Refusal::Fault(Fault::Range));
+    };
+    keep(checker, Event::Wait { ms })
+}
+
+/// Adds the event of `pass`.
+pub fn add_pass(checker: &mut Checker, times: u128) -> Result<(), Refusal>
+    ensures ok { OnOk result (KeepsAll (Keeps (draft_of checker.old) (kind.Pass times)) × Adds (draft_of checker.old) (kind.Pass times) (draft_of checker.new)) }
+    ensures refused { IfErr result (Refuses (draft_of checker.old) (kind.Pass times)) }
+{
+    let Some(times) = from_1_to(MOST_PASSES, times) else {
+        return Err(Refusal::Fault(Fault::Range));
+    };
+    keep(checker, Event::Pass { times })
+}
+
+/// Adds the event of `rounds`.
+pub fn add_rounds(checker: &mut Checker, times: u128) -> Result<(), Refusal>
+    ensures ok { OnOk result (KeepsAll (Keeps (draft_of checker.old) (kind.Rounds times)) × Adds (draft_of checker.old) (kind.Rounds times) (draft_of checker.new)) }
+    ensures refused { IfErr result (Refuses (draft_of checker.old) (kind.Rounds times)) }
+{
+    let Some(times) = from_1_to(MOST_ROUNDS, times) else {
+        return Err(Refusal::Fault(Fault::Range));
+    };
+    keep(checker, Event::Rounds { times })
+}
+
+/// Adds the event of `deliver`.
+pub fn add_deliver(checker: &mut Checker, place: u128) -> Result<(), Refusal>
+    ensures ok { OnOk result (KeepsAll (Keeps (draft_of checker.old) (kind.Deliver place)) × Adds (draft_of checker.old) (kind.Deliver place) (draft_of checker.new)) }
+    ensures refused { IfErr result (Refuses (draft_of checker.old) (kind.Deliver place)) }
+{
+    let Some(place) = from_1_to(MOST_PLACES, place) else {
+        return Err(Refusal::Fault(Fault::Range));
+    };
+    keep(checker, Event::Deliver { place })
+}
+
+/// Adds the event of `lose`.
+pub fn add_lose(checker: &mut Checker, place: u128) -> Result<(), Refusal>
+    ensures ok { OnOk result (KeepsAll (Keeps (draft_of checker.old) (kind.Lose place)) × Adds (draft_of checker.old) (kind.Lose place) (draft_of checker.new)) }
+    ensures refused { IfErr result (Refuses (draft_of checker.old) (kind.Lose place)) }
+{
+    let Some(place) = from_1_to(MOST_PLACES, place) else {
+        return Err(Refusal::Fault(Fault::Range));
+    };
+    keep(checker, Event::Lose { place })
+}
+
+/// Adds the event of `copy`.
+pub fn add_again(checker: &mut Checker, place: u128) -> Result<(), Refusal>
+    ensures ok { OnOk result (KeepsAll (Keeps (draft_of checker.old) (kind.Copy place)) × Adds (draft_of checker.old) (kind.Copy place) (draft_of checker.new)) }
+    ensures refused { IfErr result (Refuses (draft_of checker.old) (kind.Copy place)) }
+{
+    let Some(place) = from_1_to(MOST_PLACES, place) else {
+        return Err(Refusal::Fault(Fault::Range));
+    };
+    keep(checker, Event::Again { place })
+}
+
+/// Adds the event of `clear`.
+pub fn add_clear(checker: &mut Checker, node: EndName) -> Result<(), Refusal>
+    ensures ok { OnOk result (KeepsAll (Keeps (draft_of checker.old) (kind.Clear node)) × Adds (draft_of checker.old) (kind.Clear node) (draft_of checker.new)) }
+    ensures refused { IfErr result (Refuses (draft_of checker.old) (kind.Clear node)) }
+{
+    let Some(node) = checker.nodes.find(node.bytes()) else {
+        return Err(Refusal::Fault(Fault::Name));
+    };
+    keep(checker, Event::Clear { node: node as u16 })
+}
+
+/// Adds the event of `trace`.
+pub fn add_trace(checker: &mut Checker, on: bool) -> Result<(), Refusal>
+    ensures ok { OnOk result (KeepsAll (Keeps (draft_of checker.old) (kind.Trace on)) × Adds (draft_of checker.old) (kind.Trace on) (draft_of checker.new)) }
+    ensures refused { IfErr result (Refuses (draft_of checker.old) (kind.Trace on)) }
+{
+    keep(checker, Event::Trace { on })
+}
+
+/// Adds the event of `report`.
+pub fn add_report(checker: &mut Checker) -> Result<(), Refusal>
+    ensures ok { OnOk result (KeepsAll (Keeps (draft_of checker.old) (kind.Report)) × Adds (draft_of checker.old) (kind.Report) (draft_of checker.new)) }
+    ensures refused { IfErr result (Refuses (draft_of checker.old) (kind.Report)) }
+{
+    if !has_room(checker) {
+        return Err(Refusal::Fault(Fault::Limit));
+    }
+    keep(checker, Event::Report { end: None })
+}
+
+/// Adds the event of `flags`.
+pub fn add_flags(checker: &mut Checker) -> Result<(), Refusal>
+    ensures ok { OnOk result (KeepsAll (Keeps (draft_of checker.old) (kind.Flags)) × Adds (draft_of checker.old) (kind.Flags) (draft_of checker.new)) }
+    ensures refused { IfErr result (Refuses (draft_of checker.old) (kind.Flags)) }
+{
+    if !has_room(checker) {
+        return Err(Refusal::Fault(Fault::Limit));
+    }
+    keep(checker, Event::Flags)
+}
