@@ -12,7 +12,6 @@ ghost use Rattle.admission_book.specs.Rows.{IsRising, as_entry, as_entries, entr
 use crate::row::Row;
 use rsvp_base::{EntryKey, Flow};
 
-// What the row at a place charges its interface, in bytes per second; nothing where there is none.
 pub(crate) fn charge_at(rows: &[Row], place: Result<usize, usize>) -> u64
     requires { ForOk place (λ at. at < length rows.now) }
     ensures row { IfOk place (λ at. (d : Row) → result ≡ (slice_index_or rows.now at d).flow.r) }
@@ -27,7 +26,6 @@ pub(crate) fn charge_at(rows: &[Row], place: Result<usize, usize>) -> u64
     }
 }
 
-// Puts the entry's flow at the place that was found for it, or takes its row out.
 pub(crate) fn change(
     rows: &mut Vec<Row>,
     place: Result<usize, usize>,
@@ -57,7 +55,6 @@ pub(crate) fn change(
     }
 }
 
-// The row's entry, where it is one of the interface.
 fn own(row: &Row, iface: u8) -> Option<(EntryKey, Flow)>
     ensures { result ≡ own iface row.now }
 {
@@ -68,7 +65,6 @@ fn own(row: &Row, iface: u8) -> Option<(EntryKey, Flow)>
     }
 }
 
-// The k-th entry of the interface.
 pub(crate) fn nth(rows: &[Row], iface: u8, k: usize) -> Option<(EntryKey, Flow)>
     requires { IsRising rows.now }
     ensures { result ≡ slice_get (rows_under numbers entry_keys iface (as_entries rows.now)) k }

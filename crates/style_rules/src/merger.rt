@@ -85,7 +85,6 @@ impl<S: Style> Merger<S> {
         }
     }
 
-    // Keeps a request of this unit.
     fn keep(&mut self, unit: Unit, part: &Part, blockaded: bool)
         requires named { has_name part.now ≡ true }
         requires unit { unit ≡ part_unit S.kind_is part.now }
@@ -146,7 +145,6 @@ impl<S: Style> Default for Merger<S> {
     }
 }
 
-// One more request of the row's unit.
 fn stand_with<S: Style>(row: &mut Row, part: &Part, blockaded: bool)
     requires { size (union row.old.part.senders part.now.senders) ≤ 16 }
     ensures unit { row.new.unit ≡ row.old.unit }

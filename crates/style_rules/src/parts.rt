@@ -76,7 +76,6 @@ impl Parts {
         Some(part.copy())
     }
 
-    // The k-th unit with its part.
     fn row_at(&self, k: usize) -> Option<&(Unit, Part)>
         ensures { option_copied result ≡ slice_get self.now.rows k }
     {
@@ -108,7 +107,6 @@ impl Parts {
         are_in(self, other) && are_in(other, self)
     }
 
-    // The parts of these rows.
     pub(crate) fn of_rows(rows: ArrayVec<(Unit, Part), 16>) -> Parts
         requires rising { AreRows units (λ e. e) rows.items }
         requires few { length rows.items ≤ 16 }
@@ -129,14 +127,12 @@ impl Parts {
     }
 }
 
-// Whether each part of the one list has one of its unit in the other that can stand for it.
 fn are_in(parts: &Parts, others: &Parts) -> bool
     ensures { result ≡ parts_le parts.now others.now }
 {
     parts.as_slice().iter().all(|row| is_in(row, others))
 }
 
-// Whether a part has one of its unit in a list that can stand for it.
 fn is_in(row: &(Unit, Part), others: &Parts) -> bool
     ensures { result ≡ is_part_in others.now row.now }
 {

@@ -110,7 +110,6 @@ pub struct Fixed;
 /// Shared-explicit: the senders that it lists under one unit.
 pub struct Shared;
 
-// The union of the senders and the join of the flows.
 fn join_parts(a: &Part, b: &Part) -> Part
     requires { size (union a.now.senders b.now.senders) ≤ 16 }
     ensures { result ≡ part_join a.now b.now }
@@ -124,7 +123,6 @@ fn join_parts(a: &Part, b: &Part) -> Part
     }
 }
 
-// The union of the senders and the meet of the flows.
 fn meet_parts(a: &Part, b: &Part) -> Part
     requires { size (union a.now.senders b.now.senders) ≤ 16 }
     ensures { result ≡ part_meet a.now b.now }
@@ -138,7 +136,6 @@ fn meet_parts(a: &Part, b: &Part) -> Part
     }
 }
 
-// Whether the senders of one are among those of the other, whose flow can stand for its.
 pub(crate) fn le_parts(a: &Part, b: &Part) -> bool
     ensures { IsTrue result ↔ IsPartAtMost a.now b.now }
 {
