@@ -53,7 +53,7 @@ impl Asked {
         ensures ok { OnOk result (self.new ≡ self.old ++ part ∷ []) }
         ensures err { OnErr result (self.new ≡ self.old) }
     {
-        self.parts.push(part).map_err(|_| NoMemory)
+        Ok(self.parts.push(part)?)
     }
 
     /// The parts of a want more.
@@ -73,7 +73,7 @@ pub(crate) fn nothing_asked(alloc: Global, nodes: u16) -> Result<Vec<Asked>, NoM
 {
     let mut all = Vec::new(alloc);
     for _node in 0..nodes {
-        all.push(Asked::new(alloc)).map_err(|_| NoMemory)?;
+        all.push(Asked::new(alloc))?;
     }
     Ok(all)
 }

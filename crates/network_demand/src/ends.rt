@@ -58,7 +58,7 @@ fn nothing_owed(alloc: Global, ends: usize) -> Result<Vec<EndBook>, NoMemory>
 {
     let mut books = Vec::new(alloc);
     for _end in 0..ends {
-        books.push(EndBook::new(alloc)).map_err(|_| NoMemory)?;
+        books.push(EndBook::new(alloc))?;
     }
     Ok(books)
 }

@@ -19,11 +19,11 @@ mod room;
 mod tests;
 mod wants;
 
-pub use rsvp_base::EntryKey;
 pub use allowed::can_ask;
 pub use end_book::EndBook;
 pub use ends::demand;
 pub use locals::Locals;
 pub use owed::Demand;
+pub use rsvp_base::EntryKey;
 pub use tree_model::{LocalSender, LocalWant};
 pub use tree_routing::{End, GroupHop, HopErr, LinkHop, Routing, Topology, TreeHop};

@@ -24,14 +24,14 @@ pub struct Locals {
 pub(crate) fn is_session(session: Session, other: Session) -> bool
     ensures { result ≡ eq_by_cmp sessions.cmp session other }
 {
-    session.cmp(&other).is_eq()
+    session == other
 }
 
 /// Whether two styles are the same.
 pub(crate) fn is_style(style: StyleKind, other: StyleKind) -> bool
     ensures { result ≡ eq_by_cmp styles.cmp style other }
 {
-    style.cmp(&other).is_eq()
+    style == other
 }
 
 /// Whether a session is among these.
@@ -57,7 +57,7 @@ pub(crate) fn live(
     let mut all = Vec::new(alloc);
     for one in senders {
         if is_session(session, one.session) {
-            all.push(one.sender).map_err(|_| NoMemory)?;
+            all.push(one.sender)?;
         }
     }
     Ok(all)

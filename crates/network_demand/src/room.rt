@@ -14,7 +14,7 @@ use tree_routing::Routing;
 pub(crate) fn rooms(alloc: Global, nodes: u16, room: usize) -> Result<Vec<usize>, NoMemory>
     ensures { IfOk result (λ all. all.items ≡ replicate nodes room) }
 {
-    vec![in alloc; room; nodes as usize].map_err(|_| NoMemory)
+    Ok(vec![in alloc; room; nodes as usize]?)
 }
 
 // Takes some of the room at a node. False exactly where there is less.

@@ -133,8 +133,7 @@ pub(crate) fn hop_wants<S: Style>(
         all.push(HopWant {
             hop: one.hop,
             parts,
-        })
-        .map_err(|_| NoMemory)?;
+        })?;
     }
     Ok(all)
 }

@@ -32,10 +32,10 @@ fn add(trees: &mut Vec<(Addr, Addr)>, tree: (Addr, Addr)) -> Result<(), NoMemory
     requires { AreRows tree_keys as_row trees.old.items }
     ensures { OnOk result (IsWithTree trees.old.items tree trees.new.items) }
 {
-    match search(trees.as_slice(), tree) {
-        Ok(_) => Ok(()),
-        Err(place) => trees.insert(place, tree).map_err(|_| NoMemory),
+    if let Err(place) = search(trees.as_slice(), tree) {
+        trees.insert(place, tree)?;
     }
+    Ok(())
 }
 
 /// The group and source of each tree that has a hop, in order. `NoMemory`: there was no room for them.

@@ -64,7 +64,7 @@ fn settle(levels: &mut [u16], hops: &[Known])
 fn lowest(alloc: Global, n: usize) -> Result<Vec<u16>, NoMemory>
     ensures { IfOk result (λ levels. levels.items ≡ replicate n 1) }
 {
-    vec![in alloc; 1u16; n].map_err(|_| NoMemory)
+    Ok(vec![in alloc; 1u16; n]?)
 }
 
 /// The highest level of a hop: the length of the longest chain.

@@ -79,7 +79,7 @@ fn spread(marks: &mut [bool], hops: &[Known])
 fn no_marks(alloc: Global, n: usize) -> Result<Vec<bool>, NoMemory>
     ensures { IfOk result (λ marks. marks.items ≡ replicate n false) }
 {
-    vec![in alloc; false; n].map_err(|_| NoMemory)
+    Ok(vec![in alloc; false; n]?)
 }
 
 // Marks the vertices to which edges lead from one.

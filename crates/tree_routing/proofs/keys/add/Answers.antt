@@ -1,5 +1,5 @@
 use Rattle.tree_routing.proofs.KeyLaws.{there_already}
 use Rattle.tree_routing.proofs.keys.add.Goals as goal
 
-pub returns-in-Ok : goal.returns-in-Ok
-returns-in-Ok c = there_already c.args.trees.now.items c.args.tree c.in-Ok.field-0 (rw c.as_slice.ensures.value at c.in-Ok.ensures.there)
+pub returns-in_default : goal.returns-in_default
+returns-in_default c = there_already c.args.trees.now.items c.args.tree _ (rw c.as_slice.ensures.value at c.in_default.ensures.there)
