@@ -137,17 +137,15 @@ impl MemorySink {
           faults = 0;
         }) }
     {
-        match Vec::with_capacity(alloc, room) {
-            Ok(bytes) => Ok(MemorySink {
-                bytes,
-                room,
-                fail,
-                short,
-                calls: 0,
-                faults: 0,
-            }),
-            Err(_) => Err(NoMemory),
-        }
+        let bytes = Vec::with_capacity(alloc, room)?;
+        Ok(MemorySink {
+            bytes,
+            room,
+            fail,
+            short,
+            calls: 0,
+            faults: 0,
+        })
     }
 
     /// The bytes that it holds.
