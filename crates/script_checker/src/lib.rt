@@ -9,6 +9,8 @@ mod event;
 mod names;
 mod refusal;
 mod rules;
+#[cfg(test)]
+mod tests;
 
 pub use checker::Checker;
 pub use event::Event;
