@@ -1,6 +1,6 @@
 //! When the refreshes of sessions come due.
 ghost use Rattle.std.specs.Prelude.{◌≡◌, ◌≤◌, ◌<◌, ◌*◌, ◌++◌, [], false, map, length, vec_capacity, IfOk, slice_get};
-ghost use Rattle.std.specs.List.{insert, cons_option};
+ghost use Rattle.std.specs.List.{cons_option};
 ghost use Rattle.rsvp_base.specs.Orders.{sessions};
 ghost use Rattle.rsvp_base.specs.Rows.{AreRows, table_of};
 ghost use Rattle.rsvp_base.specs.Table.{empty, get, has, put_in, size, without, changed};
@@ -8,6 +8,7 @@ ghost use Rattle.local_state.specs.Rows.{count_row, session_row};
 ghost use Rattle.local_state.specs.Counting.{started, ticked_row, later_due, is_fired, fired_row};
 
 use crate::fired::Fired;
+use crate::insert::insert_row;
 use arrayvec::ArrayVec;
 use rsvp_base::sorted::search;
 use rsvp_base::{NoMemory, Session, sorted};
@@ -187,14 +188,4 @@ fn add_due(list: &mut ArrayVec<Session, 64>, row: &Countdown, ms: u32)
     if row.left <= ms {
         list.push(row.session);
     }
-}
-
-// Puts a row in its place. The room is there, so this takes no memory.
-fn insert_row(rows: &mut Vec<Countdown>, at: usize, row: Countdown)
-    requires within { at ≤ length rows.old.items }
-    requires room { length rows.old.items < vec_capacity rows.old }
-    ensures rows { rows.new.items ≡ insert rows.old.items at row }
-    ensures capacity { vec_capacity rows.old ≤ vec_capacity rows.new }
-{
-    let _ = rows.insert(at, row);
 }

@@ -6,6 +6,7 @@
 
 mod countdowns;
 mod fired;
+mod insert;
 mod senders;
 mod sizes;
 #[cfg(test)]

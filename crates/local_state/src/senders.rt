@@ -1,6 +1,6 @@
 //! Local senders.
-ghost use Rattle.std.specs.Prelude.{◌≡◌, ◌≤◌, ◌<◌, ◌↔◌, false, map, length, vec_capacity, IfOk, IsErr, OnOk, OnErr};
-ghost use Rattle.std.specs.List.{insert, list_any};
+ghost use Rattle.std.specs.Prelude.{◌≡◌, ◌≤◌, ◌↔◌, false, map, length, vec_capacity, IfOk, IsErr, OnOk, OnErr};
+ghost use Rattle.std.specs.List.{list_any};
 ghost use Rattle.std.specs.Ordering.{is_le, is_lt};
 ghost use Rattle.rsvp_base.specs.Orders.{sessions, senders};
 ghost use Rattle.rsvp_base.specs.Rows.{AreRows, table_of};
@@ -11,6 +11,7 @@ ghost use Rattle.router_rules.specs.Facts.{sender_keys};
 ghost use Rattle.router_rules.specs.NodeConfig.{is_addr};
 ghost use Rattle.local_state.specs.Rows.{sender_row, tspec_row, IsCounted};
 
+use crate::insert::insert_row;
 use crate::sizes::{has_room, with_session, without_session};
 use rsvp_base::sorted::search;
 use rsvp_base::{Addr, Flow, Full, NoMemory, Sender, Session, sorted};
@@ -185,14 +186,4 @@ fn any_of_address(rows: &[LocalSender], addr: Addr) -> bool
     ensures { result ≡ list_any (λ r. is_addr r.sender.addr addr) rows.now }
 {
     rows.iter().any(|row| row.sender.addr == addr)
-}
-
-// Puts a row in its place. The room is there, so this takes no memory.
-fn insert_row(rows: &mut Vec<LocalSender>, at: usize, row: LocalSender)
-    requires within { at ≤ length rows.old.items }
-    requires room { length rows.old.items < vec_capacity rows.old }
-    ensures rows { rows.new.items ≡ insert rows.old.items at row }
-    ensures capacity { vec_capacity rows.old ≤ vec_capacity rows.new }
-{
-    let _ = rows.insert(at, row);
 }

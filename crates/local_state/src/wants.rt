@@ -1,6 +1,6 @@
 //! Local wants.
-ghost use Rattle.std.specs.Prelude.{◌≡◌, ◌≤◌, ◌<◌, ◌↔◌, ◌+◌, false, map, not, cond, nat_lt, length, vec_capacity, IfOk, IsErr, OnOk, OnErr};
-ghost use Rattle.std.specs.List.{filter, insert, list_any};
+ghost use Rattle.std.specs.Prelude.{◌≡◌, ◌≤◌, ◌↔◌, false, map, not, cond, nat_lt, length, vec_capacity, IfOk, IsErr, OnOk, OnErr};
+ghost use Rattle.std.specs.List.{filter, list_any};
 ghost use Rattle.std.specs.Ordering.{is_le, is_lt};
 ghost use Rattle.rsvp_base.specs.Orders.{sessions, units};
 ghost use Rattle.rsvp_base.specs.Rows.{AreRows, table_of};
@@ -12,6 +12,7 @@ ghost use Rattle.router_rules.specs.NodeConfig.{is_session};
 ghost use Rattle.router_rules.specs.Requests.{is_style};
 ghost use Rattle.local_state.specs.Wants.{want_row, asked_row, want_of, IsHeld, own_part, own_want, unmarked_at};
 
+use crate::insert::insert_row;
 use crate::sizes::{has_room, with_session, without_all};
 use rsvp_base::sorted::search;
 use rsvp_base::{Full, NoMemory, Part, Senders, Session, StyleKind, Unit, sorted};
@@ -227,14 +228,4 @@ fn of_session(rows: &[LocalWant], session: Session) -> &[LocalWant]
 {
     let from = &rows[rows.partition_point(|row| is_before(row, session))..];
     &from[..from.partition_point(|row| is_up_to(row, session))]
-}
-
-// Puts a row in its place. The room is there, so this takes no memory.
-fn insert_row(rows: &mut Vec<LocalWant>, at: usize, row: LocalWant)
-    requires within { at ≤ length rows.old.items }
-    requires room { length rows.old.items < vec_capacity rows.old }
-    ensures rows { rows.new.items ≡ insert rows.old.items at row }
-    ensures capacity { vec_capacity rows.old ≤ vec_capacity rows.new }
-{
-    let _ = rows.insert(at, row);
 }
