@@ -1,8 +1,9 @@
 //! Errors of reservations go on.
 ghost use Rattle.std.specs.Prelude.{◌≡◌, cond, Some, None};
 ghost use Rattle.rsvp_base.specs.Sets.{is_none};
+ghost use Rattle.router_rules.specs.Asking.{Nobody, These};
 ghost use Rattle.router_rules.specs.Errors.{blamed};
-ghost use Rattle.error_confirm.specs.Passing.{is_only_for_blockaded, passed_on};
+ghost use Rattle.error_confirm.specs.Passing.{is_only_for_blockaded, listing, passed_on};
 
 use rsvp_base::{ErrSpec, Part, Senders, StyleKind};
 use rsvp_messages::Blame;
@@ -39,7 +40,7 @@ fn is_only_for_blockaded(err: &ErrSpec, blame: &Blame) -> bool
 
 // The senders that are blamed of a reservation's, where the error goes on to it.
 fn blamed(style: StyleKind, names: &Option<Senders>, all: &Senders) -> Option<Option<Senders>>
-    ensures { result ≡ blamed style names.now all.now }
+    ensures { result ≡ listing (blamed style names.now all.now) }
 {
     match names {
         Some(names) => some_blamed(all.cut(names)),
@@ -49,7 +50,7 @@ fn blamed(style: StyleKind, names: &Option<Senders>, all: &Senders) -> Option<Op
 
 // These, if there are some.
 fn some_blamed(names: Senders) -> Option<Option<Senders>>
-    ensures { result ≡ cond (is_none names) None (Some (Some names)) }
+    ensures { result ≡ listing (cond (is_none names) Nobody (These names)) }
 {
     if names.is_empty() {
         return None;
@@ -59,7 +60,7 @@ fn some_blamed(names: Senders) -> Option<Option<Senders>>
 
 // Those of an error that names none.
 fn all_blamed(style: StyleKind, all: &Senders) -> Option<Senders>
-    ensures { Some result ≡ blamed style None all.now }
+    ensures { Some result ≡ listing (blamed style None all.now) }
 {
     match style {
         StyleKind::Wild => Some(all.copy()),
