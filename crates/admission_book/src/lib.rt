@@ -10,8 +10,6 @@ mod book;
 mod refused;
 mod row;
 mod rows;
-#[cfg(test)]
-mod tests;
 
 pub use book::Book;
 pub use refused::Refused;

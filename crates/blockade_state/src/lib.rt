@@ -6,8 +6,6 @@
 
 mod fact;
 mod table;
-#[cfg(test)]
-mod tests;
 
 pub use style_rules::Target;
 pub use table::Blockades;

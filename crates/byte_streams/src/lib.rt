@@ -11,8 +11,6 @@ mod plain;
 mod reading;
 mod standard;
 mod streams;
-#[cfg(test)]
-mod tests;
 mod writing;
 
 pub use memory::{MemorySink, MemorySource};

@@ -8,8 +8,6 @@
 pub mod laws;
 mod order;
 mod reading;
-#[cfg(test)]
-mod tests;
 
 pub use order::{NoOrder, Order};
 pub use reading::read_order;

@@ -8,8 +8,6 @@ mod answer;
 mod confirm;
 mod pass;
 mod police;
-#[cfg(test)]
-mod tests;
 
 pub use answer::answer_for;
 pub use confirm::confirms;

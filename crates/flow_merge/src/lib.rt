@@ -7,8 +7,6 @@
 mod blockade;
 pub mod laws;
 mod order;
-#[cfg(test)]
-mod tests;
 
 pub use blockade::blockades;
 pub use order::{join, le, meet};

@@ -8,8 +8,6 @@
 mod asking;
 mod lane;
 mod table;
-#[cfg(test)]
-mod tests;
 
 pub use asking::{ask_of, gone_among, tear_of};
 pub use table::LaneTable;

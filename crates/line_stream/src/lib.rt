@@ -6,8 +6,6 @@
 
 mod answer;
 mod reader;
-#[cfg(test)]
-mod tests;
 
 pub use answer::NextLine;
 pub use reader::{LineReader, MOST_LINE};

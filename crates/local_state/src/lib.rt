@@ -9,8 +9,6 @@ mod fired;
 mod insert;
 mod senders;
 mod sizes;
-#[cfg(test)]
-mod tests;
 mod wants;
 
 pub use countdowns::{Countdown, Countdowns};

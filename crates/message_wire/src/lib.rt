@@ -18,8 +18,6 @@ mod reading;
 mod role;
 mod seen;
 mod table;
-#[cfg(test)]
-mod tests;
 
 pub use checksum::ones_sum;
 pub use decoding::decode;

@@ -15,8 +15,6 @@ mod hop_want;
 mod locals;
 mod owed;
 mod room;
-#[cfg(test)]
-mod tests;
 mod wants;
 
 pub use allowed::can_ask;

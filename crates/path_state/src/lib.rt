@@ -7,8 +7,6 @@
 mod fact;
 mod hops;
 mod table;
-#[cfg(test)]
-mod tests;
 mod walks;
 
 pub use fact::PathFact;

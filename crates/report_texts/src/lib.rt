@@ -5,7 +5,5 @@
 #![tactic(auto)]
 
 mod lines;
-#[cfg(test)]
-mod tests;
 
 pub use lines::{put_entry, put_head, put_line};

@@ -10,8 +10,6 @@ mod fact;
 mod leaving;
 mod merging;
 mod table;
-#[cfg(test)]
-mod tests;
 mod walks;
 
 pub use fact::ResvFact;

@@ -20,8 +20,6 @@ mod senders;
 mod session;
 pub mod sorted;
 mod style;
-#[cfg(test)]
-mod tests;
 
 pub use addr::Addr;
 pub use entry_key::EntryKey;

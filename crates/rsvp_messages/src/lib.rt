@@ -9,8 +9,6 @@ mod ask;
 mod fault;
 mod fixed_list;
 mod message;
-#[cfg(test)]
-mod tests;
 
 pub use ask::{Ask, Blame, Tear};
 pub use fault::{Fault, Hint, MsgErr};

@@ -20,8 +20,6 @@ mod rate_err;
 mod rate_word;
 mod reading;
 mod table;
-#[cfg(test)]
-mod tests;
 mod texts;
 mod values;
 mod writing;

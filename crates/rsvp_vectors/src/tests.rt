@@ -6,7 +6,8 @@ use crate::objects::{
 };
 use message_wire::decode;
 use message_writing::encode;
-use rsvp_messages::{Fault, Kind};
+use rsvp_base::{Addr, Session};
+use rsvp_messages::{Fault, Kind, Message};
 use rsvp_objects::{ObjErr, Packet};
 use std::test::Fail;
 
@@ -34,6 +35,22 @@ fn each_vector_is_read_and_written_as_it_was(rt: HostRuntime) -> Result<(), Fail
         assert_eq!(rt; read.kind(), kind);
         assert_eq!(rt; encode(&read).bytes(), bytes);
     }
+    Ok(())
+}
+
+#[test]
+fn a_path_is_read(rt: HostRuntime) -> Result<(), Fail> {
+    let Ok(Message::Path(path)) = decode(&PATH) else {
+        return Err(Fail::from("a Path"));
+    };
+    let session = Session {
+        group: Addr(0xef01_0101),
+        proto: 17,
+        port: 5004,
+    };
+    assert_eq!(rt; path.session, session);
+    assert!(rt; path.police);
+    assert_eq!(rt; path.period, 30_000);
     Ok(())
 }
 

@@ -18,8 +18,6 @@ mod parts;
 mod raw;
 mod session;
 mod styles;
-#[cfg(test)]
-mod tests;
 mod unread;
 mod words;
 

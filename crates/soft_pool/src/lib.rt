@@ -8,8 +8,6 @@
 mod cell;
 mod entries;
 mod pool;
-#[cfg(test)]
-mod tests;
 
 pub use cell::{Cell, Slot};
 pub use pool::Pool;

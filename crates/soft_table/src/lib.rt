@@ -10,8 +10,6 @@ mod finger;
 mod row;
 mod rows;
 mod table;
-#[cfg(test)]
-mod tests;
 
 pub use fact::Fact;
 pub use finger::Finger;

@@ -12,8 +12,6 @@ mod parts;
 mod row;
 mod style;
 mod target;
-#[cfg(test)]
-mod tests;
 mod upstream;
 mod wall;
 

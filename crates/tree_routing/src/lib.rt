@@ -19,8 +19,6 @@ mod link;
 mod marks;
 mod order;
 mod routing;
-#[cfg(test)]
-mod tests;
 mod topology;
 mod ways;
 

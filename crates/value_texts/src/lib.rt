@@ -5,8 +5,6 @@
 //! text that grows. It stands on `rsvp_base`.
 #![tactic(auto)]
 
-#[cfg(test)]
-mod tests;
 mod texts;
 
 pub use texts::{

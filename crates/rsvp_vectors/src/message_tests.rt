@@ -1,0 +1,175 @@
+//! Lists of fixed filters at the ends of their room, and copies of each message.
+use rsvp_base::{
+    Addr, ErrSpec, Flow, Full, Hop, Part, Peak, Rate, Sender, Senders, Session, StyleKind,
+};
+use rsvp_messages::{
+    Ask, Blame, FixedList, Kind, Message, PathErrMsg, PathMsg, PathTearMsg, ResvConfMsg,
+    ResvErrMsg, ResvMsg, ResvTearMsg, Tear,
+};
+use std::test::Fail;
+
+const SESSION: Session = Session {
+    group: Addr(0xef01_0101),
+    proto: 17,
+    port: 5004,
+};
+
+const HOP: Hop = Hop {
+    addr: Addr(0x0a00_0101),
+    handle: 7,
+};
+
+fn sender(port: u16) -> Sender {
+    Sender {
+        addr: Addr(0x0a00_0101),
+        port,
+    }
+}
+
+fn flow(r: u64) -> Option<Flow> {
+    Flow::new(Rate::of(r)?, Rate::of(2000)?, Peak::Infinite, 64, 1500)
+}
+
+fn some(ports: &[u16]) -> Option<Senders> {
+    let mut senders = Senders::new();
+    for port in ports {
+        senders.insert(sender(*port)).ok()?;
+    }
+    Some(senders)
+}
+
+#[test]
+fn a_fixed_list_has_one_to_sixteen_senders_in_order(rt: HostRuntime) -> Result<(), Fail> {
+    let small = flow(300).ok_or("small")?;
+    let large = flow(500).ok_or("large")?;
+    let mut list = FixedList::new(sender(9), small);
+    assert_eq!(rt; list.put(sender(3), large), Ok(()));
+    assert_eq!(rt; list.put(sender(9), large), Ok(()));
+    assert_eq!(rt;
+        list.as_slice(),
+        [(sender(3), large), (sender(9), large)].as_slice()
+    );
+    assert_eq!(rt; list.at(1), Some((sender(9), large)));
+    assert_eq!(rt; list.at(2), None);
+
+    for port in 100..114 {
+        assert_eq!(rt; list.put(sender(port), small), Ok(()));
+    }
+    assert_eq!(rt; list.len(), 16);
+    assert_eq!(rt; list.put(sender(1), small), Err(Full));
+    assert_eq!(rt; list.put(sender(3), small), Ok(()));
+    assert_eq!(rt; list.at(0), Some((sender(3), small)));
+    assert_eq!(rt; list.copy().as_slice(), list.as_slice());
+    Ok(())
+}
+
+fn each_message() -> Option<[Message; 7]> {
+    let usual = flow(1000)?;
+    let err = ErrSpec {
+        node: Addr(1),
+        in_place: true,
+        not_guilty: false,
+        code: 1,
+        value: 2,
+    };
+    Some([
+        Message::Path(PathMsg {
+            session: SESSION,
+            police: true,
+            hop: HOP,
+            period: 30_000,
+            sender: Some((sender(5004), usual)),
+        }),
+        Message::Resv(ResvMsg {
+            session: SESSION,
+            hop: HOP,
+            period: 30_000,
+            confirm: Some(Addr(2)),
+            ask: Ask::Wild {
+                scope: Some(some(&[0])?),
+                flow: usual,
+            },
+        }),
+        Message::PathErr(PathErrMsg {
+            session: SESSION,
+            err,
+            sender: None,
+        }),
+        Message::ResvErr(ResvErrMsg {
+            session: SESSION,
+            hop: HOP,
+            err,
+            blame: Blame {
+                style: StyleKind::Shared,
+                senders: Some(some(&[1, 2])?),
+                flow: Some(usual),
+            },
+        }),
+        Message::PathTear(PathTearMsg {
+            session: SESSION,
+            hop: HOP,
+            sender: Some(sender(5004)),
+        }),
+        Message::ResvTear(ResvTearMsg {
+            session: SESSION,
+            hop: HOP,
+            tear: Tear::Fixed(some(&[3])?),
+        }),
+        Message::ResvConf(ResvConfMsg {
+            session: SESSION,
+            err,
+            confirm: Addr(2),
+            ask: Ask::Shared(Part {
+                senders: some(&[4, 5])?,
+                flow: usual,
+            }),
+        }),
+    ])
+}
+
+// What is asked for, as senders and one flow.
+fn asked(ask: &Ask) -> (Option<Sender>, Option<Flow>) {
+    match ask {
+        Ask::Wild {
+            scope: Some(scope),
+            flow,
+        } => (scope.at(0), Some(*flow)),
+        Ask::Wild { scope: None, flow } => (None, Some(*flow)),
+        Ask::Fixed(list) => match list.at(0) {
+            Some((sender, flow)) => (Some(sender), Some(flow)),
+            None => (None, None),
+        },
+        Ask::Shared(part) => (part.senders.at(0), Some(part.flow)),
+    }
+}
+
+#[test]
+fn each_message_is_copied_as_its_kind(rt: HostRuntime) -> Result<(), Fail> {
+    let messages = each_message().ok_or("messages")?;
+    let kinds = [
+        Kind::Path,
+        Kind::Resv,
+        Kind::PathErr,
+        Kind::ResvErr,
+        Kind::PathTear,
+        Kind::ResvTear,
+        Kind::ResvConf,
+    ];
+    for (message, kind) in messages.iter().zip(kinds) {
+        assert_eq!(rt; message.copy().kind(), kind);
+    }
+    let Message::Resv(resv) = messages[1].copy() else {
+        return Err(Fail::from("a Resv"));
+    };
+    assert_eq!(rt; resv.confirm, Some(Addr(2)));
+    assert_eq!(rt; asked(&resv.copy().ask), (Some(sender(0)), flow(1000)));
+    let Message::ResvErr(error) = messages[3].copy() else {
+        return Err(Fail::from("a ResvErr"));
+    };
+    assert_eq!(rt; error.blame.copy().style, StyleKind::Shared);
+    let Message::ResvConf(conf) = messages[6].copy() else {
+        return Err(Fail::from("a ResvConf"));
+    };
+    assert_eq!(rt; asked(&conf.ask.copy()), (Some(sender(4)), flow(1000)));
+    Ok(())
+}

@@ -1,0 +1,107 @@
+//! Local senders of 32 sessions and a 33rd, and a 17th of one; wants that are asked, unmarked and ended; countdowns that come
+//! due.
+use local_state::{Countdowns, LocalSenders, LocalWant, LocalWants};
+use rsvp_base::{Addr, Flow, Full, Part, Peak, Rate, Sender, Senders, Session, StyleKind, Unit};
+use std::test::Fail;
+
+fn session(group: u32) -> Session {
+    Session {
+        group: Addr(group),
+        proto: 17,
+        port: 5004,
+    }
+}
+
+fn sender(addr: u32) -> Sender {
+    Sender {
+        addr: Addr(addr),
+        port: 5004,
+    }
+}
+
+fn flow(r: u64) -> Option<Flow> {
+    Flow::new(Rate::of(r)?, Rate::of(8)?, Peak::Infinite, 1, 1500)
+}
+
+#[test]
+fn there_are_32_sessions_of_16_local_senders(rt: HostRuntime) -> Result<(), Fail> {
+    let mut table = LocalSenders::open(rt.alloc()).ok().ok_or("memory")?;
+    let low = flow(10).ok_or("low")?;
+    let high = flow(20).ok_or("high")?;
+    for group in 0u32..33 {
+        let answer = table.put(session(group), sender(0), low);
+        assert!(rt; answer == if group < 32 { Ok(()) } else { Err(Full) });
+    }
+    for addr in 1u32..17 {
+        let answer = table.put(session(5), sender(addr), low);
+        assert!(rt; answer == if addr < 16 { Ok(()) } else { Err(Full) });
+    }
+    assert!(rt; table.put(session(5), sender(3), high) == Ok(()));
+    assert!(rt; table.find(session(5), sender(3)) == Some(high));
+    assert!(rt; table.of(session(5)).len() == 16 && table.of(session(6)).len() == 1);
+    assert!(rt; table.as_slice().len() == 47);
+    assert!(rt;
+        table.has_address(session(5), Addr(15)) && !table.has_address(session(6), Addr(15))
+    );
+
+    // Where the last sender of a session goes, there is room for another session.
+    assert!(rt; table.remove(session(7), sender(0)) && !table.remove(session(7), sender(0)));
+    assert!(rt; table.put(session(40), sender(0), low) == Ok(()));
+    assert!(rt; table.put(session(7), sender(0), low) == Err(Full));
+    Ok(())
+}
+
+#[test]
+fn wants_are_asked_unmarked_and_ended(rt: HostRuntime) -> Result<(), Fail> {
+    let mut table = LocalWants::open(rt.alloc()).ok().ok_or("memory")?;
+    let all = Senders::of(&[sender(1), sender(2)]).ok().ok_or("senders")?;
+    for (group, style) in [(1u32, StyleKind::Wild), (2, StyleKind::Shared)] {
+        let want = LocalWant {
+            session: session(group),
+            unit: Unit::One,
+            style,
+            part: Part {
+                senders: Senders::new(),
+                flow: flow(10).ok_or("flow")?,
+            },
+            confirm: true,
+        };
+        assert!(rt; table.put(want) == Ok(()));
+    }
+    assert!(rt; table.has_other(session(1), StyleKind::Shared));
+    assert!(rt; !table.has_other(session(2), StyleKind::Shared));
+    let own = table.own(session(1), StyleKind::Wild, &all);
+    assert!(rt;
+        own.get(Unit::One)
+            .is_some_and(|part| part.senders.len() == 2)
+    );
+    assert!(rt; table.own(session(2), StyleKind::Wild, &all).is_empty());
+    table.unmark(session(1), Unit::One);
+    assert!(rt; table.of(session(1)).iter().all(|want| !want.confirm));
+    assert!(rt; table.of(session(2)).iter().all(|want| want.confirm));
+    assert!(rt; table.quit(session(1)) && !table.quit(session(1)));
+    assert!(rt; table.of(session(1)).is_empty() && table.of(session(2)).len() == 1);
+    Ok(())
+}
+
+#[test]
+fn countdowns_come_due_and_begin_again(rt: HostRuntime) -> Result<(), Fail> {
+    let mut due = Countdowns::open(rt.alloc()).ok().ok_or("memory")?;
+    for (group, left) in [(1u32, 30_000u32), (2, 4_000), (1, 7)] {
+        if due.len() >= 64 {
+            return Err(Fail::from("no room"));
+        }
+        due.begin(session(group), left);
+    }
+    assert!(rt; due.len() == 2 && due.at(0) == Some((session(1), 30_000)) && due.at(2).is_none());
+
+    // A period of 30,000 ms: the one that is due has 15,000 and 17 more left, less the 1,000 that it is late.
+    let fired = due.tick(7_500, 5_000, 30_018);
+    assert!(rt; fired.as_slice() == [session(2)].as_slice() && !fired.has(session(1)));
+    assert!(rt; due.at(0) == Some((session(1), 25_000)) && due.at(1) == Some((session(2), 14_017)));
+    due.stop(session(1));
+    assert!(rt; !due.has(session(1)) && due.has(session(2)));
+    due.clear();
+    assert!(rt; due.len() == 0);
+    Ok(())
+}
