@@ -14,8 +14,6 @@ mod parts;
 mod reading;
 mod refusal;
 mod stop;
-#[cfg(test)]
-mod tests;
 
 pub use lines::{MOST_DIGITS, show};
 pub use message::put_message;

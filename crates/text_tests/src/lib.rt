@@ -1,4 +1,4 @@
-//! Tests of the words of lines, of the command line and of byte streams, each crate's in a module.
+//! Tests of the words of lines, of the command line, of byte streams and of `show`, each crate's in a module.
 //!
 //! There is nothing here but tests: a crate that has tests is proved twice, and these crates are not.
 #![tactic(auto)]
@@ -7,6 +7,8 @@
 mod commands;
 #[cfg(test)]
 mod line_readers;
+#[cfg(test)]
+mod readings;
 #[cfg(test)]
 mod streams;
 #[cfg(test)]

@@ -1,6 +1,6 @@
 //! What is shown of a message of each kind, and of each form that a refusal has. The bytes were put together by hand from
 //! the figures of RFC 2205 and RFC 2210.
-use crate::show;
+use message_show::show;
 use script_words::{LineErr, LineWhy, ParseErr};
 use std::test::Fail;
 
@@ -93,5 +93,25 @@ fn lines_are_shown_or_refused(rt: HostRuntime) -> Result<(), Fail> {
             _ => return Err(Fail::from("another answer")),
         }
     }
+    Ok(())
+}
+
+// The input with the most lines, each of a byte that is no message: 4,194,304 bytes, whose text is the longest.
+#[test]
+fn the_largest_input_is_shown(rt: HostRuntime) -> Result<(), Fail> {
+    let mut input = Vec::with_capacity(rt.alloc(), 4_194_304)?;
+    for _line in 0..1_398_101 {
+        input.extend_from_slice(b"00\n")?;
+    }
+    input.push(b'\n')?;
+    let Ok(text) = show(rt.alloc(), input.as_slice()) else {
+        return Err(Fail::from("the text"));
+    };
+    assert!(rt; text.len() == 14 * 1_398_101);
+    assert!(rt;
+        text.as_slice()
+            .chunks_exact(14)
+            .all(|line| line == b"refused Short\n")
+    );
     Ok(())
 }
