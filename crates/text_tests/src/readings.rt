@@ -111,7 +111,7 @@ fn the_largest_input_is_shown(rt: HostRuntime) -> Result<(), Fail> {
     assert!(rt;
         text.as_slice()
             .chunks_exact(14)
-            .all(|line| line == b"refused Short\n")
+            .all(|line| line == b"refused Short\n".as_slice())
     );
     Ok(())
 }
