@@ -1,14 +1,13 @@
 -- Sets and tables of the senders of filters.
-use Rattle.std.proofs.Common.{◌≡◌, ℕ, ◌+◌, ◌<◌, ◌≤◌, Bool, true, false, cond, List, [], ◌∷◌, length, get_or, drop, add-one, drop-cons, Option, Some, None, Result, Ok, Err, refl, sym, ap, subst, ◌∙◌, arith}
+use Rattle.std.proofs.Common.{◌≡◌, ℕ, ◌+◌, ◌<◌, ◌≤◌, Bool, true, false, cond, List, [], ◌∷◌, length, get_or, drop, add-one, drop-cons, Option, Result, Ok, Err, refl, sym, ap, subst, ◌∙◌, arith}
 use Rattle.std.specs.Prelude.{OnOk, IsErr, ◌↔◌, map as each}
 use Rattle.rsvp_base.specs.declared.session.Sender.{Sender}
 use Rattle.rsvp_base.specs.Orders.{Names, senders}
 use Rattle.rsvp_base.specs.Sets.{with_key, with_keys}
-use Rattle.rsvp_base.specs.Table.{empty, has, size, put_in, with_rows}
+use Rattle.rsvp_base.specs.Table.{has, size, put_in}
 use Rattle.rsvp_base.specs.TokenBucket.{TokenBucket}
 use Rattle.rsvp_base.proofs.Tables.{size-put_in}
 use Rattle.rsvp_messages.specs.FlowTable.{FlowTable}
-use Rattle.message_wire.specs.Messages.{pairs_in, or_empty, table_of_pairs}
 
 one_more_at_most : (b : Bool) (n : ℕ) → cond b n (n + 1) ≤ n + 1
 one_more_at_most true n = omega arith
@@ -25,21 +24,6 @@ pub had_room : {E : Type 0} (P : Type 0) (r : Result (Unit {0}) E) (old more : �
 had_room P (Ok x) old more ok full grows lt = ok
 had_room P (Err e) old more ok full grows lt = let past = full.0 refl in absurd (omega arith)
 
--- ---- tables from pairs, one by one
-
--- the table with further pairs; none where there are none at all
-abbrev pub onto : Option FlowTable → List (Sender × TokenBucket) → Option FlowTable
-onto t [] = t
-onto t (e ∷ es) = onto (Some (put_in (or_empty t) e.0 e.1)) es
-
-onto_some : (es : List (Sender × TokenBucket)) (t : FlowTable) → onto (Some t) es ≡ Some (with_rows t es)
-onto_some [] t = refl
-onto_some (e ∷ es) t = onto_some es (put_in t e.0 e.1)
-
-pub onto_none : (es : List (Sender × TokenBucket)) → onto None es ≡ table_of_pairs es
-onto_none [] = refl
-onto_none (e ∷ es) = onto_some es (put_in empty e.0 e.1)
-
 -- ---- the filter at an index
 
 abbrev Filter : Type 0
@@ -52,23 +36,3 @@ here fs i f lt there =
 
 pub names_step : (s t u : Names) (fs : List Filter) (i : ℕ) (f : Filter) → with_keys s (each (λ e. e.0) (drop i fs)) ≡ t → i < length fs → f ≡ get_or fs i f → u ≡ with_key s f.0 → with_keys u (each (λ e. e.0) (drop (i + 1) fs)) ≡ t
 names_step s t u fs i f is lt there e = ap (λ (v : Names). with_keys v (each (λ e. e.0) (drop (i + 1) fs))) e ∙ sym (ap (λ (es : List Filter). with_keys s (each (λ e. e.0) es)) (here fs i f lt there)) ∙ is
-
-pairs_some : (s : Sender) (o : Option TokenBucket) (g : TokenBucket) (fs : List Filter) → o ≡ Some g → pairs_in ((s, o) ∷ fs) ≡ (s, g) ∷ pairs_in fs
-pairs_some s (Some h) g fs e = let same : h ≡ g = cc in ap (λ (x : TokenBucket). (s, x) ∷ pairs_in fs) same
-pairs_some s None g fs e = absurd cc
-
-pairs_none : (s : Sender) (o : Option TokenBucket) (fs : List Filter) → o ≡ None → pairs_in ((s, o) ∷ fs) ≡ pairs_in fs
-pairs_none s (Some h) fs e = absurd cc
-pairs_none s None fs e = refl
-
-pub pairs_step : (t whole : Option FlowTable) (u : FlowTable) (fs : List Filter) (i : ℕ) (f : Filter) (g : TokenBucket) → onto t (pairs_in (drop i fs)) ≡ whole → i < length fs → f ≡ get_or fs i f → f.1 ≡ Some g → u ≡ put_in (or_empty t) f.0 g
-    → onto (Some u) (pairs_in (drop (i + 1) fs)) ≡ whole
-pairs_step t whole u fs i f g is lt there flow e =
-    let rest = pairs_in (drop (i + 1) fs) in
-    let split : pairs_in (drop i fs) ≡ (f.0, g) ∷ rest = ap pairs_in (here fs i f lt there) ∙ pairs_some f.0 f.1 g (drop (i + 1) fs) flow in
-    ap (λ (v : FlowTable). onto (Some v) rest) e ∙ sym (ap (onto t) split) ∙ is
-
-pub pairs_skip : (t whole : Option FlowTable) (fs : List Filter) (i : ℕ) (f : Filter) → onto t (pairs_in (drop i fs)) ≡ whole → i < length fs → f ≡ get_or fs i f → f.1 ≡ None → onto t (pairs_in (drop (i + 1) fs)) ≡ whole
-pairs_skip t whole fs i f is lt there flow =
-    let split : pairs_in (drop i fs) ≡ pairs_in (drop (i + 1) fs) = ap pairs_in (here fs i f lt there) ∙ pairs_none f.0 f.1 (drop (i + 1) fs) flow in
-    sym (ap (onto t) split) ∙ is

@@ -54,11 +54,6 @@ pairs_in [] = []
 pairs_in ((s, Some f) ∷ es) = (s, f) ∷ pairs_in es
 pairs_in ((s, None) ∷ es) = pairs_in es
 
--- no table is the empty one
-abbrev pub or_empty : Option FlowTable → FlowTable
-or_empty None = empty
-or_empty (Some t) = t
-
 -- at least one
 abbrev pub table_of_pairs : List (Sender × TokenBucket) → Option FlowTable
 table_of_pairs [] = None

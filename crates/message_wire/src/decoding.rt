@@ -9,6 +9,7 @@ use crate::checksum::is_right;
 use crate::hinting::{hint, no_hint};
 use crate::making::message;
 use crate::reading::{HEADER, walk};
+use crate::seen::Seen;
 use byteorder::{BigEndian, ByteOrder};
 use rsvp_messages::{Fault, Kind, Message, MsgErr};
 
@@ -58,8 +59,9 @@ fn objects(kind: Kind, bytes: &[u8]) -> Result<Message, Fault>
     ensures ok { IfOk result (Says kind bytes.now) }
     ensures err { IfErr result (Fails kind bytes.now) }
 {
-    let seen = walk(kind, bytes)?;
-    message(kind, seen)
+    let mut seen = Seen::new();
+    walk(kind, bytes, &mut seen)?;
+    message(kind, &seen)
 }
 
 // The kind that the header names, or the header's first fault.

@@ -1,9 +1,9 @@
 //! Sets and tables of the senders that filters name.
-ghost use Rattle.std.specs.Prelude.{◌≡◌, ◌≤◌, ◌<◌, ◌∷◌, [], length};
+ghost use Rattle.std.specs.Prelude.{◌≡◌, ◌≤◌, ◌<◌, ◌+◌, ◌∷◌, [], length};
 ghost use Rattle.rsvp_base.specs.Orders.{names_from};
 ghost use Rattle.rsvp_base.specs.Sets.{with_key};
-ghost use Rattle.rsvp_base.specs.Table.{put_in, size};
-ghost use Rattle.message_wire.specs.Messages.{names_in, named, first_named, pairs_in, or_empty, table_of_pairs};
+ghost use Rattle.rsvp_base.specs.Table.{put_in, size, with_rows};
+ghost use Rattle.message_wire.specs.Messages.{names_in, named, first_named, pairs_in, table_of_pairs};
 
 use crate::filters::Filters;
 use rsvp_base::{Flow, Sender, Senders};
@@ -67,33 +67,36 @@ fn pairs_of(filters: &[(Sender, Option<Flow>)]) -> Option<FixedList>
     requires { length filters.now ≤ 16 }
     ensures { result ≡ table_of_pairs (pairs_in filters.now) }
 {
-    let mut list = None;
-    for filter in filters {
-        if let Some(flow) = filter.1 {
-            list = Some(with_pair(list, filter.0, flow));
+    match filters {
+        [] => None,
+        [(_, None), rest @ ..] => pairs_of(rest),
+        [(sender, Some(flow)), rest @ ..] => {
+            let mut list = FixedList::new(*sender, *flow);
+            put_all(&mut list, rest);
+            Some(list)
         }
     }
-    list
 }
 
-// The list, where there is one, with a sender's flow.
-fn with_pair(list: Option<FixedList>, sender: Sender, flow: Flow) -> FixedList
-    requires { size (or_empty list) < 16 }
-    ensures { result ≡ put_in (or_empty list) sender flow }
+// Puts each sender that has a flow.
+fn put_all(list: &mut FixedList, filters: &[(Sender, Option<Flow>)])
+    requires { size list.old + length filters.now ≤ 16 }
+    ensures { list.new ≡ with_rows list.old (pairs_in filters.now) }
 {
-    match list {
-        None => FixedList::new(sender, flow),
-        Some(list) => {
-            let mut list = list;
-            put(&mut list, sender, flow);
-            list
+    match filters {
+        [] => {}
+        [(_, None), rest @ ..] => put_all(list, rest),
+        [(sender, Some(flow)), rest @ ..] => {
+            put(list, *sender, *flow);
+            put_all(list, rest)
         }
     }
 }
 
 fn put(list: &mut FixedList, sender: Sender, flow: Flow)
     requires { size list.old < 16 }
-    ensures { list.new ≡ put_in list.old sender flow }
+    ensures is { list.new ≡ put_in list.old sender flow }
+    ensures grew { size list.new ≤ size list.old + 1 }
 {
     let _ = list.put(sender, flow);
 }

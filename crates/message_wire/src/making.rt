@@ -14,8 +14,8 @@ use rsvp_messages::{
 
 /// The message of all objects, or the lowest class that is missing.
 #[tactic(auto, unfolding(crate::specs::Messages::message_of))]
-pub fn message(kind: Kind, seen: Seen) -> Result<Message, Fault>
-    ensures { result ≡ message_of kind seen }
+pub fn message(kind: Kind, seen: &Seen) -> Result<Message, Fault>
+    ensures { result ≡ message_of kind seen.now }
 {
     match kind {
         Kind::Path => path(seen),
@@ -29,8 +29,8 @@ pub fn message(kind: Kind, seen: Seen) -> Result<Message, Fault>
 }
 
 #[tactic(auto, unfolding(crate::specs::Messages::path_of))]
-fn path(seen: Seen) -> Result<Message, Fault>
-    ensures { result ≡ path_of seen }
+fn path(seen: &Seen) -> Result<Message, Fault>
+    ensures { result ≡ path_of seen.now }
 {
     let (session, police) = needed(class::SESSION, seen.session)?;
     let hop = needed(class::RSVP_HOP, seen.hop)?;
@@ -46,15 +46,15 @@ fn path(seen: Seen) -> Result<Message, Fault>
 }
 
 #[tactic(auto, unfolding(crate::specs::Messages::resv_of))]
-fn resv(seen: Seen) -> Result<Message, Fault>
-    ensures { result ≡ resv_of seen }
+fn resv(seen: &Seen) -> Result<Message, Fault>
+    ensures { result ≡ resv_of seen.now }
 {
     let (session, _) = needed(class::SESSION, seen.session)?;
     let hop = needed(class::RSVP_HOP, seen.hop)?;
     let period = needed(class::TIME_VALUES, seen.period)?;
     let style = needed(class::STYLE, seen.style)?;
     let flow = needed(class::FLOWSPEC, seen.flow)?;
-    let ask = ask(seen.scope, seen.due, &seen.filters, flow, style)?;
+    let ask = ask(copied(&seen.scope), seen.due, &seen.filters, flow, style)?;
     Ok(Message::Resv(ResvMsg {
         session,
         hop,
@@ -65,8 +65,8 @@ fn resv(seen: Seen) -> Result<Message, Fault>
 }
 
 #[tactic(auto, unfolding(crate::specs::Messages::path_err_of))]
-fn path_err(seen: Seen) -> Result<Message, Fault>
-    ensures { result ≡ path_err_of seen }
+fn path_err(seen: &Seen) -> Result<Message, Fault>
+    ensures { result ≡ path_err_of seen.now }
 {
     let (session, _) = needed(class::SESSION, seen.session)?;
     let err = needed(class::ERROR_SPEC, seen.error)?;
@@ -78,14 +78,14 @@ fn path_err(seen: Seen) -> Result<Message, Fault>
 }
 
 #[tactic(auto, unfolding(crate::specs::Messages::resv_err_of))]
-fn resv_err(seen: Seen) -> Result<Message, Fault>
-    ensures { result ≡ resv_err_of seen }
+fn resv_err(seen: &Seen) -> Result<Message, Fault>
+    ensures { result ≡ resv_err_of seen.now }
 {
     let (session, _) = needed(class::SESSION, seen.session)?;
     let hop = needed(class::RSVP_HOP, seen.hop)?;
     let err = needed(class::ERROR_SPEC, seen.error)?;
     let style = needed(class::STYLE, seen.style)?;
-    let blame = blame(seen.scope, &seen.filters, seen.flow, style)?;
+    let blame = blame(copied(&seen.scope), &seen.filters, seen.flow, style)?;
     Ok(Message::ResvErr(ResvErrMsg {
         session,
         hop,
@@ -95,8 +95,8 @@ fn resv_err(seen: Seen) -> Result<Message, Fault>
 }
 
 #[tactic(auto, unfolding(crate::specs::Messages::path_tear_of))]
-fn path_tear(seen: Seen) -> Result<Message, Fault>
-    ensures { result ≡ path_tear_of seen }
+fn path_tear(seen: &Seen) -> Result<Message, Fault>
+    ensures { result ≡ path_tear_of seen.now }
 {
     let (session, _) = needed(class::SESSION, seen.session)?;
     let hop = needed(class::RSVP_HOP, seen.hop)?;
@@ -108,19 +108,19 @@ fn path_tear(seen: Seen) -> Result<Message, Fault>
 }
 
 #[tactic(auto, unfolding(crate::specs::Messages::resv_tear_of))]
-fn resv_tear(seen: Seen) -> Result<Message, Fault>
-    ensures { result ≡ resv_tear_of seen }
+fn resv_tear(seen: &Seen) -> Result<Message, Fault>
+    ensures { result ≡ resv_tear_of seen.now }
 {
     let (session, _) = needed(class::SESSION, seen.session)?;
     let hop = needed(class::RSVP_HOP, seen.hop)?;
     let style = needed(class::STYLE, seen.style)?;
-    let tear = tear(seen.scope, &seen.filters, style)?;
+    let tear = tear(copied(&seen.scope), &seen.filters, style)?;
     Ok(Message::ResvTear(ResvTearMsg { session, hop, tear }))
 }
 
 #[tactic(auto, unfolding(crate::specs::Messages::resv_conf_of))]
-fn resv_conf(seen: Seen) -> Result<Message, Fault>
-    ensures { result ≡ resv_conf_of seen }
+fn resv_conf(seen: &Seen) -> Result<Message, Fault>
+    ensures { result ≡ resv_conf_of seen.now }
 {
     let (session, _) = needed(class::SESSION, seen.session)?;
     let err = needed(class::ERROR_SPEC, seen.error)?;
@@ -143,6 +143,15 @@ fn needed<T>(number: u8, said: Option<T>) -> Result<T, Fault>
     match said {
         Some(value) => Ok(value),
         None => Err(Fault::Missing(number)),
+    }
+}
+
+fn copied(scope: &Option<Senders>) -> Option<Senders>
+    ensures { result ≡ scope.now }
+{
+    match scope {
+        None => None,
+        Some(senders) => Some(senders.copy()),
     }
 }
 

@@ -1,18 +1,20 @@
 //! Where objects may stand in messages.
 ghost use Rattle.std.specs.Prelude.{◌≡◌};
+ghost use Rattle.message_wire.specs.Table.{role_of};
 ghost use Rattle.message_wire.specs.Places.{has_no_filter, list_place, error_place, tear_place, place_after_style, has_place, stood, is_repeated, name_fault};
 
 use crate::role::Role;
 use crate::seen::Seen;
-use crate::table::{class, is_anywhere, role};
+use crate::table::{class, is_anywhere};
 use rsvp_base::StyleKind;
 use rsvp_messages::{Fault, Kind};
 use rsvp_objects::{ObjErr, Object};
 
-/// Whether an object of this class may stand behind those that were seen.
+/// Whether an object of this class, of this role in the kind, may stand behind those that were seen.
 #[tactic(auto, unfolding(crate::specs::Places::has_place))]
 #[inline(always)]
-pub fn has_place(kind: Kind, seen: &Seen, number: u8) -> bool
+pub fn has_place(role: Role, kind: Kind, seen: &Seen, number: u8) -> bool
+    requires role { role ≡ role_of kind number }
     ensures { result ≡ has_place kind seen.now number }
 {
     if is_anywhere(number) {
@@ -22,7 +24,7 @@ pub fn has_place(kind: Kind, seen: &Seen, number: u8) -> bool
         return !seen.begun;
     }
     match seen.style {
-        None => !matches!(role(kind, number), Role::Nowhere),
+        None => !matches!(role, Role::Nowhere),
         Some(style) => place_after_style(kind, style, seen, number),
     }
 }
@@ -94,10 +96,11 @@ fn tear_place(style: StyleKind, number: u8) -> bool
 /// Whether an object of this class, which stands once, stood before.
 #[tactic(auto, unfolding(crate::specs::Places::is_repeated))]
 #[inline(always)]
-pub fn is_repeated(kind: Kind, seen: &Seen, number: u8) -> bool
+pub fn is_repeated(role: Role, kind: Kind, seen: &Seen, number: u8) -> bool
+    requires role { role ≡ role_of kind number }
     ensures { result ≡ is_repeated kind seen.now number }
 {
-    match role(kind, number) {
+    match role {
         Role::Needed | Role::Once => stood(seen, number),
         Role::Unread | Role::Nowhere => false,
     }

@@ -1,13 +1,15 @@
 //! Reading the objects of a message.
-ghost use Rattle.std.specs.Prelude.{◌≡◌, ◌≤◌, ◌<◌, [], List, length, IfOk, IfErr};
+ghost use Rattle.std.specs.Prelude.{◌≡◌, ◌≤◌, ◌<◌, [], List, length, OnOk, IfOk, IfErr};
 ghost use Rattle.rsvp_objects.specs.declared.object.Object.{Object as AnObject};
 ghost use Rattle.message_wire.specs.Places.{read_in, object_in, HasRoom, Stand};
 ghost use Rattle.message_wire.specs.Said.{seen_of};
 ghost use Rattle.message_wire.specs.Spells.{StopsAt};
+ghost use Rattle.message_wire.specs.Table.{role_of};
 
 use crate::places::{has_place, is_repeated, name_fault};
+use crate::role::Role;
 use crate::seen::Seen;
-use crate::table::is_unread;
+use crate::table::{is_unread, role};
 use rsvp_messages::{Fault, Kind};
 use rsvp_objects::{ObjErr, Object, head_at, is_known, object_with};
 
@@ -17,21 +19,21 @@ pub const HEADER: usize = 8;
 /// The size of an object's head, behind which its contents stand (RFC 2205, 3.1.2).
 pub const HEAD: usize = 4;
 
-/// What all objects of a message say, or the first fault of the first that has one.
-pub fn walk(kind: Kind, bytes: &[u8]) -> Result<Seen, Fault>
+/// Gathers what all objects of a message say, or answers the first fault of the first that has one.
+pub fn walk(kind: Kind, bytes: &[u8], seen: &mut Seen) -> Result<(), Fault>
     requires long { 8 ≤ length bytes.now }
     requires short { length bytes.now ≤ 65535 }
-    ensures ok { IfOk result (λ seen. (xs : List AnObject) × Stand kind bytes.now [] 8 xs (length bytes.now) × (seen ≡ seen_of xs)) }
+    requires start { seen.old ≡ seen_of [] }
+    ensures ok { OnOk result ((xs : List AnObject) × Stand kind bytes.now [] 8 xs (length bytes.now) × (seen.new ≡ seen_of xs)) }
     ensures err { IfErr result (StopsAt kind bytes.now) }
 {
-    let mut seen = Seen::new();
     let mut at = HEADER;
     while at < bytes.len() {
-        let (object, next) = object_in(kind, &seen, at, bytes)?;
+        let (object, next) = object_in(kind, seen, at, bytes)?;
         seen.add(object);
         at = next;
     }
-    Ok(seen)
+    Ok(())
 }
 
 // The object at a place behind others, and the place behind it. Else the first fault there.
@@ -52,14 +54,15 @@ fn object_in(kind: Kind, seen: &Seen, at: usize, bytes: &[u8]) -> Result<(Object
     if !is_known(head.class) {
         return Err(Fault::Object(ObjErr::Class(place, head.class, head.ctype)));
     }
-    if !has_place(kind, seen, head.class) {
+    let role = role(kind, head.class);
+    if !has_place(role, kind, seen, head.class) {
         return Err(Fault::Order(place));
     }
-    if is_repeated(kind, seen, head.class) {
+    if is_repeated(role, kind, seen, head.class) {
         return Err(Fault::Repeated(place));
     }
     let body = &bytes[at + HEAD..head.end];
-    let object = match read_in(kind, place, head.class, head.ctype, body) {
+    let object = match read_in(role, kind, place, head.class, head.ctype, body) {
         Ok(object) => object,
         Err(fault) => return Err(Fault::Object(fault)),
     };
@@ -71,10 +74,18 @@ fn object_in(kind: Kind, seen: &Seen, at: usize, bytes: &[u8]) -> Result<(Object
 
 // The object with these contents; some are not read in messages of a kind.
 #[inline(always)]
-fn read_in(kind: Kind, at: u16, class: u8, ctype: u8, body: &[u8]) -> Result<Object, ObjErr>
+fn read_in(
+    role: Role,
+    kind: Kind,
+    at: u16,
+    class: u8,
+    ctype: u8,
+    body: &[u8],
+) -> Result<Object, ObjErr>
+    requires role { role ≡ role_of kind class }
     ensures { result ≡ read_in kind at class ctype body.now }
 {
-    if is_unread(kind, class) {
+    if is_unread(role, kind, class) {
         return Ok(Object::Skipped { class });
     }
     object_with(at, class, ctype, body)

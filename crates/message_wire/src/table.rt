@@ -97,10 +97,10 @@ pub fn is_anywhere(number: u8) -> bool
     number == class::NULL || number >= class::FIRST_SKIPPED
 }
 
-/// Whether messages of a kind skip objects of a class, whatever their contents are.
-pub fn is_unread(kind: Kind, number: u8) -> bool
+/// Whether messages of a kind skip objects of a class, of this role there, whatever their contents are.
+pub fn is_unread(role: Role, kind: Kind, number: u8) -> bool
+    requires role { role ≡ role_of kind number }
     ensures { result ≡ is_unread kind number }
 {
-    (kind == Kind::ResvTear && number == class::FLOWSPEC)
-        || matches!(role(kind, number), Role::Unread)
+    (kind == Kind::ResvTear && number == class::FLOWSPEC) || matches!(role, Role::Unread)
 }
