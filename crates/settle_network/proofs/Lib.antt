@@ -1,9 +1,5 @@
-pub mod Blockades
-pub mod Accepting
-pub mod Errors
-pub mod TowardIsTheWant
-pub mod ExactResvs
 pub mod Reports
 pub mod Settled
 pub mod RunsSettle
 pub mod Example
+pub mod Tight

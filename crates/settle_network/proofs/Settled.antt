@@ -21,11 +21,11 @@ use Rattle.settle_paths.proofs.SoundPaths.{paths_are_sound}
 use Rattle.sound_resvs.proofs.SoundResvs.{IsFirm}
 use Rattle.sound_resvs.proofs.SoundUnits.{IsAddressed, addressed, reservations_become_sound}
 use Rattle.settle_network.specs.Settled.{HasSettled}
-use Rattle.settle_network.proofs.Accepting.{IsReady, locals_again, takes_all}
-use Rattle.settle_network.proofs.Blockades.{blockades_are_gone}
-use Rattle.settle_network.proofs.Errors.{IsCalmed, errors_are_gone}
+use Rattle.taken_resvs.proofs.Accepting.{IsReady, locals_again, takes_all}
+use Rattle.taken_resvs.proofs.Blockades.{blockades_are_gone}
+use Rattle.taken_resvs.proofs.Errors.{IsCalmed, errors_are_gone}
 use Rattle.settle_network.proofs.Reports.{book_is_the_demand}
-use Rattle.settle_network.proofs.ExactResvs.{IsSteady, reservations_are_exact}
+use Rattle.exact_resvs.proofs.ExactResvs.{IsSteady, reservations_are_exact}
 
 module _ (q : ℕ) (w : World) (rs : List (List Step)) (calm : Rounds (machine q) rs w) (start : IsStart q w) where
   -- the length of the longest chain, and the rounds until paths, reservations, errors and blockades are as they should be

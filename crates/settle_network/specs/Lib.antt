@@ -1,3 +1,3 @@
-pub mod Toward
 pub mod Settled
 pub mod Example
+pub mod Tight

@@ -5,40 +5,22 @@ ghost use Rattle.calm_rounds.specs.Machine.{run};
 ghost use Rattle.calm_rounds.specs.Rounds.{Rounds};
 ghost use Rattle.tree_model.specs.Goals.{DemandsFit};
 ghost use Rattle.tree_model.specs.Ranks.{longest};
-ghost use Rattle.network_model.specs.Bounds.{AreBounds, AreHosts, IsSettled, IsStart};
+ghost use Rattle.network_model.specs.Bounds.{IsSettled, IsStart};
 ghost use Rattle.network_model.specs.Locals.{locals_of};
 ghost use Rattle.network_model.specs.Runs.{Plan, first_world, steps_of_run};
-ghost use Rattle.network_model.specs.Sound.{ArePathsComplete, ArePathsSound, AreResvsExact, AreResvsSound, HasNoFlowError, IsFreeOfBlockade, TakesAll};
+ghost use Rattle.network_model.specs.Sound.{AreResvsExact, HasNoFlowError, TakesAll};
 ghost use Rattle.network_model.specs.Steps.{Step, is_quiet, machine};
 ghost use Rattle.network_model.specs.Worlds.{World};
 ghost use Rattle.network_steps.specs.Runs.{AreFitSenders, IsFitRun};
-ghost use Rattle.settle_network.specs.Example.{ABlockadeIsLeftOver, ItHasNotSettledYet, SomethingIsRefused};
+ghost use Rattle.settle_network.specs.Example.{ItHasNotSettledYet};
 ghost use Rattle.settle_network.specs.Settled.{HasSettled};
-ghost use Rattle.settle_network.specs.Toward.{TowardIsTheWant};
-
-/// Each arrival is taken: where paths are sound and complete, reservations are sound, and the demands fit, one calm round on each
-/// unit of each Resv that arrives stands at its node as it was asked for. No unit is refused, left out or cut.
-pub fn arrivals_are_taken()
-    ensures { (q : ℕ) (w : World) (rs : List (List Step)) → Rounds (machine q) rs w → AreHosts w → DemandsFit w.net (locals_of w) → AreBounds q w → Hold (machine q) 0 rs w (λ u. ArePathsSound u × (ArePathsComplete u × AreResvsSound u))
-        → Hold (machine q) 1 rs w (λ u. (s : Step) → is_quiet s ≡ true → TakesAll q s u) }
-{}
+ghost use Rattle.settle_network.specs.Tight.{ThreeRoundsAreTooFew};
 
 /// Nothing is refused: from any start, 11 H + 10 calm rounds on, each arrival is taken whole, and no ResvErr with a flow is in
 /// flight. An error goes on along a chain of hops, one round a hop, and none is made.
 pub fn nothing_is_refused()
     ensures { (q : ℕ) (w : World) (rs : List (List Step)) → Rounds (machine q) rs w → IsStart q w
         → Hold (machine q) (((4 + 5 * longest w.net) + (5 + 5 * longest w.net)) + suc (longest w.net)) rs w (λ u. ((s : Step) → is_quiet s ≡ true → TakesAll q s u) × HasNoFlowError u) }
-{}
-
-/// Blockades are gone: where no ResvErr with a flow is in flight from now on, three calm rounds on no blockade lives.
-pub fn blockades_are_gone()
-    ensures { (q : ℕ) (w : World) (rs : List (List Step)) → Rounds (machine q) rs w → AreBounds q w → Hold (machine q) 0 rs w HasNoFlowError → Hold (machine q) 3 rs w IsFreeOfBlockade }
-{}
-
-/// Toward is the want: where paths are sound and complete, no blockade lives at a node, and its reservations are sound and exact
-/// over the hops that follow, what goes from the node toward a previous hop is what is wanted over its hop.
-pub fn toward_is_the_want()
-    ensures { (q : ℕ) (w : World) → AreBounds q w → ArePathsSound w → ArePathsComplete w → TowardIsTheWant q w }
 {}
 
 /// Reservations are the wants: from any start, 13 H + 13 calm rounds on, what stands of a style and session over a hop is exactly
@@ -68,19 +50,14 @@ pub fn a_run_settles()
         → DemandsFit (run (machine p.quarter) is.before (first_world p)).net (locals_of (run (machine p.quarter) is.before (first_world p))) → HasSettled p.quarter (run (machine p.quarter) ss (first_world p)) }
 {}
 
-/// The first world of a script with a left-over blockade meets the premises of `blockades_are_gone` through three calm rounds,
-/// and at its start the blockade lives.
-pub fn a_blockade_is_left_over()
-    ensures { ABlockadeIsLeftOver }
-{}
-
-/// Where a Resv that no sender asks for was injected it is refused, and an injected error with a flow is in flight.
-pub fn something_is_refused()
-    ensures { SomethingIsRefused }
-{}
-
 /// The first world of a script with a left-over reservation, of a next hop that no end has, meets the premises of
 /// `a_network_settles` through 26 calm rounds, and has not settled at their start.
 pub fn it_has_not_settled_yet()
     ensures { ItHasNotSettledYet }
+{}
+
+/// Of the rounds until paths are sound, 5 H + 4, none can be spared where no hop is: a node alone with a left-over path meets the
+/// premises of `paths_are_sound` through three rounds as short as calm rounds can be, and after them its paths are not sound.
+pub fn three_rounds_are_too_few()
+    ensures { ThreeRoundsAreTooFew }
 {}

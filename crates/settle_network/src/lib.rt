@@ -1,8 +1,9 @@
-//! A network settles: what refusals and blockades leave behind, and what becomes of the whole.
+//! A network settles: from any start, after so many calm rounds, paths, reservations and books are what the hosts ask for, and
+//! nothing is left of refusals and blockades.
 //!
-//! A blockade (RFC 2205, 3.5) is set by a ResvErr that says a flow, and dies of itself. Where no such error is in flight any
-//! more, blockades are gone three calm rounds later. Definitions stand in `specs/`, and each public function of `laws` has an
-//! empty body and a law as its promise.
+//! This is what soft state is for (RFC 2205, 2.3 and 3.7): whatever was left over, lost, copied or injected dies out. The laws of
+//! the crates below are put one after the other in `proofs/Settled.antt`. Definitions stand in `specs/`, and each public function
+//! of `laws` has an empty body and a law as its promise.
 #![tactic(auto)]
 
 pub mod laws;

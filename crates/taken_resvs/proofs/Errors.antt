@@ -35,7 +35,7 @@ use Rattle.router_rules.specs.NodeConfig.{NodeConfig, own}
 use Rattle.router_rules.specs.Rule.{rule}
 use Rattle.tree_model.specs.declared.hops.End.{End}
 use Rattle.tree_model.specs.declared.hops.LinkHop.{LinkHop}
-use Rattle.tree_model.specs.Goals.{addr_of, addr_of_end}
+use Rattle.tree_model.specs.Goals.{DemandsFit, addr_of, addr_of_end}
 use Rattle.tree_model.specs.Networks.{Net, node_of, node_of_end, end_at, iface_of, peers}
 use Rattle.tree_model.specs.Ranks.{longest, rank}
 use Rattle.tree_model.specs.Trees.{hops_of, tree}
@@ -46,7 +46,7 @@ use Rattle.tree_model.proofs.Ifaces.{interfaces_are_ends}
 use Rattle.tree_model.proofs.Links.{hop_linked}
 use Rattle.tree_model.proofs.RankLaws.{rank_falls, rank_falls_at, rank_some}
 use Rattle.tree_model.proofs.WantLaws.{a_common_name, want_names}
-use Rattle.network_model.specs.Bounds.{IsProperArrival}
+use Rattle.network_model.specs.Bounds.{IsProperArrival, AreBounds, AreHosts}
 use Rattle.network_model.specs.Links.{goes_to, is_group}
 use Rattle.network_model.specs.Locals.{locals_of}
 use Rattle.network_model.specs.Sound.{HasNoFlowError}
@@ -56,12 +56,12 @@ use Rattle.network_model.proofs.Changing.{where_a_send_goes}
 use Rattle.network_model.proofs.Machines.{quiet_of, items_are_numbered, in_flight_after, in_arrived}
 use Rattle.network_model.proofs.Quiet.{IsWaited, IsCame, input_found, arrival_takes_no_time}
 use Rattle.network_steps.specs.Known.{IsKnown}
-use Rattle.network_steps.proofs.Known.{of_some}
+use Rattle.network_steps.proofs.Known.{of_some, known_hold}
 use Rattle.network_steps.proofs.Sends.{IsSentByRule, sent_by_rule, goes_to_end}
 use Rattle.network_steps.proofs.Standing.{own_end, peer_there, some_at}
 use Rattle.node_goals.specs.GoalByIface.{goal_at}
 use Rattle.settle_paths.proofs.PreviousHops.{ends_there, same_by_addr}
-use Rattle.settle_network.proofs.Accepting.{IsReady, can_be_taken}
+use Rattle.taken_resvs.proofs.Accepting.{IsReady, IsSettledSoFar, can_be_taken, ready_hold}
 use Rattle.router_rules.specs.Steps.{node_step}
 
 -- ---- how far an error has to go: it comes over a hop whose names it names, from which no chain is longer than a number; or the
@@ -254,3 +254,10 @@ module _ (q : ℕ) (o : World) where
       let e : k + 0 ≡ suc (longest o.net) = omega arith in
       hold_map (machine q) (λ u. IsCalmed q o u × Low 0 u) HasNoFlowError (λ u h. none_left u h.0 h.1) k rs w
       (hold_both (machine q) (IsCalmed q o) (Low 0) k rs w (hold_later (machine q) (IsCalmed q o) 0 k rs w (omega arith) c) (fewer k 0 e rs w calm c))
+
+-- from worlds that are ready
+pub errors_go : (q : ℕ) (w : World) (rs : List (List Step)) → Rounds (machine q) rs w → AreHosts w → DemandsFit w.net (locals_of w) → Hold (machine q) 0 rs w (AreBounds q) → Hold (machine q) 0 rs w IsSettledSoFar → Hold (machine q) (suc (longest w.net)) rs w HasNoFlowError
+errors_go q w rs calm locals fit bounds so_far =
+    errors_are_gone q w rs w calm
+    (hold_map (machine q) (λ u. IsKnown q w u × IsReady q u) (IsCalmed q w) (λ u h. record { known = h.0; ready = h.1 }) 0 rs w
+    (hold_both (machine q) (IsKnown q w) (IsReady q) 0 rs w (known_hold q w rs calm bounds) (ready_hold q w rs calm locals fit bounds so_far)))

@@ -39,7 +39,7 @@ use Rattle.router_rules.specs.Rule.{Outcome}
 use Rattle.router_rules.specs.Steps.{facts_then, node_step}
 use Rattle.tree_model.specs.declared.hops.End.{End}
 use Rattle.tree_model.specs.declared.hops.LinkHop.{LinkHop}
-use Rattle.tree_model.specs.Goals.{addr_of, addr_of_end}
+use Rattle.tree_model.specs.Goals.{addr_of, addr_of_end, DemandsFit}
 use Rattle.tree_model.specs.Networks.{Net, node_of, end_at, iface_of, peers}
 use Rattle.tree_model.specs.Ranks.{longest, rank}
 use Rattle.tree_model.specs.Trees.{hops_of, outward, tree}
@@ -51,10 +51,10 @@ use Rattle.tree_model.proofs.Links.{hop_linked}
 use Rattle.tree_model.proofs.RankLaws.{rank_falls, rank_falls_at, rank_some}
 use Rattle.tree_model.proofs.TreeLaws.{out_tested, the_root_has_no_inward}
 use Rattle.tree_model.proofs.WantLaws.{name_told, want_names}
-use Rattle.network_model.specs.Bounds.{AreBounds}
+use Rattle.network_model.specs.Bounds.{AreBounds, AreHosts}
 use Rattle.network_model.specs.Links.{goes_to, is_group}
 use Rattle.network_model.specs.Locals.{locals_of}
-use Rattle.network_model.specs.Sound.{AreResvsExact, IsExact, IsFreeOfBlockade}
+use Rattle.network_model.specs.Sound.{AreResvsExact, IsExact, IsFreeOfBlockade, ArePathsSound}
 use Rattle.network_model.specs.Steps.{Step, is_quiet, ms_of, sent, step, machine}
 use Rattle.network_model.specs.Worlds.{Item, World, config_of}
 use Rattle.network_model.proofs.Changing.{where_a_send_goes}
@@ -74,11 +74,11 @@ use Rattle.settle_resvs.proofs.SoftResvs.{resv_found, kept_found}
 use Rattle.settle_resvs.proofs.Said.{said_resvs_are_kept}
 use Rattle.sound_resvs.specs.Below.{AreSoundBelow}
 use Rattle.sound_resvs.proofs.ResvSends.{IsResvSent, over_hop}
-use Rattle.sound_resvs.proofs.SoundResvs.{sent_here}
-use Rattle.sound_resvs.proofs.SoundUnits.{IsAddressed, peers_both}
+use Rattle.sound_resvs.proofs.SoundResvs.{sent_here, firm_hold}
+use Rattle.sound_resvs.proofs.SoundUnits.{IsAddressed, peers_both, addressed}
 use Rattle.sound_resvs.proofs.TowardNames.{parts_of_style}
-use Rattle.settle_network.proofs.Accepting.{IsReady, can_be_taken}
-use Rattle.settle_network.proofs.TowardIsTheWant.{toward_is_the_want}
+use Rattle.taken_resvs.proofs.Accepting.{IsReady, can_be_taken, IsSettledSoFar, ready_hold}
+use Rattle.exact_resvs.proofs.TowardIsTheWant.{toward_is_the_want}
 
 -- ---- ready worlds without blockades, in which Resvs go to the end whose address they are sent to
 pub record IsSteady (q : ℕ) (u : World) : Type 0 where
@@ -441,3 +441,24 @@ reservations_are_exact q rs w calm steady =
     (hold_both (machine q) (λ u. IsKnown q w u × IsSteady q u) (AreExactTo k) (2 * k) rs w
     (hold_later (machine q) (λ u. IsKnown q w u × IsSteady q u) 0 (2 * k) rs w (omega arith) (hold_both (machine q) (IsKnown q w) (IsSteady q) 0 rs w (known_hold q w rs calm bounds) steady))
     (exact_to q k rs w calm steady))
+
+-- from ready worlds without blockades; one round more for what goes where
+pub reservations_become_exact : (q : ℕ) (w : World) (rs : List (List Step)) → Rounds (machine q) rs w → AreHosts w → DemandsFit w.net (locals_of w) → Hold (machine q) 0 rs w (AreBounds q) → Hold (machine q) 0 rs w (λ u. IsSettledSoFar u × IsFreeOfBlockade u)
+    → Hold (machine q) (1 + 2 * longest w.net) rs w AreResvsExact
+reservations_become_exact q w rs calm locals fit bounds so_far =
+    let settled = hold_map (machine q) (λ u. IsSettledSoFar u × IsFreeOfBlockade u) IsSettledSoFar (λ u h. h.0) 0 rs w so_far in
+    let free = hold_map (machine q) (λ u. IsSettledSoFar u × IsFreeOfBlockade u) IsFreeOfBlockade (λ u h. h.1) 0 rs w so_far in
+    let known = known_hold q w rs calm bounds in
+    let valid = (hold_start (machine q) (AreBounds q) rs w bounds).net in
+    let firm = firm_hold q w rs calm bounds (hold_map (machine q) IsSettledSoFar ArePathsSound (λ u h. h.0) 0 rs w settled) in
+    let early : Hold (machine q) 0 rs w (λ u. (IsKnown q w u × IsReady q u) × IsFreeOfBlockade u) =
+    hold_both (machine q) (λ u. IsKnown q w u × IsReady q u) IsFreeOfBlockade 0 rs w (hold_both (machine q) (IsKnown q w) (IsReady q) 0 rs w known (ready_hold q w rs calm locals fit bounds settled)) free in
+    hold_stack (machine q) (λ u. IsKnown q w u × IsSteady q u) AreResvsExact (2 * longest w.net)
+    (λ us u c h.
+    let net = (hold_start (machine q) (λ x. IsKnown q w x × IsSteady q x) us u h).0.same.net in
+    subst (λ (z : Net). Hold (machine q) (2 * longest z) us u AreResvsExact) net
+    (reservations_are_exact q us u c (hold_map (machine q) (λ x. IsKnown q w x × IsSteady q x) (IsSteady q) (λ x g. g.1) 0 us u h)))
+    1 rs w calm
+    (hold_map (machine q) (λ u. ((IsKnown q w u × IsReady q u) × IsFreeOfBlockade u) × IsAddressed 0 u) (λ u. IsKnown q w u × IsSteady q u) (λ u h. (h.0.0.0, record { ready = h.0.0.1; free = h.0.1; addressed = h.1 })) 1 rs w
+    (hold_both (machine q) (λ u. (IsKnown q w u × IsReady q u) × IsFreeOfBlockade u) (IsAddressed 0) 1 rs w
+    (hold_later (machine q) (λ u. (IsKnown q w u × IsReady q u) × IsFreeOfBlockade u) 0 1 rs w (omega arith) early) (addressed q w valid rs w calm firm)))

@@ -1,5 +1,5 @@
-use Rattle.settle_network.proofs.TowardIsTheWant.{toward_is_the_want}
-use Rattle.settle_network.proofs.laws.toward_is_the_want.Goals as goal
+use Rattle.exact_resvs.proofs.TowardIsTheWant.{toward_is_the_want}
+use Rattle.exact_resvs.proofs.laws.toward_is_the_want.Goals as goal
 
 pub returns : goal.returns
 returns c q w bounds paths complete n f l h at free is low exact = toward_is_the_want q w bounds paths complete n f at free l h is low exact

@@ -1,0 +1,2 @@
+pub mod TowardIsTheWant
+pub mod ExactResvs

@@ -1,0 +1,4 @@
+pub mod Accepting
+pub mod Errors
+pub mod Blockades
+pub mod Example
