@@ -3,3 +3,4 @@ pub mod Settled
 pub mod RunsSettle
 pub mod Example
 pub mod Tight
+pub mod RunExample

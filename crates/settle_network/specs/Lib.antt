@@ -1,3 +1,4 @@
 pub mod Settled
 pub mod Example
 pub mod Tight
+pub mod RunExample

@@ -13,6 +13,7 @@ ghost use Rattle.network_model.specs.Steps.{Step, is_quiet, machine};
 ghost use Rattle.network_model.specs.Worlds.{World};
 ghost use Rattle.network_steps.specs.Runs.{AreFitSenders, IsFitRun};
 ghost use Rattle.settle_network.specs.Example.{ItHasNotSettledYet};
+ghost use Rattle.settle_network.specs.RunExample.{ARunMeetsThePremises};
 ghost use Rattle.settle_network.specs.Settled.{HasSettled};
 ghost use Rattle.settle_network.specs.Tight.{ThreeRoundsAreTooFew};
 
@@ -48,6 +49,12 @@ pub fn a_settled_moment()
 pub fn a_run_settles()
     ensures { (p : Plan) → IsFitRun p → AreFitSenders p → (ss ts : List Step) → steps_of_run p ≡ ss ++ ts → (is : IsSettled p.quarter (first_world p) ss)
         → DemandsFit (run (machine p.quarter) is.before (first_world p)).net (locals_of (run (machine p.quarter) is.before (first_world p))) → HasSettled p.quarter (run (machine p.quarter) ss (first_world p)) }
+{}
+
+/// The run of a small script, with a left-over reservation, a host that sends, 32 rounds and a report, meets the premises of
+/// `a_run_settles` at the report, and has not settled when its rounds begin.
+pub fn a_run_meets_the_premises()
+    ensures { ARunMeetsThePremises }
 {}
 
 /// The first world of a script with a left-over reservation, of a next hop that no end has, meets the premises of
