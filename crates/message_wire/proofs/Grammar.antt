@@ -7,6 +7,7 @@ use Rattle.std.proofs.lemmas.Bool.{eqb-true, eqb-false, eq-eqb}
 use Rattle.std.proofs.lemmas.List.{append-nil}
 use Rattle.rsvp_base.specs.declared.session.Sender.{Sender}
 use Rattle.rsvp_base.specs.declared.style.StyleKind.{StyleKind}
+use Rattle.rsvp_base.specs.declared.style.StyleKind.TheVariants.{Wild, Fixed, Shared}
 use Rattle.rsvp_base.specs.TokenBucket.{TokenBucket}
 use Rattle.rsvp_objects.specs.declared.object.Object.{Object}
 use Rattle.rsvp_objects.specs.declared.object.Object.TheVariants as object
@@ -17,8 +18,9 @@ use Rattle.rsvp_messages.specs.declared.fault.Fault.TheVariants as fault
 use Rattle.rsvp_messages.specs.declared.message.Kind.{Kind}
 use Rattle.rsvp_messages.specs.declared.message.Kind.TheVariants as kind
 use Rattle.message_wire.specs.declared.seen.Seen.{Seen}
-use Rattle.message_wire.specs.Laws.{IsInPlace, how_many, WhatIsInGrammarIsInPlace, WhatStandsIsInGrammar}
-use Rattle.message_wire.specs.Places.{Stand, has_place, place_by_style, stood, is_repeated, is_named, name_fault}
+use Rattle.message_wire.specs.Grammar.{how_many, goes_on}
+use Rattle.message_wire.specs.Laws.{IsInPlace, WhatIsInGrammarIsInPlace, WhatStandsIsInGrammar}
+use Rattle.message_wire.specs.Places.{Stand, has_place, place_after_style, place_by_style, stood, is_repeated, is_named, name_fault}
 use Rattle.message_wire.specs.Said.{last_said, style_said, seen_of, with_object, filters_after}
 use Rattle.message_wire.specs.Table.{row_of, is_among, role_of, stands_once, is_anywhere}
 use Rattle.message_wire.proofs.Gathered.{seen_more}
@@ -149,6 +151,25 @@ counted_from n before (x ∷ xs) one h =
 counted : (n : ℕ) (xs : List Object) → IsSingle n → stood (seen_of xs) n ≡ true → 1 ≤ how_many n xs
 counted n xs one h = elim (counted_from n [] xs one h) [ inl p ↦ absurd (let z = sym (none_stood n) ∙ p in cc) | inr q ↦ q ]
 
+-- ---- what goes on is what has a place
+
+pub goes_on_is : (kind : Kind) (k : StyleKind) (before : List Object) (n : ℕ) → goes_on kind k before n ≡ place_after_style kind k (seen_of before) n
+goes_on_is kind.Path k before n = refl
+goes_on_is kind.PathErr k before n = refl
+goes_on_is kind.PathTear k before n = refl
+goes_on_is kind.Resv Wild before n = refl
+goes_on_is kind.Resv Fixed before n = refl
+goes_on_is kind.Resv Shared before n = refl
+goes_on_is kind.ResvErr Wild before n = refl
+goes_on_is kind.ResvErr Fixed before n = refl
+goes_on_is kind.ResvErr Shared before n = refl
+goes_on_is kind.ResvTear Wild before n = refl
+goes_on_is kind.ResvTear Fixed before n = refl
+goes_on_is kind.ResvTear Shared before n = refl
+goes_on_is kind.ResvConf Wild before n = refl
+goes_on_is kind.ResvConf Fixed before n = refl
+goes_on_is kind.ResvConf Shared before n = refl
+
 -- ---- each object in its place
 
 how_many-append : (n : ℕ) (xs ys : List Object) → how_many n (xs ++ ys) ≡ how_many n xs + how_many n ys
@@ -220,7 +241,7 @@ what_is_in_grammar_is_in_place kind before after x g =
 
     by_style : (o : Option StyleKind) → last_said style_said before ≡ o → has_place kind (seen_of before) (class_of x) ≡ true
     by_style None e = placed_by kind before (class_of x) first None e (g.front before after x refl e)
-    by_style (Some k) e = placed_by kind before (class_of x) first (Some k) e (g.list before after x k refl e)
+    by_style (Some k) e = placed_by kind before (class_of x) first (Some k) e (subst (λ (t : Bool). (is_anywhere (class_of x) || ((class_of x == 4) || t)) ≡ true) (goes_on_is kind k before (class_of x)) (g.list before after x k refl e))
 
 -- ---- and what stands is in the grammar
 
@@ -284,7 +305,7 @@ what_stands_is_in_grammar kind b xs end bytes s =
       once = λ n one. what_stands_once_is_said_once kind b xs end n bytes s one;
       first = λ before after x is c. has_first (is_anywhere (class_of x)) (class_of x == 4) (seen_of before).begun _ (placed_in before after x is) (subst (λ (n : ℕ). is_anywhere n ≡ false) (sym c) refl) (eq-eqb (class_of x) 4 c);
       front = λ before after x is e. told before after x is None e;
-      list = λ before after x k is e. told before after x is (Some k) e;
+      list = λ before after x k is e. subst (λ (t : Bool). (is_anywhere (class_of x) || ((class_of x == 4) || t)) ≡ true) (sym (goes_on_is kind k before (class_of x))) (told before after x is (Some k) e);
       names = λ before after q is. new_name 0 (length (filters_after None before)) (is_named q (filters_after None before)) ((each_object_is_in_place kind b end before after (object.Filter q) (split before after (object.Filter q) is)).name 0) (few_before kind b [] 8 end before after (object.Filter q) (split before after (object.Filter q) is) none_yet);
     }
   where

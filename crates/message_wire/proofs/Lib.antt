@@ -9,3 +9,4 @@ pub mod ProperRead
 pub mod Whole
 pub mod Grammar
 pub mod Closed
+pub mod Spelling

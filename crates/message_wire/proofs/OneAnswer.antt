@@ -8,9 +8,11 @@ use Rattle.rsvp_messages.specs.declared.message.Message.{Message}
 use Rattle.message_wire.specs.Messages.{message_of}
 use Rattle.message_wire.specs.Places.{Stand}
 use Rattle.message_wire.specs.Said.{seen_of}
-use Rattle.message_wire.specs.Spells.{Says, Fails}
+use Rattle.rsvp_messages.specs.Kinds.{kind_of}
+use Rattle.message_wire.specs.Spells.{Says, Fails, Spells}
 use Rattle.message_wire.specs.Laws.{AMessageIsOne, NoFaultWhereSpelt, TheFirstFaultIsOne}
 use Rattle.message_wire.proofs.Hinted.{one_hint}
+use Rattle.message_wire.proofs.Spelling.{says_of}
 use Rattle.message_wire.proofs.Standing.{good, bad, good_is, bad_is, one_list, no_stop, one_stop}
 
 -- ---- behind the header
@@ -36,12 +38,15 @@ one_fail kind b g h (inr s) (inr t) = bad_is g h (sym s.2 ∙ same_end kind b s.
 pub kind_is : (j k : Kind) → good j ≡ good k → j ≡ k
 kind_is j k e = cc
 
+kind_named : (b : List ℕ) (v w : Message) → Spells b v → Spells b w → kind_of w ≡ kind_of v
+kind_named b v w s t = kind_is (kind_of w) (kind_of v) (sym t.0 ∙ s.0)
+
 pub a_message_is_one : AMessageIsOne
-a_message_is_one b v w s t = one_saying s.0 b v w s.2 (subst (λ (k : Kind). Says k b w) (kind_is t.0 s.0 (sym t.1 ∙ s.1)) t.2)
+a_message_is_one b v w s t = one_saying (kind_of v) b v w (says_of b v s.1) (subst (λ (k : Kind). Says k b w) (kind_named b v w s t) (says_of b w t.1))
 
 pub no_fault_where_spelt : NoFaultWhereSpelt
-no_fault_where_spelt b v e s (inl h) = let both : good s.0 ≡ bad e.fault = sym s.1 ∙ h.fault in cc
-no_fault_where_spelt b v e s (inr h) = no_fail s.0 b v e.fault s.2 (subst (λ (k : Kind). Fails k b e.fault) (kind_is h.named s.0 (sym h.header ∙ s.1)) h.fault)
+no_fault_where_spelt b v e s (inl h) = let both : good (kind_of v) ≡ bad e.fault = sym s.0 ∙ h.fault in cc
+no_fault_where_spelt b v e s (inr h) = no_fail (kind_of v) b v e.fault (says_of b v s.1) (subst (λ (k : Kind). Fails k b e.fault) (kind_is h.named (kind_of v) (sym h.header ∙ s.0)) h.fault)
 
 error_is : (e f : MsgErr) → e.fault ≡ f.fault → e.kind ≡ f.kind → e.hint ≡ f.hint → e ≡ f
 error_is e f p q r = λ i. record { fault = p i; kind = q i; hint = r i }

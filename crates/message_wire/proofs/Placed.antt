@@ -63,6 +63,40 @@ head_is kind s at b x next (Ok h) is e =
       ]
     ]
 
+-- where the next object begins
+end_is : (end next : ℕ) (x y : Object) (f : Option Fault) → with_name end y f ≡ found x next → end ≡ next
+end_is end next x y None e = let pairs : ◌≡◌ {A = Object × ℕ} (y, end) (x, next) = good_is e in ap (λ (p : Object × ℕ). p.1) pairs
+end_is end next x y (Some g) e = absurd cc
+
+body_end : (at : ℕ) (s : Seen) (end next : ℕ) (x : Object) (r : Result Object ObjErr) → by_body at s end r ≡ found x next → end ≡ next
+body_end at s end next x (Ok y) e = end_is end next x y (name_fault at s y) e
+body_end at s end next x (Err g) e = absurd cc
+
+-- an object with a head, contents that say it, and an end
+abbrev IsReadAt : Kind → ℕ → List ℕ → Object → ℕ → Type 0
+IsReadAt kind at b x next =
+    (h : Head) × (◌≡◌ {A = Result Head ObjErr} (head_of at (drop at b)) (Ok h)) × (◌≡◌ {A = Result Object ObjErr} (read_in kind at h.class h.ctype (contents_at at h b)) (Ok x)) × (h.end ≡ next)
+
+head_read : (kind : Kind) (s : Seen) (at : ℕ) (b : List ℕ) (x : Object) (next : ℕ) (r : Result Head ObjErr) → head_of at (drop at b) ≡ r → by_head kind s at b r ≡ found x next → IsReadAt kind at b x next
+head_read kind s at b x next (Err g) is e = absurd cc
+head_read kind s at b x next (Ok h) is e =
+    elim (chosen (is_unknown h.class) _ _ _ e) [
+      | inl p ↦ absurd (let z = p.1 in cc)
+      | inr p ↦ elim (chosen (not (has_place kind s h.class)) _ _ _ p.1) [
+        | inl q ↦ absurd (let z = q.1 in cc)
+        | inr q ↦ elim (chosen (is_repeated kind s h.class) _ _ _ q.1) [
+          | inl r ↦ absurd (let z = r.1 in cc)
+          | inr r ↦
+              let contents = read_in kind at h.class h.ctype (contents_at at h b) in
+              (h, is, (body_is at s h.end next x contents r.1).0, body_end at s h.end next x contents r.1)
+        ]
+      ]
+    ]
+
+pub read_where_placed : (kind : Kind) (s : Seen) (at : ℕ) (b : List ℕ) (x : Object) (next : ℕ) → object_in kind s at b ≡ Ok (x, next) → IsReadAt kind at b x next
+unfolding object_in
+read_where_placed kind s at b x next e = head_read kind s at b x next (head_of at (drop at b)) refl e
+
 pub placed : (kind : Kind) (s : Seen) (at : ℕ) (b : List ℕ) (x : Object) (next : ℕ) → object_in kind s at b ≡ Ok (x, next) → IsPlaced kind s at b x
 unfolding object_in
 placed kind s at b x next e = head_is kind s at b x next (head_of at (drop at b)) refl e

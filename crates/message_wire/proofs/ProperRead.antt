@@ -23,6 +23,7 @@ use Rattle.rsvp_messages.specs.declared.ask.Blame.{Blame}
 use Rattle.rsvp_messages.specs.declared.ask.Tear.{Tear}
 use Rattle.rsvp_messages.specs.declared.message.Kind.{Kind}
 use Rattle.rsvp_messages.specs.FlowTable.{FlowTable}
+use Rattle.rsvp_messages.specs.Kinds.{kind_of}
 use Rattle.rsvp_messages.specs.Proper.{IsSome, IsScope, WhereThere, AreFlows, IsProperAsk, HasNoScope, IsProperTear, IsProperBlame, IsProper}
 use Rattle.message_wire.specs.declared.seen.Seen.{Seen}
 use Rattle.message_wire.specs.Laws.{WhatIsSpeltIsProper}
@@ -31,6 +32,7 @@ use Rattle.message_wire.specs.Places.{Stand}
 use Rattle.message_wire.specs.Said.{scope_said, tspec_said, flow_said, or_else, last_said, filter_with, filters_after, seen_of}
 use Rattle.message_wire.proofs.Made.{gave, there, HoldsByParts, by_parts}
 use Rattle.message_wire.proofs.Placed.{placed, placed_has}
+use Rattle.message_wire.proofs.Spelling.{says_of}
 use Rattle.message_wire.proofs.Standing.{good, good_is}
 
 -- ---- objects
@@ -224,7 +226,9 @@ made_proper s h =
     }
 
 pub what_is_spelt_is_proper : WhatIsSpeltIsProper
-what_is_spelt_is_proper b v bytes s = by_parts IsProper (seen_of s.2.0) (made_proper (seen_of s.2.0) (seen_proper s.2.0 (all_said s.0 b [] 8 s.2.0 (length b) bytes s.2.1))) s.0 v s.2.2
+what_is_spelt_is_proper b v bytes s =
+    let says = says_of b v s.1 in
+    by_parts IsProper (seen_of says.0) (made_proper (seen_of says.0) (seen_proper says.0 (all_said (kind_of v) b [] 8 says.0 (length b) bytes says.1))) (kind_of v) v says.2
 
 -- ---- bytes of a slice
 

@@ -19,7 +19,8 @@ use Rattle.rsvp_messages.specs.declared.message.Kind.TheVariants as kind
 use Rattle.message_wire.specs.declared.role.Role.{Role}
 use Rattle.message_wire.specs.declared.role.Role.TheVariants.{Needed, Once, Unread, Nowhere}
 use Rattle.message_wire.specs.declared.seen.Seen.{Seen}
-use Rattle.message_wire.specs.Laws.{IsInPlace, EachObjectIsInPlace, how_many, WhatStandsOnceIsSaidOnce, BehindStyleStandsTheList}
+use Rattle.message_wire.specs.Grammar.{how_many}
+use Rattle.message_wire.specs.Laws.{IsInPlace, EachObjectIsInPlace, WhatStandsOnceIsSaidOnce, BehindStyleStandsTheList}
 use Rattle.message_wire.specs.Places.{Stand, has_place, place_by_style, place_after_style, stood, is_repeated, is_named, name_fault}
 use Rattle.message_wire.specs.Said.{session_said, hop_said, period_said, error_said, scope_said, style_said, template_said, tspec_said, confirm_said, last_said, or_else, is_object, is_adspec, seen_of, with_object}
 use Rattle.message_wire.specs.Table.{row_of, is_among, role_of, stands_once, is_anywhere, is_tear_flow, is_unread_role, is_unread}

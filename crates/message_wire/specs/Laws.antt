@@ -10,6 +10,7 @@ use Rattle.rsvp_messages.specs.declared.message.Kind.{Kind}
 use Rattle.rsvp_objects.specs.declared.object.Object.{Object}
 use Rattle.rsvp_objects.specs.declared.object.Object.TheVariants as object
 use Rattle.rsvp_objects.specs.Proper.{AreBytes, class_of}
+use Rattle.message_wire.specs.Grammar.{how_many, IsInGrammar}
 use Rattle.message_wire.specs.Places.{place_after_style, has_place, is_repeated, is_named, name_fault, Stand}
 use Rattle.message_wire.specs.Said.{style_said, last_said, filters_after, is_object, seen_of}
 use Rattle.message_wire.specs.Table.{integrity, flowspec, filter_spec, role_of, may_stand, stands_once, is_anywhere}
@@ -43,9 +44,6 @@ pub record IsInPlace (kind : Kind) (before : List Object) (x : Object) : Type 0 
 abbrev pub EachObjectIsInPlace : Type 0
 EachObjectIsInPlace = (kind : Kind) (b : List ℕ) (end : ℕ) (before after : List Object) (x : Object) → Stand kind b [] 8 (before ++ x ∷ after) end → IsInPlace kind before x
 
-abbrev pub how_many : ℕ → List Object → ℕ
-how_many n xs = length (filter (λ x. class_of x == n) xs)
-
 -- a class that stands once by the table stands at most once
 abbrev pub WhatStandsOnceIsSaidOnce : Type 0
 WhatStandsOnceIsSaidOnce = (kind : Kind) (b : List ℕ) (xs : List Object) (end n : ℕ) → AreBytes b → Stand kind b [] 8 xs end → stands_once (role_of kind n) ≡ true → how_many n xs ≤ 1
@@ -56,16 +54,6 @@ BehindStyleStandsTheList = (kind : Kind) (b : List ℕ) (end : ℕ) (before afte
     → (is_anywhere (class_of x) || (class_of x == flowspec || class_of x == filter_spec)) ≡ true
 
 -- ---- and the other way round
-
--- what the grammar of a kind asks of its objects (RFC 2205, 3.1.3 to 3.1.9), but for those that may stand anywhere: a class
--- that stands once is there at most once, INTEGRITY has nothing but NULL before it, before a STYLE stand the classes of the
--- table, behind it stands its list, and a list names nobody twice and at most 16
-pub record IsInGrammar (kind : Kind) (xs : List Object) : Type 0 where
-  pub once : (n : ℕ) → stands_once (role_of kind n) ≡ true → how_many n xs ≤ 1
-  pub first : (before after : List Object) (x : Object) → xs ≡ before ++ x ∷ after → class_of x ≡ integrity → list_any is_object before ≡ false
-  pub front : (before after : List Object) (x : Object) → xs ≡ before ++ x ∷ after → last_said style_said before ≡ None → (is_anywhere (class_of x) || (class_of x == integrity || may_stand (role_of kind (class_of x)))) ≡ true
-  pub list : (before after : List Object) (x : Object) (k : StyleKind) → xs ≡ before ++ x ∷ after → last_said style_said before ≡ Some k → (is_anywhere (class_of x) || (class_of x == integrity || place_after_style kind k (seen_of before) (class_of x))) ≡ true
-  pub names : (before after : List Object) (s : Sender) → xs ≡ before ++ object.Filter s ∷ after → (is_named s (filters_after None before) ≡ false) × (length (filters_after None before) ≤ 15)
 
 -- what is in the grammar of its kind is in its place, object by object
 abbrev pub WhatIsInGrammarIsInPlace : Type 0

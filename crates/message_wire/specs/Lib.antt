@@ -3,6 +3,7 @@ pub mod Table
 pub mod Said
 pub mod Places
 pub mod Messages
+pub mod Grammar
 pub mod Hints
 pub mod Spells
 pub mod Laws

@@ -8,6 +8,8 @@ use Rattle.rsvp_messages.specs.declared.fault.MsgErr.{MsgErr}
 use Rattle.rsvp_messages.specs.declared.message.Kind.{Kind}
 use Rattle.rsvp_messages.specs.declared.message.Kind.TheVariants as kind
 use Rattle.rsvp_messages.specs.declared.message.Message.{Message}
+use Rattle.rsvp_messages.specs.Kinds.{kind_of}
+use Rattle.message_wire.specs.Grammar.{IsMessage}
 use Rattle.message_wire.specs.Hints.{IsHint, no_hint}
 use Rattle.message_wire.specs.Messages.{message_of}
 use Rattle.message_wire.specs.Places.{object_in, Stand}
@@ -43,7 +45,7 @@ header_of b =
 
 -- ---- behind the header
 
--- objects stand to the end, each where it may, and make the message
+-- how the walk comes by it: objects stand to the end, each where it may, and make the message
 abbrev pub Says : Kind → List ℕ → Message → Type 0
 Says kind b v = (xs : List Object) × Stand kind b [] 8 xs (length b) × (message_of kind (seen_of xs) ≡ Ok v)
 
@@ -60,8 +62,9 @@ Fails kind b g = StopsAt kind b g ⊎ Lacks kind b g
 
 -- ---- the whole
 
+-- the header names the kind of the message, and the objects behind it are in the grammar and mean the message
 abbrev pub Spells : List ℕ → Message → Type 0
-Spells b v = (kind : Kind) × (header_of b ≡ Ok kind) × Says kind b v
+Spells b v = (header_of b ≡ Ok (kind_of v)) × IsMessage b v
 
 -- a fault of the header says nothing else
 pub record IsHeaderFault (b : List ℕ) (e : MsgErr) : Type 0 where

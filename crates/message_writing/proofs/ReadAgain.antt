@@ -16,6 +16,7 @@ use Rattle.rsvp_base.specs.TokenBucket.{TokenBucket}
 use Rattle.rsvp_objects.specs.declared.object.Object.{Object}
 use Rattle.rsvp_objects.specs.declared.object.Object.TheVariants as object
 use Rattle.rsvp_objects.specs.Fields.{byte_at, half_at}
+use Rattle.rsvp_objects.specs.Proper.{AreBytes}
 use Rattle.rsvp_messages.specs.declared.ask.Ask.{Ask}
 use Rattle.rsvp_messages.specs.declared.ask.Ask.TheVariants as ask
 use Rattle.rsvp_messages.specs.declared.ask.Blame.{Blame}
@@ -35,6 +36,7 @@ use Rattle.message_wire.specs.Said.{last_said, filters_after, with_object}
 use Rattle.message_wire.specs.Spells.{kind_with, header_of, Spells}
 use Rattle.message_wire.specs.Sum.{ones_sum, is_right}
 use Rattle.message_wire.specs.Table.{role_of}
+use Rattle.message_wire.proofs.Spelling.{spells_of}
 use Rattle.message_wire.proofs.Standing.{good}
 use Rattle.message_writing.specs.Encoding.{kind_number, header, checksum, sealed, body_of, encoding, AreFew, IsAskFew, IsTearFew, IsWritable}
 use Rattle.message_writing.specs.Objects.{where_there, sender_objects, pair_objects, filter_objects, ask_objects, tear_objects, blame_by_style, objects_of}
@@ -388,12 +390,13 @@ header_again k body short right =
     let b = header k (checksum k body) (8 + length body) ++ body in
     header_from b (omega arith) (omega arith) refl (omega arith) (right_from b right) ∙ kind_again k
 
-pub read_again : (v : Message) → IsWritable v → ones_sum (encoding v) ≡ 65535 → Spells (encoding v) v
+pub read_again : (v : Message) → IsWritable v → AreBytes (encoding v) → ones_sum (encoding v) ≡ 65535 → Spells (encoding v) v
 unfolding encoding sealed
-read_again v h right =
+read_again v h bytes right =
     let body = body_of v in
     let k = kind_of v in
-    (k, header_again k body (body_short v h.few) right, says k (header k (checksum k body) (8 + length body) ++ body) (header k (checksum k body) (8 + length body)) (objects_of v) v refl refl h.fields (fit_of v h) (made_of v h))
+    let b = header k (checksum k body) (8 + length body) ++ body in
+    spells_of k b v bytes (header_again k body (body_short v h.few) right) (says k b (header k (checksum k body) (8 + length body)) (objects_of v) v refl refl h.fields (fit_of v h) (made_of v h))
 
-pub again_by_text : (v : Message) (b : List ℕ) → b ≡ encoding v → ones_sum b ≡ 65535 → IsWritable v → Spells b v
-again_by_text v b e right h = subst (λ (t : List ℕ). Spells t v) (sym e) (read_again v h (subst (λ (t : List ℕ). ones_sum t ≡ 65535) e right))
+pub again_by_text : (v : Message) (b : List ℕ) → b ≡ encoding v → AreBytes b → ones_sum b ≡ 65535 → IsWritable v → Spells b v
+again_by_text v b e bytes right h = subst (λ (t : List ℕ). Spells t v) (sym e) (read_again v h (subst AreBytes e bytes) (subst (λ (t : List ℕ). ones_sum t ≡ 65535) e right))

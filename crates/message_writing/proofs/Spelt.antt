@@ -29,6 +29,7 @@ use Rattle.rsvp_messages.specs.declared.ask.Tear.{Tear}
 use Rattle.rsvp_messages.specs.declared.message.Kind.{Kind}
 use Rattle.rsvp_messages.specs.declared.message.Message.{Message}
 use Rattle.rsvp_messages.specs.FlowTable.{FlowTable}
+use Rattle.rsvp_messages.specs.Kinds.{kind_of}
 use Rattle.rsvp_messages.specs.Proper.{WhereThere}
 use Rattle.message_wire.specs.declared.seen.Seen.{Seen}
 use Rattle.message_wire.specs.Messages.{needed, sender_of, names_in, named, first_named, pairs_in, table_of_pairs, fixed_of, ask_of, tear_of, blame_of}
@@ -38,6 +39,7 @@ use Rattle.message_wire.proofs.Gathered.{seen_more}
 use Rattle.message_wire.proofs.Made.{gave, there, HoldsByParts, by_parts}
 use Rattle.message_wire.proofs.Placed.{placed, placed_has}
 use Rattle.message_wire.proofs.ProperRead.{all_join, what_is_spelt_is_proper}
+use Rattle.message_wire.proofs.Spelling.{says_of}
 use Rattle.message_wire.proofs.Standing.{good, good_is}
 use Rattle.message_writing.specs.Encoding.{AreFew, IsAskFew, IsTearFew, IsFew}
 use Rattle.message_writing.specs.Laws.{WhatIsSpeltIsWritable}
@@ -348,5 +350,6 @@ made_fits s h =
 
 pub what_is_spelt_is_writable : WhatIsSpeltIsWritable
 what_is_spelt_is_writable b v bytes s =
-    let fit = by_parts MessageFits (seen_of s.2.0) (made_fits (seen_of s.2.0) (all_roomy s.0 b [] 8 s.2.0 (length b) bytes s.2.1 nothing)) s.0 v s.2.2 in
+    let walk = says_of b v s.1 in
+    let fit = by_parts MessageFits (seen_of walk.0) (made_fits (seen_of walk.0) (all_roomy (kind_of v) b [] 8 walk.0 (length b) bytes walk.1 nothing)) (kind_of v) v walk.2 in
     writable v (what_is_spelt_is_proper b v bytes s) fit.0 fit.1

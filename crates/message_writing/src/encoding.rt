@@ -64,6 +64,7 @@ fn seal(kind: Kind, packet: &mut Packet)
     ensures text { packet.new ≡ sealed kind (drop 8 packet.old) }
     ensures long { length (sealed kind (drop 8 packet.old)) ≡ length packet.old }
     ensures right { ones_sum (sealed kind (drop 8 packet.old)) ≡ 65535 }
+    ensures bytes { (i : ℕ) → get_or packet.new i 0 < 256 }
 {
     let text = packet.bytes();
     know_bytes(text);
@@ -73,6 +74,7 @@ fn seal(kind: Kind, packet: &mut Packet)
     let sum = (65535 - ones_sum(packet.bytes()) as u16).to_be_bytes();
     packet.set(2, sum[0]);
     packet.set(3, sum[1]);
+    know_bytes(packet.bytes());
 }
 
 // Each is a byte.
