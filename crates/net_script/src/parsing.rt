@@ -8,11 +8,11 @@ ghost use Rattle.net_script.specs.Grammar.{Follows, HasFault, IsScript, IsBadLin
 
 use crate::books::open_books;
 use crate::draft::{Checker, DeclaredEnd};
-use script_words::{EndName, LineErr, LineWhy, ParseErr, Unread, next_line};
 use crate::line_kinds::read_line;
 use crate::refusal::Refusal;
 use crate::rules::{USUAL_PERIOD, add};
 use crate::script::{End, EndNames, Script};
+use script_words::{EndName, LineErr, LineWhy, ParseErr, Unread, next_line};
 use std::alloc::Global;
 
 /// The most bytes of a line, its line feed not counted.

@@ -2,8 +2,8 @@
 ghost use Rattle.std.specs.Prelude.{◌≡◌};
 ghost use Rattle.net_script.specs.declared.refusal.Refusal.TheVariants.{NoMemory};
 
-use script_words::LineWhy;
 use rsvp_base::NoMemory as OutOfMemory;
+use script_words::LineWhy;
 use std::alloc::{AllocError, AllocFailed};
 
 /// Why a line was not taken.

@@ -2,8 +2,8 @@
 //! its root to both ends of the chain.
 ghost use Rattle.std.specs.Prelude.{◌≡◌, ◌*◌, ◌<◌};
 
-use rsvp_base::{Addr, Flow, Iface, Part, Peak, Rate, Sender, Senders, Session, StyleKind};
 use network_demand::{Demand, LocalSender, LocalWant, Locals, can_ask, demand};
+use rsvp_base::{Addr, Flow, Iface, Part, Peak, Rate, Sender, Senders, Session, StyleKind};
 use std::alloc::Global;
 use tree_routing::{End, Routing, Topology};
 

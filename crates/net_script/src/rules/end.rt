@@ -8,11 +8,11 @@ ghost use Rattle.net_script.specs.Rules.{IsEndInRange, KeepsAll, EndKeeps};
 
 use super::only_declares;
 use crate::draft::{Checker, DeclaredEnd};
-use script_words::{EndName, LineWhy, is_host};
 use crate::line::EndLine;
 use crate::refusal::Refusal;
 use crate::script::End;
 use rsvp_base::{Addr, Iface};
+use script_words::{EndName, LineWhy, is_host};
 use std::alloc::Global;
 
 const MOST_IFACES: usize = 16;

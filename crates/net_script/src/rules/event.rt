@@ -7,9 +7,9 @@ ghost use Rattle.net_script.specs.Rules.{KeepsAll, is_report, ReportKeeps, WaitK
 ghost use Rattle.net_script.specs.declared.script.Event.TheVariants as event;
 
 use crate::draft::Checker;
-use script_words::LineWhy;
 use crate::refusal::Refusal;
 use crate::script::Event;
+use script_words::LineWhy;
 
 const MOST_REPORTS: usize = 16;
 

@@ -7,8 +7,8 @@ ghost use Rattle.net_script.specs.Rules.{KeepsAll, NodeKeeps};
 
 use super::only_declares;
 use crate::draft::Checker;
-use script_words::{EndName, LineWhy};
 use crate::refusal::Refusal;
+use script_words::{EndName, LineWhy};
 use std::alloc::Global;
 
 const MOST_NODES: usize = 256;

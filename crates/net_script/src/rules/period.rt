@@ -7,8 +7,8 @@ ghost use Rattle.net_script.specs.Rules.{KeepsAll, PeriodKeeps};
 
 use super::only_declares;
 use crate::draft::Checker;
-use script_words::LineWhy;
 use crate::refusal::Refusal;
+use script_words::LineWhy;
 
 /// The period R where no line gives one, in milliseconds (RFC 2205, 3.7).
 pub const USUAL_PERIOD: u32 = 30_000;

@@ -20,13 +20,13 @@ ghost use Rattle.net_script.specs.declared.line.Line.TheVariants as kind;
 use super::USUAL_PERIOD;
 use crate::books::{charge, open_books};
 use crate::draft::{Checker, DeclaredEnd, StaleKey, StaleValues};
-use script_words::{DottedQuad, EndName, LineWhy};
 use crate::line::StaleResvLine;
 use crate::refusal::Refusal;
 use crate::script::Stale;
 use crate::session_names::NodeSession;
 use indexmap::IndexSet;
 use rsvp_base::{Sender, Senders, Session, StyleKind};
+use script_words::{DottedQuad, EndName, LineWhy};
 use std::alloc::Global;
 
 const MOST_SESSIONS: usize = 32;
