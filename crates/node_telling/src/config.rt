@@ -2,10 +2,11 @@
 ghost use Rattle.std.specs.Prelude.{◌≡◌, ◌≤◌, ◌*◌, length, IfOk, IfErr};
 ghost use Rattle.std.specs.List.{list_any};
 ghost use Rattle.rsvp_base.specs.Rows.{AreRows, HasRowAt, LacksRowAt};
-ghost use Rattle.router_rules.specs.NodeConfig.{comes_in, is_addr, is_own, lifetime, own, period, route_in, tree};
+ghost use Rattle.router_rules.specs.NodeConfig.{comes_in, goes_out, is_addr, is_own, lifetime, own, period, route_in, tree, wall_lifetime};
 ghost use Rattle.node_facts.specs.Routes.{AreRoutes, route_keys, route_row};
 ghost use Rattle.node_sends.specs.Upward.{ways_out};
 
+use crate::paths::is_out;
 use router_rules::Route;
 use rsvp_base::{Addr, Iface, Sender, Session};
 use std::cmp::Ordering;
@@ -18,6 +19,7 @@ pub struct Config {
     quarter: u32,
     ifaces: Vec<Iface>,
     routes: Vec<Route>,
+    ghost some: { 1 ≤ quarter },
     ghost quick: { quarter ≤ 15000 },
     ghost few: { length ifaces.items ≤ 16 },
     ghost routed: { AreRoutes routes.items },
@@ -59,9 +61,10 @@ fn any_has(ifaces: &[Iface], addr: Addr) -> bool
 }
 
 impl Config {
-    /// Of a quarter of the period, at most 15,000 milliseconds, at most 16 interfaces, and routes in the order of group and
+    /// Of a quarter of the period, from 1 to 15,000 milliseconds, at most 16 interfaces, and routes in the order of group and
     /// source, at most one of each.
     pub fn new(quarter: u32, ifaces: Vec<Iface>, routes: Vec<Route>) -> Config
+        requires some { 1 ≤ quarter }
         requires quick { quarter ≤ 15000 }
         requires few { length ifaces.items ≤ 16 }
         requires routed { AreRoutes routes.items }
@@ -77,6 +80,7 @@ impl Config {
     /// A quarter of the period.
     pub fn quarter(&self) -> u32
         ensures is { result ≡ self.now.quarter }
+        ensures some { 1 ≤ result }
         ensures quick { result ≤ 15000 }
     {
         self.quarter
@@ -139,6 +143,24 @@ impl Config {
             Some(route) => route.inward == Some(iface),
             None => false,
         }
+    }
+
+    /// Whether a sender's tree goes out of an interface.
+    pub fn goes_out(&self, session: Session, iface: u8, sender: Sender) -> bool
+        ensures { result ≡ goes_out self.now session iface sender }
+    {
+        match self.tree(session, sender) {
+            Some(route) => is_out(route.outward, iface),
+            None => false,
+        }
+    }
+
+    /// How long a blockade lives, in milliseconds: four periods (RFC 2205, 3.5).
+    pub fn wall_lifetime(&self) -> u32
+        ensures life { result ≡ wall_lifetime self.now }
+        ensures some { 1 ≤ result }
+    {
+        4 * (4 * self.quarter)
     }
 
     /// How long what is heard lives, in milliseconds: 5.25 times the period that was said, brought into the range from 1 to

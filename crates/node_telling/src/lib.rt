@@ -8,8 +8,10 @@ mod config;
 mod offered;
 mod outbox;
 mod paths;
+mod via;
 
 pub use config::Config;
 pub use offered::Offered;
 pub use outbox::Outbox;
 pub use paths::{tell_gone, tell_new, tell_path_tears, tell_paths};
+pub use via::upstream;

@@ -12,7 +12,7 @@ use rsvp_base::{Hop, Sender, Session};
 use rsvp_messages::{Message, PathMsg, PathTearMsg};
 
 // Whether a set of interfaces has this one.
-fn is_out(ways: u16, iface: u8) -> bool
+pub(crate) fn is_out(ways: u16, iface: u8) -> bool
     ensures { result ≡ (bit_at ways iface == 1) }
 {
     iface < 16 && (ways >> iface) & 1 == 1
