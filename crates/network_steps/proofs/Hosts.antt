@@ -1,8 +1,9 @@
--- The local senders of a run: each has an address of its node and is named by an event, and so they are few.
+-- The local senders of a run: each has an address of its node and is one of those whom the events so far let send, and so they
+-- are few.
 use Rattle.std.proofs.Common.{◌≡◌, ℕ, zero, suc, ◌+◌, ◌≤◌, List, [], ◌∷◌, T, Bool, true, false, cond, Option, None, Some, ◌⊎◌, inl, inr, ⊎_elim, arith, sym, refl, ap, subst, ◌∙◌}
-use Rattle.std.specs.Prelude.{slice_get, map as each, ◌++◌, ◌==◌, if◌then◌else◌}
+use Rattle.std.specs.Prelude.{slice_get, is_some, map as each, not, ◌&&◌, ◌++◌, ◌==◌, if◌then◌else◌}
 use Rattle.std.specs.FinMap.Entries.{is_sorted}
-use Rattle.std.specs.List.{filter, flat_map}
+use Rattle.std.specs.List.{filter}
 use Rattle.std.specs.Ordering.{eq_by_cmp}
 use Rattle.std.proofs.lemmas.List.{length-map}
 use Rattle.rsvp_base.specs.declared.iface.Iface.{Iface}
@@ -14,11 +15,11 @@ use Rattle.rsvp_base.specs.Members.{In}
 use Rattle.rsvp_base.specs.SessionLimits.{has_room_at}
 use Rattle.rsvp_base.specs.Orders.{senders, sessions}
 use Rattle.rsvp_base.specs.Sets.{set_of}
-use Rattle.rsvp_base.specs.Table.{Table, get, keys, put_in, first, second}
+use Rattle.rsvp_base.specs.Table.{Table, get, has, keys, put_in, without, first, second}
 use Rattle.rsvp_base.specs.TokenBucket.{TokenBucket}
 use Rattle.rsvp_base.proofs.Counts.{in_found, found_in, in_set_of, set_below}
-use Rattle.rsvp_base.proofs.Members.{in_any, in_append, in_each, in_filter, in_left, in_right, to_each, to_filter}
-use Rattle.rsvp_base.proofs.Tables.{got_put_in, got_without, none_above, tied_same, tied_self}
+use Rattle.rsvp_base.proofs.Members.{in_any, in_append, in_each, in_filter, to_each, to_filter}
+use Rattle.rsvp_base.proofs.Tables.{get-without, got_put_in, got_without, none_above, tied_same, tied_self}
 use Rattle.calm_rounds.specs.Hold.{Visited}
 use Rattle.calm_rounds.specs.Machine.{run}
 use Rattle.router_lookups.proofs.Tests.{addr_told}
@@ -40,22 +41,22 @@ use Rattle.tree_model.specs.Trees.{trees_of}
 use Rattle.tree_model.specs.Valid.{IsValid}
 use Rattle.tree_model.specs.Wants.{live, of_session}
 use Rattle.tree_model.proofs.Counts.{not_longer}
-use Rattle.tree_model.proofs.Following.{addr_same, addr_itself}
+use Rattle.tree_model.proofs.Following.{addr_same, addr_itself, number_same, same_number}
 use Rattle.tree_model.proofs.Ifaces.{interfaces_are_ends}
 use Rattle.network_model.specs.Bounds.{AreBounds, AreHosts}
-use Rattle.network_model.specs.Events.{Event, AtNode, Waits, Pass, DeliverAt, LoseAt, CopyAt, ClearNode, Rounds, Traces, Reports, ReportsFlags, Injects, Reroutes, steps_of, all_steps}
+use Rattle.network_model.specs.Events.{Event, AtNode, Waits, Pass, DeliverAt, LoseAt, CopyAt, ClearNode, Rounds, Traces, Reports, ReportsFlags, Injects, Reroutes, at_place, passes, pieces, rounds, steps_of, all_steps}
 use Rattle.network_model.specs.Locals.{locals_of, sender_at, senders_from}
 use Rattle.network_model.specs.Runs.{Plan, left_over, first_facts, first_world, steps_of_run}
-use Rattle.network_model.specs.Steps.{Step, Piece, Deliver, Lose, Copy, At, ClearAt, Trace, Report, Flags, Inject, Reroute, is_calm, ms_of, net_after, input_at, outcome, outcome_of, word_for, step, machine}
+use Rattle.network_model.specs.Steps.{Step, Piece, Deliver, Lose, Copy, At, ClearAt, Trace, Report, Flags, Inject, Reroute, is_calm, ms_of, net_after, at_node, input_at, outcome, outcome_of, word_for, step, machine}
 use Rattle.network_model.specs.Worlds.{World, with_iface, ifaces_at, config_of}
 use Rattle.network_model.proofs.NodeLocals.{sender_of_node, sender_told}
 use Rattle.network_model.proofs.Quiet.{IsWaited, IsCame, at_node_found, input_found}
 use Rattle.network_model.proofs.Stepping.{facts_after_found}
-use Rattle.network_steps.specs.Runs.{AreFitSenders, IsFitRun, is_of_session, named_senders, sends_of, sends_of_call}
+use Rattle.network_steps.specs.Runs.{AreFew, AreFewSenders, AreFitSenders, IsFitRun, is_sender_at, sending_by_call, sending_then}
 use Rattle.network_steps.proofs.Beginning.{each_found}
 use Rattle.network_steps.proofs.Keeping.{ends_same}
 use Rattle.network_steps.proofs.Known.{has_some, of_some}
-use Rattle.network_steps.proofs.Runs.{each_world_of_a_run_is_within_bounds, visited_less, pieces_calm, passes_calm, rounds_calm, place_calm, no_time}
+use Rattle.network_steps.proofs.Runs.{each_world_of_a_run_is_within_bounds, visited_then, pieces_calm, passes_calm, rounds_calm, place_calm, no_time}
 use Rattle.network_steps.proofs.Standing.{place_in}
 use Rattle.router_inputs.specs.Frames.{on_senders}
 
@@ -103,133 +104,147 @@ own_owner q net trees n a valid own =
     let node : e.1.node ≡ n = sym (ap node_of_end e.3) ∙ of.1 in
     ap (owner net.ends) (sym addr) ∙ owner_is net.ends valid.one_address e.0 e.1 e.3 ∙ ap Some node
 
--- ---- what a call leaves: a sender was there, or the call lets it send, with an address of the node
-call_told : (p : NodeConfig) (l : Local) (f : Facts) (k : SenderKey) (t : TokenBucket) → get (unless (call_refusal p l f) (senders_with l f.senders) f.senders) k ≡ Some t → (get f.senders k ≡ Some t) ⊎ ((is_own p k.1.addr ≡ true) × In k (sends_of_call l))
-call_told p (DropAs s x) f k t h = by (call_refusal p (DropAs s x) f) h
+-- ---- senders that a call drops
+and_parts : (a b : Bool) → (a && b) ≡ true → (a ≡ true) × (b ≡ true)
+and_parts true b e = (refl, e)
+and_parts false b e = absurd (cc)
+
+not_false : (b : Bool) → (b ≡ true → ⊥) → not b ≡ true
+not_false true never = absurd (never refl)
+not_false false never = refl
+
+not_here : (n : ℕ) (s : Session) (x : Sender) (l : LocalSender) → (l.node ≡ n → l.session ≡ s → l.sender ≡ x → ⊥) → not (is_sender_at n s x l) ≡ true
+not_here n s x l apart = not_false (is_sender_at n s x l) (λ e.
+    let a = and_parts (l.node == n) (eq_by_cmp sessions.cmp s l.session && eq_by_cmp senders.cmp x l.sender) e in
+    let b = and_parts (eq_by_cmp sessions.cmp s l.session) (eq_by_cmp senders.cmp x l.sender) a.1 in
+    apart (same_number l.node n a.0) (sym (tied_same sessions s l.session b.0)) (sym (tied_same senders x l.sender b.1)))
+
+dropped : (m : Table sender_keys TokenBucket) (k : SenderKey) → get (without m k) k ≡ None
+dropped m k = get-without sender_keys m k k ∙ ap (λ (b : Bool). cond (not b) (get m k) None) (tied_self sender_keys k)
+
+at_node_here : (m n : ℕ) (l : Local) → m ≡ n → at_node m (Call l) n ≡ Some (Call l)
+at_node_here m n l same = ap (λ (b : Bool). cond b (Some (Call l)) None) (number_same m n same)
+
+-- ---- what a call leaves
+-- at its own node: a sender was there, or the call lets it send with an address of the node
+call_told : (p : NodeConfig) (n : ℕ) (l : Local) (f : Facts) (ls : List LocalSender) → ((k : SenderKey) (t : TokenBucket) → get f.senders k ≡ Some t → In (sender_at n k) ls)
+    → (k : SenderKey) (t : TokenBucket) → get (unless (call_refusal p l f) (senders_with l f.senders) f.senders) k ≡ Some t
+    → ((get f.senders k ≡ Some t) ⊎ (is_own p k.1.addr ≡ true)) × In (sender_at n k) (sending_by_call n l ls)
+call_told p n (DropAs s x) f ls among k t h = by (has f.senders (s, x)) refl h
   where
-    by : (o : Option LocalErr) → get (unless o (senders_with (DropAs s x) f.senders) f.senders) k ≡ Some t → (get f.senders k ≡ Some t) ⊎ ((is_own p k.1.addr ≡ true) × In k [])
-    by None g = inl (got_without sender_keys f.senders (s, x) k t g)
-    by (Some e) g = inl g
-call_told p (WantAs s st names flow mark) f k t h = by (call_refusal p (WantAs s st names flow mark) f) h
+    other : (k ≡ (s, x) → ⊥) → In (sender_at n k) ls → In (sender_at n k) (filter (λ l. not (is_sender_at n s x l)) ls)
+    other apart i = to_filter (λ l. not (is_sender_at n s x l)) (sender_at n k) ls i (not_here n s x (sender_at n k) (λ node session sender. apart (λ j. (session j, sender j))))
+
+    by : (b : Bool) → has f.senders (s, x) ≡ b → get (unless (needs b local.Absent None) (without f.senders (s, x)) f.senders) k ≡ Some t
+        → ((get f.senders k ≡ Some t) ⊎ (is_own p k.1.addr ≡ true)) × In (sender_at n k) (filter (λ l. not (is_sender_at n s x l)) ls)
+    by true e g =
+        let old = got_without sender_keys f.senders (s, x) k t g in
+        (inl old, other (λ same. let none = dropped f.senders (s, x) in let z : Some t ≡ None = sym g ∙ ap (get (without f.senders (s, x))) same ∙ none in absurd (cc)) (among k t old))
+    by false e g =
+        (inl g, other (λ same. let z : true ≡ false = sym (ap is_some (sym (ap (get f.senders) same) ∙ g)) ∙ e in absurd (cc)) (among k t g))
+call_told p n (WantAs s st names flow mark) f ls among k t h = by (call_refusal p (WantAs s st names flow mark) f) h
   where
-    by : (o : Option LocalErr) → get (unless o f.senders f.senders) k ≡ Some t → (get f.senders k ≡ Some t) ⊎ ((is_own p k.1.addr ≡ true) × In k [])
-    by None g = inl g
-    by (Some e) g = inl g
-call_told p (QuitAll s) f k t h = by (call_refusal p (QuitAll s) f) h
+    by : (o : Option LocalErr) → get (unless o f.senders f.senders) k ≡ Some t → ((get f.senders k ≡ Some t) ⊎ (is_own p k.1.addr ≡ true)) × In (sender_at n k) ls
+    by None g = (inl g, among k t g)
+    by (Some e) g = (inl g, among k t g)
+call_told p n (QuitAll s) f ls among k t h = by (call_refusal p (QuitAll s) f) h
   where
-    by : (o : Option LocalErr) → get (unless o f.senders f.senders) k ≡ Some t → (get f.senders k ≡ Some t) ⊎ ((is_own p k.1.addr ≡ true) × In k [])
-    by None g = inl g
-    by (Some e) g = inl g
-call_told p (SendAs s x tspec) f k t h = by (is_own p x.addr) refl h
+    by : (o : Option LocalErr) → get (unless o f.senders f.senders) k ≡ Some t → ((get f.senders k ≡ Some t) ⊎ (is_own p k.1.addr ≡ true)) × In (sender_at n k) ls
+    by None g = (inl g, among k t g)
+    by (Some e) g = (inl g, among k t g)
+call_told p n (SendAs s x tspec) f ls among k t h = by (is_own p x.addr) refl h
   where
-    new : is_own p x.addr ≡ true → get (senders_with (SendAs s x tspec) f.senders) k ≡ Some t → (get f.senders k ≡ Some t) ⊎ ((is_own p k.1.addr ≡ true) × In k ((s, x) ∷ []))
-    new own g =
-        ⊎_elim (λ (here : (k ≡ (s, x)) × (t ≡ tspec)). inr (ap (λ (z : SenderKey). is_own p z.1.addr) here.0 ∙ own, inl here.0)) (λ (old : get f.senders k ≡ Some t). inl old)
+    taken : is_own p x.addr ≡ true → get (put_in f.senders (s, x) tspec) k ≡ Some t → ((get f.senders k ≡ Some t) ⊎ (is_own p k.1.addr ≡ true)) × In (sender_at n k) ((record { node = n; session = s; sender = x }) ∷ ls)
+    taken own g =
+        ⊎_elim (λ (here : (k ≡ (s, x)) × (t ≡ tspec)). (inr (ap (λ (z : SenderKey). is_own p z.1.addr) here.0 ∙ own), inl (ap (sender_at n) here.0)))
+        (λ (old : get f.senders k ≡ Some t). (inl old, inr (among k t old)))
         (got_put_in sender_keys f.senders (s, x) tspec k t g)
 
-    room : is_own p x.addr ≡ true → (o : Option LocalErr) → get (unless o (senders_with (SendAs s x tspec) f.senders) f.senders) k ≡ Some t → (get f.senders k ≡ Some t) ⊎ ((is_own p k.1.addr ≡ true) × In k ((s, x) ∷ []))
-    room own None g = new own g
-    room own (Some e) g = inl g
+    room : is_own p x.addr ≡ true → (o : Option LocalErr) → get (unless o (put_in f.senders (s, x) tspec) f.senders) k ≡ Some t → ((get f.senders k ≡ Some t) ⊎ (is_own p k.1.addr ≡ true)) × In (sender_at n k) ((record { node = n; session = s; sender = x }) ∷ ls)
+    room own None g = taken own g
+    room own (Some e) g = (inl g, inr (among k t g))
 
-    by : (b : Bool) → is_own p x.addr ≡ b → get (unless (needs b local.NotMine (needs (has_room_at senders (put_in f.senders (s, x) tspec) s) local.Full None)) (senders_with (SendAs s x tspec) f.senders) f.senders) k ≡ Some t
-        → (get f.senders k ≡ Some t) ⊎ ((is_own p k.1.addr ≡ true) × In k ((s, x) ∷ []))
+    by : (b : Bool) → is_own p x.addr ≡ b → get (unless (needs b local.NotMine (needs (has_room_at senders (put_in f.senders (s, x) tspec) s) local.Full None)) (put_in f.senders (s, x) tspec) f.senders) k ≡ Some t
+        → ((get f.senders k ≡ Some t) ⊎ (is_own p k.1.addr ≡ true)) × In (sender_at n k) ((record { node = n; session = s; sender = x }) ∷ ls)
     by true own g = room own (needs (has_room_at senders (put_in f.senders (s, x) tspec) s) local.Full None) g
-    by false own g = inl g
+    by false own g = (inl g, inr (among k t g))
+
+-- at another node it drops nobody
+call_elsewhere : (m : ℕ) (l : Local) (x : LocalSender) (ls : List LocalSender) → (x.node ≡ m → ⊥) → In x ls → In x (sending_by_call m l ls)
+call_elsewhere m (SendAs s y tspec) x ls far i = inr i
+call_elsewhere m (DropAs s y) x ls far i = to_filter (λ l. not (is_sender_at m s y l)) x ls i (not_here m s y x (λ node session sender. far node))
+call_elsewhere m (WantAs s st names flow mark) x ls far i = i
+call_elsewhere m (QuitAll s) x ls far i = i
 
 -- ---- a step
--- what comes to a node is a local call, or lets nobody send
-a_call_or_not : (s : Step) (w : World) (n : ℕ) (i : Input) → input_at s w n ≡ Some i → ((l : Local) × (s ≡ At n l) × (i ≡ Call l)) ⊎ (on_senders i ≡ false)
-a_call_or_not (Piece ms) w n i e = let same : Wait ms (word_for w.words n) ≡ i = cc in inr (ap on_senders (sym same))
-a_call_or_not (Deliver k) w n i e = inr (⊎_elim (λ (t : IsWaited (Deliver k) w n i). ap on_senders t.is) (λ (t : IsCame (Deliver k) w n i). ap on_senders t.is) (input_found (Deliver k) w n i refl e))
+abbrev sending_by_step : Step → List LocalSender → List LocalSender
+sending_by_step (At n l) ls = sending_by_call n l ls
+sending_by_step _ ls = ls
+
+-- the step is no local call
+abbrev LetsNobody : Step → Type 0
+LetsNobody s = (ls : List LocalSender) → sending_by_step s ls ≡ ls
+
+-- what comes to a node is a local call, or changes nobody who sends
+a_call_or_not : (s : Step) (w : World) (n : ℕ) (i : Input) → input_at s w n ≡ Some i → ((l : Local) × (s ≡ At n l) × (i ≡ Call l)) ⊎ ((on_senders i ≡ false) × LetsNobody s)
+a_call_or_not (Piece ms) w n i e = let same : Wait ms (word_for w.words n) ≡ i = cc in inr (ap on_senders (sym same), λ ls. refl)
+a_call_or_not (Deliver k) w n i e = inr (⊎_elim (λ (t : IsWaited (Deliver k) w n i). ap on_senders t.is) (λ (t : IsCame (Deliver k) w n i). ap on_senders t.is) (input_found (Deliver k) w n i refl e), λ ls. refl)
 a_call_or_not (Lose k) w n i e = absurd (cc)
 a_call_or_not (Copy k) w n i e = absurd (cc)
 a_call_or_not (At m l) w n i e = let r = at_node_found m n (Call l) i e in inl (l, (λ j. At (r.0 j) l), r.1)
-a_call_or_not (ClearAt m) w n i e = let r = at_node_found m n Clear i e in inr (ap on_senders r.1)
+a_call_or_not (ClearAt m) w n i e = let r = at_node_found m n Clear i e in inr (ap on_senders r.1, λ ls. refl)
 a_call_or_not (Trace on) w n i e = absurd (cc)
 a_call_or_not (Report r) w n i e = absurd (cc)
 a_call_or_not Flags w n i e = absurd (cc)
 a_call_or_not (Inject t dst a) w n i e = absurd (cc)
-a_call_or_not (Reroute g x hops) w n i e = let same : Moved ≡ i = cc in inr (ap on_senders (sym same))
+a_call_or_not (Reroute g x hops) w n i e = let same : Moved ≡ i = cc in inr (ap on_senders (sym same), λ ls. refl)
 
-abbrev sends_of_step : Step → List SenderKey
-sends_of_step (At n l) = sends_of_call l
-sends_of_step _ = []
+-- where nothing comes to a node, a call is of another
+not_called : (s : Step) (w : World) (n : ℕ) (x : LocalSender) (ls : List LocalSender) → input_at s w n ≡ None → x.node ≡ n → In x ls → In x (sending_by_step s ls)
+not_called (At m l) w n x ls e node i = call_elsewhere m l x ls (λ same. let z : None ≡ Some (Call l) = sym e ∙ at_node_here m n l (sym same ∙ node) in absurd (cc)) i
+not_called (Piece ms) w n x ls e node i = i
+not_called (Deliver k) w n x ls e node i = i
+not_called (Lose k) w n x ls e node i = i
+not_called (Copy k) w n x ls e node i = i
+not_called (ClearAt m) w n x ls e node i = i
+not_called (Trace on) w n x ls e node i = i
+not_called (Report r) w n x ls e node i = i
+not_called Flags w n x ls e node i = i
+not_called (Inject t dst a) w n x ls e node i = i
+not_called (Reroute g y hops) w n x ls e node i = i
 
--- each local sender has an address of its node, and is one of the keys
-abbrev AreNamed : List SenderKey → World → Type 0
-AreNamed ks u = (n : ℕ) (f : Facts) (k : SenderKey) (t : TokenBucket) → slice_get u.nodes n ≡ Some f → get f.senders k ≡ Some t → (owner u.net.ends k.1.addr ≡ Some n) × In k ks
+-- each local sender has an address of its node, and is one of these
+abbrev AreNamed : List LocalSender → World → Type 0
+AreNamed ls u = (n : ℕ) (f : Facts) (k : SenderKey) (t : TokenBucket) → slice_get u.nodes n ≡ Some f → get f.senders k ≡ Some t → (owner u.net.ends k.1.addr ≡ Some n) × In (sender_at n k) ls
 
-module _ (q : ℕ) (ks : List SenderKey) where
-  named_step : (s : Step) (u : World) → IsValid u.net → ((k : SenderKey) → In k (sends_of_step s) → In k ks) → AreNamed ks u → AreNamed ks (step q s u)
-  named_step s u valid among named n g k t a h =
+module _ (q : ℕ) where
+  named_step : (s : Step) (u : World) (ls : List LocalSender) → IsValid u.net → AreNamed ls u → AreNamed (sending_by_step s ls) (step q s u)
+  named_step s u ls valid named n g k t a h =
       let f = facts_after_found q s u n g a in
       let now : get (outcome q s u n f.0).facts.senders k ≡ Some t = ap (λ (z : Facts). get z.senders k) (sym f.2) ∙ h in
       let r = by f.0 f.1 (input_at s u n) refl now in
       (ap (λ (z : List End). owner z k.1.addr) (ends_same s u) ∙ r.0, r.1)
     where
-      of_call : (l : Local) (f : Facts) → slice_get u.nodes n ≡ Some f → s ≡ At n l → get (unless (call_refusal (config_of q (net_after s u) u.trees n) l f) (senders_with l f.senders) f.senders) k ≡ Some t → (owner u.net.ends k.1.addr ≡ Some n) × In k ks
+      of_call : (l : Local) (f : Facts) → slice_get u.nodes n ≡ Some f → s ≡ At n l → get (unless (call_refusal (config_of q (net_after s u) u.trees n) l f) (senders_with l f.senders) f.senders) k ≡ Some t
+          → (owner u.net.ends k.1.addr ≡ Some n) × In (sender_at n k) (sending_by_step s ls)
       of_call l f there is e =
-          ⊎_elim (λ (old : get f.senders k ≡ Some t). named n f k t there old)
-          (λ (new : (is_own (config_of q (net_after s u) u.trees n) k.1.addr ≡ true) × In k (sends_of_call l)).
+          let told = call_told (config_of q (net_after s u) u.trees n) n l f ls (λ j v c. (named n f j v there c).1) k t e in
           let net : net_after s u ≡ u.net = ap (λ (z : Step). net_after z u) is in (
-            own_owner q u.net u.trees n k.1.addr valid (subst (λ (z : Net). is_own (config_of q z u.trees n) k.1.addr ≡ true) net new.0),
-            among k (subst (λ (z : Step). In k (sends_of_step z)) (sym is) new.1),
-          ))
-          (call_told (config_of q (net_after s u) u.trees n) l f k t e)
+            ⊎_elim (λ (old : get f.senders k ≡ Some t). (named n f k t there old).0)
+                (λ (new : is_own (config_of q (net_after s u) u.trees n) k.1.addr ≡ true). own_owner q u.net u.trees n k.1.addr valid (subst (λ (z : Net). is_own (config_of q z u.trees n) k.1.addr ≡ true) net new)) told.0,
+            subst (λ (z : Step). In (sender_at n k) (sending_by_step z ls)) (sym is) told.1,
+          )
 
-      by : (f : Facts) → slice_get u.nodes n ≡ Some f → (o : Option Input) → input_at s u n ≡ o → get (outcome_of q o s u n f).facts.senders k ≡ Some t → (owner u.net.ends k.1.addr ≡ Some n) × In k ks
-      by f there None e now = named n f k t there now
+      by : (f : Facts) → slice_get u.nodes n ≡ Some f → (o : Option Input) → input_at s u n ≡ o → get (outcome_of q o s u n f).facts.senders k ≡ Some t → (owner u.net.ends k.1.addr ≡ Some n) × In (sender_at n k) (sending_by_step s ls)
+      by f there None e now = let r = named n f k t there now in (r.0, not_called s u n (sender_at n k) ls e refl r.1)
       by f there (Some i) e now =
           ⊎_elim
           (λ (c : (l : Local) × (s ≡ At n l) × (i ≡ Call l)).
           of_call c.0 f there c.1 (subst (λ (z : Input). get (facts_then (config_of q u.net u.trees n) (config_of q (net_after s u) u.trees n) (u.clock + ms_of s) z f).senders k ≡ Some t) c.2 now))
-          (λ (no : on_senders i ≡ false).
-          named n f k t there (ap (λ (z : Table sender_keys TokenBucket). get z k) (sym (left_as_it_was.senders (node_step (config_of q u.net u.trees n) (config_of q (net_after s u) u.trees n) (u.clock + ms_of s) (u.clock + ms_of s) i f) no)) ∙ now))
+          (λ (no : (on_senders i ≡ false) × LetsNobody s).
+          let r = named n f k t there (ap (λ (z : Table sender_keys TokenBucket). get z k) (sym (left_as_it_was.senders (node_step (config_of q u.net u.trees n) (config_of q (net_after s u) u.trees n) (u.clock + ms_of s) (u.clock + ms_of s) i f) no.0)) ∙ now) in
+          (r.0, subst (λ (z : List LocalSender). In (sender_at n k) z) (sym (no.1 ls)) r.1))
           (a_call_or_not s u n i e)
-
-  -- ---- steps, one after the other
-  named_along : (ss : List Step) (w : World) → Visited (machine q) (AreBounds q) ss w → ((s : Step) → In s ss → (k : SenderKey) → In k (sends_of_step s) → In k ks) → AreNamed ks w → Visited (machine q) (λ u. AreBounds q u × AreNamed ks u) ss w
-  named_along [] w bounds among named = (bounds, named)
-  named_along (s ∷ ss) w bounds among named =
-      ((bounds.0, named), named_along ss (step q s w) bounds.1 (λ x i. among x (inr i)) (named_step s w bounds.0.net (among s (inl refl)) named))
-
--- ---- which steps of an event let whom send
-module _ (q : ℕ) (some : 1 ≤ q) where
-  calm_sends : (s : Step) (k : SenderKey) → is_calm q s ≡ true → In k (sends_of_step s) → ⊥
-  calm_sends (At n l) k c i = cc
-  calm_sends (Piece ms) k c i = i
-  calm_sends (Deliver x) k c i = i
-  calm_sends (Lose x) k c i = i
-  calm_sends (Copy x) k c i = i
-  calm_sends (ClearAt n) k c i = i
-  calm_sends (Trace on) k c i = i
-  calm_sends (Report e) k c i = i
-  calm_sends Flags k c i = i
-  calm_sends (Inject e dst a) k c i = i
-  calm_sends (Reroute g x hops) k c i = i
-
-  event_sends : (e : Event) (w : World) (s : Step) (k : SenderKey) → In s (steps_of q e w) → In k (sends_of_step s) → In k (sends_of e)
-  event_sends (AtNode n l) w s k i j = ⊎_elim (λ (same : s ≡ At n l). subst (λ (z : Step). In k (sends_of_step z)) same j) (λ (no : ⊥). absurd no) i
-  event_sends (Waits ms) w s k i j = absurd (calm_sends s k (pieces_calm q some ms s i) j)
-  event_sends (Pass n) w s k i j = absurd (calm_sends s k (passes_calm q some n w s i) j)
-  event_sends (DeliverAt n) w s k i j = absurd (calm_sends s k (place_calm q some Deliver n (λ m. no_time q some) s i) j)
-  event_sends (LoseAt n) w s k i j = absurd (calm_sends s k (place_calm q some Lose n (λ m. no_time q some) s i) j)
-  event_sends (CopyAt n) w s k i j = absurd (calm_sends s k (place_calm q some Copy n (λ m. no_time q some) s i) j)
-  event_sends (ClearNode n) w s k i j = ⊎_elim (λ (same : s ≡ ClearAt n). subst (λ (z : Step). In k (sends_of_step z)) same j) (λ (no : ⊥). absurd no) i
-  event_sends (Rounds n) w s k i j = absurd (calm_sends s k (rounds_calm q some n w s i) j)
-  event_sends (Traces on) w s k i j = ⊎_elim (λ (same : s ≡ Trace on). subst (λ (z : Step). In k (sends_of_step z)) same j) (λ (no : ⊥). absurd no) i
-  event_sends (Reports e) w s k i j = ⊎_elim (λ (same : s ≡ Report e). subst (λ (z : Step). In k (sends_of_step z)) same j) (λ (no : ⊥). absurd no) i
-  event_sends ReportsFlags w s k i j = ⊎_elim (λ (same : s ≡ Flags). subst (λ (z : Step). In k (sends_of_step z)) same j) (λ (no : ⊥). absurd no) i
-  event_sends (Injects e dst a) w s k i j = ⊎_elim (λ (same : s ≡ Inject e dst a). subst (λ (z : Step). In k (sends_of_step z)) same j) (λ (no : ⊥). absurd no) i
-  event_sends (Reroutes g x hops) w s k i j = ⊎_elim (λ (same : s ≡ Reroute g x hops). subst (λ (z : Step). In k (sends_of_step z)) same j) (λ (no : ⊥). absurd no) i
-
-  all_sends : (es : List Event) (w : World) (s : Step) (k : SenderKey) → In s (all_steps q es w) → In k (sends_of_step s) → In k (flat_map sends_of es)
-  all_sends [] w s k i j = absurd i
-  all_sends (e ∷ es) w s k i j =
-      ⊎_elim
-      (λ (here : In s (steps_of q e w)). in_left k (sends_of e) (flat_map sends_of es) (event_sends e w s k here j))
-      (λ (later : In s (all_steps q es (run (machine q) (steps_of q e w) w))). in_right k (sends_of e) (flat_map sends_of es) (all_sends es (run (machine q) (steps_of q e w) w) s k later j))
-      (in_append s (steps_of q e w) (all_steps q es (run (machine q) (steps_of q e w) w)) i)
 
 -- ---- at the beginning nobody sends
 left_senders : (p : NodeConfig) (n : ℕ) (ss : List (ℕ × Stale)) (f : Facts) → (left_over p n ss f).senders ≡ f.senders
@@ -248,15 +263,15 @@ left_senders p n (s ∷ ss) f = left_senders p n ss (cond (s.0 == n) (facts_with
     by true = left
     by false = refl
 
-named_first : (p : Plan) (ks : List SenderKey) → AreNamed ks (first_world p)
-named_first p ks n f k t a h =
+named_first : (p : Plan) → AreNamed [] (first_world p)
+named_first p n f k t a h =
     let at : n ≡ 0 + n = omega arith in
     let is : first_facts p n ≡ f = ap (first_facts p) at ∙ each_found (first_facts p) 0 p.net.nodes n f a in
     let none : get no_facts.senders k ≡ Some t = ap (λ (z : Table sender_keys TokenBucket). get z k) (sym (left_senders (config_of p.quarter p.net (trees_of p.net.hops) n) n p.stale no_facts)) ∙ ap (λ (z : Facts). get z.senders k) is ∙ h in
     absurd (cc)
 
 -- ---- they are few
-once_keys : {K X : Type 0} (o : Keys K) (rows : List (K × X)) → T (is_sorted o.cmp rows) → NoRepeats (each (λ (e : K × X). e.0) rows)
+pub once_keys : {K X : Type 0} (o : Keys K) (rows : List (K × X)) → T (is_sorted o.cmp rows) → NoRepeats (each (λ (e : K × X). e.0) rows)
 once_keys o [] h = tt
 once_keys {K} {X} o (e ∷ es) h = (
   λ i.
@@ -321,49 +336,111 @@ module _ (s : Session) where
       let bad : j + 0 ≡ j + suc r.place = of_some _ _ z in
       absurd (omega arith))
 
-abbrev keys_of : Session → List SenderKey → List Sender
-keys_of s ks = each (λ (k : SenderKey). k.1) (filter (is_of_session s) ks)
-
-locals_kept : (p : Plan) (u : World) → AreFitSenders p → AreNamed (named_senders p) u → AreHosts u
-locals_kept p u fit named = record {
+-- ---- so they are few where those are few who are let send
+locals_kept : (u : World) (ls : List LocalSender) → AreFew ls → AreNamed ls u → AreHosts u
+locals_kept u ls few named = record {
   placed = λ n f k t a h. (named n f k t a h).0;
-  groups = λ n f k t a h. fit.groups k (named n f k t a h).1;
+  groups = λ n f k t a h. few.groups (sender_at n k) (named n f k t a h).1;
   few_senders = λ s.
       let once = once_from s u.net.ends 0 u.nodes (λ n f k t a h. let e : n ≡ 0 + n = omega arith in (named n f k t a h).0 ∙ ap Some e) in
-      let within = not_longer (live (locals_of u) s) (keys (set_of {o = senders} (keys_of s (named_senders p)))) once (λ x i. sender_named s x i) in
-      let same = length-map (set_of {o = senders} (keys_of s (named_senders p))).rows (λ (e : Sender × Unit {0}). e.0) in
-      let few = fit.few_senders s in
+      let within = not_longer (live (locals_of u) s) (keys (set_of {o = senders} (sending s ls))) once (λ x i. sender_named s x i) in
+      let same = length-map (set_of {o = senders} (sending s ls)).rows (λ (e : Sender × Unit {0}). e.0) in
+      let most = few.few_senders s in
       omega arith;
   few_sessions =
-      let below = set_below sessions (each (λ (x : LocalSender). x.session) (senders_from 0 u.nodes)) (each (λ (k : SenderKey). k.0) (named_senders p)) (λ s i. session_named s i) in
+      let below = set_below sessions (each (λ (x : LocalSender). x.session) (senders_from 0 u.nodes)) (each (λ (x : LocalSender). x.session) ls) (λ s i. session_named s i) in
       let same = length-map (set_of {o = sessions} (each (λ (x : LocalSender). x.session) (senders_from 0 u.nodes))).rows (λ (e : Session × Unit {0}). e.0) in
-      let few = fit.few_sessions in
+      let most = few.few_sessions in
       omega arith;
 }
   where
-    in_named : (x : LocalSender) → In x (senders_from 0 u.nodes) → In (x.session, x.sender) (named_senders p)
+    in_named : (x : LocalSender) → In x (senders_from 0 u.nodes) → In x ls
     in_named x i =
         let r = sender_of_node u x i in
-        let key : r.1 ≡ (x.session, x.sender) = (λ i. (sym (ap (λ (z : LocalSender). z.session) r.5) i, sym (ap (λ (z : LocalSender). z.sender) r.5) i)) in
-        subst (λ (z : SenderKey). In z (named_senders p)) key (named x.node r.0 r.1 r.2 r.3 r.4).1
+        subst (λ (z : LocalSender). In z ls) (sym r.5) (named x.node r.0 r.1 r.2 r.3 r.4).1
 
-    sender_named : (s : Session) (x : Sender) → In x (live (locals_of u) s) → In x (keys (set_of {o = senders} (keys_of s (named_senders p))))
+    sender_named : (s : Session) (x : Sender) → In x (live (locals_of u) s) → In x (keys (set_of {o = senders} (sending s ls)))
     sender_named s x i =
         let y = sending_told s x (senders_from 0 u.nodes) i in
         let k = in_named y.0 y.1 in
-        let listed = to_each (λ (k : SenderKey). k.1) (y.0.session, y.0.sender) (filter (is_of_session s) (named_senders p)) (to_filter (is_of_session s) (y.0.session, y.0.sender) (named_senders p) k (subst (λ (z : Session). eq_by_cmp sessions.cmp s z ≡ true) (sym y.2) (tied_self sessions s))) in
-        let there = in_set_of senders (keys_of s (named_senders p)) y.0.sender listed in
-        let v = has_some (get (set_of {o = senders} (keys_of s (named_senders p))) y.0.sender) there in
-        let row = to_each (λ (e : Sender × Unit {0}). e.0) (y.0.sender, v.0) (set_of {o = senders} (keys_of s (named_senders p))).rows (found_in senders (set_of {o = senders} (keys_of s (named_senders p))) y.0.sender v.0 v.1) in
-        subst (λ (z : Sender). In z (keys (set_of {o = senders} (keys_of s (named_senders p))))) y.3 row
+        let listed = to_each (λ (z : LocalSender). z.sender) y.0 (filter (of_session s) ls) (to_filter (of_session s) y.0 ls k (subst (λ (z : Session). eq_by_cmp sessions.cmp s z ≡ true) (sym y.2) (tied_self sessions s))) in
+        let there = in_set_of senders (sending s ls) y.0.sender listed in
+        let v = has_some (get (set_of {o = senders} (sending s ls)) y.0.sender) there in
+        let row = to_each (λ (e : Sender × Unit {0}). e.0) (y.0.sender, v.0) (set_of {o = senders} (sending s ls)).rows (found_in senders (set_of {o = senders} (sending s ls)) y.0.sender v.0 v.1) in
+        subst (λ (z : Sender). In z (keys (set_of {o = senders} (sending s ls)))) y.3 row
 
-    session_named : (s : Session) → In s (each (λ (x : LocalSender). x.session) (senders_from 0 u.nodes)) → In s (each (λ (k : SenderKey). k.0) (named_senders p))
+    session_named : (s : Session) → In s (each (λ (x : LocalSender). x.session) (senders_from 0 u.nodes)) → In s (each (λ (x : LocalSender). x.session) ls)
     session_named s i =
         let e = in_each (λ (x : LocalSender). x.session) s (senders_from 0 u.nodes) i in
-        subst (λ (z : Session). In z (each (λ (k : SenderKey). k.0) (named_senders p))) (sym e.2) (to_each (λ (k : SenderKey). k.0) (e.0.session, e.0.sender) (named_senders p) (in_named e.0 e.1))
+        subst (λ (z : Session). In z (each (λ (x : LocalSender). x.session) ls)) (sym e.2) (to_each (λ (x : LocalSender). x.session) e.0 ls (in_named e.0 e.1))
 
 -- ---- so each world of a run keeps them
+visited_front : (q : ℕ) (P : World → Type 0) (ss ts : List Step) (w : World) → Visited (machine q) P (ss ++ ts) w → Visited (machine q) P ss w × Visited (machine q) P ts (run (machine q) ss w)
+visited_front q P [] [] w v = (v, v)
+visited_front q P [] (t ∷ ts) w v = (v.0, v)
+visited_front q P (s ∷ ss) ts w v = let r = visited_front q P ss ts (step q s w) v.1 in ((v.0, r.0), r.1)
+
+few_now : (ls : List LocalSender) (es : List Event) → AreFewSenders ls es → AreFew ls
+few_now ls [] f = f
+few_now ls (e ∷ es) f = f.0
+
+module _ (q : ℕ) (some : 1 ≤ q) where
+  abbrev IsKept : World → Type 0
+  IsKept u = AreBounds q u × AreHosts u
+
+  abbrev Within : List LocalSender → List LocalSender → List Step → World → Type 0
+  Within ls after ss w = Visited (machine q) IsKept ss w × AreNamed after (run (machine q) ss w)
+
+  calm_lets_nobody : (s : Step) → is_calm q s ≡ true → LetsNobody s
+  calm_lets_nobody (At n l) c = absurd (cc)
+  calm_lets_nobody (Piece ms) c = λ ls. refl
+  calm_lets_nobody (Deliver x) c = λ ls. refl
+  calm_lets_nobody (Lose x) c = λ ls. refl
+  calm_lets_nobody (Copy x) c = λ ls. refl
+  calm_lets_nobody (ClearAt n) c = λ ls. refl
+  calm_lets_nobody (Trace on) c = λ ls. refl
+  calm_lets_nobody (Report e) c = λ ls. refl
+  calm_lets_nobody Flags c = λ ls. refl
+  calm_lets_nobody (Inject e dst a) c = λ ls. refl
+  calm_lets_nobody (Reroute g x hops) c = λ ls. refl
+
+  along : (ls : List LocalSender) → AreFew ls → (ss : List Step) (w : World) → Visited (machine q) (AreBounds q) ss w → ((s : Step) → In s ss → LetsNobody s) → AreNamed ls w → Within ls ls ss w
+  along ls few [] w v nobody named = ((v, locals_kept w ls few named), named)
+  along ls few (s ∷ ss) w v nobody named =
+      let next : AreNamed ls (step q s w) = subst (λ (z : List LocalSender). AreNamed z (step q s w)) (nobody s (inl refl) ls) (named_step q s w ls v.0.net named) in
+      let r = along ls few ss (step q s w) v.1 (λ x i. nobody x (inr i)) next in
+      (((v.0, locals_kept w ls few named), r.0), r.1)
+
+  calm_along : (ls : List LocalSender) → AreFew ls → (ss : List Step) (w : World) → Visited (machine q) (AreBounds q) ss w → ((s : Step) → In s ss → is_calm q s ≡ true) → AreNamed ls w → Within ls ls ss w
+  calm_along ls few ss w v calm named = along ls few ss w v (λ s i. calm_lets_nobody s (calm s i)) named
+
+  one_along : (ls : List LocalSender) → AreFew ls → (s : Step) (w : World) → Visited (machine q) (AreBounds q) (s ∷ []) w → LetsNobody s → AreNamed ls w → Within ls ls (s ∷ []) w
+  one_along ls few s w v nobody named = along ls few (s ∷ []) w v (λ x i. ⊎_elim (λ (same : x ≡ s). subst LetsNobody (sym same) nobody) (λ (none : ⊥). absurd none) i) named
+
+  event_along : (e : Event) (w : World) (ls : List LocalSender) → AreFew ls → AreFew (sending_then e ls) → Visited (machine q) (AreBounds q) (steps_of q e w) w → AreNamed ls w → Within ls (sending_then e ls) (steps_of q e w) w
+  event_along (AtNode n l) w ls few later v named =
+      let next = named_step q (At n l) w ls v.0.net named in
+      (((v.0, locals_kept w ls few named), (v.1, locals_kept (step q (At n l) w) (sending_by_call n l ls) later next)), next)
+  event_along (Waits ms) w ls few later v named = calm_along ls few (pieces q ms) w v (pieces_calm q some ms) named
+  event_along (Pass n) w ls few later v named = calm_along ls few (passes q n w) w v (passes_calm q some n w) named
+  event_along (DeliverAt k) w ls few later v named = calm_along ls few (at_place Deliver k) w v (place_calm q some Deliver k (λ m. no_time q some)) named
+  event_along (LoseAt k) w ls few later v named = calm_along ls few (at_place Lose k) w v (place_calm q some Lose k (λ m. no_time q some)) named
+  event_along (CopyAt k) w ls few later v named = calm_along ls few (at_place Copy k) w v (place_calm q some Copy k (λ m. no_time q some)) named
+  event_along (ClearNode n) w ls few later v named = one_along ls few (ClearAt n) w v (λ xs. refl) named
+  event_along (Rounds n) w ls few later v named = calm_along ls few (rounds q n w) w v (rounds_calm q some n w) named
+  event_along (Traces on) w ls few later v named = one_along ls few (Trace on) w v (λ xs. refl) named
+  event_along (Reports e) w ls few later v named = one_along ls few (Report e) w v (λ xs. refl) named
+  event_along ReportsFlags w ls few later v named = one_along ls few Flags w v (λ xs. refl) named
+  event_along (Injects e dst a) w ls few later v named = one_along ls few (Inject e dst a) w v (λ xs. refl) named
+  event_along (Reroutes g x hops) w ls few later v named = one_along ls few (Reroute g x hops) w v (λ xs. refl) named
+
+  events_along : (es : List Event) (w : World) (ls : List LocalSender) → AreFewSenders ls es → Visited (machine q) (AreBounds q) (all_steps q es w) w → AreNamed ls w → Visited (machine q) IsKept (all_steps q es w) w
+  events_along [] w ls few v named = (v, locals_kept w ls few named)
+  events_along (e ∷ es) w ls few v named =
+      let parts = visited_front q (AreBounds q) (steps_of q e w) (all_steps q es (run (machine q) (steps_of q e w) w)) w v in
+      let here = event_along e w ls few.0 (few_now (sending_then e ls) es few.1) parts.0 named in
+      visited_then q IsKept (steps_of q e w) (all_steps q es (run (machine q) (steps_of q e w) w)) w here.0
+      (events_along es (run (machine q) (steps_of q e w) w) (sending_then e ls) few.1 parts.1 here.1)
+
 pub each_world_of_a_run_keeps_the_locals : (p : Plan) → IsFitRun p → AreFitSenders p → Visited (machine p.quarter) (λ u. AreBounds p.quarter u × AreHosts u) (steps_of_run p) (first_world p)
-each_world_of_a_run_keeps_the_locals p run fit =
-    visited_less p.quarter (λ u. AreBounds p.quarter u × AreNamed (named_senders p) u) (λ u. AreBounds p.quarter u × AreHosts u) (λ u h. (h.0, locals_kept p u fit h.1)) (steps_of_run p) (first_world p)
-    (named_along p.quarter (named_senders p) (steps_of_run p) (first_world p) (each_world_of_a_run_is_within_bounds p run) (λ s i k j. all_sends p.quarter run.plan.period p.events (first_world p) s k i j) (named_first p (named_senders p)))
+each_world_of_a_run_keeps_the_locals p run fit = events_along p.quarter run.plan.period p.events (first_world p) [] fit (each_world_of_a_run_is_within_bounds p run) (named_first p)

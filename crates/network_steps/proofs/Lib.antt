@@ -12,3 +12,4 @@ pub mod Passing
 pub mod Calming
 pub mod Runs
 pub mod Hosts
+pub mod HowManySend

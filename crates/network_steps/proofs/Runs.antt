@@ -1,5 +1,5 @@
 -- Each world of the run of a plan is within bounds.
-use Rattle.std.proofs.Common.{le-leb, ◌≡◌, ℕ, zero, suc, ◌+◌, ◌*◌, ◌<◌, ◌≤◌, List, [], ◌∷◌, length, Bool, true, false, ◌⊎◌, inl, inr, ⊎_elim, arith, sym, refl, ap, subst, ◌∙◌}
+use Rattle.std.proofs.Common.{le-leb, ◌≡◌, ℕ, zero, suc, ◌*◌, ◌<◌, ◌≤◌, List, [], ◌∷◌, length, Bool, true, false, inl, inr, ⊎_elim, arith, sym, refl, ap, subst, ◌∙◌}
 use Rattle.std.specs.Prelude.{nat_le, nat_lt, ◌++◌, ◌/◌, ◌%◌, cond}
 use Rattle.std.specs.List.{repeat}
 use Rattle.rsvp_base.specs.declared.addr.Addr.{Addr}
@@ -27,13 +27,9 @@ in_repeat : (n : ℕ) (x s : Step) → In s (repeat n (x ∷ [])) → s ≡ x
 in_repeat zero x s i = absurd i
 in_repeat (suc n) x s i = ⊎_elim (λ (same : s ≡ x). same) (λ (j : In s (repeat n (x ∷ []))). in_repeat n x s j) i
 
-visited_then : (q : ℕ) (P : World → Type 0) (ss ts : List Step) (w : World) → Visited (machine q) P ss w → Visited (machine q) P ts (run (machine q) ss w) → Visited (machine q) P (ss ++ ts) w
+pub visited_then : (q : ℕ) (P : World → Type 0) (ss ts : List Step) (w : World) → Visited (machine q) P ss w → Visited (machine q) P ts (run (machine q) ss w) → Visited (machine q) P (ss ++ ts) w
 visited_then q P [] ts w a b = b
 visited_then q P (s ∷ ss) ts w a b = (a.0, visited_then q P ss ts (step q s w) a.1 b)
-
-pub visited_less : (q : ℕ) (P Q : World → Type 0) → ((u : World) → P u → Q u) → (ss : List Step) (w : World) → Visited (machine q) P ss w → Visited (machine q) Q ss w
-visited_less q P Q f [] w a = f w a
-visited_less q P Q f (s ∷ ss) w a = (f w a.0, visited_less q P Q f ss (step q s w) a.1)
 
 -- ---- the steps of most events are calm
 module _ (q : ℕ) (some : 1 ≤ q) where

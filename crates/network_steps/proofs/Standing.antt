@@ -118,6 +118,9 @@ module _ (q : ℕ) (net : Net) (trees : List (Addr × Addr)) (n : ℕ) where
       let x = iface_there net.ends (ends_of net.ends n) of_node i e h in
       ap own_of x.2 ∙ sym (ap addr_of_end x.1)
 
+  pub own_iface : (i e : ℕ) → end_at net.ends n i ≡ Some e → (x : End) × (slice_get net.ends e ≡ Some x) × (slice_get place.ifaces i ≡ Some x.iface)
+  own_iface i e h = iface_there net.ends (ends_of net.ends n) of_node i e h
+
   pub end_of : (i : ℕ) → i < length place.ifaces → (e : ℕ) × (end_at net.ends n i ≡ Some e)
   end_of i lt = let same = ifaces_length net.ends (ends_of net.ends n) of_node in some_at (ends_of net.ends n) i (omega arith)
 

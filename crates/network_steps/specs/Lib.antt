@@ -6,3 +6,4 @@ pub mod Hops
 pub mod Example
 pub mod Beginning
 pub mod Runs
+pub mod HowManySend

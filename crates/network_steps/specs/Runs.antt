@@ -1,18 +1,20 @@
 -- The runs of plans: what their events may be, so that each world of a run is within bounds, and whom they let send.
-use Rattle.std.specs.Prelude.{◌≡◌, ◌<◌, ◌≤◌, Bool, true, List, [], ◌∷◌, map as each, length}
-use Rattle.std.specs.List.{filter, flat_map}
+use Rattle.std.specs.Prelude.{◌≡◌, ℕ, ◌<◌, ◌≤◌, ◌==◌, ◌&&◌, Bool, true, not, List, [], ◌∷◌, map as each, length}
+use Rattle.std.specs.List.{filter}
 use Rattle.std.specs.Ordering.{eq_by_cmp}
 use Rattle.rsvp_base.specs.declared.addr.Addr.{Addr}
+use Rattle.rsvp_base.specs.declared.session.Sender.{Sender}
 use Rattle.rsvp_base.specs.declared.session.Session.{Session}
 use Rattle.rsvp_base.specs.Members.{In}
 use Rattle.rsvp_base.specs.Orders.{senders, sessions}
 use Rattle.rsvp_base.specs.Sets.{set_of}
 use Rattle.rsvp_base.specs.Table.{size}
-use Rattle.router_rules.specs.Facts.{SenderKey}
 use Rattle.router_rules.specs.Inputs.{Local, SendAs, DropAs, WantAs, QuitAll}
+use Rattle.tree_model.specs.declared.locals.LocalSender.{LocalSender}
 use Rattle.tree_model.specs.Networks.{Net}
 use Rattle.tree_model.specs.Trees.{trees_of}
 use Rattle.tree_model.specs.Valid.{IsValid}
+use Rattle.tree_model.specs.Wants.{live}
 use Rattle.network_model.specs.Bounds.{IsProperArrival}
 use Rattle.network_model.specs.Events.{Event, AtNode, Waits, Pass, DeliverAt, LoseAt, CopyAt, ClearNode, Rounds, Traces, Reports, ReportsFlags, Injects, Reroutes}
 use Rattle.network_model.specs.Links.{is_group}
@@ -52,25 +54,31 @@ pub record IsFitRun (p : Plan) : Type 0 where
   pub plan : IsFitPlan p
   pub events : AreFitEvents (trees_of p.net.hops) p.net p.events
 
--- ---- the senders that the events name, each as often as it is let send
-abbrev pub sends_of_call : Local → List SenderKey
-sends_of_call (SendAs s x tspec) = (s, x) ∷ []
-sends_of_call (DropAs s x) = []
-sends_of_call (WantAs s st names flow mark) = []
-sends_of_call (QuitAll s) = []
+-- ---- who sends: whom the calls so far let send, each at its node, and did not drop there since
+abbrev pub is_sender_at : ℕ → Session → Sender → LocalSender → Bool
+is_sender_at n s x l = (l.node == n) && (eq_by_cmp sessions.cmp s l.session && eq_by_cmp senders.cmp x l.sender)
 
-abbrev pub sends_of : Event → List SenderKey
-sends_of (AtNode n l) = sends_of_call l
-sends_of _ = []
+abbrev pub sending_by_call : ℕ → Local → List LocalSender → List LocalSender
+sending_by_call n (SendAs s x tspec) ls = (record { node = n; session = s; sender = x }) ∷ ls
+sending_by_call n (DropAs s x) ls = filter (λ l. not (is_sender_at n s x l)) ls
+sending_by_call n (WantAs s st names flow mark) ls = ls
+sending_by_call n (QuitAll s) ls = ls
 
-abbrev pub named_senders : Plan → List SenderKey
-named_senders p = flat_map sends_of p.events
+abbrev pub sending_then : Event → List LocalSender → List LocalSender
+sending_then (AtNode n l) ls = sending_by_call n l ls
+sending_then _ ls = ls
 
-abbrev pub is_of_session : Session → SenderKey → Bool
-is_of_session s k = eq_by_cmp sessions.cmp s k.0
+-- each sends to a group; there are at most 16 of a session, and 32 sessions
+pub record AreFew (ls : List LocalSender) : Type 0 where
+  pub groups : (l : LocalSender) → In l ls → is_group l.session.group ≡ true
+  pub few_senders : (s : Session) → size (set_of {o = senders} (live (record { senders = ls; wants = [] }) s)) ≤ 16
+  pub few_sessions : size (set_of {o = sessions} (each (λ (l : LocalSender). l.session) ls)) ≤ 32
 
--- each sends to a group; there are at most 16 of a session, and 32 sessions, over the whole plan
-pub record AreFitSenders (p : Plan) : Type 0 where
-  pub groups : (k : SenderKey) → In k (named_senders p) → is_group k.0.group ≡ true
-  pub few_senders : (s : Session) → size (set_of {o = senders} (each (λ (k : SenderKey). k.1) (filter (is_of_session s) (named_senders p)))) ≤ 16
-  pub few_sessions : size (set_of {o = sessions} (each (λ (k : SenderKey). k.0) (named_senders p))) ≤ 32
+-- few send before each event and behind the last
+abbrev pub AreFewSenders : List LocalSender → List Event → Type 0
+AreFewSenders ls [] = AreFew ls
+AreFewSenders ls (e ∷ es) = AreFew ls × AreFewSenders (sending_then e ls) es
+
+-- at first nobody sends
+abbrev pub AreFitSenders : Plan → Type 0
+AreFitSenders p = AreFewSenders [] p.events

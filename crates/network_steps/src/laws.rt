@@ -13,6 +13,7 @@ ghost use Rattle.network_model.specs.Worlds.{Item, World};
 ghost use Rattle.network_steps.specs.Beginning.{APlanIsFit, IsFitPlan};
 ghost use Rattle.network_steps.specs.Example.{APairStaysWithinBounds};
 ghost use Rattle.network_steps.specs.Hops.{LeavesBy, hop_of};
+ghost use Rattle.network_steps.specs.HowManySend.{HowManySend};
 ghost use Rattle.network_steps.specs.Keeping.{IsFitStep};
 ghost use Rattle.network_steps.specs.Known.{IsSameNet};
 ghost use Rattle.network_steps.specs.Rounds.{RoundsIsCalm};
@@ -34,10 +35,16 @@ pub fn each_world_of_a_run_is_within_bounds()
     ensures { (p : Plan) → IsFitRun p → Visited (machine p.quarter) (AreBounds p.quarter) (steps_of_run p) (first_world p) }
 {}
 
-/// Where the events besides let few senders send, each to a group, the local senders of each world of the run keep what "paths
-/// are complete" asks of them: each has an address of its node and sends to a group, and they are few.
+/// Where few senders send at each point of the events, each to a group, the local senders of each world of the run keep what
+/// "paths are complete" asks of them: each has an address of its node and sends to a group, and they are few.
 pub fn each_world_of_a_run_keeps_the_locals()
     ensures { (p : Plan) → IsFitRun p → AreFitSenders p → Visited (machine p.quarter) (λ u. AreBounds p.quarter u × AreHosts u) (steps_of_run p) (first_world p) }
+{}
+
+/// "At each point" counts those who send then: any number of senders may send one after another, each dropped before the next,
+/// and 17 of a session at once are too many.
+pub fn how_many_may_send()
+    ensures { HowManySend }
 {}
 
 /// Each step keeps a world within bounds, whatever step it is, where its piece, its call, its injected datagram or its new

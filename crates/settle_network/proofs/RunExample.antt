@@ -10,23 +10,24 @@ use Rattle.rsvp_base.specs.Sets.{set_of}
 use Rattle.rsvp_base.specs.Table.{size}
 use Rattle.style_rules.specs.Limits.{IsWithinLimits}
 use Rattle.style_rules.specs.Lines.{held}
-use Rattle.router_rules.specs.Facts.{Facts, SenderKey, no_facts}
+use Rattle.router_rules.specs.Facts.{Facts, no_facts}
 use Rattle.router_rules.specs.Inputs.{SendAs}
 use Rattle.router_rules.specs.Rule.{facts_with}
 use Rattle.router_rows.specs.ThreeRouters.{first, session, usual}
 use Rattle.std.specs.Option.{unwrap_or}
+use Rattle.tree_model.specs.declared.locals.LocalSender.{LocalSender}
 use Rattle.tree_model.specs.Goals.{DemandsFit, demand_of}
 use Rattle.network_model.specs.Bounds.{IsSettled, all_of}
 use Rattle.network_model.specs.Events.{Reports, Rounds, all_steps}
 use Rattle.network_model.specs.Links.{is_group}
-use Rattle.network_model.specs.Locals.{locals_of}
+use Rattle.network_model.specs.Locals.{locals_of, sender_at}
 use Rattle.network_model.specs.Runs.{first_world, steps_of_run}
 use Rattle.network_model.specs.Steps.{At, Report, Step}
 use Rattle.network_model.specs.Worlds.{World}
 use Rattle.network_steps.specs.Beginning.{left_key, left_resv}
 use Rattle.network_steps.specs.Example.{pair_net}
 use Rattle.network_steps.specs.Rounds.{rounds_of}
-use Rattle.network_steps.specs.Runs.{AreFitSenders, IsFitRun}
+use Rattle.network_steps.specs.Runs.{AreFew, AreFitSenders, IsFitRun}
 use Rattle.network_steps.proofs.Beginning.{a_plan_is_fit}
 use Rattle.network_steps.proofs.Calming.{calm_rounds, rounds_is_calm}
 use Rattle.node_goals.proofs.UnderTheGoal.{want_needs}
@@ -39,16 +40,22 @@ fit_run = record {
   events = (record { rate = omega arith; depth = omega arith; low = omega arith; most = omega arith }, (tt, (tt, tt)));
 }
 
-few : (b : Bool) → size (set_of {o = by_sender} (each (λ (k : SenderKey). k.1) (cond b ((session, first) ∷ []) []))) ≤ 16
+nobody : AreFew []
+nobody = record { groups = λ l i. absurd i; few_senders = λ s. omega arith; few_sessions = omega arith }
+
+few : (b : Bool) → size (set_of {o = by_sender} (each (λ (l : LocalSender). l.sender) (cond b (sender_at 0 (session, first) ∷ []) []))) ≤ 16
 few true = omega arith
 few false = omega arith
 
-senders : AreFitSenders run_plan
-senders = record {
-  groups = λ k i. ⊎_elim (λ (same : k ≡ (session, first)). ap (λ (z : SenderKey). is_group z.0.group) same) (λ (no : ⊥). absurd no) i;
+one : AreFew (sender_at 0 (session, first) ∷ [])
+one = record {
+  groups = λ l i. ⊎_elim (λ (same : l ≡ sender_at 0 (session, first)). ap (λ (z : LocalSender). is_group z.session.group) same) (λ (no : ⊥). absurd no) i;
   few_senders = λ s. few (eq_by_cmp sessions.cmp s session);
   few_sessions = omega arith;
 }
+
+senders : AreFitSenders run_plan
+senders = (nobody, (one, (one, one)))
 
 front_of : (n : ℕ) (w : World) → all_steps 7500 (Rounds n ∷ Reports None ∷ []) w ≡ all_of (rounds_of 7500 n w) ++ Report None ∷ []
 front_of n w = ap (λ (z : List Step). z ++ Report None ∷ []) (rounds_is_calm 7500 n w).steps
