@@ -1,1 +1,2 @@
 pub mod Blockades
+pub mod Touched

@@ -6,6 +6,8 @@
 
 mod fact;
 mod table;
+mod touched;
 
 pub use style_rules::Target;
 pub use table::Blockades;
+pub use touched::Touched;

@@ -6,8 +6,10 @@ ghost use Rattle.rsvp_base.specs.Table.{empty, get, put_in, size, changed};
 ghost use Rattle.style_rules.specs.Targets.{wall_keys, targets};
 ghost use Rattle.soft_table.specs.Facts.{IsInOrder};
 ghost use Rattle.blockade_state.specs.Blockades.{WallMap, wall_key, fact_row, later};
+ghost use Rattle.blockade_state.specs.Touched.{dying, sessions_of, touched_by};
 
 use crate::fact::Kept;
+use crate::touched::Touched;
 use rsvp_base::{Full, NoMemory, Session};
 use soft_table::SoftTable;
 use std::alloc::Global;
@@ -100,6 +102,15 @@ impl Blockades {
         pull_all(&mut self.table);
     }
 
+    /// Lets time pass as `advance` does, and says of which sessions blockades died.
+    pub fn age(&mut self, ms: u32, touched: &mut Touched)
+        ensures facts { self.new ≡ changed (later ms) self.old }
+        ensures touched { touched.new ≡ touched_by (dying ms self.old) touched.old }
+    {
+        self.table.advance(ms);
+        pull_touching(&mut self.table, touched);
+    }
+
     /// Takes all blockades out.
     pub fn clear(&mut self)
         ensures { self.new ≡ empty }
@@ -116,4 +127,17 @@ fn pull_all(table: &mut SoftTable<Kept>)
     ensures order { IsInOrder targets wall_key table.new }
 {
     while table.pull_dead().is_some() {}
+}
+
+// Takes the dead out, all of them, and says of which sessions they were.
+fn pull_touching(table: &mut SoftTable<Kept>, touched: &mut Touched)
+    ensures facts { table.new.facts ≡ table.old.facts }
+    ensures dead { table.new.dead ≡ [] }
+    ensures room { table.new.room ≡ table.old.room }
+    ensures order { IsInOrder targets wall_key table.new }
+    ensures touched { touched.new ≡ touched_by (sessions_of table.old.dead) touched.old }
+{
+    while let Some(kept) = table.pull_dead() {
+        touched.touch(kept.session);
+    }
 }
