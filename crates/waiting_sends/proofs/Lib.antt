@@ -1,0 +1,6 @@
+pub mod Grouping
+pub mod Blocks
+pub mod Ordered
+pub mod Senders
+pub mod Laned
+pub mod Waits
