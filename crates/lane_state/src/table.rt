@@ -2,7 +2,7 @@
 ghost use Rattle.std.specs.Prelude.{◌≡◌, ◌≤◌, ◌<◌, ◌↔◌, [], false, IsTrue, IfOk, length};
 ghost use Rattle.rsvp_base.specs.Rows.{AreRows};
 ghost use Rattle.rsvp_base.specs.Table.{empty, has, size};
-ghost use Rattle.lane_state.specs.Lanes.{lane_places, sent_row, said_at, told};
+ghost use Rattle.lane_state.specs.Lanes.{lane_at, lane_places, sent_row, said_at, told};
 
 use crate::lane::Sent;
 use rsvp_base::{Addr, NoMemory, Session, StyleKind};
@@ -14,8 +14,8 @@ use style_rules::Parts;
 // 32 sessions have paths, each from at most 16 previous hops; there are three styles.
 const ROOM: usize = 1536;
 
-/// What each lane was last sent. Contracts see a finite map from session, style and previous hop (interface and address) to
-/// the parts, of the lanes to which there is something. There are at most 1,536.
+/// What each lane was last sent. Contracts see a finite map from lane (session, style and previous hop: interface and
+/// address) to the parts, of the lanes to which there is something. There are at most 1,536.
 #[derive(Drop)]
 pub struct LaneTable {
     table: SoftTable<Sent>,
@@ -28,13 +28,13 @@ pub struct LaneTable {
 impl Model for LaneTable {
     ghost use Rattle.rsvp_base.specs.Rows.{table_of};
     ghost use Rattle.rsvp_base.specs.Table.{changed};
-    ghost use Rattle.lane_state.specs.Lanes.{LaneMap, lane_map_code, lane_places, sent_row, parts_of};
+    ghost use Rattle.lane_state.specs.Lanes.{LaneMap, lane_map_code, lane_places, lanes_in, sent_row, parts_of};
 
     ghost Value = { LaneMap };
 
     ghost coded = { lane_map_code };
 
-    ghost view = { λ t. changed parts_of (table_of lane_places sent_row t.table.facts t.facts) };
+    ghost view = { λ t. lanes_in (changed parts_of (table_of lane_places sent_row t.table.facts t.facts)) };
 }
 
 impl LaneTable {
@@ -56,7 +56,7 @@ impl LaneTable {
 
     /// The parts that went there last, of which there may be none.
     pub fn said(&self, session: Session, style: StyleKind, hop: (u8, Addr)) -> Parts
-        ensures { result ≡ said_at self.now (session, (style, hop)) }
+        ensures { result ≡ said_at self.now (lane_at (session, (style, hop))) }
     {
         match self.table.find(session, (style, hop)) {
             Some(sent) => sent.parts.copy(),
@@ -72,7 +72,7 @@ impl LaneTable {
         hop: (u8, Addr),
         parts: &Parts,
     ) -> bool
-        ensures { IsTrue result ↔ (said_at self.now (session, (style, hop)) ≡ parts.now) }
+        ensures { IsTrue result ↔ (said_at self.now (lane_at (session, (style, hop))) ≡ parts.now) }
     {
         match self.table.find(session, (style, hop)) {
             Some(sent) => sent.parts.is_same(parts),
@@ -83,8 +83,8 @@ impl LaneTable {
     /// Keeps what goes there now, or forgets the lane where that is nothing. Of a lane to which there was nothing fewer than
     /// 1,536 others are there.
     pub fn tell(&mut self, session: Session, style: StyleKind, hop: (u8, Addr), parts: Parts)
-        requires { has self.old (session, (style, hop)) ≡ false → size self.old < 1536 }
-        ensures { self.new ≡ told self.old (session, (style, hop)) parts }
+        requires { has self.old (lane_at (session, (style, hop))) ≡ false → size self.old < 1536 }
+        ensures { self.new ≡ told self.old (lane_at (session, (style, hop))) parts }
     {
         if parts.is_empty() {
             self.table.remove(session, (style, hop));

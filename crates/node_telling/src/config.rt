@@ -2,13 +2,16 @@
 ghost use Rattle.std.specs.Prelude.{◌≡◌, ◌≤◌, ◌*◌, length, IfOk, IfErr};
 ghost use Rattle.std.specs.List.{list_any};
 ghost use Rattle.rsvp_base.specs.Rows.{AreRows, HasRowAt, LacksRowAt};
+ghost use Rattle.rsvp_base.specs.Table.{empty};
 ghost use Rattle.router_rules.specs.NodeConfig.{comes_in, goes_out, is_addr, is_own, lifetime, own, period, route_in, tree, wall_lifetime};
 ghost use Rattle.node_facts.specs.Routes.{AreRoutes, route_keys, route_row};
 ghost use Rattle.node_sends.specs.Upward.{ways_out};
 
 use crate::paths::is_out;
+use admission_book::Book;
 use router_rules::Route;
-use rsvp_base::{Addr, Iface, Sender, Session};
+use rsvp_base::{Addr, Iface, NoMemory, Sender, Session};
+use std::alloc::Global;
 use std::cmp::Ordering;
 use std::marker::Model;
 
@@ -99,6 +102,13 @@ impl Config {
         ensures few { length result.now ≤ 16 }
     {
         self.ifaces.as_slice()
+    }
+
+    /// A book of the interfaces, without entries. `NoMemory`: the room could not be had.
+    pub fn open_book(&self, alloc: Global) -> Result<Book, NoMemory>
+        ensures { IfOk result (λ b. b ≡ record { ifaces = self.now.ifaces; entries = empty }) }
+    {
+        Book::open(alloc, &self.ifaces)
     }
 
     /// The node's own address of an interface; 0 where there is no such interface.

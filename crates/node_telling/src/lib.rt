@@ -14,4 +14,4 @@ pub use config::Config;
 pub use offered::Offered;
 pub use outbox::Outbox;
 pub use paths::{tell_gone, tell_new, tell_path_tears, tell_paths};
-pub use via::upstream;
+pub use via::{name_of, upstream};

@@ -74,8 +74,8 @@ fn wall_for(
     }
 }
 
-// The name under which a style lists a sender.
-fn name_of(style: StyleKind, sender: Sender) -> Sender
+/// The name under which a style lists a sender: of a wildcard filter the address alone.
+pub fn name_of(style: StyleKind, sender: Sender) -> Sender
     ensures { result ≡ name_of style sender }
 {
     match style {
