@@ -10,6 +10,7 @@ pub record EachVerbIsAnOrder : Type 0 where
   pub show : order_of (codes "show" ∷ []) ≡ Some Show
   pub grow : order_of (codes "grow" ∷ []) ≡ Some (Grow 1)
   pub seeded : order_of (codes "grow" ∷ codes "--seed" ∷ codes "7" ∷ []) ≡ Some (Grow 7)
+  pub zeros_first : order_of (codes "grow" ∷ codes "--seed" ∷ codes "01" ∷ []) ≡ Some (Grow 1)
   pub joined : order_of (codes "--seed=18446744073709551615" ∷ codes "grow" ∷ []) ≡ Some (Grow 18446744073709551615)
 
 -- other words are no order
@@ -22,4 +23,6 @@ pub record OtherWordsAreNone : Type 0 where
   pub seed_of_another : order_of (codes "replay" ∷ codes "--seed" ∷ codes "3" ∷ []) ≡ None
   pub no_seed : order_of (codes "grow" ∷ codes "--seed" ∷ []) ≡ None
   pub no_number : order_of (codes "grow" ∷ codes "--seed" ∷ codes "-1" ∷ []) ≡ None
+  pub signed : order_of (codes "grow" ∷ codes "--seed" ∷ codes "+1" ∷ []) ≡ None
+  pub too_long : order_of (codes "grow" ∷ codes "--seed" ∷ codes "000000000000000000001" ∷ []) ≡ None
   pub too_large : order_of (codes "grow" ∷ codes "--seed" ∷ codes "18446744073709551616" ∷ []) ≡ None

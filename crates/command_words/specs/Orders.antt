@@ -1,8 +1,10 @@
 -- What the words of a command line order.
-use Rattle.std.specs.Prelude.{ℕ, ◌^◌, ◌==◌, nat_lt, List, ◌∷◌, length, Option, None, Some, codes, option_and_then, if◌then◌else◌}
+use Rattle.std.specs.Prelude.{ℕ, ◌^◌, ◌==◌, nat_le, nat_lt, Bool, ◌&&◌, List, ◌∷◌, length, Option, None, Some, codes, option_and_then, if◌then◌else◌}
+use Rattle.std.specs.Char.{is_ascii_digit}
+use Rattle.std.specs.List.{list_all}
 use Rattle.std.specs.Str.{bytes_eq}
+use Rattle.std.specs.Str.Parse.{digits_value}
 use Rattle.clap.specs.Words.{Text}
-use Rattle.script_words.specs.Numbers.{number_of}
 use Rattle.command_words.specs.CommandLine.{faults_at, value_at}
 use Rattle.command_words.specs.declared.order.Order.{Order}
 use Rattle.command_words.specs.declared.order.Order.TheVariants.{Replay, Demand, Show, Grow}
@@ -12,9 +14,16 @@ abbrev pub unseeded : Order → Option Text → Option Order
 unseeded order None = Some order
 unseeded order (Some text) = None
 
--- a seed: a number below 2^64
+-- 1 to 20 decimal digits, which may begin with zeros
+abbrev pub is_numeral : Text → Bool
+is_numeral text = nat_le 1 (length text) && (nat_le (length text) 20 && list_all is_ascii_digit text)
+
+abbrev pub below_2_to_64 : ℕ → Option ℕ
+below_2_to_64 n = if nat_lt n (2 ^ 64) then Some n else None
+
+-- a seed: what such digits stand for, where that is below 2^64
 abbrev pub seed_of : Text → Option ℕ
-seed_of text = option_and_then (λ n. if nat_lt n (2 ^ 64) then Some n else None) (number_of text)
+seed_of text = if is_numeral text then below_2_to_64 (digits_value 10 text) else None
 
 -- `grow` with its seed, which is 1 where none is given
 abbrev pub grown : Option Text → Option Order

@@ -1,13 +1,15 @@
 //! Reading a command line.
-ghost use Rattle.std.specs.Prelude.{◌≡◌, ◌++◌, ℕ, List, [], Some, None, length, map, codes, option_map, string_bytes, IfOk, IfErr, OnOk, MatchResult};
+ghost use Rattle.std.specs.Prelude.{◌≡◌, ◌++◌, ℕ, List, [], Some, None, true, length, map, codes, option_map, string_bytes, IfOk, IfErr, OnOk, MatchResult};
+ghost use Rattle.std.specs.Char.{is_ascii_digit};
+ghost use Rattle.std.specs.List.{list_all};
+ghost use Rattle.std.specs.Str.Parse.{digits_value};
 ghost use Rattle.clap.specs.Words.{app_of, first_value, found_of};
 ghost use Rattle.command_words.specs.CommandLine.{faults_at, rsvpd, value_at};
-ghost use Rattle.command_words.specs.Orders.{grown, order_at, order_of, ordered, seed_of, unseeded};
+ghost use Rattle.command_words.specs.Orders.{below_2_to_64, grown, is_numeral, order_at, order_of, ordered, seed_of, unseeded};
 
 use crate::order::{NoOrder, Order};
 use clap::error::ErrorKind;
 use clap::{Arg, ArgAction, ArgMatches, Command};
-use script_words::number;
 use std::alloc::{AllocError, Global};
 
 /// The order of the words behind the program's name. `Usage`: they are a faulty command line.
@@ -113,6 +115,30 @@ fn grown(seed: Option<&str>) -> Option<Order>
 fn seed_of(text: &str) -> Option<u64>
     ensures { result ≡ seed_of text.now }
 {
-    let n = number(text.as_bytes())?;
-    if n < 1 << 64 { Some(n as u64) } else { None }
+    if is_numeral(text) { value(text) } else { None }
+}
+
+// Whether a text is 1 to 20 decimal digits.
+fn is_numeral(text: &str) -> bool
+    ensures { result ≡ is_numeral text.now }
+{
+    let digits = text.as_bytes();
+    1 <= digits.len() && digits.len() <= 20 && has_digits_only(digits)
+}
+
+fn has_digits_only(bytes: &[u8]) -> bool
+    ensures { result ≡ list_all is_ascii_digit bytes.now }
+{
+    bytes.iter().all(|c| c.is_ascii_digit())
+}
+
+// What digits stand for, where that is below 2^64.
+fn value(digits: &str) -> Option<u64>
+    requires { is_numeral digits.now ≡ true }
+    ensures { result ≡ below_2_to_64 (digits_value 10 digits.now) }
+{
+    match digits.parse::<u64>() {
+        Ok(n) => Some(n),
+        Err(_) => None,
+    }
 }

@@ -11,7 +11,7 @@ fn words_are_orders(rt: HostRuntime) -> Result<(), Fail> {
         (&["show"], Ok(Order::Show)),
         (&["grow"], Ok(Order::Grow { seed: 1 })),
         (&["--seed=0", "grow"], Ok(Order::Grow { seed: 0 })),
-        (&["grow", "--seed", "01"], Err(NoOrder::Usage)),
+        (&["grow", "--seed", "01"], Ok(Order::Grow { seed: 1 })),
         (&["show", "--seed", "1"], Err(NoOrder::Usage)),
         (&["--help"], Err(NoOrder::Usage)),
     ];
