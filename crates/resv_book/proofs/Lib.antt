@@ -1,0 +1,7 @@
+pub mod Entries
+pub mod Renewals
+pub mod Moves
+pub mod Tearing
+pub mod Deaths
+pub mod Room
+pub mod Stands

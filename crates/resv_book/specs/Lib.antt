@@ -1,0 +1,4 @@
+pub mod Kept
+pub mod Renewed
+pub mod Placing
+pub mod Dying
