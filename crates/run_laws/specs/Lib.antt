@@ -1,0 +1,4 @@
+pub mod InRuns
+pub mod Books
+pub mod Refusals
+pub mod Blockades
