@@ -1,2 +1,7 @@
 pub mod Asking
 pub mod Ready
+pub mod Starts
+pub mod Previous
+pub mod Goals
+pub mod Kept
+pub mod Tight

@@ -34,10 +34,10 @@ use Rattle.law_rows.specs.Ready.{AResvGoesAstray, AReservationIsOnItsWay, AnErro
 use Rattle.law_rows.proofs.Asking.{fit, free_told, hosts, is_free, is_so_far, so_far_through}
 
 -- ---- what is injected is proper
-in_scope : (x : Sender) → has scope x ≡ true → x.port ≡ 0
+pub in_scope : (x : Sender) → has scope x ≡ true → x.port ≡ 0
 in_scope x h = ⊎_elim (λ (e : x ≡ record { addr = s1; port = 0 }). ap (λ (z : Sender). z.port) e) (λ (no : ⊥). absurd no) (set_of_in senders ((record { addr = s1; port = 0 }) ∷ []) x h)
 
-usual_sound : IsSound usual
+pub usual_sound : IsSound usual
 usual_sound = record { rate = omega arith; depth = omega arith; low = omega arith; most = omega arith }
 
 stray_bounds : AreBounds 7500 stray_world
@@ -47,7 +47,7 @@ blaming_bounds : AreBounds 7500 blaming_world
 blaming_bounds = each_step_keeps_a_world_within_bounds 7500 asking_world (Inject 1 r1 (Spelt (message.ResvErr the_error))) (omega arith, (in_scope, usual_sound)) a_pair_says_a_reservation.bounds
 
 -- ---- the same is asked
-asking_same : IsSameNet asking_world asking_world
+pub asking_same : IsSameNet asking_world asking_world
 asking_same = record { net = refl; trees = refl; senders = λ n. refl; locals = refl }
 
 stray_same : IsSameNet asking_world stray_world

@@ -1,1 +1,6 @@
 pub mod Ready
+pub mod Starts
+pub mod Previous
+pub mod Goals
+pub mod Kept
+pub mod Tight
