@@ -1,0 +1,5 @@
+pub mod Writing
+pub mod Still
+pub mod Texts
+pub mod Demands
+pub mod Example

@@ -1,0 +1,25 @@
+-- Steps that only write: reports, trace switches and flag reports.
+use Rattle.std.specs.Prelude.{◌≡◌, ℕ, ◌++◌, Bool, true, false, List, [], ◌∷◌}
+use Rattle.calm_rounds.specs.Machine.{run}
+use Rattle.network_model.specs.Bounds.{IsSettled}
+use Rattle.network_model.specs.Steps.{Flags, Report, Step, Trace, machine}
+use Rattle.network_model.specs.Worlds.{World}
+use Rattle.settle_network.specs.Settled.{HasSettled}
+
+abbrev pub only_writes : Step → Bool
+only_writes (Trace on) = true
+only_writes (Report e) = true
+only_writes Flags = true
+only_writes _ = false
+
+abbrev pub OnlyWrite : List Step → Type 0
+OnlyWrite [] = Unit {0}
+OnlyWrite (s ∷ ss) = (only_writes s ≡ true) × OnlyWrite ss
+
+-- a settled moment stays one: the steps that write count as the end of the last round
+abbrev pub AMomentStaysSettled : Type 0
+AMomentStaysSettled = (q : ℕ) (w : World) (ss still : List Step) → OnlyWrite still → IsSettled q w ss → IsSettled q w (ss ++ still)
+
+-- and a settled network stays settled
+abbrev pub ANetworkStaysSettled : Type 0
+ANetworkStaysSettled = (q : ℕ) (u : World) (still : List Step) → OnlyWrite still → HasSettled q u → HasSettled q (run (machine q) still u)

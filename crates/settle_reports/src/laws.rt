@@ -1,0 +1,28 @@
+//! The laws.
+ghost use Rattle.settle_reports.specs.Demands.{ASettledReportIsTheDemand};
+ghost use Rattle.settle_reports.specs.Example.{TheReportBecomesTheDemand};
+ghost use Rattle.settle_reports.specs.Writing.{AMomentStaysSettled, ANetworkStaysSettled};
+
+/// A settled moment stays one while only reports, trace switches and flag reports follow: they take no time, send nothing and
+/// change no node, so that they count as the end of the last round.
+pub fn a_moment_stays_settled()
+    ensures { AMomentStaysSettled }
+{}
+
+/// And a settled network stays settled, whatever led to it.
+pub fn a_network_stays_settled()
+    ensures { ANetworkStaysSettled }
+{}
+
+/// A settled report is the demand: in the run of a fit script that lets few senders send and is not crowded, at each report that
+/// stands at a settled moment, where the demands of that moment fit, what the report appends to the text is the text of the
+/// demand, whole, with senders and flows.
+pub fn a_settled_report_is_the_demand()
+    ensures { ASettledReportIsTheDemand }
+{}
+
+/// The run of a small script, computed: a report before the rounds tells of a left-over reservation, and one behind 32 rounds is
+/// the demand.
+pub fn the_report_becomes_the_demand()
+    ensures { TheReportBecomesTheDemand }
+{}
