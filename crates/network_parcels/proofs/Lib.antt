@@ -1,0 +1,4 @@
+pub mod Copies
+pub mod Lists
+pub mod Puts
+pub mod MadeTables
