@@ -1,0 +1,5 @@
+mod Named
+mod Said
+mod Listed
+mod Cleared
+pub mod Sent

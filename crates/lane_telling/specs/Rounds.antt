@@ -1,0 +1,32 @@
+-- What the lanes of a session are told, each of what was said to it before.
+use Rattle.std.specs.Prelude.{◌≡◌, ℕ, nat_lt, Bool, true, cond, List, map as each, Some}
+use Rattle.path_state.specs.Paths.{via}
+use Rattle.rsvp_base.specs.Sets.{is_none}
+use Rattle.rsvp_base.specs.Table.{empty, get, size}
+use Rattle.rsvp_base.specs.declared.session.Session.{Session}
+use Rattle.rsvp_base.specs.declared.style.StyleKind.{StyleKind}
+use Rattle.style_rules.specs.Lines.{NextHop}
+use Rattle.style_rules.specs.Merge.{PartTable}
+use Rattle.router_rules.specs.Inputs.{Send}
+use Rattle.router_rules.specs.Known.{Lane}
+use Rattle.node_facts.specs.State.{Said, State, said_at}
+use Rattle.node_sends.specs.Saying.{SessionLane, lane_by, told_at, told_seen, torn_seen}
+use Rattle.node_tables.specs.declared.tables.Tables.{Tables}
+
+-- the lanes of a style toward these hops
+abbrev pub lanes_of : StyleKind → List NextHop → List SessionLane
+lanes_of st hops = each (λ hop. (st, hop)) hops
+
+abbrev pub torn_by : ℕ → State → Said → Session → SessionLane → List Send
+torn_by c n said s e = torn_seen c n (lane_by s e) (said_at said (lane_by s e))
+
+abbrev pub told_by : ℕ → State → Bool → Said → Session → SessionLane → List Send
+told_by c n due said s e = told_seen c n (lane_by s e) due (said_at said (lane_by s e))
+
+-- of nothing nothing is kept
+abbrev pub IsFull : Said → Type 0
+IsFull said = (l : Lane) (t : PartTable) → get said l ≡ Some t → nat_lt 0 (size t) ≡ true
+
+-- what is kept of a lane, and nothing where no path comes from its hop
+abbrev pub cleared_of : Tables → Said → Session → SessionLane → Said
+cleared_of t said s e = cond (is_none (via t.paths.facts s e.1.0 e.1.1)) (told_at said (lane_by s e) empty) said

@@ -1,0 +1,107 @@
+//! ResvTears and Resvs of a lane.
+ghost use Rattle.std.specs.Prelude.{◌≡◌, ◌<◌, ◌||◌, ℕ, cond, false, fold};
+ghost use Rattle.rsvp_base.specs.Table.{has, size};
+ghost use Rattle.lane_state.specs.Lanes.{lane_at, said_at, told};
+ghost use Rattle.node_facts.specs.State.{Said};
+ghost use Rattle.node_sends.specs.Saying.{ask_seen, told_seen, torn_seen};
+ghost use Rattle.node_sends.specs.Seen.{toward_at};
+ghost use Rattle.router_rules.specs.Asking.{ask_of};
+ghost use Rattle.node_tables.specs.Whole.{state_of};
+
+use crate::upward::{hop_to, names_via, toward};
+use lane_state::{LaneTable, ask_of, gone_among, tear_of};
+use node_tables::Tables;
+use node_telling::Outbox;
+use rsvp_base::{Addr, Session, StyleKind};
+use rsvp_messages::{Message, ResvMsg, ResvTearMsg};
+use style_rules::Parts;
+
+/// The ResvTear of a lane to which these parts went before: of the names of the units that go there no more, those via the
+/// hop, if there are some (RFC 2205, 3.1.6).
+pub fn tell_torn<O: Outbox>(
+    tables: &Tables,
+    session: Session,
+    style: StyleKind,
+    hop: (u8, Addr),
+    was: &Parts,
+    out: &mut O,
+)
+    ensures { (c : ℕ) (said : Said) → out.new ≡ fold O.posted out.old (torn_seen c (state_of tables.now said) (lane_at (session, (style, hop))) was.now) }
+{
+    let now = toward(tables, session, style, hop);
+    let among = names_via(tables, session, style, hop);
+    let names = gone_among(was, &now, &among);
+    if names.is_empty() {
+        return;
+    }
+    let message = ResvTearMsg {
+        session,
+        hop: hop_to(tables, session, hop),
+        tear: tear_of(style, names),
+    };
+    out.post(hop.0, hop.1, Message::ResvTear(message), false);
+}
+
+// The Resv of a lane that asks for these parts, if they ask for something.
+fn tell_ask<O: Outbox>(
+    tables: &Tables,
+    session: Session,
+    style: StyleKind,
+    hop: (u8, Addr),
+    parts: &Parts,
+    due: bool,
+    out: &mut O,
+)
+    ensures { (c : ℕ) (said : Said) → out.new ≡ fold O.posted out.old (ask_seen c (state_of tables.now said) (lane_at (session, (style, hop))) due (ask_of style parts.now)) }
+{
+    let Some(ask) = ask_of(style, parts) else {
+        return;
+    };
+    let message = ResvMsg {
+        session,
+        hop: hop_to(tables, session, hop),
+        period: tables.config.period(),
+        confirm: None,
+        ask,
+    };
+    out.post(hop.0, hop.1, Message::Resv(message), due);
+}
+
+// The Resv of a lane that asks for these parts, where they are new or due.
+fn tell_changed<O: Outbox>(
+    tables: &Tables,
+    session: Session,
+    style: StyleKind,
+    hop: (u8, Addr),
+    parts: &Parts,
+    new: bool,
+    due: bool,
+    out: &mut O,
+)
+    ensures { (c : ℕ) (said : Said) → out.new ≡ cond (new || due) (fold O.posted out.old (ask_seen c (state_of tables.now said) (lane_at (session, (style, hop))) due (ask_of style parts.now))) out.old }
+{
+    if new || due {
+        tell_ask(tables, session, style, hop, parts, due, out);
+    }
+}
+
+/// The Resv of a lane, whole, where what goes there is not what was said last, or where it is due (RFC 2209, 2: RESV REFRESH);
+/// what goes there is kept as said. Of a lane to which nothing was said fewer than 1,536 others are there.
+pub fn tell_lane<O: Outbox>(
+    tables: &Tables,
+    said: &mut LaneTable,
+    session: Session,
+    style: StyleKind,
+    hop: (u8, Addr),
+    due: bool,
+    out: &mut O,
+)
+    requires room { has said.old (lane_at (session, (style, hop))) ≡ false → size said.old < 1536 }
+    ensures sent { (c : ℕ) (any : Said) → out.new ≡ fold O.posted out.old (told_seen c (state_of tables.now any) (lane_at (session, (style, hop))) due (said_at said.old (lane_at (session, (style, hop))))) }
+    ensures said { (c : ℕ) (any : Said) → said.new ≡ told said.old (lane_at (session, (style, hop))) (toward_at c (state_of tables.now any) session style hop) }
+{
+    let now = toward(tables, session, style, hop);
+    let is_old = said.is_said(session, style, hop, &now);
+    tell_changed(tables, session, style, hop, &now, !is_old, due, out);
+    said.tell(session, style, hop, now);
+}

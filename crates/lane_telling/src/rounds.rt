@@ -1,0 +1,111 @@
+//! The lanes of a session, one after another.
+ghost use Rattle.std.specs.Prelude.{◌≡◌, ℕ, fold, true, nat_lt, Some};
+ghost use Rattle.std.specs.List.{flat_map};
+ghost use Rattle.rsvp_base.specs.Table.{empty, get, keys, size};
+ghost use Rattle.router_rules.specs.Known.{Lane};
+ghost use Rattle.style_rules.specs.Lines.{NextHop};
+ghost use Rattle.style_rules.specs.Merge.{PartTable};
+ghost use Rattle.node_facts.specs.State.{Said, facts_of};
+ghost use Rattle.node_sends.specs.Before.{lanes_by};
+ghost use Rattle.node_sends.specs.Saying.{IsRoomy, IsTold};
+ghost use Rattle.node_sends.specs.SendsHere.{hops_in};
+ghost use Rattle.node_tables.specs.Whole.{state_of};
+ghost use Rattle.lane_telling.specs.Rounds.{lanes_of, told_by, torn_by};
+
+use crate::lanes::{tell_lane, tell_torn};
+use lane_state::LaneTable;
+use node_tables::Tables;
+use node_telling::Outbox;
+use path_state::Hops;
+use rsvp_base::{Addr, Sender, Session, StyleKind};
+
+// The ResvTear of a lane, of what was said there.
+fn tear_lane<O: Outbox>(
+    tables: &Tables,
+    said: &LaneTable,
+    session: Session,
+    style: StyleKind,
+    hop: (u8, Addr),
+    out: &mut O,
+)
+    ensures { (c : ℕ) (any : Said) → out.new ≡ fold O.posted out.old (torn_by c (state_of tables.now any) said.now session (style, hop)) }
+{
+    let was = said.said(session, style, hop);
+    tell_torn(tables, session, style, hop, &was, out);
+}
+
+// The ResvTears of the lanes of a style toward these hops, of what was said there.
+fn tear_style<O: Outbox>(
+    tables: &Tables,
+    said: &LaneTable,
+    session: Session,
+    style: StyleKind,
+    hops: &Hops,
+    out: &mut O,
+)
+    ensures { (c : ℕ) (any : Said) → out.new ≡ fold O.posted out.old (flat_map (torn_by c (state_of tables.now any) said.now session) (lanes_of style (keys hops.now))) }
+{
+    let list = hops.as_slice();
+    for i in 0..list.len() {
+        tear_lane(tables, said, session, style, list[i], out);
+    }
+}
+
+/// The ResvTears of a session's lanes toward these hops, of what was said there: by style, and then by hop.
+pub fn tear_lanes<O: Outbox>(
+    tables: &Tables,
+    said: &LaneTable,
+    session: Session,
+    hops: &Hops,
+    out: &mut O,
+)
+    ensures { (c : ℕ) (any : Said) → out.new ≡ fold O.posted out.old (flat_map (torn_by c (state_of tables.now any) said.now session) (lanes_by (keys hops.now))) }
+{
+    tear_style(tables, said, session, StyleKind::Wild, hops, out);
+    tear_style(tables, said, session, StyleKind::Fixed, hops, out);
+    tear_style(tables, said, session, StyleKind::Shared, hops, out);
+}
+
+// The Resvs of the lanes of a style toward the session's hops, where they changed or are due; what goes there is kept as said.
+fn tell_style<O: Outbox>(
+    tables: &Tables,
+    said: &mut LaneTable,
+    session: Session,
+    style: StyleKind,
+    hops: &Hops,
+    due: bool,
+    out: &mut O,
+)
+    requires near { (c : ℕ) → hops.now ≡ hops_in (facts_of c (state_of tables.now empty)) session }
+    requires roomy { IsRoomy (state_of tables.now empty) said.old }
+    ensures sent { (c : ℕ) (any : Said) → out.new ≡ fold O.posted out.old (flat_map (told_by c (state_of tables.now any) due said.old session) (lanes_of style (keys hops.now))) }
+    ensures told { IsTold (state_of tables.now said.old) session (lanes_of style (keys hops.now)) said.new }
+    ensures roomy { IsRoomy (state_of tables.now empty) said.new }
+{
+    let _known = tables.paths.find(session, Sender::default());
+    let list = hops.as_slice();
+    for i in 0..list.len() {
+        tell_lane(tables, said, session, style, list[i], due, out);
+    }
+}
+
+/// The Resvs of a session's lanes, where they changed or are due: by style, and then by hop. What goes there is kept as said.
+/// The hops are those of the session, and what was said before is of lanes from which a path comes.
+pub fn tell_lanes<O: Outbox>(
+    tables: &Tables,
+    said: &mut LaneTable,
+    session: Session,
+    hops: &Hops,
+    due: bool,
+    out: &mut O,
+)
+    requires near { (c : ℕ) → hops.now ≡ hops_in (facts_of c (state_of tables.now empty)) session }
+    requires roomy { IsRoomy (state_of tables.now empty) said.old }
+    ensures sent { (c : ℕ) (any : Said) → out.new ≡ fold O.posted out.old (flat_map (told_by c (state_of tables.now any) due said.old session) (lanes_by (keys hops.now))) }
+    ensures told { IsTold (state_of tables.now said.old) session (lanes_by (keys hops.now)) said.new }
+    ensures roomy { IsRoomy (state_of tables.now empty) said.new }
+{
+    tell_style(tables, said, session, StyleKind::Wild, hops, due, out);
+    tell_style(tables, said, session, StyleKind::Fixed, hops, due, out);
+    tell_style(tables, said, session, StyleKind::Shared, hops, due, out);
+}
