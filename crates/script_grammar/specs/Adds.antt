@@ -1,5 +1,5 @@
 -- What each line adds to those before.
-use Rattle.std.specs.Prelude.{◌≡◌, ℕ, Bool, not, ◌&&◌, ◌==◌, nat_le, List, [], ◌∷◌, ◌++◌, map as each, Option, None, Some, if◌then◌else◌}
+use Rattle.std.specs.Prelude.{◌≡◌, ℕ, Bool, not, ◌&&◌, ◌==◌, List, [], ◌∷◌, ◌++◌, map as each, Option, None, Some, if◌then◌else◌}
 use Rattle.std.specs.List.{filter, list_any}
 use Rattle.std.specs.Ordering.{eq_by_cmp}
 use Rattle.rsvp_base.specs.Orders.{sessions as by_session, senders as by_sender, styles as by_style, units as by_unit, Names}
@@ -21,7 +21,7 @@ use Rattle.tree_model.specs.declared.locals.LocalSender.{LocalSender}
 use Rattle.tree_model.specs.declared.locals.LocalWant.{LocalWant}
 use Rattle.tree_model.specs.Networks.{Net, node_of}
 use Rattle.tree_model.specs.Wants.{Locals}
-use Rattle.tree_routing.specs.Answers.{with_end, with_hop, with_node}
+use Rattle.tree_routing.specs.Answers.{with_end, with_hop, with_link, with_node}
 use Rattle.network_model.specs.Events.{Event, AtNode, Waits, Pass, DeliverAt, LoseAt, CopyAt, ClearNode, Rounds, Traces, Reports, ReportsFlags, Injects, Reroutes}
 use Rattle.network_model.specs.Steps.{rerouted}
 use Rattle.script_grammar.specs.Draft.{Draft, end_number, node_number, routing, same_session, with_session}
@@ -38,19 +38,6 @@ use Rattle.script_grammar.specs.declared.line.InjectLine.{InjectLine}
 use Rattle.script_grammar.specs.declared.line.RerouteLine.{RerouteLine}
 
 -- ---- the network
--- numbers in order
-abbrev pub put_number : ℕ → List ℕ → List ℕ
-put_number n [] = n ∷ []
-put_number n (m ∷ ms) = if nat_le n m then n ∷ m ∷ ms else m ∷ put_number n ms
-
-abbrev pub rising : List ℕ → List ℕ
-rising [] = []
-rising (n ∷ ns) = put_number n (rising ns)
-
--- with a link of these ends, in order
-abbrev pub with_link : Net → List ℕ → Net
-with_link net ends = record { nodes = net.nodes; ends = net.ends; links = net.links ++ rising ends ∷ []; hops = net.hops }
-
 abbrev pub link_value : Draft → List (List ℕ) → List ℕ
 link_value d names = each (end_number d) names
 

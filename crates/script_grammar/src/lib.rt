@@ -19,4 +19,4 @@ pub use line::{
     StaleHopWallLine, StalePathLine, StaleResvLine, StaleSenderWallLine, WantLine,
 };
 pub use line_kinds::read_line;
-pub use list::Listed;
+pub use list::{LinkEnds, Listed};

@@ -1,6 +1,6 @@
 //! What a line of a script says, before any rule is looked at. Numbers stand as they were read, whatever their size; nodes
 //! and ends stand by their names.
-use crate::list::Listed;
+use crate::list::{LinkEnds, Listed};
 use rsvp_base::StyleKind;
 use script_words::{DottedQuad, EndName, FlowWord, SenderWord, SessionWord};
 
@@ -18,7 +18,7 @@ pub enum Line {
     /// `end NAME NODE ADDR CAPACITY MTU`
     End(EndLine),
     /// `link END END ..`: two to eight ends of a shared medium.
-    Link(Listed<EndName>),
+    Link(LinkEnds),
     /// `hop GROUP SOURCE END END`
     Hop(HopLine),
     /// `stale-path NODE SESSION SENDER END ADDR FLOW LEFT`

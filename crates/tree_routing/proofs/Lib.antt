@@ -1,3 +1,4 @@
+pub mod LinkLaws
 pub mod MarkLaws
 pub mod Vertices
 pub mod LeastLaws

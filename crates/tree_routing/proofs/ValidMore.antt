@@ -1,5 +1,5 @@
 -- A valid network stays valid with one more node, end, link or hop.
-use Rattle.std.specs.Prelude.{◌≡◌, ◌⊎◌, ℕ, ◌+◌, ◌*◌, ◌<◌, ◌≤◌, nat_lt, Bool, true, false, not, ◌&&◌, ◌==◌, List, [], ◌∷◌, ◌++◌, length, map as each, Option, None, Some, Result, Ok, slice_get, refl, if◌then◌else◌}
+use Rattle.std.specs.Prelude.{◌≡◌, ◌⊎◌, ℕ, ◌+◌, ◌*◌, ◌<◌, ◌≤◌, Bool, true, false, not, ◌&&◌, ◌==◌, List, [], ◌∷◌, ◌++◌, length, map as each, Option, None, Some, Result, Ok, slice_get, refl, if◌then◌else◌}
 use Rattle.std.specs.List.{filter}
 use Rattle.std.proofs.Common.{zero, suc, sym, ap, subst, ◌∙◌, inl, inr, ⊎_elim, arith, append_assoc, length-append}
 use Rattle.std.proofs.lemmas.List.{map-append}
@@ -22,7 +22,8 @@ use Rattle.tree_model.proofs.Links.{among_in, in_among, of_own_link, linked_from
 use Rattle.tree_routing.specs.declared.known.Known.{Known}
 use Rattle.tree_routing.specs.declared.link.Link.{Link}
 use Rattle.tree_routing.specs.Known.{plain, link_ends, net_of, is_pair, vertex_at, comes_to, vertex_before, IsKnown, AreKnown}
-use Rattle.tree_routing.specs.Answers.{TakesEnd, TakesLink, with_node, with_end, with_link, in_order, with_hop, Fits, HopAnswer}
+use Rattle.tree_routing.specs.Answers.{TakesEnd, TakesLink, with_node, with_end, with_link, rising, with_hop, Fits, HopAnswer}
+use Rattle.tree_routing.proofs.LinkLaws.{rising_has, rising_length, rising_rises, once_before, one_of_value}
 use Rattle.tree_routing.proofs.Carried.{free_map, Same, grown_over, free_over}
 use Rattle.tree_routing.specs.declared.hop_err.HopErr.{HopErr}
 use Rattle.tree_routing.specs.Checks.{LoopAnswer}
@@ -201,32 +202,6 @@ link_new (x ∷ xs) l a e long = by (among a x) e (λ f. link_new xs l a f (λ y
     by true e rest = absurd (let n = long x (inl refl) in let z : length x ≡ 0 = ap length e in omega arith)
     by false e rest = rest e
 
--- what a link of two has
-order_length : (a b : ℕ) → length (in_order a b) ≡ 2
-order_length a b = by (nat_lt a b)
-  where
-    by : (t : Bool) → length (if t then a ∷ b ∷ [] else b ∷ a ∷ []) ≡ 2
-    by true = refl
-    by false = refl
-
-order_has : (a b x : ℕ) → In x (in_order a b) → (x ≡ a) ⊎ (x ≡ b)
-order_has a b x i = by (nat_lt a b) i
-  where
-    by : (t : Bool) → In x (if t then a ∷ b ∷ [] else b ∷ a ∷ []) → (x ≡ a) ⊎ (x ≡ b)
-    by true (inl e) = inl e
-    by true (inr (inl e)) = inr e
-    by true (inr (inr k)) = absurd k
-    by false (inl e) = inr e
-    by false (inr (inl e)) = inl e
-    by false (inr (inr k)) = absurd k
-
-order_rises : (a b : ℕ) → (a ≡ b → ⊥) → AreRising (in_order a b)
-order_rises a b ne = by (nat_lt a b) refl
-  where
-    by : (t : Bool) → nat_lt a b ≡ t → AreRising (if t then a ∷ b ∷ [] else b ∷ a ∷ [])
-    by true e = (let z : a < b = grind (arith, e) in z, tt)
-    by false e = (let le : b ≤ a = grind (arith, e) in let z : b < a = omega (arith, le, ne) in z, tt)
-
 -- an end of a link that stands somewhere is in a link
 linked_somewhere : (links : List (List ℕ)) (l : List ℕ) (e : ℕ) → In l links → In e l → link_of links e ≡ [] → ⊥
 linked_somewhere [] l e i j none = i
@@ -241,18 +216,15 @@ some_or_none : (l : List ℕ) → (l ≡ []) ⊎ ((x : ℕ) × In x l)
 some_or_none [] = inl refl
 some_or_none (x ∷ xs) = inr (x, inl refl)
 
-module _ (net : Net) (valid : IsValid net) (a b : ℕ) (takes : TakesLink net a b) where
+module _ (net : Net) (valid : IsValid net) (es : List ℕ) (takes : TakesLink net es) where
   abbrev l : List ℕ
-  l = in_order a b
+  l = rising es
 
   long : (x : List ℕ) → In x net.links → 2 ≤ length x
   long x i = (valid.linked x i).0
 
   free_of : (x : ℕ) → In x l → link_of net.links x ≡ []
-  free_of x i = ⊎_elim (λ (e : x ≡ a). ap (link_of net.links) e ∙ takes.one_free) (λ (e : x ≡ b). ap (link_of net.links) e ∙ takes.other_free) (order_has a b x i)
-
-  two : a ≡ b → ⊥
-  two e = takes.nodes (ap (node_of net.ends) e)
+  free_of x i = takes.free x (rising_has x es i)
 
   share_none : (i j : ℕ) (x y : List ℕ) (e : ℕ) → slice_get (net.links ++ l ∷ []) i ≡ Some x → slice_get (net.links ++ l ∷ []) j ≡ Some y → In e x → In e y → i ≡ j
   share_none i j x y e p q u v = by (got_append net.links l i x p) (got_append net.links l j y q)
@@ -269,7 +241,7 @@ module _ (net : Net) (valid : IsValid net) (a b : ℕ) (takes : TakesLink net a 
   new_link : (x : ℕ) → In x l → link_of (net.links ++ l ∷ []) x ≡ l
   new_link x i = link_new net.links l x (free_of x i) long ∙ ap (λ (t : Bool). if t then l else []) (in_among x l i)
 
-  same_link : (h : LinkHop) → is_linked net.links h ≡ true → Same net (with_link net a b) h
+  same_link : (h : LinkHop) → is_linked net.links h ≡ true → Same net (with_link net es) h
   same_link h t =
       let i = to_there net valid h t in
       let e = link_kept net.links l h.from h.to i in
@@ -292,7 +264,7 @@ module _ (net : Net) (valid : IsValid net) (a b : ℕ) (takes : TakesLink net a 
           let same = valid.one_link x y on in
           link_kept net.links l y z.0 (subst (λ (m : List ℕ). In z.0 m) (sym same) z.1) ∙ same ∙ sym kept
 
-  pub valid_link : IsValid (with_link net a b)
+  pub valid_link : IsValid (with_link net es)
   valid_link =
       record {
         few_nodes = valid.few_nodes;
@@ -301,26 +273,17 @@ module _ (net : Net) (valid : IsValid net) (a b : ℕ) (takes : TakesLink net a 
         few_hops = valid.few_hops;
         placed = valid.placed;
         one_address = valid.one_address;
-        linked = λ x i. ⊎_elim (λ (j : In x net.links). valid.linked x j) (λ (j : In x (l ∷ [])). ⊎_elim (λ (e : x ≡ l). let n = ap length e ∙ order_length a b in (omega arith, omega arith)) (λ (k : ⊥). absurd k) j) (in_append x net.links (l ∷ []) i);
+        linked = λ x i. ⊎_elim (λ (j : In x net.links). valid.linked x j) (λ (j : In x (l ∷ [])). ⊎_elim (λ (e : x ≡ l). let n = ap length e ∙ rising_length es in let some = takes.some in let few = takes.few in (omega arith, omega arith)) (λ (k : ⊥). absurd k) j) (in_append x net.links (l ∷ []) i);
         nodes_apart = λ x c d i j k same.
             ⊎_elim (λ (o : In x net.links). valid.nodes_apart x c d o j k same)
-            (λ (o : In x (l ∷ [])). ⊎_elim (λ (e : x ≡ l). apart c d (order_has a b c (subst (λ (m : List ℕ). In c m) e j)) (order_has a b d (subst (λ (m : List ℕ). In d m) e k)) same) (λ (n : ⊥). absurd n) o) (in_append x net.links (l ∷ []) i);
-        ends_of_links = λ x y i j. ⊎_elim (λ (k : In x net.links). valid.ends_of_links x y k j) (λ (k : In x (l ∷ [])). ⊎_elim (λ (e : x ≡ l). inside y (subst (λ (m : List ℕ). In y m) e j)) (λ (o : ⊥). absurd o) k) (in_append x net.links (l ∷ []) i);
-        rising = λ x i. ⊎_elim (λ (j : In x net.links). valid.rising x j) (λ (j : In x (l ∷ [])). ⊎_elim (λ (e : x ≡ l). subst AreRising (sym e) (order_rises a b two)) (λ (k : ⊥). absurd k) j) (in_append x net.links (l ∷ []) i);
+            (λ (o : In x (l ∷ [])). ⊎_elim (λ (e : x ≡ l). one_of_value (node_of net.ends) es takes.apart c d (rising_has c es (subst (λ (m : List ℕ). In c m) e j)) (rising_has d es (subst (λ (m : List ℕ). In d m) e k)) same) (λ (n : ⊥). absurd n) o) (in_append x net.links (l ∷ []) i);
+        ends_of_links = λ x y i j. ⊎_elim (λ (k : In x net.links). valid.ends_of_links x y k j) (λ (k : In x (l ∷ [])). ⊎_elim (λ (e : x ≡ l). takes.there y (rising_has y es (subst (λ (m : List ℕ). In y m) e j))) (λ (o : ⊥). absurd o) k) (in_append x net.links (l ∷ []) i);
+        rising = λ x i. ⊎_elim (λ (j : In x net.links). valid.rising x j) (λ (j : In x (l ∷ [])). ⊎_elim (λ (e : x ≡ l). subst AreRising (sym e) (rising_rises es (once_before (node_of net.ends) es takes.apart))) (λ (k : ⊥). absurd k) j) (in_append x net.links (l ∷ []) i);
         apart = share_none;
         one_link = one_link;
-        grown = λ g s. grown_over net (with_link net a b) same_link s (tree net.hops g s) (λ n e. e) (valid.grown g s);
-        loop_free = λ g. free_over net (with_link net a b) same_link g refl (valid.grown g) (valid.loop_free g);
+        grown = λ g s. grown_over net (with_link net es) same_link s (tree net.hops g s) (λ n e. e) (valid.grown g s);
+        loop_free = λ g. free_over net (with_link net es) same_link g refl (valid.grown g) (valid.loop_free g);
       }
-    where
-      apart : (c d : ℕ) → (c ≡ a) ⊎ (c ≡ b) → (d ≡ a) ⊎ (d ≡ b) → node_of net.ends c ≡ node_of net.ends d → c ≡ d
-      apart c d (inl p) (inl q) same = p ∙ sym q
-      apart c d (inr p) (inr q) same = p ∙ sym q
-      apart c d (inl p) (inr q) same = absurd (takes.nodes (ap (node_of net.ends) (sym p) ∙ same ∙ ap (node_of net.ends) q))
-      apart c d (inr p) (inl q) same = absurd (takes.nodes (ap (node_of net.ends) (sym q) ∙ sym same ∙ ap (node_of net.ends) p))
-
-      inside : (y : ℕ) → In y l → y < length net.ends
-      inside y i = ⊎_elim (λ (e : y ≡ a). let o = takes.one in let z : y < length net.ends = omega arith in z) (λ (e : y ≡ b). let o = takes.other in let z : y < length net.ends = omega arith in z) (order_has a b y i)
 
 -- ---- a hop
 grown_push : (net : Net) (s : Addr) (before hs : List LinkHop) (h : LinkHop) → IsGrownFrom net s before hs → Grows net s (before ++ hs) h → IsGrownFrom net s before (hs ++ h ∷ [])
@@ -481,9 +444,9 @@ module _ (nodes : ℕ) (ends : List End) (links : List Link) (ks : List Known) (
 pub net_push : (nodes : ℕ) (ends : List End) (links : List Link) (ks : List Known) (new : Known) → net_of nodes ends links (ks ++ new ∷ []) ≡ with_hop (net_of nodes ends links ks) new.hop
 net_push nodes ends links ks new = λ i. record { nodes = nodes; ends = ends; links = each link_ends links; hops = map-append (λ (k : Known). k.hop) ks (new ∷ []) i }
 
-pub link_push : (nodes : ℕ) (ends : List End) (links : List Link) (ks : List Known) (l : Link) (a b : ℕ) → link_ends l ≡ in_order a b → net_of nodes ends (links ++ l ∷ []) ks ≡ with_link (net_of nodes ends links ks) a b
-link_push nodes ends links ks l a b e =
-    let is : each link_ends (links ++ l ∷ []) ≡ each link_ends links ++ in_order a b ∷ [] = map-append link_ends links (l ∷ []) ∙ ap (λ (x : List ℕ). each link_ends links ++ x ∷ []) e in
+pub link_push : (nodes : ℕ) (ends : List End) (links : List Link) (ks : List Known) (l : Link) (es : List ℕ) → link_ends l ≡ rising es → net_of nodes ends (links ++ l ∷ []) ks ≡ with_link (net_of nodes ends links ks) es
+link_push nodes ends links ks l es e =
+    let is : each link_ends (links ++ l ∷ []) ≡ each link_ends links ++ rising es ∷ [] = map-append link_ends links (l ∷ []) ∙ ap (λ (x : List ℕ). each link_ends links ++ x ∷ []) e in
     λ i. record { nodes = nodes; ends = ends; links = is i; hops = plain ks }
 
 -- ---- how many ends there can be

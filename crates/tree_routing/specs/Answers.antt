@@ -1,9 +1,11 @@
 -- What a topology answers for a hop.
-use Rattle.std.specs.Prelude.{◌≡◌, ◌⊎◌, ℕ, ◌+◌, nat_lt, if◌then◌else◌, ◌<◌, ◌≤◌, List, [], ◌∷◌, ◌++◌, Result, Ok, Err, length, None}
+use Rattle.std.specs.Prelude.{◌≡◌, ◌⊎◌, ℕ, ◌+◌, nat_le, if◌then◌else◌, ◌<◌, ◌≤◌, List, [], ◌∷◌, ◌++◌, Result, Ok, Err, length, map as each, None}
+use Rattle.rsvp_base.specs.Members.{In}
 use Rattle.rsvp_base.specs.declared.addr.Addr.{Addr}
 use Rattle.tree_model.specs.declared.hops.End.{End}
 use Rattle.tree_model.specs.declared.hops.LinkHop.{LinkHop}
 use Rattle.tree_model.specs.declared.hops.TreeHop.{TreeHop}
+use Rattle.tree_model.specs.Chains.{NoRepeats}
 use Rattle.tree_model.specs.Networks.{Net, node_of, ends_of, owner, link_of}
 use Rattle.tree_model.specs.Trees.{tree, Grows}
 use Rattle.tree_model.specs.Ranks.{IsLoopFreeIn, IsOnLoop}
@@ -21,11 +23,20 @@ with_node net = record { nodes = net.nodes + 1; ends = net.ends; links = net.lin
 abbrev pub with_end : Net → End → Net
 with_end net e = record { nodes = net.nodes; ends = net.ends ++ e ∷ []; links = net.links; hops = net.hops }
 
-abbrev pub in_order : ℕ → ℕ → List ℕ
-in_order a b = if nat_lt a b then a ∷ b ∷ [] else b ∷ a ∷ []
+-- numbers in order
+abbrev pub put_number : ℕ → List ℕ → List ℕ
+put_number n [] = n ∷ []
+put_number n (m ∷ ms) = if nat_le n m then n ∷ m ∷ ms else m ∷ put_number n ms
 
-abbrev pub with_link : Net → ℕ → ℕ → Net
-with_link net a b = record { nodes = net.nodes; ends = net.ends; links = net.links ++ in_order a b ∷ []; hops = net.hops }
+abbrev pub put_numbers : List ℕ → List ℕ → List ℕ
+put_numbers ms [] = ms
+put_numbers ms (n ∷ ns) = put_numbers (put_number n ms) ns
+
+abbrev pub rising : List ℕ → List ℕ
+rising ns = put_numbers [] ns
+
+abbrev pub with_link : Net → List ℕ → Net
+with_link net es = record { nodes = net.nodes; ends = net.ends; links = net.links ++ rising es ∷ []; hops = net.hops }
 
 abbrev pub with_hop : Net → TreeHop → Net
 with_hop net r = record { nodes = net.nodes; ends = net.ends; links = net.links; hops = net.hops ++ r ∷ [] }
@@ -36,13 +47,13 @@ pub record TakesEnd (net : Net) (e : End) : Type 0 where
   pub room : length (ends_of net.ends e.node) < 16
   pub address : owner net.ends e.iface.addr ≡ None
 
--- the link can be added: its ends are there, of two nodes, and in no link
-pub record TakesLink (net : Net) (a b : ℕ) : Type 0 where
-  pub one : a < length net.ends
-  pub other : b < length net.ends
-  pub nodes : node_of net.ends a ≡ node_of net.ends b → ⊥
-  pub one_free : link_of net.links a ≡ []
-  pub other_free : link_of net.links b ≡ []
+-- a link of these ends can be added: they are two to eight, are there, each of a node of its own, and in no link
+pub record TakesLink (net : Net) (es : List ℕ) : Type 0 where
+  pub some : 2 ≤ length es
+  pub few : length es ≤ 8
+  pub there : (e : ℕ) → In e es → e < length net.ends
+  pub free : (e : ℕ) → In e es → link_of net.links e ≡ []
+  pub apart : NoRepeats (each (node_of net.ends) es)
   pub room : length net.links < 512
 
 -- the tree of the hop can grow by it

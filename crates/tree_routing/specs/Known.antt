@@ -1,5 +1,5 @@
 -- What a topology keeps of a hop, and the network that it keeps.
-use Rattle.std.specs.Prelude.{◌≡◌, ℕ, suc, Bool, ◌&&◌, List, [], ◌∷◌, map as each, Option, None, Some, if◌then◌else◌}
+use Rattle.std.specs.Prelude.{◌≡◌, ℕ, suc, Bool, ◌&&◌, List, [], ◌∷◌, map as each, take, Option, None, Some, if◌then◌else◌}
 use Rattle.rsvp_base.specs.Members.{In}
 use Rattle.rsvp_base.specs.declared.addr.Addr.{Addr}
 use Rattle.tree_model.specs.declared.hops.End.{End}
@@ -11,9 +11,9 @@ use Rattle.tree_model.specs.Ranks.{same_hop}
 use Rattle.tree_routing.specs.declared.known.Known.{Known}
 use Rattle.tree_routing.specs.declared.link.Link.{Link}
 
--- the two ends of a link, in order
+-- the ends of a link, in order
 abbrev pub link_ends : Link → List ℕ
-link_ends l = l.low ∷ l.high ∷ []
+link_ends l = take l.count l.ends
 
 -- the hops that are kept
 abbrev pub plain : List Known → List TreeHop

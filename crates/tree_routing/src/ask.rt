@@ -1,10 +1,10 @@
 //! Questions to lists of ends, links and hops.
-ghost use Rattle.std.specs.Prelude.{◌≡◌, ◌↔◌, ◌≤◌, [], length, map, IsTrue};
-ghost use Rattle.std.specs.List.{list_all, list_any};
+ghost use Rattle.std.specs.Prelude.{◌≡◌, ◌≤◌, ◌==◌, not, length, map};
+ghost use Rattle.std.specs.List.{filter, list_all, list_any};
 ghost use Rattle.tree_model.specs.Networks.{node_of, owner, among, link_of};
 ghost use Rattle.tree_model.specs.Trees.{of_tree, tree, is_linked, is_reached, sends_alone, goes_into};
 ghost use Rattle.tree_routing.specs.Known.{plain, link_ends, is_pair, vertex_at, comes_to, vertex_before};
-ghost use Rattle.tree_routing.specs.Found.{ends_found, leaves_link};
+ghost use Rattle.tree_routing.specs.Found.{are_apart, is_at, is_free, leaves_link};
 
 use crate::known::Known;
 use crate::link::Link;
@@ -33,40 +33,90 @@ pub(crate) fn owner(ends: &[End], address: Addr) -> Option<u16>
     None
 }
 
-// Whether an end is one of the link's.
-fn is_of(link: &Link, end: u16) -> bool
-    ensures { result ≡ among end (link_ends link.now) }
+// Whether an end is one of these.
+fn is_among(link: &[u16], end: u16) -> bool
+    ensures { result ≡ among end link.now }
 {
-    link.low == end || link.high == end
-}
-
-/// The link that an end is in.
-pub(crate) fn link_of(links: &[Link], end: u16) -> Option<Link>
-    ensures { link_of (map link_ends links.now) end ≡ ends_found result }
-{
-    for link in links {
-        if is_of(link, end) {
-            return Some(*link);
+    for other in link {
+        if *other == end {
+            return true;
         }
     }
-    None
+    false
 }
 
-/// Whether an end is in no link.
-pub(crate) fn is_free(links: &[Link], end: u16) -> bool
-    ensures { IsTrue result ↔ (link_of (map link_ends links.now) end ≡ []) }
+/// The ends of the link that an end is in, in order; none where it is in no link.
+pub(crate) fn link_of(links: &[Link], end: u16) -> &[u16]
+    ensures { result.now ≡ link_of (map link_ends links.now) end }
 {
-    link_of(links, end).is_none()
+    for link in links {
+        if is_among(link.as_slice(), end) {
+            return link.as_slice();
+        }
+    }
+    &[]
+}
+
+// Whether an end is there and in no link.
+fn is_free(ends: &[End], links: &[Link], end: u16) -> bool
+    ensures { result ≡ is_free ends.now (map link_ends links.now) end }
+{
+    (end as usize) < ends.len() && link_of(links, end).is_empty()
+}
+
+/// Whether each of these ends is there and in no link.
+pub(crate) fn are_free(ends: &[End], links: &[Link], link: &[u16]) -> bool
+    ensures { result ≡ list_all (is_free ends.now (map link_ends links.now)) link.now }
+{
+    for end in link {
+        if !is_free(ends, links, *end) {
+            return false;
+        }
+    }
+    true
+}
+
+// Whether one of these ends is of the node.
+fn is_at_one(ends: &[End], link: &[u16], node: u16) -> bool
+    ensures { result ≡ list_any (is_at ends.now node) link.now }
+{
+    for end in link {
+        if node_of(ends, *end) == node {
+            return true;
+        }
+    }
+    false
+}
+
+/// Whether no two of these ends are of one node.
+pub(crate) fn are_apart(ends: &[End], link: &[u16]) -> bool
+    ensures { result ≡ are_apart ends.now link.now }
+{
+    for place in 0..link.len() {
+        if is_at_one(ends, &link[place + 1..], node_of(ends, link[place])) {
+            return false;
+        }
+    }
+    true
+}
+
+// Whether an end is another one of these than this one.
+fn is_other(link: &[u16], end: u16, other: u16) -> bool
+    ensures { result ≡ among other (filter (λ x. not (x == end)) link.now) }
+{
+    for peer in link {
+        if *peer != end && *peer == other {
+            return true;
+        }
+    }
+    false
 }
 
 /// Whether the two ends of a hop are of one link.
 pub(crate) fn is_linked(links: &[Link], hop: LinkHop) -> bool
     ensures { result ≡ is_linked (map link_ends links.now) hop }
 {
-    match link_of(links, hop.from) {
-        Some(link) => hop.to != hop.from && is_of(&link, hop.to),
-        None => false,
-    }
+    is_other(link_of(links, hop.from), hop.from, hop.to)
 }
 
 // Whether a hop is of the tree.
@@ -98,16 +148,16 @@ pub(crate) fn is_reached(ends: &[End], hops: &[Known], group: Addr, source: Addr
     }
 }
 
-// Whether a hop of a tree goes out of the end, or is not on the link.
-fn is_sent_alone(link: &Link, end: u16, hop: LinkHop) -> bool
-    ensures { result ≡ leaves_link (link_ends link.now) end hop }
+// Whether a hop of a tree goes out of the end, or is not on the link of these ends.
+fn is_sent_alone(link: &[u16], end: u16, hop: LinkHop) -> bool
+    ensures { result ≡ leaves_link link.now end hop }
 {
-    !is_of(link, hop.from) || hop.from == end
+    !is_among(link, hop.from) || hop.from == end
 }
 
-// Whether each hop of the tree on the link goes out of the end.
-fn all_alone(link: &Link, hops: &[Known], group: Addr, source: Addr, end: u16) -> bool
-    ensures { result ≡ list_all (leaves_link (link_ends link.now) end) (tree (plain hops.now) group source) }
+// Whether each hop of the tree on the link of these ends goes out of the end.
+fn all_alone(link: &[u16], hops: &[Known], group: Addr, source: Addr, end: u16) -> bool
+    ensures { result ≡ list_all (leaves_link link.now end) (tree (plain hops.now) group source) }
 {
     for hop in hops {
         if is_in_tree(hop, group, source) && !is_sent_alone(link, end, hop.hop.hop) {
@@ -121,10 +171,7 @@ fn all_alone(link: &Link, hops: &[Known], group: Addr, source: Addr, end: u16) -
 pub(crate) fn is_alone(links: &[Link], hops: &[Known], group: Addr, source: Addr, end: u16) -> bool
     ensures { result ≡ list_all (sends_alone (map link_ends links.now) end) (tree (plain hops.now) group source) }
 {
-    match link_of(links, end) {
-        Some(link) => all_alone(&link, hops, group, source, end),
-        None => true,
-    }
+    all_alone(link_of(links, end), hops, group, source, end)
 }
 
 // Whether it is this hop of this group.

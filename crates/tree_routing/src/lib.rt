@@ -16,6 +16,7 @@ mod known;
 mod least;
 mod levels;
 mod link;
+mod link_ends;
 mod marks;
 mod order;
 mod routing;

@@ -1,7 +1,6 @@
 //! The routing of a network.
-ghost use Rattle.std.specs.Prelude.{◌≡◌, ◌↔◌, ◌==◌, not, ℕ, [], ◌∷◌, slice_get};
+ghost use Rattle.std.specs.Prelude.{◌≡◌, ◌↔◌, ◌==◌, not, ℕ, slice_get};
 ghost use Rattle.std.specs.List.{filter};
-ghost use Rattle.tree_routing.specs.Known.{link_ends};
 ghost use Rattle.std.specs.Int.{bit_at};
 ghost use Rattle.tree_model.specs.Networks.{node_of, peers};
 ghost use Rattle.tree_model.specs.Ranks.{has_hop, longest};
@@ -139,37 +138,22 @@ impl Routing {
     pub fn far(&self, end: u16, k: usize) -> Option<u16>
         ensures { result ≡ slice_get (peers self.now.links end) k }
     {
-        let link = link_of(self.links.as_slice(), end)?;
-        other_end(&link, end, k)
+        other_end(link_of(self.links.as_slice(), end), end, k)
     }
 }
 
-// The k-th end of the link that is not this one.
-fn other_end(link: &Link, end: u16, k: usize) -> Option<u16>
-    ensures { result ≡ slice_get (filter (λ x. not (x == end)) (link_ends link.now)) k }
+// The k-th of the ends that is not this one.
+fn other_end(link: &[u16], end: u16, k: usize) -> Option<u16>
+    ensures { result ≡ slice_get (filter (λ x. not (x == end)) link.now) k }
 {
-    if link.low == end {
-        return if link.high == end {
-            None
-        } else {
-            only(link.high, k)
-        };
+    let mut left = k;
+    for other in link {
+        if *other != end {
+            if left == 0 {
+                return Some(*other);
+            }
+            left -= 1;
+        }
     }
-    if link.high == end {
-        return only(link.low, k);
-    }
-    match k {
-        0 => Some(link.low),
-        _ => only(link.high, k - 1),
-    }
-}
-
-// The k-th of one.
-fn only(end: u16, k: usize) -> Option<u16>
-    ensures { result ≡ slice_get (end ∷ []) k }
-{
-    match k {
-        0 => Some(end),
-        _ => None,
-    }
+    None
 }

@@ -1,12 +1,15 @@
 //! The topology of a network, as it is put together.
-ghost use Rattle.std.specs.Prelude.{◌≡◌, ◌↔◌, ◌<◌, ◌≤◌, ◌+◌, length, map, [], ◌∷◌, ◌++◌, IsTrue, IsOk, IfOk, OnOk, OnErr};
+ghost use Rattle.std.specs.List.{list_all};
+ghost use Rattle.tree_routing.specs.Found.{are_apart, is_free};
+ghost use Rattle.std.specs.Prelude.{◌≡◌, ◌≢◌, ◌↔◌, ◌&&◌, ◌<◌, ◌≤◌, ◌+◌, length, map, [], ◌∷◌, ◌++◌, IsTrue, IsOk, IfOk, OnOk, OnErr};
 ghost use Rattle.tree_model.specs.declared.hops.TreeHop.{TreeHop};
-ghost use Rattle.tree_model.specs.Networks.{Net, node_of, ends_of, link_of};
-ghost use Rattle.tree_routing.specs.Known.{net_of, vertex_at, vertex_before, link_ends};
-ghost use Rattle.tree_routing.specs.Answers.{no_net, TakesEnd, TakesLink, with_node, with_end, with_link, in_order, with_hop, Fits, HopAnswer};
+ghost use Rattle.tree_model.specs.Networks.{Net, node_of, ends_of, link_of, owner};
+ghost use Rattle.tree_routing.specs.Known.{net_of, vertex_at, vertex_before};
+ghost use Rattle.tree_routing.specs.Answers.{no_net, TakesEnd, TakesLink, with_node, with_end, with_link, with_hop, Fits, HopAnswer};
 
 use crate::ask::{
-    is_alone, is_free, is_linked, is_reached, node_of, owner, vertex_at, vertex_before,
+    are_apart, are_free, is_alone, is_linked, is_reached, link_of, node_of, owner, vertex_at,
+    vertex_before,
 };
 use crate::hop_err::HopErr;
 use crate::in_order::in_order;
@@ -84,6 +87,27 @@ impl Topology {
         Ok(number)
     }
 
+    /// The node that has the end of this address. `None` exactly where no end has it.
+    pub fn owner(&self, address: Addr) -> Option<u16>
+        ensures { result ≡ owner self.now.ends address }
+    {
+        owner(self.ends.as_slice(), address)
+    }
+
+    /// The node of an end; 0 where there is no such end.
+    pub fn node_of(&self, end: u16) -> u16
+        ensures { result ≡ node_of self.now.ends end }
+    {
+        node_of(self.ends.as_slice(), end)
+    }
+
+    /// Whether there is room for another end of a node: it has fewer than 16.
+    pub fn has_room_for_end(&self, node: u16) -> bool
+        ensures { IsTrue result ↔ (length (ends_of self.now.ends node) < 16) }
+    {
+        count_of(self.ends.as_slice(), node) < 16
+    }
+
     /// Whether an end can be added: its node is there and has fewer than 16 ends, and no end has its address.
     pub fn takes_end(&self, end: &End) -> bool
         ensures { IsTrue result ↔ TakesEnd self.now end.now }
@@ -109,29 +133,54 @@ impl Topology {
         Ok(number)
     }
 
-    /// Whether a link can be added: its two ends are there, of two nodes and in no link, and there are fewer than 512 links.
-    pub fn takes_link(&self, one: u16, other: u16) -> bool
-        ensures { IsTrue result ↔ TakesLink self.now one other }
+    /// Whether there is room for another link: there are fewer than 512.
+    pub fn has_room_for_link(&self) -> bool
+        ensures { IsTrue result ↔ (length self.now.links < 512) }
     {
-        let ends = self.ends.as_slice();
-        (one as usize) < ends.len()
-            && (other as usize) < ends.len()
-            && node_of(ends, one) != node_of(ends, other)
-            && is_free(self.links.as_slice(), one)
-            && is_free(self.links.as_slice(), other)
-            && self.links.len() < 512
+        self.links.len() < 512
+    }
+
+    /// Whether an end is in a link.
+    pub fn is_in_link(&self, end: u16) -> bool
+        ensures { IsTrue result ↔ (link_of self.now.links end ≢ []) }
+    {
+        !link_of(self.links.as_slice(), end).is_empty()
+    }
+
+    /// Whether a link of these ends can be added: they are two to eight, are there, each of a node of its own, and in no
+    /// link, and there are fewer than 512 links.
+    pub fn takes_link_of(&self, ends: &[u16]) -> bool
+        ensures { IsTrue result ↔ TakesLink self.now ends.now }
+    {
+        self.has_room_for_link_of(ends) && self.can_be_linked(ends)
+    }
+
+    /// Adds a link of these ends, where it can be added. `NoMemory`: there was no room for it; nothing changes then.
+    pub fn add_link_of(&mut self, ends: &[u16]) -> Result<(), NoMemory>
+        requires { TakesLink self.old ends.now }
+        ensures ok { OnOk result (self.new ≡ with_link self.old ends.now) }
+        ensures err { OnErr result (self.new ≡ self.old) }
+    {
+        if self.links.push(Link::of(ends)).is_err() {
+            return Err(NoMemory);
+        }
+        Ok(())
+    }
+
+    /// Whether a link of these two ends can be added.
+    pub fn takes_link(&self, one: u16, other: u16) -> bool
+        ensures { IsTrue result ↔ TakesLink self.now (one ∷ other ∷ []) }
+    {
+        self.takes_link_of(&[one, other])
     }
 
     /// Adds a link of two ends, where it can be added. `NoMemory`: there was no room for it; nothing changes then.
     pub fn add_link(&mut self, one: u16, other: u16) -> Result<(), NoMemory>
-        requires { TakesLink self.old one other }
-        ensures ok { OnOk result (self.new ≡ with_link self.old one other) }
+        requires { TakesLink self.old (one ∷ other ∷ []) }
+        ensures ok { OnOk result (self.new ≡ with_link self.old (one ∷ other ∷ [])) }
         ensures err { OnErr result (self.new ≡ self.old) }
     {
-        if self.links.push(link(one, other)).is_err() {
-            return Err(NoMemory);
-        }
-        Ok(())
+        self.add_link_of(&[one, other])
     }
 
     /// Whether there is room for another hop: all trees have fewer than 8,192 hops.
@@ -198,6 +247,21 @@ impl Topology {
         })
     }
 
+    // Whether so many ends can be in one link, and there is room for another link.
+    fn has_room_for_link_of(&self, ends: &[u16]) -> bool
+        ensures { IsTrue result ↔ ((2 ≤ length ends.now) × (length ends.now ≤ 8) × (length self.now.links < 512)) }
+    {
+        ends.len() >= 2 && ends.len() <= 8 && self.links.len() < 512
+    }
+
+    // Whether these ends are there, in no link, and no two of them of one node.
+    fn can_be_linked(&self, ends: &[u16]) -> bool
+        ensures { result ≡ (list_all (is_free self.now.ends self.now.links) ends.now && are_apart self.now.ends ends.now) }
+    {
+        are_free(self.ends.as_slice(), self.links.as_slice(), ends)
+            && are_apart(self.ends.as_slice(), ends)
+    }
+
     // Whether the tree of the hop can grow by it.
     fn can_grow(&self, hop: &TreeHop) -> bool
         ensures { IsTrue result ↔ Fits self.now hop.now }
@@ -210,23 +274,6 @@ impl Topology {
             && is_reached(ends, hops, group, source, node_of(ends, hop.from))
             && !is_reached(ends, hops, group, source, node_of(ends, hop.to))
             && is_alone(links, hops, group, source, hop.from)
-    }
-}
-
-// The link of two ends.
-fn link(one: u16, other: u16) -> Link
-    ensures { link_ends result ≡ in_order one other }
-{
-    if one < other {
-        Link {
-            low: one,
-            high: other,
-        }
-    } else {
-        Link {
-            low: other,
-            high: one,
-        }
     }
 }
 

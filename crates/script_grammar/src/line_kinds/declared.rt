@@ -5,7 +5,7 @@ ghost use Rattle.script_grammar.specs.LineKinds.{end_line, hop_line, link_line, 
 
 use super::lists::names;
 use crate::line::{EndLine, HopEnds, HopLine, Line};
-use crate::list::Listed;
+use crate::list::LinkEnds;
 use script_words::{DottedQuad, EndName, Unread, number};
 use std::alloc::Global;
 
@@ -79,5 +79,5 @@ pub fn link_line(alloc: Global, words: &[&[u8]]) -> Result<Line, Unread>
     if words.len() < 2 || words.len() > 8 {
         return Err(Unread::Word);
     }
-    Ok(Line::Link(Listed::of(names(alloc, words)?)))
+    Ok(Line::Link(LinkEnds::of(names(alloc, words)?)))
 }

@@ -1,5 +1,5 @@
 //! Words that stand for lists.
-ghost use Rattle.std.specs.Prelude.{◌≡◌, map};
+ghost use Rattle.std.specs.Prelude.{◌≡◌, IfOk, length, map};
 ghost use Rattle.script_words.specs.Names.{name_of};
 ghost use Rattle.script_words.specs.Steps.{each_of};
 ghost use Rattle.script_words.specs.Unread.{ReadsAs};
@@ -13,7 +13,8 @@ use std::alloc::Global;
 
 /// The names that these words are. `Word` exactly where one is no name.
 pub fn names(alloc: Global, words: &[&[u8]]) -> Result<Vec<EndName>, Unread>
-    ensures { ReadsAs (λ v. v.items) result (each_of name_of (map (λ w. w.now) words.now)) }
+    ensures names { ReadsAs (λ v. v.items) result (each_of name_of (map (λ w. w.now) words.now)) }
+    ensures count { IfOk result (λ v. length v.items ≡ length words.now) }
 {
     let mut names = Vec::new(alloc);
     let mut rest = words;
