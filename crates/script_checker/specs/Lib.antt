@@ -1,3 +1,4 @@
 pub mod Events
 pub mod Checked
 pub mod Refusals
+pub mod LinkEnds

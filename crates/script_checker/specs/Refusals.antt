@@ -1,8 +1,7 @@
 -- Why a line was not taken.
-use Rattle.std.specs.Prelude.{◌≡◌, ℕ, Bool, true, false, List}
+use Rattle.std.specs.Prelude.{◌≡◌, Bool, true, false}
 use Rattle.script_grammar.specs.Draft.{Draft}
 use Rattle.script_grammar.specs.Rules.{Closes, Keeps, BreaksFirst}
-use Rattle.script_grammar.specs.declared.fault.Fault.{Fault as FaultOf}
 use Rattle.script_grammar.specs.declared.line.Line.{Line}
 use Rattle.script_grammar.specs.declared.line.Line.TheVariants as line
 use Rattle.script_checker.specs.declared.refusal.Refusal.{Refusal}
@@ -14,6 +13,8 @@ is_built line.Skipped = true
 is_built (line.Period ms) = true
 is_built (line.Seed n) = true
 is_built (line.Node name) = true
+is_built (line.End l) = true
+is_built (line.Link names) = true
 is_built (line.Wait ms) = true
 is_built (line.Pass times) = true
 is_built (line.Deliver place) = true
@@ -23,6 +24,7 @@ is_built (line.Clear node) = true
 is_built (line.Rounds times) = true
 is_built (line.Trace on) = true
 is_built line.Report = true
+is_built (line.ReportEnd end) = true
 is_built line.Flags = true
 is_built _ = false
 

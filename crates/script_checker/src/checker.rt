@@ -1,5 +1,5 @@
 //! What the lines of a script have said so far.
-ghost use Rattle.std.specs.Prelude.{◌≤◌, length};
+ghost use Rattle.std.specs.Prelude.{◌≡◌, ◌≤◌, length};
 
 use crate::event::Event;
 use crate::names::NameTable;
@@ -21,12 +21,15 @@ pub struct Checker {
     pub(crate) names: NameTable,
     pub(crate) topology: Topology,
     pub(crate) events: Vec<Event>,
-    pub ghost as_many: { topology.nodes ≤ length nodes },
+    pub ghost same_nodes: { topology.nodes ≡ length nodes },
     pub ghost few_nodes: { length nodes ≤ 256 },
+    // Each name is that of an end. Where memory ran out, the last end may be without one.
+    pub ghost ends_there: { length names ≤ length topology.ends },
+    pub ghost few_names: { length names ≤ 65536 },
 }
 
 impl Checker {
-    ghost use Rattle.std.specs.Prelude.{◌≡◌, IfOk};
+    ghost use Rattle.std.specs.Prelude.{IfOk};
     ghost use Rattle.script_grammar.specs.Draft.{nothing};
     ghost use Rattle.script_checker.specs.Checked.{draft_of};
 

@@ -9,8 +9,6 @@ mod event;
 mod names;
 mod refusal;
 mod rules;
-#[cfg(test)]
-mod tests;
 
 pub use checker::Checker;
 pub use event::Event;

@@ -5,7 +5,9 @@ ghost use Rattle.script_grammar.specs.Rules.{OnlyDeclares, KeepsAll, Keeps};
 ghost use Rattle.script_checker.specs.Checked.{draft_of};
 ghost use Rattle.script_checker.specs.Refusals.{Refuses};
 
+mod end;
 mod event;
+mod link;
 mod node;
 mod period;
 
@@ -34,8 +36,8 @@ pub fn add(checker: &mut Checker, line: Line) -> Result<(), Refusal>
         Line::Trace(on) => event::add_trace(checker, on),
         Line::Report => event::add_report(checker),
         Line::Flags => event::add_flags(checker),
-        Line::End(_line) => Err(Refusal::Unbuilt),
-        Line::Link(_names) => Err(Refusal::Unbuilt),
+        Line::End(line) => end::add_end(checker, line),
+        Line::Link(names) => link::add_link(checker, names),
         Line::Hop(_line) => Err(Refusal::Unbuilt),
         Line::StalePath(_line) => Err(Refusal::Unbuilt),
         Line::StaleResv(_line) => Err(Refusal::Unbuilt),
@@ -45,7 +47,7 @@ pub fn add(checker: &mut Checker, line: Line) -> Result<(), Refusal>
         Line::Drop(_line) => Err(Refusal::Unbuilt),
         Line::Want(_line) => Err(Refusal::Unbuilt),
         Line::Quit(_line) => Err(Refusal::Unbuilt),
-        Line::ReportEnd(_end) => Err(Refusal::Unbuilt),
+        Line::ReportEnd(end) => event::add_report_end(checker, end),
         Line::Inject(_line) => Err(Refusal::Unbuilt),
         Line::Reroute(_line) => Err(Refusal::Unbuilt),
     }

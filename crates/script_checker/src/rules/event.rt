@@ -160,6 +160,25 @@ pub fn add_report(checker: &mut Checker) -> Result<(), Refusal>
     keep(checker, Event::Report { end: None })
 }
 
+/// Adds the event of `report END`.
+pub fn add_report_end(checker: &mut Checker, end: EndName) -> Result<(), Refusal>
+    ensures ok { OnOk result (KeepsAll (Keeps (draft_of checker.old) (kind.ReportEnd end)) × Adds (draft_of checker.old) (kind.ReportEnd end) (draft_of checker.new)) }
+    ensures refused { IfErr result (Refuses (draft_of checker.old) (kind.ReportEnd end)) }
+{
+    let Some(end) = checker.names.find(end.bytes()) else {
+        return Err(Refusal::Fault(Fault::Name));
+    };
+    if !has_room(checker) {
+        return Err(Refusal::Fault(Fault::Limit));
+    }
+    keep(
+        checker,
+        Event::Report {
+            end: Some(end as u16),
+        },
+    )
+}
+
 /// Adds the event of `flags`.
 pub fn add_flags(checker: &mut Checker) -> Result<(), Refusal>
     ensures ok { OnOk result (KeepsAll (Keeps (draft_of checker.old) (kind.Flags)) × Adds (draft_of checker.old) (kind.Flags) (draft_of checker.new)) }
