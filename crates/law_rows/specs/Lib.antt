@@ -4,3 +4,4 @@ pub mod Previous
 pub mod Goals
 pub mod Kept
 pub mod Tight
+pub mod Said

@@ -3,6 +3,7 @@ ghost use Rattle.law_rows.specs.Goals.{AGoalCanBeHeld, AGoalHasInterfaces, ARese
 ghost use Rattle.law_rows.specs.Kept.{ARunCanBeUnfit, WhatIsAskedCanChange};
 ghost use Rattle.law_rows.specs.Previous.{APathComesOverAHop, TowardSaysSomething};
 ghost use Rattle.law_rows.specs.Ready.{AResvGoesAstray, AReservationIsOnItsWay, AnErrorIsOnItsWay};
+ghost use Rattle.law_rows.specs.Said.{APathSaysItsHop, NobodyAsksForIt, NobodySaysThePath};
 ghost use Rattle.law_rows.specs.Starts.{AStartRefuses};
 ghost use Rattle.law_rows.specs.Tight.{TwoRoundsAreTooFew};
 
@@ -81,4 +82,21 @@ pub fn a_run_can_be_unfit()
 /// Of the three rounds after which blockades are gone none can be spared.
 pub fn two_rounds_are_too_few()
     ensures { TwoRoundsAreTooFew }
+{}
+
+/// A left-over path that nobody says meets the premises of `only_said_paths_are_kept`, with no path allowed, through six calm rounds,
+/// and is kept at their start.
+pub fn nobody_says_the_path()
+    ensures { NobodySaysThePath }
+{}
+
+/// A left-over reservation that nobody asks for meets the premises of `only_said_resvs_are_kept`, with none allowed, through six calm
+/// rounds, and is kept at their start.
+pub fn nobody_asks_for_it()
+    ensures { NobodyAsksForIt }
+{}
+
+/// The first Path of a host, of which `the_hop_of_what_is_sent` says something.
+pub fn a_path_says_its_hop()
+    ensures { APathSaysItsHop }
 {}
