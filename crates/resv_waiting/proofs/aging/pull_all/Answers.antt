@@ -1,4 +1,4 @@
-use Rattle.std.proofs.Common.{◌≡◌, ◌<◌, ◌+◌, [], refl, sym, ap, subst, ◌∙◌, arith}
+use Rattle.std.proofs.Common.{◌≡◌, refl, sym, ap, ◌∙◌, arith}
 use Rattle.rsvp_base.specs.Table.{Table, changed, empty, same_rows, size, without}
 use Rattle.rsvp_base.proofs.SessionCounts.{size-without}
 use Rattle.resv_state.specs.Resvs.{ResvFacts, ResvMap, resv_key}
@@ -7,7 +7,6 @@ use Rattle.style_rules.specs.Lines.{LineKey, line_keys}
 use Rattle.node_facts.specs.State.{resv_at}
 use Rattle.blockade_state.specs.Touched.{touched_by}
 use Rattle.blockade_state.proofs.Touching.{touched_nobody, touched_pulled}
-use Rattle.resv_book.specs.Dying.{IsBookButWith}
 use Rattle.resv_waiting.specs.Passed.{sessions_in}
 use Rattle.resv_waiting.proofs.Moves.{still_but}
 use Rattle.resv_waiting.proofs.aging.pull_all.Goals as goal

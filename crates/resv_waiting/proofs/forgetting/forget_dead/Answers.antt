@@ -1,8 +1,7 @@
-use Rattle.std.proofs.Common.{◌≡◌, ℕ, [], ◌∷◌, ◌++◌, refl, sym, ap, ◌∙◌, arith, map as each, take, get_or}
-use Rattle.std.proofs.lemmas.List.{map-append, take_all, take_more}
-use Rattle.resv_state.specs.Resvs.{ResvMap}
+use Rattle.std.proofs.Common.{refl, ap, ◌∙◌, arith, map as each}
+use Rattle.std.proofs.lemmas.List.{take_all}
 use Rattle.node_facts.specs.Forgotten.{forgotten_all}
-use Rattle.node_facts.specs.State.{State, facts_of}
+use Rattle.node_facts.specs.State.{facts_of}
 use Rattle.node_waiting.specs.Losing.{lost_names}
 use Rattle.node_waiting.specs.Passing.{dead_key}
 use Rattle.resv_waiting.proofs.Moves.{kept_after, moves_both, moves_not, next_lost}
