@@ -1,3 +1,4 @@
+pub mod Alone
 pub mod Confs
 mod Errs
 mod Going

@@ -1,3 +1,4 @@
+pub mod Alone
 pub mod Going
 pub mod PathErrs
 pub mod Replies

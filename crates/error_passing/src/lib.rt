@@ -6,6 +6,7 @@
 //! memory.
 #![tactic(auto)]
 
+pub mod laws;
 mod outgoing;
 mod path_err;
 mod resv_conf;
