@@ -1,0 +1,23 @@
+use Rattle.std.proofs.Common.{◌≡◌, ℕ, Some, None, sym, ap, ◌∙◌}
+use Rattle.std.specs.Option.{option_copied}
+use Rattle.rsvp_base.specs.Table.{get}
+use Rattle.style_rules.specs.Merge.{PartTable}
+use Rattle.entry_policing.specs.Policing.{police_seen}
+use Rattle.entry_policing.proofs.Entering.{no_entry, no_part, one_entry}
+use Rattle.entry_policing.proofs.entries.entry_at.Goals as goal
+
+pub returns-in_default : goal.returns-in_default
+returns-in_default c = λ clock n place paths wild fixed shared of. no_entry clock n c.args.iface c.args.book.now.entries of c.args.k c.in_default.ensures.entry
+
+pub returns-in_default-get : goal.returns-in_default-get
+returns-in_default-get c = λ clock n place paths wild fixed shared of.
+    let key = c.in-Some.key in
+    no_part clock n c.args.iface c.args.book.now.entries of c.args.k key _ c.in-Some.ensures.entry (c.parts_of-parts.ensures.styled n wild fixed shared)
+    (c.in_default-get.ensures ∙ ap (λ (t : PartTable). get t key.unit) (c.parts_of-parts.ensures.parts n wild fixed shared))
+
+pub returns : goal.returns
+returns c = λ clock n place paths wild fixed shared of.
+    let key = c.in-Some.key in
+    one_entry clock n c.args.iface c.args.book.now.entries of c.args.k key _ c.in-Some.ensures.entry (c.parts_of-parts.ensures.styled n wild fixed shared) c.copy.result c.police_at-police.result
+    (ap Some c.copy.ensures ∙ c.in-Some-get.ensures ∙ ap (λ (t : PartTable). get t key.unit) (c.parts_of-parts.ensures.parts n wild fixed shared))
+    (c.police_at-police.ensures clock n place paths wild fixed shared ∙ ap (police_seen clock n c.args.iface key) (sym c.copy.ensures))
