@@ -1,0 +1,77 @@
+use Rattle.std.proofs.Common.{◌≡◌, ℕ, [], ◌∷◌, ◌++◌, Some, false, true, Bool, is_some, refl, sym, ap, subst, ◌∙◌, arith, ◌≤◌, ◌+◌, ◌<◌}
+use Rattle.resv_state.specs.Resvs.{ResvFacts, ResvMap, resv_key}
+use Rattle.resv_state.specs.declared.fact.ResvFact.{ResvFact}
+use Rattle.rsvp_base.specs.Table.{changed, get, put_in, size}
+use Rattle.rsvp_base.specs.declared.entry_key.EntryKey.{EntryKey}
+use Rattle.rsvp_base.specs.declared.part.Part.{Part}
+use Rattle.rsvp_base.specs.declared.style.StyleKind.{StyleKind}
+use Rattle.admission_book.specs.Book.{Bookings}
+use Rattle.style_rules.specs.Merge.{PartTable}
+use Rattle.router_rules.specs.Asking.{Taking, put_unit, value_of}
+use Rattle.router_rules.specs.Facts.{Facts, resvs_of}
+use Rattle.node_facts.specs.State.{resv_at}
+use Rattle.resv_book.specs.Kept.{IsBookOf, MovesWith}
+use Rattle.resv_book.specs.Placing.{IsBookAmong, chosen, placed_in}
+use Rattle.resv_book.specs.declared.placing.Placed.{Placed}
+use Rattle.resv_book.specs.declared.placing.Placed.TheVariants as placed
+use Rattle.resv_taking.specs.Units.{IsSoFar, asker_at}
+use Rattle.resv_taking.specs.declared.unit.Taken.{Taken}
+use Rattle.resv_taking.proofs.Steps.{among_after, done_by, grows, step_so}
+use Rattle.resv_taking.proofs.unit.put_unit.Goals as goal
+
+pub returns-in-LeftOut-clause-step : goal.returns-in-LeftOut-clause-step
+returns-in-LeftOut-clause-step g c p b f t same so =
+    let st = g.S.Style.kind_is in
+    let a = c.args.asker.now in
+    let m = c.args.table.now.facts in
+    let it : Part → ResvFact = λ x. record { session = a.session; iface = a.iface; next = a.next; part = x; confirm = c.confirm_of-confirm.result } in
+    let stood_there : c.is_some-in_place.result ≡ is_some (get c.args.book.now.entries (a.iface, record { session = a.session; style = st; unit = c.args.unit })) = c.is_some-in_place.ensures ∙ ap is_some c.entry.ensures.flow ∙ ap (λ (z : StyleKind). is_some (get c.args.book.now.entries (a.iface, record { session = a.session; style = z; unit = c.args.unit }))) c.kind-style.ensures in
+    let result : (h : Facts) → resvs_of st h ≡ changed (resv_at b) m → IsBookOf h c.args.book.now.entries → c.place.result ≡ placed_in p st b (it c.args.part) a.left h = λ h is booked. c.place.ensures.result p b h same is booked ∙ ap (λ (x : Part). placed_in p st b (it x) a.left h) c.copy.ensures in
+    let table : c.place.new.table.facts ≡ chosen c.place.result (put_in m (resv_key st (it c.args.part)) (it c.args.part, a.left)) m = ap (λ (z : ResvMap). z.facts) c.place.ensures.table ∙ ap (λ (x : Part). chosen c.place.result (put_in m (resv_key st (it x)) (it x, a.left)) m) c.copy.ensures in
+    let all = step_so p b st a f t c.args.unit c.args.part c.confirm_of-confirm.result m c.args.book.now.entries c.args.done.now so c.confirm_of-confirm.ensures.style c.requires.style c.requires.unit (c.confirm_of-confirm.ensures.confirm b) (rw (sym c.len.ensures.size) c.len.ensures.few) c.is_some-in_place.result stood_there c.place.new.table.facts c.place.new.book.entries c.place.result result table c.place.ensures.book (λ x. ap (λ (z : Bookings). z.entries) (c.place.ensures.unchanged x)) in
+    let by = done_by c.is_some-in_place.result c.args.unit c.args.part c.args.done.now in
+    subst (λ (d : Taken). IsSoFar p b st a f c.place.new.table.facts c.place.new.book.entries d (put_unit p (asker_at b st a) f c.args.unit (Some c.args.part) t)) (ap by c.in-LeftOut.is) all
+
+pub returns-in-LeftOut-clause-kept : goal.returns-in-LeftOut-clause-kept
+returns-in-LeftOut-clause-kept g c = among_after g.S.Style.kind_is c.args.table.now.facts c.place.new.table.facts c.args.book.now.entries c.place.new.book.entries c.requires.kept c.place.ensures.book
+
+pub returns-in-Refused-clause-step : goal.returns-in-Refused-clause-step
+returns-in-Refused-clause-step g c p b f t same so =
+    let st = g.S.Style.kind_is in
+    let a = c.args.asker.now in
+    let m = c.args.table.now.facts in
+    let it : Part → ResvFact = λ x. record { session = a.session; iface = a.iface; next = a.next; part = x; confirm = c.confirm_of-confirm.result } in
+    let stood_there : c.is_some-in_place.result ≡ is_some (get c.args.book.now.entries (a.iface, record { session = a.session; style = st; unit = c.args.unit })) = c.is_some-in_place.ensures ∙ ap is_some c.entry.ensures.flow ∙ ap (λ (z : StyleKind). is_some (get c.args.book.now.entries (a.iface, record { session = a.session; style = z; unit = c.args.unit }))) c.kind-style.ensures in
+    let result : (h : Facts) → resvs_of st h ≡ changed (resv_at b) m → IsBookOf h c.args.book.now.entries → c.place.result ≡ placed_in p st b (it c.args.part) a.left h = λ h is booked. c.place.ensures.result p b h same is booked ∙ ap (λ (x : Part). placed_in p st b (it x) a.left h) c.copy.ensures in
+    let table : c.place.new.table.facts ≡ chosen c.place.result (put_in m (resv_key st (it c.args.part)) (it c.args.part, a.left)) m = ap (λ (z : ResvMap). z.facts) c.place.ensures.table ∙ ap (λ (x : Part). chosen c.place.result (put_in m (resv_key st (it x)) (it x, a.left)) m) c.copy.ensures in
+    let all = step_so p b st a f t c.args.unit c.args.part c.confirm_of-confirm.result m c.args.book.now.entries c.args.done.now so c.confirm_of-confirm.ensures.style c.requires.style c.requires.unit (c.confirm_of-confirm.ensures.confirm b) (rw (sym c.len.ensures.size) c.len.ensures.few) c.is_some-in_place.result stood_there c.place.new.table.facts c.place.new.book.entries c.place.result result table c.place.ensures.book (λ x. ap (λ (z : Bookings). z.entries) (c.place.ensures.unchanged x)) in
+    let by = done_by c.is_some-in_place.result c.args.unit c.args.part c.args.done.now in
+    subst (λ (d : Taken). IsSoFar p b st a f c.place.new.table.facts c.place.new.book.entries d (put_unit p (asker_at b st a) f c.args.unit (Some c.args.part) t)) (ap by c.in-Refused.is ∙ (λ i. record c.args.done.now { errors = (ap (λ (n : ℕ). c.args.done.now.errors ++ record { in_place = c.is_some-in_place.result; code = 1; value = n; names = Some c.args.part.senders; flow = c.args.part.flow } ∷ []) (sym c.value_of-value.ensures) ∙ sym c.push.ensures) i })) all
+
+pub returns-in-Refused-clause-kept : goal.returns-in-Refused-clause-kept
+returns-in-Refused-clause-kept g c = among_after g.S.Style.kind_is c.args.table.now.facts c.place.new.table.facts c.args.book.now.entries c.place.new.book.entries c.requires.kept c.place.ensures.book
+
+pub returns-in-Ok-clause-step : goal.returns-in-Ok-clause-step
+returns-in-Ok-clause-step g c p b f t same so =
+    let st = g.S.Style.kind_is in
+    let a = c.args.asker.now in
+    let m = c.args.table.now.facts in
+    let it : Part → ResvFact = λ x. record { session = a.session; iface = a.iface; next = a.next; part = x; confirm = c.confirm_of-confirm.result } in
+    let stood_there : c.is_some-in_place.result ≡ is_some (get c.args.book.now.entries (a.iface, record { session = a.session; style = st; unit = c.args.unit })) = c.is_some-in_place.ensures ∙ ap is_some c.entry.ensures.flow ∙ ap (λ (z : StyleKind). is_some (get c.args.book.now.entries (a.iface, record { session = a.session; style = z; unit = c.args.unit }))) c.kind-style.ensures in
+    let result : (h : Facts) → resvs_of st h ≡ changed (resv_at b) m → IsBookOf h c.args.book.now.entries → c.place.result ≡ placed_in p st b (it c.args.part) a.left h = λ h is booked. c.place.ensures.result p b h same is booked ∙ ap (λ (x : Part). placed_in p st b (it x) a.left h) c.copy.ensures in
+    let table : c.place.new.table.facts ≡ chosen c.place.result (put_in m (resv_key st (it c.args.part)) (it c.args.part, a.left)) m = ap (λ (z : ResvMap). z.facts) c.place.ensures.table ∙ ap (λ (x : Part). chosen c.place.result (put_in m (resv_key st (it x)) (it x, a.left)) m) c.copy.ensures in
+    let all = step_so p b st a f t c.args.unit c.args.part c.confirm_of-confirm.result m c.args.book.now.entries c.args.done.now so c.confirm_of-confirm.ensures.style c.requires.style c.requires.unit (c.confirm_of-confirm.ensures.confirm b) (rw (sym c.len.ensures.size) c.len.ensures.few) c.is_some-in_place.result stood_there c.place.new.table.facts c.place.new.book.entries c.place.result result table c.place.ensures.book (λ x. ap (λ (z : Bookings). z.entries) (c.place.ensures.unchanged x)) in
+    let by = done_by c.is_some-in_place.result c.args.unit c.args.part c.args.done.now in
+    subst (λ (d : Taken). IsSoFar p b st a f c.place.new.table.facts c.place.new.book.entries d (put_unit p (asker_at b st a) f c.args.unit (Some c.args.part) t)) (ap by c.in-Taken.is ∙ (λ i. record c.args.done.now { parts = sym c.in-Ok.ensures.ok i })) all
+
+pub returns-in-Ok-clause-kept : goal.returns-in-Ok-clause-kept
+returns-in-Ok-clause-kept g c = among_after g.S.Style.kind_is c.args.table.now.facts c.place.new.table.facts c.args.book.now.entries c.place.new.book.entries c.requires.kept c.place.ensures.book
+
+pub returns-in-Ok-clause-few_parts : goal.returns-in-Ok-clause-few_parts
+returns-in-Ok-clause-few_parts g c = subst (λ (ps : PartTable). size ps ≤ size c.args.done.now.parts + 1) (sym c.in-Ok.ensures.ok) (grows c.args.done.now.parts c.args.unit c.args.part)
+
+pub unreachable-requires : goal.unreachable-requires
+unreachable-requires g c =
+    let many = c.in_default.ensures.full.0 refl in
+    let few = grows c.args.done.now.parts c.args.unit c.args.part in
+    absurd (omega (arith, many, few, c.requires.few_parts))
