@@ -1,0 +1,6 @@
+pub mod ValidReroutes
+pub mod Leading
+pub mod Senders
+pub mod SenderLines
+pub mod HostLines
+pub mod DeclaredLines

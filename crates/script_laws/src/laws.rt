@@ -1,0 +1,26 @@
+//! The laws.
+ghost use Rattle.script_laws.specs.Networks.{ANewTreeKeepsANetworkValid};
+ghost use Rattle.script_laws.specs.Scripts.{EachScriptDeclaresAValidNetwork, EachScriptHasHosts, EachScriptLetsFewSend};
+
+/// A valid script lets few senders send: at each point of its events at most 16 of a session, each to a group, and 32 sessions
+/// have one. So its plan meets what `network_steps` asks of the senders of a run.
+pub fn each_script_lets_few_send()
+    ensures { EachScriptLetsFewSend }
+{}
+
+/// A valid script has a period, its own or the usual one, and each of its ends has the address of a host: no group.
+pub fn each_script_has_hosts()
+    ensures { EachScriptHasHosts }
+{}
+
+/// A valid network stays valid with a tree in the place of another, where that is grown from the source and closes no chain of
+/// its group.
+pub fn a_new_tree_keeps_a_network_valid()
+    ensures { ANewTreeKeepsANetworkValid }
+{}
+
+/// The network that a valid script declares is a valid one, where each of its links has two to eight ends. That they have, as the
+/// words of a `link` line say, is not shown here.
+pub fn each_script_declares_a_valid_network()
+    ensures { EachScriptDeclaresAValidNetwork }
+{}
