@@ -1,0 +1,143 @@
+//! Lines of parts 1 and 3, one after the other.
+use script_checker::{Checker, Refusal, add};
+use script_grammar::{Fault, read_line};
+use std::alloc::Global;
+use std::test::*;
+
+// What is said of a line behind those that were taken.
+fn answer(alloc: Global, checker: &mut Checker, line: &str) -> Result<(), Refusal> {
+    let mut words = Vec::new(alloc);
+    match read_line(alloc, line.as_bytes(), &mut words) {
+        Ok(line) => add(checker, line),
+        Err(_) => Err(Refusal::Fault(Fault::Word)),
+    }
+}
+
+#[test]
+fn lines_are_taken_up_to_a_bad_one(rt: HostRuntime) -> Result<(), Fail> {
+    let alloc = rt.alloc();
+    let mut checker = Checker::open(alloc).ok().ok_or("room")?;
+    for line in [
+        "# a remark",
+        "period 4000",
+        "seed 7",
+        "node a",
+        "node b",
+        "end a1 a 10.0.0.1 100000 1500",
+        "end b1 b 10.0.0.2 100000 1500",
+        "link a1 b1",
+        "wait 1",
+        "pass",
+        "rounds 2",
+        "deliver 1",
+        "lose 8192",
+        "copy 1",
+        "clear b",
+        "trace on",
+        "report",
+        "report b1",
+        "flags",
+    ] {
+        assert!(rt; answer(alloc, &mut checker, line).is_ok());
+    }
+    assert!(rt;
+        matches!(
+            answer(alloc, &mut checker, "node c"),
+            Err(Refusal::Fault(Fault::Late))
+        )
+    );
+    assert!(rt;
+        matches!(
+            answer(alloc, &mut checker, "report c1"),
+            Err(Refusal::Fault(Fault::Name))
+        )
+    );
+    assert!(rt;
+        matches!(
+            answer(alloc, &mut checker, "quit a 224.1.1.1/17/1"),
+            Err(Refusal::Unbuilt)
+        )
+    );
+    Ok(())
+}
+
+#[test]
+fn ends_and_links_have_their_first_fault(rt: HostRuntime) -> Result<(), Fail> {
+    let alloc = rt.alloc();
+    let mut checker = Checker::open(alloc).ok().ok_or("room")?;
+    for line in [
+        "node a",
+        "node b",
+        "node c",
+        "end a1 a 10.0.0.1 100000 1500",
+        "end b1 b 10.0.0.2 100000 1500",
+        "end b2 b 10.0.0.3 100000 1500",
+        "end c1 c 10.0.0.4 100000 1500",
+    ] {
+        assert!(rt; answer(alloc, &mut checker, line).is_ok());
+    }
+    // An address that is a group, and a node that is not there: the range comes first.
+    assert!(rt;
+        matches!(
+            answer(alloc, &mut checker, "end x z 224.0.0.1 1 1"),
+            Err(Refusal::Fault(Fault::Range))
+        )
+    );
+    assert!(rt;
+        matches!(
+            answer(alloc, &mut checker, "end x z 10.0.0.1 1 1"),
+            Err(Refusal::Fault(Fault::Name))
+        )
+    );
+    assert!(rt;
+        matches!(
+            answer(alloc, &mut checker, "end x a 10.0.0.1 1 1"),
+            Err(Refusal::Fault(Fault::Twice))
+        )
+    );
+    assert!(rt;
+        matches!(
+            answer(alloc, &mut checker, "end a1 a 10.0.0.9 1 1"),
+            Err(Refusal::Fault(Fault::Twice))
+        )
+    );
+    assert!(rt;
+        matches!(
+            answer(alloc, &mut checker, "end x a 10.0.0.9 70368744177664 1"),
+            Err(Refusal::Fault(Fault::Range))
+        )
+    );
+    // Two declared ends of one node beside one that is not there: the range comes first.
+    assert!(rt;
+        matches!(
+            answer(alloc, &mut checker, "link b1 z1 b2"),
+            Err(Refusal::Fault(Fault::Range))
+        )
+    );
+    assert!(rt;
+        matches!(
+            answer(alloc, &mut checker, "link a1 a1"),
+            Err(Refusal::Fault(Fault::Range))
+        )
+    );
+    assert!(rt;
+        matches!(
+            answer(alloc, &mut checker, "link a1 z1"),
+            Err(Refusal::Fault(Fault::Name))
+        )
+    );
+    assert!(rt; answer(alloc, &mut checker, "link c1 a1 b1").is_ok());
+    assert!(rt;
+        matches!(
+            answer(alloc, &mut checker, "link b2 c1"),
+            Err(Refusal::Fault(Fault::Twice))
+        )
+    );
+    assert!(rt;
+        matches!(
+            answer(alloc, &mut checker, "link b2"),
+            Err(Refusal::Fault(Fault::Word))
+        )
+    );
+    Ok(())
+}

@@ -1,0 +1,5 @@
+//! Tests of the script checker: lines that are taken, and the first fault of one that is not.
+#![tactic(auto)]
+
+#[cfg(test)]
+mod declared;
