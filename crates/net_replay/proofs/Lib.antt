@@ -1,0 +1,15 @@
+pub mod Heard
+pub mod Zips
+pub mod Behind
+pub mod Mailed
+pub mod Making
+pub mod Nodes
+pub mod OneNode
+pub mod Delivering
+pub mod Waiting
+pub mod Stepped
+pub mod Chains
+pub mod Tellings
+pub mod Runnings
+pub mod Delivered
+pub mod Opened

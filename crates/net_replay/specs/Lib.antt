@@ -1,0 +1,9 @@
+pub mod Posting
+pub mod Following
+pub mod Agreeing
+pub mod Mailing
+pub mod Due
+pub mod Telling
+pub mod Running
+pub mod Happening
+pub mod Opening

@@ -1,0 +1,30 @@
+//! What happens to a network.
+
+use crate::local_call::LocalCall;
+use rsvp_base::Addr;
+
+/// What happens to a network. Places in flight count from 1. What is to happen at a node, an end or a place that is not there
+/// does nothing.
+#[derive(Drop)]
+pub enum Event {
+    /// An application asks something of a node. A refusal changes nothing.
+    Local { node: u16, call: LocalCall },
+    /// Time passes, in milliseconds.
+    Wait { ms: u32 },
+    /// So often what is in flight is delivered, each in its turn.
+    Pass { times: u32 },
+    /// The datagram at a place is delivered.
+    Deliver { place: u32 },
+    /// The datagram at a place is lost.
+    Lose { place: u32 },
+    /// The datagram at a place is put in flight once more.
+    Again { place: u32 },
+    /// A node forgets all but its local senders and wants.
+    Clear { node: u16 },
+    /// So many rounds: four times half a period, and a pass.
+    Rounds { times: u32 },
+    /// Whether deliveries are told from now on.
+    Trace { on: bool },
+    /// Bytes are put in flight to an end, with a destination.
+    Inject { end: u16, dst: Addr, bytes: Vec<u8> },
+}

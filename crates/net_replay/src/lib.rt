@@ -1,0 +1,24 @@
+//! A network in replay: its nodes, the datagrams in flight, and what the events of a script do to them.
+//!
+//! `World` runs a network of routers. Each event is proved to be its steps in the model of `network_model`: whatever world of
+//! the model agrees with the network before, the world after the steps agrees with it after, and the text is that of the
+//! steps. The routers are abstract (`Router`): all that is asked of one is the rule of a router. It stands on
+//! `network_parcels`, `network_model` and `router_rules`.
+#![tactic(auto)]
+
+mod event;
+mod local_call;
+mod mail;
+mod playing;
+mod router;
+mod stepping;
+mod telling;
+mod world;
+mod world_err;
+
+pub use event::Event;
+pub use local_call::LocalCall;
+pub use mail::Mail;
+pub use router::Router;
+pub use world::World;
+pub use world_err::WorldErr;

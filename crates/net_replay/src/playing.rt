@@ -1,0 +1,121 @@
+//! What events do to a network.
+ghost use Rattle.std.specs.Prelude.{◌≡◌, ◌≤◌, ◌*◌, ◌∷◌, [], ℕ, List, None, Some, Err};
+ghost use Rattle.std.specs.List.{repeat};
+ghost use Rattle.network_model.specs.Events.{at_place, last_piece, pieces, steps_of};
+ghost use Rattle.network_model.specs.Steps.{Copy, Deliver, Lose, Piece};
+ghost use Rattle.router_rules.specs.Inputs.{Arrival};
+ghost use Rattle.net_replay.specs.Happening.{IsFitEvent, IsRead, event_with};
+ghost use Rattle.net_replay.specs.Running.{IsSame, Makes, refusal_of};
+ghost use Rattle.net_replay.specs.declared.world_err.WorldErr.{WorldErr as AnErr};
+
+use crate::event::Event;
+use crate::router::Router;
+use crate::world::World;
+use crate::world_err::WorldErr;
+
+impl<R: Router + Drop> World<R> {
+    /// What happens, and its text, which is appended. `Crowded` exactly where it would put an 8,193rd datagram in flight: the
+    /// text of what happened before that is appended. `NoMemory`: a front of the text is appended. After a refusal each later
+    /// event is refused in the same way, and changes nothing.
+    pub fn event(&mut self, event: &Event, out: &mut Vec<u8>) -> Result<(), WorldErr>
+        requires { IsFitEvent event.now }
+        ensures made { (a : Arrival) → IsRead event.now a → self.old.refused ≡ None → Makes R.seen self.old result out.old.items out.new.items self.new (λ q w. steps_of q (event_with a event.now) w) }
+        ensures again { (e : AnErr) → self.old.refused ≡ Some e → (result ≡ Err e) × (self.new ≡ self.old) × (out.new.items ≡ out.old.items) }
+        ensures refused { self.new.refused ≡ refusal_of result }
+        ensures same { IsSame self.old self.new }
+    {
+        if let Some(e) = self.refused {
+            return Err(e);
+        }
+        match event {
+            Event::Local { node, call } => self.call(*node, call),
+            Event::Wait { ms } => self.wait(*ms),
+            Event::Pass { times } => self.passes(*times, out),
+            Event::Deliver { place } => self.deliver_at(*place, out),
+            Event::Lose { place } => self.lose_at(*place),
+            Event::Again { place } => self.copy_at(*place),
+            Event::Clear { node } => self.clear(*node),
+            Event::Rounds { times } => self.rounds(*times, out),
+            Event::Trace { on } => self.set_trace(*on),
+            Event::Inject { end, dst, bytes } => self.inject(*end, *dst, bytes.as_slice()),
+        }
+    }
+
+    // Time passes: half periods, and what is left.
+    fn wait(&mut self, ms: u32) -> Result<(), WorldErr>
+        requires { self.old.refused ≡ None }
+        ensures made { (t : List ℕ) → Makes R.seen self.old result t t self.new (λ q w. pieces q ms) }
+        ensures same { IsSame self.old self.new }
+        ensures refused { self.new.refused ≡ refusal_of result }
+    {
+        let half = self.half_ms();
+        self.half_periods(ms / half)?;
+        self.last_piece(ms % half)
+    }
+
+    // So many half periods.
+    fn half_periods(&mut self, times: u32) -> Result<(), WorldErr>
+        requires { self.old.refused ≡ None }
+        ensures made { (t : List ℕ) → Makes R.seen self.old result t t self.new (λ q w. repeat times (Piece (2 * q) ∷ [])) }
+        ensures same { IsSame self.old self.new }
+        ensures refused { self.new.refused ≡ refusal_of result }
+    {
+        for _ in 0..times {
+            self.half_period()?;
+        }
+        Ok(())
+    }
+
+    // What is left of a wait, if anything.
+    fn last_piece(&mut self, ms: u32) -> Result<(), WorldErr>
+        requires going { self.old.refused ≡ None }
+        requires short { ms ≤ 2 * self.old.quarter }
+        ensures made { (t : List ℕ) → Makes R.seen self.old result t t self.new (λ q w. last_piece q ms) }
+        ensures same { IsSame self.old self.new }
+        ensures refused { self.new.refused ≡ refusal_of result }
+    {
+        if ms == 0 {
+            return Ok(());
+        }
+        self.piece(ms)
+    }
+
+    // Delivers the datagram at a place, from 1.
+    fn deliver_at(&mut self, place: u32, out: &mut Vec<u8>) -> Result<(), WorldErr>
+        requires { self.old.refused ≡ None }
+        ensures made { Makes R.seen self.old result out.old.items out.new.items self.new (λ q w. at_place Deliver place) }
+        ensures same { IsSame self.old self.new }
+        ensures refused { self.new.refused ≡ refusal_of result }
+    {
+        if place == 0 {
+            return Ok(());
+        }
+        self.deliver((place - 1) as usize, out)
+    }
+
+    // Takes away the datagram at a place, from 1.
+    fn lose_at(&mut self, place: u32) -> Result<(), WorldErr>
+        requires { self.old.refused ≡ None }
+        ensures made { (t : List ℕ) → Makes R.seen self.old result t t self.new (λ q w. at_place Lose place) }
+        ensures same { IsSame self.old self.new }
+        ensures refused { self.new.refused ≡ refusal_of result }
+    {
+        if place == 0 {
+            return Ok(());
+        }
+        self.lose((place - 1) as usize)
+    }
+
+    // Puts the datagram at a place, from 1, in flight once more.
+    fn copy_at(&mut self, place: u32) -> Result<(), WorldErr>
+        requires { self.old.refused ≡ None }
+        ensures made { (t : List ℕ) → Makes R.seen self.old result t t self.new (λ q w. at_place Copy place) }
+        ensures same { IsSame self.old self.new }
+        ensures refused { self.new.refused ≡ refusal_of result }
+    {
+        if place == 0 {
+            return Ok(());
+        }
+        self.copy((place - 1) as usize)
+    }
+}

@@ -1,0 +1,70 @@
+//! What the world of a network asks of its routers.
+ghost use Rattle.std.specs.Prelude.{◌≡◌, [], ◌<◌, ◌≤◌, ◌+◌, ◌*◌, ℕ, fold, length, MatchResult, None, Some};
+ghost use Rattle.router_rules.specs.Inputs.{Call, Came, Clear, Spelt, Unspelt, Wait};
+ghost use Rattle.router_rules.specs.Rule.{facts_after, heard_after, refusal_of_call, sent_after};
+ghost use Rattle.rsvp_messages.specs.Proper.{IsProper};
+ghost use Rattle.router_rules.specs.Steps.{IsFitCall};
+ghost use Rattle.net_replay.specs.Following.{AreSpelt, Seen};
+ghost use Rattle.net_replay.specs.Happening.{call_of};
+
+use crate::local_call::LocalCall;
+use node_telling::Outbox;
+use router_rules::{Heard, LocalErr};
+use rsvp_base::Addr;
+use rsvp_messages::{Message, MsgErr};
+
+/// A router. Each call is the rule of a router (`router_rules`) for its input: the facts after, what is heard, and what is
+/// sent, which is posted in its outbox in order. It keeps moments counted from a clock that it does not have: what is said of
+/// a call holds for every clock.
+pub trait Router {
+    /// Where it stands, and what it keeps, with its moments counted from a clock.
+    ghost seen: { Seen Self };
+
+    /// A message comes by an interface, to an address.
+    fn arrive<O: Outbox>(&mut self, iface: u8, dst: Addr, message: &Message, out: &mut O) -> Heard
+        requires iface { iface < length (seen.place self.old).ifaces }
+        requires proper { IsProper message.now }
+        ensures place { seen.place self.new ≡ seen.place self.old }
+        ensures facts { (c : ℕ) → seen.facts self.new c ≡ facts_after (seen.place self.old) (seen.place self.old) c (Came iface dst (Spelt message.now)) (seen.facts self.old c) }
+        ensures heard { (c : ℕ) → result ≡ heard_after (seen.place self.old) c iface dst (Spelt message.now) (seen.facts self.old c) }
+        ensures sent { (c : ℕ) → out.new ≡ fold O.posted out.old (sent_after (seen.place self.old) (seen.place self.old) c (Came iface dst (Spelt message.now)) (seen.facts self.old c)) }
+        ensures fit { (c : ℕ) → AreSpelt (sent_after (seen.place self.old) (seen.place self.old) c (Came iface dst (Spelt message.now)) (seen.facts self.old c)) };
+
+    /// Bytes that spell no message come by an interface, to an address.
+    fn arrive_unspelt<O: Outbox>(
+        &mut self,
+        iface: u8,
+        dst: Addr,
+        fault: &MsgErr,
+        out: &mut O,
+    ) -> Heard
+        requires { iface < length (seen.place self.old).ifaces }
+        ensures place { seen.place self.new ≡ seen.place self.old }
+        ensures facts { (c : ℕ) → seen.facts self.new c ≡ facts_after (seen.place self.old) (seen.place self.old) c (Came iface dst (Unspelt fault.now)) (seen.facts self.old c) }
+        ensures heard { (c : ℕ) → result ≡ heard_after (seen.place self.old) c iface dst (Unspelt fault.now) (seen.facts self.old c) }
+        ensures sent { (c : ℕ) → out.new ≡ fold O.posted out.old (sent_after (seen.place self.old) (seen.place self.old) c (Came iface dst (Unspelt fault.now)) (seen.facts self.old c)) }
+        ensures fit { (c : ℕ) → AreSpelt (sent_after (seen.place self.old) (seen.place self.old) c (Came iface dst (Unspelt fault.now)) (seen.facts self.old c)) };
+
+    /// Time passes, at most half a period: `ms` milliseconds.
+    fn wait<O: Outbox>(&mut self, ms: u32, word: u32, out: &mut O)
+        requires { ms ≤ 2 * (seen.place self.old).quarter }
+        ensures place { seen.place self.new ≡ seen.place self.old }
+        ensures facts { (c : ℕ) → seen.facts self.new (c + ms) ≡ facts_after (seen.place self.old) (seen.place self.old) (c + ms) (Wait ms word) (seen.facts self.old c) }
+        ensures sent { (c : ℕ) → out.new ≡ fold O.posted out.old (sent_after (seen.place self.old) (seen.place self.old) (c + ms) (Wait ms word) (seen.facts self.old c)) }
+        ensures fit { (c : ℕ) → AreSpelt (sent_after (seen.place self.old) (seen.place self.old) (c + ms) (Wait ms word) (seen.facts self.old c)) };
+
+    /// An application asks something of it. A refusal is that of the rule; nothing changes and nothing is sent then.
+    fn call<O: Outbox>(&mut self, call: &LocalCall, out: &mut O) -> Result<(), LocalErr>
+        requires { IsFitCall (call_of call.now) }
+        ensures place { seen.place self.new ≡ seen.place self.old }
+        ensures refused { (c : ℕ) → MatchResult result (λ _. refusal_of_call (seen.place self.old) (call_of call.now) (seen.facts self.old c) ≡ None) (λ e. refusal_of_call (seen.place self.old) (call_of call.now) (seen.facts self.old c) ≡ Some e) }
+        ensures facts { (c : ℕ) → seen.facts self.new c ≡ facts_after (seen.place self.old) (seen.place self.old) c (Call (call_of call.now)) (seen.facts self.old c) }
+        ensures sent { (c : ℕ) → out.new ≡ fold O.posted out.old (sent_after (seen.place self.old) (seen.place self.old) c (Call (call_of call.now)) (seen.facts self.old c)) }
+        ensures fit { (c : ℕ) → AreSpelt (sent_after (seen.place self.old) (seen.place self.old) c (Call (call_of call.now)) (seen.facts self.old c)) };
+
+    /// It forgets all but its local senders and wants, and sends nothing.
+    fn clear(&mut self)
+        ensures place { seen.place self.new ≡ seen.place self.old }
+        ensures facts { (c : ℕ) → seen.facts self.new c ≡ facts_after (seen.place self.old) (seen.place self.old) c Clear (seen.facts self.old c) }
+        ensures silent { (c : ℕ) → sent_after (seen.place self.old) (seen.place self.old) c Clear (seen.facts self.old c) ≡ [] };
+}

@@ -1,0 +1,323 @@
+//! The world of a network.
+ghost use Rattle.std.specs.Prelude.{◌≡◌, ◌<◌, ◌≤◌, ◌*◌, ◌^◌, ◌∷◌, ℕ, List, None, [], false, length, map, IfOk};
+ghost use Rattle.network_model.specs.Events.{a_round, half, pass, passes, rounds};
+ghost use Rattle.network_model.specs.Steps.{At, ClearAt, Copy, Deliver, Inject, Lose, Piece, Trace};
+ghost use Rattle.router_rules.specs.Inputs.{Arrival};
+ghost use Rattle.router_rules.specs.Steps.{IsFitCall};
+ghost use Rattle.net_replay.specs.Following.{IsArrival};
+ghost use Rattle.net_replay.specs.Happening.{call_of};
+ghost use Rattle.net_replay.specs.Opening.{ArePlaced};
+ghost use Rattle.net_replay.specs.Running.{IsSame, Makes, refusal_of};
+
+use crate::local_call::LocalCall;
+use crate::mail::Mail;
+use crate::router::Router;
+use crate::stepping::{call_at, clear_at, hand_over, wait_all};
+use crate::telling::tell;
+use crate::world_err::WorldErr;
+use network_parcels::{Wires, room};
+use rsvp_base::{Addr, NoMemory};
+use rsvp_objects::Packet;
+use script_words::EndName;
+use std::alloc::Global;
+use std::marker::Model;
+use tree_routing::Routing;
+
+/// A network: its routers, what is in flight, and the state of the words. After a refusal it stands still.
+#[derive(Drop)]
+pub struct World<R: Router + Drop> {
+    // A quarter of the refresh period, in milliseconds.
+    quarter: u32,
+    mail: Mail,
+    names: Vec<EndName>,
+    nodes: Vec<R>,
+    // The bytes of the datagram that is being delivered.
+    hand: Box<Packet>,
+    // The line that is being written.
+    line: Vec<u8>,
+    words: u64,
+    trace: bool,
+    delivered: u64,
+    pub(crate) refused: Option<WorldErr>,
+}
+
+impl<R: Router + Drop> Model for World<R> {
+    ghost use Rattle.std.specs.Prelude.{map};
+    ghost use Rattle.net_replay.specs.Agreeing.{State, IsSteady};
+
+    ghost Value = { State R };
+
+    ghost view = { λ w. record { quarter = w.quarter; post = w.mail; names = w.names.items; nodes = w.nodes.items; words = w.words; delivered = w.delivered; trace = w.trace; refused = w.refused } };
+
+    ghost invariant = { λ w. IsSteady w.quarter w.mail.net (map R.seen.place w.nodes.items) };
+}
+
+impl<R: Router + Drop> World<R> {
+    /// A network in which nothing happened yet: nothing is in flight, and the trace is off. `quarter` is a quarter of the refresh
+    /// period, in milliseconds, and the words start at `seed`. `NoMemory`: there was no room for what may be in flight.
+    #[tactic(auto, using(crate::proofs::Opened::steady, crate::proofs::Opened::opened))]
+    pub fn open(
+        alloc: Global,
+        quarter: u32,
+        seed: u64,
+        routing: Routing,
+        names: Vec<EndName>,
+        nodes: Vec<R>,
+    ) -> Result<World<R>, NoMemory>
+        requires long { 1 ≤ quarter }
+        requires short { 4 * quarter < 2 ^ 32 }
+        requires placed { ArePlaced quarter routing (map R.seen.place nodes.items) }
+        ensures { IfOk result (λ v. v ≡ record { quarter = quarter; post = record { net = routing; from = 0; flight = []; full = false }; names = names.items; nodes = nodes.items; words = seed; delivered = 0; trace = false; refused = None }) }
+    {
+        let wires = Wires::open(alloc, routing)?;
+        let _valid = wires.routing();
+        let mail = Mail::open(alloc, wires)?;
+        let hand = room(alloc)?;
+        Ok(World {
+            quarter,
+            mail,
+            names,
+            nodes,
+            hand,
+            line: Vec::new(alloc),
+            words: seed,
+            trace: false,
+            delivered: 0,
+            refused: None,
+        })
+    }
+
+    /// How many datagrams are in flight.
+    pub fn in_flight(&self) -> usize
+        ensures { result ≡ length self.now.post.flight }
+    {
+        self.mail.len()
+    }
+
+    /// How many datagrams were delivered so far, or 2^64 - 1 where it is more.
+    pub fn delivered(&self) -> u64
+        ensures { result ≡ self.now.delivered }
+    {
+        self.delivered
+    }
+
+    // Delivers the datagram at a place, counted from 0, and tells it where the trace is on; where nothing is there nothing
+    // happens.
+    pub(crate) fn deliver(&mut self, place: usize, out: &mut Vec<u8>) -> Result<(), WorldErr>
+        requires { self.old.refused ≡ None }
+        ensures made { Makes R.seen self.old result out.old.items out.new.items self.new (λ q w. Deliver place ∷ []) }
+        ensures same { IsSame self.old self.new }
+        ensures refused { self.new.refused ≡ refusal_of result }
+    {
+        let Some((end, dst)) = self.mail.take(place, &mut self.hand) else {
+            return Ok(());
+        };
+        self.delivered = self.delivered.saturating_add(1);
+        let bytes = self.hand.bytes();
+        let heard = hand_over(&mut self.nodes, &mut self.mail, end, dst, bytes);
+        if self.mail.is_full() {
+            self.refused = Some(WorldErr::Crowded);
+            return Err(WorldErr::Crowded);
+        }
+        match tell(
+            &mut self.line,
+            self.names.as_slice(),
+            self.trace,
+            end,
+            bytes,
+            heard,
+            out,
+        ) {
+            Ok(()) => Ok(()),
+            Err(_) => {
+                self.refused = Some(WorldErr::NoMemory);
+                Err(WorldErr::NoMemory)
+            }
+        }
+    }
+
+    // Time passes, at most half a period.
+    pub(crate) fn piece(&mut self, ms: u32) -> Result<(), WorldErr>
+        requires going { self.old.refused ≡ None }
+        requires short { ms ≤ 2 * self.old.quarter }
+        ensures made { (t : List ℕ) → Makes R.seen self.old result t t self.new (λ q w. Piece ms ∷ []) }
+        ensures same { IsSame self.old self.new }
+        ensures refused { self.new.refused ≡ refusal_of result }
+    {
+        wait_all(&mut self.nodes, &mut self.mail, &mut self.words, ms);
+        if self.mail.is_full() {
+            self.refused = Some(WorldErr::Crowded);
+            return Err(WorldErr::Crowded);
+        }
+        Ok(())
+    }
+
+    // Takes away the datagram at a place, counted from 0; where nothing is there nothing happens.
+    pub(crate) fn lose(&mut self, place: usize) -> Result<(), WorldErr>
+        requires { self.old.refused ≡ None }
+        ensures made { (t : List ℕ) → Makes R.seen self.old result t t self.new (λ q w. Lose place ∷ []) }
+        ensures same { IsSame self.old self.new }
+        ensures refused { self.new.refused ≡ refusal_of result }
+    {
+        let _ = self.mail.take(place, &mut self.hand);
+        let _ = self.mail.len();
+        Ok(())
+    }
+
+    // Puts the datagram at a place, counted from 0, in flight once more; where nothing is there nothing happens.
+    pub(crate) fn copy(&mut self, place: usize) -> Result<(), WorldErr>
+        requires { self.old.refused ≡ None }
+        ensures made { (t : List ℕ) → Makes R.seen self.old result t t self.new (λ q w. Copy place ∷ []) }
+        ensures same { IsSame self.old self.new }
+        ensures refused { self.new.refused ≡ refusal_of result }
+    {
+        let Some((end, dst)) = self.mail.look(place, &mut self.hand) else {
+            return Ok(());
+        };
+        let bytes = self.hand.bytes();
+        self.mail.put(end, dst, bytes);
+        if self.mail.is_full() {
+            self.refused = Some(WorldErr::Crowded);
+            return Err(WorldErr::Crowded);
+        }
+        Ok(())
+    }
+
+    // From now on deliveries are told, or not.
+    pub(crate) fn set_trace(&mut self, on: bool) -> Result<(), WorldErr>
+        requires { self.old.refused ≡ None }
+        ensures made { (t : List ℕ) → Makes R.seen self.old result t t self.new (λ q w. Trace on ∷ []) }
+        ensures same { IsSame self.old self.new }
+        ensures refused { self.new.refused ≡ refusal_of result }
+    {
+        self.trace = on;
+        Ok(())
+    }
+
+    // Puts bytes in flight to an end, with a destination.
+    pub(crate) fn inject(&mut self, end: u16, dst: Addr, bytes: &[u8]) -> Result<(), WorldErr>
+        requires going { self.old.refused ≡ None }
+        requires short { length bytes.now ≤ 4096 }
+        ensures made { (t : List ℕ) (a : Arrival) → IsArrival bytes.now a → Makes R.seen self.old result t t self.new (λ q w. Inject end dst a ∷ []) }
+        ensures same { IsSame self.old self.new }
+        ensures refused { self.new.refused ≡ refusal_of result }
+    {
+        self.mail.put(end, dst, bytes);
+        if self.mail.is_full() {
+            self.refused = Some(WorldErr::Crowded);
+            return Err(WorldErr::Crowded);
+        }
+        Ok(())
+    }
+
+    // An application asks something of a node; where there is no such node nothing happens.
+    pub(crate) fn call(&mut self, node: u16, call: &LocalCall) -> Result<(), WorldErr>
+        requires going { self.old.refused ≡ None }
+        requires fit { IsFitCall (call_of call.now) }
+        ensures made { (t : List ℕ) → Makes R.seen self.old result t t self.new (λ q w. At node (call_of call.now) ∷ []) }
+        ensures same { IsSame self.old self.new }
+        ensures refused { self.new.refused ≡ refusal_of result }
+    {
+        call_at(&mut self.nodes, &mut self.mail, node, call);
+        if self.mail.is_full() {
+            self.refused = Some(WorldErr::Crowded);
+            return Err(WorldErr::Crowded);
+        }
+        Ok(())
+    }
+
+    // A node forgets all but its local senders and wants; where there is no such node nothing happens.
+    pub(crate) fn clear(&mut self, node: u16) -> Result<(), WorldErr>
+        requires { self.old.refused ≡ None }
+        ensures made { (t : List ℕ) → Makes R.seen self.old result t t self.new (λ q w. ClearAt node ∷ []) }
+        ensures same { IsSame self.old self.new }
+        ensures refused { self.new.refused ≡ refusal_of result }
+    {
+        clear_at(&mut self.nodes, node);
+        let _ = self.mail.len();
+        Ok(())
+    }
+
+    // Delivers what is in flight, each in its turn; what is sent meanwhile stays.
+    pub(crate) fn pass(&mut self, out: &mut Vec<u8>) -> Result<(), WorldErr>
+        requires { self.old.refused ≡ None }
+        ensures made { Makes R.seen self.old result out.old.items out.new.items self.new (λ q w. pass q w) }
+        ensures same { IsSame self.old self.new }
+        ensures refused { self.new.refused ≡ refusal_of result }
+    {
+        let count = self.in_flight();
+        for _ in 0..count {
+            self.deliver(0, out)?;
+        }
+        Ok(())
+    }
+
+    // So many passes.
+    pub(crate) fn passes(&mut self, times: u32, out: &mut Vec<u8>) -> Result<(), WorldErr>
+        requires { self.old.refused ≡ None }
+        ensures made { Makes R.seen self.old result out.old.items out.new.items self.new (λ q w. passes q times w) }
+        ensures same { IsSame self.old self.new }
+        ensures refused { self.new.refused ≡ refusal_of result }
+    {
+        for _ in 0..times {
+            self.pass(out)?;
+        }
+        Ok(())
+    }
+
+    // Half a period, in milliseconds.
+    pub(crate) fn half_ms(&self) -> u32
+        ensures half { result ≡ 2 * self.now.quarter }
+        ensures some { 0 < result }
+    {
+        2 * self.quarter
+    }
+
+    // Half a period.
+    pub(crate) fn half_period(&mut self) -> Result<(), WorldErr>
+        requires { self.old.refused ≡ None }
+        ensures made { (t : List ℕ) → Makes R.seen self.old result t t self.new (λ q w. Piece (2 * q) ∷ []) }
+        ensures same { IsSame self.old self.new }
+        ensures refused { self.new.refused ≡ refusal_of result }
+    {
+        let ms = self.half_ms();
+        self.piece(ms)
+    }
+
+    // Half a period, and a pass.
+    fn half(&mut self, out: &mut Vec<u8>) -> Result<(), WorldErr>
+        requires { self.old.refused ≡ None }
+        ensures made { Makes R.seen self.old result out.old.items out.new.items self.new (λ q w. half q w) }
+        ensures same { IsSame self.old self.new }
+        ensures refused { self.new.refused ≡ refusal_of result }
+    {
+        self.half_period()?;
+        self.pass(out)
+    }
+
+    // A round: four times half a period, and a pass.
+    fn round(&mut self, out: &mut Vec<u8>) -> Result<(), WorldErr>
+        requires { self.old.refused ≡ None }
+        ensures made { Makes R.seen self.old result out.old.items out.new.items self.new (λ q w. a_round q w) }
+        ensures same { IsSame self.old self.new }
+        ensures refused { self.new.refused ≡ refusal_of result }
+    {
+        for _ in 0..4u32 {
+            self.half(out)?;
+        }
+        Ok(())
+    }
+
+    // So many rounds.
+    pub(crate) fn rounds(&mut self, times: u32, out: &mut Vec<u8>) -> Result<(), WorldErr>
+        requires { self.old.refused ≡ None }
+        ensures made { Makes R.seen self.old result out.old.items out.new.items self.new (λ q w. rounds q times w) }
+        ensures same { IsSame self.old self.new }
+        ensures refused { self.new.refused ≡ refusal_of result }
+    {
+        for _ in 0..times {
+            self.round(out)?;
+        }
+        Ok(())
+    }
+}

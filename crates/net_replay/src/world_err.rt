@@ -1,0 +1,10 @@
+//! Why an event was refused.
+
+/// Why an event was refused. The world stands still then.
+#[derive(Clone, Copy, Debug, PartialEq, Eq)]
+pub enum WorldErr {
+    /// It would put an 8,193rd datagram in flight.
+    Crowded,
+    /// Memory ran out for its text.
+    NoMemory,
+}
