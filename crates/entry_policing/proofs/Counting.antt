@@ -3,14 +3,14 @@ use Rattle.std.specs.Prelude.{◌≡◌, ℕ, suc, ◌+◌, ◌==◌, nat_lt, Bo
 use Rattle.std.proofs.Common.{sym, ap, ◌∙◌, arith}
 use Rattle.std.proofs.lemmas.Bool.Decides.{nat_tests}
 use Rattle.std.proofs.lemmas.List.Elements.{filter-append}
-use Rattle.std.specs.List.{filter, filter_map, list_any}
+use Rattle.std.specs.List.{filter, list_any}
 use Rattle.std.specs.Option.{option_map}
 use Rattle.std.specs.Ordering.{eq_by_cmp}
 use Rattle.flow_merge.specs.FlowOrder.{flow_le}
 use Rattle.path_state.specs.Paths.{AreByKey, path_keys}
 use Rattle.path_state.specs.declared.fact.PathFact.{PathFact}
 use Rattle.resv_state.specs.Merging.{SessionRow}
-use Rattle.resv_state.specs.Resvs.{AreOfStyle, ResvFacts, resv_key}
+use Rattle.resv_state.specs.Resvs.{AreOfStyle, ResvFacts}
 use Rattle.resv_state.specs.Walks.{rests}
 use Rattle.rsvp_base.specs.Keys.{pairs}
 use Rattle.rsvp_base.specs.Orders.{senders, sessions, units}
@@ -31,12 +31,12 @@ use Rattle.rsvp_base.proofs.Counts.{in_found}
 use Rattle.rsvp_base.proofs.Fronts.{front_all, front_more, got_in}
 use Rattle.rsvp_base.proofs.UnderLaws.{get-under}
 use Rattle.style_rules.specs.Lines.{LineKey, NextHop, line_keys, next_hops}
-use Rattle.router_rules.specs.Facts.{Facts, PathState, ResvState, paths_in, resvs_in, resvs_of}
-use Rattle.router_rules.specs.Flags.{beside, is_beside, is_matching, matching, police_at}
+use Rattle.router_rules.specs.Facts.{PathState, ResvState, paths_in, resvs_in, resvs_of}
+use Rattle.router_rules.specs.Flags.{beside, is_beside, is_matching}
 use Rattle.router_rules.specs.NodeConfig.{NodeConfig, goes_out}
 use Rattle.router_rules.specs.Requests.{is_style}
 use Rattle.router_rules.specs.declared.entry.Police.{Police}
-use Rattle.node_facts.specs.State.{State, facts_of, path_at, resv_at, table_in}
+use Rattle.node_facts.specs.State.{State, facts_of, path_at, resv_at}
 use Rattle.resv_state.specs.declared.fact.ResvFact.{ResvFact}
 use Rattle.error_passing.proofs.Walking.{Met}
 use Rattle.entry_policing.specs.Policing.{count_of, is_counted, passes_by, police_seen}

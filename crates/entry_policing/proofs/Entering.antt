@@ -6,7 +6,7 @@ use Rattle.admission_book.specs.Book.{Entries, entries_on}
 use Rattle.resv_book.specs.Kept.{IsBookOf, flow_in}
 use Rattle.resv_book.proofs.Entries.{entry_is}
 use Rattle.resv_state.specs.Merging.{parts_on}
-use Rattle.resv_state.specs.Resvs.{AreOfStyle, ResvFacts}
+use Rattle.resv_state.specs.Resvs.{AreOfStyle}
 use Rattle.resv_state.specs.Walks.{rests}
 use Rattle.rsvp_base.specs.Keys.{numbers}
 use Rattle.rsvp_base.specs.Orders.{entry_keys, sessions}
@@ -21,11 +21,11 @@ use Rattle.rsvp_base.proofs.Tables.{get-changed, same_table, then_do}
 use Rattle.rsvp_base.proofs.UnderLaws.{get-under}
 use Rattle.style_rules.specs.Merge.{merge}
 use Rattle.router_rules.specs.Books.{book}
-use Rattle.router_rules.specs.Facts.{Facts, resvs_of}
+use Rattle.router_rules.specs.Facts.{Facts}
 use Rattle.router_rules.specs.Flags.{entries_of, entry_at}
 use Rattle.router_rules.specs.declared.entry.Entry.{Entry}
 use Rattle.router_rules.specs.declared.entry.Police.{Police}
-use Rattle.node_facts.specs.State.{State, facts_of, resv_at, table_in}
+use Rattle.node_facts.specs.State.{State, facts_of, table_in}
 use Rattle.error_passing.proofs.Confs.{table_seen}
 use Rattle.entry_policing.specs.Policing.{police_seen}
 

@@ -1,6 +1,6 @@
 -- The flags of an entry, as the tables are seen at a clock.
 use Rattle.std.specs.Prelude.{ℕ, ◌==◌, Bool, not, ◌&&◌, ◌||◌, List, length}
-use Rattle.std.specs.List.{filter, list_any}
+use Rattle.std.specs.List.{filter}
 use Rattle.std.specs.Ordering.{eq_by_cmp}
 use Rattle.flow_merge.specs.FlowOrder.{flow_le}
 use Rattle.path_state.specs.declared.fact.PathFact.{PathFact}

@@ -1,5 +1,4 @@
-use Rattle.std.proofs.Common.{◌≡◌, ℕ, Some, None, sym, ap, ◌∙◌}
-use Rattle.std.specs.Option.{option_copied}
+use Rattle.std.proofs.Common.{◌≡◌, Some, sym, ap, ◌∙◌}
 use Rattle.rsvp_base.specs.Table.{get}
 use Rattle.style_rules.specs.Merge.{PartTable}
 use Rattle.entry_policing.specs.Policing.{police_seen}
