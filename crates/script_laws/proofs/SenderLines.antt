@@ -275,35 +275,35 @@ module _ (d : Draft) (h : Sending d) where
       })
 
 -- ---- each line
-by_line : (d : Draft) (said : Line) (new : Draft) → Sending d → KeepsAll (Keeps d said) → Adds d said new → Sending new
-by_line d line.Skipped new h rules adds = subst Sending (sym adds) h
-by_line d (line.Period ms) new h rules adds = subst Sending (sym adds) (declared d (record d { period = Some ms }) h rules.in_time.no_event refl refl refl)
-by_line d (line.Seed n) new h rules adds = subst Sending (sym adds) (declared d (record d { seed = Some n }) h rules.in_time.no_event refl refl refl)
-by_line d (line.Node name) new h rules adds = declared d new h rules.in_time.no_event (ap (λ (z : Draft). z.events) adds) (ap (λ (z : Draft). z.locals) adds) (ap (λ (z : Draft). z.sessions) adds)
-by_line d (line.End l) new h rules adds = declared d new h rules.in_time.no_event (ap (λ (z : Draft). z.events) adds) (ap (λ (z : Draft). z.locals) adds) (ap (λ (z : Draft). z.sessions) adds)
-by_line d (line.Link names) new h rules adds = declared d new h rules.in_time.no_event (ap (λ (z : Draft). z.events) adds) (ap (λ (z : Draft). z.locals) adds) (ap (λ (z : Draft). z.sessions) adds)
-by_line d (line.Hop l) new h rules adds = declared d new h rules.in_time.no_event (ap (λ (z : Draft). z.events) adds) (ap (λ (z : Draft). z.locals) adds) (ap (λ (z : Draft). z.sessions) adds)
-by_line d (line.StalePath l) new h rules adds = left_over d new (session_value l.session) h rules.within_limits.session (ap (λ (z : Draft). z.events) adds) (ap (λ (z : Draft). z.locals) adds) (ap (λ (z : Draft). z.net) adds) (ap (λ (z : Draft). z.sessions) adds)
-by_line d (line.StaleResv l) new h rules adds = left_over d new (session_value l.session) h rules.within_limits.session (ap (λ (z : Draft). z.events) adds) (ap (λ (z : Draft). z.locals) adds) (ap (λ (z : Draft). z.net) adds) (ap (λ (z : Draft). z.sessions) adds)
-by_line d (line.StaleHopWall l) new h rules adds = left_over d new (session_value l.session) h rules.within_limits.session (ap (λ (z : Draft). z.events) adds) (ap (λ (z : Draft). z.locals) adds) (ap (λ (z : Draft). z.net) adds) (ap (λ (z : Draft). z.sessions) adds)
-by_line d (line.StaleSenderWall l) new h rules adds = left_over d new (session_value l.session) h rules.within_limits.session (ap (λ (z : Draft). z.events) adds) (ap (λ (z : Draft). z.locals) adds) (ap (λ (z : Draft). z.net) adds) (ap (λ (z : Draft). z.sessions) adds)
-by_line d (line.Send l) new h rules adds = subst Sending (sym adds) (sent d h l rules)
-by_line d (line.Drop l) new h rules adds = subst Sending (sym adds) (dropped d h l rules)
-by_line d (line.Want l) new h rules adds = subst Sending (sym adds) (wanting d h l rules)
-by_line d (line.Quit l) new h rules adds = subst Sending (sym adds) (quitting d h l rules)
-by_line d (line.Wait ms) new h rules adds = subst Sending (sym adds) (passed d (Waits ms) d.force (λ ls. refl) h)
-by_line d (line.Pass n) new h rules adds = subst Sending (sym adds) (passed d (Pass n) d.force (λ ls. refl) h)
-by_line d (line.Deliver k) new h rules adds = subst Sending (sym adds) (passed d (DeliverAt k) d.force (λ ls. refl) h)
-by_line d (line.Lose k) new h rules adds = subst Sending (sym adds) (passed d (LoseAt k) d.force (λ ls. refl) h)
-by_line d (line.Copy k) new h rules adds = subst Sending (sym adds) (passed d (CopyAt k) d.force (λ ls. refl) h)
-by_line d (line.Clear node) new h rules adds = subst Sending (sym adds) (passed d (ClearNode (node_number d node)) d.force (λ ls. refl) h)
-by_line d (line.Rounds n) new h rules adds = subst Sending (sym adds) (passed d (Rounds n) d.force (λ ls. refl) h)
-by_line d (line.Trace on) new h rules adds = subst Sending (sym adds) (passed d (Traces on) d.force (λ ls. refl) h)
-by_line d line.Report new h rules adds = subst Sending (sym adds) (passed d (Reports None) d.force (λ ls. refl) h)
-by_line d (line.ReportEnd end) new h rules adds = subst Sending (sym adds) (passed d (Reports (Some (end_number d end))) d.force (λ ls. refl) h)
-by_line d line.Flags new h rules adds = subst Sending (sym adds) (passed d ReportsFlags d.force (λ ls. refl) h)
-by_line d (line.Inject l) new h rules adds = subst Sending (sym adds.2) (passed d (Injects (end_number d l.end) (addr_value l.dst) adds.0) d.force (λ ls. refl) h)
-by_line d (line.Reroute l) new h rules adds = subst Sending (sym adds) (passed d (Reroutes (addr_value l.group) (addr_value l.source) (hop_values d l)) (net_rerouted d l).hops (λ ls. refl) h)
+by_line : (d : Draft) (said : Line) (next : Draft) → Sending d → KeepsAll (Keeps d said) → Adds d said next → Sending next
+by_line d line.Skipped next h rules adds = subst Sending (sym adds) h
+by_line d (line.Period ms) next h rules adds = subst Sending (sym adds) (declared d (record d { period = Some ms }) h rules.in_time.no_event refl refl refl)
+by_line d (line.Seed n) next h rules adds = subst Sending (sym adds) (declared d (record d { seed = Some n }) h rules.in_time.no_event refl refl refl)
+by_line d (line.Node name) next h rules adds = declared d next h rules.in_time.no_event (ap (λ (z : Draft). z.events) adds) (ap (λ (z : Draft). z.locals) adds) (ap (λ (z : Draft). z.sessions) adds)
+by_line d (line.End l) next h rules adds = declared d next h rules.in_time.no_event (ap (λ (z : Draft). z.events) adds) (ap (λ (z : Draft). z.locals) adds) (ap (λ (z : Draft). z.sessions) adds)
+by_line d (line.Link names) next h rules adds = declared d next h rules.in_time.no_event (ap (λ (z : Draft). z.events) adds) (ap (λ (z : Draft). z.locals) adds) (ap (λ (z : Draft). z.sessions) adds)
+by_line d (line.Hop l) next h rules adds = declared d next h rules.in_time.no_event (ap (λ (z : Draft). z.events) adds) (ap (λ (z : Draft). z.locals) adds) (ap (λ (z : Draft). z.sessions) adds)
+by_line d (line.StalePath l) next h rules adds = left_over d next (session_value l.session) h rules.within_limits.session (ap (λ (z : Draft). z.events) adds) (ap (λ (z : Draft). z.locals) adds) (ap (λ (z : Draft). z.net) adds) (ap (λ (z : Draft). z.sessions) adds)
+by_line d (line.StaleResv l) next h rules adds = left_over d next (session_value l.session) h rules.within_limits.session (ap (λ (z : Draft). z.events) adds) (ap (λ (z : Draft). z.locals) adds) (ap (λ (z : Draft). z.net) adds) (ap (λ (z : Draft). z.sessions) adds)
+by_line d (line.StaleHopWall l) next h rules adds = left_over d next (session_value l.session) h rules.within_limits.session (ap (λ (z : Draft). z.events) adds) (ap (λ (z : Draft). z.locals) adds) (ap (λ (z : Draft). z.net) adds) (ap (λ (z : Draft). z.sessions) adds)
+by_line d (line.StaleSenderWall l) next h rules adds = left_over d next (session_value l.session) h rules.within_limits.session (ap (λ (z : Draft). z.events) adds) (ap (λ (z : Draft). z.locals) adds) (ap (λ (z : Draft). z.net) adds) (ap (λ (z : Draft). z.sessions) adds)
+by_line d (line.Send l) next h rules adds = subst Sending (sym adds) (sent d h l rules)
+by_line d (line.Drop l) next h rules adds = subst Sending (sym adds) (dropped d h l rules)
+by_line d (line.Want l) next h rules adds = subst Sending (sym adds) (wanting d h l rules)
+by_line d (line.Quit l) next h rules adds = subst Sending (sym adds) (quitting d h l rules)
+by_line d (line.Wait ms) next h rules adds = subst Sending (sym adds) (passed d (Waits ms) d.force (λ ls. refl) h)
+by_line d (line.Pass n) next h rules adds = subst Sending (sym adds) (passed d (Pass n) d.force (λ ls. refl) h)
+by_line d (line.Deliver k) next h rules adds = subst Sending (sym adds) (passed d (DeliverAt k) d.force (λ ls. refl) h)
+by_line d (line.Lose k) next h rules adds = subst Sending (sym adds) (passed d (LoseAt k) d.force (λ ls. refl) h)
+by_line d (line.Copy k) next h rules adds = subst Sending (sym adds) (passed d (CopyAt k) d.force (λ ls. refl) h)
+by_line d (line.Clear node) next h rules adds = subst Sending (sym adds) (passed d (ClearNode (node_number d node)) d.force (λ ls. refl) h)
+by_line d (line.Rounds n) next h rules adds = subst Sending (sym adds) (passed d (Rounds n) d.force (λ ls. refl) h)
+by_line d (line.Trace on) next h rules adds = subst Sending (sym adds) (passed d (Traces on) d.force (λ ls. refl) h)
+by_line d line.Report next h rules adds = subst Sending (sym adds) (passed d (Reports None) d.force (λ ls. refl) h)
+by_line d (line.ReportEnd end) next h rules adds = subst Sending (sym adds) (passed d (Reports (Some (end_number d end))) d.force (λ ls. refl) h)
+by_line d line.Flags next h rules adds = subst Sending (sym adds) (passed d ReportsFlags d.force (λ ls. refl) h)
+by_line d (line.Inject l) next h rules adds = subst Sending (sym adds.2) (passed d (Injects (end_number d l.end) (addr_value l.dst) adds.0) d.force (λ ls. refl) h)
+by_line d (line.Reroute l) next h rules adds = subst Sending (sym adds) (passed d (Reroutes (addr_value l.group) (addr_value l.source) (hop_values d l)) (net_rerouted d l).hops (λ ls. refl) h)
 
 at_first : Sending nothing
 at_first = record {
@@ -320,5 +320,5 @@ at_first = record {
 
 pub each_script_lets_few_send : EachScriptLetsFewSend
 each_script_lets_few_send bytes p is =
-    let h = led Sending (λ d text new g f. by_line d f.said new g f.valid f.adds) (text_lines bytes) nothing is.lines at_first is.leads in
+    let h = led Sending (λ d text next g f. by_line d f.said next g f.valid f.adds) (text_lines bytes) nothing is.lines at_first is.leads in
     subst AreFitSenders (sym is.says) h.few
