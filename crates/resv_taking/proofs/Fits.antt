@@ -20,7 +20,7 @@ use Rattle.rsvp_messages.specs.Units.{AskedUnit, ask_style, asked_units, fixed_u
 use Rattle.rsvp_messages.specs.declared.ask.Ask.{Ask}
 use Rattle.rsvp_messages.specs.declared.ask.Ask.TheVariants as ask
 use Rattle.style_rules.specs.CutLaws.{made_named, made_of}
-use Rattle.style_rules.specs.Parts.{IsOfStyle, has_name, part_of}
+use Rattle.style_rules.specs.Parts.{IsOfStyle, part_of}
 use Rattle.style_rules.proofs.StyleLaws.{a_name, unit_of_names}
 use Rattle.router_rules.specs.Asking.{names_that_match}
 

@@ -12,7 +12,6 @@ use Rattle.resv_state.specs.declared.fact.ResvFact.{ResvFact}
 use Rattle.rsvp_base.specs.Styles.{part_unit}
 use Rattle.rsvp_base.specs.Table.{changed, empty, get, has, put_in, size}
 use Rattle.rsvp_base.specs.TokenBucket.{TokenBucket}
-use Rattle.rsvp_base.specs.declared.entry_key.EntryKey.{EntryKey}
 use Rattle.rsvp_base.specs.declared.addr.Addr.{Addr}
 use Rattle.rsvp_base.specs.declared.part.Part.{Part}
 use Rattle.rsvp_base.specs.declared.style.StyleKind.{StyleKind}
@@ -30,7 +29,7 @@ use Rattle.style_rules.specs.Parts.{IsOfStyle, part_of}
 use Rattle.router_rules.specs.Asking.{Blamed, Taking, book_refuses, confirm_kept, entry_at, has_entry, has_room, key_at, losses, nothing_taken, or_kept, put_tested, put_unit, refusal, resv_state, table_with, take_unit, take_units, tell_lost, value_of}
 use Rattle.router_rules.specs.Asking.{Asker as AskerOf}
 use Rattle.router_rules.specs.Books.{book, fits, refused}
-use Rattle.router_rules.specs.Facts.{Facts, Resvs, ResvState, resvs_of, with_resvs}
+use Rattle.router_rules.specs.Facts.{Facts, Resvs, resvs_of, with_resvs}
 use Rattle.router_rules.specs.NodeConfig.{NodeConfig}
 use Rattle.router_lookups.proofs.Leaving.{as_it_was, table_put}
 use Rattle.node_facts.specs.State.{resv_at}

@@ -1,5 +1,5 @@
 -- Units of a Resv, one after another, as the code has them.
-use Rattle.std.specs.Prelude.{◌≡◌, ℕ, ◌+◌, Bool, List, map as each, Option, Some, None}
+use Rattle.std.specs.Prelude.{◌≡◌, ℕ, ◌+◌, map as each, Some}
 use Rattle.admission_book.specs.Book.{Entries}
 use Rattle.resv_state.specs.Resvs.{ResvFacts}
 use Rattle.rsvp_base.specs.Orders.{Names}

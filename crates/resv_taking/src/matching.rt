@@ -1,5 +1,5 @@
 //! Senders that match a Resv.
-ghost use Rattle.std.specs.Prelude.{◌≡◌, ◌≤◌, ◌<◌, ◌↔◌, IfSome, IsNone, not, cond};
+ghost use Rattle.std.specs.Prelude.{◌≡◌, ◌<◌, ◌↔◌, IfSome, IsNone, not, cond};
 ghost use Rattle.rsvp_base.specs.Sets.{cut, is_none};
 ghost use Rattle.rsvp_base.specs.Table.{has, kept, size, without};
 ghost use Rattle.router_rules.specs.Asking.{names_that_match};

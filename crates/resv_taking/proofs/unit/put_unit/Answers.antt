@@ -1,19 +1,16 @@
-use Rattle.std.proofs.Common.{◌≡◌, ℕ, [], ◌∷◌, ◌++◌, Some, false, true, Bool, is_some, refl, sym, ap, subst, ◌∙◌, arith, ◌≤◌, ◌+◌, ◌<◌}
-use Rattle.resv_state.specs.Resvs.{ResvFacts, ResvMap, resv_key}
+use Rattle.std.proofs.Common.{◌≡◌, ℕ, [], ◌∷◌, ◌++◌, Some, is_some, refl, sym, ap, subst, ◌∙◌, arith, ◌≤◌, ◌+◌}
+use Rattle.resv_state.specs.Resvs.{ResvMap, resv_key}
 use Rattle.resv_state.specs.declared.fact.ResvFact.{ResvFact}
 use Rattle.rsvp_base.specs.Table.{changed, get, put_in, size}
-use Rattle.rsvp_base.specs.declared.entry_key.EntryKey.{EntryKey}
 use Rattle.rsvp_base.specs.declared.part.Part.{Part}
 use Rattle.rsvp_base.specs.declared.style.StyleKind.{StyleKind}
 use Rattle.admission_book.specs.Book.{Bookings}
 use Rattle.style_rules.specs.Merge.{PartTable}
-use Rattle.router_rules.specs.Asking.{Taking, put_unit, value_of}
+use Rattle.router_rules.specs.Asking.{put_unit}
 use Rattle.router_rules.specs.Facts.{Facts, resvs_of}
 use Rattle.node_facts.specs.State.{resv_at}
-use Rattle.resv_book.specs.Kept.{IsBookOf, MovesWith}
-use Rattle.resv_book.specs.Placing.{IsBookAmong, chosen, placed_in}
-use Rattle.resv_book.specs.declared.placing.Placed.{Placed}
-use Rattle.resv_book.specs.declared.placing.Placed.TheVariants as placed
+use Rattle.resv_book.specs.Kept.{IsBookOf}
+use Rattle.resv_book.specs.Placing.{chosen, placed_in}
 use Rattle.resv_taking.specs.Units.{IsSoFar, asker_at}
 use Rattle.resv_taking.specs.declared.unit.Taken.{Taken}
 use Rattle.resv_taking.proofs.Steps.{among_after, done_by, grows, step_so}

@@ -1,7 +1,6 @@
-use Rattle.std.proofs.Common.{◌≡◌, ℕ, ◌≤◌, ◌<◌, ◌+◌, List, [], length, take, slice_get, Option, Some, None, refl, sym, ap, subst, ◌∙◌, arith}
+use Rattle.std.proofs.Common.{◌≡◌, ◌≤◌, ◌<◌, ◌+◌, List, [], length, take, slice_get, Some, refl, sym, ap, subst, ◌∙◌, arith}
 use Rattle.std.specs.Option.{option_map}
 use Rattle.std.proofs.lemmas.List.{take_all}
-use Rattle.resv_state.specs.Resvs.{ResvMap}
 use Rattle.resv_state.specs.declared.fact.ResvFact.{ResvFact}
 use Rattle.rsvp_base.specs.Styles.{name_of}
 use Rattle.rsvp_base.specs.Table.{Table, size}

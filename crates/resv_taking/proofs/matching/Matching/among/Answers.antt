@@ -1,4 +1,4 @@
-use Rattle.std.proofs.Common.{◌+◌, cond, not, get_or, take, sym, ap, subst, ◌∙◌, arith}
+use Rattle.std.proofs.Common.{◌+◌, cond, get_or, take, sym, ap, subst, ◌∙◌, arith}
 use Rattle.rsvp_base.specs.Orders.{Names}
 use Rattle.rsvp_base.specs.Table.{has, without}
 use Rattle.rsvp_base.specs.declared.session.Sender.{Sender}

@@ -1,4 +1,4 @@
-use Rattle.std.specs.Prelude.{not, take}
+use Rattle.std.specs.Prelude.{take}
 use Rattle.rsvp_base.specs.Table.{has}
 use Rattle.resv_state.proofs.Kept.{AreKept}
 use Rattle.resv_taking.proofs.matching.Matching.among.Given as goal

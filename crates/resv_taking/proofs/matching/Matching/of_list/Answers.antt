@@ -1,4 +1,4 @@
-use Rattle.std.proofs.Common.{◌≡◌, ◌<◌, ◌≤◌, Option, true, false, subst, arith}
+use Rattle.std.proofs.Common.{◌<◌, ◌≤◌, Option, subst, arith}
 use Rattle.rsvp_base.specs.Orders.{Names}
 use Rattle.rsvp_base.specs.Table.{size}
 use Rattle.router_rules.specs.Asking.{names_that_match}
