@@ -1,5 +1,5 @@
 -- What is put behind what is in flight, part by part.
-use Rattle.std.proofs.Common.{◌≡◌, ℕ, ◌+◌, ◌<◌, ◌≤◌, List, [], ◌∷◌, ◌++◌, Bool, true, false, length, take, refl, sym, ap, ap₂, subst, ◌∙◌, arith, append-nil, append_assoc, length-append, ltb-true, ltb-false}
+use Rattle.std.proofs.Common.{◌≡◌, ℕ, ◌<◌, ◌≤◌, List, [], ◌∷◌, ◌++◌, Bool, true, false, length, take, refl, sym, ap, ap₂, subst, ◌∙◌, arith, append-nil, append_assoc, length-append, ltb-true, ltb-false}
 use Rattle.std.specs.Prelude.{fold, nat_lt, ◌||◌, ◌↔◌, Option, None, Some, IfSome, Result, Ok, Err, IsErr, OnOk, OnErr, is_err}
 use Rattle.std.proofs.lemmas.List.{take_all, take-append-le, length-take-le}
 use Rattle.router_rules.specs.Inputs.{Send}

@@ -1,5 +1,5 @@
 -- Whether steps crowd a world, one after the other.
-use Rattle.std.proofs.Common.{◌≡◌, ℕ, ◌+◌, List, [], ◌∷◌, ◌++◌, Bool, true, false, refl}
+use Rattle.std.proofs.Common.{◌≡◌, ℕ, List, [], ◌∷◌, ◌++◌, Bool, true, false, refl}
 use Rattle.calm_rounds.specs.Machine.{run}
 use Rattle.network_model.specs.Runs.{is_crowded, crowds}
 use Rattle.network_model.specs.Steps.{Step, step, machine}

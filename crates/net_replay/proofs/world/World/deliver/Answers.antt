@@ -1,4 +1,4 @@
-use Rattle.std.proofs.Common.{◌≡◌, ◌+◌, ◌++◌, ◌∷◌, ◌∙◌, ℕ, List, [], Some, subst, sym, ap, refl, arith, length, append-nil}
+use Rattle.std.proofs.Common.{◌≡◌, ◌++◌, ◌∷◌, ◌∙◌, ℕ, List, [], Some, subst, sym, ap, refl, arith, length, append-nil}
 use Rattle.std.specs.Prelude.{slice_get, cond}
 use Rattle.net_replay.specs.Due.{told}
 use Rattle.network_model.specs.Steps.{Deliver, step}

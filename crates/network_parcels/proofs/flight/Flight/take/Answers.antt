@@ -1,4 +1,4 @@
-use Rattle.std.proofs.Common.{◌≤◌, sym, true, false, length, arith}
+use Rattle.std.proofs.Common.{◌≤◌, sym, length, arith}
 use Rattle.std.specs.Prelude.{map as each}
 use Rattle.std.proofs.lemmas.Bool.{false≢true}
 use Rattle.std.proofs.lemmas.List.{length-map}
