@@ -1,0 +1,81 @@
+//! Time passes over the tables.
+ghost use Rattle.std.specs.Prelude.{◌≡◌, ◌≤◌, ◌*◌, true};
+ghost use Rattle.rsvp_base.specs.Orders.{sessions};
+ghost use Rattle.rsvp_base.specs.Table.{changed, has};
+ghost use Rattle.rsvp_base.specs.declared.session.Session.{Session};
+ghost use Rattle.local_state.specs.Counting.{is_fired};
+ghost use Rattle.blockade_state.specs.Touched.{touched_by};
+ghost use Rattle.node_facts.specs.State.{Said};
+ghost use Rattle.node_facts.specs.Waited.{aged};
+ghost use Rattle.node_tables.specs.Whole.{state_of};
+ghost use Rattle.node_waiting.specs.AfterWait.{after_wait};
+ghost use Rattle.node_waiting.specs.Passing.{dying_paths};
+ghost use Rattle.tables_waiting.specs.Steps.{AreSound, all_dying};
+
+use blockade_state::Touched;
+use local_state::Fired;
+use node_tables::Tables;
+use node_waiting::{DeadPaths, age_paths, stop_uncounted};
+use resv_waiting::{age_resvs, forget_dead};
+
+/// Lets time pass over all tables, in milliseconds, at most half a period. What is not refreshed is gone then, and countdowns
+/// have run: those that came due are answered, and begin again as the word says. The paths that died are told in `dead`, and
+/// the sessions of which something died are touched. Names are not forgotten yet.
+pub fn age_all(
+    tables: &mut Tables,
+    ms: u32,
+    word: u32,
+    dead: &mut DeadPaths,
+    touched: &mut Touched,
+) -> Fired
+    requires sound { AreSound tables.old }
+    requires short { ms ≤ 2 * tables.old.config.quarter }
+    ensures state { (said : Said) → state_of tables.new said ≡ aged ms word (state_of tables.old said) }
+    ensures sound { AreSound tables.new }
+    ensures ifaces { tables.new.book.ifaces ≡ tables.old.book.ifaces }
+    ensures dead { dead.new ≡ dying_paths ms tables.old.paths.facts }
+    ensures touched { touched.new ≡ touched_by (all_dying ms tables.old) touched.old }
+    ensures fired { result ≡ changed (is_fired ms) tables.old.due }
+{
+    let quarter = tables.config.quarter();
+    let fired = tables.due.tick(quarter, ms, word);
+    tables.walls.age(ms, touched);
+    age_resvs(&mut tables.wild, &mut tables.book, ms, touched);
+    age_resvs(&mut tables.fixed, &mut tables.book, ms, touched);
+    age_resvs(&mut tables.shared, &mut tables.book, ms, touched);
+    age_paths(&mut tables.paths, ms, dead, touched);
+    fired
+}
+
+/// The names of the senders whose paths died leave the reservations, where no known sender has them any more, and the
+/// countdowns of sessions stop that have neither a local sender nor a path. All sessions with a countdown are watched.
+pub fn forget_all(tables: &mut Tables, dead: &DeadPaths, watched: &Touched)
+    requires sound { AreSound tables.old }
+    requires watched { (s : Session) → has tables.old.due s ≡ true → has watched.now s ≡ true }
+    ensures state { (said : Said) → state_of tables.new said ≡ after_wait dead.now (state_of tables.old said) }
+    ensures sound { AreSound tables.new }
+    ensures ifaces { tables.new.book.ifaces ≡ tables.old.book.ifaces }
+{
+    forget_dead(
+        &mut tables.wild,
+        &mut tables.book,
+        &tables.senders,
+        &tables.paths,
+        dead,
+    );
+    forget_dead(
+        &mut tables.fixed,
+        &mut tables.book,
+        &tables.senders,
+        &tables.paths,
+        dead,
+    );
+    forget_dead(
+        &mut tables.shared,
+        &mut tables.book,
+        &tables.senders,
+        &tables.paths,
+        dead,
+    );
+    stop_uncounted(&mut tables.due, &tables.senders, &tables.paths, watched);
+}
