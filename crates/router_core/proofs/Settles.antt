@@ -23,7 +23,7 @@ use Rattle.router_rules.specs.Rule.{settled}
 use Rattle.router_lookups.proofs.Knowing.{counted_made, counted_told, has-known}
 use Rattle.router_lookups.proofs.Leaving.{countdowns_settle}
 use Rattle.node_facts.specs.Changes.{started}
-use Rattle.node_facts.specs.State.{IsSettled, State, due_at, facts_of, path_at, resv_at}
+use Rattle.node_facts.specs.State.{AreNamed, IsSettled, State, due_at, facts_of, path_at, resv_at}
 use Rattle.node_facts.proofs.Counted.{counted_settled}
 use Rattle.node_facts.proofs.Routed.{same_test}
 use Rattle.node_sends.specs.Changed.{IsChangedFor}
@@ -72,7 +72,7 @@ module _ (k : SenderKey) (n m : State) (ch : IsChangedFor k n m) (c : ℕ) where
       (λ h. let t = counted_told (facts_of c n) q h in counted_made (facts_of c m) q t.0 (sym (known_away q t.0 off) ∙ t.1))
       (λ h. let t = counted_told (facts_of c m) q h in counted_made (facts_of c n) q t.0 (known_away q t.0 off ∙ t.1))
 
-module _ (k : SenderKey) (n m : State) (ch : IsChangedFor k n m) (kept : IsSettled n) (none : IsBare m) (due : m.due ≡ n.due) (counts : Bool) (is : (c : ℕ) → counts ≡ has (counted (facts_of c m)) k.0) where
+module _ (k : SenderKey) (n m : State) (ch : IsChangedFor k n m) (kept : IsSettled n) (due : m.due ≡ n.due) (counts : Bool) (is : (c : ℕ) → counts ≡ has (counted (facts_of c m)) k.0) where
   module _ (c : ℕ) where
     turned : (q : Session) → eq_by_cmp sessions.cmp k.0 q ≡ false → eq_by_cmp sessions.cmp q k.0 ≡ false
     turned q off =
@@ -126,12 +126,23 @@ module _ (k : SenderKey) (n m : State) (ch : IsChangedFor k n m) (kept : IsSettl
             subst (λ z. then_do (get (due_after counts k.0 (period m.place) m.due) z) (due_at c z) ≡ cond (has (counted (facts_of c m)) z) (Some (unwrap_or (then_do (get m.due z) (due_at c z)) (c + period m.place))) None) e here)
             (λ off. ap (λ w. then_do w (due_at c q)) (elsewhere q off) ∙ away q off (get m.due q) refl)
 
-    -- so the tables, with the countdown started or stopped, are the facts once settled
-    pub change_settles : facts_of c (recounted m k.0 counts) ≡ settled m.place c (facts_of c n) (facts_of c m)
-    change_settles = (λ i. record (facts_of c m) { due = due_settles i }) ∙ ap (settle m.place c) (sym (forget_bare (facts_of c n) c m none))
+    -- so the tables, with the countdown started or stopped, are the facts once settled, where names are forgotten already
+    pub change_settled : (g : Facts) → facts_of c m ≡ forget (facts_of c n) g → facts_of c (recounted m k.0 counts) ≡ settled m.place c (facts_of c n) g
+    change_settled g forgot = (λ i. record (facts_of c m) { due = due_settles i }) ∙ ap (settle m.place c) forgot
+
+  pub after_settled : (g : ℕ → Facts) → ((c : ℕ) → facts_of c m ≡ forget (facts_of c n) (g c)) → ((c : ℕ) → AreNamed (facts_of c m)) → IsSettled (recounted m k.0 counts)
+  after_settled g forgot named = record {
+    counted = counted_settled m.place (recounted m k.0 counts) (λ c. facts_of c n) g (λ c. change_settled c (g c) (forgot c));
+    named = λ c st q r e. named c st q r (recounted_resvs c st q r e);
+  }
+    where
+      recounted_resvs : (c : ℕ) (st : StyleKind) (q : LineKey) (r : ResvState) → get (resvs_of st (facts_of c (recounted m k.0 counts))) q ≡ Some r → get (resvs_of st (facts_of c m)) q ≡ Some r
+      recounted_resvs c st q r e = e
+
+-- of a node without reservations
+module _ (k : SenderKey) (n m : State) (ch : IsChangedFor k n m) (kept : IsSettled n) (none : IsBare m) (due : m.due ≡ n.due) (counts : Bool) (is : (c : ℕ) → counts ≡ has (counted (facts_of c m)) k.0) where
+  pub change_settles : (c : ℕ) → facts_of c (recounted m k.0 counts) ≡ settled m.place c (facts_of c n) (facts_of c m)
+  change_settles c = change_settled k n m ch kept due counts is c (facts_of c m) (sym (forget_bare (facts_of c n) c m none))
 
   pub settled_after : IsSettled (recounted m k.0 counts)
-  settled_after = record {
-    counted = counted_settled m.place (recounted m k.0 counts) (λ c. facts_of c n) (λ c. facts_of c m) change_settles;
-    named = λ c. named_bare (recounted m k.0 counts) (record { wants = none.wants; wild = none.wild; fixed = none.fixed; shared = none.shared; walls = none.walls; said = none.said }) c;
-  }
+  settled_after = after_settled k n m ch kept due counts is (λ c. facts_of c m) (λ c. sym (forget_bare (facts_of c n) c m none)) (named_bare m none)

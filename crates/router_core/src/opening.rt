@@ -1,0 +1,63 @@
+//! A router's tables are opened.
+ghost use Rattle.std.specs.Prelude.{◌≡◌, IfOk};
+ghost use Rattle.rsvp_base.specs.Table.{empty};
+ghost use Rattle.node_facts.specs.State.{no_state};
+ghost use Rattle.node_tables.specs.Whole.{ArePulled, IsBooked, IsOfPlace, state_of};
+
+use blockade_state::Blockades;
+use local_state::{Countdowns, LocalSenders, LocalWants};
+use node_tables::Tables;
+use node_telling::Config;
+use path_state::PathTable;
+use resv_state::ResvTable;
+use rsvp_base::NoMemory;
+use std::alloc::Global;
+use style_rules::{Fixed, Shared, Wild};
+
+/// A router's tables without facts. They take no memory later. `NoMemory`: the room could not be had.
+pub(crate) fn open_tables(alloc: Global, config: Config) -> Result<Tables, NoMemory>
+    ensures state { IfOk result (λ t. state_of t empty ≡ no_state config) }
+    ensures pulled { IfOk result ArePulled }
+    ensures booked { IfOk result IsBooked }
+    ensures place { IfOk result IsOfPlace }
+{
+    let (senders, wants, due) = open_local(alloc)?;
+    let (wild, fixed, shared) = open_resvs(alloc)?;
+    let paths = PathTable::open(alloc)?;
+    let walls = Blockades::open(alloc)?;
+    let book = config.open_book(alloc)?;
+    Ok(Tables {
+        config,
+        senders,
+        wants,
+        paths,
+        wild,
+        fixed,
+        shared,
+        walls,
+        due,
+        book,
+    })
+}
+
+// Local senders and wants, and countdowns: none.
+fn open_local(alloc: Global) -> Result<(LocalSenders, LocalWants, Countdowns), NoMemory>
+    ensures { IfOk result (λ t. (t.0 ≡ empty) × (t.1 ≡ empty) × (t.2 ≡ empty)) }
+{
+    let senders = LocalSenders::open(alloc)?;
+    let wants = LocalWants::open(alloc)?;
+    let due = Countdowns::open(alloc)?;
+    Ok((senders, wants, due))
+}
+
+// Reservations of each style: none.
+fn open_resvs(
+    alloc: Global,
+) -> Result<(ResvTable<Wild>, ResvTable<Fixed>, ResvTable<Shared>), NoMemory>
+    ensures { IfOk result (λ t. (t.0 ≡ record { facts = empty; dead = empty }) × (t.1 ≡ record { facts = empty; dead = empty }) × (t.2 ≡ record { facts = empty; dead = empty })) }
+{
+    let wild = ResvTable::open(alloc)?;
+    let fixed = ResvTable::open(alloc)?;
+    let shared = ResvTable::open(alloc)?;
+    Ok((wild, fixed, shared))
+}
