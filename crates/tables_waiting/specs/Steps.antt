@@ -1,5 +1,5 @@
 -- What holds of the tables of a node in the middle of a wait, and which sessions are touched.
-use Rattle.std.specs.Prelude.{◌≡◌, ℕ, ◌≤◌, List, ◌++◌, length}
+use Rattle.std.specs.Prelude.{ℕ, ◌≤◌, List, ◌++◌, length}
 use Rattle.rsvp_base.specs.declared.session.Session.{Session}
 use Rattle.blockade_state.specs.Touched.{dying}
 use Rattle.node_tables.specs.Whole.{ArePulled, IsBooked}

@@ -1,13 +1,13 @@
-use Rattle.std.proofs.Common.{ℕ, length, refl, sym, ap, ◌∙◌, ◌++◌, arith}
+use Rattle.std.proofs.Common.{length, refl, ap, ◌∙◌, ◌++◌, arith}
 use Rattle.rsvp_base.specs.Table.{empty}
-use Rattle.rsvp_base.specs.declared.style.StyleKind.TheVariants.{Wild, Fixed, Shared}
+use Rattle.rsvp_base.specs.declared.style.StyleKind.TheVariants.{Wild, Fixed}
 use Rattle.path_state.specs.Paths.{PathMap}
 use Rattle.resv_state.specs.Resvs.{ResvMap}
 use Rattle.router_rules.specs.Facts.{Facts}
 use Rattle.node_facts.specs.State.{facts_of}
 use Rattle.node_tables.specs.Whole.{state_of}
 use Rattle.node_waiting.specs.Passing.{dying_paths, sessions_at}
-use Rattle.blockade_state.specs.Touched.{Marks, dying, touched_by}
+use Rattle.blockade_state.specs.Touched.{dying, touched_by}
 use Rattle.resv_book.specs.Kept.{facts_with}
 use Rattle.resv_waiting.specs.Passed.{dying_in}
 use Rattle.tables_waiting.proofs.Booked.{book_at, touched_both}

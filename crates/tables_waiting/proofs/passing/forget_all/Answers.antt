@@ -1,6 +1,6 @@
-use Rattle.std.proofs.Common.{ℕ, length, refl, sym, ap, ◌∙◌, arith}
+use Rattle.std.proofs.Common.{length, refl, ap, ◌∙◌, arith}
 use Rattle.rsvp_base.specs.Table.{empty}
-use Rattle.rsvp_base.specs.declared.style.StyleKind.TheVariants.{Wild, Fixed, Shared}
+use Rattle.rsvp_base.specs.declared.style.StyleKind.TheVariants.{Wild, Fixed}
 use Rattle.resv_state.specs.Resvs.{ResvMap}
 use Rattle.router_rules.specs.Facts.{Facts}
 use Rattle.node_facts.specs.State.{facts_of}
