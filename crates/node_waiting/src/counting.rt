@@ -27,8 +27,8 @@ pub fn watch_all(due: &Countdowns) -> Touched
     touched
 }
 
-// Whether a session has a local sender or a path.
-fn counts(senders: &LocalSenders, paths: &PathTable, session: Session) -> bool
+/// Whether a session has a local sender or a path.
+pub fn is_counted(senders: &LocalSenders, paths: &PathTable, session: Session) -> bool
     ensures { result ≡ counts senders.now paths.now.facts session }
 {
     if senders.of(session).is_empty() {
@@ -37,8 +37,8 @@ fn counts(senders: &LocalSenders, paths: &PathTable, session: Session) -> bool
     true
 }
 
-// Stops the countdown of a session, unless it stays.
-fn stop_unless(due: &mut Countdowns, stays: bool, session: Session)
+/// Stops the countdown of a session, unless it stays.
+pub fn stop_unless(due: &mut Countdowns, stays: bool, session: Session)
     ensures { due.new ≡ cond stays due.old (without due.old session) }
 {
     if !stays {
@@ -63,7 +63,7 @@ pub fn stop_uncounted(
         let Some((session, _)) = watched.at(k) else {
             return;
         };
-        stop_unless(due, counts(senders, paths, session), session);
+        stop_unless(due, is_counted(senders, paths, session), session);
     }
 }
 

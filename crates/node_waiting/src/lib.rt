@@ -12,7 +12,7 @@ pub mod laws;
 mod losing;
 mod telling;
 
-pub use counting::{begin_all, stop_uncounted, watch_all};
+pub use counting::{begin_all, is_counted, stop_uncounted, stop_unless, watch_all};
 pub use dead::{DeadPath, DeadPaths, age_paths};
 pub use known::KnownSenders;
 pub use losing::lost_name;

@@ -36,8 +36,8 @@ pub fn forget_dead<S: Style>(
     }
 }
 
-// The name of one sender.
-fn forget_one<S: Style>(
+/// The name of one sender leaves the reservations of a style, as `forget_dead` has it of many.
+pub fn forget_one<S: Style>(
     table: &mut ResvTable<S>,
     book: &mut Book,
     senders: &LocalSenders,

@@ -6,4 +6,4 @@ mod aging;
 mod forgetting;
 
 pub use aging::age_resvs;
-pub use forgetting::forget_dead;
+pub use forgetting::{forget_dead, forget_one};

@@ -18,7 +18,7 @@ pub loop-k-preserved : goal.loop-k-preserved
 loop-k-preserved c =
     let d = (goal.at.loop-k-preserved c).In-Some in
     c.stop_unless.ensures
-    ∙ stopped_more (counts c.args.senders.now c.args.paths.now.facts) c.loop-k.due c.args.due.now (keys c.args.watched.now) c.loop-k.k c.in-Some.session c.loop-k.invariant (slot d) c.counts.result (sym c.counts.ensures)
+    ∙ stopped_more (counts c.args.senders.now c.args.paths.now.facts) c.loop-k.due c.args.due.now (keys c.args.watched.now) c.loop-k.k c.in-Some.session c.loop-k.invariant (slot d) c.is_counted.result (sym c.is_counted.ensures)
 
 pub returns-in_default : goal.returns-in_default
 returns-in_default c =
