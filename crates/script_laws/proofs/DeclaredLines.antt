@@ -1,4 +1,4 @@
--- Each line of a script keeps the network that is declared valid, where each link has two to eight ends.
+-- Each line of a script keeps the network that is declared valid.
 use Rattle.std.proofs.Common.{◌≡◌, ℕ, suc, ◌<◌, List, [], ◌∷◌, length, Bool, true, false, cond, Some, None, inl, inr, ⊎_elim, arith, refl, sym, ap, subst, ◌∙◌, length-append}
 use Rattle.std.specs.Prelude.{◌++◌, map as each, nat_lt, unwrap_or, IsSome}
 use Rattle.std.specs.List.{All, position_or_len}
@@ -28,6 +28,7 @@ use Rattle.script_grammar.specs.Rules.{AreOfDifferentNodes, IsEnd, Keeps, KeepsA
 use Rattle.script_grammar.specs.Values.{end_value, tree_hop_value}
 use Rattle.script_laws.specs.Networks.{HasFitLinks}
 use Rattle.script_laws.specs.Scripts.{EachScriptDeclaresAValidNetwork}
+use Rattle.script_laws.proofs.FitLinks.{each_link_has_its_ends}
 use Rattle.script_laws.proofs.Leading.{led}
 
 -- ---- names and their numbers
@@ -181,7 +182,7 @@ at_first = record {
 }
 
 pub each_script_declares_a_valid_network : EachScriptDeclaresAValidNetwork
-each_script_declares_a_valid_network bytes p is fit =
+each_script_declares_a_valid_network bytes p is =
     let h = led Declared (λ d text new g f. by_line d f.said new g f.valid f.adds) (text_lines bytes) nothing is.lines at_first is.leads in
     let net : p.net ≡ is.lines.net = ap (λ (z : Plan). z.net) is.says in
-    subst IsValid (sym net) (h.valid (subst HasFitLinks net fit))
+    subst IsValid (sym net) (h.valid (subst HasFitLinks net (each_link_has_its_ends bytes p is)))

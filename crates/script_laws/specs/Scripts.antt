@@ -19,6 +19,10 @@ pub record HasHosts (p : Plan) : Type 0 where
 abbrev pub EachScriptHasHosts : Type 0
 EachScriptHasHosts = (bytes : List ℕ) (p : Plan) → IsScript bytes p → HasHosts p
 
--- the network that it declares is valid where its links have two to eight ends, which is the form of a `link` line
+-- each link has two to eight ends
+abbrev pub EachLinkHasItsEnds : Type 0
+EachLinkHasItsEnds = (bytes : List ℕ) (p : Plan) → IsScript bytes p → HasFitLinks p.net
+
+-- the network that it declares is valid
 abbrev pub EachScriptDeclaresAValidNetwork : Type 0
-EachScriptDeclaresAValidNetwork = (bytes : List ℕ) (p : Plan) → IsScript bytes p → HasFitLinks p.net → IsValid p.net
+EachScriptDeclaresAValidNetwork = (bytes : List ℕ) (p : Plan) → IsScript bytes p → IsValid p.net

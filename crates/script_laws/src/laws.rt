@@ -1,6 +1,6 @@
 //! The laws.
 ghost use Rattle.script_laws.specs.Networks.{ANewTreeKeepsANetworkValid};
-ghost use Rattle.script_laws.specs.Scripts.{EachScriptDeclaresAValidNetwork, EachScriptHasHosts, EachScriptLetsFewSend};
+ghost use Rattle.script_laws.specs.Scripts.{EachLinkHasItsEnds, EachScriptDeclaresAValidNetwork, EachScriptHasHosts, EachScriptLetsFewSend};
 
 /// A valid script lets few senders send: at each point of its events at most 16 of a session, each to a group, and 32 sessions
 /// have one. So its plan meets what `network_steps` asks of the senders of a run.
@@ -19,8 +19,12 @@ pub fn a_new_tree_keeps_a_network_valid()
     ensures { ANewTreeKeepsANetworkValid }
 {}
 
-/// The network that a valid script declares is a valid one, where each of its links has two to eight ends. That they have, as the
-/// words of a `link` line say, is not shown here.
+/// Each link that a valid script declares has two to eight ends.
+pub fn each_link_has_its_ends()
+    ensures { EachLinkHasItsEnds }
+{}
+
+/// The network that a valid script declares is a valid one.
 pub fn each_script_declares_a_valid_network()
     ensures { EachScriptDeclaresAValidNetwork }
 {}
