@@ -1,5 +1,5 @@
 -- What local senders do that come and go, by what the code tests.
-use Rattle.std.specs.Prelude.{◌≡◌, ℕ, true, false, Option, Some, None, refl}
+use Rattle.std.specs.Prelude.{◌≡◌, ℕ, true, false, Option, Some, None}
 use Rattle.std.proofs.Common.{ap, ◌∙◌}
 use Rattle.rsvp_base.specs.Orders.{senders}
 use Rattle.rsvp_base.specs.SessionLimits.{has_room_at}

@@ -1,29 +1,22 @@
 -- Which sessions count once a sender came or went, and that there is room for their countdowns.
-use Rattle.std.specs.Prelude.{◌≡◌, ℕ, ◌<◌, ◌==◌, ◌||◌, nat_lt, Bool, true, false, cond, not, is_some, zero, suc, length, List, [], ◌∷◌, map as each, Some, None, ◌⊎◌, refl}
-use Rattle.std.specs.FinMap.Entries.{find}
-use Rattle.rsvp_base.specs.Under.{under}
-use Rattle.rsvp_base.proofs.UnderLaws.{get-under}
+use Rattle.std.specs.Prelude.{◌≡◌, ℕ, ◌<◌, ◌||◌, Bool, true, false, cond, not, is_some, Some, None, ◌⊎◌, refl}
 use Rattle.std.specs.Ordering.{eq_by_cmp}
-use Rattle.std.proofs.Common.{sym, ap, inl, inr, ◌∙◌, arith}
-use Rattle.std.proofs.lemmas.Bool.{eqb-true, lt-ltb}
-use Rattle.std.proofs.lemmas.List.{length-map}
+use Rattle.std.proofs.Common.{sym, ap, inl, inr, ◌∙◌}
 use Rattle.path_state.specs.Paths.{path_keys}
-use Rattle.path_state.specs.declared.fact.PathFact.{PathFact}
 use Rattle.rsvp_base.specs.Keys.{Keys}
-use Rattle.rsvp_base.specs.Orders.{sessions, senders}
+use Rattle.rsvp_base.specs.Orders.{senders}
 use Rattle.rsvp_base.specs.SessionLimits.{IsWithinSessionLimits}
-use Rattle.rsvp_base.specs.Table.{Table, changed, get, has, put_in, size, without}
+use Rattle.rsvp_base.specs.Table.{Table, get, has, put_in, size, without}
 use Rattle.rsvp_base.specs.declared.session.Session.{Session}
 use Rattle.rsvp_base.specs.declared.session.Sender.{Sender}
 use Rattle.rsvp_base.proofs.SetLaws.{or_either, or_left, or_right}
-use Rattle.rsvp_base.proofs.Tables.{either, get-put_in, get-put_in_same, get-without, same_table, tied_same, tied_self}
+use Rattle.rsvp_base.proofs.Tables.{either, get-put_in, get-put_in_same, get-without, same_table, tied_same}
 use Rattle.router_lookups.proofs.Lists.{none_is}
-use Rattle.router_rules.specs.Facts.{SenderKey, sender_keys}
+use Rattle.router_rules.specs.Facts.{SenderKey}
 use Rattle.router_rules.specs.Forgetting.{counted}
 use Rattle.router_rules.specs.Known.{known}
-use Rattle.router_rules.specs.NodeConfig.{period}
 use Rattle.router_lookups.proofs.Knowing.{counted_made, counted_told, has-known}
-use Rattle.node_facts.specs.Changes.{counts_in, due_after, recounted, started}
+use Rattle.node_facts.specs.Changes.{counts_in, due_after, started}
 use Rattle.node_facts.specs.State.{IsSettled, State, facts_of, path_at}
 use Rattle.node_facts.proofs.Room.{due_room, within_same}
 use Rattle.node_facts.proofs.Routed.{same_test}
@@ -86,44 +79,6 @@ module _ (n : State) (kept : IsSettled n) where
   goes_on m s own paths p h =
       let there : has n.due s ≡ true = kept.counted 0 s ∙ counted_more m n own paths 0 0 s h in
       sym (ap (λ b. started b s p n.due) there)
-
--- ---- as the code finds it
-module _ {X : Type 0} (t : Table sender_keys X) (s : Session) where
-  pub some_there : (x : Sender) → has t (s, x) ≡ true → nat_lt 0 (size (under sessions senders t s)) ≡ true
-  some_there x h = by (under sessions senders t s).rows refl
-    where
-      by : (es : List (Sender × X)) → (under sessions senders t s).rows ≡ es → nat_lt 0 (length es) ≡ true
-      by (e ∷ es) is = lt-ltb 0 (length (e ∷ es)) (omega arith)
-      by [] is = let z : false ≡ true = sym (ap (λ rs. is_some (find senders.cmp x rs)) is) ∙ ap is_some (get-under sessions senders t s x) ∙ h in absurd (cc)
-
-  pub there_some : nat_lt 0 (size (under sessions senders t s)) ≡ true → (x : Sender) × (has t (s, x) ≡ true)
-  there_some h = by (under sessions senders t s).rows refl h
-    where
-      by : (es : List (Sender × X)) → (under sessions senders t s).rows ≡ es → nat_lt 0 (length es) ≡ true → (x : Sender) × (has t (s, x) ≡ true)
-      by [] is h = cc
-      by (e ∷ es) is h = (e.0, ap is_some (sym (get-under sessions senders t s e.0) ∙ ap (find senders.cmp e.0) is ∙ ap (λ b. cond b (Some e.1) (find senders.cmp e.0 es)) (tied_self senders e.0)))
-
-pub counted_is : (c : ℕ) (m : State) (s : Session) → (nat_lt 0 (size (under sessions senders m.senders s)) || nat_lt 0 (size (under sessions senders m.paths s))) ≡ has (counted (facts_of c m)) s
-counted_is c m s = same_test _ _ (λ h. to (or_either _ _ h)) (λ h. let t = counted_told (facts_of c m) s h in from t.0 (or_either _ _ (sym (known_is c m s t.0) ∙ t.1)))
-  where
-    to : ((nat_lt 0 (size (under sessions senders m.senders s)) ≡ true) ⊎ (nat_lt 0 (size (under sessions senders m.paths s)) ≡ true)) → has (counted (facts_of c m)) s ≡ true
-    to (inl a) = let x = there_some m.senders s a in counted_made (facts_of c m) s x.0 (known_is c m s x.0 ∙ or_left _ _ x.1)
-    to (inr b) = let x = there_some m.paths s b in counted_made (facts_of c m) s x.0 (known_is c m s x.0 ∙ or_right (has m.senders (s, x.0)) _ x.1)
-
-    from : (x : Sender) → ((has m.senders (s, x) ≡ true) ⊎ (has m.paths (s, x) ≡ true)) → (nat_lt 0 (size (under sessions senders m.senders s)) || nat_lt 0 (size (under sessions senders m.paths s))) ≡ true
-    from x (inl a) = or_left _ _ (some_there m.senders s x a)
-    from x (inr b) = or_right (nat_lt 0 (size (under sessions senders m.senders s))) _ (some_there m.paths s x b)
-
--- a list that stands for rows has one where they have
-pub some_rows : {A K X : Type 0} (row : A → K × X) (xs : List A) (es : List (K × X)) → each row xs ≡ es → (length es == 0) ≡ (length xs == 0)
-some_rows row xs es is = ap (λ n. n == 0) (ap length (sym is) ∙ length-map xs row)
-
-pub no_rows : (n : ℕ) → (n == 0) ≡ true → nat_lt 0 n ≡ false
-no_rows n h = ap (nat_lt 0) (eqb-true n 0 h)
-
-pub rows_there : (n : ℕ) → (n == 0) ≡ false → nat_lt 0 n ≡ true
-rows_there zero h = cc
-rows_there (suc n) h = lt-ltb 0 (suc n) (omega arith)
 
 -- a table loses nothing where the key has none
 pub without_none : {K X : Type 0} (o : Keys K) (t : Table o X) (k : K) → has t k ≡ false → without t k ≡ t

@@ -1,5 +1,4 @@
 pub mod Settles
-pub mod Doing
 pub mod Pathing
 pub mod Keeping
 pub mod Offering
@@ -8,3 +7,4 @@ pub mod Ruled
 pub mod Before
 mod Opened
 mod Refused
+pub mod Going

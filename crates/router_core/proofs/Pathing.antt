@@ -1,5 +1,5 @@
 -- What a Path and a PathTear do, by what the code tests.
-use Rattle.std.specs.Prelude.{◌≡◌, ℕ, ◌+◌, Bool, true, false, cond, not, Option, Some, None, refl}
+use Rattle.std.specs.Prelude.{◌≡◌, ℕ, Bool, true, false, cond, not, Option, Some, None, refl}
 use Rattle.std.specs.Ordering.{eq_by_cmp}
 use Rattle.std.proofs.Common.{sym, ap, ◌∙◌}
 use Rattle.path_state.specs.Paths.{path_keys}
@@ -14,10 +14,10 @@ use Rattle.rsvp_messages.specs.declared.message.Message.TheVariants as message
 use Rattle.rsvp_messages.specs.declared.message.PathMsg.{PathMsg}
 use Rattle.rsvp_messages.specs.declared.message.PathTearMsg.{PathTearMsg}
 use Rattle.router_rules.specs.Act.{act, act_spelt}
-use Rattle.router_rules.specs.Facts.{Facts, SenderKey}
-use Rattle.router_rules.specs.Inputs.{Change, only_heard}
+use Rattle.router_rules.specs.Facts.{SenderKey}
+use Rattle.router_rules.specs.Inputs.{only_heard}
 use Rattle.router_rules.specs.Paths.{act_path, act_path_tear, is_path_by, learn, learn_inward, learnt, path_state, tear_path, torn_path, with_paths}
-use Rattle.router_rules.specs.NodeConfig.{NodeConfig, comes_in, is_addr, lifetime}
+use Rattle.router_rules.specs.NodeConfig.{comes_in, lifetime}
 use Rattle.router_rules.specs.declared.answers.Heard.TheVariants as heard
 use Rattle.router_rules.specs.declared.answers.Why.TheVariants as why
 use Rattle.router_lookups.proofs.Tests.{addr_tested}

@@ -1,5 +1,5 @@
 -- An input that is refused, and one that changes the tables of one session.
-use Rattle.std.specs.Prelude.{◌≡◌, ℕ, [], Bool, true, false, cond, fold, refl}
+use Rattle.std.specs.Prelude.{◌≡◌, ℕ, [], Bool, true, false, cond, fold, length, ◌≤◌}
 use Rattle.std.proofs.Common.{ap, sym, subst, ◌∙◌}
 use Rattle.rsvp_base.specs.Table.{empty}
 use Rattle.router_rules.specs.Act.{act}
@@ -7,8 +7,9 @@ use Rattle.router_rules.specs.Inputs.{Input, Send, only_heard}
 use Rattle.router_rules.specs.Rule.{facts_after, is_silent, sent_after}
 use Rattle.router_rules.specs.declared.answers.Heard.{Heard}
 use Rattle.node_facts.specs.State.{AreUnmarked, IsSettled, Said, State, facts_at, facts_of}
-use Rattle.node_tables.specs.Whole.{ArePulled, IsBooked, IsOfPlace, state_of}
+use Rattle.node_tables.specs.Whole.{IsBooked, IsOfPlace, state_of}
 use Rattle.node_tables.specs.declared.tables.Tables.{Tables}
+use Rattle.tables_waiting.specs.Steps.{AreSound}
 use Rattle.router_core.proofs.Ruled.{facts_same, sent_none}
 
 -- n is what there was, seen as m
@@ -29,19 +30,20 @@ module _ (t : Tables) (said : Said) (b : Bool) (w n : State) (is : state_of t em
 
 -- ---- tables with other paths, local senders and countdowns
 module _ (old new : Tables) (rest : new ≡ record old { senders = new.senders; paths = new.paths; due = new.due }) where
-  pub still_pulled : new.paths.dead.rows ≡ [] → ArePulled old → ArePulled new
-  still_pulled paths was = record {
-    paths = paths;
-    wild = ap (λ (t : Tables). t.wild.dead.rows) rest ∙ was.wild;
-    fixed = ap (λ (t : Tables). t.fixed.dead.rows) rest ∙ was.fixed;
-    shared = ap (λ (t : Tables). t.shared.dead.rows) rest ∙ was.shared;
+  pub still_sound : new.paths.dead.rows ≡ [] → AreSound old → AreSound new
+  still_sound paths was = record {
+    pulled = record {
+      paths = paths;
+      wild = ap (λ (t : Tables). t.wild.dead.rows) rest ∙ was.pulled.wild;
+      fixed = ap (λ (t : Tables). t.fixed.dead.rows) rest ∙ was.pulled.fixed;
+      shared = ap (λ (t : Tables). t.shared.dead.rows) rest ∙ was.pulled.shared;
+    };
+    booked = subst IsBooked (sym rest) was.booked;
+    few = subst (λ (t : Tables). length t.book.ifaces ≤ 16) (sym rest) was.few;
   }
 
   pub still_unmarked : AreUnmarked old.wants → AreUnmarked new.wants
   still_unmarked was = subst (λ (t : Tables). AreUnmarked t.wants) (sym rest) was
-
-  pub still_booked : IsBooked old → IsBooked new
-  still_booked was = subst IsBooked (sym rest) was
 
   pub still_of_place : IsOfPlace old → IsOfPlace new
   still_of_place was = subst IsOfPlace (sym rest) was

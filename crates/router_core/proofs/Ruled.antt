@@ -1,8 +1,9 @@
 -- What a call does is its rule: the facts after, and what is sent, where no want is marked.
-use Rattle.std.specs.Prelude.{◌≡◌, ℕ, Bool, true, false, List, [], ◌||◌, Some, refl}
+use Rattle.std.specs.Prelude.{◌≡◌, ℕ, Bool, true, false, [], ◌||◌}
 use Rattle.std.proofs.Common.{sym, ap, subst, ◌∙◌}
 use Rattle.rsvp_base.specs.Table.{has}
 use Rattle.rsvp_base.proofs.SetLaws.{or_either, or_left, or_right}
+use Rattle.rsvp_base.specs.declared.addr.Addr.{Addr}
 use Rattle.rsvp_base.specs.declared.session.Session.{Session}
 use Rattle.rsvp_base.specs.declared.session.Sender.{Sender}
 use Rattle.std.specs.Prelude.{◌⊎◌}
@@ -10,9 +11,9 @@ use Rattle.std.proofs.Common.{inl, inr}
 use Rattle.router_rules.specs.Act.{act}
 use Rattle.router_rules.specs.Facts.{Facts, SenderKey}
 use Rattle.router_rules.specs.Forgetting.{counted, forget}
-use Rattle.router_rules.specs.Inputs.{Change, Input, Send, only_heard}
+use Rattle.router_rules.specs.Inputs.{Arrival, Came, Change, Input, only_heard}
 use Rattle.router_rules.specs.Known.{known}
-use Rattle.router_rules.specs.Rule.{facts_after, is_silent, sent_after, settled, unless_silent}
+use Rattle.router_rules.specs.Rule.{facts_after, heard_after, is_silent, sent_after, settled, unless_silent}
 use Rattle.router_rules.specs.Sends.{sends}
 use Rattle.router_rules.specs.declared.answers.Heard.{Heard}
 use Rattle.node_facts.specs.Changes.{recounted}
@@ -71,3 +72,8 @@ module _ (n : State) (kept : IsSettled n) (c : ℕ) (i : Input) (loud : is_silen
     pub sent_done : sends n.place n.place (facts_of c n) (facts_of c (recounted m k.0 counts)) (only_heard h (facts_of c (recounted m k.0 counts))) ≡ sent_after n.place n.place c i (facts_at c n)
     unfolding facts_at
     sent_done = ap (λ g. sends n.place n.place (facts_of c n) g (only_heard h g)) all_settled ∙ sym (by_rule g does)
+
+-- ---- what is heard
+pub heard_is : (n : State) (c e : ℕ) (dst : Addr) (a : Arrival) (g : Facts) (h : Heard) → act n.place c (Came e dst a) (facts_of c n) ≡ only_heard h g → h ≡ heard_after n.place c e dst a (facts_at c n)
+unfolding facts_at heard_after
+heard_is n c e dst a g h does = sym (ap (λ (k : Change). k.heard) does)

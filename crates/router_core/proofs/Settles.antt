@@ -1,58 +1,30 @@
--- What settling makes of a node whose one sender changed, and that has no reservations.
+-- What settling makes of a node whose one sender changed.
 use Rattle.std.specs.Prelude.{◌≡◌, ℕ, ◌+◌, ◌||◌, Bool, true, false, cond, not, is_some, Option, Some, None, refl}
 use Rattle.std.specs.Option.{unwrap_or}
 use Rattle.std.specs.Ordering.{eq_by_cmp}
 use Rattle.std.proofs.Common.{sym, ap, subst, ◌∙◌}
 use Rattle.path_state.specs.Paths.{path_keys}
-use Rattle.resv_state.specs.Resvs.{ResvFacts}
-use Rattle.rsvp_base.specs.Keys.{Keys}
 use Rattle.rsvp_base.specs.Orders.{sessions}
-use Rattle.rsvp_base.specs.Table.{Table, changed, empty, get, has, put_in, without}
+use Rattle.rsvp_base.specs.Table.{Table, changed, get, has, without}
 use Rattle.rsvp_base.specs.declared.session.Sender.{Sender}
 use Rattle.rsvp_base.specs.declared.session.Session.{Session}
 use Rattle.rsvp_base.specs.declared.style.StyleKind.{StyleKind}
-use Rattle.rsvp_base.specs.declared.style.StyleKind.TheVariants.{Wild, Fixed, Shared}
 use Rattle.rsvp_base.proofs.Tables.{either, get-changed, get-put_in_other, get-put_in_same, get-without, same_table, then_do, tied_same, tied_self}
 use Rattle.style_rules.specs.Lines.{LineKey}
-use Rattle.style_rules.specs.Parts.{has_name}
-use Rattle.router_rules.specs.Facts.{Facts, ResvState, SenderKey, resvs_of, sender_keys}
-use Rattle.router_rules.specs.Forgetting.{counted, forget, remembered, settle}
+use Rattle.router_rules.specs.Facts.{Facts, ResvState, SenderKey, resvs_of}
+use Rattle.router_rules.specs.Forgetting.{counted, forget, settle}
 use Rattle.router_rules.specs.Known.{known}
-use Rattle.router_rules.specs.NodeConfig.{NodeConfig, period}
+use Rattle.router_rules.specs.NodeConfig.{period}
 use Rattle.router_rules.specs.Rule.{settled}
 use Rattle.router_lookups.proofs.Knowing.{counted_made, counted_told, has-known}
 use Rattle.router_lookups.proofs.Leaving.{countdowns_settle}
 use Rattle.node_facts.specs.Changes.{started}
-use Rattle.node_facts.specs.State.{AreNamed, IsSettled, State, due_at, facts_of, path_at, resv_at}
+use Rattle.node_facts.specs.State.{AreNamed, IsSettled, State, due_at, facts_of, path_at}
 use Rattle.node_facts.proofs.Counted.{counted_settled}
 use Rattle.node_facts.proofs.Routed.{same_test}
 use Rattle.node_sends.specs.Changed.{IsChangedFor}
 use Rattle.node_sends.proofs.Apart.{session_apart}
-use Rattle.router_core.specs.Bare.{IsBare}
 use Rattle.node_facts.specs.Changes.{due_after, recounted}
-
--- ---- no reservations
-none_there : {K X Y : Type 0} {o : Keys K} (R : K → Y → Option Y) (F : K → X → Option Y) (t : Table o X) → t ≡ empty → changed R (changed F t) ≡ changed F t
-none_there R F t e = ap (λ z. changed R (changed F z)) e ∙ sym (ap (changed F) e)
-
-pub forget_bare : (f : Facts) (c : ℕ) (m : State) → IsBare m → forget f (facts_of c m) ≡ facts_of c m
-forget_bare f c m bare =
-    let g = facts_of c m in
-    let w = none_there (remembered Wild f g) (resv_at c) m.wild bare.wild in
-    let x = none_there (remembered Fixed f g) (resv_at c) m.fixed bare.fixed in
-    let s = none_there (remembered Shared f g) (resv_at c) m.shared bare.shared in
-    λ i. record g { resvs = record { wild = w i; fixed = x i; shared = s i } }
-
-pub named_bare : (m : State) → IsBare m → (c : ℕ) (st : StyleKind) (k : LineKey) (r : ResvState) → get (resvs_of st (facts_of c m)) k ≡ Some r → has_name r.part ≡ true
-named_bare m bare c st k r e = absurd (no st e)
-  where
-    of : (t : ResvFacts) → t ≡ empty → get (changed (resv_at c) t) k ≡ Some r → ⊥
-    of t is e = let z : ◌≡◌ {A = Option ResvState} None (Some r) = sym (ap (λ (z : ResvFacts). get (changed (resv_at c) z) k) is) ∙ e in cc
-
-    no : (st : StyleKind) → get (resvs_of st (facts_of c m)) k ≡ Some r → ⊥
-    no Wild e = of m.wild bare.wild e
-    no Fixed e = of m.fixed bare.fixed e
-    no Shared e = of m.shared bare.shared e
 
 -- ---- one sender changed
 module _ (k : SenderKey) (n m : State) (ch : IsChangedFor k n m) (c : ℕ) where
@@ -138,11 +110,3 @@ module _ (k : SenderKey) (n m : State) (ch : IsChangedFor k n m) (kept : IsSettl
     where
       recounted_resvs : (c : ℕ) (st : StyleKind) (q : LineKey) (r : ResvState) → get (resvs_of st (facts_of c (recounted m k.0 counts))) q ≡ Some r → get (resvs_of st (facts_of c m)) q ≡ Some r
       recounted_resvs c st q r e = e
-
--- of a node without reservations
-module _ (k : SenderKey) (n m : State) (ch : IsChangedFor k n m) (kept : IsSettled n) (none : IsBare m) (due : m.due ≡ n.due) (counts : Bool) (is : (c : ℕ) → counts ≡ has (counted (facts_of c m)) k.0) where
-  pub change_settles : (c : ℕ) → facts_of c (recounted m k.0 counts) ≡ settled m.place c (facts_of c n) (facts_of c m)
-  change_settles c = change_settled k n m ch kept due counts is c (facts_of c m) (sym (forget_bare (facts_of c n) c m none))
-
-  pub settled_after : IsSettled (recounted m k.0 counts)
-  settled_after = after_settled k n m ch kept due counts is (λ c. facts_of c m) (λ c. sym (forget_bare (facts_of c n) c m none)) (named_bare m none)

@@ -6,7 +6,7 @@ ghost use Rattle.rsvp_base.specs.Table.{empty, put_in};
 ghost use Rattle.router_rules.specs.NodeConfig.{lifetime};
 ghost use Rattle.node_facts.specs.State.{IsSettled};
 ghost use Rattle.node_tables.specs.Whole.{state_of};
-ghost use Rattle.router_core.specs.Bare.{fact_of, with_path, with_sender};
+ghost use Rattle.router_core.specs.Coming.{fact_of, with_path, with_sender};
 
 use node_tables::Tables;
 use path_state::PathFact;

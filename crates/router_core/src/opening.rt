@@ -2,7 +2,8 @@
 ghost use Rattle.std.specs.Prelude.{◌≡◌, IfOk};
 ghost use Rattle.rsvp_base.specs.Table.{empty};
 ghost use Rattle.node_facts.specs.State.{no_state};
-ghost use Rattle.node_tables.specs.Whole.{ArePulled, IsBooked, IsOfPlace, state_of};
+ghost use Rattle.node_tables.specs.Whole.{IsOfPlace, state_of};
+ghost use Rattle.tables_waiting.specs.Steps.{AreSound};
 
 use blockade_state::Blockades;
 use local_state::{Countdowns, LocalSenders, LocalWants};
@@ -17,10 +18,11 @@ use style_rules::{Fixed, Shared, Wild};
 /// A router's tables without facts. They take no memory later. `NoMemory`: the room could not be had.
 pub(crate) fn open_tables(alloc: Global, config: Config) -> Result<Tables, NoMemory>
     ensures state { IfOk result (λ t. state_of t empty ≡ no_state config) }
-    ensures pulled { IfOk result ArePulled }
-    ensures booked { IfOk result IsBooked }
+    ensures sound { IfOk result AreSound }
     ensures place { IfOk result IsOfPlace }
 {
+    // The proof sees here that the interfaces are few.
+    let _ifaces = config.ifaces();
     let (senders, wants, due) = open_local(alloc)?;
     let (wild, fixed, shared) = open_resvs(alloc)?;
     let paths = PathTable::open(alloc)?;

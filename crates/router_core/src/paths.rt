@@ -1,19 +1,17 @@
 //! Paths and PathTears arrive.
-ghost use Rattle.std.specs.Prelude.{◌≡◌, ◌==◌, ◌&&◌, ℕ, fold};
+ghost use Rattle.std.specs.Prelude.{◌≡◌, ℕ, fold};
 ghost use Rattle.rsvp_messages.specs.declared.message.Message.TheVariants as message_of;
 ghost use Rattle.router_rules.specs.Inputs.{Spelt};
 ghost use Rattle.router_rules.specs.Rule.{facts_after, heard_after, sent_after};
 ghost use Rattle.node_facts.specs.Changes.{path_came, tear_came};
-ghost use Rattle.rsvp_base.specs.Table.{get};
-ghost use Rattle.router_rules.specs.NodeConfig.{is_addr};
-ghost use Rattle.router_rules.specs.Paths.{is_path_by};
-ghost use Rattle.node_facts.specs.State.{facts_at, facts_of};
+ghost use Rattle.node_facts.specs.State.{facts_at};
 
+use crate::learning::learn_path;
+use crate::leaving::{drop_path, has_path_by};
 use crate::node::Node;
+use lane_telling::{offered, tell_sender};
 use node_telling::Outbox;
-use path_state::PathFact;
 use router_rules::{Heard, Why};
-use rsvp_base::{Addr, Sender, Session};
 use rsvp_messages::{PathMsg, PathTearMsg};
 
 impl Node {
@@ -25,19 +23,27 @@ impl Node {
         ensures sent { (c : ℕ) → out.new ≡ fold O.posted out.old (sent_after self.old.place self.old.place c (path_came iface message.now) (facts_at c self.old)) }
         ensures place { self.new.place ≡ self.old.place }
     {
-        let config = self.config();
+        let session = message.session;
+        let near = self.tables.paths.hops(session);
         let Some((sender, tspec)) = message.sender else {
             return Heard::Dropped(Why::NoSender);
         };
-        let session = message.session;
-        if !config.comes_in(session, iface, sender) {
+        if !self.tables.config.comes_in(session, iface, sender) {
             return Heard::Dropped(Why::NotInward);
         }
-        let before = self.offered(session, sender);
-        if !self.keep_path(iface, message, sender, tspec) {
+        let before = offered(&self.tables, session, sender);
+        if !learn_path(&mut self.tables, iface, message, sender, tspec) {
             return Heard::Dropped(Why::Full);
         }
-        self.tell(session, sender, &before, out);
+        tell_sender(
+            &self.tables,
+            &mut self.said,
+            session,
+            sender,
+            &before,
+            &near,
+            out,
+        );
         Heard::Taken
     }
 
@@ -49,35 +55,26 @@ impl Node {
         ensures sent { (c : ℕ) → out.new ≡ fold O.posted out.old (sent_after self.old.place self.old.place c (tear_came iface message.now) (facts_at c self.old)) }
         ensures place { self.new.place ≡ self.old.place }
     {
-        // The proof sees here what holds of every node.
-        let _config = self.config();
+        let session = message.session;
+        let hop = message.hop.addr;
+        let near = self.tables.paths.hops(session);
         let Some(sender) = message.sender else {
             return Heard::Dropped(Why::NoSender);
         };
-        let session = message.session;
-        if !self.has_path_by(session, sender, iface, message.hop.addr) {
+        if !has_path_by(&self.tables.paths, session, sender, iface, hop) {
             return Heard::Dropped(Why::NoState);
         }
-        let before = self.offered(session, sender);
-        self.drop_path(session, sender);
-        self.tell(session, sender, &before, out);
+        let before = offered(&self.tables, session, sender);
+        drop_path(&mut self.tables, session, sender);
+        tell_sender(
+            &self.tables,
+            &mut self.said,
+            session,
+            sender,
+            &before,
+            &near,
+            out,
+        );
         Heard::Taken
     }
-
-    // Whether a sender's path came by an interface and hop.
-    fn has_path_by(&self, session: Session, sender: Sender, iface: u8, hop: Addr) -> bool
-        ensures { (c : ℕ) → result ≡ is_path_by (iface, hop) (get (facts_of c self.now).paths (session, sender)) }
-    {
-        match self.paths.find(session, sender) {
-            Some(fact) => came_by(&fact, iface, hop),
-            None => false,
-        }
-    }
-}
-
-// Whether a path came by an interface and hop.
-fn came_by(fact: &PathFact, iface: u8, hop: Addr) -> bool
-    ensures { result ≡ ((fact.now.iface == iface) && is_addr fact.now.hop.addr hop) }
-{
-    fact.iface == iface && fact.hop.addr == hop
 }

@@ -1,15 +1,13 @@
 //! Local senders come and go.
-ghost use Rattle.std.specs.Prelude.{◌≡◌, ℕ, cond, fold, None, Some, MatchResult};
-ghost use Rattle.rsvp_base.specs.Orders.{senders};
-ghost use Rattle.rsvp_base.specs.SessionLimits.{has_room_at};
-ghost use Rattle.rsvp_base.specs.Table.{has, put_in};
-ghost use Rattle.router_rules.specs.Inputs.{Call, SendAs, DropAs};
+ghost use Rattle.std.specs.Prelude.{◌≡◌, ℕ, fold, None, Some, MatchResult};
+ghost use Rattle.router_rules.specs.Inputs.{Call, DropAs, SendAs};
 ghost use Rattle.router_rules.specs.Rule.{facts_after, refusal_of_call, sent_after};
 ghost use Rattle.node_facts.specs.State.{facts_at};
-ghost use Rattle.router_core.specs.Bare.{with_sender, without_sender};
 
-use crate::counting::{counts, stop_unless};
+use crate::learning::keep_sender;
+use crate::leaving::drop_sender;
 use crate::node::Node;
+use lane_telling::{offered, tell_sender};
 use node_telling::Outbox;
 use router_rules::LocalErr;
 use rsvp_base::{Flow, Sender, Session};
@@ -30,14 +28,23 @@ impl Node {
         ensures sent { (c : ℕ) → out.new ≡ fold O.posted out.old (sent_after self.old.place self.old.place c (Call (SendAs session sender tspec)) (facts_at c self.old)) }
         ensures place { self.new.place ≡ self.old.place }
     {
-        if !self.config().is_own(sender.addr) {
+        let near = self.tables.paths.hops(session);
+        if !self.tables.config.is_own(sender.addr) {
             return Err(LocalErr::NotMine);
         }
-        let before = self.offered(session, sender);
-        if !self.keep_sender(session, sender, tspec) {
+        let before = offered(&self.tables, session, sender);
+        if !keep_sender(&mut self.tables, session, sender, tspec) {
             return Err(LocalErr::Full);
         }
-        self.tell(session, sender, &before, out);
+        tell_sender(
+            &self.tables,
+            &mut self.said,
+            session,
+            sender,
+            &before,
+            &near,
+            out,
+        );
         Ok(())
     }
 
@@ -53,39 +60,20 @@ impl Node {
         ensures sent { (c : ℕ) → out.new ≡ fold O.posted out.old (sent_after self.old.place self.old.place c (Call (DropAs session sender)) (facts_at c self.old)) }
         ensures place { self.new.place ≡ self.old.place }
     {
-        let before = self.offered(session, sender);
-        if !self.drop_sender(session, sender) {
+        let near = self.tables.paths.hops(session);
+        let before = offered(&self.tables, session, sender);
+        if !drop_sender(&mut self.tables, session, sender) {
             return Err(LocalErr::Absent);
         }
-        self.tell(session, sender, &before, out);
+        tell_sender(
+            &self.tables,
+            &mut self.said,
+            session,
+            sender,
+            &before,
+            &near,
+            out,
+        );
         Ok(())
-    }
-
-    // Keeps a sender, if there is room for it; its session has a countdown then. Whether there was room.
-    fn keep_sender(&mut self, session: Session, sender: Sender, tspec: Flow) -> bool
-        ensures room { result ≡ has_room_at senders (put_in self.old.senders (session, sender) tspec) session }
-        ensures state { self.new ≡ cond result (with_sender self.old (session, sender) tspec) self.old }
-    {
-        let period = self.config.period();
-        let _own = self.senders.find(session, sender);
-        let _was = self.paths.find(session, sender);
-        let Ok(()) = self.senders.put(session, sender, tspec) else {
-            return false;
-        };
-        self.due.begin(session, period);
-        true
-    }
-
-    // Takes a sender out; its session's countdown stops where it was the last. Whether there was such a sender.
-    fn drop_sender(&mut self, session: Session, sender: Sender) -> bool
-        ensures there { result ≡ has self.old.senders (session, sender) }
-        ensures state { self.new ≡ cond result (without_sender self.old (session, sender)) self.old }
-    {
-        if !self.senders.remove(session, sender) {
-            return false;
-        }
-        let stays = counts(&self.senders, &self.paths, session);
-        stop_unless(&mut self.due, stays, session);
-        true
     }
 }

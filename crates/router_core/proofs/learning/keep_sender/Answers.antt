@@ -1,4 +1,4 @@
-use Rattle.std.proofs.Common.{◌≡◌, ℕ, ◌<◌, true, false, is_err, sym, ap, ◌∙◌, refl}
+use Rattle.std.proofs.Common.{◌≡◌, ℕ, true, false, is_err, sym, ap, ◌∙◌, refl}
 use Rattle.std.proofs.lemmas.Bool.{false≢true}
 use Rattle.rsvp_base.specs.Orders.{senders}
 use Rattle.rsvp_base.specs.SessionLimits.{has_room_at}
@@ -13,7 +13,6 @@ use Rattle.node_facts.specs.Changes.{senders_put, started}
 use Rattle.node_facts.specs.State.{State, facts_of}
 use Rattle.node_tables.specs.Whole.{state_of}
 use Rattle.node_tables.specs.declared.tables.Tables.{Tables}
-use Rattle.router_core.specs.Bare.{with_sender}
 use Rattle.router_core.proofs.Keeping.{counts_by, put_more, put_there, room_for_due}
 use Rattle.router_core.proofs.learning.keep_sender.Goals as goal
 use Rattle.router_core.proofs.learning.keep_sender.Goals.{After-put}

@@ -1,10 +1,10 @@
-use Rattle.std.proofs.Common.{◌≡◌, ℕ, ◌<◌, true, false, is_err, sym, ap, ◌∙◌, arith, refl}
+use Rattle.std.proofs.Common.{◌≡◌, ℕ, true, false, is_err, sym, ap, ◌∙◌, refl}
 use Rattle.std.proofs.lemmas.Bool.{false≢true}
 use Rattle.path_state.specs.Paths.{PathMap, path_keys}
 use Rattle.path_state.specs.declared.fact.PathFact.{PathFact}
 use Rattle.rsvp_base.specs.Orders.{senders}
 use Rattle.rsvp_base.specs.SessionLimits.{has_room_at}
-use Rattle.rsvp_base.specs.Table.{empty, has, put_in, size}
+use Rattle.rsvp_base.specs.Table.{empty, has, put_in}
 use Rattle.rsvp_base.proofs.SessionRoom.{put_room}
 use Rattle.rsvp_base.proofs.SetLaws.{or_right}
 use Rattle.rsvp_base.proofs.Tables.{either}
@@ -15,7 +15,7 @@ use Rattle.node_facts.specs.Changes.{paths_put, started}
 use Rattle.node_facts.specs.State.{State, facts_of}
 use Rattle.node_tables.specs.Whole.{state_of}
 use Rattle.node_tables.specs.declared.tables.Tables.{Tables}
-use Rattle.router_core.specs.Bare.{fact_of, with_path}
+use Rattle.router_core.specs.Coming.{fact_of, with_path}
 use Rattle.router_core.proofs.Keeping.{counts_by, put_more, put_there, room_for_due}
 use Rattle.router_core.proofs.learning.learn_path.Goals as goal
 use Rattle.router_core.proofs.learning.learn_path.Goals.{After-learn, After-begin}

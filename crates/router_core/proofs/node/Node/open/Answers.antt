@@ -1,27 +1,45 @@
-use Rattle.std.proofs.Common.{◌≡◌, [], ap, sym, subst, rules}
-use Rattle.path_state.specs.Paths.{PathMap}
+use Rattle.std.proofs.Common.{◌≡◌, ap, sym, subst, ◌∙◌}
 use Rattle.rsvp_base.specs.Table.{empty}
-use Rattle.node_facts.specs.State.{IsSettled, no_state}
+use Rattle.lane_state.specs.Lanes.{LaneMap}
+use Rattle.node_facts.specs.State.{AreUnmarked, IsKept, IsSaid, IsSettled, State, no_state}
 use Rattle.node_facts.proofs.Opening.{kept_none}
-use Rattle.router_core.specs.Bare.{bare}
+use Rattle.node_tables.specs.Whole.{IsOfPlace, state_of}
+use Rattle.tables_waiting.specs.Steps.{AreSound}
 use Rattle.router_core.proofs.node.Node.open.Goals as goal
-use Rattle.router_core.proofs.node.Node.open.Goals.{In_ok-due}
+use Rattle.router_core.proofs.node.Node.open.Goals.{In_ok-said}
 
-module _ (c : In_ok-due) where
-  made : bare c.args.config c.in_ok-senders.senders c.in_ok-paths.paths.facts c.in_ok-due.due ≡ no_state c.args.config
-  made =
-      let senders : c.in_ok-senders.senders ≡ empty = search rules in
-      let paths : c.in_ok-paths.paths ≡ record { facts = empty; dead = empty } = search rules in
-      let due : c.in_ok-due.due ≡ empty = search rules in
-      λ i. bare c.args.config (senders i) (paths i).facts (due i)
+module _ (c : In_ok-said) where
+  silent : c.in_ok-said.said ≡ empty
+  silent = c.in_ok-said.ensures
 
-  pulled : c.in_ok-paths.paths.dead.rows ≡ []
-  pulled = let paths : c.in_ok-paths.paths ≡ record { facts = empty; dead = empty } = search rules in ap (λ (m : PathMap). m.dead.rows) paths
+  opened : state_of c.in_ok-tables.tables empty ≡ no_state c.args.config
+  opened = c.in_ok-tables.ensures.state
+
+  made : state_of c.in_ok-tables.tables c.in_ok-said.said ≡ no_state c.args.config
+  made = ap (λ (m : LaneMap). state_of c.in_ok-tables.tables m) silent ∙ opened
+
+  kept : IsKept (no_state c.args.config)
+  kept = kept_none c.args.config
+
+  settled : IsSettled (state_of c.in_ok-tables.tables c.in_ok-said.said)
+  settled = subst IsSettled (sym made) kept.settled
+
+  told : IsSaid c.in_ok-said.said (state_of c.in_ok-tables.tables c.in_ok-said.said)
+  told = subst (λ (n : State). IsSaid n.said n) (sym made) kept.said
+
+  unmarked : AreUnmarked c.in_ok-tables.tables.wants
+  unmarked = subst (λ (n : State). AreUnmarked n.wants) (sym made) kept.unmarked
+
+  sound : AreSound c.in_ok-tables.tables
+  sound = c.in_ok-tables.ensures.sound
+
+  placed : IsOfPlace c.in_ok-tables.tables
+  placed = c.in_ok-tables.ensures.place
 
 pub invariant_of-result : goal.invariant_of-result
 invariant_of-result c =
-    let d = (goal.at.invariant_of-result c).In_ok-due in
-    (pulled d, (subst IsSettled (sym (made d)) (kept_none _).settled, tt))
+    let d = (goal.at.invariant_of-result c).In_ok-said in
+    (sound d, (settled d, (told d, (unmarked d, (placed d, tt)))))
 
 pub returns : goal.returns
-returns c = made (goal.at.returns c).In_ok-due
+returns c = made (goal.at.returns c).In_ok-said
