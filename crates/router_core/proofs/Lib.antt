@@ -8,3 +8,4 @@ pub mod Before
 mod Opened
 mod Refused
 pub mod Going
+pub mod Erring

@@ -3,9 +3,11 @@
 //!
 //! Each call is the rule of a router (`router_rules`): the facts after, what is heard, each refusal, and what is sent, in
 //! order. Of all that a router does, `Node` has what comes of paths and local senders: it tells its neighbours downstream of
-//! the senders, and its previous hops what goes there. Its book is that of its facts.
+//! the senders, and its previous hops what goes there. It passes PathErrs and ResvConfs on, and answers bytes that spell no
+//! message. Its book is that of its facts.
 #![tactic(auto)]
 
+mod errors;
 mod learning;
 mod leaving;
 mod node;
