@@ -2,3 +2,4 @@ pub mod Events
 pub mod Checked
 pub mod Refusals
 pub mod LinkEnds
+pub mod HopRefusals

@@ -15,6 +15,7 @@ is_built (line.Seed n) = true
 is_built (line.Node name) = true
 is_built (line.End l) = true
 is_built (line.Link names) = true
+is_built (line.Hop l) = true
 is_built (line.Wait ms) = true
 is_built (line.Pass times) = true
 is_built (line.Deliver place) = true

@@ -4,6 +4,7 @@ ghost use Rattle.std.specs.Prelude.{◌≡◌, ◌≤◌, length};
 use crate::event::Event;
 use crate::names::NameTable;
 use rsvp_base::NoMemory;
+use script_words::EndName;
 use std::alloc::Global;
 use tree_routing::Topology;
 
@@ -19,6 +20,8 @@ pub struct Checker {
     pub(crate) nodes: NameTable,
     /// The names of the ends, by number.
     pub(crate) names: NameTable,
+    /// The same names, as faults tell them.
+    pub(crate) end_names: Vec<EndName>,
     pub(crate) topology: Topology,
     pub(crate) events: Vec<Event>,
     pub ghost same_nodes: { topology.nodes ≡ length nodes },
@@ -26,6 +29,7 @@ pub struct Checker {
     // Each name is that of an end. Where memory ran out, the last end may be without one.
     pub ghost ends_there: { length names ≤ length topology.ends },
     pub ghost few_names: { length names ≤ 65536 },
+    pub ghost same_names: { names ≡ end_names.items },
 }
 
 impl Checker {
@@ -43,6 +47,7 @@ impl Checker {
             seed: None,
             nodes: NameTable::new(alloc),
             names: NameTable::new(alloc),
+            end_names: Vec::new(alloc),
             topology: Topology::new(alloc)?,
             events: Vec::new(alloc),
         })

@@ -7,6 +7,7 @@ ghost use Rattle.script_checker.specs.Refusals.{Refuses};
 
 mod end;
 mod event;
+mod hop;
 mod link;
 mod node;
 mod period;
@@ -38,7 +39,7 @@ pub fn add(checker: &mut Checker, line: Line) -> Result<(), Refusal>
         Line::Flags => event::add_flags(checker),
         Line::End(line) => end::add_end(checker, line),
         Line::Link(names) => link::add_link(checker, names),
-        Line::Hop(_line) => Err(Refusal::Unbuilt),
+        Line::Hop(line) => hop::add_hop(checker, line),
         Line::StalePath(_line) => Err(Refusal::Unbuilt),
         Line::StaleResv(_line) => Err(Refusal::Unbuilt),
         Line::StaleHopWall(_line) => Err(Refusal::Unbuilt),

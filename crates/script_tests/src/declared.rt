@@ -141,3 +141,64 @@ fn ends_and_links_have_their_first_fault(rt: HostRuntime) -> Result<(), Fail> {
     );
     Ok(())
 }
+
+#[test]
+fn hops_have_their_first_fault(rt: HostRuntime) -> Result<(), Fail> {
+    let alloc = rt.alloc();
+    let mut checker = Checker::open(alloc).ok().ok_or("room")?;
+    for line in [
+        "node s",
+        "node a",
+        "node b",
+        "end s1 s 10.0.0.1 100000 1500",
+        "end a1 a 10.0.0.2 100000 1500",
+        "end a2 a 10.0.1.1 100000 1500",
+        "end b1 b 10.0.1.2 100000 1500",
+        "end b2 b 10.0.2.1 100000 1500",
+        "end s2 s 10.0.2.2 100000 1500",
+        "link s1 a1",
+        "link a2 b1",
+        "link b2 s2",
+        "hop 224.1.1.1 10.0.0.1 s1 a1",
+        "hop 224.1.1.1 10.0.0.1 a2 b1",
+    ] {
+        assert!(rt; answer(alloc, &mut checker, line).is_ok(), "{line}");
+    }
+    assert!(rt;
+        matches!(
+            answer(alloc, &mut checker, "hop 10.0.0.1 10.0.0.1 z1 a1"),
+            Err(Refusal::Fault(Fault::Range))
+        )
+    );
+    assert!(rt;
+        matches!(
+            answer(alloc, &mut checker, "hop 224.1.1.1 10.9.0.1 s1 a1"),
+            Err(Refusal::Fault(Fault::Name))
+        )
+    );
+    // The tree is at the node already.
+    assert!(rt;
+        matches!(
+            answer(alloc, &mut checker, "hop 224.1.1.1 10.0.0.1 s2 b2"),
+            Err(Refusal::Fault(Fault::NotTree))
+        )
+    );
+    // Trees of three sources, each of two hops, go round.
+    for line in [
+        "hop 224.1.1.1 10.0.2.1 b2 s2",
+        "hop 224.1.1.1 10.0.2.1 s1 a1",
+        "hop 224.1.1.1 10.0.1.1 a2 b1",
+    ] {
+        assert!(rt; answer(alloc, &mut checker, line).is_ok(), "{line}");
+    }
+    let Err(Refusal::Fault(Fault::Loop { from, to, .. })) = answer(
+        alloc,
+        &mut checker,
+        "hop 224.1.1.1 10.0.1.1 b2 s2",
+    ) else {
+        return Err("no loop".into());
+    };
+    assert!(rt; *from.bytes() == *b"s1".as_slice());
+    assert!(rt; *to.bytes() == *b"a1".as_slice());
+    Ok(())
+}

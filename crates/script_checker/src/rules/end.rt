@@ -42,7 +42,7 @@ pub fn add_end(checker: &mut Checker, line: EndLine) -> Result<(), Refusal>
     if !checker.topology.has_room_for_end(node) {
         return Err(Refusal::Fault(Fault::Limit));
     }
-    declare(checker, &line.name, End { node, iface })
+    declare(checker, line.name, End { node, iface })
 }
 
 // The interface of an end, where all its numbers are in range.
@@ -62,10 +62,10 @@ fn iface_of(line: &EndLine) -> Option<Iface>
 }
 
 // Keeps an end of a new name.
-fn declare(checker: &mut Checker, name: &EndName, end: End) -> Result<(), Refusal>
-    requires new { place_of checker.old.names name.now ≡ None }
+fn declare(checker: &mut Checker, name: EndName, end: End) -> Result<(), Refusal>
+    requires new { place_of checker.old.names name ≡ None }
     requires takes { TakesEnd checker.old.topology end }
-    ensures ok { OnOk result (draft_of checker.new ≡ record (draft_of checker.old) { names = checker.old.names ++ name.now ∷ []; net = with_end checker.old.topology end }) }
+    ensures ok { OnOk result (draft_of checker.new ≡ record (draft_of checker.old) { names = checker.old.names ++ name ∷ []; net = with_end checker.old.topology end }) }
     ensures refused { IfErr result OnlyNoMemory }
 {
     let number = checker.topology.add_end(end)?;
@@ -73,13 +73,15 @@ fn declare(checker: &mut Checker, name: &EndName, end: End) -> Result<(), Refusa
 }
 
 // Keeps the name of the last end.
-fn keep_name(checker: &mut Checker, name: &EndName, number: u16) -> Result<(), Refusal>
-    requires new { place_of checker.old.names name.now ≡ None }
+fn keep_name(checker: &mut Checker, name: EndName, number: u16) -> Result<(), Refusal>
+    requires new { place_of checker.old.names name ≡ None }
     requires number { length checker.old.names ≤ number }
     requires there { number < length checker.old.topology.ends }
-    ensures ok { OnOk result (draft_of checker.new ≡ record (draft_of checker.old) { names = checker.old.names ++ name.now ∷ [] }) }
+    ensures ok { OnOk result (draft_of checker.new ≡ record (draft_of checker.old) { names = checker.old.names ++ name ∷ [] }) }
     ensures refused { IfErr result OnlyNoMemory }
 {
+    checker.end_names.reserve(1)?;
     checker.names.add(checker.alloc, name.bytes())?;
+    let _ = checker.end_names.push(name);
     Ok(())
 }

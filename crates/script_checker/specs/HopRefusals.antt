@@ -1,0 +1,27 @@
+-- Why a hop was not taken.
+use Rattle.std.specs.Prelude.{◌≡◌}
+use Rattle.rsvp_base.specs.declared.addr.Addr.{Addr}
+use Rattle.tree_model.specs.declared.hops.LinkHop.{LinkHop}
+use Rattle.tree_model.specs.declared.hops.TreeHop.{TreeHop}
+use Rattle.tree_model.specs.Ranks.{IsLoopFreeIn}
+use Rattle.tree_routing.specs.Answers.{Fits, with_hop}
+use Rattle.script_grammar.specs.Draft.{Draft}
+use Rattle.script_grammar.specs.Rules.{IsLoopOf, IsNamedHop}
+use Rattle.script_grammar.specs.declared.fault.Fault.TheVariants as fault
+use Rattle.script_checker.specs.declared.refusal.Refusal.{Refusal}
+use Rattle.script_checker.specs.declared.refusal.Refusal.TheVariants.{Fault, NoMemory, Unbuilt}
+
+-- its tree cannot grow by it; or it can, and a chain is closed then, the least hop on one being told by the names of its ends
+abbrev pub IsHopRefused : Draft → TreeHop → Refusal → Type 0
+IsHopRefused d r (Fault fault.NotTree) = Fits d.net r → ⊥
+IsHopRefused d r (Fault (fault.Loop group from to)) = Fits d.net r × (IsLoopFreeIn (with_hop d.net r) r.group → ⊥) × IsLoopOf d (with_hop d.net r) r.group group from to
+IsHopRefused d r (Fault why) = ⊥
+IsHopRefused d r NoMemory = Unit {0}
+IsHopRefused d r Unbuilt = ⊥
+
+-- the hop of the group by the names of its ends, where they have some
+abbrev pub IsLoopTold : Draft → Addr → LinkHop → Refusal → Type 0
+IsLoopTold d group h (Fault (fault.Loop g from to)) = (g ≡ group) × IsNamedHop d from to h
+IsLoopTold d group h (Fault why) = ⊥
+IsLoopTold d group h NoMemory = Unit {0}
+IsLoopTold d group h Unbuilt = ⊥
