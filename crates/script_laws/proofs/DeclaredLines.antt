@@ -32,7 +32,7 @@ use Rattle.script_laws.proofs.FitLinks.{each_link_has_its_ends}
 use Rattle.script_laws.proofs.Leading.{led}
 
 -- ---- names and their numbers
-place_inside : (names : List (List ℕ)) (name : List ℕ) → IsSome (place_of names name) → unwrap_or (place_of names name) 0 < length names
+pub place_inside : (names : List (List ℕ)) (name : List ℕ) → IsSome (place_of names name) → unwrap_or (place_of names name) 0 < length names
 place_inside names name some = by (nat_lt (position_or_len (bytes_eq name) names) (length names)) refl some
   where
     by : (b : Bool) → nat_lt (position_or_len (bytes_eq name) names) (length names) ≡ b → IsSome (cond b (Some (position_or_len (bytes_eq name) names)) None) → unwrap_or (cond b (Some (position_or_len (bytes_eq name) names)) None) 0 < length names

@@ -6,3 +6,4 @@ pub mod HostLines
 pub mod Words
 pub mod FitLinks
 pub mod DeclaredLines
+pub mod LeftOverLines

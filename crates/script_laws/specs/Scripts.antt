@@ -2,6 +2,7 @@
 use Rattle.std.specs.Prelude.{ℕ, ◌≤◌, List}
 use Rattle.network_model.specs.Links.{NoEndIsAGroup}
 use Rattle.network_model.specs.Runs.{Plan}
+use Rattle.network_steps.specs.Beginning.{IsFitPlan}
 use Rattle.network_steps.specs.Runs.{AreFitSenders}
 use Rattle.script_grammar.specs.Grammar.{IsScript}
 use Rattle.script_laws.specs.Networks.{HasFitLinks}
@@ -26,3 +27,7 @@ EachLinkHasItsEnds = (bytes : List ℕ) (p : Plan) → IsScript bytes p → HasF
 -- the network that it declares is valid
 abbrev pub EachScriptDeclaresAValidNetwork : Type 0
 EachScriptDeclaresAValidNetwork = (bytes : List ℕ) (p : Plan) → IsScript bytes p → IsValid p.net
+
+-- there is a period, the network is valid, its ends have addresses of hosts, and what is left over is fit at its node
+abbrev pub EachScriptLeavesFitFacts : Type 0
+EachScriptLeavesFitFacts = (bytes : List ℕ) (p : Plan) → IsScript bytes p → IsFitPlan p

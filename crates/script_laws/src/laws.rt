@@ -1,6 +1,6 @@
 //! The laws.
 ghost use Rattle.script_laws.specs.Networks.{ANewTreeKeepsANetworkValid};
-ghost use Rattle.script_laws.specs.Scripts.{EachLinkHasItsEnds, EachScriptDeclaresAValidNetwork, EachScriptHasHosts, EachScriptLetsFewSend};
+ghost use Rattle.script_laws.specs.Scripts.{EachLinkHasItsEnds, EachScriptDeclaresAValidNetwork, EachScriptHasHosts, EachScriptLeavesFitFacts, EachScriptLetsFewSend};
 
 /// A valid script lets few senders send: at each point of its events at most 16 of a session, each to a group, and 32 sessions
 /// have one. So its plan meets what `network_steps` asks of the senders of a run.
@@ -27,4 +27,10 @@ pub fn each_link_has_its_ends()
 /// The network that a valid script declares is a valid one.
 pub fn each_script_declares_a_valid_network()
     ensures { EachScriptDeclaresAValidNetwork }
+{}
+
+/// A valid script is a fit plan: its network is valid, and what it leaves over at a node lives no longer than what was just
+/// refreshed, and has its shape.
+pub fn each_script_leaves_fit_facts()
+    ensures { EachScriptLeavesFitFacts }
 {}
