@@ -5,3 +5,4 @@ pub mod Goals
 pub mod Kept
 pub mod Tight
 pub mod Said
+pub mod TightPaths

@@ -6,6 +6,7 @@ ghost use Rattle.law_rows.specs.Ready.{AResvGoesAstray, AReservationIsOnItsWay, 
 ghost use Rattle.law_rows.specs.Said.{APathSaysItsHop, NobodyAsksForIt, NobodySaysThePath};
 ghost use Rattle.law_rows.specs.Starts.{AStartRefuses};
 ghost use Rattle.law_rows.specs.Tight.{TwoRoundsAreTooFew};
+ghost use Rattle.law_rows.specs.TightPaths.{EightRoundsAreTooFew};
 
 /// A Resv that goes astray meets the premises of `arrivals_are_taken` through two calm rounds, and is not taken where it arrives
 /// before.
@@ -99,4 +100,9 @@ pub fn nobody_asks_for_it()
 /// The first Path of a host, of which `the_hop_of_what_is_sent` says something.
 pub fn a_path_says_its_hop()
     ensures { APathSaysItsHop }
+{}
+
+/// Of the nine rounds after which paths are sound where the longest chain is one hop none can be spared.
+pub fn eight_rounds_are_too_few()
+    ensures { EightRoundsAreTooFew }
 {}
