@@ -1,5 +1,5 @@
 -- A unit of a Resv in its place: what the code did is what the rule says.
-use Rattle.std.specs.Prelude.{◌≡◌, ℕ, ◌+◌, ◌≤◌, ◌<◌, nat_le, option_and_then, Bool, true, false, cond, zero, suc, ◌&&◌, List, [], ◌∷◌, ◌++◌, map as each, length, slice_get, is_some, Option, Some, None, refl}
+use Rattle.std.specs.Prelude.{◌≡◌, ℕ, ◌+◌, ◌≤◌, ◌<◌, nat_le, option_and_then, Bool, true, false, cond, zero, suc, ◌&&◌, List, [], ◌∷◌, ◌++◌, map as each, length, slice_get, take, is_some, Option, Some, None, refl}
 use Rattle.std.proofs.Common.{sym, ap, subst, ◌∙◌, arith}
 use Rattle.std.specs.Option.{option_map}
 use Rattle.std.proofs.lemmas.Bool.{le-leb}
@@ -19,6 +19,7 @@ use Rattle.rsvp_base.specs.declared.style.StyleKind.TheVariants.{Wild, Fixed, Sh
 use Rattle.rsvp_base.specs.declared.style.Unit.{Unit as UnitOf}
 use Rattle.rsvp_base.specs.Orders.{Names, senders, units}
 use Rattle.rsvp_base.specs.Sets.{cut, is_none}
+use Rattle.rsvp_base.proofs.Fronts.{front_more}
 use Rattle.rsvp_base.proofs.SetLaws.{cut_within, size_within}
 use Rattle.style_rules.specs.Merge.{PartTable}
 use Rattle.rsvp_base.proofs.Tables.{get-changed, size-put_in, then_do}
@@ -179,6 +180,14 @@ told_none p o xs = append_none (each (refusal_of p o) xs)
 
 pub told_one : (p : NodeConfig) (o : AskerOf) (xs ys : List Refusal) (r : Refusal) → ys ≡ xs ++ r ∷ [] → each (refusal_of p o) ys ≡ each (refusal_of p o) xs ++ refusal_of p o r ∷ []
 told_one p o xs ys r e = ap (each (refusal_of p o)) e ∙ map-append (refusal_of p o) xs (r ∷ [])
+
+-- one more unit that is refused like the others
+pub refused_more : (p : NodeConfig) (o : AskerOf) (code value : ℕ) (us : List AskedUnit) (k : ℕ) (u : AskedUnit) → slice_get us k ≡ Some u → (xs ys : List Refusal)
+    → ys ≡ xs ++ record { in_place = false; code = code; value = value; names = u.names; flow = u.flow } ∷ []
+    → each (refusal_of p o) xs ≡ each (λ (v : AskedUnit). refusal p o false code value v.names v.flow) (take k us) → each (refusal_of p o) ys ≡ each (λ (v : AskedUnit). refusal p o false code value v.names v.flow) (take (k + 1) us)
+refused_more p o code value us k u got xs ys is so_far =
+    let say = λ (v : AskedUnit). refusal p o false code value v.names v.flow in
+    told_one p o xs ys (record { in_place = false; code = code; value = value; names = u.names; flow = u.flow }) is ∙ ap (λ zs. zs ++ say u ∷ []) so_far ∙ sym (map-append say (take k us) (u ∷ [])) ∙ ap (each say) (sym (front_more us k u got))
 
 -- who wants to hear of an earlier one
 pub wish_is : (c : ℕ) (m : ResvFacts) (k : LineKey) (w : Option ResvFact) → w ≡ option_map (λ e. e.0) (get m k) → option_and_then (λ (f : ResvFact). f.confirm) w ≡ confirm_kept (get (changed (resv_at c) m) k)

@@ -13,4 +13,4 @@ mod units;
 pub use matching::Matching;
 pub use refusals::{Refusal, Refusals};
 pub use unit::{Asker, Taken, Wanted};
-pub use units::take_units;
+pub use units::{refuse_units, take_units};

@@ -7,12 +7,12 @@ ghost use Rattle.router_rules.specs.Asking.{names_that_match};
 use rsvp_base::{Sender, Senders};
 use std::marker::Model;
 
-/// Known senders whose trees go out of an interface, by the names of a style: at most 16 that are local and at most 16 that
-/// have a path. Contracts see the set of them all.
+/// Known senders whose trees go out of an interface, by the names of a style: at most 32, in two lists, each of at most 16.
+/// Contracts see the set of them all.
 #[derive(Drop)]
 pub struct Matching {
-    pub near: Senders,
-    pub far: Senders,
+    pub first: Senders,
+    pub others: Senders,
 }
 
 impl Model for Matching {
@@ -23,7 +23,7 @@ impl Model for Matching {
 
     ghost coded = { names_code };
 
-    ghost view = { λ m. union m.near m.far };
+    ghost view = { λ m. union m.first m.others };
 }
 
 impl Matching {
@@ -31,7 +31,7 @@ impl Matching {
     pub fn has(&self, name: Sender) -> bool
         ensures { result ≡ has self.now name }
     {
-        self.near.has(name) || self.far.has(name)
+        self.first.has(name) || self.others.has(name)
     }
 
     /// All of them. `None` exactly where they are more than 16.
@@ -39,7 +39,7 @@ impl Matching {
         ensures all { IfSome result (λ names. names ≡ self.now) }
         ensures many { IsNone result ↔ (16 < size self.now) }
     {
-        match self.near.union(&self.far) {
+        match self.first.union(&self.others) {
             Ok(names) => Some(names),
             Err(_) => None,
         }

@@ -1,21 +1,22 @@
 //! The units of a Resv, one after another.
-ghost use Rattle.std.specs.Prelude.{◌≡◌, ◌≤◌, ◌<◌, ℕ, [], ◌∷◌, true, length, slice_get, Some};
+ghost use Rattle.std.specs.Prelude.{◌≡◌, ◌≤◌, ◌<◌, ℕ, [], ◌∷◌, true, false, length, map, slice_get, Some};
 ghost use Rattle.std.specs.Option.{option_map};
 ghost use Rattle.rsvp_base.specs.Styles.{name_of};
-ghost use Rattle.rsvp_base.specs.Table.{changed, has};
+ghost use Rattle.rsvp_base.specs.Table.{changed, empty, has};
 ghost use Rattle.rsvp_base.specs.declared.session.Sender.{Sender};
 ghost use Rattle.rsvp_base.specs.declared.style.Unit.TheVariants.{One};
 ghost use Rattle.rsvp_messages.specs.Units.{ask_style, asked_units, fixed_unit, only};
-ghost use Rattle.router_rules.specs.Asking.{nothing_taken, take_units};
+ghost use Rattle.router_rules.specs.Asking.{nothing_taken, refusal, take_units};
+ghost use Rattle.router_rules.specs.Asking.{Asker as AskerOf};
 ghost use Rattle.router_rules.specs.Facts.{Facts, resvs_of};
 ghost use Rattle.router_rules.specs.NodeConfig.{NodeConfig};
 ghost use Rattle.node_facts.specs.State.{resv_at};
 ghost use Rattle.resv_book.specs.Kept.{IsBookOf};
 ghost use Rattle.resv_book.specs.Placing.{IsBookAmong};
-ghost use Rattle.resv_taking.specs.Units.{IsSoFar, asked_unit, asker_at};
+ghost use Rattle.resv_taking.specs.Units.{IsSoFar, asked_unit, asker_at, refusal_of};
 
 use crate::matching::Matching;
-use crate::refusals::Refusals;
+use crate::refusals::{Refusal, Refusals};
 use crate::unit::{Asker, Taken, Wanted, take_unit};
 use admission_book::Book;
 use resv_state::ResvTable;
@@ -132,4 +133,31 @@ pub fn take_units<S: Style>(
         take_unit(table, book, asker, all, wanted, &mut done);
     }
     done
+}
+
+/// The units of what is asked for, each refused alike, and none taken: no path information, or a conflicting style (RFC 2205,
+/// appendix B, error codes 03 and 05).
+pub fn refuse_units(ask: &Ask, code: u8, value: u16) -> Taken
+    ensures errors { (p : NodeConfig) (o : AskerOf) → map (refusal_of p o) result.errors ≡ map (λ u. refusal p o false code value u.names u.flow) (asked_units ask.now) }
+    ensures left_out { result.left_out ≡ false }
+    ensures parts { result.parts ≡ empty }
+{
+    let mut errors = Refusals::new();
+    for k in 0..count_of(ask) {
+        let Some(wanted) = unit_at(ask, k) else {
+            unreachable!();
+        };
+        errors.push(Refusal {
+            in_place: false,
+            code,
+            value,
+            names: wanted.names,
+            flow: wanted.flow,
+        });
+    }
+    Taken {
+        errors,
+        left_out: false,
+        parts: Parts::new(),
+    }
 }

@@ -1,0 +1,18 @@
+use Rattle.std.specs.Prelude.{◌≡◌, slice_get, Some}
+use Rattle.std.specs.Option.{option_map}
+use Rattle.std.proofs.Common.{sym, ap, ◌∙◌, arith}
+use Rattle.rsvp_messages.specs.Units.{asked_units}
+use Rattle.resv_taking.specs.Units.{asked_unit}
+use Rattle.resv_taking.proofs.Order.{one_longer}
+use Rattle.resv_taking.proofs.Steps.{refused_more}
+use Rattle.resv_taking.proofs.units.refuse_units.Goals as goal
+
+pub loop-k-preserved : goal.loop-k-preserved
+loop-k-preserved c =
+    let us = asked_units c.args.ask.now in
+    let w = c.in-Some.wanted in
+    let got : slice_get us c.loop-k.k ≡ Some (asked_unit w) = sym c.unit_at.ensures ∙ ap (option_map asked_unit) c.in-Some.is in
+    record {
+      errors = λ p o. refused_more p o c.args.code c.args.value us c.loop-k.k (asked_unit w) got c.loop-k.errors c.push.new.self c.push.ensures (c.loop-k.invariant.errors p o);
+      few = omega (arith, one_longer c.loop-k.errors c.push.new.self _ c.push.ensures, c.loop-k.invariant.few);
+    }

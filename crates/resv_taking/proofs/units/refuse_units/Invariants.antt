@@ -1,0 +1,14 @@
+use Rattle.std.specs.Prelude.{◌≡◌, ◌≤◌, false, length, map as each, take}
+use Rattle.rsvp_messages.specs.Units.{asked_units}
+use Rattle.router_rules.specs.Asking.{refusal}
+use Rattle.router_rules.specs.Asking.{Asker as AskerOf}
+use Rattle.router_rules.specs.NodeConfig.{NodeConfig}
+use Rattle.rsvp_messages.specs.Units.{AskedUnit}
+use Rattle.resv_taking.specs.Units.{refusal_of}
+use Rattle.resv_taking.proofs.units.refuse_units.Given as goal
+
+abbrev pub invariant-loop-k : goal.invariant-loop-k
+invariant-loop-k l = record {
+  errors : (p : NodeConfig) (o : AskerOf) → each (refusal_of p o) l.errors ≡ each (λ (u : AskedUnit). refusal p o false l.code l.value u.names u.flow) (take l.k (asked_units l.ask));
+  few : length l.errors ≤ l.k;
+}
