@@ -59,10 +59,10 @@ nodes_once d (n ∷ ns) known apart = (
 )
 
 -- ---- the network that is declared
-record Declared (d : Draft) : Type 0 where
-  nodes : length d.nodes ≡ d.net.nodes
-  names : length d.names ≡ length d.net.ends
-  valid : HasFitLinks d.net → IsValid d.net
+pub record Declared (d : Draft) : Type 0 where
+  pub nodes : length d.nodes ≡ d.net.nodes
+  pub names : length d.names ≡ length d.net.ends
+  pub valid : HasFitLinks d.net → IsValid d.net
 
 same : (d new : Draft) → Declared d → new.net ≡ d.net → new.nodes ≡ d.nodes → new.names ≡ d.names → Declared new
 same d new h net nodes names = record {
@@ -125,42 +125,42 @@ hop_line d l h rules new net nodes names = record {
       subst IsValid (sym net) (valid_hop d.net (h.valid old) (tree_hop_value d l) rules.within_limits rules.of_tree rules.loop_free);
 }
 
-by_line : (d : Draft) (said : Line) (new : Draft) → Declared d → KeepsAll (Keeps d said) → Adds d said new → Declared new
-by_line d (line.Node name) new h rules adds = subst Declared (sym adds) (node_line d name h rules)
-by_line d (line.End l) new h rules adds = subst Declared (sym adds) (end_line d l h rules)
-by_line d (line.Link names) new h rules adds = subst Declared (sym adds) (link_line d names h rules)
-by_line d (line.Hop l) new h rules adds = hop_line d l h rules new (ap (λ (z : Draft). z.net) adds) (ap (λ (z : Draft). z.nodes) adds) (ap (λ (z : Draft). z.names) adds)
-by_line d line.Skipped new h rules adds = same d new h (ap (λ (z : Draft). z.net) adds) (ap (λ (z : Draft). z.nodes) adds) (ap (λ (z : Draft). z.names) adds)
-by_line d (line.Period ms) new h rules adds = same d new h (ap (λ (z : Draft). z.net) adds) (ap (λ (z : Draft). z.nodes) adds) (ap (λ (z : Draft). z.names) adds)
-by_line d (line.Seed n) new h rules adds = same d new h (ap (λ (z : Draft). z.net) adds) (ap (λ (z : Draft). z.nodes) adds) (ap (λ (z : Draft). z.names) adds)
-by_line d (line.StalePath l) new h rules adds = same d new h (ap (λ (z : Draft). z.net) adds) (ap (λ (z : Draft). z.nodes) adds) (ap (λ (z : Draft). z.names) adds)
-by_line d (line.StaleResv l) new h rules adds = same d new h (ap (λ (z : Draft). z.net) adds) (ap (λ (z : Draft). z.nodes) adds) (ap (λ (z : Draft). z.names) adds)
-by_line d (line.StaleHopWall l) new h rules adds = same d new h (ap (λ (z : Draft). z.net) adds) (ap (λ (z : Draft). z.nodes) adds) (ap (λ (z : Draft). z.names) adds)
-by_line d (line.StaleSenderWall l) new h rules adds = same d new h (ap (λ (z : Draft). z.net) adds) (ap (λ (z : Draft). z.nodes) adds) (ap (λ (z : Draft). z.names) adds)
-by_line d (line.Send l) new h rules adds = same d new h (ap (λ (z : Draft). z.net) adds) (ap (λ (z : Draft). z.nodes) adds) (ap (λ (z : Draft). z.names) adds)
-by_line d (line.Drop l) new h rules adds = same d new h (ap (λ (z : Draft). z.net) adds) (ap (λ (z : Draft). z.nodes) adds) (ap (λ (z : Draft). z.names) adds)
-by_line d (line.Want l) new h rules adds = same d new h (ap (λ (z : Draft). z.net) adds) (ap (λ (z : Draft). z.nodes) adds) (ap (λ (z : Draft). z.names) adds)
-by_line d (line.Quit l) new h rules adds = same d new h (ap (λ (z : Draft). z.net) adds) (ap (λ (z : Draft). z.nodes) adds) (ap (λ (z : Draft). z.names) adds)
-by_line d (line.Wait ms) new h rules adds = same d new h (ap (λ (z : Draft). z.net) adds) (ap (λ (z : Draft). z.nodes) adds) (ap (λ (z : Draft). z.names) adds)
-by_line d (line.Pass n) new h rules adds = same d new h (ap (λ (z : Draft). z.net) adds) (ap (λ (z : Draft). z.nodes) adds) (ap (λ (z : Draft). z.names) adds)
-by_line d (line.Deliver k) new h rules adds = same d new h (ap (λ (z : Draft). z.net) adds) (ap (λ (z : Draft). z.nodes) adds) (ap (λ (z : Draft). z.names) adds)
-by_line d (line.Lose k) new h rules adds = same d new h (ap (λ (z : Draft). z.net) adds) (ap (λ (z : Draft). z.nodes) adds) (ap (λ (z : Draft). z.names) adds)
-by_line d (line.Copy k) new h rules adds = same d new h (ap (λ (z : Draft). z.net) adds) (ap (λ (z : Draft). z.nodes) adds) (ap (λ (z : Draft). z.names) adds)
-by_line d (line.Clear node) new h rules adds = same d new h (ap (λ (z : Draft). z.net) adds) (ap (λ (z : Draft). z.nodes) adds) (ap (λ (z : Draft). z.names) adds)
-by_line d (line.Rounds n) new h rules adds = same d new h (ap (λ (z : Draft). z.net) adds) (ap (λ (z : Draft). z.nodes) adds) (ap (λ (z : Draft). z.names) adds)
-by_line d (line.Trace on) new h rules adds = same d new h (ap (λ (z : Draft). z.net) adds) (ap (λ (z : Draft). z.nodes) adds) (ap (λ (z : Draft). z.names) adds)
-by_line d line.Report new h rules adds = same d new h (ap (λ (z : Draft). z.net) adds) (ap (λ (z : Draft). z.nodes) adds) (ap (λ (z : Draft). z.names) adds)
-by_line d (line.ReportEnd end) new h rules adds = same d new h (ap (λ (z : Draft). z.net) adds) (ap (λ (z : Draft). z.nodes) adds) (ap (λ (z : Draft). z.names) adds)
-by_line d line.Flags new h rules adds = same d new h (ap (λ (z : Draft). z.net) adds) (ap (λ (z : Draft). z.nodes) adds) (ap (λ (z : Draft). z.names) adds)
-by_line d (line.Inject l) new h rules adds = same d new h (ap (λ (z : Draft). z.net) adds.2) (ap (λ (z : Draft). z.nodes) adds.2) (ap (λ (z : Draft). z.names) adds.2)
-by_line d (line.Reroute l) new h rules adds = same d new h (ap (λ (z : Draft). z.net) adds) (ap (λ (z : Draft). z.nodes) adds) (ap (λ (z : Draft). z.names) adds)
+pub declared_line : (d : Draft) (said : Line) (new : Draft) → Declared d → KeepsAll (Keeps d said) → Adds d said new → Declared new
+declared_line d (line.Node name) new h rules adds = subst Declared (sym adds) (node_line d name h rules)
+declared_line d (line.End l) new h rules adds = subst Declared (sym adds) (end_line d l h rules)
+declared_line d (line.Link names) new h rules adds = subst Declared (sym adds) (link_line d names h rules)
+declared_line d (line.Hop l) new h rules adds = hop_line d l h rules new (ap (λ (z : Draft). z.net) adds) (ap (λ (z : Draft). z.nodes) adds) (ap (λ (z : Draft). z.names) adds)
+declared_line d line.Skipped new h rules adds = same d new h (ap (λ (z : Draft). z.net) adds) (ap (λ (z : Draft). z.nodes) adds) (ap (λ (z : Draft). z.names) adds)
+declared_line d (line.Period ms) new h rules adds = same d new h (ap (λ (z : Draft). z.net) adds) (ap (λ (z : Draft). z.nodes) adds) (ap (λ (z : Draft). z.names) adds)
+declared_line d (line.Seed n) new h rules adds = same d new h (ap (λ (z : Draft). z.net) adds) (ap (λ (z : Draft). z.nodes) adds) (ap (λ (z : Draft). z.names) adds)
+declared_line d (line.StalePath l) new h rules adds = same d new h (ap (λ (z : Draft). z.net) adds) (ap (λ (z : Draft). z.nodes) adds) (ap (λ (z : Draft). z.names) adds)
+declared_line d (line.StaleResv l) new h rules adds = same d new h (ap (λ (z : Draft). z.net) adds) (ap (λ (z : Draft). z.nodes) adds) (ap (λ (z : Draft). z.names) adds)
+declared_line d (line.StaleHopWall l) new h rules adds = same d new h (ap (λ (z : Draft). z.net) adds) (ap (λ (z : Draft). z.nodes) adds) (ap (λ (z : Draft). z.names) adds)
+declared_line d (line.StaleSenderWall l) new h rules adds = same d new h (ap (λ (z : Draft). z.net) adds) (ap (λ (z : Draft). z.nodes) adds) (ap (λ (z : Draft). z.names) adds)
+declared_line d (line.Send l) new h rules adds = same d new h (ap (λ (z : Draft). z.net) adds) (ap (λ (z : Draft). z.nodes) adds) (ap (λ (z : Draft). z.names) adds)
+declared_line d (line.Drop l) new h rules adds = same d new h (ap (λ (z : Draft). z.net) adds) (ap (λ (z : Draft). z.nodes) adds) (ap (λ (z : Draft). z.names) adds)
+declared_line d (line.Want l) new h rules adds = same d new h (ap (λ (z : Draft). z.net) adds) (ap (λ (z : Draft). z.nodes) adds) (ap (λ (z : Draft). z.names) adds)
+declared_line d (line.Quit l) new h rules adds = same d new h (ap (λ (z : Draft). z.net) adds) (ap (λ (z : Draft). z.nodes) adds) (ap (λ (z : Draft). z.names) adds)
+declared_line d (line.Wait ms) new h rules adds = same d new h (ap (λ (z : Draft). z.net) adds) (ap (λ (z : Draft). z.nodes) adds) (ap (λ (z : Draft). z.names) adds)
+declared_line d (line.Pass n) new h rules adds = same d new h (ap (λ (z : Draft). z.net) adds) (ap (λ (z : Draft). z.nodes) adds) (ap (λ (z : Draft). z.names) adds)
+declared_line d (line.Deliver k) new h rules adds = same d new h (ap (λ (z : Draft). z.net) adds) (ap (λ (z : Draft). z.nodes) adds) (ap (λ (z : Draft). z.names) adds)
+declared_line d (line.Lose k) new h rules adds = same d new h (ap (λ (z : Draft). z.net) adds) (ap (λ (z : Draft). z.nodes) adds) (ap (λ (z : Draft). z.names) adds)
+declared_line d (line.Copy k) new h rules adds = same d new h (ap (λ (z : Draft). z.net) adds) (ap (λ (z : Draft). z.nodes) adds) (ap (λ (z : Draft). z.names) adds)
+declared_line d (line.Clear node) new h rules adds = same d new h (ap (λ (z : Draft). z.net) adds) (ap (λ (z : Draft). z.nodes) adds) (ap (λ (z : Draft). z.names) adds)
+declared_line d (line.Rounds n) new h rules adds = same d new h (ap (λ (z : Draft). z.net) adds) (ap (λ (z : Draft). z.nodes) adds) (ap (λ (z : Draft). z.names) adds)
+declared_line d (line.Trace on) new h rules adds = same d new h (ap (λ (z : Draft). z.net) adds) (ap (λ (z : Draft). z.nodes) adds) (ap (λ (z : Draft). z.names) adds)
+declared_line d line.Report new h rules adds = same d new h (ap (λ (z : Draft). z.net) adds) (ap (λ (z : Draft). z.nodes) adds) (ap (λ (z : Draft). z.names) adds)
+declared_line d (line.ReportEnd end) new h rules adds = same d new h (ap (λ (z : Draft). z.net) adds) (ap (λ (z : Draft). z.nodes) adds) (ap (λ (z : Draft). z.names) adds)
+declared_line d line.Flags new h rules adds = same d new h (ap (λ (z : Draft). z.net) adds) (ap (λ (z : Draft). z.nodes) adds) (ap (λ (z : Draft). z.names) adds)
+declared_line d (line.Inject l) new h rules adds = same d new h (ap (λ (z : Draft). z.net) adds.2) (ap (λ (z : Draft). z.nodes) adds.2) (ap (λ (z : Draft). z.names) adds.2)
+declared_line d (line.Reroute l) new h rules adds = same d new h (ap (λ (z : Draft). z.net) adds) (ap (λ (z : Draft). z.nodes) adds) (ap (λ (z : Draft). z.names) adds)
 
 no_chain : (g : Addr) (h : LinkHop) (c : List LinkHop) → Chain (followers no_net g) [] (h ∷ c) → ⊥
 no_chain g h [] i = i
 no_chain g h (x ∷ c) i = i.0
 
-at_first : Declared nothing
-at_first = record {
+pub declared_first : Declared nothing
+declared_first = record {
   nodes = refl;
   names = refl;
   valid = λ fit. record {
@@ -183,6 +183,6 @@ at_first = record {
 
 pub each_script_declares_a_valid_network : EachScriptDeclaresAValidNetwork
 each_script_declares_a_valid_network bytes p is =
-    let h = led Declared (λ d text new g f. by_line d f.said new g f.valid f.adds) (text_lines bytes) nothing is.lines at_first is.leads in
+    let h = led Declared (λ d text new g f. declared_line d f.said new g f.valid f.adds) (text_lines bytes) nothing is.lines declared_first is.leads in
     let net : p.net ≡ is.lines.net = ap (λ (z : Plan). z.net) is.says in
     subst IsValid (sym net) (h.valid (subst HasFitLinks net (each_link_has_its_ends bytes p is)))

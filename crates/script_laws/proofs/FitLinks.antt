@@ -15,16 +15,20 @@ use Rattle.script_laws.specs.Scripts.{EachLinkHasItsEnds}
 use Rattle.script_laws.proofs.Leading.{led}
 use Rattle.script_laws.proofs.Words.{Formed, formed, length_each}
 
-FitLinks : Draft → Type 0
+pub FitLinks : Draft → Type 0
 FitLinks d = HasFitLinks d.net
+
+pub fit_links : (d : Draft) → FitLinks d → HasFitLinks d.net
+unfolding FitLinks
+fit_links d h = h
 
 same : (d new : Draft) → FitLinks d → new.net.links ≡ d.net.links → FitLinks new
 unfolding FitLinks
 same d new h links = λ l i. h l (subst (λ (z : List (List ℕ)). In l z) links i)
 
-by_line : (d : Draft) (said : Line) (new : Draft) → FitLinks d → Formed said → Adds d said new → FitLinks new
+pub fit_links_line : (d : Draft) (said : Line) (new : Draft) → FitLinks d → Formed said → Adds d said new → FitLinks new
 unfolding FitLinks
-by_line d (line.Link names) new h form adds =
+fit_links_line d (line.Link names) new h form adds =
     λ l i.
     ⊎_elim (λ (j : In l d.net.links). h l j)
     (λ (j : In l (rising (link_value d names) ∷ [])).
@@ -36,15 +40,15 @@ by_line d (line.Link names) new h form adds =
     (omega (arith, size, some), omega (arith, size, few)))
     (λ (e : ⊥). absurd e) j)
     (in_append l d.net.links (rising (link_value d names) ∷ []) (subst (λ (z : List (List ℕ)). In l z) (ap (λ (z : Draft). z.net.links) adds) i))
-by_line d (line.Inject l) new h form adds = same d new h (ap (λ (z : Draft). z.net.links) adds.2)
-by_line d _ new h form adds = same d new h (ap (λ (z : Draft). z.net.links) adds)
+fit_links_line d (line.Inject l) new h form adds = same d new h (ap (λ (z : Draft). z.net.links) adds.2)
+fit_links_line d _ new h form adds = same d new h (ap (λ (z : Draft). z.net.links) adds)
 
-at_first : FitLinks nothing
+pub fit_links_first : FitLinks nothing
 unfolding FitLinks
-at_first = λ l i. absurd i
+fit_links_first = λ l i. absurd i
 
 pub each_link_has_its_ends : EachLinkHasItsEnds
 unfolding FitLinks
 each_link_has_its_ends bytes p is =
-    let h = led FitLinks (λ d text new g f. by_line d f.said new g (formed text f.said f.reads) f.adds) (text_lines bytes) nothing is.lines at_first is.leads in
+    let h = led FitLinks (λ d text new g f. fit_links_line d f.said new g (formed text f.said f.reads) f.adds) (text_lines bytes) nothing is.lines fit_links_first is.leads in
     subst HasFitLinks (sym (ap (λ (z : Plan). z.net) is.says)) h

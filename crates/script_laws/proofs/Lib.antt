@@ -7,3 +7,4 @@ pub mod Words
 pub mod FitLinks
 pub mod DeclaredLines
 pub mod LeftOverLines
+pub mod EventLines

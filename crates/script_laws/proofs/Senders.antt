@@ -104,7 +104,7 @@ pub record Happened (d : Draft) (e : Event) (l : Locals) (ss : List Session) : T
   pub wanted : (w : LocalWant) → In w l.wants → In w.session ss
   pub few_sessions : length ss ≤ 32
 
-not_empty : {A : Type 0} (xs : List A) (x : A) → xs ++ x ∷ [] ≡ [] → ⊥
+pub not_empty : {A : Type 0} (xs : List A) (x : A) → xs ++ x ∷ [] ≡ [] → ⊥
 not_empty [] x e = cc
 not_empty (y ∷ ys) x e = cc
 

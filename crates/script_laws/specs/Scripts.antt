@@ -3,7 +3,7 @@ use Rattle.std.specs.Prelude.{ℕ, ◌≤◌, List}
 use Rattle.network_model.specs.Links.{NoEndIsAGroup}
 use Rattle.network_model.specs.Runs.{Plan}
 use Rattle.network_steps.specs.Beginning.{IsFitPlan}
-use Rattle.network_steps.specs.Runs.{AreFitSenders}
+use Rattle.network_steps.specs.Runs.{AreFitSenders, IsFitRun}
 use Rattle.script_grammar.specs.Grammar.{IsScript}
 use Rattle.script_laws.specs.Networks.{HasFitLinks}
 use Rattle.tree_model.specs.Valid.{IsValid}
@@ -31,3 +31,7 @@ EachScriptDeclaresAValidNetwork = (bytes : List ℕ) (p : Plan) → IsScript byt
 -- there is a period, the network is valid, its ends have addresses of hosts, and what is left over is fit at its node
 abbrev pub EachScriptLeavesFitFacts : Type 0
 EachScriptLeavesFitFacts = (bytes : List ℕ) (p : Plan) → IsScript bytes p → IsFitPlan p
+
+-- and its events are fit, each in the network that those before it leave: a fit run
+abbrev pub EachScriptIsAFitRun : Type 0
+EachScriptIsAFitRun = (bytes : List ℕ) (p : Plan) → IsScript bytes p → IsFitRun p

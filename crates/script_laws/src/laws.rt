@@ -1,6 +1,6 @@
 //! The laws.
 ghost use Rattle.script_laws.specs.Networks.{ANewTreeKeepsANetworkValid};
-ghost use Rattle.script_laws.specs.Scripts.{EachLinkHasItsEnds, EachScriptDeclaresAValidNetwork, EachScriptHasHosts, EachScriptLeavesFitFacts, EachScriptLetsFewSend};
+ghost use Rattle.script_laws.specs.Scripts.{EachLinkHasItsEnds, EachScriptDeclaresAValidNetwork, EachScriptHasHosts, EachScriptIsAFitRun, EachScriptLeavesFitFacts, EachScriptLetsFewSend};
 
 /// A valid script lets few senders send: at each point of its events at most 16 of a session, each to a group, and 32 sessions
 /// have one. So its plan meets what `network_steps` asks of the senders of a run.
@@ -33,4 +33,10 @@ pub fn each_script_declares_a_valid_network()
 /// refreshed, and has its shape.
 pub fn each_script_leaves_fit_facts()
     ensures { EachScriptLeavesFitFacts }
+{}
+
+/// A valid script is a fit run: its plan is fit, its calls have sound flows, what it injects goes to an end that is there and is a
+/// proper message if it is one, and a tree that it replaces has a route and leaves the network valid.
+pub fn each_script_is_a_fit_run()
+    ensures { EachScriptIsAFitRun }
 {}
