@@ -8,3 +8,4 @@ pub mod FitLinks
 pub mod DeclaredLines
 pub mod LeftOverLines
 pub mod EventLines
+pub mod Small

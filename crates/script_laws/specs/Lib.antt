@@ -1,2 +1,3 @@
 pub mod Networks
 pub mod Scripts
+pub mod Small

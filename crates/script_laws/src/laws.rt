@@ -1,5 +1,6 @@
 //! The laws.
 ghost use Rattle.script_laws.specs.Networks.{ANewTreeKeepsANetworkValid};
+ghost use Rattle.script_laws.specs.Small.{ASmallScriptIsOne};
 ghost use Rattle.script_laws.specs.Scripts.{EachLinkHasItsEnds, EachScriptDeclaresAValidNetwork, EachScriptHasHosts, EachScriptIsAFitRun, EachScriptLeavesFitFacts, EachScriptLetsFewSend};
 
 /// A valid script lets few senders send: at each point of its events at most 16 of a session, each to a group, and 32 sessions
@@ -39,4 +40,9 @@ pub fn each_script_leaves_fit_facts()
 /// proper message if it is one, and a tree that it replaces has a route and leaves the network valid.
 pub fn each_script_is_a_fit_run()
     ensures { EachScriptIsAFitRun }
+{}
+
+/// There are scripts with a node, an end, a sender, a want and a round. So the laws of each script speak of something.
+pub fn a_small_script_is_one()
+    ensures { ASmallScriptIsOne }
 {}
