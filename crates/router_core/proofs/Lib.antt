@@ -9,3 +9,4 @@ mod Opened
 mod Refused
 pub mod Going
 pub mod Erring
+mod Tearing

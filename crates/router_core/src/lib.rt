@@ -2,9 +2,9 @@
 //! values, time passes by a call, and what it sends goes to an outbox of the caller.
 //!
 //! Each call is the rule of a router (`router_rules`): the facts after, what is heard, each refusal, and what is sent, in
-//! order. Of all that a router does, `Node` has what comes of paths and local senders: it tells its neighbours downstream of
-//! the senders, and its previous hops what goes there. It passes PathErrs and ResvConfs on, and answers bytes that spell no
-//! message. Its book is that of its facts.
+//! order. Of all that a router does, `Node` has what comes of paths, local senders and ResvTears: it tells its neighbours
+//! downstream of the senders, and its previous hops what goes there. It passes PathErrs and ResvConfs on, and answers bytes that
+//! spell no message. Its book is that of its facts.
 #![tactic(auto)]
 
 mod errors;
@@ -13,6 +13,7 @@ mod leaving;
 mod node;
 mod opening;
 mod paths;
+mod resvs;
 mod senders;
 
 pub use node::Node;

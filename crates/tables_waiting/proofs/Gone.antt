@@ -36,7 +36,7 @@ use Rattle.node_waiting.proofs.Offers.{known_is}
 use Rattle.tables_waiting.specs.Steps.{names_gone}
 
 -- ---- each reservation that is left names someone
-left_named : (test : Sender → Bool) (e r : ResvState) → left_of test e ≡ Some r → has_name r.part ≡ true
+pub left_named : (test : Sender → Bool) (e r : ResvState) → left_of test e ≡ Some r → has_name r.part ≡ true
 left_named test e r h = by (part_kept test e.part) refl h
   where
     by : (w : Option Part) → part_kept test e.part ≡ w → option_map (with_part e) w ≡ Some r → has_name r.part ≡ true
