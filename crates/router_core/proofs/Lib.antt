@@ -10,3 +10,4 @@ mod Refused
 pub mod Going
 pub mod Erring
 mod Tearing
+mod Emptying

@@ -8,7 +8,7 @@ use Rattle.path_state.specs.declared.fact.PathFact.{PathFact}
 use Rattle.resv_state.specs.Resvs.{AreOfStyle, ResvFacts, resv_key}
 use Rattle.resv_state.specs.declared.fact.ResvFact.{ResvFact}
 use Rattle.rsvp_base.specs.Orders.{Names, sessions}
-use Rattle.rsvp_base.specs.Table.{Table, changed, get, has, without}
+use Rattle.rsvp_base.specs.Table.{Table, changed, get, has}
 use Rattle.rsvp_base.specs.TokenBucket.{TokenBucket}
 use Rattle.rsvp_base.specs.declared.session.Sender.{Sender}
 use Rattle.rsvp_base.specs.declared.session.Session.{Session}

@@ -3,10 +3,11 @@
 //!
 //! Each call is the rule of a router (`router_rules`): the facts after, what is heard, each refusal, and what is sent, in
 //! order. Of all that a router does, `Node` has what comes of paths, local senders and ResvTears: it tells its neighbours
-//! downstream of the senders, and its previous hops what goes there. It passes PathErrs and ResvConfs on, and answers bytes that
-//! spell no message. Its book is that of its facts.
+//! downstream of the senders, and its previous hops what goes there. It passes PathErrs and ResvConfs on, answers bytes that
+//! spell no message, and is cleared. Its book is that of its facts.
 #![tactic(auto)]
 
+mod clearing;
 mod errors;
 mod learning;
 mod leaving;

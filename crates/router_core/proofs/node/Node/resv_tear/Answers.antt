@@ -1,4 +1,4 @@
-use Rattle.std.proofs.Common.{◌≡◌, fold, sym, ap, subst, ◌∙◌, refl}
+use Rattle.std.proofs.Common.{fold, sym, ap, subst, ◌∙◌, refl}
 use Rattle.std.specs.Option.{option_map}
 use Rattle.rsvp_messages.specs.declared.message.Message.TheVariants as message
 use Rattle.router_rules.specs.Inputs.{Spelt}
