@@ -1,0 +1,9 @@
+//! The theorem, of every valid script: where its network has settled a report is the demand, and at each of its steps no book
+//! passes its capacity and no refusal changes a reservation.
+//!
+//! It puts together that a valid script is a fit run (`script_laws`), that a settled report is the demand (`settle_reports`), and
+//! what holds at each step of a fit run (`run_laws`). Definitions stand in `specs/`, and each public function of `laws` has an
+//! empty body and a law as its promise.
+#![tactic(auto)]
+
+pub mod laws;
