@@ -1,1 +1,4 @@
 pub mod Booked
+pub mod Outward
+pub mod Conflicts
+pub mod Wholes

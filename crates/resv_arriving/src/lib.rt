@@ -1,9 +1,14 @@
-//! A ResvTear arrives at a node, with all its tables (RFC 2209, 2: RESV TEAR MESSAGE ARRIVES).
+//! A Resv and a ResvTear arrive at a node, with all its tables (RFC 2209, 2: RESV MESSAGE ARRIVES, RESV TEAR MESSAGE
+//! ARRIVES).
 //!
-//! The call is what the rules of a router say of the message: the facts after, and what is heard. The book is that of the
-//! facts before and after.
+//! Each call is what the rules of a router say of the message: the facts after, the errors in the order in which they go back,
+//! what is heard, and what is to be confirmed. The book is that of the facts before and after.
 #![tactic(auto)]
 
+mod matching;
+mod styles;
+mod taking;
 mod tearing;
 
+pub use taking::{Answer, asker_of, take_resv};
 pub use tearing::tear_resv;

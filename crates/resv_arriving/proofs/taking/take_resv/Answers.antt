@@ -1,0 +1,18 @@
+use Rattle.std.proofs.Common.{refl, ap, ◌∙◌}
+use Rattle.router_rules.specs.Asking.{ask_of, asked_of, asker_of, taking}
+use Rattle.router_rules.specs.Asking.{Asker as AskerOf}
+use Rattle.node_facts.specs.State.{facts_of}
+use Rattle.node_tables.specs.Whole.{state_of}
+use Rattle.resv_arriving.proofs.Wholes.{answer_is}
+use Rattle.resv_arriving.proofs.taking.take_resv.Goals as goal
+
+pub returns-clause-answer : goal.returns-clause-answer
+returns-clause-answer c = λ clock said.
+    let t = c.args.tables.now in
+    let m = c.args.message.now in
+    let p = t.config in
+    let f = facts_of clock (state_of t said) in
+    let o : AskerOf = asker_of p clock c.args.iface m in
+    let done = c.take_or_refuse-done.result in
+    answer_is p o done (taking p clock c.args.iface m f) f _ (c.take_or_refuse-done.ensures.done clock said) c.in_order-errors.ensures (c.heard_of-heard.ensures p o)
+    (c.wished-taken.ensures o refl ∙ ap (λ z. asked_of o (ask_of z done.parts) o.confirm) c.style_of.ensures)
