@@ -1,3 +1,4 @@
 pub mod Positions
 pub mod LinkRules
 pub mod HopRules
+pub mod SenderRules

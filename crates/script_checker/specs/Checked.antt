@@ -13,7 +13,7 @@ draft_of c = record {
   net = c.topology;
   force = c.topology.hops;
   stale = [];
-  sessions = [];
-  locals = record { senders = []; wants = [] };
+  sessions = c.sessions.items;
+  locals = record { senders = c.senders.items; wants = [] };
   events = each event_of c.events.items;
 }

@@ -3,9 +3,10 @@ ghost use Rattle.std.specs.Prelude.{◌≡◌, ◌≤◌, length};
 
 use crate::event::Event;
 use crate::names::NameTable;
-use rsvp_base::NoMemory;
+use rsvp_base::{NoMemory, Session};
 use script_words::EndName;
 use std::alloc::Global;
+use tree_model::LocalSender;
 use tree_routing::Topology;
 
 /// The lines so far. Names are found by their hash.
@@ -23,6 +24,10 @@ pub struct Checker {
     /// The same names, as faults tell them.
     pub(crate) end_names: Vec<EndName>,
     pub(crate) topology: Topology,
+    /// The sessions that were named, at most 32.
+    pub(crate) sessions: Vec<Session>,
+    /// Who sends, at most 16 in a session.
+    pub(crate) senders: Vec<LocalSender>,
     pub(crate) events: Vec<Event>,
     pub ghost same_nodes: { topology.nodes ≡ length nodes },
     pub ghost few_nodes: { length nodes ≤ 256 },
@@ -49,6 +54,8 @@ impl Checker {
             names: NameTable::new(alloc),
             end_names: Vec::new(alloc),
             topology: Topology::new(alloc)?,
+            sessions: Vec::new(alloc),
+            senders: Vec::new(alloc),
             events: Vec::new(alloc),
         })
     }

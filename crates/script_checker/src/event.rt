@@ -1,26 +1,58 @@
 //! What lines of part 3 do.
+use rsvp_base::{Flow, Sender, Session};
 
 /// What a line of part 3 does.
 #[derive(Clone, Copy, Debug, PartialEq, Eq)]
 pub enum Event {
+    /// A sender begins to send at a node.
+    Send {
+        node: u16,
+        session: Session,
+        sender: Sender,
+        flow: Flow,
+    },
+    /// A sender ends.
+    Gone {
+        node: u16,
+        session: Session,
+        sender: Sender,
+    },
     /// Time passes: `ms` milliseconds, from 1 to 3,600,000.
-    Wait { ms: u32 },
+    Wait {
+        ms: u32,
+    },
     /// What is in flight is delivered, this often.
-    Pass { times: u32 },
+    Pass {
+        times: u32,
+    },
     /// The datagram at a place in flight, from 1, is delivered.
-    Deliver { place: u32 },
+    Deliver {
+        place: u32,
+    },
     /// The datagram at a place in flight, from 1, is lost.
-    Lose { place: u32 },
+    Lose {
+        place: u32,
+    },
     /// The datagram at a place in flight, from 1, is in flight once more.
-    Again { place: u32 },
+    Again {
+        place: u32,
+    },
     /// A node forgets what it learnt.
-    Clear { node: u16 },
+    Clear {
+        node: u16,
+    },
     /// So many calm rounds.
-    Rounds { times: u32 },
+    Rounds {
+        times: u32,
+    },
     /// What is heard is written from now on, or no longer.
-    Trace { on: bool },
+    Trace {
+        on: bool,
+    },
     /// What an end has reserved is written: that of one end, or of all.
-    Report { end: Option<u16> },
+    Report {
+        end: Option<u16>,
+    },
     /// What all ends have reserved is written, with policing flags.
     Flags,
 }

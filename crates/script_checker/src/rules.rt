@@ -11,6 +11,8 @@ mod hop;
 mod link;
 mod node;
 mod period;
+mod sender;
+mod session;
 
 use crate::checker::Checker;
 use crate::refusal::Refusal;
@@ -44,8 +46,8 @@ pub fn add(checker: &mut Checker, line: Line) -> Result<(), Refusal>
         Line::StaleResv(_line) => Err(Refusal::Unbuilt),
         Line::StaleHopWall(_line) => Err(Refusal::Unbuilt),
         Line::StaleSenderWall(_line) => Err(Refusal::Unbuilt),
-        Line::Send(_line) => Err(Refusal::Unbuilt),
-        Line::Drop(_line) => Err(Refusal::Unbuilt),
+        Line::Send(line) => sender::add_send(checker, line),
+        Line::Drop(line) => sender::add_drop(checker, line),
         Line::Want(_line) => Err(Refusal::Unbuilt),
         Line::Quit(_line) => Err(Refusal::Unbuilt),
         Line::ReportEnd(end) => event::add_report_end(checker, end),

@@ -4,8 +4,8 @@ use script_grammar::{Fault, read_line};
 use std::alloc::Global;
 use std::test::*;
 
-// What is said of a line behind those that were taken.
-fn answer(alloc: Global, checker: &mut Checker, line: &str) -> Result<(), Refusal> {
+/// What is said of a line behind those that were taken.
+pub fn answer(alloc: Global, checker: &mut Checker, line: &str) -> Result<(), Refusal> {
     let mut words = Vec::new(alloc);
     match read_line(alloc, line.as_bytes(), &mut words) {
         Ok(line) => add(checker, line),

@@ -3,3 +3,5 @@
 
 #[cfg(test)]
 mod declared;
+#[cfg(test)]
+mod hosts;

@@ -38,8 +38,8 @@ fn from_1_to(most: u32, number: u128) -> Option<u32>
     Some(number as u32)
 }
 
-// Keeps an event.
-fn keep(checker: &mut Checker, event: Event) -> Result<(), Refusal>
+/// Keeps an event.
+pub fn keep(checker: &mut Checker, event: Event) -> Result<(), Refusal>
     ensures ok { OnOk result (draft_of checker.new ≡ record (draft_of checker.old) { events = map event_of checker.old.events.items ++ event_of event ∷ [] }) }
     ensures refused { IfErr result OnlyNoMemory }
 {

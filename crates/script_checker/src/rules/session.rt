@@ -1,0 +1,53 @@
+//! The sessions that lines name.
+ghost use Rattle.std.specs.Prelude.{◌≡◌, ◌↔◌, ◌∷◌, ◌++◌, [], IsTrue, IfErr, OnOk, map};
+ghost use Rattle.std.specs.List.{list_any};
+ghost use Rattle.script_checker.specs.Checked.{draft_of};
+ghost use Rattle.script_checker.specs.Events.{event_of};
+ghost use Rattle.script_checker.specs.Refusals.{OnlyNoMemory};
+ghost use Rattle.script_grammar.specs.Draft.{same_session, with_session};
+ghost use Rattle.script_grammar.specs.Rules.{HasRoomForSession};
+
+use super::event::keep;
+use crate::checker::Checker;
+use crate::event::Event;
+use crate::refusal::Refusal;
+use rsvp_base::Session;
+
+const MOST_SESSIONS: usize = 32;
+
+/// Whether two sessions are the same.
+pub fn is_session(session: Session, other: Session) -> bool
+    ensures { result ≡ same_session session other }
+{
+    session == other
+}
+
+// Whether a session was named.
+fn is_named(sessions: &[Session], session: Session) -> bool
+    ensures { result ≡ list_any (same_session session) sessions.now }
+{
+    sessions.iter().any(|one| is_session(session, *one))
+}
+
+/// Whether no more than 32 sessions are named with this one.
+pub fn has_room_for_session(checker: &Checker, session: Session) -> bool
+    ensures { IsTrue result ↔ HasRoomForSession (draft_of checker.now) session }
+{
+    let sessions = checker.sessions.as_slice();
+    if is_named(sessions, session) {
+        sessions.len() <= MOST_SESSIONS
+    } else {
+        sessions.len() < MOST_SESSIONS
+    }
+}
+
+/// Keeps an event of a session, which is named by it.
+pub fn keep_named(checker: &mut Checker, session: Session, event: Event) -> Result<(), Refusal>
+    ensures ok { OnOk result (draft_of checker.new ≡ record (draft_of checker.old) { sessions = with_session checker.old.sessions.items session; events = map event_of checker.old.events.items ++ event_of event ∷ [] }) }
+    ensures refused { IfErr result OnlyNoMemory }
+{
+    if !is_named(checker.sessions.as_slice(), session) {
+        checker.sessions.push(session)?;
+    }
+    keep(checker, event)
+}
