@@ -9,6 +9,8 @@ mod matching;
 mod styles;
 mod taking;
 mod tearing;
+mod telling;
 
 pub use taking::{Answer, asker_of, take_resv};
 pub use tearing::tear_resv;
+pub use telling::tell_refusals;

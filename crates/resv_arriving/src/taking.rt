@@ -86,7 +86,7 @@ fn wished(confirm: Option<Addr>, style: StyleKind, parts: &Parts) -> Option<Ask>
 }
 
 // The style of what is asked for.
-fn style_of(ask: &Ask) -> StyleKind
+pub(crate) fn style_of(ask: &Ask) -> StyleKind
     ensures { result ≡ ask_style ask.now }
 {
     match ask {
