@@ -11,3 +11,4 @@ pub mod Going
 pub mod Erring
 mod Tearing
 mod Emptying
+mod Staying

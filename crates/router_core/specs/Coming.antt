@@ -1,12 +1,13 @@
 -- A path or a local sender comes or goes, by the tables, with the countdown of its session.
-use Rattle.std.specs.Prelude.{ℕ, true, cond}
+use Rattle.std.specs.Prelude.{ℕ, ◌+◌, true, cond}
 use Rattle.path_state.specs.declared.fact.PathFact.{PathFact}
 use Rattle.rsvp_base.specs.Table.{without}
 use Rattle.rsvp_base.specs.TokenBucket.{TokenBucket}
 use Rattle.rsvp_base.specs.declared.session.Sender.{Sender}
 use Rattle.rsvp_base.specs.declared.session.Session.{Session}
 use Rattle.rsvp_messages.specs.declared.message.PathMsg.{PathMsg}
-use Rattle.router_rules.specs.Facts.{SenderKey}
+use Rattle.router_rules.specs.Facts.{PathState, SenderKey}
+use Rattle.router_rules.specs.Inputs.{Stale, StalePath}
 use Rattle.node_facts.specs.State.{State}
 use Rattle.node_facts.specs.Changes.{counts_in, paths_put, paths_without, recounted, senders_put, senders_without}
 use Rattle.node_waiting.specs.Passing.{counts}
@@ -32,3 +33,13 @@ without_sender n k = recounted (names_gone k (senders_without n k)) k.0 (counts_
 -- without the countdown of a session, where it has neither a local sender nor a path
 abbrev pub stopped : State → Session → State
 stopped m s = record m { due = cond (counts m.senders m.paths s) m.due (without m.due s) }
+
+-- ---- a path that is left over, with this much left
+abbrev pub path_key : PathFact → SenderKey
+path_key fact = (fact.session, fact.sender)
+
+abbrev pub path_left : ℕ → PathFact → ℕ → PathState
+path_left c fact left = record { iface = fact.iface; hop = fact.hop; tspec = fact.tspec; police = fact.police; dies = c + left }
+
+abbrev pub stale_path : ℕ → PathFact → ℕ → Stale
+stale_path c fact left = StalePath (path_key fact) (path_left c fact left)

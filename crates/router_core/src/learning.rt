@@ -1,12 +1,12 @@
 //! Paths and local senders come into the tables.
-ghost use Rattle.std.specs.Prelude.{◌≡◌, [], cond};
+ghost use Rattle.std.specs.Prelude.{◌≡◌, ◌≤◌, [], cond};
 ghost use Rattle.rsvp_base.specs.Orders.{senders};
 ghost use Rattle.rsvp_base.specs.SessionLimits.{has_room_at};
 ghost use Rattle.rsvp_base.specs.Table.{empty, put_in};
 ghost use Rattle.router_rules.specs.NodeConfig.{lifetime};
 ghost use Rattle.node_facts.specs.State.{IsSettled};
 ghost use Rattle.node_tables.specs.Whole.{state_of};
-ghost use Rattle.router_core.specs.Coming.{fact_of, with_path, with_sender};
+ghost use Rattle.router_core.specs.Coming.{fact_of, path_key, with_path, with_sender};
 
 use node_tables::Tables;
 use path_state::PathFact;
@@ -29,10 +29,7 @@ pub(crate) fn learn_path(
     ensures rest { tables.new ≡ record tables.old { senders = tables.new.senders; paths = tables.new.paths; due = tables.new.due } }
     ensures pulled { tables.new.paths.dead.rows ≡ [] }
 {
-    let period = tables.config.period();
     let left = tables.config.lifetime(message.period);
-    let _own = tables.senders.find(message.session, sender);
-    let _was = tables.paths.find(message.session, sender);
     let fact = PathFact {
         session: message.session,
         sender,
@@ -41,10 +38,28 @@ pub(crate) fn learn_path(
         tspec,
         police: message.police,
     };
+    keep_path(tables, fact, left)
+}
+
+/// Keeps a path with this much left, in milliseconds, if there is room for it; its session has a countdown then. Whether there
+/// was room.
+pub(crate) fn keep_path(tables: &mut Tables, fact: PathFact, left: u32) -> bool
+    requires some { 1 ≤ left }
+    requires pulled { tables.old.paths.dead.rows ≡ [] }
+    requires settled { IsSettled (state_of tables.old empty) }
+    ensures room { result ≡ has_room_at senders (put_in tables.old.paths.facts (path_key fact) (fact, left)) fact.session }
+    ensures state { state_of tables.new empty ≡ cond result (with_path (state_of tables.old empty) (path_key fact) fact left) (state_of tables.old empty) }
+    ensures rest { tables.new ≡ record tables.old { senders = tables.new.senders; paths = tables.new.paths; due = tables.new.due } }
+    ensures pulled { tables.new.paths.dead.rows ≡ [] }
+{
+    let period = tables.config.period();
+    let (session, sender) = (fact.session, fact.sender);
+    let _own = tables.senders.find(session, sender);
+    let _was = tables.paths.find(session, sender);
     let Ok(()) = tables.paths.learn(fact, left) else {
         return false;
     };
-    tables.due.begin(message.session, period);
+    tables.due.begin(session, period);
     true
 }
 

@@ -16,5 +16,6 @@ mod opening;
 mod paths;
 mod resvs;
 mod senders;
+mod stale;
 
 pub use node::Node;

@@ -1,79 +1,21 @@
-use Rattle.std.proofs.Common.{◌≡◌, ℕ, true, false, is_err, sym, ap, ◌∙◌, refl}
-use Rattle.std.proofs.lemmas.Bool.{false≢true}
-use Rattle.path_state.specs.Paths.{PathMap, path_keys}
-use Rattle.path_state.specs.declared.fact.PathFact.{PathFact}
+use Rattle.std.proofs.Common.{◌∙◌, cond}
 use Rattle.rsvp_base.specs.Orders.{senders}
 use Rattle.rsvp_base.specs.SessionLimits.{has_room_at}
-use Rattle.rsvp_base.specs.Table.{empty, has, put_in}
-use Rattle.rsvp_base.proofs.SessionRoom.{put_room}
-use Rattle.rsvp_base.proofs.SetLaws.{or_right}
-use Rattle.rsvp_base.proofs.Tables.{either}
+use Rattle.rsvp_base.specs.Table.{empty, put_in}
 use Rattle.router_rules.specs.Facts.{SenderKey}
-use Rattle.router_rules.specs.Forgetting.{counted}
-use Rattle.router_rules.specs.NodeConfig.{lifetime}
-use Rattle.node_facts.specs.Changes.{paths_put, started}
-use Rattle.node_facts.specs.State.{State, facts_of}
 use Rattle.node_tables.specs.Whole.{state_of}
-use Rattle.node_tables.specs.declared.tables.Tables.{Tables}
 use Rattle.router_core.specs.Coming.{fact_of, with_path}
-use Rattle.router_core.proofs.Keeping.{counts_by, put_more, put_there, room_for_due}
 use Rattle.router_core.proofs.learning.learn_path.Goals as goal
-use Rattle.router_core.proofs.learning.learn_path.Goals.{After-learn, After-begin}
-
-module _ (c : After-learn) where
-  abbrev key : SenderKey
-  key = (c.args.message.now.session, c.args.sender)
-
-  abbrev was : State
-  was = state_of c.args.tables.now empty
-
-  abbrev fact : PathFact
-  fact = fact_of c.args.iface c.args.message.now c.args.sender c.args.tspec
-
-  left : c.lifetime-left.result ≡ lifetime c.args.tables.now.config c.args.message.now.period
-  left = c.lifetime-left.ensures.life
-
-  same_room : has_room_at senders (put_in c.args.tables.now.paths.facts key (fact, c.lifetime-left.result)) c.args.message.now.session ≡ has_room_at senders (put_in c.args.tables.now.paths.facts key (fact, lifetime c.args.tables.now.config c.args.message.now.period)) c.args.message.now.session
-  same_room = λ i. has_room_at senders (put_in c.args.tables.now.paths.facts key (fact, left i)) c.args.message.now.session
-
-  here : (clock : ℕ) → true ≡ has (counted (facts_of clock (paths_put was key fact (lifetime c.args.tables.now.config c.args.message.now.period)))) c.args.message.now.session
-  here = counts_by (paths_put was key fact (lifetime c.args.tables.now.config c.args.message.now.period)) key (or_right (has was.senders key) _ (put_there path_keys was.paths key (fact, lifetime c.args.tables.now.config c.args.message.now.period)))
-
-  -- there was room
-  room : is_err c.learn.result ≡ false → (has_room_at senders (put_in c.args.tables.now.paths.facts key (fact, c.lifetime-left.result)) c.args.message.now.session ≡ false → is_err c.learn.result ≡ true)
-      → has_room_at senders (put_in c.args.tables.now.paths.facts key (fact, lifetime c.args.tables.now.config c.args.message.now.period)) c.args.message.now.session ≡ true
-  room ok full = either _ (λ t. t) (λ f. absurd (false≢true (sym ok ∙ full (same_room ∙ f))))
-
-  -- nothing changed
-  abbrev kept_as : PathMap → Tables
-  kept_as m = record c.args.tables.now { paths = m }
-
-pub returns-in_default-clause-room : goal.returns-in_default-clause-room
-returns-in_default-clause-room c = let d = (goal.at.returns-in_default-clause-room c).After-learn in sym (sym (same_room d) ∙ c.in_default.ensures.full.0 refl)
-
-pub returns-in_default-clause-state : goal.returns-in_default-clause-state
-returns-in_default-clause-state c = let d = (goal.at.returns-in_default-clause-state c).After-learn in ap (λ (m : PathMap). state_of (kept_as d m) empty) c.in_default.ensures.err
-
-pub returns-in_default-clause-pulled : goal.returns-in_default-clause-pulled
-returns-in_default-clause-pulled c = ap (λ (m : PathMap). m.dead.rows) c.in_default.ensures.err ∙ c.requires.pulled
-
-pub begin-requires : goal.begin-requires
-begin-requires c = λ none.
-    let d = (goal.at.begin-requires c).After-learn in
-    let n = was d in
-    let value : PathFact × ℕ = (fact d, lifetime c.args.tables.now.config c.args.message.now.period) in
-    let within = (put_room senders n.paths (key d) value c.find-was.ensures.within).0 (room d (ap is_err c.in-Ok.is) c.learn.ensures.full.1) in
-    room_for_due n c.requires.settled (paths_put n (key d) (fact d) (lifetime c.args.tables.now.config c.args.message.now.period)) c.args.message.now.session (λ k h. h) (put_more path_keys n.paths (key d) value) (here d 0) c.find-own.ensures.within within none
 
 pub returns-clause-room : goal.returns-clause-room
-returns-clause-room c = let d = (goal.at.returns-clause-room c).After-learn in sym (room d (ap is_err c.in-Ok.is) c.learn.ensures.full.1)
+returns-clause-room c =
+    let k : SenderKey = (c.args.message.now.session, c.args.sender) in
+    let fact = fact_of c.args.iface c.args.message.now c.args.sender c.args.tspec in
+    c.keep_path.ensures.room ∙ (λ i. has_room_at senders (put_in c.args.tables.now.paths.facts k (fact, c.lifetime-left.ensures.life i)) c.args.message.now.session)
 
 pub returns-clause-state : goal.returns-clause-state
 returns-clause-state c =
-    let d = (goal.at.returns-clause-state c).After-learn in
-    let paths = ap (λ (m : PathMap). m.facts) c.in-Ok.ensures.ok in
-    let due = c.begin.ensures ∙ (λ i. started (has c.args.tables.now.due c.args.message.now.session) c.args.message.now.session (c.period-period.ensures i) c.args.tables.now.due) in
-    (λ i. record (was d) { paths = paths i; due = due i }) ∙ (λ i. with_path (was d) (key d) (fact d) (left d i))
-
-pub returns-clause-pulled : goal.returns-clause-pulled
-returns-clause-pulled c = ap (λ (m : PathMap). m.dead.rows) c.in-Ok.ensures.ok ∙ c.requires.pulled
+    let k : SenderKey = (c.args.message.now.session, c.args.sender) in
+    let n = state_of c.args.tables.now empty in
+    let fact = fact_of c.args.iface c.args.message.now c.args.sender c.args.tspec in
+    c.keep_path.ensures.state ∙ (λ i. cond c.keep_path.result (with_path n k fact (c.lifetime-left.ensures.life i)) n)
