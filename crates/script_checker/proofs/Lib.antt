@@ -2,3 +2,4 @@ pub mod Positions
 pub mod LinkRules
 pub mod HopRules
 pub mod SenderRules
+pub mod WantRules

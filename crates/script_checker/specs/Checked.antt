@@ -14,6 +14,6 @@ draft_of c = record {
   force = c.topology.hops;
   stale = [];
   sessions = c.sessions.items;
-  locals = record { senders = c.senders.items; wants = [] };
+  locals = record { senders = c.senders.items; wants = c.wants.items };
   events = each event_of c.events.items;
 }

@@ -3,3 +3,4 @@ pub mod Checked
 pub mod Refusals
 pub mod LinkEnds
 pub mod HopRefusals
+pub mod Styles

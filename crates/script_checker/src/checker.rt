@@ -6,7 +6,7 @@ use crate::names::NameTable;
 use rsvp_base::{NoMemory, Session};
 use script_words::EndName;
 use std::alloc::Global;
-use tree_model::LocalSender;
+use tree_model::{LocalSender, LocalWant};
 use tree_routing::Topology;
 
 /// The lines so far. Names are found by their hash.
@@ -28,6 +28,8 @@ pub struct Checker {
     pub(crate) sessions: Vec<Session>,
     /// Who sends, at most 16 in a session.
     pub(crate) senders: Vec<LocalSender>,
+    /// Who wants what, at most 16 units of a session at a node.
+    pub(crate) wants: Vec<LocalWant>,
     pub(crate) events: Vec<Event>,
     pub ghost same_nodes: { topology.nodes ≡ length nodes },
     pub ghost few_nodes: { length nodes ≤ 256 },
@@ -56,6 +58,7 @@ impl Checker {
             topology: Topology::new(alloc)?,
             sessions: Vec::new(alloc),
             senders: Vec::new(alloc),
+            wants: Vec::new(alloc),
             events: Vec::new(alloc),
         })
     }

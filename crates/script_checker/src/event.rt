@@ -1,8 +1,8 @@
 //! What lines of part 3 do.
-use rsvp_base::{Flow, Sender, Session};
+use rsvp_base::{Flow, Sender, Senders, Session, StyleKind};
 
 /// What a line of part 3 does.
-#[derive(Clone, Copy, Debug, PartialEq, Eq)]
+#[derive(Drop)]
 pub enum Event {
     /// A sender begins to send at a node.
     Send {
@@ -16,6 +16,21 @@ pub enum Event {
         node: u16,
         session: Session,
         sender: Sender,
+    },
+    /// A receiver wants something at a node. A wildcard want lists no senders.
+    Want {
+        node: u16,
+        session: Session,
+        style: StyleKind,
+        senders: Senders,
+        flow: Flow,
+        /// Whether a confirmation is wanted.
+        confirm: bool,
+    },
+    /// The receivers at a node want nothing of a session any more.
+    Quit {
+        node: u16,
+        session: Session,
     },
     /// Time passes: `ms` milliseconds, from 1 to 3,600,000.
     Wait {

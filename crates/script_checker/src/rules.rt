@@ -13,6 +13,7 @@ mod node;
 mod period;
 mod sender;
 mod session;
+mod want;
 
 use crate::checker::Checker;
 use crate::refusal::Refusal;
@@ -48,8 +49,8 @@ pub fn add(checker: &mut Checker, line: Line) -> Result<(), Refusal>
         Line::StaleSenderWall(_line) => Err(Refusal::Unbuilt),
         Line::Send(line) => sender::add_send(checker, line),
         Line::Drop(line) => sender::add_drop(checker, line),
-        Line::Want(_line) => Err(Refusal::Unbuilt),
-        Line::Quit(_line) => Err(Refusal::Unbuilt),
+        Line::Want(line) => want::add_want(checker, line),
+        Line::Quit(line) => want::add_quit(checker, line),
         Line::ReportEnd(end) => event::add_report_end(checker, end),
         Line::Inject(_line) => Err(Refusal::Unbuilt),
         Line::Reroute(_line) => Err(Refusal::Unbuilt),

@@ -54,7 +54,7 @@ fn lines_are_taken_up_to_a_bad_one(rt: HostRuntime) -> Result<(), Fail> {
     );
     assert!(rt;
         matches!(
-            answer(alloc, &mut checker, "quit a 224.1.1.1/17/1"),
+            answer(alloc, &mut checker, "inject b1 224.1.1.1 00"),
             Err(Refusal::Unbuilt)
         )
     );
