@@ -11,6 +11,7 @@ use Rattle.rsvp_base.specs.Orders.{senders}
 use Rattle.rsvp_base.specs.SessionLimits.{IsWithinSessionLimits}
 use Rattle.rsvp_base.specs.Sets.{Set}
 use Rattle.rsvp_base.specs.Table.{empty, has, keys, size}
+use Rattle.rsvp_base.specs.declared.addr.Addr.{Addr}
 use Rattle.rsvp_base.specs.declared.session.Session.{Session}
 use Rattle.rsvp_base.specs.declared.style.StyleKind.{StyleKind}
 use Rattle.rsvp_base.specs.declared.style.StyleKind.TheVariants.{Wild, Fixed, Shared}
@@ -125,12 +126,12 @@ module _ (old new : Said) (m : State) (s : Session) (st : StyleKind) (hop : Next
       sym (said_here old l (toward_at 0 m s st hop)) ∙ ap (λ (z : Said). said_at z l) (sym (kept 0) ∙ kept c) ∙ said_here old l (toward_at c m s st hop) ∙ toward_is c
 
 -- where the same was said before, the same is told
-pub same_told : (c : ℕ) (n : State) (due : Bool) (a b : Said) (s : Session) (es : List SessionLane) → ((e : SessionLane) → In e es → said_at b (lane_by s e) ≡ said_at a (lane_by s e)) → flat_map (told_by c n due b s) es ≡ flat_map (told_by c n due a s) es
-same_told c n due a b s [] same = refl
-same_told c n due a b s (e ∷ es) same =
+pub same_told : (c : ℕ) (n : State) (asked : Option Addr) (due : Bool) (a b : Said) (s : Session) (es : List SessionLane) → ((e : SessionLane) → In e es → said_at b (lane_by s e) ≡ said_at a (lane_by s e)) → flat_map (told_by c n asked due b s) es ≡ flat_map (told_by c n asked due a s) es
+same_told c n asked due a b s [] same = refl
+same_told c n asked due a b s (e ∷ es) same =
     let here = same e (inl refl) in
-    let rest = same_told c n due a b s es (λ d i. same d (inr i)) in
-    λ i. told_seen c n (lane_by s e) due (here i) ++ rest i
+    let rest = same_told c n asked due a b s es (λ d i. same d (inr i)) in
+    λ i. told_seen c n (lane_by s e) asked due (here i) ++ rest i
 
 -- the lanes of a style that were not told yet
 pub untold : (m : State) (s : Session) (st other : StyleKind) → (st ≡ other → ⊥) → (hops : List NextHop) (last : Said) → IsTold m s (lanes_of st hops) last → (e : SessionLane) → In e (lanes_of other hops) → said_at last (lane_by s e) ≡ said_at m.said (lane_by s e)
@@ -166,10 +167,10 @@ module _ (t : Tables) (first : Said) (s : Session) (st : StyleKind) (hops : Set 
       pub step_roomy : IsRoomy (state_of t empty) new
       step_roomy = subst (IsRoomy (state_of t empty)) (sym (kept 0)) (roomy_told (state_of t empty) said roomy (lane_by s (st, hop)) (toward_at 0 (state_of t empty) s st hop) (goes_there said new (state_of t empty) s st hop kept))
 
-module _ {B : Type 0} (posted : B → Send → B) (start : B) (c : ℕ) (t : Tables) (any : Said) (due : Bool) (first : Said) (s : Session) (st : StyleKind) (hops : Set next_hops) (near : (c : ℕ) → hops ≡ hops_in (facts_of c (state_of t empty)) s)
+module _ {B : Type 0} (posted : B → Send → B) (start : B) (c : ℕ) (t : Tables) (any : Said) (asked : Option Addr) (due : Bool) (first : Said) (s : Session) (st : StyleKind) (hops : Set next_hops) (near : (c : ℕ) → hops ≡ hops_in (facts_of c (state_of t empty)) s)
     (list : List NextHop) (is : list ≡ keys hops) (i : ℕ) (d : NextHop) (h : i < length list) (said : Said) (roomy : IsRoomy (state_of t empty) said) (done : IsTold (state_of t first) s (lanes_of st (take i list)) said) (out : B)
-    (so_far : out ≡ fold posted start (flat_map (told_by c (state_of t any) due first s) (lanes_of st (take i list)))) (new : B) where
-  pub step_sent : new ≡ fold posted out (told_by c (state_of t any) due said s (st, slice_index_or list i d)) → new ≡ fold posted start (flat_map (told_by c (state_of t any) due first s) (lanes_of st (take (i + 1) list)))
+    (so_far : out ≡ fold posted start (flat_map (told_by c (state_of t any) asked due first s) (lanes_of st (take i list)))) (new : B) where
+  pub step_sent : new ≡ fold posted out (told_by c (state_of t any) asked due said s (st, slice_index_or list i d)) → new ≡ fold posted start (flat_map (told_by c (state_of t any) asked due first s) (lanes_of st (take (i + 1) list)))
   step_sent sent =
-      sent ∙ ap (λ w. fold posted out (told_seen c (state_of t any) (lane_by s (st, slice_index_or list i d)) due w)) (step_was t first s st hops near list is i d h said roomy done)
-      ∙ step_said posted start (told_by c (state_of t any) due first s) st list i d h out so_far
+      sent ∙ ap (λ w. fold posted out (told_seen c (state_of t any) (lane_by s (st, slice_index_or list i d)) asked due w)) (step_was t first s st hops near list is i d h said roomy done)
+      ∙ step_said posted start (told_by c (state_of t any) asked due first s) st list i d h out so_far

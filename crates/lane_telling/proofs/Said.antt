@@ -1,10 +1,11 @@
 -- What is told of a lane, as the code tells it.
-use Rattle.std.specs.Prelude.{◌≡◌, ◌==◌, ◌||◌, ◌↔◌, ℕ, Bool, true, false, cond, not, fold, IsTrue, List, [], ◌∷◌, Option, Some, None, refl}
+use Rattle.std.specs.Prelude.{◌≡◌, ◌==◌, ◌↔◌, ℕ, Bool, true, false, cond, not, IsTrue, List, [], ◌∷◌, Option, Some, None, refl}
 use Rattle.std.proofs.Common.{sym, ap, ◌∙◌}
 use Rattle.std.proofs.lemmas.Bool.{eqb-true}
 use Rattle.rsvp_base.specs.Orders.{Names}
 use Rattle.rsvp_base.specs.Sets.{cut, is_none}
 use Rattle.rsvp_base.specs.Table.{size}
+use Rattle.rsvp_base.specs.declared.addr.Addr.{Addr}
 use Rattle.rsvp_base.specs.declared.hop.Hop.{Hop}
 use Rattle.rsvp_base.specs.declared.session.Session.{Session}
 use Rattle.rsvp_base.specs.declared.style.StyleKind.{StyleKind}
@@ -19,10 +20,11 @@ use Rattle.router_rules.specs.Asking.{ask_of}
 use Rattle.router_rules.specs.Inputs.{Send}
 use Rattle.router_rules.specs.Known.{Lane}
 use Rattle.router_rules.specs.NodeConfig.{period}
-use Rattle.router_rules.specs.Sends.{gone_names, resv_send, resv_tear_send, same_parts, tear_of}
+use Rattle.router_rules.specs.Sends.{gone_names, marked_units, own_wish, resv_tear_send, same_parts, tear_of}
 use Rattle.node_facts.specs.State.{State, facts_of}
 use Rattle.node_facts.proofs.Routed.{same_test}
-use Rattle.node_sends.specs.Saying.{ask_seen, told_ask, told_seen, torn_of, torn_seen}
+use Rattle.node_sends.specs.Saying.{ask_seen, told_ask, told_seen, torn_of, torn_seen, wish_seen}
+use Rattle.lane_telling.specs.Rounds.{told_parts}
 use Rattle.node_sends.specs.Seen.{hop_seen, lane_of, names_seen, toward_at}
 
 -- ---- tests of the code
@@ -60,33 +62,45 @@ module _ (c : ℕ) (n : State) (s : Session) (st : StyleKind) (hop : NextHop) wh
         ∙ sym (ap (λ b. cond b [] (resv_tear_send n.place (facts_of c n) lane (torn_of was (toward_at c n s st hop) (names_seen c n s st hop)) ∷ [])) some)
 
   -- ---- Resvs
-  pub asked_none : (due : Bool) (w : Option Ask) → w ≡ None → [] ≡ ask_seen c n lane due w
+  pub asked_none : (wish : Option Addr) (due : Bool) (w : Option Ask) → w ≡ None → [] ≡ ask_seen c n lane wish due w
   unfolding ask_seen
-  asked_none due None e = refl
-  asked_none due (Some ask) e = cc
+  asked_none wish due None e = refl
+  asked_none wish due (Some ask) e = cc
 
-  pub asked_some : (due : Bool) (to : Hop) → to ≡ hop_seen c n s hop → (t : ℕ) → t ≡ period n.place → (ask : Ask)
-      → ◌≡◌ {A = List Send} (record { iface = hop.0; dst = hop.1; message = message.Resv (record { session = s; hop = to; period = t; confirm = None; ask = ask }); refresh = due } ∷ []) (ask_seen c n lane due (Some ask))
+  pub asked_some : (wish : Option Addr) (due : Bool) (to : Hop) → to ≡ hop_seen c n s hop → (t : ℕ) → t ≡ period n.place → (ask : Ask)
+      → ◌≡◌ {A = List Send} (record { iface = hop.0; dst = hop.1; message = message.Resv (record { session = s; hop = to; period = t; confirm = wish; ask = ask }); refresh = due } ∷ []) (ask_seen c n lane wish due (Some ask))
   unfolding ask_seen hop_seen
-  asked_some due to to_is t t_is ask = λ i. record { iface = hop.0; dst = hop.1; message = message.Resv (record { session = s; hop = to_is i; period = t_is i; confirm = None; ask = ask }); refresh = due } ∷ []
+  asked_some wish due to to_is t t_is ask = λ i. record { iface = hop.0; dst = hop.1; message = message.Resv (record { session = s; hop = to_is i; period = t_is i; confirm = wish; ask = ask }); refresh = due } ∷ []
 
-  module _ {B : Type 0} (posted : B → Send → B) (start : B) (due : Bool) (was now : PartTable) (goes : now ≡ toward_at c n s st hop) where
-    told_by : (new : Bool) (w : Option Ask) → cond (new || due) (fold posted start (ask_seen c n lane due w)) start ≡ fold posted start (told_ask n.place (facts_of c n) lane new due w)
-    unfolding ask_seen
-    told_by new None = one (new || due)
-      where
-        one : (b : Bool) → cond b start start ≡ start
-        one true = refl
-        one false = refl
-    told_by new (Some ask) = one (new || due)
-      where
-        one : (b : Bool) → cond b (posted start (resv_send n.place (facts_of c n) lane None due ask)) start ≡ fold posted start (cond b (resv_send n.place (facts_of c n) lane None due ask ∷ []) [])
-        one true = refl
-        one false = refl
+  -- whom it asks to confirm
+  pub wish_given : (a : Addr) → Some a ≡ wish_seen c n lane (Some a)
+  unfolding wish_seen
+  wish_given a = refl
 
-    all_of : (new : Bool) (w : Option Ask) → new ≡ not (same_parts was (toward_at c n s st hop)) → w ≡ ask_of st (toward_at c n s st hop) → told_ask n.place (facts_of c n) lane new due w ≡ told_seen c n lane due was
-    unfolding told_seen toward_at
-    all_of new w new_is w_is = λ i. told_ask n.place (facts_of c n) lane (new_is i) due (w_is i)
+  pub wish_own : (w : Option Addr) → w ≡ own_wish n.place lane (marked_units n.place (facts_of c n) lane) → w ≡ wish_seen c n lane None
+  unfolding wish_seen
+  wish_own w is = is
 
-    pub told_is : (new : Bool) → new ≡ not (same_parts was now) → cond (new || due) (fold posted start (ask_seen c n lane due (ask_of st now))) start ≡ fold posted start (told_seen c n lane due was)
-    told_is new is = told_by new (ask_of st now) ∙ ap (fold posted start) (all_of new (ask_of st now) (is ∙ ap (λ v. not (same_parts was v)) goes) (ap (ask_of st) goes))
+  module _ (asked : Option Addr) where
+    -- new, due, or neither
+    pub parts_new : (due : Bool) (w : Option Ask) → ask_seen c n lane (wish_seen c n lane asked) due w ≡ told_parts c n lane asked true due w
+    unfolding ask_seen wish_seen told_parts
+    parts_new due None = refl
+    parts_new due (Some ask) = refl
+
+    pub parts_due : (w : Option Ask) → ask_seen c n lane None true w ≡ told_parts c n lane asked false true w
+    unfolding ask_seen told_parts
+    parts_due None = refl
+    parts_due (Some ask) = refl
+
+    pub parts_old : (w : Option Ask) → [] ≡ told_parts c n lane asked false false w
+    unfolding told_parts
+    parts_old None = refl
+    parts_old (Some ask) = refl
+
+    module _ (due : Bool) (was now : PartTable) (goes : now ≡ toward_at c n s st hop) where
+      pub told_is : (new : Bool) → new ≡ not (same_parts was now) → told_parts c n lane asked new due (ask_of st now) ≡ told_seen c n lane asked due was
+      unfolding told_parts told_seen toward_at
+      told_is new is =
+          let new_is : new ≡ not (same_parts was (toward_at c n s st hop)) = is ∙ ap (λ v. not (same_parts was v)) goes in
+          λ i. told_ask n.place (facts_of c n) lane asked (new_is i) due (ask_of st (goes i))

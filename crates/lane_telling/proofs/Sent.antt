@@ -1,8 +1,9 @@
 -- What is told of a sender, and of its session's lanes, is what the rule sends.
-use Rattle.std.specs.Prelude.{◌≡◌, ℕ, ◌+◌, true, false, List, ◌++◌, map as each, fold, Option, Some, None, refl}
+use Rattle.std.specs.Prelude.{◌≡◌, ℕ, ◌+◌, Bool, true, false, not, ◌&&◌, List, ◌++◌, map as each, fold, Option, Some, None, refl}
 use Rattle.std.specs.List.{filter_map, flat_map}
 use Rattle.std.specs.Option.{option_map}
 use Rattle.std.proofs.Common.{sym, ap, subst, ◌∙◌, ⊎_elim}
+use Rattle.std.proofs.lemmas.List.{append_assoc}
 use Rattle.std.proofs.lemmas.List.Sums.{fold-append}
 use Rattle.std.proofs.lemmas.Option.{same_Some}
 use Rattle.path_state.specs.Paths.{hops_by, path_keys}
@@ -11,11 +12,12 @@ use Rattle.path_state.specs.declared.fact.PathFact.{PathFact}
 use Rattle.rsvp_base.specs.Members.{In}
 use Rattle.rsvp_base.specs.Orders.{senders, sessions}
 use Rattle.rsvp_base.specs.Sets.{Set}
-use Rattle.rsvp_base.specs.Table.{empty, get, has, keys}
+use Rattle.rsvp_base.specs.Table.{changed, empty, get, has, keys}
 use Rattle.rsvp_base.specs.TokenBucket.{TokenBucket}
 use Rattle.rsvp_base.specs.Under.{under}
 use Rattle.rsvp_base.specs.declared.session.Sender.{Sender}
 use Rattle.rsvp_base.specs.declared.session.Session.{Session}
+use Rattle.rsvp_base.proofs.Changed.{changed_same}
 use Rattle.rsvp_base.proofs.Counts.{found_in, in_found, in_set_of, set_of_in}
 use Rattle.rsvp_base.proofs.Fronts.{in_keys}
 use Rattle.rsvp_base.proofs.Members.{in_each, to_each}
@@ -25,23 +27,27 @@ use Rattle.rsvp_base.proofs.UnderLaws.{get-under}
 use Rattle.style_rules.specs.Lines.{NextHop, next_hops}
 use Rattle.style_rules.specs.Toward.{or_else}
 use Rattle.router_lookups.proofs.Tests.{came_tested, came_told}
-use Rattle.router_rules.specs.Facts.{Facts, PathState, SenderKey}
-use Rattle.router_rules.specs.Inputs.{Send, only_heard}
+use Rattle.router_rules.specs.Facts.{Facts, PathState, SenderKey, Wants, want_keys}
+use Rattle.router_rules.specs.Inputs.{Asked, Change, Send, only_heard}
 use Rattle.router_rules.specs.Known.{Lane, lanes}
 use Rattle.router_rules.specs.Offers.{Offer}
 use Rattle.router_rules.specs.Requests.{toward}
-use Rattle.router_rules.specs.Sends.{resv_send_to, resv_tear, sends}
+use Rattle.router_rules.specs.NodeConfig.{is_session}
+use Rattle.router_rules.specs.Sends.{conf_sends, confirmed, error_sends, resv_send_to, resv_tear, sends, unmarked, used_marks}
 use Rattle.router_rules.specs.declared.answers.Heard.{Heard}
 use Rattle.node_facts.specs.State.{Said, State, facts_of, path_at, said_at}
 use Rattle.node_facts.proofs.Routed.{same_test}
 use Rattle.node_sends.specs.Before.{IsBefore, lanes_by}
 use Rattle.node_sends.specs.Saying.{AreLanesOf, IsCleared, SessionLane, lane_by, told_seen, torn_seen}
-use Rattle.node_sends.specs.SendsHere.{hops_in, lanes_at, sent_at}
-use Rattle.node_sends.specs.Told.{offered, told_gone, told_new}
+use Rattle.node_sends.specs.Marks.{unmarked_in, used_in}
+use Rattle.node_sends.specs.SendsHere.{hops_in, lanes_at}
+use Rattle.node_sends.specs.Told.{offered, told_gone}
 use Rattle.node_sends.proofs.Apart.{changed_at}
-use Rattle.node_sends.proofs.Changing.{one_sender_is_told}
+use Rattle.node_sends.proofs.Changing.{one_session_is_told}
 use Rattle.node_sends.proofs.Lanes.{hops_made, hops_told}
+use Rattle.node_sends.proofs.Marks.{marks_of_one_session}
 use Rattle.node_sends.proofs.Telling.{are_lanes, lanes_are, sends_by_lane, tears_by_lane}
+use Rattle.lane_telling.specs.Halves.{address_of, told_before, told_behind, used_where}
 use Rattle.lane_telling.specs.Rounds.{told_by, torn_by}
 use Rattle.lane_telling.proofs.Listed.{same_told}
 
@@ -93,12 +99,9 @@ hops_are c n s = same_set next_hops _ _ (λ hop. same_test _ _ (to hop) (from ho
         let same : ◌≡◌ {A = NextHop} (hop_of_fact (t.0, g.0)) hop = let a = ap (λ (y : PathState). y.iface) is ∙ came.0 in let b = ap (λ (y : PathState). y.hop.addr) is ∙ came.1 in λ i. (a i, b i) in
         ap (λ z. has (hops_by rows) z) (sym same) ∙ in_set_of next_hops (each hop_of_fact rows) (hop_of_fact (t.0, g.0)) (to_each hop_of_fact (t.0, g.0) rows row)
 
--- ---- four lists of sends, one after another
-module _ {B : Type 0} (posted : B → Send → B) (start one two three four : B) (a1 a2 a3 a4 : List Send) where
-  pub four_sent : one ≡ fold posted start a1 → two ≡ fold posted one a2 → three ≡ fold posted two a3 → four ≡ fold posted three a4 → four ≡ fold posted start (a1 ++ (a2 ++ (a3 ++ a4)))
-  four_sent a b c d =
-      d ∙ ap (λ o. fold posted o a4) c ∙ sym (fold-append posted two a3 a4) ∙ ap (λ o. fold posted o (a3 ++ a4)) b ∙ sym (fold-append posted one a2 (a3 ++ a4)) ∙ ap (λ o. fold posted o (a2 ++ (a3 ++ a4))) a
-      ∙ sym (fold-append posted start a1 (a2 ++ (a3 ++ a4)))
+-- ---- two lists of sends, one after another
+pub two_sent : {B : Type 0} (posted : B → Send → B) (start one two : B) (a b : List Send) → one ≡ fold posted start a → two ≡ fold posted one b → two ≡ fold posted start (a ++ b)
+two_sent posted start one two a b e d = d ∙ ap (λ o. fold posted o b) e ∙ sym (fold-append posted start a b)
 
 -- ---- what the rule sends
 module _ (k : SenderKey) (n m : State) (before : Option Offer) (near : Set next_hops) (b : IsBefore k n m before near) (c : ℕ) where
@@ -117,16 +120,16 @@ module _ (k : SenderKey) (n m : State) (before : Option Offer) (near : Set next_
       tears_by_lane m.place f g k.0 m.said was (lanes_by (keys near)) ∙ ap (flat_map (resv_tear m.place m.place f g)) (lanes_are k.0 (keys near))
       ∙ ap (λ (hs : Set next_hops). flat_map (resv_tear m.place m.place f g) (lanes_at k.0 (keys hs))) (b.hops c)
 
-  by_lane : (es : List SessionLane) → flat_map (told_by c m false m.said k.0) es ≡ filter_map (resv_send_to m.place m.place f g empty None) (each (lane_by k.0) es)
+  by_lane : (asked : Option Asked) (es : List SessionLane) → flat_map (told_by c m (address_of asked) false m.said k.0) es ≡ filter_map (resv_send_to m.place m.place f g empty asked) (each (lane_by k.0) es)
   unfolding told_seen
-  by_lane es = sends_by_lane m.place f g k.0 m.said was b.unmarked es
+  by_lane asked es = sends_by_lane m.place f g k.0 m.said was asked es
 
-  pub resvs_are : (hops : Set next_hops) → hops ≡ hops_in g k.0 → (said : Said) → IsCleared m k.0 (lanes_by (keys near)) said
-      → flat_map (told_by c m false said k.0) (lanes_by (keys hops)) ≡ filter_map (resv_send_to m.place m.place f g empty None) (lanes_at k.0 (keys (hops_in g k.0)))
-  resvs_are hops is said cleared =
-      ap (λ (hs : Set next_hops). flat_map (told_by c m false said k.0) (lanes_by (keys hs))) is
-      ∙ same_told c m false m.said said k.0 (lanes_by (keys (hops_in g k.0))) same
-      ∙ by_lane (lanes_by (keys (hops_in g k.0))) ∙ ap (filter_map (resv_send_to m.place m.place f g empty None)) (lanes_are k.0 (keys (hops_in g k.0)))
+  pub resvs_are : (asked : Option Asked) (hops : Set next_hops) → hops ≡ hops_in g k.0 → (said : Said) → IsCleared m k.0 (lanes_by (keys near)) said
+      → flat_map (told_by c m (address_of asked) false said k.0) (lanes_by (keys hops)) ≡ filter_map (resv_send_to m.place m.place f g empty asked) (lanes_at k.0 (keys (hops_in g k.0)))
+  resvs_are asked hops is said cleared =
+      ap (λ (hs : Set next_hops). flat_map (told_by c m (address_of asked) false said k.0) (lanes_by (keys hs))) is
+      ∙ same_told c m (address_of asked) false m.said said k.0 (lanes_by (keys (hops_in g k.0))) same
+      ∙ by_lane asked (lanes_by (keys (hops_in g k.0))) ∙ ap (filter_map (resv_send_to m.place m.place f g empty asked)) (lanes_are k.0 (keys (hops_in g k.0)))
     where
       same : (e : SessionLane) → In e (lanes_by (keys (hops_in g k.0))) → said_at said (lane_by k.0 e) ≡ said_at m.said (lane_by k.0 e)
       same e i =
@@ -134,8 +137,31 @@ module _ (k : SenderKey) (n m : State) (before : Option Offer) (near : Set next_
           (λ (none : (said_at said (lane_by k.0 e) ≡ empty) × (has (lanes g) (lane_by k.0 e) ≡ false)). let z : true ≡ false = sym ((are_lanes k.0 g).only e i) ∙ none.1 in absurd (cc))
           (cleared.at c (lane_by k.0 e))
 
-  pub sends_are : (h : Heard) → sent_at m.place k f g ≡ sends n.place n.place f g (only_heard h g)
-  sends_are h = sym (one_sender_is_told m.place k f g h (changed_at k n m b.change c m.place)) ∙ ap (λ p. sends p p f g (only_heard h g)) (sym b.change.place)
+  -- the rule's sends, in two halves
+  pub sends_with : (ch : Change) → ch.fired ≡ empty
+      → sends n.place n.place f g ch ≡ told_before n.place k f g ++ (error_sends ch.errors ++ (conf_sends (ch.confs ++ confirmed n.place n.place f g ch.asked) ++ told_behind n.place k f g ch.asked))
+  sends_with ch none =
+      one_session_is_told n.place k f g ch (changed_at k n m b.change c n.place) none
+      ∙ sym (append_assoc (told_gone n.place k (offered f k) (offered g k)) (flat_map (resv_tear n.place n.place f g) (lanes_at k.0 (keys (hops_in f k.0)))) _)
+
+  pub sends_are : (h : Heard) → told_before n.place k f g ++ told_behind n.place k f g None ≡ sends n.place n.place f g (only_heard h g)
+  sends_are h = sym (sends_with (only_heard h g) refl)
+
+  -- marks that are used
+  unmarked_none : (ws : Wants) → changed (unmarked_in k.0 empty) ws ≡ changed (unmarked empty) ws
+  unmarked_none ws = changed_same want_keys (unmarked_in k.0 empty) (unmarked empty) (λ key w. λ i. Some (record w { confirm = w.confirm && not (none (is_session k.0 key.0) i) })) ws
+    where
+      none : (t : Bool) → (t && false) ≡ false
+      none true = refl
+      none false = refl
+
+  pub marks_are : (asked : Option Asked) (hops : Set next_hops) → hops ≡ hops_in g k.0
+      → changed (unmarked_in k.0 (used_where (address_of asked) (used_in m.place g k.0 m.said (lanes_by (keys hops))))) g.wants ≡ changed (unmarked (used_marks n.place n.place f g asked)) g.wants
+  marks_are (Some a) hops is = unmarked_none g.wants
+  marks_are None hops is =
+      ap (λ (hs : Set next_hops). changed (unmarked_in k.0 (used_in m.place g k.0 m.said (lanes_by (keys hs)))) g.wants) is
+      ∙ sym (marks_of_one_session.used m.place k f g m.said (changed_at k n m b.change c m.place) was)
+      ∙ ap (λ p. changed (unmarked (used_marks p p f g None)) g.wants) (sym b.change.place)
 
 -- the lanes toward a session's previous hops are its lanes
 pub lanes_before : (n : State) (k : SenderKey) (near : Set next_hops) → ((c : ℕ) → near ≡ hops_in (facts_of c n) k.0) → (c : ℕ) → AreLanesOf (facts_of c n) k.0 (lanes_by (keys near))

@@ -1,16 +1,18 @@
 -- What the lanes of a session are told, each of what was said to it before.
-use Rattle.std.specs.Prelude.{◌≡◌, ℕ, nat_lt, Bool, true, cond, List, map as each, Some}
+use Rattle.std.specs.Prelude.{◌≡◌, ℕ, nat_lt, Bool, true, cond, List, map as each, Option, Some}
 use Rattle.path_state.specs.Paths.{via}
 use Rattle.rsvp_base.specs.Sets.{is_none}
 use Rattle.rsvp_base.specs.Table.{empty, get, size}
+use Rattle.rsvp_base.specs.declared.addr.Addr.{Addr}
 use Rattle.rsvp_base.specs.declared.session.Session.{Session}
 use Rattle.rsvp_base.specs.declared.style.StyleKind.{StyleKind}
+use Rattle.rsvp_messages.specs.declared.ask.Ask.{Ask}
 use Rattle.style_rules.specs.Lines.{NextHop}
 use Rattle.style_rules.specs.Merge.{PartTable}
 use Rattle.router_rules.specs.Inputs.{Send}
 use Rattle.router_rules.specs.Known.{Lane}
-use Rattle.node_facts.specs.State.{Said, State, said_at}
-use Rattle.node_sends.specs.Saying.{SessionLane, lane_by, told_at, told_seen, torn_seen}
+use Rattle.node_facts.specs.State.{Said, State, facts_of, said_at}
+use Rattle.node_sends.specs.Saying.{SessionLane, lane_by, told_ask, told_at, told_seen, torn_seen}
 use Rattle.node_tables.specs.declared.tables.Tables.{Tables}
 
 -- the lanes of a style toward these hops
@@ -20,8 +22,12 @@ lanes_of st hops = each (λ hop. (st, hop)) hops
 abbrev pub torn_by : ℕ → State → Said → Session → SessionLane → List Send
 torn_by c n said s e = torn_seen c n (lane_by s e) (said_at said (lane_by s e))
 
-abbrev pub told_by : ℕ → State → Bool → Said → Session → SessionLane → List Send
-told_by c n due said s e = told_seen c n (lane_by s e) due (said_at said (lane_by s e))
+abbrev pub told_by : ℕ → State → Option Addr → Bool → Said → Session → SessionLane → List Send
+told_by c n asked due said s e = told_seen c n (lane_by s e) asked due (said_at said (lane_by s e))
+
+-- the Resv of a lane that asks for this, where it is new or due
+unfoldable pub told_parts : ℕ → State → Lane → Option Addr → Bool → Bool → Option Ask → List Send
+told_parts c n l asked new due a = told_ask n.place (facts_of c n) l asked new due a
 
 -- of nothing nothing is kept
 abbrev pub IsFull : Said → Type 0

@@ -1,15 +1,17 @@
 //! ResvTears and Resvs of a lane.
-ghost use Rattle.std.specs.Prelude.{◌≡◌, ◌<◌, ◌||◌, ℕ, cond, false, fold};
+ghost use Rattle.std.specs.Prelude.{◌≡◌, ◌<◌, ℕ, false, fold};
 ghost use Rattle.rsvp_base.specs.Table.{has, size};
 ghost use Rattle.lane_state.specs.Lanes.{lane_at, said_at, told};
 ghost use Rattle.node_facts.specs.State.{Said};
-ghost use Rattle.node_sends.specs.Saying.{ask_seen, told_seen, torn_seen};
+ghost use Rattle.node_sends.specs.Saying.{ask_seen, told_seen, torn_seen, wish_seen};
 ghost use Rattle.node_sends.specs.Seen.{toward_at};
 ghost use Rattle.router_rules.specs.Asking.{ask_of};
 ghost use Rattle.node_tables.specs.Whole.{state_of};
+ghost use Rattle.lane_telling.specs.Rounds.{told_parts};
 
 use crate::upward::{hop_to, names_via, toward};
 use lane_state::{LaneTable, ask_of, gone_among, tear_of};
+use lane_wishes::own_wish;
 use node_tables::Tables;
 use node_telling::Outbox;
 use rsvp_base::{Addr, Session, StyleKind};
@@ -42,17 +44,35 @@ pub fn tell_torn<O: Outbox>(
     out.post(hop.0, hop.1, Message::ResvTear(message), false);
 }
 
-// The Resv of a lane that asks for these parts, if they ask for something.
+// Whom a Resv of a lane that is told for a change asks to confirm: whom the message that made the change says, if it says
+// someone, else the node itself for its marked wants (RFC 2205, 2.6).
+fn wish_for(
+    tables: &Tables,
+    session: Session,
+    style: StyleKind,
+    hop: (u8, Addr),
+    asked: Option<Addr>,
+) -> Option<Addr>
+    ensures { (c : ℕ) (said : Said) → result ≡ wish_seen c (state_of tables.now said) (lane_at (session, (style, hop))) asked }
+{
+    match asked {
+        Some(addr) => Some(addr),
+        None => own_wish(tables, session, style, hop),
+    }
+}
+
+// The Resv of a lane that asks for these parts, if they ask for something, with whom it asks to confirm.
 fn tell_ask<O: Outbox>(
     tables: &Tables,
     session: Session,
     style: StyleKind,
     hop: (u8, Addr),
     parts: &Parts,
+    wish: Option<Addr>,
     due: bool,
     out: &mut O,
 )
-    ensures { (c : ℕ) (said : Said) → out.new ≡ fold O.posted out.old (ask_seen c (state_of tables.now said) (lane_at (session, (style, hop))) due (ask_of style parts.now)) }
+    ensures { (c : ℕ) (said : Said) → out.new ≡ fold O.posted out.old (ask_seen c (state_of tables.now said) (lane_at (session, (style, hop))) wish due (ask_of style parts.now)) }
 {
     let Some(ask) = ask_of(style, parts) else {
         return;
@@ -61,7 +81,7 @@ fn tell_ask<O: Outbox>(
         session,
         hop: hop_to(tables, session, hop),
         period: tables.config.period(),
-        confirm: None,
+        confirm: wish,
         ask,
     };
     out.post(hop.0, hop.1, Message::Resv(message), due);
@@ -74,34 +94,40 @@ fn tell_changed<O: Outbox>(
     style: StyleKind,
     hop: (u8, Addr),
     parts: &Parts,
+    asked: Option<Addr>,
     new: bool,
     due: bool,
     out: &mut O,
 )
-    ensures { (c : ℕ) (said : Said) → out.new ≡ cond (new || due) (fold O.posted out.old (ask_seen c (state_of tables.now said) (lane_at (session, (style, hop))) due (ask_of style parts.now))) out.old }
+    ensures { (c : ℕ) (said : Said) → out.new ≡ fold O.posted out.old (told_parts c (state_of tables.now said) (lane_at (session, (style, hop))) asked new due (ask_of style parts.now)) }
 {
-    if new || due {
-        tell_ask(tables, session, style, hop, parts, due, out);
+    if new {
+        let wish = wish_for(tables, session, style, hop, asked);
+        tell_ask(tables, session, style, hop, parts, wish, due, out);
+    } else if due {
+        tell_ask(tables, session, style, hop, parts, None, due, out);
     }
 }
 
 /// The Resv of a lane, whole, where what goes there is not what was said last, or where it is due (RFC 2209, 2: RESV REFRESH);
-/// what goes there is kept as said. Of a lane to which nothing was said fewer than 1,536 others are there.
+/// what goes there is kept as said. One that is told for a change asks to confirm whom `asked` says, if it says someone, else
+/// the node for its marked wants. Of a lane to which nothing was said fewer than 1,536 others are there.
 pub fn tell_lane<O: Outbox>(
     tables: &Tables,
     said: &mut LaneTable,
     session: Session,
     style: StyleKind,
     hop: (u8, Addr),
+    asked: Option<Addr>,
     due: bool,
     out: &mut O,
 )
     requires room { has said.old (lane_at (session, (style, hop))) ≡ false → size said.old < 1536 }
-    ensures sent { (c : ℕ) (any : Said) → out.new ≡ fold O.posted out.old (told_seen c (state_of tables.now any) (lane_at (session, (style, hop))) due (said_at said.old (lane_at (session, (style, hop))))) }
+    ensures sent { (c : ℕ) (any : Said) → out.new ≡ fold O.posted out.old (told_seen c (state_of tables.now any) (lane_at (session, (style, hop))) asked due (said_at said.old (lane_at (session, (style, hop))))) }
     ensures said { (c : ℕ) (any : Said) → said.new ≡ told said.old (lane_at (session, (style, hop))) (toward_at c (state_of tables.now any) session style hop) }
 {
     let now = toward(tables, session, style, hop);
     let is_old = said.is_said(session, style, hop, &now);
-    tell_changed(tables, session, style, hop, &now, !is_old, due, out);
+    tell_changed(tables, session, style, hop, &now, asked, !is_old, due, out);
     said.tell(session, style, hop, now);
 }

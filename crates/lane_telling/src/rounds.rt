@@ -73,39 +73,69 @@ fn tell_style<O: Outbox>(
     session: Session,
     style: StyleKind,
     hops: &Hops,
+    asked: Option<Addr>,
     due: bool,
     out: &mut O,
 )
     requires near { (c : ℕ) → hops.now ≡ hops_in (facts_of c (state_of tables.now empty)) session }
     requires roomy { IsRoomy (state_of tables.now empty) said.old }
-    ensures sent { (c : ℕ) (any : Said) → out.new ≡ fold O.posted out.old (flat_map (told_by c (state_of tables.now any) due said.old session) (lanes_of style (keys hops.now))) }
+    ensures sent { (c : ℕ) (any : Said) → out.new ≡ fold O.posted out.old (flat_map (told_by c (state_of tables.now any) asked due said.old session) (lanes_of style (keys hops.now))) }
     ensures told { IsTold (state_of tables.now said.old) session (lanes_of style (keys hops.now)) said.new }
     ensures roomy { IsRoomy (state_of tables.now empty) said.new }
 {
     let _known = tables.paths.find(session, Sender::default());
     let list = hops.as_slice();
     for i in 0..list.len() {
-        tell_lane(tables, said, session, style, list[i], due, out);
+        tell_lane(tables, said, session, style, list[i], asked, due, out);
     }
 }
 
 /// The Resvs of a session's lanes, where they changed or are due: by style, and then by hop. What goes there is kept as said.
+/// Those told for a change ask to confirm whom `asked` says, if it says someone, else the node for its marked wants.
 /// The hops are those of the session, and what was said before is of lanes from which a path comes.
 pub fn tell_lanes<O: Outbox>(
     tables: &Tables,
     said: &mut LaneTable,
     session: Session,
     hops: &Hops,
+    asked: Option<Addr>,
     due: bool,
     out: &mut O,
 )
     requires near { (c : ℕ) → hops.now ≡ hops_in (facts_of c (state_of tables.now empty)) session }
     requires roomy { IsRoomy (state_of tables.now empty) said.old }
-    ensures sent { (c : ℕ) (any : Said) → out.new ≡ fold O.posted out.old (flat_map (told_by c (state_of tables.now any) due said.old session) (lanes_by (keys hops.now))) }
+    ensures sent { (c : ℕ) (any : Said) → out.new ≡ fold O.posted out.old (flat_map (told_by c (state_of tables.now any) asked due said.old session) (lanes_by (keys hops.now))) }
     ensures told { IsTold (state_of tables.now said.old) session (lanes_by (keys hops.now)) said.new }
     ensures roomy { IsRoomy (state_of tables.now empty) said.new }
 {
-    tell_style(tables, said, session, StyleKind::Wild, hops, due, out);
-    tell_style(tables, said, session, StyleKind::Fixed, hops, due, out);
-    tell_style(tables, said, session, StyleKind::Shared, hops, due, out);
+    tell_style(
+        tables,
+        said,
+        session,
+        StyleKind::Wild,
+        hops,
+        asked,
+        due,
+        out,
+    );
+    tell_style(
+        tables,
+        said,
+        session,
+        StyleKind::Fixed,
+        hops,
+        asked,
+        due,
+        out,
+    );
+    tell_style(
+        tables,
+        said,
+        session,
+        StyleKind::Shared,
+        hops,
+        asked,
+        due,
+        out,
+    );
 }

@@ -1,22 +1,28 @@
 //! What is told where one sender changed.
-ghost use Rattle.std.specs.Prelude.{◌≡◌, ℕ, fold};
+ghost use Rattle.std.specs.Prelude.{◌≡◌, ℕ, Option, None, fold};
 ghost use Rattle.std.specs.Option.{option_map};
-ghost use Rattle.router_rules.specs.Inputs.{only_heard};
+ghost use Rattle.rsvp_base.specs.Table.{keys};
+ghost use Rattle.router_rules.specs.Inputs.{Asked, only_heard};
+ghost use Rattle.router_rules.specs.Offers.{Offer};
 ghost use Rattle.router_rules.specs.Sends.{sends};
 ghost use Rattle.router_rules.specs.declared.answers.Heard.{Heard};
 ghost use Rattle.node_facts.specs.State.{IsSaid, Said, State, facts_of};
-ghost use Rattle.node_sends.specs.Before.{IsBefore};
+ghost use Rattle.node_sends.specs.Before.{IsBefore, lanes_by};
+ghost use Rattle.node_sends.specs.Marks.{used_in};
 ghost use Rattle.node_sends.specs.Told.{offered};
 ghost use Rattle.node_telling.specs.Offering.{as_offer};
 ghost use Rattle.node_tables.specs.Whole.{state_of};
+ghost use Rattle.lane_telling.specs.Halves.{address_of, facts_told, told_before, told_behind, used_where};
 
 use crate::clearing::clear_lanes;
 use crate::rounds::{tear_lanes, tell_lanes};
 use lane_state::LaneTable;
+use lane_wishes::{Units, unmark, used_marks};
 use node_tables::Tables;
 use node_telling::{Offered, Outbox, tell_gone, tell_new};
 use path_state::Hops;
-use rsvp_base::{Sender, Session};
+use rsvp_base::{Addr, Sender, Session};
+use rsvp_messages::Message;
 
 /// What is offered of a sender. `None` exactly where it is not known.
 pub fn offered(tables: &Tables, session: Session, sender: Sender) -> Option<Offered>
@@ -34,11 +40,75 @@ pub fn offered(tables: &Tables, session: Session, sender: Sender) -> Option<Offe
     }
 }
 
-/// All that a node tells where one sender changed, and with it its session alone: the sender's PathTears, the ResvTears of its
-/// session's lanes, the sender's Paths, and the Resvs of its session's lanes. What was offered of it, and the session's
-/// previous hops, are those from before. What was said then is what went toward each hop, and is so afterwards.
-pub fn tell_sender<O: Outbox>(
+/// The first half of what a node tells where one sender changed, and with it its session alone: the sender's PathTears, and the
+/// ResvTears of its session's lanes. What was offered of it, and the session's previous hops, are those from before. What was
+/// said then is what went toward each hop.
+pub fn tell_tears<O: Outbox>(
     tables: &Tables,
+    said: &LaneTable,
+    session: Session,
+    sender: Sender,
+    before: &Option<Offered>,
+    near: &Hops,
+    out: &mut O,
+)
+    ensures { (n : State) (c : ℕ) → IsBefore (session, sender) n (state_of tables.now said.now) (option_map as_offer before.now) near.now → out.new ≡ fold O.posted out.old (told_before n.place (session, sender) (facts_of c n) (facts_of c (state_of tables.now said.now))) }
+{
+    let after = offered(tables, session, sender);
+    tell_gone(&tables.config, session, sender, before, &after, out);
+    tear_lanes(tables, said, session, near, out);
+}
+
+// The units of a session's wants whose marks are used, where the message that made the change says nobody to be confirmed.
+fn used_for(
+    tables: &Tables,
+    said: &LaneTable,
+    session: Session,
+    hops: &Hops,
+    asked: Option<Addr>,
+) -> Units
+    ensures { (c : ℕ) (any : Said) → result ≡ used_where asked (used_in tables.now.config (facts_of c (state_of tables.now any)) session said.now (lanes_by (keys hops.now))) }
+{
+    match asked {
+        Some(_) => Units::new(),
+        None => used_marks(tables, said, session, hops),
+    }
+}
+
+/// The other half: the sender's Paths, and the Resvs of its session's lanes. Those ask to confirm whom the message that made
+/// the change says, if it says someone, else the node for its marked wants, whose marks are used then. What was said is what
+/// goes toward each hop afterwards.
+pub fn tell_news<O: Outbox>(
+    tables: &mut Tables,
+    said: &mut LaneTable,
+    session: Session,
+    sender: Sender,
+    before: &Option<Offered>,
+    near: &Hops,
+    asked: Option<Addr>,
+    out: &mut O,
+)
+    requires { (n : State) × IsBefore (session, sender) n (state_of tables.old said.old) (option_map as_offer before.now) near.now }
+    ensures sent { (n : State) (c : ℕ) (a : Option Asked) → address_of a ≡ asked → IsBefore (session, sender) n (state_of tables.old said.old) (option_map as_offer before.now) near.now → out.new ≡ fold O.posted out.old (told_behind n.place (session, sender) (facts_of c n) (facts_of c (state_of tables.old said.old)) a) }
+    ensures facts { (n : State) (c : ℕ) (a : Option Asked) → address_of a ≡ asked → IsBefore (session, sender) n (state_of tables.old said.old) (option_map as_offer before.now) near.now → facts_of c (state_of tables.new said.new) ≡ facts_told n.place (facts_of c n) (facts_of c (state_of tables.old said.old)) a }
+    ensures said { IsSaid said.new (state_of tables.new said.new) }
+    ensures rest { tables.new ≡ record tables.old { wants = tables.new.wants } }
+{
+    let after = offered(tables, session, sender);
+    tell_new(&tables.config, session, sender, before, &after, out);
+    let hops = tables.paths.hops(session);
+    let used = used_for(tables, said, session, &hops, asked);
+    clear_lanes(tables, said, session, near);
+    tell_lanes(tables, said, session, &hops, asked, false, out);
+    unmark(tables, session, &used);
+}
+
+/// All that a node tells where one sender changed, and with it its session alone, and nothing else is to be told: the sender's
+/// PathTears, the ResvTears of its session's lanes, the sender's Paths, and the Resvs of its session's lanes. The marks that
+/// these use are taken away. What was offered of the sender, and the session's previous hops, are those from before. What was
+/// said then is what went toward each hop, and is so afterwards.
+pub fn tell_sender<O: Outbox>(
+    tables: &mut Tables,
     said: &mut LaneTable,
     session: Session,
     sender: Sender,
@@ -46,15 +116,48 @@ pub fn tell_sender<O: Outbox>(
     near: &Hops,
     out: &mut O,
 )
-    requires { (n : State) × IsBefore (session, sender) n (state_of tables.now said.old) (option_map as_offer before.now) near.now }
-    ensures sent { (n : State) (c : ℕ) (h : Heard) → IsBefore (session, sender) n (state_of tables.now said.old) (option_map as_offer before.now) near.now → out.new ≡ fold O.posted out.old (sends n.place n.place (facts_of c n) (facts_of c (state_of tables.now said.new)) (only_heard h (facts_of c (state_of tables.now said.new)))) }
-    ensures said { IsSaid said.new (state_of tables.now said.new) }
+    requires { (n : State) × IsBefore (session, sender) n (state_of tables.old said.old) (option_map as_offer before.now) near.now }
+    ensures sent { (n : State) (c : ℕ) (h : Heard) → IsBefore (session, sender) n (state_of tables.old said.old) (option_map as_offer before.now) near.now → out.new ≡ fold O.posted out.old (sends n.place n.place (facts_of c n) (facts_of c (state_of tables.old said.old)) (only_heard h (facts_of c (state_of tables.old said.old)))) }
+    ensures facts { (n : State) (c : ℕ) → IsBefore (session, sender) n (state_of tables.old said.old) (option_map as_offer before.now) near.now → facts_of c (state_of tables.new said.new) ≡ facts_told n.place (facts_of c n) (facts_of c (state_of tables.old said.old)) None }
+    ensures said { IsSaid said.new (state_of tables.new said.new) }
+    ensures rest { tables.new ≡ record tables.old { wants = tables.new.wants } }
 {
-    let after = offered(tables, session, sender);
-    tell_gone(&tables.config, session, sender, before, &after, out);
-    tear_lanes(tables, said, session, near, out);
-    tell_new(&tables.config, session, sender, before, &after, out);
+    tell_tears(tables, said, session, sender, before, near, out);
+    tell_news(tables, said, session, sender, before, near, None, out);
+}
+
+// Keeps nothing of what it takes.
+#[derive(Drop)]
+struct Nowhere;
+
+impl Outbox for Nowhere {
+    ghost posted = { λ out send. out };
+
+    fn post(&mut self, _iface: u8, _dst: Addr, _message: Message, _refresh: bool) {}
+}
+
+/// What goes toward the hops of a session is kept as said, and nothing is told, as where a fact is left over. The session's
+/// previous hops are those from before; what was said then is what went toward each hop, and is so afterwards.
+pub fn keep_said(
+    tables: &Tables,
+    said: &mut LaneTable,
+    session: Session,
+    sender: Sender,
+    near: &Hops,
+)
+    requires { (n : State) × (o : Option Offer) × IsBefore (session, sender) n (state_of tables.now said.old) o near.now }
+    ensures { IsSaid said.new (state_of tables.now said.new) }
+{
+    let _sender = sender;
     let hops = tables.paths.hops(session);
     clear_lanes(tables, said, session, near);
-    tell_lanes(tables, said, session, &hops, false, out);
+    tell_lanes(
+        tables,
+        said,
+        session,
+        &hops,
+        None,
+        false,
+        &mut Nowhere,
+    );
 }

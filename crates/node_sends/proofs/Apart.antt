@@ -9,15 +9,15 @@ use Rattle.rsvp_base.specs.Keys.{pairs}
 use Rattle.rsvp_base.specs.Orders.{sessions, senders, units}
 use Rattle.rsvp_base.specs.Table.{changed, get, put_in, without}
 use Rattle.rsvp_base.specs.TokenBucket.{TokenBucket}
-use Rattle.rsvp_base.specs.Under.{under}
 use Rattle.rsvp_base.specs.declared.session.Session.{Session}
 use Rattle.rsvp_base.specs.declared.style.StyleKind.{StyleKind}
 use Rattle.rsvp_base.specs.declared.style.StyleKind.TheVariants.{Wild, Fixed, Shared}
 use Rattle.rsvp_base.proofs.Tables.{either, get-changed, get-put_in_other, get-without, same_table, then_do, tied_same, tied_self}
 use Rattle.rsvp_base.proofs.UnderLaws.{get-under}
 use Rattle.style_rules.specs.Lines.{LineKey, line_keys, next_hops}
+use Rattle.style_rules.specs.Targets.{wall_keys}
 use Rattle.style_rules.specs.Toward.{or_else}
-use Rattle.router_rules.specs.Facts.{PathState, ResvState, SenderKey, Wants, paths_in, resvs_in, resvs_of, sender_keys, senders_in}
+use Rattle.router_rules.specs.Facts.{PathState, ResvState, SenderKey, paths_in, resvs_in, resvs_of, sender_keys, senders_in, wants_in}
 use Rattle.router_rules.specs.Offers.{OfferKey, offers}
 use Rattle.router_rules.specs.NodeConfig.{NodeConfig}
 use Rattle.router_lookups.specs.FactLaws.{is_way}
@@ -47,11 +47,11 @@ module _ (k : SenderKey) (n m : State) (ch : IsChangedFor k n m) (c : ℕ) where
   same_of s off = record {
     senders = same_table senders (senders_in (facts_of c n) s) (senders_in (facts_of c m) s) (λ x. get-under sessions senders n.senders s x ∙ ch.senders (s, x) (session_apart k (s, x) off) ∙ sym (get-under sessions senders m.senders s x));
     paths = same_table senders (paths_in (facts_of c n) s) (paths_in (facts_of c m) s) (λ x. get-under sessions senders (facts_of c n).paths s x ∙ path_same (s, x) (session_apart k (s, x) off) ∙ sym (get-under sessions senders (facts_of c m).paths s x));
-    wants = ap (λ (w : Wants). under sessions units w s) ch.wants;
+    wants = same_table units (wants_in (facts_of c n) s) (wants_in (facts_of c m) s) (λ u. get-under sessions units n.wants s u ∙ ch.wants (s, u) off ∙ sym (get-under sessions units m.wants s u));
     resvs = λ st.
         same_table (pairs next_hops units) (resvs_in st (facts_of c n) s) (resvs_in st (facts_of c m) s) (λ q.
         get-under sessions (pairs next_hops units) (resvs_of st (facts_of c n)) s q ∙ resv_same st (s, q) off ∙ sym (get-under sessions (pairs next_hops units) (resvs_of st (facts_of c m)) s q));
-    walls = λ t. ap (λ w. get (changed (wall_at c) w) (s, t)) ch.walls;
+    walls = λ t. get-changed wall_keys (wall_at c) n.walls (s, t) ∙ ap (λ w. then_do w (wall_at c (s, t))) (ch.walls (s, t) off) ∙ sym (get-changed wall_keys (wall_at c) m.walls (s, t));
   }
     where
       resv_same : (st : StyleKind) (q : LineKey) → eq_by_cmp sessions.cmp k.0 q.0 ≡ false → get (resvs_of st (facts_of c n)) q ≡ get (resvs_of st (facts_of c m)) q
@@ -81,8 +81,8 @@ module _ (n : State) (k : SenderKey) where
     place = refl;
     senders = λ j off. refl;
     paths = λ j off. sym (get-put_in_other path_keys n.paths k (fact, left) j (turned k j off));
-    wants = refl;
-    walls = refl;
+    wants = λ j off. refl;
+    walls = λ j off. refl;
     resvs = same;
   }
     where
@@ -97,8 +97,8 @@ module _ (n : State) (k : SenderKey) where
     place = refl;
     senders = λ j off. refl;
     paths = λ j off. sym (get-without path_keys n.paths k j ∙ ap (λ b. cond (not b) (get n.paths j) None) off);
-    wants = refl;
-    walls = refl;
+    wants = λ j off. refl;
+    walls = λ j off. refl;
     resvs = same;
   }
     where
@@ -113,8 +113,8 @@ module _ (n : State) (k : SenderKey) where
     place = refl;
     senders = λ j off. sym (get-put_in_other sender_keys n.senders k tspec j (turned k j off));
     paths = λ j off. refl;
-    wants = refl;
-    walls = refl;
+    wants = λ j off. refl;
+    walls = λ j off. refl;
     resvs = same;
   }
     where
@@ -129,8 +129,8 @@ module _ (n : State) (k : SenderKey) where
     place = refl;
     senders = λ j off. sym (get-without sender_keys n.senders k j ∙ ap (λ b. cond (not b) (get n.senders j) None) off);
     paths = λ j off. refl;
-    wants = refl;
-    walls = refl;
+    wants = λ j off. refl;
+    walls = λ j off. refl;
     resvs = same;
   }
     where

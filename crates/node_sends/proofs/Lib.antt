@@ -9,3 +9,4 @@ pub mod Apart
 pub mod Quiet
 pub mod Saying
 pub mod Telling
+pub mod Marks

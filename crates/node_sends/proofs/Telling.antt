@@ -1,6 +1,7 @@
 -- What is told lane by lane is what the rule sends.
 use Rattle.std.specs.Prelude.{◌≡◌, ℕ, ◌+◌, ◌<◌, Bool, true, false, cond, not, ◌&&◌, ◌||◌, length, List, [], ◌∷◌, ◌++◌, map as each, Option, Some, None, fold, slice_get, take, refl}
-use Rattle.std.specs.List.{cons_option, filter, filter_map, flat_map}
+use Rattle.std.specs.List.{cons_option, filter_map, flat_map}
+use Rattle.std.specs.Option.{option_map}
 use Rattle.std.specs.Ordering.{eq_by_cmp}
 use Rattle.std.proofs.Common.{sym, ap, subst, inl, inr, ◌∙◌, ⊎_elim}
 use Rattle.std.proofs.lemmas.List.{map-append}
@@ -8,6 +9,7 @@ use Rattle.rsvp_base.specs.Members.{In}
 use Rattle.rsvp_base.specs.Orders.{sessions, senders}
 use Rattle.rsvp_base.specs.Sets.{Set, cut, is_none}
 use Rattle.rsvp_base.specs.Table.{Table, empty, get, has, keys}
+use Rattle.rsvp_base.specs.declared.addr.Addr.{Addr}
 use Rattle.rsvp_base.specs.declared.session.Session.{Session}
 use Rattle.rsvp_base.specs.declared.style.StyleKind.{StyleKind}
 use Rattle.rsvp_base.specs.declared.style.StyleKind.TheVariants.{Wild, Fixed, Shared}
@@ -22,14 +24,14 @@ use Rattle.style_rules.specs.Lines.{NextHop, next_hops}
 use Rattle.style_rules.specs.Merge.{PartTable}
 use Rattle.router_rules.specs.Asking.{ask_of}
 use Rattle.router_rules.specs.Facts.{Facts, SenderKey, Want, Wants, wants_in}
-use Rattle.router_rules.specs.Inputs.{Send}
+use Rattle.router_rules.specs.Inputs.{Asked, Send}
 use Rattle.router_rules.specs.Known.{Lane, lane_keys, lanes, names_via}
 use Rattle.router_rules.specs.NodeConfig.{NodeConfig}
 use Rattle.router_rules.specs.Requests.{toward}
 use Rattle.router_rules.specs.Sends.{gone_names, is_changed, is_marked, marked_units, own_wish, resv_send, resv_send_of, resv_send_to, resv_tear, same_parts}
 use Rattle.router_lookups.specs.FactLaws.{ComesBy}
 use Rattle.router_lookups.proofs.Knowing.{lanes_made, lanes_told}
-use Rattle.node_facts.specs.State.{AreUnmarked, Said, State, facts_of, said_at}
+use Rattle.node_facts.specs.State.{Said, State, facts_of, said_at}
 use Rattle.node_sends.specs.Before.{IsBefore, lanes_by}
 use Rattle.node_sends.specs.Saying.{AreLanesOf, SessionLane, lane_by, told_ask, told_lane, torn_lane}
 use Rattle.node_sends.specs.SayingLaws.{LanesAreTold}
@@ -76,29 +78,22 @@ module _ (p : NodeConfig) (f g : Facts) (s : Session) (said : Said) (is : (l : L
   tears_by_lane (e ∷ es) = let rest = tears_by_lane es in λ i. torn_lane p g (lane_by s e) (is (lane_by s e) i) ++ rest i
 
 -- ---- Resvs
-none_marked : (p : NodeConfig) (g : Facts) (l : Lane) → AreUnmarked g.wants → marked_units p g l ≡ []
-none_marked p g l unmarked = ap (each (λ (e : UnitOf × Want). e.0)) (none (wants_in g l.session).rows (λ e i. unmarked (l.session, e.0) e.1 (sym (get-under sessions _ g.wants l.session e.0) ∙ in_found _ (wants_in g l.session) e.0 e.1 i)))
-  where
-    none : (es : List (UnitOf × Want)) → ((e : UnitOf × Want) → In e es → e.1.confirm ≡ false) → filter (is_marked p g l) es ≡ []
-    none [] h = refl
-    none (e ∷ es) h = ap (λ b. cond b (e ∷ filter (is_marked p g l) es) (filter (is_marked p g l) es)) (off e.1.confirm _ (h e (inl refl))) ∙ none es (λ d i. h d (inr i))
-      where
-        off : (a b : Bool) → a ≡ false → (a && b) ≡ false
-        off false b e = refl
-        off true b e = cc
+abbrev pub asked_by : Option Asked → Option Addr
+asked_by asked = option_map (λ a. a.confirm) asked
 
-module _ (p : NodeConfig) (f g : Facts) (s : Session) (said : Said) (is : (l : Lane) → said_at said l ≡ toward p f l) (unmarked : AreUnmarked g.wants) where
-  one_lane : (l : Lane) → told_lane p g l false (said_at said l) ≡ cons_option (resv_send_to p p f g empty None l) []
-  one_lane l = ap (told_lane p g l false) (is l) ∙ by (not (same_parts (toward p f l) (toward p g l))) (ask_of l.style (toward p g l))
+module _ (p : NodeConfig) (f g : Facts) (s : Session) (said : Said) (is : (l : Lane) → said_at said l ≡ toward p f l) (asked : Option Asked) where
+  one_lane : (l : Lane) → told_lane p g l (asked_by asked) false (said_at said l) ≡ cons_option (resv_send_to p p f g empty asked l) []
+  one_lane l = ap (told_lane p g l (asked_by asked) false) (is l) ∙ by (not (same_parts (toward p f l) (toward p g l))) (ask_of l.style (toward p g l)) asked
     where
-      by : (b : Bool) (a : Option Ask) → told_ask p g l b false a ≡ cons_option (resv_send_of p g l b false None a) []
-      by b None = refl
-      by true (Some a) = λ i. resv_send p g l (own_wish p l (sym (none_marked p g l unmarked) i)) false a ∷ []
-      by false (Some a) = refl
+      by : (b : Bool) (a : Option Ask) (asked : Option Asked) → told_ask p g l (asked_by asked) b false a ≡ cons_option (resv_send_of p g l b false asked a) []
+      by b None asked = refl
+      by true (Some a) None = refl
+      by true (Some a) (Some q) = refl
+      by false (Some a) asked = refl
 
-  pub sends_by_lane : (es : List SessionLane) → flat_map (λ e. told_lane p g (lane_by s e) false (said_at said (lane_by s e))) es ≡ filter_map (resv_send_to p p f g empty None) (each (lane_by s) es)
+  pub sends_by_lane : (es : List SessionLane) → flat_map (λ e. told_lane p g (lane_by s e) (asked_by asked) false (said_at said (lane_by s e))) es ≡ filter_map (resv_send_to p p f g empty asked) (each (lane_by s) es)
   sends_by_lane [] = refl
-  sends_by_lane (e ∷ es) = (λ i. one_lane (lane_by s e) i ++ sends_by_lane es i) ∙ one_more (resv_send_to p p f g empty None (lane_by s e)) _
+  sends_by_lane (e ∷ es) = (λ i. one_lane (lane_by s e) i ++ sends_by_lane es i) ∙ one_more (resv_send_to p p f g empty asked (lane_by s e)) _
     where
       one_more : (w : Option Send) (ss : List Send) → cons_option w [] ++ ss ≡ cons_option w ss
       one_more None ss = refl

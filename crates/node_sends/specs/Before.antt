@@ -6,7 +6,7 @@ use Rattle.rsvp_base.specs.declared.style.StyleKind.TheVariants.{Wild, Fixed, Sh
 use Rattle.style_rules.specs.Lines.{NextHop, next_hops}
 use Rattle.router_rules.specs.Facts.{SenderKey}
 use Rattle.router_rules.specs.Offers.{Offer}
-use Rattle.node_facts.specs.State.{AreUnmarked, IsSaid, State, facts_of}
+use Rattle.node_facts.specs.State.{IsSaid, State, facts_of}
 use Rattle.node_sends.specs.Changed.{IsChangedFor}
 use Rattle.node_sends.specs.Saying.{SessionLane}
 use Rattle.node_sends.specs.SendsHere.{hops_in}
@@ -21,6 +21,5 @@ pub record IsBefore (k : SenderKey) (n m : State) (before : Option Offer) (near 
   pub change : IsChangedFor k n m
   pub same : m.said ≡ n.said
   pub said : IsSaid n.said n
-  pub unmarked : AreUnmarked m.wants
   pub offer : (c : ℕ) → before ≡ offered (facts_of c n) k
   pub hops : (c : ℕ) → near ≡ hops_in (facts_of c n) k.0

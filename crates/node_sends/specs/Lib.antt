@@ -6,3 +6,4 @@ pub mod Changed
 pub mod Saying
 pub mod Before
 pub mod SayingLaws
+pub mod Marks

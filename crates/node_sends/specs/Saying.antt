@@ -1,9 +1,10 @@
 -- What a node tells of one lane, and what it keeps of that.
-use Rattle.std.specs.Prelude.{◌≡◌, ℕ, nat_lt, Bool, true, false, cond, not, ◌||◌, ◌⊎◌, List, [], ◌∷◌, Option, Some, None}
+use Rattle.std.specs.Prelude.{◌≡◌, ℕ, nat_lt, Bool, true, false, cond, not, ◌⊎◌, List, [], ◌∷◌, Option, Some, None}
 use Rattle.rsvp_base.specs.Members.{In}
 use Rattle.rsvp_base.specs.Orders.{Names}
 use Rattle.rsvp_base.specs.Sets.{cut, is_none}
 use Rattle.rsvp_base.specs.Table.{empty, get, has, put_in, size, without}
+use Rattle.rsvp_base.specs.declared.addr.Addr.{Addr}
 use Rattle.rsvp_base.specs.declared.session.Session.{Session}
 use Rattle.rsvp_base.specs.declared.style.StyleKind.{StyleKind}
 use Rattle.rsvp_messages.specs.declared.ask.Ask.{Ask}
@@ -15,7 +16,7 @@ use Rattle.router_rules.specs.Inputs.{Send}
 use Rattle.router_rules.specs.Known.{Lane, lanes, names_via}
 use Rattle.router_rules.specs.NodeConfig.{NodeConfig}
 use Rattle.router_rules.specs.Requests.{toward}
-use Rattle.router_rules.specs.Sends.{gone_names, resv_send, resv_tear_send, same_parts}
+use Rattle.router_rules.specs.Sends.{gone_names, marked_units, own_wish, resv_send, resv_tear_send, same_parts}
 use Rattle.node_facts.specs.State.{Said, State, facts_of, said_at}
 
 -- ---- what is kept: what went toward each hop, where something did
@@ -30,19 +31,30 @@ abbrev pub torn_lane : NodeConfig → Facts → Lane → PartTable → List Send
 torn_lane p g l was = cond (is_none (torn_of was (toward p g l) (names_via g l))) [] (resv_tear_send p g l (torn_of was (toward p g l) (names_via g l)) ∷ [])
 
 -- ---- a Resv, where it changed or is due
-abbrev pub told_ask : NodeConfig → Facts → Lane → Bool → Bool → Option Ask → List Send
-told_ask p g l new due None = []
-told_ask p g l new due (Some ask) = cond (new || due) (resv_send p g l None due ask ∷ []) []
+-- whom one that is told for a change asks to confirm: whom the message that made the change says, if it says someone, else the
+-- node where a marked want takes part
+abbrev pub wish_of : NodeConfig → Facts → Lane → Option Addr → Option Addr
+wish_of p g l None = own_wish p l (marked_units p g l)
+wish_of p g l (Some a) = Some a
 
-abbrev pub told_lane : NodeConfig → Facts → Lane → Bool → PartTable → List Send
-told_lane p g l due was = told_ask p g l (not (same_parts was (toward p g l))) due (ask_of l.style (toward p g l))
+abbrev pub told_ask : NodeConfig → Facts → Lane → Option Addr → Bool → Bool → Option Ask → List Send
+told_ask p g l asked new due None = []
+told_ask p g l asked true due (Some ask) = resv_send p g l (wish_of p g l asked) due ask ∷ []
+told_ask p g l asked false true (Some ask) = resv_send p g l None true ask ∷ []
+told_ask p g l asked false false (Some ask) = []
+
+abbrev pub told_lane : NodeConfig → Facts → Lane → Option Addr → Bool → PartTable → List Send
+told_lane p g l asked due was = told_ask p g l asked (not (same_parts was (toward p g l))) due (ask_of l.style (toward p g l))
 
 -- ---- as the tables are seen at a clock
 unfoldable pub torn_seen : ℕ → State → Lane → PartTable → List Send
 torn_seen c m l was = torn_lane m.place (facts_of c m) l was
 
-unfoldable pub told_seen : ℕ → State → Lane → Bool → PartTable → List Send
-told_seen c m l due was = told_lane m.place (facts_of c m) l due was
+unfoldable pub told_seen : ℕ → State → Lane → Option Addr → Bool → PartTable → List Send
+told_seen c m l asked due was = told_lane m.place (facts_of c m) l asked due was
+
+unfoldable pub wish_seen : ℕ → State → Lane → Option Addr → Option Addr
+wish_seen c m l asked = wish_of m.place (facts_of c m) l asked
 
 -- ---- several lanes of one session, one after another
 abbrev pub SessionLane : Type 0
@@ -72,10 +84,10 @@ pub record IsRoomy (m : State) (said : Said) : Type 0 where
   pub some : (l : Lane) (t : PartTable) → get said l ≡ Some t → nat_lt 0 (size t) ≡ true
   pub within : (c : ℕ) (l : Lane) → has said l ≡ true → has (lanes (facts_of c m)) l ≡ true
 
--- a Resv of what is asked for there, if something is
-abbrev pub asked_there : NodeConfig → Facts → Lane → Bool → Option Ask → List Send
-asked_there p g l due None = []
-asked_there p g l due (Some ask) = resv_send p g l None due ask ∷ []
+-- a Resv of what is asked for there, if something is, with whom it asks to confirm
+abbrev pub asked_there : NodeConfig → Facts → Lane → Option Addr → Bool → Option Ask → List Send
+asked_there p g l wish due None = []
+asked_there p g l wish due (Some ask) = resv_send p g l wish due ask ∷ []
 
-unfoldable pub ask_seen : ℕ → State → Lane → Bool → Option Ask → List Send
-ask_seen c m l due a = asked_there m.place (facts_of c m) l due a
+unfoldable pub ask_seen : ℕ → State → Lane → Option Addr → Bool → Option Ask → List Send
+ask_seen c m l wish due a = asked_there m.place (facts_of c m) l wish due a

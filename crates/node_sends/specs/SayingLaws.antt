@@ -1,6 +1,7 @@
 -- What is said of the telling of lanes: the claims of the public laws.
-use Rattle.std.specs.Prelude.{◌≡◌, ℕ, false, [], List, map as each, Some, None}
+use Rattle.std.specs.Prelude.{◌≡◌, ℕ, false, [], List, map as each, Option, Some}
 use Rattle.std.specs.List.{filter_map, flat_map}
+use Rattle.std.specs.Option.{option_map}
 use Rattle.path_state.specs.declared.fact.PathFact.{PathFact}
 use Rattle.resv_state.specs.Merging.{requests_toward}
 use Rattle.resv_state.specs.Walks.{rests}
@@ -14,14 +15,14 @@ use Rattle.style_rules.specs.Merge.{PartTable}
 use Rattle.style_rules.specs.Toward.{toward as merged_toward}
 use Rattle.style_rules.specs.Ways.{WayTable}
 use Rattle.router_rules.specs.Facts.{Facts, SenderKey}
-use Rattle.router_rules.specs.Inputs.{only_heard}
+use Rattle.router_rules.specs.Inputs.{Asked, only_heard}
 use Rattle.router_rules.specs.Known.{Lane}
 use Rattle.router_rules.specs.NodeConfig.{NodeConfig}
 use Rattle.router_rules.specs.Requests.{toward}
 use Rattle.router_rules.specs.Sends.{resv_send_to, resv_tear, sends}
 use Rattle.router_rules.specs.declared.answers.Heard.{Heard}
 use Rattle.node_facts.specs.Changes.{paths_put}
-use Rattle.node_facts.specs.State.{AreUnmarked, IsSaid, Said, State, facts_of, said_at, table_in}
+use Rattle.node_facts.specs.State.{IsSaid, Said, State, facts_of, said_at, table_in}
 use Rattle.node_sends.specs.Changed.{IsChangedFor}
 use Rattle.node_sends.specs.Saying.{AreLanesOf, IsCleared, IsRoomy, IsTold, SessionLane, lane_by, told_lane, torn_lane}
 use Rattle.node_sends.specs.Before.{lanes_by}
@@ -54,6 +55,6 @@ AllIsSaid =
 pub record LanesAreTold : Type 0 where
   pub tears : (p : NodeConfig) (f g : Facts) (s : Session) (said : Said) → ((l : Lane) → said_at said l ≡ toward p f l) → (es : List SessionLane)
       → flat_map (λ e. torn_lane p g (lane_by s e) (said_at said (lane_by s e))) es ≡ flat_map (resv_tear p p f g) (each (lane_by s) es)
-  pub resvs : (p : NodeConfig) (f g : Facts) (s : Session) (said : Said) → ((l : Lane) → said_at said l ≡ toward p f l) → AreUnmarked g.wants → (es : List SessionLane)
-      → flat_map (λ e. told_lane p g (lane_by s e) false (said_at said (lane_by s e))) es ≡ filter_map (resv_send_to p p f g empty None) (each (lane_by s) es)
+  pub resvs : (p : NodeConfig) (f g : Facts) (s : Session) (said : Said) → ((l : Lane) → said_at said l ≡ toward p f l) → (asked : Option Asked) (es : List SessionLane)
+      → flat_map (λ e. told_lane p g (lane_by s e) (option_map (λ a. a.confirm) asked) false (said_at said (lane_by s e))) es ≡ filter_map (resv_send_to p p f g empty asked) (each (lane_by s) es)
   pub lanes : (s : Session) (f : Facts) → AreLanesOf f s (lanes_by (keys (hops_in f s)))

@@ -10,11 +10,11 @@ use Rattle.rsvp_base.specs.declared.style.StyleKind.{StyleKind}
 use Rattle.rsvp_base.specs.declared.style.StyleKind.TheVariants.{Wild, Fixed, Shared}
 use Rattle.style_rules.specs.Lines.{NextHop, next_hops}
 use Rattle.router_rules.specs.Facts.{Facts, PathState, SenderKey, paths_in, resvs_in, senders_in, sender_keys, wants_in}
-use Rattle.router_rules.specs.Inputs.{Send, only_heard}
+use Rattle.router_rules.specs.Inputs.{Change, Send, only_heard}
 use Rattle.router_rules.specs.Known.{Lane}
 use Rattle.router_rules.specs.Offers.{OfferKey, offers}
 use Rattle.router_rules.specs.NodeConfig.{NodeConfig}
-use Rattle.router_rules.specs.Sends.{resv_send_to, resv_tear, sends}
+use Rattle.router_rules.specs.Sends.{conf_sends, confirmed, error_sends, resv_send_to, resv_tear, sends}
 use Rattle.router_rules.specs.declared.answers.Heard.{Heard}
 use Rattle.style_rules.specs.declared.target.Target.{Target}
 use Rattle.node_sends.specs.Told.{offered, told_gone, told_new}
@@ -53,7 +53,20 @@ pub record IsChangedAt (p : NodeConfig) (k : SenderKey) (f g : Facts) : Type 0 w
   pub elsewhere : AreSameOff (eq_by_cmp sessions.cmp k.0) f g
   pub others : (j : OfferKey) → eq_by_cmp sender_keys.cmp k (j.session, j.sender) ≡ false → get (offers p f) j ≡ get (offers p g) j
 
--- what is sent then: the tears of the sender, those of its session's lanes, its Paths, and the Resvs of its session's lanes
+-- what is sent then, of the sender and of its session's lanes: PathTears, ResvTears, errors, confirmations, Paths, and Resvs
+abbrev pub sent_with : NodeConfig → SenderKey → Facts → Facts → Change → List Send
+sent_with p k f g c =
+    told_gone p k (offered f k) (offered g k)
+    ++ (flat_map (resv_tear p p f g) (lanes_at k.0 (keys (hops_in f k.0)))
+    ++ (error_sends c.errors
+    ++ (conf_sends (c.confs ++ confirmed p p f g c.asked)
+    ++ (told_new p k (offered f k) (offered g k)
+    ++ filter_map (resv_send_to p p f g empty c.asked) (lanes_at k.0 (keys (hops_in g k.0)))))))
+
+abbrev pub OneSessionIsTold : Type 0
+OneSessionIsTold = (p : NodeConfig) (k : SenderKey) (f g : Facts) (c : Change) → IsChangedAt p k f g → c.fired ≡ empty → sends p p f g c ≡ sent_with p k f g c
+
+-- without errors and confirmations
 abbrev pub sent_at : NodeConfig → SenderKey → Facts → Facts → List Send
 sent_at p k f g =
     told_gone p k (offered f k) (offered g k)

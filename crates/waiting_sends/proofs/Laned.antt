@@ -1,5 +1,5 @@
 -- Lanes told by what was said before; and all six groups.
-use Rattle.std.specs.Prelude.{◌≡◌, Bool, true, false, cond, not, ◌&&◌, List, [], ◌∷◌, ◌++◌, map as each, Option, Some, None, refl}
+use Rattle.std.specs.Prelude.{◌≡◌, Bool, true, false, cond, not, List, [], ◌∷◌, ◌++◌, Option, Some, None, refl}
 use Rattle.std.specs.List.{cons_option, filter, filter_map, flat_map}
 use Rattle.std.proofs.Common.{sym, ap, inl, inr, ◌∙◌}
 use Rattle.rsvp_base.specs.Members.{In}
@@ -7,21 +7,18 @@ use Rattle.rsvp_base.specs.Orders.{sessions}
 use Rattle.rsvp_base.specs.Sets.{Set}
 use Rattle.rsvp_base.specs.Table.{has, keys}
 use Rattle.rsvp_base.specs.declared.session.Session.{Session}
-use Rattle.rsvp_base.specs.declared.style.Unit.{Unit as UnitOf}
-use Rattle.rsvp_base.proofs.Counts.{in_found}
 use Rattle.rsvp_base.proofs.Filters.{filter_map_among}
 use Rattle.rsvp_base.proofs.Fronts.{in_keys}
-use Rattle.rsvp_base.proofs.UnderLaws.{get-under}
 use Rattle.rsvp_messages.specs.declared.ask.Ask.{Ask}
 use Rattle.router_rules.specs.Asking.{ask_of}
-use Rattle.router_rules.specs.Facts.{Facts, Want, sender_keys, wants_in}
+use Rattle.router_rules.specs.Facts.{Facts, sender_keys}
 use Rattle.router_rules.specs.Inputs.{Change, Send}
 use Rattle.router_rules.specs.Known.{Lane, lane_keys, lanes}
 use Rattle.router_rules.specs.NodeConfig.{NodeConfig}
 use Rattle.router_rules.specs.Offers.{offers}
 use Rattle.router_rules.specs.Requests.{toward}
-use Rattle.router_rules.specs.Sends.{conf_sends, confirmed, error_sends, is_marked, marked_units, own_wish, path_tears, resv_send, resv_send_of, resv_send_to, resv_sends, resv_tear, resv_tears, same_parts}
-use Rattle.node_facts.specs.State.{AreUnmarked, Said, said_at}
+use Rattle.router_rules.specs.Sends.{conf_sends, confirmed, error_sends, path_tears, resv_send_of, resv_send_to, resv_sends, resv_tear, resv_tears, same_parts}
+use Rattle.node_facts.specs.State.{Said, said_at}
 use Rattle.node_sends.specs.Saying.{told_ask, told_lane, torn_lane}
 use Rattle.node_sends.proofs.Elsewhere.{no_send, no_tear, toward_same}
 use Rattle.waiting_sends.specs.Several.{AreSessions, is_among, lanes_for}
@@ -29,33 +26,21 @@ use Rattle.waiting_sends.specs.SeveralLaws.{IsPassage, LanesAreSaid, PassageIsTo
 use Rattle.waiting_sends.proofs.Ordered.{lanes_grouped}
 use Rattle.waiting_sends.proofs.Senders.{all_again, all_gone, all_paths, all_tears}
 
--- ---- no want is to be confirmed
-none_marked : (p : NodeConfig) (g : Facts) (l : Lane) → AreUnmarked g.wants → marked_units p g l ≡ []
-none_marked p g l unmarked = ap (each (λ (e : UnitOf × Want). e.0)) (none (wants_in g l.session).rows (λ e i. unmarked (l.session, e.0) e.1 (sym (get-under sessions _ g.wants l.session e.0) ∙ in_found _ (wants_in g l.session) e.0 e.1 i)))
-  where
-    none : (es : List (UnitOf × Want)) → ((e : UnitOf × Want) → In e es → e.1.confirm ≡ false) → filter (is_marked p g l) es ≡ []
-    none [] h = refl
-    none (e ∷ es) h = ap (λ b. cond b (e ∷ filter (is_marked p g l) es) (filter (is_marked p g l) es)) (off e.1.confirm _ (h e (inl refl))) ∙ none es (λ d i. h d (inr i))
-      where
-        off : (a b : Bool) → a ≡ false → (a && b) ≡ false
-        off false b e = refl
-        off true b e = cc
-
 module _ (old p : NodeConfig) (f g : Facts) (said : Said) (is : (l : Lane) → said_at said l ≡ toward old f l) where
   torn_so : (l : Lane) → torn_lane p g l (said_at said l) ≡ resv_tear old p f g l
   torn_so l = ap (torn_lane p g l) (is l)
 
-  module _ (unmarked : AreUnmarked g.wants) (fired : Set sessions) where
-    one_lane : (l : Lane) → told_lane p g l (has fired l.session) (said_at said l) ≡ cons_option (resv_send_to old p f g fired None l) []
-    one_lane l = ap (told_lane p g l (has fired l.session)) (is l) ∙ by (not (same_parts (toward old f l) (toward p g l))) (has fired l.session) (ask_of l.style (toward p g l))
+  module _ (fired : Set sessions) where
+    one_lane : (l : Lane) → told_lane p g l None (has fired l.session) (said_at said l) ≡ cons_option (resv_send_to old p f g fired None l) []
+    one_lane l = ap (told_lane p g l None (has fired l.session)) (is l) ∙ by (not (same_parts (toward old f l) (toward p g l))) (has fired l.session) (ask_of l.style (toward p g l))
       where
-        by : (b d : Bool) (a : Option Ask) → told_ask p g l b d a ≡ cons_option (resv_send_of p g l b d None a) []
+        by : (b d : Bool) (a : Option Ask) → told_ask p g l None b d a ≡ cons_option (resv_send_of p g l b d None a) []
         by b d None = refl
-        by true d (Some a) = λ i. resv_send p g l (own_wish p l (sym (none_marked p g l unmarked) i)) d a ∷ []
+        by true d (Some a) = refl
         by false true (Some a) = refl
         by false false (Some a) = refl
 
-    told_so : (ls : List Lane) → flat_map (λ l. told_lane p g l (has fired l.session) (said_at said l)) ls ≡ filter_map (resv_send_to old p f g fired None) ls
+    told_so : (ls : List Lane) → flat_map (λ l. told_lane p g l None (has fired l.session) (said_at said l)) ls ≡ filter_map (resv_send_to old p f g fired None) ls
     told_so [] = refl
     told_so (l ∷ ls) = (λ i. one_lane l i ++ told_so ls i) ∙ one_more (resv_send_to old p f g fired None l) _
       where

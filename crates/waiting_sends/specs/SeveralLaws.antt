@@ -12,7 +12,7 @@ use Rattle.router_rules.specs.NodeConfig.{NodeConfig}
 use Rattle.router_rules.specs.Offers.{Offer, offers}
 use Rattle.router_rules.specs.Requests.{toward}
 use Rattle.router_rules.specs.Sends.{path_sends, path_tears, resv_send_to, resv_tear, sends}
-use Rattle.node_facts.specs.State.{AreUnmarked, Said, said_at}
+use Rattle.node_facts.specs.State.{Said, said_at}
 use Rattle.node_sends.specs.Saying.{told_lane, torn_lane}
 use Rattle.node_sends.specs.SendsHere.{AreSameOf}
 use Rattle.node_sends.specs.Told.{offered}
@@ -38,8 +38,8 @@ pub record SendersAreTold : Type 0 where
 -- ---- lanes, by what was said before; the routes may be others than before
 pub record LanesAreSaid : Type 0 where
   pub tears : (old p : NodeConfig) (f g : Facts) (said : Said) → ((l : Lane) → said_at said l ≡ toward old f l) → (l : Lane) → torn_lane p g l (said_at said l) ≡ resv_tear old p f g l
-  pub resvs : (old p : NodeConfig) (f g : Facts) (said : Said) → ((l : Lane) → said_at said l ≡ toward old f l) → AreUnmarked g.wants → (fired : Set sessions) (ls : List Lane)
-      → flat_map (λ l. told_lane p g l (has fired l.session) (said_at said l)) ls ≡ filter_map (resv_send_to old p f g fired None) ls
+  pub resvs : (old p : NodeConfig) (f g : Facts) (said : Said) → ((l : Lane) → said_at said l ≡ toward old f l) → (fired : Set sessions) (ls : List Lane)
+      → flat_map (λ l. told_lane p g l None (has fired l.session) (said_at said l)) ls ≡ filter_map (resv_send_to old p f g fired None) ls
 
 -- ---- all six groups
 -- where the facts of the sessions that have previous hops differ only in some of them, and only these come due, nothing is

@@ -1,5 +1,4 @@
-use Rattle.std.proofs.Common.{ap, ◌∙◌}
-use Rattle.rsvp_base.specs.Table.{get}
+use Rattle.std.proofs.Common.{fold, ap, ◌∙◌}
 use Rattle.lane_state.specs.Lanes.{lane_at, said_at, told}
 use Rattle.node_tables.specs.Whole.{state_of}
 use Rattle.lane_telling.proofs.Said.{said_tested, told_is}
@@ -9,7 +8,8 @@ pub returns-clause-sent : goal.returns-clause-sent
 returns-clause-sent g c = λ clock any.
     let was = said_at c.args.said.now (lane_at (c.args.session, (c.args.style, c.args.hop))) in
     c.tell_changed.ensures clock any
-    ∙ told_is clock (state_of c.args.tables.now any) c.args.session c.args.style c.args.hop g.O.Outbox.posted c.args.out.now c.args.due was c.toward-now.result (c.toward-now.ensures clock any) _ (said_tested c.is_said-is_old.result was c.toward-now.result c.is_said-is_old.ensures)
+    ∙ ap (fold g.O.Outbox.posted c.args.out.now)
+    (told_is clock (state_of c.args.tables.now any) c.args.session c.args.style c.args.hop c.args.asked c.args.due was c.toward-now.result (c.toward-now.ensures clock any) _ (said_tested c.is_said-is_old.result was c.toward-now.result c.is_said-is_old.ensures))
 
 pub returns-clause-said : goal.returns-clause-said
 returns-clause-said g c = λ clock any. c.tell.ensures ∙ ap (told c.args.said.now (lane_at (c.args.session, (c.args.style, c.args.hop)))) (c.toward-now.ensures clock any)
