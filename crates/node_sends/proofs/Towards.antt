@@ -173,7 +173,7 @@ module _ (p : NodeConfig) (f : Facts) (l : Lane) where
   own_same Fixed t part = cut_same part (up_names up) (names_via f l) (λ x h. h) up_names_are
   own_same Shared t part = cut_same part (up_names up) (names_via f l) (λ x h. h) up_names_are
 
-  want_same : (e : UnitOf × Want) → then_do (own_want l.style (names_via f l) e.0 e.1) (λ y. up_want_request up (e.0, y)) ≡ want_request f l e
+  pub want_same : (e : UnitOf × Want) → then_do (own_want l.style (names_via f l) e.0 e.1) (λ y. up_want_request up (e.0, y)) ≡ want_request f l e
   want_same e = by (is_style e.1.style l.style)
     where
       by : (b : Bool) → then_do (cond b (Some (own_part l.style (names_via f l) e.1.part)) None) (λ y. up_want_request up (e.0, y)) ≡ cond b (request_of f.walls l (want_part l.style (names_via f l) e.1.part)) None
