@@ -1,0 +1,4 @@
+pub mod Handles
+pub mod Units
+pub mod Taking
+pub mod Wishes
