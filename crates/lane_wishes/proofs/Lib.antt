@@ -2,6 +2,7 @@ pub mod Named
 pub mod Cut
 pub mod Open
 pub mod Walking
+pub mod Opened
 pub mod Sets
 pub mod Marked
 pub mod Unmarked

@@ -16,8 +16,8 @@ use style_rules::{Parts, Style, Upstream};
 // At most so many reservations of a style.
 pub(crate) const FACTS: usize = 1024;
 
-/// Whether a request of the unit, of those of the session's reservations of the style and of its wants, is not blockaded
-/// toward the hop from which these names come (RFC 2205, 3.5).
+// Whether a request of the unit, of those of the session's reservations of the style and of its wants, is not blockaded
+// toward the hop from which these names come (RFC 2205, 3.5).
 pub(crate) fn has_open(
     tables: &Tables,
     session: Session,

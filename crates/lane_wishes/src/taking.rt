@@ -14,15 +14,15 @@ use rsvp_base::{Flow, Part, Sender, StyleKind, Unit};
 use std::cmp::Ordering;
 use style_rules::{Upstream, Wall};
 
-/// What is to be known of a request toward a previous hop: its unit, and whether it is blockaded there.
+// What is to be known of a request toward a previous hop: its unit, and whether it is blockaded there.
 #[derive(Clone, Copy)]
 pub(crate) struct Asking {
     pub(crate) unit: Unit,
     pub(crate) blockaded: bool,
 }
 
-/// What a part asks for toward a hop, cut to the names that come from there, and, where an interface is given, whose trees
-/// go out of that. `None` exactly where no name is left.
+// What a part asks for toward a hop, cut to the names that come from there, and, where an interface is given, whose trees
+// go out of that. `None` exactly where no name is left.
 pub(crate) fn asked_toward(
     style: StyleKind,
     part: &Part,
@@ -40,7 +40,7 @@ pub(crate) fn asked_toward(
     }
 }
 
-/// Whether that is of a unit and not blockaded.
+// Whether that is of a unit and not blockaded.
 pub(crate) fn is_open(unit: Unit, ask: Option<Asking>) -> bool
     ensures { result ≡ is_open unit ask }
 {
