@@ -1,0 +1,4 @@
+pub mod Putting
+pub mod Wanting
+pub mod Standing
+pub mod Settled
