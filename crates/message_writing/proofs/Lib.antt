@@ -7,3 +7,5 @@ pub mod ReadAgain
 pub mod Ranged
 pub mod Spelt
 pub mod Sealing
+pub mod Testing
+pub mod Bytes

@@ -1,9 +1,8 @@
 -- Writing the length and the checksum into a header with zeros there makes the header of the message.
-use Rattle.std.proofs.Common.{◌≡◌, ℕ, suc, ◌+◌, ◌-◌, ◌<◌, List, ◌++◌, length, get_or, slice_set, refl, ap, sym, ◌∙◌, arith}
+use Rattle.std.proofs.Common.{◌≡◌, ℕ, suc, List, ◌++◌, get_or, slice_set, ◌∙◌, arith}
 use Rattle.rsvp_messages.specs.declared.message.Kind.{Kind}
 use Rattle.rsvp_objects.specs.Fields.{half}
-use Rattle.message_wire.specs.Sum.{ones_sum}
-use Rattle.message_writing.specs.Encoding.{header, checksum}
+use Rattle.message_writing.specs.Encoding.{header}
 use Rattle.message_writing.proofs.Sums.{AreSmall}
 
 pub sized : (k : Kind) (old body s1 s2 z : List ℕ) (n : ℕ) → old ≡ header k 0 0 ++ body → z ≡ half n → s1 ≡ slice_set old 6 (get_or z 0 0) → s2 ≡ slice_set s1 7 (get_or z 1 0) → s2 ≡ header k 0 n ++ body

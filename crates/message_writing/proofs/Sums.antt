@@ -1,9 +1,9 @@
 -- The checksum that is written is right, by the closed form of the one's complement sum.
-use Rattle.std.proofs.Common.{◌≡◌, ℕ, suc, ◌+◌, ◌*◌, ◌-◌, ◌/◌, ◌%◌, ◌≤◌, ◌<◌, List, [], ◌∷◌, ◌++◌, length, get_or, refl, ap, ◌∙◌, arith}
+use Rattle.std.proofs.Common.{◌≡◌, ℕ, suc, ◌+◌, ◌*◌, ◌-◌, ◌/◌, ◌%◌, ◌≤◌, ◌<◌, List, [], ◌∷◌, ◌++◌, length, get_or, ap, ◌∙◌, arith}
 use Rattle.std.specs.List.{AllByRecursion}
 use Rattle.rsvp_messages.specs.declared.message.Kind.{Kind}
 use Rattle.rsvp_messages.specs.declared.message.Kind.TheVariants as kind
-use Rattle.message_wire.specs.Sum.{words_in, plus, sum_from, ones_sum}
+use Rattle.message_wire.specs.Sum.{words_in, sum_from, ones_sum}
 use Rattle.message_wire.proofs.Closed.{closed, plus_closed}
 use Rattle.message_writing.specs.Encoding.{kind_number, header, checksum}
 

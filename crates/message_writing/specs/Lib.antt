@@ -1,4 +1,5 @@
 pub mod Objects
 pub mod Ranges
 pub mod Encoding
+pub mod Written
 pub mod Laws

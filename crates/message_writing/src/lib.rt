@@ -10,6 +10,11 @@ mod laws;
 mod lengths;
 mod lists;
 mod messages;
+mod ranges;
 
 pub use encoding::{encode, encode_into};
-pub use laws::{what_is_in_place_stands, what_is_spelt_is_writable};
+pub use laws::{
+    in_range_is_what_types_know, what_is_in_place_stands, what_is_in_range_is_spelt,
+    what_is_spelt_is_writable,
+};
+pub use ranges::know_range;

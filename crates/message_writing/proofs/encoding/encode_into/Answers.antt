@@ -1,7 +1,7 @@
 use Rattle.std.proofs.Common.{rules, ◌≡◌, ap, ◌∙◌}
 use Rattle.message_wire.specs.Sum.{ones_sum}
 use Rattle.message_wire.proofs.ProperRead.{bytes_of}
-use Rattle.message_writing.specs.Encoding.{sealed, body_of, encoding}
+use Rattle.message_writing.specs.Encoding.{encoding}
 use Rattle.message_writing.proofs.Ranged.{writable}
 use Rattle.message_writing.proofs.ReadAgain.{again_by_text}
 use Rattle.message_writing.proofs.encoding.encode_into.Goals as goal

@@ -1,6 +1,6 @@
 use Rattle.std.proofs.Common.{◌≡◌, ◌+◌, ◌-◌, ◌++◌, length, drop, ap, get_or, ◌∙◌, arith}
 use Rattle.message_wire.specs.Sum.{ones_sum}
-use Rattle.message_writing.specs.Encoding.{header, checksum, sealed}
+use Rattle.message_writing.specs.Encoding.{header, sealed}
 use Rattle.message_writing.proofs.Sums.{sealed_right}
 use Rattle.message_writing.proofs.Sealing.{sized, summed, small_behind}
 use Rattle.message_writing.proofs.encoding.seal.Goals as goal
