@@ -1,5 +1,5 @@
 -- Lanes that are cleared, one after another.
-use Rattle.std.specs.Prelude.{◌≡◌, ◌==◌, ◌⊎◌, ℕ, nat_lt, Bool, true, false, cond, is_some, length, suc, take, slice_index_or, ◌<◌, ◌+◌, List, [], ◌∷◌, ◌++◌, Option, Some, None, refl}
+use Rattle.std.specs.Prelude.{◌≡◌, ◌==◌, ℕ, nat_lt, Bool, true, false, cond, is_some, length, suc, take, slice_index_or, ◌<◌, ◌+◌, List, [], ◌∷◌, ◌++◌, Option, Some, None, refl}
 use Rattle.std.specs.FinMap.Entries.{find}
 use Rattle.std.specs.Option.{unwrap_or}
 use Rattle.std.proofs.Common.{sym, ap, subst, inl, inr, ◌∙◌, arith, ⊎_elim}

@@ -1,4 +1,3 @@
-mod Named
 mod Said
 mod Listed
 mod Cleared

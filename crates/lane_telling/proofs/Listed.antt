@@ -1,7 +1,6 @@
 -- Lane after lane.
-use Rattle.std.specs.Prelude.{◌≡◌, ◌<◌, ◌+◌, ℕ, Bool, true, false, List, [], ◌∷◌, ◌++◌, map as each, fold, length, take, slice_get, slice_index_or, Option, Some, zero, suc, refl}
+use Rattle.std.specs.Prelude.{◌≡◌, ◌<◌, ◌+◌, ℕ, Bool, true, false, List, [], ◌∷◌, ◌++◌, fold, length, take, slice_get, slice_index_or, Option, Some, zero, suc, refl}
 use Rattle.std.specs.List.{flat_map}
-use Rattle.std.specs.Ordering.{eq_by_cmp}
 use Rattle.std.proofs.Common.{sym, ap, subst, inl, inr, ◌∙◌, arith, ⊎_elim}
 use Rattle.std.proofs.lemmas.Grind.{flat_map-append}
 use Rattle.std.proofs.lemmas.List.{map-append}
@@ -18,7 +17,6 @@ use Rattle.rsvp_base.specs.declared.style.StyleKind.TheVariants.{Wild, Fixed, Sh
 use Rattle.rsvp_base.proofs.Fronts.{front_more, got_in, in_keys}
 use Rattle.rsvp_base.proofs.Members.{in_append, in_each, in_left, in_right}
 use Rattle.style_rules.specs.Lines.{NextHop, next_hops}
-use Rattle.style_rules.specs.Merge.{PartTable}
 use Rattle.router_rules.specs.Inputs.{Send}
 use Rattle.router_lookups.proofs.Knowing.{lanes_made}
 use Rattle.router_rules.specs.Known.{lanes}

@@ -20,10 +20,13 @@ use Rattle.router_rules.specs.Asking.{ask_of}
 use Rattle.router_rules.specs.Inputs.{Send}
 use Rattle.router_rules.specs.Known.{Lane}
 use Rattle.router_rules.specs.NodeConfig.{period}
-use Rattle.router_rules.specs.Sends.{gone_names, marked_units, own_wish, resv_tear_send, same_parts, tear_of}
-use Rattle.node_facts.specs.State.{State, facts_of}
+use Rattle.router_rules.specs.Sends.{gone_names, resv_tear_send, same_parts, tear_of}
+use Rattle.node_facts.specs.State.{Said, State, facts_of}
 use Rattle.node_facts.proofs.Routed.{same_test}
-use Rattle.node_sends.specs.Saying.{ask_seen, told_ask, told_seen, torn_of, torn_seen, wish_seen}
+use Rattle.node_sends.specs.Marks.{used_in}
+use Rattle.node_sends.specs.Saying.{SessionLane, ask_seen, told_ask, told_seen, torn_of, torn_seen, wish_seen}
+use Rattle.lane_wishes.specs.Wishes.{used_seen}
+use Rattle.lane_wishes.specs.Wishes.{wish_seen as own_seen}
 use Rattle.lane_telling.specs.Rounds.{told_parts}
 use Rattle.node_sends.specs.Seen.{hop_seen, lane_of, names_seen, toward_at}
 
@@ -36,6 +39,11 @@ is_somebody names some = either (is_none names) (λ t. absurd (some (eqb-true (s
 
 pub said_tested : (r : Bool) (was now : PartTable) → IsTrue r ↔ (was ≡ now) → not r ≡ not (same_parts was now)
 said_tested r was now is = ap not (same_test r (same_parts was now) (λ t. parts_tested was now (is.0 t)) (λ t. is.1 (parts_told was now t)))
+
+-- marks that are used
+pub used_is : (c : ℕ) (n : State) (s : Session) (said : Said) (es : List SessionLane) → used_seen c n s said es ≡ used_in n.place (facts_of c n) s said es
+unfolding used_seen
+used_is c n s said es = refl
 
 module _ (c : ℕ) (n : State) (s : Session) (st : StyleKind) (hop : NextHop) where
   abbrev lane : Lane
@@ -77,8 +85,8 @@ module _ (c : ℕ) (n : State) (s : Session) (st : StyleKind) (hop : NextHop) wh
   unfolding wish_seen
   wish_given a = refl
 
-  pub wish_own : (w : Option Addr) → w ≡ own_wish n.place lane (marked_units n.place (facts_of c n) lane) → w ≡ wish_seen c n lane None
-  unfolding wish_seen
+  pub wish_own : (w : Option Addr) → w ≡ own_seen c n lane → w ≡ wish_seen c n lane None
+  unfolding wish_seen own_seen
   wish_own w is = is
 
   module _ (asked : Option Addr) where

@@ -19,7 +19,6 @@ use Rattle.rsvp_base.specs.declared.session.Sender.{Sender}
 use Rattle.rsvp_base.specs.declared.session.Session.{Session}
 use Rattle.rsvp_base.proofs.Changed.{changed_same}
 use Rattle.rsvp_base.proofs.Counts.{found_in, in_found, in_set_of, set_of_in}
-use Rattle.rsvp_base.proofs.Fronts.{in_keys}
 use Rattle.rsvp_base.proofs.Members.{in_each, to_each}
 use Rattle.rsvp_base.proofs.SetLaws.{same_set}
 use Rattle.rsvp_base.proofs.Tables.{get-changed, got_changed, then_do}

@@ -9,9 +9,8 @@ ghost use Rattle.router_rules.specs.Asking.{ask_of};
 ghost use Rattle.node_tables.specs.Whole.{state_of};
 ghost use Rattle.lane_telling.specs.Rounds.{told_parts};
 
-use crate::upward::{hop_to, names_via, toward};
 use lane_state::{LaneTable, ask_of, gone_among, tear_of};
-use lane_wishes::own_wish;
+use lane_wishes::{hop_to, names_via, own_wish, toward};
 use node_tables::Tables;
 use node_telling::Outbox;
 use rsvp_base::{Addr, Session, StyleKind};

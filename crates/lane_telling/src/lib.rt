@@ -9,10 +9,8 @@ mod clearing;
 mod lanes;
 mod rounds;
 mod telling;
-mod upward;
 
 pub use clearing::clear_lanes;
 pub use lanes::{tell_lane, tell_torn};
 pub use rounds::{tear_lanes, tell_lanes};
 pub use telling::{keep_said, offered, tell_news, tell_sender, tell_tears};
-pub use upward::{hop_to, names_via, toward};

@@ -33,8 +33,8 @@ impl Units {
     ghost use Rattle.rsvp_base.specs.Table.{empty, has, keys, size};
     ghost use Rattle.rsvp_base.specs.Sets.{union, with_key};
 
-    // None.
-    pub(crate) fn new() -> Units
+    /// None.
+    pub fn new() -> Units
         ensures { result ≡ empty }
     {
         Units {

@@ -1,7 +1,6 @@
-use Rattle.std.proofs.Common.{◌≡◌, sym, ap, ◌∙◌}
+use Rattle.std.proofs.Common.{sym, ap, ◌∙◌}
 use Rattle.std.proofs.lemmas.Bool.{both_ways}
 use Rattle.rsvp_base.specs.Table.{size}
-use Rattle.style_rules.specs.Merge.{PartTable}
 use Rattle.lane_state.specs.Lanes.{lane_at}
 use Rattle.lane_telling.proofs.Cleared.{forgets_none, is_kept}
 use Rattle.lane_telling.proofs.clearing.forget_lane.Goals as goal

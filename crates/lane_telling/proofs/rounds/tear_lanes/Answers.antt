@@ -1,4 +1,3 @@
-use Rattle.std.proofs.Common.{ap, ◌∙◌, ◌++◌}
 use Rattle.rsvp_base.specs.Table.{keys}
 use Rattle.rsvp_base.specs.declared.style.StyleKind.TheVariants.{Wild, Fixed, Shared}
 use Rattle.node_tables.specs.Whole.{state_of}

@@ -1,9 +1,9 @@
-use Rattle.std.proofs.Common.{◌≡◌, ℕ, true, fold, refl, sym, ap, subst, ◌∙◌, arith, take, slice_index_or, ◌++◌, ◌∷◌, []}
+use Rattle.std.proofs.Common.{fold, refl, ap, subst, ◌∙◌}
 use Rattle.std.specs.List.{flat_map}
 use Rattle.std.proofs.lemmas.List.{take_all}
-use Rattle.rsvp_base.specs.Table.{empty, has, keys}
-use Rattle.node_sends.specs.Saying.{IsRoomy, IsTold, SessionLane, lane_by, told_seen}
-use Rattle.node_sends.proofs.Saying.{as_before, roomy_told, told_more, told_none, told_room}
+use Rattle.rsvp_base.specs.Table.{empty}
+use Rattle.node_sends.specs.Saying.{IsTold}
+use Rattle.node_sends.proofs.Saying.{told_none}
 use Rattle.node_tables.specs.Whole.{state_of}
 use Rattle.lane_telling.specs.Rounds.{lanes_of, told_by}
 use Rattle.lane_telling.proofs.Listed.{step_room, step_roomy, step_sent, step_told}

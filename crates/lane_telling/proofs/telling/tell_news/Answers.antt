@@ -1,14 +1,14 @@
-use Rattle.std.proofs.Common.{◌≡◌, ℕ, fold, sym, ap, ◌∙◌, ◌&&◌, not}
+use Rattle.std.proofs.Common.{◌≡◌, false, fold, sym, ap, ◌∙◌, ◌&&◌, not}
 use Rattle.std.specs.List.{filter_map, flat_map}
 use Rattle.std.specs.Option.{option_map}
 use Rattle.rsvp_base.specs.Sets.{Set}
 use Rattle.rsvp_base.specs.Orders.{units}
 use Rattle.rsvp_base.specs.Table.{changed, empty, get, has, keys}
-use Rattle.router_rules.specs.Facts.{Facts, SenderKey, Wants}
+use Rattle.router_rules.specs.Facts.{SenderKey, Wants}
 use Rattle.router_rules.specs.NodeConfig.{is_session}
 use Rattle.router_rules.specs.Requests.{toward}
 use Rattle.router_rules.specs.Sends.{resv_send_to}
-use Rattle.node_facts.specs.State.{State, facts_of}
+use Rattle.node_facts.specs.State.{facts_of}
 use Rattle.node_sends.specs.Before.{lanes_by}
 use Rattle.node_sends.specs.Marks.{unmarked_in, used_in}
 use Rattle.node_sends.specs.SendsHere.{hops_in, lanes_at}
