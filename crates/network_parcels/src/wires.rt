@@ -64,6 +64,16 @@ impl Wires {
         &self.routing
     }
 
+    /// Another routing over the same ends and links is in force from now on.
+    pub fn set_routing(&mut self, routing: Routing)
+        requires nodes { routing.nodes ≡ self.old.nodes }
+        requires ends { routing.ends ≡ self.old.ends }
+        requires links { routing.links ≡ self.old.links }
+        ensures { self.new ≡ routing }
+    {
+        self.routing = routing;
+    }
+
     /// The end that is an interface of a node. `None` exactly where the node has no such interface.
     pub fn end_at(&self, node: u16, iface: u8) -> Option<u16>
         ensures end { result ≡ end_at self.now.ends node iface }
