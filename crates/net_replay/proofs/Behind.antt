@@ -1,7 +1,8 @@
 -- What is put behind what is in flight, part by part.
 use Rattle.std.proofs.Common.{◌≡◌, ℕ, ◌<◌, ◌≤◌, List, [], ◌∷◌, ◌++◌, Bool, true, false, length, take, refl, sym, ap, ap₂, subst, ◌∙◌, arith, append-nil, append_assoc, length-append, ltb-true, ltb-false}
-use Rattle.std.specs.Prelude.{fold, nat_lt, ◌||◌, ◌↔◌, Option, None, Some, IfSome, Result, Ok, Err, IsErr, OnOk, OnErr, is_err}
+use Rattle.std.specs.Prelude.{fold, nat_lt, ◌||◌, ◌&&◌, ◌↔◌, Option, None, Some, IfSome, Result, Ok, Err, IsErr, OnOk, OnErr, is_err}
 use Rattle.std.proofs.lemmas.List.{take_all, take-append-le, length-take-le}
+use Rattle.message_writing.specs.Written.{is_in_range}
 use Rattle.router_rules.specs.Inputs.{Send}
 use Rattle.network_parcels.specs.Parcels.{Parcel}
 use Rattle.net_replay.specs.Posting.{Post, put_behind, parcels_of, all_parcels, with_post}
@@ -73,11 +74,15 @@ few_put ps m = let l = m.flight ++ ps in by (nat_lt 8192 (length l)) refl
     by false t = let le = ltb-false 8192 (length (m.flight ++ ps)) t in omega (arith, le, ap (λ (l : List Parcel). length l) (take_all 8192 (m.flight ++ ps) le))
 
 -- what a node posts is put behind what was there
-pub all_posted : (ss : List Send) (m : Post) → length m.flight ≤ 8192 → fold with_post m ss ≡ put_behind (all_parcels m.net m.from ss) m
+abbrev pub range_after : Bool → List Send → Bool
+range_after b [] = b
+range_after b (s ∷ ss) = range_after (b && is_in_range s.message) ss
+
+pub all_posted : (ss : List Send) (m : Post) → length m.flight ≤ 8192 → fold with_post m ss ≡ record (put_behind (all_parcels m.net m.from ss) m) { in_range = range_after m.in_range ss }
 all_posted [] m le = sym (none_behind m le)
 all_posted (s ∷ ss) m le =
-    let one = put_behind (parcels_of m.net m.from s) m in
-    all_posted ss one (few_put (parcels_of m.net m.from s) m) ∙ then_behind (parcels_of m.net m.from s) (all_parcels m.net m.from ss) m
+    all_posted ss (with_post m s) (few_put (parcels_of m.net m.from s) m)
+    ∙ ap (λ (x : Post). record x { in_range = range_after (m.in_range && is_in_range s.message) ss }) (then_behind (parcels_of m.net m.from s) (all_parcels m.net m.from ss) m)
 
 -- ---- what code tests
 pub told : (b : Bool) (n : ℕ) → (b ≡ true) ↔ (8192 < n) → b ≡ nat_lt 8192 n

@@ -15,7 +15,7 @@ use Rattle.net_replay.specs.Posting.{Post}
 use Rattle.net_replay.specs.Running.{Ran}
 use Rattle.net_replay.specs.declared.world_err.WorldErr.TheVariants.{Crowded}
 use Rattle.net_replay.proofs.Runnings.{well, ran_one, one_crowded}
-use Rattle.net_replay.proofs.Stepped.{step_crowds, step_made, due_here, counted_one, still_roomy, same_wires, others}
+use Rattle.net_replay.proofs.Stepped.{HasSetUp, step_crowds, step_made, due_here, counted_one, still_roomy, same_wires, others}
 use Rattle.net_replay.proofs.Tellings.{told_here}
 
 module _ {R : Type 0} (see : Seen R) (q : ℕ) (old : State R) (w : World) (agrees : Agrees see q old w) (k : ℕ) (end : ℕ) (dst : Addr) (hand : List ℕ) (mid new : Post)
@@ -28,7 +28,7 @@ module _ {R : Type 0} (see : Seen R) (q : ℕ) (old : State R) (w : World) (agre
     delivery_crowds names o v full =
         one_crowded q names see o v (Deliver k) w (step_crowds q (Deliver k) w mid new (still_roomy see q old w agrees k mid taken) (others see q old w agrees k mid taken) put full)
 
-    pub delivery_told : (o after : List ℕ) (v : State R) (h : Option Heard) → v.post ≡ new → new.full ≡ false → v.refused ≡ None → v.quarter ≡ old.quarter → AreNodes see q (step q (Deliver k) w) v.nodes → v.words ≡ old.words → v.delivered ≡ min (old.delivered + 1) most_count
+    pub delivery_told : (o after : List ℕ) (v : State R) (h : Option Heard) → v.post ≡ new → new.full ≡ false → v.refused ≡ None → HasSetUp old v → AreNodes see q (step q (Deliver k) w) v.nodes → v.words ≡ old.words → v.delivered ≡ min (old.delivered + 1) most_count
         → v.trace ≡ old.trace → h ≡ heard_of q w k due.item → after ≡ o ++ cond old.trace (told (slice_get old.names end) due.item.arrival h) [] → Ran see q old.names well o after v (Deliver k ∷ []) w
     delivery_told o after v h posts full going quarter are drawn counted traced heard said =
         ran_one q old.names see o after (cond old.trace (told (slice_get old.names end) due.item.arrival h) []) v (Deliver k) w

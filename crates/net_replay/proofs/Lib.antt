@@ -6,10 +6,14 @@ pub mod Making
 pub mod Nodes
 pub mod OneNode
 pub mod Delivering
+pub mod Turns
 pub mod Waiting
 pub mod Stepped
 pub mod Chains
 pub mod Tellings
 pub mod Runnings
 pub mod Delivered
+pub mod Moves
 pub mod Opened
+pub mod Reports
+pub mod Reported

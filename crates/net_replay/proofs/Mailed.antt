@@ -1,19 +1,24 @@
 -- What nodes post is put in flight as the model puts it there.
 use Rattle.std.proofs.Common.{◌≡◌, ℕ, ◌<◌, ◌≤◌, List, [], ◌∷◌, ◌++◌, Bool, true, false, length, take, refl, sym, ap, subst, ◌∙◌, ltb-true, ltb-false}
-use Rattle.std.specs.Prelude.{map as each, fold, nat_lt, ◌||◌}
+use Rattle.std.specs.Prelude.{map as each, fold, nat_lt, ◌||◌, ◌&&◌}
 use Rattle.std.proofs.lemmas.List.{map-append, take_all}
-use Rattle.std.proofs.lemmas.List.Elements.{All-head, All-tail}
+use Rattle.std.specs.List.{All}
+use Rattle.std.proofs.lemmas.Bool.{and_parts}
+use Rattle.std.proofs.lemmas.List.Elements.{All-nil, All-cons, All-head, All-tail}
 use Rattle.message_wire.specs.Spells.{Spells}
 use Rattle.message_writing.specs.Encoding.{encoding}
+use Rattle.message_writing.specs.Written.{is_in_range}
+use Rattle.message_writing.proofs.Bytes.{in_range_spelt}
+use Rattle.rsvp_messages.specs.Proper.{IsProper}
 use Rattle.router_rules.specs.Inputs.{Send}
 use Rattle.tree_model.specs.Networks.{Net, end_at}
 use Rattle.network_model.specs.Links.{goes_to, copy_to, copies_of, all_copies}
 use Rattle.network_model.specs.Worlds.{Item}
 use Rattle.network_parcels.specs.Parcels.{Parcel, parcel}
 use Rattle.net_replay.specs.Posting.{Post, put_behind, parcels_of, all_parcels, with_post}
-use Rattle.net_replay.proofs.Behind.{all_posted, few_put, none_behind, then_behind}
+use Rattle.net_replay.proofs.Behind.{all_posted, few_put, none_behind, range_after, then_behind}
 use Rattle.net_replay.specs.Agreeing.{IsItem, AreItems}
-use Rattle.net_replay.specs.Following.{AreSpelt}
+use Rattle.net_replay.specs.Following.{AreProper, AreSpelt}
 use Rattle.net_replay.specs.Mailing.{items_sent, ArePut}
 use Rattle.net_replay.proofs.Zips.{all_zip_append}
 
@@ -37,7 +42,7 @@ parcels_are net born n (s ∷ ss) fit =
 -- what a node posts
 pub posted_put : (m new : Post) (n born : ℕ) (ss : List Send) → length m.flight ≤ 8192 → new ≡ fold with_post (record m { from = n }) ss → AreSpelt ss → ArePut m new (items_sent m.net born n ss)
 posted_put m new n born ss le is fit =
-    let whole : new ≡ put_behind (all_parcels m.net n ss) (record m { from = n }) = is ∙ all_posted ss (record m { from = n }) le in
+    let whole : new ≡ record (put_behind (all_parcels m.net n ss) (record m { from = n })) { in_range = range_after m.in_range ss } = is ∙ all_posted ss (record m { from = n }) le in
     record {
       parcels = all_parcels m.net n ss;
       are = parcels_are m.net born n ss fit;
@@ -45,6 +50,28 @@ posted_put m new n born ss le is fit =
       flight = ap (λ (x : Post). x.flight) whole;
       full = ap (λ (x : Post). x.full) whole;
     }
+
+-- what is posted by code is in range, so that what is proper of it is spelt
+abbrev IsRanged : Send → Type 0
+IsRanged s = is_in_range s.message ≡ true
+
+abbrev IsSane : Send → Type 0
+IsSane s = IsProper s.message
+
+ranged : (b : Bool) (ss : List Send) → range_after b ss ≡ true → (b ≡ true) × All IsRanged ss
+ranged b [] e = (e, All-nil IsRanged)
+ranged b (s ∷ ss) e =
+    let rest = ranged (b && is_in_range s.message) ss e in
+    let here = and_parts b (is_in_range s.message) rest.0 in
+    (here.0, All-cons IsRanged s ss here.1 rest.1)
+
+spelt : (ss : List Send) → All IsRanged ss → AreProper ss → AreSpelt ss
+spelt [] range proper = All-nil IsSpelt
+spelt (s ∷ ss) range proper =
+    All-cons IsSpelt s ss (in_range_spelt s.message (All-head IsRanged s ss range) (All-head IsSane s ss proper)) (spelt ss (All-tail IsRanged s ss range) (All-tail IsSane s ss proper))
+
+pub posted_spelt : (m new : Post) (ss : List Send) → length m.flight ≤ 8192 → new ≡ fold with_post m ss → new.in_range ≡ true → AreProper ss → AreSpelt ss
+posted_spelt m new ss le is range proper = spelt ss (ranged m.in_range ss (sym (ap (λ (x : Post). x.in_range) (is ∙ all_posted ss m le)) ∙ range)).1 proper
 
 -- the wires stay, and there is room for what is in flight
 pub posted_wires : (m new : Post) (ss : List Send) → length m.flight ≤ 8192 → new ≡ fold with_post m ss → new.net ≡ m.net

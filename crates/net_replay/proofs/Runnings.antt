@@ -1,6 +1,6 @@
 -- Steps with their text, one after the other.
 use Rattle.std.proofs.Common.{◌≡◌, ℕ, suc, ◌+◌, List, [], ◌∷◌, ◌++◌, Bool, true, false, refl, sym, ap, subst, ◌∙◌, append-nil, append_assoc, arith, ltb-false}
-use Rattle.std.specs.Prelude.{nat_lt, Result, Ok, Err, IsErr, OnOk, OnErr, map as each}
+use Rattle.std.specs.Prelude.{nat_lt, Result, Ok, Err, IfErr, IsErr, OnOk, OnErr, map as each}
 use Rattle.calm_rounds.specs.Machine.{run}
 use Rattle.network_model.specs.Events.{Event, at_place, last_piece, steps_of, all_steps}
 use Rattle.network_model.specs.Runs.{is_crowded, crowds, uncrowded, text_of, written}
@@ -14,7 +14,22 @@ use Rattle.net_replay.specs.declared.world_err.WorldErr.TheVariants.{Crowded, No
 use Rattle.net_replay.proofs.Chains.{run_append, crowds_first, crowds_later}
 
 pub same_then : {R : Type 0} (a b c : State R) → IsSame a b → IsSame b c → IsSame a c
-same_then a b c e f = record { names = f.names ∙ e.names; quarter = f.quarter ∙ e.quarter }
+same_then a b c e f = record { names = f.names ∙ e.names; quarter = f.quarter ∙ e.quarter; trace = f.trace ∙ e.trace }
+
+-- ---- when memory ran out
+abbrev pub failed : WorldErr → Result (Unit {0}) WorldErr
+failed e = Err e
+
+pub only_then : (r : Result (Unit {0}) WorldErr) (x y : WorldErr) → r ≡ failed x → x ≡ y → (before now : Bool) → now ≡ before → (failed y ≡ failed NoMemory → now ≡ true) → r ≡ failed NoMemory → before ≡ true
+only_then r x y is same before now e only ran_out = sym e ∙ only (ap failed (sym same) ∙ sym is ∙ ran_out)
+
+pub not_memory : (r : Result (Unit {0}) WorldErr) → IfErr r (λ e. e ≡ Crowded) → (b : Bool) → r ≡ failed NoMemory → b ≡ true
+not_memory (Ok _) h b e = absurd (cc)
+not_memory (Err x) h b e = absurd (let z : failed Crowded ≡ failed NoMemory = ap failed (sym h) ∙ e in cc)
+
+pub not_off : (b : Bool) → (b ≡ false → ⊥) → b ≡ true
+not_off true never = refl
+not_off false never = absurd (never refl)
 
 abbrev pub well : Result (Unit {0}) WorldErr
 well = Ok tt

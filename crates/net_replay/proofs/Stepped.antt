@@ -35,6 +35,10 @@ over n lt = by (nat_lt 8192 n) refl
     by true t = t
     by false t = absurd (omega (arith, lt, ltb-false 8192 n t))
 
+-- the period is the same, and there are routes of the same trees
+abbrev pub HasSetUp : {R : Type 0} → State R → State R → Type 0
+HasSetUp old v = ◌≡◌ {A = ℕ × List (Addr × Addr)} (v.quarter, v.trees) (old.quarter, old.trees)
+
 module _ (q : ℕ) (s : Step) (w : World) where
   uncrowded_one : is_crowded (step q s w) ≡ false → crowds q (s ∷ []) w ≡ false
   uncrowded_one e = rw e refl
@@ -55,10 +59,11 @@ module _ (q : ℕ) (s : Step) (w : World) where
     pub step_fits : new.full ≡ false → crowds q (s ∷ []) w ≡ false
     step_fits e = uncrowded_one (fits (length (step q s w).flight) (omega (arith, many, room_for_all mid new (each (λ (x : Item × Bool). x.0) (sent q s w)) roomy put e)))
 
-    module _ {R : Type 0} (see : Seen R) (old v : State R) (agrees : Agrees see q old w) (stays : net_after s w ≡ w.net) (wires : mid.net ≡ old.post.net) (posts : v.post ≡ new) (full : new.full ≡ false) where
-      pub step_made : v.refused ≡ None → v.quarter ≡ old.quarter → AreNodes see q (step q s w) v.nodes → v.words ≡ words_after s w → v.delivered ≡ min (w.delivered + length (items_of (arrived s w))) most_count → v.trace ≡ trace_after s w
+    module _ {R : Type 0} (see : Seen R) (old v : State R) (agrees : Agrees see q old w) (posts : v.post ≡ new) (full : new.full ≡ false) where
+      -- in the network in which the nodes posted
+      pub step_made_in : net_after s w ≡ mid.net → v.refused ≡ None → HasSetUp old v → AreNodes see q (step q s w) v.nodes → v.words ≡ words_after s w → v.delivered ≡ min (w.delivered + length (items_of (arrived s w))) most_count → v.trace ≡ trace_after s w
           → (crowds q (s ∷ []) w ≡ false) × Agrees see q v (step q s w)
-      step_made going quarter are drawn counted traced =
+      step_made_in wires going set_up are drawn counted traced =
           let all = all_are_put mid new (each (λ (x : Item × Bool). x.0) (sent q s w)) roomy put full in
           let flights : v.post.flight ≡ mid.flight ++ put.parcels = ap (λ (p : Post). p.flight) posts ∙ all in
           let room = room_for_all mid new (each (λ (x : Item × Bool). x.0) (sent q s w)) roomy put full in (
@@ -66,8 +71,9 @@ module _ (q : ℕ) (s : Step) (w : World) where
             record {
               going = going;
               roomy = ap (λ (p : Post). p.full) posts ∙ full;
-              quarter = quarter ∙ agrees.quarter;
-              net = stays ∙ agrees.net ∙ sym wires ∙ sym put.net ∙ sym (ap (λ (p : Post). p.net) posts);
+              quarter = ap (λ x. x.0) set_up ∙ agrees.quarter;
+              trees = ap (λ x. x.1) set_up ∙ agrees.trees;
+              net = wires ∙ sym put.net ∙ sym (ap (λ (p : Post). p.net) posts);
               nodes = are;
               flight = subst (λ (ps : List Parcel). AreItems ps (step q s w).flight) (sym flights) flown;
               room = subst (λ (ps : List Parcel). length ps ≤ 8192) (sym flights) room;
@@ -77,15 +83,20 @@ module _ (q : ℕ) (s : Step) (w : World) where
             },
           )
 
+    module _ {R : Type 0} (see : Seen R) (old v : State R) (agrees : Agrees see q old w) (stays : net_after s w ≡ w.net) (wires : mid.net ≡ old.post.net) (posts : v.post ≡ new) (full : new.full ≡ false) where
+      pub step_made : v.refused ≡ None → HasSetUp old v → AreNodes see q (step q s w) v.nodes → v.words ≡ words_after s w → v.delivered ≡ min (w.delivered + length (items_of (arrived s w))) most_count → v.trace ≡ trace_after s w
+          → (crowds q (s ∷ []) w ≡ false) × Agrees see q v (step q s w)
+      step_made going set_up are drawn counted traced = step_made_in see old v agrees posts full (stays ∙ agrees.net ∙ sym wires) going set_up are drawn counted traced
+
   -- nothing comes to a node
   module _ {R : Type 0} (see : Seen R) (old v : State R) (agrees : Agrees see q old w) (stays : net_after s w ≡ w.net) (none : ms_of s ≡ 0) (quiet : (n : ℕ) → input_at s w n ≡ None) where
     pub still_put : (a b : Post) → length a.flight ≤ 8192 → b ≡ a → ArePut a b (each (λ x. x.0) (sent q s w))
     still_put a b le is = subst (λ (xs : List (Item × Bool)). ArePut a b (each (λ x. x.0) xs)) (sym (sends_nothing q s w quiet)) (nothing_put a b le is)
 
-    pub still_made : v.post.full ≡ false → v.post.net ≡ old.post.net → AreItems v.post.flight (rest s w) → length v.post.flight ≤ 8192 → v.refused ≡ None → v.quarter ≡ old.quarter → v.nodes ≡ old.nodes → v.words ≡ words_after s w
+    pub still_made : v.post.full ≡ false → v.post.net ≡ old.post.net → AreItems v.post.flight (rest s w) → length v.post.flight ≤ 8192 → v.refused ≡ None → HasSetUp old v → v.nodes ≡ old.nodes → v.words ≡ words_after s w
         → v.delivered ≡ min (w.delivered + length (items_of (arrived s w))) most_count → v.trace ≡ trace_after s w → (crowds q (s ∷ []) w ≡ false) × Agrees see q v (step q s w)
-    still_made full wires items room going quarter nodes drawn counted traced =
-        step_made v.post v.post full items (still_put v.post v.post room refl) see old v agrees stays wires refl full going quarter
+    still_made full wires items room going set_up nodes drawn counted traced =
+        step_made v.post v.post full items (still_put v.post v.post room refl) see old v agrees stays wires refl full going set_up
         (subst (λ (rs : List R). AreNodes see q (step q s w) rs) (sym nodes) (nodes_still see q s w stays old.nodes none (λ n lt. quiet n) agrees.nodes)) drawn counted traced
 
 -- ---- a delivery
@@ -166,12 +177,12 @@ module _ (q : ℕ) (s : Step) (w : World) {R : Type 0} (see : Seen R) (old : Sta
     flight_is : new.flight ≡ old.post.flight ++ p ∷ []
     flight_is = ap (λ (m : Post). m.flight) put ∙ take_all 8192 (old.post.flight ++ p ∷ []) room_left
 
-    pub one_put_made : (v : State R) → v.post ≡ new → net_after s w ≡ w.net → ms_of s ≡ 0 → v.refused ≡ None → v.quarter ≡ old.quarter → v.nodes ≡ old.nodes → v.words ≡ words_after s w → v.delivered ≡ min (w.delivered + length (items_of (arrived s w))) most_count
+    pub one_put_made : (v : State R) → v.post ≡ new → net_after s w ≡ w.net → ms_of s ≡ 0 → v.refused ≡ None → HasSetUp old v → v.nodes ≡ old.nodes → v.words ≡ words_after s w → v.delivered ≡ min (w.delivered + length (items_of (arrived s w))) most_count
         → v.trace ≡ trace_after s w → (crowds q (s ∷ []) w ≡ false) × Agrees see q v (step q s w)
-    one_put_made v posts stays none going quarter nodes drawn counted traced =
+    one_put_made v posts stays none going set_up nodes drawn counted traced =
         let flights : v.post.flight ≡ old.post.flight ++ p ∷ [] = ap (λ (m : Post). m.flight) posts ∙ flight_is in
         still_made q s w see old v agrees stays none quiet (ap (λ (m : Post). m.full) posts ∙ full) (ap (λ (m : Post). m.net) (posts ∙ put)) (subst (λ (ps : List Parcel). AreItems ps (rest s w)) (sym flights) are)
-        (subst (λ (ps : List Parcel). length ps ≤ 8192) (sym flights) room_left) going quarter nodes drawn counted traced
+        (subst (λ (ps : List Parcel). length ps ≤ 8192) (sym flights) room_left) going set_up nodes drawn counted traced
 
 module _ {R : Type 0} (see : Seen R) (q : ℕ) (old : State R) (w : World) (agrees : Agrees see q old w) where
   pub injected_here : (end : ℕ) (dst : Addr) (bytes : List ℕ) (a : Arrival) → IsArrival bytes a → AreItems (old.post.flight ++ parcel dst bytes end ∷ []) (rest (Inject end dst a) w)

@@ -1,14 +1,12 @@
 -- A piece of a wait, node by node.
-use Rattle.std.proofs.Common.{◌≡◌, ℕ, zero, suc, ◌+◌, ◌≤◌, List, [], ◌∷◌, ◌++◌, Bool, Some, length, drop, refl, sym, ap, subst, ◌∙◌, arith, add-one}
-use Rattle.std.specs.Prelude.{slice_get, map as each, fold}
-use Rattle.std.proofs.lemmas.List.{map-append}
-use Rattle.router_rules.specs.Facts.{Facts}
+use Rattle.std.proofs.Common.{◌≡◌, ℕ, zero, suc, ◌+◌, ◌≤◌, List, [], ◌++◌, length, refl, ap, subst, ◌∙◌}
+use Rattle.std.specs.Prelude.{map as each, fold}
 use Rattle.router_rules.specs.Inputs.{Wait, Send}
 use Rattle.router_rules.specs.NodeConfig.{NodeConfig}
 use Rattle.router_rules.specs.Rule.{Outcome, rule, facts_after, sent_after}
 use Rattle.router_rules.proofs.Fronting.{fronts_are_the_rule}
 use Rattle.tree_model.specs.Networks.{Net}
-use Rattle.network_model.specs.Steps.{Piece, next_state, state_after, word_for, outcome, sent_from, step}
+use Rattle.network_model.specs.Steps.{Piece, next_state, state_after, word_for, outcome, step}
 use Rattle.network_model.specs.Worlds.{Item, World, config_of}
 use Rattle.net_replay.specs.Agreeing.{IsNode}
 use Rattle.net_replay.specs.Posting.{Post, with_post}
@@ -17,6 +15,7 @@ use Rattle.net_replay.specs.Mailing.{items_sent, ArePut}
 use Rattle.net_replay.proofs.Making.{copies_at}
 use Rattle.net_replay.proofs.Nodes.{node_after}
 use Rattle.net_replay.proofs.Mailed.{posted_put}
+use Rattle.net_replay.proofs.Turns.{sent_on, none_on, one_on}
 
 -- one word more
 pub state_more : (n x : ℕ) → state_after (suc n) x ≡ next_state (state_after n x)
@@ -26,24 +25,10 @@ state_more (suc n) x = state_more n (next_state x)
 module _ (q : ℕ) (w : World) (ms : ℕ) where
   -- what nodes from a number on send
   abbrev pub sent_behind : ℕ → List Item
-  sent_behind n = each (λ x. x.0) (sent_from q (Piece ms) w n (drop n w.nodes))
-
-  from_here : (k n : ℕ) (fs : List Facts) (f : Facts) → slice_get fs n ≡ Some f → sent_from q (Piece ms) w k (drop n fs) ≡ copies_at q (Piece ms) w k f ++ sent_from q (Piece ms) w (suc k) (drop (suc n) fs)
-  from_here k n [] f e = absurd (cc)
-  from_here k zero (g ∷ fs) f e = let same : g ≡ f = (let z : Some g ≡ Some f = e in cc) in ap (λ (z : Facts). copies_at q (Piece ms) w k z ++ sent_from q (Piece ms) w (suc k) fs) same
-  from_here k (suc n) (g ∷ fs) f e = from_here k n fs f e
-
-  split : (n : ℕ) (f : Facts) → slice_get w.nodes n ≡ Some f → sent_behind n ≡ each (λ x. x.0) (copies_at q (Piece ms) w n f) ++ sent_behind (suc n)
-  split n f e = ap (λ (xs : List (Item × Bool)). each (λ x. x.0) xs) (from_here n n w.nodes f e) ∙ map-append (λ (x : Item × Bool). x.0) (copies_at q (Piece ms) w n f) (sent_from q (Piece ms) w (suc n) (drop (suc n) w.nodes))
-
-  none_behind : (k n : ℕ) (fs : List Facts) → length fs ≤ n → each (λ x. x.0) (sent_from q (Piece ms) w k (drop n fs)) ≡ []
-  none_behind k zero [] le = refl
-  none_behind k (suc n) [] le = refl
-  none_behind k zero (f ∷ fs) le = absurd (omega arith)
-  none_behind k (suc n) (f ∷ fs) le = none_behind k n fs (omega arith)
+  sent_behind n = sent_on q w (Piece ms) n
 
   pub all_waited : (n : ℕ) → length w.nodes ≤ n → sent_behind n ≡ []
-  all_waited n le = none_behind n n w.nodes le
+  all_waited n le = none_on q w (Piece ms) n le
 
   module _ {R : Type 0} (see : Seen R) (n word : ℕ) (old : R) (is : IsNode see q w n old) (drawn : word ≡ word_for w.words n) where
     same_wait : rule (see.place old) (see.place old) (w.clock + ms) (Wait ms word) (see.facts old w.clock) ≡ outcome q (Piece ms) w n (see.facts old w.clock)
@@ -70,4 +55,4 @@ module _ (q : ℕ) (w : World) (ms : ℕ) where
 
     -- from here on
     pub from_here_on : sent_behind n ≡ each (λ x. x.0) (copies_at q (Piece ms) w n (see.facts old w.clock)) ++ sent_behind (n + 1)
-    from_here_on = split n (see.facts old w.clock) is.facts ∙ ap (λ m. each (λ x. x.0) (copies_at q (Piece ms) w n (see.facts old w.clock)) ++ sent_behind m) (sym (add-one n))
+    from_here_on = one_on q w (Piece ms) n (see.facts old w.clock) is.facts

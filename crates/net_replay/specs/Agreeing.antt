@@ -1,12 +1,14 @@
 -- A network in code agrees with a world of the model.
 use Rattle.std.specs.Prelude.{◌≡◌, ℕ, ◌-◌, ◌^◌, ◌≤◌, ◌<◌, ◌*◌, min, Bool, false, List, length, Option, None, Some, slice_get}
 use Rattle.std.specs.List.{All, AllZip}
+use Rattle.rsvp_base.specs.declared.addr.Addr.{Addr}
 use Rattle.router_rules.specs.NodeConfig.{NodeConfig}
 use Rattle.tree_model.specs.Networks.{Net, ends_of}
 use Rattle.network_model.specs.Worlds.{Item, World, config_of}
 use Rattle.network_parcels.specs.Parcels.{Parcel}
 use Rattle.net_replay.specs.Posting.{Post}
 use Rattle.net_replay.specs.Following.{IsArrival, Seen}
+use Rattle.net_replay.specs.Routed.{AreRouted}
 use Rattle.net_replay.specs.declared.world_err.WorldErr.{WorldErr}
 
 -- a network of routers of a type
@@ -16,6 +18,8 @@ pub record State (R : Type 0) : Type 0 where
   pub post : Post
   pub names : List (List ℕ)
   pub nodes : List R
+  -- the group and source of each tree of which nodes have a route
+  pub trees : List (Addr × Addr)
   pub words : ℕ
   pub delivered : ℕ
   pub trace : Bool
@@ -30,12 +34,13 @@ abbrev pub AreWired : Net → List NodeConfig → Type 0
 AreWired net places = (n : ℕ) (p : NodeConfig) → slice_get places n ≡ Some p → length p.ifaces ≡ length (ends_of net.ends n)
 
 -- what holds of the fields of every network
-pub record IsSteady (q : ℕ) (net : Net) (places : List NodeConfig) : Type 0 where
+pub record IsSteady (q : ℕ) (net : Net) (trees : List (Addr × Addr)) (places : List NodeConfig) : Type 0 where
   pub few : length places ≤ 256
   pub long : 1 ≤ q
   pub short : 4 * q < 2 ^ 32
   pub timed : All (λ p. p.quarter ≡ q) places
   pub wired : AreWired net places
+  pub routed : AreRouted trees places
 
 -- a parcel is an item of the model: its bytes are what arrives
 pub record IsItem (p : Parcel) (x : Item) : Type 0 where
@@ -66,6 +71,7 @@ module _ {R : Type 0} (see : Seen R) (q : ℕ) where
     pub going : v.refused ≡ None
     pub roomy : v.post.full ≡ false
     pub quarter : v.quarter ≡ q
+    pub trees : v.trees ≡ w.trees
     pub net : w.net ≡ v.post.net
     pub nodes : AreNodes w v.nodes
     pub flight : AreItems v.post.flight w.flight

@@ -6,6 +6,7 @@ use Rattle.message_writing.specs.Encoding.{encoding}
 use Rattle.router_rules.specs.Facts.{Facts}
 use Rattle.router_rules.specs.Inputs.{Arrival, Spelt, Unspelt, Send}
 use Rattle.router_rules.specs.NodeConfig.{NodeConfig}
+use Rattle.rsvp_messages.specs.Proper.{IsProper}
 
 -- where a router of a type stands, and what it keeps, with its moments counted from a clock
 pub record Seen (R : Type 0) : Type 0 where
@@ -16,6 +17,10 @@ pub record Seen (R : Type 0) : Type 0 where
 abbrev pub IsArrival : List ℕ → Arrival → Type 0
 IsArrival b (Spelt m) = Spells b m
 IsArrival b (Unspelt e) = IsFirstFault b e
+
+-- each message is proper
+abbrev pub AreProper : List Send → Type 0
+AreProper ss = All (λ s. IsProper s.message) ss
 
 -- each is spelt by the bytes that are written for it
 abbrev pub AreSpelt : List Send → Type 0

@@ -1,6 +1,6 @@
 -- What local calls and events are in the model.
-use Rattle.std.specs.Prelude.{◌≤◌, length}
-use Rattle.network_model.specs.Events.{Event as AnEvent, AtNode, Waits, Pass, DeliverAt, LoseAt, CopyAt, ClearNode, Rounds, Traces, Injects}
+use Rattle.std.specs.Prelude.{◌≤◌, Bool, true, length}
+use Rattle.network_model.specs.Events.{Event as AnEvent, AtNode, Waits, Pass, DeliverAt, LoseAt, CopyAt, ClearNode, Rounds, Traces, Reports, ReportsFlags, Injects}
 use Rattle.router_rules.specs.Inputs.{Arrival, Local, SendAs, DropAs, WantAs, QuitAll}
 use Rattle.router_rules.specs.Steps.{IsFitCall}
 use Rattle.net_replay.specs.Following.{IsArrival}
@@ -26,6 +26,8 @@ event_with a (event.Again place) = CopyAt place
 event_with a (event.Clear node) = ClearNode node
 event_with a (event.Rounds times) = Rounds times
 event_with a (event.Trace on) = Traces on
+event_with a (event.Report end) = Reports end
+event_with a event.Flags = ReportsFlags
 event_with a (event.Inject end dst bytes) = Injects end dst a
 
 -- what the bytes of an event are, if it has any
@@ -38,3 +40,9 @@ abbrev pub IsFitEvent : Event → Type 0
 IsFitEvent (event.Local node c) = IsFitCall (call_of c)
 IsFitEvent (event.Inject end dst bytes) = length bytes.items ≤ 4096
 IsFitEvent _ = Unit {0}
+
+-- memory is taken for a report, and for what is told where the trace is on
+abbrev pub takes_memory : Bool → Event → Bool
+takes_memory trace (event.Report end) = true
+takes_memory trace event.Flags = true
+takes_memory trace _ = trace

@@ -1,9 +1,12 @@
 pub mod Posting
 pub mod Following
+pub mod Routed
 pub mod Agreeing
 pub mod Mailing
 pub mod Due
 pub mod Telling
+pub mod Reporting
 pub mod Running
 pub mod Happening
+pub mod Moving
 pub mod Opening

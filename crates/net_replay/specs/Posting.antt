@@ -1,7 +1,8 @@
 -- What the nodes of a network post is put in flight.
-use Rattle.std.specs.Prelude.{ℕ, nat_lt, Bool, ◌||◌, List, ◌++◌, map as each, length, take}
+use Rattle.std.specs.Prelude.{ℕ, nat_lt, Bool, ◌||◌, ◌&&◌, List, ◌++◌, map as each, length, take}
 use Rattle.std.specs.List.{flat_map}
 use Rattle.message_writing.specs.Encoding.{encoding}
+use Rattle.message_writing.specs.Written.{is_in_range}
 use Rattle.router_rules.specs.Inputs.{Send}
 use Rattle.tree_model.specs.Networks.{Net, end_at}
 use Rattle.network_model.specs.Links.{goes_to}
@@ -14,6 +15,8 @@ pub record Post : Type 0 where
   pub flight : List Parcel
   -- more was posted than there is room for
   pub full : Bool
+  -- all messages that were posted are in range, as those of code are
+  pub in_range : Bool
 
 -- these are put behind the others, as many as there is room for
 abbrev pub put_behind : List Parcel → Post → Post
@@ -28,4 +31,4 @@ all_parcels net n ss = flat_map (parcels_of net n) ss
 
 -- a send of the node that posts
 abbrev pub with_post : Post → Send → Post
-with_post m s = put_behind (parcels_of m.net m.from s) m
+with_post m s = record (put_behind (parcels_of m.net m.from s) m) { in_range = m.in_range && is_in_range s.message }

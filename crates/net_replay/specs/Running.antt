@@ -25,7 +25,8 @@ abbrev pub refusal_of : {T : Type 0} → Result T WorldErr → Option WorldErr
 refusal_of (Ok _) = None
 refusal_of (Err e) = Some e
 
--- what no event changes
+-- what a step changes nothing of, unless it switches the trace
 pub record IsSame {R : Type 0} (old new : State R) : Type 0 where
   pub names : new.names ≡ old.names
   pub quarter : new.quarter ≡ old.quarter
+  pub trace : new.trace ≡ old.trace

@@ -25,6 +25,10 @@ pub enum Event {
     Rounds { times: u32 },
     /// Whether deliveries are told from now on.
     Trace { on: bool },
+    /// The books are reported: of an end, or of all.
+    Report { end: Option<u16> },
+    /// The books of all ends are reported with their policing flags.
+    Flags,
     /// Bytes are put in flight to an end, with a destination.
     Inject { end: u16, dst: Addr, bytes: Vec<u8> },
 }

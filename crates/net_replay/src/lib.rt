@@ -9,7 +9,9 @@
 mod event;
 mod local_call;
 mod mail;
+mod moving;
 mod playing;
+mod report;
 mod router;
 mod stepping;
 mod telling;

@@ -1,5 +1,5 @@
 //! The outbox of a network.
-ghost use Rattle.std.specs.Prelude.{◌≡◌, ◌||◌, ◌≤◌, ◌∷◌, [], false, IfOk, IfSome, IfNone, MatchOption, None, Some, length, map, slice_get};
+ghost use Rattle.std.specs.Prelude.{◌≡◌, ◌||◌, ◌≤◌, ◌∷◌, [], true, false, IfOk, IfSome, IfNone, MatchOption, None, Some, length, map, slice_get};
 ghost use Rattle.std.specs.List.{remove};
 ghost use Rattle.message_writing.specs.Encoding.{encoding};
 ghost use Rattle.network_model.specs.Links.{goes_to};
@@ -7,6 +7,7 @@ ghost use Rattle.tree_model.specs.Networks.{end_at};
 ghost use Rattle.network_parcels.specs.Parcels.{Parcel as AParcel, parcel};
 ghost use Rattle.net_replay.specs.Posting.{put_behind, with_post};
 
+use message_writing::know_range;
 use network_parcels::{Flight, Wires, put_copies};
 use node_telling::Outbox;
 use rsvp_base::{Addr, NoMemory};
@@ -14,9 +15,11 @@ use rsvp_messages::Message;
 use rsvp_objects::Packet;
 use std::alloc::Global;
 use std::marker::Model;
+use tree_routing::Routing;
 
 /// The outbox of a network: what a node posts is in flight at once, for each end to which it goes. Contracts see the network,
-/// the node that posts, what is in flight, and whether more was posted than there is room for. No call but `open` takes memory.
+/// the node that posts, what is in flight, whether more was posted than there is room for, and whether all messages that were
+/// posted are in range, which those of code always are. No call but `open` takes memory.
 #[derive(Drop)]
 pub struct Mail {
     wires: Wires,
@@ -26,11 +29,12 @@ pub struct Mail {
 }
 
 impl Model for Mail {
+    ghost use Rattle.std.specs.Prelude.{true};
     ghost use Rattle.net_replay.specs.Posting.{Post};
 
     ghost Value = { Post };
 
-    ghost view = { λ m. record { net = m.wires; from = m.from; flight = m.flight; full = m.full } };
+    ghost view = { λ m. record { net = m.wires; from = m.from; flight = m.flight; full = m.full; in_range = true } };
 }
 
 impl Outbox for Mail {
@@ -38,6 +42,9 @@ impl Outbox for Mail {
 
     fn post(&mut self, iface: u8, dst: Addr, message: Message, refresh: bool) {
         let _ = refresh;
+        // The proof sees here that what was posted is in range, and so is the message.
+        let _full = self.is_full();
+        know_range(&message);
         self.send(iface, dst, &message);
     }
 }
@@ -45,7 +52,7 @@ impl Outbox for Mail {
 impl Mail {
     /// Nothing in flight along these wires. `NoMemory`: there was no room for what may be.
     pub fn open(alloc: Global, wires: Wires) -> Result<Mail, NoMemory>
-        ensures { IfOk result (λ m. m ≡ record { net = wires; from = 0; flight = []; full = false }) }
+        ensures { IfOk result (λ m. m ≡ record { net = wires; from = 0; flight = []; full = false; in_range = true }) }
     {
         let flight = Flight::open(alloc)?;
         Ok(Mail {
@@ -60,9 +67,20 @@ impl Mail {
     pub fn wires(&self) -> &Wires
         ensures wires { result.now ≡ self.now.net }
         ensures most { length self.now.flight ≤ 8192 }
+        ensures range { self.now.in_range ≡ true }
     {
         let _ = self.flight.len();
         &self.wires
+    }
+
+    /// Another routing over the same ends and links is in force from now on.
+    pub fn set_routing(&mut self, routing: Routing)
+        requires nodes { routing.nodes ≡ self.old.net.nodes }
+        requires ends { routing.ends ≡ self.old.net.ends }
+        requires links { routing.links ≡ self.old.net.links }
+        ensures { self.new ≡ record self.old { net = routing } }
+    {
+        self.wires.set_routing(routing);
     }
 
     /// How many datagrams are in flight.
@@ -75,7 +93,8 @@ impl Mail {
 
     /// Whether more was posted than there is room for.
     pub fn is_full(&self) -> bool
-        ensures { result ≡ self.now.full }
+        ensures full { result ≡ self.now.full }
+        ensures range { self.now.in_range ≡ true }
     {
         self.full
     }

@@ -1,12 +1,13 @@
 //! What events do to a network.
-ghost use Rattle.std.specs.Prelude.{◌≡◌, ◌≤◌, ◌*◌, ◌∷◌, [], ℕ, List, None, Some, Err};
+ghost use Rattle.std.specs.Prelude.{◌≡◌, ◌≤◌, ◌*◌, ◌∷◌, [], ℕ, List, None, Some, Err, IfErr, true};
 ghost use Rattle.std.specs.List.{repeat};
 ghost use Rattle.network_model.specs.Events.{at_place, last_piece, pieces, steps_of};
 ghost use Rattle.network_model.specs.Steps.{Copy, Deliver, Lose, Piece};
 ghost use Rattle.router_rules.specs.Inputs.{Arrival};
-ghost use Rattle.net_replay.specs.Happening.{IsFitEvent, IsRead, event_with};
+ghost use Rattle.net_replay.specs.Happening.{IsFitEvent, IsRead, event_with, takes_memory};
 ghost use Rattle.net_replay.specs.Running.{IsSame, Makes, refusal_of};
 ghost use Rattle.net_replay.specs.declared.world_err.WorldErr.{WorldErr as AnErr};
+ghost use Rattle.net_replay.specs.declared.world_err.WorldErr.TheVariants as refusal;
 
 use crate::event::Event;
 use crate::router::Router;
@@ -15,14 +16,16 @@ use crate::world_err::WorldErr;
 
 impl<R: Router + Drop> World<R> {
     /// What happens, and its text, which is appended. `Crowded` exactly where it would put an 8,193rd datagram in flight: the
-    /// text of what happened before that is appended. `NoMemory`: a front of the text is appended. After a refusal each later
-    /// event is refused in the same way, and changes nothing.
+    /// text of what happened before that is appended. `NoMemory`, only of a report or where the trace is on: a front of the text is
+    /// appended. After a refusal each later event is refused in the same way, and changes nothing.
     pub fn event(&mut self, event: &Event, out: &mut Vec<u8>) -> Result<(), WorldErr>
         requires { IsFitEvent event.now }
         ensures made { (a : Arrival) → IsRead event.now a → self.old.refused ≡ None → Makes R.seen self.old result out.old.items out.new.items self.new (λ q w. steps_of q (event_with a event.now) w) }
         ensures again { (e : AnErr) → self.old.refused ≡ Some e → (result ≡ Err e) × (self.new ≡ self.old) × (out.new.items ≡ out.old.items) }
         ensures refused { self.new.refused ≡ refusal_of result }
-        ensures same { IsSame self.old self.new }
+        ensures names { self.new.names ≡ self.old.names }
+        ensures quarter { self.new.quarter ≡ self.old.quarter }
+        ensures only { self.old.refused ≡ None → result ≡ Err refusal.NoMemory → takes_memory self.old.trace event.now ≡ true }
     {
         if let Some(e) = self.refused {
             return Err(e);
@@ -37,6 +40,8 @@ impl<R: Router + Drop> World<R> {
             Event::Clear { node } => self.clear(*node),
             Event::Rounds { times } => self.rounds(*times, out),
             Event::Trace { on } => self.set_trace(*on),
+            Event::Report { end } => self.write_report(*end, out),
+            Event::Flags => self.write_flags(out),
             Event::Inject { end, dst, bytes } => self.inject(*end, *dst, bytes.as_slice()),
         }
     }
@@ -47,6 +52,7 @@ impl<R: Router + Drop> World<R> {
         ensures made { (t : List ℕ) → Makes R.seen self.old result t t self.new (λ q w. pieces q ms) }
         ensures same { IsSame self.old self.new }
         ensures refused { self.new.refused ≡ refusal_of result }
+        ensures crowded { IfErr result (λ e. e ≡ refusal.Crowded) }
     {
         let half = self.half_ms();
         self.half_periods(ms / half)?;
@@ -59,6 +65,7 @@ impl<R: Router + Drop> World<R> {
         ensures made { (t : List ℕ) → Makes R.seen self.old result t t self.new (λ q w. repeat times (Piece (2 * q) ∷ [])) }
         ensures same { IsSame self.old self.new }
         ensures refused { self.new.refused ≡ refusal_of result }
+        ensures crowded { IfErr result (λ e. e ≡ refusal.Crowded) }
     {
         for _ in 0..times {
             self.half_period()?;
@@ -73,6 +80,7 @@ impl<R: Router + Drop> World<R> {
         ensures made { (t : List ℕ) → Makes R.seen self.old result t t self.new (λ q w. last_piece q ms) }
         ensures same { IsSame self.old self.new }
         ensures refused { self.new.refused ≡ refusal_of result }
+        ensures crowded { IfErr result (λ e. e ≡ refusal.Crowded) }
     {
         if ms == 0 {
             return Ok(());
@@ -86,6 +94,7 @@ impl<R: Router + Drop> World<R> {
         ensures made { Makes R.seen self.old result out.old.items out.new.items self.new (λ q w. at_place Deliver place) }
         ensures same { IsSame self.old self.new }
         ensures refused { self.new.refused ≡ refusal_of result }
+        ensures only { result ≡ Err refusal.NoMemory → self.old.trace ≡ true }
     {
         if place == 0 {
             return Ok(());
@@ -99,6 +108,7 @@ impl<R: Router + Drop> World<R> {
         ensures made { (t : List ℕ) → Makes R.seen self.old result t t self.new (λ q w. at_place Lose place) }
         ensures same { IsSame self.old self.new }
         ensures refused { self.new.refused ≡ refusal_of result }
+        ensures crowded { IfErr result (λ e. e ≡ refusal.Crowded) }
     {
         if place == 0 {
             return Ok(());
@@ -112,6 +122,7 @@ impl<R: Router + Drop> World<R> {
         ensures made { (t : List ℕ) → Makes R.seen self.old result t t self.new (λ q w. at_place Copy place) }
         ensures same { IsSame self.old self.new }
         ensures refused { self.new.refused ≡ refusal_of result }
+        ensures crowded { IfErr result (λ e. e ≡ refusal.Crowded) }
     {
         if place == 0 {
             return Ok(());

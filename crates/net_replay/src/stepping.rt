@@ -8,7 +8,8 @@ ghost use Rattle.net_replay.specs.Agreeing.{AreNodes, AreReady, AreWired};
 ghost use Rattle.net_replay.specs.Due.{IsDue, heard_of};
 ghost use Rattle.net_replay.specs.Following.{AreSpelt, IsArrival};
 ghost use Rattle.net_replay.specs.Mailing.{ArePut};
-ghost use Rattle.router_rules.specs.Inputs.{Arrival, Came};
+ghost use Rattle.router_rules.specs.Inputs.{Arrival, Came, Spelt, Unspelt};
+ghost use Rattle.rsvp_messages.specs.Proper.{IsProper};
 ghost use Rattle.router_rules.specs.Steps.{IsFitCall};
 ghost use Rattle.net_replay.specs.Happening.{call_of};
 ghost use Rattle.router_rules.specs.Rule.{facts_after, heard_after, sent_after};
@@ -19,6 +20,7 @@ use crate::router::Router;
 use message_wire::decode;
 use router_rules::Heard;
 use rsvp_base::Addr;
+use rsvp_messages::{Message, MsgErr};
 
 /// A node takes in the bytes of a datagram.
 pub(crate) fn take_in<R: Router>(
@@ -39,9 +41,54 @@ pub(crate) fn take_in<R: Router>(
     // The proof sees here that what is in flight has room.
     let _wires = mail.wires();
     match decode(bytes) {
-        Ok(message) => node.arrive(iface, dst, &message, mail),
-        Err(fault) => node.arrive_unspelt(iface, dst, &fault, mail),
+        Ok(message) => arrive(node, iface, dst, &message, mail),
+        Err(fault) => arrive_unspelt(node, iface, dst, &fault, mail),
     }
+}
+
+// A message comes to a node.
+fn arrive<R: Router>(
+    node: &mut R,
+    iface: u8,
+    dst: Addr,
+    message: &Message,
+    mail: &mut Mail,
+) -> Heard
+    requires iface { iface < length (R.seen.place node.old).ifaces }
+    requires proper { IsProper message.now }
+    requires room { length mail.old.flight ≤ 8192 }
+    ensures place { R.seen.place node.new ≡ R.seen.place node.old }
+    ensures facts { (c : ℕ) → R.seen.facts node.new c ≡ facts_after (R.seen.place node.old) (R.seen.place node.old) c (Came iface dst (Spelt message.now)) (R.seen.facts node.old c) }
+    ensures heard { (c : ℕ) → result ≡ heard_after (R.seen.place node.old) c iface dst (Spelt message.now) (R.seen.facts node.old c) }
+    ensures sent { (c : ℕ) → mail.new ≡ fold with_post mail.old (sent_after (R.seen.place node.old) (R.seen.place node.old) c (Came iface dst (Spelt message.now)) (R.seen.facts node.old c)) }
+    ensures fit { (c : ℕ) → AreSpelt (sent_after (R.seen.place node.old) (R.seen.place node.old) c (Came iface dst (Spelt message.now)) (R.seen.facts node.old c)) }
+{
+    let heard = node.arrive(iface, dst, message, mail);
+    // The proof sees here that what was posted is in range.
+    let _full = mail.is_full();
+    heard
+}
+
+// Bytes that spell no message come to a node.
+fn arrive_unspelt<R: Router>(
+    node: &mut R,
+    iface: u8,
+    dst: Addr,
+    fault: &MsgErr,
+    mail: &mut Mail,
+) -> Heard
+    requires iface { iface < length (R.seen.place node.old).ifaces }
+    requires room { length mail.old.flight ≤ 8192 }
+    ensures place { R.seen.place node.new ≡ R.seen.place node.old }
+    ensures facts { (c : ℕ) → R.seen.facts node.new c ≡ facts_after (R.seen.place node.old) (R.seen.place node.old) c (Came iface dst (Unspelt fault.now)) (R.seen.facts node.old c) }
+    ensures heard { (c : ℕ) → result ≡ heard_after (R.seen.place node.old) c iface dst (Unspelt fault.now) (R.seen.facts node.old c) }
+    ensures sent { (c : ℕ) → mail.new ≡ fold with_post mail.old (sent_after (R.seen.place node.old) (R.seen.place node.old) c (Came iface dst (Unspelt fault.now)) (R.seen.facts node.old c)) }
+    ensures fit { (c : ℕ) → AreSpelt (sent_after (R.seen.place node.old) (R.seen.place node.old) c (Came iface dst (Unspelt fault.now)) (R.seen.facts node.old c)) }
+{
+    let heard = node.arrive_unspelt(iface, dst, fault, mail);
+    // The proof sees here that what was posted is in range.
+    let _full = mail.is_full();
+    heard
 }
 
 /// A datagram that was in flight comes to its node, which posts what it sends for it. `None` exactly where it comes to no node.
@@ -89,6 +136,8 @@ pub(crate) fn wait_all<R: Router>(nodes: &mut Vec<R>, mail: &mut Mail, words: &m
         mail.set_from(n as u16);
         let word = word_of(*words);
         nodes[n].wait(ms, word, mail);
+        // The proof sees here that what was posted is in range.
+        let _full = mail.is_full();
     }
 }
 
@@ -108,6 +157,8 @@ pub(crate) fn call_at<R: Router>(nodes: &mut Vec<R>, mail: &mut Mail, node: u16,
     }
     mail.set_from(node);
     let _ = nodes[at].call(call, mail);
+    // The proof sees here that what was posted is in range.
+    let _full = mail.is_full();
 }
 
 /// A node forgets all but its local senders and wants.

@@ -125,8 +125,8 @@ pub(crate) fn tell(
     put_whole(out, line.as_slice())
 }
 
-// Appends a text in one piece. `NoMemory`: nothing was appended.
-fn put_whole(out: &mut Vec<u8>, text: &[u8]) -> Result<(), NoMemory>
+/// Appends a text in one piece. `NoMemory`: nothing was appended.
+pub(crate) fn put_whole(out: &mut Vec<u8>, text: &[u8]) -> Result<(), NoMemory>
     ensures ok { OnOk result (out.new.items ≡ out.old.items ++ text.now) }
     ensures err { OnErr result (out.new.items ≡ out.old.items) }
 {

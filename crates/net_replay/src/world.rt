@@ -1,36 +1,49 @@
 //! The world of a network.
-ghost use Rattle.std.specs.Prelude.{◌≡◌, ◌<◌, ◌≤◌, ◌*◌, ◌^◌, ◌∷◌, ℕ, List, None, [], false, length, map, IfOk};
+ghost use Rattle.std.specs.Prelude.{◌≡◌, ◌<◌, ◌≤◌, ◌*◌, ◌^◌, ◌∷◌, ℕ, List, None, [], true, false, length, map, slice_get, Err, IfErr, IfOk, MatchOption, Some};
+ghost use Rattle.network_parcels.specs.Parcels.{Parcel as AParcel};
+ghost use Rattle.net_replay.specs.declared.world_err.WorldErr.TheVariants as refusal;
 ghost use Rattle.network_model.specs.Events.{a_round, half, pass, passes, rounds};
-ghost use Rattle.network_model.specs.Steps.{At, ClearAt, Copy, Deliver, Inject, Lose, Piece, Trace};
+ghost use Rattle.network_model.specs.Steps.{At, ClearAt, Copy, Deliver, Flags, Inject, Lose, Piece, Report, Reroute, Trace, rerouted};
+ghost use Rattle.network_model.specs.Runs.{Plan, first_world};
+ghost use Rattle.network_model.specs.Worlds.{World as AWorld};
+ghost use Rattle.tree_model.specs.Trees.{trees_of};
 ghost use Rattle.router_rules.specs.Inputs.{Arrival};
 ghost use Rattle.router_rules.specs.Steps.{IsFitCall};
 ghost use Rattle.net_replay.specs.Following.{IsArrival};
 ghost use Rattle.net_replay.specs.Happening.{call_of};
-ghost use Rattle.net_replay.specs.Opening.{ArePlaced};
+ghost use Rattle.net_replay.specs.Agreeing.{Agrees};
+ghost use Rattle.net_replay.specs.Opening.{AreFirst, ArePlaced, IsOpenedBy};
+ghost use Rattle.net_replay.specs.Reporting.{Says, report_said};
 ghost use Rattle.net_replay.specs.Running.{IsSame, Makes, refusal_of};
 
 use crate::local_call::LocalCall;
 use crate::mail::Mail;
+use crate::moving::{move_all, routes_of};
+use crate::report::{put_all, put_end};
 use crate::router::Router;
 use crate::stepping::{call_at, clear_at, hand_over, wait_all};
 use crate::telling::tell;
 use crate::world_err::WorldErr;
 use network_parcels::{Wires, room};
+use router_rules::Route;
 use rsvp_base::{Addr, NoMemory};
 use rsvp_objects::Packet;
 use script_words::EndName;
 use std::alloc::Global;
 use std::marker::Model;
-use tree_routing::Routing;
+use tree_routing::{LinkHop, Routing};
 
 /// A network: its routers, what is in flight, and the state of the words. After a refusal it stands still.
 #[derive(Drop)]
 pub struct World<R: Router + Drop> {
+    alloc: Global,
     // A quarter of the refresh period, in milliseconds.
     quarter: u32,
     mail: Mail,
     names: Vec<EndName>,
     nodes: Vec<R>,
+    // One for each tree of which the nodes have one; room for those of a node.
+    routes: Vec<Route>,
     // The bytes of the datagram that is being delivered.
     hand: Box<Packet>,
     // The line that is being written.
@@ -44,18 +57,19 @@ pub struct World<R: Router + Drop> {
 impl<R: Router + Drop> Model for World<R> {
     ghost use Rattle.std.specs.Prelude.{map};
     ghost use Rattle.net_replay.specs.Agreeing.{State, IsSteady};
+    ghost use Rattle.net_replay.specs.Routed.{trees_in};
 
     ghost Value = { State R };
 
-    ghost view = { λ w. record { quarter = w.quarter; post = w.mail; names = w.names.items; nodes = w.nodes.items; words = w.words; delivered = w.delivered; trace = w.trace; refused = w.refused } };
+    ghost view = { λ w. record { quarter = w.quarter; post = w.mail; names = w.names.items; nodes = w.nodes.items; trees = trees_in w.routes.items; words = w.words; delivered = w.delivered; trace = w.trace; refused = w.refused } };
 
-    ghost invariant = { λ w. IsSteady w.quarter w.mail.net (map R.seen.place w.nodes.items) };
+    ghost invariant = { λ w. IsSteady w.quarter w.mail.net (trees_in w.routes.items) (map R.seen.place w.nodes.items) };
 }
 
 impl<R: Router + Drop> World<R> {
     /// A network in which nothing happened yet: nothing is in flight, and the trace is off. `quarter` is a quarter of the refresh
-    /// period, in milliseconds, and the words start at `seed`. `NoMemory`: there was no room for what may be in flight.
-    #[tactic(auto, using(crate::proofs::Opened::steady, crate::proofs::Opened::opened))]
+    /// period, in milliseconds, and the words start at `seed`. It agrees with the first world of each plan of this network whose
+    /// left-over facts the nodes have. `NoMemory`: there was no room for what may be in flight.
     pub fn open(
         alloc: Global,
         quarter: u32,
@@ -67,17 +81,21 @@ impl<R: Router + Drop> World<R> {
         requires long { 1 ≤ quarter }
         requires short { 4 * quarter < 2 ^ 32 }
         requires placed { ArePlaced quarter routing (map R.seen.place nodes.items) }
-        ensures { IfOk result (λ v. v ≡ record { quarter = quarter; post = record { net = routing; from = 0; flight = []; full = false }; names = names.items; nodes = nodes.items; words = seed; delivered = 0; trace = false; refused = None }) }
+        ensures first { IfOk result (λ v. (p : Plan) → IsOpenedBy p quarter seed routing names.items → AreFirst R.seen p nodes.items → Agrees R.seen quarter v (first_world p)) }
+        ensures state { IfOk result (λ v. v ≡ record { quarter = quarter; post = record { net = routing; from = 0; flight = []; full = false; in_range = true }; names = names.items; nodes = nodes.items; trees = trees_of routing.hops; words = seed; delivered = 0; trace = false; refused = None }) }
     {
         let wires = Wires::open(alloc, routing)?;
         let _valid = wires.routing();
+        let routes = routes_of(alloc, wires.routing())?;
         let mail = Mail::open(alloc, wires)?;
         let hand = room(alloc)?;
         Ok(World {
+            alloc,
             quarter,
             mail,
             names,
             nodes,
+            routes,
             hand,
             line: Vec::new(alloc),
             words: seed,
@@ -101,6 +119,72 @@ impl<R: Router + Drop> World<R> {
         self.delivered
     }
 
+    /// The router of a node. `None` exactly where there is no such node.
+    pub fn node(&self, node: u16) -> Option<&R>
+        ensures { MatchOption result (slice_get self.now.nodes node ≡ None) (λ r. slice_get self.now.nodes node ≡ Some r.now) }
+    {
+        self.nodes.get(node as usize)
+    }
+
+    /// The bytes of the k-th datagram in flight, in the order of sending, from 0. `None` exactly where k is not below their
+    /// number.
+    pub fn packet(&self, k: usize) -> Option<&[u8]>
+        ensures { MatchOption result (slice_get self.now.post.flight k ≡ None) (λ b. (p : AParcel) × (slice_get self.now.post.flight k ≡ Some p) × (p.bytes ≡ b.now)) }
+    {
+        self.mail.packet(k)
+    }
+
+    /// Appends what the book of an end holds, or those of all, with the policing flags of their entries or without. `NoMemory`: a
+    /// front of it is appended.
+    pub fn report(&self, end: Option<u16>, flags: bool, out: &mut Vec<u8>) -> Result<(), NoMemory>
+        ensures { (q : ℕ) (w : AWorld) → Agrees R.seen q self.now w → Says result out.old.items out.new.items (report_said q self.now.names flags end w) }
+    {
+        let mut line = Vec::new(self.alloc);
+        let names = self.names.as_slice();
+        let wires = self.mail.wires();
+        let nodes = self.nodes.as_slice();
+        match end {
+            Some(end) => put_end(&mut line, names, wires, nodes, end, flags, out),
+            None => put_all(&mut line, names, wires, nodes, flags, out),
+        }
+    }
+
+    // Reports the books, of an end or of all.
+    pub(crate) fn write_report(
+        &mut self,
+        end: Option<u16>,
+        out: &mut Vec<u8>,
+    ) -> Result<(), WorldErr>
+        requires { self.old.refused ≡ None }
+        ensures made { Makes R.seen self.old result out.old.items out.new.items self.new (λ q w. Report end ∷ []) }
+        ensures same { IsSame self.old self.new }
+        ensures refused { self.new.refused ≡ refusal_of result }
+    {
+        match self.report(end, false, out) {
+            Ok(()) => Ok(()),
+            Err(_) => {
+                self.refused = Some(WorldErr::NoMemory);
+                Err(WorldErr::NoMemory)
+            }
+        }
+    }
+
+    // Reports the books of all ends with their flags.
+    pub(crate) fn write_flags(&mut self, out: &mut Vec<u8>) -> Result<(), WorldErr>
+        requires { self.old.refused ≡ None }
+        ensures made { Makes R.seen self.old result out.old.items out.new.items self.new (λ q w. Flags ∷ []) }
+        ensures same { IsSame self.old self.new }
+        ensures refused { self.new.refused ≡ refusal_of result }
+    {
+        match self.report(None, true, out) {
+            Ok(()) => Ok(()),
+            Err(_) => {
+                self.refused = Some(WorldErr::NoMemory);
+                Err(WorldErr::NoMemory)
+            }
+        }
+    }
+
     // Delivers the datagram at a place, counted from 0, and tells it where the trace is on; where nothing is there nothing
     // happens.
     pub(crate) fn deliver(&mut self, place: usize, out: &mut Vec<u8>) -> Result<(), WorldErr>
@@ -108,6 +192,7 @@ impl<R: Router + Drop> World<R> {
         ensures made { Makes R.seen self.old result out.old.items out.new.items self.new (λ q w. Deliver place ∷ []) }
         ensures same { IsSame self.old self.new }
         ensures refused { self.new.refused ≡ refusal_of result }
+        ensures only { result ≡ Err refusal.NoMemory → self.old.trace ≡ true }
     {
         let Some((end, dst)) = self.mail.take(place, &mut self.hand) else {
             return Ok(());
@@ -143,6 +228,7 @@ impl<R: Router + Drop> World<R> {
         ensures made { (t : List ℕ) → Makes R.seen self.old result t t self.new (λ q w. Piece ms ∷ []) }
         ensures same { IsSame self.old self.new }
         ensures refused { self.new.refused ≡ refusal_of result }
+        ensures crowded { IfErr result (λ e. e ≡ refusal.Crowded) }
     {
         wait_all(&mut self.nodes, &mut self.mail, &mut self.words, ms);
         if self.mail.is_full() {
@@ -158,6 +244,7 @@ impl<R: Router + Drop> World<R> {
         ensures made { (t : List ℕ) → Makes R.seen self.old result t t self.new (λ q w. Lose place ∷ []) }
         ensures same { IsSame self.old self.new }
         ensures refused { self.new.refused ≡ refusal_of result }
+        ensures crowded { IfErr result (λ e. e ≡ refusal.Crowded) }
     {
         let _ = self.mail.take(place, &mut self.hand);
         let _ = self.mail.len();
@@ -170,6 +257,7 @@ impl<R: Router + Drop> World<R> {
         ensures made { (t : List ℕ) → Makes R.seen self.old result t t self.new (λ q w. Copy place ∷ []) }
         ensures same { IsSame self.old self.new }
         ensures refused { self.new.refused ≡ refusal_of result }
+        ensures crowded { IfErr result (λ e. e ≡ refusal.Crowded) }
     {
         let Some((end, dst)) = self.mail.look(place, &mut self.hand) else {
             return Ok(());
@@ -187,8 +275,10 @@ impl<R: Router + Drop> World<R> {
     pub(crate) fn set_trace(&mut self, on: bool) -> Result<(), WorldErr>
         requires { self.old.refused ≡ None }
         ensures made { (t : List ℕ) → Makes R.seen self.old result t t self.new (λ q w. Trace on ∷ []) }
-        ensures same { IsSame self.old self.new }
+        ensures names { self.new.names ≡ self.old.names }
+        ensures quarter { self.new.quarter ≡ self.old.quarter }
         ensures refused { self.new.refused ≡ refusal_of result }
+        ensures crowded { IfErr result (λ e. e ≡ refusal.Crowded) }
     {
         self.trace = on;
         Ok(())
@@ -201,6 +291,7 @@ impl<R: Router + Drop> World<R> {
         ensures made { (t : List ℕ) (a : Arrival) → IsArrival bytes.now a → Makes R.seen self.old result t t self.new (λ q w. Inject end dst a ∷ []) }
         ensures same { IsSame self.old self.new }
         ensures refused { self.new.refused ≡ refusal_of result }
+        ensures crowded { IfErr result (λ e. e ≡ refusal.Crowded) }
     {
         self.mail.put(end, dst, bytes);
         if self.mail.is_full() {
@@ -217,6 +308,7 @@ impl<R: Router + Drop> World<R> {
         ensures made { (t : List ℕ) → Makes R.seen self.old result t t self.new (λ q w. At node (call_of call.now) ∷ []) }
         ensures same { IsSame self.old self.new }
         ensures refused { self.new.refused ≡ refusal_of result }
+        ensures crowded { IfErr result (λ e. e ≡ refusal.Crowded) }
     {
         call_at(&mut self.nodes, &mut self.mail, node, call);
         if self.mail.is_full() {
@@ -232,9 +324,37 @@ impl<R: Router + Drop> World<R> {
         ensures made { (t : List ℕ) → Makes R.seen self.old result t t self.new (λ q w. ClearAt node ∷ []) }
         ensures same { IsSame self.old self.new }
         ensures refused { self.new.refused ≡ refusal_of result }
+        ensures crowded { IfErr result (λ e. e ≡ refusal.Crowded) }
     {
         clear_at(&mut self.nodes, node);
         let _ = self.mail.len();
+        Ok(())
+    }
+
+    // The network has this routing from now on, in which these hops are the tree of the group and source. Each node is told.
+    pub(crate) fn reroute(
+        &mut self,
+        group: Addr,
+        source: Addr,
+        hops: &[LinkHop],
+        routing: Routing,
+    ) -> Result<(), WorldErr>
+        requires going { self.old.refused ≡ None }
+        requires routing { routing ≡ rerouted self.old.post.net group source hops.now }
+        ensures made { (t : List ℕ) → Makes R.seen self.old result t t self.new (λ q w. Reroute group source hops.now ∷ []) }
+        ensures same { IsSame self.old self.new }
+        ensures refused { self.new.refused ≡ refusal_of result }
+        ensures crowded { IfErr result (λ e. e ≡ refusal.Crowded) }
+    {
+        let _ = group;
+        let _ = source;
+        let _ = hops;
+        self.mail.set_routing(routing);
+        move_all(&mut self.nodes, &mut self.mail, &mut self.routes);
+        if self.mail.is_full() {
+            self.refused = Some(WorldErr::Crowded);
+            return Err(WorldErr::Crowded);
+        }
         Ok(())
     }
 
@@ -244,6 +364,7 @@ impl<R: Router + Drop> World<R> {
         ensures made { Makes R.seen self.old result out.old.items out.new.items self.new (λ q w. pass q w) }
         ensures same { IsSame self.old self.new }
         ensures refused { self.new.refused ≡ refusal_of result }
+        ensures only { result ≡ Err refusal.NoMemory → self.old.trace ≡ true }
     {
         let count = self.in_flight();
         for _ in 0..count {
@@ -258,6 +379,7 @@ impl<R: Router + Drop> World<R> {
         ensures made { Makes R.seen self.old result out.old.items out.new.items self.new (λ q w. passes q times w) }
         ensures same { IsSame self.old self.new }
         ensures refused { self.new.refused ≡ refusal_of result }
+        ensures only { result ≡ Err refusal.NoMemory → self.old.trace ≡ true }
     {
         for _ in 0..times {
             self.pass(out)?;
@@ -279,6 +401,7 @@ impl<R: Router + Drop> World<R> {
         ensures made { (t : List ℕ) → Makes R.seen self.old result t t self.new (λ q w. Piece (2 * q) ∷ []) }
         ensures same { IsSame self.old self.new }
         ensures refused { self.new.refused ≡ refusal_of result }
+        ensures crowded { IfErr result (λ e. e ≡ refusal.Crowded) }
     {
         let ms = self.half_ms();
         self.piece(ms)
@@ -290,6 +413,7 @@ impl<R: Router + Drop> World<R> {
         ensures made { Makes R.seen self.old result out.old.items out.new.items self.new (λ q w. half q w) }
         ensures same { IsSame self.old self.new }
         ensures refused { self.new.refused ≡ refusal_of result }
+        ensures only { result ≡ Err refusal.NoMemory → self.old.trace ≡ true }
     {
         self.half_period()?;
         self.pass(out)
@@ -301,6 +425,7 @@ impl<R: Router + Drop> World<R> {
         ensures made { Makes R.seen self.old result out.old.items out.new.items self.new (λ q w. a_round q w) }
         ensures same { IsSame self.old self.new }
         ensures refused { self.new.refused ≡ refusal_of result }
+        ensures only { result ≡ Err refusal.NoMemory → self.old.trace ≡ true }
     {
         for _ in 0..4u32 {
             self.half(out)?;
@@ -314,6 +439,7 @@ impl<R: Router + Drop> World<R> {
         ensures made { Makes R.seen self.old result out.old.items out.new.items self.new (λ q w. rounds q times w) }
         ensures same { IsSame self.old self.new }
         ensures refused { self.new.refused ≡ refusal_of result }
+        ensures only { result ≡ Err refusal.NoMemory → self.old.trace ≡ true }
     {
         for _ in 0..times {
             self.round(out)?;

@@ -6,7 +6,7 @@ use Rattle.router_rules.specs.Rule.{sent_after}
 use Rattle.network_model.specs.Steps.{At}
 use Rattle.net_replay.specs.Happening.{call_of}
 use Rattle.net_replay.specs.Posting.{Post, with_post}
-use Rattle.net_replay.proofs.Mailed.{posted_wires}
+use Rattle.net_replay.proofs.Mailed.{posted_spelt, posted_wires}
 use Rattle.net_replay.proofs.Nodes.{each_set}
 use Rattle.net_replay.proofs.OneNode.{absent_nodes, absent_put, called_nodes, called_put}
 use Rattle.net_replay.proofs.stepping.call_at.Goals as goal
@@ -40,7 +40,8 @@ returns-clause-put g c = λ q w wires are.
     let lt : c.args.node < length c.args.nodes.now.items = omega (arith, c.if-at-len.false, c.len.ensures, c.args.nodes.now.ok.0) in
     let here = slice_get_read c.args.nodes.now.items _ c.args.node old refl lt c.index_mut.ensures.value in
     called_put see q w (At c.args.node l) c.args.node (Call l) refl refl (λ n. refl) old c.call.new.self (are.all c.args.node old here) c.args.mail.now c.call.new.out (sym wires) c.wires-wires.ensures.most
-    (λ t. c.call.ensures.sent t ∙ ap (λ (m : Post). fold with_post m (sent_after (see.place old) (see.place old) t (Call l) (see.facts old t))) c.set_from.ensures.from) c.call.ensures.fit
+    (λ t. c.call.ensures.sent t ∙ ap (λ (m : Post). fold with_post m (sent_after (see.place old) (see.place old) t (Call l) (see.facts old t))) c.set_from.ensures.from)
+    (λ t. posted_spelt c.set_from.new.self c.call.new.out (sent_after (see.place old) (see.place old) t (Call l) (see.facts old t)) c.set_from.ensures.most (c.call.ensures.sent t) c.is_full-full.ensures.range (c.call.ensures.fit t))
 
 pub returns-clause-net : goal.returns-clause-net
 returns-clause-net g c =

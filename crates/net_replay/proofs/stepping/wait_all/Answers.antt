@@ -11,7 +11,7 @@ use Rattle.network_parcels.proofs.MadeTables.{read_each}
 use Rattle.net_replay.specs.Agreeing.{IsNode}
 use Rattle.net_replay.specs.Mailing.{ArePut}
 use Rattle.net_replay.specs.Posting.{Post, with_post}
-use Rattle.net_replay.proofs.Mailed.{nothing_put, posted_room, posted_wires, put_then}
+use Rattle.net_replay.proofs.Mailed.{nothing_put, posted_room, posted_spelt, posted_wires, put_then}
 use Rattle.net_replay.proofs.Making.{as_many_nodes, copies_at}
 use Rattle.net_replay.proofs.Nodes.{within, length_set, each_set, set_there, set_elsewhere, all_at}
 use Rattle.net_replay.proofs.Waiting.{state_more, all_waited, waited_node, waited_put, from_here_on, sent_behind}
@@ -45,6 +45,7 @@ loop-n-preserved g c =
     let from : c.set_from.new.self ≡ record mail { from = n } = c.set_from.ensures.from in
     let posts : (t : ℕ) → c.wait.new.out ≡ fold with_post (record mail { from = n }) (sent_after (see.place old) (see.place old) (t + c.args.ms) (Wait c.args.ms c.word_of-word.result) (see.facts old t)) =
     λ t. c.wait.ensures.sent t ∙ ap (λ (m : Post). fold with_post m (sent_after (see.place old) (see.place old) (t + c.args.ms) (Wait c.args.ms c.word_of-word.result) (see.facts old t))) from in
+    let fit = λ (t : ℕ). posted_spelt (record mail { from = n }) c.wait.new.out (sent_after (see.place old) (see.place old) (t + c.args.ms) (Wait c.args.ms c.word_of-word.result) (see.facts old t)) inv.room (posts t) c.is_full-full.ensures.range (c.wait.ensures.fit t) in
     record {
       words = c.next_state.ensures ∙ ap next_state inv.words ∙ sym (state_more n c.args.words.now) ∙ ap (λ m. state_after m c.args.words.now) (sym (add-one n));
       many = length_set c.loop-n.nodes.items n new ∙ inv.many;
@@ -61,7 +62,7 @@ loop-n-preserved g c =
             | inr ne ↦ inv.waited q w ready m r (omega arith) (sym (set_elsewhere c.loop-n.nodes.items n m new ne) ∙ at)
           ];
       put = λ q w ready end more.
-          let one = waited_put q w c.args.ms see n c.word_of-word.result old (ready.nodes.all n old first) (drawn w ready.words_are) mail c.wait.new.out (inv.wires ∙ sym ready.wired) inv.room posts c.wait.ensures.fit in
+          let one = waited_put q w c.args.ms see n c.word_of-word.result old (ready.nodes.all n old first) (drawn w ready.words_are) mail c.wait.new.out (inv.wires ∙ sym ready.wired) inv.room posts fit in
           let both = put_then mail c.wait.new.out end (each (λ x. x.0) (copies_at q (Piece c.args.ms) w n (see.facts old w.clock))) (sent_behind q w c.args.ms (n + 1)) one more in
           inv.put q w ready end (subst (λ (xs : List Item). ArePut mail end xs) (sym (from_here_on q w c.args.ms see n c.word_of-word.result old (ready.nodes.all n old first) (drawn w ready.words_are))) both);
     }

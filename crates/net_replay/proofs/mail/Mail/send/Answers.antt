@@ -1,4 +1,4 @@
-use Rattle.std.proofs.Common.{◌≡◌, ◌∙◌, ◌++◌, ℕ, List, Option, Bool, ap, ap₂, subst, take, length}
+use Rattle.std.proofs.Common.{true, ◌≡◌, ◌∙◌, ◌++◌, ℕ, List, Option, Bool, ap, ap₂, subst, take, length}
 use Rattle.std.specs.Prelude.{map as each, nat_lt, ◌||◌, is_err}
 use Rattle.message_writing.specs.Encoding.{encoding}
 use Rattle.network_model.specs.Links.{goes_to}
@@ -21,6 +21,6 @@ returns c =
     let over : c.is_err-over.result ≡ nat_lt 8192 (length (i.flight ++ xs (end_at i.wires.ends i.from c.args.iface))) =
     c.is_err-over.ensures.value ∙ told (is_err c.put_copies-put.result) (length (i.flight ++ xs c.end_at-from.result)) c.put_copies-put.ensures.full ∙ ap (λ o. nat_lt 8192 (length (i.flight ++ xs o))) from in
     let fulls = c.either-self-inside.ensures ∙ ap (λ b. i.full || b) over in
-    let before : Post = record { net = i.wires; from = i.from; flight = i.flight; full = i.full } in
-    subst (λ (m : Post). (record { net = i.wires; from = i.from; flight = c.put_copies-put.new.flight; full = c.either-self-inside.result }) ≡ put_behind (each f (goes_to m.net (end_at m.net.ends m.from c.args.iface) c.args.dst)) m) c.self.view_is
+    let before : Post = record { net = i.wires; from = i.from; flight = i.flight; full = i.full; in_range = true } in
+    subst (λ (m : Post). (record { net = i.wires; from = i.from; flight = c.put_copies-put.new.flight; full = c.either-self-inside.result; in_range = true }) ≡ put_behind (each f (goes_to m.net (end_at m.net.ends m.from c.args.iface) c.args.dst)) m) c.self.view_is
     (ap₂ (λ (g : List Parcel) (b : Bool). record before { flight = g; full = b }) flights fulls)

@@ -1,5 +1,6 @@
 use Rattle.std.proofs.Common.{List, subst, sym, refl}
 use Rattle.network_model.specs.Steps.{ClearAt, sent}
+use Rattle.net_replay.specs.Routed.{trees_in}
 use Rattle.net_replay.specs.Agreeing.{State, Agrees}
 use Rattle.std.specs.Prelude.{map as each}
 use Rattle.network_model.specs.Worlds.{Item}
@@ -14,7 +15,7 @@ pub returns-clause-made : goal.returns-clause-made
 returns-clause-made g c = λ t q w agrees.
     let see = g.R.Router.seen in
     let i = c.self.inside in
-    let old : State g.row.R.Denot = record { quarter = i.quarter; post = i.mail; names = i.names.items; nodes = i.nodes.items; words = i.words; delivered = i.delivered; trace = i.trace; refused = i.refused } in
+    let old : State g.row.R.Denot = record { quarter = i.quarter; post = i.mail; names = i.names.items; nodes = i.nodes.items; trees = trees_in i.routes.items; words = i.words; delivered = i.delivered; trace = i.trace; refused = i.refused } in
     let at : Agrees see q old w = subst (λ (v : State g.row.R.Denot). Agrees see q v w) (sym c.self.view_is) agrees in
     let s = ClearAt c.args.node in
     let put : ArePut i.mail i.mail (each (λ x. x.0) (sent q s w)) = subst (λ (xs : List (Item × Bool)). ArePut i.mail i.mail (each (λ x. x.0) xs)) (sym (c.clear_at.ensures.sent q w at.nodes)) (nothing_put i.mail i.mail at.room refl) in

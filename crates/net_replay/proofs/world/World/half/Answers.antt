@@ -1,11 +1,11 @@
-use Rattle.std.proofs.Common.{ℕ, ◌*◌, ◌∷◌, [], List, refl, subst}
+use Rattle.std.proofs.Common.{ℕ, ◌*◌, ◌∷◌, [], ◌∙◌, List, refl, subst, sym}
 use Rattle.std.specs.Prelude.{Result, Err}
 use Rattle.std.proofs.lemmas.Result.{err_from_is_err_and}
 use Rattle.network_model.specs.Events.{pass}
 use Rattle.network_model.specs.Steps.{Piece, step}
 use Rattle.net_replay.specs.Running.{Ran}
 use Rattle.net_replay.specs.declared.world_err.WorldErr.{WorldErr}
-use Rattle.net_replay.proofs.Runnings.{ran_then, ran_not}
+use Rattle.net_replay.proofs.Runnings.{not_memory, ran_then, ran_not}
 use Rattle.net_replay.proofs.world.World.half.Goals as goal
 
 pub returns-clause-made : goal.returns-clause-made
@@ -25,3 +25,11 @@ returns-in_err-half_period-clause-made g c = λ q w agrees.
     let given = err_from_is_err_and c.from_residual.result c.from_residual.ensures.1 in
     let r : Result (Unit {0}) WorldErr = Err c.in_err-half_period.field-0.0 in
     rw (given.1, given.2) (ran_not q c.args.self.now.names see r o o c.half_period.new.self c.half_period.new.self (Piece (2 * q) ∷ []) (pass q after) w refl (c.in_err-half_period.ensures.made o q w agrees))
+
+pub returns-in_err-half_period-clause-only : goal.returns-in_err-half_period-clause-only
+returns-in_err-half_period-clause-only g c =
+    let given = err_from_is_err_and c.from_residual.result c.from_residual.ensures.1 in
+    not_memory c.from_residual.result (rw (given.1, given.2) (c.in_err-half_period.ensures.crowded)) c.args.self.now.trace
+
+pub returns-clause-only : goal.returns-clause-only
+returns-clause-only g c = λ e. sym c.half_period.ensures.same.trace ∙ c.pass.ensures.only e

@@ -41,3 +41,8 @@ returns-clause-made g c = λ t q w agrees.
     let n = c.args.times in
     let e : c.loop.counter + 0 ≡ n = omega (arith, c.loop-test.false, c.loop.auto.counter-end) in
     goes_end q c.args.self.now.names see (λ u. Piece (2 * q) ∷ []) (λ m u. repeat m (Piece (2 * q) ∷ [])) (λ v. refl) (λ m v. refl) c.args.self.now c.loop.self t t n (inv.goes t q 0 e) w agrees
+
+pub returns-in_err-half_period-clause-crowded : goal.returns-in_err-half_period-clause-crowded
+returns-in_err-half_period-clause-crowded g c =
+    let given = err_from_is_err_and c.from_residual.result c.from_residual.ensures.1 in
+    rw (given.1, given.2) (c.in_err-half_period.ensures.crowded)

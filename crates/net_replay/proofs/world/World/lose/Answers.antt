@@ -1,5 +1,6 @@
 use Rattle.std.proofs.Common.{◌∙◌, subst, sym, ap, refl}
 use Rattle.network_model.specs.Steps.{Lose}
+use Rattle.net_replay.specs.Routed.{trees_in}
 use Rattle.net_replay.specs.Agreeing.{State, Agrees}
 use Rattle.net_replay.specs.Posting.{Post}
 use Rattle.net_replay.proofs.Runnings.{ran_silent}
@@ -10,7 +11,7 @@ pub returns-clause-made : goal.returns-clause-made
 returns-clause-made g c = λ t q w agrees.
     let see = g.R.Router.seen in
     let i = c.self.inside in
-    let old : State g.row.R.Denot = record { quarter = i.quarter; post = i.mail; names = i.names.items; nodes = i.nodes.items; words = i.words; delivered = i.delivered; trace = i.trace; refused = i.refused } in
+    let old : State g.row.R.Denot = record { quarter = i.quarter; post = i.mail; names = i.names.items; nodes = i.nodes.items; trees = trees_in i.routes.items; words = i.words; delivered = i.delivered; trace = i.trace; refused = i.refused } in
     let at : Agrees see q old w = subst (λ (v : State g.row.R.Denot). Agrees see q v w) (sym c.self.view_is) agrees in
     let k = c.args.place in
     let v : State g.row.R.Denot = record old { post = c.take.new.self } in

@@ -7,7 +7,7 @@ use Rattle.std.specs.List.{repeat}
 use Rattle.network_model.specs.Steps.{Deliver}
 use Rattle.net_replay.specs.Running.{Ran}
 use Rattle.net_replay.specs.declared.world_err.WorldErr.{WorldErr}
-use Rattle.net_replay.proofs.Runnings.{well, goes_on, goes_not, goes_end, same_then}
+use Rattle.net_replay.proofs.Runnings.{only_then, well, goes_on, goes_not, goes_end, same_then}
 use Rattle.net_replay.proofs.world.World.pass.Goals as goal
 
 pub loop-preserved : goal.loop-preserved
@@ -47,3 +47,8 @@ returns-clause-made g c = λ q w agrees.
     let same : n ≡ length w.flight = c.in_flight-count.ensures ∙ all_zip_length IsItem c.args.self.now.post.flight w.flight agrees.flight in
     subst (λ m. Ran see q c.args.self.now.names well c.args.out.now.items c.loop.out.items c.loop.self (repeat m (Deliver 0 ∷ [])) w) same
     (goes_end q c.args.self.now.names see (λ w. Deliver 0 ∷ []) (λ n w. repeat n (Deliver 0 ∷ [])) (λ v. refl) (λ m v. refl) c.args.self.now c.loop.self c.args.out.now.items c.loop.out.items n (inv.goes q 0 e) w agrees)
+
+pub returns-in_err-deliver-clause-only : goal.returns-in_err-deliver-clause-only
+returns-in_err-deliver-clause-only g c =
+    let given = err_from_is_err_and c.from_residual.result c.from_residual.ensures.1 in
+    only_then c.from_residual.result given.0 c.in_err-deliver.field-0.0 given.1 given.2 c.args.self.now.trace c.loop.self.trace c.loop.invariant.same.trace c.in_err-deliver.ensures.only

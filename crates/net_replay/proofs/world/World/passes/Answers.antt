@@ -4,7 +4,7 @@ use Rattle.std.proofs.lemmas.Result.{err_from_is_err_and}
 use Rattle.network_model.specs.Events.{pass, passes}
 use Rattle.net_replay.specs.Running.{Ran}
 use Rattle.net_replay.specs.declared.world_err.WorldErr.{WorldErr}
-use Rattle.net_replay.proofs.Runnings.{well, goes_on, goes_not, goes_end, same_then}
+use Rattle.net_replay.proofs.Runnings.{only_then, well, goes_on, goes_not, goes_end, same_then}
 use Rattle.net_replay.proofs.world.World.passes.Goals as goal
 
 pub loop-preserved : goal.loop-preserved
@@ -40,3 +40,8 @@ returns-clause-made g c = λ q w agrees.
     let n = c.args.times in
     let e : c.loop.counter + 0 ≡ n = omega (arith, c.loop-test.false, c.loop.auto.counter-end) in
     goes_end q c.args.self.now.names see (pass q) (passes q) (λ v. refl) (λ m v. refl) c.args.self.now c.loop.self c.args.out.now.items c.loop.out.items n (inv.goes q 0 e) w agrees
+
+pub returns-in_err-pass-clause-only : goal.returns-in_err-pass-clause-only
+returns-in_err-pass-clause-only g c =
+    let given = err_from_is_err_and c.from_residual.result c.from_residual.ensures.1 in
+    only_then c.from_residual.result given.0 c.in_err-pass.field-0.0 given.1 given.2 c.args.self.now.trace c.loop.self.trace c.loop.invariant.same.trace c.in_err-pass.ensures.only

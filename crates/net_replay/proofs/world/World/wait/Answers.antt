@@ -43,3 +43,8 @@ returns-in_err-half_periods-clause-made g c = λ t q w agrees.
     rw (given.1, given.2)
     (subst (λ n. Ran see q names r t t c.half_periods.new.self (repeat (c.args.ms / n) (Piece (2 * q) ∷ []) ++ last_piece q (c.args.ms % n)) w) same
     (ran_not q names see r t t c.half_periods.new.self c.half_periods.new.self ss ts w refl (c.in_err-half_periods.ensures.made t q w agrees)))
+
+pub returns-in_err-half_periods-clause-crowded : goal.returns-in_err-half_periods-clause-crowded
+returns-in_err-half_periods-clause-crowded g c =
+    let given = err_from_is_err_and c.from_residual.result c.from_residual.ensures.1 in
+    rw (given.1, given.2) (c.in_err-half_periods.ensures.crowded)
