@@ -32,7 +32,7 @@ use Rattle.rsvp_base.proofs.Fronts.{front_all, front_more, got_in}
 use Rattle.rsvp_base.proofs.UnderLaws.{get-under}
 use Rattle.style_rules.specs.Lines.{LineKey, NextHop, line_keys, next_hops}
 use Rattle.router_rules.specs.Facts.{PathState, ResvState, paths_in, resvs_in, resvs_of}
-use Rattle.router_rules.specs.Flags.{beside, is_beside, is_matching}
+use Rattle.router_rules.specs.Flags.{is_beside, is_matching}
 use Rattle.router_rules.specs.NodeConfig.{NodeConfig, goes_out}
 use Rattle.router_rules.specs.Requests.{is_style}
 use Rattle.router_rules.specs.declared.entry.Police.{Police}

@@ -1,5 +1,5 @@
 //! The entries of an interface.
-ghost use Rattle.std.specs.Prelude.{◌≡◌, ℕ, slice_get};
+ghost use Rattle.std.specs.Prelude.{◌≡◌, ◌≤◌, ℕ, length, slice_get};
 ghost use Rattle.rsvp_base.specs.Orders.{sessions};
 ghost use Rattle.rsvp_base.specs.Under.{under};
 ghost use Rattle.style_rules.specs.Merge.{merge};
@@ -20,7 +20,7 @@ use rsvp_base::{Addr, Session, StyleKind, Unit};
 use style_rules::{Fixed, Parts, Shared, Style, Wild};
 
 /// The k-th entry of an interface's book by session, style and unit, from 0, with its flags. `None` exactly where k is not
-/// below their number. The book that is given is that of the reservations.
+/// below their number, which is at most 3,072. The book that is given is that of the reservations.
 pub fn entry_at(
     config: &Config,
     paths: &PathTable,
@@ -31,8 +31,14 @@ pub fn entry_at(
     iface: u8,
     k: usize,
 ) -> Option<Entry>
-    ensures { (c : ℕ) (n : State) → n.place ≡ config.now → n.paths ≡ paths.now.facts → n.wild ≡ wild.now.facts → n.fixed ≡ fixed.now.facts → n.shared ≡ shared.now.facts → IsBookOf (facts_of c n) book.now.entries → result ≡ slice_get (entries_of n.place (facts_of c n) iface) k }
+    ensures entry { (c : ℕ) (n : State) → n.place ≡ config.now → n.paths ≡ paths.now.facts → n.wild ≡ wild.now.facts → n.fixed ≡ fixed.now.facts → n.shared ≡ shared.now.facts → IsBookOf (facts_of c n) book.now.entries → result ≡ slice_get (entries_of n.place (facts_of c n) iface) k }
+    ensures few { (c : ℕ) (n : State) → n.wild ≡ wild.now.facts → n.fixed ≡ fixed.now.facts → n.shared ≡ shared.now.facts → length (entries_of n.place (facts_of c n) iface) ≤ 3072 }
 {
+    // The proof sees here what holds of every table.
+    let any = Session::default();
+    let _wild = wild.find(any, iface, Addr(0), Unit::One);
+    let _fixed = fixed.find(any, iface, Addr(0), Unit::One);
+    let _shared = shared.find(any, iface, Addr(0), Unit::One);
     let Some((key, _)) = book.at(iface, k) else {
         return None;
     };

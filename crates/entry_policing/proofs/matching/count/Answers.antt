@@ -1,4 +1,4 @@
-use Rattle.std.proofs.Common.{◌≡◌, ◌≤◌, ◌+◌, cond, take, sym, ap, ◌∙◌, arith}
+use Rattle.std.proofs.Common.{◌+◌, cond, take, sym, ap, ◌∙◌, arith}
 use Rattle.std.proofs.lemmas.List.{take_all}
 use Rattle.rsvp_base.specs.Orders.{senders, sessions}
 use Rattle.rsvp_base.specs.Under.{under}

@@ -1,4 +1,4 @@
-use Rattle.std.proofs.Common.{◌≡◌, ◌&&◌, nat_lt, not, true, false, sym, ap, ◌∙◌}
+use Rattle.std.proofs.Common.{◌&&◌, nat_lt, not, true, false, sym, ap, ◌∙◌}
 use Rattle.rsvp_base.specs.Orders.{senders, sessions}
 use Rattle.rsvp_base.specs.Under.{under}
 use Rattle.rsvp_base.specs.declared.style.StyleKind.TheVariants.{Fixed}
