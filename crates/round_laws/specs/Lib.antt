@@ -1,0 +1,4 @@
+pub mod Rounds
+pub mod RoundLaws
+pub mod Passing
+pub mod Moving
