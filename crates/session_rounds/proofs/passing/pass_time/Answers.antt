@@ -1,0 +1,114 @@
+use Rattle.std.proofs.Common.{◌≡◌, ℕ, ◌+◌, ◌||◌, true, fold, refl, sym, ap, subst, ◌∙◌}
+use Rattle.std.specs.List.{flat_map}
+use Rattle.rsvp_base.specs.Sets.{Set}
+use Rattle.rsvp_base.specs.Orders.{sessions}
+use Rattle.rsvp_base.specs.Table.{changed, empty, get, has, kept, keys}
+use Rattle.blockade_state.specs.Touched.{Marks, is_touched, touched_by}
+use Rattle.router_rules.specs.Facts.{SenderKey}
+use Rattle.node_facts.specs.State.{State, facts_of}
+use Rattle.node_facts.specs.Waited.{is_fired}
+use Rattle.waiting_sends.specs.Several.{gone_told, is_among, refreshed}
+use Rattle.node_waiting.specs.AfterWait.{after_wait}
+use Rattle.node_waiting.specs.Passing.{DeadSet, dying_paths, unmarked}
+use Rattle.node_tables.specs.Whole.{state_of}
+use Rattle.node_tables.specs.declared.tables.Tables.{Tables}
+use Rattle.tables_waiting.specs.Steps.{all_dying}
+use Rattle.round_laws.specs.Passing.{passed}
+use Rattle.round_laws.specs.Rounds.{AreCleared, AreTold, told_round, torn_near, wants_told}
+use Rattle.round_laws.proofs.Dying.{dead_are_gone}
+use Rattle.session_rounds.specs.Nears.{NearTable}
+use Rattle.session_rounds.proofs.Passed.{facts_last, four_sent, place_last, roomy, said_after, sent_all, settled_last, sound_last, watched_has}
+use Rattle.session_rounds.proofs.Passed.{near as near_in}
+use Rattle.session_rounds.proofs.passing.pass_time.Goals as goal
+
+pub forget_all-requires-clause-watched : goal.forget_all-requires-clause-watched
+forget_all-requires-clause-watched g c = λ s h.
+    let t = c.args.tables.now in
+    ap (λ (m : Marks). has m s) (c.age_all-fired.ensures.touched ∙ ap (touched_by (all_dying c.args.ms t)) c.watch_all-touched.ensures)
+    ∙ watched_has t.due (all_dying c.args.ms t) t.config.quarter c.args.ms c.args.word s (sym (ap (λ (z : State). has z.due s) (c.age_all-fired.ensures.state empty)) ∙ h)
+
+pub clear_all-requires : goal.clear_all-requires
+clear_all-requires g c = c.requires.said.some
+
+pub tell_all-requires : goal.tell_all-requires
+tell_all-requires g c =
+    let now : state_of c.forget_all.new.tables c.args.said.now ≡ passed c.args.ms c.args.word (state_of c.args.tables.now c.args.said.now) = c.forget_all.ensures.state c.args.said.now ∙ (λ i. after_wait (c.age_all-fired.ensures.dead i) (c.age_all-fired.ensures.state c.args.said.now i)) in
+    let touched : c.age_all-fired.new.touched ≡ touched_by (all_dying c.args.ms c.args.tables.now) (changed unmarked c.args.tables.now.due) = c.age_all-fired.ensures.touched ∙ ap (touched_by (all_dying c.args.ms c.args.tables.now)) c.watch_all-touched.ensures in
+    let near : c.keep.new.self ≡ near_in c.args.tables.now c.args.said.now c.args.ms c.args.word c.requires.settled c.requires.said c.requires.short = c.keep.ensures ∙ (λ i. kept (λ s. is_touched (touched i) s || has (c.age_all-fired.ensures.fired i) s) (c.note.ensures i)) in
+    let cleared = subst (λ (z : NearTable). AreCleared (state_of c.forget_all.new.tables c.args.said.now) z.rows c.clear_all.new.said) near c.clear_all.ensures in
+    let r = roomy c.args.tables.now c.args.said.now c.args.ms c.args.word c.requires.settled c.requires.said c.requires.short c.forget_all.new.tables now c.clear_all.new.said cleared in
+    record { some = r.some; within = r.within }
+
+pub returns-clause-facts : goal.returns-clause-facts
+returns-clause-facts g c = λ clock.
+    let now : state_of c.forget_all.new.tables c.args.said.now ≡ passed c.args.ms c.args.word (state_of c.args.tables.now c.args.said.now) = c.forget_all.ensures.state c.args.said.now ∙ (λ i. after_wait (c.age_all-fired.ensures.dead i) (c.age_all-fired.ensures.state c.args.said.now i)) in
+    let touched : c.age_all-fired.new.touched ≡ touched_by (all_dying c.args.ms c.args.tables.now) (changed unmarked c.args.tables.now.due) = c.age_all-fired.ensures.touched ∙ ap (touched_by (all_dying c.args.ms c.args.tables.now)) c.watch_all-touched.ensures in
+    let near : c.keep.new.self ≡ near_in c.args.tables.now c.args.said.now c.args.ms c.args.word c.requires.settled c.requires.said c.requires.short = c.keep.ensures ∙ (λ i. kept (λ s. is_touched (touched i) s || has (c.age_all-fired.ensures.fired i) s) (c.note.ensures i)) in
+    let cleared = subst (λ (z : NearTable). AreCleared (state_of c.forget_all.new.tables c.args.said.now) z.rows c.clear_all.new.said) near c.clear_all.ensures in
+    let marks = λ (d : ℕ). c.tell_all.ensures.marks d ∙ ap (λ (z : NearTable). record c.forget_all.new.tables { wants = wants_told d (state_of c.forget_all.new.tables c.clear_all.new.said) c.clear_all.new.said (keys z) }) near in
+    facts_last c.args.tables.now c.args.said.now c.args.ms c.args.word c.requires.settled c.requires.said c.requires.short c.forget_all.new.tables now c.clear_all.new.said cleared c.tell_all.new.tables marks c.tell_all.new.said clock
+
+pub returns-clause-sent : goal.returns-clause-sent
+returns-clause-sent g c = λ clock.
+    let now : state_of c.forget_all.new.tables c.args.said.now ≡ passed c.args.ms c.args.word (state_of c.args.tables.now c.args.said.now) = c.forget_all.ensures.state c.args.said.now ∙ (λ i. after_wait (c.age_all-fired.ensures.dead i) (c.age_all-fired.ensures.state c.args.said.now i)) in
+    let touched : c.age_all-fired.new.touched ≡ touched_by (all_dying c.args.ms c.args.tables.now) (changed unmarked c.args.tables.now.due) = c.age_all-fired.ensures.touched ∙ ap (touched_by (all_dying c.args.ms c.args.tables.now)) c.watch_all-touched.ensures in
+    let near : c.keep.new.self ≡ near_in c.args.tables.now c.args.said.now c.args.ms c.args.word c.requires.settled c.requires.said c.requires.short = c.keep.ensures ∙ (λ i. kept (λ s. is_touched (touched i) s || has (c.age_all-fired.ensures.fired i) s) (c.note.ensures i)) in
+    let cleared = subst (λ (z : NearTable). AreCleared (state_of c.forget_all.new.tables c.args.said.now) z.rows c.clear_all.new.said) near c.clear_all.ensures in
+    let n = state_of c.args.tables.now c.args.said.now in
+    let m = state_of c.forget_all.new.tables c.args.said.now in
+    let place : c.forget_all.new.tables.config ≡ c.args.tables.now.config = ap (λ (z : State). z.place) now in
+    let dead = c.age_all-fired.ensures.dead in
+    let were = λ (k : SenderKey) (h : has c.age_all-fired.new.dead k ≡ true). dead_are_gone.were c.args.ms n clock k (ap (λ (d : DeadSet). has d k) (sym dead) ∙ h) in
+    let gone = λ (k : SenderKey) (h : has c.age_all-fired.new.dead k ≡ true). ap (λ (z : State). get (facts_of (clock + c.args.ms) z).paths k) now ∙ dead_are_gone.gone c.args.ms c.args.word n (clock + c.args.ms) k (ap (λ (d : DeadSet). has d k) (sym dead) ∙ h) in
+    let one = c.tell_dead.ensures (facts_of clock n) (facts_of (clock + c.args.ms) m) refl were gone ∙ (λ i. fold g.O.Outbox.posted c.args.out.now (gone_told (place i) (facts_of clock n) (facts_of (clock + c.args.ms) m) (keys (dead i)))) in
+    let two = c.tear_all.ensures (clock + c.args.ms) ∙ ap (λ (z : NearTable). fold g.O.Outbox.posted c.tell_dead.new.out (flat_map (torn_near (clock + c.args.ms) m c.args.said.now) z.rows)) near in
+    let three =
+    c.tell_fired.ensures (clock + c.args.ms) m refl refl refl ∙ (λ i. fold g.O.Outbox.posted c.tear_all.new.out (flat_map (refreshed (place i) (facts_of (clock + c.args.ms) m)) (keys (c.age_all-fired.ensures.fired i)))) in
+    let fired : Set sessions = changed (is_fired c.args.ms) c.args.tables.now.due in
+    let due = c.as_slice.ensures.sessions ∙ ap (λ (z : Set sessions). keys z) c.age_all-fired.ensures.fired in
+    let four =
+    c.tell_all.ensures.sent (clock + c.args.ms) ∙ (λ i. fold g.O.Outbox.posted c.tell_fired.new.out (flat_map (λ s. told_round (clock + c.args.ms) (state_of c.forget_all.new.tables c.clear_all.new.said) (is_among (due i) s) c.clear_all.new.said s) (keys (near i)))) in
+    four_sent g.O.Outbox.posted c.args.out.now c.tell_dead.new.out c.tear_all.new.out c.tell_fired.new.out c.tell_all.new.out
+    (gone_told c.args.tables.now.config (facts_of clock n) (facts_of (clock + c.args.ms) m) (keys (dying_paths c.args.ms c.args.tables.now.paths.facts))) (flat_map (torn_near (clock + c.args.ms) m c.args.said.now) (near_in c.args.tables.now c.args.said.now c.args.ms c.args.word c.requires.settled c.requires.said c.requires.short).rows)
+    (flat_map (refreshed c.args.tables.now.config (facts_of (clock + c.args.ms) m)) (keys fired)) (flat_map (λ s. told_round (clock + c.args.ms) (state_of c.forget_all.new.tables c.clear_all.new.said) (is_among (keys fired) s) c.clear_all.new.said s) (keys (near_in c.args.tables.now c.args.said.now c.args.ms c.args.word c.requires.settled c.requires.said c.requires.short)))
+    one two three four
+    ∙ ap (fold g.O.Outbox.posted c.args.out.now) (sent_all c.args.tables.now c.args.said.now c.args.ms c.args.word c.requires.settled c.requires.said c.requires.short c.forget_all.new.tables now c.clear_all.new.said cleared clock)
+
+pub returns-clause-said : goal.returns-clause-said
+returns-clause-said g c =
+    let now : state_of c.forget_all.new.tables c.args.said.now ≡ passed c.args.ms c.args.word (state_of c.args.tables.now c.args.said.now) = c.forget_all.ensures.state c.args.said.now ∙ (λ i. after_wait (c.age_all-fired.ensures.dead i) (c.age_all-fired.ensures.state c.args.said.now i)) in
+    let touched : c.age_all-fired.new.touched ≡ touched_by (all_dying c.args.ms c.args.tables.now) (changed unmarked c.args.tables.now.due) = c.age_all-fired.ensures.touched ∙ ap (touched_by (all_dying c.args.ms c.args.tables.now)) c.watch_all-touched.ensures in
+    let near : c.keep.new.self ≡ near_in c.args.tables.now c.args.said.now c.args.ms c.args.word c.requires.settled c.requires.said c.requires.short = c.keep.ensures ∙ (λ i. kept (λ s. is_touched (touched i) s || has (c.age_all-fired.ensures.fired i) s) (c.note.ensures i)) in
+    let cleared = subst (λ (z : NearTable). AreCleared (state_of c.forget_all.new.tables c.args.said.now) z.rows c.clear_all.new.said) near c.clear_all.ensures in
+    let marks = λ (d : ℕ). c.tell_all.ensures.marks d ∙ ap (λ (z : NearTable). record c.forget_all.new.tables { wants = wants_told d (state_of c.forget_all.new.tables c.clear_all.new.said) c.clear_all.new.said (keys z) }) near in
+    said_after c.args.tables.now c.args.said.now c.args.ms c.args.word c.requires.settled c.requires.said c.requires.short c.forget_all.new.tables now c.clear_all.new.said cleared c.tell_all.new.tables marks c.tell_all.new.said c.tell_all.new.said (subst (λ (z : NearTable). AreTold (state_of c.forget_all.new.tables c.clear_all.new.said) (keys z) c.tell_all.new.said) near c.tell_all.ensures.told) c.tell_all.ensures.roomy
+
+pub returns-clause-settled : goal.returns-clause-settled
+returns-clause-settled g c =
+    let now : state_of c.forget_all.new.tables c.args.said.now ≡ passed c.args.ms c.args.word (state_of c.args.tables.now c.args.said.now) = c.forget_all.ensures.state c.args.said.now ∙ (λ i. after_wait (c.age_all-fired.ensures.dead i) (c.age_all-fired.ensures.state c.args.said.now i)) in
+    let touched : c.age_all-fired.new.touched ≡ touched_by (all_dying c.args.ms c.args.tables.now) (changed unmarked c.args.tables.now.due) = c.age_all-fired.ensures.touched ∙ ap (touched_by (all_dying c.args.ms c.args.tables.now)) c.watch_all-touched.ensures in
+    let near : c.keep.new.self ≡ near_in c.args.tables.now c.args.said.now c.args.ms c.args.word c.requires.settled c.requires.said c.requires.short = c.keep.ensures ∙ (λ i. kept (λ s. is_touched (touched i) s || has (c.age_all-fired.ensures.fired i) s) (c.note.ensures i)) in
+    let cleared = subst (λ (z : NearTable). AreCleared (state_of c.forget_all.new.tables c.args.said.now) z.rows c.clear_all.new.said) near c.clear_all.ensures in
+    let marks = λ (d : ℕ). c.tell_all.ensures.marks d ∙ ap (λ (z : NearTable). record c.forget_all.new.tables { wants = wants_told d (state_of c.forget_all.new.tables c.clear_all.new.said) c.clear_all.new.said (keys z) }) near in
+    settled_last c.args.tables.now c.args.said.now c.args.ms c.args.word c.requires.settled c.requires.said c.requires.short c.forget_all.new.tables now c.clear_all.new.said cleared c.tell_all.new.tables marks c.tell_all.new.said
+
+pub returns-clause-sound : goal.returns-clause-sound
+returns-clause-sound g c =
+    let now : state_of c.forget_all.new.tables c.args.said.now ≡ passed c.args.ms c.args.word (state_of c.args.tables.now c.args.said.now) = c.forget_all.ensures.state c.args.said.now ∙ (λ i. after_wait (c.age_all-fired.ensures.dead i) (c.age_all-fired.ensures.state c.args.said.now i)) in
+    let touched : c.age_all-fired.new.touched ≡ touched_by (all_dying c.args.ms c.args.tables.now) (changed unmarked c.args.tables.now.due) = c.age_all-fired.ensures.touched ∙ ap (touched_by (all_dying c.args.ms c.args.tables.now)) c.watch_all-touched.ensures in
+    let near : c.keep.new.self ≡ near_in c.args.tables.now c.args.said.now c.args.ms c.args.word c.requires.settled c.requires.said c.requires.short = c.keep.ensures ∙ (λ i. kept (λ s. is_touched (touched i) s || has (c.age_all-fired.ensures.fired i) s) (c.note.ensures i)) in
+    let cleared = subst (λ (z : NearTable). AreCleared (state_of c.forget_all.new.tables c.args.said.now) z.rows c.clear_all.new.said) near c.clear_all.ensures in
+    let marks = λ (d : ℕ). c.tell_all.ensures.marks d ∙ ap (λ (z : NearTable). record c.forget_all.new.tables { wants = wants_told d (state_of c.forget_all.new.tables c.clear_all.new.said) c.clear_all.new.said (keys z) }) near in
+    sound_last c.args.tables.now c.args.said.now c.args.ms c.args.word c.requires.settled c.requires.said c.requires.short c.forget_all.new.tables now c.clear_all.new.said cleared c.tell_all.new.tables marks c.tell_all.new.said c.forget_all.ensures.sound
+
+pub returns-clause-place : goal.returns-clause-place
+returns-clause-place g c =
+    let now : state_of c.forget_all.new.tables c.args.said.now ≡ passed c.args.ms c.args.word (state_of c.args.tables.now c.args.said.now) = c.forget_all.ensures.state c.args.said.now ∙ (λ i. after_wait (c.age_all-fired.ensures.dead i) (c.age_all-fired.ensures.state c.args.said.now i)) in
+    let touched : c.age_all-fired.new.touched ≡ touched_by (all_dying c.args.ms c.args.tables.now) (changed unmarked c.args.tables.now.due) = c.age_all-fired.ensures.touched ∙ ap (touched_by (all_dying c.args.ms c.args.tables.now)) c.watch_all-touched.ensures in
+    let near : c.keep.new.self ≡ near_in c.args.tables.now c.args.said.now c.args.ms c.args.word c.requires.settled c.requires.said c.requires.short = c.keep.ensures ∙ (λ i. kept (λ s. is_touched (touched i) s || has (c.age_all-fired.ensures.fired i) s) (c.note.ensures i)) in
+    let cleared = subst (λ (z : NearTable). AreCleared (state_of c.forget_all.new.tables c.args.said.now) z.rows c.clear_all.new.said) near c.clear_all.ensures in
+    let marks = λ (d : ℕ). c.tell_all.ensures.marks d ∙ ap (λ (z : NearTable). record c.forget_all.new.tables { wants = wants_told d (state_of c.forget_all.new.tables c.clear_all.new.said) c.clear_all.new.said (keys z) }) near in
+    place_last c.args.tables.now c.args.said.now c.args.ms c.args.word c.requires.settled c.requires.said c.requires.short c.forget_all.new.tables now c.clear_all.new.said cleared c.tell_all.new.tables marks c.tell_all.new.said
+
+pub returns-clause-ifaces : goal.returns-clause-ifaces
+returns-clause-ifaces g c = ap (λ (z : Tables). z.book.ifaces) (c.tell_all.ensures.marks 0) ∙ c.forget_all.ensures.ifaces ∙ c.age_all-fired.ensures.ifaces

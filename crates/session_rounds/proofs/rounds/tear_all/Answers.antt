@@ -1,0 +1,26 @@
+use Rattle.std.proofs.Common.{fold, sym, ap, ◌∙◌, arith}
+use Rattle.std.specs.List.{flat_map}
+use Rattle.std.proofs.lemmas.List.{take_all}
+use Rattle.rsvp_base.proofs.Filters.{flat_each}
+use Rattle.node_tables.specs.Whole.{state_of}
+use Rattle.round_laws.specs.Rounds.{torn_near}
+use Rattle.session_rounds.specs.Nears.{near_row}
+use Rattle.session_rounds.specs.declared.nears.Near.{Near}
+use Rattle.session_rounds.proofs.Loops.{row_told, torn_is}
+use Rattle.session_rounds.proofs.rounds.tear_all.Goals as goal
+
+pub loop-i-preserved : goal.loop-i-preserved
+loop-i-preserved g c = λ clock.
+    let t = c.args.tables.now in
+    let said = c.args.said.now in
+    let r = c.index-list-i.result in
+    c.tear_lanes.ensures clock said ∙ ap (fold g.O.Outbox.posted c.loop-i.out) (torn_is clock t said r.session r.hops)
+    ∙ row_told c.as_slice-list.result.now c.loop-i.i r c.index-list-i.is c.loop-i-test.true g.O.Outbox.posted (λ (e : Near). torn_near clock (state_of t said) said (near_row e)) c.args.out.now c.loop-i.out (c.loop-i.invariant clock)
+
+pub returns : goal.returns
+returns g c = λ clock.
+    let t = c.args.tables.now in
+    let said = c.args.said.now in
+    c.loop-i.invariant clock
+    ∙ ap (λ es. fold g.O.Outbox.posted c.args.out.now (flat_map (λ (e : Near). torn_near clock (state_of t said) said (near_row e)) es)) (take_all c.loop-i.i c.as_slice-list.result.now (omega (arith, c.loop-i-test.false)))
+    ∙ ap (fold g.O.Outbox.posted c.args.out.now) (sym (flat_each near_row (torn_near clock (state_of t said) said) c.as_slice-list.result.now) ∙ ap (flat_map (torn_near clock (state_of t said) said)) c.as_slice-list.ensures.rows)

@@ -1,0 +1,24 @@
+-- Sessions with the previous hops that they had.
+use Rattle.std.specs.Prelude.{ℕ, Option, Some}
+use Rattle.std.specs.Coded.{Coded}
+use Rattle.path_state.specs.Paths.{HopSet, hop_set_code, hops_by, path_keys}
+use Rattle.path_state.specs.declared.fact.PathFact.{PathFact}
+use Rattle.rsvp_base.specs.Orders.{senders, sessions}
+use Rattle.rsvp_base.specs.Table.{Table, table_code}
+use Rattle.rsvp_base.specs.Under.{under}
+use Rattle.rsvp_base.specs.contracts.session.Session as session
+use Rattle.rsvp_base.specs.declared.session.Session.{Session}
+use Rattle.session_rounds.specs.declared.nears.Near.{Near}
+
+abbrev pub NearTable : Type 0
+NearTable = Table sessions HopSet
+
+abbrev pub near_row : Near → Session × HopSet
+near_row n = (n.session, n.hops)
+
+abbrev pub near_code : Coded NearTable
+near_code = table_code sessions (session.the_row).coded hop_set_code
+
+-- the previous hops of a session that has a countdown, by these paths
+abbrev pub hops_then : Table path_keys (PathFact × ℕ) → Session → ℕ → Option HopSet
+hops_then paths s left = Some (hops_by (under sessions senders paths s).rows)
