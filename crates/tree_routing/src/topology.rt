@@ -3,7 +3,7 @@ ghost use Rattle.std.specs.List.{list_all};
 ghost use Rattle.tree_routing.specs.Found.{are_apart, is_free};
 ghost use Rattle.std.specs.Prelude.{◌≡◌, ◌≢◌, ◌↔◌, ◌&&◌, ◌<◌, ◌≤◌, ◌+◌, length, map, [], ◌∷◌, ◌++◌, IsTrue, IsOk, IfOk, OnOk, OnErr};
 ghost use Rattle.tree_model.specs.declared.hops.TreeHop.{TreeHop};
-ghost use Rattle.tree_model.specs.Networks.{Net, node_of, ends_of, link_of, owner};
+ghost use Rattle.tree_model.specs.Networks.{Net, node_of, ends_of, iface_of, link_of, owner};
 ghost use Rattle.tree_routing.specs.Known.{net_of, vertex_at, vertex_before};
 ghost use Rattle.tree_routing.specs.Answers.{no_net, TakesEnd, TakesLink, with_node, with_end, with_link, with_hop, Fits, HopAnswer};
 
@@ -20,7 +20,7 @@ use crate::levels::{highest, levels};
 use crate::link::Link;
 use crate::order::by_level;
 use crate::routing::Routing;
-use crate::ways::count_of;
+use crate::ways::{count_of, iface_of};
 use rsvp_base::{Addr, NoMemory};
 use std::alloc::Global;
 use std::marker::Model;
@@ -99,6 +99,21 @@ impl Topology {
         ensures { result ≡ node_of self.now.ends end }
     {
         node_of(self.ends.as_slice(), end)
+    }
+
+    /// The ends of links, by number.
+    pub fn ends(&self) -> &[End]
+        ensures { result.now ≡ self.now.ends }
+    {
+        self.ends.as_slice()
+    }
+
+    /// The number of an end among the interfaces of its node. The end is there.
+    pub fn iface_of(&self, end: u16) -> u8
+        requires { end < length self.now.ends }
+        ensures { result ≡ iface_of self.now.ends end }
+    {
+        iface_of(self.ends.as_slice(), end)
     }
 
     /// Whether there is room for another end of a node: it has fewer than 16.

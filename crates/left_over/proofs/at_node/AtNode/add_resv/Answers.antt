@@ -1,0 +1,52 @@
+use Rattle.std.proofs.Common.{◌≡◌, sym, ap, subst, ◌∙◌}
+use Rattle.std.specs.Prelude.{IfErr, IfSome, List, OnOk, Option, Result}
+use Rattle.std.proofs.lemmas.Result.{err_from_is_err_and}
+use Rattle.rsvp_base.specs.declared.iface.Iface.{Iface}
+use Rattle.router_rules.specs.Bounds.{AreWithinLimits}
+use Rattle.router_rules.specs.Facts.{Facts, ResvTables}
+use Rattle.left_over.specs.AtNodes.{ifaces_at_node}
+use Rattle.left_over.specs.Kept.{facts_of, stale_of}
+use Rattle.left_over.specs.Reserved.{ifaces_in, resvs_in, tables_in}
+use Rattle.left_over.specs.Standing.{IsLeftOut, Stands, answer_of}
+use Rattle.left_over.specs.Tables.{learnt, paths_of, walls_of}
+use Rattle.left_over.specs.declared.fact.Left.TheVariants as left_as
+use Rattle.left_over.specs.declared.refused.LeftErr.{LeftErr}
+use Rattle.left_over.specs.declared.resvs.ResvsLeft.{ResvsLeft}
+use Rattle.left_over.proofs.Answering.{resv_answer}
+use Rattle.left_over.proofs.at_node.AtNode.add_resv.Goals as goal
+
+pub returns-in-Some-clause-refused : goal.returns-in-Some-clause-refused
+returns-in-Some-clause-refused c =
+    let r = c.in-Some.resvs in
+    let same : r.book.ifaces ≡ ifaces_at_node c.args.ends.now c.args.node = subst (λ (o : Option ResvsLeft). IfSome (ifaces_in o) (λ is. is ≡ ifaces_at_node c.args.ends.now c.args.node)) c.in-Some.is c.requires.booked in
+    let a = resv_answer r.book.ifaces (paths_of c.args.self.now.paths) (walls_of c.args.self.now.walls) (tables_in r) (tables_in c.stand.new.self) c.args.style c.args.fact c.args.left c.stand.result c.stand.ensures.cause c.stand.ensures.ok c.stand.ensures.err
+    (subst (λ (o : Option ResvsLeft). AreWithinLimits (learnt (paths_of c.args.self.now.paths) (resvs_in o) (walls_of c.args.self.now.walls))) c.in-Some.is c.args.self.now.within) r.admitted in
+    subst (λ (x : Result (Unit {0}) LeftErr). IfErr x (IsLeftOut (ifaces_at_node c.args.ends.now c.args.node) (stale_of (left_as.Resv c.args.style c.args.fact) c.args.left) (facts_of c.args.self.now))) (sym c.answer.ensures)
+    (subst (λ (o : Option ResvsLeft). IfErr (answer_of c.stand.result) (IsLeftOut (ifaces_at_node c.args.ends.now c.args.node) (stale_of (left_as.Resv c.args.style c.args.fact) c.args.left) (learnt (paths_of c.args.self.now.paths) (resvs_in o) (walls_of c.args.self.now.walls)))) (sym c.in-Some.is)
+    (subst (λ (is : List Iface). IfErr (answer_of c.stand.result) (IsLeftOut is (stale_of (left_as.Resv c.args.style c.args.fact) c.args.left) (learnt (paths_of c.args.self.now.paths) (tables_in r) (walls_of c.args.self.now.walls)))) same a.refused))
+
+pub returns-in_err-answer-in-None-clause-refused : goal.returns-in_err-answer-in-None-clause-refused
+returns-in_err-answer-in-None-clause-refused c =
+    let r = c.in_ok-resvs-in-None.resvs in
+    let same : r.book.ifaces ≡ ifaces_at_node c.args.ends.now c.args.node = c.in_ok-resvs-in-None.ensures.ifaces ∙ c.in_ok-ifaces-in-None.ensures in
+    let first : learnt (paths_of c.args.self.now.paths) (tables_in r) (walls_of c.args.self.now.walls) ≡ facts_of c.args.self.now =
+    ap (λ (ts : ResvTables). learnt (paths_of c.args.self.now.paths) ts (walls_of c.args.self.now.walls)) c.in_ok-resvs-in-None.ensures.none ∙ ap (λ (o : Option ResvsLeft). learnt (paths_of c.args.self.now.paths) (resvs_in o) (walls_of c.args.self.now.walls)) (sym c.in-None.is) in
+    let a = resv_answer r.book.ifaces (paths_of c.args.self.now.paths) (walls_of c.args.self.now.walls) (tables_in r) (tables_in c.stand-in-None.new.self) c.args.style c.args.fact c.args.left c.stand-in-None.result c.stand-in-None.ensures.cause c.stand-in-None.ensures.ok c.stand-in-None.ensures.err
+    (subst AreWithinLimits (sym first) c.args.self.now.within) r.admitted in
+    let p = err_from_is_err_and c.from_residual-in_err-answer-in-None.result c.from_residual-in_err-answer-in-None.ensures.1 in
+    rw (p.1, p.2)
+    (subst (λ (x : Result (Unit {0}) LeftErr). IfErr x (IsLeftOut (ifaces_at_node c.args.ends.now c.args.node) (stale_of (left_as.Resv c.args.style c.args.fact) c.args.left) (facts_of c.args.self.now))) (sym c.in_err-answer-in-None.ensures)
+    (subst (λ (f : Facts). IfErr (answer_of c.stand-in-None.result) (IsLeftOut (ifaces_at_node c.args.ends.now c.args.node) (stale_of (left_as.Resv c.args.style c.args.fact) c.args.left) f)) first
+    (subst (λ (is : List Iface). IfErr (answer_of c.stand-in-None.result) (IsLeftOut is (stale_of (left_as.Resv c.args.style c.args.fact) c.args.left) (learnt (paths_of c.args.self.now.paths) (tables_in r) (walls_of c.args.self.now.walls)))) same a.refused)))
+
+pub returns-in_ok-answer-in-None-clause-ok : goal.returns-in_ok-answer-in-None-clause-ok
+returns-in_ok-answer-in-None-clause-ok c =
+    let r = c.in_ok-resvs-in-None.resvs in
+    let same : r.book.ifaces ≡ ifaces_at_node c.args.ends.now c.args.node = c.in_ok-resvs-in-None.ensures.ifaces ∙ c.in_ok-ifaces-in-None.ensures in
+    let first : learnt (paths_of c.args.self.now.paths) (tables_in r) (walls_of c.args.self.now.walls) ≡ facts_of c.args.self.now =
+    ap (λ (ts : ResvTables). learnt (paths_of c.args.self.now.paths) ts (walls_of c.args.self.now.walls)) c.in_ok-resvs-in-None.ensures.none ∙ ap (λ (o : Option ResvsLeft). learnt (paths_of c.args.self.now.paths) (resvs_in o) (walls_of c.args.self.now.walls)) (sym c.in-None.is) in
+    let a = resv_answer r.book.ifaces (paths_of c.args.self.now.paths) (walls_of c.args.self.now.walls) (tables_in r) (tables_in c.stand-in-None.new.self) c.args.style c.args.fact c.args.left c.stand-in-None.result c.stand-in-None.ensures.cause c.stand-in-None.ensures.ok c.stand-in-None.ensures.err
+    (subst AreWithinLimits (sym first) c.args.self.now.within) r.admitted in
+    subst (λ (x : Result (Unit {0}) LeftErr). OnOk x (Stands (ifaces_at_node c.args.ends.now c.args.node) (stale_of (left_as.Resv c.args.style c.args.fact) c.args.left) (facts_of c.args.self.now) (learnt (paths_of c.args.self.now.paths) (tables_in c.stand-in-None.new.self) (walls_of c.args.self.now.walls)))) (sym c.in_ok-answer-in-None.ensures)
+    (subst (λ (f : Facts). OnOk (answer_of c.stand-in-None.result) (Stands (ifaces_at_node c.args.ends.now c.args.node) (stale_of (left_as.Resv c.args.style c.args.fact) c.args.left) f (learnt (paths_of c.args.self.now.paths) (tables_in c.stand-in-None.new.self) (walls_of c.args.self.now.walls)))) first
+    (subst (λ (is : List Iface). OnOk (answer_of c.stand-in-None.result) (Stands is (stale_of (left_as.Resv c.args.style c.args.fact) c.args.left) (learnt (paths_of c.args.self.now.paths) (tables_in r) (walls_of c.args.self.now.walls)) (learnt (paths_of c.args.self.now.paths) (tables_in c.stand-in-None.new.self) (walls_of c.args.self.now.walls)))) same a.ok))

@@ -1,0 +1,18 @@
+-- What is left over, as a list.
+use Rattle.std.specs.Prelude.{ℕ, List, length}
+use Rattle.router_rules.specs.Inputs.{Stale}
+use Rattle.tree_model.specs.declared.hops.End.{End}
+use Rattle.left_over.specs.AtNodes.{AreBooksOf, list_of}
+use Rattle.left_over.specs.declared.leavings.Leavings.{Leavings}
+
+-- each with its node, in the order in which they were added
+abbrev pub stale_in : Leavings → List (ℕ × Stale)
+stale_in l = list_of l.facts.items
+
+-- how many nodes there are
+abbrev pub nodes_in : Leavings → ℕ
+nodes_in l = length l.nodes.items
+
+-- its nodes have these ends
+abbrev pub IsOfEnds : List End → Leavings → Type 0
+IsOfEnds ends l = AreBooksOf ends l.nodes.items
