@@ -1,7 +1,7 @@
 -- How many bytes were taken, by how the lines ended.
-use Rattle.std.proofs.Common.{◌≡◌, ◌≢◌, ℕ, ◌+◌, ◌≤◌, Option, None, Some, length, refl, sym, ap, subst, ◌∙◌, arith}
+use Rattle.std.proofs.Common.{◌≡◌, ◌≢◌, ℕ, ◌+◌, ◌≤◌, Option, Some, length, refl, sym, ap, subst, ◌∙◌, arith, inl, inr}
 use Rattle.byte_streams.specs.Reading.{most_bytes}
-use Rattle.line_stream.specs.Streams.{Held, IsBounded, IsWithinInput}
+use Rattle.line_stream.specs.Streams.{Held, IsBounded, IsOpenOrLast, IsWithinInput}
 use Rattle.line_stream.specs.declared.answer.NextLine.{NextLine}
 use Rattle.line_stream.specs.declared.answer.NextLine.TheVariants.{Line, Long, End, Fault, TooLong}
 
@@ -13,8 +13,11 @@ too_many h r b ended e =
     let other : r ≢ Line = λ l. let z : TooLong ≡ Line = sym e ∙ l in cc in
     subst (IsWithinInput h.taken) (ended other ∙ ap Some e) b.within
 
-pub few_taken : (h : Held) (r : NextLine) → IsBounded h → (r ≡ Line → h.ended ≡ None) → (r ≢ Line → h.ended ≡ Some r) → r ≢ TooLong → h.taken ≤ most_bytes
-few_taken h Line b going ended n = subst (IsWithinInput h.taken) (going refl) b.within
+pub few_taken : (h : Held) (r : NextLine) → IsBounded h → (r ≡ Line → IsOpenOrLast h.ended) → (r ≢ Line → h.ended ≡ Some r) → r ≢ TooLong → h.taken ≤ most_bytes
+few_taken h Line b going ended n = elim (going refl) [
+  | inl e ↦ subst (IsWithinInput h.taken) e b.within
+  | inr e ↦ subst (IsWithinInput h.taken) e b.within
+]
 few_taken h Long b going ended n = subst (IsWithinInput h.taken) (ended (λ l. let z : Long ≡ Line = l in cc)) b.within
 few_taken h End b going ended n = subst (IsWithinInput h.taken) (ended (λ l. let z : End ≡ Line = l in cc)) b.within
 few_taken h Fault b going ended n = subst (IsWithinInput h.taken) (ended (λ l. let z : Fault ≡ Line = l in cc)) b.within

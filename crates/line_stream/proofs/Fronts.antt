@@ -1,12 +1,11 @@
 -- The first line of bytes whose front is known.
-use Rattle.std.proofs.Common.{◌≡◌, ℕ, zero, suc, ◌+◌, ◌<◌, ◌≤◌, List, [], ◌∷◌, ◌++◌, ◌==◌, not, Bool, true, false, cond, None, Some, length, take, drop, refl, sym, ap, ◌∙◌, arith, ltb-true, ltb-false, length-append, length-drop}
+use Rattle.std.proofs.Common.{◌≡◌, ℕ, zero, suc, ◌+◌, ◌<◌, ◌≤◌, List, [], ◌∷◌, ◌++◌, ◌==◌, not, Bool, true, false, None, Some, length, take, drop, refl, sym, ap, ◌∙◌, arith, ltb-true, ltb-false, length-append}
 use Rattle.std.specs.Prelude.{nat_lt}
 use Rattle.std.specs.List.{position, position_or_len, prefix_len}
-use Rattle.std.proofs.lemmas.List.{take-append-le, drop-append-le, length-take-le, length-take, drop-drop}
+use Rattle.std.proofs.lemmas.List.{take-append-le, drop-append-le, length-take-le, drop-drop}
 use Rattle.std.proofs.lemmas.List.Sums.{fails_before_first}
 use Rattle.std.proofs.lemmas.List.Splits.{slice_split_none, slice_split_first}
 use Rattle.script_words.specs.Lines.{text_lines}
-use Rattle.script_words.specs.Parts.{parts_of}
 use Rattle.script_words.proofs.PartLemmas.{lines_found, lines_none}
 use Rattle.line_stream.specs.Streams.{IsLong}
 
@@ -30,7 +29,7 @@ front_more P (x ∷ xs) rest le = by (P x) refl (λ l. front_more P xs rest l) l
 abbrev feed : ℕ → Bool
 feed c = c == 10
 
-place_of : (h : List ℕ) (n : ℕ) → position feed h ≡ Some n → (n ≡ position_or_len feed h) × (n < length h)
+pub place_of : (h : List ℕ) (n : ℕ) → position feed h ≡ Some n → (n ≡ position_or_len feed h) × (n < length h)
 place_of h n e = by (nat_lt (position_or_len feed h) (length h)) refl
   where
     by : (b : Bool) → nat_lt (position_or_len feed h) (length h) ≡ b → (n ≡ position_or_len feed h) × (n < length h)

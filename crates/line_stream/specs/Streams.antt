@@ -1,5 +1,5 @@
 -- Lines of a stream: what was taken and not given yet, and then what is left.
-use Rattle.std.specs.Prelude.{◌≡◌, ℕ, ◌+◌, ◌<◌, ◌≤◌, List, [], ◌∷◌, ◌++◌, length, Option, None, Some}
+use Rattle.std.specs.Prelude.{◌≡◌, ◌⊎◌, ℕ, ◌+◌, ◌<◌, ◌≤◌, ◌==◌, List, [], ◌∷◌, ◌++◌, length, position, Option, None, Some}
 use Rattle.std.specs.Io.KnownBytes.{Consumes}
 use Rattle.byte_streams.specs.Reading.{most_bytes}
 use Rattle.script_words.specs.Lines.{text_lines}
@@ -56,6 +56,47 @@ pub record IsBounded (h : Held) : Type 0 where
   pub line : length h.line ≤ 2048
   pub bytes : length h.bytes ≤ 6144
   pub within : IsWithinInput h.taken h.ended
+
+-- ---- where lines end
+abbrev pub HasNoFeed : List ℕ → Type 0
+HasNoFeed bytes = position (λ c. c == 10) bytes ≡ None
+
+-- the line stands at the front, with its line feed
+pub record IsFirst (all : List ℕ) (now : Held) : Type 0 where
+  pub going : now.ended ≡ None
+  pub bytes : all ≡ now.line ++ 10 ∷ now.bytes
+  pub line : HasNoFeed now.line
+
+-- the line is all that was left, and lacks its line feed
+pub record IsLast (all : List ℕ) (now : Held) : Type 0 where
+  pub ended : now.ended ≡ Some End
+  pub bytes : all ≡ now.line
+  pub none : now.bytes ≡ []
+  pub some : 0 < length now.line
+  pub line : HasNoFeed now.line
+
+-- no whole line is among what is kept; of one byte too many nothing is said
+abbrev pub IsPart : List ℕ → Held → Type 0
+IsPart all now = (now.bytes ≡ all) × HasNoFeed all
+
+-- what comes next, where this was kept and taken
+abbrev pub IsCut : NextLine → List ℕ → Held → Type 0
+IsCut Line all now = IsFirst all now ⊎ IsLast all now
+IsCut Long all now = (now.bytes ≡ all) × ((rest : List ℕ) → IsLong 2048 (Some (all ++ rest)))
+IsCut End all now = (all ≡ []) × (now.bytes ≡ [])
+IsCut Fault all now = IsPart all now
+IsCut TooLong all now = (front : List ℕ) × (one : ℕ) × (all ≡ front ++ one ∷ []) × HasNoFeed front × (now.bytes ≡ all)
+
+-- bytes were taken of the source, and this came next of them and of those that were kept
+pub record Cuts (old new : Option (List ℕ)) (before : Held) (next : NextLine) (now : Held) : Type 0 where
+  pub bytes : List ℕ
+  pub took : Consumes old new bytes
+  pub counted : now.taken ≡ before.taken + length bytes
+  pub cut : IsCut next (before.bytes ++ bytes) now
+
+-- lines may come; or the last one came
+abbrev pub IsOpenOrLast : Option NextLine → Type 0
+IsOpenOrLast ended = (ended ≡ None) ⊎ (ended ≡ Some End)
 
 -- ---- room
 pub record IsRoomy (at taken room line piece : ℕ) : Type 0 where

@@ -4,7 +4,8 @@ ghost use Rattle.std.specs.Io.KnownBytes.{Consumes, IsAtEnd, Keeps, prepend_know
 ghost use Rattle.byte_streams.specs.Faults.{Rose};
 ghost use Rattle.byte_streams.specs.Reading.{most_bytes};
 ghost use Rattle.script_words.specs.Lines.{text_lines};
-ghost use Rattle.line_stream.specs.Streams.{GivesLine, HasNoLine, Held, IsBounded, IsCounted, IsLong, at_first};
+ghost use Rattle.script_words.specs.Lines.{line_number};
+ghost use Rattle.line_stream.specs.Streams.{Cuts, GivesLine, HasNoFeed, HasNoLine, Held, IsBounded, IsCounted, IsLong, IsOpenOrLast, IsPart, at_first};
 
 use crate::answer::NextLine;
 use byte_streams::{Failed, MOST_BYTES, Source};
@@ -90,7 +91,7 @@ impl LineReader {
 
     /// The next line of what is left of the source, which then stands in `line`. The source is asked only where no whole
     /// line is kept, for 4,096 bytes or the fewer up to the 4,194,304th; and for one more only where every whole line of
-    /// those was given.
+    /// those was given. Where it answered that nothing is left it is not asked again.
     ///
     /// `Long`: more than 2,048 bytes of the next line were taken. `End`: the source is at its end and all lines were given.
     /// `Fault`: a call of the source failed. `TooLong`: a 4,194,305th byte was taken. After any of these it answers the same
@@ -105,12 +106,18 @@ impl LineReader {
         ensures counted { IsCounted (S.left source.old) (S.left source.new) self.old.taken self.new.taken }
         ensures too_long { result ≡ NextLine.TooLong → self.new.taken ≡ most_bytes + 1 }
         ensures within { result ≢ NextLine.TooLong → self.new.taken ≤ most_bytes }
-        // From the first byte of the line on, at most 8,192 bytes were taken.
+        // What it kept, and what it took of the source, are the line with its line feed, and what it keeps; or the line that is the
+        // last, and lacks it. Where it gives no line it keeps all, and no whole line is among that, unless the first is too long.
+        ensures cut { self.old.ended ≡ None → Cuts (S.left source.old) (S.left source.new) self.old result self.new }
+        // From the first byte of the line on at most 8,192 bytes were taken, its line feed counted.
         ensures few { length self.new.line + length self.new.bytes ≤ 8192 }
-        // Behind an answer that is no line, it answers the same again.
-        ensures open { result ≡ NextLine.Line → self.new.ended ≡ None }
+        ensures near { result ≡ NextLine.Line → length self.new.line + length self.new.bytes < 8192 }
+        ensures number { self.old.ended ≡ None → (result ≡ NextLine.Line) ⊎ (result ≡ NextLine.Long) → self.new.number ≡ line_number self.old.number }
+        // Behind an answer that is no line, it answers the same again; behind a line that lacks its line feed it answers `End`.
+        ensures open { result ≡ NextLine.Line → IsOpenOrLast self.new.ended }
+        ensures last { result ≡ NextLine.Line → self.new.ended ≡ Some NextLine.End → IsAtEnd (S.left source.new) × (self.new.bytes ≡ []) }
         ensures ended { result ≢ NextLine.Line → self.new.ended ≡ Some result }
-        ensures again { self.old.ended ≢ None → (self.old.ended ≡ Some result) × (self.new ≡ self.old) }
+        ensures again { self.old.ended ≢ None → (self.old.ended ≡ Some result) × (self.new ≡ self.old) × (source.new ≡ source.old) }
     {
         if let Some(answer) = self.ended {
             return answer;
@@ -127,8 +134,12 @@ impl LineReader {
         ensures fault { result ≡ NextLine.Fault → Rose (S.faults source.old) (S.faults source.new) }
         ensures later { S.faults source.old ≤ S.faults source.new }
         ensures counted { IsCounted (S.left source.old) (S.left source.new) self.old.taken self.new.taken }
-        ensures open { result ≡ NextLine.Line → self.new.ended ≡ None }
+        ensures cut { Cuts (S.left source.old) (S.left source.new) self.old result self.new }
+        ensures number { (result ≡ NextLine.Line) ⊎ (result ≡ NextLine.Long) → self.new.number ≡ line_number self.old.number }
+        ensures open { result ≡ NextLine.Line → IsOpenOrLast self.new.ended }
+        ensures last { result ≡ NextLine.Line → self.new.ended ≡ Some NextLine.End → IsAtEnd (S.left source.new) × (self.new.bytes ≡ []) }
         ensures ended { result ≢ NextLine.Line → self.new.ended ≡ Some result }
+        ensures near { result ≡ NextLine.Line → length self.new.line + length self.new.bytes < 8192 }
         ensures bounded { IsBounded self.new }
     {
         loop {
@@ -151,6 +162,10 @@ impl LineReader {
     // Gives the line at the front, where a whole one was taken.
     fn front(&mut self) -> Front
         ensures line { result ≡ Front.Line → (rest : List ℕ) → text_lines (self.old.bytes ++ rest) ≡ self.new.line ∷ text_lines (self.new.bytes ++ rest) }
+        ensures whole { result ≡ Front.Line → (self.old.bytes ≡ self.new.line ++ 10 ∷ self.new.bytes) × HasNoFeed self.new.line }
+        ensures near { result ≡ Front.Line → length self.new.line + length self.new.bytes < 8192 }
+        ensures number { (result ≡ Front.Line) ⊎ (result ≡ Front.Long) → self.new.number ≡ line_number self.old.number }
+        ensures same_number { result ≡ Front.Part → self.new.number ≡ self.old.number }
         ensures long { result ≡ Front.Long → (self.new.bytes ≡ self.old.bytes) × ((rest : List ℕ) → IsLong 2048 (Some (self.old.bytes ++ rest))) }
         ensures part { result ≡ Front.Part → (self.new.bytes ≡ self.old.bytes) × (position (λ c. c == 10) self.old.bytes ≡ None) × (length self.old.bytes ≤ 2048) }
         ensures taken { self.new.taken ≡ self.old.taken }
@@ -183,8 +198,11 @@ impl LineReader {
         requires short { length self.old.bytes ≤ 2048 }
         requires part { position (λ c. c == 10) self.old.bytes ≡ None }
         requires open { self.old.ended ≡ None }
-        ensures line { result ≡ NextLine.Line → (text_lines self.old.bytes ≡ self.new.line ∷ []) × (self.new.bytes ≡ []) × (self.new.ended ≡ None) }
-        ensures end { result ≡ NextLine.End → (text_lines self.old.bytes ≡ []) × (self.new.ended ≡ Some NextLine.End) }
+        ensures line { result ≡ NextLine.Line → (text_lines self.old.bytes ≡ self.new.line ∷ []) × (self.new.bytes ≡ []) }
+        ensures number { result ≡ NextLine.Line → self.new.number ≡ line_number self.old.number }
+        ensures whole { result ≡ NextLine.Line → (self.new.line ≡ self.old.bytes) × (0 < length self.old.bytes) }
+        ensures end { result ≡ NextLine.End → (text_lines self.old.bytes ≡ []) × (self.old.bytes ≡ []) × (self.new.bytes ≡ []) }
+        ensures ended { self.new.ended ≡ Some NextLine.End }
         ensures others { (result ≡ NextLine.Line) ⊎ (result ≡ NextLine.End) }
         ensures taken { self.new.taken ≡ self.old.taken }
         ensures bounded { IsBounded self.new }
@@ -196,6 +214,7 @@ impl LineReader {
         put(&mut self.line, rest);
         self.at = self.kept.len();
         self.number = self.number.saturating_add(1);
+        self.ended = Some(NextLine::End);
         NextLine::Line
     }
 
@@ -218,7 +237,8 @@ impl LineReader {
         requires open { self.old.ended ≡ None }
         ensures read { IfOk result (λ n. (bs : List ℕ) × Consumes (S.left source.old) (S.left source.new) bs × (self.new.bytes ≡ self.old.bytes ++ bs) × (n ≡ length bs) × (self.new.taken ≡ self.old.taken + length bs)) }
         ensures end { IfOk result (λ n. n ≡ 0 → IsAtEnd (S.left source.new) × (self.new.ended ≡ None)) }
-        ensures many { IfOk result (λ n. (self.new.ended ≡ None) ⊎ (self.new.ended ≡ Some NextLine.TooLong)) }
+        ensures many { IfOk result (λ n. (self.new.ended ≡ None) ⊎ ((self.new.ended ≡ Some NextLine.TooLong) × (n ≡ 1))) }
+        ensures number { self.new.number ≡ self.old.number }
         ensures failed { OnErr result ((self.new ≡ self.old) × Keeps (S.left source.old) (S.left source.new) × Rose (S.faults source.old) (S.faults source.new)) }
         ensures later { S.faults source.old ≤ S.faults source.new }
         ensures bounded { IsBounded self.new }

@@ -1,6 +1,7 @@
-use Rattle.std.proofs.Common.{◌≡◌, ◌∙◌, ◌+◌, ◌++◌, ◌∷◌, List, ℕ, drop, take, length, refl, sym, ap, subst, arith, position, None, Some, ◌==◌, ◌<◌}
+use Rattle.std.proofs.Common.{◌≡◌, ◌∙◌, ◌+◌, ◌++◌, ◌∷◌, List, ℕ, drop, take, sym, ap, subst, position, Some, ◌==◌}
 use Rattle.script_words.specs.Lines.{text_lines}
-use Rattle.line_stream.specs.Streams.{Held, IsLong}
+use Rattle.line_stream.specs.Streams.{HasNoFeed, Held, IsLong}
+use Rattle.line_stream.proofs.Cutting.{taken_whole}
 use Rattle.line_stream.proofs.Fronts.{long_found, long_part, taken_line}
 use Rattle.line_stream.proofs.reader.LineReader.front.Goals as goal
 
@@ -20,3 +21,11 @@ returns-else-n-gt-MOST_LINE-clause-line c = λ e rest.
     let found : position (λ x. x == 10) (drop i.at i.kept.items) ≡ Some c.in-Some.n = ap (λ (h : List ℕ). position (λ x. x == 10) h) (sym c.behind-rest.ensures.value) ∙ sym c.find.ensures ∙ c.in-Some.is in
     let line : take c.in-Some.n (drop i.at i.kept.items) ≡ c.put.new.line.items = ap (λ (h : List ℕ). take c.in-Some.n h) (sym c.behind-rest.ensures.value) ∙ sym c.put.ensures.items in
     ap (λ (h : Held). text_lines (h.bytes ++ rest)) (sym c.self.view_is) ∙ taken_line i.kept.items i.at c.in-Some.n rest found ∙ ap (λ l. l ∷ text_lines (drop (i.at + (c.in-Some.n + 1)) i.kept.items ++ rest)) line
+
+pub returns-else-n-gt-MOST_LINE-clause-whole : goal.returns-else-n-gt-MOST_LINE-clause-whole
+returns-else-n-gt-MOST_LINE-clause-whole c = λ e.
+    let i = c.self.inside in
+    let found : position (λ x. x == 10) (drop i.at i.kept.items) ≡ Some c.in-Some.n = ap (λ (h : List ℕ). position (λ x. x == 10) h) (sym c.behind-rest.ensures.value) ∙ sym c.find.ensures ∙ c.in-Some.is in
+    let line : take c.in-Some.n (drop i.at i.kept.items) ≡ c.put.new.line.items = ap (λ (h : List ℕ). take c.in-Some.n h) (sym c.behind-rest.ensures.value) ∙ sym c.put.ensures.items in
+    let split = taken_whole i.kept.items i.at c.in-Some.n found in
+    (sym (ap (λ (h : Held). h.bytes) c.self.view_is) ∙ split.0 ∙ ap (λ (l : List ℕ). l ++ 10 ∷ drop (i.at + (c.in-Some.n + 1)) i.kept.items) line, subst HasNoFeed line split.1)

@@ -1,5 +1,5 @@
-use Rattle.std.proofs.Common.{◌≡◌, ◌-◌, ◌≤◌, None, length}
-use Rattle.std.specs.Io.KnownBytes.{Keeps, prepend_known}
+use Rattle.std.proofs.Common.{◌≡◌, ◌+◌, ◌-◌, ◌++◌, ◌≤◌, ℕ, List, None, length}
+use Rattle.std.specs.Io.KnownBytes.{Consumes, Keeps, prepend_known}
 use Rattle.line_stream.specs.Streams.{IsCounted}
 use Rattle.line_stream.proofs.reader.LineReader.look.Given as goal
 
@@ -10,6 +10,8 @@ invariant-loop-self g l =
       kept : Keeps (prepend_known l.initial.self.bytes (g.S.Source.left l.initial.source)) (prepend_known l.self.bytes (g.S.Source.left l.source));
       later : g.S.Source.faults l.initial.source ≤ g.S.Source.faults l.source;
       counted : IsCounted (g.S.Source.left l.initial.source) (g.S.Source.left l.source) l.initial.self.taken l.self.taken;
+      moved : (bs : List ℕ) × Consumes (g.S.Source.left l.initial.source) (g.S.Source.left l.source) bs × (l.self.taken ≡ l.initial.self.taken + length bs) × (l.self.bytes ≡ l.initial.self.bytes ++ bs);
+      numbered : l.self.number ≡ l.initial.self.number;
       going : l.self.ended ≡ None;
     }
 

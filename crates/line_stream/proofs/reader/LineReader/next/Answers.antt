@@ -1,4 +1,3 @@
-use Rattle.std.proofs.Common.{◌≡◌}
 use Rattle.line_stream.proofs.Bounding.{few_bytes, few_taken, never_line, too_many}
 use Rattle.line_stream.proofs.reader.LineReader.next.Goals as goal
 
