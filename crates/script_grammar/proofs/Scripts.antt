@@ -263,7 +263,7 @@ breaks_one d l (Loop g gf gt) NotTree h k = absurd ((k.6) h.6)
 breaks_one d l (Loop g gf gt) Over h k = absurd ((k.7) h.7)
 breaks_one d l (Loop g gf gt) (Loop o of ot) h k = loop_one d l g o gf gt of ot h.9 k.9
 
-fault_one : (d : Draft) (text : List ℕ) (a b : Fault) → HasFault d text a → HasFault d text b → a ≡ b
+pub fault_one : (d : Draft) (text : List ℕ) (a b : Fault) → HasFault d text a → HasFault d text b → a ≡ b
 fault_one d text Limit Limit (too_long x) (too_long y) = refl
 fault_one d text Limit Word (too_long x) (unread short gone) = absurd (omega arith)
 fault_one d text Limit b (too_long x) (broken said _ short reads h) = absurd (omega arith)

@@ -1,0 +1,193 @@
+use Rattle.std.proofs.Common.{◌≡◌, ◌≢◌, ◌∙◌, ◌++◌, ◌≤◌, List, ℕ, length, take, refl, ap, subst, arith, inl, inr}
+use Rattle.std.specs.Io.KnownBytes.{Appends}
+use Rattle.script_grammar.specs.Grammar.{HasFault}
+use Rattle.line_stream.specs.declared.answer.NextLine.TheVariants.{Line, Long, End, Fault, TooLong}
+use Rattle.network_run.specs.Playing.{IsCrowdedBy, IsRunOn}
+use Rattle.network_run.proofs.Behind.{end_came, fault_came, goes_down, line_came, long_came, many_came}
+use Rattle.network_run.proofs.Ended.{at_start, ended_at_once, ended_bad, ended_crowded, ended_done, ended_early, ended_fault, ended_long, ended_many, ended_writing, one_more}
+use Rattle.network_run.proofs.running.run_to_end.Goals as goal
+
+pub returns-in-Err-clause-run : goal.returns-in-Err-clause-run
+returns-in-Err-clause-run g c = ended_at_once g.P.Player.stands (g.P.Player.stands c.args.player.now) (g.S.Source.left c.args.source.now) (g.K.Sink.holds c.args.sink.now)
+
+pub loop-reader-init : goal.loop-reader-init
+loop-reader-init g c = record {
+  played = at_start g.P.Player.stands (g.S.Source.left c.args.source.now) (g.K.Sink.holds c.args.sink.now) c.in-Ok.reader c.args.player.now c.in-Ok.ensures c.requires.first;
+  read = omega arith;
+  written = omega arith;
+}
+
+pub returns-in-Long-clause-run : goal.returns-in-Long-clause-run
+returns-in-Long-clause-run g c =
+    let stands = g.P.Player.stands in
+    let old = g.S.Source.left c.args.source.now in
+    let mid = g.S.Source.left c.loop-reader.source in
+    let new = g.S.Source.left c.next.new.source in
+    let first = g.K.Sink.holds c.args.sink.now in
+    let holds = g.K.Sink.holds c.loop-reader.sink in
+    let r = c.loop-reader.reader in
+    let now = c.next.new.self in
+    let p = c.loop-reader.invariant.played in
+    let e = c.in-Long.ensures in
+    let fine : Long ≢ TooLong = λ x. cc in
+    let l = long_came old mid new r now p.before p.taken p.behind (λ n. (e.again n).0) e.cut e.few (λ n. e.number n (inr refl)) in
+    ended_long stands old mid new first holds r now c.loop-reader.player p (stands c.loop-reader.player) c.number.result l (e.within fine) c.number.ensures
+
+pub returns-in-End-clause-run : goal.returns-in-End-clause-run
+returns-in-End-clause-run g c =
+    let stands = g.P.Player.stands in
+    let old = g.S.Source.left c.args.source.now in
+    let mid = g.S.Source.left c.loop-reader.source in
+    let new = g.S.Source.left c.next.new.source in
+    let first = g.K.Sink.holds c.args.sink.now in
+    let holds = g.K.Sink.holds c.loop-reader.sink in
+    let r = c.loop-reader.reader in
+    let now = c.next.new.self in
+    let p = c.loop-reader.invariant.played in
+    let e = c.in-End.ensures in
+    let fine : End ≢ TooLong = λ x. cc in
+    let l = end_came old mid new r now p.before p.taken p.behind (λ n. (let a = e.again n in (a.0, a.1, ap (λ s. g.S.Source.left s) a.2))) e.cut (λ n. (e.end refl n).1) in
+    ended_done stands old mid new first holds r now c.loop-reader.player p l (e.within fine)
+
+pub returns-in-Fault-clause-run : goal.returns-in-Fault-clause-run
+returns-in-Fault-clause-run g c =
+    let stands = g.P.Player.stands in
+    let old = g.S.Source.left c.args.source.now in
+    let mid = g.S.Source.left c.loop-reader.source in
+    let new = g.S.Source.left c.next.new.source in
+    let first = g.K.Sink.holds c.args.sink.now in
+    let holds = g.K.Sink.holds c.loop-reader.sink in
+    let r = c.loop-reader.reader in
+    let now = c.next.new.self in
+    let p = c.loop-reader.invariant.played in
+    let e = c.in-Fault.ensures in
+    let fine : Fault ≢ TooLong = λ x. cc in
+    let l = fault_came old mid new r now p.before p.taken p.behind (λ n. (e.again n).0) e.cut in
+    ended_fault stands old mid new first holds r now c.loop-reader.player p (stands c.loop-reader.player) l (e.within fine)
+
+pub returns-in-TooLong-clause-run : goal.returns-in-TooLong-clause-run
+returns-in-TooLong-clause-run g c =
+    let stands = g.P.Player.stands in
+    let old = g.S.Source.left c.args.source.now in
+    let mid = g.S.Source.left c.loop-reader.source in
+    let new = g.S.Source.left c.next.new.source in
+    let first = g.K.Sink.holds c.args.sink.now in
+    let holds = g.K.Sink.holds c.loop-reader.sink in
+    let r = c.loop-reader.reader in
+    let now = c.next.new.self in
+    let p = c.loop-reader.invariant.played in
+    let e = c.in-TooLong.ensures in
+    let l = many_came old mid new r now p.before p.taken p.behind (λ n. (e.again n).0) e.cut (e.too_long refl) in
+    ended_many stands old mid new first holds r now c.loop-reader.player p (stands c.loop-reader.player) l (e.too_long refl)
+
+pub returns-in-Err-Bad-clause-run : goal.returns-in-Err-Bad-clause-run
+returns-in-Err-Bad-clause-run g c =
+    let stands = g.P.Player.stands in
+    let old = g.S.Source.left c.args.source.now in
+    let mid = g.S.Source.left c.loop-reader.source in
+    let new = g.S.Source.left c.next.new.source in
+    let first = g.K.Sink.holds c.args.sink.now in
+    let holds = g.K.Sink.holds c.loop-reader.sink in
+    let r = c.loop-reader.reader in
+    let now = c.next.new.self in
+    let p = c.loop-reader.invariant.played in
+    let e = c.in-Line.ensures in
+    let fine : Line ≢ TooLong = λ x. cc in
+    let l = line_came old mid new r now p.before p.taken p.behind (λ n. (e.again n).0) e.cut (e.near refl) (λ n. e.number n (inl refl)) (e.last refl) in
+    let bad = rw c.in-Err-Bad.field-0-is at (c.in-Err-Bad.ensures p.draft p.text p.stands_there p.run) in
+    ended_bad stands old mid new first holds r now c.loop-reader.player p (stands c.play.new.self) l (e.within fine) c.number-in-Err-Bad.result c.in-Err-Bad.why c.number-in-Err-Bad.ensures (subst (λ t. HasFault p.draft t c.in-Err-Bad.why) c.line.ensures.line bad)
+
+pub returns-in-Err-Crowded-clause-run : goal.returns-in-Err-Crowded-clause-run
+returns-in-Err-Crowded-clause-run g c =
+    let stands = g.P.Player.stands in
+    let old = g.S.Source.left c.args.source.now in
+    let mid = g.S.Source.left c.loop-reader.source in
+    let new = g.S.Source.left c.next.new.source in
+    let first = g.K.Sink.holds c.args.sink.now in
+    let holds = g.K.Sink.holds c.loop-reader.sink in
+    let r = c.loop-reader.reader in
+    let now = c.next.new.self in
+    let p = c.loop-reader.invariant.played in
+    let e = c.in-Line.ensures in
+    let fine : Line ≢ TooLong = λ x. cc in
+    let l = line_came old mid new r now p.before p.taken p.behind (λ n. (e.again n).0) e.cut (e.near refl) (λ n. e.number n (inl refl)) (e.last refl) in
+    let crowded = rw c.in-Err-Crowded.field-0-is at (c.in-Err-Crowded.ensures p.draft p.text p.stands_there p.run) in
+    ended_crowded stands old mid new first holds r now c.loop-reader.player p (stands c.play.new.self) l (e.within fine) (subst (λ t. IsCrowdedBy p.draft t) c.line.ensures.line crowded)
+
+pub returns-in-Err-NoMemory-clause-run : goal.returns-in-Err-NoMemory-clause-run
+returns-in-Err-NoMemory-clause-run g c =
+    let stands = g.P.Player.stands in
+    let old = g.S.Source.left c.args.source.now in
+    let mid = g.S.Source.left c.loop-reader.source in
+    let new = g.S.Source.left c.next.new.source in
+    let first = g.K.Sink.holds c.args.sink.now in
+    let holds = g.K.Sink.holds c.loop-reader.sink in
+    let r = c.loop-reader.reader in
+    let now = c.next.new.self in
+    let p = c.loop-reader.invariant.played in
+    let e = c.in-Line.ensures in
+    let fine : Line ≢ TooLong = λ x. cc in
+    let l = line_came old mid new r now p.before p.taken p.behind (λ n. (e.again n).0) e.cut (e.near refl) (λ n. e.number n (inl refl)) (e.last refl) in
+    ended_early stands old mid new first holds r now c.loop-reader.player p (stands c.play.new.self) l (e.within fine)
+
+pub loop-reader-smaller : goal.loop-reader-smaller
+loop-reader-smaller g c =
+    let stands = g.P.Player.stands in
+    let old = g.S.Source.left c.args.source.now in
+    let mid = g.S.Source.left c.loop-reader.source in
+    let new = g.S.Source.left c.next.new.source in
+    let first = g.K.Sink.holds c.args.sink.now in
+    let holds = g.K.Sink.holds c.loop-reader.sink in
+    let r = c.loop-reader.reader in
+    let now = c.next.new.self in
+    let p = c.loop-reader.invariant.played in
+    let e = c.in-Line.ensures in
+    let fine : Line ≢ TooLong = λ x. cc in
+    goes_down old mid new r now p.before p.taken p.behind (λ n. (e.again n).0) e.cut (e.within fine)
+
+pub loop-reader-preserved : goal.loop-reader-preserved
+loop-reader-preserved g c =
+    let stands = g.P.Player.stands in
+    let old = g.S.Source.left c.args.source.now in
+    let mid = g.S.Source.left c.loop-reader.source in
+    let new = g.S.Source.left c.next.new.source in
+    let first = g.K.Sink.holds c.args.sink.now in
+    let holds = g.K.Sink.holds c.loop-reader.sink in
+    let r = c.loop-reader.reader in
+    let now = c.next.new.self in
+    let p = c.loop-reader.invariant.played in
+    let e = c.in-Line.ensures in
+    let fine : Line ≢ TooLong = λ x. cc in
+    let l = line_came old mid new r now p.before p.taken p.behind (λ n. (e.again n).0) e.cut (e.near refl) (λ n. e.number n (inl refl)) (e.last refl) in
+    let ran = c.in-Ok-play.ensures p.draft p.text p.stands_there p.run in
+    let own = ran.0 in
+    let all : c.as_slice.result.now ≡ own = c.as_slice.ensures.value ∙ ran.1 ∙ ap (λ (o : List ℕ). o ++ own) c.clear.ensures.items in
+    let on = subst (λ t. IsRunOn (stands c.play.new.self) p.draft t p.text own) c.line.ensures.line ran.2 in
+    let later = g.K.Sink.holds c.write_all.new.sink in
+    record {
+      played = one_more stands old mid new first holds r now c.loop-reader.player p l c.play.new.self later own on (subst (λ t. Appends holds later t) all c.in-Ok-write_all.ensures.written);
+      read = omega (arith, c.loop-reader.invariant.read, c.next.ensures.later);
+      written = omega (arith, c.loop-reader.invariant.written, c.write_all.ensures.cause.later);
+    }
+
+pub returns-in-Err-write_all-clause-run : goal.returns-in-Err-write_all-clause-run
+returns-in-Err-write_all-clause-run g c =
+    let stands = g.P.Player.stands in
+    let old = g.S.Source.left c.args.source.now in
+    let mid = g.S.Source.left c.loop-reader.source in
+    let new = g.S.Source.left c.next.new.source in
+    let first = g.K.Sink.holds c.args.sink.now in
+    let holds = g.K.Sink.holds c.loop-reader.sink in
+    let r = c.loop-reader.reader in
+    let now = c.next.new.self in
+    let p = c.loop-reader.invariant.played in
+    let e = c.in-Line.ensures in
+    let fine : Line ≢ TooLong = λ x. cc in
+    let l = line_came old mid new r now p.before p.taken p.behind (λ n. (e.again n).0) e.cut (e.near refl) (λ n. e.number n (inl refl)) (e.last refl) in
+    let ran = c.in-Ok-play.ensures p.draft p.text p.stands_there p.run in
+    let own = ran.0 in
+    let all : c.as_slice.result.now ≡ own = c.as_slice.ensures.value ∙ ran.1 ∙ ap (λ (o : List ℕ). o ++ own) c.clear.ensures.items in
+    let on = subst (λ t. IsRunOn (stands c.play.new.self) p.draft t p.text own) c.line.ensures.line ran.2 in
+    let later = g.K.Sink.holds c.write_all.new.sink in
+    let (n, few, front) = c.in-Err-write_all.ensures.stopped in
+    ended_writing stands old mid new first holds r now c.loop-reader.player p (stands c.play.new.self) l (e.within fine) later own n on (subst (λ (t : List ℕ). n ≤ length t) all few) (subst (λ t. Appends holds later (take n t)) all front)

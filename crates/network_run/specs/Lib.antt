@@ -1,0 +1,4 @@
+pub mod Written
+pub mod Playing
+pub mod Endings
+pub mod Laws

@@ -1,0 +1,33 @@
+//! What checks and runs the lines of a script.
+ghost use Rattle.std.specs.Prelude.{◌≤◌, List, ℕ, length};
+ghost use Rattle.script_grammar.specs.Draft.{Draft};
+ghost use Rattle.network_run.specs.Playing.{Plays};
+ghost use Rattle.network_run.specs.Written.{IsRunSoFar};
+
+use script_grammar::Fault;
+
+/// Why a line was not run.
+#[derive(Debug, Drop)]
+pub enum Stop {
+    /// It is bad: this is its first fault behind the lines before.
+    Bad(Fault),
+    /// Its event would put an 8,193rd datagram in flight.
+    Crowded,
+    /// Memory ran out.
+    NoMemory,
+}
+
+/// What checks and runs the lines of a script, one after another.
+pub trait Player {
+    /// It stands behind the lines that lead to this draft, whose events were run.
+    ghost stands: { Self → Draft → Type 0 };
+
+    /// Checks a line, and where it is one of an event runs it and appends the event's text. After a refusal no more lines may be
+    /// played.
+    ///
+    /// `Bad`: exactly where the line cannot follow those before. `Crowded`: exactly where the run is crowded by it. `NoMemory`:
+    /// memory ran out.
+    fn play(&mut self, line: &[u8], out: &mut Vec<u8>) -> Result<(), Stop>
+        requires { length line.now ≤ 2048 }
+        ensures { (d : Draft) (said : List ℕ) → stands self.old d → IsRunSoFar d said → Plays (stands self.new) d said line.now result out.old.items out.new.items };
+}

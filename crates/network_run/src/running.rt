@@ -1,0 +1,85 @@
+//! Lines are read, checked, run and written, one after the other.
+ghost use Rattle.std.specs.Prelude.{◌≡◌, ◌≤◌, List, ℕ, Some, length};
+ghost use Rattle.byte_streams.specs.Reading.{most_bytes};
+ghost use Rattle.byte_streams.specs.Faults.{Rose};
+ghost use Rattle.script_grammar.specs.Draft.{nothing};
+ghost use Rattle.network_run.specs.Endings.{ComesTo, IsOrNoMemory, IsRun};
+ghost use Rattle.network_run.specs.declared.ending.Ending.{Ending as AnEnding};
+
+use crate::ending::Ending;
+use crate::player::{Player, Stop};
+use byte_streams::{Sink, Source, write_all};
+use line_stream::{LineReader, NextLine};
+use script_grammar::Fault;
+use std::alloc::Global;
+
+/// Reads a script of the source line by line: each line is checked and run by the player, and what it wrote is written to the
+/// sink, before the next line is read. The first line at which something is refused ends the run.
+///
+/// At one line these come in this order: `ReadFault` or `TooLong` while it is read, then `BadLine`, then `Crowded`, then
+/// `WriteFault`. `NoMemory`: memory ran out. A line of more than 2,048 bytes is bad as soon as so many of it were taken.
+pub fn run_lines<P: Player, S: Source, K: Sink>(
+    alloc: Global,
+    player: &mut P,
+    source: &mut S,
+    sink: &mut K,
+) -> Ending
+    requires first { P.stands player.old nothing }
+    ensures run { IsRun (P.stands player.new) result (S.left source.old) (S.left source.new) (K.holds sink.old) (K.holds sink.new) }
+    ensures read_fault { result ≡ Ending.ReadFault → Rose (S.faults source.old) (S.faults source.new) }
+    ensures write_fault { result ≡ Ending.WriteFault → Rose (K.faults sink.old) (K.faults sink.new) }
+    // Nothing else ends a run over known input and devices that do not fail.
+    ensures complete { (bytes text : List ℕ) (wanted : AnEnding) → S.left source.old ≡ Some bytes → length bytes ≤ most_bytes → ComesTo wanted bytes text
+        → (Rose (S.faults source.old) (S.faults source.new) → ⊥) → (Rose (K.faults sink.old) (K.faults sink.new) → ⊥) → IsOrNoMemory wanted result }
+{
+    run_to_end(alloc, player, source, sink)
+}
+
+// Runs line by line.
+fn run_to_end<P: Player, S: Source, K: Sink>(
+    alloc: Global,
+    player: &mut P,
+    source: &mut S,
+    sink: &mut K,
+) -> Ending
+    requires first { P.stands player.old nothing }
+    ensures run { IsRun (P.stands player.new) result (S.left source.old) (S.left source.new) (K.holds sink.old) (K.holds sink.new) }
+    ensures read_fault { result ≡ Ending.ReadFault → Rose (S.faults source.old) (S.faults source.new) }
+    ensures write_fault { result ≡ Ending.WriteFault → Rose (K.faults sink.old) (K.faults sink.new) }
+{
+    let mut reader = match LineReader::open(alloc) {
+        Ok(reader) => reader,
+        Err(_) => return Ending::NoMemory,
+    };
+    let mut out = Vec::new(alloc);
+    loop {
+        match reader.next(source) {
+            NextLine::Line => {}
+            NextLine::Long => {
+                return Ending::BadLine {
+                    line: reader.number(),
+                    why: Fault::Limit,
+                };
+            }
+            NextLine::End => return Ending::Done,
+            NextLine::Fault => return Ending::ReadFault,
+            NextLine::TooLong => return Ending::TooLong,
+        }
+        out.clear();
+        match player.play(reader.line(), &mut out) {
+            Ok(()) => {}
+            Err(Stop::Bad(why)) => {
+                return Ending::BadLine {
+                    line: reader.number(),
+                    why,
+                };
+            }
+            Err(Stop::Crowded) => return Ending::Crowded,
+            Err(Stop::NoMemory) => return Ending::NoMemory,
+        }
+        match write_all(sink, out.as_slice()) {
+            Ok(()) => {}
+            Err(_) => return Ending::WriteFault,
+        }
+    }
+}
