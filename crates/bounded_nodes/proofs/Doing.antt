@@ -8,6 +8,7 @@ use Rattle.rsvp_messages.specs.Proper.{IsProper}
 use Rattle.router_rules.specs.Bounds.{IsWithinBounds}
 use Rattle.router_rules.specs.Inputs.{Input, Send}
 use Rattle.router_rules.specs.NodeConfig.{NodeConfig}
+use Rattle.router_rules.specs.declared.route.Route.{Route}
 use Rattle.router_rules.specs.Rule.{facts_after, sent_after}
 use Rattle.router_rules.specs.Steps.{IsFit, IsSameNode, clock_after}
 use Rattle.router_rules.proofs.Bounding.{no_facts_are_within_bounds}
@@ -73,3 +74,7 @@ stays_bounded old new c i kept same fit is =
 
 pub sends_proper : (n : State) (c : ℕ) (i : Input) → IsBounded n → IsFit n.place i → All (λ s. IsProper s.message) (sent_after n.place n.place (clock_after c i) i (facts_at c n))
 sends_proper n c i kept fit = bounded_nodes_send_proper_messages n n.place c i kept (same_node n kept) fit
+
+-- ---- a node whose routes are others
+pub rerouted_node : (n : State) (p : NodeConfig) (routes : List Route) → IsBounded n → p ≡ record n.place { routes = routes } → IsSameNode n.place p
+rerouted_node n p routes kept is = subst (IsSameNode n.place) (sym is) (record { quarter = refl; ifaces = refl; some = kept.some })
