@@ -59,3 +59,26 @@ filter_same f g xs e = λ i. filter (λ x. e x i) xs
 
 pub all_said : (p : NodeConfig) (s : Session) (x : Sender) → filter (λ i. bit_at (ways_out (tree p s x)) i == 1) (range_with_len 0 (length p.ifaces)) ≡ outward p s x
 all_said p s x = filter_same _ _ (range_with_len 0 (length p.ifaces)) (λ i. out_same (tree p s x) i)
+
+-- ---- interfaces that pass a test
+module _ {B : Type 0} (posted : B → Send → B) (say : ℕ → Send) (test : ℕ → Bool) (start : B) where
+  abbrev passing : ℕ → List ℕ
+  passing n = filter test (range_with_len 0 n)
+
+  abbrev pub told_to : ℕ → B
+  told_to n = fold posted start (each say (passing n))
+
+  passing_more : (n : ℕ) → passing (n + 1) ≡ passing n ++ cond (test n) (n ∷ []) []
+  passing_more n = ap (filter test) (range_more n) ∙ filter-append test (range_with_len 0 n) (n ∷ [])
+
+  pub told_one : (n : ℕ) (out : B) → test n ≡ true → out ≡ told_to n → posted out (say n) ≡ told_to (n + 1)
+  told_one n out on is =
+      ap (λ b. posted b (say n)) is ∙ sym (fold_push posted start (each say (passing n)) (say n)) ∙ ap (fold posted start) (sym (map-append say (passing n) (n ∷ [])))
+      ∙ sym (ap (λ ns. fold posted start (each say ns)) (passing_more n ∙ ap (λ b. passing n ++ cond b (n ∷ []) []) on))
+
+  pub told_none : (n : ℕ) (out : B) → test n ≡ false → out ≡ told_to n → out ≡ told_to (n + 1)
+  told_none n out off is = is ∙ sym (ap (λ ns. fold posted start (each say ns)) (passing_more n ∙ ap (λ b. passing n ++ cond b (n ∷ []) []) off ∙ append_none (passing n)))
+    where
+      append_none : (xs : List ℕ) → xs ++ [] ≡ xs
+      append_none [] = refl
+      append_none (x ∷ xs) = ap (λ ys. x ∷ ys) (append_none xs)

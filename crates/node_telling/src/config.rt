@@ -14,6 +14,7 @@ use rsvp_base::{Addr, Iface, NoMemory, Sender, Session};
 use std::alloc::Global;
 use std::cmp::Ordering;
 use std::marker::Model;
+use std::mem;
 
 /// The refresh period of the network, as a quarter of it in milliseconds, the node's interfaces by number, and its routes in
 /// the order of group and source.
@@ -63,6 +64,18 @@ fn any_has(ifaces: &[Iface], addr: Addr) -> bool
     ifaces.iter().any(|iface| iface.addr == addr)
 }
 
+/// The interfaces by which a sender's tree goes on by these routes, which are in the order of group and source: bit i stands
+/// for interface i.
+pub fn ways_by(routes: &[Route], session: Session, sender: Sender) -> u16
+    requires { AreRoutes routes.now }
+    ensures { result ≡ ways_out (route_in routes.now session.group sender.addr) }
+{
+    match route_of(routes, session.group, sender.addr) {
+        Some(route) => route.outward,
+        None => 0,
+    }
+}
+
 impl Config {
     /// Of a quarter of the period, from 1 to 15,000 milliseconds, at most 16 interfaces, and routes in the order of group and
     /// source, at most one of each.
@@ -78,6 +91,17 @@ impl Config {
             ifaces,
             routes,
         }
+    }
+
+    /// Has these routes from now on, in the order of group and source, at most one of each, and stands where it did. The routes
+    /// that it had are handed back.
+    pub fn reroute(&mut self, routes: Vec<Route>) -> Vec<Route>
+        requires { AreRoutes routes.items }
+        ensures config { self.new ≡ record self.old { routes = routes.items } }
+        ensures old { result.items ≡ self.old.routes }
+        ensures routed { AreRoutes result.items }
+    {
+        mem::replace(&mut self.routes, routes)
     }
 
     /// A quarter of the period.

@@ -1,9 +1,13 @@
 //! Paths and PathTears of a sender.
-ghost use Rattle.std.specs.Prelude.{◌≡◌, ◌==◌, fold};
+ghost use Rattle.std.specs.Prelude.{◌≡◌, ◌==◌, ◌&&◌, not, false, fold, map};
 ghost use Rattle.std.specs.Int.{bit_at};
 ghost use Rattle.std.specs.Option.{option_map};
-ghost use Rattle.node_sends.specs.Told.{paths_told, tears_told, told_gone, told_new};
+ghost use Rattle.router_rules.specs.NodeConfig.{tree};
+ghost use Rattle.router_rules.specs.Sends.{path_send, path_tear};
+ghost use Rattle.node_sends.specs.Told.{offer_key, paths_told, tears_told, told_gone, told_new};
+ghost use Rattle.node_sends.specs.Upward.{ways_out};
 ghost use Rattle.node_telling.specs.Offering.{as_offer};
+ghost use Rattle.node_telling.specs.Ways.{ways_but};
 
 use crate::config::Config;
 use crate::offered::Offered;
@@ -104,5 +108,77 @@ pub fn tell_gone<O: Outbox>(
 {
     if before.is_some() && after.is_none() {
         tell_path_tears(config, session, sender, out);
+    }
+}
+
+// Whether an interface is in the one set, and not in the other.
+fn is_only_in(these: u16, those: u16, iface: u8) -> bool
+    ensures { result ≡ ((bit_at these iface == 1) && not (bit_at those iface == 1)) }
+{
+    if is_out(these, iface) {
+        return !is_out(those, iface);
+    }
+    false
+}
+
+/// The PathTears of a sender, by those interfaces of `old` by which its tree does not go on now, in their order: bit i of
+/// `old` stands for interface i.
+pub fn tell_gone_ways<O: Outbox>(
+    config: &Config,
+    session: Session,
+    sender: Sender,
+    old: u16,
+    out: &mut O,
+)
+    ensures { out.new ≡ fold O.posted out.old (map (λ i. path_tear config.now (offer_key (session, sender) i)) (ways_but config.now old (ways_out (tree config.now session sender)))) }
+{
+    let ifaces = config.ifaces();
+    let ways = config.ways_of(session, sender);
+    for i in 0..ifaces.len() {
+        let iface = i as u8;
+        if is_only_in(old, ways, iface) {
+            let message = PathTearMsg {
+                session,
+                hop: Hop {
+                    addr: ifaces[i].addr,
+                    handle: 0,
+                },
+                sender: Some(sender),
+            };
+            out.post(iface, session.group, Message::PathTear(message), false);
+        }
+    }
+}
+
+/// The Paths of a sender, by those interfaces by which its tree goes on now and that are not in `old`, in their order: bit i of
+/// `old` stands for interface i.
+pub fn tell_new_ways<O: Outbox>(
+    config: &Config,
+    session: Session,
+    sender: Sender,
+    offered: &Offered,
+    old: u16,
+    out: &mut O,
+)
+    ensures { out.new ≡ fold O.posted out.old (map (λ i. path_send config.now false (offer_key (session, sender) i, as_offer offered.now)) (ways_but config.now (ways_out (tree config.now session sender)) old)) }
+{
+    let ifaces = config.ifaces();
+    let period = config.period();
+    let ways = config.ways_of(session, sender);
+    for i in 0..ifaces.len() {
+        let iface = i as u8;
+        if is_only_in(ways, old, iface) {
+            let message = PathMsg {
+                session,
+                police: offered.local,
+                hop: Hop {
+                    addr: ifaces[i].addr,
+                    handle: 0,
+                },
+                period,
+                sender: Some((sender, offered.tspec)),
+            };
+            out.post(iface, session.group, Message::Path(message), false);
+        }
     }
 }

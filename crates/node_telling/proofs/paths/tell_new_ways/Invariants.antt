@@ -1,0 +1,11 @@
+use Rattle.std.proofs.Common.{◌≡◌, false, ◌==◌, ◌&&◌, not, map as each, fold}
+use Rattle.std.specs.Int.{bit_at}
+use Rattle.std.specs.List.{filter, range_with_len}
+use Rattle.router_rules.specs.Sends.{path_send}
+use Rattle.node_telling.specs.Offering.{as_offer}
+use Rattle.node_sends.specs.Told.{offer_key}
+use Rattle.node_telling.proofs.paths.tell_new_ways.Given as goal
+
+abbrev pub invariant-loop-i : goal.invariant-loop-i
+invariant-loop-i g l =
+    l.out ≡ fold g.O.Outbox.posted l.initial.out (each (λ i. path_send l.config false (offer_key (l.session, l.sender) i, as_offer l.offered)) (filter (λ i. (bit_at l.ways i == 1) && not (bit_at l.old i == 1)) (range_with_len 0 l.i)))
