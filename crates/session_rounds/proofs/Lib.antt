@@ -1,3 +1,5 @@
 pub mod Near
 pub mod Loops
 pub mod Passed
+pub mod Moved
+pub mod Rerouted

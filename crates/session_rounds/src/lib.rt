@@ -5,10 +5,12 @@
 //! is exactly what the rule of a router sends. The room for it is taken when `Rooms` is opened, and none later.
 #![tactic(auto)]
 
+mod moving;
 mod nears;
 mod passing;
 mod rooms;
 mod rounds;
 
+pub use moving::change_routes;
 pub use passing::pass_time;
 pub use rooms::Rooms;
