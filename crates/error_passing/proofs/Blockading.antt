@@ -6,21 +6,24 @@ use Rattle.std.specs.FinMap.Entries.{below_all, is_sorted}
 use Rattle.std.specs.List.{filter}
 use Rattle.std.specs.Ordering.{eq_by_cmp, is_lt}
 use Rattle.rsvp_base.specs.Members.{In}
-use Rattle.rsvp_base.specs.Orders.{Names, senders}
-use Rattle.rsvp_base.specs.Table.{changed, first, has, keys, put_in, second, size, with_rows}
+use Rattle.rsvp_base.specs.Orders.{Names, senders, sessions}
+use Rattle.rsvp_base.specs.Table.{changed, first, get, has, keys, put_in, second, size, with_rows}
 use Rattle.rsvp_base.specs.TokenBucket.{TokenBucket}
 use Rattle.rsvp_base.specs.declared.session.Sender.{Sender}
 use Rattle.rsvp_base.specs.declared.session.Session.{Session}
+use Rattle.rsvp_base.specs.declared.style.StyleKind.{StyleKind}
+use Rattle.rsvp_base.specs.declared.style.StyleKind.TheVariants.{Wild, Fixed, Shared}
 use Rattle.rsvp_base.proofs.Changed.{has_changed}
 use Rattle.rsvp_base.proofs.Filters.{each_each, filter_same}
 use Rattle.rsvp_base.proofs.Members.{in_each}
 use Rattle.rsvp_base.proofs.Sizes.{size_same}
-use Rattle.rsvp_base.proofs.Tables.{either, get-put_in_other, holds, size-put_in, tied_same}
+use Rattle.rsvp_base.proofs.Tables.{either, get-put_in_other, holds, size-put_in, tied_same, tied_self}
 use Rattle.rsvp_messages.specs.declared.message.ResvErrMsg.{ResvErrMsg}
 use Rattle.style_rules.specs.Targets.{WallKey, target_place, wall_keys}
+use Rattle.style_rules.specs.declared.target.Target.TheVariants as target
 use Rattle.style_rules.specs.declared.wall.Wall.{Wall}
 use Rattle.blockade_state.specs.Blockades.{WallMap}
-use Rattle.router_rules.specs.Errors.{blockade_of, is_admission, sets_walls, walled_by, walls_with}
+use Rattle.router_rules.specs.Errors.{blamed_senders, blockade_of, is_admission, sets_walls, walled_by, walls_with}
 use Rattle.router_rules.specs.Facts.{Blockade}
 use Rattle.router_rules.specs.NodeConfig.{NodeConfig, wall_lifetime}
 use Rattle.router_lookups.proofs.Once.{not_below_itself}
@@ -164,3 +167,32 @@ fits n le = grind (arith, nat_tests)
 
 pub too_many : (n : ℕ) → 512 < n → false ≡ nat_le n 512
 too_many n lt = grind (arith, nat_tests)
+
+-- ---- those of other sessions stay
+put_apart : (s : Session) (v : Wall × ℕ) (ks : List WallKey) → ((k : WallKey) → In k ks → s ≡ k.0) → (w : WallMap) (j : WallKey) → eq_by_cmp sessions.cmp s j.0 ≡ false → get (with_rows w (each (λ k. (k, v)) ks)) j ≡ get w j
+put_apart s v [] mine w j off = refl
+put_apart s v (k ∷ ks) mine w j off =
+    put_apart s v ks (λ q i. mine q (inr i)) (put_in w k v) j off ∙ get-put_in_other wall_keys w k v j (either (eq_by_cmp wall_keys.cmp j k) (λ t. absurd (no t)) (λ f. f))
+  where
+    no : eq_by_cmp wall_keys.cmp j k ≡ true → ⊥
+    no t =
+        let same : s ≡ j.0 = mine k (inl refl) ∙ ap (λ (q : WallKey). q.0) (sym (tied_same wall_keys j k t)) in
+        let z : true ≡ false = sym (tied_self sessions s) ∙ ap (eq_by_cmp sessions.cmp s) same ∙ off in
+        cc
+
+pub set_apart : (p : NodeConfig) (e : ℕ) (m : ResvErrMsg) (flow : Option TokenBucket) (w : WallMap) (j : WallKey) → eq_by_cmp sessions.cmp m.session j.0 ≡ false → get w j ≡ get (walls_set p e m flow w) j
+set_apart p e m None w j off = refl
+set_apart p e m (Some flow) w j off = by (is_admission m.err)
+  where
+    of_senders : (xs : List Sender) (k : WallKey) → In k (each (λ x. (m.session, target.Sender x)) xs) → m.session ≡ k.0
+    of_senders xs k i = let r = in_each (λ (x : Sender). sender_wall m.session x) k xs i in λ i. (sym r.2 i).0
+
+    mine : (st : StyleKind) (k : WallKey) → In k (walled_by e m st) → m.session ≡ k.0
+    mine Wild k (inl same) = λ i. (sym same i).0
+    mine Wild k (inr none) = absurd none
+    mine Fixed k i = of_senders (blamed_senders m.blame.senders) k i
+    mine Shared k i = of_senders (blamed_senders m.blame.senders) k i
+
+    by : (b : Bool) → get w j ≡ get (cond b (walls_by m.err.value p e m flow w) w) j
+    by true = sym (put_apart m.session (record { flow = flow; sub = m.err.value }, wall_lifetime p) (walled_by e m m.blame.style) (mine m.blame.style) w j off)
+    by false = refl

@@ -116,11 +116,12 @@ module _ (c : ℕ) (n : State) (e : ℕ) (m : ResvErrMsg) where
     pub full_sent : [] ≡ resv_err_sent c n e m
     full_sent = nothing_sent true false on off refl
 
-  -- they have
-  module _ (on : from ≡ true) (some : has_room ≡ true) (w : WallMap) (is : w ≡ walls_set n.place e m m.blame.flow n.walls) where
-    told : changed (wall_at c) w ≡ new
-    told = ap (changed (wall_at c)) is ∙ walls_told n.place e m n.walls c m.blame.flow
+  -- the blockades of the rule, with what is left of them
+  pub set_told : (w : WallMap) → w ≡ walls_set n.place e m m.blame.flow n.walls → changed (wall_at c) w ≡ new
+  set_told w is = ap (changed (wall_at c)) is ∙ walls_told n.place e m n.walls c m.blame.flow
 
+  -- they have
+  module _ (on : from ≡ true) (some : has_room ≡ true) (w : WallMap) (told : changed (wall_at c) w ≡ new) where
     pub taken_heard : heard.Taken ≡ resv_err_heard c n e m
     taken_heard = heard_is true true on some
 
@@ -136,3 +137,25 @@ module _ (c : ℕ) (n : State) (e : ℕ) (m : ResvErrMsg) where
     taken_sent st style t table up up_is =
         (λ i. errors_told n.place (up_is i) m (sym style i) (under sessions rests t m.session).rows) ∙ sym (errors_are n.place (facts_of c after) (lane_of m.session m.blame.style (e, m.hop.addr)) m c t table)
         ∙ ap error_sends ((λ i. errors_on n.place (record f { walls = told i }) (err_lane e m) m) ∙ sent_as true true on some)
+
+  -- ---- one that was heard goes on where it was taken
+  both : (a b : Bool) → heard.Taken ≡ walls_heard a b → (a ≡ true) × (b ≡ true)
+  both true true h = (refl, refl)
+  both true false h = cc
+  both false b h = cc
+
+  neither : (a b : Bool) → (heard.Taken ≡ walls_heard a b → ⊥) → (a && b) ≡ false
+  neither true true off = absurd (off refl)
+  neither true false off = refl
+  neither false b off = refl
+
+  module _ (w : WallMap) (is : facts_of c (record n { walls = w }) ≡ resv_err_facts c n e m) where
+    pub was_taken : heard.Taken ≡ resv_err_heard c n e m → (from ≡ true) × (has_room ≡ true) × (changed (wall_at c) w ≡ new)
+    unfolding resv_err_heard resv_err_facts
+    was_taken h =
+        let b = both from room h in
+        (b.0, room_is ∙ b.1, ap (λ (z : Facts). z.walls) is ∙ (λ i. walls_after (b.0 i) (b.1 i) new f.walls))
+
+  pub not_taken : (heard.Taken ≡ resv_err_heard c n e m → ⊥) → [] ≡ resv_err_sent c n e m
+  unfolding resv_err_heard
+  not_taken off = nothing_sent from has_room refl refl (ap (λ b. from && b) room_is ∙ neither from room off)

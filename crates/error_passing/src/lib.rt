@@ -17,6 +17,6 @@ mod walls;
 
 pub use path_err::pass_path_err;
 pub use resv_conf::pass_resv_conf;
-pub use resv_err::pass_resv_err;
+pub use resv_err::{pass_resv_err, set_blockades};
 pub use stale::leave_wall;
 pub use unspelt::answer_unspelt;

@@ -1,11 +1,13 @@
 //! ResvErrs set blockades and go on.
-ghost use Rattle.std.specs.Prelude.{◌≡◌, ◌==◌, ◌≤◌, ℕ, fold};
+ghost use Rattle.std.specs.Prelude.{◌≡◌, ◌==◌, ◌≤◌, ℕ, false, fold};
 ghost use Rattle.std.specs.Int.{bit_at};
 ghost use Rattle.std.specs.List.{list_any};
 ghost use Rattle.std.specs.Option.{option_map};
+ghost use Rattle.std.specs.Ordering.{eq_by_cmp};
 ghost use Rattle.rsvp_base.specs.Orders.{sessions};
 ghost use Rattle.rsvp_base.specs.Table.{get, values};
 ghost use Rattle.rsvp_base.specs.Under.{under};
+ghost use Rattle.style_rules.specs.Targets.{WallKey};
 ghost use Rattle.style_rules.specs.Toward.{is_walled};
 ghost use Rattle.resv_state.specs.Walks.{rests};
 ghost use Rattle.router_rules.specs.Facts.{paths_in};
@@ -31,36 +33,58 @@ use style_rules::{Fixed, Shared, Style, Upstream, Wall, Wild};
 pub(crate) const FACTS: usize = 1024;
 
 /// A ResvErr arrives by an interface (RFC 2205, 3.1.8 and 3.5; RFC 2209, 2: RESV ERROR MESSAGE ARRIVES). Where a previous hop
-/// of its session sent it, it sets the blockades that an admission control failure asks for, if all have room, and goes on:
-/// one to each next hop whose reservations it concerns; where a smaller reservation stands, only to those that are
-/// blockaded. Else nothing changes and nothing is sent.
+/// of its session sent it, it sets the blockades that an admission control failure asks for, if all have room. Else nothing
+/// changes. No blockade of another session changes.
+pub fn set_blockades(
+    config: &Config,
+    paths: &PathTable,
+    walls: &mut Blockades,
+    iface: u8,
+    message: &ResvErrMsg,
+) -> Heard
+    ensures heard { (c : ℕ) (n : State) → n.place ≡ config.now → n.paths ≡ paths.now.facts → n.walls ≡ walls.old → result ≡ resv_err_heard c n iface message.now }
+    ensures facts { (c : ℕ) (n : State) → n.place ≡ config.now → n.paths ≡ paths.now.facts → n.walls ≡ walls.old → facts_of c (record n { walls = walls.new }) ≡ resv_err_facts c n iface message.now }
+    ensures others { (j : WallKey) → eq_by_cmp sessions.cmp message.now.session j.0 ≡ false → get walls.old j ≡ get walls.new j }
+{
+    if !is_previous_hop(paths, message.session, (iface, message.hop.addr)) {
+        return Heard::Dropped(Why::NoState);
+    }
+    if !set_walls(config, walls, iface, message) {
+        return Heard::Dropped(Why::Full);
+    }
+    Heard::Taken
+}
+
+/// A ResvErr that was taken goes on, once its blockades are set: one to each next hop whose reservations it concerns; where a
+/// smaller reservation stands, only to those that are blockaded. One that was not taken goes nowhere. The blockades are those
+/// that `set_blockades` left, and what was heard is its answer.
 pub fn pass_resv_err<O: Outbox>(
     config: &Config,
     paths: &PathTable,
     wild: &ResvTable<Wild>,
     fixed: &ResvTable<Fixed>,
     shared: &ResvTable<Shared>,
-    walls: &mut Blockades,
+    walls: &Blockades,
+    heard: Heard,
     iface: u8,
     message: &ResvErrMsg,
     out: &mut O,
-) -> Heard
-    ensures heard { (c : ℕ) (n : State) → n.place ≡ config.now → n.paths ≡ paths.now.facts → n.walls ≡ walls.old → result ≡ resv_err_heard c n iface message.now }
-    ensures facts { (c : ℕ) (n : State) → n.place ≡ config.now → n.paths ≡ paths.now.facts → n.walls ≡ walls.old → facts_of c (record n { walls = walls.new }) ≡ resv_err_facts c n iface message.now }
-    ensures sent { (c : ℕ) (n : State) → n.place ≡ config.now → n.paths ≡ paths.now.facts → n.walls ≡ walls.old → n.wild ≡ wild.now.facts → n.fixed ≡ fixed.now.facts → n.shared ≡ shared.now.facts → out.new ≡ fold O.posted out.old (resv_err_sent c n iface message.now) }
+)
+    ensures { (c : ℕ) (n : State) → n.place ≡ config.now → n.paths ≡ paths.now.facts → n.wild ≡ wild.now.facts → n.fixed ≡ fixed.now.facts → n.shared ≡ shared.now.facts → heard ≡ resv_err_heard c n iface message.now → facts_of c (record n { walls = walls.now }) ≡ resv_err_facts c n iface message.now → out.new ≡ fold O.posted out.old (resv_err_sent c n iface message.now) }
 {
-    let session = message.session;
-    let style = message.blame.style;
+    let Heard::Taken = heard else {
+        return;
+    };
     let hop = (iface, message.hop.addr);
-    if !is_previous_hop(paths, session, hop) {
-        return Heard::Dropped(Why::NoState);
-    }
-    if !set_walls(config, walls, iface, message) {
-        return Heard::Dropped(Why::Full);
-    }
-    let up = upstream(config, paths, walls, session, style, hop);
+    let up = upstream(
+        config,
+        paths,
+        walls,
+        message.session,
+        message.blame.style,
+        hop,
+    );
     tell_by_style(config, wild, fixed, shared, &up, message, out);
-    Heard::Taken
 }
 
 // The errors that go on to the next hops of the reservations of the error's style.
