@@ -2,20 +2,22 @@
 //! values, time passes by a call, and what it sends goes to an outbox of the caller.
 //!
 //! Each call is the rule of a router (`router_rules`): the facts after, what is heard, each refusal, and what is sent, in
-//! order. Of all that a router does, `Node` has what comes of paths, local senders and ResvTears: it tells its neighbours
-//! downstream of the senders, and its previous hops what goes there. It passes PathErrs and ResvConfs on, answers bytes that
-//! spell no message, and is cleared. Its book is that of its facts.
+//! order. A node takes each message, and bytes that spell none; local senders and receivers come and go at it; facts are left
+//! over at it; and it is cleared. The marks of local receivers that wish to hear are used as the rule uses them. Its book is
+//! that of its facts.
 #![tactic(auto)]
 
+mod arriving;
 mod clearing;
+mod confirming;
 mod errors;
-mod learning;
-mod leaving;
 mod node;
 mod opening;
 mod paths;
 mod resvs;
 mod senders;
 mod stale;
+mod telling;
+mod wants;
 
 pub use node::Node;

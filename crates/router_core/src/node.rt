@@ -3,7 +3,7 @@ ghost use Rattle.std.specs.Prelude.{◌≡◌, ℕ, IfOk};
 ghost use Rattle.std.specs.Option.{option_map};
 ghost use Rattle.rsvp_base.specs.Table.{get};
 ghost use Rattle.router_rules.specs.Books.{book};
-ghost use Rattle.node_facts.specs.State.{AreUnmarked, IsSaid, IsSettled, State, facts_of, no_state};
+ghost use Rattle.node_facts.specs.State.{IsSaid, IsSettled, State, facts_of, no_state};
 ghost use Rattle.node_tables.specs.Whole.{IsOfPlace, state_of};
 ghost use Rattle.tables_waiting.specs.Steps.{AreSound};
 
@@ -24,7 +24,6 @@ pub struct Node {
     ghost sound: { AreSound tables },
     ghost settled: { IsSettled (state_of tables said) },
     ghost told: { IsSaid said (state_of tables said) },
-    ghost unmarked: { AreUnmarked tables.wants },
     ghost place: { IsOfPlace tables },
 }
 

@@ -6,10 +6,9 @@ ghost use Rattle.router_rules.specs.Rule.{facts_after, heard_after, sent_after};
 ghost use Rattle.node_facts.specs.Changes.{path_came, tear_came};
 ghost use Rattle.node_facts.specs.State.{facts_at};
 
-use crate::learning::learn_path;
-use crate::leaving::{drop_path, has_path_by};
 use crate::node::Node;
 use lane_telling::{offered, tell_sender};
+use node_acting::{drop_path, has_path_by, learn_path};
 use node_telling::Outbox;
 use router_rules::{Heard, Why};
 use rsvp_messages::{PathMsg, PathTearMsg};
@@ -36,7 +35,7 @@ impl Node {
             return Heard::Dropped(Why::Full);
         }
         tell_sender(
-            &self.tables,
+            &mut self.tables,
             &mut self.said,
             session,
             sender,
@@ -67,7 +66,7 @@ impl Node {
         let before = offered(&self.tables, session, sender);
         drop_path(&mut self.tables, session, sender);
         tell_sender(
-            &self.tables,
+            &mut self.tables,
             &mut self.said,
             session,
             sender,

@@ -4,10 +4,9 @@ ghost use Rattle.router_rules.specs.Inputs.{Call, DropAs, SendAs};
 ghost use Rattle.router_rules.specs.Rule.{facts_after, refusal_of_call, sent_after};
 ghost use Rattle.node_facts.specs.State.{facts_at};
 
-use crate::learning::keep_sender;
-use crate::leaving::drop_sender;
 use crate::node::Node;
 use lane_telling::{offered, tell_sender};
+use node_acting::{drop_sender, keep_sender};
 use node_telling::Outbox;
 use router_rules::LocalErr;
 use rsvp_base::{Flow, Sender, Session};
@@ -37,7 +36,7 @@ impl Node {
             return Err(LocalErr::Full);
         }
         tell_sender(
-            &self.tables,
+            &mut self.tables,
             &mut self.said,
             session,
             sender,
@@ -66,7 +65,7 @@ impl Node {
             return Err(LocalErr::Absent);
         }
         tell_sender(
-            &self.tables,
+            &mut self.tables,
             &mut self.said,
             session,
             sender,

@@ -1,27 +1,20 @@
-//! Paths that are left over.
-ghost use Rattle.std.specs.Prelude.{◌≡◌, ◌≤◌, ℕ, None, Some, MatchResult};
+//! Paths, reservations and blockades that are left over.
+ghost use Rattle.std.specs.Prelude.{◌≡◌, ◌≤◌, ◌<◌, ℕ, None, Some, MatchResult, length};
+ghost use Rattle.style_rules.specs.Parts.{IsOfStyle};
 ghost use Rattle.router_rules.specs.Rule.{facts_with, refusal_of_stale};
 ghost use Rattle.node_facts.specs.State.{facts_at};
-ghost use Rattle.router_core.specs.Coming.{stale_path};
+ghost use Rattle.local_asking.specs.LeftOver.{resv_left, wall_left};
+ghost use Rattle.node_acting.specs.Coming.{stale_path};
 
-use crate::learning::keep_path;
 use crate::node::Node;
-use lane_telling::{offered, tell_sender};
-use node_telling::Outbox;
+use lane_telling::keep_said;
+use local_asking::{leave_resv, leave_wall};
+use node_acting::keep_path;
 use path_state::PathFact;
+use resv_state::ResvFact;
 use router_rules::StaleErr;
-use rsvp_base::Addr;
-use rsvp_messages::Message;
-
-// Keeps nothing of what it takes.
-#[derive(Drop)]
-struct Nowhere;
-
-impl Outbox for Nowhere {
-    ghost posted = { λ out send. out };
-
-    fn post(&mut self, _iface: u8, _dst: Addr, _message: Message, _refresh: bool) {}
-}
+use rsvp_base::{Sender, Session, StyleKind};
+use style_rules::{Target, Wall};
 
 impl Node {
     /// A path is left over at the node, with this much left, in milliseconds, in place of the one that stands there. Nothing is
@@ -34,18 +27,67 @@ impl Node {
     {
         let (session, sender) = (fact.session, fact.sender);
         let near = self.tables.paths.hops(session);
-        let before = offered(&self.tables, session, sender);
         if !keep_path(&mut self.tables, fact, left) {
             return Err(StaleErr::Full);
         }
-        tell_sender(
+        keep_said(&self.tables, &mut self.said, session, sender, &near);
+        Ok(())
+    }
+
+    /// A reservation is left over at the node, with this much left, in milliseconds, in place of the one that stands under its
+    /// key. It is of the style, and its interface is one of the node's. Nothing is sent. `Full` exactly where the table of its
+    /// style would not be within its limits, else `Over` exactly where the book of its interface refuses its entry; nothing
+    /// changes then.
+    pub fn stale_resv(
+        &mut self,
+        style: StyleKind,
+        fact: ResvFact,
+        left: u32,
+    ) -> Result<(), StaleErr>
+        requires exists { fact.iface < length self.old.place.ifaces }
+        requires style { IsOfStyle style fact.part }
+        requires some { 1 ≤ left }
+        ensures refused { (c : ℕ) → MatchResult result (λ _. refusal_of_stale self.old.place (resv_left style c fact left) (facts_at c self.old) ≡ None) (λ e. refusal_of_stale self.old.place (resv_left style c fact left) (facts_at c self.old) ≡ Some e) }
+        ensures facts { (c : ℕ) → facts_at c self.new ≡ facts_with self.old.place c (resv_left style c fact left) (facts_at c self.old) }
+        ensures place { self.new.place ≡ self.old.place }
+    {
+        // No sender changes, so any will do.
+        let session = fact.session;
+        let near = self.tables.paths.hops(session);
+        leave_resv(&mut self.tables, style, fact, left)?;
+        keep_said(
             &self.tables,
             &mut self.said,
             session,
-            sender,
-            &before,
+            Sender::default(),
             &near,
-            &mut Nowhere,
+        );
+        Ok(())
+    }
+
+    /// A blockade is left over at the node, with this much left, in milliseconds, in place of the one that stands there. Nothing
+    /// is sent. `Full` exactly where this would be a 513th; nothing changes then.
+    pub fn stale_blockade(
+        &mut self,
+        session: Session,
+        target: Target,
+        wall: Wall,
+        left: u32,
+    ) -> Result<(), StaleErr>
+        requires { 1 ≤ left }
+        ensures refused { (c : ℕ) → MatchResult result (λ _. refusal_of_stale self.old.place (wall_left (session, target) c wall left) (facts_at c self.old) ≡ None) (λ e. refusal_of_stale self.old.place (wall_left (session, target) c wall left) (facts_at c self.old) ≡ Some e) }
+        ensures facts { (c : ℕ) → facts_at c self.new ≡ facts_with self.old.place c (wall_left (session, target) c wall left) (facts_at c self.old) }
+        ensures place { self.new.place ≡ self.old.place }
+    {
+        // No sender changes, so any will do.
+        let near = self.tables.paths.hops(session);
+        leave_wall(&mut self.tables, session, target, wall, left)?;
+        keep_said(
+            &self.tables,
+            &mut self.said,
+            session,
+            Sender::default(),
+            &near,
         );
         Ok(())
     }

@@ -2,7 +2,7 @@ use Rattle.std.proofs.Common.{◌≡◌, ap, sym, subst, ◌∙◌}
 use Rattle.lane_state.specs.Lanes.{LaneMap}
 use Rattle.router_rules.specs.Inputs.{Clear}
 use Rattle.router_rules.specs.Rule.{facts_after}
-use Rattle.node_facts.specs.State.{AreUnmarked, IsSaid, IsSettled, State, facts_at}
+use Rattle.node_facts.specs.State.{IsSaid, IsSettled, State, facts_at}
 use Rattle.node_waiting.specs.Clearing.{cleared}
 use Rattle.node_tables.specs.Whole.{state_of}
 use Rattle.router_core.proofs.Emptying.{clear_facts, clear_said, clear_settled, clear_silent}
@@ -29,10 +29,7 @@ invariant_of-self-inside c =
         subst IsSettled (sym now) (clear_settled n),
         (
           subst (λ (z : State). IsSaid z.said z) (sym now) (clear_said n),
-          (
-            subst (λ (z : State). AreUnmarked z.wants) (sym now) c.self.inside.unmarked,
-            (c.clear_tables.ensures.ifaces ∙ c.self.inside.place ∙ ap (λ (z : State). z.place.ifaces) (sym c.clear_tables.ensures.state), tt),
-          ),
+          (c.clear_tables.ensures.ifaces ∙ c.self.inside.place ∙ ap (λ (z : State). z.place.ifaces) (sym c.clear_tables.ensures.state), tt),
         ),
       ),
     )

@@ -1,7 +1,7 @@
 use Rattle.std.proofs.Common.{◌≡◌, ap, sym, subst, ◌∙◌}
 use Rattle.rsvp_base.specs.Table.{empty}
 use Rattle.lane_state.specs.Lanes.{LaneMap}
-use Rattle.node_facts.specs.State.{AreUnmarked, IsKept, IsSaid, IsSettled, State, no_state}
+use Rattle.node_facts.specs.State.{IsKept, IsSaid, IsSettled, State, no_state}
 use Rattle.node_facts.proofs.Opening.{kept_none}
 use Rattle.node_tables.specs.Whole.{IsOfPlace, state_of}
 use Rattle.tables_waiting.specs.Steps.{AreSound}
@@ -27,9 +27,6 @@ module _ (c : In_ok-said) where
   told : IsSaid c.in_ok-said.said (state_of c.in_ok-tables.tables c.in_ok-said.said)
   told = subst (λ (n : State). IsSaid n.said n) (sym made) kept.said
 
-  unmarked : AreUnmarked c.in_ok-tables.tables.wants
-  unmarked = subst (λ (n : State). AreUnmarked n.wants) (sym made) kept.unmarked
-
   sound : AreSound c.in_ok-tables.tables
   sound = c.in_ok-tables.ensures.sound
 
@@ -39,7 +36,7 @@ module _ (c : In_ok-said) where
 pub invariant_of-result : goal.invariant_of-result
 invariant_of-result c =
     let d = (goal.at.invariant_of-result c).In_ok-said in
-    (sound d, (settled d, (told d, (unmarked d, (placed d, tt)))))
+    (sound d, (settled d, (told d, (placed d, tt))))
 
 pub returns : goal.returns
 returns c = made (goal.at.returns c).In_ok-said

@@ -10,12 +10,12 @@ pub returns-clause-facts : goal.returns-clause-facts
 returns-clause-facts g c = λ clock.
     let n = state_of c.self.inside.tables c.self.inside.said in
     subst (λ (z : State). facts_at clock z ≡ facts_after z.place z.place clock (Came c.args.iface c.args.dst (Unspelt c.args.err.now)) (facts_at clock z)) c.self.view_is
-    (unspelt_facts n c.self.inside.settled c.self.inside.unmarked clock c.args.iface c.args.dst c.args.err.now)
+    (unspelt_facts n c.self.inside.settled clock c.args.iface c.args.dst c.args.err.now)
 
 pub returns-clause-heard : goal.returns-clause-heard
 returns-clause-heard g c = λ clock.
     let n = state_of c.self.inside.tables c.self.inside.said in
-    c.answer_unspelt.ensures.heard (facts_of clock n) ∙ unspelt_is_heard n c.self.inside.settled c.self.inside.unmarked clock c.args.iface c.args.dst c.args.err.now
+    c.answer_unspelt.ensures.heard (facts_of clock n) ∙ unspelt_is_heard n c.self.inside.settled clock c.args.iface c.args.dst c.args.err.now
     ∙ ap (λ (z : State). heard_after z.place clock c.args.iface c.args.dst (Unspelt c.args.err.now) (facts_at clock z)) c.self.view_is
 
 pub returns-clause-sent : goal.returns-clause-sent
@@ -23,5 +23,5 @@ returns-clause-sent g c = λ clock.
     let n = state_of c.self.inside.tables c.self.inside.said in
     c.answer_unspelt.ensures.sent (facts_of clock n)
     ∙ ap (fold g.O.Outbox.posted c.args.out.now)
-    (unspelt_is_sent n c.self.inside.settled c.self.inside.unmarked clock c.args.iface c.args.dst c.args.err.now
+    (unspelt_is_sent n c.self.inside.settled clock c.args.iface c.args.dst c.args.err.now
     ∙ ap (λ (z : State). sent_after z.place z.place clock (Came c.args.iface c.args.dst (Unspelt c.args.err.now)) (facts_at clock z)) c.self.view_is)

@@ -1,0 +1,13 @@
+pub mod Settles
+pub mod Pathing
+pub mod Keeping
+pub mod Offering
+pub mod Calling
+pub mod Ruled
+pub mod Before
+pub mod Going
+pub mod Doing
+pub mod Here
+pub mod Tearing
+pub mod Reserving
+pub mod Staying

@@ -1,0 +1,6 @@
+use Rattle.node_tables.specs.Whole.{state_of}
+use Rattle.node_acting.proofs.Here.{all_styles}
+use Rattle.node_acting.proofs.resvs.look.Goals as goal
+
+pub returns : goal.returns
+returns c = λ said. all_styles (state_of c.args.tables.now said) c.find-wild.ensures.style c.find-fixed.ensures.style c.find-shared.ensures.style

@@ -1,0 +1,63 @@
+//! Resvs and ResvTears change the reservations of a session.
+ghost use Rattle.std.specs.Prelude.{◌≡◌, ◌<◌, ℕ, length};
+ghost use Rattle.rsvp_base.specs.declared.session.Sender.{Sender as Sending};
+ghost use Rattle.router_rules.specs.Asking.{act_resv, act_resv_tear};
+ghost use Rattle.router_rules.specs.Asking.{asker_of as asker_of_rule};
+ghost use Rattle.node_facts.specs.State.{Said, facts_of};
+ghost use Rattle.node_sends.specs.Changed.{IsChangedFor};
+ghost use Rattle.node_tables.specs.Whole.{IsOfPlace, state_of};
+ghost use Rattle.resv_arriving.specs.Taken.{IsAnswer};
+ghost use Rattle.tables_waiting.specs.Steps.{AreSound};
+ghost use Rattle.node_acting.specs.Styled.{AreOfStyles};
+
+use node_tables::Tables;
+use resv_arriving::{Answer, take_resv, tear_resv};
+use router_rules::Heard;
+use rsvp_base::{Addr, Session, Unit};
+use rsvp_messages::{ResvMsg, ResvTearMsg};
+
+/// The senders of a ResvTear leave the reservations of its next hop, session and style (RFC 2209, 2: RESV TEAR MESSAGE
+/// ARRIVES). Nothing of other sessions changes.
+pub fn tear_resvs(tables: &mut Tables, iface: u8, message: &ResvTearMsg) -> Heard
+    requires { AreSound tables.old }
+    ensures heard { (c : ℕ) (said : Said) → result ≡ (act_resv_tear iface message.now (facts_of c (state_of tables.old said))).heard }
+    ensures facts { (c : ℕ) (said : Said) → facts_of c (state_of tables.new said) ≡ (act_resv_tear iface message.now (facts_of c (state_of tables.old said))).facts }
+    ensures change { (said : Said) (x : Sending) → IsChangedFor (message.now.session, x) (state_of tables.old said) (state_of tables.new said) }
+    ensures sound { AreSound tables.new }
+    ensures ifaces { tables.new.book.ifaces ≡ tables.old.book.ifaces }
+    ensures rest { tables.new ≡ record tables.old { wild = tables.new.wild; fixed = tables.new.fixed; shared = tables.new.shared; book = tables.new.book } }
+{
+    look(tables);
+    let heard = tear_resv(tables, iface, message);
+    look(tables);
+    heard
+}
+
+/// The units of a Resv that came by one of the node's interfaces are taken, refused or left out (RFC 2209, 2: RESV MESSAGE
+/// ARRIVES). Nothing of other sessions changes.
+pub fn take_resvs(tables: &mut Tables, iface: u8, message: &ResvMsg) -> Answer
+    requires sound { AreSound tables.old }
+    requires place { IsOfPlace tables.old }
+    requires exists { iface < length tables.old.book.ifaces }
+    ensures answer { (c : ℕ) (said : Said) → IsAnswer tables.old.config (asker_of_rule tables.old.config c iface message.now) result (act_resv tables.old.config c iface message.now (facts_of c (state_of tables.old said))) }
+    ensures facts { (c : ℕ) (said : Said) → facts_of c (state_of tables.new said) ≡ (act_resv tables.old.config c iface message.now (facts_of c (state_of tables.old said))).facts }
+    ensures change { (said : Said) (x : Sending) → IsChangedFor (message.now.session, x) (state_of tables.old said) (state_of tables.new said) }
+    ensures sound { AreSound tables.new }
+    ensures ifaces { tables.new.book.ifaces ≡ tables.old.book.ifaces }
+    ensures rest { tables.new ≡ record tables.old { wild = tables.new.wild; fixed = tables.new.fixed; shared = tables.new.shared; book = tables.new.book } }
+{
+    look(tables);
+    let answer = take_resv(tables, iface, message);
+    look(tables);
+    answer
+}
+
+// The proof sees here that each reservation stands under its key.
+fn look(tables: &Tables)
+    ensures { (said : Said) → AreOfStyles (state_of tables.now said) }
+{
+    let session = Session::default();
+    let _wild = tables.wild.find(session, 0, Addr(0), Unit::One);
+    let _fixed = tables.fixed.find(session, 0, Addr(0), Unit::One);
+    let _shared = tables.shared.find(session, 0, Addr(0), Unit::One);
+}

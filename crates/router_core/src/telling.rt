@@ -1,0 +1,99 @@
+//! What a node tells where a Resv or a ResvErr changed a session: what is gone, the errors and a confirmation, and what is new.
+ghost use Rattle.std.specs.Prelude.{◌≡◌, ℕ, [], None, fold};
+ghost use Rattle.std.specs.Option.{option_map};
+ghost use Rattle.rsvp_base.specs.Table.{empty};
+ghost use Rattle.router_rules.specs.Asking.{asked_of, asker_of};
+ghost use Rattle.router_rules.specs.Errors.{act_resv_err};
+ghost use Rattle.router_rules.specs.Inputs.{Change};
+ghost use Rattle.router_rules.specs.Sends.{sends};
+ghost use Rattle.node_facts.specs.State.{IsSaid, State, facts_of};
+ghost use Rattle.node_sends.specs.Before.{IsBefore};
+ghost use Rattle.node_telling.specs.Offering.{as_offer};
+ghost use Rattle.node_tables.specs.Whole.{state_of};
+ghost use Rattle.error_passing.specs.ResvErrs.{resv_err_facts, resv_err_heard};
+ghost use Rattle.lane_telling.specs.Halves.{facts_told};
+ghost use Rattle.resv_arriving.specs.Taken.{IsAnswer};
+
+use crate::confirming::confirm;
+use error_passing::pass_resv_err;
+use lane_state::LaneTable;
+use lane_telling::{tell_news, tell_tears};
+use node_tables::Tables;
+use node_telling::{Offered, Outbox};
+use path_state::Hops;
+use resv_arriving::{Answer, tell_refusals};
+use router_rules::Heard;
+use rsvp_base::Sender;
+use rsvp_messages::{ResvErrMsg, ResvMsg};
+
+/// All that a node tells once a Resv was taken, in order: ResvTears, the refusals, the confirmation, and Resvs. These ask to
+/// confirm whom the Resv names, else the node for its marked wants, whose marks are used then. What was offered of a sender,
+/// and the session's previous hops, are those from before.
+pub(crate) fn tell_resv<O: Outbox>(
+    tables: &mut Tables,
+    said: &mut LaneTable,
+    sender: Sender,
+    before: &Option<Offered>,
+    near: &Hops,
+    iface: u8,
+    message: &ResvMsg,
+    answer: Answer,
+    out: &mut O,
+)
+    requires { (n : State) × IsBefore (message.now.session, sender) n (state_of tables.old said.old) (option_map as_offer before.now) near.now }
+    ensures sent { (n : State) (c : ℕ) (k : Change) → IsBefore (message.now.session, sender) n (state_of tables.old said.old) (option_map as_offer before.now) near.now → IsAnswer n.place (asker_of n.place c iface message.now) answer k → k.confs ≡ [] → k.fired ≡ empty → out.new ≡ fold O.posted out.old (sends n.place n.place (facts_of c n) (facts_of c (state_of tables.old said.old)) k) }
+    ensures facts { (n : State) (c : ℕ) → IsBefore (message.now.session, sender) n (state_of tables.old said.old) (option_map as_offer before.now) near.now → facts_of c (state_of tables.new said.new) ≡ facts_told n.place (facts_of c n) (facts_of c (state_of tables.old said.old)) (asked_of (asker_of n.place c iface message.now) answer.taken message.now.confirm) }
+    ensures said { IsSaid said.new (state_of tables.new said.new) }
+    ensures rest { tables.new ≡ record tables.old { wants = tables.new.wants } }
+{
+    let session = message.session;
+    tell_tears(tables, said, session, sender, before, near, out);
+    tell_refusals(&tables.config, iface, message, &answer.errors, out);
+    confirm(tables, said, iface, message, answer.taken, out);
+    tell_news(
+        tables,
+        said,
+        session,
+        sender,
+        before,
+        near,
+        message.confirm,
+        out,
+    );
+}
+
+/// All that a node tells once a ResvErr set its blockades, in order: ResvTears, the errors that go on, and Resvs. What was heard
+/// is the answer of `set_blockades`; what was offered of a sender, and the session's previous hops, are those from before.
+pub(crate) fn tell_resv_err<O: Outbox>(
+    tables: &mut Tables,
+    said: &mut LaneTable,
+    sender: Sender,
+    before: &Option<Offered>,
+    near: &Hops,
+    iface: u8,
+    message: &ResvErrMsg,
+    heard: Heard,
+    out: &mut O,
+)
+    requires { (n : State) × IsBefore (message.now.session, sender) n (state_of tables.old said.old) (option_map as_offer before.now) near.now }
+    ensures sent { (n : State) (c : ℕ) → IsBefore (message.now.session, sender) n (state_of tables.old said.old) (option_map as_offer before.now) near.now → state_of tables.old said.old ≡ record n { walls = tables.old.walls } → heard ≡ resv_err_heard c n iface message.now → facts_of c (state_of tables.old said.old) ≡ resv_err_facts c n iface message.now → out.new ≡ fold O.posted out.old (sends n.place n.place (facts_of c n) (facts_of c (state_of tables.old said.old)) (act_resv_err n.place c iface message.now (facts_of c n))) }
+    ensures facts { (n : State) (c : ℕ) → IsBefore (message.now.session, sender) n (state_of tables.old said.old) (option_map as_offer before.now) near.now → facts_of c (state_of tables.new said.new) ≡ facts_told n.place (facts_of c n) (facts_of c (state_of tables.old said.old)) None }
+    ensures said { IsSaid said.new (state_of tables.new said.new) }
+    ensures rest { tables.new ≡ record tables.old { wants = tables.new.wants } }
+{
+    let session = message.session;
+    tell_tears(tables, said, session, sender, before, near, out);
+    pass_resv_err(
+        &tables.config,
+        &tables.paths,
+        &tables.wild,
+        &tables.fixed,
+        &tables.shared,
+        &tables.walls,
+        heard,
+        iface,
+        message,
+        out,
+    );
+    tell_news(tables, said, session, sender, before, near, None, out);
+}
