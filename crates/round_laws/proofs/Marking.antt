@@ -19,7 +19,7 @@ use Rattle.router_lookups.proofs.Tests.{parts_tested}
 use Rattle.router_rules.specs.Facts.{Facts, WantKey, want_keys}
 use Rattle.router_rules.specs.Known.{Lane, lane_keys, lanes}
 use Rattle.router_rules.specs.Requests.{toward}
-use Rattle.router_rules.specs.Sends.{is_sent_new, marked_units, same_parts, used_marks}
+use Rattle.router_rules.specs.Sends.{is_changed, is_sent_new, marked_units, same_parts, used_marks}
 use Rattle.node_facts.specs.State.{Said, State, facts_of, said_at}
 use Rattle.node_sends.specs.Before.{lanes_by}
 use Rattle.node_sends.specs.Marks.{is_new_at, used_at}
@@ -64,7 +64,7 @@ module _ (ss : List Session) (n m : State) (at : AreRounds ss n m) (c d : ℕ) (
       either (is_among ss l.session) (λ t. t)
       (λ off.
       let same : toward n.place f l ≡ toward m.place g l = sym (was ss n m at c said cleared c l) ∙ was ss n m at c said cleared d l ∙ at.others d l off in
-      let z : true ≡ false = sym (and_both _ _ h).1 ∙ ap not (parts_tested (toward n.place f l) (toward m.place g l) same) in
+      let z : true ≡ false = sym (and_both (nat_lt 0 (size (toward m.place g l))) (is_changed n.place m.place f g l) h).1 ∙ ap not (parts_tested (toward n.place f l) (toward m.place g l) same) in
       absurd (cc))
 
   abbrev every : Set want_keys
