@@ -13,6 +13,7 @@ use Rattle.line_stream.specs.Streams.{Held, at_first}
 use Rattle.network_run.specs.Written.{HasRun, IsRunSoFar, whole_lines}
 use Rattle.network_run.specs.Playing.{IsCrowdedBy, IsRunOn}
 use Rattle.network_run.specs.Endings.{IsRun, all_bytes}
+use Rattle.network_run.specs.declared.ending.Ending.{Ending}
 use Rattle.network_run.specs.declared.ending.Ending.TheVariants.{Done, BadLine, ReadFault, WriteFault, NoMemory, Crowded, TooLong}
 use Rattle.network_run.proofs.Behind.{HasEnd, HasLine, HasLong, HasMany, HasWhole, IsBehind, behind_nothing}
 
@@ -171,3 +172,20 @@ module _ {P : Type 0} (stands : P → Draft → Type 0) where
       run = on.run;
       wrote = Appends-trans first holds later p.text own p.wrote wrote;
     }
+
+-- what is said of where the player stands counts only where all lines were run
+pub standing_so : (s t : Draft → Type 0) (e : Ending) (old new first holds : Option (List ℕ)) → (e ≡ Done → (d : Draft) → s d → t d) → IsRun s e old new first holds → IsRun t e old new first holds
+standing_so s t Done old new first holds f r = record {
+  taken = r.taken;
+  took = r.took;
+  text = r.text;
+  wrote = r.wrote;
+  counted = r.counted;
+  ended = record { all = r.ended.all; ran = r.ended.ran; stands_there = f refl r.ended.ran.draft r.ended.stands_there };
+}
+standing_so s t (BadLine n why) old new first holds f r = record { taken = r.taken; took = r.took; text = r.text; wrote = r.wrote; counted = r.counted; ended = r.ended }
+standing_so s t ReadFault old new first holds f r = record { taken = r.taken; took = r.took; text = r.text; wrote = r.wrote; counted = r.counted; ended = r.ended }
+standing_so s t WriteFault old new first holds f r = record { taken = r.taken; took = r.took; text = r.text; wrote = r.wrote; counted = r.counted; ended = r.ended }
+standing_so s t NoMemory old new first holds f r = record { taken = r.taken; took = r.took; text = r.text; wrote = r.wrote; counted = r.counted; ended = r.ended }
+standing_so s t Crowded old new first holds f r = record { taken = r.taken; took = r.took; text = r.text; wrote = r.wrote; counted = r.counted; ended = r.ended }
+standing_so s t TooLong old new first holds f r = record { taken = r.taken; took = r.took; text = r.text; wrote = r.wrote; counted = r.counted; ended = r.ended }

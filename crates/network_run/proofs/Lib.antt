@@ -5,3 +5,4 @@ pub mod Runs
 pub mod Firsts
 pub mod Coming
 pub mod Spoken
+pub mod Adding

@@ -5,6 +5,7 @@ use Rattle.network_model.specs.Events.{Event, all_steps, steps_of}
 use Rattle.network_model.specs.Runs.{Plan, crowds, first_world, is_crowded, is_crowded_run, last_world, run_text, steps_of_run, text_of, uncrowded, written}
 use Rattle.network_model.specs.Steps.{Step, machine, step}
 use Rattle.network_model.specs.Worlds.{World}
+use Rattle.network_run.specs.Written.{with_event}
 
 module _ (q : ℕ) where
   run_on : (ss ts : List Step) (w : World) → run (machine q) (ss ++ ts) w ≡ run (machine q) ts (run (machine q) ss w)
@@ -51,10 +52,6 @@ module _ (q : ℕ) where
       let there = all_steps q es next in
       let last = run (machine q) there next in
       ap (λ (ss : List Step). here ++ ss) (steps_more es e next) ∙ sym (append_assoc here there (steps_of q e last)) ∙ ap (λ (v : World). (here ++ there) ++ steps_of q e v) (sym (run_on here there w))
-
--- the plan with one event more
-abbrev pub with_event : Plan → Event → Plan
-with_event p e = record p { events = p.events ++ e ∷ [] }
 
 -- the world behind all steps
 abbrev end_world : Plan → World

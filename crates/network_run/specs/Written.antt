@@ -1,7 +1,8 @@
 -- What the lines of a script have written so far, when each is run before the next is read.
 use Rattle.std.specs.Prelude.{◌≡◌, ℕ, false, List, [], ◌∷◌, ◌++◌}
 use Rattle.script_words.specs.Parts.{parts_of}
-use Rattle.network_model.specs.Runs.{is_crowded_run, run_text}
+use Rattle.network_model.specs.Events.{Event}
+use Rattle.network_model.specs.Runs.{Plan, is_crowded_run, run_text}
 use Rattle.script_grammar.specs.Draft.{Draft, nothing, plan_of}
 use Rattle.script_grammar.specs.Grammar.{Leads}
 
@@ -22,6 +23,10 @@ with_feeds [] = []
 with_feeds (line ∷ lines) = line ++ 10 ∷ with_feeds lines
 
 -- ---- what was run
+-- the plan with one event more
+abbrev pub with_event : Plan → Event → Plan
+with_event p e = record p { events = p.events ++ e ∷ [] }
+
 -- the lines before lead to this draft, none of their events led to a crowded world, and this is the text that they wrote
 pub record IsRunSoFar (draft : Draft) (text : List ℕ) : Type 0 where
   pub roomy : is_crowded_run (plan_of draft) ≡ false
