@@ -1,0 +1,119 @@
+//! The player of the lines of a script.
+ghost use Rattle.std.specs.Prelude.{◌≡◌, ◌≤◌, [], false, length, List, ℕ, None, Some, IfOk};
+ghost use Rattle.network_model.specs.Events.{Event as AnEvent};
+ghost use Rattle.network_model.specs.Runs.{Plan, is_crowded_run};
+ghost use Rattle.router_rules.specs.Inputs.{Arrival};
+ghost use Rattle.script_grammar.specs.Draft.{Draft, nothing, plan_of};
+ghost use Rattle.net_replay.specs.Happening.{IsFitEvent, IsRead, event_with};
+ghost use Rattle.network_run.specs.Playing.{Plays};
+ghost use Rattle.network_run.specs.Written.{IsRunSoFar, with_event};
+ghost use Rattle.script_player.specs.Standing.{IsAt, IsNetworkOf, RunsOnto, StandsBehind};
+
+use crate::checks::{Checks, Refused, Start};
+use crate::event_run::run_event;
+use crate::opens::Opens;
+use net_replay::{Event, World, WorldErr};
+use network_run::{Player, Stop};
+use rsvp_base::NoMemory;
+use std::alloc::Global;
+
+/// Checks the lines of a script and runs their events: what checks them, and from the first event on the network that they
+/// declare.
+#[derive(Drop)]
+pub struct ScriptPlayer<C: Checks + Drop, R: Opens> {
+    alloc: Global,
+    checker: C,
+    world: Option<World<R>>,
+}
+
+impl<C: Checks + Drop, R: Opens> ScriptPlayer<C, R> {
+    /// The player behind the lines that were fed so far, none of which is that of an event.
+    pub fn new(alloc: Global, checker: C) -> ScriptPlayer<C, R>
+        ensures { result ≡ record { alloc = alloc; checker = checker; world = None } }
+    {
+        ScriptPlayer {
+            alloc,
+            checker,
+            world: None,
+        }
+    }
+
+    /// The network in which the run stands. `None` exactly where no event was run.
+    pub fn into_world(self) -> Option<World<R>>
+        ensures { result ≡ self.world }
+    {
+        self.world
+    }
+}
+
+impl<C: Checks + Drop, R: Opens> Player for ScriptPlayer<C, R> {
+    ghost stands = { λ p d. IsAt R.seen (C.lines p.checker) p.world d };
+
+    fn play(&mut self, line: &[u8], out: &mut Vec<u8>) -> Result<(), Stop> {
+        match self.checker.feed(line) {
+            Ok(None) => Ok(()),
+            Ok(Some(event)) => {
+                match happen(self.alloc, &self.checker, &mut self.world, &event, out) {
+                    Ok(()) => Ok(()),
+                    Err(WorldErr::Crowded) => Err(Stop::Crowded),
+                    Err(WorldErr::NoMemory) => Err(Stop::NoMemory),
+                }
+            }
+            Err(Refused::Fault(why)) => Err(Stop::Bad(why)),
+            Err(Refused::NoMemory) => Err(Stop::NoMemory),
+        }
+    }
+}
+
+// Runs the event of the line that was fed last; the network is opened where it is the first.
+fn happen<C: Checks + Drop, R: Opens>(
+    alloc: Global,
+    checker: &C,
+    world: &mut Option<World<R>>,
+    event: &Event,
+    out: &mut Vec<u8>,
+) -> Result<(), WorldErr>
+    requires { IsFitEvent event.now }
+    ensures { (p : Plan) (a : Arrival) → IsRead event.now a → IsNetworkOf R.seen world.old p → plan_of (C.lines checker.now) ≡ with_event p (event_with a event.now) → is_crowded_run p ≡ false
+        → RunsOnto R.seen p (event_with a event.now) result out.old.items out.new.items world.new }
+{
+    let mut network = match network_of(alloc, checker, world.take()) {
+        Ok(network) => network,
+        Err(_) => return Err(WorldErr::NoMemory),
+    };
+    let result = run_event(&mut network, event, out);
+    *world = Some(network);
+    result
+}
+
+// The network, which is opened where there is none yet.
+fn network_of<C: Checks + Drop, R: Opens>(
+    alloc: Global,
+    checker: &C,
+    world: Option<World<R>>,
+) -> Result<World<R>, NoMemory>
+    ensures { IfOk result (λ v. (p : Plan) (e : AnEvent) → IsNetworkOf R.seen world p → plan_of (C.lines checker.now) ≡ with_event p e → StandsBehind R.seen v p) }
+{
+    match world {
+        Some(world) => Ok(world),
+        None => open_network(alloc, checker),
+    }
+}
+
+// The network that the lines declare, before anything happened.
+fn open_network<C: Checks + Drop, R: Opens>(
+    alloc: Global,
+    checker: &C,
+) -> Result<World<R>, NoMemory>
+    ensures { IfOk result (λ v. (p : Plan) (e : AnEvent) → p.events ≡ [] → plan_of (C.lines checker.now) ≡ with_event p e → StandsBehind R.seen v p) }
+{
+    let start = checker.start()?;
+    let nodes = R::open_all(alloc, start.quarter, &start.routing, checker.left())?;
+    let Start {
+        quarter,
+        seed,
+        routing,
+        names,
+    } = start;
+    World::open(alloc, quarter, seed, routing, names, nodes)
+}

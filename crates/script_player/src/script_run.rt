@@ -1,0 +1,46 @@
+//! The run of a script.
+ghost use Rattle.std.specs.Prelude.{◌≡◌, ◌≢◌, ◌≤◌, List, ℕ, None, Some, length};
+ghost use Rattle.byte_streams.specs.Faults.{Rose};
+ghost use Rattle.byte_streams.specs.Reading.{most_bytes};
+ghost use Rattle.script_grammar.specs.Draft.{nothing, plan_of};
+ghost use Rattle.network_run.specs.Endings.{ComesTo, IsOrNoMemory, IsRun};
+ghost use Rattle.network_run.specs.declared.ending.Ending.{Ending as AnEnding};
+ghost use Rattle.script_player.specs.Standing.{IsNetworkOf};
+
+use crate::checks::Checks;
+use crate::opens::Opens;
+use crate::player::ScriptPlayer;
+use byte_streams::{Sink, Source};
+use net_replay::World;
+use network_run::{Ending, run_lines};
+use std::alloc::Global;
+
+/// Reads a script of the source, checks and runs it line by line, and writes each event's text to the sink when it has run. Where
+/// it is done and the script has an event, `last` holds the network in which the run ended; else it stays empty.
+///
+/// How it ends is said at `run_lines`.
+pub fn run_script<C: Checks + Drop, R: Opens, S: Source, K: Sink>(
+    alloc: Global,
+    checker: C,
+    source: &mut S,
+    sink: &mut K,
+    last: &mut Option<World<R>>,
+) -> Ending
+    requires first { C.lines checker ≡ nothing }
+    requires empty { last.old ≡ None }
+    ensures run { IsRun (λ d. IsNetworkOf R.seen last.new (plan_of d)) result (S.left source.old) (S.left source.new) (K.holds sink.old) (K.holds sink.new) }
+    ensures empty { result ≢ Ending.Done → last.new ≡ None }
+    ensures read_fault { result ≡ Ending.ReadFault → Rose (S.faults source.old) (S.faults source.new) }
+    ensures write_fault { result ≡ Ending.WriteFault → Rose (K.faults sink.old) (K.faults sink.new) }
+    ensures complete { (bytes text : List ℕ) (wanted : AnEnding) → S.left source.old ≡ Some bytes → length bytes ≤ most_bytes → ComesTo wanted bytes text
+        → (Rose (S.faults source.old) (S.faults source.new) → ⊥) → (Rose (K.faults sink.old) (K.faults sink.new) → ⊥) → IsOrNoMemory wanted result }
+{
+    let mut player: ScriptPlayer<C, R> = ScriptPlayer::new(alloc, checker);
+    match run_lines(alloc, &mut player, source, sink) {
+        Ending::Done => {
+            *last = player.into_world();
+            Ending::Done
+        }
+        other => other,
+    }
+}
