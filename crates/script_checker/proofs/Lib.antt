@@ -3,3 +3,5 @@ pub mod LinkRules
 pub mod HopRules
 pub mod SenderRules
 pub mod WantRules
+pub mod LeftRules
+pub mod FedLines

@@ -1,5 +1,6 @@
 -- What the checker of lines is seen as.
-use Rattle.std.specs.Prelude.{[], map as each}
+use Rattle.std.specs.Prelude.{map as each}
+use Rattle.left_over.specs.Listed.{stale_in}
 use Rattle.script_grammar.specs.Draft.{Draft}
 use Rattle.script_checker.specs.Events.{event_of}
 use Rattle.script_checker.specs.declared.checker.Checker.{Checker}
@@ -12,7 +13,7 @@ draft_of c = record {
   names = c.names;
   net = c.topology;
   force = c.topology.hops;
-  stale = [];
+  stale = stale_in c.left;
   sessions = c.sessions.items;
   locals = record { senders = c.senders.items; wants = c.wants.items };
   events = each event_of c.events.items;

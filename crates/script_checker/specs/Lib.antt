@@ -4,3 +4,5 @@ pub mod Refusals
 pub mod LinkEnds
 pub mod HopRefusals
 pub mod Styles
+pub mod LeftRefusals
+pub mod Said

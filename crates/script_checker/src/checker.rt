@@ -1,8 +1,10 @@
 //! What the lines of a script have said so far.
-ghost use Rattle.std.specs.Prelude.{◌≡◌, ◌≤◌, length};
+ghost use Rattle.std.specs.Prelude.{◌≡◌, ◌≤◌, length, unwrap_or};
+ghost use Rattle.left_over.specs.Listed.{IsOfEnds, nodes_in};
 
 use crate::event::Event;
 use crate::names::NameTable;
+use left_over::Leavings;
 use rsvp_base::{NoMemory, Session};
 use script_words::EndName;
 use std::alloc::Global;
@@ -24,6 +26,8 @@ pub struct Checker {
     /// The same names, as faults tell them.
     pub(crate) end_names: Vec<EndName>,
     pub(crate) topology: Topology,
+    /// What is left over at the nodes.
+    pub(crate) left: Leavings,
     /// The sessions that were named, at most 32.
     pub(crate) sessions: Vec<Session>,
     /// Who sends, at most 16 in a session.
@@ -31,12 +35,16 @@ pub struct Checker {
     /// Who wants what, at most 16 units of a session at a node.
     pub(crate) wants: Vec<LocalWant>,
     pub(crate) events: Vec<Event>,
+    pub ghost minute: { unwrap_or period 30000 ≤ 60000 },
     pub ghost same_nodes: { topology.nodes ≡ length nodes },
     pub ghost few_nodes: { length nodes ≤ 256 },
     // Each name is that of an end. Where memory ran out, the last end may be without one.
     pub ghost ends_there: { length names ≤ length topology.ends },
     pub ghost few_names: { length names ≤ 65536 },
     pub ghost same_names: { names ≡ end_names.items },
+    // Where memory ran out, what is left over may have a place for one node more.
+    pub ghost left_nodes: { length nodes ≤ nodes_in left },
+    pub ghost left_there: { IsOfEnds topology.ends left },
 }
 
 impl Checker {
@@ -56,6 +64,7 @@ impl Checker {
             names: NameTable::new(alloc),
             end_names: Vec::new(alloc),
             topology: Topology::new(alloc)?,
+            left: Leavings::new(alloc),
             sessions: Vec::new(alloc),
             senders: Vec::new(alloc),
             wants: Vec::new(alloc),

@@ -6,6 +6,7 @@
 
 mod checker;
 mod event;
+mod feeding;
 mod names;
 mod refusal;
 mod rules;

@@ -13,6 +13,7 @@ mod node;
 mod period;
 mod sender;
 mod session;
+mod stale;
 mod want;
 
 use crate::checker::Checker;
@@ -43,10 +44,10 @@ pub fn add(checker: &mut Checker, line: Line) -> Result<(), Refusal>
         Line::End(line) => end::add_end(checker, line),
         Line::Link(names) => link::add_link(checker, names),
         Line::Hop(line) => hop::add_hop(checker, line),
-        Line::StalePath(_line) => Err(Refusal::Unbuilt),
+        Line::StalePath(line) => stale::add_path(checker, line),
         Line::StaleResv(_line) => Err(Refusal::Unbuilt),
-        Line::StaleHopWall(_line) => Err(Refusal::Unbuilt),
-        Line::StaleSenderWall(_line) => Err(Refusal::Unbuilt),
+        Line::StaleHopWall(line) => stale::add_hop_wall(checker, line),
+        Line::StaleSenderWall(line) => stale::add_sender_wall(checker, line),
         Line::Send(line) => sender::add_send(checker, line),
         Line::Drop(line) => sender::add_drop(checker, line),
         Line::Want(line) => want::add_want(checker, line),
@@ -61,5 +62,5 @@ pub fn add(checker: &mut Checker, line: Line) -> Result<(), Refusal>
 fn only_declares(checker: &Checker) -> bool
     ensures { IsTrue result ↔ OnlyDeclares (draft_of checker.now) }
 {
-    checker.events.is_empty()
+    checker.left.is_empty() && checker.events.is_empty()
 }

@@ -1,16 +1,13 @@
 //! Lines of parts 1 and 3, one after the other.
-use script_checker::{Checker, Refusal, add};
-use script_grammar::{Fault, read_line};
+use script_checker::{Checker, Refusal};
+use script_grammar::Fault;
 use std::alloc::Global;
 use std::test::*;
 
 /// What is said of a line behind those that were taken.
 pub fn answer(alloc: Global, checker: &mut Checker, line: &str) -> Result<(), Refusal> {
     let mut words = Vec::new(alloc);
-    match read_line(alloc, line.as_bytes(), &mut words) {
-        Ok(line) => add(checker, line),
-        Err(_) => Err(Refusal::Fault(Fault::Word)),
-    }
+    checker.feed(line.as_bytes(), &mut words)
 }
 
 #[test]

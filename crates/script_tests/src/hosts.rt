@@ -5,8 +5,8 @@ use script_grammar::Fault;
 use std::alloc::Global;
 use std::test::*;
 
-// The lines of a network of two nodes.
-fn opened(alloc: Global) -> Result<Checker, Fail> {
+/// The lines of a network of two nodes.
+pub fn opened(alloc: Global) -> Result<Checker, Fail> {
     let mut checker = Checker::open(alloc).ok().ok_or("room")?;
     for line in [
         "node a",

@@ -5,3 +5,5 @@
 mod declared;
 #[cfg(test)]
 mod hosts;
+#[cfg(test)]
+mod left;

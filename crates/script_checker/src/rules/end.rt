@@ -1,6 +1,7 @@
 //! The rules of `end`.
 ghost use Rattle.std.specs.Prelude.{◌≡◌, ◌+◌, ◌<◌, ◌≤◌, ◌↔◌, ◌++◌, ◌∷◌, [], IfErr, IfSome, IsSome, None, OnOk, length};
 ghost use Rattle.script_words.specs.Addresses.{addr_value};
+ghost use Rattle.left_over.specs.Listed.{stale_in};
 ghost use Rattle.tree_routing.specs.Answers.{TakesEnd, with_end};
 ghost use Rattle.script_checker.specs.Checked.{draft_of};
 ghost use Rattle.script_checker.specs.Refusals.{OnlyNoMemory, Refuses};
@@ -65,6 +66,7 @@ fn iface_of(line: &EndLine) -> Option<Iface>
 fn declare(checker: &mut Checker, name: EndName, end: End) -> Result<(), Refusal>
     requires new { place_of checker.old.names name ≡ None }
     requires takes { TakesEnd checker.old.topology end }
+    requires early { stale_in checker.old.left ≡ [] }
     ensures ok { OnOk result (draft_of checker.new ≡ record (draft_of checker.old) { names = checker.old.names ++ name ∷ []; net = with_end checker.old.topology end }) }
     ensures refused { IfErr result OnlyNoMemory }
 {

@@ -28,6 +28,7 @@ pub fn add_node(checker: &mut Checker, name: EndName) -> Result<(), Refusal>
     if checker.nodes.len() >= MOST_NODES {
         return Err(Refusal::Fault(Fault::Limit));
     }
+    checker.left.add_node()?;
     checker.nodes.add(checker.alloc, name.bytes())?;
     checker.topology.add_node()?;
     Ok(())

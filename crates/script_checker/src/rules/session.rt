@@ -41,6 +41,19 @@ pub fn has_room_for_session(checker: &Checker, session: Session) -> bool
     }
 }
 
+/// Names a session.
+pub fn name_session(checker: &mut Checker, session: Session) -> Result<(), Refusal>
+    ensures ok { OnOk result (draft_of checker.new ≡ record (draft_of checker.old) { sessions = with_session checker.old.sessions.items session }) }
+    ensures left { checker.new.left ≡ checker.old.left }
+    ensures ends { checker.new.topology ≡ checker.old.topology }
+    ensures refused { IfErr result OnlyNoMemory }
+{
+    if !is_named(checker.sessions.as_slice(), session) {
+        checker.sessions.push(session)?;
+    }
+    Ok(())
+}
+
 /// Keeps an event of a session, which is named by it.
 pub fn keep_named(checker: &mut Checker, session: Session, event: Event) -> Result<(), Refusal>
     ensures ok { OnOk result (draft_of checker.new ≡ record (draft_of checker.old) { sessions = with_session checker.old.sessions.items session; events = map event_of checker.old.events.items ++ event_of event ∷ [] }) }

@@ -1,0 +1,19 @@
+use Rattle.std.proofs.Common.{◌≤◌, arith, length, subst}
+use Rattle.script_words.specs.Unread.{Misses}
+use Rattle.script_words.specs.declared.unread.Unread.{Unread}
+use Rattle.script_grammar.specs.Grammar.{too_long, unread}
+use Rattle.script_grammar.specs.LineKinds.{line_of}
+use Rattle.script_checker.specs.Checked.{draft_of}
+use Rattle.script_checker.proofs.FedLines.{fed}
+use Rattle.script_checker.proofs.checker.Checker.feed.Goals as goal
+
+pub returns-then-text-gt-MOST_LINE-clause-refused : goal.returns-then-text-gt-MOST_LINE-clause-refused
+returns-then-text-gt-MOST_LINE-clause-refused c = too_long (omega (arith, c.if-text-gt-MOST_LINE.true))
+
+pub returns-in-Ok-clause-refused : goal.returns-in-Ok-clause-refused
+returns-in-Ok-clause-refused c =
+    let short : length c.args.text.now ≤ 2048 = omega (arith, c.if-text-gt-MOST_LINE.false) in
+    fed (draft_of c.args.self.now) c.args.text.now c.in-Ok.line short c.in-Ok.ensures c.add.result c.add.ensures.refused
+
+pub returns-in-Err-Word-clause-refused : goal.returns-in-Err-Word-clause-refused
+returns-in-Err-Word-clause-refused c = unread (omega (arith, c.if-text-gt-MOST_LINE.false)) (subst (λ (e : Unread). Misses e (line_of c.args.text.now)) c.in-Err-Word.field-0-is c.in-Err-Word.ensures)

@@ -1,0 +1,255 @@
+//! The rules of what is left over.
+ghost use Rattle.std.specs.Prelude.{◌≡◌, ◌<◌, ◌≤◌, ◌↔◌, ◌*◌, ◌/◌, ◌^◌, [], IfErr, IfSome, IsSome, IsTrue, OnOk, length};
+ghost use Rattle.left_over.specs.AtNodes.{ifaces_at_node};
+ghost use Rattle.left_over.specs.Kept.{stale_of};
+ghost use Rattle.left_over.specs.Standing.{CanStand};
+ghost use Rattle.script_words.specs.Addresses.{addr_value};
+ghost use Rattle.script_words.specs.Flows.{flow_value};
+ghost use Rattle.script_words.specs.Sessions.{sender_value, session_value};
+ghost use Rattle.script_checker.specs.Checked.{draft_of};
+ghost use Rattle.script_checker.specs.LeftRefusals.{IsLeft, IsNotLeft};
+ghost use Rattle.script_checker.specs.Refusals.{Refuses};
+ghost use Rattle.script_grammar.specs.Adds.{Adds, with_stale};
+ghost use Rattle.script_grammar.specs.Draft.{end_number, lifetime, node_number, period_of, wall_lifetime};
+ghost use Rattle.script_grammar.specs.Rules.{IsEndOf, Keeps, KeepsAll};
+ghost use Rattle.script_grammar.specs.Values.{IsFrom1To, IsStaleHopWallInRange, IsStalePathInRange, IsStaleSenderWallInRange, IsSub};
+ghost use Rattle.script_grammar.specs.declared.line.Line.TheVariants as kind;
+
+use super::session::{has_room_for_session, name_session};
+use crate::checker::Checker;
+use crate::refusal::Refusal;
+use left_over::{Left, LeftErr};
+use path_state::PathFact;
+use rsvp_base::{Addr, Flow, Hop, Sender, Session};
+use script_grammar::{Fault, StaleHopWallLine, StalePathLine, StaleSenderWallLine};
+use script_words::EndName;
+use style_rules::{Target, Wall};
+
+// The period in milliseconds where no line gives one (RFC 2205, 3.7).
+const USUAL_PERIOD: u32 = 30_000;
+
+/// Adds a path that is left over.
+pub fn add_path(checker: &mut Checker, line: StalePathLine) -> Result<(), Refusal>
+    ensures ok { OnOk result (KeepsAll (Keeps (draft_of checker.old) (kind.StalePath line)) × Adds (draft_of checker.old) (kind.StalePath line) (draft_of checker.new)) }
+    ensures refused { IfErr result (Refuses (draft_of checker.old) (kind.StalePath line)) }
+{
+    if !is_before_events(checker) {
+        return Err(Refusal::Fault(Fault::Late));
+    }
+    let Some((session, sender, hop, tspec, left)) = path_values(checker, &line) else {
+        return Err(Refusal::Fault(Fault::Range));
+    };
+    let Some((node, end)) = end_of(checker, &line.node, &line.end) else {
+        return Err(Refusal::Fault(Fault::Name));
+    };
+    if checker.left.has_path(node, session, sender) {
+        return Err(Refusal::Fault(Fault::Twice));
+    }
+    let fact = PathFact {
+        session,
+        sender,
+        iface: checker.topology.iface_of(end),
+        hop: Hop {
+            addr: hop,
+            handle: 0,
+        },
+        tspec,
+        police: false,
+    };
+    leave(checker, node, session, Left::Path(fact), left)
+}
+
+/// Adds a blockade of a hop that is left over.
+pub fn add_hop_wall(checker: &mut Checker, line: StaleHopWallLine) -> Result<(), Refusal>
+    ensures ok { OnOk result (KeepsAll (Keeps (draft_of checker.old) (kind.StaleHopWall line)) × Adds (draft_of checker.old) (kind.StaleHopWall line) (draft_of checker.new)) }
+    ensures refused { IfErr result (Refuses (draft_of checker.old) (kind.StaleHopWall line)) }
+{
+    if !is_before_events(checker) {
+        return Err(Refusal::Fault(Fault::Late));
+    }
+    let Some((session, hop, wall, left)) = hop_wall_values(checker, &line) else {
+        return Err(Refusal::Fault(Fault::Range));
+    };
+    let Some((node, end)) = end_of(checker, &line.node, &line.end) else {
+        return Err(Refusal::Fault(Fault::Name));
+    };
+    let target = Target::Hop(checker.topology.iface_of(end), hop);
+    if checker.left.has_wall(node, session, target) {
+        return Err(Refusal::Fault(Fault::Twice));
+    }
+    leave(
+        checker,
+        node,
+        session,
+        Left::Wall(session, target, wall),
+        left,
+    )
+}
+
+/// Adds a blockade of a sender that is left over.
+pub fn add_sender_wall(checker: &mut Checker, line: StaleSenderWallLine) -> Result<(), Refusal>
+    ensures ok { OnOk result (KeepsAll (Keeps (draft_of checker.old) (kind.StaleSenderWall line)) × Adds (draft_of checker.old) (kind.StaleSenderWall line) (draft_of checker.new)) }
+    ensures refused { IfErr result (Refuses (draft_of checker.old) (kind.StaleSenderWall line)) }
+{
+    if !is_before_events(checker) {
+        return Err(Refusal::Fault(Fault::Late));
+    }
+    let Some((session, sender, wall, left)) = sender_wall_values(checker, &line) else {
+        return Err(Refusal::Fault(Fault::Range));
+    };
+    let Some(node) = checker.nodes.find(line.node.bytes()) else {
+        return Err(Refusal::Fault(Fault::Name));
+    };
+    let node = node as u16;
+    let target = Target::Sender(sender);
+    if checker.left.has_wall(node, session, target) {
+        return Err(Refusal::Fault(Fault::Twice));
+    }
+    leave(
+        checker,
+        node,
+        session,
+        Left::Wall(session, target, wall),
+        left,
+    )
+}
+
+// Whether no event came yet.
+fn is_before_events(checker: &Checker) -> bool
+    ensures { IsTrue result ↔ ((draft_of checker.now).events ≡ []) }
+{
+    checker.events.is_empty()
+}
+
+// The period, in milliseconds.
+fn period(checker: &Checker) -> u32
+    ensures period { result ≡ period_of (draft_of checker.now) }
+    ensures minute { result ≤ 60000 }
+{
+    checker.period.unwrap_or(USUAL_PERIOD)
+}
+
+// How long a path or a reservation lives, in milliseconds.
+fn state_life(checker: &Checker) -> u32
+    ensures { result ≡ lifetime (period_of (draft_of checker.now)) }
+{
+    21 * (period(checker) / 4)
+}
+
+// How long a blockade lives, in milliseconds.
+fn wall_life(checker: &Checker) -> u32
+    ensures { result ≡ wall_lifetime (period_of (draft_of checker.now)) }
+{
+    4 * period(checker)
+}
+
+// What is left of a life of so many milliseconds.
+fn left_of(life: u32, left: u128) -> Option<u32>
+    ensures some { IsSome result ↔ IsFrom1To life left }
+    ensures value { IfSome result (λ n. n ≡ left) }
+{
+    if left == 0 || left > u128::from(life) {
+        return None;
+    }
+    Some(left as u32)
+}
+
+// The values of a line's words, where all are in range.
+fn path_values(
+    checker: &Checker,
+    line: &StalePathLine,
+) -> Option<(Session, Sender, Addr, Flow, u32)>
+    ensures some { IsSome result ↔ IsStalePathInRange (period_of (draft_of checker.now)) line.now }
+    ensures value { IfSome result (λ v. (v.0 ≡ session_value line.now.session) × (v.1 ≡ sender_value line.now.sender) × (v.2 ≡ addr_value line.now.hop) × (v.3 ≡ flow_value line.now.flow) × (v.4 ≡ line.now.left)) }
+{
+    Some((
+        line.session.session()?,
+        line.sender.sender()?,
+        line.hop.addr()?,
+        line.flow.flow()?,
+        left_of(state_life(checker), line.left)?,
+    ))
+}
+
+// The value of the error that set a blockade: 2 for the rate, 3 for the packet size (RFC 2205, appendix B).
+fn sub_of(sub: u128) -> Option<u16>
+    ensures some { IsSome result ↔ IsSub sub }
+    ensures value { IfSome result (λ n. n ≡ sub) }
+{
+    if sub == 2 || sub == 3 {
+        return Some(sub as u16);
+    }
+    None
+}
+
+// The values of a line's words, where all are in range.
+fn hop_wall_values(checker: &Checker, line: &StaleHopWallLine) -> Option<(Session, Addr, Wall, u32)>
+    ensures some { IsSome result ↔ IsStaleHopWallInRange (period_of (draft_of checker.now)) line.now }
+    ensures value { IfSome result (λ v. (v.0 ≡ session_value line.now.session) × (v.1 ≡ addr_value line.now.hop) × (v.2 ≡ record { flow = flow_value line.now.flow; sub = line.now.sub }) × (v.3 ≡ line.now.left)) }
+{
+    let session = line.session.session()?;
+    let hop = line.hop.addr()?;
+    let sub = sub_of(line.sub)?;
+    let flow = line.flow.flow()?;
+    let left = left_of(wall_life(checker), line.left)?;
+    Some((session, hop, Wall { flow, sub }, left))
+}
+
+// The values of a line's words, where all are in range.
+fn sender_wall_values(
+    checker: &Checker,
+    line: &StaleSenderWallLine,
+) -> Option<(Session, Sender, Wall, u32)>
+    ensures some { IsSome result ↔ IsStaleSenderWallInRange (period_of (draft_of checker.now)) line.now }
+    ensures value { IfSome result (λ v. (v.0 ≡ session_value line.now.session) × (v.1 ≡ sender_value line.now.sender) × (v.2 ≡ record { flow = flow_value line.now.flow; sub = line.now.sub }) × (v.3 ≡ line.now.left)) }
+{
+    let session = line.session.session()?;
+    let sender = line.sender.sender()?;
+    let sub = sub_of(line.sub)?;
+    let flow = line.flow.flow()?;
+    let left = left_of(wall_life(checker), line.left)?;
+    Some((session, sender, Wall { flow, sub }, left))
+}
+
+// A node and its end, where both were declared and the end is of the node.
+fn end_of(checker: &Checker, node: &EndName, end: &EndName) -> Option<(u16, u16)>
+    ensures some { IsSome result ↔ IsEndOf (draft_of checker.now) node.now end.now }
+    ensures node { IfSome result (λ p. p.0 ≡ node_number (draft_of checker.now) node.now) }
+    ensures end { IfSome result (λ p. p.1 ≡ end_number (draft_of checker.now) end.now) }
+    ensures node_there { IfSome result (λ p. p.0 < length checker.now.nodes) }
+    ensures end_there { IfSome result (λ p. p.1 < length checker.now.topology.ends) }
+{
+    let node = checker.nodes.find(node.bytes())? as u16;
+    let end = checker.names.find(end.bytes())? as u16;
+    if checker.topology.node_of(end) != node {
+        return None;
+    }
+    Some((node, end))
+}
+
+// Keeps a fact that is left over at a node, and names its session.
+fn leave(
+    checker: &mut Checker,
+    node: u16,
+    session: Session,
+    fact: Left,
+    left: u32,
+) -> Result<(), Refusal>
+    requires there { node < length checker.old.nodes }
+    requires some { 1 ≤ left }
+    requires fit { CanStand (ifaces_at_node checker.old.topology.ends node) fact }
+    ensures left { OnOk result (IsLeft (draft_of checker.old) node session (stale_of fact left)) }
+    ensures kept { OnOk result (draft_of checker.new ≡ with_stale (draft_of checker.old) node session (stale_of fact left)) }
+    ensures refused { IfErr result (IsNotLeft (draft_of checker.old) node session (stale_of fact left)) }
+{
+    if !has_room_for_session(checker, session) {
+        return Err(Refusal::Fault(Fault::Limit));
+    }
+    name_session(checker, session)?;
+    match checker.left.add(checker.topology.ends(), node, fact, left) {
+        Ok(()) => Ok(()),
+        Err(LeftErr::Full) => Err(Refusal::Fault(Fault::Limit)),
+        Err(LeftErr::Over) => Err(Refusal::Fault(Fault::Over)),
+        Err(LeftErr::NoMemory) => Err(Refusal::NoMemory),
+    }
+}
