@@ -1,13 +1,15 @@
 -- What a line changes of a run: nothing, or it adds one event.
-use Rattle.std.proofs.Common.{◌≡◌, ◌≢◌, ◌⊎◌, ℕ, List, [], ◌∷◌, ◌++◌, length, refl, sym, ap, subst, ◌∙◌, append-nil, arith, inl, inr, length-append}
+use Rattle.std.proofs.Common.{◌≡◌, ◌≢◌, ◌⊎◌, ◌≤◌, Some, ℕ, List, [], ◌∷◌, ◌++◌, length, refl, sym, ap, subst, ◌∙◌, append-nil, arith, inl, inr, length-append}
 use Rattle.network_model.specs.Events.{Event, all_steps}
 use Rattle.network_model.specs.Runs.{Plan, crowds, first_world, text_of, uncrowded}
 use Rattle.script_grammar.specs.Adds.{Adds}
 use Rattle.script_grammar.specs.Draft.{Draft, plan_of}
 use Rattle.script_grammar.specs.Grammar.{Follows, Happens}
+use Rattle.script_grammar.specs.LineKinds.{line_of}
 use Rattle.script_grammar.specs.declared.line.Line.{Line}
 use Rattle.script_grammar.specs.declared.line.Line.TheVariants as line
 use Rattle.script_grammar.proofs.Happening.{adds_one_event, events_alone}
+use Rattle.network_run.specs.Playing.{IsRunOn}
 use Rattle.network_run.specs.Written.{IsRunSoFar, with_event}
 
 -- ---- events stay where nothing happens
@@ -89,3 +91,12 @@ event_line d t new e f added = elim (keeps_events d f.said new f.adds) [
       one.plan ∙ ap (with_event (plan_of d)) same)
   | inr s ↦ absurd (not_longer d.events e (sym s ∙ added))
 ]
+
+-- ---- a line that is skipped
+pub skipped_on : (stands : Draft → Type 0) (d : Draft) (t said : List ℕ) → length t ≤ 2048 → line_of t ≡ Some line.Skipped → stands d → IsRunSoFar d said → IsRunOn stands d t said []
+skipped_on stands d t said short reads there run = record {
+  new = d;
+  follows = record { short = short; said = line.Skipped; reads = reads; valid = record { in_time = tt; in_range = tt; known = tt; new = tt; of_style = tt; within_limits = tt; of_tree = tt; within_capacity = tt; loop_free = tt }; adds = refl };
+  stands_there = there;
+  run = subst (λ (s : List ℕ). IsRunSoFar d s) (sym (append-nil said)) run;
+}

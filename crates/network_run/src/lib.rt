@@ -9,6 +9,8 @@ mod ending;
 pub mod laws;
 mod player;
 mod running;
+#[cfg(test)]
+mod tests;
 
 pub use ending::Ending;
 pub use player::{Player, Stop};
