@@ -1,5 +1,5 @@
 -- What it is to check a line, and what the lines before all events declare.
-use Rattle.std.specs.Prelude.{◌≡◌, ℕ, ◌*◌, ◌^◌, ◌<◌, ◌≤◌, List, [], ◌∷◌, ◌++◌, Option, None, Some, Result, Ok, Err}
+use Rattle.std.specs.Prelude.{◌≡◌, ℕ, ◌≤◌, List, [], ◌∷◌, ◌++◌, Option, None, Some, Result, Ok, Err}
 use Rattle.std.specs.List.{All}
 use Rattle.left_over.specs.AtNodes.{ifaces_at_node}
 use Rattle.left_over.specs.Standing.{CanStand}
@@ -40,7 +40,7 @@ Feeds d line (Err NoMemory) new = Unit {0}
 pub record IsStartOf (s : Start) (p : Plan) : Type 0 where
   pub opened : IsOpenedBy p s.quarter s.seed s.routing s.names.items
   pub long : 1 ≤ s.quarter
-  pub short : 4 * s.quarter < 2 ^ 32
+  pub short : s.quarter ≤ 15000
 
 -- each lives on, and can stand at its node
 abbrev pub AreFit : Net → List LeftOver → Type 0

@@ -23,7 +23,7 @@ pub enum Refused {
 /// What the lines before all events declare.
 #[derive(Drop)]
 pub struct Start {
-    /// A quarter of the refresh period, in milliseconds.
+    /// A quarter of the refresh period, in milliseconds, from 1 to 15,000.
     pub quarter: u32,
     /// Where the random words start.
     pub seed: u64,

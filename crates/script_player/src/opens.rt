@@ -1,5 +1,5 @@
 //! Routers that a network can be made of.
-ghost use Rattle.std.specs.Prelude.{◌≡◌, IfOk, map};
+ghost use Rattle.std.specs.Prelude.{◌≡◌, ◌≤◌, IfOk, map};
 ghost use Rattle.left_over.specs.AtNodes.{list_of};
 ghost use Rattle.network_model.specs.Runs.{Plan};
 ghost use Rattle.net_replay.specs.Opening.{AreFirst, ArePlaced};
@@ -14,7 +14,8 @@ use tree_routing::Routing;
 /// Routers that a network can be made of.
 pub trait Opens: Router + Drop {
     /// The routers of a network before anything happened, one for each node: each stands where the network has it, with a route
-    /// for each tree, and keeps what is left over at it. `quarter` is a quarter of the refresh period, in milliseconds.
+    /// for each tree, and keeps what is left over at it. `quarter` is a quarter of the refresh period, in milliseconds, which is at
+    /// most a minute.
     /// `NoMemory`: there was no room for them.
     fn open_all(
         alloc: Global,
@@ -22,7 +23,9 @@ pub trait Opens: Router + Drop {
         routing: &Routing,
         left: &[LeftOver],
     ) -> Result<Vec<Self>, NoMemory>
-        requires { AreFit routing.now left.now }
+        requires long { 1 ≤ quarter }
+        requires short { quarter ≤ 15000 }
+        requires fit { AreFit routing.now left.now }
         ensures placed { IfOk result (λ v. ArePlaced quarter routing.now (map Self.seen.place v.items)) }
         ensures first { IfOk result (λ v. (p : Plan) → p.quarter ≡ quarter → p.net ≡ routing.now → p.stale ≡ list_of left.now → AreFirst Self.seen p v.items) };
 }
