@@ -6,3 +6,4 @@ mod Standing
 mod Sending
 mod Mine
 mod Left
+mod Waited

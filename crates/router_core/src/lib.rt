@@ -3,7 +3,7 @@
 //!
 //! Each call is the rule of a router (`router_rules`): the facts after, what is heard, each refusal, and what is sent, in
 //! order. A node takes each message, and bytes that spell none; local senders and receivers come and go at it; facts are left
-//! over at it; and it is cleared. The marks of local receivers that wish to hear are used as the rule uses them. Its book is
+//! over at it; time passes; its routes move; and it is cleared. The marks of local receivers that wish to hear are used as the rule uses them. Its book is
 //! that of its facts.
 #![tactic(auto)]
 
@@ -15,9 +15,11 @@ mod node;
 mod opening;
 mod paths;
 mod resvs;
+mod routing;
 mod senders;
 mod stale;
 mod telling;
+mod waiting;
 mod wants;
 
 pub use node::Node;

@@ -12,6 +12,7 @@ use lane_state::LaneTable;
 use node_tables::Tables;
 use node_telling::Config;
 use rsvp_base::{EntryKey, Flow, NoMemory};
+use session_rounds::Rooms;
 use std::alloc::Global;
 use std::marker::Model;
 
@@ -21,6 +22,7 @@ use std::marker::Model;
 pub struct Node {
     pub(crate) tables: Tables,
     pub(crate) said: LaneTable,
+    pub(crate) rooms: Rooms,
     ghost sound: { AreSound tables },
     ghost settled: { IsSettled (state_of tables said) },
     ghost told: { IsSaid said (state_of tables said) },
@@ -43,7 +45,12 @@ impl Node {
     {
         let tables = open_tables(alloc, config)?;
         let said = LaneTable::open(alloc)?;
-        Ok(Node { tables, said })
+        let rooms = Rooms::open(alloc)?;
+        Ok(Node {
+            tables,
+            said,
+            rooms,
+        })
     }
 
     /// Where it stands.
