@@ -7,3 +7,4 @@ mod Sending
 mod Mine
 mod Left
 mod Waited
+mod Booking

@@ -8,6 +8,7 @@
 #![tactic(auto)]
 
 mod arriving;
+mod booked;
 mod clearing;
 mod confirming;
 mod errors;
