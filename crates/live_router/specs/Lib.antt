@@ -1,0 +1,2 @@
+pub mod SeenNode
+pub mod Living

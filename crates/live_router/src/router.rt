@@ -1,0 +1,72 @@
+//! What a network asks of a router.
+
+use crate::live_router::LiveRouter;
+use net_replay::{LocalCall, Router};
+use node_telling::Outbox;
+use router_rules::{Entry, Heard, LocalErr, Route};
+use rsvp_base::Addr;
+use rsvp_messages::{Message, MsgErr};
+use std::mem;
+
+impl Router for LiveRouter {
+    ghost use Rattle.live_router.specs.SeenNode.{seen_node};
+
+    ghost seen = { seen_node };
+
+    fn arrive<O: Outbox>(&mut self, iface: u8, dst: Addr, message: &Message, out: &mut O) -> Heard {
+        self.node.arrive(iface, dst, message, out)
+    }
+
+    fn arrive_unspelt<O: Outbox>(
+        &mut self,
+        iface: u8,
+        dst: Addr,
+        fault: &MsgErr,
+        out: &mut O,
+    ) -> Heard {
+        self.node.unspelt(iface, dst, fault, out)
+    }
+
+    fn wait<O: Outbox>(&mut self, ms: u32, word: u32, out: &mut O) {
+        self.node.wait(ms, word, out);
+    }
+
+    fn call<O: Outbox>(&mut self, call: &LocalCall, out: &mut O) -> Result<(), LocalErr> {
+        match call {
+            LocalCall::Send {
+                session,
+                sender,
+                flow,
+            } => self.node.local_send(*session, *sender, *flow, out),
+            LocalCall::Gone { session, sender } => self.node.local_drop(*session, *sender, out),
+            LocalCall::Want {
+                session,
+                style,
+                senders,
+                flow,
+                confirm,
+            } => self
+                .node
+                .local_want(*session, *style, senders, *flow, *confirm, out),
+            LocalCall::Quit { session } => self.node.local_quit(*session, out),
+        }
+    }
+
+    fn clear(&mut self) {
+        self.node.clear();
+    }
+
+    fn route<O: Outbox>(&mut self, routes: &[Route], out: &mut O) {
+        self.spare.copy_from_slice(routes);
+        let next = mem::replace(&mut self.spare, Vec::new(self.alloc));
+        self.spare = self.node.route(next, out);
+    }
+
+    fn held(&self, iface: u8) -> u64 {
+        self.node.held(iface)
+    }
+
+    fn entry(&self, iface: u8, k: usize) -> Option<Entry> {
+        self.node.entry_at(iface, k)
+    }
+}
