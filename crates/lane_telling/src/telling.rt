@@ -151,13 +151,5 @@ pub fn keep_said(
     let _sender = sender;
     let hops = tables.paths.hops(session);
     clear_lanes(tables, said, session, near);
-    tell_lanes(
-        tables,
-        said,
-        session,
-        &hops,
-        None,
-        false,
-        &mut Nowhere,
-    );
+    tell_lanes(tables, said, session, &hops, None, false, &mut Nowhere);
 }
