@@ -1,0 +1,2 @@
+mod Routes
+mod Opened

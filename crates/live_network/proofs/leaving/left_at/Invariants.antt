@@ -1,0 +1,12 @@
+use Rattle.std.proofs.Common.{◌≡◌, drop}
+use Rattle.left_over.specs.AtNodes.{list_of}
+use Rattle.network_model.specs.Runs.{left_over}
+use Rattle.node_facts.specs.State.{facts_at}
+use Rattle.live_network.proofs.leaving.left_at.Given as goal
+
+-- what is still to come makes of it what all make of the first
+abbrev pub invariant-loop-one : goal.invariant-loop-one
+invariant-loop-one l = record {
+  facts : left_over l.initial.router.place l.node (list_of (drop l.one-index l.left)) (facts_at 0 l.router) ≡ left_over l.initial.router.place l.node (list_of l.left) (facts_at 0 l.initial.router);
+  place : l.router.place ≡ l.initial.router.place;
+}
