@@ -43,7 +43,7 @@ use Rattle.script_laws.proofs.FitLinks.{FitLinks, fit_links_first, fit_links_lin
 use Rattle.script_laws.proofs.Leading.{led}
 use Rattle.script_laws.proofs.LeftOverLines.{each_script_leaves_fit_facts, Fitting, fitting_first, fitting_line, some_named, sound}
 use Rattle.script_laws.proofs.Senders.{not_empty}
-use Rattle.script_laws.proofs.ValidReroutes.{valid_rerouted}
+use Rattle.tree_routing.proofs.ValidReroutes.{valid_rerouted}
 use Rattle.script_laws.proofs.Words.{Formed, formed, IsWantForm, length_each}
 
 -- ---- events one after another

@@ -1,4 +1,3 @@
-pub mod ValidReroutes
 pub mod Leading
 pub mod Senders
 pub mod SenderLines

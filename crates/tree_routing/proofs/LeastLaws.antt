@@ -19,7 +19,8 @@ take_one_more [] i d lt = absurd (omega arith)
 take_one_more (x ∷ xs) zero d lt = refl
 take_one_more {X} (x ∷ xs) (suc i) d lt = let e : suc i + 1 ≡ suc (i + 1) = omega arith in ap (λ (n : ℕ). take n (x ∷ xs)) e ∙ ap (λ (ys : List X). x ∷ ys) (take_one_more xs i d (omega arith))
 
-up_order : (a b : LinkHop) → IsUpTo a b ⊎ (IsUpTo a b → ⊥)
+-- one is at most the other, or not
+pub up_order : (a b : LinkHop) → IsUpTo a b ⊎ (IsUpTo a b → ⊥)
 up_order a b = by_from (grind arith)
   where
     by_to : a.from ≡ b.from → (a.to ≤ b.to) ⊎ (b.to < a.to) → IsUpTo a b ⊎ (IsUpTo a b → ⊥)

@@ -9,7 +9,7 @@ use Rattle.tree_model.specs.declared.hops.End.{End}
 use Rattle.tree_model.specs.declared.hops.LinkHop.{LinkHop}
 use Rattle.tree_model.specs.declared.hops.TreeHop.{TreeHop}
 use Rattle.tree_model.specs.Networks.{Net, node_of}
-use Rattle.tree_model.specs.Trees.{of_group, tree, hops_of}
+use Rattle.tree_model.specs.Trees.{of_group, tree, hops_of, IsGrown}
 use Rattle.tree_model.specs.Chains.{largest, height}
 use Rattle.tree_model.specs.Ranks.{Follows, followers, rank, rank_of, longest}
 use Rattle.tree_model.specs.Valid.{IsValid}
@@ -19,7 +19,7 @@ use Rattle.rsvp_base.proofs.Lists.{length_filter}
 use Rattle.tree_model.proofs.Following.{follower_follows, follower_of_group}
 use Rattle.tree_model.proofs.Heights.{largest_is, height_le, height_enough}
 use Rattle.tree_model.proofs.RankLaws.{rank_of_hop, rank_some, rank_falls_at}
-use Rattle.tree_model.proofs.TreeLaws.{one}
+use Rattle.tree_model.proofs.TreeLaws.{one_into}
 use Rattle.tree_routing.specs.declared.known.Known.{Known}
 use Rattle.tree_routing.specs.declared.link.Link.{Link}
 use Rattle.tree_routing.specs.Known.{plain, net_of, is_pair, vertex_at, AreKnown}
@@ -64,7 +64,7 @@ set_at_most (l ∷ ls) (suc a) x zero b le f = le
 set_at_most (l ∷ ls) (suc a) x (suc v) b le f = set_at_most ls a x v b le (λ e. f (ap suc e))
 
 -- ---- along an edge
-length_along : (o : Option ℕ) (v : ℕ) (ls : List ℕ) → length (lift_along o v ls) ≡ length ls
+pub length_along : (o : Option ℕ) (v : ℕ) (ls : List ℕ) → length (lift_along o v ls) ≡ length ls
 length_along None v ls = refl
 length_along (Some a) v ls = by (rises (Some a) v ls)
   where
@@ -80,7 +80,7 @@ rises_told a v ls e = grind (arith, nat_tests)
 rests_told : (a v : ℕ) (ls : List ℕ) → rises (Some a) v ls ≡ false → a < length ls → level ls v < 65535 → level ls v + 1 ≤ level ls a
 rests_told a v ls e inside lt = grind (arith, nat_tests)
 
-along_more : (o : Option ℕ) (v : ℕ) (ls : List ℕ) (w : ℕ) → level ls w ≤ level (lift_along o v ls) w
+pub along_more : (o : Option ℕ) (v : ℕ) (ls : List ℕ) (w : ℕ) → level ls w ≤ level (lift_along o v ls) w
 along_more None v ls w = omega arith
 along_more (Some a) v ls w = by (rises (Some a) v ls) refl
   where
@@ -88,7 +88,7 @@ along_more (Some a) v ls w = by (rises (Some a) v ls) refl
     by true t = let le = rises_told a v ls t in set_at_least ls a (level ls v + 1) w (omega arith)
     by false t = omega arith
 
-along_edge : (a v : ℕ) (ls : List ℕ) → a < length ls → level ls v < 65535 → level ls v + 1 ≤ level (lift_along (Some a) v ls) a
+pub along_edge : (a v : ℕ) (ls : List ℕ) → a < length ls → level ls v < 65535 → level ls v + 1 ≤ level (lift_along (Some a) v ls) a
 along_edge a v ls inside small = by (rises (Some a) v ls) refl
   where
     by : (b : Bool) → rises (Some a) v ls ≡ b → level ls v + 1 ≤ level (if b then slice_set ls a (level ls v + 1) else ls) a
@@ -106,11 +106,11 @@ along_most (Some a) v ls top f most w = by (rises (Some a) v ls)
     by false = most w
 
 -- ---- along all of them
-length_lift : (ks : List Known) (ls : List ℕ) → length (lift ks ls) ≡ length ls
+pub length_lift : (ks : List Known) (ls : List ℕ) → length (lift ks ls) ≡ length ls
 length_lift [] ls = refl
 length_lift (k ∷ ks) ls = length_lift ks (lift_along k.before k.vertex ls) ∙ length_along k.before k.vertex ls
 
-lift_more : (ks : List Known) (ls : List ℕ) (w : ℕ) → level ls w ≤ level (lift ks ls) w
+pub lift_more : (ks : List Known) (ls : List ℕ) (w : ℕ) → level ls w ≤ level (lift ks ls) w
 lift_more [] ls w = omega arith
 lift_more (k ∷ ks) ls w = let a = along_more k.before k.vertex ls w in let b = lift_more ks (lift_along k.before k.vertex ls) w in omega arith
 
@@ -148,14 +148,32 @@ one_level zero v = omega arith
 one_level (suc n) zero = omega arith
 one_level (suc n) (suc v) = one_level n v
 
-level_one : (n v : ℕ) → v < n → level (replicate n 1) v ≡ 1
+pub level_one : (n v : ℕ) → v < n → level (replicate n 1) v ≡ 1
 level_one zero v lt = absurd (omega arith)
 level_one (suc n) zero lt = refl
 level_one (suc n) (suc v) lt = level_one n v (omega arith)
 
-length_ones : (n : ℕ) → length {A = ℕ} (replicate n 1) ≡ n
+pub length_ones : (n : ℕ) → length {A = ℕ} (replicate n 1) ≡ n
 length_ones zero = refl
 length_ones (suc n) = ap suc (length_ones n)
+
+-- ---- edges of the graph
+module _ (nodes : ℕ) (ends : List End) (links : List Link) (ks : List Known) (grown : (g s : Addr) → IsGrown (net_of nodes ends links ks) s (tree (plain ks) g s)) (known : AreKnown ends ks) where
+  abbrev graph : Net
+  graph = net_of nodes ends links ks
+
+  -- each follower stands behind an edge
+  pub edge_of : (g : Addr) (a b : LinkHop) → Follows graph g a b → (k : Known) × In k ks × (k.hop.group ≡ g) × (k.hop.hop ≡ b) × (k.before ≡ Some (vertex_at ks g a))
+  edge_of g a b f =
+      let x = tree_known ks g f.source a f.first in
+      let k = tree_known ks g f.source b f.second in
+      let to : node_of ends x.0.hop.hop.to ≡ node_of ends k.0.hop.hop.from = ap (λ (y : LinkHop). node_of ends y.to) x.4 ∙ sym f.meet ∙ ap (λ (y : LinkHop). node_of ends y.from) (sym k.4) in
+      let y = before_found ends k.0.hop ks x.0 x.1 (comes_made ends k.0.hop x.0 (x.2 ∙ sym k.2) (x.3 ∙ sym k.3) to) in
+      let c = comes_told ends k.0.hop y.0 y.2 in
+      let in_both : In y.0.hop.hop (tree (plain ks) g f.source) = subst (λ (s : Addr). In y.0.hop.hop (tree (plain ks) g s)) (c.1 ∙ k.3) (subst (λ (d : Addr). In y.0.hop.hop (tree (plain ks) d y.0.hop.source)) (c.0 ∙ k.2) (known_tree ks y.0 y.1)) in
+      let is : y.0.hop.hop ≡ a = one_into graph f.source [] (tree (plain ks) g f.source) (grown g f.source) y.0.hop.hop a in_both f.first (c.2 ∙ ap (λ (z : LinkHop). node_of ends z.from) k.4 ∙ f.meet) in
+      let vertex : y.0.vertex ≡ vertex_at ks g a = (known y.0 y.1).vertex ∙ ap (λ (d : Addr). vertex_at ks d y.0.hop.hop) (c.0 ∙ k.2) ∙ ap (λ (z : LinkHop). vertex_at ks g z) is in
+      (k.0, k.1, k.2, k.4, (known k.0 k.1).before ∙ y.3 ∙ ap Some vertex)
 
 -- ---- the rank of the hop at a vertex
 module _ (nodes : ℕ) (ends : List End) (links : List Link) (ks : List Known) (valid : IsValid (net_of nodes ends links ks)) (known : AreKnown ends ks) where
@@ -239,19 +257,6 @@ module _ (nodes : ℕ) (ends : List End) (links : List Link) (ks : List Known) (
       let same = ap top x.3 in
       omega arith
 
-  -- each follower stands behind an edge
-  pub edge_of : (g : Addr) (a b : LinkHop) → Follows net g a b → (k : Known) × In k ks × (k.hop.group ≡ g) × (k.hop.hop ≡ b) × (k.before ≡ Some (vertex_at ks g a))
-  edge_of g a b f =
-      let x = tree_known ks g f.source a f.first in
-      let k = tree_known ks g f.source b f.second in
-      let to : node_of ends x.0.hop.hop.to ≡ node_of ends k.0.hop.hop.from = ap (λ (y : LinkHop). node_of ends y.to) x.4 ∙ sym f.meet ∙ ap (λ (y : LinkHop). node_of ends y.from) (sym k.4) in
-      let y = before_found ends k.0.hop ks x.0 x.1 (comes_made ends k.0.hop x.0 (x.2 ∙ sym k.2) (x.3 ∙ sym k.3) to) in
-      let c = comes_told ends k.0.hop y.0 y.2 in
-      let in_both : In y.0.hop.hop (tree (plain ks) g f.source) = subst (λ (s : Addr). In y.0.hop.hop (tree (plain ks) g s)) (c.1 ∙ k.3) (subst (λ (d : Addr). In y.0.hop.hop (tree (plain ks) d y.0.hop.source)) (c.0 ∙ k.2) (known_tree ks y.0 y.1)) in
-      let is : y.0.hop.hop ≡ a = one net valid g f.source y.0.hop.hop a in_both f.first (c.2 ∙ ap (λ (z : LinkHop). node_of ends z.from) k.4 ∙ f.meet) in
-      let vertex : y.0.vertex ≡ vertex_at ks g a = (known y.0 y.1).vertex ∙ ap (λ (d : Addr). vertex_at ks d y.0.hop.hop) (c.0 ∙ k.2) ∙ ap (λ (z : LinkHop). vertex_at ks g z) is in
-      (k.0, k.1, k.2, k.4, (known k.0 k.1).before ∙ y.3 ∙ ap Some vertex)
-
   -- levels that are at least so high, and no higher than ranks
   record High (j : ℕ) (ls : List ℕ) : Type 0 where
     size : length ls ≡ length ks
@@ -284,7 +289,7 @@ module _ (nodes : ℕ) (ends : List End) (links : List Link) (ks : List Known) (
           let a = h.some k i in let b = lift_more ks ls k.vertex in omega arith
       by k i (inr x) =
           let g = k.hop.group in
-          let y = edge_of g k.hop.hop x.0 (follower_follows net g k.hop.hop x.0 x.1) in
+          let y = edge_of nodes ends links ks valid.grown known g k.hop.hop x.0 (follower_follows net g k.hop.hop x.0 x.1) in
           let before : y.0.before ≡ Some k.vertex = y.4 ∙ ap Some (sym (known k i).vertex) in
           let up = lift_edge top top_small ks ls edge_falls h.most y.0 y.1 k.vertex before (let lt = vertex_below ends ks known k i in let s = h.size in omega arith) in
           let low : height (followers net g) j x.0 ≤ level ls y.0.vertex = subst (λ (z : LinkHop). height (followers net g) j z ≤ level ls y.0.vertex) y.3 (subst (λ (d : Addr). height (followers net d) j y.0.hop.hop ≤ level ls y.0.vertex) y.2 (h.least y.0 y.1)) in

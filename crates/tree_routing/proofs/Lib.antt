@@ -4,6 +4,7 @@ pub mod Vertices
 pub mod LeastLaws
 pub mod Loops
 pub mod Carried
+pub mod ValidReroutes
 pub mod ValidMore
 pub mod LevelLaws
 pub mod KeyLaws
@@ -11,3 +12,7 @@ pub mod HopLaws
 pub mod WayLaws
 pub mod OrderLaws
 pub mod Together
+pub mod Rebuilt
+pub mod ClosedChains
+pub mod ClosedLevels
+pub mod ReroutedLaws

@@ -63,23 +63,23 @@ module _ {A : Type 0} (Old New : A → A → Type 0) (IsBefore : A → Type 0) (
 -- ---- walks round a closed list
 module _ {A : Type 0} (S : A → A → Type 0) where
   -- a walk by way of one of its own, cut there
-  record Cut (h : A) (c : List A) (x : A) : Type 0 where
-    to : Walk S h x
-    from : Walk S x (last_of h c)
+  pub record Cut (h : A) (c : List A) (x : A) : Type 0 where
+    pub to : Walk S h x
+    pub from : Walk S x (last_of h c)
 
-  cut : (h : A) (c : List A) → Steps S h c → (x : A) → In x (h ∷ c) → Cut h c x
+  pub cut : (h : A) (c : List A) → Steps S h c → (x : A) → In x (h ∷ c) → Cut h c x
   cut h c steps x (inl e) = record { to = subst (λ (z : A). Walk S h z) (sym e) (walk_none S h); from = subst (λ (z : A). Walk S z (last_of h c)) (sym e) (record { path = c; steps = steps; ends = refl }) }
   cut h [] steps x (inr i) = absurd i
   cut h (y ∷ ys) steps x (inr i) = let r = cut y ys steps.1 x i in record { to = walk_step S h y x steps.0 r.to; from = r.from }
 
   -- a walk that begins with a step
-  record Round (x : A) : Type 0 where
-    next : A
-    rest : List A
-    steps : Steps S x (next ∷ rest)
-    ends : last_of next rest ≡ x
+  pub record Round (x : A) : Type 0 where
+    pub next : A
+    pub rest : List A
+    pub steps : Steps S x (next ∷ rest)
+    pub ends : last_of next rest ≡ x
 
-  round_of : (x z h : A) → Walk S x z → S z h → Walk S h x → Round x
+  pub round_of : (x z h : A) → Walk S x z → S z h → Walk S h x → Round x
   round_of x z h w s back = by w.path w.steps w.ends
     where
       go : (y : A) (path : List A) → Steps S y path → last_of y path ≡ z → Walk S y x
@@ -89,6 +89,21 @@ module _ {A : Type 0} (S : A → A → Type 0) where
       by : (path : List A) → Steps S x path → last_of x path ≡ z → Round x
       by [] steps e = record { next = h; rest = back.path; steps = (subst (λ (a : A). S a h) (sym e) s, back.steps); ends = back.ends }
       by (a ∷ more) steps e = let r = go a more steps.1 e in record { next = a; rest = r.path; steps = (steps.0, r.steps); ends = r.ends }
+
+-- ---- chains as walks
+module _ (net : Net) (g : Addr) where
+  pub chain_steps : (h : LinkHop) (c : List LinkHop) → Chain (followers net g) (hops_of net.hops g) (h ∷ c) → Steps (Follows net g) h c
+  chain_steps h [] chain = tt
+  chain_steps h (y ∷ ys) chain = (follower_follows net g h y chain.1, chain_steps y ys chain.2)
+
+  pub chain_all : (c : List LinkHop) → Chain (followers net g) (hops_of net.hops g) c → (x : LinkHop) → In x c → In x (hops_of net.hops g)
+  chain_all [] chain x i = absurd i
+  chain_all (h ∷ []) chain x i = ⊎_elim (λ (e : x ≡ h). subst (λ (a : LinkHop). In a (hops_of net.hops g)) (sym e) chain) (λ (j : ⊥). absurd j) i
+  chain_all (h ∷ y ∷ ys) chain x i = ⊎_elim (λ (e : x ≡ h). subst (λ (a : LinkHop). In a (hops_of net.hops g)) (sym e) chain.0) (λ (j : In x (y ∷ ys)). chain_all (y ∷ ys) chain.2 x j) i
+
+  pub steps_chain : (h : LinkHop) (c : List LinkHop) → In h (hops_of net.hops g) → Steps (Follows net g) h c → Chain (followers net g) (hops_of net.hops g) (h ∷ c)
+  steps_chain h [] i steps = i
+  steps_chain h (y ∷ ys) i steps = (i, follows_follower net g h y steps.0, steps_chain y ys (tree_group net.hops g steps.0.source y steps.0.second) steps.1)
 
 -- ---- the network with a new hop
 module _ (nodes : ℕ) (ends : List End) (links : List Link) (ks : List Known) (valid : IsValid (net_of nodes ends links ks)) (known : AreKnown ends ks)
@@ -191,7 +206,7 @@ module _ (nodes : ℕ) (ends : List End) (links : List Link) (ks : List Known) (
 
   old_edge : (a b : LinkHop) → Old a b → Edge ks (v a) (v b)
   old_edge a b f =
-      let k = edge_of nodes ends links ks valid known g a b f in
+      let k = edge_of nodes ends links ks valid.grown known g a b f in
       record { known = k.0; among = k.1; before = k.4; vertex = kept_vertex b k.0 k.1 k.2 k.3 }
 
   old_leads : (a b : LinkHop) → Walk Old a b → walks.Leads ks (v a) (v b)
@@ -243,24 +258,11 @@ module _ (nodes : ℕ) (ends : List End) (links : List Link) (ks : List Known) (
       (λ (j : In r.0 (new.hop ∷ [])). ⊎_elim (λ (e : r.0 ≡ new.hop). (new, in_right new ks (new ∷ []) (inl refl), refl, ap (λ (q : TreeHop). q.hop) (sym e) ∙ r.3)) (λ (j : ⊥). absurd j) j)
       (in_append r.0 (plain ks) (new.hop ∷ []) r.1)
 
-  chain_steps : (h : LinkHop) (c : List LinkHop) → Chain (followers more g) (hops_of more.hops g) (h ∷ c) → Steps New h c
-  chain_steps h [] chain = tt
-  chain_steps h (y ∷ ys) chain = (follower_follows more g h y chain.1, chain_steps y ys chain.2)
-
-  chain_all : (c : List LinkHop) → Chain (followers more g) (hops_of more.hops g) c → (x : LinkHop) → In x c → In x (hops_of more.hops g)
-  chain_all [] chain x i = absurd i
-  chain_all (h ∷ []) chain x i = ⊎_elim (λ (e : x ≡ h). subst (λ (a : LinkHop). In a (hops_of more.hops g)) (sym e) chain) (λ (j : ⊥). absurd j) i
-  chain_all (h ∷ y ∷ ys) chain x i = ⊎_elim (λ (e : x ≡ h). subst (λ (a : LinkHop). In a (hops_of more.hops g)) (sym e) chain.0) (λ (j : In x (y ∷ ys)). chain_all (y ∷ ys) chain.2 x j) i
-
-  steps_chain : (h : LinkHop) (c : List LinkHop) → In h (hops_of more.hops g) → Steps New h c → Chain (followers more g) (hops_of more.hops g) (h ∷ c)
-  steps_chain h [] i steps = i
-  steps_chain h (y ∷ ys) i steps = (i, follows_follower more g h y steps.0, steps_chain y ys (tree_group more.hops g steps.0.source y steps.0.second) steps.1)
-
   -- on a closed chain, a hop is between the new hop and the one before it
   pub on_loop_told : (x : LinkHop) → IsOnLoop more g x → Kept x × ((n : ℕ) × (new.before ≡ Some n) × walks.Leads ks new.vertex (v x) × walks.Leads ks (v x) n)
   on_loop_told x loop =
-      let steps = chain_steps loop.head loop.rest loop.closed.0 in
-      let k = more_kept x (chain_all (loop.head ∷ loop.rest) loop.closed.0 x loop.there) in
+      let steps = chain_steps more g loop.head loop.rest loop.closed.0 in
+      let k = more_kept x (chain_all more g (loop.head ∷ loop.rest) loop.closed.0 x loop.there) in
       let c = cut New loop.head loop.rest steps x loop.there in
       let r = round_of New x (last_of loop.head loop.rest) loop.head c.from (follower_follows more g (last_of loop.head loop.rest) loop.head loop.closed.1) c.to in
       let t = back Old New IsBefore new.hop.hop split (rank net g) (λ a b f. rank_falls_at net valid.loop_free g a b f) x r.next r.rest r.steps r.ends in
@@ -309,7 +311,7 @@ module _ (nodes : ℕ) (ends : List End) (links : List Link) (ks : List Known) (
       record {
         head = new.hop.hop;
         rest = r.0;
-        closed = (steps_chain new.hop.hop r.0 more_group r.1, follows_follower more g (last_of new.hop.hop r.0) new.hop.hop (subst (λ (y : LinkHop). New y new.hop.hop) (sym r.2) closes));
+        closed = (steps_chain more g new.hop.hop r.0 more_group r.1, follows_follower more g (last_of new.hop.hop r.0) new.hop.hop (subst (λ (y : LinkHop). New y new.hop.hop) (sym r.2) closes));
         there = r.3;
       }
 

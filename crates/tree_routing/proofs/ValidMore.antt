@@ -286,7 +286,7 @@ module _ (net : Net) (valid : IsValid net) (es : List ℕ) (takes : TakesLink ne
       }
 
 -- ---- a hop
-grown_push : (net : Net) (s : Addr) (before hs : List LinkHop) (h : LinkHop) → IsGrownFrom net s before hs → Grows net s (before ++ hs) h → IsGrownFrom net s before (hs ++ h ∷ [])
+pub grown_push : (net : Net) (s : Addr) (before hs : List LinkHop) (h : LinkHop) → IsGrownFrom net s before hs → Grows net s (before ++ hs) h → IsGrownFrom net s before (hs ++ h ∷ [])
 grown_push net s before [] h grown grows = (subst (λ (xs : List LinkHop). Grows net s xs h) (append_none before) grows, tt)
   where
     append_none : (xs : List LinkHop) → xs ++ [] ≡ xs

@@ -5,5 +5,6 @@ pub mod Levels
 pub mod Found
 pub mod Answers
 pub mod Checks
+pub mod Reroutes
 pub mod Routes
 pub mod Order

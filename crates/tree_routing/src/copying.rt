@@ -1,8 +1,36 @@
-//! A routing once more.
+//! A topology or a routing once more.
 ghost use Rattle.std.specs.Prelude.{◌≡◌, IfOk};
 
 use crate::routing::Routing;
+use crate::topology::Topology;
 use rsvp_base::NoMemory;
+
+impl Topology {
+    /// The same topology once more. `NoMemory`: there was no room for it.
+    pub fn copy(&self) -> Result<Topology, NoMemory>
+        ensures { IfOk result (λ copy. copy ≡ self.now) }
+    {
+        Ok(Topology {
+            alloc: self.alloc,
+            nodes: self.nodes,
+            ends: self
+                .ends
+                .as_slice()
+                .to_vec(self.alloc)
+                .map_err(|_| NoMemory)?,
+            links: self
+                .links
+                .as_slice()
+                .to_vec(self.alloc)
+                .map_err(|_| NoMemory)?,
+            hops: self
+                .hops
+                .as_slice()
+                .to_vec(self.alloc)
+                .map_err(|_| NoMemory)?,
+        })
+    }
+}
 
 impl Routing {
     /// The same routing once more. `NoMemory`: there was no room for it.

@@ -11,8 +11,8 @@ use rsvp_base::NoMemory;
 use std::alloc::Global;
 use tree_model::LinkHop;
 
-// Whether the first hop comes before the second or is it: by the end that they go out of, then by the other.
-fn is_up_to(a: LinkHop, b: LinkHop) -> bool
+/// Whether the first hop comes before the second or is it: by the end that they go out of, then by the other.
+pub(crate) fn is_up_to(a: LinkHop, b: LinkHop) -> bool
     ensures { IsTrue result ↔ IsUpTo a b }
 {
     a.from < b.from || (a.from == b.from && a.to <= b.to)

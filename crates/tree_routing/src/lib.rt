@@ -3,12 +3,16 @@
 //!
 //! `Topology` takes nodes, link ends, links and hops one by one. A hop is refused exactly where its tree cannot grow by it,
 //! or where it would close a chain of its group; a refusal changes nothing. `Routing` is a topology that is closed, and
-//! answers where a tree comes into a node and leaves it. What is said of both stands in `tree_model`.
+//! answers where a tree comes into a node and leaves it; with a tree in the place of another it is a routing again, under the
+//! same checks. What is said of both stands in `tree_model`.
 #![tactic(auto)]
 
 mod ask;
+mod chains;
+mod closing;
 mod copying;
 mod group_hop;
+mod growing;
 mod hop_err;
 mod in_order;
 mod keys;
@@ -19,6 +23,8 @@ mod link;
 mod link_ends;
 mod marks;
 mod order;
+mod rebuilding;
+mod rerouting;
 mod routing;
 mod topology;
 mod ways;

@@ -21,7 +21,8 @@ use std::marker::Model;
 use tree_model::{End, LinkHop, TreeHop};
 
 /// A network whose topology is closed: where each tree comes into a node and leaves it. Contracts see the network, which is
-/// valid: within its limits, its trees grown hop by hop, and without a closed chain. No call but `copy` takes memory.
+/// valid: within its limits, its trees grown hop by hop, and without a closed chain. No call but `copy` and
+/// `reroute` takes memory.
 #[derive(Drop)]
 pub struct Routing {
     pub(crate) alloc: Global,

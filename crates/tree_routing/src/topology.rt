@@ -7,18 +7,13 @@ ghost use Rattle.tree_model.specs.Networks.{Net, node_of, ends_of, iface_of, lin
 ghost use Rattle.tree_routing.specs.Known.{net_of, vertex_at, vertex_before};
 ghost use Rattle.tree_routing.specs.Answers.{no_net, TakesEnd, TakesLink, with_node, with_end, with_link, with_hop, Fits, HopAnswer};
 
-use crate::ask::{
-    are_apart, are_free, is_alone, is_linked, is_reached, link_of, node_of, owner, vertex_at,
-    vertex_before,
-};
+use crate::ask::{are_apart, are_free, link_of, node_of, owner};
+use crate::growing::{can_grow, know};
 use crate::hop_err::HopErr;
-use crate::in_order::in_order;
-use crate::keys::trees_of;
 use crate::known::Known;
 use crate::least::check_loop;
-use crate::levels::{highest, levels};
+use crate::levels::levels;
 use crate::link::Link;
-use crate::order::by_level;
 use crate::routing::Routing;
 use crate::ways::{count_of, iface_of};
 use rsvp_base::{Addr, NoMemory};
@@ -31,11 +26,11 @@ use tree_model::{End, LinkHop, TreeHop};
 /// moment: within its limits, its trees grown hop by hop, and without a closed chain.
 #[derive(Drop)]
 pub struct Topology {
-    alloc: Global,
-    nodes: u16,
-    ends: Vec<End>,
-    links: Vec<Link>,
-    hops: Vec<Known>,
+    pub(crate) alloc: Global,
+    pub(crate) nodes: u16,
+    pub(crate) ends: Vec<End>,
+    pub(crate) links: Vec<Link>,
+    pub(crate) hops: Vec<Known>,
 }
 
 impl Model for Topology {
@@ -245,21 +240,14 @@ impl Topology {
         ensures { IfOk result (λ routing. routing ≡ self) }
     {
         let levels = levels(self.alloc, self.hops.as_slice())?;
-        let chain = highest(levels.as_slice(), self.hops.as_slice());
-        let order = by_level(self.alloc, self.hops.as_slice(), levels.as_slice(), chain)?;
-        let trees = trees_of(self.alloc, self.hops.as_slice())?;
-        let sorted = in_order(self.alloc, self.hops.as_slice())?;
-        Ok(Routing {
-            alloc: self.alloc,
-            nodes: self.nodes,
-            ends: self.ends,
-            links: self.links,
-            hops: self.hops,
-            chain,
-            order,
-            trees,
-            sorted,
-        })
+        Routing::of(
+            self.alloc,
+            self.nodes,
+            self.ends,
+            self.links,
+            self.hops,
+            levels.as_slice(),
+        )
     }
 
     // Whether so many ends can be in one link, and there is room for another link.
@@ -281,27 +269,11 @@ impl Topology {
     fn can_grow(&self, hop: &TreeHop) -> bool
         ensures { IsTrue result ↔ Fits self.now hop.now }
     {
-        let ends = self.ends.as_slice();
-        let hops = self.hops.as_slice();
-        let links = self.links.as_slice();
-        let TreeHop { group, source, hop } = *hop;
-        is_linked(links, hop)
-            && is_reached(ends, hops, group, source, node_of(ends, hop.from))
-            && !is_reached(ends, hops, group, source, node_of(ends, hop.to))
-            && is_alone(links, hops, group, source, hop.from)
-    }
-}
-
-// What is kept of a hop.
-fn know(ends: &[End], hops: &[Known], hop: TreeHop) -> Known
-    requires { length hops.now ≤ 8192 }
-    ensures hop { result.hop ≡ hop }
-    ensures vertex { result.vertex ≡ vertex_at hops.now hop.group hop.hop }
-    ensures before { result.before ≡ vertex_before ends.now hop hops.now }
-{
-    Known {
-        hop,
-        vertex: vertex_at(hops, hop.group, hop.hop),
-        before: vertex_before(ends, hops, &hop),
+        can_grow(
+            self.ends.as_slice(),
+            self.links.as_slice(),
+            self.hops.as_slice(),
+            hop,
+        )
     }
 }

@@ -1,4 +1,4 @@
-use Rattle.script_laws.proofs.ValidReroutes.{valid_rerouted}
+use Rattle.tree_routing.proofs.ValidReroutes.{valid_rerouted}
 use Rattle.script_laws.proofs.laws.a_new_tree_keeps_a_network_valid.Goals as goal
 
 pub returns : goal.returns

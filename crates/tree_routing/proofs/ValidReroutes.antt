@@ -16,10 +16,10 @@ use Rattle.tree_model.specs.Valid.{IsValid}
 use Rattle.tree_model.proofs.Following.{addr_itself, addr_same, follower_follows, follows_follower, in_group, in_tree, number_same, to_group, to_tree}
 use Rattle.tree_model.proofs.TreeLaws.{true_false}
 use Rattle.tree_routing.proofs.Carried.{Same, free_map, grown_over}
-use Rattle.network_model.specs.Steps.{rerouted, tree_hop}
+use Rattle.tree_routing.specs.Reroutes.{rerouted, tree_hop}
 
 -- ---- lists
-filter_both : {A : Type 0} (test : A → Bool) (xs ys : List A) → filter test (xs ++ ys) ≡ filter test xs ++ filter test ys
+pub filter_both : {A : Type 0} (test : A → Bool) (xs ys : List A) → filter test (xs ++ ys) ≡ filter test xs ++ filter test ys
 filter_both test [] ys = refl
 filter_both {A} test (x ∷ xs) ys = by (test x) (filter_both test xs ys)
   where
@@ -31,7 +31,7 @@ module _ (g s : Addr) where
   abbrev other : TreeHop → Bool
   other r = not (of_tree g s r)
 
-  none_left : (rs : List TreeHop) → filter (of_tree g s) (filter other rs) ≡ []
+  pub none_left : (rs : List TreeHop) → filter (of_tree g s) (filter other rs) ≡ []
   none_left [] = refl
   none_left (r ∷ rs) = by (of_tree g s r) refl (none_left rs)
     where
@@ -42,13 +42,13 @@ module _ (g s : Addr) where
   mine : (h : LinkHop) → of_tree g s (tree_hop g s h) ≡ true
   mine h = and_made (g.0 == g.0) (s.0 == s.0) (addr_itself g) (addr_itself s)
 
-  all_mine : (hs : List LinkHop) → filter (of_tree g s) (each (tree_hop g s) hs) ≡ each (tree_hop g s) hs
+  pub all_mine : (hs : List LinkHop) → filter (of_tree g s) (each (tree_hop g s) hs) ≡ each (tree_hop g s) hs
   all_mine [] = refl
   all_mine (h ∷ hs) =
       ap (λ (b : Bool). cond b (tree_hop g s h ∷ filter (of_tree g s) (each (tree_hop g s) hs)) (filter (of_tree g s) (each (tree_hop g s) hs))) (mine h)
       ∙ ap (λ (rs : List TreeHop). tree_hop g s h ∷ rs) (all_mine hs)
 
-  hops_again : (hs : List LinkHop) → each (λ (r : TreeHop). r.hop) (each (tree_hop g s) hs) ≡ hs
+  pub hops_again : (hs : List LinkHop) → each (λ (r : TreeHop). r.hop) (each (tree_hop g s) hs) ≡ hs
   hops_again [] = refl
   hops_again (h ∷ hs) = ap (λ (zs : List LinkHop). h ∷ zs) (hops_again hs)
 
@@ -82,7 +82,7 @@ module _ (g s : Addr) where
     none_new [] = refl
     none_new (h ∷ hs) = ap (λ (b : Bool). cond b (tree_hop g s h ∷ filter (of_tree g' s') (each (tree_hop g s) hs)) (filter (of_tree g' s') (each (tree_hop g s) hs))) apart ∙ none_new hs
 
-module _ (net : Net) (valid : IsValid net) (g s : Addr) (hs : List LinkHop) (few : length (rerouted net g s hs).hops ≤ 8192) (grown : IsGrown net s hs) (free : IsLoopFreeIn (rerouted net g s hs) g) where
+module _ (net : Net) (valid : IsValid net) (g s : Addr) (hs : List LinkHop) (grown : IsGrown net s hs) where
   abbrev more : Net
   more = rerouted net g s hs
 
@@ -102,7 +102,7 @@ module _ (net : Net) (valid : IsValid net) (g s : Addr) (hs : List LinkHop) (few
       ap (each (λ (r : TreeHop). r.hop))
       (filter_both (of_tree g' s') (filter (other g s) net.hops) (each (tree_hop g s) hs) ∙ (λ i. kept g s g' s' apart net.hops i ++ none_new g s g' s' apart hs i) ∙ nothing_more (filter (of_tree g' s') net.hops))
 
-  grown_more : (g' s' : Addr) → IsGrown more s' (tree more.hops g' s')
+  pub grown_more : (g' s' : Addr) → IsGrown more s' (tree more.hops g' s')
   grown_more g' s' =
       either ((g.0 == g'.0) && (s.0 == s'.0))
       (λ t.
@@ -134,12 +134,16 @@ module _ (net : Net) (valid : IsValid net) (g s : Addr) (hs : List LinkHop) (few
       free_map (followers more g') (followers net g') (hops_of more.hops g') (hops_of net.hops g') (old_group g' ne)
       (λ x y i j. let f = follower_follows more g' x y j in follows_follower net g' x y (record { source = f.source; first = old_tree g' f.source ne x f.first; second = old_tree g' f.source ne y f.second; meet = f.meet })) (valid.loop_free g')
 
-  free_more : IsLoopFree more
-  free_more g' =
-      either (g.0 == g'.0) (λ t. subst (λ (a : Addr). IsLoopFreeIn more a) (addr_same g g' t) free)
-      (λ f. free_other g' (λ e. true_false _ (number_same g.0 g'.0 (ap (λ (a : Addr). a.0) e)) f))
+module _ (net : Net) (valid : IsValid net) (g s : Addr) (hs : List LinkHop) (few : length (rerouted net g s hs).hops ≤ 8192) (grown : IsGrown net s hs) (free : IsLoopFreeIn (rerouted net g s hs) g) where
+  abbrev all : Net
+  all = rerouted net g s hs
 
-  pub valid_rerouted : IsValid more
+  free_more : IsLoopFree all
+  free_more g' =
+      either (g.0 == g'.0) (λ t. subst (λ (a : Addr). IsLoopFreeIn all a) (addr_same g g' t) free)
+      (λ f. free_other net valid g s hs grown g' (λ e. true_false _ (number_same g.0 g'.0 (ap (λ (a : Addr). a.0) e)) f))
+
+  pub valid_rerouted : IsValid all
   valid_rerouted = record {
     few_nodes = valid.few_nodes;
     few_ends = valid.few_ends;
@@ -153,6 +157,6 @@ module _ (net : Net) (valid : IsValid net) (g s : Addr) (hs : List LinkHop) (few
     rising = valid.rising;
     apart = valid.apart;
     one_link = valid.one_link;
-    grown = grown_more;
+    grown = grown_more net valid g s hs grown;
     loop_free = free_more;
   }

@@ -1,0 +1,87 @@
+-- What a routing keeps, and what it answers, with a tree in the place of another.
+use Rattle.std.specs.Prelude.{◌≡◌, ℕ, ◌+◌, ◌≤◌, Bool, true, false, not, cond, List, [], ◌∷◌, ◌++◌, length, map as each, count_by, Some, None, Err, refl}
+use Rattle.std.specs.List.{filter}
+use Rattle.std.proofs.Common.{sym, ap, subst, ◌∙◌, arith, length-append}
+use Rattle.std.proofs.lemmas.List.{length-map}
+use Rattle.std.proofs.lemmas.List.Sums.{sum_by-cons}
+use Rattle.rsvp_base.specs.declared.addr.Addr.{Addr}
+use Rattle.tree_model.specs.declared.hops.End.{End}
+use Rattle.tree_model.specs.declared.hops.LinkHop.{LinkHop}
+use Rattle.tree_model.specs.declared.hops.TreeHop.{TreeHop}
+use Rattle.tree_model.specs.Networks.{Net}
+use Rattle.tree_model.specs.Trees.{of_tree, tree, IsGrown}
+use Rattle.tree_model.specs.Ranks.{IsLoopFreeIn}
+use Rattle.tree_model.specs.Valid.{IsValid}
+use Rattle.tree_routing.specs.declared.known.Known.{Known}
+use Rattle.tree_routing.specs.declared.link.Link.{Link}
+use Rattle.tree_routing.specs.declared.hop_err.HopErr.{HopErr}
+use Rattle.tree_routing.specs.declared.hop_err.HopErr.TheVariants.{NotTree, Loop, NoMemory}
+use Rattle.tree_routing.specs.Answers.{IsLeastOnLoop}
+use Rattle.tree_routing.specs.Known.{plain, net_of, AreKnown}
+use Rattle.tree_routing.specs.Reroutes.{is_other, rerouted, tree_hop, with_hops, RerouteAnswer, IsRefused, AreBefore, IsLeastClosed}
+use Rattle.tree_routing.proofs.ClosedChains.{none_closed, least_closed}
+use Rattle.tree_routing.proofs.ValidReroutes.{grown_more, valid_rerouted}
+use Rattle.tree_routing.proofs.Vertices.{before_told, vertex_below}
+
+pub befores_below : (ends : List End) (ks ks' : List Known) → AreKnown ends ks → ks' ≡ ks → AreBefore (length ks') ks'
+befores_below ends ks ks' known is =
+    subst (λ (xs : List Known). AreBefore (length xs) xs) (sym is)
+    (λ k i a e.
+    let x = before_told ends k.hop ks a (sym (known k i).before ∙ e) in
+    let lt = vertex_below ends ks known x.0 x.1 in
+    let at = x.3 in
+    omega arith)
+
+pub refused_answer : (R : Type 0) (net m : Net) (g s : Addr) (hops : List LinkHop) (why : HopErr) → m ≡ net → IsRefused m s hops why → RerouteAnswer {R = R} net g s hops (Err why)
+refused_answer R net m g s hops NotTree is refused = subst (λ (n : Net). IsRefused n s hops NotTree) is refused
+refused_answer R net m g s hops (Loop group from to) is refused = absurd refused
+refused_answer R net m g s hops NoMemory is refused = tt
+
+module _ (net : Net) (valid : IsValid net) (nodes : ℕ) (ends : List End) (links : List Link) (old : List Known) (is_net : net_of nodes ends links old ≡ net) (g s : Addr) (hops : List LinkHop) (grown : IsGrown (net_of nodes ends links old) s hops)
+    (ks : List Known) (known : AreKnown ends ks) (are : plain ks ≡ (rerouted (net_of nodes ends links old) g s hops).hops) where
+  grown_in : IsGrown net s hops
+  grown_in = subst (λ (n : Net). IsGrown n s hops) is_net grown
+
+  is_more : net_of nodes ends links ks ≡ rerouted net g s hops
+  is_more = (λ i. net_with (are i)) ∙ ap (λ (n : Net). rerouted n g s hops) is_net
+    where
+      net_with : List TreeHop → Net
+      net_with rs = with_hops (net_of nodes ends links old) rs
+
+  all_grown : (g' s' : Addr) → IsGrown (net_of nodes ends links ks) s' (tree (plain ks) g' s')
+  all_grown g' s' = subst (λ (n : Net). IsGrown n s' (tree n.hops g' s')) (sym is_more) (grown_more net valid g s hops grown_in g' s')
+
+  free_in : IsLeastClosed ks ks g None → IsLoopFreeIn (rerouted net g s hops) g
+  free_in none = subst (λ (n : Net). IsLoopFreeIn n g) is_more (none_closed nodes ends links ks all_grown known g none)
+
+  pub free_answer : IsLeastClosed ks ks g None → IsGrown net s hops × IsLoopFreeIn (rerouted net g s hops) g
+  free_answer none = (grown_in, free_in none)
+
+  pub loop_answer : (h : LinkHop) → IsLeastClosed ks ks g (Some h) → IsGrown net s hops × (g ≡ g) × IsLeastOnLoop (rerouted net g s hops) g h
+  loop_answer h least = (grown_in, refl, subst (λ (n : Net). IsLeastOnLoop n g h) is_more (least_closed nodes ends links ks all_grown known g h least))
+
+  pub is_rerouted : with_hops net (plain ks) ≡ rerouted net g s hops
+  is_rerouted = ap (with_hops net) are ∙ ap (λ (n : Net). with_hops net (rerouted n g s hops).hops) is_net
+
+  pub valid_with : length (rerouted net g s hops).hops ≤ 8192 → IsLeastClosed ks ks g None → IsValid (with_hops net (plain ks))
+  valid_with few none = subst IsValid (sym is_rerouted) (valid_rerouted net valid g s hops few grown_in (free_in none))
+
+-- ---- room
+module _ (g s : Addr) where
+  abbrev kept : List Known → List TreeHop
+  kept ks = filter (λ r. not (of_tree g s r)) (plain ks)
+
+  others_count : (ks : List Known) → length (kept ks) ≡ count_by (is_other g s) ks
+  others_count [] = refl
+  others_count (k ∷ ks) = by (is_other g s k) (others_count ks) ∙ sym (sum_by-cons (λ (x : Known). cond (is_other g s x) 1 0) k ks)
+    where
+      by : (b : Bool) → length (kept ks) ≡ count_by (is_other g s) ks → length (cond b (k.hop ∷ kept ks) (kept ks)) ≡ cond b 1 0 + count_by (is_other g s) ks
+      by true e = omega (arith, e)
+      by false e = omega (arith, e)
+
+  pub hops_then : (net : Net) (ks : List Known) (hs : List LinkHop) → net.hops ≡ plain ks → length (rerouted net g s hs).hops ≡ count_by (is_other g s) ks + length hs
+  hops_then net ks hs are =
+      ap (λ (rs : List TreeHop). length (filter (λ r. not (of_tree g s r)) rs ++ each (tree_hop g s) hs)) are
+      ∙ length-append (kept ks) (each (tree_hop g s) hs)
+      ∙ ap (λ n. n + length (each (tree_hop g s) hs)) (others_count ks)
+      ∙ ap (λ n. count_by (is_other g s) ks + n) (length-map hs (tree_hop g s))
