@@ -1,6 +1,6 @@
 -- What local calls and events are in the model.
 use Rattle.std.specs.Prelude.{◌≤◌, Bool, true, length}
-use Rattle.network_model.specs.Events.{Event as AnEvent, AtNode, Waits, Pass, DeliverAt, LoseAt, CopyAt, ClearNode, Rounds, Traces, Reports, ReportsFlags, Injects}
+use Rattle.network_model.specs.Events.{Event as AnEvent, AtNode, Waits, Pass, DeliverAt, LoseAt, CopyAt, ClearNode, Rounds, Traces, Reports, ReportsFlags, Injects, Reroutes}
 use Rattle.router_rules.specs.Inputs.{Arrival, Local, SendAs, DropAs, WantAs, QuitAll}
 use Rattle.router_rules.specs.Steps.{IsFitCall}
 use Rattle.net_replay.specs.Following.{IsArrival}
@@ -29,6 +29,7 @@ event_with a (event.Trace on) = Traces on
 event_with a (event.Report end) = Reports end
 event_with a event.Flags = ReportsFlags
 event_with a (event.Inject end dst bytes) = Injects end dst a
+event_with a (event.Reroute group source hops) = Reroutes group source hops.items
 
 -- what the bytes of an event are, if it has any
 abbrev pub IsRead : Event → Arrival → Type 0
@@ -41,8 +42,9 @@ IsFitEvent (event.Local node c) = IsFitCall (call_of c)
 IsFitEvent (event.Inject end dst bytes) = length bytes.items ≤ 4096
 IsFitEvent _ = Unit {0}
 
--- memory is taken for a report, and for what is told where the trace is on
+-- memory is taken for a report, for a tree that moves, and for what is told where the trace is on
 abbrev pub takes_memory : Bool → Event → Bool
 takes_memory trace (event.Report end) = true
 takes_memory trace event.Flags = true
+takes_memory trace (event.Reroute group source hops) = true
 takes_memory trace _ = trace

@@ -2,7 +2,7 @@
 ghost use Rattle.std.specs.Prelude.{◌≡◌, ◌≤◌, ◌*◌, ◌∷◌, [], ℕ, List, None, Some, Err, IfErr, true};
 ghost use Rattle.std.specs.List.{repeat};
 ghost use Rattle.network_model.specs.Events.{at_place, last_piece, pieces, steps_of};
-ghost use Rattle.network_model.specs.Steps.{Copy, Deliver, Lose, Piece};
+ghost use Rattle.network_model.specs.Steps.{Copy, Deliver, Lose, Piece, Reroute};
 ghost use Rattle.router_rules.specs.Inputs.{Arrival};
 ghost use Rattle.net_replay.specs.Happening.{IsFitEvent, IsRead, event_with, takes_memory};
 ghost use Rattle.net_replay.specs.Running.{IsSame, Makes, refusal_of};
@@ -13,11 +13,13 @@ use crate::event::Event;
 use crate::router::Router;
 use crate::world::World;
 use crate::world_err::WorldErr;
+use rsvp_base::Addr;
+use tree_routing::LinkHop;
 
 impl<R: Router + Drop> World<R> {
     /// What happens, and its text, which is appended. `Crowded` exactly where it would put an 8,193rd datagram in flight: the
-    /// text of what happened before that is appended. `NoMemory`, only of a report or where the trace is on: a front of the text is
-    /// appended. After a refusal each later event is refused in the same way, and changes nothing.
+    /// text of what happened before that is appended. `NoMemory`, only of a report, of a tree that moves or where the trace is on: a
+    /// front of the text is appended. After a refusal each later event is refused in the same way, and changes nothing.
     pub fn event(&mut self, event: &Event, out: &mut Vec<u8>) -> Result<(), WorldErr>
         requires { IsFitEvent event.now }
         ensures made { (a : Arrival) → IsRead event.now a → self.old.refused ≡ None → Makes R.seen self.old result out.old.items out.new.items self.new (λ q w. steps_of q (event_with a event.now) w) }
@@ -43,6 +45,11 @@ impl<R: Router + Drop> World<R> {
             Event::Report { end } => self.write_report(*end, out),
             Event::Flags => self.write_flags(out),
             Event::Inject { end, dst, bytes } => self.inject(*end, *dst, bytes.as_slice()),
+            Event::Reroute {
+                group,
+                source,
+                hops,
+            } => self.move_tree(*group, *source, hops.as_slice()),
         }
     }
 
@@ -128,5 +135,18 @@ impl<R: Router + Drop> World<R> {
             return Ok(());
         }
         self.copy((place - 1) as usize)
+    }
+    // These hops are the tree of the group and source from now on; `NoMemory` also where they can be none.
+    fn move_tree(&mut self, group: Addr, source: Addr, hops: &[LinkHop]) -> Result<(), WorldErr>
+        requires { self.old.refused ≡ None }
+        ensures made { (t : List ℕ) → Makes R.seen self.old result t t self.new (λ q w. Reroute group source hops.now ∷ []) }
+        ensures same { IsSame self.old self.new }
+        ensures refused { self.new.refused ≡ refusal_of result }
+    {
+        let Ok(routing) = self.routing_with(group, source, hops) else {
+            self.refused = Some(WorldErr::NoMemory);
+            return Err(WorldErr::NoMemory);
+        };
+        self.reroute(group, source, hops, routing)
     }
 }

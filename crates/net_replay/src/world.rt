@@ -331,6 +331,23 @@ impl<R: Router + Drop> World<R> {
         Ok(())
     }
 
+    // The routing in which these hops are the tree of the group and source. `NoMemory` also where they can be none, or there are
+    // more hops then than a routing has room for.
+    pub(crate) fn routing_with(
+        &self,
+        group: Addr,
+        source: Addr,
+        hops: &[LinkHop],
+    ) -> Result<Routing, NoMemory>
+        ensures { IfOk result (λ r. r ≡ rerouted self.now.post.net group source hops.now) }
+    {
+        let routing = self.mail.wires().routing();
+        if !routing.has_room_for_tree(group, source, hops) {
+            return Err(NoMemory);
+        }
+        routing.reroute(group, source, hops).map_err(|_| NoMemory)
+    }
+
     // The network has this routing from now on, in which these hops are the tree of the group and source. Each node is told.
     pub(crate) fn reroute(
         &mut self,
