@@ -4,3 +4,4 @@ pub mod Kept
 pub mod Standing
 pub mod AtNodes
 pub mod Listed
+pub mod Fit

@@ -3,7 +3,16 @@ use Rattle.std.specs.Prelude.{ℕ, List, length}
 use Rattle.router_rules.specs.Inputs.{Stale}
 use Rattle.tree_model.specs.declared.hops.End.{End}
 use Rattle.left_over.specs.AtNodes.{AreBooksOf, list_of}
+use Rattle.left_over.specs.declared.fact.Left.{Left}
+use Rattle.left_over.specs.declared.fact.LeftOver.{LeftOver}
 use Rattle.left_over.specs.declared.leavings.Leavings.{Leavings}
+
+-- the facts, in the order in which they were added
+abbrev pub facts_in : Leavings → List LeftOver
+facts_in l = l.facts.items
+
+abbrev pub left_at : ℕ → Left → ℕ → LeftOver
+left_at node fact left = record { node = node; fact = fact; left = left }
 
 -- each with its node, in the order in which they were added
 abbrev pub stale_in : Leavings → List (ℕ × Stale)

@@ -28,12 +28,13 @@ impl Leavings {
     ghost use Rattle.script_grammar.specs.Rules.{facts_at};
     ghost use Rattle.left_over.specs.AtNodes.{ifaces_at_node};
     ghost use Rattle.left_over.specs.Kept.{stale_of};
-    ghost use Rattle.left_over.specs.Listed.{IsOfEnds, nodes_in, stale_in};
+    ghost use Rattle.left_over.specs.Listed.{IsOfEnds, facts_in, left_at, nodes_in, stale_in};
     ghost use Rattle.left_over.specs.Standing.{CanStand, IsLeftOut, Stands};
 
     /// Nothing, and no nodes.
     pub fn new(alloc: Global) -> Leavings
         ensures none { stale_in result ≡ [] }
+        ensures facts { facts_in result ≡ [] }
         ensures nodes { nodes_in result ≡ 0 }
         ensures ends { (ends : List EndOf) → IsOfEnds ends result }
     {
@@ -51,12 +52,20 @@ impl Leavings {
         self.facts.is_empty()
     }
 
+    /// What is left over, in the order in which it was added.
+    pub fn facts(&self) -> &[LeftOver]
+        ensures { result.now ≡ facts_in self.now }
+    {
+        self.facts.as_slice()
+    }
+
     /// Adds a node, before anything is left over.
     pub fn add_node(&mut self) -> Result<(), AllocError>
         requires { stale_in self.old ≡ [] }
         ensures ok { OnOk result (nodes_in self.new ≡ nodes_in self.old + 1) }
         ensures err { OnErr result (nodes_in self.new ≡ nodes_in self.old) }
         ensures none { stale_in self.new ≡ [] }
+        ensures facts { facts_in self.new ≡ facts_in self.old }
         ensures ends { (ends : List EndOf) → IsOfEnds ends self.new }
     {
         self.nodes.push(AtNode::new())?;
@@ -106,9 +115,11 @@ impl Leavings {
         requires fit { CanStand (ifaces_at_node ends.now node) fact }
         requires ends { IsOfEnds ends.now self.old }
         ensures ok { OnOk result (stale_in self.new ≡ stale_in self.old ++ (node, stale_of fact left) ∷ []) }
+        ensures facts { OnOk result (facts_in self.new ≡ facts_in self.old ++ left_at node fact left ∷ []) }
         ensures stands { OnOk result (Stands (ifaces_at_node ends.now node) (stale_of fact left) (facts_at (stale_in self.old) node) (facts_at (stale_in self.new) node)) }
         ensures refused { IfErr result (IsLeftOut (ifaces_at_node ends.now node) (stale_of fact left) (facts_at (stale_in self.old) node)) }
         ensures err { OnErr result (stale_in self.new ≡ stale_in self.old) }
+        ensures err_facts { OnErr result (facts_in self.new ≡ facts_in self.old) }
         ensures nodes { nodes_in self.new ≡ nodes_in self.old }
         ensures ends { IsOfEnds ends.now self.new }
     {
