@@ -1,6 +1,8 @@
 -- What a run over some bytes comes to, where neither a fault of a device nor want of memory ends it.
-use Rattle.std.proofs.Common.{◌≡◌, ℕ, ◌≤◌, List, ◌∷◌, ◌++◌, Option, None, Some, length, refl, sym, ap, subst, ◌∙◌, arith, inl, inr, length-append}
+use Rattle.std.proofs.Common.{◌≡◌, ℕ, ◌≤◌, List, [], ◌∷◌, ◌++◌, Option, None, Some, length, refl, sym, ap, subst, ◌∙◌, arith, inl, inr, length-append}
 use Rattle.std.specs.Io.KnownBytes.{Consumes}
+use Rattle.std.specs.List.{All}
+use Rattle.std.proofs.lemmas.List.Elements.{All-head, All-tail}
 use Rattle.byte_streams.specs.Reading.{most_bytes}
 use Rattle.script_words.specs.Lines.{line_number, text_lines}
 use Rattle.network_model.specs.Runs.{run_text}
@@ -8,10 +10,11 @@ use Rattle.script_grammar.specs.Draft.{Draft, nothing, plan_of}
 use Rattle.script_grammar.specs.Grammar.{HasFault, Leads}
 use Rattle.script_grammar.proofs.Scripts.{fault_one, fault_or_follows, leads_one}
 use Rattle.script_grammar.specs.declared.fault.Fault.{Fault}
+use Rattle.network_run.specs.Playing.{IsReroute}
 use Rattle.network_run.specs.Written.{HasRun}
-use Rattle.network_run.specs.Endings.{ComesTo, IsFirstBad, IsFirstCrowded, IsOrNoMemory, IsRun, all_bytes}
+use Rattle.network_run.specs.Endings.{ComesTo, HasNoReroute, IsFirstBad, IsFirstCrowded, IsFirstUnbuilt, IsOrNoMemory, IsRun, all_bytes}
 use Rattle.network_run.specs.declared.ending.Ending.{Ending}
-use Rattle.network_run.specs.declared.ending.Ending.TheVariants.{Done, BadLine, ReadFault, WriteFault, NoMemory, Crowded, TooLong}
+use Rattle.network_run.specs.declared.ending.Ending.TheVariants.{Done, BadLine, ReadFault, WriteFault, NoMemory, Crowded, TooLong, Unbuilt}
 use Rattle.network_run.proofs.Firsts.{Ends, bad, crowded, no_way_past, which_place}
 
 -- ---- one text for lines that were run
@@ -87,18 +90,22 @@ one_ending bytes x y Done ReadFault h k = absurd k
 one_ending bytes x y Done WriteFault h k = absurd k
 one_ending bytes x y Done NoMemory h k = absurd k
 one_ending bytes x y Done TooLong h k = absurd k
+one_ending bytes x y Done (Unbuilt n) h k = absurd k
 one_ending bytes x y (BadLine m v) ReadFault h k = absurd k
 one_ending bytes x y (BadLine m v) WriteFault h k = absurd k
 one_ending bytes x y (BadLine m v) NoMemory h k = absurd k
 one_ending bytes x y (BadLine m v) TooLong h k = absurd k
+one_ending bytes x y (BadLine m v) (Unbuilt n) h k = absurd k
 one_ending bytes x y Crowded ReadFault h k = absurd k
 one_ending bytes x y Crowded WriteFault h k = absurd k
 one_ending bytes x y Crowded NoMemory h k = absurd k
 one_ending bytes x y Crowded TooLong h k = absurd k
+one_ending bytes x y Crowded (Unbuilt n) h k = absurd k
 one_ending bytes x y ReadFault b h k = absurd h
 one_ending bytes x y WriteFault b h k = absurd h
 one_ending bytes x y NoMemory b h k = absurd h
 one_ending bytes x y TooLong b h k = absurd h
+one_ending bytes x y (Unbuilt m) b h k = absurd h
 
 -- ---- the run of known bytes
 -- they are those that were taken, and those that are left
@@ -109,20 +116,33 @@ all_known (Some xs) (Some ys) bytes taken e t =
     let same : xs ≡ bytes = cc in
     (sym t ∙ same, omega (arith, ap (λ (l : List ℕ). length l) (sym same ∙ t), length-append taken ys))
 
-pub comes_to : (s : Draft → Type 0) (got wanted : Ending) (old new before after : Option (List ℕ)) (bytes text : List ℕ) → IsRun s got old new before after → old ≡ Some bytes → length bytes ≤ most_bytes → ComesTo wanted bytes text
+-- ---- no run over bytes without a line of `reroute` ends at one
+at_place : {A : Type 0} (P : A → Type 0) (before : List A) (x : A) (after : List A) → All P (before ++ x ∷ after) → P x
+at_place P [] x after all = All-head P x after all
+at_place P (y ∷ ys) x after all = at_place P ys x after (All-tail P y (ys ++ x ∷ after) all)
+
+not_unbuilt : (number : ℕ) (bytes text : List ℕ) → HasNoReroute bytes → IsFirstUnbuilt number bytes text → ⊥
+not_unbuilt number bytes text none f =
+    let P : List ℕ → Type 0 = λ line. IsReroute line → ⊥ in
+    at_place P f.before f.line f.after (subst (λ (ls : List (List ℕ)). All P ls) f.parts none) f.reroute
+
+pub comes_to : (s : Draft → Type 0) (got wanted : Ending) (old new before after : Option (List ℕ)) (bytes text : List ℕ) → IsRun s got old new before after → old ≡ Some bytes → length bytes ≤ most_bytes → HasNoReroute bytes → ComesTo wanted bytes text
     → (got ≡ ReadFault → ⊥) → (got ≡ WriteFault → ⊥) → IsOrNoMemory wanted got
-comes_to s Done wanted old new before after bytes text r e le c read write =
+comes_to s Done wanted old new before after bytes text r e le none c read write =
     let known = all_known old new bytes r.taken e r.took in
     inl (one_ending bytes r.text text Done wanted (subst (λ (b : List ℕ). HasRun (text_lines b) r.text) known.0 r.ended.ran) c).0
-comes_to s (BadLine n why) wanted old new before after bytes text r e le c read write =
+comes_to s (BadLine n why) wanted old new before after bytes text r e le none c read write =
     let known = all_known old new bytes r.taken e r.took in
     inl (one_ending bytes r.text text (BadLine n why) wanted (subst (λ (b : List ℕ). IsFirstBad n why b r.text) known.0 r.ended.0) c).0
-comes_to s Crowded wanted old new before after bytes text r e le c read write =
+comes_to s Crowded wanted old new before after bytes text r e le none c read write =
     let known = all_known old new bytes r.taken e r.took in
     inl (one_ending bytes r.text text Crowded wanted (subst (λ (b : List ℕ). IsFirstCrowded b r.text) known.0 r.ended.0) c).0
-comes_to s ReadFault wanted old new before after bytes text r e le c read write = absurd (read refl)
-comes_to s WriteFault wanted old new before after bytes text r e le c read write = absurd (write refl)
-comes_to s NoMemory wanted old new before after bytes text r e le c read write = inr refl
-comes_to s TooLong wanted old new before after bytes text r e le c read write =
+comes_to s ReadFault wanted old new before after bytes text r e le none c read write = absurd (read refl)
+comes_to s WriteFault wanted old new before after bytes text r e le none c read write = absurd (write refl)
+comes_to s NoMemory wanted old new before after bytes text r e le none c read write = inr refl
+comes_to s TooLong wanted old new before after bytes text r e le none c read write =
     let known = all_known old new bytes r.taken e r.took in
     absurd (omega (arith, r.counted, le, known.1))
+comes_to s (Unbuilt n) wanted old new before after bytes text r e le none c read write =
+    let known = all_known old new bytes r.taken e r.took in
+    absurd (not_unbuilt n bytes r.text none (subst (λ (b : List ℕ). IsFirstUnbuilt n b r.text) known.0 r.ended.0))

@@ -3,7 +3,7 @@ use Rattle.std.proofs.Common.{◌≡◌, ℕ, ◌+◌, ◌-◌, ◌^◌, ◌≤�
 use Rattle.std.specs.Io.KnownBytes.{Appends}
 use Rattle.std.proofs.KnownBytes.{Appends-nil, Appends-trans, Consumes-nil}
 use Rattle.byte_streams.specs.Reading.{most_bytes}
-use Rattle.script_words.specs.Lines.{text_lines}
+use Rattle.script_words.specs.Lines.{line_number, text_lines}
 use Rattle.script_grammar.specs.Draft.{Draft, nothing}
 use Rattle.script_grammar.specs.Grammar.{HasFault, Leads, too_long}
 use Rattle.script_grammar.proofs.Scripts.{leads_on}
@@ -11,10 +11,10 @@ use Rattle.script_grammar.specs.declared.fault.Fault.{Fault}
 use Rattle.script_grammar.specs.declared.fault.Fault.TheVariants as fault
 use Rattle.line_stream.specs.Streams.{Held, at_first}
 use Rattle.network_run.specs.Written.{HasRun, IsRunSoFar, whole_lines}
-use Rattle.network_run.specs.Playing.{IsCrowdedBy, IsRunOn}
+use Rattle.network_run.specs.Playing.{IsCrowdedBy, IsReroute, IsRunOn}
 use Rattle.network_run.specs.Endings.{IsRun, all_bytes}
 use Rattle.network_run.specs.declared.ending.Ending.{Ending}
-use Rattle.network_run.specs.declared.ending.Ending.TheVariants.{Done, BadLine, ReadFault, WriteFault, NoMemory, Crowded, TooLong}
+use Rattle.network_run.specs.declared.ending.Ending.TheVariants.{Done, BadLine, ReadFault, WriteFault, NoMemory, Crowded, TooLong, Unbuilt}
 use Rattle.network_run.proofs.Behind.{HasEnd, HasLine, HasLong, HasMany, HasWhole, IsBehind, behind_nothing}
 
 -- the lines before were run, and what they wrote stands in the sink
@@ -95,6 +95,11 @@ module _ {P : Type 0} (stands : P → Draft → Type 0) where
         many_so : length l.taken ≤ most_bytes
         many_so = few (length l.taken) l.behind.counted le
 
+        numbered : (number : ℕ) → number ≡ now.number → number ≡ line_number (length p.before)
+        numbered number same =
+            let one_more : length (p.before ++ now.line ∷ []) ≡ length p.before + 1 = omega (arith, length-append p.before (now.line ∷ [])) in
+            same ∙ l.behind.numbered ∙ ap (λ n. min n (2 ^ 32 - 1)) one_more
+
         pub ended_bad : (number : ℕ) (why : Fault) → number ≡ now.number → HasFault p.draft now.line why → IsRun s (BadLine number why) old new first holds
         ended_bad number why same bad = record {
           taken = l.taken;
@@ -108,7 +113,7 @@ module _ {P : Type 0} (stands : P → Draft → Type 0) where
               line = now.line;
               after = l.at.after;
               parts = l.at.parts;
-              counted = same ∙ l.behind.numbered ∙ ap (λ n. min n (2 ^ 32 - 1)) (let e : length (p.before ++ now.line ∷ []) ≡ length p.before + 1 = omega (arith, length-append p.before (now.line ∷ [])) in e);
+              counted = numbered number same;
               ran = ran_before p.before refl;
               fault = bad;
             },
@@ -124,6 +129,16 @@ module _ {P : Type 0} (stands : P → Draft → Type 0) where
           wrote = p.wrote;
           counted = many_so;
           ended = (record { before = p.before; line = now.line; after = l.at.after; parts = l.at.parts; ran = ran_before p.before refl; crowded = crowded }, l.at.near);
+        }
+
+        pub ended_unbuilt : (number : ℕ) → number ≡ now.number → IsReroute now.line → IsRun s (Unbuilt number) old new first holds
+        ended_unbuilt number same reroute = record {
+          taken = l.taken;
+          took = l.behind.took;
+          text = p.text;
+          wrote = p.wrote;
+          counted = many_so;
+          ended = (record { before = p.before; line = now.line; after = l.at.after; parts = l.at.parts; counted = numbered number same; ran = ran_before p.before refl; reroute = reroute }, l.at.near);
         }
 
         pub ended_early : IsRun s NoMemory old new first holds
@@ -189,3 +204,4 @@ standing_so s t WriteFault old new first holds f r = record { taken = r.taken; t
 standing_so s t NoMemory old new first holds f r = record { taken = r.taken; took = r.took; text = r.text; wrote = r.wrote; counted = r.counted; ended = r.ended }
 standing_so s t Crowded old new first holds f r = record { taken = r.taken; took = r.took; text = r.text; wrote = r.wrote; counted = r.counted; ended = r.ended }
 standing_so s t TooLong old new first holds f r = record { taken = r.taken; took = r.took; text = r.text; wrote = r.wrote; counted = r.counted; ended = r.ended }
+standing_so s t (Unbuilt n) old new first holds f r = record { taken = r.taken; took = r.took; text = r.text; wrote = r.wrote; counted = r.counted; ended = r.ended }

@@ -1,15 +1,16 @@
 -- How a run that goes line by line ended: what it took of its source, and what it wrote.
 use Rattle.std.specs.Prelude.{◌≡◌, ◌⊎◌, ℕ, ◌+◌, ◌≤◌, List, [], ◌∷◌, ◌++◌, length, take, Option, None, Some}
 use Rattle.std.specs.Io.KnownBytes.{Appends, Consumes}
+use Rattle.std.specs.List.{All}
 use Rattle.byte_streams.specs.Reading.{most_bytes}
 use Rattle.script_words.specs.Lines.{line_number, text_lines}
 use Rattle.script_grammar.specs.Draft.{Draft}
 use Rattle.script_grammar.specs.Grammar.{HasFault}
 use Rattle.script_grammar.specs.declared.fault.Fault.{Fault}
 use Rattle.network_run.specs.Written.{HasRun, whole_lines, with_feeds}
-use Rattle.network_run.specs.Playing.{IsCrowdedBy}
+use Rattle.network_run.specs.Playing.{IsCrowdedBy, IsReroute}
 use Rattle.network_run.specs.declared.ending.Ending.{Ending}
-use Rattle.network_run.specs.declared.ending.Ending.TheVariants.{Done, BadLine, ReadFault, WriteFault, NoMemory, Crowded, TooLong}
+use Rattle.network_run.specs.declared.ending.Ending.TheVariants.{Done, BadLine, ReadFault, WriteFault, NoMemory, Crowded, TooLong, Unbuilt}
 
 -- all bytes of a source: those that were taken, and those that are left, where it tells them
 abbrev pub all_bytes : List ℕ → Option (List ℕ) → List ℕ
@@ -40,6 +41,16 @@ pub record IsFirstCrowded (bytes text : List ℕ) : Type 0 where
   pub parts : text_lines bytes ≡ before ++ line ∷ after
   pub ran : HasRun before text
   pub crowded : IsCrowdedBy ran.draft line
+
+-- the line of this number, behind lines that were run and wrote this, is one of `reroute`
+pub record IsFirstUnbuilt (number : ℕ) (bytes text : List ℕ) : Type 0 where
+  pub before : List (List ℕ)
+  pub line : List ℕ
+  pub after : List (List ℕ)
+  pub parts : text_lines bytes ≡ before ++ line ∷ after
+  pub counted : number ≡ line_number (length before)
+  pub ran : HasRun before text
+  pub reroute : IsReroute line
 
 -- what the lines before wrote was written, and a front of what the line itself wrote
 pub record EndedWriting (bytes taken text : List ℕ) : Type 0 where
@@ -79,9 +90,14 @@ EndedSo stands WriteFault bytes taken text = EndedWriting bytes taken text
 EndedSo stands NoMemory bytes taken text = EndedEarly bytes text
 EndedSo stands Crowded bytes taken text = (first : IsFirstCrowded bytes text) × IsNear taken first.before
 EndedSo stands TooLong bytes taken text = HasRun (whole_lines (take most_bytes taken)) text
+EndedSo stands (Unbuilt number) bytes taken text = (first : IsFirstUnbuilt number bytes text) × IsNear taken first.before
 
--- What a run over these bytes comes to, and what it writes, unless a fault of a device or want of memory ends it before: all lines
--- are run, or one is the first that is bad, or the first by which the run is crowded.
+-- no line of these bytes is one of `reroute`
+abbrev pub HasNoReroute : List ℕ → Type 0
+HasNoReroute bytes = All (λ line. IsReroute line → ⊥) (text_lines bytes)
+
+-- What a run over these bytes comes to, and what it writes, unless a fault of a device or want of memory ends it before, or a line
+-- of `reroute`: all lines are run, or one is the first that is bad, or the first by which the run is crowded.
 abbrev pub ComesTo : Ending → List ℕ → List ℕ → Type 0
 ComesTo Done bytes text = HasRun (text_lines bytes) text
 ComesTo (BadLine number why) bytes text = IsFirstBad number why bytes text

@@ -19,4 +19,6 @@ pub enum Ending {
     Crowded,
     /// More than 4,194,304 bytes were taken.
     TooLong,
+    /// The line of this number, from 1, is of a kind that is not carried out yet: `reroute`.
+    Unbuilt { line: u32 },
 }

@@ -8,8 +8,12 @@ use Rattle.network_model.specs.Steps.{machine}
 use Rattle.network_model.specs.Worlds.{World}
 use Rattle.script_grammar.specs.Draft.{Draft, plan_of}
 use Rattle.script_grammar.specs.Grammar.{Follows}
+use Rattle.left_over.specs.Fit.{AreFitAll}
+use Rattle.left_over.specs.declared.fact.LeftOver.{LeftOver}
+use Rattle.tree_model.specs.Networks.{Net}
 use Rattle.net_replay.specs.Agreeing.{Agrees, State}
 use Rattle.net_replay.specs.Following.{Seen}
+use Rattle.net_replay.specs.Opening.{IsOpenedBy}
 use Rattle.net_replay.specs.Running.{Makes, Ran}
 use Rattle.net_replay.specs.declared.world_err.WorldErr.{WorldErr}
 use Rattle.net_replay.specs.declared.world_err.WorldErr.TheVariants.{Crowded, NoMemory}
@@ -18,6 +22,10 @@ use Rattle.network_run.specs.Written.{IsRunSoFar, with_event}
 use Rattle.network_run.proofs.Adding.{event_line, quiet_line, quiet_run}
 use Rattle.network_run.proofs.Runs.{crowded_by, last_with, text_with}
 use Rattle.script_player.specs.Standing.{IsAt, IsNetworkOf, RunsOn, RunsOnto, StandsBehind}
+
+-- what is left over is fit for the network that the lines declare
+pub fit_start : (p : Plan) (q seed : ℕ) (net : Net) (names : List (List ℕ)) (ls : List LeftOver) → IsOpenedBy p q seed net names → AreFitAll p.quarter p.net ls → AreFitAll q net ls
+fit_start p q seed net names ls o fit = subst (λ (k : ℕ). AreFitAll k net ls) o.quarter_is (subst (λ (n : Net). AreFitAll p.quarter n ls) o.net_is fit)
 
 module _ {R : Type 0} (see : Seen R) where
   ran_on : (old v : State R) (p : Plan) (e : Event) (r : Result (Unit {0}) WorldErr) (before after : List ℕ) → StandsBehind see old p → is_crowded_run p ≡ false → v.names ≡ old.names

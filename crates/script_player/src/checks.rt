@@ -1,8 +1,9 @@
 //! What checks the lines of a script.
 ghost use Rattle.std.specs.Prelude.{◌≡◌, ◌≤◌, length, IfOk};
 ghost use Rattle.left_over.specs.AtNodes.{list_of};
+ghost use Rattle.left_over.specs.Fit.{AreFitAll};
 ghost use Rattle.script_grammar.specs.Draft.{Draft, plan_of};
-ghost use Rattle.script_player.specs.Checking.{AreFit, Feeds, IsStartOf};
+ghost use Rattle.script_player.specs.Checking.{Feeds, IsStartOf};
 
 use left_over::LeftOver;
 use net_replay::Event;
@@ -16,6 +17,8 @@ use tree_routing::Routing;
 pub enum Refused {
     /// The line is bad: this is its first fault behind the lines before.
     Fault(Fault),
+    /// The line is of a kind that is not carried out yet: `reroute`.
+    Unbuilt,
     /// Memory ran out.
     NoMemory,
 }
@@ -37,8 +40,9 @@ pub trait Checks {
     /// What the lines so far say.
     ghost lines: { Self → Draft };
 
-    /// Takes a line, and gives its event if it is one of part 3. `Fault`: exactly where the line cannot follow those before.
-    /// `NoMemory`: memory ran out. After either nothing more may be fed.
+    /// Takes a line, and gives its event if it is one of part 3. `Unbuilt`: only where the line is one of `reroute`, which is not
+    /// carried out yet. `Fault`: of any other line, exactly where it cannot follow those before. `NoMemory`: memory ran out. After
+    /// a refusal nothing more may be fed.
     fn feed(&mut self, line: &[u8]) -> Result<Option<Event>, Refused>
         requires { length line.now ≤ 2048 }
         ensures { Feeds (lines self.old) line.now result (lines self.new) };
@@ -47,8 +51,9 @@ pub trait Checks {
     fn start(&self) -> Result<Start, NoMemory>
         ensures { IfOk result (λ s. IsStartOf s (plan_of (lines self.now))) };
 
-    /// What is left over at its nodes, in the order of the lines.
+    /// What is left over at its nodes, in the order of the lines. Each lives no longer than a fact that was just refreshed at its
+    /// node, and has the shape of one.
     fn left(&self) -> &[LeftOver]
         ensures list { list_of result.now ≡ (lines self.now).stale }
-        ensures fit { AreFit (lines self.now).net result.now };
+        ensures fit { AreFitAll (plan_of (lines self.now)).quarter (lines self.now).net result.now };
 }

@@ -1,9 +1,9 @@
 //! Routers that a network can be made of.
 ghost use Rattle.std.specs.Prelude.{◌≡◌, ◌≤◌, IfOk, map};
 ghost use Rattle.left_over.specs.AtNodes.{list_of};
+ghost use Rattle.left_over.specs.Fit.{AreFitAll};
 ghost use Rattle.network_model.specs.Runs.{Plan};
 ghost use Rattle.net_replay.specs.Opening.{AreFirst, ArePlaced};
-ghost use Rattle.script_player.specs.Checking.{AreFit};
 
 use left_over::LeftOver;
 use net_replay::Router;
@@ -15,7 +15,7 @@ use tree_routing::Routing;
 pub trait Opens: Router + Drop {
     /// The routers of a network before anything happened, one for each node: each stands where the network has it, with a route
     /// for each tree, and keeps what is left over at it. `quarter` is a quarter of the refresh period, in milliseconds, which is at
-    /// most a minute.
+    /// most a minute. Each fact lives no longer than one that was just refreshed at its node, and has the shape of one.
     /// `NoMemory`: there was no room for them.
     fn open_all(
         alloc: Global,
@@ -25,7 +25,7 @@ pub trait Opens: Router + Drop {
     ) -> Result<Vec<Self>, NoMemory>
         requires long { 1 ≤ quarter }
         requires short { quarter ≤ 15000 }
-        requires fit { AreFit routing.now left.now }
+        requires fit { AreFitAll quarter routing.now left.now }
         ensures placed { IfOk result (λ v. ArePlaced quarter routing.now (map Self.seen.place v.items)) }
         ensures first { IfOk result (λ v. (p : Plan) → p.quarter ≡ quarter → p.net ≡ routing.now → p.stale ≡ list_of left.now → AreFirst Self.seen p v.items) };
 }
