@@ -1,1 +1,3 @@
 mod Living
+mod Routes
+mod Opened

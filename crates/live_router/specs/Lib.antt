@@ -1,2 +1,3 @@
 pub mod SeenNode
 pub mod Living
+pub mod Leaving

@@ -4,9 +4,10 @@ use Rattle.network_model.specs.Runs.{left_over}
 use Rattle.node_facts.specs.State.{State, facts_at}
 use Rattle.router_rules.specs.Facts.{Facts, no_facts}
 use Rattle.router_rules.specs.NodeConfig.{NodeConfig}
-use Rattle.live_network.specs.Leaving.{AreFitAt, place_of}
-use Rattle.live_network.proofs.Opened.{fit_at, none_kept}
-use Rattle.live_network.proofs.network.open_at.Goals as goal
+use Rattle.left_over.specs.Fit.{place_of}
+use Rattle.live_router.specs.Leaving.{AreFitAt}
+use Rattle.live_router.proofs.Opened.{fit_at, none_kept}
+use Rattle.live_router.proofs.network.open_at.Goals as goal
 
 pub left_at-requires : goal.left_at-requires
 left_at-requires c =

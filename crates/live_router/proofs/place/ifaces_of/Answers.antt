@@ -3,7 +3,7 @@ use Rattle.std.specs.Prelude.{◌≤◌, List}
 use Rattle.tree_model.specs.declared.hops.End.{End}
 use Rattle.tree_routing.proofs.KeyLaws.{take_all}
 use Rattle.left_over.proofs.Interfaces.{gathered, ifaces_in, own}
-use Rattle.live_network.proofs.place.ifaces_of.Goals as goal
+use Rattle.live_router.proofs.place.ifaces_of.Goals as goal
 
 pub returns : goal.returns
 returns c =

@@ -6,10 +6,10 @@ ghost use Rattle.node_facts.specs.State.{facts_at};
 ghost use Rattle.network_model.specs.Runs.{left_over};
 ghost use Rattle.left_over.specs.AtNodes.{list_of};
 ghost use Rattle.left_over.specs.Kept.{stale_of};
-ghost use Rattle.live_network.specs.Leaving.{AreFitAt};
+ghost use Rattle.live_router.specs.Leaving.{AreFitAt};
 
+use crate::live_router::LiveRouter;
 use left_over::{Left, LeftOver};
-use live_router::LiveRouter;
 
 /// What is left over at the node of this number is left over at the router, in order, as of the moment 0. Each lives no longer
 /// than a fact that was just refreshed, and has the shape of one. One that the router refuses changes nothing. Nothing is sent.

@@ -4,8 +4,8 @@ use Rattle.std.proofs.lemmas.List.{take_all}
 use Rattle.network_model.specs.Worlds.{route_of}
 use Rattle.tree_model.specs.Trees.{trees_of}
 use Rattle.net_replay.proofs.Moves.{past_end}
-use Rattle.live_network.proofs.Routes.{one_more}
-use Rattle.live_network.proofs.place.routes_at.Goals as goal
+use Rattle.live_router.proofs.Routes.{one_more}
+use Rattle.live_router.proofs.place.routes_at.Goals as goal
 
 pub loop-group-preserved : goal.loop-group-preserved
 loop-group-preserved c =

@@ -2,7 +2,7 @@ use Rattle.std.proofs.Common.{◌∙◌, ap, ℕ, Option}
 use Rattle.router_rules.specs.declared.route.Route.{Route}
 use Rattle.tree_routing.specs.Routes.{inward_iface}
 use Rattle.net_replay.proofs.Moves.{ways_are}
-use Rattle.live_network.proofs.place.route_at.Goals as goal
+use Rattle.live_router.proofs.place.route_at.Goals as goal
 
 pub returns : goal.returns
 returns c =

@@ -1,6 +1,6 @@
 use Rattle.std.proofs.Common.{◌≡◌, take}
 use Rattle.left_over.proofs.Interfaces.{ifaces_in, own}
-use Rattle.live_network.proofs.place.ifaces_of.Given as goal
+use Rattle.live_router.proofs.place.ifaces_of.Given as goal
 
 -- those of the node so far
 abbrev pub invariant-loop-end : goal.invariant-loop-end

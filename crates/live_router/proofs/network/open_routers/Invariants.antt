@@ -5,8 +5,8 @@ use Rattle.left_over.specs.AtNodes.{list_of}
 use Rattle.network_model.specs.Runs.{left_over}
 use Rattle.node_facts.specs.State.{facts_at}
 use Rattle.router_rules.specs.Facts.{no_facts}
-use Rattle.live_network.specs.Leaving.{place_of}
-use Rattle.live_network.proofs.network.open_routers.Given as goal
+use Rattle.left_over.specs.Fit.{place_of}
+use Rattle.live_router.proofs.network.open_routers.Given as goal
 
 -- those of the first nodes so far
 abbrev pub invariant-loop-node : goal.invariant-loop-node

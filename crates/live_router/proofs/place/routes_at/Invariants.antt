@@ -2,7 +2,7 @@ use Rattle.std.proofs.Common.{◌≡◌, ◌-◌, ◌≤◌, length, take}
 use Rattle.std.specs.Prelude.{map as each}
 use Rattle.network_model.specs.Worlds.{route_of}
 use Rattle.tree_model.specs.Trees.{trees_of}
-use Rattle.live_network.proofs.place.routes_at.Given as goal
+use Rattle.live_router.proofs.place.routes_at.Given as goal
 
 -- those of the first trees so far
 abbrev pub invariant-loop-group : goal.invariant-loop-group

@@ -14,7 +14,8 @@ use Rattle.router_rules.specs.Inputs.{Stale}
 use Rattle.router_rules.specs.NodeConfig.{NodeConfig}
 use Rattle.router_rules.specs.Steps.{IsFitStale}
 use Rattle.tree_model.specs.Networks.{Net}
-use Rattle.live_network.specs.Leaving.{AreFitAll, AreFitAt, IsFitAt, place_of}
+use Rattle.left_over.specs.Fit.{AreFitAll, place_of}
+use Rattle.live_router.specs.Leaving.{AreFitAt, IsFitAt}
 
 abbrev first_at : ℕ → Net → List (ℕ × Stale) → ℕ → Facts
 first_at q net ss n = left_over (place_of q net n) n ss no_facts

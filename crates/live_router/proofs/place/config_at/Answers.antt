@@ -2,8 +2,8 @@ use Rattle.std.proofs.Common.{◌∙◌, List, ap}
 use Rattle.tree_model.specs.declared.hops.End.{End}
 use Rattle.tree_model.specs.Networks.{ends_of}
 use Rattle.network_model.specs.Worlds.{ifaces_at}
-use Rattle.live_network.proofs.Routes.{are_routes, few_ifaces}
-use Rattle.live_network.proofs.place.config_at.Goals as goal
+use Rattle.live_router.proofs.Routes.{are_routes, few_ifaces}
+use Rattle.live_router.proofs.place.config_at.Goals as goal
 
 pub new-requires-clause-few : goal.new-requires-clause-few
 new-requires-clause-few c =

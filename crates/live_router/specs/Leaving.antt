@@ -1,17 +1,16 @@
 -- What may be left over at the nodes of a network, and a router that has it.
 use Rattle.std.specs.Prelude.{◌≡◌, ℕ, List}
 use Rattle.std.specs.List.{All}
+use Rattle.left_over.specs.Fit.{place_of}
 use Rattle.left_over.specs.Kept.{stale_of}
 use Rattle.left_over.specs.declared.fact.LeftOver.{LeftOver}
 use Rattle.network_model.specs.Runs.{left_over}
-use Rattle.network_model.specs.Worlds.{config_of}
 use Rattle.node_facts.specs.State.{State, facts_at}
 use Rattle.router_rules.specs.Facts.{no_facts}
 use Rattle.router_rules.specs.Inputs.{Stale}
 use Rattle.router_rules.specs.NodeConfig.{NodeConfig}
 use Rattle.router_rules.specs.Steps.{IsFitStale}
 use Rattle.tree_model.specs.Networks.{Net}
-use Rattle.tree_model.specs.Trees.{trees_of}
 
 -- if the fact is of this node, it may be left over where the node stands
 abbrev pub IsFitAt : NodeConfig → ℕ → LeftOver → Type 0
@@ -19,14 +18,6 @@ IsFitAt p n l = l.node ≡ n → IsFitStale p 0 (stale_of l.fact l.left)
 
 abbrev pub AreFitAt : NodeConfig → ℕ → List LeftOver → Type 0
 AreFitAt p n ls = All (IsFitAt p n) ls
-
--- where a node of the network stands before anything happened
-abbrev pub place_of : ℕ → Net → ℕ → NodeConfig
-place_of q net n = config_of q net (trees_of net.hops) n
-
--- each may be left over where its node stands
-abbrev pub AreFitAll : ℕ → Net → List LeftOver → Type 0
-AreFitAll q net ls = All (λ l. IsFitStale (place_of q net l.node) 0 (stale_of l.fact l.left)) ls
 
 -- the router of a node stands where the network has it, and keeps what is left over at it
 pub record IsOpened (q : ℕ) (net : Net) (ss : List (ℕ × Stale)) (n : ℕ) (r : State) : Type 0 where

@@ -4,12 +4,13 @@ ghost use Rattle.left_over.specs.AtNodes.{list_of};
 ghost use Rattle.live_router.specs.SeenNode.{seen_node};
 ghost use Rattle.network_model.specs.Runs.{Plan};
 ghost use Rattle.net_replay.specs.Opening.{AreFirst, ArePlaced};
-ghost use Rattle.live_network.specs.Leaving.{AreFitAll, IsOpened};
+ghost use Rattle.left_over.specs.Fit.{AreFitAll};
+ghost use Rattle.live_router.specs.Leaving.{IsOpened};
 
 use crate::leaving::left_at;
+use crate::live_router::LiveRouter;
 use crate::place::config_at;
 use left_over::LeftOver;
-use live_router::LiveRouter;
 use rsvp_base::NoMemory;
 use std::alloc::Global;
 use tree_routing::Routing;

@@ -6,9 +6,9 @@ use Rattle.network_model.specs.Runs.{left_over}
 use Rattle.network_parcels.proofs.MadeTables.{made_more}
 use Rattle.node_facts.specs.State.{facts_at}
 use Rattle.router_rules.specs.Facts.{no_facts}
-use Rattle.live_network.specs.Leaving.{place_of}
-use Rattle.live_network.proofs.Opened.{first_of}
-use Rattle.live_network.proofs.network.open_routers.Goals as goal
+use Rattle.left_over.specs.Fit.{place_of}
+use Rattle.live_router.proofs.Opened.{first_of}
+use Rattle.live_router.proofs.network.open_routers.Goals as goal
 
 pub loop-node-preserved : goal.loop-node-preserved
 loop-node-preserved c =

@@ -1,2 +1,0 @@
-mod Routes
-mod Opened
