@@ -14,6 +14,6 @@ by_refusal d text said short reads (Fault why) refused = broken said why short r
 by_refusal d text said short reads NoMemory refused = tt
 by_refusal d text said short reads Unbuilt unbuilt = (said, reads, unbuilt)
 
-pub fed : (d : Draft) (text : List ℕ) (said : Line) → length text ≤ most_line → line_of text ≡ Some said → (r : Result (Unit {0}) Refusal) → IfErr r (Refuses d said) → IfErr r (IsRefused d text)
+pub fed : {A : Type 0} (d : Draft) (text : List ℕ) (said : Line) → length text ≤ most_line → line_of text ≡ Some said → (r : Result A Refusal) → IfErr r (Refuses d said) → IfErr r (IsRefused d text)
 fed d text said short reads (Ok u) refused = tt
 fed d text said short reads (Err x) refused = by_refusal d text said short reads x refused

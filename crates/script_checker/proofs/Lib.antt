@@ -1,7 +1,14 @@
 pub mod Positions
+pub mod Counts
 pub mod LinkRules
 pub mod HopRules
 pub mod SenderRules
 pub mod WantRules
 pub mod LeftRules
+pub mod Words
 pub mod FedLines
+pub mod Kept
+pub mod Unbuilt
+pub mod FitFacts
+pub mod ResvForms
+pub mod ResvRules

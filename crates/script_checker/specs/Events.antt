@@ -1,21 +1,24 @@
 -- The events of the network's run that those of lines are.
-use Rattle.script_checker.specs.declared.event.Event.{Event}
-use Rattle.script_checker.specs.declared.event.Event.TheVariants as event
-use Rattle.router_rules.specs.Inputs.{SendAs, DropAs, WantAs, QuitAll}
-use Rattle.network_model.specs.Events.{Event as Happening, AtNode, Waits, Pass, DeliverAt, LoseAt, CopyAt, ClearNode, Rounds, Traces, Reports, ReportsFlags}
+use Rattle.std.specs.Prelude.{None, Result, Ok, Err}
+use Rattle.rsvp_messages.specs.declared.fault.Fault.TheVariants as fault
+use Rattle.rsvp_messages.specs.declared.fault.MsgErr.{MsgErr}
+use Rattle.rsvp_messages.specs.declared.message.Message.{Message}
+use Rattle.message_wire.specs.Hints.{no_hint}
+use Rattle.router_rules.specs.Inputs.{Arrival, Spelt, Unspelt}
+use Rattle.network_model.specs.Events.{Event, Injects}
+use Rattle.net_replay.specs.Happening.{event_with}
+use Rattle.script_checker.specs.declared.happened.Happened.{Happened}
+use Rattle.script_checker.specs.declared.happened.Happened.TheVariants as happened
 
-abbrev pub event_of : Event → Happening
-event_of (event.Send node session sender flow) = AtNode node (SendAs session sender flow)
-event_of (event.Gone node session sender) = AtNode node (DropAs session sender)
-event_of (event.Want node session style senders flow confirm) = AtNode node (WantAs session style senders flow confirm)
-event_of (event.Quit node session) = AtNode node (QuitAll session)
-event_of (event.Wait ms) = Waits ms
-event_of (event.Pass times) = Pass times
-event_of (event.Deliver place) = DeliverAt place
-event_of (event.Lose place) = LoseAt place
-event_of (event.Again place) = CopyAt place
-event_of (event.Clear node) = ClearNode node
-event_of (event.Rounds times) = Rounds times
-event_of (event.Trace on) = Traces on
-event_of (event.Report end) = Reports end
-event_of event.Flags = ReportsFlags
+-- what bytes are, as they were read
+abbrev pub arrival_of : Result Message MsgErr → Arrival
+arrival_of (Ok m) = Spelt m
+arrival_of (Err e) = Unspelt e
+
+-- what no bytes are
+abbrev pub no_bytes : Arrival
+no_bytes = Unspelt (record { fault = fault.Short; kind = None; hint = no_hint })
+
+abbrev pub event_of : Happened → Event
+event_of (happened.Event e) = event_with no_bytes e
+event_of (happened.Injected end dst read) = Injects end dst (arrival_of read.value)

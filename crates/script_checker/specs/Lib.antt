@@ -6,3 +6,6 @@ pub mod HopRefusals
 pub mod Styles
 pub mod LeftRefusals
 pub mod Said
+pub mod Told
+pub mod Forms
+pub mod Fitness

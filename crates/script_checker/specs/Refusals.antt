@@ -17,6 +17,7 @@ is_built (line.End l) = true
 is_built (line.Link names) = true
 is_built (line.Hop l) = true
 is_built (line.StalePath l) = true
+is_built (line.StaleResv l) = true
 is_built (line.StaleHopWall l) = true
 is_built (line.StaleSenderWall l) = true
 is_built (line.Send l) = true
@@ -34,6 +35,7 @@ is_built (line.Trace on) = true
 is_built line.Report = true
 is_built (line.ReportEnd end) = true
 is_built line.Flags = true
+is_built (line.Inject l) = true
 is_built _ = false
 
 -- the first rule that the line breaks is that of the fault

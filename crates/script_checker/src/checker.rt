@@ -1,8 +1,10 @@
 //! What the lines of a script have said so far.
-ghost use Rattle.std.specs.Prelude.{◌≡◌, ◌≤◌, length, unwrap_or};
-ghost use Rattle.left_over.specs.Listed.{IsOfEnds, nodes_in};
+ghost use Rattle.std.specs.Prelude.{◌≡◌, ◌≤◌, ◌*◌, ◌/◌, length, unwrap_or};
+ghost use Rattle.left_over.specs.Fit.{AreFitAll};
+ghost use Rattle.left_over.specs.Listed.{IsOfEnds, facts_in, nodes_in};
+ghost use Rattle.script_checker.specs.Fitness.{ArePlaced, fit_all_prop};
 
-use crate::event::Event;
+use crate::happened::Happened;
 use crate::names::NameTable;
 use left_over::Leavings;
 use rsvp_base::{NoMemory, Session};
@@ -10,6 +12,9 @@ use script_words::EndName;
 use std::alloc::Global;
 use tree_model::{LocalSender, LocalWant};
 use tree_routing::Topology;
+
+// The period in milliseconds where no line gives one (RFC 2205, 3.7).
+const USUAL_PERIOD: u32 = 30_000;
 
 /// The lines so far. Names are found by their hash.
 #[derive(Drop)]
@@ -34,10 +39,13 @@ pub struct Checker {
     pub(crate) senders: Vec<LocalSender>,
     /// Who wants what, at most 16 units of a session at a node.
     pub(crate) wants: Vec<LocalWant>,
-    pub(crate) events: Vec<Event>,
+    pub(crate) events: Vec<Happened>,
     pub ghost minute: { unwrap_or period 30000 ≤ 60000 },
+    pub ghost long: { 1 ≤ unwrap_or period 30000 / 4 },
+    pub ghost quarters: { 4 * (unwrap_or period 30000 / 4) ≡ unwrap_or period 30000 },
     pub ghost same_nodes: { topology.nodes ≡ length nodes },
     pub ghost few_nodes: { length nodes ≤ 256 },
+    pub ghost placed: { ArePlaced (length nodes) topology.ends },
     // Each name is that of an end. Where memory ran out, the last end may be without one.
     pub ghost ends_there: { length names ≤ length topology.ends },
     pub ghost few_names: { length names ≤ 65536 },
@@ -45,11 +53,12 @@ pub struct Checker {
     // Where memory ran out, what is left over may have a place for one node more.
     pub ghost left_nodes: { length nodes ≤ nodes_in left },
     pub ghost left_there: { IsOfEnds topology.ends left },
+    pub ghost left_fit: { AreFitAll (unwrap_or period 30000 / 4) topology (facts_in left) } by { fit_all_prop (unwrap_or period 30000 / 4) topology (facts_in left) },
 }
 
 impl Checker {
     ghost use Rattle.std.specs.Prelude.{IfOk};
-    ghost use Rattle.script_grammar.specs.Draft.{nothing};
+    ghost use Rattle.script_grammar.specs.Draft.{nothing, period_of};
     ghost use Rattle.script_checker.specs.Checked.{draft_of};
 
     /// No lines. `NoMemory`: there was no room for what is kept of them.
@@ -70,5 +79,13 @@ impl Checker {
             wants: Vec::new(alloc),
             events: Vec::new(alloc),
         })
+    }
+
+    /// The period, in milliseconds.
+    pub(crate) fn refresh_period(&self) -> u32
+        ensures period { result ≡ period_of (draft_of self.now) }
+        ensures minute { result ≤ 60000 }
+    {
+        self.period.unwrap_or(USUAL_PERIOD)
     }
 }

@@ -5,13 +5,13 @@
 #![tactic(auto)]
 
 mod checker;
-mod event;
+mod checking;
 mod feeding;
+mod happened;
 mod names;
 mod refusal;
 mod rules;
+mod starting;
 
 pub use checker::Checker;
-pub use event::Event;
 pub use refusal::Refusal;
-pub use rules::add;

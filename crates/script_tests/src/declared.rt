@@ -1,13 +1,12 @@
 //! Lines of parts 1 and 3, one after the other.
+use net_replay::Event;
 use script_checker::{Checker, Refusal};
 use script_grammar::Fault;
-use std::alloc::Global;
 use std::test::*;
 
 /// What is said of a line behind those that were taken.
-pub fn answer(alloc: Global, checker: &mut Checker, line: &str) -> Result<(), Refusal> {
-    let mut words = Vec::new(alloc);
-    checker.feed(line.as_bytes(), &mut words)
+pub fn answer(checker: &mut Checker, line: &str) -> Result<Option<Event>, Refusal> {
+    checker.take_line(line.as_bytes())
 }
 
 #[test]
@@ -35,24 +34,24 @@ fn lines_are_taken_up_to_a_bad_one(rt: HostRuntime) -> Result<(), Fail> {
         "report b1",
         "flags",
     ] {
-        assert!(rt; answer(alloc, &mut checker, line).is_ok());
+        assert!(rt; answer(&mut checker, line).is_ok());
     }
     assert!(rt;
         matches!(
-            answer(alloc, &mut checker, "node c"),
+            answer(&mut checker, "node c"),
             Err(Refusal::Fault(Fault::Late))
         )
     );
     assert!(rt;
         matches!(
-            answer(alloc, &mut checker, "report c1"),
+            answer(&mut checker, "report c1"),
             Err(Refusal::Fault(Fault::Name))
         )
     );
     assert!(rt;
         matches!(
-            answer(alloc, &mut checker, "inject b1 224.1.1.1 00"),
-            Err(Refusal::Unbuilt)
+            answer(&mut checker, "inject b1 224.1.1.1 00"),
+            Ok(Some(Event::Inject { end: 1, .. }))
         )
     );
     Ok(())
@@ -71,68 +70,68 @@ fn ends_and_links_have_their_first_fault(rt: HostRuntime) -> Result<(), Fail> {
         "end b2 b 10.0.0.3 100000 1500",
         "end c1 c 10.0.0.4 100000 1500",
     ] {
-        assert!(rt; answer(alloc, &mut checker, line).is_ok());
+        assert!(rt; answer(&mut checker, line).is_ok());
     }
     // An address that is a group, and a node that is not there: the range comes first.
     assert!(rt;
         matches!(
-            answer(alloc, &mut checker, "end x z 224.0.0.1 1 1"),
+            answer(&mut checker, "end x z 224.0.0.1 1 1"),
             Err(Refusal::Fault(Fault::Range))
         )
     );
     assert!(rt;
         matches!(
-            answer(alloc, &mut checker, "end x z 10.0.0.1 1 1"),
+            answer(&mut checker, "end x z 10.0.0.1 1 1"),
             Err(Refusal::Fault(Fault::Name))
         )
     );
     assert!(rt;
         matches!(
-            answer(alloc, &mut checker, "end x a 10.0.0.1 1 1"),
+            answer(&mut checker, "end x a 10.0.0.1 1 1"),
             Err(Refusal::Fault(Fault::Twice))
         )
     );
     assert!(rt;
         matches!(
-            answer(alloc, &mut checker, "end a1 a 10.0.0.9 1 1"),
+            answer(&mut checker, "end a1 a 10.0.0.9 1 1"),
             Err(Refusal::Fault(Fault::Twice))
         )
     );
     assert!(rt;
         matches!(
-            answer(alloc, &mut checker, "end x a 10.0.0.9 70368744177664 1"),
+            answer(&mut checker, "end x a 10.0.0.9 70368744177664 1"),
             Err(Refusal::Fault(Fault::Range))
         )
     );
     // Two declared ends of one node beside one that is not there: the range comes first.
     assert!(rt;
         matches!(
-            answer(alloc, &mut checker, "link b1 z1 b2"),
+            answer(&mut checker, "link b1 z1 b2"),
             Err(Refusal::Fault(Fault::Range))
         )
     );
     assert!(rt;
         matches!(
-            answer(alloc, &mut checker, "link a1 a1"),
+            answer(&mut checker, "link a1 a1"),
             Err(Refusal::Fault(Fault::Range))
         )
     );
     assert!(rt;
         matches!(
-            answer(alloc, &mut checker, "link a1 z1"),
+            answer(&mut checker, "link a1 z1"),
             Err(Refusal::Fault(Fault::Name))
         )
     );
-    assert!(rt; answer(alloc, &mut checker, "link c1 a1 b1").is_ok());
+    assert!(rt; answer(&mut checker, "link c1 a1 b1").is_ok());
     assert!(rt;
         matches!(
-            answer(alloc, &mut checker, "link b2 c1"),
+            answer(&mut checker, "link b2 c1"),
             Err(Refusal::Fault(Fault::Twice))
         )
     );
     assert!(rt;
         matches!(
-            answer(alloc, &mut checker, "link b2"),
+            answer(&mut checker, "link b2"),
             Err(Refusal::Fault(Fault::Word))
         )
     );
@@ -159,24 +158,24 @@ fn hops_have_their_first_fault(rt: HostRuntime) -> Result<(), Fail> {
         "hop 224.1.1.1 10.0.0.1 s1 a1",
         "hop 224.1.1.1 10.0.0.1 a2 b1",
     ] {
-        assert!(rt; answer(alloc, &mut checker, line).is_ok(), "{line}");
+        assert!(rt; answer(&mut checker, line).is_ok(), "{line}");
     }
     assert!(rt;
         matches!(
-            answer(alloc, &mut checker, "hop 10.0.0.1 10.0.0.1 z1 a1"),
+            answer(&mut checker, "hop 10.0.0.1 10.0.0.1 z1 a1"),
             Err(Refusal::Fault(Fault::Range))
         )
     );
     assert!(rt;
         matches!(
-            answer(alloc, &mut checker, "hop 224.1.1.1 10.9.0.1 s1 a1"),
+            answer(&mut checker, "hop 224.1.1.1 10.9.0.1 s1 a1"),
             Err(Refusal::Fault(Fault::Name))
         )
     );
     // The tree is at the node already.
     assert!(rt;
         matches!(
-            answer(alloc, &mut checker, "hop 224.1.1.1 10.0.0.1 s2 b2"),
+            answer(&mut checker, "hop 224.1.1.1 10.0.0.1 s2 b2"),
             Err(Refusal::Fault(Fault::NotTree))
         )
     );
@@ -186,10 +185,9 @@ fn hops_have_their_first_fault(rt: HostRuntime) -> Result<(), Fail> {
         "hop 224.1.1.1 10.0.2.1 s1 a1",
         "hop 224.1.1.1 10.0.1.1 a2 b1",
     ] {
-        assert!(rt; answer(alloc, &mut checker, line).is_ok(), "{line}");
+        assert!(rt; answer(&mut checker, line).is_ok(), "{line}");
     }
     let Err(Refusal::Fault(Fault::Loop { from, to, .. })) = answer(
-        alloc,
         &mut checker,
         "hop 224.1.1.1 10.0.1.1 b2 s2",
     ) else {

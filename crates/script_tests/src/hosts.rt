@@ -15,7 +15,7 @@ pub fn opened(alloc: Global) -> Result<Checker, Fail> {
         "end b1 b 10.0.0.2 100000 1500",
         "link a1 b1",
     ] {
-        answer(alloc, &mut checker, line).ok().ok_or("a line")?;
+        answer(&mut checker, line).ok().ok_or("a line")?;
     }
     Ok(checker)
 }
@@ -26,49 +26,36 @@ fn senders_have_their_first_fault(rt: HostRuntime) -> Result<(), Fail> {
     let mut checker = opened(alloc)?;
     assert!(rt;
         matches!(
-            answer(
-                alloc,
-                &mut checker,
-                "send z 10.0.0.1/17/1 10.0.0.1:1 1/1/inf/1/1"
-            ),
+            answer(&mut checker, "send z 10.0.0.1/17/1 10.0.0.1:1 1/1/inf/1/1"),
             Err(Refusal::Fault(Fault::Range))
         )
     );
     assert!(rt;
         matches!(
-            answer(
-                alloc,
-                &mut checker,
-                "send z 224.1.1.1/17/1 10.0.0.1:1 1/1/inf/1/1"
-            ),
+            answer(&mut checker, "send z 224.1.1.1/17/1 10.0.0.1:1 1/1/inf/1/1"),
             Err(Refusal::Fault(Fault::Name))
         )
     );
     // An address of another node.
     assert!(rt;
         matches!(
-            answer(
-                alloc,
-                &mut checker,
-                "send b 224.1.1.1/17/1 10.0.0.1:1 1/1/inf/1/1"
-            ),
+            answer(&mut checker, "send b 224.1.1.1/17/1 10.0.0.1:1 1/1/inf/1/1"),
             Err(Refusal::Fault(Fault::Name))
         )
     );
     assert!(rt;
         matches!(
-            answer(alloc, &mut checker, "drop a 224.1.1.1/17/1 10.0.0.1:1"),
+            answer(&mut checker, "drop a 224.1.1.1/17/1 10.0.0.1:1"),
             Err(Refusal::Fault(Fault::Name))
         )
     );
     for port in 1..17 {
         let line = format!(in alloc; "send a 224.1.1.1/17/1 10.0.0.1:{port} 1/1/inf/1/1")?;
-        assert!(rt; answer(alloc, &mut checker, line.as_str()).is_ok());
+        assert!(rt; answer(&mut checker, line.as_str()).is_ok());
     }
     // A sender that sends already is no 17th.
     assert!(rt;
         answer(
-            alloc,
             &mut checker,
             "send a 224.1.1.1/17/1 10.0.0.1:16 2/2/inf/1/1"
         )
@@ -77,7 +64,6 @@ fn senders_have_their_first_fault(rt: HostRuntime) -> Result<(), Fail> {
     assert!(rt;
         matches!(
             answer(
-                alloc,
                 &mut checker,
                 "send a 224.1.1.1/17/1 10.0.0.1:17 1/1/inf/1/1"
             ),
@@ -86,7 +72,6 @@ fn senders_have_their_first_fault(rt: HostRuntime) -> Result<(), Fail> {
     );
     assert!(rt;
         answer(
-            alloc,
             &mut checker,
             "send a 224.1.1.1/17/2 10.0.0.1:17 1/1/inf/1/1"
         )
@@ -95,20 +80,19 @@ fn senders_have_their_first_fault(rt: HostRuntime) -> Result<(), Fail> {
     // It does not send at this node.
     assert!(rt;
         matches!(
-            answer(alloc, &mut checker, "drop b 224.1.1.1/17/1 10.0.0.1:3"),
+            answer(&mut checker, "drop b 224.1.1.1/17/1 10.0.0.1:3"),
             Err(Refusal::Fault(Fault::Name))
         )
     );
-    assert!(rt; answer(alloc, &mut checker, "drop a 224.1.1.1/17/1 10.0.0.1:3").is_ok());
+    assert!(rt; answer(&mut checker, "drop a 224.1.1.1/17/1 10.0.0.1:3").is_ok());
     assert!(rt;
         matches!(
-            answer(alloc, &mut checker, "drop a 224.1.1.1/17/1 10.0.0.1:3"),
+            answer(&mut checker, "drop a 224.1.1.1/17/1 10.0.0.1:3"),
             Err(Refusal::Fault(Fault::Name))
         )
     );
     assert!(rt;
         answer(
-            alloc,
             &mut checker,
             "send a 224.1.1.1/17/1 10.0.0.1:17 1/1/inf/1/1"
         )
@@ -116,12 +100,11 @@ fn senders_have_their_first_fault(rt: HostRuntime) -> Result<(), Fail> {
     );
     for port in 3..33 {
         let line = format!(in alloc; "send a 224.1.1.1/17/{port} 10.0.0.1:1 1/1/inf/1/1")?;
-        assert!(rt; answer(alloc, &mut checker, line.as_str()).is_ok());
+        assert!(rt; answer(&mut checker, line.as_str()).is_ok());
     }
     assert!(rt;
         matches!(
             answer(
-                alloc,
                 &mut checker,
                 "send a 224.1.1.1/17/33 10.0.0.1:1 1/1/inf/1/1"
             ),

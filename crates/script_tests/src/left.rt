@@ -3,12 +3,11 @@ use crate::declared::answer;
 use crate::hosts::opened;
 use script_checker::{Checker, Refusal};
 use script_grammar::Fault;
-use std::alloc::Global;
 use std::test::*;
 
 // Whether a line is taken.
-fn takes(alloc: Global, checker: &mut Checker, line: &str) -> bool {
-    answer(alloc, checker, line).is_ok()
+fn takes(checker: &mut Checker, line: &str) -> bool {
+    answer(checker, line).is_ok()
 }
 
 #[test]
@@ -21,13 +20,12 @@ fn paths_and_blockades_are_left_over(rt: HostRuntime) -> Result<(), Fail> {
         "stale-blockade b 224.1.1.1/17/1 hop b1 10.0.0.1 2 1/1/inf/1/1 120000",
         "stale-blockade b 224.1.1.1/17/1 sender 10.0.0.1:1 3 1/1/inf/1/1 1",
     ] {
-        assert!(rt; takes(alloc, &mut checker, line));
+        assert!(rt; takes(&mut checker, line));
     }
     // The period is 30,000: 157,500 is the most of a path, 120,000 of a blockade.
     assert!(rt;
         matches!(
             answer(
-                alloc,
                 &mut checker,
                 "stale-path b 224.1.1.1/17/1 10.0.0.1:3 b1 10.0.0.1 1/1/inf/1/1 157501"
             ),
@@ -37,7 +35,6 @@ fn paths_and_blockades_are_left_over(rt: HostRuntime) -> Result<(), Fail> {
     assert!(rt;
         matches!(
             answer(
-                alloc,
                 &mut checker,
                 "stale-blockade b 224.1.1.1/17/1 hop b1 10.0.0.1 4 1/1/inf/1/1 1"
             ),
@@ -48,7 +45,6 @@ fn paths_and_blockades_are_left_over(rt: HostRuntime) -> Result<(), Fail> {
     assert!(rt;
         matches!(
             answer(
-                alloc,
                 &mut checker,
                 "stale-path b 224.1.1.1/17/1 10.0.0.1:3 a1 10.0.0.1 1/1/inf/1/1 1"
             ),
@@ -58,7 +54,6 @@ fn paths_and_blockades_are_left_over(rt: HostRuntime) -> Result<(), Fail> {
     assert!(rt;
         matches!(
             answer(
-                alloc,
                 &mut checker,
                 "stale-path b 224.1.1.1/17/1 10.0.0.1:2 b1 10.0.0.9 9/9/inf/1/1 9"
             ),
@@ -67,7 +62,7 @@ fn paths_and_blockades_are_left_over(rt: HostRuntime) -> Result<(), Fail> {
     );
     assert!(rt;
         matches!(
-            answer(alloc, &mut checker, "node c"),
+            answer(&mut checker, "node c"),
             Err(Refusal::Fault(Fault::Late))
         )
     );

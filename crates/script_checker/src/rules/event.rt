@@ -1,20 +1,20 @@
 //! The rules of lines of part 3.
-ghost use Rattle.std.specs.Prelude.{◌≡◌, IfErr, OnOk};
+ghost use Rattle.std.specs.Prelude.{◌≡◌, ◌↔◌, ◌≤◌, IfErr, IfOk, IfSome, IsSome, IsTrue, OnOk, count_by, length, map};
 ghost use Rattle.script_checker.specs.Checked.{draft_of};
-ghost use Rattle.script_checker.specs.Refusals.{Refuses};
-ghost use Rattle.script_grammar.specs.Adds.{Adds};
-ghost use Rattle.script_grammar.specs.Rules.{Keeps, KeepsAll};
-ghost use Rattle.script_grammar.specs.declared.line.Line.TheVariants as kind;
-ghost use Rattle.std.specs.Prelude.{◌+◌, ◌++◌, ◌∷◌, [], ◌↔◌, ◌≤◌, IfSome, IsSome, IsTrue, None, Some, count_by, map};
-ghost use Rattle.script_grammar.specs.Rules.{HasRoomForReport, is_report};
-ghost use Rattle.script_grammar.specs.Values.{IsFrom1To};
 ghost use Rattle.script_checker.specs.Events.{event_of};
-ghost use Rattle.script_checker.specs.Refusals.{OnlyNoMemory};
+ghost use Rattle.script_checker.specs.Refusals.{Refuses};
+ghost use Rattle.script_checker.specs.Told.{IsTold};
+ghost use Rattle.script_grammar.specs.Adds.{Adds};
+ghost use Rattle.script_grammar.specs.Rules.{HasRoomForReport, Keeps, KeepsAll, is_report};
+ghost use Rattle.script_grammar.specs.Values.{IsFrom1To};
+ghost use Rattle.script_grammar.specs.declared.line.Line.TheVariants as kind;
 
+use super::keeping::keep;
 use crate::checker::Checker;
-use crate::event::Event;
+use crate::happened::Happened;
 use crate::refusal::Refusal;
-use script_grammar::Fault;
+use net_replay::Event;
+use script_grammar::{Fault, InjectLine};
 use script_words::EndName;
 
 const MOST_WAIT: u32 = 3_600_000;
@@ -38,23 +38,21 @@ fn from_1_to(most: u32, number: u128) -> Option<u32>
     Some(number as u32)
 }
 
-/// Keeps an event.
-pub fn keep(checker: &mut Checker, event: Event) -> Result<(), Refusal>
-    ensures ok { OnOk result (draft_of checker.new ≡ record (draft_of checker.old) { events = map event_of checker.old.events.items ++ event_of event ∷ [] }) }
-    ensures refused { IfErr result OnlyNoMemory }
+// Whether a report is written.
+fn is_report(happened: &Happened) -> bool
+    ensures { result ≡ is_report (event_of happened.now) }
 {
-    checker.events.push(event)?;
-    Ok(())
+    matches!(
+        happened,
+        Happened::Event(Event::Report { .. } | Event::Flags)
+    )
 }
 
 // How many reports are written.
-fn reports(events: &[Event]) -> usize
+fn reports(events: &[Happened]) -> usize
     ensures { result ≡ count_by is_report (map event_of events.now) }
 {
-    events
-        .iter()
-        .filter(|event| matches!(event, Event::Report { .. } | Event::Flags))
-        .count()
+    events.iter().filter(|happened| is_report(happened)).count()
 }
 
 // Whether there is room for one more report.
@@ -65,8 +63,9 @@ fn has_room(checker: &Checker) -> bool
 }
 
 /// Adds the event of `wait`.
-pub fn add_wait(checker: &mut Checker, ms: u128) -> Result<(), Refusal>
+pub fn add_wait(checker: &mut Checker, ms: u128) -> Result<Event, Refusal>
     ensures ok { OnOk result (KeepsAll (Keeps (draft_of checker.old) (kind.Wait ms)) × Adds (draft_of checker.old) (kind.Wait ms) (draft_of checker.new)) }
+    ensures told { IfOk result (λ e. IsTold (draft_of checker.old).events e (draft_of checker.new).events) }
     ensures refused { IfErr result (Refuses (draft_of checker.old) (kind.Wait ms)) }
 {
     let Some(ms) = from_1_to(MOST_WAIT, ms) else {
@@ -76,8 +75,9 @@ pub fn add_wait(checker: &mut Checker, ms: u128) -> Result<(), Refusal>
 }
 
 /// Adds the event of `pass`.
-pub fn add_pass(checker: &mut Checker, times: u128) -> Result<(), Refusal>
+pub fn add_pass(checker: &mut Checker, times: u128) -> Result<Event, Refusal>
     ensures ok { OnOk result (KeepsAll (Keeps (draft_of checker.old) (kind.Pass times)) × Adds (draft_of checker.old) (kind.Pass times) (draft_of checker.new)) }
+    ensures told { IfOk result (λ e. IsTold (draft_of checker.old).events e (draft_of checker.new).events) }
     ensures refused { IfErr result (Refuses (draft_of checker.old) (kind.Pass times)) }
 {
     let Some(times) = from_1_to(MOST_PASSES, times) else {
@@ -87,8 +87,9 @@ pub fn add_pass(checker: &mut Checker, times: u128) -> Result<(), Refusal>
 }
 
 /// Adds the event of `rounds`.
-pub fn add_rounds(checker: &mut Checker, times: u128) -> Result<(), Refusal>
+pub fn add_rounds(checker: &mut Checker, times: u128) -> Result<Event, Refusal>
     ensures ok { OnOk result (KeepsAll (Keeps (draft_of checker.old) (kind.Rounds times)) × Adds (draft_of checker.old) (kind.Rounds times) (draft_of checker.new)) }
+    ensures told { IfOk result (λ e. IsTold (draft_of checker.old).events e (draft_of checker.new).events) }
     ensures refused { IfErr result (Refuses (draft_of checker.old) (kind.Rounds times)) }
 {
     let Some(times) = from_1_to(MOST_ROUNDS, times) else {
@@ -98,8 +99,9 @@ pub fn add_rounds(checker: &mut Checker, times: u128) -> Result<(), Refusal>
 }
 
 /// Adds the event of `deliver`.
-pub fn add_deliver(checker: &mut Checker, place: u128) -> Result<(), Refusal>
+pub fn add_deliver(checker: &mut Checker, place: u128) -> Result<Event, Refusal>
     ensures ok { OnOk result (KeepsAll (Keeps (draft_of checker.old) (kind.Deliver place)) × Adds (draft_of checker.old) (kind.Deliver place) (draft_of checker.new)) }
+    ensures told { IfOk result (λ e. IsTold (draft_of checker.old).events e (draft_of checker.new).events) }
     ensures refused { IfErr result (Refuses (draft_of checker.old) (kind.Deliver place)) }
 {
     let Some(place) = from_1_to(MOST_PLACES, place) else {
@@ -109,8 +111,9 @@ pub fn add_deliver(checker: &mut Checker, place: u128) -> Result<(), Refusal>
 }
 
 /// Adds the event of `lose`.
-pub fn add_lose(checker: &mut Checker, place: u128) -> Result<(), Refusal>
+pub fn add_lose(checker: &mut Checker, place: u128) -> Result<Event, Refusal>
     ensures ok { OnOk result (KeepsAll (Keeps (draft_of checker.old) (kind.Lose place)) × Adds (draft_of checker.old) (kind.Lose place) (draft_of checker.new)) }
+    ensures told { IfOk result (λ e. IsTold (draft_of checker.old).events e (draft_of checker.new).events) }
     ensures refused { IfErr result (Refuses (draft_of checker.old) (kind.Lose place)) }
 {
     let Some(place) = from_1_to(MOST_PLACES, place) else {
@@ -120,8 +123,9 @@ pub fn add_lose(checker: &mut Checker, place: u128) -> Result<(), Refusal>
 }
 
 /// Adds the event of `copy`.
-pub fn add_again(checker: &mut Checker, place: u128) -> Result<(), Refusal>
+pub fn add_again(checker: &mut Checker, place: u128) -> Result<Event, Refusal>
     ensures ok { OnOk result (KeepsAll (Keeps (draft_of checker.old) (kind.Copy place)) × Adds (draft_of checker.old) (kind.Copy place) (draft_of checker.new)) }
+    ensures told { IfOk result (λ e. IsTold (draft_of checker.old).events e (draft_of checker.new).events) }
     ensures refused { IfErr result (Refuses (draft_of checker.old) (kind.Copy place)) }
 {
     let Some(place) = from_1_to(MOST_PLACES, place) else {
@@ -131,8 +135,9 @@ pub fn add_again(checker: &mut Checker, place: u128) -> Result<(), Refusal>
 }
 
 /// Adds the event of `clear`.
-pub fn add_clear(checker: &mut Checker, node: EndName) -> Result<(), Refusal>
+pub fn add_clear(checker: &mut Checker, node: EndName) -> Result<Event, Refusal>
     ensures ok { OnOk result (KeepsAll (Keeps (draft_of checker.old) (kind.Clear node)) × Adds (draft_of checker.old) (kind.Clear node) (draft_of checker.new)) }
+    ensures told { IfOk result (λ e. IsTold (draft_of checker.old).events e (draft_of checker.new).events) }
     ensures refused { IfErr result (Refuses (draft_of checker.old) (kind.Clear node)) }
 {
     let Some(node) = checker.nodes.find(node.bytes()) else {
@@ -142,16 +147,18 @@ pub fn add_clear(checker: &mut Checker, node: EndName) -> Result<(), Refusal>
 }
 
 /// Adds the event of `trace`.
-pub fn add_trace(checker: &mut Checker, on: bool) -> Result<(), Refusal>
+pub fn add_trace(checker: &mut Checker, on: bool) -> Result<Event, Refusal>
     ensures ok { OnOk result (KeepsAll (Keeps (draft_of checker.old) (kind.Trace on)) × Adds (draft_of checker.old) (kind.Trace on) (draft_of checker.new)) }
+    ensures told { IfOk result (λ e. IsTold (draft_of checker.old).events e (draft_of checker.new).events) }
     ensures refused { IfErr result (Refuses (draft_of checker.old) (kind.Trace on)) }
 {
     keep(checker, Event::Trace { on })
 }
 
 /// Adds the event of `report`.
-pub fn add_report(checker: &mut Checker) -> Result<(), Refusal>
+pub fn add_report(checker: &mut Checker) -> Result<Event, Refusal>
     ensures ok { OnOk result (KeepsAll (Keeps (draft_of checker.old) (kind.Report)) × Adds (draft_of checker.old) (kind.Report) (draft_of checker.new)) }
+    ensures told { IfOk result (λ e. IsTold (draft_of checker.old).events e (draft_of checker.new).events) }
     ensures refused { IfErr result (Refuses (draft_of checker.old) (kind.Report)) }
 {
     if !has_room(checker) {
@@ -161,8 +168,9 @@ pub fn add_report(checker: &mut Checker) -> Result<(), Refusal>
 }
 
 /// Adds the event of `report END`.
-pub fn add_report_end(checker: &mut Checker, end: EndName) -> Result<(), Refusal>
+pub fn add_report_end(checker: &mut Checker, end: EndName) -> Result<Event, Refusal>
     ensures ok { OnOk result (KeepsAll (Keeps (draft_of checker.old) (kind.ReportEnd end)) × Adds (draft_of checker.old) (kind.ReportEnd end) (draft_of checker.new)) }
+    ensures told { IfOk result (λ e. IsTold (draft_of checker.old).events e (draft_of checker.new).events) }
     ensures refused { IfErr result (Refuses (draft_of checker.old) (kind.ReportEnd end)) }
 {
     let Some(end) = checker.names.find(end.bytes()) else {
@@ -180,12 +188,37 @@ pub fn add_report_end(checker: &mut Checker, end: EndName) -> Result<(), Refusal
 }
 
 /// Adds the event of `flags`.
-pub fn add_flags(checker: &mut Checker) -> Result<(), Refusal>
+pub fn add_flags(checker: &mut Checker) -> Result<Event, Refusal>
     ensures ok { OnOk result (KeepsAll (Keeps (draft_of checker.old) (kind.Flags)) × Adds (draft_of checker.old) (kind.Flags) (draft_of checker.new)) }
+    ensures told { IfOk result (λ e. IsTold (draft_of checker.old).events e (draft_of checker.new).events) }
     ensures refused { IfErr result (Refuses (draft_of checker.old) (kind.Flags)) }
 {
     if !has_room(checker) {
         return Err(Refusal::Fault(Fault::Limit));
     }
     keep(checker, Event::Flags)
+}
+
+/// Adds the event of `inject`.
+pub fn add_inject(checker: &mut Checker, line: InjectLine) -> Result<Event, Refusal>
+    requires { length line.bytes ≤ 4096 }
+    ensures ok { OnOk result (KeepsAll (Keeps (draft_of checker.old) (kind.Inject line)) × Adds (draft_of checker.old) (kind.Inject line) (draft_of checker.new)) }
+    ensures told { IfOk result (λ e. IsTold (draft_of checker.old).events e (draft_of checker.new).events) }
+    ensures refused { IfErr result (Refuses (draft_of checker.old) (kind.Inject line)) }
+{
+    let Some(dst) = line.dst.addr() else {
+        return Err(Refusal::Fault(Fault::Range));
+    };
+    let Some(end) = checker.names.find(line.end.bytes()) else {
+        return Err(Refusal::Fault(Fault::Name));
+    };
+    let bytes = line.bytes.as_slice().to_vec(checker.alloc)?;
+    keep(
+        checker,
+        Event::Inject {
+            end: end as u16,
+            dst,
+            bytes,
+        },
+    )
 }

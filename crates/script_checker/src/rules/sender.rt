@@ -1,7 +1,8 @@
 //! The rules of `send` and `drop`.
-ghost use Rattle.std.specs.Prelude.{◌≡◌, ◌≤◌, ◌↔◌, ◌∷◌, ◌++◌, ◌+◌, [], IsTrue, IsSome, IfSome, IfErr, OnOk, Some, count_by, length, map, not, true};
+ghost use Rattle.std.specs.Prelude.{◌≡◌, ◌≤◌, ◌↔◌, ◌∷◌, ◌++◌, ◌+◌, [], IsTrue, IsSome, IfSome, IfErr, IfOk, OnOk, Some, count_by, length, map, not, true};
 ghost use Rattle.std.specs.List.{filter, list_any};
 ghost use Rattle.router_rules.specs.Inputs.{DropAs, SendAs};
+ghost use Rattle.network_model.specs.Events.{AtNode};
 ghost use Rattle.script_words.specs.Flows.{flow_value};
 ghost use Rattle.script_words.specs.Sessions.{sender_value, session_value};
 ghost use Rattle.tree_model.specs.Networks.{owner};
@@ -9,16 +10,17 @@ ghost use Rattle.tree_model.specs.Wants.{live, of_session};
 ghost use Rattle.script_checker.specs.Checked.{draft_of};
 ghost use Rattle.script_checker.specs.Events.{event_of};
 ghost use Rattle.script_checker.specs.Refusals.{OnlyNoMemory, Refuses};
+ghost use Rattle.script_checker.specs.Told.{IsTold};
 ghost use Rattle.script_grammar.specs.Adds.{Adds, is_sender, sends, with_sender, without_sender};
 ghost use Rattle.script_grammar.specs.Draft.{node_number, with_session};
 ghost use Rattle.script_grammar.specs.Rules.{HasRoomForSession, IsNode, Keeps, KeepsAll, is_sender_at};
 ghost use Rattle.script_grammar.specs.Values.{IsDropInRange, IsSendInRange};
 ghost use Rattle.script_grammar.specs.declared.line.Line.TheVariants as kind;
 
-use super::session::{has_room_for_session, is_session, keep_named};
+use super::session::{has_room_for_session, is_session, keep_call};
 use crate::checker::Checker;
-use crate::event::Event;
 use crate::refusal::Refusal;
+use net_replay::{Event, LocalCall};
 use rsvp_base::{Addr, Flow, Sender, Session};
 use script_grammar::{DropLine, Fault, SendLine};
 use script_words::EndName;
@@ -27,8 +29,9 @@ use tree_model::LocalSender;
 const MOST_SENDERS: usize = 16;
 
 /// Adds a sender.
-pub fn add_send(checker: &mut Checker, line: SendLine) -> Result<(), Refusal>
+pub fn add_send(checker: &mut Checker, line: SendLine) -> Result<Event, Refusal>
     ensures ok { OnOk result (KeepsAll (Keeps (draft_of checker.old) (kind.Send line)) × Adds (draft_of checker.old) (kind.Send line) (draft_of checker.new)) }
+    ensures told { IfOk result (λ e. IsTold (draft_of checker.old).events e (draft_of checker.new).events) }
     ensures refused { IfErr result (Refuses (draft_of checker.old) (kind.Send line)) }
 {
     let Some((session, sender, flow)) = send_values(&line) else {
@@ -49,8 +52,9 @@ pub fn add_send(checker: &mut Checker, line: SendLine) -> Result<(), Refusal>
 }
 
 /// Ends a sender.
-pub fn add_drop(checker: &mut Checker, line: DropLine) -> Result<(), Refusal>
+pub fn add_drop(checker: &mut Checker, line: DropLine) -> Result<Event, Refusal>
     ensures ok { OnOk result (KeepsAll (Keeps (draft_of checker.old) (kind.Drop line)) × Adds (draft_of checker.old) (kind.Drop line) (draft_of checker.new)) }
+    ensures told { IfOk result (λ e. IsTold (draft_of checker.old).events e (draft_of checker.new).events) }
     ensures refused { IfErr result (Refuses (draft_of checker.old) (kind.Drop line)) }
 {
     let Some((session, sender)) = drop_values(&line) else {
@@ -148,8 +152,9 @@ fn has_room_for_sender(checker: &Checker, new: LocalSender) -> bool
 }
 
 // Keeps a sender.
-fn begin(checker: &mut Checker, new: LocalSender, flow: Flow) -> Result<(), Refusal>
-    ensures ok { OnOk result (draft_of checker.new ≡ record (draft_of checker.old) { sessions = with_session checker.old.sessions.items new.session; locals = with_sender (draft_of checker.old).locals new.node new.session new.sender; events = map event_of checker.old.events.items ++ event_of (Event.Send new.node new.session new.sender flow) ∷ [] }) }
+fn begin(checker: &mut Checker, new: LocalSender, flow: Flow) -> Result<Event, Refusal>
+    ensures ok { OnOk result (draft_of checker.new ≡ record (draft_of checker.old) { sessions = with_session checker.old.sessions.items new.session; locals = with_sender (draft_of checker.old).locals new.node new.session new.sender; events = map event_of checker.old.events.items ++ AtNode new.node (SendAs new.session new.sender flow) ∷ [] }) }
+    ensures told { IfOk result (λ e. IsTold (draft_of checker.old).events e (draft_of checker.new).events) }
     ensures refused { IfErr result OnlyNoMemory }
 {
     if !sends(checker.senders.as_slice(), new.session, new.sender) {
@@ -160,11 +165,11 @@ fn begin(checker: &mut Checker, new: LocalSender, flow: Flow) -> Result<(), Refu
         session,
         sender,
     } = new;
-    keep_named(
+    keep_call(
         checker,
+        node,
         session,
-        Event::Send {
-            node,
+        LocalCall::Send {
             session,
             sender,
             flow,
@@ -173,8 +178,9 @@ fn begin(checker: &mut Checker, new: LocalSender, flow: Flow) -> Result<(), Refu
 }
 
 // Takes a sender out.
-fn end(checker: &mut Checker, gone: LocalSender) -> Result<(), Refusal>
-    ensures ok { OnOk result (draft_of checker.new ≡ record (draft_of checker.old) { sessions = with_session checker.old.sessions.items gone.session; locals = without_sender (draft_of checker.old).locals gone.session gone.sender; events = map event_of checker.old.events.items ++ event_of (Event.Gone gone.node gone.session gone.sender) ∷ [] }) }
+fn end(checker: &mut Checker, gone: LocalSender) -> Result<Event, Refusal>
+    ensures ok { OnOk result (draft_of checker.new ≡ record (draft_of checker.old) { sessions = with_session checker.old.sessions.items gone.session; locals = without_sender (draft_of checker.old).locals gone.session gone.sender; events = map event_of checker.old.events.items ++ AtNode gone.node (DropAs gone.session gone.sender) ∷ [] }) }
+    ensures told { IfOk result (λ e. IsTold (draft_of checker.old).events e (draft_of checker.new).events) }
     ensures refused { IfErr result OnlyNoMemory }
 {
     let LocalSender {
@@ -183,15 +189,7 @@ fn end(checker: &mut Checker, gone: LocalSender) -> Result<(), Refusal>
         sender,
     } = gone;
     take_out(&mut checker.senders, session, sender);
-    keep_named(
-        checker,
-        session,
-        Event::Gone {
-            node,
-            session,
-            sender,
-        },
-    )
+    keep_call(checker, node, session, LocalCall::Gone { session, sender })
 }
 
 // Takes a sender out of those that send.

@@ -1,16 +1,20 @@
 //! The sessions that lines name.
-ghost use Rattle.std.specs.Prelude.{◌≡◌, ◌↔◌, ◌∷◌, ◌++◌, [], IsTrue, IfErr, OnOk, map};
+ghost use Rattle.std.specs.Prelude.{◌≡◌, ◌↔◌, ◌∷◌, ◌++◌, [], IsTrue, IfErr, IfOk, OnOk, map};
 ghost use Rattle.std.specs.List.{list_any};
+ghost use Rattle.net_replay.specs.Happening.{call_of};
+ghost use Rattle.network_model.specs.Events.{AtNode};
+ghost use Rattle.router_rules.specs.Steps.{IsFitCall};
 ghost use Rattle.script_checker.specs.Checked.{draft_of};
 ghost use Rattle.script_checker.specs.Events.{event_of};
 ghost use Rattle.script_checker.specs.Refusals.{OnlyNoMemory};
+ghost use Rattle.script_checker.specs.Told.{IsTold};
 ghost use Rattle.script_grammar.specs.Draft.{same_session, with_session};
 ghost use Rattle.script_grammar.specs.Rules.{HasRoomForSession};
 
-use super::event::keep;
+use super::keeping::keep;
 use crate::checker::Checker;
-use crate::event::Event;
 use crate::refusal::Refusal;
+use net_replay::{Event, LocalCall};
 use rsvp_base::Session;
 
 const MOST_SESSIONS: usize = 32;
@@ -44,6 +48,7 @@ pub fn has_room_for_session(checker: &Checker, session: Session) -> bool
 /// Names a session.
 pub fn name_session(checker: &mut Checker, session: Session) -> Result<(), Refusal>
     ensures ok { OnOk result (draft_of checker.new ≡ record (draft_of checker.old) { sessions = with_session checker.old.sessions.items session }) }
+    ensures period { checker.new.period ≡ checker.old.period }
     ensures left { checker.new.left ≡ checker.old.left }
     ensures ends { checker.new.topology ≡ checker.old.topology }
     ensures refused { IfErr result OnlyNoMemory }
@@ -54,13 +59,20 @@ pub fn name_session(checker: &mut Checker, session: Session) -> Result<(), Refus
     Ok(())
 }
 
-/// Keeps an event of a session, which is named by it.
-pub fn keep_named(checker: &mut Checker, session: Session, event: Event) -> Result<(), Refusal>
-    ensures ok { OnOk result (draft_of checker.new ≡ record (draft_of checker.old) { sessions = with_session checker.old.sessions.items session; events = map event_of checker.old.events.items ++ event_of event ∷ [] }) }
+/// Keeps what is asked of a node about a session, which is named by it, and gives the event.
+pub fn keep_call(
+    checker: &mut Checker,
+    node: u16,
+    session: Session,
+    call: LocalCall,
+) -> Result<Event, Refusal>
+    requires { IsFitCall (call_of call) }
+    ensures ok { OnOk result (draft_of checker.new ≡ record (draft_of checker.old) { sessions = with_session checker.old.sessions.items session; events = map event_of checker.old.events.items ++ AtNode node (call_of call) ∷ [] }) }
+    ensures told { IfOk result (λ e. IsTold (draft_of checker.old).events e (draft_of checker.new).events) }
     ensures refused { IfErr result OnlyNoMemory }
 {
     if !is_named(checker.sessions.as_slice(), session) {
         checker.sessions.push(session)?;
     }
-    keep(checker, event)
+    keep(checker, Event::Local { node, call })
 }

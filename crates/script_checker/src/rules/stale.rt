@@ -1,12 +1,11 @@
 //! The rules of what is left over.
 ghost use Rattle.std.specs.Prelude.{◌≡◌, ◌<◌, ◌≤◌, ◌↔◌, ◌*◌, ◌/◌, ◌^◌, [], IfErr, IfSome, IsSome, IsTrue, OnOk, length};
-ghost use Rattle.left_over.specs.AtNodes.{ifaces_at_node};
 ghost use Rattle.left_over.specs.Kept.{stale_of};
-ghost use Rattle.left_over.specs.Standing.{CanStand};
 ghost use Rattle.script_words.specs.Addresses.{addr_value};
 ghost use Rattle.script_words.specs.Flows.{flow_value};
 ghost use Rattle.script_words.specs.Sessions.{sender_value, session_value};
 ghost use Rattle.script_checker.specs.Checked.{draft_of};
+ghost use Rattle.script_checker.specs.Fitness.{IsFitAt};
 ghost use Rattle.script_checker.specs.LeftRefusals.{IsLeft, IsNotLeft};
 ghost use Rattle.script_checker.specs.Refusals.{Refuses};
 ghost use Rattle.script_grammar.specs.Adds.{Adds, with_stale};
@@ -24,9 +23,6 @@ use rsvp_base::{Addr, Flow, Hop, Sender, Session};
 use script_grammar::{Fault, StaleHopWallLine, StalePathLine, StaleSenderWallLine};
 use script_words::EndName;
 use style_rules::{Target, Wall};
-
-// The period in milliseconds where no line gives one (RFC 2205, 3.7).
-const USUAL_PERIOD: u32 = 30_000;
 
 /// Adds a path that is left over.
 pub fn add_path(checker: &mut Checker, line: StalePathLine) -> Result<(), Refusal>
@@ -114,37 +110,29 @@ pub fn add_sender_wall(checker: &mut Checker, line: StaleSenderWallLine) -> Resu
     )
 }
 
-// Whether no event came yet.
-fn is_before_events(checker: &Checker) -> bool
+/// Whether no event came yet.
+pub fn is_before_events(checker: &Checker) -> bool
     ensures { IsTrue result ↔ ((draft_of checker.now).events ≡ []) }
 {
     checker.events.is_empty()
 }
 
-// The period, in milliseconds.
-fn period(checker: &Checker) -> u32
-    ensures period { result ≡ period_of (draft_of checker.now) }
-    ensures minute { result ≤ 60000 }
-{
-    checker.period.unwrap_or(USUAL_PERIOD)
-}
-
-// How long a path or a reservation lives, in milliseconds.
-fn state_life(checker: &Checker) -> u32
+/// How long a path or a reservation lives, in milliseconds.
+pub fn state_life(checker: &Checker) -> u32
     ensures { result ≡ lifetime (period_of (draft_of checker.now)) }
 {
-    21 * (period(checker) / 4)
+    21 * (checker.refresh_period() / 4)
 }
 
 // How long a blockade lives, in milliseconds.
 fn wall_life(checker: &Checker) -> u32
     ensures { result ≡ wall_lifetime (period_of (draft_of checker.now)) }
 {
-    4 * period(checker)
+    4 * checker.refresh_period()
 }
 
-// What is left of a life of so many milliseconds.
-fn left_of(life: u32, left: u128) -> Option<u32>
+/// What is left of a life of so many milliseconds.
+pub fn left_of(life: u32, left: u128) -> Option<u32>
     ensures some { IsSome result ↔ IsFrom1To life left }
     ensures value { IfSome result (λ n. n ≡ left) }
 {
@@ -227,8 +215,8 @@ fn end_of(checker: &Checker, node: &EndName, end: &EndName) -> Option<(u16, u16)
     Some((node, end))
 }
 
-// Keeps a fact that is left over at a node, and names its session.
-fn leave(
+/// Keeps a fact that is left over at a node, and names its session.
+pub fn leave(
     checker: &mut Checker,
     node: u16,
     session: Session,
@@ -236,8 +224,7 @@ fn leave(
     left: u32,
 ) -> Result<(), Refusal>
     requires there { node < length checker.old.nodes }
-    requires some { 1 ≤ left }
-    requires fit { CanStand (ifaces_at_node checker.old.topology.ends node) fact }
+    requires fit { IsFitAt (draft_of checker.old) node (stale_of fact left) }
     ensures left { OnOk result (IsLeft (draft_of checker.old) node session (stale_of fact left)) }
     ensures kept { OnOk result (draft_of checker.new ≡ with_stale (draft_of checker.old) node session (stale_of fact left)) }
     ensures refused { IfErr result (IsNotLeft (draft_of checker.old) node session (stale_of fact left)) }

@@ -4,6 +4,8 @@ ghost use Rattle.std.specs.List.{All, filter, list_all, list_any};
 ghost use Rattle.std.specs.Ordering.{eq_by_cmp};
 ghost use Rattle.rsvp_base.specs.Orders.{styles as by_style, units as by_unit};
 ghost use Rattle.rsvp_messages.specs.Units.{only};
+ghost use Rattle.network_model.specs.Events.{AtNode};
+ghost use Rattle.router_rules.specs.Inputs.{QuitAll};
 ghost use Rattle.script_words.specs.Flows.{IsFlow, flow_value};
 ghost use Rattle.script_words.specs.Sessions.{IsSender, IsSession, sender_value, session_value};
 ghost use Rattle.tree_model.specs.declared.locals.LocalWant.{LocalWant as WantOf};
@@ -11,16 +13,18 @@ ghost use Rattle.script_checker.specs.Checked.{draft_of};
 ghost use Rattle.script_checker.specs.Styles.{fits};
 ghost use Rattle.script_checker.specs.Events.{event_of};
 ghost use Rattle.script_checker.specs.Refusals.{OnlyNoMemory, Refuses};
+ghost use Rattle.script_checker.specs.Forms.{IsWantForm};
+ghost use Rattle.script_checker.specs.Told.{IsTold};
 ghost use Rattle.script_grammar.specs.Adds.{Adds, is_in_place_of, is_want_at, wanted, wants_at, with_want, with_wants, without_wants};
 ghost use Rattle.script_grammar.specs.Draft.{node_number, with_session};
 ghost use Rattle.script_grammar.specs.Rules.{AreDistinct, IsOfWantedStyle, IsWanting, Keeps, KeepsAll};
 ghost use Rattle.script_grammar.specs.Values.{IsWantInRange};
 ghost use Rattle.script_grammar.specs.declared.line.Line.TheVariants as kind;
 
-use super::session::{has_room_for_session, is_session, keep_named};
+use super::session::{has_room_for_session, is_session, keep_call};
 use crate::checker::Checker;
-use crate::event::Event;
 use crate::refusal::Refusal;
+use net_replay::{Event, LocalCall};
 use rsvp_base::{Flow, Part, Sender, Senders, Session, StyleKind, Unit};
 use script_grammar::{Fault, QuitLine, WantLine};
 use script_words::SenderWord;
@@ -31,8 +35,10 @@ use tree_model::LocalWant;
 const MOST_UNITS: usize = 16;
 
 /// Adds what is wanted at a node.
-pub fn add_want(checker: &mut Checker, line: WantLine) -> Result<(), Refusal>
+pub fn add_want(checker: &mut Checker, line: WantLine) -> Result<Event, Refusal>
+    requires { IsWantForm line.style line.senders }
     ensures ok { OnOk result (KeepsAll (Keeps (draft_of checker.old) (kind.Want line)) × Adds (draft_of checker.old) (kind.Want line) (draft_of checker.new)) }
+    ensures told { IfOk result (λ e. IsTold (draft_of checker.old).events e (draft_of checker.new).events) }
     ensures refused { IfErr result (Refuses (draft_of checker.old) (kind.Want line)) }
 {
     let alloc = checker.alloc;
@@ -62,11 +68,11 @@ pub fn add_want(checker: &mut Checker, line: WantLine) -> Result<(), Refusal>
     if want_count(checker.wants.as_slice(), node, session) > MOST_UNITS {
         return Err(Refusal::Fault(Fault::Limit));
     }
-    keep_named(
+    keep_call(
         checker,
+        node,
         session,
-        Event::Want {
-            node,
+        LocalCall::Want {
             session,
             style: line.style,
             senders: names,
@@ -77,8 +83,9 @@ pub fn add_want(checker: &mut Checker, line: WantLine) -> Result<(), Refusal>
 }
 
 /// Takes out what is wanted of a session at a node.
-pub fn add_quit(checker: &mut Checker, line: QuitLine) -> Result<(), Refusal>
+pub fn add_quit(checker: &mut Checker, line: QuitLine) -> Result<Event, Refusal>
     ensures ok { OnOk result (KeepsAll (Keeps (draft_of checker.old) (kind.Quit line)) × Adds (draft_of checker.old) (kind.Quit line) (draft_of checker.new)) }
+    ensures told { IfOk result (λ e. IsTold (draft_of checker.old).events e (draft_of checker.new).events) }
     ensures refused { IfErr result (Refuses (draft_of checker.old) (kind.Quit line)) }
 {
     let Some(session) = line.session.session() else {
@@ -91,16 +98,17 @@ pub fn add_quit(checker: &mut Checker, line: QuitLine) -> Result<(), Refusal>
 }
 
 // Takes the wants of a session at a node out.
-fn leave(checker: &mut Checker, node: u16, session: Session) -> Result<(), Refusal>
-    ensures ok { OnOk result (draft_of checker.new ≡ record (draft_of checker.old) { sessions = with_session checker.old.sessions.items session; locals = without_wants (draft_of checker.old).locals node session; events = map event_of checker.old.events.items ++ event_of (Event.Quit node session) ∷ [] }) }
+fn leave(checker: &mut Checker, node: u16, session: Session) -> Result<Event, Refusal>
+    ensures ok { OnOk result (draft_of checker.new ≡ record (draft_of checker.old) { sessions = with_session checker.old.sessions.items session; locals = without_wants (draft_of checker.old).locals node session; events = map event_of checker.old.events.items ++ AtNode node (QuitAll session) ∷ [] }) }
+    ensures told { IfOk result (λ e. IsTold (draft_of checker.old).events e (draft_of checker.new).events) }
     ensures refused { IfErr result OnlyNoMemory }
 {
     take_out(&mut checker.wants, node, session);
-    keep_named(checker, session, Event::Quit { node, session })
+    keep_call(checker, node, session, LocalCall::Quit { session })
 }
 
-// The senders of these words; none where one is out of range.
-fn sender_values(alloc: Global, words: &[SenderWord]) -> Result<Option<Vec<Sender>>, Refusal>
+/// The senders of these words; none where one is out of range.
+pub fn sender_values(alloc: Global, words: &[SenderWord]) -> Result<Option<Vec<Sender>>, Refusal>
     ensures some { IfOk result (λ found. IsSome found ↔ All IsSender words.now) }
     ensures value { IfOk result (λ found. IfSome found (λ v. v.items ≡ map sender_value words.now)) }
     ensures refused { IfErr result (λ e. e ≡ Refusal.NoMemory) }
@@ -123,8 +131,8 @@ fn want_values(line: &WantLine) -> Option<(Session, Flow)>
     Some((line.session.session()?, line.flow.flow()?))
 }
 
-// Whether no sender stands twice.
-fn are_distinct(senders: &[Sender]) -> bool
+/// Whether no sender stands twice.
+pub fn are_distinct(senders: &[Sender]) -> bool
     ensures { IsTrue result ↔ AreDistinct senders.now }
 {
     match senders {

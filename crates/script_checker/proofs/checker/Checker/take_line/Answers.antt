@@ -5,10 +5,14 @@ use Rattle.script_grammar.specs.Grammar.{too_long, unread}
 use Rattle.script_grammar.specs.LineKinds.{line_of}
 use Rattle.script_checker.specs.Checked.{draft_of}
 use Rattle.script_checker.proofs.FedLines.{fed}
-use Rattle.script_checker.proofs.checker.Checker.feed.Goals as goal
+use Rattle.script_checker.proofs.Words.{formed}
+use Rattle.script_checker.proofs.checker.Checker.take_line.Goals as goal
 
 pub returns-then-text-gt-MOST_LINE-clause-refused : goal.returns-then-text-gt-MOST_LINE-clause-refused
 returns-then-text-gt-MOST_LINE-clause-refused c = too_long (omega (arith, c.if-text-gt-MOST_LINE.true))
+
+pub add-requires : goal.add-requires
+add-requires c = let short : length c.args.text.now ≤ 2048 = omega (arith, c.if-text-gt-MOST_LINE.false) in formed c.args.text.now c.in-Ok.line short c.in-Ok.ensures
 
 pub returns-in-Ok-clause-refused : goal.returns-in-Ok-clause-refused
 returns-in-Ok-clause-refused c =

@@ -1,0 +1,309 @@
+-- A line that was read from at most 2,048 bytes has its form: its words are no longer, and a list of senders names someone.
+use Rattle.std.proofs.Common.{◌≡◌, ℕ, suc, ◌≤◌, ◌<◌, List, [], ◌∷◌, length, Bool, true, false, cond, Option, None, Some, Result, Ok, Err, arith, refl, sym, ap, subst, ◌∙◌, inl, inr, ⊎_elim}
+use Rattle.std.specs.Prelude.{◌*◌, ◌==◌, ◌&&◌, codes, nat_le, nat_lt, map as each}
+use Rattle.std.specs.List.{onto_first, slice_split}
+use Rattle.std.specs.Str.{bytes_eq, byte}
+use Rattle.hex.specs.Hex.{decode_of}
+use Rattle.hex.specs.declared.error.FromHexError.{FromHexError}
+use Rattle.hex.proofs.HexLemmas.{decode_of-ok}
+use Rattle.rsvp_base.specs.declared.session.Sender.{Sender}
+use Rattle.rsvp_base.specs.declared.style.StyleKind.{StyleKind}
+use Rattle.rsvp_base.specs.declared.style.StyleKind.TheVariants.{Wild, Fixed, Shared}
+use Rattle.rsvp_base.specs.Members.{In}
+use Rattle.rsvp_base.specs.Orders.{names_from, senders as by_sender}
+use Rattle.rsvp_base.specs.Sets.{set_of}
+use Rattle.rsvp_base.specs.Table.{size}
+use Rattle.rsvp_base.proofs.Counts.{set_below}
+use Rattle.rsvp_base.proofs.Members.{in_each, in_filter}
+use Rattle.script_words.specs.declared.raw.SenderWord.{SenderWord}
+use Rattle.script_words.specs.Steps.{◌>>=◌, each_of}
+use Rattle.script_words.specs.Words.{words_of}
+use Rattle.script_words.specs.Numbers.{number_of}
+use Rattle.script_words.specs.Names.{name_of}
+use Rattle.script_words.specs.Addresses.{quad_of, quads_of}
+use Rattle.script_words.specs.Parts.{parts_of}
+use Rattle.script_words.specs.Sessions.{session_of, sender_of, sender_value, senders_of}
+use Rattle.script_words.specs.Styles.{style_of}
+use Rattle.script_words.specs.Flows.{flow_of}
+use Rattle.script_words.proofs.PartLemmas.{some_parts}
+use Rattle.router_rules.specs.Steps.{IsFitList}
+use Rattle.script_grammar.specs.Grammar.{most_line}
+use Rattle.script_grammar.specs.LineKinds.{Kinds, as_wild, at_nodes, by_first, bytes_of, clear_line, declared, drop_line, end_line, flags_line, hop_line, hop_wall, in_flight, inject_line, is_comment, left_over, line_of, link_line, lone_number, node_line, numbered, others, pairs_of, pass_line, path_of, period_line, quit_line, report_line, reroute_line, resv_of, said_at_node, said_by, said_in_flight, said_left_over, said_other, seed_line, send_line, sender_wall, some_bytes, stale_blockade_line, stale_hop, stale_path_line, stale_resv_line, stale_sender, stale_senders, trace_line, want_line, want_of, want_senders, wild_word}
+use Rattle.script_grammar.specs.Values.{senders_value}
+use Rattle.script_grammar.specs.declared.line.Line.{Line}
+use Rattle.script_grammar.specs.declared.line.Line.TheVariants as line
+use Rattle.script_checker.specs.Forms.{Formed, IsResvForm, IsWantForm}
+
+-- ---- words are no longer than their line
+abbrev AreShort : ℕ → List (List ℕ) → Type 0
+AreShort n ws = (w : List ℕ) → In w ws → length w ≤ n
+
+-- with one byte more in front of the first part
+onto_short : (n x : ℕ) (parts : List (List ℕ)) → AreShort n parts → AreShort (suc n) (onto_first x parts)
+onto_short n x [] short w (inl e) = subst (λ (z : List ℕ). length z ≤ suc n) (sym e) (omega arith)
+onto_short n x [] short w (inr i) = absurd i
+onto_short n x (part ∷ parts) short w (inl e) = let first = short part (inl refl) in subst (λ (z : List ℕ). length z ≤ suc n) (sym e) (omega (arith, first))
+onto_short n x (part ∷ parts) short w (inr i) = let other = short w (inr i) in omega (arith, other)
+
+with_empty : (n : ℕ) (parts : List (List ℕ)) → AreShort n parts → AreShort (suc n) ([] ∷ parts)
+with_empty n parts short w (inl e) = subst (λ (z : List ℕ). length z ≤ suc n) (sym e) (omega arith)
+with_empty n parts short w (inr i) = let other = short w i in omega (arith, other)
+
+one_more : (n x : ℕ) (parts : List (List ℕ)) → AreShort n parts → (b : Bool) → AreShort (suc n) (cond b ([] ∷ parts) (onto_first x parts))
+one_more n x parts short true = with_empty n parts short
+one_more n x parts short false = onto_short n x parts short
+
+alone : AreShort 0 ([] ∷ [])
+alone w (inl e) = subst (λ (z : List ℕ). length z ≤ 0) (sym e) (omega arith)
+alone w (inr i) = absurd i
+
+split_short : (test : ℕ → Bool) (text : List ℕ) → AreShort (length text) (slice_split test text)
+split_short test [] = alone
+split_short test (x ∷ xs) = one_more (length xs) x (slice_split test xs) (split_short test xs) (test x)
+
+words_short : (text : List ℕ) → AreShort (length text) (words_of text)
+words_short text w i = split_short (λ c. c == byte " ") text w (in_filter (λ word. nat_lt 0 (length word)) w (parts_of (byte " ") text) i).0
+
+-- ---- the form of what is read
+abbrev Good : Option Line → Type 0
+Good None = Unit {0}
+Good (Some l) = Formed l
+
+-- ---- one step after another
+on_read : {A : Type 0} (m : Option A) (next : A → Option Line) → ((a : A) → m ≡ Some a → Good (next a)) → Good (m >>= next)
+on_read None next h = tt
+on_read (Some a) next h = h a refl
+
+opened : {A B : Type 0} (m : Option A) (next : A → Option B) (b : B) → (m >>= next) ≡ Some b → (a : A) × (m ≡ Some a) × (next a ≡ Some b)
+opened None next b e = absurd (cc)
+opened (Some a) next b e = (a, refl, e)
+
+the_same : {A : Type 0} (a b : A) → Some a ≡ Some b → a ≡ b
+the_same a b e = cc
+
+choose : (b : Bool) (x y : Option Line) → (b ≡ true → Good x) → Good y → Good (cond b x y)
+choose true x y h k = h refl
+choose false x y h k = k
+
+as_many : {W X : Type 0} (read : W → Option X) (ws : List W) (xs : List X) → each_of read ws ≡ Some xs → length xs ≡ length ws
+as_many read [] xs e = ap length (sym (the_same [] xs e))
+as_many {W} {X} read (w ∷ ws) xs e =
+    let a = opened (read w) (λ x. each_of read ws >>= λ ys. Some (x ∷ ys)) xs e in
+    let b = opened (each_of read ws) (λ ys. Some (a.0 ∷ ys)) xs a.2 in
+    ap length (sym (the_same (a.0 ∷ b.0) xs b.2)) ∙ ap suc (as_many read ws b.0 b.1)
+
+-- ---- lists of senders
+some_senders : (word : List ℕ) (xs : List SenderWord) → senders_of word ≡ Some xs → 0 < length xs
+some_senders word xs e = let same = as_many sender_of (parts_of (byte ",") word) xs e in let some = some_parts (byte ",") word in omega (arith, same, some)
+
+pub length_each : {A B : Type 0} (f : A → B) (xs : List A) → length (each f xs) ≡ length xs
+length_each f [] = refl
+length_each f (x ∷ xs) = ap suc (length_each f xs)
+
+resv_form : (st : StyleKind) (word : List ℕ) (xs : List SenderWord) → stale_senders st word ≡ Some xs → IsResvForm st xs
+resv_form Wild word xs e =
+    let a = opened (quads_of word) as_wild xs e in
+    let same : each wild_word a.0 ≡ xs = the_same (each wild_word a.0) xs a.2 in
+    let many = as_many quad_of (parts_of (byte ",") word) a.0 a.1 in
+    let some = some_parts (byte ",") word in
+    let size = length_each wild_word a.0 in
+    subst (IsResvForm Wild) same (omega (arith, many, some, size), λ x i. let q = in_each wild_word x a.0 i in ap (λ (z : SenderWord). z.port) q.2)
+resv_form Fixed word xs e = some_senders word xs e
+resv_form Shared word xs e = some_senders word xs e
+
+want_form : (st : StyleKind) (word : List ℕ) (xs : List SenderWord) → want_senders st word ≡ Some xs → IsWantForm st xs
+want_form Wild word xs e = tt
+want_form Fixed word xs e = some_senders word xs e
+want_form Shared word xs e = some_senders word xs e
+
+bytes_form : (word bytes : List ℕ) → bytes_of word ≡ Some bytes → length word ≡ 2 * length bytes
+bytes_form word bytes e = by (decode_of word) refl e
+  where
+    by : (r : Result (List ℕ) FromHexError) → decode_of word ≡ r → some_bytes r ≡ Some bytes → length word ≡ 2 * length bytes
+    by (Ok []) d f = absurd (cc)
+    by (Ok (b ∷ bs)) d f = let same : b ∷ bs ≡ bytes = the_same (b ∷ bs) bytes f in subst (λ (z : List ℕ). length word ≡ 2 * length z) same (decode_of-ok word (b ∷ bs) d).2
+    by (Err x) d f = absurd (cc)
+
+-- ---- part 1
+period_good : (ws : List (List ℕ)) → Good (period_line ws)
+unfolding period_line
+period_good (ms ∷ []) = on_read (number_of ms) _ (λ n _. tt)
+period_good _ = tt
+
+seed_good : (ws : List (List ℕ)) → Good (seed_line ws)
+unfolding seed_line
+seed_good (seed ∷ []) = on_read (number_of seed) _ (λ n _. tt)
+seed_good _ = tt
+
+node_good : (ws : List (List ℕ)) → Good (node_line ws)
+unfolding node_line
+node_good (name ∷ []) = on_read (name_of name) _ (λ n _. tt)
+node_good _ = tt
+
+end_good : (ws : List (List ℕ)) → Good (end_line ws)
+unfolding end_line
+end_good (name ∷ node ∷ addr ∷ capacity ∷ mtu ∷ []) =
+    on_read (name_of name) _ (λ n _. on_read (name_of node) _ (λ m _. on_read (quad_of addr) _ (λ a _. on_read (number_of capacity) _ (λ c _. on_read (number_of mtu) _ (λ u _. tt)))))
+end_good _ = tt
+
+link_good : (ws : List (List ℕ)) → Good (link_line ws)
+unfolding link_line
+link_good ws = choose (nat_le 2 (length ws) && nat_le (length ws) 8) _ None (λ e. on_read (each_of name_of ws) _ (λ names read. tt)) tt
+
+hop_good : (ws : List (List ℕ)) → Good (hop_line ws)
+unfolding hop_line
+hop_good (group ∷ source ∷ from ∷ to ∷ []) = on_read (quad_of group) _ (λ g _. on_read (quad_of source) _ (λ s _. on_read (name_of from) _ (λ f _. on_read (name_of to) _ (λ t _. tt))))
+hop_good _ = tt
+
+-- ---- part 2
+path_good : (ws : List (List ℕ)) → Good (stale_path_line ws)
+unfolding stale_path_line path_of
+path_good (node ∷ session ∷ sender ∷ end ∷ addr ∷ flow ∷ left ∷ []) =
+    on_read (name_of node) _ (λ n _. on_read (session_of session) _ (λ s _. on_read (sender_of sender) _ (λ x _. on_read (name_of end) _ (λ e _. on_read (quad_of addr) _ (λ a _. on_read (flow_of flow) _ (λ f _. on_read (number_of left) _ (λ l _. tt)))))))
+path_good _ = tt
+
+resv_good : (ws : List (List ℕ)) → Good (stale_resv_line ws)
+unfolding stale_resv_line resv_of
+resv_good (end ∷ session ∷ style ∷ addr ∷ senders ∷ flow ∷ left ∷ []) =
+    on_read (name_of end) _
+    (λ e _. on_read (session_of session) _ (λ s _. on_read (style_of style) _ (λ st _. on_read (quad_of addr) _ (λ a _. on_read (stale_senders st senders) _ (λ x read. on_read (flow_of flow) _ (λ f _. on_read (number_of left) _ (λ l _. resv_form st senders x read)))))))
+resv_good _ = tt
+
+hop_wall_good : (node session : List ℕ) (ws : List (List ℕ)) → Good (stale_hop node session ws)
+unfolding stale_hop hop_wall
+hop_wall_good node session (end ∷ addr ∷ sub ∷ flow ∷ left ∷ []) =
+    on_read (name_of node) _ (λ n _. on_read (session_of session) _ (λ s _. on_read (name_of end) _ (λ e _. on_read (quad_of addr) _ (λ a _. on_read (number_of sub) _ (λ v _. on_read (flow_of flow) _ (λ f _. on_read (number_of left) _ (λ l _. tt)))))))
+hop_wall_good node session _ = tt
+
+sender_wall_good : (node session : List ℕ) (ws : List (List ℕ)) → Good (stale_sender node session ws)
+unfolding stale_sender sender_wall
+sender_wall_good node session (sender ∷ sub ∷ flow ∷ left ∷ []) =
+    on_read (name_of node) _ (λ n _. on_read (session_of session) _ (λ s _. on_read (sender_of sender) _ (λ x _. on_read (number_of sub) _ (λ v _. on_read (flow_of flow) _ (λ f _. on_read (number_of left) _ (λ l _. tt))))))
+sender_wall_good node session _ = tt
+
+wall_good : (ws : List (List ℕ)) → Good (stale_blockade_line ws)
+unfolding stale_blockade_line
+wall_good (node ∷ session ∷ target ∷ behind) =
+    choose (bytes_eq target (codes "hop")) _ _ (λ _. hop_wall_good node session behind) (choose (bytes_eq target (codes "sender")) _ None (λ _. sender_wall_good node session behind) tt)
+wall_good _ = tt
+
+-- ---- part 3
+send_good : (ws : List (List ℕ)) → Good (send_line ws)
+unfolding send_line
+send_good (node ∷ session ∷ sender ∷ flow ∷ []) = on_read (name_of node) _ (λ n _. on_read (session_of session) _ (λ s _. on_read (sender_of sender) _ (λ x _. on_read (flow_of flow) _ (λ f _. tt))))
+send_good _ = tt
+
+drop_good : (ws : List (List ℕ)) → Good (drop_line ws)
+unfolding drop_line
+drop_good (node ∷ session ∷ sender ∷ []) = on_read (name_of node) _ (λ n _. on_read (session_of session) _ (λ s _. on_read (sender_of sender) _ (λ x _. tt)))
+drop_good _ = tt
+
+want_of_good : (node session style senders flow : List ℕ) (confirm : Bool) → Good (want_of node session style senders flow confirm)
+unfolding want_of
+want_of_good node session style senders flow confirm =
+    on_read (name_of node) _ (λ n _. on_read (session_of session) _ (λ s _. on_read (style_of style) _ (λ st _. on_read (want_senders st senders) _ (λ x read. on_read (flow_of flow) _ (λ f _. want_form st senders x read)))))
+
+want_good : (ws : List (List ℕ)) → Good (want_line ws)
+unfolding want_line
+want_good (node ∷ session ∷ style ∷ senders ∷ flow ∷ []) = want_of_good node session style senders flow false
+want_good (node ∷ session ∷ style ∷ senders ∷ flow ∷ confirm ∷ []) = choose (bytes_eq confirm (codes "confirm")) _ None (λ _. want_of_good node session style senders flow true) tt
+want_good _ = tt
+
+quit_good : (ws : List (List ℕ)) → Good (quit_line ws)
+unfolding quit_line
+quit_good (node ∷ session ∷ []) = on_read (name_of node) _ (λ n _. on_read (session_of session) _ (λ s _. tt))
+quit_good _ = tt
+
+numbered_good : (kind : ℕ → Line) → ((n : ℕ) → Formed (kind n)) → (ws : List (List ℕ)) → Good (numbered kind ws)
+numbered_good kind h ws = on_read (lone_number ws) (λ n. Some (kind n)) (λ n _. h n)
+
+pass_good : (ws : List (List ℕ)) → Good (pass_line ws)
+unfolding pass_line
+pass_good (number ∷ []) = on_read (number_of number) _ (λ n _. tt)
+pass_good _ = tt
+
+clear_good : (ws : List (List ℕ)) → Good (clear_line ws)
+unfolding clear_line
+clear_good (node ∷ []) = on_read (name_of node) _ (λ n _. tt)
+clear_good _ = tt
+
+trace_good : (ws : List (List ℕ)) → Good (trace_line ws)
+unfolding trace_line
+trace_good (word ∷ []) = choose (bytes_eq word (codes "on")) _ _ (λ _. tt) (choose (bytes_eq word (codes "off")) _ None (λ _. tt) tt)
+trace_good _ = tt
+
+report_good : (ws : List (List ℕ)) → Good (report_line ws)
+unfolding report_line
+report_good (end ∷ []) = on_read (name_of end) _ (λ n _. tt)
+report_good _ = tt
+
+flags_good : (ws : List (List ℕ)) → Good (flags_line ws)
+unfolding flags_line
+flags_good [] = tt
+flags_good _ = tt
+
+inject_good : (ws : List (List ℕ)) → AreShort most_line ws → Good (inject_line ws)
+unfolding inject_line
+inject_good (end ∷ addr ∷ digits ∷ []) short =
+    on_read (name_of end) _
+    (λ e _. on_read (quad_of addr) _
+    (λ a _. on_read (bytes_of digits) _
+    (λ b read. let twice = bytes_form digits b read in let few = short digits (inr (inr (inl refl))) in omega (arith, twice, few))))
+inject_good _ short = tt
+
+reroute_good : (ws : List (List ℕ)) → Good (reroute_line ws)
+unfolding reroute_line
+reroute_good (group ∷ source ∷ ends) = on_read (quad_of group) _ (λ g _. on_read (quad_of source) _ (λ s _. on_read (pairs_of ends) _ (λ hops _. tt)))
+reroute_good _ = tt
+
+-- ---- a line, by its first word
+AreGood : Kinds → Type 0
+AreGood [] = Unit {0}
+AreGood (kind ∷ more) = ((ws : List (List ℕ)) → AreShort most_line ws → Good (kind.1 ws)) × AreGood more
+
+by_first_good : (kinds : Kinds) (other : List ℕ → List (List ℕ) → Option Line) → AreGood kinds → ((f : List ℕ) (ws : List (List ℕ)) → AreShort most_line ws → Good (other f ws)) → (first : List ℕ) (behind : List (List ℕ)) → AreShort most_line behind → Good (by_first kinds other first behind)
+unfolding AreGood
+by_first_good [] other h k first behind short = k first behind short
+by_first_good (kind ∷ more) other h k first behind short = choose (bytes_eq first kind.0) (kind.1 behind) (by_first more other first behind) (λ _. h.0 behind short) (by_first_good more other h.1 k first behind short)
+
+others_good : (f : List ℕ) (ws : List (List ℕ)) → AreShort most_line ws → Good (said_other f ws)
+unfolding AreGood said_other
+others_good = by_first_good others (λ f b. None) ((λ ws _. trace_good ws), ((λ ws _. report_good ws), ((λ ws _. flags_good ws), ((λ ws _. reroute_good ws), tt)))) (λ f b short. tt)
+
+flight_good : (f : List ℕ) (ws : List (List ℕ)) → AreShort most_line ws → Good (said_in_flight f ws)
+unfolding AreGood said_in_flight
+flight_good =
+    by_first_good in_flight said_other
+    ((λ ws _. numbered_good line.Wait (λ n. tt) ws), ((λ ws _. pass_good ws), ((λ ws _. numbered_good line.Rounds (λ n. tt) ws), ((λ ws _. numbered_good line.Deliver (λ n. tt) ws), ((λ ws _. numbered_good line.Lose (λ n. tt) ws), ((λ ws _. numbered_good line.Copy (λ n. tt) ws), (inject_good, tt))))))) others_good
+
+nodes_good : (f : List ℕ) (ws : List (List ℕ)) → AreShort most_line ws → Good (said_at_node f ws)
+unfolding AreGood said_at_node
+nodes_good = by_first_good at_nodes said_in_flight ((λ ws _. send_good ws), ((λ ws _. drop_good ws), ((λ ws _. want_good ws), ((λ ws _. quit_good ws), ((λ ws _. clear_good ws), tt))))) flight_good
+
+left_good : (f : List ℕ) (ws : List (List ℕ)) → AreShort most_line ws → Good (said_left_over f ws)
+unfolding AreGood said_left_over
+left_good = by_first_good left_over said_at_node ((λ ws _. path_good ws), ((λ ws _. resv_good ws), ((λ ws _. wall_good ws), tt))) nodes_good
+
+said_good : (ws : List (List ℕ)) → AreShort most_line ws → Good (said_by ws)
+unfolding AreGood said_by
+said_good [] short = tt
+said_good (first ∷ behind) short = by_first_good declared said_left_over ((λ ws _. period_good ws), ((λ ws _. seed_good ws), ((λ ws _. node_good ws), ((λ ws _. end_good ws), ((λ ws _. link_good ws), ((λ ws _. hop_good ws), tt)))))) left_good first behind (λ w i. short w (inr i))
+
+pub formed : (text : List ℕ) (said : Line) → length text ≤ most_line → line_of text ≡ Some said → Formed said
+formed text said few e =
+    let short : AreShort most_line (words_of text) = λ w i. let each_one = words_short text w i in omega (arith, few, each_one) in
+    subst Good e (choose (is_comment text) (Some line.Skipped) (said_by (words_of text)) (λ _. tt) (said_good (words_of text) short))
+
+-- ---- who is named
+some_named : (xs : List Sender) → 0 < length xs → 0 < size (names_from xs)
+some_named [] lt = absurd (omega arith)
+some_named (x ∷ ys) lt =
+    let le = set_below by_sender (x ∷ []) (x ∷ ys) (λ k i. ⊎_elim (λ (e : k ≡ x). inl e) (λ (e : ⊥). absurd e) i) in
+    let one : size (set_of {o = by_sender} (x ∷ [])) ≡ 1 = refl in
+    omega (arith, le, one)
+
+-- what a want names is a list that a call may have
+pub fit_list : (st : StyleKind) (words : List SenderWord) → IsWantForm st words → size (senders_value words) ≤ 16 → IsFitList st (senders_value words)
+fit_list Wild words form few = tt
+fit_list Fixed words form few = tt
+fit_list Shared words form few = let size = length_each sender_value words in (some_named (each sender_value words) (omega (arith, form, size)), few)

@@ -1,0 +1,30 @@
+//! Lines are checked as the player of a script asks.
+use crate::checker::Checker;
+use crate::refusal::Refusal;
+use left_over::LeftOver;
+use net_replay::Event;
+use rsvp_base::NoMemory;
+use script_player::{Checks, Refused, Start};
+
+impl Checks for Checker {
+    ghost use Rattle.script_checker.specs.Checked.{draft_of};
+
+    ghost lines = { draft_of };
+
+    fn feed(&mut self, line: &[u8]) -> Result<Option<Event>, Refused> {
+        match self.take_line(line) {
+            Ok(event) => Ok(event),
+            Err(Refusal::Fault(fault)) => Err(Refused::Fault(fault)),
+            Err(Refusal::NoMemory) => Err(Refused::NoMemory),
+            Err(Refusal::Unbuilt) => Err(Refused::Unbuilt),
+        }
+    }
+
+    fn start(&self) -> Result<Start, NoMemory> {
+        self.start_of()
+    }
+
+    fn left(&self) -> &[LeftOver] {
+        self.left_over()
+    }
+}
