@@ -1,26 +1,19 @@
-//! `rsvpd`: replays the script of a network of RSVP routers, and writes what each link has reserved; or shows messages in
-//! words.
+//! `rsvpd`: replays the script of a network of RSVP routers, and writes what its events report; or shows messages in words.
+//!
+//! What it promises is said at `run_command` of `command_run`, which it calls with the checker of scripts, live routers, and
+//! standard input and output.
 #![tactic(auto)]
 
-mod expiry;
-mod kept;
-mod ledger;
-mod network;
-mod node;
-mod opening;
-mod replay;
-mod status;
-mod task;
 #[cfg(test)]
 mod tests;
-mod text;
-mod top;
 
-use net_script::{StdSink, StdSource};
-use status::Status;
+use byte_streams::{Sink, Source, StdSink, StdSource};
+use command_run::{Status, run_command};
+use live_router::LiveRouter;
+use script_checker::Checker;
+use std::alloc::Global;
 use std::process::ExitCode;
 use std::{env, io};
-use top::run;
 
 fn main(rt: HostRuntime) -> ExitCode {
     let status = match words(&rt) {
@@ -32,7 +25,7 @@ fn main(rt: HostRuntime) -> ExitCode {
         Err(status) => status,
     };
     // The status tells how the run ended, also where its text cannot be printed.
-    let _ = print(&rt, status);
+    let _ = print(&rt, &status);
     ExitCode::from(status.code())
 }
 
@@ -49,15 +42,24 @@ fn words(rt: &HostRuntime) -> Result<Vec<String>, Status> {
     Ok(words)
 }
 
+// Runs the task of the words over live routers.
+fn run<S: Source, K: Sink>(
+    alloc: Global,
+    words: &Vec<String>,
+    source: &mut S,
+    sink: &mut K,
+) -> Status {
+    let Ok(checker) = Checker::open(alloc) else {
+        return Status::NoMemory;
+    };
+    let mut last = None;
+    run_command::<Checker, LiveRouter, S, K>(alloc, words, checker, source, sink, &mut last)
+}
+
 // Prints the text of a status on standard error.
-fn print(rt: &HostRuntime, status: Status) -> io::Result<()> {
+fn print(rt: &HostRuntime, status: &Status) -> io::Result<()> {
     match status {
         Status::Done => Ok(()),
-        Status::Usage => eprintln!(rt; "usage: rsvpd replay|demand|show|grow [--seed N]"),
-        Status::BadLine(e) => eprintln!(rt; "{e}"),
-        Status::ReadFault => eprintln!(rt; "read fault"),
-        Status::WriteFault => eprintln!(rt; "write fault"),
-        Status::NoMemory => eprintln!(rt; "no memory"),
-        Status::TooLong => eprintln!(rt; "too long"),
+        _ => eprintln!(rt; "{status}"),
     }
 }

@@ -1,7 +1,6 @@
 //! Runs over sources and sinks in memory: what no clause says, and the worked rows.
-use crate::status::Status;
-use crate::top::run;
-use net_script::{LineErr, LineWhy, MemorySink, MemorySource, PlainSink, PlainSource};
+use crate::run;
+use byte_streams::{MemorySink, MemorySource, PlainSink, PlainSource};
 use std::alloc::{AllocError, Global};
 use std::test::Fail;
 
@@ -90,10 +89,61 @@ fn words(alloc: Global, all: &[&str]) -> Result<Vec<String>, AllocError> {
     Ok(words)
 }
 
-// The end of a run at a bad line.
-fn bad(line: u32, why: LineWhy) -> Status {
-    Status::BadLine(LineErr { line, why })
-}
+const A_NETWORK: &[u8] = b"node s
+node r
+node t
+end s1 s 10.0.1.1 10000 1500
+end r1 r 10.0.1.2 10000 1500
+end r2 r 10.0.2.1 10000 1500
+end t1 t 10.0.2.2 10000 1500
+link s1 r1
+link r2 t1
+hop 239.1.1.1 10.0.1.1 s1 r1
+hop 239.1.1.1 10.0.1.1 r2 t1
+stale-resv r2 239.1.1.1/17/5004 FF 10.0.2.2 10.0.1.1:5004 50/50/inf/1/1500 60000
+send s 239.1.1.1/17/5004 10.0.1.1:5004 1000/2000/inf/64/1500
+want t 239.1.1.1/17/5004 WF * 1000/2000/inf/64/1500
+trace on
+pass 3
+trace off
+rounds 48
+report
+";
+
+const ITS_TEXT: &[u8] = b"r1 Path taken
+t1 Path taken
+s1 Resv taken
+r2 Resv answered 5/10
+end s1 held 1000 of 10000
+239.1.1.1/17/5004 WF 10.0.1.1 1000/2000/inf/64/1500
+end r1 held 0 of 10000
+end r2 held 1000 of 10000
+239.1.1.1/17/5004 WF 10.0.1.1 1000/2000/inf/64/1500
+end t1 held 0 of 10000
+";
+
+const A_RING: &[u8] = b"node a
+node b
+node c
+end a1 a 10.0.1.1 1000 1500
+end a2 a 10.0.3.2 1000 1500
+end b1 b 10.0.1.2 1000 1500
+end b2 b 10.0.2.1 1000 1500
+end c1 c 10.0.2.2 1000 1500
+end c2 c 10.0.3.1 1000 1500
+link a1 b1
+link b2 c1
+link c2 a2
+hop 239.1.1.1 10.0.1.1 a1 b1
+hop 239.1.1.1 10.0.1.1 b2 c1
+hop 239.1.1.1 10.0.2.1 b2 c1
+hop 239.1.1.1 10.0.2.1 c2 a2
+hop 239.1.1.1 10.0.3.1 c2 a2
+hop 239.1.1.1 10.0.3.1 a1 b1
+";
+
+// The words, the input, the exit status, its text, and what is written.
+type Row<'a> = (&'a [&'a str], &'a [u8], u8, &'a str, &'a [u8]);
 
 #[test]
 fn runs_end_and_write_what_their_words_order(rt: HostRuntime) -> Result<(), Fail> {
@@ -102,69 +152,80 @@ fn runs_end_and_write_what_their_words_order(rt: HostRuntime) -> Result<(), Fail
     let too_long = vec![in alloc; b'x'; 8195]?;
     let replay: &[&str] = &["replay"];
     let show: &[&str] = &["show"];
-    let table: [(&[&str], &[u8], Status, &[u8]); 24] = [
-        (replay, FIRST_RUN, Status::Done, ITS_REPORTS),
-        (replay, b"", Status::Done, b""),
-        (replay, b"report\n", Status::Done, b""),
+    let usage = "usage: rsvpd replay|demand|show|grow [--seed N]";
+    let table: [Row; 27] = [
+        (replay, FIRST_RUN, 0, "", ITS_REPORTS),
+        (replay, b"", 0, "", b""),
+        (replay, b"report\n", 0, "", b""),
         // ends in the order of their lines
-        (replay, THREE_ENDS, Status::Done, THEIR_REPORTS),
+        (replay, THREE_ENDS, 0, "", THEIR_REPORTS),
+        // a network of three routers, in which a reservation was left over
+        (replay, A_NETWORK, 0, "", ITS_TEXT),
         // an end promises its capacity and no more
-        (replay, A_FULL_END, Status::Done, ITS_REPORT),
-        (replay, ONE_OVER, bad(5, LineWhy::Over), b""),
+        (replay, A_FULL_END, 0, "", ITS_REPORT),
+        (replay, ONE_OVER, 2, "line 5: over", b""),
+        (
+            replay,
+            A_RING,
+            2,
+            "line 18: loop in 239.1.1.1 through a1>b1",
+            b"",
+        ),
         (
             replay,
             b"node r\n\n# r again\nnode r\n",
-            bad(4, LineWhy::Twice),
+            2,
+            "line 4: twice",
             b"",
         ),
+        // what comes before a bad line is written
+        (
+            replay,
+            b"node r\nend r1 r 10.0.1.2 9 1500\nreport\nfrob\n",
+            2,
+            "line 4: word",
+            b"end r1 held 0 of 9\n",
+        ),
         // other words are no command
-        (&[], FIRST_RUN, Status::Usage, b""),
-        (&["demand"], FIRST_RUN, Status::Usage, b""),
-        (&["grow", "--seed", "3"], FIRST_RUN, Status::Usage, b""),
-        (&["Replay"], FIRST_RUN, Status::Usage, b""),
-        (&["replay", "replay"], FIRST_RUN, Status::Usage, b""),
-        (&["replay", "--seed", "3"], FIRST_RUN, Status::Usage, b""),
-        (&["show", "--seed=3"], FIRST_RUN, Status::Usage, b""),
-        (&["--help"], FIRST_RUN, Status::Usage, b""),
+        (&[], FIRST_RUN, 1, usage, b""),
+        (&["demand"], FIRST_RUN, 1, usage, b""),
+        (&["grow", "--seed", "3"], FIRST_RUN, 1, usage, b""),
+        (&["Replay"], FIRST_RUN, 1, usage, b""),
+        (&["replay", "replay"], FIRST_RUN, 1, usage, b""),
+        (&["replay", "--seed", "3"], FIRST_RUN, 1, usage, b""),
+        (&["show", "--seed=3"], FIRST_RUN, 1, usage, b""),
+        (&["--help"], FIRST_RUN, 1, usage, b""),
         // messages in words
         (
             show,
             PATH,
-            Status::Done,
+            0,
+            "",
             b"Path 239.1.1.1/17/5004 police hop 10.0.1.1/0 period 30000 sender 10.0.1.1:5004 1000/2000/inf/64/1500\n",
         ),
         (
             show,
             RESV,
-            Status::Done,
+            0,
+            "",
             b"Resv 239.1.1.1/17/5004 hop 10.0.2.2/0 period 30000 WF scope 10.0.1.1 1000/2000/inf/64/1500\n",
         ),
-        (
-            show,
-            most_digits.as_slice(),
-            Status::Done,
-            b"refused TooLong\n",
-        ),
-        (show, &PATH[..174], Status::Done, b"refused Length\n"),
-        (
-            show,
-            AN_UNKNOWN_OBJECT,
-            Status::Done,
-            b"refused Class 20 64/1\n",
-        ),
-        (show, NO_PERIOD, Status::Done, b"refused Missing 5\n"),
+        (show, most_digits.as_slice(), 0, "", b"refused TooLong\n"),
+        (show, &PATH[..174], 0, "", b"refused Length\n"),
+        (show, AN_UNKNOWN_OBJECT, 0, "", b"refused Class 20 64/1\n"),
+        (show, NO_PERIOD, 0, "", b"refused Missing 5\n"),
         // nothing is shown before a bad line
-        (show, b"0", bad(1, LineWhy::Word), b""),
-        (show, b"00\n\n0g\n", bad(3, LineWhy::Word), b""),
-        (show, too_long.as_slice(), bad(1, LineWhy::Limit), b""),
+        (show, b"0", 2, "line 1: word", b""),
+        (show, b"00\n\n0g\n", 2, "line 3: word", b""),
+        (show, too_long.as_slice(), 2, "line 1: limit", b""),
     ];
-    for (list, input, status, text) in table {
+    for (list, input, code, told, text) in table {
         let mut source = MemorySource::new(input.to_vec(alloc)?, Vec::new(alloc), 7);
         let mut sink = MemorySink::open(alloc, 1000, Vec::new(alloc), Vec::new(alloc))?;
-        assert_eq!(rt;
-            run(alloc, &words(alloc, list)?, &mut source, &mut sink),
-            status
-        );
+        let status = run(alloc, &words(alloc, list)?, &mut source, &mut sink);
+        let shown = format!(in alloc; "{status}")?;
+        assert_eq!(rt; status.code(), code);
+        assert_eq!(rt; shown.as_str(), told);
         assert_eq!(rt; sink.bytes(), text);
     }
     Ok(())
@@ -176,18 +237,12 @@ fn failing_devices_are_faults(rt: HostRuntime) -> Result<(), Fail> {
     let words = words(alloc, &["replay"])?;
     let mut source = MemorySource::new(FIRST_RUN.to_vec(alloc)?, vec![in alloc; 1u64; 1]?, 7);
     let mut sink = PlainSink::new();
-    assert_eq!(rt;
-        run(alloc, &words, &mut source, &mut sink),
-        Status::ReadFault
-    );
+    assert_eq!(rt; run(alloc, &words, &mut source, &mut sink).code(), 3);
     assert_eq!(rt; sink.count(), 0);
     let mut source = PlainSource::new(FIRST_RUN.to_vec(alloc)?);
     let short = vec![in alloc; (1u64, 10usize); 1]?;
     let mut sink = MemorySink::open(alloc, 1000, vec![in alloc; 2u64; 1]?, short)?;
-    assert_eq!(rt;
-        run(alloc, &words, &mut source, &mut sink),
-        Status::WriteFault
-    );
+    assert_eq!(rt; run(alloc, &words, &mut source, &mut sink).code(), 4);
     assert_eq!(rt; sink.bytes(), b"end r1 hel".as_slice());
     Ok(())
 }
@@ -196,14 +251,11 @@ fn failing_devices_are_faults(rt: HostRuntime) -> Result<(), Fail> {
 fn too_many_line_feeds_are_too_long(rt: HostRuntime) -> Result<(), Fail> {
     let alloc = rt.alloc();
     let words = words(alloc, &["replay"])?;
-    for (bytes, want) in [(4_194_304, Status::Done), (4_194_305, Status::TooLong)] {
+    for (bytes, want) in [(4_194_304, 0), (4_194_305, 7)] {
         let mut source = PlainSource::new(vec![in alloc; b'\n'; bytes]?);
         let mut sink = PlainSink::new();
-        assert_eq!(rt;
-            run(alloc, &words, &mut source, &mut sink),
-            want,
-            "at {bytes} bytes"
-        );
+        let status = run(alloc, &words, &mut source, &mut sink);
+        assert_eq!(rt; status.code(), want, "at {bytes} bytes");
     }
     Ok(())
 }

@@ -1,0 +1,74 @@
+-- What the laws of runs say of the plan of a script, and of a script that was replayed to its end.
+use Rattle.std.proofs.Common.{◌≡◌, ℕ, List, Option, None, Some, false, refl, sym, subst}
+use Rattle.std.specs.Prelude.{IfSome}
+use Rattle.std.specs.Io.KnownBytes.{Appends}
+use Rattle.script_words.specs.Lines.{text_lines}
+use Rattle.network_model.specs.Runs.{Plan, is_crowded_run}
+use Rattle.script_grammar.specs.Draft.{Draft}
+use Rattle.script_grammar.specs.Grammar.{IsScript}
+use Rattle.script_laws.proofs.EventLines.{each_script_is_a_fit_run}
+use Rattle.script_laws.proofs.SenderLines.{each_script_lets_few_send}
+use Rattle.settle_reports.proofs.Demands.{a_settled_report_is_the_demand}
+use Rattle.run_laws.specs.Books.{AreBooksWithinCapacity}
+use Rattle.run_laws.specs.Refusals.{ARefusedCallChangesNothing, ARefusedResvChangesNoReservation, AnUntakenUnitChangesNothing}
+use Rattle.run_laws.proofs.Arrivals.{a_refused_resv, an_untaken_unit}
+use Rattle.run_laws.proofs.Books.{books_within}
+use Rattle.run_laws.proofs.Calls.{a_refused_call}
+use Rattle.run_laws.proofs.Runs.{at_every_step, in_every_world}
+use Rattle.network_run.specs.Endings.{IsRun}
+use Rattle.network_run.specs.Written.{HasRun}
+use Rattle.network_run.specs.declared.ending.Ending.{Ending}
+use Rattle.network_run.specs.declared.ending.Ending.TheVariants as ending
+use Rattle.network_run.proofs.Ended.{ended_at_once}
+use Rattle.network_run.proofs.Spoken.{only_scripts_are_done}
+use Rattle.command_run.specs.Healing.{HealsItself, IsHealingRun, IsNeverOver}
+use Rattle.command_run.specs.Statuses.{IsReplay, status_of}
+use Rattle.command_run.specs.declared.status.Status.TheVariants.{Done, NoMemory}
+
+heals : (bytes : List ℕ) (p : Plan) → IsScript bytes p → is_crowded_run p ≡ false → HealsItself p
+heals bytes p is roomy =
+    let fit = each_script_is_a_fit_run bytes p is in
+    record {
+      reports = a_settled_report_is_the_demand p fit (each_script_lets_few_send bytes p is) roomy;
+      books = in_every_world AreBooksWithinCapacity books_within p fit;
+      calls = at_every_step ARefusedCallChangesNothing a_refused_call p fit;
+      resvs = at_every_step ARefusedResvChangesNoReservation a_refused_resv p fit;
+      units = at_every_step AnUntakenUnitChangesNothing an_untaken_unit p fit;
+    }
+
+-- whatever is left of a source
+pub never_over : (left : Option (List ℕ)) → IfSome left (λ bytes. (p : Plan) → IsScript bytes p → IsNeverOver p)
+never_over None = tt
+never_over (Some bytes) = λ p is. in_every_world AreBooksWithinCapacity books_within p (each_script_is_a_fit_run bytes p is)
+
+-- ---- done
+heals_done : (bytes text : List ℕ) (before after : Option (List ℕ)) → HasRun (text_lines bytes) text → Appends before after text → IsHealingRun bytes before after
+heals_done bytes text before after ran wrote =
+    let run = only_scripts_are_done bytes text ran in
+    record {
+      plan = run.plan;
+      script = run.script;
+      roomy = run.roomy;
+      wrote = subst (λ t. Appends before after t) run.text_is wrote;
+      heals = heals bytes run.plan run.script run.roomy;
+    }
+
+done_heals : (stands : Draft → Type 0) (old new before after : Option (List ℕ)) → IsRun stands ending.Done old new before after → IfSome old (λ bytes. IsHealingRun bytes before after)
+done_heals stands None new before after run = tt
+done_heals stands (Some bytes) None before after run = absurd run.took
+done_heals stands (Some bytes) (Some left) before after run =
+    heals_done bytes run.text before after (subst (λ bs. HasRun (text_lines bs) run.text) (sym run.took) run.ended.ran) run.wrote
+
+pub healed_run : (stands : Draft → Type 0) (e : Ending) (old new before after : Option (List ℕ)) → status_of e ≡ Done → IsRun stands e old new before after → IfSome old (λ bytes. IsHealingRun bytes before after)
+healed_run stands ending.Done old new before after is run = done_heals stands old new before after run
+healed_run stands (ending.BadLine number why) old new before after is run = absurd (cc is)
+healed_run stands ending.ReadFault old new before after is run = absurd (cc is)
+healed_run stands ending.WriteFault old new before after is run = absurd (cc is)
+healed_run stands ending.NoMemory old new before after is run = absurd (cc is)
+healed_run stands ending.Crowded old new before after is run = absurd (cc is)
+healed_run stands ending.TooLong old new before after is run = absurd (cc is)
+healed_run stands (ending.Unbuilt number) old new before after is run = absurd (cc is)
+
+-- ---- memory ran out before anything was read
+pub replayed_nothing : (stands : Draft → Type 0) (left holds : Option (List ℕ)) → IsReplay stands NoMemory left left holds holds
+replayed_nothing stands left holds = (ending.NoMemory, refl, ended_at_once (λ (p : Unit {0}) (d : Draft). Unit {0}) stands left holds)

@@ -1,0 +1,10 @@
+use Rattle.std.proofs.Common.{sym, ◌∙◌}
+use Rattle.script_grammar.specs.Draft.{plan_of}
+use Rattle.script_player.specs.Standing.{IsNetworkOf}
+use Rattle.command_run.proofs.Replays.{healed_run}
+use Rattle.command_run.proofs.replaying.replay.Goals as goal
+
+pub returns-clause-healed : goal.returns-clause-healed
+returns-clause-healed g c = λ done.
+    healed_run (λ d. IsNetworkOf g.R.Router.seen c.run_script-ending.new.last (plan_of d)) c.run_script-ending.result (g.S.Source.left c.args.source.now) (g.S.Source.left c.run_script-ending.new.source) (g.K.Sink.holds c.args.sink.now)
+    (g.K.Sink.holds c.run_script-ending.new.sink) (sym c.status_of.ensures ∙ done) c.run_script-ending.ensures.run

@@ -1,0 +1,5 @@
+pub mod Tasks
+pub mod Statuses
+pub mod Showing
+pub mod Healing
+pub mod StatusTexts

@@ -1,0 +1,60 @@
+//! Replaying a script.
+ghost use Rattle.std.specs.Prelude.{◌≡◌, ◌≢◌, ◌≤◌, List, ℕ, None, Some, IfSome, length};
+ghost use Rattle.byte_streams.specs.Faults.{Rose};
+ghost use Rattle.byte_streams.specs.Reading.{most_bytes};
+ghost use Rattle.network_run.specs.Endings.{ComesTo, HasNoReroute};
+ghost use Rattle.network_run.specs.declared.ending.Ending.{Ending as AnEnding};
+ghost use Rattle.script_grammar.specs.Draft.{nothing, plan_of};
+ghost use Rattle.script_player.specs.Standing.{IsNetworkOf};
+ghost use Rattle.command_run.specs.Healing.{IsHealingRun};
+ghost use Rattle.command_run.specs.Statuses.{IsOrNoMemory, IsReplay, status_of};
+
+use crate::status::Status;
+use byte_streams::{Sink, Source};
+use net_replay::World;
+use network_run::Ending;
+use script_player::{Checks, Opens, run_script};
+use std::alloc::Global;
+
+/// The status of a run of a script that ended so.
+pub fn status_of(ending: Ending) -> Status
+    ensures { result ≡ status_of ending }
+{
+    match ending {
+        Ending::Done => Status::Done,
+        Ending::BadLine { line, why } => Status::BadLine { line, why },
+        Ending::ReadFault => Status::ReadFault,
+        Ending::WriteFault => Status::WriteFault,
+        Ending::NoMemory => Status::NoMemory,
+        Ending::Crowded => Status::Crowded,
+        Ending::TooLong => Status::TooLong,
+        Ending::Unbuilt { line } => Status::Unbuilt { line },
+    }
+}
+
+/// Replays a script of the source: each line is checked and run, and its text written to the sink, before the next is read. Where
+/// it is done and the script has an event, `last` holds the network in which the run ended; else it stays empty.
+///
+/// At one line these come in this order: `ReadFault` or `TooLong` while it is read, then `Unbuilt` or `BadLine`, then
+/// `Crowded`, then `WriteFault`. `NoMemory`: memory ran out.
+pub fn replay<C: Checks + Drop, R: Opens, S: Source, K: Sink>(
+    alloc: Global,
+    checker: C,
+    source: &mut S,
+    sink: &mut K,
+    last: &mut Option<World<R>>,
+) -> Status
+    requires first { C.lines checker ≡ nothing }
+    requires empty { last.old ≡ None }
+    ensures replayed { IsReplay (λ d. IsNetworkOf R.seen last.new (plan_of d)) result (S.left source.old) (S.left source.new) (K.holds sink.old) (K.holds sink.new) }
+    ensures empty { result ≢ Status.Done → last.new ≡ None }
+    ensures usage { result ≢ Status.Usage }
+    ensures read_fault { result ≡ Status.ReadFault → Rose (S.faults source.old) (S.faults source.new) }
+    ensures write_fault { result ≡ Status.WriteFault → Rose (K.faults sink.old) (K.faults sink.new) }
+    ensures complete { (bytes text : List ℕ) (wanted : AnEnding) → S.left source.old ≡ Some bytes → length bytes ≤ most_bytes → HasNoReroute bytes → ComesTo wanted bytes text
+        → (Rose (S.faults source.old) (S.faults source.new) → ⊥) → (Rose (K.faults sink.old) (K.faults sink.new) → ⊥) → IsOrNoMemory (status_of wanted) result }
+    ensures healed { result ≡ Status.Done → IfSome (S.left source.old) (λ bytes. IsHealingRun bytes (K.holds sink.old) (K.holds sink.new)) }
+{
+    let ending = run_script::<C, R, S, K>(alloc, checker, source, sink, last);
+    status_of(ending)
+}

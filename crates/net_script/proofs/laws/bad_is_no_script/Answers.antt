@@ -1,5 +1,0 @@
-use Rattle.net_script.proofs.Scripts.{script_or_bad}
-use Rattle.net_script.proofs.laws.bad_is_no_script.Goals as goal
-
-pub returns : goal.returns
-returns c = script_or_bad

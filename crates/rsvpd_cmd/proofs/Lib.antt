@@ -1,9 +1,0 @@
-pub mod Runs
-pub mod Expiring
-pub mod Charging
-pub mod Nodes
-pub mod Placing
-pub mod AtFirst
-pub mod NeverOver
-pub mod Reports
-pub mod Endings
