@@ -1,4 +1,4 @@
 pub mod Slots
-pub mod Dues
-pub mod Aging
+pub mod Turns
+pub mod Passing
 pub mod Pools

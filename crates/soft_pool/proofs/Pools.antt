@@ -1,64 +1,224 @@
--- The memory of a pool after each change.
-use Rattle.std.proofs.Common.{map as each, ◌≡◌, ◌<◌, ◌≤◌, ℕ, false, List, length, get_or, Option, Some, None, refl, sym, ap, ◌∙◌, arith}
-use Rattle.std.specs.Prelude.{slice_get, replicate, slice_set}
-use Rattle.std.proofs.lemmas.List.{length-map, length-set, length-replicate, set-set}
+-- The memory of a pool after each change, and what it shows.
+use Rattle.std.proofs.Common.{◌≡◌, ◌<◌, ◌≤◌, ◌+◌, ◌-◌, ◌/◌, ◌%◌, ◌||◌, ℕ, zero, suc, true, false, cond, List, [], ◌∷◌, length, set, get_or, map as each, Option, Some, None, refl, sym, ap, ◌∙◌, arith, inl, inr}
+use Rattle.std.specs.Prelude.{slice_get, nat_le, replicate}
+use Rattle.std.specs.List.{list_any}
+use Rattle.std.proofs.lemmas.Option.{slice_get_read}
+use Rattle.std.proofs.lemmas.Bool.{cases_lt, le-leb, lt-leb, both_ways}
+use Rattle.std.proofs.lemmas.List.{length-map, length-set, map-set, length-replicate}
 use Rattle.soft_pool.specs.declared.cell.Cell.{Cell}
 use Rattle.soft_pool.specs.declared.cell.Cell.TheVariants.{Free, Live, Due}
-use Rattle.soft_pool.specs.declared.cell.Entry.{Entry}
-use Rattle.soft_pool.specs.Cells.{cell_is_due}
-use Rattle.soft_pool.specs.DueList.{cells_of, nexts_of, IsPool, last_due}
-use Rattle.soft_pool.proofs.Slots.{within, each_read, set_read}
-use Rattle.soft_pool.proofs.Dues.{due_kept, due_pulled, last_free, free_due, last_is_due, last_freed, freed_due}
+use Rattle.soft_pool.specs.declared.entry.Entry.{Entry}
+use Rattle.soft_pool.specs.Cells.{NoneFree, NoneDue, is_live, aged, cell_is_free, cell_is_due}
+use Rattle.soft_pool.specs.Wheel.{IsPool, cell_of, list_of, list_at, shown, set_back}
+use Rattle.soft_pool.proofs.Slots.{within, set_same, read_each, read_back}
+use Rattle.soft_pool.proofs.Passing.{due_list, live_list}
 
-module _ {T : Type 0} where
-  -- all slots free
-  pub free_pool : (n : ℕ) (es : List (Entry T)) → n ≤ 65536 → cells_of es ≡ replicate {A = Cell T} n Free → IsPool es None
-  free_pool n es le is =
-      record {
-        few = omega (arith, le, length-map es (λ (e : Entry T). e.cell), ap length is, length-replicate {A = Cell T} n Free);
-        due = record { begins = sym (ap last_due is ∙ last_free T n); leads = λ i v at. absurd (free_due n i v (ap (λ cs. slice_get cs i) (sym is) ∙ at)) };
-      }
+-- ---- what a slot shows
+pub due_cell : {T : Type 0} (clock : ℕ) (v : T) (m : ℕ) → m ≤ clock → cell_of clock (Some v) m ≡ Due v
+due_cell clock v m le = ap (λ b. cond b (Due v) (Live v (m - clock))) (le-leb m clock le)
 
-  -- a cell that is not due swapped for another
-  pub pool_swapped : (es fs : List (Entry T)) (start : Option ℕ) (i : ℕ) (old c : Cell T) → IsPool es start → slice_get (cells_of es) i ≡ Some old → cell_is_due old ≡ false → cell_is_due c ≡ false
-      → cells_of fs ≡ slice_set (cells_of es) i c → nexts_of fs ≡ nexts_of es → IsPool fs start
-  pool_swapped es fs start i old c pool at was is cells nexts =
-      record {
-        few = omega (arith, pool.few, length-map fs (λ (e : Entry T). e.cell), length-map es (λ (e : Entry T). e.cell), ap length cells, length-set (cells_of es) i c);
-        due = rw (cells, nexts) (due_kept (cells_of es) (nexts_of es) start i old c pool.due at was is);
-      }
+pub live_cell : {T : Type 0} (clock : ℕ) (v : T) (m : ℕ) → clock < m → cell_of clock (Some v) m ≡ Live v (m - clock)
+live_cell clock v m lt = ap (λ b. cond b (Due v) (Live v (m - clock))) (lt-leb m clock lt)
 
-  -- the first due slot freed
-  pub pool_pulled : (es fs : List (Entry T)) (i : ℕ) (e : Entry T) → IsPool es (Some i) → i < length es → e ≡ get_or es i e → cells_of fs ≡ slice_set (cells_of es) i Free → nexts_of fs ≡ nexts_of es → IsPool fs e.next
-  pool_pulled es fs i e pool lt is cells nexts =
-      record {
-        few = omega (arith, pool.few, length-map fs (λ (e : Entry T). e.cell), length-map es (λ (e : Entry T). e.cell), ap length cells, length-set (cells_of es) i Free);
-        due = rw (cells, nexts) (due_pulled (cells_of es) (nexts_of es) i e.next pool.due (each_read (λ (x : Entry T). x.next) es i e lt ∙ ap (λ (x : Entry T). Some x.next) (sym is)));
-      }
+pub live_shown : {T : Type 0} (clock left : ℕ) (v : T) → 1 ≤ left → cell_of clock (Some v) (clock + left) ≡ Live v left
+live_shown clock left v some = live_cell clock v (clock + left) (omega (arith, some)) ∙ ap (Live v) (omega arith)
 
-  -- the first due slot
-  pub first_due : (es : List (Entry T)) (start : Option ℕ) (i : ℕ) → IsPool es start → start ≡ Some i → (i < length es) × (v : T) × (slice_get (cells_of es) i ≡ Some (Due v))
-  first_due es start i pool is =
-      let due = last_is_due (cells_of es) i (sym pool.due.begins ∙ is) in
-      (omega (arith, within (cells_of es) i (Due due.0) due.1, length-map es (λ (e : Entry T). e.cell)), due.0, due.1)
+-- a live slot has a value, whose moment has not come
+live_of : {T : Type 0} (clock : ℕ) (o : Option T) (m : ℕ) → is_live (Some (cell_of clock o m)) ≡ true → (v : T) × (o ≡ Some v) × (clock < m)
+live_of clock None m e = absurd (both_ways _ refl e)
+live_of clock (Some v) m e =
+    elim (cases_lt clock m) [
+      | inl lt ↦ (v, refl, lt)
+      | inr le ↦ absurd (both_ways _ refl (sym (ap (λ c. is_live (Some c)) (due_cell clock v m le)) ∙ e))
+    ]
 
-  -- a live slot emptied, and filled again
-  pub pool_emptied : (es fs : List (Entry T)) (start : Option ℕ) (i : ℕ) (v : T) (left : ℕ) → IsPool es start → slice_get (cells_of es) i ≡ Some (Live v left) → cells_of fs ≡ slice_set (cells_of es) i Free → nexts_of fs ≡ nexts_of es → IsPool fs start
-  pool_emptied es fs start i v left pool at cells nexts = pool_swapped es fs start i (Live v left) Free pool at refl refl cells nexts
+-- ---- slots of the list of the free and of the due
+free_of : {T : Type 0} (clock : ℕ) (o : Option T) (m : ℕ) → list_of clock o m ≡ 0 → cell_of clock o m ≡ Free
+free_of clock None m e = refl
+free_of clock (Some v) m e =
+    elim (cases_lt clock m) [
+      | inl lt ↦ absurd (omega (arith, e, live_list clock v m lt))
+      | inr le ↦ absurd (omega (arith, e, due_list clock v m le))
+    ]
 
-  pub pool_filled : (es fs hs : List (Entry T)) (start : Option ℕ) (i : ℕ) (v w : T) (left new : ℕ) → IsPool es start → slice_get (cells_of es) i ≡ Some (Live v left) → cells_of fs ≡ slice_set (cells_of es) i Free → nexts_of fs ≡ nexts_of es
-      → cells_of hs ≡ slice_set (cells_of fs) i (Live w new) → nexts_of hs ≡ nexts_of fs → IsPool hs start
-  pool_filled es fs hs start i v w left new pool at cells nexts then_ links =
-      let free : slice_get (cells_of fs) i ≡ Some Free = ap (λ cs. slice_get cs i) cells ∙ set_read (cells_of es) i Free (within (cells_of es) i (Live v left) at) in
-      pool_swapped fs hs start i Free (Live w new) (pool_emptied es fs start i v left pool at cells nexts) free refl refl then_ links
+due_of : {T : Type 0} (clock : ℕ) (o : Option T) (m : ℕ) → list_of clock o m ≡ 1 → (v : T) × (o ≡ Some v) × (cell_of clock o m ≡ Due v)
+due_of clock None m e = absurd (omega (arith, e))
+due_of clock (Some v) m e =
+    elim (cases_lt clock m) [
+      | inl lt ↦ absurd (omega (arith, e, live_list clock v m lt))
+      | inr le ↦ (v, refl, due_cell clock v m le)
+    ]
 
-  pub cells_filled : (es fs hs : List (Entry T)) (i : ℕ) (w : T) (new : ℕ) → cells_of fs ≡ slice_set (cells_of es) i Free → cells_of hs ≡ slice_set (cells_of fs) i (Live w new) → cells_of hs ≡ slice_set (cells_of es) i (Live w new)
-  cells_filled es fs hs i w new cells then_ = then_ ∙ ap (λ cs. slice_set cs i (Live w new)) cells ∙ set-set (cells_of es) i Free (Live w new)
+not_free : {T : Type 0} (clock : ℕ) (o : Option T) (m : ℕ) → (list_of clock o m ≡ 0 → ⊥) → cell_is_free (cell_of clock o m) ≡ false
+not_free clock None m ne = absurd (ne refl)
+not_free clock (Some v) m ne = elim (nat_le m clock) as (λ b. cell_is_free (cond b (Due v) (Live v (m - clock))) ≡ false) [ true ↦ refl | false ↦ refl ]
 
-  -- all slots emptied
-  pub pool_cleared : (es fs : List (Entry T)) (start : Option ℕ) → IsPool es start → cells_of fs ≡ each {A = Cell T} {B = Cell T} (λ c. Free) (cells_of es) → IsPool fs None
-  pool_cleared es fs start pool is =
-      record {
-        few = omega (arith, pool.few, length-map fs (λ (e : Entry T). e.cell), length-map es (λ (e : Entry T). e.cell), ap length is, length-map {B = Cell T} (cells_of es) (λ (c : Cell T). Free));
-        due = record { begins = sym (ap last_due is ∙ last_freed (cells_of es)); leads = λ i v at. absurd (freed_due (cells_of es) i v (ap (λ cs. slice_get cs i) (sym is) ∙ at)) };
-      }
+not_due : {T : Type 0} (clock : ℕ) (o : Option T) (m : ℕ) → (list_of clock o m ≡ 1 → ⊥) → cell_is_due (cell_of clock o m) ≡ false
+not_due clock None m ne = refl
+not_due clock (Some v) m ne =
+    elim (cases_lt clock m) [
+      | inl lt ↦ ap cell_is_due (live_cell clock v m lt)
+      | inr le ↦ absurd (ne (due_list clock v m le))
+    ]
+
+module _ {T : Type 0} (clock : ℕ) where
+  none_free_in : (es : List (Entry T)) → ((i : ℕ) → slice_get (each (list_at clock) es) i ≡ Some 0 → ⊥) → NoneFree (each (shown clock) es)
+  none_free_in [] none = refl
+  none_free_in (e ∷ es) none = ap (λ b. b || list_any cell_is_free (each (shown clock) es)) (not_free clock e.value e.moment (λ is. none 0 (ap Some is))) ∙ none_free_in es (λ i. none (suc i))
+
+  none_due_in : (es : List (Entry T)) → ((i : ℕ) → slice_get (each (list_at clock) es) i ≡ Some 1 → ⊥) → NoneDue (each (shown clock) es)
+  none_due_in [] none = refl
+  none_due_in (e ∷ es) none = ap (λ b. b || list_any cell_is_due (each (shown clock) es)) (not_due clock e.value e.moment (λ is. none 0 (ap Some is))) ∙ none_due_in es (λ i. none (suc i))
+
+  module _ (es : List (Entry T)) (lists : List ℕ) (p : IsPool es lists clock) where
+    pub sizes : length lists ≡ length es
+    sizes = ap length p.lists_are ∙ length-map es (list_at clock)
+
+    pub none_free : ((i : ℕ) → slice_get lists i ≡ Some 0 → ⊥) → NoneFree (each (shown clock) es)
+    none_free none = none_free_in es (λ i is. none i (ap (λ xs. slice_get xs i) p.lists_are ∙ is))
+
+    pub none_due : ((i : ℕ) → slice_get lists i ≡ Some 1 → ⊥) → NoneDue (each (shown clock) es)
+    none_due none = none_due_in es (λ i is. none i (ap (λ xs. slice_get xs i) p.lists_are ∙ is))
+
+    -- the entry of a slot in a list
+    found : (i list : ℕ) → slice_get lists i ≡ Some list → (e : Entry T) × (slice_get es i ≡ Some e) × (list_at clock e ≡ list)
+    found i list is = read_back (list_at clock) es i list (ap (λ xs. slice_get xs i) (sym p.lists_are) ∙ is)
+
+    pub found_free : (i : ℕ) → slice_get lists i ≡ Some 0 → slice_get (each (shown clock) es) i ≡ Some Free
+    found_free i is = let e = found i 0 is in read_each (shown clock) es i e.0 e.1 ∙ ap Some (free_of clock e.0.value e.0.moment e.2)
+
+    pub found_due : (i : ℕ) → slice_get lists i ≡ Some 1 → (e : Entry T) × (v : T) × (slice_get es i ≡ Some e) × (e.value ≡ Some v) × (slice_get (each (shown clock) es) i ≡ Some (Due v))
+    found_due i is =
+        let e = found i 1 is in
+        let d = due_of clock e.0.value e.0.moment e.2 in
+        (e.0, d.0, e.1, d.1, read_each (shown clock) es i e.0 e.1 ∙ ap Some d.2)
+
+    -- the memory after one slot was changed
+    pub pool_placed : (fs : List (Entry T)) (ls : List ℕ) (i list : ℕ) (e : Entry T) → fs ≡ set es i e → ls ≡ set lists i list → list ≡ list_at clock e → IsPool fs ls clock
+    pool_placed fs ls i list e is at list_is =
+        record {
+          few = omega (arith, p.few, ap length is, length-set es i e);
+          lists_are = at ∙ ap (λ l. set lists i l) list_is ∙ ap (λ xs. set xs i (list_at clock e)) p.lists_are ∙ sym (map-set (list_at clock) es i e) ∙ ap (each (list_at clock)) (sym is);
+          early = p.early;
+        }
+
+    -- and after an entry whose list stays the same
+    pub pool_changed : (fs : List (Entry T)) (i : ℕ) (e f : Entry T) → slice_get es i ≡ Some e → fs ≡ set es i f → list_at clock f ≡ list_at clock e → IsPool fs lists clock
+    pool_changed fs i e f e_is is same = pool_placed fs lists i (list_at clock f) f is (sym (ap (set lists i) same ∙ set_same lists i (list_at clock e) (ap (λ xs. slice_get xs i) p.lists_are ∙ read_each (list_at clock) es i e e_is))) refl
+
+-- a live slot of a pool
+pub live_in : {T : Type 0} (clock : ℕ) (es : List (Entry T)) (i : ℕ) → is_live (slice_get (each (shown clock) es) i) ≡ true → (e : Entry T) × (v : T) × (slice_get es i ≡ Some e) × (e.value ≡ Some v) × (clock < e.moment)
+live_in clock [] i live = absurd (both_ways _ refl live)
+live_in clock (e ∷ es) zero live = let l = live_of clock e.value e.moment live in (e, l.0, refl, l.1, l.2)
+live_in clock (e ∷ es) (suc i) live = live_in clock es i live
+
+pub live_at : {T : Type 0} (clock : ℕ) (es : List (Entry T)) (i : ℕ) (e : Entry T) → is_live (slice_get (each (shown clock) es) i) ≡ true → slice_get es i ≡ Some e → clock < e.moment
+live_at clock es i e live is =
+    let l = live_in clock es i live in
+    let same : Some l.0 ≡ Some e = sym l.2 ∙ is in
+    let eq : l.0 ≡ e = cc in
+    omega (arith, l.4, ap (λ (e : Entry _). e.moment) eq)
+
+pub live_now : {T : Type 0} (clock : ℕ) (es : List (Entry T)) (i : ℕ) (e : Entry T) → is_live (slice_get (each (shown clock) es) i) ≡ true → e ≡ get_or es i e → (v : T) × (slice_get es i ≡ Some e) × (e.value ≡ Some v) × (clock < e.moment)
+live_now clock es i e live eq =
+    let l = live_in clock es i live in
+    let is : slice_get es i ≡ Some e = slice_get_read es (length es) i e refl (within es i l.0 l.2) eq in
+    let same : Some l.0 ≡ Some e = sym l.2 ∙ is in
+    let l_e : l.0 ≡ e = cc in
+    (l.1, is, ap (λ (e : Entry _). e.value) (sym l_e) ∙ l.3, omega (arith, l.4, ap (λ (e : Entry _). e.moment) l_e))
+
+pub live_read : {T : Type 0} (clock : ℕ) (es : List (Entry T)) (i : ℕ) (e : Entry T) (v : T) → slice_get es i ≡ Some e → e.value ≡ Some v → clock < e.moment → slice_get (each (shown clock) es) i ≡ Some (Live v (e.moment - clock))
+live_read clock es i e v is has lt = read_each (shown clock) es i e is ∙ ap (λ o. Some (cell_of clock o e.moment)) has ∙ ap Some (live_cell clock v e.moment lt)
+
+-- what a pool shows after one slot was changed
+pub shows : {T : Type 0} (clock : ℕ) (es fs : List (Entry T)) (i : ℕ) (e : Entry T) (c : Cell T) → fs ≡ set es i e → shown clock e ≡ c → each (shown clock) fs ≡ set (each (shown clock) es) i c
+shows clock es fs i e c is shown_is = ap (each (shown clock)) is ∙ map-set (shown clock) es i e ∙ ap (set (each (shown clock) es) i) shown_is
+
+-- ---- time
+aged_cell : {T : Type 0} (clock ms : ℕ) (o : Option T) (m : ℕ) → cell_of (clock + ms) o m ≡ aged ms (cell_of clock o m)
+aged_cell clock ms None m = refl
+aged_cell clock ms (Some v) m =
+    elim (cases_lt clock m) [
+      | inl lt ↦
+          let now_live = ap (aged ms) (live_cell clock v m lt) in
+          elim (cases_lt (clock + ms) m) [
+            | inl later ↦ live_cell (clock + ms) v m later ∙ ap (Live v) (omega arith) ∙ sym (ap (λ b. cond b (Due v) (Live v (m - clock - ms))) (lt-leb (m - clock) ms (omega (arith, later)))) ∙ sym now_live
+            | inr over ↦ due_cell (clock + ms) v m over ∙ sym (ap (λ b. cond b (Due v) (Live v (m - clock - ms))) (le-leb (m - clock) ms (omega (arith, over)))) ∙ sym now_live
+          ]
+      | inr le ↦ due_cell (clock + ms) v m (omega (arith, le)) ∙ sym (ap (aged ms) (due_cell clock v m le))
+    ]
+
+pub aged_all : {T : Type 0} (clock ms : ℕ) (es : List (Entry T)) → each (shown (clock + ms)) es ≡ each (aged ms) (each (shown clock) es)
+aged_all clock ms [] = refl
+aged_all clock ms (e ∷ es) = ap (λ c. c ∷ each (shown (clock + ms)) es) (aged_cell clock ms e.value e.moment) ∙ ap (λ cs. aged ms (shown clock e) ∷ cs) (aged_all clock ms es)
+
+-- ---- the clock set back by whole turns
+module _ (clock : ℕ) where
+  abbrev into : ℕ
+  into = clock % 262144
+
+  abbrev by : ℕ
+  by = clock - clock % 262144
+
+module _ {T : Type 0} (clock : ℕ) where
+  cell_back : (o : Option T) (m : ℕ) → cell_of (into clock) o (m - by clock) ≡ cell_of clock o m
+  cell_back None m = refl
+  cell_back (Some v) m =
+      elim (cases_lt clock m) [
+        | inl lt ↦ live_cell (into clock) v (m - by clock) (omega (arith, lt)) ∙ ap (Live v) (omega (arith, lt)) ∙ sym (live_cell clock v m lt)
+        | inr le ↦ due_cell (into clock) v (m - by clock) (omega (arith, le)) ∙ sym (due_cell clock v m le)
+      ]
+
+  list_back : (o : Option T) (m : ℕ) → list_of (into clock) o (m - by clock) ≡ list_of clock o m
+  list_back None m = refl
+  list_back (Some v) m =
+      elim (cases_lt clock m) [
+        | inl lt ↦
+            let same : (m - by clock) / 1024 % 256 ≡ m / 1024 % 256 = omega (arith, lt) in
+            live_list (into clock) v (m - by clock) (omega (arith, lt)) ∙ ap (λ n. 3 + n) same ∙ sym (live_list clock v m lt)
+        | inr le ↦ due_list (into clock) v (m - by clock) (omega (arith, le)) ∙ sym (due_list clock v m le)
+      ]
+
+  pub shown_back : (es : List (Entry T)) → each (shown (into clock)) (each (set_back (by clock)) es) ≡ each (shown clock) es
+  shown_back [] = refl
+  shown_back (e ∷ es) = ap (λ c. c ∷ each (shown (into clock)) (each (set_back (by clock)) es)) (cell_back e.value e.moment) ∙ ap (λ cs. shown clock e ∷ cs) (shown_back es)
+
+  pub lists_back : (es : List (Entry T)) → each (list_at (into clock)) (each (set_back (by clock)) es) ≡ each (list_at clock) es
+  lists_back [] = refl
+  lists_back (e ∷ es) = ap (λ c. c ∷ each (list_at (into clock)) (each (set_back (by clock)) es)) (list_back e.value e.moment) ∙ ap (λ cs. list_at clock e ∷ cs) (lists_back es)
+
+-- ---- all free
+abbrev pub empty : {T : Type 0} → Entry T
+empty = record { value = None; moment = 0 }
+
+pub lists_cleared : {T : Type 0} (clock : ℕ) (es : List (Entry T)) → each {B = ℕ} (λ _. 0) (each (list_at clock) es) ≡ each (list_at clock) (each {B = Entry T} (λ _. empty) es)
+lists_cleared clock [] = refl
+lists_cleared clock (e ∷ es) = ap (λ xs. 0 ∷ xs) (lists_cleared clock es)
+
+pub shown_cleared : {T : Type 0} (clock : ℕ) (es : List (Entry T)) → each (shown clock) (each {B = Entry T} (λ _. empty) es) ≡ each {B = Cell T} (λ _. Free) (each (shown clock) es)
+shown_cleared clock [] = refl
+shown_cleared clock (e ∷ es) = ap (λ xs. Free ∷ xs) (shown_cleared clock es)
+
+lists_first : (T : Type 0) (n : ℕ) → replicate {A = ℕ} n 0 ≡ each (list_at 0) (replicate {A = Entry T} n empty)
+lists_first T zero = refl
+lists_first T (suc n) = ap (λ xs. 0 ∷ xs) (lists_first T n)
+
+pub shown_first : {T : Type 0} (n : ℕ) → each (shown 0) (replicate {A = Entry T} n empty) ≡ replicate {A = Cell T} n Free
+shown_first zero = refl
+shown_first (suc n) = ap (λ xs. Free ∷ xs) (shown_first n)
+
+pub first_pool : {T : Type 0} (n : ℕ) (es : List (Entry T)) (lists : List ℕ) → n ≤ 65536 → es ≡ replicate n empty → lists ≡ replicate n 0 → IsPool es lists 0
+first_pool {T} n es lists few is at =
+    record {
+      few = omega (arith, few, ap length is, length-replicate {A = Entry T} n empty);
+      lists_are = at ∙ lists_first T n ∙ ap (each (list_at 0)) (sym is);
+      early = omega arith;
+    }
+
+pub pool_cleared : {T : Type 0} (clock : ℕ) (es : List (Entry T)) (lists : List ℕ) → IsPool es lists clock → (fs : List (Entry T)) (ls : List ℕ) → fs ≡ each {B = Entry T} (λ _. empty) es → ls ≡ each {B = ℕ} (λ _. 0) lists → IsPool fs ls clock
+pool_cleared {T} clock es lists p fs ls is at =
+    record {
+      few = omega (arith, p.few, ap length is, length-map {B = Entry T} es (λ _. empty));
+      lists_are = at ∙ ap (each {B = ℕ} (λ _. 0)) p.lists_are ∙ lists_cleared clock es ∙ ap (each (list_at clock)) (sym is);
+      early = p.early;
+    }

@@ -3,11 +3,17 @@
 //! A `Pool` has a fixed number of slots. A slot is free, or live with a value and the milliseconds that are left of it, or
 //! due: what was left has run out, and the value waits to be pulled. Time passes only where `advance` says so. Memory is
 //! taken when a pool is opened, and never later. Contracts see the list of what is in each slot.
+//!
+//! A hashed timing wheel: each slot stands in exactly one list, that of the free slots, that of the due ones, or the one of
+//! 256 that its moment belongs to, 1,024 ms to a list. `advance` looks at the lists of the time that passes and at no
+//! other, each at most once; every other call takes a fixed number of steps. A slot takes 18 bytes beside its value (8 for
+//! its moment, 10 for its place in a list) and a pool 2,072 bytes for the heads of its lists.
 #![tactic(auto)]
 
 mod cell;
-mod entries;
+mod entry;
 mod pool;
+mod wheel;
 
 pub use cell::{Cell, Slot};
 pub use pool::Pool;

@@ -3,30 +3,34 @@ ghost use Rattle.std.specs.Prelude.{◌≡◌, ◌≤◌, ◌<◌, ℕ, IsTrue, 
 ghost use Rattle.soft_pool.specs.declared.cell.Cell.TheVariants.{Free, Live, Due};
 ghost use Rattle.soft_pool.specs.Cells.{is_live, IsLiveWith, aged, NoneDue, NoneFree};
 
-use crate::cell::{Cell, Entry, Slot};
-use crate::entries::{age_all, clear_all, first_free, swap_cell, take_live};
+use crate::cell::{Cell, Slot};
+use crate::entry::{DUE, Entry, FREE, place, take, take_all, wheel_at};
+use crate::wheel::{pass, rewind};
 use rsvp_base::NoMemory;
+use slot_lists::SlotLists;
 use std::alloc::Global;
 use std::marker::Model;
+use std::mem;
 
 /// Slots for values that expire. Contracts see the list of what is in each slot.
 #[derive(Drop)]
 pub struct Pool<T> {
     entries: Vec<Entry<T>>,
-    // Where the list of the due slots begins.
-    due: Option<u32>,
+    lists: SlotLists,
+    // The milliseconds that have passed, less whole turns of the wheel.
+    clock: u64,
 }
 
 impl<T> Model for Pool<T> {
-    ghost use Rattle.std.specs.Prelude.{List};
+    ghost use Rattle.std.specs.Prelude.{List, map};
     ghost use Rattle.soft_pool.specs.declared.cell.Cell.{Cell};
-    ghost use Rattle.soft_pool.specs.DueList.{cells_of, IsPool};
+    ghost use Rattle.soft_pool.specs.Wheel.{shown, IsPool};
 
     ghost Value = { List (Cell T) };
 
-    ghost view = { λ p. cells_of p.entries.items };
+    ghost view = { λ p. map (shown p.clock) p.entries.items };
 
-    ghost invariant = { λ p. IsPool p.entries.items p.due };
+    ghost invariant = { λ p. IsPool p.entries.items p.lists p.clock };
 }
 
 impl<T: Drop> Pool<T> {
@@ -35,15 +39,19 @@ impl<T: Drop> Pool<T> {
         requires { slots ≤ 65536 }
         ensures { IfOk result (λ p. p ≡ replicate slots Free) }
     {
-        let mut entries = Vec::with_capacity(alloc, slots).map_err(|_| NoMemory)?;
+        let lists = SlotLists::open(alloc, slots)?;
+        let mut entries = Vec::with_capacity(alloc, slots)?;
         for _slot in 0..slots {
-            let entry = Entry {
-                cell: Cell::Free,
-                next: None,
-            };
-            entries.push(entry).map_err(|_| NoMemory)?;
+            entries.push(Entry {
+                value: None,
+                moment: 0,
+            })?;
         }
-        Ok(Pool { entries, due: None })
+        Ok(Pool {
+            entries,
+            lists,
+            clock: 0,
+        })
     }
 
     /// Whether a slot is live.
@@ -52,7 +60,7 @@ impl<T: Drop> Pool<T> {
         ensures { result ≡ is_live (slice_get self.now slot.0) }
     {
         let entry = &self.entries[slot.0 as usize];
-        matches!(entry.cell, Cell::Live(_, _))
+        matches!(entry.value, Some(_)) && self.clock < entry.moment
     }
 
     /// Puts a value with this much left, in milliseconds, into a free slot. The value comes back exactly where no slot is
@@ -65,11 +73,15 @@ impl<T: Drop> Pool<T> {
         ensures back { IfErr result (λ v. v ≡ value) }
         ensures err { IfErr result (λ v. self.new ≡ self.old) }
     {
-        let Some(at) = first_free(self.entries.as_slice()) else {
+        let Some(slot) = self.lists.first(FREE) else {
             return Err(value);
         };
-        swap_cell(&mut self.entries, at, Cell::Live(value, left));
-        Ok(Slot(at as u32))
+        let entry = Entry {
+            value: Some(value),
+            moment: self.clock + u64::from(left),
+        };
+        place(&mut self.entries, &mut self.lists, slot, entry, self.clock);
+        Ok(Slot(slot))
     }
 
     /// The value of a live slot.
@@ -77,10 +89,9 @@ impl<T: Drop> Pool<T> {
         requires { IsTrue (is_live (slice_get self.now slot.0)) }
         ensures { IsLiveWith (slice_get self.now slot.0) result.now }
     {
-        let entry = &self.entries[slot.0 as usize];
-        match &entry.cell {
-            Cell::Live(value, _) => value,
-            _ => unreachable!(),
+        match &self.entries[slot.0 as usize].value {
+            Some(value) => value,
+            None => unreachable!(),
         }
     }
 
@@ -89,10 +100,10 @@ impl<T: Drop> Pool<T> {
         requires { IsTrue (is_live (slice_get self.old slot.0)) }
         ensures { (left : ℕ) × (slice_get self.old slot.0 ≡ Some (Live result left)) × (self.new ≡ slice_set self.old slot.0 (Live value left)) }
     {
-        let at = slot.0 as usize;
-        let (old, left) = take_live(&mut self.entries, at);
-        swap_cell(&mut self.entries, at, Cell::Live(value, left));
-        old
+        match mem::replace(&mut self.entries[slot.0 as usize].value, Some(value)) {
+            Some(old) => old,
+            None => unreachable!(),
+        }
     }
 
     /// Takes the value of a live slot out. The slot is free then.
@@ -101,8 +112,10 @@ impl<T: Drop> Pool<T> {
         ensures was { IsLiveWith (slice_get self.old slot.0) result }
         ensures gone { self.new ≡ slice_set self.old slot.0 Free }
     {
-        let (value, _) = take_live(&mut self.entries, slot.0 as usize);
-        value
+        match take(&mut self.entries, &mut self.lists, slot.0) {
+            Some(value) => value,
+            None => unreachable!(),
+        }
     }
 
     /// Leaves this much of a live slot's value, in milliseconds, whatever was left of it before.
@@ -111,9 +124,9 @@ impl<T: Drop> Pool<T> {
         requires some { 1 ≤ left }
         ensures { (v : T) × (was : ℕ) × (slice_get self.old slot.0 ≡ Some (Live v was)) × (self.new ≡ slice_set self.old slot.0 (Live v left)) }
     {
-        let at = slot.0 as usize;
-        let (value, _) = take_live(&mut self.entries, at);
-        swap_cell(&mut self.entries, at, Cell::Live(value, left));
+        let moment = self.clock + u64::from(left);
+        self.entries[slot.0 as usize].moment = moment;
+        self.lists.shift(slot.0, wheel_at(moment));
     }
 
     /// Lets time pass, in milliseconds. The values with at most so much left are due then, whatever `ms` is, and the others
@@ -122,7 +135,10 @@ impl<T: Drop> Pool<T> {
         requires { NoneDue self.old }
         ensures { self.new ≡ map (aged ms) self.old }
     {
-        self.due = age_all(&mut self.entries, ms);
+        let clock = rewind(&mut self.entries, self.clock);
+        let now = clock + u64::from(ms);
+        pass(self.entries.as_slice(), &mut self.lists, clock, now);
+        self.clock = now;
     }
 
     /// Takes a due value out of its slot, which is free then. `None` exactly where no due value waits; nothing changes then.
@@ -132,14 +148,12 @@ impl<T: Drop> Pool<T> {
         ensures none { IsNone result → NoneDue self.old }
         ensures unchanged { IsNone result → self.new ≡ self.old }
     {
-        let Some(first) = self.due else {
+        let Some(slot) = self.lists.first(DUE) else {
             return None;
         };
-        let at = first as usize;
-        self.due = self.entries[at].next;
-        match swap_cell(&mut self.entries, at, Cell::Free) {
-            Cell::Due(value) => Some((Slot(first), value)),
-            _ => unreachable!(),
+        match take(&mut self.entries, &mut self.lists, slot) {
+            Some(value) => Some((Slot(slot), value)),
+            None => unreachable!(),
         }
     }
 
@@ -147,7 +161,6 @@ impl<T: Drop> Pool<T> {
     pub fn clear(&mut self)
         ensures { self.new ≡ map (λ _. Free) self.old }
     {
-        clear_all(&mut self.entries);
-        self.due = None;
+        take_all(&mut self.entries, &mut self.lists);
     }
 }

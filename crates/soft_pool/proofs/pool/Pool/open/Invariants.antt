@@ -1,8 +1,5 @@
-use Rattle.std.proofs.Common.{◌≡◌}
-use Rattle.std.specs.Prelude.{replicate}
-use Rattle.soft_pool.specs.declared.cell.Cell.TheVariants.{Free}
-use Rattle.soft_pool.specs.DueList.{cells_of}
+use Rattle.std.proofs.Common.{◌≡◌, replicate, None}
 use Rattle.soft_pool.proofs.pool.Pool.open.Given as goal
 
 abbrev pub invariant-loop-slot : goal.invariant-loop-slot
-invariant-loop-slot g l = cells_of l.entries.items ≡ replicate l._slot Free
+invariant-loop-slot g l = l.entries.items ≡ replicate l._slot (record { value = None; moment = 0 })

@@ -1,26 +1,47 @@
-use Rattle.std.proofs.Common.{◌≡◌, Some, sym, subst, ◌∙◌, arith}
-use Rattle.soft_pool.specs.DueList.{cells_of, IsPool}
-use Rattle.soft_pool.specs.declared.cell.Cell.TheVariants.{Due}
-use Rattle.soft_pool.proofs.Dues.{none_due}
-use Rattle.soft_pool.proofs.Pools.{first_due, pool_pulled}
+use Rattle.std.proofs.Common.{◌≡◌, ◌∙◌, Some, None, refl, ap, sym, arith}
+use Rattle.std.specs.Prelude.{slice_set}
+use Rattle.soft_pool.specs.declared.cell.Cell.TheVariants.{Free, Due}
+use Rattle.soft_pool.proofs.Slots.{within}
+use Rattle.soft_pool.proofs.Pools.{empty, none_due, found_due, sizes, pool_placed, shows}
 use Rattle.soft_pool.proofs.pool.Pool.pull_due.Goals as goal
 
 pub returns-in_default-clause-none : goal.returns-in_default-clause-none
-returns-in_default-clause-none g c = λ _. rw (← c.self.view_is) (none_due (cells_of c.self.inside.entries.items) (sym c.self.invariant.due.begins ∙ c.in_default.is))
+returns-in_default-clause-none g c = λ _.
+    let s = c.self.inside in
+    rw (← c.self.view_is) (none_due s.clock s.entries.items s.lists c.self.invariant (c.in_default.ensures.none refl))
 
-pub index-requires : goal.index-requires
-index-requires g c = omega (arith, (first_due c.self.inside.entries.items c.self.inside.due c.in-Some.first c.self.invariant c.in-Some.is).0)
-
-pub swap_cell-requires : goal.swap_cell-requires
-swap_cell-requires g c = (first_due c.self.inside.entries.items c.self.inside.due c.in-Some.first c.self.invariant c.in-Some.is).0
+pub take-requires-clause-here : goal.take-requires-clause-here
+take-requires-clause-here g c =
+    let s = c.self.inside in
+    omega (arith, within s.lists c.in-Some.slot 1 c.in-Some.ensures.some, sizes s.clock s.entries.items s.lists c.self.invariant)
 
 pub unreachable-requires : goal.unreachable-requires
 unreachable-requires g c =
-    let first = first_due c.self.inside.entries.items c.self.inside.due c.in-Some.first c.self.invariant c.in-Some.is in
-    c.in_default-swap_cell.not-Due first.1 (let here : Some c.swap_cell.result ≡ Some (Due first.1) = sym c.swap_cell.ensures.was ∙ first.2 in (cc))
+    let s = c.self.inside in
+    let d = found_due s.clock s.entries.items s.lists c.self.invariant c.in-Some.slot c.in-Some.ensures.some in
+    let t = c.take.ensures.entries in
+    let same : Some t.0 ≡ Some d.0 = sym t.1 ∙ d.2 in
+    let eq : t.0 ≡ d.0 = cc in
+    let both : None ≡ Some d.1 = sym c.in-None.is ∙ t.2 ∙ ap (λ e. e.value) eq ∙ d.3 in
+    cc
 
 pub invariant_of-self : goal.invariant_of-self
 invariant_of-self g c =
-    let es = c.self.inside.entries.items in
-    let first = first_due es c.self.inside.due c.in-Some.first c.self.invariant c.in-Some.is in
-    pool_pulled es c.swap_cell.new.entries.items c.in-Some.first c.index.result.now (subst (λ d. IsPool es d) c.in-Some.is c.self.invariant) first.0 c.index.ensures c.swap_cell.ensures.cells c.swap_cell.ensures.nexts
+    let s = c.self.inside in
+    pool_placed s.clock s.entries.items s.lists c.self.invariant c.take.new.entries.items c.take.new.lists c.in-Some.slot 0 empty c.take.ensures.entries.3 c.take.ensures.lists refl
+
+pub returns-clause-due : goal.returns-clause-due
+returns-clause-due g c =
+    let s = c.self.inside in
+    let d = found_due s.clock s.entries.items s.lists c.self.invariant c.in-Some.slot c.in-Some.ensures.some in
+    let t = c.take.ensures.entries in
+    let same : Some t.0 ≡ Some d.0 = sym t.1 ∙ d.2 in
+    let eq : d.0 ≡ t.0 = cc in
+    let both : Some d.1 ≡ Some c.in-Some-take.value = sym d.3 ∙ ap (λ e. e.value) eq ∙ sym t.2 ∙ c.in-Some-take.is in
+    let value : d.1 ≡ c.in-Some-take.value = cc in
+    rw (← c.self.view_is) (d.4 ∙ ap (λ v. Some (Due v)) value)
+
+pub returns-clause-freed : goal.returns-clause-freed
+returns-clause-freed g c =
+    let s = c.self.inside in
+    shows s.clock s.entries.items c.take.new.entries.items c.in-Some.slot empty Free c.take.ensures.entries.3 refl ∙ ap (λ xs. slice_set xs c.in-Some.slot Free) c.self.view_is

@@ -1,18 +1,35 @@
-use Rattle.std.proofs.Common.{sym, ap, ◌∙◌}
-use Rattle.std.specs.Prelude.{slice_get, slice_set}
+use Rattle.std.proofs.Common.{◌<◌, ◌+◌, ◌-◌, ◌∙◌, refl, ap, sym, arith}
+use Rattle.std.specs.Prelude.{slice_set}
+use Rattle.soft_pool.specs.declared.entry.Entry.{Entry}
 use Rattle.soft_pool.specs.declared.cell.Cell.TheVariants.{Live}
-use Rattle.soft_pool.proofs.Pools.{pool_filled, cells_filled}
+use Rattle.soft_pool.specs.Wheel.{list_of, cell_of}
+use Rattle.soft_pool.proofs.Passing.{live_list}
+use Rattle.soft_pool.proofs.Pools.{live_now, live_read, live_shown, pool_placed, shows}
 use Rattle.soft_pool.proofs.pool.Pool.renew.Goals as goal
 
 pub invariant_of-self : goal.invariant_of-self
 invariant_of-self g c =
-    let taken = c.take_live-value in
-    let es = c.self.inside.entries.items in
-    pool_filled es taken.new.entries.items c.swap_cell.new.entries.items c.self.inside.due c.args.slot.0 taken.result.0 c.take_live-value.result.0 taken.result.1 c.args.left c.self.invariant taken.ensures.was taken.ensures.cells taken.ensures.nexts c.swap_cell.ensures.cells c.swap_cell.ensures.nexts
+    let s = c.self.inside in
+    let i = c.args.slot.0 in
+    let e : Entry _ = c.index_mut.result.now in
+    let m = s.clock + c.from.result in
+    let live = live_now s.clock s.entries.items i e (rw c.self.view_is c.requires.live) c.index_mut.ensures.value in
+    let ahead : s.clock < m = omega (arith, c.from.ensures, c.requires.some) in
+    pool_placed s.clock s.entries.items s.lists c.self.invariant _ c.shift.new.self i c.wheel_at.result (record { value = e.value; moment = m }) refl c.shift.ensures
+    (c.wheel_at.ensures ∙ sym (ap (λ o. list_of s.clock o m) live.2 ∙ live_list s.clock live.0 m ahead))
 
 pub returns : goal.returns
 returns g c =
-    let taken = c.take_live-value in
-    let was = ap (λ cs. slice_get cs c.args.slot.0) (sym c.self.view_is) ∙ taken.ensures.was in
-    let now = cells_filled c.self.inside.entries.items taken.new.entries.items c.swap_cell.new.entries.items c.args.slot.0 c.take_live-value.result.0 c.args.left taken.ensures.cells c.swap_cell.ensures.cells ∙ ap (λ cs. slice_set cs c.args.slot.0 (Live c.take_live-value.result.0 c.args.left)) c.self.view_is in
-    (taken.result.0, taken.result.1, was, now)
+    let s = c.self.inside in
+    let i = c.args.slot.0 in
+    let e : Entry _ = c.index_mut.result.now in
+    let m = s.clock + c.from.result in
+    let live = live_now s.clock s.entries.items i e (rw c.self.view_is c.requires.live) c.index_mut.ensures.value in
+    let v = live.0 in (
+      v,
+      e.moment - s.clock,
+      rw (← c.self.view_is) (live_read s.clock s.entries.items i e v live.1 live.2 live.3),
+      shows s.clock s.entries.items _ i (record { value = e.value; moment = m }) (Live v c.args.left) refl
+          (ap (λ o. cell_of s.clock o m) live.2 ∙ live_shown s.clock c.from.result v (omega (arith, c.from.ensures, c.requires.some)) ∙ ap (Live v) c.from.ensures)
+          ∙ ap (λ xs. slice_set xs i (Live v c.args.left)) c.self.view_is,
+    )

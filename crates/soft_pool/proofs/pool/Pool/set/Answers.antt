@@ -1,18 +1,30 @@
-use Rattle.std.proofs.Common.{sym, ap, ◌∙◌}
-use Rattle.std.specs.Prelude.{slice_get, slice_set}
+use Rattle.std.proofs.Common.{◌-◌, ◌∙◌, refl, ap, sym}
+use Rattle.std.specs.Prelude.{slice_set}
+use Rattle.soft_pool.specs.declared.entry.Entry.{Entry}
 use Rattle.soft_pool.specs.declared.cell.Cell.TheVariants.{Live}
-use Rattle.soft_pool.proofs.Pools.{pool_filled, cells_filled}
+use Rattle.soft_pool.specs.Wheel.{list_of, cell_of}
+use Rattle.soft_pool.proofs.Pools.{live_now, live_read, live_cell, pool_changed, shows}
 use Rattle.soft_pool.proofs.pool.Pool.set.Goals as goal
 
 pub invariant_of-self : goal.invariant_of-self
 invariant_of-self g c =
-    let taken = c.take_live-old in
-    let es = c.self.inside.entries.items in
-    pool_filled es taken.new.entries.items c.swap_cell.new.entries.items c.self.inside.due c.args.slot.0 taken.result.0 c.args.value taken.result.1 c.take_live-old.result.1 c.self.invariant taken.ensures.was taken.ensures.cells taken.ensures.nexts c.swap_cell.ensures.cells c.swap_cell.ensures.nexts
+    let s = c.self.inside in
+    let i = c.args.slot.0 in
+    let e : Entry _ = c.index_mut.result.now in
+    let f : Entry _ = record { value = c.replace.new.dest; moment = e.moment } in
+    let live = live_now s.clock s.entries.items i e (rw c.self.view_is c.requires) c.index_mut.ensures.value in
+    pool_changed s.clock s.entries.items s.lists c.self.invariant _ i e f live.1 refl (ap (λ o. list_of s.clock o e.moment) c.replace.ensures.after ∙ sym (ap (λ o. list_of s.clock o e.moment) live.2))
 
 pub returns : goal.returns
 returns g c =
-    let taken = c.take_live-old in
-    let was = ap (λ cs. slice_get cs c.args.slot.0) (sym c.self.view_is) ∙ taken.ensures.was in
-    let now = cells_filled c.self.inside.entries.items taken.new.entries.items c.swap_cell.new.entries.items c.args.slot.0 c.args.value c.take_live-old.result.1 taken.ensures.cells c.swap_cell.ensures.cells ∙ ap (λ cs. slice_set cs c.args.slot.0 (Live c.args.value c.take_live-old.result.1)) c.self.view_is in
-    (taken.result.1, was, now)
+    let s = c.self.inside in
+    let i = c.args.slot.0 in
+    let e : Entry _ = c.index_mut.result.now in
+    let f : Entry _ = record { value = c.replace.new.dest; moment = e.moment } in
+    let left = e.moment - s.clock in
+    let live = live_now s.clock s.entries.items i e (rw c.self.view_is c.requires) c.index_mut.ensures.value in
+    let has = sym c.replace.ensures.value ∙ c.in-Some.is in (
+      left,
+      rw (← c.self.view_is) (live_read s.clock s.entries.items i e c.in-Some.old live.1 has live.3),
+      shows s.clock s.entries.items _ i f (Live c.args.value left) refl (ap (λ o. cell_of s.clock o e.moment) c.replace.ensures.after ∙ live_cell s.clock c.args.value e.moment live.3) ∙ ap (λ xs. slice_set xs i (Live c.args.value left)) c.self.view_is,
+    )

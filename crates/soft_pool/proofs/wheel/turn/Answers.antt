@@ -1,0 +1,38 @@
+use Rattle.std.proofs.Common.{◌≡◌, ◌<◌, sym, subst, refl, arith, length, Some, inl, inr}
+use Rattle.std.proofs.lemmas.Bool.{cases_lt}
+use Rattle.std.specs.Prelude.{slice_get}
+use Rattle.std.proofs.lemmas.Option.{slice_get_read}
+use Rattle.soft_pool.proofs.Slots.{within}
+use Rattle.soft_pool.proofs.Turns.{count, count_less, sorted_more, put_back}
+use Rattle.soft_pool.proofs.wheel.turn.Goals as goal
+
+pub loop-slot-smaller : goal.loop-slot-smaller
+loop-slot-smaller g c =
+    let list = c.args.list in
+    let to = c.sorted-to.result in
+    let moved : to ≡ list → ⊥ = λ e. elim (cases_lt c.args.now c.index-entries-slot.result.moment) [
+      | inl lt ↦ omega (arith, e, c.sorted-to.ensures.later lt, c.requires.list.0)
+      | inr le ↦ omega (arith, e, c.sorted-to.ensures.due le, c.requires.list.0)
+    ] in
+    subst (λ xs. count list xs < count list c.loop-slot.lists) (sym c.shift.ensures) (count_less list to c.loop-slot.lists c.in-Some.slot c.in-Some.ensures.some moved)
+
+pub loop-slot-preserved : goal.loop-slot-preserved
+loop-slot-preserved g c =
+    let es = c.args.entries.now in
+    let s = c.in-Some.slot in
+    let e = c.index-entries-slot.result in
+    let o = c.loop-slot.invariant in
+    let lt : s < length es = omega (arith, within c.loop-slot.lists s c.args.list c.in-Some.ensures.some, o.size, c.requires.size) in
+    let is : slice_get es s ≡ Some e = slice_get_read es (length es) s e refl lt c.index-entries-slot.is in
+    rw c.shift.ensures (sorted_more c.args.list c.args.now es c.args.lists.now c.loop-slot.lists s c.sorted-to.result e o is c.in-Some.ensures.some c.sorted-to.ensures.due c.sorted-to.ensures.later)
+
+pub shift-requires-in-Some-first-clause-here : goal.shift-requires-in-Some-first-clause-here
+shift-requires-in-Some-first-clause-here g c = within c.loop-slot-2.lists c.in-Some-first.slot 2 c.in-Some-first.ensures.some
+
+pub loop-slot-2-smaller : goal.loop-slot-2-smaller
+loop-slot-2-smaller g c =
+    let lists = c.loop-slot-2.lists in
+    subst (λ xs. count 2 xs < count 2 lists) (sym c.shift-in-Some-first.ensures) (count_less 2 c.args.list lists c.in-Some-first.slot c.in-Some-first.ensures.some (λ e. omega (arith, e, c.requires.list.0)))
+
+pub loop-slot-2-preserved : goal.loop-slot-2-preserved
+loop-slot-2-preserved g c = rw c.shift-in-Some-first.ensures (put_back c.args.list c.args.now c.args.entries.now c.args.lists.now c.loop-slot-2.lists c.in-Some-first.slot c.loop-slot-2.invariant c.in-Some-first.ensures.some c.requires.aside)

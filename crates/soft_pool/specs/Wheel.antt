@@ -1,0 +1,35 @@
+-- What a pool keeps of its slots at a moment of its clock, and the list of each slot.
+use Rattle.std.specs.Prelude.{◌≡◌, ◌<◌, ◌≤◌, ◌+◌, ◌-◌, ◌/◌, ◌%◌, ◌^◌, ℕ, cond, Option, Some, None, List, length, map, nat_le}
+use Rattle.soft_pool.specs.declared.cell.Cell.{Cell}
+use Rattle.soft_pool.specs.declared.cell.Cell.TheVariants.{Free, Live, Due}
+use Rattle.soft_pool.specs.declared.entry.Entry.{Entry}
+
+abbrev pub cell_of : {T : Type 0} → ℕ → Option T → ℕ → Cell T
+cell_of clock None moment = Free
+cell_of clock (Some v) moment = cond (nat_le moment clock) (Due v) (Live v (moment - clock))
+
+-- what is in a slot
+abbrev pub shown : {T : Type 0} → ℕ → Entry T → Cell T
+shown clock e = cell_of clock e.value e.moment
+
+-- the list of the wheel for a moment
+abbrev pub wheel_list : ℕ → ℕ
+wheel_list moment = 3 + moment / 1024 % 256
+
+abbrev pub list_of : {T : Type 0} → ℕ → Option T → ℕ → ℕ
+list_of clock None moment = 0
+list_of clock (Some v) moment = cond (nat_le moment clock) 1 (wheel_list moment)
+
+-- the list of a slot: that of the free, that of the due, or one of the wheel
+abbrev pub list_at : {T : Type 0} → ℕ → Entry T → ℕ
+list_at clock e = list_of clock e.value e.moment
+
+-- with the clock set back by so much
+abbrev pub set_back : {T : Type 0} → ℕ → Entry T → Entry T
+set_back by e = record { value = e.value; moment = e.moment - by }
+
+-- a pool's memory: each slot stands in its list
+pub record IsPool {T : Type 0} (entries : List (Entry T)) (lists : List ℕ) (clock : ℕ) : Type 0 where
+  pub few : length entries ≤ 65536
+  pub lists_are : lists ≡ map (list_at clock) entries
+  pub early : clock < 2 ^ 63

@@ -1,0 +1,95 @@
+//! What a pool keeps of a slot, and the list that the slot belongs to.
+ghost use Rattle.std.specs.Prelude.{◌≡◌, ◌<◌, ◌≤◌, length, slice_get, slice_set, map, Some, None};
+ghost use Rattle.soft_pool.specs.declared.entry.Entry.{Entry};
+ghost use Rattle.soft_pool.specs.Wheel.{list_at, wheel_list};
+
+use slot_lists::SlotLists;
+use std::mem;
+
+/// The list of the free slots, that of the due ones, and one that is empty between calls.
+pub(crate) const FREE: u16 = 0;
+
+pub(crate) const DUE: u16 = 1;
+
+pub(crate) const ASIDE: u16 = 2;
+
+/// The first list of the wheel, how many it has, and how many milliseconds belong to each.
+pub(crate) const WHEEL: u16 = 3;
+
+pub(crate) const LISTS: u64 = 256;
+
+pub(crate) const WIDTH: u64 = 1024;
+
+// A slot's place in the memory of a pool. It is free where it has no value.
+#[derive(Drop)]
+pub(crate) struct Entry<T> {
+    pub(crate) value: Option<T>,
+    // When the value runs out, on the pool's clock.
+    pub(crate) moment: u64,
+}
+
+// The list of the wheel for a moment.
+pub(crate) fn wheel_at(moment: u64) -> u16
+    ensures { result ≡ wheel_list moment }
+{
+    WHEEL + (moment / WIDTH % LISTS) as u16
+}
+
+// The list of a slot.
+fn list_for<T>(entry: &Entry<T>, clock: u64) -> u16
+    ensures { result ≡ list_at clock entry.now }
+{
+    match entry.value {
+        None => FREE,
+        Some(_) if entry.moment <= clock => DUE,
+        Some(_) => wheel_at(entry.moment),
+    }
+}
+
+// Puts an entry into a slot, moves the slot to its list, and hands back what was there.
+pub(crate) fn place<T: Drop>(
+    entries: &mut Vec<Entry<T>>,
+    lists: &mut SlotLists,
+    slot: u32,
+    entry: Entry<T>,
+    clock: u64,
+) -> Entry<T>
+    requires here { slot < length entries.old.items }
+    requires size { length lists.old ≡ length entries.old.items }
+    ensures was { slice_get entries.old.items slot ≡ Some result }
+    ensures entries { entries.new.items ≡ slice_set entries.old.items slot entry }
+    ensures lists { lists.new ≡ slice_set lists.old slot (list_at clock entry) }
+{
+    lists.shift(slot, list_for(&entry, clock));
+    mem::replace(&mut entries[slot as usize], entry)
+}
+
+// Takes the value of a slot out.
+pub(crate) fn take<T: Drop>(
+    entries: &mut Vec<Entry<T>>,
+    lists: &mut SlotLists,
+    slot: u32,
+) -> Option<T>
+    requires here { slot < length entries.old.items }
+    requires size { length lists.old ≡ length entries.old.items }
+    ensures entries { (e : Entry T) × (slice_get entries.old.items slot ≡ Some e) × (result ≡ e.value) × (entries.new.items ≡ slice_set entries.old.items slot (record { value = None; moment = 0 })) }
+    ensures lists { lists.new ≡ slice_set lists.old slot 0 }
+{
+    let free = Entry {
+        value: None,
+        moment: 0,
+    };
+    place(entries, lists, slot, free, 0).value
+}
+
+// Takes the value of every slot out.
+pub(crate) fn take_all<T: Drop>(entries: &mut Vec<Entry<T>>, lists: &mut SlotLists)
+    requires few { length entries.old.items ≤ 65536 }
+    requires size { length lists.old ≡ length entries.old.items }
+    ensures entries { entries.new.items ≡ map (λ _. record { value = None; moment = 0 }) entries.old.items }
+    ensures lists { lists.new ≡ map (λ _. 0) lists.old }
+{
+    for i in 0..entries.len() {
+        take(entries, lists, i as u32);
+    }
+}

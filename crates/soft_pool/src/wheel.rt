@@ -1,0 +1,73 @@
+//! Time: the lists of the wheel that it passes, and the clock set back before it runs out.
+ghost use Rattle.std.specs.Prelude.{◌≡◌, ◌<◌, ◌≤◌, ◌^◌, ◌%◌, ℕ, length, slice_get, map, Some};
+ghost use Rattle.soft_pool.specs.declared.entry.Entry.{Entry};
+ghost use Rattle.soft_pool.specs.Wheel.{list_at, shown, set_back};
+
+use crate::entry::{ASIDE, DUE, Entry, LISTS, WHEEL, WIDTH};
+use slot_lists::SlotLists;
+
+// The list that a slot of a list that is looked at goes to: that of the due where its moment has come, and else aside.
+fn sorted<T>(entry: &Entry<T>, now: u64) -> u16
+    ensures due { entry.now.moment ≤ now → result ≡ 1 }
+    ensures later { now < entry.now.moment → result ≡ 2 }
+{
+    if entry.moment <= now { DUE } else { ASIDE }
+}
+
+// Goes through one list: the slots whose moment has come are due then, and the others stay.
+fn turn<T>(entries: &[Entry<T>], lists: &mut SlotLists, list: u16, now: u64)
+    requires size { length lists.old ≡ length entries.now }
+    requires list { 3 ≤ list × list < 259 }
+    requires aside { (i : ℕ) → slice_get lists.old i ≡ Some 2 → ⊥ }
+    ensures size { length lists.new ≡ length lists.old }
+    ensures others { (i : ℕ) (h : ℕ) → slice_get lists.old i ≡ Some h → (h ≡ list → ⊥) → slice_get lists.new i ≡ Some h }
+    ensures due { (i : ℕ) (e : Entry T) → slice_get entries.now i ≡ Some e → slice_get lists.old i ≡ Some list → e.moment ≤ now → slice_get lists.new i ≡ Some 1 }
+    ensures later { (i : ℕ) (e : Entry T) → slice_get entries.now i ≡ Some e → slice_get lists.old i ≡ Some list → now < e.moment → slice_get lists.new i ≡ Some list }
+{
+    while let Some(slot) = lists.first(list) {
+        let to = sorted(&entries[slot as usize], now);
+        lists.shift(slot, to);
+    }
+    while let Some(slot) = lists.first(ASIDE) {
+        lists.shift(slot, list);
+    }
+}
+
+// Lets the time up to a moment pass: goes through the lists that it passes, each once.
+pub(crate) fn pass<T>(entries: &[Entry<T>], lists: &mut SlotLists, clock: u64, now: u64)
+    requires lists { lists.old ≡ map (list_at clock) entries.now }
+    requires order { clock ≤ now }
+    requires early { now < 2 ^ 63 }
+    ensures { lists.new ≡ map (list_at now) entries.now }
+{
+    let first = clock / WIDTH;
+    let more = (now / WIDTH - first).min(LISTS - 1);
+    for step in 0..more + 1 {
+        let list = WHEEL + ((first + step) % LISTS) as u16;
+        turn(entries, lists, list, now);
+    }
+}
+
+// Sets every moment back.
+fn set_all_back<T: Drop>(entries: &mut Vec<Entry<T>>, by: u64)
+    ensures { entries.new.items ≡ map (set_back by) entries.old.items }
+{
+    for i in 0..entries.len() {
+        let entry = &mut entries[i];
+        entry.moment = entry.moment.saturating_sub(by);
+    }
+}
+
+// Sets the clock back by whole turns of the wheel where it has gone far, so that every slot's list stays. Answers the clock.
+pub(crate) fn rewind<T: Drop>(entries: &mut Vec<Entry<T>>, clock: u64) -> u64
+    ensures early { result < 2 ^ 62 }
+    ensures shown { map (shown result) entries.new.items ≡ map (shown clock) entries.old.items }
+    ensures lists { map (list_at result) entries.new.items ≡ map (list_at clock) entries.old.items }
+{
+    if clock < 1 << 62 {
+        return clock;
+    }
+    let into = clock % (LISTS * WIDTH);
+    set_all_back(entries, clock - into);
+    into
+}
