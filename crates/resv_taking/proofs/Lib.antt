@@ -1,3 +1,4 @@
 pub mod Steps
 pub mod Fits
 pub mod Order
+pub mod Standing

@@ -135,6 +135,10 @@ module _ (p : NodeConfig) (c : ℕ) (st : StyleKind) (a : Asker) (f : Facts) (t 
           taken = ap (λ ps. put_in ps u part) so.taken ∙ ap (λ (d : Taken). d.parts) (sym is);
         }
 
+-- what is news does not matter to the rule
+pub so_with : (p : NodeConfig) (c : ℕ) (st : StyleKind) (a : Asker) (f : Facts) (m : ResvFacts) (es : Entries) (done : Taken) (t : Taking) → IsSoFar p c st a f m es done t → (news : Bool) → IsSoFar p c st a f m es (record done { news = news }) t
+so_with p c st a f m es done t so news = record { table = so.table; book = so.book; errors = so.errors; left_out = so.left_out; taken = so.taken }
+
 -- ---- what was told, by what became of the unit
 abbrev pub done_by : Bool → UnitOf → Part → Taken → Placed → Taken
 done_by in_place u part done placed.LeftOut = record done { left_out = true }

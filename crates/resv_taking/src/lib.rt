@@ -7,6 +7,7 @@
 mod lost;
 mod matching;
 mod refusals;
+mod renewing;
 mod unit;
 mod units;
 

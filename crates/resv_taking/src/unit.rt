@@ -1,23 +1,23 @@
 //! A unit of a Resv is left out, refused or taken.
 ghost use Rattle.std.specs.Prelude.{◌≡◌, ◌≤◌, ◌<◌, ◌+◌, ◌++◌, ℕ, [], false, length, map, option_and_then, Some};
-ghost use Rattle.resv_state.specs.Resvs.{AreOfStyle};
 ghost use Rattle.resv_state.specs.declared.fact.ResvFact.{ResvFact};
-ghost use Rattle.rsvp_base.specs.Table.{changed, get, size};
+ghost use Rattle.rsvp_base.specs.Table.{size};
 ghost use Rattle.rsvp_base.specs.Styles.{part_unit};
 ghost use Rattle.style_rules.specs.Parts.{IsOfStyle};
-ghost use Rattle.router_rules.specs.Asking.{Taking, confirm_kept, losses, or_kept, put_unit, take_unit, value_of};
+ghost use Rattle.router_rules.specs.Asking.{Taking, losses, or_kept, put_unit, take_unit, value_of};
 ghost use Rattle.router_rules.specs.Asking.{Asker as AskerOf};
-ghost use Rattle.node_facts.specs.State.{resv_at};
 ghost use Rattle.router_rules.specs.Facts.{Facts};
 ghost use Rattle.router_rules.specs.NodeConfig.{NodeConfig};
 ghost use Rattle.resv_book.specs.Placing.{IsBookAmong};
+ghost use Rattle.resv_taking.specs.Standing.{IsQuiet};
 ghost use Rattle.resv_taking.specs.Units.{IsFit, IsSoFar, asked_unit, asker_at, blamed, refusal_of};
 
 use crate::lost::{Lost, lost_of};
 use crate::matching::Matching;
 use crate::refusals::{Refusal, Refusals};
+use crate::renewing::{has_part, place_or_renew};
 use admission_book::{Book, Refused};
-use resv_book::{Placed, place};
+use resv_book::Placed;
 use resv_state::{ResvFact, ResvTable};
 use rsvp_base::{Addr, EntryKey, Flow, Part, Senders, Session, Unit};
 use style_rules::{Parts, Style};
@@ -42,12 +42,13 @@ pub struct Wanted {
 }
 
 /// What became of the units so far: the refusals in the order in which they came, whether a unit was left out for want of
-/// room, and the parts that were taken.
+/// room, the parts that were taken, and whether one of them is news: it did not stand in its place before.
 #[derive(Drop)]
 pub struct Taken {
     pub errors: Refusals,
     pub left_out: bool,
     pub parts: Parts,
+    pub news: bool,
 }
 
 // A unit takes its place, is refused or is left out, and names of it for which there is no sender are refused (RFC 2205,
@@ -73,6 +74,7 @@ pub(crate) fn take_unit<S: Style>(
     ensures ifaces { book.new.ifaces ≡ book.old.ifaces }
     ensures few_errors { length done.new.errors ≤ length done.old.errors + 2 }
     ensures few_parts { size done.new.parts ≤ size done.old.parts + 1 }
+    ensures quiet { IsQuiet done.old.news done.new.news table.old.facts table.new.facts }
 {
     tell_lost(
         &mut done.errors,
@@ -120,11 +122,9 @@ fn no_sender(names: Option<Senders>, flow: Flow) -> Refusal
 }
 
 // Who wants to hear that the reservation stands: a Resv that wants no confirmation leaves the wish of an earlier one.
-fn confirm_of<S: Style>(table: &ResvTable<S>, asker: &Asker, unit: Unit) -> Option<Addr>
-    ensures confirm { (c : ℕ) → result ≡ or_kept asker.now.confirm (confirm_kept (get (changed (resv_at c) table.now.facts) (asker.now.session, ((asker.now.iface, asker.now.next), unit)))) }
-    ensures style { AreOfStyle S.kind_is table.now.facts }
+fn confirm_of(asker: &Asker, old: &Option<ResvFact>) -> Option<Addr>
+    ensures { result ≡ or_kept asker.now.confirm (option_and_then (λ (f : ResvFact). f.confirm) old.now) }
 {
-    let old = table.find(asker.session, asker.iface, asker.next, unit);
     match asker.confirm {
         Some(addr) => Some(addr),
         None => confirm_in(old),
@@ -132,8 +132,8 @@ fn confirm_of<S: Style>(table: &ResvTable<S>, asker: &Asker, unit: Unit) -> Opti
 }
 
 // That of a reservation, if there is one.
-fn confirm_in(old: Option<ResvFact>) -> Option<Addr>
-    ensures { result ≡ option_and_then (λ (f : ResvFact). f.confirm) old }
+fn confirm_in(old: &Option<ResvFact>) -> Option<Addr>
+    ensures { result ≡ option_and_then (λ (f : ResvFact). f.confirm) old.now }
 {
     match old {
         Some(fact) => fact.confirm,
@@ -174,15 +174,11 @@ fn put_unit<S: Style>(
     ensures ifaces { book.new.ifaces ≡ book.old.ifaces }
     ensures few_errors { length done.new.errors ≤ length done.old.errors + 1 }
     ensures few_parts { size done.new.parts ≤ size done.old.parts + 1 }
+    ensures quiet { IsQuiet done.old.news done.new.news table.old.facts table.new.facts }
 {
-    let style = S::kind();
-    let key = EntryKey {
-        session: asker.session,
-        style,
-        unit,
-    };
-    let in_place = book.entry(asker.iface, &key).is_some();
-    let confirm = confirm_of(table, asker, unit);
+    let old = table.find(asker.session, asker.iface, asker.next, unit);
+    let stands = has_part::<S>(&old, &part);
+    let confirm = confirm_of(asker, &old);
     prove!(part.senders.len() <= 16);
     let fact = ResvFact {
         session: asker.session,
@@ -191,11 +187,18 @@ fn put_unit<S: Style>(
         part: part.copy(),
         confirm,
     };
-    match place(table, book, fact, asker.left) {
+    match place_or_renew(table, book, fact, asker.left, stands, &mut done.news) {
         Placed::LeftOut => {
             done.left_out = true;
         }
         Placed::Refused(why) => {
+            let style = S::kind();
+            let key = EntryKey {
+                session: asker.session,
+                style,
+                unit,
+            };
+            let in_place = book.entry(asker.iface, &key).is_some();
             let value = value_of(&why);
             done.errors.push(Refusal {
                 in_place,

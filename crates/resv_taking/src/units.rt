@@ -13,6 +13,7 @@ ghost use Rattle.router_rules.specs.NodeConfig.{NodeConfig};
 ghost use Rattle.node_facts.specs.State.{resv_at};
 ghost use Rattle.resv_book.specs.Kept.{IsBookOf};
 ghost use Rattle.resv_book.specs.Placing.{IsBookAmong};
+ghost use Rattle.resv_taking.specs.Standing.{parts_in};
 ghost use Rattle.resv_taking.specs.Units.{IsSoFar, asked_unit, asker_at, refusal_of};
 
 use crate::matching::Matching;
@@ -120,11 +121,13 @@ pub fn take_units<S: Style>(
     ensures taken { (p : NodeConfig) (c : ℕ) (f : Facts) → p.ifaces ≡ book.old.ifaces → resvs_of S.kind_is f ≡ changed (resv_at c) table.old.facts → IsBookOf f book.old.entries → IsSoFar p c S.kind_is asker.now f table.new.facts book.new.entries result (take_units p (asker_at c S.kind_is asker.now) f all.now (nothing_taken (resvs_of S.kind_is f) []) (asked_units ask.now)) }
     ensures dead { table.new.dead ≡ table.old.dead }
     ensures ifaces { book.new.ifaces ≡ book.old.ifaces }
+    ensures quiet { result.news ≡ false → parts_in table.new.facts ≡ parts_in table.old.facts }
 {
     let mut done = Taken {
         errors: Refusals::new(),
         left_out: false,
         parts: Parts::new(),
+        news: false,
     };
     for k in 0..count_of(ask) {
         let Some(wanted) = unit_at(ask, k) else {
@@ -159,5 +162,6 @@ pub fn refuse_units(ask: &Ask, code: u8, value: u16) -> Taken
         errors,
         left_out: false,
         parts: Parts::new(),
+        news: false,
     }
 }

@@ -1,19 +1,21 @@
 use Rattle.std.proofs.Common.{◌≡◌, ℕ, [], ◌∷◌, ◌++◌, Some, is_some, refl, sym, ap, subst, ◌∙◌, arith, ◌≤◌, ◌+◌}
+use Rattle.admission_book.specs.Book.{Bookings}
 use Rattle.resv_state.specs.Resvs.{ResvMap, resv_key}
 use Rattle.resv_state.specs.declared.fact.ResvFact.{ResvFact}
 use Rattle.rsvp_base.specs.Table.{changed, get, put_in, size}
+use Rattle.rsvp_base.specs.declared.entry_key.EntryKey.{EntryKey}
 use Rattle.rsvp_base.specs.declared.part.Part.{Part}
 use Rattle.rsvp_base.specs.declared.style.StyleKind.{StyleKind}
-use Rattle.admission_book.specs.Book.{Bookings}
 use Rattle.style_rules.specs.Merge.{PartTable}
-use Rattle.router_rules.specs.Asking.{put_unit}
+use Rattle.router_rules.specs.Asking.{or_kept, put_unit}
 use Rattle.router_rules.specs.Facts.{Facts, resvs_of}
 use Rattle.node_facts.specs.State.{resv_at}
 use Rattle.resv_book.specs.Kept.{IsBookOf}
 use Rattle.resv_book.specs.Placing.{chosen, placed_in}
+use Rattle.resv_book.specs.declared.placing.Placed.TheVariants as placed
 use Rattle.resv_taking.specs.Units.{IsSoFar, asker_at}
 use Rattle.resv_taking.specs.declared.unit.Taken.{Taken}
-use Rattle.resv_taking.proofs.Steps.{among_after, done_by, grows, step_so}
+use Rattle.resv_taking.proofs.Steps.{among_after, done_by, grows, so_with, step_so, wish_is}
 use Rattle.resv_taking.proofs.unit.put_unit.Goals as goal
 
 pub returns-in-LeftOut-clause-step : goal.returns-in-LeftOut-clause-step
@@ -21,48 +23,64 @@ returns-in-LeftOut-clause-step g c p b f t same so =
     let st = g.S.Style.kind_is in
     let a = c.args.asker.now in
     let m = c.args.table.now.facts in
+    let es = c.args.book.now.entries in
+    let key : ℕ × EntryKey = (a.iface, record { session = a.session; style = st; unit = c.args.unit }) in
     let it : Part → ResvFact = λ x. record { session = a.session; iface = a.iface; next = a.next; part = x; confirm = c.confirm_of-confirm.result } in
-    let stood_there : c.is_some-in_place.result ≡ is_some (get c.args.book.now.entries (a.iface, record { session = a.session; style = st; unit = c.args.unit })) = c.is_some-in_place.ensures ∙ ap is_some c.entry.ensures.flow ∙ ap (λ (z : StyleKind). is_some (get c.args.book.now.entries (a.iface, record { session = a.session; style = z; unit = c.args.unit }))) c.kind-style.ensures in
-    let result : (h : Facts) → resvs_of st h ≡ changed (resv_at b) m → IsBookOf h c.args.book.now.entries → c.place.result ≡ placed_in p st b (it c.args.part) a.left h = λ h is booked. c.place.ensures.result p b h same is booked ∙ ap (λ (x : Part). placed_in p st b (it x) a.left h) c.copy.ensures in
-    let table : c.place.new.table.facts ≡ chosen c.place.result (put_in m (resv_key st (it c.args.part)) (it c.args.part, a.left)) m = ap (λ (z : ResvMap). z.facts) c.place.ensures.table ∙ ap (λ (x : Part). chosen c.place.result (put_in m (resv_key st (it x)) (it x, a.left)) m) c.copy.ensures in
-    let all = step_so p b st a f t c.args.unit c.args.part c.confirm_of-confirm.result m c.args.book.now.entries c.args.done.now so c.confirm_of-confirm.ensures.style c.requires.style c.requires.unit (c.confirm_of-confirm.ensures.confirm b) (rw (sym c.len.ensures.size) c.len.ensures.few) c.is_some-in_place.result stood_there c.place.new.table.facts c.place.new.book.entries c.place.result result table c.place.ensures.book (λ x. ap (λ (z : Bookings). z.entries) (c.place.ensures.unchanged x)) in
-    let by = done_by c.is_some-in_place.result c.args.unit c.args.part c.args.done.now in
-    subst (λ (d : Taken). IsSoFar p b st a f c.place.new.table.facts c.place.new.book.entries d (put_unit p (asker_at b st a) f c.args.unit (Some c.args.part) t)) (ap by c.in-LeftOut.is) all
+    let done : Taken = record c.args.done.now { news = c.place_or_renew.new.news } in
+    let so_far = so_with p b st a f m es c.args.done.now t so c.place_or_renew.new.news in
+    let wish = c.confirm_of-confirm.ensures ∙ ap (or_kept a.confirm) (wish_is b m (a.session, ((a.iface, a.next), c.args.unit)) c.find-old.result c.find-old.ensures.fact) in
+    let result : (h : Facts) → resvs_of st h ≡ changed (resv_at b) m → IsBookOf h es → c.place_or_renew.result ≡ placed_in p st b (it c.args.part) a.left h = λ h is booked. c.place_or_renew.ensures.result p b h same is booked ∙ ap (λ (x : Part). placed_in p st b (it x) a.left h) c.copy.ensures in
+    let table : c.place_or_renew.new.table.facts ≡ chosen c.place_or_renew.result (put_in m (resv_key st (it c.args.part)) (it c.args.part, a.left)) m = ap (λ (z : ResvMap). z.facts) c.place_or_renew.ensures.table ∙ ap (λ (x : Part). chosen c.place_or_renew.result (put_in m (resv_key st (it x)) (it x, a.left)) m) c.copy.ensures in
+    let all = step_so p b st a f t c.args.unit c.args.part c.confirm_of-confirm.result m es done so_far c.find-old.ensures.style c.requires.style c.requires.unit wish (rw (sym c.len.ensures.size) c.len.ensures.few) (is_some (get es key)) refl c.place_or_renew.new.table.facts c.place_or_renew.new.book.entries c.place_or_renew.result result table c.place_or_renew.ensures.book (λ x. ap (λ (z : Bookings). z.entries) (c.place_or_renew.ensures.unchanged x)) in
+    let by = done_by (is_some (get es key)) c.args.unit c.args.part done in
+    subst (λ (d : Taken). IsSoFar p b st a f c.place_or_renew.new.table.facts c.place_or_renew.new.book.entries d (put_unit p (asker_at b st a) f c.args.unit (Some c.args.part) t)) (ap by c.in-LeftOut.is) all
 
 pub returns-in-LeftOut-clause-kept : goal.returns-in-LeftOut-clause-kept
-returns-in-LeftOut-clause-kept g c = among_after g.S.Style.kind_is c.args.table.now.facts c.place.new.table.facts c.args.book.now.entries c.place.new.book.entries c.requires.kept c.place.ensures.book
+returns-in-LeftOut-clause-kept g c = among_after g.S.Style.kind_is c.args.table.now.facts c.place_or_renew.new.table.facts c.args.book.now.entries c.place_or_renew.new.book.entries c.requires.kept c.place_or_renew.ensures.book
 
 pub returns-in-Refused-clause-step : goal.returns-in-Refused-clause-step
 returns-in-Refused-clause-step g c p b f t same so =
     let st = g.S.Style.kind_is in
     let a = c.args.asker.now in
     let m = c.args.table.now.facts in
+    let es = c.args.book.now.entries in
+    let key : ℕ × EntryKey = (a.iface, record { session = a.session; style = st; unit = c.args.unit }) in
     let it : Part → ResvFact = λ x. record { session = a.session; iface = a.iface; next = a.next; part = x; confirm = c.confirm_of-confirm.result } in
-    let stood_there : c.is_some-in_place.result ≡ is_some (get c.args.book.now.entries (a.iface, record { session = a.session; style = st; unit = c.args.unit })) = c.is_some-in_place.ensures ∙ ap is_some c.entry.ensures.flow ∙ ap (λ (z : StyleKind). is_some (get c.args.book.now.entries (a.iface, record { session = a.session; style = z; unit = c.args.unit }))) c.kind-style.ensures in
-    let result : (h : Facts) → resvs_of st h ≡ changed (resv_at b) m → IsBookOf h c.args.book.now.entries → c.place.result ≡ placed_in p st b (it c.args.part) a.left h = λ h is booked. c.place.ensures.result p b h same is booked ∙ ap (λ (x : Part). placed_in p st b (it x) a.left h) c.copy.ensures in
-    let table : c.place.new.table.facts ≡ chosen c.place.result (put_in m (resv_key st (it c.args.part)) (it c.args.part, a.left)) m = ap (λ (z : ResvMap). z.facts) c.place.ensures.table ∙ ap (λ (x : Part). chosen c.place.result (put_in m (resv_key st (it x)) (it x, a.left)) m) c.copy.ensures in
-    let all = step_so p b st a f t c.args.unit c.args.part c.confirm_of-confirm.result m c.args.book.now.entries c.args.done.now so c.confirm_of-confirm.ensures.style c.requires.style c.requires.unit (c.confirm_of-confirm.ensures.confirm b) (rw (sym c.len.ensures.size) c.len.ensures.few) c.is_some-in_place.result stood_there c.place.new.table.facts c.place.new.book.entries c.place.result result table c.place.ensures.book (λ x. ap (λ (z : Bookings). z.entries) (c.place.ensures.unchanged x)) in
-    let by = done_by c.is_some-in_place.result c.args.unit c.args.part c.args.done.now in
-    subst (λ (d : Taken). IsSoFar p b st a f c.place.new.table.facts c.place.new.book.entries d (put_unit p (asker_at b st a) f c.args.unit (Some c.args.part) t)) (ap by c.in-Refused.is ∙ (λ i. record c.args.done.now { errors = (ap (λ (n : ℕ). c.args.done.now.errors ++ record { in_place = c.is_some-in_place.result; code = 1; value = n; names = Some c.args.part.senders; flow = c.args.part.flow } ∷ []) (sym c.value_of-value.ensures) ∙ sym c.push.ensures) i })) all
+    let done : Taken = record c.args.done.now { news = c.place_or_renew.new.news } in
+    let so_far = so_with p b st a f m es c.args.done.now t so c.place_or_renew.new.news in
+    let wish = c.confirm_of-confirm.ensures ∙ ap (or_kept a.confirm) (wish_is b m (a.session, ((a.iface, a.next), c.args.unit)) c.find-old.result c.find-old.ensures.fact) in
+    let result : (h : Facts) → resvs_of st h ≡ changed (resv_at b) m → IsBookOf h es → c.place_or_renew.result ≡ placed_in p st b (it c.args.part) a.left h = λ h is booked. c.place_or_renew.ensures.result p b h same is booked ∙ ap (λ (x : Part). placed_in p st b (it x) a.left h) c.copy.ensures in
+    let table : c.place_or_renew.new.table.facts ≡ chosen c.place_or_renew.result (put_in m (resv_key st (it c.args.part)) (it c.args.part, a.left)) m = ap (λ (z : ResvMap). z.facts) c.place_or_renew.ensures.table ∙ ap (λ (x : Part). chosen c.place_or_renew.result (put_in m (resv_key st (it x)) (it x, a.left)) m) c.copy.ensures in
+    let all = step_so p b st a f t c.args.unit c.args.part c.confirm_of-confirm.result m es done so_far c.find-old.ensures.style c.requires.style c.requires.unit wish (rw (sym c.len.ensures.size) c.len.ensures.few) (is_some (get es key)) refl c.place_or_renew.new.table.facts c.place_or_renew.new.book.entries c.place_or_renew.result result table c.place_or_renew.ensures.book (λ x. ap (λ (z : Bookings). z.entries) (c.place_or_renew.ensures.unchanged x)) in
+    let by = done_by (is_some (get es key)) c.args.unit c.args.part done in
+    let not_taken : c.place_or_renew.result ≡ placed.Taken → ⊥ = λ x. let z : placed.Refused c.in-Refused.why ≡ placed.Taken = sym c.in-Refused.is ∙ x in cc in
+    let stood : c.is_some-in_place.result ≡ is_some (get es key) =
+    c.is_some-in_place.ensures ∙ ap is_some c.entry.ensures.flow ∙ ap (λ (z : StyleKind). is_some (get c.place_or_renew.new.book.entries (a.iface, record { session = a.session; style = z; unit = c.args.unit }))) c.kind-style.ensures
+    ∙ ap (λ (z : Bookings). is_some (get z.entries key)) (c.place_or_renew.ensures.unchanged not_taken) in
+    subst (λ (d : Taken). IsSoFar p b st a f c.place_or_renew.new.table.facts c.place_or_renew.new.book.entries d (put_unit p (asker_at b st a) f c.args.unit (Some c.args.part) t)) (ap by c.in-Refused.is ∙ (λ i. record done { errors = ((λ j. done.errors ++ record { in_place = sym stood j; code = 1; value = sym c.value_of-value.ensures j; names = Some c.args.part.senders; flow = c.args.part.flow } ∷ []) ∙ sym c.push.ensures) i })) all
 
 pub returns-in-Refused-clause-kept : goal.returns-in-Refused-clause-kept
-returns-in-Refused-clause-kept g c = among_after g.S.Style.kind_is c.args.table.now.facts c.place.new.table.facts c.args.book.now.entries c.place.new.book.entries c.requires.kept c.place.ensures.book
+returns-in-Refused-clause-kept g c = among_after g.S.Style.kind_is c.args.table.now.facts c.place_or_renew.new.table.facts c.args.book.now.entries c.place_or_renew.new.book.entries c.requires.kept c.place_or_renew.ensures.book
 
 pub returns-in-Ok-clause-step : goal.returns-in-Ok-clause-step
 returns-in-Ok-clause-step g c p b f t same so =
     let st = g.S.Style.kind_is in
     let a = c.args.asker.now in
     let m = c.args.table.now.facts in
+    let es = c.args.book.now.entries in
+    let key : ℕ × EntryKey = (a.iface, record { session = a.session; style = st; unit = c.args.unit }) in
     let it : Part → ResvFact = λ x. record { session = a.session; iface = a.iface; next = a.next; part = x; confirm = c.confirm_of-confirm.result } in
-    let stood_there : c.is_some-in_place.result ≡ is_some (get c.args.book.now.entries (a.iface, record { session = a.session; style = st; unit = c.args.unit })) = c.is_some-in_place.ensures ∙ ap is_some c.entry.ensures.flow ∙ ap (λ (z : StyleKind). is_some (get c.args.book.now.entries (a.iface, record { session = a.session; style = z; unit = c.args.unit }))) c.kind-style.ensures in
-    let result : (h : Facts) → resvs_of st h ≡ changed (resv_at b) m → IsBookOf h c.args.book.now.entries → c.place.result ≡ placed_in p st b (it c.args.part) a.left h = λ h is booked. c.place.ensures.result p b h same is booked ∙ ap (λ (x : Part). placed_in p st b (it x) a.left h) c.copy.ensures in
-    let table : c.place.new.table.facts ≡ chosen c.place.result (put_in m (resv_key st (it c.args.part)) (it c.args.part, a.left)) m = ap (λ (z : ResvMap). z.facts) c.place.ensures.table ∙ ap (λ (x : Part). chosen c.place.result (put_in m (resv_key st (it x)) (it x, a.left)) m) c.copy.ensures in
-    let all = step_so p b st a f t c.args.unit c.args.part c.confirm_of-confirm.result m c.args.book.now.entries c.args.done.now so c.confirm_of-confirm.ensures.style c.requires.style c.requires.unit (c.confirm_of-confirm.ensures.confirm b) (rw (sym c.len.ensures.size) c.len.ensures.few) c.is_some-in_place.result stood_there c.place.new.table.facts c.place.new.book.entries c.place.result result table c.place.ensures.book (λ x. ap (λ (z : Bookings). z.entries) (c.place.ensures.unchanged x)) in
-    let by = done_by c.is_some-in_place.result c.args.unit c.args.part c.args.done.now in
-    subst (λ (d : Taken). IsSoFar p b st a f c.place.new.table.facts c.place.new.book.entries d (put_unit p (asker_at b st a) f c.args.unit (Some c.args.part) t)) (ap by c.in-Taken.is ∙ (λ i. record c.args.done.now { parts = sym c.in-Ok.ensures.ok i })) all
+    let done : Taken = record c.args.done.now { news = c.place_or_renew.new.news } in
+    let so_far = so_with p b st a f m es c.args.done.now t so c.place_or_renew.new.news in
+    let wish = c.confirm_of-confirm.ensures ∙ ap (or_kept a.confirm) (wish_is b m (a.session, ((a.iface, a.next), c.args.unit)) c.find-old.result c.find-old.ensures.fact) in
+    let result : (h : Facts) → resvs_of st h ≡ changed (resv_at b) m → IsBookOf h es → c.place_or_renew.result ≡ placed_in p st b (it c.args.part) a.left h = λ h is booked. c.place_or_renew.ensures.result p b h same is booked ∙ ap (λ (x : Part). placed_in p st b (it x) a.left h) c.copy.ensures in
+    let table : c.place_or_renew.new.table.facts ≡ chosen c.place_or_renew.result (put_in m (resv_key st (it c.args.part)) (it c.args.part, a.left)) m = ap (λ (z : ResvMap). z.facts) c.place_or_renew.ensures.table ∙ ap (λ (x : Part). chosen c.place_or_renew.result (put_in m (resv_key st (it x)) (it x, a.left)) m) c.copy.ensures in
+    let all = step_so p b st a f t c.args.unit c.args.part c.confirm_of-confirm.result m es done so_far c.find-old.ensures.style c.requires.style c.requires.unit wish (rw (sym c.len.ensures.size) c.len.ensures.few) (is_some (get es key)) refl c.place_or_renew.new.table.facts c.place_or_renew.new.book.entries c.place_or_renew.result result table c.place_or_renew.ensures.book (λ x. ap (λ (z : Bookings). z.entries) (c.place_or_renew.ensures.unchanged x)) in
+    let by = done_by (is_some (get es key)) c.args.unit c.args.part done in
+    subst (λ (d : Taken). IsSoFar p b st a f c.place_or_renew.new.table.facts c.place_or_renew.new.book.entries d (put_unit p (asker_at b st a) f c.args.unit (Some c.args.part) t)) (ap by c.in-Taken.is ∙ (λ i. record done { parts = sym c.in-Ok.ensures.ok i })) all
 
 pub returns-in-Ok-clause-kept : goal.returns-in-Ok-clause-kept
-returns-in-Ok-clause-kept g c = among_after g.S.Style.kind_is c.args.table.now.facts c.place.new.table.facts c.args.book.now.entries c.place.new.book.entries c.requires.kept c.place.ensures.book
+returns-in-Ok-clause-kept g c = among_after g.S.Style.kind_is c.args.table.now.facts c.place_or_renew.new.table.facts c.args.book.now.entries c.place_or_renew.new.book.entries c.requires.kept c.place_or_renew.ensures.book
 
 pub returns-in-Ok-clause-few_parts : goal.returns-in-Ok-clause-few_parts
 returns-in-Ok-clause-few_parts g c = subst (λ (ps : PartTable). size ps ≤ size c.args.done.now.parts + 1) (sym c.in-Ok.ensures.ok) (grows c.args.done.now.parts c.args.unit c.args.part)

@@ -28,6 +28,7 @@ loop-k-init g c =
       ifaces = refl;
       few_errors = omega (arith, none);
       few_parts = omega (arith, empty);
+      quiet = λ none. refl;
     }
 
 pub unreachable-requires : goal.unreachable-requires
@@ -68,6 +69,7 @@ loop-k-preserved g c =
       ifaces = c.take_unit.ensures.ifaces ∙ c.loop-k.invariant.ifaces;
       few_errors = omega (arith, c.take_unit.ensures.few_errors, c.loop-k.invariant.few_errors);
       few_parts = omega (arith, c.take_unit.ensures.few_parts, c.loop-k.invariant.few_parts);
+      quiet = λ none. let step = c.take_unit.ensures.quiet none in step.1 ∙ c.loop-k.invariant.quiet step.0;
     }
 
 pub returns-clause-taken : goal.returns-clause-taken
@@ -77,3 +79,6 @@ returns-clause-taken g c p b f same is booked =
     let far : length us ≤ c.loop-k.k = omega (arith, c.loop-k-test.false, c.count_of-k-end.ensures.count) in
     subst (λ (zs : List AskedUnit). IsSoFar p b st c.args.asker.now f c.loop-k.table.facts c.loop-k.book.entries c.loop-k.done (take_units p (asker_at b st c.args.asker.now) f c.args.all.now (nothing_taken (resvs_of st f) []) zs))
     (take_all c.loop-k.k us far) (c.loop-k.invariant.so_far p b f same is booked)
+
+pub returns-clause-quiet : goal.returns-clause-quiet
+returns-clause-quiet g c = c.loop-k.invariant.quiet

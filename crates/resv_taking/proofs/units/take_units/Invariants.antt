@@ -1,4 +1,4 @@
-use Rattle.std.specs.Prelude.{◌≡◌, ◌≤◌, ◌*◌, ℕ, [], length, take}
+use Rattle.std.specs.Prelude.{◌≡◌, ◌≤◌, ◌*◌, ℕ, false, [], length, take}
 use Rattle.rsvp_base.specs.Table.{changed, size}
 use Rattle.rsvp_messages.specs.Units.{asked_units}
 use Rattle.router_rules.specs.Asking.{nothing_taken, take_units}
@@ -7,6 +7,7 @@ use Rattle.router_rules.specs.NodeConfig.{NodeConfig}
 use Rattle.node_facts.specs.State.{resv_at}
 use Rattle.resv_book.specs.Kept.{IsBookOf}
 use Rattle.resv_book.specs.Placing.{IsBookAmong}
+use Rattle.resv_taking.specs.Standing.{parts_in}
 use Rattle.resv_taking.specs.Units.{IsSoFar, asker_at}
 use Rattle.resv_taking.proofs.units.take_units.Given as goal
 
@@ -19,4 +20,5 @@ invariant-loop-k g l = record {
   ifaces : l.book.ifaces ≡ l.fn.book.ifaces;
   few_errors : length l.done.errors ≤ 2 * l.k;
   few_parts : size l.done.parts ≤ l.k;
+  quiet : l.done.news ≡ false → parts_in l.table.facts ≡ parts_in l.fn.table.facts;
 }
