@@ -1,12 +1,13 @@
 //! Resvs and ResvTears change the reservations of a session.
-ghost use Rattle.std.specs.Prelude.{◌≡◌, ◌<◌, ℕ, length};
+ghost use Rattle.std.specs.Prelude.{◌≡◌, ◌<◌, ℕ, false, length};
+ghost use Rattle.rsvp_base.specs.Table.{empty};
 ghost use Rattle.rsvp_base.specs.declared.session.Sender.{Sender as Sending};
 ghost use Rattle.router_rules.specs.Asking.{act_resv, act_resv_tear};
 ghost use Rattle.router_rules.specs.Asking.{asker_of as asker_of_rule};
 ghost use Rattle.node_facts.specs.State.{Said, facts_of};
 ghost use Rattle.node_sends.specs.Changed.{IsChangedFor};
 ghost use Rattle.node_tables.specs.Whole.{IsOfPlace, state_of};
-ghost use Rattle.resv_arriving.specs.Taken.{IsAnswer};
+ghost use Rattle.resv_arriving.specs.Taken.{AreSameParts, IsAnswer};
 ghost use Rattle.tables_waiting.specs.Steps.{AreSound};
 ghost use Rattle.node_acting.specs.Styled.{AreOfStyles};
 
@@ -34,7 +35,7 @@ pub fn tear_resvs(tables: &mut Tables, iface: u8, message: &ResvTearMsg) -> Hear
 }
 
 /// The units of a Resv that came by one of the node's interfaces are taken, refused or left out (RFC 2209, 2: RESV MESSAGE
-/// ARRIVES). Nothing of other sessions changes.
+/// ARRIVES). Nothing of other sessions changes. Where nothing that was taken is news, each part stands as it did.
 pub fn take_resvs(tables: &mut Tables, iface: u8, message: &ResvMsg) -> Answer
     requires sound { AreSound tables.old }
     requires place { IsOfPlace tables.old }
@@ -45,6 +46,7 @@ pub fn take_resvs(tables: &mut Tables, iface: u8, message: &ResvMsg) -> Answer
     ensures sound { AreSound tables.new }
     ensures ifaces { tables.new.book.ifaces ≡ tables.old.book.ifaces }
     ensures rest { tables.new ≡ record tables.old { wild = tables.new.wild; fixed = tables.new.fixed; shared = tables.new.shared; book = tables.new.book } }
+    ensures quiet { result.news ≡ false → AreSameParts (state_of tables.old empty) (state_of tables.new empty) }
 {
     look(tables);
     let answer = take_resv(tables, iface, message);

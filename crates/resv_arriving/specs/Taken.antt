@@ -11,6 +11,7 @@ use Rattle.router_rules.specs.Facts.{Facts, resvs_of}
 use Rattle.router_rules.specs.Inputs.{Change}
 use Rattle.router_rules.specs.NodeConfig.{NodeConfig}
 use Rattle.node_facts.specs.State.{State, table_in}
+use Rattle.resv_taking.specs.Standing.{parts_in}
 use Rattle.resv_taking.specs.Units.{asker_at, refusal_of}
 use Rattle.resv_taking.specs.declared.unit.Asker.{Asker}
 use Rattle.resv_taking.specs.declared.unit.Taken.{Taken}
@@ -35,3 +36,7 @@ pub record IsAnswer (p : NodeConfig) (o : AskerOf) (r : Answer) (k : Change) : T
 -- no table of reservations has more than 1,024
 abbrev pub AreFew : State → Type 0
 AreFew n = (st : StyleKind) → size (table_in st n) ≤ 1024
+
+-- in each table the same parts stand under the same keys
+abbrev pub AreSameParts : State → State → Type 0
+AreSameParts n m = (st : StyleKind) → parts_in (table_in st m) ≡ parts_in (table_in st n)

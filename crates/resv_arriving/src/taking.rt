@@ -1,5 +1,5 @@
 //! A Resv arrives.
-ghost use Rattle.std.specs.Prelude.{◌≡◌, ◌≤◌, ◌<◌, ℕ, true, length, map};
+ghost use Rattle.std.specs.Prelude.{◌≡◌, ◌≤◌, ◌<◌, ℕ, true, false, length, map};
 ghost use Rattle.rsvp_base.specs.Sets.{is_none};
 ghost use Rattle.rsvp_base.specs.Styles.{name_of};
 ghost use Rattle.rsvp_base.specs.Table.{empty, has};
@@ -12,7 +12,7 @@ ghost use Rattle.router_rules.specs.NodeConfig.{NodeConfig};
 ghost use Rattle.node_facts.specs.State.{Said, facts_of};
 ghost use Rattle.node_tables.specs.Whole.{ArePulled, IsBooked, IsOfPlace, state_of};
 ghost use Rattle.resv_taking.specs.Units.{asker_at, refusal_of};
-ghost use Rattle.resv_arriving.specs.Taken.{AreFew, IsAnswer, IsDone, taking_from};
+ghost use Rattle.resv_arriving.specs.Taken.{AreFew, AreSameParts, IsAnswer, IsDone, taking_from};
 
 use crate::matching::matching;
 use crate::styles::style_conflict;
@@ -26,13 +26,15 @@ use rsvp_base::{Addr, Session, StyleKind, Unit};
 use rsvp_messages::{Ask, ResvMsg};
 use style_rules::Parts;
 
-/// What came of a Resv: its refusals in the order in which they go back to the next hop, what is heard, and what was taken, as
-/// it is to be confirmed where the message wishes for that.
+/// What came of a Resv: its refusals in the order in which they go back to the next hop, what is heard, what was taken, as it
+/// is to be confirmed where the message wishes for that, and whether a part that was taken is news: it did not stand in its
+/// place before.
 #[derive(Drop)]
 pub struct Answer {
     pub errors: Refusals,
     pub heard: Heard,
     pub taken: Option<Ask>,
+    pub news: bool,
 }
 
 /// Who asks by a Resv that came by an interface.
@@ -51,7 +53,8 @@ pub fn asker_of(config: &Config, iface: u8, message: &ResvMsg) -> Asker
 
 /// A Resv arrives by one of the node's interfaces: each of its units is taken, refused or left out, and the book is that of
 /// the facts. It is refused whole where no sender of its session is known, or where the session has another style (RFC 2205,
-/// appendix B, error codes 03 and 05). A unit that is refused or left out changes nothing.
+/// appendix B, error codes 03 and 05). A unit that is refused or left out changes nothing. One that only refreshes what stands
+/// merges nothing; where there is no other, each part stands as it did.
 pub fn take_resv(tables: &mut Tables, iface: u8, message: &ResvMsg) -> Answer
     requires booked { IsBooked tables.old }
     requires pulled { ArePulled tables.old }
@@ -63,6 +66,7 @@ pub fn take_resv(tables: &mut Tables, iface: u8, message: &ResvMsg) -> Answer
     ensures pulled { ArePulled tables.new }
     ensures ifaces { tables.new.book.ifaces ≡ tables.old.book.ifaces }
     ensures rest { tables.new ≡ record tables.old { wild = tables.new.wild; fixed = tables.new.fixed; shared = tables.new.shared; book = tables.new.book } }
+    ensures quiet { result.news ≡ false → AreSameParts (state_of tables.old empty) (state_of tables.new empty) }
 {
     let done = take_or_refuse(tables, iface, message);
     let taken = wished(message.confirm, style_of(&message.ask), &done.parts);
@@ -72,6 +76,7 @@ pub fn take_resv(tables: &mut Tables, iface: u8, message: &ResvMsg) -> Answer
         errors,
         heard,
         taken,
+        news: done.news,
     }
 }
 
@@ -142,6 +147,7 @@ fn take_or_refuse(tables: &mut Tables, iface: u8, message: &ResvMsg) -> Taken
     ensures pulled { ArePulled tables.new }
     ensures ifaces { tables.new.book.ifaces ≡ tables.old.book.ifaces }
     ensures rest { tables.new ≡ record tables.old { wild = tables.new.wild; fixed = tables.new.fixed; shared = tables.new.shared; book = tables.new.book } }
+    ensures quiet { result.news ≡ false → AreSameParts (state_of tables.old empty) (state_of tables.new empty) }
 {
     let session = message.session;
     let style = style_of(&message.ask);
@@ -171,6 +177,7 @@ fn take_by_style(tables: &mut Tables, asker: &Asker, all: &Matching, ask: &Ask) 
     ensures pulled { ArePulled tables.new }
     ensures ifaces { tables.new.book.ifaces ≡ tables.old.book.ifaces }
     ensures rest { tables.new ≡ record tables.old { wild = tables.new.wild; fixed = tables.new.fixed; shared = tables.new.shared; book = tables.new.book } }
+    ensures quiet { result.news ≡ false → AreSameParts (state_of tables.old empty) (state_of tables.new empty) }
 {
     look(tables);
     match ask {
