@@ -8,3 +8,6 @@ mod Mine
 mod Left
 mod Waited
 mod Booking
+mod Quiet
+mod Again
+mod WithParts

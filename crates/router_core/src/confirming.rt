@@ -10,7 +10,7 @@ ghost use Rattle.router_rules.specs.Sends.{conf_sends, confirmed, without_scope}
 ghost use Rattle.node_facts.specs.State.{State, facts_of};
 ghost use Rattle.node_sends.specs.Before.{IsBefore};
 ghost use Rattle.node_tables.specs.Whole.{state_of};
-ghost use Rattle.router_core.specs.Confirming.{conf_of};
+ghost use Rattle.router_core.specs.Confirming.{conf_of, confirmed_here};
 
 use lane_state::LaneTable;
 use lane_wishes::is_any_new;
@@ -43,6 +43,27 @@ pub(crate) fn confirm<O: Outbox>(
         return;
     }
     let conf = conf_of(&tables.config, iface, message, wish, ask);
+    out.post(iface, message.hop.addr, conf, false);
+}
+
+/// What was taken of a Resv that came by an interface goes back to its next hop, where the Resv wishes to be confirmed. Nothing
+/// goes on for it.
+pub(crate) fn confirm_here<O: Outbox>(
+    config: &Config,
+    iface: u8,
+    message: &ResvMsg,
+    taken: Option<Ask>,
+    out: &mut O,
+)
+    ensures { (c : ℕ) → out.new ≡ fold O.posted out.old (conf_sends (confirmed_here config.now (asked_of (asker_of config.now c iface message.now) taken message.now.confirm))) }
+{
+    let Some(wish) = message.confirm else {
+        return;
+    };
+    let Some(ask) = taken else {
+        return;
+    };
+    let conf = conf_of(config, iface, message, wish, ask);
     out.post(iface, message.hop.addr, conf, false);
 }
 

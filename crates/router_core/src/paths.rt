@@ -1,16 +1,22 @@
 //! Paths and PathTears arrive.
-ghost use Rattle.std.specs.Prelude.{◌≡◌, ℕ, fold};
+ghost use Rattle.std.specs.Prelude.{◌≡◌, ℕ, true, fold, Some, IfOk, IfErr};
+ghost use Rattle.rsvp_base.specs.Table.{get};
 ghost use Rattle.rsvp_messages.specs.declared.message.Message.TheVariants as message_of;
-ghost use Rattle.router_rules.specs.Inputs.{Spelt};
+ghost use Rattle.router_rules.specs.Act.{act};
+ghost use Rattle.router_rules.specs.Inputs.{Spelt, only_heard};
+ghost use Rattle.router_rules.specs.NodeConfig.{comes_in};
+ghost use Rattle.router_rules.specs.Paths.{is_path_by};
 ghost use Rattle.router_rules.specs.Rule.{facts_after, heard_after, sent_after};
 ghost use Rattle.node_facts.specs.Changes.{path_came, tear_came};
-ghost use Rattle.node_facts.specs.State.{facts_at};
+ghost use Rattle.router_rules.specs.declared.answers.Heard.TheVariants.{Dropped};
+ghost use Rattle.node_facts.specs.State.{State, facts_at, facts_of};
 
 use crate::node::Node;
 use lane_telling::{offered, tell_sender};
 use node_acting::{drop_path, has_path_by, learn_path};
-use node_telling::Outbox;
+use node_telling::{Config, Outbox, tell_new};
 use router_rules::{Heard, Why};
+use rsvp_base::{Flow, Sender};
 use rsvp_messages::{PathMsg, PathTearMsg};
 
 impl Node {
@@ -22,14 +28,16 @@ impl Node {
         ensures sent { (c : ℕ) → out.new ≡ fold O.posted out.old (sent_after self.old.place self.old.place c (path_came iface message.now) (facts_at c self.old)) }
         ensures place { self.new.place ≡ self.old.place }
     {
-        let session = message.session;
-        let near = self.tables.paths.hops(session);
-        let Some((sender, tspec)) = message.sender else {
-            return Heard::Dropped(Why::NoSender);
+        let (sender, tspec) = match inward_sender(&self.tables.config, iface, message) {
+            Ok(named) => named,
+            Err(why) => return Heard::Dropped(why),
         };
-        if !self.tables.config.comes_in(session, iface, sender) {
-            return Heard::Dropped(Why::NotInward);
+        let session = message.session;
+        let hop = message.hop.addr;
+        if has_path_by(&self.tables.paths, session, sender, iface, hop) {
+            return self.renew_path(iface, message, sender, tspec, out);
         }
+        let near = self.tables.paths.hops(session);
         let before = offered(&self.tables, session, sender);
         if !learn_path(&mut self.tables, iface, message, sender, tspec) {
             return Heard::Dropped(Why::Full);
@@ -43,6 +51,34 @@ impl Node {
             &near,
             out,
         );
+        Heard::Taken
+    }
+
+    // A Path arrives from the hop that the path of its sender came from. The path is kept anew, and what goes toward each hop
+    // is what went there before: no lane is gone through, and a Path goes on only where the sender's flow is another one.
+    fn renew_path<O: Outbox>(
+        &mut self,
+        iface: u8,
+        message: &PathMsg,
+        sender: Sender,
+        tspec: Flow,
+        out: &mut O,
+    ) -> Heard
+        requires sender { message.now.sender ≡ Some (sender, tspec) }
+        requires inward { comes_in self.old.place message.now.session iface sender ≡ true }
+        requires stands { (c : ℕ) → is_path_by (iface, message.now.hop.addr) (get (facts_of c self.old).paths (message.now.session, sender)) ≡ true }
+        ensures facts { (c : ℕ) → facts_at c self.new ≡ facts_after self.old.place self.old.place c (path_came iface message.now) (facts_at c self.old) }
+        ensures heard { (c : ℕ) → result ≡ heard_after self.old.place c iface message.now.session.group (Spelt (message_of.Path message.now)) (facts_at c self.old) }
+        ensures sent { (c : ℕ) → out.new ≡ fold O.posted out.old (sent_after self.old.place self.old.place c (path_came iface message.now) (facts_at c self.old)) }
+        ensures place { self.new.place ≡ self.old.place }
+    {
+        let session = message.session;
+        let before = offered(&self.tables, session, sender);
+        if !learn_path(&mut self.tables, iface, message, sender, tspec) {
+            return Heard::Dropped(Why::Full);
+        }
+        let after = offered(&self.tables, session, sender);
+        tell_new(&self.tables.config, session, sender, &before, &after, out);
         Heard::Taken
     }
 
@@ -76,4 +112,18 @@ impl Node {
         );
         Heard::Taken
     }
+}
+
+// The sender that a Path names, and its flow, where the Path came by the interface that leads to it; else why it is dropped.
+fn inward_sender(config: &Config, iface: u8, message: &PathMsg) -> Result<(Sender, Flow), Why>
+    ensures ok { IfOk result (λ x. (message.now.sender ≡ Some x) × (comes_in config.now message.now.session iface x.0 ≡ true)) }
+    ensures err { IfErr result (λ why. (c : ℕ) (n : State) → n.place ≡ config.now → act n.place c (path_came iface message.now) (facts_of c n) ≡ only_heard (Dropped why) (facts_of c n)) }
+{
+    let Some((sender, tspec)) = message.sender else {
+        return Err(Why::NoSender);
+    };
+    if !config.comes_in(message.session, iface, sender) {
+        return Err(Why::NotInward);
+    }
+    Ok((sender, tspec))
 }

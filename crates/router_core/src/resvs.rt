@@ -8,7 +8,7 @@ ghost use Rattle.node_facts.specs.State.{facts_at};
 ghost use Rattle.node_acting.specs.Arriving.{to_node};
 
 use crate::node::Node;
-use crate::telling::tell_resv;
+use crate::telling::{tell_answer, tell_resv};
 use lane_telling::{offered, tell_sender};
 use node_acting::{take_resvs, tear_resvs};
 use node_telling::Outbox;
@@ -19,7 +19,8 @@ use rsvp_messages::{ResvMsg, ResvTearMsg};
 impl Node {
     /// A Resv arrives by one of the node's interfaces, to its own address there (RFC 2209, 2: RESV MESSAGE ARRIVES). Its units
     /// are taken, refused or left out; the refusals go back to the next hop, and the previous hops are told what changed. What
-    /// was taken is confirmed where the Resv wishes for that and nothing goes on for it (RFC 2205, 2.6).
+    /// was taken is confirmed where the Resv wishes for that and nothing goes on for it (RFC 2205, 2.6). One that only refreshes
+    /// what stands changes nothing of what goes toward any hop, so that no lane is gone through for it.
     pub fn resv<O: Outbox>(&mut self, iface: u8, message: &ResvMsg, out: &mut O) -> Heard
         requires { iface < length self.old.place.ifaces }
         ensures facts { (c : ℕ) → facts_at c self.new ≡ facts_after self.old.place self.old.place c (to_node self.old.place iface (message_of.Resv message.now)) (facts_at c self.old) }
@@ -27,13 +28,17 @@ impl Node {
         ensures sent { (c : ℕ) → out.new ≡ fold O.posted out.old (sent_after self.old.place self.old.place c (to_node self.old.place iface (message_of.Resv message.now)) (facts_at c self.old)) }
         ensures place { self.new.place ≡ self.old.place }
     {
+        let answer = take_resvs(&mut self.tables, iface, message);
+        let heard = answer.heard;
+        if !answer.news {
+            tell_answer(&self.tables.config, iface, message, answer, out);
+            return heard;
+        }
         // No sender changes, so any will do.
         let session = message.session;
         let sender = Sender::default();
         let near = self.tables.paths.hops(session);
         let before = offered(&self.tables, session, sender);
-        let answer = take_resvs(&mut self.tables, iface, message);
-        let heard = answer.heard;
         tell_resv(
             &mut self.tables,
             &mut self.said,

@@ -1,11 +1,11 @@
 //! What a node tells where a Resv or a ResvErr changed a session: what is gone, the errors and a confirmation, and what is new.
-ghost use Rattle.std.specs.Prelude.{◌≡◌, ℕ, [], None, fold};
+ghost use Rattle.std.specs.Prelude.{◌≡◌, ℕ, [], ◌++◌, None, fold};
 ghost use Rattle.std.specs.Option.{option_map};
 ghost use Rattle.rsvp_base.specs.Table.{empty};
 ghost use Rattle.router_rules.specs.Asking.{asked_of, asker_of};
 ghost use Rattle.router_rules.specs.Errors.{act_resv_err};
 ghost use Rattle.router_rules.specs.Inputs.{Change};
-ghost use Rattle.router_rules.specs.Sends.{sends};
+ghost use Rattle.router_rules.specs.Sends.{conf_sends, error_sends, sends};
 ghost use Rattle.node_facts.specs.State.{IsSaid, State, facts_of};
 ghost use Rattle.node_sends.specs.Before.{IsBefore};
 ghost use Rattle.node_telling.specs.Offering.{as_offer};
@@ -13,13 +13,14 @@ ghost use Rattle.node_tables.specs.Whole.{state_of};
 ghost use Rattle.error_passing.specs.ResvErrs.{resv_err_facts, resv_err_heard};
 ghost use Rattle.lane_telling.specs.Halves.{facts_told};
 ghost use Rattle.resv_arriving.specs.Taken.{IsAnswer};
+ghost use Rattle.router_core.specs.Confirming.{confirmed_here};
 
-use crate::confirming::confirm;
+use crate::confirming::{confirm, confirm_here};
 use error_passing::pass_resv_err;
 use lane_state::LaneTable;
 use lane_telling::{tell_news, tell_tears};
 use node_tables::Tables;
-use node_telling::{Offered, Outbox};
+use node_telling::{Config, Offered, Outbox};
 use path_state::Hops;
 use resv_arriving::{Answer, tell_refusals};
 use router_rules::Heard;
@@ -60,6 +61,21 @@ pub(crate) fn tell_resv<O: Outbox>(
         message.confirm,
         out,
     );
+}
+
+/// All that a node tells once a Resv was taken of which nothing is news, in order: the refusals, and the confirmation. What goes
+/// toward each hop is what went there before.
+pub(crate) fn tell_answer<O: Outbox>(
+    config: &Config,
+    iface: u8,
+    message: &ResvMsg,
+    answer: Answer,
+    out: &mut O,
+)
+    ensures { (c : ℕ) (k : Change) → IsAnswer config.now (asker_of config.now c iface message.now) answer k → out.new ≡ fold O.posted out.old (error_sends k.errors ++ conf_sends (confirmed_here config.now k.asked)) }
+{
+    tell_refusals(config, iface, message, &answer.errors, out);
+    confirm_here(config, iface, message, answer.taken, out);
 }
 
 /// All that a node tells once a ResvErr set its blockades, in order: ResvTears, the errors that go on, and Resvs. What was heard

@@ -1,0 +1,93 @@
+-- A Path from the hop that the path of its sender came from: what goes toward each hop is what went there before.
+use Rattle.std.specs.Prelude.{◌≡◌, ℕ, ◌+◌, Bool, true, false, cond, is_some, [], Option, Some, None, refl}
+use Rattle.std.specs.Option.{option_map}
+use Rattle.std.proofs.Common.{sym, ap, subst, ◌∙◌}
+use Rattle.path_state.specs.Paths.{path_keys}
+use Rattle.path_state.specs.declared.fact.PathFact.{PathFact}
+use Rattle.rsvp_base.specs.Table.{get, has, put_in}
+use Rattle.rsvp_base.specs.Orders.{senders}
+use Rattle.rsvp_base.specs.SessionLimits.{has_room_at}
+use Rattle.rsvp_base.specs.TokenBucket.{TokenBucket}
+use Rattle.rsvp_base.specs.declared.session.Sender.{Sender}
+use Rattle.rsvp_base.proofs.Tables.{get-changed, then_do}
+use Rattle.rsvp_messages.specs.declared.message.PathMsg.{PathMsg}
+use Rattle.style_rules.specs.Lines.{NextHop}
+use Rattle.style_rules.specs.Toward.{or_else}
+use Rattle.router_rules.specs.Facts.{PathState, SenderKey}
+use Rattle.router_rules.specs.Inputs.{only_heard}
+use Rattle.router_rules.specs.Known.{Lane}
+use Rattle.router_rules.specs.NodeConfig.{NodeConfig, comes_in, lifetime}
+use Rattle.router_rules.specs.Offers.{Offer}
+use Rattle.router_rules.specs.Paths.{is_path_by}
+use Rattle.router_rules.specs.Requests.{toward}
+use Rattle.router_rules.specs.Sends.{sends}
+use Rattle.router_rules.specs.declared.answers.Heard.{Heard}
+use Rattle.router_lookups.proofs.Tests.{came_told}
+use Rattle.node_facts.specs.State.{IsSaid, IsSettled, Said, State, facts_of, path_at}
+use Rattle.node_facts.proofs.Settling.{has_changed}
+use Rattle.node_sends.specs.Changed.{IsChangedFor}
+use Rattle.node_sends.specs.Told.{offered, told_gone, told_new}
+use Rattle.node_sends.proofs.Apart.{changed_at}
+use Rattle.node_sends.proofs.Quiet.{toward_refreshed}
+use Rattle.node_acting.specs.Coming.{fact_of, with_path}
+use Rattle.node_acting.proofs.Doing.{path_comes}
+use Rattle.node_acting.proofs.Keeping.{put_there}
+use Rattle.node_acting.proofs.Ruled.{without_marks}
+use Rattle.router_core.proofs.Quiet.{marks_wait, quiet_sends}
+
+-- the path that came by the hop
+stood : (c : ℕ) (k : SenderKey) (hop : NextHop) (w : Option (PathFact × ℕ)) → is_path_by hop (then_do w (path_at c k)) ≡ true → (old : PathFact × ℕ) × (w ≡ Some old) × ((old.0.iface ≡ hop.0) × (old.0.hop.addr ≡ hop.1))
+stood c k hop None e = cc
+stood c k hop (Some x) e = (x, refl, came_told hop (record { iface = x.0.iface; hop = x.0.hop; tspec = x.0.tspec; police = x.0.police; dies = c + x.1 }) e)
+
+-- n is what there was, w what the tables have then
+module _ (n w : State) (k : SenderKey) (fact : PathFact) (left : ℕ) (said : Said) (now : w ≡ record (with_path n k fact left) { said = said }) (by : (c : ℕ) → is_path_by (fact.iface, fact.hop.addr) (get (facts_of c n).paths k) ≡ true) where
+  pub toward_again : (c : ℕ) (p : NodeConfig) (l : Lane) → toward p (facts_of c n) l ≡ toward p (facts_of c w) l
+  toward_again c p l =
+      let old = stood c k (fact.iface, fact.hop.addr) (get n.paths k) (sym (ap (is_path_by (fact.iface, fact.hop.addr)) (get-changed path_keys (path_at c) n.paths k)) ∙ by c) in
+      toward_refreshed n k old.0 old.1 fact left old.2.0 old.2.1 c p l ∙ ap (λ (z : State). toward p (facts_of c z) l) (sym now)
+
+  pub said_again : n.place ≡ w.place → IsSaid said n → IsSaid said w
+  said_again place told = record { at = λ c l. told.at c l ∙ toward_again c n.place l ∙ ap (λ p. toward p (facts_of c w) l) place; some = told.some }
+
+  -- its sender is offered still
+  still_offered : (c : ℕ) → told_gone n.place k (offered (facts_of c n) k) (offered (facts_of c w) k) ≡ []
+  still_offered c =
+      by_two (offered (facts_of c n) k) (get (facts_of c w).senders k) (get (facts_of c w).paths k)
+      (ap (λ (z : State). has (facts_of c z).paths k) now ∙ has_changed path_keys (path_at c) (λ j e. refl) (put_in n.paths k (fact, left)) k ∙ put_there path_keys n.paths k (fact, left))
+    where
+      by_two : (o : Option Offer) (own : Option TokenBucket) (path : Option PathState) → is_some path ≡ true
+          → told_gone n.place k o (or_else (option_map (λ flow. record { tspec = flow; local = true }) own) (option_map (λ (y : PathState). record { tspec = y.tspec; local = false }) path)) ≡ []
+      by_two None own path h = refl
+      by_two (Some o) (Some t) path h = refl
+      by_two (Some o) None (Some y) h = refl
+      by_two (Some o) None None h = cc
+
+  -- so its Paths alone are sent, where its flow is another one
+  pub sent_again : IsChangedFor k n w → (c : ℕ) (h : Heard) → sends n.place n.place (facts_of c n) (facts_of c w) (only_heard h (facts_of c w)) ≡ told_new n.place k (offered (facts_of c n) k) (offered (facts_of c w) k)
+  sent_again ch c h =
+      quiet_sends n.place (facts_of c n) (facts_of c w) (toward_again c n.place) k (changed_at k n w ch c n.place) (still_offered c) (only_heard h (facts_of c w)) refl
+
+  pub marks_again : (c : ℕ) → facts_of c w ≡ without_marks n.place (facts_of c n) (facts_of c w) None
+  marks_again c = sym (marks_wait n.place (facts_of c n) (facts_of c w) (toward_again c n.place) None)
+
+-- whether or not there was room, the node is settled then, and what was said is what goes there
+module _ (m : State) (said : Said) (kept : IsSettled (record m { said = said })) (told : IsSaid said (record m { said = said })) (e : ℕ) (p : PathMsg) (x : Sender) (tspec : TokenBucket) (is : p.sender ≡ Some (x, tspec)) (on : comes_in m.place p.session e x ≡ true)
+    (by : (c : ℕ) → is_path_by (e, p.hop.addr) (get (facts_of c (record m { said = said })).paths (p.session, x)) ≡ true) where
+  abbrev was : State
+  was = record m { said = said }
+
+  abbrev key : SenderKey
+  key = (p.session, x)
+
+  abbrev learnt : PathFact
+  learnt = fact_of e p x tspec
+
+  abbrev lives : ℕ
+  lives = lifetime m.place p.period
+
+  pub settled_again : (w : State) (b : Bool) → b ≡ has_room_at senders (put_in m.paths key (learnt, lives)) p.session → w ≡ record (cond b (with_path m key learnt lives) m) { said = said } → IsSettled w × IsSaid said w
+  settled_again w true room now =
+      let r = (path_comes was kept e p x tspec is on (sym room) w said now).ruled in
+      (r.kept, said_again was w key learnt lives said now by r.change.place told)
+  settled_again w false room now = (subst IsSettled (sym now) kept, subst (IsSaid said) (sym now) told)
