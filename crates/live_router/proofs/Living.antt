@@ -1,5 +1,5 @@
 -- What a call leaves of what holds of a router.
-use Rattle.std.specs.Prelude.{◌≡◌, ◌&&◌, Bool, true, List, [], ◌∷◌, IsTrue, map as each, length, refl}
+use Rattle.std.specs.Prelude.{◌≡◌, ◌≤◌, ◌&&◌, Bool, true, List, [], ◌∷◌, IsTrue, map as each, length, refl}
 use Rattle.std.specs.FinMap.Entries.{below_all, is_sorted}
 use Rattle.std.specs.Ordering.{is_lt}
 use Rattle.std.specs.declared.cmp.Ordering.{Ordering}
@@ -10,8 +10,9 @@ use Rattle.router_rules.specs.declared.route.Route.{Route}
 use Rattle.router_rules.specs.NodeConfig.{NodeConfig}
 use Rattle.net_replay.specs.Routed.{tree_of, trees_in}
 use Rattle.node_facts.specs.Routes.{AreRoutes, route_keys, route_row}
-use Rattle.node_facts.specs.State.{State}
+use Rattle.node_facts.specs.State.{State, no_state}
 use Rattle.bounded_nodes.specs.Bounded.{IsBounded}
+use Rattle.bounded_nodes.proofs.Doing.{no_facts_are_bounded}
 use Rattle.live_router.specs.Living.{IsLive}
 
 -- ---- routes of the same trees are in the same order
@@ -59,4 +60,13 @@ lives_moved old new routes spare up trees same were bounded =
       bounded = bounded;
       routed = subst (λ (p : NodeConfig). AreRoutes p.routes) (sym same) (same_order old.place.routes routes trees up);
       room = ap length were ∙ same_many old.place.routes routes trees ∙ ap (λ (p : NodeConfig). length p.routes) (sym same);
+    }
+
+-- ---- a router without facts
+pub lives_first : (n : State) (p : NodeConfig) (spare : List Route) → n ≡ no_state p → 1 ≤ p.quarter → AreRoutes p.routes → spare ≡ p.routes → IsLive n spare
+lives_first n p spare first some up room =
+    record {
+      bounded = subst IsBounded (sym first) (no_facts_are_bounded p some);
+      routed = subst (λ (s : State). AreRoutes s.place.routes) (sym first) up;
+      room = ap length room ∙ ap (λ (s : State). length s.place.routes) (sym first);
     }
