@@ -3,7 +3,9 @@ use Rattle.std.specs.Prelude.{◌≤◌, Bool, true, length}
 use Rattle.network_model.specs.Events.{Event as AnEvent, AtNode, Waits, Pass, DeliverAt, LoseAt, CopyAt, ClearNode, Rounds, Traces, Reports, ReportsFlags, Injects, Reroutes}
 use Rattle.router_rules.specs.Inputs.{Arrival, Local, SendAs, DropAs, WantAs, QuitAll}
 use Rattle.router_rules.specs.Steps.{IsFitCall}
+use Rattle.tree_model.specs.Networks.{Net}
 use Rattle.net_replay.specs.Following.{IsArrival}
+use Rattle.net_replay.specs.Moving.{CanMove}
 use Rattle.net_replay.specs.declared.event.Event.{Event}
 use Rattle.net_replay.specs.declared.event.Event.TheVariants as event
 use Rattle.net_replay.specs.declared.local_call.LocalCall.{LocalCall}
@@ -41,6 +43,11 @@ abbrev pub IsFitEvent : Event → Type 0
 IsFitEvent (event.Local node c) = IsFitCall (call_of c)
 IsFitEvent (event.Inject end dst bytes) = length bytes.items ≤ 4096
 IsFitEvent _ = Unit {0}
+
+-- a tree that moves is one that the network can have
+abbrev pub CanHappen : Net → Event → Type 0
+CanHappen net (event.Reroute group source hops) = CanMove net group source hops.items
+CanHappen net _ = Unit {0}
 
 -- memory is taken for a report, for a tree that moves, and for what is told where the trace is on
 abbrev pub takes_memory : Bool → Event → Bool

@@ -1,10 +1,11 @@
 //! What events do to a network.
-ghost use Rattle.std.specs.Prelude.{◌≡◌, ◌≤◌, ◌*◌, ◌∷◌, [], ℕ, List, None, Some, Err, IfErr, true};
+ghost use Rattle.std.specs.Prelude.{◌≡◌, ◌≢◌, ◌≤◌, ◌*◌, ◌∷◌, [], ℕ, List, None, Some, Err, IfErr, true};
 ghost use Rattle.std.specs.List.{repeat};
 ghost use Rattle.network_model.specs.Events.{at_place, last_piece, pieces, steps_of};
 ghost use Rattle.network_model.specs.Steps.{Copy, Deliver, Lose, Piece, Reroute};
 ghost use Rattle.router_rules.specs.Inputs.{Arrival};
-ghost use Rattle.net_replay.specs.Happening.{IsFitEvent, IsRead, event_with, takes_memory};
+ghost use Rattle.net_replay.specs.Happening.{CanHappen, IsFitEvent, IsRead, event_with, takes_memory};
+ghost use Rattle.net_replay.specs.Moving.{CanMove};
 ghost use Rattle.net_replay.specs.Running.{IsSame, Makes, refusal_of};
 ghost use Rattle.net_replay.specs.declared.world_err.WorldErr.{WorldErr as AnErr};
 ghost use Rattle.net_replay.specs.declared.world_err.WorldErr.TheVariants as refusal;
@@ -19,7 +20,8 @@ use tree_routing::LinkHop;
 impl<R: Router + Drop> World<R> {
     /// What happens, and its text, which is appended. `Crowded` exactly where it would put an 8,193rd datagram in flight: the
     /// text of what happened before that is appended. `NoMemory`, only of a report, of a tree that moves or where the trace is on: a
-    /// front of the text is appended. After a refusal each later event is refused in the same way, and changes nothing.
+    /// front of the text is appended. A tree that the network cannot have is refused so each time. After a refusal each later event
+    /// is refused in the same way, and changes nothing.
     pub fn event(&mut self, event: &Event, out: &mut Vec<u8>) -> Result<(), WorldErr>
         requires { IsFitEvent event.now }
         ensures made { (a : Arrival) → IsRead event.now a → self.old.refused ≡ None → Makes R.seen self.old result out.old.items out.new.items self.new (λ q w. steps_of q (event_with a event.now) w) }
@@ -28,6 +30,7 @@ impl<R: Router + Drop> World<R> {
         ensures names { self.new.names ≡ self.old.names }
         ensures quarter { self.new.quarter ≡ self.old.quarter }
         ensures only { self.old.refused ≡ None → result ≡ Err refusal.NoMemory → takes_memory self.old.trace event.now ≡ true }
+        ensures can { self.old.refused ≡ None → result ≢ Err refusal.NoMemory → CanHappen self.old.post.net event.now }
     {
         if let Some(e) = self.refused {
             return Err(e);
@@ -136,17 +139,21 @@ impl<R: Router + Drop> World<R> {
         }
         self.copy((place - 1) as usize)
     }
-    // These hops are the tree of the group and source from now on; `NoMemory` also where they can be none.
+
+    // These hops are the tree of the group and source from now on; `NoMemory` also where they cannot be.
     fn move_tree(&mut self, group: Addr, source: Addr, hops: &[LinkHop]) -> Result<(), WorldErr>
         requires { self.old.refused ≡ None }
         ensures made { (t : List ℕ) → Makes R.seen self.old result t t self.new (λ q w. Reroute group source hops.now ∷ []) }
         ensures same { IsSame self.old self.new }
         ensures refused { self.new.refused ≡ refusal_of result }
+        ensures can { result ≢ Err refusal.NoMemory → CanMove self.old.post.net group source hops.now }
     {
-        let Ok(routing) = self.routing_with(group, source, hops) else {
-            self.refused = Some(WorldErr::NoMemory);
-            return Err(WorldErr::NoMemory);
-        };
-        self.reroute(group, source, hops, routing)
+        match self.routing_with(group, source, hops) {
+            Ok(Some(routing)) => self.reroute(group, source, hops, routing),
+            Ok(None) | Err(_) => {
+                self.refused = Some(WorldErr::NoMemory);
+                Err(WorldErr::NoMemory)
+            }
+        }
     }
 }

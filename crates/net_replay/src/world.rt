@@ -1,5 +1,5 @@
 //! The world of a network.
-ghost use Rattle.std.specs.Prelude.{◌≡◌, ◌<◌, ◌≤◌, ◌*◌, ◌^◌, ◌∷◌, ℕ, List, None, [], true, false, length, map, slice_get, Err, IfErr, IfOk, MatchOption, Some};
+ghost use Rattle.std.specs.Prelude.{◌≡◌, ◌↔◌, ◌<◌, ◌≤◌, ◌*◌, ◌^◌, ◌∷◌, ℕ, List, None, [], true, false, length, map, slice_get, Err, IfErr, IfOk, IfSome, IsSome, MatchOption, Some};
 ghost use Rattle.network_parcels.specs.Parcels.{Parcel as AParcel};
 ghost use Rattle.net_replay.specs.declared.world_err.WorldErr.TheVariants as refusal;
 ghost use Rattle.network_model.specs.Events.{a_round, half, pass, passes, rounds};
@@ -12,6 +12,7 @@ ghost use Rattle.router_rules.specs.Steps.{IsFitCall};
 ghost use Rattle.net_replay.specs.Following.{IsArrival};
 ghost use Rattle.net_replay.specs.Happening.{call_of};
 ghost use Rattle.net_replay.specs.Agreeing.{Agrees};
+ghost use Rattle.net_replay.specs.Moving.{CanMove};
 ghost use Rattle.net_replay.specs.Opening.{AreFirst, ArePlaced, IsOpenedBy};
 ghost use Rattle.net_replay.specs.Reporting.{Says, report_said};
 ghost use Rattle.net_replay.specs.Running.{IsSame, Makes, refusal_of};
@@ -31,7 +32,7 @@ use rsvp_objects::Packet;
 use script_words::EndName;
 use std::alloc::Global;
 use std::marker::Model;
-use tree_routing::{LinkHop, Routing};
+use tree_routing::{HopErr, LinkHop, Routing};
 
 /// A network: its routers, what is in flight, and the state of the words. After a refusal it stands still.
 #[derive(Drop)]
@@ -331,21 +332,26 @@ impl<R: Router + Drop> World<R> {
         Ok(())
     }
 
-    // The routing in which these hops are the tree of the group and source. `NoMemory` also where they can be none, or there are
-    // more hops then than a routing has room for.
+    // The routing in which these hops are the tree of the group and source. `None` exactly where they cannot be. `NoMemory`: there
+    // was no room for it.
     pub(crate) fn routing_with(
         &self,
         group: Addr,
         source: Addr,
         hops: &[LinkHop],
-    ) -> Result<Routing, NoMemory>
-        ensures { IfOk result (λ r. r ≡ rerouted self.now.post.net group source hops.now) }
+    ) -> Result<Option<Routing>, NoMemory>
+        ensures moved { IfOk result (λ moved. IfSome moved (λ r. r ≡ rerouted self.now.post.net group source hops.now)) }
+        ensures can { IfOk result (λ moved. IsSome moved ↔ CanMove self.now.post.net group source hops.now) }
     {
         let routing = self.mail.wires().routing();
         if !routing.has_room_for_tree(group, source, hops) {
-            return Err(NoMemory);
+            return Ok(None);
         }
-        routing.reroute(group, source, hops).map_err(|_| NoMemory)
+        match routing.reroute(group, source, hops) {
+            Ok(routing) => Ok(Some(routing)),
+            Err(HopErr::NotTree | HopErr::Loop { .. }) => Ok(None),
+            Err(HopErr::NoMemory) => Err(NoMemory),
+        }
     }
 
     // The network has this routing from now on, in which these hops are the tree of the group and source. Each node is told.
