@@ -35,6 +35,7 @@ use Rattle.script_grammar.specs.declared.line.Line.{Line}
 use Rattle.script_grammar.specs.declared.line.Line.TheVariants as line
 use Rattle.script_grammar.specs.declared.line.RerouteLine.{RerouteLine}
 use Rattle.script_grammar.specs.Draft.{Draft, end_number, node_number, nothing, routing, with_hops}
+use Rattle.script_grammar.specs.Grammar.{Leads}
 use Rattle.script_grammar.specs.Rules.{Keeps, KeepsAll, sender_list}
 use Rattle.script_grammar.specs.Values.{drop_value, hop_values, send_value, senders_value, want_value}
 use Rattle.script_laws.specs.Scripts.{EachScriptIsAFitRun}
@@ -189,9 +190,16 @@ at_first = record {
   goes = record { none = λ e. refl; now = refl; valid = declared_first.valid (fit_links nothing fit_links_first); events = tt };
 }
 
+running_behind : (lines : List (List ℕ)) (d : Draft) → Leads nothing lines d → Running d
+running_behind lines d leads = led Running (λ d text new g f. by_line d f.said new g (formed text f.said f.reads) f.valid f.adds) lines nothing d at_first leads
+
+-- the routing in force behind lines that may begin a script
+pub routing_is_valid : (lines : List (List ℕ)) (d : Draft) → Leads nothing lines d → IsValid (routing d)
+routing_is_valid lines d leads = (running_behind lines d leads).goes.valid
+
 pub each_script_is_a_fit_run : EachScriptIsAFitRun
 each_script_is_a_fit_run bytes p is =
-    let h = led Running (λ d text new g f. by_line d f.said new g (formed text f.said f.reads) f.valid f.adds) (text_lines bytes) nothing is.lines at_first is.leads in
+    let h = running_behind (text_lines bytes) is.lines is.leads in
     record {
       plan = each_script_leaves_fit_facts bytes p is;
       events = subst (λ (z : Plan). AreFitEvents (trees_of z.net.hops) z.net z.events) (sym is.says) h.goes.events;

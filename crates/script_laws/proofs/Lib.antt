@@ -1,5 +1,6 @@
 pub mod Leading
 pub mod Senders
+pub mod Wants
 pub mod SenderLines
 pub mod HostLines
 pub mod Words
@@ -7,4 +8,5 @@ pub mod FitLinks
 pub mod DeclaredLines
 pub mod LeftOverLines
 pub mod EventLines
+pub mod AskedLines
 pub mod Small

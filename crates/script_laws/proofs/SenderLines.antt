@@ -7,16 +7,11 @@ use Rattle.std.specs.Ordering.{eq_by_cmp}
 use Rattle.rsvp_base.specs.declared.addr.Addr.{Addr}
 use Rattle.rsvp_base.specs.declared.session.Sender.{Sender}
 use Rattle.rsvp_base.specs.declared.session.Session.{Session}
-use Rattle.rsvp_base.specs.declared.style.StyleKind.{StyleKind}
-use Rattle.rsvp_base.specs.declared.style.StyleKind.TheVariants.{Wild, Fixed, Shared}
 use Rattle.rsvp_base.specs.Members.{In}
-use Rattle.rsvp_base.specs.Orders.{Names, senders as by_sender, sessions as by_session}
-use Rattle.rsvp_base.specs.Table.{keys}
-use Rattle.rsvp_base.specs.TokenBucket.{TokenBucket}
-use Rattle.rsvp_base.proofs.Members.{in_any, in_append, in_each, in_filter, in_left, in_right, to_filter}
+use Rattle.rsvp_base.specs.Orders.{senders as by_sender, sessions as by_session}
+use Rattle.rsvp_base.proofs.Members.{in_any, in_append, in_filter, in_left, in_right, to_filter}
 use Rattle.rsvp_base.proofs.SetLaws.{and_both, and_made}
 use Rattle.rsvp_base.proofs.Tables.{tied_same}
-use Rattle.rsvp_messages.specs.Units.{only}
 use Rattle.script_words.specs.Addresses.{IsGroup, addr_value}
 use Rattle.script_words.specs.Flows.{flow_value}
 use Rattle.script_words.specs.Lines.{text_lines}
@@ -31,7 +26,7 @@ use Rattle.network_model.specs.Links.{is_group}
 use Rattle.network_steps.specs.Runs.{AreFitSenders, is_sender_at}
 use Rattle.network_steps.proofs.Known.{of_some}
 use Rattle.router_rules.specs.Inputs.{QuitAll}
-use Rattle.script_grammar.specs.Adds.{Adds, is_sender, is_want_at, is_in_place_of, net_rerouted, sends, wanted, wants_value, with_local, with_sender, with_want, with_wants, without_sender, without_wants}
+use Rattle.script_grammar.specs.Adds.{Adds, is_sender, is_want_at, net_rerouted, sends, wants_value, with_local, with_sender, with_wants, without_sender, without_wants}
 use Rattle.script_grammar.specs.declared.line.DropLine.{DropLine}
 use Rattle.script_grammar.specs.declared.line.Line.{Line}
 use Rattle.script_grammar.specs.declared.line.Line.TheVariants as line
@@ -39,10 +34,12 @@ use Rattle.script_grammar.specs.declared.line.QuitLine.{QuitLine}
 use Rattle.script_grammar.specs.declared.line.SendLine.{SendLine}
 use Rattle.script_grammar.specs.declared.line.WantLine.{WantLine}
 use Rattle.script_grammar.specs.Draft.{Draft, end_number, node_number, nothing, same_session, with_session}
+use Rattle.script_grammar.specs.Grammar.{Leads}
 use Rattle.script_grammar.specs.Rules.{Keeps, KeepsAll}
 use Rattle.script_grammar.specs.Values.{drop_value, hop_values, send_value, senders_value, want_value}
 use Rattle.script_laws.specs.Scripts.{EachScriptLetsFewSend}
 use Rattle.script_laws.proofs.Leading.{led}
+use Rattle.script_laws.proofs.Wants.{new_want, of_line, wants_same}
 use Rattle.script_laws.proofs.Senders.{Sending, declared, happened, in_with, left_over, not_again, passed, sending_after, still_in}
 
 -- ---- lists
@@ -126,13 +123,6 @@ module _ (d : Draft) (h : Sending d) where
         by true j = inl j
         by false j = ⊎_elim (λ (k : In y d.locals.senders). inl k) (λ (k : In y (new ∷ [])). ⊎_elim (λ (e : y ≡ new). inr e) (λ (e : ⊥). absurd e) k) (in_append y d.locals.senders (new ∷ []) j)
 
-    wants_same : after.wants ≡ d.locals.wants
-    wants_same = by (sends d.locals.senders s x)
-      where
-        by : (b : Bool) → (if b then d.locals else record d.locals { senders = d.locals.senders ++ new ∷ [] }).wants ≡ d.locals.wants
-        by true = refl
-        by false = refl
-
     few_live : (t : Session) → length (live after t) ≤ 16
     few_live t = by (of_session t new) refl
       where
@@ -153,7 +143,7 @@ module _ (d : Draft) (h : Sending d) where
           groups = λ y i. ⊎_elim (λ (j : In y d.locals.senders). h.groups y j) (λ (e : y ≡ new). subst (λ (z : LocalSender). is_group z.session.group ≡ true) (sym e) (group_is s.group rules.in_range.session.group)) (source y i);
           few_senders = few_live;
           named = λ y i. ⊎_elim (λ (j : In y d.locals.senders). still_in d.sessions s y.session (h.named y j)) (λ (e : y ≡ new). subst (λ (z : LocalSender). In z.session (with_session d.sessions s)) (sym e) (in_with d.sessions s)) (source y i);
-          wanted = λ w i. still_in d.sessions s w.session (h.wanted w (subst (λ (z : List LocalWant). In w z) wants_same i));
+          wanted = λ w i. still_in d.sessions s w.session (h.wanted w (subst (λ (z : List LocalWant). In w z) (wants_same d.locals n s x) i));
           few_sessions = rules.within_limits.session;
         })
 
@@ -219,23 +209,6 @@ module _ (d : Draft) (h : Sending d) where
         })
 
   -- ---- wants
-  new_want : (ws news : List LocalWant) (w : LocalWant) → In w (with_wants ws news) → In w ws ⊎ In w news
-  new_want ws [] w i = inl i
-  new_want ws (x ∷ more) w i =
-      ⊎_elim
-      (λ (j : In w (with_want ws x)).
-      ⊎_elim (λ (k : In w (filter (λ z. not (is_in_place_of x z)) ws)). inl (in_filter (λ z. not (is_in_place_of x z)) w ws k).0)
-      (λ (k : In w (x ∷ [])). ⊎_elim (λ (e : w ≡ x). inr (inl e)) (λ (e : ⊥). absurd e) k) (in_append w (filter (λ z. not (is_in_place_of x z)) ws) (x ∷ []) j))
-      (λ (j : In w more). inr (inr j)) (new_want (with_want ws x) more w i)
-
-  abbrev fixed_want : ℕ → Session → TokenBucket → Sender → LocalWant
-  fixed_want n s flow x = record { node = n; session = s; style = Fixed; part = record { senders = only x; flow = flow } }
-
-  of_session_all : (n : ℕ) (s : Session) (st : StyleKind) (names : Names) (flow : TokenBucket) (w : LocalWant) → In w (wanted n s st names flow) → w.session ≡ s
-  of_session_all n s Wild names flow w i = ⊎_elim (λ e. ap (λ (z : LocalWant). z.session) e) (λ (e : ⊥). absurd e) i
-  of_session_all n s Fixed names flow w i = let e = in_each (fixed_want n s flow) w (keys names) i in ap (λ (z : LocalWant). z.session) e.2
-  of_session_all n s Shared names flow w i = ⊎_elim (λ e. ap (λ (z : LocalWant). z.session) e) (λ (e : ⊥). absurd e) i
-
   pub wanting : (l : WantLine) → KeepsAll (Keeps d (line.Want l)) → Sending (with_local d l.node (session_value l.session) (want_value l) (record d.locals { wants = with_wants d.locals.wants (wants_value d l) }))
   wanting l rules =
       happened d (AtNode (node_number d l.node) (want_value l)) (record d.locals { wants = with_wants d.locals.wants (wants_value d l) }) (with_session d.sessions (session_value l.session)) d.force h
@@ -248,7 +221,7 @@ module _ (d : Draft) (h : Sending d) where
         wanted = λ w i.
             ⊎_elim (λ (j : In w d.locals.wants). still_in d.sessions (session_value l.session) w.session (h.wanted w j))
             (λ (j : In w (wants_value d l)).
-            subst (λ (z : Session). In z (with_session d.sessions (session_value l.session))) (sym (of_session_all (node_number d l.node) (session_value l.session) l.style (senders_value l.senders) (flow_value l.flow) w j)) (in_with d.sessions (session_value l.session)))
+            subst (λ (z : Session). In z (with_session d.sessions (session_value l.session))) (sym (of_line (node_number d l.node) (session_value l.session) l.style (senders_value l.senders) (flow_value l.flow) w j).1) (in_with d.sessions (session_value l.session)))
             (new_want d.locals.wants (wants_value d l) w i);
         few_sessions = rules.within_limits.session;
       })
@@ -318,7 +291,9 @@ at_first = record {
   none = λ e. refl;
 }
 
+-- behind lines that may begin a script
+pub sending_behind : (lines : List (List ℕ)) (d : Draft) → Leads nothing lines d → Sending d
+sending_behind lines d leads = led Sending (λ d text new g f. by_line d f.said new g f.valid f.adds) lines nothing d at_first leads
+
 pub each_script_lets_few_send : EachScriptLetsFewSend
-each_script_lets_few_send bytes p is =
-    let h = led Sending (λ d text next g f. by_line d f.said next g f.valid f.adds) (text_lines bytes) nothing is.lines at_first is.leads in
-    subst AreFitSenders (sym is.says) h.few
+each_script_lets_few_send bytes p is = subst AreFitSenders (sym is.says) (sending_behind (text_lines bytes) is.lines is.leads).few

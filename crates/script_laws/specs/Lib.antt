@@ -1,3 +1,4 @@
 pub mod Networks
 pub mod Scripts
+pub mod Asked
 pub mod Small

@@ -1,4 +1,5 @@
 //! The laws.
+ghost use Rattle.script_laws.specs.Asked.{WhatLinesAskCanBeAsked};
 ghost use Rattle.script_laws.specs.Networks.{ANewTreeKeepsANetworkValid};
 ghost use Rattle.script_laws.specs.Small.{ASmallScriptIsOne};
 ghost use Rattle.script_laws.specs.Scripts.{EachLinkHasItsEnds, EachScriptDeclaresAValidNetwork, EachScriptHasHosts, EachScriptIsAFitRun, EachScriptLeavesFitFacts, EachScriptLetsFewSend};
@@ -40,6 +41,12 @@ pub fn each_script_leaves_fit_facts()
 /// proper message if it is one, and a tree that it replaces has a route and leaves the network valid.
 pub fn each_script_is_a_fit_run()
     ensures { EachScriptIsAFitRun }
+{}
+
+/// Behind lines that may begin a script the routing in force is valid, and what they ask of it can be asked: each want is at a node
+/// that is there, at most 32 sessions are wanted, and a session has at most 16 senders. So their demand can be computed.
+pub fn what_lines_ask_can_be_asked()
+    ensures { WhatLinesAskCanBeAsked }
 {}
 
 /// There are scripts with a node, an end, a sender, a want and a round. So the laws of each script speak of something.
