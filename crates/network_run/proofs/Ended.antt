@@ -7,15 +7,16 @@ use Rattle.script_words.specs.Lines.{line_number, text_lines}
 use Rattle.script_grammar.specs.Draft.{Draft, nothing}
 use Rattle.script_grammar.specs.Grammar.{HasFault, Leads, too_long}
 use Rattle.script_grammar.proofs.Scripts.{leads_on}
-use Rattle.script_grammar.specs.declared.fault.Fault.{Fault}
 use Rattle.script_grammar.specs.declared.fault.Fault.TheVariants as fault
 use Rattle.line_stream.specs.Streams.{Held, at_first}
 use Rattle.network_run.specs.Written.{HasRun, IsRunSoFar, whole_lines}
-use Rattle.network_run.specs.Playing.{IsCrowdedBy, IsReroute, IsRunOn}
-use Rattle.network_run.specs.Endings.{IsRun, all_bytes}
+use Rattle.network_run.specs.Playing.{IsCrowdedBy, IsRunOn, Stops}
+use Rattle.network_run.specs.Endings.{CanTake, EndedSo, IsFirst, IsRun, all_bytes, ending_at}
 use Rattle.network_run.specs.declared.ending.Ending.{Ending}
-use Rattle.network_run.specs.declared.ending.Ending.TheVariants.{Done, BadLine, ReadFault, WriteFault, NoMemory, Crowded, TooLong, Unbuilt}
-use Rattle.network_run.proofs.Behind.{HasEnd, HasLine, HasLong, HasMany, HasWhole, IsBehind, behind_nothing}
+use Rattle.network_run.specs.declared.ending.Ending.TheVariants.{Done, BadLine, ReadFault, WriteFault, NoMemory, Crowded, TooLong}
+use Rattle.network_run.specs.declared.player.Stop.{Stop}
+use Rattle.network_run.specs.declared.player.Stop.TheVariants as stop
+use Rattle.network_run.proofs.Behind.{HasEnd, HasLine, HasLong, HasMany, HasWhole, IsBehind, IsLineAt, behind_nothing}
 
 -- the lines before were run, and what they wrote stands in the sink
 pub record Progress {P : Type 0} (stands : P → Draft → Type 0) (old left first holds : Option (List ℕ)) (reader : Held) (player : P) : Type 0 where
@@ -64,6 +65,10 @@ module _ {P : Type 0} (stands : P → Draft → Type 0) where
     abbrev ran_before : (lines : List (List ℕ)) → lines ≡ p.before → HasRun lines p.text
     ran_before lines e = record { draft = p.draft; leads = subst (λ (ls : List (List ℕ)). Leads nothing ls p.draft) (sym e) p.leads; run = p.run }
 
+    -- a line of which C holds
+    abbrev first_so : (C : Draft → List ℕ → Type 0) (line bytes taken : List ℕ) → IsLineAt bytes taken p.before line → C p.draft line → IsFirst C bytes p.text
+    first_so C line bytes taken at holds = record { before = p.before; line = line; after = at.after; parts = at.parts; ran = ran_before p.before refl; holds = holds }
+
     pub ended_done : HasEnd old new now p.before → now.taken ≤ most_bytes → IsRun (stands player) Done old new first holds
     ended_done e le = record {
       taken = e.taken;
@@ -88,7 +93,7 @@ module _ {P : Type 0} (stands : P → Draft → Type 0) where
         text = p.text;
         wrote = p.wrote;
         counted = few (length e.taken) e.counted le;
-        ended = (record { before = p.before; line = e.line; after = e.at.after; parts = e.at.parts; counted = same ∙ e.numbered; ran = ran_before p.before refl; fault = too_long e.long }, e.at.near);
+        ended = (record { at = first_so (λ d t. HasFault d t fault.Limit) e.line (all_bytes e.taken new) e.taken e.at (too_long e.long); counted = same ∙ e.numbered }, e.at.near);
       }
 
       module _ (l : HasLine old new now p.before) (le : now.taken ≤ most_bytes) where
@@ -100,56 +105,17 @@ module _ {P : Type 0} (stands : P → Draft → Type 0) where
             let one_more : length (p.before ++ now.line ∷ []) ≡ length p.before + 1 = omega (arith, length-append p.before (now.line ∷ [])) in
             same ∙ l.behind.numbered ∙ ap (λ n. min n (2 ^ 32 - 1)) one_more
 
-        pub ended_bad : (number : ℕ) (why : Fault) → number ≡ now.number → HasFault p.draft now.line why → IsRun s (BadLine number why) old new first holds
-        ended_bad number why same bad = record {
-          taken = l.taken;
-          took = l.behind.took;
-          text = p.text;
-          wrote = p.wrote;
-          counted = many_so;
-          ended = (
-            record {
-              before = p.before;
-              line = now.line;
-              after = l.at.after;
-              parts = l.at.parts;
-              counted = numbered number same;
-              ran = ran_before p.before refl;
-              fault = bad;
-            },
-            l.at.near,
-          );
-        }
+        abbrev first_here : (C : Draft → List ℕ → Type 0) → C p.draft now.line → IsFirst C (all_bytes l.taken new) p.text
+        first_here C holds = first_so C now.line (all_bytes l.taken new) l.taken l.at holds
 
-        pub ended_crowded : IsCrowdedBy p.draft now.line → IsRun s Crowded old new first holds
-        ended_crowded crowded = record {
-          taken = l.taken;
-          took = l.behind.took;
-          text = p.text;
-          wrote = p.wrote;
-          counted = many_so;
-          ended = (record { before = p.before; line = now.line; after = l.at.after; parts = l.at.parts; ran = ran_before p.before refl; crowded = crowded }, l.at.near);
-        }
+        -- it was not run
+        ended_so : (e : Ending) → CanTake e (length l.taken) → EndedSo s e (all_bytes l.taken new) l.taken p.text → IsRun s e old new first holds
+        ended_so e counted ended = record { taken = l.taken; took = l.behind.took; text = p.text; wrote = p.wrote; counted = counted; ended = ended }
 
-        pub ended_unbuilt : (number : ℕ) → number ≡ now.number → IsReroute now.line → IsRun s (Unbuilt number) old new first holds
-        ended_unbuilt number same reroute = record {
-          taken = l.taken;
-          took = l.behind.took;
-          text = p.text;
-          wrote = p.wrote;
-          counted = many_so;
-          ended = (record { before = p.before; line = now.line; after = l.at.after; parts = l.at.parts; counted = numbered number same; ran = ran_before p.before refl; reroute = reroute }, l.at.near);
-        }
-
-        pub ended_early : IsRun s NoMemory old new first holds
-        ended_early = record {
-          taken = l.taken;
-          took = l.behind.took;
-          text = p.text;
-          wrote = p.wrote;
-          counted = many_so;
-          ended = record { before = p.before; after = now.line ∷ l.at.after; parts = l.at.parts; ran = ran_before p.before refl };
-        }
+        pub ended_at : (stop : Stop) (number : ℕ) → number ≡ now.number → Stops stop p.draft now.line → IsRun s (ending_at stop number) old new first holds
+        ended_at (stop.Bad why) number same bad = ended_so (BadLine number why) many_so (record { at = first_here (λ d t. HasFault d t why) bad; counted = numbered number same }, l.at.near)
+        ended_at stop.Crowded number same crowded = ended_so Crowded many_so (first_here IsCrowdedBy crowded, l.at.near)
+        ended_at stop.NoMemory number same stops = ended_so NoMemory many_so (record { before = p.before; after = now.line ∷ l.at.after; parts = l.at.parts; ran = ran_before p.before refl })
 
         pub ended_writing : (later : Option (List ℕ)) (own : List ℕ) (n : ℕ) → IsRunOn s p.draft now.line p.text own → n ≤ length own → Appends holds later (take n own) → IsRun s WriteFault old new first later
         ended_writing later own n on front wrote = record {
@@ -189,19 +155,14 @@ module _ {P : Type 0} (stands : P → Draft → Type 0) where
     }
 
 -- what is said of where the player stands counts only where all lines were run
+standing : (s t : Draft → Type 0) (e : Ending) (bytes taken text : List ℕ) → (e ≡ Done → (d : Draft) → s d → t d) → EndedSo s e bytes taken text → EndedSo t e bytes taken text
+standing s t Done bytes taken text f e = record { all = e.all; ran = e.ran; stands_there = f refl e.ran.draft e.stands_there }
+standing s t (BadLine n why) bytes taken text f e = e
+standing s t ReadFault bytes taken text f e = e
+standing s t WriteFault bytes taken text f e = e
+standing s t NoMemory bytes taken text f e = e
+standing s t Crowded bytes taken text f e = e
+standing s t TooLong bytes taken text f e = e
+
 pub standing_so : (s t : Draft → Type 0) (e : Ending) (old new first holds : Option (List ℕ)) → (e ≡ Done → (d : Draft) → s d → t d) → IsRun s e old new first holds → IsRun t e old new first holds
-standing_so s t Done old new first holds f r = record {
-  taken = r.taken;
-  took = r.took;
-  text = r.text;
-  wrote = r.wrote;
-  counted = r.counted;
-  ended = record { all = r.ended.all; ran = r.ended.ran; stands_there = f refl r.ended.ran.draft r.ended.stands_there };
-}
-standing_so s t (BadLine n why) old new first holds f r = record { taken = r.taken; took = r.took; text = r.text; wrote = r.wrote; counted = r.counted; ended = r.ended }
-standing_so s t ReadFault old new first holds f r = record { taken = r.taken; took = r.took; text = r.text; wrote = r.wrote; counted = r.counted; ended = r.ended }
-standing_so s t WriteFault old new first holds f r = record { taken = r.taken; took = r.took; text = r.text; wrote = r.wrote; counted = r.counted; ended = r.ended }
-standing_so s t NoMemory old new first holds f r = record { taken = r.taken; took = r.took; text = r.text; wrote = r.wrote; counted = r.counted; ended = r.ended }
-standing_so s t Crowded old new first holds f r = record { taken = r.taken; took = r.took; text = r.text; wrote = r.wrote; counted = r.counted; ended = r.ended }
-standing_so s t TooLong old new first holds f r = record { taken = r.taken; took = r.took; text = r.text; wrote = r.wrote; counted = r.counted; ended = r.ended }
-standing_so s t (Unbuilt n) old new first holds f r = record { taken = r.taken; took = r.took; text = r.text; wrote = r.wrote; counted = r.counted; ended = r.ended }
+standing_so s t e old new first holds f r = record { taken = r.taken; took = r.took; text = r.text; wrote = r.wrote; counted = r.counted; ended = standing s t e (all_bytes r.taken new) r.taken r.text f r.ended }

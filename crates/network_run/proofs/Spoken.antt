@@ -25,12 +25,12 @@ only_scripts_are_done bytes text h = record {
 
 pub a_bad_line_is_first : (bytes text : List ℕ) (number : ℕ) (why : Fault) → ComesTo (BadLine number why) bytes text → IsBadLine bytes number why
 a_bad_line_is_first bytes text number why f = record {
-  before = f.before;
-  text = f.line;
-  after = f.after;
-  parts = f.parts;
+  before = f.at.before;
+  text = f.at.line;
+  after = f.at.after;
+  parts = f.at.parts;
   counted = f.counted;
-  lines = f.ran.draft;
-  leads = f.ran.leads;
-  fault = f.fault;
+  lines = f.at.ran.draft;
+  leads = f.at.ran.leads;
+  fault = f.at.holds;
 }

@@ -1,16 +1,17 @@
 -- How a run that goes line by line ended: what it took of its source, and what it wrote.
 use Rattle.std.specs.Prelude.{◌≡◌, ◌⊎◌, ℕ, ◌+◌, ◌≤◌, List, [], ◌∷◌, ◌++◌, length, take, Option, None, Some}
 use Rattle.std.specs.Io.KnownBytes.{Appends, Consumes}
-use Rattle.std.specs.List.{All}
 use Rattle.byte_streams.specs.Reading.{most_bytes}
 use Rattle.script_words.specs.Lines.{line_number, text_lines}
 use Rattle.script_grammar.specs.Draft.{Draft}
 use Rattle.script_grammar.specs.Grammar.{HasFault}
 use Rattle.script_grammar.specs.declared.fault.Fault.{Fault}
 use Rattle.network_run.specs.Written.{HasRun, whole_lines, with_feeds}
-use Rattle.network_run.specs.Playing.{IsCrowdedBy, IsReroute}
+use Rattle.network_run.specs.Playing.{IsCrowdedBy}
 use Rattle.network_run.specs.declared.ending.Ending.{Ending}
-use Rattle.network_run.specs.declared.ending.Ending.TheVariants.{Done, BadLine, ReadFault, WriteFault, NoMemory, Crowded, TooLong, Unbuilt}
+use Rattle.network_run.specs.declared.ending.Ending.TheVariants.{Done, BadLine, ReadFault, WriteFault, NoMemory, Crowded, TooLong}
+use Rattle.network_run.specs.declared.player.Stop.{Stop}
+use Rattle.network_run.specs.declared.player.Stop.TheVariants as stop
 
 -- all bytes of a source: those that were taken, and those that are left, where it tells them
 abbrev pub all_bytes : List ℕ → Option (List ℕ) → List ℕ
@@ -23,34 +24,23 @@ pub record IsNear (taken : List ℕ) (before : List (List ℕ)) : Type 0 where
   pub taken_is : taken ≡ with_feeds before ++ more
   pub few : length more ≤ 8192
 
--- the line of this number, behind lines that were run and wrote this, has this fault
+-- C holds of a line behind lines that were run and wrote this
+pub record IsFirst (C : Draft → List ℕ → Type 0) (bytes text : List ℕ) : Type 0 where
+  pub before : List (List ℕ)
+  pub line : List ℕ
+  pub after : List (List ℕ)
+  pub parts : text_lines bytes ≡ before ++ line ∷ after
+  pub ran : HasRun before text
+  pub holds : C ran.draft line
+
+-- the line of this number has this fault
 pub record IsFirstBad (number : ℕ) (why : Fault) (bytes text : List ℕ) : Type 0 where
-  pub before : List (List ℕ)
-  pub line : List ℕ
-  pub after : List (List ℕ)
-  pub parts : text_lines bytes ≡ before ++ line ∷ after
-  pub counted : number ≡ line_number (length before)
-  pub ran : HasRun before text
-  pub fault : HasFault ran.draft line why
+  pub at : IsFirst (λ draft line. HasFault draft line why) bytes text
+  pub counted : number ≡ line_number (length at.before)
 
--- by a line, behind lines that were run and wrote this, the run is crowded
-pub record IsFirstCrowded (bytes text : List ℕ) : Type 0 where
-  pub before : List (List ℕ)
-  pub line : List ℕ
-  pub after : List (List ℕ)
-  pub parts : text_lines bytes ≡ before ++ line ∷ after
-  pub ran : HasRun before text
-  pub crowded : IsCrowdedBy ran.draft line
-
--- the line of this number, behind lines that were run and wrote this, is one of `reroute`
-pub record IsFirstUnbuilt (number : ℕ) (bytes text : List ℕ) : Type 0 where
-  pub before : List (List ℕ)
-  pub line : List ℕ
-  pub after : List (List ℕ)
-  pub parts : text_lines bytes ≡ before ++ line ∷ after
-  pub counted : number ≡ line_number (length before)
-  pub ran : HasRun before text
-  pub reroute : IsReroute line
+-- by the line the run is crowded
+abbrev pub IsFirstCrowded : List ℕ → List ℕ → Type 0
+IsFirstCrowded bytes text = IsFirst IsCrowdedBy bytes text
 
 -- what the lines before wrote was written, and a front of what the line itself wrote
 pub record EndedWriting (bytes taken text : List ℕ) : Type 0 where
@@ -84,20 +74,21 @@ pub record EndedDone (stands : Draft → Type 0) (bytes taken text : List ℕ) :
 -- lines that stand whole among the bytes taken were run, and where these are too many, those in as many as an input may have.
 abbrev pub EndedSo : (Draft → Type 0) → Ending → List ℕ → List ℕ → List ℕ → Type 0
 EndedSo stands Done bytes taken text = EndedDone stands bytes taken text
-EndedSo stands (BadLine number why) bytes taken text = (first : IsFirstBad number why bytes text) × IsNear taken first.before
+EndedSo stands (BadLine number why) bytes taken text = (first : IsFirstBad number why bytes text) × IsNear taken first.at.before
 EndedSo stands ReadFault bytes taken text = HasRun (whole_lines taken) text
 EndedSo stands WriteFault bytes taken text = EndedWriting bytes taken text
 EndedSo stands NoMemory bytes taken text = EndedEarly bytes text
 EndedSo stands Crowded bytes taken text = (first : IsFirstCrowded bytes text) × IsNear taken first.before
 EndedSo stands TooLong bytes taken text = HasRun (whole_lines (take most_bytes taken)) text
-EndedSo stands (Unbuilt number) bytes taken text = (first : IsFirstUnbuilt number bytes text) × IsNear taken first.before
 
--- no line of these bytes is one of `reroute`
-abbrev pub HasNoReroute : List ℕ → Type 0
-HasNoReroute bytes = All (λ line. IsReroute line → ⊥) (text_lines bytes)
+-- how a run ends at the line of this number, which was not run for this reason
+abbrev pub ending_at : Stop → ℕ → Ending
+ending_at (stop.Bad why) number = BadLine number why
+ending_at stop.Crowded number = Crowded
+ending_at stop.NoMemory number = NoMemory
 
--- What a run over these bytes comes to, and what it writes, unless a fault of a device or want of memory ends it before, or a line
--- of `reroute`: all lines are run, or one is the first that is bad, or the first by which the run is crowded.
+-- What a run over these bytes comes to, and what it writes, unless a fault of a device or want of memory ends it before: all lines
+-- are run, or one is the first that is bad, or the first by which the run is crowded.
 abbrev pub ComesTo : Ending → List ℕ → List ℕ → Type 0
 ComesTo Done bytes text = HasRun (text_lines bytes) text
 ComesTo (BadLine number why) bytes text = IsFirstBad number why bytes text

@@ -3,6 +3,9 @@
 use script_grammar::Fault;
 
 /// How a run of a script ended.
+///
+/// At one line they come in this order: `ReadFault` or `TooLong` while it is read, then `BadLine`, then `Crowded`, then `WriteFault`.
+/// `NoMemory` may come at any time.
 #[derive(Debug, Drop)]
 pub enum Ending {
     /// The input was read to its end, and the whole text was written.
@@ -19,6 +22,4 @@ pub enum Ending {
     Crowded,
     /// More than 4,194,304 bytes were taken.
     TooLong,
-    /// The line of this number, from 1, is of a kind that is not carried out yet: `reroute`.
-    Unbuilt { line: u32 },
 }

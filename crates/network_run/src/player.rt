@@ -13,8 +13,6 @@ pub enum Stop {
     Bad(Fault),
     /// Its event would put an 8,193rd datagram in flight.
     Crowded,
-    /// It is of a kind that is not carried out yet: `reroute`.
-    Unbuilt,
     /// Memory ran out.
     NoMemory,
 }
@@ -27,8 +25,8 @@ pub trait Player {
     /// Checks a line, and where it is one of an event runs it and appends the event's text. After a refusal no more lines may be
     /// played.
     ///
-    /// `Unbuilt`: only where the line is one of `reroute`, which is not carried out yet. Of any other line, `Bad`: exactly where it
-    /// cannot follow those before; `Crowded`: exactly where the run is crowded by it. `NoMemory`: memory ran out.
+    /// `Bad`: exactly where the line cannot follow those before. `Crowded`: exactly where the run is crowded by it. `NoMemory`:
+    /// memory ran out.
     fn play(&mut self, line: &[u8], out: &mut Vec<u8>) -> Result<(), Stop>
         requires { length line.now ≤ 2048 }
         ensures { (d : Draft) (said : List ℕ) → stands self.old d → IsRunSoFar d said → Plays (stands self.new) d said line.now result out.old.items out.new.items };

@@ -3,7 +3,7 @@ ghost use Rattle.std.specs.Prelude.{◌≡◌, ◌≤◌, List, ℕ, Some, lengt
 ghost use Rattle.byte_streams.specs.Reading.{most_bytes};
 ghost use Rattle.byte_streams.specs.Faults.{Rose};
 ghost use Rattle.script_grammar.specs.Draft.{nothing};
-ghost use Rattle.network_run.specs.Endings.{ComesTo, HasNoReroute, IsOrNoMemory, IsRun};
+ghost use Rattle.network_run.specs.Endings.{ComesTo, IsOrNoMemory, IsRun, ending_at};
 ghost use Rattle.network_run.specs.declared.ending.Ending.{Ending as AnEnding};
 
 use crate::ending::Ending;
@@ -16,9 +16,8 @@ use std::alloc::Global;
 /// Reads a script of the source line by line: each line is checked and run by the player, and what it wrote is written to the
 /// sink, before the next line is read. The first line at which something is refused ends the run.
 ///
-/// At one line these come in this order: `ReadFault` or `TooLong` while it is read, then `BadLine` or `Unbuilt`, then `Crowded`,
-/// then `WriteFault`. `NoMemory`: memory ran out. A line of more than 2,048 bytes is bad as soon as so many of it were taken.
-/// `Unbuilt`: a line of `reroute`, which is not carried out yet.
+/// At one line these come in this order: `ReadFault` or `TooLong` while it is read, then `BadLine`, then `Crowded`, then
+/// `WriteFault`. `NoMemory`: memory ran out. A line of more than 2,048 bytes is bad as soon as so many of it were taken.
 pub fn run_lines<P: Player, S: Source, K: Sink>(
     alloc: Global,
     player: &mut P,
@@ -29,8 +28,8 @@ pub fn run_lines<P: Player, S: Source, K: Sink>(
     ensures run { IsRun (P.stands player.new) result (S.left source.old) (S.left source.new) (K.holds sink.old) (K.holds sink.new) }
     ensures read_fault { result ≡ Ending.ReadFault → Rose (S.faults source.old) (S.faults source.new) }
     ensures write_fault { result ≡ Ending.WriteFault → Rose (K.faults sink.old) (K.faults sink.new) }
-    // Nothing else ends a run over known input without a line of `reroute` and devices that do not fail.
-    ensures complete { (bytes text : List ℕ) (wanted : AnEnding) → S.left source.old ≡ Some bytes → length bytes ≤ most_bytes → HasNoReroute bytes → ComesTo wanted bytes text
+    // Nothing else ends a run over known input and devices that do not fail.
+    ensures complete { (bytes text : List ℕ) (wanted : AnEnding) → S.left source.old ≡ Some bytes → length bytes ≤ most_bytes → ComesTo wanted bytes text
         → (Rose (S.faults source.old) (S.faults source.new) → ⊥) → (Rose (K.faults sink.old) (K.faults sink.new) → ⊥) → IsOrNoMemory wanted result }
 {
     run_to_end(alloc, player, source, sink)
@@ -69,23 +68,22 @@ fn run_to_end<P: Player, S: Source, K: Sink>(
         out.clear();
         match player.play(reader.line(), &mut out) {
             Ok(()) => {}
-            Err(Stop::Bad(why)) => {
-                return Ending::BadLine {
-                    line: reader.number(),
-                    why,
-                };
-            }
-            Err(Stop::Crowded) => return Ending::Crowded,
-            Err(Stop::Unbuilt) => {
-                return Ending::Unbuilt {
-                    line: reader.number(),
-                };
-            }
-            Err(Stop::NoMemory) => return Ending::NoMemory,
+            Err(stop) => return ending_at(stop, reader.number()),
         }
         match write_all(sink, out.as_slice()) {
             Ok(()) => {}
             Err(_) => return Ending::WriteFault,
         }
+    }
+}
+
+// How a run ends at the line of this number, which was not run.
+fn ending_at(stop: Stop, line: u32) -> Ending
+    ensures { result ≡ ending_at stop line }
+{
+    match stop {
+        Stop::Bad(why) => Ending::BadLine { line, why },
+        Stop::Crowded => Ending::Crowded,
+        Stop::NoMemory => Ending::NoMemory,
     }
 }

@@ -23,7 +23,6 @@ impl Player for Silent {
         let mut words = Vec::new(self.alloc);
         match read_line(self.alloc, line, &mut words) {
             Ok(Line::Skipped) => Ok(()),
-            Ok(Line::Reroute(_)) => Err(Stop::Unbuilt),
             Ok(_) => Err(Stop::NoMemory),
             Err(Unread::Word) => Err(Stop::Bad(Fault::Word)),
             Err(Unread::NoMemory) => Err(Stop::NoMemory),
@@ -61,8 +60,6 @@ fn runs_end_as_they_must(rt: HostRuntime) -> Result<(), Fail> {
         );
         let full = run_text(alloc, b"node a\nfrob\n", none(), most)?;
         assert!(rt; matches!(&full, Ending::NoMemory));
-        let unbuilt = run_text(alloc, b"\nreroute 1.2.3.4 5.6.7.8\nfrob", none(), most)?;
-        assert!(rt; matches!(&unbuilt, Ending::Unbuilt { line: 2 }));
         let long = run_text(alloc, &[b'a'; 2049], none(), most)?;
         assert!(rt;
             matches!(

@@ -1,10 +1,9 @@
 use Rattle.std.proofs.Common.{◌≡◌, ◌≢◌, ◌∙◌, ◌++◌, ◌≤◌, List, ℕ, length, take, refl, ap, subst, arith, inl, inr}
 use Rattle.std.specs.Io.KnownBytes.{Appends}
-use Rattle.script_grammar.specs.Grammar.{HasFault}
 use Rattle.line_stream.specs.declared.answer.NextLine.TheVariants.{Line, Long, End, Fault, TooLong}
-use Rattle.network_run.specs.Playing.{IsCrowdedBy, IsReroute, IsRunOn}
+use Rattle.network_run.specs.Playing.{IsRunOn, Stops}
 use Rattle.network_run.proofs.Behind.{end_came, fault_came, goes_down, line_came, long_came, many_came}
-use Rattle.network_run.proofs.Ended.{at_start, ended_at_once, ended_bad, ended_crowded, ended_done, ended_early, ended_fault, ended_long, ended_many, ended_unbuilt, ended_writing, one_more}
+use Rattle.network_run.proofs.Ended.{at_start, ended_at, ended_at_once, ended_done, ended_fault, ended_long, ended_many, ended_writing, one_more}
 use Rattle.network_run.proofs.running.run_to_end.Goals as goal
 
 pub returns-in-Err-clause-run : goal.returns-in-Err-clause-run
@@ -80,8 +79,8 @@ returns-in-TooLong-clause-run g c =
     let l = many_came old mid new r now p.before p.taken p.behind (λ n. (e.again n).0) e.cut (e.too_long refl) in
     ended_many stands old mid new first holds r now c.loop-reader.player p (stands c.loop-reader.player) l (e.too_long refl)
 
-pub returns-in-Err-Bad-clause-run : goal.returns-in-Err-Bad-clause-run
-returns-in-Err-Bad-clause-run g c =
+pub returns-in-Err-play-clause-run : goal.returns-in-Err-play-clause-run
+returns-in-Err-play-clause-run g c =
     let stands = g.P.Player.stands in
     let old = g.S.Source.left c.args.source.now in
     let mid = g.S.Source.left c.loop-reader.source in
@@ -94,58 +93,9 @@ returns-in-Err-Bad-clause-run g c =
     let e = c.in-Line.ensures in
     let fine : Line ≢ TooLong = λ x. cc in
     let l = line_came old mid new r now p.before p.taken p.behind (λ n. (e.again n).0) e.cut (e.near refl) (λ n. e.number n (inl refl)) (e.last refl) in
-    let bad = rw c.in-Err-Bad.field-0-is at (c.in-Err-Bad.ensures p.draft p.text p.stands_there p.run) in
-    ended_bad stands old mid new first holds r now c.loop-reader.player p (stands c.play.new.self) l (e.within fine) c.number-in-Err-Bad.result c.in-Err-Bad.why c.number-in-Err-Bad.ensures (subst (λ t. HasFault p.draft t c.in-Err-Bad.why) c.line.ensures.line bad)
-
-pub returns-in-Err-Crowded-clause-run : goal.returns-in-Err-Crowded-clause-run
-returns-in-Err-Crowded-clause-run g c =
-    let stands = g.P.Player.stands in
-    let old = g.S.Source.left c.args.source.now in
-    let mid = g.S.Source.left c.loop-reader.source in
-    let new = g.S.Source.left c.next.new.source in
-    let first = g.K.Sink.holds c.args.sink.now in
-    let holds = g.K.Sink.holds c.loop-reader.sink in
-    let r = c.loop-reader.reader in
-    let now = c.next.new.self in
-    let p = c.loop-reader.invariant.played in
-    let e = c.in-Line.ensures in
-    let fine : Line ≢ TooLong = λ x. cc in
-    let l = line_came old mid new r now p.before p.taken p.behind (λ n. (e.again n).0) e.cut (e.near refl) (λ n. e.number n (inl refl)) (e.last refl) in
-    let crowded = rw c.in-Err-Crowded.field-0-is at (c.in-Err-Crowded.ensures p.draft p.text p.stands_there p.run) in
-    ended_crowded stands old mid new first holds r now c.loop-reader.player p (stands c.play.new.self) l (e.within fine) (subst (λ t. IsCrowdedBy p.draft t) c.line.ensures.line crowded)
-
-pub returns-in-Err-Unbuilt-clause-run : goal.returns-in-Err-Unbuilt-clause-run
-returns-in-Err-Unbuilt-clause-run g c =
-    let stands = g.P.Player.stands in
-    let old = g.S.Source.left c.args.source.now in
-    let mid = g.S.Source.left c.loop-reader.source in
-    let new = g.S.Source.left c.next.new.source in
-    let first = g.K.Sink.holds c.args.sink.now in
-    let holds = g.K.Sink.holds c.loop-reader.sink in
-    let r = c.loop-reader.reader in
-    let now = c.next.new.self in
-    let p = c.loop-reader.invariant.played in
-    let e = c.in-Line.ensures in
-    let fine : Line ≢ TooLong = λ x. cc in
-    let l = line_came old mid new r now p.before p.taken p.behind (λ n. (e.again n).0) e.cut (e.near refl) (λ n. e.number n (inl refl)) (e.last refl) in
-    let reroute = rw c.in-Err-Unbuilt.field-0-is at (c.in-Err-Unbuilt.ensures p.draft p.text p.stands_there p.run) in
-    ended_unbuilt stands old mid new first holds r now c.loop-reader.player p (stands c.play.new.self) l (e.within fine) c.number-in-Err-Unbuilt.result c.number-in-Err-Unbuilt.ensures (subst (λ t. IsReroute t) c.line.ensures.line reroute)
-
-pub returns-in-Err-NoMemory-clause-run : goal.returns-in-Err-NoMemory-clause-run
-returns-in-Err-NoMemory-clause-run g c =
-    let stands = g.P.Player.stands in
-    let old = g.S.Source.left c.args.source.now in
-    let mid = g.S.Source.left c.loop-reader.source in
-    let new = g.S.Source.left c.next.new.source in
-    let first = g.K.Sink.holds c.args.sink.now in
-    let holds = g.K.Sink.holds c.loop-reader.sink in
-    let r = c.loop-reader.reader in
-    let now = c.next.new.self in
-    let p = c.loop-reader.invariant.played in
-    let e = c.in-Line.ensures in
-    let fine : Line ≢ TooLong = λ x. cc in
-    let l = line_came old mid new r now p.before p.taken p.behind (λ n. (e.again n).0) e.cut (e.near refl) (λ n. e.number n (inl refl)) (e.last refl) in
-    ended_early stands old mid new first holds r now c.loop-reader.player p (stands c.play.new.self) l (e.within fine)
+    let not_run = c.in-Err-play in
+    let stops = subst (λ t. Stops not_run.stop p.draft t) c.line.ensures.line (not_run.ensures p.draft p.text p.stands_there p.run) in
+    rw c.ending_at.ensures (ended_at stands old mid new first holds r now c.loop-reader.player p (stands c.play.new.self) l (e.within fine) not_run.stop c.number-in-Err-play.result c.number-in-Err-play.ensures stops)
 
 pub loop-reader-smaller : goal.loop-reader-smaller
 loop-reader-smaller g c =
