@@ -4,12 +4,14 @@ ghost use Rattle.left_over.specs.AtNodes.{list_of};
 ghost use Rattle.left_over.specs.Fit.{AreFitAll};
 ghost use Rattle.script_grammar.specs.Draft.{Draft, plan_of};
 ghost use Rattle.script_player.specs.Checking.{Feeds, IsStartOf};
+ghost use Rattle.script_player.specs.declared.checks.Refused.TheVariants as refused;
 
 use left_over::LeftOver;
 use net_replay::Event;
 use rsvp_base::NoMemory;
 use script_grammar::Fault;
 use script_words::EndName;
+use std::alloc::{AllocError, AllocFailed};
 use tree_routing::Routing;
 
 /// Why a line was not taken.
@@ -17,10 +19,32 @@ use tree_routing::Routing;
 pub enum Refused {
     /// The line is bad: this is its first fault behind the lines before.
     Fault(Fault),
-    /// The line is of a kind that is not carried out yet: `reroute`.
-    Unbuilt,
     /// Memory ran out.
     NoMemory,
+}
+
+impl From<AllocError> for Refused {
+    ghost from_gives = { λ _ e. e ≡ refused.NoMemory };
+
+    fn from(_: AllocError) -> Self {
+        Refused::NoMemory
+    }
+}
+
+impl<T: Drop> From<AllocFailed<T>> for Refused {
+    ghost from_gives = { λ _ e. e ≡ refused.NoMemory };
+
+    fn from(_: AllocFailed<T>) -> Self {
+        Refused::NoMemory
+    }
+}
+
+impl From<NoMemory> for Refused {
+    ghost from_gives = { λ _ e. e ≡ refused.NoMemory };
+
+    fn from(_: NoMemory) -> Self {
+        Refused::NoMemory
+    }
 }
 
 /// What the lines before all events declare.
@@ -40,9 +64,8 @@ pub trait Checks {
     /// What the lines so far say.
     ghost lines: { Self → Draft };
 
-    /// Takes a line, and gives its event if it is one of part 3. `Unbuilt`: only where the line is one of `reroute`, which is not
-    /// carried out yet. `Fault`: of any other line, exactly where it cannot follow those before. `NoMemory`: memory ran out. After
-    /// a refusal nothing more may be fed.
+    /// Takes a line, and gives its event if it is one of part 3. `Fault`: exactly where the line cannot follow those before.
+    /// `NoMemory`: memory ran out. After a refusal nothing more may be fed.
     fn feed(&mut self, line: &[u8]) -> Result<Option<Event>, Refused>
         requires { length line.now ≤ 2048 }
         ensures { Feeds (lines self.old) line.now result (lines self.new) };

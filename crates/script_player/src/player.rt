@@ -60,7 +60,6 @@ impl<C: Checks + Drop, R: Opens> Player for ScriptPlayer<C, R> {
                 }
             }
             Err(Refused::Fault(why)) => Err(Stop::Bad(why)),
-            Err(Refused::Unbuilt) => Err(Stop::Unbuilt),
             Err(Refused::NoMemory) => Err(Stop::NoMemory),
         }
     }

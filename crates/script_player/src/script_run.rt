@@ -3,7 +3,7 @@ ghost use Rattle.std.specs.Prelude.{◌≡◌, ◌≢◌, ◌≤◌, List, ℕ, 
 ghost use Rattle.byte_streams.specs.Faults.{Rose};
 ghost use Rattle.byte_streams.specs.Reading.{most_bytes};
 ghost use Rattle.script_grammar.specs.Draft.{nothing, plan_of};
-ghost use Rattle.network_run.specs.Endings.{ComesTo, HasNoReroute, IsOrNoMemory, IsRun};
+ghost use Rattle.network_run.specs.Endings.{ComesTo, IsOrNoMemory, IsRun};
 ghost use Rattle.network_run.specs.declared.ending.Ending.{Ending as AnEnding};
 ghost use Rattle.script_player.specs.Standing.{IsNetworkOf};
 
@@ -32,7 +32,7 @@ pub fn run_script<C: Checks + Drop, R: Opens, S: Source, K: Sink>(
     ensures empty { result ≢ Ending.Done → last.new ≡ None }
     ensures read_fault { result ≡ Ending.ReadFault → Rose (S.faults source.old) (S.faults source.new) }
     ensures write_fault { result ≡ Ending.WriteFault → Rose (K.faults sink.old) (K.faults sink.new) }
-    ensures complete { (bytes text : List ℕ) (wanted : AnEnding) → S.left source.old ≡ Some bytes → length bytes ≤ most_bytes → HasNoReroute bytes → ComesTo wanted bytes text
+    ensures complete { (bytes text : List ℕ) (wanted : AnEnding) → S.left source.old ≡ Some bytes → length bytes ≤ most_bytes → ComesTo wanted bytes text
         → (Rose (S.faults source.old) (S.faults source.new) → ⊥) → (Rose (K.faults sink.old) (K.faults sink.new) → ⊥) → IsOrNoMemory wanted result }
 {
     let mut player: ScriptPlayer<C, R> = ScriptPlayer::new(alloc, checker);
