@@ -1,0 +1,13 @@
+-- What was not taken has a fault, or memory ran out.
+use Rattle.std.proofs.Common.{ℕ, List}
+use Rattle.std.specs.Prelude.{Err}
+use Rattle.script_grammar.specs.Draft.{Draft}
+use Rattle.script_grammar.specs.Grammar.{HasFault}
+use Rattle.script_player.specs.Checking.{Feeds}
+use Rattle.script_player.specs.declared.checks.Refused.{Refused}
+use Rattle.script_player.specs.declared.checks.Refused.TheVariants.{Fault, NoMemory}
+use Rattle.script_demand.specs.Feeding.{MatchRefused}
+
+pub fed_refused : (d : Draft) (line : List ℕ) (refused : Refused) (new : Draft) → Feeds d line (Err refused) new → MatchRefused (HasFault d line) refused
+fed_refused d line (Fault why) new fed = fed
+fed_refused d line NoMemory new fed = tt

@@ -1,0 +1,40 @@
+use Rattle.std.proofs.Common.{◌≡◌, ◌∙◌, ℕ, List, [], ◌∷◌, ◌++◌, length-append, append_assoc, append-nil, refl, sym, ap, subst, arith}
+use Rattle.script_words.specs.Lines.{text_lines}
+use Rattle.script_grammar.specs.Draft.{nothing}
+use Rattle.script_grammar.specs.Grammar.{Leads}
+use Rattle.script_grammar.proofs.Scripts.{leads_on}
+use Rattle.script_demand.proofs.lines.check_lines.Goals as goal
+
+pub loop-line-init : goal.loop-line-init
+loop-line-init g c = record { before = []; parts = refl; number = omega arith; leads = c.requires }
+
+pub loop-line-preserved : goal.loop-line-preserved
+loop-line-preserved g c =
+    let i = c.loop-line.invariant in
+    let line = c.in-Some.line.now in
+    record {
+      before = i.before ++ line ∷ [];
+      parts = i.parts ∙ ap (λ (ls : List (List ℕ)). i.before ++ ls) c.in-Some.ensures.lines ∙ sym (append_assoc i.before (line ∷ []) (text_lines c.in-Some.behind.now));
+      number = let count = length-append i.before (line ∷ []) in omega (arith, c.saturating_add-number.ensures, i.number, count);
+      leads = leads_on nothing i.before (g.C.Checks.lines c.loop-line.checker) (g.C.Checks.lines c.feed_line.new.checker) line i.leads c.in-Ok.ensures.follows;
+    }
+
+pub returns-in-Err-Fault-clause-stopped : goal.returns-in-Err-Fault-clause-stopped
+returns-in-Err-Fault-clause-stopped g c =
+    let i = c.loop-line.invariant in
+    record {
+      before = i.before;
+      text = c.in-Some.line.now;
+      after = text_lines c.in-Some.behind.now;
+      parts = i.parts ∙ ap (λ (ls : List (List ℕ)). i.before ++ ls) c.in-Some.ensures.lines;
+      counted = omega (arith, c.saturating_add-number.ensures, i.number);
+      lines = g.C.Checks.lines c.loop-line.checker;
+      leads = i.leads;
+      fault = rw c.in-Err-Fault.why-is (rw c.in-Err-Fault.field-0-is at c.in-Err-Fault.ensures.refused);
+    }
+
+pub returns-clause-taken : goal.returns-clause-taken
+returns-clause-taken g c =
+    let i = c.loop-line.invariant in
+    let all : text_lines c.args.input.now ≡ i.before = i.parts ∙ ap (λ (ls : List (List ℕ)). i.before ++ ls) c.in_default.ensures.lines ∙ append-nil i.before in
+    subst (λ (ls : List (List ℕ)). Leads nothing ls (g.C.Checks.lines c.loop-line.checker)) (sym all) i.leads

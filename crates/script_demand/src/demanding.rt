@@ -1,0 +1,102 @@
+//! Writing the demand of a script.
+ghost use Rattle.std.specs.Prelude.{◌≡◌, ◌≢◌, List, ℕ, Some, IfOk, IfErr, take};
+ghost use Rattle.std.specs.Io.KnownBytes.{Appends};
+ghost use Rattle.byte_streams.specs.Faults.{Rose};
+ghost use Rattle.demand_texts.specs.Texts.{IsDemandText};
+ghost use Rattle.network_model.specs.Runs.{Plan};
+ghost use Rattle.network_run.specs.Endings.{IsOrNoMemory};
+ghost use Rattle.network_run.specs.declared.ending.Ending.{Ending as AnEnding};
+ghost use Rattle.script_grammar.specs.Draft.{nothing, routing};
+ghost use Rattle.script_grammar.specs.Grammar.{IsBadLine, IsScript};
+ghost use Rattle.script_grammar.specs.declared.fault.Fault.{Fault as AFault};
+ghost use Rattle.script_laws.specs.Asked.{CanBeAsked};
+ghost use Rattle.script_demand.specs.Demanding.{DemandsTo, IsDemandOf, IsDemanding, IsDemandingOf, IsWrittenOrNot, StopsAt};
+
+use crate::asks::Asks;
+use crate::lines::check_lines;
+use byte_streams::{ReadErr, Sink, Source, read_all, write_all};
+use demand_texts::demand_text;
+use network_run::Ending;
+use rsvp_base::NoMemory;
+use std::alloc::Global;
+
+/// Reads a script of the source to its end, checks its lines, and writes to the sink what each end of its network owes behind the
+/// last line and whether that fits. Its events are not run, and nothing is written before all of the input was read and found right.
+///
+/// Refusals come in this order: `ReadFault` or `TooLong` while the input is read; `BadLine`; `WriteFault`. `NoMemory` may come at
+/// any time before the first byte is written.
+pub fn write_demand<C: Asks + Drop, S: Source, K: Sink>(
+    alloc: Global,
+    checker: C,
+    source: &mut S,
+    sink: &mut K,
+) -> Ending
+    requires first { C.lines checker ≡ nothing }
+    ensures demanded { IsDemanding result (S.left source.old) (S.left source.new) (K.holds sink.old) (K.holds sink.new) }
+    ensures read_fault { result ≡ Ending.ReadFault → Rose (S.faults source.old) (S.faults source.new) }
+    ensures write_fault { result ≡ Ending.WriteFault → Rose (K.faults sink.old) (K.faults sink.new) }
+    // Nothing else ends it over known input and devices that do not fail.
+    ensures complete { (bytes : List ℕ) (wanted : AnEnding) → S.left source.old ≡ Some bytes → DemandsTo wanted bytes
+        → (Rose (S.faults source.old) (S.faults source.new) → ⊥) → (wanted ≡ Ending.Done → Rose (K.faults sink.old) (K.faults sink.new) → ⊥) → IsOrNoMemory wanted result }
+{
+    match read_all(alloc, source) {
+        Ok(bytes) => answer(alloc, checker, bytes.as_slice(), sink),
+        Err(ReadErr::Fault) => Ending::ReadFault,
+        Err(ReadErr::TooLong) => Ending::TooLong,
+        Err(ReadErr::NoMemory) => Ending::NoMemory,
+    }
+}
+
+// Writes the demand of this script.
+fn answer<C: Asks + Drop, K: Sink>(alloc: Global, checker: C, input: &[u8], sink: &mut K) -> Ending
+    requires first { C.lines checker ≡ nothing }
+    ensures demanded { IsDemandingOf result input.now input.now (K.holds sink.old) (K.holds sink.new) }
+    ensures read { result ≢ Ending.ReadFault }
+    ensures write_fault { result ≡ Ending.WriteFault → Rose (K.faults sink.old) (K.faults sink.new) }
+    ensures complete { (p : Plan) → IsScript input.now p → (Rose (K.faults sink.old) (K.faults sink.new) → ⊥) → IsOrNoMemory Ending.Done result }
+    ensures refused { (number : ℕ) (why : AFault) → IsBadLine input.now number why → IsOrNoMemory (Ending.BadLine number why) result }
+{
+    match demand_of(alloc, checker, input) {
+        Ok(text) => write_text(text.as_slice(), sink),
+        Err(ending) => ending,
+    }
+}
+
+// The demand of this script. It ends at the first bad line, or where memory runs out.
+fn demand_of<C: Asks + Drop>(alloc: Global, mut checker: C, input: &[u8]) -> Result<Vec<u8>, Ending>
+    requires first { C.lines checker ≡ nothing }
+    ensures demand { IfOk result (λ text. IsDemandOf input.now text.items) }
+    ensures stopped { IfErr result (StopsAt input.now) }
+{
+    match check_lines(&mut checker, input) {
+        Ok(()) => {}
+        Err(ending) => return Err(ending),
+    }
+    match text_of(alloc, &checker) {
+        Ok(text) => Ok(text),
+        Err(_) => Err(Ending::NoMemory),
+    }
+}
+
+// The demand of what the lines ask. `NoMemory`: there was no room for it.
+fn text_of<C: Asks>(alloc: Global, checker: &C) -> Result<Vec<u8>, NoMemory>
+    requires { CanBeAsked (C.lines checker.now) }
+    ensures { IfOk result (λ text. IsDemandText (C.lines checker.now).names (routing (C.lines checker.now)) (C.lines checker.now).locals text.items) }
+{
+    let routing = checker.routing()?;
+    let locals = checker.locals()?;
+    demand_text(alloc, checker.names(), &routing, &locals)
+}
+
+// Writes a text.
+fn write_text<K: Sink>(text: &[u8], sink: &mut K) -> Ending
+    ensures done { result ≡ Ending.Done → Appends (K.holds sink.old) (K.holds sink.new) text.now }
+    ensures write_fault { result ≡ Ending.WriteFault → Rose (K.faults sink.old) (K.faults sink.new) }
+    ensures front { result ≡ Ending.WriteFault → ((n : ℕ) × Appends (K.holds sink.old) (K.holds sink.new) (take n text.now)) }
+    ensures others { IsWrittenOrNot result }
+{
+    match write_all(sink, text) {
+        Ok(()) => Ending::Done,
+        Err(_) => Ending::WriteFault,
+    }
+}
