@@ -11,7 +11,7 @@ use Rattle.left_over.proofs.Listing.{facts_more}
 use Rattle.script_grammar.specs.Draft.{Draft}
 use Rattle.script_grammar.specs.Rules.{HasRoomForSession, facts_at}
 use Rattle.script_grammar.specs.declared.fault.Fault.TheVariants as fault
-use Rattle.script_checker.specs.declared.refusal.Refusal.TheVariants.{Fault}
+use Rattle.script_player.specs.declared.checks.Refused.TheVariants.{Fault}
 use Rattle.script_checker.specs.LeftRefusals.{IsLeft, IsNotLeft}
 
 module _ (d : Draft) (node : ℕ) (s : Session) (f : Stale) (room : HasRoomForSession d s) where

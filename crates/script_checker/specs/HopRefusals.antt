@@ -8,20 +8,18 @@ use Rattle.tree_routing.specs.Answers.{Fits, with_hop}
 use Rattle.script_grammar.specs.Draft.{Draft}
 use Rattle.script_grammar.specs.Rules.{IsLoopOf, IsNamedHop}
 use Rattle.script_grammar.specs.declared.fault.Fault.TheVariants as fault
-use Rattle.script_checker.specs.declared.refusal.Refusal.{Refusal}
-use Rattle.script_checker.specs.declared.refusal.Refusal.TheVariants.{Fault, NoMemory, Unbuilt}
+use Rattle.script_player.specs.declared.checks.Refused.{Refused}
+use Rattle.script_player.specs.declared.checks.Refused.TheVariants.{Fault, NoMemory}
 
--- its tree cannot grow by it; or it can, and a chain is closed then, the least hop on one being told by the names of its ends
-abbrev pub IsHopRefused : Draft → TreeHop → Refusal → Type 0
+-- its tree cannot grow by it; or it can, and a chain is closed then, the least hop on one being named by its ends
+abbrev pub IsHopRefused : Draft → TreeHop → Refused → Type 0
 IsHopRefused d r (Fault fault.NotTree) = Fits d.net r → ⊥
 IsHopRefused d r (Fault (fault.Loop group from to)) = Fits d.net r × (IsLoopFreeIn (with_hop d.net r) r.group → ⊥) × IsLoopOf d (with_hop d.net r) r.group group from to
 IsHopRefused d r (Fault why) = ⊥
 IsHopRefused d r NoMemory = Unit {0}
-IsHopRefused d r Unbuilt = ⊥
 
 -- the hop of the group by the names of its ends, where they have some
-abbrev pub IsLoopTold : Draft → Addr → LinkHop → Refusal → Type 0
-IsLoopTold d group h (Fault (fault.Loop g from to)) = (g ≡ group) × IsNamedHop d from to h
-IsLoopTold d group h (Fault why) = ⊥
-IsLoopTold d group h NoMemory = Unit {0}
-IsLoopTold d group h Unbuilt = ⊥
+abbrev pub IsLoopNamed : Draft → Addr → LinkHop → Refused → Type 0
+IsLoopNamed d group h (Fault (fault.Loop g from to)) = (g ≡ group) × IsNamedHop d from to h
+IsLoopNamed d group h (Fault why) = ⊥
+IsLoopNamed d group h NoMemory = Unit {0}

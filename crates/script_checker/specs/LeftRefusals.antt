@@ -7,8 +7,8 @@ use Rattle.left_over.specs.Standing.{IsAdmittedIn}
 use Rattle.script_grammar.specs.Draft.{Draft}
 use Rattle.script_grammar.specs.Rules.{HasRoomForFact, HasRoomForSession, facts_at}
 use Rattle.script_grammar.specs.declared.fault.Fault.TheVariants as fault
-use Rattle.script_checker.specs.declared.refusal.Refusal.{Refusal}
-use Rattle.script_checker.specs.declared.refusal.Refusal.TheVariants.{Fault, NoMemory, Unbuilt}
+use Rattle.script_player.specs.declared.checks.Refused.{Refused}
+use Rattle.script_player.specs.declared.checks.Refused.TheVariants.{Fault, NoMemory}
 
 -- where reservations are admitted with it
 abbrev pub IsAdmittedAt : Draft → ℕ → Stale → Type 0
@@ -21,9 +21,8 @@ pub record IsLeft (d : Draft) (node : ℕ) (s : Session) (f : Stale) : Type 0 wh
   pub admitted : IsAdmittedAt d node f
 
 -- the first of these that does not hold
-abbrev pub IsNotLeft : Draft → ℕ → Session → Stale → Refusal → Type 0
+abbrev pub IsNotLeft : Draft → ℕ → Session → Stale → Refused → Type 0
 IsNotLeft d node s f (Fault fault.Limit) = HasRoomForSession d s × HasRoomForFact d node f → ⊥
 IsNotLeft d node s f (Fault fault.Over) = HasRoomForSession d s × HasRoomForFact d node f × (IsAdmittedAt d node f → ⊥)
 IsNotLeft d node s f (Fault why) = ⊥
 IsNotLeft d node s f NoMemory = Unit {0}
-IsNotLeft d node s f Unbuilt = ⊥

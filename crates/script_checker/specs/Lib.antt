@@ -1,11 +1,11 @@
 pub mod Events
+pub mod Forcing
 pub mod Checked
 pub mod Refusals
 pub mod LinkEnds
 pub mod HopRefusals
+pub mod TreeRefusals
 pub mod Styles
 pub mod LeftRefusals
-pub mod Said
-pub mod Told
 pub mod Forms
 pub mod Fitness

@@ -1,8 +1,11 @@
 //! What the lines of a script have said so far.
-ghost use Rattle.std.specs.Prelude.{◌≡◌, ◌≤◌, ◌*◌, ◌/◌, length, unwrap_or};
+ghost use Rattle.std.specs.Prelude.{◌≡◌, ◌≤◌, ◌*◌, ◌/◌, [], IsNone, length, map, unwrap_or};
+ghost use Rattle.std.specs.Option.{ForSome};
 ghost use Rattle.left_over.specs.Fit.{AreFitAll};
 ghost use Rattle.left_over.specs.Listed.{IsOfEnds, facts_in, nodes_in};
+ghost use Rattle.script_checker.specs.Events.{event_of};
 ghost use Rattle.script_checker.specs.Fitness.{ArePlaced, fit_all_prop};
+ghost use Rattle.script_checker.specs.Forcing.{IsOfNet};
 
 use crate::happened::Happened;
 use crate::names::NameTable;
@@ -11,7 +14,7 @@ use rsvp_base::{NoMemory, Session};
 use script_words::EndName;
 use std::alloc::Global;
 use tree_model::{LocalSender, LocalWant};
-use tree_routing::Topology;
+use tree_routing::{Routing, Topology};
 
 // The period in milliseconds where no line gives one (RFC 2205, 3.7).
 const USUAL_PERIOD: u32 = 30_000;
@@ -31,6 +34,8 @@ pub struct Checker {
     /// The same names, as faults tell them.
     pub(crate) end_names: Vec<EndName>,
     pub(crate) topology: Topology,
+    /// The routing in force, from the first tree that moved on.
+    pub(crate) force: Option<Routing>,
     /// What is left over at the nodes.
     pub(crate) left: Leavings,
     /// The sessions that were named, at most 32.
@@ -46,6 +51,8 @@ pub struct Checker {
     pub ghost same_nodes: { topology.nodes ≡ length nodes },
     pub ghost few_nodes: { length nodes ≤ 256 },
     pub ghost placed: { ArePlaced (length nodes) topology.ends },
+    pub ghost moved: { map event_of events.items ≡ [] → IsNone force },
+    pub ghost of_net: { ForSome force (λ routing. IsOfNet topology routing) },
     // Each name is that of an end. Where memory ran out, the last end may be without one.
     pub ghost ends_there: { length names ≤ length topology.ends },
     pub ghost few_names: { length names ≤ 65536 },
@@ -73,6 +80,7 @@ impl Checker {
             names: NameTable::new(alloc),
             end_names: Vec::new(alloc),
             topology: Topology::new(alloc)?,
+            force: None,
             left: Leavings::new(alloc),
             sessions: Vec::new(alloc),
             senders: Vec::new(alloc),

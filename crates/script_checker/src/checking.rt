@@ -1,6 +1,5 @@
 //! Lines are checked as the player of a script asks.
 use crate::checker::Checker;
-use crate::refusal::Refusal;
 use left_over::LeftOver;
 use net_replay::Event;
 use rsvp_base::NoMemory;
@@ -12,12 +11,7 @@ impl Checks for Checker {
     ghost lines = { draft_of };
 
     fn feed(&mut self, line: &[u8]) -> Result<Option<Event>, Refused> {
-        match self.take_line(line) {
-            Ok(event) => Ok(event),
-            Err(Refusal::Fault(fault)) => Err(Refused::Fault(fault)),
-            Err(Refusal::NoMemory) => Err(Refused::NoMemory),
-            Err(Refusal::Unbuilt) => Err(Refused::Unbuilt),
-        }
+        self.take_line(line)
     }
 
     fn start(&self) -> Result<Start, NoMemory> {

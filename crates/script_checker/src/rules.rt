@@ -5,7 +5,7 @@ ghost use Rattle.script_grammar.specs.Rules.{OnlyDeclares, KeepsAll, Keeps};
 ghost use Rattle.script_checker.specs.Checked.{draft_of};
 ghost use Rattle.script_checker.specs.Forms.{Formed};
 ghost use Rattle.script_checker.specs.Refusals.{Refuses};
-ghost use Rattle.script_checker.specs.Told.{IsGiven};
+ghost use Rattle.script_player.specs.Checking.{IsGiven};
 
 mod end;
 mod event;
@@ -14,6 +14,7 @@ mod keeping;
 mod link;
 mod node;
 mod period;
+mod reroute;
 mod reserve;
 mod sender;
 mod session;
@@ -21,13 +22,13 @@ mod stale;
 mod want;
 
 use crate::checker::Checker;
-use crate::refusal::Refusal;
 use net_replay::Event;
 use script_grammar::Line;
+use script_player::Refused;
 
 /// Adds what a line says, and gives its event if it is one of part 3. `Fault`: the line breaks a rule, and this is the fault of
-/// the first that it breaks. `Unbuilt`: the rules of its kind are not looked at yet.
-pub fn add(checker: &mut Checker, line: Line) -> Result<Option<Event>, Refusal>
+/// the first that it breaks. `NoMemory`: memory ran out.
+pub fn add(checker: &mut Checker, line: Line) -> Result<Option<Event>, Refused>
     requires { Formed line }
     ensures ok { OnOk result (KeepsAll (Keeps (draft_of checker.old) line) × Adds (draft_of checker.old) line (draft_of checker.new)) }
     ensures given { IfOk result (λ e. IsGiven (draft_of checker.old).events e (draft_of checker.new).events) }
@@ -91,7 +92,7 @@ pub fn add(checker: &mut Checker, line: Line) -> Result<Option<Event>, Refusal>
         Line::Quit(line) => Ok(Some(want::add_quit(checker, line)?)),
         Line::ReportEnd(end) => Ok(Some(event::add_report_end(checker, end)?)),
         Line::Inject(line) => Ok(Some(event::add_inject(checker, line)?)),
-        Line::Reroute(_line) => Err(Refusal::Unbuilt),
+        Line::Reroute(line) => Ok(Some(reroute::add_reroute(checker, line)?)),
     }
 }
 

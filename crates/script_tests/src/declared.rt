@@ -1,11 +1,12 @@
 //! Lines of parts 1 and 3, one after the other.
 use net_replay::Event;
-use script_checker::{Checker, Refusal};
+use script_checker::Checker;
 use script_grammar::Fault;
+use script_player::Refused;
 use std::test::*;
 
 /// What is said of a line behind those that were taken.
-pub fn answer(checker: &mut Checker, line: &str) -> Result<Option<Event>, Refusal> {
+pub fn answer(checker: &mut Checker, line: &str) -> Result<Option<Event>, Refused> {
     checker.take_line(line.as_bytes())
 }
 
@@ -39,13 +40,13 @@ fn lines_are_taken_up_to_a_bad_one(rt: HostRuntime) -> Result<(), Fail> {
     assert!(rt;
         matches!(
             answer(&mut checker, "node c"),
-            Err(Refusal::Fault(Fault::Late))
+            Err(Refused::Fault(Fault::Late))
         )
     );
     assert!(rt;
         matches!(
             answer(&mut checker, "report c1"),
-            Err(Refusal::Fault(Fault::Name))
+            Err(Refused::Fault(Fault::Name))
         )
     );
     assert!(rt;
@@ -76,63 +77,63 @@ fn ends_and_links_have_their_first_fault(rt: HostRuntime) -> Result<(), Fail> {
     assert!(rt;
         matches!(
             answer(&mut checker, "end x z 224.0.0.1 1 1"),
-            Err(Refusal::Fault(Fault::Range))
+            Err(Refused::Fault(Fault::Range))
         )
     );
     assert!(rt;
         matches!(
             answer(&mut checker, "end x z 10.0.0.1 1 1"),
-            Err(Refusal::Fault(Fault::Name))
+            Err(Refused::Fault(Fault::Name))
         )
     );
     assert!(rt;
         matches!(
             answer(&mut checker, "end x a 10.0.0.1 1 1"),
-            Err(Refusal::Fault(Fault::Twice))
+            Err(Refused::Fault(Fault::Twice))
         )
     );
     assert!(rt;
         matches!(
             answer(&mut checker, "end a1 a 10.0.0.9 1 1"),
-            Err(Refusal::Fault(Fault::Twice))
+            Err(Refused::Fault(Fault::Twice))
         )
     );
     assert!(rt;
         matches!(
             answer(&mut checker, "end x a 10.0.0.9 70368744177664 1"),
-            Err(Refusal::Fault(Fault::Range))
+            Err(Refused::Fault(Fault::Range))
         )
     );
     // Two declared ends of one node beside one that is not there: the range comes first.
     assert!(rt;
         matches!(
             answer(&mut checker, "link b1 z1 b2"),
-            Err(Refusal::Fault(Fault::Range))
+            Err(Refused::Fault(Fault::Range))
         )
     );
     assert!(rt;
         matches!(
             answer(&mut checker, "link a1 a1"),
-            Err(Refusal::Fault(Fault::Range))
+            Err(Refused::Fault(Fault::Range))
         )
     );
     assert!(rt;
         matches!(
             answer(&mut checker, "link a1 z1"),
-            Err(Refusal::Fault(Fault::Name))
+            Err(Refused::Fault(Fault::Name))
         )
     );
     assert!(rt; answer(&mut checker, "link c1 a1 b1").is_ok());
     assert!(rt;
         matches!(
             answer(&mut checker, "link b2 c1"),
-            Err(Refusal::Fault(Fault::Twice))
+            Err(Refused::Fault(Fault::Twice))
         )
     );
     assert!(rt;
         matches!(
             answer(&mut checker, "link b2"),
-            Err(Refusal::Fault(Fault::Word))
+            Err(Refused::Fault(Fault::Word))
         )
     );
     Ok(())
@@ -163,20 +164,20 @@ fn hops_have_their_first_fault(rt: HostRuntime) -> Result<(), Fail> {
     assert!(rt;
         matches!(
             answer(&mut checker, "hop 10.0.0.1 10.0.0.1 z1 a1"),
-            Err(Refusal::Fault(Fault::Range))
+            Err(Refused::Fault(Fault::Range))
         )
     );
     assert!(rt;
         matches!(
             answer(&mut checker, "hop 224.1.1.1 10.9.0.1 s1 a1"),
-            Err(Refusal::Fault(Fault::Name))
+            Err(Refused::Fault(Fault::Name))
         )
     );
     // The tree is at the node already.
     assert!(rt;
         matches!(
             answer(&mut checker, "hop 224.1.1.1 10.0.0.1 s2 b2"),
-            Err(Refusal::Fault(Fault::NotTree))
+            Err(Refused::Fault(Fault::NotTree))
         )
     );
     // Trees of three sources, each of two hops, go round.
@@ -187,7 +188,7 @@ fn hops_have_their_first_fault(rt: HostRuntime) -> Result<(), Fail> {
     ] {
         assert!(rt; answer(&mut checker, line).is_ok(), "{line}");
     }
-    let Err(Refusal::Fault(Fault::Loop { from, to, .. })) = answer(
+    let Err(Refused::Fault(Fault::Loop { from, to, .. })) = answer(
         &mut checker,
         "hop 224.1.1.1 10.0.1.1 b2 s2",
     ) else {

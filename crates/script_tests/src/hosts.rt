@@ -1,7 +1,8 @@
 //! Lines of hosts: who sends, and who wants what.
 use crate::declared::answer;
-use script_checker::{Checker, Refusal};
+use script_checker::Checker;
 use script_grammar::Fault;
+use script_player::Refused;
 use std::alloc::Global;
 use std::test::*;
 
@@ -27,26 +28,26 @@ fn senders_have_their_first_fault(rt: HostRuntime) -> Result<(), Fail> {
     assert!(rt;
         matches!(
             answer(&mut checker, "send z 10.0.0.1/17/1 10.0.0.1:1 1/1/inf/1/1"),
-            Err(Refusal::Fault(Fault::Range))
+            Err(Refused::Fault(Fault::Range))
         )
     );
     assert!(rt;
         matches!(
             answer(&mut checker, "send z 224.1.1.1/17/1 10.0.0.1:1 1/1/inf/1/1"),
-            Err(Refusal::Fault(Fault::Name))
+            Err(Refused::Fault(Fault::Name))
         )
     );
     // An address of another node.
     assert!(rt;
         matches!(
             answer(&mut checker, "send b 224.1.1.1/17/1 10.0.0.1:1 1/1/inf/1/1"),
-            Err(Refusal::Fault(Fault::Name))
+            Err(Refused::Fault(Fault::Name))
         )
     );
     assert!(rt;
         matches!(
             answer(&mut checker, "drop a 224.1.1.1/17/1 10.0.0.1:1"),
-            Err(Refusal::Fault(Fault::Name))
+            Err(Refused::Fault(Fault::Name))
         )
     );
     for port in 1..17 {
@@ -67,7 +68,7 @@ fn senders_have_their_first_fault(rt: HostRuntime) -> Result<(), Fail> {
                 &mut checker,
                 "send a 224.1.1.1/17/1 10.0.0.1:17 1/1/inf/1/1"
             ),
-            Err(Refusal::Fault(Fault::Limit))
+            Err(Refused::Fault(Fault::Limit))
         )
     );
     assert!(rt;
@@ -81,14 +82,14 @@ fn senders_have_their_first_fault(rt: HostRuntime) -> Result<(), Fail> {
     assert!(rt;
         matches!(
             answer(&mut checker, "drop b 224.1.1.1/17/1 10.0.0.1:3"),
-            Err(Refusal::Fault(Fault::Name))
+            Err(Refused::Fault(Fault::Name))
         )
     );
     assert!(rt; answer(&mut checker, "drop a 224.1.1.1/17/1 10.0.0.1:3").is_ok());
     assert!(rt;
         matches!(
             answer(&mut checker, "drop a 224.1.1.1/17/1 10.0.0.1:3"),
-            Err(Refusal::Fault(Fault::Name))
+            Err(Refused::Fault(Fault::Name))
         )
     );
     assert!(rt;
@@ -108,7 +109,7 @@ fn senders_have_their_first_fault(rt: HostRuntime) -> Result<(), Fail> {
                 &mut checker,
                 "send a 224.1.1.1/17/33 10.0.0.1:1 1/1/inf/1/1"
             ),
-            Err(Refusal::Fault(Fault::Limit))
+            Err(Refused::Fault(Fault::Limit))
         )
     );
     Ok(())

@@ -1,8 +1,9 @@
 //! Lines of what is left over.
 use crate::declared::answer;
 use crate::hosts::opened;
-use script_checker::{Checker, Refusal};
+use script_checker::Checker;
 use script_grammar::Fault;
+use script_player::Refused;
 use std::test::*;
 
 // Whether a line is taken.
@@ -29,7 +30,7 @@ fn paths_and_blockades_are_left_over(rt: HostRuntime) -> Result<(), Fail> {
                 &mut checker,
                 "stale-path b 224.1.1.1/17/1 10.0.0.1:3 b1 10.0.0.1 1/1/inf/1/1 157501"
             ),
-            Err(Refusal::Fault(Fault::Range))
+            Err(Refused::Fault(Fault::Range))
         )
     );
     assert!(rt;
@@ -38,7 +39,7 @@ fn paths_and_blockades_are_left_over(rt: HostRuntime) -> Result<(), Fail> {
                 &mut checker,
                 "stale-blockade b 224.1.1.1/17/1 hop b1 10.0.0.1 4 1/1/inf/1/1 1"
             ),
-            Err(Refusal::Fault(Fault::Range))
+            Err(Refused::Fault(Fault::Range))
         )
     );
     // An end of another node.
@@ -48,7 +49,7 @@ fn paths_and_blockades_are_left_over(rt: HostRuntime) -> Result<(), Fail> {
                 &mut checker,
                 "stale-path b 224.1.1.1/17/1 10.0.0.1:3 a1 10.0.0.1 1/1/inf/1/1 1"
             ),
-            Err(Refusal::Fault(Fault::Name))
+            Err(Refused::Fault(Fault::Name))
         )
     );
     assert!(rt;
@@ -57,13 +58,13 @@ fn paths_and_blockades_are_left_over(rt: HostRuntime) -> Result<(), Fail> {
                 &mut checker,
                 "stale-path b 224.1.1.1/17/1 10.0.0.1:2 b1 10.0.0.9 9/9/inf/1/1 9"
             ),
-            Err(Refusal::Fault(Fault::Twice))
+            Err(Refused::Fault(Fault::Twice))
         )
     );
     assert!(rt;
         matches!(
             answer(&mut checker, "node c"),
-            Err(Refusal::Fault(Fault::Late))
+            Err(Refused::Fault(Fault::Late))
         )
     );
     Ok(())

@@ -7,3 +7,5 @@ mod declared;
 mod hosts;
 #[cfg(test)]
 mod left;
+#[cfg(test)]
+mod moving;

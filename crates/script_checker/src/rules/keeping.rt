@@ -5,20 +5,20 @@ ghost use Rattle.net_replay.specs.Happening.{IsFitEvent, IsRead, call_of, event_
 ghost use Rattle.script_checker.specs.Checked.{draft_of};
 ghost use Rattle.script_checker.specs.Events.{event_of};
 ghost use Rattle.script_checker.specs.Refusals.{OnlyNoMemory};
-ghost use Rattle.script_checker.specs.Told.{IsTold};
+ghost use Rattle.script_player.specs.Checking.{IsAdded};
 
 use crate::checker::Checker;
 use crate::happened::Happened;
-use crate::refusal::Refusal;
 use message_wire::decode;
 use net_replay::{Event, LocalCall};
+use script_player::Refused;
 use std::alloc::{AllocError, Global};
 
 /// Keeps an event, and gives it back.
-pub fn keep(checker: &mut Checker, event: Event) -> Result<Event, Refusal>
+pub fn keep(checker: &mut Checker, event: Event) -> Result<Event, Refused>
     requires { IsFitEvent event }
     ensures ok { OnOk result ((a : Arrival) × IsRead event a × (draft_of checker.new ≡ record (draft_of checker.old) { events = map event_of checker.old.events.items ++ event_with a event ∷ [] })) }
-    ensures told { IfOk result (λ e. IsTold (draft_of checker.old).events e (draft_of checker.new).events) }
+    ensures event { IfOk result (λ e. IsAdded (draft_of checker.old).events e (draft_of checker.new).events) }
     ensures refused { IfErr result OnlyNoMemory }
 {
     let happened = kept(checker.alloc, &event)?;

@@ -13,32 +13,32 @@ ghost use Rattle.script_grammar.specs.declared.line.Line.TheVariants as kind;
 
 use super::only_declares;
 use crate::checker::Checker;
-use crate::refusal::Refusal;
 use arrayvec::ArrayVec;
 use script_grammar::{Fault, LinkEnds};
+use script_player::Refused;
 use script_words::EndName;
 use tree_routing::Topology;
 
 /// Adds a link.
-pub fn add_link(checker: &mut Checker, names: LinkEnds) -> Result<(), Refusal>
+pub fn add_link(checker: &mut Checker, names: LinkEnds) -> Result<(), Refused>
     ensures ok { OnOk result (KeepsAll (Keeps (draft_of checker.old) (kind.Link names)) × Adds (draft_of checker.old) (kind.Link names) (draft_of checker.new)) }
     ensures refused { IfErr result (Refuses (draft_of checker.old) (kind.Link names)) }
 {
     if !only_declares(checker) {
-        return Err(Refusal::Fault(Fault::Late));
+        return Err(Refused::Fault(Fault::Late));
     }
     if !are_apart(checker, names.as_slice()) {
-        return Err(Refusal::Fault(Fault::Range));
+        return Err(Refused::Fault(Fault::Range));
     }
     if !are_known(checker, names.as_slice()) {
-        return Err(Refusal::Fault(Fault::Name));
+        return Err(Refused::Fault(Fault::Name));
     }
     let ends = numbers(checker, names.as_slice());
     if !are_in_no_link(&checker.topology, ends.as_slice()) {
-        return Err(Refusal::Fault(Fault::Twice));
+        return Err(Refused::Fault(Fault::Twice));
     }
     if !checker.topology.has_room_for_link() {
-        return Err(Refusal::Fault(Fault::Limit));
+        return Err(Refused::Fault(Fault::Limit));
     }
     checker.topology.add_link_of(ends.as_slice())?;
     Ok(())

@@ -8,25 +8,25 @@ ghost use Rattle.script_grammar.specs.declared.line.Line.TheVariants as kind;
 
 use super::only_declares;
 use crate::checker::Checker;
-use crate::refusal::Refusal;
 use script_grammar::Fault;
+use script_player::Refused;
 use script_words::EndName;
 
 const MOST_NODES: usize = 256;
 
 /// Adds a node.
-pub fn add_node(checker: &mut Checker, name: EndName) -> Result<(), Refusal>
+pub fn add_node(checker: &mut Checker, name: EndName) -> Result<(), Refused>
     ensures ok { OnOk result (KeepsAll (Keeps (draft_of checker.old) (kind.Node name)) × Adds (draft_of checker.old) (kind.Node name) (draft_of checker.new)) }
     ensures refused { IfErr result (Refuses (draft_of checker.old) (kind.Node name)) }
 {
     if !only_declares(checker) {
-        return Err(Refusal::Fault(Fault::Late));
+        return Err(Refused::Fault(Fault::Late));
     }
     if checker.nodes.find(name.bytes()).is_some() {
-        return Err(Refusal::Fault(Fault::Twice));
+        return Err(Refused::Fault(Fault::Twice));
     }
     if checker.nodes.len() >= MOST_NODES {
-        return Err(Refusal::Fault(Fault::Limit));
+        return Err(Refused::Fault(Fault::Limit));
     }
     checker.left.add_node()?;
     checker.nodes.add(checker.alloc, name.bytes())?;

@@ -19,36 +19,36 @@ ghost use Rattle.script_grammar.specs.declared.line.Line.TheVariants as kind;
 use super::stale::{is_before_events, leave, left_of, state_life};
 use super::want::{are_distinct, sender_values};
 use crate::checker::Checker;
-use crate::refusal::Refusal;
 use left_over::Left;
 use resv_state::ResvFact;
 use rsvp_base::{Addr, Flow, Part, Sender, Senders, Session, StyleKind, Unit};
 use script_grammar::{Fault, StaleResvLine};
+use script_player::Refused;
 
 /// Adds a reservation that is left over.
-pub fn add_resv(checker: &mut Checker, line: StaleResvLine) -> Result<(), Refusal>
+pub fn add_resv(checker: &mut Checker, line: StaleResvLine) -> Result<(), Refused>
     requires { IsResvForm line.style line.senders }
     ensures ok { OnOk result (KeepsAll (Keeps (draft_of checker.old) (kind.StaleResv line)) × Adds (draft_of checker.old) (kind.StaleResv line) (draft_of checker.new)) }
     ensures refused { IfErr result (Refuses (draft_of checker.old) (kind.StaleResv line)) }
 {
     if !is_before_events(checker) {
-        return Err(Refusal::Fault(Fault::Late));
+        return Err(Refused::Fault(Fault::Late));
     }
     let Some(senders) = sender_values(checker.alloc, line.senders.as_slice())? else {
-        return Err(Refusal::Fault(Fault::Range));
+        return Err(Refused::Fault(Fault::Range));
     };
     let Some((session, next, flow, left)) = resv_values(checker, &line) else {
-        return Err(Refusal::Fault(Fault::Range));
+        return Err(Refused::Fault(Fault::Range));
     };
     let Some(end) = checker.names.find(line.end.bytes()) else {
-        return Err(Refusal::Fault(Fault::Name));
+        return Err(Refused::Fault(Fault::Name));
     };
     let end = end as u16;
     if !is_new(checker, &line, senders.as_slice(), end, session, next) {
-        return Err(Refusal::Fault(Fault::Twice));
+        return Err(Refused::Fault(Fault::Twice));
     }
     let Some(senders) = names_of(line.style, senders.as_slice()) else {
-        return Err(Refusal::Fault(Fault::Limit));
+        return Err(Refused::Fault(Fault::Limit));
     };
     let fact = ResvFact {
         session,

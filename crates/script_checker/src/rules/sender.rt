@@ -10,7 +10,7 @@ ghost use Rattle.tree_model.specs.Wants.{live, of_session};
 ghost use Rattle.script_checker.specs.Checked.{draft_of};
 ghost use Rattle.script_checker.specs.Events.{event_of};
 ghost use Rattle.script_checker.specs.Refusals.{OnlyNoMemory, Refuses};
-ghost use Rattle.script_checker.specs.Told.{IsTold};
+ghost use Rattle.script_player.specs.Checking.{IsAdded};
 ghost use Rattle.script_grammar.specs.Adds.{Adds, is_sender, sends, with_sender, without_sender};
 ghost use Rattle.script_grammar.specs.Draft.{node_number, with_session};
 ghost use Rattle.script_grammar.specs.Rules.{HasRoomForSession, IsNode, Keeps, KeepsAll, is_sender_at};
@@ -19,26 +19,26 @@ ghost use Rattle.script_grammar.specs.declared.line.Line.TheVariants as kind;
 
 use super::session::{has_room_for_session, is_session, keep_call};
 use crate::checker::Checker;
-use crate::refusal::Refusal;
 use net_replay::{Event, LocalCall};
 use rsvp_base::{Addr, Flow, Sender, Session};
 use script_grammar::{DropLine, Fault, SendLine};
+use script_player::Refused;
 use script_words::EndName;
 use tree_model::LocalSender;
 
 const MOST_SENDERS: usize = 16;
 
 /// Adds a sender.
-pub fn add_send(checker: &mut Checker, line: SendLine) -> Result<Event, Refusal>
+pub fn add_send(checker: &mut Checker, line: SendLine) -> Result<Event, Refused>
     ensures ok { OnOk result (KeepsAll (Keeps (draft_of checker.old) (kind.Send line)) × Adds (draft_of checker.old) (kind.Send line) (draft_of checker.new)) }
-    ensures told { IfOk result (λ e. IsTold (draft_of checker.old).events e (draft_of checker.new).events) }
+    ensures event { IfOk result (λ e. IsAdded (draft_of checker.old).events e (draft_of checker.new).events) }
     ensures refused { IfErr result (Refuses (draft_of checker.old) (kind.Send line)) }
 {
     let Some((session, sender, flow)) = send_values(&line) else {
-        return Err(Refusal::Fault(Fault::Range));
+        return Err(Refused::Fault(Fault::Range));
     };
     let Some(node) = own_node(checker, &line.node, sender.addr) else {
-        return Err(Refusal::Fault(Fault::Name));
+        return Err(Refused::Fault(Fault::Name));
     };
     let new = LocalSender {
         node,
@@ -46,22 +46,22 @@ pub fn add_send(checker: &mut Checker, line: SendLine) -> Result<Event, Refusal>
         sender,
     };
     if !has_room_for_session(checker, session) || !has_room_for_sender(checker, new) {
-        return Err(Refusal::Fault(Fault::Limit));
+        return Err(Refused::Fault(Fault::Limit));
     }
     begin(checker, new, flow)
 }
 
 /// Ends a sender.
-pub fn add_drop(checker: &mut Checker, line: DropLine) -> Result<Event, Refusal>
+pub fn add_drop(checker: &mut Checker, line: DropLine) -> Result<Event, Refused>
     ensures ok { OnOk result (KeepsAll (Keeps (draft_of checker.old) (kind.Drop line)) × Adds (draft_of checker.old) (kind.Drop line) (draft_of checker.new)) }
-    ensures told { IfOk result (λ e. IsTold (draft_of checker.old).events e (draft_of checker.new).events) }
+    ensures event { IfOk result (λ e. IsAdded (draft_of checker.old).events e (draft_of checker.new).events) }
     ensures refused { IfErr result (Refuses (draft_of checker.old) (kind.Drop line)) }
 {
     let Some((session, sender)) = drop_values(&line) else {
-        return Err(Refusal::Fault(Fault::Range));
+        return Err(Refused::Fault(Fault::Range));
     };
     let Some(node) = checker.nodes.find(line.node.bytes()) else {
-        return Err(Refusal::Fault(Fault::Name));
+        return Err(Refused::Fault(Fault::Name));
     };
     let gone = LocalSender {
         node: node as u16,
@@ -69,7 +69,7 @@ pub fn add_drop(checker: &mut Checker, line: DropLine) -> Result<Event, Refusal>
         sender,
     };
     if !sends_at(checker.senders.as_slice(), gone) {
-        return Err(Refusal::Fault(Fault::Name));
+        return Err(Refused::Fault(Fault::Name));
     }
     end(checker, gone)
 }
@@ -152,9 +152,9 @@ fn has_room_for_sender(checker: &Checker, new: LocalSender) -> bool
 }
 
 // Keeps a sender.
-fn begin(checker: &mut Checker, new: LocalSender, flow: Flow) -> Result<Event, Refusal>
+fn begin(checker: &mut Checker, new: LocalSender, flow: Flow) -> Result<Event, Refused>
     ensures ok { OnOk result (draft_of checker.new ≡ record (draft_of checker.old) { sessions = with_session checker.old.sessions.items new.session; locals = with_sender (draft_of checker.old).locals new.node new.session new.sender; events = map event_of checker.old.events.items ++ AtNode new.node (SendAs new.session new.sender flow) ∷ [] }) }
-    ensures told { IfOk result (λ e. IsTold (draft_of checker.old).events e (draft_of checker.new).events) }
+    ensures event { IfOk result (λ e. IsAdded (draft_of checker.old).events e (draft_of checker.new).events) }
     ensures refused { IfErr result OnlyNoMemory }
 {
     if !sends(checker.senders.as_slice(), new.session, new.sender) {
@@ -178,9 +178,9 @@ fn begin(checker: &mut Checker, new: LocalSender, flow: Flow) -> Result<Event, R
 }
 
 // Takes a sender out.
-fn end(checker: &mut Checker, gone: LocalSender) -> Result<Event, Refusal>
+fn end(checker: &mut Checker, gone: LocalSender) -> Result<Event, Refused>
     ensures ok { OnOk result (draft_of checker.new ≡ record (draft_of checker.old) { sessions = with_session checker.old.sessions.items gone.session; locals = without_sender (draft_of checker.old).locals gone.session gone.sender; events = map event_of checker.old.events.items ++ AtNode gone.node (DropAs gone.session gone.sender) ∷ [] }) }
-    ensures told { IfOk result (λ e. IsTold (draft_of checker.old).events e (draft_of checker.new).events) }
+    ensures event { IfOk result (λ e. IsAdded (draft_of checker.old).events e (draft_of checker.new).events) }
     ensures refused { IfErr result OnlyNoMemory }
 {
     let LocalSender {

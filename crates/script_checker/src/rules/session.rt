@@ -7,15 +7,15 @@ ghost use Rattle.router_rules.specs.Steps.{IsFitCall};
 ghost use Rattle.script_checker.specs.Checked.{draft_of};
 ghost use Rattle.script_checker.specs.Events.{event_of};
 ghost use Rattle.script_checker.specs.Refusals.{OnlyNoMemory};
-ghost use Rattle.script_checker.specs.Told.{IsTold};
+ghost use Rattle.script_player.specs.Checking.{IsAdded};
 ghost use Rattle.script_grammar.specs.Draft.{same_session, with_session};
 ghost use Rattle.script_grammar.specs.Rules.{HasRoomForSession};
 
 use super::keeping::keep;
 use crate::checker::Checker;
-use crate::refusal::Refusal;
 use net_replay::{Event, LocalCall};
 use rsvp_base::Session;
+use script_player::Refused;
 
 const MOST_SESSIONS: usize = 32;
 
@@ -46,7 +46,7 @@ pub fn has_room_for_session(checker: &Checker, session: Session) -> bool
 }
 
 /// Names a session.
-pub fn name_session(checker: &mut Checker, session: Session) -> Result<(), Refusal>
+pub fn name_session(checker: &mut Checker, session: Session) -> Result<(), Refused>
     ensures ok { OnOk result (draft_of checker.new ≡ record (draft_of checker.old) { sessions = with_session checker.old.sessions.items session }) }
     ensures period { checker.new.period ≡ checker.old.period }
     ensures left { checker.new.left ≡ checker.old.left }
@@ -65,10 +65,10 @@ pub fn keep_call(
     node: u16,
     session: Session,
     call: LocalCall,
-) -> Result<Event, Refusal>
+) -> Result<Event, Refused>
     requires { IsFitCall (call_of call) }
     ensures ok { OnOk result (draft_of checker.new ≡ record (draft_of checker.old) { sessions = with_session checker.old.sessions.items session; events = map event_of checker.old.events.items ++ AtNode node (call_of call) ∷ [] }) }
-    ensures told { IfOk result (λ e. IsTold (draft_of checker.old).events e (draft_of checker.new).events) }
+    ensures event { IfOk result (λ e. IsAdded (draft_of checker.old).events e (draft_of checker.new).events) }
     ensures refused { IfErr result OnlyNoMemory }
 {
     if !is_named(checker.sessions.as_slice(), session) {

@@ -16,30 +16,30 @@ ghost use Rattle.script_grammar.specs.declared.line.Line.TheVariants as kind;
 
 use super::session::{has_room_for_session, name_session};
 use crate::checker::Checker;
-use crate::refusal::Refusal;
 use left_over::{Left, LeftErr};
 use path_state::PathFact;
 use rsvp_base::{Addr, Flow, Hop, Sender, Session};
 use script_grammar::{Fault, StaleHopWallLine, StalePathLine, StaleSenderWallLine};
+use script_player::Refused;
 use script_words::EndName;
 use style_rules::{Target, Wall};
 
 /// Adds a path that is left over.
-pub fn add_path(checker: &mut Checker, line: StalePathLine) -> Result<(), Refusal>
+pub fn add_path(checker: &mut Checker, line: StalePathLine) -> Result<(), Refused>
     ensures ok { OnOk result (KeepsAll (Keeps (draft_of checker.old) (kind.StalePath line)) × Adds (draft_of checker.old) (kind.StalePath line) (draft_of checker.new)) }
     ensures refused { IfErr result (Refuses (draft_of checker.old) (kind.StalePath line)) }
 {
     if !is_before_events(checker) {
-        return Err(Refusal::Fault(Fault::Late));
+        return Err(Refused::Fault(Fault::Late));
     }
     let Some((session, sender, hop, tspec, left)) = path_values(checker, &line) else {
-        return Err(Refusal::Fault(Fault::Range));
+        return Err(Refused::Fault(Fault::Range));
     };
     let Some((node, end)) = end_of(checker, &line.node, &line.end) else {
-        return Err(Refusal::Fault(Fault::Name));
+        return Err(Refused::Fault(Fault::Name));
     };
     if checker.left.has_path(node, session, sender) {
-        return Err(Refusal::Fault(Fault::Twice));
+        return Err(Refused::Fault(Fault::Twice));
     }
     let fact = PathFact {
         session,
@@ -56,22 +56,22 @@ pub fn add_path(checker: &mut Checker, line: StalePathLine) -> Result<(), Refusa
 }
 
 /// Adds a blockade of a hop that is left over.
-pub fn add_hop_wall(checker: &mut Checker, line: StaleHopWallLine) -> Result<(), Refusal>
+pub fn add_hop_wall(checker: &mut Checker, line: StaleHopWallLine) -> Result<(), Refused>
     ensures ok { OnOk result (KeepsAll (Keeps (draft_of checker.old) (kind.StaleHopWall line)) × Adds (draft_of checker.old) (kind.StaleHopWall line) (draft_of checker.new)) }
     ensures refused { IfErr result (Refuses (draft_of checker.old) (kind.StaleHopWall line)) }
 {
     if !is_before_events(checker) {
-        return Err(Refusal::Fault(Fault::Late));
+        return Err(Refused::Fault(Fault::Late));
     }
     let Some((session, hop, wall, left)) = hop_wall_values(checker, &line) else {
-        return Err(Refusal::Fault(Fault::Range));
+        return Err(Refused::Fault(Fault::Range));
     };
     let Some((node, end)) = end_of(checker, &line.node, &line.end) else {
-        return Err(Refusal::Fault(Fault::Name));
+        return Err(Refused::Fault(Fault::Name));
     };
     let target = Target::Hop(checker.topology.iface_of(end), hop);
     if checker.left.has_wall(node, session, target) {
-        return Err(Refusal::Fault(Fault::Twice));
+        return Err(Refused::Fault(Fault::Twice));
     }
     leave(
         checker,
@@ -83,23 +83,23 @@ pub fn add_hop_wall(checker: &mut Checker, line: StaleHopWallLine) -> Result<(),
 }
 
 /// Adds a blockade of a sender that is left over.
-pub fn add_sender_wall(checker: &mut Checker, line: StaleSenderWallLine) -> Result<(), Refusal>
+pub fn add_sender_wall(checker: &mut Checker, line: StaleSenderWallLine) -> Result<(), Refused>
     ensures ok { OnOk result (KeepsAll (Keeps (draft_of checker.old) (kind.StaleSenderWall line)) × Adds (draft_of checker.old) (kind.StaleSenderWall line) (draft_of checker.new)) }
     ensures refused { IfErr result (Refuses (draft_of checker.old) (kind.StaleSenderWall line)) }
 {
     if !is_before_events(checker) {
-        return Err(Refusal::Fault(Fault::Late));
+        return Err(Refused::Fault(Fault::Late));
     }
     let Some((session, sender, wall, left)) = sender_wall_values(checker, &line) else {
-        return Err(Refusal::Fault(Fault::Range));
+        return Err(Refused::Fault(Fault::Range));
     };
     let Some(node) = checker.nodes.find(line.node.bytes()) else {
-        return Err(Refusal::Fault(Fault::Name));
+        return Err(Refused::Fault(Fault::Name));
     };
     let node = node as u16;
     let target = Target::Sender(sender);
     if checker.left.has_wall(node, session, target) {
-        return Err(Refusal::Fault(Fault::Twice));
+        return Err(Refused::Fault(Fault::Twice));
     }
     leave(
         checker,
@@ -222,7 +222,7 @@ pub fn leave(
     session: Session,
     fact: Left,
     left: u32,
-) -> Result<(), Refusal>
+) -> Result<(), Refused>
     requires there { node < length checker.old.nodes }
     requires fit { IsFitAt (draft_of checker.old) node (stale_of fact left) }
     ensures left { OnOk result (IsLeft (draft_of checker.old) node session (stale_of fact left)) }
@@ -230,13 +230,13 @@ pub fn leave(
     ensures refused { IfErr result (IsNotLeft (draft_of checker.old) node session (stale_of fact left)) }
 {
     if !has_room_for_session(checker, session) {
-        return Err(Refusal::Fault(Fault::Limit));
+        return Err(Refused::Fault(Fault::Limit));
     }
     name_session(checker, session)?;
     match checker.left.add(checker.topology.ends(), node, fact, left) {
         Ok(()) => Ok(()),
-        Err(LeftErr::Full) => Err(Refusal::Fault(Fault::Limit)),
-        Err(LeftErr::Over) => Err(Refusal::Fault(Fault::Over)),
-        Err(LeftErr::NoMemory) => Err(Refusal::NoMemory),
+        Err(LeftErr::Full) => Err(Refused::Fault(Fault::Limit)),
+        Err(LeftErr::Over) => Err(Refused::Fault(Fault::Over)),
+        Err(LeftErr::NoMemory) => Err(Refused::NoMemory),
     }
 }

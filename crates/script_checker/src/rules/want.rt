@@ -14,7 +14,7 @@ ghost use Rattle.script_checker.specs.Styles.{fits};
 ghost use Rattle.script_checker.specs.Events.{event_of};
 ghost use Rattle.script_checker.specs.Refusals.{OnlyNoMemory, Refuses};
 ghost use Rattle.script_checker.specs.Forms.{IsWantForm};
-ghost use Rattle.script_checker.specs.Told.{IsTold};
+ghost use Rattle.script_player.specs.Checking.{IsAdded};
 ghost use Rattle.script_grammar.specs.Adds.{Adds, is_in_place_of, is_want_at, wanted, wants_at, with_want, with_wants, without_wants};
 ghost use Rattle.script_grammar.specs.Draft.{node_number, with_session};
 ghost use Rattle.script_grammar.specs.Rules.{AreDistinct, IsOfWantedStyle, IsWanting, Keeps, KeepsAll};
@@ -23,10 +23,10 @@ ghost use Rattle.script_grammar.specs.declared.line.Line.TheVariants as kind;
 
 use super::session::{has_room_for_session, is_session, keep_call};
 use crate::checker::Checker;
-use crate::refusal::Refusal;
 use net_replay::{Event, LocalCall};
 use rsvp_base::{Flow, Part, Sender, Senders, Session, StyleKind, Unit};
 use script_grammar::{Fault, QuitLine, WantLine};
+use script_player::Refused;
 use script_words::SenderWord;
 use std::alloc::Global;
 use std::cmp::Ordering;
@@ -35,38 +35,38 @@ use tree_model::LocalWant;
 const MOST_UNITS: usize = 16;
 
 /// Adds what is wanted at a node.
-pub fn add_want(checker: &mut Checker, line: WantLine) -> Result<Event, Refusal>
+pub fn add_want(checker: &mut Checker, line: WantLine) -> Result<Event, Refused>
     requires { IsWantForm line.style line.senders }
     ensures ok { OnOk result (KeepsAll (Keeps (draft_of checker.old) (kind.Want line)) × Adds (draft_of checker.old) (kind.Want line) (draft_of checker.new)) }
-    ensures told { IfOk result (λ e. IsTold (draft_of checker.old).events e (draft_of checker.new).events) }
+    ensures event { IfOk result (λ e. IsAdded (draft_of checker.old).events e (draft_of checker.new).events) }
     ensures refused { IfErr result (Refuses (draft_of checker.old) (kind.Want line)) }
 {
     let alloc = checker.alloc;
     let Some(senders) = sender_values(alloc, line.senders.as_slice())? else {
-        return Err(Refusal::Fault(Fault::Range));
+        return Err(Refused::Fault(Fault::Range));
     };
     let Some((session, flow)) = want_values(&line) else {
-        return Err(Refusal::Fault(Fault::Range));
+        return Err(Refused::Fault(Fault::Range));
     };
     let Some(node) = checker.nodes.find(line.node.bytes()) else {
-        return Err(Refusal::Fault(Fault::Name));
+        return Err(Refused::Fault(Fault::Name));
     };
     let node = node as u16;
     if !are_distinct(senders.as_slice()) {
-        return Err(Refusal::Fault(Fault::Twice));
+        return Err(Refused::Fault(Fault::Twice));
     }
     if !is_of_wanted_style(checker, &line, node, session) {
-        return Err(Refusal::Fault(Fault::Style));
+        return Err(Refused::Fault(Fault::Style));
     }
     let Ok(names) = Senders::of(senders.as_slice()) else {
-        return Err(Refusal::Fault(Fault::Limit));
+        return Err(Refused::Fault(Fault::Limit));
     };
     if !has_room_for_session(checker, session) {
-        return Err(Refusal::Fault(Fault::Limit));
+        return Err(Refused::Fault(Fault::Limit));
     }
     put(&mut checker.wants, node, session, line.style, &names, flow)?;
     if want_count(checker.wants.as_slice(), node, session) > MOST_UNITS {
-        return Err(Refusal::Fault(Fault::Limit));
+        return Err(Refused::Fault(Fault::Limit));
     }
     keep_call(
         checker,
@@ -83,24 +83,24 @@ pub fn add_want(checker: &mut Checker, line: WantLine) -> Result<Event, Refusal>
 }
 
 /// Takes out what is wanted of a session at a node.
-pub fn add_quit(checker: &mut Checker, line: QuitLine) -> Result<Event, Refusal>
+pub fn add_quit(checker: &mut Checker, line: QuitLine) -> Result<Event, Refused>
     ensures ok { OnOk result (KeepsAll (Keeps (draft_of checker.old) (kind.Quit line)) × Adds (draft_of checker.old) (kind.Quit line) (draft_of checker.new)) }
-    ensures told { IfOk result (λ e. IsTold (draft_of checker.old).events e (draft_of checker.new).events) }
+    ensures event { IfOk result (λ e. IsAdded (draft_of checker.old).events e (draft_of checker.new).events) }
     ensures refused { IfErr result (Refuses (draft_of checker.old) (kind.Quit line)) }
 {
     let Some(session) = line.session.session() else {
-        return Err(Refusal::Fault(Fault::Range));
+        return Err(Refused::Fault(Fault::Range));
     };
     let Some(node) = wanting_node(checker, &line, session) else {
-        return Err(Refusal::Fault(Fault::Name));
+        return Err(Refused::Fault(Fault::Name));
     };
     leave(checker, node, session)
 }
 
 // Takes the wants of a session at a node out.
-fn leave(checker: &mut Checker, node: u16, session: Session) -> Result<Event, Refusal>
+fn leave(checker: &mut Checker, node: u16, session: Session) -> Result<Event, Refused>
     ensures ok { OnOk result (draft_of checker.new ≡ record (draft_of checker.old) { sessions = with_session checker.old.sessions.items session; locals = without_wants (draft_of checker.old).locals node session; events = map event_of checker.old.events.items ++ AtNode node (QuitAll session) ∷ [] }) }
-    ensures told { IfOk result (λ e. IsTold (draft_of checker.old).events e (draft_of checker.new).events) }
+    ensures event { IfOk result (λ e. IsAdded (draft_of checker.old).events e (draft_of checker.new).events) }
     ensures refused { IfErr result OnlyNoMemory }
 {
     take_out(&mut checker.wants, node, session);
@@ -108,10 +108,10 @@ fn leave(checker: &mut Checker, node: u16, session: Session) -> Result<Event, Re
 }
 
 /// The senders of these words; none where one is out of range.
-pub fn sender_values(alloc: Global, words: &[SenderWord]) -> Result<Option<Vec<Sender>>, Refusal>
+pub fn sender_values(alloc: Global, words: &[SenderWord]) -> Result<Option<Vec<Sender>>, Refused>
     ensures some { IfOk result (λ found. IsSome found ↔ All IsSender words.now) }
     ensures value { IfOk result (λ found. IfSome found (λ v. v.items ≡ map sender_value words.now)) }
-    ensures refused { IfErr result (λ e. e ≡ Refusal.NoMemory) }
+    ensures refused { IfErr result (λ e. e ≡ Refused.NoMemory) }
 {
     let mut senders = Vec::new(alloc);
     for word in words {
@@ -248,7 +248,7 @@ fn make_place(wants: &mut Vec<LocalWant>, new: &LocalWant)
 }
 
 // Puts a want in the place of that of its unit.
-fn put_want(wants: &mut Vec<LocalWant>, new: LocalWant) -> Result<(), Refusal>
+fn put_want(wants: &mut Vec<LocalWant>, new: LocalWant) -> Result<(), Refused>
     ensures ok { OnOk result (wants.new.items ≡ with_want wants.old.items new) }
     ensures refused { IfErr result OnlyNoMemory }
 {
@@ -275,7 +275,7 @@ fn put_fixed(
     session: Session,
     senders: &[Sender],
     flow: Flow,
-) -> Result<(), Refusal>
+) -> Result<(), Refused>
     ensures ok { OnOk result (wants.new.items ≡ with_wants wants.old.items (map (λ x. record { node = node; session = session; style = StyleKind.Fixed; part = record { senders = only x; flow = flow } }) senders.now)) }
     ensures refused { IfErr result OnlyNoMemory }
 {
@@ -307,7 +307,7 @@ fn put(
     style: StyleKind,
     names: &Senders,
     flow: Flow,
-) -> Result<(), Refusal>
+) -> Result<(), Refused>
     ensures ok { OnOk result (wants.new.items ≡ with_wants wants.old.items (wanted node session style names.now flow)) }
     ensures refused { IfErr result OnlyNoMemory }
 {
@@ -326,7 +326,7 @@ fn put_one(
     style: StyleKind,
     senders: Senders,
     flow: Flow,
-) -> Result<(), Refusal>
+) -> Result<(), Refused>
     ensures ok { OnOk result (wants.new.items ≡ with_want wants.old.items (record { node = node; session = session; style = style; part = record { senders = senders; flow = flow } })) }
     ensures refused { IfErr result OnlyNoMemory }
 {

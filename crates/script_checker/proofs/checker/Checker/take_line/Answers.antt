@@ -8,16 +8,16 @@ use Rattle.script_checker.proofs.FedLines.{fed}
 use Rattle.script_checker.proofs.Words.{formed}
 use Rattle.script_checker.proofs.checker.Checker.take_line.Goals as goal
 
-pub returns-then-text-gt-MOST_LINE-clause-refused : goal.returns-then-text-gt-MOST_LINE-clause-refused
-returns-then-text-gt-MOST_LINE-clause-refused c = too_long (omega (arith, c.if-text-gt-MOST_LINE.true))
+pub returns-then-text-gt-MOST_LINE : goal.returns-then-text-gt-MOST_LINE
+returns-then-text-gt-MOST_LINE c = too_long (omega (arith, c.if-text-gt-MOST_LINE.true))
 
 pub add-requires : goal.add-requires
 add-requires c = let short : length c.args.text.now ≤ 2048 = omega (arith, c.if-text-gt-MOST_LINE.false) in formed c.args.text.now c.in-Ok.line short c.in-Ok.ensures
 
-pub returns-in-Ok-clause-refused : goal.returns-in-Ok-clause-refused
-returns-in-Ok-clause-refused c =
+pub returns-in-Ok : goal.returns-in-Ok
+returns-in-Ok c =
     let short : length c.args.text.now ≤ 2048 = omega (arith, c.if-text-gt-MOST_LINE.false) in
-    fed (draft_of c.args.self.now) c.args.text.now c.in-Ok.line short c.in-Ok.ensures c.add.result c.add.ensures.refused
+    fed (draft_of c.args.self.now) c.args.text.now c.in-Ok.line short c.in-Ok.ensures c.add.result (draft_of c.add.new.checker) c.add.ensures.ok c.add.ensures.given c.add.ensures.refused
 
-pub returns-in-Err-Word-clause-refused : goal.returns-in-Err-Word-clause-refused
-returns-in-Err-Word-clause-refused c = unread (omega (arith, c.if-text-gt-MOST_LINE.false)) (subst (λ (e : Unread). Misses e (line_of c.args.text.now)) c.in-Err-Word.field-0-is c.in-Err-Word.ensures)
+pub returns-in-Err-Word : goal.returns-in-Err-Word
+returns-in-Err-Word c = unread (omega (arith, c.if-text-gt-MOST_LINE.false)) (subst (λ (e : Unread). Misses e (line_of c.args.text.now)) c.in-Err-Word.field-0-is c.in-Err-Word.ensures)

@@ -1,12 +1,17 @@
 use Rattle.std.proofs.Common.{◌≡◌, ◌≤◌, List, ℕ, [], length, sym, ap, subst, ◌∙◌}
 use Rattle.rsvp_base.specs.Members.{In}
 use Rattle.tree_model.proofs.TreeLaws.{true_false}
+use Rattle.left_over.specs.Listed.{IsOfEnds}
+use Rattle.tree_model.specs.declared.hops.End.{End}
 use Rattle.tree_model.specs.Networks.{Net, link_of}
 use Rattle.tree_routing.specs.Answers.{TakesLink, with_link}
 use Rattle.script_grammar.specs.Adds.{link_value}
 use Rattle.script_checker.specs.Checked.{draft_of}
+use Rattle.script_checker.specs.Fitness.{ArePlaced}
+use Rattle.script_checker.specs.Forcing.{IsOfNet, hops_in_force}
 use Rattle.script_checker.specs.LinkEnds.{are_apart, is_known}
 use Rattle.std.specs.List.{list_all}
+use Rattle.script_checker.proofs.Forced.{ends_kept, nothing_forced}
 use Rattle.script_checker.proofs.LinkRules.{all_in_of, apart_told, apart_tested, in_all_of, known_told, known_tested, takes}
 use Rattle.script_checker.proofs.rules.link.add_link.Goals as goal
 
@@ -76,5 +81,18 @@ returns-clause-ok c =
         within_capacity = tt;
         loop_free = tt;
       },
-      ap (λ (n : Net). record d { net = n; force = n.hops }) (c.in_ok-add_link_of.ensures.ok ∙ ap (with_link d.net) last),
+      ap (λ (n : Net). record d { net = n; force = hops_in_force c.args.checker.now.force n.hops }) (c.in_ok-add_link_of.ensures.ok ∙ ap (with_link d.net) last),
     )
+
+pub invariant_of-checker-clause-of_net : goal.invariant_of-checker-clause-of_net
+invariant_of-checker-clause-of_net c = nothing_forced (IsOfNet c.add_link_of.new.self) c.args.checker.now.force (c.args.checker.now.moved (c.only_declares.ensures.0 c.if-not-only_declares.false).no_event)
+
+pub invariant_of-checker-clause-placed : goal.invariant_of-checker-clause-placed
+invariant_of-checker-clause-placed c =
+    let old = c.args.checker.now in
+    subst (λ (ends : List End). ArePlaced (length old.nodes) ends) (sym (ends_kept c.add_link_of.result old.topology c.add_link_of.new.self c.as_slice-5.result.now c.add_link_of.ensures.ok c.add_link_of.ensures.err)) old.placed
+
+pub invariant_of-checker-clause-left_there : goal.invariant_of-checker-clause-left_there
+invariant_of-checker-clause-left_there c =
+    let old = c.args.checker.now in
+    subst (λ (ends : List End). IsOfEnds ends old.left) (sym (ends_kept c.add_link_of.result old.topology c.add_link_of.new.self c.as_slice-5.result.now c.add_link_of.ensures.ok c.add_link_of.ensures.err)) old.left_there

@@ -3,7 +3,9 @@ use Rattle.std.specs.Prelude.{◌/◌, unwrap_or}
 use Rattle.tree_model.specs.Networks.{Net}
 use Rattle.left_over.specs.Listed.{facts_in}
 use Rattle.script_checker.specs.Fitness.{ArePlaced}
+use Rattle.script_checker.specs.Forcing.{IsOfNet}
 use Rattle.script_checker.proofs.FitFacts.{none_fit, placed_more}
+use Rattle.script_checker.proofs.Forced.{nothing_forced}
 use Rattle.script_checker.proofs.rules.node.add_node.Goals as goal
 
 pub invariant_of-checker-2-clause-placed : goal.invariant_of-checker-2-clause-placed
@@ -11,6 +13,9 @@ invariant_of-checker-2-clause-placed c =
     let old = c.args.checker.now in
     let size = ap length c.in_ok-add.ensures.ok ∙ length-append old.nodes (c.bytes-2.result.now ∷ []) in
     subst (λ (net : Net). ArePlaced (length c.add.new.self) net.ends) (sym c.add_node-2.ensures.added) (placed_more (length old.nodes) (length c.add.new.self) old.topology.ends (omega (arith, size)) old.placed)
+
+pub invariant_of-checker-2-clause-of_net : goal.invariant_of-checker-2-clause-of_net
+invariant_of-checker-2-clause-of_net c = nothing_forced (IsOfNet c.add_node-2.new.self) c.args.checker.now.force (c.args.checker.now.moved (c.only_declares.ensures.0 c.if-not-only_declares.false).no_event)
 
 pub invariant_of-checker-2-clause-left_fit : goal.invariant_of-checker-2-clause-left_fit
 invariant_of-checker-2-clause-left_fit c = none_fit (unwrap_or c.args.checker.now.period 30000 / 4) c.add_node-2.new.self (facts_in c.add_node.new.self) c.add_node.ensures.none
@@ -31,6 +36,8 @@ invariant_of-checker-in-Break-branch-2 c =
       quarters = old.quarters;
       same_nodes = old.same_nodes ∙ sym size;
       few_nodes = subst (λ (n : ℕ). n ≤ 256) (sym size) old.few_nodes;
+      moved = old.moved;
+      of_net = old.of_net;
       placed = subst (λ (names : List (List ℕ)). ArePlaced (length names) old.topology.ends) (sym same) old.placed;
       ends_there = old.ends_there;
       few_names = old.few_names;
