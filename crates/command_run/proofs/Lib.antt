@@ -1,3 +1,4 @@
 pub mod Replays
 pub mod Shows
 pub mod StatusTexts
+pub mod Nothing

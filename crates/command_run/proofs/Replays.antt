@@ -67,7 +67,6 @@ healed_run stands ending.WriteFault old new before after is run = absurd (cc is)
 healed_run stands ending.NoMemory old new before after is run = absurd (cc is)
 healed_run stands ending.Crowded old new before after is run = absurd (cc is)
 healed_run stands ending.TooLong old new before after is run = absurd (cc is)
-healed_run stands (ending.Unbuilt number) old new before after is run = absurd (cc is)
 
 -- ---- memory ran out before anything was read
 pub replayed_nothing : (stands : Draft → Type 0) (left holds : Option (List ℕ)) → IsReplay stands NoMemory left left holds holds

@@ -9,7 +9,7 @@ use Rattle.script_words.specs.declared.fault.LineErr.{LineErr}
 use Rattle.command_run.specs.Showing.{ShowsTo, fault_of}
 use Rattle.command_run.specs.Statuses.{IsOrNoMemory}
 use Rattle.command_run.specs.declared.status.Status.{Status}
-use Rattle.command_run.specs.declared.status.Status.TheVariants.{Done, Usage, BadLine, ReadFault, WriteFault, NoMemory, Crowded, TooLong, Unbuilt}
+use Rattle.command_run.specs.declared.status.Status.TheVariants.{Done, Usage, BadLine, ReadFault, WriteFault, NoMemory, Crowded, TooLong}
 
 -- of what has a bad line nothing is shown
 pub shown_is_not_bad : (input text : List ℕ) (e : LineErr) → IsShown input text → IsBadDigits input e → ⊥
@@ -44,4 +44,3 @@ comes_to input ReadFault got F few right bad shows quiet = absurd shows
 comes_to input WriteFault got F few right bad shows quiet = absurd shows
 comes_to input NoMemory got F few right bad shows quiet = absurd shows
 comes_to input Crowded got F few right bad shows quiet = absurd shows
-comes_to input (Unbuilt number) got F few right bad shows quiet = absurd shows

@@ -5,7 +5,7 @@ use Rattle.value_texts.specs.Texts.{addr_text}
 use Rattle.script_grammar.specs.declared.fault.Fault.{Fault}
 use Rattle.script_grammar.specs.declared.fault.Fault.TheVariants.{Word, Late, Range, Name, Twice, Style, Limit, NotTree, Over, Loop}
 use Rattle.command_run.specs.declared.status.Status.{Status}
-use Rattle.command_run.specs.declared.status.Status.TheVariants.{Done, Usage, BadLine, ReadFault, WriteFault, NoMemory, Crowded, TooLong, Unbuilt}
+use Rattle.command_run.specs.declared.status.Status.TheVariants.{Done, Usage, BadLine, ReadFault, WriteFault, NoMemory, Crowded, TooLong}
 
 -- a loop by its group and the ends of its least hop
 abbrev pub fault_text : Fault → List ℕ
@@ -29,4 +29,3 @@ status_text WriteFault = codes "write fault"
 status_text NoMemory = codes "no memory"
 status_text Crowded = codes "crowded"
 status_text TooLong = codes "too long"
-status_text (Unbuilt line) = codes "line " ++ decimal line ++ codes ": not carried out yet"

@@ -5,7 +5,7 @@ use Rattle.network_run.specs.Endings.{IsRun}
 use Rattle.network_run.specs.declared.ending.Ending.{Ending}
 use Rattle.network_run.specs.declared.ending.Ending.TheVariants as ending
 use Rattle.command_run.specs.declared.status.Status.{Status}
-use Rattle.command_run.specs.declared.status.Status.TheVariants.{Done, Usage, BadLine, ReadFault, WriteFault, NoMemory, Crowded, TooLong, Unbuilt}
+use Rattle.command_run.specs.declared.status.Status.TheVariants.{Done, Usage, BadLine, ReadFault, WriteFault, NoMemory, Crowded, TooLong}
 
 -- the exit status
 abbrev pub code_of : Status → ℕ
@@ -17,7 +17,6 @@ code_of WriteFault = 4
 code_of NoMemory = 5
 code_of Crowded = 6
 code_of TooLong = 7
-code_of (Unbuilt line) = 8
 
 -- the status of a run of a script that ended so
 abbrev pub status_of : Ending → Status
@@ -28,7 +27,6 @@ status_of ending.WriteFault = WriteFault
 status_of ending.NoMemory = NoMemory
 status_of ending.Crowded = Crowded
 status_of ending.TooLong = TooLong
-status_of (ending.Unbuilt line) = Unbuilt line
 
 -- bytes were taken of a source and a text was written to a sink, and the run of the script had this status
 abbrev pub IsReplay : (Draft → Type 0) → Status → Option (List ℕ) → Option (List ℕ) → Option (List ℕ) → Option (List ℕ) → Type 0

@@ -3,12 +3,15 @@ ghost use Rattle.std.specs.Prelude.{◌≡◌, ◌≢◌, ◌≤◌, ℕ, List, 
 ghost use Rattle.std.specs.Io.KnownBytes.{Keeps};
 ghost use Rattle.byte_streams.specs.Faults.{Rose};
 ghost use Rattle.byte_streams.specs.Reading.{most_bytes};
-ghost use Rattle.network_run.specs.Endings.{ComesTo, HasNoReroute};
+ghost use Rattle.network_run.specs.Endings.{ComesTo};
 ghost use Rattle.network_run.specs.declared.ending.Ending.{Ending as AnEnding};
+ghost use Rattle.network_run.specs.declared.ending.Ending.TheVariants as ending;
 ghost use Rattle.network_model.specs.Runs.{Plan};
 ghost use Rattle.script_grammar.specs.Draft.{nothing, plan_of};
 ghost use Rattle.script_grammar.specs.Grammar.{IsScript};
+ghost use Rattle.script_demand.specs.Demanding.{DemandsTo};
 ghost use Rattle.script_player.specs.Standing.{IsNetworkOf};
+ghost use Rattle.command_run.specs.Demanding.{IsDemand};
 ghost use Rattle.command_run.specs.Healing.{IsHealingRun, IsNeverOver};
 ghost use Rattle.command_run.specs.Showing.{IsShowing, ShowsTo};
 ghost use Rattle.command_run.specs.Statuses.{IsOrNoMemory, IsReplay, status_of};
@@ -16,6 +19,7 @@ ghost use Rattle.command_run.specs.Tasks.{task_of};
 ghost use Rattle.command_run.specs.declared.status.Status.{Status as AStatus};
 ghost use Rattle.command_run.specs.declared.task.Task.TheVariants as task;
 
+use crate::demanding::demand;
 use crate::replaying::replay;
 use crate::showing::show_messages;
 use crate::status::Status;
@@ -23,17 +27,19 @@ use crate::task::Task;
 use byte_streams::{Sink, Source};
 use command_words::{NoOrder, Order, read_order};
 use net_replay::World;
-use script_player::{Checks, Opens};
+use script_demand::Asks;
+use script_player::Opens;
 use std::alloc::Global;
 
 /// Runs the task of these words: `replay` reads a script from the source, runs it line by line on a network of routers, and writes
-/// to the sink what its events write; `show` reads messages as lines of hexadecimal digits and writes a line of words for each.
-/// Where a script with an event was replayed to its end, `last` holds the network in which the run ended; else it stays empty.
+/// to the sink what its events write; `demand` reads a script, and writes what each end of its network owes behind the last line and
+/// whether that fits; `show` reads messages as lines of hexadecimal digits and writes a line of words for each. Where a script with
+/// an event was replayed to its end, `last` holds the network in which the run ended; else it stays empty.
 ///
-/// `Usage` comes first: the words order no task, and nothing is read or written. How a replay ends is said at `replay`, and how
-/// showing ends at `show_messages`.
-#[tactic(auto, using(crate::proofs::Replays::never_over, crate::proofs::Replays::replayed_nothing))]
-pub fn run_command<C: Checks + Drop, R: Opens, S: Source, K: Sink>(
+/// `Usage` comes first: the words order no task, and nothing is read or written. How a replay ends is said at `replay`, how the
+/// demand of a script ends at `demand`, and how showing ends at `show_messages`.
+#[tactic(auto, using(crate::proofs::Replays::never_over, crate::proofs::Replays::replayed_nothing, crate::proofs::Nothing::demanded_nothing, crate::proofs::Nothing::shown_nothing))]
+pub fn run_command<C: Asks + Drop, R: Opens, S: Source, K: Sink>(
     alloc: Global,
     words: &Vec<String>,
     checker: C,
@@ -48,6 +54,7 @@ pub fn run_command<C: Checks + Drop, R: Opens, S: Source, K: Sink>(
     ensures untouched { task_of (map string_bytes words.now.items) ≡ None → Keeps (S.left source.old) (S.left source.new) × Keeps (K.holds sink.old) (K.holds sink.new) }
     ensures replayed { task_of (map string_bytes words.now.items) ≡ Some task.Replay
         → IsReplay (λ d. IsNetworkOf R.seen last.new (plan_of d)) result (S.left source.old) (S.left source.new) (K.holds sink.old) (K.holds sink.new) }
+    ensures demanded { task_of (map string_bytes words.now.items) ≡ Some task.Demand → IsDemand result (S.left source.old) (S.left source.new) (K.holds sink.old) (K.holds sink.new) }
     ensures shown { task_of (map string_bytes words.now.items) ≡ Some task.Show → IsShowing result (S.left source.old) (S.left source.new) (K.holds sink.old) (K.holds sink.new) }
     ensures empty { result ≢ Status.Done → last.new ≡ None }
     ensures unopened { task_of (map string_bytes words.now.items) ≢ Some task.Replay → last.new ≡ None }
@@ -60,14 +67,18 @@ pub fn run_command<C: Checks + Drop, R: Opens, S: Source, K: Sink>(
     ensures within_capacity { IfSome (S.left source.old) (λ bytes. (p : Plan) → IsScript bytes p → IsNeverOver p) }
     // Nothing else ends a run over known input and devices that do not fail.
     ensures complete_replay { task_of (map string_bytes words.now.items) ≡ Some task.Replay
-        → (bytes text : List ℕ) (wanted : AnEnding) → S.left source.old ≡ Some bytes → length bytes ≤ most_bytes → HasNoReroute bytes → ComesTo wanted bytes text
+        → (bytes text : List ℕ) (wanted : AnEnding) → S.left source.old ≡ Some bytes → length bytes ≤ most_bytes → ComesTo wanted bytes text
         → (Rose (S.faults source.old) (S.faults source.new) → ⊥) → (Rose (K.faults sink.old) (K.faults sink.new) → ⊥) → IsOrNoMemory (status_of wanted) result }
+    ensures complete_demand { task_of (map string_bytes words.now.items) ≡ Some task.Demand
+        → (bytes : List ℕ) (wanted : AnEnding) → S.left source.old ≡ Some bytes → DemandsTo wanted bytes
+        → (Rose (S.faults source.old) (S.faults source.new) → ⊥) → (wanted ≡ ending.Done → Rose (K.faults sink.old) (K.faults sink.new) → ⊥) → IsOrNoMemory (status_of wanted) result }
     ensures complete_show { task_of (map string_bytes words.now.items) ≡ Some task.Show
         → (bytes : List ℕ) (wanted : AStatus) → S.left source.old ≡ Some bytes → ShowsTo wanted bytes
         → (Rose (S.faults source.old) (S.faults source.new) → ⊥) → (wanted ≡ Status.Done → Rose (K.faults sink.old) (K.faults sink.new) → ⊥) → IsOrNoMemory wanted result }
 {
     match task_of(alloc, words) {
         Ok(Task::Replay) => replay::<C, R, S, K>(alloc, checker, source, sink, last),
+        Ok(Task::Demand) => demand(alloc, checker, source, sink),
         Ok(Task::Show) => show_messages(alloc, source, sink),
         Err(NoOrder::Usage) => Status::Usage,
         Err(NoOrder::NoMemory) => Status::NoMemory,
@@ -81,8 +92,8 @@ fn task_of(alloc: Global, words: &Vec<String>) -> Result<Task, NoOrder>
 {
     match read_order(alloc, words.as_slice()) {
         Ok(Order::Replay) => Ok(Task::Replay),
+        Ok(Order::Demand) => Ok(Task::Demand),
         Ok(Order::Show) => Ok(Task::Show),
-        Ok(Order::Demand) => Err(NoOrder::Usage),
         Ok(Order::Grow { .. }) => Err(NoOrder::Usage),
         Err(error) => Err(error),
     }

@@ -2,7 +2,7 @@
 ghost use Rattle.std.specs.Prelude.{◌≡◌, ◌≢◌, ◌≤◌, List, ℕ, None, Some, IfSome, length};
 ghost use Rattle.byte_streams.specs.Faults.{Rose};
 ghost use Rattle.byte_streams.specs.Reading.{most_bytes};
-ghost use Rattle.network_run.specs.Endings.{ComesTo, HasNoReroute};
+ghost use Rattle.network_run.specs.Endings.{ComesTo};
 ghost use Rattle.network_run.specs.declared.ending.Ending.{Ending as AnEnding};
 ghost use Rattle.script_grammar.specs.Draft.{nothing, plan_of};
 ghost use Rattle.script_player.specs.Standing.{IsNetworkOf};
@@ -28,15 +28,14 @@ pub fn status_of(ending: Ending) -> Status
         Ending::NoMemory => Status::NoMemory,
         Ending::Crowded => Status::Crowded,
         Ending::TooLong => Status::TooLong,
-        Ending::Unbuilt { line } => Status::Unbuilt { line },
     }
 }
 
 /// Replays a script of the source: each line is checked and run, and its text written to the sink, before the next is read. Where
 /// it is done and the script has an event, `last` holds the network in which the run ended; else it stays empty.
 ///
-/// At one line these come in this order: `ReadFault` or `TooLong` while it is read, then `Unbuilt` or `BadLine`, then
-/// `Crowded`, then `WriteFault`. `NoMemory`: memory ran out.
+/// At one line these come in this order: `ReadFault` or `TooLong` while it is read, then `BadLine`, then `Crowded`, then
+/// `WriteFault`. `NoMemory`: memory ran out.
 pub fn replay<C: Checks + Drop, R: Opens, S: Source, K: Sink>(
     alloc: Global,
     checker: C,
@@ -51,7 +50,7 @@ pub fn replay<C: Checks + Drop, R: Opens, S: Source, K: Sink>(
     ensures usage { result ≢ Status.Usage }
     ensures read_fault { result ≡ Status.ReadFault → Rose (S.faults source.old) (S.faults source.new) }
     ensures write_fault { result ≡ Status.WriteFault → Rose (K.faults sink.old) (K.faults sink.new) }
-    ensures complete { (bytes text : List ℕ) (wanted : AnEnding) → S.left source.old ≡ Some bytes → length bytes ≤ most_bytes → HasNoReroute bytes → ComesTo wanted bytes text
+    ensures complete { (bytes text : List ℕ) (wanted : AnEnding) → S.left source.old ≡ Some bytes → length bytes ≤ most_bytes → ComesTo wanted bytes text
         → (Rose (S.faults source.old) (S.faults source.new) → ⊥) → (Rose (K.faults sink.old) (K.faults sink.new) → ⊥) → IsOrNoMemory (status_of wanted) result }
     ensures healed { result ≡ Status.Done → IfSome (S.left source.old) (λ bytes. IsHealingRun bytes (K.holds sink.old) (K.holds sink.new)) }
 {

@@ -1,7 +1,7 @@
 //! How a run ended.
 use script_grammar::Fault;
 
-/// How a run ended.
+/// How a run ended. `replay` and `show_messages` have the order in which statuses come.
 #[derive(Debug, Drop)]
 pub enum Status {
     /// The input was read to its end, and the whole text was written.
@@ -20,8 +20,6 @@ pub enum Status {
     Crowded,
     /// The input is longer than 4,194,304 bytes.
     TooLong,
-    /// The line of this number, from 1, is of a kind that is not carried out yet: `reroute`.
-    Unbuilt { line: u32 },
 }
 
 impl Status {
@@ -41,7 +39,6 @@ impl Status {
             Status::NoMemory => 5,
             Status::Crowded => 6,
             Status::TooLong => 7,
-            Status::Unbuilt { .. } => 8,
         }
     }
 }

@@ -25,7 +25,6 @@ impl fmt::Display for Status {
             Status::NoMemory => write!(f, "no memory"),
             Status::Crowded => write!(f, "crowded"),
             Status::TooLong => write!(f, "too long"),
-            Status::Unbuilt { line } => write!(f, "line {line}: not carried out yet"),
         }
     }
 }

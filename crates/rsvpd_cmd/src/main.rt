@@ -1,4 +1,5 @@
-//! `rsvpd`: replays the script of a network of RSVP routers, and writes what its events report; or shows messages in words.
+//! `rsvpd`: replays the script of a network of RSVP routers, and writes what its events report; writes the demand of such a script;
+//! or shows messages in words.
 //!
 //! What it promises is said at `run_command` of `command_run`, which it calls with the checker of scripts, live routers, and
 //! standard input and output.

@@ -89,6 +89,31 @@ fn words(alloc: Global, all: &[&str]) -> Result<Vec<String>, AllocError> {
     Ok(words)
 }
 
+const ONE_RECEIVER: &[u8] = b"node s
+node r
+node t
+end s1 s 10.0.1.1 10000 1500
+end r1 r 10.0.1.2 10000 1500
+end r2 r 10.0.2.1 10000 1500
+end t1 t 10.0.2.2 10000 1500
+link s1 r1
+link r2 t1
+hop 239.1.1.1 10.0.1.1 s1 r1
+hop 239.1.1.1 10.0.1.1 r2 t1
+send s 239.1.1.1/17/5004 10.0.1.1:5004 1000/2000/inf/64/1500
+want t 239.1.1.1/17/5004 WF * 1000/2000/inf/64/1500
+rounds 48
+report
+";
+
+const ITS_ENDS: &[u8] = b"end s1 held 1000 of 10000
+239.1.1.1/17/5004 WF 10.0.1.1 1000/2000/inf/64/1500
+end r1 held 0 of 10000
+end r2 held 1000 of 10000
+239.1.1.1/17/5004 WF 10.0.1.1 1000/2000/inf/64/1500
+end t1 held 0 of 10000
+";
+
 const A_NETWORK: &[u8] = b"node s
 node r
 node t
@@ -122,6 +147,15 @@ end r2 held 1000 of 10000
 end t1 held 0 of 10000
 ";
 
+const ITS_DEMAND: &[u8] = b"end s1 held 1000 of 10000
+239.1.1.1/17/5004 WF 10.0.1.1 1000/2000/inf/64/1500
+end r1 held 0 of 10000
+end r2 held 1000 of 10000
+239.1.1.1/17/5004 WF 10.0.1.1 1000/2000/inf/64/1500
+end t1 held 0 of 10000
+longest 2 fits yes
+";
+
 const A_RING: &[u8] = b"node a
 node b
 node c
@@ -151,9 +185,10 @@ fn runs_end_and_write_what_their_words_order(rt: HostRuntime) -> Result<(), Fail
     let most_digits = vec![in alloc; b'0'; 8194]?;
     let too_long = vec![in alloc; b'x'; 8195]?;
     let replay: &[&str] = &["replay"];
+    let demand: &[&str] = &["demand"];
     let show: &[&str] = &["show"];
     let usage = "usage: rsvpd replay|demand|show|grow [--seed N]";
-    let table: [Row; 27] = [
+    let table: [Row; 36] = [
         (replay, FIRST_RUN, 0, "", ITS_REPORTS),
         (replay, b"", 0, "", b""),
         (replay, b"report\n", 0, "", b""),
@@ -178,6 +213,18 @@ fn runs_end_and_write_what_their_words_order(rt: HostRuntime) -> Result<(), Fail
             "line 4: twice",
             b"",
         ),
+        // the first fault of a line
+        (replay, b"wait 1\nnode x\n", 2, "line 2: late", b""),
+        (replay, b"node a\nnode a\n", 2, "line 2: twice", b""),
+        (
+            replay,
+            b"end a1 a 10.0.0.1 5 1500\n",
+            2,
+            "line 1: name",
+            b"",
+        ),
+        (replay, b"period 1002\n", 2, "line 1: range", b""),
+        (replay, b"frob\n", 2, "line 1: word", b""),
         // what comes before a bad line is written
         (
             replay,
@@ -186,9 +233,26 @@ fn runs_end_and_write_what_their_words_order(rt: HostRuntime) -> Result<(), Fail
             "line 4: word",
             b"end r1 held 0 of 9\n",
         ),
+        // what is demanded, whatever was left over; before a bad line nothing is written
+        (demand, A_NETWORK, 0, "", ITS_DEMAND),
+        (demand, b"", 0, "", b"longest 0 fits yes\n"),
+        (
+            demand,
+            A_RING,
+            2,
+            "line 18: loop in 239.1.1.1 through a1>b1",
+            b"",
+        ),
+        (
+            demand,
+            b"node r\nend r1 r 10.0.1.2 9 1500\nreport\nfrob\n",
+            2,
+            "line 4: word",
+            b"",
+        ),
         // other words are no command
         (&[], FIRST_RUN, 1, usage, b""),
-        (&["demand"], FIRST_RUN, 1, usage, b""),
+        (&["demand", "--seed", "3"], FIRST_RUN, 1, usage, b""),
         (&["grow", "--seed", "3"], FIRST_RUN, 1, usage, b""),
         (&["Replay"], FIRST_RUN, 1, usage, b""),
         (&["replay", "replay"], FIRST_RUN, 1, usage, b""),
@@ -231,19 +295,33 @@ fn runs_end_and_write_what_their_words_order(rt: HostRuntime) -> Result<(), Fail
     Ok(())
 }
 
+// The calls of the source and of the sink that fail, what a call of the sink takes at most, the exit status, and what is written.
+type Devices<'a> = (&'a [u64], &'a [u64], &'a [(u64, usize)], u8, &'a [u8]);
+
 #[test]
 fn failing_devices_are_faults(rt: HostRuntime) -> Result<(), Fail> {
     let alloc = rt.alloc();
     let words = words(alloc, &["replay"])?;
-    let mut source = MemorySource::new(FIRST_RUN.to_vec(alloc)?, vec![in alloc; 1u64; 1]?, 7);
-    let mut sink = PlainSink::new();
-    assert_eq!(rt; run(alloc, &words, &mut source, &mut sink).code(), 3);
-    assert_eq!(rt; sink.count(), 0);
-    let mut source = PlainSource::new(FIRST_RUN.to_vec(alloc)?);
-    let short = vec![in alloc; (1u64, 10usize); 1]?;
-    let mut sink = MemorySink::open(alloc, 1000, vec![in alloc; 2u64; 1]?, short)?;
-    assert_eq!(rt; run(alloc, &words, &mut source, &mut sink).code(), 4);
-    assert_eq!(rt; sink.bytes(), b"end r1 hel".as_slice());
+    let table: [Devices; 5] = [
+        (&[1], &[], &[], 3, b""),
+        // the first call gave the whole script, which was run before the second
+        (&[2], &[], &[], 3, ITS_ENDS),
+        (&[], &[1], &[], 4, b""),
+        (&[], &[], &[(1, 0)], 4, b""),
+        (&[], &[2], &[(1, 10)], 4, b"end s1 hel"),
+    ];
+    for (unread, unwritten, short, code, text) in table {
+        let script = ONE_RECEIVER.to_vec(alloc)?;
+        let mut source = MemorySource::new(script, unread.to_vec(alloc)?, 4096);
+        let mut sink = MemorySink::open(
+            alloc,
+            1000,
+            unwritten.to_vec(alloc)?,
+            short.to_vec(alloc)?,
+        )?;
+        assert_eq!(rt; run(alloc, &words, &mut source, &mut sink).code(), code);
+        assert_eq!(rt; sink.bytes(), text);
+    }
     Ok(())
 }
 
