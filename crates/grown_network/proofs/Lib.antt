@@ -1,0 +1,12 @@
+pub mod Ranges
+pub mod Links
+pub mod Climbs
+pub mod Trees
+pub mod Chains
+pub mod Hanging
+pub mod Planting
+pub mod Senders
+pub mod Valid
+pub mod HopLists
+pub mod HostLists
+pub mod NameLists
