@@ -1,0 +1,4 @@
+//! Laws of the network that a seed grows.
+#![tactic(auto)]
+
+pub mod laws;
