@@ -1,5 +1,5 @@
-//! What the work on tables of reservations of `rsvp_bench` is timed against: a plain Rust program, as one would write it,
-//! that makes the same calls. It prints the same line.
+//! What the work on tables of reservations and on a pool of `rsvp_bench` is timed against: a plain Rust program, as one would
+//! write it, that makes the same calls. It prints the same line.
 use std::collections::{BTreeMap, BTreeSet};
 
 type Session = (u32, u8, u16);
@@ -202,9 +202,63 @@ fn weight(parts: &BTreeMap<Unit, Part>) -> u64 {
     parts.values().map(|part| part.senders.len() as u64 + part.flow.r).sum()
 }
 
+/// Values that run out, by the moment at which they do.
+#[derive(Default)]
+struct Pool {
+    clock: u64,
+    values: BTreeMap<u32, u32>,
+    moments: BTreeSet<(u64, u32)>,
+    due: Vec<u32>,
+}
+
+impl Pool {
+    fn add(&mut self, slot: u32, value: u32, left: u32) {
+        self.values.insert(slot, value);
+        self.moments.insert((self.clock + u64::from(left), slot));
+    }
+
+    fn advance(&mut self, ms: u32) {
+        self.clock += u64::from(ms);
+        while let Some(&(moment, slot)) = self.moments.first() {
+            if moment > self.clock {
+                break;
+            }
+            self.moments.pop_first();
+            self.due.push(slot);
+        }
+    }
+
+    fn pull_due(&mut self) -> Option<u32> {
+        self.due.pop().and_then(|slot| self.values.remove(&slot))
+    }
+}
+
+fn wait_times(living: u32, times: u64) -> (u64, u64) {
+    let mut pool = Pool::default();
+    let mut served = (0, 0);
+    for _ in 0..times {
+        pool.values.clear();
+        pool.moments.clear();
+        (0..living).for_each(|value| pool.add(value, value, 262_000));
+        for _ in 0..4000 {
+            if pool.pull_due().is_some() {
+                std::process::exit(1);
+            }
+            pool.advance(64);
+            served = (served.0 + 1, served.1 + 64);
+        }
+    }
+    served
+}
+
 fn main() {
     let words: Vec<String> = std::env::args().collect();
     let times: u64 = words[2].parse().unwrap();
+    if let Some(living) = words[1].strip_prefix("wait-") {
+        let (calls, sum) = wait_times(if living == "one" { 1 } else { 1024 }, times);
+        println!("calls {calls} sum {sum}");
+        return;
+    }
     let (verb, is_shared) = match words[1].strip_suffix("-shared") {
         Some(verb) => (verb, true),
         None => (words[1].as_str(), false),

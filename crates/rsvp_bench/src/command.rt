@@ -1,4 +1,5 @@
 //! The command line.
+use crate::pools::Living;
 use crate::tables::{Calls, Desk};
 use crate::trees::{Forest, Until};
 
@@ -9,6 +10,7 @@ pub enum Verb {
     Write,
     Grow(Forest),
     Serve(Desk),
+    Wait(Living),
 }
 
 /// What is timed, and how many times it is done.
@@ -48,6 +50,8 @@ fn verb_of(word: &str) -> Option<Verb> {
         "put-shared" => Some(tables(true, Calls::Refresh)),
         "parts-shared" => Some(tables(true, Calls::Parts)),
         "toward-shared" => Some(tables(true, Calls::Toward)),
+        "wait-one" => Some(Verb::Wait(Living::One)),
+        "wait-all" => Some(Verb::Wait(Living::All)),
         _ => None,
     }
 }

@@ -10,9 +10,13 @@
 //! `rsvp_bench put N` puts each reservation of a full table of fixed filters anew N times; `fill` puts them into the empty
 //! table, `parts` merges what is on interfaces, and `toward` what goes toward a previous hop. With `-shared` behind it the
 //! table is of shared filters. They print how many calls were made, and a sum over what came of them.
+//!
+//! `rsvp_bench wait-one N` lets time pass 4,000 times N times in a pool of 1,024 slots in which one value lives and none runs
+//! out, and `wait-all` where one lives in each slot. They print how many waits were made, and their milliseconds.
 #![tactic(auto)]
 
 mod command;
+mod pools;
 mod reservations;
 mod sample;
 mod tables;
@@ -22,6 +26,7 @@ mod trees;
 mod work;
 
 use command::{Command, Verb, command_of};
+use pools::wait_times;
 use std::process::ExitCode;
 use std::{env, io};
 use tables::serve_times;
@@ -41,7 +46,7 @@ fn main(rt: HostRuntime) -> io::Result<ExitCode> {
     }
     let Some(command) = command_of(&words) else {
         eprintln!(rt;
-            "usage: rsvp_bench read|write|(grow|close|ask|owe)[-apart]|(fill|put|parts|toward)[-shared] N"
+            "usage: rsvp_bench read|write|(grow|close|ask|owe)[-apart]|(fill|put|parts|toward)[-shared]|wait-one|wait-all N"
         )?;
         return Ok(ExitCode::from(USAGE));
     };
@@ -64,6 +69,13 @@ fn main(rt: HostRuntime) -> io::Result<ExitCode> {
         }
         Verb::Serve(desk) => {
             let Some(served) = serve_times(rt.alloc(), desk, times) else {
+                eprintln!(rt; "out of memory")?;
+                return Ok(ExitCode::from(NO_MEMORY));
+            };
+            println!(rt; "calls {} sum {}", served.calls, served.sum)?;
+        }
+        Verb::Wait(living) => {
+            let Some(served) = wait_times(rt.alloc(), living, times) else {
                 eprintln!(rt; "out of memory")?;
                 return Ok(ExitCode::from(NO_MEMORY));
             };

@@ -67,16 +67,16 @@ fn serve<S: Sample>(alloc: Global, calls: Calls, times: u32) -> Option<Served> {
     Some(all)
 }
 
-// Both counts and sums together.
-fn both(a: Served, b: Served) -> Served {
+/// Both counts and sums together.
+pub fn both(a: Served, b: Served) -> Served {
     Served {
         calls: a.calls.wrapping_add(b.calls),
         sum: a.sum.wrapping_add(b.sum),
     }
 }
 
-// One call.
-fn once(sum: u64) -> Served {
+/// One call.
+pub fn once(sum: u64) -> Served {
     Served { calls: 1, sum }
 }
 
