@@ -1,5 +1,6 @@
 //! The lists.
-ghost use Rattle.std.specs.Prelude.{◌≡◌, ◌≤◌, ◌<◌, ◌+◌, ◌-◌, ℕ, IsNone, IfOk, IfSome, length, replicate, slice_set, slice_get, Some};
+ghost use Rattle.std.specs.Prelude.{◌≡◌, ◌≤◌, ◌<◌, ◌+◌, ◌++◌, ◌∷◌, ◌↔◌, [], ℕ, IsTrue, IsNone, IfOk, IfSome, length, slice_set, slice_get, Some, vec_capacity};
+ghost use Rattle.slot_lists.specs.Links.{AreHeads};
 
 use rsvp_base::NoMemory;
 use std::alloc::Global;
@@ -8,109 +9,132 @@ use std::marker::Model;
 /// How many lists there are.
 pub const LISTS: u16 = 259;
 
-/// Slots in lists. Contracts see the list that each slot is in.
+/// Slots in lists. Contracts see the list of each slot that was made, and how many can be made.
 #[derive(Drop)]
 pub struct SlotLists {
-    // Of each slot, and behind the slots of the head of each list, the one behind it and the one before it.
+    // Of the head of each list, and behind the heads of each slot, the one behind it and the one before it.
     next: Vec<u32>,
     prev: Vec<u32>,
     // The list that each slot is in.
     home: Vec<u16>,
+    // How many slots can be made.
+    room: usize,
 }
 
 impl Model for SlotLists {
-    ghost use Rattle.std.specs.Prelude.{ℕ, List};
-    ghost use Rattle.slot_lists.specs.Links.{AreLists};
+    ghost use Rattle.std.specs.Prelude.{◌≤◌, ◌+◌, vec_capacity};
+    ghost use Rattle.slot_lists.specs.Links.{Slots, AreLists};
 
-    ghost Value = { List ℕ };
+    ghost Value = { Slots };
 
-    ghost view = { λ l. l.home.items };
+    ghost view = { λ l. record { homes = l.home.items; room = l.room } };
 
-    ghost invariant = { λ l. AreLists l.next.items l.prev.items l.home.items };
+    // A slot that is made takes no memory: the room was taken at opening.
+    ghost invariant = { λ l. AreLists l.next.items l.prev.items l.home.items l.room × (259 + l.room ≤ vec_capacity l.next) × (259 + l.room ≤ vec_capacity l.prev) × (l.room ≤ vec_capacity l.home) };
 }
 
-// The one behind a slot or a head at first: the slots stand in the first list, one behind the other.
-fn next_at_first(slots: u32, i: u32) -> u32
-    requires { slots ≤ 65536 }
-    ensures slot { i < slots → result ≡ i + 1 }
-    ensures first { i ≡ slots → result ≡ 0 }
-    ensures head { slots < i → result ≡ i }
+// Puts down the heads of empty lists: each leads to itself.
+fn put_heads(links: &mut Vec<u32>)
+    requires none { links.old.items ≡ [] }
+    requires room { 259 ≤ vec_capacity links.old }
+    ensures heads { AreHeads 259 links.new.items }
+    ensures capacity { vec_capacity links.new ≡ vec_capacity links.old }
 {
-    if i < slots {
-        i + 1
-    } else if i == slots {
-        0
-    } else {
-        i
-    }
-}
-
-// The one before a slot or a head at first.
-fn prev_at_first(slots: u32, i: u32) -> u32
-    ensures front { i ≡ 0 → result ≡ slots }
-    ensures slot { 1 ≤ i → i ≤ slots → result ≡ i - 1 }
-    ensures head { slots < i → result ≡ i }
-{
-    if i == 0 {
-        slots
-    } else if i <= slots {
-        i - 1
-    } else {
-        i
+    for list in 0..LISTS {
+        links.push_reserved(u32::from(list));
     }
 }
 
 impl SlotLists {
-    /// So many slots, at most 65,536, all in list 0. They take no memory later. `NoMemory`: the slots could not be had.
-    pub fn open(alloc: Global, slots: usize) -> Result<SlotLists, NoMemory>
-        requires { slots ≤ 65536 }
-        ensures { IfOk result (λ l. l ≡ replicate slots 0) }
+    /// Room for so many slots, at most 65,536, of which none is made. They take no memory later. `NoMemory`: the room could
+    /// not be had.
+    pub fn open(alloc: Global, room: usize) -> Result<SlotLists, NoMemory>
+        requires { room ≤ 65536 }
+        ensures { IfOk result (λ l. l ≡ record { homes = []; room = room }) }
     {
-        let all = slots + usize::from(LISTS);
+        let all = usize::from(LISTS) + room;
         let mut next = Vec::with_capacity(alloc, all)?;
         let mut prev = Vec::with_capacity(alloc, all)?;
-        for i in 0..all {
-            next.push(next_at_first(slots as u32, i as u32))?;
-            prev.push(prev_at_first(slots as u32, i as u32))?;
-        }
-        let mut home = Vec::with_capacity(alloc, slots)?;
-        for _slot in 0..slots {
-            home.push(0u16)?;
-        }
-        Ok(SlotLists { next, prev, home })
+        let home = Vec::with_capacity(alloc, room)?;
+        put_heads(&mut next);
+        put_heads(&mut prev);
+        Ok(SlotLists {
+            next,
+            prev,
+            home,
+            room,
+        })
+    }
+
+    /// Whether as many slots were made as there is room for.
+    pub fn is_full(&self) -> bool
+        ensures { IsTrue result ↔ (self.now.room ≤ length self.now.homes) }
+    {
+        self.room <= self.home.len()
+    }
+
+    /// Makes the next slot, behind all slots of a list. Its number is how many were made before it.
+    pub fn push(&mut self, list: u16) -> u32
+        requires room { length self.old.homes < self.old.room }
+        requires list { list < 259 }
+        ensures slot { result ≡ length self.old.homes }
+        ensures made { self.new ≡ record { homes = self.old.homes ++ list ∷ []; room = self.old.room } }
+    {
+        let slot = self.home.len() as u32;
+        let i = u32::from(LISTS) + slot;
+        let head = u32::from(list);
+        let last = self.prev[head as usize];
+        self.next[last as usize] = i;
+        self.prev[head as usize] = i;
+        self.next.push_reserved(head);
+        self.prev.push_reserved(last);
+        self.home.push_reserved(list);
+        slot
     }
 
     /// Takes a slot out of its list, and puts it behind all slots of a list, which may be the one that it was in.
     pub fn shift(&mut self, slot: u32, list: u16)
-        requires here { slot < length self.old }
+        requires here { slot < length self.old.homes }
         requires list { list < 259 }
-        ensures { self.new ≡ slice_set self.old slot list }
+        ensures { self.new ≡ record { homes = slice_set self.old.homes slot list; room = self.old.room } }
     {
-        let behind = self.next[slot as usize];
-        let before = self.prev[slot as usize];
+        let at = usize::from(LISTS) + slot as usize;
+        let behind = self.next[at];
+        let before = self.prev[at];
         self.next[before as usize] = behind;
         self.prev[behind as usize] = before;
-        let head = self.home.len() as u32 + u32::from(list);
+        let i = at as u32;
+        let head = u32::from(list);
         let last = self.prev[head as usize];
-        self.next[last as usize] = slot;
-        self.next[slot as usize] = head;
-        self.prev[head as usize] = slot;
-        self.prev[slot as usize] = last;
+        self.next[last as usize] = i;
+        self.next[at] = head;
+        self.prev[head as usize] = i;
+        self.prev[at] = last;
         self.home[slot as usize] = list;
     }
 
     /// The first slot of a list. `None` exactly where it has none.
     pub fn first(&self, list: u16) -> Option<u32>
         requires { list < 259 }
-        ensures some { IfSome result (λ s. slice_get self.now s ≡ Some list) }
-        ensures none { IsNone result → (s : ℕ) → slice_get self.now s ≡ Some list → ⊥ }
+        ensures some { IfSome result (λ s. slice_get self.now.homes s ≡ Some list) }
+        ensures none { IsNone result → (s : ℕ) → slice_get self.now.homes s ≡ Some list → ⊥ }
     {
-        let slots = self.home.len();
-        let first = self.next[slots + usize::from(list)];
-        if (first as usize) < slots {
-            Some(first)
+        let first = self.next[usize::from(list)];
+        if first >= u32::from(LISTS) {
+            Some(first - u32::from(LISTS))
         } else {
             None
         }
+    }
+
+    /// Unmakes all slots. The room stays.
+    pub fn clear(&mut self)
+        ensures { self.new ≡ record { homes = []; room = self.old.room } }
+    {
+        self.next.clear();
+        self.prev.clear();
+        self.home.clear();
+        put_heads(&mut self.next);
+        put_heads(&mut self.prev);
     }
 }

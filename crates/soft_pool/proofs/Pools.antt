@@ -1,15 +1,15 @@
 -- The memory of a pool after each change, and what it shows.
-use Rattle.std.proofs.Common.{◌≡◌, ◌<◌, ◌≤◌, ◌+◌, ◌-◌, ◌/◌, ◌%◌, ◌||◌, ℕ, zero, suc, true, false, cond, List, [], ◌∷◌, length, set, get_or, map as each, Option, Some, None, refl, sym, ap, ◌∙◌, arith, inl, inr}
+use Rattle.std.proofs.Common.{◌≡◌, ◌<◌, ◌≤◌, ◌+◌, ◌-◌, ◌/◌, ◌%◌, ◌||◌, ◌++◌, ℕ, zero, suc, true, false, cond, List, [], ◌∷◌, length, set, get_or, map as each, Option, Some, None, refl, sym, ap, ◌∙◌, arith, inl, inr}
 use Rattle.std.specs.Prelude.{slice_get, nat_le, replicate}
 use Rattle.std.specs.List.{list_any}
 use Rattle.std.proofs.lemmas.Option.{slice_get_read}
 use Rattle.std.proofs.lemmas.Bool.{cases_lt, le-leb, lt-leb, both_ways}
-use Rattle.std.proofs.lemmas.List.{length-map, length-set, map-set, length-replicate}
+use Rattle.std.proofs.lemmas.List.{length-map, length-set, length-append, length-replicate, map-set, map-append, append_assoc, set-append_left, set-append_right}
 use Rattle.soft_pool.specs.declared.cell.Cell.{Cell}
 use Rattle.soft_pool.specs.declared.cell.Cell.TheVariants.{Free, Live, Due}
 use Rattle.soft_pool.specs.declared.entry.Entry.{Entry}
 use Rattle.soft_pool.specs.Cells.{NoneFree, NoneDue, is_live, aged, cell_is_free, cell_is_due}
-use Rattle.soft_pool.specs.Wheel.{IsPool, cell_of, list_of, list_at, shown, set_back}
+use Rattle.soft_pool.specs.Wheel.{IsPool, cells, cell_of, list_of, list_at, shown, set_back}
 use Rattle.soft_pool.proofs.Slots.{within, set_same, read_each, read_back}
 use Rattle.soft_pool.proofs.Passing.{due_list, live_list}
 
@@ -61,78 +61,150 @@ not_due clock (Some v) m ne =
       | inr le ↦ absurd (ne (due_list clock v m le))
     ]
 
-module _ {T : Type 0} (clock : ℕ) where
-  none_free_in : (es : List (Entry T)) → ((i : ℕ) → slice_get (each (list_at clock) es) i ≡ Some 0 → ⊥) → NoneFree (each (shown clock) es)
-  none_free_in [] none = refl
-  none_free_in (e ∷ es) none = ap (λ b. b || list_any cell_is_free (each (shown clock) es)) (not_free clock e.value e.moment (λ is. none 0 (ap Some is))) ∙ none_free_in es (λ i. none (suc i))
+-- ---- slots that were not made yet
+append_read : {A : Type 0} (xs ys : List A) (i : ℕ) (x : A) → slice_get xs i ≡ Some x → slice_get (xs ++ ys) i ≡ Some x
+append_read [] ys i x e = cc
+append_read (y ∷ xs) ys zero x e = e
+append_read (y ∷ xs) ys (suc i) x e = append_read xs ys i x e
 
-  none_due_in : (es : List (Entry T)) → ((i : ℕ) → slice_get (each (list_at clock) es) i ≡ Some 1 → ⊥) → NoneDue (each (shown clock) es)
-  none_due_in [] none = refl
-  none_due_in (e ∷ es) none = ap (λ b. b || list_any cell_is_due (each (shown clock) es)) (not_due clock e.value e.moment (λ is. none 0 (ap Some is))) ∙ none_due_in es (λ i. none (suc i))
+seam_read : {A : Type 0} (xs : List A) (y : A) (ys : List A) → slice_get (xs ++ y ∷ ys) (length xs) ≡ Some y
+seam_read [] y ys = refl
+seam_read (x ∷ xs) y ys = seam_read xs y ys
 
-  module _ (es : List (Entry T)) (lists : List ℕ) (p : IsPool es lists clock) where
+none_due_free : (T : Type 0) (n : ℕ) → list_any cell_is_due (replicate {A = Cell T} n Free) ≡ false
+none_due_free T zero = refl
+none_due_free T (suc n) = none_due_free T n
+
+none_live_free : (T : Type 0) (n i : ℕ) → is_live (slice_get (replicate {A = Cell T} n Free) i) ≡ false
+none_live_free T zero i = refl
+none_live_free T (suc n) zero = refl
+none_live_free T (suc n) (suc i) = none_live_free T n i
+
+aged_free : (T : Type 0) (ms n : ℕ) → each (aged ms) (replicate {A = Cell T} n Free) ≡ replicate n Free
+aged_free T ms zero = refl
+aged_free T ms (suc n) = ap (λ cs. Free ∷ cs) (aged_free T ms n)
+
+all_free : {T : Type 0} (cs : List (Cell T)) → replicate {A = Cell T} (length cs) Free ≡ each (λ _. Free) cs
+all_free [] = refl
+all_free (c ∷ cs) = ap (λ cs. Free ∷ cs) (all_free cs)
+
+module _ {T : Type 0} (clock room : ℕ) where
+  none_free_in : (es : List (Entry T)) (tail : List (Cell T)) → NoneFree tail → ((i : ℕ) → slice_get (each (list_at clock) es) i ≡ Some 0 → ⊥) → NoneFree (each (shown clock) es ++ tail)
+  none_free_in [] tail t none = t
+  none_free_in (e ∷ es) tail t none =
+      ap (λ b. b || list_any cell_is_free (each (shown clock) es ++ tail)) (not_free clock e.value e.moment (λ is. none 0 (ap Some is))) ∙ none_free_in es tail t (λ i. none (suc i))
+
+  none_due_in : (es : List (Entry T)) (tail : List (Cell T)) → NoneDue tail → ((i : ℕ) → slice_get (each (list_at clock) es) i ≡ Some 1 → ⊥) → NoneDue (each (shown clock) es ++ tail)
+  none_due_in [] tail t none = t
+  none_due_in (e ∷ es) tail t none =
+      ap (λ b. b || list_any cell_is_due (each (shown clock) es ++ tail)) (not_due clock e.value e.moment (λ is. none 0 (ap Some is))) ∙ none_due_in es tail t (λ i. none (suc i))
+
+  module _ (es : List (Entry T)) (lists : List ℕ) (p : IsPool es lists room clock) where
     pub sizes : length lists ≡ length es
-    sizes = ap length p.lists_are ∙ length-map es (list_at clock)
+    sizes = ap length p.homes_are ∙ length-map es (list_at clock)
 
-    pub none_free : ((i : ℕ) → slice_get lists i ≡ Some 0 → ⊥) → NoneFree (each (shown clock) es)
-    none_free none = none_free_in es (λ i is. none i (ap (λ xs. slice_get xs i) p.lists_are ∙ is))
+    -- all slots are made, and none is in the list of the free
+    pub none_free : room ≤ length lists → ((i : ℕ) → slice_get lists i ≡ Some 0 → ⊥) → NoneFree (cells clock room es)
+    none_free full none =
+        let made : room - length es ≡ 0 = omega (arith, full, sizes) in
+        none_free_in es (replicate (room - length es) Free) (ap (λ n. list_any cell_is_free (replicate {A = Cell T} n Free)) made) (λ i is. none i (ap (λ xs. slice_get xs i) p.homes_are ∙ is))
 
-    pub none_due : ((i : ℕ) → slice_get lists i ≡ Some 1 → ⊥) → NoneDue (each (shown clock) es)
-    none_due none = none_due_in es (λ i is. none i (ap (λ xs. slice_get xs i) p.lists_are ∙ is))
+    pub none_due : ((i : ℕ) → slice_get lists i ≡ Some 1 → ⊥) → NoneDue (cells clock room es)
+    none_due none = none_due_in es (replicate (room - length es) Free) (none_due_free T (room - length es)) (λ i is. none i (ap (λ xs. slice_get xs i) p.homes_are ∙ is))
 
     -- the entry of a slot in a list
     found : (i list : ℕ) → slice_get lists i ≡ Some list → (e : Entry T) × (slice_get es i ≡ Some e) × (list_at clock e ≡ list)
-    found i list is = read_back (list_at clock) es i list (ap (λ xs. slice_get xs i) (sym p.lists_are) ∙ is)
+    found i list is = read_back (list_at clock) es i list (ap (λ xs. slice_get xs i) (sym p.homes_are) ∙ is)
 
-    pub found_free : (i : ℕ) → slice_get lists i ≡ Some 0 → slice_get (each (shown clock) es) i ≡ Some Free
-    found_free i is = let e = found i 0 is in read_each (shown clock) es i e.0 e.1 ∙ ap Some (free_of clock e.0.value e.0.moment e.2)
+    pub found_free : (i : ℕ) → slice_get lists i ≡ Some 0 → slice_get (cells clock room es) i ≡ Some Free
+    found_free i is =
+        let e = found i 0 is in
+        append_read (each (shown clock) es) (replicate (room - length es) Free) i Free (read_each (shown clock) es i e.0 e.1 ∙ ap Some (free_of clock e.0.value e.0.moment e.2))
 
-    pub found_due : (i : ℕ) → slice_get lists i ≡ Some 1 → (e : Entry T) × (v : T) × (slice_get es i ≡ Some e) × (e.value ≡ Some v) × (slice_get (each (shown clock) es) i ≡ Some (Due v))
+    pub found_due : (i : ℕ) → slice_get lists i ≡ Some 1 → (e : Entry T) × (v : T) × (slice_get es i ≡ Some e) × (e.value ≡ Some v) × (slice_get (cells clock room es) i ≡ Some (Due v))
     found_due i is =
         let e = found i 1 is in
         let d = due_of clock e.0.value e.0.moment e.2 in
-        (e.0, d.0, e.1, d.1, read_each (shown clock) es i e.0 e.1 ∙ ap Some d.2)
+        (e.0, d.0, e.1, d.1, append_read (each (shown clock) es) (replicate (room - length es) Free) i (Due d.0) (read_each (shown clock) es i e.0 e.1 ∙ ap Some d.2))
 
     -- the memory after one slot was changed
-    pub pool_placed : (fs : List (Entry T)) (ls : List ℕ) (i list : ℕ) (e : Entry T) → fs ≡ set es i e → ls ≡ set lists i list → list ≡ list_at clock e → IsPool fs ls clock
+    pub pool_placed : (fs : List (Entry T)) (ls : List ℕ) (i list : ℕ) (e : Entry T) → fs ≡ set es i e → ls ≡ set lists i list → list ≡ list_at clock e → IsPool fs ls room clock
     pool_placed fs ls i list e is at list_is =
         record {
           few = omega (arith, p.few, ap length is, length-set es i e);
-          lists_are = at ∙ ap (λ l. set lists i l) list_is ∙ ap (λ xs. set xs i (list_at clock e)) p.lists_are ∙ sym (map-set (list_at clock) es i e) ∙ ap (each (list_at clock)) (sym is);
+          most = p.most;
+          homes_are = at ∙ ap (λ l. set lists i l) list_is ∙ ap (λ xs. set xs i (list_at clock e)) p.homes_are ∙ sym (map-set (list_at clock) es i e) ∙ ap (each (list_at clock)) (sym is);
           early = p.early;
         }
 
     -- and after an entry whose list stays the same
-    pub pool_changed : (fs : List (Entry T)) (i : ℕ) (e f : Entry T) → slice_get es i ≡ Some e → fs ≡ set es i f → list_at clock f ≡ list_at clock e → IsPool fs lists clock
-    pool_changed fs i e f e_is is same = pool_placed fs lists i (list_at clock f) f is (sym (ap (set lists i) same ∙ set_same lists i (list_at clock e) (ap (λ xs. slice_get xs i) p.lists_are ∙ read_each (list_at clock) es i e e_is))) refl
+    pub pool_changed : (fs : List (Entry T)) (i : ℕ) (e f : Entry T) → slice_get es i ≡ Some e → fs ≡ set es i f → list_at clock f ≡ list_at clock e → IsPool fs lists room clock
+    pool_changed fs i e f e_is is same = pool_placed fs lists i (list_at clock f) f is (sym (ap (set lists i) same ∙ set_same lists i (list_at clock e) (ap (λ xs. slice_get xs i) p.homes_are ∙ read_each (list_at clock) es i e e_is))) refl
 
 -- a live slot of a pool
-pub live_in : {T : Type 0} (clock : ℕ) (es : List (Entry T)) (i : ℕ) → is_live (slice_get (each (shown clock) es) i) ≡ true → (e : Entry T) × (v : T) × (slice_get es i ≡ Some e) × (e.value ≡ Some v) × (clock < e.moment)
-live_in clock [] i live = absurd (both_ways _ refl live)
-live_in clock (e ∷ es) zero live = let l = live_of clock e.value e.moment live in (e, l.0, refl, l.1, l.2)
-live_in clock (e ∷ es) (suc i) live = live_in clock es i live
+live_made : {T : Type 0} (clock n : ℕ) (es : List (Entry T)) (i : ℕ) → is_live (slice_get (each (shown clock) es ++ replicate n Free) i) ≡ true → (e : Entry T) × (v : T) × (slice_get es i ≡ Some e) × (e.value ≡ Some v) × (clock < e.moment)
+live_made {T} clock n [] i live = absurd (both_ways _ (none_live_free T n i) live)
+live_made clock n (e ∷ es) zero live = let l = live_of clock e.value e.moment live in (e, l.0, refl, l.1, l.2)
+live_made clock n (e ∷ es) (suc i) live = live_made clock n es i live
 
-pub live_at : {T : Type 0} (clock : ℕ) (es : List (Entry T)) (i : ℕ) (e : Entry T) → is_live (slice_get (each (shown clock) es) i) ≡ true → slice_get es i ≡ Some e → clock < e.moment
-live_at clock es i e live is =
-    let l = live_in clock es i live in
+pub live_in : {T : Type 0} (clock room : ℕ) (es : List (Entry T)) (i : ℕ) → is_live (slice_get (cells clock room es) i) ≡ true → (e : Entry T) × (v : T) × (slice_get es i ≡ Some e) × (e.value ≡ Some v) × (clock < e.moment)
+live_in clock room es i live = live_made clock (room - length es) es i live
+
+-- it was made
+pub live_within : {T : Type 0} (clock room : ℕ) (es : List (Entry T)) (i : ℕ) → is_live (slice_get (cells clock room es) i) ≡ true → i < length es
+live_within clock room es i live = let l = live_in clock room es i live in within es i l.0 l.2
+
+pub live_at : {T : Type 0} (clock room : ℕ) (es : List (Entry T)) (i : ℕ) (e : Entry T) → is_live (slice_get (cells clock room es) i) ≡ true → slice_get es i ≡ Some e → clock < e.moment
+live_at clock room es i e live is =
+    let l = live_in clock room es i live in
     let same : Some l.0 ≡ Some e = sym l.2 ∙ is in
     let eq : l.0 ≡ e = cc in
     omega (arith, l.4, ap (λ (e : Entry _). e.moment) eq)
 
-pub live_now : {T : Type 0} (clock : ℕ) (es : List (Entry T)) (i : ℕ) (e : Entry T) → is_live (slice_get (each (shown clock) es) i) ≡ true → e ≡ get_or es i e → (v : T) × (slice_get es i ≡ Some e) × (e.value ≡ Some v) × (clock < e.moment)
-live_now clock es i e live eq =
-    let l = live_in clock es i live in
+pub live_now : {T : Type 0} (clock room : ℕ) (es : List (Entry T)) (i : ℕ) (e : Entry T) → is_live (slice_get (cells clock room es) i) ≡ true → e ≡ get_or es i e → (v : T) × (slice_get es i ≡ Some e) × (e.value ≡ Some v) × (clock < e.moment)
+live_now clock room es i e live eq =
+    let l = live_in clock room es i live in
     let is : slice_get es i ≡ Some e = slice_get_read es (length es) i e refl (within es i l.0 l.2) eq in
     let same : Some l.0 ≡ Some e = sym l.2 ∙ is in
     let l_e : l.0 ≡ e = cc in
     (l.1, is, ap (λ (e : Entry _). e.value) (sym l_e) ∙ l.3, omega (arith, l.4, ap (λ (e : Entry _). e.moment) l_e))
 
-pub live_read : {T : Type 0} (clock : ℕ) (es : List (Entry T)) (i : ℕ) (e : Entry T) (v : T) → slice_get es i ≡ Some e → e.value ≡ Some v → clock < e.moment → slice_get (each (shown clock) es) i ≡ Some (Live v (e.moment - clock))
-live_read clock es i e v is has lt = read_each (shown clock) es i e is ∙ ap (λ o. Some (cell_of clock o e.moment)) has ∙ ap Some (live_cell clock v e.moment lt)
+pub live_read : {T : Type 0} (clock room : ℕ) (es : List (Entry T)) (i : ℕ) (e : Entry T) (v : T) → slice_get es i ≡ Some e → e.value ≡ Some v → clock < e.moment → slice_get (cells clock room es) i ≡ Some (Live v (e.moment - clock))
+live_read clock room es i e v is has lt =
+    append_read (each (shown clock) es) (replicate (room - length es) Free) i (Live v (e.moment - clock)) (read_each (shown clock) es i e is ∙ ap (λ o. Some (cell_of clock o e.moment)) has ∙ ap Some (live_cell clock v e.moment lt))
 
 -- what a pool shows after one slot was changed
-pub shows : {T : Type 0} (clock : ℕ) (es fs : List (Entry T)) (i : ℕ) (e : Entry T) (c : Cell T) → fs ≡ set es i e → shown clock e ≡ c → each (shown clock) fs ≡ set (each (shown clock) es) i c
-shows clock es fs i e c is shown_is = ap (each (shown clock)) is ∙ map-set (shown clock) es i e ∙ ap (set (each (shown clock) es) i) shown_is
+pub shows : {T : Type 0} (clock room : ℕ) (es fs : List (Entry T)) (i : ℕ) (e : Entry T) (c : Cell T) → i < length es → fs ≡ set es i e → shown clock e ≡ c → cells clock room fs ≡ set (cells clock room es) i c
+shows {T} clock room es fs i e c lt is shown_is =
+    let size : length fs ≡ length es = ap length is ∙ length-set es i e in
+    let few : i < length (each (shown clock) es) = omega (arith, lt, length-map es (shown clock)) in
+    ap (λ n. each (shown clock) fs ++ replicate {A = Cell T} (room - n) Free) size
+    ∙ ap (λ cs. cs ++ replicate {A = Cell T} (room - length es) Free) (ap (each (shown clock)) is ∙ map-set (shown clock) es i e ∙ ap (set (each (shown clock) es) i) shown_is)
+    ∙ sym (set-append_left (each (shown clock) es) (replicate (room - length es) Free) i c few)
+
+-- and after one was made
+module _ {T : Type 0} (clock room : ℕ) (es : List (Entry T)) (lt : length es < room) where
+  left : ℕ
+  left = room - length es - 1
+
+  one_left : cells clock room es ≡ each (shown clock) es ++ Free ∷ replicate {A = Cell T} left Free
+  unfolding left
+  one_left = let some : room - length es ≡ suc (room - length es - 1) = omega (arith, lt) in ap (λ n. each (shown clock) es ++ replicate {A = Cell T} n Free) some
+
+  pub next_free : slice_get (cells clock room es) (length es) ≡ Some Free
+  next_free = ap (λ cs. slice_get cs (length es)) one_left ∙ ap (slice_get (each (shown clock) es ++ Free ∷ replicate {A = Cell T} left Free)) (sym (length-map es (shown clock))) ∙ seam_read (each (shown clock) es) Free (replicate left Free)
+
+  pub grows : (fs : List (Entry T)) (e : Entry T) (c : Cell T) → fs ≡ es ++ e ∷ [] → shown clock e ≡ c → cells clock room fs ≡ set (cells clock room es) (length es) c
+  unfolding left
+  grows fs e c is shown_is =
+      let size : room - length fs ≡ room - length es - 1 = omega (arith, ap length is, length-append es (e ∷ [])) in
+      let none : length es - length es ≡ 0 = omega arith in
+      let tail : List (Cell T) = replicate left Free in
+      let shown_es : List (Cell T) = each (shown clock) es in
+      ap (λ n. each (shown clock) fs ++ replicate {A = Cell T} n Free) size
+      ∙ ap (λ cs. cs ++ tail) (ap (each (shown clock)) is ∙ map-append (shown clock) es (e ∷ []) ∙ ap (λ c. shown_es ++ c ∷ []) shown_is)
+      ∙ append_assoc shown_es (c ∷ []) tail
+      ∙ sym (ap (λ cs. set cs (length es) c) one_left ∙ set-append_right shown_es (Free ∷ tail) (length es) (length es) c (length-map es (shown clock)) (omega arith) ∙ ap (λ n. shown_es ++ set (Free ∷ tail) n c) none)
 
 -- ---- time
 aged_cell : {T : Type 0} (clock ms : ℕ) (o : Option T) (m : ℕ) → cell_of (clock + ms) o m ≡ aged ms (cell_of clock o m)
@@ -148,9 +220,14 @@ aged_cell clock ms (Some v) m =
       | inr le ↦ due_cell (clock + ms) v m (omega (arith, le)) ∙ sym (ap (aged ms) (due_cell clock v m le))
     ]
 
-pub aged_all : {T : Type 0} (clock ms : ℕ) (es : List (Entry T)) → each (shown (clock + ms)) es ≡ each (aged ms) (each (shown clock) es)
-aged_all clock ms [] = refl
-aged_all clock ms (e ∷ es) = ap (λ c. c ∷ each (shown (clock + ms)) es) (aged_cell clock ms e.value e.moment) ∙ ap (λ cs. aged ms (shown clock e) ∷ cs) (aged_all clock ms es)
+aged_made : {T : Type 0} (clock ms : ℕ) (es : List (Entry T)) → each (shown (clock + ms)) es ≡ each (aged ms) (each (shown clock) es)
+aged_made clock ms [] = refl
+aged_made clock ms (e ∷ es) = ap (λ c. c ∷ each (shown (clock + ms)) es) (aged_cell clock ms e.value e.moment) ∙ ap (λ cs. aged ms (shown clock e) ∷ cs) (aged_made clock ms es)
+
+pub aged_all : {T : Type 0} (clock room ms : ℕ) (es : List (Entry T)) → cells (clock + ms) room es ≡ each (aged ms) (cells clock room es)
+aged_all {T} clock room ms es =
+    let tail : List (Cell T) = replicate (room - length es) Free in
+    ap (λ cs. cs ++ tail) (aged_made clock ms es) ∙ ap (λ cs. each (aged ms) (each (shown clock) es) ++ cs) (sym (aged_free T ms (room - length es))) ∙ sym (map-append (aged ms) (each (shown clock) es) tail)
 
 -- ---- the clock set back by whole turns
 module _ (clock : ℕ) where
@@ -191,34 +268,17 @@ module _ {T : Type 0} (clock : ℕ) where
 abbrev pub empty : {T : Type 0} → Entry T
 empty = record { value = None; moment = 0 }
 
-pub lists_cleared : {T : Type 0} (clock : ℕ) (es : List (Entry T)) → each {B = ℕ} (λ _. 0) (each (list_at clock) es) ≡ each (list_at clock) (each {B = Entry T} (λ _. empty) es)
-lists_cleared clock [] = refl
-lists_cleared clock (e ∷ es) = ap (λ xs. 0 ∷ xs) (lists_cleared clock es)
+pub opened : (T : Type 0) (room : ℕ) → room ≤ 65536 → IsPool {T = T} [] [] room 0
+opened T room most = record { few = omega arith; most = most; homes_are = refl; early = omega arith }
 
-pub shown_cleared : {T : Type 0} (clock : ℕ) (es : List (Entry T)) → each (shown clock) (each {B = Entry T} (λ _. empty) es) ≡ each {B = Cell T} (λ _. Free) (each (shown clock) es)
-shown_cleared clock [] = refl
-shown_cleared clock (e ∷ es) = ap (λ xs. Free ∷ xs) (shown_cleared clock es)
+pub cleared : {T : Type 0} (es : List (Entry T)) (lists : List ℕ) (room clock : ℕ) → IsPool es lists room clock → IsPool {T = T} [] [] room clock
+cleared es lists room clock p = record { few = omega arith; most = p.most; homes_are = refl; early = p.early }
 
-lists_first : (T : Type 0) (n : ℕ) → replicate {A = ℕ} n 0 ≡ each (list_at 0) (replicate {A = Entry T} n empty)
-lists_first T zero = refl
-lists_first T (suc n) = ap (λ xs. 0 ∷ xs) (lists_first T n)
+pub shown_opened : (T : Type 0) (clock room : ℕ) → cells {T = T} clock room [] ≡ replicate room Free
+shown_opened T clock room = let all : room - 0 ≡ room = omega arith in ap (λ n. replicate {A = Cell T} n Free) all
 
-pub shown_first : {T : Type 0} (n : ℕ) → each (shown 0) (replicate {A = Entry T} n empty) ≡ replicate {A = Cell T} n Free
-shown_first zero = refl
-shown_first (suc n) = ap (λ xs. Free ∷ xs) (shown_first n)
-
-pub first_pool : {T : Type 0} (n : ℕ) (es : List (Entry T)) (lists : List ℕ) → n ≤ 65536 → es ≡ replicate n empty → lists ≡ replicate n 0 → IsPool es lists 0
-first_pool {T} n es lists few is at =
-    record {
-      few = omega (arith, few, ap length is, length-replicate {A = Entry T} n empty);
-      lists_are = at ∙ lists_first T n ∙ ap (each (list_at 0)) (sym is);
-      early = omega arith;
-    }
-
-pub pool_cleared : {T : Type 0} (clock : ℕ) (es : List (Entry T)) (lists : List ℕ) → IsPool es lists clock → (fs : List (Entry T)) (ls : List ℕ) → fs ≡ each {B = Entry T} (λ _. empty) es → ls ≡ each {B = ℕ} (λ _. 0) lists → IsPool fs ls clock
-pool_cleared {T} clock es lists p fs ls is at =
-    record {
-      few = omega (arith, p.few, ap length is, length-map {B = Entry T} es (λ _. empty));
-      lists_are = at ∙ ap (each {B = ℕ} (λ _. 0)) p.lists_are ∙ lists_cleared clock es ∙ ap (each (list_at clock)) (sym is);
-      early = p.early;
-    }
+pub shown_cleared : {T : Type 0} (es : List (Entry T)) (lists : List ℕ) (room clock : ℕ) → IsPool es lists room clock → cells {T = T} clock room [] ≡ each (λ _. Free) (cells clock room es)
+shown_cleared {T} es lists room clock p =
+    let tail : List (Cell T) = replicate (room - length es) Free in
+    let size : room ≡ length (cells clock room es) = omega (arith, p.few, length-append (each (shown clock) es) tail, length-map es (shown clock), length-replicate {A = Cell T} (room - length es) Free) in
+    shown_opened T clock room ∙ ap (λ n. replicate {A = Cell T} n Free) size ∙ all_free (cells clock room es)

@@ -1,5 +1,5 @@
 -- What a pool keeps of its slots at a moment of its clock, and the list of each slot.
-use Rattle.std.specs.Prelude.{◌≡◌, ◌<◌, ◌≤◌, ◌+◌, ◌-◌, ◌/◌, ◌%◌, ◌^◌, ℕ, cond, Option, Some, None, List, length, map, nat_le}
+use Rattle.std.specs.Prelude.{◌≡◌, ◌<◌, ◌≤◌, ◌+◌, ◌-◌, ◌/◌, ◌%◌, ◌^◌, ℕ, cond, Option, Some, None, List, length, map, replicate, ◌++◌, nat_le}
 use Rattle.soft_pool.specs.declared.cell.Cell.{Cell}
 use Rattle.soft_pool.specs.declared.cell.Cell.TheVariants.{Free, Live, Due}
 use Rattle.soft_pool.specs.declared.entry.Entry.{Entry}
@@ -28,8 +28,13 @@ list_at clock e = list_of clock e.value e.moment
 abbrev pub set_back : {T : Type 0} → ℕ → Entry T → Entry T
 set_back by e = record { value = e.value; moment = e.moment - by }
 
--- a pool's memory: each slot stands in its list
-pub record IsPool {T : Type 0} (entries : List (Entry T)) (lists : List ℕ) (clock : ℕ) : Type 0 where
-  pub few : length entries ≤ 65536
-  pub lists_are : lists ≡ map (list_at clock) entries
+-- what is in the slots of a pool with so much room: those that were not made yet are free
+abbrev pub cells : {T : Type 0} → ℕ → ℕ → List (Entry T) → List (Cell T)
+cells clock room entries = map (shown clock) entries ++ replicate (room - length entries) Free
+
+-- a pool's memory: each slot that was made stands in its list
+pub record IsPool {T : Type 0} (entries : List (Entry T)) (homes : List ℕ) (room clock : ℕ) : Type 0 where
+  pub few : length entries ≤ room
+  pub most : room ≤ 65536
+  pub homes_are : homes ≡ map (list_at clock) entries
   pub early : clock < 2 ^ 63

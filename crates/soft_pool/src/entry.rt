@@ -1,5 +1,5 @@
 //! What a pool keeps of a slot, and the list that the slot belongs to.
-ghost use Rattle.std.specs.Prelude.{◌≡◌, ◌<◌, ◌≤◌, length, slice_get, slice_set, map, Some, None};
+ghost use Rattle.std.specs.Prelude.{◌≡◌, ◌<◌, ◌++◌, ◌∷◌, [], length, slice_get, slice_set, vec_capacity, Some, None};
 ghost use Rattle.soft_pool.specs.declared.entry.Entry.{Entry};
 ghost use Rattle.soft_pool.specs.Wheel.{list_at, wheel_list};
 
@@ -55,13 +55,34 @@ pub(crate) fn place<T: Drop>(
     clock: u64,
 ) -> Entry<T>
     requires here { slot < length entries.old.items }
-    requires size { length lists.old ≡ length entries.old.items }
+    requires size { length lists.old.homes ≡ length entries.old.items }
     ensures was { slice_get entries.old.items slot ≡ Some result }
     ensures entries { entries.new.items ≡ slice_set entries.old.items slot entry }
-    ensures lists { lists.new ≡ slice_set lists.old slot (list_at clock entry) }
+    ensures lists { lists.new ≡ record { homes = slice_set lists.old.homes slot (list_at clock entry); room = lists.old.room } }
+    ensures capacity { vec_capacity entries.new ≡ vec_capacity entries.old }
 {
     lists.shift(slot, list_for(&entry, clock));
     mem::replace(&mut entries[slot as usize], entry)
+}
+
+// Makes the next slot, with an entry in it. It takes no memory.
+pub(crate) fn make<T: Drop>(
+    entries: &mut Vec<Entry<T>>,
+    lists: &mut SlotLists,
+    entry: Entry<T>,
+    clock: u64,
+) -> u32
+    requires room { length lists.old.homes < lists.old.room }
+    requires size { length lists.old.homes ≡ length entries.old.items }
+    requires capacity { length entries.old.items < vec_capacity entries.old }
+    ensures slot { result ≡ length entries.old.items }
+    ensures entries { entries.new.items ≡ entries.old.items ++ entry ∷ [] }
+    ensures lists { lists.new ≡ record { homes = lists.old.homes ++ list_at clock entry ∷ []; room = lists.old.room } }
+    ensures capacity { vec_capacity entries.new ≡ vec_capacity entries.old }
+{
+    let slot = lists.push(list_for(&entry, clock));
+    entries.push_reserved(entry);
+    slot
 }
 
 // Takes the value of a slot out.
@@ -71,25 +92,14 @@ pub(crate) fn take<T: Drop>(
     slot: u32,
 ) -> Option<T>
     requires here { slot < length entries.old.items }
-    requires size { length lists.old ≡ length entries.old.items }
+    requires size { length lists.old.homes ≡ length entries.old.items }
     ensures entries { (e : Entry T) × (slice_get entries.old.items slot ≡ Some e) × (result ≡ e.value) × (entries.new.items ≡ slice_set entries.old.items slot (record { value = None; moment = 0 })) }
-    ensures lists { lists.new ≡ slice_set lists.old slot 0 }
+    ensures lists { lists.new ≡ record { homes = slice_set lists.old.homes slot 0; room = lists.old.room } }
+    ensures capacity { vec_capacity entries.new ≡ vec_capacity entries.old }
 {
     let free = Entry {
         value: None,
         moment: 0,
     };
     place(entries, lists, slot, free, 0).value
-}
-
-// Takes the value of every slot out.
-pub(crate) fn take_all<T: Drop>(entries: &mut Vec<Entry<T>>, lists: &mut SlotLists)
-    requires few { length entries.old.items ≤ 65536 }
-    requires size { length lists.old ≡ length entries.old.items }
-    ensures entries { entries.new.items ≡ map (λ _. record { value = None; moment = 0 }) entries.old.items }
-    ensures lists { lists.new ≡ map (λ _. 0) lists.old }
-{
-    for i in 0..entries.len() {
-        take(entries, lists, i as u32);
-    }
 }

@@ -2,7 +2,8 @@
 //!
 //! A `Pool` has a fixed number of slots. A slot is free, or live with a value and the milliseconds that are left of it, or
 //! due: what was left has run out, and the value waits to be pulled. Time passes only where `advance` says so. Memory is
-//! taken when a pool is opened, and never later. Contracts see the list of what is in each slot.
+//! taken when a pool is opened, and never later; a slot's bytes are written when it is first used, so that a pool with room
+//! for many values and few in it stays small. Contracts see the list of what is in each slot.
 //!
 //! A hashed timing wheel: each slot stands in exactly one list, that of the free slots, that of the due ones, or the one of
 //! 256 that its moment belongs to, 1,024 ms to a list. `advance` looks at the lists of the time that passes and at no

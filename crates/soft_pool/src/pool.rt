@@ -4,7 +4,7 @@ ghost use Rattle.soft_pool.specs.declared.cell.Cell.TheVariants.{Free, Live, Due
 ghost use Rattle.soft_pool.specs.Cells.{is_live, IsLiveWith, aged, NoneDue, NoneFree};
 
 use crate::cell::{Cell, Slot};
-use crate::entry::{DUE, Entry, FREE, place, take, take_all, wheel_at};
+use crate::entry::{DUE, Entry, FREE, make, place, take, wheel_at};
 use crate::wheel::{pass, rewind};
 use rsvp_base::NoMemory;
 use slot_lists::SlotLists;
@@ -15,6 +15,7 @@ use std::mem;
 /// Slots for values that expire. Contracts see the list of what is in each slot.
 #[derive(Drop)]
 pub struct Pool<T> {
+    // Of the slots that were used so far. The others are free.
     entries: Vec<Entry<T>>,
     lists: SlotLists,
     // The milliseconds that have passed, less whole turns of the wheel.
@@ -22,15 +23,15 @@ pub struct Pool<T> {
 }
 
 impl<T> Model for Pool<T> {
-    ghost use Rattle.std.specs.Prelude.{List, map};
+    ghost use Rattle.std.specs.Prelude.{List, ◌≤◌, vec_capacity};
     ghost use Rattle.soft_pool.specs.declared.cell.Cell.{Cell};
-    ghost use Rattle.soft_pool.specs.Wheel.{shown, IsPool};
+    ghost use Rattle.soft_pool.specs.Wheel.{cells, IsPool};
 
     ghost Value = { List (Cell T) };
 
-    ghost view = { λ p. map (shown p.clock) p.entries.items };
+    ghost view = { λ p. cells p.clock p.lists.room p.entries.items };
 
-    ghost invariant = { λ p. IsPool p.entries.items p.lists p.clock };
+    ghost invariant = { λ p. IsPool p.entries.items p.lists.homes p.lists.room p.clock × (p.lists.room ≤ vec_capacity p.entries) };
 }
 
 impl<T: Drop> Pool<T> {
@@ -40,13 +41,7 @@ impl<T: Drop> Pool<T> {
         ensures { IfOk result (λ p. p ≡ replicate slots Free) }
     {
         let lists = SlotLists::open(alloc, slots)?;
-        let mut entries = Vec::with_capacity(alloc, slots)?;
-        for _slot in 0..slots {
-            entries.push(Entry {
-                value: None,
-                moment: 0,
-            })?;
-        }
+        let entries = Vec::with_capacity(alloc, slots)?;
         Ok(Pool {
             entries,
             lists,
@@ -59,8 +54,10 @@ impl<T: Drop> Pool<T> {
         requires { slot.0 < length self.now }
         ensures { result ≡ is_live (slice_get self.now slot.0) }
     {
-        let entry = &self.entries[slot.0 as usize];
-        matches!(entry.value, Some(_)) && self.clock < entry.moment
+        match self.entries.get(slot.0 as usize) {
+            Some(entry) => matches!(entry.value, Some(_)) && self.clock < entry.moment,
+            None => false,
+        }
     }
 
     /// Puts a value with this much left, in milliseconds, into a free slot. The value comes back exactly where no slot is
@@ -73,14 +70,23 @@ impl<T: Drop> Pool<T> {
         ensures back { IfErr result (λ v. v ≡ value) }
         ensures err { IfErr result (λ v. self.new ≡ self.old) }
     {
-        let Some(slot) = self.lists.first(FREE) else {
+        let moment = self.clock + u64::from(left);
+        if let Some(slot) = self.lists.first(FREE) {
+            let entry = Entry {
+                value: Some(value),
+                moment,
+            };
+            place(&mut self.entries, &mut self.lists, slot, entry, self.clock);
+            return Ok(Slot(slot));
+        }
+        if self.lists.is_full() {
             return Err(value);
-        };
+        }
         let entry = Entry {
             value: Some(value),
-            moment: self.clock + u64::from(left),
+            moment,
         };
-        place(&mut self.entries, &mut self.lists, slot, entry, self.clock);
+        let slot = make(&mut self.entries, &mut self.lists, entry, self.clock);
         Ok(Slot(slot))
     }
 
@@ -161,6 +167,7 @@ impl<T: Drop> Pool<T> {
     pub fn clear(&mut self)
         ensures { self.new ≡ map (λ _. Free) self.old }
     {
-        take_all(&mut self.entries, &mut self.lists);
+        self.entries.clear();
+        self.lists.clear();
     }
 }

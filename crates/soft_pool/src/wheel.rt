@@ -1,5 +1,5 @@
 //! Time: the lists of the wheel that it passes, and the clock set back before it runs out.
-ghost use Rattle.std.specs.Prelude.{◌≡◌, ◌<◌, ◌≤◌, ◌^◌, ◌%◌, ℕ, length, slice_get, map, Some};
+ghost use Rattle.std.specs.Prelude.{◌≡◌, ◌<◌, ◌≤◌, ◌^◌, ◌%◌, ℕ, length, slice_get, map, vec_capacity, Some};
 ghost use Rattle.soft_pool.specs.declared.entry.Entry.{Entry};
 ghost use Rattle.soft_pool.specs.Wheel.{list_at, shown, set_back};
 
@@ -16,13 +16,14 @@ fn sorted<T>(entry: &Entry<T>, now: u64) -> u16
 
 // Goes through one list: the slots whose moment has come are due then, and the others stay.
 fn turn<T>(entries: &[Entry<T>], lists: &mut SlotLists, list: u16, now: u64)
-    requires size { length lists.old ≡ length entries.now }
+    requires size { length lists.old.homes ≡ length entries.now }
     requires list { 3 ≤ list × list < 259 }
-    requires aside { (i : ℕ) → slice_get lists.old i ≡ Some 2 → ⊥ }
-    ensures size { length lists.new ≡ length lists.old }
-    ensures others { (i : ℕ) (h : ℕ) → slice_get lists.old i ≡ Some h → (h ≡ list → ⊥) → slice_get lists.new i ≡ Some h }
-    ensures due { (i : ℕ) (e : Entry T) → slice_get entries.now i ≡ Some e → slice_get lists.old i ≡ Some list → e.moment ≤ now → slice_get lists.new i ≡ Some 1 }
-    ensures later { (i : ℕ) (e : Entry T) → slice_get entries.now i ≡ Some e → slice_get lists.old i ≡ Some list → now < e.moment → slice_get lists.new i ≡ Some list }
+    requires aside { (i : ℕ) → slice_get lists.old.homes i ≡ Some 2 → ⊥ }
+    ensures room { lists.new.room ≡ lists.old.room }
+    ensures size { length lists.new.homes ≡ length lists.old.homes }
+    ensures others { (i : ℕ) (h : ℕ) → slice_get lists.old.homes i ≡ Some h → (h ≡ list → ⊥) → slice_get lists.new.homes i ≡ Some h }
+    ensures due { (i : ℕ) (e : Entry T) → slice_get entries.now i ≡ Some e → slice_get lists.old.homes i ≡ Some list → e.moment ≤ now → slice_get lists.new.homes i ≡ Some 1 }
+    ensures later { (i : ℕ) (e : Entry T) → slice_get entries.now i ≡ Some e → slice_get lists.old.homes i ≡ Some list → now < e.moment → slice_get lists.new.homes i ≡ Some list }
 {
     while let Some(slot) = lists.first(list) {
         let to = sorted(&entries[slot as usize], now);
@@ -35,10 +36,10 @@ fn turn<T>(entries: &[Entry<T>], lists: &mut SlotLists, list: u16, now: u64)
 
 // Lets the time up to a moment pass: goes through the lists that it passes, each once.
 pub(crate) fn pass<T>(entries: &[Entry<T>], lists: &mut SlotLists, clock: u64, now: u64)
-    requires lists { lists.old ≡ map (list_at clock) entries.now }
+    requires lists { lists.old.homes ≡ map (list_at clock) entries.now }
     requires order { clock ≤ now }
     requires early { now < 2 ^ 63 }
-    ensures { lists.new ≡ map (list_at now) entries.now }
+    ensures { lists.new ≡ record { homes = map (list_at now) entries.now; room = lists.old.room } }
 {
     let first = clock / WIDTH;
     let more = (now / WIDTH - first).min(LISTS - 1);
@@ -50,7 +51,8 @@ pub(crate) fn pass<T>(entries: &[Entry<T>], lists: &mut SlotLists, clock: u64, n
 
 // Sets every moment back.
 fn set_all_back<T: Drop>(entries: &mut Vec<Entry<T>>, by: u64)
-    ensures { entries.new.items ≡ map (set_back by) entries.old.items }
+    ensures entries { entries.new.items ≡ map (set_back by) entries.old.items }
+    ensures capacity { vec_capacity entries.new ≡ vec_capacity entries.old }
 {
     for i in 0..entries.len() {
         let entry = &mut entries[i];
@@ -63,6 +65,7 @@ pub(crate) fn rewind<T: Drop>(entries: &mut Vec<Entry<T>>, clock: u64) -> u64
     ensures early { result < 2 ^ 62 }
     ensures shown { map (shown result) entries.new.items ≡ map (shown clock) entries.old.items }
     ensures lists { map (list_at result) entries.new.items ≡ map (list_at clock) entries.old.items }
+    ensures capacity { vec_capacity entries.new ≡ vec_capacity entries.old }
 {
     if clock < 1 << 62 {
         return clock;

@@ -8,6 +8,8 @@ pub loop-i-preserved : goal.loop-i-preserved
 loop-i-preserved g c =
     let es = c.loop-i.entries.items in
     let i = c.loop-i.i in
-    let e : Entry _ = c.index_mut-entry.result.now in
-    ap (λ m. set es i (record { value = e.value; moment = m })) c.saturating_sub-entry.ensures
-    ∙ map_over_more (set_back c.args.by) c.args.entries.now.items es i e (omega (arith, c.loop-i-test.true, c.len-i-end.ensures)) c.loop-i.invariant c.index_mut-entry.ensures.value
+    let e : Entry _ = c.index_mut-entry.result.now in (
+      ap (λ m. set es i (record { value = e.value; moment = m })) c.saturating_sub-entry.ensures
+          ∙ map_over_more (set_back c.args.by) c.args.entries.now.items es i e (omega (arith, c.loop-i-test.true, c.len-i-end.ensures)) c.loop-i.invariant.0 c.index_mut-entry.ensures.value,
+      c.loop-i.invariant.1,
+    )

@@ -1,11 +1,13 @@
-use Rattle.std.proofs.Common.{◌≡◌, ◌+◌, replicate, ap, ◌∙◌, arith, ℕ}
-use Rattle.slot_lists.proofs.Opens.{AreFirst, opened}
+use Rattle.std.proofs.Common.{arith}
+use Rattle.slot_lists.proofs.Opens.{opened}
 use Rattle.slot_lists.proofs.lists.SlotLists.open.Goals as goal
 
 pub invariant_of-result : goal.invariant_of-result
 invariant_of-result c =
-    let l = c.loop-i in
-    let all : l.i ≡ c.args.slots + 259 = omega arith in
-    let homes : c.loop-slot.home.items ≡ replicate c.args.slots 0 = c.loop-slot.invariant ∙ ap (λ n. replicate {A = ℕ} n 0) (omega arith) in
-    let first : AreFirst c.args.slots (c.args.slots + 259) l.next.items l.prev.items = rw (← all) l.invariant in
-    rw homes (opened c.args.slots l.next.items l.prev.items first c.requires)
+    let heads = c.put_heads.ensures in
+    let heads_2 = c.put_heads-2.ensures in (
+      rw c.in_ok-home.ensures.items (opened c.put_heads.new.links.items c.put_heads-2.new.links.items c.args.room heads.heads heads_2.heads c.requires),
+      omega (arith, heads.capacity, c.in_ok-next.ensures.exact),
+      omega (arith, heads_2.capacity, c.in_ok-prev.ensures.exact),
+      omega (arith, c.in_ok-home.ensures.exact),
+    )

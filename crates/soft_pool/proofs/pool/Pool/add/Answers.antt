@@ -1,38 +1,66 @@
-use Rattle.std.proofs.Common.{◌+◌, ◌∙◌, Some, refl, ap, arith}
+use Rattle.std.proofs.Common.{◌<◌, ◌+◌, ◌∙◌, Some, length, refl, ap, arith, inl, inr}
 use Rattle.std.specs.Prelude.{slice_set}
+use Rattle.std.proofs.lemmas.Bool.{cases_lt, both_ways}
 use Rattle.soft_pool.specs.declared.entry.Entry.{Entry}
 use Rattle.soft_pool.specs.declared.cell.Cell.TheVariants.{Live}
 use Rattle.soft_pool.specs.Wheel.{list_at}
 use Rattle.soft_pool.proofs.Slots.{within}
-use Rattle.soft_pool.proofs.Pools.{none_free, found_free, sizes, pool_placed, shows, live_shown}
+use Rattle.soft_pool.proofs.Pools.{none_free, found_free, sizes, pool_placed, shows, grows, next_free, live_shown}
 use Rattle.soft_pool.proofs.pool.Pool.add.Goals as goal
 
-pub returns-in_default-clause-full : goal.returns-in_default-clause-full
-returns-in_default-clause-full g c =
-    let s = c.self.inside in
-    rw (← c.self.view_is) (none_free s.clock s.entries.items s.lists c.self.invariant (c.in_default.ensures.none refl))
-
-pub place-requires-clause-here : goal.place-requires-clause-here
-place-requires-clause-here g c =
-    let s = c.self.inside in
-    omega (arith, within s.lists c.in-Some.slot 0 c.in-Some.ensures.some, sizes s.clock s.entries.items s.lists c.self.invariant)
-
+-- ---- into a slot that is free again
 pub invariant_of-self : goal.invariant_of-self
 invariant_of-self g c =
     let s = c.self.inside in
-    let e : Entry _ = record { value = Some c.args.value; moment = s.clock + c.from.result } in
-    pool_placed s.clock s.entries.items s.lists c.self.invariant c.place.new.entries.items c.place.new.lists c.in-Some.slot (list_at s.clock e) e c.place.ensures.entries c.place.ensures.lists refl
+    let p = c.place.ensures in
+    let e : Entry _ = record { value = Some c.args.value; moment = s.clock + c.from.result } in (
+      rw p.lists (pool_placed s.clock s.lists.room s.entries.items s.lists.homes c.self.invariant.0 c.place.new.entries.items _ c.in-Some.slot (list_at s.clock e) e p.entries refl refl),
+      rw (p.lists, p.capacity) c.self.invariant.1,
+    )
 
-pub returns-clause-free : goal.returns-clause-free
-returns-clause-free g c =
+pub returns-in-Some-clause-free : goal.returns-in-Some-clause-free
+returns-in-Some-clause-free g c =
     let s = c.self.inside in
-    rw (← c.self.view_is) (found_free s.clock s.entries.items s.lists c.self.invariant c.in-Some.slot c.in-Some.ensures.some)
+    rw (← c.self.view_is) (found_free s.clock s.lists.room s.entries.items s.lists.homes c.self.invariant.0 c.in-Some.slot c.in-Some.ensures.some)
 
-pub returns-clause-placed : goal.returns-clause-placed
-returns-clause-placed g c =
+pub returns-in-Some-clause-placed : goal.returns-in-Some-clause-placed
+returns-in-Some-clause-placed g c =
     let s = c.self.inside in
     let i = c.in-Some.slot in
     let v = c.args.value in
     let e : Entry _ = record { value = Some v; moment = s.clock + c.from.result } in
-    shows s.clock s.entries.items c.place.new.entries.items i e (Live v c.args.left) c.place.ensures.entries (live_shown s.clock c.from.result v (omega (arith, c.from.ensures, c.requires)) ∙ ap (Live v) c.from.ensures)
-    ∙ ap (λ xs. slice_set xs i (Live v c.args.left)) c.self.view_is
+    let made : i < length s.entries.items = omega (arith, within s.lists.homes i 0 c.in-Some.ensures.some, sizes s.clock s.lists.room s.entries.items s.lists.homes c.self.invariant.0) in
+    rw c.place.ensures.lists (shows s.clock s.lists.room s.entries.items c.place.new.entries.items i e (Live v c.args.left) made c.place.ensures.entries
+    (live_shown s.clock c.from.result v (omega (arith, c.from.ensures, c.requires)) ∙ ap (Live v) c.from.ensures)
+    ∙ ap (λ xs. slice_set xs i (Live v c.args.left)) c.self.view_is)
+
+pub returns-then-is_full-clause-full : goal.returns-then-is_full-clause-full
+returns-then-is_full-clause-full g c =
+    let s = c.self.inside in
+    rw (← c.self.view_is) (none_free s.clock s.lists.room s.entries.items s.lists.homes c.self.invariant.0 (c.is_full.ensures.0 c.if-is_full.true) (c.in_default.ensures.none refl))
+
+-- ---- into the next slot
+pub returns-clause-free : goal.returns-clause-free
+returns-clause-free g c =
+    let s = c.self.inside in
+    let size = sizes s.clock s.lists.room s.entries.items s.lists.homes c.self.invariant.0 in
+    let left : length s.entries.items < s.lists.room = elim (cases_lt (length s.entries.items) s.lists.room) [
+      | inl lt ↦ lt
+      | inr le ↦ absurd (both_ways _ c.if-is_full.false (c.is_full.ensures.1 (omega (arith, le, size))))
+    ] in
+    rw (c.make-slot.ensures.slot, ← c.self.view_is) (next_free s.clock s.lists.room s.entries.items left)
+
+pub returns-clause-placed : goal.returns-clause-placed
+returns-clause-placed g c =
+    let s = c.self.inside in
+    let m = c.make-slot.ensures in
+    let v = c.args.value in
+    let e : Entry _ = record { value = Some v; moment = s.clock + c.from.result } in
+    let size = sizes s.clock s.lists.room s.entries.items s.lists.homes c.self.invariant.0 in
+    let left : length s.entries.items < s.lists.room = elim (cases_lt (length s.entries.items) s.lists.room) [
+      | inl lt ↦ lt
+      | inr le ↦ absurd (both_ways _ c.if-is_full.false (c.is_full.ensures.1 (omega (arith, le, size))))
+    ] in
+    rw (m.lists, m.slot) (grows s.clock s.lists.room s.entries.items left c.make-slot.new.entries.items e (Live v c.args.left) m.entries
+    (live_shown s.clock c.from.result v (omega (arith, c.from.ensures, c.requires)) ∙ ap (Live v) c.from.ensures)
+    ∙ ap (λ xs. slice_set xs (length s.entries.items) (Live v c.args.left)) c.self.view_is)

@@ -1,15 +1,17 @@
 use Rattle.std.proofs.Common.{◌∙◌, ap, map as each}
 use Rattle.soft_pool.specs.declared.cell.Cell.TheVariants.{Free}
-use Rattle.soft_pool.specs.Wheel.{shown}
-use Rattle.soft_pool.proofs.Pools.{pool_cleared, shown_cleared}
+use Rattle.soft_pool.proofs.Pools.{cleared, shown_cleared}
 use Rattle.soft_pool.proofs.pool.Pool.clear.Goals as goal
 
 pub invariant_of-self : goal.invariant_of-self
 invariant_of-self g c =
     let s = c.self.inside in
-    pool_cleared s.clock s.entries.items s.lists c.self.invariant c.take_all.new.entries.items c.take_all.new.lists c.take_all.ensures.entries c.take_all.ensures.lists
+    let o = c.self.invariant in (
+      rw (c.clear.ensures.items, c.clear-2.ensures) (cleared s.entries.items s.lists.homes s.lists.room s.clock o.0),
+      rw (c.clear.ensures.capacity, c.clear-2.ensures) o.1,
+    )
 
 pub returns : goal.returns
 returns g c =
     let s = c.self.inside in
-    ap (each (shown s.clock)) c.take_all.ensures.entries ∙ shown_cleared s.clock s.entries.items ∙ ap (each (λ _. Free)) c.self.view_is
+    rw (c.clear.ensures.items, c.clear-2.ensures) (shown_cleared s.entries.items s.lists.homes s.lists.room s.clock c.self.invariant.0 ∙ ap (each (λ _. Free)) c.self.view_is)

@@ -1,15 +1,12 @@
-use Rattle.std.proofs.Common.{◌≡◌, ap, ◌∙◌, arith, replicate, map as each}
-use Rattle.soft_pool.specs.Wheel.{shown}
-use Rattle.soft_pool.proofs.Pools.{empty, first_pool, shown_first}
+use Rattle.std.proofs.Common.{arith}
+use Rattle.soft_pool.proofs.Pools.{opened, shown_opened}
 use Rattle.soft_pool.proofs.pool.Pool.open.Goals as goal
 
 pub invariant_of-result : goal.invariant_of-result
-invariant_of-result g c =
-    let n = c.args.slots in
-    let end : c.loop-slot._slot ≡ n = omega (arith, c.loop-slot-test.false, c.loop-slot.auto._slot-end) in
-    first_pool n c.loop-slot.entries.items c.in_ok-lists.lists c.requires (c.loop-slot.invariant ∙ ap (λ n. replicate n empty) end) c.in_ok-lists.ensures
+invariant_of-result g c = (
+  rw (c.in_ok-entries.ensures.items, c.in_ok-lists.ensures) (opened _ c.args.slots c.requires),
+  rw c.in_ok-lists.ensures (omega (arith, c.in_ok-entries.ensures.exact)),
+)
 
 pub returns : goal.returns
-returns g c =
-    let end : c.loop-slot._slot ≡ c.args.slots = omega (arith, c.loop-slot-test.false, c.loop-slot.auto._slot-end) in
-    ap (each (shown 0)) (c.loop-slot.invariant ∙ ap (λ n. replicate n empty) end) ∙ shown_first c.args.slots
+returns g c = rw (c.in_ok-entries.ensures.items, c.in_ok-lists.ensures) (shown_opened _ 0 c.args.slots)

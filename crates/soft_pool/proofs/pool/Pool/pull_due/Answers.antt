@@ -1,4 +1,4 @@
-use Rattle.std.proofs.Common.{◌≡◌, ◌∙◌, Some, None, refl, ap, sym, arith}
+use Rattle.std.proofs.Common.{◌≡◌, ◌<◌, ◌∙◌, length, Some, None, refl, ap, sym, arith}
 use Rattle.std.specs.Prelude.{slice_set}
 use Rattle.soft_pool.specs.declared.cell.Cell.TheVariants.{Free, Due}
 use Rattle.soft_pool.proofs.Slots.{within}
@@ -8,17 +8,17 @@ use Rattle.soft_pool.proofs.pool.Pool.pull_due.Goals as goal
 pub returns-in_default-clause-none : goal.returns-in_default-clause-none
 returns-in_default-clause-none g c = λ _.
     let s = c.self.inside in
-    rw (← c.self.view_is) (none_due s.clock s.entries.items s.lists c.self.invariant (c.in_default.ensures.none refl))
+    rw (← c.self.view_is) (none_due s.clock s.lists.room s.entries.items s.lists.homes c.self.invariant.0 (c.in_default.ensures.none refl))
 
 pub take-requires-clause-here : goal.take-requires-clause-here
 take-requires-clause-here g c =
     let s = c.self.inside in
-    omega (arith, within s.lists c.in-Some.slot 1 c.in-Some.ensures.some, sizes s.clock s.entries.items s.lists c.self.invariant)
+    omega (arith, within s.lists.homes c.in-Some.slot 1 c.in-Some.ensures.some, sizes s.clock s.lists.room s.entries.items s.lists.homes c.self.invariant.0)
 
 pub unreachable-requires : goal.unreachable-requires
 unreachable-requires g c =
     let s = c.self.inside in
-    let d = found_due s.clock s.entries.items s.lists c.self.invariant c.in-Some.slot c.in-Some.ensures.some in
+    let d = found_due s.clock s.lists.room s.entries.items s.lists.homes c.self.invariant.0 c.in-Some.slot c.in-Some.ensures.some in
     let t = c.take.ensures.entries in
     let same : Some t.0 ≡ Some d.0 = sym t.1 ∙ d.2 in
     let eq : t.0 ≡ d.0 = cc in
@@ -28,12 +28,15 @@ unreachable-requires g c =
 pub invariant_of-self : goal.invariant_of-self
 invariant_of-self g c =
     let s = c.self.inside in
-    pool_placed s.clock s.entries.items s.lists c.self.invariant c.take.new.entries.items c.take.new.lists c.in-Some.slot 0 empty c.take.ensures.entries.3 c.take.ensures.lists refl
+    let t = c.take.ensures in (
+      rw t.lists (pool_placed s.clock s.lists.room s.entries.items s.lists.homes c.self.invariant.0 c.take.new.entries.items _ c.in-Some.slot 0 empty t.entries.3 refl refl),
+      rw (t.lists, t.capacity) c.self.invariant.1,
+    )
 
 pub returns-clause-due : goal.returns-clause-due
 returns-clause-due g c =
     let s = c.self.inside in
-    let d = found_due s.clock s.entries.items s.lists c.self.invariant c.in-Some.slot c.in-Some.ensures.some in
+    let d = found_due s.clock s.lists.room s.entries.items s.lists.homes c.self.invariant.0 c.in-Some.slot c.in-Some.ensures.some in
     let t = c.take.ensures.entries in
     let same : Some t.0 ≡ Some d.0 = sym t.1 ∙ d.2 in
     let eq : d.0 ≡ t.0 = cc in
@@ -44,4 +47,7 @@ returns-clause-due g c =
 pub returns-clause-freed : goal.returns-clause-freed
 returns-clause-freed g c =
     let s = c.self.inside in
-    shows s.clock s.entries.items c.take.new.entries.items c.in-Some.slot empty Free c.take.ensures.entries.3 refl ∙ ap (λ xs. slice_set xs c.in-Some.slot Free) c.self.view_is
+    let t = c.take.ensures in
+    let made : c.in-Some.slot < length s.entries.items =
+    omega (arith, within s.lists.homes c.in-Some.slot 1 c.in-Some.ensures.some, sizes s.clock s.lists.room s.entries.items s.lists.homes c.self.invariant.0) in
+    rw t.lists (shows s.clock s.lists.room s.entries.items c.take.new.entries.items c.in-Some.slot empty Free made t.entries.3 refl ∙ ap (λ xs. slice_set xs c.in-Some.slot Free) c.self.view_is)

@@ -3,7 +3,7 @@ use Rattle.std.specs.Prelude.{slice_set}
 use Rattle.soft_pool.specs.declared.entry.Entry.{Entry}
 use Rattle.soft_pool.specs.declared.cell.Cell.TheVariants.{Live}
 use Rattle.soft_pool.specs.Wheel.{list_of, cell_of}
-use Rattle.soft_pool.proofs.Pools.{live_now, live_read, live_cell, pool_changed, shows}
+use Rattle.soft_pool.proofs.Pools.{live_now, live_read, live_cell, live_within, pool_changed, shows}
 use Rattle.soft_pool.proofs.pool.Pool.set.Goals as goal
 
 pub invariant_of-self : goal.invariant_of-self
@@ -12,8 +12,11 @@ invariant_of-self g c =
     let i = c.args.slot.0 in
     let e : Entry _ = c.index_mut.result.now in
     let f : Entry _ = record { value = c.replace.new.dest; moment = e.moment } in
-    let live = live_now s.clock s.entries.items i e (rw c.self.view_is c.requires) c.index_mut.ensures.value in
-    pool_changed s.clock s.entries.items s.lists c.self.invariant _ i e f live.1 refl (ap (λ o. list_of s.clock o e.moment) c.replace.ensures.after ∙ sym (ap (λ o. list_of s.clock o e.moment) live.2))
+    let live = live_now s.clock s.lists.room s.entries.items i e (rw c.self.view_is c.requires) c.index_mut.ensures.value in (
+      pool_changed s.clock s.lists.room s.entries.items s.lists.homes c.self.invariant.0 _ i e f live.1 refl
+          (ap (λ o. list_of s.clock o e.moment) c.replace.ensures.after ∙ sym (ap (λ o. list_of s.clock o e.moment) live.2)),
+      c.self.invariant.1,
+    )
 
 pub returns : goal.returns
 returns g c =
@@ -22,9 +25,11 @@ returns g c =
     let e : Entry _ = c.index_mut.result.now in
     let f : Entry _ = record { value = c.replace.new.dest; moment = e.moment } in
     let left = e.moment - s.clock in
-    let live = live_now s.clock s.entries.items i e (rw c.self.view_is c.requires) c.index_mut.ensures.value in
+    let live = live_now s.clock s.lists.room s.entries.items i e (rw c.self.view_is c.requires) c.index_mut.ensures.value in
     let has = sym c.replace.ensures.value ∙ c.in-Some.is in (
       left,
-      rw (← c.self.view_is) (live_read s.clock s.entries.items i e c.in-Some.old live.1 has live.3),
-      shows s.clock s.entries.items _ i f (Live c.args.value left) refl (ap (λ o. cell_of s.clock o e.moment) c.replace.ensures.after ∙ live_cell s.clock c.args.value e.moment live.3) ∙ ap (λ xs. slice_set xs i (Live c.args.value left)) c.self.view_is,
+      rw (← c.self.view_is) (live_read s.clock s.lists.room s.entries.items i e c.in-Some.old live.1 has live.3),
+      shows s.clock s.lists.room s.entries.items _ i f (Live c.args.value left) (live_within s.clock s.lists.room s.entries.items i (rw c.self.view_is c.requires)) refl
+          (ap (λ o. cell_of s.clock o e.moment) c.replace.ensures.after ∙ live_cell s.clock c.args.value e.moment live.3)
+          ∙ ap (λ xs. slice_set xs i (Live c.args.value left)) c.self.view_is,
     )
