@@ -1,0 +1,16 @@
+//! Rows of sessions in the order of their keys: what tables of facts by session and rest need (RFC 2205, 3.7 and RFC 2209),
+//! so that a fact is put, found and removed without moving the rows behind it.
+//!
+//! The slots of the rows stand in one ring in the order of keys, linked both ways by number, and each session that has rows
+//! has a head that leads to the first of them. A key is searched among the heads, and then along the rows of its session.
+//! Contracts see the sorted list of rows, and no link. Memory is taken when the lists are opened, and never later; a slot's
+//! 8 bytes of links and its key are written when it is first used.
+#![tactic(auto)]
+
+mod heads;
+mod lists;
+mod order;
+mod ring;
+
+pub use lists::SessionLists;
+pub use order::RestOrder;
