@@ -2,3 +2,4 @@ mod Said
 mod Listed
 mod Cleared
 pub mod Sent
+pub mod Still

@@ -7,7 +7,7 @@ ghost use Rattle.node_sends.specs.Saying.{ask_seen, told_seen, torn_seen, wish_s
 ghost use Rattle.node_sends.specs.Seen.{toward_at};
 ghost use Rattle.router_rules.specs.Asking.{ask_of};
 ghost use Rattle.node_tables.specs.Whole.{state_of};
-ghost use Rattle.lane_telling.specs.Rounds.{told_parts};
+ghost use Rattle.lane_telling.specs.Rounds.{renewed_seen, told_parts};
 
 use lane_state::{LaneTable, ask_of, gone_among, tear_of};
 use lane_wishes::{hop_to, names_via, own_wish, toward};
@@ -129,4 +129,19 @@ pub fn tell_lane<O: Outbox>(
     let is_old = said.is_said(session, style, hop, &now);
     tell_changed(tables, session, style, hop, &now, asked, !is_old, due, out);
     said.tell(session, style, hop, now);
+}
+
+// The Resv of a lane, whole, of what was said there last, as that of a lane that is due (RFC 2209, 2: RESV REFRESH).
+pub(crate) fn refresh_lane<O: Outbox>(
+    tables: &Tables,
+    said: &LaneTable,
+    session: Session,
+    style: StyleKind,
+    hop: (u8, Addr),
+    out: &mut O,
+)
+    ensures { (c : ℕ) (any : Said) → out.new ≡ fold O.posted out.old (renewed_seen c (state_of tables.now any) (lane_at (session, (style, hop))) (said_at said.now (lane_at (session, (style, hop))))) }
+{
+    let was = said.said(session, style, hop);
+    tell_ask(tables, session, style, hop, &was, None, true, out);
 }

@@ -10,9 +10,9 @@ ghost use Rattle.node_sends.specs.Before.{lanes_by};
 ghost use Rattle.node_sends.specs.Saying.{IsRoomy, IsTold};
 ghost use Rattle.node_sends.specs.SendsHere.{hops_in};
 ghost use Rattle.node_tables.specs.Whole.{state_of};
-ghost use Rattle.lane_telling.specs.Rounds.{lanes_of, told_by, torn_by};
+ghost use Rattle.lane_telling.specs.Rounds.{lanes_of, renewed_by, told_by, torn_by};
 
-use crate::lanes::{tell_lane, tell_torn};
+use crate::lanes::{refresh_lane, tell_lane, tell_torn};
 use lane_state::LaneTable;
 use node_tables::Tables;
 use node_telling::Outbox;
@@ -138,4 +138,37 @@ pub fn tell_lanes<O: Outbox>(
         due,
         out,
     );
+}
+
+// The Resvs of the lanes of a style toward these hops, of what was said there last.
+fn refresh_style<O: Outbox>(
+    tables: &Tables,
+    said: &LaneTable,
+    session: Session,
+    style: StyleKind,
+    hops: &Hops,
+    out: &mut O,
+)
+    ensures { (c : ℕ) (any : Said) → out.new ≡ fold O.posted out.old (flat_map (renewed_by c (state_of tables.now any) said.now session) (lanes_of style (keys hops.now))) }
+{
+    let list = hops.as_slice();
+    for i in 0..list.len() {
+        refresh_lane(tables, said, session, style, list[i], out);
+    }
+}
+
+/// The Resvs of a session's lanes toward these hops, of what was said there last, as those of a session that is due: by style,
+/// and then by hop. What goes there is not worked out.
+pub fn refresh_lanes<O: Outbox>(
+    tables: &Tables,
+    said: &LaneTable,
+    session: Session,
+    hops: &Hops,
+    out: &mut O,
+)
+    ensures { (c : ℕ) (any : Said) → out.new ≡ fold O.posted out.old (flat_map (renewed_by c (state_of tables.now any) said.now session) (lanes_by (keys hops.now))) }
+{
+    refresh_style(tables, said, session, StyleKind::Wild, hops, out);
+    refresh_style(tables, said, session, StyleKind::Fixed, hops, out);
+    refresh_style(tables, said, session, StyleKind::Shared, hops, out);
 }

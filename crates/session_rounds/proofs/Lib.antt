@@ -1,5 +1,6 @@
 pub mod Near
 pub mod Loops
+pub mod Untouched
 pub mod Passed
 pub mod Moved
 pub mod Rerouted

@@ -1,31 +1,35 @@
 -- Steps of the loops over sessions.
-use Rattle.std.specs.Prelude.{◌≡◌, ℕ, ◌+◌, ◌<◌, ◌&&◌, Bool, true, false, List, [], ◌∷◌, ◌++◌, map as each, fold, length, take, get_or, slice_get, Some, None, zero, suc, refl}
+use Rattle.std.specs.Prelude.{◌≡◌, ℕ, ◌+◌, ◌<◌, ◌&&◌, Bool, true, false, not, List, [], ◌∷◌, ◌++◌, map as each, fold, length, take, get_or, slice_get, Some, None, zero, suc, refl}
 use Rattle.std.specs.List.{flat_map}
 use Rattle.std.proofs.Common.{sym, ap, subst, ◌∙◌, arith}
 use Rattle.std.proofs.lemmas.List.{map-append, take_more}
 use Rattle.path_state.specs.Paths.{HopSet, hops_by}
 use Rattle.rsvp_base.specs.Orders.{senders, sessions, units}
 use Rattle.rsvp_base.specs.Sets.{Set}
-use Rattle.rsvp_base.specs.Table.{changed, keys}
+use Rattle.rsvp_base.specs.Table.{changed, empty, keys}
+use Rattle.blockade_state.specs.Touched.{Marks, is_touched}
 use Rattle.rsvp_base.specs.Under.{under}
 use Rattle.rsvp_base.specs.declared.session.Session.{Session}
 use Rattle.rsvp_base.proofs.Changed.{unchanged}
 use Rattle.router_rules.specs.Facts.{Want, Wants, want_keys}
 use Rattle.router_rules.specs.Inputs.{Send}
+use Rattle.router_rules.specs.NodeConfig.{is_session}
+use Rattle.router_rules.specs.Requests.{toward}
 use Rattle.node_facts.specs.State.{Said, State, facts_of}
 use Rattle.node_sends.specs.Before.{lanes_by}
 use Rattle.node_sends.specs.Marks.{unmarked_in, used_in}
-use Rattle.node_sends.specs.Saying.{IsRoomy, IsTold}
+use Rattle.node_sends.specs.Saying.{IsRoomy, IsTold, SessionLane, lane_by}
 use Rattle.node_sends.specs.SendsHere.{hops_in}
 use Rattle.waiting_sends.specs.Several.{is_among}
 use Rattle.node_waiting.proofs.Offers.{told_more}
 use Rattle.node_tables.specs.Whole.{state_of}
 use Rattle.node_tables.specs.declared.tables.Tables.{Tables}
 use Rattle.lane_wishes.specs.Wishes.{used_seen}
-use Rattle.lane_telling.specs.Rounds.{told_by, torn_by}
+use Rattle.lane_telling.specs.Rounds.{IsStill, renewed_by, told_by, torn_by}
 use Rattle.lane_telling.proofs.Sent.{hops_are}
+use Rattle.lane_telling.proofs.Still.{still_marked, still_told, still_torn}
 use Rattle.round_laws.specs.Rounds.{AreTold, told_round, torn_near, unmarked_among, wants_once, wants_told}
-use Rattle.round_laws.proofs.Telling.{later, once_any, once_more, told_any, told_same}
+use Rattle.round_laws.proofs.Telling.{later, once_any, once_more, told_any, told_same, toward_kept}
 use Rattle.round_laws.proofs.Telling.{told_more as lanes_told}
 use Rattle.session_rounds.specs.Nears.{NearTable, near_row}
 use Rattle.session_rounds.specs.declared.nears.Near.{Near}
@@ -48,6 +52,39 @@ module _ (c : ℕ) (t : Tables) (said : Said) (s : Session) (hops : HopSet) (nea
   unfolding wants_once used_seen
   once_is used is =
       ap (λ (u : Set units). changed (unmarked_in s u) t.wants) is ∙ ap (λ (hs : HopSet). changed (unmarked_in s (used_in t.config (facts_of c (state_of t said)) s said (lanes_by (keys hs)))) t.wants) hops_so
+
+-- ---- a session to whose lanes was said what goes there
+module _ (t : Tables) (said : Said) (s : Session) (still : IsStill (state_of t said) s said) where
+  pub still_near : (c : ℕ) (hops : HopSet) → [] ≡ torn_near c (state_of t said) said (s, hops)
+  still_near c hops = sym (still_torn (state_of t said) s said still c (lanes_by (keys hops))) ∙ torn_is c t said s hops
+
+  pub still_round : (c : ℕ) (hops : HopSet) → hops ≡ hops_by (under sessions senders t.paths.facts s).rows → flat_map (renewed_by c (state_of t said) said s) (lanes_by (keys hops)) ≡ told_round c (state_of t said) true said s
+  still_round c hops near = still_told (state_of t said) s said still c (lanes_by (keys hops)) ∙ round_is c t said s hops near true
+
+  pub still_is_told : (es : List SessionLane) → IsTold (state_of t said) s es said
+  still_is_told es = record { here = λ c e i. still c e; rest = λ l out. refl }
+
+  pub still_once : (c : ℕ) → t ≡ record t { wants = wants_once c (state_of t said) said s }
+  unfolding wants_once
+  still_once c =
+      ap (λ (w : Wants). record t { wants = w })
+      (sym (unchanged {X = Want} want_keys (unmarked_in s empty) t.wants (λ k w there. ap (λ b. Some (record w { confirm = b })) (by w.confirm (is_session s k.0))))
+      ∙ ap (λ (u : Set units). changed (unmarked_in s u) t.wants) (sym (still_marked (state_of t said) s said still c (lanes_by (keys (hops_in (facts_of c (state_of t said)) s))))))
+    where
+      by : (b a : Bool) → (b && not (a && false)) ≡ b
+      by true true = refl
+      by true false = refl
+      by false a = refl
+
+-- that a session is only due, as the code tests it
+module _ (due : List Session) (touched : Marks) (s : Session) where
+  only_due : (b a r : Bool) → r ≡ (b && not a) → r ≡ true → (b ≡ true) × (a ≡ false)
+  only_due true true r e on = let z : true ≡ false = sym on ∙ e in absurd (cc)
+  only_due true false r e on = (refl, refl)
+  only_due false a r e on = let z : true ≡ false = sym on ∙ e in absurd (cc)
+
+  pub still_due : (b r : Bool) → b ≡ is_among due s → r ≡ (b && not (is_touched touched s)) → r ≡ true → (b ≡ true) × (is_among due s ≡ true) × (is_touched touched s ≡ false)
+  still_due b r is e on = let both = only_due b (is_touched touched s) r e on in (both.0, sym is ∙ both.0, both.1)
 
 -- ---- lists that grow by a row
 pub again : (list : List Near) (i : ℕ) (d : Near) → i < length list → get_or list i d ≡ get_or list i (get_or list i d)
@@ -113,6 +150,12 @@ module _ (t : Tables) (first : Said) (list : List Near) (i : ℕ) (r : Near) (is
         subst (λ ss. AreTold m ss new) (sym (sessions_more list i r is h))
         (lanes_told m first xs said told r.session 0 (hops_in (facts_of 0 m) r.session) (λ c. sym (hops_are 0 m r.session) ∙ hops_are c m r.session) new
         (subst (λ (z : Tables). IsTold (state_of z said) r.session (lanes_by (keys (hops_in (facts_of 0 (state_of z said)) r.session))) new) (marks 0) (next 0)))
+
+    -- what was said to the lanes of the next one is still what goes there
+    pub step_still : IsStill m r.session first → IsStill (state_of now said) r.session said
+    step_still still d e =
+        told.rest (lane_by r.session e) (not_yet table list same i r is h) ∙ still d e ∙ sym (toward_kept m first 0 xs d (lane_by r.session e))
+        ∙ ap (λ (z : Tables). toward z.config (facts_of d (state_of z said)) (lane_by r.session e)) (sym (marks 0))
 
     pub step_sent : {B : Type 0} (posted : B → Send → B) (start out new : B) (c : ℕ) (due : Session → Bool) → out ≡ fold posted start (flat_map (λ (e : Near). told_round c m (due e.session) first e.session) (take i list))
         → new ≡ fold posted out (told_round c (state_of now said) (due r.session) said r.session) → new ≡ fold posted start (flat_map (λ (e : Near). told_round c m (due e.session) first e.session) (take (i + 1) list))

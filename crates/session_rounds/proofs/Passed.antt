@@ -3,25 +3,30 @@ use Rattle.std.specs.Prelude.{◌≡◌, ℕ, ◌+◌, ◌*◌, ◌≤◌, ◌||
 use Rattle.std.specs.List.{flat_map, list_any}
 use Rattle.std.specs.Option.{unwrap_or}
 use Rattle.std.specs.Ordering.{eq_by_cmp}
-use Rattle.std.proofs.Common.{sym, ap, subst, ◌∙◌}
+use Rattle.std.proofs.Common.{sym, ap, subst, ◌∙◌, ⊎_elim}
 use Rattle.std.proofs.lemmas.Bool.{le-leb}
 use Rattle.std.proofs.lemmas.List.Sums.{fold-append}
+use Rattle.rsvp_base.specs.Members.{In}
 use Rattle.rsvp_base.specs.Orders.{sessions}
 use Rattle.rsvp_base.specs.Sets.{Set}
-use Rattle.rsvp_base.specs.Table.{Table, changed, get, has, kept, keys}
+use Rattle.rsvp_base.specs.Table.{Table, changed, empty, get, has, kept, keys}
 use Rattle.rsvp_base.specs.declared.session.Session.{Session}
 use Rattle.rsvp_base.proofs.Changed.{has_changed}
 use Rattle.rsvp_base.proofs.Fronts.{to_keys}
+use Rattle.rsvp_base.proofs.Members.{tied_in}
 use Rattle.rsvp_base.proofs.SetLaws.{or_left, or_right}
-use Rattle.rsvp_base.proofs.Tables.{get-changed, get-kept, then_do}
+use Rattle.rsvp_base.proofs.Tables.{get-changed, get-kept, got_changed, then_do}
 use Rattle.blockade_state.specs.Touched.{Marks, is_touched, touched_at, touched_by}
 use Rattle.router_lookups.proofs.Lists.{some_is}
+use Rattle.router_lookups.proofs.Requesting.{nowhere}
 use Rattle.router_rules.specs.Facts.{SenderKey}
 use Rattle.router_rules.specs.Inputs.{Send, Wait}
+use Rattle.router_rules.specs.Known.{lanes}
+use Rattle.router_rules.specs.Requests.{toward}
 use Rattle.router_rules.specs.Rule.{facts_after, sent_after}
-use Rattle.node_facts.specs.State.{IsSaid, IsSettled, Said, State, facts_of}
+use Rattle.node_facts.specs.State.{IsSaid, IsSettled, Said, State, facts_of, said_at}
 use Rattle.node_facts.specs.Waited.{is_fired, later_due}
-use Rattle.node_sends.specs.Saying.{IsRoomy}
+use Rattle.node_sends.specs.Saying.{IsRoomy, lane_by}
 use Rattle.node_sends.specs.Told.{offered}
 use Rattle.waiting_sends.specs.Several.{gone_told, is_among, refreshed}
 use Rattle.waiting_sends.specs.Waits.{IsWatched}
@@ -33,12 +38,15 @@ use Rattle.node_tables.specs.declared.tables.Tables.{Tables}
 use Rattle.tables_waiting.specs.Steps.{AreSound, all_dying}
 use Rattle.round_laws.specs.Passing.{IsPassedOver, passed}
 use Rattle.round_laws.specs.Rounds.{AreCleared, AreRounds, AreTold, SessionHops, told_round, torn_near, wants_told, with_hops}
+use Rattle.lane_telling.specs.Rounds.{IsStill}
+use Rattle.round_laws.proofs.Clocks.{toward_clock}
 use Rattle.round_laws.proofs.Dying.{all_dying_are_there, dead_are_gone}
 use Rattle.round_laws.proofs.Passing.{wait_is_rounds}
 use Rattle.round_laws.proofs.Rounds.{cleared_is_roomy, rounds_are_said}
 use Rattle.round_laws.proofs.Telling.{told_any, wants_any}
-use Rattle.session_rounds.specs.Nears.{NearTable, hops_then}
+use Rattle.session_rounds.specs.Nears.{AreStill, NearTable, hops_then}
 use Rattle.session_rounds.proofs.Near.{near_rows, near_sessions}
+use Rattle.session_rounds.proofs.Untouched.{toward_stays}
 
 -- ---- t are the tables before, and first what was said
 module _ (t : Tables) (first : Said) (ms word : ℕ) (settled : IsSettled (state_of t first)) (said : IsSaid first (state_of t first)) (short : ms ≤ 2 * t.config.quarter) where
@@ -100,6 +108,41 @@ module _ (t : Tables) (first : Said) (ms word : ℕ) (settled : IsSettled (state
 
     pub settled_late : IsSettled m
     settled_late = subst IsSettled (sym now) (wait_is_rounds.settled ss ms word n passed_over)
+
+    -- a session that came due, and of which nothing died: what was said to its lanes is what goes there
+    module _ (s : Session) (came : has fired s ≡ true) (calm : is_touched watched s ≡ false) where
+      runs : has t.due s ≡ true
+      runs =
+          let v = some_is (get fired s) came in
+          let g = got_changed sessions (is_fired ms) t.due s v.0 v.1 in
+          ap is_some g.1
+
+      none_dies : In s (all_dying ms t) → ⊥
+      none_dies i = let z : true ≡ false = sym (touched_so s runs (tied_in sessions s (all_dying ms t) i)) ∙ calm in absurd (cc)
+
+      was_there : IsStill m s first
+      was_there d e =
+          said.at 0 (lane_by s e) ∙ toward_stays t first ms word settled short (lane_by s e) none_dies 0
+          ∙ ap (λ (z : State). toward z.place (facts_of (0 + ms) z) (lane_by s e)) (sym now) ∙ toward_clock m (0 + ms) d (lane_by s e)
+
+    -- as the code tests it
+    module _ (due : List Session) (touched : Marks) (due_is : due ≡ keys fired) (touched_is : touched ≡ watched) where
+      came_so : (s : Session) → is_among due s ≡ true → has fired s ≡ true
+      came_so s h = sym (among_keys fired s) ∙ ap (λ xs. is_among xs s) (sym due_is) ∙ h
+
+      calm_so : (s : Session) → is_touched touched s ≡ false → is_touched watched s ≡ false
+      calm_so s h = ap (λ (z : Marks). is_touched z s) (sym touched_is) ∙ h
+
+      pub still_first : AreStill m first due touched
+      still_first s h calm = was_there s (came_so s h) (calm_so s calm)
+
+      -- and after lanes were cleared
+      pub still_cleared : (clear : Said) → AreCleared m near.rows clear → AreStill (state_of late clear) clear due touched
+      still_cleared clear cleared s h calm d e =
+          ⊎_elim
+          (λ (a : said_at clear (lane_by s e) ≡ said_at first (lane_by s e)). a ∙ still_first s h calm d e)
+          (λ (b : (said_at clear (lane_by s e) ≡ empty) × (has (lanes (facts_of d m)) (lane_by s e) ≡ false)). b.0 ∙ sym (nowhere m.place (facts_of d m) (lane_by s e) b.1))
+          (cleared.at d (lane_by s e))
 
     module _ (clear : Said) (cleared : AreCleared m near.rows clear) where
       cleared_at : (c : ℕ) → AreCleared m (each (with_hops (facts_of c n)) ss) clear

@@ -15,6 +15,7 @@ ghost use Rattle.session_rounds.specs.Moving.{new_of, torn_of};
 use crate::nears::Nears;
 use crate::rooms::Rooms;
 use crate::rounds::{tear_all, tell_all};
+use blockade_state::Touched;
 use lane_state::LaneTable;
 use lane_telling::offered;
 use node_tables::Tables;
@@ -126,10 +127,11 @@ pub fn change_routes<O: Outbox>(
     ensures old { result.items ≡ tables.old.config.routes }
 {
     rooms.nears.note(&tables.due, &tables.paths);
+    let touched = Touched::new();
     let old = tables.config.reroute(routes);
     tear_ways(tables, old.as_slice(), &rooms.nears, out);
-    tear_all(tables, said, &rooms.nears, out);
+    tear_all(tables, said, &rooms.nears, &[], &touched, out);
     tell_ways(tables, old.as_slice(), &rooms.nears, out);
-    tell_all(tables, said, &rooms.nears, &[], out);
+    tell_all(tables, said, &rooms.nears, &[], &touched, out);
     old
 }

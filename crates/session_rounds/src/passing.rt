@@ -16,7 +16,8 @@ use tables_waiting::{age_all, forget_all};
 
 /// Lets time pass over a node, in milliseconds, at most half a period (RFC 2205, 3.7). What is not refreshed dies: its senders
 /// are torn, its names are forgotten, and the previous hops are told what changed. Sessions that come due are refreshed, and
-/// their countdowns begin again as the word says (RFC 2209, 2: PATH REFRESH and RESV REFRESH).
+/// their countdowns begin again as the word says (RFC 2209, 2: PATH REFRESH and RESV REFRESH); where nothing of such a session
+/// died, what its lanes were told last is told again.
 pub fn pass_time<O: Outbox>(
     tables: &mut Tables,
     said: &mut LaneTable,
@@ -42,9 +43,10 @@ pub fn pass_time<O: Outbox>(
     let fired = age_all(tables, ms, word, &mut rooms.dead, &mut touched);
     forget_all(tables, &rooms.dead, &touched);
     rooms.nears.keep(&touched, &fired);
+    let due = fired.as_slice();
     tell_dead(&tables.config, &tables.senders, &rooms.dead, out);
-    tear_all(tables, said, &rooms.nears, out);
+    tear_all(tables, said, &rooms.nears, due, &touched, out);
     tell_fired(&tables.config, &tables.senders, &tables.paths, &fired, out);
     clear_all(tables, said, &rooms.nears);
-    tell_all(tables, said, &rooms.nears, fired.as_slice(), out);
+    tell_all(tables, said, &rooms.nears, due, &touched, out);
 }

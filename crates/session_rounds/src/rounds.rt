@@ -1,7 +1,8 @@
 //! The lanes of sessions, one session after another.
-ghost use Rattle.std.specs.Prelude.{◌≡◌, ℕ, fold, true, nat_lt, Some, map};
+ghost use Rattle.std.specs.Prelude.{◌≡◌, ℕ, ◌&&◌, not, fold, true, nat_lt, Some, map};
 ghost use Rattle.std.specs.List.{flat_map};
 ghost use Rattle.rsvp_base.specs.Table.{empty, get, keys, size};
+ghost use Rattle.blockade_state.specs.Touched.{is_touched};
 ghost use Rattle.router_rules.specs.Known.{Lane};
 ghost use Rattle.style_rules.specs.Merge.{PartTable};
 ghost use Rattle.node_facts.specs.State.{facts_of};
@@ -11,23 +12,62 @@ ghost use Rattle.node_sends.specs.SendsHere.{hops_in};
 ghost use Rattle.waiting_sends.specs.Several.{is_among};
 ghost use Rattle.node_tables.specs.Whole.{state_of};
 ghost use Rattle.round_laws.specs.Rounds.{AreCleared, AreTold, told_round, torn_near, wants_once, wants_told};
+ghost use Rattle.lane_telling.specs.Rounds.{IsStill};
+ghost use Rattle.session_rounds.specs.Nears.{AreStill, near_row};
 
-use crate::nears::Nears;
+use crate::nears::{Near, Nears};
+use blockade_state::Touched;
 use lane_state::LaneTable;
-use lane_telling::{clear_lanes, tear_lanes, tell_lanes};
+use lane_telling::{clear_lanes, refresh_lanes, tear_lanes, tell_lanes};
 use lane_wishes::{unmark, used_marks};
 use node_tables::Tables;
 use node_telling::Outbox;
 use rsvp_base::{Sender, Session};
 
-// The ResvTears of the sessions' lanes toward the hops that they had, of what was said there: by session, style and hop.
-pub(crate) fn tear_all<O: Outbox>(tables: &Tables, said: &LaneTable, nears: &Nears, out: &mut O)
+// Whether a session is one of these.
+fn is_one_of(sessions: &[Session], session: Session) -> bool
+    ensures { result ≡ is_among sessions.now session }
+{
+    sessions.iter().any(|one| *one == session)
+}
+
+// Whether a session is only due: nothing of it changed.
+fn is_still(due: bool, touched: &Touched, session: Session) -> bool
+    ensures { result ≡ (due && not (is_touched touched.now session)) }
+{
+    due && !touched.has(session)
+}
+
+// The ResvTears of a session's lanes toward the hops that it had, of what was said there; none where that is what goes there.
+fn tear_session<O: Outbox>(tables: &Tables, said: &LaneTable, near: &Near, still: bool, out: &mut O)
+    requires { still ≡ true → IsStill (state_of tables.now said.now) near.now.session said.now }
+    ensures { (c : ℕ) → out.new ≡ fold O.posted out.old (torn_near c (state_of tables.now said.now) said.now (near_row near.now)) }
+{
+    if still {
+        return;
+    }
+    tear_lanes(tables, said, near.session, &near.hops, out);
+}
+
+// The ResvTears of the sessions' lanes toward the hops that they had, of what was said there: by session, style and hop. Where
+// a session is only due, what was said to its lanes is what goes there.
+pub(crate) fn tear_all<O: Outbox>(
+    tables: &Tables,
+    said: &LaneTable,
+    nears: &Nears,
+    due: &[Session],
+    touched: &Touched,
+    out: &mut O,
+)
+    requires { AreStill (state_of tables.now said.now) said.now due.now touched.now }
     ensures { (c : ℕ) → out.new ≡ fold O.posted out.old (flat_map (torn_near c (state_of tables.now said.now) said.now) nears.now.rows) }
 {
     let list = nears.as_slice();
     for i in 0..list.len() {
         let near = &list[i];
-        tear_lanes(tables, said, near.session, &near.hops, out);
+        let is_due = is_one_of(due, near.session);
+        let still = is_still(is_due, touched, near.session);
+        tear_session(tables, said, near, still, out);
     }
 }
 
@@ -43,16 +83,9 @@ pub(crate) fn clear_all(tables: &Tables, said: &mut LaneTable, nears: &Nears)
     }
 }
 
-// Whether a session is one of these.
-fn is_one_of(sessions: &[Session], session: Session) -> bool
-    ensures { result ≡ is_among sessions.now session }
-{
-    sessions.iter().any(|one| *one == session)
-}
-
 // The Resvs of a session's lanes, where they changed or are due; the marks that they use are taken away. What was said before
 // is of lanes from which a path comes.
-fn tell_session<O: Outbox>(
+fn tell_wishes<O: Outbox>(
     tables: &mut Tables,
     said: &mut LaneTable,
     session: Session,
@@ -71,16 +104,53 @@ fn tell_session<O: Outbox>(
     unmark(tables, session, &used);
 }
 
+// The Resvs of the lanes of a session that is due, where what was said there is what goes there.
+fn refresh_session<O: Outbox>(tables: &Tables, said: &LaneTable, session: Session, out: &mut O)
+    requires { IsStill (state_of tables.now said.now) session said.now }
+    ensures { (c : ℕ) → out.new ≡ fold O.posted out.old (told_round c (state_of tables.now said.now) true said.now session) }
+{
+    let hops = tables.paths.hops(session);
+    refresh_lanes(tables, said, session, &hops, out);
+}
+
+// The Resvs of a session's lanes, where they changed or are due; the marks that they use are taken away. What was said before
+// is of lanes from which a path comes, and, where the session is `still`, it is due and that is what goes there.
+fn tell_session<O: Outbox>(
+    tables: &mut Tables,
+    said: &mut LaneTable,
+    session: Session,
+    due: bool,
+    still: bool,
+    out: &mut O,
+)
+    requires roomy { IsRoomy (state_of tables.old said.old) said.old }
+    requires due { still ≡ true → due ≡ true }
+    requires still { still ≡ true → IsStill (state_of tables.old said.old) session said.old }
+    ensures sent { (c : ℕ) → out.new ≡ fold O.posted out.old (told_round c (state_of tables.old said.old) due said.old session) }
+    ensures told { (c : ℕ) → IsTold (state_of tables.old said.old) session (lanes_by (keys (hops_in (facts_of c (state_of tables.old said.old)) session))) said.new }
+    ensures roomy { IsRoomy (state_of tables.old said.old) said.new }
+    ensures marks { (c : ℕ) → tables.new ≡ record tables.old { wants = wants_once c (state_of tables.old said.old) said.old session } }
+{
+    if still {
+        refresh_session(tables, said, session, out);
+        return;
+    }
+    tell_wishes(tables, said, session, due, out);
+}
+
 // The Resvs of the sessions' lanes, where they changed or their session is one of `due`: by session, style and hop. The marks
-// that they use are taken away. What was said before is of lanes from which a path comes.
+// that they use are taken away. What was said before is of lanes from which a path comes, and, where a session is only due, it
+// is what goes there.
 pub(crate) fn tell_all<O: Outbox>(
     tables: &mut Tables,
     said: &mut LaneTable,
     nears: &Nears,
     due: &[Session],
+    touched: &Touched,
     out: &mut O,
 )
-    requires { IsRoomy (state_of tables.old said.old) said.old }
+    requires roomy { IsRoomy (state_of tables.old said.old) said.old }
+    requires still { AreStill (state_of tables.old said.old) said.old due.now touched.now }
     ensures sent { (c : ℕ) → out.new ≡ fold O.posted out.old (flat_map (λ s. told_round c (state_of tables.old said.old) (is_among due.now s) said.old s) (keys nears.now)) }
     ensures told { AreTold (state_of tables.old said.old) (keys nears.now) said.new }
     ensures roomy { IsRoomy (state_of tables.old said.old) said.new }
@@ -90,6 +160,7 @@ pub(crate) fn tell_all<O: Outbox>(
     for i in 0..list.len() {
         let session = list[i].session;
         let is_due = is_one_of(due, session);
-        tell_session(tables, said, session, is_due, out);
+        let still = is_still(is_due, touched, session);
+        tell_session(tables, said, session, is_due, still, out);
     }
 }

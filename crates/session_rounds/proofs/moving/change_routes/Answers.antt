@@ -1,4 +1,4 @@
-use Rattle.std.proofs.Common.{ℕ, false, fold, sym, ap, subst, ◌∙◌}
+use Rattle.std.proofs.Common.{◌≡◌, ℕ, false, true, fold, sym, ap, subst, ◌∙◌}
 use Rattle.std.specs.List.{flat_map}
 use Rattle.rsvp_base.specs.Table.{keys}
 use Rattle.router_rules.specs.Inputs.{Moved}
@@ -21,8 +21,14 @@ tear_ways-requires g c = subst AreRoutes (sym c.as_slice.ensures.value) c.rerout
 pub tell_ways-requires : goal.tell_ways-requires
 tell_ways-requires g c = subst AreRoutes (sym c.as_slice-2.ensures.value) c.reroute-old.ensures.routed
 
-pub tell_all-requires : goal.tell_all-requires
-tell_all-requires g c = roomy_first c.args.tables.now c.args.said.now c.reroute-old.new.self c.requires.settled c.requires.said
+pub tear_all-requires : goal.tear_all-requires
+tear_all-requires g c = λ s among calm. let z : false ≡ true = among in absurd (cc)
+
+pub tell_all-requires-clause-still : goal.tell_all-requires-clause-still
+tell_all-requires-clause-still g c = λ s among calm. let z : false ≡ true = among in absurd (cc)
+
+pub tell_all-requires-clause-roomy : goal.tell_all-requires-clause-roomy
+tell_all-requires-clause-roomy g c = roomy_first c.args.tables.now c.args.said.now c.reroute-old.new.self c.requires.settled c.requires.said
 
 pub returns-clause-facts : goal.returns-clause-facts
 returns-clause-facts g c = λ clock.

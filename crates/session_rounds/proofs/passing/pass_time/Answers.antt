@@ -17,7 +17,7 @@ use Rattle.round_laws.specs.Passing.{passed}
 use Rattle.round_laws.specs.Rounds.{AreCleared, AreTold, told_round, torn_near, wants_told}
 use Rattle.round_laws.proofs.Dying.{dead_are_gone}
 use Rattle.session_rounds.specs.Nears.{NearTable}
-use Rattle.session_rounds.proofs.Passed.{facts_last, four_sent, place_last, roomy, said_after, sent_all, settled_last, sound_last, watched_has}
+use Rattle.session_rounds.proofs.Passed.{facts_last, four_sent, place_last, roomy, said_after, sent_all, settled_last, sound_last, still_cleared, still_first, watched_has}
 use Rattle.session_rounds.proofs.Passed.{near as near_in}
 use Rattle.session_rounds.proofs.passing.pass_time.Goals as goal
 
@@ -27,17 +27,33 @@ forget_all-requires-clause-watched g c = λ s h.
     ap (λ (m : Marks). has m s) (c.age_all-fired.ensures.touched ∙ ap (touched_by (all_dying c.args.ms t)) c.watch_all-touched.ensures)
     ∙ watched_has t.due (all_dying c.args.ms t) t.config.quarter c.args.ms c.args.word s (sym (ap (λ (z : State). has z.due s) (c.age_all-fired.ensures.state empty)) ∙ h)
 
+pub tear_all-requires : goal.tear_all-requires
+tear_all-requires g c =
+    let now : state_of c.forget_all.new.tables c.args.said.now ≡ passed c.args.ms c.args.word (state_of c.args.tables.now c.args.said.now) = c.forget_all.ensures.state c.args.said.now ∙ (λ i. after_wait (c.age_all-fired.ensures.dead i) (c.age_all-fired.ensures.state c.args.said.now i)) in
+    let touched : c.age_all-fired.new.touched ≡ touched_by (all_dying c.args.ms c.args.tables.now) (changed unmarked c.args.tables.now.due) = c.age_all-fired.ensures.touched ∙ ap (touched_by (all_dying c.args.ms c.args.tables.now)) c.watch_all-touched.ensures in
+    let due = c.as_slice-due.ensures.sessions ∙ ap (λ (z : Set sessions). keys z) c.age_all-fired.ensures.fired in
+    still_first c.args.tables.now c.args.said.now c.args.ms c.args.word c.requires.settled c.requires.said c.requires.short c.forget_all.new.tables now c.as_slice-due.result.now c.age_all-fired.new.touched due touched
+
 pub clear_all-requires : goal.clear_all-requires
 clear_all-requires g c = c.requires.said.some
 
-pub tell_all-requires : goal.tell_all-requires
-tell_all-requires g c =
+pub tell_all-requires-clause-roomy : goal.tell_all-requires-clause-roomy
+tell_all-requires-clause-roomy g c =
     let now : state_of c.forget_all.new.tables c.args.said.now ≡ passed c.args.ms c.args.word (state_of c.args.tables.now c.args.said.now) = c.forget_all.ensures.state c.args.said.now ∙ (λ i. after_wait (c.age_all-fired.ensures.dead i) (c.age_all-fired.ensures.state c.args.said.now i)) in
     let touched : c.age_all-fired.new.touched ≡ touched_by (all_dying c.args.ms c.args.tables.now) (changed unmarked c.args.tables.now.due) = c.age_all-fired.ensures.touched ∙ ap (touched_by (all_dying c.args.ms c.args.tables.now)) c.watch_all-touched.ensures in
     let near : c.keep.new.self ≡ near_in c.args.tables.now c.args.said.now c.args.ms c.args.word c.requires.settled c.requires.said c.requires.short = c.keep.ensures ∙ (λ i. kept (λ s. is_touched (touched i) s || has (c.age_all-fired.ensures.fired i) s) (c.note.ensures i)) in
     let cleared = subst (λ (z : NearTable). AreCleared (state_of c.forget_all.new.tables c.args.said.now) z.rows c.clear_all.new.said) near c.clear_all.ensures in
     let r = roomy c.args.tables.now c.args.said.now c.args.ms c.args.word c.requires.settled c.requires.said c.requires.short c.forget_all.new.tables now c.clear_all.new.said cleared in
     record { some = r.some; within = r.within }
+
+pub tell_all-requires-clause-still : goal.tell_all-requires-clause-still
+tell_all-requires-clause-still g c =
+    let now : state_of c.forget_all.new.tables c.args.said.now ≡ passed c.args.ms c.args.word (state_of c.args.tables.now c.args.said.now) = c.forget_all.ensures.state c.args.said.now ∙ (λ i. after_wait (c.age_all-fired.ensures.dead i) (c.age_all-fired.ensures.state c.args.said.now i)) in
+    let touched : c.age_all-fired.new.touched ≡ touched_by (all_dying c.args.ms c.args.tables.now) (changed unmarked c.args.tables.now.due) = c.age_all-fired.ensures.touched ∙ ap (touched_by (all_dying c.args.ms c.args.tables.now)) c.watch_all-touched.ensures in
+    let near : c.keep.new.self ≡ near_in c.args.tables.now c.args.said.now c.args.ms c.args.word c.requires.settled c.requires.said c.requires.short = c.keep.ensures ∙ (λ i. kept (λ s. is_touched (touched i) s || has (c.age_all-fired.ensures.fired i) s) (c.note.ensures i)) in
+    let cleared = subst (λ (z : NearTable). AreCleared (state_of c.forget_all.new.tables c.args.said.now) z.rows c.clear_all.new.said) near c.clear_all.ensures in
+    let due = c.as_slice-due.ensures.sessions ∙ ap (λ (z : Set sessions). keys z) c.age_all-fired.ensures.fired in
+    still_cleared c.args.tables.now c.args.said.now c.args.ms c.args.word c.requires.settled c.requires.said c.requires.short c.forget_all.new.tables now c.as_slice-due.result.now c.age_all-fired.new.touched due touched c.clear_all.new.said cleared
 
 pub returns-clause-facts : goal.returns-clause-facts
 returns-clause-facts g c = λ clock.
@@ -65,7 +81,7 @@ returns-clause-sent g c = λ clock.
     let three =
     c.tell_fired.ensures (clock + c.args.ms) m refl refl refl ∙ (λ i. fold g.O.Outbox.posted c.tear_all.new.out (flat_map (refreshed (place i) (facts_of (clock + c.args.ms) m)) (keys (c.age_all-fired.ensures.fired i)))) in
     let fired : Set sessions = changed (is_fired c.args.ms) c.args.tables.now.due in
-    let due = c.as_slice.ensures.sessions ∙ ap (λ (z : Set sessions). keys z) c.age_all-fired.ensures.fired in
+    let due = c.as_slice-due.ensures.sessions ∙ ap (λ (z : Set sessions). keys z) c.age_all-fired.ensures.fired in
     let four =
     c.tell_all.ensures.sent (clock + c.args.ms) ∙ (λ i. fold g.O.Outbox.posted c.tell_fired.new.out (flat_map (λ s. told_round (clock + c.args.ms) (state_of c.forget_all.new.tables c.clear_all.new.said) (is_among (due i) s) c.clear_all.new.said s) (keys (near i)))) in
     four_sent g.O.Outbox.posted c.args.out.now c.tell_dead.new.out c.tear_all.new.out c.tell_fired.new.out c.tell_all.new.out

@@ -9,7 +9,7 @@ use Rattle.node_tables.specs.Whole.{state_of}
 use Rattle.round_laws.specs.Rounds.{AreTold, told_round, wants_told}
 use Rattle.round_laws.proofs.Telling.{told_nothing}
 use Rattle.session_rounds.specs.declared.nears.Near.{Near}
-use Rattle.session_rounds.proofs.Loops.{again, all_sessions, before_roomy, no_wants, session_of, step_marks, step_roomy, step_sent, step_told}
+use Rattle.session_rounds.proofs.Loops.{again, all_sessions, before_roomy, no_wants, session_of, step_marks, step_roomy, step_sent, step_still, step_told, still_due}
 use Rattle.session_rounds.proofs.rounds.tell_all.Goals as goal
 
 pub loop-i-init : goal.loop-i-init
@@ -17,13 +17,26 @@ loop-i-init g c =
     record {
       sent = λ clock. refl;
       told = told_nothing (state_of c.args.tables.now c.args.said.now) c.args.said.now;
-      roomy = c.requires;
+      roomy = c.requires.roomy;
       marks = λ clock. no_wants c.args.tables.now c.args.said.now clock;
     }
 
-pub tell_session-requires : goal.tell_session-requires
-tell_session-requires g c =
+pub tell_session-requires-clause-roomy : goal.tell_session-requires-clause-roomy
+tell_session-requires-clause-roomy g c =
     before_roomy c.args.tables.now c.args.said.now c.as_slice-list.result.now c.loop-i.i (get_or c.as_slice-list.result.now c.loop-i.i c.index-list-i.result) (again c.as_slice-list.result.now c.loop-i.i c.index-list-i.result c.loop-i-test.true) c.loop-i-test.true c.args.nears.now c.as_slice-list.ensures.rows c.loop-i.tables c.loop-i.said c.loop-i.invariant.marks c.loop-i.invariant.told c.loop-i.invariant.roomy
+
+pub tell_session-requires-clause-due : goal.tell_session-requires-clause-due
+tell_session-requires-clause-due g c = λ on.
+    let r = get_or c.as_slice-list.result.now c.loop-i.i c.index-list-i.result in
+    (still_due c.args.due.now c.args.touched.now r.session c.is_one_of-is_due.result c.is_still-still.result c.is_one_of-is_due.ensures c.is_still-still.ensures on).0
+
+pub tell_session-requires-clause-still : goal.tell_session-requires-clause-still
+tell_session-requires-clause-still g c = λ on.
+    let list = c.as_slice-list.result.now in
+    let r = get_or list c.loop-i.i c.index-list-i.result in
+    let q = still_due c.args.due.now c.args.touched.now r.session c.is_one_of-is_due.result c.is_still-still.result c.is_one_of-is_due.ensures c.is_still-still.ensures on in
+    step_still c.args.tables.now c.args.said.now list c.loop-i.i r (again list c.loop-i.i c.index-list-i.result c.loop-i-test.true) c.loop-i-test.true c.args.nears.now c.as_slice-list.ensures.rows c.loop-i.tables c.loop-i.said c.loop-i.invariant.marks c.loop-i.invariant.told
+    (c.requires.still r.session q.1 q.2)
 
 pub loop-i-preserved : goal.loop-i-preserved
 loop-i-preserved g c =

@@ -1,28 +1,24 @@
-use Rattle.std.proofs.Common.{fold, ap, subst, ◌∙◌}
-use Rattle.rsvp_base.specs.Table.{empty, keys}
-use Rattle.path_state.specs.Paths.{HopSet}
-use Rattle.router_rules.specs.Facts.{Wants}
+use Rattle.std.proofs.Common.{fold, sym, ap, ◌∙◌}
+use Rattle.rsvp_base.specs.Table.{keys}
+use Rattle.node_facts.specs.State.{facts_of}
 use Rattle.node_sends.specs.Before.{lanes_by}
-use Rattle.node_sends.specs.Saying.{IsTold}
+use Rattle.node_sends.specs.SendsHere.{hops_in}
 use Rattle.node_tables.specs.Whole.{state_of}
-use Rattle.session_rounds.proofs.Loops.{hops_so, once_is, round_is}
+use Rattle.round_laws.specs.Rounds.{told_round}
+use Rattle.session_rounds.proofs.Loops.{still_is_told, still_once}
 use Rattle.session_rounds.proofs.rounds.tell_session.Goals as goal
 
-pub tell_lanes-requires-clause-near : goal.tell_lanes-requires-clause-near
-tell_lanes-requires-clause-near g c = λ clock. hops_so clock c.args.tables.now empty c.args.session c.hops-hops.result c.hops-hops.ensures
+pub refresh_session-requires : goal.refresh_session-requires
+refresh_session-requires g c = c.requires.still c.if-still.true
 
-pub returns-clause-sent : goal.returns-clause-sent
-returns-clause-sent g c = λ clock.
-    c.tell_lanes.ensures.sent clock c.args.said.now
-    ∙ ap (fold g.O.Outbox.posted c.args.out.now) (round_is clock c.args.tables.now c.args.said.now c.args.session c.hops-hops.result c.hops-hops.ensures c.args.due)
+pub returns-then-still-clause-sent : goal.returns-then-still-clause-sent
+returns-then-still-clause-sent g c = λ clock.
+    c.refresh_session.ensures clock ∙ ap (λ b. fold g.O.Outbox.posted c.args.out.now (told_round clock (state_of c.args.tables.now c.args.said.now) b c.args.said.now c.args.session)) (sym (c.requires.due c.if-still.true))
 
-pub returns-clause-told : goal.returns-clause-told
-returns-clause-told g c = λ clock.
-    subst (λ (hs : HopSet). IsTold (state_of c.args.tables.now c.args.said.now) c.args.session (lanes_by (keys hs)) c.tell_lanes.new.said)
-    (hops_so clock c.args.tables.now c.args.said.now c.args.session c.hops-hops.result c.hops-hops.ensures) c.tell_lanes.ensures.told
+pub returns-then-still-clause-told : goal.returns-then-still-clause-told
+returns-then-still-clause-told g c = λ clock.
+    let n = state_of c.args.tables.now c.args.said.now in
+    still_is_told c.args.tables.now c.args.said.now c.args.session (c.requires.still c.if-still.true) (lanes_by (keys (hops_in (facts_of clock n) c.args.session)))
 
-pub returns-clause-marks : goal.returns-clause-marks
-returns-clause-marks g c = λ clock.
-    c.unmark.ensures
-    ∙ ap (λ (w : Wants). record c.args.tables.now { wants = w })
-    (once_is clock c.args.tables.now c.args.said.now c.args.session c.hops-hops.result c.hops-hops.ensures c.used_marks-used.result (c.used_marks-used.ensures clock c.args.said.now))
+pub returns-then-still-clause-marks : goal.returns-then-still-clause-marks
+returns-then-still-clause-marks g c = λ clock. still_once c.args.tables.now c.args.said.now c.args.session (c.requires.still c.if-still.true) clock
