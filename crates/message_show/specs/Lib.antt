@@ -5,3 +5,4 @@ pub mod Readings
 pub mod ShowLines
 pub mod Stops
 pub mod Laws
+pub mod ShowAdvice

@@ -7,6 +7,7 @@
 //! have too, and on `script_words` for how a bad line is told.
 #![tactic(auto)]
 
+mod advice;
 pub mod laws;
 mod lines;
 mod message;

@@ -1,9 +1,11 @@
 //! Lines of hexadecimal digits.
-ghost use Rattle.std.specs.Prelude.{◌≡◌, ◌++◌, ◌≤◌, ℕ, List, length, take, IfOk, IfErr, OnOk};
+ghost use Rattle.std.specs.Prelude.{◌≡◌, ◌++◌, ◌≤◌, [], ℕ, List, length, take, Err, IfOk, IfErr, OnOk};
 ghost use Rattle.script_words.specs.LineFaults.{MatchParseErr};
 ghost use Rattle.message_show.specs.ShowLines.{IsBadDigits, IsShown, IsShownOf, IsWrong, Says};
+ghost use Rattle.message_show.specs.ShowAdvice.{IsToldDigits};
 ghost use Rattle.message_show.specs.Stops.{MatchStop};
 
+use crate::advice::put_digits_advice;
 use crate::reading::put_reading;
 use crate::stop::Stop;
 use hex::decode_to_slice;
@@ -54,11 +56,15 @@ fn put_line(out: &mut Vec<u8>, line: &[u8], room: &mut [u8]) -> Result<(), Stop>
 
 /// What is shown of an input: for each line that is not empty, the line of its message or of the first fault of its bytes.
 /// Or the first bad line: `Limit` where it has more than `MOST_DIGITS` bytes, else `Word` where a byte of it is no
-/// hexadecimal digit or their number is odd.
-pub fn show(alloc: Global, input: &[u8]) -> Result<Vec<u8>, ParseErr>
+/// hexadecimal digit or their number is odd. `advice` becomes the text that tells what is wrong with that line; where no line is
+/// bad, or memory runs out as it is written, it is empty.
+pub fn show(alloc: Global, input: &[u8], advice: &mut Vec<u8>) -> Result<Vec<u8>, ParseErr>
     ensures shown { IfOk result (λ text. IsShown input.now text.items) }
     ensures refused { IfErr result (MatchParseErr (IsBadDigits input.now)) }
+    ensures advised { IfErr result (MatchParseErr (IsToldDigits input.now advice.new.items)) }
+    ensures quiet { OnOk result (advice.new.items ≡ []) × (result ≡ Err ParseErr.NoMemory → advice.new.items ≡ []) }
 {
+    advice.clear();
     let mut out = Vec::new(alloc);
     let mut room = [0u8; MOST_BYTES];
     let mut number: u32 = 0;
@@ -67,7 +73,10 @@ pub fn show(alloc: Global, input: &[u8]) -> Result<Vec<u8>, ParseErr>
         number = number.saturating_add(1);
         match put_line(&mut out, line, &mut room) {
             Ok(()) => rest = behind,
-            Err(Stop::Bad(why)) => return Err(ParseErr::Line(LineErr { line: number, why })),
+            Err(Stop::Bad(why)) => {
+                put_digits_advice(advice, line, why);
+                return Err(ParseErr::Line(LineErr { line: number, why }));
+            }
             Err(Stop::NoMemory) => return Err(ParseErr::NoMemory),
         }
     }

@@ -12,7 +12,7 @@ use Rattle.router_rules.specs.declared.answers.Heard.{Heard}
 use Rattle.network_parcels.specs.Parcels.{parcel}
 use Rattle.net_replay.specs.Agreeing.{IsItem}
 
--- what is heard of an item: by the node of its end, where both are there
+-- what the node of its end makes of an item, where both are there
 abbrev pub heard_at : ℕ → World → ℕ → Item → Option End → Option Facts → Option Heard
 heard_at q w k x (Some e) (Some f) = Some (outcome q (Deliver k) w e.node f).heard
 heard_at q w k x (Some e) None = None
@@ -21,7 +21,7 @@ heard_at q w k x None f = None
 abbrev pub heard_of : ℕ → World → ℕ → Item → Option Heard
 heard_of q w k x = heard_at q w k x (slice_get w.net.ends x.end) (node_facts w (slice_get w.net.ends x.end))
 
--- the line that tells it, where the end has a name
+-- its trace line, where the end has a name
 abbrev pub told : Option (List ℕ) → Arrival → Option Heard → List ℕ
 told (Some name) a (Some h) = delivery_text name a h
 told (Some name) a None = []

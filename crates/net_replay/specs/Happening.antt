@@ -49,7 +49,7 @@ abbrev pub CanHappen : Net → Event → Type 0
 CanHappen net (event.Reroute group source hops) = CanMove net group source hops.items
 CanHappen net _ = Unit {0}
 
--- memory is taken for a report, for a tree that moves, and for what is told where the trace is on
+-- memory is taken for a report, for a tree that moves, and for trace lines
 abbrev pub takes_memory : Bool → Event → Bool
 takes_memory trace (event.Report end) = true
 takes_memory trace event.Flags = true

@@ -10,7 +10,7 @@ use Rattle.network_model.specs.Runs.{plain_report, flags_report, end_report, who
 use Rattle.network_model.specs.Texts.{flagged_text}
 use Rattle.network_model.specs.Worlds.{World}
 
--- a text was appended; or memory ran out, and a front of it was
+-- a text was appended; or memory ran out, and a prefix of it was
 abbrev pub Says : Result (Unit {0}) NoMemory → List ℕ → List ℕ → List ℕ → Type 0
 Says (Ok _) before after text = after ≡ before ++ text
 Says (Err _) before after text = (rest : List ℕ) × (before ++ text ≡ after ++ rest)

@@ -10,7 +10,7 @@ use Rattle.net_replay.specs.declared.world_err.WorldErr.{WorldErr}
 use Rattle.net_replay.specs.declared.world_err.WorldErr.TheVariants.{Crowded, NoMemory}
 
 -- all were made, and the whole text was written; or one would lead to a crowded world, and exactly the text of those before it
--- was written; or memory ran out, and a front of the text was written
+-- was written; or memory ran out, and a prefix of the text was written
 abbrev pub Ran : {R : Type 0} → Seen R → ℕ → List (List ℕ) → Result (Unit {0}) WorldErr → List ℕ → List ℕ → State R → List Step → World → Type 0
 Ran see q names (Ok _) before after v ss w = (crowds q ss w ≡ false) × Agrees see q v (run (machine q) ss w) × (after ≡ before ++ text_of q names ss w)
 Ran see q names (Err Crowded) before after v ss w = (crowds q ss w ≡ true) × (after ≡ before ++ text_of q names (uncrowded q ss w) w)
@@ -20,7 +20,7 @@ Ran see q names (Err NoMemory) before after v ss w = (rest : List ℕ) × (befor
 abbrev pub Makes : {R : Type 0} → Seen R → State R → Result (Unit {0}) WorldErr → List ℕ → List ℕ → State R → (ℕ → World → List Step) → Type 0
 Makes see old r before after new steps = (q : ℕ) (w : World) → Agrees see q old w → Ran see q old.names r before after new (steps q w) w
 
--- what stands still from then on
+-- what changes no longer from then on
 abbrev pub refusal_of : {T : Type 0} → Result T WorldErr → Option WorldErr
 refusal_of (Ok _) = None
 refusal_of (Err e) = Some e

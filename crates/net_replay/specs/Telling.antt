@@ -1,4 +1,4 @@
--- The line that tells a delivery.
+-- The trace line of a delivery.
 use Rattle.std.specs.Prelude.{ℕ, List, ◌++◌, codes, Option, None, Some}
 use Rattle.rsvp_messages.specs.declared.message.Kind.{Kind}
 use Rattle.rsvp_messages.specs.Kinds.{kind_of}

@@ -17,7 +17,7 @@ pub enum Event {
     Wait {
         ms: u32,
     },
-    /// So often what is in flight is delivered, each in its turn.
+    /// So many passes: in each, what is in flight at its start is delivered in order.
     Pass {
         times: u32,
     },
@@ -37,11 +37,11 @@ pub enum Event {
     Clear {
         node: u16,
     },
-    /// So many rounds: four times half a period, and a pass.
+    /// So many rounds, each of four times half a period and a pass.
     Rounds {
         times: u32,
     },
-    /// Whether deliveries are told from now on.
+    /// Whether deliveries are traced from now on.
     Trace {
         on: bool,
     },

@@ -20,7 +20,7 @@ use tree_routing::LinkHop;
 impl<R: Router + Drop> World<R> {
     /// What happens, and its text, which is appended. `Crowded` exactly where it would put an 8,193rd datagram in flight: the
     /// text of what happened before that is appended. `NoMemory`, only of a report, of a tree that moves or where the trace is on: a
-    /// front of the text is appended. A tree that the network cannot have is refused so each time. After a refusal each later event
+    /// prefix of the text is appended. A tree that the network cannot have is refused so each time. After a refusal each later event
     /// is refused in the same way, and changes nothing.
     pub fn event(&mut self, event: &Event, out: &mut Vec<u8>) -> Result<(), WorldErr>
         requires { IsFitEvent event.now }

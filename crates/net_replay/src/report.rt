@@ -21,7 +21,7 @@ use script_words::EndName;
 // An interface has at most so many entries.
 const ENTRIES: usize = 3072;
 
-/// Appends the report of each end. `NoMemory`: a front of it is appended. Each line is made in `line`.
+/// Appends the report of each end. `NoMemory`: a prefix of it is appended. Each line is made in `line`.
 pub(crate) fn put_all<R: Router>(
     line: &mut Vec<u8>,
     names: &[EndName],
@@ -39,8 +39,8 @@ pub(crate) fn put_all<R: Router>(
     Ok(())
 }
 
-/// Appends the report of an end; nothing where it has no name, or is not there, or its node is not. `NoMemory`: a front of it is
-/// appended.
+/// Appends the report of an end; nothing where it has no name, or is not there, or its node is not. `NoMemory`: a prefix of it
+/// is appended.
 pub(crate) fn put_end<R: Router>(
     line: &mut Vec<u8>,
     names: &[EndName],
@@ -82,7 +82,7 @@ fn capacity_of(wires: &Wires, end: u16) -> u64
     }
 }
 
-// Appends the line of an interface of a node, and those of its entries. `NoMemory`: a front of them is appended.
+// Appends the line of an interface of a node, and those of its entries. `NoMemory`: a prefix of them is appended.
 fn put_node<R: Router>(
     line: &mut Vec<u8>,
     name: &[u8],
@@ -101,7 +101,7 @@ fn put_node<R: Router>(
     }
 }
 
-// Appends the lines of an interface's entries. `NoMemory`: a front of them is appended.
+// Appends the lines of an interface's entries. `NoMemory`: a prefix of them is appended.
 fn put_entries<R: Router>(
     line: &mut Vec<u8>,
     node: &R,

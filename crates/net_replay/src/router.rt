@@ -17,11 +17,11 @@ use router_rules::{Entry, Heard, LocalErr, Route};
 use rsvp_base::Addr;
 use rsvp_messages::{Message, MsgErr};
 
-/// A router. Each call is the rule of a router (`router_rules`) for its input: the facts after, what is heard, and what is
-/// sent, which is posted in its outbox in order. It keeps moments counted from a clock that it does not have: what is said of
-/// a call holds for every clock.
+/// A router. Each call is the rule of a router (`router_rules`) for its input: the facts after it, what became of a datagram, and
+/// what is sent, which is posted in its outbox in order. A router has no clock. It keeps how much is left of each lifetime, and
+/// each clause holds whatever the clock is from which that is counted.
 pub trait Router {
-    /// Where it stands, and what it keeps, with its moments counted from a clock.
+    /// Its interfaces, routes and period, and its facts, with moments counted from a clock.
     ghost seen: { Seen Self };
 
     /// A message comes by an interface, to an address.
@@ -72,8 +72,7 @@ pub trait Router {
         ensures facts { (c : ℕ) → seen.facts self.new c ≡ facts_after (seen.place self.old) (seen.place self.old) c Clear (seen.facts self.old c) }
         ensures silent { (c : ℕ) → sent_after (seen.place self.old) (seen.place self.old) c Clear (seen.facts self.old c) ≡ [] };
 
-    /// Its trees lie otherwise than before: its routes are these from now on, one for each tree of which it had one, in the same
-    /// order (RFC 2205, 3.6; RFC 2209, 2: ROUTE CHANGE NOTIFICATION).
+    /// Its routes change: from now on they are these, one for each tree of which it had one, in the same order (RFC 2205, 3.6; RFC 2209, 2: ROUTE CHANGE NOTIFICATION).
     fn route<O: Outbox>(&mut self, routes: &[Route], out: &mut O)
         requires { trees_in (seen.place self.old).routes ≡ trees_in routes.now }
         ensures place { seen.place self.new ≡ record (seen.place self.old) { routes = routes.now } }
@@ -81,7 +80,7 @@ pub trait Router {
         ensures sent { (c : ℕ) → out.new ≡ fold O.posted out.old (sent_after (seen.place self.old) (seen.place self.new) c Moved (seen.facts self.old c)) }
         ensures fit { (c : ℕ) → AreProper (sent_after (seen.place self.old) (seen.place self.new) c Moved (seen.facts self.old c)) };
 
-    /// What the entries of an interface's book charge it together, in bytes per second.
+    /// The sum of the rates of the entries in an interface's book, in bytes per second.
     fn held(&self, iface: u8) -> u64
         ensures { (c : ℕ) → result ≡ held (book (seen.facts self.now c) iface) };
 

@@ -1,4 +1,4 @@
-//! The line that tells a delivery.
+//! The trace line of a delivery.
 ghost use Rattle.std.specs.Prelude.{◌≡◌, ◌++◌, [], OnErr, OnOk, IsOk, cond, false, slice_get};
 ghost use Rattle.net_replay.specs.Due.{told};
 ghost use Rattle.network_model.specs.Runs.{heard_text, why_text};
@@ -23,7 +23,7 @@ pub(crate) fn kind_of(bytes: &[u8]) -> Option<Kind>
     }
 }
 
-/// Appends the line that tells what is heard of a datagram, as `END KIND OUTCOME`.
+/// Appends a trace line, as `END KIND OUTCOME`.
 pub(crate) fn put_delivery(
     out: &mut Vec<u8>,
     name: &[u8],
@@ -95,8 +95,8 @@ fn put_why(out: &mut Vec<u8>, why: Why) -> Result<(), NoMemory>
     }
 }
 
-/// Appends the line that tells what is heard of a datagram that came to an end, where the trace is on. `NoMemory`, only where it
-/// is on: nothing was appended. The line is made in `line`.
+/// Appends the trace line of a datagram that came to an end, where the trace is on. `NoMemory`, only where it is on: nothing was
+/// appended. The line is made in `line`.
 #[tactic(auto, using(crate::proofs::Tellings::told_is))]
 pub(crate) fn tell(
     line: &mut Vec<u8>,

@@ -34,7 +34,8 @@ use std::alloc::Global;
 use std::marker::Model;
 use tree_routing::{HopErr, LinkHop, Routing};
 
-/// A network: its routers, what is in flight, and the state of the words. After a refusal it stands still.
+/// A network: its routers, the datagrams in flight, and the state of the random words that spread refreshes. After a refusal no
+/// event changes it.
 #[derive(Drop)]
 pub struct World<R: Router + Drop> {
     alloc: Global,
@@ -69,7 +70,7 @@ impl<R: Router + Drop> Model for World<R> {
 
 impl<R: Router + Drop> World<R> {
     /// A network in which nothing happened yet: nothing is in flight, and the trace is off. `quarter` is a quarter of the refresh
-    /// period, in milliseconds, and the words start at `seed`. It agrees with the first world of each plan of this network whose
+    /// period, in milliseconds, and the random words start at `seed`. It agrees with the first world of each plan of this network whose
     /// left-over facts the nodes have. `NoMemory`: there was no room for what may be in flight.
     pub fn open(
         alloc: Global,
@@ -136,7 +137,7 @@ impl<R: Router + Drop> World<R> {
     }
 
     /// Appends what the book of an end holds, or those of all, with the policing flags of their entries or without. `NoMemory`: a
-    /// front of it is appended.
+    /// prefix of it is appended.
     pub fn report(&self, end: Option<u16>, flags: bool, out: &mut Vec<u8>) -> Result<(), NoMemory>
         ensures { (q : ℕ) (w : AWorld) → Agrees R.seen q self.now w → Says result out.old.items out.new.items (report_said q self.now.names flags end w) }
     {
@@ -186,8 +187,8 @@ impl<R: Router + Drop> World<R> {
         }
     }
 
-    // Delivers the datagram at a place, counted from 0, and tells it where the trace is on; where nothing is there nothing
-    // happens.
+    // Delivers the datagram at a place, counted from 0, and appends its trace line where the trace is on; where nothing is there
+    // nothing happens.
     pub(crate) fn deliver(&mut self, place: usize, out: &mut Vec<u8>) -> Result<(), WorldErr>
         requires { self.old.refused ≡ None }
         ensures made { Makes R.seen self.old result out.old.items out.new.items self.new (λ q w. Deliver place ∷ []) }
@@ -272,7 +273,7 @@ impl<R: Router + Drop> World<R> {
         Ok(())
     }
 
-    // From now on deliveries are told, or not.
+    // From now on deliveries are traced, or not.
     pub(crate) fn set_trace(&mut self, on: bool) -> Result<(), WorldErr>
         requires { self.old.refused ≡ None }
         ensures made { (t : List ℕ) → Makes R.seen self.old result t t self.new (λ q w. Trace on ∷ []) }
@@ -354,7 +355,8 @@ impl<R: Router + Drop> World<R> {
         }
     }
 
-    // The network has this routing from now on, in which these hops are the tree of the group and source. Each node is told.
+    // The network has this routing from now on, in which these hops are the tree of the group and source. Each node
+    // gets its new routes.
     pub(crate) fn reroute(
         &mut self,
         group: Addr,
@@ -381,7 +383,7 @@ impl<R: Router + Drop> World<R> {
         Ok(())
     }
 
-    // Delivers what is in flight, each in its turn; what is sent meanwhile stays.
+    // A pass: delivers what is in flight at its start, in order; what is sent meanwhile stays.
     pub(crate) fn pass(&mut self, out: &mut Vec<u8>) -> Result<(), WorldErr>
         requires { self.old.refused ≡ None }
         ensures made { Makes R.seen self.old result out.old.items out.new.items self.new (λ q w. pass q w) }

@@ -1,6 +1,6 @@
 //! Why an event was refused.
 
-/// Why an event was refused. The world stands still then.
+/// Why an event was refused. No later event changes the world.
 #[derive(Clone, Copy, Debug, PartialEq, Eq)]
 pub enum WorldErr {
     /// It would put an 8,193rd datagram in flight.

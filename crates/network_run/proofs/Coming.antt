@@ -1,4 +1,4 @@
--- What a run over some bytes comes to, where neither a fault of a device nor want of memory ends it.
+-- What a run over some bytes comes to, where it ends neither by a fault of a device nor out of memory.
 use Rattle.std.proofs.Common.{◌≡◌, ℕ, ◌≤◌, List, Option, None, Some, length, refl, sym, ap, subst, ◌∙◌, arith, inl, inr, length-append}
 use Rattle.std.specs.Io.KnownBytes.{Consumes}
 use Rattle.byte_streams.specs.Reading.{most_bytes}
@@ -106,7 +106,7 @@ one_ending bytes x y TooLong b h k = absurd h
 
 -- ---- the run of known bytes
 -- they are those that were taken, and those that are left
-all_known : (old new : Option (List ℕ)) (bytes taken : List ℕ) → old ≡ Some bytes → Consumes old new taken → (all_bytes taken new ≡ bytes) × (length taken ≤ length bytes)
+pub all_known : (old new : Option (List ℕ)) (bytes taken : List ℕ) → old ≡ Some bytes → Consumes old new taken → (all_bytes taken new ≡ bytes) × (length taken ≤ length bytes)
 all_known None new bytes taken e t = absurd (cc)
 all_known (Some xs) None bytes taken e t = absurd t
 all_known (Some xs) (Some ys) bytes taken e t =

@@ -6,3 +6,4 @@ pub mod Firsts
 pub mod Coming
 pub mod Spoken
 pub mod Adding
+pub mod Told

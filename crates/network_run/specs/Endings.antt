@@ -13,7 +13,7 @@ use Rattle.network_run.specs.declared.ending.Ending.TheVariants.{Done, BadLine, 
 use Rattle.network_run.specs.declared.player.Stop.{Stop}
 use Rattle.network_run.specs.declared.player.Stop.TheVariants as stop
 
--- all bytes of a source: those that were taken, and those that are left, where it tells them
+-- all bytes of a source: those that were taken, and those that are left, where these are known
 abbrev pub all_bytes : List ℕ → Option (List ℕ) → List ℕ
 all_bytes taken None = taken
 all_bytes taken (Some left) = taken ++ left
@@ -42,7 +42,7 @@ pub record IsFirstBad (number : ℕ) (why : Fault) (bytes text : List ℕ) : Typ
 abbrev pub IsFirstCrowded : List ℕ → List ℕ → Type 0
 IsFirstCrowded bytes text = IsFirst IsCrowdedBy bytes text
 
--- what the lines before wrote was written, and a front of what the line itself wrote
+-- what the lines before wrote was written, and a prefix of what the line itself wrote
 pub record EndedWriting (bytes taken text : List ℕ) : Type 0 where
   pub before : List (List ℕ)
   pub line : List ℕ
@@ -64,7 +64,7 @@ pub record EndedEarly (bytes text : List ℕ) : Type 0 where
   pub parts : text_lines bytes ≡ before ++ after
   pub ran : HasRun before text
 
--- all lines were run; the player stands behind them
+-- all lines were run; the player is in the state that they lead to
 pub record EndedDone (stands : Draft → Type 0) (bytes taken text : List ℕ) : Type 0 where
   pub all : taken ≡ bytes
   pub ran : HasRun (text_lines bytes) text
@@ -87,7 +87,7 @@ ending_at (stop.Bad why) number = BadLine number why
 ending_at stop.Crowded number = Crowded
 ending_at stop.NoMemory number = NoMemory
 
--- What a run over these bytes comes to, and what it writes, unless a fault of a device or want of memory ends it before: all lines
+-- What a run over these bytes comes to, and what it writes, unless a fault of a device ends it before, or memory runs out: all lines
 -- are run, or one is the first that is bad, or the first by which the run is crowded.
 abbrev pub ComesTo : Ending → List ℕ → List ℕ → Type 0
 ComesTo Done bytes text = HasRun (text_lines bytes) text

@@ -7,7 +7,7 @@ use Rattle.network_run.specs.Endings.{ComesTo}
 use Rattle.network_run.specs.declared.ending.Ending.{Ending}
 use Rattle.network_run.specs.declared.ending.Ending.TheVariants.{Done, BadLine}
 
--- over the same bytes, runs that neither a fault of a device nor want of memory ends come to one ending and one text
+-- over the same bytes, runs that end neither by a fault of a device nor out of memory come to one ending and one text
 abbrev pub OneEnding : Type 0
 OneEnding = (bytes x y : List ℕ) (a b : Ending) → ComesTo a bytes x → ComesTo b bytes y → (a ≡ b) × (x ≡ y)
 

@@ -1,7 +1,7 @@
 //! Laws of runs that go line by line.
 ghost use Rattle.network_run.specs.Laws.{ABadLineIsFirst, AScriptIsRun, OneEnding, OnlyScriptsAreDone};
 
-/// Over the same bytes, runs that neither a fault of a device nor want of memory ends come to one ending and one text.
+/// Over the same bytes, runs that end neither by a fault of a device nor out of memory come to one ending and one text.
 #[tactic(auto, using(crate::proofs::Coming::one_ending))]
 pub fn one_ending()
     ensures { OneEnding }

@@ -1,6 +1,6 @@
 //! What checks and runs the lines of a script.
-ghost use Rattle.std.specs.Prelude.{◌≤◌, List, ℕ, length};
-ghost use Rattle.script_grammar.specs.Draft.{Draft};
+ghost use Rattle.std.specs.Prelude.{◌≡◌, ◌≤◌, List, ℕ, length};
+ghost use Rattle.script_grammar.specs.Draft.{Draft, period_of};
 ghost use Rattle.network_run.specs.Playing.{Plays};
 ghost use Rattle.network_run.specs.Written.{IsRunSoFar};
 
@@ -9,7 +9,7 @@ use script_grammar::Fault;
 /// Why a line was not run.
 #[derive(Debug, Drop)]
 pub enum Stop {
-    /// It is bad: this is its first fault behind the lines before.
+    /// It is bad: this is its first fault after the lines before it.
     Bad(Fault),
     /// Its event would put an 8,193rd datagram in flight.
     Crowded,
@@ -19,8 +19,12 @@ pub enum Stop {
 
 /// What checks and runs the lines of a script, one after another.
 pub trait Player {
-    /// It stands behind the lines that lead to this draft, whose events were run.
+    /// The lines that lead to this draft were played, and their events were run.
     ghost stands: { Self → Draft → Type 0 };
+
+    /// The refresh period behind the lines so far, in milliseconds.
+    fn period(&self) -> u32
+        ensures { (d : Draft) → stands self.now d → result ≡ period_of d };
 
     /// Checks a line, and where it is one of an event runs it and appends the event's text. After a refusal no more lines may be
     /// played.

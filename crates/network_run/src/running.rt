@@ -1,14 +1,16 @@
 //! Lines are read, checked, run and written, one after the other.
-ghost use Rattle.std.specs.Prelude.{◌≡◌, ◌≤◌, List, ℕ, Some, length};
+ghost use Rattle.std.specs.Prelude.{◌≡◌, ◌≤◌, [], List, ℕ, Some, length};
 ghost use Rattle.byte_streams.specs.Reading.{most_bytes};
 ghost use Rattle.byte_streams.specs.Faults.{Rose};
 ghost use Rattle.script_grammar.specs.Draft.{nothing};
+ghost use Rattle.network_run.specs.Advised.{IsAdvised, IsAdvisedAt};
 ghost use Rattle.network_run.specs.Endings.{ComesTo, IsOrNoMemory, IsRun, ending_at};
 ghost use Rattle.network_run.specs.declared.ending.Ending.{Ending as AnEnding};
 
 use crate::ending::Ending;
 use crate::player::{Player, Stop};
 use byte_streams::{Sink, Source, write_all};
+use line_advice::{put_advice, put_long};
 use line_stream::{LineReader, NextLine};
 use script_grammar::Fault;
 use std::alloc::Global;
@@ -18,21 +20,27 @@ use std::alloc::Global;
 ///
 /// At one line these come in this order: `ReadFault` or `TooLong` while it is read, then `BadLine`, then `Crowded`, then
 /// `WriteFault`. `NoMemory`: memory ran out. A line of more than 2,048 bytes is bad as soon as so many of it were taken.
+///
+/// `advice` becomes the text that tells what is wrong with the bad line; where no line is bad, or memory runs out as it is written,
+/// it is empty.
 pub fn run_lines<P: Player, S: Source, K: Sink>(
     alloc: Global,
     player: &mut P,
     source: &mut S,
     sink: &mut K,
+    advice: &mut Vec<u8>,
 ) -> Ending
     requires first { P.stands player.old nothing }
     ensures run { IsRun (P.stands player.new) result (S.left source.old) (S.left source.new) (K.holds sink.old) (K.holds sink.new) }
     ensures read_fault { result ≡ Ending.ReadFault → Rose (S.faults source.old) (S.faults source.new) }
     ensures write_fault { result ≡ Ending.WriteFault → Rose (K.faults sink.old) (K.faults sink.new) }
+    // Over known input: what is wrong with the bad line is told.
+    ensures advised { (bytes : List ℕ) → S.left source.old ≡ Some bytes → IsAdvised result bytes advice.new.items }
     // Nothing else ends a run over known input and devices that do not fail.
     ensures complete { (bytes text : List ℕ) (wanted : AnEnding) → S.left source.old ≡ Some bytes → length bytes ≤ most_bytes → ComesTo wanted bytes text
         → (Rose (S.faults source.old) (S.faults source.new) → ⊥) → (Rose (K.faults sink.old) (K.faults sink.new) → ⊥) → IsOrNoMemory wanted result }
 {
-    run_to_end(alloc, player, source, sink)
+    run_to_end(alloc, player, source, sink, advice)
 }
 
 // Runs line by line.
@@ -41,12 +49,15 @@ fn run_to_end<P: Player, S: Source, K: Sink>(
     player: &mut P,
     source: &mut S,
     sink: &mut K,
+    advice: &mut Vec<u8>,
 ) -> Ending
     requires first { P.stands player.old nothing }
     ensures run { IsRun (P.stands player.new) result (S.left source.old) (S.left source.new) (K.holds sink.old) (K.holds sink.new) }
     ensures read_fault { result ≡ Ending.ReadFault → Rose (S.faults source.old) (S.faults source.new) }
     ensures write_fault { result ≡ Ending.WriteFault → Rose (K.faults sink.old) (K.faults sink.new) }
+    ensures advised { (bytes : List ℕ) → S.left source.old ≡ Some bytes → IsAdvised result bytes advice.new.items }
 {
+    advice.clear();
     let mut reader = match LineReader::open(alloc) {
         Ok(reader) => reader,
         Err(_) => return Ending::NoMemory,
@@ -56,6 +67,7 @@ fn run_to_end<P: Player, S: Source, K: Sink>(
         match reader.next(source) {
             NextLine::Line => {}
             NextLine::Long => {
+                put_long(advice);
                 return Ending::BadLine {
                     line: reader.number(),
                     why: Fault::Limit,
@@ -66,14 +78,30 @@ fn run_to_end<P: Player, S: Source, K: Sink>(
             NextLine::TooLong => return Ending::TooLong,
         }
         out.clear();
+        let period = player.period();
         match player.play(reader.line(), &mut out) {
             Ok(()) => {}
-            Err(stop) => return ending_at(stop, reader.number()),
+            Err(stop) => {
+                advise(alloc, period, reader.line(), &stop, advice);
+                return ending_at(stop, reader.number());
+            }
         }
         match write_all(sink, out.as_slice()) {
             Ok(()) => {}
             Err(_) => return Ending::WriteFault,
         }
+    }
+}
+
+// Tells what is wrong with a line that was not run, where it is bad.
+fn advise(alloc: Global, period: u32, line: &[u8], stop: &Stop, advice: &mut Vec<u8>)
+    requires { advice.old.items ≡ [] }
+    ensures { IsAdvisedAt period line.now stop.now advice.new.items }
+{
+    match stop {
+        Stop::Bad(why) => put_advice(alloc, period, line, why, advice),
+        Stop::Crowded => {}
+        Stop::NoMemory => {}
     }
 }
 

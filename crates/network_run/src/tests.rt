@@ -9,7 +9,7 @@ use script_words::Unread;
 use std::alloc::Global;
 use std::test::Fail;
 
-// It has no room for what a line says.
+// It has no memory for any other line that is well formed.
 #[derive(Drop)]
 struct Silent {
     alloc: Global,
@@ -17,6 +17,10 @@ struct Silent {
 
 impl Player for Silent {
     ghost stands = { λ p d. d ≡ nothing };
+
+    fn period(&self) -> u32 {
+        30_000
+    }
 
     fn play(&mut self, line: &[u8], out: &mut Vec<u8>) -> Result<(), Stop> {
         let _ = out.len();
@@ -37,7 +41,8 @@ fn run_text(alloc: Global, text: &[u8], fail: Vec<u64>, most: usize) -> Result<E
     let mut source = MemorySource::new(text.to_vec(alloc)?, fail, most);
     let mut sink = MemorySink::open(alloc, 16, Vec::new(alloc), Vec::new(alloc))?;
     let mut player = Silent { alloc };
-    Ok(run_lines(alloc, &mut player, &mut source, &mut sink))
+    let mut advice = Vec::new(alloc);
+    Ok(run_lines(alloc, &mut player, &mut source, &mut sink, &mut advice))
 }
 
 #[test]

@@ -1,6 +1,5 @@
 -- How the demand of a script ends: at a bad line, and over known input.
-use Rattle.std.proofs.Common.{◌≡◌, ℕ, ◌≤◌, List, ◌++◌, Option, None, Some, length, take, refl, sym, ap, ◌∙◌, inl, inr, arith, append-nil}
-use Rattle.std.specs.Io.KnownBytes.{Appends, Consumes, IsAtEnd}
+use Rattle.std.proofs.Common.{◌≡◌, ℕ, ◌≤◌, List, length, refl, inl, inr, arith}
 use Rattle.byte_streams.specs.Reading.{most_bytes}
 use Rattle.network_model.specs.Runs.{Plan}
 use Rattle.network_run.specs.Endings.{IsOrNoMemory}
@@ -10,7 +9,7 @@ use Rattle.script_grammar.specs.Draft.{plan_of}
 use Rattle.script_grammar.specs.Grammar.{IsBadLine, IsScript}
 use Rattle.script_grammar.specs.declared.fault.Fault.{Fault}
 use Rattle.script_grammar.proofs.Scripts.{one_bad_line_law, script_or_bad}
-use Rattle.script_demand.specs.Demanding.{DemandsTo, IsDemandOf, IsDemandingOf, IsWrittenOrNot, StopsAt}
+use Rattle.script_demand.specs.Demanding.{DemandsTo, IsDemandOf, StopsAt}
 
 -- ---- what has a demand has no bad line
 pub demanded_or_bad : (bytes text : List ℕ) (number : ℕ) (why : Fault) → IsDemandOf bytes text → IsBadLine bytes number why → ⊥
@@ -39,28 +38,7 @@ stopped_bad bytes number why WriteFault s bad = absurd s
 stopped_bad bytes number why Crowded s bad = absurd s
 stopped_bad bytes number why TooLong s bad = absurd s
 
--- ---- writing
-pub written_so : (e : Ending) (bytes text : List ℕ) (before after : Option (List ℕ)) → IsDemandOf bytes text → IsWrittenOrNot e → (e ≡ Done → Appends before after text) → (e ≡ WriteFault → (n : ℕ) × Appends before after (take n text))
-    → IsDemandingOf e bytes bytes before after
-written_so Done bytes text before after demand how done front = record { text = text; wrote = done refl; ended = (refl, demand) }
-written_so WriteFault bytes text before after demand how done front =
-    let some = front refl in
-    record { text = take some.0 text; wrote = some.1; ended = (refl, record { whole = text; demand = demand; count = some.0; text_is = refl }) }
-written_so (BadLine number why) bytes text before after demand how done front = absurd how
-written_so ReadFault bytes text before after demand how done front = absurd how
-written_so NoMemory bytes text before after demand how done front = absurd how
-written_so Crowded bytes text before after demand how done front = absurd how
-written_so TooLong bytes text before after demand how done front = absurd how
-
 -- ---- known input
--- what was taken to the end is all that was left
-pub all_taken : (old new : Option (List ℕ)) (taken bytes : List ℕ) → Consumes old new taken → IsAtEnd new → old ≡ Some bytes → bytes ≡ taken
-all_taken None new taken bytes took end is = cc
-all_taken (Some xs) None taken bytes took end is = absurd took
-all_taken (Some xs) (Some ys) taken bytes took end is =
-    let same : xs ≡ bytes = cc is in
-    sym same ∙ took ∙ ap (λ zs. taken ++ zs) end ∙ append-nil taken
-
 -- what it comes to, over an input that was read to its end
 pub comes_to : (input : List ℕ) (wanted got : Ending) (F : Type 0) → length input ≤ most_bytes → ((p : Plan) → IsScript input p → (F → ⊥) → IsOrNoMemory Done got) → ((number : ℕ) (why : Fault) → IsBadLine input number why → IsOrNoMemory (BadLine number why) got)
     → DemandsTo wanted input → (wanted ≡ Done → F → ⊥) → IsOrNoMemory wanted got

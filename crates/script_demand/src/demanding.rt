@@ -1,16 +1,18 @@
 //! Writing the demand of a script.
-ghost use Rattle.std.specs.Prelude.{◌≡◌, ◌≢◌, List, ℕ, Some, IfOk, IfErr, take};
+ghost use Rattle.std.specs.Prelude.{◌≡◌, ◌≢◌, [], List, ℕ, Some, IfOk, IfErr, OnOk, take};
 ghost use Rattle.std.specs.Io.KnownBytes.{Appends};
 ghost use Rattle.byte_streams.specs.Faults.{Rose};
 ghost use Rattle.demand_texts.specs.Texts.{IsDemandText};
 ghost use Rattle.network_model.specs.Runs.{Plan};
+ghost use Rattle.network_run.specs.Advised.{IsAdvised};
 ghost use Rattle.network_run.specs.Endings.{IsOrNoMemory};
 ghost use Rattle.network_run.specs.declared.ending.Ending.{Ending as AnEnding};
 ghost use Rattle.script_grammar.specs.Draft.{nothing, routing};
 ghost use Rattle.script_grammar.specs.Grammar.{IsBadLine, IsScript};
 ghost use Rattle.script_grammar.specs.declared.fault.Fault.{Fault as AFault};
 ghost use Rattle.script_laws.specs.Asked.{CanBeAsked};
-ghost use Rattle.script_demand.specs.Demanding.{DemandsTo, IsDemandOf, IsDemanding, IsDemandingOf, IsWrittenOrNot, StopsAt};
+ghost use Rattle.script_demand.specs.Answering.{IsWrittenOrNot};
+ghost use Rattle.script_demand.specs.Demanding.{DemandsTo, IsDemandOf, IsDemanding, IsDemandingOf, StopsAt};
 
 use crate::asks::Asks;
 use crate::lines::check_lines;
@@ -22,6 +24,8 @@ use std::alloc::Global;
 
 /// Reads a script of the source to its end, checks its lines, and writes to the sink what each end of its network owes behind the
 /// last line and whether that fits. Its events are not run, and nothing is written before all of the input was read and found right.
+/// `advice` becomes the text that tells what is wrong with the bad line; where no line is bad, or memory runs out as it is written,
+/// it is empty.
 ///
 /// Refusals come in this order: `ReadFault` or `TooLong` while the input is read; `BadLine`; `WriteFault`. `NoMemory` may come at
 /// any time before the first byte is written.
@@ -30,17 +34,21 @@ pub fn write_demand<C: Asks + Drop, S: Source, K: Sink>(
     checker: C,
     source: &mut S,
     sink: &mut K,
+    advice: &mut Vec<u8>,
 ) -> Ending
     requires first { C.lines checker ≡ nothing }
     ensures demanded { IsDemanding result (S.left source.old) (S.left source.new) (K.holds sink.old) (K.holds sink.new) }
+    // Over known input: what is wrong with the bad line is told.
+    ensures advised { (bytes : List ℕ) → S.left source.old ≡ Some bytes → IsAdvised result bytes advice.new.items }
     ensures read_fault { result ≡ Ending.ReadFault → Rose (S.faults source.old) (S.faults source.new) }
     ensures write_fault { result ≡ Ending.WriteFault → Rose (K.faults sink.old) (K.faults sink.new) }
     // Nothing else ends it over known input and devices that do not fail.
     ensures complete { (bytes : List ℕ) (wanted : AnEnding) → S.left source.old ≡ Some bytes → DemandsTo wanted bytes
         → (Rose (S.faults source.old) (S.faults source.new) → ⊥) → (wanted ≡ Ending.Done → Rose (K.faults sink.old) (K.faults sink.new) → ⊥) → IsOrNoMemory wanted result }
 {
+    advice.clear();
     match read_all(alloc, source) {
-        Ok(bytes) => answer(alloc, checker, bytes.as_slice(), sink),
+        Ok(bytes) => answer(alloc, checker, bytes.as_slice(), sink, advice),
         Err(ReadErr::Fault) => Ending::ReadFault,
         Err(ReadErr::TooLong) => Ending::TooLong,
         Err(ReadErr::NoMemory) => Ending::NoMemory,
@@ -48,27 +56,43 @@ pub fn write_demand<C: Asks + Drop, S: Source, K: Sink>(
 }
 
 // Writes the demand of this script.
-fn answer<C: Asks + Drop, K: Sink>(alloc: Global, checker: C, input: &[u8], sink: &mut K) -> Ending
+fn answer<C: Asks + Drop, K: Sink>(
+    alloc: Global,
+    checker: C,
+    input: &[u8],
+    sink: &mut K,
+    advice: &mut Vec<u8>,
+) -> Ending
     requires first { C.lines checker ≡ nothing }
+    requires empty { advice.old.items ≡ [] }
+    ensures advised { IsAdvised result input.now advice.new.items }
     ensures demanded { IsDemandingOf result input.now input.now (K.holds sink.old) (K.holds sink.new) }
     ensures read { result ≢ Ending.ReadFault }
     ensures write_fault { result ≡ Ending.WriteFault → Rose (K.faults sink.old) (K.faults sink.new) }
     ensures complete { (p : Plan) → IsScript input.now p → (Rose (K.faults sink.old) (K.faults sink.new) → ⊥) → IsOrNoMemory Ending.Done result }
     ensures refused { (number : ℕ) (why : AFault) → IsBadLine input.now number why → IsOrNoMemory (Ending.BadLine number why) result }
 {
-    match demand_of(alloc, checker, input) {
+    match demand_of(alloc, checker, input, advice) {
         Ok(text) => write_text(text.as_slice(), sink),
         Err(ending) => ending,
     }
 }
 
 // The demand of this script. It ends at the first bad line, or where memory runs out.
-fn demand_of<C: Asks + Drop>(alloc: Global, mut checker: C, input: &[u8]) -> Result<Vec<u8>, Ending>
+fn demand_of<C: Asks + Drop>(
+    alloc: Global,
+    mut checker: C,
+    input: &[u8],
+    advice: &mut Vec<u8>,
+) -> Result<Vec<u8>, Ending>
     requires first { C.lines checker ≡ nothing }
+    requires empty { advice.old.items ≡ [] }
+    ensures quiet { OnOk result (advice.new.items ≡ []) }
+    ensures advised { IfErr result (λ e. IsAdvised e input.now advice.new.items) }
     ensures demand { IfOk result (λ text. IsDemandOf input.now text.items) }
     ensures stopped { IfErr result (StopsAt input.now) }
 {
-    match check_lines(&mut checker, input) {
+    match check_lines(alloc, &mut checker, input, advice) {
         Ok(()) => {}
         Err(ending) => return Err(ending),
     }

@@ -1,22 +1,34 @@
 //! The lines of a whole script are checked.
-ghost use Rattle.std.specs.Prelude.{◌≡◌, OnOk, IfErr};
+ghost use Rattle.std.specs.Prelude.{◌≡◌, [], OnOk, IfErr};
 ghost use Rattle.script_grammar.specs.Draft.{nothing};
 ghost use Rattle.script_grammar.specs.Grammar.{Follows, HasFault, Leads};
 ghost use Rattle.script_words.specs.Lines.{text_lines};
+ghost use Rattle.network_run.specs.Advised.{IsAdvised};
 ghost use Rattle.script_demand.specs.Demanding.{StopsAt};
 ghost use Rattle.script_demand.specs.Feeding.{MatchRefused};
 
+use line_advice::put_advice;
 use network_run::Ending;
 use script_grammar::Fault;
 use script_player::{Checks, Refused};
 use script_words::next_line;
+use std::alloc::Global;
 
 // The most bytes of a line, its line feed not counted.
 const MOST_LINE: usize = 2048;
 
 /// Checks the lines of an input one after the other. It ends at the first bad line, or where memory runs out.
-pub(crate) fn check_lines<C: Checks>(checker: &mut C, input: &[u8]) -> Result<(), Ending>
-    requires { C.lines checker.old ≡ nothing }
+/// `advice` becomes the text that tells what is wrong with the bad line, and stays empty where memory runs out.
+pub(crate) fn check_lines<C: Checks>(
+    alloc: Global,
+    checker: &mut C,
+    input: &[u8],
+    advice: &mut Vec<u8>,
+) -> Result<(), Ending>
+    requires first { C.lines checker.old ≡ nothing }
+    requires empty { advice.old.items ≡ [] }
+    ensures quiet { OnOk result (advice.new.items ≡ []) }
+    ensures advised { IfErr result (λ e. IsAdvised e input.now advice.new.items) }
     ensures taken { OnOk result (Leads nothing (text_lines input.now) (C.lines checker.new)) }
     ensures stopped { IfErr result (StopsAt input.now) }
 {
@@ -24,9 +36,13 @@ pub(crate) fn check_lines<C: Checks>(checker: &mut C, input: &[u8]) -> Result<()
     let mut rest = input;
     while let Some((line, behind)) = next_line(rest) {
         number = number.saturating_add(1);
+        let period = checker.period();
         match feed_line(checker, line) {
             Ok(()) => rest = behind,
-            Err(Refused::Fault(why)) => return Err(Ending::BadLine { line: number, why }),
+            Err(Refused::Fault(why)) => {
+                put_advice(alloc, period, line, &why, advice);
+                return Err(Ending::BadLine { line: number, why });
+            }
             Err(Refused::NoMemory) => return Err(Ending::NoMemory),
         }
     }

@@ -1,4 +1,4 @@
--- Networks in code that stand behind a plan.
+-- Networks in code that stand behind a plan: they are where its run ends.
 use Rattle.std.specs.Prelude.{◌≡◌, ◌≢◌, ℕ, true, false, List, [], ◌++◌, Option, None, Some, Result, Ok, Err}
 use Rattle.network_model.specs.Events.{Event}
 use Rattle.network_model.specs.Runs.{Plan, is_crowded_run, last_world, run_text}

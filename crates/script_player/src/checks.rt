@@ -2,7 +2,7 @@
 ghost use Rattle.std.specs.Prelude.{◌≡◌, ◌≤◌, length, IfOk};
 ghost use Rattle.left_over.specs.AtNodes.{list_of};
 ghost use Rattle.left_over.specs.Fit.{AreFitAll};
-ghost use Rattle.script_grammar.specs.Draft.{Draft, plan_of};
+ghost use Rattle.script_grammar.specs.Draft.{Draft, period_of, plan_of};
 ghost use Rattle.script_player.specs.Checking.{Feeds, IsStartOf};
 ghost use Rattle.script_player.specs.declared.checks.Refused.TheVariants as refused;
 
@@ -17,7 +17,7 @@ use tree_routing::Routing;
 /// Why a line was not taken.
 #[derive(Debug, Drop)]
 pub enum Refused {
-    /// The line is bad: this is its first fault behind the lines before.
+    /// The line is bad: this is its first fault after the lines before it.
     Fault(Fault),
     /// Memory ran out.
     NoMemory,
@@ -52,7 +52,7 @@ impl From<NoMemory> for Refused {
 pub struct Start {
     /// A quarter of the refresh period, in milliseconds, from 1 to 15,000.
     pub quarter: u32,
-    /// Where the random words start.
+    /// The seed of the random words that spread the refreshes.
     pub seed: u64,
     pub routing: Routing,
     /// The names of the ends, by number.
@@ -61,7 +61,7 @@ pub struct Start {
 
 /// What checks the lines of a script, one after another.
 pub trait Checks {
-    /// What the lines so far say.
+    /// The draft that the lines so far make.
     ghost lines: { Self → Draft };
 
     /// Takes a line, and gives its event if it is one of part 3. `Fault`: exactly where the line cannot follow those before.
@@ -69,6 +69,10 @@ pub trait Checks {
     fn feed(&mut self, line: &[u8]) -> Result<Option<Event>, Refused>
         requires { length line.now ≤ 2048 }
         ensures { Feeds (lines self.old) line.now result (lines self.new) };
+
+    /// The refresh period behind the lines, in milliseconds.
+    fn period(&self) -> u32
+        ensures { result ≡ period_of (lines self.now) };
 
     /// The network that the lines declare. `NoMemory`: there was no room for it.
     fn start(&self) -> Result<Start, NoMemory>

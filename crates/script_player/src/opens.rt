@@ -13,7 +13,7 @@ use tree_routing::Routing;
 
 /// Routers that a network can be made of.
 pub trait Opens: Router + Drop {
-    /// The routers of a network before anything happened, one for each node: each stands where the network has it, with a route
+    /// The routers of a network before anything happened, one for each node: each has the interfaces of its node, with a route
     /// for each tree, and keeps what is left over at it. `quarter` is a quarter of the refresh period, in milliseconds, which is at
     /// most a minute. Each fact lives no longer than one that was just refreshed at its node, and has the shape of one.
     /// `NoMemory`: there was no room for them.

@@ -17,7 +17,7 @@ use network_run::{Player, Stop};
 use rsvp_base::NoMemory;
 use std::alloc::Global;
 
-/// Checks the lines of a script and runs their events: what checks them, and from the first event on the network that they
+/// Checks the lines of a script and runs their events. It has what checks them and, from the first event on, the network that they
 /// declare.
 #[derive(Drop)]
 pub struct ScriptPlayer<C: Checks + Drop, R: Opens> {
@@ -27,7 +27,7 @@ pub struct ScriptPlayer<C: Checks + Drop, R: Opens> {
 }
 
 impl<C: Checks + Drop, R: Opens> ScriptPlayer<C, R> {
-    /// The player behind the lines that were fed so far, none of which is that of an event.
+    /// A player whose checker has taken some lines, none of which is that of an event.
     pub fn new(alloc: Global, checker: C) -> ScriptPlayer<C, R>
         ensures { result ≡ record { alloc = alloc; checker = checker; world = None } }
     {
@@ -38,7 +38,7 @@ impl<C: Checks + Drop, R: Opens> ScriptPlayer<C, R> {
         }
     }
 
-    /// The network in which the run stands. `None` exactly where no event was run.
+    /// The network after the events that were run. `None` exactly where none was.
     pub fn into_world(self) -> Option<World<R>>
         ensures { result ≡ self.world }
     {
@@ -48,6 +48,10 @@ impl<C: Checks + Drop, R: Opens> ScriptPlayer<C, R> {
 
 impl<C: Checks + Drop, R: Opens> Player for ScriptPlayer<C, R> {
     ghost stands = { λ p d. IsAt R.seen (C.lines p.checker) p.world d };
+
+    fn period(&self) -> u32 {
+        self.checker.period()
+    }
 
     fn play(&mut self, line: &[u8], out: &mut Vec<u8>) -> Result<(), Stop> {
         match self.checker.feed(line) {

@@ -3,6 +3,7 @@ ghost use Rattle.std.specs.Prelude.{◌≡◌, ◌≢◌, ◌≤◌, List, ℕ, 
 ghost use Rattle.byte_streams.specs.Faults.{Rose};
 ghost use Rattle.byte_streams.specs.Reading.{most_bytes};
 ghost use Rattle.script_grammar.specs.Draft.{nothing, plan_of};
+ghost use Rattle.network_run.specs.Advised.{IsAdvised};
 ghost use Rattle.network_run.specs.Endings.{ComesTo, IsOrNoMemory, IsRun};
 ghost use Rattle.network_run.specs.declared.ending.Ending.{Ending as AnEnding};
 ghost use Rattle.script_player.specs.Standing.{IsNetworkOf};
@@ -16,7 +17,8 @@ use network_run::{Ending, run_lines};
 use std::alloc::Global;
 
 /// Reads a script of the source, checks and runs it line by line, and writes each event's text to the sink when it has run. Where
-/// it is done and the script has an event, `last` holds the network in which the run ended; else it stays empty.
+/// it is done and the script has an event, `last` holds the network in which the run ended; else it stays empty. `advice` becomes
+/// the text that tells what is wrong with the bad line; where no line is bad, or memory runs out as it is written, it is empty.
 ///
 /// How it ends is said at `run_lines`.
 pub fn run_script<C: Checks + Drop, R: Opens, S: Source, K: Sink>(
@@ -25,6 +27,7 @@ pub fn run_script<C: Checks + Drop, R: Opens, S: Source, K: Sink>(
     source: &mut S,
     sink: &mut K,
     last: &mut Option<World<R>>,
+    advice: &mut Vec<u8>,
 ) -> Ending
     requires first { C.lines checker ≡ nothing }
     requires empty { last.old ≡ None }
@@ -32,11 +35,12 @@ pub fn run_script<C: Checks + Drop, R: Opens, S: Source, K: Sink>(
     ensures empty { result ≢ Ending.Done → last.new ≡ None }
     ensures read_fault { result ≡ Ending.ReadFault → Rose (S.faults source.old) (S.faults source.new) }
     ensures write_fault { result ≡ Ending.WriteFault → Rose (K.faults sink.old) (K.faults sink.new) }
+    ensures advised { (bytes : List ℕ) → S.left source.old ≡ Some bytes → IsAdvised result bytes advice.new.items }
     ensures complete { (bytes text : List ℕ) (wanted : AnEnding) → S.left source.old ≡ Some bytes → length bytes ≤ most_bytes → ComesTo wanted bytes text
         → (Rose (S.faults source.old) (S.faults source.new) → ⊥) → (Rose (K.faults sink.old) (K.faults sink.new) → ⊥) → IsOrNoMemory wanted result }
 {
     let mut player: ScriptPlayer<C, R> = ScriptPlayer::new(alloc, checker);
-    match run_lines(alloc, &mut player, source, sink) {
+    match run_lines(alloc, &mut player, source, sink, advice) {
         Ending::Done => {
             *last = player.into_world();
             Ending::Done

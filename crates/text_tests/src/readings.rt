@@ -87,7 +87,8 @@ fn lines_are_shown_or_refused(rt: HostRuntime) -> Result<(), Fail> {
         (b"00\r\n", bad(1, LineWhy::Word)),
     ];
     for (input, want) in table {
-        match (show(rt.alloc(), input), want) {
+        let mut advice = Vec::new(rt.alloc());
+        match (show(rt.alloc(), input, &mut advice), want) {
             (Ok(text), Ok(wanted)) => assert_eq!(rt; text.as_slice(), wanted),
             (Err(error), Err(wanted)) => assert_eq!(rt; error, wanted),
             _ => return Err(Fail::from("another answer")),
@@ -104,7 +105,8 @@ fn the_largest_input_is_shown(rt: HostRuntime) -> Result<(), Fail> {
         input.extend_from_slice(b"00\n")?;
     }
     input.push(b'\n')?;
-    let Ok(text) = show(rt.alloc(), input.as_slice()) else {
+    let mut advice = Vec::new(rt.alloc());
+    let Ok(text) = show(rt.alloc(), input.as_slice(), &mut advice) else {
         return Err(Fail::from("the text"));
     };
     assert!(rt; text.len() == 14 * 1_398_101);

@@ -16,6 +16,7 @@ loop-line-preserved c =
       number = let count = length-append i.before (line ∷ []) in omega (arith, c.saturating_add-number.ensures, i.number, count);
       shown = shown;
       room = search rules;
+      quiet = i.quiet;
     }
 
 pub returns-in-Err-Bad-clause-refused : goal.returns-in-Err-Bad-clause-refused
@@ -29,4 +30,20 @@ returns-in-Err-Bad-clause-refused c =
       number = omega (arith, c.saturating_add-number.ensures, i.number);
       right = all_right i.before c.loop-line.out.items i.shown;
       fault = rw c.in-Err-Bad.why-is (rw c.in-Err-Bad.field-0-is at c.in-Err-Bad.ensures.wrong);
+    }
+
+pub returns-in-Err-Bad-clause-advised : goal.returns-in-Err-Bad-clause-advised
+returns-in-Err-Bad-clause-advised c =
+    let i = c.loop-line.invariant in
+    record {
+      told = c.put_digits_advice.ensures;
+      bad = record {
+        before = i.before;
+        line = c.in-Some.line.now;
+        after = text_lines c.in-Some.behind.now;
+        parts = i.parts ∙ ap (λ ls. i.before ++ ls) c.in-Some.ensures.lines;
+        number = omega (arith, c.saturating_add-number.ensures, i.number);
+        right = all_right i.before c.loop-line.out.items i.shown;
+        fault = rw c.in-Err-Bad.why-is (rw c.in-Err-Bad.field-0-is at c.in-Err-Bad.ensures.wrong);
+      };
     }

@@ -1,4 +1,4 @@
-use Rattle.std.proofs.Common.{◌≡◌, ℕ, ◌-◌, ◌^◌, ◌++◌, List, length, min}
+use Rattle.std.proofs.Common.{◌≡◌, ℕ, ◌-◌, ◌^◌, ◌++◌, List, [], length, min}
 use Rattle.script_words.specs.Lines.{text_lines}
 use Rattle.message_show.specs.ShowLines.{AreShown}
 use Rattle.message_show.proofs.lines.show.Given as goal
@@ -12,6 +12,7 @@ invariant-loop-line l =
       number : l.number ≡ min (length before) (2 ^ 32 - 1);
       shown : AreShown before l.out.items;
       room : length l.room ≡ 4097;
+      quiet : l.advice.items ≡ [];
     }
 
 abbrev pub decreases-loop-line : goal.decreases-loop-line

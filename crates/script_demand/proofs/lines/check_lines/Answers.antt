@@ -6,7 +6,7 @@ use Rattle.script_grammar.proofs.Scripts.{leads_on}
 use Rattle.script_demand.proofs.lines.check_lines.Goals as goal
 
 pub loop-line-init : goal.loop-line-init
-loop-line-init g c = record { before = []; parts = refl; number = omega arith; leads = c.requires }
+loop-line-init g c = record { before = []; parts = refl; number = omega arith; leads = c.requires.first; quiet = c.requires.empty }
 
 pub loop-line-preserved : goal.loop-line-preserved
 loop-line-preserved g c =
@@ -17,6 +17,7 @@ loop-line-preserved g c =
       parts = i.parts ∙ ap (λ (ls : List (List ℕ)). i.before ++ ls) c.in-Some.ensures.lines ∙ sym (append_assoc i.before (line ∷ []) (text_lines c.in-Some.behind.now));
       number = let count = length-append i.before (line ∷ []) in omega (arith, c.saturating_add-number.ensures, i.number, count);
       leads = leads_on nothing i.before (g.C.Checks.lines c.loop-line.checker) (g.C.Checks.lines c.feed_line.new.checker) line i.leads c.in-Ok.ensures.follows;
+      quiet = i.quiet;
     }
 
 pub returns-in-Err-Fault-clause-stopped : goal.returns-in-Err-Fault-clause-stopped
@@ -31,6 +32,24 @@ returns-in-Err-Fault-clause-stopped g c =
       lines = g.C.Checks.lines c.loop-line.checker;
       leads = i.leads;
       fault = rw c.in-Err-Fault.why-is (rw c.in-Err-Fault.field-0-is at c.in-Err-Fault.ensures.refused);
+    }
+
+pub returns-in-Err-Fault-clause-advised : goal.returns-in-Err-Fault-clause-advised
+returns-in-Err-Fault-clause-advised g c =
+    let i = c.loop-line.invariant in
+    let told = rw c.period-period.ensures at c.put_advice.ensures in
+    record {
+      told = told;
+      bad = record {
+        before = i.before;
+        text = c.in-Some.line.now;
+        after = text_lines c.in-Some.behind.now;
+        parts = i.parts ∙ ap (λ (ls : List (List ℕ)). i.before ++ ls) c.in-Some.ensures.lines;
+        counted = omega (arith, c.saturating_add-number.ensures, i.number);
+        lines = g.C.Checks.lines c.loop-line.checker;
+        leads = i.leads;
+        fault = rw c.in-Err-Fault.why-is (rw c.in-Err-Fault.field-0-is at c.in-Err-Fault.ensures.refused);
+      };
     }
 
 pub returns-clause-taken : goal.returns-clause-taken

@@ -1,4 +1,4 @@
-use Rattle.std.proofs.Common.{◌≡◌, ℕ, ◌-◌, ◌^◌, ◌++◌, List, length, min}
+use Rattle.std.proofs.Common.{◌≡◌, ℕ, ◌-◌, ◌^◌, ◌++◌, List, [], length, min}
 use Rattle.script_grammar.specs.Draft.{nothing}
 use Rattle.script_grammar.specs.Grammar.{Leads}
 use Rattle.script_words.specs.Lines.{text_lines}
@@ -12,6 +12,7 @@ invariant-loop-line g l =
       parts : text_lines l.input ≡ before ++ text_lines l.rest;
       number : l.number ≡ min (length before) (2 ^ 32 - 1);
       leads : Leads nothing before (g.C.Checks.lines l.checker);
+      quiet : l.advice.items ≡ [];
     }
 
 abbrev pub decreases-loop-line : goal.decreases-loop-line

@@ -1,0 +1,84 @@
+-- What of a bad line breaks the rule: the first word that does, where one alone does; else the line as a whole.
+use Rattle.std.specs.Prelude.{◌≡◌, ◌⊎◌, ℕ, ◌+◌, ◌<◌, ◌≤◌, List, [], ◌∷◌, true, false, Option, None, Some, drop, length, if◌then◌else◌}
+use Rattle.script_words.specs.Words.{words_of}
+use Rattle.script_grammar.specs.Grammar.{most_line}
+use Rattle.script_grammar.specs.declared.fault.Fault.{Fault}
+use Rattle.script_grammar.specs.declared.fault.Fault.TheVariants as fault
+use Rattle.line_advice.specs.Fields.{IsInRange, has_form}
+use Rattle.line_advice.specs.Kinds.{field_at, has_count, kind_of}
+use Rattle.line_advice.specs.declared.blame.Blame.{Blame}
+use Rattle.line_advice.specs.declared.blame.Blame.TheVariants.{First, Count, Form, Range, Long, Rule}
+use Rattle.line_advice.specs.declared.kind.Kind.{Kind}
+use Rattle.line_advice.specs.declared.rule.Rule.{Rule as ARule}
+use Rattle.line_advice.specs.declared.rule.Rule.TheVariants as rule
+
+-- the words of a line behind the first one
+abbrev pub behind_first : List (List ℕ) → List (List ℕ)
+behind_first words = drop 1 words
+
+-- ---- words that are not of their form: the first one is unknown; or there are too few or too many; or one has not the form of its
+-- field
+-- the place of the first of these words that has not, where the first one is at this place
+abbrev pub unformed_from : Kind → ℕ → List (List ℕ) → Option ℕ
+unformed_from kind place [] = None
+unformed_from kind place (word ∷ words) = if has_form (field_at kind place) word then unformed_from kind (place + 1) words else Some place
+
+-- a line of this kind has its number of words, and the one at this place behind the first is the first that has not
+pub record IsMisformed (words : List (List ℕ)) (place : ℕ) : Type 0 where
+  pub kind : Kind
+  pub of_kind : kind_of words ≡ Some kind
+  pub counted : has_count kind (length (behind_first words)) ≡ true
+  pub first : unformed_from kind 0 (behind_first words) ≡ Some place
+
+pub record IsMiscounted (words : List (List ℕ)) (kind : Kind) : Type 0 where
+  pub of_kind : kind_of words ≡ Some kind
+  pub counted : has_count kind (length (behind_first words)) ≡ false
+
+abbrev pub IsMisread : List (List ℕ) → Blame → Type 0
+IsMisread words First = kind_of words ≡ None
+IsMisread words (Count kind) = IsMiscounted words kind
+IsMisread words (Form word field) = (place : ℕ) × (wrong : IsMisformed words place) × (word ≡ place + 1) × (field ≡ field_at wrong.kind place)
+IsMisread words _ = ⊥
+
+-- ---- words out of range: one alone; or, where each is in range, all of them together
+-- the place of the first of these words that is out of the range of its field, if one is, where the first one is at this place
+abbrev pub IsOutFrom : ℕ → Kind → ℕ → List (List ℕ) → Option ℕ → Type 0
+IsOutFrom period kind place [] found = found ≡ None
+IsOutFrom period kind place (word ∷ words) found =
+    (IsInRange period (field_at kind place) word × IsOutFrom period kind (place + 1) words found) ⊎ ((IsInRange period (field_at kind place) word → ⊥) × (found ≡ Some place))
+
+abbrev pub IsFirstOut : ℕ → Kind → List (List ℕ) → Option ℕ → Type 0
+IsFirstOut period kind behind found = IsOutFrom period kind 0 behind found
+
+pub record AreOut (period : ℕ) (words : List (List ℕ)) (found : Option ℕ) : Type 0 where
+  pub kind : Kind
+  pub of_kind : kind_of words ≡ Some kind
+  pub first : IsFirstOut period kind (behind_first words) found
+
+abbrev pub IsOutOfRange : ℕ → List (List ℕ) → Blame → Type 0
+IsOutOfRange period words (Range word field at) = (place : ℕ) × (wrong : AreOut period words (Some place)) × (word ≡ place + 1) × (field ≡ field_at wrong.kind place) × (at ≡ period)
+IsOutOfRange period words (Rule broken kind) = (wrong : AreOut period words None) × (kind ≡ wrong.kind) × (broken ≡ rule.InRange)
+IsOutOfRange period words _ = ⊥
+
+-- ---- another rule, by the kind of the line
+abbrev pub IsOfRule : ARule → List (List ℕ) → Blame → Type 0
+IsOfRule wanted words (Rule broken kind) = (broken ≡ wanted) × (kind_of words ≡ Some kind)
+IsOfRule wanted words _ = ⊥
+
+-- ---- what is to blame for a fault, where the refresh period is this
+abbrev pub IsBlamedOf : ℕ → List (List ℕ) → Fault → Blame → Type 0
+IsBlamedOf period words fault.Word blame = IsMisread words blame
+IsBlamedOf period words fault.Late blame = IsOfRule rule.InTime words blame
+IsBlamedOf period words fault.Range blame = IsOutOfRange period words blame
+IsBlamedOf period words fault.Name blame = IsOfRule rule.Known words blame
+IsBlamedOf period words fault.Twice blame = IsOfRule rule.New words blame
+IsBlamedOf period words fault.Style blame = IsOfRule rule.OfStyle words blame
+IsBlamedOf period words fault.Limit blame = IsOfRule rule.WithinLimits words blame
+IsBlamedOf period words fault.NotTree blame = IsOfRule rule.OfTree words blame
+IsBlamedOf period words fault.Over blame = IsOfRule rule.WithinCapacity words blame
+IsBlamedOf period words (fault.Loop group from to) blame = IsOfRule rule.LoopFree words blame
+
+-- of a line that is too long its length
+abbrev pub IsBlamed : ℕ → List ℕ → Fault → Blame → Type 0
+IsBlamed period line why Long = most_line < length line
+IsBlamed period line why blame = (length line ≤ most_line) × IsBlamedOf period (words_of line) why blame

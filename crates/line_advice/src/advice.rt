@@ -1,0 +1,109 @@
+//! The line of text that tells what is wrong with a line.
+ghost use Rattle.std.specs.Prelude.{◌≡◌, ◌<◌, ◌++◌, ℕ, List, MatchOption, None, OnOk, Some, length};
+ghost use Rattle.script_grammar.specs.Grammar.{most_line};
+ghost use Rattle.script_grammar.specs.declared.fault.Fault.{Fault as AFault};
+ghost use Rattle.line_advice.specs.Advice.{IsAdvice, advice_text, blamed_word, number_of_word, told_text, wanted_text};
+
+use crate::blame::{Blame, find_blame};
+use crate::place::word_at;
+use crate::texts::{first_text, form_text, put_range, rule_text, rule_word, usage_text};
+use rsvp_base::NoMemory;
+use script_grammar::Fault;
+use std::alloc::Global;
+use value_texts::{put, put_number};
+use word_quotes::{put_quoted, put_strange};
+
+/// Makes `advice` the text that tells what is wrong with a line that has this fault, without a line feed: two spaces, the column
+/// and the word that is to blame, if it is one, and what is wanted. `period` is the refresh period behind the lines before, in
+/// milliseconds. Where memory runs out, `advice` is empty.
+pub fn put_advice(alloc: Global, period: u32, line: &[u8], why: &Fault, advice: &mut Vec<u8>)
+    ensures { IsAdvice period line.now why.now advice.new.items }
+{
+    advice.clear();
+    let Some(blame) = find_blame(alloc, period, line, why) else {
+        return;
+    };
+    if put_told(advice, line, blame).is_err() {
+        advice.clear();
+    }
+}
+
+/// The same of a line of more than 2,048 bytes, whatever these are.
+pub fn put_long(advice: &mut Vec<u8>)
+    ensures { (period : ℕ) (line : List ℕ) (why : AFault) → most_line < length line → IsAdvice period line why advice.new.items }
+{
+    advice.clear();
+    if put_told(advice, b"", Blame::Long).is_err() {
+        advice.clear();
+    }
+}
+
+// Appends what is to blame for a line.
+fn put_told(out: &mut Vec<u8>, line: &[u8], blame: Blame) -> Result<(), NoMemory>
+    ensures { OnOk result (out.new.items ≡ out.old.items ++ advice_text line.now blame) }
+{
+    match blamed_word(line, blame) {
+        None => put_whole(out, blame),
+        Some((column, word)) => put_at(out, column, word, blame),
+    }
+}
+
+// Appends what is wanted of a line as a whole.
+#[tactic(auto, unfolding(crate::specs::Advice::told_text))]
+fn put_whole(out: &mut Vec<u8>, blame: Blame) -> Result<(), NoMemory>
+    ensures { OnOk result (out.new.items ≡ out.old.items ++ told_text None (wanted_text blame)) }
+{
+    put(out, b"  ")?;
+    put_wanted(out, blame)
+}
+
+// Appends a word with its column, and what is wanted of it.
+#[tactic(auto, unfolding(crate::specs::Advice::told_text))]
+fn put_at(out: &mut Vec<u8>, column: usize, word: &[u8], blame: Blame) -> Result<(), NoMemory>
+    ensures { OnOk result (out.new.items ≡ out.old.items ++ told_text (Some (column, word.now)) (wanted_text blame)) }
+{
+    put(out, b"  column ")?;
+    put_number(out, column as u64)?;
+    put(out, b", ")?;
+    put_quoted(out, word)?;
+    put(out, b": ")?;
+    put_wanted(out, blame)?;
+    put_strange(out, word)
+}
+
+// Appends what is wanted.
+fn put_wanted(out: &mut Vec<u8>, blame: Blame) -> Result<(), NoMemory>
+    ensures { OnOk result (out.new.items ≡ out.old.items ++ wanted_text blame) }
+{
+    match blame {
+        Blame::First => put(out, first_text()),
+        Blame::Count(kind) => put(out, usage_text(kind)),
+        Blame::Form { word: _, field } => put(out, form_text(field)),
+        Blame::Range {
+            word: _,
+            field,
+            period,
+        } => put_range(out, period, field),
+        Blame::Long => put(out, b"a line has at most 2048 bytes"),
+        Blame::Rule { rule, kind } => put(out, rule_text(rule, kind)),
+    }
+}
+
+// The word that is to blame, with its column.
+fn blamed_word(line: &[u8], blame: Blame) -> Option<(usize, &[u8])>
+    ensures { MatchOption result (blamed_word line.now blame ≡ None) (λ p. blamed_word line.now blame ≡ Some (p.0, p.1.now)) }
+{
+    word_at(line, number_of_word(blame)?)
+}
+
+fn number_of_word(blame: Blame) -> Option<usize>
+    ensures { result ≡ number_of_word blame }
+{
+    match blame {
+        Blame::First => Some(0),
+        Blame::Form { word, field: _ } => Some(word),
+        Blame::Range { word, .. } => Some(word),
+        Blame::Rule { rule, kind } => rule_word(rule, kind),
+        _ => None,
+    }
+}

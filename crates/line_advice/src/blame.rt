@@ -1,0 +1,169 @@
+//! What of a bad line breaks the rule.
+ghost use Rattle.std.specs.Prelude.{◌≡◌, ◌<◌, IfOk, IfSome, Some, length, map};
+ghost use Rattle.line_advice.specs.Blames.{IsBlamed, IsBlamedOf, IsFirstOut, IsMisread, IsOfRule, IsOutOfRange, behind_first, unformed_from};
+
+use crate::field::Field;
+use crate::kind::Kind;
+use crate::rule::Rule;
+use rsvp_base::NoMemory;
+use script_grammar::Fault;
+use script_words::read_words;
+use std::alloc::Global;
+
+/// What of a bad line breaks the rule. Words have numbers from 0.
+#[derive(Clone, Copy)]
+pub enum Blame {
+    /// The first word, by which no line begins.
+    First,
+    /// The number of its words, as a line of this kind.
+    Count(Kind),
+    /// The word of this number, which has not the form of this field.
+    Form {
+        word: usize,
+        field: Field,
+    },
+    /// The word of this number, which is not in the range of this field, where the refresh period is this, in milliseconds.
+    Range {
+        word: usize,
+        field: Field,
+        period: u32,
+    },
+    /// Its length.
+    Long,
+    /// What this rule says of lines of this kind.
+    Rule {
+        rule: Rule,
+        kind: Kind,
+    },
+}
+
+// The most bytes of a line, its line feed not counted.
+const MOST_LINE: usize = 2048;
+
+/// What of a line with this fault breaks the rule: the first word that does, where one alone does. `period` is the refresh period
+/// behind the lines before, in milliseconds.
+///
+/// `None`: memory ran out, or the line has not this fault.
+pub fn find_blame(alloc: Global, period: u32, line: &[u8], why: &Fault) -> Option<Blame>
+    ensures { IfSome result (IsBlamed period line.now why.now) }
+{
+    if line.len() > MOST_LINE {
+        return Some(Blame::Long);
+    }
+    let mut words = Vec::new(alloc);
+    read_words(line, &mut words).ok()?;
+    blame_of(alloc, period, words.as_slice(), why)
+}
+
+// What of a line with these words breaks the rule.
+fn blame_of(alloc: Global, period: u32, words: &[&[u8]], why: &Fault) -> Option<Blame>
+    ensures { IfSome result (IsBlamedOf period (map (λ w. w.now) words.now) why.now) }
+{
+    match why {
+        Fault::Word => misread(alloc, words),
+        Fault::Late => of_rule(Rule::InTime, words),
+        Fault::Range => out_of_range(alloc, period, words),
+        Fault::Name => of_rule(Rule::Known, words),
+        Fault::Twice => of_rule(Rule::New, words),
+        Fault::Style => of_rule(Rule::OfStyle, words),
+        Fault::Limit => of_rule(Rule::WithinLimits, words),
+        Fault::NotTree => of_rule(Rule::OfTree, words),
+        Fault::Over => of_rule(Rule::WithinCapacity, words),
+        Fault::Loop { .. } => of_rule(Rule::LoopFree, words),
+    }
+}
+
+// The rule, by the kind of the line.
+fn of_rule(rule: Rule, words: &[&[u8]]) -> Option<Blame>
+    ensures { IfSome result (IsOfRule rule (map (λ w. w.now) words.now)) }
+{
+    let kind = Kind::of(words)?;
+    Some(Blame::Rule { rule, kind })
+}
+
+// What of these words is not of its form.
+fn misread(alloc: Global, words: &[&[u8]]) -> Option<Blame>
+    ensures { IfSome result (IsMisread (map (λ w. w.now) words.now)) }
+{
+    let Some(kind) = Kind::of(words) else {
+        return Some(Blame::First);
+    };
+    let behind = behind_first(words);
+    if !kind.has_count(behind.len()) {
+        return Some(Blame::Count(kind));
+    }
+    let place = unformed(alloc, kind, behind)?;
+    Some(Blame::Form {
+        word: place + 1,
+        field: kind.field_at(place),
+    })
+}
+
+// The words behind the first one.
+fn behind_first<'a, 'b>(words: &'a [&'b [u8]]) -> &'a [&'b [u8]]
+    ensures words { map (λ w. w.now) result.now ≡ behind_first (map (λ w. w.now) words.now) }
+    ensures counted { length result.now ≡ length (behind_first (map (λ w. w.now) words.now)) }
+{
+    match words {
+        [] => &[],
+        [_, behind @ ..] => behind,
+    }
+}
+
+// The place of the first of these words that has not the form of its field. `None`: each has, or memory ran out.
+fn unformed(alloc: Global, kind: Kind, words: &[&[u8]]) -> Option<usize>
+    ensures first { IfSome result (λ place. unformed_from kind 0 (map (λ w. w.now) words.now) ≡ Some place) }
+    ensures within { IfSome result (λ place. place < length words.now) }
+{
+    let mut place: usize = 0;
+    let mut rest = words;
+    while let [word, behind @ ..] = rest {
+        if !kind.field_at(place).has_form(alloc, word).ok()? {
+            return Some(place);
+        }
+        place += 1;
+        rest = behind;
+    }
+    None
+}
+
+// What of these words is out of range.
+fn out_of_range(alloc: Global, period: u32, words: &[&[u8]]) -> Option<Blame>
+    ensures { IfSome result (IsOutOfRange period (map (λ w. w.now) words.now)) }
+{
+    let kind = Kind::of(words)?;
+    match first_out(alloc, period, kind, behind_first(words)) {
+        Ok(Some(place)) => Some(Blame::Range {
+            word: place + 1,
+            field: kind.field_at(place),
+            period,
+        }),
+        Ok(None) => Some(Blame::Rule {
+            rule: Rule::InRange,
+            kind,
+        }),
+        Err(_) => None,
+    }
+}
+
+// The place of the first of these words that is out of the range of its field. `None` exactly where each is in range.
+fn first_out(
+    alloc: Global,
+    period: u32,
+    kind: Kind,
+    words: &[&[u8]],
+) -> Result<Option<usize>, NoMemory>
+    ensures first { IfOk result (IsFirstOut period kind (map (λ w. w.now) words.now)) }
+    ensures within { IfOk result (λ found. IfSome found (λ place. place < length words.now)) }
+{
+    let mut place: usize = 0;
+    let mut rest = words;
+    while let [word, behind @ ..] = rest {
+        if !kind.field_at(place).is_in_range(alloc, period, word)? {
+            return Ok(Some(place));
+        }
+        place += 1;
+        rest = behind;
+    }
+    Ok(None)
+}

@@ -1,0 +1,34 @@
+-- What is told of a bad line of digits.
+use Rattle.std.specs.Prelude.{◌≡◌, ◌⊎◌, ℕ, ◌+◌, List, [], ◌∷◌, ◌++◌, Option, None, Some, codes, if◌then◌else◌}
+use Rattle.std.specs.Fmt.{decimal}
+use Rattle.hex.specs.Hex.{is_hex_digit}
+use Rattle.script_words.specs.declared.fault.LineErr.{LineErr}
+use Rattle.script_words.specs.declared.fault.LineWhy.{LineWhy}
+use Rattle.script_words.specs.declared.fault.LineWhy.TheVariants.{Limit}
+use Rattle.word_quotes.specs.Quotes.{quoted, strange_text}
+use Rattle.message_show.specs.ShowLines.{IsBadDigits}
+
+-- the first byte that is no hexadecimal digit, with its column, where the first one stands in this column
+abbrev pub strange_digit : ℕ → List ℕ → Option (ℕ × ℕ)
+strange_digit column [] = None
+strange_digit column (c ∷ cs) = if is_hex_digit c then strange_digit (column + 1) cs else Some (column, c)
+
+abbrev pub digits_wanted : List ℕ
+digits_wanted = codes "a line is an even number of hexadecimal digits"
+
+unfoldable pub digits_text : Option (ℕ × ℕ) → List ℕ
+digits_text None = codes "  " ++ digits_wanted
+digits_text (Some (column, c)) = codes "  column " ++ decimal column ++ codes ", " ++ quoted (c ∷ []) ++ codes ": " ++ digits_wanted ++ strange_text (c ∷ [])
+
+-- of a line that is too long its length; else the first byte that is no digit; and where all are digits, that their number is odd
+abbrev pub digits_advice : List ℕ → LineWhy → List ℕ
+digits_advice line Limit = codes "  a line has at most 8194 digits"
+digits_advice line why = digits_text (strange_digit 1 line)
+
+-- what is wrong with the first bad line was told; or nothing was, since memory ran out
+abbrev pub IsDigitsAdvice : List ℕ → LineWhy → List ℕ → Type 0
+IsDigitsAdvice line why text = (text ≡ []) ⊎ (text ≡ digits_advice line why)
+
+pub record IsToldDigits (input text : List ℕ) (e : LineErr) : Type 0 where
+  pub bad : IsBadDigits input e
+  pub told : IsDigitsAdvice bad.line e.why text

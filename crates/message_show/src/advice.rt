@@ -1,0 +1,69 @@
+//! What is told of a bad line of digits.
+ghost use Rattle.std.specs.Prelude.{◌≡◌, ◌++◌, OnOk};
+ghost use Rattle.hex.specs.Hex.{is_hex_digit};
+ghost use Rattle.message_show.specs.ShowAdvice.{IsDigitsAdvice, digits_advice, digits_text, strange_digit};
+
+use rsvp_base::NoMemory;
+use script_words::LineWhy;
+use value_texts::{put, put_number};
+use word_quotes::{put_quoted, put_strange};
+
+/// Makes `advice` the text that tells what is wrong with a line of digits, without a line feed. Where memory runs out, `advice` is
+/// empty.
+pub fn put_digits_advice(advice: &mut Vec<u8>, line: &[u8], why: LineWhy)
+    ensures { IsDigitsAdvice line.now why advice.new.items }
+{
+    advice.clear();
+    if put_told(advice, line, why).is_err() {
+        advice.clear();
+    }
+}
+
+fn put_told(out: &mut Vec<u8>, line: &[u8], why: LineWhy) -> Result<(), NoMemory>
+    ensures { OnOk result (out.new.items ≡ out.old.items ++ digits_advice line.now why) }
+{
+    match why {
+        LineWhy::Limit => put(out, b"  a line has at most 8194 digits"),
+        _ => put_digit(out, strange_digit(line)),
+    }
+}
+
+#[tactic(auto, unfolding(crate::specs::ShowAdvice::digits_text))]
+fn put_digit(out: &mut Vec<u8>, strange: Option<(usize, u8)>) -> Result<(), NoMemory>
+    ensures { OnOk result (out.new.items ≡ out.old.items ++ digits_text strange) }
+{
+    match strange {
+        None => put(out, b"  a line is an even number of hexadecimal digits"),
+        Some((column, c)) => {
+            put(out, b"  column ")?;
+            put_number(out, column as u64)?;
+            put(out, b", ")?;
+            put_quoted(out, &[c])?;
+            put(out, b": ")?;
+            put(out, b"a line is an even number of hexadecimal digits")?;
+            put_strange(out, &[c])
+        }
+    }
+}
+
+// The first byte that is no hexadecimal digit, with its column, from 1.
+fn strange_digit(line: &[u8]) -> Option<(usize, u8)>
+    ensures { result ≡ strange_digit 1 line.now }
+{
+    let mut column: usize = 1;
+    let mut rest = line;
+    while let [c, behind @ ..] = rest {
+        if !is_hex_digit(*c) {
+            return Some((column, *c));
+        }
+        column += 1;
+        rest = behind;
+    }
+    None
+}
+
+fn is_hex_digit(c: u8) -> bool
+    ensures { result ≡ is_hex_digit c }
+{
+    (b'0' <= c && c <= b'9') || (b'A' <= c && c <= b'F') || (b'a' <= c && c <= b'f')
+}

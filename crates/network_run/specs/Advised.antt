@@ -1,0 +1,17 @@
+-- What is told of the line by which a run ended as bad.
+use Rattle.std.specs.Prelude.{◌≡◌, ℕ, List, []}
+use Rattle.line_advice.specs.Advice.{IsAdvice, IsToldLine}
+use Rattle.network_run.specs.declared.ending.Ending.{Ending}
+use Rattle.network_run.specs.declared.ending.Ending.TheVariants.{BadLine}
+use Rattle.network_run.specs.declared.player.Stop.{Stop}
+use Rattle.network_run.specs.declared.player.Stop.TheVariants as stop
+
+-- what is wrong with the bad line of these bytes; where no line is bad, nothing
+abbrev pub IsAdvised : Ending → List ℕ → List ℕ → Type 0
+IsAdvised (BadLine number why) bytes advice = IsToldLine number why bytes advice
+IsAdvised _ bytes advice = advice ≡ []
+
+-- what is wrong with a line that was not run for this reason, where the refresh period is this
+abbrev pub IsAdvisedAt : ℕ → List ℕ → Stop → List ℕ → Type 0
+IsAdvisedAt period line (stop.Bad why) advice = IsAdvice period line why advice
+IsAdvisedAt period line _ advice = advice ≡ []
