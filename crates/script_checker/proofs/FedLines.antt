@@ -10,7 +10,7 @@ use Rattle.script_grammar.specs.declared.line.Line.{Line}
 use Rattle.script_player.specs.Checking.{Feeds, IsGiven}
 use Rattle.script_player.specs.declared.checks.Refused.{Refused}
 use Rattle.script_player.specs.declared.checks.Refused.TheVariants.{Fault, NoMemory}
-use Rattle.script_checker.specs.Refusals.{Refuses}
+use Rattle.script_state.specs.Refusals.{Refuses}
 
 pub fed : (d : Draft) (text : List ℕ) (said : Line) → length text ≤ most_line → line_of text ≡ Some said → (r : Result (Option Event) Refused) (new : Draft) → OnOk r (KeepsAll (Keeps d said) × Adds d said new)
     → IfOk r (λ e. IsGiven d.events e new.events) → IfErr r (Refuses d said) → Feeds d text r new

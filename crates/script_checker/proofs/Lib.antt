@@ -1,17 +1,2 @@
-pub mod Positions
-pub mod Counts
-pub mod LinkRules
-pub mod HopRules
-pub mod TreeNames
-pub mod RerouteRules
-pub mod Forced
-pub mod SenderRules
-pub mod WantRules
-pub mod WantLines
-pub mod LeftRules
 pub mod Words
 pub mod FedLines
-pub mod Kept
-pub mod FitFacts
-pub mod ResvForms
-pub mod ResvRules

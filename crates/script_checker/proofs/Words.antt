@@ -1,5 +1,6 @@
 -- A line that was read from at most 2,048 bytes has its form: its words are no longer, and a list of senders names someone.
 use Rattle.std.proofs.Common.{◌≡◌, ℕ, suc, ◌≤◌, ◌<◌, List, [], ◌∷◌, length, Bool, true, false, cond, Option, None, Some, Result, Ok, Err, arith, refl, sym, ap, subst, ◌∙◌, inl, inr, ⊎_elim}
+use Rattle.std.proofs.lemmas.List.{length-map}
 use Rattle.std.specs.Prelude.{◌*◌, ◌==◌, ◌&&◌, codes, nat_le, nat_lt, map as each}
 use Rattle.std.specs.List.{onto_first, slice_split}
 use Rattle.std.specs.Str.{bytes_eq, byte}
@@ -32,7 +33,9 @@ use Rattle.script_grammar.specs.LineKinds.{Kinds, as_wild, at_nodes, by_first, b
 use Rattle.script_grammar.specs.Values.{senders_value}
 use Rattle.script_grammar.specs.declared.line.Line.{Line}
 use Rattle.script_grammar.specs.declared.line.Line.TheVariants as line
-use Rattle.script_checker.specs.Forms.{Formed, IsResvForm, IsWantForm}
+use Rattle.script_checker.specs.Forms.{Formed}
+use Rattle.left_rules.specs.Forms.{IsResvForm}
+use Rattle.host_rules.specs.Forms.{IsWantForm}
 
 -- ---- words are no longer than their line
 abbrev AreShort : ℕ → List (List ℕ) → Type 0
@@ -96,17 +99,13 @@ as_many {W} {X} read (w ∷ ws) xs e =
 some_senders : (word : List ℕ) (xs : List SenderWord) → senders_of word ≡ Some xs → 0 < length xs
 some_senders word xs e = let same = as_many sender_of (parts_of (byte ",") word) xs e in let some = some_parts (byte ",") word in omega (arith, same, some)
 
-pub length_each : {A B : Type 0} (f : A → B) (xs : List A) → length (each f xs) ≡ length xs
-length_each f [] = refl
-length_each f (x ∷ xs) = ap suc (length_each f xs)
-
 resv_form : (st : StyleKind) (word : List ℕ) (xs : List SenderWord) → stale_senders st word ≡ Some xs → IsResvForm st xs
 resv_form Wild word xs e =
     let a = opened (quads_of word) as_wild xs e in
     let same : each wild_word a.0 ≡ xs = the_same (each wild_word a.0) xs a.2 in
     let many = as_many quad_of (parts_of (byte ",") word) a.0 a.1 in
     let some = some_parts (byte ",") word in
-    let size = length_each wild_word a.0 in
+    let size = length-map a.0 wild_word in
     subst (IsResvForm Wild) same (omega (arith, many, some, size), λ x i. let q = in_each wild_word x a.0 i in ap (λ (z : SenderWord). z.port) q.2)
 resv_form Fixed word xs e = some_senders word xs e
 resv_form Shared word xs e = some_senders word xs e
@@ -293,17 +292,3 @@ pub formed : (text : List ℕ) (said : Line) → length text ≤ most_line → l
 formed text said few e =
     let short : AreShort most_line (words_of text) = λ w i. let each_one = words_short text w i in omega (arith, few, each_one) in
     subst Good e (choose (is_comment text) (Some line.Skipped) (said_by (words_of text)) (λ _. tt) (said_good (words_of text) short))
-
--- ---- who is named
-some_named : (xs : List Sender) → 0 < length xs → 0 < size (names_from xs)
-some_named [] lt = absurd (omega arith)
-some_named (x ∷ ys) lt =
-    let le = set_below by_sender (x ∷ []) (x ∷ ys) (λ k i. ⊎_elim (λ (e : k ≡ x). inl e) (λ (e : ⊥). absurd e) i) in
-    let one : size (set_of {o = by_sender} (x ∷ [])) ≡ 1 = refl in
-    omega (arith, le, one)
-
--- what a want names is a list that a call may have
-pub fit_list : (st : StyleKind) (words : List SenderWord) → IsWantForm st words → size (senders_value words) ≤ 16 → IsFitList st (senders_value words)
-fit_list Wild words form few = tt
-fit_list Fixed words form few = tt
-fit_list Shared words form few = let size = length_each sender_value words in (some_named (each sender_value words) (omega (arith, form, size)), few)

@@ -1,11 +1,2 @@
-pub mod Events
-pub mod Forcing
-pub mod Checked
-pub mod Refusals
-pub mod LinkEnds
-pub mod HopRefusals
-pub mod TreeRefusals
-pub mod Styles
-pub mod LeftRefusals
 pub mod Forms
-pub mod Fitness
+pub mod Checked

@@ -12,20 +12,20 @@ use tree_routing::Routing;
 
 impl Asks for Checker {
     fn names(&self) -> &[EndName] {
-        self.end_names.as_slice()
+        self.state.end_names.as_slice()
     }
 
     fn routing(&self) -> Result<Routing, NoMemory> {
-        match &self.force {
+        match &self.state.force {
             Some(routing) => routing.copy(),
-            None => self.topology.copy()?.close(),
+            None => self.state.topology.copy()?.close(),
         }
     }
 
     fn locals(&self) -> Result<Locals, NoMemory> {
         Ok(Locals {
-            senders: senders(self.alloc, self.senders.as_slice())?,
-            wants: wants(self.alloc, self.wants.as_slice())?,
+            senders: senders(self.state.alloc, self.state.senders.as_slice())?,
+            wants: wants(self.state.alloc, self.state.wants.as_slice())?,
         })
     }
 }

@@ -1,9 +1,16 @@
 //! Lines are checked as the player of a script asks.
 use crate::checker::Checker;
+use crate::rules::add;
+use crate::starting::{copies, quarter};
 use left_over::LeftOver;
 use net_replay::Event;
 use rsvp_base::NoMemory;
+use script_grammar::{Fault, read_line};
 use script_player::{Checks, Refused, Start};
+use script_words::Unread;
+
+// Where the random words start where no line says so.
+const USUAL_SEED: u64 = 1;
 
 impl Checks for Checker {
     ghost use Rattle.script_checker.specs.Checked.{draft_of};
@@ -11,14 +18,30 @@ impl Checks for Checker {
     ghost lines = { draft_of };
 
     fn feed(&mut self, line: &[u8]) -> Result<Option<Event>, Refused> {
-        self.take_line(line)
+        let alloc = self.state.alloc;
+        let mut words = Vec::new(alloc);
+        match read_line(alloc, line, &mut words) {
+            Ok(said) => add(&mut self.state, said),
+            Err(Unread::Word) => Err(Refused::Fault(Fault::Word)),
+            Err(Unread::NoMemory) => Err(Refused::NoMemory),
+        }
+    }
+
+    fn period(&self) -> u32 {
+        self.state.refresh_period()
     }
 
     fn start(&self) -> Result<Start, NoMemory> {
-        self.start_of()
+        let state = &self.state;
+        Ok(Start {
+            quarter: quarter(state),
+            seed: state.seed.unwrap_or(USUAL_SEED),
+            routing: state.topology.copy()?.close()?,
+            names: copies(state.alloc, state.end_names.as_slice())?,
+        })
     }
 
     fn left(&self) -> &[LeftOver] {
-        self.left_over()
+        self.state.left.facts()
     }
 }

@@ -1,104 +1,83 @@
-//! The rules of script lines, tested in the order of their faults: each kind of line in a file of its own.
-ghost use Rattle.std.specs.Prelude.{◌≡◌, ◌↔◌, IsTrue, IfErr, IfOk, OnOk};
+//! The rules of script lines, by the kind of the line.
+ghost use Rattle.std.specs.Prelude.{IfErr, IfOk, OnOk};
 ghost use Rattle.script_grammar.specs.Adds.{Adds};
-ghost use Rattle.script_grammar.specs.Rules.{OnlyDeclares, KeepsAll, Keeps};
-ghost use Rattle.script_checker.specs.Checked.{draft_of};
+ghost use Rattle.script_grammar.specs.Rules.{KeepsAll, Keeps};
+ghost use Rattle.script_state.specs.Said.{draft_of};
 ghost use Rattle.script_checker.specs.Forms.{Formed};
-ghost use Rattle.script_checker.specs.Refusals.{Refuses};
+ghost use Rattle.script_state.specs.Refusals.{Refuses};
 ghost use Rattle.script_player.specs.Checking.{IsGiven};
 
-mod end;
-mod event;
-mod hop;
-mod keeping;
-mod link;
-mod node;
-mod period;
-mod reroute;
-mod reserve;
-mod sender;
-mod session;
-mod stale;
-mod want;
-
-use crate::checker::Checker;
 use net_replay::Event;
 use script_grammar::Line;
 use script_player::Refused;
+use script_state::ScriptState;
 
 /// Adds what a line says, and gives its event if it is one of part 3. `Fault`: the line breaks a rule, and this is the fault of
 /// the first that it breaks. `NoMemory`: memory ran out.
-pub fn add(checker: &mut Checker, line: Line) -> Result<Option<Event>, Refused>
+pub fn add(state: &mut ScriptState, line: Line) -> Result<Option<Event>, Refused>
     requires { Formed line }
-    ensures ok { OnOk result (KeepsAll (Keeps (draft_of checker.old) line) × Adds (draft_of checker.old) line (draft_of checker.new)) }
-    ensures given { IfOk result (λ e. IsGiven (draft_of checker.old).events e (draft_of checker.new).events) }
-    ensures refused { IfErr result (Refuses (draft_of checker.old) line) }
+    ensures ok { OnOk result (KeepsAll (Keeps (draft_of state.old) line) × Adds (draft_of state.old) line (draft_of state.new)) }
+    ensures given { IfOk result (λ e. IsGiven (draft_of state.old).events e (draft_of state.new).events) }
+    ensures refused { IfErr result (Refuses (draft_of state.old) line) }
 {
     match line {
         Line::Skipped => Ok(None),
         Line::Period(ms) => {
-            period::add_period(checker, ms)?;
+            tree_rules::add_period(state, ms)?;
             Ok(None)
         }
         Line::Seed(seed) => {
-            period::add_seed(checker, seed)?;
+            tree_rules::add_seed(state, seed)?;
             Ok(None)
         }
         Line::Node(name) => {
-            node::add_node(checker, name)?;
+            tree_rules::add_node(state, name)?;
             Ok(None)
         }
-        Line::Wait(ms) => Ok(Some(event::add_wait(checker, ms)?)),
-        Line::Pass(times) => Ok(Some(event::add_pass(checker, times)?)),
-        Line::Rounds(times) => Ok(Some(event::add_rounds(checker, times)?)),
-        Line::Deliver(place) => Ok(Some(event::add_deliver(checker, place)?)),
-        Line::Lose(place) => Ok(Some(event::add_lose(checker, place)?)),
-        Line::Copy(place) => Ok(Some(event::add_again(checker, place)?)),
-        Line::Clear(node) => Ok(Some(event::add_clear(checker, node)?)),
-        Line::Trace(on) => Ok(Some(event::add_trace(checker, on)?)),
-        Line::Report => Ok(Some(event::add_report(checker)?)),
-        Line::Flags => Ok(Some(event::add_flags(checker)?)),
+        Line::Wait(ms) => Ok(Some(event_rules::add_wait(state, ms)?)),
+        Line::Pass(times) => Ok(Some(event_rules::add_pass(state, times)?)),
+        Line::Rounds(times) => Ok(Some(event_rules::add_rounds(state, times)?)),
+        Line::Deliver(place) => Ok(Some(event_rules::add_deliver(state, place)?)),
+        Line::Lose(place) => Ok(Some(event_rules::add_lose(state, place)?)),
+        Line::Copy(place) => Ok(Some(event_rules::add_again(state, place)?)),
+        Line::Clear(node) => Ok(Some(event_rules::add_clear(state, node)?)),
+        Line::Trace(on) => Ok(Some(event_rules::add_trace(state, on)?)),
+        Line::Report => Ok(Some(event_rules::add_report(state)?)),
+        Line::Flags => Ok(Some(event_rules::add_flags(state)?)),
         Line::End(line) => {
-            end::add_end(checker, line)?;
+            tree_rules::add_end(state, line)?;
             Ok(None)
         }
         Line::Link(names) => {
-            link::add_link(checker, names)?;
+            tree_rules::add_link(state, names)?;
             Ok(None)
         }
         Line::Hop(line) => {
-            hop::add_hop(checker, line)?;
+            tree_rules::add_hop(state, line)?;
             Ok(None)
         }
         Line::StalePath(line) => {
-            stale::add_path(checker, line)?;
+            left_rules::add_path(state, line)?;
             Ok(None)
         }
         Line::StaleResv(line) => {
-            reserve::add_resv(checker, line)?;
+            left_rules::add_resv(state, line)?;
             Ok(None)
         }
         Line::StaleHopWall(line) => {
-            stale::add_hop_wall(checker, line)?;
+            left_rules::add_hop_wall(state, line)?;
             Ok(None)
         }
         Line::StaleSenderWall(line) => {
-            stale::add_sender_wall(checker, line)?;
+            left_rules::add_sender_wall(state, line)?;
             Ok(None)
         }
-        Line::Send(line) => Ok(Some(sender::add_send(checker, line)?)),
-        Line::Drop(line) => Ok(Some(sender::add_drop(checker, line)?)),
-        Line::Want(line) => Ok(Some(want::add_want(checker, line)?)),
-        Line::Quit(line) => Ok(Some(want::add_quit(checker, line)?)),
-        Line::ReportEnd(end) => Ok(Some(event::add_report_end(checker, end)?)),
-        Line::Inject(line) => Ok(Some(event::add_inject(checker, line)?)),
-        Line::Reroute(line) => Ok(Some(reroute::add_reroute(checker, line)?)),
+        Line::Send(line) => Ok(Some(host_rules::add_send(state, line)?)),
+        Line::Drop(line) => Ok(Some(host_rules::add_drop(state, line)?)),
+        Line::Want(line) => Ok(Some(host_rules::add_want(state, line)?)),
+        Line::Quit(line) => Ok(Some(host_rules::add_quit(state, line)?)),
+        Line::ReportEnd(end) => Ok(Some(event_rules::add_report_end(state, end)?)),
+        Line::Inject(line) => Ok(Some(event_rules::add_inject(state, line)?)),
+        Line::Reroute(line) => Ok(Some(tree_rules::add_reroute(state, line)?)),
     }
-}
-
-// Whether no left-over fact and no event came yet.
-fn only_declares(checker: &Checker) -> bool
-    ensures { IsTrue result ↔ OnlyDeclares (draft_of checker.now) }
-{
-    checker.left.is_empty() && checker.events.is_empty()
 }

@@ -1,13 +1,18 @@
 //! Lines of parts 1 and 3, one after the other.
+use line_stream::MOST_LINE;
 use net_replay::Event;
 use script_checker::Checker;
 use script_grammar::Fault;
-use script_player::Refused;
+use script_player::{Checks, Refused};
 use std::test::*;
 
 /// What is said of a line behind those that were taken.
 pub fn answer(checker: &mut Checker, line: &str) -> Result<Option<Event>, Refused> {
-    checker.take_line(line.as_bytes())
+    let line = line.as_bytes();
+    if line.len() > MOST_LINE {
+        return Err(Refused::Fault(Fault::Limit));
+    }
+    checker.feed(line)
 }
 
 #[test]

@@ -1,0 +1,195 @@
+//! The rules of lines of part 3 that ask nothing of a host.
+ghost use Rattle.std.specs.Prelude.{◌≡◌, ◌↔◌, ◌≤◌, IfErr, IfOk, IfSome, IsSome, OnOk, length};
+ghost use Rattle.script_state.specs.Said.{draft_of};
+ghost use Rattle.script_state.specs.Refusals.{Refuses};
+ghost use Rattle.script_player.specs.Checking.{IsAdded};
+ghost use Rattle.script_grammar.specs.Adds.{Adds};
+ghost use Rattle.script_grammar.specs.Rules.{Keeps, KeepsAll};
+ghost use Rattle.script_grammar.specs.Values.{IsFrom1To};
+ghost use Rattle.script_grammar.specs.declared.line.Line.TheVariants as kind;
+
+use net_replay::Event;
+use script_grammar::{Fault, InjectLine};
+use script_player::Refused;
+use script_state::{ScriptState, has_room_for_report, keep, keep_report};
+use script_words::EndName;
+
+const MOST_WAIT: u32 = 3_600_000;
+
+const MOST_PASSES: u32 = 1000;
+
+const MOST_ROUNDS: u32 = 10_000;
+
+const MOST_PLACES: u32 = 8192;
+
+// A number from 1 on, where it is not above the most.
+fn from_1_to(most: u32, number: u128) -> Option<u32>
+    ensures some { IsSome result ↔ IsFrom1To most number }
+    ensures value { IfSome result (λ n. n ≡ number) }
+{
+    if number == 0 || number > u128::from(most) {
+        return None;
+    }
+    Some(number as u32)
+}
+
+/// Adds the event of `wait`.
+pub fn add_wait(state: &mut ScriptState, ms: u128) -> Result<Event, Refused>
+    ensures ok { OnOk result (KeepsAll (Keeps (draft_of state.old) (kind.Wait ms)) × Adds (draft_of state.old) (kind.Wait ms) (draft_of state.new)) }
+    ensures event { IfOk result (λ e. IsAdded (draft_of state.old).events e (draft_of state.new).events) }
+    ensures refused { IfErr result (Refuses (draft_of state.old) (kind.Wait ms)) }
+{
+    let Some(ms) = from_1_to(MOST_WAIT, ms) else {
+        return Err(Refused::Fault(Fault::Range));
+    };
+    Ok(keep(state, Event::Wait { ms }))
+}
+
+/// Adds the event of `pass`.
+pub fn add_pass(state: &mut ScriptState, times: u128) -> Result<Event, Refused>
+    ensures ok { OnOk result (KeepsAll (Keeps (draft_of state.old) (kind.Pass times)) × Adds (draft_of state.old) (kind.Pass times) (draft_of state.new)) }
+    ensures event { IfOk result (λ e. IsAdded (draft_of state.old).events e (draft_of state.new).events) }
+    ensures refused { IfErr result (Refuses (draft_of state.old) (kind.Pass times)) }
+{
+    let Some(times) = from_1_to(MOST_PASSES, times) else {
+        return Err(Refused::Fault(Fault::Range));
+    };
+    Ok(keep(state, Event::Pass { times }))
+}
+
+/// Adds the event of `rounds`.
+pub fn add_rounds(state: &mut ScriptState, times: u128) -> Result<Event, Refused>
+    ensures ok { OnOk result (KeepsAll (Keeps (draft_of state.old) (kind.Rounds times)) × Adds (draft_of state.old) (kind.Rounds times) (draft_of state.new)) }
+    ensures event { IfOk result (λ e. IsAdded (draft_of state.old).events e (draft_of state.new).events) }
+    ensures refused { IfErr result (Refuses (draft_of state.old) (kind.Rounds times)) }
+{
+    let Some(times) = from_1_to(MOST_ROUNDS, times) else {
+        return Err(Refused::Fault(Fault::Range));
+    };
+    Ok(keep(state, Event::Rounds { times }))
+}
+
+/// Adds the event of `deliver`.
+pub fn add_deliver(state: &mut ScriptState, place: u128) -> Result<Event, Refused>
+    ensures ok { OnOk result (KeepsAll (Keeps (draft_of state.old) (kind.Deliver place)) × Adds (draft_of state.old) (kind.Deliver place) (draft_of state.new)) }
+    ensures event { IfOk result (λ e. IsAdded (draft_of state.old).events e (draft_of state.new).events) }
+    ensures refused { IfErr result (Refuses (draft_of state.old) (kind.Deliver place)) }
+{
+    let Some(place) = from_1_to(MOST_PLACES, place) else {
+        return Err(Refused::Fault(Fault::Range));
+    };
+    Ok(keep(state, Event::Deliver { place }))
+}
+
+/// Adds the event of `lose`.
+pub fn add_lose(state: &mut ScriptState, place: u128) -> Result<Event, Refused>
+    ensures ok { OnOk result (KeepsAll (Keeps (draft_of state.old) (kind.Lose place)) × Adds (draft_of state.old) (kind.Lose place) (draft_of state.new)) }
+    ensures event { IfOk result (λ e. IsAdded (draft_of state.old).events e (draft_of state.new).events) }
+    ensures refused { IfErr result (Refuses (draft_of state.old) (kind.Lose place)) }
+{
+    let Some(place) = from_1_to(MOST_PLACES, place) else {
+        return Err(Refused::Fault(Fault::Range));
+    };
+    Ok(keep(state, Event::Lose { place }))
+}
+
+/// Adds the event of `copy`.
+pub fn add_again(state: &mut ScriptState, place: u128) -> Result<Event, Refused>
+    ensures ok { OnOk result (KeepsAll (Keeps (draft_of state.old) (kind.Copy place)) × Adds (draft_of state.old) (kind.Copy place) (draft_of state.new)) }
+    ensures event { IfOk result (λ e. IsAdded (draft_of state.old).events e (draft_of state.new).events) }
+    ensures refused { IfErr result (Refuses (draft_of state.old) (kind.Copy place)) }
+{
+    let Some(place) = from_1_to(MOST_PLACES, place) else {
+        return Err(Refused::Fault(Fault::Range));
+    };
+    Ok(keep(state, Event::Again { place }))
+}
+
+/// Adds the event of `clear`.
+pub fn add_clear(state: &mut ScriptState, node: EndName) -> Result<Event, Refused>
+    ensures ok { OnOk result (KeepsAll (Keeps (draft_of state.old) (kind.Clear node)) × Adds (draft_of state.old) (kind.Clear node) (draft_of state.new)) }
+    ensures event { IfOk result (λ e. IsAdded (draft_of state.old).events e (draft_of state.new).events) }
+    ensures refused { IfErr result (Refuses (draft_of state.old) (kind.Clear node)) }
+{
+    let Some(node) = state.nodes.find(node.bytes()) else {
+        return Err(Refused::Fault(Fault::Name));
+    };
+    Ok(keep(state, Event::Clear { node: node as u16 }))
+}
+
+/// Adds the event of `trace`.
+pub fn add_trace(state: &mut ScriptState, on: bool) -> Result<Event, Refused>
+    ensures ok { OnOk result (KeepsAll (Keeps (draft_of state.old) (kind.Trace on)) × Adds (draft_of state.old) (kind.Trace on) (draft_of state.new)) }
+    ensures event { IfOk result (λ e. IsAdded (draft_of state.old).events e (draft_of state.new).events) }
+    ensures refused { IfErr result (Refuses (draft_of state.old) (kind.Trace on)) }
+{
+    Ok(keep(state, Event::Trace { on }))
+}
+
+/// Adds the event of `report`.
+pub fn add_report(state: &mut ScriptState) -> Result<Event, Refused>
+    ensures ok { OnOk result (KeepsAll (Keeps (draft_of state.old) (kind.Report)) × Adds (draft_of state.old) (kind.Report) (draft_of state.new)) }
+    ensures event { IfOk result (λ e. IsAdded (draft_of state.old).events e (draft_of state.new).events) }
+    ensures refused { IfErr result (Refuses (draft_of state.old) (kind.Report)) }
+{
+    if !has_room_for_report(state) {
+        return Err(Refused::Fault(Fault::Limit));
+    }
+    Ok(keep_report(state, Event::Report { end: None }))
+}
+
+/// Adds the event of `report END`.
+pub fn add_report_end(state: &mut ScriptState, end: EndName) -> Result<Event, Refused>
+    ensures ok { OnOk result (KeepsAll (Keeps (draft_of state.old) (kind.ReportEnd end)) × Adds (draft_of state.old) (kind.ReportEnd end) (draft_of state.new)) }
+    ensures event { IfOk result (λ e. IsAdded (draft_of state.old).events e (draft_of state.new).events) }
+    ensures refused { IfErr result (Refuses (draft_of state.old) (kind.ReportEnd end)) }
+{
+    let Some(end) = state.names.find(end.bytes()) else {
+        return Err(Refused::Fault(Fault::Name));
+    };
+    if !has_room_for_report(state) {
+        return Err(Refused::Fault(Fault::Limit));
+    }
+    Ok(keep_report(
+        state,
+        Event::Report {
+            end: Some(end as u16),
+        },
+    ))
+}
+
+/// Adds the event of `flags`.
+pub fn add_flags(state: &mut ScriptState) -> Result<Event, Refused>
+    ensures ok { OnOk result (KeepsAll (Keeps (draft_of state.old) (kind.Flags)) × Adds (draft_of state.old) (kind.Flags) (draft_of state.new)) }
+    ensures event { IfOk result (λ e. IsAdded (draft_of state.old).events e (draft_of state.new).events) }
+    ensures refused { IfErr result (Refuses (draft_of state.old) (kind.Flags)) }
+{
+    if !has_room_for_report(state) {
+        return Err(Refused::Fault(Fault::Limit));
+    }
+    Ok(keep_report(state, Event::Flags))
+}
+
+/// Adds the event of `inject`.
+pub fn add_inject(state: &mut ScriptState, line: InjectLine) -> Result<Event, Refused>
+    requires { length line.bytes ≤ 4096 }
+    ensures ok { OnOk result (KeepsAll (Keeps (draft_of state.old) (kind.Inject line)) × Adds (draft_of state.old) (kind.Inject line) (draft_of state.new)) }
+    ensures event { IfOk result (λ e. IsAdded (draft_of state.old).events e (draft_of state.new).events) }
+    ensures refused { IfErr result (Refuses (draft_of state.old) (kind.Inject line)) }
+{
+    let Some(dst) = line.dst.addr() else {
+        return Err(Refused::Fault(Fault::Range));
+    };
+    let Some(end) = state.names.find(line.end.bytes()) else {
+        return Err(Refused::Fault(Fault::Name));
+    };
+    let bytes = line.bytes.as_slice().to_vec(state.alloc)?;
+    Ok(keep(
+        state,
+        Event::Inject {
+            end: end as u16,
+            dst,
+            bytes,
+        },
+    ))
+}

@@ -1,0 +1,322 @@
+//! The rules of `want` and `quit`.
+ghost use Rattle.std.specs.Prelude.{◌≡◌, ◌≢◌, ◌≤◌, ◌↔◌, ◌∷◌, ◌++◌, ◌+◌, ◌&&◌, ◌||◌, [], IsTrue, IsSome, IfOk, IfSome, IfErr, OnOk, count_by, length, map, not};
+ghost use Rattle.std.specs.List.{All, filter, list_all, list_any};
+ghost use Rattle.std.specs.Ordering.{eq_by_cmp};
+ghost use Rattle.rsvp_base.specs.Orders.{styles as by_style, units as by_unit};
+ghost use Rattle.rsvp_messages.specs.Units.{only};
+ghost use Rattle.network_model.specs.Events.{AtNode};
+ghost use Rattle.router_rules.specs.Inputs.{QuitAll};
+ghost use Rattle.script_words.specs.Flows.{IsFlow, flow_value};
+ghost use Rattle.script_words.specs.Sessions.{IsSender, IsSession, sender_value, session_value};
+ghost use Rattle.tree_model.specs.declared.locals.LocalWant.{LocalWant as WantOf};
+ghost use Rattle.script_state.specs.Said.{draft_of};
+ghost use Rattle.host_rules.specs.Styles.{fits};
+ghost use Rattle.script_state.specs.Events.{event_of};
+ghost use Rattle.script_state.specs.Refusals.{OnlyNoMemory, Refuses};
+ghost use Rattle.host_rules.specs.Forms.{IsWantForm};
+ghost use Rattle.script_player.specs.Checking.{IsAdded};
+ghost use Rattle.script_grammar.specs.Adds.{Adds, is_in_place_of, is_want_at, wanted, wants_at, with_want, with_wants, without_wants};
+ghost use Rattle.script_grammar.specs.Draft.{node_number, with_session};
+ghost use Rattle.script_grammar.specs.Rules.{AreDistinct, IsOfWantedStyle, IsWanting, Keeps, KeepsAll};
+ghost use Rattle.script_grammar.specs.Values.{IsWantInRange};
+ghost use Rattle.script_grammar.specs.declared.line.Line.TheVariants as kind;
+
+use net_replay::{Event, LocalCall};
+use rsvp_base::{Flow, Part, Sender, Senders, Session, StyleKind, Unit};
+use script_grammar::{Fault, QuitLine, WantLine};
+use script_player::Refused;
+use script_state::{
+    ScriptState, are_distinct, has_room_for_session, is_session, keep_call, sender_values,
+};
+use std::cmp::Ordering;
+use tree_model::LocalWant;
+
+const MOST_UNITS: usize = 16;
+
+/// Adds what is wanted at a node.
+pub fn add_want(state: &mut ScriptState, line: WantLine) -> Result<Event, Refused>
+    requires { IsWantForm line.style line.senders }
+    ensures ok { OnOk result (KeepsAll (Keeps (draft_of state.old) (kind.Want line)) × Adds (draft_of state.old) (kind.Want line) (draft_of state.new)) }
+    ensures event { IfOk result (λ e. IsAdded (draft_of state.old).events e (draft_of state.new).events) }
+    ensures refused { IfErr result (Refuses (draft_of state.old) (kind.Want line)) }
+{
+    let alloc = state.alloc;
+    let Some(senders) = sender_values(alloc, line.senders.as_slice())? else {
+        return Err(Refused::Fault(Fault::Range));
+    };
+    let Some((session, flow)) = want_values(&line) else {
+        return Err(Refused::Fault(Fault::Range));
+    };
+    let Some(node) = state.nodes.find(line.node.bytes()) else {
+        return Err(Refused::Fault(Fault::Name));
+    };
+    let node = node as u16;
+    if !are_distinct(senders.as_slice()) {
+        return Err(Refused::Fault(Fault::Twice));
+    }
+    if !is_of_wanted_style(state, &line, node, session) {
+        return Err(Refused::Fault(Fault::Style));
+    }
+    let Ok(names) = Senders::of(senders.as_slice()) else {
+        return Err(Refused::Fault(Fault::Limit));
+    };
+    if !has_room_for_session(state, session) {
+        return Err(Refused::Fault(Fault::Limit));
+    }
+    put(&mut state.wants, node, session, line.style, &names, flow)?;
+    if want_count(state.wants.as_slice(), node, session) > MOST_UNITS {
+        return Err(Refused::Fault(Fault::Limit));
+    }
+    keep_call(
+        state,
+        node,
+        session,
+        LocalCall::Want {
+            session,
+            style: line.style,
+            senders: names,
+            flow,
+            confirm: line.confirm,
+        },
+    )
+}
+
+/// Takes out what is wanted of a session at a node.
+pub fn add_quit(state: &mut ScriptState, line: QuitLine) -> Result<Event, Refused>
+    ensures ok { OnOk result (KeepsAll (Keeps (draft_of state.old) (kind.Quit line)) × Adds (draft_of state.old) (kind.Quit line) (draft_of state.new)) }
+    ensures event { IfOk result (λ e. IsAdded (draft_of state.old).events e (draft_of state.new).events) }
+    ensures refused { IfErr result (Refuses (draft_of state.old) (kind.Quit line)) }
+{
+    let Some(session) = line.session.session() else {
+        return Err(Refused::Fault(Fault::Range));
+    };
+    let Some(node) = wanting_node(state, &line, session) else {
+        return Err(Refused::Fault(Fault::Name));
+    };
+    leave(state, node, session)
+}
+
+// Takes the wants of a session at a node out.
+fn leave(state: &mut ScriptState, node: u16, session: Session) -> Result<Event, Refused>
+    ensures ok { OnOk result (draft_of state.new ≡ record (draft_of state.old) { sessions = with_session state.old.sessions.items session; locals = without_wants (draft_of state.old).locals node session; events = map event_of state.old.events.items ++ AtNode node (QuitAll session) ∷ [] }) }
+    ensures event { IfOk result (λ e. IsAdded (draft_of state.old).events e (draft_of state.new).events) }
+    ensures refused { IfErr result OnlyNoMemory }
+{
+    take_out(&mut state.wants, node, session);
+    keep_call(state, node, session, LocalCall::Quit { session })
+}
+
+// The session and flow of a line, where both are in range.
+fn want_values(line: &WantLine) -> Option<(Session, Flow)>
+    ensures some { IsSome result ↔ (IsSession line.now.session × IsFlow line.now.flow) }
+    ensures value { IfSome result (λ v. (v.0 ≡ session_value line.now.session) × (v.1 ≡ flow_value line.now.flow)) }
+{
+    Some((line.session.session()?, line.flow.flow()?))
+}
+
+// Whether it is a want of the session at the node.
+fn is_want_at(node: u16, session: Session, want: &LocalWant) -> bool
+    ensures { result ≡ is_want_at node session want.now }
+{
+    want.node == node && is_session(session, want.session)
+}
+
+// Whether two styles are the same.
+fn is_style(style: StyleKind, other: StyleKind) -> bool
+    ensures { result ≡ eq_by_cmp by_style.cmp style other }
+{
+    style == other
+}
+
+// Whether two units are one.
+fn is_unit(unit: Unit, other: Unit) -> bool
+    ensures { result ≡ eq_by_cmp by_unit.cmp unit other }
+{
+    unit.cmp(&other) == Ordering::Equal
+}
+
+// Whether each of the wants is not of the session at the node, or of this style.
+fn fit_in(wants: &[LocalWant], node: u16, session: Session, style: StyleKind) -> bool
+    ensures { result ≡ list_all (fits (is_want_at node session) style) wants.now }
+{
+    wants.iter().all(|want| !is_want_at(node, session, want) || is_style(want.style, style))
+}
+
+// Whether the wants of the session at the node are of this style.
+fn are_of_style(wants: &[LocalWant], node: u16, session: Session, style: StyleKind) -> bool
+    ensures { IsTrue result ↔ All (λ w. w.style ≡ style) (wants_at wants.now node session) }
+{
+    fit_in(wants, node, session, style)
+}
+
+// Whether the wants of the line's session at its node are of its style.
+fn is_of_wanted_style(state: &ScriptState, line: &WantLine, node: u16, session: Session) -> bool
+    requires node { node ≡ node_number (draft_of state.now) line.now.node }
+    requires session { session ≡ session_value line.now.session }
+    ensures { IsTrue result ↔ IsOfWantedStyle (draft_of state.now) line.now }
+{
+    are_of_style(state.wants.as_slice(), node, session, line.style)
+}
+
+// How many wants of the session there are at the node.
+fn want_count(wants: &[LocalWant], node: u16, session: Session) -> usize
+    ensures { result ≡ length (wants_at wants.now node session) }
+{
+    wants
+        .iter()
+        .filter(|want| is_want_at(node, session, want))
+        .count()
+}
+
+// Whether one of the wants is of the session at the node.
+fn any_wants(wants: &[LocalWant], node: u16, session: Session) -> bool
+    ensures { result ≡ list_any (is_want_at node session) wants.now }
+{
+    wants.iter().any(|want| is_want_at(node, session, want))
+}
+
+// Whether there are wants of the session at the node.
+fn has_wants(wants: &[LocalWant], node: u16, session: Session) -> bool
+    ensures { IsTrue result ↔ (wants_at wants.now node session ≢ []) }
+{
+    any_wants(wants, node, session)
+}
+
+// The node of a line, where it was declared and wants something of the line's session.
+fn wanting_node(state: &ScriptState, line: &QuitLine, session: Session) -> Option<u16>
+    requires { session ≡ session_value line.now.session }
+    ensures some { IsSome result ↔ IsWanting (draft_of state.now) line.now }
+    ensures value { IfSome result (λ n. n ≡ node_number (draft_of state.now) line.now.node) }
+{
+    let node = state.nodes.find(line.node.bytes())? as u16;
+    if !wants_some(state, line, node, session) {
+        return None;
+    }
+    Some(node)
+}
+
+// Whether something is wanted of the line's session at its node.
+fn wants_some(state: &ScriptState, line: &QuitLine, node: u16, session: Session) -> bool
+    requires node { node ≡ node_number (draft_of state.now) line.now.node }
+    requires session { session ≡ session_value line.now.session }
+    ensures { IsTrue result ↔ (wants_at state.now.wants.items (node_number (draft_of state.now) line.now.node) (session_value line.now.session) ≢ []) }
+{
+    has_wants(state.wants.as_slice(), node, session)
+}
+
+// Whether a new want goes in the place of this one.
+fn is_in_place_of(new: &LocalWant, want: &LocalWant) -> bool
+    ensures { result ≡ is_in_place_of new.now want.now }
+{
+    is_want_at(new.node, new.session, want)
+        && (is_style(new.style, want.style)
+            && is_unit(new.part.unit(new.style), want.part.unit(want.style)))
+}
+
+// Takes out the want in whose place the new one goes.
+fn make_place(wants: &mut Vec<LocalWant>, new: &LocalWant)
+    ensures { wants.new.items ≡ filter (λ w. not (is_in_place_of new.now w)) wants.old.items }
+{
+    wants.retain(|want| !is_in_place_of(new, want));
+}
+
+// Puts a want in the place of that of its unit.
+fn put_want(wants: &mut Vec<LocalWant>, new: LocalWant) -> Result<(), Refused>
+    ensures ok { OnOk result (wants.new.items ≡ with_want wants.old.items new) }
+    ensures refused { IfErr result OnlyNoMemory }
+{
+    make_place(wants, &new);
+    wants.push(new)?;
+    Ok(())
+}
+
+// The list of one sender.
+fn only(sender: Sender) -> Senders
+    ensures { result ≡ only sender }
+{
+    let mut names = Senders::new();
+    let Ok(()) = names.insert(sender) else {
+        unreachable!();
+    };
+    names
+}
+
+// Puts a fixed want for each sender.
+fn put_fixed(
+    wants: &mut Vec<LocalWant>,
+    node: u16,
+    session: Session,
+    senders: &[Sender],
+    flow: Flow,
+) -> Result<(), Refused>
+    ensures ok { OnOk result (wants.new.items ≡ with_wants wants.old.items (map (λ x. record { node = node; session = session; style = StyleKind.Fixed; part = record { senders = only x; flow = flow } }) senders.now)) }
+    ensures refused { IfErr result OnlyNoMemory }
+{
+    match senders {
+        [] => Ok(()),
+        [first, others @ ..] => {
+            put_want(
+                wants,
+                LocalWant {
+                    node,
+                    session,
+                    style: StyleKind::Fixed,
+                    part: Part {
+                        senders: only(*first),
+                        flow,
+                    },
+                },
+            )?;
+            put_fixed(wants, node, session, others, flow)
+        }
+    }
+}
+
+// Puts what a line wants.
+fn put(
+    wants: &mut Vec<LocalWant>,
+    node: u16,
+    session: Session,
+    style: StyleKind,
+    names: &Senders,
+    flow: Flow,
+) -> Result<(), Refused>
+    ensures ok { OnOk result (wants.new.items ≡ with_wants wants.old.items (wanted node session style names.now flow)) }
+    ensures refused { IfErr result OnlyNoMemory }
+{
+    match style {
+        StyleKind::Wild => put_one(wants, node, session, StyleKind::Wild, Senders::new(), flow),
+        StyleKind::Fixed => put_fixed(wants, node, session, names.as_slice(), flow),
+        StyleKind::Shared => put_one(wants, node, session, StyleKind::Shared, names.copy(), flow),
+    }
+}
+
+// Puts a want of these senders together.
+fn put_one(
+    wants: &mut Vec<LocalWant>,
+    node: u16,
+    session: Session,
+    style: StyleKind,
+    senders: Senders,
+    flow: Flow,
+) -> Result<(), Refused>
+    ensures ok { OnOk result (wants.new.items ≡ with_want wants.old.items (record { node = node; session = session; style = style; part = record { senders = senders; flow = flow } })) }
+    ensures refused { IfErr result OnlyNoMemory }
+{
+    put_want(
+        wants,
+        LocalWant {
+            node,
+            session,
+            style,
+            part: Part { senders, flow },
+        },
+    )
+}
+
+// Takes the wants of a session at a node out of all wants.
+fn take_out(wants: &mut Vec<LocalWant>, node: u16, session: Session)
+    ensures { wants.new.items ≡ filter (λ w. not (is_want_at node session w)) wants.old.items }
+{
+    wants.retain(|want| !is_want_at(node, session, want));
+}

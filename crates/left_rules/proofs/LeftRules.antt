@@ -1,0 +1,33 @@
+-- A fact that is to be left over: what its node answers, as the rules of the grammar.
+use Rattle.std.specs.Prelude.{◌≡◌, ℕ, ◌++◌, ◌∷◌, [], List}
+use Rattle.std.proofs.Common.{sym, subst}
+use Rattle.rsvp_base.specs.declared.session.Session.{Session}
+use Rattle.router_rules.specs.Bounds.{AreWithinLimits}
+use Rattle.router_rules.specs.Inputs.{Stale}
+use Rattle.left_over.specs.AtNodes.{ifaces_at_node}
+use Rattle.left_over.specs.Standing.{IsAdmittedIn, IsLeftOut, Stands}
+use Rattle.left_over.specs.declared.refused.LeftErr.TheVariants as left_err
+use Rattle.left_over.proofs.Listing.{facts_more}
+use Rattle.script_grammar.specs.Draft.{Draft}
+use Rattle.script_grammar.specs.Rules.{HasRoomForSession, facts_at}
+use Rattle.script_grammar.specs.declared.fault.Fault.TheVariants as fault
+use Rattle.script_player.specs.declared.checks.Refused.TheVariants.{Fault}
+use Rattle.left_rules.specs.LeftRefusals.{IsLeft, IsNotLeft}
+
+module _ (d : Draft) (node : ℕ) (s : Session) (f : Stale) (room : HasRoomForSession d s) where
+  pub is_left : (new : List (ℕ × Stale)) → new ≡ d.stale ++ (node, f) ∷ [] → Stands (ifaces_at_node d.net.ends node) f (facts_at d.stale node) (facts_at new node) → IsLeft d node s f
+  is_left new e stands = record {
+    session = room;
+    tables = subst (λ (xs : List (ℕ × Stale)). AreWithinLimits (facts_at xs node)) e stands.limits;
+    admitted = subst (λ (xs : List (ℕ × Stale)). IsAdmittedIn (ifaces_at_node d.net.ends node) f (facts_at xs node)) e stands.admitted;
+  }
+
+  pub is_full : IsLeftOut (ifaces_at_node d.net.ends node) f (facts_at d.stale node) left_err.Full → IsNotLeft d node s f (Fault fault.Limit)
+  is_full out both = out (subst AreWithinLimits (facts_more d.stale node f) both.1)
+
+  pub is_over : IsLeftOut (ifaces_at_node d.net.ends node) f (facts_at d.stale node) left_err.Over → IsNotLeft d node s f (Fault fault.Over)
+  is_over out = (
+    room,
+    subst AreWithinLimits (sym (facts_more d.stale node f)) out.0,
+    λ admitted. out.1 (subst (IsAdmittedIn (ifaces_at_node d.net.ends node) f) (facts_more d.stale node f) admitted),
+  )

@@ -1,0 +1,4 @@
+pub mod FitFacts
+pub mod LeftRules
+pub mod ResvForms
+pub mod ResvRules

@@ -1,0 +1,5 @@
+pub mod Events
+pub mod Forcing
+pub mod Said
+pub mod Refusals
+pub mod Fitness

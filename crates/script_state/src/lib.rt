@@ -1,0 +1,18 @@
+//! The state that the rules of script lines share: what the lines so far have said, as the grammar of scripts sees it.
+//!
+//! Each change of it is what the lines say from then on; its invariants hold between any two lines.
+#![tactic(auto)]
+
+mod keeping;
+mod names;
+mod parts;
+mod senders;
+mod session;
+mod state;
+
+pub use keeping::{has_room_for_report, keep, keep_report};
+pub use names::NameTable;
+pub use parts::{is_before_events, only_declares};
+pub use senders::{are_distinct, sender_values};
+pub use session::{has_room_for_session, is_session, keep_call, name_session};
+pub use state::ScriptState;

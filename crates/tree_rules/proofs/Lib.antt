@@ -1,0 +1,4 @@
+pub mod LinkRules
+pub mod HopRules
+pub mod TreeNames
+pub mod RerouteRules

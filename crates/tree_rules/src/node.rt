@@ -1,0 +1,34 @@
+//! The rules of `node`.
+ghost use Rattle.std.specs.Prelude.{◌≡◌, IfErr, OnOk};
+ghost use Rattle.script_state.specs.Said.{draft_of};
+ghost use Rattle.script_state.specs.Refusals.{Refuses};
+ghost use Rattle.script_grammar.specs.Adds.{Adds};
+ghost use Rattle.script_grammar.specs.Rules.{Keeps, KeepsAll};
+ghost use Rattle.script_grammar.specs.declared.line.Line.TheVariants as kind;
+
+use script_grammar::Fault;
+use script_player::Refused;
+use script_state::{ScriptState, only_declares};
+use script_words::EndName;
+
+const MOST_NODES: usize = 256;
+
+/// Adds a node.
+pub fn add_node(state: &mut ScriptState, name: EndName) -> Result<(), Refused>
+    ensures ok { OnOk result (KeepsAll (Keeps (draft_of state.old) (kind.Node name)) × Adds (draft_of state.old) (kind.Node name) (draft_of state.new)) }
+    ensures refused { IfErr result (Refuses (draft_of state.old) (kind.Node name)) }
+{
+    if !only_declares(state) {
+        return Err(Refused::Fault(Fault::Late));
+    }
+    if state.nodes.find(name.bytes()).is_some() {
+        return Err(Refused::Fault(Fault::Twice));
+    }
+    if state.nodes.len() >= MOST_NODES {
+        return Err(Refused::Fault(Fault::Limit));
+    }
+    state.left.add_node()?;
+    state.nodes.add(state.alloc, name.bytes())?;
+    state.topology.add_node()?;
+    Ok(())
+}

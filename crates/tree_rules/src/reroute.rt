@@ -1,0 +1,143 @@
+//! The rules of `reroute`.
+ghost use Rattle.std.specs.Prelude.{◌≡◌, ◌↔◌, ◌∷◌, ◌++◌, [], IfErr, IfOk, IfSome, IsSome, OnOk, map};
+ghost use Rattle.std.specs.List.{All, list_any};
+ghost use Rattle.tree_model.specs.Trees.{of_tree};
+ghost use Rattle.network_model.specs.Events.{Reroutes};
+ghost use Rattle.net_replay.specs.Moving.{CanMove};
+ghost use Rattle.script_state.specs.Said.{draft_of};
+ghost use Rattle.script_state.specs.Events.{event_of};
+ghost use Rattle.script_state.specs.Refusals.{OnlyNoMemory, Refuses};
+ghost use Rattle.script_player.specs.Checking.{IsAdded};
+ghost use Rattle.tree_rules.specs.TreeRefusals.{IsTreeRefused, moved_to};
+ghost use Rattle.script_grammar.specs.Adds.{Adds};
+ghost use Rattle.script_grammar.specs.Draft.{routing};
+ghost use Rattle.script_grammar.specs.Rules.{IsEnd, Keeps, KeepsAll};
+ghost use Rattle.script_grammar.specs.Values.{hop_value};
+ghost use Rattle.script_grammar.specs.declared.line.Line.TheVariants as kind;
+
+use crate::hop::{closed, hop_of, tree_of};
+use net_replay::Event;
+use rsvp_base::Addr;
+use script_grammar::{Fault, HopEnds, RerouteLine};
+use script_player::Refused;
+use script_state::{ScriptState, keep};
+use tree_routing::{HopErr, LinkHop, Routing};
+
+// The most hops of all trees.
+const MOST_HOPS: usize = 8192;
+
+/// Puts a tree in the place of the one in force.
+pub fn add_reroute(state: &mut ScriptState, line: RerouteLine) -> Result<Event, Refused>
+    ensures ok { OnOk result (KeepsAll (Keeps (draft_of state.old) (kind.Reroute line)) × Adds (draft_of state.old) (kind.Reroute line) (draft_of state.new)) }
+    ensures event { IfOk result (λ e. IsAdded (draft_of state.old).events e (draft_of state.new).events) }
+    ensures refused { IfErr result (Refuses (draft_of state.old) (kind.Reroute line)) }
+{
+    let Some((group, source)) = tree_of(line.group, line.source) else {
+        return Err(Refused::Fault(Fault::Range));
+    };
+    let Some(hops) = hops_of(state, line.hops.as_slice())? else {
+        return Err(Refused::Fault(Fault::Name));
+    };
+    if state.topology.owner(source).is_none() {
+        return Err(Refused::Fault(Fault::Name));
+    }
+    let declared = state.topology.copy()?.close()?;
+    if !has_tree(&declared, group, source) {
+        return Err(Refused::Fault(Fault::Name));
+    }
+    let routing = moved(state, &declared, group, source, hops.as_slice())?;
+    Ok(put(state, group, source, hops, routing))
+}
+
+// The hops between these ends, where all were declared.
+fn hops_of(state: &ScriptState, pairs: &[HopEnds]) -> Result<Option<Vec<LinkHop>>, Refused>
+    ensures some { IfOk result (λ found. IsSome found ↔ All (λ h. IsEnd (draft_of state.now) h.from × IsEnd (draft_of state.now) h.to) pairs.now) }
+    ensures value { IfOk result (λ found. IfSome found (λ hops. hops.items ≡ map (hop_value (draft_of state.now)) pairs.now)) }
+    ensures refused { IfErr result OnlyNoMemory }
+{
+    let mut hops = Vec::new(state.alloc);
+    for ends in pairs {
+        let Some(hop) = hop_of(state, ends) else {
+            return Ok(None);
+        };
+        hops.push(hop)?;
+    }
+    Ok(Some(hops))
+}
+
+// Whether the tree of a group and source has a hop.
+fn has_tree(routing: &Routing, group: Addr, source: Addr) -> bool
+    ensures { result ≡ list_any (of_tree group source) routing.now.hops }
+{
+    // The proof sees here that there are no more trees than that.
+    let _nodes = routing.nodes();
+    for k in 0..MOST_HOPS {
+        let Some(tree) = routing.tree(k) else {
+            return false;
+        };
+        if tree == (group, source) {
+            return true;
+        }
+    }
+    false
+}
+
+// The routing in force; the declared one where no tree moved yet.
+fn in_force<'a>(state: &'a ScriptState, declared: &'a Routing) -> &'a Routing
+    requires { declared.now ≡ state.now.topology }
+    ensures { result.now ≡ routing (draft_of state.now) }
+{
+    match &state.force {
+        Some(routing) => routing,
+        None => declared,
+    }
+}
+
+// The routing with these hops as the tree of a group and source.
+fn moved(
+    state: &ScriptState,
+    declared: &Routing,
+    group: Addr,
+    source: Addr,
+    hops: &[LinkHop],
+) -> Result<Routing, Refused>
+    requires { declared.now ≡ state.now.topology }
+    ensures moved { IfOk result (λ r. r ≡ moved_to (draft_of state.now) group source hops.now) }
+    ensures can { OnOk result (CanMove (routing (draft_of state.now)) group source hops.now) }
+    ensures refused { IfErr result (IsTreeRefused (draft_of state.now) group source hops.now) }
+{
+    let routing = in_force(state, declared);
+    if !routing.has_room_for_tree(group, source, hops) {
+        return Err(Refused::Fault(Fault::Limit));
+    }
+    match routing.reroute(group, source, hops) {
+        Ok(routing) => Ok(routing),
+        Err(HopErr::NotTree) => Err(Refused::Fault(Fault::NotTree)),
+        Err(HopErr::Loop { group, from, to }) => Err(closed(state, group, LinkHop { from, to })),
+        Err(HopErr::NoMemory) => Err(Refused::NoMemory),
+    }
+}
+
+// Keeps that a tree moves, and the routing that is in force from then on.
+fn put(
+    state: &mut ScriptState,
+    group: Addr,
+    source: Addr,
+    hops: Vec<LinkHop>,
+    routing: Routing,
+) -> Event
+    requires { routing ≡ moved_to (draft_of state.old) group source hops.items }
+    ensures ok { (draft_of state.new ≡ record (draft_of state.old) { force = (moved_to (draft_of state.old) group source hops.items).hops; events = map event_of state.old.events.items ++ Reroutes group source hops.items ∷ [] }) }
+    ensures event { IsAdded (draft_of state.old).events result (draft_of state.new).events }
+{
+    let event = keep(
+        state,
+        Event::Reroute {
+            group,
+            source,
+            hops,
+        },
+    );
+    state.force = Some(routing);
+    event
+}
