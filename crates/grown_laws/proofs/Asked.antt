@@ -1,17 +1,17 @@
 -- What is wanted in a grown network: of three sessions, each in its style, by small flows.
-use Rattle.std.proofs.Common.{◌≡◌, ◌⊎◌, ℕ, ◌+◌, ◌*◌, ◌/◌, ◌%◌, ◌<◌, ◌≤◌, Bool, true, false, List, [], ◌∷◌, length, refl, sym, ap, subst, ◌∙◌, inl, inr, ⊎_elim, arith}
+use Rattle.std.proofs.Common.{◌≡◌, ℕ, ◌/◌, ◌%◌, ◌<◌, ◌≤◌, Bool, true, false, [], ◌∷◌, refl, sym, ap, subst, ◌∙◌, inl, inr, arith}
 use Rattle.std.specs.Prelude.{map as each, ◌==◌, if◌then◌else◌}
-use Rattle.std.specs.List.{filter, flat_map, list_all, list_any, range_with_len}
+use Rattle.std.specs.List.{filter, list_all, list_any, range_with_len}
 use Rattle.std.proofs.lemmas.List.{length-map}
 use Rattle.rsvp_base.specs.Members.{In}
-use Rattle.rsvp_base.specs.Orders.{Names, senders, style_apart, style_place}
+use Rattle.rsvp_base.specs.Orders.{Names, senders, style_apart}
 use Rattle.rsvp_base.specs.Table.{keys, size}
 use Rattle.rsvp_base.specs.TokenBucket.{IsSound, TokenBucket}
 use Rattle.rsvp_base.specs.declared.session.Sender.{Sender}
 use Rattle.rsvp_base.specs.declared.session.Session.{Session}
 use Rattle.rsvp_base.specs.declared.style.StyleKind.{StyleKind}
 use Rattle.rsvp_base.specs.declared.style.StyleKind.TheVariants.{Wild, Fixed, Shared}
-use Rattle.rsvp_base.specs.declared.style.Unit.TheVariants.{Of, One}
+use Rattle.rsvp_base.specs.declared.style.Unit.TheVariants.{Of}
 use Rattle.rsvp_base.proofs.Counts.{in_set_of, size-set_of}
 use Rattle.rsvp_base.proofs.Members.{in_any, in_each, in_flat_map, to_each, to_filter}
 use Rattle.rsvp_base.proofs.SessionCounts.{some_rows}

@@ -1,6 +1,6 @@
 -- What is asked of a grown network is little, so it fits.
-use Rattle.std.proofs.Common.{◌≡◌, ◌⊎◌, ℕ, ◌≤◌, List, [], ◌∷◌, Some, refl, sym, ap, subst, ◌∙◌, inl, inr, ⊎_elim, arith}
-use Rattle.std.specs.Prelude.{map as each, slice_get}
+use Rattle.std.proofs.Common.{◌≡◌, ℕ, ◌≤◌, [], ◌∷◌, sym, subst, ⊎_elim, arith}
+use Rattle.std.specs.Prelude.{map as each}
 use Rattle.std.specs.List.{range_with_len}
 use Rattle.rsvp_base.specs.Members.{In}
 use Rattle.rsvp_base.proofs.Members.{in_flat_map, to_each}

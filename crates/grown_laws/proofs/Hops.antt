@@ -1,5 +1,5 @@
 -- At most three hops of a group go out of a node of a grown network.
-use Rattle.std.proofs.Common.{◌≡◌, ◌⊎◌, ℕ, ◌+◌, ◌*◌, ◌-◌, ◌<◌, ◌≤◌, zero, suc, Bool, true, false, cond, List, [], ◌∷◌, length, Some, refl, sym, ap, subst, ◌∙◌, inl, inr, ⊎_elim, arith}
+use Rattle.std.proofs.Common.{◌≡◌, ◌⊎◌, ℕ, ◌<◌, ◌≤◌, zero, suc, Bool, true, false, cond, List, [], ◌∷◌, length, Some, sym, ap, subst, ◌∙◌, inl, inr, ⊎_elim, arith}
 use Rattle.std.specs.Prelude.{is_some, map as each, slice_get}
 use Rattle.std.specs.List.{filter}
 use Rattle.std.proofs.lemmas.Bool.{cases_lt}
@@ -13,7 +13,6 @@ use Rattle.rsvp_base.proofs.Counts.{in_found, set_of_in}
 use Rattle.rsvp_base.proofs.Members.{in_each, in_filter}
 use Rattle.tree_model.specs.Chains.{NoRepeats}
 use Rattle.tree_model.specs.declared.hops.LinkHop.{LinkHop}
-use Rattle.tree_model.specs.declared.hops.TreeHop.{TreeHop}
 use Rattle.tree_model.specs.Goals.{end_pairs, hops_in_order}
 use Rattle.tree_model.specs.Networks.{ends_of, iface_of, node_of}
 use Rattle.tree_model.specs.Trees.{goes_out_of, hops_of}
@@ -23,8 +22,8 @@ use Rattle.tree_model.proofs.Ifaces.{interfaces_are_ends}
 use Rattle.network_steps.proofs.Hosts.{once_keys}
 use Rattle.grown_network.specs.Grown.{grown_net}
 use Rattle.grown_network.specs.Hops.{hop_down, hop_up}
-use Rattle.grown_network.specs.Nodes.{above, down_end, ends_up_to, up_end}
-use Rattle.grown_network.proofs.Chains.{IsAway, away_is}
+use Rattle.grown_network.specs.Nodes.{ends_up_to}
+use Rattle.grown_network.proofs.Chains.{away_is}
 use Rattle.grown_network.proofs.Hanging.{few_up_to, length_ends}
 use Rattle.grown_network.proofs.Links.{node_down, node_up}
 use Rattle.grown_network.proofs.Senders.{away_grown, once_each}

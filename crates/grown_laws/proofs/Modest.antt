@@ -1,6 +1,6 @@
 -- The demands of a network of which little is asked fit.
-use Rattle.std.proofs.Common.{◌≡◌, ◌⊎◌, ℕ, ◌+◌, ◌*◌, ◌<◌, ◌≤◌, zero, suc, Bool, true, false, cond, List, [], ◌∷◌, ◌++◌, length, Option, None, Some, refl, sym, ap, subst, ◌∙◌, inl, inr, ⊎_elim, arith, length-append}
-use Rattle.std.specs.Prelude.{map as each, is_some, max, not, ◌==◌, slice_get, sum_by}
+use Rattle.std.proofs.Common.{◌≡◌, ℕ, ◌*◌, ◌≤◌, zero, suc, Bool, true, false, cond, List, [], ◌∷◌, ◌++◌, length, Option, None, Some, refl, sym, ap, subst, ◌∙◌, inl, inr, ⊎_elim, arith, length-append}
+use Rattle.std.specs.Prelude.{map as each, is_some, not, ◌==◌, sum_by}
 use Rattle.std.specs.Ordering.{eq_by_cmp}
 use Rattle.std.specs.List.{filter, flat_map}
 use Rattle.std.proofs.lemmas.List.{length-map}
@@ -20,14 +20,13 @@ use Rattle.rsvp_base.specs.declared.style.StyleKind.{StyleKind}
 use Rattle.rsvp_base.specs.declared.style.StyleKind.TheVariants.{Wild, Fixed, Shared}
 use Rattle.rsvp_base.specs.declared.style.Unit.{Unit as UnitOf}
 use Rattle.rsvp_base.specs.declared.style.Unit.TheVariants.{Of, One}
-use Rattle.rsvp_base.proofs.Counts.{found_in, in_found, in_set_of, set_below, set_of_in, size-set_of, size_below}
-use Rattle.rsvp_base.proofs.Lists.{length_filter}
-use Rattle.rsvp_base.proofs.Members.{in_append, in_each, in_filter, in_flat_map, to_each, to_filter}
+use Rattle.rsvp_base.proofs.Counts.{in_found, in_set_of, set_below, size-set_of, size_below}
+use Rattle.rsvp_base.proofs.Members.{in_append, in_each, in_filter, in_flat_map, to_each}
 use Rattle.rsvp_base.proofs.Tables.{tied_same}
 use Rattle.style_rules.specs.CutLaws.{made_of}
 use Rattle.style_rules.specs.Limits.{IsWithinLimits, line_keys_of, names_of, next_hops_of, of_session, of_style, sessions_of}
-use Rattle.style_rules.specs.Lines.{Line, at_end, book_of_end, entry_key, held, line_key, line_keys, merged_book, next_hop, next_hops}
-use Rattle.style_rules.specs.Merge.{PartTable, merge}
+use Rattle.style_rules.specs.Lines.{Line, at_end, entry_key, held, line_key, line_keys, next_hop, next_hops}
+use Rattle.style_rules.specs.Merge.{PartTable}
 use Rattle.style_rules.specs.Parts.{has_name, part_charge, part_cut, part_join, part_of}
 use Rattle.style_rules.proofs.Merges.{merge_keeps, merge_named, merge_source}
 use Rattle.style_rules.proofs.StyleLaws.{a_name, in_named}
@@ -37,7 +36,6 @@ use Rattle.tree_model.specs.Networks.{Net, node_of}
 use Rattle.tree_model.specs.Ranks.{followers, rank}
 use Rattle.tree_model.specs.Trees.{goes_out_of, hops_of}
 use Rattle.tree_model.specs.Wants.{Locals, as_list, brought, is_wanted_at, live, names, own, want, want_from, wanted_of}
-use Rattle.tree_model.specs.declared.hops.End.{End}
 use Rattle.tree_model.specs.declared.hops.LinkHop.{LinkHop}
 use Rattle.tree_model.specs.declared.locals.LocalSender.{LocalSender}
 use Rattle.tree_model.specs.declared.locals.LocalWant.{LocalWant}

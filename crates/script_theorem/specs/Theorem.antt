@@ -11,8 +11,9 @@ use Rattle.network_model.specs.Worlds.{World}
 use Rattle.script_grammar.specs.Grammar.{IsScript}
 use Rattle.settle_reports.specs.Demands.{AppendsTheDemand, moment}
 use Rattle.settle_reports.specs.Writing.{OnlyWrite}
+use Rattle.run_laws.specs.Blockades.{ABlockadeStays, AResvErrTearsNothing, BlockadesDropNothing, EachResvSaysWhatGoesToward, WhatGoesOnIsBelow}
 use Rattle.run_laws.specs.Books.{AreBooksWithinCapacity}
-use Rattle.run_laws.specs.Refusals.{ARefusedCallChangesNothing, ARefusedResvChangesNoReservation, AnUntakenUnitChangesNothing}
+use Rattle.run_laws.specs.Refusals.{ARefusedCallChangesNothing, ARefusedResvChangesNoReservation, AUnitThatPassesIsBooked, AnUntakenUnitChangesNothing}
 
 -- ---- self-stabilisation
 -- each report at a settled moment, or behind steps that only write after one, where the demands of that moment fit
@@ -36,3 +37,18 @@ pub record RefusalsChangeNothing : Type 0 where
   pub call : OfEachStep ARefusedCallChangesNothing
   pub resv : OfEachStep ARefusedResvChangesNoReservation
   pub unit : OfEachStep AnUntakenUnitChangesNothing
+
+-- ---- blockades
+pub record BlockadePromises : Type 0 where
+  -- each Resv that is sent asks for exactly what goes toward its hop by its sender's facts after the step
+  pub says : OfEachStep EachResvSaysWhatGoesToward
+  -- at a node with any facts: a unit with a request that is not blockaded goes on, below what the blockade keeps back
+  pub below : WhatGoesOnIsBelow
+  -- a blockade stays until it dies, another error replaces it, or its node is cleared
+  pub stays : OfEachStep ABlockadeStays
+  -- a unit that passes the tests is booked on arrival
+  pub booked : OfEachStep AUnitThatPassesIsBooked
+  -- at a node with any facts: a blockade drops no unit, and none goes on with less than the meet of its requests
+  pub whole : BlockadesDropNothing
+  -- a step that delivers a ResvErr sends no ResvTear and changes no reservation
+  pub kept : OfEachStep AResvErrTearsNothing

@@ -1,5 +1,5 @@
 //! The laws.
-ghost use Rattle.script_theorem.specs.Theorem.{BooksStayWithinCapacity, RefusalsChangeNothing, ReportsAreDemands};
+ghost use Rattle.script_theorem.specs.Theorem.{BlockadePromises, BooksStayWithinCapacity, RefusalsChangeNothing, ReportsAreDemands};
 
 /// Self-stabilisation: in the run of a valid script that is not crowded, at each report that stands at a settled moment (16 H + 16
 /// calm rounds lie behind it, H the longest chain of hops), where the demands of the senders and wants of that moment fit, what the
@@ -20,4 +20,12 @@ pub fn books_stay_within_capacity()
 /// lifetime begins anew.
 pub fn refusals_change_nothing()
     ensures { RefusalsChangeNothing }
+{}
+
+/// What is sent, kept and booked while a blockade lives, at each step of the run of a valid script (RFC 2205, 3.5): each Resv that
+/// is sent asks for what goes toward its hop, and what is not blockaded goes on below the blockade; a blockade stays until it dies,
+/// is replaced or its node is cleared; a unit that passes the tests is booked; a blockade drops no unit, and a ResvErr tears nothing
+/// down.
+pub fn blockades_keep_their_promises()
+    ensures { BlockadePromises }
 {}

@@ -1,14 +1,13 @@
 -- The senders of a grown network begin to send, one after another: none is refused.
-use Rattle.std.proofs.Common.{◌≡◌, ◌⊎◌, ℕ, ◌+◌, ◌*◌, ◌<◌, ◌≤◌, zero, suc, Bool, true, false, cond, List, [], ◌∷◌, ◌++◌, length, Option, Some, None, refl, sym, ap, subst, ◌∙◌, inl, inr, ⊎_elim, arith}
-use Rattle.std.specs.Prelude.{map as each, ◌==◌, slice_get}
+use Rattle.std.proofs.Common.{◌≡◌, ℕ, ◌+◌, ◌<◌, ◌≤◌, Bool, true, false, cond, List, [], ◌∷◌, length, None, refl, sym, ap, ◌∙◌, inl, inr, arith}
+use Rattle.std.specs.Prelude.{map as each, ◌==◌}
 use Rattle.std.specs.List.{list_all, list_any, range_with_len}
 use Rattle.rsvp_base.specs.Members.{In}
 use Rattle.rsvp_base.specs.Orders.{senders as by_sender}
 use Rattle.rsvp_base.specs.SessionLimits.{has_room_at}
-use Rattle.rsvp_base.specs.Table.{Table, has, put_in, size}
+use Rattle.rsvp_base.specs.Table.{has, put_in, size}
 use Rattle.rsvp_base.specs.declared.iface.Iface.{Iface}
 use Rattle.rsvp_base.proofs.Tables.{size-put_in}
-use Rattle.router_rules.specs.declared.answers.LocalErr.{LocalErr}
 use Rattle.router_rules.specs.declared.answers.LocalErr.TheVariants as local
 use Rattle.router_rules.specs.Calls.{SendersOf, call_refusal, needs}
 use Rattle.router_rules.specs.Facts.{Facts, Want, WantKey, sender_keys}
@@ -18,7 +17,7 @@ use Rattle.calm_rounds.specs.Machine.{run}
 use Rattle.tree_model.specs.Networks.{ends_of}
 use Rattle.tree_model.specs.declared.hops.TreeHop.{TreeHop}
 use Rattle.tree_model.specs.declared.locals.LocalSender.{LocalSender}
-use Rattle.tree_model.proofs.Following.{same_number, number_same}
+use Rattle.tree_model.proofs.Following.{same_number}
 use Rattle.network_model.specs.Steps.{At, Step, machine, step}
 use Rattle.network_model.specs.Worlds.{World, config_of, ifaces_at}
 use Rattle.grown_network.specs.Grown.{net_with}
@@ -26,8 +25,8 @@ use Rattle.grown_network.specs.Growing.{IsAtHome}
 use Rattle.grown_network.specs.Hosts.{flow_of}
 use Rattle.grown_network.specs.Nodes.{ends_up_to, home}
 use Rattle.grown_network.proofs.Ranges.{at_each}
-use Rattle.grown_laws.proofs.Calls.{Have, called}
-use Rattle.grown_laws.proofs.Rows.{small_has_room}
+use Rattle.grown_runs.proofs.Calls.{Have, called}
+use Rattle.grown_runs.proofs.Rows.{small_has_room}
 
 -- ---- a node has its address
 own_tested : list_all (λ r. list_any (λ (i : Iface). is_addr i.addr (home r)) (ifaces_at (ends_up_to 63) (ends_of (ends_up_to 63) r))) (range_with_len 0 64) ≡ true
@@ -44,7 +43,7 @@ send_step x = At x.node (SendAs x.session x.sender (flow_of 1000))
 abbrev pub with_send : (ℕ → SendersOf) → LocalSender → ℕ → SendersOf
 with_send S x n = cond (x.node == n) (put_in (S n) (x.session, x.sender) (flow_of 1000)) (S n)
 
-pub after_sends : List LocalSender → (ℕ → SendersOf) → ℕ → SendersOf
+unfoldable pub after_sends : List LocalSender → (ℕ → SendersOf) → ℕ → SendersOf
 after_sends [] S = S
 after_sends (x ∷ xs) S = after_sends xs (with_send S x)
 

@@ -1,12 +1,11 @@
 -- A call that is not refused, as a step of a network: what its node has then, and that nothing else changes.
-use Rattle.std.proofs.Common.{◌≡◌, ◌⊎◌, ℕ, ◌+◌, ◌*◌, ◌-◌, ◌<◌, ◌≤◌, zero, suc, Bool, true, false, cond, List, [], ◌∷◌, ◌++◌, length, Option, Some, None, refl, sym, ap, subst, ◌∙◌, inl, inr, ⊎_elim, arith}
-use Rattle.std.specs.Prelude.{map as each, ◌==◌, slice_get}
+use Rattle.std.proofs.Common.{◌≡◌, ℕ, ◌+◌, suc, Bool, true, false, cond, List, [], ◌∷◌, length, Option, Some, None, refl, sym, ap, subst, ◌∙◌}
+use Rattle.std.specs.Prelude.{◌==◌, slice_get}
 use Rattle.rsvp_base.specs.Members.{In}
-use Rattle.rsvp_base.specs.Table.{Table, changed_rows}
 use Rattle.router_rules.specs.declared.answers.LocalErr.{LocalErr}
 use Rattle.router_rules.specs.Calls.{SendersOf, act_call, call_refusal, senders_with, unless, wants_with}
-use Rattle.router_rules.specs.Facts.{Facts, Want, WantKey, Wants, want_keys}
-use Rattle.router_rules.specs.Inputs.{Call, Input, Local}
+use Rattle.router_rules.specs.Facts.{Facts, Want, WantKey, want_keys}
+use Rattle.router_rules.specs.Inputs.{Call, Local}
 use Rattle.router_rules.specs.NodeConfig.{NodeConfig}
 use Rattle.router_rules.specs.Rule.{settled}
 use Rattle.router_rules.specs.Sends.{used_marks}
@@ -15,8 +14,7 @@ use Rattle.tree_model.specs.Networks.{Net}
 use Rattle.network_model.specs.Steps.{At, Step, facts_from, ms_of, outcome, outcome_of, step}
 use Rattle.network_model.specs.Worlds.{World, config_of}
 use Rattle.network_model.proofs.Stepping.{facts_after_found}
-use Rattle.tree_model.proofs.Following.{same_number, number_same}
-use Rattle.grown_laws.proofs.Rows.{unmarked_rows}
+use Rattle.grown_runs.proofs.Rows.{unmarked_rows}
 
 -- what the nodes of a network have: these senders, and these wants
 pub record Have (net : Net) (S : ℕ → SendersOf) (R : ℕ → List (WantKey × Want)) (w : World) : Type 0 where

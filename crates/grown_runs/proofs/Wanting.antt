@@ -1,16 +1,16 @@
 -- What is wanted in a grown network is asked for, one after another, by node and session: no call is refused, and its wants stand
 -- behind those of the node.
-use Rattle.std.proofs.Common.{◌≡◌, ◌⊎◌, ℕ, ◌+◌, ◌*◌, ◌-◌, ◌<◌, ◌≤◌, zero, suc, Bool, true, false, cond, List, [], ◌∷◌, ◌++◌, length, Option, Some, None, refl, sym, ap, subst, ◌∙◌, inl, inr, ⊎_elim, arith, length-append, T}
-use Rattle.std.specs.Prelude.{map as each, not, ◌==◌, slice_get}
+use Rattle.std.proofs.Common.{◌≡◌, ℕ, ◌+◌, ◌*◌, ◌-◌, ◌<◌, ◌≤◌, Bool, true, false, cond, List, [], ◌∷◌, ◌++◌, length, None, refl, sym, ap, subst, ◌∙◌, inl, inr, ⊎_elim, arith, length-append, T}
+use Rattle.std.specs.Prelude.{map as each, not, ◌==◌}
 use Rattle.std.specs.FinMap.Entries.{below_all, is_sorted}
 use Rattle.std.specs.List.{list_any}
-use Rattle.std.specs.Ordering.{eq_by_cmp, is_lt}
+use Rattle.std.specs.Ordering.{eq_by_cmp}
 use Rattle.std.specs.declared.cmp.Ordering.TheVariants.{Less}
 use Rattle.std.proofs.lemmas.List.{length-map}
 use Rattle.rsvp_base.specs.Members.{In}
 use Rattle.rsvp_base.specs.Orders.{Names, senders, sessions, style_place, units}
 use Rattle.rsvp_base.specs.SessionLimits.{has_room_at}
-use Rattle.rsvp_base.specs.Table.{Table, both, first, keys, second, size, values, with_rows}
+use Rattle.rsvp_base.specs.Table.{both, first, keys, second, size, with_rows}
 use Rattle.rsvp_base.specs.Under.{rows_under}
 use Rattle.rsvp_base.specs.TokenBucket.{TokenBucket}
 use Rattle.rsvp_base.specs.declared.session.Sender.{Sender}
@@ -18,13 +18,13 @@ use Rattle.rsvp_base.specs.declared.session.Session.{Session}
 use Rattle.rsvp_base.specs.declared.style.StyleKind.{StyleKind}
 use Rattle.rsvp_base.specs.declared.style.StyleKind.TheVariants.{Wild, Fixed, Shared}
 use Rattle.rsvp_base.specs.declared.style.Unit.{Unit as UnitOf}
-use Rattle.rsvp_base.specs.declared.style.Unit.TheVariants.{Of, One}
+use Rattle.rsvp_base.specs.declared.style.Unit.TheVariants.{Of}
 use Rattle.rsvp_base.proofs.Members.{in_append}
 use Rattle.rsvp_base.proofs.Tables.{tied_same}
 use Rattle.rsvp_messages.specs.Units.{only}
 use Rattle.router_rules.specs.declared.answers.LocalErr.TheVariants as local
 use Rattle.router_rules.specs.Calls.{SendersOf, call_refusal, needs, wanted}
-use Rattle.router_rules.specs.Facts.{Facts, Want, WantKey, Wants, want_keys, wants_in}
+use Rattle.router_rules.specs.Facts.{Facts, Want, WantKey, want_keys}
 use Rattle.router_rules.specs.Inputs.{WantAs}
 use Rattle.router_rules.specs.Requests.{is_style}
 use Rattle.calm_rounds.specs.Machine.{run}
@@ -36,8 +36,8 @@ use Rattle.grown_network.specs.declared.hosts.Wanted.{Wanted}
 use Rattle.grown_network.specs.Grown.{net_with}
 use Rattle.grown_network.specs.Hosts.{session_of}
 use Rattle.grown_laws.proofs.Asked.{style_of, wanted_row}
-use Rattle.grown_laws.proofs.Calls.{Have, called}
-use Rattle.grown_laws.proofs.Rows.{none_under, rows_end, small_has_room}
+use Rattle.grown_runs.proofs.Calls.{Have, called}
+use Rattle.grown_runs.proofs.Rows.{none_under, rows_end, small_has_room}
 
 -- ---- the rows of a call for a want
 abbrev pub rows_of : Wanted → List (WantKey × Want)
@@ -109,7 +109,7 @@ want_step w = At w.node (WantAs (session_of w.style) w.style w.senders w.flow fa
 abbrev pub with_want : (ℕ → List (WantKey × Want)) → Wanted → ℕ → List (WantKey × Want)
 with_want R w n = cond (w.node == n) (R n ++ rows_of w) (R n)
 
-pub after_wants : List Wanted → (ℕ → List (WantKey × Want)) → ℕ → List (WantKey × Want)
+unfoldable pub after_wants : List Wanted → (ℕ → List (WantKey × Want)) → ℕ → List (WantKey × Want)
 after_wants [] R = R
 after_wants (w ∷ ws) R = after_wants ws (with_want R w)
 

@@ -1,0 +1,5 @@
+pub mod Played
+pub mod Grown
+pub mod Counted
+pub mod Summed
+pub mod Ended

@@ -1,0 +1,120 @@
+//! The events of a grown plan are played.
+ghost use Rattle.std.specs.Prelude.{◌++◌, ◌∷◌, [], None, false, map};
+ghost use Rattle.std.specs.List.{All};
+ghost use Rattle.network_model.specs.Events.{Reports, Rounds};
+ghost use Rattle.network_model.specs.Runs.{Plan};
+ghost use Rattle.net_replay.specs.Happening.{IsFitEvent, IsRead, event_with};
+ghost use Rattle.router_rules.specs.Steps.{IsFitCall};
+ghost use Rattle.router_rules.specs.Inputs.{WantAs};
+ghost use Rattle.grown_network.specs.Grown.{send_event, want_event};
+ghost use Rattle.grown_network.specs.Hosts.{session_of};
+ghost use Rattle.grown_player.specs.Playing.{IsPlayed, Plays, no_bytes};
+
+use grown_network::{Wanted, flow_of, session_of};
+use net_replay::{Event, LocalCall, Router, World, WorldErr};
+use script_player::run_event;
+use tree_model::LocalSender;
+
+/// The rate of each sender, in bytes per second.
+const SENT: u64 = 1000;
+
+/// Plays the events of a plan: all send, all want, so many rounds, and a report.
+pub(crate) fn play_plan<R: Router + Drop>(
+    world: &mut World<R>,
+    senders: &[LocalSender],
+    wants: &[Wanted],
+    rounds: u32,
+    out: &mut Vec<u8>,
+) -> Result<(), WorldErr>
+    requires { All (λ w. IsFitCall (WantAs (session_of w.style) w.style w.senders w.flow false)) wants.now }
+    ensures { (p : Plan) → IsPlayed R.seen p world.old out.old.items
+        → Plays R.seen p (map send_event senders.now ++ (map want_event wants.now ++ Rounds rounds ∷ Reports None ∷ [])) result world.new out.new.items }
+{
+    send_all(world, senders, out)?;
+    want_all(world, wants, out)?;
+    play(world, &Event::Rounds { times: rounds }, out)?;
+    play(world, &Event::Report { end: None }, out)
+}
+
+// All begin to send.
+fn send_all<R: Router + Drop>(
+    world: &mut World<R>,
+    senders: &[LocalSender],
+    out: &mut Vec<u8>,
+) -> Result<(), WorldErr>
+    ensures { (p : Plan) → IsPlayed R.seen p world.old out.old.items → Plays R.seen p (map send_event senders.now) result world.new out.new.items }
+{
+    for sender in senders {
+        send(world, sender, out)?;
+    }
+    Ok(())
+}
+
+// A sender begins to send.
+fn send<R: Router + Drop>(
+    world: &mut World<R>,
+    sender: &LocalSender,
+    out: &mut Vec<u8>,
+) -> Result<(), WorldErr>
+    ensures { (p : Plan) → IsPlayed R.seen p world.old out.old.items → Plays R.seen p (send_event sender.now ∷ []) result world.new out.new.items }
+{
+    let event = Event::Local {
+        node: sender.node,
+        call: LocalCall::Send {
+            session: sender.session,
+            sender: sender.sender,
+            flow: flow_of(SENT),
+        },
+    };
+    play(world, &event, out)
+}
+
+// All is wanted.
+fn want_all<R: Router + Drop>(
+    world: &mut World<R>,
+    wants: &[Wanted],
+    out: &mut Vec<u8>,
+) -> Result<(), WorldErr>
+    requires { All (λ w. IsFitCall (WantAs (session_of w.style) w.style w.senders w.flow false)) wants.now }
+    ensures { (p : Plan) → IsPlayed R.seen p world.old out.old.items → Plays R.seen p (map want_event wants.now) result world.new out.new.items }
+{
+    for wanted in wants {
+        want(world, wanted, out)?;
+    }
+    Ok(())
+}
+
+// A reservation is wanted.
+fn want<R: Router + Drop>(
+    world: &mut World<R>,
+    wanted: &Wanted,
+    out: &mut Vec<u8>,
+) -> Result<(), WorldErr>
+    requires { IsFitCall (WantAs (session_of wanted.now.style) wanted.now.style wanted.now.senders wanted.now.flow false) }
+    ensures { (p : Plan) → IsPlayed R.seen p world.old out.old.items → Plays R.seen p (want_event wanted.now ∷ []) result world.new out.new.items }
+{
+    let event = Event::Local {
+        node: wanted.node,
+        call: LocalCall::Want {
+            session: session_of(wanted.style),
+            style: wanted.style,
+            senders: wanted.senders.copy(),
+            flow: wanted.flow,
+            confirm: false,
+        },
+    };
+    play(world, &event, out)
+}
+
+// Plays an event without bytes.
+fn play<R: Router + Drop>(
+    world: &mut World<R>,
+    event: &Event,
+    out: &mut Vec<u8>,
+) -> Result<(), WorldErr>
+    requires fit { IsFitEvent event.now }
+    requires read { IsRead event.now no_bytes }
+    ensures { (p : Plan) → IsPlayed R.seen p world.old out.old.items → Plays R.seen p (event_with no_bytes event.now ∷ []) result world.new out.new.items }
+{
+    run_event(world, event, out)
+}

@@ -1,0 +1,4 @@
+pub mod WantsByStyle
+pub mod Askable
+pub mod FollowedTexts
+pub mod Pieces

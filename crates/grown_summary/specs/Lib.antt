@@ -1,0 +1,4 @@
+pub mod Asking
+pub mod Booked
+pub mod Texts
+pub mod Summaries

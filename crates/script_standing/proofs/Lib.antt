@@ -1,0 +1,7 @@
+pub mod Same
+pub mod Keeping
+pub mod Calling
+pub mod Senders
+pub mod Wanted
+pub mod Lines
+pub mod Demands
