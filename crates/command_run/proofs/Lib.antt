@@ -1,4 +1,7 @@
+pub mod Keeps
 pub mod Replays
 pub mod Shows
 pub mod StatusTexts
 pub mod Nothing
+pub mod Advising
+pub mod Grown

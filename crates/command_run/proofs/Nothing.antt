@@ -10,4 +10,4 @@ pub demanded_nothing : (left holds : Option (List ℕ)) → IsDemand NoMemory le
 demanded_nothing left holds = (ending.NoMemory, refl, record { taken = []; took = Consumes-nil left; counted = omega arith; wrote = record { text = []; wrote = Appends-nil holds; ended = refl } })
 
 pub shown_nothing : (left holds : Option (List ℕ)) → IsShowing NoMemory left left holds holds
-shown_nothing left holds = record { taken = []; took = Consumes-nil left; counted = omega arith; wrote = record { text = []; wrote = Appends-nil holds; ended = refl } }
+shown_nothing left holds = (ending.NoMemory, refl, record { taken = []; took = Consumes-nil left; counted = omega arith; wrote = record { text = []; wrote = Appends-nil holds; ended = refl } })

@@ -10,11 +10,8 @@ use Rattle.script_laws.proofs.EventLines.{each_script_is_a_fit_run}
 use Rattle.script_laws.proofs.SenderLines.{each_script_lets_few_send}
 use Rattle.settle_reports.proofs.Demands.{a_settled_report_is_the_demand}
 use Rattle.run_laws.specs.Books.{AreBooksWithinCapacity}
-use Rattle.run_laws.specs.Refusals.{ARefusedCallChangesNothing, ARefusedResvChangesNoReservation, AnUntakenUnitChangesNothing}
-use Rattle.run_laws.proofs.Arrivals.{a_refused_resv, an_untaken_unit}
 use Rattle.run_laws.proofs.Books.{books_within}
-use Rattle.run_laws.proofs.Calls.{a_refused_call}
-use Rattle.run_laws.proofs.Runs.{at_every_step, in_every_world}
+use Rattle.run_laws.proofs.Runs.{in_every_world}
 use Rattle.network_run.specs.Endings.{IsRun}
 use Rattle.network_run.specs.Written.{HasRun}
 use Rattle.network_run.specs.declared.ending.Ending.{Ending}
@@ -23,6 +20,7 @@ use Rattle.network_run.proofs.Ended.{ended_at_once}
 use Rattle.network_run.proofs.Spoken.{only_scripts_are_done}
 use Rattle.command_run.specs.Healing.{HealsItself, IsHealingRun, IsNeverOver}
 use Rattle.command_run.specs.Statuses.{IsReplay, status_of}
+use Rattle.command_run.proofs.Keeps.{refusals_change_nothing}
 use Rattle.command_run.specs.declared.status.Status.TheVariants.{Done, NoMemory}
 
 heals : (bytes : List ℕ) (p : Plan) → IsScript bytes p → is_crowded_run p ≡ false → HealsItself p
@@ -31,9 +29,7 @@ heals bytes p is roomy =
     record {
       reports = a_settled_report_is_the_demand p fit (each_script_lets_few_send bytes p is) roomy;
       books = in_every_world AreBooksWithinCapacity books_within p fit;
-      calls = at_every_step ARefusedCallChangesNothing a_refused_call p fit;
-      resvs = at_every_step ARefusedResvChangesNoReservation a_refused_resv p fit;
-      units = at_every_step AnUntakenUnitChangesNothing an_untaken_unit p fit;
+      refusals = refusals_change_nothing bytes p is;
     }
 
 -- whatever is left of a source

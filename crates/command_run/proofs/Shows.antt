@@ -1,6 +1,5 @@
 -- How showing messages ends: at a bad line, and over known input.
-use Rattle.std.proofs.Common.{◌≡◌, ℕ, ◌≤◌, List, ◌++◌, Option, None, Some, length, refl, sym, ap, subst, ◌∙◌, arith, append-nil}
-use Rattle.std.specs.Io.KnownBytes.{Consumes, IsAtEnd}
+use Rattle.std.proofs.Common.{◌≡◌, ℕ, ◌≤◌, List, length, refl, sym, ap, subst, arith}
 use Rattle.byte_streams.specs.Reading.{most_bytes}
 use Rattle.message_show.specs.ShowLines.{AreRight, IsBadDigits, IsShown}
 use Rattle.message_show.proofs.Shown.{all_right, bad_is_not_right_law, one_bad_line_law}
@@ -21,14 +20,6 @@ bad_line e = BadLine e.line (fault_of e.why)
 
 pub one_bad_line : (input : List ℕ) (d e : LineErr) → IsBadDigits input d → IsBadDigits input e → bad_line d ≡ bad_line e
 one_bad_line input d e x y = ap bad_line (one_bad_line_law input d e x y)
-
--- what was taken to the end is all that was left
-pub all_taken : (old new : Option (List ℕ)) (taken bytes : List ℕ) → Consumes old new taken → IsAtEnd new → old ≡ Some bytes → bytes ≡ taken
-all_taken None new taken bytes took end is = cc
-all_taken (Some xs) None taken bytes took end is = absurd took
-all_taken (Some xs) (Some ys) taken bytes took end is =
-    let same : xs ≡ bytes = cc is in
-    sym same ∙ took ∙ ap (λ zs. taken ++ zs) end ∙ append-nil taken
 
 -- what showing comes to, over an input that was read to its end
 pub comes_to : (input : List ℕ) (wanted got : Status) (F : Type 0) → length input ≤ most_bytes → (AreRight input → (F → ⊥) → IsOrNoMemory Done got) → ((e : LineErr) → IsBadDigits input e → IsOrNoMemory (bad_line e) got)

@@ -2,7 +2,6 @@
 use Rattle.std.specs.Prelude.{◌≡◌, ℕ, false, List, ◌∷◌, ◌++◌, Option}
 use Rattle.std.specs.Io.KnownBytes.{Appends}
 use Rattle.calm_rounds.specs.Hold.{Visited}
-use Rattle.calm_rounds.specs.Machine.{run}
 use Rattle.tree_model.specs.Goals.{DemandsFit}
 use Rattle.network_model.specs.Bounds.{IsSettled}
 use Rattle.network_model.specs.Locals.{locals_of}
@@ -13,7 +12,7 @@ use Rattle.script_grammar.specs.Grammar.{IsScript}
 use Rattle.settle_reports.specs.Demands.{AppendsTheDemand, moment}
 use Rattle.settle_reports.specs.Writing.{OnlyWrite}
 use Rattle.run_laws.specs.Books.{AreBooksWithinCapacity}
-use Rattle.run_laws.specs.Refusals.{ARefusedCallChangesNothing, ARefusedResvChangesNoReservation, AnUntakenUnitChangesNothing}
+use Rattle.command_run.specs.Keeping.{RefusalsChangeNothing}
 
 -- self-stabilisation: each report at a settled moment, or behind steps that only write after one, where the demands of that moment
 -- fit, appends the text of the demand
@@ -26,17 +25,11 @@ SettlesToTheDemand p =
 abbrev pub IsNeverOver : Plan → Type 0
 IsNeverOver p = Visited (machine p.quarter) AreBooksWithinCapacity (steps_of_run p) (first_world p)
 
--- C holds of each step, in the world in which it is made, with the quarter of the period
-abbrev pub AtEachStep : (ℕ → Step → World → Type 0) → Plan → Type 0
-AtEachStep C p = (ss : List Step) (s : Step) (ts : List Step) → steps_of_run p ≡ ss ++ s ∷ ts → C p.quarter s (run (machine p.quarter) ss (first_world p))
-
--- a plan heals itself, and no refusal, of a local call, of a Resv as a whole or of one of its units, changes a reservation
+-- a plan heals itself, and no refusal changes a reservation
 pub record HealsItself (p : Plan) : Type 0 where
   pub reports : SettlesToTheDemand p
   pub books : IsNeverOver p
-  pub calls : AtEachStep ARefusedCallChangesNothing p
-  pub resvs : AtEachStep ARefusedResvChangesNoReservation p
-  pub units : AtEachStep AnUntakenUnitChangesNothing p
+  pub refusals : RefusalsChangeNothing p
 
 -- the bytes are a script that is never crowded, its whole text was appended to what was there before, and it heals itself
 pub record IsHealingRun (bytes : List ℕ) (before after : Option (List ℕ)) : Type 0 where

@@ -2,5 +2,8 @@ pub mod Tasks
 pub mod Statuses
 pub mod Showing
 pub mod Demanding
+pub mod Growing
+pub mod Keeping
 pub mod Healing
 pub mod StatusTexts
+pub mod Advised

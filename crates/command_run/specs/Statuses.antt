@@ -35,9 +35,3 @@ IsReplay stands status old new before after = (e : Ending) × (status ≡ status
 -- this status, or memory ran out
 abbrev pub IsOrNoMemory : Status → Status → Type 0
 IsOrNoMemory wanted got = (got ≡ wanted) ⊎ (got ≡ NoMemory)
-
--- how writing a text ends
-abbrev pub IsWrittenOrNot : Status → Type 0
-IsWrittenOrNot Done = Unit {0}
-IsWrittenOrNot WriteFault = Unit {0}
-IsWrittenOrNot _ = ⊥

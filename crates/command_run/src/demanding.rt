@@ -5,6 +5,7 @@ ghost use Rattle.network_run.specs.declared.ending.Ending.{Ending as AnEnding};
 ghost use Rattle.network_run.specs.declared.ending.Ending.TheVariants as ending;
 ghost use Rattle.script_demand.specs.Demanding.{DemandsTo};
 ghost use Rattle.script_grammar.specs.Draft.{nothing};
+ghost use Rattle.command_run.specs.Advised.{IsAdvised};
 ghost use Rattle.command_run.specs.Demanding.{IsDemand};
 ghost use Rattle.command_run.specs.Statuses.{IsOrNoMemory, status_of};
 
@@ -15,7 +16,8 @@ use script_demand::{Asks, write_demand};
 use std::alloc::Global;
 
 /// Reads a script of the source and writes to the sink what each end of its network owes behind the last line, and whether that
-/// fits. Its events are not run, and nothing is written before all of the input was read and found right.
+/// fits. Its events are not run, and nothing is written before all of the input was read and found right. `advice` becomes the text
+/// that tells what is wrong with the bad line; where no line is bad, or memory runs out as it is written, it is empty.
 ///
 /// Refusals come in this order: `ReadFault` or `TooLong` while the input is read; `BadLine`; `WriteFault`. `NoMemory` may come at
 /// any time before the first byte is written.
@@ -24,15 +26,18 @@ pub fn demand<C: Asks + Drop, S: Source, K: Sink>(
     checker: C,
     source: &mut S,
     sink: &mut K,
+    advice: &mut Vec<u8>,
 ) -> Status
     requires first { C.lines checker ≡ nothing }
     ensures demanded { IsDemand result (S.left source.old) (S.left source.new) (K.holds sink.old) (K.holds sink.new) }
     ensures usage { result ≢ Status.Usage }
+    // Over known input: what is wrong with the bad line is told.
+    ensures advised { (bytes : List ℕ) → S.left source.old ≡ Some bytes → IsAdvised result bytes advice.new.items }
     ensures read_fault { result ≡ Status.ReadFault → Rose (S.faults source.old) (S.faults source.new) }
     ensures write_fault { result ≡ Status.WriteFault → Rose (K.faults sink.old) (K.faults sink.new) }
     ensures complete { (bytes : List ℕ) (wanted : AnEnding) → S.left source.old ≡ Some bytes → DemandsTo wanted bytes
         → (Rose (S.faults source.old) (S.faults source.new) → ⊥) → (wanted ≡ ending.Done → Rose (K.faults sink.old) (K.faults sink.new) → ⊥) → IsOrNoMemory (status_of wanted) result }
 {
-    let ending = write_demand(alloc, checker, source, sink);
+    let ending = write_demand(alloc, checker, source, sink, advice);
     status_of(ending)
 }

@@ -1,14 +1,15 @@
 //! The top call: the words of a command line order a task, which is run from a source to a sink.
 //!
-//! `run_command` replays a script on a network of routers, writes the demand of one, or shows messages in words. Its clauses say by
+//! `run_command` replays a script on a network of routers, writes the demand of one, shows messages in words, or grows a network and runs it. Its clauses say by
 //! the status exactly what was read and written, and that a script that was replayed to its end heals itself: once its network has
-//! settled a report is the demand, no book passes its capacity, and no refusal changes a reservation. It stands on `script_player`
-//! for the run of a script, on `settle_reports`, `run_laws` and `script_laws` for what holds of it, on `script_demand`, on
-//! `message_show` and on `command_words`.
+//! settled a report is the demand. At each step of a script's run, however it ends, no book passes its capacity, no refusal changes
+//! a reservation, and blockades keep their promises. It stands on `script_player` for the run of a script, on `settle_reports`,
+//! `run_laws` and `script_laws` for what holds of it, on `script_demand`, on `message_show` and on `command_words`.
 #![tactic(auto)]
 
 mod command;
 mod demanding;
+mod growing;
 mod replaying;
 mod showing;
 mod status;
@@ -17,6 +18,7 @@ mod texts;
 
 pub use command::run_command;
 pub use demanding::demand;
+pub use growing::grow;
 pub use replaying::{replay, status_of};
 pub use showing::show_messages;
 pub use status::Status;

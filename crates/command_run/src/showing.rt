@@ -2,55 +2,88 @@
 ghost use Rattle.std.specs.Prelude.{◌≡◌, ◌≢◌, ◌≤◌, List, ℕ, Some, length, take};
 ghost use Rattle.std.specs.Io.KnownBytes.{Appends};
 ghost use Rattle.byte_streams.specs.Faults.{Rose};
-ghost use Rattle.message_show.specs.ShowLines.{AreRight, IsBadDigits};
+ghost use Rattle.message_show.specs.ShowLines.{AreRight, IsBadDigits, IsShown};
+ghost use Rattle.script_demand.specs.Answering.{IsAnswering, IsAnsweringOf, IsWrittenOrNot};
 ghost use Rattle.script_words.specs.declared.fault.LineErr.{LineErr as ALineErr};
-ghost use Rattle.command_run.specs.Showing.{IsShowing, IsShowingOf, ShowsTo, fault_of};
-ghost use Rattle.command_run.specs.Statuses.{IsOrNoMemory, IsWrittenOrNot};
+ghost use Rattle.command_run.specs.Advised.{IsShowAdvised};
+ghost use Rattle.command_run.specs.Showing.{IsFirstBad, IsShowing, ShowsTo, fault_of};
+ghost use Rattle.command_run.specs.Statuses.{IsOrNoMemory, status_of};
 ghost use Rattle.command_run.specs.declared.status.Status.{Status as AStatus};
+ghost use Rattle.command_run.specs.declared.status.Status.TheVariants as status;
 
+use crate::replaying::status_of;
 use crate::status::Status;
 use byte_streams::{ReadErr, Sink, Source, read_all, write_all};
 use message_show::show;
+use network_run::Ending;
 use script_grammar::Fault;
 use script_words::{LineWhy, ParseErr};
 use std::alloc::Global;
 
 /// Reads messages of the source as lines of hexadecimal digits, and writes a line of words for each to the sink. Nothing is written
-/// before all of the input was read and found right.
+/// before all of the input was read and found right. `advice` becomes the text that tells what is wrong with the bad line; where no
+/// line is bad, or memory runs out as it is written, it is empty.
 ///
 /// Refusals come in this order: `ReadFault` or `TooLong` while the input is read; `BadLine`; `WriteFault`. `NoMemory` may come at
 /// any time before the first byte is written.
-pub fn show_messages<S: Source, K: Sink>(alloc: Global, source: &mut S, sink: &mut K) -> Status
+pub fn show_messages<S: Source, K: Sink>(
+    alloc: Global,
+    source: &mut S,
+    sink: &mut K,
+    advice: &mut Vec<u8>,
+) -> Status
     ensures shown { IsShowing result (S.left source.old) (S.left source.new) (K.holds sink.old) (K.holds sink.new) }
     ensures usage { result ≢ Status.Usage }
+    // Over known input: what is wrong with the bad line is told.
+    ensures advised { (bytes : List ℕ) → S.left source.old ≡ Some bytes → IsShowAdvised result bytes advice.new.items }
     ensures read_fault { result ≡ Status.ReadFault → Rose (S.faults source.old) (S.faults source.new) }
     ensures write_fault { result ≡ Status.WriteFault → Rose (K.faults sink.old) (K.faults sink.new) }
     ensures complete { (bytes : List ℕ) (wanted : AStatus) → S.left source.old ≡ Some bytes → ShowsTo wanted bytes
         → (Rose (S.faults source.old) (S.faults source.new) → ⊥) → (wanted ≡ Status.Done → Rose (K.faults sink.old) (K.faults sink.new) → ⊥) → IsOrNoMemory wanted result }
 {
+    let ending = write_shown(alloc, source, sink, advice);
+    status_of(ending)
+}
+
+// Reads messages, and writes what is shown of them.
+fn write_shown<S: Source, K: Sink>(
+    alloc: Global,
+    source: &mut S,
+    sink: &mut K,
+    advice: &mut Vec<u8>,
+) -> Ending
+    ensures advised { (bytes : List ℕ) → S.left source.old ≡ Some bytes → IsShowAdvised (status_of result) bytes advice.new.items }
+    ensures shown { IsAnswering IsShown IsFirstBad result (S.left source.old) (S.left source.new) (K.holds sink.old) (K.holds sink.new) }
+    ensures read_fault { result ≡ Ending.ReadFault → Rose (S.faults source.old) (S.faults source.new) }
+    ensures write_fault { result ≡ Ending.WriteFault → Rose (K.faults sink.old) (K.faults sink.new) }
+    ensures complete { (bytes : List ℕ) (wanted : AStatus) → S.left source.old ≡ Some bytes → ShowsTo wanted bytes
+        → (Rose (S.faults source.old) (S.faults source.new) → ⊥) → (wanted ≡ status.Done → Rose (K.faults sink.old) (K.faults sink.new) → ⊥) → IsOrNoMemory wanted (status_of result) }
+{
+    advice.clear();
     match read_all(alloc, source) {
-        Ok(bytes) => answer(alloc, bytes.as_slice(), sink),
-        Err(ReadErr::Fault) => Status::ReadFault,
-        Err(ReadErr::TooLong) => Status::TooLong,
-        Err(ReadErr::NoMemory) => Status::NoMemory,
+        Ok(bytes) => answer(alloc, bytes.as_slice(), sink, advice),
+        Err(ReadErr::Fault) => Ending::ReadFault,
+        Err(ReadErr::TooLong) => Ending::TooLong,
+        Err(ReadErr::NoMemory) => Ending::NoMemory,
     }
 }
 
 // Writes what is shown of this input.
-fn answer<K: Sink>(alloc: Global, input: &[u8], sink: &mut K) -> Status
-    ensures shown { IsShowingOf result input.now input.now (K.holds sink.old) (K.holds sink.new) }
-    ensures others { (result ≢ Status.Usage) × (result ≢ Status.ReadFault) }
-    ensures write_fault { result ≡ Status.WriteFault → Rose (K.faults sink.old) (K.faults sink.new) }
-    ensures complete { AreRight input.now → (Rose (K.faults sink.old) (K.faults sink.new) → ⊥) → IsOrNoMemory Status.Done result }
-    ensures refused { (e : ALineErr) → IsBadDigits input.now e → IsOrNoMemory (Status.BadLine e.line (fault_of e.why)) result }
+fn answer<K: Sink>(alloc: Global, input: &[u8], sink: &mut K, advice: &mut Vec<u8>) -> Ending
+    ensures advised { IsShowAdvised (status_of result) input.now advice.new.items }
+    ensures shown { IsAnsweringOf IsShown IsFirstBad result input.now input.now (K.holds sink.old) (K.holds sink.new) }
+    ensures read { result ≢ Ending.ReadFault }
+    ensures write_fault { result ≡ Ending.WriteFault → Rose (K.faults sink.old) (K.faults sink.new) }
+    ensures complete { AreRight input.now → (Rose (K.faults sink.old) (K.faults sink.new) → ⊥) → IsOrNoMemory status.Done (status_of result) }
+    ensures refused { (e : ALineErr) → IsBadDigits input.now e → IsOrNoMemory (status.BadLine e.line (fault_of e.why)) (status_of result) }
 {
-    match show(alloc, input) {
+    match show(alloc, input, advice) {
         Ok(text) => write_text(text.as_slice(), sink),
-        Err(ParseErr::Line(e)) => Status::BadLine {
+        Err(ParseErr::Line(e)) => Ending::BadLine {
             line: e.line,
             why: fault_of(e.why),
         },
-        Err(ParseErr::NoMemory) => Status::NoMemory,
+        Err(ParseErr::NoMemory) => Ending::NoMemory,
     }
 }
 
@@ -70,14 +103,14 @@ fn fault_of(why: LineWhy) -> Fault
 }
 
 // Writes a text.
-fn write_text<K: Sink>(text: &[u8], sink: &mut K) -> Status
-    ensures done { result ≡ Status.Done → Appends (K.holds sink.old) (K.holds sink.new) text.now }
-    ensures write_fault { result ≡ Status.WriteFault → Rose (K.faults sink.old) (K.faults sink.new) }
-    ensures front { result ≡ Status.WriteFault → ((n : ℕ) × Appends (K.holds sink.old) (K.holds sink.new) (take n text.now)) }
+fn write_text<K: Sink>(text: &[u8], sink: &mut K) -> Ending
+    ensures done { result ≡ Ending.Done → Appends (K.holds sink.old) (K.holds sink.new) text.now }
+    ensures write_fault { result ≡ Ending.WriteFault → Rose (K.faults sink.old) (K.faults sink.new) }
+    ensures front { result ≡ Ending.WriteFault → ((n : ℕ) × Appends (K.holds sink.old) (K.holds sink.new) (take n text.now)) }
     ensures others { IsWrittenOrNot result }
 {
     match write_all(sink, text) {
-        Ok(()) => Status::Done,
-        Err(_) => Status::WriteFault,
+        Ok(()) => Ending::Done,
+        Err(_) => Ending::WriteFault,
     }
 }

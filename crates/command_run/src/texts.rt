@@ -17,7 +17,7 @@ impl fmt::Display for Status {
             Status::Done => Ok(()),
             Status::Usage => write!(f, "usage: rsvpd replay|demand|show|grow [--seed N]"),
             Status::BadLine { line, why } => {
-                let why = Told(why);
+                let why = Reason(why);
                 write!(f, "line {line}: {why}")
             }
             Status::ReadFault => write!(f, "read fault"),
@@ -29,11 +29,11 @@ impl fmt::Display for Status {
     }
 }
 
-// A fault, as it is told.
+// A fault, as the reason of a bad line.
 #[derive(Clone, Copy)]
-struct Told<'a>(&'a Fault);
+struct Reason<'a>(&'a Fault);
 
-impl<'a> fmt::Display for Told<'a> {
+impl<'a> fmt::Display for Reason<'a> {
     ghost output = { λ t. Some (fault_text t.0.now) };
 
     fn fmt<W: fmt::Write>(&self, f: &mut fmt::Formatter<W>) -> fmt::Result {

@@ -1,7 +1,7 @@
 //! `rsvpd`: replays the script of a network of RSVP routers, and writes what its events report; writes the demand of such a script;
-//! or shows messages in words.
+//! shows messages in words; or grows a network from a seed, runs it and writes a summary.
 //!
-//! What it promises is said at `run_command` of `command_run`, which it calls with the checker of scripts, live routers, and
+//! Its promises are the clauses of `run_command` (`command_run`), which it calls with the checker of scripts, live routers, and
 //! standard input and output.
 #![tactic(auto)]
 
@@ -17,20 +17,21 @@ use std::process::ExitCode;
 use std::{env, io};
 
 fn main(rt: HostRuntime) -> ExitCode {
+    let mut advice = Vec::new(rt.alloc());
     let status = match words(&rt) {
         Ok(words) => {
             let mut source = StdSource::new(rt.stdin());
             let mut sink = StdSink::new(rt.stdout());
-            run(rt.alloc(), &words, &mut source, &mut sink)
+            run(rt.alloc(), &words, &mut source, &mut sink, &mut advice)
         }
         Err(status) => status,
     };
     // The status tells how the run ended, also where its text cannot be printed.
-    let _ = print(&rt, &status);
+    let _ = print(&rt, &status, advice.as_slice());
     ExitCode::from(status.code())
 }
 
-// The words of the command line behind the program's name. `Usage`: one is not UTF-8, or they cannot be had.
+// The words of the command line after the program's name. `Usage`: one is not UTF-8, or they cannot be had.
 fn words(rt: &HostRuntime) -> Result<Vec<String>, Status> {
     let args = env::args(rt).map_err(|e| match e.kind() {
         io::ErrorKind::OutOfMemory => Status::NoMemory,
@@ -49,18 +50,26 @@ fn run<S: Source, K: Sink>(
     words: &Vec<String>,
     source: &mut S,
     sink: &mut K,
+    advice: &mut Vec<u8>,
 ) -> Status {
     let Ok(checker) = Checker::open(alloc) else {
         return Status::NoMemory;
     };
     let mut last = None;
-    run_command::<Checker, LiveRouter, S, K>(alloc, words, checker, source, sink, &mut last)
+    run_command::<Checker, LiveRouter, S, K>(alloc, words, checker, source, sink, &mut last, advice)
 }
 
-// Prints the text of a status on standard error.
-fn print(rt: &HostRuntime, status: &Status) -> io::Result<()> {
+// Prints the text of a status on standard error, and in a line of its own what is wrong with the bad line.
+fn print(rt: &HostRuntime, status: &Status, advice: &[u8]) -> io::Result<()> {
     match status {
         Status::Done => Ok(()),
-        _ => eprintln!(rt; "{status}"),
+        _ => {
+            eprintln!(rt; "{status}")?;
+            match str::from_utf8(advice) {
+                Ok("") => Ok(()),
+                Ok(text) => eprintln!(rt; "{text}"),
+                Err(_) => Ok(()),
+            }
+        }
     }
 }

@@ -188,7 +188,7 @@ fn runs_end_and_write_what_their_words_order(rt: HostRuntime) -> Result<(), Fail
     let demand: &[&str] = &["demand"];
     let show: &[&str] = &["show"];
     let usage = "usage: rsvpd replay|demand|show|grow [--seed N]";
-    let table: [Row; 36] = [
+    let table: [Row; 37] = [
         (replay, FIRST_RUN, 0, "", ITS_REPORTS),
         (replay, b"", 0, "", b""),
         (replay, b"report\n", 0, "", b""),
@@ -253,7 +253,20 @@ fn runs_end_and_write_what_their_words_order(rt: HostRuntime) -> Result<(), Fail
         // other words are no command
         (&[], FIRST_RUN, 1, usage, b""),
         (&["demand", "--seed", "3"], FIRST_RUN, 1, usage, b""),
-        (&["grow", "--seed", "3"], FIRST_RUN, 1, usage, b""),
+        (
+            &["grow", "--seed", "18446744073709551616"],
+            FIRST_RUN,
+            1,
+            usage,
+            b"",
+        ),
+        (
+            &["grow", "--seed", "000000000000000000001"],
+            FIRST_RUN,
+            1,
+            usage,
+            b"",
+        ),
         (&["Replay"], FIRST_RUN, 1, usage, b""),
         (&["replay", "replay"], FIRST_RUN, 1, usage, b""),
         (&["replay", "--seed", "3"], FIRST_RUN, 1, usage, b""),
@@ -286,11 +299,43 @@ fn runs_end_and_write_what_their_words_order(rt: HostRuntime) -> Result<(), Fail
     for (list, input, code, told, text) in table {
         let mut source = MemorySource::new(input.to_vec(alloc)?, Vec::new(alloc), 7);
         let mut sink = MemorySink::open(alloc, 1000, Vec::new(alloc), Vec::new(alloc))?;
-        let status = run(alloc, &words(alloc, list)?, &mut source, &mut sink);
+        let mut advice = Vec::new(alloc);
+        let words = words(alloc, list)?;
+        let status = run(alloc, &words, &mut source, &mut sink, &mut advice);
         let shown = format!(in alloc; "{status}")?;
         assert_eq!(rt; status.code(), code);
         assert_eq!(rt; shown.as_str(), told);
         assert_eq!(rt; sink.bytes(), text);
+    }
+    Ok(())
+}
+
+// The network of seed 1: what a second program says of it, and that its report is the demand.
+const OF_SEED_ONE: &[u8] = b"seed 1
+nodes 64 hops 756 longest 11
+rounds 192 delivered 362944
+booked ends 86 entries 281 held 3161000
+equal yes
+";
+
+#[test]
+fn a_seed_grows_a_network_that_settles(rt: HostRuntime) -> Result<(), Fail> {
+    let alloc = rt.alloc();
+    let one: &[&str] = &["grow", "--seed", "1"];
+    let padded: &[&str] = &["grow", "--seed", "01"];
+    for list in [one, padded] {
+        let mut source = MemorySource::new(b"frob\n".to_vec(alloc)?, Vec::new(alloc), 7);
+        let mut sink = MemorySink::open(alloc, 1000, Vec::new(alloc), Vec::new(alloc))?;
+        let mut advice = Vec::new(alloc);
+        let status = run(
+            alloc,
+            &words(alloc, list)?,
+            &mut source,
+            &mut sink,
+            &mut advice,
+        );
+        assert_eq!(rt; status.code(), 0);
+        assert_eq!(rt; sink.bytes(), OF_SEED_ONE);
     }
     Ok(())
 }
@@ -319,7 +364,10 @@ fn failing_devices_are_faults(rt: HostRuntime) -> Result<(), Fail> {
             unwritten.to_vec(alloc)?,
             short.to_vec(alloc)?,
         )?;
-        assert_eq!(rt; run(alloc, &words, &mut source, &mut sink).code(), code);
+        let mut advice = Vec::new(alloc);
+        let status = run(alloc, &words, &mut source, &mut sink, &mut advice);
+        assert_eq!(rt; status.code(), code);
+        assert!(rt; advice.is_empty());
         assert_eq!(rt; sink.bytes(), text);
     }
     Ok(())
@@ -332,7 +380,8 @@ fn too_many_line_feeds_are_too_long(rt: HostRuntime) -> Result<(), Fail> {
     for (bytes, want) in [(4_194_304, 0), (4_194_305, 7)] {
         let mut source = PlainSource::new(vec![in alloc; b'\n'; bytes]?);
         let mut sink = PlainSink::new();
-        let status = run(alloc, &words, &mut source, &mut sink);
+        let mut advice = Vec::new(alloc);
+        let status = run(alloc, &words, &mut source, &mut sink, &mut advice);
         assert_eq!(rt; status.code(), want, "at {bytes} bytes");
     }
     Ok(())

@@ -1,0 +1,22 @@
+use Rattle.std.proofs.Common.{rules, ◌≡◌, ◌≤◌, length, sym, subst, ◌∙◌}
+use Rattle.byte_streams.specs.Faults.{Rose}
+use Rattle.byte_streams.specs.Reading.{most_bytes}
+use Rattle.command_run.specs.Advised.{IsShowAdvised}
+use Rattle.command_run.specs.Showing.{ShowsTo}
+use Rattle.script_demand.proofs.Answering.{all_taken}
+use Rattle.command_run.specs.Statuses.{status_of}
+use Rattle.command_run.proofs.Shows.{comes_to}
+use Rattle.command_run.proofs.showing.write_shown.Goals as goal
+
+pub returns-in-Ok-clause-complete : goal.returns-in-Ok-clause-complete
+returns-in-Ok-clause-complete g c = λ bytes wanted known shows calm quiet.
+    let input = c.as_slice.result.now in
+    let all : bytes ≡ input = all_taken _ _ _ bytes c.in-Ok.ensures.read.0 c.in-Ok.ensures.end known ∙ sym c.as_slice.ensures.value in
+    let few : length input ≤ most_bytes = search rules in
+    comes_to input wanted (status_of c.answer.result) (Rose (g.K.Sink.faults c.args.sink.now) (g.K.Sink.faults c.answer.new.sink)) few c.answer.ensures.complete c.answer.ensures.refused (subst (ShowsTo wanted) all shows) quiet
+
+pub returns-in-Ok-clause-advised : goal.returns-in-Ok-clause-advised
+returns-in-Ok-clause-advised g c = λ bytes known.
+    let input = c.as_slice.result.now in
+    let all : bytes ≡ input = all_taken _ _ _ bytes c.in-Ok.ensures.read.0 c.in-Ok.ensures.end known ∙ sym c.as_slice.ensures.value in
+    subst (λ b. IsShowAdvised (status_of c.answer.result) b c.answer.new.advice.items) (sym all) c.answer.ensures.advised

@@ -1,0 +1,40 @@
+//! Growing a network.
+ghost use Rattle.std.specs.Prelude.{◌≡◌, ◌≢◌, None};
+ghost use Rattle.byte_streams.specs.Faults.{Rose};
+ghost use Rattle.network_run.specs.declared.ending.Ending.{Ending as AnEnding};
+ghost use Rattle.network_run.specs.declared.ending.Ending.TheVariants as ending;
+ghost use Rattle.script_player.specs.Standing.{IsNetworkOf};
+ghost use Rattle.grown_player.specs.Endings.{GrowsTo};
+ghost use Rattle.command_run.specs.Growing.{IsGrowth};
+ghost use Rattle.command_run.specs.Statuses.{IsOrNoMemory, status_of};
+
+use crate::replaying::status_of;
+use crate::status::Status;
+use byte_streams::Sink;
+use grown_player::run_grown;
+use net_replay::World;
+use script_player::Opens;
+use std::alloc::Global;
+
+/// Grows the network of a seed, runs it and writes the summary of the run to the sink. Where it is done, `last` holds the network in
+/// which the run ended; else it stays empty.
+///
+/// `Crowded` comes before `WriteFault`, and nothing is written then. `NoMemory` may come at any time before the first byte is
+/// written.
+pub fn grow<R: Opens, K: Sink>(
+    alloc: Global,
+    seed: u64,
+    sink: &mut K,
+    last: &mut Option<World<R>>,
+) -> Status
+    requires { last.old ≡ None }
+    ensures grown { IsGrowth (λ p. IsNetworkOf R.seen last.new p) result seed (K.holds sink.old) (K.holds sink.new) }
+    ensures empty { result ≢ Status.Done → last.new ≡ None }
+    ensures usage { result ≢ Status.Usage }
+    ensures read_fault { result ≢ Status.ReadFault }
+    ensures write_fault { result ≡ Status.WriteFault → Rose (K.faults sink.old) (K.faults sink.new) }
+    ensures complete { (wanted : AnEnding) → GrowsTo wanted seed → (wanted ≡ ending.Done → Rose (K.faults sink.old) (K.faults sink.new) → ⊥) → IsOrNoMemory (status_of wanted) result }
+{
+    let ending = run_grown::<R, K>(alloc, seed, sink, last);
+    status_of(ending)
+}
