@@ -1,0 +1,5 @@
+pub mod Lists
+pub mod Walks
+pub mod Contents
+pub mod Bytes
+pub mod Again

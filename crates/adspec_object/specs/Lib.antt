@@ -1,0 +1,5 @@
+pub mod Fragment
+pub mod Form
+pub mod Spelling
+pub mod Texts
+pub mod Laws
