@@ -42,10 +42,16 @@ fn a_live_slot_is_read_changed_renewed_and_emptied(rt: HostRuntime) -> Result<()
     assert!(rt; pool.live(slot));
     assert!(rt; pool.remove(slot) == 8);
     assert!(rt; !pool.live(slot));
+    Ok(())
+}
+
+#[test]
+fn a_cleared_pool_has_room_again(rt: HostRuntime) -> Result<(), Fail> {
+    let mut pool = Pool::<u8>::open(rt.alloc(), 1).ok().ok_or("memory")?;
     assert!(rt; pool.add(9, 1).is_ok());
     pool.clear();
     assert!(rt; pool.pull_due().is_none());
-    assert!(rt; !pool.live(slot));
+    assert!(rt; pool.add(9, 1).is_ok());
     Ok(())
 }
 
