@@ -110,6 +110,15 @@ pub length_lift : (ks : List Known) (ls : List ℕ) → length (lift ks ls) ≡ 
 length_lift [] ls = refl
 length_lift (k ∷ ks) ls = length_lift ks (lift_along k.before k.vertex ls) ∙ length_along k.before k.vertex ls
 
+-- where nothing rises once, nothing rises later
+pub lifts_still : (n : ℕ) (ks : List Known) (ls : List ℕ) → lift ks ls ≡ ls → lifts n ks ls ≡ ls
+lifts_still zero ks ls e = refl
+lifts_still (suc n) ks ls e = ap (lifts n ks) e ∙ lifts_still n ks ls e
+
+-- where nothing rose, what stands is what all passes give
+pub settled : (n : ℕ) (ks : List Known) (ls after all : List ℕ) → after ≡ lift ks ls → after ≡ ls → lifts n ks ls ≡ all → after ≡ all
+settled n ks ls after all e s whole = s ∙ sym (lifts_still n ks ls (sym e ∙ s)) ∙ whole
+
 pub lift_more : (ks : List Known) (ls : List ℕ) (w : ℕ) → level ls w ≤ level (lift ks ls) w
 lift_more [] ls w = omega arith
 lift_more (k ∷ ks) ls w = let a = along_more k.before k.vertex ls w in let b = lift_more ks (lift_along k.before k.vertex ls) w in omega arith

@@ -1,5 +1,5 @@
 //! The length of the longest chain.
-ghost use Rattle.std.specs.Prelude.{◌≡◌, ◌≤◌, length, replicate, IfOk};
+ghost use Rattle.std.specs.Prelude.{◌≡◌, ◌≤◌, false, length, replicate, IfOk};
 ghost use Rattle.tree_routing.specs.Levels.{level, rises, lift_along, lift, lifts, levels, highest};
 
 use crate::known::Known;
@@ -30,33 +30,42 @@ fn is_to_rise(levels: &[u16], before: Option<u16>, vertex: u16) -> bool
     }
 }
 
-// Lifts the first vertex above the second, if it is not there yet.
-fn lift_along(levels: &mut [u16], before: Option<u16>, vertex: u16)
-    ensures { levels.new ≡ lift_along before vertex levels.old }
+// Lifts the first vertex above the second, if it is not there yet. Returns whether it rose.
+fn lift_along(levels: &mut [u16], before: Option<u16>, vertex: u16) -> bool
+    ensures lifted { levels.new ≡ lift_along before vertex levels.old }
+    ensures still { (result ≡ false) → levels.new ≡ levels.old }
 {
     let Some(above) = before else {
-        return;
+        return false;
     };
-    if is_to_rise(levels, before, vertex) {
+    let rises = is_to_rise(levels, before, vertex);
+    if rises {
         levels[above as usize] = level(levels, vertex) + 1;
     }
+    rises
 }
 
-// Lifts along each edge once. A hop stands behind the one before it in its tree, so that the last come first.
-fn lift_all(levels: &mut [u16], hops: &[Known])
-    ensures { levels.new ≡ lift hops.now levels.old }
+// Lifts along each edge once. A hop stands behind the one before it in its tree, so that the last come first. Returns whether a
+// vertex rose.
+fn lift_all(levels: &mut [u16], hops: &[Known]) -> bool
+    ensures lifted { levels.new ≡ lift hops.now levels.old }
+    ensures still { (result ≡ false) → levels.new ≡ levels.old }
 {
+    let mut rose = false;
     for hop in hops {
-        lift_along(levels, hop.before, hop.vertex);
+        rose = lift_along(levels, hop.before, hop.vertex) || rose;
     }
+    rose
 }
 
-// Lifts along each edge as often as there are hops.
+// Lifts along each edge until nothing rises any more, which is no more often than there are hops.
 fn settle(levels: &mut [u16], hops: &[Known])
     ensures { levels.new ≡ lifts (length hops.now) hops.now levels.old }
 {
     for _pass in 0..hops.len() {
-        lift_all(levels, hops);
+        if !lift_all(levels, hops) {
+            return;
+        }
     }
 }
 

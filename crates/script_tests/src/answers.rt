@@ -1,0 +1,64 @@
+//! What the checker answers to a line, in a word.
+use line_stream::MOST_LINE;
+use net_replay::Event;
+use script_checker::Checker;
+use script_grammar::Fault;
+use script_player::{Checks, Refused};
+
+/// What the checker answers to the line behind those that were taken.
+pub fn answer(checker: &mut Checker, line: &str) -> Result<Option<Event>, Refused> {
+    let line = line.as_bytes();
+    if line.len() > MOST_LINE {
+        return Err(Refused::Fault(Fault::Limit));
+    }
+    checker.feed(line)
+}
+
+// The word of a fault in the text that a user reads.
+fn reason(fault: &Fault) -> &'static str {
+    match fault {
+        Fault::Word => "word",
+        Fault::Late => "late",
+        Fault::Range => "range",
+        Fault::Name => "name",
+        Fault::Twice => "twice",
+        Fault::Style => "style",
+        Fault::Limit => "limit",
+        Fault::NotTree => "nottree",
+        Fault::Over => "over",
+        Fault::Loop { .. } => "loop",
+    }
+}
+
+/// `taken`, or why the line is not taken.
+pub fn word(checker: &mut Checker, line: &str) -> &'static str {
+    match answer(checker, line) {
+        Ok(_) => "taken",
+        Err(Refused::Fault(fault)) => reason(&fault),
+        Err(Refused::NoMemory) => "memory",
+    }
+}
+
+/// Whether the line is refused for a loop through the hop between these ends.
+pub fn closes(checker: &mut Checker, line: &str, from: &str, to: &str) -> bool {
+    match answer(checker, line) {
+        Err(
+            Refused::Fault(
+                Fault::Loop {
+                    from: first,
+                    to: last,
+                    ..
+                },
+            ),
+        ) => *first.bytes() == *from.as_bytes() && *last.bytes() == *to.as_bytes(),
+        _ => false,
+    }
+}
+
+/// The number of hops of the tree that the line moves, if it moves one.
+pub fn moved(checker: &mut Checker, line: &str) -> Option<usize> {
+    match answer(checker, line) {
+        Ok(Some(Event::Reroute { hops, .. })) => Some(hops.len()),
+        _ => None,
+    }
+}
