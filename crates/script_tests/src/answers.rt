@@ -4,6 +4,7 @@ use net_replay::Event;
 use script_checker::Checker;
 use script_grammar::Fault;
 use script_player::{Checks, Refused};
+use script_words::EndName;
 
 /// What the checker answers to the line behind those that were taken.
 pub fn answer(checker: &mut Checker, line: &str) -> Result<Option<Event>, Refused> {
@@ -32,16 +33,23 @@ fn reason(fault: &Fault) -> &'static str {
 
 /// `taken`, or why the line is not taken.
 pub fn word(checker: &mut Checker, line: &str) -> &'static str {
-    match answer(checker, line) {
+    let said = answer(checker, line);
+    match &said {
         Ok(_) => "taken",
-        Err(Refused::Fault(fault)) => reason(&fault),
+        Err(Refused::Fault(fault)) => reason(fault),
         Err(Refused::NoMemory) => "memory",
     }
 }
 
+// Whether an end has this name.
+fn is_name(name: &EndName, wanted: &str) -> bool {
+    *name.bytes() == *wanted.as_bytes()
+}
+
 /// Whether the line is refused for a loop through the hop between these ends.
 pub fn closes(checker: &mut Checker, line: &str, from: &str, to: &str) -> bool {
-    match answer(checker, line) {
+    let said = answer(checker, line);
+    match &said {
         Err(
             Refused::Fault(
                 Fault::Loop {
@@ -50,7 +58,7 @@ pub fn closes(checker: &mut Checker, line: &str, from: &str, to: &str) -> bool {
                     ..
                 },
             ),
-        ) => *first.bytes() == *from.as_bytes() && *last.bytes() == *to.as_bytes(),
+        ) => is_name(first, from) && is_name(last, to),
         _ => false,
     }
 }

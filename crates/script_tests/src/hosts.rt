@@ -1,22 +1,47 @@
 //! Lines of hosts: who sends, and who wants what.
-use crate::declared::answer;
+use crate::answers::word;
 use script_checker::Checker;
-use script_grammar::Fault;
-use script_player::Refused;
 use std::alloc::Global;
 use std::test::*;
+
+// The lines of a network of two nodes.
+const TWO_NODES: &[&str] = &[
+    "node a",
+    "node b",
+    "end a1 a 10.0.0.1 100000 1500",
+    "end b1 b 10.0.0.2 100000 1500",
+    "link a1 b1",
+];
+
+// Senders that cannot be, with their first fault.
+const SENDERS: &[(&str, &str)] = &[
+    ("send z 10.0.0.1/17/1 10.0.0.1:1 1/1/inf/1/1", "range"),
+    ("send z 224.1.1.1/17/1 10.0.0.1:1 1/1/inf/1/1", "name"),
+    // An address of another node.
+    ("send b 224.1.1.1/17/1 10.0.0.1:1 1/1/inf/1/1", "name"),
+    ("drop a 224.1.1.1/17/1 10.0.0.1:1", "name"),
+];
+
+// Senders behind sixteen of a session.
+const MORE_SENDERS: &[(&str, &str)] = &[
+    // A sender that sends already is no 17th.
+    ("send a 224.1.1.1/17/1 10.0.0.1:16 2/2/inf/1/1", "taken"),
+    ("send a 224.1.1.1/17/1 10.0.0.1:17 1/1/inf/1/1", "limit"),
+    ("send a 224.1.1.1/17/2 10.0.0.1:17 1/1/inf/1/1", "taken"),
+    // It does not send at this node.
+    ("drop b 224.1.1.1/17/1 10.0.0.1:3", "name"),
+    ("drop a 224.1.1.1/17/1 10.0.0.1:3", "taken"),
+    ("drop a 224.1.1.1/17/1 10.0.0.1:3", "name"),
+    ("send a 224.1.1.1/17/1 10.0.0.1:17 1/1/inf/1/1", "taken"),
+];
 
 /// The lines of a network of two nodes.
 pub fn opened(alloc: Global) -> Result<Checker, Fail> {
     let mut checker = Checker::open(alloc).ok().ok_or("room")?;
-    for line in [
-        "node a",
-        "node b",
-        "end a1 a 10.0.0.1 100000 1500",
-        "end b1 b 10.0.0.2 100000 1500",
-        "link a1 b1",
-    ] {
-        answer(&mut checker, line).ok().ok_or("a line")?;
+    for line in TWO_NODES {
+        if word(&mut checker, line) != "taken" {
+            return Err("a line".into());
+        }
     }
     Ok(checker)
 }
@@ -25,92 +50,24 @@ pub fn opened(alloc: Global) -> Result<Checker, Fail> {
 fn senders_have_their_first_fault(rt: HostRuntime) -> Result<(), Fail> {
     let alloc = rt.alloc();
     let mut checker = opened(alloc)?;
-    assert!(rt;
-        matches!(
-            answer(&mut checker, "send z 10.0.0.1/17/1 10.0.0.1:1 1/1/inf/1/1"),
-            Err(Refused::Fault(Fault::Range))
-        )
-    );
-    assert!(rt;
-        matches!(
-            answer(&mut checker, "send z 224.1.1.1/17/1 10.0.0.1:1 1/1/inf/1/1"),
-            Err(Refused::Fault(Fault::Name))
-        )
-    );
-    // An address of another node.
-    assert!(rt;
-        matches!(
-            answer(&mut checker, "send b 224.1.1.1/17/1 10.0.0.1:1 1/1/inf/1/1"),
-            Err(Refused::Fault(Fault::Name))
-        )
-    );
-    assert!(rt;
-        matches!(
-            answer(&mut checker, "drop a 224.1.1.1/17/1 10.0.0.1:1"),
-            Err(Refused::Fault(Fault::Name))
-        )
-    );
+    for (line, wanted) in SENDERS {
+        assert_eq!(rt; word(&mut checker, line), *wanted, "{line}");
+    }
     for port in 1..17 {
         let line = format!(in alloc; "send a 224.1.1.1/17/1 10.0.0.1:{port} 1/1/inf/1/1")?;
-        assert!(rt; answer(&mut checker, line.as_str()).is_ok());
+        assert_eq!(rt; word(&mut checker, line.as_str()), "taken");
     }
-    // A sender that sends already is no 17th.
-    assert!(rt;
-        answer(
-            &mut checker,
-            "send a 224.1.1.1/17/1 10.0.0.1:16 2/2/inf/1/1"
-        )
-        .is_ok()
-    );
-    assert!(rt;
-        matches!(
-            answer(
-                &mut checker,
-                "send a 224.1.1.1/17/1 10.0.0.1:17 1/1/inf/1/1"
-            ),
-            Err(Refused::Fault(Fault::Limit))
-        )
-    );
-    assert!(rt;
-        answer(
-            &mut checker,
-            "send a 224.1.1.1/17/2 10.0.0.1:17 1/1/inf/1/1"
-        )
-        .is_ok()
-    );
-    // It does not send at this node.
-    assert!(rt;
-        matches!(
-            answer(&mut checker, "drop b 224.1.1.1/17/1 10.0.0.1:3"),
-            Err(Refused::Fault(Fault::Name))
-        )
-    );
-    assert!(rt; answer(&mut checker, "drop a 224.1.1.1/17/1 10.0.0.1:3").is_ok());
-    assert!(rt;
-        matches!(
-            answer(&mut checker, "drop a 224.1.1.1/17/1 10.0.0.1:3"),
-            Err(Refused::Fault(Fault::Name))
-        )
-    );
-    assert!(rt;
-        answer(
-            &mut checker,
-            "send a 224.1.1.1/17/1 10.0.0.1:17 1/1/inf/1/1"
-        )
-        .is_ok()
-    );
+    for (line, wanted) in MORE_SENDERS {
+        assert_eq!(rt; word(&mut checker, line), *wanted, "{line}");
+    }
     for port in 3..33 {
         let line = format!(in alloc; "send a 224.1.1.1/17/{port} 10.0.0.1:1 1/1/inf/1/1")?;
-        assert!(rt; answer(&mut checker, line.as_str()).is_ok());
+        assert_eq!(rt; word(&mut checker, line.as_str()), "taken");
     }
-    assert!(rt;
-        matches!(
-            answer(
-                &mut checker,
-                "send a 224.1.1.1/17/33 10.0.0.1:1 1/1/inf/1/1"
-            ),
-            Err(Refused::Fault(Fault::Limit))
-        )
+    let last = word(
+        &mut checker,
+        "send a 224.1.1.1/17/33 10.0.0.1:1 1/1/inf/1/1",
     );
+    assert_eq!(rt; last, "limit");
     Ok(())
 }
