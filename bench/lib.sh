@@ -52,3 +52,75 @@ best_user() {
   done
   sort -n "$work/times" | head -n 1
 }
+
+# tree NODES SESSIONS: a network in which node k hangs on node (k - 1) / 2; node 0 sends in each session, of which one after the
+# other has the styles WF, FF and SE, and each other node wants its data.
+tree() {
+  awk -v nodes="$1" -v sessions="$2" 'BEGIN {
+    for (k = 0; k < nodes; k++) print "node n" k
+    for (k = 1; k < nodes; k++) {
+      ends = ends sprintf("end d%d n%d 10.1.%d.1 70000000 1500\nend u%d n%d 10.1.%d.2 70000000 1500\n", k, int((k - 1) / 2), k, k, k, k)
+      links = links sprintf("link d%d u%d\n", k, k)
+      for (g = 1; g <= sessions; g++) hops = hops sprintf("hop 239.3.0.%d 10.1.1.1 d%d u%d\n", g, k, k)
+    }
+    printf "%s%s%s", ends, links, hops
+    split("WF FF SE", style, " ")
+    for (g = 1; g <= sessions; g++) print "send n0 239.3.0." g "/17/5004 10.1.1.1:5004 1000/1000/inf/64/1500"
+    for (k = 1; k < nodes; k++)
+      for (g = 1; g <= sessions; g++)
+        print "want n" k " 239.3.0." g "/17/5004 " style[1 + (g - 1) % 3] " " (g % 3 == 1 ? "*" : "10.1.1.1:5004") " " 1000 + k "/1000/inf/64/1500"
+  }'
+}
+
+# replay FILE, own FILE: the run of a script that is timed, by rsvpd and by the plain program.
+replay() { "$program" replay <"$1"; }
+own() { "$plain" <"$1"; }
+
+# ratio A B: how many times B is in A.
+ratio() { awk -v a="$1" -v b="$2" 'BEGIN { if (b > 0) printf "%.1f", a / b; else printf "-" }'; }
+
+# deliveries FILE [BEFORE]: how many datagrams are delivered in the run of a script, behind the lines of BEFORE, told by its trace:
+# that of the plain program, which is faster, or of rsvpd where rustc is missing.
+deliveries() {
+  local run=own before=0
+  [ -n "$plain" ] || run=replay
+  if [ -n "$2" ]; then before="$(wc -l <"$2")"; fi
+  awk -v before="$before" '(before ? NR > before : /^send /) && !on { print "trace on"; on = 1 } { print }' "$1" >"$work/traced"
+  "$run" "$work/traced" | grep -c -E '^[a-z][a-z0-9_]* ([A-Z][A-Za-z]*|\?) (taken|dropped|answered)'
+}
+
+# seconds RUNS FILE [BEFORE]: the best of so many runs of a script, in seconds of processor time, less that of BEFORE: of rsvpd
+# in ours, of the plain program in theirs (empty where rustc is missing). Their texts must be equal.
+seconds() {
+  ours="$(best_user "$1" "$work/text" replay "$2")" || exit 1
+  theirs=""
+  if [ -n "$plain" ]; then
+    theirs="$(best_user "$1" "$work/other" own "$2")" || exit 1
+    cmp -s "$work/text" "$work/other" || { echo "$0: $2: the two do not write the same text" >&2; exit 1; }
+  fi
+  if [ -n "$3" ]; then
+    local all="$ours" others="$theirs"
+    seconds "$1" "$3"
+    ours="$(less "$all" "$ours")"
+    if [ -n "$plain" ]; then theirs="$(less "$others" "$theirs")"; fi
+  fi
+}
+
+# less A B: A without B.
+less() { awk -v a="$1" -v b="$2" 'BEGIN { printf "%.3f", a - b }'; }
+
+# micro SECONDS TIMES: the microseconds of one.
+micro() { awk -v s="$1" -v n="$2" 'BEGIN { printf "%.2f", s * 1000000 / n }'; }
+
+# row RUNS NAME TIMES FILE [BEFORE]: a line of a table: what is done so many times in the script, behind the lines of BEFORE.
+row() {
+  seconds "$1" "$4" ${5:+"$5"}
+  printf '%-34s %8d   rsvpd %7s s %7s us' "$2" "$3" "$ours" "$(micro "$ours" "$3")"
+  if [ -n "$plain" ]; then
+    printf '   plain %7s s %7s us   ratio %s' "$theirs" "$(micro "$theirs" "$3")" "$(ratio "$ours" "$theirs")"
+  fi
+  echo
+}
+
+# again TIMES LINE..: these lines, so many times.
+again() { yes "$(printf '%s\n' "${@:2}")" | head -n $(($1 * ($# - 1))); }
