@@ -1,0 +1,16 @@
+//! Tests of a router, message by message. A row is a script, in the language of `rsvpd replay`, and what it writes, with what stands
+//! in flight behind its last line, in the words of `rsvpd show`. The expected text is worked out by hand from the rules.
+//!
+//! There is nothing here but tests: a crate that has tests is proved twice, and the crates of a router are not.
+#![tactic(auto)]
+
+#[cfg(test)]
+mod errors;
+#[cfg(test)]
+mod networks;
+#[cfg(test)]
+mod paths;
+#[cfg(test)]
+mod reservations;
+#[cfg(test)]
+mod runs;
