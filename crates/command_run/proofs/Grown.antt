@@ -1,13 +1,22 @@
--- The run of a grown network, by its status: nothing is read for it.
-use Rattle.std.proofs.Common.{◌≡◌, ℕ, List, Option, refl}
-use Rattle.network_model.specs.Runs.{Plan}
+-- The run of a grown network, by its status: nothing is read for it, and where it is done it reports what is demanded.
+use Rattle.std.proofs.Common.{◌≡◌, ℕ, Bool, true, false, List, ◌++◌, Option, refl, sym, ap, subst, ◌∙◌, append_assoc}
+use Rattle.std.specs.Prelude.{codes}
+use Rattle.std.specs.Fmt.{decimal}
+use Rattle.std.specs.Io.KnownBytes.{Appends}
+use Rattle.network_model.specs.Runs.{Plan, is_crowded_run}
 use Rattle.network_run.specs.declared.ending.Ending.{Ending}
 use Rattle.network_run.specs.declared.ending.Ending.TheVariants as ending
+use Rattle.grown_network.specs.Grown.{grown_plan}
+use Rattle.grown_summary.specs.Summaries.{is_as_demanded, summary, summary_of}
+use Rattle.grown_summary.specs.Texts.{booked_line, counts_text, equal_line, network_line, rounds_line, seed_line, summary_text}
+use Rattle.grown_summary.specs.declared.summary.Summary.{Summary}
+use Rattle.grown_runs.proofs.Ending.{a_grown_run_is_its_demand}
+use Rattle.seed_laws.proofs.Equal.{a_grown_network_is_as_demanded}
 use Rattle.grown_player.specs.Endings.{IsGrownRun}
 use Rattle.grown_player.proofs.Ended.{out_of_memory}
-use Rattle.command_run.specs.Growing.{IsGrowth}
+use Rattle.command_run.specs.Growing.{EndsAsDemanded, EndsInEqualYes, IsGrowth}
 use Rattle.command_run.specs.Statuses.{status_of}
-use Rattle.command_run.specs.declared.status.Status.TheVariants.{NoMemory, ReadFault}
+use Rattle.command_run.specs.declared.status.Status.TheVariants.{Done, NoMemory, ReadFault}
 
 pub never_reads : (stands : Plan → Type 0) (e : Ending) (seed : ℕ) (before after : Option (List ℕ)) → IsGrownRun stands e seed before after → status_of e ≡ ReadFault → ⊥
 never_reads stands ending.Done seed before after run is = cc
@@ -21,3 +30,42 @@ never_reads stands ending.TooLong seed before after run is = cc
 -- memory ran out before anything was grown
 pub grown_nothing : (stands : Plan → Type 0) (seed : ℕ) (holds : Option (List ℕ)) → IsGrowth stands NoMemory seed holds holds
 grown_nothing stands seed holds = (ending.NoMemory, refl, out_of_memory stands seed holds)
+
+-- ---- done
+-- two pieces at the end are one
+joined : (a b c x y z : List ℕ) → a ++ (b ++ (c ++ ((x ++ y) ++ z))) ≡ (a ++ (b ++ (c ++ x))) ++ (y ++ z)
+joined a b c x y z =
+    ap (λ (t : List ℕ). a ++ (b ++ (c ++ t))) (append_assoc x y z)
+    ∙ ap (λ (t : List ℕ). a ++ (b ++ t)) (sym (append_assoc c x (y ++ z)))
+    ∙ ap (λ (t : List ℕ). a ++ t) (sym (append_assoc b (c ++ x) (y ++ z)))
+    ∙ sym (append_assoc a (b ++ (c ++ x)) (y ++ z))
+
+-- the summary of an equal run
+equal_yes : (s : Summary) → s.equal ≡ true → EndsInEqualYes (summary_text s)
+unfolding booked_line
+equal_yes s is =
+    let first = seed_line s.seed in
+    let network = network_line s.nodes s.hops s.longest in
+    let rounds = rounds_line s.rounds s.delivered in
+    let held = counts_text s.booked.ends s.booked.entries ++ codes " held " ++ decimal s.booked.held in
+    (first ++ (network ++ (rounds ++ held)), ap (λ (b : Bool). first ++ (network ++ (rounds ++ ((held ++ codes "\n") ++ equal_line b)))) is ∙ joined first network rounds held (codes "\n") (codes "equal yes\n"))
+
+summary_says_so : (seed : ℕ) → is_as_demanded seed ≡ true → EndsInEqualYes (summary seed)
+unfolding summary
+summary_says_so seed is = equal_yes (summary_of seed) is
+
+roomy_as_demanded : (seed : ℕ) (before after : Option (List ℕ)) (text : List ℕ) → is_crowded_run (grown_plan seed) ≡ false → text ≡ summary seed → Appends before after text → EndsAsDemanded seed before after
+roomy_as_demanded seed before after text roomy is wrote = record {
+  reports = a_grown_run_is_its_demand seed roomy;
+  wrote = subst (λ (t : List ℕ). Appends before after t) is wrote;
+  says_so = summary_says_so seed (a_grown_network_is_as_demanded seed roomy);
+}
+
+pub done_as_demanded : (stands : Plan → Type 0) (e : Ending) (seed : ℕ) (before after : Option (List ℕ)) → status_of e ≡ Done → IsGrownRun stands e seed before after → EndsAsDemanded seed before after
+done_as_demanded stands ending.Done seed before after is run = roomy_as_demanded seed before after run.text run.ended.0 run.ended.1 run.wrote
+done_as_demanded stands (ending.BadLine number why) seed before after is run = absurd (cc is)
+done_as_demanded stands ending.ReadFault seed before after is run = absurd (cc is)
+done_as_demanded stands ending.WriteFault seed before after is run = absurd (cc is)
+done_as_demanded stands ending.NoMemory seed before after is run = absurd (cc is)
+done_as_demanded stands ending.Crowded seed before after is run = absurd (cc is)
+done_as_demanded stands ending.TooLong seed before after is run = absurd (cc is)

@@ -1,4 +1,5 @@
 pub mod Keeps
+pub mod LastRounds
 pub mod Replays
 pub mod Shows
 pub mod StatusTexts

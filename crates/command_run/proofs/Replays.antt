@@ -1,13 +1,22 @@
 -- What the laws of runs say of the plan of a script, and of a script that was replayed to its end.
-use Rattle.std.proofs.Common.{◌≡◌, ℕ, List, Option, None, Some, false, refl, sym, subst}
+use Rattle.std.proofs.Common.{◌≡◌, ℕ, ◌+◌, ◌*◌, ◌≤◌, List, [], ◌∷◌, ◌++◌, Option, None, Some, false, refl, sym, ap, subst, ◌∙◌}
 use Rattle.std.specs.Prelude.{IfSome}
 use Rattle.std.specs.Io.KnownBytes.{Appends}
+use Rattle.std.proofs.lemmas.List.{append-nil}
 use Rattle.script_words.specs.Lines.{text_lines}
-use Rattle.network_model.specs.Runs.{Plan, is_crowded_run}
-use Rattle.script_grammar.specs.Draft.{Draft}
-use Rattle.script_grammar.specs.Grammar.{IsScript}
+use Rattle.tree_model.specs.Networks.{Net}
+use Rattle.tree_model.specs.Ranks.{longest}
+use Rattle.network_model.specs.Runs.{Plan, first_world, is_crowded_run, run_text, steps_of_run, text_of}
+use Rattle.network_model.specs.Steps.{Report, Step, machine}
+use Rattle.network_model.specs.Worlds.{World}
+use Rattle.network_steps.proofs.Calming.{run_append}
+use Rattle.script_grammar.specs.Draft.{Draft, nothing, plan_of, routing}
+use Rattle.script_grammar.specs.Grammar.{IsScript, Leads}
+use Rattle.script_grammar.proofs.Scripts.{one_script_law}
 use Rattle.script_laws.proofs.EventLines.{each_script_is_a_fit_run}
 use Rattle.script_laws.proofs.SenderLines.{each_script_lets_few_send}
+use Rattle.script_standing.proofs.Demands.{scripts_stand, the_last_report_is_the_demand}
+use Rattle.settle_reports.specs.Demands.{moment}
 use Rattle.settle_reports.proofs.Demands.{a_settled_report_is_the_demand}
 use Rattle.run_laws.specs.Books.{AreBooksWithinCapacity}
 use Rattle.run_laws.proofs.Books.{books_within}
@@ -18,9 +27,10 @@ use Rattle.network_run.specs.declared.ending.Ending.{Ending}
 use Rattle.network_run.specs.declared.ending.Ending.TheVariants as ending
 use Rattle.network_run.proofs.Ended.{ended_at_once}
 use Rattle.network_run.proofs.Spoken.{only_scripts_are_done}
-use Rattle.command_run.specs.Healing.{HealsItself, IsHealingRun, IsNeverOver}
+use Rattle.command_run.specs.Healing.{EndsInItsDemand, HealsItself, IsHealingRun, IsNeverOver, LastReportIsTheDemand, RoundsBringTheDemand}
 use Rattle.command_run.specs.Statuses.{IsReplay, status_of}
 use Rattle.command_run.proofs.Keeps.{refusals_change_nothing}
+use Rattle.command_run.proofs.LastRounds.{before_report, settled, steps}
 use Rattle.command_run.specs.declared.status.Status.TheVariants.{Done, NoMemory}
 
 heals : (bytes : List ℕ) (p : Plan) → IsScript bytes p → is_crowded_run p ≡ false → HealsItself p
@@ -63,6 +73,42 @@ healed_run stands ending.WriteFault old new before after is run = absurd (cc is)
 healed_run stands ending.NoMemory old new before after is run = absurd (cc is)
 healed_run stands ending.Crowded old new before after is run = absurd (cc is)
 healed_run stands ending.TooLong old new before after is run = absurd (cc is)
+
+-- ---- a report that comes last
+module _ (bytes : List ℕ) (before after : Option (List ℕ)) (run : IsHealingRun bytes before after) (d : Draft) (leads : Leads nothing (text_lines bytes) d) where
+  is_script : IsScript bytes (plan_of d)
+  is_script = record { lines = d; leads = leads; says = refl }
+
+  same_plan : run.plan ≡ plan_of d
+  same_plan = one_script_law bytes run.plan (plan_of d) run.script is_script
+
+  last_settled : LastReportIsTheDemand d before after
+  last_settled ss still e parts settled writes fit =
+      let roomy : is_crowded_run (plan_of d) ≡ false = ap is_crowded_run (sym same_plan) ∙ run.roomy in
+      subst (λ (t : List ℕ). Appends before after t) (ap run_text same_plan ∙ the_last_report_is_the_demand bytes d leads roomy ss still e parts settled writes fit) run.wrote
+
+  -- the routing in force is that of the world before the report
+  same_net : (ss : List Step) (e : Option ℕ) → steps_of_run (plan_of d) ≡ ss ++ Report e ∷ [] → (moment (plan_of d) ss).net ≡ routing d
+  same_net ss e parts =
+      let last = ap (moment (plan_of d)) parts ∙ run_append (machine (plan_of d).quarter) ss (Report e ∷ []) (first_world (plan_of d)) in
+      sym (ap (λ (w : World). w.net) last) ∙ (scripts_stand bytes d leads).net
+
+  last_rounds : RoundsBringTheDemand d before after
+  last_rounds es n e events enough fit =
+      let p = plan_of d in
+      let ss = before_report p es n e events in
+      let parts = steps p es n e events in
+      let many : 16 * longest (moment p ss).net + 16 ≤ n = subst (λ (net : Net). 16 * longest net + 16 ≤ n) (sym (same_net ss e parts)) enough in
+      let calm = settled p es n e events (each_script_is_a_fit_run bytes p is_script) many in
+      let none = append-nil ss in
+      (text_of p.quarter d.names (ss ++ []) (first_world p), last_settled ss [] e (parts ∙ ap (λ (ts : List Step). ts ++ Report e ∷ []) (sym none)) calm tt fit)
+
+  ends_in_its_demand : EndsInItsDemand d before after
+  ends_in_its_demand = record { settled = last_settled; rounds = last_rounds }
+
+pub last_report : (left before after : Option (List ℕ)) → IfSome left (λ bytes. IsHealingRun bytes before after) → IfSome left (λ bytes. (d : Draft) → Leads nothing (text_lines bytes) d → EndsInItsDemand d before after)
+last_report None before after run = tt
+last_report (Some bytes) before after run = λ d leads. ends_in_its_demand bytes before after run d leads
 
 -- ---- memory ran out before anything was read
 pub replayed_nothing : (stands : Draft → Type 0) (left holds : Option (List ℕ)) → IsReplay stands NoMemory left left holds holds

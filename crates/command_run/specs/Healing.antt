@@ -1,14 +1,19 @@
--- What the laws of runs say of the plan of a script: it heals itself.
-use Rattle.std.specs.Prelude.{◌≡◌, ℕ, false, List, ◌∷◌, ◌++◌, Option}
+-- What the laws of runs say of the plan of a script: it heals itself. And of a report that comes last: it is the demand of the script.
+use Rattle.std.specs.Prelude.{◌≡◌, ℕ, ◌+◌, ◌*◌, ◌≤◌, false, List, [], ◌∷◌, ◌++◌, Option}
 use Rattle.std.specs.Io.KnownBytes.{Appends}
 use Rattle.calm_rounds.specs.Hold.{Visited}
 use Rattle.tree_model.specs.Goals.{DemandsFit}
+use Rattle.tree_model.specs.Ranks.{longest}
 use Rattle.network_model.specs.Bounds.{IsSettled}
+use Rattle.network_model.specs.Events.{Event, Reports, Rounds}
 use Rattle.network_model.specs.Locals.{locals_of}
-use Rattle.network_model.specs.Runs.{Plan, first_world, is_crowded_run, run_text, steps_of_run}
+use Rattle.network_model.specs.Runs.{Plan, first_world, is_crowded_run, run_text, steps_of_run, text_of}
 use Rattle.network_model.specs.Steps.{Report, Step, machine}
 use Rattle.network_model.specs.Worlds.{World}
-use Rattle.script_grammar.specs.Grammar.{IsScript}
+use Rattle.demand_texts.specs.Texts.{demand_text}
+use Rattle.script_words.specs.Lines.{text_lines}
+use Rattle.script_grammar.specs.Draft.{Draft, nothing, plan_of, routing}
+use Rattle.script_grammar.specs.Grammar.{IsScript, Leads}
 use Rattle.settle_reports.specs.Demands.{AppendsTheDemand, moment}
 use Rattle.settle_reports.specs.Writing.{OnlyWrite}
 use Rattle.run_laws.specs.Books.{AreBooksWithinCapacity}
@@ -38,3 +43,21 @@ pub record IsHealingRun (bytes : List ℕ) (before after : Option (List ℕ)) : 
   pub roomy : is_crowded_run plan ≡ false
   pub wrote : Appends before after (run_text plan)
   pub heals : HealsItself plan
+
+-- ---- a report that comes last: where what the lines of the script ask fits, it is the demand of the script, which is what `demand`
+-- writes of it, but for the last line
+-- at a settled moment, or behind steps that only write after one: the text before it and the demand were appended
+abbrev pub LastReportIsTheDemand : Draft → Option (List ℕ) → Option (List ℕ) → Type 0
+LastReportIsTheDemand d before after =
+    (ss still : List Step) (e : Option ℕ) → steps_of_run (plan_of d) ≡ (ss ++ still) ++ Report e ∷ [] → IsSettled (plan_of d).quarter (first_world (plan_of d)) ss → OnlyWrite still → DemandsFit (routing d) d.locals
+    → Appends before after (text_of (plan_of d).quarter d.names (ss ++ still) (first_world (plan_of d)) ++ demand_text d.names (routing d) d.locals e)
+
+-- behind `rounds n`, with n at least 16 H + 16, H the longest chain of hops of the routing in force
+abbrev pub RoundsBringTheDemand : Draft → Option (List ℕ) → Option (List ℕ) → Type 0
+RoundsBringTheDemand d before after =
+    (es : List Event) (n : ℕ) (e : Option ℕ) → d.events ≡ es ++ Rounds n ∷ Reports e ∷ [] → 16 * longest (routing d) + 16 ≤ n → DemandsFit (routing d) d.locals
+    → (front : List ℕ) × Appends before after (front ++ demand_text d.names (routing d) d.locals e)
+
+pub record EndsInItsDemand (d : Draft) (before after : Option (List ℕ)) : Type 0 where
+  pub settled : LastReportIsTheDemand d before after
+  pub rounds : RoundsBringTheDemand d before after

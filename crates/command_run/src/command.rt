@@ -7,15 +7,16 @@ ghost use Rattle.network_run.specs.Endings.{ComesTo};
 ghost use Rattle.network_run.specs.declared.ending.Ending.{Ending as AnEnding};
 ghost use Rattle.network_run.specs.declared.ending.Ending.TheVariants as ending;
 ghost use Rattle.network_model.specs.Runs.{Plan};
-ghost use Rattle.script_grammar.specs.Draft.{nothing, plan_of};
-ghost use Rattle.script_grammar.specs.Grammar.{IsScript};
+ghost use Rattle.script_grammar.specs.Draft.{Draft, nothing, plan_of};
+ghost use Rattle.script_grammar.specs.Grammar.{IsScript, Leads};
+ghost use Rattle.script_words.specs.Lines.{text_lines};
 ghost use Rattle.script_demand.specs.Demanding.{DemandsTo};
 ghost use Rattle.script_player.specs.Standing.{IsNetworkOf};
 ghost use Rattle.command_run.specs.Advised.{IsAdvised, IsShowAdvised};
 ghost use Rattle.grown_player.specs.Endings.{GrowsTo};
 ghost use Rattle.command_run.specs.Demanding.{IsDemand};
-ghost use Rattle.command_run.specs.Growing.{IsGrowth};
-ghost use Rattle.command_run.specs.Healing.{IsHealingRun, IsNeverOver};
+ghost use Rattle.command_run.specs.Growing.{EndsAsDemanded, IsGrowth};
+ghost use Rattle.command_run.specs.Healing.{EndsInItsDemand, IsHealingRun, IsNeverOver};
 ghost use Rattle.command_run.specs.Keeping.{BlockadePromises, RefusalsChangeNothing};
 ghost use Rattle.command_run.specs.Showing.{IsShowing, ShowsTo};
 ghost use Rattle.command_run.specs.Statuses.{IsOrNoMemory, IsReplay, status_of};
@@ -39,10 +40,10 @@ use std::alloc::Global;
 /// Runs the task of these words: `replay` reads a script from the source, runs it line by line on a network of routers, and writes
 /// to the sink what its events write; `demand` reads a script, and writes what each end of its network owes behind the last line and
 /// whether that fits; `show` reads messages as lines of hexadecimal digits and writes a line of words for each; `grow` reads
-/// nothing, grows the network of a seed, runs it and writes a summary of the run. Where a script with an event was replayed to its
-/// end, and where a network was grown and run to its end, `last` holds the network in which the run ended; else it stays empty.
-/// `advice` becomes the text that tells what is wrong with the bad line; where no line is bad, or memory runs out as it is
-/// written, it is empty.
+/// nothing, grows the network of a seed, runs it and writes a summary of the run, whose last line is `equal yes`. Where a script with
+/// an event was replayed to its end, and where a network was grown and run to its end, `last` holds the network in which the run
+/// ended; else it stays empty. `advice` becomes the text that tells what is wrong with the bad line; where no line is bad, or memory
+/// runs out as it is written, it is empty.
 ///
 /// `Usage` comes first: the words are no command, and nothing is read or written. How a replay ends is said at `replay`, how the
 /// demand of a script ends at `demand`, how showing ends at `show_messages`, and how growing ends at `grow`.
@@ -78,6 +79,11 @@ pub fn run_command<C: Asks + Drop, R: Opens, S: Source, K: Sink>(
     // A script that was replayed to its end heals itself.
     ensures healed { task_of (map string_bytes words.now.items) ≡ Some task.Replay → result ≡ Status.Done
         → IfSome (S.left source.old) (λ bytes. IsHealingRun bytes (K.holds sink.old) (K.holds sink.new)) }
+    // A report that comes last, once all has settled, is what `demand` writes of the script, but for the last line.
+    ensures last_report { task_of (map string_bytes words.now.items) ≡ Some task.Replay → result ≡ Status.Done
+        → IfSome (S.left source.old) (λ bytes. (d : Draft) → Leads nothing (text_lines bytes) d → EndsInItsDemand d (K.holds sink.old) (K.holds sink.new)) }
+    // A network that was grown and run to its end reports exactly what is demanded: the last line of its summary is `equal yes`.
+    ensures as_demanded { (seed : ℕ) → task_of (map string_bytes words.now.items) ≡ Some (task.Grow seed) → result ≡ Status.Done → EndsAsDemanded seed (K.holds sink.old) (K.holds sink.new) }
     // No book passes its capacity, at any step of the run of a script.
     ensures within_capacity { IfSome (S.left source.old) (λ bytes. (p : Plan) → IsScript bytes p → IsNeverOver p) }
     // At each of them no refusal changes a reservation, and blockades keep their promises.

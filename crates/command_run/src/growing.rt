@@ -5,7 +5,7 @@ ghost use Rattle.network_run.specs.declared.ending.Ending.{Ending as AnEnding};
 ghost use Rattle.network_run.specs.declared.ending.Ending.TheVariants as ending;
 ghost use Rattle.script_player.specs.Standing.{IsNetworkOf};
 ghost use Rattle.grown_player.specs.Endings.{GrowsTo};
-ghost use Rattle.command_run.specs.Growing.{IsGrowth};
+ghost use Rattle.command_run.specs.Growing.{EndsAsDemanded, IsGrowth};
 ghost use Rattle.command_run.specs.Statuses.{IsOrNoMemory, status_of};
 
 use crate::replaying::status_of;
@@ -16,8 +16,9 @@ use net_replay::World;
 use script_player::Opens;
 use std::alloc::Global;
 
-/// Grows the network of a seed, runs it and writes the summary of the run to the sink. Where it is done, `last` holds the network in
-/// which the run ended; else it stays empty.
+/// Grows the network of a seed, runs it and writes the summary of the run to the sink. Where it is done, the run reported what is
+/// demanded, the last line of the summary is `equal yes`, and `last` holds the network in which the run ended; else `last` stays
+/// empty.
 ///
 /// `Crowded` comes before `WriteFault`, and nothing is written then. `NoMemory` may come at any time before the first byte is
 /// written.
@@ -29,6 +30,7 @@ pub fn grow<R: Opens, K: Sink>(
 ) -> Status
     requires { last.old ≡ None }
     ensures grown { IsGrowth (λ p. IsNetworkOf R.seen last.new p) result seed (K.holds sink.old) (K.holds sink.new) }
+    ensures as_demanded { result ≡ Status.Done → EndsAsDemanded seed (K.holds sink.old) (K.holds sink.new) }
     ensures empty { result ≢ Status.Done → last.new ≡ None }
     ensures usage { result ≢ Status.Usage }
     ensures read_fault { result ≢ Status.ReadFault }

@@ -1,10 +1,12 @@
 //! The top call: the words of a command line order a task, which is run from a source to a sink.
 //!
-//! `run_command` replays a script on a network of routers, writes the demand of one, shows messages in words, or grows a network and runs it. Its clauses say by
-//! the status exactly what was read and written, and that a script that was replayed to its end heals itself: once its network has
-//! settled a report is the demand. At each step of a script's run, however it ends, no book passes its capacity, no refusal changes
-//! a reservation, and blockades keep their promises. It stands on `script_player` for the run of a script, on `settle_reports`,
-//! `run_laws` and `script_laws` for what holds of it, on `script_demand`, on `message_show` and on `command_words`.
+//! `run_command` replays a script on a network of routers, writes the demand of one, shows messages in words, or grows a network and
+//! runs it. Its clauses say by the status exactly what was read and written, that a script that was replayed to its end heals
+//! itself (once its network has settled a report is the demand, and the last one what `demand` writes of the script), and that a
+//! network that was grown and run reports what is demanded. At each step of a script's run, however it ends, no book passes its
+//! capacity, no refusal changes a reservation, and blockades keep their promises. It stands on `script_player` and `grown_player`
+//! for runs, on `settle_reports`, `script_standing`, `run_laws`, `script_laws` and `seed_laws` for what holds of them, on
+//! `script_demand`, on `message_show` and on `command_words`.
 #![tactic(auto)]
 
 mod command;

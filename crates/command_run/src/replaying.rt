@@ -4,9 +4,11 @@ ghost use Rattle.byte_streams.specs.Faults.{Rose};
 ghost use Rattle.byte_streams.specs.Reading.{most_bytes};
 ghost use Rattle.network_run.specs.Endings.{ComesTo};
 ghost use Rattle.network_run.specs.declared.ending.Ending.{Ending as AnEnding};
-ghost use Rattle.script_grammar.specs.Draft.{nothing, plan_of};
+ghost use Rattle.script_grammar.specs.Draft.{Draft, nothing, plan_of};
+ghost use Rattle.script_grammar.specs.Grammar.{Leads};
+ghost use Rattle.script_words.specs.Lines.{text_lines};
 ghost use Rattle.script_player.specs.Standing.{IsNetworkOf};
-ghost use Rattle.command_run.specs.Healing.{IsHealingRun};
+ghost use Rattle.command_run.specs.Healing.{EndsInItsDemand, IsHealingRun};
 ghost use Rattle.command_run.specs.Advised.{IsAdvised};
 ghost use Rattle.command_run.specs.Statuses.{IsOrNoMemory, IsReplay, status_of};
 
@@ -58,6 +60,7 @@ pub fn replay<C: Checks + Drop, R: Opens, S: Source, K: Sink>(
     ensures complete { (bytes text : List ℕ) (wanted : AnEnding) → S.left source.old ≡ Some bytes → length bytes ≤ most_bytes → ComesTo wanted bytes text
         → (Rose (S.faults source.old) (S.faults source.new) → ⊥) → (Rose (K.faults sink.old) (K.faults sink.new) → ⊥) → IsOrNoMemory (status_of wanted) result }
     ensures healed { result ≡ Status.Done → IfSome (S.left source.old) (λ bytes. IsHealingRun bytes (K.holds sink.old) (K.holds sink.new)) }
+    ensures last_report { result ≡ Status.Done → IfSome (S.left source.old) (λ bytes. (d : Draft) → Leads nothing (text_lines bytes) d → EndsInItsDemand d (K.holds sink.old) (K.holds sink.new)) }
 {
     let ending = run_script::<C, R, S, K>(alloc, checker, source, sink, last, advice);
     status_of(ending)
