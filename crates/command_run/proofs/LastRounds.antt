@@ -1,12 +1,11 @@
 -- The run of a plan whose last events are rounds and a report: the network does not change in them, and where the rounds are enough
 -- it is settled at the report.
-use Rattle.std.proofs.Common.{◌≡◌, ℕ, ◌*◌, ◌+◌, ◌≤◌, List, [], ◌∷◌, ◌++◌, Option, length, refl, sym, ap, subst, ◌∙◌, arith, append_assoc}
+use Rattle.std.proofs.Common.{◌≡◌, ℕ, ◌*◌, ◌+◌, ◌≤◌, List, [], ◌∷◌, ◌++◌, Option, refl, sym, ap, subst, ◌∙◌, arith, append_assoc}
 use Rattle.calm_rounds.specs.Hold.{Visited}
 use Rattle.calm_rounds.specs.Machine.{run}
 use Rattle.calm_rounds.specs.Rounds.{run_rounds}
 use Rattle.calm_rounds.proofs.Holding.{hold_end}
 use Rattle.tree_model.specs.Ranks.{longest}
-use Rattle.tree_model.specs.Networks.{Net}
 use Rattle.network_model.specs.Bounds.{AreBounds, IsSettled, all_of}
 use Rattle.network_model.specs.Events.{Event, Reports, Rounds, all_steps, rounds, steps_of}
 use Rattle.network_model.specs.Runs.{Plan, first_world, steps_of_run}
@@ -71,7 +70,7 @@ module _ (p : Plan) (es : List Event) (n : ℕ) (e : Option ℕ) (events : p.eve
       let calm = rounds_is_calm q n o in
       let kept = hold_end (machine q) (IsKnown q o) 0 (rounds_of q n o) o (omega arith) (known_hold q o (rounds_of q n o) calm.calm (calm_rounds_keep_bounds q o (rounds_of q n o) calm.calm (begun fit))) in
       let there : run (machine q) before_report w ≡ run_rounds (machine q) (rounds_of q n o) o =
-          run_append (machine q) first (rounds q n o) w ∙ ap (λ (ss : List Step). run (machine q) ss o) calm.steps ∙ run_all q (rounds_of q n o) o in
+      run_append (machine q) first (rounds q n o) w ∙ ap (λ (ss : List Step). run (machine q) ss o) calm.steps ∙ run_all q (rounds_of q n o) o in
       ap (λ (u : World). u.net) there ∙ kept.same.net
 
   pub settled : IsFitRun p → 16 * longest (run (machine q) before_report w).net + 16 ≤ n → IsSettled q w before_report

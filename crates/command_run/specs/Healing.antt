@@ -1,4 +1,4 @@
--- What the laws of runs say of the plan of a script: it heals itself. And of a report that comes last: it is the demand of the script.
+-- What the laws of runs say of the plan of a script: it heals itself, and a report that comes last is the demand of the script.
 use Rattle.std.specs.Prelude.{◌≡◌, ℕ, ◌+◌, ◌*◌, ◌≤◌, false, List, [], ◌∷◌, ◌++◌, Option}
 use Rattle.std.specs.Io.KnownBytes.{Appends}
 use Rattle.calm_rounds.specs.Hold.{Visited}
@@ -9,11 +9,9 @@ use Rattle.network_model.specs.Events.{Event, Reports, Rounds}
 use Rattle.network_model.specs.Locals.{locals_of}
 use Rattle.network_model.specs.Runs.{Plan, first_world, is_crowded_run, run_text, steps_of_run, text_of}
 use Rattle.network_model.specs.Steps.{Report, Step, machine}
-use Rattle.network_model.specs.Worlds.{World}
 use Rattle.demand_texts.specs.Texts.{demand_text}
-use Rattle.script_words.specs.Lines.{text_lines}
-use Rattle.script_grammar.specs.Draft.{Draft, nothing, plan_of, routing}
-use Rattle.script_grammar.specs.Grammar.{IsScript, Leads}
+use Rattle.script_grammar.specs.Draft.{Draft, plan_of, routing}
+use Rattle.script_grammar.specs.Grammar.{IsScript}
 use Rattle.settle_reports.specs.Demands.{AppendsTheDemand, moment}
 use Rattle.settle_reports.specs.Writing.{OnlyWrite}
 use Rattle.run_laws.specs.Books.{AreBooksWithinCapacity}
@@ -44,9 +42,11 @@ pub record IsHealingRun (bytes : List ℕ) (before after : Option (List ℕ)) : 
   pub wrote : Appends before after (run_text plan)
   pub heals : HealsItself plan
 
--- ---- a report that comes last: where what the lines of the script ask fits, it is the demand of the script, which is what `demand`
--- writes of it, but for the last line
--- at a settled moment, or behind steps that only write after one: the text before it and the demand were appended
+-- ---- a report that comes last
+-- where what the lines ask fits, the text that was appended ends in the demand of the script: what `demand` writes of it, but for the
+-- last line
+
+-- at a settled moment, or behind steps that only write after one
 abbrev pub LastReportIsTheDemand : Draft → Option (List ℕ) → Option (List ℕ) → Type 0
 LastReportIsTheDemand d before after =
     (ss still : List Step) (e : Option ℕ) → steps_of_run (plan_of d) ≡ (ss ++ still) ++ Report e ∷ [] → IsSettled (plan_of d).quarter (first_world (plan_of d)) ss → OnlyWrite still → DemandsFit (routing d) d.locals
