@@ -1,7 +1,7 @@
 //! The rules of lines of part 3 that ask nothing of a host.
 ghost use Rattle.std.specs.Prelude.{◌≡◌, ◌↔◌, ◌≤◌, IfErr, IfOk, IfSome, IsSome, OnOk, length};
 ghost use Rattle.script_state.specs.Said.{draft_of};
-ghost use Rattle.script_state.specs.Refusals.{Refuses};
+ghost use Rattle.script_state.specs.Refusals.{IsUntouched, Refuses};
 ghost use Rattle.script_player.specs.Checking.{IsAdded};
 ghost use Rattle.script_grammar.specs.Adds.{Adds};
 ghost use Rattle.script_grammar.specs.Rules.{Keeps, KeepsAll};
@@ -38,6 +38,7 @@ pub fn add_wait(state: &mut ScriptState, ms: u128) -> Result<Event, Refused>
     ensures ok { OnOk result (KeepsAll (Keeps (draft_of state.old) (kind.Wait ms)) × Adds (draft_of state.old) (kind.Wait ms) (draft_of state.new)) }
     ensures event { IfOk result (λ e. IsAdded (draft_of state.old).events e (draft_of state.new).events) }
     ensures refused { IfErr result (Refuses (draft_of state.old) (kind.Wait ms)) }
+    ensures same { IfErr result (IsUntouched (draft_of state.old) (draft_of state.new)) }
 {
     let Some(ms) = from_1_to(MOST_WAIT, ms) else {
         return Err(Refused::Fault(Fault::Range));
@@ -50,6 +51,7 @@ pub fn add_pass(state: &mut ScriptState, times: u128) -> Result<Event, Refused>
     ensures ok { OnOk result (KeepsAll (Keeps (draft_of state.old) (kind.Pass times)) × Adds (draft_of state.old) (kind.Pass times) (draft_of state.new)) }
     ensures event { IfOk result (λ e. IsAdded (draft_of state.old).events e (draft_of state.new).events) }
     ensures refused { IfErr result (Refuses (draft_of state.old) (kind.Pass times)) }
+    ensures same { IfErr result (IsUntouched (draft_of state.old) (draft_of state.new)) }
 {
     let Some(times) = from_1_to(MOST_PASSES, times) else {
         return Err(Refused::Fault(Fault::Range));
@@ -62,6 +64,7 @@ pub fn add_rounds(state: &mut ScriptState, times: u128) -> Result<Event, Refused
     ensures ok { OnOk result (KeepsAll (Keeps (draft_of state.old) (kind.Rounds times)) × Adds (draft_of state.old) (kind.Rounds times) (draft_of state.new)) }
     ensures event { IfOk result (λ e. IsAdded (draft_of state.old).events e (draft_of state.new).events) }
     ensures refused { IfErr result (Refuses (draft_of state.old) (kind.Rounds times)) }
+    ensures same { IfErr result (IsUntouched (draft_of state.old) (draft_of state.new)) }
 {
     let Some(times) = from_1_to(MOST_ROUNDS, times) else {
         return Err(Refused::Fault(Fault::Range));
@@ -74,6 +77,7 @@ pub fn add_deliver(state: &mut ScriptState, place: u128) -> Result<Event, Refuse
     ensures ok { OnOk result (KeepsAll (Keeps (draft_of state.old) (kind.Deliver place)) × Adds (draft_of state.old) (kind.Deliver place) (draft_of state.new)) }
     ensures event { IfOk result (λ e. IsAdded (draft_of state.old).events e (draft_of state.new).events) }
     ensures refused { IfErr result (Refuses (draft_of state.old) (kind.Deliver place)) }
+    ensures same { IfErr result (IsUntouched (draft_of state.old) (draft_of state.new)) }
 {
     let Some(place) = from_1_to(MOST_PLACES, place) else {
         return Err(Refused::Fault(Fault::Range));
@@ -86,6 +90,7 @@ pub fn add_lose(state: &mut ScriptState, place: u128) -> Result<Event, Refused>
     ensures ok { OnOk result (KeepsAll (Keeps (draft_of state.old) (kind.Lose place)) × Adds (draft_of state.old) (kind.Lose place) (draft_of state.new)) }
     ensures event { IfOk result (λ e. IsAdded (draft_of state.old).events e (draft_of state.new).events) }
     ensures refused { IfErr result (Refuses (draft_of state.old) (kind.Lose place)) }
+    ensures same { IfErr result (IsUntouched (draft_of state.old) (draft_of state.new)) }
 {
     let Some(place) = from_1_to(MOST_PLACES, place) else {
         return Err(Refused::Fault(Fault::Range));
@@ -98,6 +103,7 @@ pub fn add_again(state: &mut ScriptState, place: u128) -> Result<Event, Refused>
     ensures ok { OnOk result (KeepsAll (Keeps (draft_of state.old) (kind.Copy place)) × Adds (draft_of state.old) (kind.Copy place) (draft_of state.new)) }
     ensures event { IfOk result (λ e. IsAdded (draft_of state.old).events e (draft_of state.new).events) }
     ensures refused { IfErr result (Refuses (draft_of state.old) (kind.Copy place)) }
+    ensures same { IfErr result (IsUntouched (draft_of state.old) (draft_of state.new)) }
 {
     let Some(place) = from_1_to(MOST_PLACES, place) else {
         return Err(Refused::Fault(Fault::Range));
@@ -110,6 +116,7 @@ pub fn add_clear(state: &mut ScriptState, node: EndName) -> Result<Event, Refuse
     ensures ok { OnOk result (KeepsAll (Keeps (draft_of state.old) (kind.Clear node)) × Adds (draft_of state.old) (kind.Clear node) (draft_of state.new)) }
     ensures event { IfOk result (λ e. IsAdded (draft_of state.old).events e (draft_of state.new).events) }
     ensures refused { IfErr result (Refuses (draft_of state.old) (kind.Clear node)) }
+    ensures same { IfErr result (IsUntouched (draft_of state.old) (draft_of state.new)) }
 {
     let Some(node) = state.nodes.find(node.bytes()) else {
         return Err(Refused::Fault(Fault::Name));
@@ -122,6 +129,7 @@ pub fn add_trace(state: &mut ScriptState, on: bool) -> Result<Event, Refused>
     ensures ok { OnOk result (KeepsAll (Keeps (draft_of state.old) (kind.Trace on)) × Adds (draft_of state.old) (kind.Trace on) (draft_of state.new)) }
     ensures event { IfOk result (λ e. IsAdded (draft_of state.old).events e (draft_of state.new).events) }
     ensures refused { IfErr result (Refuses (draft_of state.old) (kind.Trace on)) }
+    ensures same { IfErr result (IsUntouched (draft_of state.old) (draft_of state.new)) }
 {
     Ok(keep(state, Event::Trace { on }))
 }
@@ -131,6 +139,7 @@ pub fn add_report(state: &mut ScriptState) -> Result<Event, Refused>
     ensures ok { OnOk result (KeepsAll (Keeps (draft_of state.old) (kind.Report)) × Adds (draft_of state.old) (kind.Report) (draft_of state.new)) }
     ensures event { IfOk result (λ e. IsAdded (draft_of state.old).events e (draft_of state.new).events) }
     ensures refused { IfErr result (Refuses (draft_of state.old) (kind.Report)) }
+    ensures same { IfErr result (IsUntouched (draft_of state.old) (draft_of state.new)) }
 {
     if !has_room_for_report(state) {
         return Err(Refused::Fault(Fault::Limit));
@@ -143,6 +152,7 @@ pub fn add_report_end(state: &mut ScriptState, end: EndName) -> Result<Event, Re
     ensures ok { OnOk result (KeepsAll (Keeps (draft_of state.old) (kind.ReportEnd end)) × Adds (draft_of state.old) (kind.ReportEnd end) (draft_of state.new)) }
     ensures event { IfOk result (λ e. IsAdded (draft_of state.old).events e (draft_of state.new).events) }
     ensures refused { IfErr result (Refuses (draft_of state.old) (kind.ReportEnd end)) }
+    ensures same { IfErr result (IsUntouched (draft_of state.old) (draft_of state.new)) }
 {
     let Some(end) = state.names.find(end.bytes()) else {
         return Err(Refused::Fault(Fault::Name));
@@ -163,6 +173,7 @@ pub fn add_flags(state: &mut ScriptState) -> Result<Event, Refused>
     ensures ok { OnOk result (KeepsAll (Keeps (draft_of state.old) (kind.Flags)) × Adds (draft_of state.old) (kind.Flags) (draft_of state.new)) }
     ensures event { IfOk result (λ e. IsAdded (draft_of state.old).events e (draft_of state.new).events) }
     ensures refused { IfErr result (Refuses (draft_of state.old) (kind.Flags)) }
+    ensures same { IfErr result (IsUntouched (draft_of state.old) (draft_of state.new)) }
 {
     if !has_room_for_report(state) {
         return Err(Refused::Fault(Fault::Limit));
@@ -176,6 +187,7 @@ pub fn add_inject(state: &mut ScriptState, line: InjectLine) -> Result<Event, Re
     ensures ok { OnOk result (KeepsAll (Keeps (draft_of state.old) (kind.Inject line)) × Adds (draft_of state.old) (kind.Inject line) (draft_of state.new)) }
     ensures event { IfOk result (λ e. IsAdded (draft_of state.old).events e (draft_of state.new).events) }
     ensures refused { IfErr result (Refuses (draft_of state.old) (kind.Inject line)) }
+    ensures same { IfErr result (IsUntouched (draft_of state.old) (draft_of state.new)) }
 {
     let Some(dst) = line.dst.addr() else {
         return Err(Refused::Fault(Fault::Range));

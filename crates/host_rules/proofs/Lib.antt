@@ -1,3 +1,4 @@
 pub mod SenderRules
 pub mod WantRules
 pub mod WantLines
+pub mod WantCounts

@@ -9,7 +9,7 @@ ghost use Rattle.tree_model.specs.Networks.{owner};
 ghost use Rattle.tree_model.specs.Wants.{live, of_session};
 ghost use Rattle.script_state.specs.Said.{draft_of};
 ghost use Rattle.script_state.specs.Events.{event_of};
-ghost use Rattle.script_state.specs.Refusals.{OnlyNoMemory, Refuses};
+ghost use Rattle.script_state.specs.Refusals.{IsUntouched, OnlyNoMemory, Refuses};
 ghost use Rattle.script_player.specs.Checking.{IsAdded};
 ghost use Rattle.script_grammar.specs.Adds.{Adds, is_sender, sends, with_sender, without_sender};
 ghost use Rattle.script_grammar.specs.Draft.{node_number, with_session};
@@ -32,6 +32,7 @@ pub fn add_send(state: &mut ScriptState, line: SendLine) -> Result<Event, Refuse
     ensures ok { OnOk result (KeepsAll (Keeps (draft_of state.old) (kind.Send line)) × Adds (draft_of state.old) (kind.Send line) (draft_of state.new)) }
     ensures event { IfOk result (λ e. IsAdded (draft_of state.old).events e (draft_of state.new).events) }
     ensures refused { IfErr result (Refuses (draft_of state.old) (kind.Send line)) }
+    ensures same { IfErr result (IsUntouched (draft_of state.old) (draft_of state.new)) }
 {
     let Some((session, sender, flow)) = send_values(&line) else {
         return Err(Refused::Fault(Fault::Range));
@@ -55,6 +56,7 @@ pub fn add_drop(state: &mut ScriptState, line: DropLine) -> Result<Event, Refuse
     ensures ok { OnOk result (KeepsAll (Keeps (draft_of state.old) (kind.Drop line)) × Adds (draft_of state.old) (kind.Drop line) (draft_of state.new)) }
     ensures event { IfOk result (λ e. IsAdded (draft_of state.old).events e (draft_of state.new).events) }
     ensures refused { IfErr result (Refuses (draft_of state.old) (kind.Drop line)) }
+    ensures same { IfErr result (IsUntouched (draft_of state.old) (draft_of state.new)) }
 {
     let Some((session, sender)) = drop_values(&line) else {
         return Err(Refused::Fault(Fault::Range));

@@ -12,7 +12,7 @@ ghost use Rattle.tree_model.specs.declared.locals.LocalWant.{LocalWant as WantOf
 ghost use Rattle.script_state.specs.Said.{draft_of};
 ghost use Rattle.host_rules.specs.Styles.{fits};
 ghost use Rattle.script_state.specs.Events.{event_of};
-ghost use Rattle.script_state.specs.Refusals.{OnlyNoMemory, Refuses};
+ghost use Rattle.script_state.specs.Refusals.{IsUntouched, OnlyNoMemory, Refuses};
 ghost use Rattle.host_rules.specs.Forms.{IsWantForm};
 ghost use Rattle.script_player.specs.Checking.{IsAdded};
 ghost use Rattle.script_grammar.specs.Adds.{Adds, is_in_place_of, is_want_at, wanted, wants_at, with_want, with_wants, without_wants};
@@ -28,6 +28,7 @@ use script_player::Refused;
 use script_state::{
     ScriptState, are_distinct, has_room_for_session, is_session, keep_call, sender_values,
 };
+use std::alloc::Global;
 use std::cmp::Ordering;
 use tree_model::LocalWant;
 
@@ -39,6 +40,7 @@ pub fn add_want(state: &mut ScriptState, line: WantLine) -> Result<Event, Refuse
     ensures ok { OnOk result (KeepsAll (Keeps (draft_of state.old) (kind.Want line)) × Adds (draft_of state.old) (kind.Want line) (draft_of state.new)) }
     ensures event { IfOk result (λ e. IsAdded (draft_of state.old).events e (draft_of state.new).events) }
     ensures refused { IfErr result (Refuses (draft_of state.old) (kind.Want line)) }
+    ensures same { IfErr result (IsUntouched (draft_of state.old) (draft_of state.new)) }
 {
     let alloc = state.alloc;
     let Some(senders) = sender_values(alloc, line.senders.as_slice())? else {
@@ -63,10 +65,11 @@ pub fn add_want(state: &mut ScriptState, line: WantLine) -> Result<Event, Refuse
     if !has_room_for_session(state, session) {
         return Err(Refused::Fault(Fault::Limit));
     }
-    put(&mut state.wants, node, session, line.style, &names, flow)?;
-    if want_count(state.wants.as_slice(), node, session) > MOST_UNITS {
+    let count = count_with(state, node, session, line.style, &names, flow)?;
+    if count > MOST_UNITS {
         return Err(Refused::Fault(Fault::Limit));
     }
+    put(&mut state.wants, node, session, line.style, &names, flow)?;
     keep_call(
         state,
         node,
@@ -86,6 +89,7 @@ pub fn add_quit(state: &mut ScriptState, line: QuitLine) -> Result<Event, Refuse
     ensures ok { OnOk result (KeepsAll (Keeps (draft_of state.old) (kind.Quit line)) × Adds (draft_of state.old) (kind.Quit line) (draft_of state.new)) }
     ensures event { IfOk result (λ e. IsAdded (draft_of state.old).events e (draft_of state.new).events) }
     ensures refused { IfErr result (Refuses (draft_of state.old) (kind.Quit line)) }
+    ensures same { IfErr result (IsUntouched (draft_of state.old) (draft_of state.new)) }
 {
     let Some(session) = line.session.session() else {
         return Err(Refused::Fault(Fault::Range));
@@ -166,6 +170,47 @@ fn want_count(wants: &[LocalWant], node: u16, session: Session) -> usize
         .iter()
         .filter(|want| is_want_at(node, session, want))
         .count()
+}
+
+// The wants of the session at the node once more.
+fn own_wants(
+    alloc: Global,
+    wants: &[LocalWant],
+    node: u16,
+    session: Session,
+) -> Result<Vec<LocalWant>, Refused>
+    ensures ok { IfOk result (λ own. own.items ≡ wants_at wants.now node session) }
+    ensures refused { IfErr result OnlyNoMemory }
+{
+    let mut own = Vec::new(alloc);
+    for want in wants {
+        if is_want_at(node, session, want) {
+            own.push(LocalWant {
+                node: want.node,
+                session: want.session,
+                style: want.style,
+                part: want.part.copy(),
+            })?;
+        }
+    }
+    Ok(own)
+}
+
+// How many wants of the session there are at the node with what a line wants.
+fn count_with(
+    state: &ScriptState,
+    node: u16,
+    session: Session,
+    style: StyleKind,
+    names: &Senders,
+    flow: Flow,
+) -> Result<usize, Refused>
+    ensures ok { IfOk result (λ n. n ≡ length (wants_at (with_wants state.now.wants.items (wanted node session style names.now flow)) node session)) }
+    ensures refused { IfErr result OnlyNoMemory }
+{
+    let mut own = own_wants(state.alloc, state.wants.as_slice(), node, session)?;
+    put(&mut own, node, session, style, names, flow)?;
+    Ok(want_count(own.as_slice(), node, session))
 }
 
 // Whether one of the wants is of the session at the node.

@@ -1,5 +1,7 @@
 -- A fact that is to be left over: what its node answers, as the rules of the grammar.
-use Rattle.std.specs.Prelude.{◌≡◌, ℕ, ◌++◌, ◌∷◌, [], List}
+use Rattle.std.specs.Prelude.{◌≡◌, ℕ, ◌++◌, ◌∷◌, [], List, Result, Ok, Err, OnErr, OnOk}
+use Rattle.std.specs.List.{All}
+use Rattle.std.proofs.lemmas.List.Elements.{All-append, All-cons, All-nil}
 use Rattle.std.proofs.Common.{sym, subst}
 use Rattle.rsvp_base.specs.declared.session.Session.{Session}
 use Rattle.router_rules.specs.Bounds.{AreWithinLimits}
@@ -31,3 +33,8 @@ module _ (d : Draft) (node : ℕ) (s : Session) (f : Stale) (room : HasRoomForSe
     subst AreWithinLimits (sym (facts_more d.stale node f)) out.0,
     λ admitted. out.1 (subst (IsAdmittedIn (ifaces_at_node d.net.ends node) f) (facts_more d.stale node f) admitted),
   )
+
+-- what holds of all that was left over holds of all that is, whether one more was taken or not
+pub all_still : {A E X : Type 0} (P : X → Type 0) (r : Result A E) (old new : List X) (x : X) → All P old → P x → OnOk r (new ≡ old ++ x ∷ []) → OnErr r (new ≡ old) → All P new
+all_still P (Ok a) old new x fit one taken out = subst (All P) (sym taken) (All-append P old (x ∷ []) fit (All-cons P x [] one (All-nil P)))
+all_still P (Err e) old new x fit one taken out = subst (All P) (sym out) fit

@@ -9,7 +9,7 @@ ghost use Rattle.script_words.specs.Sessions.{IsSession, session_value};
 ghost use Rattle.tree_model.specs.Networks.{node_of};
 ghost use Rattle.script_state.specs.Said.{draft_of};
 ghost use Rattle.left_rules.specs.Forms.{IsResvForm};
-ghost use Rattle.script_state.specs.Refusals.{Refuses};
+ghost use Rattle.script_state.specs.Refusals.{IsUntouched, Refuses};
 ghost use Rattle.script_grammar.specs.Adds.{Adds};
 ghost use Rattle.script_grammar.specs.Draft.{end_number, lifetime, period_of};
 ghost use Rattle.script_grammar.specs.Rules.{IsListOfStyle, IsNewResv, Keeps, KeepsAll, sender_list};
@@ -29,6 +29,7 @@ pub fn add_resv(state: &mut ScriptState, line: StaleResvLine) -> Result<(), Refu
     requires { IsResvForm line.style line.senders }
     ensures ok { OnOk result (KeepsAll (Keeps (draft_of state.old) (kind.StaleResv line)) × Adds (draft_of state.old) (kind.StaleResv line) (draft_of state.new)) }
     ensures refused { IfErr result (Refuses (draft_of state.old) (kind.StaleResv line)) }
+    ensures same { IfErr result (IsUntouched (draft_of state.old) (draft_of state.new)) }
 {
     if !is_before_events(state) {
         return Err(Refused::Fault(Fault::Late));

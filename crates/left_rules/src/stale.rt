@@ -7,7 +7,7 @@ ghost use Rattle.script_words.specs.Sessions.{sender_value, session_value};
 ghost use Rattle.script_state.specs.Said.{draft_of};
 ghost use Rattle.script_state.specs.Fitness.{IsFitAt};
 ghost use Rattle.left_rules.specs.LeftRefusals.{IsLeft, IsNotLeft};
-ghost use Rattle.script_state.specs.Refusals.{Refuses};
+ghost use Rattle.script_state.specs.Refusals.{IsUntouched, Refuses};
 ghost use Rattle.script_grammar.specs.Adds.{Adds, with_stale};
 ghost use Rattle.script_grammar.specs.Draft.{end_number, lifetime, node_number, period_of, wall_lifetime};
 ghost use Rattle.script_grammar.specs.Rules.{IsEndOf, Keeps, KeepsAll};
@@ -27,6 +27,7 @@ use style_rules::{Target, Wall};
 pub fn add_path(state: &mut ScriptState, line: StalePathLine) -> Result<(), Refused>
     ensures ok { OnOk result (KeepsAll (Keeps (draft_of state.old) (kind.StalePath line)) × Adds (draft_of state.old) (kind.StalePath line) (draft_of state.new)) }
     ensures refused { IfErr result (Refuses (draft_of state.old) (kind.StalePath line)) }
+    ensures same { IfErr result (IsUntouched (draft_of state.old) (draft_of state.new)) }
 {
     if !is_before_events(state) {
         return Err(Refused::Fault(Fault::Late));
@@ -58,6 +59,7 @@ pub fn add_path(state: &mut ScriptState, line: StalePathLine) -> Result<(), Refu
 pub fn add_hop_wall(state: &mut ScriptState, line: StaleHopWallLine) -> Result<(), Refused>
     ensures ok { OnOk result (KeepsAll (Keeps (draft_of state.old) (kind.StaleHopWall line)) × Adds (draft_of state.old) (kind.StaleHopWall line) (draft_of state.new)) }
     ensures refused { IfErr result (Refuses (draft_of state.old) (kind.StaleHopWall line)) }
+    ensures same { IfErr result (IsUntouched (draft_of state.old) (draft_of state.new)) }
 {
     if !is_before_events(state) {
         return Err(Refused::Fault(Fault::Late));
@@ -85,6 +87,7 @@ pub fn add_hop_wall(state: &mut ScriptState, line: StaleHopWallLine) -> Result<(
 pub fn add_sender_wall(state: &mut ScriptState, line: StaleSenderWallLine) -> Result<(), Refused>
     ensures ok { OnOk result (KeepsAll (Keeps (draft_of state.old) (kind.StaleSenderWall line)) × Adds (draft_of state.old) (kind.StaleSenderWall line) (draft_of state.new)) }
     ensures refused { IfErr result (Refuses (draft_of state.old) (kind.StaleSenderWall line)) }
+    ensures same { IfErr result (IsUntouched (draft_of state.old) (draft_of state.new)) }
 {
     if !is_before_events(state) {
         return Err(Refused::Fault(Fault::Late));
@@ -223,13 +226,13 @@ pub fn leave(
     ensures left { OnOk result (IsLeft (draft_of state.old) node session (stale_of fact left)) }
     ensures kept { OnOk result (draft_of state.new ≡ with_stale (draft_of state.old) node session (stale_of fact left)) }
     ensures refused { IfErr result (IsNotLeft (draft_of state.old) node session (stale_of fact left)) }
+    ensures same { IfErr result (IsUntouched (draft_of state.old) (draft_of state.new)) }
 {
     if !has_room_for_session(state, session) {
         return Err(Refused::Fault(Fault::Limit));
     }
-    name_session(state, session)?;
     match state.left.add(state.topology.ends(), node, fact, left) {
-        Ok(()) => Ok(()),
+        Ok(()) => name_session(state, session),
         Err(LeftErr::Full) => Err(Refused::Fault(Fault::Limit)),
         Err(LeftErr::Over) => Err(Refused::Fault(Fault::Over)),
         Err(LeftErr::NoMemory) => Err(Refused::NoMemory),

@@ -10,10 +10,10 @@ use Rattle.script_grammar.specs.declared.line.Line.{Line}
 use Rattle.script_player.specs.Checking.{Feeds, IsGiven}
 use Rattle.script_player.specs.declared.checks.Refused.{Refused}
 use Rattle.script_player.specs.declared.checks.Refused.TheVariants.{Fault, NoMemory}
-use Rattle.script_state.specs.Refusals.{Refuses}
+use Rattle.script_state.specs.Refusals.{IsUntouched, Refuses}
 
 pub fed : (d : Draft) (text : List ℕ) (said : Line) → length text ≤ most_line → line_of text ≡ Some said → (r : Result (Option Event) Refused) (new : Draft) → OnOk r (KeepsAll (Keeps d said) × Adds d said new)
-    → IfOk r (λ e. IsGiven d.events e new.events) → IfErr r (Refuses d said) → Feeds d text r new
-fed d text said short reads (Ok e) new added given refused = record { follows = record { short = short; said = said; reads = reads; valid = added.0; adds = added.1 }; event = given }
-fed d text said short reads (Err (Fault why)) new added given refused = broken said why short reads refused
-fed d text said short reads (Err NoMemory) new added given refused = tt
+    → IfOk r (λ e. IsGiven d.events e new.events) → IfErr r (Refuses d said) → IfErr r (IsUntouched d new) → Feeds d text r new
+fed d text said short reads (Ok e) new added given refused same = record { follows = record { short = short; said = said; reads = reads; valid = added.0; adds = added.1 }; event = given }
+fed d text said short reads (Err (Fault why)) new added given refused same = (broken said why short reads refused, same)
+fed d text said short reads (Err NoMemory) new added given refused same = tt

@@ -4,7 +4,7 @@ ghost use Rattle.script_grammar.specs.Adds.{Adds};
 ghost use Rattle.script_grammar.specs.Rules.{KeepsAll, Keeps};
 ghost use Rattle.script_state.specs.Said.{draft_of};
 ghost use Rattle.script_checker.specs.Forms.{Formed};
-ghost use Rattle.script_state.specs.Refusals.{Refuses};
+ghost use Rattle.script_state.specs.Refusals.{IsUntouched, Refuses};
 ghost use Rattle.script_player.specs.Checking.{IsGiven};
 
 use net_replay::Event;
@@ -12,13 +12,14 @@ use script_grammar::Line;
 use script_player::Refused;
 use script_state::ScriptState;
 
-/// Adds what a line says, and gives its event if it is one of part 3. `Fault`: the line breaks a rule, and this is the fault of
-/// the first that it breaks. `NoMemory`: memory ran out.
+/// Adds what a line says, and gives its event if it is one of part 3. `Fault`: the line breaks a rule, this is the fault of the
+/// first that it breaks, and the lines so far stay as they were. `NoMemory`: memory ran out.
 pub fn add(state: &mut ScriptState, line: Line) -> Result<Option<Event>, Refused>
     requires { Formed line }
     ensures ok { OnOk result (KeepsAll (Keeps (draft_of state.old) line) × Adds (draft_of state.old) line (draft_of state.new)) }
     ensures given { IfOk result (λ e. IsGiven (draft_of state.old).events e (draft_of state.new).events) }
     ensures refused { IfErr result (Refuses (draft_of state.old) line) }
+    ensures same { IfErr result (IsUntouched (draft_of state.old) (draft_of state.new)) }
 {
     match line {
         Line::Skipped => Ok(None),

@@ -9,5 +9,5 @@ use Rattle.script_player.specs.declared.checks.Refused.TheVariants.{Fault, NoMem
 use Rattle.script_demand.specs.Feeding.{MatchRefused}
 
 pub fed_refused : (d : Draft) (line : List ℕ) (refused : Refused) (new : Draft) → Feeds d line (Err refused) new → MatchRefused (HasFault d line) refused
-fed_refused d line (Fault why) new fed = fed
+fed_refused d line (Fault why) new fed = fed.0
 fed_refused d line NoMemory new fed = tt

@@ -29,10 +29,10 @@ pub record IsTaken (d : Draft) (line : List ℕ) (given : Option Event) (new : D
   pub follows : Follows d line new
   pub event : IsGiven d.events given new.events
 
--- a line was taken behind those before; or it has this fault; or memory ran out
+-- a line was taken behind those before; or it has this fault, and they stay the lines so far; or memory ran out
 abbrev pub Feeds : Draft → List ℕ → Result (Option Event) Refused → Draft → Type 0
 Feeds d line (Ok given) new = IsTaken d line given new
-Feeds d line (Err (Fault why)) new = HasFault d line why
+Feeds d line (Err (Fault why)) new = HasFault d line why × (new ≡ d)
 Feeds d line (Err NoMemory) new = Unit {0}
 
 -- these lines declare the network of the plan

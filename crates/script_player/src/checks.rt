@@ -64,8 +64,8 @@ pub trait Checks {
     /// The draft that the lines so far make.
     ghost lines: { Self → Draft };
 
-    /// Takes a line, and gives its event if it is one of part 3. `Fault`: exactly where the line cannot follow those before.
-    /// `NoMemory`: memory ran out. After a refusal nothing more may be fed.
+    /// Takes a line, and gives its event if it is one of part 3. `Fault`: exactly where the line cannot follow those before,
+    /// which stay the lines so far. `NoMemory`: memory ran out, and nothing more may be fed.
     fn feed(&mut self, line: &[u8]) -> Result<Option<Event>, Refused>
         requires { length line.now ≤ 2048 }
         ensures { Feeds (lines self.old) line.now result (lines self.new) };

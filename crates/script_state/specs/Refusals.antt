@@ -1,4 +1,5 @@
 -- Why a line was not taken.
+use Rattle.std.specs.Prelude.{◌≡◌}
 use Rattle.script_grammar.specs.Draft.{Draft}
 use Rattle.script_grammar.specs.Rules.{Closes, Keeps, BreaksFirst}
 use Rattle.script_grammar.specs.declared.line.Line.{Line}
@@ -9,6 +10,11 @@ use Rattle.script_player.specs.declared.checks.Refused.TheVariants.{Fault, NoMem
 abbrev pub Refuses : Draft → Line → Refused → Type 0
 Refuses d l (Fault why) = BreaksFirst (Keeps d l) (Closes d l) why
 Refuses d l NoMemory = Unit {0}
+
+-- where it has a fault, the lines so far stay as they were
+abbrev pub IsUntouched : Draft → Draft → Refused → Type 0
+IsUntouched old new (Fault why) = new ≡ old
+IsUntouched old new NoMemory = Unit {0}
 
 -- it is for want of memory
 abbrev pub OnlyNoMemory : Refused → Type 0

@@ -3,7 +3,7 @@ ghost use Rattle.std.specs.Prelude.{◌≡◌, ◌+◌, ◌<◌, ◌≤◌, ◌�
 ghost use Rattle.script_words.specs.Addresses.{addr_value};
 ghost use Rattle.tree_routing.specs.Answers.{TakesEnd, with_end};
 ghost use Rattle.script_state.specs.Said.{draft_of};
-ghost use Rattle.script_state.specs.Refusals.{OnlyNoMemory, Refuses};
+ghost use Rattle.script_state.specs.Refusals.{IsUntouched, OnlyNoMemory, Refuses};
 ghost use Rattle.script_grammar.specs.Adds.{Adds};
 ghost use Rattle.script_grammar.specs.Draft.{place_of};
 ghost use Rattle.script_grammar.specs.Rules.{Keeps, KeepsAll, OnlyDeclares};
@@ -21,6 +21,7 @@ use tree_routing::End;
 pub fn add_end(state: &mut ScriptState, line: EndLine) -> Result<(), Refused>
     ensures ok { OnOk result (KeepsAll (Keeps (draft_of state.old) (kind.End line)) × Adds (draft_of state.old) (kind.End line) (draft_of state.new)) }
     ensures refused { IfErr result (Refuses (draft_of state.old) (kind.End line)) }
+    ensures same { IfErr result (IsUntouched (draft_of state.old) (draft_of state.new)) }
 {
     if !only_declares(state) {
         return Err(Refused::Fault(Fault::Late));

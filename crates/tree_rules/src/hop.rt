@@ -5,7 +5,7 @@ ghost use Rattle.tree_model.specs.Ranks.{IsLoopFreeIn};
 ghost use Rattle.tree_routing.specs.Answers.{Fits, with_hop};
 ghost use Rattle.script_state.specs.Said.{draft_of};
 ghost use Rattle.tree_rules.specs.HopRefusals.{IsHopRefused, IsLoopNamed};
-ghost use Rattle.script_state.specs.Refusals.{Refuses};
+ghost use Rattle.script_state.specs.Refusals.{IsUntouched, Refuses};
 ghost use Rattle.script_grammar.specs.Adds.{Adds, with_tree_hop};
 ghost use Rattle.script_grammar.specs.Rules.{IsEnd, Keeps, KeepsAll, OnlyDeclares};
 ghost use Rattle.script_grammar.specs.Values.{hop_value};
@@ -22,6 +22,7 @@ use tree_routing::{HopErr, LinkHop, TreeHop};
 pub fn add_hop(state: &mut ScriptState, line: HopLine) -> Result<(), Refused>
     ensures ok { OnOk result (KeepsAll (Keeps (draft_of state.old) (kind.Hop line)) × Adds (draft_of state.old) (kind.Hop line) (draft_of state.new)) }
     ensures refused { IfErr result (Refuses (draft_of state.old) (kind.Hop line)) }
+    ensures same { IfErr result (IsUntouched (draft_of state.old) (draft_of state.new)) }
 {
     if !only_declares(state) {
         return Err(Refused::Fault(Fault::Late));
@@ -73,6 +74,7 @@ fn grow(state: &mut ScriptState, hop: TreeHop) -> Result<(), Refused>
     requires early { OnlyDeclares (draft_of state.old) }
     ensures ok { OnOk result (Fits state.old.topology hop × IsLoopFreeIn (with_hop state.old.topology hop) hop.group × (draft_of state.new ≡ with_tree_hop (draft_of state.old) hop)) }
     ensures refused { IfErr result (IsHopRefused (draft_of state.old) hop) }
+    ensures same { IfErr result (IsUntouched (draft_of state.old) (draft_of state.new)) }
 {
     let TreeHop { group, source, hop } = hop;
     match state.topology.add_hop(group, source, hop.from, hop.to) {

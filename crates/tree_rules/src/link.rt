@@ -5,7 +5,7 @@ ghost use Rattle.rsvp_base.specs.Members.{In};
 ghost use Rattle.tree_model.specs.Networks.{link_of};
 ghost use Rattle.script_state.specs.Said.{draft_of};
 ghost use Rattle.tree_rules.specs.LinkEnds.{are_apart, is_at, is_known, node_at};
-ghost use Rattle.script_state.specs.Refusals.{Refuses};
+ghost use Rattle.script_state.specs.Refusals.{IsUntouched, Refuses};
 ghost use Rattle.script_grammar.specs.Adds.{Adds, link_value};
 ghost use Rattle.script_grammar.specs.Draft.{end_named, end_number};
 ghost use Rattle.script_grammar.specs.Rules.{Keeps, KeepsAll};
@@ -22,6 +22,7 @@ use tree_routing::Topology;
 pub fn add_link(state: &mut ScriptState, names: LinkEnds) -> Result<(), Refused>
     ensures ok { OnOk result (KeepsAll (Keeps (draft_of state.old) (kind.Link names)) × Adds (draft_of state.old) (kind.Link names) (draft_of state.new)) }
     ensures refused { IfErr result (Refuses (draft_of state.old) (kind.Link names)) }
+    ensures same { IfErr result (IsUntouched (draft_of state.old) (draft_of state.new)) }
 {
     if !only_declares(state) {
         return Err(Refused::Fault(Fault::Late));

@@ -1,7 +1,7 @@
 //! The rules of `node`.
 ghost use Rattle.std.specs.Prelude.{◌≡◌, IfErr, OnOk};
 ghost use Rattle.script_state.specs.Said.{draft_of};
-ghost use Rattle.script_state.specs.Refusals.{Refuses};
+ghost use Rattle.script_state.specs.Refusals.{IsUntouched, Refuses};
 ghost use Rattle.script_grammar.specs.Adds.{Adds};
 ghost use Rattle.script_grammar.specs.Rules.{Keeps, KeepsAll};
 ghost use Rattle.script_grammar.specs.declared.line.Line.TheVariants as kind;
@@ -17,6 +17,7 @@ const MOST_NODES: usize = 256;
 pub fn add_node(state: &mut ScriptState, name: EndName) -> Result<(), Refused>
     ensures ok { OnOk result (KeepsAll (Keeps (draft_of state.old) (kind.Node name)) × Adds (draft_of state.old) (kind.Node name) (draft_of state.new)) }
     ensures refused { IfErr result (Refuses (draft_of state.old) (kind.Node name)) }
+    ensures same { IfErr result (IsUntouched (draft_of state.old) (draft_of state.new)) }
 {
     if !only_declares(state) {
         return Err(Refused::Fault(Fault::Late));

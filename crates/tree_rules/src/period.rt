@@ -1,7 +1,7 @@
 //! The rules of `period` and `seed`.
 ghost use Rattle.std.specs.Prelude.{◌≡◌, IfErr, OnOk};
 ghost use Rattle.script_state.specs.Said.{draft_of};
-ghost use Rattle.script_state.specs.Refusals.{Refuses};
+ghost use Rattle.script_state.specs.Refusals.{IsUntouched, Refuses};
 ghost use Rattle.script_grammar.specs.Adds.{Adds};
 ghost use Rattle.script_grammar.specs.Rules.{Keeps, KeepsAll};
 ghost use Rattle.script_grammar.specs.declared.line.Line.TheVariants as kind;
@@ -14,6 +14,7 @@ use script_state::{ScriptState, only_declares};
 pub fn add_period(state: &mut ScriptState, ms: u128) -> Result<(), Refused>
     ensures ok { OnOk result (KeepsAll (Keeps (draft_of state.old) (kind.Period ms)) × Adds (draft_of state.old) (kind.Period ms) (draft_of state.new)) }
     ensures refused { IfErr result (Refuses (draft_of state.old) (kind.Period ms)) }
+    ensures same { IfErr result (IsUntouched (draft_of state.old) (draft_of state.new)) }
 {
     if state.nodes.len() > 0 || !only_declares(state) {
         return Err(Refused::Fault(Fault::Late));
@@ -32,6 +33,7 @@ pub fn add_period(state: &mut ScriptState, ms: u128) -> Result<(), Refused>
 pub fn add_seed(state: &mut ScriptState, seed: u128) -> Result<(), Refused>
     ensures ok { OnOk result (KeepsAll (Keeps (draft_of state.old) (kind.Seed seed)) × Adds (draft_of state.old) (kind.Seed seed) (draft_of state.new)) }
     ensures refused { IfErr result (Refuses (draft_of state.old) (kind.Seed seed)) }
+    ensures same { IfErr result (IsUntouched (draft_of state.old) (draft_of state.new)) }
 {
     if state.nodes.len() > 0 || !only_declares(state) {
         return Err(Refused::Fault(Fault::Late));

@@ -6,7 +6,7 @@ ghost use Rattle.network_model.specs.Events.{Reroutes};
 ghost use Rattle.net_replay.specs.Moving.{CanMove};
 ghost use Rattle.script_state.specs.Said.{draft_of};
 ghost use Rattle.script_state.specs.Events.{event_of};
-ghost use Rattle.script_state.specs.Refusals.{OnlyNoMemory, Refuses};
+ghost use Rattle.script_state.specs.Refusals.{IsUntouched, OnlyNoMemory, Refuses};
 ghost use Rattle.script_player.specs.Checking.{IsAdded};
 ghost use Rattle.tree_rules.specs.TreeRefusals.{IsTreeRefused, moved_to};
 ghost use Rattle.script_grammar.specs.Adds.{Adds};
@@ -31,6 +31,7 @@ pub fn add_reroute(state: &mut ScriptState, line: RerouteLine) -> Result<Event, 
     ensures ok { OnOk result (KeepsAll (Keeps (draft_of state.old) (kind.Reroute line)) × Adds (draft_of state.old) (kind.Reroute line) (draft_of state.new)) }
     ensures event { IfOk result (λ e. IsAdded (draft_of state.old).events e (draft_of state.new).events) }
     ensures refused { IfErr result (Refuses (draft_of state.old) (kind.Reroute line)) }
+    ensures same { IfErr result (IsUntouched (draft_of state.old) (draft_of state.new)) }
 {
     let Some((group, source)) = tree_of(line.group, line.source) else {
         return Err(Refused::Fault(Fault::Range));
