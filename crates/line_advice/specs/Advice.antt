@@ -1,17 +1,18 @@
 -- The line of text that tells what is wrong with a line.
 use Rattle.std.specs.Prelude.{◌≡◌, ◌⊎◌, ℕ, List, [], ◌++◌, Option, None, Some, codes, option_and_then}
 use Rattle.std.specs.Fmt.{decimal}
-use Rattle.script_grammar.specs.Draft.{period_of}
+use Rattle.script_grammar.specs.Draft.{Draft}
 use Rattle.script_grammar.specs.Grammar.{IsBadLine}
 use Rattle.script_grammar.specs.declared.fault.Fault.{Fault}
 use Rattle.line_advice.specs.Blames.{IsBlamed}
 use Rattle.line_advice.specs.FieldTexts.{form_text, range_text}
 use Rattle.line_advice.specs.KindTexts.{first_text, usage_text}
+use Rattle.line_advice.specs.Names.{named_text}
 use Rattle.line_advice.specs.Places.{word_at}
 use Rattle.line_advice.specs.RuleTexts.{rule_word, rule_text}
 use Rattle.word_quotes.specs.Quotes.{quoted, strange_text}
 use Rattle.line_advice.specs.declared.blame.Blame.{Blame}
-use Rattle.line_advice.specs.declared.blame.Blame.TheVariants.{First, Count, Form, Range, Long, Rule}
+use Rattle.line_advice.specs.declared.blame.Blame.TheVariants.{First, Count, Form, Range, Unknown, Long, Rule}
 
 -- what is wanted
 abbrev pub wanted_text : Blame → List ℕ
@@ -19,6 +20,7 @@ wanted_text First = first_text
 wanted_text (Count kind) = usage_text kind
 wanted_text (Form word field) = form_text field
 wanted_text (Range word field period) = range_text period field
+wanted_text (Unknown word what) = named_text what
 wanted_text Long = codes "a line has at most 2048 bytes"
 wanted_text (Rule rule kind) = rule_text rule kind
 
@@ -28,6 +30,7 @@ number_of_word First = Some 0
 number_of_word (Count kind) = None
 number_of_word (Form word field) = Some word
 number_of_word (Range word field period) = Some word
+number_of_word (Unknown word what) = Some word
 number_of_word Long = None
 number_of_word (Rule rule kind) = rule_word rule kind
 
@@ -43,15 +46,15 @@ abbrev pub advice_text : List ℕ → Blame → List ℕ
 advice_text line blame = told_text (blamed_word line blame) (wanted_text blame)
 
 -- what is to blame was told; or nothing was, since memory ran out
-pub record IsTold (period : ℕ) (line : List ℕ) (why : Fault) (text : List ℕ) : Type 0 where
+pub record IsTold (d : Draft) (line : List ℕ) (why : Fault) (text : List ℕ) : Type 0 where
   pub blame : Blame
-  pub blamed : IsBlamed period line why blame
+  pub blamed : IsBlamed d line why blame
   pub told : text ≡ advice_text line blame
 
-abbrev pub IsAdvice : ℕ → List ℕ → Fault → List ℕ → Type 0
-IsAdvice period line why text = (text ≡ []) ⊎ IsTold period line why text
+abbrev pub IsAdvice : Draft → List ℕ → Fault → List ℕ → Type 0
+IsAdvice d line why text = (text ≡ []) ⊎ IsTold d line why text
 
 -- the line of this number of these bytes is the first bad one, and what is wrong with it was told
 pub record IsToldLine (number : ℕ) (why : Fault) (bytes text : List ℕ) : Type 0 where
   pub bad : IsBadLine bytes number why
-  pub told : IsAdvice (period_of bad.lines) bad.text why text
+  pub told : IsAdvice bad.lines bad.text why text

@@ -1,13 +1,15 @@
 -- What of a bad line breaks the rule: the first word that does, where one alone does; else the line as a whole.
 use Rattle.std.specs.Prelude.{◌≡◌, ◌⊎◌, ℕ, ◌+◌, ◌<◌, ◌≤◌, List, [], ◌∷◌, true, false, Option, None, Some, drop, length, if◌then◌else◌}
 use Rattle.script_words.specs.Words.{words_of}
+use Rattle.script_grammar.specs.Draft.{Draft, period_of}
 use Rattle.script_grammar.specs.Grammar.{most_line}
 use Rattle.script_grammar.specs.declared.fault.Fault.{Fault}
 use Rattle.script_grammar.specs.declared.fault.Fault.TheVariants as fault
 use Rattle.line_advice.specs.Fields.{IsInRange, has_form}
 use Rattle.line_advice.specs.Kinds.{field_at, has_count, kind_of}
+use Rattle.line_advice.specs.Names.{named_at, unknown_from}
 use Rattle.line_advice.specs.declared.blame.Blame.{Blame}
-use Rattle.line_advice.specs.declared.blame.Blame.TheVariants.{First, Count, Form, Range, Long, Rule}
+use Rattle.line_advice.specs.declared.blame.Blame.TheVariants.{First, Count, Form, Range, Unknown, Long, Rule}
 use Rattle.line_advice.specs.declared.kind.Kind.{Kind}
 use Rattle.line_advice.specs.declared.rule.Rule.{Rule as ARule}
 use Rattle.line_advice.specs.declared.rule.Rule.TheVariants as rule
@@ -60,25 +62,39 @@ IsOutOfRange period words (Range word field at) = (place : ℕ) × (wrong : AreO
 IsOutOfRange period words (Rule broken kind) = (wrong : AreOut period words None) × (kind ≡ wrong.kind) × (broken ≡ rule.InRange)
 IsOutOfRange period words _ = ⊥
 
+-- ---- names of what no line so far declares: the first such word; or, where each name is declared, the rule for all of them
+abbrev pub IsFirstUnknown : Draft → Kind → List (List ℕ) → Option ℕ → Type 0
+IsFirstUnknown d kind behind found = unknown_from d kind 0 behind ≡ found
+
+pub record AreUnknown (d : Draft) (words : List (List ℕ)) (found : Option ℕ) : Type 0 where
+  pub kind : Kind
+  pub of_kind : kind_of words ≡ Some kind
+  pub first : IsFirstUnknown d kind (behind_first words) found
+
+abbrev pub IsUnknown : Draft → List (List ℕ) → Blame → Type 0
+IsUnknown d words (Unknown word what) = (place : ℕ) × (wrong : AreUnknown d words (Some place)) × (word ≡ place + 1) × (named_at wrong.kind place ≡ Some what)
+IsUnknown d words (Rule broken kind) = (wrong : AreUnknown d words None) × (kind ≡ wrong.kind) × (broken ≡ rule.Known)
+IsUnknown d words _ = ⊥
+
 -- ---- another rule, by the kind of the line
 abbrev pub IsOfRule : ARule → List (List ℕ) → Blame → Type 0
 IsOfRule wanted words (Rule broken kind) = (broken ≡ wanted) × (kind_of words ≡ Some kind)
 IsOfRule wanted words _ = ⊥
 
--- ---- what is to blame for a fault, where the refresh period is this
-abbrev pub IsBlamedOf : ℕ → List (List ℕ) → Fault → Blame → Type 0
-IsBlamedOf period words fault.Word blame = IsMisread words blame
-IsBlamedOf period words fault.Late blame = IsOfRule rule.InTime words blame
-IsBlamedOf period words fault.Range blame = IsOutOfRange period words blame
-IsBlamedOf period words fault.Name blame = IsOfRule rule.Known words blame
-IsBlamedOf period words fault.Twice blame = IsOfRule rule.New words blame
-IsBlamedOf period words fault.Style blame = IsOfRule rule.OfStyle words blame
-IsBlamedOf period words fault.Limit blame = IsOfRule rule.WithinLimits words blame
-IsBlamedOf period words fault.NotTree blame = IsOfRule rule.OfTree words blame
-IsBlamedOf period words fault.Over blame = IsOfRule rule.WithinCapacity words blame
-IsBlamedOf period words (fault.Loop group from to) blame = IsOfRule rule.LoopFree words blame
+-- ---- what is to blame for a fault behind these lines
+abbrev pub IsBlamedOf : Draft → List (List ℕ) → Fault → Blame → Type 0
+IsBlamedOf d words fault.Word blame = IsMisread words blame
+IsBlamedOf d words fault.Late blame = IsOfRule rule.InTime words blame
+IsBlamedOf d words fault.Range blame = IsOutOfRange (period_of d) words blame
+IsBlamedOf d words fault.Name blame = IsUnknown d words blame
+IsBlamedOf d words fault.Twice blame = IsOfRule rule.New words blame
+IsBlamedOf d words fault.Style blame = IsOfRule rule.OfStyle words blame
+IsBlamedOf d words fault.Limit blame = IsOfRule rule.WithinLimits words blame
+IsBlamedOf d words fault.NotTree blame = IsOfRule rule.OfTree words blame
+IsBlamedOf d words fault.Over blame = IsOfRule rule.WithinCapacity words blame
+IsBlamedOf d words (fault.Loop group from to) blame = IsOfRule rule.LoopFree words blame
 
 -- of a line that is too long its length
-abbrev pub IsBlamed : ℕ → List ℕ → Fault → Blame → Type 0
-IsBlamed period line why Long = most_line < length line
-IsBlamed period line why blame = (length line ≤ most_line) × IsBlamedOf period (words_of line) why blame
+abbrev pub IsBlamed : Draft → List ℕ → Fault → Blame → Type 0
+IsBlamed d line why Long = most_line < length line
+IsBlamed d line why blame = (length line ≤ most_line) × IsBlamedOf d (words_of line) why blame

@@ -1,7 +1,7 @@
 -- What a rule says of the lines of a kind, and of which word alone, if it is one.
 use Rattle.std.specs.Prelude.{ℕ, List, Option, None, Some, codes}
 use Rattle.line_advice.specs.declared.kind.Kind.{Kind}
-use Rattle.line_advice.specs.declared.kind.Kind.TheVariants.{Period, Seed, Node, End, Link, Hop, StalePath, StaleResv, WildResv, HopBlockade, SenderBlockade, Send, Drop, Want, WildWant, Quit, Clear, Inject, Report, Reroute}
+use Rattle.line_advice.specs.declared.kind.Kind.TheVariants.{Period, Seed, Node, End, Link, Hop, StalePath, StaleResv, WildResv, HopBlockade, SenderBlockade, Send, Drop, Want, WildWant, Quit, Reroute}
 use Rattle.line_advice.specs.declared.rule.Rule.{Rule}
 use Rattle.line_advice.specs.declared.rule.Rule.TheVariants.{InTime, InRange, Known, New, OfStyle, WithinLimits, OfTree, WithinCapacity, LoopFree}
 
@@ -17,21 +17,16 @@ in_time_text kind = codes "what is left over comes before what happens"
 abbrev pub in_range_text : Kind → List ℕ
 in_range_text kind = codes "the ends of a link are of different nodes"
 
+-- where each node and each end is declared
 abbrev pub known_text : Kind → List ℕ
-known_text End = codes "no earlier line declares a node of this name"
-known_text Link = codes "each end of a link is declared by an earlier line"
-known_text Hop = codes "the ends of a hop are declared by earlier lines, and its source is the address of an end"
-known_text StalePath = codes "NODE and END are declared by earlier lines, and END is of NODE"
-known_text StaleResv = codes "no earlier line declares an end of this name"
-known_text WildResv = codes "no earlier line declares an end of this name"
-known_text HopBlockade = codes "NODE and END are declared by earlier lines, and END is of NODE"
-known_text Send = codes "NODE is declared by an earlier line, and the address of SENDER is that of one of its ends"
-known_text Drop = codes "NODE is declared by an earlier line, and sends as SENDER in this session"
-known_text Quit = codes "NODE is declared by an earlier line, and wants something of this session"
-known_text Inject = codes "no earlier line declares an end of this name"
-known_text Report = codes "no earlier line declares an end of this name"
-known_text Reroute = codes "the ends are declared by earlier lines, SOURCE is the address of an end, and a hop line has this GROUP and SOURCE"
-known_text kind = codes "no earlier line declares a node of this name"
+known_text Hop = codes "no end has this address"
+known_text StalePath = codes "no end of NODE has this name"
+known_text HopBlockade = codes "no end of NODE has this name"
+known_text Send = codes "no end of NODE has the address of this sender"
+known_text Drop = codes "NODE sends as SENDER in this session"
+known_text Quit = codes "NODE wants something of this session"
+known_text Reroute = codes "a hop line has this GROUP and SOURCE"
+known_text kind = codes "an earlier line declares each node and each end"
 
 abbrev pub new_text : Kind → List ℕ
 new_text Period = codes "the period is given once"
@@ -87,15 +82,10 @@ rule_text LoopFree kind = loop_free_text kind
 
 -- the number of that word, from 0
 abbrev pub known_word : Kind → Option ℕ
-known_word End = Some 2
-known_word StaleResv = Some 1
-known_word WildResv = Some 1
-known_word SenderBlockade = Some 1
-known_word Want = Some 1
-known_word WildWant = Some 1
-known_word Clear = Some 1
-known_word Inject = Some 1
-known_word Report = Some 1
+known_word Hop = Some 2
+known_word StalePath = Some 4
+known_word HopBlockade = Some 4
+known_word Send = Some 3
 known_word kind = None
 
 abbrev pub new_word : Kind → Option ℕ

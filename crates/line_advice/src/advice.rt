@@ -1,10 +1,12 @@
 //! The line of text that tells what is wrong with a line.
 ghost use Rattle.std.specs.Prelude.{◌≡◌, ◌<◌, ◌++◌, ℕ, List, MatchOption, None, OnOk, Some, length};
+ghost use Rattle.script_grammar.specs.Draft.{Draft};
 ghost use Rattle.script_grammar.specs.Grammar.{most_line};
 ghost use Rattle.script_grammar.specs.declared.fault.Fault.{Fault as AFault};
 ghost use Rattle.line_advice.specs.Advice.{IsAdvice, advice_text, blamed_word, number_of_word, told_text, wanted_text};
 
 use crate::blame::{Blame, find_blame};
+use crate::named::{LinesBefore, named_text};
 use crate::place::word_at;
 use crate::texts::{first_text, form_text, put_range, rule_text, rule_word, usage_text};
 use rsvp_base::NoMemory;
@@ -14,13 +16,19 @@ use value_texts::{put, put_number};
 use word_quotes::{put_quoted, put_strange};
 
 /// Makes `advice` the text that tells what is wrong with a line that has this fault, without a line feed: two spaces, the column
-/// and the word that is to blame, if it is one, and what is wanted. `period` is the refresh period behind the lines before, in
-/// milliseconds. Where memory runs out, `advice` is empty.
-pub fn put_advice(alloc: Global, period: u32, line: &[u8], why: &Fault, advice: &mut Vec<u8>)
-    ensures { IsAdvice period line.now why.now advice.new.items }
+/// and the word that is to blame, if it is one, and what is wanted. `before` are the lines before. Where memory runs out, `advice` is
+/// empty.
+pub fn put_advice<B: LinesBefore>(
+    alloc: Global,
+    before: &B,
+    line: &[u8],
+    why: &Fault,
+    advice: &mut Vec<u8>,
+)
+    ensures { IsAdvice (B.lines before.now) line.now why.now advice.new.items }
 {
     advice.clear();
-    let Some(blame) = find_blame(alloc, period, line, why) else {
+    let Some(blame) = find_blame(alloc, before, line, why) else {
         return;
     };
     if put_told(advice, line, blame).is_err() {
@@ -30,7 +38,7 @@ pub fn put_advice(alloc: Global, period: u32, line: &[u8], why: &Fault, advice: 
 
 /// The same of a line of more than 2,048 bytes, whatever these are.
 pub fn put_long(advice: &mut Vec<u8>)
-    ensures { (period : ℕ) (line : List ℕ) (why : AFault) → most_line < length line → IsAdvice period line why advice.new.items }
+    ensures { (d : Draft) (line : List ℕ) (why : AFault) → most_line < length line → IsAdvice d line why advice.new.items }
 {
     advice.clear();
     if put_told(advice, b"", Blame::Long).is_err() {
@@ -84,6 +92,7 @@ fn put_wanted(out: &mut Vec<u8>, blame: Blame) -> Result<(), NoMemory>
             field,
             period,
         } => put_range(out, period, field),
+        Blame::Unknown { word: _, named } => put(out, named_text(named)),
         Blame::Long => put(out, b"a line has at most 2048 bytes"),
         Blame::Rule { rule, kind } => put(out, rule_text(rule, kind)),
     }
@@ -103,6 +112,7 @@ fn number_of_word(blame: Blame) -> Option<usize>
         Blame::First => Some(0),
         Blame::Form { word, field: _ } => Some(word),
         Blame::Range { word, .. } => Some(word),
+        Blame::Unknown { word, named: _ } => Some(word),
         Blame::Rule { rule, kind } => rule_word(rule, kind),
         _ => None,
     }

@@ -1,9 +1,10 @@
 //! What of a bad line breaks the rule.
 ghost use Rattle.std.specs.Prelude.{◌≡◌, ◌<◌, IfOk, IfSome, Some, length, map};
-ghost use Rattle.line_advice.specs.Blames.{IsBlamed, IsBlamedOf, IsFirstOut, IsMisread, IsOfRule, IsOutOfRange, behind_first, unformed_from};
+ghost use Rattle.line_advice.specs.Blames.{IsBlamed, IsBlamedOf, IsFirstOut, IsFirstUnknown, IsMisread, IsOfRule, IsOutOfRange, IsUnknown, behind_first, unformed_from};
 
 use crate::field::Field;
 use crate::kind::Kind;
+use crate::named::{LinesBefore, Named, is_known};
 use crate::rule::Rule;
 use rsvp_base::NoMemory;
 use script_grammar::Fault;
@@ -28,6 +29,11 @@ pub enum Blame {
         field: Field,
         period: u32,
     },
+    /// The word of this number, which is the name of what no line before declares.
+    Unknown {
+        word: usize,
+        named: Named,
+    },
     /// Its length.
     Long,
     /// What this rule says of lines of this kind.
@@ -40,30 +46,39 @@ pub enum Blame {
 // The most bytes of a line, its line feed not counted.
 const MOST_LINE: usize = 2048;
 
-/// What of a line with this fault breaks the rule: the first word that does, where one alone does. `period` is the refresh period
-/// behind the lines before, in milliseconds.
+/// What of a line with this fault behind these lines breaks the rule: the first word that does, where one alone does.
 ///
 /// `None`: memory ran out, or the line has not this fault.
-pub fn find_blame(alloc: Global, period: u32, line: &[u8], why: &Fault) -> Option<Blame>
-    ensures { IfSome result (IsBlamed period line.now why.now) }
+pub fn find_blame<B: LinesBefore>(
+    alloc: Global,
+    before: &B,
+    line: &[u8],
+    why: &Fault,
+) -> Option<Blame>
+    ensures { IfSome result (IsBlamed (B.lines before.now) line.now why.now) }
 {
     if line.len() > MOST_LINE {
         return Some(Blame::Long);
     }
     let mut words = Vec::new(alloc);
     read_words(line, &mut words).ok()?;
-    blame_of(alloc, period, words.as_slice(), why)
+    blame_of(alloc, before, words.as_slice(), why)
 }
 
 // What of a line with these words breaks the rule.
-fn blame_of(alloc: Global, period: u32, words: &[&[u8]], why: &Fault) -> Option<Blame>
-    ensures { IfSome result (IsBlamedOf period (map (λ w. w.now) words.now) why.now) }
+fn blame_of<B: LinesBefore>(
+    alloc: Global,
+    before: &B,
+    words: &[&[u8]],
+    why: &Fault,
+) -> Option<Blame>
+    ensures { IfSome result (IsBlamedOf (B.lines before.now) (map (λ w. w.now) words.now) why.now) }
 {
     match why {
         Fault::Word => misread(alloc, words),
         Fault::Late => of_rule(Rule::InTime, words),
-        Fault::Range => out_of_range(alloc, period, words),
-        Fault::Name => of_rule(Rule::Known, words),
+        Fault::Range => out_of_range(alloc, before.period(), words),
+        Fault::Name => unknown(before, words),
         Fault::Twice => of_rule(Rule::New, words),
         Fault::Style => of_rule(Rule::OfStyle, words),
         Fault::Limit => of_rule(Rule::WithinLimits, words),
@@ -166,4 +181,39 @@ fn first_out(
         rest = behind;
     }
     Ok(None)
+}
+
+// What of these words names what no line before declares.
+fn unknown<B: LinesBefore>(before: &B, words: &[&[u8]]) -> Option<Blame>
+    ensures { IfSome result (IsUnknown (B.lines before.now) (map (λ w. w.now) words.now)) }
+{
+    let kind = Kind::of(words)?;
+    let Some(place) = first_unknown(before, kind, behind_first(words)) else {
+        return Some(Blame::Rule {
+            rule: Rule::Known,
+            kind,
+        });
+    };
+    let named = kind.named_at(place)?;
+    Some(Blame::Unknown {
+        word: place + 1,
+        named,
+    })
+}
+
+// The place of the first of these words that is a name of what no line before declares. `None` exactly where there is none.
+fn first_unknown<B: LinesBefore>(before: &B, kind: Kind, words: &[&[u8]]) -> Option<usize>
+    ensures first { IsFirstUnknown (B.lines before.now) kind (map (λ w. w.now) words.now) result }
+    ensures within { IfSome result (λ place. place < length words.now) }
+{
+    let mut place: usize = 0;
+    let mut rest = words;
+    while let [word, behind @ ..] = rest {
+        if !is_known(before, kind.named_at(place), word) {
+            return Some(place);
+        }
+        place += 1;
+        rest = behind;
+    }
+    None
 }

@@ -1,6 +1,6 @@
 //! What is wrong with a bad line, in words: which of its words breaks the rule, and what is wanted there.
 //!
-//! Each kind of line has its fields (`Kind`, `Field`). `find_blame` finds by the fault of a line the word that breaks the rule, and
+//! Each kind of line has its fields (`Kind`, `Field`). `find_blame` finds by the fault of a line and by the lines before it (`LinesBefore`) the word that breaks the rule, and
 //! `put_advice` writes the line of text that tells it: the column, the word and what is wanted. Both are exactly their
 //! definitions in `specs/`. It stands on `script_grammar` for the faults and the ranges, and on `script_words` for the words.
 #![tactic(auto)]
@@ -9,6 +9,7 @@ mod advice;
 mod blame;
 mod field;
 mod kind;
+mod named;
 mod place;
 mod rule;
 mod texts;
@@ -17,4 +18,5 @@ pub use advice::{put_advice, put_long};
 pub use blame::{Blame, find_blame};
 pub use field::Field;
 pub use kind::Kind;
+pub use named::{LinesBefore, Named};
 pub use rule::Rule;

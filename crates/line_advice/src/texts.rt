@@ -183,27 +183,19 @@ fn in_time_text(kind: Kind) -> &'static [u8]
     }
 }
 
+// What a line names, where each node and each end is declared.
 fn known_text(kind: Kind) -> &'static [u8]
     ensures { result.now ≡ known_text kind }
 {
     match kind {
-        Kind::End => b"no earlier line declares a node of this name",
-        Kind::Link => b"each end of a link is declared by an earlier line",
-        Kind::Hop =>
-            b"the ends of a hop are declared by earlier lines, and its source is the address of an end",
-        Kind::StalePath => b"NODE and END are declared by earlier lines, and END is of NODE",
-        Kind::StaleResv => b"no earlier line declares an end of this name",
-        Kind::WildResv => b"no earlier line declares an end of this name",
-        Kind::HopBlockade => b"NODE and END are declared by earlier lines, and END is of NODE",
-        Kind::Send =>
-            b"NODE is declared by an earlier line, and the address of SENDER is that of one of its ends",
-        Kind::Drop => b"NODE is declared by an earlier line, and sends as SENDER in this session",
-        Kind::Quit => b"NODE is declared by an earlier line, and wants something of this session",
-        Kind::Inject => b"no earlier line declares an end of this name",
-        Kind::Report => b"no earlier line declares an end of this name",
-        Kind::Reroute =>
-            b"the ends are declared by earlier lines, SOURCE is the address of an end, and a hop line has this GROUP and SOURCE",
-        _ => b"no earlier line declares a node of this name",
+        Kind::Hop => b"no end has this address",
+        Kind::StalePath => b"no end of NODE has this name",
+        Kind::HopBlockade => b"no end of NODE has this name",
+        Kind::Send => b"no end of NODE has the address of this sender",
+        Kind::Drop => b"NODE sends as SENDER in this session",
+        Kind::Quit => b"NODE wants something of this session",
+        Kind::Reroute => b"a hop line has this GROUP and SOURCE",
+        _ => b"an earlier line declares each node and each end",
     }
 }
 
@@ -282,15 +274,10 @@ fn known_word(kind: Kind) -> Option<usize>
     ensures { result ≡ known_word kind }
 {
     match kind {
-        Kind::End => Some(2),
-        Kind::StaleResv => Some(1),
-        Kind::WildResv => Some(1),
-        Kind::SenderBlockade => Some(1),
-        Kind::Want => Some(1),
-        Kind::WildWant => Some(1),
-        Kind::Clear => Some(1),
-        Kind::Inject => Some(1),
-        Kind::Report => Some(1),
+        Kind::Hop => Some(2),
+        Kind::StalePath => Some(4),
+        Kind::HopBlockade => Some(4),
+        Kind::Send => Some(3),
         _ => None,
     }
 }

@@ -1,7 +1,7 @@
 -- What is told of the line by which a run over known bytes ended as bad.
 use Rattle.std.proofs.Common.{◌≡◌, ℕ, ◌+◌, ◌-◌, ◌^◌, ◌<◌, min, List, [], ◌∷◌, ◌++◌, Option, Some, length, sym, ap, ◌∙◌, arith, length-append}
 use Rattle.script_words.specs.Lines.{text_lines}
-use Rattle.script_grammar.specs.Draft.{Draft, period_of}
+use Rattle.script_grammar.specs.Draft.{Draft}
 use Rattle.script_grammar.specs.Grammar.{line_number, most_line, too_long}
 use Rattle.script_grammar.specs.declared.fault.Fault.{Fault}
 use Rattle.script_grammar.specs.declared.fault.Fault.TheVariants as fault
@@ -17,7 +17,7 @@ use Rattle.network_run.proofs.Coming.{all_known}
 use Rattle.network_run.proofs.Ended.{Progress}
 
 module _ {P : Type 0} (stands : P → Draft → Type 0) (old mid new first holds : Option (List ℕ)) (r now : Held) (player : P) (p : Progress stands old mid first holds r player) (bytes advice : List ℕ) (known : old ≡ Some bytes) where
-  pub told_long : (number : ℕ) → HasLong old new now p.before → number ≡ now.number → ((period : ℕ) (line : List ℕ) (why : Fault) → most_line < length line → IsAdvice period line why advice)
+  pub told_long : (number : ℕ) → HasLong old new now p.before → number ≡ now.number → ((d : Draft) (line : List ℕ) (why : Fault) → most_line < length line → IsAdvice d line why advice)
       → IsToldLine number fault.Limit bytes advice
   told_long number e same told =
       let all = all_known old new bytes e.taken known e.took in
@@ -32,7 +32,7 @@ module _ {P : Type 0} (stands : P → Draft → Type 0) (old mid new first holds
           leads = p.leads;
           fault = too_long e.long;
         };
-        told = told (period_of p.draft) e.line fault.Limit e.long;
+        told = told p.draft e.line fault.Limit e.long;
       }
 
   module _ (l : HasLine old new now p.before) (number : ℕ) (same : number ≡ now.number) where
@@ -41,7 +41,7 @@ module _ {P : Type 0} (stands : P → Draft → Type 0) (old mid new first holds
         let one_more : length (p.before ++ now.line ∷ []) ≡ length p.before + 1 = omega (arith, length-append p.before (now.line ∷ [])) in
         same ∙ l.behind.numbered ∙ ap (λ n. min n (2 ^ 32 - 1)) one_more
 
-    pub told_at : (s : Stop) → Stops s p.draft now.line → IsAdvisedAt (period_of p.draft) now.line s advice → IsAdvised (ending_at s number) bytes advice
+    pub told_at : (s : Stop) → Stops s p.draft now.line → IsAdvisedAt p.draft now.line s advice → IsAdvised (ending_at s number) bytes advice
     told_at (stop.Bad why) bad told =
         let all = all_known old new bytes l.taken known l.behind.took in
         record {

@@ -1,5 +1,6 @@
 -- What is told of the line by which a run ended as bad.
 use Rattle.std.specs.Prelude.{◌≡◌, ℕ, List, []}
+use Rattle.script_grammar.specs.Draft.{Draft}
 use Rattle.line_advice.specs.Advice.{IsAdvice, IsToldLine}
 use Rattle.network_run.specs.declared.ending.Ending.{Ending}
 use Rattle.network_run.specs.declared.ending.Ending.TheVariants.{BadLine}
@@ -11,7 +12,7 @@ abbrev pub IsAdvised : Ending → List ℕ → List ℕ → Type 0
 IsAdvised (BadLine number why) bytes advice = IsToldLine number why bytes advice
 IsAdvised _ bytes advice = advice ≡ []
 
--- what is wrong with a line that was not run for this reason, where the refresh period is this
-abbrev pub IsAdvisedAt : ℕ → List ℕ → Stop → List ℕ → Type 0
-IsAdvisedAt period line (stop.Bad why) advice = IsAdvice period line why advice
-IsAdvisedAt period line _ advice = advice ≡ []
+-- what is wrong with a line that was not run for this reason behind the lines of this draft
+abbrev pub IsAdvisedAt : Draft → List ℕ → Stop → List ℕ → Type 0
+IsAdvisedAt draft line (stop.Bad why) advice = IsAdvice draft line why advice
+IsAdvisedAt draft line _ advice = advice ≡ []

@@ -26,8 +26,13 @@ Stops (Bad why) draft line = HasFault draft line why
 Stops Crowded draft line = IsCrowdedBy draft line
 Stops NoMemory draft line = Unit {0}
 
+-- behind a bad line the lines so far stay those of the draft
+abbrev pub StaysAt : (Draft → Type 0) → Draft → Stop → Type 0
+StaysAt stands draft (Bad why) = stands draft
+StaysAt stands draft _ = Unit {0}
+
 -- behind the lines of this draft, which wrote what was said, a line was run, and what it wrote was appended; or it was not, for this
 -- reason
 abbrev pub Plays : (Draft → Type 0) → Draft → List ℕ → List ℕ → Result (Unit {0}) Stop → List ℕ → List ℕ → Type 0
 Plays stands draft said line (Ok _) before after = (own : List ℕ) × (after ≡ before ++ own) × IsRunOn stands draft line said own
-Plays stands draft said line (Err stop) before after = Stops stop draft line
+Plays stands draft said line (Err stop) before after = Stops stop draft line × StaysAt stands draft stop

@@ -2,15 +2,16 @@
 ghost use Rattle.std.specs.Prelude.{◌≡◌, ◌≤◌, [], List, ℕ, Some, length};
 ghost use Rattle.byte_streams.specs.Reading.{most_bytes};
 ghost use Rattle.byte_streams.specs.Faults.{Rose};
-ghost use Rattle.script_grammar.specs.Draft.{nothing};
+ghost use Rattle.script_grammar.specs.Draft.{Draft, nothing};
 ghost use Rattle.network_run.specs.Advised.{IsAdvised, IsAdvisedAt};
+ghost use Rattle.network_run.specs.Playing.{StaysAt};
 ghost use Rattle.network_run.specs.Endings.{ComesTo, IsOrNoMemory, IsRun, ending_at};
 ghost use Rattle.network_run.specs.declared.ending.Ending.{Ending as AnEnding};
 
 use crate::ending::Ending;
 use crate::player::{Player, Stop};
 use byte_streams::{Sink, Source, write_all};
-use line_advice::{put_advice, put_long};
+use line_advice::put_long;
 use line_stream::{LineReader, NextLine};
 use script_grammar::Fault;
 use std::alloc::Global;
@@ -78,11 +79,10 @@ fn run_to_end<P: Player, S: Source, K: Sink>(
             NextLine::TooLong => return Ending::TooLong,
         }
         out.clear();
-        let period = player.period();
         match player.play(reader.line(), &mut out) {
             Ok(()) => {}
             Err(stop) => {
-                advise(alloc, period, reader.line(), &stop, advice);
+                advise(player, reader.line(), &stop, advice);
                 return ending_at(stop, reader.number());
             }
         }
@@ -94,12 +94,12 @@ fn run_to_end<P: Player, S: Source, K: Sink>(
 }
 
 // Tells what is wrong with a line that was not run, where it is bad.
-fn advise(alloc: Global, period: u32, line: &[u8], stop: &Stop, advice: &mut Vec<u8>)
+fn advise<P: Player>(player: &P, line: &[u8], stop: &Stop, advice: &mut Vec<u8>)
     requires { advice.old.items ≡ [] }
-    ensures { IsAdvisedAt period line.now stop.now advice.new.items }
+    ensures { (d : Draft) → StaysAt (P.stands player.now) d stop.now → IsAdvisedAt d line.now stop.now advice.new.items }
 {
     match stop {
-        Stop::Bad(why) => put_advice(alloc, period, line, why, advice),
+        Stop::Bad(why) => player.advise(line, why, advice),
         Stop::Crowded => {}
         Stop::NoMemory => {}
     }

@@ -4,6 +4,7 @@ ghost use Rattle.script_grammar.specs.Draft.{nothing};
 
 use crate::{Ending, Player, Stop, run_lines};
 use byte_streams::{MemorySink, MemorySource};
+use line_advice::{LinesBefore, put_advice};
 use script_grammar::{Fault, Line, read_line};
 use script_words::Unread;
 use std::alloc::Global;
@@ -18,10 +19,6 @@ struct Silent {
 impl Player for Silent {
     ghost stands = { λ p d. d ≡ nothing };
 
-    fn period(&self) -> u32 {
-        30_000
-    }
-
     fn play(&mut self, line: &[u8], out: &mut Vec<u8>) -> Result<(), Stop> {
         let _ = out.len();
         let mut words = Vec::new(self.alloc);
@@ -31,6 +28,28 @@ impl Player for Silent {
             Err(Unread::Word) => Err(Stop::Bad(Fault::Word)),
             Err(Unread::NoMemory) => Err(Stop::NoMemory),
         }
+    }
+
+    fn advise(&self, line: &[u8], why: &Fault, advice: &mut Vec<u8>) {
+        put_advice(self.alloc, self, line, why, advice)
+    }
+}
+
+impl LinesBefore for Silent {
+    ghost lines = { λ p. nothing };
+
+    fn period(&self) -> u32 {
+        30_000
+    }
+
+    fn has_node(&self, name: &[u8]) -> bool {
+        let _ = name.len();
+        false
+    }
+
+    fn has_end(&self, name: &[u8]) -> bool {
+        let _ = name.len();
+        false
     }
 }
 

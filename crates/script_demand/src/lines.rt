@@ -36,11 +36,10 @@ pub(crate) fn check_lines<C: Checks>(
     let mut rest = input;
     while let Some((line, behind)) = next_line(rest) {
         number = number.saturating_add(1);
-        let period = checker.period();
         match feed_line(checker, line) {
             Ok(()) => rest = behind,
             Err(Refused::Fault(why)) => {
-                put_advice(alloc, period, line, &why, advice);
+                put_advice(alloc, checker, line, &why, advice);
                 return Err(Ending::BadLine { line: number, why });
             }
             Err(Refused::NoMemory) => return Err(Ending::NoMemory),
@@ -53,6 +52,7 @@ pub(crate) fn check_lines<C: Checks>(
 fn feed_line<C: Checks>(checker: &mut C, line: &[u8]) -> Result<(), Refused>
     ensures follows { OnOk result (Follows (C.lines checker.old) line.now (C.lines checker.new)) }
     ensures refused { IfErr result (MatchRefused (HasFault (C.lines checker.old) line.now)) }
+    ensures same { IfErr result (MatchRefused (λ why. C.lines checker.new ≡ C.lines checker.old)) }
 {
     if line.len() > MOST_LINE {
         return Err(Refused::Fault(Fault::Limit));

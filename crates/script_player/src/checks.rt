@@ -2,11 +2,12 @@
 ghost use Rattle.std.specs.Prelude.{◌≡◌, ◌≤◌, length, IfOk};
 ghost use Rattle.left_over.specs.AtNodes.{list_of};
 ghost use Rattle.left_over.specs.Fit.{AreFitAll};
-ghost use Rattle.script_grammar.specs.Draft.{Draft, period_of, plan_of};
+ghost use Rattle.script_grammar.specs.Draft.{plan_of};
 ghost use Rattle.script_player.specs.Checking.{Feeds, IsStartOf};
 ghost use Rattle.script_player.specs.declared.checks.Refused.TheVariants as refused;
 
 use left_over::LeftOver;
+use line_advice::LinesBefore;
 use net_replay::Event;
 use rsvp_base::NoMemory;
 use script_grammar::Fault;
@@ -60,27 +61,20 @@ pub struct Start {
 }
 
 /// What checks the lines of a script, one after another.
-pub trait Checks {
-    /// The draft that the lines so far make.
-    ghost lines: { Self → Draft };
-
+pub trait Checks: LinesBefore {
     /// Takes a line, and gives its event if it is one of part 3. `Fault`: exactly where the line cannot follow those before,
     /// which stay the lines so far. `NoMemory`: memory ran out, and nothing more may be fed.
     fn feed(&mut self, line: &[u8]) -> Result<Option<Event>, Refused>
         requires { length line.now ≤ 2048 }
-        ensures { Feeds (lines self.old) line.now result (lines self.new) };
-
-    /// The refresh period behind the lines, in milliseconds.
-    fn period(&self) -> u32
-        ensures { result ≡ period_of (lines self.now) };
+        ensures { Feeds (Self.lines self.old) line.now result (Self.lines self.new) };
 
     /// The network that the lines declare. `NoMemory`: there was no room for it.
     fn start(&self) -> Result<Start, NoMemory>
-        ensures { IfOk result (λ s. IsStartOf s (plan_of (lines self.now))) };
+        ensures { IfOk result (λ s. IsStartOf s (plan_of (Self.lines self.now))) };
 
     /// What is left over at its nodes, in the order of the lines. Each lives no longer than a fact that was just refreshed at its
     /// node, and has the shape of one.
     fn left(&self) -> &[LeftOver]
-        ensures list { list_of result.now ≡ (lines self.now).stale }
-        ensures fit { AreFitAll (plan_of (lines self.now)).quarter (lines self.now).net result.now };
+        ensures list { list_of result.now ≡ (Self.lines self.now).stale }
+        ensures fit { AreFitAll (plan_of (Self.lines self.now)).quarter (Self.lines self.now).net result.now };
 }

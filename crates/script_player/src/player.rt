@@ -12,9 +12,11 @@ ghost use Rattle.script_player.specs.Standing.{IsAt, IsNetworkOf, RunsOnto, Stan
 use crate::checks::{Checks, Refused, Start};
 use crate::event_run::run_event;
 use crate::opens::Opens;
+use line_advice::put_advice;
 use net_replay::{Event, World, WorldErr};
 use network_run::{Player, Stop};
 use rsvp_base::NoMemory;
+use script_grammar::Fault;
 use std::alloc::Global;
 
 /// Checks the lines of a script and runs their events. It has what checks them and, from the first event on, the network that they
@@ -49,10 +51,6 @@ impl<C: Checks + Drop, R: Opens> ScriptPlayer<C, R> {
 impl<C: Checks + Drop, R: Opens> Player for ScriptPlayer<C, R> {
     ghost stands = { λ p d. IsAt R.seen (C.lines p.checker) p.world d };
 
-    fn period(&self) -> u32 {
-        self.checker.period()
-    }
-
     fn play(&mut self, line: &[u8], out: &mut Vec<u8>) -> Result<(), Stop> {
         match self.checker.feed(line) {
             Ok(None) => Ok(()),
@@ -66,6 +64,10 @@ impl<C: Checks + Drop, R: Opens> Player for ScriptPlayer<C, R> {
             Err(Refused::Fault(why)) => Err(Stop::Bad(why)),
             Err(Refused::NoMemory) => Err(Stop::NoMemory),
         }
+    }
+
+    fn advise(&self, line: &[u8], why: &Fault, advice: &mut Vec<u8>) {
+        put_advice(self.alloc, &self.checker, line, why, advice)
     }
 }
 

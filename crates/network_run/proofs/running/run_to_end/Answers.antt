@@ -1,7 +1,6 @@
 use Rattle.std.proofs.Common.{◌≡◌, ◌≢◌, ◌∙◌, ◌++◌, ◌≤◌, List, ℕ, length, take, refl, ap, subst, arith, inl, inr}
 use Rattle.std.specs.Io.KnownBytes.{Appends}
 use Rattle.line_stream.specs.declared.answer.NextLine.TheVariants.{Line, Long, End, Fault, TooLong}
-use Rattle.script_grammar.specs.Draft.{period_of}
 use Rattle.network_run.specs.Advised.{IsAdvisedAt}
 use Rattle.network_run.specs.Playing.{IsRunOn, Stops}
 use Rattle.network_run.proofs.Behind.{end_came, fault_came, goes_down, line_came, long_came, many_came}
@@ -98,7 +97,7 @@ returns-in-Err-play-clause-run g c =
     let fine : Line ≢ TooLong = λ x. cc in
     let l = line_came old mid new r now p.before p.taken p.behind (λ n. (e.again n).0) e.cut (e.near refl) (λ n. e.number n (inl refl)) (e.last refl) in
     let not_run = c.in-Err-play in
-    let stops = subst (λ t. Stops not_run.stop p.draft t) c.line.ensures.line (not_run.ensures p.draft p.text p.stands_there p.run) in
+    let stops = subst (λ t. Stops not_run.stop p.draft t) c.line.ensures.line (not_run.ensures p.draft p.text p.stands_there p.run).0 in
     rw c.ending_at.ensures (ended_at stands old mid new first holds r now c.loop-advice.player p (stands c.play.new.self) l (e.within fine) not_run.stop c.number-in-Err-play.result c.number-in-Err-play.ensures stops)
 
 pub loop-advice-smaller : goal.loop-advice-smaller
@@ -193,7 +192,7 @@ returns-in-Err-play-clause-advised g c = λ bytes known.
     let e = c.in-Line.ensures in
     let l = line_came old mid new r now p.before p.taken p.behind (λ n. (e.again n).0) e.cut (e.near refl) (λ n. e.number n (inl refl)) (e.last refl) in
     let not_run = c.in-Err-play in
-    let stops = subst (λ t. Stops not_run.stop p.draft t) c.line.ensures.line (not_run.ensures p.draft p.text p.stands_there p.run) in
-    let told = subst (λ n. IsAdvisedAt n c.line-in-Err-play.result.now not_run.stop c.advise.new.advice.items) (c.period-period.ensures p.draft p.stands_there) c.advise.ensures in
-    let told_here = subst (λ t. IsAdvisedAt (period_of p.draft) t not_run.stop c.advise.new.advice.items) c.line-in-Err-play.ensures.line told in
+    let stops = subst (λ t. Stops not_run.stop p.draft t) c.line.ensures.line (not_run.ensures p.draft p.text p.stands_there p.run).0 in
+    let told = c.advise.ensures p.draft (not_run.ensures p.draft p.text p.stands_there p.run).1 in
+    let told_here = subst (λ t. IsAdvisedAt p.draft t not_run.stop c.advise.new.advice.items) c.line-in-Err-play.ensures.line told in
     rw c.ending_at.ensures (told_at stands old mid new first holds r now c.loop-advice.player p bytes c.advise.new.advice.items known l c.number-in-Err-play.result c.number-in-Err-play.ensures not_run.stop stops told_here)

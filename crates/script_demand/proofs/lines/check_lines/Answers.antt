@@ -1,7 +1,8 @@
 use Rattle.std.proofs.Common.{◌≡◌, ◌∙◌, ℕ, List, [], ◌∷◌, ◌++◌, length-append, append_assoc, append-nil, refl, sym, ap, subst, arith}
 use Rattle.script_words.specs.Lines.{text_lines}
-use Rattle.script_grammar.specs.Draft.{nothing}
+use Rattle.script_grammar.specs.Draft.{Draft, nothing}
 use Rattle.script_grammar.specs.Grammar.{Leads}
+use Rattle.line_advice.specs.Advice.{IsAdvice}
 use Rattle.script_grammar.proofs.Scripts.{leads_on}
 use Rattle.script_demand.proofs.lines.check_lines.Goals as goal
 
@@ -16,7 +17,7 @@ loop-line-preserved g c =
       before = i.before ++ line ∷ [];
       parts = i.parts ∙ ap (λ (ls : List (List ℕ)). i.before ++ ls) c.in-Some.ensures.lines ∙ sym (append_assoc i.before (line ∷ []) (text_lines c.in-Some.behind.now));
       number = let count = length-append i.before (line ∷ []) in omega (arith, c.saturating_add-number.ensures, i.number, count);
-      leads = leads_on nothing i.before (g.C.Checks.lines c.loop-line.checker) (g.C.Checks.lines c.feed_line.new.checker) line i.leads c.in-Ok.ensures.follows;
+      leads = leads_on nothing i.before (g.C.LinesBefore.lines c.loop-line.checker) (g.C.LinesBefore.lines c.feed_line.new.checker) line i.leads c.in-Ok.ensures.follows;
       quiet = i.quiet;
     }
 
@@ -29,7 +30,7 @@ returns-in-Err-Fault-clause-stopped g c =
       after = text_lines c.in-Some.behind.now;
       parts = i.parts ∙ ap (λ (ls : List (List ℕ)). i.before ++ ls) c.in-Some.ensures.lines;
       counted = omega (arith, c.saturating_add-number.ensures, i.number);
-      lines = g.C.Checks.lines c.loop-line.checker;
+      lines = g.C.LinesBefore.lines c.loop-line.checker;
       leads = i.leads;
       fault = rw c.in-Err-Fault.why-is (rw c.in-Err-Fault.field-0-is at c.in-Err-Fault.ensures.refused);
     }
@@ -37,7 +38,8 @@ returns-in-Err-Fault-clause-stopped g c =
 pub returns-in-Err-Fault-clause-advised : goal.returns-in-Err-Fault-clause-advised
 returns-in-Err-Fault-clause-advised g c =
     let i = c.loop-line.invariant in
-    let told = rw c.period-period.ensures at c.put_advice.ensures in
+    let same : g.C.LinesBefore.lines c.feed_line.new.checker ≡ g.C.LinesBefore.lines c.loop-line.checker = rw c.in-Err-Fault.field-0-is at c.in-Err-Fault.ensures.same in
+    let told = subst (λ (d : Draft). IsAdvice d c.in-Some.line.now c.in-Err-Fault.why c.put_advice.new.advice.items) same c.put_advice.ensures in
     record {
       told = told;
       bad = record {
@@ -46,7 +48,7 @@ returns-in-Err-Fault-clause-advised g c =
         after = text_lines c.in-Some.behind.now;
         parts = i.parts ∙ ap (λ (ls : List (List ℕ)). i.before ++ ls) c.in-Some.ensures.lines;
         counted = omega (arith, c.saturating_add-number.ensures, i.number);
-        lines = g.C.Checks.lines c.loop-line.checker;
+        lines = g.C.LinesBefore.lines c.loop-line.checker;
         leads = i.leads;
         fault = rw c.in-Err-Fault.why-is (rw c.in-Err-Fault.field-0-is at c.in-Err-Fault.ensures.refused);
       };
@@ -56,4 +58,4 @@ pub returns-clause-taken : goal.returns-clause-taken
 returns-clause-taken g c =
     let i = c.loop-line.invariant in
     let all : text_lines c.args.input.now ≡ i.before = i.parts ∙ ap (λ (ls : List (List ℕ)). i.before ++ ls) c.in_default.ensures.lines ∙ append-nil i.before in
-    subst (λ (ls : List (List ℕ)). Leads nothing ls (g.C.Checks.lines c.loop-line.checker)) (sym all) i.leads
+    subst (λ (ls : List (List ℕ)). Leads nothing ls (g.C.LinesBefore.lines c.loop-line.checker)) (sym all) i.leads

@@ -11,7 +11,7 @@ invariant-loop-line g l =
       before : List (List ℕ);
       parts : text_lines l.input ≡ before ++ text_lines l.rest;
       number : l.number ≡ min (length before) (2 ^ 32 - 1);
-      leads : Leads nothing before (g.C.Checks.lines l.checker);
+      leads : Leads nothing before (g.C.LinesBefore.lines l.checker);
       quiet : l.advice.items ≡ [];
     }
 

@@ -12,4 +12,4 @@ returns-in-Ok-Skipped c = λ d said there run.
 pub returns-in-Err-Word : goal.returns-in-Err-Word
 returns-in-Err-Word c = λ d said there run.
     let reads = rw c.in-Err-Word.field-0-is at c.in-Err-Word.ensures in
-    unread c.requires reads
+    (unread c.requires reads, there)

@@ -1,0 +1,101 @@
+//! The names that a line must have from an earlier one.
+ghost use Rattle.std.specs.Prelude.{◌≡◌, is_some};
+ghost use Rattle.script_grammar.specs.Draft.{Draft, end_named, node_named, period_of};
+ghost use Rattle.line_advice.specs.Names.{is_known, named_at, named_text, names_behind, names_of};
+
+use crate::kind::Kind;
+
+/// What a word is the name of.
+#[derive(Clone, Copy)]
+pub enum Named {
+    Node,
+    End,
+}
+
+/// The lines before a line, as far as it is told what is wrong with it.
+pub trait LinesBefore {
+    /// The draft that they make.
+    ghost lines: { Self → Draft };
+
+    /// The refresh period behind the lines, in milliseconds.
+    fn period(&self) -> u32
+        ensures { result ≡ period_of (lines self.now) };
+
+    /// Whether one of them declares a node of this name.
+    fn has_node(&self, name: &[u8]) -> bool
+        ensures { result ≡ is_some (node_named (lines self.now) name.now) };
+
+    /// Whether one of them declares an end of this name.
+    fn has_end(&self, name: &[u8]) -> bool
+        ensures { result ≡ is_some (end_named (lines self.now) name.now) };
+}
+
+impl Kind {
+    // Of the words behind the first, in order, which are names of nodes and which of ends that an earlier line declares.
+    fn names(self) -> &'static [Option<Named>]
+        ensures { result.now ≡ names_of self }
+    {
+        match self {
+            Kind::End => &[None, Some(Named::Node)],
+            Kind::Hop => &[None, None, Some(Named::End), Some(Named::End)],
+            Kind::StalePath => &[Some(Named::Node), None, None, Some(Named::End)],
+            Kind::StaleResv => &[Some(Named::End)],
+            Kind::WildResv => &[Some(Named::End)],
+            Kind::HopBlockade => &[Some(Named::Node), None, None, Some(Named::End)],
+            Kind::SenderBlockade => &[Some(Named::Node)],
+            Kind::Send => &[Some(Named::Node)],
+            Kind::Drop => &[Some(Named::Node)],
+            Kind::Want => &[Some(Named::Node)],
+            Kind::WildWant => &[Some(Named::Node)],
+            Kind::Quit => &[Some(Named::Node)],
+            Kind::Clear => &[Some(Named::Node)],
+            Kind::Inject => &[Some(Named::End)],
+            Kind::Report => &[Some(Named::End)],
+            Kind::Reroute => &[None, None],
+            _ => &[],
+        }
+    }
+
+    // What the words behind these are.
+    fn names_behind(self) -> Option<Named>
+        ensures { result ≡ names_behind self }
+    {
+        match self {
+            Kind::Link => Some(Named::End),
+            Kind::Reroute => Some(Named::End),
+            _ => None,
+        }
+    }
+
+    /// What the word at this place behind the first is the name of. `None` exactly where it is neither that of a node nor that of an
+    /// end that an earlier line declares.
+    pub fn named_at(self, place: usize) -> Option<Named>
+        ensures { result ≡ named_at self place }
+    {
+        self.names()
+            .get(place)
+            .copied()
+            .unwrap_or(self.names_behind())
+    }
+}
+
+/// Whether a word is no name, or that of what a line before declares.
+pub fn is_known<B: LinesBefore>(before: &B, named: Option<Named>, word: &[u8]) -> bool
+    ensures { result ≡ is_known (B.lines before.now) named word.now }
+{
+    match named {
+        None => true,
+        Some(Named::Node) => before.has_node(word),
+        Some(Named::End) => before.has_end(word),
+    }
+}
+
+/// What is said of a word that is a name of what no line before declares.
+pub fn named_text(named: Named) -> &'static [u8]
+    ensures { result.now ≡ named_text named }
+{
+    match named {
+        Named::Node => b"no earlier line declares a node of this name",
+        Named::End => b"no earlier line declares an end of this name",
+    }
+}
