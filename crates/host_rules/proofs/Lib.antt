@@ -1,4 +1,3 @@
 pub mod SenderRules
-pub mod WantRules
 pub mod WantLines
 pub mod WantCounts

@@ -1,6 +1,6 @@
 -- A want that was kept: the rules of its line, and what it adds.
-use Rattle.std.specs.Prelude.{◌≡◌, ℕ, ◌≤◌, ◌++◌, ◌∷◌, [], List, Result, Ok, Err, OnOk, length, map as each}
-use Rattle.std.proofs.Common.{arith, subst}
+use Rattle.std.specs.Prelude.{◌≡◌, ◌≢◌, ℕ, ◌≤◌, ◌<◌, ◌++◌, ◌∷◌, [], List, Result, Ok, Err, OnOk, length, map as each}
+use Rattle.std.proofs.Common.{arith, refl, subst}
 use Rattle.std.proofs.lemmas.List.{length-map}
 use Rattle.rsvp_base.specs.Orders.{Names}
 use Rattle.rsvp_base.specs.Table.{size}
@@ -72,3 +72,12 @@ pub fit_list : (st : StyleKind) (words : List SenderWord) → IsWantForm st word
 fit_list Wild words form few = tt
 fit_list Fixed words form few = tt
 fit_list Shared words form few = let size = length-map words sender_value in (some_named (each sender_value words) (omega (arith, form, size)), few)
+
+-- ---- a list with something in it
+pub some_there : {A : Type 0} (xs : List A) → xs ≢ [] → 0 < length xs
+some_there [] some = absurd (some refl)
+some_there (x ∷ xs) some = omega arith
+
+pub there_some : {A : Type 0} (xs : List A) → 0 < length xs → xs ≢ []
+there_some [] lt = absurd (omega (arith, lt))
+there_some (x ∷ xs) lt = λ e. cc

@@ -2,6 +2,7 @@
 //! `drop`, `want`, `quit`.
 #![tactic(auto)]
 
+mod own;
 mod sender;
 mod want;
 

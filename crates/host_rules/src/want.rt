@@ -1,35 +1,30 @@
 //! The rules of `want` and `quit`.
-ghost use Rattle.std.specs.Prelude.{◌≡◌, ◌≢◌, ◌≤◌, ◌↔◌, ◌∷◌, ◌++◌, ◌+◌, ◌&&◌, ◌||◌, [], IsTrue, IsSome, IfOk, IfSome, IfErr, OnOk, count_by, length, map, not};
-ghost use Rattle.std.specs.List.{All, filter, list_all, list_any};
-ghost use Rattle.std.specs.Ordering.{eq_by_cmp};
-ghost use Rattle.rsvp_base.specs.Orders.{styles as by_style, units as by_unit};
+ghost use Rattle.std.specs.Prelude.{◌≡◌, ◌≢◌, ◌≤◌, ◌↔◌, ◌∷◌, ◌++◌, [], IsTrue, IsSome, IfOk, IfSome, IfErr, OnOk, length, map};
+ghost use Rattle.std.specs.List.{All};
 ghost use Rattle.rsvp_messages.specs.Units.{only};
 ghost use Rattle.network_model.specs.Events.{AtNode};
 ghost use Rattle.router_rules.specs.Inputs.{QuitAll};
 ghost use Rattle.script_words.specs.Flows.{IsFlow, flow_value};
 ghost use Rattle.script_words.specs.Sessions.{IsSender, IsSession, sender_value, session_value};
-ghost use Rattle.tree_model.specs.declared.locals.LocalWant.{LocalWant as WantOf};
 ghost use Rattle.script_state.specs.Said.{draft_of};
-ghost use Rattle.host_rules.specs.Styles.{fits};
 ghost use Rattle.script_state.specs.Events.{event_of};
 ghost use Rattle.script_state.specs.Refusals.{IsUntouched, OnlyNoMemory, Refuses};
 ghost use Rattle.host_rules.specs.Forms.{IsWantForm};
 ghost use Rattle.script_player.specs.Checking.{IsAdded};
-ghost use Rattle.script_grammar.specs.Adds.{Adds, is_in_place_of, is_want_at, wanted, wants_at, with_want, with_wants, without_wants};
+ghost use Rattle.script_grammar.specs.Adds.{Adds, wanted, wants_at, with_want, with_wants, without_wants};
 ghost use Rattle.script_grammar.specs.Draft.{node_number, with_session};
 ghost use Rattle.script_grammar.specs.Rules.{AreDistinct, IsOfWantedStyle, IsWanting, Keeps, KeepsAll};
 ghost use Rattle.script_grammar.specs.Values.{IsWantInRange};
 ghost use Rattle.script_grammar.specs.declared.line.Line.TheVariants as kind;
 
+use crate::own::{count_with, only};
 use net_replay::{Event, LocalCall};
-use rsvp_base::{Flow, Part, Sender, Senders, Session, StyleKind, Unit};
+use rsvp_base::{Flow, Part, Sender, Senders, Session, StyleKind};
 use script_grammar::{Fault, QuitLine, WantLine};
 use script_player::Refused;
 use script_state::{
-    ScriptState, are_distinct, has_room_for_session, is_session, keep_call, sender_values,
+    ScriptState, WantTable, are_distinct, has_room_for_session, keep_call, sender_values,
 };
-use std::alloc::Global;
-use std::cmp::Ordering;
 use tree_model::LocalWant;
 
 const MOST_UNITS: usize = 16;
@@ -106,7 +101,7 @@ fn leave(state: &mut ScriptState, node: u16, session: Session) -> Result<Event, 
     ensures event { IfOk result (λ e. IsAdded (draft_of state.old).events e (draft_of state.new).events) }
     ensures refused { IfErr result OnlyNoMemory }
 {
-    take_out(&mut state.wants, node, session);
+    state.wants.take_out(node, session);
     keep_call(state, node, session, LocalCall::Quit { session })
 }
 
@@ -118,113 +113,20 @@ fn want_values(line: &WantLine) -> Option<(Session, Flow)>
     Some((line.session.session()?, line.flow.flow()?))
 }
 
-// Whether it is a want of the session at the node.
-fn is_want_at(node: u16, session: Session, want: &LocalWant) -> bool
-    ensures { result ≡ is_want_at node session want.now }
-{
-    want.node == node && is_session(session, want.session)
-}
-
-// Whether two styles are the same.
-fn is_style(style: StyleKind, other: StyleKind) -> bool
-    ensures { result ≡ eq_by_cmp by_style.cmp style other }
-{
-    style == other
-}
-
-// Whether two units are one.
-fn is_unit(unit: Unit, other: Unit) -> bool
-    ensures { result ≡ eq_by_cmp by_unit.cmp unit other }
-{
-    unit.cmp(&other) == Ordering::Equal
-}
-
-// Whether each of the wants is not of the session at the node, or of this style.
-fn fit_in(wants: &[LocalWant], node: u16, session: Session, style: StyleKind) -> bool
-    ensures { result ≡ list_all (fits (is_want_at node session) style) wants.now }
-{
-    wants.iter().all(|want| !is_want_at(node, session, want) || is_style(want.style, style))
-}
-
-// Whether the wants of the session at the node are of this style.
-fn are_of_style(wants: &[LocalWant], node: u16, session: Session, style: StyleKind) -> bool
-    ensures { IsTrue result ↔ All (λ w. w.style ≡ style) (wants_at wants.now node session) }
-{
-    fit_in(wants, node, session, style)
-}
-
 // Whether the wants of the line's session at its node are of its style.
 fn is_of_wanted_style(state: &ScriptState, line: &WantLine, node: u16, session: Session) -> bool
     requires node { node ≡ node_number (draft_of state.now) line.now.node }
     requires session { session ≡ session_value line.now.session }
     ensures { IsTrue result ↔ IsOfWantedStyle (draft_of state.now) line.now }
 {
-    are_of_style(state.wants.as_slice(), node, session, line.style)
-}
-
-// How many wants of the session there are at the node.
-fn want_count(wants: &[LocalWant], node: u16, session: Session) -> usize
-    ensures { result ≡ length (wants_at wants.now node session) }
-{
-    wants
-        .iter()
-        .filter(|want| is_want_at(node, session, want))
-        .count()
-}
-
-// The wants of the session at the node once more.
-fn own_wants(
-    alloc: Global,
-    wants: &[LocalWant],
-    node: u16,
-    session: Session,
-) -> Result<Vec<LocalWant>, Refused>
-    ensures ok { IfOk result (λ own. own.items ≡ wants_at wants.now node session) }
-    ensures refused { IfErr result OnlyNoMemory }
-{
-    let mut own = Vec::new(alloc);
-    for want in wants {
-        if is_want_at(node, session, want) {
-            own.push(LocalWant {
-                node: want.node,
-                session: want.session,
-                style: want.style,
-                part: want.part.copy(),
-            })?;
-        }
-    }
-    Ok(own)
-}
-
-// How many wants of the session there are at the node with what a line wants.
-fn count_with(
-    state: &ScriptState,
-    node: u16,
-    session: Session,
-    style: StyleKind,
-    names: &Senders,
-    flow: Flow,
-) -> Result<usize, Refused>
-    ensures ok { IfOk result (λ n. n ≡ length (wants_at (with_wants state.now.wants.items (wanted node session style names.now flow)) node session)) }
-    ensures refused { IfErr result OnlyNoMemory }
-{
-    let mut own = own_wants(state.alloc, state.wants.as_slice(), node, session)?;
-    put(&mut own, node, session, style, names, flow)?;
-    Ok(want_count(own.as_slice(), node, session))
-}
-
-// Whether one of the wants is of the session at the node.
-fn any_wants(wants: &[LocalWant], node: u16, session: Session) -> bool
-    ensures { result ≡ list_any (is_want_at node session) wants.now }
-{
-    wants.iter().any(|want| is_want_at(node, session, want))
+    state.wants.are_of_style(node, session, line.style)
 }
 
 // Whether there are wants of the session at the node.
-fn has_wants(wants: &[LocalWant], node: u16, session: Session) -> bool
+fn has_wants(wants: &WantTable, node: u16, session: Session) -> bool
     ensures { IsTrue result ↔ (wants_at wants.now node session ≢ []) }
 {
-    any_wants(wants, node, session)
+    wants.count(node, session) > 0
 }
 
 // The node of a line, where it was declared and wants something of the line's session.
@@ -244,74 +146,34 @@ fn wanting_node(state: &ScriptState, line: &QuitLine, session: Session) -> Optio
 fn wants_some(state: &ScriptState, line: &QuitLine, node: u16, session: Session) -> bool
     requires node { node ≡ node_number (draft_of state.now) line.now.node }
     requires session { session ≡ session_value line.now.session }
-    ensures { IsTrue result ↔ (wants_at state.now.wants.items (node_number (draft_of state.now) line.now.node) (session_value line.now.session) ≢ []) }
+    ensures { IsTrue result ↔ (wants_at state.now.wants (node_number (draft_of state.now) line.now.node) (session_value line.now.session) ≢ []) }
 {
-    has_wants(state.wants.as_slice(), node, session)
-}
-
-// Whether a new want goes in the place of this one.
-fn is_in_place_of(new: &LocalWant, want: &LocalWant) -> bool
-    ensures { result ≡ is_in_place_of new.now want.now }
-{
-    is_want_at(new.node, new.session, want)
-        && (is_style(new.style, want.style)
-            && is_unit(new.part.unit(new.style), want.part.unit(want.style)))
-}
-
-// Takes out the want in whose place the new one goes.
-fn make_place(wants: &mut Vec<LocalWant>, new: &LocalWant)
-    ensures { wants.new.items ≡ filter (λ w. not (is_in_place_of new.now w)) wants.old.items }
-{
-    wants.retain(|want| !is_in_place_of(new, want));
-}
-
-// Puts a want in the place of that of its unit.
-fn put_want(wants: &mut Vec<LocalWant>, new: LocalWant) -> Result<(), Refused>
-    ensures ok { OnOk result (wants.new.items ≡ with_want wants.old.items new) }
-    ensures refused { IfErr result OnlyNoMemory }
-{
-    make_place(wants, &new);
-    wants.push(new)?;
-    Ok(())
-}
-
-// The list of one sender.
-fn only(sender: Sender) -> Senders
-    ensures { result ≡ only sender }
-{
-    let mut names = Senders::new();
-    let Ok(()) = names.insert(sender) else {
-        unreachable!();
-    };
-    names
+    has_wants(&state.wants, node, session)
 }
 
 // Puts a fixed want for each sender.
 fn put_fixed(
-    wants: &mut Vec<LocalWant>,
+    wants: &mut WantTable,
     node: u16,
     session: Session,
     senders: &[Sender],
     flow: Flow,
 ) -> Result<(), Refused>
-    ensures ok { OnOk result (wants.new.items ≡ with_wants wants.old.items (map (λ x. record { node = node; session = session; style = StyleKind.Fixed; part = record { senders = only x; flow = flow } }) senders.now)) }
+    ensures ok { OnOk result (wants.new ≡ with_wants wants.old (map (λ x. record { node = node; session = session; style = StyleKind.Fixed; part = record { senders = only x; flow = flow } }) senders.now)) }
     ensures refused { IfErr result OnlyNoMemory }
 {
     match senders {
         [] => Ok(()),
         [first, others @ ..] => {
-            put_want(
-                wants,
-                LocalWant {
-                    node,
-                    session,
-                    style: StyleKind::Fixed,
-                    part: Part {
-                        senders: only(*first),
-                        flow,
-                    },
+            wants.put(LocalWant {
+                node,
+                session,
+                style: StyleKind::Fixed,
+                part: Part {
+                    senders: only(*first),
+                    flow,
                 },
-            )?;
+            })?;
             put_fixed(wants, node, session, others, flow)
         }
     }
@@ -319,14 +181,14 @@ fn put_fixed(
 
 // Puts what a line wants.
 fn put(
-    wants: &mut Vec<LocalWant>,
+    wants: &mut WantTable,
     node: u16,
     session: Session,
     style: StyleKind,
     names: &Senders,
     flow: Flow,
 ) -> Result<(), Refused>
-    ensures ok { OnOk result (wants.new.items ≡ with_wants wants.old.items (wanted node session style names.now flow)) }
+    ensures ok { OnOk result (wants.new ≡ with_wants wants.old (wanted node session style names.now flow)) }
     ensures refused { IfErr result OnlyNoMemory }
 {
     match style {
@@ -338,30 +200,21 @@ fn put(
 
 // Puts a want of these senders together.
 fn put_one(
-    wants: &mut Vec<LocalWant>,
+    wants: &mut WantTable,
     node: u16,
     session: Session,
     style: StyleKind,
     senders: Senders,
     flow: Flow,
 ) -> Result<(), Refused>
-    ensures ok { OnOk result (wants.new.items ≡ with_want wants.old.items (record { node = node; session = session; style = style; part = record { senders = senders; flow = flow } })) }
+    ensures ok { OnOk result (wants.new ≡ with_want wants.old (record { node = node; session = session; style = style; part = record { senders = senders; flow = flow } })) }
     ensures refused { IfErr result OnlyNoMemory }
 {
-    put_want(
-        wants,
-        LocalWant {
-            node,
-            session,
-            style,
-            part: Part { senders, flow },
-        },
-    )
-}
-
-// Takes the wants of a session at a node out of all wants.
-fn take_out(wants: &mut Vec<LocalWant>, node: u16, session: Session)
-    ensures { wants.new.items ≡ filter (λ w. not (is_want_at node session w)) wants.old.items }
-{
-    wants.retain(|want| !is_want_at(node, session, want));
+    wants.put(LocalWant {
+        node,
+        session,
+        style,
+        part: Part { senders, flow },
+    })?;
+    Ok(())
 }

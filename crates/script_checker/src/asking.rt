@@ -7,7 +7,7 @@ use rsvp_base::NoMemory;
 use script_demand::Asks;
 use script_words::EndName;
 use std::alloc::Global;
-use tree_model::{LocalSender, LocalWant};
+use tree_model::LocalSender;
 use tree_routing::Routing;
 
 impl Asks for Checker {
@@ -25,7 +25,7 @@ impl Asks for Checker {
     fn locals(&self) -> Result<Locals, NoMemory> {
         Ok(Locals {
             senders: senders(self.state.alloc, self.state.senders.as_slice())?,
-            wants: wants(self.state.alloc, self.state.wants.as_slice())?,
+            wants: self.state.wants.to_vec(self.state.alloc)?,
         })
     }
 }
@@ -35,20 +35,4 @@ fn senders(alloc: Global, from: &[LocalSender]) -> Result<Vec<LocalSender>, NoMe
     ensures { IfOk result (λ to. to.items ≡ from.now) }
 {
     from.to_vec(alloc).map_err(|_| NoMemory)
-}
-
-// These wants once more.
-fn wants(alloc: Global, from: &[LocalWant]) -> Result<Vec<LocalWant>, NoMemory>
-    ensures { IfOk result (λ to. to.items ≡ from.now) }
-{
-    let mut to = Vec::new(alloc);
-    for want in from {
-        to.push(LocalWant {
-            node: want.node,
-            session: want.session,
-            style: want.style,
-            part: want.part.copy(),
-        })?;
-    }
-    Ok(to)
 }

@@ -4,3 +4,6 @@ pub mod Named
 pub mod Forced
 pub mod Counts
 pub mod Places
+pub mod Sifting
+pub mod Slots
+pub mod Listed

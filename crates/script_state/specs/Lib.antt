@@ -3,3 +3,4 @@ pub mod Forcing
 pub mod Said
 pub mod Refusals
 pub mod Fitness
+pub mod Entries

@@ -16,6 +16,6 @@ draft_of c = record {
   force = hops_in_force c.force c.topology.hops;
   stale = stale_in c.left;
   sessions = c.sessions.items;
-  locals = record { senders = c.senders.items; wants = c.wants.items };
+  locals = record { senders = c.senders.items; wants = c.wants };
   events = each event_of c.events.items;
 }

@@ -3,12 +3,14 @@
 //! Each change of it is what the lines say from then on; its invariants hold between any two lines.
 #![tactic(auto)]
 
+mod entries;
 mod keeping;
 mod names;
 mod parts;
 mod senders;
 mod session;
 mod state;
+mod wants;
 
 pub use keeping::{has_room_for_report, keep, keep_report};
 pub use names::NameTable;
@@ -16,3 +18,4 @@ pub use parts::{is_before_events, only_declares};
 pub use senders::{are_distinct, sender_values};
 pub use session::{has_room_for_session, is_session, keep_call, name_session};
 pub use state::ScriptState;
+pub use wants::WantTable;

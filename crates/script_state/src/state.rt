@@ -9,6 +9,7 @@ ghost use Rattle.script_state.specs.Fitness.{ArePlaced, fit_all_prop};
 ghost use Rattle.script_state.specs.Forcing.{IsOfNet};
 
 use crate::names::NameTable;
+use crate::wants::WantTable;
 use history::History;
 use left_over::Leavings;
 use net_replay::Event;
@@ -16,7 +17,7 @@ use rsvp_base::{NoMemory, Session};
 use rsvp_messages::{Message, MsgErr};
 use script_words::EndName;
 use std::alloc::Global;
-use tree_model::{LocalSender, LocalWant};
+use tree_model::LocalSender;
 use tree_routing::{Routing, Topology};
 
 // The period in milliseconds where no line gives one (RFC 2205, 3.7).
@@ -46,7 +47,7 @@ pub struct ScriptState {
     /// Who sends, at most 16 in a session.
     pub senders: Vec<LocalSender>,
     /// Who wants what, at most 16 units of a session at a node.
-    pub wants: Vec<LocalWant>,
+    pub wants: WantTable,
     /// All that happened, for proofs alone, with what its bytes spell.
     pub events: History<Event, Option<Result<Message, MsgErr>>>,
     /// Whether anything happened.
@@ -95,7 +96,7 @@ impl ScriptState {
             left: Leavings::new(alloc),
             sessions: Vec::new(alloc),
             senders: Vec::new(alloc),
-            wants: Vec::new(alloc),
+            wants: WantTable::new(alloc),
             events: History::new(),
             begun: false,
             reports: 0,

@@ -41,16 +41,16 @@ returns-clause-ok c =
     } in
     let items : c.in-Some.senders.items ≡ map sender_value c.as_slice.result.now = rw c.in-Some.is at c.in_ok-senders.ensures.value in
     let list : c.as_slice-2.result.now ≡ sender_list l.senders = c.as_slice-2.ensures.value ∙ items ∙ ap (map sender_value) c.as_slice.ensures in
-    let wants : c.put.new.wants.items ≡ with_wants d.locals.wants (wanted c.in-Some-find.node c.in-Some-want_values.session l.style c.in-Ok.names c.in-Some-want_values.flow) =
+    let wants : c.put.new.wants ≡ with_wants d.locals.wants (wanted c.in-Some-find.node c.in-Some-want_values.session l.style c.in-Ok.names c.in-Some-want_values.flow) =
     search rules in
     let added : c.in_ok-count.count ≡ length (wants_at (with_wants d.locals.wants (wanted c.in-Some-find.node c.in-Some-want_values.session l.style c.in-Ok.names c.in-Some-want_values.flow)) c.in-Some-find.node c.in-Some-want_values.session) =
     search rules in
     let counted = added ∙ ap (λ (ws : List LocalWant). length (wants_at ws c.in-Some-find.node c.in-Some-want_values.session)) (sym wants) in
-    let adds : OnOk c.keep_call.result (draft_of c.keep_call.new.state ≡ with_it d l (c.in-Some-find.node, (c.in-Some-want_values.session, (c.in-Ok.names, c.in-Some-want_values.flow))) c.put.new.wants.items) = search rules in
+    let adds : OnOk c.keep_call.result (draft_of c.keep_call.new.state ≡ with_it d l (c.in-Some-find.node, (c.in-Some-want_values.session, (c.in-Ok.names, c.in-Some-want_values.flow))) c.put.new.wants) = search rules in
     let most = c.if-count-gt-MOST_UNITS.false in
     want_kept d l in_range (ap is_some found) (subst (λ (xs : List Sender). AreDistinct xs) list (c.are_distinct.ensures.0 c.if-not-are_distinct.false)) (c.is_of_wanted_style.ensures.0 c.if-not-is_of_wanted_style.false)
     c.keep_call.result (c.in-Some-find.node, (c.in-Some-want_values.session, (c.in-Ok.names, c.in-Some-want_values.flow)))
     (λ i. (sym (ap (λ (o : Option ℕ). unwrap_or o 0) found) i, (c.in-Some-want_values.ensures.value.0 i, (names i, c.in-Some-want_values.ensures.value.1 i))))
-    c.put.new.wants.items
+    c.put.new.wants
     (record { few = few; session = c.has_room_for_session.ensures.0 c.if-not-has_room_for_session.false; wants_are = wants; units = omega (arith, counted, most) })
     (draft_of c.keep_call.new.state) adds

@@ -1,11 +1,13 @@
-use Rattle.std.proofs.Common.{sym, ◌∙◌}
-use Rattle.script_grammar.specs.Adds.{is_want_at}
-use Rattle.host_rules.proofs.WantRules.{pass_some, some_pass}
+use Rattle.std.proofs.Common.{arith}
+use Rattle.std.proofs.lemmas.Bool.Decides.{nat_tests}
+use Rattle.host_rules.proofs.WantLines.{some_there, there_some}
+use Rattle.script_grammar.specs.Adds.{wants_at}
 use Rattle.host_rules.proofs.want.has_wants.Goals as goal
 
 pub returns : goal.returns
 returns c =
-    let test = is_want_at c.args.node c.args.session in (
-      λ t. some_pass test c.args.wants.now (sym c.any_wants.ensures ∙ t),
-      λ some. c.any_wants.ensures ∙ pass_some test c.args.wants.now some,
+    let at = wants_at c.args.wants.now c.args.node c.args.session in
+    let count = c.count.ensures in (
+      λ t. there_some at (grind (arith, nat_tests, t, count)),
+      λ some. let lt = some_there at some in grind (arith, nat_tests, lt, count),
     )

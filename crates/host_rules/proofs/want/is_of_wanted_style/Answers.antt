@@ -11,10 +11,9 @@ pub returns : goal.returns
 returns c =
     let d = draft_of c.args.state.now in
     let l = c.args.line.now in
-    let wants : c.as_slice.result.now ≡ d.locals.wants = c.as_slice.ensures.value in
     let node : c.args.node ≡ node_number d l.node = c.requires.node in
     let session : c.args.session ≡ session_value l.session = c.requires.session in
-    let same : wants_at c.as_slice.result.now c.args.node c.args.session ≡ wants_at d.locals.wants (node_number d l.node) (session_value l.session) = λ i. wants_at (wants i) (node i) (session i) in (
+    let same : wants_at d.locals.wants c.args.node c.args.session ≡ wants_at d.locals.wants (node_number d l.node) (session_value l.session) = λ i. wants_at d.locals.wants (node i) (session i) in (
       λ t. subst (λ (ws : List LocalWant). All (λ (w : LocalWant). w.style ≡ l.style) ws) same (c.are_of_style.ensures.0 t),
       λ all. c.are_of_style.ensures.1 (subst (λ (ws : List LocalWant). All (λ (w : LocalWant). w.style ≡ l.style) ws) (sym same) all),
     )
