@@ -1,7 +1,6 @@
 -- What is left over is fit at its node.
-use Rattle.std.specs.Prelude.{◌≡◌, ℕ, ◌*◌, ◌+◌, ◌/◌, ◌<◌, ◌≤◌, List, [], ◌∷◌, Result, Ok, Err, OnErr, OnOk, length, max, min}
-use Rattle.std.proofs.Common.{zero, suc, arith, refl, sym, subst}
-use Rattle.std.proofs.lemmas.List.Elements.{All-head, All-nil, All-push, All-tail, All-weaker}
+use Rattle.std.specs.Prelude.{◌≡◌, ℕ, ◌*◌, ◌+◌, ◌/◌, ◌<◌, ◌≤◌, length, max, min}
+use Rattle.std.proofs.Common.{arith, refl, sym, subst}
 use Rattle.path_state.specs.declared.fact.PathFact.{PathFact}
 use Rattle.resv_state.specs.declared.fact.ResvFact.{ResvFact}
 use Rattle.rsvp_base.specs.declared.addr.Addr.{Addr}
@@ -17,19 +16,14 @@ use Rattle.router_rules.specs.Bounds.{LivesUpTo}
 use Rattle.router_rules.specs.Steps.{IsFitStale}
 use Rattle.script_words.specs.declared.raw.FlowWord.{FlowWord}
 use Rattle.script_words.specs.Flows.{IsFlow, flow_value}
-use Rattle.tree_model.specs.declared.hops.End.{End}
 use Rattle.tree_model.specs.Networks.{Net, iface_of, node_of}
-use Rattle.tree_routing.specs.Answers.{with_end}
-use Rattle.left_over.specs.AtNodes.{ifaces_at_node, list_of}
-use Rattle.left_over.specs.Fit.{AreFitAll, place_of}
+use Rattle.left_over.specs.AtNodes.{ifaces_at_node}
+use Rattle.left_over.specs.Fit.{place_of}
 use Rattle.left_over.specs.Kept.{stale_of}
 use Rattle.left_over.specs.Standing.{CanStand}
 use Rattle.left_over.specs.declared.fact.Left.{Left}
 use Rattle.left_over.specs.declared.fact.Left.TheVariants as left_as
-use Rattle.left_over.specs.declared.fact.LeftOver.{LeftOver}
-use Rattle.left_over.proofs.Listing.{list_none}
 use Rattle.left_over.proofs.Interfaces.{iface_there}
-use Rattle.script_state.specs.Fitness.{ArePlaced}
 
 -- ---- flows and times
 pub sound : (w : FlowWord) → IsFlow w → IsSound (flow_value w)

@@ -1,6 +1,6 @@
 -- The senders of a left-over reservation: they are as its style has them.
 use Rattle.std.specs.Prelude.{◌≡◌, ℕ, ◌<◌, ◌==◌, true, not, List, [], ◌∷◌, length}
-use Rattle.std.proofs.Common.{inl, ⊎_elim, arith, refl, sym, ap, ◌∙◌}
+use Rattle.std.proofs.Common.{⊎_elim, arith, refl, sym, ap, ◌∙◌}
 use Rattle.std.proofs.lemmas.List.{length-map}
 use Rattle.rsvp_base.specs.declared.part.Part.{Part}
 use Rattle.rsvp_base.specs.declared.session.Sender.{Sender}
@@ -8,12 +8,11 @@ use Rattle.rsvp_base.specs.declared.style.StyleKind.{StyleKind}
 use Rattle.rsvp_base.specs.declared.style.StyleKind.TheVariants.{Wild, Fixed, Shared}
 use Rattle.rsvp_base.specs.declared.style.Unit.TheVariants.{One, Of}
 use Rattle.rsvp_base.specs.Members.{In}
-use Rattle.rsvp_base.specs.Orders.{names_from, senders as by_sender}
-use Rattle.rsvp_base.specs.Sets.{set_of}
+use Rattle.rsvp_base.specs.Orders.{senders as by_sender}
 use Rattle.rsvp_base.specs.Styles.{name_of, unit_of, unit_of_first}
 use Rattle.rsvp_base.specs.Table.{has, size}
 use Rattle.rsvp_base.specs.TokenBucket.{TokenBucket}
-use Rattle.rsvp_base.proofs.Counts.{set_below, set_of_in}
+use Rattle.rsvp_base.proofs.Counts.{set_of_in}
 use Rattle.rsvp_base.proofs.Members.{in_each}
 use Rattle.rsvp_base.proofs.Tables.{either}
 use Rattle.style_rules.specs.Parts.{IsOfStyle}

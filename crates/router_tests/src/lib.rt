@@ -1,5 +1,6 @@
 //! Tests of a router, message by message. A row is a script, in the language of `rsvpd replay`, and what it writes, with what stands
-//! in flight behind its last line, in the words of `rsvpd show`. The expected text is worked out by hand from the rules.
+//! in flight behind its last line, in the words of `rsvpd show`. What is wanted is worked out by hand from the rules. Above a message
+//! that a script puts in flight stands what its bytes say.
 //!
 //! There is nothing here but tests: a crate that has tests is proved twice, and the crates of a router are not.
 #![tactic(auto)]

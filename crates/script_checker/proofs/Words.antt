@@ -1,5 +1,5 @@
 -- A line that was read from at most 2,048 bytes has its form: its words are no longer, and a list of senders names someone.
-use Rattle.std.proofs.Common.{◌≡◌, ℕ, suc, ◌≤◌, ◌<◌, List, [], ◌∷◌, length, Bool, true, false, cond, Option, None, Some, Result, Ok, Err, arith, refl, sym, ap, subst, ◌∙◌, inl, inr, ⊎_elim}
+use Rattle.std.proofs.Common.{◌≡◌, ℕ, suc, ◌≤◌, ◌<◌, List, [], ◌∷◌, length, Bool, true, false, cond, Option, None, Some, Result, Ok, Err, arith, refl, sym, ap, subst, ◌∙◌, inl, inr}
 use Rattle.std.proofs.lemmas.List.{length-map}
 use Rattle.std.specs.Prelude.{◌*◌, ◌==◌, ◌&&◌, codes, nat_le, nat_lt, map as each}
 use Rattle.std.specs.List.{onto_first, slice_split}
@@ -7,14 +7,9 @@ use Rattle.std.specs.Str.{bytes_eq, byte}
 use Rattle.hex.specs.Hex.{decode_of}
 use Rattle.hex.specs.declared.error.FromHexError.{FromHexError}
 use Rattle.hex.proofs.HexLemmas.{decode_of-ok}
-use Rattle.rsvp_base.specs.declared.session.Sender.{Sender}
 use Rattle.rsvp_base.specs.declared.style.StyleKind.{StyleKind}
 use Rattle.rsvp_base.specs.declared.style.StyleKind.TheVariants.{Wild, Fixed, Shared}
 use Rattle.rsvp_base.specs.Members.{In}
-use Rattle.rsvp_base.specs.Orders.{names_from, senders as by_sender}
-use Rattle.rsvp_base.specs.Sets.{set_of}
-use Rattle.rsvp_base.specs.Table.{size}
-use Rattle.rsvp_base.proofs.Counts.{set_below}
 use Rattle.rsvp_base.proofs.Members.{in_each, in_filter}
 use Rattle.script_words.specs.declared.raw.SenderWord.{SenderWord}
 use Rattle.script_words.specs.Steps.{◌>>=◌, each_of}
@@ -23,14 +18,12 @@ use Rattle.script_words.specs.Numbers.{number_of}
 use Rattle.script_words.specs.Names.{name_of}
 use Rattle.script_words.specs.Addresses.{quad_of, quads_of}
 use Rattle.script_words.specs.Parts.{parts_of}
-use Rattle.script_words.specs.Sessions.{session_of, sender_of, sender_value, senders_of}
+use Rattle.script_words.specs.Sessions.{session_of, sender_of, senders_of}
 use Rattle.script_words.specs.Styles.{style_of}
 use Rattle.script_words.specs.Flows.{flow_of}
 use Rattle.script_words.proofs.PartLemmas.{some_parts}
-use Rattle.router_rules.specs.Steps.{IsFitList}
 use Rattle.script_grammar.specs.Grammar.{most_line}
 use Rattle.script_grammar.specs.LineKinds.{Kinds, as_wild, at_nodes, by_first, bytes_of, clear_line, declared, drop_line, end_line, flags_line, hop_line, hop_wall, in_flight, inject_line, is_comment, left_over, line_of, link_line, lone_number, node_line, numbered, others, pairs_of, pass_line, path_of, period_line, quit_line, report_line, reroute_line, resv_of, said_at_node, said_by, said_in_flight, said_left_over, said_other, seed_line, send_line, sender_wall, some_bytes, stale_blockade_line, stale_hop, stale_path_line, stale_resv_line, stale_sender, stale_senders, trace_line, want_line, want_of, want_senders, wild_word}
-use Rattle.script_grammar.specs.Values.{senders_value}
 use Rattle.script_grammar.specs.declared.line.Line.{Line}
 use Rattle.script_grammar.specs.declared.line.Line.TheVariants as line
 use Rattle.script_checker.specs.Forms.{Formed}

@@ -1,8 +1,7 @@
 use Rattle.std.proofs.Common.{◌≡◌, ◌∙◌, ℕ, List, [], ◌∷◌, ◌++◌, length-append, append_assoc, append-nil, refl, sym, ap, subst, arith}
 use Rattle.script_words.specs.Lines.{text_lines}
-use Rattle.script_grammar.specs.Draft.{Draft, nothing}
+use Rattle.script_grammar.specs.Draft.{nothing}
 use Rattle.script_grammar.specs.Grammar.{Leads}
-use Rattle.line_advice.specs.Advice.{IsAdvice}
 use Rattle.script_grammar.proofs.Scripts.{leads_on}
 use Rattle.script_demand.proofs.lines.check_lines.Goals as goal
 
@@ -39,7 +38,7 @@ pub returns-in-Err-Fault-clause-advised : goal.returns-in-Err-Fault-clause-advis
 returns-in-Err-Fault-clause-advised g c =
     let i = c.loop-line.invariant in
     let same : g.C.LinesBefore.lines c.feed_line.new.checker ≡ g.C.LinesBefore.lines c.loop-line.checker = rw c.in-Err-Fault.field-0-is at c.in-Err-Fault.ensures.same in
-    let told = subst (λ (d : Draft). IsAdvice d c.in-Some.line.now c.in-Err-Fault.why c.put_advice.new.advice.items) same c.put_advice.ensures in
+    let told = rw same at c.put_advice.ensures in
     record {
       told = told;
       bad = record {
