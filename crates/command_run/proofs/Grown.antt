@@ -10,7 +10,7 @@ use Rattle.grown_network.specs.Grown.{grown_plan}
 use Rattle.grown_summary.specs.Summaries.{is_as_demanded, summary, summary_of}
 use Rattle.grown_summary.specs.Texts.{booked_line, counts_text, equal_line, network_line, rounds_line, seed_line, summary_text}
 use Rattle.grown_summary.specs.declared.summary.Summary.{Summary}
-use Rattle.grown_runs.proofs.Ending.{a_grown_run_is_its_demand}
+use Rattle.seed_laws.proofs.Ending.{a_grown_run_is_its_demand}
 use Rattle.seed_laws.proofs.Equal.{a_grown_network_is_as_demanded}
 use Rattle.grown_player.specs.Endings.{IsGrownRun}
 use Rattle.grown_player.proofs.Ended.{out_of_memory}

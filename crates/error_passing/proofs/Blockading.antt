@@ -27,7 +27,7 @@ use Rattle.router_rules.specs.Errors.{blamed_senders, blockade_of, is_admission,
 use Rattle.router_rules.specs.Facts.{Blockade}
 use Rattle.router_rules.specs.NodeConfig.{NodeConfig, wall_lifetime}
 use Rattle.router_lookups.proofs.Once.{not_below_itself}
-use Rattle.node_facts.specs.State.{wall_at}
+use Rattle.node_sends.specs.State.{wall_at}
 use Rattle.node_sends.proofs.Via.{take_one}
 use Rattle.error_passing.specs.ResvErrs.{have_room, sender_wall, walls_by, walls_put, walls_set}
 use Rattle.error_passing.proofs.Going.{changed_with}

@@ -17,7 +17,7 @@ use Rattle.router_rules.specs.Facts.{resvs_of}
 use Rattle.router_rules.specs.Inputs.{ConfSend, Send}
 use Rattle.router_rules.specs.NodeConfig.{is_own}
 use Rattle.router_rules.specs.Sends.{conf_sends}
-use Rattle.node_facts.specs.State.{State, facts_of, resv_at, table_in}
+use Rattle.node_sends.specs.State.{State, facts_of, resv_at, table_in}
 use Rattle.error_passing.specs.Going.{are_some, confs_told}
 use Rattle.error_passing.specs.ResvConfs.{resv_conf_heard, resv_conf_sent}
 use Rattle.error_passing.proofs.Going.{confs_are, some_are}

@@ -24,7 +24,7 @@ use Rattle.router_rules.specs.Errors.{errors_on, lane_of as err_lane, sets_walls
 use Rattle.router_rules.specs.Facts.{Facts, PathState, Walls, paths_in, resvs_of}
 use Rattle.router_rules.specs.Known.{came_by}
 use Rattle.router_rules.specs.Sends.{error_sends}
-use Rattle.node_facts.specs.State.{State, facts_of, resv_at, wall_at}
+use Rattle.node_sends.specs.State.{State, facts_of, resv_at, wall_at}
 use Rattle.node_sends.specs.Seen.{lane_of, up_at}
 use Rattle.node_sends.proofs.Via.{via_same}
 use Rattle.error_passing.specs.Going.{errors_told}

@@ -44,7 +44,7 @@ use Rattle.router_rules.specs.Sends.{conf_send, conf_sends, error_send, error_se
 use Rattle.router_lookups.specs.OrderLaws.{IsInOrder, conf_place}
 use Rattle.router_lookups.proofs.Knowing.{named_made, names_told}
 use Rattle.router_lookups.proofs.Once.{given_rise}
-use Rattle.node_facts.specs.State.{resv_at}
+use Rattle.node_sends.specs.State.{resv_at}
 use Rattle.node_sends.specs.Upward.{up_for}
 use Rattle.node_sends.proofs.Towards.{blockaded_same, names_out_are, then_filtered}
 use Rattle.error_passing.specs.Going.{are_some, as_send, conf_row, confs_told, error_row, errors_told, is_held_back, is_way_held}

@@ -13,7 +13,7 @@ use Rattle.router_rules.specs.Facts.{Blockade, Facts}
 use Rattle.router_rules.specs.Inputs.{StaleWall}
 use Rattle.router_rules.specs.declared.answers.StaleErr.{StaleErr}
 use Rattle.router_rules.specs.declared.answers.StaleErr.TheVariants as stale
-use Rattle.node_facts.specs.State.{State, facts_of, wall_at}
+use Rattle.node_sends.specs.State.{State, facts_of, wall_at}
 
 pub at_most : (n : ℕ) → (512 < n → ⊥) → n ≤ 512
 at_most n h = omega (arith, h)

@@ -15,7 +15,7 @@ use Rattle.router_rules.specs.NodeConfig.{goes_out}
 use Rattle.router_rules.specs.Sends.{error_sends, once}
 use Rattle.router_rules.specs.declared.answers.Heard.TheVariants as heard
 use Rattle.router_rules.specs.declared.answers.Why.TheVariants as why
-use Rattle.node_facts.specs.State.{State, facts_of, path_at}
+use Rattle.node_sends.specs.State.{State, facts_of, path_at}
 use Rattle.error_passing.specs.PathErrs.{path_err_heard, path_err_sent}
 
 module _ (c : ℕ) (n : State) (e : ℕ) (m : PathErrMsg) where

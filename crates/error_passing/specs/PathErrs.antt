@@ -5,7 +5,7 @@ use Rattle.router_rules.specs.Errors.{act_path_err}
 use Rattle.router_rules.specs.Inputs.{Send}
 use Rattle.router_rules.specs.Sends.{error_sends}
 use Rattle.router_rules.specs.declared.answers.Heard.{Heard}
-use Rattle.node_facts.specs.State.{State, facts_of}
+use Rattle.node_sends.specs.State.{State, facts_of}
 
 unfoldable pub path_err_heard : ℕ → State → ℕ → PathErrMsg → Heard
 path_err_heard c n e m = (act_path_err n.place e m (facts_of c n)).heard

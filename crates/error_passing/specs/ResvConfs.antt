@@ -5,7 +5,7 @@ use Rattle.router_rules.specs.Confirming.{act_resv_conf}
 use Rattle.router_rules.specs.Inputs.{Send}
 use Rattle.router_rules.specs.Sends.{conf_sends}
 use Rattle.router_rules.specs.declared.answers.Heard.{Heard}
-use Rattle.node_facts.specs.State.{State, facts_of}
+use Rattle.node_sends.specs.State.{State, facts_of}
 
 unfoldable pub resv_conf_heard : ℕ → State → ResvConfMsg → Heard
 resv_conf_heard c n m = (act_resv_conf n.place m (facts_of c n)).heard

@@ -15,7 +15,7 @@ use Rattle.router_rules.specs.Inputs.{Send}
 use Rattle.router_rules.specs.NodeConfig.{NodeConfig, wall_lifetime}
 use Rattle.router_rules.specs.Sends.{error_sends}
 use Rattle.router_rules.specs.declared.answers.Heard.{Heard}
-use Rattle.node_facts.specs.State.{State, facts_of}
+use Rattle.node_sends.specs.State.{State, facts_of}
 
 unfoldable pub resv_err_heard : ℕ → State → ℕ → ResvErrMsg → Heard
 resv_err_heard c n e m = (act_resv_err n.place c e m (facts_of c n)).heard

@@ -1,6 +1,6 @@
 //! PathErrs go on.
 ghost use Rattle.std.specs.Prelude.{◌≡◌, ℕ, fold};
-ghost use Rattle.node_facts.specs.State.{State};
+ghost use Rattle.node_sends.specs.State.{State};
 ghost use Rattle.error_passing.specs.PathErrs.{path_err_heard, path_err_sent};
 
 use local_state::LocalSenders;

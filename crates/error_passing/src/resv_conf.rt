@@ -4,7 +4,7 @@ ghost use Rattle.std.specs.Option.{option_map};
 ghost use Rattle.rsvp_base.specs.Orders.{sessions};
 ghost use Rattle.rsvp_base.specs.Under.{under};
 ghost use Rattle.resv_state.specs.Walks.{rests};
-ghost use Rattle.node_facts.specs.State.{State, table_in};
+ghost use Rattle.node_sends.specs.State.{State, table_in};
 ghost use Rattle.rsvp_messages.specs.Units.{ask_style};
 ghost use Rattle.error_passing.specs.Going.{are_some, conf_row, confs_told, going_row};
 ghost use Rattle.error_passing.specs.ResvConfs.{resv_conf_heard, resv_conf_sent};

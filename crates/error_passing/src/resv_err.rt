@@ -12,7 +12,7 @@ ghost use Rattle.style_rules.specs.Toward.{is_walled};
 ghost use Rattle.resv_state.specs.Walks.{rests};
 ghost use Rattle.router_rules.specs.Facts.{paths_in};
 ghost use Rattle.router_rules.specs.Known.{came_by};
-ghost use Rattle.node_facts.specs.State.{State, facts_of, table_in};
+ghost use Rattle.node_sends.specs.State.{State, facts_of, table_in};
 ghost use Rattle.error_passing.specs.Going.{error_row, errors_told, going_row, is_held_back, is_way_held};
 ghost use Rattle.error_passing.specs.ResvErrs.{resv_err_facts, resv_err_heard, resv_err_sent};
 

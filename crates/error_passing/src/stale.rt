@@ -2,7 +2,7 @@
 ghost use Rattle.std.specs.Prelude.{◌≡◌, ◌≤◌, ◌+◌, ℕ, None, Some, MatchResult};
 ghost use Rattle.router_rules.specs.Calls.{act_stale, stale_refusal};
 ghost use Rattle.router_rules.specs.Inputs.{StaleWall};
-ghost use Rattle.node_facts.specs.State.{State, facts_of};
+ghost use Rattle.node_sends.specs.State.{State, facts_of};
 
 use blockade_state::Blockades;
 use router_rules::StaleErr;

@@ -26,9 +26,9 @@ use Rattle.calm_rounds.proofs.Holding.{hold_map, hold_both, hold_all, hold_later
 use Rattle.router_lookups.specs.SendLaws.{IsAskedOf}
 use Rattle.router_lookups.proofs.Asks.{nothing_asked, units_told}
 use Rattle.router_lookups.proofs.Knowing.{known_and_via}
-use Rattle.router_resvs.specs.AcceptingLaws.{CanBeTaken}
-use Rattle.router_resvs.proofs.Admitting.{what_is_accepted}
-use Rattle.router_resvs.proofs.Hopward.{why_a_resv_tear_is_sent}
+use Rattle.taken_resvs.specs.AcceptingLaws.{CanBeTaken}
+use Rattle.taken_resvs.proofs.Admitting.{what_is_accepted}
+use Rattle.taken_resvs.proofs.Hopward.{why_a_resv_tear_is_sent}
 use Rattle.router_rules.specs.Asking.{ask_of}
 use Rattle.router_rules.specs.Facts.{Facts, ResvState, resvs_of}
 use Rattle.router_rules.specs.Inputs.{Came, Spelt}
@@ -61,17 +61,17 @@ use Rattle.network_model.proofs.Changing.{where_a_send_goes}
 use Rattle.network_model.proofs.Machines.{quiet_of, in_flight_after}
 use Rattle.network_model.proofs.Quiet.{net_quiet}
 use Rattle.network_model.proofs.Stepping.{facts_after_made}
-use Rattle.network_steps.specs.Known.{IsKnown}
-use Rattle.network_steps.proofs.Known.{of_some, known_hold, node_there}
-use Rattle.network_steps.proofs.Sends.{sent_by_rule, goes_to_end}
-use Rattle.network_steps.proofs.Standing.{own_end, same_end, some_at}
-use Rattle.node_goals.specs.GoalByIface.{goal_at}
+use Rattle.settle_paths.specs.Known.{IsKnown}
+use Rattle.settle_paths.proofs.Known.{of_some, known_hold, node_there}
+use Rattle.settle_paths.proofs.Sends.{sent_by_rule, goes_to_end}
+use Rattle.settle_paths.proofs.Standing.{own_end, same_end, some_at}
+use Rattle.taken_resvs.specs.GoalByIface.{goal_at}
 use Rattle.settle_paths.specs.PreviousHops.{IsPrevious}
 use Rattle.settle_paths.proofs.PreviousHops.{ahead, ends_there, previous_hops_are_all_hops, same_by_addr}
-use Rattle.settle_resvs.specs.SoftResvs.{AsksFor, SaysResv, line_key_of, resv_at, soft_resv}
-use Rattle.settle_resvs.specs.Said.{HopKey, IsOver, IsSaid, IsKept, lane_of, resv_key}
-use Rattle.settle_resvs.proofs.SoftResvs.{resv_found, kept_found}
-use Rattle.settle_resvs.proofs.Said.{said_resvs_are_kept}
+use Rattle.sound_resvs.specs.SoftResvs.{AsksFor, SaysResv, line_key_of, resv_at, soft_resv}
+use Rattle.sound_resvs.specs.Said.{HopKey, IsOver, IsSaid, IsKept, lane_of, resv_key}
+use Rattle.sound_resvs.proofs.SoftResvs.{resv_found, kept_found}
+use Rattle.sound_resvs.proofs.Said.{said_resvs_are_kept}
 use Rattle.sound_resvs.specs.Below.{AreSoundBelow}
 use Rattle.sound_resvs.proofs.ResvSends.{IsResvSent, over_hop}
 use Rattle.sound_resvs.proofs.SoundResvs.{sent_here, firm_hold}

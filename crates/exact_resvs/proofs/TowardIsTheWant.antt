@@ -52,9 +52,9 @@ use Rattle.network_model.specs.Locals.{locals_of}
 use Rattle.network_model.specs.Sound.{ArePathsComplete, ArePathsSound, IsExact}
 use Rattle.network_model.specs.Worlds.{World, config_of}
 use Rattle.network_model.proofs.NodeLocals.{want_of_node}
-use Rattle.network_steps.proofs.Known.{of_some}
-use Rattle.network_steps.proofs.Standing.{goes_out_made}
-use Rattle.node_goals.proofs.WantStyles.{own_style, want_parts}
+use Rattle.settle_paths.proofs.Known.{of_some}
+use Rattle.settle_paths.proofs.Standing.{goes_out_made}
+use Rattle.taken_resvs.proofs.WantStyles.{own_style, want_parts}
 use Rattle.settle_paths.specs.PreviousHops.{IsPrevious}
 use Rattle.settle_paths.proofs.PreviousHops.{comes_over, via_is}
 use Rattle.sound_resvs.specs.Below.{AreSoundBelow}

@@ -19,7 +19,7 @@ use Rattle.style_rules.specs.Lines.{NextHop}
 use Rattle.style_rules.specs.Merge.{PartTable}
 use Rattle.router_lookups.proofs.Knowing.{lanes_made, lanes_told, via_made, via_told}
 use Rattle.router_rules.specs.Known.{Lane, lane_keys, lanes, via}
-use Rattle.node_facts.specs.State.{Said, facts_of, said_at}
+use Rattle.node_sends.specs.State.{Said, facts_of, said_at}
 use Rattle.node_sends.specs.Before.{lanes_by}
 use Rattle.node_sends.specs.Saying.{IsCleared, SessionLane, lane_by, told_at}
 use Rattle.node_sends.proofs.Saying.{cleared_gone, cleared_kept}

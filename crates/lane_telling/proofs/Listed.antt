@@ -21,7 +21,7 @@ use Rattle.router_rules.specs.Inputs.{Send}
 use Rattle.router_lookups.proofs.Knowing.{lanes_made}
 use Rattle.router_rules.specs.Known.{lanes}
 use Rattle.router_rules.specs.Requests.{toward}
-use Rattle.node_facts.specs.State.{Said, State, facts_of, said_at}
+use Rattle.node_sends.specs.State.{Said, State, facts_of, said_at}
 use Rattle.node_sends.specs.Before.{lanes_by}
 use Rattle.node_sends.specs.Saying.{IsRoomy, IsTold, SessionLane, lane_by, told_at, told_seen}
 use Rattle.node_sends.specs.Seen.{toward_at}

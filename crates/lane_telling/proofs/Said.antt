@@ -21,8 +21,8 @@ use Rattle.router_rules.specs.Inputs.{Send}
 use Rattle.router_rules.specs.Known.{Lane}
 use Rattle.router_rules.specs.NodeConfig.{period}
 use Rattle.router_rules.specs.Sends.{gone_names, resv_tear_send, same_parts, tear_of}
-use Rattle.node_facts.specs.State.{Said, State, facts_of}
-use Rattle.node_facts.proofs.Routed.{same_test}
+use Rattle.node_sends.specs.State.{Said, State, facts_of}
+use Rattle.node_sends.proofs.Routed.{same_test}
 use Rattle.node_sends.specs.Marks.{used_in}
 use Rattle.node_sends.specs.Saying.{SessionLane, ask_seen, told_ask, told_seen, torn_of, torn_seen, wish_seen}
 use Rattle.lane_wishes.specs.Wishes.{used_seen}

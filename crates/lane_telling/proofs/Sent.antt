@@ -34,8 +34,8 @@ use Rattle.router_rules.specs.Requests.{toward}
 use Rattle.router_rules.specs.NodeConfig.{is_session}
 use Rattle.router_rules.specs.Sends.{conf_sends, confirmed, error_sends, resv_send_to, resv_tear, sends, unmarked, used_marks}
 use Rattle.router_rules.specs.declared.answers.Heard.{Heard}
-use Rattle.node_facts.specs.State.{Said, State, facts_of, path_at, said_at}
-use Rattle.node_facts.proofs.Routed.{same_test}
+use Rattle.node_sends.specs.State.{Said, State, facts_of, path_at, said_at}
+use Rattle.node_sends.proofs.Routed.{same_test}
 use Rattle.node_sends.specs.Before.{IsBefore, lanes_by}
 use Rattle.node_sends.specs.Saying.{AreLanesOf, IsCleared, SessionLane, lane_by, told_seen, torn_seen}
 use Rattle.node_sends.specs.Marks.{unmarked_in, used_in}

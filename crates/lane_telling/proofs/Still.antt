@@ -16,7 +16,7 @@ use Rattle.router_rules.specs.Asking.{ask_of}
 use Rattle.router_rules.specs.Known.{Lane, names_via}
 use Rattle.router_rules.specs.Requests.{toward}
 use Rattle.router_rules.specs.Sends.{gone_names, marked_units, resv_tear_send, same_parts}
-use Rattle.node_facts.specs.State.{Said, State, facts_of, said_at}
+use Rattle.node_sends.specs.State.{Said, State, facts_of, said_at}
 use Rattle.node_sends.specs.Marks.{used_at, used_in}
 use Rattle.node_sends.specs.Saying.{SessionLane, ask_seen, lane_by, told_ask, told_seen, torn_of, torn_seen}
 use Rattle.lane_telling.specs.Rounds.{IsStill, renewed_by, renewed_seen, told_by, torn_by}

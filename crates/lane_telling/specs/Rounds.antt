@@ -13,7 +13,7 @@ use Rattle.router_rules.specs.Asking.{ask_of}
 use Rattle.router_rules.specs.Inputs.{Send}
 use Rattle.router_rules.specs.Known.{Lane}
 use Rattle.router_rules.specs.Requests.{toward}
-use Rattle.node_facts.specs.State.{Said, State, facts_of, said_at}
+use Rattle.node_sends.specs.State.{Said, State, facts_of, said_at}
 use Rattle.node_sends.specs.Saying.{SessionLane, ask_seen, lane_by, told_ask, told_at, told_seen, torn_seen}
 use Rattle.node_tables.specs.declared.tables.Tables.{Tables}
 

@@ -2,7 +2,7 @@
 ghost use Rattle.std.specs.Prelude.{◌≡◌, ◌<◌, ℕ, false, fold};
 ghost use Rattle.rsvp_base.specs.Table.{has, size};
 ghost use Rattle.lane_state.specs.Lanes.{lane_at, said_at, told};
-ghost use Rattle.node_facts.specs.State.{Said};
+ghost use Rattle.node_sends.specs.State.{Said};
 ghost use Rattle.node_sends.specs.Saying.{ask_seen, told_seen, torn_seen, wish_seen};
 ghost use Rattle.node_sends.specs.Seen.{toward_at};
 ghost use Rattle.router_rules.specs.Asking.{ask_of};

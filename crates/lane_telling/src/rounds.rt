@@ -5,7 +5,7 @@ ghost use Rattle.rsvp_base.specs.Table.{empty, get, keys, size};
 ghost use Rattle.router_rules.specs.Known.{Lane};
 ghost use Rattle.style_rules.specs.Lines.{NextHop};
 ghost use Rattle.style_rules.specs.Merge.{PartTable};
-ghost use Rattle.node_facts.specs.State.{Said, facts_of};
+ghost use Rattle.node_sends.specs.State.{Said, facts_of};
 ghost use Rattle.node_sends.specs.Before.{lanes_by};
 ghost use Rattle.node_sends.specs.Saying.{IsRoomy, IsTold};
 ghost use Rattle.node_sends.specs.SendsHere.{hops_in};

@@ -6,7 +6,7 @@ ghost use Rattle.router_rules.specs.Inputs.{Asked, only_heard};
 ghost use Rattle.router_rules.specs.Offers.{Offer};
 ghost use Rattle.router_rules.specs.Sends.{sends};
 ghost use Rattle.router_rules.specs.declared.answers.Heard.{Heard};
-ghost use Rattle.node_facts.specs.State.{IsSaid, Said, State, facts_of};
+ghost use Rattle.node_sends.specs.State.{IsSaid, Said, State, facts_of};
 ghost use Rattle.node_sends.specs.Before.{IsBefore, lanes_by};
 ghost use Rattle.node_sends.specs.Marks.{used_in};
 ghost use Rattle.node_sends.specs.Told.{offered};

@@ -30,7 +30,7 @@ use Rattle.router_rules.specs.Requests.{requests, want_request}
 use Rattle.router_rules.specs.Sends.{is_marked, own_wish, takes_part}
 use Rattle.local_state.specs.Wants.{asked_row}
 use Rattle.local_state.specs.declared.wants.LocalWant.{LocalWant}
-use Rattle.node_facts.specs.State.{Said, State, facts_of}
+use Rattle.node_sends.specs.State.{Said, State, facts_of}
 use Rattle.node_sends.specs.Seen.{lane_of, own_at, up_at}
 use Rattle.node_sends.specs.Upward.{own_for, own_want, up_for}
 use Rattle.node_sends.proofs.Towards.{requests_are, want_same}

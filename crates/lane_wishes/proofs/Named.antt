@@ -24,8 +24,8 @@ use Rattle.router_rules.specs.Facts.{Want}
 use Rattle.router_rules.specs.NodeConfig.{own}
 use Rattle.router_rules.specs.Sends.{handle_for, handle_of}
 use Rattle.local_state.specs.Wants.{own_want as kept_want}
-use Rattle.node_facts.specs.State.{State, facts_of, path_at}
-use Rattle.node_facts.proofs.Passing.{changed_same}
+use Rattle.node_sends.specs.State.{State, facts_of, path_at}
+use Rattle.node_sends.proofs.Passing.{changed_same}
 use Rattle.node_sends.specs.Seen.{hop_seen, lane_of, names_seen, own_at}
 use Rattle.node_sends.specs.Upward.{own_want}
 use Rattle.node_sends.proofs.Via.{via_same}

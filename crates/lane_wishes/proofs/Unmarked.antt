@@ -13,8 +13,8 @@ use Rattle.rsvp_base.proofs.Tables.{get-changed, same_table, then_do, tied_same,
 use Rattle.router_rules.specs.Facts.{Want, WantKey, Wants, want_keys}
 use Rattle.router_rules.specs.NodeConfig.{is_session}
 use Rattle.local_state.specs.Wants.{unmarked_at}
-use Rattle.node_facts.proofs.Passing.{changed_same, changed_twice}
-use Rattle.node_facts.proofs.Routed.{same_test}
+use Rattle.node_sends.proofs.Passing.{changed_same, changed_twice}
+use Rattle.node_sends.proofs.Routed.{same_test}
 use Rattle.node_sends.specs.Marks.{unmarked_in}
 use Rattle.lane_wishes.specs.Units.{UnitSet}
 use Rattle.lane_wishes.proofs.Sets.{has_keys}

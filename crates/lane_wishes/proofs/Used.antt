@@ -23,8 +23,8 @@ use Rattle.style_rules.specs.Lines.{NextHop}
 use Rattle.style_rules.specs.Merge.{PartTable}
 use Rattle.router_lookups.proofs.Tests.{parts_tested, parts_told}
 use Rattle.router_rules.specs.Sends.{marked_units, same_parts}
-use Rattle.node_facts.specs.State.{Said, State, facts_of, said_at}
-use Rattle.node_facts.proofs.Routed.{same_test}
+use Rattle.node_sends.specs.State.{Said, State, facts_of, said_at}
+use Rattle.node_sends.proofs.Routed.{same_test}
 use Rattle.node_sends.specs.Before.{lanes_by}
 use Rattle.node_sends.specs.Saying.{SessionLane, lane_by}
 use Rattle.node_sends.specs.Seen.{lane_of, toward_at}

@@ -12,7 +12,7 @@ use Rattle.style_rules.specs.Lines.{NextHop}
 use Rattle.style_rules.specs.Merge.{PartTable}
 use Rattle.router_rules.specs.Known.{Lane}
 use Rattle.router_rules.specs.Sends.{marked_units, own_wish}
-use Rattle.node_facts.specs.State.{Said, State, facts_of, said_at}
+use Rattle.node_sends.specs.State.{Said, State, facts_of, said_at}
 use Rattle.node_sends.specs.Saying.{SessionLane, lane_by}
 use Rattle.node_tables.specs.declared.tables.Tables.{Tables}
 use Rattle.node_sends.specs.Marks.{is_new_lane, used_in}

@@ -2,7 +2,7 @@
 ghost use Rattle.std.specs.Prelude.{◌≡◌, ◌∷◌, ◌++◌, ℕ, List, []};
 ghost use Rattle.std.specs.List.{list_any};
 ghost use Rattle.rsvp_base.specs.Table.{keys};
-ghost use Rattle.node_facts.specs.State.{Said};
+ghost use Rattle.node_sends.specs.State.{Said};
 ghost use Rattle.node_sends.specs.Before.{lanes_by};
 ghost use Rattle.node_sends.specs.Saying.{SessionLane};
 ghost use Rattle.node_tables.specs.Whole.{state_of};

@@ -5,7 +5,7 @@ ghost use Rattle.rsvp_base.specs.Orders.{sessions, units};
 ghost use Rattle.rsvp_base.specs.Table.{changed, get, keys};
 ghost use Rattle.rsvp_base.specs.Under.{under};
 ghost use Rattle.local_state.specs.Wants.{asked_row};
-ghost use Rattle.node_facts.specs.State.{Said};
+ghost use Rattle.node_sends.specs.State.{Said};
 ghost use Rattle.node_sends.specs.Seen.{lane_of};
 ghost use Rattle.node_tables.specs.Whole.{state_of};
 ghost use Rattle.node_sends.specs.Marks.{unmarked_in};

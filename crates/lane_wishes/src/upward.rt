@@ -1,6 +1,6 @@
 //! What goes toward a previous hop.
 ghost use Rattle.std.specs.Prelude.{◌≡◌, ℕ};
-ghost use Rattle.node_facts.specs.State.{Said, facts_of};
+ghost use Rattle.node_sends.specs.State.{Said, facts_of};
 ghost use Rattle.rsvp_base.specs.Table.{keys};
 ghost use Rattle.router_rules.specs.Asking.{first_of};
 ghost use Rattle.router_rules.specs.Sends.{handle_for};

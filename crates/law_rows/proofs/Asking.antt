@@ -67,7 +67,7 @@ use Rattle.network_steps.proofs.Standing.{some_at}
 use Rattle.settle_paths.specs.Sure.{forth}
 use Rattle.settle_paths.proofs.SoundPaths.{sound_again}
 use Rattle.settle_resvs.specs.Example.{asked, asking_world}
-use Rattle.sound_resvs.proofs.SoundResvs.{part_again}
+use Rattle.exact_resvs.proofs.SoundResvs.{part_again}
 
 abbrev pub key : SenderKey
 key = (session, first)

@@ -38,7 +38,7 @@ use Rattle.network_steps.proofs.Known.{same_kept}
 use Rattle.settle_paths.specs.Sure.{forth}
 use Rattle.settle_resvs.specs.Example.{asked, asking_world}
 use Rattle.settle_resvs.proofs.Example.{a_pair_says_a_reservation}
-use Rattle.sound_resvs.specs.Example.{lost_plan}
+use Rattle.exact_resvs.specs.Example.{lost_plan}
 use Rattle.node_goals.specs.GoalByIface.{goal_at}
 use Rattle.node_goals.specs.Laws.{AreSoundAt, HasOneStyle, WantsHaveStyles}
 use Rattle.law_rows.specs.Goals.{AGoalCanBeHeld, AGoalHasInterfaces, AReservationIsUnderTheGoal, ASessionHasOneStyle, AWantHasAStyle, back_line, back_locals, back_net, both, choosing_world, chosen, greedy, mixed, reserved, reserved_world, the_line, two_at_once}

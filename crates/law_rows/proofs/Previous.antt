@@ -34,7 +34,7 @@ use Rattle.settle_paths.proofs.Example.{a_path_is_left_over}
 use Rattle.settle_paths.proofs.Sure.{a_pair_is_sure}
 use Rattle.settle_resvs.specs.Example.{asking_world}
 use Rattle.settle_resvs.proofs.Example.{a_pair_says_a_reservation}
-use Rattle.sound_resvs.specs.Below.{AreSoundBelow, TowardIsAtMostTheWant}
+use Rattle.exact_resvs.specs.Below.{AreSoundBelow, TowardIsAtMostTheWant}
 use Rattle.exact_resvs.specs.Toward.{TowardIsTheWant}
 use Rattle.law_rows.specs.Previous.{APathComesOverAHop, TowardSaysSomething, early_world, lane, misled_world, second_facts}
 use Rattle.law_rows.proofs.Asking.{hosts, key}

@@ -27,7 +27,7 @@ use Rattle.network_steps.proofs.Computed.{Passes, in_rounds, through}
 use Rattle.network_steps.proofs.Keeping.{each_step_keeps_a_world_within_bounds}
 use Rattle.settle_resvs.specs.Example.{asking_world}
 use Rattle.settle_resvs.proofs.Example.{a_pair_says_a_reservation}
-use Rattle.sound_resvs.proofs.Example.{nothing_is_reserved_yet}
+use Rattle.exact_resvs.proofs.Example.{nothing_is_reserved_yet}
 use Rattle.taken_resvs.specs.Example.{the_error, the_resv}
 use Rattle.taken_resvs.proofs.Accepting.{locals_again}
 use Rattle.law_rows.specs.Ready.{AResvGoesAstray, AReservationIsOnItsWay, AnErrorIsOnItsWay, IsReady, blaming_world, stray_world}

@@ -16,8 +16,8 @@ use Rattle.settle_paths.specs.Example.{stale_path, stale_world}
 use Rattle.settle_paths.specs.SoftPaths.{soft_path, value_of}
 use Rattle.settle_paths.proofs.Example.{a_path_is_left_over}
 use Rattle.settle_resvs.specs.SoftResvs.{soft_resv}
-use Rattle.sound_resvs.specs.Example.{lost_world}
-use Rattle.sound_resvs.proofs.Example.{a_reservation_is_lost}
+use Rattle.exact_resvs.specs.Example.{lost_world}
+use Rattle.exact_resvs.proofs.Example.{a_reservation_is_lost}
 use Rattle.network_steps.specs.Beginning.{left_resv}
 use Rattle.law_rows.specs.Said.{APathSaysItsHop, NobodyAsksForIt, NobodySaysThePath, lost}
 

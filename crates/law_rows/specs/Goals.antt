@@ -30,7 +30,7 @@ use Rattle.network_model.specs.Worlds.{World, config_of}
 use Rattle.network_steps.specs.Example.{pair_net, sending_world}
 use Rattle.settle_paths.specs.Sure.{forth}
 use Rattle.settle_resvs.specs.Example.{asked, asking_world}
-use Rattle.sound_resvs.specs.Example.{lost_plan}
+use Rattle.exact_resvs.specs.Example.{lost_plan}
 use Rattle.node_goals.specs.GoalByIface.{goal_at}
 use Rattle.node_goals.specs.Laws.{AreSoundAt, AreWantParts, HasOneStyle, WantsHaveStyles}
 

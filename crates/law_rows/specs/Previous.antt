@@ -24,7 +24,7 @@ use Rattle.settle_paths.specs.Example.{stale_world}
 use Rattle.settle_paths.specs.PreviousHops.{AreAllPreviousHops, ArePreviousHops, IsPrevious}
 use Rattle.settle_paths.specs.Sure.{forth}
 use Rattle.settle_resvs.specs.Example.{asked, asking_world}
-use Rattle.sound_resvs.specs.Below.{AreSoundBelow, TowardIsAtMostTheWant}
+use Rattle.exact_resvs.specs.Below.{AreSoundBelow, TowardIsAtMostTheWant}
 use Rattle.exact_resvs.specs.Toward.{TowardIsTheWant}
 
 -- the host's node, which the Path reached

@@ -19,7 +19,7 @@ use Rattle.network_steps.specs.Rounds.{rounds_of}
 use Rattle.settle_paths.specs.Example.{stale_world}
 use Rattle.settle_paths.specs.SoftPaths.{soft_path}
 use Rattle.settle_resvs.specs.SoftResvs.{AllowsCuts, ResvKey, soft_resv}
-use Rattle.sound_resvs.specs.Example.{lost_world}
+use Rattle.exact_resvs.specs.Example.{lost_world}
 
 abbrev pub lost : ResvKey
 lost = record { session = session; style = Wild; unit = One; next = r2; to = 0 }

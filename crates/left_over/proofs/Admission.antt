@@ -40,7 +40,7 @@ use Rattle.router_rules.specs.Inputs.{StaleResv}
 use Rattle.router_rules.specs.NodeConfig.{NodeConfig}
 use Rattle.router_rules.specs.declared.answers.StaleErr.TheVariants as stale
 use Rattle.router_bounds.proofs.Putting.{put_booked, put_limits}
-use Rattle.router_lookups.proofs.Leaving.{table_put}
+use Rattle.resv_book.proofs.Leaving.{table_put}
 use Rattle.left_over.specs.Kept.{stale_of}
 use Rattle.left_over.specs.Standing.{Stands}
 use Rattle.left_over.specs.Tables.{learnt, paths_of, walls_of}

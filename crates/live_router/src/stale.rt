@@ -3,8 +3,8 @@ ghost use Rattle.std.specs.Prelude.{◌≡◌, ℕ, None, Some, MatchResult};
 ghost use Rattle.router_rules.specs.Rule.{facts_with, refusal_of_stale};
 ghost use Rattle.router_rules.specs.Steps.{IsFitStale};
 ghost use Rattle.node_facts.specs.State.{facts_at};
-ghost use Rattle.local_asking.specs.LeftOver.{resv_left, wall_left};
-ghost use Rattle.node_acting.specs.Coming.{stale_path};
+ghost use Rattle.router_core.specs.LeftOver.{resv_left, wall_left};
+ghost use Rattle.router_core.specs.Coming.{stale_path};
 
 use crate::live_router::LiveRouter;
 use path_state::PathFact;

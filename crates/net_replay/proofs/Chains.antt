@@ -1,9 +1,9 @@
 -- Whether steps crowd a world, one after the other.
 use Rattle.std.proofs.Common.{◌≡◌, ℕ, List, [], ◌∷◌, ◌++◌, Bool, true, false, refl}
 use Rattle.calm_rounds.specs.Machine.{run}
-use Rattle.network_model.specs.Runs.{is_crowded, crowds}
-use Rattle.network_model.specs.Steps.{Step, step, machine}
-use Rattle.network_model.specs.Worlds.{World}
+use Rattle.network_parcels.specs.Runs.{is_crowded, crowds}
+use Rattle.network_parcels.specs.Steps.{Step, step, machine}
+use Rattle.network_parcels.specs.Worlds.{World}
 
 module _ (q : ℕ) where
   pub run_append : (ss ts : List Step) (w : World) → run (machine q) (ss ++ ts) w ≡ run (machine q) ts (run (machine q) ss w)

@@ -4,8 +4,8 @@ use Rattle.std.specs.Prelude.{slice_get, map as each, min, cond, Err}
 use Rattle.std.specs.List.{remove}
 use Rattle.rsvp_base.specs.declared.addr.Addr.{Addr}
 use Rattle.router_rules.specs.declared.answers.Heard.{Heard}
-use Rattle.network_model.specs.Steps.{Deliver, sent, step}
-use Rattle.network_model.specs.Worlds.{World}
+use Rattle.network_parcels.specs.Steps.{Deliver, sent, step}
+use Rattle.network_parcels.specs.Worlds.{World}
 use Rattle.network_parcels.specs.Parcels.{parcel}
 use Rattle.net_replay.specs.Agreeing.{State, AreNodes, Agrees, most_count}
 use Rattle.net_replay.specs.Due.{IsDue, heard_of, told}

@@ -11,9 +11,9 @@ use Rattle.tree_model.specs.Networks.{Net, ends_of, iface_of, node_of, node_of_e
 use Rattle.tree_model.proofs.Ifaces.{interfaces_are_ends}
 use Rattle.router_rules.specs.declared.answers.Heard.{Heard}
 use Rattle.std.proofs.lemmas.Option.{slice_get_past}
-use Rattle.network_model.specs.Runs.{node_facts}
-use Rattle.network_model.specs.Steps.{Deliver, at_node, input_at, sent, step}
-use Rattle.network_model.specs.Worlds.{Item, World}
+use Rattle.network_parcels.specs.Runs.{node_facts}
+use Rattle.network_parcels.specs.Steps.{Deliver, at_node, input_at, sent, step}
+use Rattle.network_parcels.specs.Worlds.{Item, World}
 use Rattle.net_replay.specs.Agreeing.{IsNode, AreNodes}
 use Rattle.net_replay.specs.Posting.{Post, with_post}
 use Rattle.net_replay.specs.Due.{IsDue, heard_at, heard_of}

@@ -12,8 +12,8 @@ use Rattle.message_writing.proofs.Bytes.{in_range_spelt}
 use Rattle.rsvp_messages.specs.Proper.{IsProper}
 use Rattle.router_rules.specs.Inputs.{Send}
 use Rattle.tree_model.specs.Networks.{Net, end_at}
-use Rattle.network_model.specs.Links.{goes_to, copy_to, copies_of, all_copies}
-use Rattle.network_model.specs.Worlds.{Item}
+use Rattle.network_parcels.specs.Links.{goes_to, copy_to, copies_of, all_copies}
+use Rattle.network_parcels.specs.Worlds.{Item}
 use Rattle.network_parcels.specs.Parcels.{Parcel, parcel}
 use Rattle.net_replay.specs.Posting.{Post, put_behind, parcels_of, all_parcels, with_post}
 use Rattle.net_replay.proofs.Behind.{all_posted, few_put, none_behind, range_after, then_behind}

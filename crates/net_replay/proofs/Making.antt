@@ -6,9 +6,9 @@ use Rattle.router_rules.specs.Facts.{Facts}
 use Rattle.router_rules.specs.Inputs.{Input, Came}
 use Rattle.tree_model.specs.declared.hops.End.{End}
 use Rattle.tree_model.specs.Networks.{iface_of}
-use Rattle.network_model.specs.Links.{all_copies}
-use Rattle.network_model.specs.Steps.{Step, Deliver, at_node, came, came_by_end, input_at, outcome_of, outcome, facts_from, sent_from, sent, step}
-use Rattle.network_model.specs.Worlds.{Item, World}
+use Rattle.network_parcels.specs.Links.{all_copies}
+use Rattle.network_parcels.specs.Steps.{Step, Deliver, at_node, came, came_by_end, input_at, outcome_of, outcome, facts_from, sent_from, sent, step}
+use Rattle.network_parcels.specs.Worlds.{Item, World}
 
 module _ (q : ℕ) (s : Step) (w : World) where
   -- what a node sends, as items

@@ -20,9 +20,9 @@ use Rattle.tree_model.specs.declared.hops.End.{End}
 use Rattle.tree_model.specs.Networks.{Net, ends_of, iface_of}
 use Rattle.tree_model.specs.Trees.{outward}
 use Rattle.tree_routing.specs.Routes.{LeavesBy}
-use Rattle.network_model.specs.Steps.{Reroute, rerouted, outcome, step}
-use Rattle.network_model.specs.Worlds.{World, bits_of, config_of, route_of}
-use Rattle.network_model.proofs.Stepping.{facts_after_made}
+use Rattle.network_parcels.specs.Steps.{Reroute, rerouted, outcome, step}
+use Rattle.network_parcels.specs.Worlds.{World, bits_of, config_of, route_of}
+use Rattle.network_parcels.proofs.Stepping.{facts_after_made}
 use Rattle.net_replay.specs.Agreeing.{IsNode, IsSteady}
 use Rattle.net_replay.specs.Following.{Seen, AreSpelt}
 use Rattle.net_replay.specs.Mailing.{items_sent, ArePut}

@@ -7,9 +7,9 @@ use Rattle.std.proofs.lemmas.Bool.{cases_eq}
 use Rattle.router_rules.specs.Facts.{Facts}
 use Rattle.router_rules.specs.Inputs.{Input}
 use Rattle.tree_model.specs.Networks.{Net}
-use Rattle.network_model.specs.Steps.{Step, ms_of, net_after, input_at, outcome_of, outcome, step}
-use Rattle.network_model.specs.Worlds.{World, config_of}
-use Rattle.network_model.proofs.Stepping.{facts_after_made}
+use Rattle.network_parcels.specs.Steps.{Step, ms_of, net_after, input_at, outcome_of, outcome, step}
+use Rattle.network_parcels.specs.Worlds.{World, config_of}
+use Rattle.network_parcels.proofs.Stepping.{facts_after_made}
 use Rattle.net_replay.specs.Agreeing.{IsNode, AreNodes}
 use Rattle.net_replay.specs.Following.{Seen}
 use Rattle.net_replay.proofs.Making.{as_many_nodes}

@@ -6,9 +6,9 @@ use Rattle.router_rules.specs.NodeConfig.{NodeConfig}
 use Rattle.router_rules.specs.Rule.{Outcome, rule, facts_after, sent_after}
 use Rattle.router_rules.proofs.Fronting.{fronts_are_the_rule}
 use Rattle.tree_model.specs.Networks.{Net}
-use Rattle.network_model.specs.Links.{all_copies}
-use Rattle.network_model.specs.Steps.{Step, ms_of, net_after, at_node, input_at, outcome_of, outcome, sent, step}
-use Rattle.network_model.specs.Worlds.{Item, World, config_of}
+use Rattle.network_parcels.specs.Links.{all_copies}
+use Rattle.network_parcels.specs.Steps.{Step, ms_of, net_after, at_node, input_at, outcome_of, outcome, sent, step}
+use Rattle.network_parcels.specs.Worlds.{Item, World, config_of}
 use Rattle.net_replay.specs.Agreeing.{IsNode, AreNodes}
 use Rattle.net_replay.specs.Following.{Seen, AreSpelt}
 use Rattle.net_replay.specs.Mailing.{items_sent, ArePut}

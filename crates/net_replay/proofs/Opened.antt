@@ -11,8 +11,8 @@ use Rattle.tree_model.specs.Networks.{Net, ends_of}
 use Rattle.tree_model.specs.Trees.{trees_of}
 use Rattle.tree_model.specs.Valid.{IsValid}
 use Rattle.tree_model.proofs.Ifaces.{interfaces_are_ends}
-use Rattle.network_model.specs.Runs.{Plan, first_facts, first_world}
-use Rattle.network_model.specs.Worlds.{with_iface, ifaces_at, config_of}
+use Rattle.network_parcels.specs.Runs.{Plan, first_facts, first_world}
+use Rattle.network_parcels.specs.Worlds.{with_iface, ifaces_at, config_of}
 use Rattle.network_parcels.proofs.MadeTables.{many, read_made, made_at}
 use Rattle.net_replay.specs.Agreeing.{State, AreWired, IsSteady, AreNodes, Agrees}
 use Rattle.net_replay.specs.Following.{Seen}

@@ -2,9 +2,9 @@
 use Rattle.std.proofs.Common.{◌≡◌, ℕ, List, [], ◌∷◌, ◌++◌, true, false, Option, None, Some, refl, sym, ap, ◌∙◌, append-nil}
 use Rattle.std.specs.Prelude.{Err}
 use Rattle.rsvp_base.specs.declared.room.NoMemory.{NoMemory as NoRoom}
-use Rattle.network_model.specs.Runs.{crowds, written}
-use Rattle.network_model.specs.Steps.{Step, Report, Flags, step}
-use Rattle.network_model.specs.Worlds.{World}
+use Rattle.network_parcels.specs.Runs.{crowds, written}
+use Rattle.network_parcels.specs.Steps.{Step, Report, Flags, step}
+use Rattle.network_parcels.specs.Worlds.{World}
 use Rattle.net_replay.specs.Agreeing.{State, Agrees}
 use Rattle.net_replay.specs.Following.{Seen}
 use Rattle.net_replay.specs.Reporting.{Says, report_said}

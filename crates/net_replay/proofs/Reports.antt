@@ -14,8 +14,8 @@ use Rattle.router_rules.specs.NodeConfig.{NodeConfig}
 use Rattle.style_rules.specs.Lines.{held}
 use Rattle.tree_model.specs.declared.hops.End.{End}
 use Rattle.tree_model.specs.Networks.{iface_of}
-use Rattle.network_model.specs.Runs.{with_parts, node_facts, end_report}
-use Rattle.network_model.specs.Worlds.{World, config_of}
+use Rattle.network_parcels.specs.Runs.{with_parts, node_facts, end_report}
+use Rattle.network_parcels.specs.Worlds.{World, config_of}
 use Rattle.net_replay.specs.Agreeing.{IsNode}
 use Rattle.net_replay.specs.Following.{Seen}
 use Rattle.net_replay.specs.Reporting.{Says, entry_said, report_kind}

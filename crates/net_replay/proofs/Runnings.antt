@@ -2,10 +2,10 @@
 use Rattle.std.proofs.Common.{◌≡◌, ℕ, suc, ◌+◌, List, [], ◌∷◌, ◌++◌, Bool, true, false, refl, sym, ap, subst, ◌∙◌, append-nil, append_assoc, arith, ltb-false}
 use Rattle.std.specs.Prelude.{nat_lt, Result, Ok, Err, IfErr, IsErr, OnOk, OnErr, map as each}
 use Rattle.calm_rounds.specs.Machine.{run}
-use Rattle.network_model.specs.Events.{Event, at_place, last_piece, steps_of, all_steps}
-use Rattle.network_model.specs.Runs.{is_crowded, crowds, uncrowded, text_of, written}
-use Rattle.network_model.specs.Steps.{Step, Piece, step, machine}
-use Rattle.network_model.specs.Worlds.{World}
+use Rattle.network_parcels.specs.Events.{Event, at_place, last_piece, steps_of, all_steps}
+use Rattle.network_parcels.specs.Runs.{is_crowded, crowds, uncrowded, text_of, written}
+use Rattle.network_parcels.specs.Steps.{Step, Piece, step, machine}
+use Rattle.network_parcels.specs.Worlds.{World}
 use Rattle.net_replay.specs.Agreeing.{State, Agrees}
 use Rattle.net_replay.specs.Following.{Seen}
 use Rattle.net_replay.specs.Running.{Ran, IsSame}

@@ -5,9 +5,9 @@ use Rattle.std.specs.List.{remove}
 use Rattle.rsvp_base.specs.declared.addr.Addr.{Addr}
 use Rattle.calm_rounds.specs.Machine.{items_of}
 use Rattle.tree_model.specs.Networks.{Net}
-use Rattle.network_model.specs.Runs.{is_crowded, crowds}
-use Rattle.network_model.specs.Steps.{Step, Deliver, Copy, Inject, ms_of, net_after, input_at, arrived, rest, words_after, trace_after, sent, step}
-use Rattle.network_model.specs.Worlds.{Item, World}
+use Rattle.network_parcels.specs.Runs.{is_crowded, crowds}
+use Rattle.network_parcels.specs.Steps.{Step, Deliver, Copy, Inject, ms_of, net_after, input_at, arrived, rest, words_after, trace_after, sent, step}
+use Rattle.network_parcels.specs.Worlds.{Item, World}
 use Rattle.network_parcels.specs.Parcels.{Parcel, parcel}
 use Rattle.net_replay.specs.Agreeing.{State, IsItem, AreItems, AreNodes, Agrees, AreReady, most_count}
 use Rattle.net_replay.specs.Due.{IsDue}

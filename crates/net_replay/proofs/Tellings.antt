@@ -11,9 +11,9 @@ use Rattle.router_rules.specs.Facts.{Facts}
 use Rattle.router_rules.specs.Inputs.{Arrival, Spelt, Unspelt}
 use Rattle.router_rules.specs.declared.answers.Heard.{Heard}
 use Rattle.tree_model.specs.declared.hops.End.{End}
-use Rattle.network_model.specs.Runs.{with_parts, node_facts, delivery_text, heard_line, written}
-use Rattle.network_model.specs.Steps.{Deliver, outcome}
-use Rattle.network_model.specs.Worlds.{Item, World}
+use Rattle.network_parcels.specs.Runs.{with_parts, node_facts, delivery_text, heard_line, written}
+use Rattle.network_parcels.specs.Steps.{Deliver, outcome}
+use Rattle.network_parcels.specs.Worlds.{Item, World}
 use Rattle.net_replay.specs.Due.{told, heard_at, heard_of}
 use Rattle.net_replay.specs.Telling.{arrival_kind, line_of}
 

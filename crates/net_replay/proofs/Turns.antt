@@ -3,8 +3,8 @@ use Rattle.std.proofs.Common.{◌≡◌, ℕ, zero, suc, ◌+◌, ◌≤◌, Lis
 use Rattle.std.specs.Prelude.{slice_get, map as each}
 use Rattle.std.proofs.lemmas.List.{map-append}
 use Rattle.router_rules.specs.Facts.{Facts}
-use Rattle.network_model.specs.Steps.{Step, sent_from}
-use Rattle.network_model.specs.Worlds.{Item, World}
+use Rattle.network_parcels.specs.Steps.{Step, sent_from}
+use Rattle.network_parcels.specs.Worlds.{Item, World}
 use Rattle.net_replay.proofs.Making.{copies_at}
 
 module _ (q : ℕ) (w : World) (s : Step) where

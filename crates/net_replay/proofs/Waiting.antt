@@ -6,8 +6,8 @@ use Rattle.router_rules.specs.NodeConfig.{NodeConfig}
 use Rattle.router_rules.specs.Rule.{Outcome, rule, facts_after, sent_after}
 use Rattle.router_rules.proofs.Fronting.{fronts_are_the_rule}
 use Rattle.tree_model.specs.Networks.{Net}
-use Rattle.network_model.specs.Steps.{Piece, next_state, state_after, word_for, outcome, step}
-use Rattle.network_model.specs.Worlds.{Item, World, config_of}
+use Rattle.network_parcels.specs.Steps.{Piece, next_state, state_after, word_for, outcome, step}
+use Rattle.network_parcels.specs.Worlds.{Item, World, config_of}
 use Rattle.net_replay.specs.Agreeing.{IsNode}
 use Rattle.net_replay.specs.Posting.{Post, with_post}
 use Rattle.net_replay.specs.Following.{Seen, AreSpelt}

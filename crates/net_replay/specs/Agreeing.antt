@@ -4,7 +4,7 @@ use Rattle.std.specs.List.{All, AllZip}
 use Rattle.rsvp_base.specs.declared.addr.Addr.{Addr}
 use Rattle.router_rules.specs.NodeConfig.{NodeConfig}
 use Rattle.tree_model.specs.Networks.{Net, ends_of}
-use Rattle.network_model.specs.Worlds.{Item, World, config_of}
+use Rattle.network_parcels.specs.Worlds.{Item, World, config_of}
 use Rattle.network_parcels.specs.Parcels.{Parcel}
 use Rattle.net_replay.specs.Posting.{Post}
 use Rattle.net_replay.specs.Following.{IsArrival, Seen}

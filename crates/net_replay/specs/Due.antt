@@ -3,9 +3,9 @@ use Rattle.std.specs.Prelude.{◌≡◌, ℕ, List, [], Option, None, Some, slic
 use Rattle.rsvp_base.specs.declared.addr.Addr.{Addr}
 use Rattle.tree_model.specs.Networks.{Net}
 use Rattle.tree_model.specs.declared.hops.End.{End}
-use Rattle.network_model.specs.Runs.{node_facts, delivery_text}
-use Rattle.network_model.specs.Steps.{Deliver, outcome}
-use Rattle.network_model.specs.Worlds.{Item, World}
+use Rattle.network_parcels.specs.Runs.{node_facts, delivery_text}
+use Rattle.network_parcels.specs.Steps.{Deliver, outcome}
+use Rattle.network_parcels.specs.Worlds.{Item, World}
 use Rattle.router_rules.specs.Facts.{Facts}
 use Rattle.router_rules.specs.Inputs.{Arrival}
 use Rattle.router_rules.specs.declared.answers.Heard.{Heard}

@@ -1,6 +1,6 @@
 -- What local calls and events are in the model.
 use Rattle.std.specs.Prelude.{◌≤◌, Bool, true, length}
-use Rattle.network_model.specs.Events.{Event as AnEvent, AtNode, Waits, Pass, DeliverAt, LoseAt, CopyAt, ClearNode, Rounds, Traces, Reports, ReportsFlags, Injects, Reroutes}
+use Rattle.network_parcels.specs.Events.{Event as AnEvent, AtNode, Waits, Pass, DeliverAt, LoseAt, CopyAt, ClearNode, Rounds, Traces, Reports, ReportsFlags, Injects, Reroutes}
 use Rattle.router_rules.specs.Inputs.{Arrival, Local, SendAs, DropAs, WantAs, QuitAll}
 use Rattle.router_rules.specs.Steps.{IsFitCall}
 use Rattle.tree_model.specs.Networks.{Net}

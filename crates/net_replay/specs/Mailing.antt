@@ -2,8 +2,8 @@
 use Rattle.std.specs.Prelude.{◌≡◌, ℕ, List, map as each}
 use Rattle.router_rules.specs.Inputs.{Send}
 use Rattle.tree_model.specs.Networks.{Net}
-use Rattle.network_model.specs.Links.{all_copies}
-use Rattle.network_model.specs.Worlds.{Item}
+use Rattle.network_parcels.specs.Links.{all_copies}
+use Rattle.network_parcels.specs.Worlds.{Item}
 use Rattle.network_parcels.specs.Parcels.{Parcel}
 use Rattle.net_replay.specs.Posting.{Post, put_behind}
 use Rattle.net_replay.specs.Agreeing.{AreItems}

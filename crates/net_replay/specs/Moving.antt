@@ -5,8 +5,8 @@ use Rattle.tree_model.specs.declared.hops.LinkHop.{LinkHop}
 use Rattle.tree_model.specs.Networks.{Net}
 use Rattle.tree_model.specs.Ranks.{IsLoopFreeIn}
 use Rattle.tree_model.specs.Trees.{IsGrown}
-use Rattle.network_model.specs.Steps.{rerouted}
-use Rattle.network_model.specs.Worlds.{World}
+use Rattle.network_parcels.specs.Steps.{rerouted}
+use Rattle.network_parcels.specs.Worlds.{World}
 use Rattle.net_replay.specs.Following.{Seen}
 use Rattle.net_replay.specs.Agreeing.{AreNodes}
 

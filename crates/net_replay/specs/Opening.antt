@@ -1,8 +1,8 @@
 -- A network before anything happened.
 use Rattle.std.specs.Prelude.{◌≡◌, ℕ, List, map as each}
 use Rattle.std.specs.List.{range_with_len}
-use Rattle.network_model.specs.Runs.{Plan, first_facts}
-use Rattle.network_model.specs.Worlds.{config_of}
+use Rattle.network_parcels.specs.Runs.{Plan, first_facts}
+use Rattle.network_parcels.specs.Worlds.{config_of}
 use Rattle.router_rules.specs.NodeConfig.{NodeConfig}
 use Rattle.tree_model.specs.Networks.{Net}
 use Rattle.tree_model.specs.Trees.{trees_of}

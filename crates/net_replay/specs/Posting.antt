@@ -5,7 +5,7 @@ use Rattle.message_writing.specs.Encoding.{encoding}
 use Rattle.message_writing.specs.Written.{is_in_range}
 use Rattle.router_rules.specs.Inputs.{Send}
 use Rattle.tree_model.specs.Networks.{Net, end_at}
-use Rattle.network_model.specs.Links.{goes_to}
+use Rattle.network_parcels.specs.Links.{goes_to}
 use Rattle.network_parcels.specs.Parcels.{Parcel, parcel}
 
 -- what is in flight in a network, and the node that posts

@@ -6,9 +6,9 @@ use Rattle.router_rules.specs.declared.entry.Entry.{Entry}
 use Rattle.router_rules.specs.Facts.{Facts}
 use Rattle.router_rules.specs.NodeConfig.{NodeConfig}
 use Rattle.tree_model.specs.declared.hops.End.{End}
-use Rattle.network_model.specs.Runs.{plain_report, flags_report, end_report, whole_report}
-use Rattle.network_model.specs.Texts.{flagged_text}
-use Rattle.network_model.specs.Worlds.{World}
+use Rattle.network_parcels.specs.Runs.{plain_report, flags_report, end_report, whole_report}
+use Rattle.network_parcels.specs.Texts.{flagged_text}
+use Rattle.network_parcels.specs.Worlds.{World}
 
 -- a text was appended; or memory ran out, and a prefix of it was
 abbrev pub Says : Result (Unit {0}) NoMemory → List ℕ → List ℕ → List ℕ → Type 0

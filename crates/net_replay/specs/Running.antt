@@ -1,9 +1,9 @@
 -- Steps that were made, and the text that they wrote.
 use Rattle.std.specs.Prelude.{◌≡◌, ℕ, true, false, List, ◌++◌, Option, None, Some, Result, Ok, Err}
 use Rattle.calm_rounds.specs.Machine.{run}
-use Rattle.network_model.specs.Runs.{crowds, uncrowded, text_of}
-use Rattle.network_model.specs.Steps.{Step, machine}
-use Rattle.network_model.specs.Worlds.{World}
+use Rattle.network_parcels.specs.Runs.{crowds, uncrowded, text_of}
+use Rattle.network_parcels.specs.Steps.{Step, machine}
+use Rattle.network_parcels.specs.Worlds.{World}
 use Rattle.net_replay.specs.Agreeing.{State, Agrees}
 use Rattle.net_replay.specs.Following.{Seen}
 use Rattle.net_replay.specs.declared.world_err.WorldErr.{WorldErr}

@@ -4,7 +4,7 @@ use Rattle.rsvp_messages.specs.declared.message.Kind.{Kind}
 use Rattle.rsvp_messages.specs.Kinds.{kind_of}
 use Rattle.router_rules.specs.Inputs.{Arrival, Spelt, Unspelt}
 use Rattle.router_rules.specs.declared.answers.Heard.{Heard}
-use Rattle.network_model.specs.Runs.{kind_text, heard_text}
+use Rattle.network_parcels.specs.Runs.{kind_text, heard_text}
 
 abbrev pub arrival_kind : Arrival → Option Kind
 arrival_kind (Spelt m) = Some (kind_of m)

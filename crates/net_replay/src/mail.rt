@@ -2,7 +2,7 @@
 ghost use Rattle.std.specs.Prelude.{◌≡◌, ◌||◌, ◌≤◌, ◌∷◌, [], true, false, IfOk, IfSome, IfNone, MatchOption, None, Some, length, map, slice_get};
 ghost use Rattle.std.specs.List.{remove};
 ghost use Rattle.message_writing.specs.Encoding.{encoding};
-ghost use Rattle.network_model.specs.Links.{goes_to};
+ghost use Rattle.network_parcels.specs.Links.{goes_to};
 ghost use Rattle.tree_model.specs.Networks.{end_at};
 ghost use Rattle.network_parcels.specs.Parcels.{Parcel as AParcel, parcel};
 ghost use Rattle.net_replay.specs.Posting.{put_behind, with_post};

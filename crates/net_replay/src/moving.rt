@@ -3,8 +3,8 @@ ghost use Rattle.std.specs.Prelude.{◌≡◌, ◌≤◌, ℕ, IfOk, List, map, 
 ghost use Rattle.tree_model.specs.Trees.{trees_of};
 ghost use Rattle.rsvp_base.specs.declared.addr.Addr.{Addr as AnAddr};
 ghost use Rattle.tree_model.specs.declared.hops.LinkHop.{LinkHop as AHop};
-ghost use Rattle.network_model.specs.Steps.{Reroute, sent, step};
-ghost use Rattle.network_model.specs.Worlds.{World as AWorld, route_of};
+ghost use Rattle.network_parcels.specs.Steps.{Reroute, sent, step};
+ghost use Rattle.network_parcels.specs.Worlds.{World as AWorld, route_of};
 ghost use Rattle.net_replay.specs.Agreeing.{AreNodes};
 ghost use Rattle.net_replay.specs.Mailing.{ArePut};
 ghost use Rattle.net_replay.specs.Moving.{AreMoving};

@@ -1,8 +1,8 @@
 //! What events do to a network.
 ghost use Rattle.std.specs.Prelude.{◌≡◌, ◌≢◌, ◌≤◌, ◌*◌, ◌∷◌, [], ℕ, List, None, Some, Err, IfErr, true};
 ghost use Rattle.std.specs.List.{repeat};
-ghost use Rattle.network_model.specs.Events.{at_place, last_piece, pieces, steps_of};
-ghost use Rattle.network_model.specs.Steps.{Copy, Deliver, Lose, Piece, Reroute};
+ghost use Rattle.network_parcels.specs.Events.{at_place, last_piece, pieces, steps_of};
+ghost use Rattle.network_parcels.specs.Steps.{Copy, Deliver, Lose, Piece, Reroute};
 ghost use Rattle.router_rules.specs.Inputs.{Arrival};
 ghost use Rattle.net_replay.specs.Happening.{CanHappen, IsFitEvent, IsRead, event_with, takes_memory};
 ghost use Rattle.net_replay.specs.Moving.{CanMove};

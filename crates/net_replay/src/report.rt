@@ -1,9 +1,9 @@
 //! Reports of ends.
 ghost use Rattle.std.specs.Prelude.{◌≡◌, ◌++◌, ◌∷◌, [], ℕ, OnOk, length, slice_get, Some};
 ghost use Rattle.std.specs.List.{flat_map};
-ghost use Rattle.network_model.specs.Runs.{end_report, whole_report};
-ghost use Rattle.network_model.specs.Texts.{flag_text, police_text};
-ghost use Rattle.network_model.specs.Worlds.{World as AWorld};
+ghost use Rattle.network_parcels.specs.Runs.{end_report, whole_report};
+ghost use Rattle.network_parcels.specs.Texts.{flag_text, police_text};
+ghost use Rattle.network_parcels.specs.Worlds.{World as AWorld};
 ghost use Rattle.net_replay.specs.Agreeing.{AreNodes};
 ghost use Rattle.net_replay.specs.Reporting.{Says, entry_said, report_kind};
 ghost use Rattle.router_rules.specs.Flags.{entries_of};

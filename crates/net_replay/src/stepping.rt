@@ -1,8 +1,8 @@
 //! Steps of a network, over its nodes and its mail.
 ghost use Rattle.std.specs.Prelude.{◌≡◌, ◌≤◌, ◌*◌, [], ℕ, fold, length, map, Some, vec_len, ◌<◌};
 ghost use Rattle.std.specs.List.{All};
-ghost use Rattle.network_model.specs.Steps.{At, ClearAt, Deliver, Piece, next_state, sent, state_after, step, word_of_state};
-ghost use Rattle.network_model.specs.Worlds.{World as AWorld};
+ghost use Rattle.network_parcels.specs.Steps.{At, ClearAt, Deliver, Piece, next_state, sent, state_after, step, word_of_state};
+ghost use Rattle.network_parcels.specs.Worlds.{World as AWorld};
 ghost use Rattle.net_replay.specs.Posting.{with_post};
 ghost use Rattle.net_replay.specs.Agreeing.{AreNodes, AreReady, AreWired};
 ghost use Rattle.net_replay.specs.Due.{IsDue, heard_of};

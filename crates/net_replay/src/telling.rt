@@ -1,7 +1,7 @@
 //! The trace line of a delivery.
 ghost use Rattle.std.specs.Prelude.{◌≡◌, ◌++◌, [], OnErr, OnOk, IsOk, cond, false, slice_get};
 ghost use Rattle.net_replay.specs.Due.{told};
-ghost use Rattle.network_model.specs.Runs.{heard_text, why_text};
+ghost use Rattle.network_parcels.specs.Runs.{heard_text, why_text};
 ghost use Rattle.net_replay.specs.Following.{IsArrival};
 ghost use Rattle.net_replay.specs.Telling.{arrival_kind, line_of, text_of_kind};
 ghost use Rattle.router_rules.specs.Inputs.{Arrival};

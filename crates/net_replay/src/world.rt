@@ -2,10 +2,10 @@
 ghost use Rattle.std.specs.Prelude.{◌≡◌, ◌↔◌, ◌<◌, ◌≤◌, ◌*◌, ◌^◌, ◌∷◌, ℕ, List, None, [], true, false, length, map, slice_get, Err, IfErr, IfOk, IfSome, IsSome, MatchOption, Some};
 ghost use Rattle.network_parcels.specs.Parcels.{Parcel as AParcel};
 ghost use Rattle.net_replay.specs.declared.world_err.WorldErr.TheVariants as refusal;
-ghost use Rattle.network_model.specs.Events.{a_round, half, pass, passes, rounds};
-ghost use Rattle.network_model.specs.Steps.{At, ClearAt, Copy, Deliver, Flags, Inject, Lose, Piece, Report, Reroute, Trace, rerouted};
-ghost use Rattle.network_model.specs.Runs.{Plan, first_world};
-ghost use Rattle.network_model.specs.Worlds.{World as AWorld};
+ghost use Rattle.network_parcels.specs.Events.{a_round, half, pass, passes, rounds};
+ghost use Rattle.network_parcels.specs.Steps.{At, ClearAt, Copy, Deliver, Flags, Inject, Lose, Piece, Report, Reroute, Trace, rerouted};
+ghost use Rattle.network_parcels.specs.Runs.{Plan, first_world};
+ghost use Rattle.network_parcels.specs.Worlds.{World as AWorld};
 ghost use Rattle.tree_model.specs.Trees.{trees_of};
 ghost use Rattle.router_rules.specs.Inputs.{Arrival};
 ghost use Rattle.router_rules.specs.Steps.{IsFitCall};

@@ -9,3 +9,6 @@ pub mod Sound
 pub mod Bounds
 pub mod Laws
 pub mod Rows
+pub use Rattle.router_rows.specs.ThreeRouters
+pub use Rattle.router_rules.specs.NodeConfig
+pub use Rattle.rsvp_messages.specs.Units

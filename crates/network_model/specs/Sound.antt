@@ -19,8 +19,8 @@ use Rattle.tree_model.specs.Goals.{addr_of}
 use Rattle.tree_model.specs.Wants.{want}
 use Rattle.router_rules.specs.Facts.{Facts, SenderKey, PathState, ResvState, resvs_of}
 use Rattle.router_rules.specs.Inputs.{Spelt}
-use Rattle.style_rules.specs.Lines.{LineKey}
-use Rattle.style_rules.specs.Parts.{part_le}
+use Rattle.tree_model.specs.Lines.{LineKey}
+use Rattle.tree_model.specs.Parts.{part_le}
 use Rattle.tree_model.specs.declared.hops.LinkHop.{LinkHop}
 use Rattle.tree_model.specs.Networks.{node_of, end_at, iface_of}
 use Rattle.tree_model.specs.Trees.{tree, hops_of, inward}

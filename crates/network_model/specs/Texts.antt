@@ -6,7 +6,7 @@ use Rattle.rsvp_base.specs.declared.part.Part.{Part}
 use Rattle.report_texts.specs.Texts.{entry_line, head_text, held_of, book_text}
 use Rattle.router_rules.specs.declared.entry.Entry.{Entry}
 use Rattle.router_rules.specs.declared.entry.Police.{Police}
-use Rattle.style_rules.specs.Lines.{BookTable}
+use Rattle.tree_model.specs.Lines.{BookTable}
 
 -- ---- a book without flags
 abbrev pub table_text : List ℕ → ℕ → BookTable → List ℕ

@@ -3,7 +3,7 @@ use Rattle.std.proofs.Common.{◌≡◌, ℕ, zero, suc, ◌<◌, List, [], ◌�
 use Rattle.std.specs.List.{filter, list_any}
 use Rattle.rsvp_base.specs.declared.addr.Addr.{Addr}
 use Rattle.tree_model.specs.Goals.{addr_of}
-use Rattle.router_rules.specs.NodeConfig.{is_addr}
+use Rattle.network_model.specs.NodeConfig.{is_addr}
 use Rattle.tree_model.specs.Networks.{Net}
 use Rattle.network_model.specs.Links.{or_all, ends_toward}
 

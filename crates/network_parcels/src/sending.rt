@@ -4,7 +4,7 @@ ghost use Rattle.std.specs.List.{filter, list_any};
 ghost use Rattle.message_writing.specs.Encoding.{encoding};
 ghost use Rattle.network_model.specs.Links.{ends_toward, goes_to, is_group};
 ghost use Rattle.network_parcels.specs.Parcels.{parcel};
-ghost use Rattle.router_rules.specs.NodeConfig.{is_addr};
+ghost use Rattle.network_model.specs.NodeConfig.{is_addr};
 ghost use Rattle.tree_model.specs.Goals.{addr_of};
 
 use crate::flight::Flight;

@@ -1,7 +1,7 @@
 -- What a line changes of a run: nothing, or it adds one event.
 use Rattle.std.proofs.Common.{◌≡◌, ◌≢◌, ◌⊎◌, ◌≤◌, Some, ℕ, List, [], ◌∷◌, ◌++◌, length, refl, sym, ap, subst, ◌∙◌, append-nil, arith, inl, inr, length-append}
-use Rattle.network_model.specs.Events.{Event, all_steps}
-use Rattle.network_model.specs.Runs.{Plan, crowds, first_world, text_of, uncrowded}
+use Rattle.script_grammar.specs.Events.{Event, all_steps}
+use Rattle.script_grammar.specs.Runs.{Plan, crowds, first_world, text_of, uncrowded}
 use Rattle.script_grammar.specs.Adds.{Adds}
 use Rattle.script_grammar.specs.Draft.{Draft, plan_of}
 use Rattle.script_grammar.specs.Grammar.{Follows, Happens}

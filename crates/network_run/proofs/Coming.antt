@@ -3,7 +3,7 @@ use Rattle.std.proofs.Common.{◌≡◌, ℕ, ◌≤◌, List, Option, None, Som
 use Rattle.std.specs.Io.KnownBytes.{Consumes}
 use Rattle.byte_streams.specs.Reading.{most_bytes}
 use Rattle.script_words.specs.Lines.{line_number, text_lines}
-use Rattle.network_model.specs.Runs.{run_text}
+use Rattle.script_grammar.specs.Runs.{run_text}
 use Rattle.script_grammar.specs.Draft.{Draft, nothing, plan_of}
 use Rattle.script_grammar.specs.Grammar.{HasFault, Leads}
 use Rattle.script_grammar.proofs.Scripts.{fault_one, fault_or_follows, leads_one}

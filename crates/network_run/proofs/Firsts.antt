@@ -1,7 +1,7 @@
 -- Lines lead on to one draft, and no line leads past a bad one or one by which the run is crowded.
 use Rattle.std.proofs.Common.{◌≡◌, ◌≢◌, ◌⊎◌, ℕ, List, [], ◌∷◌, ◌++◌, true, false, refl, sym, ap, subst, ◌∙◌, inl, inr}
-use Rattle.network_model.specs.Events.{Event, all_steps}
-use Rattle.network_model.specs.Runs.{crowds, first_world, is_crowded_run}
+use Rattle.script_grammar.specs.Events.{Event, all_steps}
+use Rattle.script_grammar.specs.Runs.{crowds, first_world, is_crowded_run}
 use Rattle.script_grammar.specs.Draft.{Draft, nothing, plan_of}
 use Rattle.script_grammar.specs.Grammar.{Follows, HasFault, Leads}
 use Rattle.script_grammar.specs.declared.fault.Fault.{Fault}

@@ -1,10 +1,10 @@
 -- The run of a plan with one event more.
 use Rattle.std.proofs.Common.{◌≡◌, ℕ, List, [], ◌∷◌, ◌++◌, Bool, true, false, refl, sym, ap, ◌∙◌, append_assoc, append-nil}
 use Rattle.calm_rounds.specs.Machine.{run}
-use Rattle.network_model.specs.Events.{Event, all_steps, steps_of}
-use Rattle.network_model.specs.Runs.{Plan, crowds, first_world, is_crowded, is_crowded_run, last_world, run_text, steps_of_run, text_of, uncrowded, written}
-use Rattle.network_model.specs.Steps.{Step, machine, step}
-use Rattle.network_model.specs.Worlds.{World}
+use Rattle.script_grammar.specs.Events.{Event, all_steps, steps_of}
+use Rattle.script_grammar.specs.Runs.{Plan, crowds, first_world, is_crowded, is_crowded_run, last_world, run_text, steps_of_run, text_of, uncrowded, written}
+use Rattle.script_grammar.specs.Steps.{Step, machine, step}
+use Rattle.script_grammar.specs.Worlds.{World}
 use Rattle.network_run.specs.Written.{with_event}
 
 module _ (q : ℕ) where

@@ -1,6 +1,6 @@
 -- What a run comes to, in the words of the grammar.
 use Rattle.std.proofs.Common.{◌≡◌, ℕ, List, false, refl, sym, ap, ◌∙◌}
-use Rattle.network_model.specs.Runs.{Plan, is_crowded_run, run_text}
+use Rattle.script_grammar.specs.Runs.{Plan, is_crowded_run, run_text}
 use Rattle.script_grammar.specs.Draft.{plan_of}
 use Rattle.script_grammar.specs.Grammar.{IsBadLine, IsScript}
 use Rattle.script_grammar.specs.declared.fault.Fault.{Fault}

@@ -1,6 +1,6 @@
 -- The claims of the public laws: what a run comes to, in the words of the grammar.
 use Rattle.std.specs.Prelude.{◌≡◌, ℕ, false, List}
-use Rattle.network_model.specs.Runs.{Plan, is_crowded_run, run_text}
+use Rattle.script_grammar.specs.Runs.{Plan, is_crowded_run, run_text}
 use Rattle.script_grammar.specs.Grammar.{IsBadLine, IsScript}
 use Rattle.script_grammar.specs.declared.fault.Fault.{Fault}
 use Rattle.network_run.specs.Endings.{ComesTo}

@@ -1,6 +1,6 @@
 -- What it is to run a line behind those that were run.
 use Rattle.std.specs.Prelude.{◌≡◌, ℕ, true, List, ◌++◌, Result, Ok, Err}
-use Rattle.network_model.specs.Runs.{is_crowded_run}
+use Rattle.script_grammar.specs.Runs.{is_crowded_run}
 use Rattle.script_grammar.specs.Draft.{Draft, plan_of}
 use Rattle.script_grammar.specs.Grammar.{Follows, HasFault}
 use Rattle.network_run.specs.Written.{IsRunSoFar}

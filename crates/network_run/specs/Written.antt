@@ -1,8 +1,8 @@
 -- What the lines of a script have written so far, when each is run before the next is read.
 use Rattle.std.specs.Prelude.{◌≡◌, ℕ, false, List, [], ◌∷◌, ◌++◌}
 use Rattle.script_words.specs.Parts.{parts_of}
-use Rattle.network_model.specs.Events.{Event}
-use Rattle.network_model.specs.Runs.{Plan, is_crowded_run, run_text}
+use Rattle.script_grammar.specs.Events.{Event}
+use Rattle.script_grammar.specs.Runs.{Plan, is_crowded_run, run_text}
 use Rattle.script_grammar.specs.Draft.{Draft, nothing, plan_of}
 use Rattle.script_grammar.specs.Grammar.{Leads}
 

@@ -17,7 +17,7 @@ use Rattle.rsvp_base.specs.Styles.{name_of}
 use Rattle.router_rules.specs.Bounds.{IsWithinBounds}
 use Rattle.router_rules.specs.Facts.{Facts, no_facts}
 use Rattle.router_rules.specs.Inputs.{Stale, StaleResv}
-use Rattle.router_rows.specs.ThreeRouters.{s1, scope}
+use Rattle.network_model.specs.ThreeRouters.{s1, scope}
 use Rattle.router_rules.specs.NodeConfig.{NodeConfig}
 use Rattle.router_rules.specs.Rule.{facts_with}
 use Rattle.router_rules.proofs.Bounding.{no_facts_are_within_bounds}

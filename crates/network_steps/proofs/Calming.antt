@@ -13,8 +13,8 @@ use Rattle.router_rules.specs.Facts.{Facts}
 use Rattle.router_rules.specs.Inputs.{Arrival, Change, Input, Wait, Came, Send}
 use Rattle.router_rules.specs.NodeConfig.{NodeConfig}
 use Rattle.router_rules.specs.Rule.{Outcome, rule, settled}
-use Rattle.router_lookups.specs.SendLaws.{IsPathTear, IsResvTear, IsError, IsConf, IsPath, IsResv}
-use Rattle.router_lookups.proofs.Sending.{sends_are_of_six_kinds}
+use Rattle.router_inputs.specs.SendLaws.{IsPathTear, IsResvTear, IsError, IsConf, IsPath, IsResv}
+use Rattle.router_inputs.proofs.Sending.{sends_are_of_six_kinds}
 use Rattle.tree_model.specs.Networks.{iface_of}
 use Rattle.router_steps.proofs.Counting.{reached}
 use Rattle.network_model.specs.Events.{pass, half, halves, a_round, rounds}

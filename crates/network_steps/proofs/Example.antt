@@ -18,7 +18,7 @@ use Rattle.calm_rounds.proofs.Holding.{visited_end}
 use Rattle.router_rules.specs.Bounds.{IsWithinBounds}
 use Rattle.router_rules.specs.Facts.{Facts, no_facts}
 use Rattle.router_rules.specs.Inputs.{Arrival, Spelt, Unspelt, SendAs}
-use Rattle.router_rows.specs.ThreeRouters.{s1, r1, session, first, usual}
+use Rattle.network_model.specs.ThreeRouters.{s1, r1, session, first, usual}
 use Rattle.router_rules.proofs.Bounding.{no_facts_are_within_bounds}
 use Rattle.tree_model.specs.declared.hops.End.{End}
 use Rattle.tree_model.specs.declared.hops.LinkHop.{LinkHop}

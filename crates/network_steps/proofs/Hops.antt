@@ -15,7 +15,7 @@ use Rattle.rsvp_messages.specs.declared.message.PathErrMsg.{PathErrMsg}
 use Rattle.rsvp_messages.specs.declared.message.ResvErrMsg.{ResvErrMsg}
 use Rattle.rsvp_messages.specs.declared.message.ResvMsg.{ResvMsg}
 use Rattle.rsvp_messages.specs.Units.{AskedUnit, ask_style, asked_units}
-use Rattle.style_rules.specs.Lines.{NextHop}
+use Rattle.tree_model.specs.Lines.{NextHop}
 use Rattle.router_rules.specs.declared.answers.Heard.TheVariants as heard
 use Rattle.router_rules.specs.declared.answers.Why.TheVariants as why
 use Rattle.router_rules.specs.Act.{act, act_spelt, is_mine}
@@ -28,10 +28,10 @@ use Rattle.router_rules.specs.Known.{known}
 use Rattle.router_rules.specs.NodeConfig.{NodeConfig, addr_of as own_of, goes_out, is_own, own}
 use Rattle.router_rules.specs.Rule.{settled}
 use Rattle.router_rules.specs.Sends.{error_message, error_send}
-use Rattle.router_lookups.proofs.Blame.{sent_listing}
-use Rattle.router_lookups.specs.FactLaws.{ComesBy}
-use Rattle.router_lookups.specs.SendLaws.{IsSend}
-use Rattle.router_lookups.proofs.Lists.{some_same}
+use Rattle.router_inputs.proofs.Blame.{sent_listing}
+use Rattle.router_inputs.specs.FactLaws.{ComesBy}
+use Rattle.router_inputs.specs.SendLaws.{IsSend}
+use Rattle.router_inputs.proofs.Lists.{some_same}
 use Rattle.router_inputs.specs.AskLaws.{IsLoss, IsBookRefusal}
 use Rattle.router_inputs.specs.ErrorLaws.{IsPathReply, IsResvReply, errors_with, walls_set}
 use Rattle.router_inputs.proofs.Answering.{faults_by_hint}

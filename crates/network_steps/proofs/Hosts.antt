@@ -22,7 +22,7 @@ use Rattle.rsvp_base.proofs.Members.{in_any, in_append, in_each, in_filter, to_e
 use Rattle.rsvp_base.proofs.Tables.{get-without, got_put_in, got_without, none_above, tied_same, tied_self}
 use Rattle.calm_rounds.specs.Hold.{Visited}
 use Rattle.calm_rounds.specs.Machine.{run}
-use Rattle.router_lookups.proofs.Tests.{addr_told}
+use Rattle.router_inputs.proofs.Tests.{addr_told}
 use Rattle.router_rules.specs.declared.answers.LocalErr.{LocalErr}
 use Rattle.router_rules.specs.declared.answers.LocalErr.TheVariants as local
 use Rattle.router_rules.specs.declared.answers.StaleErr.{StaleErr}

@@ -7,7 +7,7 @@ use Rattle.rsvp_base.specs.Orders.{senders, sessions}
 use Rattle.rsvp_base.specs.Sets.{set_of}
 use Rattle.rsvp_base.specs.Table.{size}
 use Rattle.rsvp_base.proofs.Tables.{tied_self}
-use Rattle.router_rows.specs.ThreeRouters.{session}
+use Rattle.network_model.specs.ThreeRouters.{session}
 use Rattle.tree_model.specs.declared.locals.LocalSender.{LocalSender}
 use Rattle.tree_model.specs.Wants.{of_session}
 use Rattle.tree_model.proofs.Following.{number_same}

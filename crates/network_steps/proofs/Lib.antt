@@ -13,3 +13,5 @@ pub mod Calming
 pub mod Runs
 pub mod Hosts
 pub mod HowManySend
+pub use Rattle.router_steps.proofs.Learning
+pub use Rattle.router_steps.proofs.Speaking

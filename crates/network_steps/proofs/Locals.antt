@@ -4,7 +4,7 @@ use Rattle.std.proofs.Common.{◌≡◌, ℕ, suc, ◌+◌, List, [], ◌∷◌,
 use Rattle.std.specs.Prelude.{slice_get, is_some, map as each, ◌++◌}
 use Rattle.rsvp_base.specs.Table.{get, keys, changed, changed_rows}
 use Rattle.rsvp_base.proofs.Tables.{same_table, get-changed, then_do}
-use Rattle.router_lookups.specs.RuleLaws.{IsWant}
+use Rattle.router_inputs.specs.RuleLaws.{IsWant}
 use Rattle.router_rules.specs.Steps.{is_calm, node_step}
 use Rattle.router_steps.proofs.Framing.{calm_steps_keep_the_locals}
 use Rattle.router_rules.specs.Facts.{Facts, WantKey, Want, Wants, want_keys}

@@ -4,10 +4,10 @@ use Rattle.rsvp_base.specs.declared.style.StyleKind.TheVariants.{Wild}
 use Rattle.rsvp_base.specs.declared.style.Unit.TheVariants.{One}
 use Rattle.rsvp_base.specs.Members.{In}
 use Rattle.rsvp_base.specs.Table.{get}
-use Rattle.style_rules.specs.Lines.{LineKey}
+use Rattle.tree_model.specs.Lines.{LineKey}
 use Rattle.router_rules.specs.Facts.{ResvState, resvs_of}
 use Rattle.router_rules.specs.Inputs.{Stale, StaleResv}
-use Rattle.router_rows.specs.ThreeRouters.{r1, session, scope, usual}
+use Rattle.network_model.specs.ThreeRouters.{r1, session, scope, usual}
 use Rattle.router_rules.specs.Steps.{IsFitStale}
 use Rattle.tree_model.specs.Trees.{trees_of}
 use Rattle.tree_model.specs.Valid.{IsValid}

@@ -4,7 +4,7 @@ use Rattle.calm_rounds.specs.Rounds.{Rounds}
 use Rattle.calm_rounds.specs.Hold.{Hold}
 use Rattle.router_rules.specs.Facts.{no_facts}
 use Rattle.router_rules.specs.Inputs.{SendAs}
-use Rattle.router_rows.specs.ThreeRouters.{s1, r1, group, session, first, usual}
+use Rattle.network_model.specs.ThreeRouters.{s1, r1, group, session, first, usual}
 use Rattle.tree_model.specs.Networks.{Net}
 use Rattle.network_model.specs.Bounds.{AreBounds}
 use Rattle.network_model.specs.Rows.{end_of, hop_of}

@@ -4,3 +4,4 @@ pub mod Changes
 pub mod Forgotten
 pub mod Waited
 pub mod StateLaws
+pub use Rattle.router_lookups.specs.FactLaws

@@ -31,9 +31,9 @@ use Rattle.tree_model.proofs.Ifaces.{interfaces_are_ends}
 use Rattle.tree_model.specs.Goals.{DemandsFit, demand_of, end_pairs, goal, hops_in_order, hop_lines, sessions_named}
 use Rattle.tree_model.specs.Wants.{Locals, want}
 use Rattle.router_resvs.specs.AcceptingLaws.{CanBeHeld}
-use Rattle.network_model.specs.Worlds.{ifaces_at, with_iface, config_of}
-use Rattle.network_steps.proofs.Known.{of_some}
-use Rattle.network_steps.proofs.Standing.{some_at, place_in, same_end}
+use Rattle.settle_paths.specs.Worlds.{ifaces_at, with_iface, config_of}
+use Rattle.settle_paths.proofs.Known.{of_some}
+use Rattle.settle_paths.proofs.Standing.{some_at, place_in, same_end}
 use Rattle.settle_paths.proofs.PreviousHops.{ends_there}
 use Rattle.node_goals.specs.GoalByIface.{at_iface, goal_at, line_over}
 use Rattle.node_goals.proofs.Lists.{each_each, filter_each, filter_same, flat_each, image_size, listed_key, same_bool}

@@ -9,7 +9,7 @@ use Rattle.rsvp_base.specs.Sets.{Set, set_of}
 use Rattle.rsvp_base.specs.Table.{get, has, keys, size}
 use Rattle.rsvp_base.proofs.Counts.{in_found, found_in, in_set_of, set_below, size-set_of}
 use Rattle.rsvp_base.proofs.Members.{in_each, to_each}
-use Rattle.network_steps.proofs.Known.{has_some}
+use Rattle.settle_paths.proofs.Known.{has_some}
 
 pub same_bool : (a b : Bool) → (a ≡ true → b ≡ true) → (b ≡ true → a ≡ true) → a ≡ b
 same_bool true true f g = refl

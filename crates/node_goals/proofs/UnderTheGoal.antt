@@ -34,10 +34,10 @@ use Rattle.router_resvs.specs.AcceptingLaws.{HasPlace}
 use Rattle.router_rules.specs.Asking.{Asker}
 use Rattle.router_rules.specs.Books.{lines}
 use Rattle.router_rules.specs.Facts.{Facts, ResvState, resvs_of}
-use Rattle.router_lookups.proofs.Requesting.{lines_told}
-use Rattle.network_model.specs.Locals.{locals_of}
-use Rattle.network_model.specs.Sound.{IsSoundPart, IsSoundResv}
-use Rattle.network_model.specs.Worlds.{World}
+use Rattle.settle_paths.proofs.Requesting.{lines_told}
+use Rattle.settle_paths.specs.Locals.{locals_of}
+use Rattle.settle_paths.specs.Sound.{IsSoundPart, IsSoundResv}
+use Rattle.settle_paths.specs.Worlds.{World}
 use Rattle.node_goals.specs.GoalByIface.{at_iface, goal_at, line_over}
 use Rattle.node_goals.specs.Laws.{IsWantedBySomeone}
 use Rattle.node_goals.proofs.Lists.{key_listed}

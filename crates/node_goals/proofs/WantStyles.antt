@@ -28,10 +28,10 @@ use Rattle.tree_model.specs.declared.locals.LocalWant.{LocalWant}
 use Rattle.tree_model.specs.Wants.{Locals, names, as_list, wanted_of, is_wanted_at, own, brought, want_from, want}
 use Rattle.tree_model.proofs.WantLaws.{in_as_list, name_told}
 use Rattle.router_rules.specs.Bounds.{IsWantShape}
-use Rattle.network_model.specs.Bounds.{AreBounds}
-use Rattle.network_model.specs.Locals.{locals_of}
-use Rattle.network_model.specs.Worlds.{World}
-use Rattle.network_model.proofs.NodeLocals.{want_of_node}
+use Rattle.settle_paths.specs.Bounds.{AreBounds}
+use Rattle.settle_paths.specs.Locals.{locals_of}
+use Rattle.settle_paths.specs.Worlds.{World}
+use Rattle.settle_paths.proofs.NodeLocals.{want_of_node}
 use Rattle.node_goals.specs.Laws.{IsWantPart, AreWantParts}
 
 wanted_style : (st : StyleKind) (ns : Names) → ((x : Sender) → has ns x ≡ true → name_of st x ≡ x) → (p q : Part) → IsWantPart st p → wanted_of st ns p ≡ Some q → IsOfStyle st q

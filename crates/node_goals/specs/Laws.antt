@@ -20,9 +20,9 @@ use Rattle.router_rules.specs.Books.{lines}
 use Rattle.router_rules.specs.Facts.{Facts, ResvState, resvs_of}
 use Rattle.tree_model.specs.declared.hops.LinkHop.{LinkHop}
 use Rattle.tree_model.specs.Networks.{Net, node_of, end_at, iface_of}
-use Rattle.network_model.specs.Locals.{locals_of}
-use Rattle.network_model.specs.Sound.{IsSoundPart, IsSoundResv}
-use Rattle.network_model.specs.Worlds.{World}
+use Rattle.settle_paths.specs.Locals.{locals_of}
+use Rattle.settle_paths.specs.Sound.{IsSoundPart, IsSoundResv}
+use Rattle.settle_paths.specs.Worlds.{World}
 use Rattle.node_goals.specs.GoalByIface.{goal_at}
 
 -- ---- styles of wants

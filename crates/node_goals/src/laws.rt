@@ -6,9 +6,9 @@ ghost use Rattle.tree_model.specs.Wants.{Locals};
 ghost use Rattle.router_resvs.specs.AcceptingLaws.{CanBeHeld};
 ghost use Rattle.tree_model.specs.Networks.{Net};
 ghost use Rattle.tree_model.specs.Valid.{IsValid};
-ghost use Rattle.network_model.specs.Bounds.{AreBounds};
-ghost use Rattle.network_model.specs.Locals.{locals_of};
-ghost use Rattle.network_model.specs.Worlds.{World, config_of};
+ghost use Rattle.settle_paths.specs.Bounds.{AreBounds};
+ghost use Rattle.settle_paths.specs.Locals.{locals_of};
+ghost use Rattle.settle_paths.specs.Worlds.{World, config_of};
 ghost use Rattle.node_goals.specs.GoalByIface.{goal_at};
 ghost use Rattle.node_goals.specs.Laws.{AreWantParts, HasOneStyle, IsTheGoalByIface, SoundIsUnderTheGoal, WantsHaveStyles};
 

@@ -20,8 +20,8 @@ use Rattle.style_rules.specs.Toward.{or_else}
 use Rattle.router_rules.specs.Facts.{PathState, ResvState, SenderKey, paths_in, resvs_in, resvs_of, sender_keys, senders_in, wants_in}
 use Rattle.router_rules.specs.Offers.{OfferKey, offers}
 use Rattle.router_rules.specs.NodeConfig.{NodeConfig}
-use Rattle.router_lookups.specs.FactLaws.{is_way}
-use Rattle.router_lookups.proofs.Offering.{offers_by_way}
+use Rattle.node_facts.specs.FactLaws.{is_way}
+use Rattle.node_facts.proofs.Offering.{offers_by_way}
 use Rattle.node_facts.specs.Changes.{paths_put, paths_without, recounted, senders_put, senders_without}
 use Rattle.node_facts.specs.State.{State, facts_of, path_at, resv_at, table_in, wall_at}
 use Rattle.node_sends.specs.Changed.{IsChangedFor}

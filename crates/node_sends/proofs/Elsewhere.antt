@@ -38,10 +38,10 @@ use Rattle.style_rules.specs.Toward.{or_else}
 use Rattle.router_rules.specs.Offers.{OfferKey, offer_keys, offers}
 use Rattle.router_rules.specs.Sends.{is_new_offer, path_send, path_send_of, path_sends, path_tear, path_tears, resv_tear_send}
 use Rattle.node_sends.specs.SendsHere.{AreSameOf, AreSameOff}
-use Rattle.router_lookups.specs.FactLaws.{is_way}
-use Rattle.router_lookups.proofs.Asks.{gone_told}
-use Rattle.router_lookups.proofs.Offering.{offers_by_way}
-use Rattle.router_lookups.proofs.Tests.{flow_tested, parts_tested}
+use Rattle.node_facts.specs.FactLaws.{is_way}
+use Rattle.node_facts.proofs.Asks.{gone_told}
+use Rattle.node_facts.proofs.Offering.{offers_by_way}
+use Rattle.node_facts.proofs.Tests.{flow_tested, parts_tested}
 use Rattle.style_rules.specs.declared.target.Target.{Target}
 use Rattle.style_rules.specs.declared.target.Target.TheVariants as target
 

@@ -25,10 +25,10 @@ use Rattle.rsvp_base.proofs.UnderLaws.{get-under}
 use Rattle.style_rules.specs.Lines.{NextHop, next_hops}
 use Rattle.router_rules.specs.Facts.{Facts, PathState, paths_in}
 use Rattle.router_rules.specs.Known.{Lane, lane_keys, lanes}
-use Rattle.router_lookups.specs.FactLaws.{ComesBy}
-use Rattle.router_lookups.proofs.Knowing.{lanes_made, lanes_told}
-use Rattle.router_lookups.proofs.Lists.{some_is}
-use Rattle.router_lookups.proofs.Tests.{came_tested, came_told, ties}
+use Rattle.node_facts.specs.FactLaws.{ComesBy}
+use Rattle.node_facts.proofs.Knowing.{lanes_made, lanes_told}
+use Rattle.node_facts.proofs.Lists.{some_is}
+use Rattle.node_facts.proofs.Tests.{came_tested, came_told, ties}
 use Rattle.node_sends.specs.SendsHere.{hop_of, hops_in, lanes_at, lanes_toward}
 use Rattle.node_sends.proofs.Elsewhere.{is_at}
 use Rattle.node_facts.proofs.Routed.{same_test}

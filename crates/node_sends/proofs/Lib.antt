@@ -10,3 +10,6 @@ pub mod Quiet
 pub mod Saying
 pub mod Telling
 pub mod Marks
+pub use Rattle.node_facts.proofs.Passing
+pub use Rattle.node_facts.proofs.Routed
+pub use Rattle.resv_state.proofs.Merged

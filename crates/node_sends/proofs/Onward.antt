@@ -19,10 +19,10 @@ use Rattle.router_rules.specs.Facts.{Facts, SenderKey, sender_keys}
 use Rattle.router_rules.specs.Offers.{Offer, OfferKey, Offers, offer_at, offer_keys, offers}
 use Rattle.router_rules.specs.NodeConfig.{NodeConfig, goes_out, outward}
 use Rattle.router_rules.specs.Sends.{is_new_offer, path_send, path_send_of, path_sends, path_tear, path_tears}
-use Rattle.router_lookups.specs.FactLaws.{is_way}
-use Rattle.router_lookups.proofs.Lists.{in_range, to_range}
-use Rattle.router_lookups.proofs.Offering.{offers_by_way}
-use Rattle.router_lookups.proofs.Tests.{flow_tested, ties}
+use Rattle.node_facts.specs.FactLaws.{is_way}
+use Rattle.node_facts.proofs.Lists.{in_range, to_range}
+use Rattle.node_facts.proofs.Offering.{offers_by_way}
+use Rattle.node_facts.proofs.Tests.{flow_tested, ties}
 use Rattle.rsvp_base.specs.declared.flow.Peak.TheVariants.{Infinite}
 use Rattle.node_sends.specs.Told.{offer_key, offered, paths_told, tears_told, told_gone, told_new}
 use Rattle.node_facts.proofs.Routed.{same_test}

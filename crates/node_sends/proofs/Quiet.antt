@@ -21,8 +21,8 @@ use Rattle.router_rules.specs.NodeConfig.{NodeConfig}
 use Rattle.router_rules.specs.Requests.{toward}
 use Rattle.router_rules.specs.Sends.{resv_send_to, resv_tear, sends}
 use Rattle.router_rules.specs.declared.answers.Heard.{Heard}
-use Rattle.router_lookups.proofs.Knowing.{via_made, via_told}
-use Rattle.router_lookups.proofs.Tests.{came_tested, came_told}
+use Rattle.node_facts.proofs.Knowing.{via_made, via_told}
+use Rattle.node_facts.proofs.Tests.{came_tested, came_told}
 use Rattle.node_facts.specs.Changes.{paths_put}
 use Rattle.node_facts.specs.State.{State, facts_of, path_at}
 use Rattle.node_facts.proofs.Routed.{same_test}

@@ -25,8 +25,8 @@ use Rattle.router_rules.specs.Facts.{Facts, PathState, SenderKey}
 use Rattle.router_rules.specs.Known.{Lane, lane_keys, lanes, lanes_of}
 use Rattle.router_rules.specs.NodeConfig.{NodeConfig}
 use Rattle.router_rules.specs.Requests.{toward}
-use Rattle.router_lookups.proofs.Once.{not_below_itself}
-use Rattle.router_lookups.proofs.Requesting.{nowhere}
+use Rattle.node_facts.proofs.Once.{not_below_itself}
+use Rattle.node_facts.proofs.Requesting.{nowhere}
 use Rattle.node_facts.specs.State.{IsSaid, Said, State, facts_of, path_at, said_at}
 use Rattle.node_facts.proofs.Room.{size_same}
 use Rattle.node_facts.proofs.Settling.{has_changed}

@@ -29,8 +29,8 @@ use Rattle.router_rules.specs.Known.{Lane, lane_keys, lanes, names_via}
 use Rattle.router_rules.specs.NodeConfig.{NodeConfig}
 use Rattle.router_rules.specs.Requests.{toward}
 use Rattle.router_rules.specs.Sends.{gone_names, is_changed, is_marked, marked_units, own_wish, resv_send, resv_send_of, resv_send_to, resv_tear, same_parts}
-use Rattle.router_lookups.specs.FactLaws.{ComesBy}
-use Rattle.router_lookups.proofs.Knowing.{lanes_made, lanes_told}
+use Rattle.node_facts.specs.FactLaws.{ComesBy}
+use Rattle.node_facts.proofs.Knowing.{lanes_made, lanes_told}
 use Rattle.node_facts.specs.State.{Said, State, facts_of, said_at}
 use Rattle.node_sends.specs.Before.{IsBefore, lanes_by}
 use Rattle.node_sends.specs.Saying.{AreLanesOf, SessionLane, lane_by, told_ask, told_lane, torn_lane}

@@ -37,7 +37,7 @@ use Rattle.router_rules.specs.Known.{Lane, names_via, names_via_where, via}
 use Rattle.router_rules.specs.NodeConfig.{NodeConfig, goes_out, is_out, tree}
 use Rattle.router_rules.specs.Requests.{is_blockaded, is_style, request_of, requests, resv_request, toward, want_part, want_request}
 use Rattle.router_rules.specs.declared.route.Route.{Route}
-use Rattle.router_lookups.proofs.Knowing.{named_made, named_told, names_made, names_told}
+use Rattle.node_facts.proofs.Knowing.{named_made, named_told, names_made, names_told}
 use Rattle.node_facts.specs.State.{resv_at}
 use Rattle.node_sends.specs.Upward.{own_for, own_part, own_want, up_for, wall_for, way_for, ways_out}
 use Rattle.node_facts.proofs.Routed.{same_test}

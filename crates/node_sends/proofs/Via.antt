@@ -29,7 +29,7 @@ use Rattle.style_rules.specs.Ways.{WayTable}
 use Rattle.router_rules.specs.Facts.{Facts, PathState}
 use Rattle.router_rules.specs.Known.{Lane, came_by, via}
 use Rattle.router_rules.specs.NodeConfig.{NodeConfig}
-use Rattle.router_lookups.proofs.Knowing.{via_made, via_told}
+use Rattle.node_facts.proofs.Knowing.{via_made, via_told}
 use Rattle.node_facts.specs.State.{State, facts_of, path_at}
 use Rattle.rsvp_base.specs.Orders.{Names}
 use Rattle.rsvp_base.specs.Table.{empty, keys}

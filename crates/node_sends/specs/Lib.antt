@@ -7,3 +7,5 @@ pub mod Saying
 pub mod Before
 pub mod SayingLaws
 pub mod Marks
+pub use Rattle.node_facts.specs.Routes
+pub use Rattle.node_facts.specs.State

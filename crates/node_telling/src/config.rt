@@ -4,7 +4,7 @@ ghost use Rattle.std.specs.List.{list_any};
 ghost use Rattle.rsvp_base.specs.Rows.{AreRows, HasRowAt, LacksRowAt};
 ghost use Rattle.rsvp_base.specs.Table.{empty};
 ghost use Rattle.router_rules.specs.NodeConfig.{comes_in, goes_out, is_addr, is_own, lifetime, own, period, route_in, tree, wall_lifetime};
-ghost use Rattle.node_facts.specs.Routes.{AreRoutes, route_keys, route_row};
+ghost use Rattle.node_sends.specs.Routes.{AreRoutes, route_keys, route_row};
 ghost use Rattle.node_sends.specs.Upward.{ways_out};
 
 use crate::paths::is_out;

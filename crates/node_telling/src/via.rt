@@ -2,7 +2,7 @@
 ghost use Rattle.std.specs.Prelude.{◌≡◌, ℕ};
 ghost use Rattle.rsvp_base.specs.Styles.{name_of};
 ghost use Rattle.style_rules.specs.Ways.{way_of};
-ghost use Rattle.node_facts.specs.State.{State};
+ghost use Rattle.node_sends.specs.State.{State};
 ghost use Rattle.node_sends.specs.Seen.{up_at, wall_seen, way_seen};
 
 use crate::config::Config;

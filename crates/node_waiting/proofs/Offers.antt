@@ -32,7 +32,7 @@ use Rattle.router_rules.specs.NodeConfig.{NodeConfig}
 use Rattle.router_rules.specs.Offers.{Offer}
 use Rattle.router_lookups.proofs.Knowing.{has-known}
 use Rattle.node_facts.specs.State.{State, facts_of, path_at}
-use Rattle.node_sends.specs.Told.{offered, paths_told, tears_told, told_gone}
+use Rattle.waiting_sends.specs.Told.{offered, paths_told, tears_told, told_gone}
 use Rattle.waiting_sends.specs.Several.{gone_told, known_offers, offers_in, refreshed}
 use Rattle.waiting_sends.proofs.Blocks.{known_at}
 use Rattle.node_waiting.specs.Telling.{gone_by, known_names, offer_by, own_offer, path_offer, refreshed_by, told_again}

@@ -15,7 +15,7 @@ use Rattle.router_rules.specs.Facts.{SenderKey, sender_keys}
 use Rattle.router_rules.specs.Inputs.{Send}
 use Rattle.router_rules.specs.NodeConfig.{NodeConfig}
 use Rattle.router_rules.specs.Offers.{Offer}
-use Rattle.node_sends.specs.Told.{paths_told, tears_told}
+use Rattle.waiting_sends.specs.Told.{paths_told, tears_told}
 
 -- in its own words where it is a local one, else in those of its path
 abbrev pub own_offer : TokenBucket → Offer

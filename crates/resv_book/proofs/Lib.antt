@@ -5,3 +5,4 @@ pub mod Tearing
 pub mod Deaths
 pub mod Room
 pub mod Stands
+pub use Rattle.router_lookups.proofs.Leaving

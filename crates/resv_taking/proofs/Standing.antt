@@ -26,7 +26,7 @@ use Rattle.style_rules.proofs.Room.{within_tested}
 use Rattle.router_rules.specs.Books.{book, line_of, lines, lines_of, refused}
 use Rattle.router_rules.specs.Facts.{Facts, Resvs, resvs_of, with_resvs}
 use Rattle.router_rules.specs.NodeConfig.{NodeConfig}
-use Rattle.node_facts.specs.State.{resv_at}
+use Rattle.resv_book.specs.State.{resv_at}
 use Rattle.resv_book.specs.Kept.{IsBookOf, MovesWith, facts_with, flow_in}
 use Rattle.resv_book.specs.Placing.{entry_key_of, placed_in}
 use Rattle.resv_book.specs.declared.placing.Placed.TheVariants as placed

@@ -33,7 +33,7 @@ use Rattle.router_rules.specs.Books.{book, fits, refused}
 use Rattle.router_rules.specs.Facts.{Facts, Resvs, resvs_of, with_resvs}
 use Rattle.router_rules.specs.NodeConfig.{NodeConfig}
 use Rattle.router_lookups.proofs.Leaving.{as_it_was, table_put}
-use Rattle.node_facts.specs.State.{resv_at}
+use Rattle.resv_book.specs.State.{resv_at}
 use Rattle.resv_book.specs.Kept.{IsBookOf, MovesWith, facts_with, flow_in}
 use Rattle.resv_book.specs.Placing.{IsBookAmong, chosen, entry_key_of, outcome, placed_in, stands, stood}
 use Rattle.resv_book.specs.declared.placing.Placed.{Placed}

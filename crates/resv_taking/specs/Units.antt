@@ -14,7 +14,7 @@ use Rattle.router_rules.specs.Facts.{Facts, with_resvs}
 use Rattle.router_rules.specs.Inputs.{ErrSend}
 use Rattle.router_rules.specs.NodeConfig.{NodeConfig}
 use Rattle.rsvp_messages.specs.Units.{AskedUnit}
-use Rattle.node_facts.specs.State.{resv_at}
+use Rattle.resv_book.specs.State.{resv_at}
 use Rattle.resv_book.specs.Kept.{IsBookOf}
 use Rattle.resv_taking.specs.declared.lost.Lost.{Lost}
 use Rattle.resv_taking.specs.declared.lost.Lost.TheVariants as lost

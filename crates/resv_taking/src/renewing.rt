@@ -8,7 +8,7 @@ ghost use Rattle.style_rules.specs.Limits.{IsWithinLimits};
 ghost use Rattle.style_rules.specs.Parts.{IsOfStyle};
 ghost use Rattle.router_rules.specs.Facts.{Facts, resvs_of};
 ghost use Rattle.router_rules.specs.NodeConfig.{NodeConfig};
-ghost use Rattle.node_facts.specs.State.{resv_at};
+ghost use Rattle.resv_book.specs.State.{resv_at};
 ghost use Rattle.resv_book.specs.Kept.{IsBookOf, MovesWith};
 ghost use Rattle.resv_book.specs.Placing.{IsBookAmong, chosen, placed_in};
 ghost use Rattle.resv_book.specs.declared.placing.Placed.TheVariants.{Taken};

@@ -10,7 +10,7 @@ ghost use Rattle.router_rules.specs.Asking.{nothing_taken, refusal, take_units};
 ghost use Rattle.router_rules.specs.Asking.{Asker as AskerOf};
 ghost use Rattle.router_rules.specs.Facts.{Facts, resvs_of};
 ghost use Rattle.router_rules.specs.NodeConfig.{NodeConfig};
-ghost use Rattle.node_facts.specs.State.{resv_at};
+ghost use Rattle.resv_book.specs.State.{resv_at};
 ghost use Rattle.resv_book.specs.Kept.{IsBookOf};
 ghost use Rattle.resv_book.specs.Placing.{IsBookAmong};
 ghost use Rattle.resv_taking.specs.Standing.{parts_in};

@@ -13,8 +13,8 @@ use Rattle.resv_state.specs.Leaving.{forgotten}
 use Rattle.resv_state.specs.Resvs.{ResvFacts, ResvMap}
 use Rattle.router_rules.specs.Facts.{Facts, Resvs, SenderKey, resvs_of, with_resvs}
 use Rattle.router_lookups.proofs.Leaving.{as_it_was, table_put}
-use Rattle.node_facts.specs.Forgotten.{forgotten_all}
-use Rattle.node_facts.specs.State.{resv_at}
+use Rattle.resv_book.specs.Forgotten.{forgotten_all}
+use Rattle.resv_book.specs.State.{resv_at}
 use Rattle.node_waiting.specs.Losing.{lost_at, lost_names}
 use Rattle.node_waiting.specs.Passing.{dead_key}
 use Rattle.node_waiting.specs.declared.dead.DeadPath.{DeadPath}

@@ -1,1 +1,2 @@
 pub mod Passed
+pub use Rattle.resv_book.specs.Kept

@@ -3,7 +3,7 @@ ghost use Rattle.std.specs.Prelude.{◌≡◌, ℕ, []};
 ghost use Rattle.resv_state.specs.Resvs.{later};
 ghost use Rattle.rsvp_base.specs.Table.{changed, empty};
 ghost use Rattle.router_rules.specs.Facts.{Facts, resvs_of};
-ghost use Rattle.node_facts.specs.State.{resv_at};
+ghost use Rattle.resv_book.specs.State.{resv_at};
 ghost use Rattle.blockade_state.specs.Touched.{touched_by};
 ghost use Rattle.resv_book.specs.Dying.{IsBookBut, IsBookButWith};
 ghost use Rattle.resv_book.specs.Kept.{IsBookOf, IsBookWith, facts_with};

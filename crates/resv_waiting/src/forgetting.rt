@@ -1,8 +1,8 @@
 //! Names of senders whose paths died are forgotten.
 ghost use Rattle.std.specs.Prelude.{◌≡◌, ◌≤◌, ℕ, [], ◌∷◌, length};
 ghost use Rattle.rsvp_base.specs.Table.{keys};
-ghost use Rattle.node_facts.specs.Forgotten.{forgotten_all};
-ghost use Rattle.node_facts.specs.State.{State, facts_of};
+ghost use Rattle.resv_book.specs.Forgotten.{forgotten_all};
+ghost use Rattle.resv_book.specs.State.{State, facts_of};
 ghost use Rattle.node_waiting.specs.Losing.{lost_names};
 ghost use Rattle.node_waiting.specs.Passing.{dead_key};
 ghost use Rattle.resv_book.specs.Kept.{IsBookWith, MovesWith};

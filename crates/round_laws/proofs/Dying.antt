@@ -29,7 +29,7 @@ use Rattle.router_rules.specs.Offers.{Offer}
 use Rattle.node_facts.specs.State.{Said, State, facts_of, path_at, table_in}
 use Rattle.node_sends.specs.Told.{offered}
 use Rattle.node_waiting.specs.Passing.{dies_in, dying_paths, sessions_at}
-use Rattle.resv_waiting.specs.Passed.{dying_in}
+use Rattle.tables_waiting.specs.Passed.{dying_in}
 use Rattle.node_tables.specs.Whole.{state_of}
 use Rattle.node_tables.specs.declared.tables.Tables.{Tables}
 use Rattle.tables_waiting.specs.Steps.{all_dying}

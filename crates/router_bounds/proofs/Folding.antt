@@ -28,7 +28,7 @@ use Rattle.router_rules.specs.Asking.{Asker, Taking, book_refuses, has_room, los
 use Rattle.router_rules.specs.Facts.{Facts, Resvs}
 use Rattle.router_rules.specs.Known.{named_as}
 use Rattle.router_rules.specs.NodeConfig.{NodeConfig}
-use Rattle.router_lookups.proofs.Knowing.{named_told}
+use Rattle.router_inputs.proofs.Knowing.{named_told}
 
 module _ (p : NodeConfig) (o : Asker) (f : Facts) (all : Names) (P : Resvs → Type 0) where
   -- what a unit keeps that has room and is not refused

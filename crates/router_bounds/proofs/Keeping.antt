@@ -35,8 +35,8 @@ use Rattle.router_rules.specs.Inputs.{Input, Call, Wait, Clear, Came, Moved, Spe
 use Rattle.router_rules.specs.Paths.{is_path_by, learn, learn_inward, learnt, path_state, tear_path, torn_path}
 use Rattle.router_rules.specs.NodeConfig.{NodeConfig, comes_in, period, wall_lifetime}
 use Rattle.router_rules.specs.Waiting.{next_due}
-use Rattle.router_lookups.proofs.Leaving.{countdowns_settle, waiting_leaves_the_living}
-use Rattle.router_lookups.proofs.Lists.{some_is, some_same}
+use Rattle.router_inputs.proofs.Leaving.{countdowns_settle, waiting_leaves_the_living}
+use Rattle.router_inputs.proofs.Lists.{some_is, some_same}
 use Rattle.router_inputs.proofs.Telling.{errors_and_walls}
 use Rattle.router_inputs.specs.Sources.{CameOnTree}
 use Rattle.router_rules.specs.Steps.{IsFit, clock_after, facts_then}

@@ -29,9 +29,9 @@ use Rattle.router_rules.specs.Facts.{Facts, SenderKey, Want, WantKey, Wants, sen
 use Rattle.router_rules.specs.Inputs.{Input, Call, Wait, Clear, Came, Moved, SendAs, DropAs, WantAs, QuitAll}
 use Rattle.router_rules.specs.NodeConfig.{NodeConfig, is_own, is_session}
 use Rattle.router_rules.specs.Requests.{is_style}
-use Rattle.router_lookups.proofs.Lists.{got_with_rows, to_values}
-use Rattle.router_lookups.proofs.Rooms.{room_tells}
-use Rattle.router_lookups.proofs.Tests.{style_told}
+use Rattle.router_inputs.proofs.Lists.{got_with_rows, to_values}
+use Rattle.router_inputs.proofs.Rooms.{room_tells}
+use Rattle.router_inputs.proofs.Tests.{style_told}
 use Rattle.router_inputs.specs.Frames.{AreSameButMarks}
 use Rattle.router_inputs.proofs.Framing.{act_senders, act_wants}
 use Rattle.router_rules.specs.Steps.{IsFit, IsFitList}

@@ -30,8 +30,8 @@ use Rattle.router_rules.specs.Bounds.{AreBooked}
 use Rattle.router_rules.specs.Calls.{entry_of}
 use Rattle.router_rules.specs.Facts.{Facts, Resvs, ResvState, resvs_of, with_resvs}
 use Rattle.router_rules.specs.NodeConfig.{NodeConfig}
-use Rattle.router_lookups.proofs.Leaving.{table_other, table_put}
-use Rattle.router_lookups.proofs.Requesting.{lines_told, to_lines}
+use Rattle.router_inputs.proofs.Leaving.{table_other, table_put}
+use Rattle.router_inputs.proofs.Requesting.{lines_told, to_lines}
 
 -- ---- two styles are one, or are not
 pub style_same : (a b : StyleKind) → (a ≡ b) ⊎ (a ≡ b → ⊥)

@@ -29,8 +29,8 @@ use Rattle.router_rules.specs.Forgetting.{forget, is_lost}
 use Rattle.router_rules.specs.Inputs.{Input, Call, Wait, Clear, Came, Moved, Spelt, Unspelt}
 use Rattle.router_rules.specs.Known.{known}
 use Rattle.router_rules.specs.NodeConfig.{NodeConfig, goes_out, lifetime, period}
-use Rattle.router_lookups.specs.RuleLaws.{IsLeft}
-use Rattle.router_lookups.proofs.Leaving.{as_it_was, got_forget, left_told, table_other, waiting_leaves_the_living}
+use Rattle.router_inputs.specs.RuleLaws.{IsLeft}
+use Rattle.router_inputs.proofs.Leaving.{as_it_was, got_forget, left_told, table_other, waiting_leaves_the_living}
 use Rattle.router_inputs.proofs.Receiving.{resv_tears_by_names}
 use Rattle.router_rules.specs.Steps.{AreFewer, IsFit, IsLeftOf, clock_after, facts_then}
 use Rattle.router_bounds.proofs.Folding.{Keeps, names_listed, unit_shape, units_keep}

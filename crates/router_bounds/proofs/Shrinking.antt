@@ -10,7 +10,7 @@ use Rattle.rsvp_base.proofs.Counts.{found_in, in_found}
 use Rattle.rsvp_base.proofs.Members.{in_each, to_each}
 use Rattle.rsvp_base.proofs.SetLaws.{size_within}
 use Rattle.rsvp_base.specs.Orders.{senders}
-use Rattle.flow_merge.specs.FlowOrder.{IsAtMost}
+use Rattle.style_rules.specs.FlowOrder.{IsAtMost}
 use Rattle.style_rules.specs.Limits.{IsWithinLimits}
 use Rattle.style_rules.specs.Lines.{AreUnder, IsUnder, Line, LineKey, at_end, held, line_key, line_keys}
 use Rattle.rsvp_base.specs.declared.entry_key.EntryKey.{EntryKey}
@@ -23,7 +23,7 @@ use Rattle.router_rules.specs.Books.{book, line_of, lines, lines_of}
 use Rattle.router_rules.specs.Bounds.{AreBooked}
 use Rattle.router_rules.specs.Facts.{Facts, Resvs, ResvState, resvs_of}
 use Rattle.router_rules.specs.NodeConfig.{NodeConfig}
-use Rattle.router_lookups.proofs.Requesting.{lines_told, to_lines}
+use Rattle.router_inputs.proofs.Requesting.{lines_told, to_lines}
 use Rattle.router_rules.specs.Steps.{AreFewer, IsLeftOf}
 use Rattle.router_bounds.specs.BoundLaws.{FewerFactsSmallerBook, ResvsAreShaped}
 

@@ -31,7 +31,7 @@ use Rattle.rsvp_messages.specs.declared.message.ResvErrMsg.{ResvErrMsg}
 use Rattle.rsvp_messages.specs.declared.message.ResvMsg.{ResvMsg}
 use Rattle.rsvp_messages.specs.Proper.{HasNoScope, IsProper, IsProperAsk, IsProperBlameOf, IsProperTear, IsScope}
 use Rattle.rsvp_messages.specs.Units.{AskedUnit, ask_style, asked_units, fixed_unit}
-use Rattle.flow_merge.proofs.Lattice.{sound_join, sound_meet}
+use Rattle.style_rules.proofs.Lattice.{sound_join, sound_meet}
 use Rattle.style_rules.specs.CutLaws.{cut_flow, made_named, made_of, some_name}
 use Rattle.style_rules.specs.Lines.{LineKey, NextHop}
 use Rattle.style_rules.specs.Merge.{PartTable, all_by}
@@ -56,11 +56,11 @@ use Rattle.router_rules.specs.NodeConfig.{NodeConfig, goes_out, is_own}
 use Rattle.router_rules.specs.Requests.{requests, toward, want_part}
 use Rattle.router_rules.specs.Rule.{settled}
 use Rattle.router_rules.specs.Sends.{conf_for, confirmed, error_message, goes_on, gone_names, tear_of, without_scope}
-use Rattle.router_lookups.specs.FactLaws.{IsResvRequest, IsWantRequest}
-use Rattle.router_lookups.specs.SendLaws.{IsConf, IsError, IsPath, IsPathTear, IsResv, IsResvTear}
-use Rattle.router_lookups.proofs.Lists.{passed, some_same}
-use Rattle.router_lookups.proofs.Requesting.{request_told, requests_and_toward}
-use Rattle.router_lookups.proofs.Ruling.{rule_in_parts}
+use Rattle.router_inputs.specs.FactLaws.{IsResvRequest, IsWantRequest}
+use Rattle.router_inputs.specs.SendLaws.{IsConf, IsError, IsPath, IsPathTear, IsResv, IsResvTear}
+use Rattle.router_inputs.proofs.Lists.{passed, some_same}
+use Rattle.router_inputs.proofs.Requesting.{request_told, requests_and_toward}
+use Rattle.router_inputs.proofs.Ruling.{rule_in_parts}
 use Rattle.router_inputs.specs.AskLaws.{IsBookRefusal, IsLoss, IsTaken}
 use Rattle.router_inputs.specs.ErrorLaws.{IsPathReply, IsResvReply}
 use Rattle.router_inputs.proofs.Answering.{faults_by_hint}
@@ -74,7 +74,7 @@ use Rattle.router_inputs.proofs.Stepping.{offer_of, offer_source, send_told}
 use Rattle.router_bounds.specs.ProperLaws.{WhatIsSentIsProper}
 use Rattle.router_bounds.proofs.Bounded.{kept_within, same_node}
 use Rattle.router_bounds.proofs.Folding.{IsUnitShape, names_listed, unit_shape}
-use Rattle.router_lookups.proofs.Blame.{never_nobody, one_list, sent_listing, these_are}
+use Rattle.router_inputs.proofs.Blame.{never_nobody, one_list, sent_listing, these_are}
 
 -- ---- names of a style
 scope_of : (names : Names) → ((x : Sender) → has names x ≡ true → name_of Wild x ≡ x) → IsScope names

@@ -15,7 +15,7 @@ use Rattle.node_facts.specs.State.{IsSaid, IsSettled, Said, State, table_in}
 use Rattle.node_sends.specs.Changed.{IsChangedFor}
 use Rattle.node_tables.specs.Whole.{IsBooked, IsOfPlace, state_of}
 use Rattle.node_tables.specs.declared.tables.Tables.{Tables}
-use Rattle.tables_waiting.specs.Steps.{AreSound}
+use Rattle.session_rounds.specs.Steps.{AreSound}
 
 -- the tables once an input was tried, with what was said
 module _ (t : Tables) (said : Said) (b : Bool) (w n : State) (is : state_of t empty ≡ cond b w n) where

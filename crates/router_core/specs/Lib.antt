@@ -1,1 +1,3 @@
 pub mod Confirming
+pub use Rattle.local_asking.specs.LeftOver
+pub use Rattle.node_acting.specs.Coming

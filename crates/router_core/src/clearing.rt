@@ -10,7 +10,7 @@ ghost use Rattle.router_rules.specs.Rule.{facts_after, sent_after};
 ghost use Rattle.node_facts.specs.State.{facts_at};
 ghost use Rattle.node_waiting.specs.Clearing.{cleared};
 ghost use Rattle.node_tables.specs.Whole.{state_of};
-ghost use Rattle.tables_waiting.specs.Steps.{AreSound};
+ghost use Rattle.session_rounds.specs.Steps.{AreSound};
 
 use crate::node::Node;
 use admission_book::Book;

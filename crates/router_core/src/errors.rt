@@ -8,7 +8,7 @@ ghost use Rattle.router_rules.specs.Rule.{facts_after, heard_after, sent_after};
 ghost use Rattle.node_facts.specs.State.{Said, facts_at, facts_of};
 ghost use Rattle.node_sends.specs.Changed.{IsChangedFor};
 ghost use Rattle.node_tables.specs.Whole.{state_of};
-ghost use Rattle.tables_waiting.specs.Steps.{AreSound};
+ghost use Rattle.session_rounds.specs.Steps.{AreSound};
 ghost use Rattle.error_passing.specs.ResvErrs.{resv_err_facts, resv_err_heard};
 ghost use Rattle.node_acting.specs.Arriving.{to_node};
 

@@ -5,7 +5,7 @@ ghost use Rattle.rsvp_base.specs.Table.{get};
 ghost use Rattle.router_rules.specs.Books.{book};
 ghost use Rattle.node_facts.specs.State.{IsSaid, IsSettled, State, facts_of, no_state};
 ghost use Rattle.node_tables.specs.Whole.{IsOfPlace, state_of};
-ghost use Rattle.tables_waiting.specs.Steps.{AreSound};
+ghost use Rattle.session_rounds.specs.Steps.{AreSound};
 
 use crate::opening::open_tables;
 use lane_state::LaneTable;

@@ -3,7 +3,7 @@ ghost use Rattle.std.specs.Prelude.{◌≡◌, IfOk};
 ghost use Rattle.rsvp_base.specs.Table.{empty};
 ghost use Rattle.node_facts.specs.State.{no_state};
 ghost use Rattle.node_tables.specs.Whole.{IsOfPlace, state_of};
-ghost use Rattle.tables_waiting.specs.Steps.{AreSound};
+ghost use Rattle.session_rounds.specs.Steps.{AreSound};
 
 use blockade_state::Blockades;
 use local_state::{Countdowns, LocalSenders, LocalWants};

@@ -21,7 +21,7 @@ use Rattle.rsvp_base.proofs.Members.{any_in, in_any, in_each}
 use Rattle.rsvp_base.proofs.Tables.{either, get-kept, get-put_in_other, get-put_in_same, tied_same}
 use Rattle.rsvp_base.proofs.UnderLaws.{get-under}
 use Rattle.rsvp_messages.specs.Units.{only}
-use Rattle.style_rules.specs.Lines.{LineKey}
+use Rattle.router_rules.specs.Lines.{LineKey}
 use Rattle.router_rules.specs.declared.answers.Heard.TheVariants as heard
 use Rattle.router_rules.specs.declared.answers.LocalErr.{LocalErr}
 use Rattle.router_rules.specs.declared.answers.LocalErr.TheVariants as local

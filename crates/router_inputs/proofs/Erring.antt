@@ -19,12 +19,12 @@ use Rattle.rsvp_base.proofs.UnderLaws.{get-under}
 use Rattle.rsvp_base.proofs.SetLaws.{or_right}
 use Rattle.rsvp_messages.specs.declared.message.PathErrMsg.{PathErrMsg}
 use Rattle.rsvp_messages.specs.declared.message.ResvErrMsg.{ResvErrMsg}
-use Rattle.style_rules.specs.Lines.{NextHop, next_hops}
+use Rattle.router_rules.specs.Lines.{NextHop, next_hops}
 use Rattle.router_rules.specs.declared.answers.Heard.TheVariants as heard
 use Rattle.router_rules.specs.declared.answers.Why.TheVariants as why
 use Rattle.router_rules.specs.Errors.{act_path_err, act_resv_err, blamed, blockade_of, error_on, error_to, errors_on, is_admission, is_told, lane_of, path_err, path_err_on, sets_walls, walled_by, walls_after, walls_heard, walls_with, with_errors, error_listing}
 use Rattle.router_rules.specs.Facts.{Facts, PathState, ResvState, Walls, paths_in, resvs_in, resvs_of}
-use Rattle.style_rules.specs.Targets.{WallKey, wall_keys}
+use Rattle.router_rules.specs.Targets.{WallKey, wall_keys}
 use Rattle.router_rules.specs.Inputs.{Change, ErrSend, only_heard}
 use Rattle.router_rules.specs.Known.{Lane, came_by}
 use Rattle.router_rules.specs.NodeConfig.{NodeConfig, goes_out}

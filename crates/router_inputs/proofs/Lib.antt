@@ -9,3 +9,14 @@ pub mod Quiet
 pub mod Calling
 pub mod Framing
 pub mod Stepping
+pub use Rattle.router_lookups.proofs.Asks
+pub use Rattle.router_lookups.proofs.Blame
+pub use Rattle.router_lookups.proofs.Knowing
+pub use Rattle.router_lookups.proofs.Leaving
+pub use Rattle.router_lookups.proofs.Lists
+pub use Rattle.router_lookups.proofs.Offering
+pub use Rattle.router_lookups.proofs.Requesting
+pub use Rattle.router_lookups.proofs.Rooms
+pub use Rattle.router_lookups.proofs.Ruling
+pub use Rattle.router_lookups.proofs.Sending
+pub use Rattle.router_lookups.proofs.Tests

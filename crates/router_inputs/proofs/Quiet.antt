@@ -13,7 +13,7 @@ use Rattle.rsvp_base.specs.Table.{Table, changed, empty, get, has, keys, size}
 use Rattle.rsvp_base.proofs.Members.{in_filter}
 use Rattle.rsvp_base.proofs.SetLaws.{and_both, has-cut}
 use Rattle.rsvp_base.proofs.Tables.{get-changed, same_table, then_do}
-use Rattle.style_rules.specs.Lines.{LineKey, line_keys}
+use Rattle.router_rules.specs.Lines.{LineKey, line_keys}
 use Rattle.router_rules.specs.declared.answers.Heard.{Heard}
 use Rattle.router_rules.specs.Act.{act}
 use Rattle.router_rules.specs.Bounds.{IsWithinBounds}

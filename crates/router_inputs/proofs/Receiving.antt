@@ -20,7 +20,7 @@ use Rattle.rsvp_messages.specs.declared.message.PathTearMsg.{PathTearMsg}
 use Rattle.rsvp_messages.specs.declared.message.ResvConfMsg.{ResvConfMsg}
 use Rattle.rsvp_messages.specs.declared.message.ResvTearMsg.{ResvTearMsg}
 use Rattle.rsvp_messages.specs.Units.{ask_style, tear_names, tear_style}
-use Rattle.style_rules.specs.Lines.{LineKey, NextHop, is_of_hop, line_keys, next_hops}
+use Rattle.router_rules.specs.Lines.{LineKey, NextHop, is_of_hop, line_keys, next_hops}
 use Rattle.router_rules.specs.declared.answers.Heard.TheVariants as heard
 use Rattle.router_rules.specs.declared.answers.Why.TheVariants as why
 use Rattle.router_rules.specs.Asking.{act_resv_tear, left_of, names_one, stays, torn_resv, torn_resvs}

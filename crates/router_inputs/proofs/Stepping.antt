@@ -29,7 +29,7 @@ use Rattle.router_rules.specs.Rule.{is_silent, settled, spoken}
 use Rattle.router_lookups.proofs.Tests.{addr_told}
 use Rattle.rsvp_base.specs.Members.{In}
 use Rattle.rsvp_base.proofs.SetLaws.{and_both}
-use Rattle.style_rules.specs.Toward.{or_else}
+use Rattle.router_rules.specs.Toward.{or_else}
 use Rattle.router_rules.specs.Offers.{Offer, OfferKey, offer_at, offers}
 use Rattle.router_lookups.specs.FactLaws.{is_way}
 use Rattle.router_lookups.specs.SendLaws.{IsSend}

@@ -18,7 +18,7 @@ use Rattle.rsvp_base.proofs.Members.{any_in, in_any}
 use Rattle.rsvp_base.proofs.SetLaws.{and_both, and_made, has-kept, or_either, or_left, or_right}
 use Rattle.rsvp_base.proofs.Tables.{either}
 use Rattle.rsvp_base.proofs.UnderLaws.{get-under}
-use Rattle.style_rules.specs.Lines.{next_hops}
+use Rattle.router_rules.specs.Lines.{next_hops}
 use Rattle.router_rules.specs.Asking.{Asker, has_style, lost, matched, style_conflict, Nobody, These}
 use Rattle.router_rules.specs.Facts.{Facts, Want, resvs_in, resvs_of, wants_in}
 use Rattle.router_rules.specs.Known.{known}

@@ -12,9 +12,9 @@ use Rattle.rsvp_base.specs.Table.{get}
 use Rattle.rsvp_base.proofs.Members.{in_left}
 use Rattle.rsvp_base.proofs.Tables.{either, get-put_in_other, get-put_in_same, got_put_in, tied_same}
 use Rattle.rsvp_messages.specs.Units.{AskedUnit}
-use Rattle.style_rules.specs.CutLaws.{made_of}
-use Rattle.style_rules.specs.Lines.{LineKey, line_keys}
-use Rattle.style_rules.specs.Parts.{has_name, part_of}
+use Rattle.router_rules.specs.CutLaws.{made_of}
+use Rattle.router_rules.specs.Lines.{LineKey, line_keys}
+use Rattle.router_rules.specs.Parts.{has_name, part_of}
 use Rattle.router_rules.specs.Asking.{Asker, Taking, book_refuses, has_entry, has_room, key_at, losses, lost, names_that_match, put_tested, put_unit, refusal, resv_state, table_with, take_unit, take_units, tell_lost, value_of}
 use Rattle.router_rules.specs.Facts.{Facts, ResvState}
 use Rattle.router_rules.specs.Inputs.{ErrSend}

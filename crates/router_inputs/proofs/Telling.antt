@@ -10,10 +10,10 @@ use Rattle.rsvp_base.specs.TokenBucket.{TokenBucket}
 use Rattle.rsvp_base.proofs.Members.{in_each}
 use Rattle.rsvp_base.proofs.Tables.{either, get-put_in_other, get-put_in_same, tied_same}
 use Rattle.rsvp_messages.specs.declared.message.ResvErrMsg.{ResvErrMsg}
-use Rattle.style_rules.specs.Lines.{NextHop}
+use Rattle.router_rules.specs.Lines.{NextHop}
 use Rattle.router_rules.specs.Errors.{blockade_of, error_to, is_admission, walled_by, walls_with}
 use Rattle.router_rules.specs.Facts.{Blockade, Walls}
-use Rattle.style_rules.specs.Targets.{WallKey, wall_keys}
+use Rattle.router_rules.specs.Targets.{WallKey, wall_keys}
 use Rattle.router_rules.specs.Inputs.{ErrSend}
 use Rattle.router_rules.specs.NodeConfig.{NodeConfig}
 use Rattle.router_lookups.proofs.Lists.{got_with_rows, some_same}

@@ -13,7 +13,7 @@ use Rattle.rsvp_base.proofs.Members.{in_append, in_left, in_right}
 use Rattle.rsvp_base.proofs.Tables.{got_put_in}
 use Rattle.rsvp_messages.specs.declared.message.ResvMsg.{ResvMsg}
 use Rattle.rsvp_messages.specs.Units.{AskedUnit, ask_style, asked_units}
-use Rattle.style_rules.specs.Parts.{part_of}
+use Rattle.router_rules.specs.Parts.{part_of}
 use Rattle.router_rules.specs.declared.answers.Heard.TheVariants as heard
 use Rattle.router_rules.specs.declared.answers.Why.TheVariants as why
 use Rattle.router_rules.specs.Asking.{Asker, Taking, ask_of, asked_of, asker_of, book_refuses, end_taking, errors_in_order, has_room, heard_of, losses, lost, names_that_match, put_tested, put_unit, refusal, style_conflict, take_unit, take_units, taking, taking_of, Blamed, Nobody, Everyone, These}

@@ -13,8 +13,8 @@ use Rattle.rsvp_base.specs.Members.{In}
 use Rattle.rsvp_base.specs.Orders.{Names, styles}
 use Rattle.rsvp_base.specs.Sets.{is_none}
 use Rattle.rsvp_base.specs.Table.{get, has, put_in}
-use Rattle.style_rules.specs.Lines.{NextHop, LineKey}
-use Rattle.style_rules.specs.Parts.{part_of, has_name}
+use Rattle.router_rules.specs.Lines.{NextHop, LineKey}
+use Rattle.router_rules.specs.Parts.{part_of, has_name}
 use Rattle.admission_book.specs.declared.refused.Refused.{Refused}
 use Rattle.rsvp_messages.specs.declared.message.ResvMsg.{ResvMsg}
 use Rattle.rsvp_messages.specs.Units.{AskedUnit, ask_style, asked_units}

@@ -10,7 +10,7 @@ use Rattle.rsvp_base.specs.Orders.{Names, senders, units}
 use Rattle.rsvp_base.specs.SessionLimits.{has_room_at}
 use Rattle.rsvp_base.specs.Table.{changed, get, has, put_in, size, with_rows}
 use Rattle.rsvp_base.specs.TokenBucket.{TokenBucket}
-use Rattle.style_rules.specs.Lines.{LineKey}
+use Rattle.router_rules.specs.Lines.{LineKey}
 use Rattle.router_rules.specs.declared.answers.Heard.{Heard}
 use Rattle.router_rules.specs.declared.answers.Heard.TheVariants as heard
 use Rattle.router_rules.specs.declared.answers.LocalErr.{LocalErr}
@@ -22,7 +22,7 @@ use Rattle.router_rules.specs.Books.{book, fits, refused as refused_entry}
 use Rattle.router_rules.specs.Bounds.{IsWithinBounds}
 use Rattle.router_rules.specs.Calls.{act_call, act_stale, call_refusal, entry_of, senders_with, stale_refusal, wanted, wants_with, with_left}
 use Rattle.router_rules.specs.Facts.{Blockade, Facts, PathState, ResvState, SenderKey, Want, WantKey, Wants, no_facts, resvs_of, with_resvs}
-use Rattle.style_rules.specs.Targets.{WallKey}
+use Rattle.router_rules.specs.Targets.{WallKey}
 use Rattle.router_rules.specs.Forgetting.{counted}
 use Rattle.router_rules.specs.Inputs.{Call, Clear, ConfSend, DropAs, ErrSend, Input, Local, QuitAll, SendAs, Stale, StalePath, StaleResv, StaleWall, WantAs, only_heard}
 use Rattle.router_rules.specs.NodeConfig.{NodeConfig, is_own, period}

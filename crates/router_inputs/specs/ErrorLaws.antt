@@ -14,7 +14,7 @@ use Rattle.rsvp_base.specs.Orders.{Names, units}
 use Rattle.rsvp_base.specs.Sets.{listed}
 use Rattle.rsvp_base.specs.Table.{get, has, size}
 use Rattle.rsvp_base.specs.TokenBucket.{TokenBucket}
-use Rattle.style_rules.specs.Lines.{NextHop, next_hops}
+use Rattle.router_rules.specs.Lines.{NextHop, next_hops}
 use Rattle.rsvp_messages.specs.declared.fault.MsgErr.{MsgErr}
 use Rattle.rsvp_messages.specs.declared.message.Kind.TheVariants as kind
 use Rattle.rsvp_messages.specs.declared.message.Message.{Message}
@@ -26,7 +26,7 @@ use Rattle.router_rules.specs.Act.{act, act_message, is_mine}
 use Rattle.router_rules.specs.Asking.{answered, as_listed}
 use Rattle.router_rules.specs.Errors.{act_path_err, act_resv_err, act_unspelt, fault_code, blamed, error_to, errors_on, is_told, lane_of, reply_to, sets_walls, walled_by, walls_with, blockade_of, is_admission}
 use Rattle.router_rules.specs.Facts.{Facts, PathState, ResvState, Walls, resvs_of, Blockade}
-use Rattle.style_rules.specs.Targets.{WallKey}
+use Rattle.router_rules.specs.Targets.{WallKey}
 use Rattle.router_rules.specs.Inputs.{Came, Change, ErrSend, OfPath, OfResv, Spelt, Unspelt, only_heard}
 use Rattle.router_rules.specs.Known.{Lane}
 use Rattle.router_rules.specs.NodeConfig.{NodeConfig, goes_out, own}

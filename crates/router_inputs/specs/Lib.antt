@@ -4,3 +4,6 @@ pub mod AskLaws
 pub mod CallLaws
 pub mod Frames
 pub mod Sources
+pub use Rattle.router_lookups.specs.FactLaws
+pub use Rattle.router_lookups.specs.RuleLaws
+pub use Rattle.router_lookups.specs.SendLaws

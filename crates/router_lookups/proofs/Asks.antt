@@ -23,10 +23,10 @@ use Rattle.rsvp_base.proofs.Tables.{same_table}
 use Rattle.rsvp_messages.specs.declared.ask.Ask.{Ask}
 use Rattle.rsvp_messages.specs.declared.ask.Ask.TheVariants as ask
 use Rattle.rsvp_messages.specs.Units.{AskedUnit, ask_style, asked_units, fixed_unit, only}
-use Rattle.style_rules.specs.Merge.{PartTable}
-use Rattle.style_rules.specs.Parts.{IsOfStyle, has_name}
+use Rattle.router_rules.specs.Merge.{PartTable}
+use Rattle.router_rules.specs.Parts.{IsOfStyle, has_name}
 use Rattle.rsvp_base.specs.Styles.{part_unit, unit_of_first}
-use Rattle.style_rules.proofs.Merges.{get-table_at_all}
+use Rattle.router_rules.proofs.Merges.{get-table_at_all}
 use Rattle.router_rules.specs.Asking.{ask_of, ask_of_part, flow_at, flows_by_sender}
 use Rattle.router_rules.specs.Sends.{gone_names}
 use Rattle.router_lookups.specs.SendLaws.{ArePartsOf, AsksOfParts, GoneByUnits, IsAskedOf, IsGone}

@@ -4,7 +4,7 @@ use Rattle.std.proofs.Common.{sym, ap, ◌∙◌}
 use Rattle.rsvp_base.specs.Orders.{Names}
 use Rattle.rsvp_base.specs.TokenBucket.{TokenBucket}
 use Rattle.rsvp_messages.specs.declared.message.ResvErrMsg.{ResvErrMsg}
-use Rattle.style_rules.specs.Lines.{NextHop}
+use Rattle.router_rules.specs.Lines.{NextHop}
 use Rattle.router_rules.specs.Asking.{Asker, Blamed, Nobody, Everyone, These, as_listed, losses, refusal}
 use Rattle.router_rules.specs.Errors.{error_listing, error_to}
 use Rattle.router_rules.specs.NodeConfig.{NodeConfig}

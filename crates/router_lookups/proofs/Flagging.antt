@@ -18,8 +18,8 @@ use Rattle.rsvp_base.proofs.Members.{any_in, in_any, in_each, in_filter, to_each
 use Rattle.rsvp_base.proofs.SetLaws.{and_both, and_made, has-cut, has-with_key, or_either, size-with_key}
 use Rattle.rsvp_base.proofs.Tables.{either, get-kept, got_kept, holds, tied_same}
 use Rattle.rsvp_base.proofs.UnderLaws.{get-under}
-use Rattle.flow_merge.specs.FlowOrder.{flow_le}
-use Rattle.style_rules.specs.Lines.{NextHop, next_hops}
+use Rattle.router_rules.specs.FlowOrder.{flow_le}
+use Rattle.router_rules.specs.Lines.{NextHop, next_hops}
 use Rattle.rsvp_base.specs.declared.entry_key.EntryKey.{EntryKey}
 use Rattle.rsvp_base.specs.Styles.{name_of}
 use Rattle.router_rules.specs.declared.entry.Entry.{Entry}

@@ -15,7 +15,7 @@ use Rattle.rsvp_base.proofs.Members.{in_each, to_each, in_flat_map, to_flat_map,
 use Rattle.rsvp_base.proofs.SetLaws.{and_both, and_made, has-union, has-kept}
 use Rattle.rsvp_base.proofs.Tables.{get-changed, got_changed, then_do}
 use Rattle.rsvp_base.proofs.UnderLaws.{get-under}
-use Rattle.style_rules.specs.Lines.{NextHop}
+use Rattle.router_rules.specs.Lines.{NextHop}
 use Rattle.rsvp_base.specs.Styles.{name_of}
 use Rattle.router_rules.specs.Facts.{Facts, PathState, SenderKey, paths_in, senders_in}
 use Rattle.router_rules.specs.Forgetting.{counted}

@@ -14,12 +14,12 @@ use Rattle.rsvp_base.specs.Sets.{is_none}
 use Rattle.rsvp_base.specs.Table.{Table, changed, get, has, kept}
 use Rattle.rsvp_base.proofs.SetLaws.{and_both, and_made, has-kept, same_set}
 use Rattle.rsvp_base.proofs.Tables.{get-changed, got_changed, then_do}
-use Rattle.style_rules.specs.CutLaws.{made_of, part_of_none, part_of_some}
-use Rattle.style_rules.specs.Lines.{LineKey, line_keys}
-use Rattle.style_rules.specs.Parts.{has_name, part_of}
+use Rattle.router_rules.specs.CutLaws.{made_of, part_of_none, part_of_some}
+use Rattle.router_rules.specs.Lines.{LineKey, line_keys}
+use Rattle.router_rules.specs.Parts.{has_name, part_of}
 use Rattle.router_rules.specs.Asking.{left_of, with_part}
 use Rattle.router_rules.specs.Facts.{Blockade, Facts, PathState, Resvs, ResvState, ResvTables, each_table, resvs_of, sender_keys, table_of, with_table}
-use Rattle.style_rules.specs.Targets.{wall_keys}
+use Rattle.router_rules.specs.Targets.{wall_keys}
 use Rattle.router_rules.specs.Forgetting.{counted, forget, is_lost, remembered}
 use Rattle.router_rules.specs.Known.{known, named_as}
 use Rattle.router_rules.specs.NodeConfig.{NodeConfig, period}

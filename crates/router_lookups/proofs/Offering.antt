@@ -13,8 +13,8 @@ use Rattle.rsvp_base.specs.TokenBucket.{TokenBucket}
 use Rattle.rsvp_base.proofs.Members.{in_each, to_each, in_flat_map, to_flat_map, in_left, in_right, in_filter, to_filter, in_tied, tied_in}
 use Rattle.rsvp_base.proofs.SetLaws.{and_both, and_made}
 use Rattle.rsvp_base.proofs.Tables.{either}
-use Rattle.style_rules.proofs.Merges.{get-table_at}
-use Rattle.style_rules.specs.Toward.{or_else}
+use Rattle.router_rules.proofs.Merges.{get-table_at}
+use Rattle.router_rules.specs.Toward.{or_else}
 use Rattle.router_rules.specs.Facts.{Facts, PathState, SenderKey}
 use Rattle.router_rules.specs.Offers.{Offer, OfferKey, offer_at, offer_keys, ways_of}
 use Rattle.router_rules.specs.NodeConfig.{NodeConfig, goes_out, outward}

@@ -9,7 +9,7 @@ use Rattle.rsvp_base.specs.Members.{In}
 use Rattle.rsvp_base.specs.Sets.{is_none}
 use Rattle.rsvp_base.specs.Table.{changed_rows, has, kept_row, keys}
 use Rattle.rsvp_base.proofs.Tables.{either, tied_same}
-use Rattle.style_rules.specs.Lines.{next_hops}
+use Rattle.router_rules.specs.Lines.{next_hops}
 use Rattle.router_rules.specs.Asking.{err_place, err_places}
 use Rattle.router_rules.specs.Inputs.{in_order, put_in_order}
 use Rattle.router_rules.specs.Known.{lanes}

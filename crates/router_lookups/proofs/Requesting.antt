@@ -15,13 +15,13 @@ use Rattle.rsvp_base.proofs.Counts.{in_found, found_in}
 use Rattle.rsvp_base.proofs.Members.{in_append, in_left, in_right, in_each, to_each}
 use Rattle.rsvp_base.proofs.SetLaws.{and_both, has-cut}
 use Rattle.rsvp_base.proofs.UnderLaws.{get-under}
-use Rattle.style_rules.specs.CutLaws.{cut_of, made_of}
-use Rattle.style_rules.specs.Lines.{Line, LineKey, next_hops, line_keys, entry_key, at_end}
-use Rattle.style_rules.specs.Parts.{part_cut}
-use Rattle.style_rules.specs.Toward.{Request}
-use Rattle.style_rules.specs.Toward.{toward as merged_toward}
-use Rattle.style_rules.proofs.Merges.{get-merge_of}
-use Rattle.style_rules.proofs.Towards.{get-toward}
+use Rattle.router_rules.specs.CutLaws.{cut_of, made_of}
+use Rattle.router_rules.specs.Lines.{Line, LineKey, next_hops, line_keys, entry_key, at_end}
+use Rattle.router_rules.specs.Parts.{part_cut}
+use Rattle.router_rules.specs.Toward.{Request}
+use Rattle.router_rules.specs.Toward.{toward as merged_toward}
+use Rattle.router_rules.proofs.Merges.{get-merge_of}
+use Rattle.router_rules.proofs.Towards.{get-toward}
 use Rattle.router_rules.specs.Books.{line_of, lines, lines_of}
 use Rattle.router_rules.specs.Facts.{Facts, ResvState, Walls, resvs_of, resvs_in, wants_in}
 use Rattle.router_rules.specs.Known.{Lane, lanes, names_via, names_via_where, via}

@@ -9,8 +9,8 @@ use Rattle.rsvp_base.specs.Sets.{Set}
 use Rattle.rsvp_base.specs.Table.{Table, changed, changed_rows, get, has}
 use Rattle.rsvp_base.proofs.Tables.{get-changed, got_changed, same_table, then_do}
 use Rattle.rsvp_base.proofs.UnderLaws.{get-under}
-use Rattle.style_rules.specs.Toward.{Request}
-use Rattle.style_rules.specs.Toward.{toward as merged_toward}
+use Rattle.router_rules.specs.Toward.{Request}
+use Rattle.router_rules.specs.Toward.{toward as merged_toward}
 use Rattle.router_rules.specs.Act.{act}
 use Rattle.router_rules.specs.Facts.{Facts, Want, WantKey, want_keys, resvs_in, wants_in}
 use Rattle.router_rules.specs.Inputs.{Change}

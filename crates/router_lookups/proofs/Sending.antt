@@ -8,7 +8,7 @@ use Rattle.rsvp_base.specs.Table.{get, has, keys}
 use Rattle.rsvp_base.proofs.Counts.{in_found, found_in}
 use Rattle.rsvp_base.proofs.Members.{in_append, in_each, in_filter, in_flat_map, in_left, in_right, to_each, to_filter, to_flat_map}
 use Rattle.rsvp_messages.specs.declared.ask.Ask.{Ask}
-use Rattle.style_rules.specs.Lines.{NextHop, next_hops}
+use Rattle.router_rules.specs.Lines.{NextHop, next_hops}
 use Rattle.router_rules.specs.Asking.{ask_of, err_place, err_places}
 use Rattle.router_rules.specs.Facts.{Facts}
 use Rattle.router_rules.specs.Inputs.{Change, ConfSend, Send, in_order}

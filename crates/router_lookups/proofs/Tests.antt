@@ -16,13 +16,13 @@ use Rattle.rsvp_base.proofs.Counts.{in_found, found_in}
 use Rattle.rsvp_base.proofs.Members.{all_in, in_all}
 use Rattle.rsvp_base.proofs.SetLaws.{and_both, and_made}
 use Rattle.rsvp_base.proofs.Tables.{same_table, tied_same, tied_self}
-use Rattle.flow_merge.proofs.Lattice.{at_most_itself, same_flow as flows_same}
-use Rattle.flow_merge.proofs.Told.{at_most_told, at_most_tested}
-use Rattle.style_rules.specs.Lines.{NextHop}
-use Rattle.style_rules.specs.Merge.{PartTable}
-use Rattle.style_rules.specs.Parts.{part_le}
-use Rattle.style_rules.specs.PartLaws.{part_at_most_told, part_at_most_tested, part_at_most_itself, part_at_most_both_ways}
-use Rattle.style_rules.proofs.Room.{within_told, within_tested}
+use Rattle.router_rules.proofs.Lattice.{at_most_itself, same_flow as flows_same}
+use Rattle.router_rules.proofs.Told.{at_most_told, at_most_tested}
+use Rattle.router_rules.specs.Lines.{NextHop}
+use Rattle.router_rules.specs.Merge.{PartTable}
+use Rattle.router_rules.specs.Parts.{part_le}
+use Rattle.router_rules.specs.PartLaws.{part_at_most_told, part_at_most_tested, part_at_most_itself, part_at_most_both_ways}
+use Rattle.router_rules.proofs.Room.{within_told, within_tested}
 use Rattle.router_rules.specs.Books.{lines_of}
 use Rattle.router_rules.specs.Facts.{PathState}
 use Rattle.router_rules.specs.Known.{came_by}

@@ -16,9 +16,9 @@ use Rattle.rsvp_base.proofs.SetLaws.{and_both, and_made, or_either, or_left, or_
 use Rattle.rsvp_base.proofs.Tables.{either, get-changed, then_do}
 use Rattle.rsvp_base.proofs.UnderLaws.{get-under}
 use Rattle.rsvp_messages.specs.declared.ask.Ask.{Ask}
-use Rattle.style_rules.specs.Merge.{PartTable}
-use Rattle.style_rules.specs.Toward.{IsRequestOf, Request, open_of, request_unit, requests_at}
-use Rattle.style_rules.proofs.Merges.{in_those, to_those}
+use Rattle.router_rules.specs.Merge.{PartTable}
+use Rattle.router_rules.specs.Toward.{IsRequestOf, Request, open_of, request_unit, requests_at}
+use Rattle.router_rules.proofs.Merges.{in_those, to_those}
 use Rattle.router_rules.specs.Facts.{Facts, Want, WantKey, want_keys, wants_in}
 use Rattle.router_rules.specs.Inputs.{Asked, ConfSend}
 use Rattle.router_rules.specs.Known.{Lane, lane_keys, lanes}

@@ -10,12 +10,12 @@ use Rattle.rsvp_base.specs.Orders.{Names, senders, units, entry_keys}
 use Rattle.rsvp_base.specs.SessionLimits.{IsWithinSessionLimits, has_room_at}
 use Rattle.rsvp_base.specs.Table.{empty, get, has, put_in, with_rows}
 use Rattle.rsvp_base.specs.TokenBucket.{TokenBucket}
-use Rattle.style_rules.specs.Limits.{IsWithinLimits}
-use Rattle.style_rules.specs.Lines.{Line, LineKey, NextHop, entry_key, at_end}
+use Rattle.router_rules.specs.Limits.{IsWithinLimits}
+use Rattle.router_rules.specs.Lines.{Line, LineKey, NextHop, entry_key, at_end}
 use Rattle.rsvp_base.specs.declared.entry_key.EntryKey.{EntryKey}
-use Rattle.style_rules.specs.Merge.{merge_at, PartTable}
+use Rattle.router_rules.specs.Merge.{merge_at, PartTable}
 use Rattle.rsvp_base.specs.Styles.{name_of}
-use Rattle.style_rules.specs.Toward.{Request, toward_at}
+use Rattle.router_rules.specs.Toward.{Request, toward_at}
 use Rattle.router_rules.specs.Books.{book, fits, line_of, lines, lines_of}
 use Rattle.router_rules.specs.Facts.{Facts, SenderKey, PathState, Resvs, ResvState, Want, resvs_of}
 use Rattle.router_rules.specs.Calls.{wanted}

@@ -6,8 +6,8 @@ use Rattle.rsvp_base.specs.declared.style.StyleKind.TheVariants.{Fixed}
 use Rattle.rsvp_base.specs.declared.style.Unit.{Unit as UnitOf}
 use Rattle.rsvp_base.specs.Members.{In}
 use Rattle.rsvp_base.specs.Table.{get, has}
-use Rattle.flow_merge.specs.FlowOrder.{flow_le}
-use Rattle.style_rules.specs.Lines.{NextHop}
+use Rattle.router_rules.specs.FlowOrder.{flow_le}
+use Rattle.router_rules.specs.Lines.{NextHop}
 use Rattle.rsvp_base.specs.declared.entry_key.EntryKey.{EntryKey}
 use Rattle.rsvp_base.specs.Styles.{name_of}
 use Rattle.router_rules.specs.declared.entry.Entry.{Entry}

@@ -7,7 +7,7 @@ use Rattle.rsvp_base.specs.Members.{In}
 use Rattle.rsvp_base.specs.Orders.{sessions}
 use Rattle.rsvp_base.specs.Sets.{Set, is_none}
 use Rattle.rsvp_base.specs.Table.{Table, changed, has, values}
-use Rattle.style_rules.specs.Lines.{NextHop, next_hops}
+use Rattle.router_rules.specs.Lines.{NextHop, next_hops}
 use Rattle.router_rules.specs.Asking.{err_place, err_places, errors_in_order}
 use Rattle.router_rules.specs.Facts.{Facts}
 use Rattle.router_rules.specs.Inputs.{Change, ConfSend, ErrSend, Send}

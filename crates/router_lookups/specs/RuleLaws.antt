@@ -5,12 +5,12 @@ use Rattle.rsvp_base.specs.declared.session.Sender.{Sender}
 use Rattle.rsvp_base.specs.declared.session.Session.{Session}
 use Rattle.rsvp_base.specs.declared.style.StyleKind.{StyleKind}
 use Rattle.rsvp_base.specs.Table.{get, has, kept, changed}
-use Rattle.style_rules.specs.Lines.{LineKey}
-use Rattle.style_rules.specs.Parts.{has_name}
+use Rattle.router_rules.specs.Lines.{LineKey}
+use Rattle.router_rules.specs.Parts.{has_name}
 use Rattle.router_rules.specs.Act.{act}
 use Rattle.router_rules.specs.Asking.{left_of}
 use Rattle.router_rules.specs.Facts.{Facts, Blockade, PathState, Resvs, ResvState, ResvTables, SenderKey, Want, WantKey, each_table, resvs_of, table_of, with_resvs}
-use Rattle.style_rules.specs.Targets.{WallKey}
+use Rattle.router_rules.specs.Targets.{WallKey}
 use Rattle.router_rules.specs.Forgetting.{counted, forget, is_lost, remembered, settle}
 use Rattle.router_rules.specs.Inputs.{Input}
 use Rattle.router_rules.specs.Known.{Lane, known, named_as}

@@ -7,8 +7,8 @@ use Rattle.rsvp_base.specs.declared.style.Unit.{Unit as UnitOf}
 use Rattle.rsvp_base.specs.Members.{In}
 use Rattle.rsvp_base.specs.Sets.{is_none}
 use Rattle.rsvp_base.specs.Table.{empty, get, has}
-use Rattle.style_rules.specs.Merge.{PartTable}
-use Rattle.style_rules.specs.Parts.{IsOfStyle}
+use Rattle.router_rules.specs.Merge.{PartTable}
+use Rattle.router_rules.specs.Parts.{IsOfStyle}
 use Rattle.rsvp_base.specs.Styles.{part_unit}
 use Rattle.rsvp_messages.specs.declared.ask.Ask.{Ask}
 use Rattle.rsvp_messages.specs.Units.{AskedUnit, ask_style, asked_units}

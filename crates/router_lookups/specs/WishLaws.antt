@@ -7,7 +7,7 @@ use Rattle.rsvp_base.specs.Members.{In}
 use Rattle.rsvp_base.specs.Table.{changed, empty, get, has}
 use Rattle.rsvp_base.specs.Sets.{Set}
 use Rattle.rsvp_messages.specs.declared.ask.Ask.{Ask}
-use Rattle.style_rules.specs.Toward.{IsRequestOf, Request, request_unit}
+use Rattle.router_rules.specs.Toward.{IsRequestOf, Request, request_unit}
 use Rattle.router_rules.specs.Facts.{Facts, Want, WantKey, Wants, want_keys}
 use Rattle.router_rules.specs.Inputs.{Asked, ConfSend}
 use Rattle.router_rules.specs.Known.{Lane, lanes}

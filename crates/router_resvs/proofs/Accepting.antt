@@ -31,8 +31,8 @@ use Rattle.router_rules.specs.Asking.{Asker, entry_at, has_room, key_at, resv_st
 use Rattle.router_rules.specs.Books.{book, line_of, lines, lines_of}
 use Rattle.router_rules.specs.Facts.{Facts, Resvs, resvs_of, with_resvs}
 use Rattle.router_rules.specs.NodeConfig.{NodeConfig}
-use Rattle.router_lookups.proofs.Leaving.{table_put}
-use Rattle.router_lookups.proofs.Requesting.{lines_told, to_lines}
+use Rattle.router_inputs.proofs.Leaving.{table_put}
+use Rattle.router_inputs.proofs.Requesting.{lines_told, to_lines}
 use Rattle.router_bounds.proofs.Putting.{IsPut, put_source}
 use Rattle.router_bounds.proofs.Shrinking.{table_lines_told}
 use Rattle.router_resvs.specs.AcceptingLaws.{CanBeHeld, HasPlace, IsBooked, line_at}

@@ -45,11 +45,11 @@ use Rattle.router_rules.specs.Known.{known, named_as}
 use Rattle.router_rules.specs.NodeConfig.{NodeConfig, goes_out, own}
 use Rattle.router_rules.specs.Requests.{is_style}
 use Rattle.router_rules.specs.Rule.{settled}
-use Rattle.router_lookups.specs.SendLaws.{IsConf, IsError, IsPath, IsPathTear, IsResv, IsResvTear}
-use Rattle.router_lookups.proofs.Knowing.{named_told}
-use Rattle.router_lookups.proofs.Leaving.{forgetting_by_names, table_put}
-use Rattle.router_lookups.proofs.Lists.{in_values, one_name, some_is, some_same}
-use Rattle.router_lookups.proofs.Tests.{addr_tested, style_told}
+use Rattle.router_inputs.specs.SendLaws.{IsConf, IsError, IsPath, IsPathTear, IsResv, IsResvTear}
+use Rattle.router_inputs.proofs.Knowing.{named_told}
+use Rattle.router_inputs.proofs.Leaving.{forgetting_by_names, table_put}
+use Rattle.router_inputs.proofs.Lists.{in_values, one_name, some_is, some_same}
+use Rattle.router_inputs.proofs.Tests.{addr_tested, style_told}
 use Rattle.router_inputs.specs.AskLaws.{IsOfUnit}
 use Rattle.router_inputs.proofs.Taking.{units_source}
 use Rattle.router_rules.specs.Steps.{facts_then, sent_then}

@@ -27,8 +27,8 @@ use Rattle.router_rules.specs.Forgetting.{is_lost}
 use Rattle.router_rules.specs.Inputs.{Call, Came, Change, Clear, Input, Moved, Spelt, Unspelt, Wait}
 use Rattle.router_rules.specs.Known.{known, named_as}
 use Rattle.router_rules.specs.NodeConfig.{NodeConfig, own}
-use Rattle.router_lookups.proofs.Leaving.{forgetting_by_names, left_by_names, table_other, waiting_leaves_the_living}
-use Rattle.router_lookups.proofs.Tests.{addr_told}
+use Rattle.router_inputs.proofs.Leaving.{forgetting_by_names, left_by_names, table_other, waiting_leaves_the_living}
+use Rattle.router_inputs.proofs.Tests.{addr_told}
 use Rattle.router_inputs.specs.AskLaws.{IsOfUnit}
 use Rattle.router_inputs.proofs.Receiving.{resv_tears_by_names}
 use Rattle.router_inputs.proofs.Taking.{units_other, units_source}

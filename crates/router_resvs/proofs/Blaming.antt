@@ -30,18 +30,18 @@ use Rattle.router_rules.specs.Inputs.{Call, Came, Change, Clear, ErrMsg, ErrSend
 use Rattle.router_rules.specs.NodeConfig.{NodeConfig, goes_out, is_own, own}
 use Rattle.router_rules.specs.Rule.{rule, settled}
 use Rattle.router_rules.specs.Sends.{error_message, error_send}
-use Rattle.router_lookups.specs.FactLaws.{ComesBy}
-use Rattle.router_lookups.specs.SendLaws.{IsConf, IsError, IsPath, IsPathTear, IsResv, IsResvTear, IsSend}
-use Rattle.router_lookups.proofs.Lists.{some_same, to_ordered}
-use Rattle.router_lookups.proofs.Sending.{not_told}
-use Rattle.router_lookups.proofs.Tests.{addr_told}
+use Rattle.router_inputs.specs.FactLaws.{ComesBy}
+use Rattle.router_inputs.specs.SendLaws.{IsConf, IsError, IsPath, IsPathTear, IsResv, IsResvTear, IsSend}
+use Rattle.router_inputs.proofs.Lists.{some_same, to_ordered}
+use Rattle.router_inputs.proofs.Sending.{not_told}
+use Rattle.router_inputs.proofs.Tests.{addr_told}
 use Rattle.router_inputs.specs.ErrorLaws.{IsPathReply, IsResvReply, errors_with, walls_set}
 use Rattle.router_inputs.proofs.Answering.{faults_by_hint}
 use Rattle.router_inputs.proofs.Erring.{errors_once_each, resv_errs_by_tests}
 use Rattle.router_rules.specs.Steps.{sent_then}
 use Rattle.router_inputs.proofs.Stepping.{send_told}
 use Rattle.router_resvs.specs.BlameLaws.{AreBlamed, IsPassedOn, IsRefusal, WhereAnErrorWithAFlowComesFrom}
-use Rattle.router_lookups.proofs.Blame.{never_nobody, sent_listing, these_are}
+use Rattle.router_inputs.proofs.Blame.{never_nobody, sent_listing, these_are}
 
 -- ---- sends that are ResvErrs
 no_path_tear : (w : ErrMsg) (m : ResvErrMsg) → error_message w ≡ message.ResvErr m → w ≡ OfResv m

@@ -17,7 +17,7 @@ use Rattle.router_rules.specs.Facts.{Facts, ResvState, Walls, Want, resvs_in, wa
 use Rattle.router_rules.specs.Known.{Lane, names_via}
 use Rattle.router_rules.specs.NodeConfig.{NodeConfig}
 use Rattle.router_rules.specs.Requests.{is_style, request_of, requests, resv_part, resv_request, want_part, want_request}
-use Rattle.router_lookups.proofs.Requesting.{requests_and_toward}
+use Rattle.router_inputs.proofs.Requesting.{requests_and_toward}
 use Rattle.router_resvs.specs.BlameLaws.{UnitsOfTowardDoNotDependOnBlockade}
 
 abbrev part_in : Request → Part

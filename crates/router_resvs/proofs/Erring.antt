@@ -25,10 +25,10 @@ use Rattle.router_rules.specs.Forgetting.{counted}
 use Rattle.router_rules.specs.Inputs.{Input, Call, Came, Clear, Moved, Spelt, Unspelt, Wait}
 use Rattle.router_rules.specs.Known.{came_by}
 use Rattle.router_rules.specs.NodeConfig.{NodeConfig, own, period}
-use Rattle.router_lookups.specs.FactLaws.{ComesBy}
-use Rattle.router_lookups.proofs.Leaving.{waiting_leaves_the_living}
-use Rattle.router_lookups.proofs.Lists.{in_values}
-use Rattle.router_lookups.proofs.Tests.{addr_told}
+use Rattle.router_inputs.specs.FactLaws.{ComesBy}
+use Rattle.router_inputs.proofs.Leaving.{waiting_leaves_the_living}
+use Rattle.router_inputs.proofs.Lists.{in_values}
+use Rattle.router_inputs.proofs.Tests.{addr_told}
 use Rattle.router_inputs.proofs.Telling.{errors_and_walls}
 use Rattle.router_inputs.specs.Frames.{on_paths, on_resvs}
 use Rattle.router_rules.specs.Steps.{facts_then, node_step}

@@ -26,8 +26,8 @@ use Rattle.router_rules.specs.Inputs.{Wait}
 use Rattle.router_rows.specs.ThreeRouters.{first, iface, r2, s1, scope, session, usual}
 use Rattle.router_rules.specs.Act.{act}
 use Rattle.router_rules.proofs.Bounding.{no_facts_are_within_bounds}
-use Rattle.router_lookups.proofs.Leaving.{waiting_leaves_the_living}
-use Rattle.router_lookups.proofs.Lists.{some_same}
+use Rattle.router_inputs.proofs.Leaving.{waiting_leaves_the_living}
+use Rattle.router_inputs.proofs.Lists.{some_same}
 use Rattle.router_rules.specs.Steps.{AreFewer, IsFit, IsSameNode, facts_then}
 use Rattle.router_bounds.proofs.Folding.{only_one}
 use Rattle.router_bounds.proofs.Reserving.{forgotten_fewer}

@@ -26,13 +26,13 @@ use Rattle.router_rules.specs.NodeConfig.{NodeConfig}
 use Rattle.router_rules.specs.Requests.{toward}
 use Rattle.router_rules.specs.Rule.{settled}
 use Rattle.router_rules.specs.Sends.{error_message, gone_names, is_changed, torn_names}
-use Rattle.router_lookups.specs.SendLaws.{IsConf, IsError, IsPath, IsPathTear, IsResv, IsResvTear, IsSend}
-use Rattle.router_lookups.proofs.Asks.{gone_told, style_told}
-use Rattle.router_lookups.proofs.Knowing.{lanes_told}
-use Rattle.router_lookups.proofs.Ruling.{rule_in_parts}
-use Rattle.router_lookups.proofs.Sending.{not_told}
-use Rattle.router_lookups.proofs.Tests.{parts_tested}
-use Rattle.router_lookups.proofs.Lists.{one_name}
+use Rattle.router_inputs.specs.SendLaws.{IsConf, IsError, IsPath, IsPathTear, IsResv, IsResvTear, IsSend}
+use Rattle.router_inputs.proofs.Asks.{gone_told, style_told}
+use Rattle.router_inputs.proofs.Knowing.{lanes_told}
+use Rattle.router_inputs.proofs.Ruling.{rule_in_parts}
+use Rattle.router_inputs.proofs.Sending.{not_told}
+use Rattle.router_inputs.proofs.Tests.{parts_tested}
+use Rattle.router_inputs.proofs.Lists.{one_name}
 use Rattle.router_rules.specs.Steps.{facts_then, fired_then, sent_then, left_by}
 use Rattle.router_inputs.proofs.Stepping.{send_told}
 use Rattle.router_resvs.specs.ReservationLaws.{IsOfGoneUnits, IsOfLane, WhatAResvSentSays, WhyAResvTearIsSent}

@@ -25,7 +25,7 @@ use Rattle.router_rules.specs.NodeConfig.{NodeConfig, own}
 use Rattle.router_rules.specs.Requests.{toward}
 use Rattle.router_rules.specs.Rule.{rule}
 use Rattle.router_rules.specs.Sends.{error_send}
-use Rattle.router_lookups.specs.FactLaws.{ComesBy}
+use Rattle.router_inputs.specs.FactLaws.{ComesBy}
 use Rattle.router_rules.specs.Steps.{NodeStep, Begins, sent_by}
 use Rattle.router_resvs.specs.ReservationLaws.{IsListed}
 

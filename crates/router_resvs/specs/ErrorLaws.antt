@@ -13,7 +13,7 @@ use Rattle.router_rules.specs.Facts.{Blockade, Facts}
 use Rattle.style_rules.specs.Targets.{WallKey}
 use Rattle.router_rules.specs.Inputs.{Came, Input, Spelt}
 use Rattle.router_rules.specs.NodeConfig.{NodeConfig, own}
-use Rattle.router_lookups.specs.FactLaws.{ComesBy}
+use Rattle.router_inputs.specs.FactLaws.{ComesBy}
 use Rattle.router_inputs.specs.Frames.{AreSameButMarks}
 use Rattle.router_rules.specs.Steps.{facts_then, NodeStep, Begins, left_by}
 use Rattle.rsvp_base.specs.declared.addr.Addr.{Addr}

@@ -25,9 +25,9 @@ use Rattle.router_rules.specs.Known.{Lane, known, lanes, named_as, names_via}
 use Rattle.router_rules.specs.NodeConfig.{NodeConfig, lifetime, own, period}
 use Rattle.router_rules.specs.Requests.{toward}
 use Rattle.router_rules.specs.Sends.{hop_to, tear_of}
-use Rattle.router_lookups.specs.FactLaws.{ComesBy}
-use Rattle.router_lookups.specs.SendLaws.{IsGone}
-use Rattle.router_lookups.specs.RuleLaws.{IsLeft}
+use Rattle.router_inputs.specs.FactLaws.{ComesBy}
+use Rattle.router_inputs.specs.SendLaws.{IsGone}
+use Rattle.router_inputs.specs.RuleLaws.{IsLeft}
 use Rattle.router_rules.specs.Steps.{IsLeftOf, NodeStep, Begins, left_by, sent_by, fired_by}
 
 -- ---- where a reservation comes from

@@ -1,2 +1,5 @@
 pub mod Fronting
 pub mod Bounding
+pub use Rattle.style_rules.proofs.Merges
+pub use Rattle.style_rules.proofs.Room
+pub use Rattle.style_rules.proofs.Towards

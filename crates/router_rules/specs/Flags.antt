@@ -12,7 +12,7 @@ use Rattle.rsvp_base.specs.declared.style.Unit.{Unit as UnitOf}
 use Rattle.rsvp_base.specs.Orders.{units}
 use Rattle.rsvp_base.specs.Sets.{cut, is_none}
 use Rattle.rsvp_base.specs.Table.{has}
-use Rattle.flow_merge.specs.FlowOrder.{flow_le}
+use Rattle.style_rules.specs.FlowOrder.{flow_le}
 use Rattle.style_rules.specs.Lines.{NextHop}
 use Rattle.rsvp_base.specs.declared.entry_key.EntryKey.{EntryKey}
 use Rattle.rsvp_base.specs.Styles.{name_of}

@@ -19,3 +19,11 @@ pub mod Flags
 pub mod Fronts
 pub mod Bounds
 pub mod Steps
+pub use Rattle.style_rules.specs.CutLaws
+pub use Rattle.style_rules.specs.Limits
+pub use Rattle.style_rules.specs.Lines
+pub use Rattle.style_rules.specs.Merge
+pub use Rattle.style_rules.specs.PartLaws
+pub use Rattle.style_rules.specs.Parts
+pub use Rattle.style_rules.specs.Targets
+pub use Rattle.style_rules.specs.Toward

@@ -14,9 +14,9 @@ use Rattle.router_rules.specs.Forgetting.{counted}
 use Rattle.router_rules.specs.Inputs.{Input, Call, Wait, Clear, Came, Moved}
 use Rattle.router_rules.specs.NodeConfig.{NodeConfig, period}
 use Rattle.router_rules.specs.Waiting.{next_due}
-use Rattle.router_lookups.proofs.Knowing.{known_and_via}
-use Rattle.router_lookups.proofs.Leaving.{countdowns_settle, waiting_leaves_the_living}
-use Rattle.router_lookups.proofs.Lists.{some_same}
+use Rattle.router_inputs.proofs.Knowing.{known_and_via}
+use Rattle.router_inputs.proofs.Leaving.{countdowns_settle, waiting_leaves_the_living}
+use Rattle.router_inputs.proofs.Lists.{some_same}
 use Rattle.router_steps.specs.CountdownLaws.{CountdownsMoveByTheirRule, IsMoved, IsReached}
 use Rattle.router_rules.specs.Steps.{facts_then, fired_then, is_calm, left_by}
 use Rattle.router_inputs.proofs.Stepping.{stands_settled, quiet_due}

@@ -7,8 +7,8 @@ use Rattle.rsvp_base.specs.declared.style.StyleKind.{StyleKind}
 use Rattle.rsvp_base.specs.declared.style.StyleKind.TheVariants.{Wild, Fixed, Shared}
 use Rattle.rsvp_base.specs.Table.{changed, get, has}
 use Rattle.rsvp_base.proofs.Tables.{get-changed, same_table, then_do}
-use Rattle.style_rules.specs.Lines.{LineKey, line_keys}
-use Rattle.style_rules.specs.Parts.{has_name}
+use Rattle.router_rules.specs.Lines.{LineKey, line_keys}
+use Rattle.router_rules.specs.Parts.{has_name}
 use Rattle.router_rules.specs.Act.{act}
 use Rattle.router_rules.specs.Bounds.{IsWithinBounds}
 use Rattle.router_rules.specs.Facts.{Facts, Resvs, ResvState, resvs_of}
@@ -16,7 +16,7 @@ use Rattle.router_rules.specs.Forgetting.{forget, is_lost, remembered}
 use Rattle.router_rules.specs.Inputs.{Input, Call, Wait, Clear, Came, Moved}
 use Rattle.router_rules.specs.Known.{known, named_as}
 use Rattle.router_rules.specs.NodeConfig.{NodeConfig}
-use Rattle.router_lookups.proofs.Leaving.{left_whole}
+use Rattle.router_inputs.proofs.Leaving.{left_whole}
 use Rattle.router_inputs.specs.Frames.{AreSameButMarks, on_paths, on_resvs, on_senders, on_wants}
 use Rattle.router_steps.specs.FrameLaws.{CalmStepsKeepTheLocals, LeftAsItWas}
 use Rattle.router_rules.specs.Steps.{facts_then, is_calm, left_by}

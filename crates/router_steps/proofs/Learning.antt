@@ -26,7 +26,7 @@ use Rattle.router_rules.specs.Paths.{is_path_by, learn, learn_inward, learnt, pa
 use Rattle.router_rules.specs.NodeConfig.{NodeConfig, comes_in, is_addr}
 use Rattle.router_rules.specs.Rule.{rule}
 use Rattle.router_rules.specs.Waiting.{living}
-use Rattle.router_lookups.proofs.Tests.{addr_told, addr_tested}
+use Rattle.router_inputs.proofs.Tests.{addr_told, addr_tested}
 use Rattle.router_inputs.proofs.Receiving.{paths_by_tests}
 use Rattle.router_steps.specs.PathLaws.{APathOnTheTreeIsLearnt, HowAPathFactGoes, IsReplaced, PathGoes, WhereAPathFactComesFrom}
 use Rattle.router_inputs.specs.Sources.{IsLearnt, said_by}

@@ -25,13 +25,13 @@ use Rattle.router_rules.specs.NodeConfig.{NodeConfig, goes_out, own, period}
 use Rattle.router_rules.specs.Requests.{toward}
 use Rattle.router_rules.specs.Rule.{is_silent, settled}
 use Rattle.router_rules.specs.Sends.{confirm_for, error_message, is_changed, is_new_offer, path_send, resv_send}
-use Rattle.router_lookups.specs.FactLaws.{is_way}
-use Rattle.router_lookups.specs.SendLaws.{IsConf, IsError, IsPath, IsPathTear, IsResv, IsResvTear, IsSend}
-use Rattle.router_lookups.proofs.Lists.{some_is}
-use Rattle.router_lookups.proofs.Offering.{offers_by_way}
-use Rattle.router_lookups.proofs.Requesting.{requests_and_toward}
-use Rattle.router_lookups.proofs.Ruling.{rule_in_parts}
-use Rattle.router_lookups.proofs.Sending.{sends_are_of_six_kinds}
+use Rattle.router_inputs.specs.FactLaws.{is_way}
+use Rattle.router_inputs.specs.SendLaws.{IsConf, IsError, IsPath, IsPathTear, IsResv, IsResvTear, IsSend}
+use Rattle.router_inputs.proofs.Lists.{some_is}
+use Rattle.router_inputs.proofs.Offering.{offers_by_way}
+use Rattle.router_inputs.proofs.Requesting.{requests_and_toward}
+use Rattle.router_inputs.proofs.Ruling.{rule_in_parts}
+use Rattle.router_inputs.proofs.Sending.{sends_are_of_six_kinds}
 use Rattle.router_steps.specs.SpeakingLaws.{IsOfGoneOffer, IsOfOffer, IsPathRefresh, IsResvRefresh, RefreshesAreMarked, WhatAPathSentSays, WhyAPathTearIsSent}
 use Rattle.router_steps.proofs.Counting.{reached}
 use Rattle.router_rules.specs.Steps.{facts_then, sent_then, fired_then}

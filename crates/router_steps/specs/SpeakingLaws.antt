@@ -18,7 +18,7 @@ use Rattle.router_rules.specs.Offers.{Offer, OfferKey, offer_at, offers}
 use Rattle.router_rules.specs.NodeConfig.{NodeConfig, goes_out, own, period}
 use Rattle.router_rules.specs.Requests.{toward}
 use Rattle.router_rules.specs.Sends.{is_new_offer, path_send, resv_send}
-use Rattle.router_lookups.specs.FactLaws.{is_way}
+use Rattle.router_inputs.specs.FactLaws.{is_way}
 use Rattle.router_rules.specs.Steps.{fired_then, NodeStep, Begins, left_by, sent_by, fired_by}
 use Rattle.router_inputs.specs.Sources.{IsLocalOffer, IsPathOffer}
 

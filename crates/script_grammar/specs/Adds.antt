@@ -9,7 +9,7 @@ use Rattle.rsvp_base.specs.declared.session.Sender.{Sender}
 use Rattle.rsvp_base.specs.declared.session.Session.{Session}
 use Rattle.rsvp_base.specs.declared.style.StyleKind.{StyleKind}
 use Rattle.rsvp_base.specs.declared.style.StyleKind.TheVariants.{Wild, Fixed, Shared}
-use Rattle.rsvp_messages.specs.Units.{only}
+use Rattle.network_model.specs.Units.{only}
 use Rattle.script_words.specs.Addresses.{addr_value}
 use Rattle.script_words.specs.Flows.{flow_value}
 use Rattle.script_words.specs.Sessions.{sender_value, session_value}

@@ -6,3 +6,7 @@ pub mod Rules
 pub mod Grammar
 pub mod Laws
 pub mod Rows
+pub use Rattle.network_model.specs.Events
+pub use Rattle.network_model.specs.Runs
+pub use Rattle.network_model.specs.Steps
+pub use Rattle.network_model.specs.Worlds

@@ -2,10 +2,10 @@
 use Rattle.std.proofs.Common.{◌≡◌, ◌≢◌, ℕ, List, [], ◌∷◌, ◌++◌, Option, None, Some, false, refl, sym, ap, subst, ◌∙◌, inl, inr}
 use Rattle.std.specs.Prelude.{Result, Ok, Err}
 use Rattle.calm_rounds.specs.Machine.{run}
-use Rattle.network_model.specs.Events.{Event, all_steps, steps_of}
-use Rattle.network_model.specs.Runs.{Plan, first_world, is_crowded_run, last_world, run_text, text_of, uncrowded}
-use Rattle.network_model.specs.Steps.{machine}
-use Rattle.network_model.specs.Worlds.{World}
+use Rattle.script_grammar.specs.Events.{Event, all_steps, steps_of}
+use Rattle.script_grammar.specs.Runs.{Plan, first_world, is_crowded_run, last_world, run_text, text_of, uncrowded}
+use Rattle.script_grammar.specs.Steps.{machine}
+use Rattle.script_grammar.specs.Worlds.{World}
 use Rattle.script_grammar.specs.Draft.{Draft, plan_of}
 use Rattle.script_grammar.specs.Grammar.{Follows}
 use Rattle.left_over.specs.Fit.{AreFitAll}

@@ -1,7 +1,7 @@
 -- What it is to check a line, and what the lines before all events declare.
 use Rattle.std.specs.Prelude.{◌≡◌, ℕ, ◌≤◌, List, [], ◌∷◌, ◌++◌, Option, None, Some, Result, Ok, Err}
-use Rattle.network_model.specs.Events.{Event as Happening}
-use Rattle.network_model.specs.Runs.{Plan}
+use Rattle.script_grammar.specs.Events.{Event as Happening}
+use Rattle.script_grammar.specs.Runs.{Plan}
 use Rattle.router_rules.specs.Inputs.{Arrival}
 use Rattle.script_grammar.specs.Draft.{Draft}
 use Rattle.script_grammar.specs.Grammar.{Follows, HasFault}

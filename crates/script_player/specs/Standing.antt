@@ -1,7 +1,7 @@
 -- Networks in code that stand behind a plan: they are where its run ends.
 use Rattle.std.specs.Prelude.{◌≡◌, ◌≢◌, ℕ, true, false, List, [], ◌++◌, Option, None, Some, Result, Ok, Err}
-use Rattle.network_model.specs.Events.{Event}
-use Rattle.network_model.specs.Runs.{Plan, is_crowded_run, last_world, run_text}
+use Rattle.script_grammar.specs.Events.{Event}
+use Rattle.script_grammar.specs.Runs.{Plan, is_crowded_run, last_world, run_text}
 use Rattle.script_grammar.specs.Draft.{Draft, plan_of}
 use Rattle.net_replay.specs.Agreeing.{Agrees, State}
 use Rattle.net_replay.specs.Following.{Seen}

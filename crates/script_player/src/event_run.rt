@@ -1,6 +1,6 @@
 //! An event is run on the network of a plan.
 ghost use Rattle.std.specs.Prelude.{◌≡◌, false};
-ghost use Rattle.network_model.specs.Runs.{Plan, is_crowded_run};
+ghost use Rattle.script_grammar.specs.Runs.{Plan, is_crowded_run};
 ghost use Rattle.router_rules.specs.Inputs.{Arrival};
 ghost use Rattle.net_replay.specs.Happening.{IsFitEvent, IsRead, event_with};
 ghost use Rattle.script_player.specs.Standing.{RunsOn, StandsBehind};

@@ -2,7 +2,7 @@
 ghost use Rattle.std.specs.Prelude.{◌≡◌, ◌≤◌, IfOk, map};
 ghost use Rattle.left_over.specs.AtNodes.{list_of};
 ghost use Rattle.left_over.specs.Fit.{AreFitAll};
-ghost use Rattle.network_model.specs.Runs.{Plan};
+ghost use Rattle.script_grammar.specs.Runs.{Plan};
 ghost use Rattle.net_replay.specs.Opening.{AreFirst, ArePlaced};
 
 use left_over::LeftOver;

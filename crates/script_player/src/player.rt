@@ -1,7 +1,7 @@
 //! The player of the lines of a script.
 ghost use Rattle.std.specs.Prelude.{◌≡◌, ◌≤◌, [], false, length, List, ℕ, None, Some, IfOk};
-ghost use Rattle.network_model.specs.Events.{Event as AnEvent};
-ghost use Rattle.network_model.specs.Runs.{Plan, is_crowded_run};
+ghost use Rattle.script_grammar.specs.Events.{Event as AnEvent};
+ghost use Rattle.script_grammar.specs.Runs.{Plan, is_crowded_run};
 ghost use Rattle.router_rules.specs.Inputs.{Arrival};
 ghost use Rattle.script_grammar.specs.Draft.{Draft, nothing, plan_of};
 ghost use Rattle.net_replay.specs.Happening.{IsFitEvent, IsRead, event_with};

@@ -7,3 +7,4 @@ pub mod Places
 pub mod Sifting
 pub mod Slots
 pub mod Listed
+pub use Rattle.left_over.proofs.Listing

@@ -5,7 +5,7 @@ use Rattle.rsvp_messages.specs.declared.fault.MsgErr.{MsgErr}
 use Rattle.rsvp_messages.specs.declared.message.Message.{Message}
 use Rattle.message_wire.specs.Hints.{no_hint}
 use Rattle.router_rules.specs.Inputs.{Arrival, Spelt, Unspelt}
-use Rattle.network_model.specs.Events.{Event as Happening}
+use Rattle.script_grammar.specs.Events.{Event as Happening}
 use Rattle.net_replay.specs.Happening.{event_with}
 use Rattle.net_replay.specs.declared.event.Event.{Event}
 

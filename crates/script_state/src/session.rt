@@ -2,7 +2,7 @@
 ghost use Rattle.std.specs.Prelude.{◌≡◌, ◌↔◌, ◌∷◌, ◌++◌, [], IsTrue, IfErr, IfOk, OnOk, map};
 ghost use Rattle.std.specs.List.{list_any};
 ghost use Rattle.net_replay.specs.Happening.{call_of};
-ghost use Rattle.network_model.specs.Events.{AtNode};
+ghost use Rattle.script_grammar.specs.Events.{AtNode};
 ghost use Rattle.router_rules.specs.Steps.{IsFitCall};
 ghost use Rattle.script_state.specs.Said.{draft_of};
 ghost use Rattle.script_state.specs.Events.{event_of};

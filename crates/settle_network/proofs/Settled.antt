@@ -16,14 +16,14 @@ use Rattle.network_model.specs.Worlds.{World}
 use Rattle.network_steps.specs.Known.{IsKnown}
 use Rattle.network_steps.proofs.Keeping.{calm_rounds_keep_bounds}
 use Rattle.network_steps.proofs.Known.{known_hold}
-use Rattle.settle_paths.proofs.CompletePaths.{paths_settle}
-use Rattle.settle_paths.proofs.SoundPaths.{paths_are_sound}
-use Rattle.sound_resvs.proofs.SoundResvs.{IsFirm}
-use Rattle.sound_resvs.proofs.SoundUnits.{IsAddressed, addressed, reservations_become_sound}
+use Rattle.node_goals.proofs.CompletePaths.{paths_settle}
+use Rattle.node_goals.proofs.SoundPaths.{paths_are_sound}
+use Rattle.exact_resvs.proofs.SoundResvs.{IsFirm}
+use Rattle.exact_resvs.proofs.SoundUnits.{IsAddressed, addressed, reservations_become_sound}
 use Rattle.settle_network.specs.Settled.{HasSettled}
-use Rattle.taken_resvs.proofs.Accepting.{IsReady, locals_again, takes_all}
-use Rattle.taken_resvs.proofs.Blockades.{blockades_are_gone}
-use Rattle.taken_resvs.proofs.Errors.{IsCalmed, errors_are_gone}
+use Rattle.exact_resvs.proofs.Accepting.{IsReady, locals_again, takes_all}
+use Rattle.exact_resvs.proofs.Blockades.{blockades_are_gone}
+use Rattle.exact_resvs.proofs.Errors.{IsCalmed, errors_are_gone}
 use Rattle.settle_network.proofs.Reports.{book_is_the_demand}
 use Rattle.exact_resvs.proofs.ExactResvs.{IsSteady, reservations_are_exact}
 

@@ -5,7 +5,7 @@ use Rattle.tree_model.specs.Ranks.{longest}
 use Rattle.network_model.specs.Bounds.{IsStart}
 use Rattle.network_model.specs.Steps.{machine}
 use Rattle.network_steps.specs.Rounds.{rounds_of}
-use Rattle.sound_resvs.specs.Example.{lost_world}
+use Rattle.exact_resvs.specs.Example.{lost_world}
 use Rattle.settle_network.specs.Settled.{HasSettled}
 
 -- a reservation is left over of a next hop that no end has

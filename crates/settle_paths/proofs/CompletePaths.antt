@@ -17,7 +17,7 @@ use Rattle.calm_rounds.specs.Hold.{Hold}
 use Rattle.calm_rounds.specs.SoftStates.{Stands}
 use Rattle.calm_rounds.proofs.Holding.{hold_map, hold_both, hold_all, hold_later, hold_start, hold_stack, hold_keep}
 use Rattle.tree_model.specs.Goals.{addr_of}
-use Rattle.router_steps.proofs.Learning.{a_path_on_the_tree_is_learnt}
+use Rattle.network_steps.proofs.Learning.{a_path_on_the_tree_is_learnt}
 use Rattle.router_rules.specs.Facts.{Facts, SenderKey, PathState, sender_keys}
 use Rattle.router_rules.specs.Inputs.{Input, Came, Spelt}
 use Rattle.router_rules.specs.Known.{known}
@@ -51,7 +51,7 @@ use Rattle.settle_paths.proofs.SoftPaths.{path_found, iface_found, iface_made}
 use Rattle.settle_paths.proofs.PathSends.{IsTearSent, path_sent, tear_sent}
 use Rattle.settle_paths.proofs.SaidPaths.{routed, said_from}
 use Rattle.settle_paths.proofs.SoundPaths.{paths_are_sound}
-use Rattle.router_inputs.specs.Sources.{CameOnTree, said_by}
+use Rattle.network_steps.specs.Sources.{CameOnTree, said_by}
 use Rattle.router_rules.specs.Steps.{facts_then, node_step}
 
 live_back : (o u : World) (k : SenderKey) (t : TokenBucket) → IsSameNet o u → IsLive u k t → IsLive o k t

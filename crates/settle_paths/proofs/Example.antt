@@ -9,7 +9,7 @@ use Rattle.rsvp_base.proofs.Tables.{got_put_in}
 use Rattle.tree_model.specs.declared.locals.LocalSender.{LocalSender}
 use Rattle.router_rules.specs.Facts.{Facts, SenderKey, sender_keys, no_facts}
 use Rattle.router_rules.specs.Inputs.{Stale, StalePath}
-use Rattle.router_rows.specs.ThreeRouters.{session, first, usual}
+use Rattle.network_model.specs.ThreeRouters.{session, first, usual}
 use Rattle.router_rules.specs.Rule.{facts_with}
 use Rattle.router_rules.specs.Steps.{IsFitStale}
 use Rattle.tree_model.specs.Networks.{owner}

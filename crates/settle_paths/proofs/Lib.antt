@@ -8,3 +8,9 @@ pub mod CompletePaths
 pub mod Example
 pub mod Sure
 pub mod PreviousHops
+pub use Rattle.network_model.proofs.NodeLocals
+pub use Rattle.network_steps.proofs.Keeping
+pub use Rattle.network_steps.proofs.Known
+pub use Rattle.network_steps.proofs.Sends
+pub use Rattle.network_steps.proofs.Standing
+pub use Rattle.router_lookups.proofs.Requesting

@@ -12,9 +12,9 @@ use Rattle.rsvp_messages.specs.declared.message.Message.TheVariants as message
 use Rattle.rsvp_messages.specs.declared.message.PathMsg.{PathMsg}
 use Rattle.rsvp_messages.specs.declared.message.PathTearMsg.{PathTearMsg}
 use Rattle.tree_model.specs.Goals.{addr_of}
-use Rattle.router_inputs.specs.Sources.{IsLocalOffer, IsPathOffer}
-use Rattle.router_steps.specs.SpeakingLaws.{IsOfOffer, IsOfGoneOffer}
-use Rattle.router_steps.proofs.Speaking.{what_a_path_sent_says, why_a_path_tear_is_sent}
+use Rattle.network_steps.specs.Sources.{IsLocalOffer, IsPathOffer}
+use Rattle.network_steps.specs.SpeakingLaws.{IsOfOffer, IsOfGoneOffer}
+use Rattle.network_steps.proofs.Speaking.{what_a_path_sent_says, why_a_path_tear_is_sent}
 use Rattle.router_lookups.specs.FactLaws.{is_way}
 use Rattle.router_rules.specs.Facts.{Facts, PathState}
 use Rattle.router_rules.specs.Inputs.{Spelt}

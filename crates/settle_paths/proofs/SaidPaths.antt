@@ -18,9 +18,9 @@ use Rattle.calm_rounds.specs.SoftStates.{SoftState, DueLaws, Good, Moves, Stands
 use Rattle.calm_rounds.proofs.Holding.{hold_map, hold_both, hold_start, hold_keep}
 use Rattle.calm_rounds.proofs.Renewing.{what_is_said_is_kept}
 use Rattle.tree_model.specs.Goals.{addr_of}
-use Rattle.router_steps.specs.PathLaws.{IsReplaced, PathGoes}
-use Rattle.router_steps.proofs.Learning.{how_a_path_fact_goes}
-use Rattle.router_steps.proofs.Speaking.{refreshes_are_marked}
+use Rattle.network_steps.specs.PathLaws.{IsReplaced, PathGoes}
+use Rattle.network_steps.proofs.Learning.{how_a_path_fact_goes}
+use Rattle.network_steps.proofs.Speaking.{refreshes_are_marked}
 use Rattle.router_rules.specs.Facts.{Facts, SenderKey, PathState}
 use Rattle.router_rules.specs.Forgetting.{counted}
 use Rattle.router_rules.specs.Inputs.{Arrival, Input, Wait, Clear, Came, Send, Spelt, Unspelt}

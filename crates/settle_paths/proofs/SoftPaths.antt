@@ -7,8 +7,8 @@ use Rattle.rsvp_base.specs.TokenBucket.{TokenBucket}
 use Rattle.rsvp_messages.specs.declared.message.Message.TheVariants as message
 use Rattle.rsvp_messages.specs.declared.message.PathMsg.{PathMsg}
 use Rattle.calm_rounds.specs.SoftStates.{KeepLaws}
-use Rattle.router_inputs.specs.Sources.{IsLearnt}
-use Rattle.router_steps.proofs.Learning.{where_a_path_fact_comes_from}
+use Rattle.network_steps.specs.Sources.{IsLearnt}
+use Rattle.network_steps.proofs.Learning.{where_a_path_fact_comes_from}
 use Rattle.router_rules.specs.Facts.{Facts, SenderKey, PathState}
 use Rattle.router_rules.specs.Inputs.{Wait, Came, Spelt}
 use Rattle.router_rules.specs.Paths.{path_state}

@@ -21,7 +21,7 @@ use Rattle.calm_rounds.specs.Rounds.{Rounds}
 use Rattle.calm_rounds.proofs.Holding.{hold_both, hold_map}
 use Rattle.router_rules.specs.Facts.{Facts, SenderKey, PathState, sender_keys}
 use Rattle.router_rules.specs.Inputs.{Arrival, Spelt, Unspelt}
-use Rattle.router_rows.specs.ThreeRouters.{s1, group, session, first, usual}
+use Rattle.network_model.specs.ThreeRouters.{s1, group, session, first, usual}
 use Rattle.router_rules.specs.NodeConfig.{is_addr}
 use Rattle.router_rules.specs.Sends.{same_flow}
 use Rattle.router_lookups.proofs.Tests.{addr_told, flow_told}

@@ -4,7 +4,7 @@ use Rattle.rsvp_base.specs.Table.{get}
 use Rattle.calm_rounds.specs.Rounds.{Rounds}
 use Rattle.router_rules.specs.Facts.{PathState}
 use Rattle.router_rules.specs.Inputs.{StalePath}
-use Rattle.router_rows.specs.ThreeRouters.{s1, session, first, usual}
+use Rattle.network_model.specs.ThreeRouters.{s1, session, first, usual}
 use Rattle.tree_model.specs.Ranks.{longest}
 use Rattle.network_model.specs.Bounds.{AreBounds, AreHosts}
 use Rattle.network_model.specs.Locals.{IsLive}

@@ -4,3 +4,8 @@ pub mod Said
 pub mod Example
 pub mod Sure
 pub mod PreviousHops
+pub use Rattle.network_model.specs.Bounds
+pub use Rattle.network_model.specs.Locals
+pub use Rattle.network_model.specs.Sound
+pub use Rattle.network_model.specs.Worlds
+pub use Rattle.network_steps.specs.Known

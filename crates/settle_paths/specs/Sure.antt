@@ -3,7 +3,7 @@ use Rattle.calm_rounds.specs.Hold.{Hold}
 use Rattle.calm_rounds.specs.SoftStates.{Stands}
 use Rattle.calm_rounds.specs.Rounds.{Rounds}
 use Rattle.tree_model.specs.Goals.{addr_of}
-use Rattle.router_rows.specs.ThreeRouters.{group, s1, session, first, usual}
+use Rattle.network_model.specs.ThreeRouters.{group, s1, session, first, usual}
 use Rattle.std.specs.Prelude.{◌≤◌}
 use Rattle.tree_model.specs.declared.hops.LinkHop.{LinkHop}
 use Rattle.tree_model.specs.Networks.{node_of}

@@ -25,7 +25,7 @@ use Rattle.router_rules.specs.Asking.{ask_of}
 use Rattle.router_rules.specs.Facts.{Facts, ResvState, resvs_of}
 use Rattle.router_rules.specs.Inputs.{Arrival, Came, Spelt, Unspelt, WantAs}
 use Rattle.router_rules.specs.Known.{known, named_as}
-use Rattle.router_rows.specs.ThreeRouters.{s1, r1, session, usual}
+use Rattle.network_model.specs.ThreeRouters.{s1, r1, session, usual}
 use Rattle.router_rules.specs.NodeConfig.{is_addr, is_session, lifetime}
 use Rattle.router_rules.specs.Requests.{toward}
 use Rattle.router_lookups.proofs.Tests.{addr_told, session_told}

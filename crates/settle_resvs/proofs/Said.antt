@@ -43,7 +43,7 @@ use Rattle.router_lookups.proofs.Knowing.{has-known, lanes_told, counted_made}
 use Rattle.router_lookups.proofs.Requesting.{nowhere}
 use Rattle.router_lookups.proofs.Tests.{ties, addr_told, addr_tested, session_told, style_told}
 use Rattle.router_rules.specs.Steps.{facts_then, node_step}
-use Rattle.router_steps.proofs.Speaking.{refreshes_are_marked}
+use Rattle.network_steps.proofs.Speaking.{refreshes_are_marked}
 use Rattle.router_resvs.specs.ReservationLaws.{TakesName, Touches, TouchesBy}
 use Rattle.router_resvs.proofs.Asking.{what_keeps_a_reservation_fact}
 use Rattle.router_resvs.proofs.Hopward.{what_a_resv_sent_says}

@@ -10,7 +10,7 @@ use Rattle.calm_rounds.specs.Hold.{Hold}
 use Rattle.calm_rounds.specs.SoftStates.{Stands}
 use Rattle.calm_rounds.specs.Rounds.{Rounds}
 use Rattle.router_rules.specs.Inputs.{WantAs}
-use Rattle.router_rows.specs.ThreeRouters.{session, scope, usual}
+use Rattle.network_model.specs.ThreeRouters.{session, scope, usual}
 use Rattle.tree_model.specs.Networks.{peers}
 use Rattle.network_model.specs.Bounds.{AreBounds}
 use Rattle.network_model.specs.Steps.{At, Deliver, step, machine}

@@ -19,7 +19,7 @@ use Rattle.rsvp_base.specs.Styles.{name_of}
 use Rattle.calm_rounds.proofs.Holding.{hold_map}
 use Rattle.router_rules.specs.Facts.{Facts, SenderKey, no_facts, resvs_of, sender_keys}
 use Rattle.router_rules.specs.Inputs.{Stale, StaleResv}
-use Rattle.router_rows.specs.ThreeRouters.{s1, r1, session, scope}
+use Rattle.network_model.specs.ThreeRouters.{s1, r1, session, scope}
 use Rattle.router_rules.specs.Rule.{facts_with}
 use Rattle.tree_model.specs.Goals.{DemandsFit, demand_of}
 use Rattle.tree_model.specs.Trees.{trees_of}
@@ -39,7 +39,7 @@ use Rattle.network_steps.proofs.Computed.{Passes, through}
 use Rattle.network_steps.proofs.Example.{hosts, valid}
 use Rattle.network_steps.proofs.Known.{of_some}
 use Rattle.node_goals.proofs.UnderTheGoal.{want_needs}
-use Rattle.settle_paths.specs.Sure.{forth}
+use Rattle.node_goals.specs.Sure.{forth}
 use Rattle.settle_resvs.specs.Example.{asked, asking_world}
 use Rattle.sound_resvs.specs.Example.{lost_key, lost_plan, lost_world, AReservationIsLost, NothingIsReservedYet}
 use Rattle.router_rules.specs.Steps.{IsFitStale}

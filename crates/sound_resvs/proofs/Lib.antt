@@ -4,3 +4,5 @@ pub mod ResvSends
 pub mod SoundResvs
 pub mod SoundUnits
 pub mod Example
+pub use Rattle.settle_resvs.proofs.Said
+pub use Rattle.settle_resvs.proofs.SoftResvs

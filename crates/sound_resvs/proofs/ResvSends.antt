@@ -8,8 +8,8 @@ use Rattle.rsvp_messages.specs.declared.message.Message.TheVariants as message
 use Rattle.rsvp_messages.specs.declared.message.ResvMsg.{ResvMsg}
 use Rattle.rsvp_messages.specs.Units.{ask_style}
 use Rattle.tree_model.specs.Goals.{addr_of}
-use Rattle.router_resvs.specs.ReservationLaws.{IsOfLane}
-use Rattle.router_resvs.proofs.Hopward.{what_a_resv_sent_says}
+use Rattle.node_goals.specs.ReservationLaws.{IsOfLane}
+use Rattle.node_goals.proofs.Hopward.{what_a_resv_sent_says}
 use Rattle.router_lookups.specs.FactLaws.{ComesBy}
 use Rattle.router_rules.specs.Asking.{ask_of}
 use Rattle.router_rules.specs.Facts.{Facts}
@@ -29,8 +29,8 @@ use Rattle.network_model.specs.Worlds.{Item, World, config_of}
 use Rattle.network_model.proofs.Stepping.{facts_after_made}
 use Rattle.network_steps.proofs.Sends.{goes_to_end, goes_to_peers, sent_by_rule}
 use Rattle.network_steps.proofs.Standing.{own_end, peer_there, same_end}
-use Rattle.settle_paths.specs.PreviousHops.{IsPrevious, IsAhead}
-use Rattle.settle_paths.proofs.PreviousHops.{ahead, ends_there, same_by_addr}
+use Rattle.node_goals.specs.PreviousHops.{IsPrevious, IsAhead}
+use Rattle.node_goals.proofs.PreviousHops.{ahead, ends_there, same_by_addr}
 use Rattle.router_rules.specs.Steps.{node_step}
 
 -- ---- a Resv in flight that a node sent in the step: it says what goes toward a previous hop of the node after the step

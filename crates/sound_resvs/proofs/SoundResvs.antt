@@ -47,10 +47,10 @@ use Rattle.network_model.proofs.Machines.{quiet_of, time_passes, items_are_numbe
 use Rattle.network_steps.specs.Known.{IsKnown}
 use Rattle.network_steps.proofs.Known.{known_hold}
 use Rattle.network_steps.proofs.Standing.{end_of, same_end}
-use Rattle.settle_paths.specs.PreviousHops.{IsPrevious}
+use Rattle.node_goals.specs.PreviousHops.{IsPrevious}
 use Rattle.sound_resvs.specs.Below.{AreSoundBelow}
 use Rattle.settle_resvs.specs.SoftResvs.{ResvKey, IsCut, AsksFor, SaysResv, line_key_of, resv_at, kept_of, soft_resv}
-use Rattle.settle_paths.proofs.PreviousHops.{ends_there, same_by_addr, via_within}
+use Rattle.node_goals.proofs.PreviousHops.{ends_there, same_by_addr, via_within}
 use Rattle.settle_resvs.proofs.SoftResvs.{resv_made, resv_keeps}
 use Rattle.sound_resvs.proofs.ResvSends.{IsResvSent, resv_sent, over_hop}
 use Rattle.sound_resvs.proofs.TowardNames.{parts_of_style, toward_names}

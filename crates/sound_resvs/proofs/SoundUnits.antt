@@ -31,12 +31,12 @@ use Rattle.network_model.proofs.Changing.{where_a_send_goes}
 use Rattle.network_steps.specs.Known.{IsKnown}
 use Rattle.network_steps.proofs.Known.{known_hold}
 use Rattle.network_steps.proofs.Standing.{some_at, same_end}
-use Rattle.settle_paths.proofs.SoundPaths.{paths_are_sound}
+use Rattle.node_goals.proofs.SoundPaths.{paths_are_sound}
 use Rattle.tree_model.proofs.Ifaces.{interfaces_are_ends}
 use Rattle.tree_model.proofs.Links.{hop_linked, of_own_link, among_in, in_among}
 use Rattle.rsvp_base.proofs.Members.{in_filter, to_filter}
 use Rattle.tree_model.specs.Networks.{link_of}
-use Rattle.settle_paths.proofs.PreviousHops.{ahead, ends_there}
+use Rattle.node_goals.proofs.PreviousHops.{ahead, ends_there}
 use Rattle.sound_resvs.proofs.ResvSends.{IsResvSent}
 use Rattle.settle_resvs.specs.SoftResvs.{ResvKey, AsksFor}
 use Rattle.sound_resvs.proofs.SoundResvs.{IsFirm, IsGood, Level, levels, firm_hold, sent_here, all_facts_sound, part_again}

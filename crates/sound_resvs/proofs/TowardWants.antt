@@ -50,10 +50,10 @@ use Rattle.network_model.specs.Locals.{locals_of, want_at}
 use Rattle.network_model.specs.Sound.{IsSoundPart, ArePathsSound}
 use Rattle.network_model.specs.Worlds.{World, config_of}
 use Rattle.network_steps.proofs.Known.{of_some}
-use Rattle.settle_paths.specs.PreviousHops.{IsPrevious}
+use Rattle.node_goals.specs.PreviousHops.{IsPrevious}
 use Rattle.sound_resvs.specs.Below.{AreSoundBelow}
 use Rattle.network_model.proofs.NodeLocals.{node_wants}
-use Rattle.settle_paths.proofs.PreviousHops.{via_within}
+use Rattle.node_goals.proofs.PreviousHops.{via_within}
 use Rattle.node_goals.proofs.WantStyles.{own_style, want_parts, want_style}
 
 -- ---- of more names more is wanted

@@ -21,7 +21,7 @@ use Rattle.tree_model.specs.Trees.{hops_of}
 use Rattle.network_model.specs.Locals.{locals_of}
 use Rattle.network_model.specs.Sound.{IsSoundPart, IsSoundResv}
 use Rattle.network_model.specs.Worlds.{World, config_of}
-use Rattle.settle_paths.specs.PreviousHops.{IsPrevious}
+use Rattle.node_goals.specs.PreviousHops.{IsPrevious}
 
 -- a reservation names someone, and only live senders whose trees have a hop out of its interface to its next hop
 pub record IsNamedResv (st : StyleKind) (w : World) (n : ℕ) (k : LineKey) (r : ResvState) : Type 0 where

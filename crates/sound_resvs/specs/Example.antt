@@ -9,7 +9,7 @@ use Rattle.calm_rounds.specs.Hold.{Hold}
 use Rattle.calm_rounds.specs.Rounds.{Rounds}
 use Rattle.router_rules.specs.Facts.{resvs_of}
 use Rattle.router_rules.specs.Inputs.{StaleResv}
-use Rattle.router_rows.specs.ThreeRouters.{r2, session}
+use Rattle.network_model.specs.ThreeRouters.{r2, session}
 use Rattle.tree_model.specs.Ranks.{longest}
 use Rattle.network_model.specs.Bounds.{IsStart, IsSettled, all_of}
 use Rattle.network_model.specs.Runs.{Plan, first_facts, first_world}

@@ -11,3 +11,5 @@ pub mod TallyRoom
 pub mod MergerRows
 mod Worked
 pub mod Same
+pub use Rattle.flow_merge.proofs.Lattice
+pub use Rattle.flow_merge.proofs.Told

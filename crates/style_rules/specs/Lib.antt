@@ -13,3 +13,4 @@ pub mod TallyRows
 pub mod Laws
 pub use Rattle.flow_merge.specs.FlowOrder
 pub use Rattle.flow_merge.specs.Blockade
+pub use Rattle.flow_merge.specs.FlowOrder

@@ -11,7 +11,7 @@ use Rattle.rsvp_base.specs.Table.{empty}
 use Rattle.node_facts.specs.State.{facts_of}
 use Rattle.node_tables.specs.Whole.{IsBooked, state_of}
 use Rattle.node_tables.specs.declared.tables.Tables.{Tables}
-use Rattle.resv_book.specs.Kept.{IsBookOf}
+use Rattle.resv_waiting.specs.Kept.{IsBookOf}
 use Rattle.blockade_state.specs.Touched.{Marks, touched_at, touched_by}
 
 -- sessions that are touched at once, or one list after another

@@ -59,8 +59,8 @@ use Rattle.network_steps.proofs.Standing.{goes_out_made, own_end, some_at}
 use Rattle.node_goals.specs.GoalByIface.{goal_at}
 use Rattle.node_goals.proofs.GoalByIface.{fit_can_be_held}
 use Rattle.node_goals.proofs.UnderTheGoal.{has_place, sound_under, want_needs}
-use Rattle.settle_paths.proofs.LiveSenders.{senders_found}
-use Rattle.settle_paths.proofs.PreviousHops.{previous_hops_are_all_hops}
+use Rattle.node_goals.proofs.LiveSenders.{senders_found}
+use Rattle.node_goals.proofs.PreviousHops.{previous_hops_are_all_hops}
 use Rattle.sound_resvs.proofs.SoundResvs.{firm_hold}
 use Rattle.sound_resvs.proofs.SoundUnits.{IsAddressed, addressed}
 

@@ -60,7 +60,7 @@ use Rattle.network_steps.proofs.Known.{of_some, known_hold}
 use Rattle.network_steps.proofs.Sends.{IsSentByRule, sent_by_rule, goes_to_end}
 use Rattle.network_steps.proofs.Standing.{own_end, peer_there, some_at}
 use Rattle.node_goals.specs.GoalByIface.{goal_at}
-use Rattle.settle_paths.proofs.PreviousHops.{ends_there, same_by_addr}
+use Rattle.node_goals.proofs.PreviousHops.{ends_there, same_by_addr}
 use Rattle.taken_resvs.proofs.Accepting.{IsReady, IsSettledSoFar, can_be_taken, ready_hold}
 use Rattle.router_rules.specs.Steps.{node_step}
 

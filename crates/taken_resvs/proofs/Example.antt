@@ -7,7 +7,7 @@ use Rattle.calm_rounds.proofs.Holding.{hold_map}
 use Rattle.rsvp_messages.specs.declared.message.Message.TheVariants as message
 use Rattle.router_rules.specs.Facts.{no_facts}
 use Rattle.router_rules.specs.Inputs.{Spelt, Stale, StaleWall}
-use Rattle.router_rows.specs.ThreeRouters.{r1, s1, scope, usual}
+use Rattle.network_model.specs.ThreeRouters.{r1, s1, scope, usual}
 use Rattle.router_rules.specs.Rule.{facts_with}
 use Rattle.router_rules.specs.Steps.{IsFitStale}
 use Rattle.router_resvs.specs.Examples.{blockaded, wall_key}

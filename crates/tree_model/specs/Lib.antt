@@ -9,3 +9,5 @@ pub mod Fuel
 pub mod Wants
 pub mod Goals
 pub mod DemandLaws
+pub use Rattle.style_rules.specs.Lines
+pub use Rattle.style_rules.specs.Parts

@@ -18,7 +18,7 @@ use Rattle.router_rules.specs.NodeConfig.{NodeConfig}
 use Rattle.router_rules.specs.Offers.{offers}
 use Rattle.router_rules.specs.Requests.{toward}
 use Rattle.router_rules.specs.Sends.{conf_sends, confirmed, error_sends, path_tears, resv_send_of, resv_send_to, resv_sends, resv_tear, resv_tears, same_parts}
-use Rattle.node_facts.specs.State.{Said, said_at}
+use Rattle.node_sends.specs.State.{Said, said_at}
 use Rattle.node_sends.specs.Saying.{told_ask, told_lane, torn_lane}
 use Rattle.node_sends.proofs.Elsewhere.{no_send, no_tear, toward_same}
 use Rattle.waiting_sends.specs.Several.{AreSessions, is_among, lanes_for}

@@ -26,7 +26,7 @@ use Rattle.router_rules.specs.Waiting.{act_wait}
 use Rattle.rsvp_base.specs.Sets.{union}
 use Rattle.router_lookups.proofs.Knowing.{lanes_made, lanes_told}
 use Rattle.router_lookups.proofs.Leaving.{forgetting_by_names, got_forget, waiting_leaves_the_living}
-use Rattle.node_facts.specs.State.{AreNamed}
+use Rattle.node_sends.specs.State.{AreNamed}
 use Rattle.node_sends.specs.SendsHere.{AreSameOf}
 use Rattle.node_sends.specs.Told.{offered}
 use Rattle.waiting_sends.specs.SeveralLaws.{IsPassage}

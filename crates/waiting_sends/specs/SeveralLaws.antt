@@ -12,7 +12,7 @@ use Rattle.router_rules.specs.NodeConfig.{NodeConfig}
 use Rattle.router_rules.specs.Offers.{Offer, offers}
 use Rattle.router_rules.specs.Requests.{toward}
 use Rattle.router_rules.specs.Sends.{path_sends, path_tears, resv_send_to, resv_tear, sends}
-use Rattle.node_facts.specs.State.{Said, said_at}
+use Rattle.node_sends.specs.State.{Said, said_at}
 use Rattle.node_sends.specs.Saying.{told_lane, torn_lane}
 use Rattle.node_sends.specs.SendsHere.{AreSameOf}
 use Rattle.node_sends.specs.Told.{offered}

@@ -15,7 +15,7 @@ use Rattle.router_rules.specs.NodeConfig.{NodeConfig}
 use Rattle.router_rules.specs.Rule.{settled}
 use Rattle.router_rules.specs.Sends.{resv_send_to, resv_tear, sends}
 use Rattle.router_rules.specs.Waiting.{act_wait}
-use Rattle.node_facts.specs.State.{AreNamed}
+use Rattle.node_sends.specs.State.{AreNamed}
 use Rattle.node_sends.specs.SendsHere.{AreSameOf}
 use Rattle.waiting_sends.specs.Several.{AreSessions, gone_told, is_among, lanes_for, refreshed}
 

@@ -1,7 +1,7 @@
 use Rattle.std.proofs.Common.{fold, sym, ap, ◌∙◌}
 use Rattle.rsvp_messages.specs.Units.{ask_style}
 use Rattle.router_rules.specs.NodeConfig.{NodeConfig, is_own}
-use Rattle.node_facts.specs.State.{table_in}
+use Rattle.node_sends.specs.State.{table_in}
 use Rattle.error_passing.proofs.Confs.{own_heard, own_sent, passed_heard, passed_sent, table_seen, unwished_heard}
 use Rattle.error_passing.proofs.resv_conf.pass_resv_conf.Goals as goal
 

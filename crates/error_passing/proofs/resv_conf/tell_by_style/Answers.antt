@@ -4,7 +4,7 @@ use Rattle.rsvp_base.specs.Under.{under}
 use Rattle.rsvp_base.specs.declared.style.StyleKind.TheVariants.{Wild, Fixed, Shared}
 use Rattle.rsvp_messages.specs.Units.{ask_style}
 use Rattle.resv_state.specs.Walks.{rests}
-use Rattle.node_facts.specs.State.{table_in}
+use Rattle.node_sends.specs.State.{table_in}
 use Rattle.error_passing.specs.Going.{are_some, confs_told}
 use Rattle.error_passing.proofs.resv_conf.tell_by_style.Goals as goal
 

@@ -1,5 +1,5 @@
 use Rattle.std.proofs.Common.{fold, sym, ap, ◌∙◌, refl}
-use Rattle.node_facts.specs.State.{State, table_in}
+use Rattle.node_sends.specs.State.{State, table_in}
 use Rattle.error_passing.specs.Going.{errors_told}
 use Rattle.rsvp_base.specs.Orders.{sessions}
 use Rattle.rsvp_base.specs.Under.{under}

@@ -1,7 +1,7 @@
 use Rattle.std.proofs.Common.{cond, sym, ap, ◌∙◌}
 use Rattle.rsvp_base.specs.Table.{get}
 use Rattle.blockade_state.specs.Blockades.{WallMap}
-use Rattle.node_facts.specs.State.{facts_of}
+use Rattle.node_sends.specs.State.{facts_of}
 use Rattle.error_passing.specs.ResvErrs.{have_room, walls_set}
 use Rattle.error_passing.proofs.Blockading.{set_apart}
 use Rattle.error_passing.proofs.Errs.{elsewhere_facts, elsewhere_heard, full_facts, full_heard, set_told, taken_facts, taken_heard}

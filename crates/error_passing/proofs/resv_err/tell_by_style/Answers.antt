@@ -3,7 +3,7 @@ use Rattle.rsvp_base.specs.Orders.{sessions}
 use Rattle.rsvp_base.specs.Under.{under}
 use Rattle.rsvp_base.specs.declared.style.StyleKind.TheVariants.{Wild, Fixed, Shared}
 use Rattle.resv_state.specs.Walks.{rests}
-use Rattle.node_facts.specs.State.{table_in}
+use Rattle.node_sends.specs.State.{table_in}
 use Rattle.error_passing.specs.Going.{errors_told}
 use Rattle.error_passing.proofs.resv_err.tell_by_style.Goals as goal
 

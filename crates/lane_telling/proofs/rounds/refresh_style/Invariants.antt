@@ -1,6 +1,6 @@
 use Rattle.std.proofs.Common.{◌≡◌, ℕ, fold, take}
 use Rattle.std.specs.List.{flat_map}
-use Rattle.node_facts.specs.State.{Said}
+use Rattle.node_sends.specs.State.{Said}
 use Rattle.node_tables.specs.Whole.{state_of}
 use Rattle.lane_telling.specs.Rounds.{lanes_of, renewed_by}
 use Rattle.lane_telling.proofs.rounds.refresh_style.Given as goal

@@ -1,7 +1,7 @@
 use Rattle.std.proofs.Common.{◌≡◌, ℕ, fold, take}
 use Rattle.std.specs.List.{flat_map}
 use Rattle.rsvp_base.specs.Table.{empty}
-use Rattle.node_facts.specs.State.{Said}
+use Rattle.node_sends.specs.State.{Said}
 use Rattle.node_sends.specs.Saying.{IsRoomy, IsTold}
 use Rattle.node_tables.specs.Whole.{state_of}
 use Rattle.lane_telling.specs.Rounds.{lanes_of, told_by}

@@ -8,7 +8,7 @@ use Rattle.router_rules.specs.Facts.{SenderKey, Wants}
 use Rattle.router_rules.specs.NodeConfig.{is_session}
 use Rattle.router_rules.specs.Requests.{toward}
 use Rattle.router_rules.specs.Sends.{resv_send_to}
-use Rattle.node_facts.specs.State.{facts_of}
+use Rattle.node_sends.specs.State.{facts_of}
 use Rattle.node_sends.specs.Before.{lanes_by}
 use Rattle.node_sends.specs.Marks.{unmarked_in, used_in}
 use Rattle.node_sends.specs.SendsHere.{hops_in, lanes_at}

@@ -1,7 +1,7 @@
 use Rattle.std.proofs.Common.{fold, refl, ap, None, ◌∙◌}
 use Rattle.std.specs.Option.{option_map}
 use Rattle.router_rules.specs.Facts.{SenderKey}
-use Rattle.node_facts.specs.State.{facts_of}
+use Rattle.node_sends.specs.State.{facts_of}
 use Rattle.node_telling.specs.Offering.{as_offer}
 use Rattle.node_tables.specs.Whole.{state_of}
 use Rattle.lane_telling.specs.Halves.{told_before, told_behind}

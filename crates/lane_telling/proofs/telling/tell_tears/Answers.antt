@@ -4,7 +4,7 @@ use Rattle.std.specs.Option.{option_map}
 use Rattle.rsvp_base.specs.Table.{keys}
 use Rattle.router_rules.specs.Facts.{SenderKey}
 use Rattle.router_rules.specs.Sends.{resv_tear}
-use Rattle.node_facts.specs.State.{facts_of}
+use Rattle.node_sends.specs.State.{facts_of}
 use Rattle.node_sends.specs.SendsHere.{hops_in, lanes_at}
 use Rattle.node_sends.specs.Told.{offered, told_gone}
 use Rattle.node_telling.specs.Offering.{as_offer}

@@ -1,6 +1,6 @@
 use Rattle.std.proofs.Common.{sym, ap, ◌∙◌}
 use Rattle.rsvp_base.specs.Table.{keys}
-use Rattle.node_facts.specs.State.{facts_of}
+use Rattle.node_sends.specs.State.{facts_of}
 use Rattle.node_sends.specs.Before.{lanes_by}
 use Rattle.node_sends.specs.Marks.{used_in}
 use Rattle.node_tables.specs.Whole.{state_of}

@@ -1,6 +1,6 @@
 use Rattle.std.proofs.Common.{◌≡◌, ℕ, false, take}
 use Rattle.std.specs.List.{list_any}
-use Rattle.node_facts.specs.State.{Said}
+use Rattle.node_sends.specs.State.{Said}
 use Rattle.node_tables.specs.Whole.{state_of}
 use Rattle.lane_wishes.specs.Wishes.{lanes_in, new_by}
 use Rattle.lane_wishes.proofs.lanes.is_style_new.Given as goal

@@ -1,5 +1,5 @@
 use Rattle.std.proofs.Common.{◌≡◌, ◌++◌, ℕ, List, take}
-use Rattle.node_facts.specs.State.{Said}
+use Rattle.node_sends.specs.State.{Said}
 use Rattle.node_sends.specs.Saying.{SessionLane}
 use Rattle.node_tables.specs.Whole.{state_of}
 use Rattle.lane_wishes.specs.Wishes.{AreWanted, lanes_in, used_seen}

@@ -1,7 +1,7 @@
 use Rattle.std.proofs.Common.{sym, ap, ◌∙◌}
 use Rattle.rsvp_base.specs.Table.{keys}
 use Rattle.router_rules.specs.Sends.{handle_for}
-use Rattle.node_facts.specs.State.{facts_of}
+use Rattle.node_sends.specs.State.{facts_of}
 use Rattle.node_sends.specs.Seen.{lane_of}
 use Rattle.node_tables.specs.Whole.{state_of}
 use Rattle.lane_wishes.proofs.Named.{first_is, handle_is}

@@ -9,8 +9,8 @@ use Rattle.router_rules.specs.NodeConfig.{NodeConfig}
 use Rattle.router_rules.specs.Rule.{sent_after}
 use Rattle.tree_model.specs.declared.hops.LinkHop.{LinkHop}
 use Rattle.tree_model.specs.Networks.{Net}
-use Rattle.network_model.specs.Steps.{Reroute, rerouted, step}
-use Rattle.network_model.specs.Worlds.{World, Item, route_of}
+use Rattle.network_parcels.specs.Steps.{Reroute, rerouted, step}
+use Rattle.network_parcels.specs.Worlds.{World, Item, route_of}
 use Rattle.net_replay.specs.Agreeing.{IsNode}
 use Rattle.net_replay.specs.Mailing.{ArePut}
 use Rattle.net_replay.specs.Moving.{AreMoving}

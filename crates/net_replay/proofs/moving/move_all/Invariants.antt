@@ -3,8 +3,8 @@ use Rattle.std.specs.Prelude.{slice_get, map as each}
 use Rattle.std.specs.List.{All}
 use Rattle.rsvp_base.specs.declared.addr.Addr.{Addr}
 use Rattle.tree_model.specs.declared.hops.LinkHop.{LinkHop}
-use Rattle.network_model.specs.Steps.{Reroute, sent, step}
-use Rattle.network_model.specs.Worlds.{World}
+use Rattle.network_parcels.specs.Steps.{Reroute, sent, step}
+use Rattle.network_parcels.specs.Worlds.{World}
 use Rattle.net_replay.specs.Agreeing.{IsNode}
 use Rattle.net_replay.specs.Mailing.{ArePut}
 use Rattle.net_replay.specs.Moving.{AreMoving}

@@ -2,7 +2,7 @@ use Rattle.std.proofs.Common.{◌≡◌, ◌<◌, ◌≤◌, ◌∙◌, List, So
 use Rattle.std.specs.Prelude.{slice_get, slice_set}
 use Rattle.std.proofs.lemmas.Option.{slice_get_read}
 use Rattle.router_rules.specs.declared.route.Route.{Route}
-use Rattle.network_model.specs.Worlds.{route_of}
+use Rattle.network_parcels.specs.Worlds.{route_of}
 use Rattle.net_replay.proofs.Moves.{mixed, mixed_all, mixed_get, mixed_step}
 use Rattle.net_replay.proofs.Nodes.{length_set}
 use Rattle.net_replay.proofs.moving.put_routes.Goals as goal

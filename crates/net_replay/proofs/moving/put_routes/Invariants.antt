@@ -1,5 +1,5 @@
 use Rattle.std.proofs.Common.{◌≡◌, length}
-use Rattle.network_model.specs.Worlds.{route_of}
+use Rattle.network_parcels.specs.Worlds.{route_of}
 use Rattle.net_replay.proofs.Moves.{mixed}
 use Rattle.net_replay.proofs.moving.put_routes.Given as goal
 

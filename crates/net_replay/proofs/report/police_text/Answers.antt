@@ -1,6 +1,6 @@
 use Rattle.std.proofs.Common.{◌∷◌, [], ◌++◌, ◌∙◌, ap, List, ℕ}
 use Rattle.std.specs.Prelude.{codes}
-use Rattle.network_model.specs.Texts.{flag_text}
+use Rattle.network_parcels.specs.Texts.{flag_text}
 use Rattle.net_replay.proofs.report.police_text.Goals as goal
 
 pub returns : goal.returns

@@ -3,7 +3,7 @@ use Rattle.std.specs.Prelude.{Result, Err, Ok}
 use Rattle.std.proofs.lemmas.Result.{err_from_is_err_and}
 use Rattle.rsvp_base.specs.declared.room.NoMemory.{NoMemory}
 use Rattle.tree_model.specs.Networks.{Net}
-use Rattle.network_model.specs.Runs.{end_report}
+use Rattle.network_parcels.specs.Runs.{end_report}
 use Rattle.net_replay.specs.Reporting.{Says, report_kind}
 use Rattle.net_replay.proofs.Reports.{reports_from, says_none, says_stop, says_then}
 use Rattle.net_replay.proofs.report.put_all.Goals as goal

@@ -1,7 +1,7 @@
 use Rattle.std.proofs.Common.{◌≡◌, ℕ, ◌+◌, List}
 use Rattle.std.specs.Prelude.{Result, length}
 use Rattle.rsvp_base.specs.declared.room.NoMemory.{NoMemory}
-use Rattle.network_model.specs.Worlds.{World}
+use Rattle.network_parcels.specs.Worlds.{World}
 use Rattle.net_replay.specs.Agreeing.{AreNodes}
 use Rattle.net_replay.specs.Reporting.{Says, report_kind}
 use Rattle.net_replay.proofs.Reports.{reports_from}

@@ -1,7 +1,7 @@
 use Rattle.std.proofs.Common.{◌<◌, ◌≤◌, arith, refl, length}
 use Rattle.std.proofs.lemmas.Option.{slice_get_read}
 use Rattle.router_rules.specs.Inputs.{Clear}
-use Rattle.network_model.specs.Steps.{ClearAt}
+use Rattle.network_parcels.specs.Steps.{ClearAt}
 use Rattle.net_replay.proofs.Nodes.{each_set}
 use Rattle.net_replay.proofs.OneNode.{absent_nodes, absent_sent, called_nodes, called_silent}
 use Rattle.net_replay.proofs.stepping.clear_at.Goals as goal

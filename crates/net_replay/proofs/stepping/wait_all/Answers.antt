@@ -5,8 +5,8 @@ use Rattle.std.proofs.lemmas.Option.{slice_get_read}
 use Rattle.router_rules.specs.Inputs.{Wait}
 use Rattle.router_rules.specs.NodeConfig.{NodeConfig}
 use Rattle.router_rules.specs.Rule.{sent_after}
-use Rattle.network_model.specs.Steps.{Piece, next_state, state_after, word_of_state, word_for, step}
-use Rattle.network_model.specs.Worlds.{World, Item}
+use Rattle.network_parcels.specs.Steps.{Piece, next_state, state_after, word_of_state, word_for, step}
+use Rattle.network_parcels.specs.Worlds.{World, Item}
 use Rattle.network_parcels.proofs.MadeTables.{read_each}
 use Rattle.net_replay.specs.Agreeing.{IsNode}
 use Rattle.net_replay.specs.Mailing.{ArePut}

@@ -1,7 +1,7 @@
 use Rattle.std.proofs.Common.{◌≡◌, ℕ, ◌<◌, ◌≤◌, Some, length}
 use Rattle.std.specs.Prelude.{slice_get, map as each}
-use Rattle.network_model.specs.Steps.{Piece, state_after, sent, step}
-use Rattle.network_model.specs.Worlds.{World}
+use Rattle.network_parcels.specs.Steps.{Piece, state_after, sent, step}
+use Rattle.network_parcels.specs.Worlds.{World}
 use Rattle.net_replay.specs.Agreeing.{IsNode, AreReady}
 use Rattle.net_replay.specs.Mailing.{ArePut}
 use Rattle.net_replay.specs.Posting.{Post}

@@ -1,7 +1,7 @@
 use Rattle.std.proofs.Common.{◌≡◌, drop}
 use Rattle.std.specs.List.{list_any}
 use Rattle.tree_model.specs.Goals.{addr_of}
-use Rattle.router_rules.specs.NodeConfig.{is_addr}
+use Rattle.network_model.specs.NodeConfig.{is_addr}
 use Rattle.network_parcels.proofs.sending.has_addressed.Given as goal
 
 abbrev pub invariant-loop-end : goal.invariant-loop-end

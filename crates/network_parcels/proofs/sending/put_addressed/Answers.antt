@@ -4,7 +4,7 @@ use Rattle.std.specs.List.{filter}
 use Rattle.std.proofs.lemmas.List.{take_all}
 use Rattle.rsvp_base.specs.declared.addr.Addr.{Addr}
 use Rattle.message_writing.specs.Encoding.{encoding}
-use Rattle.router_rules.specs.NodeConfig.{is_addr}
+use Rattle.network_model.specs.NodeConfig.{is_addr}
 use Rattle.tree_model.specs.Goals.{addr_of}
 use Rattle.network_parcels.specs.Parcels.{Parcel, parcel}
 use Rattle.network_parcels.proofs.Puts.{all_put, stops_at, stops_over, filter_split}

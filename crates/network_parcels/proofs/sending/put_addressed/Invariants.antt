@@ -2,7 +2,7 @@ use Rattle.std.proofs.Common.{◌≡◌, ◌++◌, take}
 use Rattle.std.specs.Prelude.{map as each}
 use Rattle.std.specs.List.{filter}
 use Rattle.message_writing.specs.Encoding.{encoding}
-use Rattle.router_rules.specs.NodeConfig.{is_addr}
+use Rattle.network_model.specs.NodeConfig.{is_addr}
 use Rattle.tree_model.specs.Goals.{addr_of}
 use Rattle.network_parcels.specs.Parcels.{parcel}
 use Rattle.network_parcels.proofs.sending.put_addressed.Given as goal

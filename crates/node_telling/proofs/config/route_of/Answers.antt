@@ -1,5 +1,5 @@
 use Rattle.std.proofs.Common.{sym, ◌∙◌}
-use Rattle.node_facts.proofs.Routed.{route_at}
+use Rattle.node_sends.proofs.Routed.{route_at}
 use Rattle.node_telling.proofs.config.route_of.Goals as goal
 
 pub returns-in-Ok : goal.returns-in-Ok

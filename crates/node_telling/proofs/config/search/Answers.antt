@@ -2,7 +2,7 @@ use Rattle.std.proofs.Common.{rules, of_calls}
 use Rattle.std.proofs.lemmas.Fn.{always_returns_same}
 use Rattle.rsvp_base.proofs.Rows.{searched_found, searched_absent}
 use Rattle.router_rules.specs.declared.route.Route.{Route}
-use Rattle.node_facts.specs.Routes.{route_keys, route_row}
+use Rattle.node_sends.specs.Routes.{route_keys, route_row}
 use Rattle.node_telling.proofs.config.search.Goals as goal
 
 pub returns-clause-there : goal.returns-clause-there

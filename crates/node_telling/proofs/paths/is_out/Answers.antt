@@ -1,5 +1,5 @@
 use Rattle.std.proofs.Common.{◌≤◌, ◌∙◌, arith}
-use Rattle.resv_state.proofs.Merged.{not_below, no_bit}
+use Rattle.node_sends.proofs.Merged.{not_below, no_bit}
 use Rattle.node_telling.proofs.paths.is_out.Goals as goal
 
 pub returns-else-iface-lt16 : goal.returns-else-iface-lt16

@@ -4,7 +4,7 @@ use Rattle.path_state.specs.Paths.{AreByKey, path_keys}
 use Rattle.path_state.specs.Paths.{via as kept_via}
 use Rattle.path_state.specs.declared.fact.PathFact.{PathFact}
 use Rattle.rsvp_base.specs.Table.{Table, put_in, size}
-use Rattle.node_facts.specs.State.{State, no_state}
+use Rattle.node_sends.specs.State.{State, no_state}
 use Rattle.node_sends.specs.Seen.{ways_seen}
 use Rattle.node_sends.proofs.Via.{seen_all, seen_few, seen_more, seen_none, take_one}
 use Rattle.node_telling.proofs.via.upstream.Goals as goal

@@ -1,5 +1,5 @@
 use Rattle.std.proofs.Common.{◌≡◌, ℕ, take}
-use Rattle.node_facts.specs.State.{State}
+use Rattle.node_sends.specs.State.{State}
 use Rattle.node_sends.specs.Seen.{ways_seen}
 use Rattle.node_telling.proofs.via.upstream.Given as goal
 

@@ -9,7 +9,7 @@ use Rattle.rsvp_base.specs.declared.style.StyleKind.{StyleKind}
 use Rattle.style_rules.specs.Merge.{PartTable}
 use Rattle.router_rules.specs.Asking.{or_kept, put_unit}
 use Rattle.router_rules.specs.Facts.{Facts, resvs_of}
-use Rattle.node_facts.specs.State.{resv_at}
+use Rattle.resv_book.specs.State.{resv_at}
 use Rattle.resv_book.specs.Kept.{IsBookOf}
 use Rattle.resv_book.specs.Placing.{chosen, placed_in}
 use Rattle.resv_book.specs.declared.placing.Placed.TheVariants as placed

@@ -4,7 +4,7 @@ use Rattle.rsvp_messages.specs.Units.{asked_units}
 use Rattle.router_rules.specs.Asking.{nothing_taken, take_units}
 use Rattle.router_rules.specs.Facts.{Facts, resvs_of}
 use Rattle.router_rules.specs.NodeConfig.{NodeConfig}
-use Rattle.node_facts.specs.State.{resv_at}
+use Rattle.resv_book.specs.State.{resv_at}
 use Rattle.resv_book.specs.Kept.{IsBookOf}
 use Rattle.resv_book.specs.Placing.{IsBookAmong}
 use Rattle.resv_taking.specs.Standing.{parts_in}

@@ -2,7 +2,7 @@ use Rattle.std.proofs.Common.{sym, ap, subst, ◌∙◌}
 use Rattle.rsvp_base.specs.Table.{changed, empty}
 use Rattle.resv_state.specs.Resvs.{ResvFacts, ResvMap}
 use Rattle.router_lookups.proofs.Leaving.{table_put}
-use Rattle.node_facts.specs.State.{resv_at}
+use Rattle.resv_book.specs.State.{resv_at}
 use Rattle.blockade_state.specs.Touched.{touched_by}
 use Rattle.resv_book.specs.Kept.{IsBookOf, facts_with}
 use Rattle.resv_waiting.specs.Passed.{sessions_in}

@@ -4,7 +4,7 @@ use Rattle.rsvp_base.proofs.SessionCounts.{size-without}
 use Rattle.resv_state.specs.Resvs.{ResvFacts, ResvMap, resv_key}
 use Rattle.resv_state.specs.declared.fact.ResvFact.{ResvFact}
 use Rattle.style_rules.specs.Lines.{LineKey, line_keys}
-use Rattle.node_facts.specs.State.{resv_at}
+use Rattle.resv_book.specs.State.{resv_at}
 use Rattle.blockade_state.specs.Touched.{touched_by}
 use Rattle.blockade_state.proofs.Touching.{touched_nobody, touched_pulled}
 use Rattle.resv_waiting.specs.Passed.{sessions_in}

@@ -1,7 +1,7 @@
 use Rattle.std.proofs.Common.{◌≡◌, ℕ}
 use Rattle.rsvp_base.specs.Table.{changed, size}
 use Rattle.router_rules.specs.Facts.{Facts, resvs_of}
-use Rattle.node_facts.specs.State.{resv_at}
+use Rattle.resv_book.specs.State.{resv_at}
 use Rattle.blockade_state.specs.Touched.{touched_by}
 use Rattle.resv_book.specs.Dying.{IsBookBut, IsBookButWith}
 use Rattle.resv_waiting.specs.Passed.{sessions_in}

@@ -1,7 +1,7 @@
 use Rattle.std.proofs.Common.{refl, ap, ◌∙◌, arith, map as each}
 use Rattle.std.proofs.lemmas.List.{take_all}
-use Rattle.node_facts.specs.Forgotten.{forgotten_all}
-use Rattle.node_facts.specs.State.{facts_of}
+use Rattle.resv_book.specs.Forgotten.{forgotten_all}
+use Rattle.resv_book.specs.State.{facts_of}
 use Rattle.node_waiting.specs.Losing.{lost_names}
 use Rattle.node_waiting.specs.Passing.{dead_key}
 use Rattle.resv_waiting.proofs.Moves.{kept_after, moves_both, moves_not, next_lost}

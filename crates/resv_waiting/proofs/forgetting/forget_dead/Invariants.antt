@@ -1,6 +1,6 @@
 use Rattle.std.proofs.Common.{◌≡◌, ℕ, take, map as each}
-use Rattle.node_facts.specs.Forgotten.{forgotten_all}
-use Rattle.node_facts.specs.State.{State, facts_of}
+use Rattle.resv_book.specs.Forgotten.{forgotten_all}
+use Rattle.resv_book.specs.State.{State, facts_of}
 use Rattle.node_waiting.specs.Losing.{lost_names}
 use Rattle.node_waiting.specs.Passing.{dead_key}
 use Rattle.resv_book.specs.Kept.{IsBookWith, MovesWith}

@@ -3,8 +3,8 @@ use Rattle.std.specs.List.{cons_option}
 use Rattle.std.specs.Option.{option_map}
 use Rattle.rsvp_base.specs.declared.session.Sender.{Sender}
 use Rattle.rsvp_base.specs.declared.style.StyleKind.{StyleKind}
-use Rattle.node_facts.specs.Forgotten.{forgotten_all}
-use Rattle.node_facts.specs.State.{facts_of}
+use Rattle.resv_book.specs.Forgotten.{forgotten_all}
+use Rattle.resv_book.specs.State.{facts_of}
 use Rattle.node_waiting.specs.Losing.{lost_at}
 use Rattle.node_waiting.specs.Passing.{dead_key}
 use Rattle.resv_waiting.proofs.Moves.{moves_not}

@@ -8,7 +8,7 @@ use Rattle.node_facts.specs.State.{facts_of}
 use Rattle.node_tables.specs.Whole.{state_of}
 use Rattle.node_waiting.specs.Passing.{dying_paths, sessions_at}
 use Rattle.blockade_state.specs.Touched.{dying, touched_by}
-use Rattle.resv_book.specs.Kept.{facts_with}
+use Rattle.resv_waiting.specs.Kept.{facts_with}
 use Rattle.resv_waiting.specs.Passed.{dying_in}
 use Rattle.tables_waiting.proofs.Booked.{book_at, touched_both}
 use Rattle.tables_waiting.proofs.passing.age_all.Goals as goal

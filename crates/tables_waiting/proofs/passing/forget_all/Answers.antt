@@ -5,7 +5,7 @@ use Rattle.resv_state.specs.Resvs.{ResvMap}
 use Rattle.router_rules.specs.Facts.{Facts}
 use Rattle.node_facts.specs.State.{facts_of}
 use Rattle.node_tables.specs.Whole.{state_of}
-use Rattle.resv_book.specs.Kept.{facts_with}
+use Rattle.resv_waiting.specs.Kept.{facts_with}
 use Rattle.tables_waiting.proofs.Booked.{book_at}
 use Rattle.tables_waiting.proofs.passing.forget_all.Goals as goal
 

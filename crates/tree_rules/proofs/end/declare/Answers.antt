@@ -1,5 +1,5 @@
 use Rattle.std.proofs.Common.{arith}
-use Rattle.left_over.proofs.Listing.{books_of_none, list_none}
+use Rattle.script_state.proofs.Listing.{books_of_none, list_none}
 use Rattle.script_state.specs.Forcing.{IsOfNet}
 use Rattle.script_state.proofs.Places.{placed_end}
 use Rattle.script_state.proofs.Forced.{nothing_forced}

@@ -1,7 +1,7 @@
 use Rattle.std.proofs.Common.{◌≡◌, ◌≤◌, List, ℕ, [], length, sym, ap, subst, ◌∙◌}
 use Rattle.rsvp_base.specs.Members.{In}
 use Rattle.tree_model.proofs.TreeLaws.{true_false}
-use Rattle.left_over.specs.Listed.{IsOfEnds}
+use Rattle.script_state.specs.Listed.{IsOfEnds}
 use Rattle.tree_model.specs.declared.hops.End.{End}
 use Rattle.tree_model.specs.Networks.{Net, link_of}
 use Rattle.tree_routing.specs.Answers.{TakesLink, with_link}

@@ -1,7 +1,7 @@
 use Rattle.std.proofs.Common.{◌≡◌, ◌≤◌, ◌∷◌, [], List, ℕ, length, length-append, ap, subst, sym, ◌∙◌, arith}
 use Rattle.std.specs.Prelude.{◌/◌, unwrap_or}
 use Rattle.tree_model.specs.Networks.{Net}
-use Rattle.left_over.specs.Listed.{facts_in}
+use Rattle.script_state.specs.Listed.{facts_in}
 use Rattle.script_state.specs.Fitness.{ArePlaced}
 use Rattle.script_state.specs.Forcing.{IsOfNet}
 use Rattle.script_state.proofs.Places.{none_fit, placed_more}

@@ -1,7 +1,7 @@
 use Rattle.std.proofs.Common.{sym, subst}
 use Rattle.router_rules.specs.Steps.{IsFitStale}
 use Rattle.node_facts.specs.State.{State}
-use Rattle.node_acting.specs.Coming.{stale_path}
+use Rattle.router_core.specs.Coming.{stale_path}
 use Rattle.bounded_nodes.proofs.Doing.{left_over_facts_keep_bounds}
 use Rattle.live_router.proofs.Living.{lives_on}
 use Rattle.live_router.proofs.live_router.LiveRouter.stale_path.Goals as goal

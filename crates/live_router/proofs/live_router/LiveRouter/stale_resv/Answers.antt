@@ -1,7 +1,7 @@
 use Rattle.std.proofs.Common.{sym, subst}
 use Rattle.router_rules.specs.Steps.{IsFitStale}
 use Rattle.node_facts.specs.State.{State}
-use Rattle.local_asking.specs.LeftOver.{resv_left}
+use Rattle.router_core.specs.LeftOver.{resv_left}
 use Rattle.bounded_nodes.proofs.Doing.{left_over_facts_keep_bounds}
 use Rattle.live_router.proofs.Living.{lives_on}
 use Rattle.live_router.proofs.live_router.LiveRouter.stale_resv.Goals as goal

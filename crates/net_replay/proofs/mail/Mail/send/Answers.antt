@@ -1,7 +1,7 @@
 use Rattle.std.proofs.Common.{true, ◌≡◌, ◌∙◌, ◌++◌, ℕ, List, Option, Bool, ap, ap₂, subst, take, length}
 use Rattle.std.specs.Prelude.{map as each, nat_lt, ◌||◌, is_err}
 use Rattle.message_writing.specs.Encoding.{encoding}
-use Rattle.network_model.specs.Links.{goes_to}
+use Rattle.network_parcels.specs.Links.{goes_to}
 use Rattle.tree_model.specs.Networks.{end_at}
 use Rattle.network_parcels.specs.Parcels.{Parcel, parcel}
 use Rattle.net_replay.specs.Posting.{Post, put_behind}

@@ -1,5 +1,5 @@
 use Rattle.std.proofs.Common.{◌∙◌, subst, sym, refl}
-use Rattle.network_model.specs.Steps.{At}
+use Rattle.network_parcels.specs.Steps.{At}
 use Rattle.net_replay.specs.Routed.{trees_in}
 use Rattle.net_replay.specs.Agreeing.{State, Agrees}
 use Rattle.net_replay.specs.Happening.{call_of}

@@ -1,9 +1,9 @@
 use Rattle.std.proofs.Common.{List, subst, sym, refl}
-use Rattle.network_model.specs.Steps.{ClearAt, sent}
+use Rattle.network_parcels.specs.Steps.{ClearAt, sent}
 use Rattle.net_replay.specs.Routed.{trees_in}
 use Rattle.net_replay.specs.Agreeing.{State, Agrees}
 use Rattle.std.specs.Prelude.{map as each}
-use Rattle.network_model.specs.Worlds.{Item}
+use Rattle.network_parcels.specs.Worlds.{Item}
 use Rattle.std.proofs.Common.{Bool}
 use Rattle.net_replay.specs.Mailing.{ArePut}
 use Rattle.net_replay.proofs.Mailed.{nothing_put}

@@ -1,7 +1,7 @@
 use Rattle.std.proofs.Common.{◌≡◌, ◌++◌, ◌∷◌, ◌∙◌, ℕ, List, [], Some, subst, sym, ap, refl, arith, length, append-nil}
 use Rattle.std.specs.Prelude.{slice_get, cond}
 use Rattle.net_replay.specs.Due.{told}
-use Rattle.network_model.specs.Steps.{Deliver, step}
+use Rattle.network_parcels.specs.Steps.{Deliver, step}
 use Rattle.network_parcels.specs.Parcels.{parcel}
 use Rattle.net_replay.specs.Routed.{trees_in}
 use Rattle.net_replay.specs.Agreeing.{State, Agrees}

@@ -1,5 +1,5 @@
 use Rattle.std.proofs.Common.{◌≡◌, ℕ, ◌-◌, suc, arith}
-use Rattle.network_model.specs.Steps.{Deliver}
+use Rattle.network_parcels.specs.Steps.{Deliver}
 use Rattle.net_replay.proofs.Runnings.{well, at_none, at_one, ran_none}
 use Rattle.net_replay.proofs.world.World.deliver_at.Goals as goal
 

@@ -1,8 +1,8 @@
 use Rattle.std.proofs.Common.{ℕ, ◌*◌, ◌∷◌, [], ◌∙◌, List, refl, subst, sym}
 use Rattle.std.specs.Prelude.{Result, Err}
 use Rattle.std.proofs.lemmas.Result.{err_from_is_err_and}
-use Rattle.network_model.specs.Events.{pass}
-use Rattle.network_model.specs.Steps.{Piece, step}
+use Rattle.network_parcels.specs.Events.{pass}
+use Rattle.network_parcels.specs.Steps.{Piece, step}
 use Rattle.net_replay.specs.Running.{Ran}
 use Rattle.net_replay.specs.declared.world_err.WorldErr.{WorldErr}
 use Rattle.net_replay.proofs.Runnings.{not_memory, ran_then, ran_not}

@@ -1,5 +1,5 @@
 use Rattle.std.proofs.Common.{◌≡◌, ◌∙◌, ◌*◌, ◌∷◌, [], subst, ap}
-use Rattle.network_model.specs.Steps.{Piece}
+use Rattle.network_parcels.specs.Steps.{Piece}
 use Rattle.net_replay.specs.Running.{Ran}
 use Rattle.net_replay.proofs.world.World.half_period.Goals as goal
 

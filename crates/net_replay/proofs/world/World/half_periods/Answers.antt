@@ -2,7 +2,7 @@ use Rattle.std.proofs.Common.{◌≡◌, ℕ, ◌+◌, ◌*◌, ◌-◌, ◌∷�
 use Rattle.std.specs.Prelude.{Result, Err}
 use Rattle.std.specs.List.{repeat}
 use Rattle.std.proofs.lemmas.Result.{err_from_is_err_and}
-use Rattle.network_model.specs.Steps.{Piece}
+use Rattle.network_parcels.specs.Steps.{Piece}
 use Rattle.net_replay.specs.Running.{Ran}
 use Rattle.net_replay.specs.declared.world_err.WorldErr.{WorldErr}
 use Rattle.net_replay.proofs.Runnings.{well, goes_on, goes_not, goes_end, same_then}

@@ -1,6 +1,6 @@
 use Rattle.std.proofs.Common.{sym, subst}
 use Rattle.std.specs.Prelude.{List}
-use Rattle.network_model.specs.Steps.{Step}
+use Rattle.network_parcels.specs.Steps.{Step}
 use Rattle.net_replay.specs.Running.{Ran}
 use Rattle.net_replay.proofs.Runnings.{well, ran_none, some_piece, no_piece}
 use Rattle.net_replay.proofs.world.World.last_piece.Goals as goal

@@ -4,7 +4,7 @@ use Rattle.net_replay.specs.Agreeing.{IsItem}
 use Rattle.net_replay.proofs.Zips.{all_zip_length}
 use Rattle.std.proofs.lemmas.Result.{err_from_is_err_and}
 use Rattle.std.specs.List.{repeat}
-use Rattle.network_model.specs.Steps.{Deliver}
+use Rattle.network_parcels.specs.Steps.{Deliver}
 use Rattle.net_replay.specs.Running.{Ran}
 use Rattle.net_replay.specs.declared.world_err.WorldErr.{WorldErr}
 use Rattle.net_replay.proofs.Runnings.{only_then, well, goes_on, goes_not, goes_end, same_then}

@@ -1,6 +1,6 @@
 use Rattle.std.proofs.Common.{◌≡◌, ℕ, ◌+◌, None, ◌∷◌, []}
 use Rattle.std.specs.List.{repeat}
-use Rattle.network_model.specs.Steps.{Deliver}
+use Rattle.network_parcels.specs.Steps.{Deliver}
 use Rattle.net_replay.specs.Running.{IsSame}
 use Rattle.net_replay.proofs.Runnings.{Goes}
 use Rattle.net_replay.proofs.world.World.pass.Given as goal

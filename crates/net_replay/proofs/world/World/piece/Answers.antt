@@ -1,5 +1,5 @@
 use Rattle.std.proofs.Common.{◌≡◌, ◌≤◌, ◌*◌, ◌∙◌, subst, sym, ap, refl, arith, length}
-use Rattle.network_model.specs.Steps.{Piece, state_after}
+use Rattle.network_parcels.specs.Steps.{Piece, state_after}
 use Rattle.net_replay.specs.Routed.{trees_in}
 use Rattle.net_replay.specs.Agreeing.{State, Agrees}
 use Rattle.std.proofs.lemmas.List.Elements.{All-weaker}

@@ -1,7 +1,7 @@
 use Rattle.std.proofs.Common.{◌≡◌, ◌∙◌, List, ap, subst, sym, refl}
 use Rattle.std.specs.Prelude.{map as each}
 use Rattle.rsvp_base.specs.declared.addr.Addr.{Addr}
-use Rattle.network_model.specs.Steps.{Reroute, rerouted}
+use Rattle.network_parcels.specs.Steps.{Reroute, rerouted}
 use Rattle.tree_model.specs.Networks.{Net}
 use Rattle.network_parcels.specs.Parcels.{Parcel}
 use Rattle.net_replay.specs.Routed.{trees_in}

@@ -1,5 +1,5 @@
 use Rattle.std.proofs.Common.{◌≡◌, ℕ, ◌+◌, None}
-use Rattle.network_model.specs.Events.{half, halves}
+use Rattle.network_parcels.specs.Events.{half, halves}
 use Rattle.net_replay.specs.Running.{IsSame}
 use Rattle.net_replay.proofs.Runnings.{Goes}
 use Rattle.net_replay.proofs.world.World.round.Given as goal

@@ -1,5 +1,5 @@
 use Rattle.std.proofs.Common.{◌≡◌, ℕ, ◌+◌, None}
-use Rattle.network_model.specs.Events.{a_round, rounds}
+use Rattle.network_parcels.specs.Events.{a_round, rounds}
 use Rattle.net_replay.specs.Running.{IsSame}
 use Rattle.net_replay.proofs.Runnings.{Goes}
 use Rattle.net_replay.proofs.world.World.rounds.Given as goal

@@ -4,8 +4,8 @@ use Rattle.std.specs.List.{repeat}
 use Rattle.std.proofs.lemmas.Nat.{mod_below}
 use Rattle.std.proofs.lemmas.Result.{err_from_is_err_and}
 use Rattle.calm_rounds.specs.Machine.{run}
-use Rattle.network_model.specs.Events.{last_piece}
-use Rattle.network_model.specs.Steps.{Piece, Step, machine}
+use Rattle.network_parcels.specs.Events.{last_piece}
+use Rattle.network_parcels.specs.Steps.{Piece, Step, machine}
 use Rattle.net_replay.specs.Running.{Ran}
 use Rattle.net_replay.specs.declared.world_err.WorldErr.{WorldErr}
 use Rattle.net_replay.proofs.Runnings.{ran_then, ran_not}

@@ -1,5 +1,5 @@
 use Rattle.std.proofs.Common.{true, None}
-use Rattle.network_model.specs.Steps.{Flags}
+use Rattle.network_parcels.specs.Steps.{Flags}
 use Rattle.net_replay.specs.Reporting.{report_said}
 use Rattle.net_replay.proofs.Reported.{flags_ran, flags_are, unsaid}
 use Rattle.net_replay.proofs.world.World.write_flags.Goals as goal

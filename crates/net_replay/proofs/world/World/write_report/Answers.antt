@@ -1,5 +1,5 @@
 use Rattle.std.proofs.Common.{false}
-use Rattle.network_model.specs.Steps.{Report}
+use Rattle.network_parcels.specs.Steps.{Report}
 use Rattle.net_replay.specs.Reporting.{report_said}
 use Rattle.net_replay.proofs.Reported.{report_ran, report_is, unsaid}
 use Rattle.net_replay.proofs.world.World.write_report.Goals as goal

@@ -4,7 +4,7 @@ use Rattle.lane_state.specs.Lanes.{LaneMap}
 use Rattle.node_facts.specs.State.{IsKept, IsSaid, IsSettled, State, no_state}
 use Rattle.node_facts.proofs.Opening.{kept_none}
 use Rattle.node_tables.specs.Whole.{IsOfPlace, state_of}
-use Rattle.tables_waiting.specs.Steps.{AreSound}
+use Rattle.session_rounds.specs.Steps.{AreSound}
 use Rattle.router_core.proofs.node.Node.open.Goals as goal
 use Rattle.router_core.proofs.node.Node.open.Goals.{In_ok-said}
 
