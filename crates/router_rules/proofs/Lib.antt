@@ -3,3 +3,5 @@ pub mod Bounding
 pub use Rattle.style_rules.proofs.Merges
 pub use Rattle.style_rules.proofs.Room
 pub use Rattle.style_rules.proofs.Towards
+pub use Rattle.style_rules.proofs.Told
+pub use Rattle.style_rules.proofs.Lattice

@@ -27,3 +27,4 @@ pub use Rattle.style_rules.specs.PartLaws
 pub use Rattle.style_rules.specs.Parts
 pub use Rattle.style_rules.specs.Targets
 pub use Rattle.style_rules.specs.Toward
+pub use Rattle.style_rules.specs.FlowOrder
