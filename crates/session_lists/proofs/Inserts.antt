@@ -1,5 +1,5 @@
 -- The lists after a row was put in.
-use Rattle.std.proofs.Common.{◌≡◌, ◌≤◌, ℕ, true, cond, T, is_some, List, [], ◌∷◌, length, map as each, Option, Some, refl, sym, ap, subst, ◌∙◌, arith}
+use Rattle.std.proofs.Common.{◌≡◌, ◌≤◌, ℕ, true, cond, T, is_some, List, [], ◌∷◌, length, map as each, Option, Some, None, refl, sym, ap, subst, ◌∙◌, arith}
 use Rattle.std.specs.Prelude.{slice_get}
 use Rattle.std.specs.List.{insert}
 use Rattle.std.specs.Option.{option_map}
@@ -10,14 +10,16 @@ use Rattle.rsvp_base.specs.Keys.{Keys}
 use Rattle.rsvp_base.specs.Orders.{sessions}
 use Rattle.rsvp_base.specs.Rows.{table_of}
 use Rattle.rsvp_base.specs.SessionLimits.{sessions_in}
-use Rattle.rsvp_base.specs.Table.{Table, passes, size}
+use Rattle.rsvp_base.specs.Sets.{Set}
+use Rattle.rsvp_base.specs.Table.{Table, passes, size, get, changed, changed_rows, keys as in_order}
 use Rattle.rsvp_base.specs.Under.{rows_under}
 use Rattle.rsvp_base.specs.declared.session.Session.{Session}
 use Rattle.rsvp_base.proofs.Counts.{size-set_of}
 use Rattle.rsvp_base.proofs.Rows.{each_itself}
 use Rattle.rsvp_base.proofs.SessionCounts.{has_session, is_full}
 use Rattle.rsvp_base.proofs.Sizes.{size_same}
-use Rattle.rsvp_base.proofs.Tables.{either, holds}
+use Rattle.rsvp_base.proofs.SetLaws.{same_set}
+use Rattle.rsvp_base.proofs.Tables.{either, holds, then_do, get-changed}
 use Rattle.session_lists.specs.Ring.{Has}
 use Rattle.session_lists.specs.declared.heads.Head.{Head}
 use Rattle.session_lists.specs.Lists.{AreLists, IsGap, row_keys, first_of, head_row, key_row, rows_of, leads, led, sessions_of}
@@ -35,6 +37,27 @@ module _ {R : Type 0} (rests : Keys R) (keys : List (Option (Session × R))) (sl
   heads_counted =
       let t : Table (row_keys rests) ℕ = record { rows = rows_of keys slots; sorted = a.sorted } in
       sym (length-map heads head_row) ∙ size_same sessions (table_of sessions head_row heads a.rising) (sessions_in rests t) (λ q. ap is_some (a.firsts q) ∙ first_full (rows_under sessions rests q (rows_of keys slots)) ∙ sym (has_session rests t q))
+
+  -- the heads are those of the sessions with rows, in their order
+  pub heads_are : each (λ (h : Head). h.session) heads ≡ in_order (sessions_of (rows_of keys slots))
+  heads_are =
+      let t : Table (row_keys rests) ℕ = record { rows = rows_of keys slots; sorted = a.sorted } in
+      let of_heads : Table sessions ℕ = table_of sessions head_row heads a.rising in
+      let alone : Set sessions = changed (λ k x. Some tt) of_heads in
+      let same : alone ≡ sessions_of (rows_of keys slots) =
+      same_set sessions alone (sessions_in rests t) (λ q. ap is_some (get-changed sessions (λ k x. Some tt) of_heads q) ∙ either_way (get of_heads q) ∙ ap is_some (a.firsts q) ∙ first_full (rows_under sessions rests q (rows_of keys slots)) ∙ sym (has_session rests t q)) in
+      listed heads ∙ ap in_order same
+    where
+      nothing : ℕ → Option (Unit {0})
+      nothing x = Some tt
+
+      either_way : (w : Option ℕ) → is_some (then_do w nothing) ≡ is_some w
+      either_way None = refl
+      either_way (Some x) = refl
+
+      listed : (hs : List Head) → each (λ (h : Head). h.session) hs ≡ each (λ (e : Session × Unit {0}). e.0) (changed_rows (λ k x. Some tt) (each head_row hs))
+      listed [] = refl
+      listed (h ∷ hs) = ap (λ xs. h.session ∷ xs) (listed hs)
 
   few_heads : length heads ≤ length (rows_of keys slots)
   few_heads =

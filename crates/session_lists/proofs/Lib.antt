@@ -6,3 +6,4 @@ pub mod Leading
 pub mod Leads
 pub mod Rings
 pub mod Takes
+pub mod Under

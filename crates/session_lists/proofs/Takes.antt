@@ -47,7 +47,7 @@ module _ {R : Type 0} (rests : Keys R) (s : Session) where
   Row = (Session × R) × ℕ
 
   -- behind a row of a later session there is none of this
-  none_later : (d : Row) (ds : List Row) → T (is_sorted (row_keys rests).cmp (d ∷ ds)) → sessions.cmp s d.0.0 ≡ Less → first_of rests s ds ≡ None
+  pub none_later : (d : Row) (ds : List Row) → T (is_sorted (row_keys rests).cmp (d ∷ ds)) → sessions.cmp s d.0.0 ≡ Less → first_of rests s ds ≡ None
   none_later d ds up over = by (first_of rests s ds) refl
     where
       by : (o : Option ℕ) → first_of rests s ds ≡ o → o ≡ None
@@ -57,7 +57,7 @@ module _ {R : Type 0} (rests : Keys R) (s : Session) where
           let below : (row_keys rests).cmp d.0 (s, i.rest) ≡ Less = below_in (row_keys rests) d.0 ds i.place ((s, i.rest), f) (first _ _ up) i.is in
           absurd (greater_not_less (sessions.cmp s d.0.0) (rests.cmp d.0.1 i.rest) (ap (λ w. ordering_then w (rests.cmp d.0.1 i.rest)) (sym (sessions.total.antisymm d.0.0 s)) ∙ below) over)
 
-  first_next : (e : Row) (es : List Row) → T (is_sorted (row_keys rests).cmp (e ∷ es)) → eq_by_cmp sessions.cmp s e.0.0 ≡ true → first_of rests s es ≡ next_of s (slice_get es 0)
+  pub first_next : (e : Row) (es : List Row) → T (is_sorted (row_keys rests).cmp (e ∷ es)) → eq_by_cmp sessions.cmp s e.0.0 ≡ true → first_of rests s es ≡ next_of s (slice_get es 0)
   first_next e [] up t = refl
   first_next e (d ∷ ds) up t =
       either (eq_by_cmp sessions.cmp s d.0.0)

@@ -4,7 +4,7 @@ use Rattle.std.proofs.Common.{T}
 use Rattle.std.specs.List.{filter_map}
 use Rattle.std.specs.Option.{option_map}
 use Rattle.std.specs.FinMap.Entries.{find, put, where_key, is_sorted}
-use Rattle.std.specs.Ordering.{eq_by_cmp}
+use Rattle.std.specs.Ordering.{eq_by_cmp, is_lt}
 use Rattle.std.specs.declared.cmp.Ordering.TheVariants.{Less}
 use Rattle.rsvp_base.specs.Keys.{Keys, pairs}
 use Rattle.rsvp_base.specs.Orders.{sessions}
@@ -23,9 +23,17 @@ pub record Rows (R : Type 0) : Type 0 where
 abbrev pub row_keys : {R : Type 0} → Keys R → Keys (Session × R)
 row_keys rests = pairs sessions rests
 
+-- the slot of a row of a session
+abbrev pub slot_of : {R : Type 0} → Option (R × ℕ) → Option ℕ
+slot_of r = option_map (λ e. e.1) r
+
 -- the slot of a session's first row
 abbrev pub first_of : {R : Type 0} → Keys R → Session → List ((Session × R) × ℕ) → Option ℕ
 first_of rests s rows = option_map (λ e. e.1) (slice_get (rows_under sessions rests s rows) 0)
+
+-- of rows by the rest of their keys, those behind a rest
+abbrev pub rows_behind : {R X : Type 0} → Keys R → R → List (R × X) → List (R × X)
+rows_behind rests r es = where_key rests.cmp (λ q. is_lt (rests.cmp r q)) es
 
 -- the slot of a row, where it is of this session
 abbrev pub next_of : {R : Type 0} → Session → Option ((Session × R) × ℕ) → Option ℕ

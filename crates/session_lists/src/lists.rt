@@ -2,8 +2,10 @@
 ghost use Rattle.std.specs.Prelude.{◌≡◌, ◌<◌, ◌≤◌, ◌+◌, ℕ, [], not, length, IfOk, IfErr, IfSome, Option, Some, None, slice_get, vec_capacity};
 ghost use Rattle.std.specs.FinMap.Entries.{find, put, where_key};
 ghost use Rattle.std.specs.Ordering.{eq_by_cmp, is_lt};
-ghost use Rattle.session_lists.specs.Lists.{AreLists, IsStart, IsPlace, IsRow, IsGap, row_keys, key_row, first_of, next_of, of_session, sessions_of};
-ghost use Rattle.rsvp_base.specs.Table.{size};
+ghost use Rattle.session_lists.specs.Lists.{AreLists, IsStart, IsPlace, IsRow, IsGap, row_keys, key_row, first_of, slot_of, rows_behind, of_session, sessions_of};
+ghost use Rattle.rsvp_base.specs.Orders.{sessions};
+ghost use Rattle.rsvp_base.specs.Table.{keys, size};
+ghost use Rattle.rsvp_base.specs.Under.{rows_under};
 
 use crate::heads::{Head, first_in, put_first, start, take_first};
 use crate::order::RestOrder;
@@ -234,10 +236,43 @@ impl<O: RestOrder> SessionLists<O> {
     /// The slot of the row of a session behind one of its rows. `None` exactly where that is the last. So a session's rows
     /// are gone through one by one, and no others are looked at.
     pub fn after(&self, session: Session, slot: u32) -> Option<u32>
-        requires { (i : ℕ) × (rest : O.Rest) × (slice_get self.now.rows i ≡ Some ((session, rest), slot)) }
-        ensures { (i : ℕ) (rest : O.Rest) → slice_get self.now.rows i ≡ Some ((session, rest), slot) → result ≡ next_of session (slice_get self.now.rows (i + 1)) }
+        requires { (j : ℕ) × (rest : O.Rest) × (slice_get (rows_under sessions O.rests session self.now.rows) j ≡ Some (rest, slot)) }
+        ensures { (j : ℕ) (rest : O.Rest) → slice_get (rows_under sessions O.rests session self.now.rows) j ≡ Some (rest, slot) → result ≡ slot_of (slice_get (rows_under sessions O.rests session self.now.rows) (j + 1)) }
     {
         of_session(self.keys.as_slice(), self.slots.after(slot), session)
+    }
+
+    /// The slot of the first row of a session behind the rest of a key, whether this has a row or not. `None` exactly where
+    /// none is behind it.
+    pub fn behind(&self, session: Session, rest: O::Rest) -> Option<u32>
+        ensures { result ≡ slot_of (slice_get (rows_behind O.rests rest (rows_under sessions O.rests session self.now.rows)) 0) }
+    {
+        let row = row_of::<O>(
+            &self.slots,
+            self.keys.as_slice(),
+            self.heads.as_slice(),
+            session,
+            &rest,
+        );
+        match row {
+            Ok(slot) => of_session(self.keys.as_slice(), self.slots.after(slot), session),
+            Err(place) => of_session(self.keys.as_slice(), place, session),
+        }
+    }
+
+    /// The k-th of the sessions that have rows, in their order.
+    pub fn session(&self, k: usize) -> Session
+        requires { k < size (sessions_of self.now.rows) }
+        ensures { slice_get (keys (sessions_of self.now.rows)) k ≡ Some result }
+    {
+        self.heads[k].session
+    }
+
+    /// For how many rows there is room.
+    pub fn room(&self) -> usize
+        ensures { result ≡ self.now.room }
+    {
+        self.slots.room()
     }
 
     /// How many sessions have rows.

@@ -86,6 +86,13 @@ impl Ring {
         self.len
     }
 
+    /// How many slots there are.
+    pub(crate) fn room(&self) -> usize
+        ensures { result ≡ self.now.room }
+    {
+        self.room
+    }
+
     /// The slot behind one that is put in. `None` exactly where it is the last.
     pub(crate) fn after(&self, slot: u32) -> Option<u32>
         requires { Has self.now.slots slot }
