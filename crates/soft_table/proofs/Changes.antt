@@ -1,23 +1,22 @@
 -- What each change of a table does to its facts and its dead.
-use Rattle.std.proofs.Common.{◌≡◌, ◌<◌, ℕ, true, false, not, List, [], ◌∷◌, length, set, get_or, map as each, Option, Some, None, refl, sym, ap, subst, ◌∙◌}
+use Rattle.std.proofs.Common.{◌≡◌, ◌<◌, ℕ, true, false, not, List, [], ◌∷◌, length, set, map as each, Option, Some, None, refl, sym, ap, subst, ◌∙◌}
 use Rattle.std.specs.Prelude.{slice_get, replicate}
-use Rattle.std.specs.List.{insert, remove}
 use Rattle.std.specs.Ordering.{eq_by_cmp}
 use Rattle.std.specs.FinMap.Entries.{find, put, where_key}
 use Rattle.std.proofs.lemmas.Bool.{both_ways}
 use Rattle.std.proofs.lemmas.List.{set-set}
 use Rattle.rsvp_base.specs.Keys.{Keys}
-use Rattle.rsvp_base.specs.Rows.{AreRows, HasRowAt, LacksRowAt}
+use Rattle.rsvp_base.specs.Members.{In}
 use Rattle.rsvp_base.specs.Table.{Table, get, put_in, without, empty}
 use Rattle.rsvp_base.specs.declared.session.Session.{Session}
-use Rattle.rsvp_base.proofs.Rows.{are_rows, table_is, get_found, get_absent, put_new}
+use Rattle.rsvp_base.proofs.Counts.{in_found}
+use Rattle.rsvp_base.proofs.Fronts.{got_in}
 use Rattle.rsvp_base.proofs.Tables.{then_do, without_absent}
 use Rattle.soft_pool.specs.declared.cell.Cell.{Cell}
 use Rattle.soft_pool.specs.declared.cell.Cell.TheVariants.{Free, Live, Due}
 use Rattle.soft_pool.specs.Cells.{aged, is_live}
-use Rattle.soft_table.specs.declared.row.Row.{Row}
 use Rattle.soft_table.specs.Facts.{fact_keys, facts_by, dead_by}
-use Rattle.soft_table.specs.Index.{value_in, live_in, due_in, index_row, facts_in, dead_in, IsLinked, IsIndex}
+use Rattle.soft_table.specs.Index.{value_in, live_in, due_in, facts_in, dead_in, IsLinked, IsIndex}
 use Rattle.soft_pool.proofs.Slots.{set_read}
 use Rattle.soft_table.proofs.Slots.{value_within, counts}
 use Rattle.soft_table.proofs.Links.{seen, get-seen, seen_replaced, seen_taken, seen_new, linked_replaced, linked_taken, linked_new, linked_later, linked_none, linked_freed}
@@ -49,22 +48,27 @@ module _ {F R : Type 0} (rests : Keys R) (key : F → Session × R) where
   same_facts fs gs e = sym (values_of (λ (x : F × ℕ). key x.0) fs) ∙ ap (each (λ (e : (Session × R) × (F × ℕ)). e.1)) e ∙ values_of (λ (x : F × ℕ). key x.0) gs
 
   -- ---- no fact
-  pub index_none : (n : ℕ) (cells : List (Cell F)) (rows : List (Row R)) → cells ≡ replicate {A = Cell F} n Free → rows ≡ [] → IsIndex rests key cells rows
-  index_none n cells rows c r = record { slots = empty; is = ap (each index_row) r; linked = subst (λ cs. IsLinked rests key cs empty) (sym c) (linked_none rests key n) }
+  pub index_none : (n : ℕ) (cells : List (Cell F)) (rows : List ((Session × R) × ℕ)) → cells ≡ replicate {A = Cell F} n Free → rows ≡ [] → IsIndex rests key cells rows
+  index_none n cells rows c r = record { slots = empty; is = r; linked = subst (λ cs. IsLinked rests key cs empty) (sym c) (linked_none rests key n) }
 
-  pub index_freed : (old cells : List (Cell F)) (rows : List (Row R)) → cells ≡ each {A = Cell F} {B = Cell F} (λ c. Free) old → rows ≡ [] → IsIndex rests key cells rows
-  index_freed old cells rows c r = record { slots = empty; is = ap (each index_row) r; linked = subst (λ cs. IsLinked rests key cs empty) (sym c) (linked_freed rests key old) }
+  pub index_freed : (old cells : List (Cell F)) (rows : List ((Session × R) × ℕ)) → cells ≡ each {A = Cell F} {B = Cell F} (λ c. Free) old → rows ≡ [] → IsIndex rests key cells rows
+  index_freed old cells rows c r = record { slots = empty; is = r; linked = subst (λ cs. IsLinked rests key cs empty) (sym c) (linked_freed rests key old) }
 
-  module _ (cells : List (Cell F)) (rows : List (Row R)) (ix : IsIndex rests key cells rows) where
-    pub rising : AreRows o index_row rows
-    rising = are_rows o index_row rows ix.slots ix.is
-
+  module _ (cells : List (Cell F)) (rows : List ((Session × R) × ℕ)) (ix : IsIndex rests key cells rows) where
     -- ---- what is found
-    pub led : (k : Session × R) (i : ℕ) (d : Row R) → HasRowAt o index_row rows k i → d ≡ get_or rows i d → get ix.slots k ≡ Some d.slot.0
-    led k i d at is = get_found o index_row rows rising ix.slots (table_is o index_row rows rising ix.slots ix.is) k i d at ∙ ap (λ (r : Row R). Some r.slot.0) (sym is)
+    pub led : (k : Session × R) (w : Option ℕ) → find o.cmp k rows ≡ w → get ix.slots k ≡ w
+    led k w at = ap (find o.cmp k) (sym ix.is) ∙ at
 
-    pub not_led : (k : Session × R) (i : ℕ) → LacksRowAt o index_row rows k i → get ix.slots k ≡ None
-    not_led k i at = get_absent o index_row rows rising ix.slots (table_is o index_row rows rising ix.slots ix.is) k i at
+    -- the row of a key is its slot's
+    pub row_led : (i : ℕ) (e : (Session × R) × ℕ) → slice_get rows i ≡ Some e → get ix.slots e.0 ≡ Some e.1
+    row_led i e at = in_found o ix.slots e.0 e.1 (subst (λ es. In e es) ix.is (got_in rows i e at))
+
+    -- a free slot has no row
+    pub not_used : (t : ℕ) → slice_get cells t ≡ Some Free → (i : ℕ) (e : (Session × R) × ℕ) → slice_get rows i ≡ Some e → e.1 ≡ t → ⊥
+    not_used t free i e at same =
+        let g = ix.linked.holds e.0 e.1 (row_led i e at) in
+        let none : None ≡ Some g.0 = ap value_in (sym free) ∙ ap (λ n. value_in (slice_get cells n)) (sym same) ∙ g.1 in
+        cc
 
     pub within_slots : (k : Session × R) (t : ℕ) → get ix.slots k ≡ Some t → t < length cells
     within_slots k t at = let g = ix.linked.holds k t at in value_within cells t g.0 g.1
@@ -100,7 +104,7 @@ module _ {F R : Type 0} (rests : Keys R) (key : F → Session × R) where
         seen_rows ∙ sym (ap (λ (t : Table (fact_keys rests) (F × ℕ)). t.rows) same) ∙ ap (where_key o.cmp (λ x. not (eq_by_cmp o.cmp k x))) (sym seen_rows)
 
     -- ---- a fact put
-    pub record Puts (k : Session × R) (e : F × ℕ) (cells2 : List (Cell F)) (rows2 : List (Row R)) : Type 0 where
+    pub record Puts (k : Session × R) (e : F × ℕ) (cells2 : List (Cell F)) (rows2 : List ((Session × R) × ℕ)) : Type 0 where
       pub index : IsIndex rests key cells2 rows2
       pub facts : facts_by key (facts_in cells2 rows2) ≡ put o.cmp k e (facts_by key (facts_in cells rows))
       pub dead : dead_in cells2 rows2 ≡ []
@@ -138,12 +142,12 @@ module _ {F R : Type 0} (rests : Keys R) (key : F → Session × R) where
               ∙ sym (dead_seen rests key cells rows ix));
         }
 
-    pub puts_new : (k : Session × R) (t i : ℕ) (f : F) (left : ℕ) (cells2 : List (Cell F)) (rows2 : List (Row R)) (r : Row R) → LacksRowAt o index_row rows k i → dead_in cells rows ≡ [] → slice_get cells t ≡ Some Free → cells2 ≡ set cells t (Live f left)
-        → rows2 ≡ insert rows i r → index_row r ≡ (k, t) → key f ≡ k → Puts k (f, left) cells2 rows2
-    puts_new k t i f left cells2 rows2 r lacks none free is rows_is row_is own =
-        let new = not_led k i lacks in
+    pub puts_new : (k : Session × R) (t : ℕ) (f : F) (left : ℕ) (cells2 : List (Cell F)) (rows2 : List ((Session × R) × ℕ)) → find o.cmp k rows ≡ None → dead_in cells rows ≡ [] → slice_get cells t ≡ Some Free → cells2 ≡ set cells t (Live f left)
+        → rows2 ≡ put o.cmp k t rows → key f ≡ k → Puts k (f, left) cells2 rows2
+    puts_new k t f left cells2 rows2 lacks none free is rows_is own =
+        let new = led k None lacks in
         let linked = linked_new rests key cells ix.slots ix.linked k t new free (Live f left) f refl refl own in
-        let listed : each index_row rows2 ≡ (put_in ix.slots k t).rows = ap (each index_row) rows_is ∙ put_new o index_row rows rising ix.slots (table_is o index_row rows rising ix.slots ix.is) k t r i row_is lacks in
+        let listed : rows2 ≡ (put_in ix.slots k t).rows = rows_is ∙ ap (put o.cmp k t) ix.is in
         let ix2 : IsIndex rests key cells2 rows2 = record { slots = put_in ix.slots k t; is = listed; linked = subst (λ cs. IsLinked rests key cs (put_in ix.slots k t)) (sym is) linked } in
         record {
           index = ix2;
@@ -155,18 +159,18 @@ module _ {F R : Type 0} (rests : Keys R) (key : F → Session × R) where
         }
 
     -- ---- a fact taken out, live or dead
-    pub record Takes (k : Session × R) (t : ℕ) (cells2 : List (Cell F)) (rows2 : List (Row R)) : Type 0 where
+    pub record Takes (k : Session × R) (t : ℕ) (cells2 : List (Cell F)) (rows2 : List ((Session × R) × ℕ)) : Type 0 where
       pub index : IsIndex rests key cells2 rows2
       pub facts : facts_by key (facts_in cells2 rows2) ≡ where_key o.cmp (λ x. not (eq_by_cmp o.cmp k x)) (facts_by key (facts_in cells rows))
       pub dead : dead_by key (dead_in cells2 rows2) ≡ where_key o.cmp (λ x. not (eq_by_cmp o.cmp k x)) (dead_by key (dead_in cells rows))
       pub no_fact : live_in (slice_get cells t) ≡ None → facts_in cells2 rows2 ≡ facts_in cells rows
       pub no_dead : due_in (slice_get cells t) ≡ None → dead_in cells2 rows2 ≡ dead_in cells rows
 
-    pub takes : (k : Session × R) (t i : ℕ) (d : Row R) (old : Cell F) (cells2 : List (Cell F)) (rows2 : List (Row R)) → HasRowAt o index_row rows k i → get ix.slots k ≡ Some t → slice_get cells t ≡ Some old → counts old ≡ 1 → cells2 ≡ set cells t Free
-        → rows2 ≡ remove rows i → Takes k t cells2 rows2
-    takes k t i d old cells2 rows2 has at here count is rows_is =
+    pub takes : (k : Session × R) (t : ℕ) (old : Cell F) (cells2 : List (Cell F)) (rows2 : List ((Session × R) × ℕ)) → get ix.slots k ≡ Some t → slice_get cells t ≡ Some old → counts old ≡ 1 → cells2 ≡ set cells t Free
+        → rows2 ≡ where_key o.cmp (λ x. not (eq_by_cmp o.cmp k x)) rows → Takes k t cells2 rows2
+    takes k t old cells2 rows2 at here count is rows_is =
         let linked = linked_taken rests key cells ix.slots ix.linked k t at Free old here count refl in
-        let listed : each index_row rows2 ≡ (without ix.slots k).rows = ap (each index_row) rows_is ∙ sym has.taken ∙ ap (where_key o.cmp (λ x. not (eq_by_cmp o.cmp k x))) ix.is in
+        let listed : rows2 ≡ (without ix.slots k).rows = rows_is ∙ ap (where_key o.cmp (λ x. not (eq_by_cmp o.cmp k x))) ix.is in
         let ix2 : IsIndex rests key cells2 rows2 = record { slots = without ix.slots k; is = listed; linked = subst (λ cs. IsLinked rests key cs (without ix.slots k)) (sym is) linked } in
         let live = facts_seen rests key cells2 rows2 ix2 ∙ ap (λ cs. (seen rests key live_in cs (without ix.slots k)).rows) is
         ∙ ap (λ (t : Table (fact_keys rests) (F × ℕ)). t.rows) (seen_taken rests key cells ix.slots ix.linked k t at Free live_in) in

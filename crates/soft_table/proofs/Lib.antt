@@ -3,7 +3,6 @@ pub mod Links
 pub mod Views
 pub mod Changes
 pub mod Walks
-pub mod Edges
 pub mod Steps
 pub mod Maps
 pub mod Valued

@@ -15,14 +15,14 @@ use Rattle.rsvp_base.specs.declared.session.Session.{Session}
 use Rattle.soft_table.specs.Facts.{fact_keys, facts_by, rows_behind}
 use Rattle.soft_table.specs.Walks.{fact_at}
 
-less_is : (w : Ordering) → T (is_lt w) → w ≡ Less
+pub less_is : (w : Ordering) → T (is_lt w) → w ≡ Less
 less_is Less h = refl
 less_is Equal h = absurd h
 less_is Greater h = absurd h
 
 module _ {R X : Type 0} (rests : Keys R) where
   -- in order, what stands behind the first is the rest
-  all_above : (r : R) (es : List (R × X)) → T (below_all rests.cmp r es) → rows_behind rests r es ≡ es
+  pub all_above : (r : R) (es : List (R × X)) → T (below_all rests.cmp r es) → rows_behind rests r es ≡ es
   all_above r [] h = refl
   all_above r (e ∷ es) h = ap (λ w. cond (is_lt w) (e ∷ rows_behind rests r es) (rows_behind rests r es)) (less_is _ (first _ _ h)) ∙ ap (λ zs. e ∷ zs) (all_above r es (second _ _ h))
 
@@ -40,12 +40,12 @@ module _ {R X : Type 0} (rests : Keys R) where
       let over : rests.cmp x.0 e.0 ≡ Greater = rests.total.antisymm x.0 e.0 ∙ ap ordering_reverse (below_kth e.0 es k x (first _ _ up) at) in
       ap (λ w. cond (is_lt w) (e ∷ rows_behind rests x.0 es) (rows_behind rests x.0 es)) over ∙ behind_drop es k x (second _ _ up) at
 
-dropped_at : {A : Type 0} (es : List A) (k : ℕ) (x : A) → slice_get es k ≡ Some x → drop k es ≡ x ∷ drop (suc k) es
+pub dropped_at : {A : Type 0} (es : List A) (k : ℕ) (x : A) → slice_get es k ≡ Some x → drop k es ≡ x ∷ drop (suc k) es
 dropped_at [] k x at = cc
 dropped_at (e ∷ es) zero x at = let is : e ≡ x = cc in ap (λ z. z ∷ es) is
 dropped_at (e ∷ es) (suc k) x at = dropped_at es k x at
 
-dropped_all : {A : Type 0} (es : List A) (k : ℕ) → slice_get es k ≡ None → drop k es ≡ []
+pub dropped_all : {A : Type 0} (es : List A) (k : ℕ) → slice_get es k ≡ None → drop k es ≡ []
 dropped_all [] zero at = refl
 dropped_all [] (suc k) at = refl
 dropped_all (e ∷ es) zero at = cc

@@ -11,9 +11,8 @@ use Rattle.rsvp_base.proofs.Counts.{in_found}
 use Rattle.rsvp_base.proofs.Tables.{holds, then_do}
 use Rattle.soft_pool.specs.declared.cell.Cell.{Cell}
 use Rattle.soft_pool.specs.declared.cell.Cell.TheVariants.{Free, Live, Due}
-use Rattle.soft_table.specs.declared.row.Row.{Row}
 use Rattle.soft_table.specs.Facts.{fact_keys, facts_by, dead_by, IsInOrder, lives_on, dies}
-use Rattle.soft_table.specs.Index.{value_in, live_in, due_in, used, index_row, facts_in, dead_in, IsLinked, IsIndex}
+use Rattle.soft_table.specs.Index.{value_in, live_in, due_in, used, facts_in, dead_in, IsLinked, IsIndex}
 use Rattle.soft_table.proofs.Slots.{no_due_in, none_due_if, live_later, due_later}
 use Rattle.soft_table.proofs.Links.{seen, get-seen}
 use Rattle.soft_pool.specs.Cells.{aged, NoneDue}
@@ -95,7 +94,7 @@ module _ {F R : Type 0} (rests : Keys R) (key : F → Session × R) (cells : Lis
     live_and_due : size (seen rests key live_in cells m) + size (seen rests key due_in cells m) ≡ size m
     live_and_due = kept_apart (λ (k : Session × R) s. live_in (slice_get cells s)) (λ k s. due_in (slice_get cells s)) m.rows (λ k s i. let g = linked.holds k s (in_found o m k s i) in one_or_other (slice_get cells s) k g.0 g.1)
 
-  module _ (rows : List (Row R)) (ix : IsIndex rests key cells rows) where
+  module _ (rows : List ((Session × R) × ℕ)) (ix : IsIndex rests key cells rows) where
     -- the facts under their keys are what the keys lead to
     pub facts_seen : facts_by key (facts_in cells rows) ≡ (seen rests key live_in cells ix.slots).rows
     facts_seen = ap (λ es. facts_by key (each (λ (e : (Session × R) × (F × ℕ)). e.1) (changed_rows (λ k s. live_in (slice_get cells s)) es))) ix.is ∙ live_keyed ix.slots ix.linked
@@ -118,7 +117,7 @@ module _ {F R : Type 0} (rests : Keys R) (key : F → Session × R) (cells : Lis
     all_counted = omega (arith, size_facts, size_dead, live_and_due ix.slots ix.linked, ix.linked.each)
 
     pub count_rows : length rows ≡ used cells
-    count_rows = omega (arith, length-map rows (index_row {R = R}), ap length ix.is, ix.linked.each)
+    count_rows = omega (arith, ap length ix.is, ix.linked.each)
 
     -- where no dead fact waits, no slot is due, and the other way round
     pub none_waits : dead_in cells rows ≡ [] → NoneDue cells
@@ -134,12 +133,12 @@ module _ {F R : Type 0} (rests : Keys R) (key : F → Session × R) (cells : Lis
     none_left (e ∷ es) none = ap (λ w. kept_row e.0 w (changed_rows (λ k s. due_in (slice_get cells s)) es)) (none e.1) ∙ none_left es none
 
     pub none_dead : NoneDue cells → dead_in cells rows ≡ []
-    none_dead none = ap (each (λ (e : (Session × R) × F). e.1)) (none_left (each index_row rows) (λ s. no_due_in cells s none))
+    none_dead none = ap (each (λ (e : (Session × R) × F). e.1)) (none_left rows (λ s. no_due_in cells s none))
 
 -- ---- time, by the values
-module _ {F R : Type 0} (ms : ℕ) (cells : List (Cell F)) (rows : List (Row R)) where
+module _ {F R : Type 0} (ms : ℕ) (cells : List (Cell F)) (rows : List ((Session × R) × ℕ)) where
   pub facts_later : facts_in (each (aged ms) cells) rows ≡ filter_map (lives_on ms) (facts_in cells rows)
-  facts_later = changed_twice (λ k s. live_in (slice_get cells s)) (λ k s. live_in (slice_get (each (aged ms) cells) s)) (lives_on ms) (each index_row rows) (λ k s. live_later ms cells s)
+  facts_later = changed_twice (λ k s. live_in (slice_get cells s)) (λ k s. live_in (slice_get (each (aged ms) cells) s)) (lives_on ms) rows (λ k s. live_later ms cells s)
 
   pub dead_later : NoneDue cells → dead_in (each (aged ms) cells) rows ≡ filter_map (dies ms) (facts_in cells rows)
-  dead_later none = changed_twice (λ k s. live_in (slice_get cells s)) (λ k s. due_in (slice_get (each (aged ms) cells) s)) (dies ms) (each index_row rows) (λ k s. due_later ms cells s none)
+  dead_later none = changed_twice (λ k s. live_in (slice_get cells s)) (λ k s. due_in (slice_get (each (aged ms) cells) s)) (dies ms) rows (λ k s. due_later ms cells s none)

@@ -11,10 +11,11 @@ ghost use Rattle.soft_table.specs.Facts.{fact_keys, facts_by, dead_by, sessions_
 
 use crate::fact::Fact;
 use crate::finger::Finger;
-use crate::row::Row;
-use crate::rows::{behind, count_sessions, fact_in, first, insert_row, nth, search};
+use crate::order::Rests;
+use crate::rows::{behind, count_sessions, fact_in, nth};
 use rsvp_base::{Full, NoMemory, Session};
-use soft_pool::Pool;
+use session_lists::SessionLists;
+use soft_pool::{Pool, Slot};
 use std::alloc::Global;
 use std::marker::Model;
 
@@ -23,20 +24,20 @@ use std::marker::Model;
 #[derive(Drop)]
 pub struct SoftTable<F: Fact> {
     pool: Pool<F>,
-    // In the order of keys. A dead fact has its row until it is pulled.
-    rows: Vec<Row<F::Rest>>,
+    // Each key leads to the slot of its fact. A dead fact has its row until it is pulled.
+    rows: SessionLists<Rests<F>>,
 }
 
 impl<F: Fact> Model for SoftTable<F> {
-    ghost use Rattle.std.specs.Prelude.{◌≤◌, length, vec_capacity};
+    ghost use Rattle.std.specs.Prelude.{◌≡◌, length};
     ghost use Rattle.soft_table.specs.Facts.{Kept};
     ghost use Rattle.soft_table.specs.Index.{facts_in, dead_in, IsIndex};
 
     ghost Value = { Kept F };
 
-    ghost view = { λ t. record { facts = facts_in t.pool t.rows.items; dead = dead_in t.pool t.rows.items; room = length t.pool } };
+    ghost view = { λ t. record { facts = facts_in t.pool t.rows.rows; dead = dead_in t.pool t.rows.rows; room = length t.pool } };
 
-    ghost invariant = { λ t. IsIndex F.rests F.key_of t.pool t.rows.items × (length t.pool ≤ vec_capacity t.rows) };
+    ghost invariant = { λ t. IsIndex F.rests F.key_of t.pool t.rows.rows × (t.rows.room ≡ length t.pool) };
 }
 
 impl<F: Fact> SoftTable<F> {
@@ -47,7 +48,7 @@ impl<F: Fact> SoftTable<F> {
         ensures { IfOk result (λ t. t ≡ record { facts = []; dead = []; room = room }) }
     {
         let pool = Pool::open(alloc, room)?;
-        let rows = Vec::with_capacity(alloc, room).map_err(|_| NoMemory)?;
+        let rows = SessionLists::open(alloc, room)?;
         Ok(SoftTable { pool, rows })
     }
 
@@ -55,9 +56,9 @@ impl<F: Fact> SoftTable<F> {
     pub fn find(&self, session: Session, rest: F::Rest) -> Option<&F>
         ensures { option_copied result ≡ option_map (λ e. e.0) (find (fact_keys F.rests).cmp (session, rest) (facts_by F.key_of self.now.facts)) }
     {
-        match search::<F>(self.rows.as_slice(), session, &rest) {
-            Ok(at) => fact_in(&self.pool, self.rows[at].slot),
-            Err(_) => None,
+        match self.rows.find(session, rest) {
+            Some(slot) => fact_in(&self.pool, Slot(slot)),
+            None => None,
         }
     }
 
@@ -74,25 +75,16 @@ impl<F: Fact> SoftTable<F> {
         ensures err { OnErr result (self.new ≡ self.old) }
     {
         let (session, rest) = fact.key();
-        match search::<F>(self.rows.as_slice(), session, &rest) {
-            Ok(at) => {
-                let slot = self.rows[at].slot;
-                self.pool.set(slot, fact);
-                self.pool.renew(slot, left);
+        match self.rows.find(session, rest) {
+            Some(slot) => {
+                self.pool.set(Slot(slot), fact);
+                self.pool.renew(Slot(slot), left);
             }
-            Err(at) => {
+            None => {
                 let Ok(slot) = self.pool.add(fact, left) else {
                     return Err(Full);
                 };
-                insert_row(
-                    &mut self.rows,
-                    at,
-                    Row {
-                        session,
-                        rest,
-                        slot,
-                    },
-                );
+                self.rows.insert(session, rest, slot.0);
             }
         }
         Ok(())
@@ -109,15 +101,14 @@ impl<F: Fact> SoftTable<F> {
         ensures room { self.new.room ≡ self.old.room }
     {
         let (session, rest) = fact.key();
-        let Ok(at) = search::<F>(self.rows.as_slice(), session, &rest) else {
+        let Some(slot) = self.rows.find(session, rest) else {
             return false;
         };
-        let slot = self.rows[at].slot;
-        let stands = self.pool.live(slot);
+        let stands = self.pool.live(Slot(slot));
         if !stands {
             return false;
         }
-        self.pool.set(slot, fact);
+        self.pool.set(Slot(slot), fact);
         true
     }
 
@@ -129,15 +120,14 @@ impl<F: Fact> SoftTable<F> {
         ensures dead { self.new.dead ≡ self.old.dead }
         ensures room { self.new.room ≡ self.old.room }
     {
-        let Ok(at) = search::<F>(self.rows.as_slice(), session, &rest) else {
+        let Some(slot) = self.rows.find(session, rest) else {
             return None;
         };
-        let slot = self.rows[at].slot;
-        if !self.pool.live(slot) {
+        if !self.pool.live(Slot(slot)) {
             return None;
         }
-        self.rows.remove(at);
-        Some(self.pool.remove(slot))
+        self.rows.remove(session, rest);
+        Some(self.pool.remove(Slot(slot)))
     }
 
     /// Lets time pass, in milliseconds. The facts with at most so much left are dead then, and wait to be pulled; the others
@@ -165,11 +155,8 @@ impl<F: Fact> SoftTable<F> {
         let Some((_, fact)) = self.pool.pull_due() else {
             return None;
         };
-        let (session, rest) = fact.key();
-        let Ok(at) = search::<F>(self.rows.as_slice(), session, &rest) else {
-            unreachable!();
-        };
-        self.rows.remove(at);
+        let (own, rest) = fact.key();
+        self.rows.remove(own, rest);
         Some(fact)
     }
 
@@ -178,10 +165,9 @@ impl<F: Fact> SoftTable<F> {
     pub fn at(&self, session: Session, k: usize) -> Option<&F>
         ensures { option_copied result ≡ option_map (λ e. e.1.0) (slice_get (rows_under sessions F.rests session (facts_by F.key_of self.now.facts)) k) }
     {
-        let rows = self.rows.as_slice();
-        let from = first::<F>(rows, session);
-        match nth::<F>(&self.pool, rows, session, from, k) {
-            Some((_, slot)) => fact_in(&self.pool, slot),
+        let from = self.rows.first(session);
+        match nth::<F>(&self.pool, &self.rows, session, from, k) {
+            Some(slot) => fact_in(&self.pool, slot),
             None => None,
         }
     }
@@ -192,11 +178,10 @@ impl<F: Fact> SoftTable<F> {
     pub fn after(&self, session: Session, rest: F::Rest, finger: &mut Finger) -> Option<&F>
         ensures { option_copied result ≡ option_map (λ e. e.1.0) (slice_get (rows_behind F.rests rest (rows_under sessions F.rests session (facts_by F.key_of self.now.facts))) 0) }
     {
-        let rows = self.rows.as_slice();
-        let from = behind::<F>(rows, session, &rest, finger.place);
-        match nth::<F>(&self.pool, rows, session, from, 0) {
-            Some((place, slot)) => {
-                finger.place = place;
+        let from = behind::<F>(&self.pool, &self.rows, session, rest, finger.slot);
+        match nth::<F>(&self.pool, &self.rows, session, from, 0) {
+            Some(slot) => {
+                finger.slot = slot.0;
                 fact_in(&self.pool, slot)
             }
             None => None,
@@ -215,7 +200,7 @@ impl<F: Fact> SoftTable<F> {
     pub fn sessions(&self) -> usize
         ensures { result ≡ size (sessions_in F.key_of self.now.facts) }
     {
-        count_sessions::<F>(&self.pool, self.rows.as_slice())
+        count_sessions::<F>(&self.pool, &self.rows)
     }
 
     /// Takes all facts out, the dead that wait too.

@@ -1,14 +1,29 @@
-use Rattle.std.proofs.Common.{rules, not, arith, sym, ◌∙◌}
-use Rattle.std.proofs.lemmas.List.Sorted.{IsPartitionPoint-from_clause}
-use Rattle.soft_table.specs.Walks.{is_behind}
-use Rattle.soft_table.proofs.Edges.{behind_parts, behind_row}
-use Rattle.soft_table.proofs.Walks.{not_true, not_false}
+use Rattle.std.proofs.Common.{◌≡◌, ◌+◌, suc, drop, ap, ◌∙◌, arith}
+use Rattle.std.specs.Prelude.{slice_get}
+use Rattle.rsvp_base.specs.Orders.{sessions}
+use Rattle.rsvp_base.specs.Table.{passes}
+use Rattle.rsvp_base.specs.Under.{rows_under}
+use Rattle.session_lists.specs.Lists.{slot_of}
+use Rattle.soft_table.proofs.Steps.{behind_drop, first_dropped}
+use Rattle.soft_table.proofs.Walks.{behind_drops}
 use Rattle.soft_table.proofs.rows.behind.Goals as goal
 
-pub returns-then-is_row : goal.returns-then-is_row
-returns-then-is_row g c = behind_row g.F.Fact.rests c.args.rows.now c.requires c.args.session c.args.rest.now c.args.near c.index-rows-near.result c.if-near-rows.true c.index-rows-near.is (sym c.is_row.ensures ∙ c.if-is_row.true)
+pub after-requires : goal.after-requires
+after-requires g c =
+    let f = c.stands_in.ensures c.if-stands_in.true in
+    let p = c.requires.led c.args.near f.0 f.1 f.2 in
+    (p.0, c.args.rest, p.1)
 
-pub returns : goal.returns
-returns g c =
-    let point = IsPartitionPoint-from_clause (λ row. not (is_behind g.F.Fact.rests c.args.session c.args.rest.now row)) _ _ c.partition_point.ensures.partitioned (behind_parts g.F.Fact.rests c.args.rows.now c.requires c.args.session c.args.rest.now) (λ a r q k. search rules) in
-    record { up_to = λ i d low high. not_true _ (point.0 i d (omega arith) low); from = λ i d low high. not_false _ (point.1 i d low high) }
+pub returns-then-stands_in : goal.returns-then-stands_in
+returns-then-stands_in g c =
+    let own = rows_under sessions g.F.Fact.rests c.args.session c.args.rows.now.rows in
+    let f = c.stands_in.ensures c.if-stands_in.true in
+    let p = c.requires.led c.args.near f.0 f.1 f.2 in
+    let on : suc p.0 ≡ p.0 + 1 = omega arith in
+    (p.0 + 1, c.after.ensures p.0 c.args.rest p.1, behind_drop g.F.Fact.rests own p.0 (c.args.rest, c.args.near) (passes _ c.requires.sorted) p.1 ∙ ap (λ n. drop n own) on)
+
+pub returns-else-stands_in : goal.returns-else-stands_in
+returns-else-stands_in g c =
+    let own = rows_under sessions g.F.Fact.rests c.args.session c.args.rows.now.rows in
+    let d = behind_drops g.F.Fact.rests c.args.rest own (passes _ c.requires.sorted) in
+    (d.0, c.behind.ensures ∙ ap slot_of (ap (λ xs. slice_get xs 0) d.1 ∙ first_dropped own d.0), d.1)

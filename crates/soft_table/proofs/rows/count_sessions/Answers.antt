@@ -1,28 +1,33 @@
-use Rattle.std.proofs.Common.{◌≡◌, ◌≤◌, ◌+◌, length, drop, refl, sym, ap, ◌∙◌, arith}
-use Rattle.std.proofs.lemmas.Option.{slice_get_read}
+use Rattle.std.proofs.Common.{sym, ap, ◌∙◌, arith}
 use Rattle.rsvp_base.specs.Orders.{sessions}
-use Rattle.soft_table.specs.Walks.{changes, sessions_of}
-use Rattle.soft_table.proofs.Walks.{more_sessions, same_sessions}
+use Rattle.session_lists.specs.Lists.{sessions_of}
+use Rattle.soft_table.specs.Walks.{has_live}
+use Rattle.soft_table.proofs.Walks.{passing, one_more_of, none_more_of, nothing_left}
 use Rattle.soft_table.proofs.rows.count_sessions.Goals as goal
-use Rattle.soft_table.proofs.rows.count_sessions.Goals.{then-is_next, else-is_next}
+use Rattle.soft_table.proofs.rows.count_sessions.Goals.{then-has_fact, else-has_fact}
 
-pub is_next-requires : goal.is_next-requires
-is_next-requires g c = c.requires c.loop-i.i c.index-rows-i.result (slice_get_read c.args.rows.now (length c.args.rows.now) c.loop-i.i c.index-rows-i.result refl c.loop-i-test.true c.index-rows-i.is)
+pub session-requires : goal.session-requires
+session-requires g c = omega (arith, c.loop-k-test.true, c.sessions-k-end.ensures)
 
-pub loop-i-preserved : goal.loop-i-preserved
-loop-i-preserved g c =
-    let row = c.index-rows-i.result in
-    let rows = c.args.rows.now in
-    let pool = c.args.pool.now in
-    let rest = sessions_of pool (drop (c.loop-i.i + 1) rows) in
-    let step : c.loop-i.count + changes sessions c.loop-i.last (sessions_of pool (drop c.loop-i.i rows)) ≡ c.if-is_next.count + changes sessions c.if-is_next.last rest =
-    elim c.if-is_next.branch [
-      | then-is_next w ↦
-          let more = more_sessions pool c.loop-i.last rows c.loop-i.i row c.loop-i-test.true c.index-rows-i.is (sym c.is_next.ensures ∙ w.if-is_next.true) in
-          omega (arith, more, w.count-is, ap (λ l. changes sessions l rest) w.last-is)
-      | else-is_next w ↦
-          let same = same_sessions pool c.loop-i.last rows c.loop-i.i row c.loop-i-test.true c.index-rows-i.is (sym c.is_next.ensures ∙ w.if-is_next.false) in
-          omega (arith, same, w.count-is, ap (λ l. changes sessions l rest) w.last-is)
-    ] in
-    let few : c.if-is_next.count ≤ c.loop-i.i + 1 = elim c.if-is_next.branch [ then-is_next w ↦ omega (arith, w.count-is, c.loop-i.invariant.few) | else-is_next w ↦ omega (arith, w.count-is, c.loop-i.invariant.few) ] in
-    record { counted = sym step ∙ c.loop-i.invariant.counted; few = few }
+pub has_fact-requires : goal.has_fact-requires
+has_fact-requires g c = c.requires
+
+pub loop-k-preserved : goal.loop-k-preserved
+loop-k-preserved g c =
+    let p = has_live g.F.Fact.rests c.args.pool.now c.args.rows.now.rows in
+    let all = (sessions_of c.args.rows.now.rows).rows in
+    elim c.if-has_fact.branch [
+      | then-has_fact w ↦
+          let more = one_more_of sessions p all c.loop-k.k c.session.result c.session.ensures (sym c.has_fact.ensures ∙ w.if-has_fact.true) in
+          record { counted = omega (arith, more, w.count-is, c.loop-k.invariant.counted); few = omega (arith, w.count-is, c.loop-k.invariant.few) }
+      | else-has_fact w ↦
+          let same = none_more_of sessions p all c.loop-k.k c.session.result c.session.ensures (sym c.has_fact.ensures ∙ w.if-has_fact.false) in
+          record { counted = omega (arith, same, w.count-is, c.loop-k.invariant.counted); few = omega (arith, w.count-is, c.loop-k.invariant.few) }
+    ]
+
+pub returns : goal.returns
+returns g c =
+    let p = has_live g.F.Fact.rests c.args.pool.now c.args.rows.now.rows in
+    let all = (sessions_of c.args.rows.now.rows).rows in
+    let end = nothing_left all c.loop-k.k (omega (arith, c.loop-k-test.false, c.sessions-k-end.ensures)) in
+    omega (arith, c.loop-k.invariant.counted, ap (passing sessions p all) end)

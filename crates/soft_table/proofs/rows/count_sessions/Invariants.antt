@@ -1,11 +1,15 @@
-use Rattle.std.proofs.Common.{◌≡◌, ◌≤◌, ◌+◌, drop, None}
+use Rattle.std.proofs.Common.{◌≡◌, ◌≤◌, ◌+◌, drop}
 use Rattle.rsvp_base.specs.Orders.{sessions}
-use Rattle.soft_table.specs.Walks.{changes, sessions_of}
+use Rattle.session_lists.specs.Lists.{sessions_of}
+use Rattle.soft_table.specs.Walks.{has_live}
+use Rattle.soft_table.proofs.Walks.{passing}
 use Rattle.soft_table.proofs.rows.count_sessions.Given as goal
 
-abbrev pub invariant-loop-i : goal.invariant-loop-i
-invariant-loop-i g l =
+abbrev pub invariant-loop-k : goal.invariant-loop-k
+invariant-loop-k g l =
+    let p = has_live g.F.Fact.rests l.pool l.rows.rows in
+    let all = (sessions_of l.rows.rows).rows in
     record {
-      counted : l.count + changes sessions l.last (sessions_of l.pool (drop l.i l.rows)) ≡ changes sessions None (sessions_of l.pool l.rows);
-      few : l.count ≤ l.i;
+      counted : l.count + passing sessions p all (drop l.k all) ≡ passing sessions p all all;
+      few : l.count ≤ l.k;
     }

@@ -1,4 +1,4 @@
-use Rattle.std.proofs.Common.{◌≡◌, length, refl, sym, ap, subst, ◌∙◌, arith}
+use Rattle.std.proofs.Common.{◌≡◌, Some, None, length, refl, sym, ap, subst, ◌∙◌}
 use Rattle.std.specs.Prelude.{not}
 use Rattle.std.specs.Option.{option_map}
 use Rattle.std.specs.Ordering.{eq_by_cmp}
@@ -8,67 +8,59 @@ use Rattle.soft_pool.specs.declared.cell.Cell.TheVariants.{Free, Live}
 use Rattle.soft_table.specs.Facts.{IsInOrder, fact_keys, facts_by}
 use Rattle.soft_table.specs.Index.{live_in, due_in}
 use Rattle.soft_table.proofs.Views.{in_order}
-use Rattle.soft_table.proofs.Changes.{rising, led, not_led, within_slots, fact_led, no_fact_led, nothing_gone, not_live_none, Takes, takes}
+use Rattle.soft_table.proofs.Changes.{led, within_slots, fact_led, no_fact_led, nothing_gone, not_live_none, Takes, takes}
 use Rattle.soft_table.proofs.table.SoftTable.remove.Goals as goal
 use Rattle.soft_table.proofs.table.SoftTable.remove.Goals.{After-remove-2}
-
-pub search-requires : goal.search-requires
-search-requires g c = rw c.as_slice.ensures.value (rising g.F.Fact.rests g.F.Fact.key_of c.self.inside.pool c.self.inside.rows.items c.self.invariant.0)
 
 pub returns-in_default-clause-was : goal.returns-in_default-clause-was
 returns-in_default-clause-was g c =
     let o = fact_keys g.F.Fact.rests in
-    let none = no_fact_led g.F.Fact.rests g.F.Fact.key_of c.self.inside.pool c.self.inside.rows.items c.self.invariant.0 (c.args.session, c.args.rest) (not_led g.F.Fact.rests g.F.Fact.key_of c.self.inside.pool c.self.inside.rows.items c.self.invariant.0 (c.args.session, c.args.rest) c.in_default.field-0 (rw c.as_slice.ensures.value at c.in_default.ensures.absent)) in
+    let none = no_fact_led g.F.Fact.rests g.F.Fact.key_of c.self.inside.pool c.self.inside.rows.rows c.self.invariant.0 (c.args.session, c.args.rest) (led g.F.Fact.rests g.F.Fact.key_of c.self.inside.pool c.self.inside.rows.rows c.self.invariant.0 (c.args.session, c.args.rest) None (sym c.find.ensures ∙ c.in_default.is)) in
     ap (option_map (λ e. e.0)) (sym none ∙ ap (λ t. find o.cmp (c.args.session, c.args.rest) (facts_by g.F.Fact.key_of t.facts)) c.self.view_is)
 
 pub returns-in_default-clause-gone : goal.returns-in_default-clause-gone
 returns-in_default-clause-gone g c =
     let o = fact_keys g.F.Fact.rests in
-    let none = no_fact_led g.F.Fact.rests g.F.Fact.key_of c.self.inside.pool c.self.inside.rows.items c.self.invariant.0 (c.args.session, c.args.rest) (not_led g.F.Fact.rests g.F.Fact.key_of c.self.inside.pool c.self.inside.rows.items c.self.invariant.0 (c.args.session, c.args.rest) c.in_default.field-0 (rw c.as_slice.ensures.value at c.in_default.ensures.absent)) in
-    subst (λ t. facts_by g.F.Fact.key_of t.facts ≡ where_key o.cmp (λ x. not (eq_by_cmp o.cmp (c.args.session, c.args.rest) x)) (facts_by g.F.Fact.key_of t.facts)) c.self.view_is (nothing_gone g.F.Fact.rests g.F.Fact.key_of c.self.inside.pool c.self.inside.rows.items c.self.invariant.0 (c.args.session, c.args.rest) none)
+    let none = no_fact_led g.F.Fact.rests g.F.Fact.key_of c.self.inside.pool c.self.inside.rows.rows c.self.invariant.0 (c.args.session, c.args.rest) (led g.F.Fact.rests g.F.Fact.key_of c.self.inside.pool c.self.inside.rows.rows c.self.invariant.0 (c.args.session, c.args.rest) None (sym c.find.ensures ∙ c.in_default.is)) in
+    subst (λ t. facts_by g.F.Fact.key_of t.facts ≡ where_key o.cmp (λ x. not (eq_by_cmp o.cmp (c.args.session, c.args.rest) x)) (facts_by g.F.Fact.key_of t.facts)) c.self.view_is (nothing_gone g.F.Fact.rests g.F.Fact.key_of c.self.inside.pool c.self.inside.rows.rows c.self.invariant.0 (c.args.session, c.args.rest) none)
 
 pub returns-in_default-clause-order : goal.returns-in_default-clause-order
-returns-in_default-clause-order g c = subst (λ t. IsInOrder g.F.Fact.rests g.F.Fact.key_of t) c.self.view_is (in_order g.F.Fact.rests g.F.Fact.key_of c.self.inside.pool c.self.inside.rows.items c.self.invariant.0 (length c.self.inside.pool))
+returns-in_default-clause-order g c = subst (λ t. IsInOrder g.F.Fact.rests g.F.Fact.key_of t) c.self.view_is (in_order g.F.Fact.rests g.F.Fact.key_of c.self.inside.pool c.self.inside.rows.rows c.self.invariant.0 (length c.self.inside.pool))
 
 pub live-requires : goal.live-requires
 live-requires g c =
-    let has = rw c.as_slice.ensures.value at c.in-Ok.ensures.there in
-    within_slots g.F.Fact.rests g.F.Fact.key_of c.self.inside.pool c.self.inside.rows.items c.self.invariant.0 (c.args.session, c.args.rest) c.index.result.now.slot.0 (led g.F.Fact.rests g.F.Fact.key_of c.self.inside.pool c.self.inside.rows.items c.self.invariant.0 (c.args.session, c.args.rest) c.in-Ok.at c.index.result.now has c.index.ensures)
+    within_slots g.F.Fact.rests g.F.Fact.key_of c.self.inside.pool c.self.inside.rows.rows c.self.invariant.0 (c.args.session, c.args.rest) c.in-Some.slot (led g.F.Fact.rests g.F.Fact.key_of c.self.inside.pool c.self.inside.rows.rows c.self.invariant.0 (c.args.session, c.args.rest) (Some c.in-Some.slot) (sym c.find.ensures ∙ c.in-Some.is))
 
 pub returns-then-not-live-clause-was : goal.returns-then-not-live-clause-was
 returns-then-not-live-clause-was g c =
     let o = fact_keys g.F.Fact.rests in
-    let has = rw c.as_slice.ensures.value at c.in-Ok.ensures.there in
-    let at = led g.F.Fact.rests g.F.Fact.key_of c.self.inside.pool c.self.inside.rows.items c.self.invariant.0 (c.args.session, c.args.rest) c.in-Ok.at c.index.result.now has c.index.ensures in
-    let none = fact_led g.F.Fact.rests g.F.Fact.key_of c.self.inside.pool c.self.inside.rows.items c.self.invariant.0 (c.args.session, c.args.rest) c.index.result.now.slot.0 at ∙ not_live_none _ (sym c.live.ensures ∙ c.if-not-live.true) in
+    let at = led g.F.Fact.rests g.F.Fact.key_of c.self.inside.pool c.self.inside.rows.rows c.self.invariant.0 (c.args.session, c.args.rest) (Some c.in-Some.slot) (sym c.find.ensures ∙ c.in-Some.is) in
+    let none = fact_led g.F.Fact.rests g.F.Fact.key_of c.self.inside.pool c.self.inside.rows.rows c.self.invariant.0 (c.args.session, c.args.rest) c.in-Some.slot at ∙ not_live_none _ (sym c.live.ensures ∙ c.if-not-live.true) in
     ap (option_map (λ e. e.0)) (sym none ∙ ap (λ t. find o.cmp (c.args.session, c.args.rest) (facts_by g.F.Fact.key_of t.facts)) c.self.view_is)
 
 pub returns-then-not-live-clause-gone : goal.returns-then-not-live-clause-gone
 returns-then-not-live-clause-gone g c =
     let o = fact_keys g.F.Fact.rests in
-    let has = rw c.as_slice.ensures.value at c.in-Ok.ensures.there in
-    let at = led g.F.Fact.rests g.F.Fact.key_of c.self.inside.pool c.self.inside.rows.items c.self.invariant.0 (c.args.session, c.args.rest) c.in-Ok.at c.index.result.now has c.index.ensures in
-    let none = fact_led g.F.Fact.rests g.F.Fact.key_of c.self.inside.pool c.self.inside.rows.items c.self.invariant.0 (c.args.session, c.args.rest) c.index.result.now.slot.0 at ∙ not_live_none _ (sym c.live.ensures ∙ c.if-not-live.true) in
-    subst (λ t. facts_by g.F.Fact.key_of t.facts ≡ where_key o.cmp (λ x. not (eq_by_cmp o.cmp (c.args.session, c.args.rest) x)) (facts_by g.F.Fact.key_of t.facts)) c.self.view_is (nothing_gone g.F.Fact.rests g.F.Fact.key_of c.self.inside.pool c.self.inside.rows.items c.self.invariant.0 (c.args.session, c.args.rest) none)
+    let at = led g.F.Fact.rests g.F.Fact.key_of c.self.inside.pool c.self.inside.rows.rows c.self.invariant.0 (c.args.session, c.args.rest) (Some c.in-Some.slot) (sym c.find.ensures ∙ c.in-Some.is) in
+    let none = fact_led g.F.Fact.rests g.F.Fact.key_of c.self.inside.pool c.self.inside.rows.rows c.self.invariant.0 (c.args.session, c.args.rest) c.in-Some.slot at ∙ not_live_none _ (sym c.live.ensures ∙ c.if-not-live.true) in
+    subst (λ t. facts_by g.F.Fact.key_of t.facts ≡ where_key o.cmp (λ x. not (eq_by_cmp o.cmp (c.args.session, c.args.rest) x)) (facts_by g.F.Fact.key_of t.facts)) c.self.view_is (nothing_gone g.F.Fact.rests g.F.Fact.key_of c.self.inside.pool c.self.inside.rows.rows c.self.invariant.0 (c.args.session, c.args.rest) none)
 
 pub returns-then-not-live-clause-order : goal.returns-then-not-live-clause-order
-returns-then-not-live-clause-order g c = subst (λ t. IsInOrder g.F.Fact.rests g.F.Fact.key_of t) c.self.view_is (in_order g.F.Fact.rests g.F.Fact.key_of c.self.inside.pool c.self.inside.rows.items c.self.invariant.0 (length c.self.inside.pool))
+returns-then-not-live-clause-order g c = subst (λ t. IsInOrder g.F.Fact.rests g.F.Fact.key_of t) c.self.view_is (in_order g.F.Fact.rests g.F.Fact.key_of c.self.inside.pool c.self.inside.rows.rows c.self.invariant.0 (length c.self.inside.pool))
 
-taken : (g : _) (c : After-remove-2 g) → Takes g.F.Fact.rests g.F.Fact.key_of c.self.inside.pool c.self.inside.rows.items c.self.invariant.0 (c.args.session, c.args.rest) c.index.result.now.slot.0 c.remove-2.new.self c.remove.new.self.items
+taken : (g : _) (c : After-remove-2 g) → Takes g.F.Fact.rests g.F.Fact.key_of c.self.inside.pool c.self.inside.rows.rows c.self.invariant.0 (c.args.session, c.args.rest) c.in-Some.slot c.remove-2.new.self c.remove.new.self.rows
 taken g c =
-    let has = rw c.as_slice.ensures.value at c.in-Ok.ensures.there in
-    let at = led g.F.Fact.rests g.F.Fact.key_of c.self.inside.pool c.self.inside.rows.items c.self.invariant.0 (c.args.session, c.args.rest) c.in-Ok.at c.index.result.now has c.index.ensures in
-    takes g.F.Fact.rests g.F.Fact.key_of c.self.inside.pool c.self.inside.rows.items c.self.invariant.0 (c.args.session, c.args.rest) c.index.result.now.slot.0 c.in-Ok.at c.index.result.now (Live c.remove-2.result c.remove-2.ensures.was.0) c.remove-2.new.self c.remove.new.self.items has at c.remove-2.ensures.was.1 refl c.remove-2.ensures.gone c.remove.ensures.items
+    let at = led g.F.Fact.rests g.F.Fact.key_of c.self.inside.pool c.self.inside.rows.rows c.self.invariant.0 (c.args.session, c.args.rest) (Some c.in-Some.slot) (sym c.find.ensures ∙ c.in-Some.is) in
+    takes g.F.Fact.rests g.F.Fact.key_of c.self.inside.pool c.self.inside.rows.rows c.self.invariant.0 (c.args.session, c.args.rest) c.in-Some.slot (Live c.remove-2.result c.remove-2.ensures.was.0) c.remove-2.new.self c.remove.new.self.rows at c.remove-2.ensures.was.1 refl c.remove-2.ensures.gone (ap (λ t. t.rows) c.remove.ensures.gone)
 
 pub invariant_of-self : goal.invariant_of-self
-invariant_of-self g c = ((taken g c).index, omega (arith, c.self.invariant.1, c.remove.ensures.capacity, ap length c.remove-2.ensures.gone, length-set c.self.inside.pool c.index.result.now.slot.0 Free))
+invariant_of-self g c = ((taken g c).index, ap (λ t. t.room) c.remove.ensures.gone ∙ c.self.invariant.1 ∙ sym (ap length c.remove-2.ensures.gone ∙ length-set c.self.inside.pool c.in-Some.slot Free))
 
 pub returns-clause-was : goal.returns-clause-was
 returns-clause-was g c =
     let o = fact_keys g.F.Fact.rests in
-    let has = rw c.as_slice.ensures.value at c.in-Ok.ensures.there in
-    let at = led g.F.Fact.rests g.F.Fact.key_of c.self.inside.pool c.self.inside.rows.items c.self.invariant.0 (c.args.session, c.args.rest) c.in-Ok.at c.index.result.now has c.index.ensures in
-    let found = fact_led g.F.Fact.rests g.F.Fact.key_of c.self.inside.pool c.self.inside.rows.items c.self.invariant.0 (c.args.session, c.args.rest) c.index.result.now.slot.0 at ∙ ap live_in c.remove-2.ensures.was.1 in
+    let at = led g.F.Fact.rests g.F.Fact.key_of c.self.inside.pool c.self.inside.rows.rows c.self.invariant.0 (c.args.session, c.args.rest) (Some c.in-Some.slot) (sym c.find.ensures ∙ c.in-Some.is) in
+    let found = fact_led g.F.Fact.rests g.F.Fact.key_of c.self.inside.pool c.self.inside.rows.rows c.self.invariant.0 (c.args.session, c.args.rest) c.in-Some.slot at ∙ ap live_in c.remove-2.ensures.was.1 in
     ap (option_map (λ e. e.0)) (sym found ∙ ap (λ t. find o.cmp (c.args.session, c.args.rest) (facts_by g.F.Fact.key_of t.facts)) c.self.view_is)
 
 pub returns-clause-gone : goal.returns-clause-gone
@@ -77,7 +69,7 @@ returns-clause-gone g c =
     (taken g c).facts ∙ ap (λ t. where_key o.cmp (λ x. not (eq_by_cmp o.cmp (c.args.session, c.args.rest) x)) (facts_by g.F.Fact.key_of t.facts)) c.self.view_is
 
 pub returns-clause-order : goal.returns-clause-order
-returns-clause-order g c = in_order g.F.Fact.rests g.F.Fact.key_of c.remove-2.new.self c.remove.new.self.items (taken g c).index 0
+returns-clause-order g c = in_order g.F.Fact.rests g.F.Fact.key_of c.remove-2.new.self c.remove.new.self.rows (taken g c).index 0
 
 pub returns-clause-dead : goal.returns-clause-dead
 returns-clause-dead g c = (taken g c).no_dead (ap due_in c.remove-2.ensures.was.1) ∙ ap (λ t. t.dead) c.self.view_is

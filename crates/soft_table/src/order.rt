@@ -1,0 +1,20 @@
+//! The order of the rows of a table.
+use crate::fact::Fact;
+use session_lists::RestOrder;
+use std::cmp::Ordering;
+use std::marker::PhantomData;
+
+/// The rests of the keys of facts, in their order.
+pub(crate) struct Rests<F> {
+    of: PhantomData<F>,
+}
+
+impl<F: Fact> RestOrder for Rests<F> {
+    type Rest = F::Rest;
+
+    ghost rests = { F.rests };
+
+    fn order(a: &F::Rest, b: &F::Rest) -> Ordering {
+        F::order(a, b)
+    }
+}
