@@ -1,5 +1,6 @@
 //! How a word of a line is quoted.
-ghost use Rattle.std.specs.Prelude.{◌≡◌, ◌++◌, OnOk, find, nat_eq, not, take};
+ghost use Rattle.std.specs.Prelude.{◌≡◌, ◌≤◌, ◌<◌, ◌++◌, length, OnOk, OnErr, find, nat_eq, not, take, vec_capacity};
+ghost use Rattle.std.specs.Io.{StartsWith};
 ghost use Rattle.std.specs.List.{flat_map, starts_with};
 ghost use Rattle.word_quotes.specs.Quotes.{byte_text, cut_mark, is_visible, kind_text, named_byte, order_mark, quoted, strange_text};
 
@@ -13,10 +14,14 @@ const MOST_SHOWN: usize = 40;
 const DIGITS: [u8; 16] = *b"0123456789abcdef";
 
 /// Appends a word between quotes, its invisible bytes by their names. A long one is cut, and a mark stands behind the quotes.
-/// `NoMemory`, here and in each call of this module: there was no memory for the text.
+/// `NoMemory`, here and in each call of this module: the room that the text had did not suffice, and there was no memory for
+/// more; what was there stands at the front of what is.
 #[tactic(auto, unfolding(crate::specs::Quotes::quoted))]
 pub fn put_quoted(out: &mut Vec<u8>, word: &[u8]) -> Result<(), NoMemory>
-    ensures { OnOk result (out.new.items ≡ out.old.items ++ quoted word.now) }
+    ensures text { OnOk result (out.new.items ≡ out.old.items ++ quoted word.now) }
+    ensures front { OnErr result (StartsWith out.new.items out.old.items) }
+    ensures full { OnErr result (vec_capacity out.old < length (out.old.items ++ quoted word.now)) }
+    ensures kept { vec_capacity out.old ≤ vec_capacity out.new }
 {
     put(out, b"\"")?;
     put_bytes(out, shown(word))?;
@@ -47,7 +52,10 @@ fn cut_mark(word: &[u8]) -> &'static [u8]
 /// Appends what the first invisible byte of a word is, where it has one.
 #[tactic(auto, unfolding(crate::specs::Quotes::strange_text))]
 pub fn put_strange(out: &mut Vec<u8>, word: &[u8]) -> Result<(), NoMemory>
-    ensures { OnOk result (out.new.items ≡ out.old.items ++ strange_text word.now) }
+    ensures text { OnOk result (out.new.items ≡ out.old.items ++ strange_text word.now) }
+    ensures front { OnErr result (StartsWith out.new.items out.old.items) }
+    ensures full { OnErr result (vec_capacity out.old < length (out.old.items ++ strange_text word.now)) }
+    ensures kept { vec_capacity out.old ≤ vec_capacity out.new }
 {
     if has_mark(word) {
         put(out, b"; ")?;
@@ -58,7 +66,10 @@ pub fn put_strange(out: &mut Vec<u8>, word: &[u8]) -> Result<(), NoMemory>
 }
 
 fn put_named(out: &mut Vec<u8>, strange: Option<u8>) -> Result<(), NoMemory>
-    ensures { OnOk result (out.new.items ≡ out.old.items ++ named_byte strange) }
+    ensures text { OnOk result (out.new.items ≡ out.old.items ++ named_byte strange) }
+    ensures front { OnErr result (StartsWith out.new.items out.old.items) }
+    ensures full { OnErr result (vec_capacity out.old < length (out.old.items ++ named_byte strange)) }
+    ensures kept { vec_capacity out.old ≤ vec_capacity out.new }
 {
     match strange {
         None => Ok(()),
@@ -84,7 +95,10 @@ fn strange_byte(word: &[u8]) -> Option<u8>
 }
 
 fn put_bytes(out: &mut Vec<u8>, bytes: &[u8]) -> Result<(), NoMemory>
-    ensures { OnOk result (out.new.items ≡ out.old.items ++ flat_map byte_text bytes.now) }
+    ensures text { OnOk result (out.new.items ≡ out.old.items ++ flat_map byte_text bytes.now) }
+    ensures front { OnErr result (StartsWith out.new.items out.old.items) }
+    ensures full { OnErr result (vec_capacity out.old < length (out.old.items ++ flat_map byte_text bytes.now)) }
+    ensures kept { vec_capacity out.old ≤ vec_capacity out.new }
 {
     for c in bytes {
         put_byte(out, *c)?;
@@ -94,7 +108,10 @@ fn put_bytes(out: &mut Vec<u8>, bytes: &[u8]) -> Result<(), NoMemory>
 
 #[tactic(auto, unfolding(crate::specs::Quotes::byte_text))]
 fn put_byte(out: &mut Vec<u8>, c: u8) -> Result<(), NoMemory>
-    ensures { OnOk result (out.new.items ≡ out.old.items ++ byte_text c) }
+    ensures text { OnOk result (out.new.items ≡ out.old.items ++ byte_text c) }
+    ensures front { OnErr result (StartsWith out.new.items out.old.items) }
+    ensures full { OnErr result (vec_capacity out.old < length (out.old.items ++ byte_text c)) }
+    ensures kept { vec_capacity out.old ≤ vec_capacity out.new }
 {
     if c == b'\t' {
         return put(out, b"\\t");
