@@ -1,7 +1,7 @@
 //! A unit of a Resv is left out, refused or taken.
 ghost use Rattle.std.specs.Prelude.{◌≡◌, ◌≤◌, ◌<◌, ◌+◌, ◌++◌, ℕ, [], false, length, map, option_and_then, Some};
 ghost use Rattle.resv_state.specs.declared.fact.ResvFact.{ResvFact};
-ghost use Rattle.rsvp_base.specs.Table.{size};
+ghost use Rattle.rsvp_base.specs.Table.{empty, size};
 ghost use Rattle.rsvp_base.specs.Styles.{part_unit};
 ghost use Rattle.style_rules.specs.Parts.{IsOfStyle};
 ghost use Rattle.router_rules.specs.Asking.{Taking, losses, or_kept, put_unit, take_unit, value_of};
@@ -49,6 +49,30 @@ pub struct Taken {
     pub left_out: bool,
     pub parts: Parts,
     pub news: bool,
+}
+
+impl Taken {
+    /// Nothing yet.
+    pub fn new() -> Taken
+        ensures { result ≡ record { errors = []; left_out = false; parts = empty; news = false } }
+    {
+        Taken {
+            errors: Refusals::new(),
+            left_out: false,
+            parts: Parts::new(),
+            news: false,
+        }
+    }
+
+    /// Nothing, as at first.
+    pub fn clear(&mut self)
+        ensures { self.new ≡ record { errors = []; left_out = false; parts = empty; news = false } }
+    {
+        self.errors.clear();
+        self.left_out = false;
+        self.parts = Parts::new();
+        self.news = false;
+    }
 }
 
 // A unit takes its place, is refused or is left out, and names of it for which there is no sender are refused (RFC 2205,

@@ -17,13 +17,13 @@ ghost use Rattle.resv_taking.specs.Standing.{parts_in};
 ghost use Rattle.resv_taking.specs.Units.{IsSoFar, asked_unit, asker_at, refusal_of};
 
 use crate::matching::Matching;
-use crate::refusals::{Refusal, Refusals};
+use crate::refusals::Refusal;
 use crate::unit::{Asker, Taken, Wanted, take_unit};
 use admission_book::Book;
 use resv_state::ResvTable;
 use rsvp_base::{Flow, Part, Sender, Senders, Unit};
 use rsvp_messages::Ask;
-use style_rules::{Parts, Style};
+use style_rules::Style;
 
 // How many units are asked for, at most 16.
 fn count_of(ask: &Ask) -> usize
@@ -104,64 +104,54 @@ fn only(sender: Sender) -> Senders
 }
 
 /// The units of what is asked for, one after another, each tested against what the ones before it left. The ask is of the
-/// table's style, and `all` lists the senders that match by the names of the style.
+/// table's style, and `all` lists the senders that match by the names of the style. What became of them is left in `done`, in
+/// place of what was there.
 pub fn take_units<S: Style>(
     table: &mut ResvTable<S>,
     book: &mut Book,
     asker: &Asker,
     all: &Matching,
     ask: &Ask,
-) -> Taken
+    done: &mut Taken,
+)
     requires style { ask_style ask.now ≡ S.kind_is }
     requires listed { (x : Sender) → has all.now x ≡ true → name_of S.kind_is x ≡ x }
     requires some { 1 ≤ asker.now.left }
     requires pulled { table.old.dead.rows ≡ [] }
     requires exists { asker.now.iface < length book.old.ifaces }
     requires kept { IsBookAmong S.kind_is table.old.facts book.old.entries }
-    ensures taken { (p : NodeConfig) (c : ℕ) (f : Facts) → p.ifaces ≡ book.old.ifaces → resvs_of S.kind_is f ≡ changed (resv_at c) table.old.facts → IsBookOf f book.old.entries → IsSoFar p c S.kind_is asker.now f table.new.facts book.new.entries result (take_units p (asker_at c S.kind_is asker.now) f all.now (nothing_taken (resvs_of S.kind_is f) []) (asked_units ask.now)) }
+    ensures taken { (p : NodeConfig) (c : ℕ) (f : Facts) → p.ifaces ≡ book.old.ifaces → resvs_of S.kind_is f ≡ changed (resv_at c) table.old.facts → IsBookOf f book.old.entries → IsSoFar p c S.kind_is asker.now f table.new.facts book.new.entries done.new (take_units p (asker_at c S.kind_is asker.now) f all.now (nothing_taken (resvs_of S.kind_is f) []) (asked_units ask.now)) }
     ensures dead { table.new.dead ≡ table.old.dead }
     ensures ifaces { book.new.ifaces ≡ book.old.ifaces }
-    ensures quiet { result.news ≡ false → parts_in table.new.facts ≡ parts_in table.old.facts }
+    ensures quiet { done.new.news ≡ false → parts_in table.new.facts ≡ parts_in table.old.facts }
 {
-    let mut done = Taken {
-        errors: Refusals::new(),
-        left_out: false,
-        parts: Parts::new(),
-        news: false,
-    };
+    done.clear();
     for k in 0..count_of(ask) {
         let Some(wanted) = unit_at(ask, k) else {
             unreachable!();
         };
-        take_unit(table, book, asker, all, wanted, &mut done);
+        take_unit(table, book, asker, all, wanted, done);
     }
-    done
 }
 
 /// The units of what is asked for, each refused alike, and none taken: no path information, or a conflicting style (RFC 2205,
-/// appendix B, error codes 03 and 05).
-pub fn refuse_units(ask: &Ask, code: u8, value: u16) -> Taken
-    ensures errors { (p : NodeConfig) (o : AskerOf) → map (refusal_of p o) result.errors ≡ map (λ u. refusal p o false code value u.names u.flow) (asked_units ask.now) }
-    ensures left_out { result.left_out ≡ false }
-    ensures parts { result.parts ≡ empty }
+/// appendix B, error codes 03 and 05). What became of them is left in `done`, in place of what was there.
+pub fn refuse_units(ask: &Ask, code: u8, value: u16, done: &mut Taken)
+    ensures errors { (p : NodeConfig) (o : AskerOf) → map (refusal_of p o) done.new.errors ≡ map (λ u. refusal p o false code value u.names u.flow) (asked_units ask.now) }
+    ensures left_out { done.new.left_out ≡ false }
+    ensures parts { done.new.parts ≡ empty }
 {
-    let mut errors = Refusals::new();
+    done.clear();
     for k in 0..count_of(ask) {
         let Some(wanted) = unit_at(ask, k) else {
             unreachable!();
         };
-        errors.push(Refusal {
+        done.errors.push(Refusal {
             in_place: false,
             code,
             value,
             names: wanted.names,
             flow: wanted.flow,
         });
-    }
-    Taken {
-        errors,
-        left_out: false,
-        parts: Parts::new(),
-        news: false,
     }
 }

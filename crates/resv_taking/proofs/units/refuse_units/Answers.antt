@@ -13,6 +13,8 @@ loop-k-preserved c =
     let w = c.in-Some.wanted in
     let got : slice_get us c.loop-k.k ≡ Some (asked_unit w) = sym c.unit_at.ensures ∙ ap (option_map asked_unit) c.in-Some.is in
     record {
-      errors = λ p o. refused_more p o c.args.code c.args.value us c.loop-k.k (asked_unit w) got c.loop-k.errors c.push.new.self c.push.ensures (c.loop-k.invariant.errors p o);
-      few = omega (arith, one_longer c.loop-k.errors c.push.new.self _ c.push.ensures, c.loop-k.invariant.few);
+      errors = λ p o. refused_more p o c.args.code c.args.value us c.loop-k.k (asked_unit w) got c.loop-k.done.errors c.push.new.self c.push.ensures (c.loop-k.invariant.errors p o);
+      left_out = c.loop-k.invariant.left_out;
+      parts = c.loop-k.invariant.parts;
+      few = omega (arith, one_longer c.loop-k.done.errors c.push.new.self _ c.push.ensures, c.loop-k.invariant.few);
     }

@@ -3,7 +3,7 @@ use Rattle.std.specs.Option.{option_map}
 use Rattle.std.proofs.lemmas.List.{take_all}
 use Rattle.resv_state.specs.declared.fact.ResvFact.{ResvFact}
 use Rattle.rsvp_base.specs.Styles.{name_of}
-use Rattle.rsvp_base.specs.Table.{Table, size}
+use Rattle.rsvp_base.specs.Table.{Table, empty, size}
 use Rattle.rsvp_base.specs.declared.iface.Iface.{Iface}
 use Rattle.rsvp_base.specs.declared.style.StyleKind.{StyleKind}
 use Rattle.rsvp_base.proofs.Fronts.{front_more, got_in}
@@ -12,6 +12,7 @@ use Rattle.style_rules.specs.Lines.{line_keys}
 use Rattle.style_rules.specs.Merge.{PartTable}
 use Rattle.router_rules.specs.Asking.{nothing_taken, take_units}
 use Rattle.router_rules.specs.Facts.{resvs_of}
+use Rattle.resv_taking.specs.declared.unit.Taken.{Taken}
 use Rattle.resv_taking.specs.Units.{IsFit, IsSoFar, asked_unit, asker_at}
 use Rattle.resv_taking.proofs.Fits.{ask_fits}
 use Rattle.resv_taking.proofs.Steps.{not_past, start_so, units_more}
@@ -19,15 +20,17 @@ use Rattle.resv_taking.proofs.units.take_units.Goals as goal
 
 pub loop-k-init : goal.loop-k-init
 loop-k-init g c =
-    let none : length c.new.result ≡ 0 = ap length c.new.ensures in
-    let empty : size c.new-2.result ≡ 0 = ap (λ (t : PartTable). size t) c.new-2.ensures in
+    let errors : c.clear.new.self.errors ≡ [] = ap (λ (z : Taken). z.errors) c.clear.ensures in
+    let parts : c.clear.new.self.parts ≡ empty = ap (λ (z : Taken). z.parts) c.clear.ensures in
+    let none : length c.clear.new.self.errors ≡ 0 = ap length errors in
+    let few : size c.clear.new.self.parts ≡ 0 = ap (λ (t : PartTable). size t) parts in
     record {
-      so_far = λ p b f same is booked. start_so p b g.S.Style.kind_is c.args.asker.now f c.args.table.now.facts c.args.book.now.entries _ is booked c.new.ensures refl c.new-2.ensures;
+      so_far = λ p b f same is booked. start_so p b g.S.Style.kind_is c.args.asker.now f c.args.table.now.facts c.args.book.now.entries c.clear.new.self is booked errors (ap (λ (z : Taken). z.left_out) c.clear.ensures) parts;
       kept = c.requires.kept;
       dead = refl;
       ifaces = refl;
       few_errors = omega (arith, none);
-      few_parts = omega (arith, empty);
+      few_parts = omega (arith, few);
       quiet = λ none. refl;
     }
 
