@@ -108,10 +108,10 @@ module _ (p : NodeConfig) (o : AskerOf) where
   order_same (x ∷ xs) = ap (put_in_order err_places err_place (told x)) (order_same xs) ∙ put_same x (in_order (options senders) first_refused xs)
 
   -- ---- the whole
-  pub answer_is : (done : Taken) (t : Taking) (f : Facts) (r : Answer) → IsDone p o done t → r.errors ≡ in_order (options senders) first_refused done.errors → r.heard ≡ heard_of (each told r.errors) done.left_out
+  pub answer_is : (done : Taken) (t : Taking) (f : Facts) (r : Answer) → IsDone p o done t → r.done.errors ≡ in_order (options senders) first_refused done.errors → r.heard ≡ heard_of (each told r.done.errors) done.left_out
       → asked_of o r.taken o.confirm ≡ asked_of o (ask_of o.style done.parts) o.confirm → IsAnswer p o r (end_taking o f t)
   answer_is done t f r is ordered heard asked =
-      let errors : errors_in_order t.errors ≡ each told r.errors = ap errors_in_order is.errors ∙ order_same done.errors ∙ ap (each told) (sym ordered) in
+      let errors : errors_in_order t.errors ≡ each told r.done.errors = ap errors_in_order is.errors ∙ order_same done.errors ∙ ap (each told) (sym ordered) in
       record {
         errors = errors;
         heard = (λ i. heard_of (errors i) (is.left_out i)) ∙ sym heard;

@@ -29,7 +29,7 @@ pub record IsDone (p : NodeConfig) (o : AskerOf) (done : Taken) (t : Taking) : T
 
 -- the errors in the order in which they go back, what is heard, and what is to be confirmed are those of the rule
 pub record IsAnswer (p : NodeConfig) (o : AskerOf) (r : Answer) (k : Change) : Type 0 where
-  pub errors : errors_in_order k.errors ≡ each (refusal_of p o) r.errors
+  pub errors : errors_in_order k.errors ≡ each (refusal_of p o) r.done.errors
   pub heard : k.heard ≡ r.heard
   pub asked : k.asked ≡ asked_of o r.taken o.confirm
 

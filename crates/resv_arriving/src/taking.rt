@@ -26,15 +26,24 @@ use rsvp_base::{Addr, Session, StyleKind, Unit};
 use rsvp_messages::{Ask, ResvMsg};
 use style_rules::Parts;
 
-/// What came of a Resv: its refusals in the order in which they go back to the next hop, what is heard, what was taken, as it
-/// is to be confirmed where the message wishes for that, and whether a part that was taken is news: it did not stand in its
-/// place before.
+/// What came of a Resv: what became of its units, with the refusals in the order in which they go back to the next hop; what is
+/// heard; and what was taken, as it is to be confirmed where the message wishes for that.
 #[derive(Drop)]
 pub struct Answer {
-    pub errors: Refusals,
+    pub done: Taken,
     pub heard: Heard,
     pub taken: Option<Ask>,
-    pub news: bool,
+}
+
+impl Answer {
+    /// Nothing yet.
+    pub fn new() -> Answer {
+        Answer {
+            done: Taken::new(),
+            heard: Heard::Taken,
+            taken: None,
+        }
+    }
 }
 
 /// Who asks by a Resv that came by an interface.
@@ -54,30 +63,26 @@ pub fn asker_of(config: &Config, iface: u8, message: &ResvMsg) -> Asker
 /// A Resv arrives by one of the node's interfaces: each of its units is taken, refused or left out, and the book is that of
 /// the facts. It is refused whole where no sender of its session is known, or where the session has another style (RFC 2205,
 /// appendix B, error codes 03 and 05). A unit that is refused or left out changes nothing. One that only refreshes what stands
-/// merges nothing; where there is no other, each part stands as it did.
-pub fn take_resv(tables: &mut Tables, iface: u8, message: &ResvMsg) -> Answer
+/// merges nothing; where there is no other, each part stands as it did. What came of it is left in `answer`, in place of what
+/// was there.
+pub fn take_resv(tables: &mut Tables, iface: u8, message: &ResvMsg, answer: &mut Answer)
     requires booked { IsBooked tables.old }
     requires pulled { ArePulled tables.old }
     requires place { IsOfPlace tables.old }
     requires exists { iface < length tables.old.book.ifaces }
-    ensures answer { (c : ℕ) (said : Said) → IsAnswer tables.old.config (asker_of_rule tables.old.config c iface message.now) result (act_resv tables.old.config c iface message.now (facts_of c (state_of tables.old said))) }
+    ensures answer { (c : ℕ) (said : Said) → IsAnswer tables.old.config (asker_of_rule tables.old.config c iface message.now) answer.new (act_resv tables.old.config c iface message.now (facts_of c (state_of tables.old said))) }
     ensures facts { (c : ℕ) (said : Said) → facts_of c (state_of tables.new said) ≡ (act_resv tables.old.config c iface message.now (facts_of c (state_of tables.old said))).facts }
     ensures booked { IsBooked tables.new }
     ensures pulled { ArePulled tables.new }
     ensures ifaces { tables.new.book.ifaces ≡ tables.old.book.ifaces }
     ensures rest { tables.new ≡ record tables.old { wild = tables.new.wild; fixed = tables.new.fixed; shared = tables.new.shared; book = tables.new.book } }
-    ensures quiet { result.news ≡ false → AreSameParts (state_of tables.old empty) (state_of tables.new empty) }
+    ensures quiet { answer.new.done.news ≡ false → AreSameParts (state_of tables.old empty) (state_of tables.new empty) }
 {
-    let done = take_or_refuse(tables, iface, message);
-    let taken = wished(message.confirm, style_of(&message.ask), &done.parts);
-    let errors = done.errors.in_order();
-    let heard = heard_of(&errors, done.left_out);
-    Answer {
-        errors,
-        heard,
-        taken,
-        news: done.news,
-    }
+    take_or_refuse(tables, iface, message, &mut answer.done);
+    let style = style_of(&message.ask);
+    answer.taken = wished(message.confirm, style, &answer.done.parts);
+    answer.done.errors.sort();
+    answer.heard = heard_of(&answer.done.errors, answer.done.left_out);
 }
 
 // What was taken, where someone wants to hear of it.
@@ -136,54 +141,54 @@ fn is_empty(known: &KnownSenders) -> bool
 }
 
 // Unit by unit, or refused whole.
-fn take_or_refuse(tables: &mut Tables, iface: u8, message: &ResvMsg) -> Taken
+fn take_or_refuse(tables: &mut Tables, iface: u8, message: &ResvMsg, done: &mut Taken)
     requires booked { IsBooked tables.old }
     requires pulled { ArePulled tables.old }
     requires place { IsOfPlace tables.old }
     requires exists { iface < length tables.old.book.ifaces }
-    ensures done { (c : ℕ) (said : Said) → IsDone tables.old.config (asker_of_rule tables.old.config c iface message.now) result (taking tables.old.config c iface message.now (facts_of c (state_of tables.old said))) }
+    ensures done { (c : ℕ) (said : Said) → IsDone tables.old.config (asker_of_rule tables.old.config c iface message.now) done.new (taking tables.old.config c iface message.now (facts_of c (state_of tables.old said))) }
     ensures facts { (c : ℕ) (said : Said) → facts_of c (state_of tables.new said) ≡ with_resvs (ask_style message.now.ask) (taking tables.old.config c iface message.now (facts_of c (state_of tables.old said))).table (facts_of c (state_of tables.old said)) }
     ensures booked { IsBooked tables.new }
     ensures pulled { ArePulled tables.new }
     ensures ifaces { tables.new.book.ifaces ≡ tables.old.book.ifaces }
     ensures rest { tables.new ≡ record tables.old { wild = tables.new.wild; fixed = tables.new.fixed; shared = tables.new.shared; book = tables.new.book } }
-    ensures quiet { result.news ≡ false → AreSameParts (state_of tables.old empty) (state_of tables.new empty) }
+    ensures quiet { done.new.news ≡ false → AreSameParts (state_of tables.old empty) (state_of tables.new empty) }
 {
     let session = message.session;
     let style = style_of(&message.ask);
     let known = KnownSenders::of(&tables.senders, &tables.paths, session);
     if is_empty(&known) {
-        return refuse_units(&message.ask, 3, 0);
+        return refuse_units(&message.ask, 3, 0, done);
     }
     if let Some(other) = style_conflict(tables, session, style) {
-        return refuse_units(&message.ask, 5, style_value(other));
+        return refuse_units(&message.ask, 5, style_value(other), done);
     }
     let all = matching(&tables.config, &known, session, iface, style);
     let asker = asker_of(&tables.config, iface, message);
-    take_by_style(tables, &asker, &all, &message.ask)
+    take_by_style(tables, &asker, &all, &message.ask, done);
 }
 
 // Unit by unit, into the table of the style.
-fn take_by_style(tables: &mut Tables, asker: &Asker, all: &Matching, ask: &Ask) -> Taken
+fn take_by_style(tables: &mut Tables, asker: &Asker, all: &Matching, ask: &Ask, done: &mut Taken)
     requires booked { IsBooked tables.old }
     requires pulled { ArePulled tables.old }
     requires place { IsOfPlace tables.old }
     requires exists { asker.now.iface < length tables.old.book.ifaces }
     requires some { 1 ≤ asker.now.left }
     requires listed { (x : Sender) → has all.now x ≡ true → name_of (ask_style ask.now) x ≡ x }
-    ensures done { (c : ℕ) (said : Said) → IsDone tables.old.config (asker_at c (ask_style ask.now) asker.now) result (taking_from tables.old.config c asker.now all.now ask.now (facts_of c (state_of tables.old said))) }
+    ensures done { (c : ℕ) (said : Said) → IsDone tables.old.config (asker_at c (ask_style ask.now) asker.now) done.new (taking_from tables.old.config c asker.now all.now ask.now (facts_of c (state_of tables.old said))) }
     ensures facts { (c : ℕ) (said : Said) → facts_of c (state_of tables.new said) ≡ with_resvs (ask_style ask.now) (taking_from tables.old.config c asker.now all.now ask.now (facts_of c (state_of tables.old said))).table (facts_of c (state_of tables.old said)) }
     ensures booked { IsBooked tables.new }
     ensures pulled { ArePulled tables.new }
     ensures ifaces { tables.new.book.ifaces ≡ tables.old.book.ifaces }
     ensures rest { tables.new ≡ record tables.old { wild = tables.new.wild; fixed = tables.new.fixed; shared = tables.new.shared; book = tables.new.book } }
-    ensures quiet { result.news ≡ false → AreSameParts (state_of tables.old empty) (state_of tables.new empty) }
+    ensures quiet { done.new.news ≡ false → AreSameParts (state_of tables.old empty) (state_of tables.new empty) }
 {
     look(tables);
     match ask {
-        Ask::Wild { .. } => take_units(&mut tables.wild, &mut tables.book, asker, all, ask),
-        Ask::Fixed(_) => take_units(&mut tables.fixed, &mut tables.book, asker, all, ask),
-        Ask::Shared(_) => take_units(&mut tables.shared, &mut tables.book, asker, all, ask),
+        Ask::Wild { .. } => take_units(&mut tables.wild, &mut tables.book, asker, all, ask, done),
+        Ask::Fixed(_) => take_units(&mut tables.fixed, &mut tables.book, asker, all, ask, done),
+        Ask::Shared(_) => take_units(&mut tables.shared, &mut tables.book, asker, all, ask, done),
     }
 }
 

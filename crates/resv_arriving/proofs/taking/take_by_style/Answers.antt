@@ -22,19 +22,19 @@ pub returns-in-Wild-clause-booked : goal.returns-in-Wild-clause-booked
 returns-in-Wild-clause-booked c = λ clock i k.
     let t = c.args.tables.now in
     let f : Facts = facts_of clock (state_of t empty) in
-    (book_is t.config clock c.args.asker.now f c.args.all.now c.args.ask.now c.take_units.new.table.facts c.take_units.new.book.entries c.take_units.result Wild (ap ask_style c.in-Wild.is)
+    (book_is t.config clock c.args.asker.now f c.args.all.now c.args.ask.now c.take_units.new.table.facts c.take_units.new.book.entries c.take_units.new.done Wild (ap ask_style c.in-Wild.is)
     (c.take_units.ensures.taken t.config clock f (sym c.requires.place) refl (book_at t c.requires.booked clock))).at i k
 
 pub returns-in-Fixed-clause-booked : goal.returns-in-Fixed-clause-booked
 returns-in-Fixed-clause-booked c = λ clock i k.
     let t = c.args.tables.now in
     let f : Facts = facts_of clock (state_of t empty) in
-    (book_is t.config clock c.args.asker.now f c.args.all.now c.args.ask.now c.take_units-in-Fixed.new.table.facts c.take_units-in-Fixed.new.book.entries c.take_units-in-Fixed.result Fixed (ap ask_style c.in-Fixed.is)
+    (book_is t.config clock c.args.asker.now f c.args.all.now c.args.ask.now c.take_units-in-Fixed.new.table.facts c.take_units-in-Fixed.new.book.entries c.take_units-in-Fixed.new.done Fixed (ap ask_style c.in-Fixed.is)
     (c.take_units-in-Fixed.ensures.taken t.config clock f (sym c.requires.place) refl (book_at t c.requires.booked clock))).at i k
 
 pub returns-in-Shared-clause-booked : goal.returns-in-Shared-clause-booked
 returns-in-Shared-clause-booked c = λ clock i k.
     let t = c.args.tables.now in
     let f : Facts = facts_of clock (state_of t empty) in
-    (book_is t.config clock c.args.asker.now f c.args.all.now c.args.ask.now c.take_units-in-Shared.new.table.facts c.take_units-in-Shared.new.book.entries c.take_units-in-Shared.result Shared (ap ask_style c.in-Shared.is)
+    (book_is t.config clock c.args.asker.now f c.args.all.now c.args.ask.now c.take_units-in-Shared.new.table.facts c.take_units-in-Shared.new.book.entries c.take_units-in-Shared.new.done Shared (ap ask_style c.in-Shared.is)
     (c.take_units-in-Shared.ensures.taken t.config clock f (sym c.requires.place) refl (book_at t c.requires.booked clock))).at i k

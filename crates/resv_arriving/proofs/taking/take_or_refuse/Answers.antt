@@ -32,8 +32,8 @@ returns-then-is_empty-clause-done c = λ clock said.
     let f : Facts = facts_of clock (state_of t said) in
     let o : AskerOf = asker_of t.config clock c.args.iface m in
     let none : is_none (known f m.session) ≡ true = ap is_none (sym (c.of-known.ensures.known clock (state_of t said) refl refl)) ∙ sym c.is_empty.ensures ∙ c.if-is_empty.true in
-    subst (λ (z : Taking). IsDone t.config o c.refuse_units.result z) (sym (none_known t.config clock c.args.iface m f none))
-    (refused_is t.config o 3 0 (asked_units m.ask) (resvs_of (ask_style m.ask) f) c.refuse_units.result (c.refuse_units.ensures.errors t.config o) c.refuse_units.ensures.left_out c.refuse_units.ensures.parts)
+    subst (λ (z : Taking). IsDone t.config o c.refuse_units.new.done z) (sym (none_known t.config clock c.args.iface m f none))
+    (refused_is t.config o 3 0 (asked_units m.ask) (resvs_of (ask_style m.ask) f) c.refuse_units.new.done (c.refuse_units.ensures.errors t.config o) c.refuse_units.ensures.left_out c.refuse_units.ensures.parts)
 
 pub returns-then-is_empty-clause-facts : goal.returns-then-is_empty-clause-facts
 returns-then-is_empty-clause-facts c = λ clock said.
@@ -51,9 +51,9 @@ returns-in-Some-clause-done c = λ clock said.
     let o : AskerOf = asker_of t.config clock c.args.iface m in
     let some : is_none (known f m.session) ≡ false = ap is_none (sym (c.of-known.ensures.known clock (state_of t said) refl refl)) ∙ sym c.is_empty.ensures ∙ c.if-is_empty.false in
     let against : style_conflict f m.session (ask_style m.ask) ≡ Some c.in-Some.other = ap (style_conflict f m.session) (sym c.style_of-style.ensures) ∙ sym (c.style_conflict.ensures clock said) ∙ c.in-Some.is in
-    subst (λ (z : Taking). IsDone t.config o c.refuse_units-in-Some.result z)
+    subst (λ (z : Taking). IsDone t.config o c.refuse_units-in-Some.new.done z)
     (ap (λ v. refuse_all t.config o 5 v (asked_units m.ask) (resvs_of (ask_style m.ask) f)) c.style_value.ensures ∙ sym (in_conflict t.config clock c.args.iface m f c.in-Some.other some against))
-    (refused_is t.config o 5 c.style_value.result (asked_units m.ask) (resvs_of (ask_style m.ask) f) c.refuse_units-in-Some.result (c.refuse_units-in-Some.ensures.errors t.config o) c.refuse_units-in-Some.ensures.left_out c.refuse_units-in-Some.ensures.parts)
+    (refused_is t.config o 5 c.style_value.result (asked_units m.ask) (resvs_of (ask_style m.ask) f) c.refuse_units-in-Some.new.done (c.refuse_units-in-Some.ensures.errors t.config o) c.refuse_units-in-Some.ensures.left_out c.refuse_units-in-Some.ensures.parts)
 
 pub returns-in-Some-clause-facts : goal.returns-in-Some-clause-facts
 returns-in-Some-clause-facts c = λ clock said.
@@ -70,7 +70,7 @@ returns-clause-done c = λ clock said.
     let m = c.args.message.now in
     let f : Facts = facts_of clock (state_of t said) in
     whole_done t.config clock c.args.iface m f c.asker_of-asker.result c.matching-all.result c.style_of-style.result c.of-known.result c.style_of-style.ensures (c.asker_of-asker.ensures.who clock)
-    (c.of-known.ensures.known clock (state_of t said) refl refl) c.matching-all.ensures (sym c.is_empty.ensures ∙ c.if-is_empty.false) (sym (c.style_conflict.ensures clock said) ∙ c.in_default.is) c.take_by_style.result (c.take_by_style.ensures.done clock said)
+    (c.of-known.ensures.known clock (state_of t said) refl refl) c.matching-all.ensures (sym c.is_empty.ensures ∙ c.if-is_empty.false) (sym (c.style_conflict.ensures clock said) ∙ c.in_default.is) c.take_by_style.new.done (c.take_by_style.ensures.done clock said)
 
 pub returns-clause-facts : goal.returns-clause-facts
 returns-clause-facts c = λ clock said.

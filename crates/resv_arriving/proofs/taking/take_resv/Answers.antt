@@ -13,6 +13,6 @@ returns-clause-answer c = λ clock said.
     let p = t.config in
     let f = facts_of clock (state_of t said) in
     let o : AskerOf = asker_of p clock c.args.iface m in
-    let done = c.take_or_refuse-done.result in
-    answer_is p o done (taking p clock c.args.iface m f) f _ (c.take_or_refuse-done.ensures.done clock said) c.in_order-errors.ensures (c.heard_of-heard.ensures p o)
-    (c.wished-taken.ensures o refl ∙ ap (λ z. asked_of o (ask_of z done.parts) o.confirm) c.style_of.ensures)
+    let done = c.take_or_refuse.new.done in
+    answer_is p o done (taking p clock c.args.iface m f) f _ (c.take_or_refuse.ensures.done clock said) c.sort.ensures (c.heard_of-answer.ensures p o)
+    (c.wished-answer.ensures o refl ∙ ap (λ z. asked_of o (ask_of z done.parts) o.confirm) c.style_of-style.ensures)
