@@ -12,7 +12,27 @@ use Rattle.line_advice.specs.Places.{word_at}
 use Rattle.line_advice.specs.RuleTexts.{rule_word, rule_text}
 use Rattle.word_quotes.specs.Quotes.{quoted, strange_text}
 use Rattle.line_advice.specs.declared.blame.Blame.{Blame}
-use Rattle.line_advice.specs.declared.blame.Blame.TheVariants.{First, Count, Form, Range, Unknown, Long, Rule}
+use Rattle.line_advice.specs.declared.breaks.Room.{Room}
+use Rattle.line_advice.specs.declared.breaks.Room.TheVariants.{Capacity, Mtu}
+use Rattle.value_texts.specs.Texts.{style_text}
+use Rattle.line_advice.specs.declared.blame.Blame.TheVariants.{First, Count, Form, Range, Unknown, Linked, Styled, Past, Long, Rule}
+
+-- what an end has
+unfoldable pub capacity_head : List ℕ
+capacity_head = codes "the rates of the reservations on END are together at most its CAPACITY, "
+
+abbrev pub room_text : Room → List ℕ
+room_text (Mtu mtu) = codes "M is at most the MTU of END, " ++ decimal mtu
+room_text (Capacity capacity) = capacity_head ++ decimal capacity
+
+-- what style stands
+unfoldable pub style_head : List ℕ
+style_head = codes "the wishes of NODE in this session are of the style "
+
+-- the flow, where its packets are too large
+abbrev pub room_word : Room → Option ℕ
+room_word (Mtu mtu) = Some 6
+room_word (Capacity capacity) = None
 
 -- what is wanted
 abbrev pub wanted_text : Blame → List ℕ
@@ -21,6 +41,9 @@ wanted_text (Count kind) = usage_text kind
 wanted_text (Form word field) = form_text field
 wanted_text (Range word field period) = range_text period field
 wanted_text (Unknown word what) = named_text what
+wanted_text (Linked word) = codes "an end is in one link at most, and an earlier line has this one"
+wanted_text (Styled style) = style_head ++ style_text style
+wanted_text (Past room) = room_text room
 wanted_text Long = codes "a line has at most 2048 bytes"
 wanted_text (Rule rule kind) = rule_text rule kind
 
@@ -31,6 +54,9 @@ number_of_word (Count kind) = None
 number_of_word (Form word field) = Some word
 number_of_word (Range word field period) = Some word
 number_of_word (Unknown word what) = Some word
+number_of_word (Linked word) = Some word
+number_of_word (Styled style) = Some 3
+number_of_word (Past room) = room_word room
 number_of_word Long = None
 number_of_word (Rule rule kind) = rule_word rule kind
 

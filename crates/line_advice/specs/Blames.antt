@@ -7,10 +7,12 @@ use Rattle.script_grammar.specs.declared.fault.Fault.{Fault}
 use Rattle.script_grammar.specs.declared.fault.Fault.TheVariants as fault
 use Rattle.line_advice.specs.Fields.{IsInRange, has_form}
 use Rattle.line_advice.specs.Kinds.{field_at, has_count, kind_of}
+use Rattle.line_advice.specs.Breaks.{IsFirstLinked, IsLimit, IsOtherStyle, IsPastRoom, new_rule}
 use Rattle.line_advice.specs.Names.{named_at, unknown_from}
 use Rattle.line_advice.specs.declared.blame.Blame.{Blame}
-use Rattle.line_advice.specs.declared.blame.Blame.TheVariants.{First, Count, Form, Range, Unknown, Long, Rule}
+use Rattle.line_advice.specs.declared.blame.Blame.TheVariants.{First, Count, Form, Range, Unknown, Linked, Styled, Past, Long, Rule}
 use Rattle.line_advice.specs.declared.kind.Kind.{Kind}
+use Rattle.line_advice.specs.declared.kind.Kind.TheVariants as kind
 use Rattle.line_advice.specs.declared.rule.Rule.{Rule as ARule}
 use Rattle.line_advice.specs.declared.rule.Rule.TheVariants as rule
 
@@ -76,6 +78,31 @@ IsUnknown d words (Unknown word what) = (place : ℕ) × (wrong : AreUnknown d w
 IsUnknown d words (Rule broken kind) = (wrong : AreUnknown d words None) × (kind ≡ wrong.kind) × (broken ≡ rule.Known)
 IsUnknown d words _ = ⊥
 
+-- ---- what is there already: of a link the first end that is in another one; else by the kind of the line
+pub record AreLinked (d : Draft) (words : List (List ℕ)) (found : Option ℕ) : Type 0 where
+  pub of_kind : kind_of words ≡ Some kind.Link
+  pub first : IsFirstLinked d (behind_first words) found
+
+abbrev pub IsThere : Draft → List (List ℕ) → Blame → Type 0
+IsThere d words (Linked word) = (place : ℕ) × AreLinked d words (Some place) × (word ≡ place + 1)
+IsThere d words (Rule broken kind) = (kind_of words ≡ Some kind) × (broken ≡ new_rule d kind (behind_first words))
+IsThere d words _ = ⊥
+
+-- ---- a limit that is passed
+abbrev pub IsPassed : Draft → List (List ℕ) → Blame → Type 0
+IsPassed d words (Rule broken kind) = (kind_of words ≡ Some kind) × IsLimit d kind (behind_first words) broken
+IsPassed d words _ = ⊥
+
+-- ---- another style than the one that stands
+abbrev pub IsOfOtherStyle : Draft → List (List ℕ) → Blame → Type 0
+IsOfOtherStyle d words (Styled style) = IsOtherStyle d (behind_first words) style
+IsOfOtherStyle d words _ = ⊥
+
+-- ---- more than the interface has
+abbrev pub IsMore : Draft → List (List ℕ) → Blame → Type 0
+IsMore d words (Past room) = IsPastRoom d (behind_first words) room
+IsMore d words _ = ⊥
+
 -- ---- another rule, by the kind of the line
 abbrev pub IsOfRule : ARule → List (List ℕ) → Blame → Type 0
 IsOfRule wanted words (Rule broken kind) = (broken ≡ wanted) × (kind_of words ≡ Some kind)
@@ -87,11 +114,11 @@ IsBlamedOf d words fault.Word blame = IsMisread words blame
 IsBlamedOf d words fault.Late blame = IsOfRule rule.InTime words blame
 IsBlamedOf d words fault.Range blame = IsOutOfRange (period_of d) words blame
 IsBlamedOf d words fault.Name blame = IsUnknown d words blame
-IsBlamedOf d words fault.Twice blame = IsOfRule rule.New words blame
-IsBlamedOf d words fault.Style blame = IsOfRule rule.OfStyle words blame
-IsBlamedOf d words fault.Limit blame = IsOfRule rule.WithinLimits words blame
+IsBlamedOf d words fault.Twice blame = IsThere d words blame
+IsBlamedOf d words fault.Style blame = IsOfOtherStyle d words blame
+IsBlamedOf d words fault.Limit blame = IsPassed d words blame
 IsBlamedOf d words fault.NotTree blame = IsOfRule rule.OfTree words blame
-IsBlamedOf d words fault.Over blame = IsOfRule rule.WithinCapacity words blame
+IsBlamedOf d words fault.Over blame = IsMore d words blame
 IsBlamedOf d words (fault.Loop group from to) blame = IsOfRule rule.LoopFree words blame
 
 -- of a line that is too long its length

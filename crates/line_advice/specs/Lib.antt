@@ -2,6 +2,7 @@ pub mod Fields
 pub mod Kinds
 pub mod Places
 pub mod Names
+pub mod Breaks
 pub mod Blames
 pub mod FieldTexts
 pub mod KindTexts

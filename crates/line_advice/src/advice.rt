@@ -3,16 +3,17 @@ ghost use Rattle.std.specs.Prelude.{◌≡◌, ◌<◌, ◌++◌, ℕ, List, Mat
 ghost use Rattle.script_grammar.specs.Draft.{Draft};
 ghost use Rattle.script_grammar.specs.Grammar.{most_line};
 ghost use Rattle.script_grammar.specs.declared.fault.Fault.{Fault as AFault};
-ghost use Rattle.line_advice.specs.Advice.{IsAdvice, advice_text, blamed_word, number_of_word, told_text, wanted_text};
+ghost use Rattle.line_advice.specs.Advice.{IsAdvice, advice_text, blamed_word, capacity_head, number_of_word, room_text, room_word, style_head, told_text, wanted_text};
 
 use crate::blame::{Blame, find_blame};
+use crate::breaks::Room;
 use crate::named::{LinesBefore, named_text};
 use crate::place::word_at;
 use crate::texts::{first_text, form_text, put_range, rule_text, rule_word, usage_text};
 use rsvp_base::NoMemory;
 use script_grammar::Fault;
 use std::alloc::Global;
-use value_texts::{put, put_number};
+use value_texts::{put, put_number, put_style};
 use word_quotes::{put_quoted, put_strange};
 
 /// Makes `advice` the text that tells what is wrong with a line that has this fault, without a line feed: two spaces, the column
@@ -93,8 +94,33 @@ fn put_wanted(out: &mut Vec<u8>, blame: Blame) -> Result<(), NoMemory>
             period,
         } => put_range(out, period, field),
         Blame::Unknown { word: _, named } => put(out, named_text(named)),
+        Blame::Linked { word: _ } => put(
+            out,
+            b"an end is in one link at most, and an earlier line has this one",
+        ),
+        Blame::Styled(style) => {
+            put(out, style_head())?;
+            put_style(out, style)
+        }
+        Blame::Past(room) => put_room(out, room),
         Blame::Long => put(out, b"a line has at most 2048 bytes"),
         Blame::Rule { rule, kind } => put(out, rule_text(rule, kind)),
+    }
+}
+
+// Appends what an end has.
+fn put_room(out: &mut Vec<u8>, room: Room) -> Result<(), NoMemory>
+    ensures { OnOk result (out.new.items ≡ out.old.items ++ room_text room) }
+{
+    match room {
+        Room::Mtu(mtu) => {
+            put(out, b"M is at most the MTU of END, ")?;
+            put_number(out, u64::from(mtu))
+        }
+        Room::Capacity(capacity) => {
+            put(out, capacity_head())?;
+            put_number(out, capacity)
+        }
     }
 }
 
@@ -113,7 +139,34 @@ fn number_of_word(blame: Blame) -> Option<usize>
         Blame::Form { word, field: _ } => Some(word),
         Blame::Range { word, .. } => Some(word),
         Blame::Unknown { word, named: _ } => Some(word),
+        Blame::Linked { word } => Some(word),
+        Blame::Styled(_) => Some(3),
+        Blame::Past(room) => room_word(room),
         Blame::Rule { rule, kind } => rule_word(rule, kind),
         _ => None,
     }
+}
+
+// The flow, where its packets are too large.
+fn room_word(room: Room) -> Option<usize>
+    ensures { result ≡ room_word room }
+{
+    match room {
+        Room::Mtu(_) => Some(6),
+        Room::Capacity(_) => None,
+    }
+}
+
+#[tactic(auto, unfolding(crate::specs::Advice::capacity_head))]
+fn capacity_head() -> &'static [u8]
+    ensures { result.now ≡ capacity_head }
+{
+    b"the rates of the reservations on END are together at most its CAPACITY, "
+}
+
+#[tactic(auto, unfolding(crate::specs::Advice::style_head))]
+fn style_head() -> &'static [u8]
+    ensures { result.now ≡ style_head }
+{
+    b"the wishes of NODE in this session are of the style "
 }

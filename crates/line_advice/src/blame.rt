@@ -1,12 +1,13 @@
 //! What of a bad line breaks the rule.
 ghost use Rattle.std.specs.Prelude.{◌≡◌, ◌<◌, IfOk, IfSome, Some, length, map};
-ghost use Rattle.line_advice.specs.Blames.{IsBlamed, IsBlamedOf, IsFirstOut, IsFirstUnknown, IsMisread, IsOfRule, IsOutOfRange, IsUnknown, behind_first, unformed_from};
+ghost use Rattle.line_advice.specs.Blames.{IsBlamed, IsBlamedOf, IsFirstOut, IsFirstUnknown, IsMisread, IsMore, IsOfOtherStyle, IsOfRule, IsOutOfRange, IsPassed, IsThere, IsUnknown, behind_first, unformed_from};
 
+use crate::breaks::{Room, first_linked, limit, new_rule, other_style, room_at};
 use crate::field::Field;
 use crate::kind::Kind;
 use crate::named::{LinesBefore, Named, is_known};
 use crate::rule::Rule;
-use rsvp_base::NoMemory;
+use rsvp_base::{NoMemory, StyleKind};
 use script_grammar::Fault;
 use script_words::read_words;
 use std::alloc::Global;
@@ -34,6 +35,14 @@ pub enum Blame {
         word: usize,
         named: Named,
     },
+    /// The word of this number, which is the name of an end that is in another link.
+    Linked {
+        word: usize,
+    },
+    /// Its style: the wishes that stand are of this one.
+    Styled(StyleKind),
+    /// What it reserves: the end has only this.
+    Past(Room),
     /// Its length.
     Long,
     /// What this rule says of lines of this kind.
@@ -79,11 +88,11 @@ fn blame_of<B: LinesBefore>(
         Fault::Late => of_rule(Rule::InTime, words),
         Fault::Range => out_of_range(alloc, before.period(), words),
         Fault::Name => unknown(before, words),
-        Fault::Twice => of_rule(Rule::New, words),
-        Fault::Style => of_rule(Rule::OfStyle, words),
-        Fault::Limit => of_rule(Rule::WithinLimits, words),
+        Fault::Twice => there(before, words),
+        Fault::Style => of_other_style(before, words),
+        Fault::Limit => passed(before, words),
         Fault::NotTree => of_rule(Rule::OfTree, words),
-        Fault::Over => of_rule(Rule::WithinCapacity, words),
+        Fault::Over => more(before, words),
         Fault::Loop { .. } => of_rule(Rule::LoopFree, words),
     }
 }
@@ -94,6 +103,48 @@ fn of_rule(rule: Rule, words: &[&[u8]]) -> Option<Blame>
 {
     let kind = Kind::of(words)?;
     Some(Blame::Rule { rule, kind })
+}
+
+// What these words say that is there already.
+fn there<B: LinesBefore>(before: &B, words: &[&[u8]]) -> Option<Blame>
+    ensures { IfSome result (IsThere (B.lines before.now) (map (λ w. w.now) words.now)) }
+{
+    let kind = Kind::of(words)?;
+    match kind {
+        Kind::Link => {
+            let place = first_linked(before, behind_first(words))?;
+            Some(Blame::Linked { word: place + 1 })
+        }
+        _ => Some(Blame::Rule {
+            rule: new_rule(before, kind, behind_first(words)),
+            kind,
+        }),
+    }
+}
+
+// The limit that these words pass.
+fn passed<B: LinesBefore>(before: &B, words: &[&[u8]]) -> Option<Blame>
+    ensures { IfSome result (IsPassed (B.lines before.now) (map (λ w. w.now) words.now)) }
+{
+    let kind = Kind::of(words)?;
+    Some(Blame::Rule {
+        rule: limit(before, kind, behind_first(words)),
+        kind,
+    })
+}
+
+// The style that stands where these words ask for another.
+fn of_other_style<B: LinesBefore>(before: &B, words: &[&[u8]]) -> Option<Blame>
+    ensures { IfSome result (IsOfOtherStyle (B.lines before.now) (map (λ w. w.now) words.now)) }
+{
+    Some(Blame::Styled(other_style(before, behind_first(words))?))
+}
+
+// What an end has where these words ask for more.
+fn more<B: LinesBefore>(before: &B, words: &[&[u8]]) -> Option<Blame>
+    ensures { IfSome result (IsMore (B.lines before.now) (map (λ w. w.now) words.now)) }
+{
+    Some(Blame::Past(room_at(before, behind_first(words))?))
 }
 
 // What of these words is not of its form.

@@ -7,6 +7,7 @@
 
 mod advice;
 mod blame;
+mod breaks;
 mod field;
 mod kind;
 mod named;
@@ -16,6 +17,7 @@ mod texts;
 
 pub use advice::{put_advice, put_long};
 pub use blame::{Blame, find_blame};
+pub use breaks::Room;
 pub use field::Field;
 pub use kind::Kind;
 pub use named::{LinesBefore, Named};

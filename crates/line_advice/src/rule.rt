@@ -1,6 +1,7 @@
 //! The rules that lines keep.
 
-/// A rule that a line keeps behind those before it. Each fault but that of a word is of one of them.
+/// A rule that a line keeps behind those before it. Where it is told by a number or a style of the lines before, it is a case of
+/// `Blame`.
 #[derive(Clone, Copy)]
 pub enum Rule {
     /// No line of a later part of the script came before.
@@ -11,14 +12,22 @@ pub enum Rule {
     Known,
     /// What it adds is not there yet.
     New,
-    /// It is of the style of what is there.
-    OfStyle,
+    /// No other end has its name.
+    NewName,
+    /// No other end has its address.
+    NewAddress,
+    /// No sender stands twice in its list.
+    NewSender,
     /// There is room for it.
     WithinLimits,
+    /// A reservation of a fixed filter names one sender.
+    OneSender,
+    /// Its list has few senders.
+    FewSenders,
+    /// Few sessions are named with its own.
+    FewSessions,
     /// Its hops are those of a tree.
     OfTree,
-    /// Its interface has what it asks for.
-    WithinCapacity,
     /// No chain of hops of a group is closed by it.
     LoopFree,
 }

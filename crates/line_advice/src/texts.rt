@@ -2,7 +2,7 @@
 ghost use Rattle.std.specs.Prelude.{◌≡◌, ◌++◌, OnOk};
 ghost use Rattle.line_advice.specs.FieldTexts.{form_text, range_text};
 ghost use Rattle.line_advice.specs.KindTexts.{first_text, usage_text};
-ghost use Rattle.line_advice.specs.RuleTexts.{in_time_text, known_text, known_word, new_text, new_word, of_style_word, of_tree_text, rule_text, rule_word, within_limits_text};
+ghost use Rattle.line_advice.specs.RuleTexts.{in_time_text, known_text, known_word, limit_word, list_word, new_text, new_word, of_tree_text, rule_text, rule_word, within_limits_text};
 
 use crate::field::Field;
 use crate::kind::Kind;
@@ -158,12 +158,14 @@ pub fn rule_text(rule: Rule, kind: Kind) -> &'static [u8]
         Rule::InRange => b"the ends of a link are of different nodes",
         Rule::Known => known_text(kind),
         Rule::New => new_text(kind),
-        Rule::OfStyle =>
-            b"the wishes of a node in one session are of one style, and those before have another",
+        Rule::NewName => b"an earlier line declares an end of this name",
+        Rule::NewAddress => b"an earlier line declares an end with this address",
+        Rule::NewSender => b"no sender stands twice in a list",
         Rule::WithinLimits => within_limits_text(kind),
+        Rule::OneSender => b"a reservation of the style FF names one sender",
+        Rule::FewSenders => b"a list has at most 16 senders",
+        Rule::FewSessions => b"at most 32 sessions are named, and this would be one more",
         Rule::OfTree => of_tree_text(kind),
-        Rule::WithinCapacity =>
-            b"the rates of the reservations on an end are together at most its CAPACITY, and no M is above its MTU",
         Rule::LoopFree =>
             b"no chain of hops of a group is closed: a shared reservation could go round it",
     }
@@ -206,14 +208,12 @@ fn new_text(kind: Kind) -> &'static [u8]
         Kind::Period => b"the period is given once",
         Kind::Seed => b"the seed is given once",
         Kind::Node => b"an earlier line declares a node of this name",
-        Kind::End => b"no two ends have the same name or the same address",
-        Kind::Link => b"an end is in one link at most",
         Kind::StalePath => b"a path of one session and sender is left over at a node once",
         Kind::HopBlockade => b"a blockade of one session and hop is left over at a node once",
         Kind::SenderBlockade => b"a blockade of one session and sender is left over at a node once",
         Kind::Want => b"no sender stands twice in a list",
         _ =>
-            b"no sender stands twice in a list, and a reservation of one session, style and next hop, for FF of one sender too, is left over on an end once",
+            b"a reservation of one session, style and next hop, for FF of one sender too, is left over on an end once",
     }
 }
 
@@ -225,22 +225,16 @@ fn within_limits_text(kind: Kind) -> &'static [u8]
         Kind::End => b"a node has at most 16 ends",
         Kind::Link => b"a network has at most 512 links",
         Kind::Hop => b"all trees together have at most 8192 hops",
-        Kind::StalePath =>
-            b"at most 32 sessions are named, and at a node at most 16 senders of one session are left over",
+        Kind::StalePath => b"at a node paths of at most 16 senders of one session are left over",
         Kind::StaleResv =>
-            b"at most 32 sessions are named, SENDERS are at most 16, for FF one, and a node keeps at most 1024 reservations of a style with at most 16 senders of one session",
+            b"a node keeps at most 1024 reservations of a style, and of one session at most 64 next hops and 16 senders in them",
         Kind::WildResv =>
-            b"at most 32 sessions are named, SENDERS are at most 16, for FF one, and a node keeps at most 1024 reservations of a style with at most 16 senders of one session",
-        Kind::HopBlockade =>
-            b"at most 32 sessions are named, and a node keeps at most 512 blockades",
-        Kind::SenderBlockade =>
-            b"at most 32 sessions are named, and a node keeps at most 512 blockades",
-        Kind::Send =>
-            b"at most 32 sessions are named, and at most 16 senders of one session send at once",
-        Kind::Want =>
-            b"at most 32 sessions are named, SENDERS are at most 16, and a node has at most 16 wishes in one session",
-        Kind::WildWant =>
-            b"at most 32 sessions are named, SENDERS are at most 16, and a node has at most 16 wishes in one session",
+            b"a node keeps at most 1024 reservations of a style, and of one session at most 64 next hops and 16 senders in them",
+        Kind::HopBlockade => b"a node keeps at most 512 blockades",
+        Kind::SenderBlockade => b"a node keeps at most 512 blockades",
+        Kind::Send => b"at most 16 senders of one session send at once",
+        Kind::Want => b"a node has at most 16 wishes in one session",
+        Kind::WildWant => b"a node has at most 16 wishes in one session",
         Kind::Reroute => b"all trees together have at most 8192 hops",
         _ => b"a script has at most 16 report and flags lines",
     }
@@ -265,7 +259,13 @@ pub fn rule_word(rule: Rule, kind: Kind) -> Option<usize>
     match rule {
         Rule::Known => known_word(kind),
         Rule::New => new_word(kind),
-        Rule::OfStyle => of_style_word(kind),
+        Rule::NewName => Some(1),
+        Rule::NewAddress => Some(3),
+        Rule::NewSender => Some(5),
+        Rule::WithinLimits => limit_word(kind),
+        Rule::OneSender => Some(5),
+        Rule::FewSenders => Some(list_word(kind)),
+        Rule::FewSessions => Some(2),
         _ => None,
     }
 }
@@ -292,13 +292,23 @@ fn new_word(kind: Kind) -> Option<usize>
     }
 }
 
-fn of_style_word(kind: Kind) -> Option<usize>
-    ensures { result ≡ of_style_word kind }
+// The node of an end.
+fn limit_word(kind: Kind) -> Option<usize>
+    ensures { result ≡ limit_word kind }
 {
     match kind {
-        Kind::Want => Some(3),
-        Kind::WildWant => Some(3),
+        Kind::End => Some(2),
         _ => None,
+    }
+}
+
+// The list of senders.
+fn list_word(kind: Kind) -> usize
+    ensures { result ≡ list_word kind }
+{
+    match kind {
+        Kind::Want => 4,
+        _ => 5,
     }
 }
 

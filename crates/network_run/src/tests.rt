@@ -5,6 +5,7 @@ ghost use Rattle.script_grammar.specs.Draft.{nothing};
 use crate::{Ending, Player, Stop, run_lines};
 use byte_streams::{MemorySink, MemorySource};
 use line_advice::{LinesBefore, put_advice};
+use rsvp_base::{Iface, NoMemory, Session, StyleKind};
 use script_grammar::{Fault, Line, read_line};
 use script_words::Unread;
 use std::alloc::Global;
@@ -50,6 +51,26 @@ impl LinesBefore for Silent {
     fn has_end(&self, name: &[u8]) -> bool {
         let _ = name.len();
         false
+    }
+
+    fn is_linked(&self, name: &[u8]) -> bool {
+        let _ = name.len();
+        false
+    }
+
+    fn has_room_for_session(&self, session: Session) -> bool {
+        let _ = session.port;
+        true
+    }
+
+    fn standing_style(&self, node: &[u8], session: Session) -> Result<Option<StyleKind>, NoMemory> {
+        let _ = (node.len(), session.port);
+        Ok(None)
+    }
+
+    fn iface(&self, end: &[u8]) -> Option<Iface> {
+        let _ = end.len();
+        None
     }
 }
 

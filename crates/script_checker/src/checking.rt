@@ -1,13 +1,19 @@
 //! Lines are checked as the player of a script asks.
+ghost use Rattle.std.specs.Prelude.{◌≡◌, ◌↔◌, IsTrue};
+ghost use Rattle.script_grammar.specs.Draft.{end_number, node_number};
+ghost use Rattle.script_state.specs.Said.{draft_of};
+ghost use Rattle.line_advice.specs.Breaks.{IsLinked};
+
 use crate::checker::Checker;
 use crate::rules::add;
 use crate::starting::{copies, quarter};
 use left_over::LeftOver;
 use line_advice::LinesBefore;
 use net_replay::Event;
-use rsvp_base::NoMemory;
+use rsvp_base::{Iface, NoMemory, Session, StyleKind};
 use script_grammar::{Fault, read_line};
 use script_player::{Checks, Refused, Start};
+use script_state::ScriptState;
 use script_words::Unread;
 
 // Where the random words start where no line says so.
@@ -28,6 +34,26 @@ impl LinesBefore for Checker {
 
     fn has_end(&self, name: &[u8]) -> bool {
         self.state.names.find(name).is_some()
+    }
+
+    fn is_linked(&self, name: &[u8]) -> bool {
+        is_linked(&self.state, name)
+    }
+
+    fn has_room_for_session(&self, session: Session) -> bool {
+        script_state::has_room_for_session(&self.state, session)
+    }
+
+    fn standing_style(&self, node: &[u8], session: Session) -> Result<Option<StyleKind>, NoMemory> {
+        let node = node_number(&self.state, node);
+        let wants = self.state.wants.of(self.state.alloc, node, session)?;
+        Ok(wants.first().map(|want| want.style))
+    }
+
+    fn iface(&self, end: &[u8]) -> Option<Iface> {
+        let end = end_number(&self.state, end);
+        let end = self.state.topology.ends().get(end as usize)?;
+        Some(end.iface)
     }
 }
 
@@ -55,4 +81,31 @@ impl Checks for Checker {
     fn left(&self) -> &[LeftOver] {
         self.state.left.facts()
     }
+}
+
+// The number of an end; 0 where it was not declared.
+fn end_number(state: &ScriptState, name: &[u8]) -> u16
+    ensures { result ≡ end_number (draft_of state.now) name.now }
+{
+    match state.names.find(name) {
+        Some(end) => end as u16,
+        None => 0,
+    }
+}
+
+// The number of a node; 0 where it was not declared.
+fn node_number(state: &ScriptState, name: &[u8]) -> u16
+    ensures { result ≡ node_number (draft_of state.now) name.now }
+{
+    match state.nodes.find(name) {
+        Some(node) => node as u16,
+        None => 0,
+    }
+}
+
+// Whether the end of this name is in a link.
+fn is_linked(state: &ScriptState, name: &[u8]) -> bool
+    ensures { IsTrue result ↔ IsLinked (draft_of state.now) name.now }
+{
+    state.topology.is_in_link(end_number(state, name))
 }
