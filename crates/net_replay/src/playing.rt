@@ -12,6 +12,7 @@ ghost use Rattle.net_replay.specs.declared.world_err.WorldErr.TheVariants as ref
 
 use crate::event::Event;
 use crate::router::Router;
+use crate::watch::Watch;
 use crate::world::World;
 use crate::world_err::WorldErr;
 use rsvp_base::Addr;
@@ -21,8 +22,13 @@ impl<R: Router + Drop> World<R> {
     /// What happens, and its text, which is appended. `Crowded` exactly where it would put an 8,193rd datagram in flight: the
     /// text of what happened before that is appended. `NoMemory`, only of a report, of a tree that moves or where the trace is on: a
     /// prefix of the text is appended. A tree that the network cannot have is refused so each time. After a refusal each later event
-    /// is refused in the same way, and changes nothing.
-    pub fn event(&mut self, event: &Event, out: &mut Vec<u8>) -> Result<(), WorldErr>
+    /// is refused in the same way, and changes nothing. `watch` is told how far its rounds are, if it is one of rounds.
+    pub fn event<W: Watch>(
+        &mut self,
+        event: &Event,
+        watch: &mut W,
+        out: &mut Vec<u8>,
+    ) -> Result<(), WorldErr>
         requires { IsFitEvent event.now }
         ensures made { (a : Arrival) → IsRead event.now a → self.old.refused ≡ None → Makes R.seen self.old result out.old.items out.new.items self.new (λ q w. steps_of q (event_with a event.now) w) }
         ensures again { (e : AnErr) → self.old.refused ≡ Some e → (result ≡ Err e) × (self.new ≡ self.old) × (out.new.items ≡ out.old.items) }
@@ -43,7 +49,7 @@ impl<R: Router + Drop> World<R> {
             Event::Lose { place } => self.lose_at(*place),
             Event::Again { place } => self.copy_at(*place),
             Event::Clear { node } => self.clear(*node),
-            Event::Rounds { times } => self.rounds(*times, out),
+            Event::Rounds { times } => self.rounds(*times, watch, out),
             Event::Trace { on } => self.set_trace(*on),
             Event::Report { end } => self.write_report(*end, out),
             Event::Flags => self.write_flags(out),

@@ -24,6 +24,7 @@ use crate::report::{put_all, put_end};
 use crate::router::Router;
 use crate::stepping::{call_at, clear_at, hand_over, wait_all};
 use crate::telling::tell;
+use crate::watch::Watch;
 use crate::world_err::WorldErr;
 use network_parcels::{Wires, room};
 use router_rules::Route;
@@ -458,16 +459,22 @@ impl<R: Router + Drop> World<R> {
         Ok(())
     }
 
-    // So many rounds.
-    pub(crate) fn rounds(&mut self, times: u32, out: &mut Vec<u8>) -> Result<(), WorldErr>
+    // So many rounds; the watcher is told of each.
+    pub(crate) fn rounds<W: Watch>(
+        &mut self,
+        times: u32,
+        watch: &mut W,
+        out: &mut Vec<u8>,
+    ) -> Result<(), WorldErr>
         requires { self.old.refused ≡ None }
         ensures made { Makes R.seen self.old result out.old.items out.new.items self.new (λ q w. rounds q times w) }
         ensures same { IsSame self.old self.new }
         ensures refused { self.new.refused ≡ refusal_of result }
         ensures only { result ≡ Err refusal.NoMemory → self.old.trace ≡ true }
     {
-        for _ in 0..times {
+        for done in 0..times {
             self.round(out)?;
+            watch.rounds_done(done + 1, times, self.delivered);
         }
         Ok(())
     }
