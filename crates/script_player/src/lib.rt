@@ -15,3 +15,6 @@ pub use event_run::run_event;
 pub use opens::Opens;
 pub use player::ScriptPlayer;
 pub use script_run::run_script;
+
+// For the callers of `run_script`.
+pub use net_replay::{Unwatched, Watch};

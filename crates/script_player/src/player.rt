@@ -13,29 +13,31 @@ use crate::checks::{Checks, Refused, Start};
 use crate::event_run::run_event;
 use crate::opens::Opens;
 use line_advice::put_advice;
-use net_replay::{Event, World, WorldErr};
+use net_replay::{Event, Watch, World, WorldErr};
 use network_run::{Player, Stop};
 use rsvp_base::NoMemory;
 use script_grammar::Fault;
 use std::alloc::Global;
 
-/// Checks the lines of a script and runs their events. It has what checks them and, from the first event on, the network that they
-/// declare.
+/// Checks the lines of a script and runs their events. It has what checks them, what watches the rounds and, from the first event on,
+/// the network that they declare.
 #[derive(Drop)]
-pub struct ScriptPlayer<C: Checks + Drop, R: Opens> {
+pub struct ScriptPlayer<C: Checks + Drop, R: Opens, W: Watch + Drop> {
     alloc: Global,
     checker: C,
+    watch: W,
     world: Option<World<R>>,
 }
 
-impl<C: Checks + Drop, R: Opens> ScriptPlayer<C, R> {
+impl<C: Checks + Drop, R: Opens, W: Watch + Drop> ScriptPlayer<C, R, W> {
     /// A player whose checker has taken some lines, none of which is that of an event.
-    pub fn new(alloc: Global, checker: C) -> ScriptPlayer<C, R>
-        ensures { result ≡ record { alloc = alloc; checker = checker; world = None } }
+    pub fn new(alloc: Global, checker: C, watch: W) -> ScriptPlayer<C, R, W>
+        ensures { result ≡ record { alloc = alloc; checker = checker; watch = watch; world = None } }
     {
         ScriptPlayer {
             alloc,
             checker,
+            watch,
             world: None,
         }
     }
@@ -48,14 +50,21 @@ impl<C: Checks + Drop, R: Opens> ScriptPlayer<C, R> {
     }
 }
 
-impl<C: Checks + Drop, R: Opens> Player for ScriptPlayer<C, R> {
+impl<C: Checks + Drop, R: Opens, W: Watch + Drop> Player for ScriptPlayer<C, R, W> {
     ghost stands = { λ p d. IsAt R.seen (C.lines p.checker) p.world d };
 
     fn play(&mut self, line: &[u8], out: &mut Vec<u8>) -> Result<(), Stop> {
         match self.checker.feed(line) {
             Ok(None) => Ok(()),
             Ok(Some(event)) => {
-                match happen(self.alloc, &self.checker, &mut self.world, &event, out) {
+                match happen(
+                    self.alloc,
+                    &self.checker,
+                    &mut self.world,
+                    &event,
+                    &mut self.watch,
+                    out,
+                ) {
                     Ok(()) => Ok(()),
                     Err(WorldErr::Crowded) => Err(Stop::Crowded),
                     Err(WorldErr::NoMemory) => Err(Stop::NoMemory),
@@ -72,11 +81,12 @@ impl<C: Checks + Drop, R: Opens> Player for ScriptPlayer<C, R> {
 }
 
 // Runs the event of the line that was fed last; the network is opened where it is the first.
-fn happen<C: Checks + Drop, R: Opens>(
+fn happen<C: Checks + Drop, R: Opens, W: Watch>(
     alloc: Global,
     checker: &C,
     world: &mut Option<World<R>>,
     event: &Event,
+    watch: &mut W,
     out: &mut Vec<u8>,
 ) -> Result<(), WorldErr>
     requires { IsFitEvent event.now }
@@ -87,7 +97,7 @@ fn happen<C: Checks + Drop, R: Opens>(
         Ok(network) => network,
         Err(_) => return Err(WorldErr::NoMemory),
     };
-    let result = run_event(&mut network, event, out);
+    let result = run_event(&mut network, event, watch, out);
     *world = Some(network);
     result
 }

@@ -12,20 +12,22 @@ use crate::checks::Checks;
 use crate::opens::Opens;
 use crate::player::ScriptPlayer;
 use byte_streams::{Sink, Source};
-use net_replay::World;
+use net_replay::{Watch, World};
 use network_run::{Ending, run_lines};
 use std::alloc::Global;
 
 /// Reads a script of the source, checks and runs it line by line, and writes each event's text to the sink when it has run. Where
-/// it is done and the script has an event, `last` holds the network in which the run ended; else it stays empty. `advice` becomes
-/// the text that tells what is wrong with the bad line; where no line is bad, or memory runs out as it is written, it is empty.
+/// it is done and the script has an event, `last` holds the network in which the run ended; else it stays empty. `watch` is told how
+/// far the rounds of an event are. `advice` becomes the text that tells what is wrong with the bad line; where no line is bad, or
+/// memory runs out as it is written, it is empty.
 ///
 /// How it ends is said at `run_lines`.
-pub fn run_script<C: Checks + Drop, R: Opens, S: Source, K: Sink>(
+pub fn run_script<C: Checks + Drop, R: Opens, S: Source, K: Sink, W: Watch>(
     alloc: Global,
     checker: C,
     source: &mut S,
     sink: &mut K,
+    watch: &mut W,
     last: &mut Option<World<R>>,
     advice: &mut Vec<u8>,
 ) -> Ending
@@ -39,7 +41,7 @@ pub fn run_script<C: Checks + Drop, R: Opens, S: Source, K: Sink>(
     ensures complete { (bytes text : List ℕ) (wanted : AnEnding) → S.left source.old ≡ Some bytes → length bytes ≤ most_bytes → ComesTo wanted bytes text
         → (Rose (S.faults source.old) (S.faults source.new) → ⊥) → (Rose (K.faults sink.old) (K.faults sink.new) → ⊥) → IsOrNoMemory wanted result }
 {
-    let mut player: ScriptPlayer<C, R> = ScriptPlayer::new(alloc, checker);
+    let mut player: ScriptPlayer<C, R, &mut W> = ScriptPlayer::new(alloc, checker, watch);
     match run_lines(alloc, &mut player, source, sink, advice) {
         Ending::Done => {
             *last = player.into_world();
