@@ -35,23 +35,23 @@ pub fn tear_resvs(tables: &mut Tables, iface: u8, message: &ResvTearMsg) -> Hear
 }
 
 /// The units of a Resv that came by one of the node's interfaces are taken, refused or left out (RFC 2209, 2: RESV MESSAGE
-/// ARRIVES). Nothing of other sessions changes. Where nothing that was taken is news, each part stands as it did.
-pub fn take_resvs(tables: &mut Tables, iface: u8, message: &ResvMsg) -> Answer
+/// ARRIVES). Nothing of other sessions changes. Where nothing that was taken is news, each part stands as it did. What came of it
+/// is left in `answer`, in place of what was there.
+pub fn take_resvs(tables: &mut Tables, iface: u8, message: &ResvMsg, answer: &mut Answer)
     requires sound { AreSound tables.old }
     requires place { IsOfPlace tables.old }
     requires exists { iface < length tables.old.book.ifaces }
-    ensures answer { (c : ℕ) (said : Said) → IsAnswer tables.old.config (asker_of_rule tables.old.config c iface message.now) result (act_resv tables.old.config c iface message.now (facts_of c (state_of tables.old said))) }
+    ensures answer { (c : ℕ) (said : Said) → IsAnswer tables.old.config (asker_of_rule tables.old.config c iface message.now) answer.new (act_resv tables.old.config c iface message.now (facts_of c (state_of tables.old said))) }
     ensures facts { (c : ℕ) (said : Said) → facts_of c (state_of tables.new said) ≡ (act_resv tables.old.config c iface message.now (facts_of c (state_of tables.old said))).facts }
     ensures change { (said : Said) (x : Sending) → IsChangedFor (message.now.session, x) (state_of tables.old said) (state_of tables.new said) }
     ensures sound { AreSound tables.new }
     ensures ifaces { tables.new.book.ifaces ≡ tables.old.book.ifaces }
     ensures rest { tables.new ≡ record tables.old { wild = tables.new.wild; fixed = tables.new.fixed; shared = tables.new.shared; book = tables.new.book } }
-    ensures quiet { result.news ≡ false → AreSameParts (state_of tables.old empty) (state_of tables.new empty) }
+    ensures quiet { answer.new.done.news ≡ false → AreSameParts (state_of tables.old empty) (state_of tables.new empty) }
 {
     look(tables);
-    let answer = take_resv(tables, iface, message);
+    take_resv(tables, iface, message, answer);
     look(tables);
-    answer
 }
 
 // The proof sees here that each reservation stands under its key.
