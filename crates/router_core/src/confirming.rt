@@ -27,10 +27,10 @@ pub(crate) fn confirm<O: Outbox>(
     said: &LaneTable,
     iface: u8,
     message: &ResvMsg,
-    taken: Option<Ask>,
+    taken: &Option<Ask>,
     out: &mut O,
 )
-    ensures { (n : State) (c : ℕ) (x : Sending) (offer : Option Offer) (near : Set next_hops) → IsBefore (message.now.session, x) n (state_of tables.now said.now) offer near → out.new ≡ fold O.posted out.old (conf_sends (confirmed n.place n.place (facts_of c n) (facts_of c (state_of tables.now said.now)) (asked_of (asker_of n.place c iface message.now) taken message.now.confirm))) }
+    ensures { (n : State) (c : ℕ) (x : Sending) (offer : Option Offer) (near : Set next_hops) → IsBefore (message.now.session, x) n (state_of tables.now said.now) offer near → out.new ≡ fold O.posted out.old (conf_sends (confirmed n.place n.place (facts_of c n) (facts_of c (state_of tables.now said.now)) (asked_of (asker_of n.place c iface message.now) taken.now message.now.confirm))) }
 {
     let Some(wish) = message.confirm else {
         return;
@@ -42,7 +42,7 @@ pub(crate) fn confirm<O: Outbox>(
     if is_any_new(tables, said, message.session, &hops) {
         return;
     }
-    let conf = conf_of(&tables.config, iface, message, wish, ask);
+    let conf = conf_of(&tables.config, iface, message, wish, ask.copy());
     out.post(iface, message.hop.addr, conf, false);
 }
 
@@ -52,10 +52,10 @@ pub(crate) fn confirm_here<O: Outbox>(
     config: &Config,
     iface: u8,
     message: &ResvMsg,
-    taken: Option<Ask>,
+    taken: &Option<Ask>,
     out: &mut O,
 )
-    ensures { (c : ℕ) → out.new ≡ fold O.posted out.old (conf_sends (confirmed_here config.now (asked_of (asker_of config.now c iface message.now) taken message.now.confirm))) }
+    ensures { (c : ℕ) → out.new ≡ fold O.posted out.old (conf_sends (confirmed_here config.now (asked_of (asker_of config.now c iface message.now) taken.now message.now.confirm))) }
 {
     let Some(wish) = message.confirm else {
         return;
@@ -63,7 +63,7 @@ pub(crate) fn confirm_here<O: Outbox>(
     let Some(ask) = taken else {
         return;
     };
-    let conf = conf_of(config, iface, message, wish, ask);
+    let conf = conf_of(config, iface, message, wish, ask.copy());
     out.post(iface, message.hop.addr, conf, false);
 }
 

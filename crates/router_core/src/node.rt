@@ -11,6 +11,7 @@ use crate::opening::open_tables;
 use lane_state::LaneTable;
 use node_tables::Tables;
 use node_telling::Config;
+use resv_arriving::Answer;
 use rsvp_base::{EntryKey, Flow, NoMemory};
 use session_rounds::Rooms;
 use std::alloc::Global;
@@ -23,6 +24,8 @@ pub struct Node {
     pub(crate) tables: Tables,
     pub(crate) said: LaneTable,
     pub(crate) rooms: Rooms,
+    // What came of the last Resv: the room is kept, and nothing is read from before.
+    pub(crate) answer: Answer,
     ghost sound: { AreSound tables },
     ghost settled: { IsSettled (state_of tables said) },
     ghost told: { IsSaid said (state_of tables said) },
@@ -50,6 +53,7 @@ impl Node {
             tables,
             said,
             rooms,
+            answer: Answer::new(),
         })
     }
 

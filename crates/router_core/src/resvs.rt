@@ -28,10 +28,11 @@ impl Node {
         ensures sent { (c : ℕ) → out.new ≡ fold O.posted out.old (sent_after self.old.place self.old.place c (to_node self.old.place iface (message_of.Resv message.now)) (facts_at c self.old)) }
         ensures place { self.new.place ≡ self.old.place }
     {
-        let answer = take_resvs(&mut self.tables, iface, message);
-        let heard = answer.heard;
-        if !answer.news {
-            tell_answer(&self.tables.config, iface, message, answer, out);
+        take_resvs(&mut self.tables, iface, message, &mut self.answer);
+        let heard = self.answer.heard;
+        let news = self.answer.done.news;
+        if !news {
+            tell_answer(&self.tables.config, iface, message, &self.answer, out);
             return heard;
         }
         // No sender changes, so any will do.
@@ -47,7 +48,7 @@ impl Node {
             &near,
             iface,
             message,
-            answer,
+            &self.answer,
             out,
         );
         heard

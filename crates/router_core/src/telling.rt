@@ -38,19 +38,19 @@ pub(crate) fn tell_resv<O: Outbox>(
     near: &Hops,
     iface: u8,
     message: &ResvMsg,
-    answer: Answer,
+    answer: &Answer,
     out: &mut O,
 )
     requires { (n : State) × IsBefore (message.now.session, sender) n (state_of tables.old said.old) (option_map as_offer before.now) near.now }
-    ensures sent { (n : State) (c : ℕ) (k : Change) → IsBefore (message.now.session, sender) n (state_of tables.old said.old) (option_map as_offer before.now) near.now → IsAnswer n.place (asker_of n.place c iface message.now) answer k → k.confs ≡ [] → k.fired ≡ empty → out.new ≡ fold O.posted out.old (sends n.place n.place (facts_of c n) (facts_of c (state_of tables.old said.old)) k) }
-    ensures facts { (n : State) (c : ℕ) → IsBefore (message.now.session, sender) n (state_of tables.old said.old) (option_map as_offer before.now) near.now → facts_of c (state_of tables.new said.new) ≡ facts_told n.place (facts_of c n) (facts_of c (state_of tables.old said.old)) (asked_of (asker_of n.place c iface message.now) answer.taken message.now.confirm) }
+    ensures sent { (n : State) (c : ℕ) (k : Change) → IsBefore (message.now.session, sender) n (state_of tables.old said.old) (option_map as_offer before.now) near.now → IsAnswer n.place (asker_of n.place c iface message.now) answer.now k → k.confs ≡ [] → k.fired ≡ empty → out.new ≡ fold O.posted out.old (sends n.place n.place (facts_of c n) (facts_of c (state_of tables.old said.old)) k) }
+    ensures facts { (n : State) (c : ℕ) → IsBefore (message.now.session, sender) n (state_of tables.old said.old) (option_map as_offer before.now) near.now → facts_of c (state_of tables.new said.new) ≡ facts_told n.place (facts_of c n) (facts_of c (state_of tables.old said.old)) (asked_of (asker_of n.place c iface message.now) answer.now.taken message.now.confirm) }
     ensures said { IsSaid said.new (state_of tables.new said.new) }
     ensures rest { tables.new ≡ record tables.old { wants = tables.new.wants } }
 {
     let session = message.session;
     tell_tears(tables, said, session, sender, before, near, out);
-    tell_refusals(&tables.config, iface, message, &answer.errors, out);
-    confirm(tables, said, iface, message, answer.taken, out);
+    tell_refusals(&tables.config, iface, message, &answer.done.errors, out);
+    confirm(tables, said, iface, message, &answer.taken, out);
     tell_news(
         tables,
         said,
@@ -69,13 +69,13 @@ pub(crate) fn tell_answer<O: Outbox>(
     config: &Config,
     iface: u8,
     message: &ResvMsg,
-    answer: Answer,
+    answer: &Answer,
     out: &mut O,
 )
-    ensures { (c : ℕ) (k : Change) → IsAnswer config.now (asker_of config.now c iface message.now) answer k → out.new ≡ fold O.posted out.old (error_sends k.errors ++ conf_sends (confirmed_here config.now k.asked)) }
+    ensures { (c : ℕ) (k : Change) → IsAnswer config.now (asker_of config.now c iface message.now) answer.now k → out.new ≡ fold O.posted out.old (error_sends k.errors ++ conf_sends (confirmed_here config.now k.asked)) }
 {
-    tell_refusals(config, iface, message, &answer.errors, out);
-    confirm_here(config, iface, message, answer.taken, out);
+    tell_refusals(config, iface, message, &answer.done.errors, out);
+    confirm_here(config, iface, message, &answer.taken, out);
 }
 
 /// All that a node tells once a ResvErr set its blockades, in order: ResvTears, the errors that go on, and Resvs. What was heard

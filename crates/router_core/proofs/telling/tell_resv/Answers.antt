@@ -33,12 +33,12 @@ returns-clause-sent g c = λ n clock ch before answer confs fired.
     let place = sym before.change.place in
     let a = c.tell_tears.ensures n clock before in
     let b =
-    c.tell_refusals.ensures clock ∙ (λ i. fold posted one (map error_send (map (refusal_of (place i) (asker_of (place i) clock c.args.iface m)) c.args.answer.errors)))
+    c.tell_refusals.ensures clock ∙ (λ i. fold posted one (map error_send (map (refusal_of (place i) (asker_of (place i) clock c.args.iface m)) c.args.answer.now.done.errors)))
     ∙ ap (λ (es : List ErrSend). fold posted one (map error_send es)) (sym answer.errors) in
     let d =
     c.confirm.ensures n clock c.args.sender _ _ before
     ∙ sym (λ i. fold posted two (conf_sends (confs i ++ confirmed n.place n.place f h (answer.asked i)))) in
-    let e = c.tell_news.ensures.sent n clock ch.asked (ap address_of answer.asked ∙ address_is (asker_of n.place clock c.args.iface m) c.args.answer.taken m.confirm) before in
+    let e = c.tell_news.ensures.sent n clock ch.asked (ap address_of answer.asked ∙ address_is (asker_of n.place clock c.args.iface m) c.args.answer.now.taken m.confirm) before in
     two_sent posted start one c.tell_news.new.out (told_before n.place k f h) (errors ++ (confirms ++ told_behind n.place k f h ch.asked)) a
     (two_sent posted one two c.tell_news.new.out errors (confirms ++ told_behind n.place k f h ch.asked) b
     (two_sent posted two three c.tell_news.new.out confirms (told_behind n.place k f h ch.asked) d e))
@@ -48,4 +48,4 @@ pub returns-clause-facts : goal.returns-clause-facts
 returns-clause-facts g c = λ n clock before.
     let m = c.args.message.now in
     let o = asker_of n.place clock c.args.iface m in
-    c.tell_news.ensures.facts n clock (asked_of o c.args.answer.taken m.confirm) (address_is o c.args.answer.taken m.confirm) before
+    c.tell_news.ensures.facts n clock (asked_of o c.args.answer.now.taken m.confirm) (address_is o c.args.answer.now.taken m.confirm) before
