@@ -1,5 +1,5 @@
 -- Where the same parts stand under the same keys, the same goes toward each hop.
-use Rattle.std.specs.Prelude.{◌≡◌, ℕ, ◌++◌, Bool, true, false, not, List, Option, Some, refl}
+use Rattle.std.specs.Prelude.{◌≡◌, ℕ, ◌++◌, List, Option, Some, refl}
 use Rattle.std.specs.List.{filter_map}
 use Rattle.std.proofs.Common.{sym, ap, ◌∙◌}
 use Rattle.path_state.specs.Paths.{hops_by}
@@ -74,10 +74,6 @@ toward_standing n w rest same c p l =
     (ap (changed part_of_state) (resvs_at l.style c w) ∙ parts_at c (table_in l.style w) ∙ same l.style ∙ sym (parts_at c (table_in l.style n)) ∙ sym (ap (changed part_of_state) (resvs_at l.style c n))))
 
 -- ---- tables with other reservations
-pub no_news : (b : Bool) → not b ≡ true → b ≡ false
-no_news true e = cc
-no_news false e = refl
-
 pub any_sender : Sender
 any_sender = record { addr = record { 0 = 0 }; port = 0 }
 

@@ -11,7 +11,7 @@ returns-then-is_any_new g c = λ n clock x offer near before.
     let m = state_of c.args.tables.now c.args.said.now in
     let p = c.args.message.now in
     ap (fold g.O.Outbox.posted c.args.out.now)
-    (going x n m offer near clock c.args.iface p before c.in-Some.wish c.in-Some-taken.ask c.in-Some.is c.args.taken c.in-Some-taken.is c.hops-hops.result (c.hops-hops.ensures ∙ hops_are clock m p.session) (sym (c.is_any_new.ensures clock c.args.said.now) ∙ c.if-is_any_new.true))
+    (going x n m offer near clock c.args.iface p before c.in-Some.wish c.in-Some-taken.ask c.in-Some.is c.args.taken.now c.in-Some-taken.is c.hops-hops.result (c.hops-hops.ensures ∙ hops_are clock m p.session) (sym (c.is_any_new.ensures clock c.args.said.now) ∙ c.if-is_any_new.true))
 
 pub returns : goal.returns
 returns g c = λ n clock x offer near before.
@@ -20,6 +20,7 @@ returns g c = λ n clock x offer near before.
     let is = before.change.place in
     c.post.ensures
     ∙ (λ i. g.O.Outbox.posted c.args.out.now (record { iface = c.args.iface; dst = p.hop.addr; message = c.conf_of-conf.ensures i; refresh = false }))
+    ∙ ap (λ w. g.O.Outbox.posted c.args.out.now (conf_send (record { iface = c.args.iface; dst = p.hop.addr; conf = conf_of c.args.tables.now.config c.args.iface p c.in-Some.wish w }))) c.copy.ensures
     ∙ ap (fold g.O.Outbox.posted c.args.out.now)
     (ap (λ q. conf_send (record { iface = c.args.iface; dst = p.hop.addr; conf = conf_of q c.args.iface p c.in-Some.wish c.in-Some-taken.ask }) ∷ []) (sym is)
-    ∙ standing x n m offer near clock c.args.iface p before c.in-Some.wish c.in-Some-taken.ask c.in-Some.is c.args.taken c.in-Some-taken.is c.hops-hops.result (c.hops-hops.ensures ∙ hops_are clock m p.session) (sym (c.is_any_new.ensures clock c.args.said.now) ∙ c.if-is_any_new.false))
+    ∙ standing x n m offer near clock c.args.iface p before c.in-Some.wish c.in-Some-taken.ask c.in-Some.is c.args.taken.now c.in-Some-taken.is c.hops-hops.result (c.hops-hops.ensures ∙ hops_are clock m p.session) (sym (c.is_any_new.ensures clock c.args.said.now) ∙ c.if-is_any_new.false))

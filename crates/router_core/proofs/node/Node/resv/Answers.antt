@@ -20,7 +20,7 @@ use Rattle.node_acting.proofs.Reserving.{take_named, takes}
 use Rattle.node_acting.proofs.Ruled.{heard_by, told_facts, told_sent}
 use Rattle.router_core.specs.Confirming.{confirmed_here}
 use Rattle.router_core.proofs.Quiet.{marks_wait, quiet_answer}
-use Rattle.router_core.proofs.WithParts.{any_sender, no_news, resv_before, standing_toward}
+use Rattle.router_core.proofs.WithParts.{any_sender, resv_before, standing_toward}
 use Rattle.router_core.proofs.Told.{wants_of_place, wants_place, wants_settled, wants_sound}
 use Rattle.router_core.proofs.node.Node.resv.Goals as goal
 
@@ -37,7 +37,7 @@ invariant_of-self-inside g c =
     let k : SenderKey = (c.args.message.now.session, any_sender) in
     let r = here_ruled k n w c.self.inside.settled (c.take_resvs.ensures.change c.self.inside.said any_sender) (ap (λ (t : Tables). t.senders) c.take_resvs.ensures.rest) (ap (λ (t : Tables). t.paths.facts) c.take_resvs.ensures.rest) (ap (λ (t : Tables). t.due) c.take_resvs.ensures.rest) (λ d. subst AreNamed (sym (c.take_resvs.ensures.facts d c.self.inside.said)) (take_named n.place d c.args.iface c.args.message.now (facts_of d n) (c.self.inside.settled.named d))) (to_node n.place c.args.iface (message.Resv c.args.message.now)) (λ d. c.take_resvs.ensures.facts d c.self.inside.said ∙ ap (λ (x : Change). x.facts) (sym (takes n.place d c.args.iface c.args.message.now (facts_of d n)))) in
     let rest = c.take_resvs.ensures.rest in
-    let same = standing_toward c.self.inside.tables c.take_resvs.new.tables rest c.self.inside.said (c.take_resvs.ensures.quiet (no_news c.take_resvs.new.answer.done.news c.if-not-news.true)) in (
+    let same = standing_toward c.self.inside.tables c.take_resvs.new.tables rest c.self.inside.said (c.take_resvs.ensures.quiet c.if-not-news.true) in (
       c.take_resvs.ensures.sound,
       (
         r.kept,
@@ -55,7 +55,7 @@ returns-then-not-news-clause-facts g c = λ clock.
     let k : SenderKey = (c.args.message.now.session, any_sender) in
     let r = here_ruled k n w c.self.inside.settled (c.take_resvs.ensures.change c.self.inside.said any_sender) (ap (λ (t : Tables). t.senders) c.take_resvs.ensures.rest) (ap (λ (t : Tables). t.paths.facts) c.take_resvs.ensures.rest) (ap (λ (t : Tables). t.due) c.take_resvs.ensures.rest) (λ d. subst AreNamed (sym (c.take_resvs.ensures.facts d c.self.inside.said)) (take_named n.place d c.args.iface c.args.message.now (facts_of d n) (c.self.inside.settled.named d))) (to_node n.place c.args.iface (message.Resv c.args.message.now)) (λ d. c.take_resvs.ensures.facts d c.self.inside.said ∙ ap (λ (x : Change). x.facts) (sym (takes n.place d c.args.iface c.args.message.now (facts_of d n)))) in
     let rest = c.take_resvs.ensures.rest in
-    let same = standing_toward c.self.inside.tables c.take_resvs.new.tables rest c.self.inside.said (c.take_resvs.ensures.quiet (no_news c.take_resvs.new.answer.done.news c.if-not-news.true)) in
+    let same = standing_toward c.self.inside.tables c.take_resvs.new.tables rest c.self.inside.said (c.take_resvs.ensures.quiet c.if-not-news.true) in
     let asked = asked_of (asker_of n.place clock c.args.iface c.args.message.now) c.take_resvs.new.answer.taken c.args.message.now.confirm in
     told_facts n c.args.self.now c.self.view_is (λ z. to_node z c.args.iface (message.Resv c.args.message.now)) refl heard.Taken clock k w r asked
     (ap (λ (x : Change). x.asked) (takes n.place clock c.args.iface c.args.message.now (facts_of clock n)) ∙ (c.take_resvs.ensures.answer clock c.self.inside.said).asked) w (sym (marks_wait n.place (facts_of clock n) (facts_of clock w) (same clock n.place) asked))
@@ -73,7 +73,7 @@ returns-then-not-news-clause-sent g c = λ clock.
     let k : SenderKey = (c.args.message.now.session, any_sender) in
     let r = here_ruled k n w c.self.inside.settled (c.take_resvs.ensures.change c.self.inside.said any_sender) (ap (λ (t : Tables). t.senders) c.take_resvs.ensures.rest) (ap (λ (t : Tables). t.paths.facts) c.take_resvs.ensures.rest) (ap (λ (t : Tables). t.due) c.take_resvs.ensures.rest) (λ d. subst AreNamed (sym (c.take_resvs.ensures.facts d c.self.inside.said)) (take_named n.place d c.args.iface c.args.message.now (facts_of d n) (c.self.inside.settled.named d))) (to_node n.place c.args.iface (message.Resv c.args.message.now)) (λ d. c.take_resvs.ensures.facts d c.self.inside.said ∙ ap (λ (x : Change). x.facts) (sym (takes n.place d c.args.iface c.args.message.now (facts_of d n)))) in
     let rest = c.take_resvs.ensures.rest in
-    let same = standing_toward c.self.inside.tables c.take_resvs.new.tables rest c.self.inside.said (c.take_resvs.ensures.quiet (no_news c.take_resvs.new.answer.done.news c.if-not-news.true)) in
+    let same = standing_toward c.self.inside.tables c.take_resvs.new.tables rest c.self.inside.said (c.take_resvs.ensures.quiet c.if-not-news.true) in
     let m = c.args.message.now in
     let posted = g.O.Outbox.posted in
     let ch = act_resv n.place clock c.args.iface m (facts_of clock n) in
