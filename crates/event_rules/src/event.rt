@@ -1,5 +1,5 @@
 //! The rules of lines of part 3 that ask nothing of a host.
-ghost use Rattle.std.specs.Prelude.{◌≡◌, ◌↔◌, ◌≤◌, IfErr, IfOk, IfSome, IsSome, OnOk, length};
+ghost use Rattle.std.specs.Prelude.{◌≡◌, ◌≢◌, ◌↔◌, ◌≤◌, Err, IfErr, IfOk, IfSome, IsSome, OnOk, length};
 ghost use Rattle.script_state.specs.Said.{draft_of};
 ghost use Rattle.script_state.specs.Refusals.{IsUntouched, Refuses};
 ghost use Rattle.script_player.specs.Checking.{IsAdded};
@@ -33,11 +33,13 @@ fn from_1_to(most: u32, number: u128) -> Option<u32>
     Some(number as u32)
 }
 
-/// Adds the event of `wait`.
+/// Adds the event of `wait`. It takes no memory, as each call of this module but `add_inject`, so that `NoMemory` is never its
+/// answer.
 pub fn add_wait(state: &mut ScriptState, ms: u128) -> Result<Event, Refused>
     ensures ok { OnOk result (KeepsAll (Keeps (draft_of state.old) (kind.Wait ms)) × Adds (draft_of state.old) (kind.Wait ms) (draft_of state.new)) }
     ensures event { IfOk result (λ e. IsAdded (draft_of state.old).events e (draft_of state.new).events) }
     ensures refused { IfErr result (Refuses (draft_of state.old) (kind.Wait ms)) }
+    ensures told { result ≢ Err Refused.NoMemory }
     ensures same { IfErr result (IsUntouched (draft_of state.old) (draft_of state.new)) }
 {
     let Some(ms) = from_1_to(MOST_WAIT, ms) else {
@@ -51,6 +53,7 @@ pub fn add_pass(state: &mut ScriptState, times: u128) -> Result<Event, Refused>
     ensures ok { OnOk result (KeepsAll (Keeps (draft_of state.old) (kind.Pass times)) × Adds (draft_of state.old) (kind.Pass times) (draft_of state.new)) }
     ensures event { IfOk result (λ e. IsAdded (draft_of state.old).events e (draft_of state.new).events) }
     ensures refused { IfErr result (Refuses (draft_of state.old) (kind.Pass times)) }
+    ensures told { result ≢ Err Refused.NoMemory }
     ensures same { IfErr result (IsUntouched (draft_of state.old) (draft_of state.new)) }
 {
     let Some(times) = from_1_to(MOST_PASSES, times) else {
@@ -64,6 +67,7 @@ pub fn add_rounds(state: &mut ScriptState, times: u128) -> Result<Event, Refused
     ensures ok { OnOk result (KeepsAll (Keeps (draft_of state.old) (kind.Rounds times)) × Adds (draft_of state.old) (kind.Rounds times) (draft_of state.new)) }
     ensures event { IfOk result (λ e. IsAdded (draft_of state.old).events e (draft_of state.new).events) }
     ensures refused { IfErr result (Refuses (draft_of state.old) (kind.Rounds times)) }
+    ensures told { result ≢ Err Refused.NoMemory }
     ensures same { IfErr result (IsUntouched (draft_of state.old) (draft_of state.new)) }
 {
     let Some(times) = from_1_to(MOST_ROUNDS, times) else {
@@ -77,6 +81,7 @@ pub fn add_deliver(state: &mut ScriptState, place: u128) -> Result<Event, Refuse
     ensures ok { OnOk result (KeepsAll (Keeps (draft_of state.old) (kind.Deliver place)) × Adds (draft_of state.old) (kind.Deliver place) (draft_of state.new)) }
     ensures event { IfOk result (λ e. IsAdded (draft_of state.old).events e (draft_of state.new).events) }
     ensures refused { IfErr result (Refuses (draft_of state.old) (kind.Deliver place)) }
+    ensures told { result ≢ Err Refused.NoMemory }
     ensures same { IfErr result (IsUntouched (draft_of state.old) (draft_of state.new)) }
 {
     let Some(place) = from_1_to(MOST_PLACES, place) else {
@@ -90,6 +95,7 @@ pub fn add_lose(state: &mut ScriptState, place: u128) -> Result<Event, Refused>
     ensures ok { OnOk result (KeepsAll (Keeps (draft_of state.old) (kind.Lose place)) × Adds (draft_of state.old) (kind.Lose place) (draft_of state.new)) }
     ensures event { IfOk result (λ e. IsAdded (draft_of state.old).events e (draft_of state.new).events) }
     ensures refused { IfErr result (Refuses (draft_of state.old) (kind.Lose place)) }
+    ensures told { result ≢ Err Refused.NoMemory }
     ensures same { IfErr result (IsUntouched (draft_of state.old) (draft_of state.new)) }
 {
     let Some(place) = from_1_to(MOST_PLACES, place) else {
@@ -103,6 +109,7 @@ pub fn add_again(state: &mut ScriptState, place: u128) -> Result<Event, Refused>
     ensures ok { OnOk result (KeepsAll (Keeps (draft_of state.old) (kind.Copy place)) × Adds (draft_of state.old) (kind.Copy place) (draft_of state.new)) }
     ensures event { IfOk result (λ e. IsAdded (draft_of state.old).events e (draft_of state.new).events) }
     ensures refused { IfErr result (Refuses (draft_of state.old) (kind.Copy place)) }
+    ensures told { result ≢ Err Refused.NoMemory }
     ensures same { IfErr result (IsUntouched (draft_of state.old) (draft_of state.new)) }
 {
     let Some(place) = from_1_to(MOST_PLACES, place) else {
@@ -116,6 +123,7 @@ pub fn add_clear(state: &mut ScriptState, node: EndName) -> Result<Event, Refuse
     ensures ok { OnOk result (KeepsAll (Keeps (draft_of state.old) (kind.Clear node)) × Adds (draft_of state.old) (kind.Clear node) (draft_of state.new)) }
     ensures event { IfOk result (λ e. IsAdded (draft_of state.old).events e (draft_of state.new).events) }
     ensures refused { IfErr result (Refuses (draft_of state.old) (kind.Clear node)) }
+    ensures told { result ≢ Err Refused.NoMemory }
     ensures same { IfErr result (IsUntouched (draft_of state.old) (draft_of state.new)) }
 {
     let Some(node) = state.nodes.find(node.bytes()) else {
@@ -129,6 +137,7 @@ pub fn add_trace(state: &mut ScriptState, on: bool) -> Result<Event, Refused>
     ensures ok { OnOk result (KeepsAll (Keeps (draft_of state.old) (kind.Trace on)) × Adds (draft_of state.old) (kind.Trace on) (draft_of state.new)) }
     ensures event { IfOk result (λ e. IsAdded (draft_of state.old).events e (draft_of state.new).events) }
     ensures refused { IfErr result (Refuses (draft_of state.old) (kind.Trace on)) }
+    ensures told { result ≢ Err Refused.NoMemory }
     ensures same { IfErr result (IsUntouched (draft_of state.old) (draft_of state.new)) }
 {
     Ok(keep(state, Event::Trace { on }))
@@ -139,6 +148,7 @@ pub fn add_report(state: &mut ScriptState) -> Result<Event, Refused>
     ensures ok { OnOk result (KeepsAll (Keeps (draft_of state.old) (kind.Report)) × Adds (draft_of state.old) (kind.Report) (draft_of state.new)) }
     ensures event { IfOk result (λ e. IsAdded (draft_of state.old).events e (draft_of state.new).events) }
     ensures refused { IfErr result (Refuses (draft_of state.old) (kind.Report)) }
+    ensures told { result ≢ Err Refused.NoMemory }
     ensures same { IfErr result (IsUntouched (draft_of state.old) (draft_of state.new)) }
 {
     if !has_room_for_report(state) {
@@ -152,6 +162,7 @@ pub fn add_report_end(state: &mut ScriptState, end: EndName) -> Result<Event, Re
     ensures ok { OnOk result (KeepsAll (Keeps (draft_of state.old) (kind.ReportEnd end)) × Adds (draft_of state.old) (kind.ReportEnd end) (draft_of state.new)) }
     ensures event { IfOk result (λ e. IsAdded (draft_of state.old).events e (draft_of state.new).events) }
     ensures refused { IfErr result (Refuses (draft_of state.old) (kind.ReportEnd end)) }
+    ensures told { result ≢ Err Refused.NoMemory }
     ensures same { IfErr result (IsUntouched (draft_of state.old) (draft_of state.new)) }
 {
     let Some(end) = state.names.find(end.bytes()) else {
@@ -173,6 +184,7 @@ pub fn add_flags(state: &mut ScriptState) -> Result<Event, Refused>
     ensures ok { OnOk result (KeepsAll (Keeps (draft_of state.old) (kind.Flags)) × Adds (draft_of state.old) (kind.Flags) (draft_of state.new)) }
     ensures event { IfOk result (λ e. IsAdded (draft_of state.old).events e (draft_of state.new).events) }
     ensures refused { IfErr result (Refuses (draft_of state.old) (kind.Flags)) }
+    ensures told { result ≢ Err Refused.NoMemory }
     ensures same { IfErr result (IsUntouched (draft_of state.old) (draft_of state.new)) }
 {
     if !has_room_for_report(state) {
@@ -181,12 +193,13 @@ pub fn add_flags(state: &mut ScriptState) -> Result<Event, Refused>
     Ok(keep_report(state, Event::Flags))
 }
 
-/// Adds the event of `inject`.
+/// Adds the event of `inject`. `NoMemory`: the line keeps all rules, and there was no memory for its bytes.
 pub fn add_inject(state: &mut ScriptState, line: InjectLine) -> Result<Event, Refused>
     requires { length line.bytes ≤ 4096 }
     ensures ok { OnOk result (KeepsAll (Keeps (draft_of state.old) (kind.Inject line)) × Adds (draft_of state.old) (kind.Inject line) (draft_of state.new)) }
     ensures event { IfOk result (λ e. IsAdded (draft_of state.old).events e (draft_of state.new).events) }
     ensures refused { IfErr result (Refuses (draft_of state.old) (kind.Inject line)) }
+    ensures told { result ≡ Err Refused.NoMemory → KeepsAll (Keeps (draft_of state.old) (kind.Inject line)) }
     ensures same { IfErr result (IsUntouched (draft_of state.old) (draft_of state.new)) }
 {
     let Some(dst) = line.dst.addr() else {
