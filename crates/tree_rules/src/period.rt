@@ -1,5 +1,5 @@
-//! The rules of `period` and `seed`.
-ghost use Rattle.std.specs.Prelude.{◌≡◌, IfErr, OnOk};
+//! The rules of `period` and `seed`. They take no memory, so that `NoMemory` is never their answer.
+ghost use Rattle.std.specs.Prelude.{◌≡◌, ◌≢◌, Err, IfErr, OnOk};
 ghost use Rattle.script_state.specs.Said.{draft_of};
 ghost use Rattle.script_state.specs.Refusals.{IsUntouched, Refuses};
 ghost use Rattle.script_grammar.specs.Adds.{Adds};
@@ -14,6 +14,7 @@ use script_state::{ScriptState, only_declares};
 pub fn add_period(state: &mut ScriptState, ms: u128) -> Result<(), Refused>
     ensures ok { OnOk result (KeepsAll (Keeps (draft_of state.old) (kind.Period ms)) × Adds (draft_of state.old) (kind.Period ms) (draft_of state.new)) }
     ensures refused { IfErr result (Refuses (draft_of state.old) (kind.Period ms)) }
+    ensures told { result ≢ Err Refused.NoMemory }
     ensures same { IfErr result (IsUntouched (draft_of state.old) (draft_of state.new)) }
 {
     if state.nodes.len() > 0 || !only_declares(state) {
@@ -33,6 +34,7 @@ pub fn add_period(state: &mut ScriptState, ms: u128) -> Result<(), Refused>
 pub fn add_seed(state: &mut ScriptState, seed: u128) -> Result<(), Refused>
     ensures ok { OnOk result (KeepsAll (Keeps (draft_of state.old) (kind.Seed seed)) × Adds (draft_of state.old) (kind.Seed seed) (draft_of state.new)) }
     ensures refused { IfErr result (Refuses (draft_of state.old) (kind.Seed seed)) }
+    ensures told { result ≢ Err Refused.NoMemory }
     ensures same { IfErr result (IsUntouched (draft_of state.old) (draft_of state.new)) }
 {
     if state.nodes.len() > 0 || !only_declares(state) {
