@@ -91,7 +91,9 @@ impl Packet {
 }
 
 impl Default for Packet {
-    fn default() -> Packet {
+    fn default() -> Packet
+        ensures { result ≡ [] }
+    {
         Packet::new()
     }
 }
