@@ -12,7 +12,6 @@ use Rattle.line_advice.specs.Names.{named_at, unknown_from}
 use Rattle.line_advice.specs.declared.blame.Blame.{Blame}
 use Rattle.line_advice.specs.declared.blame.Blame.TheVariants.{First, Count, Form, Range, Unknown, Linked, Styled, Past, Long, Rule}
 use Rattle.line_advice.specs.declared.kind.Kind.{Kind}
-use Rattle.line_advice.specs.declared.kind.Kind.TheVariants as kind
 use Rattle.line_advice.specs.declared.rule.Rule.{Rule as ARule}
 use Rattle.line_advice.specs.declared.rule.Rule.TheVariants as rule
 
@@ -80,12 +79,14 @@ IsUnknown d words _ = ⊥
 
 -- ---- what is there already: of a link the first end that is in another one; else by the kind of the line
 pub record AreLinked (d : Draft) (words : List (List ℕ)) (found : Option ℕ) : Type 0 where
-  pub of_kind : kind_of words ≡ Some kind.Link
+  pub kind : Kind
+  pub of_kind : kind_of words ≡ Some kind
+  pub link : new_rule d kind (behind_first words) ≡ None
   pub first : IsFirstLinked d (behind_first words) found
 
 abbrev pub IsThere : Draft → List (List ℕ) → Blame → Type 0
 IsThere d words (Linked word) = (place : ℕ) × AreLinked d words (Some place) × (word ≡ place + 1)
-IsThere d words (Rule broken kind) = (kind_of words ≡ Some kind) × (broken ≡ new_rule d kind (behind_first words))
+IsThere d words (Rule broken kind) = (kind_of words ≡ Some kind) × (new_rule d kind (behind_first words) ≡ Some broken)
 IsThere d words _ = ⊥
 
 -- ---- a limit that is passed

@@ -18,7 +18,7 @@ use Rattle.line_advice.specs.Names.{is_declared}
 use Rattle.line_advice.specs.declared.breaks.Room.{Room}
 use Rattle.line_advice.specs.declared.breaks.Room.TheVariants.{Capacity, Mtu}
 use Rattle.line_advice.specs.declared.kind.Kind.{Kind}
-use Rattle.line_advice.specs.declared.kind.Kind.TheVariants.{End, StalePath, StaleResv, WildResv, HopBlockade, SenderBlockade, Send, Want, WildWant}
+use Rattle.line_advice.specs.declared.kind.Kind.TheVariants.{End, Link, StalePath, StaleResv, WildResv, HopBlockade, SenderBlockade, Send, Want, WildWant}
 use Rattle.line_advice.specs.declared.named.Named.TheVariants as named
 use Rattle.line_advice.specs.declared.rule.Rule.{Rule}
 use Rattle.line_advice.specs.declared.rule.Rule.TheVariants.{New, NewName, NewAddress, NewSender, WithinLimits, OneSender, FewSenders, FewSessions}
@@ -40,11 +40,13 @@ has_twice (part ∷ parts) = list_any (bytes_eq part) parts || has_twice parts
 abbrev pub new_of_list : List ℕ → Rule
 new_of_list senders = if has_twice (listed senders) then NewSender else New
 
-abbrev pub new_rule : Draft → Kind → List (List ℕ) → Rule
-new_rule d End behind = if is_declared d named.End (word_behind behind 0) then NewName else NewAddress
-new_rule d StaleResv behind = new_of_list (word_behind behind 4)
-new_rule d WildResv behind = new_of_list (word_behind behind 4)
-new_rule d kind behind = New
+-- none of a link, of which one end is
+abbrev pub new_rule : Draft → Kind → List (List ℕ) → Option Rule
+new_rule d End behind = Some (if is_declared d named.End (word_behind behind 0) then NewName else NewAddress)
+new_rule d Link behind = None
+new_rule d StaleResv behind = Some (new_of_list (word_behind behind 4))
+new_rule d WildResv behind = Some (new_of_list (word_behind behind 4))
+new_rule d kind behind = Some New
 
 -- the end of this name is in a link
 abbrev pub IsLinked : Draft → List ℕ → Type 0

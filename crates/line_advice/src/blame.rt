@@ -110,15 +110,13 @@ fn there<B: LinesBefore>(before: &B, words: &[&[u8]]) -> Option<Blame>
     ensures { IfSome result (IsThere (B.lines before.now) (map (λ w. w.now) words.now)) }
 {
     let kind = Kind::of(words)?;
-    match kind {
-        Kind::Link => {
-            let place = first_linked(before, behind_first(words))?;
+    let behind = behind_first(words);
+    match new_rule(before, kind, behind) {
+        Some(rule) => Some(Blame::Rule { rule, kind }),
+        None => {
+            let place = first_linked(before, behind)?;
             Some(Blame::Linked { word: place + 1 })
         }
-        _ => Some(Blame::Rule {
-            rule: new_rule(before, kind, behind_first(words)),
-            kind,
-        }),
     }
 }
 

@@ -62,20 +62,21 @@ fn new_of_list(senders: &[u8]) -> Rule
     Rule::New
 }
 
-/// What of a line that adds what is there already is there.
-pub fn new_rule<B: LinesBefore>(before: &B, kind: Kind, behind: &[&[u8]]) -> Rule
+/// What of a line that adds what is there already is there. `None` exactly for a link, of which one end is.
+pub fn new_rule<B: LinesBefore>(before: &B, kind: Kind, behind: &[&[u8]]) -> Option<Rule>
     ensures { result ≡ new_rule (B.lines before.now) kind (map (λ w. w.now) behind.now) }
 {
     match kind {
         Kind::End => {
             if is_known(before, Some(Named::End), word_behind(behind, 0)) {
-                return Rule::NewName;
+                return Some(Rule::NewName);
             }
-            Rule::NewAddress
+            Some(Rule::NewAddress)
         }
-        Kind::StaleResv => new_of_list(word_behind(behind, 4)),
-        Kind::WildResv => new_of_list(word_behind(behind, 4)),
-        _ => Rule::New,
+        Kind::Link => None,
+        Kind::StaleResv => Some(new_of_list(word_behind(behind, 4))),
+        Kind::WildResv => Some(new_of_list(word_behind(behind, 4))),
+        _ => Some(Rule::New),
     }
 }
 
