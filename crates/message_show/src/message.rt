@@ -1,6 +1,8 @@
 //! The lines of messages.
-ghost use Rattle.std.specs.Prelude.{◌≡◌, ◌++◌, OnOk};
-ghost use Rattle.message_show.specs.PartTexts.{confirm_text, where_there};
+ghost use Rattle.std.specs.Prelude.{◌≡◌, ◌≤◌, ◌<◌, ◌++◌, codes, length, OnOk, OnErr, vec_capacity};
+ghost use Rattle.std.specs.Io.{StartsWith};
+ghost use Rattle.message_show.specs.PartTexts.{confirm_text, hop_text, period_text, where_set, where_there};
+ghost use Rattle.value_texts.specs.Texts.{session_text};
 ghost use Rattle.message_show.specs.MessageText.{message_text, only_sender_text, path_err_text, path_sender_text, path_tear_text, path_text, resv_conf_text, resv_err_text, resv_tear_text, resv_text, words_text};
 
 use crate::parts::{
@@ -14,7 +16,10 @@ use value_texts::{put, put_sender, put_session};
 
 #[tactic(auto, unfolding(crate::specs::MessageText::path_sender_text))]
 fn put_path_sender(out: &mut Vec<u8>, sender: Option<(Sender, Flow)>) -> Result<(), NoMemory>
-    ensures { OnOk result (out.new.items ≡ out.old.items ++ where_there path_sender_text sender) }
+    ensures text { OnOk result (out.new.items ≡ out.old.items ++ where_there path_sender_text sender) }
+    ensures front { OnErr result (StartsWith out.new.items out.old.items) }
+    ensures full { OnErr result (vec_capacity out.old < length (out.old.items ++ where_there path_sender_text sender)) }
+    ensures kept { vec_capacity out.old ≤ vec_capacity out.new }
 {
     let Some(offer) = sender else {
         return Ok(());
@@ -25,7 +30,10 @@ fn put_path_sender(out: &mut Vec<u8>, sender: Option<(Sender, Flow)>) -> Result<
 
 #[tactic(auto, unfolding(crate::specs::MessageText::only_sender_text))]
 fn put_only_sender(out: &mut Vec<u8>, sender: Option<Sender>) -> Result<(), NoMemory>
-    ensures { OnOk result (out.new.items ≡ out.old.items ++ where_there only_sender_text sender) }
+    ensures text { OnOk result (out.new.items ≡ out.old.items ++ where_there only_sender_text sender) }
+    ensures front { OnErr result (StartsWith out.new.items out.old.items) }
+    ensures full { OnErr result (vec_capacity out.old < length (out.old.items ++ where_there only_sender_text sender)) }
+    ensures kept { vec_capacity out.old ≤ vec_capacity out.new }
 {
     let Some(sender) = sender else {
         return Ok(());
@@ -35,7 +43,10 @@ fn put_only_sender(out: &mut Vec<u8>, sender: Option<Sender>) -> Result<(), NoMe
 }
 
 fn put_wish(out: &mut Vec<u8>, confirm: Option<Addr>) -> Result<(), NoMemory>
-    ensures { OnOk result (out.new.items ≡ out.old.items ++ where_there confirm_text confirm) }
+    ensures text { OnOk result (out.new.items ≡ out.old.items ++ where_there confirm_text confirm) }
+    ensures front { OnErr result (StartsWith out.new.items out.old.items) }
+    ensures full { OnErr result (vec_capacity out.old < length (out.old.items ++ where_there confirm_text confirm)) }
+    ensures kept { vec_capacity out.old ≤ vec_capacity out.new }
 {
     match confirm {
         Some(addr) => put_confirm(out, addr),
@@ -43,21 +54,37 @@ fn put_wish(out: &mut Vec<u8>, confirm: Option<Addr>) -> Result<(), NoMemory>
     }
 }
 
-#[tactic(auto, unfolding(crate::specs::MessageText::path_text))]
-fn put_path(out: &mut Vec<u8>, m: &PathMsg) -> Result<(), NoMemory>
-    ensures { OnOk result (out.new.items ≡ out.old.items ++ path_text m.now) }
+// What a Path message says before what it offers.
+fn put_path_head(out: &mut Vec<u8>, m: &PathMsg) -> Result<(), NoMemory>
+    ensures text { OnOk result (out.new.items ≡ out.old.items ++ (codes "Path " ++ session_text m.now.session ++ where_set m.now.police (codes " police") ++ hop_text m.now.hop ++ period_text m.now.period)) }
+    ensures front { OnErr result (StartsWith out.new.items out.old.items) }
+    ensures full { OnErr result (vec_capacity out.old < length (out.old.items ++ (codes "Path " ++ session_text m.now.session ++ where_set m.now.police (codes " police") ++ hop_text m.now.hop ++ period_text m.now.period))) }
+    ensures kept { vec_capacity out.old ≤ vec_capacity out.new }
 {
     put(out, b"Path ")?;
     put_session(out, m.session)?;
     put_where(out, m.police, b" police")?;
     put_hop(out, m.hop)?;
-    put_period(out, m.period)?;
+    put_period(out, m.period)
+}
+
+#[tactic(auto, unfolding(crate::specs::MessageText::path_text))]
+fn put_path(out: &mut Vec<u8>, m: &PathMsg) -> Result<(), NoMemory>
+    ensures text { OnOk result (out.new.items ≡ out.old.items ++ path_text m.now) }
+    ensures front { OnErr result (StartsWith out.new.items out.old.items) }
+    ensures full { OnErr result (vec_capacity out.old < length (out.old.items ++ path_text m.now)) }
+    ensures kept { vec_capacity out.old ≤ vec_capacity out.new }
+{
+    put_path_head(out, m)?;
     put_path_sender(out, m.sender)
 }
 
 #[tactic(auto, unfolding(crate::specs::MessageText::resv_text))]
 fn put_resv(out: &mut Vec<u8>, m: &ResvMsg) -> Result<(), NoMemory>
-    ensures { OnOk result (out.new.items ≡ out.old.items ++ resv_text m.now) }
+    ensures text { OnOk result (out.new.items ≡ out.old.items ++ resv_text m.now) }
+    ensures front { OnErr result (StartsWith out.new.items out.old.items) }
+    ensures full { OnErr result (vec_capacity out.old < length (out.old.items ++ resv_text m.now)) }
+    ensures kept { vec_capacity out.old ≤ vec_capacity out.new }
 {
     put(out, b"Resv ")?;
     put_session(out, m.session)?;
@@ -69,7 +96,10 @@ fn put_resv(out: &mut Vec<u8>, m: &ResvMsg) -> Result<(), NoMemory>
 
 #[tactic(auto, unfolding(crate::specs::MessageText::path_err_text))]
 fn put_path_err(out: &mut Vec<u8>, m: &PathErrMsg) -> Result<(), NoMemory>
-    ensures { OnOk result (out.new.items ≡ out.old.items ++ path_err_text m.now) }
+    ensures text { OnOk result (out.new.items ≡ out.old.items ++ path_err_text m.now) }
+    ensures front { OnErr result (StartsWith out.new.items out.old.items) }
+    ensures full { OnErr result (vec_capacity out.old < length (out.old.items ++ path_err_text m.now)) }
+    ensures kept { vec_capacity out.old ≤ vec_capacity out.new }
 {
     put(out, b"PathErr ")?;
     put_session(out, m.session)?;
@@ -79,7 +109,10 @@ fn put_path_err(out: &mut Vec<u8>, m: &PathErrMsg) -> Result<(), NoMemory>
 
 #[tactic(auto, unfolding(crate::specs::MessageText::resv_err_text))]
 fn put_resv_err(out: &mut Vec<u8>, m: &ResvErrMsg) -> Result<(), NoMemory>
-    ensures { OnOk result (out.new.items ≡ out.old.items ++ resv_err_text m.now) }
+    ensures text { OnOk result (out.new.items ≡ out.old.items ++ resv_err_text m.now) }
+    ensures front { OnErr result (StartsWith out.new.items out.old.items) }
+    ensures full { OnErr result (vec_capacity out.old < length (out.old.items ++ resv_err_text m.now)) }
+    ensures kept { vec_capacity out.old ≤ vec_capacity out.new }
 {
     put(out, b"ResvErr ")?;
     put_session(out, m.session)?;
@@ -90,7 +123,10 @@ fn put_resv_err(out: &mut Vec<u8>, m: &ResvErrMsg) -> Result<(), NoMemory>
 
 #[tactic(auto, unfolding(crate::specs::MessageText::path_tear_text))]
 fn put_path_tear(out: &mut Vec<u8>, m: &PathTearMsg) -> Result<(), NoMemory>
-    ensures { OnOk result (out.new.items ≡ out.old.items ++ path_tear_text m.now) }
+    ensures text { OnOk result (out.new.items ≡ out.old.items ++ path_tear_text m.now) }
+    ensures front { OnErr result (StartsWith out.new.items out.old.items) }
+    ensures full { OnErr result (vec_capacity out.old < length (out.old.items ++ path_tear_text m.now)) }
+    ensures kept { vec_capacity out.old ≤ vec_capacity out.new }
 {
     put(out, b"PathTear ")?;
     put_session(out, m.session)?;
@@ -100,7 +136,10 @@ fn put_path_tear(out: &mut Vec<u8>, m: &PathTearMsg) -> Result<(), NoMemory>
 
 #[tactic(auto, unfolding(crate::specs::MessageText::resv_tear_text))]
 fn put_resv_tear(out: &mut Vec<u8>, m: &ResvTearMsg) -> Result<(), NoMemory>
-    ensures { OnOk result (out.new.items ≡ out.old.items ++ resv_tear_text m.now) }
+    ensures text { OnOk result (out.new.items ≡ out.old.items ++ resv_tear_text m.now) }
+    ensures front { OnErr result (StartsWith out.new.items out.old.items) }
+    ensures full { OnErr result (vec_capacity out.old < length (out.old.items ++ resv_tear_text m.now)) }
+    ensures kept { vec_capacity out.old ≤ vec_capacity out.new }
 {
     put(out, b"ResvTear ")?;
     put_session(out, m.session)?;
@@ -110,7 +149,10 @@ fn put_resv_tear(out: &mut Vec<u8>, m: &ResvTearMsg) -> Result<(), NoMemory>
 
 #[tactic(auto, unfolding(crate::specs::MessageText::resv_conf_text))]
 fn put_resv_conf(out: &mut Vec<u8>, m: &ResvConfMsg) -> Result<(), NoMemory>
-    ensures { OnOk result (out.new.items ≡ out.old.items ++ resv_conf_text m.now) }
+    ensures text { OnOk result (out.new.items ≡ out.old.items ++ resv_conf_text m.now) }
+    ensures front { OnErr result (StartsWith out.new.items out.old.items) }
+    ensures full { OnErr result (vec_capacity out.old < length (out.old.items ++ resv_conf_text m.now)) }
+    ensures kept { vec_capacity out.old ≤ vec_capacity out.new }
 {
     put(out, b"ResvConf ")?;
     put_session(out, m.session)?;
@@ -120,7 +162,10 @@ fn put_resv_conf(out: &mut Vec<u8>, m: &ResvConfMsg) -> Result<(), NoMemory>
 }
 
 fn put_words(out: &mut Vec<u8>, message: &Message) -> Result<(), NoMemory>
-    ensures { OnOk result (out.new.items ≡ out.old.items ++ words_text message.now) }
+    ensures text { OnOk result (out.new.items ≡ out.old.items ++ words_text message.now) }
+    ensures front { OnErr result (StartsWith out.new.items out.old.items) }
+    ensures full { OnErr result (vec_capacity out.old < length (out.old.items ++ words_text message.now)) }
+    ensures kept { vec_capacity out.old ≤ vec_capacity out.new }
 {
     match message {
         Message::Path(m) => put_path(out, m),
@@ -133,11 +178,14 @@ fn put_words(out: &mut Vec<u8>, message: &Message) -> Result<(), NoMemory>
     }
 }
 
-/// Appends the line of a message: its kind, its session, and what its objects say (RFC 2205, 3.1). `NoMemory`: there was
-/// no memory for the text.
+/// Appends the line of a message: its kind, its session, and what its objects say (RFC 2205, 3.1). `NoMemory`: the
+/// room that the text had did not suffice, and there was no memory for more; what was there stands at the front of what is.
 #[tactic(auto, unfolding(crate::specs::MessageText::message_text))]
 pub fn put_message(out: &mut Vec<u8>, message: &Message) -> Result<(), NoMemory>
-    ensures { OnOk result (out.new.items ≡ out.old.items ++ message_text message.now) }
+    ensures text { OnOk result (out.new.items ≡ out.old.items ++ message_text message.now) }
+    ensures front { OnErr result (StartsWith out.new.items out.old.items) }
+    ensures full { OnErr result (vec_capacity out.old < length (out.old.items ++ message_text message.now)) }
+    ensures kept { vec_capacity out.old ≤ vec_capacity out.new }
 {
     put_words(out, message)?;
     put(out, b"\n")

@@ -1,5 +1,6 @@
 //! The lines of bytes that are no message.
-ghost use Rattle.std.specs.Prelude.{◌≡◌, ◌++◌, OnOk};
+ghost use Rattle.std.specs.Prelude.{◌≡◌, ◌≤◌, ◌<◌, ◌++◌, length, OnOk, OnErr, vec_capacity};
+ghost use Rattle.std.specs.Io.{StartsWith};
 ghost use Rattle.message_show.specs.RefusalText.{fault_text, object_fault_text, placed_text, refusal_text, typed_text};
 
 use rsvp_base::NoMemory;
@@ -9,7 +10,10 @@ use value_texts::{put, put_number};
 
 #[tactic(auto, unfolding(crate::specs::RefusalText::placed_text))]
 fn put_placed(out: &mut Vec<u8>, name: &[u8], place: u16) -> Result<(), NoMemory>
-    ensures { OnOk result (out.new.items ≡ out.old.items ++ placed_text name.now place) }
+    ensures text { OnOk result (out.new.items ≡ out.old.items ++ placed_text name.now place) }
+    ensures front { OnErr result (StartsWith out.new.items out.old.items) }
+    ensures full { OnErr result (vec_capacity out.old < length (out.old.items ++ placed_text name.now place)) }
+    ensures kept { vec_capacity out.old ≤ vec_capacity out.new }
 {
     put(out, name)?;
     put(out, b" ")?;
@@ -24,7 +28,10 @@ fn put_typed(
     class: u8,
     ctype: u8,
 ) -> Result<(), NoMemory>
-    ensures { OnOk result (out.new.items ≡ out.old.items ++ typed_text name.now place class ctype) }
+    ensures text { OnOk result (out.new.items ≡ out.old.items ++ typed_text name.now place class ctype) }
+    ensures front { OnErr result (StartsWith out.new.items out.old.items) }
+    ensures full { OnErr result (vec_capacity out.old < length (out.old.items ++ typed_text name.now place class ctype)) }
+    ensures kept { vec_capacity out.old ≤ vec_capacity out.new }
 {
     put_placed(out, name, place)?;
     put(out, b" ")?;
@@ -34,7 +41,10 @@ fn put_typed(
 }
 
 fn put_object_fault(out: &mut Vec<u8>, error: ObjErr) -> Result<(), NoMemory>
-    ensures { OnOk result (out.new.items ≡ out.old.items ++ object_fault_text error) }
+    ensures text { OnOk result (out.new.items ≡ out.old.items ++ object_fault_text error) }
+    ensures front { OnErr result (StartsWith out.new.items out.old.items) }
+    ensures full { OnErr result (vec_capacity out.old < length (out.old.items ++ object_fault_text error)) }
+    ensures kept { vec_capacity out.old ≤ vec_capacity out.new }
 {
     match error {
         ObjErr::Short(place) => put_placed(out, b"Short", place),
@@ -51,7 +61,10 @@ fn put_object_fault(out: &mut Vec<u8>, error: ObjErr) -> Result<(), NoMemory>
 }
 
 fn put_fault(out: &mut Vec<u8>, fault: Fault) -> Result<(), NoMemory>
-    ensures { OnOk result (out.new.items ≡ out.old.items ++ fault_text fault) }
+    ensures text { OnOk result (out.new.items ≡ out.old.items ++ fault_text fault) }
+    ensures front { OnErr result (StartsWith out.new.items out.old.items) }
+    ensures full { OnErr result (vec_capacity out.old < length (out.old.items ++ fault_text fault)) }
+    ensures kept { vec_capacity out.old ≤ vec_capacity out.new }
 {
     match fault {
         Fault::TooLong => put(out, b"TooLong"),
@@ -68,10 +81,13 @@ fn put_fault(out: &mut Vec<u8>, fault: Fault) -> Result<(), NoMemory>
 }
 
 /// Appends the line of bytes that spell no message: the name of their first fault, and its place or class. `NoMemory`:
-/// there was no memory for the text.
+/// the room that the text had did not suffice, and there was no memory for more; what was there stands at the front of what is.
 #[tactic(auto, unfolding(crate::specs::RefusalText::refusal_text))]
 pub fn put_refusal(out: &mut Vec<u8>, fault: Fault) -> Result<(), NoMemory>
-    ensures { OnOk result (out.new.items ≡ out.old.items ++ refusal_text fault) }
+    ensures text { OnOk result (out.new.items ≡ out.old.items ++ refusal_text fault) }
+    ensures front { OnErr result (StartsWith out.new.items out.old.items) }
+    ensures full { OnErr result (vec_capacity out.old < length (out.old.items ++ refusal_text fault)) }
+    ensures kept { vec_capacity out.old ≤ vec_capacity out.new }
 {
     put(out, b"refused ")?;
     put_fault(out, fault)?;
