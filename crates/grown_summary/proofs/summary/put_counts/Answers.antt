@@ -7,5 +7,5 @@ use Rattle.grown_summary.proofs.summary.put_counts.Goals as goal
 pub returns : goal.returns
 unfolding counts_text
 returns c =
-    four_put c.put_number-2.result c.args.out.now.items (codes "booked ends ") (decimal c.args.ends) (codes " entries ") (decimal c.args.entries) c.put.new.out.items c.put_number.new.out.items c.put-2.new.out.items c.put_number-2.new.out.items c.in_ok-put.ensures
-    c.in_ok-put_number.ensures c.in_ok-put-2.ensures c.put_number-2.ensures
+    four_put c.put_number-2.result c.args.out.now.items (codes "booked ends ") (decimal c.args.ends) (codes " entries ") (decimal c.args.entries) c.put.new.out.items c.put_number.new.out.items c.put-2.new.out.items c.put_number-2.new.out.items c.in_ok-put.ensures.text
+    c.in_ok-put_number.ensures.text c.in_ok-put-2.ensures.text c.put_number-2.ensures.text
