@@ -11,19 +11,20 @@ ghost use Rattle.grown_network.specs.Hosts.{session_of};
 ghost use Rattle.grown_player.specs.Playing.{IsPlayed, Plays, no_bytes};
 
 use grown_network::{Wanted, flow_of, session_of};
-use net_replay::{Event, LocalCall, Router, World, WorldErr};
+use net_replay::{Event, LocalCall, Router, Unwatched, Watch, World, WorldErr};
 use script_player::run_event;
 use tree_model::LocalSender;
 
 /// The rate of each sender, in bytes per second.
 const SENT: u64 = 1000;
 
-/// Plays the events of a plan: all send, all want, so many rounds, and a report.
-pub(crate) fn play_plan<R: Router + Drop>(
+/// Plays the events of a plan: all send, all want, so many rounds, and a report. `watch` is told how far the rounds are.
+pub(crate) fn play_plan<R: Router + Drop, W: Watch>(
     world: &mut World<R>,
     senders: &[LocalSender],
     wants: &[Wanted],
     rounds: u32,
+    watch: &mut W,
     out: &mut Vec<u8>,
 ) -> Result<(), WorldErr>
     requires { All (λ w. IsFitCall (WantAs (session_of w.style) w.style w.senders w.flow false)) wants.now }
@@ -32,8 +33,8 @@ pub(crate) fn play_plan<R: Router + Drop>(
 {
     send_all(world, senders, out)?;
     want_all(world, wants, out)?;
-    play(world, &Event::Rounds { times: rounds }, out)?;
-    play(world, &Event::Report { end: None }, out)
+    play(world, &Event::Rounds { times: rounds }, watch, out)?;
+    play(world, &Event::Report { end: None }, watch, out)
 }
 
 // All begin to send.
@@ -66,7 +67,7 @@ fn send<R: Router + Drop>(
             flow: flow_of(SENT),
         },
     };
-    play(world, &event, out)
+    play(world, &event, &mut Unwatched, out)
 }
 
 // All is wanted.
@@ -103,18 +104,19 @@ fn want<R: Router + Drop>(
             confirm: false,
         },
     };
-    play(world, &event, out)
+    play(world, &event, &mut Unwatched, out)
 }
 
 // Plays an event without bytes.
-fn play<R: Router + Drop>(
+fn play<R: Router + Drop, W: Watch>(
     world: &mut World<R>,
     event: &Event,
+    watch: &mut W,
     out: &mut Vec<u8>,
 ) -> Result<(), WorldErr>
     requires fit { IsFitEvent event.now }
     requires read { IsRead event.now no_bytes }
     ensures { (p : Plan) → IsPlayed R.seen p world.old out.old.items → Plays R.seen p (event_with no_bytes event.now ∷ []) result world.new out.new.items }
 {
-    run_event(world, event, out)
+    run_event(world, event, watch, out)
 }

@@ -15,20 +15,21 @@ use crate::playing::play_plan;
 use crate::summing::sum_up;
 use byte_streams::{Sink, write_all};
 use grown_network::{Grown, grow};
-use net_replay::{World, WorldErr};
+use net_replay::{Watch, World, WorldErr};
 use network_run::Ending;
 use script_player::Opens;
 use std::alloc::Global;
 
 /// Grows the network of a seed, runs the events of its plan on routers, and writes the summary of the run to the sink. Where it is
-/// done, `last` holds the network in which the run ended; else it stays empty.
+/// done, `last` holds the network in which the run ended; else it stays empty. `watch` is told how far the rounds are.
 ///
 /// `Crowded` comes before `WriteFault`, and nothing is written then. `NoMemory` may come at any time before the first byte is
 /// written. It does not end otherwise.
-pub fn run_grown<R: Opens, K: Sink>(
+pub fn run_grown<R: Opens, K: Sink, W: Watch>(
     alloc: Global,
     seed: u64,
     sink: &mut K,
+    watch: &mut W,
     last: &mut Option<World<R>>,
 ) -> Ending
     requires { last.old ≡ None }
@@ -38,7 +39,7 @@ pub fn run_grown<R: Opens, K: Sink>(
     // Nothing else ends it where the sink does not fail.
     ensures complete { (wanted : AnEnding) → GrowsTo wanted seed → (wanted ≡ Ending.Done → Rose (K.faults sink.old) (K.faults sink.new) → ⊥) → IsOrNoMemory wanted result }
 {
-    match run_plan::<R>(alloc, seed) {
+    match run_plan::<R, W>(alloc, seed, watch) {
         Ok((world, text)) => match write_all(sink, text.as_slice()) {
             Ok(()) => {
                 *last = Some(world);
@@ -53,7 +54,11 @@ pub fn run_grown<R: Opens, K: Sink>(
 
 // The network in which the run of a seed ended, and its summary. `Crowded`: exactly where the run is crowded. `NoMemory`: memory
 // ran out.
-fn run_plan<R: Opens>(alloc: Global, seed: u64) -> Result<(World<R>, Vec<u8>), WorldErr>
+fn run_plan<R: Opens, W: Watch>(
+    alloc: Global,
+    seed: u64,
+    watch: &mut W,
+) -> Result<(World<R>, Vec<u8>), WorldErr>
     ensures roomy { IfOk result (λ r. is_crowded_run (grown_plan seed) ≡ false) }
     ensures stands { IfOk result (λ r. StandsBehind R.seen r.0 (grown_plan seed)) }
     ensures text { IfOk result (λ r. r.1.items ≡ summary seed) }
@@ -81,6 +86,7 @@ fn run_plan<R: Opens>(alloc: Global, seed: u64) -> Result<(World<R>, Vec<u8>), W
         senders.as_slice(),
         wants.as_slice(),
         rounds,
+        watch,
         &mut report,
     )?;
     let Ok(text) = sum_up(alloc, seed, &world, &expected, report.as_slice()) else {
