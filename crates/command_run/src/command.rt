@@ -32,7 +32,7 @@ use crate::status::Status;
 use crate::task::Task;
 use byte_streams::{Sink, Source};
 use command_words::{NoOrder, Order, read_order};
-use net_replay::World;
+use net_replay::{Watch, World};
 use script_demand::Asks;
 use script_player::Opens;
 use std::alloc::Global;
@@ -42,18 +42,19 @@ use std::alloc::Global;
 /// whether that fits; `show` reads messages as lines of hexadecimal digits and writes a line of words for each; `grow` reads
 /// nothing, grows the network of a seed, runs it and writes a summary of the run, whose last line is `equal yes`. Where a script with
 /// an event was replayed to its end, and where a network was grown and run to its end, `last` holds the network in which the run
-/// ended; else it stays empty. `advice` becomes the text that tells what is wrong with the bad line; where no line is bad, or memory
-/// runs out as it is written, it is empty.
+/// ended; else it stays empty. `watch` is told how far the rounds of a replay or of a growing are: no clause hangs on it. `advice`
+/// becomes the text that tells what is wrong with the bad line; where no line is bad, or memory runs out as it is written, it is empty.
 ///
 /// `Usage` comes first: the words are no command, and nothing is read or written. How a replay ends is said at `replay`, how the
 /// demand of a script ends at `demand`, how showing ends at `show_messages`, and how growing ends at `grow`.
 #[tactic(auto, using(crate::proofs::Replays::never_over, crate::proofs::Keeps::refusals_of, crate::proofs::Keeps::blockades_of, crate::proofs::Replays::replayed_nothing, crate::proofs::Nothing::demanded_nothing, crate::proofs::Nothing::shown_nothing, crate::proofs::Grown::grown_nothing))]
-pub fn run_command<C: Asks + Drop, R: Opens, S: Source, K: Sink>(
+pub fn run_command<C: Asks + Drop, R: Opens, S: Source, K: Sink, W: Watch>(
     alloc: Global,
     words: &Vec<String>,
     checker: C,
     source: &mut S,
     sink: &mut K,
+    watch: &mut W,
     last: &mut Option<World<R>>,
     advice: &mut Vec<u8>,
 ) -> Status
@@ -104,10 +105,12 @@ pub fn run_command<C: Asks + Drop, R: Opens, S: Source, K: Sink>(
 {
     advice.clear();
     match task_of(alloc, words) {
-        Ok(Task::Replay) => replay::<C, R, S, K>(alloc, checker, source, sink, last, advice),
+        Ok(Task::Replay) => {
+            replay::<C, R, S, K, W>(alloc, checker, source, sink, watch, last, advice)
+        }
         Ok(Task::Demand) => demand(alloc, checker, source, sink, advice),
         Ok(Task::Show) => show_messages(alloc, source, sink, advice),
-        Ok(Task::Grow { seed }) => grow(alloc, seed, sink, last),
+        Ok(Task::Grow { seed }) => grow(alloc, seed, sink, watch, last),
         Err(NoOrder::Usage) => Status::Usage,
         Err(NoOrder::NoMemory) => Status::NoMemory,
     }

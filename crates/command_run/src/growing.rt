@@ -12,20 +12,21 @@ use crate::replaying::status_of;
 use crate::status::Status;
 use byte_streams::Sink;
 use grown_player::run_grown;
-use net_replay::World;
+use net_replay::{Watch, World};
 use script_player::Opens;
 use std::alloc::Global;
 
 /// Grows the network of a seed, runs it and writes the summary of the run to the sink. Where it is done, the run reported what is
 /// demanded, the last line of the summary is `equal yes`, and `last` holds the network in which the run ended; else `last` stays
-/// empty.
+/// empty. `watch` is told how far the rounds are.
 ///
 /// `Crowded` comes before `WriteFault`, and nothing is written then. `NoMemory` may come at any time before the first byte is
 /// written.
-pub fn grow<R: Opens, K: Sink>(
+pub fn grow<R: Opens, K: Sink, W: Watch>(
     alloc: Global,
     seed: u64,
     sink: &mut K,
+    watch: &mut W,
     last: &mut Option<World<R>>,
 ) -> Status
     requires { last.old ≡ None }
@@ -37,6 +38,6 @@ pub fn grow<R: Opens, K: Sink>(
     ensures write_fault { result ≡ Status.WriteFault → Rose (K.faults sink.old) (K.faults sink.new) }
     ensures complete { (wanted : AnEnding) → GrowsTo wanted seed → (wanted ≡ ending.Done → Rose (K.faults sink.old) (K.faults sink.new) → ⊥) → IsOrNoMemory (status_of wanted) result }
 {
-    let ending = run_grown::<R, K>(alloc, seed, sink, last);
+    let ending = run_grown::<R, K, W>(alloc, seed, sink, watch, last);
     status_of(ending)
 }

@@ -25,3 +25,6 @@ pub use replaying::{replay, status_of};
 pub use showing::show_messages;
 pub use status::Status;
 pub use task::Task;
+
+// For the callers of `run_command`.
+pub use net_replay::{Unwatched, Watch};

@@ -14,7 +14,7 @@ ghost use Rattle.command_run.specs.Statuses.{IsOrNoMemory, IsReplay, status_of};
 
 use crate::status::Status;
 use byte_streams::{Sink, Source};
-use net_replay::World;
+use net_replay::{Watch, World};
 use network_run::Ending;
 use script_player::{Checks, Opens, run_script};
 use std::alloc::Global;
@@ -35,16 +35,18 @@ pub fn status_of(ending: Ending) -> Status
 }
 
 /// Replays a script of the source: each line is checked and run, and its text written to the sink, before the next is read. Where
-/// it is done and the script has an event, `last` holds the network in which the run ended; else it stays empty. `advice` becomes
-/// the text that tells what is wrong with the bad line; where no line is bad, or memory runs out as it is written, it is empty.
+/// it is done and the script has an event, `last` holds the network in which the run ended; else it stays empty. `watch` is told how
+/// far the rounds of an event are. `advice` becomes the text that tells what is wrong with the bad line; where no line is bad, or
+/// memory runs out as it is written, it is empty.
 ///
 /// At one line these come in this order: `ReadFault` or `TooLong` while it is read, then `BadLine`, then `Crowded`, then
 /// `WriteFault`. `NoMemory`: memory ran out.
-pub fn replay<C: Checks + Drop, R: Opens, S: Source, K: Sink>(
+pub fn replay<C: Checks + Drop, R: Opens, S: Source, K: Sink, W: Watch>(
     alloc: Global,
     checker: C,
     source: &mut S,
     sink: &mut K,
+    watch: &mut W,
     last: &mut Option<World<R>>,
     advice: &mut Vec<u8>,
 ) -> Status
@@ -62,6 +64,6 @@ pub fn replay<C: Checks + Drop, R: Opens, S: Source, K: Sink>(
     ensures healed { result ≡ Status.Done → IfSome (S.left source.old) (λ bytes. IsHealingRun bytes (K.holds sink.old) (K.holds sink.new)) }
     ensures last_report { result ≡ Status.Done → IfSome (S.left source.old) (λ bytes. (d : Draft) → Leads nothing (text_lines bytes) d → EndsInItsDemand d (K.holds sink.old) (K.holds sink.new)) }
 {
-    let ending = run_script::<C, R, S, K>(alloc, checker, source, sink, last, advice);
+    let ending = run_script::<C, R, S, K, W>(alloc, checker, source, sink, watch, last, advice);
     status_of(ending)
 }
