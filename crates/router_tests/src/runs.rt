@@ -3,7 +3,7 @@ use byte_streams::{MemorySink, MemorySource};
 use live_router::LiveRouter;
 use message_show::put_reading;
 use script_checker::Checker;
-use script_player::run_script;
+use script_player::{Unwatched, run_script};
 use std::alloc::Global;
 use std::test::*;
 
@@ -16,11 +16,12 @@ pub fn outcome(alloc: Global, network: &str, events: &str) -> Result<String, Fai
     let mut sink = MemorySink::open(alloc, 4096, Vec::new(alloc), Vec::new(alloc))?;
     let mut last = None;
     let mut advice = Vec::new(alloc);
-    let _ = run_script::<Checker, LiveRouter, MemorySource, MemorySink>(
+    let _ = run_script::<Checker, LiveRouter, MemorySource, MemorySink, Unwatched>(
         alloc,
         Checker::open(alloc)?,
         &mut source,
         &mut sink,
+        &mut Unwatched,
         &mut last,
         &mut advice,
     );
