@@ -2,14 +2,16 @@
 //! shows messages in words; or grows a network from a seed, runs it and writes a summary.
 //!
 //! Its promises are the clauses of `run_command` (`command_run`), which it calls with the checker of scripts, live routers, and
-//! standard input and output.
+//! standard input and output. How far many rounds are it tells on a terminal (`progress`).
 #![tactic(auto)]
 
+mod progress;
 #[cfg(test)]
 mod tests;
 
+use crate::progress::Progress;
 use byte_streams::{Sink, Source, StdSink, StdSource};
-use command_run::{Status, run_command};
+use command_run::{Status, Watch, run_command};
 use live_router::LiveRouter;
 use script_checker::Checker;
 use std::alloc::Global;
@@ -18,14 +20,23 @@ use std::{env, io};
 
 fn main(rt: HostRuntime) -> ExitCode {
     let mut advice = Vec::new(rt.alloc());
+    let mut progress = Progress::open(rt);
     let status = match words(&rt) {
         Ok(words) => {
             let mut source = StdSource::new(rt.stdin());
             let mut sink = StdSink::new(rt.stdout());
-            run(rt.alloc(), &words, &mut source, &mut sink, &mut advice)
+            run(
+                rt.alloc(),
+                &words,
+                &mut source,
+                &mut sink,
+                &mut progress,
+                &mut advice,
+            )
         }
         Err(status) => status,
     };
+    progress.clear();
     // The status tells how the run ended, also where its text cannot be printed.
     let _ = print(&rt, &status, advice.as_slice());
     ExitCode::from(status.code())
@@ -45,18 +56,21 @@ fn words(rt: &HostRuntime) -> Result<Vec<String>, Status> {
 }
 
 // Runs the task of the words over live routers.
-fn run<S: Source, K: Sink>(
+fn run<S: Source, K: Sink, W: Watch>(
     alloc: Global,
     words: &Vec<String>,
     source: &mut S,
     sink: &mut K,
+    watch: &mut W,
     advice: &mut Vec<u8>,
 ) -> Status {
     let Ok(checker) = Checker::open(alloc) else {
         return Status::NoMemory;
     };
     let mut last = None;
-    run_command::<Checker, LiveRouter, S, K>(alloc, words, checker, source, sink, &mut last, advice)
+    run_command::<Checker, LiveRouter, S, K, W>(
+        alloc, words, checker, source, sink, watch, &mut last, advice,
+    )
 }
 
 // Prints the text of a status on standard error, and in a line of its own what is wrong with the bad line.

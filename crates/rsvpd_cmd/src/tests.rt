@@ -1,6 +1,7 @@
 //! Runs over sources and sinks in memory: what no clause says, and the worked rows.
 use crate::run;
 use byte_streams::{MemorySink, MemorySource, PlainSink, PlainSource};
+use command_run::{Unwatched, Watch};
 use std::alloc::{AllocError, Global};
 use std::test::Fail;
 
@@ -301,7 +302,14 @@ fn runs_end_and_write_what_their_words_order(rt: HostRuntime) -> Result<(), Fail
         let mut sink = MemorySink::open(alloc, 1000, Vec::new(alloc), Vec::new(alloc))?;
         let mut advice = Vec::new(alloc);
         let words = words(alloc, list)?;
-        let status = run(alloc, &words, &mut source, &mut sink, &mut advice);
+        let status = run(
+            alloc,
+            &words,
+            &mut source,
+            &mut sink,
+            &mut Unwatched,
+            &mut advice,
+        );
         let shown = format!(in alloc; "{status}")?;
         assert_eq!(rt; status.code(), code);
         assert_eq!(rt; shown.as_str(), told);
@@ -332,6 +340,7 @@ fn a_seed_grows_a_network_that_settles(rt: HostRuntime) -> Result<(), Fail> {
             &words(alloc, list)?,
             &mut source,
             &mut sink,
+            &mut Unwatched,
             &mut advice,
         );
         assert_eq!(rt; status.code(), 0);
@@ -365,10 +374,63 @@ fn failing_devices_are_faults(rt: HostRuntime) -> Result<(), Fail> {
             short.to_vec(alloc)?,
         )?;
         let mut advice = Vec::new(alloc);
-        let status = run(alloc, &words, &mut source, &mut sink, &mut advice);
+        let status = run(
+            alloc,
+            &words,
+            &mut source,
+            &mut sink,
+            &mut Unwatched,
+            &mut advice,
+        );
         assert_eq!(rt; status.code(), code);
         assert!(rt; advice.is_empty());
         assert_eq!(rt; sink.bytes(), text);
+    }
+    Ok(())
+}
+
+// Whoever is told of each round counts them, and keeps what was told last.
+#[derive(Drop)]
+struct Counted {
+    calls: u32,
+    last: (u32, u32, u64),
+}
+
+impl Watch for Counted {
+    fn rounds_done(&mut self, done: u32, all: u32, delivered: u64) {
+        self.calls = self.calls.saturating_add(1);
+        self.last = (done, all, delivered);
+    }
+}
+
+#[test]
+fn each_round_is_told_of(rt: HostRuntime) -> Result<(), Fail> {
+    let alloc = rt.alloc();
+    let replay: &[&str] = &["replay"];
+    let grow: &[&str] = &["grow", "--seed", "1"];
+    // The deliveries of the seed are those of its summary.
+    for (list, rounds, delivered) in [(replay, 48, 0), (grow, 192, 362_944)] {
+        let mut source = MemorySource::new(ONE_RECEIVER.to_vec(alloc)?, Vec::new(alloc), 4096);
+        let mut sink = PlainSink::new();
+        let mut counted = Counted {
+            calls: 0,
+            last: (0, 0, 0),
+        };
+        let mut advice = Vec::new(alloc);
+        let words = words(alloc, list)?;
+        let status = run(
+            alloc,
+            &words,
+            &mut source,
+            &mut sink,
+            &mut counted,
+            &mut advice,
+        );
+        assert_eq!(rt; status.code(), 0);
+        assert_eq!(rt; counted.calls, rounds);
+        let (done, all, told) = counted.last;
+        assert_eq!(rt; (done, all), (rounds, rounds));
+        assert!(rt; told >= delivered);
     }
     Ok(())
 }
@@ -381,7 +443,14 @@ fn too_many_line_feeds_are_too_long(rt: HostRuntime) -> Result<(), Fail> {
         let mut source = PlainSource::new(vec![in alloc; b'\n'; bytes]?);
         let mut sink = PlainSink::new();
         let mut advice = Vec::new(alloc);
-        let status = run(alloc, &words, &mut source, &mut sink, &mut advice);
+        let status = run(
+            alloc,
+            &words,
+            &mut source,
+            &mut sink,
+            &mut Unwatched,
+            &mut advice,
+        );
         assert_eq!(rt; status.code(), want, "at {bytes} bytes");
     }
     Ok(())
