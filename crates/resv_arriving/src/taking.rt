@@ -1,5 +1,5 @@
 //! A Resv arrives.
-ghost use Rattle.std.specs.Prelude.{◌≡◌, ◌≤◌, ◌<◌, ℕ, true, false, length, map};
+ghost use Rattle.std.specs.Prelude.{◌≡◌, ◌≤◌, ◌<◌, ℕ, [], true, false, length, map, None};
 ghost use Rattle.rsvp_base.specs.Sets.{is_none};
 ghost use Rattle.rsvp_base.specs.Styles.{name_of};
 ghost use Rattle.rsvp_base.specs.Table.{empty, has};
@@ -9,6 +9,7 @@ ghost use Rattle.router_rules.specs.Asking.{act_resv, ask_of, asked_of, heard_of
 ghost use Rattle.router_rules.specs.Asking.{Asker as AskerOf, asker_of as asker_of_rule};
 ghost use Rattle.router_rules.specs.Facts.{with_resvs};
 ghost use Rattle.router_rules.specs.NodeConfig.{NodeConfig};
+ghost use Rattle.router_rules.specs.declared.answers.Heard.TheVariants as heard;
 ghost use Rattle.node_facts.specs.State.{Said, facts_of};
 ghost use Rattle.node_tables.specs.Whole.{ArePulled, IsBooked, IsOfPlace, state_of};
 ghost use Rattle.resv_taking.specs.Units.{asker_at, refusal_of};
@@ -37,7 +38,9 @@ pub struct Answer {
 
 impl Answer {
     /// Nothing yet.
-    pub fn new() -> Answer {
+    pub fn new() -> Answer
+        ensures { result ≡ record { done = record { errors = []; left_out = false; parts = empty; news = false }; heard = heard.Taken; taken = None } }
+    {
         Answer {
             done: Taken::new(),
             heard: Heard::Taken,
