@@ -1,8 +1,7 @@
 -- The senders by one interface and hop, a fact more at a time.
-use Rattle.std.proofs.Common.{◌≡◌, ◌<◌, ◌≤◌, ◌+◌, ◌++◌, ◌||◌, ℕ, zero, suc, Bool, true, false, cond, List, [], ◌∷◌, length, map as each, take, Option, Some, None, Bor, refl, sym, ap, ◌∙◌, arith}
+use Rattle.std.proofs.Common.{◌≡◌, ◌<◌, ◌≤◌, ◌+◌, ◌++◌, ◌||◌, ℕ, zero, suc, Bool, true, false, cond, List, [], ◌∷◌, length, map as each, take, Some, refl, sym, ap, ◌∙◌, arith}
 use Rattle.std.specs.Prelude.{slice_get, if◌then◌else◌}
 use Rattle.std.specs.List.{filter, list_any}
-use Rattle.std.specs.Option.{option_map, option_copied}
 use Rattle.std.specs.Ordering.{eq_by_cmp}
 use Rattle.std.proofs.lemmas.List.{length-map, length-take}
 use Rattle.rsvp_base.specs.Orders.{senders, Names, names_from}
@@ -11,7 +10,7 @@ use Rattle.rsvp_base.specs.Table.{has, size}
 use Rattle.rsvp_base.specs.declared.addr.Addr.{Addr}
 use Rattle.rsvp_base.specs.declared.session.Sender.{Sender}
 use Rattle.rsvp_base.proofs.Counts.{has-set_of, size-set_of}
-use Rattle.rsvp_base.proofs.Fronts.{front_more, front_all}
+use Rattle.rsvp_base.proofs.Fronts.{front_more}
 use Rattle.rsvp_base.proofs.Lists.{length_filter}
 use Rattle.rsvp_base.proofs.SetLaws.{same_set, has-with_key, size-with_key}
 use Rattle.rsvp_base.proofs.Tables.{either}
@@ -51,40 +50,18 @@ senders_last i a (x ∷ es) e = by (comes_by i a x.1.0) (comes_by i a e.1.0) (se
     by false true rest = rest
     by false false rest = rest
 
-none_next : {A : Type 0} (xs : List A) (k : ℕ) → slice_get xs k ≡ None → slice_get xs (suc k) ≡ None
-none_next [] k e = refl
-none_next (y ∷ ys) zero e = cc
-none_next (y ∷ ys) (suc k) e = none_next ys k e
-
-copied_some : (r : Option (Bor PathFact)) (o : Option Row) (f : Bor PathFact) → r ≡ Some f → option_copied r ≡ option_map (λ e. e.1.0) o → (e : Row) × (o ≡ Some e) × (e.1.0 ≡ f.now)
-copied_some r None f is e = let z : Some f.now ≡ None = ap option_copied (sym is) ∙ e in absurd (cc)
-copied_some r (Some x) f is e = let z : Some f.now ≡ Some x.1.0 = ap option_copied (sym is) ∙ e in let y : f.now ≡ x.1.0 = cc in (x, refl, sym y)
-
-copied_none : (r : Option (Bor PathFact)) (o : Option Row) → r ≡ None → option_copied r ≡ option_map (λ e. e.1.0) o → o ≡ None
-copied_none r None is e = refl
-copied_none r (Some x) is e = let z : None ≡ Some x.1.0 = ap option_copied (sym is) ∙ e in absurd (cc)
-
-module _ (i : ℕ) (a : Addr) (us : List Row) (k : ℕ) (r : Option (Bor PathFact)) (read : option_copied r ≡ option_map (λ (e : Row). e.1.0) (slice_get us k)) where
-  pub via_more : (f : Bor PathFact) (old new : Names) → r ≡ Some f → old ≡ names_from (senders_by i a (take k us)) → new ≡ if comes_by i a f.now then with_key old f.now.sender else old → new ≡ names_from (senders_by i a (take (k + 1) us))
-  via_more f old new is so_far next =
-      let e = copied_some r (slice_get us k) f is read in
-      let xs = senders_by i a (take k us) in
-      let after : names_from (senders_by i a (take (k + 1) us)) ≡ if comes_by i a f.now then with_key old f.now.sender else old =
-      ap (λ es. names_from (senders_by i a es)) (front_more us k e.0 e.1) ∙ ap names_from (senders_last i a (take k us) e.0)
-      ∙ ap (λ (g : PathFact). names_from (if comes_by i a g then (xs ++ g.sender ∷ []) else xs)) e.2 ∙ by (comes_by i a f.now) in
-      next ∙ sym after
-    where
-      by : (b : Bool) → names_from (if b then (senders_by i a (take k us) ++ f.now.sender ∷ []) else senders_by i a (take k us)) ≡ if b then with_key old f.now.sender else old
-      by true = names_last (senders_by i a (take k us)) f.now.sender ∙ ap (λ (n : Names). with_key n f.now.sender) (sym so_far)
-      by false = sym so_far
-
-  pub via_past : (old : Names) → r ≡ None → old ≡ names_from (senders_by i a (take k us)) → old ≡ names_from (senders_by i a (take (k + 1) us))
-  via_past old is so_far =
-      let none = copied_none r (slice_get us k) is read in
-      so_far ∙ ap (λ es. names_from (senders_by i a es)) (front_all us k none ∙ sym (front_all us (suc k) (none_next us k none)) ∙ ap (λ n. take n us) one_on)
-    where
-      one_on : suc k ≡ k + 1
-      one_on = omega arith
+pub via_more : (i : ℕ) (a : Addr) (us : List Row) (k : ℕ) (f : PathFact) (e : Row) → slice_get us k ≡ Some e → e.1.0 ≡ f → (old new : Names) → old ≡ names_from (senders_by i a (take k us))
+    → new ≡ if comes_by i a f then with_key old f.sender else old → new ≡ names_from (senders_by i a (take (k + 1) us))
+via_more i a us k f e at fact old new so_far next =
+    let xs = senders_by i a (take k us) in
+    let after : names_from (senders_by i a (take (k + 1) us)) ≡ if comes_by i a f then with_key old f.sender else old =
+    ap (λ es. names_from (senders_by i a es)) (front_more us k e at) ∙ ap names_from (senders_last i a (take k us) e)
+    ∙ ap (λ (g : PathFact). names_from (if comes_by i a g then (xs ++ g.sender ∷ []) else xs)) fact ∙ by (comes_by i a f) in
+    next ∙ sym after
+  where
+    by : (b : Bool) → names_from (if b then (senders_by i a (take k us) ++ f.sender ∷ []) else senders_by i a (take k us)) ≡ if b then with_key old f.sender else old
+    by true = names_last (senders_by i a (take k us)) f.sender ∙ ap (λ (n : Names). with_key n f.sender) (sym so_far)
+    by false = sym so_far
 
 pub via_few : (i : ℕ) (a : Addr) (us : List Row) (k : ℕ) (old : Names) (s : Sender) → k < 16 → old ≡ names_from (senders_by i a (take k us)) → size (with_key old s) ≤ 16
 via_few i a us k old s lt so_far =

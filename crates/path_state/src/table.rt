@@ -116,13 +116,7 @@ impl PathTable {
     pub fn senders_via(&self, session: Session, iface: u8, addr: Addr) -> Senders
         ensures { result ≡ via self.now.facts session iface addr }
     {
-        let mut found = Senders::new();
-        for k in 0..SENDERS {
-            if let Some(fact) = self.table.at(session, k) {
-                add_via(&mut found, fact, iface, addr);
-            }
-        }
-        found
+        walks::senders_via(&self.table, session, iface, addr)
     }
 
     /// The previous hops of a session: the interface and the hop address of each of its facts.
@@ -174,17 +168,5 @@ impl PathTable {
         ensures { self.new ≡ record { facts = empty; dead = empty } }
     {
         self.table.clear();
-    }
-}
-
-// One sender more, if its fact has this interface and this hop address.
-fn add_via(found: &mut Senders, fact: &PathFact, iface: u8, addr: Addr)
-    requires { size (with_key found.old fact.now.sender) ≤ 16 }
-    ensures { found.new ≡ if comes_by iface addr fact.now then with_key found.old fact.now.sender else found.old }
-{
-    if fact.iface == iface && fact.hop.addr == addr {
-        let Ok(()) = found.insert(fact.sender) else {
-            unreachable!();
-        };
     }
 }

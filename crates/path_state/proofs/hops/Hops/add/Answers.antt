@@ -1,4 +1,4 @@
-use Rattle.std.specs.Prelude.{is_some, map as each, ◌≡◌, ◌<◌, true, false}
+use Rattle.std.specs.Prelude.{is_some, map as each, ◌≡◌, ◌<◌, false}
 use Rattle.std.proofs.Common.{sym, ap, refl, ◌∙◌, ◌+◌, arith, length, cond, lit<}
 use Rattle.rsvp_base.specs.Table.{has, put_in, same_rows, size}
 use Rattle.rsvp_base.proofs.Rows.{are_rows, put_new, size_rows}

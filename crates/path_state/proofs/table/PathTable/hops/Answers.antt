@@ -1,4 +1,4 @@
-use Rattle.std.proofs.Common.{◌≤◌, length, ap, ◌∙◌}
+use Rattle.std.proofs.Common.{ap, ◌∙◌}
 use Rattle.rsvp_base.specs.Orders.{sessions, senders}
 use Rattle.rsvp_base.specs.Under.{under}
 use Rattle.path_state.specs.Paths.{PathMap, hops_by}
