@@ -1,7 +1,8 @@
 //! The table of lanes.
 ghost use Rattle.std.specs.Prelude.{◌≡◌, ◌≤◌, ◌<◌, ◌↔◌, [], false, IsTrue, IfOk, length};
+ghost use Rattle.std.specs.Option.{option_copied};
 ghost use Rattle.rsvp_base.specs.Rows.{AreRows};
-ghost use Rattle.rsvp_base.specs.Table.{empty, has, size};
+ghost use Rattle.rsvp_base.specs.Table.{empty, get, has, size};
 ghost use Rattle.lane_state.specs.Lanes.{lane_at, lane_places, sent_row, said_at, told};
 
 use crate::lane::Sent;
@@ -61,6 +62,16 @@ impl LaneTable {
         match self.table.find(session, (style, hop)) {
             Some(sent) => sent.parts.copy(),
             None => Parts::new(),
+        }
+    }
+
+    /// The parts that went there last, in place. `None` exactly where there were none.
+    pub fn find(&self, session: Session, style: StyleKind, hop: (u8, Addr)) -> Option<&Parts>
+        ensures { option_copied result ≡ get self.now (lane_at (session, (style, hop))) }
+    {
+        match self.table.find(session, (style, hop)) {
+            Some(sent) => Some(&sent.parts),
+            None => None,
         }
     }
 
