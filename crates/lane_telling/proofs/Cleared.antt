@@ -1,8 +1,8 @@
 -- Lanes that are cleared, one after another.
-use Rattle.std.specs.Prelude.{◌≡◌, ◌==◌, ℕ, nat_lt, Bool, true, false, cond, is_some, length, suc, take, slice_index_or, ◌<◌, ◌+◌, List, [], ◌∷◌, ◌++◌, Option, Some, None, refl}
+use Rattle.std.specs.Prelude.{◌≡◌, ◌==◌, ℕ, Bool, true, false, cond, is_some, length, suc, take, slice_index_or, ◌<◌, ◌+◌, List, [], ◌∷◌, ◌++◌, Option, Some, None, refl}
 use Rattle.std.specs.FinMap.Entries.{find}
-use Rattle.std.specs.Option.{unwrap_or}
-use Rattle.std.proofs.Common.{sym, ap, subst, inl, inr, ◌∙◌, arith, ⊎_elim}
+use Rattle.std.specs.Option.{option_copied}
+use Rattle.std.proofs.Common.{Bor, sym, ap, subst, inl, inr, ◌∙◌, arith, ⊎_elim}
 use Rattle.std.proofs.lemmas.Bool.{eqb-true}
 use Rattle.path_state.specs.Paths.{AreByKey}
 use Rattle.path_state.specs.Paths.{via as kept_via}
@@ -28,7 +28,7 @@ use Rattle.node_tables.specs.Whole.{state_of}
 use Rattle.node_tables.specs.declared.tables.Tables.{Tables}
 use Rattle.rsvp_base.specs.declared.style.StyleKind.{StyleKind}
 use Rattle.lane_telling.proofs.Listed.{lanes_more}
-use Rattle.lane_telling.specs.Rounds.{IsFull, cleared_of, lanes_of}
+use Rattle.lane_telling.specs.Rounds.{cleared_of, lanes_of}
 
 -- ---- sets with nobody, and with somebody
 none_has : (names : Names) → is_none names ≡ true → (x : Sender) → has names x ≡ true → ⊥
@@ -82,24 +82,18 @@ pub cleared_all : (t : Tables) (s : Session) (hops : List NextHop) (first one tw
 cleared_all t s hops first one two last a b c = both_cleared t s (lanes_of Wild hops) (lanes_of Fixed hops ++ lanes_of Shared hops) first one last a (both_cleared t s (lanes_of Fixed hops) (lanes_of Shared hops) one two last b c)
 
 -- ---- what is forgotten of a lane
-module _ (said : Said) (l : Lane) where
-  -- a lane to which nothing was said has nothing to forget
-  pub forgets_none : IsFull said → size (said_at said l) ≡ 0 → said ≡ told_at said l empty
-  forgets_none full none = sym (without_absent lane_keys said l (by (get said l) refl))
-    where
-      by : (w : Option PartTable) → get said l ≡ w → get said l ≡ None
-      by None e = e
-      by (Some t) e =
-          let n : size t ≡ 0 = sym (ap (λ v. size (unwrap_or v empty)) e) ∙ none in
-          let z : false ≡ true = sym (ap (nat_lt 0) n) ∙ full l t e in
-          absurd (cc)
+-- found in place
+pub copied_there : {A : Type 0} (r : Option (Bor A)) → is_some (option_copied r) ≡ is_some r
+copied_there None = refl
+copied_there (Some x) = refl
 
-  pub is_kept : (size (said_at said l) ≡ 0 → ⊥) → has said l ≡ false → ⊥
-  is_kept some off = by (get said l) refl off
-    where
-      by : (w : Option PartTable) → get said l ≡ w → is_some w ≡ false → ⊥
-      by None e o = some (ap (λ v. size (unwrap_or v empty)) e)
-      by (Some t) e o = cc
+-- a lane to which nothing was said has nothing to forget
+pub forgets_none : (said : Said) (l : Lane) → has said l ≡ false → said ≡ told_at said l empty
+forgets_none said l off = sym (without_absent lane_keys said l (by (get said l) off))
+  where
+    by : (w : Option PartTable) → is_some w ≡ false → w ≡ None
+    by None e = refl
+    by (Some t) e = cc
 
 -- a step of a loop over the hops
 module _ (t : Tables) (first : Said) (s : Session) (st : StyleKind) (list : List NextHop) (i : ℕ) (d : NextHop) (h : i < length list) (said : Said) (done : IsCleared (state_of t first) s (lanes_of st (take i list)) said) where

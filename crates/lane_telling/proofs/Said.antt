@@ -4,11 +4,12 @@ use Rattle.std.proofs.Common.{sym, ap, ◌∙◌}
 use Rattle.std.proofs.lemmas.Bool.{eqb-true}
 use Rattle.rsvp_base.specs.Orders.{Names}
 use Rattle.rsvp_base.specs.Sets.{cut, is_none}
-use Rattle.rsvp_base.specs.Table.{size}
+use Rattle.rsvp_base.specs.Table.{empty, size}
 use Rattle.rsvp_base.specs.declared.addr.Addr.{Addr}
 use Rattle.rsvp_base.specs.declared.hop.Hop.{Hop}
 use Rattle.rsvp_base.specs.declared.session.Session.{Session}
 use Rattle.rsvp_base.specs.declared.style.StyleKind.{StyleKind}
+use Rattle.rsvp_base.specs.declared.style.StyleKind.TheVariants.{Wild, Fixed, Shared}
 use Rattle.rsvp_base.proofs.Tables.{either}
 use Rattle.rsvp_messages.specs.declared.ask.Ask.{Ask}
 use Rattle.rsvp_messages.specs.declared.ask.Tear.{Tear}
@@ -112,3 +113,9 @@ module _ (c : ℕ) (n : State) (s : Session) (st : StyleKind) (hop : NextHop) wh
       told_is new is =
           let new_is : new ≡ not (same_parts was (toward_at c n s st hop)) = is ∙ ap (λ v. not (same_parts was v)) goes in
           λ i. told_ask n.place (facts_of c n) lane asked (new_is i) due (ask_of st (goes i))
+
+-- ---- no parts ask for nothing
+pub nothing_asked : (st : StyleKind) → ask_of st empty ≡ None
+nothing_asked Wild = refl
+nothing_asked Fixed = refl
+nothing_asked Shared = refl

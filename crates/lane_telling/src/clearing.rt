@@ -18,7 +18,7 @@ fn forget_lane(said: &mut LaneTable, session: Session, style: StyleKind, hop: (u
     requires { IsFull said.old }
     ensures { said.new ≡ told said.old (lane_at (session, (style, hop))) empty }
 {
-    if !said.said(session, style, hop).is_empty() {
+    if said.find(session, style, hop).is_some() {
         said.tell(session, style, hop, Parts::new());
     }
 }

@@ -142,6 +142,8 @@ pub(crate) fn refresh_lane<O: Outbox>(
 )
     ensures { (c : ℕ) (any : Said) → out.new ≡ fold O.posted out.old (renewed_seen c (state_of tables.now any) (lane_at (session, (style, hop))) (said_at said.now (lane_at (session, (style, hop))))) }
 {
-    let was = said.said(session, style, hop);
-    tell_ask(tables, session, style, hop, &was, None, true, out);
+    let Some(was) = said.find(session, style, hop) else {
+        return;
+    };
+    tell_ask(tables, session, style, hop, was, None, true, out);
 }
