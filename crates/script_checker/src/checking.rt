@@ -20,9 +20,9 @@ use script_words::Unread;
 const USUAL_SEED: u64 = 1;
 
 impl LinesBefore for Checker {
-    ghost use Rattle.script_checker.specs.Checked.{draft_of};
+    ghost use Rattle.script_checker.specs.Checked.{draft_of as draft_so_far};
 
-    ghost lines = { draft_of };
+    ghost lines = { draft_so_far };
 
     fn period(&self) -> u32 {
         self.state.refresh_period()
