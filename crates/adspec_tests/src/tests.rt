@@ -1,7 +1,6 @@
 //! An ADSPEC byte by byte, and contents that are none.
-use adspec_object::{Adspec, put_adspec, read, write};
+use object_fields::{Adspec, Packet, read_adspec, write_adspec};
 use rsvp_base::{Peak, Rate};
-use rsvp_objects::Packet;
 use std::test::Fail;
 
 // 1 hop, 10,000 bytes per second, 100 microseconds, an MTU of 1,500 bytes; controlled load, and an empty fragment of service 2.
@@ -16,12 +15,12 @@ fn changed(at: usize, byte: u8) -> Option<Adspec> {
     if let Some(place) = bytes.get_mut(at) {
         *place = byte;
     }
-    read(&bytes[4..])
+    read_adspec(&bytes[4..])
 }
 
 #[test]
 fn the_object_is_read(rt: HostRuntime) -> Result<(), Fail> {
-    let adspec = read(&OBJECT[4..]).ok_or("an ADSPEC")?;
+    let adspec = read_adspec(&OBJECT[4..]).ok_or("an ADSPEC")?;
     assert!(rt; !adspec.broken);
     assert_eq!(rt; adspec.hops, 1);
     assert_eq!(rt;
@@ -40,26 +39,10 @@ fn the_object_is_read(rt: HostRuntime) -> Result<(), Fail> {
 
 #[test]
 fn it_is_written_as_it_was(rt: HostRuntime) -> Result<(), Fail> {
-    let adspec = read(&OBJECT[4..]).ok_or("an ADSPEC")?;
+    let adspec = read_adspec(&OBJECT[4..]).ok_or("an ADSPEC")?;
     let mut packet = Packet::new();
-    write(&adspec, &mut packet).map_err(|_| "room")?;
+    write_adspec(&adspec, &mut packet).map_err(|_| "room")?;
     assert_eq!(rt; packet.bytes(), OBJECT.as_slice());
-    Ok(())
-}
-
-#[test]
-fn it_is_shown(rt: HostRuntime) -> Result<(), Fail> {
-    let mut out = Vec::new(rt.alloc());
-    let adspec = read(&OBJECT[4..]).ok_or("an ADSPEC")?;
-    put_adspec(&mut out, &adspec).map_err(|_| "memory")?;
-    let broken = changed(9, 0x80).ok_or("a broken path")?;
-    put_adspec(&mut out, &broken).map_err(|_| "memory")?;
-    let load = changed(45, 0x80).ok_or("no controlled load")?;
-    put_adspec(&mut out, &load).map_err(|_| "memory")?;
-    let text = b"adspec hops 1 rate 10000 latency 100 mtu 1500 cl ok\
-adspec hops 1 rate 10000 latency 100 mtu 1500 broken cl ok\
-adspec hops 1 rate 10000 latency 100 mtu 1500 cl broken";
-    assert_eq!(rt; out.as_slice(), text.as_slice());
     Ok(())
 }
 
@@ -67,7 +50,7 @@ adspec hops 1 rate 10000 latency 100 mtu 1500 cl broken";
 fn what_is_cut_is_none(rt: HostRuntime) {
     let contents = &OBJECT[4..];
     for size in 0..contents.len() {
-        assert!(rt; read(&contents[..size]).is_none());
+        assert!(rt; read_adspec(&contents[..size]).is_none());
     }
 }
 
@@ -103,7 +86,7 @@ fn bits_that_are_not_named_are_not_looked_at(rt: HostRuntime) -> Result<(), Fail
     for at in [4, 5, 9, 13, 21, 29, 37, 45] {
         let adspec = changed(at, 0x01).ok_or("an ADSPEC")?;
         let mut packet = Packet::new();
-        write(&adspec, &mut packet).map_err(|_| "room")?;
+        write_adspec(&adspec, &mut packet).map_err(|_| "room")?;
         assert_eq!(rt; packet.bytes(), OBJECT.as_slice());
     }
     Ok(())

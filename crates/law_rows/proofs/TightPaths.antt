@@ -77,8 +77,19 @@ said_told (Some x) (Some y) t =
     let flow = flow_told x.1 y.1 both.1 in
     λ i. Some (who i, flow i)
 
+-- a value is there on neither side
+abbrev are_none : {A : Type 0} → Option A → Option A → Bool
+are_none None None = true
+are_none _ _ = false
+
+none_told : {A : Type 0} (a b : Option A) → are_none a b ≡ true → a ≡ b
+none_told None None t = refl
+none_told None (Some y) t = absurd (cc)
+none_told (Some x) None t = absurd (cc)
+none_told (Some x) (Some y) t = absurd (cc)
+
 abbrev same_path : PathMsg → PathMsg → Bool
-same_path m n = is_session m.session n.session && (same_flag m.police n.police && (is_addr m.hop.addr n.hop.addr && ((m.hop.handle == n.hop.handle) && ((m.period == n.period) && same_said m.sender n.sender))))
+same_path m n = is_session m.session n.session && (same_flag m.police n.police && (is_addr m.hop.addr n.hop.addr && ((m.hop.handle == n.hop.handle) && ((m.period == n.period) && (same_said m.sender n.sender && are_none m.adspec n.adspec)))))
 
 path_told : (m n : PathMsg) → same_path m n ≡ true → m ≡ n
 path_told m n t =
@@ -86,14 +97,16 @@ path_told m n t =
     let b = and_both (same_flag m.police n.police) _ a.1 in
     let c = and_both (is_addr m.hop.addr n.hop.addr) _ b.1 in
     let d = and_both (m.hop.handle == n.hop.handle) _ c.1 in
-    let e = and_both (m.period == n.period) (same_said m.sender n.sender) d.1 in
+    let e = and_both (m.period == n.period) _ d.1 in
+    let f = and_both (same_said m.sender n.sender) (are_none m.adspec n.adspec) e.1 in
     let of_session = session_told m.session n.session a.0 in
     let flag = flag_told m.police n.police b.0 in
     let addr = addr_told m.hop.addr n.hop.addr c.0 in
     let handle = same_number m.hop.handle n.hop.handle d.0 in
     let period = same_number m.period n.period e.0 in
-    let said = said_told m.sender n.sender e.1 in
-    λ i. record { session = of_session i; police = flag i; hop = record { addr = addr i; handle = handle i }; period = period i; sender = said i }
+    let said = said_told m.sender n.sender f.0 in
+    let advert = none_told m.adspec n.adspec f.1 in
+    λ i. record { session = of_session i; police = flag i; hop = record { addr = addr i; handle = handle i }; period = period i; sender = said i; adspec = advert i }
 
 abbrev path_as : PathMsg → Message → Bool
 path_as m (message.Path n) = same_path m n

@@ -1,4 +1,5 @@
 pub mod PartTexts
+pub mod AdspecText
 pub mod MessageText
 pub mod RefusalText
 pub mod Readings

@@ -12,6 +12,7 @@ use Rattle.rsvp_messages.specs.declared.message.ResvErrMsg.{ResvErrMsg}
 use Rattle.rsvp_messages.specs.declared.message.ResvMsg.{ResvMsg}
 use Rattle.rsvp_messages.specs.declared.message.ResvTearMsg.{ResvTearMsg}
 use Rattle.value_texts.specs.Texts.{sender_text, session_text}
+use Rattle.message_show.specs.AdspecText.{adspec_text}
 use Rattle.message_show.specs.PartTexts.{where_set, where_there, hop_text, period_text, confirm_text, error_text, offer_text, ask_text, tear_text, blame_text}
 
 -- sender SENDER FLOW
@@ -23,7 +24,7 @@ unfoldable pub only_sender_text : Sender → List ℕ
 only_sender_text s = codes " sender " ++ sender_text s
 
 unfoldable pub path_text : PathMsg → List ℕ
-path_text m = codes "Path " ++ session_text m.session ++ where_set m.police (codes " police") ++ hop_text m.hop ++ period_text m.period ++ where_there path_sender_text m.sender
+path_text m = codes "Path " ++ session_text m.session ++ where_set m.police (codes " police") ++ hop_text m.hop ++ period_text m.period ++ where_there path_sender_text m.sender ++ where_there adspec_text m.adspec
 
 unfoldable pub resv_text : ResvMsg → List ℕ
 resv_text m = codes "Resv " ++ session_text m.session ++ hop_text m.hop ++ period_text m.period ++ where_there confirm_text m.confirm ++ ask_text m.ask

@@ -1,10 +1,12 @@
 //! The lines of messages.
 ghost use Rattle.std.specs.Prelude.{◌≡◌, ◌≤◌, ◌<◌, ◌++◌, codes, length, OnOk, OnErr, vec_capacity};
 ghost use Rattle.std.specs.Io.{StartsWith};
+ghost use Rattle.message_show.specs.AdspecText.{adspec_text};
 ghost use Rattle.message_show.specs.PartTexts.{confirm_text, hop_text, period_text, where_set, where_there};
 ghost use Rattle.value_texts.specs.Texts.{session_text};
 ghost use Rattle.message_show.specs.MessageText.{message_text, only_sender_text, path_err_text, path_sender_text, path_tear_text, path_text, resv_conf_text, resv_err_text, resv_tear_text, resv_text, words_text};
 
+use crate::adspec::put_adspec;
 use crate::parts::{
     put_ask, put_blame, put_confirm, put_error, put_hop, put_offer, put_period, put_tear, put_where,
 };
@@ -12,6 +14,7 @@ use rsvp_base::{Addr, Flow, NoMemory, Sender};
 use rsvp_messages::{
     Message, PathErrMsg, PathMsg, PathTearMsg, ResvConfMsg, ResvErrMsg, ResvMsg, ResvTearMsg,
 };
+use rsvp_objects::Adspec;
 use value_texts::{put, put_sender, put_session};
 
 #[tactic(auto, unfolding(crate::specs::MessageText::path_sender_text))]
@@ -40,6 +43,18 @@ fn put_only_sender(out: &mut Vec<u8>, sender: Option<Sender>) -> Result<(), NoMe
     };
     put(out, b" sender ")?;
     put_sender(out, sender)
+}
+
+fn put_advert(out: &mut Vec<u8>, adspec: &Option<Adspec>) -> Result<(), NoMemory>
+    ensures text { OnOk result (out.new.items ≡ out.old.items ++ where_there adspec_text adspec.now) }
+    ensures front { OnErr result (StartsWith out.new.items out.old.items) }
+    ensures full { OnErr result (vec_capacity out.old < length (out.old.items ++ where_there adspec_text adspec.now)) }
+    ensures kept { vec_capacity out.old ≤ vec_capacity out.new }
+{
+    match adspec {
+        Some(adspec) => put_adspec(out, adspec),
+        None => Ok(()),
+    }
 }
 
 fn put_wish(out: &mut Vec<u8>, confirm: Option<Addr>) -> Result<(), NoMemory>
@@ -76,7 +91,8 @@ fn put_path(out: &mut Vec<u8>, m: &PathMsg) -> Result<(), NoMemory>
     ensures kept { vec_capacity out.old ≤ vec_capacity out.new }
 {
     put_path_head(out, m)?;
-    put_path_sender(out, m.sender)
+    put_path_sender(out, m.sender)?;
+    put_advert(out, &m.adspec)
 }
 
 #[tactic(auto, unfolding(crate::specs::MessageText::resv_text))]

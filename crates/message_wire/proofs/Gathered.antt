@@ -5,7 +5,7 @@ use Rattle.std.specs.List.{list_any}
 use Rattle.std.proofs.lemmas.List.{append-nil}
 use Rattle.rsvp_base.specs.TokenBucket.{TokenBucket}
 use Rattle.rsvp_objects.specs.declared.object.Object.{Object}
-use Rattle.message_wire.specs.Said.{session_said, hop_said, period_said, error_said, scope_said, style_said, template_said, tspec_said, confirm_said, flow_said, ends_with_flow, or_else, last_said, is_on, filter_with, filters_after, is_object, is_adspec, seen_of, with_object}
+use Rattle.message_wire.specs.Said.{session_said, hop_said, period_said, error_said, scope_said, style_said, template_said, tspec_said, advert_said, confirm_said, flow_said, ends_with_flow, or_else, last_said, is_on, filter_with, filters_after, is_object, is_adspec, seen_of, with_object}
 
 pub or_assoc : {A : Type 0} (a b c : Option A) → or_else (or_else a b) c ≡ or_else a (or_else b c)
 or_assoc (Some x) b c = refl
@@ -58,6 +58,7 @@ seen_more xs x =
       template = last_more template_said xs x i;
       tspec = last_more tspec_said xs x i;
       adspec = any_more is_adspec xs x i;
+      advert = last_more advert_said xs x i;
       confirm = last_more confirm_said xs x i;
       flow = last_more flow_said xs x i;
       due = (ap is_on (last_more ends_with_flow xs x) ∙ on_more (ends_with_flow x) (last_said ends_with_flow xs)) i;

@@ -99,6 +99,7 @@ other_class s (object.FlowOf a) n one e = rw (or_false s.adspec) refl
 other_class s (object.Filter a) n one e = rw (or_false s.adspec) refl
 other_class s (object.Template a) n one e = rw (e, or_false s.adspec) refl
 other_class s (object.Tspec a) n one e = rw (e, or_false s.adspec) refl
+other_class s (object.Advert a) n one e = rw e refl
 other_class s (object.Confirm a) n one e =
     both_sides (n == 1) _ _ _ _ (λ _. refl) (λ e1.
     both_sides (n == 3) _ _ _ _ (λ _. refl) (λ e2.
@@ -225,6 +226,7 @@ no_name_fault s (object.StyleOf a) new at = refl
 no_name_fault s (object.FlowOf a) new at = refl
 no_name_fault s (object.Template a) new at = refl
 no_name_fault s (object.Tspec a) new at = refl
+no_name_fault s (object.Advert a) new at = refl
 no_name_fault s (object.Confirm a) new at = refl
 no_name_fault s (object.Skipped a) new at = refl
 
@@ -281,6 +283,7 @@ few_more s (object.StyleOf a) at e n = no_more_filters s n
 few_more s (object.FlowOf a) at e n = no_more_filters s n
 few_more s (object.Template a) at e n = no_more_filters s n
 few_more s (object.Tspec a) at e n = no_more_filters s n
+few_more s (object.Advert a) at e n = no_more_filters s n
 few_more s (object.Confirm a) at e n = no_more_filters s n
 few_more s (object.Skipped a) at e n = no_more_filters s n
 

@@ -38,7 +38,7 @@ there P n None x p e = absurd cc
 -- what holds of a message of each kind that is made of these parts
 pub record HoldsByParts (P : Message → Type 0) (s : Seen) : Type 0 where
   pub path : (x : Session × Bool) (h : Hop) (t : ℕ) (o : Option (Sender × TokenBucket)) → needed 1 s.session ≡ good x → needed 3 s.hop ≡ good h → needed 5 s.period ≡ good t → sender_of s.template s.tspec ≡ good o
-      → P (message.Path (record { session = x.0; police = x.1; hop = h; period = t; sender = o }))
+      → P (message.Path (record { session = x.0; police = x.1; hop = h; period = t; sender = o; adspec = s.advert }))
   pub resv : (x : Session × Bool) (h : Hop) (t : ℕ) (k : StyleKind) (f : TokenBucket) (a : Ask) → needed 1 s.session ≡ good x → needed 3 s.hop ≡ good h → needed 5 s.period ≡ good t → needed 9 s.flow ≡ good f → ask_of s.scope s.due s.filters f k ≡ good a
       → P (message.Resv (record { session = x.0; hop = h; period = t; confirm = s.confirm; ask = a }))
   pub path_err : (x : Session × Bool) (e : ErrSpec) → needed 1 s.session ≡ good x → needed 6 s.error ≡ good e → P (message.PathErr (record { session = x.0; err = e; sender = s.template }))

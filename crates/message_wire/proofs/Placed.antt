@@ -5,12 +5,14 @@ use Rattle.rsvp_objects.specs.declared.object.Object.{Object}
 use Rattle.rsvp_objects.specs.declared.object.Object.TheVariants as object
 use Rattle.rsvp_objects.specs.declared.obj_err.ObjErr.{ObjErr}
 use Rattle.rsvp_objects.specs.declared.head.Head.{Head}
-use Rattle.rsvp_objects.specs.Proper.{class_of, AreBytes, IsProper}
+use Rattle.rsvp_objects.specs.Fields.{AreBytes}
+use Rattle.rsvp_objects.specs.Proper.{class_of, IsProper}
 use Rattle.rsvp_objects.specs.Reading as reading
 use Rattle.rsvp_objects.specs.Reading.{head_of, body_of, contents_at}
 use Rattle.rsvp_objects.proofs.Again.{by_its_head}
 use Rattle.rsvp_objects.proofs.ReadProper.{what_is_read_is_proper}
-use Rattle.rsvp_objects.proofs.Classes.{chosen, objects_have_their_class}
+use Rattle.rsvp_objects.proofs.Choices.{chosen}
+use Rattle.rsvp_objects.proofs.Classes.{objects_have_their_class}
 use Rattle.rsvp_messages.specs.declared.fault.Fault.{Fault}
 use Rattle.rsvp_messages.specs.declared.message.Kind.{Kind}
 use Rattle.message_wire.specs.declared.seen.Seen.{Seen}

@@ -14,10 +14,12 @@ use Rattle.rsvp_base.proofs.Lists.{has_keys}
 use Rattle.rsvp_base.proofs.Members.{in_tied}
 use Rattle.rsvp_base.proofs.SetLaws.{size-with_rows}
 use Rattle.rsvp_base.proofs.Tables.{got_put_in, size-put_in}
+use Rattle.rsvp_objects.specs.ObjectFields.AdspecLaws.{IsAdspec}
 use Rattle.rsvp_objects.specs.declared.object.Object.{Object}
 use Rattle.rsvp_objects.specs.declared.object.Object.TheVariants as object
 use Rattle.rsvp_objects.specs.Proper as objects
-use Rattle.rsvp_objects.specs.Proper.{IsSource, AreBytes}
+use Rattle.rsvp_objects.specs.Fields.{AreBytes}
+use Rattle.rsvp_objects.specs.Proper.{IsSource}
 use Rattle.rsvp_messages.specs.declared.ask.Ask.{Ask}
 use Rattle.rsvp_messages.specs.declared.ask.Blame.{Blame}
 use Rattle.rsvp_messages.specs.declared.ask.Tear.{Tear}
@@ -29,7 +31,7 @@ use Rattle.message_wire.specs.declared.seen.Seen.{Seen}
 use Rattle.message_wire.specs.Laws.{WhatIsSpeltIsProper}
 use Rattle.message_wire.specs.Messages.{needed, sender_of, names_in, named, first_named, pairs_in, table_of_pairs, fixed_of, ask_of, tear_of, blame_of}
 use Rattle.message_wire.specs.Places.{Stand}
-use Rattle.message_wire.specs.Said.{scope_said, tspec_said, flow_said, or_else, last_said, filter_with, filters_after, seen_of}
+use Rattle.message_wire.specs.Said.{scope_said, tspec_said, advert_said, flow_said, or_else, last_said, filter_with, filters_after, seen_of}
 use Rattle.message_wire.proofs.Made.{gave, there, HoldsByParts, by_parts}
 use Rattle.message_wire.proofs.Placed.{placed, placed_has}
 use Rattle.message_wire.proofs.Spelling.{says_of}
@@ -37,11 +39,12 @@ use Rattle.message_wire.proofs.Standing.{good, good_is}
 
 -- ---- objects
 
--- a scope that it says names addresses alone, and a flow is sound
+-- a scope that it says names addresses alone, a flow is sound, and an ADSPEC can be written
 record IsSaid (x : Object) : Type 0 where
   scope : WhereThere IsScope (scope_said x)
   flow : WhereThere IsSound (flow_said x)
   tspec : WhereThere IsSound (tspec_said x)
+  advert : WhereThere IsAdspec (advert_said x)
 
 member_is : (P : Sender → Type 0) (xs : List Sender) (s : Sender) → AllByRecursion P xs → In s xs → P s
 member_is P [] s h i = absurd i
@@ -52,22 +55,23 @@ scope_is : (names : Names) → AllByRecursion IsSource (keys names) → IsScope 
 scope_is names h = λ s e. (member_is IsSource (keys names) s h (in_tied senders s (keys names) (sym (has_keys names s) ∙ e))).port
 
 said_is : (x : Object) → objects.IsProper x → IsSaid x
-said_is (object.Session s police) h = record { scope = tt; flow = tt; tspec = tt }
-said_is (object.HopOf x) h = record { scope = tt; flow = tt; tspec = tt }
-said_is (object.Time n) h = record { scope = tt; flow = tt; tspec = tt }
-said_is (object.Error e) h = record { scope = tt; flow = tt; tspec = tt }
-said_is (object.Scope names) h = record { scope = scope_is names h.sources; flow = tt; tspec = tt }
-said_is (object.StyleOf k) h = record { scope = tt; flow = tt; tspec = tt }
-said_is (object.FlowOf f) h = record { scope = tt; flow = h.sound; tspec = tt }
-said_is (object.Filter s) h = record { scope = tt; flow = tt; tspec = tt }
-said_is (object.Template s) h = record { scope = tt; flow = tt; tspec = tt }
-said_is (object.Tspec f) h = record { scope = tt; flow = tt; tspec = h.sound }
-said_is (object.Confirm a) h = record { scope = tt; flow = tt; tspec = tt }
-said_is (object.Skipped n) h = record { scope = tt; flow = tt; tspec = tt }
+said_is (object.Session s police) h = record { scope = tt; flow = tt; tspec = tt; advert = tt }
+said_is (object.HopOf x) h = record { scope = tt; flow = tt; tspec = tt; advert = tt }
+said_is (object.Time n) h = record { scope = tt; flow = tt; tspec = tt; advert = tt }
+said_is (object.Error e) h = record { scope = tt; flow = tt; tspec = tt; advert = tt }
+said_is (object.Scope names) h = record { scope = scope_is names h.sources; flow = tt; tspec = tt; advert = tt }
+said_is (object.StyleOf k) h = record { scope = tt; flow = tt; tspec = tt; advert = tt }
+said_is (object.FlowOf f) h = record { scope = tt; flow = h.sound; tspec = tt; advert = tt }
+said_is (object.Filter s) h = record { scope = tt; flow = tt; tspec = tt; advert = tt }
+said_is (object.Template s) h = record { scope = tt; flow = tt; tspec = tt; advert = tt }
+said_is (object.Tspec f) h = record { scope = tt; flow = tt; tspec = h.sound; advert = tt }
+said_is (object.Advert a) h = record { scope = tt; flow = tt; tspec = tt; advert = h }
+said_is (object.Confirm a) h = record { scope = tt; flow = tt; tspec = tt; advert = tt }
+said_is (object.Skipped n) h = record { scope = tt; flow = tt; tspec = tt; advert = tt }
 
 all_said : (kind : Kind) (b : List ℕ) (before : List Object) (at : ℕ) (xs : List Object) (end : ℕ) → AreBytes b → Stand kind b before at xs end → AllByRecursion IsSaid xs
 all_said kind b before at [] end bytes s = tt
-all_said kind b before at (x ∷ xs) end bytes s = (placed_has IsSaid (λ n. record { scope = tt; flow = tt; tspec = tt }) said_is kind (seen_of before) at b x bytes (placed kind (seen_of before) at b x s.0 s.1), all_said kind b (before ++ x ∷ []) s.0 xs end bytes s.2)
+all_said kind b before at (x ∷ xs) end bytes s = (placed_has IsSaid (λ n. record { scope = tt; flow = tt; tspec = tt; advert = tt }) said_is kind (seen_of before) at b x bytes (placed kind (seen_of before) at b x s.0 s.1), all_said kind b (before ++ x ∷ []) s.0 xs end bytes s.2)
 
 -- ---- what they say together
 
@@ -101,6 +105,7 @@ filter_each f (object.StyleOf k) h = tt
 filter_each f (object.FlowOf g) h = tt
 filter_each f (object.Template s) h = tt
 filter_each f (object.Tspec g) h = tt
+filter_each f (object.Advert a) h = tt
 filter_each f (object.Confirm a) h = tt
 filter_each f (object.Skipped n) h = tt
 
@@ -112,6 +117,7 @@ filters_each f (x ∷ xs) p h = all_join HasSound (filter_with f x) (filters_aft
 record IsSeenProper (s : Seen) : Type 0 where
   scope : WhereThere IsScope s.scope
   tspec : WhereThere IsSound s.tspec
+  advert : WhereThere IsAdspec s.advert
   flow : WhereThere IsSound s.flow
   filters : AllByRecursion HasSound s.filters
 
@@ -120,6 +126,7 @@ seen_proper xs h =
     record {
       scope = last_is IsScope scope_said (λ x h. h.scope) xs h;
       tspec = last_is IsSound tspec_said (λ x h. h.tspec) xs h;
+      advert = last_is IsAdspec advert_said (λ x h. h.advert) xs h;
       flow = last_is IsSound flow_said (λ x h. h.flow) xs h;
       filters = filters_each None xs tt h;
     }
@@ -216,7 +223,7 @@ sender_proper None None o h e = subst (WhereThere HasSoundFlow) (good_is e) tt
 made_proper : (s : Seen) → IsSeenProper s → HoldsByParts IsProper s
 made_proper s h =
     record {
-      path = λ x hop t o _ _ _ sent. sender_proper s.template s.tspec o h.tspec sent;
+      path = λ x hop t o _ _ _ sent. (sender_proper s.template s.tspec o h.tspec sent, h.advert);
       resv = λ x hop t k f a _ _ _ flow asked. ask_proper s.scope s.due s.filters f k a h.scope h.filters (there IsSound 9 s.flow f h.flow flow) asked;
       path_err = λ x e _ _. tt;
       resv_err = λ x hop e k b _ _ _ blamed. blame_proper s.scope s.filters s.flow k b h.scope h.flow blamed;

@@ -11,14 +11,17 @@ use Rattle.rsvp_base.specs.declared.session.Sender.{Sender}
 use Rattle.rsvp_base.specs.declared.session.Session.{Session}
 use Rattle.rsvp_base.specs.declared.style.StyleKind.{StyleKind}
 use Rattle.rsvp_base.specs.TokenBucket.{TokenBucket}
+use Rattle.rsvp_objects.specs.ObjectFields.declared.adspec.Adspec.{Adspec}
 use Rattle.rsvp_objects.specs.declared.class.Class.{Class}
 use Rattle.rsvp_objects.specs.declared.head.Head.{Head}
 use Rattle.rsvp_objects.specs.declared.object.Object.{Object}
 use Rattle.rsvp_objects.specs.declared.obj_err.ObjErr.{ObjErr}
 use Rattle.rsvp_objects.specs.Classes.{is_skipped, class_with}
-use Rattle.rsvp_objects.specs.Proper.{AreBytes, class_of}
+use Rattle.rsvp_objects.specs.Fields.{AreBytes}
+use Rattle.rsvp_objects.specs.Proper.{class_of}
 use Rattle.rsvp_objects.specs.Reading.{head_of, by_class, body_of, contents_at}
-use Rattle.rsvp_objects.proofs.Classes.{chosen, objects_have_their_class}
+use Rattle.rsvp_objects.proofs.Choices.{chosen}
+use Rattle.rsvp_objects.proofs.Classes.{objects_have_their_class}
 use Rattle.rsvp_messages.specs.declared.ask.Ask.{Ask}
 use Rattle.rsvp_messages.specs.declared.ask.Blame.{Blame}
 use Rattle.rsvp_messages.specs.declared.ask.Tear.{Tear}
@@ -173,7 +176,7 @@ means xs kind.Path v e =
     let hop = gave _ (needed 3 s.hop) v who.rest in
     let period = gave _ (needed 5 s.period) v hop.rest in
     let sender = gave _ (sender_of s.template s.tspec) v period.rest in
-    subst (IsMade xs kind.Path) (good_is sender.rest) (refl, record { session = given 1 s.session who.value who.was; hop = given 3 s.hop hop.value hop.was; period = given 5 s.period period.value period.was; sender = sender.was })
+    subst (IsMade xs kind.Path) (good_is sender.rest) (refl, record { session = given 1 s.session who.value who.was; hop = given 3 s.hop hop.value hop.was; period = given 5 s.period period.value period.was; sender = sender.was; adspec = refl })
 means xs kind.Resv v e =
     let s = seen_of xs in
     let who = gave _ (needed 1 s.session) v e in
@@ -252,10 +255,10 @@ means xs kind.ResvConf v e =
 
 -- ---- and the other way round
 
-path_made : (s : Seen) (x : Session × Bool) (h : Hop) (t : ℕ) (o : Option (Sender × TokenBucket)) → s.session ≡ Some x → s.hop ≡ Some h → s.period ≡ Some t → sender_of s.template s.tspec ≡ good o
-    → message_of kind.Path s ≡ good (message.Path (record { session = x.0; police = x.1; hop = h; period = t; sender = o }))
+path_made : (s : Seen) (x : Session × Bool) (h : Hop) (t : ℕ) (o : Option (Sender × TokenBucket)) (a : Option Adspec) → s.session ≡ Some x → s.hop ≡ Some h → s.period ≡ Some t → sender_of s.template s.tspec ≡ good o → s.advert ≡ a
+    → message_of kind.Path s ≡ good (message.Path (record { session = x.0; police = x.1; hop = h; period = t; sender = o; adspec = a }))
 unfolding message_of path_of
-path_made s x h t o e1 e2 e3 e4 = rw (e1, e2, e3, e4) refl
+path_made s x h t o a e1 e2 e3 e4 e5 = rw (e1, e2, e3, e4, e5) refl
 
 resv_made : (s : Seen) (x : Session × Bool) (h : Hop) (t : ℕ) (c : Option Addr) (k : StyleKind) (f : TokenBucket) (a : Ask) → s.session ≡ Some x → s.hop ≡ Some h → s.period ≡ Some t → s.confirm ≡ c → s.style ≡ Some k → s.flow ≡ Some f → ask_of s.scope s.due s.filters f k ≡ good a
     → message_of kind.Resv s ≡ good (message.Resv (record { session = x.0; hop = h; period = t; confirm = c; ask = a }))
@@ -286,7 +289,7 @@ unfolding message_of resv_conf_of
 resv_conf_made s x e k f a c e1 e2 e3 e4 e5 e6 = rw (e1, e2, e3, e4, e5, e6) refl
 
 made : (xs : List Object) (v : Message) → Means xs v → message_of (kind_of v) (seen_of xs) ≡ good v
-made xs (message.Path m) h = path_made (seen_of xs) (m.session, m.police) m.hop m.period m.sender h.session h.hop h.period h.sender
+made xs (message.Path m) h = path_made (seen_of xs) (m.session, m.police) m.hop m.period m.sender m.adspec h.session h.hop h.period h.sender h.adspec
 made xs (message.Resv m) h = resv_made (seen_of xs) (m.session, h.session.0) m.hop m.period m.confirm h.asks.0 h.asks.2 m.ask h.session.1 h.hop h.period h.confirm h.asks.1 h.asks.3 h.asks.4
 made xs (message.PathErr m) h = path_err_made (seen_of xs) (m.session, h.session.0) m.err m.sender h.session.1 h.error h.sender
 made xs (message.ResvErr m) h = resv_err_made (seen_of xs) (m.session, h.session.0) m.hop m.err h.blames.0 m.blame h.session.1 h.hop h.error h.blames.1 h.blames.2

@@ -10,7 +10,8 @@ use Rattle.rsvp_base.specs.declared.style.StyleKind.TheVariants.{Wild, Fixed, Sh
 use Rattle.rsvp_objects.specs.declared.object.Object.{Object}
 use Rattle.rsvp_objects.specs.declared.object.Object.TheVariants as object
 use Rattle.rsvp_objects.specs.Classes.{is_skipped}
-use Rattle.rsvp_objects.specs.Proper.{class_of, AreBytes, IsProper}
+use Rattle.rsvp_objects.specs.Fields.{AreBytes}
+use Rattle.rsvp_objects.specs.Proper.{class_of, IsProper}
 use Rattle.rsvp_objects.specs.declared.obj_err.ObjErr.TheVariants.{Crowd}
 use Rattle.rsvp_messages.specs.declared.fault.Fault.{Fault}
 use Rattle.rsvp_messages.specs.declared.fault.Fault.TheVariants as fault
@@ -45,6 +46,7 @@ name_anywhere at s (object.StyleOf a) e p = refl
 name_anywhere at s (object.FlowOf a) e p = refl
 name_anywhere at s (object.Template a) e p = refl
 name_anywhere at s (object.Tspec a) e p = refl
+name_anywhere at s (object.Advert a) e p = refl
 name_anywhere at s (object.Confirm a) e p = refl
 name_anywhere at s (object.Skipped a) e p = refl
 
@@ -84,6 +86,7 @@ begun_by_style (object.FlowOf a ∷ xs) k e = refl
 begun_by_style (object.Filter a ∷ xs) k e = refl
 begun_by_style (object.Template a ∷ xs) k e = refl
 begun_by_style (object.Tspec a ∷ xs) k e = refl
+begun_by_style (object.Advert a ∷ xs) k e = refl
 begun_by_style (object.Confirm a ∷ xs) k e = refl
 begun_by_style (object.Skipped n ∷ xs) k e =
     let rest = begun_by_style xs k (or_nothing (last_said style_said xs) k e) in
@@ -244,6 +247,7 @@ now_stood k s (object.FlowOf a) h e = absurd (no_flowspec k e)
 now_stood k s (object.Filter a) h e = absurd (no_filter_spec k e)
 now_stood k s (object.Template a) h e = refl
 now_stood k s (object.Tspec a) h e = refl
+now_stood k s (object.Advert a) h e = or_true s.adspec
 now_stood k s (object.Confirm a) h e = refl
 now_stood k s (object.Skipped m) h e = skipped_kept s m h.skipped (is_kept k m e)
 

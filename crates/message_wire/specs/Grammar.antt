@@ -43,7 +43,7 @@ use Rattle.rsvp_messages.specs.declared.message.ResvTearMsg.{ResvTearMsg}
 use Rattle.rsvp_messages.specs.Kinds.{kind_of}
 use Rattle.message_wire.specs.Messages.{sender_of, ask_of, tear_of, blame_of}
 use Rattle.message_wire.specs.Places.{is_named, read_in}
-use Rattle.message_wire.specs.Said.{session_said, hop_said, period_said, error_said, scope_said, style_said, template_said, tspec_said, confirm_said, flow_said, ends_with_flow, last_said, is_on, filters_after, is_object}
+use Rattle.message_wire.specs.Said.{session_said, hop_said, period_said, error_said, scope_said, style_said, template_said, tspec_said, advert_said, confirm_said, flow_said, ends_with_flow, last_said, is_on, filters_after, is_object}
 use Rattle.message_wire.specs.Table.{integrity, flowspec, filter_spec, role_of, may_stand, stands_once, is_anywhere}
 
 -- ---- which objects stand in bytes
@@ -121,6 +121,7 @@ pub record IsPath (xs : List Object) (m : PathMsg) : Type 0 where
   pub hop : SaysOf hop_said xs m.hop
   pub period : SaysOf period_said xs m.period
   pub sender : sender_of (last_said template_said xs) (last_said tspec_said xs) ≡ Ok m.sender
+  pub adspec : last_said advert_said xs ≡ m.adspec
 
 -- what a list of a style asks for
 abbrev pub Asks : List Object → Option Names → Ask → Type 0

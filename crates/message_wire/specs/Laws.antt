@@ -9,7 +9,8 @@ use Rattle.rsvp_messages.specs.Proper.{IsProper}
 use Rattle.rsvp_messages.specs.declared.message.Kind.{Kind}
 use Rattle.rsvp_objects.specs.declared.object.Object.{Object}
 use Rattle.rsvp_objects.specs.declared.object.Object.TheVariants as object
-use Rattle.rsvp_objects.specs.Proper.{AreBytes, class_of}
+use Rattle.rsvp_objects.specs.Fields.{AreBytes}
+use Rattle.rsvp_objects.specs.Proper.{class_of}
 use Rattle.message_wire.specs.Grammar.{how_many, IsInGrammar}
 use Rattle.message_wire.specs.Places.{place_after_style, has_place, is_repeated, is_named, name_fault, Stand}
 use Rattle.message_wire.specs.Said.{style_said, last_said, filters_after, is_object, seen_of}

@@ -109,7 +109,7 @@ path_of s = do
   hop ← needed rsvp_hop s.hop
   period ← needed time_values s.period
   sender ← sender_of s.template s.tspec
-  Ok (message.Path (record { session = who.0; police = who.1; hop = hop; period = period; sender = sender }))
+  Ok (message.Path (record { session = who.0; police = who.1; hop = hop; period = period; sender = sender; adspec = s.advert }))
 
 unfoldable pub resv_of : Seen → Result Message Fault
 resv_of s = do

@@ -9,6 +9,7 @@ use Rattle.rsvp_base.specs.declared.session.Session.{Session}
 use Rattle.rsvp_base.specs.declared.style.StyleKind.{StyleKind}
 use Rattle.rsvp_base.specs.Orders.{Names}
 use Rattle.rsvp_base.specs.TokenBucket.{TokenBucket}
+use Rattle.rsvp_objects.specs.ObjectFields.declared.adspec.Adspec.{Adspec}
 use Rattle.rsvp_objects.specs.declared.object.Object.{Object}
 use Rattle.rsvp_objects.specs.declared.object.Object.TheVariants as object
 use Rattle.rsvp_objects.specs.Proper.{class_of}
@@ -48,6 +49,10 @@ template_said _ = None
 abbrev pub tspec_said : Object → Option TokenBucket
 tspec_said (object.Tspec f) = Some f
 tspec_said _ = None
+
+abbrev pub advert_said : Object → Option Adspec
+advert_said (object.Advert a) = Some a
+advert_said _ = None
 
 abbrev pub confirm_said : Object → Option Addr
 confirm_said (object.Confirm a) = Some a
@@ -107,6 +112,7 @@ seen_of xs =
       template = last_said template_said xs;
       tspec = last_said tspec_said xs;
       adspec = list_any is_adspec xs;
+      advert = last_said advert_said xs;
       confirm = last_said confirm_said xs;
       flow = last_said flow_said xs;
       due = is_on (last_said ends_with_flow xs);
@@ -127,6 +133,7 @@ with_object s x =
       template = or_else (template_said x) s.template;
       tspec = or_else (tspec_said x) s.tspec;
       adspec = s.adspec || is_adspec x;
+      advert = or_else (advert_said x) s.advert;
       confirm = or_else (confirm_said x) s.confirm;
       flow = or_else (flow_said x) s.flow;
       due = is_on (or_else (ends_with_flow x) (Some s.due));

@@ -25,6 +25,7 @@ impl Seen {
             template: None,
             tspec: None,
             adspec: false,
+            advert: None,
             confirm: None,
             flow: None,
             due: false,
@@ -85,6 +86,11 @@ impl Seen {
             Object::Tspec(flow) => {
                 self.begun = true;
                 self.tspec = Some(flow);
+            }
+            Object::Advert(adspec) => {
+                self.begun = true;
+                self.adspec = true;
+                self.advert = Some(adspec);
             }
             Object::Confirm(addr) => {
                 self.begun = true;

@@ -11,6 +11,7 @@ use rsvp_messages::{
     Ask, Blame, Fault, FixedList, Kind, Message, PathErrMsg, PathMsg, PathTearMsg, ResvConfMsg,
     ResvErrMsg, ResvMsg, ResvTearMsg, Tear,
 };
+use rsvp_objects::Adspec;
 
 /// The message of all objects, or the lowest class that is missing.
 #[tactic(auto, unfolding(crate::specs::Messages::message_of))]
@@ -42,6 +43,7 @@ fn path(seen: &Seen) -> Result<Message, Fault>
         hop,
         period,
         sender,
+        adspec: advert(&seen.advert),
     }))
 }
 
@@ -152,6 +154,15 @@ fn copied(scope: &Option<Senders>) -> Option<Senders>
     match scope {
         None => None,
         Some(senders) => Some(senders.copy()),
+    }
+}
+
+fn advert(said: &Option<Adspec>) -> Option<Adspec>
+    ensures { result ≡ said.now }
+{
+    match said {
+        None => None,
+        Some(adspec) => Some(adspec.copy()),
     }
 }
 

@@ -1,6 +1,7 @@
 //! What was read so far.
 use crate::filters::Filters;
 use rsvp_base::{Addr, ErrSpec, Flow, Hop, Sender, Senders, Session, StyleKind};
+use rsvp_objects::Adspec;
 
 /// What the objects so far say.
 #[derive(Drop)]
@@ -16,8 +17,10 @@ pub struct Seen {
     pub style: Option<StyleKind>,
     pub template: Option<Sender>,
     pub tspec: Option<Flow>,
-    /// An ADSPEC stood.
+    /// An ADSPEC stood, of whatever form.
     pub adspec: bool,
+    /// What it says, where it is of its form.
+    pub advert: Option<Adspec>,
     pub confirm: Option<Addr>,
     /// The last FLOWSPEC.
     pub flow: Option<Flow>,

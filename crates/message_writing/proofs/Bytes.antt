@@ -7,14 +7,15 @@ use Rattle.rsvp_base.specs.declared.style.StyleKind.TheVariants.{Wild, Fixed, Sh
 use Rattle.rsvp_base.specs.declared.flow.Peak.TheVariants.{Finite}
 use Rattle.rsvp_base.specs.Table.{keys}
 use Rattle.rsvp_base.specs.TokenBucket.{TokenBucket}
+use Rattle.rsvp_objects.specs.ObjectFields.declared.adspec.Adspec.{Adspec}
+use Rattle.rsvp_objects.specs.ObjectFields.Spelling.{behind, parameter, general_bytes, adspec_bytes}
 use Rattle.rsvp_objects.specs.declared.object.Object.{Object}
 use Rattle.rsvp_objects.specs.declared.object.Object.TheVariants as object
 use Rattle.rsvp_objects.specs.Contents.{session_bytes, hop_bytes, error_bytes, scope_bytes, source_bytes, style_number, style_bytes, sender_bytes, in_place, not_guilty, e_police}
-use Rattle.rsvp_objects.specs.Fields.{half, word, flag_if}
+use Rattle.rsvp_objects.specs.Fields.{AreBytes, half, word, flag_if, spelt}
 use Rattle.rsvp_objects.specs.FlowWords.{controlled_load, general, flow_bytes}
-use Rattle.rsvp_objects.specs.Proper.{AreBytes}
 use Rattle.rsvp_objects.specs.RateWord.{word_of}
-use Rattle.rsvp_objects.specs.Spelling.{spelt, spelling}
+use Rattle.rsvp_objects.specs.Spelling.{spelling}
 use Rattle.rsvp_messages.specs.declared.message.Kind.{Kind}
 use Rattle.rsvp_messages.specs.declared.message.Kind.TheVariants as kind
 use Rattle.rsvp_messages.specs.Kinds.{kind_of}
@@ -74,6 +75,35 @@ flow_are service f lt =
     (w (word_of (Finite f.b)) (word (word_of f.p) ++ word f.low ++ word f.most) (w (word_of f.p) (word f.low ++ word f.most) (w f.low (word f.most) (word_bytes f.most)))) in
     (omega arith, (omega arith, h 7 (service ∷ 0 ∷ half 6 ++ 127 ∷ 0 ∷ half 5 ++ words) (lt, (omega arith, h 6 (127 ∷ 0 ∷ half 5 ++ words) (omega arith, (omega arith, h 5 words are))))))
 
+-- ---- ADSPECs
+break_byte : (b : Bool) → flag_if b 128 < 2 ^ 8
+break_byte true = omega arith
+break_byte false = omega arith
+
+parameter_bytes : (n value : ℕ) → n < 2 ^ 8 → AreBytes (parameter n value)
+parameter_bytes n value lt = (lt, (omega arith, joined (half 1) (word value) (half_bytes 1) (word_bytes value)))
+
+words_bytes : (ws : List ℕ) → AreBytes (flat_map word ws)
+words_bytes [] = tt
+words_bytes (w ∷ ws) = joined (word w) (flat_map word ws) (word_bytes w) (words_bytes ws)
+
+general_are : (a : Adspec) → AreBytes (general_bytes a)
+general_are a =
+    let hops = parameter 4 a.hops in
+    let rate = parameter 6 (word_of a.rate) in
+    let latency = parameter 8 a.latency in
+    let mtu = parameter 10 a.mtu in
+    let last : AreBytes (latency ++ mtu) = joined latency mtu (parameter_bytes 8 a.latency (omega arith)) (parameter_bytes 10 a.mtu (omega arith)) in
+    let more : AreBytes (rate ++ latency ++ mtu) = joined rate (latency ++ mtu) (parameter_bytes 6 (word_of a.rate) (omega arith)) last in
+    let all : AreBytes (hops ++ rate ++ latency ++ mtu) = joined hops (rate ++ latency ++ mtu) (parameter_bytes 4 a.hops (omega arith)) more in
+    let service : AreBytes (1 ∷ flag_if a.broken 128 ∷ half 8 ++ hops ++ rate ++ latency ++ mtu) = (omega arith, (break_byte a.broken, joined (half 8) (hops ++ rate ++ latency ++ mtu) (half_bytes 8) all)) in
+    let n = 9 + length (behind a) in
+    (omega arith, (omega arith, joined (half n) (1 ∷ flag_if a.broken 128 ∷ half 8 ++ hops ++ rate ++ latency ++ mtu) (half_bytes n) service))
+
+adspec_are : (a : Adspec) → AreBytes (adspec_bytes a)
+unfolding adspec_bytes
+adspec_are a = joined (general_bytes a) (flat_map word (behind a)) (general_are a) (words_bytes (behind a))
+
 -- ---- objects
 spelt_bytes : (n ctype : ℕ) (body : List ℕ) → n < 2 ^ 8 → ctype < 2 ^ 8 → AreBytes body → AreBytes (spelt n ctype body)
 spelt_bytes n ctype body a b h = joined (half (4 + length body)) (n ∷ ctype ∷ body) (half_bytes (4 + length body)) (a, (b, h))
@@ -94,6 +124,7 @@ object_bytes (object.FlowOf f) h = spelt_bytes 9 2 (flow_bytes controlled_load f
 object_bytes (object.Filter s) h = spelt_bytes 10 1 (sender_bytes s) (omega arith) (omega arith) (sender_are s)
 object_bytes (object.Template s) h = spelt_bytes 11 1 (sender_bytes s) (omega arith) (omega arith) (sender_are s)
 object_bytes (object.Tspec f) h = spelt_bytes 12 2 (flow_bytes general f) (omega arith) (omega arith) (flow_are general f (omega arith))
+object_bytes (object.Advert a) h = spelt_bytes 13 2 (adspec_bytes a) (omega arith) (omega arith) (adspec_are a)
 object_bytes (object.Confirm a) h = spelt_bytes 15 1 (word a.0) (omega arith) (omega arith) (word_bytes a.0)
 object_bytes (object.Skipped n) h = spelt_bytes n 0 [] h.byte (omega arith) tt
 

@@ -47,6 +47,7 @@ known (object.FlowOf s) h = refl
 known (object.Filter s) h = refl
 known (object.Template s) h = refl
 known (object.Tspec s) h = refl
+known (object.Advert s) h = refl
 known (object.Confirm s) h = refl
 known (object.Skipped n) h = rw h.skipped refl
 

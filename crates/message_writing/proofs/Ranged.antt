@@ -11,6 +11,7 @@ use Rattle.rsvp_base.specs.Table.{keys}
 use Rattle.rsvp_base.specs.TokenBucket.{TokenBucket}
 use Rattle.rsvp_base.proofs.Lists.{has_keys}
 use Rattle.rsvp_base.proofs.Members.{tied_in}
+use Rattle.rsvp_objects.specs.ObjectFields.declared.adspec.Adspec.{Adspec}
 use Rattle.rsvp_objects.specs.declared.object.Object.{Object}
 use Rattle.rsvp_objects.specs.declared.object.Object.TheVariants as object
 use Rattle.rsvp_objects.specs.Proper.{IsSender, IsSource, IsProper as IsProperObject}
@@ -53,6 +54,10 @@ confirm_ports : (a : Option Addr) → AllByRecursion HasNoPorts (where_there obj
 confirm_ports None = tt
 confirm_ports (Some a) = (tt, tt)
 
+advert_ports : (a : Option Adspec) → AllByRecursion HasNoPorts (where_there object.Advert a)
+advert_ports None = tt
+advert_ports (Some a) = (tt, tt)
+
 template_ports : (s : Option Sender) → AllByRecursion HasNoPorts (where_there object.Template s)
 template_ports None = tt
 template_ports (Some s) = (tt, tt)
@@ -89,7 +94,7 @@ blame_ports Fixed names f h = (tt, all_join HasNoPorts (where_there object.FlowO
 blame_ports Shared names f h = (tt, all_join HasNoPorts (where_there object.FlowOf f) (named_objects names) (flow_ports f) (named_ports names))
 
 ports_of : (v : Message) → IsProper v → AllByRecursion HasNoPorts (objects_of v)
-ports_of (message.Path v) h = (tt, (tt, (tt, offer_ports v.sender)))
+ports_of (message.Path v) h = (tt, (tt, (tt, all_join HasNoPorts (sender_objects v.sender) (where_there object.Advert v.adspec) (offer_ports v.sender) (advert_ports v.adspec))))
 ports_of (message.Resv v) h = (tt, (tt, (tt, all_join HasNoPorts (where_there object.Confirm v.confirm) (ask_objects v.ask) (confirm_ports v.confirm) (ask_ports v.ask h))))
 ports_of (message.PathErr v) h = (tt, (tt, template_ports v.sender))
 ports_of (message.ResvErr v) h = (tt, (tt, (tt, blame_ports v.blame.style v.blame.senders v.blame.flow h)))
@@ -114,6 +119,7 @@ proper_object (object.FlowOf f) h p = h
 proper_object (object.Filter s) h p = h
 proper_object (object.Template s) h p = h
 proper_object (object.Tspec f) h p = h
+proper_object (object.Advert a) h p = h
 proper_object (object.Confirm a) h p = h
 proper_object (object.Skipped n) h p = h
 

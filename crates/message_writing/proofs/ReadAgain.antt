@@ -13,10 +13,10 @@ use Rattle.rsvp_base.specs.declared.style.StyleKind.TheVariants.{Wild, Fixed, Sh
 use Rattle.rsvp_base.specs.Orders.{Names, names_from}
 use Rattle.rsvp_base.specs.Table.{empty, keys, size, with_rows}
 use Rattle.rsvp_base.specs.TokenBucket.{TokenBucket}
+use Rattle.rsvp_objects.specs.ObjectFields.declared.adspec.Adspec.{Adspec}
 use Rattle.rsvp_objects.specs.declared.object.Object.{Object}
 use Rattle.rsvp_objects.specs.declared.object.Object.TheVariants as object
-use Rattle.rsvp_objects.specs.Fields.{byte_at, half_at}
-use Rattle.rsvp_objects.specs.Proper.{AreBytes}
+use Rattle.rsvp_objects.specs.Fields.{AreBytes, byte_at, half_at}
 use Rattle.rsvp_messages.specs.declared.ask.Ask.{Ask}
 use Rattle.rsvp_messages.specs.declared.ask.Ask.TheVariants as ask
 use Rattle.rsvp_messages.specs.declared.ask.Blame.{Blame}
@@ -127,16 +127,24 @@ err_made s x h e k b e1 e2 e3 e4 e5 = rw (e1, e2, e3, e4, e5) refl
 
 -- ---- each kind
 
-path_fit : (s : Session) (p : Bool) (h : Hop) (t : ℕ) (e : Option (Sender × TokenBucket)) → Fit kind.Path start (object.Session s p ∷ object.HopOf h ∷ object.Time t ∷ sender_objects e)
-unfolding has_place is_repeated role_of stood last_said filters_after with_object
-path_fit s p h t None = (fits _ _ _ refl refl refl (λ at. refl), (fits _ _ _ refl refl refl (λ at. refl), (fits _ _ _ refl refl refl (λ at. refl), tt)))
-path_fit s p h t (Some e) = (fits _ _ _ refl refl refl (λ at. refl), (fits _ _ _ refl refl refl (λ at. refl), (fits _ _ _ refl refl refl (λ at. refl), (fits _ _ _ refl refl refl (λ at. refl), (fits _ _ _ refl refl refl (λ at. refl), tt)))))
+abbrev path_front : Session → Bool → Hop → ℕ → Option (Sender × TokenBucket) → Option Adspec → List Object
+path_front s p h t e a = object.Session s p ∷ object.HopOf h ∷ object.Time t ∷ sender_objects e ++ where_there object.Advert a
 
-path_message : (s : Session) (p : Bool) (h : Hop) (t : ℕ) (e : Option (Sender × TokenBucket))
-    → message_of kind.Path (with_objects start (object.Session s p ∷ object.HopOf h ∷ object.Time t ∷ sender_objects e)) ≡ good (message.Path (record { session = s; police = p; hop = h; period = t; sender = e }))
+path_fit : (s : Session) (p : Bool) (h : Hop) (t : ℕ) (e : Option (Sender × TokenBucket)) (a : Option Adspec) → Fit kind.Path start (path_front s p h t e a)
+unfolding has_place is_repeated role_of stood last_said filters_after with_object
+path_fit s p h t None None = (fits _ _ _ refl refl refl (λ at. refl), (fits _ _ _ refl refl refl (λ at. refl), (fits _ _ _ refl refl refl (λ at. refl), tt)))
+path_fit s p h t None (Some a) = (fits _ _ _ refl refl refl (λ at. refl), (fits _ _ _ refl refl refl (λ at. refl), (fits _ _ _ refl refl refl (λ at. refl), (fits _ _ _ refl refl refl (λ at. refl), tt))))
+path_fit s p h t (Some e) None = (fits _ _ _ refl refl refl (λ at. refl), (fits _ _ _ refl refl refl (λ at. refl), (fits _ _ _ refl refl refl (λ at. refl), (fits _ _ _ refl refl refl (λ at. refl), (fits _ _ _ refl refl refl (λ at. refl), tt)))))
+path_fit s p h t (Some e) (Some a) =
+    (fits _ _ _ refl refl refl (λ at. refl), (fits _ _ _ refl refl refl (λ at. refl), (fits _ _ _ refl refl refl (λ at. refl), (fits _ _ _ refl refl refl (λ at. refl), (fits _ _ _ refl refl refl (λ at. refl), (fits _ _ _ refl refl refl (λ at. refl), tt))))))
+
+path_message : (s : Session) (p : Bool) (h : Hop) (t : ℕ) (e : Option (Sender × TokenBucket)) (a : Option Adspec)
+    → message_of kind.Path (with_objects start (path_front s p h t e a)) ≡ good (message.Path (record { session = s; police = p; hop = h; period = t; sender = e; adspec = a }))
 unfolding message_of path_of last_said filters_after with_object
-path_message s p h t None = refl
-path_message s p h t (Some e) = refl
+path_message s p h t None None = refl
+path_message s p h t None (Some a) = refl
+path_message s p h t (Some e) None = refl
+path_message s p h t (Some e) (Some a) = refl
 
 path_err_fit : (s : Session) (e : ErrSpec) (o : Option Sender) → Fit kind.PathErr start (object.Session s false ∷ object.Error e ∷ where_there object.Template o)
 unfolding has_place is_repeated role_of stood last_said filters_after with_object
@@ -347,7 +355,7 @@ err_message s h e Shared (Some n) (Some f) p = err_listed _ (s, false) h e Share
 -- ---- the whole
 
 fit_of : (v : Message) → IsWritable v → Fit (kind_of v) start (objects_of v)
-fit_of (message.Path v) h = path_fit v.session v.police v.hop v.period v.sender
+fit_of (message.Path v) h = path_fit v.session v.police v.hop v.period v.sender v.adspec
 fit_of (message.Resv v) h = resv_fit v.session v.hop v.period v.confirm v.ask h.few
 fit_of (message.PathErr v) h = path_err_fit v.session v.err v.sender
 fit_of (message.ResvErr v) h = err_fit v.session v.hop v.err v.blame.style v.blame.senders v.blame.flow h.proper h.few
@@ -356,7 +364,7 @@ fit_of (message.ResvTear v) h = tear_fit v.session v.hop v.tear h.few
 fit_of (message.ResvConf v) h = conf_fit v.session v.err v.confirm v.ask h.proper.1 h.few
 
 made_of : (v : Message) → IsWritable v → message_of (kind_of v) (with_objects start (objects_of v)) ≡ good v
-made_of (message.Path v) h = path_message v.session v.police v.hop v.period v.sender
+made_of (message.Path v) h = path_message v.session v.police v.hop v.period v.sender v.adspec
 made_of (message.Resv v) h = resv_message v.session v.hop v.period v.confirm v.ask h.proper
 made_of (message.PathErr v) h = path_err_message v.session v.err v.sender
 made_of (message.ResvErr v) h = err_message v.session v.hop v.err v.blame.style v.blame.senders v.blame.flow h.proper

@@ -8,6 +8,9 @@ use Rattle.rsvp_base.specs.declared.style.StyleKind.TheVariants.{Wild, Fixed, Sh
 use Rattle.rsvp_base.specs.Orders.{Names}
 use Rattle.rsvp_base.specs.Table.{keys, size}
 use Rattle.rsvp_base.specs.TokenBucket.{TokenBucket}
+use Rattle.rsvp_objects.specs.ObjectFields.declared.adspec.Adspec.{Adspec}
+use Rattle.rsvp_objects.proofs.ObjectFields.Again.{few_words}
+use Rattle.rsvp_objects.proofs.ObjectFields.Bytes.{body_size}
 use Rattle.rsvp_objects.specs.declared.object.Object.{Object}
 use Rattle.rsvp_objects.specs.declared.object.Object.TheVariants as object
 use Rattle.rsvp_objects.specs.Spelling.{spelling}
@@ -18,7 +21,7 @@ use Rattle.rsvp_messages.specs.declared.ask.Tear.{Tear}
 use Rattle.rsvp_messages.specs.declared.ask.Tear.TheVariants as tear
 use Rattle.rsvp_messages.specs.declared.message.Message.{Message}
 use Rattle.rsvp_messages.specs.declared.message.Message.TheVariants as message
-use Rattle.message_writing.specs.Encoding.{spellings, body_of, AreFew, IsAskFew, IsTearFew, IsFew}
+use Rattle.message_writing.specs.Encoding.{spellings, body_of, IsAdvertFew, AreFew, IsAskFew, IsTearFew, IsFew}
 use Rattle.message_writing.specs.Objects.{where_there, sender_objects, pair_objects, filter_objects, ask_objects, tear_objects, named_objects, blame_by_style}
 
 -- ---- of any objects
@@ -70,6 +73,15 @@ unfolding spelling
 confirm_long None = omega arith
 confirm_long (Some a) = omega arith
 
+advert_long : (a : Option Adspec) → IsAdvertFew a → length (spellings (where_there object.Advert a)) ≤ 144
+unfolding spelling
+advert_long None few = omega arith
+advert_long (Some a) few =
+    let size = body_size a in
+    let most = few_words a.load a.others few in
+    let e = length-append (spelling (object.Advert a)) [] in
+    omega arith
+
 sender_long : (e : Option (Sender × TokenBucket)) → length (spellings (sender_objects e)) ≤ 48
 unfolding spelling
 sender_long None = omega arith
@@ -119,7 +131,11 @@ blame_long Shared names f few =
 
 pub body_short : (v : Message) → IsFew v → length (body_of v) ≤ 1016
 unfolding spelling
-body_short (message.Path v) few = omega (arith, sender_long v.sender)
+body_short (message.Path v) few =
+    let e = spellings_join (sender_objects v.sender) (where_there object.Advert v.adspec) in
+    let s = sender_long v.sender in
+    let a = advert_long v.adspec few in
+    omega arith
 body_short (message.Resv v) few =
     let e = spellings_join (where_there object.Confirm v.confirm) (ask_objects v.ask) in
     let c = confirm_long v.confirm in

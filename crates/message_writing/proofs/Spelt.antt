@@ -18,11 +18,14 @@ use Rattle.rsvp_base.specs.Sets.{listed}
 use Rattle.rsvp_base.specs.Table.{Table, empty, get, has, keys, size, put_in, with_rows, first, second}
 use Rattle.rsvp_base.specs.TokenBucket.{TokenBucket}
 use Rattle.rsvp_base.proofs.Tables.{either, tied_same, tied_self, none_above, got_put_in, size-put_in}
+use Rattle.rsvp_objects.specs.ObjectFields.declared.adspec.Adspec.{Adspec}
+use Rattle.rsvp_objects.specs.ObjectFields.AdspecLaws.{IsAdspec}
 use Rattle.rsvp_objects.specs.declared.object.Object.{Object}
 use Rattle.rsvp_objects.specs.declared.object.Object.TheVariants as object
 use Rattle.rsvp_objects.specs.Proper as objects
-use Rattle.rsvp_objects.specs.Proper.{AreBytes, IsSession, IsHop, IsError, IsAddr, IsSender, IsSource, IsFlow}
-use Rattle.rsvp_objects.proofs.Classes.{chosen}
+use Rattle.rsvp_objects.specs.Fields.{AreBytes}
+use Rattle.rsvp_objects.specs.Proper.{IsSession, IsHop, IsError, IsAddr, IsSender, IsSource, IsFlow}
+use Rattle.rsvp_objects.proofs.Choices.{chosen}
 use Rattle.rsvp_messages.specs.declared.ask.Ask.{Ask}
 use Rattle.rsvp_messages.specs.declared.ask.Blame.{Blame}
 use Rattle.rsvp_messages.specs.declared.ask.Tear.{Tear}
@@ -41,7 +44,7 @@ use Rattle.message_wire.proofs.Placed.{placed, placed_has}
 use Rattle.message_wire.proofs.ProperRead.{all_join, what_is_spelt_is_proper}
 use Rattle.message_wire.proofs.Spelling.{says_of}
 use Rattle.message_wire.proofs.Standing.{good, good_is}
-use Rattle.message_writing.specs.Encoding.{AreFew, IsAskFew, IsTearFew, IsFew}
+use Rattle.message_writing.specs.Encoding.{IsAdvertFew, AreFew, IsAskFew, IsTearFew, IsFew}
 use Rattle.message_writing.specs.Laws.{WhatIsSpeltIsWritable}
 use Rattle.message_writing.specs.Objects.{where_there, sender_objects, pair_objects, ask_objects, tear_objects, blame_objects}
 use Rattle.message_writing.specs.Ranges.{IsInRange, AreInRange}
@@ -67,6 +70,7 @@ record IsRoomy (s : Seen) : Type 0 where
   scope : WhereThere AreNames s.scope
   template : WhereThere IsSender s.template
   tspec : WhereThere IsFlow s.tspec
+  advert : WhereThere IsAdspec s.advert
   confirm : WhereThere IsAddr s.confirm
   flow : WhereThere IsFlow s.flow
   rows : AreRows s.filters
@@ -91,6 +95,7 @@ read_is (object.FlowOf f) h = h
 read_is (object.Filter s) h = h
 read_is (object.Template s) h = h
 read_is (object.Tspec f) h = h
+read_is (object.Advert a) h = h
 read_is (object.Confirm a) h = h
 read_is (object.Skipped n) h = tt
 
@@ -112,18 +117,19 @@ one_more n h ne = omega arith
 
 more : (at : ℕ) (s : Seen) (x : Object) → IsRoomy s → IsRead x → name_fault at s x ≡ None → IsRoomy (with_object s x)
 unfolding with_object
-more at s (object.Session t p) h r e = record { session = r; hop = h.hop; period = h.period; error = h.error; scope = h.scope; template = h.template; tspec = h.tspec; confirm = h.confirm; flow = h.flow; rows = kept s.filters h.rows }
-more at s (object.HopOf t) h r e = record { session = h.session; hop = r; period = h.period; error = h.error; scope = h.scope; template = h.template; tspec = h.tspec; confirm = h.confirm; flow = h.flow; rows = kept s.filters h.rows }
-more at s (object.Time t) h r e = record { session = h.session; hop = h.hop; period = r; error = h.error; scope = h.scope; template = h.template; tspec = h.tspec; confirm = h.confirm; flow = h.flow; rows = kept s.filters h.rows }
-more at s (object.Error t) h r e = record { session = h.session; hop = h.hop; period = h.period; error = r; scope = h.scope; template = h.template; tspec = h.tspec; confirm = h.confirm; flow = h.flow; rows = kept s.filters h.rows }
-more at s (object.Scope t) h r e = record { session = h.session; hop = h.hop; period = h.period; error = h.error; scope = r; template = h.template; tspec = h.tspec; confirm = h.confirm; flow = h.flow; rows = kept s.filters h.rows }
-more at s (object.StyleOf t) h r e = record { session = h.session; hop = h.hop; period = h.period; error = h.error; scope = h.scope; template = h.template; tspec = h.tspec; confirm = h.confirm; flow = h.flow; rows = kept s.filters h.rows }
-more at s (object.FlowOf t) h r e = record { session = h.session; hop = h.hop; period = h.period; error = h.error; scope = h.scope; template = h.template; tspec = h.tspec; confirm = h.confirm; flow = r; rows = kept s.filters h.rows }
-more at s (object.Filter t) h r e = record { session = h.session; hop = h.hop; period = h.period; error = h.error; scope = h.scope; template = h.template; tspec = h.tspec; confirm = h.confirm; flow = h.flow; rows = (all_join IsRow s.filters ((t, s.flow) ∷ []) h.rows.0 ((r, h.flow), tt), subst (λ (n : ℕ). n ≤ 16) (sym (length-append s.filters ((t, s.flow) ∷ []))) (one_more (length s.filters) h.rows.1 (not_full at s t e))) }
-more at s (object.Template t) h r e = record { session = h.session; hop = h.hop; period = h.period; error = h.error; scope = h.scope; template = r; tspec = h.tspec; confirm = h.confirm; flow = h.flow; rows = kept s.filters h.rows }
-more at s (object.Tspec t) h r e = record { session = h.session; hop = h.hop; period = h.period; error = h.error; scope = h.scope; template = h.template; tspec = r; confirm = h.confirm; flow = h.flow; rows = kept s.filters h.rows }
-more at s (object.Confirm t) h r e = record { session = h.session; hop = h.hop; period = h.period; error = h.error; scope = h.scope; template = h.template; tspec = h.tspec; confirm = r; flow = h.flow; rows = kept s.filters h.rows }
-more at s (object.Skipped t) h r e = record { session = h.session; hop = h.hop; period = h.period; error = h.error; scope = h.scope; template = h.template; tspec = h.tspec; confirm = h.confirm; flow = h.flow; rows = kept s.filters h.rows }
+more at s (object.Session t p) h r e = record { session = r; hop = h.hop; period = h.period; error = h.error; scope = h.scope; template = h.template; tspec = h.tspec; advert = h.advert; confirm = h.confirm; flow = h.flow; rows = kept s.filters h.rows }
+more at s (object.HopOf t) h r e = record { session = h.session; hop = r; period = h.period; error = h.error; scope = h.scope; template = h.template; tspec = h.tspec; advert = h.advert; confirm = h.confirm; flow = h.flow; rows = kept s.filters h.rows }
+more at s (object.Time t) h r e = record { session = h.session; hop = h.hop; period = r; error = h.error; scope = h.scope; template = h.template; tspec = h.tspec; advert = h.advert; confirm = h.confirm; flow = h.flow; rows = kept s.filters h.rows }
+more at s (object.Error t) h r e = record { session = h.session; hop = h.hop; period = h.period; error = r; scope = h.scope; template = h.template; tspec = h.tspec; advert = h.advert; confirm = h.confirm; flow = h.flow; rows = kept s.filters h.rows }
+more at s (object.Scope t) h r e = record { session = h.session; hop = h.hop; period = h.period; error = h.error; scope = r; template = h.template; tspec = h.tspec; advert = h.advert; confirm = h.confirm; flow = h.flow; rows = kept s.filters h.rows }
+more at s (object.StyleOf t) h r e = record { session = h.session; hop = h.hop; period = h.period; error = h.error; scope = h.scope; template = h.template; tspec = h.tspec; advert = h.advert; confirm = h.confirm; flow = h.flow; rows = kept s.filters h.rows }
+more at s (object.FlowOf t) h r e = record { session = h.session; hop = h.hop; period = h.period; error = h.error; scope = h.scope; template = h.template; tspec = h.tspec; advert = h.advert; confirm = h.confirm; flow = r; rows = kept s.filters h.rows }
+more at s (object.Filter t) h r e = record { session = h.session; hop = h.hop; period = h.period; error = h.error; scope = h.scope; template = h.template; tspec = h.tspec; advert = h.advert; confirm = h.confirm; flow = h.flow; rows = (all_join IsRow s.filters ((t, s.flow) ∷ []) h.rows.0 ((r, h.flow), tt), subst (λ (n : ℕ). n ≤ 16) (sym (length-append s.filters ((t, s.flow) ∷ []))) (one_more (length s.filters) h.rows.1 (not_full at s t e))) }
+more at s (object.Template t) h r e = record { session = h.session; hop = h.hop; period = h.period; error = h.error; scope = h.scope; template = r; tspec = h.tspec; advert = h.advert; confirm = h.confirm; flow = h.flow; rows = kept s.filters h.rows }
+more at s (object.Tspec t) h r e = record { session = h.session; hop = h.hop; period = h.period; error = h.error; scope = h.scope; template = h.template; tspec = r; advert = h.advert; confirm = h.confirm; flow = h.flow; rows = kept s.filters h.rows }
+more at s (object.Advert t) h r e = record { session = h.session; hop = h.hop; period = h.period; error = h.error; scope = h.scope; template = h.template; tspec = h.tspec; advert = r; confirm = h.confirm; flow = h.flow; rows = kept s.filters h.rows }
+more at s (object.Confirm t) h r e = record { session = h.session; hop = h.hop; period = h.period; error = h.error; scope = h.scope; template = h.template; tspec = h.tspec; advert = h.advert; confirm = r; flow = h.flow; rows = kept s.filters h.rows }
+more at s (object.Skipped t) h r e = record { session = h.session; hop = h.hop; period = h.period; error = h.error; scope = h.scope; template = h.template; tspec = h.tspec; advert = h.advert; confirm = h.confirm; flow = h.flow; rows = kept s.filters h.rows }
 
 all_roomy : (kind : Kind) (b : List ℕ) (before : List Object) (at : ℕ) (xs : List Object) (end : ℕ) → AreBytes b → Stand kind b before at xs end → IsRoomy (seen_of before) → IsRoomy (seen_of (before ++ xs))
 all_roomy kind b before at [] end bytes s h = subst (λ (ys : List Object). IsRoomy (seen_of ys)) (sym (append-nil before)) h
@@ -134,7 +140,7 @@ all_roomy kind b before at (x ∷ xs) end bytes s h =
 
 nothing : IsRoomy (seen_of [])
 unfolding last_said filters_after
-nothing = record { session = tt; hop = tt; period = tt; error = tt; scope = tt; template = tt; tspec = tt; confirm = tt; flow = tt; rows = (tt, omega arith) }
+nothing = record { session = tt; hop = tt; period = tt; error = tt; scope = tt; template = tt; tspec = tt; advert = tt; confirm = tt; flow = tt; rows = (tt, omega arith) }
 
 -- ---- tables of rows that have room
 
@@ -303,6 +309,14 @@ confirm_room : (o : Option Addr) → WhereThere IsAddr o → AllByRecursion IsIn
 confirm_room None h = tt
 confirm_room (Some a) h = (h, tt)
 
+advert_room : (o : Option Adspec) → WhereThere IsAdspec o → AllByRecursion IsInRange (where_there object.Advert o)
+advert_room None h = tt
+advert_room (Some a) h = (h, tt)
+
+advert_few : (o : Option Adspec) → WhereThere IsAdspec o → IsAdvertFew o
+advert_few None h = tt
+advert_few (Some a) h = h.others.few
+
 abbrev OfferFits : Option (Sender × TokenBucket) → Type 0
 OfferFits o = AllByRecursion IsInRange (sender_objects o)
 
@@ -330,7 +344,9 @@ error_fits s x h e = there IsError 6 s.error x h.error e
 made_fits : (s : Seen) → IsRoomy s → HoldsByParts MessageFits s
 made_fits s h =
     record {
-      path = λ x hop t o who via period sent. ((who_fits s x h who, (hop_fits s hop h via, (period_fits s t h period, offer_fits s.template s.tspec o h.template h.tspec sent))), tt);
+      path = λ x hop t o who via period sent.
+          let room = room_join (sender_objects o) (where_there object.Advert s.advert) (offer_fits s.template s.tspec o h.template h.tspec sent) (advert_room s.advert h.advert) in
+          ((who_fits s x h who, (hop_fits s hop h via, (period_fits s t h period, room))), advert_few s.advert h.advert);
       resv = λ x hop t k f a who via period flow asked.
           let fit = ask_fits s.scope s.due s.filters f k a h.scope h.rows (there IsFlow 9 s.flow f h.flow flow) asked in
           let room = room_join (where_there object.Confirm s.confirm) (ask_objects a) (confirm_room s.confirm h.confirm) fit.0 in

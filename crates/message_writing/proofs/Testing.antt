@@ -1,5 +1,5 @@
 -- The test of what types know says what they know.
-use Rattle.std.proofs.Common.{◌≡◌, ℕ, ◌+◌, ◌-◌, ◌<◌, ◌≤◌, ◌^◌, Bool, true, false, List, [], ◌∷◌, Option, None, Some, refl, subst, sym, arith, inl, inr, ltb-true, ltb-false}
+use Rattle.std.proofs.Common.{◌≡◌, ℕ, ◌+◌, ◌-◌, ◌<◌, ◌≤◌, ◌^◌, Bool, true, false, List, [], ◌∷◌, length, Option, None, Some, refl, subst, sym, arith, inl, inr, ltb-true, ltb-false}
 use Rattle.std.specs.Prelude.{◌&&◌, ◌||◌, ◌==◌, nat_lt, nat_le, ◌⊎◌}
 use Rattle.std.specs.Int.{leading_zeros, trailing_zeros, w64}
 use Rattle.std.specs.List.{AllByRecursion, list_all}
@@ -16,6 +16,9 @@ use Rattle.rsvp_base.specs.Orders.{Names}
 use Rattle.rsvp_base.specs.Rates.{IsRate}
 use Rattle.rsvp_base.specs.Table.{keys, size}
 use Rattle.rsvp_base.specs.TokenBucket.{TokenBucket, IsSound}
+use Rattle.rsvp_objects.specs.ObjectFields.declared.adspec.Adspec.{Adspec}
+use Rattle.rsvp_objects.specs.ObjectFields.Fragment.{missing, heads, all_other, IsFragments}
+use Rattle.rsvp_objects.specs.ObjectFields.AdspecLaws.{IsAdspec}
 use Rattle.rsvp_objects.specs.Classes.{is_skipped}
 use Rattle.rsvp_objects.specs.declared.object.Object.{Object}
 use Rattle.rsvp_objects.specs.declared.object.Object.TheVariants as object
@@ -27,10 +30,10 @@ use Rattle.rsvp_messages.specs.declared.ask.Tear.{Tear}
 use Rattle.rsvp_messages.specs.declared.ask.Tear.TheVariants as tear
 use Rattle.rsvp_messages.specs.declared.message.Message.{Message}
 use Rattle.rsvp_messages.specs.declared.message.Message.TheVariants as message
-use Rattle.message_writing.specs.Encoding.{AreFew, IsAskFew, IsTearFew, IsFew}
+use Rattle.message_writing.specs.Encoding.{IsAdvertFew, AreFew, IsAskFew, IsTearFew, IsFew}
 use Rattle.message_writing.specs.Objects.{objects_of}
 use Rattle.message_writing.specs.Ranges.{IsInRange}
-use Rattle.message_writing.specs.Written.{is_rate, is_peak, is_addr, is_session, is_hop, is_error, is_sender, is_sound, is_flow, is_roomy, are_few, is_ask_few, is_tear_few, is_few, is_in_range, InRange, InRangeIsWhatTypesKnow}
+use Rattle.message_writing.specs.Written.{is_rate, is_peak, is_addr, is_session, is_hop, is_error, is_sender, is_sound, is_flow, is_fragments, is_word, is_adspec, is_roomy, is_advert_few, are_few, is_ask_few, is_tear_few, is_few, is_in_range, InRange, InRangeIsWhatTypesKnow}
 
 -- ---- numbers
 
@@ -165,6 +168,37 @@ module _ {A : Type 0} (P : A → Type 0) (p : A → Bool) where
   all_test test [] h = refl
   all_test test (x ∷ xs) h = and_from (p x) (list_all p xs) (test x h.0) (all_test test xs h.1)
 
+fragments_said : (ws : List ℕ) → is_fragments ws ≡ true → IsFragments ws
+fragments_said ws t =
+    let a = and_parts (nat_le (length ws) 24) (missing 0 ws == 0 && all_other (heads 0 ws)) t in
+    let b = and_parts (missing 0 ws == 0) (all_other (heads 0 ws)) a.1 in
+    record { few = leb-true (length ws) 24 a.0; whole = eqb-true (missing 0 ws) 0 b.0; other = b.1 }
+
+fragments_test : (ws : List ℕ) → IsFragments ws → is_fragments ws ≡ true
+fragments_test ws h =
+    and_from (nat_le (length ws) 24) (missing 0 ws == 0 && all_other (heads 0 ws)) (le_test (length ws) 24 h.few)
+    (and_from (missing 0 ws == 0) (all_other (heads 0 ws)) (eq-eqb (missing 0 ws) 0 h.whole) h.other)
+
+abbrev IsWord : ℕ → Type 0
+IsWord w = w < 2 ^ 32
+
+adspec_said : (a : Adspec) → is_adspec a ≡ true → IsAdspec a
+adspec_said a t =
+    let p = and_parts ((is_word a.hops && is_peak a.rate) && (is_word a.latency && is_word a.mtu)) (is_fragments a.others && list_all is_word a.others) t in
+    let n = and_parts (is_word a.hops && is_peak a.rate) (is_word a.latency && is_word a.mtu) p.0 in
+    let h = and_parts (is_word a.hops) (is_peak a.rate) n.0 in
+    let l = and_parts (is_word a.latency) (is_word a.mtu) n.1 in
+    let o = and_parts (is_fragments a.others) (list_all is_word a.others) p.1 in
+    record { hops = ltb-true a.hops (2 ^ 32) h.0; rate = peak_said a.rate h.1; latency = ltb-true a.latency (2 ^ 32) l.0; mtu = ltb-true a.mtu (2 ^ 32) l.1; others = fragments_said a.others o.0; words = all_said IsWord is_word (λ w t. ltb-true w (2 ^ 32) t) a.others o.1 }
+
+adspec_test : (a : Adspec) → IsAdspec a → is_adspec a ≡ true
+adspec_test a h =
+    and_from ((is_word a.hops && is_peak a.rate) && (is_word a.latency && is_word a.mtu)) (is_fragments a.others && list_all is_word a.others)
+    (and_from (is_word a.hops && is_peak a.rate) (is_word a.latency && is_word a.mtu)
+    (and_from (is_word a.hops) (is_peak a.rate) (lt_test a.hops (2 ^ 32) h.hops) (peak_test a.rate h.rate))
+    (and_from (is_word a.latency) (is_word a.mtu) (lt_test a.latency (2 ^ 32) h.latency) (lt_test a.mtu (2 ^ 32) h.mtu)))
+    (and_from (is_fragments a.others) (list_all is_word a.others) (fragments_test a.others h.others) (all_test IsWord is_word (λ w lt. lt_test w (2 ^ 32) lt) a.others h.words))
+
 roomy_said : (x : Object) → is_roomy x ≡ true → IsInRange x
 roomy_said (object.Session s police) t = session_said s t
 roomy_said (object.HopOf h) t = hop_said h t
@@ -178,6 +212,7 @@ roomy_said (object.FlowOf f) t = flow_said f t
 roomy_said (object.Filter s) t = sender_said s t
 roomy_said (object.Template s) t = sender_said s t
 roomy_said (object.Tspec f) t = flow_said f t
+roomy_said (object.Advert a) t = adspec_said a t
 roomy_said (object.Confirm a) t = ltb-true a.0 (2 ^ 32) t
 roomy_said (object.Skipped n) t =
     let a = and_parts (nat_lt n (2 ^ 8)) (is_skipped n) t in
@@ -194,6 +229,7 @@ roomy_test (object.FlowOf f) h = flow_test f h
 roomy_test (object.Filter s) h = sender_test s h
 roomy_test (object.Template s) h = sender_test s h
 roomy_test (object.Tspec f) h = flow_test f h
+roomy_test (object.Advert a) h = adspec_test a h
 roomy_test (object.Confirm a) h = lt_test a.0 (2 ^ 32) h
 roomy_test (object.Skipped n) h = and_from (nat_lt n (2 ^ 8)) (is_skipped n) (lt_test n (2 ^ 8) h.byte) h.skipped
 
@@ -225,8 +261,16 @@ tear_test (tear.Wild scope) h = few_test scope h
 tear_test (tear.Fixed names) h = le_test (size names) 16 h
 tear_test (tear.Shared names) h = le_test (size names) 16 h
 
+advert_said : (o : Option Adspec) → is_advert_few o ≡ true → IsAdvertFew o
+advert_said None t = tt
+advert_said (Some a) t = leb-true (length a.others) 24 t
+
+advert_test : (o : Option Adspec) → IsAdvertFew o → is_advert_few o ≡ true
+advert_test None h = refl
+advert_test (Some a) h = le_test (length a.others) 24 h
+
 lists_said : (v : Message) → is_few v ≡ true → IsFew v
-lists_said (message.Path v) t = tt
+lists_said (message.Path v) t = advert_said v.adspec t
 lists_said (message.Resv v) t = ask_said v.ask t
 lists_said (message.PathErr v) t = tt
 lists_said (message.ResvErr v) t = few_said v.blame.senders t
@@ -235,7 +279,7 @@ lists_said (message.ResvTear v) t = tear_said v.tear t
 lists_said (message.ResvConf v) t = ask_said v.ask t
 
 lists_test : (v : Message) → IsFew v → is_few v ≡ true
-lists_test (message.Path v) h = refl
+lists_test (message.Path v) h = advert_test v.adspec h
 lists_test (message.Resv v) h = ask_test v.ask h
 lists_test (message.PathErr v) h = refl
 lists_test (message.ResvErr v) h = few_test v.blame.senders h

@@ -3,6 +3,7 @@ use Rattle.std.specs.Prelude.{ℕ, ◌+◌, ◌-◌, ◌≤◌, List, [], ◌∷
 use Rattle.std.specs.List.{AllByRecursion}
 use Rattle.rsvp_base.specs.Orders.{Names}
 use Rattle.rsvp_base.specs.Table.{size}
+use Rattle.rsvp_objects.specs.ObjectFields.declared.adspec.Adspec.{Adspec}
 use Rattle.rsvp_objects.specs.declared.object.Object.{Object}
 use Rattle.rsvp_objects.specs.Fields.{half}
 use Rattle.rsvp_objects.specs.Proper.{IsProper as IsProperObject}
@@ -67,9 +68,13 @@ IsTearFew (tear.Wild scope) = AreFew scope
 IsTearFew (tear.Fixed names) = size names ≤ 16
 IsTearFew (tear.Shared names) = size names ≤ 16
 
--- lists have at most 16 senders, as those of code have
+abbrev pub IsAdvertFew : Option Adspec → Type 0
+IsAdvertFew None = Unit {0}
+IsAdvertFew (Some a) = length a.others ≤ 24
+
+-- lists have at most 16 senders and fragments at most 24 words, as those of code have
 abbrev pub IsFew : Message → Type 0
-IsFew (message.Path v) = Unit {0}
+IsFew (message.Path v) = IsAdvertFew v.adspec
 IsFew (message.Resv v) = IsAskFew v.ask
 IsFew (message.PathErr v) = Unit {0}
 IsFew (message.ResvErr v) = AreFew v.blame.senders

@@ -2,7 +2,8 @@
 use Rattle.std.specs.Prelude.{◌≡◌, ℕ, false, List, [], ◌∷◌, ◌++◌, length}
 use Rattle.std.specs.List.{AllByRecursion}
 use Rattle.rsvp_objects.specs.declared.object.Object.{Object}
-use Rattle.rsvp_objects.specs.Proper.{class_of, AreBytes, IsProper}
+use Rattle.rsvp_objects.specs.Fields.{AreBytes}
+use Rattle.rsvp_objects.specs.Proper.{class_of, IsProper}
 use Rattle.rsvp_messages.specs.declared.message.Kind.{Kind}
 use Rattle.rsvp_messages.specs.declared.message.Message.{Message}
 use Rattle.message_wire.specs.Laws.{IsInPlace}

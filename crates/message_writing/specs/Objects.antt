@@ -64,7 +64,7 @@ blame_objects b = blame_by_style b.style b.senders b.flow
 
 -- E_Police stands in a Path alone
 abbrev pub path_objects : PathMsg → List Object
-path_objects v = object.Session v.session v.police ∷ object.HopOf v.hop ∷ object.Time v.period ∷ sender_objects v.sender
+path_objects v = object.Session v.session v.police ∷ object.HopOf v.hop ∷ object.Time v.period ∷ sender_objects v.sender ++ where_there object.Advert v.adspec
 
 abbrev pub resv_objects : ResvMsg → List Object
 resv_objects v = object.Session v.session false ∷ object.HopOf v.hop ∷ object.Time v.period ∷ where_there object.Confirm v.confirm ++ ask_objects v.ask

@@ -1,6 +1,6 @@
 -- What is true of each message that code has, as a test: its numbers have room in their fields, its flows are sound, with rates
 -- that have words, and its lists are short.
-use Rattle.std.specs.Prelude.{◌≡◌, ℕ, ◌+◌, ◌-◌, ◌^◌, ◌==◌, nat_le, nat_lt, Bool, true, ◌&&◌, ◌||◌, Option, None, Some}
+use Rattle.std.specs.Prelude.{◌≡◌, ℕ, ◌+◌, ◌-◌, ◌^◌, ◌==◌, nat_le, nat_lt, Bool, true, ◌&&◌, ◌||◌, List, length, Option, None, Some}
 use Rattle.std.specs.Int.{leading_zeros, trailing_zeros, w64}
 use Rattle.std.specs.List.{list_all}
 use Rattle.rsvp_base.specs.declared.addr.Addr.{Addr}
@@ -13,6 +13,8 @@ use Rattle.rsvp_base.specs.declared.session.Session.{Session}
 use Rattle.rsvp_base.specs.Orders.{Names}
 use Rattle.rsvp_base.specs.Table.{keys, size}
 use Rattle.rsvp_base.specs.TokenBucket.{TokenBucket}
+use Rattle.rsvp_objects.specs.ObjectFields.declared.adspec.Adspec.{Adspec}
+use Rattle.rsvp_objects.specs.ObjectFields.Fragment.{missing, heads, all_other}
 use Rattle.rsvp_objects.specs.Classes.{is_skipped}
 use Rattle.rsvp_objects.specs.declared.object.Object.{Object}
 use Rattle.rsvp_objects.specs.declared.object.Object.TheVariants as object
@@ -59,6 +61,16 @@ is_sound f = (nat_le 1 f.r && nat_le 1 f.b) && (nat_le 1 f.low && nat_le 1 f.mos
 abbrev pub is_flow : TokenBucket → Bool
 is_flow f = is_sound f && ((is_rate f.r && (is_rate f.b && is_peak f.p)) && (nat_lt f.low (2 ^ 32) && nat_lt f.most (2 ^ 32)))
 
+-- ---- ADSPECs
+abbrev pub is_fragments : List ℕ → Bool
+is_fragments ws = nat_le (length ws) 24 && (missing 0 ws == 0 && all_other (heads 0 ws))
+
+abbrev pub is_word : ℕ → Bool
+is_word w = nat_lt w (2 ^ 32)
+
+abbrev pub is_adspec : Adspec → Bool
+is_adspec a = ((is_word a.hops && is_peak a.rate) && (is_word a.latency && is_word a.mtu)) && (is_fragments a.others && list_all is_word a.others)
+
 -- ---- objects
 abbrev pub is_roomy : Object → Bool
 is_roomy (object.Session s police) = is_session s
@@ -71,6 +83,7 @@ is_roomy (object.FlowOf f) = is_flow f
 is_roomy (object.Filter s) = is_sender s
 is_roomy (object.Template s) = is_sender s
 is_roomy (object.Tspec f) = is_flow f
+is_roomy (object.Advert a) = is_adspec a
 is_roomy (object.Confirm a) = is_addr a
 is_roomy (object.Skipped n) = nat_lt n (2 ^ 8) && is_skipped n
 
@@ -89,8 +102,12 @@ is_tear_few (tear.Wild scope) = are_few scope
 is_tear_few (tear.Fixed names) = nat_le (size names) 16
 is_tear_few (tear.Shared names) = nat_le (size names) 16
 
+abbrev pub is_advert_few : Option Adspec → Bool
+is_advert_few None = true
+is_advert_few (Some a) = nat_le (length a.others) 24
+
 abbrev pub is_few : Message → Bool
-is_few (message.Path v) = true
+is_few (message.Path v) = is_advert_few v.adspec
 is_few (message.Resv v) = is_ask_few v.ask
 is_few (message.PathErr v) = true
 is_few (message.ResvErr v) = are_few v.blame.senders

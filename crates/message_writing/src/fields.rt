@@ -1,6 +1,7 @@
 //! What the types of fields know of their numbers, made known to proofs.
 ghost use Rattle.std.specs.Prelude.{◌<◌, ◌^◌};
 ghost use Rattle.std.specs.List.{AllByRecursion};
+ghost use Rattle.rsvp_objects.specs.ObjectFields.AdspecLaws.{IsAdspec};
 ghost use Rattle.rsvp_objects.specs.declared.object.Object.TheVariants as AnObject;
 ghost use Rattle.rsvp_objects.specs.Proper.{IsSession, IsSender, IsFlow, IsHop, IsError, IsAddr};
 ghost use Rattle.rsvp_objects.specs.RateLaws.{IsPeak};
@@ -12,6 +13,7 @@ use rsvp_messages::{
     Ask, Blame, Message, PathErrMsg, PathMsg, PathTearMsg, ResvConfMsg, ResvErrMsg, ResvMsg,
     ResvTearMsg, Tear,
 };
+use rsvp_objects::Adspec;
 
 /// Each number of a message has room in its field, and its flows are sound, with rates that have words.
 pub fn know_fields(message: &Message)
@@ -30,13 +32,15 @@ pub fn know_fields(message: &Message)
 
 // ---- kinds of messages
 
+#[tactic(auto, using(crate::proofs::Ranged::room_join))]
 fn know_path(m: &PathMsg)
     ensures { AllByRecursion IsInRange (path_objects m.now) }
 {
     know_session(m.session);
     know_hop(m.hop);
     know_u32(m.period);
-    know_offer(m.sender)
+    know_offer(m.sender);
+    know_advert(&m.adspec)
 }
 
 #[tactic(auto, using(crate::proofs::Ranged::room_join))]
@@ -215,6 +219,36 @@ fn know_confirm(receiver: Option<Addr>)
 {
     if let Some(receiver) = receiver {
         know_addr(receiver);
+    }
+}
+
+fn know_advert(adspec: &Option<Adspec>)
+    ensures { AllByRecursion IsInRange (where_there AnObject.Advert adspec.now) }
+{
+    if let Some(adspec) = adspec {
+        know_adspec(adspec);
+    }
+}
+
+fn know_adspec(adspec: &Adspec)
+    ensures { IsAdspec adspec.now }
+{
+    know_u32(adspec.hops);
+    know_peak(adspec.rate);
+    know_u32(adspec.latency);
+    know_u32(adspec.mtu);
+    know_words(adspec.others.words())
+}
+
+fn know_words(words: &[u32])
+    ensures { AllByRecursion (λ w. w < 2 ^ 32) words.now }
+{
+    match words {
+        [] => {}
+        [word, rest @ ..] => {
+            know_u32(*word);
+            know_words(rest)
+        }
     }
 }
 

@@ -1,10 +1,11 @@
 //! What the types of lists know of their lengths, made known to proofs.
-ghost use Rattle.message_writing.specs.Encoding.{AreFew, IsAskFew, IsTearFew, IsFew};
+ghost use Rattle.message_writing.specs.Encoding.{IsAdvertFew, AreFew, IsAskFew, IsTearFew, IsFew};
 
 use rsvp_base::Senders;
 use rsvp_messages::{Ask, Message, Tear};
+use rsvp_objects::Adspec;
 
-/// Each list of a message has at most 16 senders.
+/// Each list of a message has at most 16 senders, and the fragments of an ADSPEC have at most 24 words.
 pub fn know_lengths(message: &Message)
     ensures { IsFew message.now }
 {
@@ -13,7 +14,8 @@ pub fn know_lengths(message: &Message)
         Message::ResvConf(m) => know_ask(&m.ask),
         Message::ResvTear(m) => know_tear(&m.tear),
         Message::ResvErr(m) => know_senders(&m.blame.senders),
-        Message::Path(_) | Message::PathErr(_) | Message::PathTear(_) => {}
+        Message::Path(m) => know_advert(&m.adspec),
+        Message::PathErr(_) | Message::PathTear(_) => {}
     }
 }
 
@@ -47,5 +49,13 @@ fn know_senders(senders: &Option<Senders>)
 {
     if let Some(senders) = senders {
         let _ = senders.len();
+    }
+}
+
+fn know_advert(adspec: &Option<Adspec>)
+    ensures { IsAdvertFew adspec.now }
+{
+    if let Some(adspec) = adspec {
+        let _ = adspec.others.len();
     }
 }

@@ -9,7 +9,7 @@ use rsvp_base::{Addr, Flow, Full, Sender, Session};
 use rsvp_messages::{
     Message, PathErrMsg, PathMsg, PathTearMsg, ResvConfMsg, ResvErrMsg, ResvMsg, ResvTearMsg,
 };
-use rsvp_objects::{Object, Packet, put_object};
+use rsvp_objects::{Adspec, Object, Packet, put_object, write_adspec};
 
 /// The objects of a message. `Full` only where they do not fit.
 pub fn put_objects(message: &Message, packet: &mut Packet) -> Result<(), Full>
@@ -40,7 +40,8 @@ fn put_path(m: &PathMsg, packet: &mut Packet) -> Result<(), Full>
     )?;
     put_object(&Object::HopOf(m.hop), packet)?;
     put_object(&Object::Time(m.period), packet)?;
-    put_offer(&m.sender, packet)
+    put_offer(&m.sender, packet)?;
+    put_advert(&m.adspec, packet)
 }
 
 fn put_resv(m: &ResvMsg, packet: &mut Packet) -> Result<(), Full>
@@ -122,6 +123,17 @@ fn put_offer(offer: &Option<(Sender, Flow)>, packet: &mut Packet) -> Result<(), 
             put_object(&Object::Template(*sender), packet)?;
             put_object(&Object::Tspec(*flow), packet)
         }
+    }
+}
+
+#[tactic(auto, unfolding(rsvp_objects::specs::Spelling::spelling))]
+fn put_advert(adspec: &Option<Adspec>, packet: &mut Packet) -> Result<(), Full>
+    ensures ok { OnOk result (packet.new ≡ packet.old ++ spellings (where_there AnObject.Advert adspec.now)) }
+    ensures full { IsErr result → 4096 < length packet.old + length (spellings (where_there AnObject.Advert adspec.now)) }
+{
+    match adspec {
+        None => Ok(()),
+        Some(adspec) => write_adspec(adspec, packet),
     }
 }
 

@@ -48,6 +48,7 @@ pub fn tell_paths<O: Outbox>(
                 },
                 period,
                 sender: Some((sender, offered.tspec)),
+                adspec: None,
             };
             out.post(iface, session.group, Message::Path(message), refresh);
         }
@@ -177,6 +178,7 @@ pub fn tell_new_ways<O: Outbox>(
                 },
                 period,
                 sender: Some((sender, offered.tspec)),
+                adspec: None,
             };
             out.post(iface, session.group, Message::Path(message), false);
         }

@@ -135,7 +135,7 @@ pub record WantsConflict : Type 0 where
 
 -- ---- the handle of a previous hop goes back to it, in Resvs and ResvTears; errors have none
 abbrev with_handle : Outcome
-with_handle = came (node_r 1000) 0 0 group (message.Path (record { session = session; police = true; hop = record { addr = s1; handle = 7 }; period = 30000; sender = Some (first, usual) })) no_facts
+with_handle = came (node_r 1000) 0 0 group (message.Path (record { session = session; police = true; hop = record { addr = s1; handle = 7 }; period = 30000; sender = Some (first, usual); adspec = None })) no_facts
 
 abbrev with_handle_resv : Outcome
 with_handle_resv = came (node_r 1000) 0 1 r2 (message.Resv (record { session = session; hop = record { addr = t1; handle = 9 }; period = 30000; confirm = None; ask = wild usual })) with_handle.facts

@@ -99,7 +99,7 @@ called p clock l f = rule p p clock (Call l) f
 
 -- ---- messages, whose hops have handle 0 and whose period is 30 seconds
 abbrev pub path : Bool → Addr → Sender → TokenBucket → Message
-path police hop x tspec = message.Path (record { session = session; police = police; hop = record { addr = hop; handle = 0 }; period = 30000; sender = Some (x, tspec) })
+path police hop x tspec = message.Path (record { session = session; police = police; hop = record { addr = hop; handle = 0 }; period = 30000; sender = Some (x, tspec); adspec = None })
 
 abbrev pub resv : Addr → Option Addr → Ask → Message
 resv hop confirm a = message.Resv (record { session = session; hop = record { addr = hop; handle = 0 }; period = 30000; confirm = confirm; ask = a })

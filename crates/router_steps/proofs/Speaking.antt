@@ -79,7 +79,7 @@ module _ (old p : NodeConfig) (c : ℕ) (i : Input) (f : Facts) where
       (λ (r : IsResv old p f after (act p c i f) s). let no = sym (ap (λ (z : Send). z.message) r.is) ∙ e in absurd (cc)) k) k) k) k) k
 
   path_is : (s : Send) (m : PathMsg) → s.message ≡ message.Path m → (r : IsPath old p f after (act p c i f) s)
-      → m ≡ record { session = r.key.session; police = r.offer.local; hop = record { addr = own p r.key.iface; handle = 0 }; period = period p; sender = Some (r.key.sender, r.offer.tspec) }
+      → m ≡ record { session = r.key.session; police = r.offer.local; hop = record { addr = own p r.key.iface; handle = 0 }; period = period p; sender = Some (r.key.sender, r.offer.tspec); adspec = None }
   path_is s m e r = let same = sym e ∙ ap (λ (z : Send). z.message) r.is in cc
 
   path_says : (s : Send) (m : PathMsg) → s.message ≡ message.Path m → IsPath old p f after (act p c i f) s → IsOfOffer p (facts_then old p c i f) s m

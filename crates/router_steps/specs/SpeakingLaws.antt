@@ -1,5 +1,5 @@
 -- What is sent for path state, and why; and which sends are refreshes: the claims of the public laws.
-use Rattle.std.specs.Prelude.{◌≡◌, ℕ, ◌<◌, ◌⊎◌, true, false, length, Option, Some}
+use Rattle.std.specs.Prelude.{◌≡◌, ℕ, ◌<◌, ◌⊎◌, true, false, length, Option, Some, None}
 use Rattle.rsvp_base.specs.declared.addr.Addr.{Addr}
 use Rattle.rsvp_base.specs.declared.session.Sender.{Sender}
 use Rattle.rsvp_base.specs.declared.session.Session.{Session}
@@ -34,7 +34,7 @@ pub record IsOfOffer (p : NodeConfig) (f : Facts) (s : Send) (m : PathMsg) : Typ
   pub source : IsLocalOffer f key offer ⊎ IsPathOffer f key offer
   pub iface : s.iface ≡ key.iface
   pub dst : s.dst ≡ key.session.group
-  pub is : m ≡ record { session = key.session; police = offer.local; hop = record { addr = own p key.iface; handle = 0 }; period = period p; sender = Some (key.sender, offer.tspec) }
+  pub is : m ≡ record { session = key.session; police = offer.local; hop = record { addr = own p key.iface; handle = 0 }; period = period p; sender = Some (key.sender, offer.tspec); adspec = None }
 
 pub record WhatAPathSentSays : Type 0 where
   pub says : (step : NodeStep) → Begins step → (s : Send) (m : PathMsg) → In s (sent_by step) → s.message ≡ message.Path m → IsOfOffer step.now (left_by step) s m

@@ -7,6 +7,7 @@ use Rattle.rsvp_base.specs.declared.style.StyleKind.TheVariants as style
 use Rattle.rsvp_base.specs.Orders.{Names}
 use Rattle.rsvp_base.specs.Table.{get, has, size}
 use Rattle.rsvp_base.specs.TokenBucket.{TokenBucket, IsSound}
+use Rattle.rsvp_objects.specs.ObjectFields.AdspecLaws.{IsAdspec}
 use Rattle.rsvp_messages.specs.declared.ask.Ask.{Ask}
 use Rattle.rsvp_messages.specs.declared.ask.Ask.TheVariants as ask
 use Rattle.rsvp_messages.specs.declared.ask.Blame.{Blame}
@@ -77,7 +78,7 @@ abbrev pub IsProperBlame : Blame → Type 0
 IsProperBlame b = IsProperBlameOf b.style b.senders b.flow
 
 abbrev pub IsProper : Message → Type 0
-IsProper (message.Path m) = WhereThere (λ (e : Sender × TokenBucket). IsSound e.1) m.sender
+IsProper (message.Path m) = WhereThere (λ (e : Sender × TokenBucket). IsSound e.1) m.sender × WhereThere IsAdspec m.adspec
 IsProper (message.Resv m) = IsProperAsk m.ask
 IsProper (message.PathErr m) = Unit {0}
 IsProper (message.ResvErr m) = IsProperBlame m.blame

@@ -4,9 +4,10 @@ ghost use Rattle.rsvp_messages.specs.Kinds.{kind_of};
 
 use crate::ask::{Ask, Blame, Tear};
 use rsvp_base::{Addr, ErrSpec, Flow, Hop, Sender, Session};
+use rsvp_objects::Adspec;
 
 /// A sender's offer to a group (RFC 2205, 3.1.3).
-#[derive(Clone, Copy, Debug, PartialEq, Eq)]
+#[derive(Drop)]
 pub struct PathMsg {
     pub session: Session,
     /// E_Police: the flow is to be policed where it is merged (RFC 2205, A.1).
@@ -17,6 +18,8 @@ pub struct PathMsg {
     pub period: u32,
     /// The sender, and what it sends. A message without it is read, and means nothing.
     pub sender: Option<(Sender, Flow)>,
+    /// What the path offers, as far as the routers on it have told (RFC 2210, 3.3).
+    pub adspec: Option<Adspec>,
 }
 
 /// A receiver's request, on its way to the senders (RFC 2205, 3.1.4).
@@ -104,6 +107,22 @@ pub enum Kind {
     ResvConf,
 }
 
+impl PathMsg {
+    /// An equal message.
+    pub fn copy(&self) -> PathMsg
+        ensures { result ≡ self.now }
+    {
+        PathMsg {
+            session: self.session,
+            police: self.police,
+            hop: self.hop,
+            period: self.period,
+            sender: self.sender,
+            adspec: copy_of(&self.adspec),
+        }
+    }
+}
+
 impl ResvMsg {
     /// An equal message.
     pub fn copy(&self) -> ResvMsg
@@ -166,7 +185,7 @@ impl Message {
         ensures { result ≡ self.now }
     {
         match self {
-            Message::Path(m) => Message::Path(*m),
+            Message::Path(m) => Message::Path(m.copy()),
             Message::Resv(m) => Message::Resv(m.copy()),
             Message::PathErr(m) => Message::PathErr(*m),
             Message::ResvErr(m) => Message::ResvErr(m.copy()),
@@ -189,5 +208,15 @@ impl Message {
             Message::ResvTear(_) => Kind::ResvTear,
             Message::ResvConf(_) => Kind::ResvConf,
         }
+    }
+}
+
+// An equal ADSPEC, if there is one.
+fn copy_of(adspec: &Option<Adspec>) -> Option<Adspec>
+    ensures { result ≡ adspec.now }
+{
+    match adspec {
+        Some(adspec) => Some(adspec.copy()),
+        None => None,
     }
 }

@@ -1,5 +1,6 @@
 -- What was put is read again.
-use Rattle.std.proofs.Common.{length-append, ◌≡◌, ℕ, ◌+◌, ◌*◌, ◌-◌, ◌/◌, ◌%◌, ◌^◌, ◌<◌, ◌≤◌, Bool, true, false, List, [], ◌∷◌, ◌++◌, length, take, drop, Some, Result, Ok, refl, sym, ap, ◌∙◌, arith}
+use Rattle.std.proofs.Common.{length-append, ◌≡◌, ℕ, ◌+◌, ◌*◌, ◌-◌, ◌/◌, ◌%◌, ◌^◌, ◌<◌, ◌≤◌, Bool, true, false, List, [], ◌∷◌, ◌++◌, length, take, drop, Some, None, Result, Ok, refl, sym, ap, ◌∙◌, arith}
+use Rattle.std.specs.Prelude.{◌&&◌, ◌==◌}
 use Rattle.std.specs.List.{AllByRecursion, flat_map}
 use Rattle.std.proofs.Math.Seq.{drop-append_seam, drop-append-add}
 use Rattle.std.proofs.lemmas.List.{length-map, take_at}
@@ -14,30 +15,29 @@ use Rattle.rsvp_base.specs.declared.session.Sender.{Sender}
 use Rattle.rsvp_base.specs.declared.style.StyleKind.TheVariants.{Wild, Fixed, Shared}
 use Rattle.rsvp_base.proofs.Lists.{with_keys-union}
 use Rattle.rsvp_base.proofs.SetLaws.{same_set, has-union}
+use Rattle.object_fields.specs.Form.{adspec_in}
+use Rattle.object_fields.specs.Spelling.{adspec_bytes}
+use Rattle.object_fields.proofs.Again.{few_words, read_again as adspec_again}
+use Rattle.object_fields.proofs.Bytes.{body_size}
 use Rattle.rsvp_objects.specs.declared.object.Object.{Object}
 use Rattle.rsvp_objects.specs.declared.object.Object.TheVariants as object
 use Rattle.rsvp_objects.specs.declared.obj_err.ObjErr.{ObjErr}
-use Rattle.rsvp_objects.specs.Fields.{byte_at, half_at, has_flag, flag_if}
-use Rattle.rsvp_objects.specs.Classes.{class_with}
+use Rattle.object_fields.specs.Fields.{byte_at, half_at, has_flag, flag_if}
+use Rattle.rsvp_objects.specs.Classes.{adspec, class_with}
 use Rattle.rsvp_objects.specs.Contents.{e_police, in_place, not_guilty, source, sources_in, scope_in, source_bytes, scope_bytes}
 use Rattle.rsvp_objects.specs.FlowWords.{flow_in, bucket_in, flow_bytes}
-use Rattle.rsvp_objects.specs.RateWord.{word_of}
-use Rattle.rsvp_objects.specs.Reading.{head_of, body_of, contents_of, by_head, with_end, object_at}
+use Rattle.object_fields.specs.RateWord.{word_of}
+use Rattle.rsvp_objects.specs.Reading.{head_of, advert_in, body_of, contents_of, by_head, with_end, object_at}
 use Rattle.rsvp_objects.specs.Spelling.{spelling}
-use Rattle.rsvp_objects.specs.Proper.{class_of, ctype_with, IsSource, IsFlow, IsProper, IsWholeWords}
+use Rattle.rsvp_objects.specs.Proper.{class_of, ctype_with, IsSource, IsFlow, IsProper, most_bytes, IsWholeWords}
 use Rattle.rsvp_objects.proofs.Sources.{fours}
-use Rattle.rsvp_objects.proofs.WordLaws.{each_rate_has_one_word}
+use Rattle.object_fields.proofs.Numbers.{word_again, half_again}
+use Rattle.object_fields.proofs.WordLaws.{each_rate_has_one_word}
 
 abbrev read : {A : Type 0} → A → Result A ObjErr
 read x = Ok x
 
--- ---- numbers and flags
-
-word_again : (n : ℕ) → n < 2 ^ 32 → n / 16777216 % 256 * 16777216 + (n / 65536 % 256 * 65536 + (n / 256 % 256 * 256 + (n % 256 * 1 + 0))) ≡ n
-word_again n h = omega arith
-
-half_again : (n : ℕ) → n < 2 ^ 16 → n / 256 % 256 * 256 + (n % 256 * 1 + 0) ≡ n
-half_again n h = omega arith
+-- ---- flags
 
 police_again : (b : Bool) → has_flag e_police (flag_if b e_police) ≡ b
 police_again true = refl
@@ -124,12 +124,26 @@ head_again (object.FlowOf f) at after h = head_from at (spelling (object.FlowOf 
 head_again (object.Filter s) at after h = head_from at (spelling (object.Filter s) ++ after) 12 (omega arith) refl (omega arith) refl (omega arith)
 head_again (object.Template s) at after h = head_from at (spelling (object.Template s) ++ after) 12 (omega arith) refl (omega arith) refl (omega arith)
 head_again (object.Tspec f) at after h = head_from at (spelling (object.Tspec f) ++ after) 36 (omega arith) refl (omega arith) refl (omega arith)
+head_again (object.Advert a) at after h =
+    let size = body_size a in
+    let few = few_words a.load a.others h.others.few in
+    let long = length-append (adspec_bytes a) after in
+    head_from at (spelling (object.Advert a) ++ after) (length (spelling (object.Advert a))) (omega arith) (omega arith) (omega arith) (omega arith) (omega arith)
 head_again (object.Confirm a) at after h = head_from at (spelling (object.Confirm a) ++ after) 8 (omega arith) refl (omega arith) refl (omega arith)
 head_again (object.Skipped n) at after h = head_from at (spelling (object.Skipped n) ++ after) 4 (omega arith) refl (omega arith) refl (omega arith)
 
+no_type : (b : Bool) → (b && (0 == 2)) ≡ false
+no_type true = refl
+no_type false = refl
+
+-- an object of C-Type 0 is no ADSPEC
+unread : (n : ℕ) → advert_in n 0 [] ≡ None
+unfolding advert_in
+unread n = rw (no_type (n == adspec)) refl
+
 -- and so do the contents behind it
 pub body_again : (x : Object) (at : ℕ) (after : List ℕ) → IsProper x → body_of at (class_of x) (ctype_with x) (take (length (spelling x) - 4) (drop 4 (spelling x ++ after))) ≡ read x
-unfolding body_of class_with contents_of spelling
+unfolding body_of advert_in class_with contents_of spelling
 body_again (object.Session s p) at after h =
     let g = word_again s.group.0 h.group in
     let q = half_again s.port h.port in
@@ -164,29 +178,38 @@ body_again (object.Template s) at after h =
     let q = half_again s.port h.port in
     λ i. Ok (object.Template (record { addr = record { 0 = g i }; port = q i }))
 body_again (object.Tspec f) at after h = rw (flow_again 1 f h) refl
+body_again (object.Advert a) at after h =
+    let k : length (spelling (object.Advert a)) - 4 ≡ length (adspec_bytes a) = omega arith in
+    let own : take (length (spelling (object.Advert a)) - 4) (adspec_bytes a ++ after) ≡ adspec_bytes a = rw k (take_at (adspec_bytes a) after (length (adspec_bytes a)) refl) in
+    let again : adspec_in (take (length (spelling (object.Advert a)) - 4) (adspec_bytes a ++ after)) ≡ Some a = ap adspec_in own ∙ adspec_again a h in
+    rw again refl
 body_again (object.Confirm a) at after h = let g = word_again a.0 h in λ i. Ok (object.Confirm (record { 0 = g i }))
-body_again (object.Skipped n) at after h = rw h.skipped refl
+body_again (object.Skipped n) at after h = rw (h.skipped, unread n) refl
 
 -- ---- the whole
 
 -- whole words, for each class
-pub whole_words : (x : Object) → IsProper x → IsWholeWords (spelling x)
+pub whole_words : (x : Object) → IsProper x → IsWholeWords (spelling x) (most_bytes x)
 unfolding spelling
-whole_words (object.Session s p) h = record { head = omega arith; words = refl; most = omega arith }
-whole_words (object.HopOf x) h = record { head = omega arith; words = refl; most = omega arith }
-whole_words (object.Time n) h = record { head = omega arith; words = refl; most = omega arith }
-whole_words (object.Error e) h = record { head = omega arith; words = refl; most = omega arith }
+whole_words (object.Session s p) h = record { head = omega arith; words = refl; most_is = omega arith }
+whole_words (object.HopOf x) h = record { head = omega arith; words = refl; most_is = omega arith }
+whole_words (object.Time n) h = record { head = omega arith; words = refl; most_is = omega arith }
+whole_words (object.Error e) h = record { head = omega arith; words = refl; most_is = omega arith }
 whole_words (object.Scope s) h =
     let size = scope_size s in
     let few = h.few in
-    record { head = omega arith; words = omega arith; most = omega arith }
-whole_words (object.StyleOf k) h = record { head = omega arith; words = refl; most = omega arith }
-whole_words (object.FlowOf f) h = record { head = omega arith; words = refl; most = omega arith }
-whole_words (object.Filter s) h = record { head = omega arith; words = refl; most = omega arith }
-whole_words (object.Template s) h = record { head = omega arith; words = refl; most = omega arith }
-whole_words (object.Tspec f) h = record { head = omega arith; words = refl; most = omega arith }
-whole_words (object.Confirm a) h = record { head = omega arith; words = refl; most = omega arith }
-whole_words (object.Skipped n) h = record { head = omega arith; words = refl; most = omega arith }
+    record { head = omega arith; words = omega arith; most_is = omega arith }
+whole_words (object.StyleOf k) h = record { head = omega arith; words = refl; most_is = omega arith }
+whole_words (object.FlowOf f) h = record { head = omega arith; words = refl; most_is = omega arith }
+whole_words (object.Filter s) h = record { head = omega arith; words = refl; most_is = omega arith }
+whole_words (object.Template s) h = record { head = omega arith; words = refl; most_is = omega arith }
+whole_words (object.Tspec f) h = record { head = omega arith; words = refl; most_is = omega arith }
+whole_words (object.Advert a) h =
+    let size = body_size a in
+    let few = few_words a.load a.others h.others.few in
+    record { head = omega arith; words = omega arith; most_is = omega arith }
+whole_words (object.Confirm a) h = record { head = omega arith; words = refl; most_is = omega arith }
+whole_words (object.Skipped n) h = record { head = omega arith; words = refl; most_is = omega arith }
 
 pub by_its_head : (at : ℕ) (bytes : List ℕ) → object_at at bytes ≡ by_head at bytes (head_of at (drop at bytes))
 unfolding object_at

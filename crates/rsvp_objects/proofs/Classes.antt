@@ -1,15 +1,17 @@
 -- An object has the class under which it was read.
 use Rattle.std.proofs.Common.{◌≡◌, ℕ, Bool, true, false, List, Option, Some, None, Result, Ok, refl, sym, ap, ◌∙◌, inl, inr}
-use Rattle.std.specs.Prelude.{not, nat_lt, ◌==◌, ◌⊎◌, if◌then◌else◌}
+use Rattle.std.specs.Prelude.{not, nat_lt, ◌&&◌, ◌==◌, if◌then◌else◌}
 use Rattle.std.proofs.lemmas.Bool.{eqb-true}
 use Rattle.rsvp_base.specs.Table.{size}
+use Rattle.object_fields.specs.declared.adspec.Adspec.{Adspec}
+use Rattle.object_fields.proofs.Choices.{chosen}
 use Rattle.rsvp_objects.specs.declared.class.Class.{Class}
 use Rattle.rsvp_objects.specs.declared.class.Class.TheVariants as class
 use Rattle.rsvp_objects.specs.declared.object.Object.{Object}
 use Rattle.rsvp_objects.specs.declared.obj_err.ObjErr.{ObjErr}
-use Rattle.rsvp_objects.specs.Classes.{is_skipped, class_number, class_with, ctype_of, size_of, has_size}
+use Rattle.rsvp_objects.specs.Classes.{adspec, is_skipped, class_number, class_with, ctype_of, size_of, has_size}
 use Rattle.rsvp_objects.specs.Contents.{scope_in}
-use Rattle.rsvp_objects.specs.Reading.{or_fault, is_other_service, contents_of, by_class, body_of}
+use Rattle.rsvp_objects.specs.Reading.{or_fault, is_other_service, contents_of, by_class, advert_in, passed_over, body_of}
 use Rattle.rsvp_objects.specs.Proper.{class_of, ObjectsHaveTheirClass}
 
 abbrev pub read : Object → Result Object ObjErr
@@ -17,11 +19,6 @@ read x = Ok x
 
 pub is_read : {x y : Object} → read x ≡ read y → x ≡ y
 is_read e = cc
-
--- a choice is one or the other
-pub chosen : {A : Type 0} (b : Bool) (x y z : A) → (if b then x else y) ≡ z → ((b ≡ true) × (x ≡ z)) ⊎ ((b ≡ false) × (y ≡ z))
-chosen true x y z e = inl (refl, e)
-chosen false x y z e = inr (refl, e)
 
 or_fault_class : {A : Type 0} (n : ℕ) (f : ObjErr) (says : A → Object) (found : Option A) (x : Object) → ((a : A) → class_of (says a) ≡ n) → or_fault f says found ≡ read x → class_of x ≡ n
 or_fault_class n f says (Some a) x is e = ap class_of (sym (is_read e)) ∙ is a
@@ -74,10 +71,22 @@ by_class_class at n ctype body x (Some c) is e =
       | inr p ↦ elim (chosen (not (has_size (size_of c) body)) _ _ _ p.1) [ inl q ↦ absurd (let z = q.1 in cc) | inr q ↦ contents_class at c body x q.1 ∙ number_of n c is ]
     ]
 
+adspec_class : (n ctype : ℕ) (body : List ℕ) (a : Adspec) → ◌≡◌ {A = Option Adspec} (advert_in n ctype body) (Some a) → adspec ≡ n
+unfolding advert_in
+adspec_class n ctype body a e = elim (chosen (n == adspec && ctype == 2) _ _ _ e) [ inl p ↦ sym (eqb-true n adspec (first (n == adspec) (ctype == 2) p.0)) | inr p ↦ absurd (let z = p.1 in cc) ]
+  where
+    first : (b c : Bool) → (b && c) ≡ true → b ≡ true
+    first true c e = refl
+    first false c e = absurd cc
+
+over_class : (n : ℕ) (o : Option Adspec) → ((a : Adspec) → o ≡ Some a → adspec ≡ n) → class_of (passed_over n o) ≡ n
+over_class n (Some a) is = is a refl
+over_class n None is = refl
+
 pub objects_have_their_class : ObjectsHaveTheirClass
 unfolding body_of
 objects_have_their_class at n ctype body x e =
     elim (chosen (is_skipped n) _ _ _ e) [
-      | inl p ↦ ap class_of (sym (is_read p.1))
+      | inl p ↦ ap class_of (sym (is_read p.1)) ∙ over_class n (advert_in n ctype body) (adspec_class n ctype body)
       | inr p ↦ by_class_class at n ctype body x (class_with n) refl p.1
     ]

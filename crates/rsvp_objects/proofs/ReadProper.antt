@@ -4,7 +4,6 @@ use Rattle.std.specs.Prelude.{not, nat_le, nat_lt, ◌==◌, ◌&&◌, ◌||◌,
 use Rattle.std.specs.List.{AllByRecursion}
 use Rattle.std.specs.declared.cmp.Ordering.TheVariants.{Less, Equal, Greater}
 use Rattle.std.specs.FinMap.Entries.{put, by_order}
-use Rattle.std.proofs.lemmas.Nat.{mul-le, pow_pos}
 use Rattle.std.proofs.lemmas.Bool.{eqb-true, eqb-false, leb-false, ltb-false}
 use Rattle.rsvp_base.specs.Orders.{Names, senders}
 use Rattle.rsvp_base.specs.Rates.{IsRate}
@@ -14,58 +13,28 @@ use Rattle.rsvp_base.specs.TokenBucket.{TokenBucket}
 use Rattle.rsvp_base.specs.declared.flow.Peak.{Peak}
 use Rattle.rsvp_base.specs.declared.flow.Peak.TheVariants.{Finite, Infinite}
 use Rattle.rsvp_base.specs.declared.session.Sender.{Sender}
+use Rattle.object_fields.specs.declared.adspec.Adspec.{Adspec}
+use Rattle.object_fields.specs.AdspecLaws.{IsAdspec}
+use Rattle.object_fields.proofs.ReadProper.{what_is_read_can_be_written}
 use Rattle.rsvp_objects.specs.declared.class.Class.{Class}
 use Rattle.rsvp_objects.specs.declared.class.Class.TheVariants as class
 use Rattle.rsvp_objects.specs.declared.head.Head.{Head}
 use Rattle.rsvp_objects.specs.declared.object.Object.{Object}
 use Rattle.rsvp_objects.specs.declared.object.Object.TheVariants as object
 use Rattle.rsvp_objects.specs.declared.obj_err.ObjErr.{ObjErr}
-use Rattle.rsvp_objects.specs.declared.rate_err.RateErr.{RateErr}
-use Rattle.rsvp_objects.specs.Classes.{is_skipped, class_with, ctype_of, size_of, has_size}
+use Rattle.rsvp_objects.specs.Classes.{adspec, is_skipped, class_with, ctype_of, size_of, has_size}
 use Rattle.rsvp_objects.specs.Contents.{sources_in, scope_in}
-use Rattle.rsvp_objects.specs.Fields.{byte_at, half_at, word_at}
-use Rattle.rsvp_objects.specs.FlowWords.{flow_in, bucket_in, rate_at, peak_at, peak_in, finite, sound_bucket, has_heads}
-use Rattle.rsvp_objects.specs.Proper.{IsSource, IsFlow, IsProper, AreBytes, WhatIsReadIsProper}
-use Rattle.rsvp_objects.specs.RateFault.{whole_number, rate_word}
-use Rattle.rsvp_objects.specs.RateLaws.{IsPeak}
-use Rattle.rsvp_objects.specs.RateWord.{sign, exponent, fraction}
-use Rattle.rsvp_objects.specs.Reading.{is_length, head_of, contents_of, or_fault, is_other_service, by_class, body_of, by_head, with_end, contents_at}
+use Rattle.object_fields.specs.Fields.{AreBytes, byte_at, half_at, word_at}
+use Rattle.object_fields.specs.RateFields.{peak_at}
+use Rattle.object_fields.proofs.Choices.{chosen}
+use Rattle.object_fields.proofs.ReadRates.{some_said, not_false, peak_proper, gave}
+use Rattle.object_fields.proofs.Small.{bytes_behind, bytes_before, byte_small, half_small, word_small}
+use Rattle.rsvp_objects.specs.FlowWords.{flow_in, bucket_in, rate_at, finite, sound_bucket, has_heads}
+use Rattle.rsvp_objects.specs.Proper.{IsSource, IsFlow, IsSkipped, IsProper, WhatIsReadIsProper}
+use Rattle.object_fields.specs.RateLaws.{IsPeak}
+use Rattle.rsvp_objects.specs.Reading.{is_length, head_of, contents_of, or_fault, is_other_service, by_class, advert_in, passed_over, body_of, by_head, with_end, contents_at}
 use Rattle.rsvp_objects.proofs.Again.{by_its_head}
-use Rattle.rsvp_objects.proofs.Classes.{read, is_read, chosen}
-use Rattle.rsvp_objects.proofs.Scaled.{rate_of_word_number}
-
--- ---- numbers of bytes
-
-bytes_behind : (n : ℕ) (xs : List ℕ) → AreBytes xs → AreBytes (drop n xs)
-bytes_behind zero xs h = h
-bytes_behind (suc n) [] h = tt
-bytes_behind (suc n) (x ∷ xs) h = bytes_behind n xs h.1
-
-bytes_before : (n : ℕ) (xs : List ℕ) → AreBytes xs → AreBytes (take n xs)
-bytes_before zero xs h = tt
-bytes_before (suc n) [] h = tt
-bytes_before (suc n) (x ∷ xs) h = (h.0, bytes_before n xs h.1)
-
-byte_small : (i : ℕ) (xs : List ℕ) → AreBytes xs → byte_at i xs < 2 ^ 8
-byte_small i [] h = omega arith
-byte_small zero (x ∷ xs) h = h.0
-byte_small (suc i) (x ∷ xs) h = byte_small i xs h.1
-
-half_small : (i : ℕ) (xs : List ℕ) → AreBytes xs → half_at i xs < 2 ^ 16
-half_small i xs h =
-    let d = bytes_behind i xs h in
-    let a = byte_small 0 (drop i xs) d in
-    let b = byte_small 1 (drop i xs) d in
-    omega arith
-
-word_small : (i : ℕ) (xs : List ℕ) → AreBytes xs → word_at i xs < 2 ^ 32
-word_small i xs h =
-    let s = bytes_behind i xs h in
-    let a = byte_small 0 (drop i xs) s in
-    let b = byte_small 1 (drop i xs) s in
-    let c = byte_small 2 (drop i xs) s in
-    let d = byte_small 3 (drop i xs) s in
-    omega arith
+use Rattle.rsvp_objects.proofs.Classes.{read, is_read}
 
 -- ---- scopes
 
@@ -95,87 +64,20 @@ names_proper : (xs : List Sender) (names : Names) → AllByRecursion IsSource xs
 names_proper [] names h k = k
 names_proper (x ∷ xs) names h k = names_proper xs (with_key names x) h.1 (put_proper x names.rows h.0 k)
 
--- ---- rates and flows
-
-peak_said : {p q : Peak} → ◌≡◌ {A = Result Peak RateErr} (Ok p) (Ok q) → p ≡ q
-peak_said e = cc
-
-some_said : {A : Type 0} {x y : A} → ◌≡◌ {A = Option A} (Some x) (Some y) → x ≡ y
-some_said e = cc
-
-not_false : (b : Bool) → not b ≡ false → b ≡ true
-not_false true e = refl
-not_false false e = cc
+-- ---- flows
 
 neither : (a b : Bool) → (a || b) ≡ false → (a ≡ false) × (b ≡ false)
 neither true b e = absurd cc
 neither false b e = (refl, e)
 
-abbrev said : Peak → Result Peak RateErr
-said p = Ok p
-
-whole_proper : (w : ℕ) (p : Peak) → sign w ≡ 0 → 1 ≤ exponent w → exponent w ≤ 254 → whole_number ((2 ^ 23 + fraction w) * 2 ^ exponent w) ≡ said p → IsPeak p
-whole_proper w p unsigned low high e =
-    let x = (2 ^ 23 + fraction w) * 2 ^ exponent w in
-    let some : 1 * 1 ≤ x = mul-le 1 1 (2 ^ 23 + fraction w) (2 ^ exponent w) (omega arith) (pow_pos (exponent w)) in
-    elim (chosen (not (x % 2 ^ 150 == 0)) _ _ _ e) [
-      | inl q ↦ absurd (let z = q.1 in cc)
-      | inr q ↦
-          let whole : x % 2 ^ 150 ≡ 0 = eqb-true (x % 2 ^ 150) 0 (not_false (x % 2 ^ 150 == 0) q.0) in
-          elim (chosen (nat_le (2 ^ 46) (x / 2 ^ 150)) _ _ _ q.1) [
-            | inl r ↦ absurd (let z = r.1 in cc)
-            | inr r ↦
-                let below : x / 2 ^ 150 < 2 ^ 46 = leb-false (2 ^ 46) (x / 2 ^ 150) r.0 in
-                let scaled : x / 2 ^ 150 * 2 ^ 150 ≡ x = omega (arith, whole) in
-                subst IsPeak (peak_said r.1) (rate_of_word_number w (x / 2 ^ 150) (inr (record { positive = omega (arith, some, whole); below = below; normal = record { unsigned = unsigned; not_least = low; not_most = high }; scaled = scaled })))
-          ]
-    ]
-
-zero_proper : IsRate 0
-zero_proper = rate_of_word_number 0 0 (inl (refl, refl))
-
-rate_proper : (w : ℕ) (p : Peak) → rate_word w ≡ said p → IsPeak p
-unfolding rate_word
-rate_proper w p e =
-    elim (chosen (nat_lt 0 (sign w)) _ _ _ e) [
-      | inl q ↦ absurd (let z = q.1 in cc)
-      | inr q ↦
-          let unsigned : sign w ≡ 0 = let z = ltb-false 0 (sign w) q.0 in omega arith in
-          elim (chosen (exponent w == 255) _ _ _ q.1) [
-            | inl r ↦ elim (chosen (fraction w == 0) _ _ _ r.1) [ inl z ↦ subst IsPeak (peak_said z.1) tt | inr z ↦ absurd (let y = z.1 in cc) ]
-            | inr r ↦
-                elim (chosen (exponent w == 0) _ _ _ r.1) [
-                  | inl z ↦ elim (chosen (fraction w == 0) _ _ _ z.1) [ inl y ↦ subst IsPeak (peak_said y.1) zero_proper | inr y ↦ absurd (let v = y.1 in cc) ]
-                  | inr z ↦
-                      let most : exponent w ≡ 255 → ⊥ = eqb-false (exponent w) 255 r.0 in
-                      let least : exponent w ≡ 0 → ⊥ = eqb-false (exponent w) 0 z.0 in
-                      whole_proper w p unsigned (omega (arith, least)) (omega (arith, most)) z.1
-                ]
-          ]
-    ]
-
-peak_from : (w : ℕ) (r : Result Peak RateErr) (p : Peak) → rate_word w ≡ r → peak_in r ≡ Some p → IsPeak p
-peak_from w (Ok q) p is e = subst IsPeak (some_said e) (rate_proper w q is)
-peak_from w (Err f) p is e = absurd cc
-
 finite_proper : (p : Peak) (n : ℕ) → IsPeak p → finite p ≡ Some n → IsRate n
 finite_proper (Finite m) n h e = subst IsRate (some_said e) h
 finite_proper Infinite n h e = absurd cc
 
--- what a step of a reading gave
-record Gave {A B : Type 0} (f : A → Option B) (o : Option A) (y : B) : Type 0 where
-  value : A
-  was : o ≡ Some value
-  rest : f value ≡ Some y
-
-gave : {A B : Type 0} (f : A → Option B) (o : Option A) (y : B) → option_and_then f o ≡ Some y → Gave f o y
-gave f (Some x) y e = record { value = x; was = refl; rest = e }
-gave f None y e = absurd cc
-
 rate_at_proper : (place : ℕ) (body : List ℕ) (n : ℕ) → rate_at place body ≡ Some n → IsRate n
 rate_at_proper place body n e =
     let g = gave finite (peak_at place body) n e in
-    finite_proper g.value n (peak_from (word_at place body) (rate_word (word_at place body)) g.value refl g.was) g.rest
+    finite_proper g.value n (peak_proper place body g.value g.was) g.rest
 
 sound_proper : (r b : ℕ) (p : Peak) (low most : ℕ) (f : TokenBucket) → IsRate r → IsRate b → IsPeak p → low < 2 ^ 32 → most < 2 ^ 32 → sound_bucket r b p low most ≡ Some f → IsFlow f
 sound_proper r b p low most f hr hb hp hl hm e =
@@ -198,7 +100,7 @@ bucket_proper body f h e =
     let r = gave _ (rate_at 12 body) f e in
     let b = gave _ (rate_at 16 body) f r.rest in
     let p = gave _ (peak_at 20 body) f b.rest in
-    sound_proper r.value b.value p.value (word_at 24 body) (word_at 28 body) f (rate_at_proper 12 body r.value r.was) (rate_at_proper 16 body b.value b.was) (peak_from (word_at 20 body) (rate_word (word_at 20 body)) p.value refl p.was) (word_small 24 body h) (word_small 28 body h) p.rest
+    sound_proper r.value b.value p.value (word_at 24 body) (word_at 28 body) f (rate_at_proper 12 body r.value r.was) (rate_at_proper 16 body b.value b.was) (peak_proper 20 body p.value p.was) (word_small 24 body h) (word_small 28 body h) p.rest
 
 flow_proper : (service : ℕ) (body : List ℕ) (f : TokenBucket) → AreBytes body → flow_in service body ≡ Some f → IsFlow f
 unfolding flow_in
@@ -242,11 +144,19 @@ class_proper at n ctype body x (Some c) h e =
       | inr p ↦ elim (chosen (not (has_size (size_of c) body)) _ _ _ p.1) [ inl q ↦ absurd (let z = q.1 in cc) | inr q ↦ contents_proper at c body x h q.1 ]
     ]
 
+adspec_proper : (n ctype : ℕ) (body : List ℕ) (a : Adspec) → AreBytes body → advert_in n ctype body ≡ Some a → IsAdspec a
+unfolding advert_in
+adspec_proper n ctype body a h e = elim (chosen (n == adspec && ctype == 2) _ _ _ e) [ inl p ↦ what_is_read_can_be_written body a h p.1 | inr p ↦ absurd (let z = p.1 in cc) ]
+
+over_proper : (n : ℕ) (o : Option Adspec) → IsSkipped n → ((a : Adspec) → o ≡ Some a → IsAdspec a) → IsProper (passed_over n o)
+over_proper n (Some a) skipped is = is a refl
+over_proper n None skipped is = skipped
+
 body_proper : (at n ctype : ℕ) (body : List ℕ) (x : Object) → n < 2 ^ 8 → AreBytes body → body_of at n ctype body ≡ read x → IsProper x
 unfolding body_of
 body_proper at n ctype body x small h e =
     elim (chosen (is_skipped n) _ _ _ e) [
-      | inl p ↦ subst IsProper (is_read p.1) (record { byte = small; skipped = p.0 })
+      | inl p ↦ subst IsProper (is_read p.1) (over_proper n (advert_in n ctype body) (record { byte = small; skipped = p.0 }) (λ a is. adspec_proper n ctype body a h is))
       | inr p ↦ class_proper at n ctype body x (class_with n) h p.1
     ]
 

@@ -5,7 +5,7 @@ use Rattle.std.proofs.lemmas.List.{append-nil, take_more, take_all}
 use Rattle.std.proofs.lemmas.Grind.{flat_map-append}
 use Rattle.std.proofs.lemmas.List.Concat.{flat_map-cons}
 use Rattle.rsvp_base.specs.declared.session.Sender.{Sender}
-use Rattle.rsvp_objects.specs.Fields.{word_at}
+use Rattle.object_fields.specs.Fields.{word_at}
 use Rattle.rsvp_objects.specs.Contents.{source, sources_in, source_bytes}
 
 pub sources_cons : (r : List ℕ) → 4 ≤ length r → sources_in r ≡ source (word_at 0 r) ∷ sources_in (drop 4 r)

@@ -50,9 +50,13 @@ class_with n =
     if n == 12 then Some class.SenderTspec else
     if n == 15 then Some class.ResvConfirm else None
 
--- skipped unread: NULL, INTEGRITY, ADSPEC, POLICY_DATA, and unknown classes from 128 on (RFC 2205, 3.10)
+abbrev pub adspec : ℕ
+adspec = 13
+
+-- skipped unread: NULL, INTEGRITY, POLICY_DATA, and unknown classes from 128 on (RFC 2205, 3.10); and an ADSPEC, but where its
+-- contents are of their form
 abbrev pub is_skipped : ℕ → Bool
-is_skipped n = n == 0 || n == 4 || n == 13 || n == 14 || nat_le 128 n
+is_skipped n = n == 0 || n == 4 || n == adspec || n == 14 || nat_le 128 n
 
 abbrev pub has_size : Option ℕ → List ℕ → Bool
 has_size (Some n) body = length body == n

@@ -19,18 +19,13 @@
 --     +-------------+-------------+-------------+-------------+
 --
 -- A length counts the words behind its own. What is not named is not looked at.
-use Rattle.std.specs.Prelude.{ℕ, ◌/◌, Bool, ◌&&◌, ◌||◌, ◌==◌, List, ◌∷◌, ◌++◌, length, Option, Some, None, Result, Ok, Err, option_and_then, if◌then◌else◌}
+use Rattle.std.specs.Prelude.{ℕ, ◌/◌, Bool, ◌&&◌, ◌||◌, ◌==◌, List, ◌∷◌, ◌++◌, length, Option, Some, None, if◌then◌else◌}
 use Rattle.rsvp_base.specs.TokenBucket.{TokenBucket}
 use Rattle.rsvp_base.specs.declared.flow.Peak.{Peak}
 use Rattle.rsvp_base.specs.declared.flow.Peak.TheVariants.{Finite, Infinite}
-use Rattle.rsvp_objects.specs.declared.rate_err.RateErr.{RateErr}
-use Rattle.rsvp_objects.specs.Fields.{byte_at, half_at, word_at, half, word}
-use Rattle.rsvp_objects.specs.RateWord.{word_of}
-use Rattle.rsvp_objects.specs.RateFault.{rate_word}
-
-infixl 10 ◌>>=◌
-abbrev pub ◌>>=◌ : {A B : Type 0} → Option A → (A → Option B) → Option B
-o >>= f = option_and_then f o
+use Rattle.object_fields.specs.Fields.{byte_at, half_at, word_at, half, word}
+use Rattle.object_fields.specs.RateWord.{word_of}
+use Rattle.object_fields.specs.RateFields.{◌>>=◌, peak_at}
 
 -- the service of a FLOWSPEC (controlled load) and of a SENDER_TSPEC (default, general parameters)
 abbrev pub controlled_load : ℕ
@@ -38,13 +33,6 @@ controlled_load = 5
 
 abbrev pub general : ℕ
 general = 1
-
-abbrev pub peak_in : Result Peak RateErr → Option Peak
-peak_in (Ok p) = Some p
-peak_in (Err e) = None
-
-abbrev pub peak_at : ℕ → List ℕ → Option Peak
-peak_at place body = peak_in (rate_word (word_at place body))
 
 abbrev pub finite : Peak → Option ℕ
 finite (Finite n) = Some n

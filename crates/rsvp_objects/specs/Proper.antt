@@ -10,11 +10,13 @@ use Rattle.rsvp_base.specs.declared.err_spec.ErrSpec.{ErrSpec}
 use Rattle.rsvp_base.specs.declared.hop.Hop.{Hop}
 use Rattle.rsvp_base.specs.declared.session.Sender.{Sender}
 use Rattle.rsvp_base.specs.declared.session.Session.{Session}
+use Rattle.object_fields.specs.AdspecLaws.{IsAdspec}
 use Rattle.rsvp_objects.specs.declared.class.Class.TheVariants as class
 use Rattle.rsvp_objects.specs.declared.object.Object.{Object}
 use Rattle.rsvp_objects.specs.declared.object.Object.TheVariants as object
-use Rattle.rsvp_objects.specs.Classes.{class_number, ctype_of, is_skipped}
-use Rattle.rsvp_objects.specs.RateLaws.{IsPeak}
+use Rattle.rsvp_objects.specs.Classes.{class_number, ctype_of, adspec, is_skipped}
+use Rattle.object_fields.specs.Fields.{AreBytes}
+use Rattle.object_fields.specs.RateLaws.{IsPeak}
 use Rattle.rsvp_objects.specs.Reading.{body_of, object_at}
 use Rattle.rsvp_objects.specs.Spelling.{spelling}
 
@@ -30,6 +32,7 @@ class_of (object.FlowOf f) = class_number class.FlowSpec
 class_of (object.Filter s) = class_number class.FilterSpec
 class_of (object.Template s) = class_number class.SenderTemplate
 class_of (object.Tspec f) = class_number class.SenderTspec
+class_of (object.Advert a) = adspec
 class_of (object.Confirm a) = class_number class.ResvConfirm
 class_of (object.Skipped n) = n
 
@@ -37,6 +40,7 @@ class_of (object.Skipped n) = n
 abbrev pub ctype_with : Object → ℕ
 ctype_with (object.FlowOf f) = ctype_of class.FlowSpec
 ctype_with (object.Tspec f) = ctype_of class.SenderTspec
+ctype_with (object.Advert a) = 2
 ctype_with (object.Skipped n) = 0
 ctype_with _ = 1
 
@@ -95,6 +99,7 @@ IsProper (object.FlowOf f) = IsFlow f
 IsProper (object.Filter s) = IsSender s
 IsProper (object.Template s) = IsSender s
 IsProper (object.Tspec f) = IsFlow f
+IsProper (object.Advert a) = IsAdspec a
 IsProper (object.Confirm a) = IsAddr a
 IsProper (object.Skipped n) = IsSkipped n
 
@@ -104,21 +109,22 @@ IsProper (object.Skipped n) = IsSkipped n
 abbrev pub WhatWasPutIsReadAgain : Type 0
 WhatWasPutIsReadAgain = (x : Object) → IsProper x → (before after : List ℕ) → object_at (length before) (before ++ (spelling x ++ after)) ≡ Ok (x, length before + length (spelling x))
 
--- a spelling is whole words, at least the head and at most 68 bytes
-pub record IsWholeWords (text : List ℕ) : Type 0 where
+-- a spelling is whole words, at least the head and at most 68 bytes, of an ADSPEC 144
+abbrev pub most_bytes : Object → ℕ
+most_bytes (object.Advert a) = 144
+most_bytes _ = 68
+
+pub record IsWholeWords (text : List ℕ) (most : ℕ) : Type 0 where
   pub head : 4 ≤ length text
   pub words : length text % 4 ≡ 0
-  pub most : length text ≤ 68
+  pub most_is : length text ≤ most
 
 abbrev pub SpellingsAreWholeWords : Type 0
-SpellingsAreWholeWords = (x : Object) → IsProper x → IsWholeWords (spelling x)
+SpellingsAreWholeWords = (x : Object) → IsProper x → IsWholeWords (spelling x) (most_bytes x)
 
 -- an object has the class under which it was read
 abbrev pub ObjectsHaveTheirClass : Type 0
 ObjectsHaveTheirClass = (at n ctype : ℕ) (body : List ℕ) (x : Object) → body_of at n ctype body ≡ Ok x → class_of x ≡ n
-
-abbrev pub AreBytes : List ℕ → Type 0
-AreBytes bytes = AllByRecursion (λ b. b < 2 ^ 8) bytes
 
 -- what is read has a spelling that is read as it
 abbrev pub WhatIsReadIsProper : Type 0

@@ -1,6 +1,8 @@
 -- The object at a place, or the first fault there: the faults in their order, once for all classes.
 use Rattle.std.specs.Prelude.{ℕ, ◌+◌, ◌-◌, ◌%◌, Bool, not, ◌&&◌, ◌==◌, nat_lt, nat_le, List, length, drop, take, Option, Some, None, IsTrue, Result, Ok, Err, if◌then◌else◌}
 use Rattle.rsvp_base.specs.Table.{size}
+use Rattle.object_fields.specs.declared.adspec.Adspec.{Adspec}
+use Rattle.object_fields.specs.Form.{adspec_in}
 use Rattle.rsvp_objects.specs.declared.class.Class.{Class}
 use Rattle.rsvp_objects.specs.declared.class.Class.TheVariants as class
 use Rattle.rsvp_objects.specs.declared.object.Object.{Object}
@@ -8,8 +10,8 @@ use Rattle.rsvp_objects.specs.declared.object.Object.TheVariants as object
 use Rattle.rsvp_objects.specs.declared.obj_err.ObjErr.{ObjErr}
 use Rattle.rsvp_objects.specs.declared.obj_err.ObjErr.TheVariants as fault
 use Rattle.rsvp_objects.specs.declared.head.Head.{Head}
-use Rattle.rsvp_objects.specs.Fields.{byte_at, half_at}
-use Rattle.rsvp_objects.specs.Classes.{is_skipped, class_with, ctype_of, size_of, has_size}
+use Rattle.object_fields.specs.Fields.{byte_at, half_at}
+use Rattle.rsvp_objects.specs.Classes.{adspec, is_skipped, class_with, ctype_of, size_of, has_size}
 use Rattle.rsvp_objects.specs.Contents.{session_in, police_in, hop_in, period_in, error_in, scope_in, style_in, sender_in, confirm_in}
 use Rattle.rsvp_objects.specs.FlowWords.{controlled_load, general, flow_in}
 
@@ -66,8 +68,17 @@ by_class at n ctype body (Some c) =
     if not (has_size (size_of c) body) then Err (fault.Contents at) else
     contents_of at c body
 
+-- the ADSPEC that contents are: of C-Type 2, and of the form (RFC 2210, 3.3)
+unfoldable pub advert_in : ℕ → ℕ → List ℕ → Option Adspec
+advert_in n ctype body = if n == adspec && ctype == 2 then adspec_in body else None
+
+-- it is read, and any other object of a class that is skipped stays unread
+abbrev pub passed_over : ℕ → Option Adspec → Object
+passed_over n (Some a) = object.Advert a
+passed_over n None = object.Skipped n
+
 unfoldable pub body_of : ℕ → ℕ → ℕ → List ℕ → Result Object ObjErr
-body_of at n ctype body = if is_skipped n then Ok (object.Skipped n) else by_class at n ctype body (class_with n)
+body_of at n ctype body = if is_skipped n then Ok (passed_over n (advert_in n ctype body)) else by_class at n ctype body (class_with n)
 
 -- ---- the whole
 

@@ -1,17 +1,14 @@
 -- How each object is spelt: its head (RFC 2205, 3.1.2), and the contents of its figure.
-use Rattle.std.specs.Prelude.{ℕ, ◌+◌, List, [], ◌∷◌, ◌++◌, length}
+use Rattle.std.specs.Prelude.{List, [], ℕ}
+use Rattle.object_fields.specs.Spelling.{object_bytes}
 use Rattle.rsvp_objects.specs.declared.class.Class.{Class}
 use Rattle.rsvp_objects.specs.declared.class.Class.TheVariants as class
 use Rattle.rsvp_objects.specs.declared.object.Object.{Object}
 use Rattle.rsvp_objects.specs.declared.object.Object.TheVariants as object
-use Rattle.rsvp_objects.specs.Fields.{half}
+use Rattle.object_fields.specs.Fields.{spelt}
 use Rattle.rsvp_objects.specs.Classes.{class_number, ctype_of}
 use Rattle.rsvp_objects.specs.Contents.{session_bytes, hop_bytes, period_bytes, error_bytes, scope_bytes, style_bytes, sender_bytes, confirm_bytes}
 use Rattle.rsvp_objects.specs.FlowWords.{controlled_load, general, flow_bytes}
-
--- a length that counts its own four bytes, Class-Num, C-Type, contents
-abbrev pub spelt : ℕ → ℕ → List ℕ → List ℕ
-spelt n ctype body = half (4 + length body) ++ n ∷ ctype ∷ body
 
 abbrev pub spelt_as : Class → List ℕ → List ℕ
 spelt_as c body = spelt (class_number c) (ctype_of c) body
@@ -28,5 +25,6 @@ spelling (object.FlowOf f) = spelt_as class.FlowSpec (flow_bytes controlled_load
 spelling (object.Filter s) = spelt_as class.FilterSpec (sender_bytes s)
 spelling (object.Template s) = spelt_as class.SenderTemplate (sender_bytes s)
 spelling (object.Tspec f) = spelt_as class.SenderTspec (flow_bytes general f)
+spelling (object.Advert a) = object_bytes a
 spelling (object.Confirm a) = spelt_as class.ResvConfirm (confirm_bytes a)
 spelling (object.Skipped n) = spelt n 0 []

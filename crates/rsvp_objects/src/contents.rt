@@ -7,13 +7,13 @@ ghost use Rattle.rsvp_objects.specs.declared.class.Class.TheVariants as Class;
 ghost use Rattle.rsvp_objects.specs.Reading.{contents_of, IsSized};
 
 use crate::class::Class;
-use crate::fields::{addr_at, half_at, word_at};
 use crate::flags::{is_in_place, is_not_guilty, is_police};
 use crate::flow_reading::flow;
 use crate::obj_err::ObjErr;
 use crate::object::Object;
 use crate::places;
 use crate::values::{service, style as options};
+use object_fields::{addr_at, half_at, word_at};
 use rsvp_base::{Addr, ErrSpec, Hop, Sender, Senders, Session, StyleKind};
 
 /// The object with these contents, which have the size of their class, or its fault. `at` is its place.

@@ -1,11 +1,9 @@
 //! Reading the words of flows.
 ghost use Rattle.std.specs.Prelude.{◌≡◌, ◌≤◌, ◌+◌, length};
-ghost use Rattle.rsvp_objects.specs.FlowWords.{peak_in, peak_at, rate_at, has_heads, bucket_in, flow_in};
-ghost use Rattle.rsvp_objects.specs.RateFault.{rate_word};
+ghost use Rattle.rsvp_objects.specs.FlowWords.{rate_at, has_heads, bucket_in, flow_in};
 
-use crate::fields::{half_at, word_at};
-use crate::rate_word::rate_of_word;
 use crate::{places, values};
+use object_fields::{half_at, peak_at, word_at};
 use rsvp_base::{Flow, Peak, Rate};
 
 /// The flow that the contents of a FLOWSPEC or SENDER_TSPEC of a service say. `None` where they are not the eight words.
@@ -59,13 +57,4 @@ fn rate_at(body: &[u8], place: usize) -> Option<Rate>
         Peak::Finite(rate) => Some(rate),
         Peak::Infinite => None,
     }
-}
-
-// The rate or infinity of the word at a place.
-#[inline(always)]
-fn peak_at(body: &[u8], place: usize) -> Option<Peak>
-    requires { place + 4 ≤ length body.now }
-    ensures { result ≡ peak_at place body.now }
-{
-    rate_of_word(word_at(body, place)).ok()
 }

@@ -1,6 +1,7 @@
 //! Objects.
 ghost use Rattle.std.specs.Prelude.{◌≡◌};
 
+use object_fields::Adspec;
 use rsvp_base::{Addr, ErrSpec, Flow, Hop, Sender, Senders, Session, StyleKind};
 
 /// What an object says (RFC 2205, appendix A; RFC 2210, 3).
@@ -26,9 +27,12 @@ pub enum Object {
     Template(Sender),
     /// SENDER_TSPEC.
     Tspec(Flow),
+    /// ADSPEC of integrated services.
+    Advert(Adspec),
     /// RESV_CONFIRM: the address that asks for confirmation.
     Confirm(Addr),
-    /// An object that is skipped unread: NULL, INTEGRITY, ADSPEC, POLICY_DATA, or a class from 128 on (RFC 2205, 3.10).
+    /// An object that is skipped unread: NULL, INTEGRITY, POLICY_DATA, a class from 128 on (RFC 2205, 3.10), or an ADSPEC of
+    /// another form.
     Skipped { class: u8 },
 }
 
@@ -51,6 +55,7 @@ impl Object {
             Object::Filter(sender) => Object::Filter(*sender),
             Object::Template(sender) => Object::Template(*sender),
             Object::Tspec(flow) => Object::Tspec(*flow),
+            Object::Advert(adspec) => Object::Advert(adspec.copy()),
             Object::Confirm(addr) => Object::Confirm(*addr),
             Object::Skipped { class } => Object::Skipped { class: *class },
         }

@@ -1,16 +1,16 @@
 //! Reading objects.
 ghost use Rattle.std.specs.Prelude.{◌≡◌, ◌≤◌, ◌<◌, ◌+◌, length, drop, IfOk};
 ghost use Rattle.rsvp_objects.specs.Classes.{has_size};
-ghost use Rattle.rsvp_objects.specs.Reading.{head_of, body_of, object_at};
+ghost use Rattle.rsvp_objects.specs.Reading.{head_of, advert_in, passed_over, body_of, object_at};
 
 use crate::class::Class;
 use crate::contents::contents;
-use crate::fields::half_at;
 use crate::head::Head;
 use crate::obj_err::ObjErr;
 use crate::object::Object;
 use crate::places;
-use crate::table::is_skipped;
+use crate::table::{ADSPEC, INTSERV, is_skipped};
+use object_fields::{Adspec, half_at, read_adspec};
 
 /// The object at a place, and the place after it. Else the first fault there, in the order of `ObjErr`.
 #[tactic(auto, unfolding(crate::specs::Reading::object_at))]
@@ -57,7 +57,7 @@ pub fn object_with(at: u16, class: u8, ctype: u8, body: &[u8]) -> Result<Object,
     ensures { result ≡ body_of at class ctype body.now }
 {
     if is_skipped(class) {
-        return Ok(Object::Skipped { class });
+        return Ok(passed_over(class, ctype, body));
     }
     let Some(known) = Class::with_number(class) else {
         return Err(ObjErr::Class(at, class, ctype));
@@ -69,6 +69,28 @@ pub fn object_with(at: u16, class: u8, ctype: u8, body: &[u8]) -> Result<Object,
         return Err(ObjErr::Contents(at));
     }
     contents(at, known, body)
+}
+
+// The ADSPEC where contents are of its form; any other object of a class that is skipped stays unread.
+#[inline(always)]
+fn passed_over(class: u8, ctype: u8, body: &[u8]) -> Object
+    ensures { result ≡ passed_over class (advert_in class ctype body.now) }
+{
+    match advert(class, ctype, body) {
+        Some(adspec) => Object::Advert(adspec),
+        None => Object::Skipped { class },
+    }
+}
+
+#[tactic(auto, unfolding(crate::specs::Reading::advert_in))]
+fn advert(class: u8, ctype: u8, body: &[u8]) -> Option<Adspec>
+    ensures { result ≡ advert_in class ctype body.now }
+{
+    if class == ADSPEC && ctype == INTSERV {
+        read_adspec(body)
+    } else {
+        None
+    }
 }
 
 // Whether contents have the size, where it is fixed.

@@ -32,7 +32,8 @@ const NULL: u8 = 0;
 
 const INTEGRITY: u8 = 4;
 
-const ADSPEC: u8 = 13;
+// Skipped but where its contents are of their form.
+pub const ADSPEC: u8 = 13;
 
 const POLICY_DATA: u8 = 14;
 
@@ -41,7 +42,7 @@ const FIRST_SKIPPED: u8 = 128;
 // C-Type of the objects that have IPv4 addresses or none, and of those of integrated services (RFC 2210, 3).
 const IPV4: u8 = 1;
 
-const INTSERV: u8 = 2;
+pub const INTSERV: u8 = 2;
 
 impl Class {
     /// The class with a Class-Num. `None` exactly where no class that is read has it.
@@ -110,7 +111,7 @@ impl Class {
     }
 }
 
-/// Whether objects with this Class-Num are skipped unread.
+/// Whether objects with this Class-Num are skipped unread, but for an ADSPEC whose contents are of their form.
 pub fn is_skipped(class: u8) -> bool
     ensures { result ≡ is_skipped class }
 {

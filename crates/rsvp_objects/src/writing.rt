@@ -6,11 +6,11 @@ ghost use Rattle.rsvp_objects.specs.Spelling.{spelt_as, spelling};
 
 use crate::class::Class;
 use crate::object::Object;
-use crate::packet::Packet;
 use crate::values::service;
 use crate::{places, texts};
 use arrayvec::ArrayVec;
 use byteorder::{BigEndian, ByteOrder};
+use object_fields::{Packet, write_adspec};
 use rsvp_base::{Full, Sender, Senders};
 
 // A SCOPE of 16 addresses, the most that a list of senders has.
@@ -42,6 +42,7 @@ pub fn put_object(object: &Object, packet: &mut Packet) -> Result<(), Full>
             service::GENERAL,
             flow,
         )),
+        Object::Advert(adspec) => write_adspec(adspec, packet),
         Object::Confirm(receiver) => packet.append(&texts::confirm(*receiver)),
         Object::Skipped { class } => packet.append(&texts::skipped(*class)),
     }

@@ -6,6 +6,7 @@ use rsvp_messages::{
     Ask, Blame, FixedList, Kind, Message, PathErrMsg, PathMsg, PathTearMsg, ResvConfMsg,
     ResvErrMsg, ResvMsg, ResvTearMsg, Tear,
 };
+use rsvp_objects::{Adspec, Fragments};
 use std::test::Fail;
 
 const SESSION: Session = Session {
@@ -79,6 +80,15 @@ fn each_message() -> Option<[Message; 7]> {
             hop: HOP,
             period: 30_000,
             sender: Some((sender(5004), usual)),
+            adspec: Some(Adspec {
+                broken: true,
+                hops: 3,
+                rate: Peak::Infinite,
+                latency: 250,
+                mtu: 1400,
+                load: Some(true),
+                others: Fragments::new(),
+            }),
         }),
         Message::Resv(ResvMsg {
             session: SESSION,

@@ -1,19 +1,22 @@
 //! Vectors of each kind of message, and the first faults of bytes that are none.
-use crate::messages::{PATH, PATH_ERR, PATH_TEAR, RESV, RESV_CONF, RESV_ERR, RESV_TEAR};
+use crate::messages::{
+    PATH, PATH_ADSPEC, PATH_ERR, PATH_TEAR, RESV, RESV_CONF, RESV_ERR, RESV_TEAR,
+};
 use crate::objects::{
     ADSPEC, CONFIRM, ERROR, FF, FILTER, FLOW, HOP, INTEGRITY, NULL, OTHER_FILTER, POLICY, SE,
-    SESSION, TIME, WF, bare, joined, message,
+    SESSION, TIME, WF, WHOLE_ADSPEC, bare, joined, message,
 };
 use message_wire::decode;
 use message_writing::encode;
-use rsvp_base::{Addr, Session};
+use rsvp_base::{Addr, Peak, Rate, Session};
 use rsvp_messages::{Fault, Kind, Message};
 use rsvp_objects::{ObjErr, Packet};
 use std::test::Fail;
 
-fn each() -> [(Kind, &'static [u8]); 7] {
+fn each() -> [(Kind, &'static [u8]); 8] {
     [
         (Kind::Path, PATH.as_slice()),
+        (Kind::Path, PATH_ADSPEC.as_slice()),
         (Kind::Resv, RESV.as_slice()),
         (Kind::PathErr, PATH_ERR.as_slice()),
         (Kind::ResvErr, RESV_ERR.as_slice()),
@@ -51,6 +54,34 @@ fn a_path_is_read(rt: HostRuntime) -> Result<(), Fail> {
     assert_eq!(rt; path.session, session);
     assert!(rt; path.police);
     assert_eq!(rt; path.period, 30_000);
+    assert!(rt; path.adspec.is_none());
+    Ok(())
+}
+
+#[test]
+fn an_adspec_is_read_in_a_path_alone(rt: HostRuntime) -> Result<(), Fail> {
+    let Ok(Message::Path(path)) = decode(&PATH_ADSPEC) else {
+        return Err(Fail::from("a Path"));
+    };
+    let adspec = path.adspec.ok_or("an ADSPEC")?;
+    assert!(rt; !adspec.broken);
+    assert_eq!(rt; adspec.hops, 1);
+    assert_eq!(rt;
+        adspec.rate,
+        Peak::Finite(Rate::of(10_000).ok_or("a rate")?)
+    );
+    assert_eq!(rt; adspec.latency, 100);
+    assert_eq!(rt; adspec.mtu, 1500);
+    assert_eq!(rt; adspec.load, Some(false));
+    assert_eq!(rt; adspec.others.words(), [0x0200_0000].as_slice());
+    // The object may stand anywhere before the end, and is written last.
+    let first = message(1, &[&WHOLE_ADSPEC, &PATH[8..]]);
+    let read = decode(first.bytes()).ok().ok_or("a Path")?;
+    assert_eq!(rt; encode(&read).bytes(), PATH_ADSPEC.as_slice());
+    // A PathTear skips it.
+    let tear = message(5, &[&PATH_TEAR[8..], &WHOLE_ADSPEC]);
+    let read = decode(tear.bytes()).ok().ok_or("a PathTear")?;
+    assert_eq!(rt; encode(&read).bytes(), PATH_TEAR.as_slice());
     Ok(())
 }
 
@@ -114,7 +145,7 @@ fn first_faults(rt: HostRuntime) {
         fault(path_with([0, 0, 64, 0, 0, 0x5c], &bare(0x40)).bytes()),
         Some(Fault::Object(ObjErr::Class(20, 64, 1)))
     );
-    let rows: [(u8, &[&[u8]], Fault); 18] = [
+    let rows: [(u8, &[&[u8]], Fault); 21] = [
         (2, &[&SESSION, &HOP, &TIME, &FLOW], Fault::Order(40)),
         (1, &[&SESSION, &SESSION, &HOP, &TIME], Fault::Repeated(20)),
         (1, &[&SESSION, &HOP], Fault::Missing(5)),
@@ -127,6 +158,17 @@ fn first_faults(rt: HostRuntime) {
             &[&SESSION, &HOP, &TIME, &ADSPEC, &ADSPEC],
             Fault::Repeated(48),
         ),
+        (
+            1,
+            &[&SESSION, &HOP, &TIME, &WHOLE_ADSPEC, &ADSPEC],
+            Fault::Repeated(92),
+        ),
+        (
+            1,
+            &[&SESSION, &HOP, &TIME, &ADSPEC, &WHOLE_ADSPEC],
+            Fault::Repeated(48),
+        ),
+        (2, &[&SESSION, &HOP, &WHOLE_ADSPEC], Fault::Order(32)),
         (1, &[&SESSION, &WF], Fault::Order(20)),
         (2, &[&SESSION, &HOP, &TIME, &WF, &POLICY], Fault::Order(48)),
         (2, &[&SESSION, &HOP, &TIME, &WF, &WF], Fault::Order(48)),

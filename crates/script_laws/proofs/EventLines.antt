@@ -15,7 +15,7 @@ use Rattle.script_words.specs.declared.raw.SenderWord.{SenderWord}
 use Rattle.script_words.specs.Addresses.{addr_value}
 use Rattle.script_words.specs.Lines.{text_lines}
 use Rattle.script_words.specs.Sessions.{sender_value, session_value}
-use Rattle.rsvp_objects.specs.Proper.{AreBytes}
+use Rattle.rsvp_objects.specs.Fields.{AreBytes}
 use Rattle.router_rules.specs.Inputs.{Arrival, QuitAll, Spelt, Unspelt}
 use Rattle.router_rules.specs.Steps.{IsFitList}
 use Rattle.tree_model.specs.declared.hops.LinkHop.{LinkHop}

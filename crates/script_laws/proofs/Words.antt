@@ -11,7 +11,7 @@ use Rattle.rsvp_base.specs.declared.style.StyleKind.TheVariants.{Wild, Fixed, Sh
 use Rattle.rsvp_base.specs.Members.{In}
 use Rattle.rsvp_base.proofs.Members.{in_each}
 use Rattle.rsvp_base.proofs.SetLaws.{and_both}
-use Rattle.rsvp_objects.specs.Proper.{AreBytes}
+use Rattle.rsvp_objects.specs.Fields.{AreBytes}
 use Rattle.message_wire.proofs.ProperRead.{bytes_of as are_bytes}
 use Rattle.script_words.specs.declared.raw.SenderWord.{SenderWord}
 use Rattle.script_words.specs.Steps.{◌>>=◌, each_of}

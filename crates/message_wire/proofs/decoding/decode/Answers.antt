@@ -1,5 +1,5 @@
 use Rattle.std.proofs.Common.{◌≡◌, Ok, Err, List, ℕ, get_or, ◌<◌, sym, ap, refl, inr, arith}
-use Rattle.rsvp_objects.specs.Proper.{AreBytes}
+use Rattle.rsvp_objects.specs.Fields.{AreBytes}
 use Rattle.rsvp_messages.specs.declared.fault.MsgErr.{MsgErr}
 use Rattle.rsvp_messages.specs.declared.message.Kind.{Kind}
 use Rattle.rsvp_messages.specs.declared.message.Message.{Message}

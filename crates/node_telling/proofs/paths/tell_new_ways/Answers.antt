@@ -1,4 +1,4 @@
-use Rattle.std.proofs.Common.{◌≡◌, ℕ, Bool, false, ◌==◌, ◌&&◌, not, Some, map as each, fold, length, slice_get, sym, ap, ◌∙◌, arith}
+use Rattle.std.proofs.Common.{◌≡◌, ℕ, Bool, false, ◌==◌, ◌&&◌, not, Some, None, map as each, fold, length, slice_get, sym, ap, ◌∙◌, arith}
 use Rattle.std.specs.Int.{bit_at}
 use Rattle.std.specs.List.{filter, range_with_len}
 use Rattle.rsvp_base.specs.declared.addr.Addr.{Addr}
@@ -18,7 +18,7 @@ loop-i-preserved g c =
       | then-is_only_in w ↦
           let say = λ (i : ℕ). path_send c.args.config.now false (offer_key (c.args.session, c.args.sender) i, as_offer c.args.offered.now) in
           let test : ℕ → Bool = λ i. (bit_at c.ways_of-ways.result i == 1) && not (bit_at c.args.old i == 1) in
-          let from : Addr → ℕ → Send = λ (a : Addr) (t : ℕ). record { iface = c.loop-i.i; dst = c.args.session.group; message = message.Path (record { session = c.args.session; police = c.args.offered.now.local; hop = record { addr = a; handle = 0 }; period = t; sender = Some (c.args.sender, c.args.offered.now.tspec) }); refresh = false } in
+          let from : Addr → ℕ → Send = λ (a : Addr) (t : ℕ). record { iface = c.loop-i.i; dst = c.args.session.group; message = message.Path (record { session = c.args.session; police = c.args.offered.now.local; hop = record { addr = a; handle = 0 }; period = t; sender = Some (c.args.sender, c.args.offered.now.tspec); adspec = None }); refresh = false } in
           let addr = sym (own_read c.ifaces-ifaces.result.now c.loop-i.i _ c.loop-i-test.true) ∙ ap (λ xs. addr_of (slice_get xs c.loop-i.i)) c.ifaces-ifaces.ensures.is in
           let here : g.O.Outbox.posted c.loop-i.out (from _ c.period-period.result) ≡ g.O.Outbox.posted c.loop-i.out (say c.loop-i.i) = λ j. g.O.Outbox.posted c.loop-i.out (from (addr j) (c.period-period.ensures j)) in
           w.out-is ∙ w.post.ensures ∙ here ∙ told_one g.O.Outbox.posted say test c.args.out.now c.loop-i.i c.loop-i.out (sym c.is_only_in.ensures ∙ w.if-is_only_in.true) c.loop-i.invariant

@@ -1,5 +1,0 @@
-pub mod Fragment
-pub mod Form
-pub mod Spelling
-pub mod Texts
-pub mod Laws

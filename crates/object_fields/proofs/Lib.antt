@@ -1,0 +1,14 @@
+pub mod Choices
+pub mod Numbers
+pub mod Small
+pub mod Scaled
+pub mod Normal
+pub mod WordAnswers
+pub mod WordLaws
+pub mod ReadRates
+pub mod Lists
+pub mod Walks
+pub mod Contents
+pub mod Bytes
+pub mod Again
+pub mod ReadProper

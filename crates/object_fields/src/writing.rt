@@ -1,0 +1,156 @@
+//! Writing ADSPECs.
+ghost use Rattle.std.specs.Prelude.{◌≡◌, ◌≤◌, ◌<◌, ◌+◌, ◌*◌, ◌++◌, ◌∷◌, ◌↔◌, length, drop, OnOk, OnErr, IsErr};
+ghost use Rattle.std.specs.List.{flat_map};
+ghost use Rattle.object_fields.specs.Fields.{half, word};
+ghost use Rattle.object_fields.specs.Spelling.{load_word, load_words, parameter, general_bytes, behind, object_bytes};
+
+use crate::adspec::Adspec;
+use crate::packet::Packet;
+use crate::rate_word::word_of_rate;
+use crate::words::BREAK_BIT;
+use crate::{places, values};
+use arrayvec::ArrayVec;
+use byteorder::{BigEndian, ByteOrder};
+use rsvp_base::Full;
+
+// The bytes of the head and the general part, and of an object with as many fragments as there may be.
+const HEAD_SIZE: usize = 44;
+
+const MOST_SIZE: usize = 144;
+
+/// Puts the object of an ADSPEC at the end of a packet: the general part, controlled load where it has it, the others.
+/// `Full` exactly where it does not fit; nothing changes then.
+pub fn write_adspec(adspec: &Adspec, packet: &mut Packet) -> Result<(), Full>
+    ensures ok { OnOk result (packet.new ≡ packet.old ++ object_bytes adspec.now) }
+    ensures full { IsErr result ↔ (4096 < length packet.old + length (object_bytes adspec.now)) }
+    ensures err { OnErr result (packet.new ≡ packet.old) }
+{
+    packet.append(text(adspec).as_slice())
+}
+
+// The bytes of the object.
+fn text(adspec: &Adspec) -> ArrayVec<u8, MOST_SIZE>
+    ensures { result.items ≡ object_bytes adspec.now }
+{
+    let words = count(adspec);
+    let mut text = start(adspec, words);
+    put_load(adspec.load, &mut text);
+    put_words(adspec.others.words(), &mut text);
+    text
+}
+
+// How many words stand behind the general part.
+fn count(adspec: &Adspec) -> u16
+    ensures is { result ≡ length (behind adspec.now) }
+    ensures few { result ≤ 25 }
+{
+    (usize::from(adspec.load.is_some()) + adspec.others.len()) as u16
+}
+
+// The head of the object and the general part, as a text that can grow.
+fn start(adspec: &Adspec, words: u16) -> ArrayVec<u8, MOST_SIZE>
+    requires number { words ≡ length (behind adspec.now) }
+    requires few { words ≤ 25 }
+    ensures { result.items ≡ half (44 + 4 * words) ++ 13 ∷ 2 ∷ general_bytes adspec.now }
+{
+    let head = head(adspec, words);
+    let mut text = ArrayVec::new();
+    let _ = text.try_extend_from_slice(&head);
+    text
+}
+
+// The head of the object and the general part, with so many words behind it.
+fn head(adspec: &Adspec, words: u16) -> [u8; HEAD_SIZE]
+    requires number { words ≡ length (behind adspec.now) }
+    requires few { words ≤ 25 }
+    ensures { result ≡ half (44 + 4 * words) ++ 13 ∷ 2 ∷ general_bytes adspec.now }
+{
+    let mut text = [0; HEAD_SIZE];
+    BigEndian::write_u16(&mut text, 44 + 4 * words);
+    text[places::object::CLASS] = values::ADSPEC;
+    text[places::object::CTYPE] = values::INTSERV;
+    let body = &mut text[places::object::CONTENTS..];
+    BigEndian::write_u16(
+        &mut body[places::WORDS_BEHIND_VERSION..],
+        values::BEHIND_VERSION + words,
+    );
+    body[places::SERVICE] = values::service::GENERAL;
+    body[places::BREAK] = if adspec.broken { values::BREAK } else { 0 };
+    BigEndian::write_u16(
+        &mut body[places::WORDS_BEHIND_SERVICE..],
+        values::service::BEHIND_GENERAL,
+    );
+    put_parameter(
+        &mut body[places::HOPS..],
+        values::parameter::HOPS,
+        adspec.hops,
+    );
+    put_parameter(
+        &mut body[places::RATE..],
+        values::parameter::RATE,
+        word_of_rate(adspec.rate),
+    );
+    put_parameter(
+        &mut body[places::LATENCY..],
+        values::parameter::LATENCY,
+        adspec.latency,
+    );
+    put_parameter(&mut body[places::MTU..], values::parameter::MTU, adspec.mtu);
+    text
+}
+
+// Writes a parameter of one word over the first eight bytes.
+fn put_parameter(text: &mut [u8], number: u8, value: u32)
+    requires { 8 ≤ length text.old }
+    ensures { text.new ≡ parameter number value ++ drop 8 text.old }
+{
+    text[0] = number;
+    text[1] = 0;
+    BigEndian::write_u16(
+        &mut text[places::WORDS_BEHIND_PARAMETER..],
+        values::parameter::WORDS,
+    );
+    BigEndian::write_u32(&mut text[places::VALUE..], value);
+}
+
+// The bytes of the controlled-load fragment where there is one, and where there is room.
+fn put_load(load: Option<bool>, text: &mut ArrayVec<u8, MOST_SIZE>)
+    requires { length text.old.items ≤ 140 }
+    ensures { text.new.items ≡ text.old.items ++ flat_map word (load_words load) }
+{
+    match load {
+        Some(broken) => put_word(load_word(broken), text),
+        None => {}
+    }
+}
+
+// The first word of a controlled-load fragment, which has no others.
+fn load_word(broken: bool) -> u32
+    ensures { result ≡ load_word broken }
+{
+    if broken {
+        values::LOAD_WORD + BREAK_BIT
+    } else {
+        values::LOAD_WORD
+    }
+}
+
+// The bytes of words, where there is room.
+fn put_words(words: &[u32], text: &mut ArrayVec<u8, MOST_SIZE>)
+    requires { length text.old.items + 4 * length words.now ≤ 144 }
+    ensures { text.new.items ≡ text.old.items ++ flat_map word words.now }
+{
+    for word in words {
+        put_word(*word, text);
+    }
+}
+
+// The bytes of a word, where there is room.
+fn put_word(number: u32, text: &mut ArrayVec<u8, MOST_SIZE>)
+    requires { length text.old.items ≤ 140 }
+    ensures { text.new.items ≡ text.old.items ++ word number }
+{
+    let mut bytes = [0; places::WORD_SIZE];
+    BigEndian::write_u32(&mut bytes, number);
+    let _ = text.try_extend_from_slice(&bytes);
+}
