@@ -15,9 +15,9 @@ use Rattle.script_grammar.specs.Grammar.{IsScript, Leads}
 use Rattle.script_grammar.proofs.Scripts.{one_script_law}
 use Rattle.script_laws.proofs.EventLines.{each_script_is_a_fit_run}
 use Rattle.script_laws.proofs.SenderLines.{each_script_lets_few_send}
-use Rattle.script_standing.proofs.Demands.{scripts_stand, the_last_report_is_the_demand}
-use Rattle.settle_reports.specs.Demands.{moment}
-use Rattle.settle_reports.proofs.Demands.{a_settled_report_is_the_demand}
+use Rattle.seed_laws.proofs.ScriptStanding.Demands.{scripts_stand, the_last_report_is_the_demand}
+use Rattle.seed_laws.specs.SettleReports.Demands.{moment}
+use Rattle.seed_laws.proofs.SettleReports.Demands.{a_settled_report_is_the_demand}
 use Rattle.run_laws.specs.Books.{AreBooksWithinCapacity}
 use Rattle.run_laws.proofs.Books.{books_within}
 use Rattle.run_laws.proofs.Runs.{in_every_world}

@@ -12,8 +12,8 @@ use Rattle.network_model.specs.Steps.{Report, Step, machine}
 use Rattle.demand_texts.specs.Texts.{demand_text}
 use Rattle.script_grammar.specs.Draft.{Draft, plan_of, routing}
 use Rattle.script_grammar.specs.Grammar.{IsScript}
-use Rattle.settle_reports.specs.Demands.{AppendsTheDemand, moment}
-use Rattle.settle_reports.specs.Writing.{OnlyWrite}
+use Rattle.seed_laws.specs.SettleReports.Demands.{AppendsTheDemand, moment}
+use Rattle.seed_laws.specs.SettleReports.Writing.{OnlyWrite}
 use Rattle.run_laws.specs.Books.{AreBooksWithinCapacity}
 use Rattle.command_run.specs.Keeping.{RefusalsChangeNothing}
 

@@ -61,22 +61,22 @@ use Rattle.network_model.proofs.Changing.{where_a_send_goes}
 use Rattle.network_model.proofs.Machines.{quiet_of, in_flight_after}
 use Rattle.network_model.proofs.Quiet.{net_quiet}
 use Rattle.network_model.proofs.Stepping.{facts_after_made}
-use Rattle.settle_paths.specs.Known.{IsKnown}
-use Rattle.settle_paths.proofs.Known.{of_some, known_hold, node_there}
-use Rattle.settle_paths.proofs.Sends.{sent_by_rule, goes_to_end}
-use Rattle.settle_paths.proofs.Standing.{own_end, same_end, some_at}
+use Rattle.taken_resvs.specs.SettlePaths.Known.{IsKnown}
+use Rattle.taken_resvs.proofs.SettlePaths.Known.{of_some, known_hold, node_there}
+use Rattle.taken_resvs.proofs.SettlePaths.Sends.{sent_by_rule, goes_to_end}
+use Rattle.taken_resvs.proofs.SettlePaths.Standing.{own_end, same_end, some_at}
 use Rattle.taken_resvs.specs.GoalByIface.{goal_at}
-use Rattle.settle_paths.specs.PreviousHops.{IsPrevious}
-use Rattle.settle_paths.proofs.PreviousHops.{ahead, ends_there, previous_hops_are_all_hops, same_by_addr}
-use Rattle.sound_resvs.specs.SoftResvs.{AsksFor, SaysResv, line_key_of, resv_at, soft_resv}
-use Rattle.sound_resvs.specs.Said.{HopKey, IsOver, IsSaid, IsKept, lane_of, resv_key}
-use Rattle.sound_resvs.proofs.SoftResvs.{resv_found, kept_found}
-use Rattle.sound_resvs.proofs.Said.{said_resvs_are_kept}
-use Rattle.sound_resvs.specs.Below.{AreSoundBelow}
-use Rattle.sound_resvs.proofs.ResvSends.{IsResvSent, over_hop}
-use Rattle.sound_resvs.proofs.SoundResvs.{sent_here, firm_hold}
-use Rattle.sound_resvs.proofs.SoundUnits.{IsAddressed, peers_both, addressed}
-use Rattle.sound_resvs.proofs.TowardNames.{parts_of_style}
+use Rattle.taken_resvs.specs.SettlePaths.PreviousHops.{IsPrevious}
+use Rattle.taken_resvs.proofs.SettlePaths.PreviousHops.{ahead, ends_there, previous_hops_are_all_hops, same_by_addr}
+use Rattle.taken_resvs.specs.SoundResvs.SoftResvs.{AsksFor, SaysResv, line_key_of, resv_at, soft_resv}
+use Rattle.taken_resvs.specs.SoundResvs.Said.{HopKey, IsOver, IsSaid, IsKept, lane_of, resv_key}
+use Rattle.taken_resvs.proofs.SoundResvs.SoftResvs.{resv_found, kept_found}
+use Rattle.taken_resvs.proofs.SoundResvs.Said.{said_resvs_are_kept}
+use Rattle.taken_resvs.specs.SoundResvs.Below.{AreSoundBelow}
+use Rattle.taken_resvs.proofs.SoundResvs.ResvSends.{IsResvSent, over_hop}
+use Rattle.taken_resvs.proofs.SoundResvs.SoundResvs.{sent_here, firm_hold}
+use Rattle.taken_resvs.proofs.SoundResvs.SoundUnits.{IsAddressed, peers_both, addressed}
+use Rattle.taken_resvs.proofs.SoundResvs.TowardNames.{parts_of_style}
 use Rattle.taken_resvs.proofs.Accepting.{IsReady, can_be_taken, IsSettledSoFar, ready_hold}
 use Rattle.exact_resvs.proofs.TowardIsTheWant.{toward_is_the_want}
 

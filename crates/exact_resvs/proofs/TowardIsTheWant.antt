@@ -52,13 +52,13 @@ use Rattle.network_model.specs.Locals.{locals_of}
 use Rattle.network_model.specs.Sound.{ArePathsComplete, ArePathsSound, IsExact}
 use Rattle.network_model.specs.Worlds.{World, config_of}
 use Rattle.network_model.proofs.NodeLocals.{want_of_node}
-use Rattle.settle_paths.proofs.Known.{of_some}
-use Rattle.settle_paths.proofs.Standing.{goes_out_made}
+use Rattle.taken_resvs.proofs.SettlePaths.Known.{of_some}
+use Rattle.taken_resvs.proofs.SettlePaths.Standing.{goes_out_made}
 use Rattle.taken_resvs.proofs.WantStyles.{own_style, want_parts}
-use Rattle.settle_paths.specs.PreviousHops.{IsPrevious}
-use Rattle.settle_paths.proofs.PreviousHops.{comes_over, via_is}
-use Rattle.sound_resvs.specs.Below.{AreSoundBelow}
-use Rattle.sound_resvs.proofs.TowardWants.{stands_above}
+use Rattle.taken_resvs.specs.SettlePaths.PreviousHops.{IsPrevious}
+use Rattle.taken_resvs.proofs.SettlePaths.PreviousHops.{comes_over, via_is}
+use Rattle.taken_resvs.specs.SoundResvs.Below.{AreSoundBelow}
+use Rattle.taken_resvs.proofs.SoundResvs.TowardWants.{stands_above}
 use Rattle.rsvp_base.specs.Styles.{part_unit}
 use Rattle.style_rules.specs.Targets.{wall_keys}
 

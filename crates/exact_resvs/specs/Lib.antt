@@ -1,3 +1,4 @@
 pub mod Toward
-pub use Rattle.sound_resvs.specs.Below
-pub use Rattle.sound_resvs.specs.Example
+pub use Rattle.taken_resvs.specs.SoundResvs.Below
+pub use Rattle.taken_resvs.specs.SoundResvs.Example
+pub use Rattle.taken_resvs.specs.NodeGoals

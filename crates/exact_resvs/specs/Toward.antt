@@ -11,8 +11,8 @@ use Rattle.tree_model.specs.Wants.{want}
 use Rattle.network_model.specs.Locals.{locals_of}
 use Rattle.network_model.specs.Sound.{IsExact}
 use Rattle.network_model.specs.Worlds.{World, config_of}
-use Rattle.settle_paths.specs.PreviousHops.{IsPrevious}
-use Rattle.sound_resvs.specs.Below.{AreSoundBelow}
+use Rattle.taken_resvs.specs.SettlePaths.PreviousHops.{IsPrevious}
+use Rattle.taken_resvs.specs.SoundResvs.Below.{AreSoundBelow}
 
 -- from a node without blockades toward a previous hop, whose hop this is, where the reservations over the hops that follow are
 -- sound and exact

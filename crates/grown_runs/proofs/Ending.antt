@@ -24,8 +24,8 @@ use Rattle.network_steps.proofs.Keeping.{calm_rounds_keep_bounds}
 use Rattle.network_steps.proofs.Known.{known_hold}
 use Rattle.network_steps.proofs.Runs.{each_world_of_a_run_is_within_bounds}
 use Rattle.demand_texts.specs.Texts.{demand_text}
-use Rattle.settle_reports.specs.Demands.{AppendsTheDemand, moment}
-use Rattle.settle_reports.proofs.Demands.{a_settled_report_is_the_demand}
+use Rattle.script_standing.specs.SettleReports.Demands.{AppendsTheDemand, moment}
+use Rattle.script_standing.proofs.SettleReports.Demands.{a_settled_report_is_the_demand}
 use Rattle.script_standing.specs.Standing.{AskTheSame}
 use Rattle.script_standing.proofs.Same.{same_fit, same_text}
 use Rattle.grown_network.specs.declared.hosts.Wanted.{Wanted}

@@ -9,3 +9,5 @@ pub mod Standing
 pub mod Fit
 pub mod Silent
 pub mod Ending
+pub use Rattle.script_standing.proofs as ScriptStanding
+pub use Rattle.script_standing.proofs.SettleReports

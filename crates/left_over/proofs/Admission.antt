@@ -30,8 +30,8 @@ use Rattle.path_state.specs.Paths.{PathMap, path_keys}
 use Rattle.path_state.specs.declared.fact.PathFact.{PathFact}
 use Rattle.blockade_state.specs.Blockades.{WallMap}
 use Rattle.rsvp_base.specs.declared.session.Session.{Session}
-use Rattle.node_facts.specs.State.{path_at, wall_at}
-use Rattle.node_facts.proofs.Room.{room_same}
+use Rattle.resv_book.specs.NodeFacts.State.{path_at, wall_at}
+use Rattle.resv_book.proofs.NodeFacts.Room.{room_same}
 use Rattle.router_rules.specs.Books.{book, fits, lines_of, refused}
 use Rattle.router_rules.specs.Bounds.{AreBooked, AreWithinLimits}
 use Rattle.router_rules.specs.Calls.{entry_of, needs, stale_refusal, with_left}

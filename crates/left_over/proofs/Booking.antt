@@ -12,7 +12,7 @@ use Rattle.style_rules.specs.Lines.{line_keys}
 use Rattle.style_rules.proofs.Room.{within_tested}
 use Rattle.resv_state.specs.Resvs.{ResvFacts, ResvMap, resv_key}
 use Rattle.resv_state.specs.declared.fact.ResvFact.{ResvFact}
-use Rattle.node_facts.specs.State.{resv_at}
+use Rattle.resv_book.specs.NodeFacts.State.{resv_at}
 use Rattle.router_rules.specs.Books.{lines_of}
 use Rattle.router_rules.specs.Bounds.{AreWithinLimits}
 use Rattle.router_rules.specs.Calls.{stale_refusal}

@@ -7,7 +7,7 @@ use Rattle.rsvp_base.proofs.Changed.{has_changed}
 use Rattle.path_state.specs.Paths.{PathMap, path_keys}
 use Rattle.blockade_state.specs.Blockades.{WallMap}
 use Rattle.resv_state.specs.Resvs.{ResvFacts}
-use Rattle.node_facts.specs.State.{path_at, resv_at, wall_at}
+use Rattle.resv_book.specs.NodeFacts.State.{path_at, resv_at, wall_at}
 use Rattle.router_rules.specs.Facts.{SenderKey}
 use Rattle.style_rules.specs.Lines.{LineKey, line_keys}
 use Rattle.style_rules.specs.Targets.{WallKey, wall_keys}

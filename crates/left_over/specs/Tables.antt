@@ -5,7 +5,7 @@ use Rattle.rsvp_base.specs.Table.{changed, empty}
 use Rattle.resv_state.specs.Resvs.{ResvFacts}
 use Rattle.path_state.specs.Paths.{PathMap}
 use Rattle.blockade_state.specs.Blockades.{WallMap}
-use Rattle.node_facts.specs.State.{path_at, resv_at, wall_at}
+use Rattle.resv_book.specs.NodeFacts.State.{path_at, resv_at, wall_at}
 use Rattle.router_rules.specs.Bounds.{AreBooked}
 use Rattle.router_rules.specs.Facts.{Facts, Paths, ResvTables, Walls}
 use Rattle.router_rules.specs.NodeConfig.{NodeConfig}

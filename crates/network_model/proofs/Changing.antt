@@ -6,10 +6,10 @@ use Rattle.rsvp_base.specs.declared.addr.Addr.{Addr}
 use Rattle.rsvp_base.specs.Members.{In}
 use Rattle.rsvp_base.proofs.Members.{in_filter, to_filter}
 use Rattle.tree_model.specs.Goals.{addr_of}
-use Rattle.router_rules.specs.Facts.{Facts}
-use Rattle.router_rules.specs.Inputs.{Input, Came}
-use Rattle.router_rules.specs.NodeConfig.{is_addr}
-use Rattle.router_rules.specs.Rule.{Outcome, rule}
+use Rattle.router_rows.specs.RouterRules.Facts.{Facts}
+use Rattle.router_rows.specs.RouterRules.Inputs.{Input, Came}
+use Rattle.router_rows.specs.RouterRules.NodeConfig.{is_addr}
+use Rattle.router_rows.specs.RouterRules.Rule.{Outcome, rule}
 use Rattle.tree_model.specs.declared.hops.End.{End}
 use Rattle.tree_model.specs.Networks.{Net, iface_of, peers}
 use Rattle.tree_model.proofs.Following.{addr_same, addr_itself}

@@ -5,3 +5,4 @@ pub mod Quiet
 pub mod Changing
 pub mod Worked
 pub mod NodeLocals
+pub use Rattle.router_rows.proofs.RouterRules

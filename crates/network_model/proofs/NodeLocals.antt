@@ -15,7 +15,7 @@ use Rattle.rsvp_base.proofs.Tables.{tied_same}
 use Rattle.tree_model.specs.declared.locals.LocalSender.{LocalSender}
 use Rattle.tree_model.specs.declared.locals.LocalWant.{LocalWant}
 use Rattle.tree_model.specs.Wants.{live, of_session}
-use Rattle.router_rules.specs.Facts.{Facts, SenderKey, WantKey, Want, sender_keys, want_keys}
+use Rattle.router_rows.specs.RouterRules.Facts.{Facts, SenderKey, WantKey, Want, sender_keys, want_keys}
 use Rattle.network_model.specs.Locals.{IsLive, sender_at, senders_from, want_at, wants_from, locals_of}
 use Rattle.network_model.specs.Worlds.{World}
 

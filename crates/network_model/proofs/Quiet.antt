@@ -2,9 +2,9 @@
 use Rattle.std.proofs.Common.{◌≡◌, ℕ, ◌+◌, Bool, true, false, cond, Option, None, Some, ◌⊎◌, inl, inr, refl, sym, ap, ◌∙◌}
 use Rattle.std.specs.Prelude.{slice_get, ◌==◌}
 use Rattle.tree_model.proofs.Following.{same_number, number_same}
-use Rattle.router_rules.specs.Facts.{Facts}
-use Rattle.router_rules.specs.Inputs.{Input, Wait, Came}
-use Rattle.router_rules.specs.Rule.{Outcome, rule}
+use Rattle.router_rows.specs.RouterRules.Facts.{Facts}
+use Rattle.router_rows.specs.RouterRules.Inputs.{Input, Wait, Came}
+use Rattle.router_rows.specs.RouterRules.Rule.{Outcome, rule}
 use Rattle.tree_model.specs.declared.hops.End.{End}
 use Rattle.tree_model.specs.Networks.{Net, iface_of}
 use Rattle.network_model.specs.Steps.{Step, Piece, Deliver, Lose, Copy, At, ClearAt, Trace, Report, Flags, Inject, Reroute, is_quiet, ms_of, arrived, net_after, at_node, came_by_end, came, input_at, word_for, still, outcome_of, outcome}

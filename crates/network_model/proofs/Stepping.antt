@@ -3,8 +3,8 @@ use Rattle.std.proofs.Common.{◌≡◌, ℕ, zero, suc, ◌+◌, List, [], ◌�
 use Rattle.std.specs.Prelude.{slice_get}
 use Rattle.rsvp_base.specs.Members.{In}
 use Rattle.rsvp_base.proofs.Members.{in_append, in_left, in_right, in_each, to_each, in_flat_map, to_flat_map}
-use Rattle.router_rules.specs.Facts.{Facts}
-use Rattle.router_rules.specs.Inputs.{Send}
+use Rattle.router_rows.specs.RouterRules.Facts.{Facts}
+use Rattle.router_rows.specs.RouterRules.Inputs.{Send}
 use Rattle.tree_model.specs.Networks.{Net, end_at}
 use Rattle.network_model.specs.Links.{goes_to, copy_to, copies_of, all_copies}
 use Rattle.network_model.specs.Steps.{Step, outcome, facts_from, sent_from, sent, step}

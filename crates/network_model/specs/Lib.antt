@@ -10,5 +10,7 @@ pub mod Bounds
 pub mod Laws
 pub mod Rows
 pub use Rattle.router_rows.specs.ThreeRouters
-pub use Rattle.router_rules.specs.NodeConfig
-pub use Rattle.rsvp_messages.specs.Units
+pub use Rattle.router_rows.specs.RouterRules.NodeConfig
+pub use Rattle.router_rows.specs.RsvpMessages.Units
+pub use Rattle.router_rows.specs.RouterRules
+pub use Rattle.tree_model.specs as TreeModel

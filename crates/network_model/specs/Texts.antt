@@ -4,8 +4,8 @@ use Rattle.std.specs.List.{flat_map}
 use Rattle.rsvp_base.specs.declared.entry_key.EntryKey.{EntryKey}
 use Rattle.rsvp_base.specs.declared.part.Part.{Part}
 use Rattle.report_texts.specs.Texts.{entry_line, head_text, held_of, book_text}
-use Rattle.router_rules.specs.declared.entry.Entry.{Entry}
-use Rattle.router_rules.specs.declared.entry.Police.{Police}
+use Rattle.router_rows.specs.RouterRules.declared.entry.Entry.{Entry}
+use Rattle.router_rows.specs.RouterRules.declared.entry.Police.{Police}
 use Rattle.tree_model.specs.Lines.{BookTable}
 
 -- ---- a book without flags

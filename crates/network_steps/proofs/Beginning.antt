@@ -14,14 +14,14 @@ use Rattle.rsvp_base.specs.Table.{get, has}
 use Rattle.rsvp_base.proofs.Counts.{found_in, in_set_of, set_of_in}
 use Rattle.rsvp_base.proofs.Members.{to_each}
 use Rattle.rsvp_base.specs.Styles.{name_of}
-use Rattle.router_rules.specs.Bounds.{IsWithinBounds}
-use Rattle.router_rules.specs.Facts.{Facts, no_facts}
-use Rattle.router_rules.specs.Inputs.{Stale, StaleResv}
+use Rattle.network_model.specs.RouterRules.Bounds.{IsWithinBounds}
+use Rattle.network_model.specs.RouterRules.Facts.{Facts, no_facts}
+use Rattle.network_model.specs.RouterRules.Inputs.{Stale, StaleResv}
 use Rattle.network_model.specs.ThreeRouters.{s1, scope}
-use Rattle.router_rules.specs.NodeConfig.{NodeConfig}
-use Rattle.router_rules.specs.Rule.{facts_with}
-use Rattle.router_rules.proofs.Bounding.{no_facts_are_within_bounds}
-use Rattle.router_rules.specs.Steps.{IsFitStale}
+use Rattle.network_model.specs.RouterRules.NodeConfig.{NodeConfig}
+use Rattle.network_model.specs.RouterRules.Rule.{facts_with}
+use Rattle.network_model.proofs.RouterRules.Bounding.{no_facts_are_within_bounds}
+use Rattle.network_model.specs.RouterRules.Steps.{IsFitStale}
 use Rattle.router_bounds.proofs.LeftOver.{left_over_facts_are_within_bounds}
 use Rattle.tree_model.specs.declared.hops.TreeHop.{TreeHop}
 use Rattle.tree_model.specs.Trees.{tree_keys, key_of, trees_of}

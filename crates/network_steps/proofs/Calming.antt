@@ -8,13 +8,13 @@ use Rattle.calm_rounds.specs.Machine.{Machine, run, waits, all_sent, all_arrived
 use Rattle.calm_rounds.specs.Rounds.{AreQuiet, Calm, Rounds}
 use Rattle.calm_rounds.proofs.Holding.{made_run, fresh_step}
 use Rattle.rsvp_base.specs.declared.addr.Addr.{Addr}
-use Rattle.router_rules.specs.Act.{act}
-use Rattle.router_rules.specs.Facts.{Facts}
-use Rattle.router_rules.specs.Inputs.{Arrival, Change, Input, Wait, Came, Send}
-use Rattle.router_rules.specs.NodeConfig.{NodeConfig}
-use Rattle.router_rules.specs.Rule.{Outcome, rule, settled}
-use Rattle.router_inputs.specs.SendLaws.{IsPathTear, IsResvTear, IsError, IsConf, IsPath, IsResv}
-use Rattle.router_inputs.proofs.Sending.{sends_are_of_six_kinds}
+use Rattle.network_model.specs.RouterRules.Act.{act}
+use Rattle.network_model.specs.RouterRules.Facts.{Facts}
+use Rattle.network_model.specs.RouterRules.Inputs.{Arrival, Change, Input, Wait, Came, Send}
+use Rattle.network_model.specs.RouterRules.NodeConfig.{NodeConfig}
+use Rattle.network_model.specs.RouterRules.Rule.{Outcome, rule, settled}
+use Rattle.router_bounds.specs.RouterInputs.SendLaws.{IsPathTear, IsResvTear, IsError, IsConf, IsPath, IsResv}
+use Rattle.router_bounds.proofs.RouterInputs.Sending.{sends_are_of_six_kinds}
 use Rattle.tree_model.specs.Networks.{iface_of}
 use Rattle.router_steps.proofs.Counting.{reached}
 use Rattle.network_model.specs.Events.{pass, half, halves, a_round, rounds}

@@ -4,12 +4,12 @@ use Rattle.std.specs.Prelude.{slice_get, option_and_then, max, min}
 use Rattle.rsvp_base.specs.declared.session.Session.{Session}
 use Rattle.rsvp_base.specs.Table.{get, has}
 use Rattle.router_steps.specs.CountdownLaws.{IsMoved}
-use Rattle.router_rules.specs.Steps.{is_calm, facts_then, fired_then, node_step}
+use Rattle.network_model.specs.RouterRules.Steps.{is_calm, facts_then, fired_then, node_step}
 use Rattle.router_steps.proofs.Counting.{countdowns_move_by_their_rule, fires}
-use Rattle.router_rules.specs.Facts.{Facts}
-use Rattle.router_rules.specs.Inputs.{Input, Wait, Came}
-use Rattle.router_rules.specs.NodeConfig.{NodeConfig}
-use Rattle.router_rules.specs.Rule.{Outcome}
+use Rattle.network_model.specs.RouterRules.Facts.{Facts}
+use Rattle.network_model.specs.RouterRules.Inputs.{Input, Wait, Came}
+use Rattle.network_model.specs.RouterRules.NodeConfig.{NodeConfig}
+use Rattle.network_model.specs.RouterRules.Rule.{Outcome}
 use Rattle.tree_model.specs.Networks.{iface_of}
 use Rattle.network_model.specs.Bounds.{AreBounds}
 use Rattle.network_model.specs.Steps.{Step, is_quiet, ms_of, input_at, word_for, outcome, still, step}

@@ -15,11 +15,11 @@ use Rattle.rsvp_base.proofs.SetLaws.{and_both}
 use Rattle.calm_rounds.specs.Rounds.{AreQuiet}
 use Rattle.calm_rounds.specs.Hold.{Visited}
 use Rattle.calm_rounds.proofs.Holding.{visited_end}
-use Rattle.router_rules.specs.Bounds.{IsWithinBounds}
-use Rattle.router_rules.specs.Facts.{Facts, no_facts}
-use Rattle.router_rules.specs.Inputs.{Arrival, Spelt, Unspelt, SendAs}
+use Rattle.network_model.specs.RouterRules.Bounds.{IsWithinBounds}
+use Rattle.network_model.specs.RouterRules.Facts.{Facts, no_facts}
+use Rattle.network_model.specs.RouterRules.Inputs.{Arrival, Spelt, Unspelt, SendAs}
 use Rattle.network_model.specs.ThreeRouters.{s1, r1, session, first, usual}
-use Rattle.router_rules.proofs.Bounding.{no_facts_are_within_bounds}
+use Rattle.network_model.proofs.RouterRules.Bounding.{no_facts_are_within_bounds}
 use Rattle.tree_model.specs.declared.hops.End.{End}
 use Rattle.tree_model.specs.declared.hops.LinkHop.{LinkHop}
 use Rattle.tree_model.specs.declared.hops.TreeHop.{TreeHop}

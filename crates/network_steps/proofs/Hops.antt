@@ -16,29 +16,29 @@ use Rattle.rsvp_messages.specs.declared.message.ResvErrMsg.{ResvErrMsg}
 use Rattle.rsvp_messages.specs.declared.message.ResvMsg.{ResvMsg}
 use Rattle.rsvp_messages.specs.Units.{AskedUnit, ask_style, asked_units}
 use Rattle.tree_model.specs.Lines.{NextHop}
-use Rattle.router_rules.specs.declared.answers.Heard.TheVariants as heard
-use Rattle.router_rules.specs.declared.answers.Why.TheVariants as why
-use Rattle.router_rules.specs.Act.{act, act_spelt, is_mine}
-use Rattle.router_rules.specs.Asking.{act_resv, asker_of, matched, nothing_taken, refusal, style_conflict, taking_of}
-use Rattle.router_rules.specs.Confirming.{ConfsHeard, confs_heard, confs_on, with_confs}
-use Rattle.router_rules.specs.Errors.{act_resv_err, lane_of, path_err, path_err_on, replied, reply_to}
-use Rattle.router_rules.specs.Facts.{Facts, PathState, resvs_of}
-use Rattle.router_rules.specs.Inputs.{Call, Came, Change, Clear, ErrMsg, ErrSend, Input, Moved, OfPath, OfResv, Send, Spelt, Unspelt, Wait, only_heard}
-use Rattle.router_rules.specs.Known.{known}
-use Rattle.router_rules.specs.NodeConfig.{NodeConfig, addr_of as own_of, goes_out, is_own, own}
-use Rattle.router_rules.specs.Rule.{settled}
-use Rattle.router_rules.specs.Sends.{error_message, error_send}
-use Rattle.router_inputs.proofs.Blame.{sent_listing}
-use Rattle.router_inputs.specs.FactLaws.{ComesBy}
-use Rattle.router_inputs.specs.SendLaws.{IsSend}
-use Rattle.router_inputs.proofs.Lists.{some_same}
-use Rattle.router_inputs.specs.AskLaws.{IsLoss, IsBookRefusal}
-use Rattle.router_inputs.specs.ErrorLaws.{IsPathReply, IsResvReply, errors_with, walls_set}
-use Rattle.router_inputs.proofs.Answering.{faults_by_hint}
-use Rattle.router_inputs.proofs.Erring.{errors_once_each, resv_errs_by_tests}
-use Rattle.router_inputs.proofs.Wholes.{units_in_full}
-use Rattle.router_rules.specs.Steps.{sent_then}
-use Rattle.router_inputs.proofs.Stepping.{send_told}
+use Rattle.network_model.specs.RouterRules.declared.answers.Heard.TheVariants as heard
+use Rattle.network_model.specs.RouterRules.declared.answers.Why.TheVariants as why
+use Rattle.network_model.specs.RouterRules.Act.{act, act_spelt, is_mine}
+use Rattle.network_model.specs.RouterRules.Asking.{act_resv, asker_of, matched, nothing_taken, refusal, style_conflict, taking_of}
+use Rattle.network_model.specs.RouterRules.Confirming.{ConfsHeard, confs_heard, confs_on, with_confs}
+use Rattle.network_model.specs.RouterRules.Errors.{act_resv_err, lane_of, path_err, path_err_on, replied, reply_to}
+use Rattle.network_model.specs.RouterRules.Facts.{Facts, PathState, resvs_of}
+use Rattle.network_model.specs.RouterRules.Inputs.{Call, Came, Change, Clear, ErrMsg, ErrSend, Input, Moved, OfPath, OfResv, Send, Spelt, Unspelt, Wait, only_heard}
+use Rattle.network_model.specs.RouterRules.Known.{known}
+use Rattle.network_model.specs.RouterRules.NodeConfig.{NodeConfig, addr_of as own_of, goes_out, is_own, own}
+use Rattle.network_model.specs.RouterRules.Rule.{settled}
+use Rattle.network_model.specs.RouterRules.Sends.{error_message, error_send}
+use Rattle.router_bounds.proofs.RouterInputs.Blame.{sent_listing}
+use Rattle.router_bounds.specs.RouterInputs.FactLaws.{ComesBy}
+use Rattle.router_bounds.specs.RouterInputs.SendLaws.{IsSend}
+use Rattle.router_bounds.proofs.RouterInputs.Lists.{some_same}
+use Rattle.router_bounds.specs.RouterInputs.AskLaws.{IsLoss, IsBookRefusal}
+use Rattle.router_bounds.specs.RouterInputs.ErrorLaws.{IsPathReply, IsResvReply, errors_with, walls_set}
+use Rattle.router_bounds.proofs.RouterInputs.Answering.{faults_by_hint}
+use Rattle.router_bounds.proofs.RouterInputs.Erring.{errors_once_each, resv_errs_by_tests}
+use Rattle.router_bounds.proofs.RouterInputs.Wholes.{units_in_full}
+use Rattle.network_model.specs.RouterRules.Steps.{sent_then}
+use Rattle.router_bounds.proofs.RouterInputs.Stepping.{send_told}
 use Rattle.tree_model.specs.Goals.{addr_of}
 use Rattle.tree_model.specs.declared.hops.End.{End}
 use Rattle.tree_model.specs.Networks.{end_at, ends_of}

@@ -22,16 +22,16 @@ use Rattle.rsvp_base.proofs.Members.{in_any, in_append, in_each, in_filter, to_e
 use Rattle.rsvp_base.proofs.Tables.{get-without, got_put_in, got_without, none_above, tied_same, tied_self}
 use Rattle.calm_rounds.specs.Hold.{Visited}
 use Rattle.calm_rounds.specs.Machine.{run}
-use Rattle.router_inputs.proofs.Tests.{addr_told}
-use Rattle.router_rules.specs.declared.answers.LocalErr.{LocalErr}
-use Rattle.router_rules.specs.declared.answers.LocalErr.TheVariants as local
-use Rattle.router_rules.specs.declared.answers.StaleErr.{StaleErr}
-use Rattle.router_rules.specs.Calls.{call_refusal, needs, senders_with, stale_refusal, unless, with_left}
-use Rattle.router_rules.specs.Facts.{Facts, SenderKey, no_facts, sender_keys}
-use Rattle.router_rules.specs.Inputs.{Call, Input, Local, SendAs, DropAs, WantAs, QuitAll, Stale, Wait, Clear, Moved}
-use Rattle.router_rules.specs.NodeConfig.{NodeConfig, is_addr, is_own}
-use Rattle.router_rules.specs.Rule.{facts_with}
-use Rattle.router_rules.specs.Steps.{facts_then, node_step}
+use Rattle.router_bounds.proofs.RouterInputs.Tests.{addr_told}
+use Rattle.network_model.specs.RouterRules.declared.answers.LocalErr.{LocalErr}
+use Rattle.network_model.specs.RouterRules.declared.answers.LocalErr.TheVariants as local
+use Rattle.network_model.specs.RouterRules.declared.answers.StaleErr.{StaleErr}
+use Rattle.network_model.specs.RouterRules.Calls.{call_refusal, needs, senders_with, stale_refusal, unless, with_left}
+use Rattle.network_model.specs.RouterRules.Facts.{Facts, SenderKey, no_facts, sender_keys}
+use Rattle.network_model.specs.RouterRules.Inputs.{Call, Input, Local, SendAs, DropAs, WantAs, QuitAll, Stale, Wait, Clear, Moved}
+use Rattle.network_model.specs.RouterRules.NodeConfig.{NodeConfig, is_addr, is_own}
+use Rattle.network_model.specs.RouterRules.Rule.{facts_with}
+use Rattle.network_model.specs.RouterRules.Steps.{facts_then, node_step}
 use Rattle.router_steps.proofs.Framing.{left_as_it_was}
 use Rattle.tree_model.specs.declared.hops.End.{End}
 use Rattle.tree_model.specs.declared.locals.LocalSender.{LocalSender}
@@ -58,7 +58,7 @@ use Rattle.network_steps.proofs.Keeping.{ends_same}
 use Rattle.network_steps.proofs.Known.{has_some, of_some}
 use Rattle.network_steps.proofs.Runs.{each_world_of_a_run_is_within_bounds, visited_then, pieces_calm, passes_calm, rounds_calm, place_calm, no_time}
 use Rattle.network_steps.proofs.Standing.{place_in}
-use Rattle.router_inputs.specs.Frames.{on_senders}
+use Rattle.router_bounds.specs.RouterInputs.Frames.{on_senders}
 
 -- ---- the node that has an address
 AreApart : List End → Type 0

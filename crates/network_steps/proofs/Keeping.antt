@@ -12,11 +12,11 @@ use Rattle.calm_rounds.specs.Rounds.{Rounds}
 use Rattle.calm_rounds.specs.Hold.{Hold}
 use Rattle.calm_rounds.proofs.Holding.{hold_always}
 use Rattle.calm_rounds.proofs.Renewing.{in_option}
-use Rattle.router_rules.specs.Bounds.{IsWithinBounds}
-use Rattle.router_rules.specs.Facts.{Facts}
-use Rattle.router_rules.specs.Inputs.{Arrival, Input, Call, Wait, Clear, Moved, Send, Spelt, Unspelt}
-use Rattle.router_rules.specs.Rule.{rule}
-use Rattle.router_rules.specs.Steps.{IsSameNode, IsFit, IsFitArrival, clock_after}
+use Rattle.network_model.specs.RouterRules.Bounds.{IsWithinBounds}
+use Rattle.network_model.specs.RouterRules.Facts.{Facts}
+use Rattle.network_model.specs.RouterRules.Inputs.{Arrival, Input, Call, Wait, Clear, Moved, Send, Spelt, Unspelt}
+use Rattle.network_model.specs.RouterRules.Rule.{rule}
+use Rattle.network_model.specs.RouterRules.Steps.{IsSameNode, IsFit, IsFitArrival, clock_after}
 use Rattle.router_bounds.proofs.Bounded.{a_step_keeps_a_node_within_bounds}
 use Rattle.router_bounds.proofs.Wording.{what_is_sent_is_proper}
 use Rattle.tree_model.specs.declared.hops.End.{End}

@@ -7,9 +7,9 @@ use Rattle.calm_rounds.specs.Hold.{Hold}
 use Rattle.calm_rounds.specs.Rounds.{Rounds}
 use Rattle.calm_rounds.proofs.Holding.{hold_map, hold_both, hold_keep}
 use Rattle.router_steps.proofs.Framing.{calm_steps_keep_the_locals}
-use Rattle.router_rules.specs.Facts.{Facts}
-use Rattle.router_rules.specs.Inputs.{Input, Came}
-use Rattle.router_rules.specs.Rule.{Outcome}
+use Rattle.network_model.specs.RouterRules.Facts.{Facts}
+use Rattle.network_model.specs.RouterRules.Inputs.{Input, Came}
+use Rattle.network_model.specs.RouterRules.Rule.{Outcome}
 use Rattle.tree_model.specs.Networks.{Net, node_of, node_of_end, iface_of}
 use Rattle.tree_model.specs.Valid.{IsValid}
 use Rattle.network_model.specs.Bounds.{AreBounds}
@@ -23,7 +23,7 @@ use Rattle.network_model.proofs.Stepping.{facts_after_found, facts_after_made}
 use Rattle.network_steps.specs.Known.{IsSameNet, IsKnown}
 use Rattle.network_steps.proofs.Locals.{calm_input, locals_kept}
 use Rattle.network_steps.proofs.Standing.{same_end, some_at}
-use Rattle.router_rules.specs.Steps.{node_step}
+use Rattle.network_model.specs.RouterRules.Steps.{node_step}
 
 -- ---- values that may be there
 pub of_some : {A : Type 0} (a b : A) → Some a ≡ Some b → a ≡ b

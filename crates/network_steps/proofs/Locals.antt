@@ -4,19 +4,19 @@ use Rattle.std.proofs.Common.{◌≡◌, ℕ, suc, ◌+◌, List, [], ◌∷◌,
 use Rattle.std.specs.Prelude.{slice_get, is_some, map as each, ◌++◌}
 use Rattle.rsvp_base.specs.Table.{get, keys, changed, changed_rows}
 use Rattle.rsvp_base.proofs.Tables.{same_table, get-changed, then_do}
-use Rattle.router_inputs.specs.RuleLaws.{IsWant}
-use Rattle.router_rules.specs.Steps.{is_calm, node_step}
+use Rattle.router_bounds.specs.RouterInputs.RuleLaws.{IsWant}
+use Rattle.network_model.specs.RouterRules.Steps.{is_calm, node_step}
 use Rattle.router_steps.proofs.Framing.{calm_steps_keep_the_locals}
-use Rattle.router_rules.specs.Facts.{Facts, WantKey, Want, Wants, want_keys}
-use Rattle.router_rules.specs.Inputs.{Input}
-use Rattle.router_rules.specs.Rule.{Outcome}
+use Rattle.network_model.specs.RouterRules.Facts.{Facts, WantKey, Want, Wants, want_keys}
+use Rattle.network_model.specs.RouterRules.Inputs.{Input}
+use Rattle.network_model.specs.RouterRules.Rule.{Outcome}
 use Rattle.network_model.specs.Bounds.{AreBounds}
 use Rattle.network_model.specs.Locals.{sender_at, senders_from, want_at, wants_from, locals_of}
 use Rattle.network_model.specs.Steps.{Step, is_quiet, ms_of, input_at, outcome, still, step}
 use Rattle.network_model.specs.Worlds.{World, config_of}
 use Rattle.network_model.proofs.Quiet.{IsWaited, IsCame, FollowsRule, input_found, outcome_quiet}
 use Rattle.network_model.proofs.Stepping.{facts_after_found, facts_after_made}
-use Rattle.router_inputs.specs.Frames.{AreSameButMarks}
+use Rattle.router_bounds.specs.RouterInputs.Frames.{AreSameButMarks}
 
 -- ---- wants without their marks
 clear : WantKey → Want → Option Want

@@ -7,10 +7,10 @@ use Rattle.rsvp_base.specs.Members.{In}
 use Rattle.rsvp_base.proofs.Members.{in_filter}
 use Rattle.rsvp_messages.specs.declared.message.Message.{Message}
 use Rattle.tree_model.specs.Goals.{addr_of}
-use Rattle.router_rules.specs.Facts.{Facts}
-use Rattle.router_rules.specs.Inputs.{Send, Spelt}
-use Rattle.router_rules.specs.NodeConfig.{is_addr}
-use Rattle.router_rules.specs.Rule.{Outcome, rule}
+use Rattle.network_model.specs.RouterRules.Facts.{Facts}
+use Rattle.network_model.specs.RouterRules.Inputs.{Send, Spelt}
+use Rattle.network_model.specs.RouterRules.NodeConfig.{is_addr}
+use Rattle.network_model.specs.RouterRules.Rule.{Outcome, rule}
 use Rattle.tree_model.specs.Networks.{Net, end_at, peers}
 use Rattle.network_model.specs.Links.{is_group, or_all, ends_toward, goes_to}
 use Rattle.network_model.specs.Steps.{Step, is_quiet, ms_of, input_at, outcome, still, sent}

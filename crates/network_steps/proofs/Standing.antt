@@ -13,8 +13,8 @@ use Rattle.rsvp_base.specs.Members.{In}
 use Rattle.rsvp_base.proofs.Members.{in_each, to_each, in_filter}
 use Rattle.rsvp_base.proofs.SetLaws.{and_both, and_made}
 use Rattle.tree_model.specs.Goals.{addr_of, addr_of_end}
-use Rattle.router_rules.specs.declared.route.Route.{Route}
-use Rattle.router_rules.specs.NodeConfig.{NodeConfig, addr_of as own_of, own, is_addr, is_iface, is_in, is_out, route_in, comes_in, goes_out}
+use Rattle.network_model.specs.RouterRules.declared.route.Route.{Route}
+use Rattle.network_model.specs.RouterRules.NodeConfig.{NodeConfig, addr_of as own_of, own, is_addr, is_iface, is_in, is_out, route_in, comes_in, goes_out}
 use Rattle.tree_model.specs.declared.hops.End.{End}
 use Rattle.tree_model.specs.declared.hops.LinkHop.{LinkHop}
 use Rattle.tree_model.specs.Networks.{Net, node_of, ends_of, end_at, iface_of, among, link_of, peers}

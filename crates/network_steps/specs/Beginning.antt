@@ -5,10 +5,10 @@ use Rattle.rsvp_base.specs.declared.style.Unit.TheVariants.{One}
 use Rattle.rsvp_base.specs.Members.{In}
 use Rattle.rsvp_base.specs.Table.{get}
 use Rattle.tree_model.specs.Lines.{LineKey}
-use Rattle.router_rules.specs.Facts.{ResvState, resvs_of}
-use Rattle.router_rules.specs.Inputs.{Stale, StaleResv}
+use Rattle.network_model.specs.RouterRules.Facts.{ResvState, resvs_of}
+use Rattle.network_model.specs.RouterRules.Inputs.{Stale, StaleResv}
 use Rattle.network_model.specs.ThreeRouters.{r1, session, scope, usual}
-use Rattle.router_rules.specs.Steps.{IsFitStale}
+use Rattle.network_model.specs.RouterRules.Steps.{IsFitStale}
 use Rattle.tree_model.specs.Trees.{trees_of}
 use Rattle.tree_model.specs.Valid.{IsValid}
 use Rattle.network_model.specs.Links.{NoEndIsAGroup}

@@ -2,8 +2,8 @@
 use Rattle.std.specs.Prelude.{ℕ, [], ◌∷◌, false}
 use Rattle.calm_rounds.specs.Rounds.{Rounds}
 use Rattle.calm_rounds.specs.Hold.{Hold}
-use Rattle.router_rules.specs.Facts.{no_facts}
-use Rattle.router_rules.specs.Inputs.{SendAs}
+use Rattle.network_model.specs.RouterRules.Facts.{no_facts}
+use Rattle.network_model.specs.RouterRules.Inputs.{SendAs}
 use Rattle.network_model.specs.ThreeRouters.{s1, r1, group, session, first, usual}
 use Rattle.tree_model.specs.Networks.{Net}
 use Rattle.network_model.specs.Bounds.{AreBounds}

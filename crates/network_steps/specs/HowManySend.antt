@@ -3,7 +3,7 @@ use Rattle.std.specs.Prelude.{◌≡◌, true, List, [], ◌∷◌, map as each}
 use Rattle.std.specs.List.{range_with_len}
 use Rattle.rsvp_base.specs.Members.{In}
 use Rattle.network_model.specs.ThreeRouters.{s1, session, usual}
-use Rattle.router_rules.specs.Inputs.{SendAs, DropAs}
+use Rattle.network_model.specs.RouterRules.Inputs.{SendAs, DropAs}
 use Rattle.tree_model.specs.declared.locals.LocalSender.{LocalSender}
 use Rattle.network_model.specs.Events.{Event, AtNode}
 use Rattle.network_model.specs.Links.{is_group}

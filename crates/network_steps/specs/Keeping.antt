@@ -1,7 +1,7 @@
 -- What a step may be, so that a world within bounds stays so.
 use Rattle.std.specs.Prelude.{ℕ, ◌*◌, ◌<◌, ◌≤◌, length}
 use Rattle.rsvp_base.specs.Members.{In}
-use Rattle.router_rules.specs.Steps.{IsFitCall}
+use Rattle.network_model.specs.RouterRules.Steps.{IsFitCall}
 use Rattle.tree_model.specs.Valid.{IsValid}
 use Rattle.network_model.specs.Bounds.{IsProperArrival}
 use Rattle.network_model.specs.Steps.{Step, Piece, Deliver, Lose, Copy, At, ClearAt, Trace, Report, Flags, Inject, Reroute, rerouted}

@@ -7,6 +7,6 @@ pub mod Example
 pub mod Beginning
 pub mod Runs
 pub mod HowManySend
-pub use Rattle.router_inputs.specs.Sources
+pub use Rattle.router_bounds.specs.RouterInputs.Sources
 pub use Rattle.router_steps.specs.PathLaws
 pub use Rattle.router_steps.specs.SpeakingLaws

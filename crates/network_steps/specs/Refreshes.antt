@@ -2,7 +2,7 @@
 use Rattle.std.specs.Prelude.{◌≡◌, ℕ, ◌+◌, ◌≤◌, Option, Some, slice_get, option_and_then}
 use Rattle.rsvp_base.specs.declared.session.Session.{Session}
 use Rattle.rsvp_base.specs.Table.{get}
-use Rattle.router_rules.specs.Facts.{Facts}
+use Rattle.network_model.specs.RouterRules.Facts.{Facts}
 use Rattle.network_model.specs.Steps.{Step, Piece}
 use Rattle.network_model.specs.Worlds.{World}
 

@@ -9,7 +9,7 @@ use Rattle.rsvp_base.specs.Members.{In}
 use Rattle.rsvp_base.specs.Orders.{senders, sessions}
 use Rattle.rsvp_base.specs.Sets.{set_of}
 use Rattle.rsvp_base.specs.Table.{size}
-use Rattle.router_rules.specs.Inputs.{Local, SendAs, DropAs, WantAs, QuitAll}
+use Rattle.network_model.specs.RouterRules.Inputs.{Local, SendAs, DropAs, WantAs, QuitAll}
 use Rattle.tree_model.specs.declared.locals.LocalSender.{LocalSender}
 use Rattle.tree_model.specs.Networks.{Net}
 use Rattle.tree_model.specs.Trees.{trees_of}
@@ -21,7 +21,7 @@ use Rattle.network_model.specs.Links.{is_group}
 use Rattle.network_model.specs.Runs.{Plan}
 use Rattle.network_model.specs.Steps.{rerouted}
 use Rattle.network_steps.specs.Beginning.{IsFitPlan}
-use Rattle.router_rules.specs.Steps.{IsFitCall}
+use Rattle.network_model.specs.RouterRules.Steps.{IsFitCall}
 
 -- ---- the network after an event
 abbrev pub net_then : Event → Net → Net

@@ -5,7 +5,7 @@ ghost use Rattle.rsvp_base.specs.Members.{In};
 ghost use Rattle.rsvp_messages.specs.declared.message.Message.{Message};
 ghost use Rattle.calm_rounds.specs.Hold.{Hold, Visited};
 ghost use Rattle.calm_rounds.specs.Rounds.{Rounds};
-ghost use Rattle.router_rules.specs.Inputs.{Spelt};
+ghost use Rattle.network_model.specs.RouterRules.Inputs.{Spelt};
 ghost use Rattle.network_model.specs.Bounds.{AreBounds, AreHosts};
 ghost use Rattle.network_model.specs.Runs.{Plan, first_world, steps_of_run};
 ghost use Rattle.network_model.specs.Steps.{Step, machine, sent, step};

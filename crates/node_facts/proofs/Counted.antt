@@ -6,10 +6,10 @@ use Rattle.rsvp_base.specs.Orders.{sessions}
 use Rattle.rsvp_base.specs.Table.{get, has}
 use Rattle.rsvp_base.specs.declared.session.Session.{Session}
 use Rattle.rsvp_base.proofs.Tables.{get-changed, same_table, then_do}
-use Rattle.router_rules.specs.Facts.{Facts}
-use Rattle.router_rules.specs.Forgetting.{counted, forget, settle}
-use Rattle.router_rules.specs.NodeConfig.{NodeConfig, period}
-use Rattle.router_rules.specs.Rule.{settled}
+use Rattle.router_lookups.specs.RouterRules.Facts.{Facts}
+use Rattle.router_lookups.specs.RouterRules.Forgetting.{counted, forget, settle}
+use Rattle.router_lookups.specs.RouterRules.NodeConfig.{NodeConfig, period}
+use Rattle.router_lookups.specs.RouterRules.Rule.{settled}
 use Rattle.router_lookups.proofs.Leaving.{countdowns_settle}
 use Rattle.node_facts.specs.State.{IsCounted, IsSettled, State, due_at, facts_of}
 use Rattle.node_facts.specs.StateLaws.{SameSettles}

@@ -21,12 +21,12 @@ use Rattle.rsvp_base.proofs.Tables.{get-changed, got_changed, same_table, then_d
 use Rattle.resv_state.specs.Leaving.{forgotten, left_of, stays, with_part}
 use Rattle.resv_state.specs.Resvs.{ResvFacts}
 use Rattle.resv_state.specs.declared.fact.ResvFact.{ResvFact}
-use Rattle.style_rules.specs.CutLaws.{made_named, part_of_itself}
-use Rattle.style_rules.specs.Lines.{LineKey, line_keys}
-use Rattle.style_rules.specs.Parts.{has_name, part_kept, part_of}
-use Rattle.router_rules.specs.Asking.{left_of as state_left}
-use Rattle.router_rules.specs.Facts.{Facts}
-use Rattle.router_rules.specs.Forgetting.{is_lost, remembered}
+use Rattle.resv_state.specs.StyleRules.CutLaws.{made_named, part_of_itself}
+use Rattle.resv_state.specs.StyleRules.Lines.{LineKey, line_keys}
+use Rattle.resv_state.specs.StyleRules.Parts.{has_name, part_kept, part_of}
+use Rattle.router_lookups.specs.RouterRules.Asking.{left_of as state_left}
+use Rattle.router_lookups.specs.RouterRules.Facts.{Facts}
+use Rattle.router_lookups.specs.RouterRules.Forgetting.{is_lost, remembered}
 use Rattle.node_facts.specs.Forgotten.{forgotten_all, is_gone}
 use Rattle.node_facts.specs.State.{resv_at}
 use Rattle.node_facts.proofs.Passing.{changed_same, changed_twice}

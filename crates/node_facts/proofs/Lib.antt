@@ -13,3 +13,4 @@ pub use Rattle.router_lookups.proofs.Offering
 pub use Rattle.router_lookups.proofs.Once
 pub use Rattle.router_lookups.proofs.Requesting
 pub use Rattle.router_lookups.proofs.Tests
+pub use Rattle.resv_state.proofs as ResvState

@@ -4,10 +4,10 @@ use Rattle.std.proofs.Common.{sym}
 use Rattle.rsvp_base.specs.Table.{get}
 use Rattle.rsvp_base.specs.declared.style.StyleKind.{StyleKind}
 use Rattle.rsvp_base.specs.declared.style.StyleKind.TheVariants.{Wild, Fixed, Shared}
-use Rattle.style_rules.specs.Lines.{LineKey}
-use Rattle.style_rules.specs.Parts.{has_name}
-use Rattle.router_rules.specs.Facts.{ResvState, resvs_of}
-use Rattle.router_rules.specs.NodeConfig.{NodeConfig}
+use Rattle.resv_state.specs.StyleRules.Lines.{LineKey}
+use Rattle.resv_state.specs.StyleRules.Parts.{has_name}
+use Rattle.router_lookups.specs.RouterRules.Facts.{ResvState, resvs_of}
+use Rattle.router_lookups.specs.RouterRules.NodeConfig.{NodeConfig}
 use Rattle.router_lookups.proofs.Requesting.{nowhere}
 use Rattle.node_facts.specs.State.{IsKept, facts_of, no_state}
 use Rattle.node_facts.specs.StateLaws.{NoFactsAreKept}

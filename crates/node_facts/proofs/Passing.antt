@@ -9,10 +9,10 @@ use Rattle.rsvp_base.proofs.Tables.{either, get-changed, same_table, then_do}
 use Rattle.path_state.specs.Paths.{path_keys}
 use Rattle.resv_state.specs.Resvs.{ResvFacts}
 use Rattle.resv_state.specs.Resvs.{later as later_resv}
-use Rattle.style_rules.specs.Lines.{line_keys}
-use Rattle.style_rules.specs.Targets.{wall_keys}
-use Rattle.router_rules.specs.Facts.{PathState, ResvState, Blockade}
-use Rattle.router_rules.specs.Waiting.{act_wait, living, living_resvs}
+use Rattle.resv_state.specs.StyleRules.Lines.{line_keys}
+use Rattle.resv_state.specs.StyleRules.Targets.{wall_keys}
+use Rattle.router_lookups.specs.RouterRules.Facts.{PathState, ResvState, Blockade}
+use Rattle.router_lookups.specs.RouterRules.Waiting.{act_wait, living, living_resvs}
 use Rattle.node_facts.specs.State.{State, facts_of, resv_at, due_at}
 use Rattle.node_facts.specs.Waited.{aged, later_due, ticked}
 

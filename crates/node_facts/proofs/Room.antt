@@ -22,8 +22,8 @@ use Rattle.rsvp_base.proofs.UnderLaws.{get-under}
 use Rattle.std.specs.Prelude.{nat_le, ◌&&◌}
 use Rattle.node_facts.proofs.Routed.{same_test}
 use Rattle.router_lookups.proofs.Lists.{some_is}
-use Rattle.router_rules.specs.Facts.{Facts}
-use Rattle.router_rules.specs.Forgetting.{counted}
+use Rattle.router_lookups.specs.RouterRules.Facts.{Facts}
+use Rattle.router_lookups.specs.RouterRules.Forgetting.{counted}
 
 module _ {K : Type 0} (o : Keys K) where
   pub in_keys : {X : Type 0} (m : Table o X) (k : K) → has m k ≡ true → In k (keys m)

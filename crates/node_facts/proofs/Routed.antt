@@ -6,8 +6,8 @@ use Rattle.std.specs.Ordering.{eq_by_cmp}
 use Rattle.rsvp_base.specs.declared.addr.Addr.{Addr}
 use Rattle.rsvp_base.proofs.SetLaws.{and_both, and_made}
 use Rattle.rsvp_base.proofs.Tables.{tied_same}
-use Rattle.router_rules.specs.NodeConfig.{is_addr, route_in}
-use Rattle.router_rules.specs.declared.route.Route.{Route}
+use Rattle.router_lookups.specs.RouterRules.NodeConfig.{is_addr, route_in}
+use Rattle.router_lookups.specs.RouterRules.declared.route.Route.{Route}
 use Rattle.node_facts.specs.Routes.{route_keys, route_row}
 use Rattle.router_lookups.proofs.Tests.{addr_told, addr_tested, ties}
 

@@ -3,12 +3,12 @@ use Rattle.std.specs.Prelude.{◌≡◌, ℕ, Bool, true, false, not, ◌&&◌, 
 use Rattle.std.proofs.Common.{ap, ◌∙◌}
 use Rattle.rsvp_base.specs.Sets.{Set}
 use Rattle.rsvp_base.specs.Table.{changed, get, has}
-use Rattle.router_rules.specs.Act.{act}
-use Rattle.router_rules.specs.Facts.{Facts, Want, WantKey, Wants, want_keys}
-use Rattle.router_rules.specs.Inputs.{Change, Input}
-use Rattle.router_rules.specs.NodeConfig.{NodeConfig}
-use Rattle.router_rules.specs.Rule.{facts_after, is_silent, settled, unless_silent}
-use Rattle.router_rules.specs.Sends.{unmarked, used_marks}
+use Rattle.router_lookups.specs.RouterRules.Act.{act}
+use Rattle.router_lookups.specs.RouterRules.Facts.{Facts, Want, WantKey, Wants, want_keys}
+use Rattle.router_lookups.specs.RouterRules.Inputs.{Change, Input}
+use Rattle.router_lookups.specs.RouterRules.NodeConfig.{NodeConfig}
+use Rattle.router_lookups.specs.RouterRules.Rule.{facts_after, is_silent, settled, unless_silent}
+use Rattle.router_lookups.specs.RouterRules.Sends.{unmarked, used_marks}
 use Rattle.node_facts.specs.State.{AreUnmarked}
 use Rattle.node_facts.proofs.Settling.{unchanged}
 

@@ -9,11 +9,11 @@ use Rattle.rsvp_base.specs.Keys.{Keys}
 use Rattle.rsvp_base.specs.Table.{Table, changed, get, has, put_in}
 use Rattle.rsvp_base.proofs.Tables.{either, get-changed, get-put_in, same_table, then_do, tied_same}
 use Rattle.std.specs.Ordering.{eq_by_cmp}
-use Rattle.style_rules.specs.Lines.{LineKey, line_keys}
-use Rattle.style_rules.specs.Parts.{has_name}
-use Rattle.router_rules.specs.Facts.{Facts, ResvState, resvs_of}
-use Rattle.router_rules.specs.Forgetting.{forget, is_lost, remembered}
-use Rattle.router_rules.specs.Known.{known, named_as}
+use Rattle.resv_state.specs.StyleRules.Lines.{LineKey, line_keys}
+use Rattle.resv_state.specs.StyleRules.Parts.{has_name}
+use Rattle.router_lookups.specs.RouterRules.Facts.{Facts, ResvState, resvs_of}
+use Rattle.router_lookups.specs.RouterRules.Forgetting.{forget, is_lost, remembered}
+use Rattle.router_lookups.specs.RouterRules.Known.{known, named_as}
 use Rattle.router_lookups.proofs.Knowing.{named_made, named_told}
 use Rattle.router_lookups.proofs.Leaving.{left_whole}
 use Rattle.node_facts.specs.State.{AreNamed}

@@ -5,13 +5,13 @@ use Rattle.rsvp_base.specs.Orders.{sessions}
 use Rattle.rsvp_base.specs.Table.{Table, has, put_in, without}
 use Rattle.rsvp_base.specs.TokenBucket.{TokenBucket}
 use Rattle.rsvp_base.specs.declared.session.Session.{Session}
-use Rattle.rsvp_messages.specs.declared.message.Message.TheVariants as message
-use Rattle.rsvp_messages.specs.declared.message.PathMsg.{PathMsg}
-use Rattle.rsvp_messages.specs.declared.message.PathTearMsg.{PathTearMsg}
-use Rattle.router_rules.specs.Facts.{SenderKey}
-use Rattle.router_rules.specs.Forgetting.{counted}
-use Rattle.router_rules.specs.Inputs.{Came, Input, Spelt}
-use Rattle.router_rules.specs.NodeConfig.{period}
+use Rattle.router_lookups.specs.RsvpMessages.declared.message.Message.TheVariants as message
+use Rattle.router_lookups.specs.RsvpMessages.declared.message.PathMsg.{PathMsg}
+use Rattle.router_lookups.specs.RsvpMessages.declared.message.PathTearMsg.{PathTearMsg}
+use Rattle.router_lookups.specs.RouterRules.Facts.{SenderKey}
+use Rattle.router_lookups.specs.RouterRules.Forgetting.{counted}
+use Rattle.router_lookups.specs.RouterRules.Inputs.{Came, Input, Spelt}
+use Rattle.router_lookups.specs.RouterRules.NodeConfig.{period}
 use Rattle.node_facts.specs.State.{State, facts_of}
 
 -- ---- tables

@@ -8,21 +8,21 @@ use Rattle.rsvp_base.specs.TokenBucket.{TokenBucket}
 use Rattle.rsvp_base.specs.declared.session.Session.{Session}
 use Rattle.rsvp_base.specs.declared.style.StyleKind.{StyleKind}
 use Rattle.rsvp_base.specs.declared.style.StyleKind.TheVariants.{Wild, Fixed, Shared}
-use Rattle.style_rules.specs.Lines.{LineKey}
-use Rattle.style_rules.specs.Merge.{PartTable}
-use Rattle.style_rules.specs.Parts.{has_name}
-use Rattle.style_rules.specs.declared.wall.Wall.{Wall}
+use Rattle.resv_state.specs.StyleRules.Lines.{LineKey}
+use Rattle.resv_state.specs.StyleRules.Merge.{PartTable}
+use Rattle.resv_state.specs.StyleRules.Parts.{has_name}
+use Rattle.resv_state.specs.StyleRules.declared.wall.Wall.{Wall}
 use Rattle.path_state.specs.Paths.{path_keys}
 use Rattle.path_state.specs.declared.fact.PathFact.{PathFact}
 use Rattle.resv_state.specs.Resvs.{ResvFacts}
 use Rattle.resv_state.specs.declared.fact.ResvFact.{ResvFact}
 use Rattle.blockade_state.specs.Blockades.{WallMap}
-use Rattle.router_rules.specs.Facts.{Facts, SenderKey, sender_keys, PathState, ResvState, Want, WantKey, Wants, Blockade, resvs_of}
-use Rattle.style_rules.specs.Targets.{WallKey}
-use Rattle.router_rules.specs.Forgetting.{counted}
-use Rattle.router_rules.specs.Known.{Lane, lane_keys}
-use Rattle.router_rules.specs.NodeConfig.{NodeConfig}
-use Rattle.router_rules.specs.Requests.{toward}
+use Rattle.router_lookups.specs.RouterRules.Facts.{Facts, SenderKey, sender_keys, PathState, ResvState, Want, WantKey, Wants, Blockade, resvs_of}
+use Rattle.resv_state.specs.StyleRules.Targets.{WallKey}
+use Rattle.router_lookups.specs.RouterRules.Forgetting.{counted}
+use Rattle.router_lookups.specs.RouterRules.Known.{Lane, lane_keys}
+use Rattle.router_lookups.specs.RouterRules.NodeConfig.{NodeConfig}
+use Rattle.router_lookups.specs.RouterRules.Requests.{toward}
 
 -- what went last toward the hop of each lane, where something did
 abbrev pub Said : Type 0

@@ -9,16 +9,16 @@ use Rattle.rsvp_base.specs.declared.addr.Addr.{Addr}
 use Rattle.rsvp_base.specs.declared.session.Sender.{Sender}
 use Rattle.rsvp_base.specs.declared.session.Session.{Session}
 use Rattle.rsvp_base.specs.declared.style.StyleKind.{StyleKind}
-use Rattle.style_rules.specs.Lines.{LineKey}
-use Rattle.style_rules.specs.Parts.{has_name}
-use Rattle.router_rules.specs.Act.{act}
-use Rattle.router_rules.specs.Facts.{Facts}
-use Rattle.router_rules.specs.Forgetting.{is_lost, remembered}
-use Rattle.router_rules.specs.Inputs.{Input}
-use Rattle.router_rules.specs.NodeConfig.{NodeConfig, route_in}
-use Rattle.router_rules.specs.Rule.{facts_after, settled}
-use Rattle.router_rules.specs.Waiting.{act_wait}
-use Rattle.router_rules.specs.declared.route.Route.{Route}
+use Rattle.resv_state.specs.StyleRules.Lines.{LineKey}
+use Rattle.resv_state.specs.StyleRules.Parts.{has_name}
+use Rattle.router_lookups.specs.RouterRules.Act.{act}
+use Rattle.router_lookups.specs.RouterRules.Facts.{Facts}
+use Rattle.router_lookups.specs.RouterRules.Forgetting.{is_lost, remembered}
+use Rattle.router_lookups.specs.RouterRules.Inputs.{Input}
+use Rattle.router_lookups.specs.RouterRules.NodeConfig.{NodeConfig, route_in}
+use Rattle.router_lookups.specs.RouterRules.Rule.{facts_after, settled}
+use Rattle.router_lookups.specs.RouterRules.Waiting.{act_wait}
+use Rattle.router_lookups.specs.RouterRules.declared.route.Route.{Route}
 use Rattle.node_facts.specs.Forgotten.{forgotten_all, is_gone}
 use Rattle.node_facts.specs.Routes.{route_keys, route_row}
 use Rattle.node_facts.specs.State.{AreUnmarked, IsKept, IsSettled, State, facts_of, no_state, resv_at}

@@ -7,3 +7,5 @@ pub use Rattle.settle_paths.proofs.CompletePaths
 pub use Rattle.settle_paths.proofs.LiveSenders
 pub use Rattle.settle_paths.proofs.PreviousHops
 pub use Rattle.settle_paths.proofs.SoundPaths
+pub use Rattle.router_resvs.proofs as RouterResvs
+pub use Rattle.settle_paths.proofs as SettlePaths

@@ -3,8 +3,8 @@ use Rattle.std.specs.Prelude.{◌≡◌, ℕ, Bool, true, false, cond, not, Some
 use Rattle.std.specs.Option.{option_map}
 use Rattle.std.specs.Ordering.{eq_by_cmp}
 use Rattle.std.proofs.Common.{sym, ap, ◌∙◌}
-use Rattle.path_state.specs.Paths.{path_keys}
-use Rattle.path_state.specs.declared.fact.PathFact.{PathFact}
+use Rattle.node_facts.specs.PathState.Paths.{path_keys}
+use Rattle.node_facts.specs.PathState.declared.fact.PathFact.{PathFact}
 use Rattle.rsvp_base.specs.Keys.{pairs}
 use Rattle.rsvp_base.specs.Orders.{sessions, senders, units}
 use Rattle.rsvp_base.specs.Table.{changed, get, put_in, without}
@@ -14,12 +14,12 @@ use Rattle.rsvp_base.specs.declared.style.StyleKind.{StyleKind}
 use Rattle.rsvp_base.specs.declared.style.StyleKind.TheVariants.{Wild, Fixed, Shared}
 use Rattle.rsvp_base.proofs.Tables.{either, get-changed, get-put_in_other, get-without, same_table, then_do, tied_same, tied_self}
 use Rattle.rsvp_base.proofs.UnderLaws.{get-under}
-use Rattle.style_rules.specs.Lines.{LineKey, line_keys, next_hops}
-use Rattle.style_rules.specs.Targets.{wall_keys}
-use Rattle.style_rules.specs.Toward.{or_else}
-use Rattle.router_rules.specs.Facts.{PathState, ResvState, SenderKey, paths_in, resvs_in, resvs_of, sender_keys, senders_in, wants_in}
-use Rattle.router_rules.specs.Offers.{OfferKey, offers}
-use Rattle.router_rules.specs.NodeConfig.{NodeConfig}
+use Rattle.node_facts.specs.StyleRules.Lines.{LineKey, line_keys, next_hops}
+use Rattle.node_facts.specs.StyleRules.Targets.{wall_keys}
+use Rattle.node_facts.specs.StyleRules.Toward.{or_else}
+use Rattle.node_facts.specs.RouterRules.Facts.{PathState, ResvState, SenderKey, paths_in, resvs_in, resvs_of, sender_keys, senders_in, wants_in}
+use Rattle.node_facts.specs.RouterRules.Offers.{OfferKey, offers}
+use Rattle.node_facts.specs.RouterRules.NodeConfig.{NodeConfig}
 use Rattle.node_facts.specs.FactLaws.{is_way}
 use Rattle.node_facts.proofs.Offering.{offers_by_way}
 use Rattle.node_facts.specs.Changes.{paths_put, paths_without, recounted, senders_put, senders_without}

@@ -5,9 +5,9 @@ use Rattle.std.specs.Ordering.{eq_by_cmp}
 use Rattle.std.proofs.Common.{ap, ◌∙◌}
 use Rattle.rsvp_base.specs.Orders.{sessions}
 use Rattle.rsvp_base.specs.Table.{empty}
-use Rattle.router_rules.specs.Inputs.{only_heard}
-use Rattle.router_rules.specs.Offers.{offers}
-use Rattle.router_rules.specs.Sends.{conf_sends, confirmed, error_sends, path_sends, path_tears, resv_send_to, resv_sends, resv_tear, resv_tears}
+use Rattle.node_facts.specs.RouterRules.Inputs.{only_heard}
+use Rattle.node_facts.specs.RouterRules.Offers.{offers}
+use Rattle.node_facts.specs.RouterRules.Sends.{conf_sends, confirmed, error_sends, path_sends, path_tears, resv_send_to, resv_sends, resv_tear, resv_tears}
 use Rattle.node_sends.specs.SendsHere.{OneSenderIsTold, OneSessionIsTold}
 use Rattle.node_sends.proofs.Elsewhere.{resv_sends_here, resv_tears_here}
 use Rattle.node_sends.proofs.Lanes.{lanes_in_order}

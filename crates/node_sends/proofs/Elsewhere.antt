@@ -14,18 +14,18 @@ use Rattle.rsvp_base.specs.declared.style.StyleKind.TheVariants.{Wild, Fixed, Sh
 use Rattle.rsvp_base.specs.declared.style.Unit.{Unit as UnitOf}
 use Rattle.rsvp_base.proofs.Tables.{either}
 use Rattle.rsvp_base.proofs.UnderLaws.{get-under}
-use Rattle.style_rules.specs.Lines.{NextHop}
-use Rattle.style_rules.specs.Merge.{PartTable}
-use Rattle.style_rules.specs.Parts.{part_cut}
-use Rattle.style_rules.specs.Toward.{is_walled}
-use Rattle.style_rules.specs.Toward.{toward as merged_toward}
-use Rattle.router_rules.specs.Facts.{Facts, ResvState, PathState, Want, resvs_in, wants_in, paths_in, senders_in}
-use Rattle.router_rules.specs.Inputs.{Asked}
-use Rattle.router_rules.specs.Known.{Lane, came_by, keys_where, lanes, named_as, names_via, via}
-use Rattle.router_rules.specs.NodeConfig.{NodeConfig, goes_out}
-use Rattle.router_rules.specs.Requests.{is_blockaded, is_style, request_of, requests, resv_part, resv_request, toward, wall_at, want_part, want_request}
-use Rattle.router_rules.specs.Sends.{gone_names, is_changed, resv_send_of, resv_send_to, resv_sends, resv_tear, resv_tears}
-use Rattle.router_rules.specs.Asking.{ask_of}
+use Rattle.node_facts.specs.StyleRules.Lines.{NextHop}
+use Rattle.node_facts.specs.StyleRules.Merge.{PartTable}
+use Rattle.node_facts.specs.StyleRules.Parts.{part_cut}
+use Rattle.node_facts.specs.StyleRules.Toward.{is_walled}
+use Rattle.node_facts.specs.StyleRules.Toward.{toward as merged_toward}
+use Rattle.node_facts.specs.RouterRules.Facts.{Facts, ResvState, PathState, Want, resvs_in, wants_in, paths_in, senders_in}
+use Rattle.node_facts.specs.RouterRules.Inputs.{Asked}
+use Rattle.node_facts.specs.RouterRules.Known.{Lane, came_by, keys_where, lanes, named_as, names_via, via}
+use Rattle.node_facts.specs.RouterRules.NodeConfig.{NodeConfig, goes_out}
+use Rattle.node_facts.specs.RouterRules.Requests.{is_blockaded, is_style, request_of, requests, resv_part, resv_request, toward, wall_at, want_part, want_request}
+use Rattle.node_facts.specs.RouterRules.Sends.{gone_names, is_changed, resv_send_of, resv_send_to, resv_sends, resv_tear, resv_tears}
+use Rattle.node_facts.specs.RouterRules.Asking.{ask_of}
 use Rattle.std.proofs.Common.{inl, inr}
 use Rattle.std.specs.Prelude.{◌||◌}
 use Rattle.rsvp_base.specs.Members.{In}
@@ -33,17 +33,17 @@ use Rattle.rsvp_base.specs.TokenBucket.{TokenBucket}
 use Rattle.rsvp_base.proofs.Counts.{in_found}
 use Rattle.rsvp_base.proofs.Fronts.{in_keys}
 use Rattle.rsvp_base.proofs.SetLaws.{same_set}
-use Rattle.rsvp_messages.specs.declared.ask.Ask.{Ask}
-use Rattle.style_rules.specs.Toward.{or_else}
-use Rattle.router_rules.specs.Offers.{OfferKey, offer_keys, offers}
-use Rattle.router_rules.specs.Sends.{is_new_offer, path_send, path_send_of, path_sends, path_tear, path_tears, resv_tear_send}
+use Rattle.node_facts.specs.RsvpMessages.declared.ask.Ask.{Ask}
+use Rattle.node_facts.specs.StyleRules.Toward.{or_else}
+use Rattle.node_facts.specs.RouterRules.Offers.{OfferKey, offer_keys, offers}
+use Rattle.node_facts.specs.RouterRules.Sends.{is_new_offer, path_send, path_send_of, path_sends, path_tear, path_tears, resv_tear_send}
 use Rattle.node_sends.specs.SendsHere.{AreSameOf, AreSameOff}
 use Rattle.node_facts.specs.FactLaws.{is_way}
 use Rattle.node_facts.proofs.Asks.{gone_told}
 use Rattle.node_facts.proofs.Offering.{offers_by_way}
 use Rattle.node_facts.proofs.Tests.{flow_tested, parts_tested}
-use Rattle.style_rules.specs.declared.target.Target.{Target}
-use Rattle.style_rules.specs.declared.target.Target.TheVariants as target
+use Rattle.node_facts.specs.StyleRules.declared.target.Target.{Target}
+use Rattle.node_facts.specs.StyleRules.declared.target.Target.TheVariants as target
 
 -- ---- lists of which only some elements give something
 module _ {A B : Type 0} (t : A → Bool) where

@@ -22,9 +22,9 @@ use Rattle.rsvp_base.proofs.Members.{in_append, in_each, in_left, in_right, to_e
 use Rattle.rsvp_base.proofs.SetLaws.{and_both, and_made, has-kept, same_set}
 use Rattle.rsvp_base.proofs.Tables.{tied_same}
 use Rattle.rsvp_base.proofs.UnderLaws.{get-under}
-use Rattle.style_rules.specs.Lines.{NextHop, next_hops}
-use Rattle.router_rules.specs.Facts.{Facts, PathState, paths_in}
-use Rattle.router_rules.specs.Known.{Lane, lane_keys, lanes}
+use Rattle.node_facts.specs.StyleRules.Lines.{NextHop, next_hops}
+use Rattle.node_facts.specs.RouterRules.Facts.{Facts, PathState, paths_in}
+use Rattle.node_facts.specs.RouterRules.Known.{Lane, lane_keys, lanes}
 use Rattle.node_facts.specs.FactLaws.{ComesBy}
 use Rattle.node_facts.proofs.Knowing.{lanes_made, lanes_told}
 use Rattle.node_facts.proofs.Lists.{some_is}

@@ -12,4 +12,5 @@ pub mod Telling
 pub mod Marks
 pub use Rattle.node_facts.proofs.Passing
 pub use Rattle.node_facts.proofs.Routed
-pub use Rattle.resv_state.proofs.Merged
+pub use Rattle.node_facts.proofs.ResvState.Merged
+pub use Rattle.node_facts.proofs as NodeFacts

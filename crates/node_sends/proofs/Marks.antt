@@ -16,15 +16,15 @@ use Rattle.rsvp_base.proofs.Fronts.{in_keys, to_keys}
 use Rattle.rsvp_base.proofs.Members.{any_in, in_any, in_each, in_filter, in_flat_map, to_each, to_filter, to_flat_map}
 use Rattle.rsvp_base.proofs.SetLaws.{and_both, and_made}
 use Rattle.rsvp_base.proofs.Tables.{either, tied_same, tied_self}
-use Rattle.style_rules.specs.Merge.{PartTable}
-use Rattle.style_rules.specs.Toward.{Request}
-use Rattle.style_rules.specs.Toward.{toward as merged_toward}
-use Rattle.router_rules.specs.Facts.{Facts, SenderKey, Want, WantKey, resvs_in, want_keys, wants_in}
-use Rattle.router_rules.specs.Inputs.{Asked}
-use Rattle.router_rules.specs.Known.{Lane, lane_keys, lanes}
-use Rattle.router_rules.specs.NodeConfig.{NodeConfig, is_session}
-use Rattle.router_rules.specs.Requests.{resv_request, toward, want_request}
-use Rattle.router_rules.specs.Sends.{goes_on, is_changed, is_sent_new, marked_units, same_parts, unmarked, used_marks}
+use Rattle.node_facts.specs.StyleRules.Merge.{PartTable}
+use Rattle.node_facts.specs.StyleRules.Toward.{Request}
+use Rattle.node_facts.specs.StyleRules.Toward.{toward as merged_toward}
+use Rattle.node_facts.specs.RouterRules.Facts.{Facts, SenderKey, Want, WantKey, resvs_in, want_keys, wants_in}
+use Rattle.node_facts.specs.RouterRules.Inputs.{Asked}
+use Rattle.node_facts.specs.RouterRules.Known.{Lane, lane_keys, lanes}
+use Rattle.node_facts.specs.RouterRules.NodeConfig.{NodeConfig, is_session}
+use Rattle.node_facts.specs.RouterRules.Requests.{resv_request, toward, want_request}
+use Rattle.node_facts.specs.RouterRules.Sends.{goes_on, is_changed, is_sent_new, marked_units, same_parts, unmarked, used_marks}
 use Rattle.node_facts.specs.State.{Said, said_at}
 use Rattle.node_sends.specs.Before.{lanes_by}
 use Rattle.node_sends.specs.Marks.{MarksDoNotMatter, MarksOfOneSession, is_new_at, marked_by, unmarked_in, used_at, used_in}

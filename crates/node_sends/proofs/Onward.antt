@@ -15,10 +15,10 @@ use Rattle.rsvp_base.proofs.Fronts.{in_keys}
 use Rattle.rsvp_base.proofs.Members.{any_in, in_any, in_filter, to_filter}
 use Rattle.rsvp_base.proofs.SetLaws.{and_both, and_made, or_right}
 use Rattle.rsvp_base.proofs.Tables.{either, get-changed, same_table, then_do, tied_same}
-use Rattle.router_rules.specs.Facts.{Facts, SenderKey, sender_keys}
-use Rattle.router_rules.specs.Offers.{Offer, OfferKey, Offers, offer_at, offer_keys, offers}
-use Rattle.router_rules.specs.NodeConfig.{NodeConfig, goes_out, outward}
-use Rattle.router_rules.specs.Sends.{is_new_offer, path_send, path_send_of, path_sends, path_tear, path_tears}
+use Rattle.node_facts.specs.RouterRules.Facts.{Facts, SenderKey, sender_keys}
+use Rattle.node_facts.specs.RouterRules.Offers.{Offer, OfferKey, Offers, offer_at, offer_keys, offers}
+use Rattle.node_facts.specs.RouterRules.NodeConfig.{NodeConfig, goes_out, outward}
+use Rattle.node_facts.specs.RouterRules.Sends.{is_new_offer, path_send, path_send_of, path_sends, path_tear, path_tears}
 use Rattle.node_facts.specs.FactLaws.{is_way}
 use Rattle.node_facts.proofs.Lists.{in_range, to_range}
 use Rattle.node_facts.proofs.Offering.{offers_by_way}

@@ -4,23 +4,23 @@ use Rattle.std.specs.List.{cons_option, filter_map, flat_map}
 use Rattle.std.specs.Ordering.{eq_by_cmp}
 use Rattle.std.proofs.Common.{sym, ap, ◌∙◌}
 use Rattle.std.proofs.lemmas.Option.{same_Some}
-use Rattle.path_state.specs.Paths.{path_keys}
-use Rattle.path_state.specs.declared.fact.PathFact.{PathFact}
+use Rattle.node_facts.specs.PathState.Paths.{path_keys}
+use Rattle.node_facts.specs.PathState.declared.fact.PathFact.{PathFact}
 use Rattle.rsvp_base.specs.Orders.{senders}
 use Rattle.rsvp_base.specs.Table.{changed, empty, get, has, keys, put_in}
 use Rattle.rsvp_base.specs.declared.session.Sender.{Sender}
 use Rattle.rsvp_base.specs.declared.session.Session.{Session}
 use Rattle.rsvp_base.proofs.SetLaws.{same_set}
 use Rattle.rsvp_base.proofs.Tables.{either, get-changed, get-put_in, then_do, tied_same}
-use Rattle.style_rules.specs.Lines.{NextHop}
-use Rattle.router_rules.specs.Facts.{Facts, PathState, SenderKey}
-use Rattle.router_rules.specs.Inputs.{only_heard}
-use Rattle.router_rules.specs.Known.{Lane, via}
-use Rattle.router_rules.specs.Offers.{Offer}
-use Rattle.router_rules.specs.NodeConfig.{NodeConfig}
-use Rattle.router_rules.specs.Requests.{toward}
-use Rattle.router_rules.specs.Sends.{resv_send_to, resv_tear, sends}
-use Rattle.router_rules.specs.declared.answers.Heard.{Heard}
+use Rattle.node_facts.specs.StyleRules.Lines.{NextHop}
+use Rattle.node_facts.specs.RouterRules.Facts.{Facts, PathState, SenderKey}
+use Rattle.node_facts.specs.RouterRules.Inputs.{only_heard}
+use Rattle.node_facts.specs.RouterRules.Known.{Lane, via}
+use Rattle.node_facts.specs.RouterRules.Offers.{Offer}
+use Rattle.node_facts.specs.RouterRules.NodeConfig.{NodeConfig}
+use Rattle.node_facts.specs.RouterRules.Requests.{toward}
+use Rattle.node_facts.specs.RouterRules.Sends.{resv_send_to, resv_tear, sends}
+use Rattle.node_facts.specs.RouterRules.declared.answers.Heard.{Heard}
 use Rattle.node_facts.proofs.Knowing.{via_made, via_told}
 use Rattle.node_facts.proofs.Tests.{came_tested, came_told}
 use Rattle.node_facts.specs.Changes.{paths_put}

@@ -7,7 +7,7 @@ use Rattle.std.specs.FinMap.Entries.{below_all, is_sorted}
 use Rattle.std.proofs.Common.{sym, ap, subst, inl, inr, ◌∙◌, T, arith, ⊎_elim}
 use Rattle.std.proofs.lemmas.Bool.{ltb-false, lt-ltb}
 use Rattle.std.proofs.lemmas.Option.{same_Some}
-use Rattle.path_state.specs.Paths.{path_keys}
+use Rattle.node_facts.specs.PathState.Paths.{path_keys}
 use Rattle.rsvp_base.proofs.SessionCounts.{all_at_most}
 use Rattle.rsvp_base.specs.Keys.{Keys}
 use Rattle.rsvp_base.specs.Members.{In}
@@ -20,11 +20,11 @@ use Rattle.rsvp_base.proofs.Counts.{size-set_of, size_below}
 use Rattle.rsvp_base.proofs.Fronts.{got_in}
 use Rattle.rsvp_base.proofs.Members.{in_append, in_left, in_right}
 use Rattle.rsvp_base.proofs.Tables.{either, holds, get-put_in_other, get-put_in_same, get-without, size-put_in, tied_same, tied_self}
-use Rattle.style_rules.specs.Merge.{PartTable}
-use Rattle.router_rules.specs.Facts.{Facts, PathState, SenderKey}
-use Rattle.router_rules.specs.Known.{Lane, lane_keys, lanes, lanes_of}
-use Rattle.router_rules.specs.NodeConfig.{NodeConfig}
-use Rattle.router_rules.specs.Requests.{toward}
+use Rattle.node_facts.specs.StyleRules.Merge.{PartTable}
+use Rattle.node_facts.specs.RouterRules.Facts.{Facts, PathState, SenderKey}
+use Rattle.node_facts.specs.RouterRules.Known.{Lane, lane_keys, lanes, lanes_of}
+use Rattle.node_facts.specs.RouterRules.NodeConfig.{NodeConfig}
+use Rattle.node_facts.specs.RouterRules.Requests.{toward}
 use Rattle.node_facts.proofs.Once.{not_below_itself}
 use Rattle.node_facts.proofs.Requesting.{nowhere}
 use Rattle.node_facts.specs.State.{IsSaid, Said, State, facts_of, path_at, said_at}

@@ -6,13 +6,13 @@ use Rattle.rsvp_base.specs.Under.{under}
 use Rattle.rsvp_base.specs.declared.session.Session.{Session}
 use Rattle.rsvp_base.specs.declared.style.StyleKind.{StyleKind}
 use Rattle.rsvp_base.specs.declared.style.StyleKind.TheVariants.{Wild, Fixed, Shared}
-use Rattle.resv_state.specs.Merging.{requests_toward}
-use Rattle.resv_state.specs.Resvs.{ResvFacts}
-use Rattle.resv_state.specs.Walks.{rests}
-use Rattle.style_rules.specs.Lines.{NextHop}
-use Rattle.style_rules.specs.Merge.{PartTable}
-use Rattle.style_rules.specs.Toward.{toward}
-use Rattle.style_rules.specs.Ways.{WayTable}
+use Rattle.node_facts.specs.ResvState.Merging.{requests_toward}
+use Rattle.node_facts.specs.ResvState.Resvs.{ResvFacts}
+use Rattle.node_facts.specs.ResvState.Walks.{rests}
+use Rattle.node_facts.specs.StyleRules.Lines.{NextHop}
+use Rattle.node_facts.specs.StyleRules.Merge.{PartTable}
+use Rattle.node_facts.specs.StyleRules.Toward.{toward}
+use Rattle.node_facts.specs.StyleRules.Ways.{WayTable}
 use Rattle.node_facts.specs.State.{State, facts_of, table_in}
 use Rattle.std.specs.Prelude.{Option, Some, None}
 use Rattle.std.proofs.Common.{sym, ap}
@@ -20,11 +20,11 @@ use Rattle.std.specs.Option.{option_map}
 use Rattle.rsvp_base.specs.Table.{get}
 use Rattle.rsvp_base.specs.declared.session.Sender.{Sender}
 use Rattle.rsvp_base.proofs.Tables.{get-changed, then_do}
-use Rattle.style_rules.specs.declared.wall.Wall.{Wall}
-use Rattle.style_rules.specs.declared.target.Target.TheVariants as target
-use Rattle.style_rules.specs.Targets.{WallKey, wall_keys}
-use Rattle.router_rules.specs.Facts.{Blockade}
-use Rattle.router_rules.specs.Requests.{wall_at}
+use Rattle.node_facts.specs.StyleRules.declared.wall.Wall.{Wall}
+use Rattle.node_facts.specs.StyleRules.declared.target.Target.TheVariants as target
+use Rattle.node_facts.specs.StyleRules.Targets.{WallKey, wall_keys}
+use Rattle.node_facts.specs.RouterRules.Facts.{Blockade}
+use Rattle.node_facts.specs.RouterRules.Requests.{wall_at}
 use Rattle.node_facts.specs.State.{wall_at as wall_then}
 use Rattle.node_sends.specs.Seen.{wall_seen, lane_of, own_at, toward_at, up_at}
 use Rattle.node_sends.proofs.Towards.{toward_is}

@@ -19,16 +19,16 @@ use Rattle.rsvp_base.proofs.Fronts.{in_keys, to_keys}
 use Rattle.rsvp_base.proofs.Members.{in_append, in_each, in_left, in_right, to_each}
 use Rattle.rsvp_base.proofs.Tables.{get-changed, tied_same, tied_self}
 use Rattle.rsvp_base.proofs.UnderLaws.{get-under}
-use Rattle.rsvp_messages.specs.declared.ask.Ask.{Ask}
-use Rattle.style_rules.specs.Lines.{NextHop, next_hops}
-use Rattle.style_rules.specs.Merge.{PartTable}
-use Rattle.router_rules.specs.Asking.{ask_of}
-use Rattle.router_rules.specs.Facts.{Facts, SenderKey, Want, Wants, wants_in}
-use Rattle.router_rules.specs.Inputs.{Asked, Send}
-use Rattle.router_rules.specs.Known.{Lane, lane_keys, lanes, names_via}
-use Rattle.router_rules.specs.NodeConfig.{NodeConfig}
-use Rattle.router_rules.specs.Requests.{toward}
-use Rattle.router_rules.specs.Sends.{gone_names, is_changed, is_marked, marked_units, own_wish, resv_send, resv_send_of, resv_send_to, resv_tear, same_parts}
+use Rattle.node_facts.specs.RsvpMessages.declared.ask.Ask.{Ask}
+use Rattle.node_facts.specs.StyleRules.Lines.{NextHop, next_hops}
+use Rattle.node_facts.specs.StyleRules.Merge.{PartTable}
+use Rattle.node_facts.specs.RouterRules.Asking.{ask_of}
+use Rattle.node_facts.specs.RouterRules.Facts.{Facts, SenderKey, Want, Wants, wants_in}
+use Rattle.node_facts.specs.RouterRules.Inputs.{Asked, Send}
+use Rattle.node_facts.specs.RouterRules.Known.{Lane, lane_keys, lanes, names_via}
+use Rattle.node_facts.specs.RouterRules.NodeConfig.{NodeConfig}
+use Rattle.node_facts.specs.RouterRules.Requests.{toward}
+use Rattle.node_facts.specs.RouterRules.Sends.{gone_names, is_changed, is_marked, marked_units, own_wish, resv_send, resv_send_of, resv_send_to, resv_tear, same_parts}
 use Rattle.node_facts.specs.FactLaws.{ComesBy}
 use Rattle.node_facts.proofs.Knowing.{lanes_made, lanes_told}
 use Rattle.node_facts.specs.State.{Said, State, facts_of, said_at}

@@ -21,22 +21,22 @@ use Rattle.rsvp_base.proofs.Fronts.{in_keys}
 use Rattle.rsvp_base.proofs.SetLaws.{and_both, has-cut, same_set}
 use Rattle.rsvp_base.proofs.Tables.{get-changed, same_table, then_do}
 use Rattle.rsvp_base.proofs.UnderLaws.{get-under}
-use Rattle.resv_state.specs.Resvs.{ResvFacts}
-use Rattle.resv_state.specs.declared.fact.ResvFact.{ResvFact}
-use Rattle.resv_state.specs.Merging.{names_via as up_names, names_out, is_way_walled, is_blockaded as is_up_blockaded, request_of as up_request_of, resv_request as up_resv_request, want_request as up_want_request, requests_toward}
-use Rattle.resv_state.specs.Walks.{rests}
-use Rattle.style_rules.specs.CutLaws.{cut_named, cut_senders}
-use Rattle.style_rules.specs.Lines.{NextHop, line_keys, next_hops}
-use Rattle.style_rules.specs.Parts.{has_name, part_cut, part_of}
+use Rattle.node_facts.specs.ResvState.Resvs.{ResvFacts}
+use Rattle.node_facts.specs.ResvState.declared.fact.ResvFact.{ResvFact}
+use Rattle.node_facts.specs.ResvState.Merging.{names_via as up_names, names_out, is_way_walled, is_blockaded as is_up_blockaded, request_of as up_request_of, resv_request as up_resv_request, want_request as up_want_request, requests_toward}
+use Rattle.node_facts.specs.ResvState.Walks.{rests}
+use Rattle.node_facts.specs.StyleRules.CutLaws.{cut_named, cut_senders}
+use Rattle.node_facts.specs.StyleRules.Lines.{NextHop, line_keys, next_hops}
+use Rattle.node_facts.specs.StyleRules.Parts.{has_name, part_cut, part_of}
 use Rattle.rsvp_base.specs.Styles.{name_of}
-use Rattle.style_rules.specs.Toward.{is_walled}
-use Rattle.style_rules.specs.Toward.{toward as merged_toward}
-use Rattle.style_rules.specs.Ways.{Way, WayTable}
-use Rattle.router_rules.specs.Facts.{Facts, ResvState, Want, resvs_in, wants_in, resvs_of}
-use Rattle.router_rules.specs.Known.{Lane, names_via, names_via_where, via}
-use Rattle.router_rules.specs.NodeConfig.{NodeConfig, goes_out, is_out, tree}
-use Rattle.router_rules.specs.Requests.{is_blockaded, is_style, request_of, requests, resv_request, toward, want_part, want_request}
-use Rattle.router_rules.specs.declared.route.Route.{Route}
+use Rattle.node_facts.specs.StyleRules.Toward.{is_walled}
+use Rattle.node_facts.specs.StyleRules.Toward.{toward as merged_toward}
+use Rattle.node_facts.specs.StyleRules.Ways.{Way, WayTable}
+use Rattle.node_facts.specs.RouterRules.Facts.{Facts, ResvState, Want, resvs_in, wants_in, resvs_of}
+use Rattle.node_facts.specs.RouterRules.Known.{Lane, names_via, names_via_where, via}
+use Rattle.node_facts.specs.RouterRules.NodeConfig.{NodeConfig, goes_out, is_out, tree}
+use Rattle.node_facts.specs.RouterRules.Requests.{is_blockaded, is_style, request_of, requests, resv_request, toward, want_part, want_request}
+use Rattle.node_facts.specs.RouterRules.declared.route.Route.{Route}
 use Rattle.node_facts.proofs.Knowing.{named_made, named_told, names_made, names_told}
 use Rattle.node_facts.specs.State.{resv_at}
 use Rattle.node_sends.specs.Upward.{own_for, own_part, own_want, up_for, wall_for, way_for, ways_out}

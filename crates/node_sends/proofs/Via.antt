@@ -8,9 +8,9 @@ use Rattle.std.proofs.Common.{sym, ap, ◌∙◌, arith}
 use Rattle.std.proofs.lemmas.List.{map-append, length-map}
 use Rattle.std.proofs.lemmas.List.Folds.{list_any-append}
 use Rattle.std.proofs.lemmas.Option.{same_Some}
-use Rattle.path_state.specs.Paths.{AreByKey, comes_by, path_keys, senders_by}
-use Rattle.path_state.specs.Paths.{via as kept_via}
-use Rattle.path_state.specs.declared.fact.PathFact.{PathFact}
+use Rattle.node_facts.specs.PathState.Paths.{AreByKey, comes_by, path_keys, senders_by}
+use Rattle.node_facts.specs.PathState.Paths.{via as kept_via}
+use Rattle.node_facts.specs.PathState.declared.fact.PathFact.{PathFact}
 use Rattle.rsvp_base.specs.Keys.{Keys}
 use Rattle.rsvp_base.specs.Orders.{sessions, senders}
 use Rattle.rsvp_base.specs.Sets.{set_of, with_key}
@@ -23,12 +23,12 @@ use Rattle.rsvp_base.proofs.Members.{in_each, in_filter, to_each, to_filter}
 use Rattle.rsvp_base.proofs.SetLaws.{has-with_key, same_set}
 use Rattle.rsvp_base.proofs.Tables.{get-changed, got_changed, then_do}
 use Rattle.rsvp_base.proofs.UnderLaws.{get-under}
-use Rattle.style_rules.specs.Lines.{NextHop}
+use Rattle.node_facts.specs.StyleRules.Lines.{NextHop}
 use Rattle.rsvp_base.specs.Styles.{name_of}
-use Rattle.style_rules.specs.Ways.{WayTable}
-use Rattle.router_rules.specs.Facts.{Facts, PathState}
-use Rattle.router_rules.specs.Known.{Lane, came_by, via}
-use Rattle.router_rules.specs.NodeConfig.{NodeConfig}
+use Rattle.node_facts.specs.StyleRules.Ways.{WayTable}
+use Rattle.node_facts.specs.RouterRules.Facts.{Facts, PathState}
+use Rattle.node_facts.specs.RouterRules.Known.{Lane, came_by, via}
+use Rattle.node_facts.specs.RouterRules.NodeConfig.{NodeConfig}
 use Rattle.node_facts.proofs.Knowing.{via_made, via_told}
 use Rattle.node_facts.specs.State.{State, facts_of, path_at}
 use Rattle.rsvp_base.specs.Orders.{Names}

@@ -3,9 +3,9 @@ use Rattle.std.specs.Prelude.{◌≡◌, ℕ, false, List, map as each, ◌++◌
 use Rattle.rsvp_base.specs.Sets.{Set}
 use Rattle.rsvp_base.specs.declared.style.StyleKind.{StyleKind}
 use Rattle.rsvp_base.specs.declared.style.StyleKind.TheVariants.{Wild, Fixed, Shared}
-use Rattle.style_rules.specs.Lines.{NextHop, next_hops}
-use Rattle.router_rules.specs.Facts.{SenderKey}
-use Rattle.router_rules.specs.Offers.{Offer}
+use Rattle.node_facts.specs.StyleRules.Lines.{NextHop, next_hops}
+use Rattle.node_facts.specs.RouterRules.Facts.{SenderKey}
+use Rattle.node_facts.specs.RouterRules.Offers.{Offer}
 use Rattle.node_facts.specs.State.{IsSaid, State, facts_of}
 use Rattle.node_sends.specs.Changed.{IsChangedFor}
 use Rattle.node_sends.specs.Saying.{SessionLane}

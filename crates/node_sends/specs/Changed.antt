@@ -4,9 +4,9 @@ use Rattle.std.specs.Ordering.{eq_by_cmp}
 use Rattle.rsvp_base.specs.Orders.{sessions}
 use Rattle.rsvp_base.specs.Table.{get}
 use Rattle.rsvp_base.specs.declared.style.StyleKind.{StyleKind}
-use Rattle.style_rules.specs.Lines.{LineKey}
-use Rattle.style_rules.specs.Targets.{WallKey}
-use Rattle.router_rules.specs.Facts.{SenderKey, WantKey, sender_keys}
+use Rattle.node_facts.specs.StyleRules.Lines.{LineKey}
+use Rattle.node_facts.specs.StyleRules.Targets.{WallKey}
+use Rattle.node_facts.specs.RouterRules.Facts.{SenderKey, WantKey, sender_keys}
 use Rattle.node_facts.specs.State.{State, table_in}
 
 -- the other senders and paths, and the reservations, wants and blockades of other sessions are as they were

@@ -9,3 +9,4 @@ pub mod SayingLaws
 pub mod Marks
 pub use Rattle.node_facts.specs.Routes
 pub use Rattle.node_facts.specs.State
+pub use Rattle.node_facts.specs as NodeFacts

@@ -6,13 +6,13 @@ use Rattle.rsvp_base.specs.Sets.{Set, set_of}
 use Rattle.rsvp_base.specs.Table.{changed, has, keys, size}
 use Rattle.rsvp_base.specs.declared.session.Session.{Session}
 use Rattle.rsvp_base.specs.declared.style.Unit.{Unit as UnitOf}
-use Rattle.style_rules.specs.Merge.{PartTable}
-use Rattle.router_rules.specs.Facts.{Facts, SenderKey, Want, WantKey}
-use Rattle.router_rules.specs.Inputs.{Asked}
-use Rattle.router_rules.specs.Known.{Lane}
-use Rattle.router_rules.specs.NodeConfig.{NodeConfig, is_session}
-use Rattle.router_rules.specs.Requests.{toward}
-use Rattle.router_rules.specs.Sends.{goes_on, marked_units, same_parts, unmarked, used_marks}
+use Rattle.node_facts.specs.StyleRules.Merge.{PartTable}
+use Rattle.node_facts.specs.RouterRules.Facts.{Facts, SenderKey, Want, WantKey}
+use Rattle.node_facts.specs.RouterRules.Inputs.{Asked}
+use Rattle.node_facts.specs.RouterRules.Known.{Lane}
+use Rattle.node_facts.specs.RouterRules.NodeConfig.{NodeConfig, is_session}
+use Rattle.node_facts.specs.RouterRules.Requests.{toward}
+use Rattle.node_facts.specs.RouterRules.Sends.{goes_on, marked_units, same_parts, unmarked, used_marks}
 use Rattle.node_facts.specs.State.{Said, said_at}
 use Rattle.node_sends.specs.Before.{lanes_by}
 use Rattle.node_sends.specs.Saying.{SessionLane, lane_by}

@@ -7,16 +7,16 @@ use Rattle.rsvp_base.specs.Table.{empty, get, has, put_in, size, without}
 use Rattle.rsvp_base.specs.declared.addr.Addr.{Addr}
 use Rattle.rsvp_base.specs.declared.session.Session.{Session}
 use Rattle.rsvp_base.specs.declared.style.StyleKind.{StyleKind}
-use Rattle.rsvp_messages.specs.declared.ask.Ask.{Ask}
-use Rattle.style_rules.specs.Lines.{NextHop}
-use Rattle.style_rules.specs.Merge.{PartTable}
-use Rattle.router_rules.specs.Asking.{ask_of}
-use Rattle.router_rules.specs.Facts.{Facts}
-use Rattle.router_rules.specs.Inputs.{Send}
-use Rattle.router_rules.specs.Known.{Lane, lanes, names_via}
-use Rattle.router_rules.specs.NodeConfig.{NodeConfig}
-use Rattle.router_rules.specs.Requests.{toward}
-use Rattle.router_rules.specs.Sends.{gone_names, marked_units, own_wish, resv_send, resv_tear_send, same_parts}
+use Rattle.node_facts.specs.RsvpMessages.declared.ask.Ask.{Ask}
+use Rattle.node_facts.specs.StyleRules.Lines.{NextHop}
+use Rattle.node_facts.specs.StyleRules.Merge.{PartTable}
+use Rattle.node_facts.specs.RouterRules.Asking.{ask_of}
+use Rattle.node_facts.specs.RouterRules.Facts.{Facts}
+use Rattle.node_facts.specs.RouterRules.Inputs.{Send}
+use Rattle.node_facts.specs.RouterRules.Known.{Lane, lanes, names_via}
+use Rattle.node_facts.specs.RouterRules.NodeConfig.{NodeConfig}
+use Rattle.node_facts.specs.RouterRules.Requests.{toward}
+use Rattle.node_facts.specs.RouterRules.Sends.{gone_names, marked_units, own_wish, resv_send, resv_tear_send, same_parts}
 use Rattle.node_facts.specs.State.{Said, State, facts_of, said_at}
 
 -- ---- what is kept: what went toward each hop, where something did

@@ -2,25 +2,25 @@
 use Rattle.std.specs.Prelude.{◌≡◌, ℕ, false, [], List, map as each, Option, Some}
 use Rattle.std.specs.List.{filter_map, flat_map}
 use Rattle.std.specs.Option.{option_map}
-use Rattle.path_state.specs.declared.fact.PathFact.{PathFact}
-use Rattle.resv_state.specs.Merging.{requests_toward}
-use Rattle.resv_state.specs.Walks.{rests}
+use Rattle.node_facts.specs.PathState.declared.fact.PathFact.{PathFact}
+use Rattle.node_facts.specs.ResvState.Merging.{requests_toward}
+use Rattle.node_facts.specs.ResvState.Walks.{rests}
 use Rattle.rsvp_base.specs.Orders.{sessions}
 use Rattle.rsvp_base.specs.Table.{empty, get, keys}
 use Rattle.rsvp_base.specs.Under.{under}
 use Rattle.rsvp_base.specs.declared.session.Session.{Session}
 use Rattle.rsvp_base.specs.declared.style.StyleKind.{StyleKind}
-use Rattle.style_rules.specs.Lines.{NextHop}
-use Rattle.style_rules.specs.Merge.{PartTable}
-use Rattle.style_rules.specs.Toward.{toward as merged_toward}
-use Rattle.style_rules.specs.Ways.{WayTable}
-use Rattle.router_rules.specs.Facts.{Facts, SenderKey}
-use Rattle.router_rules.specs.Inputs.{Asked, only_heard}
-use Rattle.router_rules.specs.Known.{Lane}
-use Rattle.router_rules.specs.NodeConfig.{NodeConfig}
-use Rattle.router_rules.specs.Requests.{toward}
-use Rattle.router_rules.specs.Sends.{resv_send_to, resv_tear, sends}
-use Rattle.router_rules.specs.declared.answers.Heard.{Heard}
+use Rattle.node_facts.specs.StyleRules.Lines.{NextHop}
+use Rattle.node_facts.specs.StyleRules.Merge.{PartTable}
+use Rattle.node_facts.specs.StyleRules.Toward.{toward as merged_toward}
+use Rattle.node_facts.specs.StyleRules.Ways.{WayTable}
+use Rattle.node_facts.specs.RouterRules.Facts.{Facts, SenderKey}
+use Rattle.node_facts.specs.RouterRules.Inputs.{Asked, only_heard}
+use Rattle.node_facts.specs.RouterRules.Known.{Lane}
+use Rattle.node_facts.specs.RouterRules.NodeConfig.{NodeConfig}
+use Rattle.node_facts.specs.RouterRules.Requests.{toward}
+use Rattle.node_facts.specs.RouterRules.Sends.{resv_send_to, resv_tear, sends}
+use Rattle.node_facts.specs.RouterRules.declared.answers.Heard.{Heard}
 use Rattle.node_facts.specs.Changes.{paths_put}
 use Rattle.node_facts.specs.State.{IsSaid, Said, State, facts_of, said_at, table_in}
 use Rattle.node_sends.specs.Changed.{IsChangedFor}

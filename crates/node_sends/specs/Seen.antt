@@ -4,12 +4,12 @@ use Rattle.rsvp_base.specs.declared.session.Session.{Session}
 use Rattle.rsvp_base.specs.declared.hop.Hop.{Hop}
 use Rattle.rsvp_base.specs.declared.style.StyleKind.{StyleKind}
 use Rattle.rsvp_base.specs.declared.style.StyleKind.TheVariants.{Wild}
-use Rattle.style_rules.specs.Lines.{NextHop}
-use Rattle.style_rules.specs.Merge.{PartTable}
-use Rattle.style_rules.specs.Ways.{WayTable}
-use Rattle.router_rules.specs.Known.{Lane, names_via}
-use Rattle.router_rules.specs.Sends.{hop_to}
-use Rattle.router_rules.specs.Requests.{toward}
+use Rattle.node_facts.specs.StyleRules.Lines.{NextHop}
+use Rattle.node_facts.specs.StyleRules.Merge.{PartTable}
+use Rattle.node_facts.specs.StyleRules.Ways.{WayTable}
+use Rattle.node_facts.specs.RouterRules.Known.{Lane, names_via}
+use Rattle.node_facts.specs.RouterRules.Sends.{hop_to}
+use Rattle.node_facts.specs.RouterRules.Requests.{toward}
 use Rattle.node_facts.specs.State.{State, facts_of}
 use Rattle.node_sends.specs.Upward.{own_for, up_for, wall_for, way_for}
 use Rattle.std.specs.Prelude.{List, map as each, Some}
@@ -17,10 +17,10 @@ use Rattle.rsvp_base.specs.Orders.{Names, senders}
 use Rattle.rsvp_base.specs.Sets.{set_of}
 use Rattle.rsvp_base.specs.Table.{changed}
 use Rattle.rsvp_base.specs.Styles.{name_of}
-use Rattle.style_rules.specs.Ways.{Way}
+use Rattle.node_facts.specs.StyleRules.Ways.{Way}
 use Rattle.std.specs.Prelude.{Option}
 use Rattle.rsvp_base.specs.declared.session.Sender.{Sender}
-use Rattle.style_rules.specs.declared.wall.Wall.{Wall}
+use Rattle.node_facts.specs.StyleRules.declared.wall.Wall.{Wall}
 
 abbrev pub lane_of : Session → StyleKind → NextHop → Lane
 lane_of s st hop = record { session = s; style = st; hop = hop }

@@ -8,15 +8,15 @@ use Rattle.rsvp_base.specs.Table.{empty, get, keys}
 use Rattle.rsvp_base.specs.declared.session.Session.{Session}
 use Rattle.rsvp_base.specs.declared.style.StyleKind.{StyleKind}
 use Rattle.rsvp_base.specs.declared.style.StyleKind.TheVariants.{Wild, Fixed, Shared}
-use Rattle.style_rules.specs.Lines.{NextHop, next_hops}
-use Rattle.router_rules.specs.Facts.{Facts, PathState, SenderKey, paths_in, resvs_in, senders_in, sender_keys, wants_in}
-use Rattle.router_rules.specs.Inputs.{Change, Send, only_heard}
-use Rattle.router_rules.specs.Known.{Lane}
-use Rattle.router_rules.specs.Offers.{OfferKey, offers}
-use Rattle.router_rules.specs.NodeConfig.{NodeConfig}
-use Rattle.router_rules.specs.Sends.{conf_sends, confirmed, error_sends, resv_send_to, resv_tear, sends}
-use Rattle.router_rules.specs.declared.answers.Heard.{Heard}
-use Rattle.style_rules.specs.declared.target.Target.{Target}
+use Rattle.node_facts.specs.StyleRules.Lines.{NextHop, next_hops}
+use Rattle.node_facts.specs.RouterRules.Facts.{Facts, PathState, SenderKey, paths_in, resvs_in, senders_in, sender_keys, wants_in}
+use Rattle.node_facts.specs.RouterRules.Inputs.{Change, Send, only_heard}
+use Rattle.node_facts.specs.RouterRules.Known.{Lane}
+use Rattle.node_facts.specs.RouterRules.Offers.{OfferKey, offers}
+use Rattle.node_facts.specs.RouterRules.NodeConfig.{NodeConfig}
+use Rattle.node_facts.specs.RouterRules.Sends.{conf_sends, confirmed, error_sends, resv_send_to, resv_tear, sends}
+use Rattle.node_facts.specs.RouterRules.declared.answers.Heard.{Heard}
+use Rattle.node_facts.specs.StyleRules.declared.target.Target.{Target}
 use Rattle.node_sends.specs.Told.{offered, told_gone, told_new}
 
 -- ---- facts of one session

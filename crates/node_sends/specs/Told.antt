@@ -1,10 +1,10 @@
 -- What a node tells of one sender.
 use Rattle.std.specs.Prelude.{ℕ, Bool, false, cond, List, [], map as each, Option, Some, None}
-use Rattle.router_rules.specs.Facts.{Facts, SenderKey}
-use Rattle.router_rules.specs.Inputs.{Send}
-use Rattle.router_rules.specs.Offers.{Offer, OfferKey, offer_at}
-use Rattle.router_rules.specs.NodeConfig.{NodeConfig, outward}
-use Rattle.router_rules.specs.Sends.{is_new_offer, path_send, path_tear}
+use Rattle.node_facts.specs.RouterRules.Facts.{Facts, SenderKey}
+use Rattle.node_facts.specs.RouterRules.Inputs.{Send}
+use Rattle.node_facts.specs.RouterRules.Offers.{Offer, OfferKey, offer_at}
+use Rattle.node_facts.specs.RouterRules.NodeConfig.{NodeConfig, outward}
+use Rattle.node_facts.specs.RouterRules.Sends.{is_new_offer, path_send, path_tear}
 
 abbrev pub offer_key : SenderKey → ℕ → OfferKey
 offer_key k i = record { session = k.0; sender = k.1; iface = i }

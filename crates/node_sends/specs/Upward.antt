@@ -8,15 +8,15 @@ use Rattle.rsvp_base.specs.declared.session.Sender.{Sender}
 use Rattle.rsvp_base.specs.declared.style.StyleKind.{StyleKind}
 use Rattle.rsvp_base.specs.declared.style.StyleKind.TheVariants.{Wild, Fixed, Shared}
 use Rattle.rsvp_base.specs.declared.style.Unit.{Unit as UnitOf}
-use Rattle.style_rules.specs.declared.wall.Wall.{Wall}
-use Rattle.style_rules.specs.Merge.{PartTable}
-use Rattle.style_rules.specs.Ways.{Way, WayTable}
-use Rattle.router_rules.specs.declared.route.Route.{Route}
-use Rattle.style_rules.specs.declared.target.Target.TheVariants as target
-use Rattle.router_rules.specs.Facts.{Facts, Want, Walls, wants_in}
-use Rattle.router_rules.specs.Known.{Lane, names_via}
-use Rattle.router_rules.specs.NodeConfig.{NodeConfig, tree}
-use Rattle.router_rules.specs.Requests.{is_style, wall_at}
+use Rattle.node_facts.specs.StyleRules.declared.wall.Wall.{Wall}
+use Rattle.node_facts.specs.StyleRules.Merge.{PartTable}
+use Rattle.node_facts.specs.StyleRules.Ways.{Way, WayTable}
+use Rattle.node_facts.specs.RouterRules.declared.route.Route.{Route}
+use Rattle.node_facts.specs.StyleRules.declared.target.Target.TheVariants as target
+use Rattle.node_facts.specs.RouterRules.Facts.{Facts, Want, Walls, wants_in}
+use Rattle.node_facts.specs.RouterRules.Known.{Lane, names_via}
+use Rattle.node_facts.specs.RouterRules.NodeConfig.{NodeConfig, tree}
+use Rattle.node_facts.specs.RouterRules.Requests.{is_style, wall_at}
 
 abbrev pub ways_out : Option Route → ℕ
 ways_out None = 0

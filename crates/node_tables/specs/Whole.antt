@@ -4,7 +4,7 @@ use Rattle.std.specs.Option.{option_map}
 use Rattle.rsvp_base.specs.Table.{empty, get}
 use Rattle.rsvp_base.specs.declared.entry_key.EntryKey.{EntryKey}
 use Rattle.local_state.specs.Books.{book}
-use Rattle.node_facts.specs.State.{Said, State, facts_of}
+use Rattle.node_telling.specs.NodeFacts.State.{Said, State, facts_of}
 use Rattle.node_tables.specs.declared.tables.Tables.{Tables}
 
 -- with what was said last toward each lane

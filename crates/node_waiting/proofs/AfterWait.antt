@@ -27,11 +27,11 @@ use Rattle.router_rules.specs.Rule.{settled}
 use Rattle.router_lookups.proofs.Knowing.{counted_made, counted_told}
 use Rattle.router_lookups.proofs.Leaving.{countdowns_settle}
 use Rattle.router_lookups.proofs.Lists.{none_is, some_is}
-use Rattle.node_facts.specs.Forgotten.{forgotten_all, is_gone}
-use Rattle.node_facts.specs.State.{IsSettled, State, due_at, facts_of, resv_at}
-use Rattle.node_facts.specs.Waited.{aged, later_due}
-use Rattle.node_facts.proofs.Leaving.{forgets}
-use Rattle.node_facts.proofs.Passing.{time_passes}
+use Rattle.node_telling.specs.NodeFacts.Forgotten.{forgotten_all, is_gone}
+use Rattle.node_telling.specs.NodeFacts.State.{IsSettled, State, due_at, facts_of, resv_at}
+use Rattle.node_telling.specs.NodeFacts.Waited.{aged, later_due}
+use Rattle.waiting_sends.proofs.NodeFacts.Leaving.{forgets}
+use Rattle.waiting_sends.proofs.NodeFacts.Passing.{time_passes}
 use Rattle.node_waiting.specs.AfterWait.{AWaitIsSettled, after_wait}
 use Rattle.node_waiting.specs.Losing.{lost_names}
 use Rattle.node_waiting.specs.Passing.{counts, dies_in, dying_paths}

@@ -14,7 +14,7 @@ use Rattle.router_rules.specs.Facts.{SenderKey}
 use Rattle.router_rules.specs.Forgetting.{counted, remembered}
 use Rattle.router_rules.specs.NodeConfig.{period}
 use Rattle.rsvp_base.specs.declared.style.StyleKind.TheVariants.{Wild, Fixed, Shared}
-use Rattle.node_facts.specs.State.{due_at, facts_of, path_at, resv_at, wall_at}
+use Rattle.node_telling.specs.NodeFacts.State.{due_at, facts_of, path_at, resv_at, wall_at}
 use Rattle.node_waiting.specs.Clearing.{ClearIsSettled}
 use Rattle.node_waiting.specs.Passing.{all_begun, begun}
 

@@ -15,7 +15,7 @@ use Rattle.rsvp_base.proofs.UnderLaws.{get-under}
 use Rattle.router_rules.specs.Forgetting.{counted}
 use Rattle.router_lookups.proofs.Knowing.{counted_made, counted_told}
 use Rattle.router_lookups.proofs.Lists.{some_is}
-use Rattle.node_facts.specs.State.{State, facts_of}
+use Rattle.node_telling.specs.NodeFacts.State.{State, facts_of}
 use Rattle.node_waiting.specs.Passing.{counts}
 use Rattle.node_waiting.proofs.Names.{known_by}
 

@@ -27,8 +27,8 @@ use Rattle.router_rules.specs.NodeConfig.{is_addr}
 use Rattle.router_lookups.proofs.Knowing.{has-known, named_made, named_told}
 use Rattle.router_lookups.proofs.Lists.{some_same}
 use Rattle.router_lookups.proofs.Tests.{addr_tested, addr_told}
-use Rattle.node_facts.specs.Forgotten.{is_gone}
-use Rattle.node_facts.specs.State.{State, facts_of, path_at}
+use Rattle.node_telling.specs.NodeFacts.Forgotten.{is_gone}
+use Rattle.node_telling.specs.NodeFacts.State.{State, facts_of, path_at}
 use Rattle.node_waiting.specs.Losing.{NamesOfTheDead, lost_at, lost_names}
 
 -- ---- who is known, by the tables

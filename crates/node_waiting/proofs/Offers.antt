@@ -31,7 +31,7 @@ use Rattle.router_rules.specs.Known.{known}
 use Rattle.router_rules.specs.NodeConfig.{NodeConfig}
 use Rattle.router_rules.specs.Offers.{Offer}
 use Rattle.router_lookups.proofs.Knowing.{has-known}
-use Rattle.node_facts.specs.State.{State, facts_of, path_at}
+use Rattle.node_telling.specs.NodeFacts.State.{State, facts_of, path_at}
 use Rattle.waiting_sends.specs.Told.{offered, paths_told, tears_told, told_gone}
 use Rattle.waiting_sends.specs.Several.{gone_told, known_offers, offers_in, refreshed}
 use Rattle.waiting_sends.proofs.Blocks.{known_at}

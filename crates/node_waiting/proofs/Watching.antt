@@ -23,7 +23,7 @@ use Rattle.router_rules.specs.Waiting.{act_wait}
 use Rattle.router_lookups.proofs.Knowing.{counted_made, has-known, lanes_told}
 use Rattle.router_lookups.proofs.Leaving.{waiting_leaves_the_living}
 use Rattle.router_lookups.proofs.Lists.{some_same}
-use Rattle.node_facts.specs.State.{IsCounted, State, due_at, facts_of, path_at, resv_at, table_in, wall_at}
+use Rattle.node_telling.specs.NodeFacts.State.{IsCounted, State, due_at, facts_of, path_at, resv_at, table_in, wall_at}
 use Rattle.waiting_sends.specs.Several.{is_among}
 use Rattle.waiting_sends.specs.Waits.{IsUnharmed}
 use Rattle.node_waiting.specs.Passing.{dies_in, dying_paths}

@@ -2,9 +2,9 @@
 use Rattle.std.specs.Prelude.{◌≡◌, ℕ, ◌+◌, ◌*◌, ◌≤◌}
 use Rattle.rsvp_base.specs.Table.{kept, keys}
 use Rattle.rsvp_base.specs.declared.style.StyleKind.TheVariants.{Wild, Fixed, Shared}
-use Rattle.node_facts.specs.Forgotten.{forgotten_all}
-use Rattle.node_facts.specs.State.{IsSettled, State, facts_of}
-use Rattle.node_facts.specs.Waited.{aged}
+use Rattle.node_telling.specs.NodeFacts.Forgotten.{forgotten_all}
+use Rattle.node_telling.specs.NodeFacts.State.{IsSettled, State, facts_of}
+use Rattle.node_telling.specs.NodeFacts.Waited.{aged}
 use Rattle.waiting_sends.specs.Waits.{waited}
 use Rattle.node_waiting.specs.Losing.{lost_names}
 use Rattle.node_waiting.specs.Passing.{DeadSet, counts, dying_paths}

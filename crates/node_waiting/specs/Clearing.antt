@@ -4,7 +4,7 @@ use Rattle.rsvp_base.specs.Table.{empty}
 use Rattle.router_rules.specs.Calls.{act_clear}
 use Rattle.router_rules.specs.NodeConfig.{period}
 use Rattle.router_rules.specs.Rule.{settled}
-use Rattle.node_facts.specs.State.{State, facts_of}
+use Rattle.node_telling.specs.NodeFacts.State.{State, facts_of}
 use Rattle.node_waiting.specs.Passing.{all_begun}
 
 abbrev pub cleared : State → State

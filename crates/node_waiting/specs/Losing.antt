@@ -10,7 +10,7 @@ use Rattle.rsvp_base.specs.declared.style.StyleKind.{StyleKind}
 use Rattle.router_rules.specs.Facts.{Facts, SenderKey, sender_keys}
 use Rattle.router_rules.specs.Forgetting.{is_lost}
 use Rattle.router_rules.specs.Known.{known, named_as}
-use Rattle.node_facts.specs.Forgotten.{is_gone}
+use Rattle.node_telling.specs.NodeFacts.Forgotten.{is_gone}
 
 -- the name that goes with a sender, if no known sender has it any more
 abbrev pub lost_at : StyleKind → Facts → SenderKey → Option (Session × Sender)

@@ -13,7 +13,7 @@ use Rattle.style_rules.specs.Lines.{LineKey}
 use Rattle.style_rules.specs.Targets.{WallKey}
 use Rattle.style_rules.specs.declared.wall.Wall.{Wall}
 use Rattle.router_rules.specs.Facts.{SenderKey}
-use Rattle.node_facts.specs.State.{IsCounted, State, facts_of, table_in}
+use Rattle.node_telling.specs.NodeFacts.State.{IsCounted, State, facts_of, table_in}
 use Rattle.waiting_sends.specs.Several.{AreSessions, is_among}
 use Rattle.waiting_sends.specs.Waits.{IsWatched}
 use Rattle.node_waiting.specs.Passing.{dying_paths}

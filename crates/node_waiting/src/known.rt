@@ -6,7 +6,7 @@ ghost use Rattle.rsvp_base.specs.Table.{empty, keys, size};
 ghost use Rattle.rsvp_base.specs.Sets.{with_key, with_keys};
 ghost use Rattle.rsvp_base.specs.Under.{under};
 ghost use Rattle.router_rules.specs.Known.{known};
-ghost use Rattle.node_facts.specs.State.{State, facts_of};
+ghost use Rattle.node_telling.specs.NodeFacts.State.{State, facts_of};
 ghost use Rattle.node_waiting.specs.Passing.{sender_row};
 ghost use Rattle.node_waiting.specs.Telling.{known_names};
 

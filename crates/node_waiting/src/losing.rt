@@ -9,7 +9,7 @@ ghost use Rattle.rsvp_base.specs.Under.{under};
 ghost use Rattle.path_state.specs.Paths.{is_from};
 ghost use Rattle.router_rules.specs.NodeConfig.{is_addr};
 ghost use Rattle.router_rules.specs.Known.{known, named_as};
-ghost use Rattle.node_facts.specs.State.{State, facts_of};
+ghost use Rattle.node_telling.specs.NodeFacts.State.{State, facts_of};
 ghost use Rattle.node_waiting.specs.Losing.{lost_at};
 ghost use Rattle.node_waiting.specs.Passing.{dead_key};
 

@@ -4,7 +4,7 @@ ghost use Rattle.std.specs.List.{flat_map};
 ghost use Rattle.std.specs.Option.{option_map};
 ghost use Rattle.rsvp_base.specs.Table.{get, has, keys};
 ghost use Rattle.router_rules.specs.Facts.{Facts, SenderKey};
-ghost use Rattle.node_facts.specs.State.{State, facts_of};
+ghost use Rattle.node_telling.specs.NodeFacts.State.{State, facts_of};
 ghost use Rattle.waiting_sends.specs.Told.{offered};
 ghost use Rattle.node_telling.specs.Offering.{as_offer};
 ghost use Rattle.waiting_sends.specs.Several.{gone_told, refreshed};

@@ -4,3 +4,4 @@ pub mod Placing
 pub mod Dying
 pub use Rattle.node_facts.specs.Forgotten
 pub use Rattle.node_facts.specs.State
+pub use Rattle.node_facts.specs as NodeFacts

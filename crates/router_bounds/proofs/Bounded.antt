@@ -3,16 +3,16 @@ use Rattle.std.specs.Prelude.{◌≡◌, ℕ, ◌≤◌, List, Some}
 use Rattle.std.proofs.Common.{sym, ap, subst, ⊎_elim, arith}
 use Rattle.rsvp_base.specs.declared.iface.Iface.{Iface}
 use Rattle.rsvp_base.specs.Table.{get}
-use Rattle.router_rules.specs.declared.route.Route.{Route}
+use Rattle.router_inputs.specs.RouterRules.declared.route.Route.{Route}
 use Rattle.style_rules.specs.declared.target.Target.{Target}
 use Rattle.style_rules.specs.declared.target.Target.TheVariants as target
-use Rattle.router_rules.specs.Act.{act}
-use Rattle.router_rules.specs.Bounds.{AreAlive, AreShaped, AreWithinLimits, IsPathShaped, IsTarget, IsWithinBounds}
-use Rattle.router_rules.specs.Facts.{Facts, PathState}
-use Rattle.router_rules.specs.Inputs.{Input}
-use Rattle.router_rules.specs.NodeConfig.{NodeConfig}
+use Rattle.router_inputs.specs.RouterRules.Act.{act}
+use Rattle.router_inputs.specs.RouterRules.Bounds.{AreAlive, AreShaped, AreWithinLimits, IsPathShaped, IsTarget, IsWithinBounds}
+use Rattle.router_inputs.specs.RouterRules.Facts.{Facts, PathState}
+use Rattle.router_inputs.specs.RouterRules.Inputs.{Input}
+use Rattle.router_inputs.specs.RouterRules.NodeConfig.{NodeConfig}
 use Rattle.router_inputs.specs.Sources.{IsLearnt}
-use Rattle.router_rules.specs.Steps.{IsFit, IsSameNode, clock_after, facts_then}
+use Rattle.router_inputs.specs.RouterRules.Steps.{IsFit, IsSameNode, clock_after, facts_then}
 use Rattle.router_inputs.proofs.Framing.{wants_then}
 use Rattle.router_inputs.proofs.Stepping.{came_from}
 use Rattle.router_bounds.specs.BoundLaws.{AStepKeepsANodeWithinBounds}

@@ -7,3 +7,4 @@ pub mod LocalFacts
 pub mod Bounded
 pub mod LeftOver
 pub mod Wording
+pub use Rattle.router_inputs.proofs as RouterInputs

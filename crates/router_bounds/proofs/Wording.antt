@@ -42,20 +42,20 @@ use Rattle.style_rules.proofs.Claims.{merge_keeps_the_style}
 use Rattle.style_rules.proofs.Folds.{all_keeps}
 use Rattle.style_rules.proofs.Merges.{get-table_at, in_those}
 use Rattle.style_rules.proofs.StyleLaws.{cut_of_style, fixed_parts, wild_parts}
-use Rattle.router_rules.specs.declared.answers.Heard.TheVariants as heard
-use Rattle.router_rules.specs.declared.answers.Why.TheVariants as why
-use Rattle.router_rules.specs.Act.{act, act_spelt, is_mine}
-use Rattle.router_rules.specs.Asking.{Asker, act_resv, ask_of, ask_of_part, asker_of, asked_of, flow_at, flows_by_sender, lost, matched, names_that_match, nothing_taken, refusal, style_conflict, taking, taking_of, unmatched, Nobody, These, as_listed}
-use Rattle.router_rules.specs.Bounds.{IsWantShape, IsWantShaped, IsWithinBounds}
-use Rattle.router_rules.specs.Confirming.{confs_heard, confs_on}
-use Rattle.router_rules.specs.Errors.{blamed, errors_on, lane_of, path_err, path_err_on, replied, reply_to}
-use Rattle.router_rules.specs.Facts.{Facts, PathState, ResvState, Want, WantKey, resvs_of}
-use Rattle.router_rules.specs.Inputs.{Asked, Call, Came, Clear, ConfSend, ErrSend, Input, Moved, Send, Spelt, Unspelt, Wait}
-use Rattle.router_rules.specs.Known.{Lane, known, named_as, names_via, names_via_where, via}
-use Rattle.router_rules.specs.NodeConfig.{NodeConfig, goes_out, is_own}
-use Rattle.router_rules.specs.Requests.{requests, toward, want_part}
-use Rattle.router_rules.specs.Rule.{settled}
-use Rattle.router_rules.specs.Sends.{conf_for, confirmed, error_message, goes_on, gone_names, tear_of, without_scope}
+use Rattle.router_inputs.specs.RouterRules.declared.answers.Heard.TheVariants as heard
+use Rattle.router_inputs.specs.RouterRules.declared.answers.Why.TheVariants as why
+use Rattle.router_inputs.specs.RouterRules.Act.{act, act_spelt, is_mine}
+use Rattle.router_inputs.specs.RouterRules.Asking.{Asker, act_resv, ask_of, ask_of_part, asker_of, asked_of, flow_at, flows_by_sender, lost, matched, names_that_match, nothing_taken, refusal, style_conflict, taking, taking_of, unmatched, Nobody, These, as_listed}
+use Rattle.router_inputs.specs.RouterRules.Bounds.{IsWantShape, IsWantShaped, IsWithinBounds}
+use Rattle.router_inputs.specs.RouterRules.Confirming.{confs_heard, confs_on}
+use Rattle.router_inputs.specs.RouterRules.Errors.{blamed, errors_on, lane_of, path_err, path_err_on, replied, reply_to}
+use Rattle.router_inputs.specs.RouterRules.Facts.{Facts, PathState, ResvState, Want, WantKey, resvs_of}
+use Rattle.router_inputs.specs.RouterRules.Inputs.{Asked, Call, Came, Clear, ConfSend, ErrSend, Input, Moved, Send, Spelt, Unspelt, Wait}
+use Rattle.router_inputs.specs.RouterRules.Known.{Lane, known, named_as, names_via, names_via_where, via}
+use Rattle.router_inputs.specs.RouterRules.NodeConfig.{NodeConfig, goes_out, is_own}
+use Rattle.router_inputs.specs.RouterRules.Requests.{requests, toward, want_part}
+use Rattle.router_inputs.specs.RouterRules.Rule.{settled}
+use Rattle.router_inputs.specs.RouterRules.Sends.{conf_for, confirmed, error_message, goes_on, gone_names, tear_of, without_scope}
 use Rattle.router_inputs.specs.FactLaws.{IsResvRequest, IsWantRequest}
 use Rattle.router_inputs.specs.SendLaws.{IsConf, IsError, IsPath, IsPathTear, IsResv, IsResvTear}
 use Rattle.router_inputs.proofs.Lists.{passed, some_same}
@@ -69,7 +69,7 @@ use Rattle.router_inputs.proofs.Erring.{errors_once_each}
 use Rattle.router_inputs.proofs.Wholes.{takes_told}
 use Rattle.router_inputs.proofs.Wholes.{errors_told as unit_errors_told}
 use Rattle.router_inputs.specs.Sources.{IsLocalOffer, IsPathOffer}
-use Rattle.router_rules.specs.Steps.{IsFit, clock_after, facts_then, sent_then}
+use Rattle.router_inputs.specs.RouterRules.Steps.{IsFit, clock_after, facts_then, sent_then}
 use Rattle.router_inputs.proofs.Stepping.{offer_of, offer_source, send_told}
 use Rattle.router_bounds.specs.ProperLaws.{WhatIsSentIsProper}
 use Rattle.router_bounds.proofs.Bounded.{kept_within, same_node}

@@ -1,2 +1,3 @@
 pub mod BoundLaws
 pub mod ProperLaws
+pub use Rattle.router_inputs.specs as RouterInputs

@@ -5,13 +5,13 @@ use Rattle.rsvp_base.specs.declared.addr.Addr.{Addr}
 use Rattle.rsvp_base.specs.declared.hop.Hop.{Hop}
 use Rattle.rsvp_base.specs.declared.session.Session.{Session}
 use Rattle.rsvp_base.specs.declared.style.StyleKind.{StyleKind}
-use Rattle.rsvp_messages.specs.declared.fault.MsgErr.{MsgErr}
-use Rattle.rsvp_messages.specs.declared.message.Kind.{Kind}
-use Rattle.rsvp_messages.specs.declared.message.Kind.TheVariants as kind
-use Rattle.router_rules.specs.Act.{act_spelt}
-use Rattle.router_rules.specs.Errors.{PathFrom, ResvFrom, addressee, fault_code, replied, reply, reply_to, with_errors}
-use Rattle.router_rules.specs.Inputs.{ErrSend}
-use Rattle.router_rules.specs.NodeConfig.{NodeConfig, is_addr, own}
+use Rattle.router_lookups.specs.RsvpMessages.declared.fault.MsgErr.{MsgErr}
+use Rattle.router_lookups.specs.RsvpMessages.declared.message.Kind.{Kind}
+use Rattle.router_lookups.specs.RsvpMessages.declared.message.Kind.TheVariants as kind
+use Rattle.router_lookups.specs.RouterRules.Act.{act_spelt}
+use Rattle.router_lookups.specs.RouterRules.Errors.{PathFrom, ResvFrom, addressee, fault_code, replied, reply, reply_to, with_errors}
+use Rattle.router_lookups.specs.RouterRules.Inputs.{ErrSend}
+use Rattle.router_lookups.specs.RouterRules.NodeConfig.{NodeConfig, is_addr, own}
 use Rattle.router_lookups.proofs.Lists.{passed, some_same}
 use Rattle.router_lookups.proofs.Tests.{addr_told, addr_tested}
 use Rattle.router_inputs.specs.ErrorLaws.{ArrivalsByAddress, FaultsByHint, IsPathReply, IsResvReply, path_reply, resv_reply}

@@ -20,20 +20,20 @@ use Rattle.rsvp_base.specs.TokenBucket.{TokenBucket}
 use Rattle.rsvp_base.proofs.Members.{any_in, in_any, in_each}
 use Rattle.rsvp_base.proofs.Tables.{either, get-kept, get-put_in_other, get-put_in_same, tied_same}
 use Rattle.rsvp_base.proofs.UnderLaws.{get-under}
-use Rattle.rsvp_messages.specs.Units.{only}
-use Rattle.router_rules.specs.Lines.{LineKey}
-use Rattle.router_rules.specs.declared.answers.Heard.TheVariants as heard
-use Rattle.router_rules.specs.declared.answers.LocalErr.{LocalErr}
-use Rattle.router_rules.specs.declared.answers.LocalErr.TheVariants as local
-use Rattle.router_rules.specs.declared.answers.StaleErr.{StaleErr}
-use Rattle.router_rules.specs.declared.answers.StaleErr.TheVariants as stale
-use Rattle.router_rules.specs.Books.{book, fits, refused as refused_entry}
-use Rattle.router_rules.specs.Calls.{act_call, act_stale, call_refusal, entry_of, needs, senders_with, stale_refusal, unless, wanted, wants_with, with_left}
-use Rattle.router_rules.specs.Facts.{Facts, ResvState, Want, WantKey, Wants, resvs_of, want_keys, wants_in, with_resvs}
-use Rattle.router_rules.specs.Inputs.{Call, Local, QuitAll, Stale, only_heard}
-use Rattle.router_rules.specs.NodeConfig.{NodeConfig, is_own, is_session}
-use Rattle.router_rules.specs.Requests.{is_style}
-use Rattle.router_rules.specs.Rule.{settled}
+use Rattle.router_lookups.specs.RsvpMessages.Units.{only}
+use Rattle.router_lookups.specs.RouterRules.Lines.{LineKey}
+use Rattle.router_lookups.specs.RouterRules.declared.answers.Heard.TheVariants as heard
+use Rattle.router_lookups.specs.RouterRules.declared.answers.LocalErr.{LocalErr}
+use Rattle.router_lookups.specs.RouterRules.declared.answers.LocalErr.TheVariants as local
+use Rattle.router_lookups.specs.RouterRules.declared.answers.StaleErr.{StaleErr}
+use Rattle.router_lookups.specs.RouterRules.declared.answers.StaleErr.TheVariants as stale
+use Rattle.router_lookups.specs.RouterRules.Books.{book, fits, refused as refused_entry}
+use Rattle.router_lookups.specs.RouterRules.Calls.{act_call, act_stale, call_refusal, entry_of, needs, senders_with, stale_refusal, unless, wanted, wants_with, with_left}
+use Rattle.router_lookups.specs.RouterRules.Facts.{Facts, ResvState, Want, WantKey, Wants, resvs_of, want_keys, wants_in, with_resvs}
+use Rattle.router_lookups.specs.RouterRules.Inputs.{Call, Local, QuitAll, Stale, only_heard}
+use Rattle.router_lookups.specs.RouterRules.NodeConfig.{NodeConfig, is_own, is_session}
+use Rattle.router_lookups.specs.RouterRules.Requests.{is_style}
+use Rattle.router_lookups.specs.RouterRules.Rule.{settled}
 use Rattle.router_lookups.proofs.Lists.{got_with_rows, in_values, some_is, to_values}
 use Rattle.router_lookups.proofs.Sending.{not_told}
 use Rattle.router_lookups.proofs.Tests.{session_told, style_told, ties}

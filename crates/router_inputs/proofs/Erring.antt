@@ -17,24 +17,24 @@ use Rattle.rsvp_base.proofs.Members.{any_in, in_any}
 use Rattle.rsvp_base.proofs.Tables.{either, get-put_in_other, tied_same}
 use Rattle.rsvp_base.proofs.UnderLaws.{get-under}
 use Rattle.rsvp_base.proofs.SetLaws.{or_right}
-use Rattle.rsvp_messages.specs.declared.message.PathErrMsg.{PathErrMsg}
-use Rattle.rsvp_messages.specs.declared.message.ResvErrMsg.{ResvErrMsg}
-use Rattle.router_rules.specs.Lines.{NextHop, next_hops}
-use Rattle.router_rules.specs.declared.answers.Heard.TheVariants as heard
-use Rattle.router_rules.specs.declared.answers.Why.TheVariants as why
-use Rattle.router_rules.specs.Errors.{act_path_err, act_resv_err, blamed, blockade_of, error_on, error_to, errors_on, is_admission, is_told, lane_of, path_err, path_err_on, sets_walls, walled_by, walls_after, walls_heard, walls_with, with_errors, error_listing}
-use Rattle.router_rules.specs.Facts.{Facts, PathState, ResvState, Walls, paths_in, resvs_in, resvs_of}
-use Rattle.router_rules.specs.Targets.{WallKey, wall_keys}
-use Rattle.router_rules.specs.Inputs.{Change, ErrSend, only_heard}
-use Rattle.router_rules.specs.Known.{Lane, came_by}
-use Rattle.router_rules.specs.NodeConfig.{NodeConfig, goes_out}
+use Rattle.router_lookups.specs.RsvpMessages.declared.message.PathErrMsg.{PathErrMsg}
+use Rattle.router_lookups.specs.RsvpMessages.declared.message.ResvErrMsg.{ResvErrMsg}
+use Rattle.router_lookups.specs.RouterRules.Lines.{NextHop, next_hops}
+use Rattle.router_lookups.specs.RouterRules.declared.answers.Heard.TheVariants as heard
+use Rattle.router_lookups.specs.RouterRules.declared.answers.Why.TheVariants as why
+use Rattle.router_lookups.specs.RouterRules.Errors.{act_path_err, act_resv_err, blamed, blockade_of, error_on, error_to, errors_on, is_admission, is_told, lane_of, path_err, path_err_on, sets_walls, walled_by, walls_after, walls_heard, walls_with, with_errors, error_listing}
+use Rattle.router_lookups.specs.RouterRules.Facts.{Facts, PathState, ResvState, Walls, paths_in, resvs_in, resvs_of}
+use Rattle.router_lookups.specs.RouterRules.Targets.{WallKey, wall_keys}
+use Rattle.router_lookups.specs.RouterRules.Inputs.{Change, ErrSend, only_heard}
+use Rattle.router_lookups.specs.RouterRules.Known.{Lane, came_by}
+use Rattle.router_lookups.specs.RouterRules.NodeConfig.{NodeConfig, goes_out}
 use Rattle.router_lookups.specs.FactLaws.{ComesBy}
 use Rattle.router_lookups.proofs.Lists.{in_values, passed, some_same, to_values}
 use Rattle.router_lookups.proofs.Once.{LastGives, given_rise, last_made, last_stands, last_told, someone_last, stands_last}
 use Rattle.router_inputs.specs.ErrorLaws.{ErrorsOnceEach, IsErrorTo, IsSpokenOf, PathErrsByTests, ResvErrsByTests, errors_with, walls_set}
 use Rattle.router_inputs.proofs.Telling.{same_hop}
 use Rattle.router_lookups.proofs.Blame.{sent_listing}
-use Rattle.router_rules.specs.Asking.{as_listed}
+use Rattle.router_lookups.specs.RouterRules.Asking.{as_listed}
 
 -- ---- PathErr
 path_err_by : (p : NodeConfig) (e : ℕ) (m : PathErrMsg) (f : Facts) (x : Sender) (out : Bool) → m.sender ≡ Some x → goes_out p m.session e x ≡ out

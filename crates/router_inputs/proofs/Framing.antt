@@ -4,18 +4,18 @@ use Rattle.std.proofs.Common.{sym, ap, ◌∙◌}
 use Rattle.rsvp_base.specs.Sets.{Set}
 use Rattle.rsvp_base.specs.Table.{changed, empty, get, has}
 use Rattle.rsvp_base.proofs.Tables.{get-changed, got_changed, then_do}
-use Rattle.rsvp_messages.specs.declared.message.Message.{Message}
-use Rattle.rsvp_messages.specs.declared.message.Message.TheVariants as message
-use Rattle.router_rules.specs.Act.{act, act_spelt, is_mine}
-use Rattle.router_rules.specs.Calls.{unless}
-use Rattle.router_rules.specs.Facts.{Facts, Want, WantKey, Wants, want_keys}
-use Rattle.router_rules.specs.Inputs.{Change, Input, Call, Wait, Clear, Came, Moved, Spelt, Unspelt, SendAs, DropAs, WantAs, QuitAll}
-use Rattle.router_rules.specs.NodeConfig.{NodeConfig}
-use Rattle.router_rules.specs.Rule.{is_silent, settled, spoken}
-use Rattle.router_rules.specs.Sends.{unmarked, used_marks}
+use Rattle.router_lookups.specs.RsvpMessages.declared.message.Message.{Message}
+use Rattle.router_lookups.specs.RsvpMessages.declared.message.Message.TheVariants as message
+use Rattle.router_lookups.specs.RouterRules.Act.{act, act_spelt, is_mine}
+use Rattle.router_lookups.specs.RouterRules.Calls.{unless}
+use Rattle.router_lookups.specs.RouterRules.Facts.{Facts, Want, WantKey, Wants, want_keys}
+use Rattle.router_lookups.specs.RouterRules.Inputs.{Change, Input, Call, Wait, Clear, Came, Moved, Spelt, Unspelt, SendAs, DropAs, WantAs, QuitAll}
+use Rattle.router_lookups.specs.RouterRules.NodeConfig.{NodeConfig}
+use Rattle.router_lookups.specs.RouterRules.Rule.{is_silent, settled, spoken}
+use Rattle.router_lookups.specs.RouterRules.Sends.{unmarked, used_marks}
 use Rattle.router_lookups.proofs.Lists.{some_same}
 use Rattle.router_inputs.specs.Frames.{AreSameButMarks, on_paths, on_resvs, on_senders, on_walls, on_wants, tells_of_paths, tells_of_resvs, tells_of_walls}
-use Rattle.router_rules.specs.Steps.{facts_then}
+use Rattle.router_lookups.specs.RouterRules.Steps.{facts_then}
 
 -- ---- what no message changes by itself
 pub record LeavesLocals (f : Facts) (k : Change) : Type 0 where

@@ -20,3 +20,4 @@ pub use Rattle.router_lookups.proofs.Rooms
 pub use Rattle.router_lookups.proofs.Ruling
 pub use Rattle.router_lookups.proofs.Sending
 pub use Rattle.router_lookups.proofs.Tests
+pub use Rattle.router_lookups.proofs.RouterRules

@@ -13,19 +13,19 @@ use Rattle.rsvp_base.specs.Table.{Table, changed, empty, get, has, keys, size}
 use Rattle.rsvp_base.proofs.Members.{in_filter}
 use Rattle.rsvp_base.proofs.SetLaws.{and_both, has-cut}
 use Rattle.rsvp_base.proofs.Tables.{get-changed, same_table, then_do}
-use Rattle.router_rules.specs.Lines.{LineKey, line_keys}
-use Rattle.router_rules.specs.declared.answers.Heard.{Heard}
-use Rattle.router_rules.specs.Act.{act}
-use Rattle.router_rules.specs.Bounds.{IsWithinBounds}
-use Rattle.router_rules.specs.Facts.{Facts, ResvState, Resvs, ResvTables, Want, WantKey, Wants, each_table, resvs_of, want_keys}
-use Rattle.router_rules.specs.Forgetting.{counted, is_lost, remembered, settle}
-use Rattle.router_rules.specs.Inputs.{Change, ConfSend, ErrSend, Input, only_heard}
-use Rattle.router_rules.specs.Known.{Lane, known, lanes, named_as, names_via}
-use Rattle.router_rules.specs.Offers.{offers}
-use Rattle.router_rules.specs.NodeConfig.{NodeConfig, period}
-use Rattle.router_rules.specs.Requests.{toward}
-use Rattle.router_rules.specs.Rule.{is_silent, rule, settled, spoken}
-use Rattle.router_rules.specs.Sends.{conf_sends, error_sends, gone_names, is_changed, is_new_offer, is_sent_new, marked_units, path_sends, path_tears, resv_sends, resv_tears, sends, torn_names, unmarked, used_marks}
+use Rattle.router_lookups.specs.RouterRules.Lines.{LineKey, line_keys}
+use Rattle.router_lookups.specs.RouterRules.declared.answers.Heard.{Heard}
+use Rattle.router_lookups.specs.RouterRules.Act.{act}
+use Rattle.router_lookups.specs.RouterRules.Bounds.{IsWithinBounds}
+use Rattle.router_lookups.specs.RouterRules.Facts.{Facts, ResvState, Resvs, ResvTables, Want, WantKey, Wants, each_table, resvs_of, want_keys}
+use Rattle.router_lookups.specs.RouterRules.Forgetting.{counted, is_lost, remembered, settle}
+use Rattle.router_lookups.specs.RouterRules.Inputs.{Change, ConfSend, ErrSend, Input, only_heard}
+use Rattle.router_lookups.specs.RouterRules.Known.{Lane, known, lanes, named_as, names_via}
+use Rattle.router_lookups.specs.RouterRules.Offers.{offers}
+use Rattle.router_lookups.specs.RouterRules.NodeConfig.{NodeConfig, period}
+use Rattle.router_lookups.specs.RouterRules.Requests.{toward}
+use Rattle.router_lookups.specs.RouterRules.Rule.{is_silent, rule, settled, spoken}
+use Rattle.router_lookups.specs.RouterRules.Sends.{conf_sends, error_sends, gone_names, is_changed, is_new_offer, is_sent_new, marked_units, path_sends, path_tears, resv_sends, resv_tears, sends, torn_names, unmarked, used_marks}
 use Rattle.router_lookups.proofs.Asks.{gone_told}
 use Rattle.router_lookups.proofs.Leaving.{countdowns_settle, left_whole}
 use Rattle.router_lookups.proofs.Sending.{path_tear_told, path_told, resv_tear_told, resv_told}

@@ -15,20 +15,20 @@ use Rattle.rsvp_base.proofs.Counts.{found_in, in_found}
 use Rattle.rsvp_base.proofs.SetLaws.{and_both, and_made}
 use Rattle.rsvp_base.proofs.Tables.{get-changed, got_changed, then_do}
 use Rattle.rsvp_base.proofs.UnderLaws.{get-under}
-use Rattle.rsvp_messages.specs.declared.message.PathMsg.{PathMsg}
-use Rattle.rsvp_messages.specs.declared.message.PathTearMsg.{PathTearMsg}
-use Rattle.rsvp_messages.specs.declared.message.ResvConfMsg.{ResvConfMsg}
-use Rattle.rsvp_messages.specs.declared.message.ResvTearMsg.{ResvTearMsg}
-use Rattle.rsvp_messages.specs.Units.{ask_style, tear_names, tear_style}
-use Rattle.router_rules.specs.Lines.{LineKey, NextHop, is_of_hop, line_keys, next_hops}
-use Rattle.router_rules.specs.declared.answers.Heard.TheVariants as heard
-use Rattle.router_rules.specs.declared.answers.Why.TheVariants as why
-use Rattle.router_rules.specs.Asking.{act_resv_tear, left_of, names_one, stays, torn_resv, torn_resvs}
-use Rattle.router_rules.specs.Confirming.{conf_on, confs_heard, confs_on, is_wish, speaks_of, with_confs}
-use Rattle.router_rules.specs.Facts.{Facts, PathState, Resvs, ResvState, ResvTables, resvs_in, resvs_of, with_resvs}
-use Rattle.router_rules.specs.Inputs.{ConfSend, only_heard}
-use Rattle.router_rules.specs.Paths.{act_path, act_path_tear, is_path_by, learn, learn_inward, learnt, path_state, tear_path, torn_path, with_paths}
-use Rattle.router_rules.specs.NodeConfig.{NodeConfig, comes_in}
+use Rattle.router_lookups.specs.RsvpMessages.declared.message.PathMsg.{PathMsg}
+use Rattle.router_lookups.specs.RsvpMessages.declared.message.PathTearMsg.{PathTearMsg}
+use Rattle.router_lookups.specs.RsvpMessages.declared.message.ResvConfMsg.{ResvConfMsg}
+use Rattle.router_lookups.specs.RsvpMessages.declared.message.ResvTearMsg.{ResvTearMsg}
+use Rattle.router_lookups.specs.RsvpMessages.Units.{ask_style, tear_names, tear_style}
+use Rattle.router_lookups.specs.RouterRules.Lines.{LineKey, NextHop, is_of_hop, line_keys, next_hops}
+use Rattle.router_lookups.specs.RouterRules.declared.answers.Heard.TheVariants as heard
+use Rattle.router_lookups.specs.RouterRules.declared.answers.Why.TheVariants as why
+use Rattle.router_lookups.specs.RouterRules.Asking.{act_resv_tear, left_of, names_one, stays, torn_resv, torn_resvs}
+use Rattle.router_lookups.specs.RouterRules.Confirming.{conf_on, confs_heard, confs_on, is_wish, speaks_of, with_confs}
+use Rattle.router_lookups.specs.RouterRules.Facts.{Facts, PathState, Resvs, ResvState, ResvTables, resvs_in, resvs_of, with_resvs}
+use Rattle.router_lookups.specs.RouterRules.Inputs.{ConfSend, only_heard}
+use Rattle.router_lookups.specs.RouterRules.Paths.{act_path, act_path_tear, is_path_by, learn, learn_inward, learnt, path_state, tear_path, torn_path, with_paths}
+use Rattle.router_lookups.specs.RouterRules.NodeConfig.{NodeConfig, comes_in}
 use Rattle.router_lookups.specs.RuleLaws.{IsLeft}
 use Rattle.router_lookups.proofs.Leaving.{as_it_was, left_told, table_put}
 use Rattle.rsvp_base.proofs.Fronts.{in_filter_map}

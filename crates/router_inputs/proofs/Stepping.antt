@@ -8,35 +8,35 @@ use Rattle.rsvp_base.specs.declared.session.Session.{Session}
 use Rattle.rsvp_base.specs.Orders.{senders}
 use Rattle.rsvp_base.specs.Table.{empty, get, has, put_in}
 use Rattle.rsvp_base.proofs.Tables.{got_changed, got_put_in, got_without}
-use Rattle.router_rules.specs.Act.{act, is_mine, act_spelt}
-use Rattle.router_rules.specs.Facts.{Facts, PathState, Paths, SenderKey, sender_keys}
-use Rattle.router_rules.specs.Forgetting.{counted, settle}
-use Rattle.router_rules.specs.Inputs.{Arrival, Input, Call, Wait, Clear, Came, Moved, Spelt, Unspelt, Send}
-use Rattle.router_rules.specs.NodeConfig.{NodeConfig, period, comes_in, goes_out}
-use Rattle.router_rules.specs.Waiting.{living}
+use Rattle.router_lookups.specs.RouterRules.Act.{act, is_mine, act_spelt}
+use Rattle.router_lookups.specs.RouterRules.Facts.{Facts, PathState, Paths, SenderKey, sender_keys}
+use Rattle.router_lookups.specs.RouterRules.Forgetting.{counted, settle}
+use Rattle.router_lookups.specs.RouterRules.Inputs.{Arrival, Input, Call, Wait, Clear, Came, Moved, Spelt, Unspelt, Send}
+use Rattle.router_lookups.specs.RouterRules.NodeConfig.{NodeConfig, period, comes_in, goes_out}
+use Rattle.router_lookups.specs.RouterRules.Waiting.{living}
 use Rattle.router_lookups.proofs.Knowing.{has-known}
 use Rattle.router_lookups.proofs.Leaving.{countdowns_settle}
 use Rattle.router_lookups.proofs.Lists.{some_same, passed}
 use Rattle.rsvp_base.specs.declared.session.Sender.{Sender}
 use Rattle.rsvp_base.specs.TokenBucket.{TokenBucket}
-use Rattle.rsvp_messages.specs.declared.message.Message.{Message}
-use Rattle.rsvp_messages.specs.declared.message.Message.TheVariants as message
-use Rattle.rsvp_messages.specs.declared.message.PathMsg.{PathMsg}
-use Rattle.rsvp_messages.specs.declared.message.PathTearMsg.{PathTearMsg}
-use Rattle.router_rules.specs.Known.{known}
-use Rattle.router_rules.specs.Paths.{is_path_by, learn, learn_inward, learnt, path_state, tear_path, torn_path}
-use Rattle.router_rules.specs.Rule.{is_silent, settled, spoken}
+use Rattle.router_lookups.specs.RsvpMessages.declared.message.Message.{Message}
+use Rattle.router_lookups.specs.RsvpMessages.declared.message.Message.TheVariants as message
+use Rattle.router_lookups.specs.RsvpMessages.declared.message.PathMsg.{PathMsg}
+use Rattle.router_lookups.specs.RsvpMessages.declared.message.PathTearMsg.{PathTearMsg}
+use Rattle.router_lookups.specs.RouterRules.Known.{known}
+use Rattle.router_lookups.specs.RouterRules.Paths.{is_path_by, learn, learn_inward, learnt, path_state, tear_path, torn_path}
+use Rattle.router_lookups.specs.RouterRules.Rule.{is_silent, settled, spoken}
 use Rattle.router_lookups.proofs.Tests.{addr_told}
 use Rattle.rsvp_base.specs.Members.{In}
 use Rattle.rsvp_base.proofs.SetLaws.{and_both}
-use Rattle.router_rules.specs.Toward.{or_else}
-use Rattle.router_rules.specs.Offers.{Offer, OfferKey, offer_at, offers}
+use Rattle.router_lookups.specs.RouterRules.Toward.{or_else}
+use Rattle.router_lookups.specs.RouterRules.Offers.{Offer, OfferKey, offer_at, offers}
 use Rattle.router_lookups.specs.FactLaws.{is_way}
 use Rattle.router_lookups.specs.SendLaws.{IsSend}
 use Rattle.router_lookups.proofs.Offering.{offers_by_way}
 use Rattle.router_lookups.proofs.Sending.{sends_are_of_six_kinds}
 use Rattle.router_inputs.specs.Sources.{IsLearnt, IsLocalOffer, IsPathOffer}
-use Rattle.router_rules.specs.Steps.{facts_then, sent_then}
+use Rattle.router_lookups.specs.RouterRules.Steps.{facts_then, sent_then}
 use Rattle.router_inputs.proofs.Framing.{spelt_leaves}
 
 -- ---- countdowns

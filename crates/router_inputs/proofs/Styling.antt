@@ -18,12 +18,12 @@ use Rattle.rsvp_base.proofs.Members.{any_in, in_any}
 use Rattle.rsvp_base.proofs.SetLaws.{and_both, and_made, has-kept, or_either, or_left, or_right}
 use Rattle.rsvp_base.proofs.Tables.{either}
 use Rattle.rsvp_base.proofs.UnderLaws.{get-under}
-use Rattle.router_rules.specs.Lines.{next_hops}
-use Rattle.router_rules.specs.Asking.{Asker, has_style, lost, matched, style_conflict, Nobody, These}
-use Rattle.router_rules.specs.Facts.{Facts, Want, resvs_in, resvs_of, wants_in}
-use Rattle.router_rules.specs.Known.{known}
-use Rattle.router_rules.specs.NodeConfig.{NodeConfig, goes_out}
-use Rattle.router_rules.specs.Requests.{is_style}
+use Rattle.router_lookups.specs.RouterRules.Lines.{next_hops}
+use Rattle.router_lookups.specs.RouterRules.Asking.{Asker, has_style, lost, matched, style_conflict, Nobody, These}
+use Rattle.router_lookups.specs.RouterRules.Facts.{Facts, Want, resvs_in, resvs_of, wants_in}
+use Rattle.router_lookups.specs.RouterRules.Known.{known}
+use Rattle.router_lookups.specs.RouterRules.NodeConfig.{NodeConfig, goes_out}
+use Rattle.router_lookups.specs.RouterRules.Requests.{is_style}
 use Rattle.router_lookups.specs.FactLaws.{IsNamed}
 use Rattle.router_lookups.proofs.Knowing.{named_told, named_made}
 use Rattle.router_lookups.proofs.Lists.{has_some, in_values, some_same, to_values}

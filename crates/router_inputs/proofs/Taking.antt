@@ -11,14 +11,14 @@ use Rattle.rsvp_base.specs.Sets.{is_none}
 use Rattle.rsvp_base.specs.Table.{get}
 use Rattle.rsvp_base.proofs.Members.{in_left}
 use Rattle.rsvp_base.proofs.Tables.{either, get-put_in_other, get-put_in_same, got_put_in, tied_same}
-use Rattle.rsvp_messages.specs.Units.{AskedUnit}
-use Rattle.router_rules.specs.CutLaws.{made_of}
-use Rattle.router_rules.specs.Lines.{LineKey, line_keys}
-use Rattle.router_rules.specs.Parts.{has_name, part_of}
-use Rattle.router_rules.specs.Asking.{Asker, Taking, book_refuses, has_entry, has_room, key_at, losses, lost, names_that_match, put_tested, put_unit, refusal, resv_state, table_with, take_unit, take_units, tell_lost, value_of}
-use Rattle.router_rules.specs.Facts.{Facts, ResvState}
-use Rattle.router_rules.specs.Inputs.{ErrSend}
-use Rattle.router_rules.specs.NodeConfig.{NodeConfig}
+use Rattle.router_lookups.specs.RsvpMessages.Units.{AskedUnit}
+use Rattle.router_lookups.specs.RouterRules.CutLaws.{made_of}
+use Rattle.router_lookups.specs.RouterRules.Lines.{LineKey, line_keys}
+use Rattle.router_lookups.specs.RouterRules.Parts.{has_name, part_of}
+use Rattle.router_lookups.specs.RouterRules.Asking.{Asker, Taking, book_refuses, has_entry, has_room, key_at, losses, lost, names_that_match, put_tested, put_unit, refusal, resv_state, table_with, take_unit, take_units, tell_lost, value_of}
+use Rattle.router_lookups.specs.RouterRules.Facts.{Facts, ResvState}
+use Rattle.router_lookups.specs.RouterRules.Inputs.{ErrSend}
+use Rattle.router_lookups.specs.RouterRules.NodeConfig.{NodeConfig}
 use Rattle.router_inputs.specs.AskLaws.{IsOfUnit, UnitsOneByOne}
 
 module _ (p : NodeConfig) (o : Asker) (f : Facts) (all : Names) where

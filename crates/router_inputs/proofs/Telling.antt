@@ -9,16 +9,16 @@ use Rattle.rsvp_base.specs.Table.{Table, get, put_in, with_rows}
 use Rattle.rsvp_base.specs.TokenBucket.{TokenBucket}
 use Rattle.rsvp_base.proofs.Members.{in_each}
 use Rattle.rsvp_base.proofs.Tables.{either, get-put_in_other, get-put_in_same, tied_same}
-use Rattle.rsvp_messages.specs.declared.message.ResvErrMsg.{ResvErrMsg}
-use Rattle.router_rules.specs.Lines.{NextHop}
-use Rattle.router_rules.specs.Errors.{blockade_of, error_to, is_admission, walled_by, walls_with}
-use Rattle.router_rules.specs.Facts.{Blockade, Walls}
-use Rattle.router_rules.specs.Targets.{WallKey, wall_keys}
-use Rattle.router_rules.specs.Inputs.{ErrSend}
-use Rattle.router_rules.specs.NodeConfig.{NodeConfig}
+use Rattle.router_lookups.specs.RsvpMessages.declared.message.ResvErrMsg.{ResvErrMsg}
+use Rattle.router_lookups.specs.RouterRules.Lines.{NextHop}
+use Rattle.router_lookups.specs.RouterRules.Errors.{blockade_of, error_to, is_admission, walled_by, walls_with}
+use Rattle.router_lookups.specs.RouterRules.Facts.{Blockade, Walls}
+use Rattle.router_lookups.specs.RouterRules.Targets.{WallKey, wall_keys}
+use Rattle.router_lookups.specs.RouterRules.Inputs.{ErrSend}
+use Rattle.router_lookups.specs.RouterRules.NodeConfig.{NodeConfig}
 use Rattle.router_lookups.proofs.Lists.{got_with_rows, some_same}
 use Rattle.router_inputs.specs.ErrorLaws.{ErrorsAndWalls}
-use Rattle.router_rules.specs.Asking.{Blamed, Nobody, Everyone, These, as_listed}
+use Rattle.router_lookups.specs.RouterRules.Asking.{Blamed, Nobody, Everyone, These, as_listed}
 
 -- ---- errors that go on
 pub same_hop : (p : NodeConfig) (m : ResvErrMsg) (hop : NextHop) (w : Blamed) (k : NextHop) (e : ErrSend) → error_to p m hop w ≡ Some (k, e)

@@ -11,16 +11,16 @@ use Rattle.rsvp_base.specs.Sets.{is_none}
 use Rattle.rsvp_base.specs.Table.{get}
 use Rattle.rsvp_base.proofs.Members.{in_append, in_left, in_right}
 use Rattle.rsvp_base.proofs.Tables.{got_put_in}
-use Rattle.rsvp_messages.specs.declared.message.ResvMsg.{ResvMsg}
-use Rattle.rsvp_messages.specs.Units.{AskedUnit, ask_style, asked_units}
-use Rattle.router_rules.specs.Parts.{part_of}
-use Rattle.router_rules.specs.declared.answers.Heard.TheVariants as heard
-use Rattle.router_rules.specs.declared.answers.Why.TheVariants as why
-use Rattle.router_rules.specs.Asking.{Asker, Taking, ask_of, asked_of, asker_of, book_refuses, end_taking, errors_in_order, has_room, heard_of, losses, lost, names_that_match, put_tested, put_unit, refusal, style_conflict, take_unit, take_units, taking, taking_of, Blamed, Nobody, Everyone, These}
-use Rattle.router_rules.specs.Facts.{Facts, Resvs, ResvTables, with_resvs}
-use Rattle.router_rules.specs.Inputs.{ErrSend}
-use Rattle.router_rules.specs.Known.{known}
-use Rattle.router_rules.specs.NodeConfig.{NodeConfig}
+use Rattle.router_lookups.specs.RsvpMessages.declared.message.ResvMsg.{ResvMsg}
+use Rattle.router_lookups.specs.RsvpMessages.Units.{AskedUnit, ask_style, asked_units}
+use Rattle.router_lookups.specs.RouterRules.Parts.{part_of}
+use Rattle.router_lookups.specs.RouterRules.declared.answers.Heard.TheVariants as heard
+use Rattle.router_lookups.specs.RouterRules.declared.answers.Why.TheVariants as why
+use Rattle.router_lookups.specs.RouterRules.Asking.{Asker, Taking, ask_of, asked_of, asker_of, book_refuses, end_taking, errors_in_order, has_room, heard_of, losses, lost, names_that_match, put_tested, put_unit, refusal, style_conflict, take_unit, take_units, taking, taking_of, Blamed, Nobody, Everyone, These}
+use Rattle.router_lookups.specs.RouterRules.Facts.{Facts, Resvs, ResvTables, with_resvs}
+use Rattle.router_lookups.specs.RouterRules.Inputs.{ErrSend}
+use Rattle.router_lookups.specs.RouterRules.Known.{known}
+use Rattle.router_lookups.specs.RouterRules.NodeConfig.{NodeConfig}
 use Rattle.router_lookups.proofs.Leaving.{as_it_was, table_other, table_put}
 use Rattle.router_inputs.specs.AskLaws.{IsBookRefusal, IsLeftOut, IsLoss, IsTaken, IsTried, IsUnitAt, ResvsInSteps, UnitsInFull, book_refusal, told_before}
 use Rattle.router_inputs.proofs.Taking.{unit_by, units_errors}

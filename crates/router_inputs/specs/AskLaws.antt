@@ -13,18 +13,18 @@ use Rattle.rsvp_base.specs.Members.{In}
 use Rattle.rsvp_base.specs.Orders.{Names, styles}
 use Rattle.rsvp_base.specs.Sets.{is_none}
 use Rattle.rsvp_base.specs.Table.{get, has, put_in}
-use Rattle.router_rules.specs.Lines.{NextHop, LineKey}
-use Rattle.router_rules.specs.Parts.{part_of, has_name}
+use Rattle.router_lookups.specs.RouterRules.Lines.{NextHop, LineKey}
+use Rattle.router_lookups.specs.RouterRules.Parts.{part_of, has_name}
 use Rattle.admission_book.specs.declared.refused.Refused.{Refused}
-use Rattle.rsvp_messages.specs.declared.message.ResvMsg.{ResvMsg}
-use Rattle.rsvp_messages.specs.Units.{AskedUnit, ask_style, asked_units}
-use Rattle.router_rules.specs.declared.answers.Heard.TheVariants as heard
-use Rattle.router_rules.specs.declared.answers.Why.TheVariants as why
-use Rattle.router_rules.specs.Asking.{Asker, Taking, act_resv, answered, ask_of, asker_of, book_refuses, errors_in_order, has_entry, has_room, has_style, lost, matched, names_that_match, nothing_taken, refusal, refuse_all, style_conflict, style_value, table_with, take_unit, take_units, taking, tell_lost, value_of, key_at, resv_state, as_listed, Nobody, These}
-use Rattle.router_rules.specs.Facts.{Facts, ResvState, Want, resvs_of, Resvs}
-use Rattle.router_rules.specs.Inputs.{ErrSend}
-use Rattle.router_rules.specs.Known.{known}
-use Rattle.router_rules.specs.NodeConfig.{NodeConfig, goes_out}
+use Rattle.router_lookups.specs.RsvpMessages.declared.message.ResvMsg.{ResvMsg}
+use Rattle.router_lookups.specs.RsvpMessages.Units.{AskedUnit, ask_style, asked_units}
+use Rattle.router_lookups.specs.RouterRules.declared.answers.Heard.TheVariants as heard
+use Rattle.router_lookups.specs.RouterRules.declared.answers.Why.TheVariants as why
+use Rattle.router_lookups.specs.RouterRules.Asking.{Asker, Taking, act_resv, answered, ask_of, asker_of, book_refuses, errors_in_order, has_entry, has_room, has_style, lost, matched, names_that_match, nothing_taken, refusal, refuse_all, style_conflict, style_value, table_with, take_unit, take_units, taking, tell_lost, value_of, key_at, resv_state, as_listed, Nobody, These}
+use Rattle.router_lookups.specs.RouterRules.Facts.{Facts, ResvState, Want, resvs_of, Resvs}
+use Rattle.router_lookups.specs.RouterRules.Inputs.{ErrSend}
+use Rattle.router_lookups.specs.RouterRules.Known.{known}
+use Rattle.router_lookups.specs.RouterRules.NodeConfig.{NodeConfig, goes_out}
 use Rattle.router_lookups.specs.FactLaws.{IsNamed}
 
 -- ---- styles

@@ -10,24 +10,24 @@ use Rattle.rsvp_base.specs.Orders.{Names, senders, units}
 use Rattle.rsvp_base.specs.SessionLimits.{has_room_at}
 use Rattle.rsvp_base.specs.Table.{changed, get, has, put_in, size, with_rows}
 use Rattle.rsvp_base.specs.TokenBucket.{TokenBucket}
-use Rattle.router_rules.specs.Lines.{LineKey}
-use Rattle.router_rules.specs.declared.answers.Heard.{Heard}
-use Rattle.router_rules.specs.declared.answers.Heard.TheVariants as heard
-use Rattle.router_rules.specs.declared.answers.LocalErr.{LocalErr}
-use Rattle.router_rules.specs.declared.answers.LocalErr.TheVariants as local
-use Rattle.router_rules.specs.declared.answers.StaleErr.{StaleErr}
-use Rattle.router_rules.specs.declared.answers.StaleErr.TheVariants as stale
-use Rattle.router_rules.specs.Act.{act}
-use Rattle.router_rules.specs.Books.{book, fits, refused as refused_entry}
-use Rattle.router_rules.specs.Bounds.{IsWithinBounds}
-use Rattle.router_rules.specs.Calls.{act_call, act_stale, call_refusal, entry_of, senders_with, stale_refusal, wanted, wants_with, with_left}
-use Rattle.router_rules.specs.Facts.{Blockade, Facts, PathState, ResvState, SenderKey, Want, WantKey, Wants, no_facts, resvs_of, with_resvs}
-use Rattle.router_rules.specs.Targets.{WallKey}
-use Rattle.router_rules.specs.Forgetting.{counted}
-use Rattle.router_rules.specs.Inputs.{Call, Clear, ConfSend, DropAs, ErrSend, Input, Local, QuitAll, SendAs, Stale, StalePath, StaleResv, StaleWall, WantAs, only_heard}
-use Rattle.router_rules.specs.NodeConfig.{NodeConfig, is_own, period}
-use Rattle.router_rules.specs.Rule.{is_silent, rule, settled}
-use Rattle.router_rules.specs.Sends.{conf_sends, error_sends}
+use Rattle.router_lookups.specs.RouterRules.Lines.{LineKey}
+use Rattle.router_lookups.specs.RouterRules.declared.answers.Heard.{Heard}
+use Rattle.router_lookups.specs.RouterRules.declared.answers.Heard.TheVariants as heard
+use Rattle.router_lookups.specs.RouterRules.declared.answers.LocalErr.{LocalErr}
+use Rattle.router_lookups.specs.RouterRules.declared.answers.LocalErr.TheVariants as local
+use Rattle.router_lookups.specs.RouterRules.declared.answers.StaleErr.{StaleErr}
+use Rattle.router_lookups.specs.RouterRules.declared.answers.StaleErr.TheVariants as stale
+use Rattle.router_lookups.specs.RouterRules.Act.{act}
+use Rattle.router_lookups.specs.RouterRules.Books.{book, fits, refused as refused_entry}
+use Rattle.router_lookups.specs.RouterRules.Bounds.{IsWithinBounds}
+use Rattle.router_lookups.specs.RouterRules.Calls.{act_call, act_stale, call_refusal, entry_of, senders_with, stale_refusal, wanted, wants_with, with_left}
+use Rattle.router_lookups.specs.RouterRules.Facts.{Blockade, Facts, PathState, ResvState, SenderKey, Want, WantKey, Wants, no_facts, resvs_of, with_resvs}
+use Rattle.router_lookups.specs.RouterRules.Targets.{WallKey}
+use Rattle.router_lookups.specs.RouterRules.Forgetting.{counted}
+use Rattle.router_lookups.specs.RouterRules.Inputs.{Call, Clear, ConfSend, DropAs, ErrSend, Input, Local, QuitAll, SendAs, Stale, StalePath, StaleResv, StaleWall, WantAs, only_heard}
+use Rattle.router_lookups.specs.RouterRules.NodeConfig.{NodeConfig, is_own, period}
+use Rattle.router_lookups.specs.RouterRules.Rule.{is_silent, rule, settled}
+use Rattle.router_lookups.specs.RouterRules.Sends.{conf_sends, error_sends}
 
 -- ---- an input that changes no fact of a node leaves the node as it was, and sends its errors and confirmations alone
 pub record StepsWithoutChange : Type 0 where

@@ -14,22 +14,22 @@ use Rattle.rsvp_base.specs.Orders.{Names, units}
 use Rattle.rsvp_base.specs.Sets.{listed}
 use Rattle.rsvp_base.specs.Table.{get, has, size}
 use Rattle.rsvp_base.specs.TokenBucket.{TokenBucket}
-use Rattle.router_rules.specs.Lines.{NextHop, next_hops}
-use Rattle.rsvp_messages.specs.declared.fault.MsgErr.{MsgErr}
-use Rattle.rsvp_messages.specs.declared.message.Kind.TheVariants as kind
-use Rattle.rsvp_messages.specs.declared.message.Message.{Message}
-use Rattle.rsvp_messages.specs.declared.message.PathErrMsg.{PathErrMsg}
-use Rattle.rsvp_messages.specs.declared.message.ResvErrMsg.{ResvErrMsg}
-use Rattle.router_rules.specs.declared.answers.Heard.TheVariants as heard
-use Rattle.router_rules.specs.declared.answers.Why.TheVariants as why
-use Rattle.router_rules.specs.Act.{act, act_message, is_mine}
-use Rattle.router_rules.specs.Asking.{answered, as_listed}
-use Rattle.router_rules.specs.Errors.{act_path_err, act_resv_err, act_unspelt, fault_code, blamed, error_to, errors_on, is_told, lane_of, reply_to, sets_walls, walled_by, walls_with, blockade_of, is_admission}
-use Rattle.router_rules.specs.Facts.{Facts, PathState, ResvState, Walls, resvs_of, Blockade}
-use Rattle.router_rules.specs.Targets.{WallKey}
-use Rattle.router_rules.specs.Inputs.{Came, Change, ErrSend, OfPath, OfResv, Spelt, Unspelt, only_heard}
-use Rattle.router_rules.specs.Known.{Lane}
-use Rattle.router_rules.specs.NodeConfig.{NodeConfig, goes_out, own}
+use Rattle.router_lookups.specs.RouterRules.Lines.{NextHop, next_hops}
+use Rattle.router_lookups.specs.RsvpMessages.declared.fault.MsgErr.{MsgErr}
+use Rattle.router_lookups.specs.RsvpMessages.declared.message.Kind.TheVariants as kind
+use Rattle.router_lookups.specs.RsvpMessages.declared.message.Message.{Message}
+use Rattle.router_lookups.specs.RsvpMessages.declared.message.PathErrMsg.{PathErrMsg}
+use Rattle.router_lookups.specs.RsvpMessages.declared.message.ResvErrMsg.{ResvErrMsg}
+use Rattle.router_lookups.specs.RouterRules.declared.answers.Heard.TheVariants as heard
+use Rattle.router_lookups.specs.RouterRules.declared.answers.Why.TheVariants as why
+use Rattle.router_lookups.specs.RouterRules.Act.{act, act_message, is_mine}
+use Rattle.router_lookups.specs.RouterRules.Asking.{answered, as_listed}
+use Rattle.router_lookups.specs.RouterRules.Errors.{act_path_err, act_resv_err, act_unspelt, fault_code, blamed, error_to, errors_on, is_told, lane_of, reply_to, sets_walls, walled_by, walls_with, blockade_of, is_admission}
+use Rattle.router_lookups.specs.RouterRules.Facts.{Facts, PathState, ResvState, Walls, resvs_of, Blockade}
+use Rattle.router_lookups.specs.RouterRules.Targets.{WallKey}
+use Rattle.router_lookups.specs.RouterRules.Inputs.{Came, Change, ErrSend, OfPath, OfResv, Spelt, Unspelt, only_heard}
+use Rattle.router_lookups.specs.RouterRules.Known.{Lane}
+use Rattle.router_lookups.specs.RouterRules.NodeConfig.{NodeConfig, goes_out, own}
 use Rattle.router_lookups.specs.FactLaws.{ComesBy}
 
 -- ---- a message for others changes nothing, and one for this node is handled by its kind

@@ -1,10 +1,10 @@
 -- For each table the inputs that may change it, and wants that stay but for marks that are used.
 use Rattle.std.specs.Prelude.{◌≡◌, Bool, true, false, Some}
 use Rattle.rsvp_base.specs.Table.{get, has}
-use Rattle.rsvp_messages.specs.declared.message.Message.{Message}
-use Rattle.rsvp_messages.specs.declared.message.Message.TheVariants as message
-use Rattle.router_rules.specs.Facts.{Want, WantKey, Wants}
-use Rattle.router_rules.specs.Inputs.{Local, SendAs, DropAs, WantAs, QuitAll, Input, Call, Wait, Clear, Came, Moved, Spelt, Unspelt}
+use Rattle.router_lookups.specs.RsvpMessages.declared.message.Message.{Message}
+use Rattle.router_lookups.specs.RsvpMessages.declared.message.Message.TheVariants as message
+use Rattle.router_lookups.specs.RouterRules.Facts.{Want, WantKey, Wants}
+use Rattle.router_lookups.specs.RouterRules.Inputs.{Local, SendAs, DropAs, WantAs, QuitAll, Input, Call, Wait, Clear, Came, Moved, Spelt, Unspelt}
 use Rattle.router_lookups.specs.RuleLaws.{IsWant}
 
 -- ---- which kinds of message may change a table

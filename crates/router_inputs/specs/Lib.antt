@@ -7,3 +7,4 @@ pub mod Sources
 pub use Rattle.router_lookups.specs.FactLaws
 pub use Rattle.router_lookups.specs.RuleLaws
 pub use Rattle.router_lookups.specs.SendLaws
+pub use Rattle.router_lookups.specs.RouterRules

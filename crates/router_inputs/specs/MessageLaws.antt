@@ -7,21 +7,21 @@ use Rattle.rsvp_base.specs.Orders.{senders}
 use Rattle.rsvp_base.specs.SessionLimits.{has_room_at}
 use Rattle.rsvp_base.specs.Table.{get, put_in, without}
 use Rattle.rsvp_base.specs.TokenBucket.{TokenBucket}
-use Rattle.rsvp_messages.specs.declared.message.PathMsg.{PathMsg}
-use Rattle.rsvp_messages.specs.declared.message.PathTearMsg.{PathTearMsg}
-use Rattle.rsvp_messages.specs.declared.message.ResvConfMsg.{ResvConfMsg}
-use Rattle.rsvp_messages.specs.declared.message.ResvTearMsg.{ResvTearMsg}
-use Rattle.rsvp_messages.specs.Units.{ask_style, tear_names, tear_style}
-use Rattle.router_rules.specs.Lines.{LineKey, NextHop, is_of_hop}
-use Rattle.router_rules.specs.declared.answers.Heard.TheVariants as heard
-use Rattle.router_rules.specs.declared.answers.Why.TheVariants as why
-use Rattle.router_rules.specs.Asking.{act_resv_tear, left_of, names_one, stays}
-use Rattle.router_rules.specs.Confirming.{act_resv_conf, confs_on, is_wish, speaks_of}
-use Rattle.router_rules.specs.Facts.{Facts, PathState, ResvState, resvs_of}
-use Rattle.router_rules.specs.Inputs.{ConfSend, only_heard}
-use Rattle.router_rules.specs.Known.{came_by}
-use Rattle.router_rules.specs.Paths.{act_path, act_path_tear, path_state}
-use Rattle.router_rules.specs.NodeConfig.{NodeConfig, comes_in, is_own}
+use Rattle.router_lookups.specs.RsvpMessages.declared.message.PathMsg.{PathMsg}
+use Rattle.router_lookups.specs.RsvpMessages.declared.message.PathTearMsg.{PathTearMsg}
+use Rattle.router_lookups.specs.RsvpMessages.declared.message.ResvConfMsg.{ResvConfMsg}
+use Rattle.router_lookups.specs.RsvpMessages.declared.message.ResvTearMsg.{ResvTearMsg}
+use Rattle.router_lookups.specs.RsvpMessages.Units.{ask_style, tear_names, tear_style}
+use Rattle.router_lookups.specs.RouterRules.Lines.{LineKey, NextHop, is_of_hop}
+use Rattle.router_lookups.specs.RouterRules.declared.answers.Heard.TheVariants as heard
+use Rattle.router_lookups.specs.RouterRules.declared.answers.Why.TheVariants as why
+use Rattle.router_lookups.specs.RouterRules.Asking.{act_resv_tear, left_of, names_one, stays}
+use Rattle.router_lookups.specs.RouterRules.Confirming.{act_resv_conf, confs_on, is_wish, speaks_of}
+use Rattle.router_lookups.specs.RouterRules.Facts.{Facts, PathState, ResvState, resvs_of}
+use Rattle.router_lookups.specs.RouterRules.Inputs.{ConfSend, only_heard}
+use Rattle.router_lookups.specs.RouterRules.Known.{came_by}
+use Rattle.router_lookups.specs.RouterRules.Paths.{act_path, act_path_tear, path_state}
+use Rattle.router_lookups.specs.RouterRules.NodeConfig.{NodeConfig, comes_in, is_own}
 use Rattle.router_lookups.specs.RuleLaws.{IsLeft}
 use Rattle.router_inputs.specs.ErrorLaws.{AreOnce}
 

@@ -3,13 +3,13 @@ use Rattle.std.specs.Prelude.{◌≡◌, ℕ, true, Some, None, false}
 use Rattle.rsvp_base.specs.Orders.{senders}
 use Rattle.rsvp_base.specs.Table.{get}
 use Rattle.rsvp_base.specs.TokenBucket.{TokenBucket}
-use Rattle.rsvp_messages.specs.declared.message.Message.TheVariants as message
-use Rattle.rsvp_messages.specs.declared.message.PathMsg.{PathMsg}
-use Rattle.router_rules.specs.Facts.{Facts, PathState, SenderKey}
-use Rattle.router_rules.specs.Inputs.{Input, Came, Spelt}
-use Rattle.router_rules.specs.Paths.{path_state}
-use Rattle.router_rules.specs.NodeConfig.{NodeConfig, comes_in}
-use Rattle.router_rules.specs.Offers.{Offer, OfferKey}
+use Rattle.router_lookups.specs.RsvpMessages.declared.message.Message.TheVariants as message
+use Rattle.router_lookups.specs.RsvpMessages.declared.message.PathMsg.{PathMsg}
+use Rattle.router_lookups.specs.RouterRules.Facts.{Facts, PathState, SenderKey}
+use Rattle.router_lookups.specs.RouterRules.Inputs.{Input, Came, Spelt}
+use Rattle.router_lookups.specs.RouterRules.Paths.{path_state}
+use Rattle.router_lookups.specs.RouterRules.NodeConfig.{NodeConfig, comes_in}
+use Rattle.router_lookups.specs.RouterRules.Offers.{Offer, OfferKey}
 
 -- ---- a Path that counts: it came to its group, with a sender, by the interface that leads to the sender
 pub record CameOnTree (p : NodeConfig) (i : Input) (k : SenderKey) : Type 0 where

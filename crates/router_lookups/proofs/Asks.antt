@@ -6,31 +6,31 @@ use Rattle.std.proofs.lemmas.List.{length-map}
 use Rattle.std.specs.List.{filter, flat_map, list_any}
 use Rattle.std.specs.Option.{option_map}
 use Rattle.std.specs.Ordering.{eq_by_cmp}
-use Rattle.rsvp_base.specs.declared.part.Part.{Part}
-use Rattle.rsvp_base.specs.declared.session.Sender.{Sender}
-use Rattle.rsvp_base.specs.declared.style.StyleKind.{StyleKind}
-use Rattle.rsvp_base.specs.declared.style.StyleKind.TheVariants.{Wild, Fixed, Shared}
-use Rattle.rsvp_base.specs.declared.style.Unit.{Unit as UnitOf}
-use Rattle.rsvp_base.specs.declared.style.Unit.TheVariants.{One, Of}
-use Rattle.rsvp_base.specs.Members.{In}
-use Rattle.rsvp_base.specs.Orders.{senders, units}
-use Rattle.rsvp_base.specs.Table.{empty, get, has, keys, size, values}
-use Rattle.rsvp_base.specs.TokenBucket.{TokenBucket}
-use Rattle.rsvp_base.proofs.Counts.{found_in, in_found, in_set_of, set_of_in}
-use Rattle.rsvp_base.proofs.Members.{in_each, in_filter, in_flat_map, tied_in, to_each, to_filter, to_flat_map}
-use Rattle.rsvp_base.proofs.SetLaws.{same_set}
-use Rattle.rsvp_base.proofs.Tables.{same_table}
-use Rattle.rsvp_messages.specs.declared.ask.Ask.{Ask}
-use Rattle.rsvp_messages.specs.declared.ask.Ask.TheVariants as ask
-use Rattle.rsvp_messages.specs.Units.{AskedUnit, ask_style, asked_units, fixed_unit, only}
+use Rattle.router_rules.specs.RsvpBase.declared.part.Part.{Part}
+use Rattle.router_rules.specs.RsvpBase.declared.session.Sender.{Sender}
+use Rattle.router_rules.specs.RsvpBase.declared.style.StyleKind.{StyleKind}
+use Rattle.router_rules.specs.RsvpBase.declared.style.StyleKind.TheVariants.{Wild, Fixed, Shared}
+use Rattle.router_rules.specs.RsvpBase.declared.style.Unit.{Unit as UnitOf}
+use Rattle.router_rules.specs.RsvpBase.declared.style.Unit.TheVariants.{One, Of}
+use Rattle.router_rules.specs.RsvpBase.Members.{In}
+use Rattle.router_rules.specs.RsvpBase.Orders.{senders, units}
+use Rattle.router_rules.specs.RsvpBase.Table.{empty, get, has, keys, size, values}
+use Rattle.router_rules.specs.RsvpBase.TokenBucket.{TokenBucket}
+use Rattle.router_rules.proofs.RsvpBase.Counts.{found_in, in_found, in_set_of, set_of_in}
+use Rattle.router_rules.proofs.RsvpBase.Members.{in_each, in_filter, in_flat_map, tied_in, to_each, to_filter, to_flat_map}
+use Rattle.router_rules.proofs.RsvpBase.SetLaws.{same_set}
+use Rattle.router_rules.proofs.RsvpBase.Tables.{same_table}
+use Rattle.router_rules.specs.RsvpMessages.declared.ask.Ask.{Ask}
+use Rattle.router_rules.specs.RsvpMessages.declared.ask.Ask.TheVariants as ask
+use Rattle.router_rules.specs.RsvpMessages.Units.{AskedUnit, ask_style, asked_units, fixed_unit, only}
 use Rattle.router_rules.specs.Merge.{PartTable}
 use Rattle.router_rules.specs.Parts.{IsOfStyle, has_name}
-use Rattle.rsvp_base.specs.Styles.{part_unit, unit_of_first}
+use Rattle.router_rules.specs.RsvpBase.Styles.{part_unit, unit_of_first}
 use Rattle.router_rules.proofs.Merges.{get-table_at_all}
 use Rattle.router_rules.specs.Asking.{ask_of, ask_of_part, flow_at, flows_by_sender}
 use Rattle.router_rules.specs.Sends.{gone_names}
 use Rattle.router_lookups.specs.SendLaws.{ArePartsOf, AsksOfParts, GoneByUnits, IsAskedOf, IsGone}
-use Rattle.rsvp_base.proofs.Fronts.{in_keys, to_keys}
+use Rattle.router_rules.proofs.RsvpBase.Fronts.{in_keys, to_keys}
 use Rattle.router_lookups.proofs.Lists.{to_values}
 use Rattle.router_lookups.proofs.Sending.{not_told}
 

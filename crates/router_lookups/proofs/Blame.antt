@@ -1,9 +1,9 @@
 -- Whom an error blames, and whom it lists.
 use Rattle.std.specs.Prelude.{◌≡◌, false, [], ◌∷◌, Option, Some, None, refl}
 use Rattle.std.proofs.Common.{sym, ap, ◌∙◌}
-use Rattle.rsvp_base.specs.Orders.{Names}
-use Rattle.rsvp_base.specs.TokenBucket.{TokenBucket}
-use Rattle.rsvp_messages.specs.declared.message.ResvErrMsg.{ResvErrMsg}
+use Rattle.router_rules.specs.RsvpBase.Orders.{Names}
+use Rattle.router_rules.specs.RsvpBase.TokenBucket.{TokenBucket}
+use Rattle.router_rules.specs.RsvpMessages.declared.message.ResvErrMsg.{ResvErrMsg}
 use Rattle.router_rules.specs.Lines.{NextHop}
 use Rattle.router_rules.specs.Asking.{Asker, Blamed, Nobody, Everyone, These, as_listed, losses, refusal}
 use Rattle.router_rules.specs.Errors.{error_listing, error_to}

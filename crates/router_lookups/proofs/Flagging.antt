@@ -4,24 +4,24 @@ use Rattle.std.proofs.Common.{T, arith, sym, ap, subst, ◌∙◌, inl, inr, ⊎
 use Rattle.std.proofs.lemmas.Bool.{eq-eqb, eqb-true, lt-ltb, ltb-true}
 use Rattle.std.specs.FinMap.Entries.{below_all, is_sorted}
 use Rattle.std.specs.Ordering.{eq_by_cmp, is_lt}
-use Rattle.rsvp_base.specs.declared.part.Part.{Part}
-use Rattle.rsvp_base.specs.declared.session.Sender.{Sender}
-use Rattle.rsvp_base.specs.declared.style.StyleKind.TheVariants.{Fixed}
-use Rattle.rsvp_base.specs.declared.style.Unit.{Unit as UnitOf}
-use Rattle.rsvp_base.specs.Keys.{Keys, pairs}
-use Rattle.rsvp_base.specs.Members.{In}
-use Rattle.rsvp_base.specs.Orders.{senders, sessions, styles, units, entry_keys}
-use Rattle.rsvp_base.specs.Sets.{Set, cut, is_none, with_key}
-use Rattle.rsvp_base.specs.Table.{Table, empty, first, get, has, kept, size}
-use Rattle.rsvp_base.proofs.Counts.{found_in, in_found, size_below}
-use Rattle.rsvp_base.proofs.Members.{any_in, in_any, in_each, in_filter, to_each, to_filter}
-use Rattle.rsvp_base.proofs.SetLaws.{and_both, and_made, has-cut, has-with_key, or_either, size-with_key}
-use Rattle.rsvp_base.proofs.Tables.{either, get-kept, got_kept, holds, tied_same}
-use Rattle.rsvp_base.proofs.UnderLaws.{get-under}
+use Rattle.router_rules.specs.RsvpBase.declared.part.Part.{Part}
+use Rattle.router_rules.specs.RsvpBase.declared.session.Sender.{Sender}
+use Rattle.router_rules.specs.RsvpBase.declared.style.StyleKind.TheVariants.{Fixed}
+use Rattle.router_rules.specs.RsvpBase.declared.style.Unit.{Unit as UnitOf}
+use Rattle.router_rules.specs.RsvpBase.Keys.{Keys, pairs}
+use Rattle.router_rules.specs.RsvpBase.Members.{In}
+use Rattle.router_rules.specs.RsvpBase.Orders.{senders, sessions, styles, units, entry_keys}
+use Rattle.router_rules.specs.RsvpBase.Sets.{Set, cut, is_none, with_key}
+use Rattle.router_rules.specs.RsvpBase.Table.{Table, empty, first, get, has, kept, size}
+use Rattle.router_rules.proofs.RsvpBase.Counts.{found_in, in_found, size_below}
+use Rattle.router_rules.proofs.RsvpBase.Members.{any_in, in_any, in_each, in_filter, to_each, to_filter}
+use Rattle.router_rules.proofs.RsvpBase.SetLaws.{and_both, and_made, has-cut, has-with_key, or_either, size-with_key}
+use Rattle.router_rules.proofs.RsvpBase.Tables.{either, get-kept, got_kept, holds, tied_same}
+use Rattle.router_rules.proofs.RsvpBase.UnderLaws.{get-under}
 use Rattle.router_rules.specs.FlowOrder.{flow_le}
 use Rattle.router_rules.specs.Lines.{NextHop, next_hops}
-use Rattle.rsvp_base.specs.declared.entry_key.EntryKey.{EntryKey}
-use Rattle.rsvp_base.specs.Styles.{name_of}
+use Rattle.router_rules.specs.RsvpBase.declared.entry_key.EntryKey.{EntryKey}
+use Rattle.router_rules.specs.RsvpBase.Styles.{name_of}
 use Rattle.router_rules.specs.declared.entry.Entry.{Entry}
 use Rattle.router_rules.specs.Books.{book}
 use Rattle.router_rules.specs.Facts.{Facts, PathState, ResvState, paths_in, resvs_in, resvs_of}

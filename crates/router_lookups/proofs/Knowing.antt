@@ -2,26 +2,26 @@
 use Rattle.std.specs.Prelude.{◌≡◌, ◌⊎◌, Bool, true, false, cond, ◌||◌, List, [], ◌∷◌, ◌++◌, map as each, is_some, Option, Some, None, refl}
 use Rattle.std.proofs.Common.{sym, ap, subst, ◌∙◌, inl, inr, ⊎_elim}
 use Rattle.std.specs.List.{flat_map}
-use Rattle.rsvp_base.specs.declared.session.Sender.{Sender}
-use Rattle.rsvp_base.specs.declared.session.Session.{Session}
-use Rattle.rsvp_base.specs.declared.style.StyleKind.{StyleKind}
-use Rattle.rsvp_base.specs.declared.style.StyleKind.TheVariants.{Wild, Fixed, Shared}
-use Rattle.rsvp_base.specs.Keys.{Keys, pairs}
-use Rattle.rsvp_base.specs.Members.{In}
-use Rattle.rsvp_base.specs.Orders.{sessions, senders, Names}
-use Rattle.rsvp_base.specs.Table.{Table, get, has, keys, kept}
-use Rattle.rsvp_base.proofs.Counts.{in_found, found_in, in_set_of, set_of_in}
-use Rattle.rsvp_base.proofs.Members.{in_each, to_each, in_flat_map, to_flat_map, in_append, in_left, in_right}
-use Rattle.rsvp_base.proofs.SetLaws.{and_both, and_made, has-union, has-kept}
-use Rattle.rsvp_base.proofs.Tables.{get-changed, got_changed, then_do}
-use Rattle.rsvp_base.proofs.UnderLaws.{get-under}
+use Rattle.router_rules.specs.RsvpBase.declared.session.Sender.{Sender}
+use Rattle.router_rules.specs.RsvpBase.declared.session.Session.{Session}
+use Rattle.router_rules.specs.RsvpBase.declared.style.StyleKind.{StyleKind}
+use Rattle.router_rules.specs.RsvpBase.declared.style.StyleKind.TheVariants.{Wild, Fixed, Shared}
+use Rattle.router_rules.specs.RsvpBase.Keys.{Keys, pairs}
+use Rattle.router_rules.specs.RsvpBase.Members.{In}
+use Rattle.router_rules.specs.RsvpBase.Orders.{sessions, senders, Names}
+use Rattle.router_rules.specs.RsvpBase.Table.{Table, get, has, keys, kept}
+use Rattle.router_rules.proofs.RsvpBase.Counts.{in_found, found_in, in_set_of, set_of_in}
+use Rattle.router_rules.proofs.RsvpBase.Members.{in_each, to_each, in_flat_map, to_flat_map, in_append, in_left, in_right}
+use Rattle.router_rules.proofs.RsvpBase.SetLaws.{and_both, and_made, has-union, has-kept}
+use Rattle.router_rules.proofs.RsvpBase.Tables.{get-changed, got_changed, then_do}
+use Rattle.router_rules.proofs.RsvpBase.UnderLaws.{get-under}
 use Rattle.router_rules.specs.Lines.{NextHop}
-use Rattle.rsvp_base.specs.Styles.{name_of}
+use Rattle.router_rules.specs.RsvpBase.Styles.{name_of}
 use Rattle.router_rules.specs.Facts.{Facts, PathState, SenderKey, paths_in, senders_in}
 use Rattle.router_rules.specs.Forgetting.{counted}
 use Rattle.router_rules.specs.Known.{Lane, came_by, keys_where, known, lane_keys, lanes, lanes_of, named_as, names_via, names_via_where, via}
 use Rattle.router_lookups.specs.FactLaws.{ComesBy, IsNamed, KnownAndVia}
-use Rattle.rsvp_base.proofs.Fronts.{in_keys, to_keys}
+use Rattle.router_rules.proofs.RsvpBase.Fronts.{in_keys, to_keys}
 use Rattle.router_lookups.proofs.Lists.{some_is, passed}
 use Rattle.router_lookups.proofs.Tests.{came_told, came_tested}
 

@@ -3,17 +3,17 @@ use Rattle.std.specs.Prelude.{◌≡◌, ℕ, ◌+◌, ◌<◌, ◌≤◌, nat_l
 use Rattle.std.proofs.Common.{sym, ap, subst, ◌∙◌}
 use Rattle.std.proofs.lemmas.Bool.{ltb-true, lt-ltb, leb-true, le-leb}
 use Rattle.std.specs.Option.{option_map, unwrap_or}
-use Rattle.rsvp_base.specs.declared.part.Part.{Part}
-use Rattle.rsvp_base.specs.declared.session.Sender.{Sender}
-use Rattle.rsvp_base.specs.declared.session.Session.{Session}
-use Rattle.rsvp_base.specs.declared.style.StyleKind.{StyleKind}
-use Rattle.rsvp_base.specs.declared.style.StyleKind.TheVariants.{Wild, Fixed, Shared}
-use Rattle.rsvp_base.specs.Keys.{Keys}
-use Rattle.rsvp_base.specs.Orders.{sessions, senders, Names}
-use Rattle.rsvp_base.specs.Sets.{is_none}
-use Rattle.rsvp_base.specs.Table.{Table, changed, get, has, kept}
-use Rattle.rsvp_base.proofs.SetLaws.{and_both, and_made, has-kept, same_set}
-use Rattle.rsvp_base.proofs.Tables.{get-changed, got_changed, then_do}
+use Rattle.router_rules.specs.RsvpBase.declared.part.Part.{Part}
+use Rattle.router_rules.specs.RsvpBase.declared.session.Sender.{Sender}
+use Rattle.router_rules.specs.RsvpBase.declared.session.Session.{Session}
+use Rattle.router_rules.specs.RsvpBase.declared.style.StyleKind.{StyleKind}
+use Rattle.router_rules.specs.RsvpBase.declared.style.StyleKind.TheVariants.{Wild, Fixed, Shared}
+use Rattle.router_rules.specs.RsvpBase.Keys.{Keys}
+use Rattle.router_rules.specs.RsvpBase.Orders.{sessions, senders, Names}
+use Rattle.router_rules.specs.RsvpBase.Sets.{is_none}
+use Rattle.router_rules.specs.RsvpBase.Table.{Table, changed, get, has, kept}
+use Rattle.router_rules.proofs.RsvpBase.SetLaws.{and_both, and_made, has-kept, same_set}
+use Rattle.router_rules.proofs.RsvpBase.Tables.{get-changed, got_changed, then_do}
 use Rattle.router_rules.specs.CutLaws.{made_of, part_of_none, part_of_some}
 use Rattle.router_rules.specs.Lines.{LineKey, line_keys}
 use Rattle.router_rules.specs.Parts.{has_name, part_of}

@@ -13,3 +13,4 @@ pub mod Flagging
 pub mod Asks
 pub mod Rooms
 pub mod Blame
+pub use Rattle.router_rules.proofs as RouterRules

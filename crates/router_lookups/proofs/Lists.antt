@@ -5,15 +5,15 @@ use Rattle.std.proofs.lemmas.Bool.{ne_eqb}
 use Rattle.std.proofs.lemmas.Bool.Decides.{eqb_tells}
 use Rattle.std.specs.List.{range_with_len}
 use Rattle.std.specs.Ordering.{is_lt}
-use Rattle.rsvp_base.specs.declared.session.Sender.{Sender}
-use Rattle.rsvp_base.specs.Keys.{Keys}
-use Rattle.rsvp_base.specs.Members.{In}
-use Rattle.rsvp_base.specs.Orders.{Names, senders}
-use Rattle.rsvp_base.specs.Sets.{is_none}
-use Rattle.rsvp_base.specs.Table.{Table, get, has, put_in, values, with_rows}
-use Rattle.rsvp_base.proofs.Counts.{found_in, in_found}
-use Rattle.rsvp_base.proofs.Members.{in_each, to_each}
-use Rattle.rsvp_base.proofs.Tables.{got_put_in}
+use Rattle.router_rules.specs.RsvpBase.declared.session.Sender.{Sender}
+use Rattle.router_rules.specs.RsvpBase.Keys.{Keys}
+use Rattle.router_rules.specs.RsvpBase.Members.{In}
+use Rattle.router_rules.specs.RsvpBase.Orders.{Names, senders}
+use Rattle.router_rules.specs.RsvpBase.Sets.{is_none}
+use Rattle.router_rules.specs.RsvpBase.Table.{Table, get, has, put_in, values, with_rows}
+use Rattle.router_rules.proofs.RsvpBase.Counts.{found_in, in_found}
+use Rattle.router_rules.proofs.RsvpBase.Members.{in_each, to_each}
+use Rattle.router_rules.proofs.RsvpBase.Tables.{got_put_in}
 use Rattle.router_rules.specs.Inputs.{put_in_order, in_order}
 
 -- ---- options

@@ -5,21 +5,21 @@ use Rattle.std.proofs.lemmas.Bool.{ltb-true, lt-ltb}
 use Rattle.std.specs.List.{flat_map, list_any, range_with_len}
 use Rattle.std.specs.Option.{option_map}
 use Rattle.std.specs.Ordering.{eq_by_cmp}
-use Rattle.rsvp_base.specs.Keys.{pairs}
-use Rattle.rsvp_base.specs.Members.{In}
-use Rattle.rsvp_base.specs.Orders.{sessions, senders}
-use Rattle.rsvp_base.specs.Table.{get, keys}
-use Rattle.rsvp_base.specs.TokenBucket.{TokenBucket}
-use Rattle.rsvp_base.proofs.Members.{in_each, to_each, in_flat_map, to_flat_map, in_left, in_right, in_filter, to_filter, in_tied, tied_in}
-use Rattle.rsvp_base.proofs.SetLaws.{and_both, and_made}
-use Rattle.rsvp_base.proofs.Tables.{either}
+use Rattle.router_rules.specs.RsvpBase.Keys.{pairs}
+use Rattle.router_rules.specs.RsvpBase.Members.{In}
+use Rattle.router_rules.specs.RsvpBase.Orders.{sessions, senders}
+use Rattle.router_rules.specs.RsvpBase.Table.{get, keys}
+use Rattle.router_rules.specs.RsvpBase.TokenBucket.{TokenBucket}
+use Rattle.router_rules.proofs.RsvpBase.Members.{in_each, to_each, in_flat_map, to_flat_map, in_left, in_right, in_filter, to_filter, in_tied, tied_in}
+use Rattle.router_rules.proofs.RsvpBase.SetLaws.{and_both, and_made}
+use Rattle.router_rules.proofs.RsvpBase.Tables.{either}
 use Rattle.router_rules.proofs.Merges.{get-table_at}
 use Rattle.router_rules.specs.Toward.{or_else}
 use Rattle.router_rules.specs.Facts.{Facts, PathState, SenderKey}
 use Rattle.router_rules.specs.Offers.{Offer, OfferKey, offer_at, offer_keys, ways_of}
 use Rattle.router_rules.specs.NodeConfig.{NodeConfig, goes_out, outward}
 use Rattle.router_lookups.specs.FactLaws.{OffersByWay, is_way}
-use Rattle.rsvp_base.proofs.Fronts.{to_keys}
+use Rattle.router_rules.proofs.RsvpBase.Fronts.{to_keys}
 use Rattle.router_lookups.proofs.Lists.{in_range, to_range}
 
 abbrev all_ways : NodeConfig → Facts → List OfferKey

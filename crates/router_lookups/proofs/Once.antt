@@ -6,13 +6,13 @@ use Rattle.std.specs.List.{cons_option, filter_map}
 use Rattle.std.proofs.Common.{Ordering}
 use Rattle.std.specs.Ordering.{eq_by_cmp, is_eq, is_lt, ordering_reverse}
 use Rattle.std.specs.declared.cmp.Ordering.TheVariants.{Less, Equal, Greater}
-use Rattle.rsvp_base.specs.Keys.{Keys}
-use Rattle.rsvp_base.specs.Members.{In}
-use Rattle.rsvp_base.specs.Sets.{Set, listed}
-use Rattle.rsvp_base.specs.Table.{Table, changed, changed_rows, empty, first, get, keys, put_in, second, values, with_rows}
-use Rattle.rsvp_base.proofs.Counts.{in_found}
-use Rattle.rsvp_base.proofs.Tables.{either, get-put_in_other, get-put_in_same, holds, tied_same, tied_self}
-use Rattle.rsvp_base.proofs.Fronts.{in_filter_map}
+use Rattle.router_rules.specs.RsvpBase.Keys.{Keys}
+use Rattle.router_rules.specs.RsvpBase.Members.{In}
+use Rattle.router_rules.specs.RsvpBase.Sets.{Set, listed}
+use Rattle.router_rules.specs.RsvpBase.Table.{Table, changed, changed_rows, empty, first, get, keys, put_in, second, values, with_rows}
+use Rattle.router_rules.proofs.RsvpBase.Counts.{in_found}
+use Rattle.router_rules.proofs.RsvpBase.Tables.{either, get-put_in_other, get-put_in_same, holds, tied_same, tied_self}
+use Rattle.router_rules.proofs.RsvpBase.Fronts.{in_filter_map}
 use Rattle.router_lookups.proofs.Lists.{got_with_rows}
 
 -- ---- rows in order

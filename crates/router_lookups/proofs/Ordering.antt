@@ -4,11 +4,11 @@ use Rattle.std.proofs.Common.{Ordering, sym, ap, ◌∙◌, ⊎_elim}
 use Rattle.std.specs.List.{cons_option, filter, filter_map, flat_map}
 use Rattle.std.specs.Ordering.{eq_by_cmp, is_lt, ordering_reverse}
 use Rattle.std.specs.declared.cmp.Ordering.TheVariants.{Less, Equal, Greater}
-use Rattle.rsvp_base.specs.Keys.{Keys}
-use Rattle.rsvp_base.specs.Members.{In}
-use Rattle.rsvp_base.specs.Sets.{is_none}
-use Rattle.rsvp_base.specs.Table.{changed_rows, has, kept_row, keys}
-use Rattle.rsvp_base.proofs.Tables.{either, tied_same}
+use Rattle.router_rules.specs.RsvpBase.Keys.{Keys}
+use Rattle.router_rules.specs.RsvpBase.Members.{In}
+use Rattle.router_rules.specs.RsvpBase.Sets.{is_none}
+use Rattle.router_rules.specs.RsvpBase.Table.{changed_rows, has, kept_row, keys}
+use Rattle.router_rules.proofs.RsvpBase.Tables.{either, tied_same}
 use Rattle.router_rules.specs.Lines.{next_hops}
 use Rattle.router_rules.specs.Asking.{err_place, err_places}
 use Rattle.router_rules.specs.Inputs.{in_order, put_in_order}

@@ -2,19 +2,19 @@
 use Rattle.std.specs.Prelude.{◌≡◌, ◌⊎◌, true, false, cond, List, [], ◌∷◌, ◌++◌, Option, Some, None, refl}
 use Rattle.std.proofs.Common.{sym, ap, subst, ◌∙◌, inl, inr, ⊎_elim}
 use Rattle.std.specs.List.{filter_map}
-use Rattle.rsvp_base.specs.declared.part.Part.{Part}
-use Rattle.rsvp_base.specs.declared.session.Sender.{Sender}
-use Rattle.rsvp_base.specs.declared.style.StyleKind.{StyleKind}
-use Rattle.rsvp_base.specs.declared.style.StyleKind.TheVariants.{Wild, Fixed, Shared}
-use Rattle.rsvp_base.specs.Keys.{pairs}
-use Rattle.rsvp_base.specs.Members.{In}
-use Rattle.rsvp_base.specs.Orders.{sessions, senders, styles, units, Names, entry_keys}
-use Rattle.rsvp_base.specs.Sets.{cut}
-use Rattle.rsvp_base.specs.Table.{empty, get, has}
-use Rattle.rsvp_base.proofs.Counts.{in_found, found_in}
-use Rattle.rsvp_base.proofs.Members.{in_append, in_left, in_right, in_each, to_each}
-use Rattle.rsvp_base.proofs.SetLaws.{and_both, has-cut}
-use Rattle.rsvp_base.proofs.UnderLaws.{get-under}
+use Rattle.router_rules.specs.RsvpBase.declared.part.Part.{Part}
+use Rattle.router_rules.specs.RsvpBase.declared.session.Sender.{Sender}
+use Rattle.router_rules.specs.RsvpBase.declared.style.StyleKind.{StyleKind}
+use Rattle.router_rules.specs.RsvpBase.declared.style.StyleKind.TheVariants.{Wild, Fixed, Shared}
+use Rattle.router_rules.specs.RsvpBase.Keys.{pairs}
+use Rattle.router_rules.specs.RsvpBase.Members.{In}
+use Rattle.router_rules.specs.RsvpBase.Orders.{sessions, senders, styles, units, Names, entry_keys}
+use Rattle.router_rules.specs.RsvpBase.Sets.{cut}
+use Rattle.router_rules.specs.RsvpBase.Table.{empty, get, has}
+use Rattle.router_rules.proofs.RsvpBase.Counts.{in_found, found_in}
+use Rattle.router_rules.proofs.RsvpBase.Members.{in_append, in_left, in_right, in_each, to_each}
+use Rattle.router_rules.proofs.RsvpBase.SetLaws.{and_both, has-cut}
+use Rattle.router_rules.proofs.RsvpBase.UnderLaws.{get-under}
 use Rattle.router_rules.specs.CutLaws.{cut_of, made_of}
 use Rattle.router_rules.specs.Lines.{Line, LineKey, next_hops, line_keys, entry_key, at_end}
 use Rattle.router_rules.specs.Parts.{part_cut}
@@ -29,7 +29,7 @@ use Rattle.router_rules.specs.NodeConfig.{NodeConfig, goes_out}
 use Rattle.router_rules.specs.Requests.{is_blockaded, is_style, request_of, requests, resv_part, resv_request, toward, want_part, want_request}
 use Rattle.router_lookups.specs.FactLaws.{IsResvRequest, IsWantRequest, IsLine, RequestsAndToward, BooksAndLines}
 use Rattle.router_lookups.proofs.Knowing.{names_told, named_told, via_told, lanes_made}
-use Rattle.rsvp_base.proofs.Fronts.{in_filter_map, to_filter_map}
+use Rattle.router_rules.proofs.RsvpBase.Fronts.{in_filter_map, to_filter_map}
 use Rattle.router_lookups.proofs.Lists.{one_name, passed}
 use Rattle.router_lookups.proofs.Tests.{style_told, ties}
 

@@ -1,18 +1,18 @@
 -- The limits by session, for senders, paths and wants.
 use Rattle.std.specs.Prelude.{◌≡◌, Bool}
 use Rattle.std.proofs.Common.{ap, ⊎_elim}
-use Rattle.rsvp_base.specs.declared.session.Sender.{Sender}
-use Rattle.rsvp_base.specs.declared.session.Session.{Session}
-use Rattle.rsvp_base.specs.declared.style.StyleKind.{StyleKind}
-use Rattle.rsvp_base.specs.declared.style.StyleKind.TheVariants.{Wild, Fixed, Shared}
-use Rattle.rsvp_base.specs.declared.style.Unit.TheVariants.{Of}
-use Rattle.rsvp_base.specs.Members.{In}
-use Rattle.rsvp_base.specs.Orders.{Names, senders, units}
-use Rattle.rsvp_base.specs.Table.{keys}
-use Rattle.rsvp_base.specs.TokenBucket.{TokenBucket}
-use Rattle.rsvp_base.proofs.Members.{in_each}
-use Rattle.rsvp_base.proofs.SessionRoom.{put_room, rows_room}
-use Rattle.rsvp_messages.specs.Units.{only}
+use Rattle.router_rules.specs.RsvpBase.declared.session.Sender.{Sender}
+use Rattle.router_rules.specs.RsvpBase.declared.session.Session.{Session}
+use Rattle.router_rules.specs.RsvpBase.declared.style.StyleKind.{StyleKind}
+use Rattle.router_rules.specs.RsvpBase.declared.style.StyleKind.TheVariants.{Wild, Fixed, Shared}
+use Rattle.router_rules.specs.RsvpBase.declared.style.Unit.TheVariants.{Of}
+use Rattle.router_rules.specs.RsvpBase.Members.{In}
+use Rattle.router_rules.specs.RsvpBase.Orders.{Names, senders, units}
+use Rattle.router_rules.specs.RsvpBase.Table.{keys}
+use Rattle.router_rules.specs.RsvpBase.TokenBucket.{TokenBucket}
+use Rattle.router_rules.proofs.RsvpBase.Members.{in_each}
+use Rattle.router_rules.proofs.RsvpBase.SessionRoom.{put_room, rows_room}
+use Rattle.router_rules.specs.RsvpMessages.Units.{only}
 use Rattle.router_rules.specs.Calls.{wanted}
 use Rattle.router_rules.specs.Facts.{Want, WantKey}
 use Rattle.router_lookups.specs.FactLaws.{RoomTells}

@@ -2,13 +2,13 @@
 use Rattle.std.specs.Prelude.{◌≡◌, Bool, true, false, not, ◌&&◌, List, [], ◌∷◌, ◌++◌, Option, Some, refl}
 use Rattle.std.proofs.Common.{sym, ap, ◌∙◌}
 use Rattle.std.specs.List.{cons_option, filter_map}
-use Rattle.rsvp_base.specs.declared.session.Session.{Session}
-use Rattle.rsvp_base.specs.declared.style.Unit.{Unit as UnitOf}
-use Rattle.rsvp_base.specs.Orders.{sessions, units}
-use Rattle.rsvp_base.specs.Sets.{Set}
-use Rattle.rsvp_base.specs.Table.{Table, changed, changed_rows, get, has}
-use Rattle.rsvp_base.proofs.Tables.{get-changed, got_changed, same_table, then_do}
-use Rattle.rsvp_base.proofs.UnderLaws.{get-under}
+use Rattle.router_rules.specs.RsvpBase.declared.session.Session.{Session}
+use Rattle.router_rules.specs.RsvpBase.declared.style.Unit.{Unit as UnitOf}
+use Rattle.router_rules.specs.RsvpBase.Orders.{sessions, units}
+use Rattle.router_rules.specs.RsvpBase.Sets.{Set}
+use Rattle.router_rules.specs.RsvpBase.Table.{Table, changed, changed_rows, get, has}
+use Rattle.router_rules.proofs.RsvpBase.Tables.{get-changed, got_changed, same_table, then_do}
+use Rattle.router_rules.proofs.RsvpBase.UnderLaws.{get-under}
 use Rattle.router_rules.specs.Toward.{Request}
 use Rattle.router_rules.specs.Toward.{toward as merged_toward}
 use Rattle.router_rules.specs.Act.{act}

@@ -2,12 +2,12 @@
 use Rattle.std.specs.Prelude.{[], ◌∷◌, ◌≡◌, ◌⊎◌, Bool, true, false, cond, not, ◌||◌, List, ◌++◌, Option, Some, None, refl}
 use Rattle.std.proofs.Common.{sym, ap, subst, ◌∙◌, inl, inr, ⊎_elim}
 use Rattle.std.specs.List.{filter}
-use Rattle.rsvp_base.specs.Members.{In}
-use Rattle.rsvp_base.specs.Sets.{is_none}
-use Rattle.rsvp_base.specs.Table.{get, has, keys}
-use Rattle.rsvp_base.proofs.Counts.{in_found, found_in}
-use Rattle.rsvp_base.proofs.Members.{in_append, in_each, in_filter, in_flat_map, in_left, in_right, to_each, to_filter, to_flat_map}
-use Rattle.rsvp_messages.specs.declared.ask.Ask.{Ask}
+use Rattle.router_rules.specs.RsvpBase.Members.{In}
+use Rattle.router_rules.specs.RsvpBase.Sets.{is_none}
+use Rattle.router_rules.specs.RsvpBase.Table.{get, has, keys}
+use Rattle.router_rules.proofs.RsvpBase.Counts.{in_found, found_in}
+use Rattle.router_rules.proofs.RsvpBase.Members.{in_append, in_each, in_filter, in_flat_map, in_left, in_right, to_each, to_filter, to_flat_map}
+use Rattle.router_rules.specs.RsvpMessages.declared.ask.Ask.{Ask}
 use Rattle.router_rules.specs.Lines.{NextHop, next_hops}
 use Rattle.router_rules.specs.Asking.{ask_of, err_place, err_places}
 use Rattle.router_rules.specs.Facts.{Facts}
@@ -18,7 +18,7 @@ use Rattle.router_rules.specs.NodeConfig.{NodeConfig}
 use Rattle.router_rules.specs.Requests.{toward}
 use Rattle.router_rules.specs.Sends.{conf_send, conf_sends, confirm_for, confirmed, error_send, error_sends, is_changed, is_new_offer, path_send, path_send_of, path_sends, path_tear, path_tears, resv_send, resv_send_of, resv_send_to, resv_sends, resv_tear, resv_tear_send, resv_tears, sends, torn_names}
 use Rattle.router_lookups.specs.SendLaws.{IsConf, IsError, IsPath, IsPathTear, IsResv, IsResvTear, IsSend, SendsAreOfSixKinds}
-use Rattle.rsvp_base.proofs.Fronts.{in_filter_map, in_keys, to_filter_map, to_keys}
+use Rattle.router_rules.proofs.RsvpBase.Fronts.{in_filter_map, in_keys, to_filter_map, to_keys}
 use Rattle.router_lookups.proofs.Lists.{in_ordered, passed, to_ordered}
 
 pub not_told : (b : Bool) → not b ≡ true → b ≡ false

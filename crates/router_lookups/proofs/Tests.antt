@@ -3,19 +3,19 @@ use Rattle.std.specs.Prelude.{◌≡◌, true, Option, Some, None, refl}
 use Rattle.std.proofs.Common.{sym, ap, subst, ◌∙◌}
 use Rattle.std.proofs.lemmas.Bool.{eqb-true, eq-eqb}
 use Rattle.std.specs.Ordering.{eq_by_cmp}
-use Rattle.rsvp_base.specs.declared.addr.Addr.{Addr}
-use Rattle.rsvp_base.specs.declared.part.Part.{Part}
-use Rattle.rsvp_base.specs.declared.session.Session.{Session}
-use Rattle.rsvp_base.specs.declared.style.StyleKind.{StyleKind}
-use Rattle.rsvp_base.specs.declared.style.Unit.{Unit as UnitOf}
-use Rattle.rsvp_base.specs.Keys.{Keys}
-use Rattle.rsvp_base.specs.Orders.{addr_apart, sessions, styles, units}
-use Rattle.rsvp_base.specs.Table.{get}
-use Rattle.rsvp_base.specs.TokenBucket.{TokenBucket}
-use Rattle.rsvp_base.proofs.Counts.{in_found, found_in}
-use Rattle.rsvp_base.proofs.Members.{all_in, in_all}
-use Rattle.rsvp_base.proofs.SetLaws.{and_both, and_made}
-use Rattle.rsvp_base.proofs.Tables.{same_table, tied_same, tied_self}
+use Rattle.router_rules.specs.RsvpBase.declared.addr.Addr.{Addr}
+use Rattle.router_rules.specs.RsvpBase.declared.part.Part.{Part}
+use Rattle.router_rules.specs.RsvpBase.declared.session.Session.{Session}
+use Rattle.router_rules.specs.RsvpBase.declared.style.StyleKind.{StyleKind}
+use Rattle.router_rules.specs.RsvpBase.declared.style.Unit.{Unit as UnitOf}
+use Rattle.router_rules.specs.RsvpBase.Keys.{Keys}
+use Rattle.router_rules.specs.RsvpBase.Orders.{addr_apart, sessions, styles, units}
+use Rattle.router_rules.specs.RsvpBase.Table.{get}
+use Rattle.router_rules.specs.RsvpBase.TokenBucket.{TokenBucket}
+use Rattle.router_rules.proofs.RsvpBase.Counts.{in_found, found_in}
+use Rattle.router_rules.proofs.RsvpBase.Members.{all_in, in_all}
+use Rattle.router_rules.proofs.RsvpBase.SetLaws.{and_both, and_made}
+use Rattle.router_rules.proofs.RsvpBase.Tables.{same_table, tied_same, tied_self}
 use Rattle.router_rules.proofs.Lattice.{at_most_itself, same_flow as flows_same}
 use Rattle.router_rules.proofs.Told.{at_most_told, at_most_tested}
 use Rattle.router_rules.specs.Lines.{NextHop}

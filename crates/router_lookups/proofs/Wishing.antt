@@ -3,19 +3,19 @@ use Rattle.std.specs.Prelude.{◌≡◌, ◌↔◌, nat_lt, Bool, true, false, c
 use Rattle.std.proofs.Common.{arith, sym, ap, subst, ◌∙◌, inl, inr, ⊎_elim}
 use Rattle.std.proofs.lemmas.Bool.{lt-ltb}
 use Rattle.std.specs.List.{filter, flat_map}
-use Rattle.rsvp_base.specs.declared.addr.Addr.{Addr}
-use Rattle.rsvp_base.specs.declared.part.Part.{Part}
-use Rattle.rsvp_base.specs.declared.style.StyleKind.{StyleKind}
-use Rattle.rsvp_base.specs.declared.style.Unit.{Unit as UnitOf}
-use Rattle.rsvp_base.specs.Members.{In}
-use Rattle.rsvp_base.specs.Orders.{sessions, units}
-use Rattle.rsvp_base.specs.Table.{empty, has, keys, size, same_rows}
-use Rattle.rsvp_base.proofs.Counts.{found_in, in_found, in_set_of, set_of_in}
-use Rattle.rsvp_base.proofs.Members.{any_in, in_any, in_each, in_filter, in_flat_map, to_each, to_filter, to_flat_map}
-use Rattle.rsvp_base.proofs.SetLaws.{and_both, and_made, or_either, or_left, or_right}
-use Rattle.rsvp_base.proofs.Tables.{either, get-changed, then_do}
-use Rattle.rsvp_base.proofs.UnderLaws.{get-under}
-use Rattle.rsvp_messages.specs.declared.ask.Ask.{Ask}
+use Rattle.router_rules.specs.RsvpBase.declared.addr.Addr.{Addr}
+use Rattle.router_rules.specs.RsvpBase.declared.part.Part.{Part}
+use Rattle.router_rules.specs.RsvpBase.declared.style.StyleKind.{StyleKind}
+use Rattle.router_rules.specs.RsvpBase.declared.style.Unit.{Unit as UnitOf}
+use Rattle.router_rules.specs.RsvpBase.Members.{In}
+use Rattle.router_rules.specs.RsvpBase.Orders.{sessions, units}
+use Rattle.router_rules.specs.RsvpBase.Table.{empty, has, keys, size, same_rows}
+use Rattle.router_rules.proofs.RsvpBase.Counts.{found_in, in_found, in_set_of, set_of_in}
+use Rattle.router_rules.proofs.RsvpBase.Members.{any_in, in_any, in_each, in_filter, in_flat_map, to_each, to_filter, to_flat_map}
+use Rattle.router_rules.proofs.RsvpBase.SetLaws.{and_both, and_made, or_either, or_left, or_right}
+use Rattle.router_rules.proofs.RsvpBase.Tables.{either, get-changed, then_do}
+use Rattle.router_rules.proofs.RsvpBase.UnderLaws.{get-under}
+use Rattle.router_rules.specs.RsvpMessages.declared.ask.Ask.{Ask}
 use Rattle.router_rules.specs.Merge.{PartTable}
 use Rattle.router_rules.specs.Toward.{IsRequestOf, Request, open_of, request_unit, requests_at}
 use Rattle.router_rules.proofs.Merges.{in_those, to_those}
@@ -26,7 +26,7 @@ use Rattle.router_rules.specs.NodeConfig.{NodeConfig, is_session, own}
 use Rattle.router_rules.specs.Requests.{requests, toward, want_request}
 use Rattle.router_rules.specs.Sends.{conf_for, confirmed, goes_on, is_changed, is_empty, is_marked, is_sent_new, marked_units, own_wish, same_parts, takes_part, unmarked, used_marks}
 use Rattle.router_lookups.specs.WishLaws.{GoesOn, IsGranted, IsMarked, IsNewThere, IsUsed, MarksAreUsed, TakesPart, WishesAreGranted}
-use Rattle.rsvp_base.proofs.Fronts.{in_keys, to_keys}
+use Rattle.router_rules.proofs.RsvpBase.Fronts.{in_keys, to_keys}
 use Rattle.router_lookups.proofs.Lists.{none_in, some_same}
 use Rattle.router_lookups.proofs.Sending.{not_told}
 use Rattle.router_lookups.proofs.Tests.{parts_told, parts_tested, session_told, ties}

@@ -1,20 +1,20 @@
 -- What the tests tell, and what is found where: the claims of the public laws on facts.
 use Rattle.std.specs.Prelude.{◌≡◌, ℕ, ◌⊎◌, ◌↔◌, nat_lt, Bool, true, false, cond, ◌&&◌, ◌||◌, length, Some, None, IsTrue}
-use Rattle.rsvp_base.specs.declared.addr.Addr.{Addr}
-use Rattle.rsvp_base.specs.declared.session.Sender.{Sender}
-use Rattle.rsvp_base.specs.declared.session.Session.{Session}
-use Rattle.rsvp_base.specs.declared.style.StyleKind.{StyleKind}
-use Rattle.rsvp_base.specs.declared.style.Unit.{Unit as UnitOf}
-use Rattle.rsvp_base.specs.Members.{In}
-use Rattle.rsvp_base.specs.Orders.{Names, senders, units, entry_keys}
-use Rattle.rsvp_base.specs.SessionLimits.{IsWithinSessionLimits, has_room_at}
-use Rattle.rsvp_base.specs.Table.{empty, get, has, put_in, with_rows}
-use Rattle.rsvp_base.specs.TokenBucket.{TokenBucket}
+use Rattle.router_rules.specs.RsvpBase.declared.addr.Addr.{Addr}
+use Rattle.router_rules.specs.RsvpBase.declared.session.Sender.{Sender}
+use Rattle.router_rules.specs.RsvpBase.declared.session.Session.{Session}
+use Rattle.router_rules.specs.RsvpBase.declared.style.StyleKind.{StyleKind}
+use Rattle.router_rules.specs.RsvpBase.declared.style.Unit.{Unit as UnitOf}
+use Rattle.router_rules.specs.RsvpBase.Members.{In}
+use Rattle.router_rules.specs.RsvpBase.Orders.{Names, senders, units, entry_keys}
+use Rattle.router_rules.specs.RsvpBase.SessionLimits.{IsWithinSessionLimits, has_room_at}
+use Rattle.router_rules.specs.RsvpBase.Table.{empty, get, has, put_in, with_rows}
+use Rattle.router_rules.specs.RsvpBase.TokenBucket.{TokenBucket}
 use Rattle.router_rules.specs.Limits.{IsWithinLimits}
 use Rattle.router_rules.specs.Lines.{Line, LineKey, NextHop, entry_key, at_end}
-use Rattle.rsvp_base.specs.declared.entry_key.EntryKey.{EntryKey}
+use Rattle.router_rules.specs.RsvpBase.declared.entry_key.EntryKey.{EntryKey}
 use Rattle.router_rules.specs.Merge.{merge_at, PartTable}
-use Rattle.rsvp_base.specs.Styles.{name_of}
+use Rattle.router_rules.specs.RsvpBase.Styles.{name_of}
 use Rattle.router_rules.specs.Toward.{Request, toward_at}
 use Rattle.router_rules.specs.Books.{book, fits, line_of, lines, lines_of}
 use Rattle.router_rules.specs.Facts.{Facts, SenderKey, PathState, Resvs, ResvState, Want, resvs_of}

@@ -1,15 +1,15 @@
 -- What the policing flags of an entry tell: the claim of the public law.
 use Rattle.std.specs.Prelude.{◌≡◌, ℕ, ◌↔◌, true, false, Some}
-use Rattle.rsvp_base.specs.declared.part.Part.{Part}
-use Rattle.rsvp_base.specs.declared.session.Sender.{Sender}
-use Rattle.rsvp_base.specs.declared.style.StyleKind.TheVariants.{Fixed}
-use Rattle.rsvp_base.specs.declared.style.Unit.{Unit as UnitOf}
-use Rattle.rsvp_base.specs.Members.{In}
-use Rattle.rsvp_base.specs.Table.{get, has}
+use Rattle.router_rules.specs.RsvpBase.declared.part.Part.{Part}
+use Rattle.router_rules.specs.RsvpBase.declared.session.Sender.{Sender}
+use Rattle.router_rules.specs.RsvpBase.declared.style.StyleKind.TheVariants.{Fixed}
+use Rattle.router_rules.specs.RsvpBase.declared.style.Unit.{Unit as UnitOf}
+use Rattle.router_rules.specs.RsvpBase.Members.{In}
+use Rattle.router_rules.specs.RsvpBase.Table.{get, has}
 use Rattle.router_rules.specs.FlowOrder.{flow_le}
 use Rattle.router_rules.specs.Lines.{NextHop}
-use Rattle.rsvp_base.specs.declared.entry_key.EntryKey.{EntryKey}
-use Rattle.rsvp_base.specs.Styles.{name_of}
+use Rattle.router_rules.specs.RsvpBase.declared.entry_key.EntryKey.{EntryKey}
+use Rattle.router_rules.specs.RsvpBase.Styles.{name_of}
 use Rattle.router_rules.specs.declared.entry.Entry.{Entry}
 use Rattle.router_rules.specs.Books.{book}
 use Rattle.router_rules.specs.Facts.{Facts, PathState, ResvState, resvs_of}

@@ -2,11 +2,11 @@
 use Rattle.std.specs.Prelude.{◌≡◌, false, cond, not, List, [], ◌∷◌, ◌++◌, map as each, Some, None}
 use Rattle.std.specs.List.{filter}
 use Rattle.std.specs.Ordering.{eq_by_cmp, is_lt}
-use Rattle.rsvp_base.specs.Keys.{Keys}
-use Rattle.rsvp_base.specs.Members.{In}
-use Rattle.rsvp_base.specs.Orders.{sessions}
-use Rattle.rsvp_base.specs.Sets.{Set, is_none}
-use Rattle.rsvp_base.specs.Table.{Table, changed, has, values}
+use Rattle.router_rules.specs.RsvpBase.Keys.{Keys}
+use Rattle.router_rules.specs.RsvpBase.Members.{In}
+use Rattle.router_rules.specs.RsvpBase.Orders.{sessions}
+use Rattle.router_rules.specs.RsvpBase.Sets.{Set, is_none}
+use Rattle.router_rules.specs.RsvpBase.Table.{Table, changed, has, values}
 use Rattle.router_rules.specs.Lines.{NextHop, next_hops}
 use Rattle.router_rules.specs.Asking.{err_place, err_places, errors_in_order}
 use Rattle.router_rules.specs.Facts.{Facts}

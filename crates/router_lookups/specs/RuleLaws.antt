@@ -1,10 +1,10 @@
 -- What the rule leaves, table by table: the claims of the public laws on waiting, forgetting and countdowns.
 use Rattle.std.specs.Prelude.{◌≡◌, not, ℕ, ◌+◌, ◌<◌, ◌≤◌, ◌↔◌, Bool, true, false, cond, [], Some, None}
 use Rattle.std.specs.Option.{unwrap_or}
-use Rattle.rsvp_base.specs.declared.session.Sender.{Sender}
-use Rattle.rsvp_base.specs.declared.session.Session.{Session}
-use Rattle.rsvp_base.specs.declared.style.StyleKind.{StyleKind}
-use Rattle.rsvp_base.specs.Table.{get, has, kept, changed}
+use Rattle.router_rules.specs.RsvpBase.declared.session.Sender.{Sender}
+use Rattle.router_rules.specs.RsvpBase.declared.session.Session.{Session}
+use Rattle.router_rules.specs.RsvpBase.declared.style.StyleKind.{StyleKind}
+use Rattle.router_rules.specs.RsvpBase.Table.{get, has, kept, changed}
 use Rattle.router_rules.specs.Lines.{LineKey}
 use Rattle.router_rules.specs.Parts.{has_name}
 use Rattle.router_rules.specs.Act.{act}

@@ -1,17 +1,17 @@
 -- What a list of sends contains, what it asks for, and which units are gone: the claims of the public laws.
 use Rattle.std.specs.Prelude.{◌≡◌, ◌⊎◌, ◌↔◌, true, false, cond, ◌||◌, ◌++◌, Some, None}
-use Rattle.rsvp_base.specs.declared.part.Part.{Part}
-use Rattle.rsvp_base.specs.declared.session.Sender.{Sender}
-use Rattle.rsvp_base.specs.declared.style.StyleKind.{StyleKind}
-use Rattle.rsvp_base.specs.declared.style.Unit.{Unit as UnitOf}
-use Rattle.rsvp_base.specs.Members.{In}
-use Rattle.rsvp_base.specs.Sets.{is_none}
-use Rattle.rsvp_base.specs.Table.{empty, get, has}
+use Rattle.router_rules.specs.RsvpBase.declared.part.Part.{Part}
+use Rattle.router_rules.specs.RsvpBase.declared.session.Sender.{Sender}
+use Rattle.router_rules.specs.RsvpBase.declared.style.StyleKind.{StyleKind}
+use Rattle.router_rules.specs.RsvpBase.declared.style.Unit.{Unit as UnitOf}
+use Rattle.router_rules.specs.RsvpBase.Members.{In}
+use Rattle.router_rules.specs.RsvpBase.Sets.{is_none}
+use Rattle.router_rules.specs.RsvpBase.Table.{empty, get, has}
 use Rattle.router_rules.specs.Merge.{PartTable}
 use Rattle.router_rules.specs.Parts.{IsOfStyle}
-use Rattle.rsvp_base.specs.Styles.{part_unit}
-use Rattle.rsvp_messages.specs.declared.ask.Ask.{Ask}
-use Rattle.rsvp_messages.specs.Units.{AskedUnit, ask_style, asked_units}
+use Rattle.router_rules.specs.RsvpBase.Styles.{part_unit}
+use Rattle.router_rules.specs.RsvpMessages.declared.ask.Ask.{Ask}
+use Rattle.router_rules.specs.RsvpMessages.Units.{AskedUnit, ask_style, asked_units}
 use Rattle.router_rules.specs.Asking.{ask_of}
 use Rattle.router_rules.specs.Facts.{Facts}
 use Rattle.router_rules.specs.Inputs.{Change, ConfSend, ErrSend, Send}

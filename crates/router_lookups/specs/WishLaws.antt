@@ -1,12 +1,12 @@
 -- Who is told that a reservation stands, which wishes go on, and when a mark is used: the claims of the public laws.
 use Rattle.std.specs.Prelude.{◌≡◌, ◌⊎◌, ◌↔◌, true, false, not, ◌&&◌, List, Option, Some, None}
-use Rattle.rsvp_base.specs.declared.addr.Addr.{Addr}
-use Rattle.rsvp_base.specs.declared.style.StyleKind.{StyleKind}
-use Rattle.rsvp_base.specs.declared.style.Unit.{Unit as UnitOf}
-use Rattle.rsvp_base.specs.Members.{In}
-use Rattle.rsvp_base.specs.Table.{changed, empty, get, has}
-use Rattle.rsvp_base.specs.Sets.{Set}
-use Rattle.rsvp_messages.specs.declared.ask.Ask.{Ask}
+use Rattle.router_rules.specs.RsvpBase.declared.addr.Addr.{Addr}
+use Rattle.router_rules.specs.RsvpBase.declared.style.StyleKind.{StyleKind}
+use Rattle.router_rules.specs.RsvpBase.declared.style.Unit.{Unit as UnitOf}
+use Rattle.router_rules.specs.RsvpBase.Members.{In}
+use Rattle.router_rules.specs.RsvpBase.Table.{changed, empty, get, has}
+use Rattle.router_rules.specs.RsvpBase.Sets.{Set}
+use Rattle.router_rules.specs.RsvpMessages.declared.ask.Ask.{Ask}
 use Rattle.router_rules.specs.Toward.{IsRequestOf, Request, request_unit}
 use Rattle.router_rules.specs.Facts.{Facts, Want, WantKey, Wants, want_keys}
 use Rattle.router_rules.specs.Inputs.{Asked, ConfSend}

@@ -16,18 +16,18 @@ use Rattle.rsvp_base.specs.Table.{Table, get, has, empty}
 use Rattle.rsvp_base.specs.TokenBucket.{IsSound}
 use Rattle.rsvp_base.proofs.Counts.{found_in, set_of_in}
 use Rattle.rsvp_base.proofs.SessionRoom.{put_room}
-use Rattle.style_rules.specs.Limits.{IsWithinLimits}
-use Rattle.style_rules.specs.Lines.{LineKey, held, line_keys}
+use Rattle.router_rules.specs.StyleRules.Limits.{IsWithinLimits}
+use Rattle.router_rules.specs.StyleRules.Lines.{LineKey, held, line_keys}
 use Rattle.rsvp_base.specs.declared.entry_key.EntryKey.{EntryKey}
-use Rattle.style_rules.specs.Parts.{IsOfStyle}
+use Rattle.router_rules.specs.StyleRules.Parts.{IsOfStyle}
 use Rattle.rsvp_base.specs.Styles.{name_of}
-use Rattle.style_rules.proofs.Room.{within_told}
-use Rattle.style_rules.specs.declared.target.Target.TheVariants as target
+use Rattle.router_rules.proofs.StyleRules.Room.{within_told}
+use Rattle.router_rules.specs.StyleRules.declared.target.Target.TheVariants as target
 use Rattle.router_rows.specs.BoundRows.{LivedIsWithinBounds, lived, own_sender}
 use Rattle.router_rules.specs.Books.{book, lines_of}
 use Rattle.router_rules.specs.Bounds.{IsPathShaped, IsShaped, IsWallShaped, IsWantShaped, LivesUpTo}
 use Rattle.router_rules.specs.Facts.{Blockade, PathState, ResvState, Want, WantKey, resvs_of, sender_keys, want_keys}
-use Rattle.style_rules.specs.Targets.{WallKey, wall_keys}
+use Rattle.router_rules.specs.StyleRules.Targets.{WallKey, wall_keys}
 use Rattle.router_rules.specs.Forgetting.{counted}
 use Rattle.router_rows.specs.ThreeRouters.{flow, iface, first, node_r, r2, s1, scope, session, t1, usual}
 

@@ -7,12 +7,12 @@ use Rattle.rsvp_base.specs.declared.style.StyleKind.TheVariants.{Wild, Fixed, Sh
 use Rattle.rsvp_base.specs.Orders.{Names}
 use Rattle.rsvp_base.specs.Sets.{set_of}
 use Rattle.rsvp_base.specs.Table.{empty, keys, put_in, size, values, with_rows}
-use Rattle.rsvp_messages.specs.declared.ask.Ask.TheVariants as ask
-use Rattle.rsvp_messages.specs.declared.ask.Tear.TheVariants as tear
-use Rattle.rsvp_messages.specs.declared.message.Message.TheVariants as message
+use Rattle.router_rules.specs.RsvpMessages.declared.ask.Ask.TheVariants as ask
+use Rattle.router_rules.specs.RsvpMessages.declared.ask.Tear.TheVariants as tear
+use Rattle.router_rules.specs.RsvpMessages.declared.message.Message.TheVariants as message
 use Rattle.router_rules.specs.declared.answers.Heard.TheVariants as heard
 use Rattle.router_rules.specs.declared.answers.Why.TheVariants as why
-use Rattle.style_rules.specs.declared.target.Target.TheVariants as target
+use Rattle.router_rules.specs.StyleRules.declared.target.Target.TheVariants as target
 use Rattle.router_rules.specs.Facts.{Facts, no_facts}
 use Rattle.router_rules.specs.Inputs.{WantAs}
 use Rattle.router_rules.specs.Known.{Lane}

@@ -3,13 +3,13 @@ use Rattle.std.specs.Prelude.{◌≡◌, true, false, [], ◌∷◌, map as each
 use Rattle.std.specs.List.{range_with_len}
 use Rattle.rsvp_base.specs.declared.style.StyleKind.TheVariants.{Wild}
 use Rattle.rsvp_base.specs.Table.{size, with_rows}
-use Rattle.rsvp_messages.specs.declared.message.Message.{Message}
-use Rattle.rsvp_messages.specs.declared.message.Message.TheVariants as message
-use Rattle.rsvp_messages.specs.declared.message.Kind.TheVariants as kind
-use Rattle.rsvp_messages.specs.declared.fault.Fault.{Fault}
-use Rattle.rsvp_messages.specs.declared.fault.Fault.TheVariants as fault
-use Rattle.rsvp_messages.specs.declared.fault.MsgErr.{MsgErr}
-use Rattle.rsvp_objects.specs.declared.obj_err.ObjErr.TheVariants as obj
+use Rattle.router_rules.specs.RsvpMessages.declared.message.Message.{Message}
+use Rattle.router_rules.specs.RsvpMessages.declared.message.Message.TheVariants as message
+use Rattle.router_rules.specs.RsvpMessages.declared.message.Kind.TheVariants as kind
+use Rattle.router_rules.specs.RsvpMessages.declared.fault.Fault.{Fault}
+use Rattle.router_rules.specs.RsvpMessages.declared.fault.Fault.TheVariants as fault
+use Rattle.router_rules.specs.RsvpMessages.declared.fault.MsgErr.{MsgErr}
+use Rattle.router_rules.specs.RsvpObjects.declared.obj_err.ObjErr.TheVariants as obj
 use Rattle.router_rules.specs.declared.answers.Heard.TheVariants as heard
 use Rattle.router_rules.specs.declared.answers.Why.TheVariants as why
 use Rattle.router_rules.specs.declared.answers.LocalErr.TheVariants as local

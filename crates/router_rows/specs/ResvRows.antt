@@ -7,17 +7,17 @@ use Rattle.rsvp_base.specs.declared.style.Unit.TheVariants.{One, Of}
 use Rattle.rsvp_base.specs.Sets.{set_of}
 use Rattle.rsvp_base.specs.Table.{empty, put_in, size, values}
 use Rattle.rsvp_base.specs.TokenBucket.{TokenBucket}
-use Rattle.rsvp_messages.specs.declared.ask.Ask.{Ask}
-use Rattle.rsvp_messages.specs.declared.ask.Ask.TheVariants as ask
-use Rattle.rsvp_messages.specs.declared.ask.Tear.TheVariants as tear
-use Rattle.rsvp_messages.specs.declared.message.Message.{Message}
-use Rattle.rsvp_messages.specs.declared.message.Message.TheVariants as message
-use Rattle.style_rules.specs.Lines.{held}
+use Rattle.router_rules.specs.RsvpMessages.declared.ask.Ask.{Ask}
+use Rattle.router_rules.specs.RsvpMessages.declared.ask.Ask.TheVariants as ask
+use Rattle.router_rules.specs.RsvpMessages.declared.ask.Tear.TheVariants as tear
+use Rattle.router_rules.specs.RsvpMessages.declared.message.Message.{Message}
+use Rattle.router_rules.specs.RsvpMessages.declared.message.Message.TheVariants as message
+use Rattle.router_rules.specs.StyleRules.Lines.{held}
 use Rattle.router_rules.specs.declared.answers.Heard.TheVariants as heard
 use Rattle.router_rules.specs.declared.answers.LocalErr.TheVariants as local
 use Rattle.router_rules.specs.declared.answers.StaleErr.TheVariants as stale
 use Rattle.router_rules.specs.declared.answers.Why.TheVariants as why
-use Rattle.style_rules.specs.declared.target.Target.TheVariants as target
+use Rattle.router_rules.specs.StyleRules.declared.target.Target.TheVariants as target
 use Rattle.router_rules.specs.Books.{book}
 use Rattle.router_rules.specs.Calls.{act_stale, call_refusal, stale_refusal}
 use Rattle.router_rules.specs.Facts.{Facts, no_facts, no_resvs}

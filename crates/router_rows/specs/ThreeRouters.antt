@@ -11,10 +11,10 @@ use Rattle.rsvp_base.specs.declared.style.StyleKind.{StyleKind}
 use Rattle.rsvp_base.specs.Orders.{Names}
 use Rattle.rsvp_base.specs.Sets.{set_of}
 use Rattle.rsvp_base.specs.TokenBucket.{TokenBucket}
-use Rattle.rsvp_messages.specs.declared.ask.Ask.{Ask}
-use Rattle.rsvp_messages.specs.declared.ask.Ask.TheVariants as ask
-use Rattle.rsvp_messages.specs.declared.message.Message.{Message}
-use Rattle.rsvp_messages.specs.declared.message.Message.TheVariants as message
+use Rattle.router_rules.specs.RsvpMessages.declared.ask.Ask.{Ask}
+use Rattle.router_rules.specs.RsvpMessages.declared.ask.Ask.TheVariants as ask
+use Rattle.router_rules.specs.RsvpMessages.declared.message.Message.{Message}
+use Rattle.router_rules.specs.RsvpMessages.declared.message.Message.TheVariants as message
 use Rattle.router_rules.specs.Facts.{Facts}
 use Rattle.router_rules.specs.Inputs.{Call, Came, Local, Send, Spelt, Wait}
 use Rattle.router_rules.specs.NodeConfig.{NodeConfig}

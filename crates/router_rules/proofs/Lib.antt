@@ -5,3 +5,5 @@ pub use Rattle.style_rules.proofs.Room
 pub use Rattle.style_rules.proofs.Towards
 pub use Rattle.style_rules.proofs.Told
 pub use Rattle.style_rules.proofs.Lattice
+pub use Rattle.style_rules.proofs as StyleRules
+pub use Rattle.rsvp_base.proofs as RsvpBase

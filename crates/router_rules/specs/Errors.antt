@@ -23,8 +23,8 @@ use Rattle.rsvp_messages.specs.declared.message.Kind.{Kind}
 use Rattle.rsvp_messages.specs.declared.message.Kind.TheVariants as kind
 use Rattle.rsvp_messages.specs.declared.message.PathErrMsg.{PathErrMsg}
 use Rattle.rsvp_messages.specs.declared.message.ResvErrMsg.{ResvErrMsg}
-use Rattle.rsvp_objects.specs.declared.obj_err.ObjErr.{ObjErr}
-use Rattle.rsvp_objects.specs.declared.obj_err.ObjErr.TheVariants as obj
+use Rattle.rsvp_messages.specs.RsvpObjects.declared.obj_err.ObjErr.{ObjErr}
+use Rattle.rsvp_messages.specs.RsvpObjects.declared.obj_err.ObjErr.TheVariants as obj
 use Rattle.style_rules.specs.Lines.{NextHop, next_hops}
 use Rattle.router_rules.specs.declared.answers.Heard.{Heard}
 use Rattle.router_rules.specs.declared.answers.Heard.TheVariants as heard

@@ -8,17 +8,17 @@ use Rattle.rsvp_base.specs.Orders.{sessions}
 use Rattle.rsvp_base.specs.Sets.{Set}
 use Rattle.rsvp_base.specs.Table.{empty, get, has}
 use Rattle.rsvp_base.proofs.Tables.{either, get-changed, then_do}
-use Rattle.router_rules.specs.Act.{act}
-use Rattle.router_rules.specs.Facts.{Facts}
-use Rattle.router_rules.specs.Forgetting.{counted}
-use Rattle.router_rules.specs.Inputs.{Input, Call, Wait, Clear, Came, Moved}
-use Rattle.router_rules.specs.NodeConfig.{NodeConfig, period}
-use Rattle.router_rules.specs.Waiting.{next_due}
+use Rattle.router_inputs.specs.RouterRules.Act.{act}
+use Rattle.router_inputs.specs.RouterRules.Facts.{Facts}
+use Rattle.router_inputs.specs.RouterRules.Forgetting.{counted}
+use Rattle.router_inputs.specs.RouterRules.Inputs.{Input, Call, Wait, Clear, Came, Moved}
+use Rattle.router_inputs.specs.RouterRules.NodeConfig.{NodeConfig, period}
+use Rattle.router_inputs.specs.RouterRules.Waiting.{next_due}
 use Rattle.router_inputs.proofs.Knowing.{known_and_via}
 use Rattle.router_inputs.proofs.Leaving.{countdowns_settle, waiting_leaves_the_living}
 use Rattle.router_inputs.proofs.Lists.{some_same}
 use Rattle.router_steps.specs.CountdownLaws.{CountdownsMoveByTheirRule, IsMoved, IsReached}
-use Rattle.router_rules.specs.Steps.{facts_then, fired_then, is_calm, left_by}
+use Rattle.router_inputs.specs.RouterRules.Steps.{facts_then, fired_then, is_calm, left_by}
 use Rattle.router_inputs.proofs.Stepping.{stands_settled, quiet_due}
 
 module _ (old p : NodeConfig) (c : ℕ) (i : Input) (f : Facts) (s : Session) where

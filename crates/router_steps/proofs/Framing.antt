@@ -7,19 +7,19 @@ use Rattle.rsvp_base.specs.declared.style.StyleKind.{StyleKind}
 use Rattle.rsvp_base.specs.declared.style.StyleKind.TheVariants.{Wild, Fixed, Shared}
 use Rattle.rsvp_base.specs.Table.{changed, get, has}
 use Rattle.rsvp_base.proofs.Tables.{get-changed, same_table, then_do}
-use Rattle.router_rules.specs.Lines.{LineKey, line_keys}
-use Rattle.router_rules.specs.Parts.{has_name}
-use Rattle.router_rules.specs.Act.{act}
-use Rattle.router_rules.specs.Bounds.{IsWithinBounds}
-use Rattle.router_rules.specs.Facts.{Facts, Resvs, ResvState, resvs_of}
-use Rattle.router_rules.specs.Forgetting.{forget, is_lost, remembered}
-use Rattle.router_rules.specs.Inputs.{Input, Call, Wait, Clear, Came, Moved}
-use Rattle.router_rules.specs.Known.{known, named_as}
-use Rattle.router_rules.specs.NodeConfig.{NodeConfig}
+use Rattle.router_inputs.specs.RouterRules.Lines.{LineKey, line_keys}
+use Rattle.router_inputs.specs.RouterRules.Parts.{has_name}
+use Rattle.router_inputs.specs.RouterRules.Act.{act}
+use Rattle.router_inputs.specs.RouterRules.Bounds.{IsWithinBounds}
+use Rattle.router_inputs.specs.RouterRules.Facts.{Facts, Resvs, ResvState, resvs_of}
+use Rattle.router_inputs.specs.RouterRules.Forgetting.{forget, is_lost, remembered}
+use Rattle.router_inputs.specs.RouterRules.Inputs.{Input, Call, Wait, Clear, Came, Moved}
+use Rattle.router_inputs.specs.RouterRules.Known.{known, named_as}
+use Rattle.router_inputs.specs.RouterRules.NodeConfig.{NodeConfig}
 use Rattle.router_inputs.proofs.Leaving.{left_whole}
 use Rattle.router_inputs.specs.Frames.{AreSameButMarks, on_paths, on_resvs, on_senders, on_wants}
 use Rattle.router_steps.specs.FrameLaws.{CalmStepsKeepTheLocals, LeftAsItWas}
-use Rattle.router_rules.specs.Steps.{facts_then, is_calm, left_by}
+use Rattle.router_inputs.specs.RouterRules.Steps.{facts_then, is_calm, left_by}
 use Rattle.router_inputs.proofs.Framing.{act_senders, act_wants, act_paths, act_resvs, act_walls, wants_then}
 
 wants_left : (old p : NodeConfig) (c : ℕ) (i : Input) (f : Facts) → on_wants i ≡ false → AreSameButMarks f.wants (facts_then old p c i f).wants

@@ -16,21 +16,21 @@ use Rattle.rsvp_messages.specs.declared.message.Message.{Message}
 use Rattle.rsvp_messages.specs.declared.message.Message.TheVariants as message
 use Rattle.rsvp_messages.specs.declared.message.PathMsg.{PathMsg}
 use Rattle.rsvp_messages.specs.declared.message.PathTearMsg.{PathTearMsg}
-use Rattle.router_rules.specs.declared.answers.Heard.TheVariants as heard
-use Rattle.router_rules.specs.declared.answers.Why.TheVariants as why
-use Rattle.router_rules.specs.Act.{act_spelt, is_mine}
-use Rattle.router_rules.specs.Facts.{Facts, PathState, Paths, SenderKey, sender_keys}
-use Rattle.router_rules.specs.Inputs.{Input, Call, Wait, Clear, Came, Change, Moved, Spelt, Unspelt}
-use Rattle.router_rules.specs.Known.{came_by}
-use Rattle.router_rules.specs.Paths.{is_path_by, learn, learn_inward, learnt, path_state, tear_path, torn_path}
-use Rattle.router_rules.specs.NodeConfig.{NodeConfig, comes_in, is_addr}
-use Rattle.router_rules.specs.Rule.{rule}
-use Rattle.router_rules.specs.Waiting.{living}
+use Rattle.router_inputs.specs.RouterRules.declared.answers.Heard.TheVariants as heard
+use Rattle.router_inputs.specs.RouterRules.declared.answers.Why.TheVariants as why
+use Rattle.router_inputs.specs.RouterRules.Act.{act_spelt, is_mine}
+use Rattle.router_inputs.specs.RouterRules.Facts.{Facts, PathState, Paths, SenderKey, sender_keys}
+use Rattle.router_inputs.specs.RouterRules.Inputs.{Input, Call, Wait, Clear, Came, Change, Moved, Spelt, Unspelt}
+use Rattle.router_inputs.specs.RouterRules.Known.{came_by}
+use Rattle.router_inputs.specs.RouterRules.Paths.{is_path_by, learn, learn_inward, learnt, path_state, tear_path, torn_path}
+use Rattle.router_inputs.specs.RouterRules.NodeConfig.{NodeConfig, comes_in, is_addr}
+use Rattle.router_inputs.specs.RouterRules.Rule.{rule}
+use Rattle.router_inputs.specs.RouterRules.Waiting.{living}
 use Rattle.router_inputs.proofs.Tests.{addr_told, addr_tested}
 use Rattle.router_inputs.proofs.Receiving.{paths_by_tests}
 use Rattle.router_steps.specs.PathLaws.{APathOnTheTreeIsLearnt, HowAPathFactGoes, IsReplaced, PathGoes, WhereAPathFactComesFrom}
 use Rattle.router_inputs.specs.Sources.{IsLearnt, said_by}
-use Rattle.router_rules.specs.Steps.{facts_then, left_by}
+use Rattle.router_inputs.specs.RouterRules.Steps.{facts_then, left_by}
 use Rattle.router_inputs.proofs.Stepping.{came_from}
 
 pub where_a_path_fact_comes_from : WhereAPathFactComesFrom

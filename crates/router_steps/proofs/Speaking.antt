@@ -15,16 +15,16 @@ use Rattle.rsvp_messages.specs.declared.ask.Ask.{Ask}
 use Rattle.rsvp_messages.specs.declared.message.Message.TheVariants as message
 use Rattle.rsvp_messages.specs.declared.message.PathMsg.{PathMsg}
 use Rattle.rsvp_messages.specs.declared.message.PathTearMsg.{PathTearMsg}
-use Rattle.router_rules.specs.Act.{act}
-use Rattle.router_rules.specs.Asking.{ask_of}
-use Rattle.router_rules.specs.Facts.{Facts}
-use Rattle.router_rules.specs.Inputs.{ErrMsg, Input, OfPath, OfResv, Send, Wait}
-use Rattle.router_rules.specs.Known.{Lane, known, lanes}
-use Rattle.router_rules.specs.Offers.{Offer, OfferKey, offer_at, offers}
-use Rattle.router_rules.specs.NodeConfig.{NodeConfig, goes_out, own, period}
-use Rattle.router_rules.specs.Requests.{toward}
-use Rattle.router_rules.specs.Rule.{is_silent, settled}
-use Rattle.router_rules.specs.Sends.{confirm_for, error_message, is_changed, is_new_offer, path_send, resv_send}
+use Rattle.router_inputs.specs.RouterRules.Act.{act}
+use Rattle.router_inputs.specs.RouterRules.Asking.{ask_of}
+use Rattle.router_inputs.specs.RouterRules.Facts.{Facts}
+use Rattle.router_inputs.specs.RouterRules.Inputs.{ErrMsg, Input, OfPath, OfResv, Send, Wait}
+use Rattle.router_inputs.specs.RouterRules.Known.{Lane, known, lanes}
+use Rattle.router_inputs.specs.RouterRules.Offers.{Offer, OfferKey, offer_at, offers}
+use Rattle.router_inputs.specs.RouterRules.NodeConfig.{NodeConfig, goes_out, own, period}
+use Rattle.router_inputs.specs.RouterRules.Requests.{toward}
+use Rattle.router_inputs.specs.RouterRules.Rule.{is_silent, settled}
+use Rattle.router_inputs.specs.RouterRules.Sends.{confirm_for, error_message, is_changed, is_new_offer, path_send, resv_send}
 use Rattle.router_inputs.specs.FactLaws.{is_way}
 use Rattle.router_inputs.specs.SendLaws.{IsConf, IsError, IsPath, IsPathTear, IsResv, IsResvTear, IsSend}
 use Rattle.router_inputs.proofs.Lists.{some_is}
@@ -34,7 +34,7 @@ use Rattle.router_inputs.proofs.Ruling.{rule_in_parts}
 use Rattle.router_inputs.proofs.Sending.{sends_are_of_six_kinds}
 use Rattle.router_steps.specs.SpeakingLaws.{IsOfGoneOffer, IsOfOffer, IsPathRefresh, IsResvRefresh, RefreshesAreMarked, WhatAPathSentSays, WhyAPathTearIsSent}
 use Rattle.router_steps.proofs.Counting.{reached}
-use Rattle.router_rules.specs.Steps.{facts_then, sent_then, fired_then}
+use Rattle.router_inputs.specs.RouterRules.Steps.{facts_then, sent_then, fired_then}
 use Rattle.router_inputs.proofs.Stepping.{offer_source, offered_is_known, offered, send_told}
 
 not_offered : (p : NodeConfig) (f : Facts) (k : OfferKey) → has (offers p f) k ≡ false → (is_way p k ≡ false) ⊎ (has (known f k.session) k.sender ≡ false)

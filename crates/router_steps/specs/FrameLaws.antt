@@ -1,7 +1,7 @@
 -- What an input leaves as it is: the claims of the public laws.
 use Rattle.std.specs.Prelude.{◌≡◌, true, false}
-use Rattle.router_rules.specs.Forgetting.{forget}
-use Rattle.router_rules.specs.Steps.{is_calm, NodeStep, Begins, left_by}
+use Rattle.router_inputs.specs.RouterRules.Forgetting.{forget}
+use Rattle.router_inputs.specs.RouterRules.Steps.{is_calm, NodeStep, Begins, left_by}
 use Rattle.router_inputs.specs.Frames.{AreSameButMarks, on_senders, on_wants, on_paths, on_resvs, on_walls}
 
 -- ---- frames, one for each table

@@ -5,14 +5,14 @@ use Rattle.rsvp_base.specs.SessionLimits.{IsWithinSessionLimits}
 use Rattle.rsvp_base.specs.Table.{get, put_in}
 use Rattle.rsvp_messages.specs.declared.message.Message.TheVariants as message
 use Rattle.rsvp_messages.specs.declared.message.PathTearMsg.{PathTearMsg}
-use Rattle.router_rules.specs.declared.answers.Heard.TheVariants as heard
-use Rattle.router_rules.specs.declared.answers.Why.TheVariants as why
-use Rattle.router_rules.specs.Facts.{Facts, PathState, SenderKey}
-use Rattle.router_rules.specs.Inputs.{Input, Wait, Clear, Came, Spelt}
-use Rattle.router_rules.specs.Known.{came_by}
-use Rattle.router_rules.specs.NodeConfig.{NodeConfig}
-use Rattle.router_rules.specs.Rule.{rule}
-use Rattle.router_rules.specs.Steps.{NodeStep, Begins, left_by}
+use Rattle.router_inputs.specs.RouterRules.declared.answers.Heard.TheVariants as heard
+use Rattle.router_inputs.specs.RouterRules.declared.answers.Why.TheVariants as why
+use Rattle.router_inputs.specs.RouterRules.Facts.{Facts, PathState, SenderKey}
+use Rattle.router_inputs.specs.RouterRules.Inputs.{Input, Wait, Clear, Came, Spelt}
+use Rattle.router_inputs.specs.RouterRules.Known.{came_by}
+use Rattle.router_inputs.specs.RouterRules.NodeConfig.{NodeConfig}
+use Rattle.router_inputs.specs.RouterRules.Rule.{rule}
+use Rattle.router_inputs.specs.RouterRules.Steps.{NodeStep, Begins, left_by}
 use Rattle.router_inputs.specs.Sources.{CameOnTree, said_by, IsLearnt}
 
 -- ---- it was there, or a Path brought it

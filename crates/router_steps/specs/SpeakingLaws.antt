@@ -10,16 +10,16 @@ use Rattle.rsvp_messages.specs.declared.message.Message.TheVariants as message
 use Rattle.rsvp_messages.specs.declared.message.PathMsg.{PathMsg}
 use Rattle.rsvp_messages.specs.declared.message.PathTearMsg.{PathTearMsg}
 use Rattle.rsvp_messages.specs.declared.message.ResvMsg.{ResvMsg}
-use Rattle.router_rules.specs.Asking.{ask_of}
-use Rattle.router_rules.specs.Facts.{Facts}
-use Rattle.router_rules.specs.Inputs.{Input, Send, Wait}
-use Rattle.router_rules.specs.Known.{Lane, known}
-use Rattle.router_rules.specs.Offers.{Offer, OfferKey, offer_at, offers}
-use Rattle.router_rules.specs.NodeConfig.{NodeConfig, goes_out, own, period}
-use Rattle.router_rules.specs.Requests.{toward}
-use Rattle.router_rules.specs.Sends.{is_new_offer, path_send, resv_send}
+use Rattle.router_inputs.specs.RouterRules.Asking.{ask_of}
+use Rattle.router_inputs.specs.RouterRules.Facts.{Facts}
+use Rattle.router_inputs.specs.RouterRules.Inputs.{Input, Send, Wait}
+use Rattle.router_inputs.specs.RouterRules.Known.{Lane, known}
+use Rattle.router_inputs.specs.RouterRules.Offers.{Offer, OfferKey, offer_at, offers}
+use Rattle.router_inputs.specs.RouterRules.NodeConfig.{NodeConfig, goes_out, own, period}
+use Rattle.router_inputs.specs.RouterRules.Requests.{toward}
+use Rattle.router_inputs.specs.RouterRules.Sends.{is_new_offer, path_send, resv_send}
 use Rattle.router_inputs.specs.FactLaws.{is_way}
-use Rattle.router_rules.specs.Steps.{fired_then, NodeStep, Begins, left_by, sent_by, fired_by}
+use Rattle.router_inputs.specs.RouterRules.Steps.{fired_then, NodeStep, Begins, left_by, sent_by, fired_by}
 use Rattle.router_inputs.specs.Sources.{IsLocalOffer, IsPathOffer}
 
 -- ---- a Path that is sent is of an offer after the step: its sender is known then, and its tree goes out of the interface,

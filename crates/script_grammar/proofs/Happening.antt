@@ -2,7 +2,7 @@
 use Rattle.std.proofs.Common.{◌≡◌, ◌≢◌, ◌⊎◌, List, [], None, Some, refl, ap, inl, inr}
 use Rattle.script_words.specs.Addresses.{addr_value}
 use Rattle.script_words.specs.Sessions.{session_value}
-use Rattle.router_rules.specs.Inputs.{QuitAll}
+use Rattle.network_model.specs.RouterRules.Inputs.{QuitAll}
 use Rattle.network_model.specs.Events.{AtNode, Waits, Pass, DeliverAt, LoseAt, CopyAt, ClearNode, Rounds, Traces, Reports, ReportsFlags, Injects, Reroutes}
 use Rattle.script_grammar.specs.Adds.{Adds}
 use Rattle.script_grammar.specs.Draft.{Draft, end_number, node_number, plan_of}

@@ -3,9 +3,9 @@ use Rattle.std.proofs.Common.{◌≡◌, ◌⊎◌, ℕ, ◌<◌, ◌≤◌, Lis
 use Rattle.rsvp_base.specs.declared.addr.Addr.{Addr}
 use Rattle.script_words.specs.Lines.{text_lines}
 use Rattle.message_wire.proofs.OneAnswer.{a_message_is_one, no_fault_where_spelt, the_first_fault_is_one}
-use Rattle.router_rules.specs.Inputs.{Arrival, Spelt, Unspelt}
-use Rattle.tree_model.specs.declared.hops.LinkHop.{LinkHop}
-use Rattle.tree_model.specs.Networks.{Net}
+use Rattle.network_model.specs.RouterRules.Inputs.{Arrival, Spelt, Unspelt}
+use Rattle.network_model.specs.TreeModel.declared.hops.LinkHop.{LinkHop}
+use Rattle.network_model.specs.TreeModel.Networks.{Net}
 use Rattle.tree_routing.specs.Answers.{IsUpTo, with_hop}
 use Rattle.network_model.specs.Runs.{Plan}
 use Rattle.network_model.specs.Events.{Injects}

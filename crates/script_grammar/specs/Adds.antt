@@ -15,12 +15,12 @@ use Rattle.script_words.specs.Flows.{flow_value}
 use Rattle.script_words.specs.Sessions.{sender_value, session_value}
 use Rattle.message_wire.specs.Spells.{Spells, IsFirstFault}
 use Rattle.rsvp_base.specs.Styles.{part_unit}
-use Rattle.router_rules.specs.Inputs.{Arrival, Spelt, Unspelt, Local, QuitAll, Stale}
-use Rattle.tree_model.specs.declared.hops.TreeHop.{TreeHop}
-use Rattle.tree_model.specs.declared.locals.LocalSender.{LocalSender}
-use Rattle.tree_model.specs.declared.locals.LocalWant.{LocalWant}
-use Rattle.tree_model.specs.Networks.{Net, node_of}
-use Rattle.tree_model.specs.Wants.{Locals}
+use Rattle.network_model.specs.RouterRules.Inputs.{Arrival, Spelt, Unspelt, Local, QuitAll, Stale}
+use Rattle.network_model.specs.TreeModel.declared.hops.TreeHop.{TreeHop}
+use Rattle.network_model.specs.TreeModel.declared.locals.LocalSender.{LocalSender}
+use Rattle.network_model.specs.TreeModel.declared.locals.LocalWant.{LocalWant}
+use Rattle.network_model.specs.TreeModel.Networks.{Net, node_of}
+use Rattle.network_model.specs.TreeModel.Wants.{Locals}
 use Rattle.tree_routing.specs.Answers.{with_end, with_hop, with_link, with_node}
 use Rattle.network_model.specs.Events.{Event, AtNode, Waits, Pass, DeliverAt, LoseAt, CopyAt, ClearNode, Rounds, Traces, Reports, ReportsFlags, Injects, Reroutes}
 use Rattle.network_model.specs.Steps.{rerouted}

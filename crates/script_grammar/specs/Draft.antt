@@ -6,10 +6,10 @@ use Rattle.std.specs.Str.{bytes_eq}
 use Rattle.rsvp_base.specs.declared.addr.Addr.{Addr}
 use Rattle.rsvp_base.specs.declared.session.Session.{Session}
 use Rattle.rsvp_base.specs.Orders.{sessions as by_session}
-use Rattle.router_rules.specs.Inputs.{Stale}
-use Rattle.tree_model.specs.declared.hops.TreeHop.{TreeHop}
-use Rattle.tree_model.specs.Networks.{Net}
-use Rattle.tree_model.specs.Wants.{Locals}
+use Rattle.network_model.specs.RouterRules.Inputs.{Stale}
+use Rattle.network_model.specs.TreeModel.declared.hops.TreeHop.{TreeHop}
+use Rattle.network_model.specs.TreeModel.Networks.{Net}
+use Rattle.network_model.specs.TreeModel.Wants.{Locals}
 use Rattle.tree_routing.specs.Answers.{no_net}
 use Rattle.network_model.specs.Events.{Event}
 use Rattle.network_model.specs.Runs.{Plan}

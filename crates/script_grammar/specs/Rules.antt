@@ -10,18 +10,18 @@ use Rattle.rsvp_base.specs.declared.style.StyleKind.TheVariants.{Wild, Fixed, Sh
 use Rattle.script_words.specs.declared.raw.SenderWord.{SenderWord}
 use Rattle.script_words.specs.Addresses.{IsAddr, addr_value}
 use Rattle.script_words.specs.Sessions.{sender_value, session_value}
-use Rattle.router_rules.specs.Bounds.{AreBooked, AreWithinLimits}
-use Rattle.router_rules.specs.Calls.{with_left}
-use Rattle.router_rules.specs.Facts.{Facts, no_facts, resvs_of}
-use Rattle.router_rules.specs.Inputs.{Stale, StalePath, StaleResv, StaleWall}
-use Rattle.tree_model.specs.declared.hops.LinkHop.{LinkHop}
-use Rattle.tree_model.specs.declared.hops.TreeHop.{TreeHop}
-use Rattle.tree_model.specs.declared.locals.LocalSender.{LocalSender}
-use Rattle.tree_model.specs.declared.locals.LocalWant.{LocalWant}
-use Rattle.tree_model.specs.Networks.{Net, ends_of, link_of, node_of, owner}
-use Rattle.tree_model.specs.Ranks.{IsLoopFreeIn}
-use Rattle.tree_model.specs.Trees.{IsGrown, of_tree}
-use Rattle.tree_model.specs.Wants.{Locals, live}
+use Rattle.network_model.specs.RouterRules.Bounds.{AreBooked, AreWithinLimits}
+use Rattle.network_model.specs.RouterRules.Calls.{with_left}
+use Rattle.network_model.specs.RouterRules.Facts.{Facts, no_facts, resvs_of}
+use Rattle.network_model.specs.RouterRules.Inputs.{Stale, StalePath, StaleResv, StaleWall}
+use Rattle.network_model.specs.TreeModel.declared.hops.LinkHop.{LinkHop}
+use Rattle.network_model.specs.TreeModel.declared.hops.TreeHop.{TreeHop}
+use Rattle.network_model.specs.TreeModel.declared.locals.LocalSender.{LocalSender}
+use Rattle.network_model.specs.TreeModel.declared.locals.LocalWant.{LocalWant}
+use Rattle.network_model.specs.TreeModel.Networks.{Net, ends_of, link_of, node_of, owner}
+use Rattle.network_model.specs.TreeModel.Ranks.{IsLoopFreeIn}
+use Rattle.network_model.specs.TreeModel.Trees.{IsGrown, of_tree}
+use Rattle.network_model.specs.TreeModel.Wants.{Locals, live}
 use Rattle.tree_routing.specs.Answers.{Fits, IsLeastOnLoop, with_hop}
 use Rattle.network_model.specs.Events.{Event, Reports, ReportsFlags}
 use Rattle.network_model.specs.Worlds.{config_of}

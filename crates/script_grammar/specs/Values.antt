@@ -13,12 +13,12 @@ use Rattle.script_words.specs.Sessions.{IsSender, IsSession, sender_value, sessi
 use Rattle.rsvp_base.specs.Styles.{unit_of_first}
 use Rattle.style_rules.specs.Lines.{LineKey}
 use Rattle.style_rules.specs.declared.target.Target.TheVariants as target
-use Rattle.router_rules.specs.Inputs.{Local, SendAs, DropAs, WantAs, QuitAll, Stale, StalePath, StaleResv, StaleWall}
-use Rattle.tree_model.specs.declared.hops.LinkHop.{LinkHop}
-use Rattle.tree_model.specs.declared.hops.TreeHop.{TreeHop}
-use Rattle.tree_model.specs.declared.locals.LocalSender.{LocalSender}
-use Rattle.tree_model.specs.declared.hops.End.{End}
-use Rattle.tree_model.specs.Networks.{iface_of}
+use Rattle.network_model.specs.RouterRules.Inputs.{Local, SendAs, DropAs, WantAs, QuitAll, Stale, StalePath, StaleResv, StaleWall}
+use Rattle.network_model.specs.TreeModel.declared.hops.LinkHop.{LinkHop}
+use Rattle.network_model.specs.TreeModel.declared.hops.TreeHop.{TreeHop}
+use Rattle.network_model.specs.TreeModel.declared.locals.LocalSender.{LocalSender}
+use Rattle.network_model.specs.TreeModel.declared.hops.End.{End}
+use Rattle.network_model.specs.TreeModel.Networks.{iface_of}
 use Rattle.script_grammar.specs.Draft.{Draft, node_number, end_number, lifetime, wall_lifetime}
 use Rattle.script_grammar.specs.declared.line.EndLine.{EndLine}
 use Rattle.script_grammar.specs.declared.line.HopEnds.{HopEnds}

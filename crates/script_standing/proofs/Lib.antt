@@ -5,3 +5,4 @@ pub mod Senders
 pub mod Wanted
 pub mod Lines
 pub mod Demands
+pub use Rattle.settle_reports.proofs as SettleReports

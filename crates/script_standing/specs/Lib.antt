@@ -1,1 +1,2 @@
 pub mod Standing
+pub use Rattle.settle_reports.specs as SettleReports

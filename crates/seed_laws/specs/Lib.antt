@@ -1,1 +1,2 @@
 pub mod Equal
+pub use Rattle.grown_runs.specs.SettleReports

@@ -32,9 +32,9 @@ use Rattle.network_model.specs.Locals.{locals_of}
 use Rattle.network_model.specs.Sound.{AreResvsExact, AreResvsSound}
 use Rattle.network_model.specs.Worlds.{World}
 use Rattle.network_steps.proofs.Known.{of_some}
-use Rattle.node_goals.specs.GoalByIface.{at_iface, goal_at, line_over}
-use Rattle.node_goals.proofs.GoalByIface.{book_at, hop_in_order}
-use Rattle.node_goals.proofs.UnderTheGoal.{sound_under}
+use Rattle.exact_resvs.specs.NodeGoals.GoalByIface.{at_iface, goal_at, line_over}
+use Rattle.exact_resvs.proofs.NodeGoals.GoalByIface.{book_at, hop_in_order}
+use Rattle.exact_resvs.proofs.NodeGoals.UnderTheGoal.{sound_under}
 
 -- ---- a line of a goal is a part that is wanted over a hop out of the node
 record IsWantedLine (net : Net) (l : Locals) (n : ℕ) (g : Line) : Type 0 where

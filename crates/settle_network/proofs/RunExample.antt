@@ -30,7 +30,7 @@ use Rattle.network_steps.specs.Rounds.{rounds_of}
 use Rattle.network_steps.specs.Runs.{AreFew, AreFitSenders, IsFitRun}
 use Rattle.network_steps.proofs.Beginning.{a_plan_is_fit}
 use Rattle.network_steps.proofs.Calming.{calm_rounds, rounds_is_calm}
-use Rattle.node_goals.proofs.UnderTheGoal.{want_needs}
+use Rattle.exact_resvs.proofs.NodeGoals.UnderTheGoal.{want_needs}
 use Rattle.settle_network.specs.Settled.{HasSettled}
 use Rattle.settle_network.specs.RunExample.{begun, run_plan, so_far, ARunMeetsThePremises}
 

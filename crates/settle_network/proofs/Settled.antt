@@ -16,8 +16,8 @@ use Rattle.network_model.specs.Worlds.{World}
 use Rattle.network_steps.specs.Known.{IsKnown}
 use Rattle.network_steps.proofs.Keeping.{calm_rounds_keep_bounds}
 use Rattle.network_steps.proofs.Known.{known_hold}
-use Rattle.node_goals.proofs.CompletePaths.{paths_settle}
-use Rattle.node_goals.proofs.SoundPaths.{paths_are_sound}
+use Rattle.exact_resvs.proofs.NodeGoals.CompletePaths.{paths_settle}
+use Rattle.exact_resvs.proofs.NodeGoals.SoundPaths.{paths_are_sound}
 use Rattle.exact_resvs.proofs.SoundResvs.{IsFirm}
 use Rattle.exact_resvs.proofs.SoundUnits.{IsAddressed, addressed, reservations_become_sound}
 use Rattle.settle_network.specs.Settled.{HasSettled}

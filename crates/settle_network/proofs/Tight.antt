@@ -21,7 +21,7 @@ use Rattle.network_model.specs.Steps.{machine}
 use Rattle.network_model.specs.Worlds.{World, config_of}
 use Rattle.network_steps.proofs.Beginning.{the_first_world_is_within_bounds}
 use Rattle.network_steps.proofs.Known.{of_some}
-use Rattle.node_goals.specs.Example.{stale_path}
+use Rattle.exact_resvs.specs.NodeGoals.Example.{stale_path}
 use Rattle.settle_network.specs.Tight.{lone_net, lone_plan, lone_world, short_round, three_rounds, ThreeRoundsAreTooFew}
 
 abbrev zero_only : List ℕ

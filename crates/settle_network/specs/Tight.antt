@@ -11,7 +11,7 @@ use Rattle.network_model.specs.Runs.{Plan, first_world}
 use Rattle.network_model.specs.Sound.{ArePathsSound}
 use Rattle.network_model.specs.Steps.{Piece, Step, machine}
 use Rattle.network_model.specs.Worlds.{World}
-use Rattle.node_goals.specs.Example.{stale_path}
+use Rattle.exact_resvs.specs.NodeGoals.Example.{stale_path}
 
 abbrev pub lone_net : Net
 lone_net = record { nodes = 1; ends = end_of 0 s1 ∷ []; links = []; hops = [] }

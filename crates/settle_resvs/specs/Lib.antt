@@ -1,3 +1,4 @@
 pub mod SoftResvs
 pub mod Said
 pub mod Example
+pub use Rattle.network_steps.specs as NetworkSteps

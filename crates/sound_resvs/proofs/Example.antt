@@ -30,14 +30,14 @@ use Rattle.network_model.specs.Runs.{first_facts}
 use Rattle.network_model.specs.Sound.{ArePathsSound, AreResvsSound}
 use Rattle.network_model.specs.Steps.{machine}
 use Rattle.network_model.specs.Worlds.{World, config_of}
-use Rattle.network_steps.specs.Beginning.{left_resv}
-use Rattle.network_steps.specs.Example.{pair_net}
-use Rattle.network_steps.specs.Rounds.{rounds_of}
-use Rattle.network_steps.proofs.Beginning.{the_first_world_is_within_bounds}
-use Rattle.network_steps.proofs.Calming.{calm_rounds, rounds_is_calm}
-use Rattle.network_steps.proofs.Computed.{Passes, through}
-use Rattle.network_steps.proofs.Example.{hosts, valid}
-use Rattle.network_steps.proofs.Known.{of_some}
+use Rattle.settle_resvs.specs.NetworkSteps.Beginning.{left_resv}
+use Rattle.settle_resvs.specs.NetworkSteps.Example.{pair_net}
+use Rattle.settle_resvs.specs.NetworkSteps.Rounds.{rounds_of}
+use Rattle.settle_resvs.proofs.NetworkSteps.Beginning.{the_first_world_is_within_bounds}
+use Rattle.settle_resvs.proofs.NetworkSteps.Calming.{calm_rounds, rounds_is_calm}
+use Rattle.settle_resvs.proofs.NetworkSteps.Computed.{Passes, through}
+use Rattle.settle_resvs.proofs.NetworkSteps.Example.{hosts, valid}
+use Rattle.settle_resvs.proofs.NetworkSteps.Known.{of_some}
 use Rattle.node_goals.proofs.UnderTheGoal.{want_needs}
 use Rattle.node_goals.specs.Sure.{forth}
 use Rattle.settle_resvs.specs.Example.{asked, asking_world}

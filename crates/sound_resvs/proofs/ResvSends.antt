@@ -27,8 +27,8 @@ use Rattle.network_model.specs.Sound.{ArePathsSound}
 use Rattle.network_model.specs.Steps.{Step, is_quiet, ms_of, outcome, sent, step}
 use Rattle.network_model.specs.Worlds.{Item, World, config_of}
 use Rattle.network_model.proofs.Stepping.{facts_after_made}
-use Rattle.network_steps.proofs.Sends.{goes_to_end, goes_to_peers, sent_by_rule}
-use Rattle.network_steps.proofs.Standing.{own_end, peer_there, same_end}
+use Rattle.settle_resvs.proofs.NetworkSteps.Sends.{goes_to_end, goes_to_peers, sent_by_rule}
+use Rattle.settle_resvs.proofs.NetworkSteps.Standing.{own_end, peer_there, same_end}
 use Rattle.node_goals.specs.PreviousHops.{IsPrevious, IsAhead}
 use Rattle.node_goals.proofs.PreviousHops.{ahead, ends_there, same_by_addr}
 use Rattle.router_rules.specs.Steps.{node_step}

@@ -44,9 +44,9 @@ use Rattle.network_model.specs.Sound.{ArePathsSound, IsSoundPart, IsSoundResv}
 use Rattle.network_model.specs.Steps.{Step, is_quiet, sent, step, machine}
 use Rattle.network_model.specs.Worlds.{Item, World, config_of}
 use Rattle.network_model.proofs.Machines.{quiet_of, time_passes, items_are_numbered, in_flight_after}
-use Rattle.network_steps.specs.Known.{IsKnown}
-use Rattle.network_steps.proofs.Known.{known_hold}
-use Rattle.network_steps.proofs.Standing.{end_of, same_end}
+use Rattle.settle_resvs.specs.NetworkSteps.Known.{IsKnown}
+use Rattle.settle_resvs.proofs.NetworkSteps.Known.{known_hold}
+use Rattle.settle_resvs.proofs.NetworkSteps.Standing.{end_of, same_end}
 use Rattle.node_goals.specs.PreviousHops.{IsPrevious}
 use Rattle.sound_resvs.specs.Below.{AreSoundBelow}
 use Rattle.settle_resvs.specs.SoftResvs.{ResvKey, IsCut, AsksFor, SaysResv, line_key_of, resv_at, kept_of, soft_resv}

@@ -28,9 +28,9 @@ use Rattle.network_model.specs.Steps.{Step, is_quiet, sent, step, machine}
 use Rattle.network_model.specs.Worlds.{Item, World}
 use Rattle.network_model.proofs.Machines.{quiet_of, items_are_numbered, in_flight_after}
 use Rattle.network_model.proofs.Changing.{where_a_send_goes}
-use Rattle.network_steps.specs.Known.{IsKnown}
-use Rattle.network_steps.proofs.Known.{known_hold}
-use Rattle.network_steps.proofs.Standing.{some_at, same_end}
+use Rattle.settle_resvs.specs.NetworkSteps.Known.{IsKnown}
+use Rattle.settle_resvs.proofs.NetworkSteps.Known.{known_hold}
+use Rattle.settle_resvs.proofs.NetworkSteps.Standing.{some_at, same_end}
 use Rattle.node_goals.proofs.SoundPaths.{paths_are_sound}
 use Rattle.tree_model.proofs.Ifaces.{interfaces_are_ends}
 use Rattle.tree_model.proofs.Links.{hop_linked, of_own_link, among_in, in_among}

@@ -49,7 +49,7 @@ use Rattle.network_model.specs.Bounds.{AreBounds}
 use Rattle.network_model.specs.Locals.{locals_of, want_at}
 use Rattle.network_model.specs.Sound.{IsSoundPart, ArePathsSound}
 use Rattle.network_model.specs.Worlds.{World, config_of}
-use Rattle.network_steps.proofs.Known.{of_some}
+use Rattle.settle_resvs.proofs.NetworkSteps.Known.{of_some}
 use Rattle.node_goals.specs.PreviousHops.{IsPrevious}
 use Rattle.sound_resvs.specs.Below.{AreSoundBelow}
 use Rattle.network_model.proofs.NodeLocals.{node_wants}

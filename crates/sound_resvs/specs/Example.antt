@@ -16,8 +16,8 @@ use Rattle.network_model.specs.Runs.{Plan, first_facts, first_world}
 use Rattle.network_model.specs.Sound.{ArePathsSound, AreResvsSound, AreResvsExact}
 use Rattle.network_model.specs.Steps.{machine}
 use Rattle.network_model.specs.Worlds.{World}
-use Rattle.network_steps.specs.Beginning.{left_plan, left_resv}
-use Rattle.network_steps.specs.Rounds.{rounds_of}
+use Rattle.settle_resvs.specs.NetworkSteps.Beginning.{left_plan, left_resv}
+use Rattle.settle_resvs.specs.NetworkSteps.Rounds.{rounds_of}
 use Rattle.settle_resvs.specs.Example.{asking_world}
 
 -- ---- a left-over reservation of 10.0.2.1, which no end has

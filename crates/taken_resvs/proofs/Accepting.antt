@@ -25,8 +25,8 @@ use Rattle.calm_rounds.specs.Hold.{Hold}
 use Rattle.calm_rounds.specs.Rounds.{Rounds}
 use Rattle.calm_rounds.proofs.Holding.{hold_map, hold_both, hold_later, hold_start}
 use Rattle.router_lookups.proofs.Knowing.{known_and_via}
-use Rattle.router_resvs.specs.AcceptingLaws.{CanBeTaken, IsPlaced}
-use Rattle.router_resvs.proofs.Admitting.{what_is_accepted}
+use Rattle.sound_resvs.specs.RouterResvs.AcceptingLaws.{CanBeTaken, IsPlaced}
+use Rattle.sound_resvs.proofs.RouterResvs.Admitting.{what_is_accepted}
 use Rattle.router_rules.specs.Asking.{Asker, asker_of, matched}
 use Rattle.router_rules.specs.Facts.{Facts, resvs_of, sender_keys}
 use Rattle.router_rules.specs.Inputs.{Came, Input, Spelt}
@@ -56,11 +56,11 @@ use Rattle.network_model.proofs.Quiet.{arrival_takes_no_time, input_came, outcom
 use Rattle.network_steps.specs.Known.{IsSameNet, IsKnown}
 use Rattle.network_steps.proofs.Known.{known_hold}
 use Rattle.network_steps.proofs.Standing.{goes_out_made, own_end, some_at}
-use Rattle.node_goals.specs.GoalByIface.{goal_at}
-use Rattle.node_goals.proofs.GoalByIface.{fit_can_be_held}
-use Rattle.node_goals.proofs.UnderTheGoal.{has_place, sound_under, want_needs}
-use Rattle.node_goals.proofs.LiveSenders.{senders_found}
-use Rattle.node_goals.proofs.PreviousHops.{previous_hops_are_all_hops}
+use Rattle.sound_resvs.specs.NodeGoals.GoalByIface.{goal_at}
+use Rattle.sound_resvs.proofs.NodeGoals.GoalByIface.{fit_can_be_held}
+use Rattle.sound_resvs.proofs.NodeGoals.UnderTheGoal.{has_place, sound_under, want_needs}
+use Rattle.sound_resvs.proofs.NodeGoals.LiveSenders.{senders_found}
+use Rattle.sound_resvs.proofs.NodeGoals.PreviousHops.{previous_hops_are_all_hops}
 use Rattle.sound_resvs.proofs.SoundResvs.{firm_hold}
 use Rattle.sound_resvs.proofs.SoundUnits.{IsAddressed, addressed}
 

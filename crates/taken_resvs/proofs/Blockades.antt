@@ -12,8 +12,8 @@ use Rattle.router_rules.specs.Facts.{Facts, Blockade}
 use Rattle.router_rules.specs.Inputs.{Input, Came, Spelt, Wait}
 use Rattle.router_rules.specs.NodeConfig.{NodeConfig, own}
 use Rattle.router_rules.specs.Rule.{Outcome}
-use Rattle.router_resvs.specs.ErrorLaws.{IsBlockadeSet}
-use Rattle.router_resvs.proofs.Erring.{where_a_blockade_comes_from}
+use Rattle.sound_resvs.specs.RouterResvs.ErrorLaws.{IsBlockadeSet}
+use Rattle.sound_resvs.proofs.RouterResvs.Erring.{where_a_blockade_comes_from}
 use Rattle.tree_model.specs.Networks.{iface_of}
 use Rattle.network_model.specs.Bounds.{AreBounds}
 use Rattle.network_model.specs.Sound.{HasNoFlowError, IsFreeOfBlockade}

@@ -23,11 +23,11 @@ use Rattle.calm_rounds.specs.Hold.{Hold}
 use Rattle.calm_rounds.specs.Machine.{Fresh}
 use Rattle.calm_rounds.specs.Rounds.{Rounds}
 use Rattle.calm_rounds.proofs.Holding.{hold_map, hold_both, hold_later, hold_start, hold_stack, hold_keep, hold_flush}
-use Rattle.router_resvs.specs.AcceptingLaws.{CanBeTaken}
-use Rattle.router_resvs.specs.BlameLaws.{IsRefusal, IsPassedOn}
-use Rattle.router_resvs.specs.ReservationLaws.{IsListed}
-use Rattle.router_resvs.proofs.Admitting.{what_is_accepted}
-use Rattle.router_resvs.proofs.Blaming.{where_an_error_with_a_flow_comes_from}
+use Rattle.sound_resvs.specs.RouterResvs.AcceptingLaws.{CanBeTaken}
+use Rattle.sound_resvs.specs.RouterResvs.BlameLaws.{IsRefusal, IsPassedOn}
+use Rattle.sound_resvs.specs.RouterResvs.ReservationLaws.{IsListed}
+use Rattle.sound_resvs.proofs.RouterResvs.Admitting.{what_is_accepted}
+use Rattle.sound_resvs.proofs.RouterResvs.Blaming.{where_an_error_with_a_flow_comes_from}
 use Rattle.router_rules.specs.declared.answers.Heard.TheVariants as heard
 use Rattle.router_rules.specs.Facts.{Facts}
 use Rattle.router_rules.specs.Inputs.{Came, Input, Spelt, Wait}
@@ -59,8 +59,8 @@ use Rattle.network_steps.specs.Known.{IsKnown}
 use Rattle.network_steps.proofs.Known.{of_some, known_hold}
 use Rattle.network_steps.proofs.Sends.{IsSentByRule, sent_by_rule, goes_to_end}
 use Rattle.network_steps.proofs.Standing.{own_end, peer_there, some_at}
-use Rattle.node_goals.specs.GoalByIface.{goal_at}
-use Rattle.node_goals.proofs.PreviousHops.{ends_there, same_by_addr}
+use Rattle.sound_resvs.specs.NodeGoals.GoalByIface.{goal_at}
+use Rattle.sound_resvs.proofs.NodeGoals.PreviousHops.{ends_there, same_by_addr}
 use Rattle.taken_resvs.proofs.Accepting.{IsReady, IsSettledSoFar, can_be_taken, ready_hold}
 use Rattle.router_rules.specs.Steps.{node_step}
 

@@ -10,7 +10,7 @@ use Rattle.router_rules.specs.Inputs.{Spelt, Stale, StaleWall}
 use Rattle.network_model.specs.ThreeRouters.{r1, s1, scope, usual}
 use Rattle.router_rules.specs.Rule.{facts_with}
 use Rattle.router_rules.specs.Steps.{IsFitStale}
-use Rattle.router_resvs.specs.Examples.{blockaded, wall_key}
+use Rattle.sound_resvs.specs.RouterResvs.Examples.{blockaded, wall_key}
 use Rattle.tree_model.specs.Trees.{trees_of}
 use Rattle.network_model.specs.Bounds.{AreBounds}
 use Rattle.network_model.specs.Runs.{first_facts}

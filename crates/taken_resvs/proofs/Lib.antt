@@ -2,6 +2,9 @@ pub mod Accepting
 pub mod Errors
 pub mod Blockades
 pub mod Example
-pub use Rattle.node_goals.proofs.WantStyles
-pub use Rattle.router_resvs.proofs.Admitting
-pub use Rattle.router_resvs.proofs.Hopward
+pub use Rattle.sound_resvs.proofs.NodeGoals.WantStyles
+pub use Rattle.sound_resvs.proofs.RouterResvs.Admitting
+pub use Rattle.sound_resvs.proofs.RouterResvs.Hopward
+pub use Rattle.sound_resvs.proofs.SettlePaths
+pub use Rattle.sound_resvs.proofs as SoundResvs
+pub use Rattle.sound_resvs.proofs.NodeGoals

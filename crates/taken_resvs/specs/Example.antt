@@ -9,7 +9,7 @@ use Rattle.calm_rounds.specs.Hold.{Hold}
 use Rattle.calm_rounds.specs.Rounds.{Rounds}
 use Rattle.router_rules.specs.Inputs.{Spelt, StaleWall}
 use Rattle.network_model.specs.ThreeRouters.{error, r1, s1, scope, session, usual, wild}
-use Rattle.router_resvs.specs.Examples.{blockaded, wall_key}
+use Rattle.sound_resvs.specs.RouterResvs.Examples.{blockaded, wall_key}
 use Rattle.network_model.specs.Bounds.{AreBounds}
 use Rattle.network_model.specs.Runs.{Plan, first_facts, first_world}
 use Rattle.network_model.specs.Sound.{HasNoFlowError, IsFreeOfBlockade, TakesAll}

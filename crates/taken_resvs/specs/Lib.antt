@@ -1,3 +1,6 @@
 pub mod Example
-pub use Rattle.node_goals.specs.GoalByIface
-pub use Rattle.router_resvs.specs.AcceptingLaws
+pub use Rattle.sound_resvs.specs.NodeGoals.GoalByIface
+pub use Rattle.sound_resvs.specs.RouterResvs.AcceptingLaws
+pub use Rattle.sound_resvs.specs.SettlePaths
+pub use Rattle.sound_resvs.specs as SoundResvs
+pub use Rattle.sound_resvs.specs.NodeGoals

@@ -4,3 +4,4 @@ pub mod Ordered
 pub mod Senders
 pub mod Laned
 pub mod Waits
+pub use Rattle.node_sends.proofs.NodeFacts

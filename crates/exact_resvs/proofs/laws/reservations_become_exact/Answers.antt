@@ -1,4 +1,4 @@
-use Rattle.settle_paths.proofs.Keeping.{calm_rounds_keep_bounds}
+use Rattle.taken_resvs.proofs.SettlePaths.Keeping.{calm_rounds_keep_bounds}
 use Rattle.exact_resvs.proofs.ExactResvs.{reservations_become_exact}
 use Rattle.exact_resvs.proofs.laws.reservations_become_exact.Goals as goal
 

@@ -8,7 +8,7 @@ use Rattle.rsvp_base.specs.declared.session.Sender.{Sender}
 use Rattle.path_state.specs.Paths.{is_from}
 use Rattle.router_rules.specs.Known.{known, named_as}
 use Rattle.router_rules.specs.NodeConfig.{is_addr}
-use Rattle.node_facts.specs.State.{facts_of}
+use Rattle.node_telling.specs.NodeFacts.State.{facts_of}
 use Rattle.node_waiting.proofs.Names.{known_fixed, known_shared, known_wild}
 use Rattle.node_waiting.proofs.losing.has_name.Goals as goal
 

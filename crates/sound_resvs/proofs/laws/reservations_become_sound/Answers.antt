@@ -1,4 +1,4 @@
-use Rattle.network_steps.proofs.Keeping.{calm_rounds_keep_bounds}
+use Rattle.settle_resvs.proofs.NetworkSteps.Keeping.{calm_rounds_keep_bounds}
 use Rattle.sound_resvs.proofs.SoundUnits.{reservations_become_sound}
 use Rattle.sound_resvs.proofs.laws.reservations_become_sound.Goals as goal
 

@@ -2,7 +2,8 @@
 //! in flight behind its last line, in the words of `rsvpd show`. What is wanted is worked out by hand from the rules. Above a message
 //! that a script puts in flight stands what its bytes say.
 //!
-//! There is nothing here but tests: a crate that has tests is proved twice, and the crates of a router are not.
+//! There is nothing here but tests: a crate that has tests is proved twice, and the crates of a router are not. It is a program,
+//! which does nothing, and no library: of a library the kit reads all sources that it stands on twice more.
 #![tactic(auto)]
 
 #[cfg(test)]
@@ -15,3 +16,5 @@ mod paths;
 mod reservations;
 #[cfg(test)]
 mod runs;
+
+fn main(_rt: HostRuntime) {}

@@ -1,4 +1,7 @@
 //! Tests of the script checker: lines that are taken, and the first fault of one that is not.
+//!
+//! There is nothing here but tests. It is a program, which does nothing, and no library: of a library the kit reads all sources that
+//! it stands on twice more.
 #![tactic(auto)]
 
 #[cfg(test)]
@@ -11,3 +14,5 @@ mod hosts;
 mod left;
 #[cfg(test)]
 mod moving;
+
+fn main(_rt: HostRuntime) {}
