@@ -9,8 +9,6 @@ mod ending;
 pub mod laws;
 mod player;
 mod running;
-#[cfg(test)]
-mod tests;
 
 pub use ending::Ending;
 pub use player::{Player, Stop};

@@ -10,8 +10,6 @@ mod line;
 mod line_kinds;
 mod list;
 pub mod rows;
-#[cfg(test)]
-mod tests;
 
 pub use fault::Fault;
 pub use line::{

@@ -1,4 +1,4 @@
-//! Tests of the script checker: lines that are taken, and the first fault of one that is not.
+//! Tests of scripts: what each kind of line says, lines that are taken, the first fault of one that is not, and how runs end.
 //!
 //! There is nothing here but tests. It is a program, which does nothing, and no library: of a library the kit reads all sources that
 //! it stands on twice more.
@@ -8,6 +8,10 @@
 mod answers;
 #[cfg(test)]
 mod declared;
+#[cfg(test)]
+mod endings;
+#[cfg(test)]
+mod grammar;
 #[cfg(test)]
 mod hosts;
 #[cfg(test)]

@@ -1,5 +1,5 @@
 //! Lines of each kind, of its form and not.
-use crate::{Line, read_line};
+use script_grammar::{Line, read_line};
 use script_words::Unread;
 use std::test::*;
 

@@ -2,9 +2,9 @@
 ghost use Rattle.std.specs.Prelude.{◌≡◌, ◌<◌};
 ghost use Rattle.script_grammar.specs.Draft.{nothing};
 
-use crate::{Ending, Player, Stop, run_lines};
 use byte_streams::{MemorySink, MemorySource};
 use line_advice::{LinesBefore, put_advice};
+use network_run::{Ending, Player, Stop, run_lines};
 use rsvp_base::{Iface, NoMemory, Session, StyleKind};
 use script_grammar::{Fault, Line, read_line};
 use script_words::Unread;
