@@ -173,7 +173,7 @@ quiet = record {
   flight = λ x i. absurd i;
 }
 
--- ---- a Path with a sound tspec is proper
+-- ---- a Path with a sound tspec and no ADSPEC is proper
 abbrev sound_flow : TokenBucket → Bool
 sound_flow f = (nat_le 1 f.r && nat_le 1 f.b) && (nat_le 1 f.low && nat_le 1 f.most)
 
@@ -181,8 +181,12 @@ abbrev sound_sender : {X : Type 0} → Option (X × TokenBucket) → Bool
 sound_sender None = true
 sound_sender (Some x) = sound_flow x.1
 
+abbrev is_missing : {X : Type 0} → Option X → Bool
+is_missing None = true
+is_missing (Some x) = false
+
 abbrev proper_path : Message → Bool
-proper_path (message.Path m) = sound_sender m.sender
+proper_path (message.Path m) = sound_sender m.sender && is_missing m.adspec
 proper_path _ = false
 
 abbrev proper_arrival : Arrival → Bool
@@ -191,8 +195,12 @@ proper_arrival (Unspelt e) = true
 
 proper_ok : (a : Arrival) → proper_arrival a ≡ true → IsProperArrival a
 proper_ok (Unspelt e) t = tt
-proper_ok (Spelt (message.Path m)) t = by m.sender t
+proper_ok (Spelt (message.Path m)) t = let both = and_both _ _ t in (by m.sender both.0, missing m.adspec both.1)
   where
+    missing : {X : Type 0} {P : X → Type 0} → (o : Option X) → is_missing o ≡ true → WhereThere P o
+    missing None t = tt
+    missing (Some x) t = absurd (cc)
+
     by : (o : Option (Sender × TokenBucket)) → sound_sender o ≡ true → WhereThere (λ (e : Sender × TokenBucket). IsSound e.1) o
     by None t = tt
     by (Some x) t =

@@ -73,7 +73,7 @@ lives_on b c life dies later l h = let soon = l.soon in record { later = h; soon
 pub path_fits : (p : NodeConfig) (i : Input) (k : SenderKey) (by : CameOnTree p i k) → IsFit p i → (by.at < length p.ifaces) × IsSound by.tspec
 path_fits p i k by fit =
     let came : IsFit p (Came by.at k.0.group (Spelt (message.Path by.path))) = subst (IsFit p) by.came fit in
-    (came.0, subst (WhereThere (λ (e : Sender × TokenBucket). IsSound e.1)) by.sender came.1)
+    (came.0, subst (WhereThere (λ (e : Sender × TokenBucket). IsSound e.1)) by.sender came.1.0)
 
 -- the table of paths within its limits
 learnt_within : (t new : Paths) (s : Session) (b : Bool) → has_room_at senders new s ≡ b → (has_room_at senders new s ≡ true → IsWithinSessionLimits senders new) → IsWithinSessionLimits senders t → IsWithinSessionLimits senders (learnt b new t).0

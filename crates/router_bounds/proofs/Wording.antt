@@ -450,7 +450,7 @@ module _ (old p : NodeConfig) (b : ℕ) (i : Input) (f : Facts) (some : 1 ≤ p.
       (λ (q : IsLocalOffer (facts_then old p (clock_after b i) i f) r.key r.offer). within_then.shapes.senders (r.key.session, r.key.sender) r.offer.tspec q.there)
       (λ (q : IsPathOffer (facts_then old p (clock_after b i) i f) r.key r.offer). subst IsSound (sym q.tspec) (within_then.shapes.paths (r.key.session, r.key.sender) q.path q.there).tspec)
       (offer_source (facts_then old p (clock_after b i) i f) r.key r.offer at) in
-      subst IsProper (sym (ap (λ (z : Send). z.message) r.is)) sound
+      subst IsProper (sym (ap (λ (z : Send). z.message) r.is)) (sound, tt)
 
   resv_proper : (s : Send) → IsResv old p f after (act p (clock_after b i) i f) s → IsProper s.message
   resv_proper s r =
