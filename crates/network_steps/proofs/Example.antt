@@ -7,6 +7,8 @@ use Rattle.rsvp_base.specs.declared.addr.Addr.{Addr}
 use Rattle.rsvp_base.specs.Members.{In}
 use Rattle.rsvp_base.specs.declared.session.Sender.{Sender}
 use Rattle.rsvp_messages.specs.Proper.{WhereThere}
+use Rattle.rsvp_messages.specs.RsvpObjects.ObjectFields.AdspecLaws.{IsAdspec}
+use Rattle.rsvp_messages.specs.RsvpObjects.ObjectFields.declared.adspec.Adspec.{Adspec}
 use Rattle.rsvp_messages.specs.declared.message.Message.{Message}
 use Rattle.rsvp_messages.specs.declared.message.Message.TheVariants as message
 use Rattle.rsvp_base.specs.TokenBucket.{TokenBucket, IsSound}
@@ -197,7 +199,7 @@ proper_ok : (a : Arrival) → proper_arrival a ≡ true → IsProperArrival a
 proper_ok (Unspelt e) t = tt
 proper_ok (Spelt (message.Path m)) t = let both = and_both _ _ t in (by m.sender both.0, missing m.adspec both.1)
   where
-    missing : {X : Type 0} {P : X → Type 0} → (o : Option X) → is_missing o ≡ true → WhereThere P o
+    missing : (o : Option Adspec) → is_missing o ≡ true → WhereThere IsAdspec o
     missing None t = tt
     missing (Some x) t = absurd (cc)
 
