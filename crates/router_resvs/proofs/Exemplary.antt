@@ -43,7 +43,7 @@ sound : IsSound usual
 sound = record { rate = omega arith; depth = omega arith; low = omega arith; most = omega arith }
 
 path_fit : (port : ℕ) → IsFit r (path_in (of_port port))
-path_fit port = (omega arith, sound)
+path_fit port = (omega arith, (sound, tt))
 
 resv_fit : IsFit r resv_in
 resv_fit = (omega arith, record { scope_is = λ s e. port_0 s e; flow_is = sound })
