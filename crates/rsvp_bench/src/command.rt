@@ -1,7 +1,9 @@
 //! The command line.
+use crate::messages::Speech;
 use crate::pools::Living;
 use crate::tables::{Calls, Desk};
 use crate::trees::{Forest, Until};
+use crate::vectors::Vector;
 
 /// What is timed.
 #[derive(Clone, Copy, Debug, PartialEq, Eq)]
@@ -11,6 +13,7 @@ pub enum Verb {
     Grow(Forest),
     Serve(Desk),
     Wait(Living),
+    Speak(Speech),
 }
 
 /// What is timed, and how many times it is done.
@@ -52,6 +55,22 @@ fn verb_of(word: &str) -> Option<Verb> {
         "toward-shared" => Some(tables(true, Calls::Toward)),
         "wait-one" => Some(Verb::Wait(Living::One)),
         "wait-all" => Some(Verb::Wait(Living::All)),
+        "decode-path" => Some(reading(Vector::Path)),
+        "decode-path-adspec" => Some(reading(Vector::PathAdspec)),
+        "decode-resv" => Some(reading(Vector::Resv)),
+        "decode-path-err" => Some(reading(Vector::PathErr)),
+        "decode-resv-err" => Some(reading(Vector::ResvErr)),
+        "decode-path-tear" => Some(reading(Vector::PathTear)),
+        "decode-resv-tear" => Some(reading(Vector::ResvTear)),
+        "decode-resv-conf" => Some(reading(Vector::ResvConf)),
+        "encode-path" => Some(writing(Vector::Path)),
+        "encode-path-adspec" => Some(writing(Vector::PathAdspec)),
+        "encode-resv" => Some(writing(Vector::Resv)),
+        "encode-path-err" => Some(writing(Vector::PathErr)),
+        "encode-resv-err" => Some(writing(Vector::ResvErr)),
+        "encode-path-tear" => Some(writing(Vector::PathTear)),
+        "encode-resv-tear" => Some(writing(Vector::ResvTear)),
+        "encode-resv-conf" => Some(writing(Vector::ResvConf)),
         _ => None,
     }
 }
@@ -62,4 +81,18 @@ fn trees(is_apart: bool, until: Until) -> Verb {
 
 fn tables(is_shared: bool, calls: Calls) -> Verb {
     Verb::Serve(Desk { is_shared, calls })
+}
+
+fn reading(vector: Vector) -> Verb {
+    Verb::Speak(Speech {
+        vector,
+        is_written: false,
+    })
+}
+
+fn writing(vector: Vector) -> Verb {
+    Verb::Speak(Speech {
+        vector,
+        is_written: true,
+    })
 }

@@ -13,9 +13,14 @@
 //!
 //! `rsvp_bench wait-one N` lets time pass 4,000 times N times in a pool of 1,024 slots in which one value lives and none runs
 //! out, and `wait-all` where one lives in each slot. They print how many waits were made, and their milliseconds.
+//!
+//! `rsvp_bench decode-path N` reads a Path N times, and `rsvp_bench encode-path N` writes it N times; so do `-path-adspec` (a
+//! Path with an ADSPEC), `-resv`, `-path-err`, `-resv-err`, `-path-tear`, `-resv-tear` and `-resv-conf` with other messages. They
+//! print how many calls were made, and a sum over all that was read, or over lengths and checksums of what was written.
 #![tactic(auto)]
 
 mod command;
+mod messages;
 mod pools;
 mod reservations;
 mod sample;
@@ -23,9 +28,11 @@ mod tables;
 #[cfg(test)]
 mod tests;
 mod trees;
+mod vectors;
 mod work;
 
 use command::{Command, Verb, command_of};
+use messages::message_times;
 use pools::wait_times;
 use std::process::ExitCode;
 use std::{env, io};
@@ -39,6 +46,9 @@ const NO_MEMORY: u8 = 1;
 // The exit status of a faulty command line.
 const USAGE: u8 = 2;
 
+// The exit status where bytes that should be a message are none.
+const NO_MESSAGE: u8 = 3;
+
 fn main(rt: HostRuntime) -> io::Result<ExitCode> {
     let mut words = Vec::new(rt.alloc());
     for word in env::args(&rt)?.skip(1) {
@@ -46,7 +56,7 @@ fn main(rt: HostRuntime) -> io::Result<ExitCode> {
     }
     let Some(command) = command_of(&words) else {
         eprintln!(rt;
-            "usage: rsvp_bench read|write|(grow|close|ask|owe)[-apart]|(fill|put|parts|toward)[-shared]|wait-one|wait-all N"
+            "usage: rsvp_bench read|write|(grow|close|ask|owe)[-apart]|(fill|put|parts|toward)[-shared]|wait-one|wait-all|(decode|encode)-(path|path-adspec|resv|path-err|resv-err|path-tear|resv-tear|resv-conf) N"
         )?;
         return Ok(ExitCode::from(USAGE));
     };
@@ -78,6 +88,13 @@ fn main(rt: HostRuntime) -> io::Result<ExitCode> {
             let Some(served) = wait_times(rt.alloc(), living, times) else {
                 eprintln!(rt; "out of memory")?;
                 return Ok(ExitCode::from(NO_MEMORY));
+            };
+            println!(rt; "calls {} sum {}", served.calls, served.sum)?;
+        }
+        Verb::Speak(speech) => {
+            let Some(served) = message_times(speech, times) else {
+                eprintln!(rt; "no message")?;
+                return Ok(ExitCode::from(NO_MESSAGE));
             };
             println!(rt; "calls {} sum {}", served.calls, served.sum)?;
         }
