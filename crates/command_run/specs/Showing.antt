@@ -13,7 +13,7 @@ use Rattle.command_run.specs.Statuses.{status_of}
 use Rattle.command_run.specs.declared.status.Status.{Status}
 use Rattle.command_run.specs.declared.status.Status.TheVariants.{Done, BadLine, TooLong}
 
--- the same reason, of a line of a script
+-- the same reason, of a line of a script; a line of digits reserves nothing, and so is never over what an interface has
 abbrev pub fault_of : LineWhy → Fault
 fault_of Word = fault.Word
 fault_of Late = fault.Late
@@ -21,7 +21,7 @@ fault_of Range = fault.Range
 fault_of Name = fault.Name
 fault_of Twice = fault.Twice
 fault_of Limit = fault.Limit
-fault_of Over = fault.Over
+fault_of Over = fault.Limit
 
 -- the line of this number is the first whose digits are bad, and this is its fault
 pub record IsFirstBad (bytes : List ℕ) (number : ℕ) (why : Fault) : Type 0 where

@@ -17,7 +17,7 @@ fault_text Twice = codes "twice"
 fault_text Style = codes "style"
 fault_text Limit = codes "limit"
 fault_text NotTree = codes "nottree"
-fault_text Over = codes "over"
+fault_text (Over much) = codes "over"
 fault_text (Loop group from to) = codes "loop in " ++ addr_text group ++ codes " through " ++ from ++ codes ">" ++ to
 
 abbrev pub status_text : Status → List ℕ

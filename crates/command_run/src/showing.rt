@@ -98,7 +98,8 @@ fn fault_of(why: LineWhy) -> Fault
         LineWhy::Name => Fault::Name,
         LineWhy::Twice => Fault::Twice,
         LineWhy::Limit => Fault::Limit,
-        LineWhy::Over => Fault::Over,
+        // A line of digits reserves nothing.
+        LineWhy::Over => Fault::Limit,
     }
 }
 

@@ -46,7 +46,7 @@ impl<'a> fmt::Display for Reason<'a> {
             Fault::Style => write!(f, "style"),
             Fault::Limit => write!(f, "limit"),
             Fault::NotTree => write!(f, "nottree"),
-            Fault::Over => write!(f, "over"),
+            Fault::Over(_) => write!(f, "over"),
             Fault::Loop { group, from, to } => {
                 let group = Dotted(*group);
                 let from = Named(from);

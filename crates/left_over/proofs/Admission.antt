@@ -1,6 +1,7 @@
 -- A fact that is to be left over: what the tests of a table say of the limits and of admission.
 use Rattle.std.specs.Prelude.{◌≡◌, ℕ, ◌+◌, ◌-◌, List, ◌≤◌, ◌<◌, nat_lt, Bool, true, false, cond, is_some, not, Option, None, Some, slice_get, option_and_then, refl}
 use Rattle.std.specs.Option.{option_map}
+use Rattle.std.specs.Ordering.{eq_by_cmp}
 use Rattle.std.proofs.Common.{sym, ap, subst, ◌∙◌, arith}
 use Rattle.std.proofs.lemmas.Bool.{false≢true}
 use Rattle.std.proofs.lemmas.Bool.Decides.{nat_tests}
@@ -19,8 +20,11 @@ use Rattle.rsvp_base.proofs.Changed.{changed_put, has_changed}
 use Rattle.rsvp_base.proofs.SessionRoom.{put_room}
 use Rattle.rsvp_base.proofs.Sizes.{size_same}
 use Rattle.rsvp_base.proofs.Sums.{number_of, sum-without}
+use Rattle.rsvp_base.proofs.Counts.{sum_below}
+use Rattle.rsvp_base.proofs.Tables.{get-without, tied_self}
 use Rattle.style_rules.specs.Limits.{IsWithinLimits}
 use Rattle.style_rules.specs.Lines.{BookTable, LineKey, held}
+use Rattle.style_rules.specs.PartLaws.{charge_below}
 use Rattle.style_rules.specs.Parts.{part_charge}
 use Rattle.style_rules.specs.Targets.{wall_keys}
 use Rattle.style_rules.specs.declared.target.Target.{Target}
@@ -39,12 +43,15 @@ use Rattle.router_rules.specs.Facts.{Facts, PathState, Paths, ResvState, ResvTab
 use Rattle.router_rules.specs.Inputs.{StaleResv}
 use Rattle.router_rules.specs.NodeConfig.{NodeConfig}
 use Rattle.router_rules.specs.declared.answers.StaleErr.TheVariants as stale
-use Rattle.router_bounds.proofs.Putting.{put_booked, put_limits}
+use Rattle.router_bounds.proofs.Putting.{other_entries, put_booked, put_limits}
 use Rattle.resv_book.proofs.Leaving.{table_put}
 use Rattle.left_over.specs.Kept.{stale_of}
-use Rattle.left_over.specs.Standing.{Stands}
+use Rattle.left_over.specs.Standing.{Stands, excess_of}
 use Rattle.left_over.specs.Tables.{learnt, paths_of, walls_of}
 use Rattle.left_over.specs.declared.fact.Left.TheVariants as left_as
+use Rattle.script_grammar.specs.Excesses.{excess_on}
+use Rattle.script_grammar.specs.declared.fault.Excess.{Excess}
+use Rattle.script_grammar.specs.declared.fault.Excess.TheVariants as excess
 
 pub zero_more : (n : ℕ) → 0 + n ≡ n
 zero_more n = omega arith
@@ -197,6 +204,75 @@ module _ (p : NodeConfig) (st : StyleKind) (k : LineKey) (x : ResvState) (f : Fa
     limits_with limits (over_has_room (fits st (put_in (resvs_of st f) k x)) (refused p k.1.0.0 (entry_of st k) (book with_it k.1.0.0)) why),
     λ booked. over_is_refused (fits st (put_in (resvs_of st f) k x)) (refused p k.1.0.0 (entry_of st k) (book with_it k.1.0.0)) (not_refused p with_it k.1.0.0 (entry_of st k) booked) why,
   )
+
+-- ---- what is refused is what the interface has too little of
+same_why : (v w : Refused) → Some v ≡ Some w → v ≡ w
+same_why v w e = cc
+
+-- of an entry with this size and rate, where the others hold so much and all together so much
+module _ (on : Iface) (others all size rate : ℕ) (sums : all ≡ others + rate) (less : others ≤ on.capacity) where
+  abbrev refusal_by : Bool → Bool → Option Refused
+  refusal_by large fast = cond large (Some (Mtu size on.mtu)) (cond fast (Some (Rate rate (on.capacity - others))) None)
+
+  abbrev excess_by : Bool → Bool → Option Excess
+  excess_by large much = cond large (Some (excess.Packet size on.mtu)) (cond much (Some (excess.Rate all on.capacity)) None)
+
+  as_fast : nat_lt (on.capacity - others) rate ≡ nat_lt on.capacity all
+  as_fast = grind (arith, nat_tests, sums, less)
+
+  sum_is : on.capacity - (on.capacity - others) + rate ≡ all
+  sum_is = omega (arith, sums, less)
+
+  excess_is : (large fast : Bool) (why : Refused) → refusal_by large fast ≡ Some why → excess_by large fast ≡ Some (excess_of on why)
+  excess_is true fast why e = ap (λ (v : Refused). Some (excess_of on v)) (same_why (Mtu size on.mtu) why e)
+  excess_is false true why e = ap (λ (n : ℕ). Some (excess.Rate n on.capacity)) (sym sum_is) ∙ ap (λ (v : Refused). Some (excess_of on v)) (same_why (Rate rate (on.capacity - others)) why e)
+  excess_is false false why e = absurd (cc)
+
+  pub entry_excess : (why : Refused) → refusal_by (nat_lt on.mtu size) (nat_lt (on.capacity - others) rate) ≡ Some why → excess_by (nat_lt on.mtu size) (nat_lt on.capacity all) ≡ Some (excess_of on why)
+  entry_excess why e = ap (excess_by (nat_lt on.mtu size)) (sym as_fast) ∙ excess_is (nat_lt on.mtu size) (nat_lt (on.capacity - others) rate) why e
+
+module _ (p : NodeConfig) (st : StyleKind) (k : LineKey) (x : ResvState) (f : Facts) where
+  abbrev more : Facts
+  more = with_left (StaleResv st k x) f
+
+  abbrev place : ℕ
+  place = k.1.0.0
+
+  abbrev own : EntryKey
+  own = entry_of st k
+
+  abbrev rest : ℕ
+  rest = held (without (book more place) own)
+
+  -- the other entries hold what they held
+  rest_held : rest ≤ held (book f place)
+  rest_held = sum_below entry_keys (λ e. part_charge e.1) (λ e. part_charge e.1) (without (book more place) own) (book f place) each_one
+    where
+      each_one : (q : EntryKey) (y : Part) → get (without (book more place) own) q ≡ Some y → (z : Part) × (get (book f place) q ≡ Some z) × (part_charge y ≤ part_charge z)
+      each_one q y e = by (eq_by_cmp entry_keys.cmp own q) refl (sym (get-without entry_keys (book more place) own q) ∙ e)
+        where
+          by : (b : Bool) → eq_by_cmp entry_keys.cmp own q ≡ b → cond (not b) (get (book more place) q) None ≡ Some y → (z : Part) × (get (book f place) q ≡ Some z) × (part_charge y ≤ part_charge z)
+          by true tie e = absurd (cc)
+          by false apart e =
+              let other : q ≡ own → ⊥ = λ same. let z : true ≡ false = sym (ap (eq_by_cmp entry_keys.cmp own) same ∙ tied_self entry_keys own) ∙ apart in cc in
+              let z = other_entries p st k x f (resvs_of st f) place q y other e in
+              (z.0, subst (λ (g : Facts). get (book g place) q ≡ Some z.0) (ap (λ (ts : ResvTables). record f { resvs = ts }) (table_back st f.resvs)) z.1, charge_below y z.0 z.2)
+
+  -- what the book refuses is the excess of the interface
+  module _ (on : Iface) (there : slice_get p.ifaces place ≡ Some on) (booked : AreBooked p f) (why : Refused) where
+    by_entry : (v : Option Part) → get (book more place) own ≡ v → refusal_beside on rest (option_map (λ (part : Part). part.flow) v) ≡ Some why → excess_on on (held (book more place)) v ≡ Some (excess_of on why)
+    by_entry None e told = absurd (cc)
+    by_entry (Some y) e told =
+        let sums : held (book more place) ≡ rest + y.flow.r = sum-without entry_keys (λ (z : EntryKey × Part). part_charge z.1) (book more place) own ∙ ap (λ v. rest + number_of (λ (z : EntryKey × Part). part_charge z.1) own v) e in
+        let before = rest_held in
+        let all = booked.capacity place on there in
+        let less : rest ≤ on.capacity = omega (arith, before, all) in
+        entry_excess on rest (held (book more place)) y.flow.most y.flow.r sums less why told
+
+    pub resv_excess : refused p place own (book more place) ≡ Some why → option_and_then (λ (i : Iface). excess_on i (held (book more place)) (get (book more place) own)) (slice_get p.ifaces place) ≡ Some (excess_of on why)
+    resv_excess told =
+        let here = sym (ap (λ (o : Option Iface). option_and_then (λ (i : Iface). refusal_beside i rest (option_map (λ (part : Part). part.flow) (get (book more place) own))) o) there) ∙ told in
+        ap (λ (o : Option Iface). option_and_then (λ (i : Iface). excess_on i (held (book more place)) (get (book more place) own)) o) there ∙ by_entry (get (book more place) own) refl here
 
 -- other facts ask an interface for nothing
 pub booked_alike : (p : NodeConfig) (f g : Facts) → f.resvs ≡ g.resvs → AreBooked p f → AreBooked p g

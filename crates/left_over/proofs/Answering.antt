@@ -1,5 +1,5 @@
 -- What a table answers to a fact is what the rules say of it.
-use Rattle.std.specs.Prelude.{◌≡◌, ℕ, ◌≤◌, ◌<◌, Bool, true, false, Some, List, [], Result, Ok, Err, IfErr, OnErr, OnOk, refl}
+use Rattle.std.specs.Prelude.{◌≡◌, ℕ, ◌≤◌, ◌<◌, Bool, true, false, Option, Some, None, List, [], Result, Ok, Err, IfErr, OnErr, OnOk, slice_get, refl}
 use Rattle.std.proofs.Common.{sym, ap, subst, ◌∙◌}
 use Rattle.rsvp_base.specs.Orders.{senders}
 use Rattle.rsvp_base.specs.SessionLimits.{has_room_at}
@@ -16,18 +16,21 @@ use Rattle.resv_state.specs.Resvs.{resv_key}
 use Rattle.resv_state.specs.declared.fact.ResvFact.{ResvFact}
 use Rattle.router_rules.specs.Bounds.{AreBooked, AreWithinLimits}
 use Rattle.router_rules.specs.Calls.{stale_refusal, with_left}
-use Rattle.router_rules.specs.Facts.{Facts, Paths, ResvState, ResvTables, Walls, table_of, with_table}
+use Rattle.router_rules.specs.Books.{book, refused}
+use Rattle.router_rules.specs.Facts.{Facts, Paths, ResvState, ResvTables, Walls, resvs_of, table_of, with_resvs, with_table}
 use Rattle.router_rules.specs.Inputs.{StaleResv}
-use Rattle.router_rules.specs.declared.answers.StaleErr.{StaleErr}
-use Rattle.router_rules.specs.declared.answers.StaleErr.TheVariants as stale
-use Rattle.resv_book.specs.Placing.{err_of, stands}
+use Rattle.admission_book.specs.declared.refused.Refused.{Refused}
+use Rattle.resv_book.specs.Placing.{chosen, entry_key_of, outcome, placed_in, stands}
+use Rattle.resv_book.specs.declared.placing.Placed.{Placed}
+use Rattle.resv_book.specs.declared.placing.Placed.TheVariants as placed
+use Rattle.resv_book.proofs.Stands.{as_stale, stale_is}
 use Rattle.left_over.specs.Kept.{stale_of}
 use Rattle.left_over.specs.Standing.{IsLeftOut, Stands, answer_of}
 use Rattle.left_over.specs.Tables.{AreAdmitted, learnt, only_resvs, paths_of, place_with, walls_of}
 use Rattle.left_over.specs.declared.fact.Left.TheVariants as left_as
 use Rattle.left_over.specs.declared.refused.LeftErr.{LeftErr}
 use Rattle.left_over.specs.declared.refused.LeftErr.TheVariants.{Full}
-use Rattle.left_over.proofs.Admission.{booked_alike, path_full, path_stands, resv_full, resv_over, resv_taken, wall_full, wall_stands, zero_more}
+use Rattle.left_over.proofs.Admission.{booked_alike, path_full, path_stands, resv_excess, resv_full, resv_over, resv_taken, wall_full, wall_stands, zero_more}
 
 pub dead_learnt : (r : Result (Unit {0}) LeftErr) (old new : PathMap) (fs : Table path_keys (PathFact × ℕ)) → OnOk r (new ≡ record old { facts = fs }) → OnErr r (new ≡ old) → new.dead.rows ≡ old.dead.rows
 dead_learnt (Ok u) old new fs ok err = ap (λ (m : PathMap). m.dead.rows) ok
@@ -78,7 +81,13 @@ module _ (p : Paths) (r : ResvTables) (t new : WallMap) (s : Session) (at : Targ
     limits = subst (λ (m : WallMap). AreWithinLimits (learnt p r (walls_of (Some m)))) (sym same) limits;
   }
 
--- a reservation
+-- ---- a reservation
+-- what the book refused
+outcome_why : (b : Bool) (w : Option Refused) (why : Refused) → outcome b w ≡ placed.Refused why → w ≡ Some why
+outcome_why true (Some w) why e = cc
+outcome_why true None why e = absurd (cc)
+outcome_why false w why e = absurd (cc)
+
 module _ (ifaces : List Iface) (p : Paths) (w : Walls) (ts new : ResvTables) (st : StyleKind) (fact : ResvFact) (left : ℕ) where
   abbrev x : ResvState
   x = record { part = fact.part; confirm = fact.confirm; dies = left }
@@ -95,16 +104,17 @@ module _ (ifaces : List Iface) (p : Paths) (w : Walls) (ts new : ResvTables) (st
     pub err : OnErr res (learnt p new w ≡ learnt p ts w)
     pub limits : AreWithinLimits (learnt p new w)
 
-  pub resv_answer : (r : Result (Unit {0}) StaleErr) → err_of r ≡ stale_refusal (place_with ifaces) (StaleResv st (resv_key st fact) (stands 0 fact left)) (only_resvs ts)
-      → OnOk r (new ≡ with_table st (put_in (table_of st ts) (resv_key st fact) (stands 0 fact left)) ts) → OnErr r (new ≡ ts) → AreWithinLimits before → AreAdmitted ifaces (only_resvs ts) → ResvAnswer (answer_of r)
-  resv_answer r cause ok err limits admitted = by r (cause ∙ ap (λ (z : ResvState). stale_refusal (place_with ifaces) (StaleResv st (resv_key st fact) z) before) it) ok err
+  pub resv_answer : (on : Iface) → slice_get ifaces fact.iface ≡ Some on → (r : Placed) → r ≡ placed_in (place_with ifaces) st 0 fact left (only_resvs ts)
+      → new ≡ chosen r (with_table st (put_in (table_of st ts) (resv_key st fact) (stands 0 fact left)) ts) ts → AreWithinLimits before → AreAdmitted ifaces (only_resvs ts) → ResvAnswer (answer_of on r)
+  resv_answer on there r cause tables limits admitted =
+      by r cause (ap as_stale cause ∙ stale_is (place_with ifaces) st 0 fact left before ∙ ap (λ (z : ResvState). stale_refusal (place_with ifaces) (StaleResv st (resv_key st fact) z) before) it) tables
     where
       booked : AreBooked (place_with ifaces) before
       booked = booked_alike (place_with ifaces) (only_resvs ts) before refl admitted
 
-      by : (q : Result (Unit {0}) StaleErr) → err_of q ≡ stale_refusal (place_with ifaces) (StaleResv st (resv_key st fact) x) before
-          → OnOk q (new ≡ with_table st (put_in (table_of st ts) (resv_key st fact) (stands 0 fact left)) ts) → OnErr q (new ≡ ts) → ResvAnswer (answer_of q)
-      by (Ok u) c is same =
+      by : (q : Placed) → q ≡ placed_in (place_with ifaces) st 0 fact left before → as_stale q ≡ stale_refusal (place_with ifaces) (StaleResv st (resv_key st fact) x) before
+          → new ≡ chosen q (with_table st (put_in (table_of st ts) (resv_key st fact) (stands 0 fact left)) ts) ts → ResvAnswer (answer_of on q)
+      by placed.Taken w c is =
           let t = resv_taken (place_with ifaces) st (resv_key st fact) x before (sym c) limits booked in
           let now : learnt p new w ≡ with_left (StaleResv st (resv_key st fact) x) before = ap (λ (z : ResvTables). learnt p z w) (is ∙ ap (λ (z : ResvState). with_table st (put_in (table_of st ts) (resv_key st fact) z) ts) it) in
           record {
@@ -113,15 +123,20 @@ module _ (ifaces : List Iface) (p : Paths) (w : Walls) (ts new : ResvTables) (st
             err = tt;
             limits = subst AreWithinLimits (sym now) t.0;
           }
-      by (Err stale.Full) c is same = record {
+      by placed.LeftOut w c same = record {
         ok = tt;
         refused = resv_full (place_with ifaces) st (resv_key st fact) x before (sym c);
         err = ap (λ (z : ResvTables). learnt p z w) same;
         limits = subst (λ (z : ResvTables). AreWithinLimits (learnt p z w)) (sym same) limits;
       }
-      by (Err stale.Over) c is same = record {
+      by (placed.Refused why) w c same =
+        let over = resv_over (place_with ifaces) st (resv_key st fact) x before (sym c) limits in
+        let told : refused (place_with ifaces) fact.iface (entry_key_of st fact) (book (with_left (StaleResv st (resv_key st fact) x) before) fact.iface) ≡ Some why =
+        ap (λ (z : ResvState). refused (place_with ifaces) fact.iface (entry_key_of st fact) (book (with_left (StaleResv st (resv_key st fact) z) before) fact.iface)) (sym it)
+        ∙ outcome_why _ (refused (place_with ifaces) fact.iface (entry_key_of st fact) (book (with_resvs st (put_in (resvs_of st before) (resv_key st fact) (stands 0 fact left)) before) fact.iface)) why (sym w) in
+        record {
         ok = tt;
-        refused = resv_over (place_with ifaces) st (resv_key st fact) x before (sym c) limits;
+        refused = (over.0, over.1, resv_excess (place_with ifaces) st (resv_key st fact) x before on there booked why told);
         err = ap (λ (z : ResvTables). learnt p z w) same;
         limits = subst (λ (z : ResvTables). AreWithinLimits (learnt p z w)) (sym same) limits;
       }

@@ -1,5 +1,5 @@
 -- A reservation stands in a table of one style: what becomes of all of them.
-use Rattle.std.specs.Prelude.{◌≡◌, ℕ, ◌≤◌, [], List, Result, Ok, Err, OnErr, OnOk, refl}
+use Rattle.std.specs.Prelude.{◌≡◌, ℕ, ◌≤◌, [], List, refl}
 use Rattle.std.proofs.Common.{sym, ap, subst, ◌∙◌}
 use Rattle.admission_book.specs.Book.{Entries}
 use Rattle.rsvp_base.specs.Table.{changed, put_in, size}
@@ -15,15 +15,14 @@ use Rattle.resv_state.specs.declared.fact.ResvFact.{ResvFact}
 use Rattle.resv_book.specs.NodeFacts.State.{resv_at}
 use Rattle.router_rules.specs.Books.{lines_of}
 use Rattle.router_rules.specs.Bounds.{AreWithinLimits}
-use Rattle.router_rules.specs.Calls.{stale_refusal}
 use Rattle.router_rules.specs.Facts.{Resvs, ResvTables, resvs_of, table_of, with_table}
-use Rattle.router_rules.specs.Inputs.{StaleResv}
-use Rattle.router_rules.specs.declared.answers.StaleErr.{StaleErr}
 use Rattle.router_rules.proofs.Bounding.{no_facts_are_within_bounds}
 use Rattle.left_over.proofs.Admission.{resv_taken}
 use Rattle.resv_book.specs.Kept.{IsBookOf}
-use Rattle.resv_book.specs.Placing.{IsBookAmong, err_of, stands}
-use Rattle.resv_book.proofs.Stands.{fits_is, size_is}
+use Rattle.resv_book.specs.Placing.{IsBookAmong, chosen, placed_in, stands}
+use Rattle.resv_book.specs.declared.placing.Placed.{Placed}
+use Rattle.resv_book.specs.declared.placing.Placed.TheVariants as placed
+use Rattle.resv_book.proofs.Stands.{as_stale, fits_is, size_is, stale_is}
 use Rattle.resv_book.proofs.Room.{within_few}
 use Rattle.left_over.specs.Tables.{AreAdmitted, only_resvs, place_with, tables_of}
 
@@ -51,43 +50,51 @@ among wild fixed shared es booked within = (
     few Shared = few_in Shared shared (within Shared)
 
 -- ---- one reservation stands, or does not
-pub on_ok : {E : Type 0} {A B : Type 0} (r : Result (Unit {0}) E) → (A → B) → OnOk r A → OnOk r B
-on_ok (Ok u) f a = f a
-on_ok (Err e) f a = tt
-
-pub on_err : {E : Type 0} {A B : Type 0} (r : Result (Unit {0}) E) → (A → B) → OnErr r A → OnErr r B
-on_err (Ok u) f a = tt
-on_err (Err e) f a = f a
-
-pub dead_same : (r : Result (Unit {0}) StaleErr) (old new : ResvMap) (fs : ResvFacts) → OnOk r (new ≡ record old { facts = fs }) → OnErr r (new ≡ old) → new.dead.rows ≡ old.dead.rows
-dead_same (Ok u) old new fs ok err = ap (λ (m : ResvMap). m.dead.rows) ok
-dead_same (Err e) old new fs ok err = ap (λ (m : ResvMap). m.dead.rows) err
+pub dead_same : (old new : ResvMap) (fs : ResvFacts) → new ≡ record old { facts = fs } → new.dead.rows ≡ old.dead.rows
+dead_same old new fs is = ap (λ (m : ResvMap). m.dead.rows) is
 
 -- without local senders, wants, paths and blockades
 limits_of : (ts : ResvTables) → AllWithin ts → AreWithinLimits (only_resvs ts)
 limits_of ts within = let none = (no_facts_are_within_bounds (place_with []) 0).limits in record { senders = none.senders; wants = none.wants; paths = none.paths; resvs = within; walls = none.walls }
 
-pub still : (st : StyleKind) (ts new : ResvTables) (fact : ResvFact) (left : ℕ) (ifaces : List Iface) (r : Result (Unit {0}) StaleErr)
-    → err_of r ≡ stale_refusal (place_with ifaces) (StaleResv st (resv_key st fact) (stands 0 fact left)) (only_resvs ts)
-    → OnOk r (new ≡ with_table st (put_in (table_of st ts) (resv_key st fact) (stands 0 fact left)) ts) → OnErr r (new ≡ ts) → AllWithin ts → AreAdmitted ifaces (only_resvs ts)
+pub still : (st : StyleKind) (ts new : ResvTables) (fact : ResvFact) (left : ℕ) (ifaces : List Iface) (r : Placed)
+    → r ≡ placed_in (place_with ifaces) st 0 fact left (only_resvs ts)
+    → new ≡ chosen r (with_table st (put_in (table_of st ts) (resv_key st fact) (stands 0 fact left)) ts) ts → AllWithin ts → AreAdmitted ifaces (only_resvs ts)
     → AllWithin new × AreAdmitted ifaces (only_resvs new)
-still st ts new fact left ifaces (Ok u) cause ok err within admitted =
-    let t = resv_taken (place_with ifaces) st (resv_key st fact) (stands 0 fact left) (only_resvs ts) (sym cause) (limits_of ts within) admitted in
-    subst (λ (z : ResvTables). AllWithin z × AreAdmitted ifaces (only_resvs z)) (sym ok) (t.0.resvs, t.1)
-still st ts new fact left ifaces (Err e) cause ok err within admitted = subst (λ (z : ResvTables). AllWithin z × AreAdmitted ifaces (only_resvs z)) (sym err) (within, admitted)
+still st ts new fact left ifaces placed.Taken cause is within admitted =
+    let open_to = sym (stale_is (place_with ifaces) st 0 fact left (only_resvs ts)) ∙ sym (ap as_stale cause) in
+    let t = resv_taken (place_with ifaces) st (resv_key st fact) (stands 0 fact left) (only_resvs ts) open_to (limits_of ts within) admitted in
+    subst (λ (z : ResvTables). AllWithin z × AreAdmitted ifaces (only_resvs z)) (sym is) (t.0.resvs, t.1)
+still st ts new fact left ifaces placed.LeftOut cause is within admitted = subst (λ (z : ResvTables). AllWithin z × AreAdmitted ifaces (only_resvs z)) (sym is) (within, admitted)
+still st ts new fact left ifaces (placed.Refused why) cause is within admitted = subst (λ (z : ResvTables). AllWithin z × AreAdmitted ifaces (only_resvs z)) (sym is) (within, admitted)
 
 module _ (wild fixed shared : ResvFacts) (fact : ResvFact) (left : ℕ) where
   abbrev ts : ResvTables
   ts = tables_of wild fixed shared
 
-  abbrev pub stood : StyleKind → ResvTables
+  abbrev stood : StyleKind → ResvTables
   stood st = with_table st (put_in (table_of st ts) (resv_key st fact) (stands 0 fact left)) ts
 
-  pub wild_stood : tables_of (put_in wild (resv_key Wild fact) (fact, left)) fixed shared ≡ stood Wild
+  wild_stood : tables_of (put_in wild (resv_key Wild fact) (fact, left)) fixed shared ≡ stood Wild
   wild_stood = ap (λ (w : Resvs). record ts { wild = w }) (changed_put line_keys (resv_at 0) wild (resv_key Wild fact) (fact, left) (stands 0 fact left) refl)
 
-  pub fixed_stood : tables_of wild (put_in fixed (resv_key Fixed fact) (fact, left)) shared ≡ stood Fixed
+  fixed_stood : tables_of wild (put_in fixed (resv_key Fixed fact) (fact, left)) shared ≡ stood Fixed
   fixed_stood = ap (λ (w : Resvs). record ts { fixed = w }) (changed_put line_keys (resv_at 0) fixed (resv_key Fixed fact) (fact, left) (stands 0 fact left) refl)
 
-  pub shared_stood : tables_of wild fixed (put_in shared (resv_key Shared fact) (fact, left)) ≡ stood Shared
+  shared_stood : tables_of wild fixed (put_in shared (resv_key Shared fact) (fact, left)) ≡ stood Shared
   shared_stood = ap (λ (w : Resvs). record ts { shared = w }) (changed_put line_keys (resv_at 0) shared (resv_key Shared fact) (fact, left) (stands 0 fact left) refl)
+
+  pub wild_placed : (r : Placed) → tables_of (chosen r (put_in wild (resv_key Wild fact) (fact, left)) wild) fixed shared ≡ chosen r (stood Wild) ts
+  wild_placed placed.Taken = wild_stood
+  wild_placed placed.LeftOut = refl
+  wild_placed (placed.Refused why) = refl
+
+  pub fixed_placed : (r : Placed) → tables_of wild (chosen r (put_in fixed (resv_key Fixed fact) (fact, left)) fixed) shared ≡ chosen r (stood Fixed) ts
+  fixed_placed placed.Taken = fixed_stood
+  fixed_placed placed.LeftOut = refl
+  fixed_placed (placed.Refused why) = refl
+
+  pub shared_placed : (r : Placed) → tables_of wild fixed (chosen r (put_in shared (resv_key Shared fact) (fact, left)) shared) ≡ chosen r (stood Shared) ts
+  shared_placed placed.Taken = shared_stood
+  shared_placed placed.LeftOut = refl
+  shared_placed (placed.Refused why) = refl

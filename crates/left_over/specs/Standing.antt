@@ -1,13 +1,18 @@
 -- What becomes of a fact that is to be left over at a node.
-use Rattle.std.specs.Prelude.{◌≡◌, ◌<◌, List, Result, Ok, Err, length}
+use Rattle.std.specs.Prelude.{◌≡◌, ◌<◌, ◌+◌, ◌-◌, List, Result, Ok, Err, Some, length}
+use Rattle.admission_book.specs.declared.refused.Refused.{Refused}
+use Rattle.admission_book.specs.declared.refused.Refused.TheVariants as refused
 use Rattle.rsvp_base.specs.declared.iface.Iface.{Iface}
 use Rattle.style_rules.specs.Parts.{IsOfStyle}
 use Rattle.router_rules.specs.Bounds.{AreWithinLimits}
 use Rattle.router_rules.specs.Calls.{with_left}
 use Rattle.router_rules.specs.Facts.{Facts}
 use Rattle.router_rules.specs.Inputs.{Stale, StalePath, StaleResv, StaleWall}
-use Rattle.router_rules.specs.declared.answers.StaleErr.{StaleErr}
-use Rattle.router_rules.specs.declared.answers.StaleErr.TheVariants as stale
+use Rattle.resv_book.specs.declared.placing.Placed.{Placed}
+use Rattle.resv_book.specs.declared.placing.Placed.TheVariants as placed
+use Rattle.script_grammar.specs.Excesses.{excess_at}
+use Rattle.script_grammar.specs.declared.fault.Excess.{Excess}
+use Rattle.script_grammar.specs.declared.fault.Excess.TheVariants as excess
 use Rattle.left_over.specs.Tables.{AreAdmitted}
 use Rattle.left_over.specs.declared.fact.Left.{Left}
 use Rattle.left_over.specs.declared.fact.Left.TheVariants as left
@@ -32,14 +37,19 @@ pub record Stands (ifaces : List Iface) (s : Stale) (old new : Facts) : Type 0 w
   pub limits : AreWithinLimits new
   pub admitted : IsAdmittedIn ifaces s new
 
--- why it does not
+-- why it does not, and what the interface has too little of
 abbrev pub IsLeftOut : List Iface → Stale → Facts → LeftErr → Type 0
 IsLeftOut ifaces s f Full = AreWithinLimits (with_left s f) → ⊥
-IsLeftOut ifaces s f Over = AreWithinLimits (with_left s f) × (IsAdmittedIn ifaces s (with_left s f) → ⊥)
+IsLeftOut ifaces s f (Over much) = AreWithinLimits (with_left s f) × (IsAdmittedIn ifaces s (with_left s f) → ⊥) × (excess_at ifaces s (with_left s f) ≡ Some much)
 IsLeftOut ifaces s f NoMemory = Unit {0}
 
--- the answer of tables, as that of what is left over
-abbrev pub answer_of : Result (Unit {0}) StaleErr → Result (Unit {0}) LeftErr
-answer_of (Ok u) = Ok u
-answer_of (Err stale.Full) = Err Full
-answer_of (Err stale.Over) = Err Over
+-- what the book of an interface refuses, with the sum of the rates: what the other entries hold of the capacity, and what is wanted
+abbrev pub excess_of : Iface → Refused → Excess
+excess_of on (refused.Mtu most mtu) = excess.Packet most mtu
+excess_of on (refused.Rate want free) = excess.Rate (on.capacity - free + want) on.capacity
+
+-- what became of a reservation on this interface, as the answer of what is left over
+abbrev pub answer_of : Iface → Placed → Result (Unit {0}) LeftErr
+answer_of on placed.Taken = Ok tt
+answer_of on placed.LeftOut = Err Full
+answer_of on (placed.Refused why) = Err (Over (excess_of on why))

@@ -4,7 +4,7 @@ ghost use Rattle.rsvp_base.specs.declared.iface.Iface.{Iface as IfaceOf};
 ghost use Rattle.style_rules.specs.Parts.{IsOfStyle};
 ghost use Rattle.left_over.specs.AtNodes.{ifaces_at_node};
 ghost use Rattle.left_over.specs.Kept.{facts_of, ifaces_of, stale_of};
-ghost use Rattle.left_over.specs.Standing.{IsLeftOut, Stands, answer_of};
+ghost use Rattle.left_over.specs.Standing.{IsLeftOut, Stands, answer_of, excess_of};
 ghost use Rattle.left_over.specs.declared.refused.LeftErr.TheVariants.{Full, NoMemory};
 ghost use Rattle.rsvp_base.specs.Table.{put_in, size};
 ghost use Rattle.rsvp_base.specs.Orders.{senders};
@@ -16,11 +16,13 @@ use crate::fact::Left;
 use crate::ifaces::ifaces_of;
 use crate::refused::LeftErr;
 use crate::resvs::ResvsLeft;
+use admission_book::Refused;
 use blockade_state::Blockades;
 use path_state::{PathFact, PathTable};
+use resv_book::Placed;
 use resv_state::ResvFact;
-use router_rules::StaleErr;
-use rsvp_base::{Session, StyleKind};
+use rsvp_base::{Iface, Session, StyleKind};
+use script_grammar::Excess;
 use std::alloc::Global;
 use style_rules::{Target, Wall};
 use tree_model::End;
@@ -71,11 +73,15 @@ impl AtNode {
         ensures err_ifaces { OnErr result (ifaces_of self.new ≡ ifaces_of self.old) }
     {
         match &mut self.resvs {
-            Some(resvs) => answer(resvs.stand(style, fact, left)),
+            Some(resvs) => {
+                let on = resvs.iface(fact.iface);
+                answer(&on, resvs.stand(style, fact, left))
+            }
             None => {
                 let ifaces = ifaces_of(alloc, ends, node)?;
                 let mut resvs = ResvsLeft::open(alloc, &ifaces)?;
-                answer(resvs.stand(style, fact, left))?;
+                let on = resvs.iface(fact.iface);
+                answer(&on, resvs.stand(style, fact, left))?;
                 self.resvs = Some(resvs);
                 Ok(())
             }
@@ -146,13 +152,29 @@ fn set(
     }
 }
 
-// The answer of tables, as that of what is left over.
-fn answer(said: Result<(), StaleErr>) -> Result<(), LeftErr>
-    ensures { result ≡ answer_of said }
+// What became of a reservation on this interface, as the answer of what is left over.
+fn answer(on: &Iface, placed: Placed) -> Result<(), LeftErr>
+    ensures { result ≡ answer_of on.now placed }
 {
-    match said {
-        Ok(()) => Ok(()),
-        Err(StaleErr::Full) => Err(LeftErr::Full),
-        Err(StaleErr::Over) => Err(LeftErr::Over),
+    match placed {
+        Placed::Taken => Ok(()),
+        Placed::LeftOut => Err(LeftErr::Full),
+        Placed::Refused(why) => Err(LeftErr::Over(excess_of(on, why))),
+    }
+}
+
+// What the book of an interface refuses, with the sum of the rates.
+fn excess_of(on: &Iface, why: Refused) -> Excess
+    ensures { result ≡ excess_of on.now why }
+{
+    match why {
+        Refused::Mtu { most, mtu } => Excess::Packet { most, mtu },
+        Refused::Rate { want, free } => {
+            let others = on.capacity.saturating_sub(free);
+            Excess::Rate {
+                sum: u128::from(others) + u128::from(want),
+                capacity: on.capacity,
+            }
+        }
     }
 }

@@ -3,6 +3,7 @@ ghost use Rattle.std.specs.Prelude.{◌≡◌};
 ghost use Rattle.left_over.specs.declared.refused.LeftErr.TheVariants.{NoMemory};
 
 use rsvp_base::NoMemory as OutOfMemory;
+use script_grammar::Excess;
 use std::alloc::{AllocError, AllocFailed};
 
 /// Why a left-over fact is not kept.
@@ -11,7 +12,7 @@ pub enum LeftErr {
     /// The tables of the node would not be within their limits.
     Full,
     /// This is not so, and merged with the others of its interface the reservation passes its capacity or its MTU.
-    Over,
+    Over(Excess),
     /// Memory ran out.
     NoMemory,
 }

@@ -1,22 +1,19 @@
 //! The reservations that are left over at a node, and the book of its interfaces.
-ghost use Rattle.std.specs.Prelude.{◌≡◌, ◌≤◌, ◌<◌, [], ℕ, length, OnOk, OnErr, IfOk};
+ghost use Rattle.std.specs.Prelude.{◌≡◌, ◌≤◌, ◌<◌, [], ℕ, length, slice_get, IfOk, Some};
 ghost use Rattle.rsvp_base.specs.Table.{has, put_in};
 ghost use Rattle.resv_state.specs.Resvs.{resv_key};
 ghost use Rattle.style_rules.specs.Limits.{IsWithinLimits};
 ghost use Rattle.style_rules.specs.Parts.{IsOfStyle};
 ghost use Rattle.router_rules.specs.Books.{lines_of};
-ghost use Rattle.router_rules.specs.Calls.{stale_refusal};
 ghost use Rattle.router_rules.specs.Facts.{no_resvs, table_of, with_table};
-ghost use Rattle.router_rules.specs.Inputs.{StaleResv};
 ghost use Rattle.resv_book.specs.Kept.{IsBookOf};
-ghost use Rattle.resv_book.specs.Placing.{err_of, stands};
+ghost use Rattle.resv_book.specs.Placing.{chosen, placed_in, stands};
 ghost use Rattle.left_over.specs.Tables.{AreAdmitted, only_resvs, place_with, tables_of};
 ghost use Rattle.rsvp_base.specs.declared.style.StyleKind.{StyleKind as Kind};
 
 use admission_book::Book;
-use resv_book::stand;
+use resv_book::{Placed, place};
 use resv_state::{ResvFact, ResvTable};
-use router_rules::StaleErr;
 use rsvp_base::{Addr, Iface, NoMemory, Session, StyleKind, Unit};
 use std::alloc::Global;
 use style_rules::{Fixed, Shared, Wild};
@@ -68,28 +65,30 @@ impl ResvsLeft {
         }
     }
 
+    /// The interface of this number.
+    pub(crate) fn iface(&self, number: u8) -> Iface
+        requires { number < length self.now.book.ifaces }
+        ensures { slice_get self.now.book.ifaces number ≡ Some result }
+    {
+        self.book.ifaces()[number as usize]
+    }
+
     /// A reservation stands, with this much left, in milliseconds.
     ///
-    /// `Full`: its table would not be within its limits. `Over`: this is not so, and the book refuses its entry. Nothing
+    /// `LeftOut`: its table would not be within its limits. `Refused`: this is not so, and the book refuses its entry. Nothing
     /// changes after either.
-    pub(crate) fn stand(
-        &mut self,
-        style: StyleKind,
-        fact: ResvFact,
-        left: u32,
-    ) -> Result<(), StaleErr>
+    pub(crate) fn stand(&mut self, style: StyleKind, fact: ResvFact, left: u32) -> Placed
         requires style { IsOfStyle style fact.part }
         requires some { 1 ≤ left }
         requires exists { fact.iface < length self.old.book.ifaces }
-        ensures cause { err_of result ≡ stale_refusal (place_with self.old.book.ifaces) (StaleResv style (resv_key style fact) (stands 0 fact left)) (only_resvs (tables_of self.old.wild.facts self.old.fixed.facts self.old.shared.facts)) }
-        ensures ok { OnOk result (tables_of self.new.wild.facts self.new.fixed.facts self.new.shared.facts ≡ with_table style (put_in (table_of style (tables_of self.old.wild.facts self.old.fixed.facts self.old.shared.facts)) (resv_key style fact) (stands 0 fact left)) (tables_of self.old.wild.facts self.old.fixed.facts self.old.shared.facts)) }
+        ensures cause { result ≡ placed_in (place_with self.old.book.ifaces) style 0 fact left (only_resvs (tables_of self.old.wild.facts self.old.fixed.facts self.old.shared.facts)) }
+        ensures tables { tables_of self.new.wild.facts self.new.fixed.facts self.new.shared.facts ≡ chosen result (with_table style (put_in (table_of style (tables_of self.old.wild.facts self.old.fixed.facts self.old.shared.facts)) (resv_key style fact) (stands 0 fact left)) (tables_of self.old.wild.facts self.old.fixed.facts self.old.shared.facts)) (tables_of self.old.wild.facts self.old.fixed.facts self.old.shared.facts) }
         ensures ifaces { self.new.book.ifaces ≡ self.old.book.ifaces }
-        ensures err { OnErr result (tables_of self.new.wild.facts self.new.fixed.facts self.new.shared.facts ≡ tables_of self.old.wild.facts self.old.fixed.facts self.old.shared.facts) }
     {
         match style {
-            StyleKind::Wild => stand(&mut self.wild, &mut self.book, fact, left),
-            StyleKind::Fixed => stand(&mut self.fixed, &mut self.book, fact, left),
-            StyleKind::Shared => stand(&mut self.shared, &mut self.book, fact, left),
+            StyleKind::Wild => place(&mut self.wild, &mut self.book, fact, left),
+            StyleKind::Fixed => place(&mut self.fixed, &mut self.book, fact, left),
+            StyleKind::Shared => place(&mut self.shared, &mut self.book, fact, left),
         }
     }
 }

@@ -1,10 +1,11 @@
 -- A fact that is to be left over: what its node answers, as the rules of the grammar.
-use Rattle.std.specs.Prelude.{◌≡◌, ℕ, ◌++◌, ◌∷◌, [], List, Result, Ok, Err, OnErr, OnOk}
+use Rattle.std.specs.Prelude.{◌≡◌, ℕ, ◌++◌, ◌∷◌, [], List, Result, Ok, Err, OnErr, OnOk, Some}
 use Rattle.std.specs.List.{All}
 use Rattle.std.proofs.lemmas.List.Elements.{All-append, All-cons, All-nil}
 use Rattle.std.proofs.Common.{sym, subst}
 use Rattle.rsvp_base.specs.declared.session.Session.{Session}
 use Rattle.router_rules.specs.Bounds.{AreWithinLimits}
+use Rattle.router_rules.specs.Facts.{Facts}
 use Rattle.router_rules.specs.Inputs.{Stale}
 use Rattle.left_over.specs.AtNodes.{ifaces_at_node}
 use Rattle.left_over.specs.Standing.{IsAdmittedIn, IsLeftOut, Stands}
@@ -12,6 +13,8 @@ use Rattle.left_over.specs.declared.refused.LeftErr.TheVariants as left_err
 use Rattle.left_over.proofs.Listing.{facts_more}
 use Rattle.script_grammar.specs.Draft.{Draft}
 use Rattle.script_grammar.specs.Rules.{HasRoomForSession, facts_at}
+use Rattle.script_grammar.specs.Excesses.{excess_at}
+use Rattle.script_grammar.specs.declared.fault.Excess.{Excess}
 use Rattle.script_grammar.specs.declared.fault.Fault.TheVariants as fault
 use Rattle.script_player.specs.declared.checks.Refused.TheVariants.{Fault}
 use Rattle.left_rules.specs.LeftRefusals.{IsLeft, IsNotLeft}
@@ -27,11 +30,12 @@ module _ (d : Draft) (node : ℕ) (s : Session) (f : Stale) (room : HasRoomForSe
   pub is_full : IsLeftOut (ifaces_at_node d.net.ends node) f (facts_at d.stale node) left_err.Full → IsNotLeft d node s f (Fault fault.Limit)
   is_full out both = out (subst AreWithinLimits (facts_more d.stale node f) both.1)
 
-  pub is_over : IsLeftOut (ifaces_at_node d.net.ends node) f (facts_at d.stale node) left_err.Over → IsNotLeft d node s f (Fault fault.Over)
-  is_over out = (
+  pub is_over : (much : Excess) → IsLeftOut (ifaces_at_node d.net.ends node) f (facts_at d.stale node) (left_err.Over much) → IsNotLeft d node s f (Fault (fault.Over much))
+  is_over much out = (
     room,
     subst AreWithinLimits (sym (facts_more d.stale node f)) out.0,
     λ admitted. out.1 (subst (IsAdmittedIn (ifaces_at_node d.net.ends node) f) (facts_more d.stale node f) admitted),
+    subst (λ (g : Facts). excess_at (ifaces_at_node d.net.ends node) f g ≡ Some much) (sym (facts_more d.stale node f)) out.2,
   )
 
 -- what holds of all that was left over holds of all that is, whether one more was taken or not

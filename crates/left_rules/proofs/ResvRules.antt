@@ -59,7 +59,7 @@ module _ (d : Draft) (l : StaleResvLine) (asked : IsAsked d l) where
 
   refused : (x : Refused) → IsNotLeft d (stale_node d l) (session_value l.session) (stale_resv_value d l) x → Refuses d (line.StaleResv l) x
   refused (Fault fault.Limit) out = (asked.in_time, asked.in_range, asked.known, asked.new, tt, λ room. out (room.session, room.tables))
-  refused (Fault fault.Over) out = (
+  refused (Fault (fault.Over much)) out = (
     asked.in_time,
     asked.in_range,
     asked.known,
@@ -68,6 +68,7 @@ module _ (d : Draft) (l : StaleResvLine) (asked : IsAsked d l) where
     record { few_senders = asked.few; one_sender = asked.one; session = out.0; tables = out.1 },
     tt,
     λ admitted. out.2 (admitted_in _ d.net (stale_node d l) _ admitted),
+    out.3,
   )
   refused NoMemory out = tt
   refused (Fault why) out = absurd out

@@ -234,7 +234,7 @@ pub fn leave(
     match state.left.add(state.topology.ends(), node, fact, left) {
         Ok(()) => name_session(state, session),
         Err(LeftErr::Full) => Err(Refused::Fault(Fault::Limit)),
-        Err(LeftErr::Over) => Err(Refused::Fault(Fault::Over)),
+        Err(LeftErr::Over(much)) => Err(Refused::Fault(Fault::Over(much))),
         Err(LeftErr::NoMemory) => Err(Refused::NoMemory),
     }
 }

@@ -3,6 +3,8 @@ use Rattle.std.specs.Prelude.{◌≡◌, ◌⊎◌, ℕ, List, [], ◌++◌, Opt
 use Rattle.std.specs.Fmt.{decimal}
 use Rattle.script_grammar.specs.Draft.{Draft}
 use Rattle.script_grammar.specs.Grammar.{IsBadLine}
+use Rattle.script_grammar.specs.declared.fault.Excess.{Excess}
+use Rattle.script_grammar.specs.declared.fault.Excess.TheVariants.{Packet, Rate}
 use Rattle.script_grammar.specs.declared.fault.Fault.{Fault}
 use Rattle.line_advice.specs.Blames.{IsBlamed}
 use Rattle.line_advice.specs.FieldTexts.{form_text, range_text}
@@ -12,27 +14,28 @@ use Rattle.line_advice.specs.Places.{word_at}
 use Rattle.line_advice.specs.RuleTexts.{rule_word, rule_text}
 use Rattle.word_quotes.specs.Quotes.{quoted, strange_text}
 use Rattle.line_advice.specs.declared.blame.Blame.{Blame}
-use Rattle.line_advice.specs.declared.breaks.Room.{Room}
-use Rattle.line_advice.specs.declared.breaks.Room.TheVariants.{Capacity, Mtu}
 use Rattle.value_texts.specs.Texts.{style_text}
-use Rattle.line_advice.specs.declared.blame.Blame.TheVariants.{First, Count, Form, Range, Unknown, Linked, Styled, Past, Long, Rule}
+use Rattle.line_advice.specs.declared.blame.Blame.TheVariants.{First, Count, Form, Range, Unknown, Linked, Styled, Over, Long, Rule}
 
--- what an end has
+-- what an end has, and where it is a capacity, what is asked of it
 unfoldable pub capacity_head : List ℕ
 capacity_head = codes "the rates of the reservations on END are together at most its CAPACITY, "
 
-abbrev pub room_text : Room → List ℕ
-room_text (Mtu mtu) = codes "M is at most the MTU of END, " ++ decimal mtu
-room_text (Capacity capacity) = capacity_head ++ decimal capacity
+unfoldable pub sum_head : List ℕ
+sum_head = codes "; with this one they are "
+
+abbrev pub excess_text : Excess → List ℕ
+excess_text (Packet most mtu) = codes "M is at most the MTU of END, " ++ decimal mtu
+excess_text (Rate sum capacity) = capacity_head ++ decimal capacity ++ sum_head ++ decimal sum
 
 -- what style stands
 unfoldable pub style_head : List ℕ
 style_head = codes "the wishes of NODE in this session are of the style "
 
 -- the flow, where its packets are too large
-abbrev pub room_word : Room → Option ℕ
-room_word (Mtu mtu) = Some 6
-room_word (Capacity capacity) = None
+abbrev pub excess_word : Excess → Option ℕ
+excess_word (Packet most mtu) = Some 6
+excess_word (Rate sum capacity) = None
 
 -- what is wanted
 abbrev pub wanted_text : Blame → List ℕ
@@ -43,7 +46,7 @@ wanted_text (Range word field period) = range_text period field
 wanted_text (Unknown word what) = named_text what
 wanted_text (Linked word) = codes "an end is in one link at most, and an earlier line has this one"
 wanted_text (Styled style) = style_head ++ style_text style
-wanted_text (Past room) = room_text room
+wanted_text (Over much) = excess_text much
 wanted_text Long = codes "a line has at most 2048 bytes"
 wanted_text (Rule rule kind) = rule_text rule kind
 
@@ -56,7 +59,7 @@ number_of_word (Range word field period) = Some word
 number_of_word (Unknown word what) = Some word
 number_of_word (Linked word) = Some word
 number_of_word (Styled style) = Some 3
-number_of_word (Past room) = room_word room
+number_of_word (Over much) = excess_word much
 number_of_word Long = None
 number_of_word (Rule rule kind) = rule_word rule kind
 

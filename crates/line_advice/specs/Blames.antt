@@ -3,14 +3,15 @@ use Rattle.std.specs.Prelude.{◌≡◌, ◌⊎◌, ℕ, ◌+◌, ◌<◌, ◌�
 use Rattle.script_words.specs.Words.{words_of}
 use Rattle.script_grammar.specs.Draft.{Draft, period_of}
 use Rattle.script_grammar.specs.Grammar.{most_line}
+use Rattle.script_grammar.specs.declared.fault.Excess.{Excess}
 use Rattle.script_grammar.specs.declared.fault.Fault.{Fault}
 use Rattle.script_grammar.specs.declared.fault.Fault.TheVariants as fault
 use Rattle.line_advice.specs.Fields.{IsInRange, has_form}
 use Rattle.line_advice.specs.Kinds.{field_at, has_count, kind_of}
-use Rattle.line_advice.specs.Breaks.{IsFirstLinked, IsLimit, IsOtherStyle, IsPastRoom, new_rule}
+use Rattle.line_advice.specs.Breaks.{IsFirstLinked, IsLimit, IsOtherStyle, new_rule}
 use Rattle.line_advice.specs.Names.{named_at, unknown_from}
 use Rattle.line_advice.specs.declared.blame.Blame.{Blame}
-use Rattle.line_advice.specs.declared.blame.Blame.TheVariants.{First, Count, Form, Range, Unknown, Linked, Styled, Past, Long, Rule}
+use Rattle.line_advice.specs.declared.blame.Blame.TheVariants.{First, Count, Form, Range, Unknown, Linked, Styled, Over, Long, Rule}
 use Rattle.line_advice.specs.declared.kind.Kind.{Kind}
 use Rattle.line_advice.specs.declared.rule.Rule.{Rule as ARule}
 use Rattle.line_advice.specs.declared.rule.Rule.TheVariants as rule
@@ -100,9 +101,9 @@ IsOfOtherStyle d words (Styled style) = IsOtherStyle d (behind_first words) styl
 IsOfOtherStyle d words _ = ⊥
 
 -- ---- more than the interface has
-abbrev pub IsMore : Draft → List (List ℕ) → Blame → Type 0
-IsMore d words (Past room) = IsPastRoom d (behind_first words) room
-IsMore d words _ = ⊥
+abbrev pub IsExcess : Excess → Blame → Type 0
+IsExcess much (Over told) = told ≡ much
+IsExcess much _ = ⊥
 
 -- ---- another rule, by the kind of the line
 abbrev pub IsOfRule : ARule → List (List ℕ) → Blame → Type 0
@@ -119,7 +120,7 @@ IsBlamedOf d words fault.Twice blame = IsThere d words blame
 IsBlamedOf d words fault.Style blame = IsOfOtherStyle d words blame
 IsBlamedOf d words fault.Limit blame = IsPassed d words blame
 IsBlamedOf d words fault.NotTree blame = IsOfRule rule.OfTree words blame
-IsBlamedOf d words fault.Over blame = IsMore d words blame
+IsBlamedOf d words (fault.Over much) blame = IsExcess much blame
 IsBlamedOf d words (fault.Loop group from to) blame = IsOfRule rule.LoopFree words blame
 
 -- of a line that is too long its length

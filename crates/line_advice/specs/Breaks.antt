@@ -1,22 +1,17 @@
--- Which part of a rule a line breaks: what is there already, which limit is passed, which style stands, what the interface has.
+-- Which part of a rule a line breaks: what is there already, which limit is passed, which style stands.
 use Rattle.std.specs.Prelude.{◌≡◌, ◌≢◌, ◌⊎◌, ℕ, ◌+◌, ◌<◌, ◌≤◌, List, [], ◌∷◌, Bool, true, false, ◌||◌, Option, None, Some, IfSome, nat_le, codes, length, option_map, slice_get, unwrap_or, if◌then◌else◌}
 use Rattle.std.specs.List.{list_any}
 use Rattle.std.specs.Str.{byte, bytes_eq}
-use Rattle.rsvp_base.specs.declared.iface.Iface.{Iface}
 use Rattle.rsvp_base.specs.declared.session.Session.{Session}
 use Rattle.rsvp_base.specs.declared.style.StyleKind.{StyleKind}
 use Rattle.tree_model.specs.Networks.{link_of}
-use Rattle.script_words.specs.Flows.{flow_of}
 use Rattle.script_words.specs.Parts.{parts_of}
 use Rattle.script_words.specs.Sessions.{IsSession, session_of, session_value}
-use Rattle.script_words.specs.declared.raw.FlowWord.{FlowWord}
 use Rattle.script_words.specs.declared.raw.SessionWord.{SessionWord}
 use Rattle.script_grammar.specs.Adds.{wants_at}
 use Rattle.script_grammar.specs.Draft.{Draft, end_number, node_number}
 use Rattle.script_grammar.specs.Rules.{HasRoomForSession, most_senders}
 use Rattle.line_advice.specs.Names.{is_declared}
-use Rattle.line_advice.specs.declared.breaks.Room.{Room}
-use Rattle.line_advice.specs.declared.breaks.Room.TheVariants.{Capacity, Mtu}
 use Rattle.line_advice.specs.declared.kind.Kind.{Kind}
 use Rattle.line_advice.specs.declared.kind.Kind.TheVariants.{End, Link, StalePath, StaleResv, WildResv, HopBlockade, SenderBlockade, Send, Want, WildWant}
 use Rattle.line_advice.specs.declared.named.Named.TheVariants as named
@@ -109,19 +104,3 @@ pub record IsOtherStyle (d : Draft) (behind : List (List ℕ)) (style : StyleKin
   pub session : SessionWord
   pub said : session_of (word_behind behind 1) ≡ Some session
   pub stands : standing_style d (word_behind behind 0) (session_value session) ≡ Some style
-
--- ---- what the interface has for a reservation
-abbrev pub iface_named : Draft → List ℕ → Option Iface
-iface_named d name = option_map (λ e. e.iface) (slice_get d.net.ends (end_number d name))
-
--- the packets of the flow are too large for it; or they are not, and then it is the rates
-abbrev pub IsPast : Iface → FlowWord → Room → Type 0
-IsPast iface flow (Mtu mtu) = (iface.mtu < flow.most) × (mtu ≡ iface.mtu)
-IsPast iface flow (Capacity capacity) = (flow.most ≤ iface.mtu) × (capacity ≡ iface.capacity)
-
-pub record IsPastRoom (d : Draft) (behind : List (List ℕ)) (room : Room) : Type 0 where
-  pub iface : Iface
-  pub there : iface_named d (word_behind behind 0) ≡ Some iface
-  pub flow : FlowWord
-  pub said : flow_of (word_behind behind 5) ≡ Some flow
-  pub past : IsPast iface flow room

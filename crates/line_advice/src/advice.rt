@@ -1,17 +1,18 @@
 //! The line of text that tells what is wrong with a line.
 ghost use Rattle.std.specs.Prelude.{◌≡◌, ◌<◌, ◌++◌, ℕ, List, MatchOption, None, OnOk, Some, length};
+ghost use Rattle.std.specs.Fmt.{decimal};
 ghost use Rattle.script_grammar.specs.Draft.{Draft};
 ghost use Rattle.script_grammar.specs.Grammar.{most_line};
 ghost use Rattle.script_grammar.specs.declared.fault.Fault.{Fault as AFault};
-ghost use Rattle.line_advice.specs.Advice.{IsAdvice, advice_text, blamed_word, capacity_head, number_of_word, room_text, room_word, style_head, told_text, wanted_text};
+ghost use Rattle.line_advice.specs.Advice.{IsAdvice, advice_text, blamed_word, capacity_head, excess_text, excess_word, number_of_word, style_head, sum_head, told_text, wanted_text};
 
 use crate::blame::{Blame, find_blame};
-use crate::breaks::Room;
 use crate::named::{LinesBefore, named_text};
 use crate::place::word_at;
 use crate::texts::{first_text, form_text, put_range, rule_text, rule_word, usage_text};
+use itoa::Buffer;
 use rsvp_base::NoMemory;
-use script_grammar::Fault;
+use script_grammar::{Excess, Fault};
 use std::alloc::Global;
 use value_texts::{put, put_number, put_style};
 use word_quotes::{put_quoted, put_strange};
@@ -102,26 +103,36 @@ fn put_wanted(out: &mut Vec<u8>, blame: Blame) -> Result<(), NoMemory>
             put(out, style_head())?;
             put_style(out, style)
         }
-        Blame::Past(room) => put_room(out, room),
+        Blame::Over(much) => put_excess(out, much),
         Blame::Long => put(out, b"a line has at most 2048 bytes"),
         Blame::Rule { rule, kind } => put(out, rule_text(rule, kind)),
     }
 }
 
-// Appends what an end has.
-fn put_room(out: &mut Vec<u8>, room: Room) -> Result<(), NoMemory>
-    ensures { OnOk result (out.new.items ≡ out.old.items ++ room_text room) }
+// Appends what an end has, and where it is a capacity, what is asked of it.
+fn put_excess(out: &mut Vec<u8>, much: Excess) -> Result<(), NoMemory>
+    ensures { OnOk result (out.new.items ≡ out.old.items ++ excess_text much) }
 {
-    match room {
-        Room::Mtu(mtu) => {
+    match much {
+        Excess::Packet { most: _, mtu } => {
             put(out, b"M is at most the MTU of END, ")?;
             put_number(out, u64::from(mtu))
         }
-        Room::Capacity(capacity) => {
+        Excess::Rate { sum, capacity } => {
             put(out, capacity_head())?;
-            put_number(out, capacity)
+            put_number(out, capacity)?;
+            put(out, sum_head())?;
+            put_sum(out, sum)
         }
     }
+}
+
+// Appends a sum in decimal digits.
+fn put_sum(out: &mut Vec<u8>, sum: u128) -> Result<(), NoMemory>
+    ensures { OnOk result (out.new.items ≡ out.old.items ++ decimal sum) }
+{
+    let mut buffer = Buffer::new();
+    put(out, buffer.format(sum).as_bytes())
 }
 
 // The word that is to blame, with its column.
@@ -141,19 +152,19 @@ fn number_of_word(blame: Blame) -> Option<usize>
         Blame::Unknown { word, named: _ } => Some(word),
         Blame::Linked { word } => Some(word),
         Blame::Styled(_) => Some(3),
-        Blame::Past(room) => room_word(room),
+        Blame::Over(much) => excess_word(much),
         Blame::Rule { rule, kind } => rule_word(rule, kind),
         _ => None,
     }
 }
 
 // The flow, where its packets are too large.
-fn room_word(room: Room) -> Option<usize>
-    ensures { result ≡ room_word room }
+fn excess_word(much: Excess) -> Option<usize>
+    ensures { result ≡ excess_word much }
 {
-    match room {
-        Room::Mtu(_) => Some(6),
-        Room::Capacity(_) => None,
+    match much {
+        Excess::Packet { .. } => Some(6),
+        Excess::Rate { .. } => None,
     }
 }
 
@@ -162,6 +173,13 @@ fn capacity_head() -> &'static [u8]
     ensures { result.now ≡ capacity_head }
 {
     b"the rates of the reservations on END are together at most its CAPACITY, "
+}
+
+#[tactic(auto, unfolding(crate::specs::Advice::sum_head))]
+fn sum_head() -> &'static [u8]
+    ensures { result.now ≡ sum_head }
+{
+    b"; with this one they are "
 }
 
 #[tactic(auto, unfolding(crate::specs::Advice::style_head))]

@@ -1,14 +1,14 @@
 //! What of a bad line breaks the rule.
 ghost use Rattle.std.specs.Prelude.{◌≡◌, ◌<◌, IfOk, IfSome, Some, length, map};
-ghost use Rattle.line_advice.specs.Blames.{IsBlamed, IsBlamedOf, IsFirstOut, IsFirstUnknown, IsMisread, IsMore, IsOfOtherStyle, IsOfRule, IsOutOfRange, IsPassed, IsThere, IsUnknown, behind_first, unformed_from};
+ghost use Rattle.line_advice.specs.Blames.{IsBlamed, IsBlamedOf, IsFirstOut, IsFirstUnknown, IsMisread, IsOfOtherStyle, IsOfRule, IsOutOfRange, IsPassed, IsThere, IsUnknown, behind_first, unformed_from};
 
-use crate::breaks::{Room, first_linked, limit, new_rule, other_style, room_at};
+use crate::breaks::{first_linked, limit, new_rule, other_style};
 use crate::field::Field;
 use crate::kind::Kind;
 use crate::named::{LinesBefore, Named, is_known};
 use crate::rule::Rule;
 use rsvp_base::{NoMemory, StyleKind};
-use script_grammar::Fault;
+use script_grammar::{Excess, Fault};
 use script_words::read_words;
 use std::alloc::Global;
 
@@ -41,8 +41,8 @@ pub enum Blame {
     },
     /// Its style: the wishes that stand are of this one.
     Styled(StyleKind),
-    /// What it reserves: the end has only this.
-    Past(Room),
+    /// What it reserves: the end has less.
+    Over(Excess),
     /// Its length.
     Long,
     /// What this rule says of lines of this kind.
@@ -92,7 +92,7 @@ fn blame_of<B: LinesBefore>(
         Fault::Style => of_other_style(before, words),
         Fault::Limit => passed(before, words),
         Fault::NotTree => of_rule(Rule::OfTree, words),
-        Fault::Over => more(before, words),
+        Fault::Over(much) => Some(Blame::Over(*much)),
         Fault::Loop { .. } => of_rule(Rule::LoopFree, words),
     }
 }
@@ -136,13 +136,6 @@ fn of_other_style<B: LinesBefore>(before: &B, words: &[&[u8]]) -> Option<Blame>
     ensures { IfSome result (IsOfOtherStyle (B.lines before.now) (map (λ w. w.now) words.now)) }
 {
     Some(Blame::Styled(other_style(before, behind_first(words))?))
-}
-
-// What an end has where these words ask for more.
-fn more<B: LinesBefore>(before: &B, words: &[&[u8]]) -> Option<Blame>
-    ensures { IfSome result (IsMore (B.lines before.now) (map (λ w. w.now) words.now)) }
-{
-    Some(Blame::Past(room_at(before, behind_first(words))?))
 }
 
 // What of these words is not of its form.

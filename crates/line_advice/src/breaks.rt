@@ -3,13 +3,13 @@ ghost use Rattle.std.specs.Prelude.{◌≡◌, ◌↔◌, ◌<◌, IfSome, IsTru
 ghost use Rattle.script_words.specs.Sessions.{session_value};
 ghost use Rattle.std.specs.List.{list_any};
 ghost use Rattle.std.specs.Str.{bytes_eq};
-ghost use Rattle.line_advice.specs.Breaks.{HasRoomForWord, IsFirstLinked, HasRoomForLine, IsLimit, IsOtherStyle, IsPastRoom, has_twice, limit_by_words, limit_of_list, limit_of_style, listed, names_session, new_of_list, new_rule, standing_style, word_behind};
+ghost use Rattle.line_advice.specs.Breaks.{HasRoomForWord, IsFirstLinked, HasRoomForLine, IsLimit, IsOtherStyle, has_twice, limit_by_words, limit_of_list, limit_of_style, listed, names_session, new_of_list, new_rule, standing_style, word_behind};
 
 use crate::kind::Kind;
 use crate::named::{LinesBefore, Named, is_known};
 use crate::rule::Rule;
 use rsvp_base::StyleKind;
-use script_words::{FlowWord, SessionWord, first_part};
+use script_words::{SessionWord, first_part};
 
 const MOST_SENDERS: usize = 16;
 
@@ -197,25 +197,4 @@ fn style_at<B: LinesBefore>(before: &B, node: &[u8], session: SessionWord) -> Op
         Ok(found) => found,
         Err(_) => None,
     }
-}
-
-/// What an end has, where a reservation asks for more.
-#[derive(Clone, Copy)]
-pub enum Room {
-    /// The largest packet that it sends, in bytes.
-    Mtu(u32),
-    /// How much all its reservations together may take, in bytes per second.
-    Capacity(u64),
-}
-
-/// What an end has, where a line asks for more. `None`: the end is not there, or the line has no flow.
-pub fn room_at<B: LinesBefore>(before: &B, behind: &[&[u8]]) -> Option<Room>
-    ensures { IfSome result (IsPastRoom (B.lines before.now) (map (λ w. w.now) behind.now)) }
-{
-    let iface = before.iface(word_behind(behind, 0))?;
-    let flow = FlowWord::of(word_behind(behind, 5))?;
-    if u128::from(iface.mtu) < flow.most {
-        return Some(Room::Mtu(iface.mtu));
-    }
-    Some(Room::Capacity(iface.capacity))
 }

@@ -17,7 +17,6 @@ mod texts;
 
 pub use advice::{put_advice, put_long};
 pub use blame::{Blame, find_blame};
-pub use breaks::Room;
 pub use field::Field;
 pub use kind::Kind;
 pub use named::{LinesBefore, Named};

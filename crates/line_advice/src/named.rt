@@ -2,11 +2,11 @@
 ghost use Rattle.std.specs.Prelude.{◌≡◌, ◌↔◌, IfOk, IsTrue, is_some};
 ghost use Rattle.script_grammar.specs.Draft.{Draft, end_named, node_named, period_of};
 ghost use Rattle.script_grammar.specs.Rules.{HasRoomForSession};
-ghost use Rattle.line_advice.specs.Breaks.{IsLinked, iface_named, standing_style};
+ghost use Rattle.line_advice.specs.Breaks.{IsLinked, standing_style};
 ghost use Rattle.line_advice.specs.Names.{is_known, named_at, named_text, names_behind, names_of};
 
 use crate::kind::Kind;
-use rsvp_base::{Iface, NoMemory, Session, StyleKind};
+use rsvp_base::{NoMemory, Session, StyleKind};
 
 /// What a word is the name of.
 #[derive(Clone, Copy)]
@@ -43,10 +43,6 @@ pub trait LinesBefore {
     /// The style of the wishes that stand in a session at the node of this name. `NoMemory`: there was no room to look.
     fn standing_style(&self, node: &[u8], session: Session) -> Result<Option<StyleKind>, NoMemory>
         ensures { IfOk result (λ style. style ≡ standing_style (lines self.now) node.now session) };
-
-    /// The interface of the end of this name.
-    fn iface(&self, end: &[u8]) -> Option<Iface>
-        ensures { result ≡ iface_named (lines self.now) end.now };
 }
 
 impl Kind {

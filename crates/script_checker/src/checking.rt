@@ -10,7 +10,7 @@ use crate::starting::{copies, quarter};
 use left_over::LeftOver;
 use line_advice::LinesBefore;
 use net_replay::Event;
-use rsvp_base::{Iface, NoMemory, Session, StyleKind};
+use rsvp_base::{NoMemory, Session, StyleKind};
 use script_grammar::{Fault, read_line};
 use script_player::{Checks, Refused, Start};
 use script_state::ScriptState;
@@ -48,12 +48,6 @@ impl LinesBefore for Checker {
         let node = node_number(&self.state, node);
         let wants = self.state.wants.of(self.state.alloc, node, session)?;
         Ok(wants.first().map(|want| want.style))
-    }
-
-    fn iface(&self, end: &[u8]) -> Option<Iface> {
-        let end = end_number(&self.state, end);
-        let end = self.state.topology.ends().get(end as usize)?;
-        Some(end.iface)
     }
 }
 

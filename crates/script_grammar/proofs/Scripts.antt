@@ -16,7 +16,8 @@ use Rattle.script_grammar.specs.Draft.{Draft, end_number, nothing, plan_of}
 use Rattle.script_grammar.specs.Grammar.{Follows, HasFault, too_long, unread, broken, Leads, most_line, line_number, IsScript, IsBadLine}
 use Rattle.script_grammar.specs.Laws.{OneBadLine}
 use Rattle.script_grammar.specs.LineKinds.{line_of}
-use Rattle.script_grammar.specs.Rules.{Rule, Keeps, KeepsAll, BreaksFirst, Closes, IsLoopOf}
+use Rattle.script_grammar.specs.Rules.{Rule, Keeps, KeepsAll, BreaksFirst, Closes, Exceeds, IsLoopOf}
+use Rattle.script_grammar.specs.declared.fault.Excess.{Excess}
 use Rattle.script_grammar.specs.declared.fault.Fault.{Fault}
 use Rattle.script_grammar.specs.declared.fault.Fault.TheVariants.{Word, Late, Range, Name, Twice, Style, Limit, NotTree, Over, Loop}
 use Rattle.script_grammar.specs.declared.line.Line.{Line}
@@ -90,17 +91,17 @@ leads_split d (t ∷ ts) text after new l =
     (rest.0, (l.0, l.1, rest.1), rest.2)
 
 -- ---- a fault keeps a line from following
-breaks_none : (rules : Rule → Type 0) (loop : Addr → List ℕ → List ℕ → Type 0) (why : Fault) → KeepsAll rules → BreaksFirst rules loop why → ⊥
-breaks_none rules loop Word k b = b
-breaks_none rules loop Late k b = b k.in_time
-breaks_none rules loop Range k b = b.1 k.in_range
-breaks_none rules loop Name k b = b.2 k.known
-breaks_none rules loop Twice k b = b.3 k.new
-breaks_none rules loop Style k b = b.4 k.of_style
-breaks_none rules loop Limit k b = b.5 k.within_limits
-breaks_none rules loop NotTree k b = b.6 k.of_tree
-breaks_none rules loop Over k b = b.7 k.within_capacity
-breaks_none rules loop (Loop group from to) k b = b.8 k.loop_free
+breaks_none : (rules : Rule → Type 0) (excess : Excess → Type 0) (loop : Addr → List ℕ → List ℕ → Type 0) (why : Fault) → KeepsAll rules → BreaksFirst rules excess loop why → ⊥
+breaks_none rules excess loop Word k b = b
+breaks_none rules excess loop Late k b = b k.in_time
+breaks_none rules excess loop Range k b = b.1 k.in_range
+breaks_none rules excess loop Name k b = b.2 k.known
+breaks_none rules excess loop Twice k b = b.3 k.new
+breaks_none rules excess loop Style k b = b.4 k.of_style
+breaks_none rules excess loop Limit k b = b.5 k.within_limits
+breaks_none rules excess loop NotTree k b = b.6 k.of_tree
+breaks_none rules excess loop (Over much) k b = b.7 k.within_capacity
+breaks_none rules excess loop (Loop group from to) k b = b.8 k.loop_free
 
 no_reading : (o : Option Line) (said : Line) → o ≡ Some said → o ≡ None → ⊥
 no_reading o said e f = let h : Some said ≡ None = sym e ∙ f in cc
@@ -110,7 +111,7 @@ fault_or_follows d text Limit new (too_long long) f = absurd (omega (arith, f.sh
 fault_or_follows d text Word new (unread short gone) f = no_reading (line_of text) f.said f.reads gone
 fault_or_follows d text why new (broken said _ short reads b) f =
     let same = same_some f.said said (sym f.reads ∙ reads) in
-    breaks_none (Keeps d said) (Closes d said) why (subst (λ l. KeepsAll (Keeps d l)) same f.valid) b
+    breaks_none (Keeps d said) (Exceeds d said) (Closes d said) why (subst (λ l. KeepsAll (Keeps d l)) same f.valid) b
 
 pub script_or_bad : (bytes : List ℕ) (p : Plan) (number : ℕ) (why : Fault) → IsScript bytes p → IsBadLine bytes number why → ⊥
 script_or_bad bytes p number why s b =
@@ -169,8 +170,39 @@ loop_one d line.Flags a b f t u v x y = absurd x
 loop_one d (line.Inject l) a b f t u v x y = absurd x
 loop_one d (line.Reroute l) a b f t u v x y = loop_of_one d (net_rerouted d l) (addr_value l.group) a b f t u v x y
 
+-- ---- one excess
+excess_one : (d : Draft) (l : Line) (a b : Excess) → Exceeds d l a → Exceeds d l b → Over a ≡ Over b
+excess_one d line.Skipped a b x y = absurd x
+excess_one d (line.Period ms) a b x y = absurd x
+excess_one d (line.Seed n) a b x y = absurd x
+excess_one d (line.Node name) a b x y = absurd x
+excess_one d (line.End l) a b x y = absurd x
+excess_one d (line.Link names) a b x y = absurd x
+excess_one d (line.Hop l) a b x y = absurd x
+excess_one d (line.StalePath l) a b x y = absurd x
+excess_one d (line.StaleResv l) a b x y = ap Over (same_some a b (sym x ∙ y))
+excess_one d (line.StaleHopWall l) a b x y = absurd x
+excess_one d (line.StaleSenderWall l) a b x y = absurd x
+excess_one d (line.Send l) a b x y = absurd x
+excess_one d (line.Drop l) a b x y = absurd x
+excess_one d (line.Want l) a b x y = absurd x
+excess_one d (line.Quit l) a b x y = absurd x
+excess_one d (line.Wait ms) a b x y = absurd x
+excess_one d (line.Pass n) a b x y = absurd x
+excess_one d (line.Deliver k) a b x y = absurd x
+excess_one d (line.Lose k) a b x y = absurd x
+excess_one d (line.Copy k) a b x y = absurd x
+excess_one d (line.Clear node) a b x y = absurd x
+excess_one d (line.Rounds n) a b x y = absurd x
+excess_one d (line.Trace on) a b x y = absurd x
+excess_one d line.Report a b x y = absurd x
+excess_one d (line.ReportEnd end) a b x y = absurd x
+excess_one d line.Flags a b x y = absurd x
+excess_one d (line.Inject l) a b x y = absurd x
+excess_one d (line.Reroute l) a b x y = absurd x
+
 -- ---- one fault
-breaks_one : (d : Draft) (l : Line) (a b : Fault) → BreaksFirst (Keeps d l) (Closes d l) a → BreaksFirst (Keeps d l) (Closes d l) b → a ≡ b
+breaks_one : (d : Draft) (l : Line) (a b : Fault) → BreaksFirst (Keeps d l) (Exceeds d l) (Closes d l) a → BreaksFirst (Keeps d l) (Exceeds d l) (Closes d l) b → a ≡ b
 breaks_one d l Word b h k = absurd h
 breaks_one d l Late Word h k = absurd k
 breaks_one d l Late Late h k = refl
@@ -180,7 +212,7 @@ breaks_one d l Late Twice h k = absurd (h k.0)
 breaks_one d l Late Style h k = absurd (h k.0)
 breaks_one d l Late Limit h k = absurd (h k.0)
 breaks_one d l Late NotTree h k = absurd (h k.0)
-breaks_one d l Late Over h k = absurd (h k.0)
+breaks_one d l Late (Over much) h k = absurd (h k.0)
 breaks_one d l Late (Loop o of ot) h k = absurd (h k.0)
 breaks_one d l Range Word h k = absurd k
 breaks_one d l Range Late h k = absurd (k h.0)
@@ -190,7 +222,7 @@ breaks_one d l Range Twice h k = absurd ((h.1) k.1)
 breaks_one d l Range Style h k = absurd ((h.1) k.1)
 breaks_one d l Range Limit h k = absurd ((h.1) k.1)
 breaks_one d l Range NotTree h k = absurd ((h.1) k.1)
-breaks_one d l Range Over h k = absurd ((h.1) k.1)
+breaks_one d l Range (Over much) h k = absurd ((h.1) k.1)
 breaks_one d l Range (Loop o of ot) h k = absurd ((h.1) k.1)
 breaks_one d l Name Word h k = absurd k
 breaks_one d l Name Late h k = absurd (k h.0)
@@ -200,7 +232,7 @@ breaks_one d l Name Twice h k = absurd ((h.2) k.2)
 breaks_one d l Name Style h k = absurd ((h.2) k.2)
 breaks_one d l Name Limit h k = absurd ((h.2) k.2)
 breaks_one d l Name NotTree h k = absurd ((h.2) k.2)
-breaks_one d l Name Over h k = absurd ((h.2) k.2)
+breaks_one d l Name (Over much) h k = absurd ((h.2) k.2)
 breaks_one d l Name (Loop o of ot) h k = absurd ((h.2) k.2)
 breaks_one d l Twice Word h k = absurd k
 breaks_one d l Twice Late h k = absurd (k h.0)
@@ -210,7 +242,7 @@ breaks_one d l Twice Twice h k = refl
 breaks_one d l Twice Style h k = absurd ((h.3) k.3)
 breaks_one d l Twice Limit h k = absurd ((h.3) k.3)
 breaks_one d l Twice NotTree h k = absurd ((h.3) k.3)
-breaks_one d l Twice Over h k = absurd ((h.3) k.3)
+breaks_one d l Twice (Over much) h k = absurd ((h.3) k.3)
 breaks_one d l Twice (Loop o of ot) h k = absurd ((h.3) k.3)
 breaks_one d l Style Word h k = absurd k
 breaks_one d l Style Late h k = absurd (k h.0)
@@ -220,7 +252,7 @@ breaks_one d l Style Twice h k = absurd ((k.3) h.3)
 breaks_one d l Style Style h k = refl
 breaks_one d l Style Limit h k = absurd ((h.4) k.4)
 breaks_one d l Style NotTree h k = absurd ((h.4) k.4)
-breaks_one d l Style Over h k = absurd ((h.4) k.4)
+breaks_one d l Style (Over much) h k = absurd ((h.4) k.4)
 breaks_one d l Style (Loop o of ot) h k = absurd ((h.4) k.4)
 breaks_one d l Limit Word h k = absurd k
 breaks_one d l Limit Late h k = absurd (k h.0)
@@ -230,7 +262,7 @@ breaks_one d l Limit Twice h k = absurd ((k.3) h.3)
 breaks_one d l Limit Style h k = absurd ((k.4) h.4)
 breaks_one d l Limit Limit h k = refl
 breaks_one d l Limit NotTree h k = absurd ((h.5) k.5)
-breaks_one d l Limit Over h k = absurd ((h.5) k.5)
+breaks_one d l Limit (Over much) h k = absurd ((h.5) k.5)
 breaks_one d l Limit (Loop o of ot) h k = absurd ((h.5) k.5)
 breaks_one d l NotTree Word h k = absurd k
 breaks_one d l NotTree Late h k = absurd (k h.0)
@@ -240,18 +272,18 @@ breaks_one d l NotTree Twice h k = absurd ((k.3) h.3)
 breaks_one d l NotTree Style h k = absurd ((k.4) h.4)
 breaks_one d l NotTree Limit h k = absurd ((k.5) h.5)
 breaks_one d l NotTree NotTree h k = refl
-breaks_one d l NotTree Over h k = absurd ((h.6) k.6)
+breaks_one d l NotTree (Over much) h k = absurd ((h.6) k.6)
 breaks_one d l NotTree (Loop o of ot) h k = absurd ((h.6) k.6)
-breaks_one d l Over Word h k = absurd k
-breaks_one d l Over Late h k = absurd (k h.0)
-breaks_one d l Over Range h k = absurd ((k.1) h.1)
-breaks_one d l Over Name h k = absurd ((k.2) h.2)
-breaks_one d l Over Twice h k = absurd ((k.3) h.3)
-breaks_one d l Over Style h k = absurd ((k.4) h.4)
-breaks_one d l Over Limit h k = absurd ((k.5) h.5)
-breaks_one d l Over NotTree h k = absurd ((k.6) h.6)
-breaks_one d l Over Over h k = refl
-breaks_one d l Over (Loop o of ot) h k = absurd ((h.7) k.7)
+breaks_one d l (Over much) Word h k = absurd k
+breaks_one d l (Over much) Late h k = absurd (k h.0)
+breaks_one d l (Over much) Range h k = absurd ((k.1) h.1)
+breaks_one d l (Over much) Name h k = absurd ((k.2) h.2)
+breaks_one d l (Over much) Twice h k = absurd ((k.3) h.3)
+breaks_one d l (Over much) Style h k = absurd ((k.4) h.4)
+breaks_one d l (Over much) Limit h k = absurd ((k.5) h.5)
+breaks_one d l (Over much) NotTree h k = absurd ((k.6) h.6)
+breaks_one d l (Over a) (Over b) h k = excess_one d l a b h.8 k.8
+breaks_one d l (Over much) (Loop o of ot) h k = absurd (h.7 k.7)
 breaks_one d l (Loop g gf gt) Word h k = absurd k
 breaks_one d l (Loop g gf gt) Late h k = absurd (k h.0)
 breaks_one d l (Loop g gf gt) Range h k = absurd ((k.1) h.1)
@@ -260,7 +292,7 @@ breaks_one d l (Loop g gf gt) Twice h k = absurd ((k.3) h.3)
 breaks_one d l (Loop g gf gt) Style h k = absurd ((k.4) h.4)
 breaks_one d l (Loop g gf gt) Limit h k = absurd ((k.5) h.5)
 breaks_one d l (Loop g gf gt) NotTree h k = absurd ((k.6) h.6)
-breaks_one d l (Loop g gf gt) Over h k = absurd ((k.7) h.7)
+breaks_one d l (Loop g gf gt) (Over much) h k = absurd (k.7 h.7)
 breaks_one d l (Loop g gf gt) (Loop o of ot) h k = loop_one d l g o gf gt of ot h.9 k.9
 
 pub fault_one : (d : Draft) (text : List ℕ) (a b : Fault) → HasFault d text a → HasFault d text b → a ≡ b
@@ -274,7 +306,7 @@ fault_one d text a Limit (broken said _ short reads h) (too_long y) = absurd (om
 fault_one d text a Word (broken said _ short reads h) (unread shorter gone) = absurd (no_reading (line_of text) said reads gone)
 fault_one d text a b (broken said _ short reads h) (broken other _ shorter also k) =
     let same = same_some other said (sym also ∙ reads) in
-    breaks_one d said a b h (subst (λ l. BreaksFirst (Keeps d l) (Closes d l) b) same k)
+    breaks_one d said a b h (subst (λ l. BreaksFirst (Keeps d l) (Exceeds d l) (Closes d l) b) same k)
 
 same_head : {A : Type 0} (x y : A) (xs ys : List A) → x ∷ xs ≡ y ∷ ys → (x ≡ y) × (xs ≡ ys)
 same_head x y xs ys e =

@@ -5,7 +5,7 @@ use Rattle.network_model.specs.Runs.{Plan}
 use Rattle.script_grammar.specs.Adds.{Adds}
 use Rattle.script_grammar.specs.Draft.{Draft, nothing, plan_of}
 use Rattle.script_grammar.specs.LineKinds.{line_of}
-use Rattle.script_grammar.specs.Rules.{BreaksFirst, Closes, Keeps, KeepsAll}
+use Rattle.script_grammar.specs.Rules.{BreaksFirst, Closes, Exceeds, Keeps, KeepsAll}
 use Rattle.script_grammar.specs.declared.fault.Fault.{Fault}
 use Rattle.script_grammar.specs.declared.fault.Fault.TheVariants.{Limit, Word}
 use Rattle.script_grammar.specs.declared.line.Line.{Line}
@@ -27,7 +27,7 @@ pub record Follows (d : Draft) (text : List ℕ) (new : Draft) : Type 0 where
 pub data HasFault (d : Draft) (text : List ℕ) : Fault → Type 0 where
   too_long : most_line < length text → HasFault d text Limit
   unread : length text ≤ most_line → line_of text ≡ None → HasFault d text Word
-  broken : (said : Line) (why : Fault) → length text ≤ most_line → line_of text ≡ Some said → BreaksFirst (Keeps d said) (Closes d said) why → HasFault d text why
+  broken : (said : Line) (why : Fault) → length text ≤ most_line → line_of text ≡ Some said → BreaksFirst (Keeps d said) (Exceeds d said) (Closes d said) why → HasFault d text why
 
 -- these lines lead from the one to the other
 abbrev pub Leads : Draft → List (List ℕ) → Draft → Type 0

@@ -24,11 +24,13 @@ use Rattle.network_model.specs.TreeModel.Trees.{IsGrown, of_tree}
 use Rattle.network_model.specs.TreeModel.Wants.{Locals, live}
 use Rattle.tree_routing.specs.Answers.{Fits, IsLeastOnLoop, with_hop}
 use Rattle.network_model.specs.Events.{Event, Reports, ReportsFlags}
-use Rattle.network_model.specs.Worlds.{config_of}
+use Rattle.network_model.specs.Worlds.{config_of, ifaces_at}
 use Rattle.script_grammar.specs.Adds.{is_sender, link_value, net_rerouted, wants_at, wants_value, with_sender, with_wants}
+use Rattle.script_grammar.specs.Excesses.{excess_at}
 use Rattle.script_grammar.specs.Draft.{Draft, end_named, end_number, node_named, node_number, period_of, plan_of, stale_at, with_session}
 use Rattle.script_grammar.specs.Values.{IsDropInRange, IsEndInRange, IsFrom1To, IsHopInRange, IsPeriod, IsRerouteInRange, IsSendInRange, IsStaleHopWallInRange, IsStalePathInRange, IsStaleResvInRange, IsStaleSenderWallInRange, IsWantInRange, end_value, hop_values, most_passes, most_places, most_rounds, most_wait, senders_value, stale_hop_wall_value, stale_path_value, stale_resv_value, stale_sender_wall_value, tree_hop_value}
 use Rattle.script_words.specs.Sessions.{IsSession}
+use Rattle.script_grammar.specs.declared.fault.Excess.{Excess}
 use Rattle.script_grammar.specs.declared.fault.Fault.{Fault}
 use Rattle.script_grammar.specs.declared.fault.Fault.TheVariants.{Word, Late, Range, Name, Twice, Style, Limit, NotTree, Over, Loop}
 use Rattle.script_grammar.specs.declared.line.Line.{Line}
@@ -422,6 +424,14 @@ Closes d (line.Hop l) group from to = IsLoopOf d (with_hop d.net (tree_hop_value
 Closes d (line.Reroute l) group from to = IsLoopOf d (net_rerouted d l) (addr_value l.group) group from to
 Closes d _ group from to = ⊥
 
+-- ---- what the interface has too little of for a left-over reservation
+abbrev pub IsExcessAt : Draft → ℕ → Stale → Excess → Type 0
+IsExcessAt d node s much = excess_at (ifaces_at d.net.ends (ends_of d.net.ends node)) s (facts_at (d.stale ++ (node, s) ∷ []) node) ≡ Some much
+
+abbrev pub Exceeds : Draft → Line → Excess → Type 0
+Exceeds d (line.StaleResv l) much = IsExcessAt d (stale_node d l) (stale_resv_value d l) much
+Exceeds d _ much = ⊥
+
 -- ---- all rules are kept, or a first one is not
 pub record KeepsAll (rules : Rule → Type 0) : Type 0 where
   pub in_time : rules InTime
@@ -434,18 +444,18 @@ pub record KeepsAll (rules : Rule → Type 0) : Type 0 where
   pub within_capacity : rules WithinCapacity
   pub loop_free : rules LoopFree
 
--- the first rule that is broken is that of this fault
-abbrev pub BreaksFirst : (Rule → Type 0) → (Addr → List ℕ → List ℕ → Type 0) → Fault → Type 0
-BreaksFirst rules loop Word = ⊥
-BreaksFirst rules loop Late = rules InTime → ⊥
-BreaksFirst rules loop Range = rules InTime × (rules InRange → ⊥)
-BreaksFirst rules loop Name = rules InTime × rules InRange × (rules Known → ⊥)
-BreaksFirst rules loop Twice = rules InTime × rules InRange × rules Known × (rules New → ⊥)
-BreaksFirst rules loop Style = rules InTime × rules InRange × rules Known × rules New × (rules OfStyle → ⊥)
-BreaksFirst rules loop Limit = rules InTime × rules InRange × rules Known × rules New × rules OfStyle × (rules WithinLimits → ⊥)
-BreaksFirst rules loop NotTree = rules InTime × rules InRange × rules Known × rules New × rules OfStyle × rules WithinLimits × (rules OfTree → ⊥)
-BreaksFirst rules loop Over =
-    rules InTime × rules InRange × rules Known × rules New × rules OfStyle × rules WithinLimits × rules OfTree × (rules WithinCapacity → ⊥)
-BreaksFirst rules loop (Loop group from to) =
+-- the first rule that is broken is that of this fault, and the fault tells of the excess or the loop
+abbrev pub BreaksFirst : (Rule → Type 0) → (Excess → Type 0) → (Addr → List ℕ → List ℕ → Type 0) → Fault → Type 0
+BreaksFirst rules excess loop Word = ⊥
+BreaksFirst rules excess loop Late = rules InTime → ⊥
+BreaksFirst rules excess loop Range = rules InTime × (rules InRange → ⊥)
+BreaksFirst rules excess loop Name = rules InTime × rules InRange × (rules Known → ⊥)
+BreaksFirst rules excess loop Twice = rules InTime × rules InRange × rules Known × (rules New → ⊥)
+BreaksFirst rules excess loop Style = rules InTime × rules InRange × rules Known × rules New × (rules OfStyle → ⊥)
+BreaksFirst rules excess loop Limit = rules InTime × rules InRange × rules Known × rules New × rules OfStyle × (rules WithinLimits → ⊥)
+BreaksFirst rules excess loop NotTree = rules InTime × rules InRange × rules Known × rules New × rules OfStyle × rules WithinLimits × (rules OfTree → ⊥)
+BreaksFirst rules excess loop (Over much) =
+    rules InTime × rules InRange × rules Known × rules New × rules OfStyle × rules WithinLimits × rules OfTree × (rules WithinCapacity → ⊥) × excess much
+BreaksFirst rules excess loop (Loop group from to) =
     rules InTime × rules InRange × rules Known × rules New × rules OfStyle × rules WithinLimits × rules OfTree × rules WithinCapacity
     × (rules LoopFree → ⊥) × loop group from to

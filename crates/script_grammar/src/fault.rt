@@ -2,6 +2,17 @@
 use rsvp_base::Addr;
 use script_words::EndName;
 
+/// What an interface has too little of for a left-over reservation, beside those of the lines before (RFC 2205, 1: admission
+/// control).
+#[derive(Clone, Copy, Debug, PartialEq, Eq)]
+pub enum Excess {
+    /// Its largest packet, in bytes, is larger than the interface sends.
+    Packet { most: u32, mtu: u32 },
+    /// This is not so, and the rates of the merged reservations on the interface come together to more than its capacity, in
+    /// bytes per second.
+    Rate { sum: u128, capacity: u64 },
+}
+
 /// Why a line is bad: the rule that it breaks first, in the order in which they are looked at. A line that is too long has
 /// `Limit` before anything else is looked at.
 #[derive(Debug, Drop)]
@@ -25,7 +36,7 @@ pub enum Fault {
     NotTree,
     /// A left-over reservation that its interface cannot have beside those of the lines before: merged they pass its capacity,
     /// or its MTU.
-    Over,
+    Over(Excess),
     /// A hop or a route that closes a chain of hops of a group: the least hop on one, by the names of its ends.
     Loop {
         group: Addr,

@@ -11,7 +11,7 @@ mod line_kinds;
 mod list;
 pub mod rows;
 
-pub use fault::Fault;
+pub use fault::{Excess, Fault};
 pub use line::{
     DropLine, EndLine, HopEnds, HopLine, InjectLine, Line, QuitLine, RerouteLine, SendLine,
     StaleHopWallLine, StalePathLine, StaleResvLine, StaleSenderWallLine, WantLine,

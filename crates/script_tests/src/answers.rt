@@ -26,7 +26,7 @@ fn reason(fault: &Fault) -> &'static str {
         Fault::Style => "style",
         Fault::Limit => "limit",
         Fault::NotTree => "nottree",
-        Fault::Over => "over",
+        Fault::Over(_) => "over",
         Fault::Loop { .. } => "loop",
     }
 }

@@ -5,7 +5,7 @@ ghost use Rattle.script_grammar.specs.Draft.{nothing};
 use byte_streams::{MemorySink, MemorySource};
 use line_advice::{LinesBefore, put_advice};
 use network_run::{Ending, Player, Stop, run_lines};
-use rsvp_base::{Iface, NoMemory, Session, StyleKind};
+use rsvp_base::{NoMemory, Session, StyleKind};
 use script_grammar::{Fault, Line, read_line};
 use script_words::Unread;
 use std::alloc::Global;
@@ -66,11 +66,6 @@ impl LinesBefore for Silent {
     fn standing_style(&self, node: &[u8], session: Session) -> Result<Option<StyleKind>, NoMemory> {
         let _ = (node.len(), session.port);
         Ok(None)
-    }
-
-    fn iface(&self, end: &[u8]) -> Option<Iface> {
-        let _ = end.len();
-        None
     }
 }
 
