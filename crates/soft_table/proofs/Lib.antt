@@ -4,6 +4,7 @@ pub mod Views
 pub mod Changes
 pub mod Walks
 pub mod Steps
+pub mod Along
 pub mod Maps
 pub mod Valued
 pub mod Keyed

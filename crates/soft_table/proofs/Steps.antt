@@ -13,7 +13,7 @@ use Rattle.rsvp_base.specs.Table.{passes, first, second}
 use Rattle.rsvp_base.specs.Under.{rows_under, sorted_under}
 use Rattle.rsvp_base.specs.declared.session.Session.{Session}
 use Rattle.soft_table.specs.Facts.{fact_keys, facts_by, rows_behind}
-use Rattle.soft_table.specs.Walks.{fact_at}
+use Rattle.soft_table.specs.Walks.{fact_at, facts_from}
 
 pub less_is : (w : Ordering) → T (is_lt w) → w ≡ Less
 less_is Less h = refl
@@ -106,6 +106,16 @@ module _ {F R : Type 0} (rests : Keys R) (key : F → Session × R) (s : Session
     where
       one_more : (n : ℕ) → suc n ≡ n + 1
       one_more n = omega arith
+
+  -- the facts from the k-th on
+  pub from_kth : IsTrue (is_sorted (fact_keys rests).cmp (facts_by key fs)) → (k : ℕ) (r : Option F) → r ≡ fact_at rests key s fs k → facts_from rests key s fs r ≡ each (λ (e : R × (F × ℕ)). e.1.0) (drop k those)
+  from_kth up k None is = ap (each (λ (e : R × (F × ℕ)). e.1.0)) (sym (end k is))
+  from_kth up k (Some f) is =
+      let st = step k f is in
+      ap (λ (g : F). g ∷ each (λ (e : R × (F × ℕ)). e.1.0) (rows_behind rests (key f).1 those)) (sym st.fact)
+      ∙ ap (λ q. st.row.1.0 ∷ each (λ (e : R × (F × ℕ)). e.1.0) (rows_behind rests q those)) (sym st.rest)
+      ∙ ap (λ es. st.row.1.0 ∷ each (λ (e : R × (F × ℕ)). e.1.0) es) (behind_drop rests those k st.row (sorted_under sessions rests s (facts_by key fs) (passes _ up)) st.at)
+      ∙ ap (each (λ (e : R × (F × ℕ)). e.1.0)) (sym st.here)
 
 -- nothing was found where nothing is
 pub none_at : {A B : Type 0} (f : A → B) (w : Option A) → None ≡ option_map f w → w ≡ None

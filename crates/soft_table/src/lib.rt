@@ -12,8 +12,10 @@ mod fact;
 mod finger;
 mod order;
 mod rows;
+mod session_facts;
 mod table;
 
 pub use fact::Fact;
 pub use finger::Finger;
+pub use session_facts::SessionFacts;
 pub use table::SoftTable;

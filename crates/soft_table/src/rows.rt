@@ -8,7 +8,7 @@ ghost use Rattle.rsvp_base.specs.Under.{rows_under};
 ghost use Rattle.session_lists.specs.Lists.{slot_of, sessions_of};
 ghost use Rattle.soft_table.specs.Facts.{rows_behind};
 ghost use Rattle.soft_table.specs.Index.{live_in, value_in};
-ghost use Rattle.soft_table.specs.Walks.{AreSlots, live_of, has_live};
+ghost use Rattle.soft_table.specs.Walks.{AreSlots, IsRowOf, live_of, has_live};
 
 use crate::fact::Fact;
 use crate::order::Rests;
@@ -80,6 +80,7 @@ pub(crate) fn nth<F: Fact>(
     ensures some { IfSome result (λ r. (j : ℕ) → from ≡ slot_of (slice_get (rows_under sessions F.rests session rows.now.rows) j) → option_map (λ e. e.1) (slice_get (live_of pool.now (drop j (rows_under sessions F.rests session rows.now.rows))) k) ≡ live_in (slice_get pool.now r.0)) }
     ensures within { IfSome result (λ r. r.0 < length pool.now) }
     ensures live { IfSome result (λ r. is_some (live_in (slice_get pool.now r.0)) ≡ true) }
+    ensures row { IfSome result (λ r. IsRowOf F.rests pool.now rows.now.rows session r.0) }
     ensures none { IsNone result → (j : ℕ) → from ≡ slot_of (slice_get (rows_under sessions F.rests session rows.now.rows) j) → slice_get (live_of pool.now (drop j (rows_under sessions F.rests session rows.now.rows))) k ≡ None }
 {
     let mut left = k;

@@ -13,6 +13,7 @@ use crate::fact::Fact;
 use crate::finger::Finger;
 use crate::order::Rests;
 use crate::rows::{behind, count_sessions, fact_in, nth};
+use crate::session_facts::{SessionFacts, facts_of};
 use rsvp_base::{Full, NoMemory, Session};
 use session_lists::SessionLists;
 use soft_pool::{Pool, Slot};
@@ -186,6 +187,13 @@ impl<F: Fact> SoftTable<F> {
             }
             None => None,
         }
+    }
+
+    /// The facts of a session by the rests of their keys, one after another. Dead facts do not count.
+    pub fn of_session(&self, session: Session) -> SessionFacts<'_, F>
+        ensures { result ≡ map (λ e. e.1.0) (rows_under sessions F.rests session (facts_by F.key_of self.now.facts)) }
+    {
+        facts_of(&self.pool, &self.rows, session)
     }
 
     /// How many facts there are. No dead fact may wait.

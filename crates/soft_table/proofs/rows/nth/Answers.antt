@@ -62,3 +62,11 @@ returns-clause-none g c = λ _ j is.
     let own = rows_under sessions g.F.Fact.rests c.args.session c.args.rows.now.rows in
     walk_past c.args.pool.now own j c.args.k c.loop-step.left c.loop-step._step c.loop-step.at (c.loop-step.invariant j is)
     (omega (arith, under_no_more sessions g.F.Fact.rests c.args.session c.args.rows.now.rows, c.loop-step-test.false, c.len-step-end.ensures))
+
+pub returns-then-left-eq0-clause-row : goal.returns-then-left-eq0-clause-row
+returns-then-left-eq0-clause-row g c =
+    let own = rows_under sessions g.F.Fact.rests c.args.session c.args.rows.now.rows in
+    let f = c.requires.from in
+    let r = walk_row c.args.pool.now own f.0 c.args.k c.loop-step.left c.loop-step._step c.loop-step.at (c.loop-step.invariant f.0 f.1) c.in-Some.slot c.in-Some.is in
+    let e = live_some _ (sym c.live.ensures ∙ c.if-live.true) in
+    record { place = (c.loop-step.invariant f.0 f.1).place; rest = r.0; is = r.1; fact = e.0; live = e.1 }
