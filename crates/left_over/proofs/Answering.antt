@@ -130,13 +130,13 @@ module _ (ifaces : List Iface) (p : Paths) (w : Walls) (ts new : ResvTables) (st
         limits = subst (λ (z : ResvTables). AreWithinLimits (learnt p z w)) (sym same) limits;
       }
       by (placed.Refused why) w c same =
-        let over = resv_over (place_with ifaces) st (resv_key st fact) x before (sym c) limits in
-        let told : refused (place_with ifaces) fact.iface (entry_key_of st fact) (book (with_left (StaleResv st (resv_key st fact) x) before) fact.iface) ≡ Some why =
-        ap (λ (z : ResvState). refused (place_with ifaces) fact.iface (entry_key_of st fact) (book (with_left (StaleResv st (resv_key st fact) z) before) fact.iface)) (sym it)
-        ∙ outcome_why _ (refused (place_with ifaces) fact.iface (entry_key_of st fact) (book (with_resvs st (put_in (resvs_of st before) (resv_key st fact) (stands 0 fact left)) before) fact.iface)) why (sym w) in
-        record {
-        ok = tt;
-        refused = (over.0, over.1, resv_excess (place_with ifaces) st (resv_key st fact) x before on there booked why told);
-        err = ap (λ (z : ResvTables). learnt p z w) same;
-        limits = subst (λ (z : ResvTables). AreWithinLimits (learnt p z w)) (sym same) limits;
-      }
+          let over = resv_over (place_with ifaces) st (resv_key st fact) x before (sym c) limits in
+          let told : refused (place_with ifaces) fact.iface (entry_key_of st fact) (book (with_left (StaleResv st (resv_key st fact) x) before) fact.iface) ≡ Some why =
+          ap (λ (z : ResvState). refused (place_with ifaces) fact.iface (entry_key_of st fact) (book (with_left (StaleResv st (resv_key st fact) z) before) fact.iface)) (sym it)
+          ∙ outcome_why _ (refused (place_with ifaces) fact.iface (entry_key_of st fact) (book (with_resvs st (put_in (resvs_of st before) (resv_key st fact) (stands 0 fact left)) before) fact.iface)) why (sym w) in
+          record {
+            ok = tt;
+            refused = (over.0, over.1, resv_excess (place_with ifaces) st (resv_key st fact) x before on there booked why told);
+            err = ap (λ (z : ResvTables). learnt p z w) same;
+            limits = subst (λ (z : ResvTables). AreWithinLimits (learnt p z w)) (sym same) limits;
+          }

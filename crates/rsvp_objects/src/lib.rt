@@ -24,7 +24,9 @@ pub use class::Class;
 pub use head::Head;
 pub use obj_err::ObjErr;
 pub use object::Object;
-pub use object_fields::{Adspec, Fragments, Packet, RateErr, rate_of_word, word_of_rate, write_adspec};
+pub use object_fields::{
+    Adspec, Fragments, Packet, RateErr, rate_of_word, word_of_rate, write_adspec,
+};
 pub use reading::{head_at, next_object, object_with};
 pub use table::{is_known, is_skipped};
 pub use writing::put_object;
