@@ -1,5 +1,5 @@
 -- Requests as they are added to a merger, and the room for them.
-use Rattle.std.proofs.Common.{◌≡◌, ◌≤◌, ◌<◌, ◌+◌, ℕ, Bool, true, false, cond, ◌==◌, ◌/◌, ◌^◌, is_some, List, [], ◌∷◌, ◌++◌, length, take, get_or, Option, Some, None, refl, sym, ap, subst, ◌∙◌, arith, ⊎_elim}
+use Rattle.std.proofs.Common.{◌≡◌, ◌≤◌, ◌<◌, ◌+◌, ℕ, Bool, true, false, cond, ◌==◌, ◌/◌, ◌^◌, is_some, List, [], ◌∷◌, ◌++◌, length, take, drop, get_or, Option, Some, None, refl, sym, ap, subst, ◌∙◌, arith, ⊎_elim}
 use Rattle.std.specs.Prelude.{slice_get, nat_lt}
 use Rattle.std.specs.Int.{bit_at}
 use Rattle.std.specs.Int.Bits.{bit_and}
@@ -22,7 +22,7 @@ use Rattle.rsvp_base.specs.declared.session.Session.{Session}
 use Rattle.rsvp_base.specs.declared.style.StyleKind.{StyleKind}
 use Rattle.rsvp_base.specs.declared.style.Unit.{Unit as UnitOf}
 use Rattle.rsvp_base.proofs.Counts.{in_set_of, set_of_in, in_found, size_below}
-use Rattle.rsvp_base.proofs.Fronts.{front_more, in_front, got_in, in_filter_map, in_keys, to_keys}
+use Rattle.rsvp_base.proofs.Fronts.{front_all, front_more, in_front, got_in, in_filter_map, in_keys, to_keys}
 use Rattle.rsvp_base.proofs.Members.{in_append, in_flat_map, to_flat_map}
 use Rattle.rsvp_base.proofs.SetLaws.{has-cut, and_both, size_within, within_union_left, within_union_right}
 use Rattle.rsvp_base.proofs.Tables.{then_do, get-changed}
@@ -37,7 +37,7 @@ use Rattle.style_rules.specs.Tally.{tally_of, names_of_tally, names_of_requests}
 use Rattle.style_rules.specs.Toward.{Request, is_walled, parts_of}
 use Rattle.style_rules.specs.Ways.{Way, WayTable, line_of}
 use Rattle.style_rules.proofs.TallyRoom.{merger_has_room}
-use Rattle.soft_table.proofs.Steps.{Step}
+use Rattle.soft_table.proofs.Steps.{Step, first_dropped}
 use Rattle.soft_table.proofs.Valued.{size-valued, get-valued}
 use Rattle.resv_state.specs.declared.fact.Held.{Held}
 use Rattle.resv_state.specs.Resvs.{held_key, held_row, fact_of, resv_lines}
@@ -55,9 +55,9 @@ single (Some x) = refl
 pub filter_one : {A B : Type 0} (h : A → Option B) (es : List A) (k : ℕ) (x : A) → slice_get es k ≡ Some x → filter_map h (take (k + 1) es) ≡ filter_map h (take k es) ++ one_of (h x)
 filter_one h es k x at = ap (filter_map h) (front_more es k x at) ∙ filter_map-append h (take k es) (x ∷ []) ∙ ap (λ ys. filter_map h (take k es) ++ ys) (single (h x))
 
-pub none_at : {A B : Type 0} (f : A → B) (w : Option A) → None ≡ option_map f w → w ≡ None
-none_at f None e = refl
-none_at f (Some x) e = cc
+-- where none is left, all are taken
+pub all_taken : {A : Type 0} (es : List A) (k : ℕ) → drop k es ≡ [] → take k es ≡ es
+all_taken es k gone = front_all es k (sym (first_dropped es k) ∙ ap (λ zs. slice_get zs 0) gone)
 
 -- ---- which names come from the hop
 abbrev any_way : Sender → Way → Option (Unit {0})

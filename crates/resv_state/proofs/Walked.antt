@@ -1,6 +1,6 @@
 -- What a walk along a session's reservations finds, one at a time.
-use Rattle.std.proofs.Common.{◌≡◌, ◌≤◌, ◌<◌, ◌+◌, ℕ, suc, Bool, true, false, cond, ◌||◌, List, [], ◌∷◌, drop, Option, Some, None, sym, ap, ◌∙◌, arith}
-use Rattle.std.specs.Prelude.{nat_eq, nat_le, nat_lt}
+use Rattle.std.proofs.Common.{◌≡◌, ◌≤◌, ◌<◌, ◌+◌, ℕ, zero, suc, Bool, true, false, cond, ◌||◌, List, [], ◌∷◌, drop, map as each, Option, Some, None, refl, sym, ap, ◌∙◌, arith}
+use Rattle.std.specs.Prelude.{nat_eq, nat_le, nat_lt, length, slice_get}
 use Rattle.std.specs.List.{list_any}
 use Rattle.std.specs.Ordering.{eq_by_cmp}
 use Rattle.std.proofs.lemmas.Bool.Decides.{nat_tests}
@@ -13,7 +13,8 @@ use Rattle.rsvp_base.specs.declared.session.Session.{Session}
 use Rattle.rsvp_base.proofs.Counts.{has-set_of}
 use Rattle.rsvp_base.proofs.SetLaws.{size-with_key, size-with_rows}
 use Rattle.rsvp_base.proofs.Tables.{either}
-use Rattle.style_rules.specs.Lines.{NextHop, line_keys, next_hops}
+use Rattle.std.specs.FinMap.Entries.{where_key}
+use Rattle.style_rules.specs.Lines.{LineKey, NextHop, line_keys, next_hops}
 use Rattle.soft_table.specs.Facts.{facts_by}
 use Rattle.soft_table.specs.Walks.{is_last, changes}
 use Rattle.soft_table.proofs.Walks.{all_changes}
@@ -24,6 +25,11 @@ use Rattle.resv_state.specs.Walks.{Rest, rests, held_under, hops_in, with_names,
 
 one_more : (n : ℕ) → suc n ≡ n + 1
 one_more n = omega arith
+
+pub within : {A : Type 0} (es : List A) (k : ℕ) (x : A) → slice_get es k ≡ Some x → k < length es
+within [] k x at = cc
+within (e ∷ es) zero x at = omega arith
+within (e ∷ es) (suc k) x at = let lt = within es k x at in omega (arith, lt)
 
 -- what stands from a place on, at a reservation that was found
 pub from_here : (s : Session) (fs : List (Held × ℕ)) (k : ℕ) (f : Held) (st : Step rests held_key s fs k f) → drop k (held_under s fs) ≡ st.row ∷ drop (k + 1) (held_under s fs)
@@ -39,11 +45,20 @@ hop_here last s fs k f st =
     ap (λ es. changes next_hops last (hops_in es)) (from_here s fs k f st)
     ∙ ap (λ (r : Rest). cond (is_last next_hops last r.0) (changes next_hops last (hops_in (drop (k + 1) (held_under s fs)))) (1 + changes next_hops (Some r.0) (hops_in (drop (k + 1) (held_under s fs))))) st.rest
 
-pub among_here : (hop : NextHop) (s : Session) (fs : List (Held × ℕ)) (k : ℕ) (f : Held) (st : Step rests held_key s fs k f)
-    → list_any (eq_by_cmp next_hops.cmp hop) (hops_in (drop k (held_under s fs))) ≡ (eq_by_cmp next_hops.cmp hop (held_key f).1.0 || list_any (eq_by_cmp next_hops.cmp hop) (hops_in (drop (k + 1) (held_under s fs))))
-among_here hop s fs k f st =
-    ap (λ es. list_any (eq_by_cmp next_hops.cmp hop) (hops_in es)) (from_here s fs k f st)
-    ∙ ap (λ (r : Rest). eq_by_cmp next_hops.cmp hop r.0 || list_any (eq_by_cmp next_hops.cmp hop) (hops_in (drop (k + 1) (held_under s fs)))) st.rest
+abbrev of_session : Session → List (Held × ℕ) → List (LineKey × (Held × ℕ))
+of_session s fs = where_key line_keys.cmp (λ k. eq_by_cmp sessions.cmp s k.0) (facts_by held_key fs)
+
+abbrev cut : List (LineKey × (Held × ℕ)) → List (Rest × (Held × ℕ))
+cut es = each (λ e. (e.0.1, e.1)) es
+
+pub among : (hop : NextHop) (s : Session) (fs : List (Held × ℕ)) → list_any (λ h. eq_by_cmp next_hops.cmp hop (held_key h).1.0) (each (λ e. e.1.0) (held_under s fs)) ≡ list_any (eq_by_cmp next_hops.cmp hop) (hops_in (held_under s fs))
+among hop s [] = refl
+among hop s (f ∷ fs) = by (eq_by_cmp sessions.cmp s (held_key f.0).0) (among hop s fs)
+  where
+    by : (b : Bool) → list_any (λ h. eq_by_cmp next_hops.cmp hop (held_key h).1.0) (each (λ e. e.1.0) (cut (of_session s fs))) ≡ list_any (eq_by_cmp next_hops.cmp hop) (hops_in (cut (of_session s fs)))
+        → list_any (λ h. eq_by_cmp next_hops.cmp hop (held_key h).1.0) (each (λ e. e.1.0) (cut (cond b ((held_key f.0, f) ∷ of_session s fs) (of_session s fs)))) ≡ list_any (eq_by_cmp next_hops.cmp hop) (hops_in (cut (cond b ((held_key f.0, f) ∷ of_session s fs) (of_session s fs))))
+    by true ih = ap (λ b. eq_by_cmp next_hops.cmp hop (held_key f.0).1.0 || b) ih
+    by false ih = ih
 
 hops_with : (hop : NextHop) (s : Session) (fs : List (Held × ℕ)) (b : Bool) → list_any (eq_by_cmp next_hops.cmp hop) (hops_in (held_under s fs)) ≡ b
     → size (with_hop hop (held_under s fs)) ≡ cond b (size (set_of {o = next_hops} (hops_in (held_under s fs)))) (size (set_of {o = next_hops} (hops_in (held_under s fs))) + 1)

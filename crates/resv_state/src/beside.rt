@@ -2,16 +2,13 @@
 ghost use Rattle.std.specs.Prelude.{◌≡◌, map};
 ghost use Rattle.std.specs.Ordering.{eq_by_cmp};
 ghost use Rattle.rsvp_base.specs.Orders.{units};
-ghost use Rattle.rsvp_base.specs.Rows.{AreRows};
-ghost use Rattle.style_rules.specs.Lines.{line_keys};
 ghost use Rattle.resv_state.specs.Merging.{held_said, is_beside, joined_with};
-ghost use Rattle.resv_state.specs.Resvs.{held_row};
-ghost use Rattle.resv_state.specs.Walks.{AreFew, held_under};
+ghost use Rattle.resv_state.specs.Walks.{held_under};
 
 use crate::fact::Held;
-use crate::walks::{FACTS, behind, is_rest};
+use crate::walks::is_rest;
 use rsvp_base::{Addr, Flow, Session, Unit};
-use soft_table::{Fact, Finger, SoftTable};
+use soft_table::{Fact, SoftTable};
 use std::cmp::Ordering;
 
 // Whether two units are one.
@@ -38,22 +35,14 @@ pub(crate) fn join_beside(
     key: &((u8, Addr), Unit),
     flow: Flow,
 ) -> Flow
-    requires rising { AreRows line_keys held_row table.now.facts }
-    requires few { AreFew (held_under session table.now.facts) }
     ensures { result ≡ joined_with key.now flow (map held_said (held_under session table.now.facts)) }
 {
     let mut joined = flow;
-    let mut finger = Finger::default();
-    let mut next = table.at(session, 0);
-    for k in 0..FACTS {
-        let Some(held) = next else {
-            return joined;
-        };
+    for held in table.of_session(session) {
         let (_, rest) = held.key();
         if is_beside(key, &rest) {
             joined = flow_merge::join(&joined, &held.fact.part.flow);
         }
-        next = behind(table, session, held, &mut finger);
     }
     joined
 }

@@ -2,22 +2,18 @@
 ghost use Rattle.std.specs.Prelude.{◌≡◌, ◌≤◌, ◌==◌, ◌++◌, List};
 ghost use Rattle.std.specs.Int.{bit_at};
 ghost use Rattle.std.specs.List.{filter_map};
-ghost use Rattle.rsvp_base.specs.Rows.{AreRows};
 ghost use Rattle.rsvp_base.specs.Sets.{union};
 ghost use Rattle.rsvp_base.specs.Table.{get, has, kept, size};
-ghost use Rattle.style_rules.specs.Lines.{line_keys};
 ghost use Rattle.style_rules.specs.Parts.{part_cut};
 ghost use Rattle.style_rules.specs.Tally.{tally_of, names_of_tally};
 ghost use Rattle.style_rules.specs.Toward.{Request, is_walled};
-ghost use Rattle.resv_state.specs.Resvs.{held_row};
-ghost use Rattle.resv_state.specs.Walks.{AreFew, held_under};
+ghost use Rattle.resv_state.specs.Walks.{held_under};
 ghost use Rattle.resv_state.specs.Merging.{names_by, names_via, is_by, is_way_walled, is_blockaded, request_of, one_of, open_on, held_names, held_on, held_toward, want_request};
 
 use crate::fact::{Held, ResvFact};
 use crate::leaving::{keep_if, part_of};
-use crate::walks::{FACTS, behind};
 use rsvp_base::{Flow, Part, Sender, Senders, Session};
-use soft_table::{Finger, SoftTable};
+use soft_table::SoftTable;
 use style_rules::{Merger, Parts, Style, Upstream, Wall};
 
 // ---- blockades
@@ -118,40 +114,24 @@ fn add_on<S: Style>(merger: &mut Merger<S>, fact: &ResvFact, iface: u8)
 
 // The requests of a session's reservations on an interface, none blockaded.
 pub(crate) fn merge_on<S: Style>(table: &SoftTable<Held>, session: Session, iface: u8) -> Merger<S>
-    requires rising { AreRows line_keys held_row table.now.facts }
-    requires few { AreFew (held_under session table.now.facts) }
-    requires named { size (held_names (held_under session table.now.facts)) ≤ 16 }
+    requires { size (held_names (held_under session table.now.facts)) ≤ 16 }
     ensures { result ≡ tally_of S.kind_is (filter_map (held_on iface) (held_under session table.now.facts)) }
 {
     let mut merger = Merger::new();
-    let mut finger = Finger::default();
-    let mut next = table.at(session, 0);
-    for k in 0..FACTS {
-        let Some(held) = next else {
-            return merger;
-        };
+    for held in table.of_session(session) {
         add_on(&mut merger, &held.fact, iface);
-        next = behind(table, session, held, &mut finger);
     }
     merger
 }
 
 // The requests of a session's reservations toward a previous hop.
 fn merge_resvs<S: Style>(table: &SoftTable<Held>, session: Session, up: &Upstream) -> Merger<S>
-    requires rising { AreRows line_keys held_row table.now.facts }
-    requires few { AreFew (held_under session table.now.facts) }
-    requires named { size up.now ≤ 16 }
+    requires { size up.now ≤ 16 }
     ensures { result ≡ tally_of S.kind_is (filter_map (held_toward up.now) (held_under session table.now.facts)) }
 {
     let mut merger = Merger::new();
-    let mut finger = Finger::default();
-    let mut next = table.at(session, 0);
-    for k in 0..FACTS {
-        let Some(held) = next else {
-            return merger;
-        };
+    for held in table.of_session(session) {
         add_cut(&mut merger, &held.fact.part, up, Some(held.fact.iface));
-        next = behind(table, session, held, &mut finger);
     }
     merger
 }
@@ -163,9 +143,7 @@ pub(crate) fn merge_toward<S: Style>(
     up: &Upstream,
     own: &Parts,
 ) -> Merger<S>
-    requires rising { AreRows line_keys held_row table.now.facts }
-    requires few { AreFew (held_under session table.now.facts) }
-    requires named { size up.now ≤ 16 }
+    requires { size up.now ≤ 16 }
     ensures { result ≡ tally_of S.kind_is (filter_map (held_toward up.now) (held_under session table.now.facts) ++ filter_map (want_request up.now) own.now.rows) }
 {
     let mut merger = merge_resvs(table, session, up);

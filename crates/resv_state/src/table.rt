@@ -23,7 +23,7 @@ use crate::beside::join_beside;
 use crate::fact::{Held, ResvFact};
 use crate::leaving::{lessen, only, rest_of};
 use crate::merging::{merge_on, merge_toward};
-use crate::walks::{FACTS, are_all, fits_fact, fits_hop, fits_names, fits_session, is_refresh};
+use crate::walks::{FACTS, fits_fact, fits_hop, fits_names, fits_session, is_refresh};
 use rsvp_base::{Addr, Flow, Full, NoMemory, Part, Sender, Senders, Session, Unit};
 use soft_table::{Finger, SoftTable};
 use std::alloc::Global;
@@ -105,11 +105,16 @@ impl<S: Style> ResvTable<S> {
         if is_refresh(&self.table, fact.session, &key, &fact.part.senders) {
             return true;
         }
-        let room = fits_fact(&self.table, fact.session, &key);
-        let known = fits_session(&self.table, fact.session);
-        let near = fits_hop(&self.table, fact.session, hop);
-        let named = fits_names(&self.table, fact.session, &key, &fact.part);
-        are_all(room, known, near, named)
+        if !fits_fact(&self.table, fact.session, &key) {
+            return false;
+        }
+        if !fits_session(&self.table, fact.session) {
+            return false;
+        }
+        if !fits_hop(&self.table, fact.session, hop) {
+            return false;
+        }
+        fits_names(&self.table, fact.session, &key, &fact.part)
     }
 
     /// The reservation of a session, next hop and unit. `None` exactly where there is none.

@@ -1,22 +1,21 @@
 //! Walks along the reservations of a session: what one more would make of its next hops and names.
-ghost use Rattle.std.specs.Prelude.{◌≡◌, ◌≤◌, ◌+◌, ◌&&◌, ℕ, [], true, None, Some, is_some, length, cond, nat_le};
+ghost use Rattle.std.specs.Prelude.{◌≡◌, ◌≤◌, ◌+◌, ℕ, [], true, None, Some, is_some, length, cond, nat_le};
 ghost use Rattle.std.specs.FinMap.Entries.{find};
 ghost use Rattle.soft_table.specs.Facts.{facts_by, sessions_in};
 ghost use Rattle.std.specs.List.{list_any};
-ghost use Rattle.std.specs.Option.{option_copied};
 ghost use Rattle.std.specs.Ordering.{eq_by_cmp};
 ghost use Rattle.rsvp_base.specs.Rows.{AreRows};
 ghost use Rattle.rsvp_base.specs.Sets.{IsWithin};
 ghost use Rattle.rsvp_base.specs.Table.{size};
 ghost use Rattle.resv_state.specs.declared.fact.Held.{Held};
 ghost use Rattle.style_rules.specs.Lines.{line_keys, next_hops};
-ghost use Rattle.soft_table.specs.Walks.{changes, fact_at, is_last};
+ghost use Rattle.soft_table.specs.Walks.{changes, is_last};
 ghost use Rattle.resv_state.specs.Resvs.{held_key, held_row};
 ghost use Rattle.resv_state.specs.Walks.{AreFew, held_under, hops_in, is_full, rests, with_hop, with_names};
 
 use crate::fact::{Held, rest_order};
 use rsvp_base::{Addr, Part, Senders, Session, Unit};
-use soft_table::{Fact, Finger, SoftTable};
+use soft_table::{Fact, SoftTable};
 use std::cmp::Ordering;
 
 // At most so many facts, and next hops of a session.
@@ -50,62 +49,30 @@ pub(crate) fn is_rest(a: &((u8, Addr), Unit), b: &((u8, Addr), Unit)) -> bool
     rest_order(a, b) == Ordering::Equal
 }
 
-// The reservation of a session that comes next behind one of it.
-pub(crate) fn behind<'a>(
-    table: &'a SoftTable<Held>,
-    session: Session,
-    held: &Held,
-    finger: &mut Finger,
-) -> Option<&'a Held>
-    requires { AreRows line_keys held_row table.now.facts }
-    ensures { (k : ℕ) → Some held.now ≡ fact_at rests held_key session table.now.facts k → option_copied result ≡ fact_at rests held_key session table.now.facts (k + 1) }
-{
-    let (_, rest) = held.key();
-    table.after(session, rest, finger)
-}
-
 // How many next hops a session has: those of one stand together.
 fn count_hops(table: &SoftTable<Held>, session: Session) -> usize
-    requires rising { AreRows line_keys held_row table.now.facts }
-    requires few { AreFew (held_under session table.now.facts) }
+    requires { AreFew (held_under session table.now.facts) }
     ensures { result ≡ changes next_hops None (hops_in (held_under session table.now.facts)) }
 {
     let mut count = 0;
     let mut last = None;
-    let mut finger = Finger::default();
-    let mut next = table.at(session, 0);
-    for k in 0..FACTS {
-        let Some(held) = next else {
-            return count;
-        };
+    for held in table.of_session(session) {
         let hop = (held.fact.iface, held.fact.next);
         if !is_last_hop(last, hop) {
             count += 1;
             last = Some(hop);
         }
-        next = behind(table, session, held, &mut finger);
     }
     count
 }
 
 // Whether a session has a next hop.
 fn has_hop(table: &SoftTable<Held>, session: Session, hop: (u8, Addr)) -> bool
-    requires rising { AreRows line_keys held_row table.now.facts }
-    requires few { AreFew (held_under session table.now.facts) }
     ensures { result ≡ list_any (eq_by_cmp next_hops.cmp hop) (hops_in (held_under session table.now.facts)) }
 {
-    let mut finger = Finger::default();
-    let mut next = table.at(session, 0);
-    for k in 0..FACTS {
-        let Some(held) = next else {
-            return false;
-        };
-        if is_hop(hop, (held.fact.iface, held.fact.next)) {
-            return true;
-        }
-        next = behind(table, session, held, &mut finger);
-    }
-    false
+    table
+        .of_session(session)
+        .any(|held| is_hop(hop, (held.fact.iface, held.fact.next)))
 }
 
 // Whether a session may have this next hop, beside its others.
@@ -128,17 +95,10 @@ pub(crate) fn fits_names(
     key: &((u8, Addr), Unit),
     part: &Part,
 ) -> bool
-    requires rising { AreRows line_keys held_row table.now.facts }
-    requires few { AreFew (held_under session table.now.facts) }
     ensures { result ≡ nat_le (size (with_names key.now part.now.senders (held_under session table.now.facts))) 16 }
 {
     let mut names = part.senders.copy();
-    let mut finger = Finger::default();
-    let mut next = table.at(session, 0);
-    for k in 0..FACTS {
-        let Some(held) = next else {
-            return names.len() <= 16;
-        };
+    for held in table.of_session(session) {
         let (_, rest) = held.key();
         if !is_rest(key, &rest) {
             match names.union(&held.fact.part.senders) {
@@ -146,7 +106,6 @@ pub(crate) fn fits_names(
                 Err(_) => return false,
             }
         }
-        next = behind(table, session, held, &mut finger);
     }
     names.len() <= 16
 }
@@ -187,11 +146,4 @@ pub(crate) fn fits_session(table: &SoftTable<Held>, session: Session) -> bool
         return true;
     }
     table.sessions() < SESSIONS
-}
-
-// Whether all four hold.
-pub(crate) fn are_all(a: bool, b: bool, c: bool, d: bool) -> bool
-    ensures { result ≡ (a && (b && (c && d))) }
-{
-    a && b && c && d
 }

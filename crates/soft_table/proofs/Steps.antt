@@ -107,6 +107,28 @@ module _ {F R : Type 0} (rests : Keys R) (key : F → Session × R) (s : Session
       one_more : (n : ℕ) → suc n ≡ n + 1
       one_more n = omega arith
 
+  -- the walk that lends the facts: the k-th comes behind those before it, and then the next, until none is left
+  pub met : (k : ℕ) (f : F) (left : List F) → each (λ (e : R × (F × ℕ)). e.1.0) (drop k those) ≡ f ∷ left → Step k f × (left ≡ each (λ (e : R × (F × ℕ)). e.1.0) (drop (k + 1) those))
+  met k f left is = by (slice_get those k) refl
+    where
+      one_more : (n : ℕ) → suc n ≡ n + 1
+      one_more n = omega arith
+
+      by : (w : Option (R × (F × ℕ))) → slice_get those k ≡ w → Step k f × (left ≡ each (λ (e : R × (F × ℕ)). e.1.0) (drop (k + 1) those))
+      by None at = let none : [] ≡ f ∷ left = sym (ap (each (λ (e : R × (F × ℕ)). e.1.0)) (dropped_all those k at)) ∙ is in absurd (cc)
+      by (Some x) at =
+          let rows : x.1.0 ∷ each (λ (e : R × (F × ℕ)). e.1.0) (drop (suc k) those) ≡ f ∷ left = sym (ap (each (λ (e : R × (F × ℕ)). e.1.0)) (dropped_at those k x at)) ∙ is in
+          let first : x.1.0 ≡ f = cc in
+          let others : each (λ (e : R × (F × ℕ)). e.1.0) (drop (suc k) those) ≡ left = cc in
+          (step k f (ap Some (sym first) ∙ sym (ap (option_map (λ (e : R × (F × ℕ)). e.1.0)) at)), sym others ∙ ap (λ n. each (λ (e : R × (F × ℕ)). e.1.0) (drop n those)) (one_more k))
+
+  pub all_met : (k : ℕ) → each (λ (e : R × (F × ℕ)). e.1.0) (drop k those) ≡ [] → drop k those ≡ []
+  all_met k is = by (drop k those) is
+    where
+      by : (es : List (R × (F × ℕ))) → each (λ (e : R × (F × ℕ)). e.1.0) es ≡ [] → es ≡ []
+      by [] e = refl
+      by (x ∷ es) e = cc
+
   -- the facts from the k-th on
   pub from_kth : IsTrue (is_sorted (fact_keys rests).cmp (facts_by key fs)) → (k : ℕ) (r : Option F) → r ≡ fact_at rests key s fs k → facts_from rests key s fs r ≡ each (λ (e : R × (F × ℕ)). e.1.0) (drop k those)
   from_kth up k None is = ap (each (λ (e : R × (F × ℕ)). e.1.0)) (sym (end k is))

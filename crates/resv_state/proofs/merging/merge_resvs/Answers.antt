@@ -1,39 +1,36 @@
-use Rattle.std.proofs.Common.{◌≤◌, take, sym, ap, subst, ◌∙◌, arith}
+use Rattle.std.proofs.Common.{◌≤◌, ◌+◌, take, sym, ap, subst, ◌∙◌}
 use Rattle.std.specs.List.{filter_map}
-use Rattle.std.specs.Prelude.{slice_get}
-use Rattle.std.specs.Option.{option_copied}
 use Rattle.rsvp_base.specs.Sets.{union}
 use Rattle.rsvp_base.specs.Table.{size}
 use Rattle.style_rules.specs.Tally.{TallyTable, tally_of, names_of_tally}
-use Rattle.soft_table.proofs.Steps.{step}
+use Rattle.soft_table.proofs.Steps.{met, all_met}
 use Rattle.resv_state.specs.Merging.{held_toward, names_via}
 use Rattle.resv_state.specs.Resvs.{held_key}
 use Rattle.resv_state.specs.Walks.{rests, held_under}
-use Rattle.std.proofs.lemmas.List.{take_all}
-use Rattle.rsvp_base.proofs.Fronts.{front_all}
-use Rattle.resv_state.proofs.Merged.{none_at, room_via, toward_within, toward_more}
+use Rattle.resv_state.proofs.Merged.{all_taken, room_via, toward_within, toward_more}
 use Rattle.resv_state.proofs.merging.merge_resvs.Goals as goal
+
+pub loop-held-init : goal.loop-held-init
+loop-held-init g c = record { k = 0; at = sym (c.into_iter-held-iterator.ensures.into_iter_gives ∙ c.of_session-held-items.ensures); merged = c.new-merger.ensures }
 
 pub add_cut-requires : goal.add_cut-requires
 add_cut-requires g c =
+    let at = c.loop-held.invariant in
     let us = held_under c.args.session c.args.table.now.facts in
-    subst (λ (t : TallyTable). size (union (names_of_tally t) (names_via c.args.up.now)) ≤ 16) (sym c.loop-k.invariant.merged)
-    (room_via g.S.Style.kind_is c.args.up.now (filter_map (held_toward c.args.up.now) (take c.loop-k.k us)) c.in-Some.held.now.fact.part.flow c.requires.named (toward_within c.args.up.now (take c.loop-k.k us)))
+    subst (λ (t : TallyTable). size (union (names_of_tally t) (names_via c.args.up.now)) ≤ 16) (sym at.merged)
+    (room_via g.S.Style.kind_is c.args.up.now (filter_map (held_toward c.args.up.now) (take at.k us)) c.in-Some.held.now.fact.part.flow c.requires (toward_within c.args.up.now (take at.k us)))
 
-pub loop-k-preserved : goal.loop-k-preserved
-loop-k-preserved g c =
-    let st = step rests held_key c.args.session c.args.table.now.facts c.loop-k.k c.in-Some.held.now (sym (ap option_copied c.in-Some.is) ∙ c.loop-k.invariant.at) in
+pub loop-held-preserved : goal.loop-held-preserved
+loop-held-preserved g c =
+    let at = c.loop-held.invariant in
+    let st = met rests held_key c.args.session c.args.table.now.facts at.k c.in-Some.held.now c.next.new.self (at.at ∙ c.in-Some.ensures.steps) in
     record {
-      at = c.behind-next.ensures c.loop-k.k (sym (ap option_copied c.in-Some.is) ∙ c.loop-k.invariant.at);
-      merged = c.add_cut.ensures (filter_map (held_toward c.args.up.now) (take c.loop-k.k (held_under c.args.session c.args.table.now.facts))) c.loop-k.invariant.merged ∙ ap (tally_of g.S.Style.kind_is) (sym (toward_more c.args.session c.args.table.now.facts c.loop-k.k c.in-Some.held.now st c.args.up.now));
+      k = at.k + 1;
+      at = sym st.1;
+      merged = c.add_cut.ensures (filter_map (held_toward c.args.up.now) (take at.k (held_under c.args.session c.args.table.now.facts))) at.merged ∙ ap (tally_of g.S.Style.kind_is) (sym (toward_more c.args.session c.args.table.now.facts at.k c.in-Some.held.now st.0 c.args.up.now));
     }
-
-pub returns-in_default : goal.returns-in_default
-returns-in_default g c =
-    let us = held_under c.args.session c.args.table.now.facts in
-    c.loop-k.invariant.merged ∙ ap (λ es. tally_of g.S.Style.kind_is (filter_map (held_toward c.args.up.now) es)) (front_all us c.loop-k.k (none_at (λ e. e.1.0) (slice_get us c.loop-k.k) (sym (ap option_copied c.in_default.is) ∙ c.loop-k.invariant.at)))
 
 pub returns : goal.returns
 returns g c =
-    let us = held_under c.args.session c.args.table.now.facts in
-    c.loop-k.invariant.merged ∙ ap (λ es. tally_of g.S.Style.kind_is (filter_map (held_toward c.args.up.now) es)) (take_all c.loop-k.k us (omega (arith, c.requires.few, c.loop-k-test.false)))
+    let at = c.loop-held.invariant in
+    at.merged ∙ ap (λ es. tally_of g.S.Style.kind_is (filter_map (held_toward c.args.up.now) es)) (all_taken (held_under c.args.session c.args.table.now.facts) at.k (all_met rests held_key c.args.session c.args.table.now.facts at.k (at.at ∙ c.in-None.ensures.steps.0)))

@@ -23,7 +23,7 @@ add_cut-requires g c =
     let ws = c.as_slice-row-items.result.now in
     let i = c.loop-row.row-index in
     subst (λ (t : TallyTable). size (union (names_of_tally t) (names_via up)) ≤ 16) (sym c.loop-row.invariant)
-    (room_via g.S.Style.kind_is up (filter_map (held_toward up) us ++ filter_map (want_request up) (take i ws)) c.row-item.result.1.flow c.requires.named
+    (room_via g.S.Style.kind_is up (filter_map (held_toward up) us ++ filter_map (want_request up) (take i ws)) c.row-item.result.1.flow c.requires
     (append_within (names_via up) (filter_map (held_toward up) us) (filter_map (want_request up) (take i ws)) (toward_within up us) (wants_within up (take i ws))))
 
 pub loop-row-preserved : goal.loop-row-preserved

@@ -1,13 +1,11 @@
-use Rattle.std.proofs.Common.{◌≡◌, drop}
-use Rattle.std.specs.Option.{option_copied}
-use Rattle.soft_table.specs.Walks.{fact_at}
-use Rattle.resv_state.specs.Resvs.{held_key}
-use Rattle.resv_state.specs.Walks.{held_under, rests, with_names}
+use Rattle.std.proofs.Common.{◌≡◌, ℕ, drop, map as each}
+use Rattle.resv_state.specs.Walks.{held_under, with_names}
 use Rattle.resv_state.proofs.walks.fits_names.Given as goal
 
-abbrev pub invariant-loop-k : goal.invariant-loop-k
-invariant-loop-k l =
+abbrev pub invariant-loop-held : goal.invariant-loop-held
+invariant-loop-held l =
     record {
-      at : option_copied l.next ≡ fact_at rests held_key l.session l.table.facts l.k;
-      named : with_names l.key l.names (drop l.k (held_under l.session l.table.facts)) ≡ with_names l.key l.part.senders (held_under l.session l.table.facts);
+      k : ℕ;
+      at : each (λ e. e.1.0) (drop k (held_under l.fn.session l.table.facts)) ≡ l.held-iterator;
+      named : with_names l.key l.names (drop k (held_under l.fn.session l.table.facts)) ≡ with_names l.key l.part.senders (held_under l.fn.session l.table.facts);
     }

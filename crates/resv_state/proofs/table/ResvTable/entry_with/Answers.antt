@@ -5,11 +5,7 @@ use Rattle.resv_state.specs.Resvs.{ResvMap, AreOfStyle, resv_key}
 use Rattle.resv_state.specs.Walks.{held_under}
 use Rattle.resv_state.proofs.Entries.{each_said, entry_is}
 use Rattle.resv_state.proofs.Facts.{rows_said}
-use Rattle.resv_state.proofs.Merged.{held_few}
 use Rattle.resv_state.proofs.table.ResvTable.entry_with.Goals as goal
-
-pub join_beside-requires-clause-few : goal.join_beside-requires-clause-few
-join_beside-requires-clause-few g c = held_few g.S.Style.kind_is c.self.inside.table.facts c.self.inside.facts c.args.fact.now.session c.self.inside.within
 
 pub returns : goal.returns
 returns g c = λ left.

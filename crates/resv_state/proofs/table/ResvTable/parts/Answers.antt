@@ -5,14 +5,11 @@ use Rattle.resv_state.specs.Resvs.{ResvMap}
 use Rattle.resv_state.specs.Walks.{held_under}
 use Rattle.resv_state.specs.Merging.{parts_on, held_on}
 use Rattle.resv_state.proofs.Facts.{rows_said}
-use Rattle.resv_state.proofs.Merged.{held_few, held_named, all_open, said_parts}
+use Rattle.resv_state.proofs.Merged.{held_named, all_open, said_parts}
 use Rattle.resv_state.proofs.table.ResvTable.parts.Goals as goal
 
-pub merge_on-requires-clause-few : goal.merge_on-requires-clause-few
-merge_on-requires-clause-few g c = held_few g.S.Style.kind_is c.self.inside.table.facts c.self.inside.facts c.args.session c.self.inside.within
-
-pub merge_on-requires-clause-named : goal.merge_on-requires-clause-named
-merge_on-requires-clause-named g c = held_named g.S.Style.kind_is c.self.inside.table.facts c.self.inside.facts c.args.session c.self.inside.within
+pub merge_on-requires : goal.merge_on-requires
+merge_on-requires g c = held_named g.S.Style.kind_is c.self.inside.table.facts c.self.inside.facts c.args.session c.self.inside.within
 
 pub returns : goal.returns
 returns g c =

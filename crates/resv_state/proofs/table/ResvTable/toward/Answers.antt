@@ -5,11 +5,8 @@ use Rattle.resv_state.specs.Resvs.{ResvMap}
 use Rattle.resv_state.specs.Walks.{held_under}
 use Rattle.resv_state.specs.Merging.{held_toward, resv_request, want_request}
 use Rattle.resv_state.proofs.Facts.{rows_said}
-use Rattle.resv_state.proofs.Merged.{held_few, said_rows}
+use Rattle.resv_state.proofs.Merged.{said_rows}
 use Rattle.resv_state.proofs.table.ResvTable.toward.Goals as goal
-
-pub merge_toward-requires-clause-few : goal.merge_toward-requires-clause-few
-merge_toward-requires-clause-few g c = held_few g.S.Style.kind_is c.self.inside.table.facts c.self.inside.facts c.args.session c.self.inside.within
 
 pub returns : goal.returns
 returns g c =
