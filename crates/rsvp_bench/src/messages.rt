@@ -1,4 +1,5 @@
 //! The work on messages that is timed: one is read, or written, again and again, each time of another session.
+ghost use Rattle.std.specs.Prelude.{◌<◌};
 
 use crate::tables::{Served, both, once};
 use crate::vectors::{Vector, bytes_of};

@@ -1,5 +1,7 @@
 //! What the work counts.
+use crate::messages::{Speech, message_times};
 use crate::tables::{Calls, Desk, Served, serve_times};
+use crate::vectors::Vector;
 use crate::work::{Done, read_times, write_times};
 
 #[test]
@@ -39,5 +41,32 @@ fn a_full_table_answers_for_all(rt: HostRuntime) {
         let (number, sum) = expected;
         let served = serve_times(rt.alloc(), Desk { is_shared, calls }, 1);
         assert_eq!(rt; served, Some(Served { calls: number, sum }));
+    }
+}
+
+// Of each message the sum of its numbers, which each session that it is given leaves as it is, and its length before its checksum,
+// as another program reads them in its bytes.
+#[test]
+fn each_message_counts_once_a_call(rt: HostRuntime) {
+    for (vector, said, written) in [
+        (Vector::Path, 4_345_409_842, 0x58_4cde),
+        (Vector::PathAdspec, 4_378_975_875, 0x8c_8eff),
+        (Vector::Resv, 4_345_405_094, 0x5c_5a4f),
+        (Vector::PathErr, 4_345_377_336, 0x2c_5681),
+        (Vector::ResvErr, 4_680_932_515, 0x70_7927),
+        (Vector::PathTear, 4_345_375_540, 0x2c_6182),
+        (Vector::ResvTear, 4_345_370_536, 0x30_70f3),
+        (Vector::ResvConf, 4_680_939_868, 0x90_ca49u64),
+    ] {
+        for (is_written, sum) in [(false, said), (true, written)] {
+            let served = message_times(Speech { vector, is_written }, 130);
+            assert_eq!(rt;
+                served,
+                Some(Served {
+                    calls: 130,
+                    sum: 130 * sum
+                })
+            );
+        }
     }
 }
