@@ -114,7 +114,7 @@ module _ (ifaces : List Iface) (p : Paths) (w : Walls) (ts new : ResvTables) (st
 
       by : (q : Placed) → q ≡ placed_in (place_with ifaces) st 0 fact left before → as_stale q ≡ stale_refusal (place_with ifaces) (StaleResv st (resv_key st fact) x) before
           → new ≡ chosen q (with_table st (put_in (table_of st ts) (resv_key st fact) (stands 0 fact left)) ts) ts → ResvAnswer (answer_of on q)
-      by placed.Taken w c is =
+      by placed.Taken which c is =
           let t = resv_taken (place_with ifaces) st (resv_key st fact) x before (sym c) limits booked in
           let now : learnt p new w ≡ with_left (StaleResv st (resv_key st fact) x) before = ap (λ (z : ResvTables). learnt p z w) (is ∙ ap (λ (z : ResvState). with_table st (put_in (table_of st ts) (resv_key st fact) z) ts) it) in
           record {
@@ -123,17 +123,17 @@ module _ (ifaces : List Iface) (p : Paths) (w : Walls) (ts new : ResvTables) (st
             err = tt;
             limits = subst AreWithinLimits (sym now) t.0;
           }
-      by placed.LeftOut w c same = record {
+      by placed.LeftOut which c same = record {
         ok = tt;
         refused = resv_full (place_with ifaces) st (resv_key st fact) x before (sym c);
         err = ap (λ (z : ResvTables). learnt p z w) same;
         limits = subst (λ (z : ResvTables). AreWithinLimits (learnt p z w)) (sym same) limits;
       }
-      by (placed.Refused why) w c same =
+      by (placed.Refused why) which c same =
           let over = resv_over (place_with ifaces) st (resv_key st fact) x before (sym c) limits in
           let told : refused (place_with ifaces) fact.iface (entry_key_of st fact) (book (with_left (StaleResv st (resv_key st fact) x) before) fact.iface) ≡ Some why =
           ap (λ (z : ResvState). refused (place_with ifaces) fact.iface (entry_key_of st fact) (book (with_left (StaleResv st (resv_key st fact) z) before) fact.iface)) (sym it)
-          ∙ outcome_why _ (refused (place_with ifaces) fact.iface (entry_key_of st fact) (book (with_resvs st (put_in (resvs_of st before) (resv_key st fact) (stands 0 fact left)) before) fact.iface)) why (sym w) in
+          ∙ outcome_why _ (refused (place_with ifaces) fact.iface (entry_key_of st fact) (book (with_resvs st (put_in (resvs_of st before) (resv_key st fact) (stands 0 fact left)) before) fact.iface)) why (sym which) in
           record {
             ok = tt;
             refused = (over.0, over.1, resv_excess (place_with ifaces) st (resv_key st fact) x before on there booked why told);

@@ -15,6 +15,16 @@ use Rattle.left_over.specs.declared.resvs.ResvsLeft.{ResvsLeft}
 use Rattle.left_over.proofs.Answering.{resv_answer}
 use Rattle.left_over.proofs.at_node.AtNode.add_resv.Goals as goal
 
+pub returns-in-Some-clause-ok : goal.returns-in-Some-clause-ok
+returns-in-Some-clause-ok c =
+    let r = c.in-Some.resvs in
+    let same : r.book.ifaces ≡ ifaces_at_node c.args.ends.now c.args.node = subst (λ (o : Option ResvsLeft). IfSome (ifaces_in o) (λ is. is ≡ ifaces_at_node c.args.ends.now c.args.node)) c.in-Some.is c.requires.booked in
+    let a = resv_answer r.book.ifaces (paths_of c.args.self.now.paths) (walls_of c.args.self.now.walls) (tables_in r) (tables_in c.stand.new.self) c.args.style c.args.fact c.args.left c.iface-on.result c.iface-on.ensures c.stand.result c.stand.ensures.cause c.stand.ensures.tables
+    (subst (λ (o : Option ResvsLeft). AreWithinLimits (learnt (paths_of c.args.self.now.paths) (resvs_in o) (walls_of c.args.self.now.walls))) c.in-Some.is c.args.self.now.within) r.admitted in
+    subst (λ (x : Result (Unit {0}) LeftErr). OnOk x (Stands (ifaces_at_node c.args.ends.now c.args.node) (stale_of (left_as.Resv c.args.style c.args.fact) c.args.left) (facts_of c.args.self.now) (learnt (paths_of c.args.self.now.paths) (tables_in c.stand.new.self) (walls_of c.args.self.now.walls)))) (sym c.answer.ensures)
+    (subst (λ (o : Option ResvsLeft). OnOk (answer_of c.iface-on.result c.stand.result) (Stands (ifaces_at_node c.args.ends.now c.args.node) (stale_of (left_as.Resv c.args.style c.args.fact) c.args.left) (learnt (paths_of c.args.self.now.paths) (resvs_in o) (walls_of c.args.self.now.walls)) (learnt (paths_of c.args.self.now.paths) (tables_in c.stand.new.self) (walls_of c.args.self.now.walls)))) (sym c.in-Some.is)
+    (subst (λ (is : List Iface). OnOk (answer_of c.iface-on.result c.stand.result) (Stands is (stale_of (left_as.Resv c.args.style c.args.fact) c.args.left) (learnt (paths_of c.args.self.now.paths) (tables_in r) (walls_of c.args.self.now.walls)) (learnt (paths_of c.args.self.now.paths) (tables_in c.stand.new.self) (walls_of c.args.self.now.walls)))) same a.ok))
+
 pub returns-in-Some-clause-refused : goal.returns-in-Some-clause-refused
 returns-in-Some-clause-refused c =
     let r = c.in-Some.resvs in
