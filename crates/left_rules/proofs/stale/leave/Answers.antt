@@ -16,7 +16,7 @@ returns-in-Err-Full-clause-refused c =
 
 pub returns-in-Err-Over-clause-refused : goal.returns-in-Err-Over-clause-refused
 returns-in-Err-Over-clause-refused c =
-    is_over (draft_of c.args.state.now) c.args.node c.args.session (stale_of c.args.fact c.args.left) (c.has_room_for_session.ensures.0 c.if-not-has_room_for_session.false) c.in-Err-Over.much (search rules)
+    is_over (draft_of c.args.state.now) c.args.node c.args.session (stale_of c.args.fact c.args.left) (c.has_room_for_session.ensures.0 c.if-not-has_room_for_session.false) _ (search rules)
 
 pub invariant_of-state-clause-left_there : goal.invariant_of-state-clause-left_there
 invariant_of-state-clause-left_there c = subst (λ (es : List End). IsOfEnds es c.add.new.self) c.ends.ensures c.add.ensures.ends
