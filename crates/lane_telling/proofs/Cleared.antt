@@ -9,7 +9,7 @@ use Rattle.path_state.specs.Paths.{via as kept_via}
 use Rattle.rsvp_base.specs.Members.{In}
 use Rattle.rsvp_base.specs.Orders.{Names, senders}
 use Rattle.rsvp_base.specs.Sets.{is_none}
-use Rattle.rsvp_base.specs.Table.{empty, get, has, size}
+use Rattle.rsvp_base.specs.Table.{empty, get, has}
 use Rattle.rsvp_base.specs.declared.session.Sender.{Sender}
 use Rattle.rsvp_base.specs.declared.session.Session.{Session}
 use Rattle.rsvp_base.specs.declared.style.StyleKind.TheVariants.{Wild, Fixed, Shared}

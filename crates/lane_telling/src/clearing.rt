@@ -15,7 +15,6 @@ use style_rules::Parts;
 
 // Forgets what was said to a lane.
 fn forget_lane(said: &mut LaneTable, session: Session, style: StyleKind, hop: (u8, Addr))
-    requires { IsFull said.old }
     ensures { said.new ≡ told said.old (lane_at (session, (style, hop))) empty }
 {
     if said.find(session, style, hop).is_some() {
@@ -31,7 +30,6 @@ fn clear_lane(
     style: StyleKind,
     hop: (u8, Addr),
 )
-    requires { IsFull said.old }
     ensures { said.new ≡ cleared_of tables.now said.old session (style, hop) }
 {
     if tables.paths.senders_via(session, hop.0, hop.1).is_empty() {

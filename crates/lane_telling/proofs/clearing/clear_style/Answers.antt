@@ -10,9 +10,6 @@ use Rattle.lane_telling.proofs.clearing.clear_style.Goals as goal
 pub loop-i-init : goal.loop-i-init
 loop-i-init c = cleared_none (state_of c.args.tables.now c.args.said.now) c.args.session c.requires
 
-pub clear_lane-requires : goal.clear_lane-requires
-clear_lane-requires c = c.loop-i.invariant.some
-
 pub loop-i-preserved : goal.loop-i-preserved
 loop-i-preserved c =
     subst (IsCleared (state_of c.args.tables.now c.args.said.now) c.args.session (lanes_of c.args.style (take (c.loop-i.i + 1) c.as_slice-list.result.now))) (sym c.clear_lane.ensures)
