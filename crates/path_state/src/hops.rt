@@ -49,8 +49,8 @@ impl Hops {
         self.list.as_slice()
     }
 
-    // Adds a hop, if it is not there.
-    pub(crate) fn add(&mut self, hop: (u8, Addr))
+    /// Adds a hop, if it is not there. At most 16 are there then.
+    pub fn add(&mut self, hop: (u8, Addr))
         requires { size (with_key self.old hop) ≤ 16 }
         ensures { self.new ≡ with_key self.old hop }
     {
