@@ -1,5 +1,6 @@
 pub mod Sets
 pub mod Dying
+pub mod Losses
 pub mod Offers
 pub mod Counts
 pub mod Adding

@@ -1,4 +1,5 @@
 pub mod Passing
+pub mod Lost
 pub mod Telling
 pub mod Watching
 pub mod Losing

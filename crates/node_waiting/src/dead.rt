@@ -7,10 +7,12 @@ ghost use Rattle.rsvp_base.specs.Table.{changed, empty, keys, size};
 ghost use Rattle.router_rules.specs.Facts.{sender_keys};
 ghost use Rattle.path_state.specs.Paths.{later};
 ghost use Rattle.blockade_state.specs.Touched.{touched_by};
+ghost use Rattle.node_waiting.specs.Lost.{came_from, left_from, lost_hops, lost_row};
 ghost use Rattle.node_waiting.specs.Passing.{dead_key, dead_row, dying_paths, sessions_at};
 
+use crate::lost::{LostHop, LostHops, insert_row};
 use blockade_state::Touched;
-use path_state::PathTable;
+use path_state::{PathFact, PathTable};
 use rsvp_base::sorted::search;
 use rsvp_base::{NoMemory, Sender, Session, sorted};
 use std::alloc::Global;
@@ -96,40 +98,52 @@ impl DeadPaths {
     }
 }
 
-// Puts a row in its place. The room is there, so this takes no memory.
-fn insert_row(rows: &mut Vec<DeadPath>, at: usize, row: DeadPath)
-    requires within { at ≤ length rows.old.items }
-    requires room { length rows.old.items < vec_capacity rows.old }
-    ensures rows { rows.new.items ≡ insert rows.old.items at row }
-    ensures capacity { vec_capacity rows.old ≤ vec_capacity rows.new }
-{
-    let _ = rows.insert(at, row);
-}
-
 /// Lets time pass over the paths, in milliseconds. Those with at most so much left are gone then, and are told in `dead`;
-/// the others have so much less left. Their sessions are touched. No dead path may wait from before, and none waits then.
-pub fn age_paths(paths: &mut PathTable, ms: u32, dead: &mut DeadPaths, touched: &mut Touched)
+/// the others have so much less left. Where they came from is told in `lost`, and their sessions are touched. No dead path may
+/// wait from before, and none waits then.
+pub fn age_paths(
+    paths: &mut PathTable,
+    ms: u32,
+    dead: &mut DeadPaths,
+    lost: &mut LostHops,
+    touched: &mut Touched,
+)
     requires { paths.old.dead.rows ≡ [] }
     ensures paths { paths.new ≡ record { facts = changed (later ms) paths.old.facts; dead = empty } }
     ensures dead { dead.new ≡ dying_paths ms paths.old.facts }
+    ensures lost { lost.new ≡ lost_hops ms paths.old.facts }
     ensures touched { touched.new ≡ touched_by (sessions_at dead.new) touched.old }
 {
     // The proof sees here that the table is within its limits.
     let _none = paths.find(Session::default(), Sender::default());
     paths.advance(ms);
-    pull_all(paths, dead, touched);
+    pull_all(paths, dead, lost, touched);
+}
+
+// Where a path that died came from.
+fn lost_of(fact: &PathFact) -> LostHop
+    ensures { lost_row result ≡ ((fact.now.session, fact.now.sender), came_from fact.now) }
+{
+    LostHop {
+        session: fact.session,
+        sender: fact.sender,
+        hop: (fact.iface, fact.hop.addr),
+    }
 }
 
 // Takes the dead paths out, all of them.
-fn pull_all(paths: &mut PathTable, dead: &mut DeadPaths, touched: &mut Touched)
+fn pull_all(paths: &mut PathTable, dead: &mut DeadPaths, lost: &mut LostHops, touched: &mut Touched)
     requires { size paths.old.dead ≤ 512 }
     ensures paths { paths.new ≡ record { facts = paths.old.facts; dead = empty } }
     ensures dead { keys dead.new ≡ keys paths.old.dead }
+    ensures lost { lost.new ≡ changed left_from paths.old.dead }
     ensures touched { touched.new ≡ touched_by (sessions_at paths.old.dead) touched.old }
 {
     dead.clear();
+    lost.clear();
     while let Some(fact) = paths.pull_dead() {
         dead.add(fact.session, fact.sender);
+        lost.add(lost_of(&fact));
         touched.touch(fact.session);
     }
 }

@@ -10,10 +10,12 @@ mod dead;
 mod known;
 pub mod laws;
 mod losing;
+mod lost;
 mod telling;
 
 pub use counting::{begin_all, is_counted, stop_uncounted, stop_unless, watch_all};
 pub use dead::{DeadPath, DeadPaths, age_paths};
 pub use known::KnownSenders;
 pub use losing::lost_name;
+pub use lost::{LostHop, LostHops};
 pub use telling::{tell_dead, tell_fired, tell_refresh};

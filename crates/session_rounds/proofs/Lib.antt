@@ -1,4 +1,5 @@
 pub mod Near
+pub mod Before
 pub mod Loops
 pub mod Untouched
 pub mod Passed

@@ -1,7 +1,5 @@
 -- Sessions with the previous hops that they had.
-use Rattle.std.specs.Prelude.{◌≡◌, ℕ, ◌+◌, ◌≤◌, Bool, true, false, cond, List, [], ◌∷◌, ◌++◌, map as each, length, Some, slice_get, take, zero, suc, refl}
-use Rattle.std.specs.FinMap.Entries.{where_key}
-use Rattle.std.specs.List.{filter}
+use Rattle.std.specs.Prelude.{◌≡◌, ℕ, ◌+◌, ◌≤◌, Bool, false, List, [], ◌∷◌, ◌++◌, map as each, length, Some, slice_get, take, zero, suc, refl}
 use Rattle.std.proofs.Common.{sym, ap, inl, inr, ◌∙◌, arith}
 use Rattle.std.proofs.lemmas.List.{take_all}
 use Rattle.std.proofs.lemmas.Option.{same_Some}
@@ -23,8 +21,7 @@ use Rattle.waiting_sends.specs.Several.{AreSessions, is_among}
 use Rattle.waiting_sends.proofs.Grouping.{in_among}
 use Rattle.lane_telling.proofs.Sent.{hops_are}
 use Rattle.round_laws.specs.Rounds.{with_hops}
-use Rattle.session_rounds.specs.Nears.{NearTable, hops_then, near_row}
-use Rattle.session_rounds.specs.declared.nears.Near.{Near}
+use Rattle.session_rounds.specs.Nears.{NearTable, hops_then}
 
 -- ---- rows that are made one after another
 pub some_rows : {K X Y : Type 0} (g : K → X → Y) (es : List (K × X)) → changed_rows (λ k x. Some (g k x)) es ≡ each (λ e. (e.0, g e.0 e.1)) es
@@ -59,24 +56,6 @@ module _ (n : State) (c : ℕ) (test : Session → Bool) where
       by : (es : List (Session × HopSet)) → ((e : Session × HopSet) → In e es → e.1 ≡ hops_in (facts_of c n) e.0) → es ≡ each (with_hops (facts_of c n)) (each (λ e. e.0) es)
       by [] h = refl
       by (e ∷ es) h = λ i. (e.0, h e (inl refl) i) ∷ by es (λ d j. h d (inr j)) i
-
--- ---- rows that are left
-pub rows_left : (test : Session → Bool) (es : List Near) → each near_row (filter (λ (n : Near). test n.session) es) ≡ where_key sessions.cmp test (each near_row es)
-rows_left test [] = refl
-rows_left test (e ∷ es) = by (test e.session) (rows_left test es)
-  where
-    by : (b : Bool) → each near_row (filter (λ (n : Near). test n.session) es) ≡ where_key sessions.cmp test (each near_row es)
-        → each near_row (cond b (e ∷ filter (λ (n : Near). test n.session) es) (filter (λ (n : Near). test n.session) es)) ≡ cond b (near_row e ∷ where_key sessions.cmp test (each near_row es)) (where_key sessions.cmp test (each near_row es))
-    by true h = ap (λ rs. near_row e ∷ rs) h
-    by false h = h
-
-pub fewer : (test : Near → Bool) (es : List Near) → length (filter test es) ≤ length es
-fewer test [] = omega arith
-fewer test (e ∷ es) = by (test e) (fewer test es)
-  where
-    by : (b : Bool) → length (filter test es) ≤ length es → length (cond b (e ∷ filter test es) (filter test es)) ≤ length (e ∷ es)
-    by true h = omega (arith, h)
-    by false h = omega (arith, h)
 
 -- ---- rows that are noted
 -- a row more

@@ -16,6 +16,8 @@ use Rattle.rsvp_base.proofs.Fronts.{to_keys}
 use Rattle.rsvp_base.proofs.Members.{tied_in}
 use Rattle.rsvp_base.proofs.SetLaws.{or_left, or_right}
 use Rattle.rsvp_base.proofs.Tables.{get-changed, get-kept, got_changed, then_do}
+use Rattle.path_state.specs.Paths.{later, path_keys}
+use Rattle.path_state.specs.declared.fact.PathFact.{PathFact}
 use Rattle.blockade_state.specs.Touched.{Marks, is_touched, touched_at, touched_by}
 use Rattle.router_lookups.proofs.Lists.{some_is}
 use Rattle.router_lookups.proofs.Requesting.{nowhere}
@@ -31,6 +33,7 @@ use Rattle.node_sends.specs.Told.{offered}
 use Rattle.waiting_sends.specs.Several.{gone_told, is_among, refreshed}
 use Rattle.waiting_sends.specs.Waits.{IsWatched}
 use Rattle.waiting_sends.proofs.Grouping.{among_in, among_keys}
+use Rattle.node_waiting.specs.Lost.{LostTable, lost_hops}
 use Rattle.node_waiting.specs.Passing.{dying_paths, unmarked}
 use Rattle.node_waiting.proofs.Watching.{dying_are_watched}
 use Rattle.node_tables.specs.Whole.{state_of}
@@ -44,7 +47,8 @@ use Rattle.round_laws.proofs.Dying.{all_dying_are_there, dead_are_gone}
 use Rattle.round_laws.proofs.Passing.{wait_is_rounds}
 use Rattle.round_laws.proofs.Rounds.{cleared_is_roomy, rounds_are_said}
 use Rattle.round_laws.proofs.Telling.{told_any, wants_any}
-use Rattle.session_rounds.specs.Nears.{AreStill, NearTable, hops_then}
+use Rattle.session_rounds.specs.Nears.{AreStill, NearTable, hops_then, noted_before}
+use Rattle.session_rounds.proofs.Before.{noted_then}
 use Rattle.session_rounds.proofs.Near.{near_rows, near_sessions}
 use Rattle.session_rounds.proofs.Untouched.{toward_stays}
 
@@ -67,6 +71,12 @@ module _ (t : Tables) (first : Said) (ms word : ℕ) (settled : IsSettled (state
 
   abbrev pub ss : List Session
   ss = keys near
+
+  -- as the code notes them behind it
+  pub noted_is : (paths : Table path_keys (PathFact × ℕ)) (lost : LostTable) (touched : Marks) (came : Set sessions) → paths ≡ changed (later ms) t.paths.facts → lost ≡ lost_hops ms t.paths.facts → touched ≡ watched → came ≡ fired
+      → kept (λ s. is_touched touched s || has came s) (changed (noted_before paths lost) touched) ≡ near
+  noted_is paths lost touched came p l w f =
+      (λ i. kept (λ s. is_touched (w i) s || has (f i) s) (changed (noted_before (p i) (l i)) (w i))) ∙ ap (kept test) (noted_then ms t.paths.facts (all_dying ms t) t.due)
 
   -- the sessions that are gone through
   near_has : (s : Session) → has t.due s ≡ true → test s ≡ true → is_among ss s ≡ true

@@ -1,16 +1,18 @@
 -- Sessions with the previous hops that they had, and those that are only due.
-use Rattle.std.specs.Prelude.{◌≡◌, ℕ, true, false, List, Option, Some}
+use Rattle.std.specs.Prelude.{◌≡◌, ℕ, Bool, true, false, List, Option, Some}
 use Rattle.std.specs.Coded.{Coded}
 use Rattle.blockade_state.specs.Touched.{Marks, is_touched}
 use Rattle.path_state.specs.Paths.{HopSet, hop_set_code, hops_by, path_keys}
 use Rattle.path_state.specs.declared.fact.PathFact.{PathFact}
 use Rattle.rsvp_base.specs.Orders.{senders, sessions}
-use Rattle.rsvp_base.specs.Table.{Table, table_code}
+use Rattle.rsvp_base.specs.Sets.{with_keys}
+use Rattle.rsvp_base.specs.Table.{Table, table_code, values}
 use Rattle.rsvp_base.specs.Under.{under}
 use Rattle.rsvp_base.specs.contracts.session.Session as session
 use Rattle.rsvp_base.specs.declared.session.Session.{Session}
 use Rattle.node_facts.specs.State.{Said, State}
 use Rattle.waiting_sends.specs.Several.{is_among}
+use Rattle.node_waiting.specs.Lost.{LostTable}
 use Rattle.lane_telling.specs.Rounds.{IsStill}
 use Rattle.session_rounds.specs.declared.nears.Near.{Near}
 
@@ -26,6 +28,14 @@ near_code = table_code sessions (session.the_row).coded hop_set_code
 -- the previous hops of a session that has a countdown, by these paths
 abbrev pub hops_then : Table path_keys (PathFact × ℕ) → Session → ℕ → Option HopSet
 hops_then paths s left = Some (hops_by (under sessions senders paths s).rows)
+
+-- the previous hops of a session before paths died: those that it has, and those from which they came
+abbrev pub hops_before : Table path_keys (PathFact × ℕ) → LostTable → Session → HopSet
+hops_before paths lost s = with_keys (hops_by (under sessions senders paths s).rows) (values (under sessions senders lost s))
+
+-- those of a session that is watched
+abbrev pub noted_before : Table path_keys (PathFact × ℕ) → LostTable → Session → Bool → Option HopSet
+noted_before paths lost s touched = Some (hops_before paths lost s)
 
 -- of the sessions that are due and of which nothing changed, what was said to each lane is what goes there
 abbrev pub AreStill : State → Said → List Session → Marks → Type 0

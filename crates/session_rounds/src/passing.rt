@@ -12,6 +12,7 @@ use lane_state::LaneTable;
 use node_tables::Tables;
 use node_telling::Outbox;
 use node_waiting::{tell_dead, tell_fired, watch_all};
+use rsvp_base::{Sender, Session};
 use tables_waiting::{age_all, forget_all};
 
 /// Lets time pass over a node, in milliseconds, at most half a period (RFC 2205, 3.7). What is not refreshed dies: its senders
@@ -39,10 +40,20 @@ pub fn pass_time<O: Outbox>(
     ensures ifaces { tables.new.book.ifaces ≡ tables.old.book.ifaces }
 {
     let mut touched = watch_all(&tables.due);
-    rooms.nears.note(&tables.due, &tables.paths);
-    let fired = age_all(tables, ms, word, &mut rooms.dead, &mut touched);
+    // The proof sees here that the paths are within their limits.
+    let _none = tables.paths.find(Session::default(), Sender::default());
+    let fired = age_all(
+        tables,
+        ms,
+        word,
+        &mut rooms.dead,
+        &mut rooms.lost,
+        &mut touched,
+    );
+    rooms
+        .nears
+        .note_touched(&touched, &fired, &tables.paths, &rooms.lost);
     forget_all(tables, &rooms.dead, &touched);
-    rooms.nears.keep(&touched, &fired);
     let due = fired.as_slice();
     tell_dead(&tables.config, &tables.senders, &rooms.dead, out);
     tear_all(tables, said, &rooms.nears, due, &touched, out);

@@ -9,23 +9,25 @@ ghost use Rattle.node_facts.specs.State.{Said};
 ghost use Rattle.node_facts.specs.Waited.{aged};
 ghost use Rattle.node_tables.specs.Whole.{state_of};
 ghost use Rattle.node_waiting.specs.AfterWait.{after_wait};
+ghost use Rattle.node_waiting.specs.Lost.{lost_hops};
 ghost use Rattle.node_waiting.specs.Passing.{dying_paths};
 ghost use Rattle.tables_waiting.specs.Steps.{AreSound, all_dying};
 
 use blockade_state::Touched;
 use local_state::Fired;
 use node_tables::Tables;
-use node_waiting::{DeadPaths, age_paths, stop_uncounted};
+use node_waiting::{DeadPaths, LostHops, age_paths, stop_uncounted};
 use resv_waiting::{age_resvs, forget_dead};
 
 /// Lets time pass over all tables, in milliseconds, at most half a period. What is not refreshed is gone then, and countdowns
 /// have run: those that came due are answered, and begin again as the word says. The paths that died are told in `dead`, and
-/// the sessions of which something died are touched. Names are not forgotten yet.
+/// where they came from in `lost`; the sessions of which something died are touched. Names are not forgotten yet.
 pub fn age_all(
     tables: &mut Tables,
     ms: u32,
     word: u32,
     dead: &mut DeadPaths,
+    lost: &mut LostHops,
     touched: &mut Touched,
 ) -> Fired
     requires sound { AreSound tables.old }
@@ -34,6 +36,7 @@ pub fn age_all(
     ensures sound { AreSound tables.new }
     ensures ifaces { tables.new.book.ifaces ≡ tables.old.book.ifaces }
     ensures dead { dead.new ≡ dying_paths ms tables.old.paths.facts }
+    ensures lost { lost.new ≡ lost_hops ms tables.old.paths.facts }
     ensures touched { touched.new ≡ touched_by (all_dying ms tables.old) touched.old }
     ensures fired { result ≡ changed (is_fired ms) tables.old.due }
 {
@@ -43,7 +46,7 @@ pub fn age_all(
     age_resvs(&mut tables.wild, &mut tables.book, ms, touched);
     age_resvs(&mut tables.fixed, &mut tables.book, ms, touched);
     age_resvs(&mut tables.shared, &mut tables.book, ms, touched);
-    age_paths(&mut tables.paths, ms, dead, touched);
+    age_paths(&mut tables.paths, ms, dead, lost, touched);
     fired
 }
 

@@ -1,12 +1,14 @@
 use Rattle.std.proofs.Common.{sym, ap, ◌∙◌, arith, map as each}
 use Rattle.rsvp_base.specs.Orders.{senders}
-use Rattle.rsvp_base.specs.Table.{empty, keys, size}
+use Rattle.rsvp_base.specs.Table.{changed, empty, keys, size}
 use Rattle.rsvp_base.proofs.Filters.{each_each}
 use Rattle.rsvp_base.proofs.SessionCounts.{all_at_most}
 use Rattle.path_state.specs.Paths.{dead_after}
 use Rattle.router_rules.specs.Facts.{SenderKey, sender_keys}
 use Rattle.blockade_state.specs.Touched.{touched_by}
+use Rattle.node_waiting.specs.Lost.{left_from}
 use Rattle.node_waiting.specs.Passing.{dying_paths}
+use Rattle.node_waiting.proofs.Losses.{dead_lost}
 use Rattle.node_waiting.proofs.Sets.{dying_keys, fewer_rows, set_by_keys}
 use Rattle.node_waiting.proofs.dead.age_paths.Goals as goal
 
@@ -23,6 +25,9 @@ returns-clause-paths c = c.pull_all.ensures.paths ∙ (λ i. record { facts = c.
 pub returns-clause-dead : goal.returns-clause-dead
 returns-clause-dead c =
     set_by_keys sender_keys c.pull_all.new.dead (dying_paths c.args.ms c.args.paths.now.facts) (c.pull_all.ensures.dead ∙ ap keys c.advance.ensures.dead ∙ dying_keys c.args.ms c.args.paths.now.facts)
+
+pub returns-clause-lost : goal.returns-clause-lost
+returns-clause-lost c = c.pull_all.ensures.lost ∙ ap (changed left_from) c.advance.ensures.dead ∙ dead_lost c.args.ms c.args.paths.now.facts
 
 pub returns-clause-touched : goal.returns-clause-touched
 returns-clause-touched c =

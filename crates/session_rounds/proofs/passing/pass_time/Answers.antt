@@ -1,9 +1,9 @@
-use Rattle.std.proofs.Common.{◌≡◌, ℕ, ◌+◌, ◌||◌, true, fold, refl, sym, ap, subst, ◌∙◌}
+use Rattle.std.proofs.Common.{◌≡◌, ℕ, ◌+◌, true, fold, refl, sym, ap, subst, ◌∙◌}
 use Rattle.std.specs.List.{flat_map}
 use Rattle.rsvp_base.specs.Sets.{Set}
 use Rattle.rsvp_base.specs.Orders.{sessions}
-use Rattle.rsvp_base.specs.Table.{changed, empty, get, has, kept, keys}
-use Rattle.blockade_state.specs.Touched.{Marks, is_touched, touched_by}
+use Rattle.rsvp_base.specs.Table.{changed, empty, get, has, keys}
+use Rattle.blockade_state.specs.Touched.{Marks, touched_by}
 use Rattle.router_rules.specs.Facts.{SenderKey}
 use Rattle.node_facts.specs.State.{State, facts_of}
 use Rattle.node_facts.specs.Waited.{is_fired}
@@ -17,7 +17,8 @@ use Rattle.round_laws.specs.Passing.{passed}
 use Rattle.round_laws.specs.Rounds.{AreCleared, AreTold, told_round, torn_near, wants_told}
 use Rattle.round_laws.proofs.Dying.{dead_are_gone}
 use Rattle.session_rounds.specs.Nears.{NearTable}
-use Rattle.session_rounds.proofs.Passed.{facts_last, four_sent, place_last, roomy, said_after, sent_all, settled_last, sound_last, still_cleared, still_first, watched_has}
+use Rattle.session_rounds.proofs.Before.{hops_few}
+use Rattle.session_rounds.proofs.Passed.{facts_last, four_sent, noted_is, place_last, roomy, said_after, sent_all, settled_last, sound_last, still_cleared, still_first, watched_has}
 use Rattle.session_rounds.proofs.Passed.{near as near_in}
 use Rattle.session_rounds.proofs.passing.pass_time.Goals as goal
 
@@ -26,6 +27,10 @@ forget_all-requires-clause-watched g c = λ s h.
     let t = c.args.tables.now in
     ap (λ (m : Marks). has m s) (c.age_all-fired.ensures.touched ∙ ap (touched_by (all_dying c.args.ms t)) c.watch_all-touched.ensures)
     ∙ watched_has t.due (all_dying c.args.ms t) t.config.quarter c.args.ms c.args.word s (sym (ap (λ (z : State). has z.due s) (c.age_all-fired.ensures.state empty)) ∙ h)
+
+pub note_touched-requires : goal.note_touched-requires
+note_touched-requires g c =
+    hops_few c.args.ms c.args.tables.now.paths.facts c.age_all-fired.new.tables.paths.facts c.age_all-fired.new.lost (ap (λ (z : State). z.paths) (c.age_all-fired.ensures.state empty)) c.age_all-fired.ensures.lost c.find-none.ensures.within
 
 pub tear_all-requires : goal.tear_all-requires
 tear_all-requires g c =
@@ -41,7 +46,10 @@ pub tell_all-requires-clause-roomy : goal.tell_all-requires-clause-roomy
 tell_all-requires-clause-roomy g c =
     let now : state_of c.forget_all.new.tables c.args.said.now ≡ passed c.args.ms c.args.word (state_of c.args.tables.now c.args.said.now) = c.forget_all.ensures.state c.args.said.now ∙ (λ i. after_wait (c.age_all-fired.ensures.dead i) (c.age_all-fired.ensures.state c.args.said.now i)) in
     let touched : c.age_all-fired.new.touched ≡ touched_by (all_dying c.args.ms c.args.tables.now) (changed unmarked c.args.tables.now.due) = c.age_all-fired.ensures.touched ∙ ap (touched_by (all_dying c.args.ms c.args.tables.now)) c.watch_all-touched.ensures in
-    let near : c.keep.new.self ≡ near_in c.args.tables.now c.args.said.now c.args.ms c.args.word c.requires.settled c.requires.said c.requires.short = c.keep.ensures ∙ (λ i. kept (λ s. is_touched (touched i) s || has (c.age_all-fired.ensures.fired i) s) (c.note.ensures i)) in
+    let near : c.note_touched.new.self ≡ near_in c.args.tables.now c.args.said.now c.args.ms c.args.word c.requires.settled c.requires.said c.requires.short =
+    c.note_touched.ensures
+    ∙ noted_is c.args.tables.now c.args.said.now c.args.ms c.args.word c.requires.settled c.requires.said c.requires.short c.age_all-fired.new.tables.paths.facts c.age_all-fired.new.lost c.age_all-fired.new.touched c.age_all-fired.result
+    (ap (λ (z : State). z.paths) (c.age_all-fired.ensures.state empty)) c.age_all-fired.ensures.lost touched c.age_all-fired.ensures.fired in
     let cleared = subst (λ (z : NearTable). AreCleared (state_of c.forget_all.new.tables c.args.said.now) z.rows c.clear_all.new.said) near c.clear_all.ensures in
     let r = roomy c.args.tables.now c.args.said.now c.args.ms c.args.word c.requires.settled c.requires.said c.requires.short c.forget_all.new.tables now c.clear_all.new.said cleared in
     record { some = r.some; within = r.within }
@@ -50,7 +58,10 @@ pub tell_all-requires-clause-still : goal.tell_all-requires-clause-still
 tell_all-requires-clause-still g c =
     let now : state_of c.forget_all.new.tables c.args.said.now ≡ passed c.args.ms c.args.word (state_of c.args.tables.now c.args.said.now) = c.forget_all.ensures.state c.args.said.now ∙ (λ i. after_wait (c.age_all-fired.ensures.dead i) (c.age_all-fired.ensures.state c.args.said.now i)) in
     let touched : c.age_all-fired.new.touched ≡ touched_by (all_dying c.args.ms c.args.tables.now) (changed unmarked c.args.tables.now.due) = c.age_all-fired.ensures.touched ∙ ap (touched_by (all_dying c.args.ms c.args.tables.now)) c.watch_all-touched.ensures in
-    let near : c.keep.new.self ≡ near_in c.args.tables.now c.args.said.now c.args.ms c.args.word c.requires.settled c.requires.said c.requires.short = c.keep.ensures ∙ (λ i. kept (λ s. is_touched (touched i) s || has (c.age_all-fired.ensures.fired i) s) (c.note.ensures i)) in
+    let near : c.note_touched.new.self ≡ near_in c.args.tables.now c.args.said.now c.args.ms c.args.word c.requires.settled c.requires.said c.requires.short =
+    c.note_touched.ensures
+    ∙ noted_is c.args.tables.now c.args.said.now c.args.ms c.args.word c.requires.settled c.requires.said c.requires.short c.age_all-fired.new.tables.paths.facts c.age_all-fired.new.lost c.age_all-fired.new.touched c.age_all-fired.result
+    (ap (λ (z : State). z.paths) (c.age_all-fired.ensures.state empty)) c.age_all-fired.ensures.lost touched c.age_all-fired.ensures.fired in
     let cleared = subst (λ (z : NearTable). AreCleared (state_of c.forget_all.new.tables c.args.said.now) z.rows c.clear_all.new.said) near c.clear_all.ensures in
     let due = c.as_slice-due.ensures.sessions ∙ ap (λ (z : Set sessions). keys z) c.age_all-fired.ensures.fired in
     still_cleared c.args.tables.now c.args.said.now c.args.ms c.args.word c.requires.settled c.requires.said c.requires.short c.forget_all.new.tables now c.as_slice-due.result.now c.age_all-fired.new.touched due touched c.clear_all.new.said cleared
@@ -59,7 +70,10 @@ pub returns-clause-facts : goal.returns-clause-facts
 returns-clause-facts g c = λ clock.
     let now : state_of c.forget_all.new.tables c.args.said.now ≡ passed c.args.ms c.args.word (state_of c.args.tables.now c.args.said.now) = c.forget_all.ensures.state c.args.said.now ∙ (λ i. after_wait (c.age_all-fired.ensures.dead i) (c.age_all-fired.ensures.state c.args.said.now i)) in
     let touched : c.age_all-fired.new.touched ≡ touched_by (all_dying c.args.ms c.args.tables.now) (changed unmarked c.args.tables.now.due) = c.age_all-fired.ensures.touched ∙ ap (touched_by (all_dying c.args.ms c.args.tables.now)) c.watch_all-touched.ensures in
-    let near : c.keep.new.self ≡ near_in c.args.tables.now c.args.said.now c.args.ms c.args.word c.requires.settled c.requires.said c.requires.short = c.keep.ensures ∙ (λ i. kept (λ s. is_touched (touched i) s || has (c.age_all-fired.ensures.fired i) s) (c.note.ensures i)) in
+    let near : c.note_touched.new.self ≡ near_in c.args.tables.now c.args.said.now c.args.ms c.args.word c.requires.settled c.requires.said c.requires.short =
+    c.note_touched.ensures
+    ∙ noted_is c.args.tables.now c.args.said.now c.args.ms c.args.word c.requires.settled c.requires.said c.requires.short c.age_all-fired.new.tables.paths.facts c.age_all-fired.new.lost c.age_all-fired.new.touched c.age_all-fired.result
+    (ap (λ (z : State). z.paths) (c.age_all-fired.ensures.state empty)) c.age_all-fired.ensures.lost touched c.age_all-fired.ensures.fired in
     let cleared = subst (λ (z : NearTable). AreCleared (state_of c.forget_all.new.tables c.args.said.now) z.rows c.clear_all.new.said) near c.clear_all.ensures in
     let marks = λ (d : ℕ). c.tell_all.ensures.marks d ∙ ap (λ (z : NearTable). record c.forget_all.new.tables { wants = wants_told d (state_of c.forget_all.new.tables c.clear_all.new.said) c.clear_all.new.said (keys z) }) near in
     facts_last c.args.tables.now c.args.said.now c.args.ms c.args.word c.requires.settled c.requires.said c.requires.short c.forget_all.new.tables now c.clear_all.new.said cleared c.tell_all.new.tables marks c.tell_all.new.said clock
@@ -68,7 +82,10 @@ pub returns-clause-sent : goal.returns-clause-sent
 returns-clause-sent g c = λ clock.
     let now : state_of c.forget_all.new.tables c.args.said.now ≡ passed c.args.ms c.args.word (state_of c.args.tables.now c.args.said.now) = c.forget_all.ensures.state c.args.said.now ∙ (λ i. after_wait (c.age_all-fired.ensures.dead i) (c.age_all-fired.ensures.state c.args.said.now i)) in
     let touched : c.age_all-fired.new.touched ≡ touched_by (all_dying c.args.ms c.args.tables.now) (changed unmarked c.args.tables.now.due) = c.age_all-fired.ensures.touched ∙ ap (touched_by (all_dying c.args.ms c.args.tables.now)) c.watch_all-touched.ensures in
-    let near : c.keep.new.self ≡ near_in c.args.tables.now c.args.said.now c.args.ms c.args.word c.requires.settled c.requires.said c.requires.short = c.keep.ensures ∙ (λ i. kept (λ s. is_touched (touched i) s || has (c.age_all-fired.ensures.fired i) s) (c.note.ensures i)) in
+    let near : c.note_touched.new.self ≡ near_in c.args.tables.now c.args.said.now c.args.ms c.args.word c.requires.settled c.requires.said c.requires.short =
+    c.note_touched.ensures
+    ∙ noted_is c.args.tables.now c.args.said.now c.args.ms c.args.word c.requires.settled c.requires.said c.requires.short c.age_all-fired.new.tables.paths.facts c.age_all-fired.new.lost c.age_all-fired.new.touched c.age_all-fired.result
+    (ap (λ (z : State). z.paths) (c.age_all-fired.ensures.state empty)) c.age_all-fired.ensures.lost touched c.age_all-fired.ensures.fired in
     let cleared = subst (λ (z : NearTable). AreCleared (state_of c.forget_all.new.tables c.args.said.now) z.rows c.clear_all.new.said) near c.clear_all.ensures in
     let n = state_of c.args.tables.now c.args.said.now in
     let m = state_of c.forget_all.new.tables c.args.said.now in
@@ -94,7 +111,10 @@ pub returns-clause-said : goal.returns-clause-said
 returns-clause-said g c =
     let now : state_of c.forget_all.new.tables c.args.said.now ≡ passed c.args.ms c.args.word (state_of c.args.tables.now c.args.said.now) = c.forget_all.ensures.state c.args.said.now ∙ (λ i. after_wait (c.age_all-fired.ensures.dead i) (c.age_all-fired.ensures.state c.args.said.now i)) in
     let touched : c.age_all-fired.new.touched ≡ touched_by (all_dying c.args.ms c.args.tables.now) (changed unmarked c.args.tables.now.due) = c.age_all-fired.ensures.touched ∙ ap (touched_by (all_dying c.args.ms c.args.tables.now)) c.watch_all-touched.ensures in
-    let near : c.keep.new.self ≡ near_in c.args.tables.now c.args.said.now c.args.ms c.args.word c.requires.settled c.requires.said c.requires.short = c.keep.ensures ∙ (λ i. kept (λ s. is_touched (touched i) s || has (c.age_all-fired.ensures.fired i) s) (c.note.ensures i)) in
+    let near : c.note_touched.new.self ≡ near_in c.args.tables.now c.args.said.now c.args.ms c.args.word c.requires.settled c.requires.said c.requires.short =
+    c.note_touched.ensures
+    ∙ noted_is c.args.tables.now c.args.said.now c.args.ms c.args.word c.requires.settled c.requires.said c.requires.short c.age_all-fired.new.tables.paths.facts c.age_all-fired.new.lost c.age_all-fired.new.touched c.age_all-fired.result
+    (ap (λ (z : State). z.paths) (c.age_all-fired.ensures.state empty)) c.age_all-fired.ensures.lost touched c.age_all-fired.ensures.fired in
     let cleared = subst (λ (z : NearTable). AreCleared (state_of c.forget_all.new.tables c.args.said.now) z.rows c.clear_all.new.said) near c.clear_all.ensures in
     let marks = λ (d : ℕ). c.tell_all.ensures.marks d ∙ ap (λ (z : NearTable). record c.forget_all.new.tables { wants = wants_told d (state_of c.forget_all.new.tables c.clear_all.new.said) c.clear_all.new.said (keys z) }) near in
     said_after c.args.tables.now c.args.said.now c.args.ms c.args.word c.requires.settled c.requires.said c.requires.short c.forget_all.new.tables now c.clear_all.new.said cleared c.tell_all.new.tables marks c.tell_all.new.said c.tell_all.new.said (subst (λ (z : NearTable). AreTold (state_of c.forget_all.new.tables c.clear_all.new.said) (keys z) c.tell_all.new.said) near c.tell_all.ensures.told) c.tell_all.ensures.roomy
@@ -103,7 +123,10 @@ pub returns-clause-settled : goal.returns-clause-settled
 returns-clause-settled g c =
     let now : state_of c.forget_all.new.tables c.args.said.now ≡ passed c.args.ms c.args.word (state_of c.args.tables.now c.args.said.now) = c.forget_all.ensures.state c.args.said.now ∙ (λ i. after_wait (c.age_all-fired.ensures.dead i) (c.age_all-fired.ensures.state c.args.said.now i)) in
     let touched : c.age_all-fired.new.touched ≡ touched_by (all_dying c.args.ms c.args.tables.now) (changed unmarked c.args.tables.now.due) = c.age_all-fired.ensures.touched ∙ ap (touched_by (all_dying c.args.ms c.args.tables.now)) c.watch_all-touched.ensures in
-    let near : c.keep.new.self ≡ near_in c.args.tables.now c.args.said.now c.args.ms c.args.word c.requires.settled c.requires.said c.requires.short = c.keep.ensures ∙ (λ i. kept (λ s. is_touched (touched i) s || has (c.age_all-fired.ensures.fired i) s) (c.note.ensures i)) in
+    let near : c.note_touched.new.self ≡ near_in c.args.tables.now c.args.said.now c.args.ms c.args.word c.requires.settled c.requires.said c.requires.short =
+    c.note_touched.ensures
+    ∙ noted_is c.args.tables.now c.args.said.now c.args.ms c.args.word c.requires.settled c.requires.said c.requires.short c.age_all-fired.new.tables.paths.facts c.age_all-fired.new.lost c.age_all-fired.new.touched c.age_all-fired.result
+    (ap (λ (z : State). z.paths) (c.age_all-fired.ensures.state empty)) c.age_all-fired.ensures.lost touched c.age_all-fired.ensures.fired in
     let cleared = subst (λ (z : NearTable). AreCleared (state_of c.forget_all.new.tables c.args.said.now) z.rows c.clear_all.new.said) near c.clear_all.ensures in
     let marks = λ (d : ℕ). c.tell_all.ensures.marks d ∙ ap (λ (z : NearTable). record c.forget_all.new.tables { wants = wants_told d (state_of c.forget_all.new.tables c.clear_all.new.said) c.clear_all.new.said (keys z) }) near in
     settled_last c.args.tables.now c.args.said.now c.args.ms c.args.word c.requires.settled c.requires.said c.requires.short c.forget_all.new.tables now c.clear_all.new.said cleared c.tell_all.new.tables marks c.tell_all.new.said
@@ -112,7 +135,10 @@ pub returns-clause-sound : goal.returns-clause-sound
 returns-clause-sound g c =
     let now : state_of c.forget_all.new.tables c.args.said.now ≡ passed c.args.ms c.args.word (state_of c.args.tables.now c.args.said.now) = c.forget_all.ensures.state c.args.said.now ∙ (λ i. after_wait (c.age_all-fired.ensures.dead i) (c.age_all-fired.ensures.state c.args.said.now i)) in
     let touched : c.age_all-fired.new.touched ≡ touched_by (all_dying c.args.ms c.args.tables.now) (changed unmarked c.args.tables.now.due) = c.age_all-fired.ensures.touched ∙ ap (touched_by (all_dying c.args.ms c.args.tables.now)) c.watch_all-touched.ensures in
-    let near : c.keep.new.self ≡ near_in c.args.tables.now c.args.said.now c.args.ms c.args.word c.requires.settled c.requires.said c.requires.short = c.keep.ensures ∙ (λ i. kept (λ s. is_touched (touched i) s || has (c.age_all-fired.ensures.fired i) s) (c.note.ensures i)) in
+    let near : c.note_touched.new.self ≡ near_in c.args.tables.now c.args.said.now c.args.ms c.args.word c.requires.settled c.requires.said c.requires.short =
+    c.note_touched.ensures
+    ∙ noted_is c.args.tables.now c.args.said.now c.args.ms c.args.word c.requires.settled c.requires.said c.requires.short c.age_all-fired.new.tables.paths.facts c.age_all-fired.new.lost c.age_all-fired.new.touched c.age_all-fired.result
+    (ap (λ (z : State). z.paths) (c.age_all-fired.ensures.state empty)) c.age_all-fired.ensures.lost touched c.age_all-fired.ensures.fired in
     let cleared = subst (λ (z : NearTable). AreCleared (state_of c.forget_all.new.tables c.args.said.now) z.rows c.clear_all.new.said) near c.clear_all.ensures in
     let marks = λ (d : ℕ). c.tell_all.ensures.marks d ∙ ap (λ (z : NearTable). record c.forget_all.new.tables { wants = wants_told d (state_of c.forget_all.new.tables c.clear_all.new.said) c.clear_all.new.said (keys z) }) near in
     sound_last c.args.tables.now c.args.said.now c.args.ms c.args.word c.requires.settled c.requires.said c.requires.short c.forget_all.new.tables now c.clear_all.new.said cleared c.tell_all.new.tables marks c.tell_all.new.said c.forget_all.ensures.sound
@@ -121,7 +147,10 @@ pub returns-clause-place : goal.returns-clause-place
 returns-clause-place g c =
     let now : state_of c.forget_all.new.tables c.args.said.now ≡ passed c.args.ms c.args.word (state_of c.args.tables.now c.args.said.now) = c.forget_all.ensures.state c.args.said.now ∙ (λ i. after_wait (c.age_all-fired.ensures.dead i) (c.age_all-fired.ensures.state c.args.said.now i)) in
     let touched : c.age_all-fired.new.touched ≡ touched_by (all_dying c.args.ms c.args.tables.now) (changed unmarked c.args.tables.now.due) = c.age_all-fired.ensures.touched ∙ ap (touched_by (all_dying c.args.ms c.args.tables.now)) c.watch_all-touched.ensures in
-    let near : c.keep.new.self ≡ near_in c.args.tables.now c.args.said.now c.args.ms c.args.word c.requires.settled c.requires.said c.requires.short = c.keep.ensures ∙ (λ i. kept (λ s. is_touched (touched i) s || has (c.age_all-fired.ensures.fired i) s) (c.note.ensures i)) in
+    let near : c.note_touched.new.self ≡ near_in c.args.tables.now c.args.said.now c.args.ms c.args.word c.requires.settled c.requires.said c.requires.short =
+    c.note_touched.ensures
+    ∙ noted_is c.args.tables.now c.args.said.now c.args.ms c.args.word c.requires.settled c.requires.said c.requires.short c.age_all-fired.new.tables.paths.facts c.age_all-fired.new.lost c.age_all-fired.new.touched c.age_all-fired.result
+    (ap (λ (z : State). z.paths) (c.age_all-fired.ensures.state empty)) c.age_all-fired.ensures.lost touched c.age_all-fired.ensures.fired in
     let cleared = subst (λ (z : NearTable). AreCleared (state_of c.forget_all.new.tables c.args.said.now) z.rows c.clear_all.new.said) near c.clear_all.ensures in
     let marks = λ (d : ℕ). c.tell_all.ensures.marks d ∙ ap (λ (z : NearTable). record c.forget_all.new.tables { wants = wants_told d (state_of c.forget_all.new.tables c.clear_all.new.said) c.clear_all.new.said (keys z) }) near in
     place_last c.args.tables.now c.args.said.now c.args.ms c.args.word c.requires.settled c.requires.said c.requires.short c.forget_all.new.tables now c.clear_all.new.said cleared c.tell_all.new.tables marks c.tell_all.new.said
