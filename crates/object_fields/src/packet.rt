@@ -53,6 +53,7 @@ impl Packet {
     }
 
     /// Puts bytes at the end. `Full` exactly where they do not fit; nothing changes then.
+    #[inline(always)]
     pub fn append(&mut self, bytes: &[u8]) -> Result<(), Full>
         ensures ok { OnOk result (self.new ≡ self.old ++ bytes.now) }
         ensures full { IsErr result ↔ (4096 < length self.old + length bytes.now) }

@@ -15,6 +15,7 @@ use object_fields::word_of_rate;
 use rsvp_base::{Addr, ErrSpec, Flow, Hop, Peak, Sender, Session, StyleKind};
 
 /// Writes the head of an object of the class, whose text has this many bytes, over the first four.
+#[inline(always)]
 pub fn put_head(text: &mut [u8], class: Class, size: u16)
     requires { 4 ≤ length text.old }
     ensures { text.new ≡ half size ++ class_number class ∷ ctype_of class ∷ drop 4 text.old }
@@ -25,6 +26,7 @@ pub fn put_head(text: &mut [u8], class: Class, size: u16)
 }
 
 /// An object that is skipped: a head alone.
+#[inline(always)]
 pub fn skipped(class: u8) -> [u8; 4]
     ensures { result ≡ spelt class 0 [] }
 {
@@ -35,6 +37,7 @@ pub fn skipped(class: u8) -> [u8; 4]
 }
 
 /// SESSION.
+#[inline(always)]
 pub fn session(session: &Session, police: bool) -> [u8; 12]
     ensures { result ≡ spelt_as Class.Session (session_bytes session.now police) }
 {
@@ -49,6 +52,7 @@ pub fn session(session: &Session, police: bool) -> [u8; 12]
 }
 
 /// RSVP_HOP.
+#[inline(always)]
 pub fn hop(hop: Hop) -> [u8; 12]
     ensures { result ≡ spelt_as Class.RsvpHop (hop_bytes hop) }
 {
@@ -61,6 +65,7 @@ pub fn hop(hop: Hop) -> [u8; 12]
 }
 
 /// TIME_VALUES, of a refresh period in milliseconds.
+#[inline(always)]
 pub fn time(period: u32) -> [u8; 8]
     ensures { result ≡ spelt_as Class.TimeValues (period_bytes period) }
 {
@@ -74,6 +79,7 @@ pub fn time(period: u32) -> [u8; 8]
 }
 
 /// ERROR_SPEC.
+#[inline(always)]
 pub fn error(error: &ErrSpec) -> [u8; 12]
     ensures { result ≡ spelt_as Class.ErrorSpec (error_bytes error.now) }
 {
@@ -88,6 +94,7 @@ pub fn error(error: &ErrSpec) -> [u8; 12]
 }
 
 /// STYLE.
+#[inline(always)]
 pub fn style(kind: StyleKind) -> [u8; 8]
     ensures { result ≡ spelt_as Class.Style (style_bytes kind) }
 {
@@ -97,6 +104,7 @@ pub fn style(kind: StyleKind) -> [u8; 8]
     text
 }
 
+#[inline(always)]
 fn style_number(kind: StyleKind) -> u8
     ensures { result ≡ style_number kind }
 {
@@ -108,6 +116,7 @@ fn style_number(kind: StyleKind) -> u8
 }
 
 /// FILTER_SPEC or SENDER_TEMPLATE.
+#[inline(always)]
 pub fn sender(class: Class, sender: Sender) -> [u8; 12]
     ensures { result ≡ spelt (class_number class) (ctype_of class) (sender_bytes sender) }
 {
@@ -120,6 +129,7 @@ pub fn sender(class: Class, sender: Sender) -> [u8; 12]
 }
 
 /// RESV_CONFIRM.
+#[inline(always)]
 pub fn confirm(receiver: Addr) -> [u8; 8]
     ensures { result ≡ spelt_as Class.ResvConfirm (confirm_bytes receiver) }
 {
@@ -133,6 +143,7 @@ pub fn confirm(receiver: Addr) -> [u8; 8]
 }
 
 /// FLOWSPEC or SENDER_TSPEC, with its service.
+#[inline(always)]
 pub fn flow(class: Class, service: u8, flow: &Flow) -> [u8; 36]
     ensures { result ≡ spelt (class_number class) (ctype_of class) (flow_bytes service flow.now) }
 {

@@ -3,7 +3,7 @@ use Rattle.std.specs.List.{flat_map}
 use Rattle.rsvp_base.specs.Table.{keys}
 use Rattle.object_fields.specs.Fields.{half}
 use Rattle.rsvp_objects.specs.Contents.{source_bytes}
-use Rattle.rsvp_objects.proofs.writing.scope.Given as goal
+use Rattle.rsvp_objects.proofs.put.scope_text.Given as goal
 
 abbrev pub invariant-loop-source : goal.invariant-loop-source
 invariant-loop-source l = record {

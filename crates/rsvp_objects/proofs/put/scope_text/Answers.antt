@@ -5,7 +5,7 @@ use Rattle.rsvp_base.specs.declared.session.Sender.{Sender}
 use Rattle.object_fields.specs.Fields.{half}
 use Rattle.rsvp_objects.specs.Contents.{source_bytes, scope_bytes}
 use Rattle.rsvp_objects.proofs.Sources.{fours, text_more, text_whole}
-use Rattle.rsvp_objects.proofs.writing.scope.Goals as goal
+use Rattle.rsvp_objects.proofs.put.scope_text.Goals as goal
 
 abbrev head : ℕ → List ℕ
 head n = half (4 + 4 * n) ++ 7 ∷ 1 ∷ []
