@@ -21,7 +21,7 @@ pub fn ones_sum(bytes: &[u8]) -> u32
     summed(bytes)
 }
 
-// The sum of a message: it is folded once, at the end.
+// The sum of a message: two words at once are added, and it is folded once, at the end.
 #[tactic(auto, using(crate::proofs::Closed::plus_closed))]
 fn folded(bytes: &[u8]) -> u32
     requires { length bytes.now ≤ 4096 }
@@ -29,15 +29,23 @@ fn folded(bytes: &[u8]) -> u32
     ensures word { result ≤ 65535 }
 {
     let mut rest = bytes;
-    let mut sum: u32 = 0;
-    while rest.len() >= 2 {
-        sum += BigEndian::read_u16(rest) as u32;
+    let mut sum: u64 = 0;
+    'pairs: while rest.len() >= 4 {
+        sum += BigEndian::read_u32(rest) as u64;
+        rest = &rest[4..];
+    }
+    'words: while rest.len() >= 2 {
+        sum += BigEndian::read_u16(rest) as u64;
         rest = &rest[2..];
     }
     if !rest.is_empty() {
-        sum += rest[0] as u32 * 256;
+        sum += rest[0] as u64 * 256;
     }
-    if sum == 0 { 0 } else { (sum - 1) % 65535 + 1 }
+    if sum == 0 {
+        0
+    } else {
+        ((sum - 1) % 65535 + 1) as u32
+    }
 }
 
 fn summed(bytes: &[u8]) -> u32
