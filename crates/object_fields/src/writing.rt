@@ -9,34 +9,40 @@ use crate::packet::Packet;
 use crate::rate_word::word_of_rate;
 use crate::words::BREAK_BIT;
 use crate::{places, values};
-use arrayvec::ArrayVec;
 use byteorder::{BigEndian, ByteOrder};
 use rsvp_base::Full;
 
-// The bytes of the head and the general part, and of an object with as many fragments as there may be.
+// The bytes of the head and the general part, and the most that a packet has.
 const HEAD_SIZE: usize = 44;
 
-const MOST_SIZE: usize = 144;
+const MOST_BYTES: usize = 4096;
 
 /// Puts the object of an ADSPEC at the end of a packet: the general part, controlled load where it has it, the others.
 /// `Full` exactly where it does not fit; nothing changes then.
+#[tactic(auto, using(crate::proofs::Bytes::body_size))]
 pub fn write_adspec(adspec: &Adspec, packet: &mut Packet) -> Result<(), Full>
     ensures ok { OnOk result (packet.new ≡ packet.old ++ object_bytes adspec.now) }
     ensures full { IsErr result ↔ (4096 < length packet.old + length (object_bytes adspec.now)) }
     ensures err { OnErr result (packet.new ≡ packet.old) }
 {
-    packet.append(text(adspec).as_slice())
+    let words = count(adspec);
+    if packet.bytes().len() + HEAD_SIZE + places::WORD_SIZE * words as usize > MOST_BYTES {
+        return Err(Full);
+    }
+    put_text(adspec, words, packet);
+    Ok(())
 }
 
-// The bytes of the object.
-fn text(adspec: &Adspec) -> ArrayVec<u8, MOST_SIZE>
-    ensures { result.items ≡ object_bytes adspec.now }
+// Puts the bytes of the object, which has so many words behind the general part, where there is room.
+fn put_text(adspec: &Adspec, words: u16, packet: &mut Packet)
+    requires number { words ≡ length (behind adspec.now) }
+    requires few { words ≤ 25 }
+    requires room { length packet.old + 44 + 4 * words ≤ 4096 }
+    ensures { packet.new ≡ packet.old ++ object_bytes adspec.now }
 {
-    let words = count(adspec);
-    let mut text = start(adspec, words);
-    put_load(adspec.load, &mut text);
-    put_words(adspec.others.words(), &mut text);
-    text
+    let _ = packet.append(&head(adspec, words));
+    put_load(adspec.load, packet);
+    put_words(adspec.others.words(), packet);
 }
 
 // How many words stand behind the general part.
@@ -45,18 +51,6 @@ fn count(adspec: &Adspec) -> u16
     ensures few { result ≤ 25 }
 {
     (usize::from(adspec.load.is_some()) + adspec.others.len()) as u16
-}
-
-// The head of the object and the general part, as a text that can grow.
-fn start(adspec: &Adspec, words: u16) -> ArrayVec<u8, MOST_SIZE>
-    requires number { words ≡ length (behind adspec.now) }
-    requires few { words ≤ 25 }
-    ensures { result.items ≡ half (44 + 4 * words) ++ 13 ∷ 2 ∷ general_bytes adspec.now }
-{
-    let head = head(adspec, words);
-    let mut text = ArrayVec::new();
-    let _ = text.try_extend_from_slice(&head);
-    text
 }
 
 // The head of the object and the general part, with so many words behind it.
@@ -114,12 +108,12 @@ fn put_parameter(text: &mut [u8], number: u8, value: u32)
 }
 
 // The bytes of the controlled-load fragment where there is one, and where there is room.
-fn put_load(load: Option<bool>, text: &mut ArrayVec<u8, MOST_SIZE>)
-    requires { length text.old.items ≤ 140 }
-    ensures { text.new.items ≡ text.old.items ++ flat_map word (load_words load) }
+fn put_load(load: Option<bool>, packet: &mut Packet)
+    requires { length packet.old + 4 * length (load_words load) ≤ 4096 }
+    ensures { packet.new ≡ packet.old ++ flat_map word (load_words load) }
 {
     match load {
-        Some(broken) => put_word(load_word(broken), text),
+        Some(broken) => put_word(load_word(broken), packet),
         None => {}
     }
 }
@@ -136,21 +130,21 @@ fn load_word(broken: bool) -> u32
 }
 
 // The bytes of words, where there is room.
-fn put_words(words: &[u32], text: &mut ArrayVec<u8, MOST_SIZE>)
-    requires { length text.old.items + 4 * length words.now ≤ 144 }
-    ensures { text.new.items ≡ text.old.items ++ flat_map word words.now }
+fn put_words(words: &[u32], packet: &mut Packet)
+    requires { length packet.old + 4 * length words.now ≤ 4096 }
+    ensures { packet.new ≡ packet.old ++ flat_map word words.now }
 {
     for word in words {
-        put_word(*word, text);
+        put_word(*word, packet);
     }
 }
 
 // The bytes of a word, where there is room.
-fn put_word(number: u32, text: &mut ArrayVec<u8, MOST_SIZE>)
-    requires { length text.old.items ≤ 140 }
-    ensures { text.new.items ≡ text.old.items ++ word number }
+fn put_word(number: u32, packet: &mut Packet)
+    requires { length packet.old ≤ 4092 }
+    ensures { packet.new ≡ packet.old ++ word number }
 {
     let mut bytes = [0; places::WORD_SIZE];
     BigEndian::write_u32(&mut bytes, number);
-    let _ = text.try_extend_from_slice(&bytes);
+    let _ = packet.append(&bytes);
 }
