@@ -6,7 +6,7 @@ ghost use Rattle.message_writing.specs.Objects.{where_there, pair_objects, filte
 
 use rsvp_base::{Flow, Full, Sender, Senders, StyleKind};
 use rsvp_messages::{Ask, Blame, Tear};
-use rsvp_objects::{Object, Packet, put_object};
+use rsvp_objects::{Packet, put};
 
 /// What is asked for.
 pub fn put_ask(ask: &Ask, packet: &mut Packet) -> Result<(), Full>
@@ -16,16 +16,16 @@ pub fn put_ask(ask: &Ask, packet: &mut Packet) -> Result<(), Full>
     match ask {
         Ask::Wild { scope, flow } => {
             put_scope(scope, packet)?;
-            put_object(&Object::StyleOf(StyleKind::Wild), packet)?;
-            put_object(&Object::FlowOf(*flow), packet)
+            put::style(StyleKind::Wild, packet)?;
+            put::flow(flow, packet)
         }
         Ask::Fixed(list) => {
-            put_object(&Object::StyleOf(StyleKind::Fixed), packet)?;
+            put::style(StyleKind::Fixed, packet)?;
             put_pairs(list.as_slice(), packet)
         }
         Ask::Shared(part) => {
-            put_object(&Object::StyleOf(StyleKind::Shared), packet)?;
-            put_object(&Object::FlowOf(part.flow), packet)?;
+            put::style(StyleKind::Shared, packet)?;
+            put::flow(&part.flow, packet)?;
             put_filters(part.senders.as_slice(), packet)
         }
     }
@@ -39,14 +39,14 @@ pub fn put_tear(tear: &Tear, packet: &mut Packet) -> Result<(), Full>
     match tear {
         Tear::Wild { scope } => {
             put_scope(scope, packet)?;
-            put_object(&Object::StyleOf(StyleKind::Wild), packet)
+            put::style(StyleKind::Wild, packet)
         }
         Tear::Fixed(senders) => {
-            put_object(&Object::StyleOf(StyleKind::Fixed), packet)?;
+            put::style(StyleKind::Fixed, packet)?;
             put_filters(senders.as_slice(), packet)
         }
         Tear::Shared(senders) => {
-            put_object(&Object::StyleOf(StyleKind::Shared), packet)?;
+            put::style(StyleKind::Shared, packet)?;
             put_filters(senders.as_slice(), packet)
         }
     }
@@ -60,16 +60,16 @@ pub fn put_blame(blame: &Blame, packet: &mut Packet) -> Result<(), Full>
     match blame.style {
         StyleKind::Wild => {
             put_scope(&blame.senders, packet)?;
-            put_object(&Object::StyleOf(StyleKind::Wild), packet)?;
+            put::style(StyleKind::Wild, packet)?;
             put_flow(&blame.flow, packet)
         }
         StyleKind::Fixed => {
-            put_object(&Object::StyleOf(StyleKind::Fixed), packet)?;
+            put::style(StyleKind::Fixed, packet)?;
             put_flow(&blame.flow, packet)?;
             put_named(&blame.senders, packet)
         }
         StyleKind::Shared => {
-            put_object(&Object::StyleOf(StyleKind::Shared), packet)?;
+            put::style(StyleKind::Shared, packet)?;
             put_flow(&blame.flow, packet)?;
             put_named(&blame.senders, packet)
         }
@@ -82,7 +82,7 @@ fn put_scope(scope: &Option<Senders>, packet: &mut Packet) -> Result<(), Full>
 {
     match scope {
         None => Ok(()),
-        Some(senders) => put_object(&Object::Scope(senders.copy()), packet),
+        Some(senders) => put::scope(senders, packet),
     }
 }
 
@@ -92,7 +92,7 @@ fn put_flow(flow: &Option<Flow>, packet: &mut Packet) -> Result<(), Full>
 {
     match flow {
         None => Ok(()),
-        Some(flow) => put_object(&Object::FlowOf(*flow), packet),
+        Some(flow) => put::flow(flow, packet),
     }
 }
 
@@ -114,7 +114,7 @@ fn put_filters(senders: &[Sender], packet: &mut Packet) -> Result<(), Full>
     match senders {
         [] => Ok(()),
         [sender, rest @ ..] => {
-            put_object(&Object::Filter(*sender), packet)?;
+            put::filter(*sender, packet)?;
             put_filters(rest, packet)
         }
     }
@@ -128,8 +128,8 @@ fn put_pairs(pairs: &[(Sender, Flow)], packet: &mut Packet) -> Result<(), Full>
     match pairs {
         [] => Ok(()),
         [(sender, flow), rest @ ..] => {
-            put_object(&Object::FlowOf(*flow), packet)?;
-            put_object(&Object::Filter(*sender), packet)?;
+            put::flow(flow, packet)?;
+            put::filter(*sender, packet)?;
             put_pairs(rest, packet)
         }
     }

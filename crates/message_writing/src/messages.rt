@@ -1,6 +1,7 @@
 //! Writing the objects of each kind of message.
 ghost use Rattle.std.specs.Prelude.{◌≡◌, ◌<◌, ◌+◌, ◌++◌, false, length, OnOk, IsErr};
 ghost use Rattle.rsvp_objects.specs.declared.object.Object.TheVariants as AnObject;
+ghost use Rattle.rsvp_objects.specs.Spelling.{spelling};
 ghost use Rattle.message_writing.specs.Encoding.{spellings};
 ghost use Rattle.message_writing.specs.Objects.{where_there, sender_objects, path_objects, resv_objects, path_err_objects, resv_err_objects, path_tear_objects, resv_tear_objects, resv_conf_objects, objects_of};
 
@@ -9,7 +10,7 @@ use rsvp_base::{Addr, Flow, Full, Sender, Session};
 use rsvp_messages::{
     Message, PathErrMsg, PathMsg, PathTearMsg, ResvConfMsg, ResvErrMsg, ResvMsg, ResvTearMsg,
 };
-use rsvp_objects::{Adspec, Object, Packet, put_object, write_adspec};
+use rsvp_objects::{Adspec, Packet, put};
 
 /// The objects of a message. `Full` only where they do not fit.
 pub fn put_objects(message: &Message, packet: &mut Packet) -> Result<(), Full>
@@ -31,15 +32,9 @@ fn put_path(m: &PathMsg, packet: &mut Packet) -> Result<(), Full>
     ensures ok { OnOk result (packet.new ≡ packet.old ++ spellings (path_objects m.now)) }
     ensures full { IsErr result → 4096 < length packet.old + length (spellings (path_objects m.now)) }
 {
-    put_object(
-        &Object::Session {
-            session: m.session,
-            police: m.police,
-        },
-        packet,
-    )?;
-    put_object(&Object::HopOf(m.hop), packet)?;
-    put_object(&Object::Time(m.period), packet)?;
+    put::session(&m.session, m.police, packet)?;
+    put::hop(m.hop, packet)?;
+    put::time(m.period, packet)?;
     put_offer(&m.sender, packet)?;
     put_advert(&m.adspec, packet)
 }
@@ -48,9 +43,9 @@ fn put_resv(m: &ResvMsg, packet: &mut Packet) -> Result<(), Full>
     ensures ok { OnOk result (packet.new ≡ packet.old ++ spellings (resv_objects m.now)) }
     ensures full { IsErr result → 4096 < length packet.old + length (spellings (resv_objects m.now)) }
 {
-    put_object(&session(m.session), packet)?;
-    put_object(&Object::HopOf(m.hop), packet)?;
-    put_object(&Object::Time(m.period), packet)?;
+    put_session(&m.session, packet)?;
+    put::hop(m.hop, packet)?;
+    put::time(m.period, packet)?;
     put_confirm(m.confirm, packet)?;
     put_ask(&m.ask, packet)
 }
@@ -59,8 +54,8 @@ fn put_path_err(m: &PathErrMsg, packet: &mut Packet) -> Result<(), Full>
     ensures ok { OnOk result (packet.new ≡ packet.old ++ spellings (path_err_objects m.now)) }
     ensures full { IsErr result → 4096 < length packet.old + length (spellings (path_err_objects m.now)) }
 {
-    put_object(&session(m.session), packet)?;
-    put_object(&Object::Error(m.err), packet)?;
+    put_session(&m.session, packet)?;
+    put::error(&m.err, packet)?;
     put_template(m.sender, packet)
 }
 
@@ -68,9 +63,9 @@ fn put_resv_err(m: &ResvErrMsg, packet: &mut Packet) -> Result<(), Full>
     ensures ok { OnOk result (packet.new ≡ packet.old ++ spellings (resv_err_objects m.now)) }
     ensures full { IsErr result → 4096 < length packet.old + length (spellings (resv_err_objects m.now)) }
 {
-    put_object(&session(m.session), packet)?;
-    put_object(&Object::HopOf(m.hop), packet)?;
-    put_object(&Object::Error(m.err), packet)?;
+    put_session(&m.session, packet)?;
+    put::hop(m.hop, packet)?;
+    put::error(&m.err, packet)?;
     put_blame(&m.blame, packet)
 }
 
@@ -78,8 +73,8 @@ fn put_path_tear(m: &PathTearMsg, packet: &mut Packet) -> Result<(), Full>
     ensures ok { OnOk result (packet.new ≡ packet.old ++ spellings (path_tear_objects m.now)) }
     ensures full { IsErr result → 4096 < length packet.old + length (spellings (path_tear_objects m.now)) }
 {
-    put_object(&session(m.session), packet)?;
-    put_object(&Object::HopOf(m.hop), packet)?;
+    put_session(&m.session, packet)?;
+    put::hop(m.hop, packet)?;
     put_template(m.sender, packet)
 }
 
@@ -87,8 +82,8 @@ fn put_resv_tear(m: &ResvTearMsg, packet: &mut Packet) -> Result<(), Full>
     ensures ok { OnOk result (packet.new ≡ packet.old ++ spellings (resv_tear_objects m.now)) }
     ensures full { IsErr result → 4096 < length packet.old + length (spellings (resv_tear_objects m.now)) }
 {
-    put_object(&session(m.session), packet)?;
-    put_object(&Object::HopOf(m.hop), packet)?;
+    put_session(&m.session, packet)?;
+    put::hop(m.hop, packet)?;
     put_tear(&m.tear, packet)
 }
 
@@ -96,20 +91,19 @@ fn put_resv_conf(m: &ResvConfMsg, packet: &mut Packet) -> Result<(), Full>
     ensures ok { OnOk result (packet.new ≡ packet.old ++ spellings (resv_conf_objects m.now)) }
     ensures full { IsErr result → 4096 < length packet.old + length (spellings (resv_conf_objects m.now)) }
 {
-    put_object(&session(m.session), packet)?;
-    put_object(&Object::Error(m.err), packet)?;
-    put_object(&Object::Confirm(m.confirm), packet)?;
+    put_session(&m.session, packet)?;
+    put::error(&m.err, packet)?;
+    put::confirm(m.confirm, packet)?;
     put_ask(&m.ask, packet)
 }
 
 // A SESSION outside a Path.
-fn session(session: Session) -> Object
-    ensures { result ≡ AnObject.Session session false }
+#[inline(always)]
+fn put_session(session: &Session, packet: &mut Packet) -> Result<(), Full>
+    ensures ok { OnOk result (packet.new ≡ packet.old ++ spelling (AnObject.Session session.now false)) }
+    ensures full { IsErr result → 4096 < length packet.old + length (spelling (AnObject.Session session.now false)) }
 {
-    Object::Session {
-        session,
-        police: false,
-    }
+    put::session(session, false, packet)
 }
 
 // SENDER_TEMPLATE and SENDER_TSPEC.
@@ -120,20 +114,19 @@ fn put_offer(offer: &Option<(Sender, Flow)>, packet: &mut Packet) -> Result<(), 
     match offer {
         None => Ok(()),
         Some((sender, flow)) => {
-            put_object(&Object::Template(*sender), packet)?;
-            put_object(&Object::Tspec(*flow), packet)
+            put::template(*sender, packet)?;
+            put::tspec(flow, packet)
         }
     }
 }
 
-#[tactic(auto, unfolding(rsvp_objects::specs::Spelling::spelling))]
 fn put_advert(adspec: &Option<Adspec>, packet: &mut Packet) -> Result<(), Full>
     ensures ok { OnOk result (packet.new ≡ packet.old ++ spellings (where_there AnObject.Advert adspec.now)) }
     ensures full { IsErr result → 4096 < length packet.old + length (spellings (where_there AnObject.Advert adspec.now)) }
 {
     match adspec {
         None => Ok(()),
-        Some(adspec) => write_adspec(adspec, packet),
+        Some(adspec) => put::advert(adspec, packet),
     }
 }
 
@@ -143,7 +136,7 @@ fn put_template(sender: Option<Sender>, packet: &mut Packet) -> Result<(), Full>
 {
     match sender {
         None => Ok(()),
-        Some(sender) => put_object(&Object::Template(sender), packet),
+        Some(sender) => put::template(sender, packet),
     }
 }
 
@@ -153,6 +146,6 @@ fn put_confirm(receiver: Option<Addr>, packet: &mut Packet) -> Result<(), Full>
 {
     match receiver {
         None => Ok(()),
-        Some(receiver) => put_object(&Object::Confirm(receiver), packet),
+        Some(receiver) => put::confirm(receiver, packet),
     }
 }
