@@ -5,8 +5,13 @@ use Rattle.std.proofs.lemmas.List.{append-nil, take_more, take_all}
 use Rattle.std.proofs.lemmas.Grind.{flat_map-append}
 use Rattle.std.proofs.lemmas.List.Concat.{flat_map-cons}
 use Rattle.rsvp_base.specs.declared.session.Sender.{Sender}
+use Rattle.rsvp_base.specs.Orders.{Names}
+use Rattle.rsvp_base.specs.Table.{keys, size}
+use Rattle.rsvp_base.proofs.Lists.{size_keys}
 use Rattle.object_fields.specs.Fields.{word_at}
 use Rattle.rsvp_objects.specs.Contents.{source, sources_in, source_bytes}
+use Rattle.rsvp_objects.specs.declared.object.Object.TheVariants as object
+use Rattle.rsvp_objects.specs.Spelling.{spelling}
 
 pub sources_cons : (r : List ℕ) → 4 ≤ length r → sources_in r ≡ source (word_at 0 r) ∷ sources_in (drop 4 r)
 sources_cons [] h = absurd (omega arith)
@@ -36,3 +41,8 @@ text_more xs k d h = rw (take_more xs k d h, flat_map-append) (ap (λ (t : List 
 -- all
 pub text_whole : (xs : List Sender) (k : ℕ) → length xs ≤ k → flat_map source_bytes (take k xs) ≡ flat_map source_bytes xs
 text_whole xs k h = ap (flat_map source_bytes) (take_all k xs h)
+
+-- the size of a SCOPE
+pub scope_size : (names : Names) → length (spelling (object.Scope names)) ≡ 4 + 4 * size names
+unfolding spelling
+scope_size names = let e = fours (keys names) in let n = size_keys names in omega arith

@@ -1,5 +1,6 @@
 //! Putting an object of each class at the end of a packet.
-ghost use Rattle.std.specs.Prelude.{◌≡◌, ◌≤◌, ◌<◌, ◌+◌, ◌++◌, ◌↔◌, length, OnOk, OnErr, IsErr};
+ghost use Rattle.std.specs.Prelude.{◌≡◌, ◌≤◌, ◌<◌, ◌+◌, ◌*◌, ◌++◌, ◌↔◌, length, OnOk, OnErr, IsErr};
+ghost use Rattle.rsvp_base.specs.Table.{size};
 ghost use Rattle.rsvp_objects.specs.declared.class.Class.TheVariants as Class;
 ghost use Rattle.rsvp_objects.specs.declared.object.Object.TheVariants as AnObject;
 ghost use Rattle.rsvp_objects.specs.Contents.{source_bytes, scope_bytes};
@@ -8,13 +9,14 @@ ghost use Rattle.rsvp_objects.specs.Spelling.{spelt_as, spelling};
 use crate::class::Class;
 use crate::values::service;
 use crate::{places, texts};
-use arrayvec::ArrayVec;
 use byteorder::{BigEndian, ByteOrder};
 use object_fields::{Adspec, Packet, write_adspec};
 use rsvp_base::{Addr, ErrSpec, Flow, Full, Hop, Sender, Senders, Session, StyleKind};
 
-// A SCOPE of 16 addresses, the most that a list of senders has.
-const MOST_SCOPE: usize = 68;
+// The most bytes that a packet has, and those of a head.
+const MOST_BYTES: usize = 4096;
+
+const HEAD_SIZE: usize = 4;
 
 /// Puts a SESSION at the end of a packet. `Full` exactly where it does not fit; nothing changes then.
 #[tactic(auto, unfolding(crate::specs::Spelling::spelling))]
@@ -61,14 +63,19 @@ pub fn error(error: &ErrSpec, packet: &mut Packet) -> Result<(), Full>
 }
 
 /// Puts a SCOPE at the end of a packet. `Full` exactly where it does not fit; nothing changes then.
-#[tactic(auto, unfolding(crate::specs::Spelling::spelling))]
+#[tactic(auto, using(crate::proofs::Sources::scope_size), unfolding(crate::specs::Spelling::spelling))]
 #[inline(always)]
 pub fn scope(senders: &Senders, packet: &mut Packet) -> Result<(), Full>
     ensures ok { OnOk result (packet.new ≡ packet.old ++ spelling (AnObject.Scope senders.now)) }
     ensures full { IsErr result ↔ (4096 < length packet.old + length (spelling (AnObject.Scope senders.now))) }
     ensures err { OnErr result (packet.new ≡ packet.old) }
 {
-    packet.append(scope_text(senders).as_slice())
+    let size = HEAD_SIZE + places::ADDR_SIZE * senders.len();
+    if packet.bytes().len() + size > MOST_BYTES {
+        return Err(Full);
+    }
+    put_scope(senders, packet);
+    Ok(())
 }
 
 /// Puts a STYLE at the end of a packet. `Full` exactly where it does not fit; nothing changes then.
@@ -159,27 +166,26 @@ pub fn skipped(class: u8, packet: &mut Packet) -> Result<(), Full>
     packet.append(&texts::skipped(class))
 }
 
-// The text of a SCOPE.
-fn scope_text(senders: &Senders) -> ArrayVec<u8, MOST_SCOPE>
-    ensures { result.items ≡ spelt_as Class.Scope (scope_bytes senders.now) }
+// Puts the text of a SCOPE, where there is room.
+fn put_scope(senders: &Senders, packet: &mut Packet)
+    requires { length packet.old + 4 + 4 * size senders.now ≤ 4096 }
+    ensures { packet.new ≡ packet.old ++ spelt_as Class.Scope (scope_bytes senders.now) }
 {
-    let mut head = [0; 4];
     let sources = senders.as_slice();
+    let mut head = [0; HEAD_SIZE];
     texts::put_head(&mut head, Class::Scope, 4 + 4 * sources.len() as u16);
-    let mut text = ArrayVec::new();
-    let _ = text.try_extend_from_slice(&head);
+    let _ = packet.append(&head);
     for source in sources {
-        put_source(*source, &mut text);
+        put_source(*source, packet);
     }
-    text
 }
 
 // The address of a sender, where there is room.
-fn put_source(source: Sender, text: &mut ArrayVec<u8, MOST_SCOPE>)
-    requires { length text.old.items ≤ 64 }
-    ensures { text.new.items ≡ text.old.items ++ source_bytes source }
+fn put_source(source: Sender, packet: &mut Packet)
+    requires { length packet.old ≤ 4092 }
+    ensures { packet.new ≡ packet.old ++ source_bytes source }
 {
     let mut addr = [0; places::ADDR_SIZE];
     BigEndian::write_u32(&mut addr, source.addr.0);
-    let _ = text.try_extend_from_slice(&addr);
+    let _ = packet.append(&addr);
 }

@@ -3,10 +3,10 @@ use Rattle.std.specs.List.{flat_map}
 use Rattle.rsvp_base.specs.Table.{keys}
 use Rattle.object_fields.specs.Fields.{half}
 use Rattle.rsvp_objects.specs.Contents.{source_bytes}
-use Rattle.rsvp_objects.proofs.put.scope_text.Given as goal
+use Rattle.rsvp_objects.proofs.put.put_scope.Given as goal
 
 abbrev pub invariant-loop-source : goal.invariant-loop-source
 invariant-loop-source l = record {
-  text : l.text.items ≡ (half (4 + 4 * length (keys l.senders)) ++ 7 ∷ 1 ∷ []) ++ flat_map source_bytes (take l.source-index (keys l.senders));
-  room : length l.text.items ≡ 4 + 4 * l.source-index;
+  text : l.packet ≡ l.fn.packet ++ ((half (4 + 4 * length (keys l.senders)) ++ 7 ∷ 1 ∷ []) ++ flat_map source_bytes (take l.source-index (keys l.senders)));
+  room : length l.packet ≡ length l.fn.packet + 4 + 4 * l.source-index;
 }
