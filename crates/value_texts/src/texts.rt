@@ -16,7 +16,7 @@ pub fn put(out: &mut Vec<u8>, bytes: &[u8]) -> Result<(), NoMemory>
     ensures full { OnErr result (vec_capacity out.old < length (out.old.items ++ bytes.now)) }
     ensures kept { vec_capacity out.old ≤ vec_capacity out.new }
 {
-    out.extend_from_slice(bytes).map_err(|_| NoMemory)
+    Ok(out.extend_from_slice(bytes)?)
 }
 
 /// Appends a number in decimal digits, without leading zeros.
