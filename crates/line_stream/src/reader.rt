@@ -303,14 +303,14 @@ fn room(alloc: Global, bytes: usize) -> Result<Vec<u8>, NoMemory>
     ensures len { IfOk result (λ v. vec_len v ≡ 0) }
     ensures room { IfOk result (λ v. bytes ≤ vec_capacity v) }
 {
-    Vec::with_capacity(alloc, bytes).map_err(|_| NoMemory)
+    Ok(Vec::with_capacity(alloc, bytes)?)
 }
 
 // A piece.
 fn blank(alloc: Global) -> Result<Vec<u8>, NoMemory>
     ensures { IfOk result (λ v. vec_len v ≡ 4096) }
 {
-    Vec::from_elem(alloc, 0u8, PIECE).map_err(|_| NoMemory)
+    Ok(Vec::from_elem(alloc, 0u8, PIECE)?)
 }
 
 // What stands from a place on.
