@@ -13,21 +13,9 @@ impl Topology {
         Ok(Topology {
             alloc: self.alloc,
             nodes: self.nodes,
-            ends: self
-                .ends
-                .as_slice()
-                .to_vec(self.alloc)
-                .map_err(|_| NoMemory)?,
-            links: self
-                .links
-                .as_slice()
-                .to_vec(self.alloc)
-                .map_err(|_| NoMemory)?,
-            hops: self
-                .hops
-                .as_slice()
-                .to_vec(self.alloc)
-                .map_err(|_| NoMemory)?,
+            ends: self.ends.as_slice().to_vec(self.alloc)?,
+            links: self.links.as_slice().to_vec(self.alloc)?,
+            hops: self.hops.as_slice().to_vec(self.alloc)?,
         })
     }
 }
@@ -40,37 +28,13 @@ impl Routing {
         Ok(Routing {
             alloc: self.alloc,
             nodes: self.nodes,
-            ends: self
-                .ends
-                .as_slice()
-                .to_vec(self.alloc)
-                .map_err(|_| NoMemory)?,
-            links: self
-                .links
-                .as_slice()
-                .to_vec(self.alloc)
-                .map_err(|_| NoMemory)?,
-            hops: self
-                .hops
-                .as_slice()
-                .to_vec(self.alloc)
-                .map_err(|_| NoMemory)?,
+            ends: self.ends.as_slice().to_vec(self.alloc)?,
+            links: self.links.as_slice().to_vec(self.alloc)?,
+            hops: self.hops.as_slice().to_vec(self.alloc)?,
             chain: self.chain,
-            order: self
-                .order
-                .as_slice()
-                .to_vec(self.alloc)
-                .map_err(|_| NoMemory)?,
-            trees: self
-                .trees
-                .as_slice()
-                .to_vec(self.alloc)
-                .map_err(|_| NoMemory)?,
-            sorted: self
-                .sorted
-                .as_slice()
-                .to_vec(self.alloc)
-                .map_err(|_| NoMemory)?,
+            order: self.order.as_slice().to_vec(self.alloc)?,
+            trees: self.trees.as_slice().to_vec(self.alloc)?,
+            sorted: self.sorted.as_slice().to_vec(self.alloc)?,
         })
     }
 }

@@ -68,16 +68,8 @@ impl Routing {
         requires levels { lifted.now ≡ levels hops.items }
         ensures { IfOk result (λ r. r ≡ with_hops self.now (plain hops.items)) }
     {
-        let ends = self
-            .ends
-            .as_slice()
-            .to_vec(self.alloc)
-            .map_err(|_| NoMemory)?;
-        let links = self
-            .links
-            .as_slice()
-            .to_vec(self.alloc)
-            .map_err(|_| NoMemory)?;
+        let ends = self.ends.as_slice().to_vec(self.alloc)?;
+        let links = self.links.as_slice().to_vec(self.alloc)?;
         Routing::of(self.alloc, self.nodes, ends, links, hops, lifted)
     }
 }
