@@ -68,7 +68,7 @@ impl Countdowns {
     pub fn open(alloc: Global) -> Result<Countdowns, NoMemory>
         ensures { IfOk result (λ t. t ≡ empty) }
     {
-        let rows = Vec::with_capacity(alloc, ROOM).map_err(|_| NoMemory)?;
+        let rows = Vec::with_capacity(alloc, ROOM)?;
         Ok(Countdowns { rows })
     }
 

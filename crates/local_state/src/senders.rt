@@ -76,7 +76,7 @@ impl LocalSenders {
     pub fn open(alloc: Global) -> Result<LocalSenders, NoMemory>
         ensures { IfOk result (λ t. t ≡ empty) }
     {
-        let rows = Vec::with_capacity(alloc, ROOM).map_err(|_| NoMemory)?;
+        let rows = Vec::with_capacity(alloc, ROOM)?;
         Ok(LocalSenders { rows, held: 0 })
     }
 

@@ -79,7 +79,7 @@ impl LocalWants {
     pub fn open(alloc: Global) -> Result<LocalWants, NoMemory>
         ensures { IfOk result (λ t. t ≡ empty) }
     {
-        let rows = Vec::with_capacity(alloc, ROOM).map_err(|_| NoMemory)?;
+        let rows = Vec::with_capacity(alloc, ROOM)?;
         Ok(LocalWants { rows, held: 0 })
     }
 
