@@ -1,13 +1,12 @@
 -- Countdowns after some time, one at a time.
-use Rattle.std.proofs.Common.{◌≡◌, ◌<◌, ◌≤◌, ◌+◌, ℕ, zero, suc, Bool, true, false, cond, List, [], ◌∷◌, ◌++◌, length, take, drop, get_or, set, map as each, Some, None, refl, sym, ap, ◌∙◌, arith}
+use Rattle.std.proofs.Common.{◌≡◌, ◌<◌, ◌≤◌, ◌+◌, ℕ, zero, suc, Bool, true, false, cond, List, [], ◌∷◌, ◌++◌, length, take, drop, get_or, set, map as each, Some, None, refl, ap, ◌∙◌, arith}
 use Rattle.std.specs.Prelude.{nat_le}
 use Rattle.std.specs.List.{filter_map, cons_option}
 use Rattle.std.proofs.lemmas.List.{take_more}
 use Rattle.std.proofs.lemmas.List.Elements.{filter_map-append}
 use Rattle.rsvp_base.specs.Table.{changed_rows, kept_row}
-use Rattle.rsvp_base.specs.declared.session.Session.{Session}
 use Rattle.local_state.specs.Counting.{fired_row, is_fired, later_due, ticked_row}
-use Rattle.local_state.specs.Rows.{count_row, session_row}
+use Rattle.local_state.specs.Rows.{count_row}
 use Rattle.local_state.specs.declared.countdowns.Countdown.{Countdown}
 
 -- ---- a list of which the front was changed

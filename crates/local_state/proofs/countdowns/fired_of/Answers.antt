@@ -1,4 +1,4 @@
-use Rattle.std.proofs.Common.{◌≡◌, ◌<◌, ◌≤◌, [], ◌++◌, length, take, get_or, sym, ap, ◌∙◌, arith, map as each}
+use Rattle.std.proofs.Common.{◌≡◌, [], ◌++◌, length, take, get_or, sym, ap, ◌∙◌, arith, map as each}
 use Rattle.std.specs.List.{cons_option, filter_map}
 use Rattle.std.proofs.lemmas.List.{length-map, length-take, take_all}
 use Rattle.rsvp_base.specs.Orders.{sessions}

@@ -1,4 +1,4 @@
-use Rattle.std.proofs.Common.{◌≡◌, ◌<◌, length, get_or, set, sym, ap, ◌∙◌, arith}
+use Rattle.std.proofs.Common.{◌≡◌, ◌<◌, length, get_or, set, ap, ◌∙◌, arith}
 use Rattle.local_state.specs.Counting.{ticked_row}
 use Rattle.local_state.proofs.Ticking.{next_read, next_done}
 use Rattle.local_state.proofs.countdowns.tick_all.Goals as goal

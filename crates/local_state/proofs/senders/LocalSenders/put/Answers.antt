@@ -1,4 +1,4 @@
-use Rattle.std.specs.Prelude.{is_some, map as each, ◌≡◌, ◌≤◌, ◌<◌, true, false}
+use Rattle.std.specs.Prelude.{is_some, map as each, ◌≡◌, true}
 use Rattle.std.proofs.Common.{length, set, sym, ap, refl, subst, ◌∙◌, arith}
 use Rattle.std.proofs.lemmas.Bool.{both_ways}
 use Rattle.std.proofs.lemmas.List.{length-map}

@@ -1,4 +1,4 @@
-use Rattle.std.specs.Prelude.{is_some, map as each, ◌≡◌, ◌≤◌, Some}
+use Rattle.std.specs.Prelude.{map as each, ◌≡◌, Some}
 use Rattle.std.proofs.Common.{length, sym, ap, subst, ◌∙◌, arith}
 use Rattle.std.proofs.lemmas.List.{length-map}
 use Rattle.rsvp_base.specs.Orders.{sessions, senders}

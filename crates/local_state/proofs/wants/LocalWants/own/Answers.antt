@@ -1,7 +1,6 @@
-use Rattle.std.specs.Prelude.{map as each, ◌≡◌, ◌≤◌}
-use Rattle.std.proofs.Common.{◌+◌, ◌-◌, cond, length, sym, ap, ◌∙◌, arith}
+use Rattle.std.proofs.Common.{◌-◌, cond, length, sym, ap, ◌∙◌, arith}
 use Rattle.rsvp_base.specs.Orders.{sessions, units}
-use Rattle.rsvp_base.specs.Table.{changed, put_in, same_rows, size}
+use Rattle.rsvp_base.specs.Table.{changed, put_in, same_rows}
 use Rattle.rsvp_base.specs.Under.{under}
 use Rattle.rsvp_base.specs.declared.part.Part.{Part}
 use Rattle.std.specs.FinMap.Entries.{put}

@@ -1,4 +1,4 @@
-use Rattle.std.specs.Prelude.{is_some, map as each, ◌≡◌, ◌≤◌, ◌<◌, true, false}
+use Rattle.std.specs.Prelude.{is_some, map as each, ◌≡◌, true}
 use Rattle.std.proofs.Common.{length, set, sym, ap, refl, subst, ◌∙◌, arith}
 use Rattle.std.proofs.lemmas.Bool.{both_ways}
 use Rattle.std.proofs.lemmas.List.{length-map}
@@ -8,7 +8,7 @@ use Rattle.rsvp_base.specs.Table.{get, put_in, same_rows, size}
 use Rattle.rsvp_base.specs.Under.{rows_under, under}
 use Rattle.rsvp_base.proofs.Rows.{get_absent, get_found, put_new, put_over, rows_are, size-put_new, size_rows}
 use Rattle.rsvp_base.proofs.SessionCounts.{all_at_most, room_over, within_put}
-use Rattle.router_rules.specs.Facts.{Want, WantKey, Wants, want_keys}
+use Rattle.router_rules.specs.Facts.{WantKey, Wants, want_keys}
 use Rattle.local_state.specs.Wants.{want_row, asked_row, want_of}
 use Rattle.local_state.specs.declared.wants.LocalWant.{LocalWant}
 use Rattle.local_state.proofs.Held.{held_rows, new_count, new_room, over_count, over_within}
