@@ -140,9 +140,6 @@ fn join_at<S: Style>(
             rows[at] = (key, joined);
             Ok(())
         }
-        Err(at) => match rows.insert(at, (key, part.copy())) {
-            Ok(()) => Ok(()),
-            Err(_) => Err(NoMemory),
-        },
+        Err(at) => Ok(rows.insert(at, (key, part.copy()))?),
     }
 }
