@@ -51,10 +51,8 @@ impl Flight {
         ensures { IfOk result (λ f. f ≡ []) }
     {
         let free = rooms(alloc)?;
-        match VecDeque::with_capacity(alloc, MOST_PARCELS) {
-            Ok(queue) => Ok(Flight { queue, free }),
-            Err(_) => Err(NoMemory),
-        }
+        let queue = VecDeque::with_capacity(alloc, MOST_PARCELS)?;
+        Ok(Flight { queue, free })
     }
 
     /// How many there are.
@@ -142,19 +140,16 @@ impl Flight {
 pub fn room(alloc: Global) -> Result<Box<Packet>, NoMemory>
     ensures { IfOk result (λ r. r.value ≡ []) }
 {
-    match Box::new(alloc, Packet::new()) {
-        Ok(room) => Ok(room),
-        Err(_) => Err(NoMemory),
-    }
+    Ok(Box::new(alloc, Packet::new())?)
 }
 
 // Room for as many datagrams as may be in flight.
 fn rooms(alloc: Global) -> Result<Vec<Box<Packet>>, NoMemory>
     ensures { IfOk result (λ v. (vec_len v ≡ 8192) × (8192 ≤ vec_capacity v)) }
 {
-    let mut free = Vec::with_capacity(alloc, MOST_PARCELS).map_err(|_| NoMemory)?;
+    let mut free = Vec::with_capacity(alloc, MOST_PARCELS)?;
     for _ in 0..MOST_PARCELS {
-        free.push(room(alloc)?).map_err(|_| NoMemory)?;
+        free.push(room(alloc)?)?;
     }
     Ok(free)
 }
