@@ -5,6 +5,8 @@ use script_checker::Checker;
 use script_grammar::Fault;
 use script_player::{Checks, Refused};
 use script_words::EndName;
+use std::alloc::Global;
+use std::test::Fail;
 
 /// What the checker answers to the line behind those that were taken.
 pub fn answer(checker: &mut Checker, line: &str) -> Result<Option<Event>, Refused> {
@@ -31,14 +33,34 @@ fn reason(fault: &Fault) -> &'static str {
     }
 }
 
-/// `taken`, or why the line is not taken.
-pub fn word(checker: &mut Checker, line: &str) -> &'static str {
+// `taken`, or why the line is not taken.
+fn word(checker: &mut Checker, line: &str) -> &'static str {
     let said = answer(checker, line);
     match &said {
         Ok(_) => "taken",
         Err(Refused::Fault(fault)) => reason(fault),
         Err(Refused::NoMemory) => "memory",
     }
+}
+
+/// Feeds these lines, each with its word, and fails at the first to which the checker answers with another.
+pub fn answers(checker: &mut Checker, rows: &[(&str, &str)]) -> Result<(), Fail> {
+    for (line, wanted) in rows {
+        let said = word(checker, line);
+        if said != *wanted {
+            return Err(Fail::new(format_args!("{said}, not {wanted}: {line}")));
+        }
+    }
+    Ok(())
+}
+
+/// A checker that took these lines.
+pub fn opened(alloc: Global, lines: &[&str]) -> Result<Checker, Fail> {
+    let mut checker = Checker::open(alloc).ok().ok_or("room")?;
+    for line in lines {
+        answers(&mut checker, &[(*line, "taken")])?;
+    }
+    Ok(checker)
 }
 
 // Whether an end has this name.

@@ -1,6 +1,5 @@
 //! Lines of parts 1 and 3, one after the other.
-use crate::answers::{closes, word};
-use script_checker::Checker;
+use crate::answers::{answers, closes, opened};
 use std::test::*;
 
 // Lines of all parts, and three behind a report.
@@ -81,28 +80,20 @@ const HOPS: &[(&str, &str)] = &[
 
 #[test]
 fn lines_are_taken_up_to_a_bad_one(rt: HostRuntime) -> Result<(), Fail> {
-    let mut checker = Checker::open(rt.alloc()).ok().ok_or("room")?;
-    for (line, wanted) in FIRST_LINES {
-        assert_eq!(rt; word(&mut checker, line), *wanted, "{line}");
-    }
-    Ok(())
+    let mut checker = opened(rt.alloc(), &[])?;
+    answers(&mut checker, FIRST_LINES)
 }
 
 #[test]
 fn ends_and_links_have_their_first_fault(rt: HostRuntime) -> Result<(), Fail> {
-    let mut checker = Checker::open(rt.alloc()).ok().ok_or("room")?;
-    for (line, wanted) in ENDS_AND_LINKS {
-        assert_eq!(rt; word(&mut checker, line), *wanted, "{line}");
-    }
-    Ok(())
+    let mut checker = opened(rt.alloc(), &[])?;
+    answers(&mut checker, ENDS_AND_LINKS)
 }
 
 #[test]
 fn hops_have_their_first_fault(rt: HostRuntime) -> Result<(), Fail> {
-    let mut checker = Checker::open(rt.alloc()).ok().ok_or("room")?;
-    for (line, wanted) in HOPS {
-        assert_eq!(rt; word(&mut checker, line), *wanted, "{line}");
-    }
+    let mut checker = opened(rt.alloc(), &[])?;
+    answers(&mut checker, HOPS)?;
     assert!(rt; closes(&mut checker, "hop 224.1.1.1 10.0.1.1 b2 s2", "s1", "a1"));
     Ok(())
 }

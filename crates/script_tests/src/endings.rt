@@ -69,49 +69,65 @@ impl LinesBefore for Silent {
     }
 }
 
-// Runs a text, of which each call gives so many bytes at most; the calls of these numbers fail.
-fn run_text(alloc: Global, text: &[u8], fail: Vec<u64>, most: usize) -> Result<Ending, Fail>
+// Texts, whether the first call of the source fails, and how their run ends.
+const RUNS: &[(&[u8], bool, &str)] = &[
+    (b"", false, "done"),
+    (b"\n# x\n \n", false, "done"),
+    (b"\n# x", false, "done"),
+    (b"\n# x\nfrob", false, "word in line 3"),
+    (b"node a\nfrob\n", false, "memory"),
+    (&[b'a'; 2049], false, "limit in line 1"),
+    (b"frob", true, "read fault"),
+];
+
+// How a run ends, in words.
+fn told(ending: &Ending) -> &'static str {
+    match ending {
+        Ending::Done => "done",
+        Ending::BadLine {
+            line: 3,
+            why: Fault::Word,
+        } => "word in line 3",
+        Ending::BadLine {
+            line: 1,
+            why: Fault::Limit,
+        } => "limit in line 1",
+        Ending::NoMemory => "memory",
+        Ending::ReadFault => "read fault",
+        _ => "another",
+    }
+}
+
+// Runs a text, of which each call gives so many bytes at most.
+fn run_text(alloc: Global, text: &[u8], fails: bool, most: usize) -> Result<Ending, Fail>
     requires { 0 < most }
 {
-    let mut source = MemorySource::new(text.to_vec(alloc)?, fail, most);
+    let mut failing = Vec::new(alloc);
+    if fails {
+        failing.push(1u64)?;
+    }
+    let mut source = MemorySource::new(text.to_vec(alloc)?, failing, most);
     let mut sink = MemorySink::open(alloc, 16, Vec::new(alloc), Vec::new(alloc))?;
     let mut player = Silent { alloc };
     let mut advice = Vec::new(alloc);
     Ok(run_lines(alloc, &mut player, &mut source, &mut sink, &mut advice))
 }
 
+// Runs a text in pieces of 1 to 8 bytes, and fails where the run ends in another way.
+fn ends(alloc: Global, text: &[u8], fails: bool, wanted: &str) -> Result<(), Fail> {
+    for most in 1..9 {
+        let ending = run_text(alloc, text, fails, most)?;
+        if told(&ending) != wanted {
+            return Err(Fail::new(wanted));
+        }
+    }
+    Ok(())
+}
+
 #[test]
 fn runs_end_as_they_must(rt: HostRuntime) -> Result<(), Fail> {
-    let alloc = rt.alloc();
-    for most in 1..9 {
-        let none = || Vec::new(alloc);
-        assert!(rt; matches!(&run_text(alloc, b"", none(), most)?, Ending::Done));
-        assert!(rt; matches!(&run_text(alloc, b"\n# x\n \n", none(), most)?, Ending::Done));
-        assert!(rt; matches!(&run_text(alloc, b"\n# x", none(), most)?, Ending::Done));
-        let bad = run_text(alloc, b"\n# x\nfrob", none(), most)?;
-        assert!(rt;
-            matches!(
-                &bad,
-                Ending::BadLine {
-                    line: 3,
-                    why: Fault::Word
-                }
-            )
-        );
-        let full = run_text(alloc, b"node a\nfrob\n", none(), most)?;
-        assert!(rt; matches!(&full, Ending::NoMemory));
-        let long = run_text(alloc, &[b'a'; 2049], none(), most)?;
-        assert!(rt;
-            matches!(
-                &long,
-                Ending::BadLine {
-                    line: 1,
-                    why: Fault::Limit
-                }
-            )
-        );
-        let first = run_text(alloc, b"frob", vec![in alloc; 1u64; 1]?, most)?;
-        assert!(rt; matches!(&first, Ending::ReadFault));
+    for (text, fails, wanted) in RUNS {
+        ends(rt.alloc(), text, *fails, wanted)?;
     }
     Ok(())
 }

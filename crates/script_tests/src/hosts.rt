@@ -1,11 +1,11 @@
 //! Lines of hosts: who sends, and who wants what.
-use crate::answers::word;
+use crate::answers::{answers, opened};
 use script_checker::Checker;
 use std::alloc::Global;
 use std::test::*;
 
-// The lines of a network of two nodes.
-const TWO_NODES: &[&str] = &[
+/// The lines of a network of two nodes.
+pub const TWO_NODES: &[&str] = &[
     "node a",
     "node b",
     "end a1 a 10.0.0.1 100000 1500",
@@ -35,39 +35,25 @@ const MORE_SENDERS: &[(&str, &str)] = &[
     ("send a 224.1.1.1/17/1 10.0.0.1:17 1/1/inf/1/1", "taken"),
 ];
 
-/// The lines of a network of two nodes.
-pub fn opened(alloc: Global) -> Result<Checker, Fail> {
-    let mut checker = Checker::open(alloc).ok().ok_or("room")?;
-    for line in TWO_NODES {
-        if word(&mut checker, line) != "taken" {
-            return Err("a line".into());
-        }
-    }
-    Ok(checker)
+// A sender of a 33rd session.
+const LAST_SENDER: &[(&str, &str)] = &[("send a 224.1.1.1/17/33 10.0.0.1:1 1/1/inf/1/1", "limit")];
+
+// A sender of this port begins in the session of that port.
+fn begins(alloc: Global, checker: &mut Checker, session: u16, port: u16) -> Result<(), Fail> {
+    let line = format!(in alloc; "send a 224.1.1.1/17/{session} 10.0.0.1:{port} 1/1/inf/1/1")?;
+    answers(checker, &[(line.as_str(), "taken")])
 }
 
 #[test]
 fn senders_have_their_first_fault(rt: HostRuntime) -> Result<(), Fail> {
-    let alloc = rt.alloc();
-    let mut checker = opened(alloc)?;
-    for (line, wanted) in SENDERS {
-        assert_eq!(rt; word(&mut checker, line), *wanted, "{line}");
-    }
+    let mut checker = opened(rt.alloc(), TWO_NODES)?;
+    answers(&mut checker, SENDERS)?;
     for port in 1..17 {
-        let line = format!(in alloc; "send a 224.1.1.1/17/1 10.0.0.1:{port} 1/1/inf/1/1")?;
-        assert_eq!(rt; word(&mut checker, line.as_str()), "taken");
+        begins(rt.alloc(), &mut checker, 1, port)?;
     }
-    for (line, wanted) in MORE_SENDERS {
-        assert_eq!(rt; word(&mut checker, line), *wanted, "{line}");
+    answers(&mut checker, MORE_SENDERS)?;
+    for session in 3..33 {
+        begins(rt.alloc(), &mut checker, session, 1)?;
     }
-    for port in 3..33 {
-        let line = format!(in alloc; "send a 224.1.1.1/17/{port} 10.0.0.1:1 1/1/inf/1/1")?;
-        assert_eq!(rt; word(&mut checker, line.as_str()), "taken");
-    }
-    let last = word(
-        &mut checker,
-        "send a 224.1.1.1/17/33 10.0.0.1:1 1/1/inf/1/1",
-    );
-    assert_eq!(rt; last, "limit");
-    Ok(())
+    answers(&mut checker, LAST_SENDER)
 }

@@ -1,6 +1,6 @@
 //! Lines of what is left over.
-use crate::answers::word;
-use crate::hosts::opened;
+use crate::answers::{answers, opened};
+use crate::hosts::TWO_NODES;
 use std::test::*;
 
 // What is left over, with the first fault of each that is not taken.
@@ -44,9 +44,6 @@ const LEFT_OVER: &[(&str, &str)] = &[
 
 #[test]
 fn paths_and_blockades_are_left_over(rt: HostRuntime) -> Result<(), Fail> {
-    let mut checker = opened(rt.alloc())?;
-    for (line, wanted) in LEFT_OVER {
-        assert_eq!(rt; word(&mut checker, line), *wanted, "{line}");
-    }
-    Ok(())
+    let mut checker = opened(rt.alloc(), TWO_NODES)?;
+    answers(&mut checker, LEFT_OVER)
 }

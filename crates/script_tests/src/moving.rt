@@ -1,7 +1,5 @@
 //! Trees that move.
-use crate::answers::{closes, moved, word};
-use script_checker::Checker;
-use std::alloc::Global;
+use crate::answers::{answers, closes, moved, opened};
 use std::test::*;
 
 // Two ways from a node to another, of which a tree has the first.
@@ -69,49 +67,32 @@ const CHAINS: &[&str] = &[
     "hop 239.1.1.1 10.0.3.1 c2 a2",
 ];
 
-// The lines of a network of two ways from a node to another, of which a tree has the first.
-fn two_ways(alloc: Global) -> Result<Checker, Fail> {
-    let mut checker = Checker::open(alloc).ok().ok_or("room")?;
-    for line in TWO_WAYS {
-        if word(&mut checker, line) != "taken" {
-            return Err("a line".into());
-        }
-    }
-    Ok(checker)
-}
+// The chain that a reroute closes comes open where another tree is out of the way.
+const OPENED: &[(&str, &str)] = &[("reroute 239.1.1.1 10.0.2.1", "taken"), (CLOSING, "taken")];
+
+// The third tree goes on, round to the first link.
+const CLOSING: &str = "reroute 239.1.1.1 10.0.3.1 c2 a2 a1 b1";
 
 #[test]
 fn a_tree_moves_and_moves_back(rt: HostRuntime) -> Result<(), Fail> {
-    let mut checker = two_ways(rt.alloc())?;
+    let mut checker = opened(rt.alloc(), TWO_WAYS)?;
     // The first line of part 3.
-    let line = "reroute 239.1.1.1 10.0.1.1 s2 q1 q2 t2";
-    assert_eq!(rt; moved(&mut checker, line), Some(2));
-    for (line, wanted) in BACK {
-        assert_eq!(rt; word(&mut checker, line), *wanted, "{line}");
-    }
-    Ok(())
+    let hops = moved(&mut checker, "reroute 239.1.1.1 10.0.1.1 s2 q1 q2 t2");
+    assert!(rt; hops == Some(2));
+    answers(&mut checker, BACK)
 }
 
 #[test]
 fn a_tree_that_moves_has_its_first_fault(rt: HostRuntime) -> Result<(), Fail> {
-    let mut checker = two_ways(rt.alloc())?;
-    for (line, wanted) in FAULTS {
-        assert_eq!(rt; word(&mut checker, line), *wanted, "{line}");
-    }
-    Ok(())
+    let mut checker = opened(rt.alloc(), TWO_WAYS)?;
+    answers(&mut checker, FAULTS)
 }
 
 #[test]
 fn a_tree_that_moves_may_close_a_chain(rt: HostRuntime) -> Result<(), Fail> {
-    let mut checker = Checker::open(rt.alloc()).ok().ok_or("room")?;
-    for line in CHAINS {
-        assert_eq!(rt; word(&mut checker, line), "taken", "{line}");
-    }
-    let line = "reroute 239.1.1.1 10.0.3.1 c2 a2 a1 b1";
-    assert!(rt; closes(&mut checker, line, "a1", "b1"));
-    // With another tree out of the way no chain is closed.
-    assert_eq!(rt; word(&mut checker, "reroute 239.1.1.1 10.0.2.1"), "taken");
-    assert_eq!(rt; word(&mut checker, line), "taken");
+    let mut checker = opened(rt.alloc(), CHAINS)?;
+    assert!(rt; closes(&mut checker, CLOSING, "a1", "b1"));
+    answers(&mut checker, OPENED)?;
     // The chain is looked for in the trees in force, not in those of the `hop` lines.
     let back = "reroute 239.1.1.1 10.0.2.1 b2 c1 c2 a2";
     assert!(rt; closes(&mut checker, back, "a1", "b1"));
