@@ -44,24 +44,26 @@ fn faults_of_a_path_and_a_resv_have_their_codes(rt: HostRuntime) -> Result<(), F
     Ok(())
 }
 
-#[test]
-fn an_error_a_confirmation_and_flags(rt: HostRuntime) -> Result<(), Fail> {
-    let sender = Sender {
-        addr: Addr(7),
-        port: 5004,
-    };
-    let flow = Flow::new(
-        Rate::of(10).ok_or("rate")?,
-        Rate::of(10).ok_or("rate")?,
-        Peak::Infinite,
-        1,
-        1500,
-    )
-    .ok_or("flow")?;
-    let part = Part {
-        senders: Senders::of(&[sender]).ok().ok_or("senders")?,
-        flow,
-    };
+const SENDER: Sender = Sender {
+    addr: Addr(7),
+    port: 5004,
+};
+
+fn flow() -> Option<Flow> {
+    Flow::new(Rate::of(10)?, Rate::of(10)?, Peak::Infinite, 1, 1500)
+}
+
+// A part of one sender.
+fn part() -> Option<Part> {
+    Some(Part {
+        senders: Senders::of(&[SENDER]).ok()?,
+        flow: flow()?,
+    })
+}
+
+// Whether an error beside a smaller reservation, which stands, goes on to a shared one that is blockaded or not.
+fn goes_on(is_blockaded: bool) -> Option<bool> {
+    let part = part()?;
     let err = ErrSpec {
         node: Addr(1),
         in_place: true,
@@ -71,12 +73,21 @@ fn an_error_a_confirmation_and_flags(rt: HostRuntime) -> Result<(), Fail> {
     };
     let blame = Blame {
         style: StyleKind::Shared,
-        senders: Some(Senders::of(&[sender]).ok().ok_or("senders")?),
-        flow: Some(flow),
+        senders: Some(part.senders.copy()),
+        flow: Some(part.flow),
     };
-    assert!(rt; passes_on(&err, &blame, StyleKind::Shared, &part, false).is_none());
-    assert!(rt; passes_on(&err, &blame, StyleKind::Shared, &part, true).is_some());
+    Some(passes_on(&err, &blame, StyleKind::Shared, &part, is_blockaded).is_some())
+}
 
+#[test]
+fn an_error_beside_what_stands_goes_on_to_the_blockaded_alone(rt: HostRuntime) {
+    assert!(rt; goes_on(false) == Some(false));
+    assert!(rt; goes_on(true) == Some(true));
+}
+
+#[test]
+fn a_confirmation_goes_to_whom_asked_for_it(rt: HostRuntime) -> Result<(), Fail> {
+    let part = part().ok_or("a part")?;
     let ask = Ask::Shared(part.copy());
     for (kept, style, goes) in [
         (Some(Addr(9)), StyleKind::Shared, true),
@@ -86,7 +97,12 @@ fn an_error_a_confirmation_and_flags(rt: HostRuntime) -> Result<(), Fail> {
     ] {
         assert!(rt; confirms(&part, kept, style, Addr(9), &ask) == goes);
     }
+    Ok(())
+}
 
+#[test]
+fn an_entry_of_two_paths_is_policed_and_merged(rt: HostRuntime) -> Result<(), Fail> {
+    let flow = flow().ok_or("a flow")?;
     let flags = police_flags(StyleKind::Shared, 2, true, &flow, &Parts::new());
     assert!(rt; flags.e && flags.m && !flags.b);
     Ok(())

@@ -2,6 +2,7 @@
 //! due.
 use local_state::{Countdowns, LocalSenders, LocalWant, LocalWants};
 use rsvp_base::{Addr, Flow, Full, Part, Peak, Rate, Sender, Senders, Session, StyleKind, Unit};
+use std::alloc::Global;
 use std::test::Fail;
 
 fn session(group: u32) -> Session {
@@ -23,26 +24,46 @@ fn flow(r: u64) -> Option<Flow> {
     Flow::new(Rate::of(r)?, Rate::of(8)?, Peak::Infinite, 1, 1500)
 }
 
+// How many of the sessions 0 to 32, and then of the senders 0 to 16 of the session 5, were taken.
+fn fill(table: &mut LocalSenders, low: Flow) -> (u32, u32) {
+    let mut sessions = 0u32;
+    for group in 0u32..33 {
+        if table.put(session(group), sender(0), low) == Ok(()) {
+            sessions = sessions.saturating_add(1);
+        }
+    }
+    let mut senders = 0u32;
+    for addr in 0u32..17 {
+        if table.put(session(5), sender(addr), low) == Ok(()) {
+            senders = senders.saturating_add(1);
+        }
+    }
+    (sessions, senders)
+}
+
 #[test]
 fn there_are_32_sessions_of_16_local_senders(rt: HostRuntime) -> Result<(), Fail> {
-    let mut table = LocalSenders::open(rt.alloc()).ok().ok_or("memory")?;
+    let mut table = LocalSenders::open(rt.alloc()).or(Err("memory"))?;
     let low = flow(10).ok_or("low")?;
-    let high = flow(20).ok_or("high")?;
-    for group in 0u32..33 {
-        let answer = table.put(session(group), sender(0), low);
-        assert!(rt; answer == if group < 32 { Ok(()) } else { Err(Full) });
-    }
-    for addr in 1u32..17 {
-        let answer = table.put(session(5), sender(addr), low);
-        assert!(rt; answer == if addr < 16 { Ok(()) } else { Err(Full) });
-    }
-    assert!(rt; table.put(session(5), sender(3), high) == Ok(()));
-    assert!(rt; table.find(session(5), sender(3)) == Some(high));
+    assert!(rt; fill(&mut table, low) == (32, 16));
+    assert!(rt; table.put(session(32), sender(0), low) == Err(Full));
+    assert!(rt; table.put(session(5), sender(16), low) == Err(Full));
     assert!(rt; table.of(session(5)).len() == 16 && table.of(session(6)).len() == 1);
     assert!(rt; table.as_slice().len() == 47);
     assert!(rt;
         table.has_address(session(5), Addr(15)) && !table.has_address(session(6), Addr(15))
     );
+    Ok(())
+}
+
+#[test]
+fn a_full_table_of_senders_takes_a_sender_of_its_own_anew(rt: HostRuntime) -> Result<(), Fail> {
+    let mut table = LocalSenders::open(rt.alloc()).or(Err("memory"))?;
+    let low = flow(10).ok_or("low")?;
+    let high = flow(20).ok_or("high")?;
+    assert!(rt; fill(&mut table, low) == (32, 16));
+    assert!(rt; table.put(session(5), sender(3), high) == Ok(()));
+    assert!(rt; table.find(session(5), sender(3)) == Some(high));
 
     // Where the last sender of a session goes, there is room for another session.
     assert!(rt; table.remove(session(7), sender(0)) && !table.remove(session(7), sender(0)));
@@ -51,10 +72,9 @@ fn there_are_32_sessions_of_16_local_senders(rt: HostRuntime) -> Result<(), Fail
     Ok(())
 }
 
-#[test]
-fn wants_are_asked_unmarked_and_ended(rt: HostRuntime) -> Result<(), Fail> {
-    let mut table = LocalWants::open(rt.alloc()).ok().ok_or("memory")?;
-    let all = Senders::of(&[sender(1), sender(2)]).ok().ok_or("senders")?;
+// A wildcard want of the session 1, and a shared one of the session 2 that names nobody.
+fn wanted(alloc: Global) -> Option<LocalWants> {
+    let mut table = LocalWants::open(alloc).ok()?;
     for (group, style) in [(1u32, StyleKind::Wild), (2, StyleKind::Shared)] {
         let want = LocalWant {
             session: session(group),
@@ -62,23 +82,51 @@ fn wants_are_asked_unmarked_and_ended(rt: HostRuntime) -> Result<(), Fail> {
             style,
             part: Part {
                 senders: Senders::new(),
-                flow: flow(10).ok_or("flow")?,
+                flow: flow(10)?,
             },
             confirm: true,
         };
-        assert!(rt; table.put(want) == Ok(()));
+        table.put(want).ok()?;
     }
+    Some(table)
+}
+
+// How many wants of a session ask for a confirmation.
+fn marked(table: &LocalWants, session: Session) -> usize {
+    let mut count = 0usize;
+    for want in table.of(session) {
+        if want.confirm {
+            count = count.saturating_add(1);
+        }
+    }
+    count
+}
+
+// How many of the senders 1 and 2 a node asks for itself in a session and style.
+fn own_senders(table: &LocalWants, session: Session, style: StyleKind) -> Option<usize> {
+    let all = Senders::of(&[sender(1), sender(2)]).ok()?;
+    let own = table.own(session, style, &all);
+    if own.is_empty() {
+        return Some(0);
+    }
+    Some(own.get(Unit::One)?.senders.len())
+}
+
+#[test]
+fn wants_are_told_by_session_and_style(rt: HostRuntime) -> Result<(), Fail> {
+    let table = wanted(rt.alloc()).ok_or("wants")?;
     assert!(rt; table.has_other(session(1), StyleKind::Shared));
     assert!(rt; !table.has_other(session(2), StyleKind::Shared));
-    let own = table.own(session(1), StyleKind::Wild, &all);
-    assert!(rt;
-        own.get(Unit::One)
-            .is_some_and(|part| part.senders.len() == 2)
-    );
-    assert!(rt; table.own(session(2), StyleKind::Wild, &all).is_empty());
+    assert!(rt; own_senders(&table, session(1), StyleKind::Wild) == Some(2));
+    assert!(rt; own_senders(&table, session(2), StyleKind::Wild) == Some(0));
+    Ok(())
+}
+
+#[test]
+fn wants_are_unmarked_and_ended(rt: HostRuntime) -> Result<(), Fail> {
+    let mut table = wanted(rt.alloc()).ok_or("wants")?;
     table.unmark(session(1), Unit::One);
-    assert!(rt; table.of(session(1)).iter().all(|want| !want.confirm));
-    assert!(rt; table.of(session(2)).iter().all(|want| want.confirm));
+    assert!(rt; marked(&table, session(1)) == 0 && marked(&table, session(2)) == 1);
     assert!(rt; table.quit(session(1)) && !table.quit(session(1)));
     assert!(rt; table.of(session(1)).is_empty() && table.of(session(2)).len() == 1);
     Ok(())

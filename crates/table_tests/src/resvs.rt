@@ -105,37 +105,45 @@ fn is_walked<S: Style>(table: &ResvTable<S>, rate: Flow) -> bool {
         && table.after(third, &mut finger).is_none()
 }
 
-// The calls of a table, each once. True where all answer as they must.
-fn answers<S: Style>(table: &mut ResvTable<S>, rate: Flow) -> bool {
-    let Some(up) = up_by(None) else {
-        return false;
-    };
+// Whether three reservations of a session are kept.
+fn keeps_three<S: Style>(table: &mut ResvTable<S>, rate: Flow) -> bool {
     for iface in 0u8..3 {
         if !is_put(table, 1, iface, 7, 3, rate) {
             return false;
         }
     }
-    if !is_walked(table, rate) {
+    true
+}
+
+// Whether they merge to one part, each by itself and toward their sender.
+fn merges<S: Style>(table: &ResvTable<S>) -> bool {
+    let Some(up) = up_by(None) else {
         return false;
-    }
+    };
+    table.parts(session(1), 2).len() == 1
+        && table.parts(session(1), 3).len() == 0
+        && table.toward(session(1), &up, &Parts::new()).len() == 1
+}
+
+// Whether the second is removed, once.
+fn removes<S: Style>(table: &mut ResvTable<S>) -> bool {
     let named = only(sender(3));
-    if table.parts(session(1), 2).len() != 1 || table.parts(session(1), 3).len() != 0 {
-        return false;
-    }
-    if table.toward(session(1), &up, &Parts::new()).len() != 1 {
-        return false;
-    }
-    if !table.remove(session(1), 1, Addr(7), &named)
-        || table.remove(session(1), 1, Addr(7), &named)
-    {
-        return false;
-    }
-    if table.at(session(1), 1).is_none() || table.at(session(1), 2).is_some() {
-        return false;
-    }
+    table.remove(session(1), 1, Addr(7), &named)
+        && !table.remove(session(1), 1, Addr(7), &named)
+        && table.at(session(1), 1).is_some()
+        && table.at(session(1), 2).is_none()
+}
+
+// Whether the first is gone with its sender.
+fn forgets<S: Style>(table: &mut ResvTable<S>) -> bool {
     table.forget_sender(session(1), sender(3));
     let unit = S::unit_of(sender(3));
-    if table.find(session(1), 0, Addr(7), unit).is_some() || !is_put(table, 2, 0, 7, 3, rate) {
+    table.find(session(1), 0, Addr(7), unit).is_none()
+}
+
+// Whether a reservation of another session dies with its time, and none is left of a table that is cleared.
+fn dies<S: Style>(table: &mut ResvTable<S>, rate: Flow) -> bool {
+    if !is_put(table, 2, 0, 7, 3, rate) {
         return false;
     }
     let None = table.pull_dead() else {
@@ -147,15 +155,37 @@ fn answers<S: Style>(table: &mut ResvTable<S>, rate: Flow) -> bool {
     died && table.at(session(2), 0).is_none()
 }
 
+// The calls of a table, each once. True where all answer as they must.
+fn answers<S: Style>(table: &mut ResvTable<S>, rate: Flow) -> bool {
+    keeps_three(table, rate)
+        && is_walked(table, rate)
+        && merges(table)
+        && removes(table)
+        && forgets(table)
+        && dies(table, rate)
+}
+
 #[test]
-fn each_call_is_made_at_each_style(rt: HostRuntime) -> Result<(), Fail> {
+fn each_call_is_made_of_wildcards(rt: HostRuntime) -> Result<(), Fail> {
     let rate = flow(9, 20, 1, 1500).ok_or("flow")?;
-    let mut wild = ResvTable::<Wild>::open(rt.alloc()).ok().ok_or("memory")?;
-    let mut fixed = ResvTable::<Fixed>::open(rt.alloc()).ok().ok_or("memory")?;
-    let mut shared = ResvTable::<Shared>::open(rt.alloc()).ok().ok_or("memory")?;
-    assert!(rt; answers(&mut wild, rate));
-    assert!(rt; answers(&mut fixed, rate));
-    assert!(rt; answers(&mut shared, rate));
+    let mut table = ResvTable::<Wild>::open(rt.alloc()).or(Err("memory"))?;
+    assert!(rt; answers(&mut table, rate));
+    Ok(())
+}
+
+#[test]
+fn each_call_is_made_of_fixed_filters(rt: HostRuntime) -> Result<(), Fail> {
+    let rate = flow(9, 20, 1, 1500).ok_or("flow")?;
+    let mut table = ResvTable::<Fixed>::open(rt.alloc()).or(Err("memory"))?;
+    assert!(rt; answers(&mut table, rate));
+    Ok(())
+}
+
+#[test]
+fn each_call_is_made_of_shared_filters(rt: HostRuntime) -> Result<(), Fail> {
+    let rate = flow(9, 20, 1, 1500).ok_or("flow")?;
+    let mut table = ResvTable::<Shared>::open(rt.alloc()).or(Err("memory"))?;
+    assert!(rt; answers(&mut table, rate));
     Ok(())
 }
 
@@ -176,13 +206,20 @@ fn a_full_table_answers_full(rt: HostRuntime) -> Result<(), Fail> {
     assert!(rt; fill(&mut table, rate));
     assert!(rt; !is_put(&mut table, 0, 0, 2, 0, rate));
     assert!(rt; table.at(session(0), 31).is_some() && table.at(session(0), 32).is_none());
-    assert!(rt;
-        table
-            .find(session(0), 0, Addr(2), Unit::Of(sender(0)))
-            .is_none()
-    );
+    let other = table.find(session(0), 0, Addr(2), Unit::Of(sender(0)));
+    assert!(rt; other.is_none());
     assert!(rt; is_put(&mut table, 0, 0, 1, 0, rate));
     Ok(())
+}
+
+// The flow of what goes toward the sender 3 behind this wall, if it is one part.
+fn flow_behind(table: &ResvTable<Wild>, wall: Option<Wall>) -> Option<Flow> {
+    let parts = table.toward(session(1), &up_by(wall)?, &Parts::new());
+    if parts.len() == 1 {
+        Some(parts.get(Unit::One)?.flow)
+    } else {
+        None
+    }
 }
 
 #[test]
@@ -191,23 +228,15 @@ fn blockaded_requests_go_as_their_meet(rt: HostRuntime) -> Result<(), Fail> {
     let fast = flow(10, 8, 4, 1000).ok_or("fast")?;
     let met = flow(9, 8, 4, 1000).ok_or("met")?;
     let joined = flow(10, 20, 1, 1500).ok_or("joined")?;
-    let mut table = ResvTable::<Wild>::open(rt.alloc()).ok().ok_or("memory")?;
-    assert!(rt; is_put(&mut table, 1, 0, 7, 3, deep));
-    assert!(rt; is_put(&mut table, 1, 1, 7, 3, fast));
+    let mut table = ResvTable::<Wild>::open(rt.alloc()).or(Err("memory"))?;
+    assert!(rt; is_put(&mut table, 1, 0, 7, 3, deep) && is_put(&mut table, 1, 1, 7, 3, fast));
     for (wall, expected) in [
         (Some(Wall { flow: deep, sub: 2 }), met),
         (Some(Wall { flow: fast, sub: 2 }), deep),
         (Some(Wall { flow: deep, sub: 3 }), fast),
         (None, joined),
     ] {
-        let up = up_by(wall).ok_or("line")?;
-        let parts = table.toward(session(1), &up, &Parts::new());
-        assert_eq!(rt; parts.len(), 1);
-        assert!(rt;
-            parts
-                .get(Unit::One)
-                .is_some_and(|part| part.flow == expected)
-        );
+        assert!(rt; flow_behind(&table, wall) == Some(expected));
     }
     Ok(())
 }
