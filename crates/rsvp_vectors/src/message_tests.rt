@@ -39,28 +39,47 @@ fn some(ports: &[u16]) -> Option<Senders> {
     Some(senders)
 }
 
-#[test]
-fn a_fixed_list_has_one_to_sixteen_senders_in_order(rt: HostRuntime) -> Result<(), Fail> {
-    let small = flow(300).ok_or("small")?;
-    let large = flow(500).ok_or("large")?;
+// A list with the large flow for the ports 3 and 9, of which the second was small.
+fn two(small: Flow, large: Flow) -> Option<FixedList> {
     let mut list = FixedList::new(sender(9), small);
-    assert_eq!(rt; list.put(sender(3), large), Ok(()));
-    assert_eq!(rt; list.put(sender(9), large), Ok(()));
-    assert_eq!(rt;
-        list.as_slice(),
-        [(sender(3), large), (sender(9), large)].as_slice()
-    );
-    assert_eq!(rt; list.at(1), Some((sender(9), large)));
-    assert_eq!(rt; list.at(2), None);
+    list.put(sender(3), large).ok()?;
+    list.put(sender(9), large).ok()?;
+    Some(list)
+}
 
-    for port in 100..114 {
-        assert_eq!(rt; list.put(sender(port), small), Ok(()));
+#[test]
+fn a_fixed_list_has_each_sender_once_in_order(rt: HostRuntime) -> Result<(), Fail> {
+    let large = flow(500).ok_or("large")?;
+    let list = two(flow(300).ok_or("small")?, large).ok_or("room")?;
+    assert!(rt; list.len() == 2);
+    for (place, entry) in [
+        (0, Some((sender(3), large))),
+        (1, Some((sender(9), large))),
+        (2, None),
+    ] {
+        assert!(rt; list.at(place) == entry);
     }
-    assert_eq!(rt; list.len(), 16);
-    assert_eq!(rt; list.put(sender(1), small), Err(Full));
-    assert_eq!(rt; list.put(sender(3), small), Ok(()));
-    assert_eq!(rt; list.at(0), Some((sender(3), small)));
-    assert_eq!(rt; list.copy().as_slice(), list.as_slice());
+    Ok(())
+}
+
+// The same with the ports 100 to 113.
+fn sixteen(small: Flow, large: Flow) -> Option<FixedList> {
+    let mut list = two(small, large)?;
+    for port in 100..114 {
+        list.put(sender(port), small).ok()?;
+    }
+    Some(list)
+}
+
+#[test]
+fn a_fixed_list_has_at_most_sixteen_senders(rt: HostRuntime) -> Result<(), Fail> {
+    let small = flow(300).ok_or("small")?;
+    let mut list = sixteen(small, flow(500).ok_or("large")?).ok_or("room")?;
+    assert!(rt; list.len() == 16);
+    assert!(rt; list.put(sender(1), small) == Err(Full));
+    assert!(rt; list.put(sender(3), small) == Ok(()));
+    assert!(rt; list.at(0) == Some((sender(3), small)));
+    assert!(rt; list.copy().as_slice() == list.as_slice());
     Ok(())
 }
 
@@ -166,20 +185,40 @@ fn each_message_is_copied_as_its_kind(rt: HostRuntime) -> Result<(), Fail> {
         Kind::ResvConf,
     ];
     for (message, kind) in messages.iter().zip(kinds) {
-        assert_eq!(rt; message.copy().kind(), kind);
+        assert!(rt; message.copy().kind() == kind);
     }
-    let Message::Resv(resv) = messages[1].copy() else {
-        return Err(Fail::from("a Resv"));
-    };
-    assert_eq!(rt; resv.confirm, Some(Addr(2)));
-    assert_eq!(rt; asked(&resv.copy().ask), (Some(sender(0)), flow(1000)));
-    let Message::ResvErr(error) = messages[3].copy() else {
-        return Err(Fail::from("a ResvErr"));
-    };
-    assert_eq!(rt; error.blame.copy().style, StyleKind::Shared);
-    let Message::ResvConf(conf) = messages[6].copy() else {
-        return Err(Fail::from("a ResvConf"));
-    };
-    assert_eq!(rt; asked(&conf.ask.copy()), (Some(sender(4)), flow(1000)));
+    Ok(())
+}
+
+// What is asked for of the copy of a copy, and for whom a Resv or a ResvConf is confirmed.
+fn copied(message: &Message) -> Option<(Option<Addr>, Option<Sender>, Option<Flow>)> {
+    match message.copy() {
+        Message::Resv(resv) => {
+            let (sender, flow) = asked(&resv.copy().ask);
+            Some((resv.confirm, sender, flow))
+        }
+        Message::ResvConf(conf) => {
+            let (sender, flow) = asked(&conf.ask.copy());
+            Some((Some(conf.confirm), sender, flow))
+        }
+        _ => None,
+    }
+}
+
+// The style that the copy of a ResvErr's copy blames.
+fn blamed(message: &Message) -> Option<StyleKind> {
+    match message.copy() {
+        Message::ResvErr(error) => Some(error.blame.copy().style),
+        _ => None,
+    }
+}
+
+#[test]
+fn what_is_asked_and_blamed_is_copied(rt: HostRuntime) -> Result<(), Fail> {
+    let messages = each_message().ok_or("messages")?;
+    let usual = flow(1000);
+    assert!(rt; copied(&messages[1]) == Some((Some(Addr(2)), Some(sender(0)), usual)));
+    assert!(rt; blamed(&messages[3]) == Some(StyleKind::Shared));
+    assert!(rt; copied(&messages[6]) == Some((Some(Addr(2)), Some(sender(4)), usual)));
     Ok(())
 }

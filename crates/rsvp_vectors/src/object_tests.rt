@@ -14,11 +14,22 @@ fn rate_words_of_the_table(rt: HostRuntime) -> Result<(), Fail> {
         (0x567f_ffff, 70_368_739_983_360),
     ] {
         let peak = Peak::Finite(Rate::of(number).ok_or("rate")?);
-        assert_eq!(rt; rate_of_word(word), Ok(peak), "at {word}");
-        assert_eq!(rt; word_of_rate(peak), word, "at {number}");
+        assert!(rt;
+            rate_of_word(word) == Ok(peak) && word_of_rate(peak) == word,
+            "at {number}"
+        );
     }
-    assert_eq!(rt; rate_of_word(0x7f80_0000), Ok(Peak::Infinite));
-    assert_eq!(rt; word_of_rate(Peak::Infinite), 0x7f80_0000);
+    Ok(())
+}
+
+#[test]
+fn the_word_of_no_limit_is_infinity(rt: HostRuntime) {
+    assert!(rt; rate_of_word(0x7f80_0000) == Ok(Peak::Infinite));
+    assert!(rt; word_of_rate(Peak::Infinite) == 0x7f80_0000);
+}
+
+#[test]
+fn words_that_are_no_rate_have_their_fault(rt: HostRuntime) {
     for (word, fault) in [
         (0x5680_0000, RateErr::Large),
         (0x3f00_0000, RateErr::Fraction),
@@ -27,10 +38,9 @@ fn rate_words_of_the_table(rt: HostRuntime) -> Result<(), Fail> {
         (0xbf80_0000, RateErr::Signed),
         (0x8000_0000, RateErr::Signed),
     ] {
-        assert_eq!(rt; rate_of_word(word), Err(fault), "at {word}");
+        assert!(rt; rate_of_word(word) == Err(fault), "at {word}");
     }
-    assert_eq!(rt; Rate::of(16_777_217), None);
-    Ok(())
+    assert!(rt; Rate::of(16_777_217).is_none());
 }
 
 // The flow 1000/2000/inf/64/1500.
@@ -65,6 +75,14 @@ fn scope_of_17(same_from: u8) -> [u8; 72] {
     text
 }
 
+// The fault of the first object, if it has one.
+fn fault_of(bytes: &[u8]) -> Option<ObjErr> {
+    match next_object(bytes, 0) {
+        Ok(_) => None,
+        Err(fault) => Some(fault),
+    }
+}
+
 #[test]
 fn each_fault_is_the_first(rt: HostRuntime) {
     for (bytes, fault) in [
@@ -96,10 +114,7 @@ fn each_fault_is_the_first(rt: HostRuntime) {
         (&flowspec_with(2, &[0x0c]), ObjErr::Tspec(0)),
         (&scope_of_17(16), ObjErr::Crowd(0)),
     ] {
-        assert!(rt;
-            next_object(bytes, 0).is_err_and(|e| e == fault),
-            "at {fault:?}"
-        );
+        assert!(rt; fault_of(bytes) == Some(fault), "at {fault:?}");
     }
 }
 
@@ -115,21 +130,24 @@ fn sixteen_addresses_of_seventeen_are_a_scope(rt: HostRuntime) {
     assert!(rt; matches!(read, Ok((Object::Scope(senders), 72)) if senders.len() == 16));
 }
 
+// The answer to one more object of 4 bytes.
+fn put_four(packet: &mut Packet) -> Result<(), Full> {
+    put_object(&Object::Skipped { class: 0 }, packet)
+}
+
 #[test]
 fn a_packet_holds_4096_bytes(rt: HostRuntime) {
     let mut packet = Packet::new();
     for _ in 0..1024 {
-        assert_eq!(rt;
-            put_object(&Object::Skipped { class: 0 }, &mut packet),
-            Ok(())
-        );
+        assert!(rt; put_four(&mut packet) == Ok(()));
     }
-    assert_eq!(rt;
-        put_object(&Object::Skipped { class: 0 }, &mut packet),
-        Err(Full)
-    );
-    assert_eq!(rt; packet.bytes().len(), 4096);
-    assert_eq!(rt; packet.copy().bytes(), packet.bytes());
+    assert!(rt; put_four(&mut packet) == Err(Full));
+    assert!(rt; packet.bytes().len() == 4096);
+    assert!(rt; packet.copy().bytes() == packet.bytes());
+}
+
+#[test]
+fn a_packet_is_of_at_most_4096_bytes(rt: HostRuntime) {
     assert!(rt; Packet::of(&[0; 4096]).is_ok());
     assert!(rt; Packet::of(&[0; 4097]).is_err());
 }
@@ -249,8 +267,7 @@ fn each_object_is_its_figure_and_is_read_again(rt: HostRuntime) -> Result<(), Fa
         (Object::Skipped { class: 13 }, &[0, 0x04, 0x0d, 0x00]),
     ] {
         let (packet, again) = put_and_read(object)?;
-        assert_eq!(rt; packet.bytes(), *text);
-        assert_eq!(rt; again.bytes(), *text);
+        assert!(rt; packet.bytes() == *text && again.bytes() == *text);
     }
     Ok(())
 }

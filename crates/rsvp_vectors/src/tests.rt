@@ -9,7 +9,7 @@ use crate::objects::{
 use message_wire::decode;
 use message_writing::encode;
 use rsvp_base::{Addr, Peak, Rate, Session};
-use rsvp_messages::{Fault, Kind, Message};
+use rsvp_messages::{Fault, Kind, Message, PathMsg};
 use rsvp_objects::{ObjErr, Packet};
 use std::test::Fail;
 
@@ -28,61 +28,68 @@ fn each() -> [(Kind, &'static [u8]); 8] {
 
 // The first fault, if there is one.
 fn fault(bytes: &[u8]) -> Option<Fault> {
-    decode(bytes).err().map(|error| error.fault)
+    match decode(bytes) {
+        Ok(_) => None,
+        Err(error) => Some(error.fault),
+    }
+}
+
+// The Path that these bytes are.
+fn path(bytes: &[u8]) -> Option<PathMsg> {
+    match decode(bytes) {
+        Ok(Message::Path(path)) => Some(path),
+        _ => None,
+    }
 }
 
 #[test]
 fn each_vector_is_read_and_written_as_it_was(rt: HostRuntime) -> Result<(), Fail> {
     for (kind, bytes) in each() {
         let read = decode(bytes).ok().ok_or("a message")?;
-        assert_eq!(rt; read.kind(), kind);
-        assert_eq!(rt; encode(&read).bytes(), bytes);
+        assert!(rt; read.kind() == kind && encode(&read).bytes() == bytes);
     }
     Ok(())
 }
 
 #[test]
 fn a_path_is_read(rt: HostRuntime) -> Result<(), Fail> {
-    let Ok(Message::Path(path)) = decode(&PATH) else {
-        return Err(Fail::from("a Path"));
-    };
+    let path = path(&PATH).ok_or("a Path")?;
     let session = Session {
         group: Addr(0xef01_0101),
         proto: 17,
         port: 5004,
     };
-    assert_eq!(rt; path.session, session);
-    assert!(rt; path.police);
-    assert_eq!(rt; path.period, 30_000);
+    assert!(rt; path.session == session && path.police && path.period == 30_000);
     assert!(rt; path.adspec.is_none());
     Ok(())
 }
 
 #[test]
-fn an_adspec_is_read_in_a_path_alone(rt: HostRuntime) -> Result<(), Fail> {
-    let Ok(Message::Path(path)) = decode(&PATH_ADSPEC) else {
-        return Err(Fail::from("a Path"));
-    };
+fn an_adspec_is_read_in_a_path(rt: HostRuntime) -> Result<(), Fail> {
+    let path = path(&PATH_ADSPEC).ok_or("a Path")?;
     let adspec = path.adspec.ok_or("an ADSPEC")?;
-    assert!(rt; !adspec.broken);
-    assert_eq!(rt; adspec.hops, 1);
-    assert_eq!(rt;
-        adspec.rate,
-        Peak::Finite(Rate::of(10_000).ok_or("a rate")?)
-    );
-    assert_eq!(rt; adspec.latency, 100);
-    assert_eq!(rt; adspec.mtu, 1500);
-    assert_eq!(rt; adspec.load, Some(false));
-    assert_eq!(rt; adspec.others.words(), [0x0200_0000].as_slice());
-    // The object may stand anywhere before the end, and is written last.
-    let first = message(1, &[&WHOLE_ADSPEC, &PATH[8..]]);
-    let read = decode(first.bytes()).ok().ok_or("a Path")?;
-    assert_eq!(rt; encode(&read).bytes(), PATH_ADSPEC.as_slice());
-    // A PathTear skips it.
-    let tear = message(5, &[&PATH_TEAR[8..], &WHOLE_ADSPEC]);
-    let read = decode(tear.bytes()).ok().ok_or("a PathTear")?;
-    assert_eq!(rt; encode(&read).bytes(), PATH_TEAR.as_slice());
+    let rate = Peak::Finite(Rate::of(10_000).ok_or("a rate")?);
+    assert!(rt; !adspec.broken && adspec.hops == 1 && adspec.rate == rate);
+    assert!(rt; adspec.latency == 100 && adspec.mtu == 1500 && adspec.load == Some(false));
+    assert!(rt; adspec.others.len() == 1 && adspec.others.at(0) == Some(0x0200_0000));
     Ok(())
+}
+
+// Whether these bytes are read, and the message is written as others.
+fn is_written(bytes: &[u8], wanted: &[u8]) -> bool {
+    match decode(bytes) {
+        Ok(read) => encode(&read).bytes() == wanted,
+        Err(_) => false,
+    }
+}
+
+// The object may stand anywhere before the end of a Path, and is written last; a PathTear skips it.
+#[test]
+fn an_adspec_is_written_last_in_a_path_alone(rt: HostRuntime) {
+    let first = message(1, &[&WHOLE_ADSPEC, &PATH[8..]]);
+    assert!(rt; is_written(first.bytes(), &PATH_ADSPEC));
+    let tear = message(5, &[&PATH_TEAR[8..], &WHOLE_ADSPEC]);
+    assert!(rt; is_written(tear.bytes(), &PATH_TEAR));
 }
 
 // Each is cut at every length, and has each byte changed in turn: in its high half, and in its low half.
@@ -91,7 +98,7 @@ fn what_is_cut_or_changed_is_refused(rt: HostRuntime) {
     for (_, bytes) in each() {
         for n in 0..bytes.len() {
             let short = if n < 8 { Fault::Short } else { Fault::Length };
-            assert_eq!(rt; fault(&bytes[..n]), Some(short), "cut to {n}");
+            assert!(rt; fault(&bytes[..n]) == Some(short), "cut to {n}");
             for flipped in [0x10, 0x01] {
                 let text = joined(&[&bytes[..n], &[bytes[n] ^ flipped], &bytes[n + 1..]]);
                 let wrong = match n {
@@ -99,7 +106,7 @@ fn what_is_cut_or_changed_is_refused(rt: HostRuntime) {
                     6 | 7 => Fault::Length,
                     _ => Fault::Checksum,
                 };
-                assert_eq!(rt; fault(text.bytes()), Some(wrong), "changed at {n}");
+                assert!(rt; fault(text.bytes()) == Some(wrong), "changed at {n}");
             }
         }
     }
@@ -111,7 +118,7 @@ fn path_with(middle: [u8; 6], object: &[u8]) -> Packet {
 }
 
 #[test]
-fn variants_of_the_path(rt: HostRuntime) -> Result<(), Fail> {
+fn variants_of_the_path(rt: HostRuntime) {
     for (middle, object) in [
         ([0, 0, 64, 0, 0, 0x58], [].as_slice()),
         // The rest sums to ffff, and so does all with a field of ffff.
@@ -122,29 +129,22 @@ fn variants_of_the_path(rt: HostRuntime) -> Result<(), Fail> {
         ([0, 0, 64, 0, 0, 0x5c], bare(0x80).as_slice()),
         ([0, 0, 64, 0, 0, 0x5c], bare(0xc0).as_slice()),
     ] {
-        let read = decode(path_with(middle, object).bytes())
-            .ok()
-            .ok_or("a Path")?;
-        assert_eq!(rt; encode(&read).bytes(), PATH.as_slice());
+        assert!(rt; is_written(path_with(middle, object).bytes(), &PATH));
     }
-    assert_eq!(rt;
-        fault(path_with([0x4c, 0xdf, 64, 0, 0, 0x58], &[]).bytes()),
-        Some(Fault::Checksum)
-    );
-    Ok(())
+    let wrong = path_with([0x4c, 0xdf, 64, 0, 0, 0x58], &[]);
+    assert!(rt; fault(wrong.bytes()) == Some(Fault::Checksum));
 }
 
 #[test]
-fn first_faults(rt: HostRuntime) {
+fn first_faults_of_an_object(rt: HostRuntime) {
     let short = joined(&[&PATH[..2], &[0, 0, 64, 0, 0, 0x57], &PATH[8..87]]);
-    assert_eq!(rt;
-        fault(short.bytes()),
-        Some(Fault::Object(ObjErr::Length(52)))
-    );
-    assert_eq!(rt;
-        fault(path_with([0, 0, 64, 0, 0, 0x5c], &bare(0x40)).bytes()),
-        Some(Fault::Object(ObjErr::Class(20, 64, 1)))
-    );
+    assert!(rt; fault(short.bytes()) == Some(Fault::Object(ObjErr::Length(52))));
+    let unknown = path_with([0, 0, 64, 0, 0, 0x5c], &bare(0x40));
+    assert!(rt; fault(unknown.bytes()) == Some(Fault::Object(ObjErr::Class(20, 64, 1))));
+}
+
+#[test]
+fn first_faults_of_a_message(rt: HostRuntime) {
     let rows: [(u8, &[&[u8]], Fault); 21] = [
         (2, &[&SESSION, &HOP, &TIME, &FLOW], Fault::Order(40)),
         (1, &[&SESSION, &SESSION, &HOP, &TIME], Fault::Repeated(20)),
@@ -197,12 +197,15 @@ fn first_faults(rt: HostRuntime) {
         (7, &[&SESSION, &ERROR, &SE, &FLOW], Fault::Missing(10)),
     ];
     for (i, (kind, objects, first)) in rows.iter().enumerate() {
-        assert_eq!(rt;
-            fault(message(*kind, objects).bytes()),
-            Some(*first),
+        assert!(rt;
+            fault(message(*kind, objects).bytes()) == Some(*first),
             "row {i}"
         );
     }
+}
+
+#[test]
+fn a_whole_message_has_no_fault(rt: HostRuntime) {
     let whole = message(
         7,
         &[
@@ -215,7 +218,7 @@ fn first_faults(rt: HostRuntime) {
             &OTHER_FILTER,
         ],
     );
-    assert_eq!(rt; fault(whole.bytes()), None);
+    assert!(rt; fault(whole.bytes()).is_none());
 }
 
 #[test]
@@ -223,12 +226,16 @@ fn a_fault_has_a_kind_and_a_hint_behind_the_header(rt: HostRuntime) -> Result<()
     // A second SESSION is wrong; what stands behind it is told, up to the object without a length.
     let bytes = message(1, &[&SESSION, &SESSION, &HOP, &[0, 0, 5, 1]]);
     let error = decode(bytes.bytes()).err().ok_or("a fault")?;
-    assert_eq!(rt; error.kind, Some(Kind::Path));
-    assert_eq!(rt; error.hint.session.map(|session| session.port), Some(5004));
-    assert_eq!(rt; error.hint.hop.map(|hop| hop.addr.0), Some(0x0a00_0101));
-    assert_eq!(rt; error.hint.sender, None);
+    let session = error.hint.session.ok_or("a session")?;
+    let hop = error.hint.hop.ok_or("a hop")?;
+    assert!(rt; error.kind == Some(Kind::Path) && error.hint.sender.is_none());
+    assert!(rt; session.port == 5004 && hop.addr.0 == 0x0a00_0101);
+    Ok(())
+}
+
+#[test]
+fn a_fault_of_the_header_has_none(rt: HostRuntime) -> Result<(), Fail> {
     let error = decode(&PATH[..20]).err().ok_or("a fault")?;
-    assert_eq!(rt; error.kind, None);
-    assert_eq!(rt; error.hint.session, None);
+    assert!(rt; error.kind.is_none() && error.hint.session.is_none());
     Ok(())
 }
