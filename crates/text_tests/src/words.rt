@@ -6,33 +6,47 @@ use script_words::{
 };
 use std::test::*;
 
+// How many lines a text has, up to 9, and the first and the last of them.
+fn lines_of(text: &[u8]) -> (u32, &[u8], &[u8]) {
+    let mut lines = 0u32;
+    let mut rest = text;
+    let mut first = b"".as_slice();
+    let mut last = b"".as_slice();
+    for _ in 0..9 {
+        let Some((line, behind)) = next_line(rest) else {
+            break;
+        };
+        if lines == 0 {
+            first = line;
+        }
+        lines = lines.saturating_add(1);
+        last = line;
+        rest = behind;
+    }
+    (lines, first, last)
+}
+
 #[test]
 fn lines_end_at_line_feeds(rt: HostRuntime) {
-    let texts: [(&str, u32, &str, &str); 6] = [
-        ("", 0, "", ""),
-        ("\n", 1, "", ""),
-        ("a b", 1, "a b", "a b"),
-        ("a b\n", 1, "a b", "a b"),
-        ("a\n\nc", 3, "a", "c"),
-        ("a\n \n", 2, "a", " "),
+    let texts: [(&[u8], u32, &[u8], &[u8]); 6] = [
+        (b"", 0, b"", b""),
+        (b"\n", 1, b"", b""),
+        (b"a b", 1, b"a b", b"a b"),
+        (b"a b\n", 1, b"a b", b"a b"),
+        (b"a\n\nc", 3, b"a", b"c"),
+        (b"a\n \n", 2, b"a", b" "),
     ];
     for (text, count, first, last) in texts {
-        let mut lines: u32 = 0;
-        let mut rest = text.as_bytes();
-        let mut latest = b"".as_slice();
-        for _ in 0..9 {
-            let Some((line, behind)) = next_line(rest) else {
-                break;
-            };
-            if lines == 0 {
-                assert!(rt; line == first.as_bytes(), "first of {text}");
-            }
-            lines = lines.saturating_add(1);
-            latest = line;
-            rest = behind;
-        }
-        assert_eq!(rt; lines, count, "lines of {text}");
-        assert!(rt; latest == last.as_bytes(), "last of {text}");
+        let (lines, one, other) = lines_of(text);
+        assert!(rt; lines == count && one == first && other == last);
+    }
+}
+
+// Whether the last of the words, if there is one, is this.
+fn is_last(words: &[&[u8]], wanted: &str) -> bool {
+    match words.last() {
+        Some(word) => *word == wanted.as_bytes(),
+        None => true,
     }
 }
 
@@ -50,16 +64,18 @@ fn words_stand_between_spaces(rt: HostRuntime) -> Result<(), Fail> {
     ];
     for (line, count, last) in lines {
         read_words(line.as_bytes(), &mut words)?;
-        assert_eq!(rt; words.len(), count, "words of {line}");
-        if let Some(word) = words.as_slice().last() {
-            assert!(rt; *word == last.as_bytes(), "last of {line}");
-        }
+        assert!(rt;
+            words.len() == count && is_last(words.as_slice(), last),
+            "in {line}"
+        );
     }
-    assert!(rt; is_printable(b" ~a"));
-    assert!(rt; !is_printable(b"a\tb"));
-    assert!(rt; !is_printable(b"a\x7f"));
-    assert!(rt; first_part(b"ab", b',').is_none());
     Ok(())
+}
+
+#[test]
+fn printable_bytes_are_space_to_tilde(rt: HostRuntime) {
+    assert!(rt; is_printable(b" ~a") && !is_printable(b"a\tb") && !is_printable(b"a\x7f"));
+    assert!(rt; first_part(b"ab", b',').is_none());
 }
 
 #[test]
@@ -79,7 +95,7 @@ fn numbers_are_decimal(rt: HostRuntime) {
         ("", None),
     ];
     for (word, wanted) in words {
-        assert_eq!(rt; number(word.as_bytes()), wanted, "at {word}");
+        assert!(rt; number(word.as_bytes()) == wanted, "at {word}");
     }
 }
 
@@ -98,47 +114,65 @@ fn names_begin_with_a_letter(rt: HostRuntime) -> Result<(), Fail> {
         ("", false),
     ];
     for (word, wanted) in words {
-        assert_eq!(rt; EndName::of(word.as_bytes()).is_some(), wanted, "at {word}");
+        assert!(rt;
+            EndName::of(word.as_bytes()).is_some() == wanted,
+            "at {word}"
+        );
     }
     let name = EndName::of(b"s_1").ok_or("a name")?;
     assert!(rt; name.copy().bytes() == b"s_1".as_slice());
     Ok(())
 }
 
-#[test]
-fn addresses_are_four_bytes(rt: HostRuntime) -> Result<(), Fail> {
-    let words = [
-        ("10.0.1.1", Some(Addr(0x0a00_0101)), true),
-        ("0.0.0.0", Some(Addr(0)), false),
-        ("223.255.255.255", Some(Addr(0xdfff_ffff)), true),
-        ("224.0.0.0", Some(Addr(0xe000_0000)), false),
-        ("239.255.255.255", Some(Addr(0xefff_ffff)), false),
-        ("240.0.0.0", Some(Addr(0xf000_0000)), true),
-        ("10.0.1.256", None, false),
-    ];
-    for (word, wanted, host) in words {
-        let quad = DottedQuad::of(word.as_bytes()).ok_or("four numbers")?;
-        assert_eq!(rt; quad.addr(), wanted, "at {word}");
-        if let Some(addr) = quad.addr() {
-            assert_eq!(rt; is_host(addr), host, "at {word}");
-        }
-    }
-    assert!(rt; is_group(Addr(0xe000_0001)));
-    for word in [
-        "10.0.1",
-        "10.0.1.1.1",
-        "10.0.1.",
-        "10.0.01.1",
-        "10:0:1:1",
-        "",
-    ] {
-        assert!(rt; DottedQuad::of(word.as_bytes()).is_none(), "at {word}");
-    }
-    Ok(())
+// The address of a word of four numbers.
+fn address(word: &str) -> Option<Option<Addr>> {
+    Some(DottedQuad::of(word.as_bytes())?.addr())
 }
 
 #[test]
-fn sessions_are_group_protocol_port(rt: HostRuntime) -> Result<(), Fail> {
+fn addresses_are_four_bytes(rt: HostRuntime) {
+    let words = [
+        ("10.0.1.1", Some(Some(Addr(0x0a00_0101)))),
+        ("0.0.0.0", Some(Some(Addr(0)))),
+        ("223.255.255.255", Some(Some(Addr(0xdfff_ffff)))),
+        ("224.0.0.0", Some(Some(Addr(0xe000_0000)))),
+        ("239.255.255.255", Some(Some(Addr(0xefff_ffff)))),
+        ("240.0.0.0", Some(Some(Addr(0xf000_0000)))),
+        ("10.0.1.256", Some(None)),
+        ("10.0.1", None),
+        ("10.0.1.1.1", None),
+        ("10.0.1.", None),
+        ("10.0.01.1", None),
+        ("10:0:1:1", None),
+        ("", None),
+    ];
+    for (word, wanted) in words {
+        assert!(rt; address(word) == wanted, "at {word}");
+    }
+}
+
+#[test]
+fn addresses_are_of_hosts_or_groups(rt: HostRuntime) {
+    for (addr, host) in [
+        (0x0a00_0101, true),
+        (0, false),
+        (0xdfff_ffff, true),
+        (0xe000_0000, false),
+        (0xefff_ffff, false),
+        (0xf000_0000, true),
+    ] {
+        assert!(rt; is_host(Addr(addr)) == host, "at {addr}");
+    }
+    assert!(rt; is_group(Addr(0xe000_0001)));
+}
+
+// The session of a word of three parts.
+fn session(word: &str) -> Option<Option<Session>> {
+    Some(SessionWord::of(word.as_bytes())?.session())
+}
+
+#[test]
+fn sessions_are_group_protocol_port(rt: HostRuntime) {
     let words = [
         ("239.1.1.1/17/5004", true),
         ("224.0.0.0/1/0", true),
@@ -151,51 +185,58 @@ fn sessions_are_group_protocol_port(rt: HostRuntime) -> Result<(), Fail> {
         ("239.1.1.1/17/65536", false),
     ];
     for (word, wanted) in words {
-        let session = SessionWord::of(word.as_bytes()).ok_or("a session word")?;
-        assert_eq!(rt; session.session().is_some(), wanted, "at {word}");
+        let is_session = match session(word) {
+            Some(found) => found.is_some() == wanted,
+            None => false,
+        };
+        assert!(rt; is_session, "at {word}");
     }
-    let word = SessionWord::of(b"239.1.1.1/17/5004").ok_or("a session word")?;
-    let session = Session {
+    let wanted = Session {
         group: Addr(0xef01_0101),
         proto: 17,
         port: 5004,
     };
-    assert_eq!(rt; word.session(), Some(session));
+    assert!(rt; session("239.1.1.1/17/5004") == Some(Some(wanted)));
+}
+
+#[test]
+fn other_words_are_no_session(rt: HostRuntime) {
     for word in [
         "239.1.1.1/17",
         "239.1.1.1/17/5004/",
         "239.1.1/17/5004",
         "239.1.1.1/17/x",
     ] {
-        assert!(rt; SessionWord::of(word.as_bytes()).is_none(), "at {word}");
+        assert!(rt; session(word).is_none(), "at {word}");
     }
-    Ok(())
+}
+
+// The sender of a word of two parts.
+fn sender(word: &[u8]) -> Option<Option<Sender>> {
+    Some(SenderWord::of(word)?.sender())
 }
 
 #[test]
-fn senders_are_address_and_port(rt: HostRuntime) -> Result<(), Fail> {
-    let alloc = rt.alloc();
-    let word = SenderWord::of(b"10.0.1.1:5004").ok_or("a sender word")?;
-    let sender = Sender {
+fn senders_are_address_and_port(rt: HostRuntime) {
+    let wanted = Sender {
         addr: Addr(0x0a00_0101),
         port: 5004,
     };
-    assert_eq!(rt; word.sender(), Some(sender));
-    let beyond = SenderWord::of(b"10.0.1.1:65536").ok_or("a sender word")?;
-    assert!(rt; beyond.sender().is_none());
-    assert!(rt; SenderWord::of(b"10.0.1.1").is_none());
-    let two = senders(alloc, b"10.0.1.1:5004,10.0.1.2:0")
-        .ok()
-        .ok_or("two senders")?;
-    assert_eq!(rt; two.len(), 2);
-    let three = addresses(alloc, b"10.0.1.1,10.0.1.2,999.0.0.0")
-        .ok()
-        .ok_or("three addresses")?;
-    assert_eq!(rt; three.len(), 3);
+    assert!(rt; sender(b"10.0.1.1:5004") == Some(Some(wanted)));
+    assert!(rt; sender(b"10.0.1.1:65536") == Some(None));
+    assert!(rt; sender(b"10.0.1.1").is_none());
+}
+
+#[test]
+fn lists_have_commas_between(rt: HostRuntime) {
+    let alloc = rt.alloc();
+    let two = senders(alloc, b"10.0.1.1:5004,10.0.1.2:0");
+    assert!(rt; matches!(two, Ok(list) if list.len() == 2));
+    let three = addresses(alloc, b"10.0.1.1,10.0.1.2,999.0.0.0");
+    assert!(rt; matches!(three, Ok(list) if list.len() == 3));
     assert!(rt; matches!(senders(alloc, b"10.0.1.1:5004,"), Err(Unread::Word)));
     assert!(rt; matches!(addresses(alloc, b"10.0.1.1:5004"), Err(Unread::Word)));
     assert!(rt; matches!(addresses(alloc, b""), Err(Unread::Word)));
-    Ok(())
 }
 
 #[test]
@@ -210,7 +251,7 @@ fn styles_have_two_letters(rt: HostRuntime) {
         ("", None),
     ];
     for (word, wanted) in words {
-        assert_eq!(rt; style(word.as_bytes()), wanted, "at {word}");
+        assert!(rt; style(word.as_bytes()) == wanted, "at {word}");
     }
 }
 
@@ -224,7 +265,12 @@ fn flows_have_five_parts(rt: HostRuntime) -> Result<(), Fail> {
         low: 64,
         most: 1500,
     };
-    assert_eq!(rt; word, wanted);
+    assert!(rt; word == wanted);
+    Ok(())
+}
+
+#[test]
+fn flows_are_rates_and_sizes(rt: HostRuntime) -> Result<(), Fail> {
     let words = [
         ("1000/2000/inf/64/1500", true),
         ("1/1/0/1/1", true),
@@ -241,8 +287,13 @@ fn flows_have_five_parts(rt: HostRuntime) -> Result<(), Fail> {
     ];
     for (word, wanted) in words {
         let flow = FlowWord::of(word.as_bytes()).ok_or("a flow word")?;
-        assert_eq!(rt; flow.flow().is_some(), wanted, "at {word}");
+        assert!(rt; flow.flow().is_some() == wanted, "at {word}");
     }
+    Ok(())
+}
+
+#[test]
+fn other_words_are_no_flow(rt: HostRuntime) {
     for word in [
         "1000/2000/inf/64",
         "1/2/3/4/5/6",
@@ -252,5 +303,4 @@ fn flows_have_five_parts(rt: HostRuntime) -> Result<(), Fail> {
     ] {
         assert!(rt; FlowWord::of(word.as_bytes()).is_none(), "at {word}");
     }
-    Ok(())
 }
