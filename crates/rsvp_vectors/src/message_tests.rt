@@ -216,9 +216,8 @@ fn blamed(message: &Message) -> Option<StyleKind> {
 #[test]
 fn what_is_asked_and_blamed_is_copied(rt: HostRuntime) -> Result<(), Fail> {
     let messages = each_message().ok_or("messages")?;
-    let usual = flow(1000);
-    assert!(rt; copied(&messages[1]) == Some((Some(Addr(2)), Some(sender(0)), usual)));
+    assert!(rt; copied(&messages[1]) == Some((Some(Addr(2)), Some(sender(0)), flow(1000))));
     assert!(rt; blamed(&messages[3]) == Some(StyleKind::Shared));
-    assert!(rt; copied(&messages[6]) == Some((Some(Addr(2)), Some(sender(4)), usual)));
+    assert!(rt; copied(&messages[6]) == Some((Some(Addr(2)), Some(sender(4)), flow(1000))));
     Ok(())
 }

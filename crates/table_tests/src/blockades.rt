@@ -1,7 +1,6 @@
 //! 512 blockades and a 513th; a wall that is replaced, and walls that die.
 use blockade_state::{Blockades, Target};
 use rsvp_base::{Addr, Flow, Full, Peak, Rate, Sender, Session};
-use std::alloc::Global;
 use std::test::Fail;
 use style_rules::Wall;
 
@@ -18,48 +17,26 @@ fn wall(r: u64, sub: u16) -> Option<Wall> {
     Some(Wall { flow, sub })
 }
 
-// The table with a low wall of 100 ms before each of the hops 0 to 512, as far as there is room, and how many were set.
-fn filled(alloc: Global, low: Wall) -> Option<(Blockades, u32)> {
-    let mut walls = Blockades::open(alloc).ok()?;
-    let mut count = 0u32;
-    for addr in 0u32..513 {
-        if walls.set(session(1), Target::Hop(1, Addr(addr)), low, 100) == Ok(()) {
-            count = count.saturating_add(1);
-        }
-    }
-    Some((walls, count))
-}
-
 #[test]
 fn there_is_room_for_512_and_no_513th(rt: HostRuntime) -> Result<(), Fail> {
-    let low = wall(4, 2).ok_or("wall")?;
-    let (mut walls, count) = filled(rt.alloc(), low).ok_or("memory")?;
-    assert!(rt; count == 512 && walls.free() == 0);
-    assert!(rt; walls.set(session(1), Target::Hop(1, Addr(512)), low, 100) == Err(Full));
-    assert!(rt; walls.of(session(1), Target::Hop(1, Addr(8))) == Some(low));
-    assert!(rt; walls.of(session(1), Target::Hop(1, Addr(512))).is_none());
-    Ok(())
-}
-
-// The one that was set again outlives the others by 100 ms.
-#[test]
-fn a_wall_that_is_set_again_is_another_and_lives_longer(rt: HostRuntime) -> Result<(), Fail> {
+    let mut walls = Blockades::open(rt.alloc()).ok().ok_or("memory")?;
     let low = wall(4, 2).ok_or("wall")?;
     let high = wall(10, 3).ok_or("wall")?;
-    let (mut walls, _) = filled(rt.alloc(), low).ok_or("memory")?;
+    for addr in 0u32..513 {
+        let answer = walls.set(session(1), Target::Hop(1, Addr(addr)), low, 100);
+        assert!(rt; answer == if addr < 512 { Ok(()) } else { Err(Full) });
+    }
+    assert!(rt; walls.free() == 0);
     assert!(rt; walls.set(session(1), Target::Hop(1, Addr(7)), high, 200) == Ok(()));
     assert!(rt; walls.of(session(1), Target::Hop(1, Addr(7))) == Some(high));
+    assert!(rt; walls.of(session(1), Target::Hop(1, Addr(8))) == Some(low));
+    assert!(rt; walls.of(session(1), Target::Hop(1, Addr(512))).is_none());
+
+    // The one that was set again outlives the others by 100 ms.
     for (ms, free) in [(99u32, 0usize), (1, 511), (99, 511), (1, 512)] {
         walls.advance(ms);
         assert!(rt; walls.free() == free);
     }
-    Ok(())
-}
-
-#[test]
-fn a_wall_is_of_its_session_and_target(rt: HostRuntime) -> Result<(), Fail> {
-    let low = wall(4, 2).ok_or("wall")?;
-    let mut walls = Blockades::open(rt.alloc()).or(Err("memory"))?;
     let sender = Target::Sender(Sender {
         addr: Addr(7),
         port: 5004,

@@ -1,7 +1,6 @@
 //! A session with 16 senders, and a 17th; a path that is torn, and paths that die.
 use path_state::{PathFact, PathTable};
 use rsvp_base::{Addr, Flow, Full, Hop, Peak, Rate, Sender, Session};
-use std::alloc::Global;
 use std::test::Fail;
 
 fn path(group: u32, sender: u16, hop: u32) -> Option<PathFact> {
@@ -26,50 +25,26 @@ fn path(group: u32, sender: u16, hop: u32) -> Option<PathFact> {
     })
 }
 
-// What the table answers to a path with 100 ms left, where no dead one waits.
-fn learned(table: &mut PathTable, sender: u16) -> Option<Result<(), Full>> {
-    let fact = path(1, sender, 7)?;
-    let None = table.pull_dead() else {
-        return None;
-    };
-    Some(table.learn(fact, 100))
-}
-
-// A table of the paths of 16 senders of a session.
-fn filled(alloc: Global) -> Option<PathTable> {
-    let mut table = PathTable::open(alloc).ok()?;
-    for sender in 0u16..16 {
-        learned(&mut table, sender)?.ok()?;
-    }
-    Some(table)
-}
-
 #[test]
 fn a_session_has_16_senders_and_no_17th(rt: HostRuntime) -> Result<(), Fail> {
-    let mut table = filled(rt.alloc()).ok_or("a table")?;
-    assert!(rt; learned(&mut table, 16) == Some(Err(Full)));
-    let last = path(1, 15, 7).ok_or("path")?;
-    assert!(rt; table.at(last.session, 15) == Some(last));
-    assert!(rt; table.at(last.session, 16).is_none());
-    assert!(rt; table.has_session(last.session));
-    Ok(())
-}
-
-#[test]
-fn senders_are_told_by_hop_and_address(rt: HostRuntime) -> Result<(), Fail> {
-    let table = filled(rt.alloc()).ok_or("a table")?;
-    let session = path(1, 0, 7).ok_or("path")?.session;
-    assert!(rt; table.senders_via(session, 0, Addr(7)).len() == 16);
-    assert!(rt; table.senders_via(session, 1, Addr(7)).is_empty());
-    assert!(rt; table.hops(session).as_slice() == [(0u8, Addr(7))].as_slice());
-    assert!(rt; table.has_address(session, Addr(1)) && !table.has_address(session, Addr(2)));
-    Ok(())
-}
-
-#[test]
-fn paths_are_torn_or_die(rt: HostRuntime) -> Result<(), Fail> {
-    let mut table = filled(rt.alloc()).ok_or("a table")?;
+    let mut table = PathTable::open(rt.alloc()).ok().ok_or("memory")?;
+    for sender in 0u16..17 {
+        let fact = path(1, sender, 7).ok_or("path")?;
+        let None = table.pull_dead() else {
+            return Err(Fail::from("a dead fact waits"));
+        };
+        let answer = table.learn(fact, 100);
+        assert!(rt; answer == if sender < 16 { Ok(()) } else { Err(Full) });
+    }
     let first = path(1, 0, 7).ok_or("path")?;
+    assert!(rt; table.at(first.session, 15).map(|f| f.sender.port) == Some(15));
+    assert!(rt; table.at(first.session, 16).is_none());
+    assert!(rt; table.senders_via(first.session, 0, Addr(7)).len() == 16);
+    assert!(rt; table.senders_via(first.session, 1, Addr(7)).is_empty());
+    assert!(rt; table.hops(first.session).as_slice() == [(0u8, Addr(7))].as_slice());
+    assert!(rt; table.has_address(first.session, Addr(1)));
+    assert!(rt; !table.has_address(first.session, Addr(2)));
+    assert!(rt; table.has_session(first.session));
     assert!(rt; table.tear(first.session, first.sender) == Some(first));
     assert!(rt; table.find(first.session, first.sender).is_none());
     let None = table.pull_dead() else {

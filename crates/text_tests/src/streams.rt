@@ -42,7 +42,7 @@ fn read_in_threes(alloc: Global, fails: bool) -> Result<Vec<u8>, ReadErr> {
 
 #[test]
 fn a_reading_ends_as_its_source_does(rt: HostRuntime) {
-    assert!(rt; matches!(read_in_threes(rt.alloc(), false), Ok(read) if read.as_slice() == TEXT));
+    assert!(rt; matches!(&read_in_threes(rt.alloc(), false), Ok(read) if read.as_slice() == TEXT));
     assert!(rt; matches!(read_in_threes(rt.alloc(), true), Err(ReadErr::Fault)));
 }
 

@@ -231,9 +231,9 @@ fn senders_are_address_and_port(rt: HostRuntime) {
 fn lists_have_commas_between(rt: HostRuntime) {
     let alloc = rt.alloc();
     let two = senders(alloc, b"10.0.1.1:5004,10.0.1.2:0");
-    assert!(rt; matches!(two, Ok(list) if list.len() == 2));
+    assert!(rt; matches!(&two, Ok(list) if list.len() == 2));
     let three = addresses(alloc, b"10.0.1.1,10.0.1.2,999.0.0.0");
-    assert!(rt; matches!(three, Ok(list) if list.len() == 3));
+    assert!(rt; matches!(&three, Ok(list) if list.len() == 3));
     assert!(rt; matches!(senders(alloc, b"10.0.1.1:5004,"), Err(Unread::Word)));
     assert!(rt; matches!(addresses(alloc, b"10.0.1.1:5004"), Err(Unread::Word)));
     assert!(rt; matches!(addresses(alloc, b""), Err(Unread::Word)));
