@@ -7,9 +7,23 @@ use script_player::{Unwatched, run_script};
 use std::alloc::Global;
 use std::test::*;
 
-/// What the script of these lines writes, and below it what each datagram says that is in flight behind its last line, in the
-/// order of sending.
-pub fn outcome(alloc: Global, network: &str, events: &str) -> Result<String, Fail> {
+/// A row: what it shows, the first lines of a script, those behind them, and what is wanted.
+pub type Row = (&'static str, &'static str, &'static str, &'static str);
+
+/// Runs the script of each row, and fails at the first that comes to another text.
+pub fn run_rows(alloc: Global, rows: &[Row]) -> Result<(), Fail> {
+    for (name, network, events, wanted) in rows {
+        let text = outcome(alloc, network, events)?;
+        if text.as_str() != *wanted {
+            return Err(Fail::new(format_args!("{name}: {text}")));
+        }
+    }
+    Ok(())
+}
+
+// What the script of these lines writes, and below it what each datagram says that is in flight behind its last line, in the
+// order of sending.
+fn outcome(alloc: Global, network: &str, events: &str) -> Result<String, Fail> {
     let mut script = network.as_bytes().to_vec(alloc)?;
     script.extend_from_slice(events.as_bytes())?;
     let mut source = MemorySource::new(script, Vec::new(alloc), 4096);
