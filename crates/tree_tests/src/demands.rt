@@ -1,18 +1,22 @@
 //! What the ends of worked networks owe.
-use network_demand::{
-    Demand, End, LocalSender, LocalWant, Locals, Routing, Topology, can_ask, demand,
-};
-use rsvp_base::{Addr, Flow, Iface, Part, Peak, Rate, Sender, Senders, Session, StyleKind};
+use crate::networks::{GROUP, routing, with_ends};
+use network_demand::{Demand, LocalSender, LocalWant, Locals, Routing, can_ask, demand};
+use rsvp_base::{Addr, Flow, Part, Peak, Rate, Sender, Senders, Session, StyleKind};
 use std::alloc::Global;
 use std::test::Fail;
-
-const GROUP: Addr = Addr(0xef01_0101);
+use tree_routing::Topology;
 
 const SESSION: Session = Session {
     group: GROUP,
     proto: 17,
     port: 5004,
 };
+
+// A want at a node for a session and style: the senders that it names, and its flow.
+type Want<'a> = (u16, Session, StyleKind, &'a [Sender], Flow);
+
+// An entry of an end: the senders that it names, and its flow.
+type Entry<'a> = (Session, StyleKind, &'a [Sender], Flow);
 
 fn flow(r: u64, b: u64, low: u32, most: u32) -> Option<Flow> {
     Flow::new(Rate::of(r)?, Rate::of(b)?, Peak::Infinite, low, most)
@@ -25,87 +29,15 @@ fn sender(addr: u32, port: u16) -> Sender {
     }
 }
 
-// The network of these nodes, ends, links and hops; a hop as its group, source and ends.
-fn routing(
-    alloc: Global,
-    nodes: u16,
-    ends: &[(u16, u32)],
-    links: &[(u16, u16)],
-    hops: &[(u32, u32, u16, u16)],
-) -> Result<Routing, Fail> {
-    let mut net = Topology::new(alloc).ok().ok_or("room")?;
-    for _ in 0..nodes {
-        if !net.has_room_for_node() {
-            return Err("node".into());
-        }
-        net.add_node().ok().ok_or("room")?;
-    }
-    for (node, addr) in ends {
-        let end = End {
-            node: *node,
-            iface: Iface {
-                addr: Addr(*addr),
-                capacity: 10_000,
-                mtu: 1500,
-            },
-        };
-        if !net.takes_end(&end) {
-            return Err("end".into());
-        }
-        net.add_end(end).ok().ok_or("room")?;
-    }
-    for (one, other) in links {
-        if !net.takes_link(*one, *other) {
-            return Err("link".into());
-        }
-        net.add_link(*one, *other).ok().ok_or("room")?;
-    }
-    for (group, source, from, to) in hops {
-        if !net.has_room_for_hop() {
-            return Err("hop".into());
-        }
-        net.add_hop(Addr(*group), Addr(*source), *from, *to)
-            .ok()
-            .ok_or("hop")?;
-    }
-    Ok(net.close().ok().ok_or("room")?)
-}
-
-// What these senders and wants come to.
-fn settled(
-    alloc: Global,
-    net: &Routing,
-    senders: &[(u16, Session, Sender)],
-    wants: Vec<LocalWant>,
-) -> Result<Demand, Fail> {
-    let mut all = Vec::new(alloc);
-    for (node, session, sender) in senders {
-        all.push(LocalSender {
-            node: *node,
-            session: *session,
-            sender: *sender,
-        })?;
-    }
-    let locals = Locals {
-        senders: all,
-        wants,
-    };
-    if !can_ask(net, &locals) {
-        return Err("locals".into());
-    }
-    Ok(demand(alloc, net, &locals).ok().ok_or("room")?)
-}
-
-// A want at a node.
 fn want(
     node: u16,
     session: Session,
     style: StyleKind,
     names: &[Sender],
     flow: Flow,
-) -> Result<LocalWant, Fail> {
-    let senders = Senders::of(names).ok().ok_or("names")?;
-    Ok(LocalWant {
+) -> Option<LocalWant> {
+    let senders = Senders::of(names).ok()?;
+    Some(LocalWant {
         node,
         session,
         style,
@@ -113,41 +45,76 @@ fn want(
     })
 }
 
-// Whether the entry of an end at this place is for this session and style, names these senders and has this flow.
-fn is_entry(
-    demand: &Demand,
-    end: usize,
-    place: usize,
-    session: Session,
-    style: StyleKind,
-    names: &[Sender],
-    flow: Flow,
-) -> bool {
-    match demand.ends.get(end) {
-        Some(book) => match book.as_slice().get(place) {
-            Some((key, part)) => {
-                key.session == session
-                    && key.style == style
-                    && part.flow == flow
-                    && part.senders.len() == names.len()
-                    && names.iter().all(|name| part.senders.has(*name))
-            }
-            None => false,
-        },
-        None => false,
+// What these senders and wants come to.
+fn come_to(
+    alloc: Global,
+    net: &Routing,
+    senders: &[(u16, Session, Sender)],
+    wants: Vec<LocalWant>,
+) -> Option<Demand> {
+    let mut all = Vec::new(alloc);
+    for (node, session, sender) in senders {
+        let local = LocalSender {
+            node: *node,
+            session: *session,
+            sender: *sender,
+        };
+        all.push(local).ok()?;
     }
+    let locals = Locals {
+        senders: all,
+        wants,
+    };
+    if !can_ask(net, &locals) {
+        return None;
+    }
+    demand(alloc, net, &locals).ok()
 }
 
-// How many entries an end has.
-fn entries(demand: &Demand, end: usize) -> Option<usize> {
-    Some(demand.ends.get(end)?.as_slice().len())
+// The same of a list of wants.
+fn settled(
+    alloc: Global,
+    net: &Routing,
+    senders: &[(u16, Session, Sender)],
+    wants: &[Want],
+) -> Option<Demand> {
+    let mut all = Vec::new(alloc);
+    for (node, session, style, names, flow) in wants {
+        all.push(want(*node, *session, *style, names, *flow)?).ok()?;
+    }
+    come_to(alloc, net, senders, all)
+}
+
+// Whether a list has these senders and no others.
+fn names(senders: &Senders, wanted: &[Sender]) -> bool {
+    for name in wanted {
+        if !senders.has(*name) {
+            return false;
+        }
+    }
+    senders.len() == wanted.len()
+}
+
+// Whether an end owes these entries and no others, in this order.
+fn owes(demand: &Demand, end: usize, entries: &[Entry]) -> bool {
+    let Some(book) = demand.ends.get(end) else {
+        return false;
+    };
+    let listed = book.as_slice();
+    for ((key, part), (session, style, senders, flow)) in listed.iter().zip(entries) {
+        let is_it = key.session == *session && key.style == *style && part.flow == *flow;
+        if !is_it || !names(&part.senders, senders) {
+            return false;
+        }
+    }
+    listed.len() == entries.len()
 }
 
 const S1: u32 = 0x0a00_0101;
 
 // A host s sends by way of a router r to hosts t and u: the ends s1, r1, r2, t1, r3, u1.
-fn fork(alloc: Global) -> Result<Routing, Fail> {
-    routing(
+fn fork(alloc: Global) -> Option<Routing> {
+    let net = with_ends(
         alloc,
         4,
         &[
@@ -159,6 +126,9 @@ fn fork(alloc: Global) -> Result<Routing, Fail> {
             (3, 0x0a00_0302),
         ],
         &[(0, 1), (2, 3), (4, 5)],
+    )?;
+    routing(
+        net,
         &[
             (GROUP.0, S1, 0, 1),
             (GROUP.0, S1, 2, 3),
@@ -167,64 +137,76 @@ fn fork(alloc: Global) -> Result<Routing, Fail> {
     )
 }
 
+// The larger rate, not the sum; and of each other value the larger, or the smaller least size.
 #[test]
-fn styles_merge_toward_the_source(rt: HostRuntime) -> Result<(), Fail> {
-    let net = fork(rt.alloc())?;
+fn wildcards_merge_toward_the_source(rt: HostRuntime) -> Result<(), Fail> {
+    let net = fork(rt.alloc()).ok_or("a fork")?;
+    let deep = flow(300, 600, 64, 1500).ok_or("flow")?;
+    let fast = flow(500, 400, 128, 1000).ok_or("flow")?;
+    let merged = flow(500, 600, 64, 1500).ok_or("flow")?;
+    let demand = settled(
+        rt.alloc(),
+        &net,
+        &[(0, SESSION, sender(S1, 5004))],
+        &[
+            (2, SESSION, StyleKind::Wild, &[], deep),
+            (3, SESSION, StyleKind::Wild, &[], fast),
+        ],
+    )
+    .ok_or("a demand")?;
+    assert!(rt;
+        owes(
+            &demand,
+            0,
+            &[(SESSION, StyleKind::Wild, &[sender(S1, 0)], merged)]
+        )
+    );
+    Ok(())
+}
+
+// What a want of the sender at port 5004 and one of the sender at port 5006 come to.
+fn of_two_senders(
+    alloc: Global,
+    net: &Routing,
+    style: (StyleKind, StyleKind),
+    flow: (Flow, Flow),
+) -> Option<Demand> {
+    let first = sender(S1, 5004);
+    let second = sender(S1, 5006);
+    settled(
+        alloc,
+        net,
+        &[(0, SESSION, first), (0, SESSION, second)],
+        &[
+            (2, SESSION, style.0, &[first], flow.0),
+            (3, SESSION, style.1, &[second], flow.1),
+        ],
+    )
+}
+
+// Fixed filters add up, and a shared filter joins.
+#[test]
+fn filters_add_up_or_join_toward_the_source(rt: HostRuntime) -> Result<(), Fail> {
+    let net = fork(rt.alloc()).ok_or("a fork")?;
     let first = sender(S1, 5004);
     let second = sender(S1, 5006);
     let small = flow(300, 300, 64, 1500).ok_or("flow")?;
     let large = flow(500, 500, 64, 1500).ok_or("flow")?;
-
-    // The larger rate, not the sum; and of each other value the larger, or the smaller least size.
-    let mut wants = Vec::new(rt.alloc());
-    wants.push(want(
-        2,
-        SESSION,
-        StyleKind::Wild,
-        &[],
-        flow(300, 600, 64, 1500).ok_or("flow")?,
-    )?)?;
-    wants.push(want(
-        3,
-        SESSION,
-        StyleKind::Wild,
-        &[],
-        flow(500, 400, 128, 1000).ok_or("flow")?,
-    )?)?;
-    let wild = settled(rt.alloc(), &net, &[(0, SESSION, first)], wants)?;
-    let merged = flow(500, 600, 64, 1500).ok_or("flow")?;
-    assert_eq!(rt; entries(&wild, 0), Some(1));
+    let fixed = StyleKind::Fixed;
+    let apart = of_two_senders(rt.alloc(), &net, (fixed, fixed), (small, large)).ok_or("FF")?;
     assert!(rt;
-        is_entry(
-            &wild,
+        owes(
+            &apart,
             0,
-            0,
-            SESSION,
-            StyleKind::Wild,
-            &[sender(S1, 0)],
-            merged
+            &[
+                (SESSION, fixed, &[first], small),
+                (SESSION, fixed, &[second], large)
+            ]
         )
     );
-
-    // Fixed filters add up, and a shared filter joins.
-    for (style, count) in [(StyleKind::Fixed, 2usize), (StyleKind::Shared, 1)] {
-        let mut wants = Vec::new(rt.alloc());
-        wants.push(want(2, SESSION, style, &[first], small)?)?;
-        wants.push(want(3, SESSION, style, &[second], large)?)?;
-        let demand = settled(
-            rt.alloc(),
-            &net,
-            &[(0, SESSION, first), (0, SESSION, second)],
-            wants,
-        )?;
-        assert_eq!(rt; entries(&demand, 0), Some(count));
-        if count == 2 {
-            assert!(rt; is_entry(&demand, 0, 0, SESSION, style, &[first], small));
-            assert!(rt; is_entry(&demand, 0, 1, SESSION, style, &[second], large));
-        } else {
-            assert!(rt; is_entry(&demand, 0, 0, SESSION, style, &[first, second], large));
-        }
-    }
+    let shared = StyleKind::Shared;
+    let joined = of_two_senders(rt.alloc(), &net, (shared, shared), (small, large)).ok_or("SE")?;
+    assert!(rt; owes(&joined, 0, &[(SESSION, shared, &[first, second], large)]));
     Ok(())
 }
 
@@ -232,39 +214,35 @@ fn styles_merge_toward_the_source(rt: HostRuntime) -> Result<(), Fail> {
 fn both_ends_send_and_receive(rt: HostRuntime) -> Result<(), Fail> {
     let a = 0x0a00_0101;
     let b = 0x0a00_0102;
-    let net = routing(
-        rt.alloc(),
-        2,
-        &[(0, a), (1, b)],
-        &[(0, 1)],
-        &[(GROUP.0, a, 0, 1), (GROUP.0, b, 1, 0)],
-    )?;
+    let pair = with_ends(rt.alloc(), 2, &[(0, a), (1, b)], &[(0, 1)]).ok_or("a pair")?;
+    let net = routing(pair, &[(GROUP.0, a, 0, 1), (GROUP.0, b, 1, 0)]).ok_or("trees")?;
     let small = flow(100, 100, 1, 1500).ok_or("flow")?;
     let large = flow(200, 200, 1, 1500).ok_or("flow")?;
-    let mut wants = Vec::new(rt.alloc());
-    wants.push(want(0, SESSION, StyleKind::Wild, &[], small)?)?;
-    wants.push(want(1, SESSION, StyleKind::Wild, &[], large)?)?;
     let demand = settled(
         rt.alloc(),
         &net,
         &[(0, SESSION, sender(a, 5004)), (1, SESSION, sender(b, 5004))],
-        wants,
-    )?;
-    assert_eq!(rt; net.longest(), 1);
-    for (end, addr, flow) in [(0usize, a, large), (1, b, small)] {
-        assert_eq!(rt; entries(&demand, end), Some(1));
-        assert!(rt;
-            is_entry(
-                &demand,
-                end,
-                0,
-                SESSION,
-                StyleKind::Wild,
-                &[sender(addr, 0)],
-                flow
-            )
-        );
-    }
+        &[
+            (0, SESSION, StyleKind::Wild, &[], small),
+            (1, SESSION, StyleKind::Wild, &[], large),
+        ],
+    )
+    .ok_or("a demand")?;
+    assert!(rt; net.longest() == 1);
+    assert!(rt;
+        owes(
+            &demand,
+            0,
+            &[(SESSION, StyleKind::Wild, &[sender(a, 0)], large)]
+        )
+    );
+    assert!(rt;
+        owes(
+            &demand,
+            1,
+            &[(SESSION, StyleKind::Wild, &[sender(b, 0)], small)]
+        )
+    );
     Ok(())
 }
 
@@ -287,106 +265,129 @@ fn source(i: u16) -> u32 {
 
 // Routers p and q (nodes 0 and 1), hosts s1 to s4 at p (nodes 2 to 5), t1 to t10 at p and t11 to t20 at q (nodes 6 to 25).
 // Link k has the ends 2k of a host and 2k + 1 of its router; the last link is that of p and q.
-fn conference(alloc: Global) -> Result<Routing, Fail> {
+fn rooms(alloc: Global) -> Option<Topology> {
     let mut ends = Vec::new(alloc);
     let mut links = Vec::new(alloc);
     for i in 1..5u16 {
-        let addr = 0x0a01_0001 + 256 * u32::from(i);
-        ends.push((1 + i, addr))?;
-        ends.push((0, addr + 1))?;
+        ends.push((1 + i, source(i))).ok()?;
+        ends.push((0, source(i) + 1)).ok()?;
     }
     for j in 1..21u16 {
         let addr = 0x0a02_0001 + 256 * u32::from(j);
-        ends.push((5 + j, addr))?;
-        ends.push((if j <= 10 { 0 } else { 1 }, addr + 1))?;
+        ends.push((5 + j, addr)).ok()?;
+        ends.push((if j <= 10 { 0 } else { 1 }, addr + 1)).ok()?;
     }
-    ends.push((0, 0x0a09_0001))?;
-    ends.push((1, 0x0a09_0002))?;
+    ends.push((0, 0x0a09_0001)).ok()?;
+    ends.push((1, 0x0a09_0002)).ok()?;
     for k in 0..25u16 {
-        links.push((2 * k, 2 * k + 1))?;
+        links.push((2 * k, 2 * k + 1)).ok()?;
     }
+    with_ends(alloc, 26, &ends, &links)
+}
+
+// The trees of both groups from each host s to each router and each host t.
+fn conference(alloc: Global) -> Option<Routing> {
     let mut hops = Vec::new(alloc);
     for group in [AUDIO.group.0, VIDEO.group.0] {
         for i in 1..5u16 {
-            hops.push((group, source(i), 2 * i - 2, 2 * i - 1))?;
-            hops.push((group, source(i), 48, 49))?;
+            hops.push((group, source(i), 2 * i - 2, 2 * i - 1)).ok()?;
+            hops.push((group, source(i), 48, 49)).ok()?;
             for j in 1..21u16 {
-                hops.push((group, source(i), 2 * j + 7, 2 * j + 6))?;
+                hops.push((group, source(i), 2 * j + 7, 2 * j + 6)).ok()?;
             }
         }
     }
-    routing(alloc, 26, &ends, &links, &hops)
+    routing(rooms(alloc)?, &hops)
+}
+
+// Each host s sends to both groups. Each host t wants the audio of all; t11 to t15 want the large video of s1, and t16 to t20 the
+// small video of s1 and s2.
+fn wanted(alloc: Global, net: &Routing, audio: Flow, small: Flow, large: Flow) -> Option<Demand> {
+    let mut senders = Vec::new(alloc);
+    for i in 1..5u16 {
+        senders.push((1 + i, AUDIO, sender(source(i), 5004))).ok()?;
+        senders.push((1 + i, VIDEO, sender(source(i), 5006))).ok()?;
+    }
+    let both = [sender(source(1), 5006), sender(source(2), 5006)];
+    let mut wants = Vec::new(alloc);
+    for j in 1..21u16 {
+        wants
+            .push(want(5 + j, AUDIO, StyleKind::Wild, &[], audio)?)
+            .ok()?;
+    }
+    for j in 11..16u16 {
+        wants
+            .push(want(5 + j, VIDEO, StyleKind::Shared, &both[..1], large)?)
+            .ok()?;
+    }
+    for j in 16..21u16 {
+        wants
+            .push(want(5 + j, VIDEO, StyleKind::Shared, &both, small)?)
+            .ok()?;
+    }
+    come_to(alloc, net, &senders, wants)
 }
 
 #[test]
 fn a_conference(rt: HostRuntime) -> Result<(), Fail> {
-    let net = conference(rt.alloc())?;
-    assert_eq!(rt; net.longest(), 3);
+    let net = conference(rt.alloc()).ok_or("a conference")?;
+    assert!(rt; net.longest() == 3);
     let audio = flow(8000, 16_000, 64, 1500).ok_or("flow")?;
     let small = flow(62_500, 125_000, 64, 1500).ok_or("flow")?;
     let large = flow(125_000, 250_000, 64, 1500).ok_or("flow")?;
-    let first = sender(source(1), 5006);
-    let second = sender(source(2), 5006);
-    let mut senders = Vec::new(rt.alloc());
-    for i in 1..5u16 {
-        senders.push((1 + i, AUDIO, sender(source(i), 5004)))?;
-        senders.push((1 + i, VIDEO, sender(source(i), 5006)))?;
-    }
-    let mut wants = Vec::new(rt.alloc());
-    for j in 1..21u16 {
-        wants.push(want(5 + j, AUDIO, StyleKind::Wild, &[], audio)?)?;
-        if j > 15 {
-            wants.push(want(5 + j, VIDEO, StyleKind::Shared, &[first, second], small)?)?;
-        } else if j > 10 {
-            wants.push(want(5 + j, VIDEO, StyleKind::Shared, &[first], large)?)?;
-        }
-    }
-    let demand = settled(rt.alloc(), &net, &senders, wants)?;
+    let demand = wanted(rt.alloc(), &net, audio, small, large).ok_or("a demand")?;
+    let both = [sender(source(1), 5006), sender(source(2), 5006)];
     let all = [
         sender(source(1), 0),
         sender(source(2), 0),
         sender(source(3), 0),
         sender(source(4), 0),
     ];
-    for (end, count) in [(48usize, 2usize), (2, 2), (4, 1), (39, 2)] {
-        assert_eq!(rt; entries(&demand, end), Some(count), "at {end}");
-    }
-    assert!(rt; is_entry(&demand, 48, 0, AUDIO, StyleKind::Wild, &all, audio));
+    let wild = StyleKind::Wild;
+    let shared = StyleKind::Shared;
     assert!(rt;
-        is_entry(
+        owes(
             &demand,
             48,
-            1,
-            VIDEO,
-            StyleKind::Shared,
-            &[first, second],
-            large
+            &[(AUDIO, wild, &all, audio), (VIDEO, shared, &both, large)]
         )
     );
-    assert!(rt; is_entry(&demand, 2, 0, AUDIO, StyleKind::Wild, &all[1..2], audio));
-    assert!(rt; is_entry(&demand, 2, 1, VIDEO, StyleKind::Shared, &[second], large));
-    assert!(rt; is_entry(&demand, 4, 0, AUDIO, StyleKind::Wild, &all[2..3], audio));
-    assert!(rt; is_entry(&demand, 39, 0, AUDIO, StyleKind::Wild, &all, audio));
     assert!(rt;
-        is_entry(
+        owes(
+            &demand,
+            2,
+            &[
+                (AUDIO, wild, &all[1..2], audio),
+                (VIDEO, shared, &both[1..], large)
+            ]
+        )
+    );
+    assert!(rt; owes(&demand, 4, &[(AUDIO, wild, &all[2..3], audio)]));
+    assert!(rt;
+        owes(
             &demand,
             39,
-            1,
-            VIDEO,
-            StyleKind::Shared,
-            &[first, second],
-            small
+            &[(AUDIO, wild, &all, audio), (VIDEO, shared, &both, small)]
         )
     );
     Ok(())
 }
 
-// Wants of two senders beyond one link of 10,000 bytes per second and an MTU of 1,500.
+// Whether wants of two senders fit beyond one link of 10,000 bytes per second and an MTU of 1,500.
+fn fit(
+    alloc: Global,
+    net: &Routing,
+    style: (StyleKind, StyleKind),
+    rate: u64,
+    most: u32,
+) -> Option<bool> {
+    let flows = (flow(4000, 4000, 64, 1500)?, flow(rate, 6000, 64, most)?);
+    Some(of_two_senders(alloc, net, style, flows)?.fits)
+}
+
 #[test]
 fn demands_fit_or_not(rt: HostRuntime) -> Result<(), Fail> {
-    let net = fork(rt.alloc())?;
-    let first = sender(S1, 5004);
-    let second = sender(S1, 5006);
+    let net = fork(rt.alloc()).ok_or("a fork")?;
     for (one, other, most, rate, fits) in [
         (StyleKind::Fixed, StyleKind::Fixed, 1500u32, 6000u64, true),
         (StyleKind::Fixed, StyleKind::Fixed, 1500, 6001, false),
@@ -394,28 +395,8 @@ fn demands_fit_or_not(rt: HostRuntime) -> Result<(), Fail> {
         (StyleKind::Shared, StyleKind::Shared, 1501, 6000, false),
         (StyleKind::Fixed, StyleKind::Shared, 1500, 6000, false),
     ] {
-        let mut wants = Vec::new(rt.alloc());
-        wants.push(want(
-            2,
-            SESSION,
-            one,
-            &[first],
-            flow(4000, 4000, 64, 1500).ok_or("flow")?,
-        )?)?;
-        wants.push(want(
-            3,
-            SESSION,
-            other,
-            &[second],
-            flow(rate, 6000, 64, most).ok_or("flow")?,
-        )?)?;
-        let demand = settled(
-            rt.alloc(),
-            &net,
-            &[(0, SESSION, first), (0, SESSION, second)],
-            wants,
-        )?;
-        assert_eq!(rt; demand.fits, fits, "{rate} and {most}");
+        let said = fit(rt.alloc(), &net, (one, other), rate, most);
+        assert!(rt; said == Some(fits), "{rate} and {most}");
     }
     Ok(())
 }

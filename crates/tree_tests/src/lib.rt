@@ -6,4 +6,6 @@
 #[cfg(test)]
 mod demands;
 #[cfg(test)]
+mod networks;
+#[cfg(test)]
 mod trees;
