@@ -30,6 +30,22 @@ fn is_part(part: &Part, ports: &[u16], flow: Flow) -> bool {
         && ports.iter().all(|port| part.senders.has(sender(*port)))
 }
 
+// Whether the entry of a unit is this part.
+fn has(parts: &Parts, unit: Unit, ports: &[u16], flow: Flow) -> bool {
+    match parts.get(unit) {
+        Some(part) => is_part(part, ports, flow),
+        None => false,
+    }
+}
+
+// Whether the entry at a place is this part.
+fn stands(parts: &Parts, place: usize, ports: &[u16], flow: Flow) -> bool {
+    match parts.at(place) {
+        Some(part) => is_part(&part, ports, flow),
+        None => false,
+    }
+}
+
 // The requests merged in turn. `None` where there is no room.
 fn merged<S: Style>(requests: &[(Part, bool)]) -> Option<Parts> {
     let mut merger = Merger::<S>::default();
@@ -42,69 +58,58 @@ fn merged<S: Style>(requests: &[(Part, bool)]) -> Option<Parts> {
     Some(merger.copy().finish())
 }
 
+// A request for the ports 5004 and 5006 each, merged.
+fn two_requests<S: Style>(small: Flow, large: Flow) -> Option<Parts> {
+    merged::<S>(&[
+        (part(&[5004], small)?, false),
+        (part(&[5006], large)?, false),
+    ])
+}
+
 #[test]
 fn fixed_parts_stay_apart_and_shared_ones_join(rt: HostRuntime) -> Result<(), Fail> {
     let small = flow(300, 300, 64, 1500).ok_or("small")?;
     let large = flow(500, 500, 64, 1500).ok_or("large")?;
-    let requests = [
-        (part(&[5004], small).ok_or("first")?, false),
-        (part(&[5006], large).ok_or("second")?, false),
-    ];
-
-    let fixed = merged::<Fixed>(&requests).ok_or("fixed")?;
-    assert_eq!(rt; fixed.len(), 2);
-    for (unit, ports, flow) in [
-        (Unit::Of(sender(5004)), [5004], small),
-        (Unit::Of(sender(5006)), [5006], large),
-    ] {
-        assert!(rt;
-            fixed
-                .get(unit)
-                .is_some_and(|part| is_part(part, &ports, flow))
-        );
-    }
-
-    let shared = merged::<Shared>(&requests).ok_or("shared")?;
-    assert_eq!(rt; shared.len(), 1);
+    let fixed = two_requests::<Fixed>(small, large).ok_or("fixed")?;
+    let shared = two_requests::<Shared>(small, large).ok_or("shared")?;
     assert!(rt;
-        shared
-            .at(0)
-            .is_some_and(|part| is_part(&part, &[5004, 5006], large))
+        fixed.len() == 2
+            && has(&fixed, Unit::Of(sender(5004)), &[5004], small)
+            && has(&fixed, Unit::Of(sender(5006)), &[5006], large)
     );
+    assert!(rt; shared.len() == 1 && stands(&shared, 0, &[5004, 5006], large));
     assert!(rt; shared.at(1).is_none());
     assert!(rt; fixed.is_same(&fixed.copy()) && !fixed.is_same(&shared));
     Ok(())
 }
 
+// Whether a deep and a fast request, each blockaded or not, merge to this flow.
+fn merge_to(is_deep_blockaded: bool, is_fast_blockaded: bool, expected: Flow) -> Option<bool> {
+    let whole = merged::<Wild>(&[
+        (part(&[0], flow(9, 20, 1, 1500)?)?, is_deep_blockaded),
+        (part(&[0], flow(10, 8, 4, 1000)?)?, is_fast_blockaded),
+    ])?;
+    Some(whole.len() == 1 && has(&whole, Unit::One, &[0], expected))
+}
+
+// Whether a request for nobody merges to nothing.
+fn nobody_merges_to_nothing() -> Option<bool> {
+    let whole = merged::<Wild>(&[(part(&[], flow(9, 20, 1, 1500)?)?, false)])?;
+    Some(whole.is_empty())
+}
+
 #[test]
 fn blockaded_requests_merge_to_their_meet(rt: HostRuntime) -> Result<(), Fail> {
-    let deep = flow(9, 20, 1, 1500).ok_or("deep")?;
-    let fast = flow(10, 8, 4, 1000).ok_or("fast")?;
-    let met = flow(9, 8, 4, 1000).ok_or("met")?;
-    let joined = flow(10, 20, 1, 1500).ok_or("joined")?;
-    for (first, second, expected) in [
-        (true, true, met),
-        (false, true, deep),
-        (true, false, fast),
-        (false, false, joined),
+    for (is_deep_blockaded, is_fast_blockaded, r, b, low, most) in [
+        (true, true, 9, 8, 4, 1000),
+        (false, true, 9, 20, 1, 1500),
+        (true, false, 10, 8, 4, 1000),
+        (false, false, 10, 20, 1, 1500),
     ] {
-        let parts = merged::<Wild>(&[
-            (part(&[0], deep).ok_or("first")?, first),
-            (part(&[0], fast).ok_or("second")?, second),
-        ]);
-        let whole = parts.ok_or("room")?;
-        assert_eq!(rt; whole.len(), 1);
-        assert!(rt;
-            whole
-                .get(Unit::One)
-                .is_some_and(|part| is_part(part, &[0], expected))
-        );
+        let expected = flow(r, b, low, most).ok_or("flow")?;
+        assert!(rt; merge_to(is_deep_blockaded, is_fast_blockaded, expected) == Some(true));
     }
-    assert!(rt;
-        merged::<Wild>(&[(part(&[], deep).ok_or("nobody")?, false)]).is_some_and(
-            |none| none.is_empty()
-        )
-    );
+    assert!(rt; nobody_merges_to_nothing() == Some(true));
     Ok(())
 }
 
@@ -135,8 +140,25 @@ fn each_style_lists_senders_and_keeps_units(rt: HostRuntime) {
             (StyleKind::Shared, sender(5004), Unit::One),
         ),
     ] {
-        assert_eq!(rt; listed, expected);
+        assert!(rt; listed == expected);
     }
+}
+
+// Whether a style joins and meets two parts to these flows and the senders of both, of which the first is not at most the second.
+fn joins_and_meets<S: Style>(one: &Part, other: &Part, joined: Flow, met: Flow) -> bool {
+    match pair::<S>(one, other) {
+        Some((join, meet, le)) => {
+            is_part(&join, &[1, 2, 3], joined) && is_part(&meet, &[1, 2, 3], met) && !le
+        }
+        None => false,
+    }
+}
+
+// The flow that is left of a part for these senders, and how many of them are left.
+fn left_for(one: &Part, ports: &[u16]) -> Option<(Flow, usize)> {
+    let names = part(ports, one.flow)?;
+    let left = cut(one, &names.senders)?;
+    Some((left.flow, left.senders.len()))
 }
 
 #[test]
@@ -147,31 +169,25 @@ fn joins_and_meets_have_the_senders_of_both(rt: HostRuntime) -> Result<(), Fail>
     let joined = flow(10, 20, 1, 1500).ok_or("joined")?;
     let one = part(&[1, 2], deep).ok_or("one")?;
     let other = part(&[2, 3], fast).ok_or("other")?;
-    for found in [
-        pair::<Wild>(&one, &other),
-        pair::<Fixed>(&one, &other),
-        pair::<Shared>(&one, &other),
-    ] {
-        let (join, meet, le) = found.ok_or("room")?;
-        assert!(rt; is_part(&join, &[1, 2, 3], joined) && is_part(&meet, &[1, 2, 3], met) && !le);
-    }
-    assert_eq!(rt; charge(&one), 9);
-
-    for (ports, left) in [([2, 7], Some([2])), ([7, 8], None)] {
-        let names = part(&ports, fast).ok_or("names")?;
-        let found = cut(&one, &names.senders);
-        match left {
-            Some(kept) => assert!(rt; found.is_some_and(|part| is_part(&part, &kept, deep))),
-            None => assert!(rt; found.is_none()),
-        }
-    }
+    assert!(rt;
+        joins_and_meets::<Wild>(&one, &other, joined, met)
+            && joins_and_meets::<Fixed>(&one, &other, joined, met)
+            && joins_and_meets::<Shared>(&one, &other, joined, met)
+    );
     Ok(())
 }
 
 #[test]
-fn lists_of_16_stand_in_order_and_have_no_17th(rt: HostRuntime) -> Result<(), Fail> {
-    let small = flow(1, 1, 1, 1).ok_or("small")?;
-    let large = flow(2, 1, 1, 1).ok_or("large")?;
+fn a_part_is_charged_its_rate_and_cut_to_senders_of_its_own(rt: HostRuntime) -> Result<(), Fail> {
+    let deep = flow(9, 20, 1, 1500).ok_or("deep")?;
+    let one = part(&[1, 2], deep).ok_or("one")?;
+    assert!(rt; charge(&one) == 9);
+    assert!(rt; left_for(&one, &[2, 7]) == Some((deep, 1)) && left_for(&one, &[7, 8]) == None);
+    Ok(())
+}
+
+// The lists of the ports 15 to 0, one after the other.
+fn sixteen(small: Flow) -> Option<(Parts, Upstream)> {
     let mut parts = Parts::default();
     let mut upstream = Upstream::default();
     for port in 0u16..16 {
@@ -180,51 +196,55 @@ fn lists_of_16_stand_in_order_and_have_no_17th(rt: HostRuntime) -> Result<(), Fa
             outward: port,
             wall: None,
         };
-        assert_eq!(rt;
-            parts.put(
-                Unit::Of(sender(15 - port)),
-                part(&[15 - port], small).ok_or("part")?
-            ),
-            Ok(())
-        );
-        assert_eq!(rt; upstream.add(line), Ok(()));
+        parts
+            .put(Unit::Of(sender(15 - port)), part(&[15 - port], small)?)
+            .ok()?;
+        upstream.add(line).ok()?;
     }
-    let wall = Some(Wall {
-        flow: large,
-        sub: 2,
-    });
+    Some((parts, upstream))
+}
+
+// The answer to one more part.
+fn put_one(parts: &mut Parts, unit: Unit, port: u16, flow: Flow) -> Option<Result<(), Full>> {
+    Some(parts.put(unit, part(&[port], flow)?))
+}
+
+#[test]
+fn sixteen_parts_stand_in_order_and_have_no_17th(rt: HostRuntime) -> Result<(), Fail> {
+    let small = flow(1, 1, 1, 1).ok_or("small")?;
+    let large = flow(2, 1, 1, 1).ok_or("large")?;
+    let (mut parts, _) = sixteen(small).ok_or("parts")?;
+    assert!(rt; put_one(&mut parts, Unit::One, 1, large) == Some(Err(Full)));
+    assert!(rt; put_one(&mut parts, Unit::Of(sender(3)), 3, large) == Some(Ok(())));
+    let copied = parts.copy();
+    assert!(rt;
+        copied.as_slice().len() == 16
+            && stands(&copied, 3, &[3], large)
+            && stands(&copied, 4, &[4], small)
+    );
+    assert!(rt; copied.at(16).is_none() && copied.get(Unit::One).is_none());
+    Ok(())
+}
+
+#[test]
+fn sixteen_lines_stand_in_order_and_have_no_17th(rt: HostRuntime) -> Result<(), Fail> {
+    let flow = flow(2, 1, 1, 1).ok_or("flow")?;
+    let (_, mut upstream) = sixteen(flow).ok_or("lines")?;
     let blockaded = UpLine {
         name: sender(3),
         outward: 5,
-        wall,
+        wall: Some(Wall { flow, sub: 2 }),
     };
     let strange = UpLine {
         name: sender(16),
         ..blockaded
     };
-    assert_eq!(rt;
-        parts.put(Unit::One, part(&[1], large).ok_or("part")?),
-        Err(Full)
-    );
-    assert_eq!(rt;
-        parts.put(Unit::Of(sender(3)), part(&[3], large).ok_or("part")?),
-        Ok(())
-    );
-    assert_eq!(rt; upstream.add(strange), Err(Full));
-    assert_eq!(rt; upstream.add(blockaded), Ok(()));
-
-    let copied = parts.copy();
-    assert_eq!(rt; copied.as_slice().len(), 16);
-    assert!(rt; copied.at(3).is_some_and(|part| is_part(&part, &[3], large)));
-    assert!(rt; copied.at(4).is_some_and(|part| is_part(&part, &[4], small)));
-    assert!(rt; copied.at(16).is_none() && copied.get(Unit::One).is_none());
-
+    assert!(rt; upstream.add(strange) == Err(Full));
+    assert!(rt; upstream.add(blockaded) == Ok(()));
     let known = upstream.copy();
-    assert_eq!(rt; known.len(), 16);
-    assert!(rt; !known.is_empty() && known.as_slice().len() == 16);
-    assert_eq!(rt; known.at(3), Some(blockaded));
-    assert_eq!(rt; known.at(16), None);
-    assert_eq!(rt; known.get(sender(3)).copied(), Some(blockaded));
+    assert!(rt; !known.is_empty() && known.len() == 16 && known.as_slice().len() == 16);
+    assert!(rt; known.at(3) == Some(blockaded) && known.at(16) == None);
+    assert!(rt; known.get(sender(3)).copied() == Some(blockaded));
     assert!(rt; known.get(sender(16)).is_none());
     Ok(())
 }
