@@ -7,3 +7,4 @@ pub mod Sets
 pub mod Marked
 pub mod Unmarked
 pub mod Used
+pub mod Idle

@@ -1,14 +1,18 @@
 //! What goes toward a previous hop.
-ghost use Rattle.std.specs.Prelude.{◌≡◌, ℕ};
+ghost use Rattle.std.specs.Prelude.{◌≡◌, ℕ, [], true};
+ghost use Rattle.std.specs.List.{list_any};
 ghost use Rattle.node_sends.specs.State.{Said, facts_of};
-ghost use Rattle.rsvp_base.specs.Table.{keys};
+ghost use Rattle.rsvp_base.specs.Table.{empty, keys};
 ghost use Rattle.router_rules.specs.Asking.{first_of};
+ghost use Rattle.router_rules.specs.Requests.{is_style};
 ghost use Rattle.router_rules.specs.Sends.{handle_for};
 ghost use Rattle.style_rules.specs.Lines.{NextHop};
 ghost use Rattle.lane_wishes.specs.Handles.{handle_in};
+ghost use Rattle.lane_wishes.specs.Taking.{rows_of};
 ghost use Rattle.node_sends.specs.Seen.{hop_seen, lane_of, names_seen, own_at, toward_at, up_at};
 ghost use Rattle.node_tables.specs.Whole.{state_of};
 
+use local_state::LocalWant;
 use node_tables::Tables;
 use node_telling::{name_of, upstream};
 use path_state::PathFact;
@@ -48,9 +52,36 @@ fn merged(
     }
 }
 
-/// What goes toward a previous hop of a session, of a style: of each unit the join of the requests that are not blockaded, or
-/// the meet of all where all are (RFC 2205, 2.2 and 3.5).
-pub fn toward(tables: &Tables, session: Session, style: StyleKind, hop: (u8, Addr)) -> Parts
+// Whether a session has no reservation of a style.
+fn has_no_resv(tables: &Tables, session: Session, style: StyleKind) -> bool
+    ensures { result ≡ true → rows_of style tables.now session ≡ [] }
+{
+    match style {
+        StyleKind::Wild => tables.wild.first(session).is_none(),
+        StyleKind::Fixed => tables.fixed.first(session).is_none(),
+        StyleKind::Shared => tables.shared.first(session).is_none(),
+    }
+}
+
+// Whether one of these wants is of a style.
+fn any_of_style(wants: &[LocalWant], style: StyleKind) -> bool
+    ensures { result ≡ list_any (λ w. is_style w.style style) wants.now }
+{
+    wants.iter().any(|want| want.style == style)
+}
+
+// Whether nothing asks for data in a session and style: it has no want and no reservation of the style.
+fn is_idle(tables: &Tables, session: Session, style: StyleKind) -> bool
+    ensures { result ≡ true → (c : ℕ) (said : Said) (hop : NextHop) → empty ≡ toward_at c (state_of tables.now said) session style hop }
+{
+    if any_of_style(tables.wants.of(session), style) {
+        return false;
+    }
+    has_no_resv(tables, session, style)
+}
+
+// What goes toward a previous hop, as it is worked out from all that asks for data.
+fn worked_out(tables: &Tables, session: Session, style: StyleKind, hop: (u8, Addr)) -> Parts
     ensures { (c : ℕ) (said : Said) → result ≡ toward_at c (state_of tables.now said) session style hop }
 {
     let up = upstream(
@@ -64,6 +95,18 @@ pub fn toward(tables: &Tables, session: Session, style: StyleKind, hop: (u8, Add
     let names = names_via(tables, session, style, hop);
     let own = tables.wants.own(session, style, &names);
     merged(tables, session, style, hop, &up, &own)
+}
+
+/// What goes toward a previous hop of a session, of a style: of each unit the join of the requests that are not blockaded, or
+/// the meet of all where all are (RFC 2205, 2.2 and 3.5).
+pub fn toward(tables: &Tables, session: Session, style: StyleKind, hop: (u8, Addr)) -> Parts
+    ensures { (c : ℕ) (said : Said) → result ≡ toward_at c (state_of tables.now said) session style hop }
+{
+    // Most often a session has one style.
+    if is_idle(tables, session, style) {
+        return Parts::new();
+    }
+    worked_out(tables, session, style, hop)
 }
 
 // The handle that a path's hop gave.
