@@ -95,6 +95,11 @@ forgets_none said l off = sym (without_absent lane_keys said l (by (get said l) 
     by None e = refl
     by (Some t) e = cc
 
+-- and keeps all, whether a path comes from its hop or none does
+pub keeps_none : (b : Bool) (said : Said) (l : Lane) → has said l ≡ false → said ≡ cond b (told_at said l empty) said
+keeps_none true said l off = forgets_none said l off
+keeps_none false said l off = refl
+
 -- a step of a loop over the hops
 module _ (t : Tables) (first : Said) (s : Session) (st : StyleKind) (list : List NextHop) (i : ℕ) (d : NextHop) (h : i < length list) (said : Said) (done : IsCleared (state_of t first) s (lanes_of st (take i list)) said) where
   pub step_cleared : AreByKey t.paths.facts → IsCleared (state_of t first) s (lanes_of st (take (i + 1) list)) (cleared_of t said s (st, slice_index_or list i d))

@@ -119,3 +119,8 @@ pub nothing_asked : (st : StyleKind) → ask_of st empty ≡ None
 nothing_asked Wild = refl
 nothing_asked Fixed = refl
 nothing_asked Shared = refl
+
+-- ---- where nothing was said nothing is torn down
+pub nothing_torn : (c : ℕ) (n : State) (l : Lane) → [] ≡ torn_seen c n l empty
+unfolding torn_seen
+nothing_torn c n l = refl

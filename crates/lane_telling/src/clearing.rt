@@ -22,8 +22,8 @@ fn forget_lane(said: &mut LaneTable, session: Session, style: StyleKind, hop: (u
     }
 }
 
-// Forgets what was said to a lane, where no path comes from its hop.
-fn clear_lane(
+// Forgets what was said to a lane, where no path comes from its hop: of a lane to which something may have been said.
+fn clear_said(
     tables: &Tables,
     said: &mut LaneTable,
     session: Session,
@@ -34,6 +34,21 @@ fn clear_lane(
 {
     if tables.paths.senders_via(session, hop.0, hop.1).is_empty() {
         forget_lane(said, session, style, hop);
+    }
+}
+
+// Forgets what was said to a lane, where no path comes from its hop. The hop is not looked up where nothing was said.
+fn clear_lane(
+    tables: &Tables,
+    said: &mut LaneTable,
+    session: Session,
+    style: StyleKind,
+    hop: (u8, Addr),
+)
+    ensures { said.new ≡ cleared_of tables.now said.old session (style, hop) }
+{
+    if said.find(session, style, hop).is_some() {
+        clear_said(tables, said, session, style, hop);
     }
 }
 

@@ -19,7 +19,7 @@ use node_telling::Outbox;
 use path_state::Hops;
 use rsvp_base::{Addr, Sender, Session, StyleKind};
 
-// The ResvTear of a lane, of what was said there.
+// The ResvTear of a lane, of what was said there. Where that is nothing, what goes there is not worked out.
 fn tear_lane<O: Outbox>(
     tables: &Tables,
     said: &LaneTable,
@@ -30,8 +30,10 @@ fn tear_lane<O: Outbox>(
 )
     ensures { (c : ℕ) (any : Said) → out.new ≡ fold O.posted out.old (torn_by c (state_of tables.now any) said.now session (style, hop)) }
 {
-    let was = said.said(session, style, hop);
-    tell_torn(tables, session, style, hop, &was, out);
+    let Some(was) = said.find(session, style, hop) else {
+        return;
+    };
+    tell_torn(tables, session, style, hop, was, out);
 }
 
 // The ResvTears of the lanes of a style toward these hops, of what was said there.

@@ -1,16 +1,9 @@
-use Rattle.std.proofs.Common.{sym, ap, ◌∙◌, cond}
-use Rattle.std.proofs.lemmas.Bool.{both_ways}
+use Rattle.std.proofs.Common.{is_some, sym, ap, ◌∙◌}
+use Rattle.path_state.specs.Paths.{via}
 use Rattle.rsvp_base.specs.Sets.{is_none}
-use Rattle.rsvp_base.specs.Table.{empty}
-use Rattle.lane_state.specs.Lanes.{lane_at, told}
-use Rattle.lane_telling.proofs.Said.{is_nobody, is_somebody}
+use Rattle.lane_state.specs.Lanes.{lane_at}
+use Rattle.lane_telling.proofs.Cleared.{copied_there, keeps_none}
 use Rattle.lane_telling.proofs.clearing.clear_lane.Goals as goal
 
-pub returns-then-is_empty : goal.returns-then-is_empty
-returns-then-is_empty c =
-    c.forget_lane.ensures
-    ∙ sym (ap (λ b. cond b (told c.args.said.now (lane_at (c.args.session, (c.args.style, c.args.hop))) empty) c.args.said.now) (ap is_none (sym c.senders_via.ensures) ∙ is_nobody c.senders_via.result (c.is_empty.ensures.0 c.if-is_empty.true)))
-
-pub returns-else-is_empty : goal.returns-else-is_empty
-returns-else-is_empty c =
-    sym (ap (λ b. cond b (told c.args.said.now (lane_at (c.args.session, (c.args.style, c.args.hop))) empty) c.args.said.now) (ap is_none (sym c.senders_via.ensures) ∙ is_somebody c.senders_via.result (λ none. both_ways _ c.if-is_empty.false (c.is_empty.ensures.1 none))))
+pub returns-else-is_some : goal.returns-else-is_some
+returns-else-is_some c = keeps_none (is_none (via c.args.tables.now.paths.facts c.args.session c.args.hop.0 c.args.hop.1)) c.args.said.now (lane_at (c.args.session, (c.args.style, c.args.hop))) (ap is_some (sym c.find.ensures) ∙ copied_there c.find.result ∙ sym c.is_some.ensures ∙ c.if-is_some.false)
