@@ -8,7 +8,7 @@ ghost use Rattle.node_facts.specs.State.{resv_at};
 ghost use Rattle.resv_book.specs.Dying.{IsBookBut, IsBookButWith};
 ghost use Rattle.resv_book.specs.Kept.{IsBookOf, facts_with};
 
-use crate::renewing::{flow_of, look, renew};
+use crate::renewing::{flow_at, look, renew};
 use admission_book::Book;
 use resv_state::{ResvFact, ResvTable};
 use rsvp_base::EntryKey;
@@ -48,7 +48,7 @@ pub fn pull_dead<S: Style>(table: &mut ResvTable<S>, book: &mut Book) -> Option<
         style,
         unit: gone.part.unit(style),
     };
-    let now = flow_of(&table.parts(gone.session, gone.iface), key.unit);
+    let now = flow_at(table, gone.session, gone.iface, key.unit);
     renew(book, gone.iface, &key, now);
     Some(gone)
 }

@@ -1,10 +1,15 @@
 //! Entries are worked out anew.
 ghost use Rattle.std.specs.Prelude.{◌≡◌, ◌≤◌, ℕ, true, length};
 ghost use Rattle.admission_book.specs.Within.{IsWithin};
+ghost use Rattle.resv_state.specs.Merging.{parts_on};
 ghost use Rattle.resv_state.specs.Resvs.{AreOfStyle, resv_lines};
+ghost use Rattle.resv_state.specs.Walks.{rests};
+ghost use Rattle.rsvp_base.specs.Orders.{sessions};
 ghost use Rattle.rsvp_base.specs.Table.{get, keys};
+ghost use Rattle.rsvp_base.specs.Under.{under};
 ghost use Rattle.rsvp_base.specs.declared.entry_key.EntryKey.{EntryKey};
 ghost use Rattle.style_rules.specs.Limits.{IsWithinLimits};
+ghost use Rattle.style_rules.specs.Merge.{merge};
 ghost use Rattle.resv_book.specs.Kept.{flow_in};
 ghost use Rattle.resv_book.specs.Renewed.{AreRenewed, IsNoMore, entry_in, is_key, is_named, is_place};
 
@@ -53,6 +58,19 @@ pub(crate) fn flow_of(parts: &Parts, unit: Unit) -> Option<Flow>
         Some(part) => Some(part.flow),
         None => None,
     }
+}
+
+// The flow of a unit of a session's parts on an interface. The room of the parts is taken here, and not by a caller who finds
+// nothing to work out.
+pub(crate) fn flow_at<S: Style>(
+    table: &ResvTable<S>,
+    session: Session,
+    iface: u8,
+    unit: Unit,
+) -> Option<Flow>
+    ensures { result ≡ flow_in (get (merge S.kind_is (parts_on iface (under sessions rests table.now.facts session).rows)) unit) }
+{
+    flow_of(&table.parts(session, iface), unit)
 }
 
 // An entry of a table's style, on all interfaces.

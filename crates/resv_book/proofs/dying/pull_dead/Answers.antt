@@ -26,10 +26,10 @@ renew-requires g c =
     let m = c.args.table.now.facts in
     let unit = c.unit.ensures ∙ ap (λ (z : StyleKind). part_unit z d.part) c.kind-style.ensures in
     let same : ◌≡◌ {A = EntryKey} (record { session = d.session; style = c.kind-style.result; unit = c.unit.result }) (entry_key_of st d) = λ i. record { session = d.session; style = c.kind-style.ensures i; unit = unit i } in
-    let now : c.flow_of-now.result ≡ entry_in st m d.iface (entry_key_of st d) =
-    c.flow_of-now.ensures ∙ (λ i. flow_in (get (c.parts.ensures i) (unit i)))
+    let now : c.flow_at-now.result ≡ entry_in st m d.iface (entry_key_of st d) =
+    c.flow_at-now.ensures ∙ ap (λ u. flow_in (get (merge st (parts_on d.iface (under sessions rests c.pull_dead.new.self.facts d.session).rows)) u)) unit
     ∙ ap (λ (t : ResvMap). flow_in (get (merge st (parts_on d.iface (under sessions rests t.facts d.session).rows)) (part_unit st d.part))) c.in-Some.ensures.pulled in
-    subst (λ (k : EntryKey). IsNoMore c.flow_of-now.result (get c.args.book.now.entries (d.iface, k))) (sym same)
+    subst (λ (k : EntryKey). IsNoMore c.flow_at-now.result (get c.args.book.now.entries (d.iface, k))) (sym same)
     (subst (λ w. IsNoMore w (get c.args.book.now.entries (d.iface, entry_key_of st d))) (sym now)
     (pulls_less st c.args.table.now.facts c.look.ensures.style c.args.table.now.dead d c.args.book.now.entries c.requires.kept))
 
@@ -40,11 +40,11 @@ returns-clause-book g c b f is but =
     let m = c.args.table.now.facts in
     let unit = c.unit.ensures ∙ ap (λ (z : StyleKind). part_unit z d.part) c.kind-style.ensures in
     let same : ◌≡◌ {A = EntryKey} (record { session = d.session; style = c.kind-style.result; unit = c.unit.result }) (entry_key_of st d) = λ i. record { session = d.session; style = c.kind-style.ensures i; unit = unit i } in
-    let now : c.flow_of-now.result ≡ entry_in st m d.iface (entry_key_of st d) =
-    c.flow_of-now.ensures ∙ (λ i. flow_in (get (c.parts.ensures i) (unit i)))
+    let now : c.flow_at-now.result ≡ entry_in st m d.iface (entry_key_of st d) =
+    c.flow_at-now.ensures ∙ ap (λ u. flow_in (get (merge st (parts_on d.iface (under sessions rests c.pull_dead.new.self.facts d.session).rows)) u)) unit
     ∙ ap (λ (t : ResvMap). flow_in (get (merge st (parts_on d.iface (under sessions rests t.facts d.session).rows)) (part_unit st d.part))) c.in-Some.ensures.pulled in
     let renewed : AreRenewed (is_place d.iface (entry_key_of st d)) (λ i k. entry_in st m d.iface (entry_key_of st d)) c.args.book.now.entries c.renew.new.book.entries =
     subst (λ w. AreRenewed (is_place d.iface (entry_key_of st d)) (λ i k. w) c.args.book.now.entries c.renew.new.book.entries) now
-    (subst (λ (k : EntryKey). AreRenewed (is_place d.iface k) (λ i q. c.flow_of-now.result) c.args.book.now.entries c.renew.new.book.entries) same c.renew.ensures.entries) in
+    (subst (λ (k : EntryKey). AreRenewed (is_place d.iface k) (λ i q. c.flow_at-now.result) c.args.book.now.entries c.renew.new.book.entries) same c.renew.ensures.entries) in
     subst (λ (t : ResvMap). IsBookBut st t.dead f c.renew.new.book.entries) (sym c.in-Some.ensures.pulled)
     (pulls st m c.look.ensures.style c.args.table.now.dead d b f c.args.book.now.entries c.renew.new.book.entries is renewed but)
