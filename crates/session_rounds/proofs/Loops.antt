@@ -1,24 +1,27 @@
 -- Steps of the loops over sessions.
-use Rattle.std.specs.Prelude.{◌≡◌, ℕ, ◌+◌, ◌<◌, ◌&&◌, Bool, true, false, not, List, [], ◌∷◌, ◌++◌, map as each, fold, length, take, get_or, slice_get, Some, None, zero, suc, refl}
+use Rattle.std.specs.Prelude.{◌≡◌, ℕ, nat_lt, ◌+◌, ◌<◌, ◌&&◌, Bool, true, false, not, List, [], ◌∷◌, ◌++◌, map as each, fold, length, take, get_or, slice_get, Some, None, zero, suc, refl}
 use Rattle.std.specs.List.{flat_map}
-use Rattle.std.proofs.Common.{sym, ap, subst, ◌∙◌, arith}
+use Rattle.std.proofs.Common.{sym, ap, subst, inl, ⊎_elim, ◌∙◌, arith}
 use Rattle.std.proofs.lemmas.List.{map-append, take_more}
 use Rattle.path_state.specs.Paths.{HopSet, hops_by}
 use Rattle.rsvp_base.specs.Orders.{senders, sessions, units}
 use Rattle.rsvp_base.specs.Sets.{Set}
-use Rattle.rsvp_base.specs.Table.{changed, empty, keys}
+use Rattle.rsvp_base.specs.Table.{changed, empty, get, has, keys, size}
 use Rattle.blockade_state.specs.Touched.{Marks, is_touched}
 use Rattle.rsvp_base.specs.Under.{under}
 use Rattle.rsvp_base.specs.declared.session.Session.{Session}
 use Rattle.rsvp_base.proofs.Changed.{unchanged}
+use Rattle.router_lookups.proofs.Requesting.{nowhere}
 use Rattle.router_rules.specs.Facts.{Want, Wants, want_keys}
 use Rattle.router_rules.specs.Inputs.{Send}
+use Rattle.router_rules.specs.Known.{Lane, lanes}
 use Rattle.router_rules.specs.NodeConfig.{is_session}
+use Rattle.style_rules.specs.Merge.{PartTable}
 use Rattle.router_rules.specs.Requests.{toward}
-use Rattle.node_facts.specs.State.{Said, State, facts_of}
+use Rattle.node_facts.specs.State.{Said, State, facts_of, said_at}
 use Rattle.node_sends.specs.Before.{lanes_by}
 use Rattle.node_sends.specs.Marks.{unmarked_in, used_in}
-use Rattle.node_sends.specs.Saying.{IsRoomy, IsTold, SessionLane, lane_by}
+use Rattle.node_sends.specs.Saying.{IsCleared, IsRoomy, IsTold, SessionLane, lane_by}
 use Rattle.node_sends.specs.SendsHere.{hops_in}
 use Rattle.waiting_sends.specs.Several.{is_among}
 use Rattle.node_waiting.proofs.Offers.{told_more}
@@ -28,7 +31,7 @@ use Rattle.lane_wishes.specs.Wishes.{used_seen}
 use Rattle.lane_telling.specs.Rounds.{IsStill, renewed_by, told_by, torn_by}
 use Rattle.lane_telling.proofs.Sent.{hops_are}
 use Rattle.lane_telling.proofs.Still.{still_marked, still_told, still_torn}
-use Rattle.round_laws.specs.Rounds.{AreTold, told_round, torn_near, unmarked_among, wants_once, wants_told}
+use Rattle.round_laws.specs.Rounds.{AreCleared, AreTold, SessionHops, told_round, torn_near, unmarked_among, wants_once, wants_told}
 use Rattle.round_laws.proofs.Telling.{later, once_any, once_more, told_any, told_same, toward_kept}
 use Rattle.round_laws.proofs.Telling.{told_more as lanes_told}
 use Rattle.session_rounds.specs.Nears.{NearTable, near_row}
@@ -63,6 +66,21 @@ module _ (t : Tables) (said : Said) (s : Session) (still : IsStill (state_of t s
 
   pub still_is_told : (es : List SessionLane) → IsTold (state_of t said) s es said
   still_is_told es = record { here = λ c e i. still c e; rest = λ l out. refl }
+
+  -- nothing is to be cleared there, also once lanes of others were cleared
+  pub still_is_cleared : (es : List SessionLane) → ((l : Lane) (p : PartTable) → get said l ≡ Some p → nat_lt 0 (size p) ≡ true) → IsCleared (state_of t said) s es said
+  still_is_cleared es full = record {
+    at = λ c l. inl refl;
+    gone = λ c e i off. still c e ∙ nowhere t.config (facts_of c (state_of t said)) (lane_by s e) off;
+    some = full;
+  }
+
+  pub still_later : (es : List SessionHops) (new : Said) → AreCleared (state_of t said) es new → IsStill (state_of t new) s new
+  still_later es new cleared d e =
+      ⊎_elim
+      (λ (a : said_at new (lane_by s e) ≡ said_at said (lane_by s e)). a ∙ still d e)
+      (λ (b : (said_at new (lane_by s e) ≡ empty) × (has (lanes (facts_of d (state_of t said))) (lane_by s e) ≡ false)). b.0 ∙ sym (nowhere t.config (facts_of d (state_of t said)) (lane_by s e) b.1))
+      (cleared.at d (lane_by s e))
 
   pub still_once : (c : ℕ) → t ≡ record t { wants = wants_once c (state_of t said) said s }
   unfolding wants_once

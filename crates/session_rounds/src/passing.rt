@@ -58,6 +58,6 @@ pub fn pass_time<O: Outbox>(
     tell_dead(&tables.config, &tables.senders, &rooms.dead, out);
     tear_all(tables, said, &rooms.nears, due, &touched, out);
     tell_fired(&tables.config, &tables.senders, &tables.paths, &fired, out);
-    clear_all(tables, said, &rooms.nears);
+    clear_all(tables, said, &rooms.nears, due, &touched);
     tell_all(tables, said, &rooms.nears, due, &touched, out);
 }

@@ -7,7 +7,7 @@ ghost use Rattle.router_rules.specs.Known.{Lane};
 ghost use Rattle.style_rules.specs.Merge.{PartTable};
 ghost use Rattle.node_facts.specs.State.{facts_of};
 ghost use Rattle.node_sends.specs.Before.{lanes_by};
-ghost use Rattle.node_sends.specs.Saying.{IsRoomy, IsTold};
+ghost use Rattle.node_sends.specs.Saying.{IsCleared, IsRoomy, IsTold};
 ghost use Rattle.node_sends.specs.SendsHere.{hops_in};
 ghost use Rattle.waiting_sends.specs.Several.{is_among};
 ghost use Rattle.node_tables.specs.Whole.{state_of};
@@ -71,15 +71,38 @@ pub(crate) fn tear_all<O: Outbox>(
     }
 }
 
-// Forgets what was said to the sessions' lanes toward the hops that they had, where no path comes from the hop any more.
-pub(crate) fn clear_all(tables: &Tables, said: &mut LaneTable, nears: &Nears)
-    requires { (l : Lane) (t : PartTable) → get said.old l ≡ Some t → nat_lt 0 (size t) ≡ true }
+// Forgets what was said to a session's lanes toward the hops that it had, where no path comes from the hop any more; there is
+// nothing to forget where that is what goes there.
+fn clear_session(tables: &Tables, said: &mut LaneTable, near: &Near, still: bool)
+    requires full { (l : Lane) (t : PartTable) → get said.old l ≡ Some t → nat_lt 0 (size t) ≡ true }
+    requires still { still ≡ true → IsStill (state_of tables.now said.old) near.now.session said.old }
+    ensures { IsCleared (state_of tables.now said.old) near.now.session (lanes_by (keys near.now.hops)) said.new }
+{
+    if still {
+        return;
+    }
+    clear_lanes(tables, said, near.session, &near.hops);
+}
+
+// Forgets what was said to the sessions' lanes toward the hops that they had, where no path comes from the hop any more. Where
+// a session is only due, what was said to its lanes is what goes there, and no hop is looked up.
+pub(crate) fn clear_all(
+    tables: &Tables,
+    said: &mut LaneTable,
+    nears: &Nears,
+    due: &[Session],
+    touched: &Touched,
+)
+    requires full { (l : Lane) (t : PartTable) → get said.old l ≡ Some t → nat_lt 0 (size t) ≡ true }
+    requires still { AreStill (state_of tables.now said.old) said.old due.now touched.now }
     ensures { AreCleared (state_of tables.now said.old) nears.now.rows said.new }
 {
     let list = nears.as_slice();
     for i in 0..list.len() {
         let near = &list[i];
-        clear_lanes(tables, said, near.session, &near.hops);
+        let is_due = is_one_of(due, near.session);
+        let still = is_still(is_due, touched, near.session);
+        clear_session(tables, said, near, still);
     }
 }
 

@@ -39,8 +39,15 @@ tear_all-requires g c =
     let due = c.as_slice-due.ensures.sessions ∙ ap (λ (z : Set sessions). keys z) c.age_all-fired.ensures.fired in
     still_first c.args.tables.now c.args.said.now c.args.ms c.args.word c.requires.settled c.requires.said c.requires.short c.forget_all.new.tables now c.as_slice-due.result.now c.age_all-fired.new.touched due touched
 
-pub clear_all-requires : goal.clear_all-requires
-clear_all-requires g c = c.requires.said.some
+pub clear_all-requires-clause-full : goal.clear_all-requires-clause-full
+clear_all-requires-clause-full g c = c.requires.said.some
+
+pub clear_all-requires-clause-still : goal.clear_all-requires-clause-still
+clear_all-requires-clause-still g c =
+    let now : state_of c.forget_all.new.tables c.args.said.now ≡ passed c.args.ms c.args.word (state_of c.args.tables.now c.args.said.now) = c.forget_all.ensures.state c.args.said.now ∙ (λ i. after_wait (c.age_all-fired.ensures.dead i) (c.age_all-fired.ensures.state c.args.said.now i)) in
+    let touched : c.age_all-fired.new.touched ≡ touched_by (all_dying c.args.ms c.args.tables.now) (changed unmarked c.args.tables.now.due) = c.age_all-fired.ensures.touched ∙ ap (touched_by (all_dying c.args.ms c.args.tables.now)) c.watch_all-touched.ensures in
+    let due = c.as_slice-due.ensures.sessions ∙ ap (λ (z : Set sessions). keys z) c.age_all-fired.ensures.fired in
+    still_first c.args.tables.now c.args.said.now c.args.ms c.args.word c.requires.settled c.requires.said c.requires.short c.forget_all.new.tables now c.as_slice-due.result.now c.age_all-fired.new.touched due touched
 
 pub tell_all-requires-clause-roomy : goal.tell_all-requires-clause-roomy
 tell_all-requires-clause-roomy g c =
