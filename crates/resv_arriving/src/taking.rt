@@ -28,7 +28,8 @@ use rsvp_messages::{Ask, ResvMsg};
 use style_rules::Parts;
 
 /// What came of a Resv: what became of its units, with the refusals in the order in which they go back to the next hop; what is
-/// heard; and what was taken, as it is to be confirmed where the message wishes for that.
+/// heard; and what was taken, as it is to be confirmed where the message wishes for that. Where it does not, nothing is said of
+/// the last.
 #[derive(Drop)]
 pub struct Answer {
     pub done: Taken,
@@ -83,19 +84,31 @@ pub fn take_resv(tables: &mut Tables, iface: u8, message: &ResvMsg, answer: &mut
 {
     take_or_refuse(tables, iface, message, &mut answer.done);
     let style = style_of(&message.ask);
-    answer.taken = wished(message.confirm, style, &answer.done.parts);
+    note_taken(
+        &mut answer.taken,
+        message.confirm,
+        style,
+        &answer.done.parts,
+    );
     answer.done.errors.sort();
     answer.heard = heard_of(&answer.done.errors, answer.done.left_out);
 }
 
-// What was taken, where someone wants to hear of it.
-fn wished(confirm: Option<Addr>, style: StyleKind, parts: &Parts) -> Option<Ask>
-    ensures { (o : AskerOf) → o.confirm ≡ confirm → asked_of o result o.confirm ≡ asked_of o (ask_of style parts.now) o.confirm }
+// Notes what was taken, where someone wants to hear of it. Where nobody does, nobody reads what stands there.
+fn note_taken(taken: &mut Option<Ask>, confirm: Option<Addr>, style: StyleKind, parts: &Parts)
+    ensures { (o : AskerOf) → o.confirm ≡ confirm → asked_of o taken.new o.confirm ≡ asked_of o (ask_of style parts.now) o.confirm }
 {
     match confirm {
-        Some(_) => ask_of(style, parts),
-        None => None,
+        Some(_) => put_taken(taken, style, parts),
+        None => {}
     }
+}
+
+// Notes what was taken.
+fn put_taken(taken: &mut Option<Ask>, style: StyleKind, parts: &Parts)
+    ensures { taken.new ≡ ask_of style parts.now }
+{
+    *taken = ask_of(style, parts);
 }
 
 // The style of what is asked for.

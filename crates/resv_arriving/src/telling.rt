@@ -22,9 +22,22 @@ pub fn tell_refusals<O: Outbox>(
 {
     let list = errors.as_slice();
     for i in 0..list.len() {
-        let error = error_of(config, iface, message, &list[i]);
-        out.post(iface, message.hop.addr, error, false);
+        tell_refusal(config, iface, message, &list[i], out);
     }
+}
+
+// One refusal goes back. The room of its message is taken here, and not where there is none to tell.
+fn tell_refusal<O: Outbox>(
+    config: &Config,
+    iface: u8,
+    message: &ResvMsg,
+    refusal: &Refusal,
+    out: &mut O,
+)
+    ensures { (c : ℕ) → out.new ≡ O.posted out.old (error_send (refusal_of config.now (asker_of config.now c iface message.now) refusal.now)) }
+{
+    let error = error_of(config, iface, message, refusal);
+    out.post(iface, message.hop.addr, error, false);
 }
 
 // The ResvErr of a refusal: of this node, with the style and the flow that were asked for.

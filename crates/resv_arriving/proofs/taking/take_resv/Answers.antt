@@ -15,4 +15,4 @@ returns-clause-answer c = λ clock said.
     let o : AskerOf = asker_of p clock c.args.iface m in
     let done = c.take_or_refuse.new.done in
     answer_is p o done (taking p clock c.args.iface m f) f _ (c.take_or_refuse.ensures.done clock said) c.sort.ensures (c.heard_of-answer.ensures p o)
-    (c.wished-answer.ensures o refl ∙ ap (λ z. asked_of o (ask_of z done.parts) o.confirm) c.style_of-style.ensures)
+    (c.note_taken.ensures o refl ∙ ap (λ z. asked_of o (ask_of z done.parts) o.confirm) c.style_of-style.ensures)

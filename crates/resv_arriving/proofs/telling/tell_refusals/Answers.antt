@@ -1,4 +1,4 @@
-use Rattle.std.proofs.Common.{false, ◌∙◌}
+use Rattle.std.proofs.Common.{◌∙◌}
 use Rattle.router_rules.specs.Asking.{Asker as AskerOf}
 use Rattle.router_rules.specs.Asking.{asker_of}
 use Rattle.router_rules.specs.Sends.{error_send}
@@ -12,5 +12,5 @@ loop-i-preserved g c =
     let p = c.args.config.now in
     let m = c.args.message.now in
     let o : AskerOf = asker_of p 0 c.args.iface m in
-    c.post.ensures ∙ (λ i. g.O.Outbox.posted c.loop-i.out (record { iface = c.args.iface; dst = m.hop.addr; message = c.error_of-error.ensures 0 i; refresh = false }))
+    c.tell_refusal.ensures 0
     ∙ posted_more g.O.Outbox.posted (λ (r : Refusal). error_send (refusal_of p o r)) c.args.out.now c.loop-i.out c.as_slice-list.result.now c.loop-i.i c.index-list-i.result c.loop-i-test.true c.index-list-i.is c.loop-i.invariant
