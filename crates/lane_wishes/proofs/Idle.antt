@@ -12,14 +12,14 @@ use Rattle.rsvp_base.specs.declared.style.StyleKind.TheVariants.{Wild, Fixed, Sh
 use Rattle.style_rules.specs.Lines.{NextHop}
 use Rattle.style_rules.specs.Merge.{PartTable}
 use Rattle.style_rules.specs.Toward.{toward}
-use Rattle.resv_state.specs.Merging.{SessionRow, requests_toward, resv_request, want_request}
+use Rattle.resv_state.specs.Merging.{SessionRow, resv_request, want_request}
 use Rattle.resv_state.specs.Walks.{rests}
 use Rattle.resv_state.specs.declared.fact.ResvFact.{ResvFact}
 use Rattle.router_rules.specs.Requests.{is_style}
 use Rattle.local_state.specs.Wants.{asked_row, own_part, own_want}
 use Rattle.local_state.specs.declared.wants.LocalWant.{LocalWant}
 use Rattle.node_sends.specs.State.{Said, State, table_in}
-use Rattle.node_sends.specs.Seen.{names_seen, own_at, toward_at, up_at}
+use Rattle.node_sends.specs.Seen.{names_seen, toward_at, up_at}
 use Rattle.node_sends.proofs.Seeing.{merged_is}
 use Rattle.node_tables.specs.Whole.{state_of}
 use Rattle.node_tables.specs.declared.tables.Tables.{Tables}
