@@ -51,7 +51,7 @@ pub(crate) fn renew(book: &mut Book, iface: u8, key: &EntryKey, now: Option<Flow
 }
 
 // The flow of a unit.
-pub(crate) fn flow_of(parts: &Parts, unit: Unit) -> Option<Flow>
+fn flow_of(parts: &Parts, unit: Unit) -> Option<Flow>
     ensures { result ≡ flow_in (get parts.now unit) }
 {
     match parts.get(unit) {
