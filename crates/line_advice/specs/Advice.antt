@@ -9,7 +9,7 @@ use Rattle.script_grammar.specs.declared.fault.Fault.{Fault}
 use Rattle.line_advice.specs.Blames.{IsBlamed}
 use Rattle.line_advice.specs.FieldTexts.{form_text, range_text}
 use Rattle.line_advice.specs.KindTexts.{first_text, usage_text}
-use Rattle.line_advice.specs.Names.{named_text}
+use Rattle.line_advice.specs.Known.{named_text}
 use Rattle.line_advice.specs.Places.{word_at}
 use Rattle.line_advice.specs.RuleTexts.{rule_word, rule_text}
 use Rattle.word_quotes.specs.Quotes.{quoted, strange_text}

@@ -1,18 +1,19 @@
 -- What of a bad line breaks the rule: the first word that does, where one alone does; else the line as a whole.
-use Rattle.std.specs.Prelude.{◌≡◌, ◌⊎◌, ℕ, ◌+◌, ◌<◌, ◌≤◌, List, [], ◌∷◌, true, false, Option, None, Some, drop, length, if◌then◌else◌}
+use Rattle.std.specs.Prelude.{◌≡◌, ℕ, ◌+◌, ◌<◌, ◌≤◌, List, true, false, Option, None, Some, drop, length}
 use Rattle.script_words.specs.Words.{words_of}
 use Rattle.script_grammar.specs.Draft.{Draft, period_of}
 use Rattle.script_grammar.specs.Grammar.{most_line}
 use Rattle.script_grammar.specs.declared.fault.Excess.{Excess}
 use Rattle.script_grammar.specs.declared.fault.Fault.{Fault}
 use Rattle.script_grammar.specs.declared.fault.Fault.TheVariants as fault
-use Rattle.line_advice.specs.Fields.{IsInRange, has_form}
-use Rattle.line_advice.specs.Kinds.{field_at, has_count, kind_of}
+use Rattle.line_kinds.specs.FirstWords.{IsFirstOut, unformed_from}
+use Rattle.line_kinds.specs.Kinds.{field_at, has_count, kind_of}
+use Rattle.line_kinds.specs.Names.{named_at}
+use Rattle.line_kinds.specs.declared.kind.Kind.{Kind}
 use Rattle.line_advice.specs.Breaks.{IsFirstLinked, IsLimit, IsOtherStyle, new_rule}
-use Rattle.line_advice.specs.Names.{named_at, unknown_from}
+use Rattle.line_advice.specs.Known.{unknown_from}
 use Rattle.line_advice.specs.declared.blame.Blame.{Blame}
 use Rattle.line_advice.specs.declared.blame.Blame.TheVariants.{First, Count, Form, Range, Unknown, Linked, Styled, Over, Long, Rule}
-use Rattle.line_advice.specs.declared.kind.Kind.{Kind}
 use Rattle.line_advice.specs.declared.rule.Rule.{Rule as ARule}
 use Rattle.line_advice.specs.declared.rule.Rule.TheVariants as rule
 
@@ -22,11 +23,6 @@ behind_first words = drop 1 words
 
 -- ---- words that are not of their form: the first one is unknown; or there are too few or too many; or one has not the form of its
 -- field
--- the place of the first of these words that has not, where the first one is at this place
-abbrev pub unformed_from : Kind → ℕ → List (List ℕ) → Option ℕ
-unformed_from kind place [] = None
-unformed_from kind place (word ∷ words) = if has_form (field_at kind place) word then unformed_from kind (place + 1) words else Some place
-
 -- a line of this kind has its number of words, and the one at this place behind the first is the first that has not
 pub record IsMisformed (words : List (List ℕ)) (place : ℕ) : Type 0 where
   pub kind : Kind
@@ -45,15 +41,6 @@ IsMisread words (Form word field) = (place : ℕ) × (wrong : IsMisformed words 
 IsMisread words _ = ⊥
 
 -- ---- words out of range: one alone; or, where each is in range, all of them together
--- the place of the first of these words that is out of the range of its field, if one is, where the first one is at this place
-abbrev pub IsOutFrom : ℕ → Kind → ℕ → List (List ℕ) → Option ℕ → Type 0
-IsOutFrom period kind place [] found = found ≡ None
-IsOutFrom period kind place (word ∷ words) found =
-    (IsInRange period (field_at kind place) word × IsOutFrom period kind (place + 1) words found) ⊎ ((IsInRange period (field_at kind place) word → ⊥) × (found ≡ Some place))
-
-abbrev pub IsFirstOut : ℕ → Kind → List (List ℕ) → Option ℕ → Type 0
-IsFirstOut period kind behind found = IsOutFrom period kind 0 behind found
-
 pub record AreOut (period : ℕ) (words : List (List ℕ)) (found : Option ℕ) : Type 0 where
   pub kind : Kind
   pub of_kind : kind_of words ≡ Some kind

@@ -1,5 +1,5 @@
 -- Which part of a rule a line breaks: what is there already, which limit is passed, which style stands.
-use Rattle.std.specs.Prelude.{◌≡◌, ◌≢◌, ◌⊎◌, ℕ, ◌+◌, ◌<◌, ◌≤◌, List, [], ◌∷◌, Bool, true, false, ◌||◌, Option, None, Some, IfSome, nat_le, codes, length, option_map, slice_get, unwrap_or, if◌then◌else◌}
+use Rattle.std.specs.Prelude.{◌≡◌, ◌≢◌, ◌⊎◌, ℕ, ◌+◌, List, [], ◌∷◌, Bool, true, false, ◌||◌, Option, None, Some, IfSome, nat_le, codes, length, option_map, slice_get, unwrap_or, if◌then◌else◌}
 use Rattle.std.specs.List.{list_any}
 use Rattle.std.specs.Str.{byte, bytes_eq}
 use Rattle.rsvp_base.specs.declared.session.Session.{Session}
@@ -11,10 +11,10 @@ use Rattle.script_words.specs.declared.raw.SessionWord.{SessionWord}
 use Rattle.script_grammar.specs.Adds.{wants_at}
 use Rattle.script_grammar.specs.Draft.{Draft, end_number, node_number}
 use Rattle.script_grammar.specs.Rules.{HasRoomForSession, most_senders}
-use Rattle.line_advice.specs.Names.{is_declared}
-use Rattle.line_advice.specs.declared.kind.Kind.{Kind}
-use Rattle.line_advice.specs.declared.kind.Kind.TheVariants.{End, Link, StalePath, StaleResv, WildResv, HopBlockade, SenderBlockade, Send, Want, WildWant}
-use Rattle.line_advice.specs.declared.named.Named.TheVariants as named
+use Rattle.line_advice.specs.Known.{is_declared}
+use Rattle.line_kinds.specs.declared.kind.Kind.{Kind}
+use Rattle.line_kinds.specs.declared.kind.Kind.TheVariants.{End, Link, StalePath, StaleResv, WildResv, HopBlockade, SenderBlockade, Send, Want, WildWant}
+use Rattle.line_kinds.specs.declared.named.Named.TheVariants as named
 use Rattle.line_advice.specs.declared.rule.Rule.{Rule}
 use Rattle.line_advice.specs.declared.rule.Rule.TheVariants.{New, NewName, NewAddress, NewSender, WithinLimits, OneSender, FewSenders, FewSessions}
 

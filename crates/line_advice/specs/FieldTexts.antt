@@ -2,8 +2,8 @@
 use Rattle.std.specs.Prelude.{ℕ, List, ◌++◌, codes}
 use Rattle.std.specs.Fmt.{decimal}
 use Rattle.script_grammar.specs.Draft.{lifetime, wall_lifetime}
-use Rattle.line_advice.specs.declared.field.Field.{Field}
-use Rattle.line_advice.specs.declared.field.Field.TheVariants.{Period, Seed, Name, Host, Capacity, Mtu, Group, Address, Session, Sender, Senders, Addresses, Anyone, Style, Flow, Left, WallLeft, Sub, Target, Switch, Digits, Confirm, Wait, Passes, Rounds, Place}
+use Rattle.line_kinds.specs.declared.field.Field.{Field}
+use Rattle.line_kinds.specs.declared.field.Field.TheVariants.{Period, Seed, Name, Host, Capacity, Mtu, Group, Address, Session, Sender, Senders, Addresses, Anyone, Style, Flow, Left, WallLeft, Sub, Target, Switch, Digits, Confirm, Wait, Passes, Rounds, Place}
 
 -- its form
 abbrev pub form_text : Field → List ℕ

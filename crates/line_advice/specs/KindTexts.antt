@@ -1,7 +1,7 @@
 -- The words of a line, by its kind.
 use Rattle.std.specs.Prelude.{ℕ, List, codes}
-use Rattle.line_advice.specs.declared.kind.Kind.{Kind}
-use Rattle.line_advice.specs.declared.kind.Kind.TheVariants.{Period, Seed, Node, End, Link, Hop, StalePath, StaleResv, WildResv, Blockade, HopBlockade, SenderBlockade, Send, Drop, Want, WildWant, Quit, Clear, Wait, Pass, Rounds, Deliver, Lose, Copy, Inject, Trace, Report, Flags, Reroute}
+use Rattle.line_kinds.specs.declared.kind.Kind.{Kind}
+use Rattle.line_kinds.specs.declared.kind.Kind.TheVariants.{Period, Seed, Node, End, Link, Hop, StalePath, StaleResv, WildResv, Blockade, HopBlockade, SenderBlockade, Send, Drop, Want, WildWant, Quit, Clear, Wait, Pass, Rounds, Deliver, Lose, Copy, Inject, Trace, Report, Flags, Reroute}
 
 abbrev pub usage_text : Kind → List ℕ
 usage_text Period = codes "a period line is: period MS"

@@ -1,7 +1,5 @@
-pub mod Fields
-pub mod Kinds
 pub mod Places
-pub mod Names
+pub mod Known
 pub mod Breaks
 pub mod Blames
 pub mod FieldTexts

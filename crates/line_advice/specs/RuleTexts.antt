@@ -1,7 +1,7 @@
 -- What a rule says of the lines of a kind, and of which word alone, if it is one.
 use Rattle.std.specs.Prelude.{ℕ, List, Option, None, Some, codes}
-use Rattle.line_advice.specs.declared.kind.Kind.{Kind}
-use Rattle.line_advice.specs.declared.kind.Kind.TheVariants.{Period, Seed, Node, End, Link, Hop, StalePath, StaleResv, WildResv, HopBlockade, SenderBlockade, Send, Drop, Want, WildWant, Quit, Reroute}
+use Rattle.line_kinds.specs.declared.kind.Kind.{Kind}
+use Rattle.line_kinds.specs.declared.kind.Kind.TheVariants.{Period, Seed, Node, End, Link, Hop, StalePath, StaleResv, WildResv, HopBlockade, SenderBlockade, Send, Drop, Want, WildWant, Quit, Reroute}
 use Rattle.line_advice.specs.declared.rule.Rule.{Rule}
 use Rattle.line_advice.specs.declared.rule.Rule.TheVariants.{InTime, InRange, Known, New, NewName, NewAddress, NewSender, WithinLimits, OneSender, FewSenders, FewSessions, OfTree, LoopFree}
 

@@ -7,7 +7,7 @@ ghost use Rattle.script_grammar.specs.declared.fault.Fault.{Fault as AFault};
 ghost use Rattle.line_advice.specs.Advice.{IsAdvice, advice_text, blamed_word, capacity_head, excess_text, excess_word, number_of_word, style_head, sum_head, told_text, wanted_text};
 
 use crate::blame::{Blame, find_blame};
-use crate::named::{LinesBefore, named_text};
+use crate::known::{LinesBefore, named_text};
 use crate::place::word_at;
 use crate::texts::{first_text, form_text, put_range, rule_text, rule_word, usage_text};
 use itoa::Buffer;

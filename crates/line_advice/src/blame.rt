@@ -1,13 +1,12 @@
 //! What of a bad line breaks the rule.
-ghost use Rattle.std.specs.Prelude.{◌≡◌, ◌<◌, IfOk, IfSome, Some, length, map};
-ghost use Rattle.line_advice.specs.Blames.{IsBlamed, IsBlamedOf, IsFirstOut, IsFirstUnknown, IsMisread, IsOfOtherStyle, IsOfRule, IsOutOfRange, IsPassed, IsThere, IsUnknown, behind_first, unformed_from};
+ghost use Rattle.std.specs.Prelude.{◌≡◌, ◌<◌, IfSome, length, map};
+ghost use Rattle.line_advice.specs.Blames.{IsBlamed, IsBlamedOf, IsFirstUnknown, IsMisread, IsOfOtherStyle, IsOfRule, IsOutOfRange, IsPassed, IsThere, IsUnknown, behind_first};
 
 use crate::breaks::{first_linked, limit, new_rule, other_style};
-use crate::field::Field;
-use crate::kind::Kind;
-use crate::named::{LinesBefore, Named, is_known};
+use crate::known::{LinesBefore, is_known};
 use crate::rule::Rule;
-use rsvp_base::{NoMemory, StyleKind};
+use line_kinds::{Field, Kind, Named, first_out, unformed};
+use rsvp_base::StyleKind;
 use script_grammar::{Excess, Fault};
 use script_words::read_words;
 use std::alloc::Global;
@@ -167,23 +166,6 @@ fn behind_first<'a, 'b>(words: &'a [&'b [u8]]) -> &'a [&'b [u8]]
     }
 }
 
-// The place of the first of these words that has not the form of its field. `None`: each has, or memory ran out.
-fn unformed(alloc: Global, kind: Kind, words: &[&[u8]]) -> Option<usize>
-    ensures first { IfSome result (λ place. unformed_from kind 0 (map (λ w. w.now) words.now) ≡ Some place) }
-    ensures within { IfSome result (λ place. place < length words.now) }
-{
-    let mut place: usize = 0;
-    let mut rest = words;
-    while let [word, behind @ ..] = rest {
-        if !kind.field_at(place).has_form(alloc, word).ok()? {
-            return Some(place);
-        }
-        place += 1;
-        rest = behind;
-    }
-    None
-}
-
 // What of these words is out of range.
 fn out_of_range(alloc: Global, period: u32, words: &[&[u8]]) -> Option<Blame>
     ensures { IfSome result (IsOutOfRange period (map (λ w. w.now) words.now)) }
@@ -201,28 +183,6 @@ fn out_of_range(alloc: Global, period: u32, words: &[&[u8]]) -> Option<Blame>
         }),
         Err(_) => None,
     }
-}
-
-// The place of the first of these words that is out of the range of its field. `None` exactly where each is in range.
-fn first_out(
-    alloc: Global,
-    period: u32,
-    kind: Kind,
-    words: &[&[u8]],
-) -> Result<Option<usize>, NoMemory>
-    ensures first { IfOk result (IsFirstOut period kind (map (λ w. w.now) words.now)) }
-    ensures within { IfOk result (λ found. IfSome found (λ place. place < length words.now)) }
-{
-    let mut place: usize = 0;
-    let mut rest = words;
-    while let [word, behind @ ..] = rest {
-        if !kind.field_at(place).is_in_range(alloc, period, word)? {
-            return Ok(Some(place));
-        }
-        place += 1;
-        rest = behind;
-    }
-    Ok(None)
 }
 
 // What of these words names what no line before declares.

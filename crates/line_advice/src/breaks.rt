@@ -5,9 +5,9 @@ ghost use Rattle.std.specs.List.{list_any};
 ghost use Rattle.std.specs.Str.{bytes_eq};
 ghost use Rattle.line_advice.specs.Breaks.{HasRoomForWord, IsFirstLinked, HasRoomForLine, IsLimit, IsOtherStyle, has_twice, limit_by_words, limit_of_list, limit_of_style, listed, names_session, new_of_list, new_rule, standing_style, word_behind};
 
-use crate::kind::Kind;
-use crate::named::{LinesBefore, Named, is_known};
+use crate::known::{LinesBefore, is_known};
 use crate::rule::Rule;
+use line_kinds::{Kind, Named};
 use rsvp_base::StyleKind;
 use script_words::{SessionWord, first_part};
 

@@ -1,23 +1,19 @@
 //! What is wrong with a bad line, in words: which of its words breaks the rule, and what is wanted there.
 //!
-//! Each kind of line has its fields (`Kind`, `Field`). `find_blame` finds by the fault of a line and by the lines before it (`LinesBefore`) the word that breaks the rule, and
+//! `find_blame` finds by the fault of a line and by the lines before it (`LinesBefore`) the word that breaks the rule, and
 //! `put_advice` writes the line of text that tells it: the column, the word and what is wanted. Both are exactly their
-//! definitions in `specs/`. It stands on `script_grammar` for the faults and the ranges, and on `script_words` for the words.
+//! definitions in `specs/`. It stands on `line_kinds` for what the words of a line are, and on `script_grammar` for the faults.
 #![tactic(auto)]
 
 mod advice;
 mod blame;
 mod breaks;
-mod field;
-mod kind;
-mod named;
+mod known;
 mod place;
 mod rule;
 mod texts;
 
 pub use advice::{put_advice, put_long};
 pub use blame::{Blame, find_blame};
-pub use field::Field;
-pub use kind::Kind;
-pub use named::{LinesBefore, Named};
+pub use known::LinesBefore;
 pub use rule::Rule;

@@ -4,9 +4,8 @@ ghost use Rattle.line_advice.specs.FieldTexts.{form_text, range_text};
 ghost use Rattle.line_advice.specs.KindTexts.{first_text, usage_text};
 ghost use Rattle.line_advice.specs.RuleTexts.{in_time_text, known_text, known_word, limit_word, list_word, new_text, new_word, of_tree_text, rule_text, rule_word, within_limits_text};
 
-use crate::field::Field;
-use crate::kind::Kind;
 use crate::rule::Rule;
+use line_kinds::{Field, Kind};
 use rsvp_base::NoMemory;
 use value_texts::{put, put_number};
 

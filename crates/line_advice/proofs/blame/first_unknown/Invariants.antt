@@ -1,5 +1,5 @@
 use Rattle.std.proofs.Common.{◌≡◌, ◌+◌, length, map}
-use Rattle.line_advice.specs.Names.{unknown_from}
+use Rattle.line_advice.specs.Known.{unknown_from}
 use Rattle.line_advice.proofs.blame.first_unknown.Given as goal
 
 -- the words before are no names, or known

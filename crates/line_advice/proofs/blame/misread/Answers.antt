@@ -1,6 +1,6 @@
 use Rattle.std.proofs.Common.{rules, ◌≡◌, ◌∙◌, true, refl, sym, ap}
-use Rattle.line_advice.specs.Blames.{unformed_from}
-use Rattle.line_advice.specs.Kinds.{has_count}
+use Rattle.line_kinds.specs.FirstWords.{unformed_from}
+use Rattle.line_kinds.specs.Kinds.{has_count}
 use Rattle.line_advice.proofs.blame.misread.Goals as goal
 
 pub returns : goal.returns

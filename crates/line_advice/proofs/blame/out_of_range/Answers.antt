@@ -1,5 +1,5 @@
 use Rattle.std.proofs.Common.{ℕ, List, None, Some, refl, sym, subst}
-use Rattle.line_advice.specs.Blames.{IsFirstOut}
+use Rattle.line_kinds.specs.FirstWords.{IsFirstOut}
 use Rattle.line_advice.proofs.blame.out_of_range.Goals as goal
 
 pub returns-in-Ok-Some : goal.returns-in-Ok-Some

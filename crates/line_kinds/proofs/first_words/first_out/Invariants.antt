@@ -1,6 +1,6 @@
 use Rattle.std.proofs.Common.{◌≡◌, ℕ, ◌+◌, Option, length, map}
-use Rattle.line_advice.specs.Blames.{IsFirstOut, IsOutFrom}
-use Rattle.line_advice.proofs.blame.first_out.Given as goal
+use Rattle.line_kinds.specs.FirstWords.{IsFirstOut, IsOutFrom}
+use Rattle.line_kinds.proofs.first_words.first_out.Given as goal
 
 -- the words before are in range
 abbrev pub invariant-loop-rest : goal.invariant-loop-rest

@@ -1,10 +1,10 @@
 -- The kinds of lines: a first word, and the fields behind it.
 use Rattle.std.specs.Prelude.{ℕ, ◌%◌, List, [], ◌∷◌, Bool, ◌&&◌, ◌==◌, nat_le, Option, None, Some, option_map, codes, length, slice_get, unwrap_or, if◌then◌else◌}
 use Rattle.std.specs.Str.{bytes_eq}
-use Rattle.line_advice.specs.declared.field.Field.{Field}
-use Rattle.line_advice.specs.declared.field.Field.TheVariants as field
-use Rattle.line_advice.specs.declared.kind.Kind.{Kind}
-use Rattle.line_advice.specs.declared.kind.Kind.TheVariants.{Period, Seed, Node, End, Link, Hop, StalePath, StaleResv, WildResv, Blockade, HopBlockade, SenderBlockade, Send, Drop, Want, WildWant, Quit, Clear, Wait, Pass, Rounds, Deliver, Lose, Copy, Inject, Trace, Report, Flags, Reroute}
+use Rattle.line_kinds.specs.declared.field.Field.{Field}
+use Rattle.line_kinds.specs.declared.field.Field.TheVariants as field
+use Rattle.line_kinds.specs.declared.kind.Kind.{Kind}
+use Rattle.line_kinds.specs.declared.kind.Kind.TheVariants.{Period, Seed, Node, End, Link, Hop, StalePath, StaleResv, WildResv, Blockade, HopBlockade, SenderBlockade, Send, Drop, Want, WildWant, Quit, Clear, Wait, Pass, Rounds, Deliver, Lose, Copy, Inject, Trace, Report, Flags, Reroute}
 
 -- ---- the kind of a line
 -- by its first word: by these, and else so

@@ -1,6 +1,6 @@
 use Rattle.std.proofs.Common.{◌≡◌, ◌+◌, length, map}
-use Rattle.line_advice.specs.Blames.{unformed_from}
-use Rattle.line_advice.proofs.blame.unformed.Given as goal
+use Rattle.line_kinds.specs.FirstWords.{unformed_from}
+use Rattle.line_kinds.proofs.first_words.unformed.Given as goal
 
 -- the words before have their forms
 abbrev pub invariant-loop-rest : goal.invariant-loop-rest

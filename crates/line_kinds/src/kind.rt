@@ -1,6 +1,6 @@
 //! Kinds of lines, and the fields of each.
 ghost use Rattle.std.specs.Prelude.{◌≡◌, map};
-ghost use Rattle.line_advice.specs.Kinds.{declared_kind, field_at, fields_of, flight_kind, has_count, kind_of, left_kind, node_kind, other_kind, refined, third_of};
+ghost use Rattle.line_kinds.specs.Kinds.{declared_kind, field_at, fields_of, flight_kind, has_count, kind_of, left_kind, node_kind, other_kind, refined, third_of};
 
 use crate::field::Field;
 

@@ -1,19 +1,12 @@
-//! The names that a line must have from an earlier one.
+//! What the lines before a line declare.
 ghost use Rattle.std.specs.Prelude.{◌≡◌, ◌↔◌, IfOk, IsTrue, is_some};
 ghost use Rattle.script_grammar.specs.Draft.{Draft, end_named, node_named, period_of};
 ghost use Rattle.script_grammar.specs.Rules.{HasRoomForSession};
 ghost use Rattle.line_advice.specs.Breaks.{IsLinked, standing_style};
-ghost use Rattle.line_advice.specs.Names.{is_known, named_at, named_text, names_behind, names_of};
+ghost use Rattle.line_advice.specs.Known.{is_known, named_text};
 
-use crate::kind::Kind;
+use line_kinds::Named;
 use rsvp_base::{NoMemory, Session, StyleKind};
-
-/// What a word is the name of.
-#[derive(Clone, Copy)]
-pub enum Named {
-    Node,
-    End,
-}
 
 /// The lines before a line, as far as it is told what is wrong with it.
 pub trait LinesBefore {
@@ -43,55 +36,6 @@ pub trait LinesBefore {
     /// The style of the wishes that stand in a session at the node of this name. `NoMemory`: there was no room to look.
     fn standing_style(&self, node: &[u8], session: Session) -> Result<Option<StyleKind>, NoMemory>
         ensures { IfOk result (λ style. style ≡ standing_style (lines self.now) node.now session) };
-}
-
-impl Kind {
-    // Of the words behind the first, in order, which are names of nodes and which of ends that an earlier line declares.
-    fn names(self) -> &'static [Option<Named>]
-        ensures { result.now ≡ names_of self }
-    {
-        match self {
-            Kind::End => &[None, Some(Named::Node)],
-            Kind::Hop => &[None, None, Some(Named::End), Some(Named::End)],
-            Kind::StalePath => &[Some(Named::Node), None, None, Some(Named::End)],
-            Kind::StaleResv => &[Some(Named::End)],
-            Kind::WildResv => &[Some(Named::End)],
-            Kind::HopBlockade => &[Some(Named::Node), None, None, Some(Named::End)],
-            Kind::SenderBlockade => &[Some(Named::Node)],
-            Kind::Send => &[Some(Named::Node)],
-            Kind::Drop => &[Some(Named::Node)],
-            Kind::Want => &[Some(Named::Node)],
-            Kind::WildWant => &[Some(Named::Node)],
-            Kind::Quit => &[Some(Named::Node)],
-            Kind::Clear => &[Some(Named::Node)],
-            Kind::Inject => &[Some(Named::End)],
-            Kind::Report => &[Some(Named::End)],
-            Kind::Reroute => &[None, None],
-            _ => &[],
-        }
-    }
-
-    // What the words behind these are.
-    fn names_behind(self) -> Option<Named>
-        ensures { result ≡ names_behind self }
-    {
-        match self {
-            Kind::Link => Some(Named::End),
-            Kind::Reroute => Some(Named::End),
-            _ => None,
-        }
-    }
-
-    /// What the word at this place behind the first is the name of. `None` exactly where it is neither that of a node nor that of an
-    /// end that an earlier line declares.
-    pub fn named_at(self, place: usize) -> Option<Named>
-        ensures { result ≡ named_at self place }
-    {
-        self.names()
-            .get(place)
-            .copied()
-            .unwrap_or(self.names_behind())
-    }
 }
 
 /// Whether a word is no name, or that of what a line before declares.

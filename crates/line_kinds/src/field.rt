@@ -7,7 +7,7 @@ ghost use Rattle.script_words.specs.Numbers.{number_of};
 ghost use Rattle.script_words.specs.Sessions.{IsSender, IsSession, sender_of, senders_of, session_of};
 ghost use Rattle.script_grammar.specs.LineKinds.{bytes_of};
 ghost use Rattle.script_grammar.specs.Values.{IsFrom1To, IsPeriod, IsSub};
-ghost use Rattle.line_advice.specs.Fields.{IsGroupWord, IsHostWord, IsInRange, has_form};
+ghost use Rattle.line_kinds.specs.Fields.{IsGroupWord, IsHostWord, IsInRange, has_form};
 
 use hex::{FromHexError, decode};
 use rsvp_base::NoMemory;

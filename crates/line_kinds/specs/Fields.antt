@@ -12,8 +12,8 @@ use Rattle.script_words.specs.declared.raw.DottedQuad.{DottedQuad}
 use Rattle.script_grammar.specs.Draft.{lifetime, wall_lifetime}
 use Rattle.script_grammar.specs.LineKinds.{bytes_of}
 use Rattle.script_grammar.specs.Values.{IsFrom1To, IsPeriod, IsSub, most_passes, most_places, most_rounds, most_wait}
-use Rattle.line_advice.specs.declared.field.Field.{Field}
-use Rattle.line_advice.specs.declared.field.Field.TheVariants.{Period, Seed, Name, Host, Capacity, Mtu, Group, Address, Session, Sender, Senders, Addresses, Anyone, Style, Flow, Left, WallLeft, Sub, Target, Switch, Digits, Confirm, Wait, Passes, Rounds, Place}
+use Rattle.line_kinds.specs.declared.field.Field.{Field}
+use Rattle.line_kinds.specs.declared.field.Field.TheVariants.{Period, Seed, Name, Host, Capacity, Mtu, Group, Address, Session, Sender, Senders, Addresses, Anyone, Style, Flow, Left, WallLeft, Sub, Target, Switch, Digits, Confirm, Wait, Passes, Rounds, Place}
 
 -- the word has the form of the field, as the grammar reads it
 abbrev pub has_form : Field → List ℕ → Bool

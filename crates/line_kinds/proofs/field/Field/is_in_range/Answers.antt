@@ -1,4 +1,4 @@
-use Rattle.line_advice.proofs.field.Field.is_in_range.Goals as goal
+use Rattle.line_kinds.proofs.field.Field.is_in_range.Goals as goal
 
 pub returns-in-Senders : goal.returns-in-Senders
 returns-in-Senders c = rw c.in-Senders.is c.are_senders_in_range.ensures
