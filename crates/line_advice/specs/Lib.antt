@@ -6,3 +6,4 @@ pub mod FieldTexts
 pub mod KindTexts
 pub mod RuleTexts
 pub mod Advice
+pub mod Laws

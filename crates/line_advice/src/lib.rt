@@ -9,6 +9,7 @@ mod advice;
 mod blame;
 mod breaks;
 mod known;
+pub mod laws;
 mod place;
 mod rule;
 mod texts;

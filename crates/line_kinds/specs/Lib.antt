@@ -2,3 +2,4 @@ pub mod Fields
 pub mod Kinds
 pub mod Names
 pub mod FirstWords
+pub mod Laws

@@ -8,6 +8,7 @@
 mod field;
 mod first_words;
 mod kind;
+pub mod laws;
 mod named;
 
 pub use field::Field;
