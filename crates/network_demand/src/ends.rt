@@ -92,13 +92,6 @@ fn charge_style<S: Style>(
     Ok(fits)
 }
 
-// Whether all three hold.
-fn are_all(wild: bool, fixed: bool, shared: bool) -> bool
-    ensures { IsTrue result ↔ (IsTrue wild × (IsTrue fixed × IsTrue shared)) }
-{
-    wild && fixed && shared
-}
-
 /// What each end of a network owes when all is settled, by what its hosts ask of it: of each session and style, the style
 /// merge (RFC 2205, 2.2) of what is wanted over the hops that go out of the end; and whether it fits. `NoMemory`: there was
 /// no room for it.
@@ -135,7 +128,7 @@ pub fn demand(alloc: Global, routing: &Routing, locals: &Locals) -> Result<Deman
         &mut ends,
     )?;
     let fits = are_met(
-        are_all(wild, fixed, shared),
+        wild && fixed && shared,
         locals.wants.as_slice(),
         sessions.as_slice(),
         ends.as_slice(),
