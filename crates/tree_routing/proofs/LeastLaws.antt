@@ -1,5 +1,5 @@
 -- The least hop so far, and with one hop more.
-use Rattle.std.specs.Prelude.{◌≡◌, ◌⊎◌, ℕ, ◌+◌, ◌<◌, ◌≤◌, List, [], ◌∷◌, ◌++◌, length, refl, slice_index_or}
+use Rattle.std.specs.Prelude.{◌≡◌, ◌⊎◌, ℕ, ◌+◌, ◌<◌, ◌≤◌, List, [], ◌∷◌, ◌++◌, Option, IfSome, length, refl, slice_index_or}
 use Rattle.std.proofs.Common.{zero, suc, sym, ap, subst, ◌∙◌, inl, inr, ⊎_elim, arith, take}
 use Rattle.rsvp_base.specs.Members.{In}
 use Rattle.rsvp_base.proofs.Members.{in_left, in_right, in_append}
@@ -7,7 +7,10 @@ use Rattle.tree_model.specs.declared.hops.LinkHop.{LinkHop}
 use Rattle.tree_routing.specs.declared.known.Known.{Known}
 use Rattle.tree_routing.specs.Answers.{IsUpTo}
 use Rattle.tree_routing.specs.Marks.{AreBelow}
-use Rattle.tree_routing.specs.Checks.{IsBetween, IsBetter, IsLesser, IsLeastAmong}
+use Rattle.tree_routing.specs.Checks.{Closes, IsBetween, IsBetter, IsLesser, IsLeastAmong}
+use Rattle.tree_routing.specs.Reroutes.{AreBefore}
+use Rattle.tree_routing.specs.Walks.{Edge, Steps}
+use Rattle.tree_model.specs.Chains.{last_of}
 
 pub at_in : {X : Type 0} (xs : List X) (i : ℕ) (d : X) → i < length xs → In (slice_index_or xs i d) xs
 at_in [] i d lt = absurd (omega arith)
@@ -96,3 +99,14 @@ module _ (ks some : List Known) (new : Known) (before : ℕ) (k : Known) (least 
 
 pub vertex_within : (ks : List Known) (n i : ℕ) (d : Known) → AreBelow n ks → i < length ks → (slice_index_or ks i d).vertex ≤ n
 vertex_within ks n i d below lt = let r = below (slice_index_or ks i d) (at_in ks i d lt) in omega arith
+
+-- no edge leads from a vertex that no hop has before it, so that a hop that stands there closes no chain
+pub new_closes_none : (ks : List Known) (new : Known) → AreBefore (length ks) ks → IfSome new.before (λ b. b < length ks) → new.vertex ≡ length ks → Closes ks new → ⊥
+new_closes_none ks new befores below last c = by_path c.leads.path c.leads.steps c.leads.ends
+  where
+    before_below : c.before < length ks
+    before_below = subst (λ (o : Option ℕ). IfSome o (λ b. b < length ks)) c.is below
+
+    by_path : (path : List ℕ) → Steps (Edge ks) new.vertex path → last_of new.vertex path ≡ c.before → ⊥
+    by_path [] steps ends = let lt = before_below in omega (arith, lt, ends, last)
+    by_path (b ∷ bs) steps ends = let lt = befores steps.0.known steps.0.among new.vertex steps.0.before in omega (arith, lt, last)

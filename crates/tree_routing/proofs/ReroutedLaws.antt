@@ -1,5 +1,5 @@
 -- What a routing keeps, and what it answers, with a tree in the place of another.
-use Rattle.std.specs.Prelude.{◌≡◌, ℕ, ◌+◌, ◌≤◌, Bool, true, false, not, cond, List, [], ◌∷◌, ◌++◌, length, map as each, count_by, Some, None, Err, refl}
+use Rattle.std.specs.Prelude.{◌≡◌, ℕ, ◌+◌, ◌<◌, ◌≤◌, Bool, true, false, not, cond, List, [], ◌∷◌, ◌++◌, length, map as each, count_by, Option, Some, None, IfSome, Err, refl}
 use Rattle.std.specs.List.{filter}
 use Rattle.std.proofs.Common.{sym, ap, subst, ◌∙◌, arith, length-append}
 use Rattle.std.proofs.lemmas.List.{length-map}
@@ -17,7 +17,7 @@ use Rattle.tree_routing.specs.declared.link.Link.{Link}
 use Rattle.tree_routing.specs.declared.hop_err.HopErr.{HopErr}
 use Rattle.tree_routing.specs.declared.hop_err.HopErr.TheVariants.{NotTree, Loop, NoMemory}
 use Rattle.tree_routing.specs.Answers.{IsLeastOnLoop}
-use Rattle.tree_routing.specs.Known.{plain, net_of, AreKnown}
+use Rattle.tree_routing.specs.Known.{plain, net_of, vertex_before, AreKnown}
 use Rattle.tree_routing.specs.Reroutes.{is_other, rerouted, tree_hop, with_hops, RerouteAnswer, IsRefused, AreBefore, IsLeastClosed}
 use Rattle.tree_routing.proofs.ClosedChains.{none_closed, least_closed}
 use Rattle.tree_routing.proofs.ValidReroutes.{grown_more, valid_rerouted}
@@ -31,6 +31,16 @@ befores_below ends ks ks' known is =
     let lt = vertex_below ends ks known x.0 x.1 in
     let at = x.3 in
     omega arith)
+
+pub before_below : (ends ends' : List End) (ks ks' ks'' : List Known) (r : TreeHop) (o : Option ℕ) → o ≡ vertex_before ends' r ks' → ends' ≡ ends → ks' ≡ ks → ks'' ≡ ks → AreKnown ends ks → IfSome o (λ b. b < length ks'')
+before_below ends ends' ks ks' ks'' r None is same_ends same same' known = tt
+before_below ends ends' ks ks' ks'' r (Some b) is same_ends same same' known =
+    let found : vertex_before ends r ks ≡ Some b = sym (is ∙ ap (λ (x : List End). vertex_before x r ks') same_ends ∙ ap (λ (x : List Known). vertex_before ends r x) same) in
+    let x = before_told ends r ks b found in
+    let lt = vertex_below ends ks known x.0 x.1 in
+    let at = x.3 in
+    let size = ap length same' in
+    omega arith
 
 pub refused_answer : (R : Type 0) (net m : Net) (g s : Addr) (hops : List LinkHop) (why : HopErr) → m ≡ net → IsRefused m s hops why → RerouteAnswer {R = R} net g s hops (Err why)
 refused_answer R net m g s hops NotTree is refused = subst (λ (n : Net). IsRefused n s hops NotTree) is refused

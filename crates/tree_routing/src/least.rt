@@ -1,7 +1,8 @@
 //! The loop check: along chains from the new hop.
-ghost use Rattle.std.specs.Prelude.{◌≡◌, ◌↔◌, ◌<◌, ◌≤◌, ◌⊎◌, ℕ, length, IsTrue, IfOk};
+ghost use Rattle.std.specs.Prelude.{◌≡◌, ◌↔◌, ◌<◌, ◌≤◌, ◌⊎◌, ℕ, length, IsTrue, IfOk, IfSome};
 ghost use Rattle.tree_routing.specs.Marks.{AreBelow};
 ghost use Rattle.tree_routing.specs.Answers.{IsUpTo};
+ghost use Rattle.tree_routing.specs.Reroutes.{AreBefore};
 ghost use Rattle.tree_routing.specs.Checks.{IsBetween, IsBetter, IsLeastBetween, LoopAnswer};
 
 use crate::hop_err::HopErr;
@@ -83,6 +84,8 @@ fn least_between(
 /// Whether the new hop closes a chain of its group, and which hop on a closed chain is the least.
 pub(crate) fn check_loop(alloc: Global, hops: &[Known], new: &Known) -> Result<(), HopErr>
     requires below { AreBelow (length hops.now) hops.now }
+    requires befores { AreBefore (length hops.now) hops.now }
+    requires before { IfSome new.now.before (λ b. b < length hops.now) }
     requires from { new.now.vertex ≤ length hops.now }
     requires few { length hops.now ≤ 8192 }
     ensures { LoopAnswer hops.now new.now result }
@@ -90,6 +93,10 @@ pub(crate) fn check_loop(alloc: Global, hops: &[Known], new: &Known) -> Result<(
     let Some(before) = new.before else {
         return Ok(());
     };
+    // No hop comes behind one that stands in no tree of its group yet.
+    if new.vertex as usize == hops.len() {
+        return Ok(());
+    }
     match leads(alloc, hops, new.vertex, before) {
         Ok(true) => match least_between(alloc, hops, new, before) {
             Ok(hop) => Err(HopErr::Loop {
