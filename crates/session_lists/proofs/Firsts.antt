@@ -1,12 +1,12 @@
 -- Rows in order: the first row of a session, and those before a key.
-use Rattle.std.proofs.Common.{◌≡◌, ◌<◌, ◌≤◌, ◌+◌, ℕ, zero, suc, true, false, cond, T, List, [], ◌∷◌, length, get_or, map as each, Option, Some, None, refl, sym, ap, ◌∙◌, arith, inl, inr}
+use Rattle.std.proofs.Common.{◌≡◌, ◌<◌, ◌+◌, ℕ, zero, suc, true, false, cond, T, List, [], ◌∷◌, length, get_or, map as each, Option, Some, None, refl, sym, ap, ◌∙◌, arith, inl, inr}
 use Rattle.std.specs.Prelude.{slice_get}
 use Rattle.std.specs.Option.{option_map}
 use Rattle.std.specs.Ordering.{eq_by_cmp, is_eq, is_lt, ordering_then, ordering_reverse}
 use Rattle.std.specs.declared.cmp.Ordering.{Ordering}
 use Rattle.std.specs.declared.cmp.Ordering.TheVariants.{Less, Equal, Greater}
 use Rattle.std.specs.FinMap.Entries.{find, where_key, below_all, is_sorted}
-use Rattle.std.proofs.lemmas.Bool.{cases_lt, cases_eq}
+use Rattle.std.proofs.lemmas.Bool.{cases_eq}
 use Rattle.std.proofs.lemmas.Option.{slice_get_within, get_or_from_slice_get}
 use Rattle.rsvp_base.specs.Keys.{Keys, pairs}
 use Rattle.rsvp_base.specs.Orders.{sessions}
@@ -138,28 +138,21 @@ module _ {R : Type 0} (rests : Keys R) (keys : List (Option (Session × R))) (sl
   head_of_row : (j : ℕ) (e : (Session × R) × ℕ) → slice_get (rows_of keys slots) j ≡ Some e → (m : ℕ) × (h : Head) × (slice_get heads m ≡ Some h) × (h.session ≡ e.0.0)
   head_of_row j e at = let f = some_first rests (rows_of keys slots) j e at in head_found heads e.0.0 f.0 (a.firsts e.0.0 ∙ f.1)
 
-  -- where a walk to a key begins
-  pub start_at : (s : Session) (r : R) (k : ℕ) → k ≤ length heads → ((m : ℕ) (d : Head) → m < k → sessions.cmp (get_or heads m d).session s ≡ Less) → IsStart rests keys slots (s, r) (option_map (λ h. h.first) (slice_get heads k))
-  start_at s r k le below = by (slice_get heads k) refl
+  -- a walk can begin at the first row of all
+  pub start_first : (key : Session × R) → IsStart rests keys slots key (option_map (λ (h : Head). h.first) (slice_get heads 0))
+  start_first key = by (slice_get heads 0) refl
     where
-      lower : (m : ℕ) (h : Head) → slice_get heads m ≡ Some h → m < k → sessions.cmp h.session s ≡ Less
-      lower m h at lt = ap (λ (z : Head). sessions.cmp z.session s) (sym (get_or_from_slice_get heads m h h at)) ∙ below m h lt
-
-      by_session : (e : (Session × R) × ℕ) → sessions.cmp e.0.0 s ≡ Less → (row_keys rests).cmp e.0 (s, r) ≡ Less
-      by_session e lt = ap (λ w. ordering_then w (rests.cmp e.0.1 r)) lt
-
-      by : (w : Option Head) → slice_get heads k ≡ w → IsStart rests keys slots (s, r) (option_map (λ h. h.first) w)
+      by : (w : Option Head) → slice_get heads 0 ≡ w → IsStart rests keys slots key (option_map (λ (h : Head). h.first) w)
       by None none = record {
         place = length slots;
         within = omega arith;
         is = nothing_at slots (length slots) (omega arith);
         before = λ j e lt at.
             let h = head_of_row j e at in
-            let in_ : h.0 < k = omega (arith, nothing_past heads k none, slice_get_within heads h.0 h.1 h.2) in
-            by_session e (ap (λ z. sessions.cmp z s) (sym h.3) ∙ lower h.0 h.1 h.2 in_);
+            absurd (omega (arith, nothing_past heads 0 none, slice_get_within heads h.0 h.1 h.2));
       }
       by (Some g) is =
-          let f = first_found rests (rows_of keys slots) a.sorted g.session g.first (sym (a.firsts g.session) ∙ head_leads heads k g (passes _ a.rising) is) in
+          let f = first_found rests (rows_of keys slots) a.sorted g.session g.first (sym (a.firsts g.session) ∙ head_leads heads 0 g (passes _ a.rising) is) in
           let back = row_back keys slots f.place ((g.session, f.rest), g.first) a.full f.is in
           record {
             place = f.place;
@@ -167,16 +160,12 @@ module _ {R : Type 0} (rests : Keys R) (keys : List (Option (Session × R))) (sl
             is = back.0;
             before = λ j e lt at.
                 let h = head_of_row j e at in
-                let below_g : sessions.cmp h.1.session g.session ≡ Less = ap (λ z. sessions.cmp z g.session) h.3 ∙ f.before j e lt at in
-                elim (cases_lt h.0 k) [
-                  | inl in_ ↦ by_session e (ap (λ z. sessions.cmp z s) (sym h.3) ∙ lower h.0 h.1 h.2 in_)
-                  | inr out ↦ absurd (not_below h.0 h.1 out h.2 below_g)
-                ];
+                absurd (not_below h.0 h.1 h.2 (ap (λ z. sessions.cmp z g.session) h.3 ∙ f.before j e lt at));
           }
         where
-          not_below : (m : ℕ) (h : Head) → k ≤ m → slice_get heads m ≡ Some h → sessions.cmp h.session g.session ≡ Less → ⊥
-          not_below m h out at lt =
-              elim (cases_eq m k) [
+          not_below : (m : ℕ) (h : Head) → slice_get heads m ≡ Some h → sessions.cmp h.session g.session ≡ Less → ⊥
+          not_below m h at lt =
+              elim (cases_eq m 0) [
                 | inl e ↦
                     let both : Some h ≡ Some g = sym at ∙ ap (slice_get heads) e ∙ is in
                     let same : h ≡ g = cc in
@@ -184,8 +173,8 @@ module _ {R : Type 0} (rests : Keys R) (keys : List (Option (Session × R))) (sl
                     let z : true ≡ false = sym tie ∙ ap is_eq (ap (λ (x : Head). sessions.cmp x.session g.session) (sym same) ∙ lt) in
                     cc
                 | inr ne ↦
-                    let up : sessions.cmp (get_or heads k g).session (get_or heads m g).session ≡ Less = greater sessions head_row heads (passes _ a.rising) k m g (omega (arith, out, ne)) (slice_get_within heads m h at) in
-                    let over : sessions.cmp g.session h.session ≡ Less = ap (λ (x : Head). sessions.cmp x.session h.session) (sym (get_or_from_slice_get heads k g g is)) ∙ ap (λ (x : Head). sessions.cmp (get_or heads k g).session x.session) (sym (get_or_from_slice_get heads m h g at)) ∙ up in
+                    let up : sessions.cmp (get_or heads 0 g).session (get_or heads m g).session ≡ Less = greater sessions head_row heads (passes _ a.rising) 0 m g (omega (arith, ne)) (slice_get_within heads m h at) in
+                    let over : sessions.cmp g.session h.session ≡ Less = ap (λ (x : Head). sessions.cmp x.session h.session) (sym (get_or_from_slice_get heads 0 g g is)) ∙ ap (λ (x : Head). sessions.cmp (get_or heads 0 g).session x.session) (sym (get_or_from_slice_get heads m h g at)) ∙ up in
                     let tie = sessions.total.trans h.session g.session h.session lt over in
                     let z : true ≡ false = sym (tied_self sessions h.session) ∙ ap is_eq tie in
                     cc

@@ -1,7 +1,9 @@
 pub mod Firsts
 pub mod Found
+pub mod Gaps
 pub mod Held
 pub mod Inserts
+pub mod Kept
 pub mod Leading
 pub mod Leads
 pub mod Rings

@@ -1,10 +1,10 @@
 -- Rows of sessions, and what stands for them in memory: the slots in the order of the rows' keys, the key of each slot, and a head for each session.
-use Rattle.std.specs.Prelude.{◌≡◌, ◌<◌, ◌≤◌, ℕ, Bool, true, false, cond, not, nat_eq, List, map, length, Option, Some, None, Result, Ok, Err, slice_get}
+use Rattle.std.specs.Prelude.{◌≡◌, ◌<◌, ◌≤◌, ℕ, Bool, true, false, cond, not, nat_eq, List, map, length, Option, Some, None, slice_get, ◌⊎◌}
 use Rattle.std.proofs.Common.{T}
 use Rattle.std.specs.List.{filter_map}
 use Rattle.std.specs.Option.{option_map}
 use Rattle.std.specs.FinMap.Entries.{find, put, where_key, is_sorted}
-use Rattle.std.specs.Ordering.{eq_by_cmp, is_lt}
+use Rattle.std.specs.Ordering.{eq_by_cmp, is_lt, is_gt}
 use Rattle.std.specs.declared.cmp.Ordering.TheVariants.{Less}
 use Rattle.rsvp_base.specs.Keys.{Keys, pairs}
 use Rattle.rsvp_base.specs.Orders.{sessions}
@@ -12,7 +12,9 @@ use Rattle.rsvp_base.specs.Rows.{AreRows, HasRowAt, LacksRowAt}
 use Rattle.rsvp_base.specs.Sets.{Set, set_of}
 use Rattle.rsvp_base.specs.Under.{rows_under}
 use Rattle.rsvp_base.specs.declared.session.Session.{Session}
+use Rattle.session_lists.specs.Ring.{Has}
 use Rattle.session_lists.specs.declared.heads.Head.{Head}
+use Rattle.session_lists.specs.declared.lists.Gap.{Gap}
 
 -- the rows in the order of their keys, each with its slot; and how many slots there are
 pub record Rows (R : Type 0) : Type 0 where
@@ -63,6 +65,10 @@ pub record AreLists {R : Type 0} (rests : Keys R) (keys : List (Option (Session 
   pub rising : AreRows sessions head_row heads
   pub firsts : (s : Session) → find sessions.cmp s (map head_row heads) ≡ first_of rests s (rows_of keys slots)
 
+-- a slot that has a key has a row
+abbrev pub AreHeld : {K : Type 0} → List (Option K) → List ℕ → Type 0
+AreHeld {K} keys slots = (s : ℕ) (k : K) → slice_get keys s ≡ Some (Some k) → Has slots s
+
 -- ---- places
 -- the rows below a place are before a key
 abbrev pub AreBefore : {R : Type 0} → Keys R → List ((Session × R) × ℕ) → ℕ → Session × R → Type 0
@@ -74,6 +80,14 @@ pub record IsStart {R : Type 0} (rests : Keys R) (keys : List (Option (Session �
   pub within : place ≤ length slots
   pub is : slice_get slots place ≡ at
   pub before : AreBefore rests (rows_of keys slots) place k
+
+-- a slot with a key that is not behind another
+abbrev pub IsUpTo : {R : Type 0} → Keys R → List (Option (Session × R)) → Session × R → ℕ → Type 0
+IsUpTo {R} rests keys k s = (q : Session × R) × (slice_get keys s ≡ Some (Some q)) × (is_gt ((row_keys rests).cmp q k) ≡ false)
+
+-- such a slot, or the first
+abbrev pub IsFrom : {R : Type 0} → Keys R → List (Option (Session × R)) → Session × R → Option ℕ → Option ℕ → Type 0
+IsFrom rests keys k first at = (at ≡ first) ⊎ (s : ℕ) × (at ≡ Some s) × IsUpTo rests keys k s
 
 -- the slot of the first row that is not before a key, or none
 pub record IsPlace {R : Type 0} (rests : Keys R) (keys : List (Option (Session × R))) (slots : List ℕ) (k : Session × R) (at : Option ℕ) : Type 0 where
@@ -95,11 +109,16 @@ pub record IsGap {R : Type 0} (rests : Keys R) (keys : List (Option (Session × 
   pub place : IsPlace rests keys slots k at
   pub lacks : LacksRowAt (row_keys rests) itself (rows_of keys slots) k place.start.place
 
--- ---- heads
-abbrev pub place_of : Result ℕ ℕ → ℕ
-place_of (Ok i) = i
-place_of (Err i) = i
+-- the same, as contracts see it
+pub record IsGapIn {R : Type 0} (rests : Keys R) (rows : List ((Session × R) × ℕ)) (k : Session × R) (gap : Gap) : Type 0 where
+  pub place : ℕ
+  pub is : slot_of (slice_get rows place) ≡ gap.behind
+  pub before : AreBefore rests rows place k
+  pub here : (e : (Session × R) × ℕ) → slice_get rows place ≡ Some e → (row_keys rests).cmp e.0 k ≡ Less → ⊥
+  pub lacks : LacksRowAt (row_keys rests) itself rows k place
+  pub absent : find (row_keys rests).cmp k rows ≡ None
 
+-- ---- heads
 -- whether a row that is put in before this one, or behind all, is its session's first
 abbrev pub leads : Option ℕ → Option ℕ → Bool
 leads None behind = true

@@ -5,7 +5,7 @@ ghost use Rattle.std.specs.FinMap.Entries.{find};
 ghost use Rattle.std.specs.declared.cmp.Ordering.TheVariants.{Less};
 ghost use Rattle.rsvp_base.specs.Orders.{sessions};
 ghost use Rattle.rsvp_base.specs.Rows.{AreRows, HasRowAt, LacksRowAt};
-ghost use Rattle.session_lists.specs.Lists.{head_row, place_of, leads, is_first, led};
+ghost use Rattle.session_lists.specs.Lists.{head_row, leads, is_first, led};
 
 use rsvp_base::Session;
 
@@ -21,29 +21,15 @@ pub(crate) fn search(heads: &[Head], session: Session) -> Result<usize, usize>
     requires { AreRows sessions head_row heads.now }
     ensures there { IfOk result (HasRowAt sessions head_row heads.now session) }
     ensures absent { IfErr result (LacksRowAt sessions head_row heads.now session) }
-    ensures below { (m : ℕ) (d : Head) → m < place_of result → sessions.cmp (slice_index_or heads.now m d).session session ≡ Less }
-    ensures within { place_of result ≤ length heads.now }
 {
     heads.binary_search_by(|head| head.session.cmp(&session))
 }
 
-// Where a head stands, or where it would go.
-fn place_of(found: Result<usize, usize>) -> usize
-    ensures { result ≡ place_of found }
+// The first row of all.
+pub(crate) fn first(heads: &[Head]) -> Option<u32>
+    ensures { result ≡ option_map (λ h. h.first) (slice_get heads.now 0) }
 {
-    match found {
-        Ok(at) => at,
-        Err(at) => at,
-    }
-}
-
-// The first row of the session, or of the next that has rows.
-pub(crate) fn start(heads: &[Head], session: Session) -> Option<u32>
-    requires { AreRows sessions head_row heads.now }
-    ensures { (k : ℕ) × (k ≤ length heads.now) × ((m : ℕ) (d : Head) → m < k → sessions.cmp (slice_index_or heads.now m d).session session ≡ Less) × (result ≡ option_map (λ h. h.first) (slice_get heads.now k)) }
-{
-    let at = place_of(search(heads, session));
-    match heads.get(at) {
+    match heads.first() {
         Some(head) => Some(head.first),
         None => None,
     }

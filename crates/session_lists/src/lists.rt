@@ -1,15 +1,17 @@
 //! The lists.
-ghost use Rattle.std.specs.Prelude.{◌≡◌, ◌<◌, ◌≤◌, ◌+◌, ℕ, [], not, length, IfOk, IfErr, IfSome, Option, Some, None, slice_get, vec_capacity};
+ghost use Rattle.std.specs.Prelude.{◌≡◌, ◌<◌, ◌≤◌, ◌+◌, ℕ, [], true, not, length, IfOk, IfErr, Option, Some, None, slice_get};
 ghost use Rattle.std.specs.FinMap.Entries.{find, put, where_key};
-ghost use Rattle.std.specs.Ordering.{eq_by_cmp, is_lt};
-ghost use Rattle.session_lists.specs.Lists.{AreLists, IsStart, IsPlace, IsRow, IsGap, row_keys, key_row, first_of, slot_of, rows_behind, of_session, sessions_of};
+ghost use Rattle.std.specs.Ordering.{eq_by_cmp, is_lt, is_gt};
+ghost use Rattle.session_lists.specs.Lists.{AreLists, AreHeld, IsStart, IsPlace, IsRow, IsGap, IsGapIn, IsUpTo, IsFrom, row_keys, first_of, slot_of, rows_behind, sessions_of};
 ghost use Rattle.rsvp_base.specs.Orders.{sessions};
 ghost use Rattle.rsvp_base.specs.Table.{keys, size};
 ghost use Rattle.rsvp_base.specs.Under.{rows_under};
 
-use crate::heads::{Head, first_in, put_first, start, take_first};
+use crate::heads::{Head, first, first_in, put_first, take_first};
+use crate::marks::{Mark, count_in, count_out};
 use crate::order::RestOrder;
 use crate::ring::Ring;
+use crate::row_keys::{key_at, key_of, of_session, set_key, unset_key};
 use rsvp_base::{NoMemory, Session};
 use std::alloc::Global;
 use std::cmp::Ordering;
@@ -23,28 +25,19 @@ pub struct SessionLists<O: RestOrder> {
     keys: Vec<Option<(Session, O::Rest)>>,
     // In the order of sessions.
     heads: Vec<Head>,
+    // In the order of keys.
+    marks: Vec<Mark>,
 }
 
 impl<O: RestOrder> Model for SessionLists<O> {
     ghost use Rattle.std.specs.Prelude.{◌≤◌, length, vec_capacity};
-    ghost use Rattle.session_lists.specs.Lists.{Rows, AreLists, rows_of};
+    ghost use Rattle.session_lists.specs.Lists.{Rows, AreLists, AreHeld, rows_of};
 
     ghost Value = { Rows O.Rest };
 
     ghost view = { λ t. record { rows = rows_of t.keys.items t.slots.slots; room = t.slots.room } };
 
-    ghost invariant = { λ t. AreLists O.rests t.keys.items t.slots.slots t.heads.items × (t.slots.room ≤ vec_capacity t.keys) × (t.slots.room ≤ vec_capacity t.heads) };
-}
-
-// The key of a slot that has a row.
-fn key_at<R: Copy>(keys: &[Option<(Session, R)>], slot: u32) -> (Session, R)
-    requires { (k : Session × R) × (slice_get keys.now slot ≡ Some (Some k)) }
-    ensures { slice_get keys.now slot ≡ Some (Some result) }
-{
-    match keys[slot as usize] {
-        Some(key) => key,
-        None => unreachable!(),
-    }
+    ghost invariant = { λ t. AreLists O.rests t.keys.items t.slots.slots t.heads.items × (t.slots.room ≤ vec_capacity t.keys) × (t.slots.room ≤ vec_capacity t.heads) × AreHeld t.keys.items t.slots.slots };
 }
 
 // How a key stands to another.
@@ -59,6 +52,13 @@ fn is_before<O: RestOrder>(key: &(Session, O::Rest), session: Session, rest: &O:
     ensures { result ≡ is_lt ((row_keys O.rests).cmp key.now (session, rest.now)) }
 {
     order::<O>(key, session, rest).is_lt()
+}
+
+// Whether a key is behind another.
+fn is_behind<O: RestOrder>(key: &(Session, O::Rest), session: Session, rest: &O::Rest) -> bool
+    ensures { result ≡ is_gt ((row_keys O.rests).cmp key.now (session, rest.now)) }
+{
+    order::<O>(key, session, rest).is_gt()
 }
 
 // Whether two keys are one.
@@ -94,60 +94,102 @@ fn seek<O: RestOrder>(
     at
 }
 
-// The slot of a key's row. `Err`: it has none, and one would go before this slot, or behind all.
+// Where the walk to a key begins, and how many marks are not behind the key.
+#[derive(Clone, Copy)]
+struct Beginning {
+    at: Option<u32>,
+    passed: usize,
+}
+
+// Whether a mark is not behind a key. One whose row is gone is taken to be.
+fn is_up_to<O: RestOrder>(
+    keys: &[Option<(Session, O::Rest)>],
+    mark: u32,
+    session: Session,
+    rest: &O::Rest,
+) -> bool
+    ensures { result ≡ true → IsUpTo O.rests keys.now (session, rest.now) mark }
+{
+    match key_of(keys, mark) {
+        Some(key) => !is_behind::<O>(&key, session, rest),
+        None => false,
+    }
+}
+
+// The last mark that is not behind a key, or where none is the first row.
+fn start<O: RestOrder>(
+    keys: &[Option<(Session, O::Rest)>],
+    marks: &[Mark],
+    first: Option<u32>,
+    session: Session,
+    rest: &O::Rest,
+) -> Beginning
+    ensures { IsFrom O.rests keys.now (session, rest.now) first result.at }
+{
+    let mut at = first;
+    let mut passed = 0;
+    let mut behind = marks.len();
+    while passed < behind {
+        let middle = passed + (behind - passed) / 2;
+        let mark = marks[middle].slot;
+        if is_up_to::<O>(keys, mark, session, rest) {
+            at = Some(mark);
+            passed = middle + 1;
+        } else {
+            behind = middle;
+        }
+    }
+    Beginning { at, passed }
+}
+
+// The row of a key: its slot, and how many marks are not behind it.
+#[derive(Clone, Copy)]
+struct Row {
+    slot: u32,
+    passed: usize,
+}
+
+/// Where the row of a key would go that has none.
+#[derive(Clone, Copy, Debug)]
+pub struct Gap {
+    // The row behind it, and how many marks are before it.
+    behind: Option<u32>,
+    passed: usize,
+}
+
+// The row of a key. `Err`: it has none.
 fn row_of<O: RestOrder>(
     slots: &Ring,
     keys: &[Option<(Session, O::Rest)>],
     heads: &[Head],
+    marks: &[Mark],
     session: Session,
     rest: &O::Rest,
-) -> Result<u32, Option<u32>>
-    requires { AreLists O.rests keys.now slots.now.slots heads.now }
-    ensures there { IfOk result (λ s. IsRow O.rests keys.now slots.now.slots (session, rest.now) s) }
-    ensures absent { IfErr result (λ b. IsGap O.rests keys.now slots.now.slots (session, rest.now) b) }
+) -> Result<Row, Gap>
+    requires lists { AreLists O.rests keys.now slots.now.slots heads.now }
+    requires held { AreHeld keys.now slots.now.slots }
+    ensures there { IfOk result (λ r. IsRow O.rests keys.now slots.now.slots (session, rest.now) r.slot) }
+    ensures absent { IfErr result (λ g. IsGap O.rests keys.now slots.now.slots (session, rest.now) g.behind) }
 {
-    let at = seek::<O>(slots, keys, start(heads, session), session, rest);
+    let from = start::<O>(keys, marks, first(heads), session, rest);
+    let at = seek::<O>(slots, keys, from.at, session, rest);
     let Some(slot) = at else {
-        return Err(at);
+        return Err(Gap {
+            behind: at,
+            passed: from.passed,
+        });
     };
     let key = key_at(keys, slot);
     if is_key::<O>(&key, session, rest) {
-        Ok(slot)
+        Ok(Row {
+            slot,
+            passed: from.passed,
+        })
     } else {
-        Err(at)
-    }
-}
-
-// Puts the key of a slot down. The room is there, so this takes no memory.
-fn set_key<R: Copy>(keys: &mut Vec<Option<(Session, R)>>, slot: u32, key: (Session, R))
-    requires { slot < vec_capacity keys.old }
-    ensures here { slice_get keys.new.items slot ≡ Some (Some key) }
-    ensures same { (t : ℕ) → (t ≡ slot → ⊥) → key_row t (slice_get keys.new.items t) ≡ key_row t (slice_get keys.old.items t) }
-    ensures capacity { vec_capacity keys.new ≡ vec_capacity keys.old }
-{
-    for _more in keys.len()..slot as usize + 1 {
-        keys.push_reserved(None);
-    }
-    keys[slot as usize] = Some(key);
-}
-
-// A slot, where its row is of this session.
-fn of_session<R: Copy>(
-    keys: &[Option<(Session, R)>],
-    slot: Option<u32>,
-    session: Session,
-) -> Option<u32>
-    requires { IfSome slot (λ s. (k : Session × R) × (slice_get keys.now s ≡ Some (Some k))) }
-    ensures { result ≡ of_session keys.now session slot }
-{
-    let Some(slot) = slot else {
-        return None;
-    };
-    let key = key_at(keys, slot);
-    if session.cmp(&key.0) == Ordering::Equal {
-        Some(slot)
-    } else {
-        None
+        Err(Gap {
+            behind: at,
+            passed: from.passed,
+        })
     }
 }
 
@@ -161,7 +203,13 @@ impl<O: RestOrder> SessionLists<O> {
         let slots = Ring::open(alloc, room)?;
         let keys = Vec::with_capacity(alloc, room)?;
         let heads = Vec::with_capacity(alloc, room)?;
-        Ok(SessionLists { slots, keys, heads })
+        let marks = Vec::with_capacity(alloc, room)?;
+        Ok(SessionLists {
+            slots,
+            keys,
+            heads,
+            marks,
+        })
     }
 
     /// The slot of a key's row. `None` exactly where it has none.
@@ -172,12 +220,32 @@ impl<O: RestOrder> SessionLists<O> {
             &self.slots,
             self.keys.as_slice(),
             self.heads.as_slice(),
+            self.marks.as_slice(),
             session,
             &rest,
         );
         match row {
-            Ok(slot) => Some(slot),
+            Ok(row) => Some(row.slot),
             Err(_) => None,
+        }
+    }
+
+    /// The slot of a key's row. `Err` exactly where it has none, with the place where one would go.
+    pub fn place(&self, session: Session, rest: O::Rest) -> Result<u32, Gap>
+        ensures there { IfOk result (λ s. find (row_keys O.rests).cmp (session, rest) self.now.rows ≡ Some s) }
+        ensures absent { IfErr result (λ g. IsGapIn O.rests self.now.rows (session, rest) g) }
+    {
+        let row = row_of::<O>(
+            &self.slots,
+            self.keys.as_slice(),
+            self.heads.as_slice(),
+            self.marks.as_slice(),
+            session,
+            &rest,
+        );
+        match row {
+            Ok(row) => Ok(row.slot),
+            Err(gap) => Err(gap),
         }
     }
 
@@ -189,19 +257,30 @@ impl<O: RestOrder> SessionLists<O> {
         requires new { (i : ℕ) (e : (Session × O.Rest) × ℕ) → slice_get self.old.rows i ≡ Some e → e.1 ≡ slot → ⊥ }
         ensures { self.new ≡ record { rows = put (row_keys O.rests).cmp (session, rest) slot self.old.rows; room = self.old.room } }
     {
-        let row = row_of::<O>(
-            &self.slots,
-            self.keys.as_slice(),
-            self.heads.as_slice(),
-            session,
-            &rest,
-        );
-        let Err(behind) = row else {
+        let Err(gap) = self.place(session, rest) else {
             unreachable!();
         };
-        put_first(&mut self.heads, session, behind, slot);
-        self.slots.insert(slot, behind);
+        self.insert_at(gap, session, rest, slot);
+    }
+
+    /// Puts the row of a key in at its place, with a slot that has no row yet. Nothing is searched.
+    pub fn insert_at(&mut self, gap: Gap, session: Session, rest: O::Rest, slot: u32)
+        requires gap { IsGapIn O.rests self.old.rows (session, rest) gap }
+        requires left { length self.old.rows < self.old.room }
+        requires within { slot < self.old.room }
+        requires new { (i : ℕ) (e : (Session × O.Rest) × ℕ) → slice_get self.old.rows i ≡ Some e → e.1 ≡ slot → ⊥ }
+        ensures { self.new ≡ record { rows = put (row_keys O.rests).cmp (session, rest) slot self.old.rows; room = self.old.room } }
+    {
+        put_first(&mut self.heads, session, gap.behind, slot);
+        self.slots.insert(slot, gap.behind);
         set_key(&mut self.keys, slot, (session, rest));
+        count_in(
+            &mut self.marks,
+            gap.passed,
+            &self.slots,
+            self.keys.as_slice(),
+            slot,
+        );
     }
 
     /// Takes the row of a key out, and hands back its slot. `None` exactly where it has none; nothing changes then.
@@ -213,16 +292,20 @@ impl<O: RestOrder> SessionLists<O> {
             &self.slots,
             self.keys.as_slice(),
             self.heads.as_slice(),
+            self.marks.as_slice(),
             session,
             &rest,
         );
-        let Ok(slot) = row else {
+        let Ok(row) = row else {
             return None;
         };
+        let slot = row.slot;
         let next = self.slots.after(slot);
         let behind = of_session(self.keys.as_slice(), next, session);
         take_first(&mut self.heads, session, slot, behind);
+        count_out(&mut self.marks, row.passed, slot, next);
         self.slots.remove(slot);
+        unset_key(&mut self.keys, slot);
         Some(slot)
     }
 
@@ -251,12 +334,13 @@ impl<O: RestOrder> SessionLists<O> {
             &self.slots,
             self.keys.as_slice(),
             self.heads.as_slice(),
+            self.marks.as_slice(),
             session,
             &rest,
         );
         match row {
-            Ok(slot) => of_session(self.keys.as_slice(), self.slots.after(slot), session),
-            Err(place) => of_session(self.keys.as_slice(), place, session),
+            Ok(row) => of_session(self.keys.as_slice(), self.slots.after(row.slot), session),
+            Err(gap) => of_session(self.keys.as_slice(), gap.behind, session),
         }
     }
 
@@ -296,5 +380,6 @@ impl<O: RestOrder> SessionLists<O> {
         self.slots.clear();
         self.keys.clear();
         self.heads.clear();
+        self.marks.clear();
     }
 }

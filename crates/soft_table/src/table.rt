@@ -76,16 +76,16 @@ impl<F: Fact> SoftTable<F> {
         ensures err { OnErr result (self.new ≡ self.old) }
     {
         let (session, rest) = fact.key();
-        match self.rows.find(session, rest) {
-            Some(slot) => {
+        match self.rows.place(session, rest) {
+            Ok(slot) => {
                 self.pool.set(Slot(slot), fact);
                 self.pool.renew(Slot(slot), left);
             }
-            None => {
+            Err(gap) => {
                 let Ok(slot) = self.pool.add(fact, left) else {
                     return Err(Full);
                 };
-                self.rows.insert(session, rest, slot.0);
+                self.rows.insert_at(gap, session, rest, slot.0);
             }
         }
         Ok(())

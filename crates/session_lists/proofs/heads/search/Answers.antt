@@ -3,7 +3,6 @@ use Rattle.std.proofs.lemmas.Fn.{always_returns_same}
 use Rattle.rsvp_base.proofs.Rows.{searched_found, searched_absent}
 use Rattle.rsvp_base.specs.Orders.{sessions}
 use Rattle.session_lists.specs.Lists.{head_row}
-use Rattle.session_lists.proofs.Leading.{searched_below, place_within}
 use Rattle.session_lists.proofs.heads.search.Goals as goal
 
 pub returns : goal.returns
@@ -13,6 +12,4 @@ returns c =
     record {
       there = searched_found sessions head_row c.args.heads.now c.args.session c.binary_search_by.result c.requires facts.bound by_key;
       absent = searched_absent sessions head_row c.args.heads.now c.args.session c.binary_search_by.result c.requires facts.bound by_key;
-      below = searched_below c.args.heads.now c.args.session c.binary_search_by.result c.requires facts.bound by_key;
-      within = place_within _ c.binary_search_by.result facts.bound;
     }

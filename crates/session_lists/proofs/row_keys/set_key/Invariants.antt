@@ -1,7 +1,7 @@
 use Rattle.std.proofs.Common.{◌≡◌, length, vec_capacity, ℕ}
 use Rattle.std.specs.Prelude.{slice_get}
 use Rattle.session_lists.specs.Lists.{key_row}
-use Rattle.session_lists.proofs.lists.set_key.Given as goal
+use Rattle.session_lists.proofs.row_keys.set_key.Given as goal
 
 abbrev pub invariant-loop-more : goal.invariant-loop-more
 invariant-loop-more g l = record {
