@@ -1,11 +1,11 @@
 //! Walks along the reservations of a session: what one more would make of its next hops and names.
-ghost use Rattle.std.specs.Prelude.{◌≡◌, ◌≤◌, ◌+◌, ℕ, [], true, None, Some, is_some, length, cond, nat_le};
+ghost use Rattle.std.specs.Prelude.{◌≡◌, ◌<◌, ◌≤◌, ◌+◌, ◌↔◌, ℕ, [], true, IfOk, IsErr, None, Some, is_some, length, cond, nat_le};
 ghost use Rattle.std.specs.FinMap.Entries.{find};
 ghost use Rattle.soft_table.specs.Facts.{facts_by, sessions_in};
 ghost use Rattle.std.specs.List.{list_any};
 ghost use Rattle.std.specs.Ordering.{eq_by_cmp};
 ghost use Rattle.rsvp_base.specs.Rows.{AreRows};
-ghost use Rattle.rsvp_base.specs.Sets.{IsWithin};
+ghost use Rattle.rsvp_base.specs.Sets.{IsWithin, union};
 ghost use Rattle.rsvp_base.specs.Table.{size};
 ghost use Rattle.resv_state.specs.declared.fact.Held.{Held};
 ghost use Rattle.style_rules.specs.Lines.{line_keys, next_hops};
@@ -14,7 +14,7 @@ ghost use Rattle.resv_state.specs.Resvs.{held_key, held_row};
 ghost use Rattle.resv_state.specs.Walks.{AreFew, held_under, hops_in, is_full, rests, with_hop, with_names};
 
 use crate::fact::{Held, rest_order};
-use rsvp_base::{Addr, Part, Senders, Session, Unit};
+use rsvp_base::{Addr, Full, Part, Senders, Session, Unit};
 use soft_table::{Fact, SoftTable};
 use std::cmp::Ordering;
 
@@ -88,6 +88,17 @@ pub(crate) fn fits_hop(table: &SoftTable<Held>, session: Session, hop: (u8, Addr
     count == NEXT_HOPS && has_hop(table, session, hop)
 }
 
+// The names of both lists. Most lists of a session have the same names, and nothing is put together then.
+fn union(names: &Senders, more: &Senders) -> Result<Senders, Full>
+    ensures ok { IfOk result (λ all. all ≡ union names.now more.now) }
+    ensures full { IsErr result ↔ (16 < size (union names.now more.now)) }
+{
+    if more.is_within(names) {
+        return Ok(names.copy());
+    }
+    names.union(more)
+}
+
 // Whether a session may have the names of this part, beside those of its reservations but the one of this key.
 pub(crate) fn fits_names(
     table: &SoftTable<Held>,
@@ -101,7 +112,7 @@ pub(crate) fn fits_names(
     for held in table.of_session(session) {
         let (_, rest) = held.key();
         if !is_rest(key, &rest) {
-            match names.union(&held.fact.part.senders) {
+            match union(&names, &held.fact.part.senders) {
                 Ok(all) => names = all,
                 Err(_) => return false,
             }
