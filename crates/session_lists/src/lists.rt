@@ -8,7 +8,7 @@ ghost use Rattle.rsvp_base.specs.Table.{keys, size};
 ghost use Rattle.rsvp_base.specs.Under.{rows_under};
 
 use crate::heads::{Head, first, first_in, put_first, take_first};
-use crate::marks::{Mark, count_in, count_out};
+use crate::marks::{Mark, count_in, count_out, most};
 use crate::order::RestOrder;
 use crate::ring::Ring;
 use crate::row_keys::{key_at, key_of, of_session, set_key, unset_key};
@@ -203,7 +203,7 @@ impl<O: RestOrder> SessionLists<O> {
         let slots = Ring::open(alloc, room)?;
         let keys = Vec::with_capacity(alloc, room)?;
         let heads = Vec::with_capacity(alloc, room)?;
-        let marks = Vec::with_capacity(alloc, room)?;
+        let marks = Vec::with_capacity(alloc, most(room))?;
         Ok(SessionLists {
             slots,
             keys,

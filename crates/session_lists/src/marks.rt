@@ -15,10 +15,16 @@ pub(crate) struct Mark {
     rows: u32,
 }
 
-// How many rows a stretch has at most, and where a longer one is cut in two.
-const LONGEST: u32 = 16;
+// How many rows a stretch has at most.
+const LONGEST: u32 = 32;
 
-const MIDDLE: u32 = 8;
+// Where a longer one is cut in two. Two beside each other that have no more rows than this become one.
+const MIDDLE: u32 = 16;
+
+/// How many marks there are at most, for so many slots: two stretches beside each other have more than 16 rows.
+pub(crate) fn most(room: usize) -> usize {
+    room / 8 + 1
+}
 
 // The row in the middle of the stretch of a mark.
 fn middle<R: Copy>(slots: &Ring, keys: &[Option<(Session, R)>], mark: u32) -> Option<u32>
@@ -59,8 +65,7 @@ pub(crate) fn count_in<R: Copy>(
         marks[stretch].rows = mark.rows + 1;
         return;
     }
-    // With a mark for each slot there is no room for more, and none is needed.
-    if slots.room() <= marks.len() {
+    if most(slots.room()) <= marks.len() {
         return;
     }
     if let Some(slot) = middle(slots, keys, mark.slot) {
@@ -75,6 +80,21 @@ pub(crate) fn count_in<R: Copy>(
     }
 }
 
+// Makes one stretch of two short ones.
+fn join(marks: &mut Vec<Mark>, stretch: usize)
+    ensures { vec_capacity marks.old ≤ vec_capacity marks.new }
+{
+    let behind = stretch.saturating_add(1);
+    if marks.len() <= behind {
+        return;
+    }
+    let rows = marks[stretch].rows.saturating_add(marks[behind].rows);
+    if rows <= MIDDLE {
+        marks[stretch].rows = rows;
+        marks.remove(behind);
+    }
+}
+
 /// Takes a row that is gone from those behind so many marks. A mark on it goes to the row behind it.
 pub(crate) fn count_out(marks: &mut Vec<Mark>, passed: usize, slot: u32, behind: Option<u32>)
     ensures { vec_capacity marks.old ≤ vec_capacity marks.new }
@@ -86,10 +106,12 @@ pub(crate) fn count_out(marks: &mut Vec<Mark>, passed: usize, slot: u32, behind:
     let mark = marks[stretch];
     if mark.rows <= 1 {
         marks.remove(stretch);
-        return;
+    } else {
+        marks[stretch].rows = mark.rows - 1;
+        if let (true, Some(behind)) = (mark.slot == slot, behind) {
+            marks[stretch].slot = behind;
+        }
+        join(marks, stretch);
     }
-    marks[stretch].rows = mark.rows - 1;
-    if let (true, Some(behind)) = (mark.slot == slot, behind) {
-        marks[stretch].slot = behind;
-    }
+    join(marks, stretch.saturating_sub(1));
 }
