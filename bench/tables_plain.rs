@@ -60,6 +60,7 @@ fn union(a: &[Sender], b: &[Sender]) -> Vec<Sender> {
     all
 }
 
+#[derive(Clone)]
 struct Fact {
     part: Part,
     _confirm: Option<u32>,
@@ -116,6 +117,35 @@ impl Table {
         self.sessions.entry(session).or_default().insert(key, (Fact { part, _confirm: None }, left));
         self.facts += is_new as usize;
         Ok(())
+    }
+
+    fn find(&self, session: Session, hop: Hop, unit: Unit) -> Option<Fact> {
+        let (fact, _) = self.sessions.get(&session)?.get(&(hop, unit))?;
+        Some(fact.clone())
+    }
+
+    fn remove(&mut self, session: Session, hop: Hop, gone: &[Sender]) -> bool {
+        let Some(own) = self.sessions.get_mut(&session) else {
+            return false;
+        };
+        let units: Vec<Unit> = if self.is_shared { vec![None] } else { gone.iter().copied().map(Some).collect() };
+        let mut had = false;
+        for unit in units {
+            let Some((fact, _)) = own.get_mut(&(hop, unit)) else {
+                continue;
+            };
+            let before = fact.part.senders.len();
+            fact.part.senders.retain(|x| !gone.contains(x));
+            had |= fact.part.senders.len() < before;
+            if fact.part.senders.is_empty() {
+                own.remove(&(hop, unit));
+                self.facts -= 1;
+            }
+        }
+        if own.is_empty() {
+            self.sessions.remove(&session);
+        }
+        had
     }
 
     fn merge<'a>(&self, parts: impl Iterator<Item = &'a Part>) -> BTreeMap<Unit, Part> {
@@ -182,20 +212,40 @@ fn flow(r: u64) -> Flow {
     Flow { r, b: 2000, p: None, low: 64, most: 1500 }
 }
 
-fn fill(table: &mut Table) -> (u64, u64) {
+fn reservation(is_shared: bool, k: u32) -> (Hop, Part) {
+    let (hop, senders) = if is_shared { (k, (0..16).map(source).collect()) } else { (k / 16, vec![source(k % 16)]) };
+    (((k / 16) as u8, 0x0a01_0001 + hop), Part { senders, flow: flow(1000 + k as u64) })
+}
+
+/// Makes a call for each reservation of the table.
+fn each(table: &mut Table, call: impl Fn(&mut Table, Session, Hop, Part) -> Option<u64>) -> (u64, u64) {
     let mut served = (0, 0);
     for number in 0..32u16 {
         for k in 0..32u32 {
-            let (hop, senders) = if table.is_shared { (k, (0..16).map(source).collect()) } else { (k / 16, vec![source(k % 16)]) };
-            let part = Part { senders, flow: flow(1000 + k as u64) };
-            let hop = ((k / 16) as u8, 0x0a01_0001 + hop);
-            if table.put(session(number), hop, part, 157_500).is_err() {
+            let (hop, part) = reservation(table.is_shared, k);
+            let Some(sum) = call(table, session(number), hop, part) else {
                 std::process::exit(1);
-            }
-            served = (served.0 + 1, served.1 + 1);
+            };
+            served = (served.0 + 1, served.1 + sum);
         }
     }
     served
+}
+
+fn put(table: &mut Table, session: Session, hop: Hop, part: Part) -> Option<u64> {
+    table.put(session, hop, part, 157_500).ok().map(|()| 1)
+}
+
+fn find(table: &mut Table, session: Session, hop: Hop, part: Part) -> Option<u64> {
+    let unit = table.unit(&part);
+    table.find(session, hop, unit).map(|fact| fact.part.flow.r)
+}
+
+fn remove(table: &mut Table, session: Session, hop: Hop, part: Part) -> Option<u64> {
+    if !table.remove(session, hop, &part.senders) {
+        return None;
+    }
+    put(table, session, hop, part)
 }
 
 fn weight(parts: &BTreeMap<Unit, Part>) -> u64 {
@@ -264,7 +314,7 @@ fn main() {
         None => (words[1].as_str(), false),
     };
     let mut table = Table { is_shared, facts: 0, sessions: BTreeMap::new() };
-    fill(&mut table);
+    each(&mut table, put);
     let refused = flow(1010);
     let wall = |k: u32| (k % 4 == 0).then_some(Wall { flow: refused, sub: 2 });
     let up: BTreeMap<Sender, Way> = (0..16).map(|k| (source(k), Way { outward: 3, wall: wall(k) })).collect();
@@ -274,9 +324,11 @@ fn main() {
             "fill" => {
                 table.sessions.clear();
                 table.facts = 0;
-                fill(&mut table)
+                each(&mut table, put)
             }
-            "put" => fill(&mut table),
+            "put" => each(&mut table, put),
+            "find" => each(&mut table, find),
+            "remove" => each(&mut table, remove),
             "parts" => {
                 let all = (0..32).flat_map(|n| [(n, 0), (n, 1)]);
                 (64, all.map(|(n, iface)| weight(&table.parts(session(n), iface))).sum())

@@ -8,8 +8,9 @@
 //! behind it each tree has a group of its own. They print how many hops were added, and a sum over what came of it.
 //!
 //! `rsvp_bench put N` puts each reservation of a full table of fixed filters anew N times; `fill` puts them into the empty
-//! table, `parts` merges what is on interfaces, and `toward` what goes toward a previous hop. With `-shared` behind it the
-//! table is of shared filters. They print how many calls were made, and a sum over what came of them.
+//! table, `find` finds each, `remove` takes each out and puts it in again, `parts` merges what is on interfaces, and `toward`
+//! what goes toward a previous hop. With `-shared` behind it the table is of shared filters. They print how many calls were
+//! made, and a sum over what came of them.
 //!
 //! `rsvp_bench wait-one N` lets time pass 4,000 times N times in a pool of 1,024 slots in which one value lives and none runs
 //! out, and `wait-all` where one lives in each slot. They print how many waits were made, and their milliseconds.
@@ -56,7 +57,7 @@ fn main(rt: HostRuntime) -> io::Result<ExitCode> {
     }
     let Some(command) = command_of(&words) else {
         eprintln!(rt;
-            "usage: rsvp_bench read|write|(grow|close|ask|owe)[-apart]|(fill|put|parts|toward)[-shared]|wait-one|wait-all|(decode|encode)-(path|path-adspec|resv|path-err|resv-err|path-tear|resv-tear|resv-conf) N"
+            "usage: rsvp_bench read|write|(grow|close|ask|owe)[-apart]|(fill|put|find|remove|parts|toward)[-shared]|wait-one|wait-all|(decode|encode)-(path|path-adspec|resv|path-err|resv-err|path-tear|resv-tear|resv-conf) N"
         )?;
         return Ok(ExitCode::from(USAGE));
     };

@@ -13,6 +13,10 @@ pub enum Calls {
     Fill,
     /// Each is put in place of itself, as a refresh does.
     Refresh,
+    /// Each is found.
+    Find,
+    /// Each is taken out, and put in again.
+    Remove,
     /// The reservations of each session are merged on each interface.
     Parts,
     /// What they ask for toward a previous hop from which all senders come, one in four of them with a blockade.
@@ -59,6 +63,8 @@ fn serve<S: Sample>(alloc: Global, calls: Calls, times: u32) -> Option<Served> {
                 fill(&mut table)?
             }
             Calls::Refresh => fill(&mut table)?,
+            Calls::Find => find_all(&table)?,
+            Calls::Remove => remove_all(&mut table)?,
             Calls::Parts => merge_all(&table),
             Calls::Toward => send_all(&table, &up),
         };
@@ -86,6 +92,39 @@ fn fill<S: Sample>(table: &mut ResvTable<S>) -> Option<Served> {
     for number in 0..SESSIONS {
         for k in 0..EACH {
             let fact = S::reservation(number, k)?;
+            if table.pull_dead().is_some() {
+                return None;
+            }
+            table.put(fact, LIFETIME).ok()?;
+            served = both(served, once(1));
+        }
+    }
+    Some(served)
+}
+
+// Finds each reservation.
+fn find_all<S: Sample>(table: &ResvTable<S>) -> Option<Served> {
+    let mut served = Served::default();
+    for number in 0..SESSIONS {
+        for k in 0..EACH {
+            let fact = S::reservation(number, k)?;
+            let unit = fact.part.unit(S::kind());
+            let found = table.find(fact.session, fact.iface, fact.next, unit)?;
+            served = both(served, once(found.part.flow.r.value()));
+        }
+    }
+    Some(served)
+}
+
+// Takes each reservation out, and puts it in again.
+fn remove_all<S: Sample>(table: &mut ResvTable<S>) -> Option<Served> {
+    let mut served = Served::default();
+    for number in 0..SESSIONS {
+        for k in 0..EACH {
+            let fact = S::reservation(number, k)?;
+            if !table.remove(fact.session, fact.iface, fact.next, &fact.part.senders) {
+                return None;
+            }
             if table.pull_dead().is_some() {
                 return None;
             }

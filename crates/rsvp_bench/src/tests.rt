@@ -31,10 +31,14 @@ fn a_full_table_answers_for_all(rt: HostRuntime) {
     for (is_shared, calls, expected) in [
         (false, Calls::Fill, (1024u64, 1024u64)),
         (false, Calls::Refresh, (1024, 1024)),
+        (false, Calls::Find, (1024, 32 * 32_496)),
+        (false, Calls::Remove, (1024, 1024)),
         (false, Calls::Parts, (64, 32 * (32 + 32_496))),
         (false, Calls::Toward, (32, 32 * (16 + 12_288 + 4024))),
         (true, Calls::Fill, (1024, 1024)),
         (true, Calls::Refresh, (1024, 1024)),
+        (true, Calls::Find, (1024, 32 * 32_496)),
+        (true, Calls::Remove, (1024, 1024)),
         (true, Calls::Parts, (64, 32 * (16 + 1015 + 16 + 1031))),
         (true, Calls::Toward, (32, 32 * (16 + 1009))),
     ] {
