@@ -10,3 +10,4 @@ pub mod Whole
 pub mod Grammar
 pub mod Closed
 pub mod Spelling
+pub mod Taken

@@ -7,3 +7,4 @@ pub mod Grammar
 pub mod Hints
 pub mod Spells
 pub mod Laws
+pub mod Taking

@@ -1,9 +1,10 @@
 //! Reading messages.
-ghost use Rattle.std.specs.Prelude.{◌≡◌, ◌≤◌, length, IfOk, IfErr, Ok, Err};
+ghost use Rattle.std.specs.Prelude.{◌≡◌, ◌≤◌, length, Some, IfOk, IfErr, Ok, Err};
 ghost use Rattle.rsvp_messages.specs.declared.fault.MsgErr.{MsgErr as AnError};
 ghost use Rattle.rsvp_messages.specs.declared.message.Message.{Message as AMessage};
 ghost use Rattle.rsvp_messages.specs.Proper.{IsProper};
-ghost use Rattle.message_wire.specs.Spells.{kind_with, header_of, Says, Fails, Spells, IsFirstFault};
+ghost use Rattle.message_wire.specs.Hints.{IsHint};
+ghost use Rattle.message_wire.specs.Spells.{kind_with, header_of, Spells, IsFirstFault};
 
 use crate::checksum::is_right;
 use crate::hinting::{hint, no_hint};
@@ -42,30 +43,36 @@ pub fn decode(bytes: &[u8]) -> Result<Message, MsgErr>
             })
         }
     };
-    match objects(kind, bytes) {
-        Ok(message) => Ok(message),
-        Err(fault) => Err(MsgErr {
-            fault,
-            kind: Some(kind),
-            hint: hint(bytes),
-        }),
+    let mut seen = Seen::new();
+    match walk(kind, bytes, &mut seen) {
+        Ok(()) => {}
+        Err(fault) => return Err(told(kind, fault, bytes)),
+    }
+    match message(kind, &mut seen) {
+        Ok(message) => return Ok(message),
+        Err(fault) => return Err(told(kind, fault, bytes)),
     }
 }
 
-// The message that the bytes behind the header make, or their first fault.
-fn objects(kind: Kind, bytes: &[u8]) -> Result<Message, Fault>
+// A fault of the objects of a message, with what could be read.
+#[cold]
+fn told(kind: Kind, fault: Fault, bytes: &[u8]) -> MsgErr
     requires long { 8 ≤ length bytes.now }
     requires short { length bytes.now ≤ 65535 }
-    ensures ok { IfOk result (Says kind bytes.now) }
-    ensures err { IfErr result (Fails kind bytes.now) }
+    ensures fault { result.fault ≡ fault }
+    ensures kind { result.kind ≡ Some kind }
+    ensures hint { IsHint bytes.now result.hint }
 {
-    let mut seen = Seen::new();
-    walk(kind, bytes, &mut seen)?;
-    message(kind, &seen)
+    MsgErr {
+        fault,
+        kind: Some(kind),
+        hint: hint(bytes),
+    }
 }
 
 // The kind that the header names, or the header's first fault.
 #[tactic(auto, unfolding(crate::specs::Spells::header_of))]
+#[inline(always)]
 fn header(bytes: &[u8]) -> Result<Kind, Fault>
     ensures is { result ≡ header_of bytes.now }
     ensures long { IfOk result (λ _. 8 ≤ length bytes.now) }
@@ -90,6 +97,7 @@ fn header(bytes: &[u8]) -> Result<Kind, Fault>
 }
 
 // The kind with a message type.
+#[inline(always)]
 fn kind_with(number: u8) -> Result<Kind, Fault>
     ensures { result ≡ kind_with number }
 {

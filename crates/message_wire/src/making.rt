@@ -11,27 +11,29 @@ use rsvp_messages::{
     Ask, Blame, Fault, FixedList, Kind, Message, PathErrMsg, PathMsg, PathTearMsg, ResvConfMsg,
     ResvErrMsg, ResvMsg, ResvTearMsg, Tear,
 };
-use rsvp_objects::Adspec;
 
-/// The message of all objects, or the lowest class that is missing.
+/// The message of all objects, or the lowest class that is missing. What is said by lists is moved out.
+//
+// Each kind returns by itself, so that no message is moved to where all kinds meet.
 #[tactic(auto, unfolding(crate::specs::Messages::message_of))]
-pub fn message(kind: Kind, seen: &Seen) -> Result<Message, Fault>
-    ensures { result ≡ message_of kind seen.now }
+#[inline(always)]
+pub fn message(kind: Kind, seen: &mut Seen) -> Result<Message, Fault>
+    ensures { result ≡ message_of kind seen.old }
 {
     match kind {
-        Kind::Path => path(seen),
-        Kind::Resv => resv(seen),
-        Kind::PathErr => path_err(seen),
-        Kind::ResvErr => resv_err(seen),
-        Kind::PathTear => path_tear(seen),
-        Kind::ResvTear => resv_tear(seen),
-        Kind::ResvConf => resv_conf(seen),
+        Kind::Path => return path(seen),
+        Kind::Resv => return resv(seen),
+        Kind::PathErr => return path_err(seen),
+        Kind::ResvErr => return resv_err(seen),
+        Kind::PathTear => return path_tear(seen),
+        Kind::ResvTear => return resv_tear(seen),
+        Kind::ResvConf => return resv_conf(seen),
     }
 }
 
 #[tactic(auto, unfolding(crate::specs::Messages::path_of))]
-fn path(seen: &Seen) -> Result<Message, Fault>
-    ensures { result ≡ path_of seen.now }
+fn path(seen: &mut Seen) -> Result<Message, Fault>
+    ensures { result ≡ path_of seen.old }
 {
     let (session, police) = needed(class::SESSION, seen.session)?;
     let hop = needed(class::RSVP_HOP, seen.hop)?;
@@ -43,20 +45,21 @@ fn path(seen: &Seen) -> Result<Message, Fault>
         hop,
         period,
         sender,
-        adspec: advert(&seen.advert),
+        adspec: seen.advert.take(),
     }))
 }
 
 #[tactic(auto, unfolding(crate::specs::Messages::resv_of))]
-fn resv(seen: &Seen) -> Result<Message, Fault>
-    ensures { result ≡ resv_of seen.now }
+fn resv(seen: &mut Seen) -> Result<Message, Fault>
+    ensures { result ≡ resv_of seen.old }
 {
     let (session, _) = needed(class::SESSION, seen.session)?;
     let hop = needed(class::RSVP_HOP, seen.hop)?;
     let period = needed(class::TIME_VALUES, seen.period)?;
     let style = needed(class::STYLE, seen.style)?;
     let flow = needed(class::FLOWSPEC, seen.flow)?;
-    let ask = ask(copied(&seen.scope), seen.due, &seen.filters, flow, style)?;
+    let scope = seen.scope.take();
+    let ask = ask(scope, seen.due, &seen.filters, flow, style)?;
     Ok(Message::Resv(ResvMsg {
         session,
         hop,
@@ -80,14 +83,15 @@ fn path_err(seen: &Seen) -> Result<Message, Fault>
 }
 
 #[tactic(auto, unfolding(crate::specs::Messages::resv_err_of))]
-fn resv_err(seen: &Seen) -> Result<Message, Fault>
-    ensures { result ≡ resv_err_of seen.now }
+fn resv_err(seen: &mut Seen) -> Result<Message, Fault>
+    ensures { result ≡ resv_err_of seen.old }
 {
     let (session, _) = needed(class::SESSION, seen.session)?;
     let hop = needed(class::RSVP_HOP, seen.hop)?;
     let err = needed(class::ERROR_SPEC, seen.error)?;
     let style = needed(class::STYLE, seen.style)?;
-    let blame = blame(copied(&seen.scope), &seen.filters, seen.flow, style)?;
+    let scope = seen.scope.take();
+    let blame = blame(scope, &seen.filters, seen.flow, style)?;
     Ok(Message::ResvErr(ResvErrMsg {
         session,
         hop,
@@ -110,13 +114,14 @@ fn path_tear(seen: &Seen) -> Result<Message, Fault>
 }
 
 #[tactic(auto, unfolding(crate::specs::Messages::resv_tear_of))]
-fn resv_tear(seen: &Seen) -> Result<Message, Fault>
-    ensures { result ≡ resv_tear_of seen.now }
+fn resv_tear(seen: &mut Seen) -> Result<Message, Fault>
+    ensures { result ≡ resv_tear_of seen.old }
 {
     let (session, _) = needed(class::SESSION, seen.session)?;
     let hop = needed(class::RSVP_HOP, seen.hop)?;
     let style = needed(class::STYLE, seen.style)?;
-    let tear = tear(copied(&seen.scope), &seen.filters, style)?;
+    let scope = seen.scope.take();
+    let tear = tear(scope, &seen.filters, style)?;
     Ok(Message::ResvTear(ResvTearMsg { session, hop, tear }))
 }
 
@@ -139,6 +144,7 @@ fn resv_conf(seen: &Seen) -> Result<Message, Fault>
 }
 
 // What an object of a class says, which a message needs.
+#[inline(always)]
 fn needed<T>(number: u8, said: Option<T>) -> Result<T, Fault>
     ensures { result ≡ needed number said }
 {
@@ -148,25 +154,8 @@ fn needed<T>(number: u8, said: Option<T>) -> Result<T, Fault>
     }
 }
 
-fn copied(scope: &Option<Senders>) -> Option<Senders>
-    ensures { result ≡ scope.now }
-{
-    match scope {
-        None => None,
-        Some(senders) => Some(senders.copy()),
-    }
-}
-
-fn advert(said: &Option<Adspec>) -> Option<Adspec>
-    ensures { result ≡ said.now }
-{
-    match said {
-        None => None,
-        Some(adspec) => Some(adspec.copy()),
-    }
-}
-
 // SENDER_TEMPLATE and SENDER_TSPEC, which stand together.
+#[inline(always)]
 fn sender_with(
     template: Option<Sender>,
     tspec: Option<Flow>,
@@ -181,6 +170,7 @@ fn sender_with(
     }
 }
 
+#[inline(always)]
 fn ask(
     scope: Option<Senders>,
     due: bool,
@@ -200,6 +190,7 @@ fn ask(
     }
 }
 
+#[inline(always)]
 fn tear(scope: Option<Senders>, filters: &Filters, style: StyleKind) -> Result<Tear, Fault>
     ensures { result ≡ tear_of scope filters.now style }
 {
@@ -210,6 +201,7 @@ fn tear(scope: Option<Senders>, filters: &Filters, style: StyleKind) -> Result<T
     }
 }
 
+#[inline(always)]
 fn blame(
     scope: Option<Senders>,
     filters: &Filters,
@@ -230,6 +222,7 @@ fn blame(
 }
 
 // Nobody, or these senders with the flow.
+#[inline(always)]
 fn blame_by_flow(
     style: StyleKind,
     senders: Option<Senders>,
@@ -252,6 +245,7 @@ fn blame_by_flow(
 }
 
 // The flows of FF by sender. A FLOWSPEC at the end lacks the FILTER_SPEC behind it.
+#[inline(always)]
 fn fixed(due: bool, filters: &Filters) -> Result<FixedList, Fault>
     ensures { result ≡ fixed_of due filters.now }
 {

@@ -1,17 +1,18 @@
 //! Reading the objects of a message.
 ghost use Rattle.std.specs.Prelude.{◌≡◌, ◌≤◌, ◌<◌, [], List, length, OnOk, IfOk, IfErr};
 ghost use Rattle.rsvp_objects.specs.declared.object.Object.{Object as AnObject};
-ghost use Rattle.message_wire.specs.Places.{read_in, object_in, HasRoom, Stand};
+ghost use Rattle.message_wire.specs.Places.{read_in, object_in, Stand};
 ghost use Rattle.message_wire.specs.Said.{seen_of};
 ghost use Rattle.message_wire.specs.Spells.{StopsAt};
 ghost use Rattle.message_wire.specs.Table.{role_of};
+ghost use Rattle.message_wire.specs.Taking.{object_with_head, Takes};
 
 use crate::places::{has_place, is_repeated, name_fault};
 use crate::role::Role;
 use crate::seen::Seen;
-use crate::table::{is_unread, role};
+use crate::table::{class, is_unread, role};
 use rsvp_messages::{Fault, Kind};
-use rsvp_objects::{ObjErr, Object, head_at, is_known, object_with};
+use rsvp_objects::{Head, ObjErr, Object, head_at, is_known, object_with};
 
 /// The size of the common header, behind which the first object stands (RFC 2205, 3.1.1).
 pub const HEADER: usize = 8;
@@ -20,6 +21,7 @@ pub const HEADER: usize = 8;
 pub const HEAD: usize = 4;
 
 /// Gathers what all objects of a message say, or answers the first fault of the first that has one.
+#[inline(always)]
 pub fn walk(kind: Kind, bytes: &[u8], seen: &mut Seen) -> Result<(), Fault>
     requires long { 8 ≤ length bytes.now }
     requires short { length bytes.now ≤ 65535 }
@@ -29,45 +31,120 @@ pub fn walk(kind: Kind, bytes: &[u8], seen: &mut Seen) -> Result<(), Fault>
 {
     let mut at = HEADER;
     while at < bytes.len() {
-        let (object, next) = object_in(kind, seen, at, bytes)?;
-        seen.add(object);
+        let next = step(kind, seen, at, bytes)?;
         at = next;
     }
     Ok(())
 }
 
-// The object at a place behind others, and the place behind it. Else the first fault there.
+// Adds what the object at a place behind others says, and answers the place behind it. Else the first fault there.
 #[tactic(auto, unfolding(crate::specs::Places::object_in))]
 #[inline(always)]
-fn object_in(kind: Kind, seen: &Seen, at: usize, bytes: &[u8]) -> Result<(Object, usize), Fault>
+fn step(kind: Kind, seen: &mut Seen, at: usize, bytes: &[u8]) -> Result<usize, Fault>
     requires inside { at < length bytes.now }
     requires short { length bytes.now ≤ 65535 }
-    ensures is { result ≡ object_in kind seen.now at bytes.now }
-    ensures bounds { IfOk result (λ r. (at < r.1) × (r.1 ≤ length bytes.now)) }
-    ensures room { IfOk result (λ r. HasRoom seen.now r.0) }
+    ensures takes { Takes (object_in kind seen.old at bytes.now) seen.old seen.new result }
+    ensures bounds { IfOk result (λ next. (at < next) × (next ≤ length bytes.now)) }
 {
-    let place = at as u16;
     let head = match head_at(bytes, at) {
         Ok(head) => head,
         Err(fault) => return Err(Fault::Object(fault)),
     };
-    if !is_known(head.class) {
-        return Err(Fault::Object(ObjErr::Class(place, head.class, head.ctype)));
-    }
-    let role = role(kind, head.class);
-    if !has_place(role, kind, seen, head.class) {
-        return Err(Fault::Order(place));
-    }
-    if is_repeated(role, kind, seen, head.class) {
-        return Err(Fault::Repeated(place));
-    }
     let body = &bytes[at + HEAD..head.end];
-    let object = match read_in(role, kind, place, head.class, head.ctype, body) {
+    let next = take(kind, seen, at as u16, head, body)?;
+    Ok(next)
+}
+
+// Adds what an object with this head and these contents says. Each class that is read is told to `take_as` as a number of its
+// own, so that the compiler makes code for it in which all that concerns other classes is left out.
+#[inline(always)]
+fn take(kind: Kind, seen: &mut Seen, at: u16, head: Head, body: &[u8]) -> Result<usize, Fault>
+    ensures takes { Takes (object_with_head kind seen.old at head body.now) seen.old seen.new result }
+    ensures end { IfOk result (λ next. next ≡ head.end) }
+{
+    match head.class {
+        class::SESSION => take_as(class::SESSION, kind, seen, at, head, body),
+        class::RSVP_HOP => take_as(class::RSVP_HOP, kind, seen, at, head, body),
+        class::TIME_VALUES => take_as(class::TIME_VALUES, kind, seen, at, head, body),
+        class::ERROR_SPEC => take_as(class::ERROR_SPEC, kind, seen, at, head, body),
+        class::SCOPE => take_scope(kind, seen, at, head, body),
+        class::STYLE => take_as(class::STYLE, kind, seen, at, head, body),
+        class::FLOWSPEC => take_as(class::FLOWSPEC, kind, seen, at, head, body),
+        class::FILTER_SPEC => take_as(class::FILTER_SPEC, kind, seen, at, head, body),
+        class::SENDER_TEMPLATE => take_as(class::SENDER_TEMPLATE, kind, seen, at, head, body),
+        class::SENDER_TSPEC => take_as(class::SENDER_TSPEC, kind, seen, at, head, body),
+        class::ADSPEC => take_adspec(kind, seen, at, head, body),
+        class::RESV_CONFIRM => take_as(class::RESV_CONFIRM, kind, seen, at, head, body),
+        _ => take_other(kind, seen, at, head, body),
+    }
+}
+
+// Those that say much, or stand seldom, have functions of their own: what they need room for is not made for others.
+#[inline(never)]
+fn take_scope(kind: Kind, seen: &mut Seen, at: u16, head: Head, body: &[u8]) -> Result<usize, Fault>
+    requires { head.class ≡ 7 }
+    ensures takes { Takes (object_with_head kind seen.old at head body.now) seen.old seen.new result }
+    ensures end { IfOk result (λ next. next ≡ head.end) }
+{
+    take_as(class::SCOPE, kind, seen, at, head, body)
+}
+
+#[inline(never)]
+fn take_adspec(
+    kind: Kind,
+    seen: &mut Seen,
+    at: u16,
+    head: Head,
+    body: &[u8],
+) -> Result<usize, Fault>
+    requires { head.class ≡ 13 }
+    ensures takes { Takes (object_with_head kind seen.old at head body.now) seen.old seen.new result }
+    ensures end { IfOk result (λ next. next ≡ head.end) }
+{
+    take_as(class::ADSPEC, kind, seen, at, head, body)
+}
+
+#[inline(never)]
+fn take_other(kind: Kind, seen: &mut Seen, at: u16, head: Head, body: &[u8]) -> Result<usize, Fault>
+    ensures takes { Takes (object_with_head kind seen.old at head body.now) seen.old seen.new result }
+    ensures end { IfOk result (λ next. next ≡ head.end) }
+{
+    take_as(head.class, kind, seen, at, head, body)
+}
+
+// The same for a class.
+#[inline(always)]
+fn take_as(
+    number: u8,
+    kind: Kind,
+    seen: &mut Seen,
+    at: u16,
+    head: Head,
+    body: &[u8],
+) -> Result<usize, Fault>
+    requires { number ≡ head.class }
+    ensures takes { Takes (object_with_head kind seen.old at head body.now) seen.old seen.new result }
+    ensures end { IfOk result (λ next. next ≡ head.end) }
+{
+    if !is_known(number) {
+        return Err(Fault::Object(ObjErr::Class(at, number, head.ctype)));
+    }
+    let role = role(kind, number);
+    if !has_place(role, kind, seen, number) {
+        return Err(Fault::Order(at));
+    }
+    if is_repeated(role, kind, seen, number) {
+        return Err(Fault::Repeated(at));
+    }
+    let object = match read_in(role, kind, at, number, head.ctype, body) {
         Ok(object) => object,
         Err(fault) => return Err(Fault::Object(fault)),
     };
-    match name_fault(place, seen, &object) {
-        None => Ok((object, head.end)),
+    match name_fault(at, seen, &object) {
+        None => {
+            seen.add(object);
+            Ok(head.end)
+        }
         Some(fault) => Err(fault),
     }
 }

@@ -42,6 +42,7 @@ pub mod class {
 
 /// What the table says of a class in messages of a kind (RFC 2205, 3.1.3 to 3.1.9).
 #[tactic(auto, unfolding(crate::specs::Table::role_of))]
+#[inline(always)]
 pub fn role(kind: Kind, number: u8) -> Role
     ensures { result ≡ role_of kind number }
 {
@@ -91,6 +92,7 @@ pub fn role(kind: Kind, number: u8) -> Role
 }
 
 /// Whether objects of a class may stand anywhere.
+#[inline(always)]
 pub fn is_anywhere(number: u8) -> bool
     ensures { result ≡ is_anywhere number }
 {
@@ -98,6 +100,7 @@ pub fn is_anywhere(number: u8) -> bool
 }
 
 /// Whether messages of a kind skip objects of a class, of this role there, whatever their contents are.
+#[inline(always)]
 pub fn is_unread(role: Role, kind: Kind, number: u8) -> bool
     requires role { role ≡ role_of kind number }
     ensures { result ≡ is_unread kind number }

@@ -43,6 +43,7 @@ pub fn contents(at: u16, class: Class, body: &[u8]) -> Result<Object, ObjErr>
     }
 }
 
+#[inline(always)]
 fn session(body: &[u8]) -> Session
     requires { length body.now ≡ 8 }
     ensures { result ≡ spec.session_in body.now }
@@ -54,6 +55,7 @@ fn session(body: &[u8]) -> Session
     }
 }
 
+#[inline(always)]
 fn hop(body: &[u8]) -> Hop
     requires { length body.now ≡ 8 }
     ensures { result ≡ spec.hop_in body.now }
@@ -64,6 +66,7 @@ fn hop(body: &[u8]) -> Hop
     }
 }
 
+#[inline(always)]
 fn error(body: &[u8]) -> ErrSpec
     requires { length body.now ≡ 8 }
     ensures { result ≡ spec.error_in body.now }
@@ -78,6 +81,7 @@ fn error(body: &[u8]) -> ErrSpec
     }
 }
 
+#[inline(always)]
 fn sender(body: &[u8]) -> Sender
     requires { length body.now ≡ 8 }
     ensures { result ≡ spec.sender_in body.now }
@@ -88,6 +92,7 @@ fn sender(body: &[u8]) -> Sender
     }
 }
 
+#[inline(always)]
 fn style(body: &[u8]) -> Option<StyleKind>
     requires { length body.now ≡ 4 }
     ensures { result ≡ spec.style_in body.now }

@@ -47,6 +47,7 @@ pub const INTSERV: u8 = 2;
 impl Class {
     /// The class with a Class-Num. `None` exactly where no class that is read has it.
     #[tactic(auto, unfolding(crate::specs::Classes::class_with))]
+    #[inline(always)]
     pub fn with_number(number: u8) -> Option<Class>
         ensures { result ≡ class_with number }
     {
@@ -86,6 +87,7 @@ impl Class {
     }
 
     /// Its C-Type.
+    #[inline(always)]
     pub fn ctype(self) -> u8
         ensures { result ≡ ctype_of self }
     {
@@ -96,6 +98,7 @@ impl Class {
     }
 
     /// How many bytes its contents have. `None` where they may have any number, or where another fault tells it.
+    #[inline(always)]
     pub fn size(self) -> Option<usize>
         ensures { result ≡ size_of self }
     {
@@ -112,6 +115,7 @@ impl Class {
 }
 
 /// Whether objects with this Class-Num are skipped unread, but for an ADSPEC whose contents are of their form.
+#[inline(always)]
 pub fn is_skipped(class: u8) -> bool
     ensures { result ≡ is_skipped class }
 {
@@ -123,6 +127,7 @@ pub fn is_skipped(class: u8) -> bool
 }
 
 /// Whether objects with this Class-Num are read or skipped: the others are refused.
+#[inline(always)]
 pub fn is_known(class: u8) -> bool
     ensures { result ≡ (is_skipped class || is_some (class_with class)) }
 {

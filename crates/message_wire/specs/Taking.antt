@@ -1,0 +1,24 @@
+-- What reading an object adds to what the objects before it say.
+use Rattle.std.specs.Prelude.{◌≡◌, ℕ, not, List, Result, Ok, Err, if◌then◌else◌}
+use Rattle.rsvp_objects.specs.declared.head.Head.{Head}
+use Rattle.rsvp_objects.specs.declared.object.Object.{Object}
+use Rattle.rsvp_objects.specs.declared.obj_err.ObjErr.TheVariants.{Class}
+use Rattle.rsvp_messages.specs.declared.fault.Fault.{Fault}
+use Rattle.rsvp_messages.specs.declared.fault.Fault.TheVariants as fault
+use Rattle.rsvp_messages.specs.declared.message.Kind.{Kind}
+use Rattle.message_wire.specs.declared.seen.Seen.{Seen}
+use Rattle.message_wire.specs.Places.{has_place, is_repeated, is_unknown, read_in, by_body}
+use Rattle.message_wire.specs.Said.{with_object}
+
+-- the object with a head and these contents, at a place behind objects that say s, or its first fault
+abbrev pub object_with_head : Kind → Seen → ℕ → Head → List ℕ → Result (Object × ℕ) Fault
+object_with_head kind s at h body =
+    if is_unknown h.class then Err (fault.Object (Class at h.class h.ctype)) else
+    if not (has_place kind s h.class) then Err (fault.Order at) else
+    if is_repeated kind s h.class then Err (fault.Repeated at) else
+    by_body at s h.end (read_in kind at h.class h.ctype body)
+
+-- an object that was read is added, and the place behind it told; a fault is told
+abbrev pub Takes : Result (Object × ℕ) Fault → Seen → Seen → Result ℕ Fault → Type 0
+Takes (Ok read) s t told = (told ≡ Ok read.1) × (t ≡ with_object s read.0)
+Takes (Err g) s t told = told ≡ Err g
