@@ -18,7 +18,7 @@ object_with_head kind s at h body =
     if is_repeated kind s h.class then Err (fault.Repeated at) else
     by_body at s h.end (read_in kind at h.class h.ctype body)
 
--- an object that was read is added, and the place behind it told; a fault is told
-abbrev pub Takes : Result (Object × ℕ) Fault → Seen → Seen → Result ℕ Fault → Type 0
-Takes (Ok read) s t told = (told ≡ Ok read.1) × (t ≡ with_object s read.0)
-Takes (Err g) s t told = told ≡ Err g
+-- an object that was read is added, and the place behind it is next; a fault is told
+abbrev pub Takes : Result (Object × ℕ) Fault → Seen → Seen → ℕ → Result (Unit {0}) Fault → Type 0
+Takes (Ok read) s t next told = (told ≡ Ok tt) × (read.1 ≡ next) × (t ≡ with_object s read.0)
+Takes (Err g) s t next told = told ≡ Err g

@@ -1,5 +1,5 @@
 //! Reading the objects of a message.
-ghost use Rattle.std.specs.Prelude.{◌≡◌, ◌≤◌, ◌<◌, [], List, length, OnOk, IfOk, IfErr};
+ghost use Rattle.std.specs.Prelude.{◌≡◌, ◌≤◌, ◌<◌, [], List, length, OnOk, IfErr};
 ghost use Rattle.rsvp_objects.specs.declared.object.Object.{Object as AnObject};
 ghost use Rattle.message_wire.specs.Places.{read_in, object_in, Stand};
 ghost use Rattle.message_wire.specs.Said.{seen_of};
@@ -31,36 +31,38 @@ pub fn walk(kind: Kind, bytes: &[u8], seen: &mut Seen) -> Result<(), Fault>
 {
     let mut at = HEADER;
     while at < bytes.len() {
-        let next = step(kind, seen, at, bytes)?;
-        at = next;
+        step(kind, seen, &mut at, bytes)?;
     }
     Ok(())
 }
 
-// Adds what the object at a place behind others says, and answers the place behind it. Else the first fault there.
+// Adds what the object at a place behind others says, and goes to the place behind it. Else the first fault there.
+//
+// No place stands beside a fault in one `Result`: both would be moved together, in pieces that wait for one another.
 #[tactic(auto, unfolding(crate::specs::Places::object_in))]
 #[inline(always)]
-fn step(kind: Kind, seen: &mut Seen, at: usize, bytes: &[u8]) -> Result<usize, Fault>
-    requires inside { at < length bytes.now }
+fn step(kind: Kind, seen: &mut Seen, at: &mut usize, bytes: &[u8]) -> Result<(), Fault>
+    requires inside { at.old < length bytes.now }
     requires short { length bytes.now ≤ 65535 }
-    ensures takes { Takes (object_in kind seen.old at bytes.now) seen.old seen.new result }
-    ensures bounds { IfOk result (λ next. (at < next) × (next ≤ length bytes.now)) }
+    ensures takes { Takes (object_in kind seen.old at.old bytes.now) seen.old seen.new at.new result }
+    ensures bounds { OnOk result ((at.old < at.new) × (at.new ≤ length bytes.now)) }
 {
-    let head = match head_at(bytes, at) {
+    let place = *at;
+    let head = match head_at(bytes, place) {
         Ok(head) => head,
         Err(fault) => return Err(Fault::Object(fault)),
     };
-    let body = &bytes[at + HEAD..head.end];
-    let next = take(kind, seen, at as u16, head, body)?;
-    Ok(next)
+    let body = &bytes[place + HEAD..head.end];
+    *at = head.end;
+    take(kind, seen, place as u16, head, body)?;
+    Ok(())
 }
 
 // Adds what an object with this head and these contents says. Each class that is read is told to `take_as` as a number of its
 // own, so that the compiler makes code for it in which all that concerns other classes is left out.
 #[inline(always)]
-fn take(kind: Kind, seen: &mut Seen, at: u16, head: Head, body: &[u8]) -> Result<usize, Fault>
-    ensures takes { Takes (object_with_head kind seen.old at head body.now) seen.old seen.new result }
-    ensures end { IfOk result (λ next. next ≡ head.end) }
+fn take(kind: Kind, seen: &mut Seen, at: u16, head: Head, body: &[u8]) -> Result<(), Fault>
+    ensures { Takes (object_with_head kind seen.old at head body.now) seen.old seen.new head.end result }
 {
     match head.class {
         class::SESSION => take_as(class::SESSION, kind, seen, at, head, body),
@@ -81,33 +83,24 @@ fn take(kind: Kind, seen: &mut Seen, at: u16, head: Head, body: &[u8]) -> Result
 
 // Those that say much, or stand seldom, have functions of their own: what they need room for is not made for others.
 #[inline(never)]
-fn take_scope(kind: Kind, seen: &mut Seen, at: u16, head: Head, body: &[u8]) -> Result<usize, Fault>
+fn take_scope(kind: Kind, seen: &mut Seen, at: u16, head: Head, body: &[u8]) -> Result<(), Fault>
     requires { head.class ≡ 7 }
-    ensures takes { Takes (object_with_head kind seen.old at head body.now) seen.old seen.new result }
-    ensures end { IfOk result (λ next. next ≡ head.end) }
+    ensures { Takes (object_with_head kind seen.old at head body.now) seen.old seen.new head.end result }
 {
     take_as(class::SCOPE, kind, seen, at, head, body)
 }
 
 #[inline(never)]
-fn take_adspec(
-    kind: Kind,
-    seen: &mut Seen,
-    at: u16,
-    head: Head,
-    body: &[u8],
-) -> Result<usize, Fault>
+fn take_adspec(kind: Kind, seen: &mut Seen, at: u16, head: Head, body: &[u8]) -> Result<(), Fault>
     requires { head.class ≡ 13 }
-    ensures takes { Takes (object_with_head kind seen.old at head body.now) seen.old seen.new result }
-    ensures end { IfOk result (λ next. next ≡ head.end) }
+    ensures { Takes (object_with_head kind seen.old at head body.now) seen.old seen.new head.end result }
 {
     take_as(class::ADSPEC, kind, seen, at, head, body)
 }
 
 #[inline(never)]
-fn take_other(kind: Kind, seen: &mut Seen, at: u16, head: Head, body: &[u8]) -> Result<usize, Fault>
-    ensures takes { Takes (object_with_head kind seen.old at head body.now) seen.old seen.new result }
-    ensures end { IfOk result (λ next. next ≡ head.end) }
+fn take_other(kind: Kind, seen: &mut Seen, at: u16, head: Head, body: &[u8]) -> Result<(), Fault>
+    ensures { Takes (object_with_head kind seen.old at head body.now) seen.old seen.new head.end result }
 {
     take_as(head.class, kind, seen, at, head, body)
 }
@@ -121,10 +114,9 @@ fn take_as(
     at: u16,
     head: Head,
     body: &[u8],
-) -> Result<usize, Fault>
+) -> Result<(), Fault>
     requires { number ≡ head.class }
-    ensures takes { Takes (object_with_head kind seen.old at head body.now) seen.old seen.new result }
-    ensures end { IfOk result (λ next. next ≡ head.end) }
+    ensures { Takes (object_with_head kind seen.old at head body.now) seen.old seen.new head.end result }
 {
     if !is_known(number) {
         return Err(Fault::Object(ObjErr::Class(at, number, head.ctype)));
@@ -143,7 +135,7 @@ fn take_as(
     match name_fault(at, seen, &object) {
         None => {
             seen.add(object);
-            Ok(head.end)
+            Ok(())
         }
         Some(fault) => Err(fault),
     }
