@@ -7,7 +7,7 @@ use Rattle.calm_rounds.specs.Machine.{items_of, IsClocked, IsStamped, run}
 use Rattle.calm_rounds.specs.Rounds.{Calm, Rounds}
 use Rattle.calm_rounds.specs.Hold.{Hold}
 use Rattle.calm_rounds.specs.SoftStates.{KeepLaws, DueLaws, SaysOnly, KeepsOnly, Good, Moves}
-use Rattle.calm_rounds.specs.Beacon.{Signal, World, BeaconStep, Flash, Arrive, told, flash, first_of, rest_of, living, taken, after, beacon, IsSane, place, first_world, a_round, some_rounds, MeetsThePremises, after_mute, mute, kept_world, told_world, a_mute_round, mute_rounds, TakesTheRounds}
+use Rattle.calm_rounds.specs.Beacon.{Signal, BeaconWorld, BeaconStep, Flash, Arrive, told, flash, first_of, rest_of, living, taken, after, beacon, IsSane, place, first_world, a_round, some_rounds, MeetsThePremises, after_mute, mute, kept_world, told_world, a_mute_round, mute_rounds, TakesTheRounds}
 use Rattle.calm_rounds.proofs.Holding.{hold_map, hold_both, hold_always, hold_end}
 
 first_in : (x : Signal) (xs : List Signal) → first_of xs ≡ Some x → In x xs
@@ -21,7 +21,7 @@ in_rest x (y ∷ xs) i = inr i
 clocked : IsClocked beacon
 clocked = record { clock = λ s u q. by_step s u }
   where
-    by_step : (s : BeaconStep) (u : World) → (after s u).clock ≡ u.clock + beacon.ms s
+    by_step : (s : BeaconStep) (u : BeaconWorld) → (after s u).clock ≡ u.clock + beacon.ms s
     by_step Flash u = refl
     by_step Arrive u = omega arith
 
@@ -32,16 +32,16 @@ stamped = record {
   arrived = λ s u x e. arrived s u x e;
 }
   where
-    made : (s : BeaconStep) (u : World) → u.made ≤ (after s u).made
+    made : (s : BeaconStep) (u : BeaconWorld) → u.made ≤ (after s u).made
     made Flash u = omega arith
     made Arrive u = omega arith
 
-    appended : (s : BeaconStep) (u : World) (x : Signal) → In x ((after s u).flight) → In x u.flight ⊎ (u.made ≤ x.born)
+    appended : (s : BeaconStep) (u : BeaconWorld) (x : Signal) → In x ((after s u).flight) → In x u.flight ⊎ (u.made ≤ x.born)
     appended Flash u x i =
         ⊎_elim (λ (e : x ≡ flash u). let b : x.born ≡ u.made = ap (λ (z : Signal). z.born) e in inr (omega arith)) (λ (old : In x u.flight). inl old) i
     appended Arrive u x i = inl (in_rest x u.flight i)
 
-    arrived : (s : BeaconStep) (u : World) (x : Signal) → beacon.arrived s u ≡ Some x → In x u.flight
+    arrived : (s : BeaconStep) (u : BeaconWorld) (x : Signal) → beacon.arrived s u ≡ Some x → In x u.flight
     arrived Flash u x e = absurd (cc)
     arrived Arrive u x e = first_in x u.flight e
 
@@ -62,7 +62,7 @@ set_by : (c : ℕ) (x : Signal) (v d : ℕ) → ◌≡◌ {A = Option (ℕ × �
 set_by c x v d e =
     let s : ◌≡◌ {A = ℕ × ℕ} (x.number, c + 21) (v, d) = cc in (sym (ap (λ (z : ℕ × ℕ). z.0) s), sym (ap (λ (z : ℕ × ℕ). z.1) s))
 
-sane_step : (s : BeaconStep) (u : World) → IsSane u → IsSane (after s u)
+sane_step : (s : BeaconStep) (u : BeaconWorld) → IsSane u → IsSane (after s u)
 sane_step Flash u h v d e =
     let k = lives (u.clock + 6) u.kept v d e in let r = h v d k.0 in (k.1, omega (arith, r.1))
 sane_step Arrive u h v d e = by_signal (first_of u.flight) e
@@ -74,7 +74,7 @@ sane_step Arrive u h v d e = by_signal (first_of u.flight) e
 keeps : KeepLaws beacon place
 keeps = record { set = λ s u v d q h h' e. set s u v d e; room = λ u v d h e. h v d e }
   where
-    set : (s : BeaconStep) (u : World) (v d : ℕ) → (after s u).kept ≡ Some (v, d)
+    set : (s : BeaconStep) (u : BeaconWorld) (v d : ℕ) → (after s u).kept ≡ Some (v, d)
         → ((v0 : ℕ) × (u.kept ≡ Some (v0, d)) × (v ≡ v0)) ⊎ ((x : Signal) × (v0 : ℕ) × (beacon.arrived s u ≡ Some x) × (v0 ≡ x.number) × (v ≡ v0))
     set Flash u v d e = inl (v, (lives (u.clock + 6) u.kept v d e).0, refl)
     set Arrive u v d e = by_signal (first_of u.flight) refl e
@@ -90,14 +90,14 @@ same_moment a b e = cc
 falls_due : DueLaws beacon place
 falls_due = record { moved = λ s u t t' q h h' e f. moved s u t t' e f; due_room = λ u t h e. let n = same_moment (u.clock + 6) t e in (omega (arith, n), omega (arith, n)) }
   where
-    moved : (s : BeaconStep) (u : World) (t t' : ℕ) → place.due u ≡ Some t → place.due (after s u) ≡ Some t' → (t' ≡ t) ⊎ (s ≡ Flash)
+    moved : (s : BeaconStep) (u : BeaconWorld) (t t' : ℕ) → place.due u ≡ Some t → place.due (after s u) ≡ Some t' → (t' ≡ t) ⊎ (s ≡ Flash)
     moved Flash u t t' e f = inr refl
     moved Arrive u t t' e f = inl (sym (same_moment (u.clock + 6) t' f) ∙ same_moment (u.clock + 6) t e)
 
 moves : (n : ℕ) → Moves beacon place told n
 moves n = record { rests = λ s u d q g g' none e lt. rests s u d none e lt; calls = λ s u q g g' f. calls s u f; tracks = λ s u x q g g' i e. refl }
   where
-    rests : (s : BeaconStep) (u : World) (d : ℕ) → ((x : Signal) → beacon.arrived s u ≡ Some x → true ≡ false) → u.kept ≡ Some (told, d) → (after s u).clock < d → (after s u).kept ≡ Some (told, d)
+    rests : (s : BeaconStep) (u : BeaconWorld) (d : ℕ) → ((x : Signal) → beacon.arrived s u ≡ Some x → true ≡ false) → u.kept ≡ Some (told, d) → (after s u).clock < d → (after s u).kept ≡ Some (told, d)
     rests Flash u d none e lt = ap (λ (o : Option (ℕ × ℕ)). living (u.clock + 6) o) e ∙ lives_on (u.clock + 6) told d lt
     rests Arrive u d none e lt = by_signal (first_of u.flight) refl
       where
@@ -105,17 +105,17 @@ moves n = record { rests = λ s u d q g g' none e lt. rests s u d none e lt; cal
         by_signal None t = e
         by_signal (Some x) t = let no : true ≡ false = none x t in absurd (cc)
 
-    calls : (s : BeaconStep) (u : World) → s ≡ Flash → (x : Signal) × In (x, true) (beacon.sent s u) × (◌≡◌ {A = Option (Unit {0})} (Some tt) (Some tt))
+    calls : (s : BeaconStep) (u : BeaconWorld) → s ≡ Flash → (x : Signal) × In (x, true) (beacon.sent s u) × (◌≡◌ {A = Option (Unit {0})} (Some tt) (Some tt))
     calls Flash u f = (flash u, inl refl, refl)
     calls Arrive u f = absurd (cc)
 
 -- what is in flight is what is sent, as far as it is not old
-says_step : (n : ℕ) (s : BeaconStep) (u : World) → SaysOnly beacon place (λ v. v ≡ told) n u → SaysOnly beacon place (λ v. v ≡ told) n (after s u)
+says_step : (n : ℕ) (s : BeaconStep) (u : BeaconWorld) → SaysOnly beacon place (λ v. v ≡ told) n u → SaysOnly beacon place (λ v. v ≡ told) n (after s u)
 says_step n Flash u h x v i le e =
     ⊎_elim (λ (f : x ≡ flash u). e ∙ ap (λ (z : Signal). z.number) f) (λ (old : In x u.flight). h x v old le e) i
 says_step n Arrive u h x v i le e = h x v (in_rest x u.flight i) le e
 
-good : (n : ℕ) (u : World) → IsSane u → SaysOnly beacon place (λ v. v ≡ told) n u → Good beacon place told n u
+good : (n : ℕ) (u : BeaconWorld) → IsSane u → SaysOnly beacon place (λ v. v ≡ told) n u → Good beacon place told n u
 good n u h says = record {
   sane = h;
   letters = λ x i le t. (sym (says x x.number i le refl), refl);
@@ -128,7 +128,7 @@ good n u h says = record {
     takes Arrive x a e = ap (λ (o : Option Signal). taken u.clock o u.kept) a ∙ ap (λ (k : ℕ). Some (k, u.clock + 21)) (sym e)
 
 -- a world with at most one signal in flight
-abbrev world_of : ℕ → ℕ → Option (ℕ × ℕ) → Option Signal → World
+abbrev world_of : ℕ → ℕ → Option (ℕ × ℕ) → Option Signal → BeaconWorld
 world_of c n k o = record { clock = c; made = n; flight = items_of o; kept = k }
 
 calm_from : (c n : ℕ) (k : Option (ℕ × ℕ)) (o : Option Signal) → Calm beacon a_round (world_of c n k o)
@@ -196,11 +196,11 @@ meets_the_premises = record {
 mute_clocked : IsClocked mute
 mute_clocked = record { clock = λ s u q. by_step s u }
   where
-    by_step : (s : BeaconStep) (u : World) → (after_mute s u).clock ≡ u.clock + mute.ms s
+    by_step : (s : BeaconStep) (u : BeaconWorld) → (after_mute s u).clock ≡ u.clock + mute.ms s
     by_step Flash u = refl
     by_step Arrive u = omega arith
 
-mute_stays : (s : BeaconStep) (u : World) (x : Signal) → In x ((after_mute s u).flight) → In x u.flight
+mute_stays : (s : BeaconStep) (u : BeaconWorld) (x : Signal) → In x ((after_mute s u).flight) → In x u.flight
 mute_stays Flash u x i = i
 mute_stays Arrive u x i = in_rest x u.flight i
 
@@ -211,18 +211,18 @@ mute_stamped = record {
   arrived = λ s u x e. stamped.arrived s u x e;
 }
   where
-    made : (s : BeaconStep) (u : World) → u.made ≤ (after_mute s u).made
+    made : (s : BeaconStep) (u : BeaconWorld) → u.made ≤ (after_mute s u).made
     made Flash u = omega arith
     made Arrive u = omega arith
 
-mute_sane_step : (s : BeaconStep) (u : World) → IsSane u → IsSane (after_mute s u)
+mute_sane_step : (s : BeaconStep) (u : BeaconWorld) → IsSane u → IsSane (after_mute s u)
 mute_sane_step Flash u h = sane_step Flash u h
 mute_sane_step Arrive u h = sane_step Arrive u h
 
 mute_keeps : KeepLaws mute place
 mute_keeps = record { set = λ s u v d q h h' e. set s u v d h e; room = λ u v d h e. h v d e }
   where
-    set : (s : BeaconStep) (u : World) (v d : ℕ) → IsSane u → (after_mute s u).kept ≡ Some (v, d)
+    set : (s : BeaconStep) (u : BeaconWorld) (v d : ℕ) → IsSane u → (after_mute s u).kept ≡ Some (v, d)
         → ((v0 : ℕ) × (u.kept ≡ Some (v0, d)) × (v ≡ v0)) ⊎ ((x : Signal) × (v0 : ℕ) × (mute.arrived s u ≡ Some x) × (v0 ≡ x.number) × (v ≡ v0))
     set Flash u v d h e = inl (v, (lives (u.clock + 6) u.kept v d e).0, refl)
     set Arrive u v d h e = keeps.set Arrive u v d refl h (sane_step Arrive u h) e

@@ -12,7 +12,7 @@ pub record Signal : Type 0 where
   pub number : ℕ
   pub born : ℕ
 
-pub record World : Type 0 where
+pub record BeaconWorld : Type 0 where
   pub clock : ℕ
   pub made : ℕ
   pub flight : List Signal
@@ -28,7 +28,7 @@ pub data BeaconStep : Type 0 where
 abbrev pub told : ℕ
 told = 5
 
-abbrev pub flash : World → Signal
+abbrev pub flash : BeaconWorld → Signal
 flash w = record { number = told; born = w.made }
 
 abbrev pub first_of : List Signal → Option Signal
@@ -49,7 +49,7 @@ abbrev pub taken : ℕ → Option Signal → Option (ℕ × ℕ) → Option (ℕ
 taken c None kept = kept
 taken c (Some x) kept = Some (x.number, c + 21)
 
-abbrev pub after : BeaconStep → World → World
+abbrev pub after : BeaconStep → BeaconWorld → BeaconWorld
 after Flash w = record { clock = w.clock + 6; made = suc w.made; flight = flash w ∷ w.flight; kept = living (w.clock + 6) w.kept }
 after Arrive w = record { clock = w.clock; made = suc w.made; flight = rest_of w.flight; kept = taken w.clock (first_of w.flight) w.kept }
 
@@ -57,15 +57,15 @@ abbrev pub length_of : BeaconStep → ℕ
 length_of Flash = 6
 length_of Arrive = 0
 
-abbrev pub sent_by : BeaconStep → World → List (Signal × Bool)
+abbrev pub sent_by : BeaconStep → BeaconWorld → List (Signal × Bool)
 sent_by Flash w = (flash w, true) ∷ []
 sent_by Arrive w = []
 
-abbrev pub arrives_by : BeaconStep → World → Option Signal
+abbrev pub arrives_by : BeaconStep → BeaconWorld → Option Signal
 arrives_by Flash w = None
 arrives_by Arrive w = first_of w.flight
 
-abbrev pub beacon : Machine World BeaconStep Signal (Unit {0})
+abbrev pub beacon : Machine BeaconWorld BeaconStep Signal (Unit {0})
 beacon = record {
   quarter = 1;
   step = after;
@@ -81,10 +81,10 @@ beacon = record {
 }
 
 -- what is kept dies after the clock, and at most 21 milliseconds after it
-abbrev pub IsSane : World → Type 0
+abbrev pub IsSane : BeaconWorld → Type 0
 IsSane w = (v d : ℕ) → w.kept ≡ Some (v, d) → (w.clock < d) × (d ≤ w.clock + 21)
 
-abbrev pub place : SoftState World BeaconStep Signal (Unit {0}) ℕ
+abbrev pub place : SoftState BeaconWorld BeaconStep Signal (Unit {0}) ℕ
 place = record {
   sane = IsSane;
   kept = λ w. w.kept;
@@ -97,7 +97,7 @@ place = record {
   track = Some tt;
 }
 
-abbrev pub first_world : World
+abbrev pub first_world : BeaconWorld
 first_world = record { clock = 0; made = 1; flight = record { number = 7; born = 0 } ∷ []; kept = Some (7, 21) }
 
 abbrev pub a_round : List BeaconStep
@@ -127,11 +127,11 @@ pub record MeetsThePremises : Type 0 where
   pub not_in_one : Hold beacon 1 (some_rounds 1) first_world (Stands beacon place told) → ⊥
 
 -- six milliseconds pass and nothing is sent, or the first signal in flight arrives
-abbrev pub after_mute : BeaconStep → World → World
+abbrev pub after_mute : BeaconStep → BeaconWorld → BeaconWorld
 after_mute Flash w = record { clock = w.clock + 6; made = suc w.made; flight = w.flight; kept = living (w.clock + 6) w.kept }
 after_mute Arrive w = after Arrive w
 
-abbrev pub mute : Machine World BeaconStep Signal (Unit {0})
+abbrev pub mute : Machine BeaconWorld BeaconStep Signal (Unit {0})
 mute = record {
   quarter = 1;
   step = after_mute;
@@ -147,11 +147,11 @@ mute = record {
 }
 
 -- a number is kept and nothing in flight
-abbrev pub kept_world : World
+abbrev pub kept_world : BeaconWorld
 kept_world = record { clock = 0; made = 1; flight = []; kept = Some (7, 21) }
 
 -- a number is in flight and nothing kept
-abbrev pub told_world : World
+abbrev pub told_world : BeaconWorld
 told_world = record { clock = 0; made = 1; flight = record { number = 7; born = 0 } ∷ []; kept = None }
 
 abbrev pub a_mute_round : List BeaconStep

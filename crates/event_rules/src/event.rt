@@ -6,7 +6,7 @@ ghost use Rattle.script_player.specs.Checking.{IsAdded};
 ghost use Rattle.script_grammar.specs.Adds.{Adds};
 ghost use Rattle.script_grammar.specs.Rules.{Keeps, KeepsAll};
 ghost use Rattle.script_grammar.specs.Values.{IsFrom1To};
-ghost use Rattle.script_grammar.specs.declared.line.Line.TheVariants as kind;
+ghost use Rattle.script_grammar.specs.declared.line.ScriptLine.TheVariants as kind;
 
 use net_replay::Event;
 use script_grammar::{Fault, InjectLine};

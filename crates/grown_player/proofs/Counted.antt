@@ -15,7 +15,7 @@ use Rattle.tree_model.specs.Networks.{Net, iface_of}
 use Rattle.tree_model.specs.declared.hops.End.{End}
 use Rattle.network_model.specs.Runs.{node_facts}
 use Rattle.network_model.specs.Worlds.{World}
-use Rattle.net_replay.specs.Agreeing.{Agrees, State}
+use Rattle.net_replay.specs.Agreeing.{Agrees, NetworkState}
 use Rattle.net_replay.specs.Following.{Seen}
 use Rattle.grown_summary.specs.Booked.{book_there, booked_up_to, books_up_to, end_book, one_booked}
 use Rattle.grown_summary.specs.declared.summary.Booked.{Booked}

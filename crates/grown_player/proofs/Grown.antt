@@ -15,7 +15,7 @@ use Rattle.network_model.specs.Events.{Event, Reports, Rounds}
 use Rattle.network_model.specs.Runs.{Plan, first_world, is_crowded_run}
 use Rattle.network_demand.specs.Demands.{AreLocals}
 use Rattle.demand_texts.specs.Texts.{IsDemandText, demand_text, last_line}
-use Rattle.net_replay.specs.Agreeing.{Agrees, State}
+use Rattle.net_replay.specs.Agreeing.{Agrees, NetworkState}
 use Rattle.net_replay.specs.Following.{Seen}
 use Rattle.net_replay.specs.Opening.{AreFirst, IsOpenedBy}
 use Rattle.net_replay.specs.declared.world_err.WorldErr.{WorldErr}
@@ -61,19 +61,19 @@ all_fit seed ws is = λ k d lt. let told = (is_wanted seed (get_or ws k d) (subs
 
 -- ---- before the run
 module _ {R : Type 0} (see : Seen R) where
-  pub opened : (seed : ℕ) (v : State R) (net : Net) (names : List (List ℕ)) (rs : List R) → net ≡ grown_net seed → names ≡ names_up_to 63 → v.names ≡ names
+  pub opened : (seed : ℕ) (v : NetworkState R) (net : Net) (names : List (List ℕ)) (rs : List R) → net ≡ grown_net seed → names ≡ names_up_to 63 → v.names ≡ names
       → ((p : Plan) → IsOpenedBy p 7500 seed net names → AreFirst see p rs → Agrees see 7500 v (first_world p)) → ((p : Plan) → p.quarter ≡ 7500 → p.net ≡ net → p.stale ≡ [] → AreFirst see p rs) → StandsBehind see v (first_plan seed)
   unfolding grown_plan
   opened seed v net names rs grown named is agrees first =
       opened_behind see v (first_plan seed) 7500 names refl refl (sym named) is
       (agrees (first_plan seed) (record { quarter_is = refl; seed_is = refl; net_is = sym grown; names_is = sym named }) (first (first_plan seed) refl (sym grown) refl))
 
-  pub opened_ok : (seed : ℕ) (r : Result (State R) NoMemory) (s : State R) (net : Net) (names : List (List ℕ)) (rs : List R) → net ≡ grown_net seed → names ≡ names_up_to 63 → s.names ≡ names → IfOk r (λ v. v ≡ s)
+  pub opened_ok : (seed : ℕ) (r : Result (NetworkState R) NoMemory) (s : NetworkState R) (net : Net) (names : List (List ℕ)) (rs : List R) → net ≡ grown_net seed → names ≡ names_up_to 63 → s.names ≡ names → IfOk r (λ v. v ≡ s)
       → IfOk r (λ v. (p : Plan) → IsOpenedBy p 7500 seed net names → AreFirst see p rs → Agrees see 7500 v (first_world p)) → ((p : Plan) → p.quarter ≡ 7500 → p.net ≡ net → p.stale ≡ [] → AreFirst see p rs) → IfOk r (λ v. StandsBehind see v (first_plan seed))
-  opened_ok seed (Ok v) s net names rs grown named same is agrees first = opened seed v net names rs grown named (ap (λ (x : State R). x.names) is ∙ same) agrees first
+  opened_ok seed (Ok v) s net names rs grown named same is agrees first = opened seed v net names rs grown named (ap (λ (x : NetworkState R). x.names) is ∙ same) agrees first
   opened_ok seed (Err e) s net names rs grown named same is agrees first = tt
 
-  pub nothing_played : (seed : ℕ) (v : State R) (out : List ℕ) → out ≡ [] → StandsBehind see v (first_plan seed) → IsPlayed see (first_plan seed) v out
+  pub nothing_played : (seed : ℕ) (v : NetworkState R) (out : List ℕ) → out ≡ [] → StandsBehind see v (first_plan seed) → IsPlayed see (first_plan seed) v out
   unfolding grown_plan
   nothing_played seed v out none stands = record { roomy = refl; stands = stands; text_is = none }
 
@@ -94,7 +94,7 @@ some_events seed none =
     let b = length-append (each want_event (wants seed)) last in
     omega (arith, size, a, b)
 
-module _ {R : Type 0} (see : Seen R) (seed : ℕ) (xs : List LocalSender) (ws : List Wanted) (n : ℕ) (sent : xs ≡ senders seed) (wanted : ws ≡ wants seed) (many : n ≡ rounds_of seed) (old v : State R) (before out : List ℕ) (none : before ≡ [])
+module _ {R : Type 0} (see : Seen R) (seed : ℕ) (xs : List LocalSender) (ws : List Wanted) (n : ℕ) (sent : xs ≡ senders seed) (wanted : ws ≡ wants seed) (many : n ≡ rounds_of seed) (old v : NetworkState R) (before out : List ℕ) (none : before ≡ [])
     (stands : StandsBehind see old (first_plan seed)) where
   pub played_all : ((p : Plan) → IsPlayed see p old before → IsPlayed see (with_events p (events_of xs ws n)) v out) → IsPlayed see (grown_plan seed) v out
   played_all play = subst (λ (p : Plan). IsPlayed see p v out) (whole_plan seed xs ws n sent wanted many) (play (first_plan seed) (nothing_played see seed old before none stands))
@@ -104,5 +104,5 @@ module _ {R : Type 0} (see : Seen R) (seed : ℕ) (xs : List LocalSender) (ws : 
   crowded_by NoRoom play is = absurd (cc is)
 
 -- a network in which the run has ended
-pub network_of : {R : Type 0} (see : Seen R) (seed : ℕ) (v : State R) → StandsBehind see v (grown_plan seed) → IsNetworkOf see (Some v) (grown_plan seed)
+pub network_of : {R : Type 0} (see : Seen R) (seed : ℕ) (v : NetworkState R) → StandsBehind see v (grown_plan seed) → IsNetworkOf see (Some v) (grown_plan seed)
 network_of see seed v stands = (some_events seed, stands)

@@ -3,7 +3,7 @@ use Rattle.std.proofs.Common.{◌≡◌, ℕ, ◌+◌, ◌<◌, ◌≤◌, zero,
 use Rattle.std.specs.Prelude.{Result, Ok, Err, map as each}
 use Rattle.network_model.specs.Events.{Event}
 use Rattle.network_model.specs.Runs.{Plan, is_crowded_run}
-use Rattle.net_replay.specs.Agreeing.{State}
+use Rattle.net_replay.specs.Agreeing.{NetworkState}
 use Rattle.net_replay.specs.Following.{Seen}
 use Rattle.net_replay.specs.declared.world_err.WorldErr.{WorldErr}
 use Rattle.net_replay.specs.declared.world_err.WorldErr.TheVariants.{Crowded, NoMemory}
@@ -45,7 +45,7 @@ drop_past (x ∷ xs) (suc i) le = drop_past xs i (omega arith)
 
 module _ {R : Type 0} (see : Seen R) where
   -- one event
-  pub one_played : (old v : State R) (p : Plan) (e : Event) (r : Result (Unit {0}) WorldErr) (before after : List ℕ) → IsPlayed see p old before → RunsOn see p e r before after v → Plays see p (e ∷ []) r v after
+  pub one_played : (old v : NetworkState R) (p : Plan) (e : Event) (r : Result (Unit {0}) WorldErr) (before after : List ℕ) → IsPlayed see p old before → RunsOn see p e r before after v → Plays see p (e ∷ []) r v after
   one_played old v p e (Ok _) before after played ran = record {
     roomy = ran.roomy;
     stands = ran.stands;
@@ -55,34 +55,34 @@ module _ {R : Type 0} (see : Seen R) where
   one_played old v p e (Err NoMemory) before after played ran = tt
 
   -- some events, and then others
-  pub then_played : (p : Plan) (es fs : List Event) (r : Result (Unit {0}) WorldErr) (v : State R) (out : List ℕ) → Plays see (with_events p es) fs r v out → Plays see p (es ++ fs) r v out
+  pub then_played : (p : Plan) (es fs : List Event) (r : Result (Unit {0}) WorldErr) (v : NetworkState R) (out : List ℕ) → Plays see (with_events p es) fs r v out → Plays see p (es ++ fs) r v out
   then_played p es fs r v out h = subst (λ (q : Plan). EndsPlaying see q r v out) (joined p es fs) h
 
   -- some events, by which it ended: no others change that
-  pub stopped : (p : Plan) (es fs : List Event) (x : WorldErr) (v u : State R) (out said : List ℕ) → Plays see p es (Err x) v out → Plays see p (es ++ fs) (Err x) u said
+  pub stopped : (p : Plan) (es fs : List Event) (x : WorldErr) (v u : NetworkState R) (out said : List ℕ) → Plays see p es (Err x) v out → Plays see p (es ++ fs) (Err x) u said
   stopped p es fs Crowded v u out said h = ap is_crowded_run (sym (joined p es fs)) ∙ stays (with_events p es) fs h
   stopped p es fs NoMemory v u out said h = tt
 
   -- ---- on the way: a plan was played, and with what is left of the events it is the whole
-  pub record IsHalfway (p : Plan) (all left : List Event) (v : State R) (out : List ℕ) : Type 0 where
+  pub record IsHalfway (p : Plan) (all left : List Event) (v : NetworkState R) (out : List ℕ) : Type 0 where
     pub now : Plan
     pub played : IsPlayed see now v out
     pub rest : with_events now left ≡ with_events p all
 
-  pub begun : (p : Plan) (all : List Event) (v : State R) (out : List ℕ) → IsPlayed see p v out → IsHalfway p all all v out
+  pub begun : (p : Plan) (all : List Event) (v : NetworkState R) (out : List ℕ) → IsPlayed see p v out → IsHalfway p all all v out
   begun p all v out h = record { now = p; played = h; rest = refl }
 
-  pub gone_on : (p : Plan) (all : List Event) (e : Event) (left : List Event) (v u : State R) (out said : List ℕ) (h : IsHalfway p all (e ∷ left) v out) → Plays see h.now (e ∷ []) (Ok tt) u said → IsHalfway p all left u said
+  pub gone_on : (p : Plan) (all : List Event) (e : Event) (left : List Event) (v u : NetworkState R) (out said : List ℕ) (h : IsHalfway p all (e ∷ left) v out) → Plays see h.now (e ∷ []) (Ok tt) u said → IsHalfway p all left u said
   gone_on p all e left v u out said h next = record { now = with_event h.now e; played = next; rest = joined h.now (e ∷ []) left ∙ h.rest }
 
-  pub broken_off : (p : Plan) (all : List Event) (e : Event) (left : List Event) (x : WorldErr) (v u : State R) (out said : List ℕ) (h : IsHalfway p all (e ∷ left) v out) → Plays see h.now (e ∷ []) (Err x) u said → Plays see p all (Err x) u said
+  pub broken_off : (p : Plan) (all : List Event) (e : Event) (left : List Event) (x : WorldErr) (v u : NetworkState R) (out said : List ℕ) (h : IsHalfway p all (e ∷ left) v out) → Plays see h.now (e ∷ []) (Err x) u said → Plays see p all (Err x) u said
   broken_off p all e left x v u out said h next = subst (λ (q : Plan). EndsPlaying see q (Err x) u said) h.rest (stopped h.now (e ∷ []) left x u u said said next)
 
-  pub arrived : (p : Plan) (all : List Event) (v : State R) (out : List ℕ) → IsHalfway p all [] v out → Plays see p all (Ok tt) v out
+  pub arrived : (p : Plan) (all : List Event) (v : NetworkState R) (out : List ℕ) → IsHalfway p all [] v out → Plays see p all (Ok tt) v out
   arrived p all v out h = subst (λ (q : Plan). IsPlayed see q v out) (sym (no_more h.now) ∙ h.rest) h.played
 
   -- ---- the events of a list, one for each element
-  module _ {A : Type 0} (p : Plan) (f : A → Event) (xs : List A) (i : ℕ) (v : State R) (out : List ℕ) where
+  module _ {A : Type 0} (p : Plan) (f : A → Event) (xs : List A) (i : ℕ) (v : NetworkState R) (out : List ℕ) where
     pub at_element : (d : A) → i < length xs → IsHalfway p (each f xs) (each f (drop i xs)) v out → IsHalfway p (each f xs) (f (get_or xs i d) ∷ each f (drop (i + 1) xs)) v out
     at_element d lt h = subst (λ (ys : List A). IsHalfway p (each f xs) (each f ys) v out) (drop_at xs i d lt) h
 

@@ -4,7 +4,7 @@ use Rattle.network_model.specs.Events.{Event}
 use Rattle.network_model.specs.Runs.{Plan, is_crowded_run, run_text}
 use Rattle.router_rules.specs.Inputs.{Arrival, Unspelt}
 use Rattle.rsvp_messages.specs.declared.fault.Fault.TheVariants as fault
-use Rattle.net_replay.specs.Agreeing.{State}
+use Rattle.net_replay.specs.Agreeing.{NetworkState}
 use Rattle.net_replay.specs.Following.{Seen}
 use Rattle.net_replay.specs.declared.world_err.WorldErr.{WorldErr}
 use Rattle.net_replay.specs.declared.world_err.WorldErr.TheVariants.{Crowded, NoMemory}
@@ -20,17 +20,17 @@ no_bytes = Unspelt (record { fault = fault.Short; kind = None; hint = record { s
 
 module _ {R : Type 0} (see : Seen R) where
   -- the plan was played: its run is not crowded, the network stands behind it, and it wrote this
-  pub record IsPlayed (p : Plan) (v : State R) (out : List ℕ) : Type 0 where
+  pub record IsPlayed (p : Plan) (v : NetworkState R) (out : List ℕ) : Type 0 where
     pub roomy : is_crowded_run p ≡ false
     pub stands : StandsBehind see v p
     pub text_is : out ≡ run_text p
 
   -- it was; or its run is crowded, or memory ran out
-  abbrev pub EndsPlaying : Plan → Result (Unit {0}) WorldErr → State R → List ℕ → Type 0
+  abbrev pub EndsPlaying : Plan → Result (Unit {0}) WorldErr → NetworkState R → List ℕ → Type 0
   EndsPlaying p (Ok _) v out = IsPlayed p v out
   EndsPlaying p (Err Crowded) v out = is_crowded_run p ≡ true
   EndsPlaying p (Err NoMemory) v out = Unit {0}
 
   -- so many events more
-  abbrev pub Plays : Plan → List Event → Result (Unit {0}) WorldErr → State R → List ℕ → Type 0
+  abbrev pub Plays : Plan → List Event → Result (Unit {0}) WorldErr → NetworkState R → List ℕ → Type 0
   Plays p es r v out = EndsPlaying (with_events p es) r v out

@@ -21,7 +21,7 @@ use Rattle.script_grammar.specs.Adds.{Adds, wanted, wants_at, with_wants}
 use Rattle.script_grammar.specs.Draft.{Draft, node_number, with_session}
 use Rattle.script_grammar.specs.Rules.{AreDistinct, HasRoomForSession, IsNode, IsOfWantedStyle, Keeps, KeepsAll, sender_list}
 use Rattle.script_grammar.specs.Values.{IsWantInRange, senders_value}
-use Rattle.script_grammar.specs.declared.line.Line.TheVariants as line
+use Rattle.script_grammar.specs.declared.line.ScriptLine.TheVariants as line
 use Rattle.script_grammar.specs.declared.line.WantLine.{WantLine}
 
 -- what is wanted by whom, as it was read

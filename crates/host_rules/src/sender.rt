@@ -15,7 +15,7 @@ ghost use Rattle.script_grammar.specs.Adds.{Adds, is_sender, sends, with_sender,
 ghost use Rattle.script_grammar.specs.Draft.{node_number, with_session};
 ghost use Rattle.script_grammar.specs.Rules.{HasRoomForSession, IsNode, Keeps, KeepsAll, is_sender_at};
 ghost use Rattle.script_grammar.specs.Values.{IsDropInRange, IsSendInRange};
-ghost use Rattle.script_grammar.specs.declared.line.Line.TheVariants as kind;
+ghost use Rattle.script_grammar.specs.declared.line.ScriptLine.TheVariants as kind;
 
 use net_replay::{Event, LocalCall};
 use rsvp_base::{Addr, Flow, Sender, Session};

@@ -15,7 +15,7 @@ ghost use Rattle.script_grammar.specs.Adds.{Adds, wanted, wants_at, with_want, w
 ghost use Rattle.script_grammar.specs.Draft.{node_number, with_session};
 ghost use Rattle.script_grammar.specs.Rules.{AreDistinct, IsOfWantedStyle, IsWanting, Keeps, KeepsAll};
 ghost use Rattle.script_grammar.specs.Values.{IsWantInRange};
-ghost use Rattle.script_grammar.specs.declared.line.Line.TheVariants as kind;
+ghost use Rattle.script_grammar.specs.declared.line.ScriptLine.TheVariants as kind;
 
 use crate::own::{count_with, only};
 use net_replay::{Event, LocalCall};

@@ -16,7 +16,7 @@ use Rattle.script_grammar.specs.Draft.{Draft, period_of}
 use Rattle.script_grammar.specs.Rules.{IsEnd, IsListOfStyle, IsNewResv, Keeps, KeepsAll, sender_list, stale_node}
 use Rattle.script_grammar.specs.Values.{IsStaleResvInRange, senders_value, stale_resv_value}
 use Rattle.script_grammar.specs.declared.fault.Fault.TheVariants as fault
-use Rattle.script_grammar.specs.declared.line.Line.TheVariants as line
+use Rattle.script_grammar.specs.declared.line.ScriptLine.TheVariants as line
 use Rattle.script_grammar.specs.declared.line.StaleResvLine.{StaleResvLine}
 use Rattle.left_rules.specs.LeftRefusals.{IsLeft, IsNotLeft}
 use Rattle.script_state.specs.Refusals.{Refuses}

@@ -11,10 +11,10 @@ ghost use Rattle.script_state.specs.Said.{draft_of};
 ghost use Rattle.left_rules.specs.Forms.{IsResvForm};
 ghost use Rattle.script_state.specs.Refusals.{IsUntouched, Refuses};
 ghost use Rattle.script_grammar.specs.Adds.{Adds};
-ghost use Rattle.script_grammar.specs.Draft.{end_number, lifetime, period_of};
+ghost use Rattle.script_grammar.specs.Draft.{end_number, lifetime_of_period, period_of};
 ghost use Rattle.script_grammar.specs.Rules.{IsListOfStyle, IsNewResv, Keeps, KeepsAll, sender_list};
 ghost use Rattle.script_grammar.specs.Values.{IsFrom1To};
-ghost use Rattle.script_grammar.specs.declared.line.Line.TheVariants as kind;
+ghost use Rattle.script_grammar.specs.declared.line.ScriptLine.TheVariants as kind;
 
 use crate::stale::{leave, left_of, state_life};
 use left_over::Left;
@@ -63,7 +63,7 @@ pub fn add_resv(state: &mut ScriptState, line: StaleResvLine) -> Result<(), Refu
 
 // The values of a line's other words, where all are in range.
 fn resv_values(state: &ScriptState, line: &StaleResvLine) -> Option<(Session, Addr, Flow, u32)>
-    ensures some { IsSome result ↔ (IsSession line.now.session × IsAddr line.now.next × IsFlow line.now.flow × IsFrom1To (lifetime (period_of (draft_of state.now))) line.now.left) }
+    ensures some { IsSome result ↔ (IsSession line.now.session × IsAddr line.now.next × IsFlow line.now.flow × IsFrom1To (lifetime_of_period (period_of (draft_of state.now))) line.now.left) }
     ensures value { IfSome result (λ v. (v.0 ≡ session_value line.now.session) × (v.1 ≡ addr_value line.now.next) × (v.2 ≡ flow_value line.now.flow) × (v.3 ≡ line.now.left)) }
 {
     Some((

@@ -9,10 +9,10 @@ ghost use Rattle.script_state.specs.Fitness.{IsFitAt};
 ghost use Rattle.left_rules.specs.LeftRefusals.{IsLeft, IsNotLeft};
 ghost use Rattle.script_state.specs.Refusals.{IsUntouched, Refuses};
 ghost use Rattle.script_grammar.specs.Adds.{Adds, with_stale};
-ghost use Rattle.script_grammar.specs.Draft.{end_number, lifetime, node_number, period_of, wall_lifetime};
+ghost use Rattle.script_grammar.specs.Draft.{end_number, lifetime_of_period, node_number, period_of, wall_lifetime_of_period};
 ghost use Rattle.script_grammar.specs.Rules.{IsEndOf, Keeps, KeepsAll};
 ghost use Rattle.script_grammar.specs.Values.{IsFrom1To, IsStaleHopWallInRange, IsStalePathInRange, IsStaleSenderWallInRange, IsSub};
-ghost use Rattle.script_grammar.specs.declared.line.Line.TheVariants as kind;
+ghost use Rattle.script_grammar.specs.declared.line.ScriptLine.TheVariants as kind;
 
 use left_over::{Left, LeftErr};
 use path_state::PathFact;
@@ -114,14 +114,14 @@ pub fn add_sender_wall(state: &mut ScriptState, line: StaleSenderWallLine) -> Re
 
 /// How long a path or a reservation lives, in milliseconds.
 pub fn state_life(state: &ScriptState) -> u32
-    ensures { result ≡ lifetime (period_of (draft_of state.now)) }
+    ensures { result ≡ lifetime_of_period (period_of (draft_of state.now)) }
 {
     21 * (state.refresh_period() / 4)
 }
 
 // How long a blockade lives, in milliseconds.
 fn wall_life(state: &ScriptState) -> u32
-    ensures { result ≡ wall_lifetime (period_of (draft_of state.now)) }
+    ensures { result ≡ wall_lifetime_of_period (period_of (draft_of state.now)) }
 {
     4 * state.refresh_period()
 }

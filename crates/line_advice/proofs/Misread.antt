@@ -11,7 +11,7 @@ use Rattle.line_kinds.proofs.FormLaws.{said_by_formed}
 use Rattle.line_advice.specs.declared.blame.Blame.{Blame}
 use Rattle.line_advice.specs.declared.blame.Blame.TheVariants.{First, Count, Form}
 use Rattle.line_kinds.specs.declared.kind.Kind.{Kind}
-use Rattle.script_grammar.specs.declared.line.Line.{Line}
+use Rattle.script_grammar.specs.declared.line.ScriptLine.{ScriptLine}
 
 -- words that are not formed are misread
 to_blame : (ws : List (List ℕ)) (k : Option Kind) → kind_of ws ≡ k → are_formed k (behind_first ws) ≡ false → (blame : Blame) × IsMisread ws blame
@@ -33,7 +33,7 @@ unformed_where ws (Count k) wrong = rw wrong.of_kind (rw wrong.counted refl)
 unformed_where ws (Form word field) (place, wrong, at, of) = rw wrong.of_kind (rw (wrong.counted, wrong.first) refl)
 unformed_where ws blame wrong = absurd wrong
 
-none_where : (o : Option Line) → is_some o ≡ false → o ≡ None
+none_where : (o : Option ScriptLine) → is_some o ≡ false → o ≡ None
 none_where None none = refl
 none_where (Some x) none = absurd (cc)
 

@@ -1,7 +1,7 @@
 -- What is wanted of a field, in words.
 use Rattle.std.specs.Prelude.{ℕ, List, ◌++◌, codes}
 use Rattle.std.specs.Fmt.{decimal}
-use Rattle.script_grammar.specs.Draft.{lifetime, wall_lifetime}
+use Rattle.script_grammar.specs.Draft.{lifetime_of_period, wall_lifetime_of_period}
 use Rattle.line_kinds.specs.declared.field.Field.{Field}
 use Rattle.line_kinds.specs.declared.field.Field.TheVariants.{Period, Seed, Name, Host, Capacity, Mtu, Group, Address, Session, Sender, Senders, Addresses, Anyone, Style, Flow, Left, WallLeft, Sub, Target, Switch, Digits, Confirm, Wait, Passes, Rounds, Place}
 
@@ -53,6 +53,6 @@ range_text period Wait = codes "a number from 1 to 3600000"
 range_text period Passes = codes "a number from 1 to 1000"
 range_text period Rounds = codes "a number from 1 to 10000"
 range_text period Place = codes "a number from 1 to 8192"
-range_text period Left = codes "a number from 1 to " ++ decimal (lifetime period)
-range_text period WallLeft = codes "a number from 1 to " ++ decimal (wall_lifetime period)
+range_text period Left = codes "a number from 1 to " ++ decimal (lifetime_of_period period)
+range_text period WallLeft = codes "a number from 1 to " ++ decimal (wall_lifetime_of_period period)
 range_text period field = form_text field

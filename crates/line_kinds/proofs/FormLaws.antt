@@ -10,7 +10,7 @@ use Rattle.script_words.specs.Addresses.{quad_of, quads_of}
 use Rattle.script_words.specs.Sessions.{session_of, sender_of, senders_of}
 use Rattle.script_words.specs.Flows.{flow_of}
 use Rattle.script_grammar.specs.LineKinds.{stale_senders, want_senders, resv_of, stale_resv_line, want_of, want_line, stale_blockade_line, stale_hop, stale_sender, hop_wall, sender_wall, said_by, said_other, said_in_flight, said_at_node, said_left_over}
-use Rattle.script_grammar.specs.declared.line.Line.{Line}
+use Rattle.script_grammar.specs.declared.line.ScriptLine.{ScriptLine}
 use Rattle.line_kinds.specs.Kinds.{declared_kind, flight_kind, left_kind, node_kind, other_kind, refined, third_of}
 use Rattle.line_kinds.specs.Laws.{are_formed}
 use Rattle.line_kinds.specs.declared.kind.Kind.{Kind}
@@ -189,7 +189,7 @@ stale_blockade_formed (node ∷ session ∷ target ∷ behind) = by_target (byte
 stale_blockade_formed _ = refl
 
 -- ---- by the first word
-by_kind : (behind : List (List ℕ)) (b : Bool) (k : Kind) (x y : Option Line) (ks : Option Kind) → is_some x ≡ are_formed (Some (refined k (third_of behind))) behind
+by_kind : (behind : List (List ℕ)) (b : Bool) (k : Kind) (x y : Option ScriptLine) (ks : Option Kind) → is_some x ≡ are_formed (Some (refined k (third_of behind))) behind
     → is_some y ≡ are_formed (option_map (λ kind. refined kind (third_of behind)) ks) behind
     → is_some (if b then x else y) ≡ are_formed (option_map (λ kind. refined kind (third_of behind)) (if b then Some k else ks)) behind
 by_kind behind true k x y ks this others = this

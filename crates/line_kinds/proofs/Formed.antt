@@ -8,7 +8,7 @@ use Rattle.script_words.specs.Addresses.{quad_of}
 use Rattle.script_words.specs.Sessions.{session_of, sender_of}
 use Rattle.script_words.specs.Flows.{flow_of}
 use Rattle.script_grammar.specs.LineKinds.{bytes_of, numbered, pairs_of, trace_line, report_line, pass_line, flags_line, link_line, reroute_line, period_line, seed_line, node_line, end_line, hop_line, path_of, stale_path_line, send_line, drop_line, quit_line, clear_line, inject_line}
-use Rattle.script_grammar.specs.declared.line.Line.TheVariants as line
+use Rattle.script_grammar.specs.declared.line.ScriptLine.TheVariants as line
 use Rattle.line_kinds.specs.FirstWords.{unformed_from}
 use Rattle.line_kinds.specs.Kinds.{field_at}
 use Rattle.line_kinds.specs.Laws.{are_formed}

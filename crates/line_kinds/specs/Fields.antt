@@ -9,7 +9,7 @@ use Rattle.script_words.specs.Numbers.{number_of}
 use Rattle.script_words.specs.Sessions.{IsSender, IsSession, sender_of, senders_of, session_of}
 use Rattle.script_words.specs.Styles.{style_of}
 use Rattle.script_words.specs.declared.raw.DottedQuad.{DottedQuad}
-use Rattle.script_grammar.specs.Draft.{lifetime, wall_lifetime}
+use Rattle.script_grammar.specs.Draft.{lifetime_of_period, wall_lifetime_of_period}
 use Rattle.script_grammar.specs.LineKinds.{bytes_of}
 use Rattle.script_grammar.specs.Values.{IsFrom1To, IsPeriod, IsSub, most_passes, most_places, most_rounds, most_wait}
 use Rattle.line_kinds.specs.declared.field.Field.{Field}
@@ -68,8 +68,8 @@ IsInRange period Sender word = IfSome (sender_of word) IsSender
 IsInRange period Senders word = IfSome (senders_of word) (All IsSender)
 IsInRange period Addresses word = IfSome (quads_of word) (All IsAddr)
 IsInRange period Flow word = IfSome (flow_of word) IsFlow
-IsInRange period Left word = IfSome (number_of word) (IsFrom1To (lifetime period))
-IsInRange period WallLeft word = IfSome (number_of word) (IsFrom1To (wall_lifetime period))
+IsInRange period Left word = IfSome (number_of word) (IsFrom1To (lifetime_of_period period))
+IsInRange period WallLeft word = IfSome (number_of word) (IsFrom1To (wall_lifetime_of_period period))
 IsInRange period Sub word = IfSome (number_of word) IsSub
 IsInRange period Wait word = IfSome (number_of word) (IsFrom1To most_wait)
 IsInRange period Passes word = IfSome (number_of word) (IsFrom1To most_passes)

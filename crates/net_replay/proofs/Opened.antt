@@ -14,7 +14,7 @@ use Rattle.tree_model.proofs.Ifaces.{interfaces_are_ends}
 use Rattle.network_parcels.specs.Runs.{Plan, first_facts, first_world}
 use Rattle.network_parcels.specs.Worlds.{with_iface, ifaces_at, config_of}
 use Rattle.network_parcels.proofs.MadeTables.{many, read_made, made_at}
-use Rattle.net_replay.specs.Agreeing.{State, AreWired, IsSteady, AreNodes, Agrees}
+use Rattle.net_replay.specs.Agreeing.{NetworkState, AreWired, IsSteady, AreNodes, Agrees}
 use Rattle.net_replay.specs.Following.{Seen}
 use Rattle.net_replay.specs.Opening.{ArePlaced, AreFirst, IsOpenedBy}
 use Rattle.net_replay.specs.Routed.{AreRouted, trees_in}
@@ -75,18 +75,18 @@ module _ {R : Type 0} (see : Seen R) (p : Plan) (rs : List R) (placed : ArePlace
         };
   }
 
-  pub opened : (v : State R) → v ≡ (record { quarter = p.quarter; post = record { net = p.net; from = 0; flight = []; full = false; in_range = true }; names = p.names; nodes = rs; trees = trees_of p.net.hops; words = p.seed; delivered = 0; trace = false; refused = None }) → Agrees see p.quarter v (first_world p)
+  pub opened : (v : NetworkState R) → v ≡ (record { quarter = p.quarter; post = record { net = p.net; from = 0; flight = []; full = false; in_range = true }; names = p.names; nodes = rs; trees = trees_of p.net.hops; words = p.seed; delivered = 0; trace = false; refused = None }) → Agrees see p.quarter v (first_world p)
   opened v is =
-      subst (λ (u : State R). Agrees see p.quarter u (first_world p)) (sym is)
+      subst (λ (u : NetworkState R). Agrees see p.quarter u (first_world p)) (sym is)
       (record { going = refl; roomy = refl; quarter = refl; trees = refl; net = refl; nodes = begun; flight = tt; room = omega arith; words = refl; delivered = refl; trace = refl })
 
 -- as it is opened
-abbrev pub begun_as : {R : Type 0} → ℕ → ℕ → Net → List (List ℕ) → List R → State R
+abbrev pub begun_as : {R : Type 0} → ℕ → ℕ → Net → List (List ℕ) → List R → NetworkState R
 begun_as quarter seed net names rs =
     record { quarter = quarter; post = record { net = net; from = 0; flight = []; full = false; in_range = true }; names = names; nodes = rs; trees = trees_of net.hops; words = seed; delivered = 0; trace = false; refused = None }
 
 pub opened_of : {R : Type 0} (see : Seen R) (p : Plan) (rs : List R) (quarter seed : ℕ) (net : Net) (names : List (List ℕ)) → IsOpenedBy p quarter seed net names → ArePlaced quarter net (each see.place rs) → AreFirst see p rs
-    → (v : State R) → v ≡ begun_as quarter seed net names rs → Agrees see quarter v (first_world p)
+    → (v : NetworkState R) → v ≡ begun_as quarter seed net names rs → Agrees see quarter v (first_world p)
 opened_of {R} see p rs quarter seed net names by placed first v is =
     let at : ArePlaced p.quarter p.net (each see.place rs) =
     subst (λ (n : Net). ArePlaced p.quarter n (each see.place rs)) (sym by.net_is) (subst (λ q. ArePlaced q net (each see.place rs)) (sym by.quarter_is) placed) in

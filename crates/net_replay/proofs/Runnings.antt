@@ -6,14 +6,14 @@ use Rattle.network_parcels.specs.Events.{Event, at_place, last_piece, steps_of, 
 use Rattle.network_parcels.specs.Runs.{is_crowded, crowds, uncrowded, text_of, written}
 use Rattle.network_parcels.specs.Steps.{Step, Piece, step, machine}
 use Rattle.network_parcels.specs.Worlds.{World}
-use Rattle.net_replay.specs.Agreeing.{State, Agrees}
+use Rattle.net_replay.specs.Agreeing.{NetworkState, Agrees}
 use Rattle.net_replay.specs.Following.{Seen}
 use Rattle.net_replay.specs.Running.{Ran, IsSame}
 use Rattle.net_replay.specs.declared.world_err.WorldErr.{WorldErr}
 use Rattle.net_replay.specs.declared.world_err.WorldErr.TheVariants.{Crowded, NoMemory}
 use Rattle.net_replay.proofs.Chains.{run_append, crowds_first, crowds_later}
 
-pub same_then : {R : Type 0} (a b c : State R) → IsSame a b → IsSame b c → IsSame a c
+pub same_then : {R : Type 0} (a b c : NetworkState R) → IsSame a b → IsSame b c → IsSame a c
 same_then a b c e f = record { names = f.names ∙ e.names; quarter = f.quarter ∙ e.quarter; trace = f.trace ∙ e.trace }
 
 -- ---- when memory ran out
@@ -77,23 +77,23 @@ module _ (q : ℕ) where
 
     module _ {R : Type 0} (see : Seen R) where
       -- ---- one step
-      pub ran_one : (o after t : List ℕ) (v : State R) (s : Step) (w : World) → (crowds q (s ∷ []) w ≡ false) × Agrees see q v (step q s w) → t ≡ written q names s w → after ≡ o ++ t → Ran see q names well o after v (s ∷ []) w
+      pub ran_one : (o after t : List ℕ) (v : NetworkState R) (s : Step) (w : World) → (crowds q (s ∷ []) w ≡ false) × Agrees see q v (step q s w) → t ≡ written q names s w → after ≡ o ++ t → Ran see q names well o after v (s ∷ []) w
       ran_one o after t v s w done e said = (done.0, done.1, said ∙ ap (λ (x : List ℕ). o ++ x) (e ∙ sym (append-nil (written q names s w))))
 
-      pub one_crowded : (o : List ℕ) (v : State R) (s : Step) (w : World) → crowds q (s ∷ []) w ≡ true → Ran see q names (Err Crowded) o o v (s ∷ []) w
+      pub one_crowded : (o : List ℕ) (v : NetworkState R) (s : Step) (w : World) → crowds q (s ∷ []) w ≡ true → Ran see q names (Err Crowded) o o v (s ∷ []) w
       one_crowded o v s w e = (e, sym (ap (λ (us : List Step). o ++ text_of q names us w) (one_uncrowded s w e) ∙ append-nil o))
 
-      pub one_unsaid : (o after : List ℕ) (v : State R) (s : Step) (w : World) → after ≡ o → Ran see q names (Err NoMemory) o after v (s ∷ []) w
+      pub one_unsaid : (o after : List ℕ) (v : NetworkState R) (s : Step) (w : World) → after ≡ o → Ran see q names (Err NoMemory) o after v (s ∷ []) w
       one_unsaid o after v s w e = (text_of q names (s ∷ []) w, ap (λ (x : List ℕ). x ++ text_of q names (s ∷ []) w) (sym e))
 
-      pub ran_told : (r : Result (Unit {0}) WorldErr) (o after t : List ℕ) (v new : State R) (s : Step) (w : World) → (crowds q (s ∷ []) w ≡ false) × Agrees see q v (step q s w) → t ≡ written q names s w → OnOk r ((new ≡ v) × (after ≡ o ++ t))
+      pub ran_told : (r : Result (Unit {0}) WorldErr) (o after t : List ℕ) (v new : NetworkState R) (s : Step) (w : World) → (crowds q (s ∷ []) w ≡ false) × Agrees see q v (step q s w) → t ≡ written q names s w → OnOk r ((new ≡ v) × (after ≡ o ++ t))
           → OnErr r ((r ≡ Err NoMemory) × (after ≡ o)) → Ran see q names r o after new (s ∷ []) w
-      ran_told (Ok _) o after t v new s w done e said unsaid = ran_one o after t new s w (done.0, subst (λ (x : State R). Agrees see q x (step q s w)) (sym said.0) done.1) e said.1
+      ran_told (Ok _) o after t v new s w done e said unsaid = ran_one o after t new s w (done.0, subst (λ (x : NetworkState R). Agrees see q x (step q s w)) (sym said.0) done.1) e said.1
       ran_told (Err Crowded) o after t v new s w done e said unsaid = let wrong : Err Crowded ≡ Err NoMemory = unsaid.0 in absurd (cc)
       ran_told (Err NoMemory) o after t v new s w done e said unsaid = one_unsaid o after new s w unsaid.1
 
       -- ---- one after the other
-      pub ran_then : (r : Result (Unit {0}) WorldErr) (o mid after : List ℕ) (new : State R) (ss ts : List Step) (w : World) → crowds q ss w ≡ false → mid ≡ o ++ text_of q names ss w → Ran see q names r mid after new ts (run (machine q) ss w) → Ran see q names r o after new (ss ++ ts) w
+      pub ran_then : (r : Result (Unit {0}) WorldErr) (o mid after : List ℕ) (new : NetworkState R) (ss ts : List Step) (w : World) → crowds q ss w ≡ false → mid ≡ o ++ text_of q names ss w → Ran see q names r mid after new ts (run (machine q) ss w) → Ran see q names r o after new (ss ++ ts) w
       ran_then (Ok _) o mid after new ss ts w e said done =
           let v = run (machine q) ss w in (
             crowds_later q ss ts w e ∙ done.0,
@@ -110,7 +110,7 @@ module _ (q : ℕ) where
           let v = run (machine q) ss w in
           (done.0, ap (λ (x : List ℕ). o ++ x) (text_append ss ts w) ∙ sym (append_assoc o (text_of q names ss w) (text_of q names ts v)) ∙ ap (λ (x : List ℕ). x ++ text_of q names ts v) (sym said) ∙ done.1)
 
-      pub ran_not : (r : Result (Unit {0}) WorldErr) (o after : List ℕ) (v new : State R) (ss ts : List Step) (w : World) → IsErr r → Ran see q names r o after v ss w → Ran see q names r o after new (ss ++ ts) w
+      pub ran_not : (r : Result (Unit {0}) WorldErr) (o after : List ℕ) (v new : NetworkState R) (ss ts : List Step) (w : World) → IsErr r → Ran see q names r o after v ss w → Ran see q names r o after new (ss ++ ts) w
       ran_not (Ok _) o after v new ss ts w err done = absurd (cc)
       ran_not (Err Crowded) o after v new ss ts w err done = (crowds_first q ss ts w done.0, done.1 ∙ ap (λ (us : List Step). o ++ text_of q names us w) (sym (uncrowded_first ss ts w done.0)))
       ran_not (Err NoMemory) o after v new ss ts w err done =
@@ -118,71 +118,71 @@ module _ (q : ℕ) where
           (done.0 ++ more, ap (λ (x : List ℕ). o ++ x) (text_append ss ts w) ∙ sym (append_assoc o (text_of q names ss w) more) ∙ ap (λ (x : List ℕ). x ++ more) done.1 ∙ append_assoc after done.0 more)
 
       -- ---- nothing, or what writes nothing
-      pub ran_none : (o : List ℕ) (v : State R) (w : World) → Agrees see q v w → Ran see q names well o o v [] w
+      pub ran_none : (o : List ℕ) (v : NetworkState R) (w : World) → Agrees see q v w → Ran see q names well o o v [] w
       ran_none o v w agrees = (refl, agrees, sym (append-nil o))
 
-      pub ran_silent : (o : List ℕ) (v : State R) (s : Step) (w : World) → written q names s w ≡ [] → (crowds q (s ∷ []) w ≡ false) × Agrees see q v (step q s w) → Ran see q names well o o v (s ∷ []) w
+      pub ran_silent : (o : List ℕ) (v : NetworkState R) (s : Step) (w : World) → written q names s w ≡ [] → (crowds q (s ∷ []) w ≡ false) × Agrees see q v (step q s w) → Ran see q names well o o v (s ∷ []) w
       ran_silent o v s w e done = ran_one o o [] v s w done (sym e) (sym (append-nil o))
 
       -- ---- at a place from 1
-      pub at_none : (r : Result (Unit {0}) WorldErr) (o after : List ℕ) (v : State R) (s : ℕ → Step) (k : ℕ) (w : World) → k ≡ 0 → Ran see q names r o after v [] w → Ran see q names r o after v (at_place s k) w
+      pub at_none : (r : Result (Unit {0}) WorldErr) (o after : List ℕ) (v : NetworkState R) (s : ℕ → Step) (k : ℕ) (w : World) → k ≡ 0 → Ran see q names r o after v [] w → Ran see q names r o after v (at_place s k) w
       at_none r o after v s k w e done = subst (λ n. Ran see q names r o after v (at_place s n) w) (sym e) done
 
-      pub at_one : (r : Result (Unit {0}) WorldErr) (o after : List ℕ) (v : State R) (s : ℕ → Step) (k j : ℕ) (w : World) → k ≡ suc j → Ran see q names r o after v (s j ∷ []) w → Ran see q names r o after v (at_place s k) w
+      pub at_one : (r : Result (Unit {0}) WorldErr) (o after : List ℕ) (v : NetworkState R) (s : ℕ → Step) (k j : ℕ) (w : World) → k ≡ suc j → Ran see q names r o after v (s j ∷ []) w → Ran see q names r o after v (at_place s k) w
       at_one r o after v s k j w e done = subst (λ n. Ran see q names r o after v (at_place s n) w) (sym e) done
 
       -- ---- events
       module _ {E : Type 0} (of : E → Event) where
         -- what is left to happen leads to the end of all
-        abbrev pub Happens : State R → List ℕ → State R → List ℕ → List E → List E → Type 0
+        abbrev pub Happens : NetworkState R → List ℕ → NetworkState R → List ℕ → List E → List E → Type 0
         Happens first o now mid all left = (w : World) → Agrees see q first w → (v : World) × Agrees see q now v
-            × ((r : Result (Unit {0}) WorldErr) (new : State R) (after : List ℕ) → Ran see q names r mid after new (all_steps q (each of left) v) v → Ran see q names r o after new (all_steps q (each of all) w) w)
+            × ((r : Result (Unit {0}) WorldErr) (new : NetworkState R) (after : List ℕ) → Ran see q names r mid after new (all_steps q (each of left) v) v → Ran see q names r o after new (all_steps q (each of all) w) w)
 
-        pub happens_first : (s : State R) (o : List ℕ) (all : List E) → Happens s o s o all all
+        pub happens_first : (s : NetworkState R) (o : List ℕ) (all : List E) → Happens s o s o all all
         happens_first s o all = λ w agrees. (w, agrees, λ r new after rest. rest)
 
-        pub one_event : (first now next : State R) (o mid later : List ℕ) (all left rest : List E) (e : E) → Happens first o now mid all left → left ≡ e ∷ rest → ((v : World) → Agrees see q now v → Ran see q names well mid later next (steps_of q (of e) v) v) → Happens first o next later all rest
+        pub one_event : (first now next : NetworkState R) (o mid later : List ℕ) (all left rest : List E) (e : E) → Happens first o now mid all left → left ≡ e ∷ rest → ((v : World) → Agrees see q now v → Ran see q names well mid later next (steps_of q (of e) v) v) → Happens first o next later all rest
         one_event first now next o mid later all left rest e happens is turned = λ w agrees.
             let at = happens w agrees in
             let one = turned at.0 at.1 in
             let then = run (machine q) (steps_of q (of e) at.0) at.0 in
             (then, one.1, λ r new after more. at.2 r new after (subst (λ (es : List E). Ran see q names r mid after new (all_steps q (each of es) at.0) at.0) (sym is) (ran_then r mid later after new (steps_of q (of e) at.0) (all_steps q (each of rest) then) at.0 one.0 one.2 more)))
 
-        pub no_event : (first now : State R) (r : Result (Unit {0}) WorldErr) (v new : State R) (o mid after : List ℕ) (all left rest : List E) (e : E) → Happens first o now mid all left → left ≡ e ∷ rest → IsErr r → ((u : World) → Agrees see q now u → Ran see q names r mid after v (steps_of q (of e) u) u)
+        pub no_event : (first now : NetworkState R) (r : Result (Unit {0}) WorldErr) (v new : NetworkState R) (o mid after : List ℕ) (all left rest : List E) (e : E) → Happens first o now mid all left → left ≡ e ∷ rest → IsErr r → ((u : World) → Agrees see q now u → Ran see q names r mid after v (steps_of q (of e) u) u)
             → (w : World) → Agrees see q first w → Ran see q names r o after new (all_steps q (each of all) w) w
         no_event first now r v new o mid after all left rest e happens is err failed w agrees =
             let at = happens w agrees in
             let then = run (machine q) (steps_of q (of e) at.0) at.0 in
             at.2 r new after (subst (λ (es : List E). Ran see q names r mid after new (all_steps q (each of es) at.0) at.0) (sym is) (ran_not r mid after v new (steps_of q (of e) at.0) (all_steps q (each of rest) then) at.0 err (failed at.0 at.1)))
 
-        pub all_happened : (first now : State R) (o after : List ℕ) (all left : List E) → Happens first o now after all left → left ≡ [] → (w : World) → Agrees see q first w → Ran see q names well o after now (all_steps q (each of all) w) w
+        pub all_happened : (first now : NetworkState R) (o after : List ℕ) (all left : List E) → Happens first o now after all left → left ≡ [] → (w : World) → Agrees see q first w → Ran see q names well o after now (all_steps q (each of all) w) w
         all_happened first now o after all left happens is w agrees =
             let at = happens w agrees in
             at.2 well now after (subst (λ (es : List E). Ran see q names well after after now (all_steps q (each of es) at.0) at.0) (sym is) (refl, at.1, sym (append-nil after)))
 
       -- ---- so many times
       module _ (turn : World → List Step) (times : ℕ → World → List Step) where
-        abbrev pub Goes : State R → List ℕ → State R → List ℕ → ℕ → ℕ → Type 0
-        Goes first o now mid n left = (w : World) → Agrees see q first w → (v : World) × Agrees see q now v × ((r : Result (Unit {0}) WorldErr) (new : State R) (after : List ℕ) → Ran see q names r mid after new (times left v) v → Ran see q names r o after new (times n w) w)
+        abbrev pub Goes : NetworkState R → List ℕ → NetworkState R → List ℕ → ℕ → ℕ → Type 0
+        Goes first o now mid n left = (w : World) → Agrees see q first w → (v : World) × Agrees see q now v × ((r : Result (Unit {0}) WorldErr) (new : NetworkState R) (after : List ℕ) → Ran see q names r mid after new (times left v) v → Ran see q names r o after new (times n w) w)
 
-        pub goes_first : (s : State R) (o : List ℕ) (n left : ℕ) → 0 + left ≡ n → Goes s o s o n left
+        pub goes_first : (s : NetworkState R) (o : List ℕ) (n left : ℕ) → 0 + left ≡ n → Goes s o s o n left
         goes_first s o n left e = λ w agrees. (w, agrees, λ r new after rest. (let same : left ≡ n = omega (arith, e) in subst (λ m. Ran see q names r o after new (times m w) w) same rest))
 
         module _ (none : (w : World) → times 0 w ≡ []) (more : (n : ℕ) (w : World) → times (suc n) w ≡ turn w ++ times n (run (machine q) (turn w) w)) where
-          pub goes_on : (first now next : State R) (o mid later : List ℕ) (n left : ℕ) → Goes first o now mid n (suc left) → ((v : World) → Agrees see q now v → Ran see q names well mid later next (turn v) v) → Goes first o next later n left
+          pub goes_on : (first now next : NetworkState R) (o mid later : List ℕ) (n left : ℕ) → Goes first o now mid n (suc left) → ((v : World) → Agrees see q now v → Ran see q names well mid later next (turn v) v) → Goes first o next later n left
           goes_on first now next o mid later n left goes turned = λ w agrees.
               let at = goes w agrees in
               let one = turned at.0 at.1 in
               let then = run (machine q) (turn at.0) at.0 in
               (then, one.1, λ r new after rest. at.2 r new after (subst (λ (ss : List Step). Ran see q names r mid after new ss at.0) (sym (more left at.0)) (ran_then r mid later after new (turn at.0) (times left then) at.0 one.0 one.2 rest)))
 
-          pub goes_not : (first now : State R) (r : Result (Unit {0}) WorldErr) (v new : State R) (o mid after : List ℕ) (n left : ℕ) → Goes first o now mid n (suc left) → IsErr r → ((u : World) → Agrees see q now u → Ran see q names r mid after v (turn u) u) → (w : World) → Agrees see q first w → Ran see q names r o after new (times n w) w
+          pub goes_not : (first now : NetworkState R) (r : Result (Unit {0}) WorldErr) (v new : NetworkState R) (o mid after : List ℕ) (n left : ℕ) → Goes first o now mid n (suc left) → IsErr r → ((u : World) → Agrees see q now u → Ran see q names r mid after v (turn u) u) → (w : World) → Agrees see q first w → Ran see q names r o after new (times n w) w
           goes_not first now r v new o mid after n left goes err failed w agrees =
               let at = goes w agrees in
               let then = run (machine q) (turn at.0) at.0 in
               at.2 r new after (subst (λ (ss : List Step). Ran see q names r mid after new ss at.0) (sym (more left at.0)) (ran_not r mid after v new (turn at.0) (times left then) at.0 err (failed at.0 at.1)))
 
-          pub goes_end : (first now : State R) (o after : List ℕ) (n : ℕ) → Goes first o now after n 0 → (w : World) → Agrees see q first w → Ran see q names well o after now (times n w) w
+          pub goes_end : (first now : NetworkState R) (o after : List ℕ) (n : ℕ) → Goes first o now after n 0 → (w : World) → Agrees see q first w → Ran see q names well o after now (times n w) w
           goes_end first now o after n goes w agrees =
               let at = goes w agrees in
               at.2 well now after (subst (λ (ss : List Step). Ran see q names well after after now ss at.0) (sym (none at.0)) (refl, at.1, sym (append-nil after)))

@@ -9,7 +9,7 @@ use Rattle.network_parcels.specs.Runs.{is_crowded, crowds}
 use Rattle.network_parcels.specs.Steps.{Step, Deliver, Copy, Inject, ms_of, net_after, input_at, arrived, rest, words_after, trace_after, sent, step}
 use Rattle.network_parcels.specs.Worlds.{Item, World}
 use Rattle.network_parcels.specs.Parcels.{Parcel, parcel}
-use Rattle.net_replay.specs.Agreeing.{State, IsItem, AreItems, AreNodes, Agrees, AreReady, most_count}
+use Rattle.net_replay.specs.Agreeing.{NetworkState, IsItem, AreItems, AreNodes, Agrees, AreReady, most_count}
 use Rattle.net_replay.specs.Due.{IsDue}
 use Rattle.net_replay.specs.Following.{Seen, IsArrival}
 use Rattle.router_rules.specs.Inputs.{Arrival}
@@ -36,7 +36,7 @@ over n lt = by (nat_lt 8192 n) refl
     by false t = absurd (omega (arith, lt, ltb-false 8192 n t))
 
 -- the period is the same, and there are routes of the same trees
-abbrev pub HasSetUp : {R : Type 0} → State R → State R → Type 0
+abbrev pub HasSetUp : {R : Type 0} → NetworkState R → NetworkState R → Type 0
 HasSetUp old v = ◌≡◌ {A = ℕ × List (Addr × Addr)} (v.quarter, v.trees) (old.quarter, old.trees)
 
 module _ (q : ℕ) (s : Step) (w : World) where
@@ -59,7 +59,7 @@ module _ (q : ℕ) (s : Step) (w : World) where
     pub step_fits : new.full ≡ false → crowds q (s ∷ []) w ≡ false
     step_fits e = uncrowded_one (fits (length (step q s w).flight) (omega (arith, many, room_for_all mid new (each (λ (x : Item × Bool). x.0) (sent q s w)) roomy put e)))
 
-    module _ {R : Type 0} (see : Seen R) (old v : State R) (agrees : Agrees see q old w) (posts : v.post ≡ new) (full : new.full ≡ false) where
+    module _ {R : Type 0} (see : Seen R) (old v : NetworkState R) (agrees : Agrees see q old w) (posts : v.post ≡ new) (full : new.full ≡ false) where
       -- in the network in which the nodes posted
       pub step_made_in : net_after s w ≡ mid.net → v.refused ≡ None → HasSetUp old v → AreNodes see q (step q s w) v.nodes → v.words ≡ words_after s w → v.delivered ≡ min (w.delivered + length (items_of (arrived s w))) most_count → v.trace ≡ trace_after s w
           → (crowds q (s ∷ []) w ≡ false) × Agrees see q v (step q s w)
@@ -83,13 +83,13 @@ module _ (q : ℕ) (s : Step) (w : World) where
             },
           )
 
-    module _ {R : Type 0} (see : Seen R) (old v : State R) (agrees : Agrees see q old w) (stays : net_after s w ≡ w.net) (wires : mid.net ≡ old.post.net) (posts : v.post ≡ new) (full : new.full ≡ false) where
+    module _ {R : Type 0} (see : Seen R) (old v : NetworkState R) (agrees : Agrees see q old w) (stays : net_after s w ≡ w.net) (wires : mid.net ≡ old.post.net) (posts : v.post ≡ new) (full : new.full ≡ false) where
       pub step_made : v.refused ≡ None → HasSetUp old v → AreNodes see q (step q s w) v.nodes → v.words ≡ words_after s w → v.delivered ≡ min (w.delivered + length (items_of (arrived s w))) most_count → v.trace ≡ trace_after s w
           → (crowds q (s ∷ []) w ≡ false) × Agrees see q v (step q s w)
       step_made going set_up are drawn counted traced = step_made_in see old v agrees posts full (stays ∙ agrees.net ∙ sym wires) going set_up are drawn counted traced
 
   -- nothing comes to a node
-  module _ {R : Type 0} (see : Seen R) (old v : State R) (agrees : Agrees see q old w) (stays : net_after s w ≡ w.net) (none : ms_of s ≡ 0) (quiet : (n : ℕ) → input_at s w n ≡ None) where
+  module _ {R : Type 0} (see : Seen R) (old v : NetworkState R) (agrees : Agrees see q old w) (stays : net_after s w ≡ w.net) (none : ms_of s ≡ 0) (quiet : (n : ℕ) → input_at s w n ≡ None) where
     pub still_put : (a b : Post) → length a.flight ≤ 8192 → b ≡ a → ArePut a b (each (λ x. x.0) (sent q s w))
     still_put a b le is = subst (λ (xs : List (Item × Bool)). ArePut a b (each (λ x. x.0) xs)) (sym (sends_nothing q s w quiet)) (nothing_put a b le is)
 
@@ -100,7 +100,7 @@ module _ (q : ℕ) (s : Step) (w : World) where
         (subst (λ (rs : List R). AreNodes see q (step q s w) rs) (sym nodes) (nodes_still see q s w stays old.nodes none (λ n lt. quiet n) agrees.nodes)) drawn counted traced
 
 -- ---- a delivery
-module _ {R : Type 0} (see : Seen R) (q : ℕ) (old : State R) (w : World) (agrees : Agrees see q old w) (k : ℕ) where
+module _ {R : Type 0} (see : Seen R) (q : ℕ) (old : NetworkState R) (w : World) (agrees : Agrees see q old w) (k : ℕ) where
   pub due_here : (net : Net) (end : ℕ) (dst : Addr) (bytes hand : List ℕ) → net ≡ old.post.net → bytes ≡ hand → slice_get old.post.flight k ≡ Some (record { end = end; dst = dst; bytes = hand }) → IsDue net end dst bytes w k
   due_here net end dst bytes hand same held at =
       let p : Parcel = record { end = end; dst = dst; bytes = bytes } in
@@ -139,7 +139,7 @@ module _ {R : Type 0} (see : Seen R) (q : ℕ) (old : State R) (w : World) (agre
   not_copied e = subst (λ (xs : List Item). AreItems old.post.flight xs) (sym (ap (λ (o : Option Item). w.flight ++ items_of o) (nothing_there e) ∙ append-nil w.flight)) agrees.flight
 
 -- ---- a piece of a wait
-module _ {R : Type 0} (see : Seen R) (q : ℕ) (old : State R) (w : World) (agrees : Agrees see q old w) where
+module _ {R : Type 0} (see : Seen R) (q : ℕ) (old : NetworkState R) (w : World) (agrees : Agrees see q old w) where
   pub ready : AreReady see q old.post.net old.words old.nodes w
   ready = record { wired = agrees.net; words_are = agrees.words; nodes = agrees.nodes }
 
@@ -147,7 +147,7 @@ module _ {R : Type 0} (see : Seen R) (q : ℕ) (old : State R) (w : World) (agre
   counted_none = omega (arith, agrees.delivered)
 
 -- ---- what is left of the network while a datagram is delivered
-module _ {R : Type 0} (see : Seen R) (q : ℕ) (old : State R) (w : World) (agrees : Agrees see q old w) (k : ℕ) (mid : Post) (taken : mid ≡ record old.post { flight = remove old.post.flight k }) where
+module _ {R : Type 0} (see : Seen R) (q : ℕ) (old : NetworkState R) (w : World) (agrees : Agrees see q old w) (k : ℕ) (mid : Post) (taken : mid ≡ record old.post { flight = remove old.post.flight k }) where
   pub still_roomy : mid.full ≡ false
   still_roomy = ap (λ (p : Post). p.full) taken ∙ agrees.roomy
 
@@ -158,7 +158,7 @@ module _ {R : Type 0} (see : Seen R) (q : ℕ) (old : State R) (w : World) (agre
   others = rest_here see q old w agrees k mid.flight (ap (λ (p : Post). p.flight) taken)
 
 -- ---- one more is put in flight
-module _ (q : ℕ) (s : Step) (w : World) {R : Type 0} (see : Seen R) (old : State R) (agrees : Agrees see q old w) (quiet : (n : ℕ) → input_at s w n ≡ None) (p : Parcel) (are : AreItems (old.post.flight ++ p ∷ []) (rest s w)) (new : Post) (put : new ≡ put_behind (p ∷ []) old.post) where
+module _ (q : ℕ) (s : Step) (w : World) {R : Type 0} (see : Seen R) (old : NetworkState R) (agrees : Agrees see q old w) (quiet : (n : ℕ) → input_at s w n ≡ None) (p : Parcel) (are : AreItems (old.post.flight ++ p ∷ []) (rest s w)) (new : Post) (put : new ≡ put_behind (p ∷ []) old.post) where
   many_left : length (old.post.flight ++ p ∷ []) ≡ length (step q s w).flight
   many_left =
       all_zip_length IsItem (old.post.flight ++ p ∷ []) (rest s w) are
@@ -177,14 +177,14 @@ module _ (q : ℕ) (s : Step) (w : World) {R : Type 0} (see : Seen R) (old : Sta
     flight_is : new.flight ≡ old.post.flight ++ p ∷ []
     flight_is = ap (λ (m : Post). m.flight) put ∙ take_all 8192 (old.post.flight ++ p ∷ []) room_left
 
-    pub one_put_made : (v : State R) → v.post ≡ new → net_after s w ≡ w.net → ms_of s ≡ 0 → v.refused ≡ None → HasSetUp old v → v.nodes ≡ old.nodes → v.words ≡ words_after s w → v.delivered ≡ min (w.delivered + length (items_of (arrived s w))) most_count
+    pub one_put_made : (v : NetworkState R) → v.post ≡ new → net_after s w ≡ w.net → ms_of s ≡ 0 → v.refused ≡ None → HasSetUp old v → v.nodes ≡ old.nodes → v.words ≡ words_after s w → v.delivered ≡ min (w.delivered + length (items_of (arrived s w))) most_count
         → v.trace ≡ trace_after s w → (crowds q (s ∷ []) w ≡ false) × Agrees see q v (step q s w)
     one_put_made v posts stays none going set_up nodes drawn counted traced =
         let flights : v.post.flight ≡ old.post.flight ++ p ∷ [] = ap (λ (m : Post). m.flight) posts ∙ flight_is in
         still_made q s w see old v agrees stays none quiet (ap (λ (m : Post). m.full) posts ∙ full) (ap (λ (m : Post). m.net) (posts ∙ put)) (subst (λ (ps : List Parcel). AreItems ps (rest s w)) (sym flights) are)
         (subst (λ (ps : List Parcel). length ps ≤ 8192) (sym flights) room_left) going set_up nodes drawn counted traced
 
-module _ {R : Type 0} (see : Seen R) (q : ℕ) (old : State R) (w : World) (agrees : Agrees see q old w) where
+module _ {R : Type 0} (see : Seen R) (q : ℕ) (old : NetworkState R) (w : World) (agrees : Agrees see q old w) where
   pub injected_here : (end : ℕ) (dst : Addr) (bytes : List ℕ) (a : Arrival) → IsArrival bytes a → AreItems (old.post.flight ++ parcel dst bytes end ∷ []) (rest (Inject end dst a) w)
   injected_here end dst bytes a read =
       all_zip_append IsItem old.post.flight (parcel dst bytes end ∷ []) w.flight ((record { end = end; dst = dst; arrival = a; born = w.made }) ∷ []) agrees.flight (record { end = refl; dst = refl; arrival = read }, tt)

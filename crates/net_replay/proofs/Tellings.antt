@@ -15,9 +15,9 @@ use Rattle.network_parcels.specs.Runs.{with_parts, node_facts, delivery_text, he
 use Rattle.network_parcels.specs.Steps.{Deliver, outcome}
 use Rattle.network_parcels.specs.Worlds.{Item, World}
 use Rattle.net_replay.specs.Due.{told, heard_at, heard_of}
-use Rattle.net_replay.specs.Telling.{arrival_kind, line_of}
+use Rattle.net_replay.specs.Telling.{arrival_kind, told_line}
 
-pub told_is : (name : List ℕ) (a : Arrival) (h : Heard) → line_of name (arrival_kind a) h ≡ told (Some name) a (Some h)
+pub told_is : (name : List ℕ) (a : Arrival) (h : Heard) → told_line name (arrival_kind a) h ≡ told (Some name) a (Some h)
 told_is name (Spelt m) h = refl
 told_is name (Unspelt e) h = refl
 
@@ -25,7 +25,7 @@ pub told_none : (name : Option (List ℕ)) (a : Arrival) → told name a None �
 told_none None a = refl
 told_none (Some name) a = refl
 
-pub told_at : (trace : Bool) (n : Option (List ℕ)) (a : Arrival) (o : Option Heard) (name : List ℕ) (h : Heard) → trace ≡ true → n ≡ Some name → o ≡ Some h → line_of name (arrival_kind a) h ≡ cond trace (told n a o) []
+pub told_at : (trace : Bool) (n : Option (List ℕ)) (a : Arrival) (o : Option Heard) (name : List ℕ) (h : Heard) → trace ≡ true → n ≡ Some name → o ≡ Some h → told_line name (arrival_kind a) h ≡ cond trace (told n a o) []
 told_at trace n a o name h on named heard =
     told_is name a h ∙ ap (λ (x : Option (List ℕ)). told x a (Some h)) (sym named) ∙ ap (λ (x : Option Heard). told n a x) (sym heard) ∙ ap (λ (b : Bool). cond b (told n a o) []) (sym on)
 

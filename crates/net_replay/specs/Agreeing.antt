@@ -12,7 +12,7 @@ use Rattle.net_replay.specs.Routed.{AreRouted}
 use Rattle.net_replay.specs.declared.world_err.WorldErr.{WorldErr}
 
 -- a network of routers of a type
-pub record State (R : Type 0) : Type 0 where
+pub record NetworkState (R : Type 0) : Type 0 where
   pub quarter : ℕ
   -- what is in flight, along which wires
   pub post : Post
@@ -67,7 +67,7 @@ module _ {R : Type 0} (see : Seen R) (q : ℕ) where
     pub words_are : words ≡ w.words
     pub nodes : AreNodes w rs
 
-  pub record Agrees (v : State R) (w : World) : Type 0 where
+  pub record Agrees (v : NetworkState R) (w : World) : Type 0 where
     pub going : v.refused ≡ None
     pub roomy : v.post.full ≡ false
     pub quarter : v.quarter ≡ q

@@ -15,5 +15,5 @@ text_of_kind (Some k) = kind_text k
 text_of_kind None = codes "?"
 
 -- END KIND OUTCOME
-abbrev pub line_of : List ℕ → Option Kind → Heard → List ℕ
-line_of name kind h = name ++ codes " " ++ text_of_kind kind ++ codes " " ++ heard_text h ++ codes "\n"
+abbrev pub told_line : List ℕ → Option Kind → Heard → List ℕ
+told_line name kind h = name ++ codes " " ++ text_of_kind kind ++ codes " " ++ heard_text h ++ codes "\n"

@@ -3,7 +3,7 @@ ghost use Rattle.std.specs.Prelude.{◌≡◌, ◌++◌, [], OnErr, OnOk, IsOk, 
 ghost use Rattle.net_replay.specs.Due.{told};
 ghost use Rattle.network_parcels.specs.Runs.{heard_text, why_text};
 ghost use Rattle.net_replay.specs.Following.{IsArrival};
-ghost use Rattle.net_replay.specs.Telling.{arrival_kind, line_of, text_of_kind};
+ghost use Rattle.net_replay.specs.Telling.{arrival_kind, told_line, text_of_kind};
 ghost use Rattle.router_rules.specs.Inputs.{Arrival};
 
 use message_wire::decode;
@@ -30,7 +30,7 @@ pub(crate) fn put_delivery(
     kind: Option<Kind>,
     heard: Heard,
 ) -> Result<(), NoMemory>
-    ensures { OnOk result (out.new.items ≡ out.old.items ++ line_of name.now kind heard) }
+    ensures { OnOk result (out.new.items ≡ out.old.items ++ told_line name.now kind heard) }
 {
     put(out, name)?;
     put(out, b" ")?;

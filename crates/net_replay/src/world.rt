@@ -59,10 +59,10 @@ pub struct World<R: Router + Drop> {
 
 impl<R: Router + Drop> Model for World<R> {
     ghost use Rattle.std.specs.Prelude.{map};
-    ghost use Rattle.net_replay.specs.Agreeing.{State, IsSteady};
+    ghost use Rattle.net_replay.specs.Agreeing.{NetworkState, IsSteady};
     ghost use Rattle.net_replay.specs.Routed.{trees_in};
 
-    ghost Value = { State R };
+    ghost Value = { NetworkState R };
 
     ghost view = { λ w. record { quarter = w.quarter; post = w.mail; names = w.names.items; nodes = w.nodes.items; trees = trees_in w.routes.items; words = w.words; delivered = w.delivered; trace = w.trace; refused = w.refused } };
 

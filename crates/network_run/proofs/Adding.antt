@@ -5,15 +5,15 @@ use Rattle.script_grammar.specs.Runs.{Plan, crowds, first_world, text_of, uncrow
 use Rattle.script_grammar.specs.Adds.{Adds}
 use Rattle.script_grammar.specs.Draft.{Draft, plan_of}
 use Rattle.script_grammar.specs.Grammar.{Follows, Happens}
-use Rattle.script_grammar.specs.LineKinds.{line_of}
-use Rattle.script_grammar.specs.declared.line.Line.{Line}
-use Rattle.script_grammar.specs.declared.line.Line.TheVariants as line
+use Rattle.script_grammar.specs.LineKinds.{script_line_of}
+use Rattle.script_grammar.specs.declared.line.ScriptLine.{ScriptLine}
+use Rattle.script_grammar.specs.declared.line.ScriptLine.TheVariants as line
 use Rattle.script_grammar.proofs.Happening.{adds_one_event, events_alone}
 use Rattle.network_run.specs.Playing.{IsRunOn}
 use Rattle.network_run.specs.Written.{IsRunSoFar, with_event}
 
 -- ---- events stay where nothing happens
-keeps_events : (d : Draft) (said : Line) (new : Draft) → Adds d said new → Happens said ⊎ (new.events ≡ d.events)
+keeps_events : (d : Draft) (said : ScriptLine) (new : Draft) → Adds d said new → Happens said ⊎ (new.events ≡ d.events)
 keeps_events d line.Skipped new x = inr (ap (λ (y : Draft). y.events) x)
 keeps_events d (line.Period ms) new x = inr (ap (λ (y : Draft). y.events) x)
 keeps_events d (line.Seed n) new x = inr (ap (λ (y : Draft). y.events) x)
@@ -93,7 +93,7 @@ event_line d t new e f added = elim (keeps_events d f.said new f.adds) [
 ]
 
 -- ---- a line that is skipped
-pub skipped_on : (stands : Draft → Type 0) (d : Draft) (t said : List ℕ) → length t ≤ 2048 → line_of t ≡ Some line.Skipped → stands d → IsRunSoFar d said → IsRunOn stands d t said []
+pub skipped_on : (stands : Draft → Type 0) (d : Draft) (t said : List ℕ) → length t ≤ 2048 → script_line_of t ≡ Some line.Skipped → stands d → IsRunSoFar d said → IsRunOn stands d t said []
 skipped_on stands d t said short reads there run = record {
   new = d;
   follows = record { short = short; said = line.Skipped; reads = reads; valid = record { in_time = tt; in_range = tt; known = tt; new = tt; of_style = tt; within_limits = tt; of_tree = tt; within_capacity = tt; loop_free = tt }; adds = refl };

@@ -35,7 +35,7 @@ use Rattle.style_rules.specs.PartLaws.{union_least}
 use Rattle.style_rules.specs.Parts.{part_cut}
 use Rattle.style_rules.specs.Tally.{tally_of, names_of_tally, names_of_requests}
 use Rattle.style_rules.specs.Toward.{Request, is_walled, parts_of}
-use Rattle.style_rules.specs.Ways.{Way, WayTable, line_of}
+use Rattle.style_rules.specs.Ways.{Way, WayTable, up_line_of}
 use Rattle.style_rules.proofs.TallyRoom.{merger_has_room}
 use Rattle.soft_table.proofs.Steps.{Step, first_dropped}
 use Rattle.soft_table.proofs.Valued.{size-valued, get-valued}
@@ -210,23 +210,23 @@ module _ (st : StyleKind) (fs : List (Held × ℕ)) (up : AreRows line_keys held
       omega (arith, less, same, w.names s)
 
 -- ---- what a look-up of a line says
-pub wall_got : (asked : TokenBucket) (q : Sender) (line : UpLine) (w : Option Way) → Some line ≡ option_map (λ way. line_of (q, way)) w → is_walled asked line.wall ≡ is_way_walled asked w
+pub wall_got : (asked : TokenBucket) (q : Sender) (line : UpLine) (w : Option Way) → Some line ≡ option_map (λ way. up_line_of (q, way)) w → is_walled asked line.wall ≡ is_way_walled asked w
 wall_got asked q line None e = cc
-wall_got asked q line (Some way) e = let same : line ≡ line_of (q, way) = cc in ap (λ (l : UpLine). is_walled asked l.wall) same
+wall_got asked q line (Some way) e = let same : line ≡ up_line_of (q, way) = cc in ap (λ (l : UpLine). is_walled asked l.wall) same
 
-pub wall_none : (asked : TokenBucket) (q : Sender) (w : Option Way) → None ≡ option_map (λ way. line_of (q, way)) w → false ≡ is_way_walled asked w
+pub wall_none : (asked : TokenBucket) (q : Sender) (w : Option Way) → None ≡ option_map (λ way. up_line_of (q, way)) w → false ≡ is_way_walled asked w
 wall_none asked q None e = refl
 wall_none asked q (Some way) e = cc
 
-pub out_got : (i : ℕ) (q : Sender) (line : UpLine) (w : Option Way) → Some line ≡ option_map (λ way. line_of (q, way)) w → (bit_at line.outward i == 1) ≡ is_by (Some i) w
+pub out_got : (i : ℕ) (q : Sender) (line : UpLine) (w : Option Way) → Some line ≡ option_map (λ way. up_line_of (q, way)) w → (bit_at line.outward i == 1) ≡ is_by (Some i) w
 out_got i q line None e = cc
-out_got i q line (Some way) e = let same : line ≡ line_of (q, way) = cc in ap (λ (l : UpLine). bit_at l.outward i == 1) same
+out_got i q line (Some way) e = let same : line ≡ up_line_of (q, way) = cc in ap (λ (l : UpLine). bit_at l.outward i == 1) same
 
-pub any_got : (q : Sender) (line : UpLine) (w : Option Way) → Some line ≡ option_map (λ way. line_of (q, way)) w → true ≡ is_by None w
+pub any_got : (q : Sender) (line : UpLine) (w : Option Way) → Some line ≡ option_map (λ way. up_line_of (q, way)) w → true ≡ is_by None w
 any_got q line None e = cc
 any_got q line (Some way) e = refl
 
-pub by_none : (iface : Option ℕ) (q : Sender) (w : Option Way) → None ≡ option_map (λ way. line_of (q, way)) w → false ≡ is_by iface w
+pub by_none : (iface : Option ℕ) (q : Sender) (w : Option Way) → None ≡ option_map (λ way. up_line_of (q, way)) w → false ≡ is_by iface w
 by_none iface q None e = refl
 by_none iface q (Some way) e = cc
 

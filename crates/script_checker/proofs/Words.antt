@@ -23,9 +23,9 @@ use Rattle.script_words.specs.Styles.{style_of}
 use Rattle.script_words.specs.Flows.{flow_of}
 use Rattle.script_words.proofs.PartLemmas.{some_parts}
 use Rattle.script_grammar.specs.Grammar.{most_line}
-use Rattle.script_grammar.specs.LineKinds.{Kinds, as_wild, at_nodes, by_first, bytes_of, clear_line, declared, drop_line, end_line, flags_line, hop_line, hop_wall, in_flight, inject_line, is_comment, left_over, line_of, link_line, lone_number, node_line, numbered, others, pairs_of, pass_line, path_of, period_line, quit_line, report_line, reroute_line, resv_of, said_at_node, said_by, said_in_flight, said_left_over, said_other, seed_line, send_line, sender_wall, some_bytes, stale_blockade_line, stale_hop, stale_path_line, stale_resv_line, stale_sender, stale_senders, trace_line, want_line, want_of, want_senders, wild_word}
-use Rattle.script_grammar.specs.declared.line.Line.{Line}
-use Rattle.script_grammar.specs.declared.line.Line.TheVariants as line
+use Rattle.script_grammar.specs.LineKinds.{Kinds, as_wild, at_nodes, by_first, bytes_of, clear_line, declared, drop_line, end_line, flags_line, hop_line, hop_wall, in_flight, inject_line, is_comment, left_over, script_line_of, link_line, lone_number, node_line, numbered, others, pairs_of, pass_line, path_of, period_line, quit_line, report_line, reroute_line, resv_of, said_at_node, said_by, said_in_flight, said_left_over, said_other, seed_line, send_line, sender_wall, some_bytes, stale_blockade_line, stale_hop, stale_path_line, stale_resv_line, stale_sender, stale_senders, trace_line, want_line, want_of, want_senders, wild_word}
+use Rattle.script_grammar.specs.declared.line.ScriptLine.{ScriptLine}
+use Rattle.script_grammar.specs.declared.line.ScriptLine.TheVariants as line
 use Rattle.script_checker.specs.Forms.{Formed}
 use Rattle.left_rules.specs.Forms.{IsResvForm}
 use Rattle.host_rules.specs.Forms.{IsWantForm}
@@ -61,12 +61,12 @@ words_short : (text : List ℕ) → AreShort (length text) (words_of text)
 words_short text w i = split_short (λ c. c == byte " ") text w (in_filter (λ word. nat_lt 0 (length word)) w (parts_of (byte " ") text) i).0
 
 -- ---- the form of what is read
-abbrev Good : Option Line → Type 0
+abbrev Good : Option ScriptLine → Type 0
 Good None = Unit {0}
 Good (Some l) = Formed l
 
 -- ---- one step after another
-on_read : {A : Type 0} (m : Option A) (next : A → Option Line) → ((a : A) → m ≡ Some a → Good (next a)) → Good (m >>= next)
+on_read : {A : Type 0} (m : Option A) (next : A → Option ScriptLine) → ((a : A) → m ≡ Some a → Good (next a)) → Good (m >>= next)
 on_read None next h = tt
 on_read (Some a) next h = h a refl
 
@@ -77,7 +77,7 @@ opened (Some a) next b e = (a, refl, e)
 the_same : {A : Type 0} (a b : A) → Some a ≡ Some b → a ≡ b
 the_same a b e = cc
 
-choose : (b : Bool) (x y : Option Line) → (b ≡ true → Good x) → Good y → Good (cond b x y)
+choose : (b : Bool) (x y : Option ScriptLine) → (b ≡ true → Good x) → Good y → Good (cond b x y)
 choose true x y h k = h refl
 choose false x y h k = k
 
@@ -206,7 +206,7 @@ unfolding quit_line
 quit_good (node ∷ session ∷ []) = on_read (name_of node) _ (λ n _. on_read (session_of session) _ (λ s _. tt))
 quit_good _ = tt
 
-numbered_good : (kind : ℕ → Line) → ((n : ℕ) → Formed (kind n)) → (ws : List (List ℕ)) → Good (numbered kind ws)
+numbered_good : (kind : ℕ → ScriptLine) → ((n : ℕ) → Formed (kind n)) → (ws : List (List ℕ)) → Good (numbered kind ws)
 numbered_good kind h ws = on_read (lone_number ws) (λ n. Some (kind n)) (λ n _. h n)
 
 pass_good : (ws : List (List ℕ)) → Good (pass_line ws)
@@ -253,7 +253,7 @@ AreGood : Kinds → Type 0
 AreGood [] = Unit {0}
 AreGood (kind ∷ more) = ((ws : List (List ℕ)) → AreShort most_line ws → Good (kind.1 ws)) × AreGood more
 
-by_first_good : (kinds : Kinds) (other : List ℕ → List (List ℕ) → Option Line) → AreGood kinds → ((f : List ℕ) (ws : List (List ℕ)) → AreShort most_line ws → Good (other f ws)) → (first : List ℕ) (behind : List (List ℕ)) → AreShort most_line behind → Good (by_first kinds other first behind)
+by_first_good : (kinds : Kinds) (other : List ℕ → List (List ℕ) → Option ScriptLine) → AreGood kinds → ((f : List ℕ) (ws : List (List ℕ)) → AreShort most_line ws → Good (other f ws)) → (first : List ℕ) (behind : List (List ℕ)) → AreShort most_line behind → Good (by_first kinds other first behind)
 unfolding AreGood
 by_first_good [] other h k first behind short = k first behind short
 by_first_good (kind ∷ more) other h k first behind short = choose (bytes_eq first kind.0) (kind.1 behind) (by_first more other first behind) (λ _. h.0 behind short) (by_first_good more other h.1 k first behind short)
@@ -281,7 +281,7 @@ unfolding AreGood said_by
 said_good [] short = tt
 said_good (first ∷ behind) short = by_first_good declared said_left_over ((λ ws _. period_good ws), ((λ ws _. seed_good ws), ((λ ws _. node_good ws), ((λ ws _. end_good ws), ((λ ws _. link_good ws), ((λ ws _. hop_good ws), tt)))))) left_good first behind (λ w i. short w (inr i))
 
-pub formed : (text : List ℕ) (said : Line) → length text ≤ most_line → line_of text ≡ Some said → Formed said
+pub formed : (text : List ℕ) (said : ScriptLine) → length text ≤ most_line → script_line_of text ≡ Some said → Formed said
 formed text said few e =
     let short : AreShort most_line (words_of text) = λ w i. let each_one = words_short text w i in omega (arith, few, each_one) in
     subst Good e (choose (is_comment text) (Some line.Skipped) (said_by (words_of text)) (λ _. tt) (said_good (words_of text) short))

@@ -1,12 +1,12 @@
 -- The form of a line that was read from at most 2,048 bytes.
 use Rattle.std.specs.Prelude.{◌≤◌, length}
-use Rattle.script_grammar.specs.declared.line.Line.{Line}
-use Rattle.script_grammar.specs.declared.line.Line.TheVariants as line
+use Rattle.script_grammar.specs.declared.line.ScriptLine.{ScriptLine}
+use Rattle.script_grammar.specs.declared.line.ScriptLine.TheVariants as line
 use Rattle.left_rules.specs.Forms.{IsResvForm}
 use Rattle.host_rules.specs.Forms.{IsWantForm}
 
 -- its lists of senders name someone where the style does, and what is injected is no longer than a datagram may be
-abbrev pub Formed : Line → Type 0
+abbrev pub Formed : ScriptLine → Type 0
 Formed (line.StaleResv l) = IsResvForm l.style l.senders
 Formed (line.Want l) = IsWantForm l.style l.senders
 Formed (line.Inject l) = length l.bytes ≤ 4096

@@ -8,13 +8,13 @@ ghost use Rattle.script_state.specs.Refusals.{IsUntouched, Refuses};
 ghost use Rattle.script_player.specs.Checking.{IsGiven};
 
 use net_replay::Event;
-use script_grammar::Line;
+use script_grammar::ScriptLine;
 use script_player::Refused;
 use script_state::ScriptState;
 
 /// Adds what a line says, and gives its event if it is one of part 3. `Fault`: the line breaks a rule, this is the fault of the
 /// first that it breaks, and the lines so far stay as they were. `NoMemory`: memory ran out.
-pub fn add(state: &mut ScriptState, line: Line) -> Result<Option<Event>, Refused>
+pub fn add(state: &mut ScriptState, line: ScriptLine) -> Result<Option<Event>, Refused>
     requires { Formed line }
     ensures ok { OnOk result (KeepsAll (Keeps (draft_of state.old) line) × Adds (draft_of state.old) line (draft_of state.new)) }
     ensures given { IfOk result (λ e. IsGiven (draft_of state.old).events e (draft_of state.new).events) }
@@ -22,63 +22,63 @@ pub fn add(state: &mut ScriptState, line: Line) -> Result<Option<Event>, Refused
     ensures same { IfErr result (IsUntouched (draft_of state.old) (draft_of state.new)) }
 {
     match line {
-        Line::Skipped => Ok(None),
-        Line::Period(ms) => {
+        ScriptLine::Skipped => Ok(None),
+        ScriptLine::Period(ms) => {
             tree_rules::add_period(state, ms)?;
             Ok(None)
         }
-        Line::Seed(seed) => {
+        ScriptLine::Seed(seed) => {
             tree_rules::add_seed(state, seed)?;
             Ok(None)
         }
-        Line::Node(name) => {
+        ScriptLine::Node(name) => {
             tree_rules::add_node(state, name)?;
             Ok(None)
         }
-        Line::Wait(ms) => Ok(Some(event_rules::add_wait(state, ms)?)),
-        Line::Pass(times) => Ok(Some(event_rules::add_pass(state, times)?)),
-        Line::Rounds(times) => Ok(Some(event_rules::add_rounds(state, times)?)),
-        Line::Deliver(place) => Ok(Some(event_rules::add_deliver(state, place)?)),
-        Line::Lose(place) => Ok(Some(event_rules::add_lose(state, place)?)),
-        Line::Copy(place) => Ok(Some(event_rules::add_again(state, place)?)),
-        Line::Clear(node) => Ok(Some(event_rules::add_clear(state, node)?)),
-        Line::Trace(on) => Ok(Some(event_rules::add_trace(state, on)?)),
-        Line::Report => Ok(Some(event_rules::add_report(state)?)),
-        Line::Flags => Ok(Some(event_rules::add_flags(state)?)),
-        Line::End(line) => {
+        ScriptLine::Wait(ms) => Ok(Some(event_rules::add_wait(state, ms)?)),
+        ScriptLine::Pass(times) => Ok(Some(event_rules::add_pass(state, times)?)),
+        ScriptLine::Rounds(times) => Ok(Some(event_rules::add_rounds(state, times)?)),
+        ScriptLine::Deliver(place) => Ok(Some(event_rules::add_deliver(state, place)?)),
+        ScriptLine::Lose(place) => Ok(Some(event_rules::add_lose(state, place)?)),
+        ScriptLine::Copy(place) => Ok(Some(event_rules::add_again(state, place)?)),
+        ScriptLine::Clear(node) => Ok(Some(event_rules::add_clear(state, node)?)),
+        ScriptLine::Trace(on) => Ok(Some(event_rules::add_trace(state, on)?)),
+        ScriptLine::Report => Ok(Some(event_rules::add_report(state)?)),
+        ScriptLine::Flags => Ok(Some(event_rules::add_flags(state)?)),
+        ScriptLine::End(line) => {
             tree_rules::add_end(state, line)?;
             Ok(None)
         }
-        Line::Link(names) => {
+        ScriptLine::Link(names) => {
             tree_rules::add_link(state, names)?;
             Ok(None)
         }
-        Line::Hop(line) => {
+        ScriptLine::Hop(line) => {
             tree_rules::add_hop(state, line)?;
             Ok(None)
         }
-        Line::StalePath(line) => {
+        ScriptLine::StalePath(line) => {
             left_rules::add_path(state, line)?;
             Ok(None)
         }
-        Line::StaleResv(line) => {
+        ScriptLine::StaleResv(line) => {
             left_rules::add_resv(state, line)?;
             Ok(None)
         }
-        Line::StaleHopWall(line) => {
+        ScriptLine::StaleHopWall(line) => {
             left_rules::add_hop_wall(state, line)?;
             Ok(None)
         }
-        Line::StaleSenderWall(line) => {
+        ScriptLine::StaleSenderWall(line) => {
             left_rules::add_sender_wall(state, line)?;
             Ok(None)
         }
-        Line::Send(line) => Ok(Some(host_rules::add_send(state, line)?)),
-        Line::Drop(line) => Ok(Some(host_rules::add_drop(state, line)?)),
-        Line::Want(line) => Ok(Some(host_rules::add_want(state, line)?)),
-        Line::Quit(line) => Ok(Some(host_rules::add_quit(state, line)?)),
-        Line::ReportEnd(end) => Ok(Some(event_rules::add_report_end(state, end)?)),
-        Line::Inject(line) => Ok(Some(event_rules::add_inject(state, line)?)),
-        Line::Reroute(line) => Ok(Some(tree_rules::add_reroute(state, line)?)),
+        ScriptLine::Send(line) => Ok(Some(host_rules::add_send(state, line)?)),
+        ScriptLine::Drop(line) => Ok(Some(host_rules::add_drop(state, line)?)),
+        ScriptLine::Want(line) => Ok(Some(host_rules::add_want(state, line)?)),
+        ScriptLine::Quit(line) => Ok(Some(host_rules::add_quit(state, line)?)),
+        ScriptLine::ReportEnd(end) => Ok(Some(event_rules::add_report_end(state, end)?)),
+        ScriptLine::Inject(line) => Ok(Some(event_rules::add_inject(state, line)?)),
+        ScriptLine::Reroute(line) => Ok(Some(tree_rules::add_reroute(state, line)?)),
     }
 }

@@ -8,33 +8,33 @@ use Rattle.script_grammar.specs.Values.{IsEndInRange, IsHopInRange}
 use Rattle.script_grammar.specs.declared.line.EndLine.{EndLine}
 use Rattle.script_grammar.specs.declared.line.HopLine.{HopLine}
 use Rattle.script_grammar.specs.Grammar.{Follows, HasFault, IsBadLine, Leads, broken, unread}
-use Rattle.script_grammar.specs.LineKinds.{clear_line, end_line, hop_line, line_of, node_line, period_line, said_at_node, said_by, said_in_flight, said_left_over, said_other}
+use Rattle.script_grammar.specs.LineKinds.{clear_line, end_line, hop_line, script_line_of, node_line, period_line, said_at_node, said_by, said_in_flight, said_left_over, said_other}
 use Rattle.script_grammar.specs.Rows.{FaultsAreFound}
 use Rattle.script_grammar.specs.declared.fault.Fault.TheVariants.{Late, Name, NotTree, Range, Twice, Word}
-use Rattle.script_grammar.specs.declared.line.Line.TheVariants as line
+use Rattle.script_grammar.specs.declared.line.ScriptLine.TheVariants as line
 
 -- ---- what the lines say
-frob : line_of (codes "frob") ≡ None
+frob : script_line_of (codes "frob") ≡ None
 unfolding said_by said_left_over said_at_node said_in_flight said_other
 frob = refl
 
-wait_1 : line_of (codes "wait 1") ≡ Some (line.Wait 1)
+wait_1 : script_line_of (codes "wait 1") ≡ Some (line.Wait 1)
 unfolding said_by said_left_over said_at_node said_in_flight
 wait_1 = refl
 
-node_x : line_of (codes "node x") ≡ Some (line.Node (codes "x"))
+node_x : script_line_of (codes "node x") ≡ Some (line.Node (codes "x"))
 unfolding said_by node_line
 node_x = refl
 
-node_a : line_of (codes "node a") ≡ Some (line.Node (codes "a"))
+node_a : script_line_of (codes "node a") ≡ Some (line.Node (codes "a"))
 unfolding said_by node_line
 node_a = refl
 
-period_1002 : line_of (codes "period 1002") ≡ Some (line.Period 1002)
+period_1002 : script_line_of (codes "period 1002") ≡ Some (line.Period 1002)
 unfolding said_by period_line
 period_1002 = refl
 
-end_a1 : line_of (codes "end a1 a 10.0.0.1 5 1500")
+end_a1 : script_line_of (codes "end a1 a 10.0.0.1 5 1500")
     ≡ Some (line.End (record { name = codes "a1"; node = codes "a"; addr = record { a = 10; b = 0; c = 0; d = 1 }; capacity = 5; mtu = 1500 }))
 unfolding said_by end_line quad_of
 end_a1 = refl
@@ -98,7 +98,7 @@ end_follows =
 abbrev a1_a1 : HopLine
 a1_a1 = record { group = record { a = 239; b = 1; c = 1; d = 1 }; source = record { a = 10; b = 0; c = 0; d = 1 }; ends = record { from = codes "a1"; to = codes "a1" } }
 
-hop_a1 : line_of (codes "hop 239.1.1.1 10.0.0.1 a1 a1") ≡ Some (line.Hop a1_a1)
+hop_a1 : script_line_of (codes "hop 239.1.1.1 10.0.0.1 a1 a1") ≡ Some (line.Hop a1_a1)
 unfolding said_by hop_line quad_of
 hop_a1 = refl
 

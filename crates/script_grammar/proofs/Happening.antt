@@ -10,10 +10,10 @@ use Rattle.script_grammar.specs.Grammar.{Happens}
 use Rattle.script_grammar.specs.Laws.{AddsOneEvent}
 use Rattle.script_grammar.specs.Rules.{Keeps, KeepsAll}
 use Rattle.script_grammar.specs.Values.{drop_value, hop_values, send_value, want_value}
-use Rattle.script_grammar.specs.declared.line.Line.{Line}
-use Rattle.script_grammar.specs.declared.line.Line.TheVariants as line
+use Rattle.script_grammar.specs.declared.line.ScriptLine.{ScriptLine}
+use Rattle.script_grammar.specs.declared.line.ScriptLine.TheVariants as line
 
-pub adds_one_event : (d : Draft) (said : Line) (new : Draft) → Happens said → Adds d said new → AddsOneEvent (plan_of d) (plan_of new)
+pub adds_one_event : (d : Draft) (said : ScriptLine) (new : Draft) → Happens said → Adds d said new → AddsOneEvent (plan_of d) (plan_of new)
 adds_one_event d line.Skipped new h x = absurd h
 adds_one_event d (line.Period ms) new h x = absurd h
 adds_one_event d (line.Seed times) new h x = absurd h
@@ -43,7 +43,7 @@ adds_one_event d line.Flags new h x = record { event = ReportsFlags; plan = ap p
 adds_one_event d (line.Inject l) new h x = record { event = Injects (end_number d l.end) (addr_value l.dst) x.0; plan = ap plan_of x.2 }
 adds_one_event d (line.Reroute l) new h x = record { event = Reroutes (addr_value l.group) (addr_value l.source) (hop_values d l); plan = ap plan_of x }
 
-pub events_alone : (d : Draft) (said : Line) → d.events ≢ [] → KeepsAll (Keeps d said) → Happens said ⊎ (said ≡ line.Skipped)
+pub events_alone : (d : Draft) (said : ScriptLine) → d.events ≢ [] → KeepsAll (Keeps d said) → Happens said ⊎ (said ≡ line.Skipped)
 events_alone d line.Skipped some k = inr refl
 events_alone d (line.Period ms) some k = absurd (some k.in_time.no_event)
 events_alone d (line.Seed n) some k = absurd (some k.in_time.no_event)

@@ -15,13 +15,13 @@ use Rattle.script_grammar.specs.Adds.{Adds, IsArrival, net_rerouted, with_event}
 use Rattle.script_grammar.specs.Draft.{Draft, end_number, nothing, plan_of}
 use Rattle.script_grammar.specs.Grammar.{Follows, HasFault, too_long, unread, broken, Leads, most_line, line_number, IsScript, IsBadLine}
 use Rattle.script_grammar.specs.Laws.{OneBadLine}
-use Rattle.script_grammar.specs.LineKinds.{line_of}
+use Rattle.script_grammar.specs.LineKinds.{script_line_of}
 use Rattle.script_grammar.specs.Rules.{Rule, Keeps, KeepsAll, BreaksFirst, Closes, Exceeds, IsLoopOf}
 use Rattle.script_grammar.specs.declared.fault.Excess.{Excess}
 use Rattle.script_grammar.specs.declared.fault.Fault.{Fault}
 use Rattle.script_grammar.specs.declared.fault.Fault.TheVariants.{Word, Late, Range, Name, Twice, Style, Limit, NotTree, Over, Loop}
-use Rattle.script_grammar.specs.declared.line.Line.{Line}
-use Rattle.script_grammar.specs.declared.line.Line.TheVariants as line
+use Rattle.script_grammar.specs.declared.line.ScriptLine.{ScriptLine}
+use Rattle.script_grammar.specs.declared.line.ScriptLine.TheVariants as line
 
 same_some : {A : Type 0} (a b : A) → Some a ≡ Some b → a ≡ b
 same_some a b e = cc
@@ -33,7 +33,7 @@ arrival_one bytes (Spelt m) (Unspelt e) x y = absurd (no_fault_where_spelt bytes
 arrival_one bytes (Unspelt e) (Spelt m) x y = absurd (no_fault_where_spelt bytes m e y x)
 arrival_one bytes (Unspelt e) (Unspelt f) x y = ap Unspelt (the_first_fault_is_one bytes e f x y)
 
-pub adds_one : (d : Draft) (l : Line) (m n : Draft) → Adds d l m → Adds d l n → m ≡ n
+pub adds_one : (d : Draft) (l : ScriptLine) (m n : Draft) → Adds d l m → Adds d l n → m ≡ n
 adds_one d line.Skipped m n x y = x ∙ sym y
 adds_one d (line.Period ms) m n x y = x ∙ sym y
 adds_one d (line.Seed times) m n x y = x ∙ sym y
@@ -103,12 +103,12 @@ breaks_none rules excess loop NotTree k b = b.6 k.of_tree
 breaks_none rules excess loop (Over much) k b = b.7 k.within_capacity
 breaks_none rules excess loop (Loop group from to) k b = b.8 k.loop_free
 
-no_reading : (o : Option Line) (said : Line) → o ≡ Some said → o ≡ None → ⊥
+no_reading : (o : Option ScriptLine) (said : ScriptLine) → o ≡ Some said → o ≡ None → ⊥
 no_reading o said e f = let h : Some said ≡ None = sym e ∙ f in cc
 
 pub fault_or_follows : (d : Draft) (text : List ℕ) (why : Fault) (new : Draft) → HasFault d text why → Follows d text new → ⊥
 fault_or_follows d text Limit new (too_long long) f = absurd (omega (arith, f.short))
-fault_or_follows d text Word new (unread short gone) f = no_reading (line_of text) f.said f.reads gone
+fault_or_follows d text Word new (unread short gone) f = no_reading (script_line_of text) f.said f.reads gone
 fault_or_follows d text why new (broken said _ short reads b) f =
     let same = same_some f.said said (sym f.reads ∙ reads) in
     breaks_none (Keeps d said) (Exceeds d said) (Closes d said) why (subst (λ l. KeepsAll (Keeps d l)) same f.valid) b
@@ -140,7 +140,7 @@ loop_of_one d net g a b f t u v x y =
     let to : t ≡ v = same_some t v (sym x.3.1 ∙ ap (λ (h : LinkHop). slice_get d.names h.to) hop ∙ y.3.1) in
     λ i. Loop (group i) (from i) (to i)
 
-loop_one : (d : Draft) (l : Line) (a b : Addr) (f t u v : List ℕ) → Closes d l a f t → Closes d l b u v → Loop a f t ≡ Loop b u v
+loop_one : (d : Draft) (l : ScriptLine) (a b : Addr) (f t u v : List ℕ) → Closes d l a f t → Closes d l b u v → Loop a f t ≡ Loop b u v
 loop_one d line.Skipped a b f t u v x y = absurd x
 loop_one d (line.Period ms) a b f t u v x y = absurd x
 loop_one d (line.Seed n) a b f t u v x y = absurd x
@@ -171,7 +171,7 @@ loop_one d (line.Inject l) a b f t u v x y = absurd x
 loop_one d (line.Reroute l) a b f t u v x y = loop_of_one d (net_rerouted d l) (addr_value l.group) a b f t u v x y
 
 -- ---- one excess
-excess_one : (d : Draft) (l : Line) (a b : Excess) → Exceeds d l a → Exceeds d l b → Over a ≡ Over b
+excess_one : (d : Draft) (l : ScriptLine) (a b : Excess) → Exceeds d l a → Exceeds d l b → Over a ≡ Over b
 excess_one d line.Skipped a b x y = absurd x
 excess_one d (line.Period ms) a b x y = absurd x
 excess_one d (line.Seed n) a b x y = absurd x
@@ -202,7 +202,7 @@ excess_one d (line.Inject l) a b x y = absurd x
 excess_one d (line.Reroute l) a b x y = absurd x
 
 -- ---- one fault
-breaks_one : (d : Draft) (l : Line) (a b : Fault) → BreaksFirst (Keeps d l) (Exceeds d l) (Closes d l) a → BreaksFirst (Keeps d l) (Exceeds d l) (Closes d l) b → a ≡ b
+breaks_one : (d : Draft) (l : ScriptLine) (a b : Fault) → BreaksFirst (Keeps d l) (Exceeds d l) (Closes d l) a → BreaksFirst (Keeps d l) (Exceeds d l) (Closes d l) b → a ≡ b
 breaks_one d l Word b h k = absurd h
 breaks_one d l Late Word h k = absurd k
 breaks_one d l Late Late h k = refl
@@ -301,9 +301,9 @@ fault_one d text Limit Word (too_long x) (unread short gone) = absurd (omega ari
 fault_one d text Limit b (too_long x) (broken said _ short reads h) = absurd (omega arith)
 fault_one d text Word Limit (unread short gone) (too_long y) = absurd (omega arith)
 fault_one d text Word Word (unread short gone) (unread shorter also) = refl
-fault_one d text Word b (unread short gone) (broken said _ shorter reads h) = absurd (no_reading (line_of text) said reads gone)
+fault_one d text Word b (unread short gone) (broken said _ shorter reads h) = absurd (no_reading (script_line_of text) said reads gone)
 fault_one d text a Limit (broken said _ short reads h) (too_long y) = absurd (omega arith)
-fault_one d text a Word (broken said _ short reads h) (unread shorter gone) = absurd (no_reading (line_of text) said reads gone)
+fault_one d text a Word (broken said _ short reads h) (unread shorter gone) = absurd (no_reading (script_line_of text) said reads gone)
 fault_one d text a b (broken said _ short reads h) (broken other _ shorter also k) =
     let same = same_some other said (sym also ∙ reads) in
     breaks_one d said a b h (subst (λ l. BreaksFirst (Keeps d l) (Exceeds d l) (Closes d l) b) same k)

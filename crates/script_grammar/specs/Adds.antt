@@ -26,8 +26,8 @@ use Rattle.network_model.specs.Events.{Event, AtNode, Waits, Pass, DeliverAt, Lo
 use Rattle.network_model.specs.Steps.{rerouted}
 use Rattle.script_grammar.specs.Draft.{Draft, end_number, node_number, routing, same_session, with_session}
 use Rattle.script_grammar.specs.Values.{end_value, tree_hop_value, hop_values, stale_path_value, stale_resv_value, stale_hop_wall_value, stale_sender_wall_value, send_value, drop_value, want_value, senders_value}
-use Rattle.script_grammar.specs.declared.line.Line.{Line}
-use Rattle.script_grammar.specs.declared.line.Line.TheVariants as line
+use Rattle.script_grammar.specs.declared.line.ScriptLine.{ScriptLine}
+use Rattle.script_grammar.specs.declared.line.ScriptLine.TheVariants as line
 use Rattle.script_grammar.specs.declared.line.EndLine.{EndLine}
 use Rattle.script_grammar.specs.declared.line.HopLine.{HopLine}
 use Rattle.script_grammar.specs.declared.line.SendLine.{SendLine}
@@ -131,7 +131,7 @@ IsArrival bytes (Spelt m) = Spells bytes m
 IsArrival bytes (Unspelt e) = IsFirstFault bytes e
 
 -- ---- the lines before lead to these with this one
-abbrev pub Adds : Draft → Line → Draft → Type 0
+abbrev pub Adds : Draft → ScriptLine → Draft → Type 0
 Adds d line.Skipped new = new ≡ d
 Adds d (line.Period ms) new = new ≡ record d { period = Some ms }
 Adds d (line.Seed n) new = new ≡ record d { seed = Some n }

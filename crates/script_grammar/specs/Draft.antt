@@ -57,12 +57,12 @@ period_of d = unwrap_or d.period usual_period
 
 -- the lifetime of state that was refreshed with this period: 21 quarters of it, which is (K + 0.5) * 1.5 * R with K = 3
 -- (RFC 2205, 3.7)
-abbrev pub lifetime : ℕ → ℕ
-lifetime period = 21 * (period / 4)
+abbrev pub lifetime_of_period : ℕ → ℕ
+lifetime_of_period period = 21 * (period / 4)
 
 -- that of a blockade
-abbrev pub wall_lifetime : ℕ → ℕ
-wall_lifetime period = 4 * period
+abbrev pub wall_lifetime_of_period : ℕ → ℕ
+wall_lifetime_of_period period = 4 * period
 
 -- where the random words start if no line says so
 abbrev pub usual_seed : ℕ

@@ -4,12 +4,12 @@ use Rattle.script_words.specs.Lines.{text_lines}
 use Rattle.network_model.specs.Runs.{Plan}
 use Rattle.script_grammar.specs.Adds.{Adds}
 use Rattle.script_grammar.specs.Draft.{Draft, nothing, plan_of}
-use Rattle.script_grammar.specs.LineKinds.{line_of}
+use Rattle.script_grammar.specs.LineKinds.{script_line_of}
 use Rattle.script_grammar.specs.Rules.{BreaksFirst, Closes, Exceeds, Keeps, KeepsAll}
 use Rattle.script_grammar.specs.declared.fault.Fault.{Fault}
 use Rattle.script_grammar.specs.declared.fault.Fault.TheVariants.{Limit, Word}
-use Rattle.script_grammar.specs.declared.line.Line.{Line}
-use Rattle.script_grammar.specs.declared.line.Line.TheVariants as line
+use Rattle.script_grammar.specs.declared.line.ScriptLine.{ScriptLine}
+use Rattle.script_grammar.specs.declared.line.ScriptLine.TheVariants as line
 
 -- the most bytes of a line, its line feed not counted
 abbrev pub most_line : ℕ
@@ -18,16 +18,16 @@ most_line = 2048
 -- the text is a line that may follow these lines, and leads to those
 pub record Follows (d : Draft) (text : List ℕ) (new : Draft) : Type 0 where
   pub short : length text ≤ most_line
-  pub said : Line
-  pub reads : line_of text ≡ Some said
+  pub said : ScriptLine
+  pub reads : script_line_of text ≡ Some said
   pub valid : KeepsAll (Keeps d said)
   pub adds : Adds d said new
 
 -- behind these lines the text has this fault
 pub data HasFault (d : Draft) (text : List ℕ) : Fault → Type 0 where
   too_long : most_line < length text → HasFault d text Limit
-  unread : length text ≤ most_line → line_of text ≡ None → HasFault d text Word
-  broken : (said : Line) (why : Fault) → length text ≤ most_line → line_of text ≡ Some said → BreaksFirst (Keeps d said) (Exceeds d said) (Closes d said) why → HasFault d text why
+  unread : length text ≤ most_line → script_line_of text ≡ None → HasFault d text Word
+  broken : (said : ScriptLine) (why : Fault) → length text ≤ most_line → script_line_of text ≡ Some said → BreaksFirst (Keeps d said) (Exceeds d said) (Closes d said) why → HasFault d text why
 
 -- these lines lead from the one to the other
 abbrev pub Leads : Draft → List (List ℕ) → Draft → Type 0
@@ -41,7 +41,7 @@ pub record IsScript (bytes : List ℕ) (plan : Plan) : Type 0 where
   pub says : plan ≡ plan_of lines
 
 -- the line is one of part 3: something happens
-abbrev pub Happens : Line → Type 0
+abbrev pub Happens : ScriptLine → Type 0
 Happens line.Skipped = ⊥
 Happens (line.Period ms) = ⊥
 Happens (line.Seed n) = ⊥

@@ -15,8 +15,8 @@ use Rattle.script_words.specs.Addresses.{quad_of, quads_of}
 use Rattle.script_words.specs.Sessions.{session_of, sender_of, senders_of}
 use Rattle.script_words.specs.Styles.{style_of}
 use Rattle.script_words.specs.Flows.{flow_of}
-use Rattle.script_grammar.specs.declared.line.Line.{Line}
-use Rattle.script_grammar.specs.declared.line.Line.TheVariants.{Skipped, Period, Seed, Node, End, Link, Hop, StalePath, StaleResv, StaleHopWall, StaleSenderWall, Send, Drop, Want, Quit, Wait, Pass, Deliver, Lose, Copy, Clear, Rounds, Trace, Report, ReportEnd, Flags, Inject, Reroute}
+use Rattle.script_grammar.specs.declared.line.ScriptLine.{ScriptLine}
+use Rattle.script_grammar.specs.declared.line.ScriptLine.TheVariants.{Skipped, Period, Seed, Node, End, Link, Hop, StalePath, StaleResv, StaleHopWall, StaleSenderWall, Send, Drop, Want, Quit, Wait, Pass, Deliver, Lose, Copy, Clear, Rounds, Trace, Report, ReportEnd, Flags, Inject, Reroute}
 use Rattle.script_grammar.specs.declared.line.HopEnds.{HopEnds}
 
 -- ---- words of lines
@@ -62,28 +62,28 @@ pairs_of (one ∷ other ∷ more) = do
 
 -- ---- part 1: what is declared
 -- MS
-unfoldable pub period_line : List (List ℕ) → Option Line
+unfoldable pub period_line : List (List ℕ) → Option ScriptLine
 period_line (ms ∷ []) = do
   n ← number_of ms
   Some (Period n)
 period_line _ = None
 
 -- N
-unfoldable pub seed_line : List (List ℕ) → Option Line
+unfoldable pub seed_line : List (List ℕ) → Option ScriptLine
 seed_line (seed ∷ []) = do
   n ← number_of seed
   Some (Seed n)
 seed_line _ = None
 
 -- NAME
-unfoldable pub node_line : List (List ℕ) → Option Line
+unfoldable pub node_line : List (List ℕ) → Option ScriptLine
 node_line (name ∷ []) = do
   n ← name_of name
   Some (Node n)
 node_line _ = None
 
 -- NAME NODE ADDR CAPACITY MTU
-unfoldable pub end_line : List (List ℕ) → Option Line
+unfoldable pub end_line : List (List ℕ) → Option ScriptLine
 end_line (name ∷ node ∷ addr ∷ capacity ∷ mtu ∷ []) = do
   n ← name_of name
   m ← name_of node
@@ -94,14 +94,14 @@ end_line (name ∷ node ∷ addr ∷ capacity ∷ mtu ∷ []) = do
 end_line _ = None
 
 -- END END .., two to eight of them
-unfoldable pub link_line : List (List ℕ) → Option Line
+unfoldable pub link_line : List (List ℕ) → Option ScriptLine
 link_line ends =
     if nat_le 2 (length ends) && nat_le (length ends) 8 then (do
       names ← each_of name_of ends
       Some (Link names)) else None
 
 -- GROUP SOURCE END END
-unfoldable pub hop_line : List (List ℕ) → Option Line
+unfoldable pub hop_line : List (List ℕ) → Option ScriptLine
 hop_line (group ∷ source ∷ from ∷ to ∷ []) = do
   g ← quad_of group
   s ← quad_of source
@@ -112,7 +112,7 @@ hop_line _ = None
 
 -- ---- part 2: what is left over
 -- NODE SESSION SENDER END ADDR FLOW LEFT
-unfoldable pub path_of : List ℕ → List ℕ → List ℕ → List ℕ → List ℕ → List ℕ → List ℕ → Option Line
+unfoldable pub path_of : List ℕ → List ℕ → List ℕ → List ℕ → List ℕ → List ℕ → List ℕ → Option ScriptLine
 path_of node session sender end addr flow left = do
   n ← name_of node
   s ← session_of session
@@ -123,12 +123,12 @@ path_of node session sender end addr flow left = do
   l ← number_of left
   Some (StalePath (record { node = n; session = s; sender = x; end = e; hop = a; flow = f; left = l }))
 
-unfoldable pub stale_path_line : List (List ℕ) → Option Line
+unfoldable pub stale_path_line : List (List ℕ) → Option ScriptLine
 stale_path_line (node ∷ session ∷ sender ∷ end ∷ addr ∷ flow ∷ left ∷ []) = path_of node session sender end addr flow left
 stale_path_line _ = None
 
 -- END SESSION STYLE ADDR SENDERS FLOW LEFT
-unfoldable pub resv_of : List ℕ → List ℕ → List ℕ → List ℕ → List ℕ → List ℕ → List ℕ → Option Line
+unfoldable pub resv_of : List ℕ → List ℕ → List ℕ → List ℕ → List ℕ → List ℕ → List ℕ → Option ScriptLine
 resv_of end session style addr senders flow left = do
   e ← name_of end
   s ← session_of session
@@ -139,12 +139,12 @@ resv_of end session style addr senders flow left = do
   l ← number_of left
   Some (StaleResv (record { end = e; session = s; style = st; next = a; senders = x; flow = f; left = l }))
 
-unfoldable pub stale_resv_line : List (List ℕ) → Option Line
+unfoldable pub stale_resv_line : List (List ℕ) → Option ScriptLine
 stale_resv_line (end ∷ session ∷ style ∷ addr ∷ senders ∷ flow ∷ left ∷ []) = resv_of end session style addr senders flow left
 stale_resv_line _ = None
 
 -- NODE SESSION, then END ADDR SUB FLOW LEFT
-unfoldable pub hop_wall : List ℕ → List ℕ → List ℕ → List ℕ → List ℕ → List ℕ → List ℕ → Option Line
+unfoldable pub hop_wall : List ℕ → List ℕ → List ℕ → List ℕ → List ℕ → List ℕ → List ℕ → Option ScriptLine
 hop_wall node session end addr sub flow left = do
   n ← name_of node
   s ← session_of session
@@ -156,7 +156,7 @@ hop_wall node session end addr sub flow left = do
   Some (StaleHopWall (record { node = n; session = s; end = e; hop = a; sub = v; flow = f; left = l }))
 
 -- NODE SESSION, then SENDER SUB FLOW LEFT
-unfoldable pub sender_wall : List ℕ → List ℕ → List ℕ → List ℕ → List ℕ → List ℕ → Option Line
+unfoldable pub sender_wall : List ℕ → List ℕ → List ℕ → List ℕ → List ℕ → List ℕ → Option ScriptLine
 sender_wall node session sender sub flow left = do
   n ← name_of node
   s ← session_of session
@@ -167,17 +167,17 @@ sender_wall node session sender sub flow left = do
   Some (StaleSenderWall (record { node = n; session = s; sender = x; sub = v; flow = f; left = l }))
 
 -- END ADDR SUB FLOW LEFT
-unfoldable pub stale_hop : List ℕ → List ℕ → List (List ℕ) → Option Line
+unfoldable pub stale_hop : List ℕ → List ℕ → List (List ℕ) → Option ScriptLine
 stale_hop node session (end ∷ addr ∷ sub ∷ flow ∷ left ∷ []) = hop_wall node session end addr sub flow left
 stale_hop node session _ = None
 
 -- SENDER SUB FLOW LEFT
-unfoldable pub stale_sender : List ℕ → List ℕ → List (List ℕ) → Option Line
+unfoldable pub stale_sender : List ℕ → List ℕ → List (List ℕ) → Option ScriptLine
 stale_sender node session (sender ∷ sub ∷ flow ∷ left ∷ []) = sender_wall node session sender sub flow left
 stale_sender node session _ = None
 
 -- NODE SESSION hop END ADDR SUB FLOW LEFT, or NODE SESSION sender SENDER SUB FLOW LEFT
-unfoldable pub stale_blockade_line : List (List ℕ) → Option Line
+unfoldable pub stale_blockade_line : List (List ℕ) → Option ScriptLine
 stale_blockade_line (node ∷ session ∷ target ∷ behind) =
     if bytes_eq target (codes "hop") then stale_hop node session behind else (
     if bytes_eq target (codes "sender") then stale_sender node session behind else None)
@@ -185,7 +185,7 @@ stale_blockade_line _ = None
 
 -- ---- part 3: what happens
 -- NODE SESSION SENDER FLOW
-unfoldable pub send_line : List (List ℕ) → Option Line
+unfoldable pub send_line : List (List ℕ) → Option ScriptLine
 send_line (node ∷ session ∷ sender ∷ flow ∷ []) = do
   n ← name_of node
   s ← session_of session
@@ -195,7 +195,7 @@ send_line (node ∷ session ∷ sender ∷ flow ∷ []) = do
 send_line _ = None
 
 -- NODE SESSION SENDER
-unfoldable pub drop_line : List (List ℕ) → Option Line
+unfoldable pub drop_line : List (List ℕ) → Option ScriptLine
 drop_line (node ∷ session ∷ sender ∷ []) = do
   n ← name_of node
   s ← session_of session
@@ -204,7 +204,7 @@ drop_line (node ∷ session ∷ sender ∷ []) = do
 drop_line _ = None
 
 -- a want by the words for its node, session, style, senders and flow
-unfoldable pub want_of : List ℕ → List ℕ → List ℕ → List ℕ → List ℕ → Bool → Option Line
+unfoldable pub want_of : List ℕ → List ℕ → List ℕ → List ℕ → List ℕ → Bool → Option ScriptLine
 want_of node session style senders flow confirm = do
   n ← name_of node
   s ← session_of session
@@ -214,14 +214,14 @@ want_of node session style senders flow confirm = do
   Some (Want (record { node = n; session = s; style = st; senders = x; flow = f; confirm = confirm }))
 
 -- NODE SESSION STYLE SENDERS FLOW [confirm]
-unfoldable pub want_line : List (List ℕ) → Option Line
+unfoldable pub want_line : List (List ℕ) → Option ScriptLine
 want_line (node ∷ session ∷ style ∷ senders ∷ flow ∷ []) = want_of node session style senders flow false
 want_line (node ∷ session ∷ style ∷ senders ∷ flow ∷ confirm ∷ []) =
     if bytes_eq confirm (codes "confirm") then want_of node session style senders flow true else None
 want_line _ = None
 
 -- NODE SESSION
-unfoldable pub quit_line : List (List ℕ) → Option Line
+unfoldable pub quit_line : List (List ℕ) → Option ScriptLine
 quit_line (node ∷ session ∷ []) = do
   n ← name_of node
   s ← session_of session
@@ -233,13 +233,13 @@ abbrev pub lone_number : List (List ℕ) → Option ℕ
 lone_number (number ∷ []) = number_of number
 lone_number _ = None
 
-abbrev pub numbered : (ℕ → Line) → List (List ℕ) → Option Line
+abbrev pub numbered : (ℕ → ScriptLine) → List (List ℕ) → Option ScriptLine
 numbered line words = do
   n ← lone_number words
   Some (line n)
 
 -- [N], once where no number stands
-unfoldable pub pass_line : List (List ℕ) → Option Line
+unfoldable pub pass_line : List (List ℕ) → Option ScriptLine
 pass_line [] = Some (Pass 1)
 pass_line (number ∷ []) = do
   n ← number_of number
@@ -247,21 +247,21 @@ pass_line (number ∷ []) = do
 pass_line _ = None
 
 -- NODE
-unfoldable pub clear_line : List (List ℕ) → Option Line
+unfoldable pub clear_line : List (List ℕ) → Option ScriptLine
 clear_line (node ∷ []) = do
   n ← name_of node
   Some (Clear n)
 clear_line _ = None
 
 -- on, off
-unfoldable pub trace_line : List (List ℕ) → Option Line
+unfoldable pub trace_line : List (List ℕ) → Option ScriptLine
 trace_line (word ∷ []) =
     if bytes_eq word (codes "on") then Some (Trace true) else (
     if bytes_eq word (codes "off") then Some (Trace false) else None)
 trace_line _ = None
 
 -- [END]
-unfoldable pub report_line : List (List ℕ) → Option Line
+unfoldable pub report_line : List (List ℕ) → Option ScriptLine
 report_line [] = Some Report
 report_line (end ∷ []) = do
   e ← name_of end
@@ -269,12 +269,12 @@ report_line (end ∷ []) = do
 report_line _ = None
 
 -- no word
-unfoldable pub flags_line : List (List ℕ) → Option Line
+unfoldable pub flags_line : List (List ℕ) → Option ScriptLine
 flags_line [] = Some Flags
 flags_line _ = None
 
 -- END ADDR HEX
-unfoldable pub inject_line : List (List ℕ) → Option Line
+unfoldable pub inject_line : List (List ℕ) → Option ScriptLine
 inject_line (end ∷ addr ∷ digits ∷ []) = do
   e ← name_of end
   a ← quad_of addr
@@ -283,7 +283,7 @@ inject_line (end ∷ addr ∷ digits ∷ []) = do
 inject_line _ = None
 
 -- GROUP SOURCE, then END END for each hop
-unfoldable pub reroute_line : List (List ℕ) → Option Line
+unfoldable pub reroute_line : List (List ℕ) → Option ScriptLine
 reroute_line (group ∷ source ∷ ends) = do
   g ← quad_of group
   s ← quad_of source
@@ -293,7 +293,7 @@ reroute_line _ = None
 
 -- ---- the kinds of lines: a first word, and what the words behind it say
 abbrev pub Kinds : Type 0
-Kinds = List (List ℕ × (List (List ℕ) → Option Line))
+Kinds = List (List ℕ × (List (List ℕ) → Option ScriptLine))
 
 abbrev pub declared : Kinds
 declared =
@@ -318,24 +318,24 @@ others =
     (codes "trace", trace_line) ∷ (codes "report", report_line) ∷ (codes "flags", flags_line) ∷ (codes "reroute", reroute_line) ∷ []
 
 -- what the words behind a first word say, by these kinds, and else by those behind them
-abbrev pub by_first : Kinds → (List ℕ → List (List ℕ) → Option Line) → List ℕ → List (List ℕ) → Option Line
+abbrev pub by_first : Kinds → (List ℕ → List (List ℕ) → Option ScriptLine) → List ℕ → List (List ℕ) → Option ScriptLine
 by_first [] else_by first behind = else_by first behind
 by_first (kind ∷ more) else_by first behind = if bytes_eq first kind.0 then kind.1 behind else by_first more else_by first behind
 
-unfoldable pub said_other : List ℕ → List (List ℕ) → Option Line
+unfoldable pub said_other : List ℕ → List (List ℕ) → Option ScriptLine
 said_other first behind = by_first others (λ f b. None) first behind
 
-unfoldable pub said_in_flight : List ℕ → List (List ℕ) → Option Line
+unfoldable pub said_in_flight : List ℕ → List (List ℕ) → Option ScriptLine
 said_in_flight first behind = by_first in_flight said_other first behind
 
-unfoldable pub said_at_node : List ℕ → List (List ℕ) → Option Line
+unfoldable pub said_at_node : List ℕ → List (List ℕ) → Option ScriptLine
 said_at_node first behind = by_first at_nodes said_in_flight first behind
 
-unfoldable pub said_left_over : List ℕ → List (List ℕ) → Option Line
+unfoldable pub said_left_over : List ℕ → List (List ℕ) → Option ScriptLine
 said_left_over first behind = by_first left_over said_at_node first behind
 
 -- what the words of a line say
-unfoldable pub said_by : List (List ℕ) → Option Line
+unfoldable pub said_by : List (List ℕ) → Option ScriptLine
 said_by [] = Some Skipped
 said_by (first ∷ behind) = by_first declared said_left_over first behind
 
@@ -344,5 +344,5 @@ abbrev pub is_comment : List ℕ → Bool
 is_comment text = slice_index text 0 == byte "#"
 
 -- what a line says: a comment is skipped, whatever its bytes are
-abbrev pub line_of : List ℕ → Option Line
-line_of text = if is_comment text then Some Skipped else said_by (words_of text)
+abbrev pub script_line_of : List ℕ → Option ScriptLine
+script_line_of text = if is_comment text then Some Skipped else said_by (words_of text)

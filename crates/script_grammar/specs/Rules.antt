@@ -33,8 +33,8 @@ use Rattle.script_words.specs.Sessions.{IsSession}
 use Rattle.script_grammar.specs.declared.fault.Excess.{Excess}
 use Rattle.script_grammar.specs.declared.fault.Fault.{Fault}
 use Rattle.script_grammar.specs.declared.fault.Fault.TheVariants.{Word, Late, Range, Name, Twice, Style, Limit, NotTree, Over, Loop}
-use Rattle.script_grammar.specs.declared.line.Line.{Line}
-use Rattle.script_grammar.specs.declared.line.Line.TheVariants as line
+use Rattle.script_grammar.specs.declared.line.ScriptLine.{ScriptLine}
+use Rattle.script_grammar.specs.declared.line.ScriptLine.TheVariants as line
 use Rattle.script_grammar.specs.declared.line.EndLine.{EndLine}
 use Rattle.script_grammar.specs.declared.line.HopLine.{HopLine}
 use Rattle.script_grammar.specs.declared.line.StalePathLine.{StalePathLine}
@@ -382,7 +382,7 @@ RerouteKeeps d l OfTree = IsGrown d.net (addr_value l.source) (hop_values d l)
 RerouteKeeps d l LoopFree = IsLoopFreeIn (net_rerouted d l) (addr_value l.group)
 RerouteKeeps d l _ = Unit {0}
 
-abbrev pub Keeps : Draft → Line → Rule → Type 0
+abbrev pub Keeps : Draft → ScriptLine → Rule → Type 0
 Keeps d line.Skipped rule = Unit {0}
 Keeps d (line.Period ms) rule = PeriodKeeps d ms rule
 Keeps d (line.Seed n) rule = SeedKeeps d n rule
@@ -419,7 +419,7 @@ IsNamedHop d from to h = (slice_get d.names h.from ≡ Some from) × (slice_get 
 abbrev pub IsLoopOf : Draft → Net → Addr → Addr → List ℕ → List ℕ → Type 0
 IsLoopOf d net g group from to = (group ≡ g) × (h : LinkHop) × IsLeastOnLoop net g h × IsNamedHop d from to h
 
-abbrev pub Closes : Draft → Line → Addr → List ℕ → List ℕ → Type 0
+abbrev pub Closes : Draft → ScriptLine → Addr → List ℕ → List ℕ → Type 0
 Closes d (line.Hop l) group from to = IsLoopOf d (with_hop d.net (tree_hop_value d l)) (addr_value l.group) group from to
 Closes d (line.Reroute l) group from to = IsLoopOf d (net_rerouted d l) (addr_value l.group) group from to
 Closes d _ group from to = ⊥
@@ -428,7 +428,7 @@ Closes d _ group from to = ⊥
 abbrev pub IsExcessAt : Draft → ℕ → Stale → Excess → Type 0
 IsExcessAt d node s much = excess_at (ifaces_at d.net.ends (ends_of d.net.ends node)) s (facts_at (d.stale ++ (node, s) ∷ []) node) ≡ Some much
 
-abbrev pub Exceeds : Draft → Line → Excess → Type 0
+abbrev pub Exceeds : Draft → ScriptLine → Excess → Type 0
 Exceeds d (line.StaleResv l) much = IsExcessAt d (stale_node d l) (stale_resv_value d l) much
 Exceeds d _ much = ⊥
 

@@ -19,7 +19,7 @@ use Rattle.network_model.specs.TreeModel.declared.hops.TreeHop.{TreeHop}
 use Rattle.network_model.specs.TreeModel.declared.locals.LocalSender.{LocalSender}
 use Rattle.network_model.specs.TreeModel.declared.hops.End.{End}
 use Rattle.network_model.specs.TreeModel.Networks.{iface_of}
-use Rattle.script_grammar.specs.Draft.{Draft, node_number, end_number, lifetime, wall_lifetime}
+use Rattle.script_grammar.specs.Draft.{Draft, node_number, end_number, lifetime_of_period, wall_lifetime_of_period}
 use Rattle.script_grammar.specs.declared.line.EndLine.{EndLine}
 use Rattle.script_grammar.specs.declared.line.HopEnds.{HopEnds}
 use Rattle.script_grammar.specs.declared.line.HopLine.{HopLine}
@@ -77,14 +77,14 @@ pub record IsStalePathInRange (period : ℕ) (l : StalePathLine) : Type 0 where
   pub sender : IsSender l.sender
   pub hop : IsAddr l.hop
   pub flow : IsFlow l.flow
-  pub left : IsFrom1To (lifetime period) l.left
+  pub left : IsFrom1To (lifetime_of_period period) l.left
 
 pub record IsStaleResvInRange (period : ℕ) (l : StaleResvLine) : Type 0 where
   pub session : IsSession l.session
   pub next : IsAddr l.next
   pub senders : All IsSender l.senders
   pub flow : IsFlow l.flow
-  pub left : IsFrom1To (lifetime period) l.left
+  pub left : IsFrom1To (lifetime_of_period period) l.left
 
 -- an error of code 1 says by its value what was refused: 2 the rate, 3 the packet size (RFC 2205, B)
 abbrev pub IsSub : ℕ → Type 0
@@ -95,14 +95,14 @@ pub record IsStaleHopWallInRange (period : ℕ) (l : StaleHopWallLine) : Type 0 
   pub hop : IsAddr l.hop
   pub sub : IsSub l.sub
   pub flow : IsFlow l.flow
-  pub left : IsFrom1To (wall_lifetime period) l.left
+  pub left : IsFrom1To (wall_lifetime_of_period period) l.left
 
 pub record IsStaleSenderWallInRange (period : ℕ) (l : StaleSenderWallLine) : Type 0 where
   pub session : IsSession l.session
   pub sender : IsSender l.sender
   pub sub : IsSub l.sub
   pub flow : IsFlow l.flow
-  pub left : IsFrom1To (wall_lifetime period) l.left
+  pub left : IsFrom1To (wall_lifetime_of_period period) l.left
 
 pub record IsSendInRange (l : SendLine) : Type 0 where
   pub session : IsSession l.session

@@ -13,7 +13,7 @@ pub mod rows;
 
 pub use fault::{Excess, Fault};
 pub use line::{
-    DropLine, EndLine, HopEnds, HopLine, InjectLine, Line, QuitLine, RerouteLine, SendLine,
+    DropLine, EndLine, HopEnds, HopLine, InjectLine, QuitLine, RerouteLine, ScriptLine, SendLine,
     StaleHopWallLine, StalePathLine, StaleResvLine, StaleSenderWallLine, WantLine,
 };
 pub use line_kinds::read_line;

@@ -6,7 +6,7 @@ use script_words::{DottedQuad, EndName, FlowWord, SenderWord, SessionWord};
 
 /// A line of a script, by its first word.
 #[derive(Drop)]
-pub enum Line {
+pub enum ScriptLine {
     /// A line without words, or one whose first byte is `#`.
     Skipped,
     /// `period MS`: the period in milliseconds.

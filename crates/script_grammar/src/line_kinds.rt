@@ -1,14 +1,14 @@
 //! What the words of a line say.
 ghost use Rattle.std.specs.Prelude.{◌≡◌, map};
 ghost use Rattle.script_words.specs.Unread.{Reads};
-ghost use Rattle.script_grammar.specs.LineKinds.{line_of, said_at_node, said_by, said_in_flight, said_left_over, said_other};
+ghost use Rattle.script_grammar.specs.LineKinds.{script_line_of, said_at_node, said_by, said_in_flight, said_left_over, said_other};
 
 mod declared;
 mod happens;
 mod left_over;
 mod lists;
 
-use crate::line::Line;
+use crate::line::ScriptLine;
 use declared::{end_line, hop_line, link_line, node_line, period_line, seed_line};
 use happens::{
     clear_line, copy_line, deliver_line, drop_line, flags_line, inject_line, lose_line, pass_line,
@@ -25,11 +25,11 @@ pub fn read_line<'a>(
     alloc: Global,
     text: &'a [u8],
     words: &mut Vec<&'a [u8]>,
-) -> Result<Line, Unread>
-    ensures { Reads result (line_of text.now) }
+) -> Result<ScriptLine, Unread>
+    ensures { Reads result (script_line_of text.now) }
 {
     if text.first() == Some(&b'#') {
-        return Ok(Line::Skipped);
+        return Ok(ScriptLine::Skipped);
     }
     read_words(text, words)?;
     said_by(alloc, words.as_slice())
@@ -37,11 +37,11 @@ pub fn read_line<'a>(
 
 // What these words say.
 #[tactic(auto, unfolding(crate::specs::LineKinds::said_by))]
-fn said_by(alloc: Global, words: &[&[u8]]) -> Result<Line, Unread>
+fn said_by(alloc: Global, words: &[&[u8]]) -> Result<ScriptLine, Unread>
     ensures { Reads result (said_by (map (λ w. w.now) words.now)) }
 {
     let [first, behind @ ..] = words else {
-        return Ok(Line::Skipped);
+        return Ok(ScriptLine::Skipped);
     };
     if *first == b"period".as_slice() {
         return period_line(behind).ok_or(Unread::Word);
@@ -65,7 +65,7 @@ fn said_by(alloc: Global, words: &[&[u8]]) -> Result<Line, Unread>
 }
 
 #[tactic(auto, unfolding(crate::specs::LineKinds::said_left_over))]
-fn said_left_over(alloc: Global, first: &[u8], behind: &[&[u8]]) -> Result<Line, Unread>
+fn said_left_over(alloc: Global, first: &[u8], behind: &[&[u8]]) -> Result<ScriptLine, Unread>
     ensures { Reads result (said_left_over first.now (map (λ w. w.now) behind.now)) }
 {
     if first == b"stale-path".as_slice() {
@@ -81,7 +81,7 @@ fn said_left_over(alloc: Global, first: &[u8], behind: &[&[u8]]) -> Result<Line,
 }
 
 #[tactic(auto, unfolding(crate::specs::LineKinds::said_at_node))]
-fn said_at_node(alloc: Global, first: &[u8], behind: &[&[u8]]) -> Result<Line, Unread>
+fn said_at_node(alloc: Global, first: &[u8], behind: &[&[u8]]) -> Result<ScriptLine, Unread>
     ensures { Reads result (said_at_node first.now (map (λ w. w.now) behind.now)) }
 {
     if first == b"send".as_slice() {
@@ -103,7 +103,7 @@ fn said_at_node(alloc: Global, first: &[u8], behind: &[&[u8]]) -> Result<Line, U
 }
 
 #[tactic(auto, unfolding(crate::specs::LineKinds::said_in_flight))]
-fn said_in_flight(alloc: Global, first: &[u8], behind: &[&[u8]]) -> Result<Line, Unread>
+fn said_in_flight(alloc: Global, first: &[u8], behind: &[&[u8]]) -> Result<ScriptLine, Unread>
     ensures { Reads result (said_in_flight first.now (map (λ w. w.now) behind.now)) }
 {
     if first == b"wait".as_slice() {
@@ -131,7 +131,7 @@ fn said_in_flight(alloc: Global, first: &[u8], behind: &[&[u8]]) -> Result<Line,
 }
 
 #[tactic(auto, unfolding(crate::specs::LineKinds::said_other))]
-fn said_other(alloc: Global, first: &[u8], behind: &[&[u8]]) -> Result<Line, Unread>
+fn said_other(alloc: Global, first: &[u8], behind: &[&[u8]]) -> Result<ScriptLine, Unread>
     ensures { Reads result (said_other first.now (map (λ w. w.now) behind.now)) }
 {
     if first == b"trace".as_slice() {

@@ -12,8 +12,8 @@ use Rattle.script_words.specs.Flows.{flow_value}
 use Rattle.script_words.specs.Sessions.{sender_value, session_value}
 use Rattle.tree_model.specs.declared.locals.LocalWant.{LocalWant}
 use Rattle.script_grammar.specs.Adds.{Adds, is_want_at, wants_value}
-use Rattle.script_grammar.specs.declared.line.Line.{Line}
-use Rattle.script_grammar.specs.declared.line.Line.TheVariants as line
+use Rattle.script_grammar.specs.declared.line.ScriptLine.{ScriptLine}
+use Rattle.script_grammar.specs.declared.line.ScriptLine.TheVariants as line
 use Rattle.script_grammar.specs.declared.line.WantLine.{WantLine}
 use Rattle.script_grammar.specs.Draft.{Draft, node_number, nothing}
 use Rattle.script_grammar.specs.Grammar.{Leads}
@@ -49,7 +49,7 @@ wanted d l h rules w i =
     let all = h.declared.nodes in
     omega (arith, at, there, all)
 
-inside_line : (d : Draft) (said : Line) (new : Draft) → Placed d → KeepsAll (Keeps d said) → Adds d said new → AreInside new
+inside_line : (d : Draft) (said : ScriptLine) (new : Draft) → Placed d → KeepsAll (Keeps d said) → Adds d said new → AreInside new
 inside_line d (line.Node name) new h rules adds = one_more d new h.inside (ap (λ (z : Draft). z.locals.wants) adds) (ap (λ (z : Draft). z.net.nodes) adds)
 inside_line d (line.Send l) new h rules adds =
     same d new h.inside (ap (λ (z : Draft). z.locals.wants) adds ∙ wants_same d.locals (node_number d l.node) (session_value l.session) (sender_value l.sender)) (ap (λ (z : Draft). z.net.nodes) adds)

@@ -21,8 +21,8 @@ use Rattle.network_model.specs.Runs.{Plan}
 use Rattle.script_grammar.specs.Adds.{Adds, link_value}
 use Rattle.script_grammar.specs.declared.line.EndLine.{EndLine}
 use Rattle.script_grammar.specs.declared.line.HopLine.{HopLine}
-use Rattle.script_grammar.specs.declared.line.Line.{Line}
-use Rattle.script_grammar.specs.declared.line.Line.TheVariants as line
+use Rattle.script_grammar.specs.declared.line.ScriptLine.{ScriptLine}
+use Rattle.script_grammar.specs.declared.line.ScriptLine.TheVariants as line
 use Rattle.script_grammar.specs.Draft.{Draft, end_number, node_number, nothing, place_of}
 use Rattle.script_grammar.specs.Rules.{AreOfDifferentNodes, IsEnd, Keeps, KeepsAll}
 use Rattle.script_grammar.specs.Values.{end_value, tree_hop_value}
@@ -125,7 +125,7 @@ hop_line d l h rules new net nodes names = record {
       subst IsValid (sym net) (valid_hop d.net (h.valid old) (tree_hop_value d l) rules.within_limits rules.of_tree rules.loop_free);
 }
 
-pub declared_line : (d : Draft) (said : Line) (new : Draft) → Declared d → KeepsAll (Keeps d said) → Adds d said new → Declared new
+pub declared_line : (d : Draft) (said : ScriptLine) (new : Draft) → Declared d → KeepsAll (Keeps d said) → Adds d said new → Declared new
 declared_line d (line.Node name) new h rules adds = subst Declared (sym adds) (node_line d name h rules)
 declared_line d (line.End l) new h rules adds = subst Declared (sym adds) (end_line d l h rules)
 declared_line d (line.Link names) new h rules adds = subst Declared (sym adds) (link_line d names h rules)

@@ -31,8 +31,8 @@ use Rattle.network_model.specs.Runs.{Plan}
 use Rattle.network_steps.specs.Runs.{AreFitEvents, IsFitEvent, net_then}
 use Rattle.network_steps.proofs.Known.{has_some}
 use Rattle.script_grammar.specs.Adds.{Adds, IsArrival, net_rerouted}
-use Rattle.script_grammar.specs.declared.line.Line.{Line}
-use Rattle.script_grammar.specs.declared.line.Line.TheVariants as line
+use Rattle.script_grammar.specs.declared.line.ScriptLine.{ScriptLine}
+use Rattle.script_grammar.specs.declared.line.ScriptLine.TheVariants as line
 use Rattle.script_grammar.specs.declared.line.RerouteLine.{RerouteLine}
 use Rattle.script_grammar.specs.Draft.{Draft, end_number, node_number, nothing, routing, with_hops}
 use Rattle.script_grammar.specs.Grammar.{Leads}
@@ -134,7 +134,7 @@ module _ (d : Draft) (h : Goes d) where
       happened d.net d.force (net_rerouted d l).hops d.events (Reroutes g s hs) h (tree_there g s r.0 r.1 r.2, valid) refl valid
 
 -- ---- each line
-goes_line : (d : Draft) (said : Line) (new : Draft) → Fitting d → IsValid new.net → Formed said → Goes d → KeepsAll (Keeps d said) → Adds d said new → Goes new
+goes_line : (d : Draft) (said : ScriptLine) (new : Draft) → Fitting d → IsValid new.net → Formed said → Goes d → KeepsAll (Keeps d said) → Adds d said new → Goes new
 goes_line d (line.Node name) new f valid form h rules adds = declared d new rules.in_time.no_event (ap (λ (z : Draft). z.events) adds) (ap (λ (z : Draft). z.force) adds ∙ h.none rules.in_time.no_event ∙ sym (ap (λ (z : Draft). z.net.hops) adds)) valid
 goes_line d (line.End l) new f valid form h rules adds = declared d new rules.in_time.no_event (ap (λ (z : Draft). z.events) adds) (ap (λ (z : Draft). z.force) adds ∙ h.none rules.in_time.no_event ∙ sym (ap (λ (z : Draft). z.net.hops) adds)) valid
 goes_line d (line.Link names) new f valid form h rules adds = declared d new rules.in_time.no_event (ap (λ (z : Draft). z.events) adds) (ap (λ (z : Draft). z.force) adds ∙ h.none rules.in_time.no_event ∙ sym (ap (λ (z : Draft). z.net.hops) adds)) valid
@@ -170,7 +170,7 @@ record Running (d : Draft) : Type 0 where
   fitting : Fitting d
   goes : Goes d
 
-by_line : (d : Draft) (said : Line) (new : Draft) → Running d → Formed said → KeepsAll (Keeps d said) → Adds d said new → Running new
+by_line : (d : Draft) (said : ScriptLine) (new : Draft) → Running d → Formed said → KeepsAll (Keeps d said) → Adds d said new → Running new
 by_line d said new h form rules adds =
     let declared = declared_line d said new h.declared rules adds in
     let links = fit_links_line d said new h.links form adds in

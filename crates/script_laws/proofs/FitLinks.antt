@@ -7,8 +7,8 @@ use Rattle.tree_routing.specs.Answers.{rising}
 use Rattle.tree_routing.proofs.LinkLaws.{rising_length}
 use Rattle.network_model.specs.Runs.{Plan}
 use Rattle.script_grammar.specs.Adds.{Adds, link_value}
-use Rattle.script_grammar.specs.declared.line.Line.{Line}
-use Rattle.script_grammar.specs.declared.line.Line.TheVariants as line
+use Rattle.script_grammar.specs.declared.line.ScriptLine.{ScriptLine}
+use Rattle.script_grammar.specs.declared.line.ScriptLine.TheVariants as line
 use Rattle.script_grammar.specs.Draft.{Draft, nothing, end_number}
 use Rattle.script_laws.specs.Networks.{HasFitLinks}
 use Rattle.script_laws.specs.Scripts.{EachLinkHasItsEnds}
@@ -26,7 +26,7 @@ same : (d new : Draft) → FitLinks d → new.net.links ≡ d.net.links → FitL
 unfolding FitLinks
 same d new h links = λ l i. h l (subst (λ (z : List (List ℕ)). In l z) links i)
 
-pub fit_links_line : (d : Draft) (said : Line) (new : Draft) → FitLinks d → Formed said → Adds d said new → FitLinks new
+pub fit_links_line : (d : Draft) (said : ScriptLine) (new : Draft) → FitLinks d → Formed said → Adds d said new → FitLinks new
 unfolding FitLinks
 fit_links_line d (line.Link names) new h form adds =
     λ l i.

@@ -12,8 +12,8 @@ use Rattle.script_words.specs.Lines.{text_lines}
 use Rattle.tree_model.specs.declared.hops.End.{End}
 use Rattle.network_model.specs.Links.{is_group}
 use Rattle.script_grammar.specs.Adds.{Adds}
-use Rattle.script_grammar.specs.declared.line.Line.{Line}
-use Rattle.script_grammar.specs.declared.line.Line.TheVariants as line
+use Rattle.script_grammar.specs.declared.line.ScriptLine.{ScriptLine}
+use Rattle.script_grammar.specs.declared.line.ScriptLine.TheVariants as line
 use Rattle.script_grammar.specs.Draft.{Draft, nothing, period_of, usual_period}
 use Rattle.script_grammar.specs.Rules.{Keeps, KeepsAll}
 use Rattle.script_grammar.specs.Values.{end_value}
@@ -42,7 +42,7 @@ same d new h ends period = record {
   hosts = λ x i. h.hosts x (subst (λ (z : List End). In x z) ends i);
 }
 
-by_line : (d : Draft) (said : Line) (new : Draft) → Hosted d → KeepsAll (Keeps d said) → Adds d said new → Hosted new
+by_line : (d : Draft) (said : ScriptLine) (new : Draft) → Hosted d → KeepsAll (Keeps d said) → Adds d said new → Hosted new
 by_line d (line.Period ms) new h rules adds =
     let from = rules.in_range.from in
     subst Hosted (sym adds) (record { period = omega (arith, from); hosts = h.hosts })

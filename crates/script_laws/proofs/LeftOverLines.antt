@@ -31,8 +31,8 @@ use Rattle.network_model.specs.Runs.{Plan}
 use Rattle.network_model.specs.Worlds.{config_of}
 use Rattle.network_steps.proofs.Standing.{iface_less}
 use Rattle.script_grammar.specs.Adds.{Adds}
-use Rattle.script_grammar.specs.declared.line.Line.{Line}
-use Rattle.script_grammar.specs.declared.line.Line.TheVariants as line
+use Rattle.script_grammar.specs.declared.line.ScriptLine.{ScriptLine}
+use Rattle.script_grammar.specs.declared.line.ScriptLine.TheVariants as line
 use Rattle.script_grammar.specs.declared.line.StalePathLine.{StalePathLine}
 use Rattle.script_grammar.specs.declared.line.StaleResvLine.{StaleResvLine}
 use Rattle.script_grammar.specs.declared.line.StaleHopWallLine.{StaleHopWallLine}
@@ -181,7 +181,7 @@ added d h n i fit ts m j at =
     ⊎_elim (λ (e : (m, j) ≡ (n, i)). subst (λ (z : ℕ × Stale). IsFitStale (config_of (quarter d) d.net ts z.0) 0 z.1) (sym e) (fit ts)) (λ (no : ⊥). absurd no) new)
     (in_append (m, j) d.stale ((n, i) ∷ []) at)
 
-pub fitting_line : (d : Draft) (said : Line) (new : Draft) → Fitting d → Formed said → KeepsAll (Keeps d said) → Adds d said new → Fitting new
+pub fitting_line : (d : Draft) (said : ScriptLine) (new : Draft) → Fitting d → Formed said → KeepsAll (Keeps d said) → Adds d said new → Fitting new
 fitting_line d (line.Period ms) new h form rules adds =
     let from = rules.in_range.from in
     let quarters = rules.in_range.quarters in

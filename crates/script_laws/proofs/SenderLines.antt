@@ -28,8 +28,8 @@ use Rattle.network_steps.proofs.Known.{of_some}
 use Rattle.router_rules.specs.Inputs.{QuitAll}
 use Rattle.script_grammar.specs.Adds.{Adds, is_sender, is_want_at, net_rerouted, sends, wants_value, with_local, with_sender, with_wants, without_sender, without_wants}
 use Rattle.script_grammar.specs.declared.line.DropLine.{DropLine}
-use Rattle.script_grammar.specs.declared.line.Line.{Line}
-use Rattle.script_grammar.specs.declared.line.Line.TheVariants as line
+use Rattle.script_grammar.specs.declared.line.ScriptLine.{ScriptLine}
+use Rattle.script_grammar.specs.declared.line.ScriptLine.TheVariants as line
 use Rattle.script_grammar.specs.declared.line.QuitLine.{QuitLine}
 use Rattle.script_grammar.specs.declared.line.SendLine.{SendLine}
 use Rattle.script_grammar.specs.declared.line.WantLine.{WantLine}
@@ -248,7 +248,7 @@ module _ (d : Draft) (h : Sending d) where
       })
 
 -- ---- each line
-by_line : (d : Draft) (said : Line) (next : Draft) → Sending d → KeepsAll (Keeps d said) → Adds d said next → Sending next
+by_line : (d : Draft) (said : ScriptLine) (next : Draft) → Sending d → KeepsAll (Keeps d said) → Adds d said next → Sending next
 by_line d line.Skipped next h rules adds = subst Sending (sym adds) h
 by_line d (line.Period ms) next h rules adds = subst Sending (sym adds) (declared d (record d { period = Some ms }) h rules.in_time.no_event refl refl refl)
 by_line d (line.Seed n) next h rules adds = subst Sending (sym adds) (declared d (record d { seed = Some n }) h rules.in_time.no_event refl refl refl)

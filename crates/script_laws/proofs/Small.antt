@@ -14,11 +14,11 @@ use Rattle.script_words.specs.Sessions.{IsSender, IsSession, sender_of, session_
 use Rattle.script_grammar.specs.Adds.{with_event, with_send, with_want_line}
 use Rattle.script_grammar.specs.Draft.{Draft, nothing}
 use Rattle.script_grammar.specs.Grammar.{Follows}
-use Rattle.script_grammar.specs.LineKinds.{end_line, line_of, node_line, said_at_node, said_by, said_in_flight, said_left_over, send_line, want_line, want_of}
+use Rattle.script_grammar.specs.LineKinds.{end_line, script_line_of, node_line, said_at_node, said_by, said_in_flight, said_left_over, send_line, want_line, want_of}
 use Rattle.script_grammar.specs.declared.line.EndLine.{EndLine}
 use Rattle.script_grammar.specs.declared.line.SendLine.{SendLine}
 use Rattle.script_grammar.specs.declared.line.WantLine.{WantLine}
-use Rattle.script_grammar.specs.declared.line.Line.TheVariants as line
+use Rattle.script_grammar.specs.declared.line.ScriptLine.TheVariants as line
 use Rattle.network_model.specs.Events.{Rounds}
 use Rattle.script_laws.specs.Small.{ASmallScriptIsOne}
 
@@ -44,23 +44,23 @@ sends = record { node = codes "a"; session = session; sender = sender; flow = fl
 abbrev wants : WantLine
 wants = record { node = codes "a"; session = session; style = Shared; senders = sender ∷ []; flow = flow; confirm = false }
 
-node_read : line_of (codes "node a") ≡ Some (line.Node (codes "a"))
+node_read : script_line_of (codes "node a") ≡ Some (line.Node (codes "a"))
 unfolding said_by node_line
 node_read = refl
 
-end_read : line_of (codes "end a1 a 10.0.0.1 5 1500") ≡ Some (line.End end)
+end_read : script_line_of (codes "end a1 a 10.0.0.1 5 1500") ≡ Some (line.End end)
 unfolding said_by end_line quad_of
 end_read = refl
 
-send_read : line_of (codes "send a 239.1.1.1/17/5000 10.0.0.1:5000 1/1/1/1/1500") ≡ Some (line.Send sends)
+send_read : script_line_of (codes "send a 239.1.1.1/17/5000 10.0.0.1:5000 1/1/1/1/1500") ≡ Some (line.Send sends)
 unfolding said_by said_left_over said_at_node send_line quad_of session_of sender_of flow_of
 send_read = refl
 
-want_read : line_of (codes "want a 239.1.1.1/17/5000 SE 10.0.0.1:5000 1/1/1/1/1500") ≡ Some (line.Want wants)
+want_read : script_line_of (codes "want a 239.1.1.1/17/5000 SE 10.0.0.1:5000 1/1/1/1/1500") ≡ Some (line.Want wants)
 unfolding said_by said_left_over said_at_node want_line want_of quad_of session_of sender_of flow_of
 want_read = refl
 
-rounds_read : line_of (codes "rounds 1") ≡ Some (line.Rounds 1)
+rounds_read : script_line_of (codes "rounds 1") ≡ Some (line.Rounds 1)
 unfolding said_by said_left_over said_at_node said_in_flight
 rounds_read = refl
 

@@ -11,7 +11,7 @@ use Rattle.script_grammar.specs.Grammar.{Follows}
 use Rattle.left_over.specs.Fit.{AreFitAll}
 use Rattle.left_over.specs.declared.fact.LeftOver.{LeftOver}
 use Rattle.tree_model.specs.Networks.{Net}
-use Rattle.net_replay.specs.Agreeing.{Agrees, State}
+use Rattle.net_replay.specs.Agreeing.{Agrees, NetworkState}
 use Rattle.net_replay.specs.Following.{Seen}
 use Rattle.net_replay.specs.Opening.{IsOpenedBy}
 use Rattle.net_replay.specs.Running.{Makes, Ran}
@@ -28,7 +28,7 @@ pub fit_start : (p : Plan) (q seed : ℕ) (net : Net) (names : List (List ℕ)) 
 fit_start p q seed net names ls o fit = subst (λ (k : ℕ). AreFitAll k net ls) o.quarter_is (subst (λ (n : Net). AreFitAll p.quarter n ls) o.net_is fit)
 
 module _ {R : Type 0} (see : Seen R) where
-  ran_on : (old v : State R) (p : Plan) (e : Event) (r : Result (Unit {0}) WorldErr) (before after : List ℕ) → StandsBehind see old p → is_crowded_run p ≡ false → v.names ≡ old.names
+  ran_on : (old v : NetworkState R) (p : Plan) (e : Event) (r : Result (Unit {0}) WorldErr) (before after : List ℕ) → StandsBehind see old p → is_crowded_run p ≡ false → v.names ≡ old.names
       → Ran see p.quarter old.names r before after v (steps_of p.quarter e (last_world p)) (last_world p) → RunsOn see p e r before after v
   ran_on old v p e (Ok _) before after s roomy names ran =
       let w = last_world p in
@@ -45,33 +45,33 @@ module _ {R : Type 0} (see : Seen R) where
   ran_on old v p e (Err Crowded) before after s roomy names ran = crowded_by p e roomy ∙ ran.0
   ran_on old v p e (Err NoMemory) before after s roomy names ran = tt
 
-  pub runs_on : (old v : State R) (p : Plan) (e : Event) (r : Result (Unit {0}) WorldErr) (before after : List ℕ) → StandsBehind see old p → is_crowded_run p ≡ false → v.names ≡ old.names → Makes see old r before after v (λ q w. steps_of q e w) → RunsOn see p e r before after v
+  pub runs_on : (old v : NetworkState R) (p : Plan) (e : Event) (r : Result (Unit {0}) WorldErr) (before after : List ℕ) → StandsBehind see old p → is_crowded_run p ≡ false → v.names ≡ old.names → Makes see old r before after v (λ q w. steps_of q e w) → RunsOn see p e r before after v
   runs_on old v p e r before after s roomy names made = ran_on old v p e r before after s roomy names (made p.quarter (last_world p) s.agrees)
 
   -- ---- a network that was opened
   no_steps : (p : Plan) → p.events ≡ [] → last_world p ≡ first_world p
   no_steps p none = ap (λ (es : List Event). run (machine p.quarter) (uncrowded p.quarter (all_steps p.quarter es (first_world p)) (first_world p)) (first_world p)) none
 
-  pub opened_behind : (v : State R) (p : Plan) (q : ℕ) (names : List (List ℕ)) → p.events ≡ [] → p.quarter ≡ q → p.names ≡ names → v.names ≡ names → Agrees see q v (first_world p) → StandsBehind see v p
+  pub opened_behind : (v : NetworkState R) (p : Plan) (q : ℕ) (names : List (List ℕ)) → p.events ≡ [] → p.quarter ≡ q → p.names ≡ names → v.names ≡ names → Agrees see q v (first_world p) → StandsBehind see v p
   opened_behind v p q names none quarter named is agrees = record {
     agrees = subst (λ n. Agrees see n v (last_world p)) (sym quarter) (subst (λ (w : World). Agrees see q v w) (sym (no_steps p none)) agrees);
     names = is ∙ sym named;
   }
 
-  pub onto : (v : State R) (p : Plan) (e : Event) (r : Result (Unit {0}) WorldErr) (before after : List ℕ) → RunsOn see p e r before after v → RunsOnto see p e r before after (Some v)
+  pub onto : (v : NetworkState R) (p : Plan) (e : Event) (r : Result (Unit {0}) WorldErr) (before after : List ℕ) → RunsOn see p e r before after v → RunsOnto see p e r before after (Some v)
   onto v p e (Ok _) before after ran = (v, refl, ran)
   onto v p e (Err Crowded) before after ran = ran
   onto v p e (Err NoMemory) before after ran = tt
 
   -- ---- a line that adds no event
-  still_network : (d : Draft) (t : List ℕ) (new : Draft) (world : Option (State R)) → Follows d t new → new.events ≡ d.events → IsNetworkOf see world (plan_of d) → IsNetworkOf see world (plan_of new)
+  still_network : (d : Draft) (t : List ℕ) (new : Draft) (world : Option (NetworkState R)) → Follows d t new → new.events ≡ d.events → IsNetworkOf see world (plan_of d) → IsNetworkOf see world (plan_of new)
   still_network d t new None f same n = same ∙ n
   still_network d t new (Some v) f same n = elim (quiet_line d t new f same) [
     | inl e ↦ subst (λ (x : Draft). IsNetworkOf see (Some v) (plan_of x)) (sym e) n
     | inr e ↦ absurd (n.0 e.0)
   ]
 
-  pub quiet_on : (d : Draft) (t : List ℕ) (new : Draft) (world : Option (State R)) (said : List ℕ) → Follows d t new → new.events ≡ d.events → IsNetworkOf see world (plan_of d) → IsRunSoFar d said → IsRunOn (λ x. IsAt see new world x) d t said []
+  pub quiet_on : (d : Draft) (t : List ℕ) (new : Draft) (world : Option (NetworkState R)) (said : List ℕ) → Follows d t new → new.events ≡ d.events → IsNetworkOf see world (plan_of d) → IsRunSoFar d said → IsRunOn (λ x. IsAt see new world x) d t said []
   quiet_on d t new world said f same n run = record { new = new; follows = f; stands_there = record { same = refl; network = still_network d t new world f same n }; run = quiet_run d t new said f same run }
 
   -- ---- a line that adds one
@@ -82,13 +82,13 @@ module _ {R : Type 0} (see : Seen R) where
       by [] z = cc
       by (x ∷ es) z = cc
 
-  pub event_on : (d : Draft) (t : List ℕ) (new : Draft) (world : Option (State R)) (said before after : List ℕ) (e : Event) → Follows d t new → new.events ≡ d.events ++ e ∷ [] → IsRunSoFar d said → RunsOnto see (plan_of d) e (Ok tt) before after world
+  pub event_on : (d : Draft) (t : List ℕ) (new : Draft) (world : Option (NetworkState R)) (said before after : List ℕ) (e : Event) → Follows d t new → new.events ≡ d.events ++ e ∷ [] → IsRunSoFar d said → RunsOnto see (plan_of d) e (Ok tt) before after world
       → (own : List ℕ) × (after ≡ before ++ own) × IsRunOn (λ x. IsAt see new world x) d t said own
   event_on d t new world said before after e f added run ran =
       let (v, is, on) = ran in
       let plan = event_line d t new e f added in
       let stands : StandsBehind see v (plan_of new) = subst (λ (p : Plan). StandsBehind see v p) (sym plan) on.stands in
-      let network : IsNetworkOf see world (plan_of new) = subst (λ (o : Option (State R)). IsNetworkOf see o (plan_of new)) (sym is) (some_events d new e added, stands) in (
+      let network : IsNetworkOf see world (plan_of new) = subst (λ (o : Option (NetworkState R)). IsNetworkOf see o (plan_of new)) (sym is) (some_events d new e added, stands) in (
         on.own,
         on.appended,
         record {
@@ -102,5 +102,5 @@ module _ {R : Type 0} (see : Seen R) where
         },
       )
 
-  pub event_crowds : (d : Draft) (t : List ℕ) (new : Draft) (world : Option (State R)) (before after : List ℕ) (e : Event) → Follows d t new → new.events ≡ d.events ++ e ∷ [] → RunsOnto see (plan_of d) e (Err Crowded) before after world → IsCrowdedBy d t
+  pub event_crowds : (d : Draft) (t : List ℕ) (new : Draft) (world : Option (NetworkState R)) (before after : List ℕ) (e : Event) → Follows d t new → new.events ≡ d.events ++ e ∷ [] → RunsOnto see (plan_of d) e (Err Crowded) before after world → IsCrowdedBy d t
   event_crowds d t new world before after e f added ran = record { new = new; follows = f; crowded = ap is_crowded_run (event_line d t new e f added) ∙ ran }

@@ -25,13 +25,13 @@ IsGiven before None after = after ≡ before
 IsGiven before (Some event) after = IsAdded before event after
 
 -- the line follows those before, and its event, if it has one, is given
-pub record IsTaken (d : Draft) (line : List ℕ) (given : Option Event) (new : Draft) : Type 0 where
+pub record IsLineTaken (d : Draft) (line : List ℕ) (given : Option Event) (new : Draft) : Type 0 where
   pub follows : Follows d line new
   pub event : IsGiven d.events given new.events
 
 -- a line was taken behind those before; or it has this fault, and they stay the lines so far; or memory ran out
 abbrev pub Feeds : Draft → List ℕ → Result (Option Event) Refused → Draft → Type 0
-Feeds d line (Ok given) new = IsTaken d line given new
+Feeds d line (Ok given) new = IsLineTaken d line given new
 Feeds d line (Err (Fault why)) new = HasFault d line why × (new ≡ d)
 Feeds d line (Err NoMemory) new = Unit {0}
 

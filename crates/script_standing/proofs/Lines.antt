@@ -48,8 +48,8 @@ use Rattle.script_grammar.specs.Grammar.{Follows, Leads}
 use Rattle.script_grammar.specs.Rules.{Keeps, KeepsAll, is_sender_at}
 use Rattle.script_grammar.specs.Values.{drop_value, hop_values, send_value, senders_value, tree_hop_value, want_value}
 use Rattle.script_grammar.specs.declared.line.DropLine.{DropLine}
-use Rattle.script_grammar.specs.declared.line.Line.{Line}
-use Rattle.script_grammar.specs.declared.line.Line.TheVariants as line
+use Rattle.script_grammar.specs.declared.line.ScriptLine.{ScriptLine}
+use Rattle.script_grammar.specs.declared.line.ScriptLine.TheVariants as line
 use Rattle.script_grammar.specs.declared.line.QuitLine.{QuitLine}
 use Rattle.script_grammar.specs.declared.line.SendLine.{SendLine}
 use Rattle.script_grammar.specs.declared.line.WantLine.{WantLine}
@@ -299,7 +299,7 @@ module _ (d : Draft) (h : Standing d) (valid : IsValid (routing d)) (sending : S
       (call_stands (plan_of d).quarter (world_behind d) n (QuitAll s) d.locals (without_wants d.locals n s) stands makes, is))
 
 -- ---- each line
-by_line : (d : Draft) (said : Line) (new : Draft) → Standing d → IsValid (routing d) → Sending d → Sending new → CanBeAsked new → KeepsAll (Keeps d said) → Adds d said new → Standing new
+by_line : (d : Draft) (said : ScriptLine) (new : Draft) → Standing d → IsValid (routing d) → Sending d → Sending new → CanBeAsked new → KeepsAll (Keeps d said) → Adds d said new → Standing new
 by_line d line.Skipped new h valid sending after can rules adds = subst Standing (sym adds) h
 by_line d (line.Period ms) new h valid sending after can rules adds = declared d new h rules.in_time.no_event (ap (λ (z : Draft). z.events) adds) (ap (λ (z : Draft). z.locals) adds) (ap (λ (z : Draft). z.force) adds ∙ h.early rules.in_time.no_event ∙ sym (ap (λ (z : Draft). z.net.hops) adds))
 by_line d (line.Seed n) new h valid sending after can rules adds = declared d new h rules.in_time.no_event (ap (λ (z : Draft). z.events) adds) (ap (λ (z : Draft). z.locals) adds) (ap (λ (z : Draft). z.force) adds ∙ h.early rules.in_time.no_event ∙ sym (ap (λ (z : Draft). z.net.hops) adds))

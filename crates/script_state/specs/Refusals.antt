@@ -2,12 +2,12 @@
 use Rattle.std.specs.Prelude.{◌≡◌}
 use Rattle.script_grammar.specs.Draft.{Draft}
 use Rattle.script_grammar.specs.Rules.{Closes, Exceeds, Keeps, BreaksFirst}
-use Rattle.script_grammar.specs.declared.line.Line.{Line}
+use Rattle.script_grammar.specs.declared.line.ScriptLine.{ScriptLine}
 use Rattle.script_player.specs.declared.checks.Refused.{Refused}
 use Rattle.script_player.specs.declared.checks.Refused.TheVariants.{Fault, NoMemory}
 
 -- the first rule that the line breaks is that of the fault
-abbrev pub Refuses : Draft → Line → Refused → Type 0
+abbrev pub Refuses : Draft → ScriptLine → Refused → Type 0
 Refuses d l (Fault why) = BreaksFirst (Keeps d l) (Exceeds d l) (Closes d l) why
 Refuses d l NoMemory = Unit {0}
 

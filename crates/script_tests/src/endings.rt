@@ -6,7 +6,7 @@ use byte_streams::{MemorySink, MemorySource};
 use line_advice::{LinesBefore, put_advice};
 use network_run::{Ending, Player, Stop, run_lines};
 use rsvp_base::{NoMemory, Session, StyleKind};
-use script_grammar::{Fault, Line, read_line};
+use script_grammar::{Fault, ScriptLine, read_line};
 use script_words::Unread;
 use std::alloc::Global;
 use std::test::Fail;
@@ -24,7 +24,7 @@ impl Player for Silent {
         let _ = out.len();
         let mut words = Vec::new(self.alloc);
         match read_line(self.alloc, line, &mut words) {
-            Ok(Line::Skipped) => Ok(()),
+            Ok(ScriptLine::Skipped) => Ok(()),
             Ok(_) => Err(Stop::NoMemory),
             Err(Unread::Word) => Err(Stop::Bad(Fault::Word)),
             Err(Unread::NoMemory) => Err(Stop::NoMemory),

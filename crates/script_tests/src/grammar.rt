@@ -1,5 +1,5 @@
 //! Lines of each kind, of its form and not.
-use script_grammar::{Line, read_line};
+use script_grammar::{ScriptLine, read_line};
 use script_words::Unread;
 use std::alloc::Global;
 use std::test::*;
@@ -111,7 +111,7 @@ fn a_pass_alone_is_one(rt: HostRuntime) {
     assert!(rt;
         matches!(
             read_line(rt.alloc(), b" pass ", &mut words),
-            Ok(Line::Pass(1))
+            Ok(ScriptLine::Pass(1))
         )
     );
 }

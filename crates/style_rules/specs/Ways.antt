@@ -20,8 +20,8 @@ WayTable = Table senders Way
 abbrev pub way_of : UpLine → Sender × Way
 way_of l = (l.name, record { outward = l.outward; wall = l.wall })
 
-abbrev pub line_of : Sender × Way → UpLine
-line_of e = record { name = e.0; outward = e.1.outward; wall = e.1.wall }
+abbrev pub up_line_of : Sender × Way → UpLine
+up_line_of e = record { name = e.0; outward = e.1.outward; wall = e.1.wall }
 
 abbrev pub wall_code : Coded Wall
 wall_code = code_by (TokenBucket × ℕ) (coded× bucket_code coded_ℕ) (λ w. (w.flow, w.sub)) (λ t. record { flow = t.0; sub = t.1 }) (λ _. refl)

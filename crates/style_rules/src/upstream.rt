@@ -3,7 +3,7 @@ ghost use Rattle.std.specs.Prelude.{◌≡◌, ◌≤◌, ◌<◌, ◌↔◌, le
 ghost use Rattle.std.specs.Option.{option_copied, option_map};
 ghost use Rattle.rsvp_base.specs.Orders.{senders};
 ghost use Rattle.rsvp_base.specs.Rows.{AreRows};
-ghost use Rattle.style_rules.specs.Ways.{way_of, line_of};
+ghost use Rattle.style_rules.specs.Ways.{way_of, up_line_of};
 
 use crate::wall::UpLine;
 use arrayvec::ArrayVec;
@@ -61,7 +61,7 @@ impl Upstream {
 
     /// The lines in order of name.
     pub fn as_slice(&self) -> &[UpLine]
-        ensures lines { result.now ≡ map line_of self.now.rows }
+        ensures lines { result.now ≡ map up_line_of self.now.rows }
         ensures few { length result.now ≤ 16 }
     {
         self.lines.as_slice()
@@ -69,14 +69,14 @@ impl Upstream {
 
     /// The k-th line by name, from 0. `None` exactly where k is not below the length.
     pub fn at(&self, k: usize) -> Option<UpLine>
-        ensures { result ≡ slice_get (map line_of self.now.rows) k }
+        ensures { result ≡ slice_get (map up_line_of self.now.rows) k }
     {
         self.as_slice().get(k).copied()
     }
 
     /// The line of a name. `None` exactly where it has none.
     pub fn get(&self, name: Sender) -> Option<&UpLine>
-        ensures { option_copied result ≡ option_map (λ way. line_of (name, way)) (get self.now name) }
+        ensures { option_copied result ≡ option_map (λ way. up_line_of (name, way)) (get self.now name) }
     {
         let place = search(self.lines.as_slice(), &name).ok()?;
         Some(&self.lines.as_slice()[place])

@@ -10,7 +10,7 @@ use Rattle.script_grammar.specs.Rules.{IsHopKnown, OnlyDeclares}
 use Rattle.script_grammar.specs.Values.{IsHopInRange, tree_hop_value}
 use Rattle.script_grammar.specs.declared.fault.Fault.TheVariants as fault
 use Rattle.script_grammar.specs.declared.line.HopLine.{HopLine}
-use Rattle.script_grammar.specs.declared.line.Line.TheVariants as line
+use Rattle.script_grammar.specs.declared.line.ScriptLine.TheVariants as line
 use Rattle.script_player.specs.declared.checks.Refused.{Refused}
 use Rattle.script_player.specs.declared.checks.Refused.TheVariants.{Fault, NoMemory}
 use Rattle.tree_rules.specs.HopRefusals.{IsHopRefused, IsLoopNamed}

@@ -14,7 +14,7 @@ use Rattle.script_grammar.specs.Draft.{Draft, routing, with_hops}
 use Rattle.script_grammar.specs.Rules.{AreRoutesKnown, IsEnd, IsSource, Keeps, KeepsAll}
 use Rattle.script_grammar.specs.Values.{IsRerouteInRange, hop_values}
 use Rattle.script_grammar.specs.declared.fault.Fault.TheVariants as fault
-use Rattle.script_grammar.specs.declared.line.Line.TheVariants as line
+use Rattle.script_grammar.specs.declared.line.ScriptLine.TheVariants as line
 use Rattle.script_grammar.specs.declared.line.HopEnds.{HopEnds}
 use Rattle.script_grammar.specs.declared.line.RerouteLine.{RerouteLine}
 use Rattle.net_replay.specs.Moving.{CanMove}

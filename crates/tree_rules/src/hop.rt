@@ -9,7 +9,7 @@ ghost use Rattle.script_state.specs.Refusals.{IsUntouched, Refuses};
 ghost use Rattle.script_grammar.specs.Adds.{Adds, with_tree_hop};
 ghost use Rattle.script_grammar.specs.Rules.{IsEnd, Keeps, KeepsAll, OnlyDeclares};
 ghost use Rattle.script_grammar.specs.Values.{hop_value};
-ghost use Rattle.script_grammar.specs.declared.line.Line.TheVariants as kind;
+ghost use Rattle.script_grammar.specs.declared.line.ScriptLine.TheVariants as kind;
 
 use rsvp_base::Addr;
 use script_grammar::{Fault, HopEnds, HopLine};

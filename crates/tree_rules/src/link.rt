@@ -9,7 +9,7 @@ ghost use Rattle.script_state.specs.Refusals.{IsUntouched, Refuses};
 ghost use Rattle.script_grammar.specs.Adds.{Adds, link_value};
 ghost use Rattle.script_grammar.specs.Draft.{end_named, end_number};
 ghost use Rattle.script_grammar.specs.Rules.{Keeps, KeepsAll};
-ghost use Rattle.script_grammar.specs.declared.line.Line.TheVariants as kind;
+ghost use Rattle.script_grammar.specs.declared.line.ScriptLine.TheVariants as kind;
 
 use arrayvec::ArrayVec;
 use script_grammar::{Fault, LinkEnds};

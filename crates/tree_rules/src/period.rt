@@ -4,7 +4,7 @@ ghost use Rattle.script_state.specs.Said.{draft_of};
 ghost use Rattle.script_state.specs.Refusals.{IsUntouched, Refuses};
 ghost use Rattle.script_grammar.specs.Adds.{Adds};
 ghost use Rattle.script_grammar.specs.Rules.{Keeps, KeepsAll};
-ghost use Rattle.script_grammar.specs.declared.line.Line.TheVariants as kind;
+ghost use Rattle.script_grammar.specs.declared.line.ScriptLine.TheVariants as kind;
 
 use script_grammar::Fault;
 use script_player::Refused;

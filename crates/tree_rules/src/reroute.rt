@@ -13,7 +13,7 @@ ghost use Rattle.script_grammar.specs.Adds.{Adds};
 ghost use Rattle.script_grammar.specs.Draft.{routing};
 ghost use Rattle.script_grammar.specs.Rules.{IsEnd, Keeps, KeepsAll};
 ghost use Rattle.script_grammar.specs.Values.{hop_value};
-ghost use Rattle.script_grammar.specs.declared.line.Line.TheVariants as kind;
+ghost use Rattle.script_grammar.specs.declared.line.ScriptLine.TheVariants as kind;
 
 use crate::hop::{closed, hop_of, tree_of};
 use net_replay::Event;

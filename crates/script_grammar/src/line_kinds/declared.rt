@@ -4,47 +4,47 @@ ghost use Rattle.script_words.specs.Unread.{Reads};
 ghost use Rattle.script_grammar.specs.LineKinds.{end_line, hop_line, link_line, node_line, period_line, seed_line};
 
 use super::lists::names;
-use crate::line::{EndLine, HopEnds, HopLine, Line};
+use crate::line::{EndLine, HopEnds, HopLine, ScriptLine};
 use crate::list::LinkEnds;
 use script_words::{DottedQuad, EndName, Unread, number};
 use std::alloc::Global;
 
 #[tactic(auto, unfolding(crate::specs::LineKinds::period_line))]
-pub fn period_line(words: &[&[u8]]) -> Option<Line>
+pub fn period_line(words: &[&[u8]]) -> Option<ScriptLine>
     ensures { result ≡ period_line (map (λ w. w.now) words.now) }
 {
     match words {
-        [ms] => Some(Line::Period(number(ms)?)),
+        [ms] => Some(ScriptLine::Period(number(ms)?)),
         _ => None,
     }
 }
 
 #[tactic(auto, unfolding(crate::specs::LineKinds::seed_line))]
-pub fn seed_line(words: &[&[u8]]) -> Option<Line>
+pub fn seed_line(words: &[&[u8]]) -> Option<ScriptLine>
     ensures { result ≡ seed_line (map (λ w. w.now) words.now) }
 {
     match words {
-        [seed] => Some(Line::Seed(number(seed)?)),
+        [seed] => Some(ScriptLine::Seed(number(seed)?)),
         _ => None,
     }
 }
 
 #[tactic(auto, unfolding(crate::specs::LineKinds::node_line))]
-pub fn node_line(words: &[&[u8]]) -> Option<Line>
+pub fn node_line(words: &[&[u8]]) -> Option<ScriptLine>
     ensures { result ≡ node_line (map (λ w. w.now) words.now) }
 {
     match words {
-        [name] => Some(Line::Node(EndName::of(name)?)),
+        [name] => Some(ScriptLine::Node(EndName::of(name)?)),
         _ => None,
     }
 }
 
 #[tactic(auto, unfolding(crate::specs::LineKinds::end_line))]
-pub fn end_line(words: &[&[u8]]) -> Option<Line>
+pub fn end_line(words: &[&[u8]]) -> Option<ScriptLine>
     ensures { result ≡ end_line (map (λ w. w.now) words.now) }
 {
     match words {
-        [name, node, addr, capacity, mtu] => Some(Line::End(EndLine {
+        [name, node, addr, capacity, mtu] => Some(ScriptLine::End(EndLine {
             name: EndName::of(name)?,
             node: EndName::of(node)?,
             addr: DottedQuad::of(addr)?,
@@ -56,11 +56,11 @@ pub fn end_line(words: &[&[u8]]) -> Option<Line>
 }
 
 #[tactic(auto, unfolding(crate::specs::LineKinds::hop_line))]
-pub fn hop_line(words: &[&[u8]]) -> Option<Line>
+pub fn hop_line(words: &[&[u8]]) -> Option<ScriptLine>
     ensures { result ≡ hop_line (map (λ w. w.now) words.now) }
 {
     match words {
-        [group, source, from, to] => Some(Line::Hop(HopLine {
+        [group, source, from, to] => Some(ScriptLine::Hop(HopLine {
             group: DottedQuad::of(group)?,
             source: DottedQuad::of(source)?,
             ends: HopEnds {
@@ -73,11 +73,11 @@ pub fn hop_line(words: &[&[u8]]) -> Option<Line>
 }
 
 #[tactic(auto, unfolding(crate::specs::LineKinds::link_line))]
-pub fn link_line(alloc: Global, words: &[&[u8]]) -> Result<Line, Unread>
+pub fn link_line(alloc: Global, words: &[&[u8]]) -> Result<ScriptLine, Unread>
     ensures { Reads result (link_line (map (λ w. w.now) words.now)) }
 {
     if words.len() < 2 || words.len() > 8 {
         return Err(Unread::Word);
     }
-    Ok(Line::Link(LinkEnds::of(names(alloc, words)?)))
+    Ok(ScriptLine::Link(LinkEnds::of(names(alloc, words)?)))
 }

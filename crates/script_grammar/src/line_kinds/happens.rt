@@ -2,20 +2,20 @@
 ghost use Rattle.std.specs.Prelude.{◌≡◌, map};
 ghost use Rattle.script_words.specs.Unread.{Reads, ReadsAs};
 ghost use Rattle.script_grammar.specs.LineKinds.{clear_line, drop_line, flags_line, inject_line, lone_number, numbered, pass_line, quit_line, report_line, reroute_line, send_line, trace_line, want_line, want_of};
-ghost use Rattle.script_grammar.specs.declared.line.Line.TheVariants as kind;
+ghost use Rattle.script_grammar.specs.declared.line.ScriptLine.TheVariants as kind;
 
 use super::lists::{bytes, pairs, want_senders};
-use crate::line::{DropLine, InjectLine, Line, QuitLine, RerouteLine, SendLine, WantLine};
+use crate::line::{DropLine, InjectLine, QuitLine, RerouteLine, ScriptLine, SendLine, WantLine};
 use crate::list::Listed;
 use script_words::{DottedQuad, EndName, FlowWord, SenderWord, SessionWord, Unread, number, style};
 use std::alloc::Global;
 
 #[tactic(auto, unfolding(crate::specs::LineKinds::send_line))]
-pub fn send_line(words: &[&[u8]]) -> Option<Line>
+pub fn send_line(words: &[&[u8]]) -> Option<ScriptLine>
     ensures { result ≡ send_line (map (λ w. w.now) words.now) }
 {
     match words {
-        [node, session, sender, flow] => Some(Line::Send(SendLine {
+        [node, session, sender, flow] => Some(ScriptLine::Send(SendLine {
             node: EndName::of(node)?,
             session: SessionWord::of(session)?,
             sender: SenderWord::of(sender)?,
@@ -26,11 +26,11 @@ pub fn send_line(words: &[&[u8]]) -> Option<Line>
 }
 
 #[tactic(auto, unfolding(crate::specs::LineKinds::drop_line))]
-pub fn drop_line(words: &[&[u8]]) -> Option<Line>
+pub fn drop_line(words: &[&[u8]]) -> Option<ScriptLine>
     ensures { result ≡ drop_line (map (λ w. w.now) words.now) }
 {
     match words {
-        [node, session, sender] => Some(Line::Drop(DropLine {
+        [node, session, sender] => Some(ScriptLine::Drop(DropLine {
             node: EndName::of(node)?,
             session: SessionWord::of(session)?,
             sender: SenderWord::of(sender)?,
@@ -40,7 +40,7 @@ pub fn drop_line(words: &[&[u8]]) -> Option<Line>
 }
 
 #[tactic(auto, unfolding(crate::specs::LineKinds::want_line))]
-pub fn want_line(alloc: Global, words: &[&[u8]]) -> Result<Line, Unread>
+pub fn want_line(alloc: Global, words: &[&[u8]]) -> Result<ScriptLine, Unread>
     ensures { Reads result (want_line (map (λ w. w.now) words.now)) }
 {
     match words {
@@ -66,7 +66,7 @@ fn want(
     senders: &[u8],
     flow: &[u8],
     confirm: bool,
-) -> Result<Line, Unread>
+) -> Result<ScriptLine, Unread>
     ensures { Reads result (want_of node.now session.now kind.now senders.now flow.now confirm) }
 {
     let node = EndName::of(node).ok_or(Unread::Word)?;
@@ -74,7 +74,7 @@ fn want(
     let style = style(kind).ok_or(Unread::Word)?;
     let senders = Listed::of(want_senders(alloc, style, senders)?);
     let flow = FlowWord::of(flow).ok_or(Unread::Word)?;
-    Ok(Line::Want(WantLine {
+    Ok(ScriptLine::Want(WantLine {
         node,
         session,
         style,
@@ -85,11 +85,11 @@ fn want(
 }
 
 #[tactic(auto, unfolding(crate::specs::LineKinds::quit_line))]
-pub fn quit_line(words: &[&[u8]]) -> Option<Line>
+pub fn quit_line(words: &[&[u8]]) -> Option<ScriptLine>
     ensures { result ≡ quit_line (map (λ w. w.now) words.now) }
 {
     match words {
-        [node, session] => Some(Line::Quit(QuitLine {
+        [node, session] => Some(ScriptLine::Quit(QuitLine {
             node: EndName::of(node)?,
             session: SessionWord::of(session)?,
         })),
@@ -97,34 +97,34 @@ pub fn quit_line(words: &[&[u8]]) -> Option<Line>
     }
 }
 
-pub fn wait_line(words: &[&[u8]]) -> Option<Line>
+pub fn wait_line(words: &[&[u8]]) -> Option<ScriptLine>
     ensures { result ≡ numbered kind.Wait (map (λ w. w.now) words.now) }
 {
-    Some(Line::Wait(lone_number(words)?))
+    Some(ScriptLine::Wait(lone_number(words)?))
 }
 
-pub fn deliver_line(words: &[&[u8]]) -> Option<Line>
+pub fn deliver_line(words: &[&[u8]]) -> Option<ScriptLine>
     ensures { result ≡ numbered kind.Deliver (map (λ w. w.now) words.now) }
 {
-    Some(Line::Deliver(lone_number(words)?))
+    Some(ScriptLine::Deliver(lone_number(words)?))
 }
 
-pub fn lose_line(words: &[&[u8]]) -> Option<Line>
+pub fn lose_line(words: &[&[u8]]) -> Option<ScriptLine>
     ensures { result ≡ numbered kind.Lose (map (λ w. w.now) words.now) }
 {
-    Some(Line::Lose(lone_number(words)?))
+    Some(ScriptLine::Lose(lone_number(words)?))
 }
 
-pub fn copy_line(words: &[&[u8]]) -> Option<Line>
+pub fn copy_line(words: &[&[u8]]) -> Option<ScriptLine>
     ensures { result ≡ numbered kind.Copy (map (λ w. w.now) words.now) }
 {
-    Some(Line::Copy(lone_number(words)?))
+    Some(ScriptLine::Copy(lone_number(words)?))
 }
 
-pub fn rounds_line(words: &[&[u8]]) -> Option<Line>
+pub fn rounds_line(words: &[&[u8]]) -> Option<ScriptLine>
     ensures { result ≡ numbered kind.Rounds (map (λ w. w.now) words.now) }
 {
-    Some(Line::Rounds(lone_number(words)?))
+    Some(ScriptLine::Rounds(lone_number(words)?))
 }
 
 // The number that is the only word.
@@ -138,63 +138,63 @@ fn lone_number(words: &[&[u8]]) -> Option<u128>
 }
 
 #[tactic(auto, unfolding(crate::specs::LineKinds::pass_line))]
-pub fn pass_line(words: &[&[u8]]) -> Option<Line>
+pub fn pass_line(words: &[&[u8]]) -> Option<ScriptLine>
     ensures { result ≡ pass_line (map (λ w. w.now) words.now) }
 {
     match words {
-        [] => Some(Line::Pass(1)),
-        [times] => Some(Line::Pass(number(times)?)),
+        [] => Some(ScriptLine::Pass(1)),
+        [times] => Some(ScriptLine::Pass(number(times)?)),
         _ => None,
     }
 }
 
 #[tactic(auto, unfolding(crate::specs::LineKinds::clear_line))]
-pub fn clear_line(words: &[&[u8]]) -> Option<Line>
+pub fn clear_line(words: &[&[u8]]) -> Option<ScriptLine>
     ensures { result ≡ clear_line (map (λ w. w.now) words.now) }
 {
     match words {
-        [node] => Some(Line::Clear(EndName::of(node)?)),
+        [node] => Some(ScriptLine::Clear(EndName::of(node)?)),
         _ => None,
     }
 }
 
 #[tactic(auto, unfolding(crate::specs::LineKinds::trace_line))]
-pub fn trace_line(words: &[&[u8]]) -> Option<Line>
+pub fn trace_line(words: &[&[u8]]) -> Option<ScriptLine>
     ensures { result ≡ trace_line (map (λ w. w.now) words.now) }
 {
     let [word] = words else {
         return None;
     };
     match *word {
-        b"on" => Some(Line::Trace(true)),
-        b"off" => Some(Line::Trace(false)),
+        b"on" => Some(ScriptLine::Trace(true)),
+        b"off" => Some(ScriptLine::Trace(false)),
         _ => None,
     }
 }
 
 #[tactic(auto, unfolding(crate::specs::LineKinds::report_line))]
-pub fn report_line(words: &[&[u8]]) -> Option<Line>
+pub fn report_line(words: &[&[u8]]) -> Option<ScriptLine>
     ensures { result ≡ report_line (map (λ w. w.now) words.now) }
 {
     match words {
-        [] => Some(Line::Report),
-        [end] => Some(Line::ReportEnd(EndName::of(end)?)),
+        [] => Some(ScriptLine::Report),
+        [end] => Some(ScriptLine::ReportEnd(EndName::of(end)?)),
         _ => None,
     }
 }
 
 #[tactic(auto, unfolding(crate::specs::LineKinds::flags_line))]
-pub fn flags_line(words: &[&[u8]]) -> Option<Line>
+pub fn flags_line(words: &[&[u8]]) -> Option<ScriptLine>
     ensures { result ≡ flags_line (map (λ w. w.now) words.now) }
 {
     match words {
-        [] => Some(Line::Flags),
+        [] => Some(ScriptLine::Flags),
         _ => None,
     }
 }
 
 #[tactic(auto, unfolding(crate::specs::LineKinds::inject_line))]
-pub fn inject_line(alloc: Global, words: &[&[u8]]) -> Result<Line, Unread>
+pub fn inject_line(alloc: Global, words: &[&[u8]]) -> Result<ScriptLine, Unread>
     ensures { Reads result (inject_line (map (λ w. w.now) words.now)) }
 {
     let [end, addr, digits] = words else {
@@ -203,11 +203,11 @@ pub fn inject_line(alloc: Global, words: &[&[u8]]) -> Result<Line, Unread>
     let end = EndName::of(end).ok_or(Unread::Word)?;
     let dst = DottedQuad::of(addr).ok_or(Unread::Word)?;
     let bytes = Listed::of(bytes(alloc, digits)?);
-    Ok(Line::Inject(InjectLine { end, dst, bytes }))
+    Ok(ScriptLine::Inject(InjectLine { end, dst, bytes }))
 }
 
 #[tactic(auto, unfolding(crate::specs::LineKinds::reroute_line))]
-pub fn reroute_line(alloc: Global, words: &[&[u8]]) -> Result<Line, Unread>
+pub fn reroute_line(alloc: Global, words: &[&[u8]]) -> Result<ScriptLine, Unread>
     ensures { Reads result (reroute_line (map (λ w. w.now) words.now)) }
 {
     let [group, source, ends @ ..] = words else {
@@ -216,7 +216,7 @@ pub fn reroute_line(alloc: Global, words: &[&[u8]]) -> Result<Line, Unread>
     let group = DottedQuad::of(group).ok_or(Unread::Word)?;
     let source = DottedQuad::of(source).ok_or(Unread::Word)?;
     let hops = Listed::of(pairs(alloc, ends)?);
-    Ok(Line::Reroute(RerouteLine {
+    Ok(ScriptLine::Reroute(RerouteLine {
         group,
         source,
         hops,

@@ -4,13 +4,15 @@ ghost use Rattle.script_words.specs.Unread.{Reads, ReadsAs};
 ghost use Rattle.script_grammar.specs.LineKinds.{hop_wall, path_of, resv_of, sender_wall, stale_blockade_line, stale_hop, stale_path_line, stale_resv_line, stale_sender};
 
 use super::lists::stale_senders;
-use crate::line::{Line, StaleHopWallLine, StalePathLine, StaleResvLine, StaleSenderWallLine};
+use crate::line::{
+    ScriptLine, StaleHopWallLine, StalePathLine, StaleResvLine, StaleSenderWallLine,
+};
 use crate::list::Listed;
 use script_words::{DottedQuad, EndName, FlowWord, SenderWord, SessionWord, Unread, number, style};
 use std::alloc::Global;
 
 #[tactic(auto, unfolding(crate::specs::LineKinds::stale_path_line))]
-pub fn stale_path_line(words: &[&[u8]]) -> Option<Line>
+pub fn stale_path_line(words: &[&[u8]]) -> Option<ScriptLine>
     ensures { result ≡ stale_path_line (map (λ w. w.now) words.now) }
 {
     match words {
@@ -30,10 +32,10 @@ fn path(
     addr: &[u8],
     flow: &[u8],
     left: &[u8],
-) -> Option<Line>
+) -> Option<ScriptLine>
     ensures { result ≡ path_of node.now session.now sender.now end.now addr.now flow.now left.now }
 {
-    Some(Line::StalePath(StalePathLine {
+    Some(ScriptLine::StalePath(StalePathLine {
         node: EndName::of(node)?,
         session: SessionWord::of(session)?,
         sender: SenderWord::of(sender)?,
@@ -45,7 +47,7 @@ fn path(
 }
 
 #[tactic(auto, unfolding(crate::specs::LineKinds::stale_resv_line))]
-pub fn stale_resv_line(alloc: Global, words: &[&[u8]]) -> Result<Line, Unread>
+pub fn stale_resv_line(alloc: Global, words: &[&[u8]]) -> Result<ScriptLine, Unread>
     ensures { Reads result (stale_resv_line (map (λ w. w.now) words.now)) }
 {
     match words {
@@ -66,7 +68,7 @@ fn resv(
     senders: &[u8],
     flow: &[u8],
     left: &[u8],
-) -> Result<Line, Unread>
+) -> Result<ScriptLine, Unread>
     ensures { Reads result (resv_of end.now session.now kind.now addr.now senders.now flow.now left.now) }
 {
     let end = EndName::of(end).ok_or(Unread::Word)?;
@@ -76,7 +78,7 @@ fn resv(
     let senders = Listed::of(stale_senders(alloc, style, senders)?);
     let flow = FlowWord::of(flow).ok_or(Unread::Word)?;
     let left = number(left).ok_or(Unread::Word)?;
-    Ok(Line::StaleResv(StaleResvLine {
+    Ok(ScriptLine::StaleResv(StaleResvLine {
         end,
         session,
         style,
@@ -88,7 +90,7 @@ fn resv(
 }
 
 #[tactic(auto, unfolding(crate::specs::LineKinds::stale_blockade_line))]
-pub fn stale_blockade_line(words: &[&[u8]]) -> Option<Line>
+pub fn stale_blockade_line(words: &[&[u8]]) -> Option<ScriptLine>
     ensures { result ≡ stale_blockade_line (map (λ w. w.now) words.now) }
 {
     let [node, session, target, behind @ ..] = words else {
@@ -102,7 +104,7 @@ pub fn stale_blockade_line(words: &[&[u8]]) -> Option<Line>
 }
 
 #[tactic(auto, unfolding(crate::specs::LineKinds::stale_hop))]
-fn stale_hop(node: &[u8], session: &[u8], words: &[&[u8]]) -> Option<Line>
+fn stale_hop(node: &[u8], session: &[u8], words: &[&[u8]]) -> Option<ScriptLine>
     ensures { result ≡ stale_hop node.now session.now (map (λ w. w.now) words.now) }
 {
     match words {
@@ -112,7 +114,7 @@ fn stale_hop(node: &[u8], session: &[u8], words: &[&[u8]]) -> Option<Line>
 }
 
 #[tactic(auto, unfolding(crate::specs::LineKinds::stale_sender))]
-fn stale_sender(node: &[u8], session: &[u8], words: &[&[u8]]) -> Option<Line>
+fn stale_sender(node: &[u8], session: &[u8], words: &[&[u8]]) -> Option<ScriptLine>
     ensures { result ≡ stale_sender node.now session.now (map (λ w. w.now) words.now) }
 {
     match words {
@@ -130,10 +132,10 @@ fn hop_wall(
     sub: &[u8],
     flow: &[u8],
     left: &[u8],
-) -> Option<Line>
+) -> Option<ScriptLine>
     ensures { result ≡ hop_wall node.now session.now end.now addr.now sub.now flow.now left.now }
 {
-    Some(Line::StaleHopWall(StaleHopWallLine {
+    Some(ScriptLine::StaleHopWall(StaleHopWallLine {
         node: EndName::of(node)?,
         session: SessionWord::of(session)?,
         end: EndName::of(end)?,
@@ -152,10 +154,10 @@ fn sender_wall(
     sub: &[u8],
     flow: &[u8],
     left: &[u8],
-) -> Option<Line>
+) -> Option<ScriptLine>
     ensures { result ≡ sender_wall node.now session.now sender.now sub.now flow.now left.now }
 {
-    Some(Line::StaleSenderWall(StaleSenderWallLine {
+    Some(ScriptLine::StaleSenderWall(StaleSenderWallLine {
         node: EndName::of(node)?,
         session: SessionWord::of(session)?,
         sender: SenderWord::of(sender)?,

@@ -11,7 +11,7 @@ use Rattle.rsvp_base.specs.Styles.{unit_of_first}
 use Rattle.tree_model.specs.Networks.{iface_of, node_of}
 use Rattle.style_rules.specs.Parts.{IsOfStyle}
 use Rattle.script_words.specs.Sessions.{IsSender}
-use Rattle.script_grammar.specs.Draft.{end_number, lifetime, period_of}
+use Rattle.script_grammar.specs.Draft.{end_number, lifetime_of_period, period_of}
 use Rattle.script_grammar.specs.Rules.{IsEnd, IsListOfStyle, sender_list, stale_node}
 use Rattle.script_grammar.specs.Values.{iface_at, senders_value}
 use Rattle.script_state.specs.Said.{draft_of}
@@ -40,7 +40,7 @@ leave-requires-clause-fit c =
     let ends = c.args.state.now.ends_there in
     let there : c.in-Some-find.end < length d.net.ends = omega (arith, within, ends) in
     let fit = fit_resv (period_of d / 4) d.net c.node_of-node.result c.in-Some-find.end there (sym c.node_of-node.ensures.node) l.style f c.in-Some-resv_values.left c.iface_of.ensures style (subst (λ (ns : Names). size ns ≤ 16) (sym names) few)
-    (subst IsSound (sym v.2) (sound l.flow range.2)) c.args.state.now.long (subst (λ (m : ℕ). 1 ≤ m) (sym v.3) range.3.some) (subst (λ (m : ℕ). m ≤ lifetime (period_of d)) (sym v.3) range.3.few) in
+    (subst IsSound (sym v.2) (sound l.flow range.2)) c.args.state.now.long (subst (λ (m : ℕ). 1 ≤ m) (sym v.3) range.3.some) (subst (λ (m : ℕ). m ≤ lifetime_of_period (period_of d)) (sym v.3) range.3.few) in
     search (rules, fit)
 
 pub returns-clause-ok : goal.returns-clause-ok

@@ -5,7 +5,7 @@ use Rattle.tree_model.specs.Valid.{IsValid}
 use Rattle.rsvp_base.specs.declared.addr.Addr.{Addr}
 use Rattle.tree_model.specs.Trees.{trees_of}
 use Rattle.net_replay.specs.Routed.{trees_in}
-use Rattle.net_replay.specs.Agreeing.{IsSteady, State}
+use Rattle.net_replay.specs.Agreeing.{IsSteady, NetworkState}
 use Rattle.net_replay.specs.Posting.{Post}
 use Rattle.net_replay.proofs.Opened.{begun_as, opened_of, steady}
 use Rattle.net_replay.proofs.world.World.open.Goals as goal
@@ -24,6 +24,6 @@ returns-clause-first g c = λ p by first.
     let net = c.args.routing in
     let posts : c.in_ok-mail.mail ≡ record { net = net; from = 0; flight = []; full = false; in_range = true } = c.in_ok-mail.ensures ∙ ap (λ (n : Net). record { net = n; from = 0; flight = []; full = false; in_range = true }) c.in_ok-wires.ensures in
     let trees : trees_in c.in_ok-routes.routes.items ≡ trees_of c.args.routing.hops = c.in_ok-routes.ensures ∙ ap (λ (n : Net). trees_of n.hops) (c.routing.ensures.net ∙ c.in_ok-wires.ensures) in
-    let one : State g.row.R.Denot = begun_as c.args.quarter c.args.seed net c.args.names.items c.args.nodes.items in
+    let one : NetworkState g.row.R.Denot = begun_as c.args.quarter c.args.seed net c.args.names.items c.args.nodes.items in
     opened_of g.R.Router.seen p c.args.nodes.items c.args.quarter c.args.seed net c.args.names.items by c.requires.placed first (record one { post = c.in_ok-mail.mail; trees = trees_in c.in_ok-routes.routes.items })
     (ap (λ (m : Post). record one { post = m; trees = trees_in c.in_ok-routes.routes.items }) posts ∙ ap (λ (ts : List (Addr × Addr)). record one { trees = ts }) trees)

@@ -2,7 +2,7 @@ use Rattle.std.proofs.Common.{refl, subst}
 use Rattle.script_words.specs.Unread.{Misses}
 use Rattle.script_words.specs.declared.unread.Unread.{Unread}
 use Rattle.script_grammar.specs.Grammar.{unread}
-use Rattle.script_grammar.specs.LineKinds.{line_of}
+use Rattle.script_grammar.specs.LineKinds.{script_line_of}
 use Rattle.script_state.specs.Said.{draft_of}
 use Rattle.script_checker.proofs.FedLines.{fed}
 use Rattle.script_checker.proofs.Words.{formed}
@@ -16,4 +16,4 @@ returns-in-Ok c =
     fed (draft_of c.args.self.now.state) c.args.line.now c.in-Ok.said c.requires c.in-Ok.ensures c.add.result (draft_of c.add.new.state) c.add.ensures.ok c.add.ensures.given c.add.ensures.refused c.add.ensures.same
 
 pub returns-in-Err-Word : goal.returns-in-Err-Word
-returns-in-Err-Word c = (unread c.requires (subst (λ (e : Unread). Misses e (line_of c.args.line.now)) c.in-Err-Word.field-0-is c.in-Err-Word.ensures), refl)
+returns-in-Err-Word c = (unread c.requires (subst (λ (e : Unread). Misses e (script_line_of c.args.line.now)) c.in-Err-Word.field-0-is c.in-Err-Word.ensures), refl)

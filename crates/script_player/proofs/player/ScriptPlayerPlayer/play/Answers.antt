@@ -2,7 +2,7 @@ use Rattle.std.proofs.Common.{[], None, Some, sym, subst, append-nil}
 use Rattle.net_replay.specs.Happening.{event_with}
 use Rattle.script_grammar.specs.Draft.{plan_of}
 use Rattle.network_run.proofs.Adding.{event_line}
-use Rattle.script_player.specs.Checking.{IsTaken}
+use Rattle.script_player.specs.Checking.{IsLineTaken}
 use Rattle.script_player.proofs.Ran.{event_crowds, event_on, quiet_on}
 use Rattle.script_player.proofs.player.ScriptPlayerPlayer.play.Goals as goal
 
@@ -11,7 +11,7 @@ returns-in-Ok-None g c = λ d said at run.
     let see = g.R.Router.seen in
     let new = g.C.LinesBefore.lines c.feed.new.self in
     let fed = rw c.in-Ok-None.field-0-is at c.in-Ok-None.ensures in
-    let q = subst (λ x. IsTaken x c.args.line.now None new) at.same fed in
+    let q = subst (λ x. IsLineTaken x c.args.line.now None new) at.same fed in
     ([], sym (append-nil c.args.out.now.items), quiet_on see d c.args.line.now new c.args.self.now.world said q.follows q.event at.network run)
 
 pub returns-in-Ok : goal.returns-in-Ok
@@ -20,7 +20,7 @@ returns-in-Ok g c = λ d said at run.
     let new = g.C.LinesBefore.lines c.feed.new.self in
     let event = c.in-Ok-Some.event in
     let fed = rw c.in-Ok-Some.field-0-is at c.in-Ok-Some.ensures in
-    let q = subst (λ x. IsTaken x c.args.line.now (Some event) new) at.same fed in
+    let q = subst (λ x. IsLineTaken x c.args.line.now (Some event) new) at.same fed in
     let e = event_with q.event.arrival event in
     let ran = c.in-Ok.ensures (plan_of d) q.event.arrival q.event.read at.network (event_line d c.args.line.now new e q.follows q.event.events) run.roomy in
     event_on see d c.args.line.now new c.happen.new.world said c.args.out.now.items c.happen.new.out.items e q.follows q.event.events run ran
@@ -31,7 +31,7 @@ returns-in-Err-Crowded g c = λ d said at run.
     let new = g.C.LinesBefore.lines c.feed.new.self in
     let event = c.in-Ok-Some.event in
     let fed = rw c.in-Ok-Some.field-0-is at c.in-Ok-Some.ensures in
-    let q = subst (λ x. IsTaken x c.args.line.now (Some event) new) at.same fed in
+    let q = subst (λ x. IsLineTaken x c.args.line.now (Some event) new) at.same fed in
     let e = event_with q.event.arrival event in
     let happened = rw c.in-Err-Crowded.field-0-is at (c.in-Err-Crowded.ensures (plan_of d) q.event.arrival q.event.read at.network (event_line d c.args.line.now new e q.follows q.event.events) run.roomy) in
     (event_crowds see d c.args.line.now new c.happen.new.world c.args.out.now.items c.happen.new.out.items e q.follows q.event.events happened, tt)
