@@ -46,6 +46,7 @@ pub fn show_messages<S: Source, K: Sink>(
 }
 
 // Reads messages, and writes what is shown of them.
+#[tactic(auto, using(script_demand::proofs::Answering::can_take_all))]
 fn write_shown<S: Source, K: Sink>(
     alloc: Global,
     source: &mut S,

@@ -1,11 +1,12 @@
 -- How tasks end that take all of their input before they write.
-use Rattle.std.proofs.Common.{◌≡◌, ℕ, List, [], ◌++◌, Option, None, Some, take, refl, sym, ap, ◌∙◌, append-nil}
+use Rattle.std.proofs.Common.{◌≡◌, ℕ, ◌≤◌, List, [], ◌++◌, Option, None, Some, take, refl, sym, ap, ◌∙◌, append-nil, arith}
 use Rattle.std.specs.Io.KnownBytes.{Appends, Consumes, IsAtEnd}
+use Rattle.byte_streams.specs.Reading.{most_bytes}
 use Rattle.network_run.specs.Advised.{IsAdvised}
 use Rattle.network_run.specs.declared.ending.Ending.{Ending}
 use Rattle.network_run.specs.declared.ending.Ending.TheVariants.{Done, BadLine, ReadFault, WriteFault, NoMemory, Crowded, TooLong}
 use Rattle.script_grammar.specs.declared.fault.Fault.{Fault}
-use Rattle.script_demand.specs.Answering.{IsAnsweringOf, IsWrittenOrNot}
+use Rattle.script_demand.specs.Answering.{CanTakeAll, IsAnsweringOf, IsWrittenOrNot}
 
 -- the answer was written, or a prefix of it
 pub written_so : (Answers : List ℕ → List ℕ → Type 0) (IsBad : List ℕ → ℕ → Fault → Type 0) (e : Ending) (bytes text : List ℕ) (before after : Option (List ℕ)) → Answers bytes text → IsWrittenOrNot e
@@ -27,6 +28,16 @@ all_taken (Some xs) None taken bytes took end is = absurd took
 all_taken (Some xs) (Some ys) taken bytes took end is =
     let same : xs ≡ bytes = cc is in
     sym same ∙ took ∙ ap (λ zs. taken ++ zs) end ∙ append-nil taken
+
+-- an input that is not too long may have been taken, however the task ended
+pub can_take_all : (e : Ending) (n : ℕ) → n ≤ most_bytes → CanTakeAll e n
+can_take_all Done n few = few
+can_take_all (BadLine number why) n few = few
+can_take_all ReadFault n few = few
+can_take_all WriteFault n few = few
+can_take_all NoMemory n few = omega (arith, few)
+can_take_all Crowded n few = few
+can_take_all TooLong n few = omega (arith, few)
 
 -- no line was bad, and nothing was told
 pub written_quiet : (e : Ending) (bytes advice : List ℕ) → IsWrittenOrNot e → advice ≡ [] → IsAdvised e bytes advice

@@ -28,6 +28,12 @@ AnsweredSo Answers IsBad NoMemory bytes taken text = text ≡ []
 AnsweredSo Answers IsBad TooLong bytes taken text = (length taken ≡ most_bytes + 1) × (text ≡ [])
 AnsweredSo Answers IsBad _ bytes taken text = ⊥
 
+-- so many bytes may have been taken: one more than an input has at most only where it is too long, or memory for them ran out
+abbrev pub CanTakeAll : Ending → ℕ → Type 0
+CanTakeAll TooLong n = n ≤ most_bytes + 1
+CanTakeAll NoMemory n = n ≤ most_bytes + 1
+CanTakeAll _ n = n ≤ most_bytes
+
 -- and the text was written to a sink
 pub record IsAnsweringOf (Answers : List ℕ → List ℕ → Type 0) (IsBad : List ℕ → ℕ → Fault → Type 0) (ending : Ending) (bytes taken : List ℕ) (before after : Option (List ℕ)) : Type 0 where
   pub text : List ℕ
@@ -38,7 +44,7 @@ pub record IsAnsweringOf (Answers : List ℕ → List ℕ → Type 0) (IsBad : L
 pub record IsAnswering (Answers : List ℕ → List ℕ → Type 0) (IsBad : List ℕ → ℕ → Fault → Type 0) (ending : Ending) (old new before after : Option (List ℕ)) : Type 0 where
   pub taken : List ℕ
   pub took : Consumes old new taken
-  pub counted : length taken ≤ most_bytes + 1
+  pub counted : CanTakeAll ending (length taken)
   pub wrote : IsAnsweringOf Answers IsBad ending (all_bytes taken new) taken before after
 
 -- how writing a text ends

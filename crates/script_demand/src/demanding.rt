@@ -29,6 +29,7 @@ use std::alloc::Global;
 ///
 /// Refusals come in this order: `ReadFault` or `TooLong` while the input is read; `BadLine`; `WriteFault`. `NoMemory` may come at
 /// any time before the first byte is written.
+#[tactic(auto, using(crate::proofs::Answering::can_take_all))]
 pub fn write_demand<C: Asks + Drop, S: Source, K: Sink>(
     alloc: Global,
     checker: C,
