@@ -75,8 +75,11 @@ fn scope_of_17(same_from: u8) -> [u8; 72] {
     text
 }
 
-// The fault of the first object, if it has one.
+// The fault of the first object, if it has one. There is none where there are no bytes, or more than a place can count.
 fn fault_of(bytes: &[u8]) -> Option<ObjErr> {
+    if bytes.is_empty() || bytes.len() > 65535 {
+        return None;
+    }
     match next_object(bytes, 0) {
         Ok(_) => None,
         Err(fault) => Some(fault),

@@ -263,6 +263,11 @@ fn source(i: u16) -> u32 {
     0x0a01_0001 + 256 * u32::from(i)
 }
 
+// The address 10.1.i.2 of its router, on their link.
+fn before(i: u16) -> u32 {
+    0x0a01_0002 + 256 * u32::from(i)
+}
+
 // Routers p and q (nodes 0 and 1), hosts s1 to s4 at p (nodes 2 to 5), t1 to t10 at p and t11 to t20 at q (nodes 6 to 25).
 // Link k has the ends 2k of a host and 2k + 1 of its router; the last link is that of p and q.
 fn rooms(alloc: Global) -> Option<Topology> {
@@ -270,7 +275,7 @@ fn rooms(alloc: Global) -> Option<Topology> {
     let mut links = Vec::new(alloc);
     for i in 1..5u16 {
         ends.push((1 + i, source(i))).ok()?;
-        ends.push((0, source(i) + 1)).ok()?;
+        ends.push((0, before(i))).ok()?;
     }
     for j in 1..21u16 {
         let addr = 0x0a02_0001 + 256 * u32::from(j);
