@@ -27,7 +27,8 @@ use Rattle.network_run.specs.declared.ending.Ending.{Ending}
 use Rattle.network_run.specs.declared.ending.Ending.TheVariants as ending
 use Rattle.network_run.proofs.Ended.{ended_at_once}
 use Rattle.network_run.proofs.Spoken.{only_scripts_are_done}
-use Rattle.command_run.specs.Healing.{EndsInItsDemand, HealsItself, IsHealingRun, IsNeverOver, LastReportIsTheDemand, RoundsBringTheDemand}
+use Rattle.report_reading.proofs.Told.{tells_within}
+use Rattle.command_run.specs.Healing.{EndsInItsDemand, HealsItself, IsHealingRun, IsNeverOver, IsToldWithinCapacity, LastReportIsTheDemand, RoundsBringTheDemand}
 use Rattle.command_run.specs.Statuses.{IsReplay, status_of}
 use Rattle.command_run.proofs.Keeps.{refusals_change_nothing}
 use Rattle.command_run.proofs.LastRounds.{before_report, settled, steps}
@@ -113,3 +114,6 @@ last_report (Some bytes) before after run = λ d leads. ends_in_its_demand bytes
 -- ---- memory ran out before anything was read
 pub replayed_nothing : (stands : Draft → Type 0) (left holds : Option (List ℕ)) → IsReplay stands NoMemory left left holds holds
 replayed_nothing stands left holds = (ending.NoMemory, refl, ended_at_once (λ (p : Unit {0}) (d : Draft). Unit {0}) stands left holds)
+
+pub told_nothing : (holds : Option (List ℕ)) → IsToldWithinCapacity holds holds
+told_nothing holds = tells_within (λ d. Unit {0}) ending.NoMemory None None holds holds (ended_at_once (λ (p : Unit {0}) (d : Draft). Unit {0}) (λ d. Unit {0}) None holds)

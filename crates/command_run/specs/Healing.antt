@@ -15,6 +15,7 @@ use Rattle.script_grammar.specs.Grammar.{IsScript}
 use Rattle.seed_laws.specs.SettleReports.Demands.{AppendsTheDemand, moment}
 use Rattle.seed_laws.specs.SettleReports.Writing.{OnlyWrite}
 use Rattle.run_laws.specs.Books.{AreBooksWithinCapacity}
+use Rattle.report_reading.specs.Reading.{TellsWithinCapacity}
 use Rattle.command_run.specs.Keeping.{RefusalsChangeNothing}
 
 -- self-stabilisation: each report at a settled moment, or behind steps that only write after one, where the demands of that moment
@@ -27,6 +28,10 @@ SettlesToTheDemand p =
 -- safety: in the first world and in that after each step no book passes the capacity of its interface
 abbrev pub IsNeverOver : Plan → Type 0
 IsNeverOver p = Visited (machine p.quarter) AreBooksWithinCapacity (steps_of_run p) (first_world p)
+
+-- and the text tells so: no whole line of what was appended says of an end that it holds more than its capacity
+abbrev pub IsToldWithinCapacity : Option (List ℕ) → Option (List ℕ) → Type 0
+IsToldWithinCapacity before after = (text : List ℕ) × Appends before after text × TellsWithinCapacity text
 
 -- a plan heals itself, and no refusal changes a reservation
 pub record HealsItself (p : Plan) : Type 0 where

@@ -16,7 +16,7 @@ ghost use Rattle.command_run.specs.Advised.{IsAdvised, IsShowAdvised};
 ghost use Rattle.grown_player.specs.Endings.{GrowsTo};
 ghost use Rattle.command_run.specs.Demanding.{IsDemand};
 ghost use Rattle.command_run.specs.Growing.{EndsAsDemanded, IsGrowth};
-ghost use Rattle.command_run.specs.Healing.{EndsInItsDemand, IsHealingRun, IsNeverOver};
+ghost use Rattle.command_run.specs.Healing.{EndsInItsDemand, IsHealingRun, IsNeverOver, IsToldWithinCapacity};
 ghost use Rattle.command_run.specs.Keeping.{BlockadePromises, RefusalsChangeNothing};
 ghost use Rattle.command_run.specs.Showing.{IsShowing, ShowsTo};
 ghost use Rattle.command_run.specs.Statuses.{IsOrNoMemory, IsReplay, status_of};
@@ -47,7 +47,7 @@ use std::alloc::Global;
 ///
 /// `Usage` comes first: the words are no command, and nothing is read or written. How a replay ends is said at `replay`, how the
 /// demand of a script ends at `demand`, how showing ends at `show_messages`, and how growing ends at `grow`.
-#[tactic(auto, using(crate::proofs::Replays::never_over, crate::proofs::Keeps::refusals_of, crate::proofs::Keeps::blockades_of, crate::proofs::Replays::replayed_nothing, crate::proofs::Nothing::demanded_nothing, crate::proofs::Nothing::shown_nothing, crate::proofs::Grown::grown_nothing))]
+#[tactic(auto, using(crate::proofs::Replays::never_over, crate::proofs::Keeps::refusals_of, crate::proofs::Keeps::blockades_of, crate::proofs::Replays::replayed_nothing, crate::proofs::Replays::told_nothing, crate::proofs::Nothing::demanded_nothing, crate::proofs::Nothing::shown_nothing, crate::proofs::Grown::grown_nothing))]
 pub fn run_command<C: Asks + Drop, R: Opens, S: Source, K: Sink, W: Watch>(
     alloc: Global,
     words: &Vec<String>,
@@ -87,7 +87,10 @@ pub fn run_command<C: Asks + Drop, R: Opens, S: Source, K: Sink, W: Watch>(
     ensures as_demanded { (seed : ℕ) → task_of (map string_bytes words.now.items) ≡ Some (task.Grow seed) → result ≡ Status.Done → EndsAsDemanded seed (K.holds sink.old) (K.holds sink.new) }
     // No book passes its capacity, at any step of the run of a script.
     ensures within_capacity { IfSome (S.left source.old) (λ bytes. (p : Plan) → IsScript bytes p → IsNeverOver p) }
-    // At each of them no refusal changes a reservation, and blockades keep their promises.
+    // The text of a replay tells so, however it ends: a whole line of it that reads as the head of a report has a sum of at most the
+    // capacity.
+    ensures told_within_capacity { task_of (map string_bytes words.now.items) ≡ Some task.Replay → IsToldWithinCapacity (K.holds sink.old) (K.holds sink.new) }
+    // At each step no refusal changes a reservation, and blockades keep their promises.
     ensures refusals { IfSome (S.left source.old) (λ bytes. (p : Plan) → IsScript bytes p → RefusalsChangeNothing p) }
     ensures blockades { IfSome (S.left source.old) (λ bytes. (p : Plan) → IsScript bytes p → BlockadePromises p) }
     // Nothing else ends a run over known input and devices that do not fail.

@@ -8,7 +8,7 @@ ghost use Rattle.script_grammar.specs.Draft.{Draft, nothing, plan_of};
 ghost use Rattle.script_grammar.specs.Grammar.{Leads};
 ghost use Rattle.script_words.specs.Lines.{text_lines};
 ghost use Rattle.script_player.specs.Standing.{IsNetworkOf};
-ghost use Rattle.command_run.specs.Healing.{EndsInItsDemand, IsHealingRun};
+ghost use Rattle.command_run.specs.Healing.{EndsInItsDemand, IsHealingRun, IsToldWithinCapacity};
 ghost use Rattle.command_run.specs.Advised.{IsAdvised};
 ghost use Rattle.command_run.specs.Statuses.{IsOrNoMemory, IsReplay, status_of};
 
@@ -62,6 +62,8 @@ pub fn replay<C: Checks + Drop, R: Opens, S: Source, K: Sink, W: Watch>(
     ensures complete { (bytes text : List ℕ) (wanted : AnEnding) → S.left source.old ≡ Some bytes → length bytes ≤ most_bytes → ComesTo wanted bytes text
         → (Rose (S.faults source.old) (S.faults source.new) → ⊥) → (Rose (K.faults sink.old) (K.faults sink.new) → ⊥) → IsOrNoMemory (status_of wanted) result }
     ensures healed { result ≡ Status.Done → IfSome (S.left source.old) (λ bytes. IsHealingRun bytes (K.holds sink.old) (K.holds sink.new)) }
+    // However it ended, no whole line that was written says of an end that it holds more than its capacity.
+    ensures told_within_capacity { IsToldWithinCapacity (K.holds sink.old) (K.holds sink.new) }
     ensures last_report { result ≡ Status.Done → IfSome (S.left source.old) (λ bytes. (d : Draft) → Leads nothing (text_lines bytes) d → EndsInItsDemand d (K.holds sink.old) (K.holds sink.new)) }
 {
     let ending = run_script::<C, R, S, K, W>(alloc, checker, source, sink, watch, last, advice);

@@ -1,6 +1,7 @@
 use Rattle.std.proofs.Common.{sym, subst, ◌∙◌}
 use Rattle.script_grammar.specs.Draft.{plan_of}
 use Rattle.script_player.specs.Standing.{IsNetworkOf}
+use Rattle.report_reading.proofs.Told.{tells_within}
 use Rattle.command_run.specs.Advised.{IsAdvised}
 use Rattle.command_run.proofs.Advising.{advised_so}
 use Rattle.command_run.proofs.Replays.{healed_run, last_report}
@@ -21,3 +22,8 @@ pub returns-clause-advised : goal.returns-clause-advised
 returns-clause-advised g c = λ bytes known.
     let told = advised_so c.run_script-ending.result bytes c.run_script-ending.new.advice.items (c.run_script-ending.ensures.advised bytes known) in
     subst (λ s. IsAdvised s bytes c.run_script-ending.new.advice.items) (sym c.status_of.ensures) told
+
+pub returns-clause-told_within_capacity : goal.returns-clause-told_within_capacity
+returns-clause-told_within_capacity g c =
+    tells_within (λ d. IsNetworkOf g.R.Router.seen c.run_script-ending.new.last (plan_of d)) c.run_script-ending.result (g.S.Source.left c.args.source.now) (g.S.Source.left c.run_script-ending.new.source) (g.K.Sink.holds c.args.sink.now)
+    (g.K.Sink.holds c.run_script-ending.new.sink) c.run_script-ending.ensures.run
