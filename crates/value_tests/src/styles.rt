@@ -154,11 +154,16 @@ fn joins_and_meets<S: Style>(one: &Part, other: &Part, joined: Flow, met: Flow) 
     }
 }
 
-// The flow that is left of a part for these senders, and how many of them are left.
-fn left_for(one: &Part, ports: &[u16]) -> Option<(Flow, usize)> {
-    let names = part(ports, one.flow)?;
-    let left = cut(one, &names.senders)?;
-    Some((left.flow, left.senders.len()))
+// Whether a part that is cut to the senders of some ports is left with those of others and this flow, or with nothing where there
+// are none.
+fn leaves(one: &Part, ports: &[u16], kept: &[u16], flow: Flow) -> bool {
+    let Some(names) = part(ports, flow) else {
+        return false;
+    };
+    match cut(one, &names.senders) {
+        Some(left) => is_part(&left, kept, flow),
+        None => kept.is_empty(),
+    }
 }
 
 #[test]
@@ -182,7 +187,7 @@ fn a_part_is_charged_its_rate_and_cut_to_senders_of_its_own(rt: HostRuntime) -> 
     let deep = flow(9, 20, 1, 1500).ok_or("deep")?;
     let one = part(&[1, 2], deep).ok_or("one")?;
     assert!(rt; charge(&one) == 9);
-    assert!(rt; left_for(&one, &[2, 7]) == Some((deep, 1)) && left_for(&one, &[7, 8]) == None);
+    assert!(rt; leaves(&one, &[2, 7], &[2], deep) && leaves(&one, &[7, 8], &[], deep));
     Ok(())
 }
 
