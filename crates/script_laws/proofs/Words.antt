@@ -17,7 +17,7 @@ use Rattle.script_words.specs.declared.raw.SenderWord.{SenderWord}
 use Rattle.script_words.specs.Steps.{◌>>=◌, each_of}
 use Rattle.script_words.specs.Words.{words_of}
 use Rattle.script_words.specs.Numbers.{number_of}
-use Rattle.script_words.specs.Names.{name_of}
+use Rattle.script_words.specs.Names.{is_name, name_of}
 use Rattle.script_words.specs.Addresses.{quad_of, quads_of}
 use Rattle.script_words.specs.Parts.{parts_of}
 use Rattle.script_words.specs.Sessions.{session_of, sender_of, senders_of}
@@ -41,6 +41,7 @@ IsWantForm Fixed xs = 0 < length xs
 IsWantForm Shared xs = 0 < length xs
 
 abbrev pub Formed : ScriptLine → Type 0
+Formed (line.End l) = is_name l.name ≡ true
 Formed (line.Link names) = (2 ≤ length names) × (length names ≤ 8)
 Formed (line.StaleResv l) = IsResvForm l.style l.senders
 Formed (line.Want l) = IsWantForm l.style l.senders
@@ -73,6 +74,13 @@ as_many {W} {X} read (w ∷ ws) xs e =
     let a = opened (read w) (λ x. each_of read ws >>= λ ys. Some (x ∷ ys)) xs e in
     let b = opened (each_of read ws) (λ ys. Some (a.0 ∷ ys)) xs a.2 in
     ap length (sym (the_same (a.0 ∷ b.0) xs b.2)) ∙ ap suc (as_many read ws b.0 b.1)
+
+a_name : (word name : List ℕ) → name_of word ≡ Some name → is_name name ≡ true
+a_name word name e = by (is_name word) refl e
+  where
+    by : (b : Bool) → is_name word ≡ b → cond b (Some word) None ≡ Some name → is_name name ≡ true
+    by true is e = let same : word ≡ name = cc in sym (ap is_name same) ∙ is
+    by false is e = absurd (cc)
 
 -- ---- lists of senders
 some_senders : (word : List ℕ) (xs : List SenderWord) → senders_of word ≡ Some xs → 0 < length xs
@@ -125,7 +133,7 @@ node_good _ = tt
 end_good : (ws : List (List ℕ)) → Good (end_line ws)
 unfolding end_line
 end_good (name ∷ node ∷ addr ∷ capacity ∷ mtu ∷ []) =
-    on_read (name_of name) _ (λ n _. on_read (name_of node) _ (λ m _. on_read (quad_of addr) _ (λ a _. on_read (number_of capacity) _ (λ c _. on_read (number_of mtu) _ (λ u _. tt)))))
+    on_read (name_of name) _ (λ n named. on_read (name_of node) _ (λ m _. on_read (quad_of addr) _ (λ a _. on_read (number_of capacity) _ (λ c _. on_read (number_of mtu) _ (λ u _. a_name name n named)))))
 end_good _ = tt
 
 link_good : (ws : List (List ℕ)) → Good (link_line ws)
