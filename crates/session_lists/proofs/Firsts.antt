@@ -1,5 +1,5 @@
 -- Rows in order: the first row of a session, and those before a key.
-use Rattle.std.proofs.Common.{◌≡◌, ◌<◌, ◌+◌, ℕ, zero, suc, true, false, cond, T, List, [], ◌∷◌, length, get_or, map as each, Option, Some, None, refl, sym, ap, ◌∙◌, arith, inl, inr}
+use Rattle.std.proofs.Common.{◌≡◌, ◌<◌, ◌+◌, ℕ, zero, suc, true, false, cond, T, List, [], ◌∷◌, map as each, Option, Some, None, refl, sym, ap, ◌∙◌, arith, inl, inr}
 use Rattle.std.specs.Prelude.{slice_get}
 use Rattle.std.specs.Option.{option_map}
 use Rattle.std.specs.Ordering.{eq_by_cmp, is_eq, is_lt, ordering_then, ordering_reverse}
@@ -7,17 +7,16 @@ use Rattle.std.specs.declared.cmp.Ordering.{Ordering}
 use Rattle.std.specs.declared.cmp.Ordering.TheVariants.{Less, Equal, Greater}
 use Rattle.std.specs.FinMap.Entries.{find, where_key, below_all, is_sorted}
 use Rattle.std.proofs.lemmas.Bool.{cases_eq}
-use Rattle.std.proofs.lemmas.Option.{slice_get_within, get_or_from_slice_get}
+use Rattle.std.proofs.lemmas.Option.{slice_get_within}
 use Rattle.rsvp_base.specs.Keys.{Keys, pairs}
 use Rattle.rsvp_base.specs.Orders.{sessions}
-use Rattle.rsvp_base.specs.Table.{first, second, passes}
+use Rattle.rsvp_base.specs.Table.{first, second}
 use Rattle.rsvp_base.specs.Under.{rows_under}
 use Rattle.rsvp_base.specs.declared.session.Session.{Session}
 use Rattle.rsvp_base.proofs.Tables.{either, tied_same, tied_self}
-use Rattle.rsvp_base.proofs.Places.{greater}
 use Rattle.session_lists.specs.declared.heads.Head.{Head}
 use Rattle.session_lists.specs.Lists.{AreLists, IsStart, IsPlace, row_keys, first_of, head_row, rows_of}
-use Rattle.session_lists.proofs.Held.{AreFull, nothing_at, nothing_past, row_at, row_back, no_row}
+use Rattle.session_lists.proofs.Held.{AreFull, row_at, row_back, no_row}
 
 pub then_less : (w v : Ordering) → ordering_then w v ≡ Less → is_eq w ≡ false → w ≡ Less
 then_less Less v e ne = refl
@@ -118,7 +117,7 @@ head_found (h ∷ hs) s f e =
     let rest = head_found hs s f (sym skip ∙ e) in
     (suc rest.0, rest.1, rest.2, rest.3))
 
-head_leads : (heads : List Head) (k : ℕ) (h : Head) → T (is_sorted sessions.cmp (each head_row heads)) → slice_get heads k ≡ Some h → find sessions.cmp h.session (each head_row heads) ≡ Some h.first
+pub head_leads : (heads : List Head) (k : ℕ) (h : Head) → T (is_sorted sessions.cmp (each head_row heads)) → slice_get heads k ≡ Some h → find sessions.cmp h.session (each head_row heads) ≡ Some h.first
 head_leads [] k h up at = cc
 head_leads (g ∷ gs) zero h up at =
     let is : g ≡ h = cc in
@@ -135,50 +134,20 @@ head_leads (g ∷ gs) (suc k) h up at =
 
 module _ {R : Type 0} (rests : Keys R) (keys : List (Option (Session × R))) (slots : List ℕ) (heads : List Head) (a : AreLists rests keys slots heads) where
   -- the head of a row's session
-  head_of_row : (j : ℕ) (e : (Session × R) × ℕ) → slice_get (rows_of keys slots) j ≡ Some e → (m : ℕ) × (h : Head) × (slice_get heads m ≡ Some h) × (h.session ≡ e.0.0)
+  pub head_of_row : (j : ℕ) (e : (Session × R) × ℕ) → slice_get (rows_of keys slots) j ≡ Some e → (m : ℕ) × (h : Head) × (slice_get heads m ≡ Some h) × (h.session ≡ e.0.0)
   head_of_row j e at = let f = some_first rests (rows_of keys slots) j e at in head_found heads e.0.0 f.0 (a.firsts e.0.0 ∙ f.1)
 
-  -- a walk can begin at the first row of all
-  pub start_first : (key : Session × R) → IsStart rests keys slots key (option_map (λ (h : Head). h.first) (slice_get heads 0))
-  start_first key = by (slice_get heads 0) refl
-    where
-      by : (w : Option Head) → slice_get heads 0 ≡ w → IsStart rests keys slots key (option_map (λ (h : Head). h.first) w)
-      by None none = record {
-        place = length slots;
-        within = omega arith;
-        is = nothing_at slots (length slots) (omega arith);
-        before = λ j e lt at.
-            let h = head_of_row j e at in
-            absurd (omega (arith, nothing_past heads 0 none, slice_get_within heads h.0 h.1 h.2));
+  -- a walk can begin at the first row of the key's session
+  pub start_own : (s : Session) (r : R) (f : ℕ) → find sessions.cmp s (each head_row heads) ≡ Some f → IsStart rests keys slots (s, r) (Some f)
+  start_own s r f led =
+      let i = first_found rests (rows_of keys slots) a.sorted s f (sym (a.firsts s) ∙ led) in
+      let back = row_back keys slots i.place ((s, i.rest), f) a.full i.is in
+      record {
+        place = i.place;
+        within = let lt = slice_get_within slots i.place f back.0 in omega (arith, lt);
+        is = back.0;
+        before = λ j e lt at. ap (λ z. ordering_then z (rests.cmp e.0.1 r)) (i.before j e lt at);
       }
-      by (Some g) is =
-          let f = first_found rests (rows_of keys slots) a.sorted g.session g.first (sym (a.firsts g.session) ∙ head_leads heads 0 g (passes _ a.rising) is) in
-          let back = row_back keys slots f.place ((g.session, f.rest), g.first) a.full f.is in
-          record {
-            place = f.place;
-            within = let lt = slice_get_within slots f.place g.first back.0 in omega (arith, lt);
-            is = back.0;
-            before = λ j e lt at.
-                let h = head_of_row j e at in
-                absurd (not_below h.0 h.1 h.2 (ap (λ z. sessions.cmp z g.session) h.3 ∙ f.before j e lt at));
-          }
-        where
-          not_below : (m : ℕ) (h : Head) → slice_get heads m ≡ Some h → sessions.cmp h.session g.session ≡ Less → ⊥
-          not_below m h at lt =
-              elim (cases_eq m 0) [
-                | inl e ↦
-                    let both : Some h ≡ Some g = sym at ∙ ap (slice_get heads) e ∙ is in
-                    let same : h ≡ g = cc in
-                    let tie = tied_self sessions g.session in
-                    let z : true ≡ false = sym tie ∙ ap is_eq (ap (λ (x : Head). sessions.cmp x.session g.session) (sym same) ∙ lt) in
-                    cc
-                | inr ne ↦
-                    let up : sessions.cmp (get_or heads 0 g).session (get_or heads m g).session ≡ Less = greater sessions head_row heads (passes _ a.rising) 0 m g (omega (arith, ne)) (slice_get_within heads m h at) in
-                    let over : sessions.cmp g.session h.session ≡ Less = ap (λ (x : Head). sessions.cmp x.session h.session) (sym (get_or_from_slice_get heads 0 g g is)) ∙ ap (λ (x : Head). sessions.cmp (get_or heads 0 g).session x.session) (sym (get_or_from_slice_get heads m h g at)) ∙ up in
-                    let tie = sessions.total.trans h.session g.session h.session lt over in
-                    let z : true ≡ false = sym (tied_self sessions h.session) ∙ ap is_eq tie in
-                    cc
-              ]
 
 module _ {R : Type 0} (rests : Keys R) (keys : List (Option (Session × R))) (slots : List ℕ) (full : AreFull keys slots) where
   -- ---- a walk

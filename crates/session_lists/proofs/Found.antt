@@ -1,6 +1,7 @@
 -- What a search for a key finds: its row, or the place of one.
-use Rattle.std.proofs.Common.{◌≡◌, ◌<◌, ◌≤◌, ℕ, zero, suc, true, false, T, List, [], ◌∷◌, length, get_or, Option, Some, None, refl, sym, ap, subst, ◌∙◌, arith, inl, inr}
+use Rattle.std.proofs.Common.{◌≡◌, ◌<◌, ◌≤◌, ℕ, zero, suc, true, false, cond, T, List, [], ◌∷◌, length, get_or, Option, Some, None, refl, sym, ap, subst, ◌∙◌, arith, inl, inr}
 use Rattle.std.specs.Prelude.{slice_get, Ok, Err}
+use Rattle.std.specs.Cmp.{tied_itself}
 use Rattle.std.specs.Ordering.{eq_by_cmp, is_eq, ordering_reverse}
 use Rattle.std.specs.declared.cmp.Ordering.{Ordering}
 use Rattle.std.specs.declared.cmp.Ordering.TheVariants.{Less, Equal, Greater}
@@ -13,9 +14,9 @@ use Rattle.rsvp_base.specs.Table.{passes}
 use Rattle.rsvp_base.specs.declared.session.Session.{Session}
 use Rattle.rsvp_base.proofs.Places.{greater}
 use Rattle.rsvp_base.proofs.Rows.{searched_found, searched_absent, each_itself}
-use Rattle.rsvp_base.proofs.Tables.{holds, tied_same}
+use Rattle.rsvp_base.proofs.Tables.{either, holds, tied_same}
 use Rattle.session_lists.specs.Lists.{IsPlace, IsRow, IsGap, row_keys, rows_of, itself}
-use Rattle.session_lists.proofs.Held.{AreFull, length_rows, row_at, nothing_past}
+use Rattle.session_lists.proofs.Held.{AreFull, length_rows, row_at, row_back, nothing_past}
 
 some_at : {A : Type 0} (xs : List A) (i : ℕ) (d : A) → i < length xs → slice_get xs i ≡ Some (get_or xs i d)
 some_at [] i d lt = absurd (omega (arith, lt))
@@ -52,6 +53,17 @@ module _ {K : Type 0} (o : Keys K) (es : List (K × ℕ)) (up : T (is_sorted o.c
     ],
   ))
 
+found_in : {K : Type 0} (o : Keys K) (k : K) (es : List (K × ℕ)) (s : ℕ) → find o.cmp k es ≡ Some s → (j : ℕ) × (slice_get es j ≡ Some (k, s))
+found_in o k [] s is = cc
+found_in {K} o k (e ∷ es) s is =
+    either (eq_by_cmp o.cmp k e.0) {C = (j : ℕ) × (slice_get (e ∷ es) j ≡ Some (k, s))}
+    (λ t.
+    let same : k ≡ e.0 = tied_same o k e.0 t in
+    let both : Some e.1 ≡ Some s = sym (ap (λ b. cond b (Some e.1) (find o.cmp k es)) t) ∙ is in
+    let slot : e.1 ≡ s = cc in
+    (0, λ i. Some (sym same i, slot i)))
+    (λ n. let rest = found_in o k es s (sym (ap (λ b. cond b (Some e.1) (find o.cmp k es)) n) ∙ is) in (suc rest.0, rest.1))
+
 module _ {R : Type 0} (rests : Keys R) (keys : List (Option (Session × R))) (slots : List ℕ) (full : AreFull keys slots) (up : T (is_sorted (row_keys rests).cmp (rows_of keys slots))) (key : Session × R) where
   pub is_row : (s : ℕ) (k : Session × R) (w : IsPlace rests keys slots key (Some s)) → slice_get keys s ≡ Some (Some k) → eq_by_cmp (row_keys rests).cmp k key ≡ true → IsRow rests keys slots key s
   is_row s k w k_is tie =
@@ -80,6 +92,18 @@ module _ {R : Type 0} (rests : Keys R) (keys : List (Option (Session × R))) (sl
         place = w;
         lacks = absent_at (row_keys rests) (rows_of keys slots) up key w.start.place (omega (arith, w.start.within, length_rows keys slots full)) w.start.before
             (λ e at. absurd (omega (arith, slice_get_within (rows_of keys slots) w.start.place e at, length_rows keys slots full, nothing_past slots w.start.place w.start.is)));
+      }
+
+  -- the row that the key leads to
+  pub found_row : (s : ℕ) → find (row_keys rests).cmp key (rows_of keys slots) ≡ Some s → IsRow rests keys slots key s
+  found_row s is =
+      let at = found_in (row_keys rests) key (rows_of keys slots) s is in
+      let back = row_back keys slots at.0 (key, s) full at.1 in
+      record {
+        place = at.0;
+        is = back.0;
+        key = back.1;
+        has = found_at (row_keys rests) (rows_of keys slots) up key at.0 (key, s) at.1 (tied_itself (row_keys rests).total key);
       }
 
 module _ {R : Type 0} (rests : Keys R) (keys : List (Option (Session × R))) (slots : List ℕ) (full : AreFull keys slots) (key : Session × R) where

@@ -210,7 +210,3 @@ module _ {R : Type 0} (rests : Keys R) (keys : List (Option (Session × R))) (sl
               ap (find sessions.cmp q) is ∙ ap (λ o. find sessions.cmp q (cond (is_first slot o) (led s behind (each head_row heads)) (each head_row heads))) (a.firsts s)
               ∙ heads_gone q ∙ ap (first_of rests q) (sym rows_gone);
         }
-
--- no row to take out
-pub none_gone : {R : Type 0} (rests : Keys R) (rows : List ((Session × R) × ℕ)) (key : Session × R) → T (is_sorted (row_keys rests).cmp rows) → find (row_keys rests).cmp key rows ≡ None → where_key (row_keys rests).cmp (λ k. not (eq_by_cmp (row_keys rests).cmp key k)) rows ≡ rows
-none_gone rests rows key up none = ap (λ t. t.rows) (without_absent (row_keys rests) (record { rows = rows; sorted = up }) key none)

@@ -15,6 +15,8 @@ use Rattle.rsvp_base.specs.declared.session.Session.{Session}
 use Rattle.session_lists.specs.Ring.{Has}
 use Rattle.session_lists.specs.declared.heads.Head.{Head}
 use Rattle.session_lists.specs.declared.lists.Gap.{Gap}
+use Rattle.session_lists.specs.declared.lists.Walked.{Walked}
+use Rattle.session_lists.specs.declared.lists.Walked.TheVariants.{Row, Gap as GapAt, Far}
 
 -- the rows in the order of their keys, each with its slot; and how many slots there are
 pub record Rows (R : Type 0) : Type 0 where
@@ -85,9 +87,9 @@ pub record IsStart {R : Type 0} (rests : Keys R) (keys : List (Option (Session �
 abbrev pub IsUpTo : {R : Type 0} → Keys R → List (Option (Session × R)) → Session × R → ℕ → Type 0
 IsUpTo {R} rests keys k s = (q : Session × R) × (slice_get keys s ≡ Some (Some q)) × (is_gt ((row_keys rests).cmp q k) ≡ false)
 
--- such a slot, or the first
-abbrev pub IsFrom : {R : Type 0} → Keys R → List (Option (Session × R)) → Session × R → Option ℕ → Option ℕ → Type 0
-IsFrom rests keys k first at = (at ≡ first) ⊎ (s : ℕ) × (at ≡ Some s) × IsUpTo rests keys k s
+-- such a slot, or the one that a walk has come to
+abbrev pub IsFrom : {R : Type 0} → Keys R → List (Option (Session × R)) → Session × R → ℕ → ℕ → Type 0
+IsFrom rests keys k slot at = (at ≡ slot) ⊎ IsUpTo rests keys k at
 
 -- the slot of the first row that is not before a key, or none
 pub record IsPlace {R : Type 0} (rests : Keys R) (keys : List (Option (Session × R))) (slots : List ℕ) (k : Session × R) (at : Option ℕ) : Type 0 where
@@ -108,6 +110,12 @@ pub record IsRow {R : Type 0} (rests : Keys R) (keys : List (Option (Session × 
 pub record IsGap {R : Type 0} (rests : Keys R) (keys : List (Option (Session × R))) (slots : List ℕ) (k : Session × R) (at : Option ℕ) : Type 0 where
   pub place : IsPlace rests keys slots k at
   pub lacks : LacksRowAt (row_keys rests) itself (rows_of keys slots) k place.start.place
+
+-- where a walk of so many steps has come
+abbrev pub IsWalked : {R : Type 0} → Keys R → List (Option (Session × R)) → List ℕ → Session × R → ℕ → Walked → Type 0
+IsWalked rests keys slots k steps (Row s) = IsRow rests keys slots k s
+IsWalked rests keys slots k steps (GapAt g) = IsGap rests keys slots k g.behind
+IsWalked rests keys slots k steps (Far s) = (w : IsStart rests keys slots k (Some s)) × (steps ≤ w.place)
 
 -- the same, as contracts see it
 pub record IsGapIn {R : Type 0} (rests : Keys R) (rows : List ((Session × R) × ℕ)) (k : Session × R) (gap : Gap) : Type 0 where

@@ -17,22 +17,13 @@ pub(crate) struct Head {
 }
 
 // Where the session's head stands, or where it would go.
+#[inline(always)]
 pub(crate) fn search(heads: &[Head], session: Session) -> Result<usize, usize>
     requires { AreRows sessions head_row heads.now }
     ensures there { IfOk result (HasRowAt sessions head_row heads.now session) }
     ensures absent { IfErr result (LacksRowAt sessions head_row heads.now session) }
 {
     heads.binary_search_by(|head| head.session.cmp(&session))
-}
-
-// The first row of all.
-pub(crate) fn first(heads: &[Head]) -> Option<u32>
-    ensures { result ≡ option_map (λ h. h.first) (slice_get heads.now 0) }
-{
-    match heads.first() {
-        Some(head) => Some(head.first),
-        None => None,
-    }
 }
 
 // The slot of the session's first row.
@@ -43,6 +34,21 @@ pub(crate) fn first_in(heads: &[Head], session: Session) -> Option<u32>
     match search(heads, session) {
         Ok(at) => Some(heads[at].first),
         Err(_) => None,
+    }
+}
+
+// The slot of the session's first row. `Err`: it has none, and this is the first row behind the place of its rows.
+pub(crate) fn led_to(heads: &[Head], session: Session) -> Result<u32, Option<u32>>
+    requires { AreRows sessions head_row heads.now }
+    ensures there { IfOk result (λ f. find sessions.cmp session (map head_row heads.now) ≡ Some f) }
+    ensures absent { IfErr result (λ f. (at : ℕ) × LacksRowAt sessions head_row heads.now session at × (f ≡ option_map (λ h. h.first) (slice_get heads.now at))) }
+{
+    match search(heads, session) {
+        Ok(at) => Ok(heads[at].first),
+        Err(at) => match heads.get(at) {
+            Some(head) => Err(Some(head.first)),
+            None => Err(None),
+        },
     }
 }
 

@@ -1,13 +1,13 @@
 //! The lists.
-ghost use Rattle.std.specs.Prelude.{◌≡◌, ◌<◌, ◌≤◌, ◌+◌, ℕ, [], true, not, length, IfOk, IfErr, Option, Some, None, slice_get};
-ghost use Rattle.std.specs.FinMap.Entries.{find, put, where_key};
-ghost use Rattle.std.specs.Ordering.{eq_by_cmp, is_lt, is_gt};
-ghost use Rattle.session_lists.specs.Lists.{AreLists, AreHeld, IsStart, IsPlace, IsRow, IsGap, IsGapIn, IsUpTo, IsFrom, row_keys, first_of, slot_of, rows_behind, sessions_of};
+ghost use Rattle.std.specs.Prelude.{◌≡◌, ◌<◌, ◌≤◌, ◌+◌, ℕ, [], true, not, length, IfOk, IfErr, IfSome, IsTrue, Option, Some, None, slice_get};
+ghost use Rattle.std.specs.FinMap.Entries.{find, put, where_key, is_sorted};
+ghost use Rattle.std.specs.Ordering.{eq_by_cmp, is_gt};
+ghost use Rattle.session_lists.specs.Lists.{AreLists, AreHeld, IsStart, IsWalked, IsRow, IsGap, IsGapIn, IsUpTo, IsFrom, row_keys, rows_of, first_of, slot_of, rows_behind, sessions_of};
 ghost use Rattle.rsvp_base.specs.Orders.{sessions};
 ghost use Rattle.rsvp_base.specs.Table.{keys, size};
 ghost use Rattle.rsvp_base.specs.Under.{rows_under};
 
-use crate::heads::{Head, first, first_in, put_first, take_first};
+use crate::heads::{Head, first_in, led_to, put_first, take_first};
 use crate::marks::{Mark, count_in, count_out, most};
 use crate::order::RestOrder;
 use crate::ring::Ring;
@@ -41,64 +41,77 @@ impl<O: RestOrder> Model for SessionLists<O> {
 }
 
 // How a key stands to another.
+#[inline(always)]
 fn order<O: RestOrder>(key: &(Session, O::Rest), session: Session, rest: &O::Rest) -> Ordering
     ensures { result ≡ (row_keys O.rests).cmp key.now (session, rest.now) }
 {
-    key.0.cmp(&session).then(O::order(&key.1, rest))
-}
-
-// Whether a key is before another.
-fn is_before<O: RestOrder>(key: &(Session, O::Rest), session: Session, rest: &O::Rest) -> bool
-    ensures { result ≡ is_lt ((row_keys O.rests).cmp key.now (session, rest.now)) }
-{
-    order::<O>(key, session, rest).is_lt()
+    match key.0.cmp(&session) {
+        Ordering::Equal => O::order(&key.1, rest),
+        apart => apart,
+    }
 }
 
 // Whether a key is behind another.
+#[inline(always)]
 fn is_behind<O: RestOrder>(key: &(Session, O::Rest), session: Session, rest: &O::Rest) -> bool
     ensures { result ≡ is_gt ((row_keys O.rests).cmp key.now (session, rest.now)) }
 {
     order::<O>(key, session, rest).is_gt()
 }
 
-// Whether two keys are one.
-fn is_key<O: RestOrder>(key: &(Session, O::Rest), session: Session, rest: &O::Rest) -> bool
-    ensures { result ≡ eq_by_cmp (row_keys O.rests).cmp key.now (session, rest.now) }
-{
-    order::<O>(key, session, rest) == Ordering::Equal
+/// Where the row of a key would go that has none.
+#[derive(Clone, Copy, Debug)]
+pub struct Gap {
+    // The row behind it.
+    behind: Option<u32>,
 }
 
-// The slot of the first row that is not before a key, from a slot on.
-fn seek<O: RestOrder>(
+// Where a walk to a key has come.
+#[derive(Clone, Copy)]
+enum Walked {
+    // To the key's row.
+    Row(u32),
+    // To the place where it would go: it has none.
+    Gap(Gap),
+    // To this row, with all steps that it may take. The rows before it are before the key.
+    Far(u32),
+}
+
+// Walks along the rows to a key, so many steps at most. The rows before the one where it begins are before the key.
+fn walk<O: RestOrder>(
     slots: &Ring,
     keys: &[Option<(Session, O::Rest)>],
-    from: Option<u32>,
+    from: u32,
+    steps: usize,
     session: Session,
     rest: &O::Rest,
-) -> Option<u32>
+) -> Walked
     requires full { (i : ℕ) (s : ℕ) → slice_get slots.now.slots i ≡ Some s → (k : Session × O.Rest) × (slice_get keys.now s ≡ Some (Some k)) }
-    requires start { IsStart O.rests keys.now slots.now.slots (session, rest.now) from }
-    ensures { IsPlace O.rests keys.now slots.now.slots (session, rest.now) result }
+    requires sorted { IsTrue (is_sorted (row_keys O.rests).cmp (rows_of keys.now slots.now.slots)) }
+    requires start { IsStart O.rests keys.now slots.now.slots (session, rest.now) (Some from) }
+    ensures { IsWalked O.rests keys.now slots.now.slots (session, rest.now) steps result }
 {
-    let mut at = from;
-    for _step in 0..slots.len() {
-        let Some(slot) = at else {
-            return None;
-        };
+    let mut slot = from;
+    for _step in 0..steps {
         let key = key_at(keys, slot);
-        if !is_before::<O>(&key, session, rest) {
-            return at;
+        match order::<O>(&key, session, rest) {
+            Ordering::Less => {}
+            Ordering::Equal => return Walked::Row(slot),
+            Ordering::Greater => return Walked::Gap(Gap { behind: Some(slot) }),
         }
-        at = slots.after(slot);
+        match slots.after(slot) {
+            Some(next) => slot = next,
+            None => return Walked::Gap(Gap { behind: None }),
+        }
     }
-    at
+    Walked::Far(slot)
 }
 
-// Where the walk to a key begins, and how many marks are not behind the key.
+// How many marks are not behind a key, and the row of the last of them.
 #[derive(Clone, Copy)]
-struct Beginning {
-    at: Option<u32>,
-    passed: usize,
+struct Passed {
+    count: usize,
+    last: Option<u32>,
 }
 
 // Whether a mark is not behind a key. One whose row is gone is taken to be.
@@ -116,48 +129,60 @@ fn is_up_to<O: RestOrder>(
     }
 }
 
-// The last mark that is not behind a key, or where none is the first row.
-fn start<O: RestOrder>(
+// The marks that are not behind a key.
+fn pass_marks<O: RestOrder>(
     keys: &[Option<(Session, O::Rest)>],
     marks: &[Mark],
-    first: Option<u32>,
     session: Session,
     rest: &O::Rest,
-) -> Beginning
-    ensures { IsFrom O.rests keys.now (session, rest.now) first result.at }
+) -> Passed
+    ensures { IfSome result.last (λ s. IsUpTo O.rests keys.now (session, rest.now) s) }
 {
-    let mut at = first;
-    let mut passed = 0;
+    let mut last = None;
+    let mut count = 0;
     let mut behind = marks.len();
-    while passed < behind {
-        let middle = passed + (behind - passed) / 2;
+    while count < behind {
+        let middle = count + (behind - count) / 2;
         let mark = marks[middle].slot;
         if is_up_to::<O>(keys, mark, session, rest) {
-            at = Some(mark);
-            passed = middle + 1;
+            last = Some(mark);
+            count = middle + 1;
         } else {
             behind = middle;
         }
     }
-    Beginning { at, passed }
+    Passed { count, last }
 }
 
-// The row of a key: its slot, and how many marks are not behind it.
-#[derive(Clone, Copy)]
-struct Row {
+// From where a walk to a key goes on that has come to this row: from the last mark that is not behind the key, where that
+// is further.
+fn further<O: RestOrder>(
+    keys: &[Option<(Session, O::Rest)>],
+    marks: &[Mark],
     slot: u32,
-    passed: usize,
+    session: Session,
+    rest: &O::Rest,
+) -> u32
+    requires { (k : Session × O.Rest) × (slice_get keys.now slot ≡ Some (Some k)) }
+    ensures { IsFrom O.rests keys.now (session, rest.now) slot result }
+{
+    let Some(mark) = pass_marks::<O>(keys, marks, session, rest).last else {
+        return slot;
+    };
+    let marked = key_at(keys, mark);
+    let here = key_at(keys, slot);
+    if is_behind::<O>(&marked, here.0, &here.1) {
+        mark
+    } else {
+        slot
+    }
 }
 
-/// Where the row of a key would go that has none.
-#[derive(Clone, Copy, Debug)]
-pub struct Gap {
-    // The row behind it, and how many marks are before it.
-    behind: Option<u32>,
-    passed: usize,
-}
+// How many rows of a session are passed before marks are asked.
+const NEAR: usize = 8;
 
-// The row of a key. `Err`: it has none.
+// The slot of a key's row. `Err`: it has none. Where its session has none, nothing is walked; else the walk begins at the
+// session's first row.
 fn row_of<O: RestOrder>(
     slots: &Ring,
     keys: &[Option<(Session, O::Rest)>],
@@ -165,31 +190,44 @@ fn row_of<O: RestOrder>(
     marks: &[Mark],
     session: Session,
     rest: &O::Rest,
-) -> Result<Row, Gap>
+) -> Result<u32, Gap>
     requires lists { AreLists O.rests keys.now slots.now.slots heads.now }
     requires held { AreHeld keys.now slots.now.slots }
-    ensures there { IfOk result (λ r. IsRow O.rests keys.now slots.now.slots (session, rest.now) r.slot) }
+    ensures there { IfOk result (λ s. IsRow O.rests keys.now slots.now.slots (session, rest.now) s) }
     ensures absent { IfErr result (λ g. IsGap O.rests keys.now slots.now.slots (session, rest.now) g.behind) }
 {
-    let from = start::<O>(keys, marks, first(heads), session, rest);
-    let at = seek::<O>(slots, keys, from.at, session, rest);
-    let Some(slot) = at else {
-        return Err(Gap {
-            behind: at,
-            passed: from.passed,
-        });
+    let first = match led_to(heads, session) {
+        Ok(first) => first,
+        Err(behind) => return Err(Gap { behind }),
     };
-    let key = key_at(keys, slot);
-    if is_key::<O>(&key, session, rest) {
-        Ok(Row {
-            slot,
-            passed: from.passed,
-        })
-    } else {
-        Err(Gap {
-            behind: at,
-            passed: from.passed,
-        })
+    match walk::<O>(slots, keys, first, NEAR, session, rest) {
+        Walked::Row(slot) => Ok(slot),
+        Walked::Gap(gap) => Err(gap),
+        Walked::Far(slot) => far_row::<O>(slots, keys, marks, slot, session, rest),
+    }
+}
+
+// The same where the walk has come to this row.
+fn far_row<O: RestOrder>(
+    slots: &Ring,
+    keys: &[Option<(Session, O::Rest)>],
+    marks: &[Mark],
+    slot: u32,
+    session: Session,
+    rest: &O::Rest,
+) -> Result<u32, Gap>
+    requires full { (i : ℕ) (s : ℕ) → slice_get slots.now.slots i ≡ Some s → (k : Session × O.Rest) × (slice_get keys.now s ≡ Some (Some k)) }
+    requires sorted { IsTrue (is_sorted (row_keys O.rests).cmp (rows_of keys.now slots.now.slots)) }
+    requires held { AreHeld keys.now slots.now.slots }
+    requires start { IsStart O.rests keys.now slots.now.slots (session, rest.now) (Some slot) }
+    ensures there { IfOk result (λ s. IsRow O.rests keys.now slots.now.slots (session, rest.now) s) }
+    ensures absent { IfErr result (λ g. IsGap O.rests keys.now slots.now.slots (session, rest.now) g.behind) }
+{
+    let from = further::<O>(keys, marks, slot, session, rest);
+    match walk::<O>(slots, keys, from, slots.len(), session, rest) {
+        Walked::Row(slot) => Ok(slot),
+        Walked::Gap(gap) => Err(gap),
+        Walked::Far(_) => unreachable!(),
     }
 }
 
@@ -225,7 +263,7 @@ impl<O: RestOrder> SessionLists<O> {
             &rest,
         );
         match row {
-            Ok(row) => Some(row.slot),
+            Ok(slot) => Some(slot),
             Err(_) => None,
         }
     }
@@ -235,35 +273,17 @@ impl<O: RestOrder> SessionLists<O> {
         ensures there { IfOk result (λ s. find (row_keys O.rests).cmp (session, rest) self.now.rows ≡ Some s) }
         ensures absent { IfErr result (λ g. IsGapIn O.rests self.now.rows (session, rest) g) }
     {
-        let row = row_of::<O>(
+        row_of::<O>(
             &self.slots,
             self.keys.as_slice(),
             self.heads.as_slice(),
             self.marks.as_slice(),
             session,
             &rest,
-        );
-        match row {
-            Ok(row) => Ok(row.slot),
-            Err(gap) => Err(gap),
-        }
+        )
     }
 
-    /// Puts the row of a key in, with a slot that has no row yet.
-    pub fn insert(&mut self, session: Session, rest: O::Rest, slot: u32)
-        requires absent { find (row_keys O.rests).cmp (session, rest) self.old.rows ≡ None }
-        requires left { length self.old.rows < self.old.room }
-        requires within { slot < self.old.room }
-        requires new { (i : ℕ) (e : (Session × O.Rest) × ℕ) → slice_get self.old.rows i ≡ Some e → e.1 ≡ slot → ⊥ }
-        ensures { self.new ≡ record { rows = put (row_keys O.rests).cmp (session, rest) slot self.old.rows; room = self.old.room } }
-    {
-        let Err(gap) = self.place(session, rest) else {
-            unreachable!();
-        };
-        self.insert_at(gap, session, rest, slot);
-    }
-
-    /// Puts the row of a key in at its place, with a slot that has no row yet. Nothing is searched.
+    /// Puts the row of a key in at its place, with a slot that has no row yet. No row is walked along.
     pub fn insert_at(&mut self, gap: Gap, session: Session, rest: O::Rest, slot: u32)
         requires gap { IsGapIn O.rests self.old.rows (session, rest) gap }
         requires left { length self.old.rows < self.old.room }
@@ -271,42 +291,31 @@ impl<O: RestOrder> SessionLists<O> {
         requires new { (i : ℕ) (e : (Session × O.Rest) × ℕ) → slice_get self.old.rows i ≡ Some e → e.1 ≡ slot → ⊥ }
         ensures { self.new ≡ record { rows = put (row_keys O.rests).cmp (session, rest) slot self.old.rows; room = self.old.room } }
     {
+        let passed = pass_marks::<O>(self.keys.as_slice(), self.marks.as_slice(), session, &rest);
         put_first(&mut self.heads, session, gap.behind, slot);
         self.slots.insert(slot, gap.behind);
         set_key(&mut self.keys, slot, (session, rest));
         count_in(
             &mut self.marks,
-            gap.passed,
+            passed.count,
             &self.slots,
             self.keys.as_slice(),
             slot,
         );
     }
 
-    /// Takes the row of a key out, and hands back its slot. `None` exactly where it has none; nothing changes then.
-    pub fn remove(&mut self, session: Session, rest: O::Rest) -> Option<u32>
-        ensures was { result ≡ find (row_keys O.rests).cmp (session, rest) self.old.rows }
-        ensures gone { self.new ≡ record { rows = where_key (row_keys O.rests).cmp (λ k. not (eq_by_cmp (row_keys O.rests).cmp (session, rest) k)) self.old.rows; room = self.old.room } }
+    /// Takes the row of a key out, which has this slot. No row is walked along.
+    pub fn remove_at(&mut self, session: Session, rest: O::Rest, slot: u32)
+        requires { find (row_keys O.rests).cmp (session, rest) self.old.rows ≡ Some slot }
+        ensures { self.new ≡ record { rows = where_key (row_keys O.rests).cmp (λ k. not (eq_by_cmp (row_keys O.rests).cmp (session, rest) k)) self.old.rows; room = self.old.room } }
     {
-        let row = row_of::<O>(
-            &self.slots,
-            self.keys.as_slice(),
-            self.heads.as_slice(),
-            self.marks.as_slice(),
-            session,
-            &rest,
-        );
-        let Ok(row) = row else {
-            return None;
-        };
-        let slot = row.slot;
+        let passed = pass_marks::<O>(self.keys.as_slice(), self.marks.as_slice(), session, &rest);
         let next = self.slots.after(slot);
         let behind = of_session(self.keys.as_slice(), next, session);
         take_first(&mut self.heads, session, slot, behind);
-        count_out(&mut self.marks, row.passed, slot, next);
+        count_out(&mut self.marks, passed.count, slot, next);
         self.slots.remove(slot);
         unset_key(&mut self.keys, slot);
-        Some(slot)
     }
 
     /// The slot of a session's first row. `None` exactly where it has none.
@@ -339,7 +348,7 @@ impl<O: RestOrder> SessionLists<O> {
             &rest,
         );
         match row {
-            Ok(row) => of_session(self.keys.as_slice(), self.slots.after(row.slot), session),
+            Ok(slot) => of_session(self.keys.as_slice(), self.slots.after(slot), session),
             Err(gap) => of_session(self.keys.as_slice(), gap.behind, session),
         }
     }

@@ -44,6 +44,7 @@ fn grow(links: &mut Vec<u32>, number: usize)
 }
 
 // The slot of a number.
+#[inline(always)]
 fn slot_of(number: u32) -> Option<u32>
     ensures { result ≡ slot_of number }
 {
@@ -94,6 +95,7 @@ impl Ring {
     }
 
     /// The slot behind one that is put in. `None` exactly where it is the last.
+    #[inline(always)]
     pub(crate) fn after(&self, slot: u32) -> Option<u32>
         requires { Has self.now.slots slot }
         ensures { (i : ℕ) → slice_get self.now.slots i ≡ Some slot → result ≡ slice_get self.now.slots (i + 1) }

@@ -6,6 +6,7 @@ use rsvp_base::Session;
 use std::cmp::Ordering;
 
 /// The key of a slot, where it has a row.
+#[inline(always)]
 pub(crate) fn key_of<R: Copy>(keys: &[Option<(Session, R)>], slot: u32) -> Option<(Session, R)>
     ensures { IfSome result (λ k. slice_get keys.now slot ≡ Some (Some k)) }
 {
@@ -16,6 +17,7 @@ pub(crate) fn key_of<R: Copy>(keys: &[Option<(Session, R)>], slot: u32) -> Optio
 }
 
 /// The key of a slot that has a row.
+#[inline(always)]
 pub(crate) fn key_at<R: Copy>(keys: &[Option<(Session, R)>], slot: u32) -> (Session, R)
     requires { (k : Session × R) × (slice_get keys.now slot ≡ Some (Some k)) }
     ensures { slice_get keys.now slot ≡ Some (Some result) }

@@ -14,6 +14,7 @@ impl<F: Fact> RestOrder for Rests<F> {
 
     ghost rests = { F.rests };
 
+    #[inline(always)]
     fn order(a: &F::Rest, b: &F::Rest) -> Ordering {
         F::order(a, b)
     }

@@ -127,7 +127,7 @@ impl<F: Fact> SoftTable<F> {
         if !self.pool.live(Slot(slot)) {
             return None;
         }
-        self.rows.remove(session, rest);
+        self.rows.remove_at(session, rest, slot);
         Some(self.pool.remove(Slot(slot)))
     }
 
@@ -153,11 +153,11 @@ impl<F: Fact> SoftTable<F> {
         ensures none { IsNone result → self.old.dead ≡ [] }
         ensures unchanged { IsNone result → self.new ≡ self.old }
     {
-        let Some((_, fact)) = self.pool.pull_due() else {
+        let Some((slot, fact)) = self.pool.pull_due() else {
             return None;
         };
         let (own, rest) = fact.key();
-        self.rows.remove(own, rest);
+        self.rows.remove_at(own, rest, slot.0);
         Some(fact)
     }
 

@@ -39,7 +39,7 @@ count_in-requires g c =
     let rests = g.O.RestOrder.rests in
     let gap = gap_of rests s.keys.items s.slots.slots c.self.invariant.0.full (c.args.session, c.args.rest) c.args.gap (subst (λ (v : Rows _). IsGapIn rests v.rows (c.args.session, c.args.rest) c.args.gap) (sym c.self.view_is) c.requires.gap) in
     let into = c.insert.ensures gap.place.start.place gap.place.start.within gap.place.start.is in
-    rw (c.as_slice.ensures.value, into) (held_put s.keys.items c.set_key.new.keys.items s.slots.slots gap.place.start.place c.args.slot gap.place.start.within c.set_key.ensures.same c.self.invariant.3)
+    rw (c.as_slice-3.ensures.value, into) (held_put s.keys.items c.set_key.new.keys.items s.slots.slots gap.place.start.place c.args.slot gap.place.start.within c.set_key.ensures.same c.self.invariant.3)
 
 pub invariant_of-self : goal.invariant_of-self
 invariant_of-self g c =

@@ -11,7 +11,7 @@ use Rattle.soft_table.specs.Index.{value_in, facts_in, dead_in, live_in, due_in,
 use Rattle.soft_table.proofs.Views.{in_order, none_dead}
 use Rattle.soft_table.proofs.Changes.{found_dead, Takes, takes}
 use Rattle.soft_table.proofs.table.SoftTable.pull_dead.Goals as goal
-use Rattle.soft_table.proofs.table.SoftTable.pull_dead.Goals.{After-remove}
+use Rattle.soft_table.proofs.table.SoftTable.pull_dead.Goals.{After-remove_at}
 
 pub returns-in_default-clause-order : goal.returns-in_default-clause-order
 returns-in_default-clause-order g c =
@@ -20,20 +20,25 @@ returns-in_default-clause-order g c =
 pub returns-in_default-clause-none : goal.returns-in_default-clause-none
 returns-in_default-clause-none g c = λ _. ap (λ t. t.dead) (sym c.self.view_is) ∙ none_dead g.F.Fact.rests g.F.Fact.key_of c.self.inside.pool c.self.inside.rows.rows c.self.invariant.0 (c.in_default.ensures.none refl)
 
-taken : (g : _) (c : After-remove g) → Takes g.F.Fact.rests g.F.Fact.key_of c.self.inside.pool c.self.inside.rows.rows c.self.invariant.0 c.key-rest.result c.in-Some.field-0-0.0 c.pull_due.new.self c.remove.new.self.rows
+pub remove_at-requires : goal.remove_at-requires
+remove_at-requires g c =
+    let ix = c.self.invariant.0 in
+    ap (find (fact_keys g.F.Fact.rests).cmp c.key-rest.result) ix.is ∙ ap (get ix.slots) c.key-rest.ensures ∙ ix.linked.finds c.in-Some.slot.0 c.in-Some.fact (ap value_in c.in-Some.ensures.due)
+
+taken : (g : _) (c : After-remove_at g) → Takes g.F.Fact.rests g.F.Fact.key_of c.self.inside.pool c.self.inside.rows.rows c.self.invariant.0 c.key-rest.result c.in-Some.slot.0 c.pull_due.new.self c.remove_at.new.self.rows
 taken g c =
     let slots = c.self.invariant.0.slots in
-    let led_to : get slots c.key-rest.result ≡ Some c.in-Some.field-0-0.0 = ap (get slots) c.key-rest.ensures ∙ c.self.invariant.0.linked.finds c.in-Some.field-0-0.0 c.in-Some.fact (ap value_in c.in-Some.ensures.due) in
-    takes g.F.Fact.rests g.F.Fact.key_of c.self.inside.pool c.self.inside.rows.rows c.self.invariant.0 c.key-rest.result c.in-Some.field-0-0.0 (Due c.in-Some.fact) c.pull_due.new.self c.remove.new.self.rows led_to c.in-Some.ensures.due refl c.in-Some.ensures.freed (ap (λ t. t.rows) c.remove.ensures.gone)
+    let led_to : get slots c.key-rest.result ≡ Some c.in-Some.slot.0 = ap (get slots) c.key-rest.ensures ∙ c.self.invariant.0.linked.finds c.in-Some.slot.0 c.in-Some.fact (ap value_in c.in-Some.ensures.due) in
+    takes g.F.Fact.rests g.F.Fact.key_of c.self.inside.pool c.self.inside.rows.rows c.self.invariant.0 c.key-rest.result c.in-Some.slot.0 (Due c.in-Some.fact) c.pull_due.new.self c.remove_at.new.self.rows led_to c.in-Some.ensures.due refl c.in-Some.ensures.freed (ap (λ t. t.rows) c.remove_at.ensures)
 
 pub invariant_of-self-2 : goal.invariant_of-self-2
-invariant_of-self-2 g c = ((taken g c).index, ap (λ t. t.room) c.remove.ensures.gone ∙ c.self.invariant.1 ∙ sym (ap length c.in-Some.ensures.freed ∙ length-set c.self.inside.pool c.in-Some.field-0-0.0 Free))
+invariant_of-self-2 g c = ((taken g c).index, ap (λ t. t.room) c.remove_at.ensures ∙ c.self.invariant.1 ∙ sym (ap length c.in-Some.ensures.freed ∙ length-set c.self.inside.pool c.in-Some.slot.0 Free))
 
 pub returns-clause-dead : goal.returns-clause-dead
 returns-clause-dead g c =
     let o = fact_keys g.F.Fact.rests in
     let slots = c.self.invariant.0.slots in
-    let led_to : get slots (g.F.Fact.key_of c.in-Some.fact) ≡ Some c.in-Some.field-0-0.0 = c.self.invariant.0.linked.finds c.in-Some.field-0-0.0 c.in-Some.fact (ap value_in c.in-Some.ensures.due) in
+    let led_to : get slots (g.F.Fact.key_of c.in-Some.fact) ≡ Some c.in-Some.slot.0 = c.self.invariant.0.linked.finds c.in-Some.slot.0 c.in-Some.fact (ap value_in c.in-Some.ensures.due) in
     ap (λ t. find o.cmp (g.F.Fact.key_of c.in-Some.fact) (dead_by g.F.Fact.key_of t.dead)) (sym c.self.view_is)
     ∙ found_dead g.F.Fact.rests g.F.Fact.key_of c.self.inside.pool c.self.inside.rows.rows c.self.invariant.0 (g.F.Fact.key_of c.in-Some.fact) ∙ ap (λ w. then_do w (λ s. due_in (slice_get c.self.inside.pool s))) led_to ∙ ap due_in c.in-Some.ensures.due
 
@@ -44,7 +49,7 @@ returns-clause-pulled g c =
     ∙ ap (λ t. where_key o.cmp (λ x. not (eq_by_cmp o.cmp (g.F.Fact.key_of c.in-Some.fact) x)) (dead_by g.F.Fact.key_of t.dead)) c.self.view_is
 
 pub returns-clause-order : goal.returns-clause-order
-returns-clause-order g c = in_order g.F.Fact.rests g.F.Fact.key_of c.pull_due.new.self c.remove.new.self.rows (taken g c).index 0
+returns-clause-order g c = in_order g.F.Fact.rests g.F.Fact.key_of c.pull_due.new.self c.remove_at.new.self.rows (taken g c).index 0
 
 pub returns-clause-facts : goal.returns-clause-facts
 returns-clause-facts g c = (taken g c).no_fact (ap live_in c.in-Some.ensures.due) ∙ ap (λ t. t.facts) c.self.view_is
