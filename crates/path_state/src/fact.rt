@@ -30,6 +30,7 @@ impl Fact for PathFact {
         (self.session, self.sender)
     }
 
+    #[inline(always)]
     fn order(a: &Sender, b: &Sender) -> Ordering {
         a.cmp(b)
     }

@@ -59,12 +59,14 @@ impl Fact for Held {
         )
     }
 
+    #[inline(always)]
     fn order(a: &((u8, Addr), Unit), b: &((u8, Addr), Unit)) -> Ordering {
         rest_order(a, b)
     }
 }
 
 // By next hop, and then by unit.
+#[inline(always)]
 pub(crate) fn rest_order(a: &((u8, Addr), Unit), b: &((u8, Addr), Unit)) -> Ordering
     ensures { result ≡ (pairs next_hops units).cmp a.now b.now }
 {
