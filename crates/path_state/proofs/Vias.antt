@@ -1,5 +1,5 @@
 -- The senders by one interface and hop, a fact more at a time.
-use Rattle.std.proofs.Common.{◌≡◌, ◌<◌, ◌≤◌, ◌+◌, ◌++◌, ◌||◌, ℕ, zero, suc, Bool, true, false, cond, List, [], ◌∷◌, length, map as each, take, Some, refl, sym, ap, ◌∙◌, arith}
+use Rattle.std.proofs.Common.{◌≡◌, ◌<◌, ◌≤◌, ◌+◌, ◌++◌, ◌||◌, ℕ, Bool, true, false, cond, List, [], ◌∷◌, map as each, take, Some, refl, sym, ap, ◌∙◌, arith}
 use Rattle.std.specs.Prelude.{slice_get, if◌then◌else◌}
 use Rattle.std.specs.List.{filter, list_any}
 use Rattle.std.specs.Ordering.{eq_by_cmp}
@@ -72,12 +72,3 @@ via_few i a us k old s lt so_far =
     either (has old s)
     (λ t. let n = size-with_key senders old s ∙ ap (λ b. cond b (size old) (size old + 1)) t in omega (arith, n, many, few, listed, fewer, length-take k us))
     (λ t. let n = size-with_key senders old s ∙ ap (λ b. cond b (size old) (size old + 1)) t in omega (arith, n, many, few, listed, fewer, length-take k us))
-
-pub via_all : (i : ℕ) (a : Addr) (us : List Row) (k : ℕ) (old : Names) → length us ≤ k → old ≡ names_from (senders_by i a (take k us)) → old ≡ names_from (senders_by i a us)
-via_all i a us k old le so_far = so_far ∙ ap (λ es. names_from (senders_by i a es)) (whole us k le)
-  where
-    whole : (xs : List Row) (n : ℕ) → length xs ≤ n → take n xs ≡ xs
-    whole [] zero le = refl
-    whole [] (suc n) le = refl
-    whole (x ∷ xs) zero le = absurd (omega arith)
-    whole (x ∷ xs) (suc n) le = ap (λ zs. x ∷ zs) (whole xs n (omega arith))

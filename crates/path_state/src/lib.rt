@@ -11,4 +11,5 @@ mod walks;
 
 pub use fact::PathFact;
 pub use hops::Hops;
+pub use soft_table::SessionFacts;
 pub use table::PathTable;

@@ -1,12 +1,12 @@
 //! The table of paths.
-ghost use Rattle.std.specs.Prelude.{◌≡◌, ◌≤◌, ℕ, ◌↔◌, [], false, if◌then◌else◌, nat_lt, IsErr, IsNone, IfOk, IfSome, OnOk, OnErr, Some, slice_get};
+ghost use Rattle.std.specs.Prelude.{◌≡◌, ◌≤◌, ℕ, ◌↔◌, [], false, if◌then◌else◌, nat_lt, length, map, true, IsErr, IsNone, IfOk, IfSome, OnOk, OnErr, Some, slice_get};
 ghost use Rattle.std.specs.List.{list_any};
 ghost use Rattle.std.specs.Option.{option_map};
 ghost use Rattle.rsvp_base.specs.Orders.{sessions, senders};
 ghost use Rattle.rsvp_base.specs.Rows.{AreRows, table_of};
 ghost use Rattle.rsvp_base.specs.Sets.{with_key};
 ghost use Rattle.rsvp_base.specs.SessionLimits.{has_room_at, IsWithinSessionLimits};
-ghost use Rattle.rsvp_base.specs.Table.{empty, get, keys, put_in, size, without, changed};
+ghost use Rattle.rsvp_base.specs.Table.{empty, get, has, keys, put_in, size, without, changed};
 ghost use Rattle.rsvp_base.specs.Under.{under};
 ghost use Rattle.path_state.specs.Paths.{AreByKey, path_keys, fact_row, dead_row, comes_by, hops_by, is_from, via, later, dead_after};
 
@@ -14,7 +14,7 @@ use crate::fact::PathFact;
 use crate::hops::Hops;
 use crate::walks;
 use rsvp_base::{Addr, Full, NoMemory, Sender, Senders, Session};
-use soft_table::SoftTable;
+use soft_table::{SessionFacts, SoftTable};
 use std::alloc::Global;
 use std::marker::Model;
 
@@ -68,10 +68,32 @@ impl PathTable {
         if !self.has_room(fact.session, fact.sender) {
             return Err(Full);
         }
+        self.keep(fact, left);
+        Ok(())
+    }
+
+    /// Keeps a fact with this much left, in milliseconds, in place of the one that its session and sender have. No dead fact may
+    /// wait.
+    pub fn renew(&mut self, fact: PathFact, left: u32)
+        requires some { 1 ≤ left }
+        requires pulled { self.old.dead.rows ≡ [] }
+        requires stands { has self.old.facts (fact.session, fact.sender) ≡ true }
+        ensures { self.new ≡ record self.old { facts = put_in self.old.facts (fact.session, fact.sender) (fact, left) } }
+    {
+        self.limits();
+        self.keep(fact, left);
+    }
+
+    // Keeps a fact for which there is room.
+    fn keep(&mut self, fact: PathFact, left: u32)
+        requires some { 1 ≤ left }
+        requires pulled { self.old.dead.rows ≡ [] }
+        requires room { has_room_at senders (put_in self.old.facts (fact.session, fact.sender) (fact, left)) fact.session ≡ true }
+        ensures { self.new ≡ record self.old { facts = put_in self.old.facts (fact.session, fact.sender) (fact, left) } }
+    {
         let Ok(()) = self.table.put(fact, left) else {
             unreachable!();
         };
-        Ok(())
     }
 
     // Whether a fact of this session and sender may be kept.
@@ -110,6 +132,24 @@ impl PathTable {
         ensures { result ≡ option_map (λ e. e.1.0) (slice_get (under sessions senders self.now.facts session).rows k) }
     {
         self.table.at(session, k).copied()
+    }
+
+    /// The facts of a session by sender, one after another.
+    pub fn of_session(&self, session: Session) -> SessionFacts<'_, PathFact>
+        ensures facts { result ≡ map (λ e. e.1.0) (under sessions senders self.now.facts session).rows }
+        ensures senders { map (λ f. f.sender) result ≡ keys (under sessions senders self.now.facts session) }
+        ensures few { length result ≤ 16 }
+    {
+        self.table.of_session(session)
+    }
+
+    /// What holds of every table: each fact stands under its own session and sender, and the facts are within the limits. This
+    /// says it to who needs to know, and looks nothing up.
+    pub fn limits(&self)
+        ensures keyed { AreByKey self.now.facts }
+        ensures within { IsWithinSessionLimits senders self.now.facts }
+    {
+        let _table = &self.table;
     }
 
     /// The senders of a session whose facts have this interface and this hop address.

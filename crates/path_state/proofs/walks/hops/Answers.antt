@@ -1,36 +1,29 @@
-use Rattle.std.proofs.Common.{sym, ap, ◌∙◌, arith}
-use Rattle.std.specs.Prelude.{slice_get}
-use Rattle.std.specs.Option.{option_copied}
-use Rattle.std.proofs.lemmas.List.{take_all}
+use Rattle.std.proofs.Common.{◌+◌, sym, ap, ◌∙◌}
 use Rattle.rsvp_base.specs.Orders.{senders}
-use Rattle.rsvp_base.proofs.Fronts.{front_all}
-use Rattle.soft_table.proofs.Steps.{step, none_at}
+use Rattle.soft_table.proofs.Steps.{met, all_met}
 use Rattle.path_state.specs.Paths.{path_key, paths_under, hops_by}
-use Rattle.path_state.proofs.Walked.{hops_more, hops_few}
+use Rattle.path_state.proofs.Walked.{hops_more, hops_few, passed}
 use Rattle.path_state.proofs.walks.hops.Goals as goal
+
+pub loop-fact-init : goal.loop-fact-init
+loop-fact-init c = record { k = 0; at = sym (c.into_iter-fact-iterator.ensures.into_iter_gives ∙ c.of_session-fact-items.ensures); found = c.new-found.ensures }
 
 pub add-requires : goal.add-requires
 add-requires c =
+    let at = c.loop-fact.invariant in
     let f = c.in-Some.fact.now in
-    let st = step senders path_key c.args.session c.args.table.now.facts c.loop-k.k f (sym (ap option_copied c.in-Some.is) ∙ c.loop-k.invariant.at) in
-    hops_few c.args.session c.args.table.now.facts c.loop-k.k f st c.loop-k.found (f.iface, f.hop.addr) c.loop-k-test.true c.loop-k.invariant.found
+    let st = met senders path_key c.args.session c.args.table.now.facts at.k f c.next.new.self (at.at ∙ c.in-Some.ensures.steps) in
+    hops_few c.args.session c.args.table.now.facts at.k f st.0 c.loop-fact.found (f.iface, f.hop.addr) c.requires at.found
 
-pub loop-k-preserved : goal.loop-k-preserved
-loop-k-preserved c =
+pub loop-fact-preserved : goal.loop-fact-preserved
+loop-fact-preserved c =
+    let at = c.loop-fact.invariant in
     let f = c.in-Some.fact.now in
-    let is = sym (ap option_copied c.in-Some.is) ∙ c.loop-k.invariant.at in
-    let st = step senders path_key c.args.session c.args.table.now.facts c.loop-k.k f is in
-    record {
-      at = c.behind-next.ensures c.loop-k.k is;
-      found = c.add.ensures ∙ hops_more c.args.session c.args.table.now.facts c.loop-k.k f st c.loop-k.found c.loop-k.invariant.found;
-    }
-
-pub returns-in_default : goal.returns-in_default
-returns-in_default c =
-    let us = paths_under c.args.session c.args.table.now.facts in
-    c.loop-k.invariant.found ∙ ap hops_by (front_all us c.loop-k.k (none_at (λ e. e.1.0) (slice_get us c.loop-k.k) (sym (ap option_copied c.in_default.is) ∙ c.loop-k.invariant.at)))
+    let st = met senders path_key c.args.session c.args.table.now.facts at.k f c.next.new.self (at.at ∙ c.in-Some.ensures.steps) in
+    record { k = at.k + 1; at = sym st.1; found = c.add.ensures ∙ hops_more c.args.session c.args.table.now.facts at.k f st.0 c.loop-fact.found at.found }
 
 pub returns : goal.returns
 returns c =
+    let at = c.loop-fact.invariant in
     let us = paths_under c.args.session c.args.table.now.facts in
-    c.loop-k.invariant.found ∙ ap hops_by (take_all c.loop-k.k us (omega (arith, c.requires.few, c.loop-k-test.false)))
+    at.found ∙ ap hops_by (passed us at.k (all_met senders path_key c.args.session c.args.table.now.facts at.k (at.at ∙ c.in-None.ensures.steps.0)))

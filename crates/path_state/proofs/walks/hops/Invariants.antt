@@ -1,13 +1,11 @@
-use Rattle.std.proofs.Common.{◌≡◌, take}
-use Rattle.std.specs.Option.{option_copied}
-use Rattle.rsvp_base.specs.Orders.{senders}
-use Rattle.soft_table.specs.Walks.{fact_at}
-use Rattle.path_state.specs.Paths.{path_key, paths_under, hops_by}
+use Rattle.std.proofs.Common.{◌≡◌, ℕ, drop, map as each, take}
+use Rattle.path_state.specs.Paths.{paths_under, hops_by}
 use Rattle.path_state.proofs.walks.hops.Given as goal
 
-abbrev pub invariant-loop-k : goal.invariant-loop-k
-invariant-loop-k l =
+abbrev pub invariant-loop-fact : goal.invariant-loop-fact
+invariant-loop-fact l =
     record {
-      at : option_copied l.next ≡ fact_at senders path_key l.session l.table.facts l.k;
-      found : l.found ≡ hops_by (take l.k (paths_under l.session l.table.facts));
+      k : ℕ;
+      at : each (λ e. e.1.0) (drop k (paths_under l.fn.session l.table.facts)) ≡ l.fact-iterator;
+      found : l.found ≡ hops_by (take k (paths_under l.fn.session l.table.facts));
     }

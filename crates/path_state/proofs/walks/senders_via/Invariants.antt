@@ -1,13 +1,12 @@
-use Rattle.std.proofs.Common.{◌≡◌, take}
-use Rattle.std.specs.Option.{option_copied}
-use Rattle.rsvp_base.specs.Orders.{names_from, senders}
-use Rattle.soft_table.specs.Walks.{fact_at}
-use Rattle.path_state.specs.Paths.{path_key, paths_under, senders_by}
+use Rattle.std.proofs.Common.{◌≡◌, ℕ, drop, map as each, take}
+use Rattle.rsvp_base.specs.Orders.{names_from}
+use Rattle.path_state.specs.Paths.{paths_under, senders_by}
 use Rattle.path_state.proofs.walks.senders_via.Given as goal
 
-abbrev pub invariant-loop-k : goal.invariant-loop-k
-invariant-loop-k l =
+abbrev pub invariant-loop-fact : goal.invariant-loop-fact
+invariant-loop-fact l =
     record {
-      at : option_copied l.next ≡ fact_at senders path_key l.session l.table.facts l.k;
-      found : l.found ≡ names_from (senders_by l.iface l.addr (take l.k (paths_under l.session l.table.facts)));
+      k : ℕ;
+      at : each (λ e. e.1.0) (drop k (paths_under l.fn.session l.table.facts)) ≡ l.fact-iterator;
+      found : l.found ≡ names_from (senders_by l.iface l.addr (take k (paths_under l.fn.session l.table.facts)));
     }

@@ -6,8 +6,5 @@ use Rattle.rsvp_base.specs.Under.{under}
 use Rattle.path_state.specs.Paths.{PathMap, is_from}
 use Rattle.path_state.proofs.table.PathTable.has_address.Goals as goal
 
-pub has_address-requires-clause-few : goal.has_address-requires-clause-few
-has_address-requires-clause-few c = c.self.inside.within.one c.args.session
-
 pub returns : goal.returns
 returns c = c.has_address.ensures ∙ ap (λ (m : PathMap). list_any (is_from c.args.addr) (keys (under sessions senders m.facts c.args.session))) c.self.view_is
