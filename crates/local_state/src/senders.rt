@@ -92,6 +92,13 @@ impl LocalSenders {
         }
     }
 
+    /// What holds of every table: it is within its limits. This says it to who needs to know, and looks nothing up.
+    pub fn limits(&self)
+        ensures { IsWithinSessionLimits senders self.now }
+    {
+        let _rows = &self.rows;
+    }
+
     /// All of them, in order of session and sender.
     pub fn as_slice(&self) -> &[LocalSender]
         ensures { map sender_row result.now ≡ self.now.rows }

@@ -8,7 +8,7 @@ ghost use Rattle.node_waiting.specs.Passing.{all_begun, counts, unmarked};
 use blockade_state::Touched;
 use local_state::{Countdowns, LocalSenders};
 use path_state::PathTable;
-use rsvp_base::{Sender, Session};
+use rsvp_base::Session;
 
 // At most so many sessions are watched.
 const WATCHED: usize = 64;
@@ -72,8 +72,7 @@ pub fn begin_all(due: &mut Countdowns, senders: &LocalSenders, period: u32)
     requires { due.old ≡ empty }
     ensures { due.new ≡ all_begun period senders.now }
 {
-    // The proof sees here that the senders are within their limits.
-    let _none = senders.find(Session::default(), Sender::default());
+    senders.limits();
     let list = senders.as_slice();
     for i in 0..list.len() {
         due.begin(list[i].session, period);

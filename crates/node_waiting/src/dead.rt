@@ -114,8 +114,7 @@ pub fn age_paths(
     ensures lost { lost.new ≡ lost_hops ms paths.old.facts }
     ensures touched { touched.new ≡ touched_by (sessions_at dead.new) touched.old }
 {
-    // The proof sees here that the table is within its limits.
-    let _none = paths.find(Session::default(), Sender::default());
+    paths.limits();
     paths.advance(ms);
     pull_all(paths, dead, lost, touched);
 }

@@ -16,9 +16,6 @@ use path_state::PathTable;
 use rsvp_base::{Sender, Session};
 use std::marker::Model;
 
-// At most so many paths of a session.
-const SENDERS: usize = 16;
-
 /// The known senders of a session in order, local ones and those with a path: at most 32. Contracts see the set of them.
 #[derive(Drop)]
 pub struct KnownSenders {
@@ -105,12 +102,7 @@ fn add_paths(found: &mut KnownSenders, paths: &PathTable, session: Session)
     requires { size found.old ≤ 16 }
     ensures { found.new ≡ with_keys found.old (keys (under sessions senders paths.now.facts session)) }
 {
-    // The proof sees here that each path stands under its own sender.
-    let _none = paths.find(session, Sender::default());
-    for k in 0..SENDERS {
-        let Some(fact) = paths.at(session, k) else {
-            return;
-        };
+    for fact in paths.of_session(session) {
         found.add(fact.sender);
     }
 }

@@ -37,7 +37,7 @@ begin-requires c = λ off.
     let r = in_each of_row s front i in
     let P : Session → Type 0 = λ z. In z (each (λ (k : SenderKey). k.0) (keys c.args.senders.now)) in
     subst P (sym r.2) (subst (λ zs. In (of_row r.0) zs) (all_rows d) (to_each of_row r.0 c.as_slice-list.result.now (in_front r.0 c.loop-i.i c.as_slice-list.result.now r.1)))) in
-    omega (arith, ap size c.loop-i.invariant, less, below, c.find-none.ensures.within.all)
+    omega (arith, ap size c.loop-i.invariant, less, below, c.limits.ensures.all)
 
 pub loop-i-preserved : goal.loop-i-preserved
 loop-i-preserved c =

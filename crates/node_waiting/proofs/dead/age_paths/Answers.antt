@@ -15,7 +15,7 @@ use Rattle.node_waiting.proofs.dead.age_paths.Goals as goal
 pub pull_all-requires : goal.pull_all-requires
 pull_all-requires c =
     let facts = c.args.paths.now.facts in
-    let many = all_at_most senders 32 facts c.find-none.ensures.within.all c.find-none.ensures.within.one in
+    let many = all_at_most senders 32 facts c.limits.ensures.within.all c.limits.ensures.within.one in
     let less = fewer_rows (dead_after c.args.ms) facts.rows in
     omega (arith, many, less, ap size c.advance.ensures.dead)
 
