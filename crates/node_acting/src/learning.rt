@@ -1,8 +1,8 @@
 //! Paths and local senders come into the tables.
-ghost use Rattle.std.specs.Prelude.{◌≡◌, ◌≤◌, [], cond};
+ghost use Rattle.std.specs.Prelude.{◌≡◌, ◌≤◌, [], true, cond};
 ghost use Rattle.rsvp_base.specs.Orders.{senders};
 ghost use Rattle.rsvp_base.specs.SessionLimits.{has_room_at};
-ghost use Rattle.rsvp_base.specs.Table.{empty, put_in};
+ghost use Rattle.rsvp_base.specs.Table.{empty, has, put_in};
 ghost use Rattle.router_rules.specs.NodeConfig.{lifetime};
 ghost use Rattle.node_facts.specs.State.{IsSettled};
 ghost use Rattle.node_tables.specs.Whole.{state_of};
@@ -29,6 +29,38 @@ pub fn learn_path(
     ensures rest { tables.new ≡ record tables.old { senders = tables.new.senders; paths = tables.new.paths; due = tables.new.due } }
     ensures pulled { tables.new.paths.dead.rows ≡ [] }
 {
+    let (fact, left) = said_of(tables, iface, message, sender, tspec);
+    keep_path(tables, fact, left)
+}
+
+/// Keeps the path of a sender that a Path speaks of anew, in place of the one that its session and sender have. There is room
+/// for it, and its session has a countdown already.
+pub fn renew_path(tables: &mut Tables, iface: u8, message: &PathMsg, sender: Sender, tspec: Flow)
+    requires pulled { tables.old.paths.dead.rows ≡ [] }
+    requires settled { IsSettled (state_of tables.old empty) }
+    requires stands { has tables.old.paths.facts (message.now.session, sender) ≡ true }
+    ensures room { has_room_at senders (put_in tables.old.paths.facts (message.now.session, sender) (fact_of iface message.now sender tspec, lifetime tables.old.config message.now.period)) message.now.session ≡ true }
+    ensures state { state_of tables.new empty ≡ with_path (state_of tables.old empty) (message.now.session, sender) (fact_of iface message.now sender tspec) (lifetime tables.old.config message.now.period) }
+    ensures rest { tables.new ≡ record tables.old { paths = tables.new.paths } }
+    ensures pulled { tables.new.paths.dead.rows ≡ [] }
+{
+    let (fact, left) = said_of(tables, iface, message, sender, tspec);
+    tables.paths.limits();
+    tables.paths.renew(fact, left);
+}
+
+// What a Path that came by an interface says of its sender, and for how long, in milliseconds.
+fn said_of(
+    tables: &Tables,
+    iface: u8,
+    message: &PathMsg,
+    sender: Sender,
+    tspec: Flow,
+) -> (PathFact, u32)
+    ensures fact { result.0 ≡ fact_of iface message.now sender tspec }
+    ensures left { result.1 ≡ lifetime tables.now.config message.now.period }
+    ensures some { 1 ≤ result.1 }
+{
     let left = tables.config.lifetime(message.period);
     let fact = PathFact {
         session: message.session,
@@ -38,7 +70,7 @@ pub fn learn_path(
         tspec,
         police: message.police,
     };
-    keep_path(tables, fact, left)
+    (fact, left)
 }
 
 /// Keeps a path with this much left, in milliseconds, if there is room for it; its session has a countdown then. Whether there
@@ -53,9 +85,9 @@ pub fn keep_path(tables: &mut Tables, fact: PathFact, left: u32) -> bool
     ensures pulled { tables.new.paths.dead.rows ≡ [] }
 {
     let period = tables.config.period();
-    let (session, sender) = (fact.session, fact.sender);
-    let _own = tables.senders.find(session, sender);
-    let _was = tables.paths.find(session, sender);
+    let session = fact.session;
+    tables.senders.limits();
+    tables.paths.limits();
     let Ok(()) = tables.paths.learn(fact, left) else {
         return false;
     };
@@ -72,8 +104,8 @@ pub fn keep_sender(tables: &mut Tables, session: Session, sender: Sender, tspec:
     ensures paths { tables.new.paths ≡ tables.old.paths }
 {
     let period = tables.config.period();
-    let _own = tables.senders.find(session, sender);
-    let _was = tables.paths.find(session, sender);
+    tables.senders.limits();
+    tables.paths.limits();
     let Ok(()) = tables.senders.put(session, sender, tspec) else {
         return false;
     };

@@ -1,5 +1,6 @@
 //! Paths and local senders leave the tables, and their names with them.
-ghost use Rattle.std.specs.Prelude.{◌≡◌, ◌==◌, ◌&&◌, ℕ, cond};
+ghost use Rattle.std.specs.Prelude.{◌≡◌, ◌==◌, ◌&&◌, ℕ, cond, is_some, IfSome, Some};
+ghost use Rattle.std.specs.Option.{option_map};
 ghost use Rattle.rsvp_base.specs.Table.{empty, get, has};
 ghost use Rattle.router_rules.specs.NodeConfig.{is_addr};
 ghost use Rattle.router_rules.specs.Paths.{is_path_by};
@@ -14,6 +15,26 @@ use path_state::{PathFact, PathTable};
 use rsvp_base::{Addr, Sender, Session};
 use tables_waiting::forget_lost;
 
+/// The path of a sender, where it came by an interface and hop. `None` exactly where it did not, or there is none.
+pub fn path_by(
+    paths: &PathTable,
+    session: Session,
+    sender: Sender,
+    iface: u8,
+    hop: Addr,
+) -> Option<PathFact>
+    ensures by { (c : ℕ) (n : State) → n.paths ≡ paths.now.facts → is_some result ≡ is_path_by (iface, hop) (get (facts_of c n).paths (session, sender)) }
+    ensures fact { IfSome result (λ f. option_map (λ e. e.0) (get paths.now.facts (session, sender)) ≡ Some f) }
+{
+    let Some(fact) = paths.find(session, sender) else {
+        return None;
+    };
+    if !came_by(&fact, iface, hop) {
+        return None;
+    }
+    Some(fact)
+}
+
 /// Whether a sender's path came by an interface and hop.
 pub fn has_path_by(
     paths: &PathTable,
@@ -24,10 +45,7 @@ pub fn has_path_by(
 ) -> bool
     ensures { (c : ℕ) (n : State) → n.paths ≡ paths.now.facts → result ≡ is_path_by (iface, hop) (get (facts_of c n).paths (session, sender)) }
 {
-    match paths.find(session, sender) {
-        Some(fact) => came_by(&fact, iface, hop),
-        None => false,
-    }
+    path_by(paths, session, sender, iface, hop).is_some()
 }
 
 // Whether a path came by an interface and hop.

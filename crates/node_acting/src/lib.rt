@@ -8,6 +8,6 @@ mod learning;
 mod leaving;
 mod resvs;
 
-pub use learning::{keep_path, keep_sender, learn_path};
-pub use leaving::{drop_path, drop_sender, has_path_by};
+pub use learning::{keep_path, keep_sender, learn_path, renew_path};
+pub use leaving::{drop_path, drop_sender, has_path_by, path_by};
 pub use resvs::{take_resvs, tear_resvs};

@@ -51,8 +51,8 @@ begin-requires c = λ none.
     let d = (goal.at.begin-requires c).After-learn in
     let n = was d in
     let value : PathFact × ℕ = (c.args.fact, c.args.left) in
-    let within = (put_room senders n.paths (key d) value c.find-was.ensures.within).0 (room d (ap is_err c.in-Ok.is) c.learn.ensures.full.1) in
-    room_for_due n c.requires.settled (paths_put n (key d) c.args.fact c.args.left) c.args.fact.session (λ k h. h) (put_more path_keys n.paths (key d) value) (here d 0) c.find-own.ensures.within within none
+    let within = (put_room senders n.paths (key d) value c.limits-2.ensures.within).0 (room d (ap is_err c.in-Ok.is) c.learn.ensures.full.1) in
+    room_for_due n c.requires.settled (paths_put n (key d) c.args.fact c.args.left) c.args.fact.session (λ k h. h) (put_more path_keys n.paths (key d) value) (here d 0) c.limits.ensures within none
 
 pub returns-clause-room : goal.returns-clause-room
 returns-clause-room c = let d = (goal.at.returns-clause-room c).After-learn in sym (room d (ap is_err c.in-Ok.is) c.learn.ensures.full.1)

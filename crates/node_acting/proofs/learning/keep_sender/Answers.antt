@@ -44,8 +44,8 @@ pub begin-requires : goal.begin-requires
 begin-requires c = λ none.
     let d = (goal.at.begin-requires c).After-put in
     let n = was d in
-    let within = (put_room senders n.senders (key d) c.args.tspec c.find-own.ensures.within).0 (room d (ap is_err c.in-Ok.is) c.put.ensures.full.1) in
-    room_for_due n c.requires.settled (senders_put n (key d) c.args.tspec) c.args.session (put_more sender_keys n.senders (key d) c.args.tspec) (λ k h. h) (here d 0) within c.find-was.ensures.within none
+    let within = (put_room senders n.senders (key d) c.args.tspec c.limits.ensures).0 (room d (ap is_err c.in-Ok.is) c.put.ensures.full.1) in
+    room_for_due n c.requires.settled (senders_put n (key d) c.args.tspec) c.args.session (put_more sender_keys n.senders (key d) c.args.tspec) (λ k h. h) (here d 0) within c.limits-2.ensures.within none
 
 pub returns-clause-room : goal.returns-clause-room
 returns-clause-room c = let d = (goal.at.returns-clause-room c).After-put in sym (room d (ap is_err c.in-Ok.is) c.put.ensures.full.1)
