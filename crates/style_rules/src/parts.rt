@@ -45,6 +45,13 @@ impl Parts {
         }
     }
 
+    /// Takes all out. What stood there is not written over.
+    pub fn clear(&mut self)
+        ensures { self.new ≡ empty }
+    {
+        self.rows.clear();
+    }
+
     /// How many there are, at most 16.
     pub fn len(&self) -> usize
         ensures size { result ≡ size self.now }
