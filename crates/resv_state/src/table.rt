@@ -73,6 +73,14 @@ impl<S: Style> ResvTable<S> {
         })
     }
 
+    /// What holds of every table. Nothing is looked up for it.
+    pub fn know(&self)
+        ensures style { AreOfStyle S.kind_is self.now.facts }
+        ensures within { IsWithinLimits S.kind_is (resv_lines S.kind_is self.now.facts) }
+    {
+        let _table = &self.table;
+    }
+
     /// Keeps a reservation with this much left, in milliseconds, in place of that of its session, next hop and unit. `Full`
     /// exactly where the table would not be within its limits: a 1,025th reservation, a 33rd session, a 65th next hop of a
     /// session, or a 17th name of one; nothing changes then. The reservation is of the style, and no dead one may wait.
