@@ -15,7 +15,7 @@ ghost use Rattle.resv_book.specs.Renewed.{AreRenewed, IsNoMore, entry_in, is_key
 
 use admission_book::Book;
 use resv_state::ResvTable;
-use rsvp_base::{Addr, EntryKey, Flow, Senders, Session, Unit};
+use rsvp_base::{EntryKey, Flow, Senders, Session, Unit};
 use style_rules::{Parts, Style};
 
 // A node has at most so many interfaces.
@@ -26,7 +26,7 @@ pub(crate) fn look<S: Style>(table: &ResvTable<S>)
     ensures style { AreOfStyle S.kind_is table.now.facts }
     ensures within { IsWithinLimits S.kind_is (resv_lines S.kind_is table.now.facts) }
 {
-    table.find(Session::default(), 0, Addr(0), Unit::One);
+    table.know();
 }
 
 // What holds of every book.
