@@ -70,7 +70,7 @@ impl Taken {
     {
         self.errors.clear();
         self.left_out = false;
-        self.parts = Parts::new();
+        self.parts.clear();
         self.news = false;
     }
 }
