@@ -23,7 +23,7 @@ use node_telling::Config;
 use node_waiting::KnownSenders;
 use resv_taking::{Asker, Matching, Refusals, Taken, refuse_units, take_units};
 use router_rules::{Heard, Why};
-use rsvp_base::{Addr, Session, StyleKind, Unit};
+use rsvp_base::{Addr, StyleKind};
 use rsvp_messages::{Ask, ResvMsg};
 use style_rules::Parts;
 
@@ -212,8 +212,7 @@ fn take_by_style(tables: &mut Tables, asker: &Asker, all: &Matching, ask: &Ask, 
 fn look(tables: &Tables)
     ensures { AreFew (state_of tables.now empty) }
 {
-    let session = Session::default();
-    let _wild = tables.wild.find(session, 0, Addr(0), Unit::One);
-    let _fixed = tables.fixed.find(session, 0, Addr(0), Unit::One);
-    let _shared = tables.shared.find(session, 0, Addr(0), Unit::One);
+    let _wild = tables.wild.know();
+    let _fixed = tables.fixed.know();
+    let _shared = tables.shared.know();
 }
