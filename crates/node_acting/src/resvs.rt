@@ -14,7 +14,6 @@ ghost use Rattle.node_acting.specs.Styled.{AreOfStyles};
 use node_tables::Tables;
 use resv_arriving::{Answer, take_resv, tear_resv};
 use router_rules::Heard;
-use rsvp_base::{Addr, Session, Unit};
 use rsvp_messages::{ResvMsg, ResvTearMsg};
 
 /// The senders of a ResvTear leave the reservations of its next hop, session and style (RFC 2209, 2: RESV TEAR MESSAGE
@@ -58,8 +57,7 @@ pub fn take_resvs(tables: &mut Tables, iface: u8, message: &ResvMsg, answer: &mu
 fn look(tables: &Tables)
     ensures { (said : Said) → AreOfStyles (state_of tables.now said) }
 {
-    let session = Session::default();
-    let _wild = tables.wild.find(session, 0, Addr(0), Unit::One);
-    let _fixed = tables.fixed.find(session, 0, Addr(0), Unit::One);
-    let _shared = tables.shared.find(session, 0, Addr(0), Unit::One);
+    let _wild = tables.wild.know();
+    let _fixed = tables.fixed.know();
+    let _shared = tables.shared.know();
 }
