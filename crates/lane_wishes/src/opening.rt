@@ -9,7 +9,7 @@ ghost use Rattle.lane_wishes.specs.Taking.{has_open, is_resv_open, is_want_open,
 use crate::taking::{asked_toward, is_open};
 use node_tables::Tables;
 use resv_state::ResvTable;
-use rsvp_base::{Addr, Part, Session, StyleKind, Unit};
+use rsvp_base::{Part, Session, StyleKind, Unit};
 use soft_table::Finger;
 use style_rules::{Parts, Style, Upstream};
 
@@ -69,7 +69,7 @@ fn is_any_open<S: Style>(table: &ResvTable<S>, session: Session, up: &Upstream, 
     ensures { result ≡ list_any (is_resv_open S.kind_is up.now unit) (under sessions rests table.now.facts session).rows }
 {
     // The proof sees here what holds of every table.
-    let _known = table.find(session, 0, Addr(0), Unit::One);
+    let _known = table.know();
     let mut finger = Finger::default();
     let mut next = table.first(session);
     for k in 0..FACTS {

@@ -7,6 +7,7 @@ ghost use Rattle.router_rules.specs.Asking.{first_of};
 ghost use Rattle.router_rules.specs.Requests.{is_style};
 ghost use Rattle.router_rules.specs.Sends.{handle_for};
 ghost use Rattle.style_rules.specs.Lines.{NextHop};
+ghost use Rattle.path_state.specs.Paths.{AreByKey};
 ghost use Rattle.lane_wishes.specs.Handles.{handle_in};
 ghost use Rattle.lane_wishes.specs.Taking.{rows_of};
 ghost use Rattle.node_sends.specs.Seen.{hop_seen, lane_of, names_seen, own_at, toward_at, up_at};
@@ -119,13 +120,17 @@ fn handle_of(path: Option<PathFact>) -> u32
     }
 }
 
-// The handle that the hop gave for the least of these senders.
+// The handle that the hop gave for the least of these senders. The proof sees beside it that each path stands under its key.
 fn handle_for(tables: &Tables, session: Session, via: &Senders) -> u32
-    ensures { (c : ℕ) (said : Said) (style : StyleKind) (hop : NextHop) → result ≡ handle_for (facts_of c (state_of tables.now said)) (lane_of session style hop) (first_of (keys via.now)) }
+    ensures keyed { AreByKey tables.now.paths.facts }
+    ensures handle { (c : ℕ) (said : Said) (style : StyleKind) (hop : NextHop) → result ≡ handle_for (facts_of c (state_of tables.now said)) (lane_of session style hop) (first_of (keys via.now)) }
 {
     match via.at(0) {
         Some(first) => handle_of(tables.paths.find(session, first)),
-        None => 0,
+        None => {
+            let _known = tables.paths.find(session, Sender::default());
+            0
+        }
     }
 }
 
@@ -134,7 +139,6 @@ fn handle_for(tables: &Tables, session: Session, via: &Senders) -> u32
 pub fn hop_to(tables: &Tables, session: Session, hop: (u8, Addr)) -> Hop
     ensures { (c : ℕ) (said : Said) → result ≡ hop_seen c (state_of tables.now said) session hop }
 {
-    let _known = tables.paths.find(session, Sender::default());
     let via = tables.paths.senders_via(session, hop.0, hop.1);
     Hop {
         addr: tables.config.own(hop.0),

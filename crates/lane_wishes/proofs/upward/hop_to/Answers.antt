@@ -9,4 +9,4 @@ use Rattle.lane_wishes.proofs.upward.hop_to.Goals as goal
 pub returns : goal.returns
 returns c = λ clock said.
     let make : Addr → Hop = λ a. record { addr = a; handle = c.handle_for.result } in
-    ap make c.own.ensures ∙ hop_is clock (state_of c.args.tables.now said) c.args.session c.args.hop c.senders_via-via.result c.find-known.ensures.keyed c.senders_via-via.ensures c.handle_for.result (c.handle_for.ensures clock said Wild c.args.hop)
+    ap make c.own.ensures ∙ hop_is clock (state_of c.args.tables.now said) c.args.session c.args.hop c.senders_via-via.result c.handle_for.ensures.keyed c.senders_via-via.ensures c.handle_for.result (c.handle_for.ensures.handle clock said Wild c.args.hop)
