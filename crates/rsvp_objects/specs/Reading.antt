@@ -1,5 +1,6 @@
 -- The object at a place, or the first fault there: the faults in their order, once for all classes.
 use Rattle.std.specs.Prelude.{ℕ, ◌+◌, ◌-◌, ◌%◌, Bool, not, ◌&&◌, ◌==◌, nat_lt, nat_le, List, length, drop, take, Option, Some, None, IsTrue, Result, Ok, Err, if◌then◌else◌}
+use Rattle.rsvp_base.specs.declared.session.Session.{Session}
 use Rattle.rsvp_base.specs.Table.{size}
 use Rattle.object_fields.specs.declared.adspec.Adspec.{Adspec}
 use Rattle.object_fields.specs.Form.{adspec_in}
@@ -79,6 +80,15 @@ passed_over n None = object.Skipped n
 
 unfoldable pub body_of : ℕ → ℕ → ℕ → List ℕ → Result Object ObjErr
 body_of at n ctype body = if is_skipped n then Ok (passed_over n (advert_in n ctype body)) else by_class at n ctype body (class_with n)
+
+-- ---- what is read of an object whose class is known, as an object
+
+abbrev pub as_object : {A : Type 0} → (A → Object) → Result A ObjErr → Result Object ObjErr
+as_object says (Ok x) = Ok (says x)
+as_object says (Err f) = Err f
+
+abbrev pub as_session : Result (Session × Bool) ObjErr → Result Object ObjErr
+as_session r = as_object (λ s. object.Session s.0 s.1) r
 
 -- ---- the whole
 

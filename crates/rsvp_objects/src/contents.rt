@@ -4,7 +4,8 @@ ghost use Rattle.rsvp_base.specs.Table.{size};
 ghost use Rattle.rsvp_objects.specs.Contents as spec;
 ghost use Rattle.rsvp_objects.specs.Contents.{scope_in};
 ghost use Rattle.rsvp_objects.specs.declared.class.Class.TheVariants as Class;
-ghost use Rattle.rsvp_objects.specs.Reading.{contents_of, IsSized};
+ghost use Rattle.rsvp_objects.specs.declared.object.Object.TheVariants as AnObject;
+ghost use Rattle.rsvp_objects.specs.Reading.{as_object, contents_of, IsSized};
 
 use crate::class::Class;
 use crate::flags::{is_in_place, is_not_guilty, is_police};
@@ -14,7 +15,7 @@ use crate::object::Object;
 use crate::places;
 use crate::values::{service, style as options};
 use object_fields::{addr_at, half_at, word_at};
-use rsvp_base::{Addr, ErrSpec, Hop, Sender, Senders, Session, StyleKind};
+use rsvp_base::{Addr, ErrSpec, Flow, Hop, Sender, Senders, Session, StyleKind};
 
 /// The object with these contents, which have the size of their class, or its fault. `at` is its place.
 #[tactic(auto, unfolding(crate::specs::Reading::contents_of))]
@@ -33,7 +34,7 @@ pub fn contents(at: u16, class: Class, body: &[u8]) -> Result<Object, ObjErr>
         Class::ErrorSpec => Ok(Object::Error(error(body))),
         Class::Scope => scope(body).map(Object::Scope).ok_or(ObjErr::Crowd(at)),
         Class::Style => style(body).map(Object::StyleOf).ok_or(ObjErr::Style(at)),
-        Class::FlowSpec => flow_spec(at, body),
+        Class::FlowSpec => flow_spec(at, body).map(Object::FlowOf),
         Class::FilterSpec => Ok(Object::Filter(sender(body))),
         Class::SenderTemplate => Ok(Object::Template(sender(body))),
         Class::SenderTspec => flow(body, service::GENERAL)
@@ -43,8 +44,9 @@ pub fn contents(at: u16, class: Class, body: &[u8]) -> Result<Object, ObjErr>
     }
 }
 
+/// The session of a SESSION.
 #[inline(always)]
-fn session(body: &[u8]) -> Session
+pub fn session(body: &[u8]) -> Session
     requires { length body.now ≡ 8 }
     ensures { result ≡ spec.session_in body.now }
 {
@@ -55,8 +57,9 @@ fn session(body: &[u8]) -> Session
     }
 }
 
+/// The hop of an RSVP_HOP.
 #[inline(always)]
-fn hop(body: &[u8]) -> Hop
+pub fn hop(body: &[u8]) -> Hop
     requires { length body.now ≡ 8 }
     ensures { result ≡ spec.hop_in body.now }
 {
@@ -66,8 +69,9 @@ fn hop(body: &[u8]) -> Hop
     }
 }
 
+/// The error of an ERROR_SPEC.
 #[inline(always)]
-fn error(body: &[u8]) -> ErrSpec
+pub fn error(body: &[u8]) -> ErrSpec
     requires { length body.now ≡ 8 }
     ensures { result ≡ spec.error_in body.now }
 {
@@ -81,8 +85,9 @@ fn error(body: &[u8]) -> ErrSpec
     }
 }
 
+/// The sender of a FILTER_SPEC or a SENDER_TEMPLATE.
 #[inline(always)]
-fn sender(body: &[u8]) -> Sender
+pub fn sender(body: &[u8]) -> Sender
     requires { length body.now ≡ 8 }
     ensures { result ≡ spec.sender_in body.now }
 {
@@ -92,8 +97,9 @@ fn sender(body: &[u8]) -> Sender
     }
 }
 
+/// The style of a STYLE. `None` where it is no known one.
 #[inline(always)]
-fn style(body: &[u8]) -> Option<StyleKind>
+pub fn style(body: &[u8]) -> Option<StyleKind>
     requires { length body.now ≡ 4 }
     ensures { result ≡ spec.style_in body.now }
 {
@@ -105,24 +111,22 @@ fn style(body: &[u8]) -> Option<StyleKind>
     }
 }
 
-// The service is looked at before the words, so that a flow of another service has a fault of its own.
+/// The flow of a FLOWSPEC. The service is looked at before the words, so that a flow of another service has a fault of its own.
 #[tactic(auto, unfolding(crate::specs::Reading::contents_of))]
 #[inline(always)]
-fn flow_spec(at: u16, body: &[u8]) -> Result<Object, ObjErr>
-    ensures { result ≡ contents_of at Class.FlowSpec body.now }
+pub fn flow_spec(at: u16, body: &[u8]) -> Result<Flow, ObjErr>
+    ensures { as_object AnObject.FlowOf result ≡ contents_of at Class.FlowSpec body.now }
 {
     if body.len() >= places::flow::SERVICE_SEEN
         && body[places::flow::SERVICE] != service::CONTROLLED_LOAD
     {
         return Err(ObjErr::Service(at));
     }
-    flow(body, service::CONTROLLED_LOAD)
-        .map(Object::FlowOf)
-        .ok_or(ObjErr::Flow(at))
+    flow(body, service::CONTROLLED_LOAD).ok_or(ObjErr::Flow(at))
 }
 
-// The addresses of a SCOPE. `None` exactly where they are more than 16.
-fn scope(body: &[u8]) -> Option<Senders>
+/// The addresses of a SCOPE. `None` exactly where they are more than 16.
+pub fn scope(body: &[u8]) -> Option<Senders>
     ensures some { IfSome result (λ s. s ≡ scope_in body.now) }
     ensures none { IsNone result ↔ (16 < size (scope_in body.now)) }
 {

@@ -1,9 +1,9 @@
 //! Objects of messages as values and as bytes.
 //!
 //! `next_object` reads the object at a place or tells its first fault, `put_object` writes one, `put` has a function for
-//! each class, for callers that have the value at hand, and what was put is read again as the same. Each figure of RFC 2205,
-//! appendix A, and of RFC 2210 stands once, as a definition in `specs/`. Fields, packets and the ADSPEC are those of
-//! `object_fields`, and passed on. No call takes memory.
+//! each class, for callers that have the value at hand, and what was put is read again as the same. `read` has one for each
+//! class, for callers that know the class. Each figure of RFC 2205, appendix A, and of RFC 2210 stands once, as a definition
+//! in `specs/`. Fields, packets and the ADSPEC are those of `object_fields`, and passed on. No call takes memory.
 #![tactic(auto)]
 
 mod class;
@@ -16,6 +16,7 @@ mod obj_err;
 mod object;
 mod places;
 pub mod put;
+pub mod read;
 mod reading;
 mod table;
 mod texts;

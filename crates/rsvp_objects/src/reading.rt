@@ -93,9 +93,9 @@ fn advert(class: u8, ctype: u8, body: &[u8]) -> Option<Adspec>
     }
 }
 
-// Whether contents have the size, where it is fixed.
+/// Whether contents have the size, where it is fixed.
 #[inline(always)]
-fn has_size(size: Option<usize>, body: &[u8]) -> bool
+pub fn has_size(size: Option<usize>, body: &[u8]) -> bool
     ensures { result ≡ has_size size body.now }
 {
     match size {
