@@ -1,5 +1,5 @@
 -- What reading an object adds to what the objects before it say.
-use Rattle.std.specs.Prelude.{◌≡◌, ℕ, not, List, Result, Ok, Err, if◌then◌else◌}
+use Rattle.std.specs.Prelude.{◌≡◌, ℕ, not, List, Option, Some, None, Result, Ok, Err, if◌then◌else◌}
 use Rattle.rsvp_objects.specs.declared.head.Head.{Head}
 use Rattle.rsvp_objects.specs.declared.object.Object.{Object}
 use Rattle.rsvp_objects.specs.declared.obj_err.ObjErr.TheVariants.{Class}
@@ -17,6 +17,10 @@ object_with_head kind s at h body =
     if not (has_place kind s h.class) then Err (fault.Order at) else
     if is_repeated kind s h.class then Err (fault.Repeated at) else
     by_body at s h.end (read_in kind at h.class h.ctype body)
+
+-- the fault of an object of a class that may not stand at a place behind objects that say s, or not a second time
+abbrev pub misplaced : Kind → Seen → ℕ → ℕ → Option Fault
+misplaced kind s at n = if not (has_place kind s n) then Some (fault.Order at) else if is_repeated kind s n then Some (fault.Repeated at) else None
 
 -- an object that was read is added, and the place behind it is next; a fault is told
 abbrev pub Takes : Result (Object × ℕ) Fault → Seen → Seen → ℕ → Result (Unit {0}) Fault → Type 0

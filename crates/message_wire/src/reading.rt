@@ -4,15 +4,13 @@ ghost use Rattle.rsvp_objects.specs.declared.object.Object.{Object as AnObject};
 ghost use Rattle.message_wire.specs.Places.{read_in, object_in, Stand};
 ghost use Rattle.message_wire.specs.Said.{seen_of};
 ghost use Rattle.message_wire.specs.Spells.{StopsAt};
-ghost use Rattle.message_wire.specs.Table.{role_of};
-ghost use Rattle.message_wire.specs.Taking.{object_with_head, Takes};
+ghost use Rattle.message_wire.specs.Taking.{misplaced, object_with_head, Takes};
 
-use crate::places::{has_place, is_repeated, name_fault};
-use crate::role::Role;
+use crate::places::{filter_fault, has_place, is_repeated, name_fault};
 use crate::seen::Seen;
 use crate::table::{class, is_unread, role};
 use rsvp_messages::{Fault, Kind};
-use rsvp_objects::{Head, ObjErr, Object, head_at, is_known, object_with};
+use rsvp_objects::{Head, ObjErr, Object, head_at, is_known, object_with, read};
 
 /// The size of the common header, behind which the first object stands (RFC 2205, 3.1.1).
 pub const HEADER: usize = 8;
@@ -58,36 +56,219 @@ fn step(kind: Kind, seen: &mut Seen, at: &mut usize, bytes: &[u8]) -> Result<(),
     Ok(())
 }
 
-// Adds what an object with this head and these contents says. Each class that is read is told to `take_as` as a number of its
-// own, so that the compiler makes code for it in which all that concerns other classes is left out.
+// Adds what an object with this head and these contents says. Each class that is read has a function of its own, in which all
+// that concerns other classes is left out.
 #[inline(always)]
 fn take(kind: Kind, seen: &mut Seen, at: u16, head: Head, body: &[u8]) -> Result<(), Fault>
     ensures { Takes (object_with_head kind seen.old at head body.now) seen.old seen.new head.end result }
 {
     match head.class {
-        class::SESSION => take_as(class::SESSION, kind, seen, at, head, body),
-        class::RSVP_HOP => take_as(class::RSVP_HOP, kind, seen, at, head, body),
-        class::TIME_VALUES => take_as(class::TIME_VALUES, kind, seen, at, head, body),
-        class::ERROR_SPEC => take_as(class::ERROR_SPEC, kind, seen, at, head, body),
+        class::SESSION => take_session(kind, seen, at, head, body),
+        class::RSVP_HOP => take_hop(kind, seen, at, head, body),
+        class::TIME_VALUES => take_time(kind, seen, at, head, body),
+        class::ERROR_SPEC => take_error(kind, seen, at, head, body),
         class::SCOPE => take_scope(kind, seen, at, head, body),
-        class::STYLE => take_as(class::STYLE, kind, seen, at, head, body),
-        class::FLOWSPEC => take_as(class::FLOWSPEC, kind, seen, at, head, body),
-        class::FILTER_SPEC => take_as(class::FILTER_SPEC, kind, seen, at, head, body),
-        class::SENDER_TEMPLATE => take_as(class::SENDER_TEMPLATE, kind, seen, at, head, body),
-        class::SENDER_TSPEC => take_as(class::SENDER_TSPEC, kind, seen, at, head, body),
+        class::STYLE => take_style(kind, seen, at, head, body),
+        class::FLOWSPEC => take_flow(kind, seen, at, head, body),
+        class::FILTER_SPEC => take_filter(kind, seen, at, head, body),
+        class::SENDER_TEMPLATE => take_template(kind, seen, at, head, body),
+        class::SENDER_TSPEC => take_tspec(kind, seen, at, head, body),
         class::ADSPEC => take_adspec(kind, seen, at, head, body),
-        class::RESV_CONFIRM => take_as(class::RESV_CONFIRM, kind, seen, at, head, body),
+        class::RESV_CONFIRM => take_confirm(kind, seen, at, head, body),
         _ => take_other(kind, seen, at, head, body),
     }
 }
 
-// Those that say much, or stand seldom, have functions of their own: what they need room for is not made for others.
+#[inline(never)]
+fn take_session(kind: Kind, seen: &mut Seen, at: u16, head: Head, body: &[u8]) -> Result<(), Fault>
+    requires { head.class ≡ 1 }
+    ensures { Takes (object_with_head kind seen.old at head body.now) seen.old seen.new head.end result }
+{
+    match misplaced(kind, seen, at, class::SESSION) {
+        None => {}
+        Some(fault) => return Err(fault),
+    }
+    match read::session(at, head.ctype, body) {
+        Ok((session, police)) => {
+            seen.add_session(session, police);
+            Ok(())
+        }
+        Err(fault) => Err(Fault::Object(fault)),
+    }
+}
+
+#[inline(never)]
+fn take_hop(kind: Kind, seen: &mut Seen, at: u16, head: Head, body: &[u8]) -> Result<(), Fault>
+    requires { head.class ≡ 3 }
+    ensures { Takes (object_with_head kind seen.old at head body.now) seen.old seen.new head.end result }
+{
+    match misplaced(kind, seen, at, class::RSVP_HOP) {
+        None => {}
+        Some(fault) => return Err(fault),
+    }
+    match read::hop(at, head.ctype, body) {
+        Ok(hop) => {
+            seen.add_hop(hop);
+            Ok(())
+        }
+        Err(fault) => Err(Fault::Object(fault)),
+    }
+}
+
+#[inline(never)]
+fn take_time(kind: Kind, seen: &mut Seen, at: u16, head: Head, body: &[u8]) -> Result<(), Fault>
+    requires { head.class ≡ 5 }
+    ensures { Takes (object_with_head kind seen.old at head body.now) seen.old seen.new head.end result }
+{
+    match misplaced(kind, seen, at, class::TIME_VALUES) {
+        None => {}
+        Some(fault) => return Err(fault),
+    }
+    match read::time(at, head.ctype, body) {
+        Ok(period) => {
+            seen.add_period(period);
+            Ok(())
+        }
+        Err(fault) => Err(Fault::Object(fault)),
+    }
+}
+
+#[inline(never)]
+fn take_error(kind: Kind, seen: &mut Seen, at: u16, head: Head, body: &[u8]) -> Result<(), Fault>
+    requires { head.class ≡ 6 }
+    ensures { Takes (object_with_head kind seen.old at head body.now) seen.old seen.new head.end result }
+{
+    match misplaced(kind, seen, at, class::ERROR_SPEC) {
+        None => {}
+        Some(fault) => return Err(fault),
+    }
+    match read::error(at, head.ctype, body) {
+        Ok(error) => {
+            seen.add_error(error);
+            Ok(())
+        }
+        Err(fault) => Err(Fault::Object(fault)),
+    }
+}
+
 #[inline(never)]
 fn take_scope(kind: Kind, seen: &mut Seen, at: u16, head: Head, body: &[u8]) -> Result<(), Fault>
     requires { head.class ≡ 7 }
     ensures { Takes (object_with_head kind seen.old at head body.now) seen.old seen.new head.end result }
 {
-    take_as(class::SCOPE, kind, seen, at, head, body)
+    match misplaced(kind, seen, at, class::SCOPE) {
+        None => {}
+        Some(fault) => return Err(fault),
+    }
+    match read::scope(at, head.ctype, body) {
+        Ok(senders) => {
+            seen.add_scope(senders);
+            Ok(())
+        }
+        Err(fault) => Err(Fault::Object(fault)),
+    }
+}
+
+#[inline(never)]
+fn take_style(kind: Kind, seen: &mut Seen, at: u16, head: Head, body: &[u8]) -> Result<(), Fault>
+    requires { head.class ≡ 8 }
+    ensures { Takes (object_with_head kind seen.old at head body.now) seen.old seen.new head.end result }
+{
+    match misplaced(kind, seen, at, class::STYLE) {
+        None => {}
+        Some(fault) => return Err(fault),
+    }
+    match read::style(at, head.ctype, body) {
+        Ok(style) => {
+            seen.add_style(style);
+            Ok(())
+        }
+        Err(fault) => Err(Fault::Object(fault)),
+    }
+}
+
+#[inline(never)]
+fn take_flow(kind: Kind, seen: &mut Seen, at: u16, head: Head, body: &[u8]) -> Result<(), Fault>
+    requires { head.class ≡ 9 }
+    ensures { Takes (object_with_head kind seen.old at head body.now) seen.old seen.new head.end result }
+{
+    match misplaced(kind, seen, at, class::FLOWSPEC) {
+        None => {}
+        Some(fault) => return Err(fault),
+    }
+    if is_unread(role(kind, class::FLOWSPEC), kind, class::FLOWSPEC) {
+        seen.add_skipped(class::FLOWSPEC);
+        return Ok(());
+    }
+    match read::flow_spec(at, head.ctype, body) {
+        Ok(flow) => {
+            seen.add_flow(flow);
+            Ok(())
+        }
+        Err(fault) => Err(Fault::Object(fault)),
+    }
+}
+
+#[inline(never)]
+fn take_filter(kind: Kind, seen: &mut Seen, at: u16, head: Head, body: &[u8]) -> Result<(), Fault>
+    requires { head.class ≡ 10 }
+    ensures { Takes (object_with_head kind seen.old at head body.now) seen.old seen.new head.end result }
+{
+    match misplaced(kind, seen, at, class::FILTER_SPEC) {
+        None => {}
+        Some(fault) => return Err(fault),
+    }
+    let sender = match read::filter(at, head.ctype, body) {
+        Ok(sender) => sender,
+        Err(fault) => return Err(Fault::Object(fault)),
+    };
+    match filter_fault(at, seen, sender) {
+        None => {
+            seen.add_filter(sender);
+            Ok(())
+        }
+        Some(fault) => Err(fault),
+    }
+}
+
+#[inline(never)]
+fn take_template(kind: Kind, seen: &mut Seen, at: u16, head: Head, body: &[u8]) -> Result<(), Fault>
+    requires { head.class ≡ 11 }
+    ensures { Takes (object_with_head kind seen.old at head body.now) seen.old seen.new head.end result }
+{
+    match misplaced(kind, seen, at, class::SENDER_TEMPLATE) {
+        None => {}
+        Some(fault) => return Err(fault),
+    }
+    match read::template(at, head.ctype, body) {
+        Ok(sender) => {
+            seen.add_template(sender);
+            Ok(())
+        }
+        Err(fault) => Err(Fault::Object(fault)),
+    }
+}
+
+#[inline(never)]
+fn take_tspec(kind: Kind, seen: &mut Seen, at: u16, head: Head, body: &[u8]) -> Result<(), Fault>
+    requires { head.class ≡ 12 }
+    ensures { Takes (object_with_head kind seen.old at head body.now) seen.old seen.new head.end result }
+{
+    match misplaced(kind, seen, at, class::SENDER_TSPEC) {
+        None => {}
+        Some(fault) => return Err(fault),
+    }
+    if is_unread(role(kind, class::SENDER_TSPEC), kind, class::SENDER_TSPEC) {
+        seen.add_skipped(class::SENDER_TSPEC);
+        return Ok(());
+    }
+    match read::tspec(at, head.ctype, body) {
+        Ok(flow) => {
+            seen.add_tspec(flow);
+            Ok(())
+        }
+        Err(fault) => Err(Fault::Object(fault)),
+    }
 }
 
 #[inline(never)]
@@ -95,40 +276,53 @@ fn take_adspec(kind: Kind, seen: &mut Seen, at: u16, head: Head, body: &[u8]) ->
     requires { head.class ≡ 13 }
     ensures { Takes (object_with_head kind seen.old at head body.now) seen.old seen.new head.end result }
 {
-    take_as(class::ADSPEC, kind, seen, at, head, body)
+    match misplaced(kind, seen, at, class::ADSPEC) {
+        None => {}
+        Some(fault) => return Err(fault),
+    }
+    if is_unread(role(kind, class::ADSPEC), kind, class::ADSPEC) {
+        seen.add_skipped(class::ADSPEC);
+        return Ok(());
+    }
+    match read::adspec(head.ctype, body) {
+        Some(adspec) => seen.add_advert(adspec),
+        None => seen.add_skipped(class::ADSPEC),
+    }
+    Ok(())
 }
 
+#[inline(never)]
+fn take_confirm(kind: Kind, seen: &mut Seen, at: u16, head: Head, body: &[u8]) -> Result<(), Fault>
+    requires { head.class ≡ 15 }
+    ensures { Takes (object_with_head kind seen.old at head body.now) seen.old seen.new head.end result }
+{
+    match misplaced(kind, seen, at, class::RESV_CONFIRM) {
+        None => {}
+        Some(fault) => return Err(fault),
+    }
+    match read::confirm(at, head.ctype, body) {
+        Ok(addr) => {
+            seen.add_confirm(addr);
+            Ok(())
+        }
+        Err(fault) => Err(Fault::Object(fault)),
+    }
+}
+
+// Those that stand seldom, or nowhere.
 #[inline(never)]
 fn take_other(kind: Kind, seen: &mut Seen, at: u16, head: Head, body: &[u8]) -> Result<(), Fault>
     ensures { Takes (object_with_head kind seen.old at head body.now) seen.old seen.new head.end result }
 {
-    take_as(head.class, kind, seen, at, head, body)
-}
-
-// The same for a class.
-#[inline(always)]
-fn take_as(
-    number: u8,
-    kind: Kind,
-    seen: &mut Seen,
-    at: u16,
-    head: Head,
-    body: &[u8],
-) -> Result<(), Fault>
-    requires { number ≡ head.class }
-    ensures { Takes (object_with_head kind seen.old at head body.now) seen.old seen.new head.end result }
-{
+    let number = head.class;
     if !is_known(number) {
         return Err(Fault::Object(ObjErr::Class(at, number, head.ctype)));
     }
-    let role = role(kind, number);
-    if !has_place(role, kind, seen, number) {
-        return Err(Fault::Order(at));
+    match misplaced(kind, seen, at, number) {
+        None => {}
+        Some(fault) => return Err(fault),
     }
-    if is_repeated(role, kind, seen, number) {
-        return Err(Fault::Repeated(at));
-    }
-    let object = match read_in(role, kind, at, number, head.ctype, body) {
+    let object = match read_in(kind, at, number, head.ctype, body) {
         Ok(object) => object,
         Err(fault) => return Err(Fault::Object(fault)),
     };
@@ -141,20 +335,26 @@ fn take_as(
     }
 }
 
-// The object with these contents; some are not read in messages of a kind.
+// The fault of an object of a class that may not stand at a place behind those that were seen, or not a second time.
 #[inline(always)]
-fn read_in(
-    role: Role,
-    kind: Kind,
-    at: u16,
-    class: u8,
-    ctype: u8,
-    body: &[u8],
-) -> Result<Object, ObjErr>
-    requires role { role ≡ role_of kind class }
+fn misplaced(kind: Kind, seen: &Seen, at: u16, number: u8) -> Option<Fault>
+    ensures { result ≡ misplaced kind seen.now at number }
+{
+    let role = role(kind, number);
+    if !has_place(role, kind, seen, number) {
+        return Some(Fault::Order(at));
+    }
+    if is_repeated(role, kind, seen, number) {
+        return Some(Fault::Repeated(at));
+    }
+    None
+}
+
+// The object with these contents; some are not read in messages of a kind.
+fn read_in(kind: Kind, at: u16, class: u8, ctype: u8, body: &[u8]) -> Result<Object, ObjErr>
     ensures { result ≡ read_in kind at class ctype body.now }
 {
-    if is_unread(role, kind, class) {
+    if is_unread(role(kind, class), kind, class) {
         return Ok(Object::Skipped { class });
     }
     object_with(at, class, ctype, body)

@@ -1,0 +1,13 @@
+use Rattle.std.proofs.Common.{sym, refl}
+use Rattle.rsvp_objects.specs.declared.object.Object.TheVariants as object
+use Rattle.message_wire.proofs.Taken.{stopped, faulty, said, hop_is_read}
+use Rattle.message_wire.proofs.reading.take_hop.Goals as goal
+
+pub returns-in-Some : goal.returns-in-Some
+returns-in-Some c = stopped c.args.kind c.args.seen.now c.args.seen.now c.args.at c.args.head c.args.body.now c.args.head.end 3 c.in-Some.fault c.requires hop_is_read.known c.in-Some.ensures
+
+pub returns-in-Ok : goal.returns-in-Ok
+returns-in-Ok c = said c.args.kind c.args.seen.now c.add_hop.new.self c.args.at c.args.head c.args.body.now 3 (object.HopOf _) c.requires hop_is_read.known c.in-None.ensures (hop_is_read.read c.args.kind) c.in-Ok.ensures refl c.add_hop.ensures
+
+pub returns-in-Err : goal.returns-in-Err
+returns-in-Err c = faulty c.args.kind c.args.seen.now c.args.seen.now c.args.at c.args.head c.args.body.now c.args.head.end 3 c.in-Err.fault c.requires hop_is_read.known c.in-None.ensures (hop_is_read.read c.args.kind) c.in-Err.ensures

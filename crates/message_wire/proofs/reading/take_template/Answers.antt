@@ -1,0 +1,13 @@
+use Rattle.std.proofs.Common.{sym, refl}
+use Rattle.rsvp_objects.specs.declared.object.Object.TheVariants as object
+use Rattle.message_wire.proofs.Taken.{stopped, faulty, said, template_is_read}
+use Rattle.message_wire.proofs.reading.take_template.Goals as goal
+
+pub returns-in-Some : goal.returns-in-Some
+returns-in-Some c = stopped c.args.kind c.args.seen.now c.args.seen.now c.args.at c.args.head c.args.body.now c.args.head.end 11 c.in-Some.fault c.requires template_is_read.known c.in-Some.ensures
+
+pub returns-in-Ok : goal.returns-in-Ok
+returns-in-Ok c = said c.args.kind c.args.seen.now c.add_template.new.self c.args.at c.args.head c.args.body.now 11 (object.Template _) c.requires template_is_read.known c.in-None.ensures (template_is_read.read c.args.kind) c.in-Ok.ensures refl c.add_template.ensures
+
+pub returns-in-Err : goal.returns-in-Err
+returns-in-Err c = faulty c.args.kind c.args.seen.now c.args.seen.now c.args.at c.args.head c.args.body.now c.args.head.end 11 c.in-Err.fault c.requires template_is_read.known c.in-None.ensures (template_is_read.read c.args.kind) c.in-Err.ensures
