@@ -1,9 +1,10 @@
 -- Steps of the loops over sessions.
 use Rattle.std.specs.Prelude.{◌≡◌, ℕ, nat_lt, ◌+◌, ◌<◌, ◌&&◌, Bool, true, false, not, List, [], ◌∷◌, ◌++◌, map as each, fold, length, take, get_or, slice_get, Some, None, zero, suc, refl}
 use Rattle.std.specs.List.{flat_map}
-use Rattle.std.proofs.Common.{sym, ap, subst, inl, ⊎_elim, ◌∙◌, arith}
+use Rattle.std.proofs.Common.{sym, ap, subst, inl, inr, ⊎_elim, ◌∙◌, arith}
 use Rattle.std.proofs.lemmas.List.{map-append, take_more}
 use Rattle.path_state.specs.Paths.{HopSet, hops_by}
+use Rattle.rsvp_base.specs.Members.{In}
 use Rattle.rsvp_base.specs.Orders.{senders, sessions, units}
 use Rattle.rsvp_base.specs.Sets.{Set}
 use Rattle.rsvp_base.specs.Table.{changed, empty, get, has, keys, size}
@@ -105,16 +106,6 @@ module _ (due : List Session) (touched : Marks) (s : Session) where
   still_due b r is e on = let both = only_due b (is_touched touched s) r e on in (both.0, sym is ∙ both.0, both.1)
 
 -- ---- lists that grow by a row
-pub again : (list : List Near) (i : ℕ) (d : Near) → i < length list → get_or list i d ≡ get_or list i (get_or list i d)
-again [] i d h = absurd (omega (arith, h))
-again (e ∷ es) zero d h = refl
-again (e ∷ es) (suc i) d h = any es i d (get_or es i d) (omega (arith, h))
-  where
-    any : (es : List Near) (i : ℕ) (d b : Near) → i < length es → get_or es i d ≡ get_or es i b
-    any [] i d b h = absurd (omega (arith, h))
-    any (e ∷ es) zero d b h = refl
-    any (e ∷ es) (suc i) d b h = any es i d b (omega (arith, h))
-
 abbrev pub session_of : Near → Session
 session_of e = e.session
 
@@ -153,6 +144,15 @@ module _ (table : NearTable) (list : List Near) (same : each near_row list ≡ t
       at zero (e ∷ es) lt = refl
       at (suc k) (e ∷ es) lt = at k es (omega (arith, lt))
 
+-- a row is one of those that were noted
+noted_in : (table : NearTable) (list : List Near) → each near_row list ≡ table.rows → (i : ℕ) (r : Near) → r ≡ get_or list i r → i < length list → In (near_row r) table.rows
+noted_in table list same i r is h = subst (λ es. In (near_row r) es) same (at i list is h)
+  where
+    at : (k : ℕ) (es : List Near) → r ≡ get_or es k r → k < length es → In (near_row r) (each near_row es)
+    at k [] e lt = absurd (omega (arith, lt))
+    at zero (x ∷ es) e lt = inl (ap near_row e)
+    at (suc k) (x ∷ es) e lt = inr (at k es e (omega (arith, lt)))
+
 -- ---- a session more is told: t are the tables before all, first what was said then
 module _ (t : Tables) (first : Said) (list : List Near) (i : ℕ) (r : Near) (is : r ≡ get_or list i r) (h : i < length list) (table : NearTable) (same : each near_row list ≡ table.rows) where
   abbrev m : State
@@ -174,6 +174,10 @@ module _ (t : Tables) (first : Said) (list : List Near) (i : ℕ) (r : Near) (is
     step_still still d e =
         told.rest (lane_by r.session e) (not_yet table list same i r is h) ∙ still d e ∙ sym (toward_kept m first 0 xs d (lane_by r.session e))
         ∙ ap (λ (z : Tables). toward z.config (facts_of d (state_of z said)) (lane_by r.session e)) (sym (marks 0))
+
+    -- and the previous hops that it has are those that were noted
+    pub step_near : (In (near_row r) table.rows → r.hops ≡ hops_by (under sessions senders t.paths.facts r.session).rows) → r.hops ≡ hops_by (under sessions senders now.paths.facts r.session).rows
+    step_near had = had (noted_in table list same i r is h) ∙ ap (λ (z : Tables). hops_by (under sessions senders z.paths.facts r.session).rows) (sym (marks 0))
 
     pub step_sent : {B : Type 0} (posted : B → Send → B) (start out new : B) (c : ℕ) (due : Session → Bool) → out ≡ fold posted start (flat_map (λ (e : Near). told_round c m (due e.session) first e.session) (take i list))
         → new ≡ fold posted out (told_round c (state_of now said) (due r.session) said r.session) → new ≡ fold posted start (flat_map (λ (e : Near). told_round c m (due e.session) first e.session) (take (i + 1) list))

@@ -44,7 +44,7 @@ module _ (n : State) (c : ℕ) (test : Session → Bool) where
   abbrev pub near_of : NearTable
   near_of = kept test (changed (hops_then n.paths) n.due)
 
-  hops_had : (e : Session × HopSet) → In e near_of.rows → e.1 ≡ hops_in (facts_of c n) e.0
+  pub hops_had : (e : Session × HopSet) → In e near_of.rows → e.1 ≡ hops_in (facts_of c n) e.0
   hops_had e i =
       let k = got_kept sessions test (changed (hops_then n.paths) n.due) e.0 e.1 (in_found sessions near_of e.0 e.1 i) in
       let g = got_changed sessions (hops_then n.paths) n.due e.0 e.1 k.1 in

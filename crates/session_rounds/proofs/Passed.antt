@@ -7,16 +7,17 @@ use Rattle.std.proofs.Common.{sym, ap, subst, ◌∙◌, ⊎_elim}
 use Rattle.std.proofs.lemmas.Bool.{le-leb}
 use Rattle.std.proofs.lemmas.List.Sums.{fold-append}
 use Rattle.rsvp_base.specs.Members.{In}
-use Rattle.rsvp_base.specs.Orders.{sessions}
+use Rattle.rsvp_base.specs.Orders.{senders, sessions}
 use Rattle.rsvp_base.specs.Sets.{Set}
 use Rattle.rsvp_base.specs.Table.{Table, changed, empty, get, has, kept, keys}
+use Rattle.rsvp_base.specs.Under.{under}
 use Rattle.rsvp_base.specs.declared.session.Session.{Session}
 use Rattle.rsvp_base.proofs.Changed.{has_changed}
 use Rattle.rsvp_base.proofs.Fronts.{to_keys}
 use Rattle.rsvp_base.proofs.Members.{tied_in}
 use Rattle.rsvp_base.proofs.SetLaws.{or_left, or_right}
 use Rattle.rsvp_base.proofs.Tables.{get-changed, get-kept, got_changed, then_do}
-use Rattle.path_state.specs.Paths.{later, path_keys}
+use Rattle.path_state.specs.Paths.{HopSet, hops_by, later, path_keys}
 use Rattle.path_state.specs.declared.fact.PathFact.{PathFact}
 use Rattle.blockade_state.specs.Touched.{Marks, is_touched, touched_at, touched_by}
 use Rattle.router_lookups.proofs.Lists.{some_is}
@@ -29,6 +30,7 @@ use Rattle.router_rules.specs.Rule.{facts_after, sent_after}
 use Rattle.node_facts.specs.State.{IsSaid, IsSettled, Said, State, facts_of, said_at}
 use Rattle.node_facts.specs.Waited.{is_fired, later_due}
 use Rattle.node_sends.specs.Saying.{IsRoomy, lane_by}
+use Rattle.node_sends.specs.SendsHere.{hops_in}
 use Rattle.node_sends.specs.Told.{offered}
 use Rattle.waiting_sends.specs.Several.{gone_told, is_among, refreshed}
 use Rattle.waiting_sends.specs.Waits.{IsWatched}
@@ -42,15 +44,16 @@ use Rattle.tables_waiting.specs.Steps.{AreSound, all_dying}
 use Rattle.round_laws.specs.Passing.{IsPassedOver, passed}
 use Rattle.round_laws.specs.Rounds.{AreCleared, AreRounds, AreTold, SessionHops, told_round, torn_near, wants_told, with_hops}
 use Rattle.lane_telling.specs.Rounds.{IsStill}
+use Rattle.lane_telling.proofs.Sent.{hops_are}
 use Rattle.round_laws.proofs.Clocks.{toward_clock}
 use Rattle.round_laws.proofs.Dying.{all_dying_are_there, dead_are_gone}
 use Rattle.round_laws.proofs.Passing.{wait_is_rounds}
 use Rattle.round_laws.proofs.Rounds.{cleared_is_roomy, rounds_are_said}
 use Rattle.round_laws.proofs.Telling.{told_any, wants_any}
-use Rattle.session_rounds.specs.Nears.{AreStill, NearTable, hops_then, noted_before}
+use Rattle.session_rounds.specs.Nears.{AreNear, AreStill, NearTable, hops_then, noted_before}
 use Rattle.session_rounds.proofs.Before.{noted_then}
-use Rattle.session_rounds.proofs.Near.{near_rows, near_sessions}
-use Rattle.session_rounds.proofs.Untouched.{toward_stays}
+use Rattle.session_rounds.proofs.Near.{hops_had, near_rows, near_sessions}
+use Rattle.session_rounds.proofs.Untouched.{hops_stay, toward_stays}
 
 -- ---- t are the tables before, and first what was said
 module _ (t : Tables) (first : Said) (ms word : ℕ) (settled : IsSettled (state_of t first)) (said : IsSaid first (state_of t first)) (short : ms ≤ 2 * t.config.quarter) where
@@ -130,9 +133,16 @@ module _ (t : Tables) (first : Said) (ms word : ℕ) (settled : IsSettled (state
       none_dies : In s (all_dying ms t) → ⊥
       none_dies i = let z : true ≡ false = sym (touched_so s runs (tied_in sessions s (all_dying ms t) i)) ∙ calm in absurd (cc)
 
+      hops_are_there : (hops : HopSet) → In (s, hops) near.rows → hops ≡ hops_by (under sessions senders late.paths.facts s).rows
+      hops_are_there hops i =
+          hops_had n 0 test (s, hops) i
+          ∙ hops_stay t first ms word settled short s none_dies 0
+          ∙ ap (λ (z : State). hops_in (facts_of (0 + ms) z) s) (sym now)
+          ∙ sym (hops_are (0 + ms) m s)
+
       was_there : IsStill m s first
       was_there d e =
-          said.at 0 (lane_by s e) ∙ toward_stays t first ms word settled short (lane_by s e) none_dies 0
+          said.at 0 (lane_by s e) ∙ toward_stays t first ms word settled short s none_dies 0 e
           ∙ ap (λ (z : State). toward z.place (facts_of (0 + ms) z) (lane_by s e)) (sym now) ∙ toward_clock m (0 + ms) d (lane_by s e)
 
     -- as the code tests it
@@ -145,6 +155,9 @@ module _ (t : Tables) (first : Said) (ms word : ℕ) (settled : IsSettled (state
 
       pub still_first : AreStill m first due touched
       still_first s h calm = was_there s (came_so s h) (calm_so s calm)
+
+      pub near_still : AreNear late.paths.facts near due touched
+      near_still s hops i h calm = hops_are_there s (came_so s h) (calm_so s calm) hops i
 
       -- and after lanes were cleared
       pub still_cleared : (clear : Said) → AreCleared m near.rows clear → AreStill (state_of late clear) clear due touched

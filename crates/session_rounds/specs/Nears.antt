@@ -4,6 +4,7 @@ use Rattle.std.specs.Coded.{Coded}
 use Rattle.blockade_state.specs.Touched.{Marks, is_touched}
 use Rattle.path_state.specs.Paths.{HopSet, hop_set_code, hops_by, path_keys}
 use Rattle.path_state.specs.declared.fact.PathFact.{PathFact}
+use Rattle.rsvp_base.specs.Members.{In}
 use Rattle.rsvp_base.specs.Orders.{senders, sessions}
 use Rattle.rsvp_base.specs.Sets.{with_keys}
 use Rattle.rsvp_base.specs.Table.{Table, table_code, values}
@@ -40,3 +41,7 @@ noted_before paths lost s touched = Some (hops_before paths lost s)
 -- of the sessions that are due and of which nothing changed, what was said to each lane is what goes there
 abbrev pub AreStill : State → Said → List Session → Marks → Type 0
 AreStill m said due touched = (s : Session) → is_among due s ≡ true → is_touched touched s ≡ false → IsStill m s said
+
+-- and by these paths they have the previous hops that they had
+abbrev pub AreNear : Table path_keys (PathFact × ℕ) → NearTable → List Session → Marks → Type 0
+AreNear paths near due touched = (s : Session) (hops : HopSet) → In (s, hops) near.rows → is_among due s ≡ true → is_touched touched s ≡ false → hops ≡ hops_by (under sessions senders paths s).rows

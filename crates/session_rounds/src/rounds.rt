@@ -1,7 +1,10 @@
 //! The lanes of sessions, one session after another.
 ghost use Rattle.std.specs.Prelude.{◌≡◌, ℕ, ◌&&◌, not, fold, true, nat_lt, Some, map};
 ghost use Rattle.std.specs.List.{flat_map};
+ghost use Rattle.path_state.specs.Paths.{hops_by};
+ghost use Rattle.rsvp_base.specs.Orders.{senders, sessions};
 ghost use Rattle.rsvp_base.specs.Table.{empty, get, keys, size};
+ghost use Rattle.rsvp_base.specs.Under.{under};
 ghost use Rattle.blockade_state.specs.Touched.{is_touched};
 ghost use Rattle.router_rules.specs.Known.{Lane};
 ghost use Rattle.style_rules.specs.Merge.{PartTable};
@@ -13,7 +16,7 @@ ghost use Rattle.waiting_sends.specs.Several.{is_among};
 ghost use Rattle.node_tables.specs.Whole.{state_of};
 ghost use Rattle.round_laws.specs.Rounds.{AreCleared, AreTold, told_round, torn_near, wants_once, wants_told};
 ghost use Rattle.lane_telling.specs.Rounds.{IsStill};
-ghost use Rattle.session_rounds.specs.Nears.{AreStill, near_row};
+ghost use Rattle.session_rounds.specs.Nears.{AreNear, AreStill, near_row};
 
 use crate::nears::{Near, Nears};
 use blockade_state::Touched;
@@ -127,43 +130,46 @@ fn tell_wishes<O: Outbox>(
     unmark(tables, session, &used);
 }
 
-// The Resvs of the lanes of a session that is due, where what was said there is what goes there.
-fn refresh_session<O: Outbox>(tables: &Tables, said: &LaneTable, session: Session, out: &mut O)
-    requires { IsStill (state_of tables.now said.now) session said.now }
-    ensures { (c : ℕ) → out.new ≡ fold O.posted out.old (told_round c (state_of tables.now said.now) true said.now session) }
+// The Resvs of the lanes of a session that is due, where what was said there is what goes there, and the hops are those from
+// which its paths come.
+fn refresh_session<O: Outbox>(tables: &Tables, said: &LaneTable, near: &Near, out: &mut O)
+    requires still { IsStill (state_of tables.now said.now) near.now.session said.now }
+    requires near { near.now.hops ≡ hops_by (under sessions senders tables.now.paths.facts near.now.session).rows }
+    ensures { (c : ℕ) → out.new ≡ fold O.posted out.old (told_round c (state_of tables.now said.now) true said.now near.now.session) }
 {
-    let hops = tables.paths.hops(session);
-    refresh_lanes(tables, said, session, &hops, out);
+    refresh_lanes(tables, said, near.session, &near.hops, out);
 }
 
 // The Resvs of a session's lanes, where they changed or are due; the marks that they use are taken away. What was said before
-// is of lanes from which a path comes, and, where the session is `still`, it is due and that is what goes there.
+// is of lanes from which a path comes, and, where the session is `still`, it is due and that is what goes there, and its hops
+// are those that it had.
 fn tell_session<O: Outbox>(
     tables: &mut Tables,
     said: &mut LaneTable,
-    session: Session,
+    near: &Near,
     due: bool,
     still: bool,
     out: &mut O,
 )
     requires roomy { IsRoomy (state_of tables.old said.old) said.old }
     requires due { still ≡ true → due ≡ true }
-    requires still { still ≡ true → IsStill (state_of tables.old said.old) session said.old }
-    ensures sent { (c : ℕ) → out.new ≡ fold O.posted out.old (told_round c (state_of tables.old said.old) due said.old session) }
-    ensures told { (c : ℕ) → IsTold (state_of tables.old said.old) session (lanes_by (keys (hops_in (facts_of c (state_of tables.old said.old)) session))) said.new }
+    requires still { still ≡ true → IsStill (state_of tables.old said.old) near.now.session said.old }
+    requires near { still ≡ true → near.now.hops ≡ hops_by (under sessions senders tables.old.paths.facts near.now.session).rows }
+    ensures sent { (c : ℕ) → out.new ≡ fold O.posted out.old (told_round c (state_of tables.old said.old) due said.old near.now.session) }
+    ensures told { (c : ℕ) → IsTold (state_of tables.old said.old) near.now.session (lanes_by (keys (hops_in (facts_of c (state_of tables.old said.old)) near.now.session))) said.new }
     ensures roomy { IsRoomy (state_of tables.old said.old) said.new }
-    ensures marks { (c : ℕ) → tables.new ≡ record tables.old { wants = wants_once c (state_of tables.old said.old) said.old session } }
+    ensures marks { (c : ℕ) → tables.new ≡ record tables.old { wants = wants_once c (state_of tables.old said.old) said.old near.now.session } }
 {
     if still {
-        refresh_session(tables, said, session, out);
+        refresh_session(tables, said, near, out);
         return;
     }
-    tell_wishes(tables, said, session, due, out);
+    tell_wishes(tables, said, near.session, due, out);
 }
 
 // The Resvs of the sessions' lanes, where they changed or their session is one of `due`: by session, style and hop. The marks
 // that they use are taken away. What was said before is of lanes from which a path comes, and, where a session is only due, it
-// is what goes there.
+// is what goes there, and the hops are those that it had: they are not looked up again.
 pub(crate) fn tell_all<O: Outbox>(
     tables: &mut Tables,
     said: &mut LaneTable,
@@ -174,6 +180,7 @@ pub(crate) fn tell_all<O: Outbox>(
 )
     requires roomy { IsRoomy (state_of tables.old said.old) said.old }
     requires still { AreStill (state_of tables.old said.old) said.old due.now touched.now }
+    requires near { AreNear tables.old.paths.facts nears.now due.now touched.now }
     ensures sent { (c : ℕ) → out.new ≡ fold O.posted out.old (flat_map (λ s. told_round c (state_of tables.old said.old) (is_among due.now s) said.old s) (keys nears.now)) }
     ensures told { AreTold (state_of tables.old said.old) (keys nears.now) said.new }
     ensures roomy { IsRoomy (state_of tables.old said.old) said.new }
@@ -181,9 +188,9 @@ pub(crate) fn tell_all<O: Outbox>(
 {
     let list = nears.as_slice();
     for i in 0..list.len() {
-        let session = list[i].session;
-        let is_due = is_one_of(due, session);
-        let still = is_still(is_due, touched, session);
-        tell_session(tables, said, session, is_due, still, out);
+        let near = &list[i];
+        let is_due = is_one_of(due, near.session);
+        let still = is_still(is_due, touched, near.session);
+        tell_session(tables, said, near, is_due, still, out);
     }
 }

@@ -27,6 +27,9 @@ tear_all-requires g c = λ s among calm. let z : false ≡ true = among in absur
 pub tell_all-requires-clause-still : goal.tell_all-requires-clause-still
 tell_all-requires-clause-still g c = λ s among calm. let z : false ≡ true = among in absurd (cc)
 
+pub tell_all-requires-clause-near : goal.tell_all-requires-clause-near
+tell_all-requires-clause-near g c = λ s hops there among calm. let z : false ≡ true = among in absurd (cc)
+
 pub tell_all-requires-clause-roomy : goal.tell_all-requires-clause-roomy
 tell_all-requires-clause-roomy g c = roomy_first c.args.tables.now c.args.said.now c.reroute-old.new.self c.requires.settled c.requires.said
 

@@ -16,9 +16,9 @@ use Rattle.tables_waiting.specs.Steps.{all_dying}
 use Rattle.round_laws.specs.Passing.{passed}
 use Rattle.round_laws.specs.Rounds.{AreCleared, AreTold, told_round, torn_near, wants_told}
 use Rattle.round_laws.proofs.Dying.{dead_are_gone}
-use Rattle.session_rounds.specs.Nears.{NearTable}
+use Rattle.session_rounds.specs.Nears.{AreNear, NearTable}
 use Rattle.session_rounds.proofs.Before.{hops_few}
-use Rattle.session_rounds.proofs.Passed.{facts_last, four_sent, noted_is, place_last, roomy, said_after, sent_all, settled_last, sound_last, still_cleared, still_first, watched_has}
+use Rattle.session_rounds.proofs.Passed.{facts_last, four_sent, near_still, noted_is, place_last, roomy, said_after, sent_all, settled_last, sound_last, still_cleared, still_first, watched_has}
 use Rattle.session_rounds.proofs.Passed.{near as near_in}
 use Rattle.session_rounds.proofs.passing.pass_time.Goals as goal
 
@@ -72,6 +72,18 @@ tell_all-requires-clause-still g c =
     let cleared = subst (λ (z : NearTable). AreCleared (state_of c.forget_all.new.tables c.args.said.now) z.rows c.clear_all.new.said) near c.clear_all.ensures in
     let due = c.as_slice-due.ensures.sessions ∙ ap (λ (z : Set sessions). keys z) c.age_all-fired.ensures.fired in
     still_cleared c.args.tables.now c.args.said.now c.args.ms c.args.word c.requires.settled c.requires.said c.requires.short c.forget_all.new.tables now c.as_slice-due.result.now c.age_all-fired.new.touched due touched c.clear_all.new.said cleared
+
+pub tell_all-requires-clause-near : goal.tell_all-requires-clause-near
+tell_all-requires-clause-near g c =
+    let now : state_of c.forget_all.new.tables c.args.said.now ≡ passed c.args.ms c.args.word (state_of c.args.tables.now c.args.said.now) = c.forget_all.ensures.state c.args.said.now ∙ (λ i. after_wait (c.age_all-fired.ensures.dead i) (c.age_all-fired.ensures.state c.args.said.now i)) in
+    let touched : c.age_all-fired.new.touched ≡ touched_by (all_dying c.args.ms c.args.tables.now) (changed unmarked c.args.tables.now.due) = c.age_all-fired.ensures.touched ∙ ap (touched_by (all_dying c.args.ms c.args.tables.now)) c.watch_all-touched.ensures in
+    let near : c.note_touched.new.self ≡ near_in c.args.tables.now c.args.said.now c.args.ms c.args.word c.requires.settled c.requires.said c.requires.short =
+    c.note_touched.ensures
+    ∙ noted_is c.args.tables.now c.args.said.now c.args.ms c.args.word c.requires.settled c.requires.said c.requires.short c.age_all-fired.new.tables.paths.facts c.age_all-fired.new.lost c.age_all-fired.new.touched c.age_all-fired.result
+    (ap (λ (z : State). z.paths) (c.age_all-fired.ensures.state empty)) c.age_all-fired.ensures.lost touched c.age_all-fired.ensures.fired in
+    let due = c.as_slice-due.ensures.sessions ∙ ap (λ (z : Set sessions). keys z) c.age_all-fired.ensures.fired in
+    subst (λ (z : NearTable). AreNear c.forget_all.new.tables.paths.facts z c.as_slice-due.result.now c.age_all-fired.new.touched) (sym near)
+    (near_still c.args.tables.now c.args.said.now c.args.ms c.args.word c.requires.settled c.requires.said c.requires.short c.forget_all.new.tables now c.as_slice-due.result.now c.age_all-fired.new.touched due touched)
 
 pub returns-clause-facts : goal.returns-clause-facts
 returns-clause-facts g c = λ clock.

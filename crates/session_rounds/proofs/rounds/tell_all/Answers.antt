@@ -1,5 +1,4 @@
 use Rattle.std.proofs.Common.{List, fold, refl, sym, ap, subst, ◌∙◌, arith, map as each}
-use Rattle.std.specs.Prelude.{get_or}
 use Rattle.std.specs.List.{flat_map}
 use Rattle.std.proofs.lemmas.List.{take_all}
 use Rattle.rsvp_base.specs.declared.session.Session.{Session}
@@ -9,7 +8,7 @@ use Rattle.node_tables.specs.Whole.{state_of}
 use Rattle.round_laws.specs.Rounds.{AreTold, told_round, wants_told}
 use Rattle.round_laws.proofs.Telling.{told_nothing}
 use Rattle.session_rounds.specs.declared.nears.Near.{Near}
-use Rattle.session_rounds.proofs.Loops.{again, all_sessions, before_roomy, no_wants, session_of, step_marks, step_roomy, step_sent, step_still, step_told, still_due}
+use Rattle.session_rounds.proofs.Loops.{all_sessions, before_roomy, no_wants, session_of, step_marks, step_near, step_roomy, step_sent, step_still, step_told, still_due}
 use Rattle.session_rounds.proofs.rounds.tell_all.Goals as goal
 
 pub loop-i-init : goal.loop-i-init
@@ -23,20 +22,28 @@ loop-i-init g c =
 
 pub tell_session-requires-clause-roomy : goal.tell_session-requires-clause-roomy
 tell_session-requires-clause-roomy g c =
-    before_roomy c.args.tables.now c.args.said.now c.as_slice-list.result.now c.loop-i.i (get_or c.as_slice-list.result.now c.loop-i.i c.index-list-i.result) (again c.as_slice-list.result.now c.loop-i.i c.index-list-i.result c.loop-i-test.true) c.loop-i-test.true c.args.nears.now c.as_slice-list.ensures.rows c.loop-i.tables c.loop-i.said c.loop-i.invariant.marks c.loop-i.invariant.told c.loop-i.invariant.roomy
+    before_roomy c.args.tables.now c.args.said.now c.as_slice-list.result.now c.loop-i.i c.index-list-i.result c.index-list-i.is c.loop-i-test.true c.args.nears.now c.as_slice-list.ensures.rows c.loop-i.tables c.loop-i.said c.loop-i.invariant.marks c.loop-i.invariant.told c.loop-i.invariant.roomy
 
 pub tell_session-requires-clause-due : goal.tell_session-requires-clause-due
 tell_session-requires-clause-due g c = λ on.
-    let r = get_or c.as_slice-list.result.now c.loop-i.i c.index-list-i.result in
+    let r = c.index-list-i.result in
     (still_due c.args.due.now c.args.touched.now r.session c.is_one_of-is_due.result c.is_still-still.result c.is_one_of-is_due.ensures c.is_still-still.ensures on).0
 
 pub tell_session-requires-clause-still : goal.tell_session-requires-clause-still
 tell_session-requires-clause-still g c = λ on.
     let list = c.as_slice-list.result.now in
-    let r = get_or list c.loop-i.i c.index-list-i.result in
+    let r = c.index-list-i.result in
     let q = still_due c.args.due.now c.args.touched.now r.session c.is_one_of-is_due.result c.is_still-still.result c.is_one_of-is_due.ensures c.is_still-still.ensures on in
-    step_still c.args.tables.now c.args.said.now list c.loop-i.i r (again list c.loop-i.i c.index-list-i.result c.loop-i-test.true) c.loop-i-test.true c.args.nears.now c.as_slice-list.ensures.rows c.loop-i.tables c.loop-i.said c.loop-i.invariant.marks c.loop-i.invariant.told
+    step_still c.args.tables.now c.args.said.now list c.loop-i.i r c.index-list-i.is c.loop-i-test.true c.args.nears.now c.as_slice-list.ensures.rows c.loop-i.tables c.loop-i.said c.loop-i.invariant.marks c.loop-i.invariant.told
     (c.requires.still r.session q.1 q.2)
+
+pub tell_session-requires-clause-near : goal.tell_session-requires-clause-near
+tell_session-requires-clause-near g c = λ on.
+    let list = c.as_slice-list.result.now in
+    let r = c.index-list-i.result in
+    let q = still_due c.args.due.now c.args.touched.now r.session c.is_one_of-is_due.result c.is_still-still.result c.is_one_of-is_due.ensures c.is_still-still.ensures on in
+    step_near c.args.tables.now c.args.said.now list c.loop-i.i r c.index-list-i.is c.loop-i-test.true c.args.nears.now c.as_slice-list.ensures.rows c.loop-i.tables c.loop-i.said c.loop-i.invariant.marks c.loop-i.invariant.told
+    (λ i. c.requires.near r.session r.hops i q.1 q.2)
 
 pub loop-i-preserved : goal.loop-i-preserved
 loop-i-preserved g c =
@@ -46,12 +53,12 @@ loop-i-preserved g c =
     let so_far = c.loop-i.invariant in
     record {
       sent = λ clock.
-          step_sent t first list c.loop-i.i (get_or c.as_slice-list.result.now c.loop-i.i c.index-list-i.result) (again c.as_slice-list.result.now c.loop-i.i c.index-list-i.result c.loop-i-test.true) c.loop-i-test.true c.args.nears.now c.as_slice-list.ensures.rows c.loop-i.tables c.loop-i.said so_far.marks so_far.told g.O.Outbox.posted c.args.out.now c.loop-i.out c.tell_session.new.out clock (is_among c.args.due.now)
+          step_sent t first list c.loop-i.i c.index-list-i.result c.index-list-i.is c.loop-i-test.true c.args.nears.now c.as_slice-list.ensures.rows c.loop-i.tables c.loop-i.said so_far.marks so_far.told g.O.Outbox.posted c.args.out.now c.loop-i.out c.tell_session.new.out clock (is_among c.args.due.now)
           (so_far.sent clock)
-          (c.tell_session.ensures.sent clock ∙ ap (λ b. fold g.O.Outbox.posted c.loop-i.out (told_round clock (state_of c.loop-i.tables c.loop-i.said) b c.loop-i.said (get_or c.as_slice-list.result.now c.loop-i.i c.index-list-i.result).session)) c.is_one_of-is_due.ensures);
-      told = step_told t first list c.loop-i.i (get_or c.as_slice-list.result.now c.loop-i.i c.index-list-i.result) (again c.as_slice-list.result.now c.loop-i.i c.index-list-i.result c.loop-i-test.true) c.loop-i-test.true c.args.nears.now c.as_slice-list.ensures.rows c.loop-i.tables c.loop-i.said so_far.marks so_far.told c.tell_session.new.said c.tell_session.ensures.told;
-      roomy = step_roomy t first list c.loop-i.i (get_or c.as_slice-list.result.now c.loop-i.i c.index-list-i.result) (again c.as_slice-list.result.now c.loop-i.i c.index-list-i.result c.loop-i-test.true) c.loop-i-test.true c.args.nears.now c.as_slice-list.ensures.rows c.loop-i.tables c.loop-i.said so_far.marks so_far.told c.tell_session.new.said c.tell_session.ensures.roomy;
-      marks = step_marks t first list c.loop-i.i (get_or c.as_slice-list.result.now c.loop-i.i c.index-list-i.result) (again c.as_slice-list.result.now c.loop-i.i c.index-list-i.result c.loop-i-test.true) c.loop-i-test.true c.args.nears.now c.as_slice-list.ensures.rows c.loop-i.tables c.loop-i.said so_far.marks so_far.told c.tell_session.new.tables c.tell_session.ensures.marks;
+          (c.tell_session.ensures.sent clock ∙ ap (λ b. fold g.O.Outbox.posted c.loop-i.out (told_round clock (state_of c.loop-i.tables c.loop-i.said) b c.loop-i.said c.index-list-i.result.session)) c.is_one_of-is_due.ensures);
+      told = step_told t first list c.loop-i.i c.index-list-i.result c.index-list-i.is c.loop-i-test.true c.args.nears.now c.as_slice-list.ensures.rows c.loop-i.tables c.loop-i.said so_far.marks so_far.told c.tell_session.new.said c.tell_session.ensures.told;
+      roomy = step_roomy t first list c.loop-i.i c.index-list-i.result c.index-list-i.is c.loop-i-test.true c.args.nears.now c.as_slice-list.ensures.rows c.loop-i.tables c.loop-i.said so_far.marks so_far.told c.tell_session.new.said c.tell_session.ensures.roomy;
+      marks = step_marks t first list c.loop-i.i c.index-list-i.result c.index-list-i.is c.loop-i-test.true c.args.nears.now c.as_slice-list.ensures.rows c.loop-i.tables c.loop-i.said so_far.marks so_far.told c.tell_session.new.tables c.tell_session.ensures.marks;
     }
 
 pub returns-clause-sent : goal.returns-clause-sent
