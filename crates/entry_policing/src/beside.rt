@@ -9,7 +9,7 @@ ghost use Rattle.resv_state.specs.Walks.{rests};
 ghost use Rattle.entry_policing.specs.Policing.{passes_by};
 
 use resv_state::{ResvFact, ResvTable};
-use rsvp_base::{Addr, Part, Session, Unit};
+use rsvp_base::{Part, Session, Unit};
 use soft_table::Finger;
 use std::cmp::Ordering;
 use style_rules::Style;
@@ -29,7 +29,7 @@ pub(crate) fn is_passed<S: Style>(
     ensures { result ≡ list_any (passes_by iface unit part.now) (under sessions rests table.now.facts session).rows }
 {
     // The proof sees here what holds of every table.
-    let _known = table.find(session, 0, Addr(0), Unit::One);
+    table.limits();
     let mut finger = Finger::default();
     let mut next = table.first(session);
     for k in 0..FACTS {

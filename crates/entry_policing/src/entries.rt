@@ -16,7 +16,7 @@ use node_telling::Config;
 use path_state::PathTable;
 use resv_state::ResvTable;
 use router_rules::Entry;
-use rsvp_base::{Addr, Session, StyleKind, Unit};
+use rsvp_base::{Session, StyleKind};
 use style_rules::{Fixed, Parts, Shared, Style, Wild};
 
 /// The k-th entry of an interface's book by session, style and unit, from 0, with its flags. `None` exactly where k is not
@@ -35,10 +35,9 @@ pub fn entry_at(
     ensures few { (c : ℕ) (n : State) → n.wild ≡ wild.now.facts → n.fixed ≡ fixed.now.facts → n.shared ≡ shared.now.facts → length (entries_of n.place (facts_of c n) iface) ≤ 3072 }
 {
     // The proof sees here what holds of every table.
-    let any = Session::default();
-    let _wild = wild.find(any, iface, Addr(0), Unit::One);
-    let _fixed = fixed.find(any, iface, Addr(0), Unit::One);
-    let _shared = shared.find(any, iface, Addr(0), Unit::One);
+    let _wild = wild.limits();
+    let _fixed = fixed.limits();
+    let _shared = shared.limits();
     let Some((key, _)) = book.at(iface, k) else {
         return None;
     };
@@ -78,6 +77,6 @@ fn parts_in<S: Style>(table: &ResvTable<S>, session: Session, iface: u8) -> Part
     ensures styled { AreOfStyle S.kind_is table.now.facts }
 {
     // The proof sees here that the table's reservations are of the style.
-    let _known = table.find(session, iface, Addr(0), Unit::One);
+    table.limits();
     table.parts(session, iface)
 }

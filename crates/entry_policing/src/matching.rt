@@ -6,7 +6,7 @@ ghost use Rattle.entry_policing.specs.Policing.{count_of, is_counted};
 
 use node_telling::{Config, name_of};
 use path_state::{PathFact, PathTable};
-use rsvp_base::{Part, Sender, Session, StyleKind};
+use rsvp_base::{Part, Session, StyleKind};
 
 // At most so many senders of a session.
 const SENDERS: usize = 16;
@@ -25,7 +25,7 @@ pub(crate) fn count(
     ensures { result ≡ count_of config.now session style iface part.now marked (under sessions senders paths.now.facts session).rows }
 {
     // The proof sees here what holds of every table.
-    let _known = paths.find(session, Sender::default());
+    paths.limits();
     let mut count = 0;
     for k in 0..SENDERS {
         let Some(path) = paths.at(session, k) else {

@@ -15,7 +15,6 @@ use error_confirm::confirms;
 use node_telling::{Config, Outbox};
 use resv_state::{ResvFact, ResvTable};
 use router_rules::{Heard, Why};
-use rsvp_base::{Addr, Unit};
 use rsvp_messages::{Ask, Message, ResvConfMsg};
 use soft_table::Finger;
 use style_rules::{Fixed, Shared, Style, Wild};
@@ -66,7 +65,7 @@ fn tell_confs<S: Style, O: Outbox>(table: &ResvTable<S>, message: &ResvConfMsg, 
     ensures some { result ≡ are_some (confs_told message.now S.kind_is (under sessions rests table.now.facts message.now.session).rows) }
 {
     // The proof sees here what holds of every table.
-    let _known = table.find(message.session, 0, Addr(0), Unit::One);
+    table.limits();
     let mut last = None;
     let mut finger = Finger::default();
     let mut next = table.first(message.session);

@@ -24,7 +24,7 @@ use node_telling::{Config, Outbox, upstream};
 use path_state::PathTable;
 use resv_state::{ResvFact, ResvTable};
 use router_rules::{Heard, Why};
-use rsvp_base::{Addr, Flow, Hop, Sender, Session, StyleKind, Unit};
+use rsvp_base::{Addr, Flow, Hop, Sender, Session, StyleKind};
 use rsvp_messages::{Message, ResvErrMsg};
 use soft_table::Finger;
 use style_rules::{Fixed, Shared, Style, Upstream, Wall, Wild};
@@ -111,7 +111,7 @@ fn is_previous_hop(paths: &PathTable, session: Session, hop: (u8, Addr)) -> bool
     ensures { (c : ℕ) (n : State) → n.paths ≡ paths.now.facts → result ≡ list_any (came_by hop) (values (paths_in (facts_of c n) session)) }
 {
     // The proof sees here that each path stands under its own sender.
-    let _known = paths.find(session, Sender::default());
+    paths.limits();
     !paths.senders_via(session, hop.0, hop.1).is_empty()
 }
 
@@ -126,7 +126,7 @@ fn tell_errors<S: Style, O: Outbox>(
     ensures { out.new ≡ fold O.posted out.old (errors_told config.now up.now message.now S.kind_is (under sessions rests table.now.facts message.now.session).rows) }
 {
     // The proof sees here what holds of every table.
-    let _known = table.find(message.session, 0, Addr(0), Unit::One);
+    table.limits();
     let mut last = None;
     let mut finger = Finger::default();
     let mut next = table.first(message.session);

@@ -10,7 +10,7 @@ ghost use Rattle.lane_telling.specs.Rounds.{IsFull, cleared_of, lanes_of};
 use lane_state::LaneTable;
 use node_tables::Tables;
 use path_state::Hops;
-use rsvp_base::{Addr, Sender, Session, StyleKind};
+use rsvp_base::{Addr, Session, StyleKind};
 use style_rules::Parts;
 
 // Forgets what was said to a lane.
@@ -63,7 +63,7 @@ fn clear_style(
     requires { IsFull said.old }
     ensures { IsCleared (state_of tables.now said.old) session (lanes_of style (keys hops.now)) said.new }
 {
-    let _known = tables.paths.find(session, Sender::default());
+    tables.paths.limits();
     let list = hops.as_slice();
     for i in 0..list.len() {
         clear_lane(tables, said, session, style, list[i]);

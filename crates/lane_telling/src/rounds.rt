@@ -17,7 +17,7 @@ use lane_state::LaneTable;
 use node_tables::Tables;
 use node_telling::Outbox;
 use path_state::Hops;
-use rsvp_base::{Addr, Sender, Session, StyleKind};
+use rsvp_base::{Addr, Session, StyleKind};
 
 // The ResvTear of a lane, of what was said there. Where that is nothing, what goes there is not worked out.
 fn tear_lane<O: Outbox>(
@@ -85,7 +85,7 @@ fn tell_style<O: Outbox>(
     ensures told { IsTold (state_of tables.now said.old) session (lanes_of style (keys hops.now)) said.new }
     ensures roomy { IsRoomy (state_of tables.now empty) said.new }
 {
-    let _known = tables.paths.find(session, Sender::default());
+    tables.paths.limits();
     let list = hops.as_slice();
     for i in 0..list.len() {
         tell_lane(tables, said, session, style, list[i], asked, due, out);

@@ -69,7 +69,7 @@ fn is_any_open<S: Style>(table: &ResvTable<S>, session: Session, up: &Upstream, 
     ensures { result ≡ list_any (is_resv_open S.kind_is up.now unit) (under sessions rests table.now.facts session).rows }
 {
     // The proof sees here what holds of every table.
-    let _known = table.know();
+    table.limits();
     let mut finger = Finger::default();
     let mut next = table.first(session);
     for k in 0..FACTS {

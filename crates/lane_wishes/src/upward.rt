@@ -17,14 +17,14 @@ use local_state::LocalWant;
 use node_tables::Tables;
 use node_telling::{name_of, upstream};
 use path_state::PathFact;
-use rsvp_base::{Addr, Hop, Sender, Senders, Session, StyleKind};
+use rsvp_base::{Addr, Hop, Senders, Session, StyleKind};
 use style_rules::{Parts, Upstream};
 
 /// The names via a hop: those under which the style lists the senders whose paths come from there.
 pub fn names_via(tables: &Tables, session: Session, style: StyleKind, hop: (u8, Addr)) -> Senders
     ensures { (c : ℕ) (said : Said) → result ≡ names_seen c (state_of tables.now said) session style hop }
 {
-    let _known = tables.paths.find(session, Sender::default());
+    tables.paths.limits();
     let via = tables.paths.senders_via(session, hop.0, hop.1);
     let mut names = Senders::new();
     for sender in via.as_slice() {
@@ -128,7 +128,7 @@ fn handle_for(tables: &Tables, session: Session, via: &Senders) -> u32
     match via.at(0) {
         Some(first) => handle_of(tables.paths.find(session, first)),
         None => {
-            let _known = tables.paths.find(session, Sender::default());
+            tables.paths.limits();
             0
         }
     }

@@ -16,7 +16,7 @@ use node_tables::Tables;
 use resv_book::stand;
 use resv_state::ResvFact;
 use router_rules::StaleErr;
-use rsvp_base::{Addr, Session, StyleKind, Unit};
+use rsvp_base::{Session, StyleKind};
 use style_rules::{Target, Wall};
 
 /// A reservation is left over at a node, with this much left, in milliseconds, in place of the one that stands under its key.
@@ -76,8 +76,7 @@ pub fn leave_wall(
 fn look(tables: &Tables)
     ensures { AreFew (state_of tables.now empty) }
 {
-    let session = Session::default();
-    let _wild = tables.wild.find(session, 0, Addr(0), Unit::One);
-    let _fixed = tables.fixed.find(session, 0, Addr(0), Unit::One);
-    let _shared = tables.shared.find(session, 0, Addr(0), Unit::One);
+    let _wild = tables.wild.limits();
+    let _fixed = tables.fixed.limits();
+    let _shared = tables.shared.limits();
 }

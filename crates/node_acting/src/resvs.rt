@@ -57,7 +57,7 @@ pub fn take_resvs(tables: &mut Tables, iface: u8, message: &ResvMsg, answer: &mu
 fn look(tables: &Tables)
     ensures { (said : Said) → AreOfStyles (state_of tables.now said) }
 {
-    let _wild = tables.wild.know();
-    let _fixed = tables.fixed.know();
-    let _shared = tables.shared.know();
+    let _wild = tables.wild.limits();
+    let _fixed = tables.fixed.limits();
+    let _shared = tables.shared.limits();
 }

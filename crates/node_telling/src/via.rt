@@ -24,7 +24,7 @@ pub fn upstream(
     ensures { (c : ℕ) (n : State) → n.place ≡ config.now → n.paths ≡ paths.now.facts → n.walls ≡ walls.now → result ≡ up_at c n session style hop }
 {
     // The proof sees here that each path stands under its own sender.
-    let _known = paths.find(session, Sender::default());
+    paths.limits();
     let names = paths.senders_via(session, hop.0, hop.1);
     let mut up = Upstream::new();
     for sender in names.as_slice() {

@@ -212,7 +212,7 @@ fn take_by_style(tables: &mut Tables, asker: &Asker, all: &Matching, ask: &Ask, 
 fn look(tables: &Tables)
     ensures { AreFew (state_of tables.now empty) }
 {
-    let _wild = tables.wild.know();
-    let _fixed = tables.fixed.know();
-    let _shared = tables.shared.know();
+    let _wild = tables.wild.limits();
+    let _fixed = tables.fixed.limits();
+    let _shared = tables.shared.limits();
 }

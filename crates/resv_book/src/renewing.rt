@@ -26,7 +26,7 @@ pub(crate) fn look<S: Style>(table: &ResvTable<S>)
     ensures style { AreOfStyle S.kind_is table.now.facts }
     ensures within { IsWithinLimits S.kind_is (resv_lines S.kind_is table.now.facts) }
 {
-    table.know();
+    table.limits();
 }
 
 // What holds of every book.

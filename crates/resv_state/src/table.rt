@@ -73,8 +73,9 @@ impl<S: Style> ResvTable<S> {
         })
     }
 
-    /// What holds of every table. Nothing is looked up for it.
-    pub fn know(&self)
+    /// What holds of every table: its facts are of its style, and within the limits. This says it to who needs to know, and
+    /// looks nothing up.
+    pub fn limits(&self)
         ensures style { AreOfStyle S.kind_is self.now.facts }
         ensures within { IsWithinLimits S.kind_is (resv_lines S.kind_is self.now.facts) }
     {

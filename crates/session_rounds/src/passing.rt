@@ -12,7 +12,6 @@ use lane_state::LaneTable;
 use node_tables::Tables;
 use node_telling::Outbox;
 use node_waiting::{tell_dead, tell_fired, watch_all};
-use rsvp_base::{Sender, Session};
 use tables_waiting::{age_all, forget_all};
 
 /// Lets time pass over a node, in milliseconds, at most half a period (RFC 2205, 3.7). What is not refreshed dies: its senders
@@ -40,8 +39,7 @@ pub fn pass_time<O: Outbox>(
     ensures ifaces { tables.new.book.ifaces ≡ tables.old.book.ifaces }
 {
     let mut touched = watch_all(&tables.due);
-    // The proof sees here that the paths are within their limits.
-    let _none = tables.paths.find(Session::default(), Sender::default());
+    tables.paths.limits();
     let fired = age_all(
         tables,
         ms,

@@ -15,10 +15,10 @@ loop-k-preserved g c =
     let s = c.args.session in
     let f = c.in-Some.fact.now in
     let is = sym (ap option_copied c.in-Some.is) ∙ c.loop-k.invariant.at in
-    let w = met st m c.find-known.ensures.style s c.loop-k.k f is in
+    let w = met st m c.limits.ensures.style s c.loop-k.k f is in
     let test = passes_by c.args.iface c.args.unit c.args.part.now in
     let rest = drop (c.loop-k.k + 1) (rows_in m s) in
-    let here = passes_here st m c.find-known.ensures.style s c.loop-k.k f w c.args.iface c.args.unit c.args.part.now in
+    let here = passes_here st m c.limits.ensures.style s c.loop-k.k f w c.args.iface c.args.unit c.args.part.now in
     let off : test w.row ≡ false = here ∙ sym c.passes_by.ensures ∙ c.if-passes_by.false in
     record {
       at = following m s f.session f _ c.loop-k.k w.session c.after-next.ensures.next is;
@@ -32,10 +32,10 @@ returns-then-passes_by g c =
     let s = c.args.session in
     let f = c.in-Some.fact.now in
     let is = sym (ap option_copied c.in-Some.is) ∙ c.loop-k.invariant.at in
-    let w = met st m c.find-known.ensures.style s c.loop-k.k f is in
+    let w = met st m c.limits.ensures.style s c.loop-k.k f is in
     let test = passes_by c.args.iface c.args.unit c.args.part.now in
     let rest = drop (c.loop-k.k + 1) (rows_in m s) in
-    let here = passes_here st m c.find-known.ensures.style s c.loop-k.k f w c.args.iface c.args.unit c.args.part.now in
+    let here = passes_here st m c.limits.ensures.style s c.loop-k.k f w c.args.iface c.args.unit c.args.part.now in
     let on : test w.row ≡ true = here ∙ sym c.passes_by.ensures ∙ c.if-passes_by.true in
     sym (ap (λ b. b || list_any test rest) on) ∙ sym (ap (list_any test) w.here) ∙ c.loop-k.invariant.none
 
@@ -50,5 +50,5 @@ pub returns : goal.returns
 returns g c =
     let m = c.args.table.now.facts in
     let test = passes_by c.args.iface c.args.unit c.args.part.now in
-    let few = few_of_session g.S.Style.kind_is m c.args.session c.find-known.ensures.within in
+    let few = few_of_session g.S.Style.kind_is m c.args.session c.limits.ensures.within in
     sym (ap (list_any test) (drop_all c.loop-k.k (rows_in m c.args.session) (omega (arith, few, c.loop-k-test.false)))) ∙ c.loop-k.invariant.none

@@ -23,10 +23,10 @@ returns-clause-entry c = λ clock n place paths wild fixed shared of.
     (c.police_at-police.ensures clock n place paths wild fixed shared ∙ ap (police_seen clock n c.args.iface key) (sym c.copy.ensures))
 
 pub returns-in_default-clause-few : goal.returns-in_default-clause-few
-returns-in_default-clause-few c = λ clock n wild fixed shared. entries_few clock n c.args.iface n.place c.args.wild.now.facts c.args.fixed.now.facts c.args.shared.now.facts wild fixed shared c.find-wild.ensures.within c.find-fixed.ensures.within c.find-shared.ensures.within
+returns-in_default-clause-few c = λ clock n wild fixed shared. entries_few clock n c.args.iface n.place c.args.wild.now.facts c.args.fixed.now.facts c.args.shared.now.facts wild fixed shared c.limits-wild.ensures.within c.limits-fixed.ensures.within c.limits-shared.ensures.within
 
 pub returns-in_default-get-clause-few : goal.returns-in_default-get-clause-few
-returns-in_default-get-clause-few c = λ clock n wild fixed shared. entries_few clock n c.args.iface n.place c.args.wild.now.facts c.args.fixed.now.facts c.args.shared.now.facts wild fixed shared c.find-wild.ensures.within c.find-fixed.ensures.within c.find-shared.ensures.within
+returns-in_default-get-clause-few c = λ clock n wild fixed shared. entries_few clock n c.args.iface n.place c.args.wild.now.facts c.args.fixed.now.facts c.args.shared.now.facts wild fixed shared c.limits-wild.ensures.within c.limits-fixed.ensures.within c.limits-shared.ensures.within
 
 pub returns-clause-few : goal.returns-clause-few
-returns-clause-few c = λ clock n wild fixed shared. entries_few clock n c.args.iface n.place c.args.wild.now.facts c.args.fixed.now.facts c.args.shared.now.facts wild fixed shared c.find-wild.ensures.within c.find-fixed.ensures.within c.find-shared.ensures.within
+returns-clause-few c = λ clock n wild fixed shared. entries_few clock n c.args.iface n.place c.args.wild.now.facts c.args.fixed.now.facts c.args.shared.now.facts wild fixed shared c.limits-wild.ensures.within c.limits-fixed.ensures.within c.limits-shared.ensures.within

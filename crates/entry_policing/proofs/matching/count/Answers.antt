@@ -16,7 +16,7 @@ loop-k-preserved c =
     let part = c.args.part.now in
     let marked = c.args.marked in
     let t = c.args.paths.now.facts in
-    let at = at_place p s st i part marked t c.find-known.ensures.keyed c.loop-k.k c.in-Some.path c.in-Some.ensures in
+    let at = at_place p s st i part marked t c.limits.ensures.keyed c.loop-k.k c.in-Some.path c.in-Some.ensures in
     let more = counted_more p s st i part marked t c.loop-k.k c.in-Some.path at in
     let before = count_of p s st i part marked (take c.loop-k.k (under sessions senders t s).rows) in
     let is = c.loop-k.invariant.counted in
@@ -37,6 +37,6 @@ returns-in_default c =
 
 pub returns : goal.returns
 returns c =
-    let few = c.find-known.ensures.within.one c.args.session in
+    let few = c.limits.ensures.within.one c.args.session in
     c.loop-k.invariant.counted
     ∙ ap (count_of c.args.config.now c.args.session c.args.style c.args.iface c.args.part.now c.args.marked) (take_all c.loop-k.k (under sessions senders c.args.paths.now.facts c.args.session).rows (omega (arith, few, c.loop-k-test.false)))

@@ -10,6 +10,6 @@ use Rattle.error_passing.proofs.resv_err.is_previous_hop.Goals as goal
 
 pub returns : goal.returns
 returns c = λ clock n paths.
-    let keyed = subst (λ (t : Table path_keys (PathFact × ℕ)). AreByKey t) (sym paths) c.find-known.ensures.keyed in
+    let keyed = subst (λ (t : Table path_keys (PathFact × ℕ)). AreByKey t) (sym paths) c.limits.ensures.keyed in
     ap not (empty_is c.senders_via.result c.is_empty.result c.is_empty.ensures) ∙ ap (λ (s : Names). not (is_none s)) (c.senders_via.ensures ∙ ap (λ (t : Table path_keys (PathFact × ℕ)). kept_via t c.args.session c.args.hop.0 c.args.hop.1) (sym paths))
     ∙ some_via clock n c.args.session c.args.hop keyed

@@ -20,7 +20,7 @@ loop-k-preserved g c =
     let s = c.args.message.now.session in
     let f = c.in-Some.fact.now in
     let is = sym (ap option_copied c.in-Some.is) ∙ c.loop-k.invariant.at in
-    let w = met st m c.find-known.ensures.style s c.loop-k.k f is in
+    let w = met st m c.limits.ensures.style s c.loop-k.k f is in
     let row = error_at c.args.config.now c.args.up.now c.args.message.now st in
     let rest = filter_map row (drop (c.loop-k.k + 1) (rows_in m s)) in
     let more : option_map going_row c.error_of-more.result ≡ row w.row = c.error_of-more.ensures ∙ (λ i. error_row c.args.config.now c.args.up.now c.args.message.now st (sym w.hop i) (sym w.fact i).part) in
@@ -44,7 +44,7 @@ returns g c =
     let m = c.args.table.now.facts in
     let s = c.args.message.now.session in
     let row = error_at c.args.config.now c.args.up.now c.args.message.now g.S.Style.kind_is in
-    let few = few_of_session g.S.Style.kind_is m s c.find-known.ensures.within in
+    let few = few_of_session g.S.Style.kind_is m s c.limits.ensures.within in
     let none = drop_all c.loop-k.k (rows_in m s) (omega (arith, few, c.loop-k-test.false)) in
     c.post_last-2.ensures ∙ ap (λ es. fold g.O.Outbox.posted c.loop-k.out (said_from next_hops (option_map going_row c.loop-k.last) (filter_map row es))) (sym none) ∙ c.loop-k.invariant.told
     ∙ ap (fold g.O.Outbox.posted c.args.out.now) (sym (errors_said c.args.config.now c.args.up.now c.args.message.now g.S.Style.kind_is (under sessions rests m s)))

@@ -13,7 +13,7 @@ loop-i-init c = cleared_none (state_of c.args.tables.now c.args.said.now) c.args
 pub loop-i-preserved : goal.loop-i-preserved
 loop-i-preserved c =
     subst (IsCleared (state_of c.args.tables.now c.args.said.now) c.args.session (lanes_of c.args.style (take (c.loop-i.i + 1) c.as_slice-list.result.now))) (sym c.clear_lane.ensures)
-    (step_cleared c.args.tables.now c.args.said.now c.args.session c.args.style c.as_slice-list.result.now c.loop-i.i _ c.loop-i-test.true c.loop-i.said c.loop-i.invariant c.find-known.ensures.keyed)
+    (step_cleared c.args.tables.now c.args.said.now c.args.session c.args.style c.as_slice-list.result.now c.loop-i.i _ c.loop-i-test.true c.loop-i.said c.loop-i.invariant c.limits.ensures.keyed)
 
 pub returns : goal.returns
 returns c =

@@ -13,7 +13,7 @@ pub loop-i-init : goal.loop-i-init
 loop-i-init g c = (λ clock any. refl, told_none (state_of c.args.tables.now c.args.said.now) c.args.session, c.requires.roomy)
 
 pub tell_lane-requires : goal.tell_lane-requires
-tell_lane-requires g c = record { room = step_room c.args.tables.now c.args.said.now c.args.session c.args.style c.args.hops.now c.requires.near c.as_slice-list.result.now c.as_slice-list.ensures.hops c.loop-i.i _ c.loop-i-test.true c.loop-i.said c.loop-i.invariant.2 c.find-known.ensures.within }
+tell_lane-requires g c = record { room = step_room c.args.tables.now c.args.said.now c.args.session c.args.style c.args.hops.now c.requires.near c.as_slice-list.result.now c.as_slice-list.ensures.hops c.loop-i.i _ c.loop-i-test.true c.loop-i.said c.loop-i.invariant.2 c.limits.ensures.within }
 
 pub loop-i-preserved : goal.loop-i-preserved
 loop-i-preserved g c =

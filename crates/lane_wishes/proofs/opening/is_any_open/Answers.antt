@@ -15,7 +15,7 @@ loop-k-preserved g c =
     let s = c.args.session in
     let f = c.in-Some.fact.now in
     let is = sym (ap option_copied c.in-Some.is) ∙ c.loop-k.invariant.at in
-    let w = met st m c.know-known.ensures.style s c.loop-k.k f is in
+    let w = met st m c.limits.ensures.style s c.loop-k.k f is in
     record {
       at = following m s f.session f _ c.loop-k.k w.session c.after-next.ensures.next is;
       none = goes_on st c.args.up.now c.args.unit m s c.loop-k.k f w c.is_open.result c.kind.result c.asked_toward-ask.result c.kind.ensures c.asked_toward-ask.ensures c.is_open.ensures c.if-is_open.false ∙ c.loop-k.invariant.none;
@@ -31,13 +31,13 @@ returns-then-is_open g c =
     let m = c.args.table.now.facts in
     let s = c.args.session in
     let f = c.in-Some.fact.now in
-    let w = met g.S.Style.kind_is m c.know-known.ensures.style s c.loop-k.k f (sym (ap option_copied c.in-Some.is) ∙ c.loop-k.invariant.at) in
+    let w = met g.S.Style.kind_is m c.limits.ensures.style s c.loop-k.k f (sym (ap option_copied c.in-Some.is) ∙ c.loop-k.invariant.at) in
     ends_here g.S.Style.kind_is c.args.up.now c.args.unit m s c.loop-k.k f w c.is_open.result c.kind.result c.asked_toward-ask.result c.kind.ensures c.asked_toward-ask.ensures c.is_open.ensures c.if-is_open.true ∙ c.loop-k.invariant.none
 
 pub returns : goal.returns
 returns g c =
     let m = c.args.table.now.facts in
     let s = c.args.session in
-    let few = few_of_session g.S.Style.kind_is m s c.know-known.ensures.within in
+    let few = few_of_session g.S.Style.kind_is m s c.limits.ensures.within in
     let none = drop_all c.loop-k.k (rows_in m s) (omega (arith, few, c.loop-k-test.false)) in
     ap (list_any (is_resv_open g.S.Style.kind_is c.args.up.now c.args.unit)) (sym none) ∙ c.loop-k.invariant.none

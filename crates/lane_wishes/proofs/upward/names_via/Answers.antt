@@ -36,4 +36,4 @@ pub returns : goal.returns
 returns c = λ clock said.
     let items = c.as_slice-sender-items.result.now in
     c.loop-sender.invariant ∙ ap (λ xs. set_of {o = senders} (each (name_of c.args.style) xs)) (take_all c.loop-sender.sender-index items c.loop-sender-test.false)
-    ∙ names_all clock (state_of c.args.tables.now said) c.args.session c.args.style c.args.hop items c.senders_via-via.result c.as_slice-sender-items.ensures.senders c.find-known.ensures.keyed c.senders_via-via.ensures
+    ∙ names_all clock (state_of c.args.tables.now said) c.args.session c.args.style c.args.hop items c.senders_via-via.result c.as_slice-sender-items.ensures.senders c.limits.ensures.keyed c.senders_via-via.ensures

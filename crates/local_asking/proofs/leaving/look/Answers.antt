@@ -7,4 +7,4 @@ use Rattle.local_asking.proofs.leaving.look.Goals as goal
 pub returns : goal.returns
 returns c =
     let t = c.args.tables.now in
-    few_all (state_of t empty) (few_in Wild t.wild.facts c.find-wild.ensures.within) (few_in Fixed t.fixed.facts c.find-fixed.ensures.within) (few_in Shared t.shared.facts c.find-shared.ensures.within)
+    few_all (state_of t empty) (few_in Wild t.wild.facts c.limits-wild.ensures.within) (few_in Fixed t.fixed.facts c.limits-fixed.ensures.within) (few_in Shared t.shared.facts c.limits-shared.ensures.within)

@@ -38,5 +38,5 @@ pub returns : goal.returns
 returns c = λ clock n at ap_is aw.
     let items = c.as_slice-sender-items.result.now in
     c.loop-sender.invariant clock n at aw ∙ ap (ways_seen clock n c.args.session c.args.style c.args.hop) (take_all c.loop-sender.sender-index items c.loop-sender-test.false)
-    ∙ seen_all clock n c.args.session c.args.style c.args.hop items c.senders_via-names.result c.as_slice-sender-items.ensures.senders (subst (λ (t : Table path_keys (PathFact × ℕ)). AreByKey t) (sym ap_is) c.find-known.ensures.keyed)
+    ∙ seen_all clock n c.args.session c.args.style c.args.hop items c.senders_via-names.result c.as_slice-sender-items.ensures.senders (subst (λ (t : Table path_keys (PathFact × ℕ)). AreByKey t) (sym ap_is) c.limits.ensures.keyed)
     (c.senders_via-names.ensures ∙ ap (λ (t : Table path_keys (PathFact × ℕ)). kept_via t c.args.session c.args.hop.0 c.args.hop.1) (sym ap_is))

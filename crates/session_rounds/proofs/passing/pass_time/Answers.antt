@@ -30,7 +30,7 @@ forget_all-requires-clause-watched g c = λ s h.
 
 pub note_touched-requires : goal.note_touched-requires
 note_touched-requires g c =
-    hops_few c.args.ms c.args.tables.now.paths.facts c.age_all-fired.new.tables.paths.facts c.age_all-fired.new.lost (ap (λ (z : State). z.paths) (c.age_all-fired.ensures.state empty)) c.age_all-fired.ensures.lost c.find-none.ensures.within
+    hops_few c.args.ms c.args.tables.now.paths.facts c.age_all-fired.new.tables.paths.facts c.age_all-fired.new.lost (ap (λ (z : State). z.paths) (c.age_all-fired.ensures.state empty)) c.age_all-fired.ensures.lost c.limits.ensures.within
 
 pub tear_all-requires : goal.tear_all-requires
 tear_all-requires g c =

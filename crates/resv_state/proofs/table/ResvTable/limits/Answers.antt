@@ -1,7 +1,7 @@
 use Rattle.std.proofs.Common.{subst}
 use Rattle.style_rules.specs.Limits.{IsWithinLimits}
 use Rattle.resv_state.specs.Resvs.{ResvMap, AreOfStyle, resv_lines}
-use Rattle.resv_state.proofs.table.ResvTable.know.Goals as goal
+use Rattle.resv_state.proofs.table.ResvTable.limits.Goals as goal
 
 pub returns-clause-style : goal.returns-clause-style
 returns-clause-style g c = subst (λ (m : ResvMap). AreOfStyle g.S.Style.kind_is m.facts) c.self.view_is c.self.inside.style
