@@ -1,5 +1,5 @@
-//! Who is told what of errors and confirmations: which faults of bytes are answered and how, how an error goes on, whom a
-//! confirmation reaches, and the policing flags of an entry (RFC 2205, 3.1.7 to 3.1.9, 3.5, 3.8 and 3.10).
+//! Errors and confirmations: which faults of bytes a router answers and how, to whom an error goes on, to whom a
+//! confirmation goes, and the policing flags of an entry (RFC 2205, 3.1.7 to 3.1.9, 3.5, 3.8 and 3.10).
 //!
 //! Each call is the rule of a router for one fact, one reservation or one entry. No call takes memory.
 #![tactic(auto)]

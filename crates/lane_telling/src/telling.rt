@@ -136,8 +136,8 @@ impl Outbox for Nowhere {
     fn post(&mut self, _iface: u8, _dst: Addr, _message: Message, _refresh: bool) {}
 }
 
-/// What goes toward the hops of a session is kept as said, and nothing is told, as where a fact is left over. The session's
-/// previous hops are those from before; what was said then is what went toward each hop, and is so afterwards.
+/// Keeps what goes toward each previous hop of a session as what was last sent there, and sends nothing: so it is where a
+/// fact is left over. The session's previous hops are those from before, and what was kept then is what went toward each.
 pub fn keep_said(
     tables: &Tables,
     said: &mut LaneTable,

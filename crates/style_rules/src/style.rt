@@ -56,7 +56,7 @@ pub trait Style {
         requires { size (union a.now.senders b.now.senders) ≤ 16 }
         ensures { result ≡ met a.now b.now };
 
-    /// Whether `b` can stand for `a`: the senders of `a` are among those of `b`, and so is it with the flows.
+    /// Whether `a` is at most `b`: the senders of `a` are among those of `b`, and the flow of `a` is at most that of `b`.
     fn le(a: &Part, b: &Part) -> bool
         ensures { IsTrue result ↔ at_most a.now b.now };
 

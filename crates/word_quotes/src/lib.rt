@@ -1,4 +1,4 @@
-//! How a word of an input is quoted where it is told what is wrong with it: invisible bytes are named, and a long word is cut.
+//! How an error message quotes a word of the input: invisible bytes are named, and a long word is cut.
 //!
 //! Each call appends its text to what is there, and the text is exactly its definition in `specs/`. It stands on `value_texts`.
 #![tactic(auto)]
