@@ -15,12 +15,15 @@ NoFactsAreBounded = (p : NodeConfig) → 1 ≤ p.quarter → IsBounded (no_state
 -- a node that did at some clock what the rule says of a fit input
 abbrev pub AnInputKeepsBounds : Type 0
 AnInputKeepsBounds =
-    (old new : State) (c : ℕ) (i : Input) → IsBounded old → IsSameNode old.place new.place → IsFit new.place i → facts_at (clock_after c i) new ≡ facts_after old.place new.place (clock_after c i) i (facts_at c old) → IsBounded new
+    (old new : State) (c : ℕ) (i : Input) → IsBounded old → IsSameNode old.place new.place → IsFit new.place i
+    → facts_at (clock_after c i) new ≡ facts_after old.place new.place (clock_after c i) i (facts_at c old) → IsBounded new
 
 -- a node that was given at some clock a fit fact
 abbrev pub LeftOverFactsKeepBounds : Type 0
-LeftOverFactsKeepBounds = (old new : State) (c : ℕ) (i : Stale) → IsBounded old → new.place ≡ old.place → IsFitStale old.place c i → facts_at c new ≡ facts_with old.place c i (facts_at c old) → IsBounded new
+LeftOverFactsKeepBounds = (old new : State) (c : ℕ) (i : Stale) → IsBounded old → new.place ≡ old.place → IsFitStale old.place c i
+    → facts_at c new ≡ facts_with old.place c i (facts_at c old) → IsBounded new
 
 abbrev pub BoundedNodesSendProperMessages : Type 0
 BoundedNodesSendProperMessages =
-    (old : State) (p : NodeConfig) (c : ℕ) (i : Input) → IsBounded old → IsSameNode old.place p → IsFit p i → All (λ s. IsProper s.message) (sent_after old.place p (clock_after c i) i (facts_at c old))
+    (old : State) (p : NodeConfig) (c : ℕ) (i : Input) → IsBounded old → IsSameNode old.place p → IsFit p i
+    → All (λ s. IsProper s.message) (sent_after old.place p (clock_after c i) i (facts_at c old))

@@ -54,7 +54,8 @@ pub record IsHealingRun (bytes : List ℕ) (before after : Option (List ℕ)) : 
 -- at a settled moment, or behind steps that only write after one
 abbrev pub LastReportIsTheDemand : Draft → Option (List ℕ) → Option (List ℕ) → Type 0
 LastReportIsTheDemand d before after =
-    (ss still : List Step) (e : Option ℕ) → steps_of_run (plan_of d) ≡ (ss ++ still) ++ Report e ∷ [] → IsSettled (plan_of d).quarter (first_world (plan_of d)) ss → OnlyWrite still → DemandsFit (routing d) d.locals
+    (ss still : List Step) (e : Option ℕ) → steps_of_run (plan_of d) ≡ (ss ++ still) ++ Report e ∷ []
+    → IsSettled (plan_of d).quarter (first_world (plan_of d)) ss → OnlyWrite still → DemandsFit (routing d) d.locals
     → Appends before after (text_of (plan_of d).quarter d.names (ss ++ still) (first_world (plan_of d)) ++ demand_text d.names (routing d) d.locals e)
 
 -- behind `rounds n`, with n at least 16 H + 16, H the longest chain of hops of the routing in force

@@ -31,7 +31,8 @@ pub fn entry_at(
     iface: u8,
     k: usize,
 ) -> Option<Entry>
-    ensures entry { (c : ℕ) (n : State) → n.place ≡ config.now → n.paths ≡ paths.now.facts → n.wild ≡ wild.now.facts → n.fixed ≡ fixed.now.facts → n.shared ≡ shared.now.facts → IsBookOf (facts_of c n) book.now.entries → result ≡ slice_get (entries_of n.place (facts_of c n) iface) k }
+    ensures entry { (c : ℕ) (n : State) → n.place ≡ config.now → n.paths ≡ paths.now.facts → n.wild ≡ wild.now.facts → n.fixed ≡ fixed.now.facts
+        → n.shared ≡ shared.now.facts → IsBookOf (facts_of c n) book.now.entries → result ≡ slice_get (entries_of n.place (facts_of c n) iface) k }
     ensures few { (c : ℕ) (n : State) → n.wild ≡ wild.now.facts → n.fixed ≡ fixed.now.facts → n.shared ≡ shared.now.facts → length (entries_of n.place (facts_of c n) iface) ≤ 3072 }
 {
     // The proof sees here what holds of every table.
@@ -62,7 +63,8 @@ fn parts_of(
     session: Session,
     iface: u8,
 ) -> Parts
-    ensures parts { (n : State) → n.wild ≡ wild.now.facts → n.fixed ≡ fixed.now.facts → n.shared ≡ shared.now.facts → result ≡ merge style (parts_on iface (under sessions rests (table_in style n) session).rows) }
+    ensures parts { (n : State) → n.wild ≡ wild.now.facts → n.fixed ≡ fixed.now.facts → n.shared ≡ shared.now.facts
+        → result ≡ merge style (parts_on iface (under sessions rests (table_in style n) session).rows) }
     ensures styled { (n : State) → n.wild ≡ wild.now.facts → n.fixed ≡ fixed.now.facts → n.shared ≡ shared.now.facts → AreOfStyle style (table_in style n) }
 {
     match style {

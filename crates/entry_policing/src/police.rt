@@ -31,7 +31,8 @@ pub fn police_at(
     key: &EntryKey,
     part: &Part,
 ) -> Police
-    ensures { (c : ℕ) (n : State) → n.place ≡ config.now → n.paths ≡ paths.now.facts → n.wild ≡ wild.now.facts → n.fixed ≡ fixed.now.facts → n.shared ≡ shared.now.facts → result ≡ police_seen c n iface key.now part.now }
+    ensures { (c : ℕ) (n : State) → n.place ≡ config.now → n.paths ≡ paths.now.facts → n.wild ≡ wild.now.facts → n.fixed ≡ fixed.now.facts
+        → n.shared ≡ shared.now.facts → result ≡ police_seen c n iface key.now part.now }
 {
     let session = key.session;
     let style = key.style;
@@ -52,7 +53,8 @@ fn passed_by(
     iface: u8,
     part: &Part,
 ) -> bool
-    ensures { (n : State) → n.wild ≡ wild.now.facts → n.fixed ≡ fixed.now.facts → n.shared ≡ shared.now.facts → result ≡ list_any (passes_by iface unit part.now) (under sessions rests (table_in style n) session).rows }
+    ensures { (n : State) → n.wild ≡ wild.now.facts → n.fixed ≡ fixed.now.facts → n.shared ≡ shared.now.facts
+        → result ≡ list_any (passes_by iface unit part.now) (under sessions rests (table_in style n) session).rows }
 {
     match style {
         StyleKind::Wild => is_passed(wild, session, unit, iface, part),

@@ -45,7 +45,9 @@ pub(crate) fn hold<O: Outbox>(
     more: Option<Outgoing>,
     out: &mut O,
 ) -> Option<Outgoing>
-    ensures sent { (es : List (NextHop × Send)) → fold O.posted out.new (said_from next_hops (option_map going_row result) es) ≡ fold O.posted out.old (said_from next_hops (option_map going_row last) (cons_option (option_map going_row more) es)) }
+    ensures sent { (es : List (NextHop × Send))
+        → fold O.posted out.new (said_from next_hops (option_map going_row result) es)
+        ≡ fold O.posted out.old (said_from next_hops (option_map going_row last) (cons_option (option_map going_row more) es)) }
     ensures some { is_some result ≡ (is_some last || is_some more) }
 {
     let Some(new) = more else {

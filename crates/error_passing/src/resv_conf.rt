@@ -30,7 +30,8 @@ pub fn pass_resv_conf<O: Outbox>(
     out: &mut O,
 ) -> Heard
     ensures heard { (c : ℕ) (n : State) → n.place ≡ config.now → n.wild ≡ wild.now.facts → n.fixed ≡ fixed.now.facts → n.shared ≡ shared.now.facts → result ≡ resv_conf_heard c n message.now }
-    ensures sent { (c : ℕ) (n : State) → n.place ≡ config.now → n.wild ≡ wild.now.facts → n.fixed ≡ fixed.now.facts → n.shared ≡ shared.now.facts → out.new ≡ fold O.posted out.old (resv_conf_sent c n message.now) }
+    ensures sent { (c : ℕ) (n : State) → n.place ≡ config.now → n.wild ≡ wild.now.facts → n.fixed ≡ fixed.now.facts → n.shared ≡ shared.now.facts
+        → out.new ≡ fold O.posted out.old (resv_conf_sent c n message.now) }
 {
     if config.is_own(message.confirm) {
         return Heard::Taken;
@@ -49,8 +50,10 @@ fn tell_by_style<O: Outbox>(
     message: &ResvConfMsg,
     out: &mut O,
 ) -> bool
-    ensures sent { (n : State) → n.wild ≡ wild.now.facts → n.fixed ≡ fixed.now.facts → n.shared ≡ shared.now.facts → out.new ≡ fold O.posted out.old (confs_told message.now (ask_style message.now.ask) (under sessions rests (table_in (ask_style message.now.ask) n) message.now.session).rows) }
-    ensures some { (n : State) → n.wild ≡ wild.now.facts → n.fixed ≡ fixed.now.facts → n.shared ≡ shared.now.facts → result ≡ are_some (confs_told message.now (ask_style message.now.ask) (under sessions rests (table_in (ask_style message.now.ask) n) message.now.session).rows) }
+    ensures sent { (n : State) → n.wild ≡ wild.now.facts → n.fixed ≡ fixed.now.facts → n.shared ≡ shared.now.facts
+        → out.new ≡ fold O.posted out.old (confs_told message.now (ask_style message.now.ask) (under sessions rests (table_in (ask_style message.now.ask) n) message.now.session).rows) }
+    ensures some { (n : State) → n.wild ≡ wild.now.facts → n.fixed ≡ fixed.now.facts → n.shared ≡ shared.now.facts
+        → result ≡ are_some (confs_told message.now (ask_style message.now.ask) (under sessions rests (table_in (ask_style message.now.ask) n) message.now.session).rows) }
 {
     match &message.ask {
         Ask::Wild { .. } => tell_confs(wild, message, out),

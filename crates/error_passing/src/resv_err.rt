@@ -70,7 +70,10 @@ pub fn pass_resv_err<O: Outbox>(
     message: &ResvErrMsg,
     out: &mut O,
 )
-    ensures { (c : ℕ) (n : State) → n.place ≡ config.now → n.paths ≡ paths.now.facts → n.wild ≡ wild.now.facts → n.fixed ≡ fixed.now.facts → n.shared ≡ shared.now.facts → heard ≡ resv_err_heard c n iface message.now → facts_of c (record n { walls = walls.now }) ≡ resv_err_facts c n iface message.now → out.new ≡ fold O.posted out.old (resv_err_sent c n iface message.now) }
+    ensures { (c : ℕ) (n : State) → n.place ≡ config.now → n.paths ≡ paths.now.facts → n.wild ≡ wild.now.facts → n.fixed ≡ fixed.now.facts
+        → n.shared ≡ shared.now.facts → heard ≡ resv_err_heard c n iface message.now
+        → facts_of c (record n { walls = walls.now }) ≡ resv_err_facts c n iface message.now
+        → out.new ≡ fold O.posted out.old (resv_err_sent c n iface message.now) }
 {
     let Heard::Taken = heard else {
         return;
@@ -97,7 +100,8 @@ fn tell_by_style<O: Outbox>(
     message: &ResvErrMsg,
     out: &mut O,
 )
-    ensures { (n : State) → n.wild ≡ wild.now.facts → n.fixed ≡ fixed.now.facts → n.shared ≡ shared.now.facts → out.new ≡ fold O.posted out.old (errors_told config.now up.now message.now message.now.blame.style (under sessions rests (table_in message.now.blame.style n) message.now.session).rows) }
+    ensures { (n : State) → n.wild ≡ wild.now.facts → n.fixed ≡ fixed.now.facts → n.shared ≡ shared.now.facts
+        → out.new ≡ fold O.posted out.old (errors_told config.now up.now message.now message.now.blame.style (under sessions rests (table_in message.now.blame.style n) message.now.session).rows) }
 {
     match message.blame.style {
         StyleKind::Wild => tell_errors(config, wild, up, message, out),

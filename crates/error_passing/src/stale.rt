@@ -19,8 +19,12 @@ pub fn leave_wall(
     left: u32,
 ) -> Result<(), StaleErr>
     requires { 1 ≤ left }
-    ensures refused { (c : ℕ) (n : State) → n.walls ≡ walls.old → MatchResult result (λ _. stale_refusal n.place (StaleWall (session, target) (record { wall = wall; dies = c + left })) (facts_of c n) ≡ None) (λ e. stale_refusal n.place (StaleWall (session, target) (record { wall = wall; dies = c + left })) (facts_of c n) ≡ Some e) }
-    ensures facts { (c : ℕ) (n : State) → n.walls ≡ walls.old → facts_of c (record n { walls = walls.new }) ≡ act_stale n.place (StaleWall (session, target) (record { wall = wall; dies = c + left })) (facts_of c n) }
+    ensures refused { (c : ℕ) (n : State) → n.walls ≡ walls.old
+        → MatchResult result (λ _. stale_refusal n.place (StaleWall (session, target) (record { wall = wall; dies = c + left })) (facts_of c n)
+        ≡ None) (λ e. stale_refusal n.place (StaleWall (session, target) (record { wall = wall; dies = c + left })) (facts_of c n) ≡ Some e) }
+    ensures facts { (c : ℕ) (n : State) → n.walls ≡ walls.old
+        → facts_of c (record n { walls = walls.new })
+        ≡ act_stale n.place (StaleWall (session, target) (record { wall = wall; dies = c + left })) (facts_of c n) }
 {
     match walls.set(session, target, wall, left) {
         Ok(()) => Ok(()),

@@ -18,6 +18,7 @@ use Rattle.taken_resvs.specs.SoundResvs.Below.{AreSoundBelow}
 -- sound and exact
 abbrev pub TowardIsTheWant : ℕ → World → Type 0
 TowardIsTheWant q w =
-    (n : ℕ) (f : Facts) (l : Lane) (h : LinkHop) → slice_get w.nodes n ≡ Some f → size f.walls ≡ 0 → IsPrevious w.net n l.session l.hop h → AreSoundBelow l.style w n f l.session (rank w.net l.session.group h)
+    (n : ℕ) (f : Facts) (l : Lane) (h : LinkHop) → slice_get w.nodes n ≡ Some f → size f.walls ≡ 0 → IsPrevious w.net n l.session l.hop h
+    → AreSoundBelow l.style w n f l.session (rank w.net l.session.group h)
     → ((h' : LinkHop) → Follows w.net l.session.group h h' → In h' (followers w.net l.session.group h) → IsExact l.style w l.session h')
     → toward (config_of q w.net w.trees n) f l ≡ want l.style w.net (locals_of w) l.session h

@@ -16,7 +16,12 @@ pub record SeedOneIsAsWorked : Type 0 where
   pub senders : each (λ (x : LocalSender). x.node) (senders 1) ≡ 44 ∷ 60 ∷ 12 ∷ 28 ∷ 51 ∷ 3 ∷ 19 ∷ 35 ∷ 25 ∷ 41 ∷ 57 ∷ 9 ∷ []
   -- node 0 wants of the first session and of the third, and nothing of the second
   pub first : slice_get (wants 1) 0 ≡ Some (record { node = 0; style = Wild; senders = empty; flow = flow_of 6000 })
-  pub second : slice_get (wants 1) 1 ≡ Some (record { node = 0; style = Shared; senders = names_from (sender_of (session_word 1 Shared) 1 ∷ sender_of (session_word 1 Shared) 2 ∷ sender_of (session_word 1 Shared) 3 ∷ []); flow = flow_of 2000 })
+  pub second : slice_get (wants 1) 1 ≡ Some (record {
+    node = 0;
+    style = Shared;
+    senders = names_from (sender_of (session_word 1 Shared) 1 ∷ sender_of (session_word 1 Shared) 2 ∷ sender_of (session_word 1 Shared) 3 ∷ []);
+    flow = flow_of 2000;
+  })
   pub how_many : length (wants 1) ≡ 133
   -- a fixed want is one for each sender that it names
   pub asked : length (asked 1).wants ≡ 184

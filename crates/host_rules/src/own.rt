@@ -107,7 +107,8 @@ fn put_fixed(
     senders: &[Sender],
     flow: Flow,
 ) -> Result<(), Refused>
-    ensures ok { OnOk result (wants.new.items ≡ with_wants wants.old.items (map (λ x. record { node = node; session = session; style = StyleKind.Fixed; part = record { senders = only x; flow = flow } }) senders.now)) }
+    ensures ok { OnOk result (wants.new.items ≡ with_wants wants.old.items (map
+        (λ x. record { node = node; session = session; style = StyleKind.Fixed; part = record { senders = only x; flow = flow } }) senders.now)) }
     ensures refused { IfErr result OnlyNoMemory }
 {
     match senders {

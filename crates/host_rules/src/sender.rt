@@ -154,7 +154,12 @@ fn has_room_for_sender(state: &ScriptState, new: LocalSender) -> bool
 
 // Keeps a sender.
 fn begin(state: &mut ScriptState, new: LocalSender, flow: Flow) -> Result<Event, Refused>
-    ensures ok { OnOk result (draft_of state.new ≡ record (draft_of state.old) { sessions = with_session state.old.sessions.items new.session; locals = with_sender (draft_of state.old).locals new.node new.session new.sender; events = map event_of state.old.events.items ++ AtNode new.node (SendAs new.session new.sender flow) ∷ [] }) }
+    ensures ok { OnOk result (draft_of state.new ≡ record (draft_of state.old) {
+      sessions = with_session state.old.sessions.items new.session;
+      locals = with_sender (draft_of state.old).locals new.node new.session new.sender;
+      events = map event_of state.old.events.items
+          ++ AtNode new.node (SendAs new.session new.sender flow) ∷ [];
+    }) }
     ensures event { IfOk result (λ e. IsAdded (draft_of state.old).events e (draft_of state.new).events) }
     ensures refused { IfErr result OnlyNoMemory }
 {
@@ -180,7 +185,12 @@ fn begin(state: &mut ScriptState, new: LocalSender, flow: Flow) -> Result<Event,
 
 // Takes a sender out.
 fn end(state: &mut ScriptState, gone: LocalSender) -> Result<Event, Refused>
-    ensures ok { OnOk result (draft_of state.new ≡ record (draft_of state.old) { sessions = with_session state.old.sessions.items gone.session; locals = without_sender (draft_of state.old).locals gone.session gone.sender; events = map event_of state.old.events.items ++ AtNode gone.node (DropAs gone.session gone.sender) ∷ [] }) }
+    ensures ok { OnOk result (draft_of state.new ≡ record (draft_of state.old) {
+      sessions = with_session state.old.sessions.items gone.session;
+      locals = without_sender (draft_of state.old).locals gone.session gone.sender;
+      events = map event_of state.old.events.items
+          ++ AtNode gone.node (DropAs gone.session gone.sender) ∷ [];
+    }) }
     ensures event { IfOk result (λ e. IsAdded (draft_of state.old).events e (draft_of state.new).events) }
     ensures refused { IfErr result OnlyNoMemory }
 {

@@ -97,7 +97,12 @@ pub fn add_quit(state: &mut ScriptState, line: QuitLine) -> Result<Event, Refuse
 
 // Takes the wants of a session at a node out.
 fn leave(state: &mut ScriptState, node: u16, session: Session) -> Result<Event, Refused>
-    ensures ok { OnOk result (draft_of state.new ≡ record (draft_of state.old) { sessions = with_session state.old.sessions.items session; locals = without_wants (draft_of state.old).locals node session; events = map event_of state.old.events.items ++ AtNode node (QuitAll session) ∷ [] }) }
+    ensures ok { OnOk result (draft_of state.new ≡ record (draft_of state.old) {
+      sessions = with_session state.old.sessions.items session;
+      locals = without_wants (draft_of state.old).locals node session;
+      events = map event_of state.old.events.items
+          ++ AtNode node (QuitAll session) ∷ [];
+    }) }
     ensures event { IfOk result (λ e. IsAdded (draft_of state.old).events e (draft_of state.new).events) }
     ensures refused { IfErr result OnlyNoMemory }
 {
@@ -159,7 +164,8 @@ fn put_fixed(
     senders: &[Sender],
     flow: Flow,
 ) -> Result<(), Refused>
-    ensures ok { OnOk result (wants.new ≡ with_wants wants.old (map (λ x. record { node = node; session = session; style = StyleKind.Fixed; part = record { senders = only x; flow = flow } }) senders.now)) }
+    ensures ok { OnOk result (wants.new ≡ with_wants wants.old (map
+        (λ x. record { node = node; session = session; style = StyleKind.Fixed; part = record { senders = only x; flow = flow } }) senders.now)) }
     ensures refused { IfErr result OnlyNoMemory }
 {
     match senders {

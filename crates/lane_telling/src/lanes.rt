@@ -122,7 +122,8 @@ pub fn tell_lane<O: Outbox>(
     out: &mut O,
 )
     requires room { has said.old (lane_at (session, (style, hop))) ≡ false → size said.old < 1536 }
-    ensures sent { (c : ℕ) (any : Said) → out.new ≡ fold O.posted out.old (told_seen c (state_of tables.now any) (lane_at (session, (style, hop))) asked due (said_at said.old (lane_at (session, (style, hop))))) }
+    ensures sent { (c : ℕ) (any : Said)
+        → out.new ≡ fold O.posted out.old (told_seen c (state_of tables.now any) (lane_at (session, (style, hop))) asked due (said_at said.old (lane_at (session, (style, hop))))) }
     ensures said { (c : ℕ) (any : Said) → said.new ≡ told said.old (lane_at (session, (style, hop))) (toward_at c (state_of tables.now any) session style hop) }
 {
     let now = toward(tables, session, style, hop);

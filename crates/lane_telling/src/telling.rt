@@ -52,7 +52,8 @@ pub fn tell_tears<O: Outbox>(
     near: &Hops,
     out: &mut O,
 )
-    ensures { (n : State) (c : ℕ) → IsBefore (session, sender) n (state_of tables.now said.now) (option_map as_offer before.now) near.now → out.new ≡ fold O.posted out.old (told_before n.place (session, sender) (facts_of c n) (facts_of c (state_of tables.now said.now))) }
+    ensures { (n : State) (c : ℕ) → IsBefore (session, sender) n (state_of tables.now said.now) (option_map as_offer before.now) near.now
+        → out.new ≡ fold O.posted out.old (told_before n.place (session, sender) (facts_of c n) (facts_of c (state_of tables.now said.now))) }
 {
     let after = offered(tables, session, sender);
     tell_gone(&tables.config, session, sender, before, &after, out);
@@ -89,8 +90,12 @@ pub fn tell_news<O: Outbox>(
     out: &mut O,
 )
     requires { (n : State) × IsBefore (session, sender) n (state_of tables.old said.old) (option_map as_offer before.now) near.now }
-    ensures sent { (n : State) (c : ℕ) (a : Option Asked) → address_of a ≡ asked → IsBefore (session, sender) n (state_of tables.old said.old) (option_map as_offer before.now) near.now → out.new ≡ fold O.posted out.old (told_behind n.place (session, sender) (facts_of c n) (facts_of c (state_of tables.old said.old)) a) }
-    ensures facts { (n : State) (c : ℕ) (a : Option Asked) → address_of a ≡ asked → IsBefore (session, sender) n (state_of tables.old said.old) (option_map as_offer before.now) near.now → facts_of c (state_of tables.new said.new) ≡ facts_told n.place (facts_of c n) (facts_of c (state_of tables.old said.old)) a }
+    ensures sent { (n : State) (c : ℕ) (a : Option Asked) → address_of a ≡ asked
+        → IsBefore (session, sender) n (state_of tables.old said.old) (option_map as_offer before.now) near.now
+        → out.new ≡ fold O.posted out.old (told_behind n.place (session, sender) (facts_of c n) (facts_of c (state_of tables.old said.old)) a) }
+    ensures facts { (n : State) (c : ℕ) (a : Option Asked) → address_of a ≡ asked
+        → IsBefore (session, sender) n (state_of tables.old said.old) (option_map as_offer before.now) near.now
+        → facts_of c (state_of tables.new said.new) ≡ facts_told n.place (facts_of c n) (facts_of c (state_of tables.old said.old)) a }
     ensures said { IsSaid said.new (state_of tables.new said.new) }
     ensures rest { tables.new ≡ record tables.old { wants = tables.new.wants } }
 {
@@ -117,8 +122,11 @@ pub fn tell_sender<O: Outbox>(
     out: &mut O,
 )
     requires { (n : State) × IsBefore (session, sender) n (state_of tables.old said.old) (option_map as_offer before.now) near.now }
-    ensures sent { (n : State) (c : ℕ) (h : Heard) → IsBefore (session, sender) n (state_of tables.old said.old) (option_map as_offer before.now) near.now → out.new ≡ fold O.posted out.old (sends n.place n.place (facts_of c n) (facts_of c (state_of tables.old said.old)) (only_heard h (facts_of c (state_of tables.old said.old)))) }
-    ensures facts { (n : State) (c : ℕ) → IsBefore (session, sender) n (state_of tables.old said.old) (option_map as_offer before.now) near.now → facts_of c (state_of tables.new said.new) ≡ facts_told n.place (facts_of c n) (facts_of c (state_of tables.old said.old)) None }
+    ensures sent { (n : State) (c : ℕ) (h : Heard)
+        → IsBefore (session, sender) n (state_of tables.old said.old) (option_map as_offer before.now) near.now
+        → out.new ≡ fold O.posted out.old (sends n.place n.place (facts_of c n) (facts_of c (state_of tables.old said.old)) (only_heard h (facts_of c (state_of tables.old said.old)))) }
+    ensures facts { (n : State) (c : ℕ) → IsBefore (session, sender) n (state_of tables.old said.old) (option_map as_offer before.now) near.now
+        → facts_of c (state_of tables.new said.new) ≡ facts_told n.place (facts_of c n) (facts_of c (state_of tables.old said.old)) None }
     ensures said { IsSaid said.new (state_of tables.new said.new) }
     ensures rest { tables.new ≡ record tables.old { wants = tables.new.wants } }
 {

@@ -69,7 +69,8 @@ fn use_lane(
     used: &mut Units,
 )
     requires { AreWanted tables.now session used.old }
-    ensures used { (c : ℕ) (any : Said) (es : List SessionLane) → used.old ≡ used_seen c (state_of tables.now any) session said.now es → used.new ≡ used_seen c (state_of tables.now any) session said.now (es ++ (style, hop) ∷ []) }
+    ensures used { (c : ℕ) (any : Said) (es : List SessionLane) → used.old ≡ used_seen c (state_of tables.now any) session said.now es
+        → used.new ≡ used_seen c (state_of tables.now any) session said.now (es ++ (style, hop) ∷ []) }
     ensures wanted { AreWanted tables.now session used.new }
 {
     // The proof sees here that a session has few wants.
@@ -90,7 +91,8 @@ fn use_style(
     used: &mut Units,
 )
     requires { AreWanted tables.now session used.old }
-    ensures used { (c : ℕ) (any : Said) (es : List SessionLane) → used.old ≡ used_seen c (state_of tables.now any) session said.now es → used.new ≡ used_seen c (state_of tables.now any) session said.now (es ++ lanes_in style (keys hops.now)) }
+    ensures used { (c : ℕ) (any : Said) (es : List SessionLane) → used.old ≡ used_seen c (state_of tables.now any) session said.now es
+        → used.new ≡ used_seen c (state_of tables.now any) session said.now (es ++ lanes_in style (keys hops.now)) }
     ensures wanted { AreWanted tables.now session used.new }
 {
     let list = hops.as_slice();

@@ -44,7 +44,8 @@ fn merged(
     up: &Upstream,
     own: &Parts,
 ) -> Parts
-    ensures { (c : ℕ) (said : Said) → up.now ≡ up_at c (state_of tables.now said) session style hop → own.now ≡ own_at c (state_of tables.now said) session style hop → result ≡ toward_at c (state_of tables.now said) session style hop }
+    ensures { (c : ℕ) (said : Said) → up.now ≡ up_at c (state_of tables.now said) session style hop
+        → own.now ≡ own_at c (state_of tables.now said) session style hop → result ≡ toward_at c (state_of tables.now said) session style hop }
 {
     match style {
         StyleKind::Wild => tables.wild.toward(session, up, own),

@@ -143,7 +143,8 @@ fn path_values(
     line: &StalePathLine,
 ) -> Option<(Session, Sender, Addr, Flow, u32)>
     ensures some { IsSome result ↔ IsStalePathInRange (period_of (draft_of state.now)) line.now }
-    ensures value { IfSome result (λ v. (v.0 ≡ session_value line.now.session) × (v.1 ≡ sender_value line.now.sender) × (v.2 ≡ addr_value line.now.hop) × (v.3 ≡ flow_value line.now.flow) × (v.4 ≡ line.now.left)) }
+    ensures value { IfSome result (λ v. (v.0 ≡ session_value line.now.session) × (v.1 ≡ sender_value line.now.sender)
+        × (v.2 ≡ addr_value line.now.hop) × (v.3 ≡ flow_value line.now.flow) × (v.4 ≡ line.now.left)) }
 {
     Some((
         line.session.session()?,
@@ -171,7 +172,8 @@ fn hop_wall_values(
     line: &StaleHopWallLine,
 ) -> Option<(Session, Addr, Wall, u32)>
     ensures some { IsSome result ↔ IsStaleHopWallInRange (period_of (draft_of state.now)) line.now }
-    ensures value { IfSome result (λ v. (v.0 ≡ session_value line.now.session) × (v.1 ≡ addr_value line.now.hop) × (v.2 ≡ record { flow = flow_value line.now.flow; sub = line.now.sub }) × (v.3 ≡ line.now.left)) }
+    ensures value { IfSome result (λ v. (v.0 ≡ session_value line.now.session) × (v.1 ≡ addr_value line.now.hop)
+        × (v.2 ≡ record { flow = flow_value line.now.flow; sub = line.now.sub }) × (v.3 ≡ line.now.left)) }
 {
     let session = line.session.session()?;
     let hop = line.hop.addr()?;
@@ -187,7 +189,8 @@ fn sender_wall_values(
     line: &StaleSenderWallLine,
 ) -> Option<(Session, Sender, Wall, u32)>
     ensures some { IsSome result ↔ IsStaleSenderWallInRange (period_of (draft_of state.now)) line.now }
-    ensures value { IfSome result (λ v. (v.0 ≡ session_value line.now.session) × (v.1 ≡ sender_value line.now.sender) × (v.2 ≡ record { flow = flow_value line.now.flow; sub = line.now.sub }) × (v.3 ≡ line.now.left)) }
+    ensures value { IfSome result (λ v. (v.0 ≡ session_value line.now.session) × (v.1 ≡ sender_value line.now.sender)
+        × (v.2 ≡ record { flow = flow_value line.now.flow; sub = line.now.sub }) × (v.3 ≡ line.now.left)) }
 {
     let session = line.session.session()?;
     let sender = line.sender.sender()?;

@@ -235,7 +235,8 @@ impl LineReader {
     fn take_more<S: Source>(&mut self, source: &mut S) -> Result<usize, Failed>
         requires short { length self.old.bytes ≤ 2048 }
         requires open { self.old.ended ≡ None }
-        ensures read { IfOk result (λ n. (bs : List ℕ) × Consumes (S.left source.old) (S.left source.new) bs × (self.new.bytes ≡ self.old.bytes ++ bs) × (n ≡ length bs) × (self.new.taken ≡ self.old.taken + length bs)) }
+        ensures read { IfOk result (λ n. (bs : List ℕ) × Consumes (S.left source.old) (S.left source.new) bs
+            × (self.new.bytes ≡ self.old.bytes ++ bs) × (n ≡ length bs) × (self.new.taken ≡ self.old.taken + length bs)) }
         ensures end { IfOk result (λ n. n ≡ 0 → IsAtEnd (S.left source.new) × (self.new.ended ≡ None)) }
         ensures many { IfOk result (λ n. (self.new.ended ≡ None) ⊎ ((self.new.ended ≡ Some NextLine.TooLong) × (n ≡ 1))) }
         ensures number { self.new.number ≡ self.old.number }

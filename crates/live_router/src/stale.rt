@@ -19,7 +19,9 @@ impl LiveRouter {
     /// the first of a 33rd session or the 17th of its session; nothing changes then.
     pub fn stale_path(&mut self, fact: PathFact, left: u32) -> Result<(), StaleErr>
         requires { IsFitStale self.old.place 0 (stale_path 0 fact left) }
-        ensures refused { (c : ℕ) → MatchResult result (λ _. refusal_of_stale self.old.place (stale_path c fact left) (facts_at c self.old) ≡ None) (λ e. refusal_of_stale self.old.place (stale_path c fact left) (facts_at c self.old) ≡ Some e) }
+        ensures refused { (c : ℕ)
+            → MatchResult result (λ _. refusal_of_stale self.old.place (stale_path c fact left) (facts_at c self.old) ≡ None)
+            (λ e. refusal_of_stale self.old.place (stale_path c fact left) (facts_at c self.old) ≡ Some e) }
         ensures facts { (c : ℕ) → facts_at c self.new ≡ facts_with self.old.place c (stale_path c fact left) (facts_at c self.old) }
         ensures place { self.new.place ≡ self.old.place }
     {
@@ -37,7 +39,9 @@ impl LiveRouter {
         left: u32,
     ) -> Result<(), StaleErr>
         requires { IsFitStale self.old.place 0 (resv_left style 0 fact left) }
-        ensures refused { (c : ℕ) → MatchResult result (λ _. refusal_of_stale self.old.place (resv_left style c fact left) (facts_at c self.old) ≡ None) (λ e. refusal_of_stale self.old.place (resv_left style c fact left) (facts_at c self.old) ≡ Some e) }
+        ensures refused { (c : ℕ)
+            → MatchResult result (λ _. refusal_of_stale self.old.place (resv_left style c fact left) (facts_at c self.old) ≡ None)
+            (λ e. refusal_of_stale self.old.place (resv_left style c fact left) (facts_at c self.old) ≡ Some e) }
         ensures facts { (c : ℕ) → facts_at c self.new ≡ facts_with self.old.place c (resv_left style c fact left) (facts_at c self.old) }
         ensures place { self.new.place ≡ self.old.place }
     {
@@ -55,7 +59,9 @@ impl LiveRouter {
         left: u32,
     ) -> Result<(), StaleErr>
         requires { IsFitStale self.old.place 0 (wall_left (session, target) 0 wall left) }
-        ensures refused { (c : ℕ) → MatchResult result (λ _. refusal_of_stale self.old.place (wall_left (session, target) c wall left) (facts_at c self.old) ≡ None) (λ e. refusal_of_stale self.old.place (wall_left (session, target) c wall left) (facts_at c self.old) ≡ Some e) }
+        ensures refused { (c : ℕ)
+            → MatchResult result (λ _. refusal_of_stale self.old.place (wall_left (session, target) c wall left) (facts_at c self.old) ≡ None)
+            (λ e. refusal_of_stale self.old.place (wall_left (session, target) c wall left) (facts_at c self.old) ≡ Some e) }
         ensures facts { (c : ℕ) → facts_at c self.new ≡ facts_with self.old.place c (wall_left (session, target) c wall left) (facts_at c self.old) }
         ensures place { self.new.place ≡ self.old.place }
     {

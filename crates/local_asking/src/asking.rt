@@ -30,8 +30,13 @@ pub fn put_wants(
     flow: Flow,
     confirm: bool,
 ) -> Result<(), LocalErr>
-    ensures refused { (c : ℕ) (said : Said) → MatchResult result (λ _. call_refusal tables.old.config (WantAs session style senders.now flow confirm) (facts_of c (state_of tables.old said)) ≡ None) (λ e. call_refusal tables.old.config (WantAs session style senders.now flow confirm) (facts_of c (state_of tables.old said)) ≡ Some e) }
-    ensures facts { (c : ℕ) (said : Said) → facts_of c (state_of tables.new said) ≡ (act_call tables.old.config (WantAs session style senders.now flow confirm) (facts_of c (state_of tables.old said))).facts }
+    ensures refused { (c : ℕ) (said : Said)
+        → MatchResult result
+        (λ _. call_refusal tables.old.config (WantAs session style senders.now flow confirm) (facts_of c (state_of tables.old said)) ≡ None)
+        (λ e. call_refusal tables.old.config (WantAs session style senders.now flow confirm) (facts_of c (state_of tables.old said)) ≡ Some e) }
+    ensures facts { (c : ℕ) (said : Said)
+        → facts_of c (state_of tables.new said)
+        ≡ (act_call tables.old.config (WantAs session style senders.now flow confirm) (facts_of c (state_of tables.old said))).facts }
     ensures others { (j : WantKey) → eq_by_cmp sessions.cmp session j.0 ≡ false → get tables.old.wants j ≡ get tables.new.wants j }
     ensures booked { IsBooked tables.old → IsBooked tables.new }
     ensures pulled { ArePulled tables.old → ArePulled tables.new }
@@ -44,7 +49,9 @@ pub fn put_wants(
 /// All local receivers of a session ask for nothing more (RFC 2205, 3.11.1: RELEASE). `Absent` exactly where it has none;
 /// nothing changes then.
 pub fn drop_wants(tables: &mut Tables, session: Session) -> Result<(), LocalErr>
-    ensures refused { (c : ℕ) (said : Said) → MatchResult result (λ _. call_refusal tables.old.config (QuitAll session) (facts_of c (state_of tables.old said)) ≡ None) (λ e. call_refusal tables.old.config (QuitAll session) (facts_of c (state_of tables.old said)) ≡ Some e) }
+    ensures refused { (c : ℕ) (said : Said)
+        → MatchResult result (λ _. call_refusal tables.old.config (QuitAll session) (facts_of c (state_of tables.old said)) ≡ None)
+        (λ e. call_refusal tables.old.config (QuitAll session) (facts_of c (state_of tables.old said)) ≡ Some e) }
     ensures facts { (c : ℕ) (said : Said) → facts_of c (state_of tables.new said) ≡ (act_call tables.old.config (QuitAll session) (facts_of c (state_of tables.old said))).facts }
     ensures others { (j : WantKey) → eq_by_cmp sessions.cmp session j.0 ≡ false → get tables.old.wants j ≡ get tables.new.wants j }
     ensures booked { IsBooked tables.old → IsBooked tables.new }

@@ -34,7 +34,9 @@ pub fn leave_resv(
     requires exists { fact.iface < length tables.old.book.ifaces }
     requires style { IsOfStyle style fact.part }
     requires some { 1 ≤ left }
-    ensures refused { (c : ℕ) (said : Said) → MatchResult result (λ _. stale_refusal tables.old.config (resv_left style c fact left) (facts_of c (state_of tables.old said)) ≡ None) (λ e. stale_refusal tables.old.config (resv_left style c fact left) (facts_of c (state_of tables.old said)) ≡ Some e) }
+    ensures refused { (c : ℕ) (said : Said)
+        → MatchResult result (λ _. stale_refusal tables.old.config (resv_left style c fact left) (facts_of c (state_of tables.old said)) ≡ None)
+        (λ e. stale_refusal tables.old.config (resv_left style c fact left) (facts_of c (state_of tables.old said)) ≡ Some e) }
     ensures facts { (c : ℕ) (said : Said) → facts_of c (state_of tables.new said) ≡ act_stale tables.old.config (resv_left style c fact left) (facts_of c (state_of tables.old said)) }
     ensures others { (st : KindOf) (q : LineKey) → eq_by_cmp sessions.cmp fact.session q.0 ≡ false → get (table_in st (state_of tables.old empty)) q ≡ get (table_in st (state_of tables.new empty)) q }
     ensures booked { IsBooked tables.new }
@@ -61,7 +63,9 @@ pub fn leave_wall(
     left: u32,
 ) -> Result<(), StaleErr>
     requires { 1 ≤ left }
-    ensures refused { (c : ℕ) (said : Said) → MatchResult result (λ _. stale_refusal tables.old.config (wall_left (session, target) c wall left) (facts_of c (state_of tables.old said)) ≡ None) (λ e. stale_refusal tables.old.config (wall_left (session, target) c wall left) (facts_of c (state_of tables.old said)) ≡ Some e) }
+    ensures refused { (c : ℕ) (said : Said)
+        → MatchResult result (λ _. stale_refusal tables.old.config (wall_left (session, target) c wall left) (facts_of c (state_of tables.old said))
+        ≡ None) (λ e. stale_refusal tables.old.config (wall_left (session, target) c wall left) (facts_of c (state_of tables.old said)) ≡ Some e) }
     ensures facts { (c : ℕ) (said : Said) → facts_of c (state_of tables.new said) ≡ act_stale tables.old.config (wall_left (session, target) c wall left) (facts_of c (state_of tables.old said)) }
     ensures others { (k : WallKey) → eq_by_cmp sessions.cmp session k.0 ≡ false → get tables.old.walls k ≡ get tables.new.walls k }
     ensures booked { IsBooked tables.old → IsBooked tables.new }

@@ -24,7 +24,8 @@ unfoldable pub only_sender_text : Sender → List ℕ
 only_sender_text s = codes " sender " ++ sender_text s
 
 unfoldable pub path_text : PathMsg → List ℕ
-path_text m = codes "Path " ++ session_text m.session ++ where_set m.police (codes " police") ++ hop_text m.hop ++ period_text m.period ++ where_there path_sender_text m.sender ++ where_there adspec_text m.adspec
+path_text m = codes "Path " ++ session_text m.session ++ where_set m.police (codes " police") ++ hop_text m.hop ++ period_text m.period
+    ++ where_there path_sender_text m.sender ++ where_there adspec_text m.adspec
 
 unfoldable pub resv_text : ResvMsg → List ℕ
 resv_text m = codes "Resv " ++ session_text m.session ++ hop_text m.hop ++ period_text m.period ++ where_there confirm_text m.confirm ++ ask_text m.ask

@@ -71,9 +71,13 @@ fn put_wish(out: &mut Vec<u8>, confirm: Option<Addr>) -> Result<(), NoMemory>
 
 // What a Path message says before what it offers.
 fn put_path_head(out: &mut Vec<u8>, m: &PathMsg) -> Result<(), NoMemory>
-    ensures text { OnOk result (out.new.items ≡ out.old.items ++ (codes "Path " ++ session_text m.now.session ++ where_set m.now.police (codes " police") ++ hop_text m.now.hop ++ period_text m.now.period)) }
+    ensures text { OnOk result (out.new.items ≡ out.old.items
+        ++ (codes "Path " ++ session_text m.now.session ++ where_set m.now.police (codes " police") ++ hop_text m.now.hop
+        ++ period_text m.now.period)) }
     ensures front { OnErr result (StartsWith out.new.items out.old.items) }
-    ensures full { OnErr result (vec_capacity out.old < length (out.old.items ++ (codes "Path " ++ session_text m.now.session ++ where_set m.now.police (codes " police") ++ hop_text m.now.hop ++ period_text m.now.period))) }
+    ensures full { OnErr result (vec_capacity out.old < length (out.old.items
+        ++ (codes "Path " ++ session_text m.now.session ++ where_set m.now.police (codes " police") ++ hop_text m.now.hop
+        ++ period_text m.now.period))) }
     ensures kept { vec_capacity out.old ≤ vec_capacity out.new }
 {
     put(out, b"Path ")?;

@@ -102,8 +102,10 @@ goes_on _ k xs n = false
 pub record IsInGrammar (kind : Kind) (xs : List Object) : Type 0 where
   pub once : (n : ℕ) → stands_once (role_of kind n) ≡ true → how_many n xs ≤ 1
   pub first : (before after : List Object) (x : Object) → xs ≡ before ++ x ∷ after → class_of x ≡ integrity → list_any is_object before ≡ false
-  pub front : (before after : List Object) (x : Object) → xs ≡ before ++ x ∷ after → last_said style_said before ≡ None → (is_anywhere (class_of x) || (class_of x == integrity || may_stand (role_of kind (class_of x)))) ≡ true
-  pub list : (before after : List Object) (x : Object) (k : StyleKind) → xs ≡ before ++ x ∷ after → last_said style_said before ≡ Some k → (is_anywhere (class_of x) || (class_of x == integrity || goes_on kind k before (class_of x))) ≡ true
+  pub front : (before after : List Object) (x : Object) → xs ≡ before ++ x ∷ after → last_said style_said before ≡ None
+      → (is_anywhere (class_of x) || (class_of x == integrity || may_stand (role_of kind (class_of x)))) ≡ true
+  pub list : (before after : List Object) (x : Object) (k : StyleKind) → xs ≡ before ++ x ∷ after → last_said style_said before ≡ Some k
+      → (is_anywhere (class_of x) || (class_of x == integrity || goes_on kind k before (class_of x))) ≡ true
   pub names : (before after : List Object) (s : Sender) → xs ≡ before ++ object.Filter s ∷ after → (is_named s (filters_after None before) ≡ false) × (length (filters_after None before) ≤ 15)
 
 -- ---- what they say: each needed class is there, and the list is whole

@@ -51,7 +51,8 @@ WhatStandsOnceIsSaidOnce = (kind : Kind) (b : List ℕ) (xs : List Object) (end 
 
 -- behind a STYLE stand FLOWSPECs, FILTER_SPECs, and what may stand anywhere
 abbrev pub BehindStyleStandsTheList : Type 0
-BehindStyleStandsTheList = (kind : Kind) (b : List ℕ) (end : ℕ) (before after : List Object) (x : Object) (k : StyleKind) → Stand kind b [] 8 (before ++ x ∷ after) end → last_said style_said before ≡ Some k
+BehindStyleStandsTheList = (kind : Kind) (b : List ℕ) (end : ℕ) (before after : List Object) (x : Object) (k : StyleKind)
+    → Stand kind b [] 8 (before ++ x ∷ after) end → last_said style_said before ≡ Some k
     → (is_anywhere (class_of x) || (class_of x == flowspec || class_of x == filter_spec)) ≡ true
 
 -- ---- and the other way round

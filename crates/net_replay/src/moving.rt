@@ -38,8 +38,12 @@ pub(crate) fn routes_of(alloc: Global, routing: &Routing) -> Result<Vec<Route>, 
 pub(crate) fn move_all<R: Router>(nodes: &mut Vec<R>, mail: &mut Mail, routes: &mut Vec<Route>)
     requires routed { AreRouted (trees_in routes.old.items) (map R.seen.place nodes.old.items) }
     requires few { vec_len nodes.old ≤ 256 }
-    ensures nodes { (q : ℕ) (w : AWorld) (g s : AnAddr) (hops : List AHop) → AreMoving R.seen q mail.old.net (trees_in routes.old.items) nodes.old.items g s hops w → AreNodes R.seen q (step q (Reroute g s hops) w) nodes.new.items }
-    ensures put { (q : ℕ) (w : AWorld) (g s : AnAddr) (hops : List AHop) → AreMoving R.seen q mail.old.net (trees_in routes.old.items) nodes.old.items g s hops w → ArePut mail.old mail.new (map (λ x. x.0) (sent q (Reroute g s hops) w)) }
+    ensures nodes { (q : ℕ) (w : AWorld) (g s : AnAddr) (hops : List AHop)
+        → AreMoving R.seen q mail.old.net (trees_in routes.old.items) nodes.old.items g s hops w
+        → AreNodes R.seen q (step q (Reroute g s hops) w) nodes.new.items }
+    ensures put { (q : ℕ) (w : AWorld) (g s : AnAddr) (hops : List AHop)
+        → AreMoving R.seen q mail.old.net (trees_in routes.old.items) nodes.old.items g s hops w
+        → ArePut mail.old mail.new (map (λ x. x.0) (sent q (Reroute g s hops) w)) }
     ensures places { map bare (map R.seen.place nodes.new.items) ≡ map bare (map R.seen.place nodes.old.items) }
     ensures routed { AreRouted (trees_in routes.old.items) (map R.seen.place nodes.new.items) }
     ensures trees { trees_in routes.new.items ≡ trees_in routes.old.items }

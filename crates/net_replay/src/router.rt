@@ -61,7 +61,9 @@ pub trait Router {
     fn call<O: Outbox>(&mut self, call: &LocalCall, out: &mut O) -> Result<(), LocalErr>
         requires { IsFitCall (call_of call.now) }
         ensures place { seen.place self.new ≡ seen.place self.old }
-        ensures refused { (c : ℕ) → MatchResult result (λ _. refusal_of_call (seen.place self.old) (call_of call.now) (seen.facts self.old c) ≡ None) (λ e. refusal_of_call (seen.place self.old) (call_of call.now) (seen.facts self.old c) ≡ Some e) }
+        ensures refused { (c : ℕ)
+            → MatchResult result (λ _. refusal_of_call (seen.place self.old) (call_of call.now) (seen.facts self.old c) ≡ None)
+            (λ e. refusal_of_call (seen.place self.old) (call_of call.now) (seen.facts self.old c) ≡ Some e) }
         ensures facts { (c : ℕ) → seen.facts self.new c ≡ facts_after (seen.place self.old) (seen.place self.old) c (Call (call_of call.now)) (seen.facts self.old c) }
         ensures sent { (c : ℕ) → out.new ≡ fold O.posted out.old (sent_after (seen.place self.old) (seen.place self.old) c (Call (call_of call.now)) (seen.facts self.old c)) }
         ensures fit { (c : ℕ) → AreProper (sent_after (seen.place self.old) (seen.place self.old) c (Call (call_of call.now)) (seen.facts self.old c)) };

@@ -32,9 +32,12 @@ pub(crate) fn take_in<R: Router>(
 ) -> Heard
     requires { iface < length (R.seen.place node.old).ifaces }
     ensures place { R.seen.place node.new ≡ R.seen.place node.old }
-    ensures facts { (c : ℕ) (a : Arrival) → IsArrival bytes.now a → R.seen.facts node.new c ≡ facts_after (R.seen.place node.old) (R.seen.place node.old) c (Came iface dst a) (R.seen.facts node.old c) }
+    ensures facts { (c : ℕ) (a : Arrival) → IsArrival bytes.now a
+        → R.seen.facts node.new c ≡ facts_after (R.seen.place node.old) (R.seen.place node.old) c (Came iface dst a) (R.seen.facts node.old c) }
     ensures heard { (c : ℕ) (a : Arrival) → IsArrival bytes.now a → result ≡ heard_after (R.seen.place node.old) c iface dst a (R.seen.facts node.old c) }
-    ensures sent { (c : ℕ) (a : Arrival) → IsArrival bytes.now a → mail.new ≡ fold with_post mail.old (sent_after (R.seen.place node.old) (R.seen.place node.old) c (Came iface dst a) (R.seen.facts node.old c)) }
+    ensures sent { (c : ℕ) (a : Arrival) → IsArrival bytes.now a
+        → mail.new
+        ≡ fold with_post mail.old (sent_after (R.seen.place node.old) (R.seen.place node.old) c (Came iface dst a) (R.seen.facts node.old c)) }
     ensures net { mail.new.net ≡ mail.old.net }
     ensures fit { (c : ℕ) (a : Arrival) → IsArrival bytes.now a → AreSpelt (sent_after (R.seen.place node.old) (R.seen.place node.old) c (Came iface dst a) (R.seen.facts node.old c)) }
 {

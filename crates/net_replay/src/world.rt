@@ -85,7 +85,17 @@ impl<R: Router + Drop> World<R> {
         requires short { 4 * quarter < 2 ^ 32 }
         requires placed { ArePlaced quarter routing (map R.seen.place nodes.items) }
         ensures first { IfOk result (λ v. (p : Plan) → IsOpenedBy p quarter seed routing names.items → AreFirst R.seen p nodes.items → Agrees R.seen quarter v (first_world p)) }
-        ensures state { IfOk result (λ v. v ≡ record { quarter = quarter; post = record { net = routing; from = 0; flight = []; full = false; in_range = true }; names = names.items; nodes = nodes.items; trees = trees_of routing.hops; words = seed; delivered = 0; trace = false; refused = None }) }
+        ensures state { IfOk result (λ v. v ≡ record {
+          quarter = quarter;
+          post = record { net = routing; from = 0; flight = []; full = false; in_range = true };
+          names = names.items;
+          nodes = nodes.items;
+          trees = trees_of routing.hops;
+          words = seed;
+          delivered = 0;
+          trace = false;
+          refused = None;
+        }) }
     {
         let wires = Wires::open(alloc, routing)?;
         let _valid = wires.routing();

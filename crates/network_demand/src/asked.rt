@@ -119,7 +119,9 @@ fn ask_for<S: Style>(
 ) -> Result<(), NoMemory>
     requires { want.now.node < length asked.old.items }
     ensures size { OnOk result (length asked.new.items ≡ length asked.old.items) }
-    ensures asked { OnOk result ((n : ℕ) (rest : List LocalWant) → at_node asked.new.items n ++ local_parts S.kind_is session all.now n rest ≡ at_node asked.old.items n ++ local_parts S.kind_is session all.now n (want.now ∷ rest)) }
+    ensures asked { OnOk result ((n : ℕ) (rest : List LocalWant)
+        → at_node asked.new.items n ++ local_parts S.kind_is session all.now n rest ≡ at_node asked.old.items n
+        ++ local_parts S.kind_is session all.now n (want.now ∷ rest)) }
 {
     if is_session(session, want.session) && is_style(S::kind(), want.style) {
         return ask(asked, want.node, widened::<S>(&want.part, all));

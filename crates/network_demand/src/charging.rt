@@ -26,7 +26,12 @@ fn charge_row<S: Style>(
     requires there { end < length books.old.items }
     requires room { (q : Part) → get (book_at books.old.items end) (record { session = session; style = S.kind_is; unit = row.now.0 }) ≡ Some q → size (union q.senders row.now.1.senders) ≤ 16 }
     ensures size { OnOk result (length books.new.items ≡ length books.old.items) }
-    ensures books { OnOk result (books.new.items ≡ slice_set books.old.items end (charged (book_at books.old.items end) (record { session = session; style = S.kind_is; unit = row.now.0 }) row.now.1)) }
+    ensures books { OnOk result (books.new.items
+        ≡ slice_set books.old.items end (charged (book_at books.old.items end) (record {
+          session = session;
+          style = S.kind_is;
+          unit = row.now.0;
+        }) row.now.1)) }
 {
     let key = EntryKey {
         session,
@@ -47,7 +52,8 @@ fn charge_want<S: Style>(
     requires room { HasRoom S.kind_is session books.old.items (want.now ∷ []) }
     ensures size { OnOk result (length books.new.items ≡ length books.old.items) }
     ensures lines { OnOk result ((fed : List Line) (next : Addr) → HaveLines fed books.old.items → HaveLines (fed ++ want_lines S.kind_is session next want.now) books.new.items) }
-    ensures names { OnOk result ((all : Names) → NameOnly S.kind_is session all books.old.items → ((e : UnitOf × Part) → In e want.now.parts.rows → IsWithin e.1.senders all) → NameOnly S.kind_is session all books.new.items) }
+    ensures names { OnOk result ((all : Names) → NameOnly S.kind_is session all books.old.items
+        → ((e : UnitOf × Part) → In e want.now.parts.rows → IsWithin e.1.senders all) → NameOnly S.kind_is session all books.new.items) }
 {
     for row in want.parts.as_slice() {
         charge_row::<S>(books, want.hop.from, session, row)?;

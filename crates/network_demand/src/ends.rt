@@ -79,7 +79,8 @@ fn charge_style<S: Style>(
     requires fed { AreFed (locals_of locals.now) books.old.items }
     ensures ends { OnOk result (length books.new.items ≡ length routing.now.ends) }
     ensures fed { OnOk result (AreFed (locals_of locals.now) books.new.items) }
-    ensures lines { OnOk result ((fed : List Line) → HaveLines fed books.old.items → HaveLines (fed ++ style_lines S.kind_is routing.now (locals_of locals.now) order.now sessions.now) books.new.items) }
+    ensures lines { OnOk result ((fed : List Line) → HaveLines fed books.old.items
+        → HaveLines (fed ++ style_lines S.kind_is routing.now (locals_of locals.now) order.now sessions.now) books.new.items) }
     ensures room { IfOk result (λ fits. IsTrue fits ↔ FindRoom S.kind_is routing.now (locals_of locals.now) order.now sessions.now) }
 {
     let mut lines = rooms(alloc, routing.nodes(), 1024)?;

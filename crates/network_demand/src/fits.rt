@@ -32,7 +32,8 @@ pub(crate) fn find_room(
     ensures before { IfOk result (λ fits. IsTrue fits → IsTrue before) }
     ensures next_hops { IfOk result (λ fits. IsTrue fits → (n : ℕ) → taken_at true routing.now n wants.now ≤ 64) }
     ensures lines { IfOk result (λ fits. IsTrue fits → (full n : ℕ) → room_at full lines.new.items n + taken_at false routing.now n wants.now ≡ room_at full lines.old.items n) }
-    ensures less { IfOk result (λ fits. fits ≡ false → IsTrue before → (n : ℕ) × ((64 < taken_at true routing.now n wants.now) ⊎ ((full : ℕ) → room_at full lines.old.items n < taken_at false routing.now n wants.now))) }
+    ensures less { IfOk result (λ fits. fits ≡ false → IsTrue before → (n : ℕ)
+        × ((64 < taken_at true routing.now n wants.now) ⊎ ((full : ℕ) → room_at full lines.old.items n < taken_at false routing.now n wants.now))) }
 {
     if !before {
         return Ok(false);

@@ -37,7 +37,9 @@ fn add_over<S: Style>(
     sender: Sender,
 )
     requires { size names.old < 16 }
-    ensures names { (rest : List Sender) → with_keys names.new (map (name_of S.kind_is) (filter (goes_over routing.now group (hop ∷ [])) rest)) ≡ with_keys names.old (map (name_of S.kind_is) (filter (goes_over routing.now group (hop ∷ [])) (sender ∷ rest))) }
+    ensures names { (rest : List Sender)
+        → with_keys names.new (map (name_of S.kind_is) (filter (goes_over routing.now group (hop ∷ [])) rest))
+        ≡ with_keys names.old (map (name_of S.kind_is) (filter (goes_over routing.now group (hop ∷ [])) (sender ∷ rest))) }
     ensures few { size names.new ≤ size names.old + 1 }
 {
     if !goes_over(routing, group, hop, sender) {
@@ -86,7 +88,9 @@ fn next_want<S: Style>(
     requires from { node_of routing.now.ends hop.from < length asked.old.items }
     requires to { node_of routing.now.ends hop.to < length asked.old.items }
     ensures parts { IfOk result (λ parts. parts ≡ merge S.kind_is (cuts (names_among S.kind_is routing.now group (hop ∷ []) senders.now) (at_node asked.old.items (node_of routing.now.ends hop.to)))) }
-    ensures asked { IfOk result (λ parts. asked.new.items ≡ slice_set asked.old.items (node_of routing.now.ends hop.from) (at_node asked.old.items (node_of routing.now.ends hop.from) ++ values parts)) }
+    ensures asked { IfOk result (λ parts. asked.new.items
+        ≡ slice_set asked.old.items (node_of routing.now.ends hop.from) (at_node asked.old.items (node_of routing.now.ends hop.from)
+        ++ values parts)) }
 {
     let names = names_over::<S>(routing, senders, group, hop);
     let into = routing.node_of(hop.to) as usize;

@@ -65,7 +65,8 @@ abbrev pub two_ways : List Event → Plan
 two_ways events =
     plan_of (record {
       nodes = 4;
-      ends = end_of 0 s1 ∷ end_of 1 (ip 10 0 1 2) ∷ end_of 1 (ip 10 0 2 1) ∷ end_of 3 (ip 10 0 2 2) ∷ end_of 0 (ip 10 0 3 1) ∷ end_of 2 (ip 10 0 3 2) ∷ end_of 2 (ip 10 0 4 1) ∷ end_of 3 (ip 10 0 4 2) ∷ [];
+      ends = end_of 0 s1 ∷ end_of 1 (ip 10 0 1 2) ∷ end_of 1 (ip 10 0 2 1) ∷ end_of 3 (ip 10 0 2 2) ∷ end_of 0 (ip 10 0 3 1) ∷ end_of 2 (ip 10 0 3 2)
+          ∷ end_of 2 (ip 10 0 4 1) ∷ end_of 3 (ip 10 0 4 2) ∷ [];
       links = (0 ∷ 1 ∷ []) ∷ (2 ∷ 3 ∷ []) ∷ (4 ∷ 5 ∷ []) ∷ (6 ∷ 7 ∷ []) ∷ [];
       hops = hop_of 0 1 ∷ hop_of 2 3 ∷ [];
     }) (codes "s1" ∷ codes "p1" ∷ codes "p2" ∷ codes "t1" ∷ codes "s2" ∷ codes "q1" ∷ codes "q2" ∷ codes "t2" ∷ []) events
@@ -119,7 +120,8 @@ one_node = record {
 }
 
 pub record FirstRun : Type 0 where
-  pub text : run_text one_node ≡ codes "end r1 held 900 of 1000\n239.1.1.1/17/5004 WF 10.0.9.9 400/400/inf/1/1500\n239.1.1.2/17/5004 WF 10.0.9.9 500/500/inf/1/1500\nend r1 held 400 of 1000\n239.1.1.1/17/5004 WF 10.0.9.9 400/400/inf/1/1500\nend r1 held 0 of 1000\n"
+  pub text : run_text one_node
+      ≡ codes "end r1 held 900 of 1000\n239.1.1.1/17/5004 WF 10.0.9.9 400/400/inf/1/1500\n239.1.1.2/17/5004 WF 10.0.9.9 500/500/inf/1/1500\nend r1 held 400 of 1000\n239.1.1.1/17/5004 WF 10.0.9.9 400/400/inf/1/1500\nend r1 held 0 of 1000\n"
 
 -- the larger rate and not the sum, with flags
 pub record LargerRate : Type 0 where
@@ -141,7 +143,9 @@ pub record Traced : Type 0 where
 -- injected datagrams are handled as all are
 pub record Injected : Type 0 where
   pub path_in : run_text (line 10000 (Traces true ∷ Injects 1 group (Spelt (path true s1 first usual)) ∷ Pass 2 ∷ [])) ≡ codes "r1 Path taken\nt1 Path taken\n"
-  pub no_message : run_text (line 10000 (Traces true ∷ Injects 1 group (Unspelt (record { fault = fault.Short; kind = None; hint = record { session = None; hop = None; style = None; sender = None } })) ∷ Pass 2 ∷ [])) ≡ codes "r1 ? dropped Unspelt\n"
+  pub no_message : run_text (line 10000 (Traces true
+      ∷ Injects 1 group (Unspelt (record { fault = fault.Short; kind = None; hint = record { session = None; hop = None; style = None; sender = None } }))
+      ∷ Pass 2 ∷ [])) ≡ codes "r1 ? dropped Unspelt\n"
   pub not_mine : run_text (line 10000 (Traces true ∷ Injects 1 r1 (Spelt (path true s1 first usual)) ∷ Pass 2 ∷ [])) ≡ codes "r1 Path dropped NotMine\n"
   pub not_inward : run_text (line 10000 (Traces true ∷ Injects 2 group (Spelt (path true s1 first usual)) ∷ Pass 2 ∷ [])) ≡ codes "r2 Path dropped NotInward\n"
 
@@ -152,5 +156,6 @@ pub record SharedLink : Type 0 where
 
 -- a tree that moves takes its reservation with it
 pub record MovedTree : Type 0 where
-  pub text : run_text (two_ways (sends ∷ wants 3 usual ∷ Pass 4 ∷ Traces true ∷ Reroutes group s1 ((record { from = 4; to = 5 }) ∷ (record { from = 6; to = 7 }) ∷ []) ∷ Pass 4 ∷ Reports (Some 0) ∷ Reports (Some 4) ∷ []))
+  pub text : run_text (two_ways (sends ∷ wants 3 usual ∷ Pass 4 ∷ Traces true
+      ∷ Reroutes group s1 ((record { from = 4; to = 5 }) ∷ (record { from = 6; to = 7 }) ∷ []) ∷ Pass 4 ∷ Reports (Some 0) ∷ Reports (Some 4) ∷ []))
       ≡ codes "p1 PathTear taken\nq1 Path taken\nt1 PathTear taken\ns1 ResvTear taken\nt2 Path taken\nq2 Resv taken\ns2 Resv taken\nend s1 held 0 of 10000\nend s2 held 1000 of 10000\n" ++ usual_entry

@@ -112,7 +112,9 @@ AreResvsExact w = (st : StyleKind) (s : Session) (h : LinkHop) → In h (hops_of
 abbrev pub TakesAll : ℕ → Step → World → Type 0
 TakesAll q s w =
     (y : Item) (m : ResvMsg) (f : Facts) (u : AskedUnit) → arrived s w ≡ Some y → y.arrival ≡ Spelt (message.Resv m) → slice_get w.nodes (node_of w.net.ends y.end) ≡ Some f → In u (asked_units m.ask)
-    → (r : ResvState) × (get (resvs_of (ask_style m.ask) (outcome q s w (node_of w.net.ends y.end) f).facts) (m.session, ((iface_of w.net.ends y.end, m.hop.addr), u.unit)) ≡ Some r) × (u.names ≡ Some r.part.senders) × (u.flow ≡ r.part.flow)
+    → (r : ResvState)
+    × (get (resvs_of (ask_style m.ask) (outcome q s w (node_of w.net.ends y.end) f).facts) (m.session, ((iface_of w.net.ends y.end, m.hop.addr), u.unit))
+    ≡ Some r) × (u.names ≡ Some r.part.senders) × (u.flow ≡ r.part.flow)
 
 -- no ResvErr with a flow is in flight: none that sets a blockade
 abbrev pub HasNoFlowError : World → Type 0

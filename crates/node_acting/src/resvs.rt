@@ -40,7 +40,8 @@ pub fn take_resvs(tables: &mut Tables, iface: u8, message: &ResvMsg, answer: &mu
     requires sound { AreSound tables.old }
     requires place { IsOfPlace tables.old }
     requires exists { iface < length tables.old.book.ifaces }
-    ensures answer { (c : ℕ) (said : Said) → IsAnswer tables.old.config (asker_of_rule tables.old.config c iface message.now) answer.new (act_resv tables.old.config c iface message.now (facts_of c (state_of tables.old said))) }
+    ensures answer { (c : ℕ) (said : Said)
+        → IsAnswer tables.old.config (asker_of_rule tables.old.config c iface message.now) answer.new (act_resv tables.old.config c iface message.now (facts_of c (state_of tables.old said))) }
     ensures facts { (c : ℕ) (said : Said) → facts_of c (state_of tables.new said) ≡ (act_resv tables.old.config c iface message.now (facts_of c (state_of tables.old said))).facts }
     ensures change { (said : Said) (x : Sending) → IsChangedFor (message.now.session, x) (state_of tables.old said) (state_of tables.new said) }
     ensures sound { AreSound tables.new }

@@ -62,4 +62,5 @@ AreSoundAt w n f = (st : StyleKind) (k : LineKey) (r : ResvState) → get (resvs
 
 pub record SoundIsUnderTheGoal (w : World) : Type 0 where
   pub facts : (n : ℕ) (f : Facts) → AreSoundAt w n f → AreUnder (lines f) (goal_at w.net (locals_of w) n)
-  pub unit : (o : Asker) (e : ℕ) (u : UnitOf) (p : Part) → IsSoundPart o.style w o.session e o.next u p → iface_of w.net.ends e ≡ o.iface → HasPlace o u p (goal_at w.net (locals_of w) (node_of w.net.ends e))
+  pub unit : (o : Asker) (e : ℕ) (u : UnitOf) (p : Part) → IsSoundPart o.style w o.session e o.next u p → iface_of w.net.ends e ≡ o.iface
+      → HasPlace o u p (goal_at w.net (locals_of w) (node_of w.net.ends e))

@@ -48,7 +48,8 @@ RefreshIsQuiet =
 -- once the lanes of the session that changed are told, what was said is what goes toward each hop
 abbrev pub AllIsSaid : Type 0
 AllIsSaid =
-    (k : SenderKey) (n m : State) → IsChangedFor k n m → m.said ≡ n.said → IsSaid n.said n → (es : List SessionLane) → ((c : ℕ) → AreLanesOf (facts_of c n) k.0 es) → (said : Said) → IsCleared m k.0 es said
+    (k : SenderKey) (n m : State) → IsChangedFor k n m → m.said ≡ n.said → IsSaid n.said n → (es : List SessionLane)
+    → ((c : ℕ) → AreLanesOf (facts_of c n) k.0 es) → (said : Said) → IsCleared m k.0 es said
     → (ds : List SessionLane) → ((c : ℕ) → AreLanesOf (facts_of c m) k.0 ds) → (last : Said) → IsTold (record m { said = said }) k.0 ds last → IsRoomy m last → IsSaid last m
 
 -- what is told lane by lane of what was said before is what the rule sends

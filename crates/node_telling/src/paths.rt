@@ -161,7 +161,8 @@ pub fn tell_new_ways<O: Outbox>(
     old: u16,
     out: &mut O,
 )
-    ensures { out.new ≡ fold O.posted out.old (map (λ i. path_send config.now false (offer_key (session, sender) i, as_offer offered.now)) (ways_but config.now (ways_out (tree config.now session sender)) old)) }
+    ensures { out.new ≡ fold O.posted out.old (map
+        (λ i. path_send config.now false (offer_key (session, sender) i, as_offer offered.now)) (ways_but config.now (ways_out (tree config.now session sender)) old)) }
 {
     let ifaces = config.ifaces();
     let period = config.period();

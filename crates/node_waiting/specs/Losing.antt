@@ -23,4 +23,5 @@ lost_names st g ks = filter_map (lost_at st g) ks
 abbrev pub NamesOfTheDead : Type 0
 NamesOfTheDead =
     (st : StyleKind) (f g : Facts) (dead : Set sender_keys) → ((k : SenderKey) → has dead k ≡ true → has (known f k.0) k.1 ≡ true)
-    → ((k : SenderKey) → has (known f k.0) k.1 ≡ true → has (known g k.0) k.1 ≡ false → has dead k ≡ true) → (s : Session) (x : Sender) → list_any (is_gone s x) (lost_names st g (keys dead)) ≡ is_lost st f g s x
+    → ((k : SenderKey) → has (known f k.0) k.1 ≡ true → has (known g k.0) k.1 ≡ false → has dead k ≡ true) → (s : Session) (x : Sender)
+    → list_any (is_gone s x) (lost_names st g (keys dead)) ≡ is_lost st f g s x

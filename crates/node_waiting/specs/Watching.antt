@@ -28,5 +28,6 @@ pub record HasAllDying (ms : ℕ) (n : State) (all : List Session) : Type 0 wher
 abbrev pub DyingAreWatched : Type 0
 DyingAreWatched =
     (n : State) (c ms word : ℕ) (all : List Session) → IsCounted n → HasAllDying ms n all → (ss : List Session) → AreSessions ss
-    → ((s : Session) → has n.due s ≡ true → list_any (eq_by_cmp sessions.cmp s) all ≡ true → is_among ss s ≡ true) → ((s : Session) (left : ℕ) → get n.due s ≡ Some left → left ≤ ms → is_among ss s ≡ true)
+    → ((s : Session) → has n.due s ≡ true → list_any (eq_by_cmp sessions.cmp s) all ≡ true → is_among ss s ≡ true)
+    → ((s : Session) (left : ℕ) → get n.due s ≡ Some left → left ≤ ms → is_among ss s ≡ true)
     → IsWatched ss (dying_paths ms n.paths) n.place (c + ms) word (facts_of c n)

@@ -21,7 +21,8 @@ use rsvp_base::{Addr, Sender, Session, StyleKind};
 
 // Whether a known sender of a session has this address.
 fn has_address(senders: &LocalSenders, paths: &PathTable, session: Session, addr: Addr) -> bool
-    ensures { result ≡ (list_any (λ x. is_addr x.addr addr) (keys (under sessions orders_senders senders.now session)) || list_any (is_from addr) (keys (under sessions orders_senders paths.now.facts session))) }
+    ensures { result ≡ (list_any (λ x. is_addr x.addr addr) (keys (under sessions orders_senders senders.now session))
+        || list_any (is_from addr) (keys (under sessions orders_senders paths.now.facts session))) }
 {
     if senders.has_address(session, addr) {
         return true;

@@ -108,7 +108,8 @@ pub fn tell_fired<O: Outbox>(
     fired: &Fired,
     out: &mut O,
 )
-    ensures { (c : ℕ) (n : State) → n.place ≡ config.now → n.senders ≡ senders.now → n.paths ≡ paths.now.facts → out.new ≡ fold O.posted out.old (flat_map (refreshed n.place (facts_of c n)) (keys fired.now)) }
+    ensures { (c : ℕ) (n : State) → n.place ≡ config.now → n.senders ≡ senders.now → n.paths ≡ paths.now.facts
+        → out.new ≡ fold O.posted out.old (flat_map (refreshed n.place (facts_of c n)) (keys fired.now)) }
 {
     let list = fired.as_slice();
     for i in 0..list.len() {
@@ -128,7 +129,9 @@ fn tell_one<O: Outbox>(config: &Config, senders: &LocalSenders, dead: &DeadPath,
 /// The PathTears of the senders whose paths died and that are no local ones, in order of session and sender: those that
 /// are offered no more. Before the wait each of these paths was there, and after it none is.
 pub fn tell_dead<O: Outbox>(config: &Config, senders: &LocalSenders, dead: &DeadPaths, out: &mut O)
-    ensures { (f g : Facts) → g.senders ≡ senders.now → ((k : SenderKey) → has dead.now k ≡ true → is_some (offered f k) ≡ true) → ((k : SenderKey) → has dead.now k ≡ true → get g.paths k ≡ None) → out.new ≡ fold O.posted out.old (gone_told config.now f g (keys dead.now)) }
+    ensures { (f g : Facts) → g.senders ≡ senders.now → ((k : SenderKey) → has dead.now k ≡ true → is_some (offered f k) ≡ true)
+        → ((k : SenderKey) → has dead.now k ≡ true → get g.paths k ≡ None)
+        → out.new ≡ fold O.posted out.old (gone_told config.now f g (keys dead.now)) }
 {
     let list = dead.as_slice();
     for i in 0..list.len() {

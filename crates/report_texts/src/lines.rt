@@ -31,7 +31,8 @@ pub fn put_head(out: &mut Vec<u8>, name: &[u8], held: u64, capacity: u64) -> Res
 fn put_who(out: &mut Vec<u8>, key: EntryKey, part: &Part) -> Result<(), NoMemory>
     ensures text { OnOk result (out.new.items ≡ out.old.items ++ (session_text key.session ++ codes " " ++ style_text key.style ++ codes " " ++ names_text key.style (keys part.now.senders))) }
     ensures front { OnErr result (StartsWith out.new.items out.old.items) }
-    ensures full { OnErr result (vec_capacity out.old < length (out.old.items ++ (session_text key.session ++ codes " " ++ style_text key.style ++ codes " " ++ names_text key.style (keys part.now.senders)))) }
+    ensures full { OnErr result (vec_capacity out.old < length (out.old.items
+        ++ (session_text key.session ++ codes " " ++ style_text key.style ++ codes " " ++ names_text key.style (keys part.now.senders)))) }
     ensures kept { vec_capacity out.old ≤ vec_capacity out.new }
 {
     put_session(out, key.session)?;

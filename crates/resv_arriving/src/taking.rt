@@ -74,7 +74,8 @@ pub fn take_resv(tables: &mut Tables, iface: u8, message: &ResvMsg, answer: &mut
     requires pulled { ArePulled tables.old }
     requires place { IsOfPlace tables.old }
     requires exists { iface < length tables.old.book.ifaces }
-    ensures answer { (c : ℕ) (said : Said) → IsAnswer tables.old.config (asker_of_rule tables.old.config c iface message.now) answer.new (act_resv tables.old.config c iface message.now (facts_of c (state_of tables.old said))) }
+    ensures answer { (c : ℕ) (said : Said)
+        → IsAnswer tables.old.config (asker_of_rule tables.old.config c iface message.now) answer.new (act_resv tables.old.config c iface message.now (facts_of c (state_of tables.old said))) }
     ensures facts { (c : ℕ) (said : Said) → facts_of c (state_of tables.new said) ≡ (act_resv tables.old.config c iface message.now (facts_of c (state_of tables.old said))).facts }
     ensures booked { IsBooked tables.new }
     ensures pulled { ArePulled tables.new }
@@ -162,8 +163,11 @@ fn take_or_refuse(tables: &mut Tables, iface: u8, message: &ResvMsg, done: &mut 
     requires pulled { ArePulled tables.old }
     requires place { IsOfPlace tables.old }
     requires exists { iface < length tables.old.book.ifaces }
-    ensures done { (c : ℕ) (said : Said) → IsDone tables.old.config (asker_of_rule tables.old.config c iface message.now) done.new (taking tables.old.config c iface message.now (facts_of c (state_of tables.old said))) }
-    ensures facts { (c : ℕ) (said : Said) → facts_of c (state_of tables.new said) ≡ with_resvs (ask_style message.now.ask) (taking tables.old.config c iface message.now (facts_of c (state_of tables.old said))).table (facts_of c (state_of tables.old said)) }
+    ensures done { (c : ℕ) (said : Said)
+        → IsDone tables.old.config (asker_of_rule tables.old.config c iface message.now) done.new (taking tables.old.config c iface message.now (facts_of c (state_of tables.old said))) }
+    ensures facts { (c : ℕ) (said : Said)
+        → facts_of c (state_of tables.new said)
+        ≡ with_resvs (ask_style message.now.ask) (taking tables.old.config c iface message.now (facts_of c (state_of tables.old said))).table (facts_of c (state_of tables.old said)) }
     ensures booked { IsBooked tables.new }
     ensures pulled { ArePulled tables.new }
     ensures ifaces { tables.new.book.ifaces ≡ tables.old.book.ifaces }
@@ -192,8 +196,11 @@ fn take_by_style(tables: &mut Tables, asker: &Asker, all: &Matching, ask: &Ask, 
     requires exists { asker.now.iface < length tables.old.book.ifaces }
     requires some { 1 ≤ asker.now.left }
     requires listed { (x : Sender) → has all.now x ≡ true → name_of (ask_style ask.now) x ≡ x }
-    ensures done { (c : ℕ) (said : Said) → IsDone tables.old.config (asker_at c (ask_style ask.now) asker.now) done.new (taking_from tables.old.config c asker.now all.now ask.now (facts_of c (state_of tables.old said))) }
-    ensures facts { (c : ℕ) (said : Said) → facts_of c (state_of tables.new said) ≡ with_resvs (ask_style ask.now) (taking_from tables.old.config c asker.now all.now ask.now (facts_of c (state_of tables.old said))).table (facts_of c (state_of tables.old said)) }
+    ensures done { (c : ℕ) (said : Said)
+        → IsDone tables.old.config (asker_at c (ask_style ask.now) asker.now) done.new (taking_from tables.old.config c asker.now all.now ask.now (facts_of c (state_of tables.old said))) }
+    ensures facts { (c : ℕ) (said : Said)
+        → facts_of c (state_of tables.new said)
+        ≡ with_resvs (ask_style ask.now) (taking_from tables.old.config c asker.now all.now ask.now (facts_of c (state_of tables.old said))).table (facts_of c (state_of tables.old said)) }
     ensures booked { IsBooked tables.new }
     ensures pulled { ArePulled tables.new }
     ensures ifaces { tables.new.book.ifaces ≡ tables.old.book.ifaces }

@@ -20,7 +20,8 @@ pub fn age<S: Style>(table: &mut ResvTable<S>, ms: u32)
     requires { table.old.dead.rows ≡ [] }
     ensures facts { table.new.facts ≡ changed (later ms) table.old.facts }
     ensures dead { table.new.dead ≡ changed (dead_after ms) table.old.facts }
-    ensures book { (c d : ℕ) (f : Facts) (es : Entries) → resvs_of S.kind_is f ≡ changed (resv_at c) table.old.facts → IsBookOf f es → IsBookBut S.kind_is table.new.dead (facts_with S.kind_is d table.new.facts f) es }
+    ensures book { (c d : ℕ) (f : Facts) (es : Entries) → resvs_of S.kind_is f ≡ changed (resv_at c) table.old.facts → IsBookOf f es
+        → IsBookBut S.kind_is table.new.dead (facts_with S.kind_is d table.new.facts f) es }
 {
     table.advance(ms);
 }
@@ -32,7 +33,8 @@ pub fn pull_dead<S: Style>(table: &mut ResvTable<S>, book: &mut Book) -> Option<
     ensures dead { IfSome result (λ d. get table.old.dead (resv_key S.kind_is d) ≡ Some d) }
     ensures pulled { IfSome result (λ d. table.new ≡ record table.old { dead = without table.old.dead (resv_key S.kind_is d) }) }
     ensures none { IsNone result → table.old.dead.rows ≡ [] }
-    ensures book { (c : ℕ) (f : Facts) → resvs_of S.kind_is f ≡ changed (resv_at c) table.old.facts → IsBookBut S.kind_is table.old.dead f book.old.entries → IsBookBut S.kind_is table.new.dead f book.new.entries }
+    ensures book { (c : ℕ) (f : Facts) → resvs_of S.kind_is f ≡ changed (resv_at c) table.old.facts
+        → IsBookBut S.kind_is table.old.dead f book.old.entries → IsBookBut S.kind_is table.new.dead f book.new.entries }
     ensures whole { IsNone result → (f : Facts) → IsBookBut S.kind_is table.old.dead f book.old.entries → IsBookOf f book.new.entries }
     ensures ifaces { book.new.ifaces ≡ book.old.ifaces }
     ensures unchanged_table { IsNone result → table.new ≡ table.old }

@@ -46,7 +46,8 @@ pub fn place<S: Style>(
     requires pulled { table.old.dead.rows ≡ [] }
     requires exists { fact.iface < length book.old.ifaces }
     requires kept { IsBookAmong S.kind_is table.old.facts book.old.entries }
-    ensures result { (p : NodeConfig) (c : ℕ) (f : Facts) → p.ifaces ≡ book.old.ifaces → resvs_of S.kind_is f ≡ changed (resv_at c) table.old.facts → IsBookOf f book.old.entries → result ≡ placed_in p S.kind_is c fact left f }
+    ensures result { (p : NodeConfig) (c : ℕ) (f : Facts) → p.ifaces ≡ book.old.ifaces → resvs_of S.kind_is f ≡ changed (resv_at c) table.old.facts
+        → IsBookOf f book.old.entries → result ≡ placed_in p S.kind_is c fact left f }
     ensures table { table.new ≡ record table.old { facts = chosen result (put_in table.old.facts (resv_key S.kind_is fact) (fact, left)) table.old.facts } }
     ensures book { MovesWith S.kind_is table.old.facts table.new.facts book.old.entries book.new.entries }
     ensures ifaces { book.new.ifaces ≡ book.old.ifaces }
@@ -88,7 +89,8 @@ pub fn stand<S: Style>(
     requires pulled { table.old.dead.rows ≡ [] }
     requires exists { fact.iface < length book.old.ifaces }
     requires kept { IsBookAmong S.kind_is table.old.facts book.old.entries }
-    ensures cause { (p : NodeConfig) (c : ℕ) (f : Facts) → p.ifaces ≡ book.old.ifaces → resvs_of S.kind_is f ≡ changed (resv_at c) table.old.facts → IsBookOf f book.old.entries → err_of result ≡ stale_refusal p (StaleResv S.kind_is (resv_key S.kind_is fact) (stands c fact left)) f }
+    ensures cause { (p : NodeConfig) (c : ℕ) (f : Facts) → p.ifaces ≡ book.old.ifaces → resvs_of S.kind_is f ≡ changed (resv_at c) table.old.facts
+        → IsBookOf f book.old.entries → err_of result ≡ stale_refusal p (StaleResv S.kind_is (resv_key S.kind_is fact) (stands c fact left)) f }
     ensures ok { OnOk result (table.new ≡ record table.old { facts = put_in table.old.facts (resv_key S.kind_is fact) (fact, left) }) }
     ensures book { MovesWith S.kind_is table.old.facts table.new.facts book.old.entries book.new.entries }
     ensures ifaces { book.new.ifaces ≡ book.old.ifaces }

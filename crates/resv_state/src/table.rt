@@ -161,7 +161,8 @@ impl<S: Style> ResvTable<S> {
     /// searching.
     pub fn after(&self, fact: &ResvFact, finger: &mut Finger) -> Option<&ResvFact>
         ensures behind { option_copied result ≡ option_map (λ e. e.1.0) (slice_get (rows_behind rests (resv_key S.kind_is fact.now).1 (under sessions rests self.now.facts fact.now.session).rows) 0) }
-        ensures next { (k : ℕ) → Some fact.now ≡ option_map (λ e. e.1.0) (slice_get (under sessions rests self.now.facts fact.now.session).rows k) → option_copied result ≡ option_map (λ e. e.1.0) (slice_get (under sessions rests self.now.facts fact.now.session).rows (k + 1)) }
+        ensures next { (k : ℕ) → Some fact.now ≡ option_map (λ e. e.1.0) (slice_get (under sessions rests self.now.facts fact.now.session).rows k)
+            → option_copied result ≡ option_map (λ e. e.1.0) (slice_get (under sessions rests self.now.facts fact.now.session).rows (k + 1)) }
     {
         let rest = ((fact.iface, fact.next), unit_of::<S>(&fact.part));
         fact_in(self.table.after(fact.session, rest, finger))
@@ -239,7 +240,10 @@ impl<S: Style> ResvTable<S> {
     /// on its interface and of its unit (RFC 2205, 2.2). The reservation is of the style.
     pub fn entry_with(&self, fact: &ResvFact) -> Flow
         requires { IsOfStyle S.kind_is fact.now.part }
-        ensures { (left : ℕ) → option_map (λ p. p.flow) (get (merge S.kind_is (parts_on fact.now.iface (under sessions rests (put_in self.now.facts (resv_key S.kind_is fact.now) (fact.now, left)) fact.now.session).rows)) (part_unit S.kind_is fact.now.part)) ≡ Some result }
+        ensures { (left : ℕ)
+            → option_map
+            (λ p. p.flow) (get (merge S.kind_is (parts_on fact.now.iface (under sessions rests (put_in self.now.facts (resv_key S.kind_is fact.now) (fact.now, left)) fact.now.session).rows)) (part_unit S.kind_is fact.now.part))
+            ≡ Some result }
     {
         let key = ((fact.iface, fact.next), unit_of::<S>(&fact.part));
         join_beside(&self.table, fact.session, &key, fact.part.flow)

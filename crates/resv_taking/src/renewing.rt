@@ -63,7 +63,8 @@ pub(crate) fn place_or_renew<S: Style>(
     requires styled { AreOfStyle S.kind_is table.old.facts }
     requires limits { IsWithinLimits S.kind_is (resv_lines S.kind_is table.old.facts) }
     requires stands { stands ≡ true → Stands table.old.facts (resv_key S.kind_is fact) fact.part }
-    ensures result { (p : NodeConfig) (c : ℕ) (f : Facts) → p.ifaces ≡ book.old.ifaces → resvs_of S.kind_is f ≡ changed (resv_at c) table.old.facts → IsBookOf f book.old.entries → result ≡ placed_in p S.kind_is c fact left f }
+    ensures result { (p : NodeConfig) (c : ℕ) (f : Facts) → p.ifaces ≡ book.old.ifaces → resvs_of S.kind_is f ≡ changed (resv_at c) table.old.facts
+        → IsBookOf f book.old.entries → result ≡ placed_in p S.kind_is c fact left f }
     ensures table { table.new ≡ record table.old { facts = chosen result (put_in table.old.facts (resv_key S.kind_is fact) (fact, left)) table.old.facts } }
     ensures book { MovesWith S.kind_is table.old.facts table.new.facts book.old.entries book.new.entries }
     ensures ifaces { book.new.ifaces ≡ book.old.ifaces }

@@ -92,7 +92,9 @@ pub(crate) fn take_unit<S: Style>(
     requires fit { IsFit S.kind_is all.now wanted }
     requires few_errors { length done.old.errors ≤ 30 }
     requires few_parts { size done.old.parts ≤ 15 }
-    ensures step { (p : NodeConfig) (c : ℕ) (f : Facts) (t : Taking) → p.ifaces ≡ book.old.ifaces → IsSoFar p c S.kind_is asker.now f table.old.facts book.old.entries done.old t → IsSoFar p c S.kind_is asker.now f table.new.facts book.new.entries done.new (take_unit p (asker_at c S.kind_is asker.now) f all.now t (asked_unit wanted)) }
+    ensures step { (p : NodeConfig) (c : ℕ) (f : Facts) (t : Taking) → p.ifaces ≡ book.old.ifaces
+        → IsSoFar p c S.kind_is asker.now f table.old.facts book.old.entries done.old t
+        → IsSoFar p c S.kind_is asker.now f table.new.facts book.new.entries done.new (take_unit p (asker_at c S.kind_is asker.now) f all.now t (asked_unit wanted)) }
     ensures kept { IsBookAmong S.kind_is table.new.facts book.new.entries }
     ensures dead { table.new.dead ≡ table.old.dead }
     ensures ifaces { book.new.ifaces ≡ book.old.ifaces }
@@ -192,7 +194,9 @@ fn put_unit<S: Style>(
     requires unit { part_unit S.kind_is part ≡ unit }
     requires few_errors { length done.old.errors < 32 }
     requires few_parts { size done.old.parts ≤ 15 }
-    ensures step { (p : NodeConfig) (c : ℕ) (f : Facts) (t : Taking) → p.ifaces ≡ book.old.ifaces → IsSoFar p c S.kind_is asker.now f table.old.facts book.old.entries done.old t → IsSoFar p c S.kind_is asker.now f table.new.facts book.new.entries done.new (put_unit p (asker_at c S.kind_is asker.now) f unit (Some part) t) }
+    ensures step { (p : NodeConfig) (c : ℕ) (f : Facts) (t : Taking) → p.ifaces ≡ book.old.ifaces
+        → IsSoFar p c S.kind_is asker.now f table.old.facts book.old.entries done.old t
+        → IsSoFar p c S.kind_is asker.now f table.new.facts book.new.entries done.new (put_unit p (asker_at c S.kind_is asker.now) f unit (Some part) t) }
     ensures kept { IsBookAmong S.kind_is table.new.facts book.new.entries }
     ensures dead { table.new.dead ≡ table.old.dead }
     ensures ifaces { book.new.ifaces ≡ book.old.ifaces }

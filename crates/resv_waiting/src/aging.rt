@@ -28,7 +28,8 @@ pub fn age_resvs<S: Style>(
     requires kept { IsBookWith S.kind_is table.old.facts book.old.entries }
     ensures table { table.new ≡ record { facts = changed (later ms) table.old.facts; dead = empty } }
     ensures touched { touched.new ≡ touched_by (dying_in ms table.old.facts) touched.old }
-    ensures book { (c d : ℕ) (f : Facts) → resvs_of S.kind_is f ≡ changed (resv_at c) table.old.facts → IsBookOf f book.old.entries → IsBookOf (facts_with S.kind_is d table.new.facts f) book.new.entries }
+    ensures book { (c d : ℕ) (f : Facts) → resvs_of S.kind_is f ≡ changed (resv_at c) table.old.facts → IsBookOf f book.old.entries
+        → IsBookOf (facts_with S.kind_is d table.new.facts f) book.new.entries }
     ensures ifaces { book.new.ifaces ≡ book.old.ifaces }
 {
     age(table, ms);

@@ -33,7 +33,8 @@ new_ways old c m s = flat_map (paths_of old m.place (facts_of c m) (facts_of c m
 pub record MoveIsRounds : Type 0 where
   pub rounds : (ss : List Session) (p : NodeConfig) (n : State) → IsMovedOver ss n → AreRounds ss n (rerouted p n)
   pub cleared : (ss : List Session) (p : NodeConfig) (n : State) → IsMovedOver ss n → (c : ℕ) → AreCleared (rerouted p n) (each (with_hops (facts_of c n)) ss) n.said
-  pub facts : (ss : List Session) (p : NodeConfig) (n : State) → IsMovedOver ss n → (c : ℕ) → facts_of c (record (rerouted p n) { wants = wants_told c (rerouted p n) n.said ss }) ≡ facts_after n.place p c Moved (facts_of c n)
+  pub facts : (ss : List Session) (p : NodeConfig) (n : State) → IsMovedOver ss n → (c : ℕ)
+      → facts_of c (record (rerouted p n) { wants = wants_told c (rerouted p n) n.said ss }) ≡ facts_after n.place p c Moved (facts_of c n)
   pub sent : (ss : List Session) (p : NodeConfig) (n : State) → IsMovedOver ss n → (c : ℕ)
       → flat_map (torn_ways n.place c (rerouted p n)) ss
       ++ (flat_map (torn_near c (rerouted p n) n.said) (each (with_hops (facts_of c n)) ss)

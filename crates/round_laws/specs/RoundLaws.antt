@@ -37,5 +37,6 @@ RoundsAreMarked =
 
 -- what is kept last is what goes toward each hop, before marks are taken away and after
 pub record RoundsAreSaid : Type 0 where
-  pub said : (ss : List Session) (n m : State) → AreRounds ss n m → (c : ℕ) (said : Said) → AreCleared m (each (with_hops (facts_of c n)) ss) said → (last : Said) → AreTold (record m { said = said }) ss last → IsRoomy m last → IsSaid last m
+  pub said : (ss : List Session) (n m : State) → AreRounds ss n m → (c : ℕ) (said : Said) → AreCleared m (each (with_hops (facts_of c n)) ss) said
+      → (last : Said) → AreTold (record m { said = said }) ss last → IsRoomy m last → IsSaid last m
   pub unmarked : (m : State) (c : ℕ) (said : Said) (ss : List Session) (last : Said) → IsSaid last m → IsSaid last (record m { wants = wants_told c m said ss })

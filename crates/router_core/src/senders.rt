@@ -22,7 +22,9 @@ impl Node {
         tspec: Flow,
         out: &mut O,
     ) -> Result<(), LocalErr>
-        ensures refused { (c : ℕ) → MatchResult result (λ _. refusal_of_call self.old.place (SendAs session sender tspec) (facts_at c self.old) ≡ None) (λ e. refusal_of_call self.old.place (SendAs session sender tspec) (facts_at c self.old) ≡ Some e) }
+        ensures refused { (c : ℕ)
+            → MatchResult result (λ _. refusal_of_call self.old.place (SendAs session sender tspec) (facts_at c self.old) ≡ None)
+            (λ e. refusal_of_call self.old.place (SendAs session sender tspec) (facts_at c self.old) ≡ Some e) }
         ensures facts { (c : ℕ) → facts_at c self.new ≡ facts_after self.old.place self.old.place c (Call (SendAs session sender tspec)) (facts_at c self.old) }
         ensures sent { (c : ℕ) → out.new ≡ fold O.posted out.old (sent_after self.old.place self.old.place c (Call (SendAs session sender tspec)) (facts_at c self.old)) }
         ensures place { self.new.place ≡ self.old.place }
@@ -54,7 +56,9 @@ impl Node {
         sender: Sender,
         out: &mut O,
     ) -> Result<(), LocalErr>
-        ensures refused { (c : ℕ) → MatchResult result (λ _. refusal_of_call self.old.place (DropAs session sender) (facts_at c self.old) ≡ None) (λ e. refusal_of_call self.old.place (DropAs session sender) (facts_at c self.old) ≡ Some e) }
+        ensures refused { (c : ℕ)
+            → MatchResult result (λ _. refusal_of_call self.old.place (DropAs session sender) (facts_at c self.old) ≡ None)
+            (λ e. refusal_of_call self.old.place (DropAs session sender) (facts_at c self.old) ≡ Some e) }
         ensures facts { (c : ℕ) → facts_at c self.new ≡ facts_after self.old.place self.old.place c (Call (DropAs session sender)) (facts_at c self.old) }
         ensures sent { (c : ℕ) → out.new ≡ fold O.posted out.old (sent_after self.old.place self.old.place c (Call (DropAs session sender)) (facts_at c self.old)) }
         ensures place { self.new.place ≡ self.old.place }

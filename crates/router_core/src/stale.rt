@@ -21,7 +21,9 @@ impl Node {
     /// sent. `Full` exactly where it would be the first of a 33rd session or the 17th of its session; nothing changes then.
     pub fn stale_path(&mut self, fact: PathFact, left: u32) -> Result<(), StaleErr>
         requires { 1 ≤ left }
-        ensures refused { (c : ℕ) → MatchResult result (λ _. refusal_of_stale self.old.place (stale_path c fact left) (facts_at c self.old) ≡ None) (λ e. refusal_of_stale self.old.place (stale_path c fact left) (facts_at c self.old) ≡ Some e) }
+        ensures refused { (c : ℕ)
+            → MatchResult result (λ _. refusal_of_stale self.old.place (stale_path c fact left) (facts_at c self.old) ≡ None)
+            (λ e. refusal_of_stale self.old.place (stale_path c fact left) (facts_at c self.old) ≡ Some e) }
         ensures facts { (c : ℕ) → facts_at c self.new ≡ facts_with self.old.place c (stale_path c fact left) (facts_at c self.old) }
         ensures place { self.new.place ≡ self.old.place }
     {
@@ -47,7 +49,9 @@ impl Node {
         requires exists { fact.iface < length self.old.place.ifaces }
         requires style { IsOfStyle style fact.part }
         requires some { 1 ≤ left }
-        ensures refused { (c : ℕ) → MatchResult result (λ _. refusal_of_stale self.old.place (resv_left style c fact left) (facts_at c self.old) ≡ None) (λ e. refusal_of_stale self.old.place (resv_left style c fact left) (facts_at c self.old) ≡ Some e) }
+        ensures refused { (c : ℕ)
+            → MatchResult result (λ _. refusal_of_stale self.old.place (resv_left style c fact left) (facts_at c self.old) ≡ None)
+            (λ e. refusal_of_stale self.old.place (resv_left style c fact left) (facts_at c self.old) ≡ Some e) }
         ensures facts { (c : ℕ) → facts_at c self.new ≡ facts_with self.old.place c (resv_left style c fact left) (facts_at c self.old) }
         ensures place { self.new.place ≡ self.old.place }
     {
@@ -75,7 +79,9 @@ impl Node {
         left: u32,
     ) -> Result<(), StaleErr>
         requires { 1 ≤ left }
-        ensures refused { (c : ℕ) → MatchResult result (λ _. refusal_of_stale self.old.place (wall_left (session, target) c wall left) (facts_at c self.old) ≡ None) (λ e. refusal_of_stale self.old.place (wall_left (session, target) c wall left) (facts_at c self.old) ≡ Some e) }
+        ensures refused { (c : ℕ)
+            → MatchResult result (λ _. refusal_of_stale self.old.place (wall_left (session, target) c wall left) (facts_at c self.old) ≡ None)
+            (λ e. refusal_of_stale self.old.place (wall_left (session, target) c wall left) (facts_at c self.old) ≡ Some e) }
         ensures facts { (c : ℕ) → facts_at c self.new ≡ facts_with self.old.place c (wall_left (session, target) c wall left) (facts_at c self.old) }
         ensures place { self.new.place ≡ self.old.place }
     {

@@ -42,8 +42,14 @@ pub(crate) fn tell_resv<O: Outbox>(
     out: &mut O,
 )
     requires { (n : State) × IsBefore (message.now.session, sender) n (state_of tables.old said.old) (option_map as_offer before.now) near.now }
-    ensures sent { (n : State) (c : ℕ) (k : Change) → IsBefore (message.now.session, sender) n (state_of tables.old said.old) (option_map as_offer before.now) near.now → IsAnswer n.place (asker_of n.place c iface message.now) answer.now k → k.confs ≡ [] → k.fired ≡ empty → out.new ≡ fold O.posted out.old (sends n.place n.place (facts_of c n) (facts_of c (state_of tables.old said.old)) k) }
-    ensures facts { (n : State) (c : ℕ) → IsBefore (message.now.session, sender) n (state_of tables.old said.old) (option_map as_offer before.now) near.now → facts_of c (state_of tables.new said.new) ≡ facts_told n.place (facts_of c n) (facts_of c (state_of tables.old said.old)) (asked_of (asker_of n.place c iface message.now) answer.now.taken message.now.confirm) }
+    ensures sent { (n : State) (c : ℕ) (k : Change)
+        → IsBefore (message.now.session, sender) n (state_of tables.old said.old) (option_map as_offer before.now) near.now
+        → IsAnswer n.place (asker_of n.place c iface message.now) answer.now k → k.confs ≡ [] → k.fired ≡ empty
+        → out.new ≡ fold O.posted out.old (sends n.place n.place (facts_of c n) (facts_of c (state_of tables.old said.old)) k) }
+    ensures facts { (n : State) (c : ℕ)
+        → IsBefore (message.now.session, sender) n (state_of tables.old said.old) (option_map as_offer before.now) near.now
+        → facts_of c (state_of tables.new said.new)
+        ≡ facts_told n.place (facts_of c n) (facts_of c (state_of tables.old said.old)) (asked_of (asker_of n.place c iface message.now) answer.now.taken message.now.confirm) }
     ensures said { IsSaid said.new (state_of tables.new said.new) }
     ensures rest { tables.new ≡ record tables.old { wants = tables.new.wants } }
 {
@@ -72,7 +78,8 @@ pub(crate) fn tell_answer<O: Outbox>(
     answer: &Answer,
     out: &mut O,
 )
-    ensures { (c : ℕ) (k : Change) → IsAnswer config.now (asker_of config.now c iface message.now) answer.now k → out.new ≡ fold O.posted out.old (error_sends k.errors ++ conf_sends (confirmed_here config.now k.asked)) }
+    ensures { (c : ℕ) (k : Change) → IsAnswer config.now (asker_of config.now c iface message.now) answer.now k
+        → out.new ≡ fold O.posted out.old (error_sends k.errors ++ conf_sends (confirmed_here config.now k.asked)) }
 {
     tell_refusals(config, iface, message, &answer.done.errors, out);
     confirm_here(config, iface, message, &answer.taken, out);
@@ -92,8 +99,14 @@ pub(crate) fn tell_resv_err<O: Outbox>(
     out: &mut O,
 )
     requires { (n : State) × IsBefore (message.now.session, sender) n (state_of tables.old said.old) (option_map as_offer before.now) near.now }
-    ensures sent { (n : State) (c : ℕ) → IsBefore (message.now.session, sender) n (state_of tables.old said.old) (option_map as_offer before.now) near.now → state_of tables.old said.old ≡ record n { walls = tables.old.walls } → heard ≡ resv_err_heard c n iface message.now → facts_of c (state_of tables.old said.old) ≡ resv_err_facts c n iface message.now → out.new ≡ fold O.posted out.old (sends n.place n.place (facts_of c n) (facts_of c (state_of tables.old said.old)) (act_resv_err n.place c iface message.now (facts_of c n))) }
-    ensures facts { (n : State) (c : ℕ) → IsBefore (message.now.session, sender) n (state_of tables.old said.old) (option_map as_offer before.now) near.now → facts_of c (state_of tables.new said.new) ≡ facts_told n.place (facts_of c n) (facts_of c (state_of tables.old said.old)) None }
+    ensures sent { (n : State) (c : ℕ)
+        → IsBefore (message.now.session, sender) n (state_of tables.old said.old) (option_map as_offer before.now) near.now
+        → state_of tables.old said.old ≡ record n { walls = tables.old.walls } → heard ≡ resv_err_heard c n iface message.now
+        → facts_of c (state_of tables.old said.old) ≡ resv_err_facts c n iface message.now
+        → out.new ≡ fold O.posted out.old (sends n.place n.place (facts_of c n) (facts_of c (state_of tables.old said.old)) (act_resv_err n.place c iface message.now (facts_of c n))) }
+    ensures facts { (n : State) (c : ℕ)
+        → IsBefore (message.now.session, sender) n (state_of tables.old said.old) (option_map as_offer before.now) near.now
+        → facts_of c (state_of tables.new said.new) ≡ facts_told n.place (facts_of c n) (facts_of c (state_of tables.old said.old)) None }
     ensures said { IsSaid said.new (state_of tables.new said.new) }
     ensures rest { tables.new ≡ record tables.old { wants = tables.new.wants } }
 {

@@ -26,7 +26,9 @@ impl Node {
         confirm: bool,
         out: &mut O,
     ) -> Result<(), LocalErr>
-        ensures refused { (c : ℕ) → MatchResult result (λ _. refusal_of_call self.old.place (WantAs session style senders.now flow confirm) (facts_at c self.old) ≡ None) (λ e. refusal_of_call self.old.place (WantAs session style senders.now flow confirm) (facts_at c self.old) ≡ Some e) }
+        ensures refused { (c : ℕ)
+            → MatchResult result (λ _. refusal_of_call self.old.place (WantAs session style senders.now flow confirm) (facts_at c self.old) ≡ None)
+            (λ e. refusal_of_call self.old.place (WantAs session style senders.now flow confirm) (facts_at c self.old) ≡ Some e) }
         ensures facts { (c : ℕ) → facts_at c self.new ≡ facts_after self.old.place self.old.place c (Call (WantAs session style senders.now flow confirm)) (facts_at c self.old) }
         ensures sent { (c : ℕ) → out.new ≡ fold O.posted out.old (sent_after self.old.place self.old.place c (Call (WantAs session style senders.now flow confirm)) (facts_at c self.old)) }
         ensures place { self.new.place ≡ self.old.place }
@@ -51,7 +53,9 @@ impl Node {
     /// All local receivers of a session ask for nothing more (RFC 2205, 3.11.1: RELEASE). `Absent` exactly where it has none;
     /// nothing changes and nothing is sent then.
     pub fn local_quit<O: Outbox>(&mut self, session: Session, out: &mut O) -> Result<(), LocalErr>
-        ensures refused { (c : ℕ) → MatchResult result (λ _. refusal_of_call self.old.place (QuitAll session) (facts_at c self.old) ≡ None) (λ e. refusal_of_call self.old.place (QuitAll session) (facts_at c self.old) ≡ Some e) }
+        ensures refused { (c : ℕ)
+            → MatchResult result (λ _. refusal_of_call self.old.place (QuitAll session) (facts_at c self.old) ≡ None)
+            (λ e. refusal_of_call self.old.place (QuitAll session) (facts_at c self.old) ≡ Some e) }
         ensures facts { (c : ℕ) → facts_at c self.new ≡ facts_after self.old.place self.old.place c (Call (QuitAll session)) (facts_at c self.old) }
         ensures sent { (c : ℕ) → out.new ≡ fold O.posted out.old (sent_after self.old.place self.old.place c (Call (QuitAll session)) (facts_at c self.old)) }
         ensures place { self.new.place ≡ self.old.place }

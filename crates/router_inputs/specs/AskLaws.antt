@@ -118,30 +118,44 @@ module _ (p : NodeConfig) (o : Asker) (f : Facts) (all : Names) where
     pub tried : IsTried t us unit part before None
 
 pub record UnitsInFull : Type 0 where
-  pub taken : (p : NodeConfig) (o : Asker) (f : Facts) (all : Names) (t : Taking) (u : AskedUnit) (part : Part) → part_of (names_that_match u.names all) u.flow ≡ Some part → has_room o u.unit part t.table ≡ true
+  pub taken : (p : NodeConfig) (o : Asker) (f : Facts) (all : Names) (t : Taking) (u : AskedUnit) (part : Part)
+      → part_of (names_that_match u.names all) u.flow ≡ Some part → has_room o u.unit part t.table ≡ true
       → book_refuses p o f u.unit part t.table ≡ None → take_unit p o f all t u ≡ record (told_before p o all t u) { table = table_with o u.unit part t.table; taken = put_in t.taken u.unit part }
-  pub refused : (p : NodeConfig) (o : Asker) (f : Facts) (all : Names) (t : Taking) (u : AskedUnit) (part : Part) (why : Refused) → part_of (names_that_match u.names all) u.flow ≡ Some part → has_room o u.unit part t.table ≡ true
-      → book_refuses p o f u.unit part t.table ≡ Some why → take_unit p o f all t u ≡ record (told_before p o all t u) { errors = (told_before p o all t u).errors ++ book_refusal p o f t u part why ∷ [] }
-  pub left_out : (p : NodeConfig) (o : Asker) (f : Facts) (all : Names) (t : Taking) (u : AskedUnit) (part : Part) → part_of (names_that_match u.names all) u.flow ≡ Some part → has_room o u.unit part t.table ≡ false
+  pub refused : (p : NodeConfig) (o : Asker) (f : Facts) (all : Names) (t : Taking) (u : AskedUnit) (part : Part) (why : Refused)
+      → part_of (names_that_match u.names all) u.flow ≡ Some part → has_room o u.unit part t.table ≡ true
+      → book_refuses p o f u.unit part t.table ≡ Some why
+      → take_unit p o f all t u ≡ record (told_before p o all t u) {
+        errors = (told_before p o all t u).errors
+            ++ book_refusal p o f t u part why ∷ [];
+      }
+  pub left_out : (p : NodeConfig) (o : Asker) (f : Facts) (all : Names) (t : Taking) (u : AskedUnit) (part : Part)
+      → part_of (names_that_match u.names all) u.flow ≡ Some part → has_room o u.unit part t.table ≡ false
       → take_unit p o f all t u ≡ record (told_before p o all t u) { left_out = true }
-  pub nobody : (p : NodeConfig) (o : Asker) (f : Facts) (all : Names) (t : Taking) (u : AskedUnit) → part_of (names_that_match u.names all) u.flow ≡ None → take_unit p o f all t u ≡ told_before p o all t u
+  pub nobody : (p : NodeConfig) (o : Asker) (f : Facts) (all : Names) (t : Taking) (u : AskedUnit)
+      → part_of (names_that_match u.names all) u.flow ≡ None → take_unit p o f all t u ≡ told_before p o all t u
   -- one list after another
   pub after : (p : NodeConfig) (o : Asker) (f : Facts) (all : Names) (t : Taking) (us vs : List AskedUnit) → take_units p o f all t (us ++ vs) ≡ take_units p o f all (take_units p o f all t us) vs
   -- what is refused, and nothing else, is told
-  pub errors : (p : NodeConfig) (o : Asker) (f : Facts) (all : Names) (t : Taking) (us : List AskedUnit) (e : ErrSend) → In e (take_units p o f all t us).errors ↔ (In e t.errors ⊎ (IsLoss p o f all us e ⊎ IsBookRefusal p o f all t us e))
+  pub errors : (p : NodeConfig) (o : Asker) (f : Facts) (all : Names) (t : Taking) (us : List AskedUnit) (e : ErrSend)
+      → In e (take_units p o f all t us).errors ↔ (In e t.errors ⊎ (IsLoss p o f all us e ⊎ IsBookRefusal p o f all t us e))
   -- a unit was left out exactly where one had no room
-  pub outs : (p : NodeConfig) (o : Asker) (f : Facts) (all : Names) (t : Taking) (us : List AskedUnit) → ((take_units p o f all t us).left_out ≡ true) ↔ ((t.left_out ≡ true) ⊎ IsLeftOut p o f all t us)
+  pub outs : (p : NodeConfig) (o : Asker) (f : Facts) (all : Names) (t : Taking) (us : List AskedUnit)
+      → ((take_units p o f all t us).left_out ≡ true) ↔ ((t.left_out ≡ true) ⊎ IsLeftOut p o f all t us)
   -- and what counts as taken took its place
-  pub takes : (p : NodeConfig) (o : Asker) (f : Facts) (all : Names) (t : Taking) (us : List AskedUnit) (u : UnitOf) (part : Part) → get (take_units p o f all t us).taken u ≡ Some part → (get t.taken u ≡ Some part) ⊎ IsTaken p o f all t us u part
+  pub takes : (p : NodeConfig) (o : Asker) (f : Facts) (all : Names) (t : Taking) (us : List AskedUnit) (u : UnitOf) (part : Part)
+      → get (take_units p o f all t us).taken u ≡ Some part → (get t.taken u ≡ Some part) ⊎ IsTaken p o f all t us u part
 
 -- ---- the Resv as a whole
 pub record ResvsInSteps : Type 0 where
   -- no path: each unit is refused, and nothing changes
-  pub no_path : (p : NodeConfig) (c e : ℕ) (m : ResvMsg) (f : Facts) → is_none (known f m.session) ≡ true → taking p c e m f ≡ refuse_all p (asker_of p c e m) 3 0 (asked_units m.ask) (resvs_of (ask_style m.ask) f)
+  pub no_path : (p : NodeConfig) (c e : ℕ) (m : ResvMsg) (f : Facts) → is_none (known f m.session) ≡ true
+      → taking p c e m f ≡ refuse_all p (asker_of p c e m) 3 0 (asked_units m.ask) (resvs_of (ask_style m.ask) f)
   -- another style: the same
   pub conflict : (p : NodeConfig) (c e : ℕ) (m : ResvMsg) (f : Facts) (other : StyleKind) → is_none (known f m.session) ≡ false → style_conflict f m.session (ask_style m.ask) ≡ Some other
       → taking p c e m f ≡ refuse_all p (asker_of p c e m) 5 (style_value other) (asked_units m.ask) (resvs_of (ask_style m.ask) f)
-  pub unchanged : (p : NodeConfig) (c e : ℕ) (m : ResvMsg) (f : Facts) (code value : ℕ) → taking p c e m f ≡ refuse_all p (asker_of p c e m) code value (asked_units m.ask) (resvs_of (ask_style m.ask) f) → (act_resv p c e m f).facts ≡ f
+  pub unchanged : (p : NodeConfig) (c e : ℕ) (m : ResvMsg) (f : Facts) (code value : ℕ)
+      → taking p c e m f ≡ refuse_all p (asker_of p c e m) code value (asked_units m.ask) (resvs_of (ask_style m.ask) f)
+      → (act_resv p c e m f).facts ≡ f
   -- else unit by unit
   pub by_units : (p : NodeConfig) (c e : ℕ) (m : ResvMsg) (f : Facts) → is_none (known f m.session) ≡ false → style_conflict f m.session (ask_style m.ask) ≡ None
       → taking p c e m f ≡ take_units p (asker_of p c e m) f (matched p f (asker_of p c e m)) (nothing_taken (resvs_of (ask_style m.ask) f) []) (asked_units m.ask)
@@ -172,19 +186,24 @@ pub record IsOfUnit (o : Asker) (all : Names) (us : List AskedUnit) (k : LineKey
 
 pub record UnitsOneByOne : Type 0 where
   -- a unit that has room and is not refused takes its place
-  pub taken : (p : NodeConfig) (o : Asker) (f : Facts) (all : Names) (t : Taking) (u : AskedUnit) (part : Part) → part_of (names_that_match u.names all) u.flow ≡ Some part → has_room o u.unit part t.table ≡ true
+  pub taken : (p : NodeConfig) (o : Asker) (f : Facts) (all : Names) (t : Taking) (u : AskedUnit) (part : Part)
+      → part_of (names_that_match u.names all) u.flow ≡ Some part → has_room o u.unit part t.table ≡ true
       → book_refuses p o f u.unit part t.table ≡ None → (take_unit p o f all t u).table ≡ table_with o u.unit part t.table
   -- one that is refused, or left out, or has nobody, changes no reservation
-  pub refused : (p : NodeConfig) (o : Asker) (f : Facts) (all : Names) (t : Taking) (u : AskedUnit) (part : Part) (why : Refused) → part_of (names_that_match u.names all) u.flow ≡ Some part → has_room o u.unit part t.table ≡ true
+  pub refused : (p : NodeConfig) (o : Asker) (f : Facts) (all : Names) (t : Taking) (u : AskedUnit) (part : Part) (why : Refused)
+      → part_of (names_that_match u.names all) u.flow ≡ Some part → has_room o u.unit part t.table ≡ true
       → book_refuses p o f u.unit part t.table ≡ Some why → (take_unit p o f all t u).table ≡ t.table
-  pub left_out : (p : NodeConfig) (o : Asker) (f : Facts) (all : Names) (t : Taking) (u : AskedUnit) (part : Part) → part_of (names_that_match u.names all) u.flow ≡ Some part → has_room o u.unit part t.table ≡ false
+  pub left_out : (p : NodeConfig) (o : Asker) (f : Facts) (all : Names) (t : Taking) (u : AskedUnit) (part : Part)
+      → part_of (names_that_match u.names all) u.flow ≡ Some part → has_room o u.unit part t.table ≡ false
       → ((take_unit p o f all t u).table ≡ t.table) × ((take_unit p o f all t u).left_out ≡ true)
   pub nobody : (p : NodeConfig) (o : Asker) (f : Facts) (all : Names) (t : Taking) (u : AskedUnit) → part_of (names_that_match u.names all) u.flow ≡ None → (take_unit p o f all t u).table ≡ t.table
   -- its place is that of its next hop and unit, and no other reservation changes
   pub at : (o : Asker) (u : UnitOf) (part : Part) (t : Resvs) → get (table_with o u part t) (key_at o u) ≡ Some (resv_state o part (get t (key_at o u)))
   pub beside : (o : Asker) (u : UnitOf) (part : Part) (t : Resvs) (k : LineKey) → (k ≡ key_at o u → ⊥) → get (table_with o u part t) k ≡ get t k
   -- so what stands after all of them stood before, or is of one of them
-  pub source : (p : NodeConfig) (o : Asker) (f : Facts) (all : Names) (us : List AskedUnit) (t : Taking) (k : LineKey) (r : ResvState) → get (take_units p o f all t us).table k ≡ Some r → (get t.table k ≡ Some r) ⊎ IsOfUnit o all us k r
-  pub others : (p : NodeConfig) (o : Asker) (f : Facts) (all : Names) (us : List AskedUnit) (t : Taking) (k : LineKey) → ((u : AskedUnit) → In u us → k ≡ key_at o u.unit → ⊥) → get (take_units p o f all t us).table k ≡ get t.table k
+  pub source : (p : NodeConfig) (o : Asker) (f : Facts) (all : Names) (us : List AskedUnit) (t : Taking) (k : LineKey) (r : ResvState)
+      → get (take_units p o f all t us).table k ≡ Some r → (get t.table k ≡ Some r) ⊎ IsOfUnit o all us k r
+  pub others : (p : NodeConfig) (o : Asker) (f : Facts) (all : Names) (us : List AskedUnit) (t : Taking) (k : LineKey)
+      → ((u : AskedUnit) → In u us → k ≡ key_at o u.unit → ⊥) → get (take_units p o f all t us).table k ≡ get t.table k
   -- and a refusal that was made stays made
   pub errors : (p : NodeConfig) (o : Asker) (f : Facts) (all : Names) (us : List AskedUnit) (t : Taking) (e : ErrSend) → In e t.errors → In e (take_units p o f all t us).errors

@@ -32,7 +32,8 @@ use Rattle.router_lookups.specs.RouterRules.Sends.{conf_sends, error_sends}
 -- ---- an input that changes no fact of a node leaves the node as it was, and sends its errors and confirmations alone
 pub record StepsWithoutChange : Type 0 where
   pub settled_same : (p : NodeConfig) (c : ℕ) (f : Facts) → IsWithinBounds p c f → settled p c f f ≡ f
-  pub whole : (p : NodeConfig) (c : ℕ) (i : Input) (f : Facts) (h : Heard) (es : List ErrSend) (cs : List ConfSend) → IsWithinBounds p c f → is_silent i ≡ false → act p c i f ≡ record (only_heard h f) { errors = es; confs = cs }
+  pub whole : (p : NodeConfig) (c : ℕ) (i : Input) (f : Facts) (h : Heard) (es : List ErrSend) (cs : List ConfSend) → IsWithinBounds p c f
+      → is_silent i ≡ false → act p c i f ≡ record (only_heard h f) { errors = es; confs = cs }
       → rule p p c i f ≡ record { facts = f; sent = error_sends es ++ conf_sends cs; heard = h }
 
 -- ---- local calls
@@ -53,11 +54,14 @@ room_for_wants f s st names flow mark = has_room_at units (with_rows f.wants (wa
 -- when each call is refused
 pub record CallRefusals : Type 0 where
   pub not_mine : (p : NodeConfig) (f : Facts) (s : Session) (x : Sender) (tspec : TokenBucket) → (call_refusal p (SendAs s x tspec) f ≡ Some local.NotMine) ↔ (is_own p x.addr ≡ false)
-  pub send_full : (p : NodeConfig) (f : Facts) (s : Session) (x : Sender) (tspec : TokenBucket) → (call_refusal p (SendAs s x tspec) f ≡ Some local.Full) ↔ ((is_own p x.addr ≡ true) × (room_for f (s, x) tspec ≡ false))
-  pub sends : (p : NodeConfig) (f : Facts) (s : Session) (x : Sender) (tspec : TokenBucket) → (call_refusal p (SendAs s x tspec) f ≡ None) ↔ ((is_own p x.addr ≡ true) × (room_for f (s, x) tspec ≡ true))
+  pub send_full : (p : NodeConfig) (f : Facts) (s : Session) (x : Sender) (tspec : TokenBucket)
+      → (call_refusal p (SendAs s x tspec) f ≡ Some local.Full) ↔ ((is_own p x.addr ≡ true) × (room_for f (s, x) tspec ≡ false))
+  pub sends : (p : NodeConfig) (f : Facts) (s : Session) (x : Sender) (tspec : TokenBucket) → (call_refusal p (SendAs s x tspec) f ≡ None)
+      ↔ ((is_own p x.addr ≡ true) × (room_for f (s, x) tspec ≡ true))
   pub no_sender : (p : NodeConfig) (f : Facts) (s : Session) (x : Sender) → (call_refusal p (DropAs s x) f ≡ Some local.Absent) ↔ (has f.senders (s, x) ≡ false)
   pub drops : (p : NodeConfig) (f : Facts) (s : Session) (x : Sender) → (call_refusal p (DropAs s x) f ≡ None) ↔ (has f.senders (s, x) ≡ true)
-  pub style : (p : NodeConfig) (f : Facts) (s : Session) (st : StyleKind) (names : Names) (flow : TokenBucket) (mark : Bool) → (call_refusal p (WantAs s st names flow mark) f ≡ Some local.Style) ↔ HasOtherStyle f s st
+  pub style : (p : NodeConfig) (f : Facts) (s : Session) (st : StyleKind) (names : Names) (flow : TokenBucket) (mark : Bool)
+      → (call_refusal p (WantAs s st names flow mark) f ≡ Some local.Style) ↔ HasOtherStyle f s st
   pub want_full : (p : NodeConfig) (f : Facts) (s : Session) (st : StyleKind) (names : Names) (flow : TokenBucket) (mark : Bool)
       → (call_refusal p (WantAs s st names flow mark) f ≡ Some local.Full) ↔ ((HasOtherStyle f s st → ⊥) × (room_for_wants f s st names flow mark ≡ false))
   pub wants : (p : NodeConfig) (f : Facts) (s : Session) (st : StyleKind) (names : Names) (flow : TokenBucket) (mark : Bool)
@@ -67,15 +71,20 @@ pub record CallRefusals : Type 0 where
 
 -- what each call leaves
 pub record CallsLeave : Type 0 where
-  pub made : (p : NodeConfig) (l : Local) (f : Facts) → call_refusal p l f ≡ None → act_call p l f ≡ only_heard heard.Taken (record f { senders = senders_with l f.senders; wants = wants_with l f.wants })
+  pub made : (p : NodeConfig) (l : Local) (f : Facts) → call_refusal p l f ≡ None
+      → act_call p l f ≡ only_heard heard.Taken (record f { senders = senders_with l f.senders; wants = wants_with l f.wants })
   pub refused : (p : NodeConfig) (l : Local) (f : Facts) (why : LocalErr) → call_refusal p l f ≡ Some why → act_call p l f ≡ only_heard heard.Taken f
   -- a refused call changes nothing of a node, and sends nothing
-  pub quiet : (p : NodeConfig) (c : ℕ) (l : Local) (f : Facts) (why : LocalErr) → IsWithinBounds p c f → call_refusal p l f ≡ Some why → rule p p c (Call l) f ≡ record { facts = f; sent = []; heard = heard.Taken }
+  pub quiet : (p : NodeConfig) (c : ℕ) (l : Local) (f : Facts) (why : LocalErr) → IsWithinBounds p c f → call_refusal p l f ≡ Some why
+      → rule p p c (Call l) f ≡ record { facts = f; sent = []; heard = heard.Taken }
   -- the wants of a call, under their keys; other wants stay
-  pub wanted_there : (s : Session) (st : StyleKind) (names : Names) (flow : TokenBucket) (mark : Bool) (t : Wants) (k : WantKey) (w : Want) → In (k, w) (wanted s st names flow mark) → get (wants_with (WantAs s st names flow mark) t) k ≡ Some w
-  pub wanted_source : (s : Session) (st : StyleKind) (names : Names) (flow : TokenBucket) (mark : Bool) (t : Wants) (k : WantKey) (w : Want) → get (wants_with (WantAs s st names flow mark) t) k ≡ Some w
+  pub wanted_there : (s : Session) (st : StyleKind) (names : Names) (flow : TokenBucket) (mark : Bool) (t : Wants) (k : WantKey) (w : Want)
+      → In (k, w) (wanted s st names flow mark) → get (wants_with (WantAs s st names flow mark) t) k ≡ Some w
+  pub wanted_source : (s : Session) (st : StyleKind) (names : Names) (flow : TokenBucket) (mark : Bool) (t : Wants) (k : WantKey) (w : Want)
+      → get (wants_with (WantAs s st names flow mark) t) k ≡ Some w
       → (get t k ≡ Some w) ⊎ In (k, w) (wanted s st names flow mark)
-  pub wanted_beside : (s : Session) (st : StyleKind) (names : Names) (flow : TokenBucket) (mark : Bool) (t : Wants) (k : WantKey) → ((w : Want) → In (k, w) (wanted s st names flow mark) → ⊥) → get (wants_with (WantAs s st names flow mark) t) k ≡ get t k
+  pub wanted_beside : (s : Session) (st : StyleKind) (names : Names) (flow : TokenBucket) (mark : Bool) (t : Wants) (k : WantKey)
+      → ((w : Want) → In (k, w) (wanted s st names flow mark) → ⊥) → get (wants_with (WantAs s st names flow mark) t) k ≡ get t k
   -- without those of its session
   pub quit : (s : Session) (t : Wants) (u : UnitOf) → get (wants_with (QuitAll s) t) (s, u) ≡ None
   pub quit_beside : (s : Session) (t : Wants) (k : WantKey) → (k.0 ≡ s → ⊥) → get (wants_with (QuitAll s) t) k ≡ get t k
@@ -88,9 +97,12 @@ StaleOver p f st k r = (why : Refused) × (refused_entry p k.1.0.0 (entry_of st 
 pub record StaleRefusals : Type 0 where
   pub path_full : (p : NodeConfig) (f : Facts) (k : SenderKey) (x : PathState) → (stale_refusal p (StalePath k x) f ≡ Some stale.Full) ↔ (has_room_at senders (put_in f.paths k x) k.0 ≡ false)
   pub path : (p : NodeConfig) (f : Facts) (k : SenderKey) (x : PathState) → (stale_refusal p (StalePath k x) f ≡ None) ↔ (has_room_at senders (put_in f.paths k x) k.0 ≡ true)
-  pub resv_full : (p : NodeConfig) (f : Facts) (st : StyleKind) (k : LineKey) (r : ResvState) → (stale_refusal p (StaleResv st k r) f ≡ Some stale.Full) ↔ (fits st (put_in (resvs_of st f) k r) ≡ false)
-  pub over : (p : NodeConfig) (f : Facts) (st : StyleKind) (k : LineKey) (r : ResvState) → (stale_refusal p (StaleResv st k r) f ≡ Some stale.Over) ↔ ((fits st (put_in (resvs_of st f) k r) ≡ true) × StaleOver p f st k r)
-  pub resv : (p : NodeConfig) (f : Facts) (st : StyleKind) (k : LineKey) (r : ResvState) → (stale_refusal p (StaleResv st k r) f ≡ None) ↔ ((fits st (put_in (resvs_of st f) k r) ≡ true) × (StaleOver p f st k r → ⊥))
+  pub resv_full : (p : NodeConfig) (f : Facts) (st : StyleKind) (k : LineKey) (r : ResvState)
+      → (stale_refusal p (StaleResv st k r) f ≡ Some stale.Full) ↔ (fits st (put_in (resvs_of st f) k r) ≡ false)
+  pub over : (p : NodeConfig) (f : Facts) (st : StyleKind) (k : LineKey) (r : ResvState) → (stale_refusal p (StaleResv st k r) f ≡ Some stale.Over)
+      ↔ ((fits st (put_in (resvs_of st f) k r) ≡ true) × StaleOver p f st k r)
+  pub resv : (p : NodeConfig) (f : Facts) (st : StyleKind) (k : LineKey) (r : ResvState) → (stale_refusal p (StaleResv st k r) f ≡ None)
+      ↔ ((fits st (put_in (resvs_of st f) k r) ≡ true) × (StaleOver p f st k r → ⊥))
   pub wall_full : (p : NodeConfig) (f : Facts) (k : WallKey) (b : Blockade) → (stale_refusal p (StaleWall k b) f ≡ Some stale.Full) ↔ (512 < size (put_in f.walls k b))
   pub wall : (p : NodeConfig) (f : Facts) (k : WallKey) (b : Blockade) → (stale_refusal p (StaleWall k b) f ≡ None) ↔ (size (put_in f.walls k b) ≤ 512)
 

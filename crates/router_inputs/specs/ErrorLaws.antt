@@ -48,7 +48,16 @@ abbrev pub path_reply : NodeConfig → ℕ → ℕ × ℕ → Session → Hop �
 path_reply p e code s h x = record { iface = e; dst = h.addr; error = OfPath (record { session = s; err = fault_at p e code; sender = x }) }
 
 abbrev pub resv_reply : NodeConfig → ℕ → ℕ × ℕ → Session → Hop → StyleKind → ErrSend
-resv_reply p e code s h st = record { iface = e; dst = h.addr; error = OfResv (record { session = s; hop = record { addr = own p e; handle = 0 }; err = fault_at p e code; blame = record { style = st; senders = None; flow = None } }) }
+resv_reply p e code s h st = record {
+  iface = e;
+  dst = h.addr;
+  error = OfResv (record {
+    session = s;
+    hop = record { addr = own p e; handle = 0 };
+    err = fault_at p e code;
+    blame = record { style = st; senders = None; flow = None };
+  });
+}
 
 module _ (p : NodeConfig) (e : ℕ) (dst : Addr) (m : MsgErr) (s : ErrSend) where
   -- a Path that came to its group is answered to its hop, with its sender
@@ -80,17 +89,22 @@ module _ (p : NodeConfig) (e : ℕ) (dst : Addr) (m : MsgErr) (s : ErrSend) wher
 -- a fault is answered in these two cases alone, and nothing changes
 pub record FaultsByHint : Type 0 where
   pub reply : (p : NodeConfig) (e : ℕ) (dst : Addr) (m : MsgErr) (s : ErrSend) → (reply_to p e dst m ≡ Some s) ↔ (IsPathReply p e dst m s ⊎ IsResvReply p e dst m s)
-  pub told : (p : NodeConfig) (e : ℕ) (dst : Addr) (m : MsgErr) (f : Facts) (s : ErrSend) → reply_to p e dst m ≡ Some s → act_unspelt p e dst m f ≡ record (only_heard (answered s.error) f) { errors = s ∷ [] }
+  pub told : (p : NodeConfig) (e : ℕ) (dst : Addr) (m : MsgErr) (f : Facts) (s : ErrSend) → reply_to p e dst m ≡ Some s
+      → act_unspelt p e dst m f ≡ record (only_heard (answered s.error) f) { errors = s ∷ [] }
   pub dropped : (p : NodeConfig) (e : ℕ) (dst : Addr) (m : MsgErr) (f : Facts) → reply_to p e dst m ≡ None → act_unspelt p e dst m f ≡ only_heard (heard.Dropped why.Unspelt) f
 
 -- ---- a PathErr is dropped for one of three reasons, ends at a local sender, or goes back along the path
 pub record PathErrsByTests : Type 0 where
   pub no_sender : (p : NodeConfig) (e : ℕ) (m : PathErrMsg) (f : Facts) → m.sender ≡ None → act_path_err p e m f ≡ only_heard (heard.Dropped why.NoSender) f
-  pub not_outward : (p : NodeConfig) (e : ℕ) (m : PathErrMsg) (f : Facts) (x : Sender) → m.sender ≡ Some x → goes_out p m.session e x ≡ false → act_path_err p e m f ≡ only_heard (heard.Dropped why.NotOutward) f
-  pub local : (p : NodeConfig) (e : ℕ) (m : PathErrMsg) (f : Facts) (x : Sender) → m.sender ≡ Some x → goes_out p m.session e x ≡ true → has f.senders (m.session, x) ≡ true → act_path_err p e m f ≡ only_heard heard.Taken f
-  pub no_state : (p : NodeConfig) (e : ℕ) (m : PathErrMsg) (f : Facts) (x : Sender) → m.sender ≡ Some x → goes_out p m.session e x ≡ true → has f.senders (m.session, x) ≡ false → get f.paths (m.session, x) ≡ None
+  pub not_outward : (p : NodeConfig) (e : ℕ) (m : PathErrMsg) (f : Facts) (x : Sender) → m.sender ≡ Some x → goes_out p m.session e x ≡ false
+      → act_path_err p e m f ≡ only_heard (heard.Dropped why.NotOutward) f
+  pub local : (p : NodeConfig) (e : ℕ) (m : PathErrMsg) (f : Facts) (x : Sender) → m.sender ≡ Some x → goes_out p m.session e x ≡ true
+      → has f.senders (m.session, x) ≡ true → act_path_err p e m f ≡ only_heard heard.Taken f
+  pub no_state : (p : NodeConfig) (e : ℕ) (m : PathErrMsg) (f : Facts) (x : Sender) → m.sender ≡ Some x → goes_out p m.session e x ≡ true
+      → has f.senders (m.session, x) ≡ false → get f.paths (m.session, x) ≡ None
       → act_path_err p e m f ≡ only_heard (heard.Dropped why.NoState) f
-  pub on : (p : NodeConfig) (e : ℕ) (m : PathErrMsg) (f : Facts) (x : Sender) (path : PathState) → m.sender ≡ Some x → goes_out p m.session e x ≡ true → has f.senders (m.session, x) ≡ false → get f.paths (m.session, x) ≡ Some path
+  pub on : (p : NodeConfig) (e : ℕ) (m : PathErrMsg) (f : Facts) (x : Sender) (path : PathState) → m.sender ≡ Some x
+      → goes_out p m.session e x ≡ true → has f.senders (m.session, x) ≡ false → get f.paths (m.session, x) ≡ Some path
       → act_path_err p e m f ≡ record (only_heard heard.Taken f) { errors = (record { iface = path.iface; dst = path.hop.addr; error = OfPath m }) ∷ [] }
 
 -- ---- a ResvErr is dropped where no previous hop of its session sent it, or where its blockades do not all fit; else it sets
@@ -103,16 +117,21 @@ abbrev pub errors_with : NodeConfig → ℕ → ℕ → ResvErrMsg → Facts →
 errors_with p c e m f = record (only_heard heard.Taken (record f { walls = walls_set p c e m f })) { errors = errors_on p (record f { walls = walls_set p c e m f }) (lane_of e m) m }
 
 pub record ResvErrsByTests : Type 0 where
-  pub no_state : (p : NodeConfig) (c e : ℕ) (m : ResvErrMsg) (f : Facts) → ((x : Sender) → ComesBy f m.session (e, m.hop.addr) x → ⊥) → act_resv_err p c e m f ≡ only_heard (heard.Dropped why.NoState) f
-  pub full : (p : NodeConfig) (c e : ℕ) (m : ResvErrMsg) (f : Facts) (x : Sender) → ComesBy f m.session (e, m.hop.addr) x → sets_walls m ≡ true → 512 < size (walls_set p c e m f) → act_resv_err p c e m f ≡ only_heard (heard.Dropped why.Full) f
+  pub no_state : (p : NodeConfig) (c e : ℕ) (m : ResvErrMsg) (f : Facts) → ((x : Sender) → ComesBy f m.session (e, m.hop.addr) x → ⊥)
+      → act_resv_err p c e m f ≡ only_heard (heard.Dropped why.NoState) f
+  pub full : (p : NodeConfig) (c e : ℕ) (m : ResvErrMsg) (f : Facts) (x : Sender) → ComesBy f m.session (e, m.hop.addr) x → sets_walls m ≡ true
+      → 512 < size (walls_set p c e m f) → act_resv_err p c e m f ≡ only_heard (heard.Dropped why.Full) f
   pub taken : (p : NodeConfig) (c e : ℕ) (m : ResvErrMsg) (f : Facts) (x : Sender) → ComesBy f m.session (e, m.hop.addr) x → size (walls_set p c e m f) ≤ 512
       → act_resv_err p c e m f ≡ errors_with p c e m f
   -- it does one of the three
   pub one : (p : NodeConfig) (c e : ℕ) (m : ResvErrMsg) (f : Facts)
-      → (act_resv_err p c e m f ≡ only_heard (heard.Dropped why.NoState) f) ⊎ (((x : Sender) × ComesBy f m.session (e, m.hop.addr) x) × ((act_resv_err p c e m f ≡ only_heard (heard.Dropped why.Full) f) ⊎ (act_resv_err p c e m f ≡ errors_with p c e m f)))
+      → (act_resv_err p c e m f ≡ only_heard (heard.Dropped why.NoState) f)
+      ⊎ (((x : Sender) × ComesBy f m.session (e, m.hop.addr) x)
+      × ((act_resv_err p c e m f ≡ only_heard (heard.Dropped why.Full) f) ⊎ (act_resv_err p c e m f ≡ errors_with p c e m f)))
   -- one that sets none is not tested for room
   pub sets_none : (p : NodeConfig) (c e : ℕ) (m : ResvErrMsg) (f : Facts) → sets_walls m ≡ false → walls_set p c e m f ≡ f.walls
-  pub taken_too : (p : NodeConfig) (c e : ℕ) (m : ResvErrMsg) (f : Facts) (x : Sender) → ComesBy f m.session (e, m.hop.addr) x → sets_walls m ≡ false → act_resv_err p c e m f ≡ record (only_heard heard.Taken f) { errors = errors_on p f (lane_of e m) m }
+  pub taken_too : (p : NodeConfig) (c e : ℕ) (m : ResvErrMsg) (f : Facts) (x : Sender) → ComesBy f m.session (e, m.hop.addr) x → sets_walls m ≡ false
+      → act_resv_err p c e m f ≡ record (only_heard heard.Taken f) { errors = errors_on p f (lane_of e m) m }
   -- a blockade of something else stays
   pub beside : (p : NodeConfig) (c e : ℕ) (m : ResvErrMsg) (f : Facts) (k : WallKey) → (In k (walled_by e m m.blame.style) → ⊥) → get (walls_set p c e m f) k ≡ get f.walls k
 
@@ -139,7 +158,8 @@ pub record IsErrorTo (p : NodeConfig) (f : Facts) (l : Lane) (m : ResvErrMsg) (e
 -- each next hop of a reservation that is spoken of is told, once, and nobody else
 pub record ErrorsOnceEach : Type 0 where
   pub exactly : (p : NodeConfig) (f : Facts) (l : Lane) (m : ResvErrMsg) (e : ErrSend) → In e (errors_on p f l m) ↔ IsErrorTo p f l m e
-  pub told : (p : NodeConfig) (f : Facts) (l : Lane) (m : ResvErrMsg) (hop : NextHop) (unit : UnitOf) (names : Option Names) → IsSpokenOf p f l m hop unit names → (e : ErrSend) × In e (errors_on p f l m) × (e.iface ≡ hop.0) × (e.dst ≡ hop.1)
+  pub told : (p : NodeConfig) (f : Facts) (l : Lane) (m : ResvErrMsg) (hop : NextHop) (unit : UnitOf) (names : Option Names)
+      → IsSpokenOf p f l m hop unit names → (e : ErrSend) × In e (errors_on p f l m) × (e.iface ≡ hop.0) × (e.dst ≡ hop.1)
   pub once : (p : NodeConfig) (f : Facts) (l : Lane) (m : ResvErrMsg) → AreOnce (each (λ (e : ErrSend). (e.iface, e.dst)) (errors_on p f l m))
 
 -- ---- what errors blockade
@@ -147,4 +167,5 @@ pub record ErrorsAndWalls : Type 0 where
   -- a blockade was there, or the error set it
   pub source : (p : NodeConfig) (c e : ℕ) (m : ResvErrMsg) (w : Walls) (k : WallKey) (b : Blockade) → get (walls_with p c e m m.blame.flow w) k ≡ Some b
       → (get w k ≡ Some b) ⊎ ((flow : TokenBucket) × (m.blame.flow ≡ Some flow) × (is_admission m.err ≡ true) × In k (walled_by e m m.blame.style) × (b ≡ blockade_of p c m flow))
-  pub set : (p : NodeConfig) (c e : ℕ) (m : ResvErrMsg) (w : Walls) (k : WallKey) (flow : TokenBucket) → is_admission m.err ≡ true → In k (walled_by e m m.blame.style) → get (walls_with p c e m (Some flow) w) k ≡ Some (blockade_of p c m flow)
+  pub set : (p : NodeConfig) (c e : ℕ) (m : ResvErrMsg) (w : Walls) (k : WallKey) (flow : TokenBucket) → is_admission m.err ≡ true
+      → In k (walled_by e m m.blame.style) → get (walls_with p c e m (Some flow) w) k ≡ Some (blockade_of p c m flow)

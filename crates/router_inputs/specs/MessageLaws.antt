@@ -28,11 +28,13 @@ use Rattle.router_inputs.specs.ErrorLaws.{AreOnce}
 -- ---- a Path is dropped for one of three reasons, and else learnt; a PathTear takes away the path of its hop
 pub record PathsByTests : Type 0 where
   pub no_sender : (p : NodeConfig) (c e : ℕ) (m : PathMsg) (f : Facts) → m.sender ≡ None → act_path p c e m f ≡ only_heard (heard.Dropped why.NoSender) f
-  pub not_inward : (p : NodeConfig) (c e : ℕ) (m : PathMsg) (f : Facts) (x : Sender) (tspec : TokenBucket) → m.sender ≡ Some (x, tspec) → comes_in p m.session e x ≡ false → act_path p c e m f ≡ only_heard (heard.Dropped why.NotInward) f
+  pub not_inward : (p : NodeConfig) (c e : ℕ) (m : PathMsg) (f : Facts) (x : Sender) (tspec : TokenBucket) → m.sender ≡ Some (x, tspec)
+      → comes_in p m.session e x ≡ false → act_path p c e m f ≡ only_heard (heard.Dropped why.NotInward) f
   pub full : (p : NodeConfig) (c e : ℕ) (m : PathMsg) (f : Facts) (x : Sender) (tspec : TokenBucket) → m.sender ≡ Some (x, tspec) → comes_in p m.session e x ≡ true
       → has_room_at senders (put_in f.paths (m.session, x) (path_state p c e m tspec)) m.session ≡ false → act_path p c e m f ≡ only_heard (heard.Dropped why.Full) f
   pub learnt : (p : NodeConfig) (c e : ℕ) (m : PathMsg) (f : Facts) (x : Sender) (tspec : TokenBucket) → m.sender ≡ Some (x, tspec) → comes_in p m.session e x ≡ true
-      → has_room_at senders (put_in f.paths (m.session, x) (path_state p c e m tspec)) m.session ≡ true → act_path p c e m f ≡ only_heard heard.Taken (record f { paths = put_in f.paths (m.session, x) (path_state p c e m tspec) })
+      → has_room_at senders (put_in f.paths (m.session, x) (path_state p c e m tspec)) m.session ≡ true
+      → act_path p c e m f ≡ only_heard heard.Taken (record f { paths = put_in f.paths (m.session, x) (path_state p c e m tspec) })
   pub tear_of_nobody : (e : ℕ) (m : PathTearMsg) (f : Facts) → m.sender ≡ None → act_path_tear e m f ≡ only_heard (heard.Dropped why.NoSender) f
   pub tear_of_none : (e : ℕ) (m : PathTearMsg) (f : Facts) (x : Sender) → m.sender ≡ Some x → get f.paths (m.session, x) ≡ None → act_path_tear e m f ≡ only_heard (heard.Dropped why.NoState) f
   pub tear_elsewhere : (e : ℕ) (m : PathTearMsg) (f : Facts) (x : Sender) (path : PathState) → m.sender ≡ Some x → get f.paths (m.session, x) ≡ Some path → came_by (e, m.hop.addr) path ≡ false
@@ -42,16 +44,19 @@ pub record PathsByTests : Type 0 where
 
 -- ---- a ResvTear takes its names from the reservations of its hop, and changes no other
 pub record ResvTearsByNames : Type 0 where
-  pub none : (e : ℕ) (m : ResvTearMsg) (f : Facts) → names_one m.session (e, m.hop.addr) (tear_names m.tear) (resvs_of (tear_style m.tear) f) ≡ false → act_resv_tear e m f ≡ only_heard (heard.Dropped why.NoState) f
+  pub none : (e : ℕ) (m : ResvTearMsg) (f : Facts) → names_one m.session (e, m.hop.addr) (tear_names m.tear) (resvs_of (tear_style m.tear) f) ≡ false
+      → act_resv_tear e m f ≡ only_heard (heard.Dropped why.NoState) f
   -- where a name is found, each reservation of the hop keeps the names that stay
-  pub own : (e : ℕ) (m : ResvTearMsg) (f : Facts) (k : LineKey) (r : ResvState) → names_one m.session (e, m.hop.addr) (tear_names m.tear) (resvs_of (tear_style m.tear) f) ≡ true → is_of_hop m.session (e, m.hop.addr) k ≡ true
+  pub own : (e : ℕ) (m : ResvTearMsg) (f : Facts) (k : LineKey) (r : ResvState)
+      → names_one m.session (e, m.hop.addr) (tear_names m.tear) (resvs_of (tear_style m.tear) f) ≡ true → is_of_hop m.session (e, m.hop.addr) k ≡ true
       → get (resvs_of (tear_style m.tear) f) k ≡ Some r → get (resvs_of (tear_style m.tear) (act_resv_tear e m f).facts) k ≡ left_of (stays (tear_names m.tear)) r
   pub taken : (e : ℕ) (m : ResvTearMsg) (f : Facts) → names_one m.session (e, m.hop.addr) (tear_names m.tear) (resvs_of (tear_style m.tear) f) ≡ true → (act_resv_tear e m f).heard ≡ heard.Taken
   -- all else stays as it was
   pub rest : (e : ℕ) (m : ResvTearMsg) (f : Facts) → record (act_resv_tear e m f).facts { resvs = f.resvs } ≡ f
   pub source : (e : ℕ) (m : ResvTearMsg) (f : Facts) (k : LineKey) (x : ResvState) → get (resvs_of (tear_style m.tear) (act_resv_tear e m f).facts) k ≡ Some x
       → (r : ResvState) × (get (resvs_of (tear_style m.tear) f) k ≡ Some r) × ((x ≡ r) ⊎ IsLeft (stays (tear_names m.tear)) r x)
-  pub others : (e : ℕ) (m : ResvTearMsg) (f : Facts) (k : LineKey) → is_of_hop m.session (e, m.hop.addr) k ≡ false → get (resvs_of (tear_style m.tear) (act_resv_tear e m f).facts) k ≡ get (resvs_of (tear_style m.tear) f) k
+  pub others : (e : ℕ) (m : ResvTearMsg) (f : Facts) (k : LineKey) → is_of_hop m.session (e, m.hop.addr) k ≡ false
+      → get (resvs_of (tear_style m.tear) (act_resv_tear e m f).facts) k ≡ get (resvs_of (tear_style m.tear) f) k
 
 -- ---- a ResvConf goes to who wanted to hear
 pub record IsConfOn (m : ResvConfMsg) (f : Facts) (s : ConfSend) : Type 0 where
@@ -70,4 +75,5 @@ pub record ConfirmationsByWish : Type 0 where
   pub once : (m : ResvConfMsg) (f : Facts) → AreOnce (each (λ (s : ConfSend). (s.iface, s.dst)) (confs_on m f))
   pub own : (p : NodeConfig) (m : ResvConfMsg) (f : Facts) → is_own p m.confirm ≡ true → act_resv_conf p m f ≡ only_heard heard.Taken f
   pub nobody : (p : NodeConfig) (m : ResvConfMsg) (f : Facts) → is_own p m.confirm ≡ false → ((s : ConfSend) → IsConfOn m f s → ⊥) → act_resv_conf p m f ≡ only_heard (heard.Dropped why.NoState) f
-  pub passed : (p : NodeConfig) (m : ResvConfMsg) (f : Facts) (s : ConfSend) → is_own p m.confirm ≡ false → IsConfOn m f s → act_resv_conf p m f ≡ record (only_heard heard.Taken f) { confs = confs_on m f }
+  pub passed : (p : NodeConfig) (m : ResvConfMsg) (f : Facts) (s : ConfSend) → is_own p m.confirm ≡ false → IsConfOn m f s
+      → act_resv_conf p m f ≡ record (only_heard heard.Taken f) { confs = confs_on m f }

@@ -103,7 +103,9 @@ pub record BooksAndLines : Type 0 where
 
 -- ---- limits by session: a table within them, changed at one session, is within them exactly where the test there passes
 pub record RoomTells : Type 0 where
-  pub of_senders : (f : Facts) (k : SenderKey) (tspec : TokenBucket) → IsWithinSessionLimits senders f.senders → IsTrue (has_room_at senders (put_in f.senders k tspec) k.0) ↔ IsWithinSessionLimits senders (put_in f.senders k tspec)
-  pub of_paths : (f : Facts) (k : SenderKey) (x : PathState) → IsWithinSessionLimits senders f.paths → IsTrue (has_room_at senders (put_in f.paths k x) k.0) ↔ IsWithinSessionLimits senders (put_in f.paths k x)
+  pub of_senders : (f : Facts) (k : SenderKey) (tspec : TokenBucket) → IsWithinSessionLimits senders f.senders
+      → IsTrue (has_room_at senders (put_in f.senders k tspec) k.0) ↔ IsWithinSessionLimits senders (put_in f.senders k tspec)
+  pub of_paths : (f : Facts) (k : SenderKey) (x : PathState) → IsWithinSessionLimits senders f.paths
+      → IsTrue (has_room_at senders (put_in f.paths k x) k.0) ↔ IsWithinSessionLimits senders (put_in f.paths k x)
   pub of_wants : (f : Facts) (s : Session) (st : StyleKind) (names : Names) (flow : TokenBucket) (mark : Bool) → IsWithinSessionLimits units f.wants
       → IsTrue (has_room_at units (with_rows f.wants (wanted s st names flow mark)) s) ↔ IsWithinSessionLimits units (with_rows f.wants (wanted s st names flow mark))

@@ -52,7 +52,9 @@ pub record SendsInOrder : Type 0 where
   -- six lists, one after another
   pub six : (old p : NodeConfig) (before after : Facts) (k : Change) → sends old p before after k
       ≡ path_tears p (offers old before) (offers p after)
-      ++ (resv_tears old p before after ++ (error_sends k.errors ++ (conf_sends (k.confs ++ confirmed old p before after k.asked) ++ (path_sends p (offers old before) (offers p after) k.fired ++ resv_sends old p before after k.fired k.asked))))
+      ++ (resv_tears old p before after ++ (error_sends k.errors
+      ++ (conf_sends (k.confs ++ confirmed old p before after k.asked)
+      ++ (path_sends p (offers old before) (offers p after) k.fired ++ resv_sends old p before after k.fired k.asked))))
   -- by session, sender and interface
   pub path_tears_by : (p : NodeConfig) (before after : Offers) → path_tears p before after ≡ values (tears_by_offer p before after)
   pub paths_by : (p : NodeConfig) (before after : Offers) (fired : Set sessions) → path_sends p before after fired ≡ values (paths_by_offer p before after fired)

@@ -29,7 +29,8 @@ pub record TablesByStyle : Type 0 where
 -- ---- waiting: what dies later than the clock stays as it is, and what is due moves
 pub record WaitingLeavesTheLiving : Type 0 where
   pub of_paths : (p : NodeConfig) (c word : ℕ) (f : Facts) (k : SenderKey) (x : PathState) → (get (act_wait p c word f).facts.paths k ≡ Some x) ↔ ((get f.paths k ≡ Some x) × (c < x.dies))
-  pub of_resvs : (p : NodeConfig) (c word : ℕ) (f : Facts) (st : StyleKind) (k : LineKey) (r : ResvState) → (get (resvs_of st (act_wait p c word f).facts) k ≡ Some r) ↔ ((get (resvs_of st f) k ≡ Some r) × (c < r.dies))
+  pub of_resvs : (p : NodeConfig) (c word : ℕ) (f : Facts) (st : StyleKind) (k : LineKey) (r : ResvState)
+      → (get (resvs_of st (act_wait p c word f).facts) k ≡ Some r) ↔ ((get (resvs_of st f) k ≡ Some r) × (c < r.dies))
   pub of_walls : (p : NodeConfig) (c word : ℕ) (f : Facts) (k : WallKey) (b : Blockade) → (get (act_wait p c word f).facts.walls k ≡ Some b) ↔ ((get f.walls k ≡ Some b) × (c < b.dies))
   pub of_due : (p : NodeConfig) (c word : ℕ) (f : Facts) (s : Session) (t : ℕ) → get f.due s ≡ Some t → get (act_wait p c word f).facts.due s ≡ Some (next_due p c word t)
   pub of_fired : (p : NodeConfig) (c word : ℕ) (f : Facts) (s : Session) → (has (act_wait p c word f).fired s ≡ true) ↔ ((t : ℕ) × (get f.due s ≡ Some t) × (t ≤ c))
@@ -51,16 +52,21 @@ pub record LeftByNames : Type 0 where
 
 -- ---- forgetting
 pub record ForgettingByNames : Type 0 where
-  pub at : (before after : Facts) (st : StyleKind) (k : LineKey) (x : ResvState) → get (resvs_of st (forget before after)) k ≡ Some x → (r : ResvState) × (get (resvs_of st after) k ≡ Some r) × (remembered st before after k r ≡ Some x)
-  pub lost : (st : StyleKind) (before after : Facts) (s : Session) (x : Sender) → (is_lost st before after s x ≡ true) ↔ ((has (named_as st (known before s)) x ≡ true) × (has (named_as st (known after s)) x ≡ false))
+  pub at : (before after : Facts) (st : StyleKind) (k : LineKey) (x : ResvState) → get (resvs_of st (forget before after)) k ≡ Some x
+      → (r : ResvState) × (get (resvs_of st after) k ≡ Some r) × (remembered st before after k r ≡ Some x)
+  pub lost : (st : StyleKind) (before after : Facts) (s : Session) (x : Sender) → (is_lost st before after s x ≡ true)
+      ↔ ((has (named_as st (known before s)) x ≡ true) × (has (named_as st (known after s)) x ≡ false))
   -- a reservation that loses no name stays as it is
-  pub stays : (before after : Facts) (st : StyleKind) (k : LineKey) (r : ResvState) → get (resvs_of st after) k ≡ Some r → has_name r.part ≡ true → ((x : Sender) → has r.part.senders x ≡ true → is_lost st before after k.0 x ≡ false)
+  pub stays : (before after : Facts) (st : StyleKind) (k : LineKey) (r : ResvState) → get (resvs_of st after) k ≡ Some r → has_name r.part ≡ true
+      → ((x : Sender) → has r.part.senders x ≡ true → is_lost st before after k.0 x ≡ false)
       → get (resvs_of st (forget before after)) k ≡ Some r
   -- one that keeps a name stays with the names that it keeps
-  pub some : (before after : Facts) (st : StyleKind) (k : LineKey) (r : ResvState) (s : Sender) → get (resvs_of st after) k ≡ Some r → has r.part.senders s ≡ true → is_lost st before after k.0 s ≡ false
+  pub some : (before after : Facts) (st : StyleKind) (k : LineKey) (r : ResvState) (s : Sender) → get (resvs_of st after) k ≡ Some r
+      → has r.part.senders s ≡ true → is_lost st before after k.0 s ≡ false
       → (x : ResvState) × (get (resvs_of st (forget before after)) k ≡ Some x) × IsLeft (λ y. not (is_lost st before after k.0 y)) r x
   -- and one that loses all goes
-  pub goes : (before after : Facts) (st : StyleKind) (k : LineKey) (r : ResvState) → get (resvs_of st after) k ≡ Some r → ((x : Sender) → has r.part.senders x ≡ true → is_lost st before after k.0 x ≡ true)
+  pub goes : (before after : Facts) (st : StyleKind) (k : LineKey) (r : ResvState) → get (resvs_of st after) k ≡ Some r
+      → ((x : Sender) → has r.part.senders x ≡ true → is_lost st before after k.0 x ≡ true)
       → get (resvs_of st (forget before after)) k ≡ None
 
 -- ---- countdowns
@@ -79,9 +85,12 @@ pub record RuleInParts : Type 0 where
   pub walls : (old p : NodeConfig) (c : ℕ) (i : Input) (f : Facts) → (rule old p c i f).facts.walls ≡ (act p c i f).facts.walls
   pub resvs : (old p : NodeConfig) (c : ℕ) (i : Input) (f : Facts) → (rule old p c i f).facts.resvs ≡ (forget f (act p c i f).facts).resvs
   pub due : (old p : NodeConfig) (c : ℕ) (i : Input) (f : Facts) → (rule old p c i f).facts.due ≡ (settle p c (act p c i f).facts).due
-  pub wants : (old p : NodeConfig) (c : ℕ) (i : Input) (f : Facts) (k : WantKey) (x : Want) → get (rule old p c i f).facts.wants k ≡ Some x → (w : Want) × (get (act p c i f).facts.wants k ≡ Some w) × IsWant w x
+  pub wants : (old p : NodeConfig) (c : ℕ) (i : Input) (f : Facts) (k : WantKey) (x : Want) → get (rule old p c i f).facts.wants k ≡ Some x
+      → (w : Want) × (get (act p c i f).facts.wants k ≡ Some w) × IsWant w x
   -- each want is still there, its mark used where a request that holds it was sent for a change
-  pub marks : (old p : NodeConfig) (c : ℕ) (i : Input) (f : Facts) → is_silent i ≡ false → (rule old p c i f).facts.wants ≡ changed (unmarked (used_marks old p f (settled p c f (act p c i f).facts) (act p c i f).asked)) (act p c i f).facts.wants
+  pub marks : (old p : NodeConfig) (c : ℕ) (i : Input) (f : Facts) → is_silent i ≡ false
+      → (rule old p c i f).facts.wants
+      ≡ changed (unmarked (used_marks old p f (settled p c f (act p c i f).facts) (act p c i f).asked)) (act p c i f).facts.wants
   pub quiet : (old p : NodeConfig) (c : ℕ) (i : Input) (f : Facts) → is_silent i ≡ true → (rule old p c i f).facts.wants ≡ (act p c i f).facts.wants
   pub heard : (old p : NodeConfig) (c : ℕ) (i : Input) (f : Facts) → (rule old p c i f).heard ≡ (act p c i f).heard
   pub loud : (old p : NodeConfig) (c : ℕ) (i : Input) (f : Facts) → is_silent i ≡ false → (rule old p c i f).sent ≡ sends old p f (settled p c f (act p c i f).facts) (act p c i f)

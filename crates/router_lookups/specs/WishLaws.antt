@@ -34,7 +34,16 @@ pub record IsGranted (old p : NodeConfig) (before after : Facts) (asked : Option
   pub taken : Ask
   pub what : wish.taken ≡ Some taken
   pub ends : GoesOn old p before after wish → ⊥
-  pub is : s ≡ record { iface = wish.iface; dst = wish.hop; conf = record { session = wish.session; err = record { node = own p wish.iface; in_place = false; not_guilty = false; code = 0; value = 0 }; confirm = wish.confirm; ask = without_scope taken } }
+  pub is : s ≡ record {
+    iface = wish.iface;
+    dst = wish.hop;
+    conf = record {
+      session = wish.session;
+      err = record { node = own p wish.iface; in_place = false; not_guilty = false; code = 0; value = 0 };
+      confirm = wish.confirm;
+      ask = without_scope taken;
+    };
+  }
 
 pub record WishesAreGranted : Type 0 where
   pub new : (old p : NodeConfig) (before after : Facts) (l : Lane) → (is_sent_new old p before after l ≡ true) ↔ IsNewThere old p before after l
@@ -71,4 +80,5 @@ pub record MarksAreUsed : Type 0 where
   -- where a message has a wish of its own the marks wait
   pub waits : (old p : NodeConfig) (before after : Facts) (a : Asked) → used_marks old p before after (Some a) ≡ empty
   -- a want stands with the mark that is left
-  pub left : (used : Set want_keys) (wants : Wants) (k : WantKey) (w : Want) → get wants k ≡ Some w → get (changed (unmarked used) wants) k ≡ Some (record w { confirm = w.confirm && not (has used k) })
+  pub left : (used : Set want_keys) (wants : Wants) (k : WantKey) (w : Want) → get wants k ≡ Some w
+      → get (changed (unmarked used) wants) k ≡ Some (record w { confirm = w.confirm && not (has used k) })

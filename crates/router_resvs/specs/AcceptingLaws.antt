@@ -73,9 +73,11 @@ pub record IsTakenWhole (old p : NodeConfig) (c e : ℕ) (m : ResvMsg) (f : Fact
   pub heard_it : (rule old p c (came_resv p e m) f).heard ≡ heard.Taken
   pub no_error : (s : Send) (w : ResvErrMsg) → In s (sent_then old p c (came_resv p e m) f) → s.message ≡ message.ResvErr w → ⊥
   pub facts : (u : AskedUnit) (names : Names) → In u (asked_units m.ask) → u.names ≡ Some names
-      → (r : ResvState) × (get (resvs_of (ask_style m.ask) (facts_then old p c (came_resv p e m) f)) (m.session, ((e, m.hop.addr), u.unit)) ≡ Some r) × (r.part ≡ record { senders = names; flow = u.flow }) × (r.dies ≡ c + lifetime p m.period)
+      → (r : ResvState) × (get (resvs_of (ask_style m.ask) (facts_then old p c (came_resv p e m) f)) (m.session, ((e, m.hop.addr), u.unit)) ≡ Some r)
+      × (r.part ≡ record { senders = names; flow = u.flow }) × (r.dies ≡ c + lifetime p m.period)
   pub under : AreUnder (lines (facts_then old p c (came_resv p e m) f)) gs
 
 pub record WhatIsAccepted : Type 0 where
-  pub unit : (p : NodeConfig) (o : Asker) (f : Facts) (t : Resvs) (u : UnitOf) (part : Part) (gs : List Line) → CanBeHeld p gs → AreUnder (lines (with_resvs o.style t f)) gs → HasPlace o u part gs → IsBooked p o f t u part gs
+  pub unit : (p : NodeConfig) (o : Asker) (f : Facts) (t : Resvs) (u : UnitOf) (part : Part) (gs : List Line) → CanBeHeld p gs
+      → AreUnder (lines (with_resvs o.style t f)) gs → HasPlace o u part gs → IsBooked p o f t u part gs
   pub whole : (old p : NodeConfig) (b c e : ℕ) (m : ResvMsg) (f : Facts) (gs : List Line) → IsWithinBounds old b f → CanBeTaken p c e m f gs → IsTakenWhole old p c e m f gs

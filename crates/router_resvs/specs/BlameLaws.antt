@@ -72,7 +72,9 @@ pub record WhereAnErrorWithAFlowComesFrom : Type 0 where
       → IsRefusal step.old step.now step.after step.input step.facts s ⊎ IsPassedOn step.now step.input step.facts s w
   -- what goes on names some of the reservation's senders, unless it came without senders for a fixed or a shared filter, which a
   -- proper error with a flow does not
-  pub names : (old : NodeConfig) (b : ℕ) (f : Facts) → IsWithinBounds old b f → (st : StyleKind) (k : Session × (NextHop × UnitOf)) (r : ResvState) (listed out : Option Names) → get (resvs_of st f) k ≡ Some r → blamed st listed r.part.senders ≡ as_listed out
+  pub names : (old : NodeConfig) (b : ℕ) (f : Facts) → IsWithinBounds old b f
+      → (st : StyleKind) (k : Session × (NextHop × UnitOf)) (r : ResvState) (listed out : Option Names) → get (resvs_of st f) k ≡ Some r
+      → blamed st listed r.part.senders ≡ as_listed out
       → (is_some listed ≡ true) ⊎ (st ≡ Wild) → (names : Names) × (out ≡ Some names) × AreBlamed listed r names
 
 -- ---- blockades change what goes toward a hop, but not of which units

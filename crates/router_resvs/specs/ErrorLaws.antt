@@ -34,7 +34,8 @@ pub record IsBlockadeSet (p : NodeConfig) (c : ℕ) (i : Input) (f : Facts) (k :
 
 abbrev pub WhereABlockadeComesFrom : Type 0
 WhereABlockadeComesFrom =
-    (step : NodeStep) → Begins step → (k : WallKey) (x : Blockade) → get (left_by step).walls k ≡ Some x → (get step.facts.walls k ≡ Some x) ⊎ IsBlockadeSet step.now step.after step.input step.facts k x
+    (step : NodeStep) → Begins step → (k : WallKey) (x : Blockade) → get (left_by step).walls k ≡ Some x → (get step.facts.walls k ≡ Some x)
+    ⊎ IsBlockadeSet step.now step.after step.input step.facts k x
 
 -- ---- a PathErr, a ResvErr and a ResvConf go on or end, and change no fact but blockades; marks of wants are used
 abbrev pub only_goes_on : Message → Bool
@@ -47,10 +48,12 @@ only_goes_on (message.ResvTear m) = false
 only_goes_on (message.ResvConf m) = true
 
 pub record AnErrorChangesNoFact : Type 0 where
-  pub senders : (old p : NodeConfig) (b c e : ℕ) (dst : Addr) (m : Message) (f : Facts) → IsWithinBounds old b f → only_goes_on m ≡ true → (facts_then old p c (Came e dst (Spelt m)) f).senders ≡ f.senders
+  pub senders : (old p : NodeConfig) (b c e : ℕ) (dst : Addr) (m : Message) (f : Facts) → IsWithinBounds old b f → only_goes_on m ≡ true
+      → (facts_then old p c (Came e dst (Spelt m)) f).senders ≡ f.senders
   pub paths : (old p : NodeConfig) (b c e : ℕ) (dst : Addr) (m : Message) (f : Facts) → IsWithinBounds old b f → only_goes_on m ≡ true → (facts_then old p c (Came e dst (Spelt m)) f).paths ≡ f.paths
   pub resvs : (old p : NodeConfig) (b c e : ℕ) (dst : Addr) (m : Message) (f : Facts) → IsWithinBounds old b f → only_goes_on m ≡ true → (facts_then old p c (Came e dst (Spelt m)) f).resvs ≡ f.resvs
-  pub wants : (old p : NodeConfig) (b c e : ℕ) (dst : Addr) (m : Message) (f : Facts) → IsWithinBounds old b f → only_goes_on m ≡ true → AreSameButMarks f.wants (facts_then old p c (Came e dst (Spelt m)) f).wants
+  pub wants : (old p : NodeConfig) (b c e : ℕ) (dst : Addr) (m : Message) (f : Facts) → IsWithinBounds old b f → only_goes_on m ≡ true
+      → AreSameButMarks f.wants (facts_then old p c (Came e dst (Spelt m)) f).wants
   pub due : (old p : NodeConfig) (b c e : ℕ) (dst : Addr) (m : Message) (f : Facts) → IsWithinBounds old b f → only_goes_on m ≡ true → (facts_then old p c (Came e dst (Spelt m)) f).due ≡ f.due
   -- blockades neither, but by a ResvErr of admission control with a flow
   pub walls : (old p : NodeConfig) (b c e : ℕ) (dst : Addr) (m : ResvErrMsg) (f : Facts) → IsWithinBounds old b f → (m.blame.flow ≡ None) ⊎ (is_admission m.err ≡ false)

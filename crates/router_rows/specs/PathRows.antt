@@ -39,14 +39,16 @@ pub record PathGoesOn : Type 0 where
 -- sixteen senders, none of them the first
 abbrev pub sixteen : Facts
 sixteen = record no_facts {
-  paths = with_rows no_facts.paths (each (λ port. ((session, record { addr = s1; port = port }), record { iface = 0; hop = record { addr = s1; handle = 0 }; tspec = usual; police = false; dies = 100000 })) (range_with_len 1 16));
+  paths = with_rows no_facts.paths (each
+      (λ port. ((session, record { addr = s1; port = port }), record { iface = 0; hop = record { addr = s1; handle = 0 }; tspec = usual; police = false; dies = 100000 })) (range_with_len 1 16));
 }
 
 -- what is not for this node, or not by the tree, or without a sender, or one too many
 pub record PathsDropped : Type 0 where
   pub not_inward : (came (node_r 10000) 0 1 group (path true s1 first usual) no_facts).heard ≡ heard.Dropped why.NotInward
   pub not_mine : (came (node_r 10000) 0 0 r1 (path true s1 first usual) no_facts).heard ≡ heard.Dropped why.NotMine
-  pub no_sender : (came (node_r 10000) 0 0 group (message.Path (record { session = session; police = true; hop = record { addr = s1; handle = 0 }; period = 30000; sender = None; adspec = None })) no_facts).heard ≡ heard.Dropped why.NoSender
+  pub no_sender : (came (node_r 10000) 0 0 group (message.Path (record { session = session; police = true; hop = record { addr = s1; handle = 0 }; period = 30000; sender = None; adspec = None })) no_facts).heard
+      ≡ heard.Dropped why.NoSender
   pub full : (came (node_r 10000) 0 0 group (path true s1 first usual) sixteen).heard ≡ heard.Dropped why.Full
   pub none_sent : (came (node_r 10000) 0 0 group (path true s1 first usual) sixteen).sent ≡ []
 

@@ -138,7 +138,8 @@ pub record TearsGoOn : Type 0 where
   pub taken : quit.heard ≡ heard.Taken
   pub on : quit.sent ≡ sent 0 s1 (message.ResvTear (record { session = session; hop = record { addr = r1; handle = 0 }; tear = tear.Wild (Some scope) })) ∷ []
   pub gone : size quit.facts.resvs.wild ≡ 0
-  pub no_state : (came (node_r 10000) 0 1 r2 (message.ResvTear (record { session = session; hop = record { addr = t1; handle = 0 }; tear = tear.Shared (set_of (first ∷ [])) })) (with_resv 10000).facts).heard ≡ heard.Dropped why.NoState
+  pub no_state : (came (node_r 10000) 0 1 r2 (message.ResvTear (record { session = session; hop = record { addr = t1; handle = 0 }; tear = tear.Shared (set_of (first ∷ [])) })) (with_resv 10000).facts).heard
+      ≡ heard.Dropped why.NoState
   -- a sender that is torn down leaves the reservations, and no ResvTear goes to a hop that has none
   pub forgotten : size sender_gone.facts.resvs.wild ≡ 0
   pub path_torn : sender_gone.sent ≡ sent 1 group (path_tear r2 first) ∷ []
@@ -289,7 +290,8 @@ pub record MarksWait : Type 0 where
 pub record CallsAreRefused : Type 0 where
   pub style : call_refusal node_t (WantAs session Shared (set_of (first ∷ [])) usual false) t_want.facts ≡ Some local.Style
   pub absent : call_refusal node_t (QuitAll session) t_path.facts ≡ Some local.Absent
-  pub quit : (called node_t 0 (QuitAll session) t_want.facts).sent ≡ sent 0 r2 (message.ResvTear (record { session = session; hop = record { addr = t1; handle = 0 }; tear = tear.Wild (Some scope) })) ∷ []
+  pub quit : (called node_t 0 (QuitAll session) t_want.facts).sent
+      ≡ sent 0 r2 (message.ResvTear (record { session = session; hop = record { addr = t1; handle = 0 }; tear = tear.Wild (Some scope) })) ∷ []
   pub over : stale_refusal (node_r 49) other_style with_path.facts ≡ Some stale.Over
   pub room : stale_refusal (node_r 50) other_style with_path.facts ≡ None
 
@@ -299,12 +301,21 @@ incomparable = came fork_r 0 2 r3 (resv u1 None (wild (flow 500 400 128 1000))) 
 
 pub record FlagsAreByPaths : Type 0 where
   pub merged : incomparable.sent ≡ sent 0 s1 (resv r1 None (wild (flow 500 600 64 1500))) ∷ []
-  pub at_t : police_at fork_r incomparable.facts 1 (record { session = session; style = Wild; unit = One }) (record { senders = scope; flow = flow 300 600 64 1500 }) ≡ record { e = true; m = false; b = true }
-  pub at_u : police_at fork_r incomparable.facts 2 (record { session = session; style = Wild; unit = One }) (record { senders = scope; flow = flow 500 400 128 1000 }) ≡ record { e = true; m = false; b = true }
+  pub at_t : police_at fork_r incomparable.facts 1 (record { session = session; style = Wild; unit = One }) (record {
+    senders = scope;
+    flow = flow 300 600 64 1500;
+  }) ≡ record { e = true; m = false; b = true }
+  pub at_u : police_at fork_r incomparable.facts 2 (record { session = session; style = Wild; unit = One }) (record {
+    senders = scope;
+    flow = flow 500 400 128 1000;
+  }) ≡ record { e = true; m = false; b = true }
   -- of two comparable ones the smaller is policed
   pub smaller : police_at fork_r from_u.facts 1 (record { session = session; style = Wild; unit = One }) (record { senders = scope; flow = small }) ≡ record { e = true; m = false; b = true }
   pub larger : police_at fork_r from_u.facts 2 (record { session = session; style = Wild; unit = One }) (record { senders = scope; flow = greedy }) ≡ record { e = true; m = false; b = false }
   -- two senders of one address are merged
   pub two : police_at fork_r two_paths.facts 1 (record { session = session; style = Wild; unit = One }) (record { senders = scope; flow = small }) ≡ record { e = true; m = true; b = false }
   -- local senders do not count
-  pub at_s : police_at (node_s 10000) wish_at_source.facts 0 (record { session = session; style = Wild; unit = One }) (record { senders = scope; flow = usual }) ≡ record { e = false; m = false; b = false }
+  pub at_s : police_at (node_s 10000) wish_at_source.facts 0 (record { session = session; style = Wild; unit = One }) (record {
+    senders = scope;
+    flow = usual;
+  }) ≡ record { e = false; m = false; b = false }

@@ -105,7 +105,14 @@ abbrev pub path_send : NodeConfig → Bool → OfferKey × Offer → Send
 path_send p refresh e = record {
   iface = e.0.iface;
   dst = e.0.session.group;
-  message = message.Path (record { session = e.0.session; police = e.1.local; hop = record { addr = own p e.0.iface; handle = 0 }; period = period p; sender = Some (e.0.sender, e.1.tspec); adspec = None });
+  message = message.Path (record {
+    session = e.0.session;
+    police = e.1.local;
+    hop = record { addr = own p e.0.iface; handle = 0 };
+    period = period p;
+    sender = Some (e.0.sender, e.1.tspec);
+    adspec = None;
+  });
   refresh = refresh;
 }
 

@@ -22,9 +22,11 @@ WhereAPathFactComesFrom =
 
 -- ---- it is learnt exactly where the table with it is within its limits
 pub record APathOnTheTreeIsLearnt : Type 0 where
-  pub learnt : (step : NodeStep) → Begins step → (k : SenderKey) (by : CameOnTree step.now step.input k) → IsWithinSessionLimits senders (put_in step.facts.paths k (said_by step.now step.after step.input k by))
+  pub learnt : (step : NodeStep) → Begins step → (k : SenderKey) (by : CameOnTree step.now step.input k)
+      → IsWithinSessionLimits senders (put_in step.facts.paths k (said_by step.now step.after step.input k by))
       → ((left_by step).paths ≡ put_in step.facts.paths k (said_by step.now step.after step.input k by)) × ((rule step.old step.now step.after step.input step.facts).heard ≡ heard.Taken)
-  pub full : (step : NodeStep) → Begins step → (k : SenderKey) (by : CameOnTree step.now step.input k) → (IsWithinSessionLimits senders (put_in step.facts.paths k (said_by step.now step.after step.input k by)) → ⊥)
+  pub full : (step : NodeStep) → Begins step → (k : SenderKey) (by : CameOnTree step.now step.input k)
+      → (IsWithinSessionLimits senders (put_in step.facts.paths k (said_by step.now step.after step.input k by)) → ⊥)
       → ((left_by step).paths ≡ step.facts.paths) × ((rule step.old step.now step.after step.input step.facts).heard ≡ heard.Dropped why.Full)
 
 -- ---- it goes for one of three reasons

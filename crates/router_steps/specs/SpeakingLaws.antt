@@ -41,7 +41,8 @@ pub record WhatAPathSentSays : Type 0 where
   -- it is the refresh of a session that came due, or its offer is new or has another tspec
   pub refresh : (step : NodeStep) → Begins step → (s : Send) (m : PathMsg) → In s (sent_by step) → s.message ≡ message.Path m → s.refresh ≡ has (fired_by step) m.session
   pub why : (step : NodeStep) → Begins step → (s : Send) (m : PathMsg) → In s (sent_by step) → s.message ≡ message.Path m → s.refresh ≡ false
-      → (key : OfferKey) × (offer : Offer) × (s ≡ path_send step.now false (key, offer)) × (get (offers step.now (left_by step)) key ≡ Some offer) × (is_new_offer offer (get (offers step.old step.facts) key) ≡ true)
+      → (key : OfferKey) × (offer : Offer) × (s ≡ path_send step.now false (key, offer)) × (get (offers step.now (left_by step)) key ≡ Some offer)
+      × (is_new_offer offer (get (offers step.old step.facts) key) ≡ true)
 
 -- ---- a PathTear is sent for an offer of before that is none after: its sender is known no more, or its tree goes out there
 -- no more. It goes where the Paths of the offer went
@@ -78,10 +79,12 @@ pub record RefreshesAreMarked : Type 0 where
   pub offered : (step : NodeStep) → Begins step → (key : OfferKey) (offer : Offer) → has (fired_by step) key.session ≡ true → get (offers step.now (left_by step)) key ≡ Some offer
       → In (path_send step.now true (key, offer)) (sent_by step)
   pub known_ones : (step : NodeStep) → Begins step → (s : Session) (x : Sender) (e : ℕ) → has (fired_by step) s ≡ true → has (known (left_by step) s) x ≡ true → e < length step.now.ifaces
-      → goes_out step.now s e x ≡ true → (offer : Offer) × (offer_at (left_by step) (record { session = s; sender = x; iface = e }) ≡ Some offer) × In (path_send step.now true (record { session = s; sender = x; iface = e }, offer)) (sent_by step)
+      → goes_out step.now s e x ≡ true → (offer : Offer) × (offer_at (left_by step) (record { session = s; sender = x; iface = e }) ≡ Some offer)
+      × In (path_send step.now true (record { session = s; sender = x; iface = e }, offer)) (sent_by step)
   -- and what goes toward each hop, if something does
   pub resvs : (step : NodeStep) → Begins step → (l : Lane) (ask : Ask) → has (fired_by step) l.session ≡ true → ask_of l.style (toward step.now (left_by step) l) ≡ Some ask
       → (confirm : Option Addr) × In (resv_send step.now (left_by step) l confirm true ask) (sent_by step)
   -- nothing else has the mark, and it is set while time passes alone
-  pub only : (step : NodeStep) → Begins step → (s : Send) → In s (sent_by step) → s.refresh ≡ true → IsPathRefresh step.now step.after step.input step.facts s ⊎ IsResvRefresh step.now step.after step.input step.facts s
+  pub only : (step : NodeStep) → Begins step → (s : Send) → In s (sent_by step) → s.refresh ≡ true
+      → IsPathRefresh step.now step.after step.input step.facts s ⊎ IsResvRefresh step.now step.after step.input step.facts s
   pub waited : (step : NodeStep) → Begins step → (s : Send) → In s (sent_by step) → s.refresh ≡ true → (ms : ℕ) × (word : ℕ) × (step.input ≡ Wait ms word)

@@ -28,7 +28,10 @@ module _ {A B X : Type 0} (o : Keys A) (p : Keys B) where
   below_under a x [] s h = tt
   below_under a x (e ∷ es) s h =
       let rest = below_under a x es s (second _ _ h) in
-      elim (eq_by_cmp o.cmp a e.0.0) as (λ b. eq_by_cmp o.cmp a e.0.0 ≡ b → T (below_all p.cmp x.1 (each (λ e. (e.0.1, e.1)) (cond b (e ∷ where_key (pairs o p).cmp (λ k. eq_by_cmp o.cmp a k.0) es) (where_key (pairs o p).cmp (λ k. eq_by_cmp o.cmp a k.0) es))))) [
+      elim (eq_by_cmp o.cmp a e.0.0) as (λ b. eq_by_cmp o.cmp a e.0.0 ≡ b
+      → T (below_all p.cmp x.1 (each
+      (λ e. (e.0.1, e.1)) (cond b (e ∷ where_key (pairs o p).cmp (λ k. eq_by_cmp o.cmp a k.0) es) (where_key (pairs o p).cmp
+      (λ k. eq_by_cmp o.cmp a k.0) es))))) [
         | true ↦ λ t. both _ _ (rest_below o p a x e.0 s t (first _ _ h)) rest
         | false ↦ λ t. rest
       ] refl
@@ -37,7 +40,10 @@ module _ {A B X : Type 0} (o : Keys A) (p : Keys B) where
   sorted_under a [] h = tt
   sorted_under a (e ∷ es) h =
       let rest = sorted_under a es (second _ _ h) in
-      elim (eq_by_cmp o.cmp a e.0.0) as (λ b. eq_by_cmp o.cmp a e.0.0 ≡ b → T (is_sorted p.cmp (each (λ e. (e.0.1, e.1)) (cond b (e ∷ where_key (pairs o p).cmp (λ k. eq_by_cmp o.cmp a k.0) es) (where_key (pairs o p).cmp (λ k. eq_by_cmp o.cmp a k.0) es))))) [
+      elim (eq_by_cmp o.cmp a e.0.0) as (λ b. eq_by_cmp o.cmp a e.0.0 ≡ b
+      → T (is_sorted p.cmp (each
+      (λ e. (e.0.1, e.1)) (cond b (e ∷ where_key (pairs o p).cmp (λ k. eq_by_cmp o.cmp a k.0) es) (where_key (pairs o p).cmp
+      (λ k. eq_by_cmp o.cmp a k.0) es))))) [
         | true ↦ λ t. both _ _ (below_under a e.0 es t (first _ _ h)) rest
         | false ↦ λ t. rest
       ] refl

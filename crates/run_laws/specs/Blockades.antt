@@ -60,13 +60,16 @@ SpeaksOf l Shared p k = (x : Sender) × (has p.senders x ≡ true) × (k ≡ (l.
 
 pub record WhatGoesOnIsBelow : Type 0 where
   -- each request that takes part in the merge is below each blockade that speaks of it
-  pub each : (p : NodeConfig) (f : Facts) (l : Lane) (r : Request) (k : WallKey) (b : Blockade) → In r (requests p f l) → r.blockaded ≡ false → SpeaksOf l l.style r.part k → get f.walls k ≡ Some b → IsBelow b.wall r.part.flow
+  pub each : (p : NodeConfig) (f : Facts) (l : Lane) (r : Request) (k : WallKey) (b : Blockade) → In r (requests p f l) → r.blockaded ≡ false
+      → SpeaksOf l l.style r.part k → get f.walls k ≡ Some b → IsBelow b.wall r.part.flow
   -- a unit with a request that is not blockaded goes on
   pub goes_on : (p : NodeConfig) (f : Facts) (l : Lane) (u : UnitOf) (r : Request) → IsOpenRequestOf l.style (requests p f l) u r → (t : Part) × (get (toward p f l) u ≡ Some t)
   -- and below the blockade of its hop, or of its sender
-  pub wild : (p : NodeConfig) (f : Facts) (l : Lane) (u : UnitOf) (r : Request) (t : Part) (b : Blockade) → l.style ≡ Wild → IsOpenRequestOf l.style (requests p f l) u r → get (toward p f l) u ≡ Some t
+  pub wild : (p : NodeConfig) (f : Facts) (l : Lane) (u : UnitOf) (r : Request) (t : Part) (b : Blockade) → l.style ≡ Wild
+      → IsOpenRequestOf l.style (requests p f l) u r → get (toward p f l) u ≡ Some t
       → get f.walls (l.session, target.Hop l.hop.0 l.hop.1) ≡ Some b → IsBelow b.wall t.flow
-  pub fixed : (p : NodeConfig) (f : Facts) (l : Lane) (x : Sender) (r : Request) (t : Part) (b : Blockade) → l.style ≡ Fixed → IsOpenRequestOf l.style (requests p f l) (Of x) r → get (toward p f l) (Of x) ≡ Some t
+  pub fixed : (p : NodeConfig) (f : Facts) (l : Lane) (x : Sender) (r : Request) (t : Part) (b : Blockade) → l.style ≡ Fixed
+      → IsOpenRequestOf l.style (requests p f l) (Of x) r → get (toward p f l) (Of x) ≡ Some t
       → get f.walls (l.session, target.Sender x) ≡ Some b → IsBelow b.wall t.flow
 
 -- ---- a blockade stays until it dies, is replaced, or its node is cleared
@@ -95,9 +98,12 @@ ABlockadeStays q s w =
 -- ---- a blockade drops no unit, and what an error leaves
 pub record BlockadesDropNothing : Type 0 where
   -- the units toward a hop are those of the requests toward it, whatever the blockades
-  pub units : (p : NodeConfig) (f : Facts) (l : Lane) (u : UnitOf) → (has (toward p f l) u ≡ true → (r : Request) × IsRequestOf l.style (requests p f l) u r) × ((r : Request) → IsRequestOf l.style (requests p f l) u r → has (toward p f l) u ≡ true)
+  pub units : (p : NodeConfig) (f : Facts) (l : Lane) (u : UnitOf)
+      → (has (toward p f l) u ≡ true → (r : Request) × IsRequestOf l.style (requests p f l) u r)
+      × ((r : Request) → IsRequestOf l.style (requests p f l) u r → has (toward p f l) u ≡ true)
   -- each at least with the meet of the flows of its requests
-  pub least : (p : NodeConfig) (f : Facts) (l : Lane) (u : UnitOf) (t : Part) (flow : TokenBucket) → get (toward p f l) u ≡ Some t → meet_at l.style (requests p f l) u ≡ Some flow → IsAtMost flow t.flow
+  pub least : (p : NodeConfig) (f : Facts) (l : Lane) (u : UnitOf) (t : Part) (flow : TokenBucket) → get (toward p f l) u ≡ Some t
+      → meet_at l.style (requests p f l) u ≡ Some flow → IsAtMost flow t.flow
 
 pub record AnErrorTearsNothing (q : ℕ) (s : Step) (w : World) (y : Item) (m : ResvErrMsg) : Type 0 where
   pub no_tear : (x : Item) (mark : Bool) (t : ResvTearMsg) → In (x, mark) (sent q s w) → x.arrival ≡ Spelt (message.ResvTear t) → ⊥

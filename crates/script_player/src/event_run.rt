@@ -18,7 +18,8 @@ pub fn run_event<R: Router + Drop, W: Watch>(
     out: &mut Vec<u8>,
 ) -> Result<(), WorldErr>
     requires { IsFitEvent event.now }
-    ensures { (p : Plan) (a : Arrival) → IsRead event.now a → StandsBehind R.seen world.old p → is_crowded_run p ≡ false → RunsOn R.seen p (event_with a event.now) result out.old.items out.new.items world.new }
+    ensures { (p : Plan) (a : Arrival) → IsRead event.now a → StandsBehind R.seen world.old p → is_crowded_run p ≡ false
+        → RunsOn R.seen p (event_with a event.now) result out.old.items out.new.items world.new }
 {
     world.event(event, watch, out)
 }

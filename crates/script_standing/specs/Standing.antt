@@ -47,5 +47,7 @@ ScriptsStand = (bytes : List ℕ) (d : Draft) → Leads nothing (text_lines byte
 -- ---- a report that comes last, at a settled moment or behind steps that only write after one
 abbrev pub TheLastReportIsTheDemand : Type 0
 TheLastReportIsTheDemand =
-    (bytes : List ℕ) (d : Draft) → Leads nothing (text_lines bytes) d → is_crowded_run (plan_of d) ≡ false → (ss still : List Step) (e : Option ℕ) → steps_of_run (plan_of d) ≡ (ss ++ still) ++ Report e ∷ [] → IsSettled (plan_of d).quarter (first_world (plan_of d)) ss
-    → OnlyWrite still → DemandsFit (routing d) d.locals → run_text (plan_of d) ≡ text_of (plan_of d).quarter d.names (ss ++ still) (first_world (plan_of d)) ++ demand_text d.names (routing d) d.locals e
+    (bytes : List ℕ) (d : Draft) → Leads nothing (text_lines bytes) d → is_crowded_run (plan_of d) ≡ false → (ss still : List Step) (e : Option ℕ)
+    → steps_of_run (plan_of d) ≡ (ss ++ still) ++ Report e ∷ [] → IsSettled (plan_of d).quarter (first_world (plan_of d)) ss
+    → OnlyWrite still → DemandsFit (routing d) d.locals
+    → run_text (plan_of d) ≡ text_of (plan_of d).quarter d.names (ss ++ still) (first_world (plan_of d)) ++ demand_text d.names (routing d) d.locals e

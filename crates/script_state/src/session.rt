@@ -67,7 +67,10 @@ pub fn keep_call(
     call: LocalCall,
 ) -> Result<Event, Refused>
     requires { IsFitCall (call_of call) }
-    ensures ok { OnOk result (draft_of state.new ≡ record (draft_of state.old) { sessions = with_session state.old.sessions.items session; events = map event_of state.old.events.items ++ AtNode node (call_of call) ∷ [] }) }
+    ensures ok { OnOk result (draft_of state.new ≡ record (draft_of state.old) {
+      sessions = with_session state.old.sessions.items session;
+      events = map event_of state.old.events.items ++ AtNode node (call_of call) ∷ [];
+    }) }
     ensures event { IfOk result (λ e. IsAdded (draft_of state.old).events e (draft_of state.new).events) }
     ensures refused { IfErr result OnlyNoMemory }
 {

@@ -19,7 +19,8 @@ use Rattle.run_laws.specs.Refusals.{ARefusedCallChangesNothing, ARefusedResvChan
 -- each report at a settled moment, or behind steps that only write after one, where the demands of that moment fit
 abbrev pub ReportsAreDemands : Type 0
 ReportsAreDemands =
-    (bytes : List ℕ) (p : Plan) → IsScript bytes p → is_crowded_run p ≡ false → (ss still : List Step) (e : Option ℕ) (ts : List Step) → steps_of_run p ≡ (ss ++ still) ++ Report e ∷ ts → IsSettled p.quarter (first_world p) ss → OnlyWrite still
+    (bytes : List ℕ) (p : Plan) → IsScript bytes p → is_crowded_run p ≡ false → (ss still : List Step) (e : Option ℕ) (ts : List Step)
+    → steps_of_run p ≡ (ss ++ still) ++ Report e ∷ ts → IsSettled p.quarter (first_world p) ss → OnlyWrite still
     → DemandsFit (moment p (ss ++ still)).net (locals_of (moment p (ss ++ still))) → AppendsTheDemand p (ss ++ still) e ts
 
 -- ---- safety

@@ -329,7 +329,8 @@ impl<O: RestOrder> SessionLists<O> {
     /// are gone through one by one, and no others are looked at.
     pub fn after(&self, session: Session, slot: u32) -> Option<u32>
         requires { (j : ℕ) × (rest : O.Rest) × (slice_get (rows_under sessions O.rests session self.now.rows) j ≡ Some (rest, slot)) }
-        ensures { (j : ℕ) (rest : O.Rest) → slice_get (rows_under sessions O.rests session self.now.rows) j ≡ Some (rest, slot) → result ≡ slot_of (slice_get (rows_under sessions O.rests session self.now.rows) (j + 1)) }
+        ensures { (j : ℕ) (rest : O.Rest) → slice_get (rows_under sessions O.rests session self.now.rows) j ≡ Some (rest, slot)
+            → result ≡ slot_of (slice_get (rows_under sessions O.rests session self.now.rows) (j + 1)) }
     {
         of_session(self.keys.as_slice(), self.slots.after(slot), session)
     }

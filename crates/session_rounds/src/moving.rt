@@ -71,7 +71,8 @@ fn tell_sender<O: Outbox>(
     out: &mut O,
 )
     requires { AreRoutes old.now }
-    ensures { (c : ℕ) → out.new ≡ fold O.posted out.old (new_of (record tables.now.config { routes = old.now }) tables.now.config (session, sender) (offer_of (facts_of c (state_of tables.now empty)) (session, sender))) }
+    ensures { (c : ℕ)
+        → out.new ≡ fold O.posted out.old (new_of (record tables.now.config { routes = old.now }) tables.now.config (session, sender) (offer_of (facts_of c (state_of tables.now empty)) (session, sender))) }
 {
     let Some(offer) = offered(tables, session, sender) else {
         return;
@@ -117,7 +118,9 @@ pub fn change_routes<O: Outbox>(
     requires settled { IsSettled (state_of tables.old said.old) }
     requires said { IsSaid said.old (state_of tables.old said.old) }
     requires routed { AreRoutes routes.items }
-    ensures facts { (c : ℕ) → facts_of c (state_of tables.new said.new) ≡ facts_after tables.old.config (record tables.old.config { routes = routes.items }) c Moved (facts_of c (state_of tables.old said.old)) }
+    ensures facts { (c : ℕ)
+        → facts_of c (state_of tables.new said.new)
+        ≡ facts_after tables.old.config (record tables.old.config { routes = routes.items }) c Moved (facts_of c (state_of tables.old said.old)) }
     ensures sent { (c : ℕ) → out.new ≡ fold O.posted out.old (sent_after tables.old.config (record tables.old.config { routes = routes.items }) c Moved (facts_of c (state_of tables.old said.old))) }
     ensures said { IsSaid said.new (state_of tables.new said.new) }
     ensures settled { IsSettled (state_of tables.new said.new) }

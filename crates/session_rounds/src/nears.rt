@@ -156,7 +156,8 @@ fn note_one(
 )
     requires room { length rows.old.items < vec_capacity rows.old }
     requires near { size (hops_before paths.now.facts lost.now session) ≤ 16 }
-    ensures rows { map near_row rows.new.items ≡ cond (mark || has fired.now session) (map near_row rows.old.items ++ (session, hops_before paths.now.facts lost.now session) ∷ []) (map near_row rows.old.items) }
+    ensures rows { map near_row rows.new.items ≡ cond (mark || has fired.now session) (map near_row rows.old.items
+        ++ (session, hops_before paths.now.facts lost.now session) ∷ []) (map near_row rows.old.items) }
     ensures few { length rows.new.items ≤ length rows.old.items + 1 }
     ensures capacity { vec_capacity rows.old ≤ vec_capacity rows.new }
 {

@@ -48,7 +48,8 @@ pub fn a_settled_moment()
 /// lost, copied, cleared or rerouted before. So what is reported there is what the demands are.
 pub fn a_run_settles()
     ensures { (p : Plan) → IsFitRun p → AreFitSenders p → (ss ts : List Step) → steps_of_run p ≡ ss ++ ts → (is : IsSettled p.quarter (first_world p) ss)
-        → DemandsFit (run (machine p.quarter) is.before (first_world p)).net (locals_of (run (machine p.quarter) is.before (first_world p))) → HasSettled p.quarter (run (machine p.quarter) ss (first_world p)) }
+        → DemandsFit (run (machine p.quarter) is.before (first_world p)).net (locals_of (run (machine p.quarter) is.before (first_world p)))
+        → HasSettled p.quarter (run (machine p.quarter) ss (first_world p)) }
 {}
 
 /// The run of a small script, with a left-over reservation, a host that sends, 32 rounds and a report, meets the premises of

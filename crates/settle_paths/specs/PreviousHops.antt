@@ -36,7 +36,8 @@ pub record IsAhead (w : World) (n : ℕ) (s : Session) (hop : NextHop) (x : Send
 pub record ArePreviousHops (w : World) : Type 0 where
   pub ahead : (n : ℕ) (f : Facts) (s : Session) (hop : NextHop) (x : Sender) → slice_get w.nodes n ≡ Some f → ComesBy f s hop x → IsAhead w n s hop x
   pub one : (n : ℕ) (s : Session) (hop : NextHop) (h h' : LinkHop) → IsPrevious w.net n s hop h → IsPrevious w.net n s hop h' → h ≡ h'
-  pub within : (n : ℕ) (f : Facts) (l : Lane) (h : LinkHop) → slice_get w.nodes n ≡ Some f → IsPrevious w.net n l.session l.hop h → IsWithin (names_via f l) (names l.style w.net (locals_of w) l.session (h ∷ []))
+  pub within : (n : ℕ) (f : Facts) (l : Lane) (h : LinkHop) → slice_get w.nodes n ≡ Some f → IsPrevious w.net n l.session l.hop h
+      → IsWithin (names_via f l) (names l.style w.net (locals_of w) l.session (h ∷ []))
 
 -- ---- where they are complete too: the senders via it are exactly the names of the hop, and who is known is exactly who is live
 -- and whose tree begins at the node or comes to it

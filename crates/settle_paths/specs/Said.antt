@@ -23,12 +23,14 @@ abbrev pub IsKeptPath : ℕ → Net → SenderKey → ℕ → PathValue → Worl
 IsKeptPath q net k e v u y m =
     let n : ℕ = node_of net.ends e in
     (f : Facts) → slice_get u.nodes n ≡ Some f
-    → by_iface (iface_of net.ends e) (get (facts_then (config_in q u n) (config_in q u n) u.clock (Came (iface_of net.ends e) y.dst (Spelt (message.Path m))) f).paths k) ≡ Some (v, u.clock + lifetime (config_in q u n) m.period)
+    → by_iface (iface_of net.ends e) (get (facts_then (config_in q u n) (config_in q u n) u.clock (Came (iface_of net.ends e) y.dst (Spelt (message.Path m))) f).paths k)
+    ≡ Some (v, u.clock + lifetime (config_in q u n) m.period)
 
 -- ---- the Path of a sender is said over the hop and is kept, of what is sent from step b on
 pub record IsSaidPath (q : ℕ) (net : Net) (k : SenderKey) (h : LinkHop) (v : PathValue) (b : ℕ) (u : World) : Type 0 where
   -- each Path of the sender that is sent to the end that keeps says the value, and no PathTear of the sender is sent there
-  pub carried : (y : Item) (m : PathMsg) (t : TokenBucket) → In y u.flight → b ≤ y.born → y.end ≡ h.to → y.arrival ≡ Spelt (message.Path m) → m.session ≡ k.0 → m.sender ≡ Some (k.1, t) → SaysPath net k h.to y v
+  pub carried : (y : Item) (m : PathMsg) (t : TokenBucket) → In y u.flight → b ≤ y.born → y.end ≡ h.to → y.arrival ≡ Spelt (message.Path m)
+      → m.session ≡ k.0 → m.sender ≡ Some (k.1, t) → SaysPath net k h.to y v
   pub spared : (y : Item) (m : PathTearMsg) → In y u.flight → b ≤ y.born → y.end ≡ h.to → y.arrival ≡ Spelt (message.PathTear m) → m.session ≡ k.0 → m.sender ≡ Some k.1 → ⊥
   -- each that arrives is taken
   pub taken : (y : Item) → In y u.flight → b ≤ y.born → (says : SaysPath net k h.to y v) → IsKeptPath q net k h.to v u y says.path

@@ -43,20 +43,23 @@ pub fn paths_are_sound()
 /// PathTear of the sender is sent over it, what arrives is taken, and the node before the hop knows the sender, two calm
 /// rounds on the path state there is the value, and stays so.
 pub fn said_paths_are_kept()
-    ensures { (q : ℕ) (w : World) (k : SenderKey) (h : LinkHop) (v : PathValue) → In h (tree w.net.hops k.0.group k.1.addr) → is_group k.0.group ≡ true → (rs : List (List Step)) → Rounds (machine q) rs w → AreBounds q w
+    ensures { (q : ℕ) (w : World) (k : SenderKey) (h : LinkHop) (v : PathValue) → In h (tree w.net.hops k.0.group k.1.addr)
+        → is_group k.0.group ≡ true → (rs : List (List Step)) → Rounds (machine q) rs w → AreBounds q w
         → Hold (machine q) 0 rs w (IsSaidPath q w.net k h v w.made) → Hold (machine q) 2 rs w (Stands (machine q) (soft_path q w k h.to) v) }
 {}
 
 /// So it is with a live sender's Path, where the node before the hop knows the sender and paths are sound: the value is the
 /// address of the node before, with the sender's flow.
 pub fn live_paths_are_kept()
-    ensures { (q : ℕ) (w : World) (d : ℕ) (k : SenderKey) (t : TokenBucket) (h : LinkHop) → AreHosts w → IsLive w k t → In h (tree w.net.hops k.0.group k.1.addr) → depth w.net k.0.group k.1.addr (node_of w.net.ends h.to) ≤ suc d
+    ensures { (q : ℕ) (w : World) (d : ℕ) (k : SenderKey) (t : TokenBucket) (h : LinkHop) → AreHosts w → IsLive w k t
+        → In h (tree w.net.hops k.0.group k.1.addr) → depth w.net k.0.group k.1.addr (node_of w.net.ends h.to) ≤ suc d
         → (rs : List (List Step)) → Rounds (machine q) rs w → Hold (machine q) 0 rs w (IsSure q w d) → Hold (machine q) 2 rs w (Stands (machine q) (soft_path q w k h.to) (addr_of w.net h.from, t)) }
 {}
 
 /// Paths are complete: where paths are sound, 2 H calm rounds on each live sender has its path at each hop of its tree.
 pub fn paths_are_complete()
-    ensures { (q : ℕ) (w : World) (rs : List (List Step)) → Rounds (machine q) rs w → AreHosts w → AreBounds q w → Hold (machine q) 0 rs w ArePathsSound → Hold (machine q) (2 * longest w.net) rs w ArePathsComplete }
+    ensures { (q : ℕ) (w : World) (rs : List (List Step)) → Rounds (machine q) rs w → AreHosts w → AreBounds q w
+        → Hold (machine q) 0 rs w ArePathsSound → Hold (machine q) (2 * longest w.net) rs w ArePathsComplete }
 {}
 
 /// Paths settle: in a network within bounds, 7 H + 4 calm rounds on, paths are sound and complete, whatever nodes kept and

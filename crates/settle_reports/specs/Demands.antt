@@ -18,11 +18,14 @@ moment p ss = run (machine p.quarter) ss (first_world p)
 -- the text of the run: that of the steps before the report, the text of the demand, and that of the steps behind it
 abbrev pub AppendsTheDemand : Plan → List Step → Option ℕ → List Step → Type 0
 AppendsTheDemand p ss e ts =
-    run_text p ≡ text_of p.quarter p.names ss (first_world p) ++ (demand_text p.names (moment p ss).net (locals_of (moment p ss)) e ++ text_of p.quarter p.names ts (step p.quarter (Report e) (moment p ss)))
+    run_text p ≡ text_of p.quarter p.names ss (first_world p)
+    ++ (demand_text p.names (moment p ss).net (locals_of (moment p ss)) e
+    ++ text_of p.quarter p.names ts (step p.quarter (Report e) (moment p ss)))
 
 -- a report at a settled moment, or behind steps that only write after one, where the run is not crowded and the demands of
 -- the local senders and wants of that moment fit
 abbrev pub ASettledReportIsTheDemand : Type 0
 ASettledReportIsTheDemand =
-    (p : Plan) → IsFitRun p → AreFitSenders p → is_crowded_run p ≡ false → (ss still : List Step) (e : Option ℕ) (ts : List Step) → steps_of_run p ≡ (ss ++ still) ++ Report e ∷ ts → IsSettled p.quarter (first_world p) ss → OnlyWrite still
+    (p : Plan) → IsFitRun p → AreFitSenders p → is_crowded_run p ≡ false → (ss still : List Step) (e : Option ℕ) (ts : List Step)
+    → steps_of_run p ≡ (ss ++ still) ++ Report e ∷ ts → IsSettled p.quarter (first_world p) ss → OnlyWrite still
     → DemandsFit (moment p (ss ++ still)).net (locals_of (moment p (ss ++ still))) → AppendsTheDemand p (ss ++ still) e ts

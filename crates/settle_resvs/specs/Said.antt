@@ -56,7 +56,9 @@ abbrev pub IsKept : ℕ → Net → HopKey → Part → World → Item → ResvM
 IsKept q net k v u y m =
     let n : ℕ = node_of net.ends k.to in
     (f : Facts) → slice_get u.nodes n ≡ Some f
-    → (r : ResvState) × (get (resvs_of k.style (facts_then (config_in q u n) (config_in q u n) u.clock (Came (iface_of net.ends k.to) y.dst (Spelt (message.Resv m))) f)) (line_key_of net (resv_key net k)) ≡ Some r) × (r.part ≡ v) × (r.dies ≡ u.clock + lifetime (config_in q u n) m.period)
+    → (r : ResvState)
+    × (get (resvs_of k.style (facts_then (config_in q u n) (config_in q u n) u.clock (Came (iface_of net.ends k.to) y.dst (Spelt (message.Resv m))) f)) (line_key_of net (resv_key net k))
+    ≡ Some r) × (r.part ≡ v) × (r.dies ≡ u.clock + lifetime (config_in q u n) m.period)
 
 -- ---- the part is said over the hop and is kept, of what is sent from step b on
 pub record IsSaid (q : ℕ) (net : Net) (k : HopKey) (v : Part) (b : ℕ) (u : World) : Type 0 where

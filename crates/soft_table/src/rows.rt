@@ -57,8 +57,11 @@ pub(crate) fn behind<F: Fact>(
 ) -> Option<u32>
     requires room { rows.now.room ≡ length pool.now }
     requires sorted { IsTrue (is_sorted F.rests.cmp (rows_under sessions F.rests session rows.now.rows)) }
-    requires led { (s : ℕ) (f : F) → value_in (slice_get pool.now s) ≡ Some f → F.key_of f ≡ (session, rest) → (j : ℕ) × (slice_get (rows_under sessions F.rests session rows.now.rows) j ≡ Some (rest, s)) }
-    ensures { (j : ℕ) × (result ≡ slot_of (slice_get (rows_under sessions F.rests session rows.now.rows) j)) × (rows_behind F.rests rest (rows_under sessions F.rests session rows.now.rows) ≡ drop j (rows_under sessions F.rests session rows.now.rows)) }
+    requires led { (s : ℕ) (f : F) → value_in (slice_get pool.now s) ≡ Some f → F.key_of f ≡ (session, rest) → (j : ℕ)
+        × (slice_get (rows_under sessions F.rests session rows.now.rows) j ≡ Some (rest, s)) }
+    ensures { (j : ℕ) × (result ≡ slot_of (slice_get (rows_under sessions F.rests session rows.now.rows) j))
+        × (rows_behind F.rests rest (rows_under sessions F.rests session rows.now.rows)
+        ≡ drop j (rows_under sessions F.rests session rows.now.rows)) }
 {
     if stands_in(pool, rows.room(), near, session, &rest) {
         rows.after(session, near)
@@ -77,11 +80,14 @@ pub(crate) fn nth<F: Fact>(
 ) -> Option<Slot>
     requires slots { AreSlots pool.now (rows_under sessions F.rests session rows.now.rows) }
     requires from { (j : ℕ) × (from ≡ slot_of (slice_get (rows_under sessions F.rests session rows.now.rows) j)) }
-    ensures some { IfSome result (λ r. (j : ℕ) → from ≡ slot_of (slice_get (rows_under sessions F.rests session rows.now.rows) j) → option_map (λ e. e.1) (slice_get (live_of pool.now (drop j (rows_under sessions F.rests session rows.now.rows))) k) ≡ live_in (slice_get pool.now r.0)) }
+    ensures some { IfSome result (λ r. (j : ℕ) → from ≡ slot_of (slice_get (rows_under sessions F.rests session rows.now.rows) j)
+        → option_map (λ e. e.1) (slice_get (live_of pool.now (drop j (rows_under sessions F.rests session rows.now.rows))) k)
+        ≡ live_in (slice_get pool.now r.0)) }
     ensures within { IfSome result (λ r. r.0 < length pool.now) }
     ensures live { IfSome result (λ r. is_some (live_in (slice_get pool.now r.0)) ≡ true) }
     ensures row { IfSome result (λ r. IsRowOf F.rests pool.now rows.now.rows session r.0) }
-    ensures none { IsNone result → (j : ℕ) → from ≡ slot_of (slice_get (rows_under sessions F.rests session rows.now.rows) j) → slice_get (live_of pool.now (drop j (rows_under sessions F.rests session rows.now.rows))) k ≡ None }
+    ensures none { IsNone result → (j : ℕ) → from ≡ slot_of (slice_get (rows_under sessions F.rests session rows.now.rows) j)
+        → slice_get (live_of pool.now (drop j (rows_under sessions F.rests session rows.now.rows))) k ≡ None }
 {
     let mut left = k;
     let mut at = from;

@@ -94,7 +94,9 @@ impl<F: Fact> SoftTable<F> {
     /// Puts a fact in place of that of its key, and leaves what is left of that. False exactly where there is none; nothing
     /// changes then. A dead fact does not count.
     pub fn replace(&mut self, fact: F) -> bool
-        ensures there { result ≡ true → (was : F) × (left : ℕ) × (find (fact_keys F.rests).cmp (F.key_of fact) (facts_by F.key_of self.old.facts) ≡ Some (was, left)) × (facts_by F.key_of self.new.facts ≡ put (fact_keys F.rests).cmp (F.key_of fact) (fact, left) (facts_by F.key_of self.old.facts)) }
+        ensures there { result ≡ true → (was : F) × (left : ℕ)
+            × (find (fact_keys F.rests).cmp (F.key_of fact) (facts_by F.key_of self.old.facts) ≡ Some (was, left))
+            × (facts_by F.key_of self.new.facts ≡ put (fact_keys F.rests).cmp (F.key_of fact) (fact, left) (facts_by F.key_of self.old.facts)) }
         ensures absent { result ≡ false → find (fact_keys F.rests).cmp (F.key_of fact) (facts_by F.key_of self.old.facts) ≡ None }
         ensures unchanged { result ≡ false → self.new ≡ self.old }
         ensures order { IsInOrder F.rests F.key_of self.new }
@@ -146,7 +148,8 @@ impl<F: Fact> SoftTable<F> {
     /// Takes a dead fact out. `None` exactly where none waits; nothing changes then.
     pub fn pull_dead(&mut self) -> Option<F>
         ensures dead { IfSome result (λ f. find (fact_keys F.rests).cmp (F.key_of f) (dead_by F.key_of self.old.dead) ≡ Some f) }
-        ensures pulled { IfSome result (λ f. dead_by F.key_of self.new.dead ≡ where_key (fact_keys F.rests).cmp (λ k. not (eq_by_cmp (fact_keys F.rests).cmp (F.key_of f) k)) (dead_by F.key_of self.old.dead)) }
+        ensures pulled { IfSome result (λ f. dead_by F.key_of self.new.dead ≡ where_key (fact_keys F.rests).cmp
+            (λ k. not (eq_by_cmp (fact_keys F.rests).cmp (F.key_of f) k)) (dead_by F.key_of self.old.dead)) }
         ensures order { IsInOrder F.rests F.key_of self.new }
         ensures facts { self.new.facts ≡ self.old.facts }
         ensures room { self.new.room ≡ self.old.room }

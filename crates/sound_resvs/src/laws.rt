@@ -20,7 +20,8 @@ pub fn toward_is_at_most_the_want()
 /// and next hop, and each unit of each Resv in flight is at most what is wanted over its hop; H is the length of the longest
 /// chain.
 pub fn reservations_are_sound()
-    ensures { (q : ℕ) (w : World) (rs : List (List Step)) → Rounds (machine q) rs w → AreBounds q w → Hold (machine q) 0 rs w ArePathsSound → Hold (machine q) (5 + 5 * longest w.net) rs w AreResvsSound }
+    ensures { (q : ℕ) (w : World) (rs : List (List Step)) → Rounds (machine q) rs w → AreBounds q w → Hold (machine q) 0 rs w ArePathsSound
+        → Hold (machine q) (5 + 5 * longest w.net) rs w AreResvsSound }
 {}
 
 /// From any world within bounds, 10 H + 9 calm rounds on, reservations are sound: first paths are, then reservations.

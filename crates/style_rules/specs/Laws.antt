@@ -99,8 +99,10 @@ pub record TowardIsTheJoinOfTheOpen (st : StyleKind) (at_most : Part → Part �
   pub join : (rs : List Request) (u : UnitOf) (r : Request) → IsOpenRequestOf st rs u r → get (toward st rs) u ≡ all_by part_join (parts_of (open_of (requests_at st u rs)))
   pub above : (rs : List Request) (u : UnitOf) (r : Request) (t : Part) → IsOpenRequestOf st rs u r → get (toward st rs) u ≡ Some t → at_most r.part t
   -- its charge and its packet size are the largest among the open ones
-  pub charge : (rs : List Request) (u : UnitOf) (r : Request) (t : Part) → IsOpenRequestOf st rs u r → get (toward st rs) u ≡ Some t → (q : Request) × IsOpenRequestOf st rs u q × (part_charge q.part ≡ part_charge t)
-  pub most : (rs : List Request) (u : UnitOf) (r : Request) (t : Part) → IsOpenRequestOf st rs u r → get (toward st rs) u ≡ Some t → (q : Request) × IsOpenRequestOf st rs u q × (q.part.flow.most ≡ t.flow.most)
+  pub charge : (rs : List Request) (u : UnitOf) (r : Request) (t : Part) → IsOpenRequestOf st rs u r → get (toward st rs) u ≡ Some t → (q : Request)
+      × IsOpenRequestOf st rs u q × (part_charge q.part ≡ part_charge t)
+  pub most : (rs : List Request) (u : UnitOf) (r : Request) (t : Part) → IsOpenRequestOf st rs u r → get (toward st rs) u ≡ Some t → (q : Request)
+      × IsOpenRequestOf st rs u q × (q.part.flow.most ≡ t.flow.most)
 
 -- where the requests added so far and a part name at most 16 senders, the merger has room for the part
 abbrev pub MergerHasRoom : StyleKind → Type 0

@@ -14,14 +14,16 @@ ghost use Rattle.taken_resvs.specs.Example.{ABlockadeIsLeftOver, SomethingIsRefu
 /// Each arrival is taken: where paths are sound and complete, reservations are sound, and the demands fit, one calm round on each
 /// unit of each Resv that arrives stands at its node as it was asked for. No unit is refused, left out or cut.
 pub fn arrivals_are_taken()
-    ensures { (q : ℕ) (w : World) (rs : List (List Step)) → Rounds (machine q) rs w → AreHosts w → DemandsFit w.net (locals_of w) → AreBounds q w → Hold (machine q) 0 rs w (λ u. ArePathsSound u × (ArePathsComplete u × AreResvsSound u))
+    ensures { (q : ℕ) (w : World) (rs : List (List Step)) → Rounds (machine q) rs w → AreHosts w → DemandsFit w.net (locals_of w) → AreBounds q w
+        → Hold (machine q) 0 rs w (λ u. ArePathsSound u × (ArePathsComplete u × AreResvsSound u))
         → Hold (machine q) 1 rs w (λ u. (s : Step) → is_quiet s ≡ true → TakesAll q s u) }
 {}
 
 /// Errors with a flow are gone: where paths are sound and complete, reservations are sound, and the demands fit, H + 1 calm rounds
 /// on no ResvErr with a flow is in flight. None is made, and each goes on along a chain of hops, one round a hop.
 pub fn errors_are_gone()
-    ensures { (q : ℕ) (w : World) (rs : List (List Step)) → Rounds (machine q) rs w → AreHosts w → DemandsFit w.net (locals_of w) → AreBounds q w → Hold (machine q) 0 rs w (λ u. ArePathsSound u × (ArePathsComplete u × AreResvsSound u))
+    ensures { (q : ℕ) (w : World) (rs : List (List Step)) → Rounds (machine q) rs w → AreHosts w → DemandsFit w.net (locals_of w) → AreBounds q w
+        → Hold (machine q) 0 rs w (λ u. ArePathsSound u × (ArePathsComplete u × AreResvsSound u))
         → Hold (machine q) (suc (longest w.net)) rs w HasNoFlowError }
 {}
 

@@ -41,7 +41,8 @@ AFixedUnitIsItsName net l s = ((w : LocalWant) → In w l.wants → w.style ≡ 
 
 -- a name over two hops that meet in a node is over both together, and then the one follows the other
 abbrev pub CommonNameMakesAFollower : StyleKind → Net → Locals → Session → Type 0
-CommonNameMakesAFollower st net l s = (h h' : LinkHop) (x : Sender) → has (names st net l s (h ∷ [])) x ≡ true → has (names st net l s (h' ∷ [])) x ≡ true → node_of net.ends h'.from ≡ node_of net.ends h.to
+CommonNameMakesAFollower st net l s = (h h' : LinkHop) (x : Sender) → has (names st net l s (h ∷ [])) x ≡ true
+    → has (names st net l s (h' ∷ [])) x ≡ true → node_of net.ends h'.from ≡ node_of net.ends h.to
     → (has (names st net l s (h ∷ h' ∷ [])) x ≡ true) × Follows net s.group h h'
 
 -- where the demands fit, lines that are each under a line of a node's goal are within the limits of its tables, and at each of
@@ -49,4 +50,5 @@ CommonNameMakesAFollower st net l s = (h h' : LinkHop) (x : Sender) → has (nam
 pub record FitBoundsTheGoal (net : Net) (l : Locals) : Type 0 where
   pub limits : (n : ℕ) (st : StyleKind) (ls : List Line) → AreUnder ls (goal net l n) → IsWithinLimits st ls
   pub capacity : (e : ℕ) (x : End) (ls : List Line) → slice_get net.ends e ≡ Some x → AreUnder ls (goal net l (node_of net.ends e)) → held (book_of_end e ls) ≤ x.iface.capacity
-  pub mtu : (e : ℕ) (x : End) (ls : List Line) (k : EntryKey) (p : Part) → slice_get net.ends e ≡ Some x → AreUnder ls (goal net l (node_of net.ends e)) → get (book_of_end e ls) k ≡ Some p → p.flow.most ≤ x.iface.mtu
+  pub mtu : (e : ℕ) (x : End) (ls : List Line) (k : EntryKey) (p : Part) → slice_get net.ends e ≡ Some x
+      → AreUnder ls (goal net l (node_of net.ends e)) → get (book_of_end e ls) k ≡ Some p → p.flow.most ≤ x.iface.mtu

@@ -128,7 +128,10 @@ fn put(
     routing: Routing,
 ) -> Event
     requires { routing ≡ moved_to (draft_of state.old) group source hops.items }
-    ensures ok { (draft_of state.new ≡ record (draft_of state.old) { force = (moved_to (draft_of state.old) group source hops.items).hops; events = map event_of state.old.events.items ++ Reroutes group source hops.items ∷ [] }) }
+    ensures ok { (draft_of state.new ≡ record (draft_of state.old) {
+      force = (moved_to (draft_of state.old) group source hops.items).hops;
+      events = map event_of state.old.events.items ++ Reroutes group source hops.items ∷ [];
+    }) }
     ensures event { IsAdded (draft_of state.old).events result (draft_of state.new).events }
 {
     let event = keep(

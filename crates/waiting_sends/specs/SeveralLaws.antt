@@ -59,7 +59,9 @@ pub record IsPassage (ss : List Session) (dead : Set sender_keys) (f g : Facts) 
 abbrev pub PassageIsTold : Type 0
 PassageIsTold =
     (p : NodeConfig) (ss : List Session) (dead : Set sender_keys) (f g : Facts) (k : Change) → IsPassage ss dead f g k
-    → sends p p f g k ≡ gone_told p f g (keys dead) ++ (flat_map (resv_tear p p f g) (lanes_for ss f) ++ (flat_map (refreshed p g) (keys k.fired) ++ filter_map (resv_send_to p p f g k.fired None) (lanes_for ss g)))
+    → sends p p f g k ≡ gone_told p f g (keys dead)
+    ++ (flat_map (resv_tear p p f g) (lanes_for ss f)
+    ++ (flat_map (refreshed p g) (keys k.fired) ++ filter_map (resv_send_to p p f g k.fired None) (lanes_for ss g)))
 
 -- with other routes than before: over all sessions that have paths, and all senders
 pub record IsRerouting (ss : List Session) (f : Facts) (k : Change) : Type 0 where
@@ -72,4 +74,6 @@ pub record IsRerouting (ss : List Session) (f : Facts) (k : Change) : Type 0 whe
 abbrev pub ReroutingIsTold : Type 0
 ReroutingIsTold =
     (old p : NodeConfig) (ss : List Session) (f : Facts) (k : Change) → IsRerouting ss f k
-    → sends old p f f k ≡ flat_map (tears_of old p f f) (keys (known_offers f)) ++ (flat_map (resv_tear old p f f) (lanes_for ss f) ++ (flat_map (paths_of old p f f k.fired) (known_offers f).rows ++ filter_map (resv_send_to old p f f k.fired None) (lanes_for ss f)))
+    → sends old p f f k ≡ flat_map (tears_of old p f f) (keys (known_offers f))
+    ++ (flat_map (resv_tear old p f f) (lanes_for ss f)
+    ++ (flat_map (paths_of old p f f k.fired) (known_offers f).rows ++ filter_map (resv_send_to old p f f k.fired None) (lanes_for ss f)))

@@ -49,4 +49,5 @@ WaitIsTold =
     → sends p p f (waited p c word f) (act_wait p c word f)
     ≡ gone_told p f (waited p c word f) (keys dead)
     ++ (flat_map (resv_tear p p f (waited p c word f)) (lanes_for ss f)
-    ++ (flat_map (refreshed p (waited p c word f)) (keys (act_wait p c word f).fired) ++ filter_map (resv_send_to p p f (waited p c word f) (act_wait p c word f).fired None) (lanes_for ss (waited p c word f))))
+    ++ (flat_map (refreshed p (waited p c word f)) (keys (act_wait p c word f).fired)
+    ++ filter_map (resv_send_to p p f (waited p c word f) (act_wait p c word f).fired None) (lanes_for ss (waited p c word f))))
