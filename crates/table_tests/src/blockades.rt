@@ -12,39 +12,64 @@ fn session(group: u32) -> Session {
     }
 }
 
+fn hop(addr: u32) -> Target {
+    Target::Hop(1, Addr(addr))
+}
+
 fn wall(r: u64, sub: u16) -> Option<Wall> {
     let flow = Flow::new(Rate::of(r)?, Rate::of(8)?, Peak::Infinite, 1, 1500)?;
     Some(Wall { flow, sub })
 }
 
-#[test]
-fn there_is_room_for_512_and_no_513th(rt: HostRuntime) -> Result<(), Fail> {
-    let mut walls = Blockades::open(rt.alloc()).ok().ok_or("memory")?;
-    let low = wall(4, 2).ok_or("wall")?;
-    let high = wall(10, 3).ok_or("wall")?;
+// Whether 512 walls are set, and a 513th is not.
+fn is_filled(walls: &mut Blockades, low: &Wall) -> bool {
     for addr in 0u32..513 {
-        let answer = walls.set(session(1), Target::Hop(1, Addr(addr)), low, 100);
-        assert!(rt; answer == if addr < 512 { Ok(()) } else { Err(Full) });
+        let answer = if addr < 512 { Ok(()) } else { Err(Full) };
+        if walls.set(session(1), hop(addr), *low, 100) != answer {
+            return false;
+        }
     }
-    assert!(rt; walls.free() == 0);
-    assert!(rt; walls.set(session(1), Target::Hop(1, Addr(7)), high, 200) == Ok(()));
-    assert!(rt; walls.of(session(1), Target::Hop(1, Addr(7))) == Some(high));
-    assert!(rt; walls.of(session(1), Target::Hop(1, Addr(8))) == Some(low));
-    assert!(rt; walls.of(session(1), Target::Hop(1, Addr(512))).is_none());
+    walls.free() == 0
+}
 
-    // The one that was set again outlives the others by 100 ms.
+// Whether one of them is replaced by another, which lives 100 ms longer than the rest.
+fn is_replaced(walls: &mut Blockades, low: &Wall, high: &Wall) -> bool {
+    walls.set(session(1), hop(7), *high, 200) == Ok(())
+        && walls.of(session(1), hop(7)) == Some(*high)
+        && walls.of(session(1), hop(8)) == Some(*low)
+        && walls.of(session(1), hop(512)).is_none()
+}
+
+// Whether there is room when their time is over, and that of the one that was set again.
+fn is_dead(walls: &mut Blockades) -> bool {
     for (ms, free) in [(99u32, 0usize), (1, 511), (99, 511), (1, 512)] {
         walls.advance(ms);
-        assert!(rt; walls.free() == free);
+        if walls.free() != free {
+            return false;
+        }
     }
+    true
+}
+
+// Whether a sender is blockaded in a session, and it alone.
+fn is_kept(walls: &mut Blockades, low: &Wall) -> bool {
     let sender = Target::Sender(Sender {
         addr: Addr(7),
         port: 5004,
     });
-    assert!(rt; walls.set(session(2), sender, low, 4_294_967_295) == Ok(()));
-    assert!(rt; walls.of(session(1), sender).is_none());
-    assert!(rt; walls.of(session(2), Target::Hop(0, Addr(0))).is_none());
-    assert!(rt; walls.of(session(2), sender) == Some(low));
+    walls.set(session(2), sender, *low, 4_294_967_295) == Ok(())
+        && walls.of(session(1), sender).is_none()
+        && walls.of(session(2), Target::Hop(0, Addr(0))).is_none()
+        && walls.of(session(2), sender) == Some(*low)
+}
+
+#[test]
+fn there_is_room_for_512_and_no_513th(rt: HostRuntime) -> Result<(), Fail> {
+    let mut walls = Blockades::open(rt.alloc()).or(Err("memory"))?;
+    let low = wall(4, 2).ok_or("wall")?;
+    let high = wall(10, 3).ok_or("wall")?;
+    assert!(rt; is_filled(&mut walls, &low) && is_replaced(&mut walls, &low, &high));
+    assert!(rt; is_dead(&mut walls) && is_kept(&mut walls, &low));
     walls.clear();
     assert!(rt; walls.free() == 512);
     Ok(())

@@ -6,7 +6,7 @@ use std::cmp::Ordering;
 use std::test::Fail;
 
 // A number under a letter.
-#[derive(Clone, Copy, Debug, PartialEq, Eq)]
+#[derive(Clone, Copy, PartialEq, Eq)]
 struct Note {
     session: Session,
     letter: u8,

@@ -16,36 +16,55 @@ fn parts(r: u64) -> Option<Parts> {
     Some(all)
 }
 
+const SESSION: Session = Session {
+    group: Addr(1),
+    proto: 17,
+    port: 5004,
+};
+
+const HOP: (u8, Addr) = (1, Addr(9));
+
+// Whether a lane was not told of these parts before, and keeps them when it is.
+fn is_told(lanes: &mut LaneTable, style: StyleKind, r: u64) -> Option<bool> {
+    let now = parts(r)?;
+    if lanes.is_said(SESSION, style, HOP, &now) {
+        return Some(false);
+    }
+    if lanes.len() >= 1536 {
+        return None;
+    }
+    lanes.tell(SESSION, style, HOP, now);
+    Some(lanes.is_said(SESSION, style, HOP, &parts(r)?))
+}
+
+// Whether a lane that is told of nothing keeps that.
+fn is_told_of_nothing(lanes: &mut LaneTable) -> bool {
+    if lanes.len() >= 1536 {
+        return false;
+    }
+    lanes.tell(SESSION, StyleKind::Shared, HOP, Parts::new());
+    lanes.is_said(SESSION, StyleKind::Shared, HOP, &Parts::new())
+}
+
+// Whether a lane was told of nothing, or not told.
+fn is_silent(lanes: &LaneTable, style: StyleKind) -> bool {
+    lanes.said(SESSION, style, HOP).is_empty()
+}
+
 #[test]
 fn a_lane_keeps_what_it_was_last_told(rt: HostRuntime) -> Result<(), Fail> {
-    let mut lanes = LaneTable::open(rt.alloc()).ok().ok_or("memory")?;
-    let session = Session {
-        group: Addr(1),
-        proto: 17,
-        port: 5004,
-    };
-    let hop = (1u8, Addr(9));
+    let mut lanes = LaneTable::open(rt.alloc()).or(Err("memory"))?;
     for (r, style) in [
         (10u64, StyleKind::Shared),
         (20, StyleKind::Shared),
         (10, StyleKind::Wild),
     ] {
-        let now = parts(r).ok_or("parts")?;
-        assert!(rt; !lanes.is_said(session, style, hop, &now));
-        if lanes.len() >= 1536 {
-            return Err(Fail::from("no room"));
-        }
-        lanes.tell(session, style, hop, now);
-        assert!(rt; lanes.is_said(session, style, hop, &parts(r).ok_or("parts")?));
+        assert!(rt; is_told(&mut lanes, style, r) == Some(true));
     }
-    assert!(rt; lanes.said(session, StyleKind::Shared, hop).len() == 1);
-    assert!(rt; lanes.said(session, StyleKind::Fixed, hop).is_empty());
-    if lanes.len() >= 1536 {
-        return Err(Fail::from("no room"));
-    }
-    lanes.tell(session, StyleKind::Shared, hop, Parts::new());
-    assert!(rt; lanes.is_said(session, StyleKind::Shared, hop, &Parts::new()));
+    assert!(rt; lanes.said(SESSION, StyleKind::Shared, HOP).len() == 1);
+    assert!(rt; is_silent(&lanes, StyleKind::Fixed));
+    assert!(rt; is_told_of_nothing(&mut lanes));
     lanes.clear();
-    assert!(rt; lanes.said(session, StyleKind::Wild, hop).is_empty());
+    assert!(rt; is_silent(&lanes, StyleKind::Wild));
     Ok(())
 }

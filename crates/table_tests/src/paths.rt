@@ -3,21 +3,27 @@ use path_state::{PathFact, PathTable};
 use rsvp_base::{Addr, Flow, Full, Hop, Peak, Rate, Sender, Session};
 use std::test::Fail;
 
-fn path(group: u32, sender: u16, hop: u32) -> Option<PathFact> {
+const SESSION: Session = Session {
+    group: Addr(1),
+    proto: 17,
+    port: 5004,
+};
+
+fn sender(port: u16) -> Sender {
+    Sender {
+        addr: Addr(1),
+        port,
+    }
+}
+
+fn path(port: u16) -> Option<PathFact> {
     let tspec = Flow::new(Rate::of(10)?, Rate::of(10)?, Peak::Infinite, 1, 1500)?;
     Some(PathFact {
-        session: Session {
-            group: Addr(group),
-            proto: 17,
-            port: 5004,
-        },
-        sender: Sender {
-            addr: Addr(1),
-            port: sender,
-        },
+        session: SESSION,
+        sender: sender(port),
         iface: 0,
         hop: Hop {
-            addr: Addr(hop),
+            addr: Addr(7),
             handle: 0,
         },
         tspec,
@@ -25,35 +31,71 @@ fn path(group: u32, sender: u16, hop: u32) -> Option<PathFact> {
     })
 }
 
-#[test]
-fn a_session_has_16_senders_and_no_17th(rt: HostRuntime) -> Result<(), Fail> {
-    let mut table = PathTable::open(rt.alloc()).ok().ok_or("memory")?;
-    for sender in 0u16..17 {
-        let fact = path(1, sender, 7).ok_or("path")?;
-        let None = table.pull_dead() else {
-            return Err(Fail::from("a dead fact waits"));
-        };
-        let answer = table.learn(fact, 100);
-        assert!(rt; answer == if sender < 16 { Ok(()) } else { Err(Full) });
-    }
-    let first = path(1, 0, 7).ok_or("path")?;
-    assert!(rt; table.at(first.session, 15).map(|f| f.sender.port) == Some(15));
-    assert!(rt; table.at(first.session, 16).is_none());
-    assert!(rt; table.senders_via(first.session, 0, Addr(7)).len() == 16);
-    assert!(rt; table.senders_via(first.session, 1, Addr(7)).is_empty());
-    assert!(rt; table.hops(first.session).as_slice() == [(0u8, Addr(7))].as_slice());
-    assert!(rt; table.has_address(first.session, Addr(1)));
-    assert!(rt; !table.has_address(first.session, Addr(2)));
-    assert!(rt; table.has_session(first.session));
-    assert!(rt; table.tear(first.session, first.sender) == Some(first));
-    assert!(rt; table.find(first.session, first.sender).is_none());
+// What the table answers to a path with 100 ms left, where no dead one waits.
+fn learn(table: &mut PathTable, port: u16) -> Option<Result<(), Full>> {
+    let fact = path(port)?;
     let None = table.pull_dead() else {
-        return Err(Fail::from("a dead fact waits"));
+        return None;
+    };
+    Some(table.learn(fact, 100))
+}
+
+// Whether the paths of 16 senders are learnt, and that of a 17th is not.
+fn is_filled(table: &mut PathTable) -> bool {
+    for port in 0u16..17 {
+        let answer = if port < 16 { Ok(()) } else { Err(Full) };
+        if learn(table, port) != Some(answer) {
+            return false;
+        }
+    }
+    true
+}
+
+// The port of the sender at a place.
+fn port_at(table: &PathTable, place: usize) -> Option<u16> {
+    match table.at(SESSION, place) {
+        Some(fact) => Some(fact.sender.port),
+        None => None,
+    }
+}
+
+// Whether all 16 senders come in by one interface, and none by another.
+fn has_one_hop(table: &PathTable) -> bool {
+    table.senders_via(SESSION, 0, Addr(7)).len() == 16
+        && table.senders_via(SESSION, 1, Addr(7)).is_empty()
+        && table.hops(SESSION).as_slice() == [(0u8, Addr(7))].as_slice()
+}
+
+// Whether a path is torn, and is found no more.
+fn is_torn(table: &mut PathTable) -> bool {
+    let first = path(0);
+    first.is_some()
+        && table.tear(SESSION, sender(0)) == first
+        && table.find(SESSION, sender(0)).is_none()
+}
+
+// Whether paths die with their time, and none waits in a table that is cleared.
+fn is_dead(table: &mut PathTable) -> bool {
+    let None = table.pull_dead() else {
+        return false;
     };
     table.advance(100);
-    assert!(rt; table.at(first.session, 0).is_none());
-    assert!(rt; table.pull_dead().is_some());
+    let is_gone = port_at(table, 0) == None && table.pull_dead().is_some();
     table.clear();
-    assert!(rt; table.pull_dead().is_none());
+    is_gone && table.pull_dead().is_none()
+}
+
+#[test]
+fn a_session_has_16_senders_and_no_17th(rt: HostRuntime) -> Result<(), Fail> {
+    let mut table = PathTable::open(rt.alloc()).or(Err("memory"))?;
+    assert!(rt; is_filled(&mut table));
+    assert!(rt; port_at(&table, 15) == Some(15) && port_at(&table, 16) == None);
+    assert!(rt; has_one_hop(&table));
+    assert!(rt;
+        table.has_address(SESSION, Addr(1))
+            && !table.has_address(SESSION, Addr(2))
+            && table.has_session(SESSION)
+    );
+    assert!(rt; is_torn(&mut table) && is_dead(&mut table));
     Ok(())
 }
