@@ -1,11 +1,13 @@
-//! Tests of a router, message by message. A row is a script, in the language of `rsvpd replay`, and what it writes, with what stands
-//! in flight behind its last line, in the words of `rsvpd show`. What is wanted is worked out by hand from the rules. Above a message
-//! that a script puts in flight stands what its bytes say.
+//! Tests of a router, message by message, and of whole commands (`commands`). A row of a router is a script, in the language of
+//! `rsvpd replay`, and what it writes, with what stands in flight behind its last line, in the words of `rsvpd show`. What is
+//! wanted is worked out by hand from the rules. Above a message that a script puts in flight stands what its bytes say.
 //!
 //! There is nothing here but tests: a crate that has tests is proved twice, and the crates of a router are not. It is a program,
 //! which does nothing, and no library: of a library the kit reads all sources that it stands on twice more.
 #![tactic(auto)]
 
+#[cfg(test)]
+mod commands;
 #[cfg(test)]
 mod errors;
 #[cfg(test)]

@@ -6,7 +6,7 @@ use crate::trees::{Forest, Until};
 use crate::vectors::Vector;
 
 /// What is timed.
-#[derive(Clone, Copy, Debug, PartialEq, Eq)]
+#[derive(Clone, Copy)]
 pub enum Verb {
     Read,
     Write,
@@ -17,7 +17,7 @@ pub enum Verb {
 }
 
 /// What is timed, and how many times it is done.
-#[derive(Clone, Copy, Debug, PartialEq, Eq)]
+#[derive(Clone, Copy)]
 pub struct Command {
     pub verb: Verb,
     pub times: u32,

@@ -26,8 +26,6 @@ mod pools;
 mod reservations;
 mod sample;
 mod tables;
-#[cfg(test)]
-mod tests;
 mod trees;
 mod vectors;
 mod work;

@@ -13,7 +13,7 @@ use rsvp_messages::{
 use rsvp_objects::{Adspec, Packet};
 
 /// Which message, and whether it is written or read.
-#[derive(Clone, Copy, Debug, PartialEq, Eq)]
+#[derive(Clone, Copy)]
 pub struct Speech {
     pub vector: Vector,
     pub is_written: bool,
@@ -41,8 +41,10 @@ fn decode_times(packet: &mut Packet, times: u32) -> Option<Served> {
     let mut all = Served::default();
     for k in 0..times {
         turn_bytes(packet, step(k))?;
-        let message = decode(packet.bytes()).ok()?;
-        all = both(all, once(weight(&message)));
+        match decode(packet.bytes()) {
+            Ok(message) => all = both(all, once(weight(&message))),
+            Err(_) => return None,
+        }
     }
     Some(all)
 }

@@ -5,7 +5,7 @@ use soft_pool::Pool;
 use std::alloc::Global;
 
 /// How many values live while time passes.
-#[derive(Clone, Copy, Debug, PartialEq, Eq)]
+#[derive(Clone, Copy)]
 pub enum Living {
     One,
     /// One in each slot.

@@ -7,7 +7,7 @@ use std::alloc::Global;
 use style_rules::{Fixed, Parts, Shared, UpLine, Upstream, Wall};
 
 /// Which calls are made.
-#[derive(Clone, Copy, Debug, PartialEq, Eq)]
+#[derive(Clone, Copy)]
 pub enum Calls {
     /// Each reservation is put into an empty table.
     Fill,
@@ -24,7 +24,7 @@ pub enum Calls {
 }
 
 /// Which calls are made, and of which table.
-#[derive(Clone, Copy, Debug, PartialEq, Eq)]
+#[derive(Clone, Copy)]
 pub struct Desk {
     /// The reservations are shared ones for 16 senders, each of a next hop of its own; or fixed ones for a sender each, 16
     /// of a next hop.
@@ -33,7 +33,7 @@ pub struct Desk {
 }
 
 /// How many calls were made, and a sum over what came of them.
-#[derive(Clone, Copy, Debug, Default, PartialEq, Eq)]
+#[derive(Clone, Copy, Default)]
 pub struct Served {
     pub calls: u64,
     pub sum: u64,

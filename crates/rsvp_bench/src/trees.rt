@@ -8,7 +8,7 @@ use std::alloc::Global;
 use tree_routing::{End, Routing, Topology};
 
 /// How far the work goes.
-#[derive(Clone, Copy, Debug, PartialEq, Eq)]
+#[derive(Clone, Copy)]
 pub enum Until {
     /// All hops are added, with the loop check at each.
     Grown,
@@ -21,7 +21,7 @@ pub enum Until {
 }
 
 /// Whose group the trees are of, and how far the work goes.
-#[derive(Clone, Copy, Debug, PartialEq, Eq)]
+#[derive(Clone, Copy)]
 pub struct Forest {
     /// Each tree has a group of its own; or all have one group, in which 11 of the sources send to each session.
     pub is_apart: bool,
@@ -29,7 +29,7 @@ pub struct Forest {
 }
 
 /// How many hops were added, and a sum over what came of it.
-#[derive(Clone, Copy, Debug, Default, PartialEq, Eq)]
+#[derive(Clone, Copy, Default)]
 pub struct Grown {
     pub hops: u64,
     pub sum: u64,

@@ -1,7 +1,7 @@
 //! The messages that are read and written: one of each kind, and a Path with an ADSPEC, each with its checksum.
 
 /// Which message.
-#[derive(Clone, Copy, Debug, PartialEq, Eq)]
+#[derive(Clone, Copy)]
 pub enum Vector {
     Path,
     PathAdspec,

@@ -7,7 +7,7 @@ use rsvp_base::Full;
 use rsvp_objects::{ObjErr, Object, Packet, next_object, put_object};
 
 /// How many objects were read or written, and the sum of their weights.
-#[derive(Clone, Copy, Debug, Default, PartialEq, Eq)]
+#[derive(Clone, Copy, Default)]
 pub struct Done {
     pub objects: u64,
     pub sum: u64,

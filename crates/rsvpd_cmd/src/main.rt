@@ -6,8 +6,6 @@
 #![tactic(auto)]
 
 mod progress;
-#[cfg(test)]
-mod tests;
 
 use crate::progress::Progress;
 use byte_streams::{Sink, Source, StdSink, StdSource};
