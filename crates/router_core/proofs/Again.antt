@@ -9,7 +9,7 @@ use Rattle.rsvp_base.specs.Orders.{senders}
 use Rattle.rsvp_base.specs.SessionLimits.{has_room_at}
 use Rattle.rsvp_base.specs.TokenBucket.{TokenBucket}
 use Rattle.rsvp_base.specs.declared.session.Sender.{Sender}
-use Rattle.rsvp_base.proofs.Tables.{get-changed, then_do}
+use Rattle.rsvp_base.proofs.Tables.{get-changed, get-put_in_same, then_do}
 use Rattle.rsvp_messages.specs.declared.message.PathMsg.{PathMsg}
 use Rattle.style_rules.specs.Lines.{NextHop}
 use Rattle.style_rules.specs.Toward.{or_else}
@@ -29,10 +29,12 @@ use Rattle.node_sends.specs.Changed.{IsChangedFor}
 use Rattle.node_sends.specs.Told.{offered, told_gone, told_new}
 use Rattle.node_sends.proofs.Apart.{changed_at}
 use Rattle.node_sends.proofs.Quiet.{toward_refreshed}
+use Rattle.lane_telling.proofs.Sent.{own_seen, path_seen}
 use Rattle.node_acting.specs.Coming.{fact_of, with_path}
 use Rattle.node_acting.proofs.Doing.{path_comes}
 use Rattle.node_acting.proofs.Keeping.{put_there}
 use Rattle.node_acting.proofs.Ruled.{without_marks}
+use Rattle.router_core.specs.Renewing.{offer_by}
 use Rattle.router_core.proofs.Quiet.{marks_wait, quiet_sends}
 
 -- the path that came by the hop
@@ -40,8 +42,18 @@ stood : (c : ℕ) (k : SenderKey) (hop : NextHop) (w : Option (PathFact × ℕ))
 stood c k hop None e = cc
 stood c k hop (Some x) e = (x, refl, came_told hop (record { iface = x.0.iface; hop = x.0.hop; tspec = x.0.tspec; police = x.0.police; dies = c + x.1 }) e)
 
+-- what is offered of a sender that has this path
+pub offers : (c : ℕ) (n : State) (k : SenderKey) (own : Option TokenBucket) → own ≡ get n.senders k → (f : PathFact) → option_map (λ e. e.0) (get n.paths k) ≡ Some f → Some (offer_by own f.tspec) ≡ offered (facts_of c n) k
+offers c n k (Some tspec) is f at = own_seen c n k tspec (sym is)
+offers c n k None is f at = path_seen c n k (sym is) (Some f) (sym at)
+
 -- n is what there was, w what the tables have then
 module _ (n w : State) (k : SenderKey) (fact : PathFact) (left : ℕ) (said : Said) (now : w ≡ record (with_path n k fact left) { said = said }) (by : (c : ℕ) → is_path_by (fact.iface, fact.hop.addr) (get (facts_of c n).paths k) ≡ true) where
+  -- what is offered then
+  pub offers_again : (c : ℕ) (own : Option TokenBucket) → own ≡ get n.senders k → Some (offer_by own fact.tspec) ≡ offered (facts_of c w) k
+  offers_again c own is =
+      offers c w k own (is ∙ ap (λ (z : State). get z.senders k) (sym now)) fact (ap (λ (z : State). option_map (λ (e : PathFact × ℕ). e.0) (get z.paths k)) now ∙ ap (option_map (λ (e : PathFact × ℕ). e.0)) (get-put_in_same path_keys n.paths k (fact, left)))
+
   pub toward_again : (c : ℕ) (p : NodeConfig) (l : Lane) → toward p (facts_of c n) l ≡ toward p (facts_of c w) l
   toward_again c p l =
       let old = stood c k (fact.iface, fact.hop.addr) (get n.paths k) (sym (ap (is_path_by (fact.iface, fact.hop.addr)) (get-changed path_keys (path_at c) n.paths k)) ∙ by c) in

@@ -42,6 +42,10 @@ module _ (old new : Tables) (rest : new ≡ record old { senders = new.senders; 
   pub still_of_place : IsOfPlace old → IsOfPlace new
   still_of_place was = subst IsOfPlace (sym rest) was
 
+-- where they have other paths alone
+pub paths_only : (old new : Tables) → new ≡ record old { paths = new.paths } → new ≡ record old { senders = new.senders; paths = new.paths; due = new.due }
+paths_only old new rest = rest ∙ ap (λ (t : Tables). record old { senders = t.senders; paths = t.paths; due = t.due }) (sym rest)
+
 -- ---- tables with other wants
 module _ (old new : Tables) (rest : new ≡ record old { wants = new.wants }) where
   pub wants_sound : AreSound old → AreSound new

@@ -1,5 +1,6 @@
 //! Paths and PathTears arrive.
 ghost use Rattle.std.specs.Prelude.{◌≡◌, ℕ, true, fold, Some, IfOk, IfErr};
+ghost use Rattle.std.specs.Option.{option_map};
 ghost use Rattle.rsvp_base.specs.Table.{get};
 ghost use Rattle.rsvp_messages.specs.declared.message.Message.TheVariants as message_of;
 ghost use Rattle.router_rules.specs.Act.{act};
@@ -10,11 +11,14 @@ ghost use Rattle.router_rules.specs.Rule.{facts_after, heard_after, sent_after};
 ghost use Rattle.node_facts.specs.Changes.{path_came, tear_came};
 ghost use Rattle.router_rules.specs.declared.answers.Heard.TheVariants.{Dropped};
 ghost use Rattle.node_facts.specs.State.{State, facts_at, facts_of};
+ghost use Rattle.node_telling.specs.Offering.{as_offer};
+ghost use Rattle.router_core.specs.Renewing.{offer_by};
 
 use crate::node::Node;
 use lane_telling::{offered, tell_sender};
-use node_acting::{drop_path, has_path_by, learn_path};
-use node_telling::{Config, Outbox, tell_new};
+use node_acting::{drop_path, has_path_by, learn_path, path_by, renew_path};
+use node_telling::{Config, Offered, Outbox, tell_new};
+use path_state::PathFact;
 use router_rules::{Heard, Why};
 use rsvp_base::{Flow, Sender};
 use rsvp_messages::{PathMsg, PathTearMsg};
@@ -34,8 +38,8 @@ impl Node {
         };
         let session = message.session;
         let hop = message.hop.addr;
-        if has_path_by(&self.tables.paths, session, sender, iface, hop) {
-            return self.renew_path(iface, message, sender, tspec, out);
+        if let Some(was) = path_by(&self.tables.paths, session, sender, iface, hop) {
+            return self.renew_path(iface, message, sender, tspec, &was, out);
         }
         let near = self.tables.paths.hops(session);
         let before = offered(&self.tables, session, sender);
@@ -62,10 +66,12 @@ impl Node {
         message: &PathMsg,
         sender: Sender,
         tspec: Flow,
+        was: &PathFact,
         out: &mut O,
     ) -> Heard
         requires sender { message.now.sender ≡ Some (sender, tspec) }
         requires inward { comes_in self.old.place message.now.session iface sender ≡ true }
+        requires was { option_map (λ e. e.0) (get self.old.paths (message.now.session, sender)) ≡ Some was.now }
         requires stands { (c : ℕ) → is_path_by (iface, message.now.hop.addr) (get (facts_of c self.old).paths (message.now.session, sender)) ≡ true }
         ensures facts { (c : ℕ) → facts_at c self.new ≡ facts_after self.old.place self.old.place c (path_came iface message.now) (facts_at c self.old) }
         ensures heard { (c : ℕ) → result ≡ heard_after self.old.place c iface message.now.session.group (Spelt (message_of.Path message.now)) (facts_at c self.old) }
@@ -73,11 +79,10 @@ impl Node {
         ensures place { self.new.place ≡ self.old.place }
     {
         let session = message.session;
-        let before = offered(&self.tables, session, sender);
-        if !learn_path(&mut self.tables, iface, message, sender, tspec) {
-            return Heard::Dropped(Why::Full);
-        }
-        let after = offered(&self.tables, session, sender);
+        let own = self.tables.senders.find(session, sender);
+        renew_path(&mut self.tables, iface, message, sender, tspec);
+        let before = Some(offer_by(&own, was.tspec));
+        let after = Some(offer_by(&own, tspec));
         tell_new(&self.tables.config, session, sender, &before, &after, out);
         Heard::Taken
     }
@@ -111,6 +116,19 @@ impl Node {
             out,
         );
         Heard::Taken
+    }
+}
+
+// What is offered of a sender that has a path with this flow, by what it announces as a local one.
+fn offer_by(own: &Option<Flow>, tspec: Flow) -> Offered
+    ensures { as_offer result ≡ offer_by own.now tspec }
+{
+    match *own {
+        Some(tspec) => Offered { tspec, local: true },
+        None => Offered {
+            tspec,
+            local: false,
+        },
     }
 }
 

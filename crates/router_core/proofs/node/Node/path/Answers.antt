@@ -1,8 +1,11 @@
-use Rattle.std.proofs.Common.{sym, ap, ◌∙◌, refl}
-use Rattle.rsvp_base.specs.Table.{empty}
+use Rattle.std.proofs.Common.{ℕ, is_some, sym, ap, ◌∙◌, refl}
+use Rattle.std.specs.Option.{option_map}
+use Rattle.path_state.specs.declared.fact.PathFact.{PathFact}
+use Rattle.rsvp_base.specs.Table.{empty, get}
 use Rattle.rsvp_messages.specs.declared.message.Message.TheVariants as message
 use Rattle.router_rules.specs.Facts.{SenderKey}
 use Rattle.router_rules.specs.Inputs.{Spelt}
+use Rattle.router_rules.specs.Paths.{is_path_by}
 use Rattle.router_rules.specs.Rule.{heard_after}
 use Rattle.router_rules.specs.declared.answers.Heard.TheVariants as heard
 use Rattle.router_rules.specs.declared.answers.Why.TheVariants as why
@@ -32,6 +35,16 @@ pub returns-in-Err-clause-sent : goal.returns-in-Err-clause-sent
 returns-in-Err-clause-sent g c = λ clock.
     let n = state_of c.self.inside.tables c.self.inside.said in
     refused_sent n c.args.self.now c.self.view_is (λ z. path_came c.args.iface c.args.message.now) refl (heard.Dropped c.in-Err.why) clock c.self.inside.settled (c.in-Err.ensures.err clock n refl) g.O.Outbox.posted c.args.out.now
+
+pub renew_path-requires-clause-was : goal.renew_path-requires-clause-was
+renew_path-requires-clause-was g c =
+    ap (λ (z : State). option_map (λ (e : PathFact × ℕ). e.0) (get z.paths (c.args.message.now.session, c.in-Ok.named.0))) (sym c.self.view_is) ∙ c.in-Some.ensures.fact
+
+pub renew_path-requires-clause-stands : goal.renew_path-requires-clause-stands
+renew_path-requires-clause-stands g c = λ clock.
+    let m = c.args.message.now in
+    ap (λ (z : State). is_path_by (c.args.iface, m.hop.addr) (get (facts_of clock z).paths (m.session, c.in-Ok.named.0))) (sym c.self.view_is)
+    ∙ sym (c.path_by.ensures.by clock (state_of c.self.inside.tables c.self.inside.said) refl) ∙ ap is_some c.in-Some.is
 
 pub learn_path-requires-clause-pulled : goal.learn_path-requires-clause-pulled
 learn_path-requires-clause-pulled g c =
