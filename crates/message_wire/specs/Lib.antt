@@ -5,6 +5,7 @@ pub mod Places
 pub mod Messages
 pub mod Grammar
 pub mod Hints
+pub mod Finishing
 pub mod Spells
 pub mod Laws
 pub mod Taking

@@ -7,8 +7,8 @@ ghost use Rattle.message_wire.specs.Hints.{IsHint};
 ghost use Rattle.message_wire.specs.Spells.{kind_with, header_of, Spells, IsFirstFault};
 
 use crate::checksum::is_right;
-use crate::hinting::{hint, no_hint};
-use crate::making::message;
+use crate::hinting::no_hint;
+use crate::making::{path, path_err, path_tear, resv, resv_conf, resv_err, resv_tear, told};
 use crate::reading::{HEADER, walk};
 use crate::seen::Seen;
 use byteorder::{BigEndian, ByteOrder};
@@ -48,25 +48,15 @@ pub fn decode(bytes: &[u8]) -> Result<Message, MsgErr>
         Ok(()) => {}
         Err(fault) => return Err(told(kind, fault, bytes)),
     }
-    match message(kind, &mut seen) {
-        Ok(message) => return Ok(message),
-        Err(fault) => return Err(told(kind, fault, bytes)),
-    }
-}
-
-// A fault of the objects of a message, with what could be read.
-#[cold]
-fn told(kind: Kind, fault: Fault, bytes: &[u8]) -> MsgErr
-    requires long { 8 ≤ length bytes.now }
-    requires short { length bytes.now ≤ 65535 }
-    ensures fault { result.fault ≡ fault }
-    ensures kind { result.kind ≡ Some kind }
-    ensures hint { IsHint bytes.now result.hint }
-{
-    MsgErr {
-        fault,
-        kind: Some(kind),
-        hint: hint(bytes),
+    // Each kind returns by itself, so that no message is moved to where all kinds meet.
+    match kind {
+        Kind::Path => return path(&mut seen, bytes),
+        Kind::Resv => return resv(&mut seen, bytes),
+        Kind::PathErr => return path_err(&seen, bytes),
+        Kind::ResvErr => return resv_err(&mut seen, bytes),
+        Kind::PathTear => return path_tear(&seen, bytes),
+        Kind::ResvTear => return resv_tear(&mut seen, bytes),
+        Kind::ResvConf => return resv_conf(&seen, bytes),
     }
 }
 

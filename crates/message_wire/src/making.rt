@@ -1,44 +1,47 @@
-//! Messages from what their objects say.
-ghost use Rattle.std.specs.Prelude.{◌≡◌};
-ghost use Rattle.message_wire.specs.Messages.{needed, sender_of, fixed_of, ask_of, tear_of, blame_by_flow, blame_of, path_of, resv_of, path_err_of, resv_err_of, path_tear_of, resv_tear_of, resv_conf_of, message_of};
+//! Messages from what their objects say, or the lowest class that is missing, with what could be read. What is said by lists is
+//! moved out.
+//!
+//! Each kind has a function of its own, which makes its message where it is answered: a message is large, and each further place
+//! for one would be cleared and copied.
+ghost use Rattle.std.specs.Prelude.{◌≡◌, ◌≤◌, length, Some};
+ghost use Rattle.rsvp_messages.specs.declared.fault.Fault.TheVariants as AFault;
+ghost use Rattle.rsvp_messages.specs.declared.message.Kind.TheVariants as AKind;
+ghost use Rattle.message_wire.specs.Finishing.{Finishes};
+ghost use Rattle.message_wire.specs.Hints.{IsHint};
+ghost use Rattle.message_wire.specs.Messages.{needed, sender_of, tear_of, blame_by_flow, blame_of, path_of, resv_of, path_err_of, resv_err_of, path_tear_of, resv_tear_of, resv_conf_of};
 
 use crate::filters::Filters;
+use crate::hinting::hint;
 use crate::listing::{first_named, named, pairs};
 use crate::seen::Seen;
 use crate::table::class;
 use rsvp_base::{Flow, Part, Sender, Senders, StyleKind};
 use rsvp_messages::{
-    Ask, Blame, Fault, FixedList, Kind, Message, PathErrMsg, PathMsg, PathTearMsg, ResvConfMsg,
-    ResvErrMsg, ResvMsg, ResvTearMsg, Tear,
+    Ask, Blame, Fault, FixedList, Kind, Message, MsgErr, PathErrMsg, PathMsg, PathTearMsg,
+    ResvConfMsg, ResvErrMsg, ResvMsg, ResvTearMsg, Tear,
 };
 
-/// The message of all objects, or the lowest class that is missing. What is said by lists is moved out.
-//
-// Each kind returns by itself, so that no message is moved to where all kinds meet.
-#[tactic(auto, unfolding(crate::specs::Messages::message_of))]
-#[inline(always)]
-pub fn message(kind: Kind, seen: &mut Seen) -> Result<Message, Fault>
-    ensures { result ≡ message_of kind seen.old }
+/// What is told of a Path.
+#[tactic(auto, unfolding(crate::specs::Messages::message_of, crate::specs::Messages::path_of))]
+#[inline(never)]
+pub fn path(seen: &mut Seen, bytes: &[u8]) -> Result<Message, MsgErr>
+    requires long { 8 ≤ length bytes.now }
+    requires short { length bytes.now ≤ 65535 }
+    ensures { Finishes AKind.Path seen.old bytes.now result }
 {
-    match kind {
-        Kind::Path => return path(seen),
-        Kind::Resv => return resv(seen),
-        Kind::PathErr => return path_err(seen),
-        Kind::ResvErr => return resv_err(seen),
-        Kind::PathTear => return path_tear(seen),
-        Kind::ResvTear => return resv_tear(seen),
-        Kind::ResvConf => return resv_conf(seen),
-    }
-}
-
-#[tactic(auto, unfolding(crate::specs::Messages::path_of))]
-fn path(seen: &mut Seen) -> Result<Message, Fault>
-    ensures { result ≡ path_of seen.old }
-{
-    let (session, police) = needed(class::SESSION, seen.session)?;
-    let hop = needed(class::RSVP_HOP, seen.hop)?;
-    let period = needed(class::TIME_VALUES, seen.period)?;
-    let sender = sender_with(seen.template, seen.tspec)?;
+    let Some((session, police)) = seen.session else {
+        return Err(lacking(Kind::Path, class::SESSION, bytes));
+    };
+    let Some(hop) = seen.hop else {
+        return Err(lacking(Kind::Path, class::RSVP_HOP, bytes));
+    };
+    let Some(period) = seen.period else {
+        return Err(lacking(Kind::Path, class::TIME_VALUES, bytes));
+    };
+    let sender = match sender_with(seen.template, seen.tspec) {
+        Ok(sender) => sender,
+        Err(fault) => return Err(told(Kind::Path, fault, bytes)),
+    };
     Ok(Message::Path(PathMsg {
         session,
         police,
@@ -49,32 +52,20 @@ fn path(seen: &mut Seen) -> Result<Message, Fault>
     }))
 }
 
-#[tactic(auto, unfolding(crate::specs::Messages::resv_of))]
-fn resv(seen: &mut Seen) -> Result<Message, Fault>
-    ensures { result ≡ resv_of seen.old }
+/// What is told of a PathErr.
+#[tactic(auto, unfolding(crate::specs::Messages::message_of, crate::specs::Messages::path_err_of))]
+#[inline(never)]
+pub fn path_err(seen: &Seen, bytes: &[u8]) -> Result<Message, MsgErr>
+    requires long { 8 ≤ length bytes.now }
+    requires short { length bytes.now ≤ 65535 }
+    ensures { Finishes AKind.PathErr seen.now bytes.now result }
 {
-    let (session, _) = needed(class::SESSION, seen.session)?;
-    let hop = needed(class::RSVP_HOP, seen.hop)?;
-    let period = needed(class::TIME_VALUES, seen.period)?;
-    let style = needed(class::STYLE, seen.style)?;
-    let flow = needed(class::FLOWSPEC, seen.flow)?;
-    let scope = seen.scope.take();
-    let ask = ask(scope, seen.due, &seen.filters, flow, style)?;
-    Ok(Message::Resv(ResvMsg {
-        session,
-        hop,
-        period,
-        confirm: seen.confirm,
-        ask,
-    }))
-}
-
-#[tactic(auto, unfolding(crate::specs::Messages::path_err_of))]
-fn path_err(seen: &Seen) -> Result<Message, Fault>
-    ensures { result ≡ path_err_of seen.now }
-{
-    let (session, _) = needed(class::SESSION, seen.session)?;
-    let err = needed(class::ERROR_SPEC, seen.error)?;
+    let Some((session, _)) = seen.session else {
+        return Err(lacking(Kind::PathErr, class::SESSION, bytes));
+    };
+    let Some(err) = seen.error else {
+        return Err(lacking(Kind::PathErr, class::ERROR_SPEC, bytes));
+    };
     Ok(Message::PathErr(PathErrMsg {
         session,
         err,
@@ -82,16 +73,52 @@ fn path_err(seen: &Seen) -> Result<Message, Fault>
     }))
 }
 
-#[tactic(auto, unfolding(crate::specs::Messages::resv_err_of))]
-fn resv_err(seen: &mut Seen) -> Result<Message, Fault>
-    ensures { result ≡ resv_err_of seen.old }
+/// What is told of a PathTear.
+#[tactic(auto, unfolding(crate::specs::Messages::message_of, crate::specs::Messages::path_tear_of))]
+#[inline(never)]
+pub fn path_tear(seen: &Seen, bytes: &[u8]) -> Result<Message, MsgErr>
+    requires long { 8 ≤ length bytes.now }
+    requires short { length bytes.now ≤ 65535 }
+    ensures { Finishes AKind.PathTear seen.now bytes.now result }
 {
-    let (session, _) = needed(class::SESSION, seen.session)?;
-    let hop = needed(class::RSVP_HOP, seen.hop)?;
-    let err = needed(class::ERROR_SPEC, seen.error)?;
-    let style = needed(class::STYLE, seen.style)?;
+    let Some((session, _)) = seen.session else {
+        return Err(lacking(Kind::PathTear, class::SESSION, bytes));
+    };
+    let Some(hop) = seen.hop else {
+        return Err(lacking(Kind::PathTear, class::RSVP_HOP, bytes));
+    };
+    Ok(Message::PathTear(PathTearMsg {
+        session,
+        hop,
+        sender: seen.template,
+    }))
+}
+
+/// What is told of a ResvErr.
+#[tactic(auto, unfolding(crate::specs::Messages::message_of, crate::specs::Messages::resv_err_of))]
+#[inline(never)]
+pub fn resv_err(seen: &mut Seen, bytes: &[u8]) -> Result<Message, MsgErr>
+    requires long { 8 ≤ length bytes.now }
+    requires short { length bytes.now ≤ 65535 }
+    ensures { Finishes AKind.ResvErr seen.old bytes.now result }
+{
+    let Some((session, _)) = seen.session else {
+        return Err(lacking(Kind::ResvErr, class::SESSION, bytes));
+    };
+    let Some(hop) = seen.hop else {
+        return Err(lacking(Kind::ResvErr, class::RSVP_HOP, bytes));
+    };
+    let Some(err) = seen.error else {
+        return Err(lacking(Kind::ResvErr, class::ERROR_SPEC, bytes));
+    };
+    let Some(style) = seen.style else {
+        return Err(lacking(Kind::ResvErr, class::STYLE, bytes));
+    };
     let scope = seen.scope.take();
-    let blame = blame(scope, &seen.filters, seen.flow, style)?;
+    let blame = match blame(scope, &seen.filters, seen.flow, style) {
+        Ok(blame) => blame,
+        Err(fault) => return Err(told(Kind::ResvErr, fault, bytes)),
+    };
     Ok(Message::ResvErr(ResvErrMsg {
         session,
         hop,
@@ -100,47 +127,189 @@ fn resv_err(seen: &mut Seen) -> Result<Message, Fault>
     }))
 }
 
-#[tactic(auto, unfolding(crate::specs::Messages::path_tear_of))]
-fn path_tear(seen: &Seen) -> Result<Message, Fault>
-    ensures { result ≡ path_tear_of seen.now }
+/// What is told of a ResvTear.
+#[tactic(auto, unfolding(crate::specs::Messages::message_of, crate::specs::Messages::resv_tear_of))]
+#[inline(never)]
+pub fn resv_tear(seen: &mut Seen, bytes: &[u8]) -> Result<Message, MsgErr>
+    requires long { 8 ≤ length bytes.now }
+    requires short { length bytes.now ≤ 65535 }
+    ensures { Finishes AKind.ResvTear seen.old bytes.now result }
 {
-    let (session, _) = needed(class::SESSION, seen.session)?;
-    let hop = needed(class::RSVP_HOP, seen.hop)?;
-    Ok(Message::PathTear(PathTearMsg {
-        session,
-        hop,
-        sender: seen.template,
-    }))
-}
-
-#[tactic(auto, unfolding(crate::specs::Messages::resv_tear_of))]
-fn resv_tear(seen: &mut Seen) -> Result<Message, Fault>
-    ensures { result ≡ resv_tear_of seen.old }
-{
-    let (session, _) = needed(class::SESSION, seen.session)?;
-    let hop = needed(class::RSVP_HOP, seen.hop)?;
-    let style = needed(class::STYLE, seen.style)?;
+    let Some((session, _)) = seen.session else {
+        return Err(lacking(Kind::ResvTear, class::SESSION, bytes));
+    };
+    let Some(hop) = seen.hop else {
+        return Err(lacking(Kind::ResvTear, class::RSVP_HOP, bytes));
+    };
+    let Some(style) = seen.style else {
+        return Err(lacking(Kind::ResvTear, class::STYLE, bytes));
+    };
     let scope = seen.scope.take();
-    let tear = tear(scope, &seen.filters, style)?;
+    let tear = match tear(scope, &seen.filters, style) {
+        Ok(tear) => tear,
+        Err(fault) => return Err(told(Kind::ResvTear, fault, bytes)),
+    };
     Ok(Message::ResvTear(ResvTearMsg { session, hop, tear }))
 }
 
-#[tactic(auto, unfolding(crate::specs::Messages::resv_conf_of))]
-fn resv_conf(seen: &Seen) -> Result<Message, Fault>
-    ensures { result ≡ resv_conf_of seen.now }
+/// What is told of a Resv.
+//
+// Each style returns by itself, so that no list is moved to where all styles meet.
+#[tactic(auto, unfolding(crate::specs::Messages::message_of, crate::specs::Messages::resv_of))]
+#[inline(never)]
+pub fn resv(seen: &mut Seen, bytes: &[u8]) -> Result<Message, MsgErr>
+    requires long { 8 ≤ length bytes.now }
+    requires short { length bytes.now ≤ 65535 }
+    ensures { Finishes AKind.Resv seen.old bytes.now result }
 {
-    let (session, _) = needed(class::SESSION, seen.session)?;
-    let err = needed(class::ERROR_SPEC, seen.error)?;
-    let style = needed(class::STYLE, seen.style)?;
-    let flow = needed(class::FLOWSPEC, seen.flow)?;
-    let ask = ask(None, seen.due, &seen.filters, flow, style)?;
-    let confirm = needed(class::RESV_CONFIRM, seen.confirm)?;
-    Ok(Message::ResvConf(ResvConfMsg {
-        session,
-        err,
-        confirm,
-        ask,
-    }))
+    let Some((session, _)) = seen.session else {
+        return Err(lacking(Kind::Resv, class::SESSION, bytes));
+    };
+    let Some(hop) = seen.hop else {
+        return Err(lacking(Kind::Resv, class::RSVP_HOP, bytes));
+    };
+    let Some(period) = seen.period else {
+        return Err(lacking(Kind::Resv, class::TIME_VALUES, bytes));
+    };
+    let Some(style) = seen.style else {
+        return Err(lacking(Kind::Resv, class::STYLE, bytes));
+    };
+    let Some(flow) = seen.flow else {
+        return Err(lacking(Kind::Resv, class::FLOWSPEC, bytes));
+    };
+    match style {
+        StyleKind::Wild => {
+            let scope = seen.scope.take();
+            return Ok(Message::Resv(ResvMsg {
+                session,
+                hop,
+                period,
+                confirm: seen.confirm,
+                ask: Ask::Wild { scope, flow },
+            }));
+        }
+        StyleKind::Fixed => {
+            if seen.due {
+                return Err(lacking(Kind::Resv, class::FILTER_SPEC, bytes));
+            }
+            let Some(list) = pairs(&seen.filters) else {
+                return Err(lacking(Kind::Resv, class::FILTER_SPEC, bytes));
+            };
+            return Ok(Message::Resv(ResvMsg {
+                session,
+                hop,
+                period,
+                confirm: seen.confirm,
+                ask: Ask::Fixed(list),
+            }));
+        }
+        StyleKind::Shared => {
+            let Some(senders) = named(&seen.filters) else {
+                return Err(lacking(Kind::Resv, class::FILTER_SPEC, bytes));
+            };
+            return Ok(Message::Resv(ResvMsg {
+                session,
+                hop,
+                period,
+                confirm: seen.confirm,
+                ask: Ask::Shared(Part { senders, flow }),
+            }));
+        }
+    }
+}
+
+/// What is told of a ResvConf.
+#[tactic(auto, unfolding(crate::specs::Messages::message_of, crate::specs::Messages::resv_conf_of))]
+#[inline(never)]
+pub fn resv_conf(seen: &Seen, bytes: &[u8]) -> Result<Message, MsgErr>
+    requires long { 8 ≤ length bytes.now }
+    requires short { length bytes.now ≤ 65535 }
+    ensures { Finishes AKind.ResvConf seen.now bytes.now result }
+{
+    let Some((session, _)) = seen.session else {
+        return Err(lacking(Kind::ResvConf, class::SESSION, bytes));
+    };
+    let Some(err) = seen.error else {
+        return Err(lacking(Kind::ResvConf, class::ERROR_SPEC, bytes));
+    };
+    let Some(style) = seen.style else {
+        return Err(lacking(Kind::ResvConf, class::STYLE, bytes));
+    };
+    let Some(flow) = seen.flow else {
+        return Err(lacking(Kind::ResvConf, class::FLOWSPEC, bytes));
+    };
+    match style {
+        StyleKind::Wild => {
+            let Some(confirm) = seen.confirm else {
+                return Err(lacking(Kind::ResvConf, class::RESV_CONFIRM, bytes));
+            };
+            return Ok(Message::ResvConf(ResvConfMsg {
+                session,
+                err,
+                confirm,
+                ask: Ask::Wild { scope: None, flow },
+            }));
+        }
+        StyleKind::Fixed => {
+            if seen.due {
+                return Err(lacking(Kind::ResvConf, class::FILTER_SPEC, bytes));
+            }
+            let Some(list) = pairs(&seen.filters) else {
+                return Err(lacking(Kind::ResvConf, class::FILTER_SPEC, bytes));
+            };
+            let Some(confirm) = seen.confirm else {
+                return Err(lacking(Kind::ResvConf, class::RESV_CONFIRM, bytes));
+            };
+            return Ok(Message::ResvConf(ResvConfMsg {
+                session,
+                err,
+                confirm,
+                ask: Ask::Fixed(list),
+            }));
+        }
+        StyleKind::Shared => {
+            let Some(senders) = named(&seen.filters) else {
+                return Err(lacking(Kind::ResvConf, class::FILTER_SPEC, bytes));
+            };
+            let Some(confirm) = seen.confirm else {
+                return Err(lacking(Kind::ResvConf, class::RESV_CONFIRM, bytes));
+            };
+            return Ok(Message::ResvConf(ResvConfMsg {
+                session,
+                err,
+                confirm,
+                ask: Ask::Shared(Part { senders, flow }),
+            }));
+        }
+    }
+}
+
+// A class that is missing, with what could be read.
+#[cold]
+fn lacking(kind: Kind, number: u8, bytes: &[u8]) -> MsgErr
+    requires long { 8 ≤ length bytes.now }
+    requires short { length bytes.now ≤ 65535 }
+    ensures fault { result.fault ≡ AFault.Missing number }
+    ensures kind { result.kind ≡ Some kind }
+    ensures hint { IsHint bytes.now result.hint }
+{
+    told(kind, Fault::Missing(number), bytes)
+}
+
+/// A fault of the objects of a message, with what could be read.
+#[cold]
+pub fn told(kind: Kind, fault: Fault, bytes: &[u8]) -> MsgErr
+    requires long { 8 ≤ length bytes.now }
+    requires short { length bytes.now ≤ 65535 }
+    ensures fault { result.fault ≡ fault }
+    ensures kind { result.kind ≡ Some kind }
+    ensures hint { IsHint bytes.now result.hint }
+{
+    MsgErr {
+        fault,
+        kind: Some(kind),
+        hint: hint(bytes),
+    }
 }
 
 // What an object of a class says, which a message needs.
@@ -167,26 +336,6 @@ fn sender_with(
         (Some(_), None) => Err(Fault::Missing(class::SENDER_TSPEC)),
         (None, Some(_)) => Err(Fault::Missing(class::SENDER_TEMPLATE)),
         (None, None) => Ok(None),
-    }
-}
-
-#[inline(always)]
-fn ask(
-    scope: Option<Senders>,
-    due: bool,
-    filters: &Filters,
-    flow: Flow,
-    style: StyleKind,
-) -> Result<Ask, Fault>
-    ensures { result ≡ ask_of scope due filters.now flow style }
-{
-    match style {
-        StyleKind::Wild => Ok(Ask::Wild { scope, flow }),
-        StyleKind::Fixed => Ok(Ask::Fixed(fixed(due, filters)?)),
-        StyleKind::Shared => {
-            let senders = needed(class::FILTER_SPEC, named(filters))?;
-            Ok(Ask::Shared(Part { senders, flow }))
-        }
     }
 }
 
@@ -242,15 +391,4 @@ fn blame_by_flow(
             flow: Some(flow),
         }),
     }
-}
-
-// The flows of FF by sender. A FLOWSPEC at the end lacks the FILTER_SPEC behind it.
-#[inline(always)]
-fn fixed(due: bool, filters: &Filters) -> Result<FixedList, Fault>
-    ensures { result ≡ fixed_of due filters.now }
-{
-    if due {
-        return Err(Fault::Missing(class::FILTER_SPEC));
-    }
-    needed(class::FILTER_SPEC, pairs(filters))
 }
