@@ -1,24 +1,23 @@
 //! Messages from what their objects say, or the lowest class that is missing, with what could be read. What is said by lists is
 //! moved out.
 //!
-//! Each kind has a function of its own, which makes its message where it is answered: a message is large, and each further place
-//! for one would be cleared and copied.
+//! Each kind has a function of its own, and in it each style returns by itself, so that a message is made where it is answered: it
+//! is large, and each further place for one would be cleared and copied.
 ghost use Rattle.std.specs.Prelude.{◌≡◌, ◌≤◌, length, Some};
 ghost use Rattle.rsvp_messages.specs.declared.fault.Fault.TheVariants as AFault;
 ghost use Rattle.rsvp_messages.specs.declared.message.Kind.TheVariants as AKind;
 ghost use Rattle.message_wire.specs.Finishing.{Finishes};
 ghost use Rattle.message_wire.specs.Hints.{IsHint};
-ghost use Rattle.message_wire.specs.Messages.{needed, sender_of, tear_of, blame_by_flow, blame_of, path_of, resv_of, path_err_of, resv_err_of, path_tear_of, resv_tear_of, resv_conf_of};
+ghost use Rattle.message_wire.specs.Messages.{sender_of};
 
-use crate::filters::Filters;
 use crate::hinting::hint;
 use crate::listing::{first_named, named, pairs};
 use crate::seen::Seen;
 use crate::table::class;
-use rsvp_base::{Flow, Part, Sender, Senders, StyleKind};
+use rsvp_base::{Flow, Part, Sender, StyleKind};
 use rsvp_messages::{
-    Ask, Blame, Fault, FixedList, Kind, Message, MsgErr, PathErrMsg, PathMsg, PathTearMsg,
-    ResvConfMsg, ResvErrMsg, ResvMsg, ResvTearMsg, Tear,
+    Ask, Blame, Fault, Kind, Message, MsgErr, PathErrMsg, PathMsg, PathTearMsg, ResvConfMsg,
+    ResvErrMsg, ResvMsg, ResvTearMsg, Tear,
 };
 
 /// What is told of a Path.
@@ -114,17 +113,75 @@ pub fn resv_err(seen: &mut Seen, bytes: &[u8]) -> Result<Message, MsgErr>
     let Some(style) = seen.style else {
         return Err(lacking(Kind::ResvErr, class::STYLE, bytes));
     };
-    let scope = seen.scope.take();
-    let blame = match blame(scope, &seen.filters, seen.flow, style) {
-        Ok(blame) => blame,
-        Err(fault) => return Err(told(Kind::ResvErr, fault, bytes)),
-    };
-    Ok(Message::ResvErr(ResvErrMsg {
-        session,
-        hop,
-        err,
-        blame,
-    }))
+    match style {
+        StyleKind::Wild => {
+            let scope = seen.scope.take();
+            return Ok(Message::ResvErr(ResvErrMsg {
+                session,
+                hop,
+                err,
+                blame: Blame {
+                    style,
+                    senders: scope,
+                    flow: seen.flow,
+                },
+            }));
+        }
+        StyleKind::Fixed => {
+            let Some(flow) = seen.flow else {
+                return Ok(Message::ResvErr(ResvErrMsg {
+                    session,
+                    hop,
+                    err,
+                    blame: Blame {
+                        style,
+                        senders: None,
+                        flow: None,
+                    },
+                }));
+            };
+            let Some(senders) = first_named(&seen.filters) else {
+                return Err(lacking(Kind::ResvErr, class::FILTER_SPEC, bytes));
+            };
+            return Ok(Message::ResvErr(ResvErrMsg {
+                session,
+                hop,
+                err,
+                blame: Blame {
+                    style,
+                    senders: Some(senders),
+                    flow: Some(flow),
+                },
+            }));
+        }
+        StyleKind::Shared => {
+            let Some(flow) = seen.flow else {
+                return Ok(Message::ResvErr(ResvErrMsg {
+                    session,
+                    hop,
+                    err,
+                    blame: Blame {
+                        style,
+                        senders: None,
+                        flow: None,
+                    },
+                }));
+            };
+            let Some(senders) = named(&seen.filters) else {
+                return Err(lacking(Kind::ResvErr, class::FILTER_SPEC, bytes));
+            };
+            return Ok(Message::ResvErr(ResvErrMsg {
+                session,
+                hop,
+                err,
+                blame: Blame {
+                    style,
+                    senders: Some(senders),
+                    flow: Some(flow),
+                },
+            }));
+        }
+    }
 }
 
 /// What is told of a ResvTear.
@@ -144,17 +201,39 @@ pub fn resv_tear(seen: &mut Seen, bytes: &[u8]) -> Result<Message, MsgErr>
     let Some(style) = seen.style else {
         return Err(lacking(Kind::ResvTear, class::STYLE, bytes));
     };
-    let scope = seen.scope.take();
-    let tear = match tear(scope, &seen.filters, style) {
-        Ok(tear) => tear,
-        Err(fault) => return Err(told(Kind::ResvTear, fault, bytes)),
-    };
-    Ok(Message::ResvTear(ResvTearMsg { session, hop, tear }))
+    match style {
+        StyleKind::Wild => {
+            let scope = seen.scope.take();
+            return Ok(Message::ResvTear(ResvTearMsg {
+                session,
+                hop,
+                tear: Tear::Wild { scope },
+            }));
+        }
+        StyleKind::Fixed => {
+            let Some(senders) = named(&seen.filters) else {
+                return Err(lacking(Kind::ResvTear, class::FILTER_SPEC, bytes));
+            };
+            return Ok(Message::ResvTear(ResvTearMsg {
+                session,
+                hop,
+                tear: Tear::Fixed(senders),
+            }));
+        }
+        StyleKind::Shared => {
+            let Some(senders) = named(&seen.filters) else {
+                return Err(lacking(Kind::ResvTear, class::FILTER_SPEC, bytes));
+            };
+            return Ok(Message::ResvTear(ResvTearMsg {
+                session,
+                hop,
+                tear: Tear::Shared(senders),
+            }));
+        }
+    }
 }
 
 /// What is told of a Resv.
-//
-// Each style returns by itself, so that no list is moved to where all styles meet.
 #[tactic(auto, unfolding(crate::specs::Messages::message_of, crate::specs::Messages::resv_of))]
 #[inline(never)]
 pub fn resv(seen: &mut Seen, bytes: &[u8]) -> Result<Message, MsgErr>
@@ -312,17 +391,6 @@ pub fn told(kind: Kind, fault: Fault, bytes: &[u8]) -> MsgErr
     }
 }
 
-// What an object of a class says, which a message needs.
-#[inline(always)]
-fn needed<T>(number: u8, said: Option<T>) -> Result<T, Fault>
-    ensures { result ≡ needed number said }
-{
-    match said {
-        Some(value) => Ok(value),
-        None => Err(Fault::Missing(number)),
-    }
-}
-
 // SENDER_TEMPLATE and SENDER_TSPEC, which stand together.
 #[inline(always)]
 fn sender_with(
@@ -336,59 +404,5 @@ fn sender_with(
         (Some(_), None) => Err(Fault::Missing(class::SENDER_TSPEC)),
         (None, Some(_)) => Err(Fault::Missing(class::SENDER_TEMPLATE)),
         (None, None) => Ok(None),
-    }
-}
-
-#[inline(always)]
-fn tear(scope: Option<Senders>, filters: &Filters, style: StyleKind) -> Result<Tear, Fault>
-    ensures { result ≡ tear_of scope filters.now style }
-{
-    match style {
-        StyleKind::Wild => Ok(Tear::Wild { scope }),
-        StyleKind::Fixed => Ok(Tear::Fixed(needed(class::FILTER_SPEC, named(filters))?)),
-        StyleKind::Shared => Ok(Tear::Shared(needed(class::FILTER_SPEC, named(filters))?)),
-    }
-}
-
-#[inline(always)]
-fn blame(
-    scope: Option<Senders>,
-    filters: &Filters,
-    flow: Option<Flow>,
-    style: StyleKind,
-) -> Result<Blame, Fault>
-    ensures { result ≡ blame_of scope filters.now flow style }
-{
-    match style {
-        StyleKind::Wild => Ok(Blame {
-            style,
-            senders: scope,
-            flow,
-        }),
-        StyleKind::Fixed => blame_by_flow(style, first_named(filters), flow),
-        StyleKind::Shared => blame_by_flow(style, named(filters), flow),
-    }
-}
-
-// Nobody, or these senders with the flow.
-#[inline(always)]
-fn blame_by_flow(
-    style: StyleKind,
-    senders: Option<Senders>,
-    flow: Option<Flow>,
-) -> Result<Blame, Fault>
-    ensures { result ≡ blame_by_flow style senders flow }
-{
-    match flow {
-        None => Ok(Blame {
-            style,
-            senders: None,
-            flow: None,
-        }),
-        Some(flow) => Ok(Blame {
-            style,
-            senders: Some(needed(class::FILTER_SPEC, senders)?),
-            flow: Some(flow),
-        }),
     }
 }
