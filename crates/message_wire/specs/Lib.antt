@@ -6,6 +6,7 @@ pub mod Messages
 pub mod Grammar
 pub mod Hints
 pub mod Finishing
+pub mod Firsts
 pub mod Spells
 pub mod Laws
 pub mod Taking

@@ -1,26 +1,36 @@
 //! Sets and tables of the senders that filters name.
-ghost use Rattle.std.specs.Prelude.{◌≡◌, ◌≤◌, ◌<◌, ◌+◌, ◌∷◌, [], length};
+//!
+//! None of them is answered in an `Option`, whose place would be cleared and copied: that there is one is asked first, and then it is
+//! made where it is wanted.
+ghost use Rattle.std.specs.Prelude.{◌≡◌, ◌≤◌, ◌<◌, ◌+◌, ◌∷◌, ◌↔◌, [], length, IsTrue, Some, None, IfSome, IfNone};
 ghost use Rattle.rsvp_base.specs.Orders.{names_from};
 ghost use Rattle.rsvp_base.specs.Sets.{with_key};
-ghost use Rattle.rsvp_base.specs.Table.{put_in, size, with_rows};
-ghost use Rattle.message_wire.specs.Messages.{names_in, named, first_named, pairs_in, table_of_pairs};
+ghost use Rattle.rsvp_base.specs.Table.{empty, put_in, size, with_rows};
+ghost use Rattle.message_wire.specs.Firsts.{IsFirst};
+ghost use Rattle.message_wire.specs.Messages.{names_in, named, pairs_in, table_of_pairs};
 
 use crate::filters::Filters;
 use rsvp_base::{Flow, Sender, Senders};
 use rsvp_messages::FixedList;
 
-/// The senders of filters. `None` exactly where there are no filters.
-pub fn named(filters: &Filters) -> Option<Senders>
-    ensures { result ≡ named filters.now }
+/// Whether there are no filters.
+pub fn is_nobody_named(filters: &Filters) -> bool
+    ensures { IsTrue result ↔ (named filters.now ≡ None) }
 {
-    let filters = filters.as_slice();
-    if filters.is_empty() {
-        return None;
-    }
-    Some(names(filters))
+    filters.as_slice().is_empty()
 }
 
-fn names(filters: &[(Sender, Option<Flow>)]) -> Senders
+/// The senders of filters, of which there is one.
+#[inline(always)]
+pub fn names(filters: &Filters) -> Senders
+    requires { named filters.now ≡ None → ⊥ }
+    ensures { named filters.now ≡ Some result }
+{
+    names_of(filters.as_slice())
+}
+
+#[inline(always)]
+fn names_of(filters: &[(Sender, Option<Flow>)]) -> Senders
     requires { length filters.now ≤ 16 }
     ensures { result ≡ names_in filters.now }
 {
@@ -31,17 +41,9 @@ fn names(filters: &[(Sender, Option<Flow>)]) -> Senders
     senders
 }
 
-/// The sender of the first filter. `None` exactly where there are no filters.
-pub fn first_named(filters: &Filters) -> Option<Senders>
-    ensures { result ≡ first_named filters.now }
-{
-    match filters.as_slice() {
-        [] => None,
-        [first, ..] => Some(one_name(first.0)),
-    }
-}
-
-fn one_name(sender: Sender) -> Senders
+/// The list of one sender.
+#[inline(always)]
+pub fn one_name(sender: Sender) -> Senders
     ensures { result ≡ names_from (sender ∷ []) }
 {
     let mut senders = Senders::new();
@@ -56,26 +58,52 @@ fn add(senders: &mut Senders, sender: Sender)
     let _ = senders.insert(sender);
 }
 
-/// The flows of filters by sender. `None` exactly where no filter has one.
-pub fn pairs(filters: &Filters) -> Option<FixedList>
-    ensures { result ≡ table_of_pairs (pairs_in filters.now) }
-{
-    pairs_of(filters.as_slice())
+/// A filter that is the first with a flow.
+#[derive(Clone, Copy)]
+pub struct First {
+    pub sender: Sender,
+    pub flow: Flow,
+    /// The place behind it.
+    pub behind: usize,
 }
 
-fn pairs_of(filters: &[(Sender, Option<Flow>)]) -> Option<FixedList>
-    requires { length filters.now ≤ 16 }
-    ensures { result ≡ table_of_pairs (pairs_in filters.now) }
+/// The first filter with a flow. `None` exactly where no filter has one.
+pub fn first_with_flow(filters: &Filters) -> Option<First>
+    ensures some { IfSome result (IsFirst filters.now) }
+    ensures none { IfNone result (table_of_pairs (pairs_in filters.now) ≡ None) }
 {
-    match filters {
-        [] => None,
-        [(_, None), rest @ ..] => pairs_of(rest),
-        [(sender, Some(flow)), rest @ ..] => {
-            let mut list = FixedList::new(*sender, *flow);
-            put_all(&mut list, rest);
-            Some(list)
+    first_of(filters.as_slice())
+}
+
+fn first_of(filters: &[(Sender, Option<Flow>)]) -> Option<First>
+    requires { length filters.now ≤ 16 }
+    ensures some { IfSome result (IsFirst filters.now) }
+    ensures none { IfNone result (pairs_in filters.now ≡ []) }
+{
+    let mut behind = 0;
+    for filter in filters {
+        behind += 1;
+        match filter.1 {
+            None => {}
+            Some(flow) => {
+                return Some(First {
+                    sender: filter.0,
+                    flow,
+                    behind,
+                })
+            }
         }
     }
+    None
+}
+
+/// Puts each sender that has a flow behind the first, which stands in the list alone.
+pub fn put_others(list: &mut FixedList, filters: &Filters, first: &First)
+    requires first { IsFirst filters.now first.now }
+    requires alone { list.old ≡ put_in empty first.now.sender first.now.flow }
+    ensures { table_of_pairs (pairs_in filters.now) ≡ Some list.new }
+{
+    put_all(list, &filters.as_slice()[first.behind..]);
 }
 
 // Puts each sender that has a flow.

@@ -2,7 +2,8 @@
 //! moved out.
 //!
 //! Each kind has a function of its own, and in it each style returns by itself, so that a message is made where it is answered: it
-//! is large, and each further place for one would be cleared and copied.
+//! is large, and each further place for one would be cleared and copied. For the same reason each such function is a part of the
+//! one that calls it, and a list is made where it is answered, once it is known that there is one.
 ghost use Rattle.std.specs.Prelude.{◌≡◌, ◌≤◌, length, Some};
 ghost use Rattle.rsvp_messages.specs.declared.fault.Fault.TheVariants as AFault;
 ghost use Rattle.rsvp_messages.specs.declared.message.Kind.TheVariants as AKind;
@@ -11,18 +12,18 @@ ghost use Rattle.message_wire.specs.Hints.{IsHint};
 ghost use Rattle.message_wire.specs.Messages.{sender_of};
 
 use crate::hinting::hint;
-use crate::listing::{first_named, named, pairs};
+use crate::listing::{first_with_flow, is_nobody_named, names, one_name, put_others};
 use crate::seen::Seen;
 use crate::table::class;
 use rsvp_base::{Flow, Part, Sender, StyleKind};
 use rsvp_messages::{
-    Ask, Blame, Fault, Kind, Message, MsgErr, PathErrMsg, PathMsg, PathTearMsg, ResvConfMsg,
-    ResvErrMsg, ResvMsg, ResvTearMsg, Tear,
+    Ask, Blame, Fault, FixedList, Kind, Message, MsgErr, PathErrMsg, PathMsg, PathTearMsg,
+    ResvConfMsg, ResvErrMsg, ResvMsg, ResvTearMsg, Tear,
 };
 
 /// What is told of a Path.
 #[tactic(auto, unfolding(crate::specs::Messages::message_of, crate::specs::Messages::path_of))]
-#[inline(never)]
+#[inline(always)]
 pub fn path(seen: &mut Seen, bytes: &[u8]) -> Result<Message, MsgErr>
     requires long { 8 ≤ length bytes.now }
     requires short { length bytes.now ≤ 65535 }
@@ -53,7 +54,7 @@ pub fn path(seen: &mut Seen, bytes: &[u8]) -> Result<Message, MsgErr>
 
 /// What is told of a PathErr.
 #[tactic(auto, unfolding(crate::specs::Messages::message_of, crate::specs::Messages::path_err_of))]
-#[inline(never)]
+#[inline(always)]
 pub fn path_err(seen: &Seen, bytes: &[u8]) -> Result<Message, MsgErr>
     requires long { 8 ≤ length bytes.now }
     requires short { length bytes.now ≤ 65535 }
@@ -74,7 +75,7 @@ pub fn path_err(seen: &Seen, bytes: &[u8]) -> Result<Message, MsgErr>
 
 /// What is told of a PathTear.
 #[tactic(auto, unfolding(crate::specs::Messages::message_of, crate::specs::Messages::path_tear_of))]
-#[inline(never)]
+#[inline(always)]
 pub fn path_tear(seen: &Seen, bytes: &[u8]) -> Result<Message, MsgErr>
     requires long { 8 ≤ length bytes.now }
     requires short { length bytes.now ≤ 65535 }
@@ -95,7 +96,7 @@ pub fn path_tear(seen: &Seen, bytes: &[u8]) -> Result<Message, MsgErr>
 
 /// What is told of a ResvErr.
 #[tactic(auto, unfolding(crate::specs::Messages::message_of, crate::specs::Messages::resv_err_of))]
-#[inline(never)]
+#[inline(always)]
 pub fn resv_err(seen: &mut Seen, bytes: &[u8]) -> Result<Message, MsgErr>
     requires long { 8 ≤ length bytes.now }
     requires short { length bytes.now ≤ 65535 }
@@ -115,14 +116,13 @@ pub fn resv_err(seen: &mut Seen, bytes: &[u8]) -> Result<Message, MsgErr>
     };
     match style {
         StyleKind::Wild => {
-            let scope = seen.scope.take();
             return Ok(Message::ResvErr(ResvErrMsg {
                 session,
                 hop,
                 err,
                 blame: Blame {
                     style,
-                    senders: scope,
+                    senders: seen.scope.take(),
                     flow: seen.flow,
                 },
             }));
@@ -140,7 +140,7 @@ pub fn resv_err(seen: &mut Seen, bytes: &[u8]) -> Result<Message, MsgErr>
                     },
                 }));
             };
-            let Some(senders) = first_named(&seen.filters) else {
+            let [first, ..] = seen.filters.as_slice() else {
                 return Err(lacking(Kind::ResvErr, class::FILTER_SPEC, bytes));
             };
             return Ok(Message::ResvErr(ResvErrMsg {
@@ -149,7 +149,7 @@ pub fn resv_err(seen: &mut Seen, bytes: &[u8]) -> Result<Message, MsgErr>
                 err,
                 blame: Blame {
                     style,
-                    senders: Some(senders),
+                    senders: Some(one_name(first.0)),
                     flow: Some(flow),
                 },
             }));
@@ -167,16 +167,16 @@ pub fn resv_err(seen: &mut Seen, bytes: &[u8]) -> Result<Message, MsgErr>
                     },
                 }));
             };
-            let Some(senders) = named(&seen.filters) else {
+            if is_nobody_named(&seen.filters) {
                 return Err(lacking(Kind::ResvErr, class::FILTER_SPEC, bytes));
-            };
+            }
             return Ok(Message::ResvErr(ResvErrMsg {
                 session,
                 hop,
                 err,
                 blame: Blame {
                     style,
-                    senders: Some(senders),
+                    senders: Some(names(&seen.filters)),
                     flow: Some(flow),
                 },
             }));
@@ -186,7 +186,7 @@ pub fn resv_err(seen: &mut Seen, bytes: &[u8]) -> Result<Message, MsgErr>
 
 /// What is told of a ResvTear.
 #[tactic(auto, unfolding(crate::specs::Messages::message_of, crate::specs::Messages::resv_tear_of))]
-#[inline(never)]
+#[inline(always)]
 pub fn resv_tear(seen: &mut Seen, bytes: &[u8]) -> Result<Message, MsgErr>
     requires long { 8 ≤ length bytes.now }
     requires short { length bytes.now ≤ 65535 }
@@ -203,31 +203,32 @@ pub fn resv_tear(seen: &mut Seen, bytes: &[u8]) -> Result<Message, MsgErr>
     };
     match style {
         StyleKind::Wild => {
-            let scope = seen.scope.take();
             return Ok(Message::ResvTear(ResvTearMsg {
                 session,
                 hop,
-                tear: Tear::Wild { scope },
+                tear: Tear::Wild {
+                    scope: seen.scope.take(),
+                },
             }));
         }
         StyleKind::Fixed => {
-            let Some(senders) = named(&seen.filters) else {
+            if is_nobody_named(&seen.filters) {
                 return Err(lacking(Kind::ResvTear, class::FILTER_SPEC, bytes));
-            };
+            }
             return Ok(Message::ResvTear(ResvTearMsg {
                 session,
                 hop,
-                tear: Tear::Fixed(senders),
+                tear: Tear::Fixed(names(&seen.filters)),
             }));
         }
         StyleKind::Shared => {
-            let Some(senders) = named(&seen.filters) else {
+            if is_nobody_named(&seen.filters) {
                 return Err(lacking(Kind::ResvTear, class::FILTER_SPEC, bytes));
-            };
+            }
             return Ok(Message::ResvTear(ResvTearMsg {
                 session,
                 hop,
-                tear: Tear::Shared(senders),
+                tear: Tear::Shared(names(&seen.filters)),
             }));
         }
     }
@@ -235,7 +236,7 @@ pub fn resv_tear(seen: &mut Seen, bytes: &[u8]) -> Result<Message, MsgErr>
 
 /// What is told of a Resv.
 #[tactic(auto, unfolding(crate::specs::Messages::message_of, crate::specs::Messages::resv_of))]
-#[inline(never)]
+#[inline(always)]
 pub fn resv(seen: &mut Seen, bytes: &[u8]) -> Result<Message, MsgErr>
     requires long { 8 ≤ length bytes.now }
     requires short { length bytes.now ≤ 65535 }
@@ -258,22 +259,26 @@ pub fn resv(seen: &mut Seen, bytes: &[u8]) -> Result<Message, MsgErr>
     };
     match style {
         StyleKind::Wild => {
-            let scope = seen.scope.take();
             return Ok(Message::Resv(ResvMsg {
                 session,
                 hop,
                 period,
                 confirm: seen.confirm,
-                ask: Ask::Wild { scope, flow },
+                ask: Ask::Wild {
+                    scope: seen.scope.take(),
+                    flow,
+                },
             }));
         }
         StyleKind::Fixed => {
             if seen.due {
                 return Err(lacking(Kind::Resv, class::FILTER_SPEC, bytes));
             }
-            let Some(list) = pairs(&seen.filters) else {
+            let Some(first) = first_with_flow(&seen.filters) else {
                 return Err(lacking(Kind::Resv, class::FILTER_SPEC, bytes));
             };
+            let mut list = FixedList::new(first.sender, first.flow);
+            put_others(&mut list, &seen.filters, &first);
             return Ok(Message::Resv(ResvMsg {
                 session,
                 hop,
@@ -283,15 +288,18 @@ pub fn resv(seen: &mut Seen, bytes: &[u8]) -> Result<Message, MsgErr>
             }));
         }
         StyleKind::Shared => {
-            let Some(senders) = named(&seen.filters) else {
+            if is_nobody_named(&seen.filters) {
                 return Err(lacking(Kind::Resv, class::FILTER_SPEC, bytes));
-            };
+            }
             return Ok(Message::Resv(ResvMsg {
                 session,
                 hop,
                 period,
                 confirm: seen.confirm,
-                ask: Ask::Shared(Part { senders, flow }),
+                ask: Ask::Shared(Part {
+                    senders: names(&seen.filters),
+                    flow,
+                }),
             }));
         }
     }
@@ -299,7 +307,7 @@ pub fn resv(seen: &mut Seen, bytes: &[u8]) -> Result<Message, MsgErr>
 
 /// What is told of a ResvConf.
 #[tactic(auto, unfolding(crate::specs::Messages::message_of, crate::specs::Messages::resv_conf_of))]
-#[inline(never)]
+#[inline(always)]
 pub fn resv_conf(seen: &Seen, bytes: &[u8]) -> Result<Message, MsgErr>
     requires long { 8 ≤ length bytes.now }
     requires short { length bytes.now ≤ 65535 }
@@ -333,12 +341,14 @@ pub fn resv_conf(seen: &Seen, bytes: &[u8]) -> Result<Message, MsgErr>
             if seen.due {
                 return Err(lacking(Kind::ResvConf, class::FILTER_SPEC, bytes));
             }
-            let Some(list) = pairs(&seen.filters) else {
+            let Some(first) = first_with_flow(&seen.filters) else {
                 return Err(lacking(Kind::ResvConf, class::FILTER_SPEC, bytes));
             };
             let Some(confirm) = seen.confirm else {
                 return Err(lacking(Kind::ResvConf, class::RESV_CONFIRM, bytes));
             };
+            let mut list = FixedList::new(first.sender, first.flow);
+            put_others(&mut list, &seen.filters, &first);
             return Ok(Message::ResvConf(ResvConfMsg {
                 session,
                 err,
@@ -347,9 +357,9 @@ pub fn resv_conf(seen: &Seen, bytes: &[u8]) -> Result<Message, MsgErr>
             }));
         }
         StyleKind::Shared => {
-            let Some(senders) = named(&seen.filters) else {
+            if is_nobody_named(&seen.filters) {
                 return Err(lacking(Kind::ResvConf, class::FILTER_SPEC, bytes));
-            };
+            }
             let Some(confirm) = seen.confirm else {
                 return Err(lacking(Kind::ResvConf, class::RESV_CONFIRM, bytes));
             };
@@ -357,7 +367,10 @@ pub fn resv_conf(seen: &Seen, bytes: &[u8]) -> Result<Message, MsgErr>
                 session,
                 err,
                 confirm,
-                ask: Ask::Shared(Part { senders, flow }),
+                ask: Ask::Shared(Part {
+                    senders: names(&seen.filters),
+                    flow,
+                }),
             }));
         }
     }

@@ -36,6 +36,7 @@ impl FixedList {
     ghost use Rattle.rsvp_base.specs.Table.{empty, put_in, size};
 
     /// The list of this sender alone, with its flow.
+    #[inline(always)]
     pub fn new(sender: Sender, flow: Flow) -> FixedList
         ensures { result ≡ put_in empty sender flow }
     {

@@ -2,7 +2,7 @@ use Rattle.std.proofs.Common.{ap, arith}
 use Rattle.rsvp_base.specs.Orders.{Names}
 use Rattle.rsvp_base.specs.Table.{size}
 use Rattle.message_wire.proofs.Lists.{size_with_key, names_step}
-use Rattle.message_wire.proofs.listing.names.Goals as goal
+use Rattle.message_wire.proofs.listing.names_of.Goals as goal
 
 pub loop-filter-preserved : goal.loop-filter-preserved
 loop-filter-preserved c = record {

@@ -3,7 +3,7 @@ use Rattle.std.specs.Prelude.{map as each}
 use Rattle.rsvp_base.specs.Sets.{with_keys}
 use Rattle.rsvp_base.specs.Table.{size}
 use Rattle.message_wire.specs.Messages.{names_in}
-use Rattle.message_wire.proofs.listing.names.Given as goal
+use Rattle.message_wire.proofs.listing.names_of.Given as goal
 
 abbrev pub invariant-loop-filter : goal.invariant-loop-filter
 invariant-loop-filter l = record {

@@ -1,5 +1,0 @@
-use Rattle.std.proofs.Common.{length}
-use Rattle.message_wire.proofs.listing.+pairs_of.Given as goal
-
-abbrev pub decreases-pairs_of : goal.decreases-pairs_of
-decreases-pairs_of l = length l.filters.now
