@@ -20,7 +20,7 @@ unfolding with_next
 hint_more ys y = λ i. record { session = first_more name_said ys y i; hop = first_more hop_said ys y i; style = first_more style_said ys y i; sender = first_more template_said ys y i }
 
 abbrev pub said_at : List ℕ → ℕ → Head → Option Object
-said_at b at h = readable (body_of at h.class h.ctype (contents_at at h b))
+said_at b at h = readable (body_of at h.class.0 h.ctype (contents_at at h b))
 
 pub follow_more : (b : List ℕ) (at : ℕ) (ys : List (Option Object)) (mid : ℕ) (h : Head) → Follow b at ys mid → head_of mid (drop mid b) ≡ Ok h → Follow b at (ys ++ said_at b mid h ∷ []) h.end
 follow_more b at [] mid h r e = subst (λ (p : ℕ). Follow b p (said_at b mid h ∷ []) h.end) (sym r) (h, e, refl, refl)

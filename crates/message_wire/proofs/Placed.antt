@@ -24,9 +24,9 @@ use Rattle.message_wire.proofs.Standing.{good_is}
 pub record IsPlaced (kind : Kind) (s : Seen) (at : ℕ) (b : List ℕ) (x : Object) : Type 0 where
   pub head : Head
   pub is_head : ◌≡◌ {A = Result Head ObjErr} (head_of at (drop at b)) (Ok head)
-  pub is_read : ◌≡◌ {A = Result Object ObjErr} (read_in kind at head.class head.ctype (contents_at at head b)) (Ok x)
-  pub place : has_place kind s head.class ≡ true
-  pub once : is_repeated kind s head.class ≡ false
+  pub is_read : ◌≡◌ {A = Result Object ObjErr} (read_in kind at head.class.0 head.ctype (contents_at at head b)) (Ok x)
+  pub place : has_place kind s head.class.0 ≡ true
+  pub once : is_repeated kind s head.class.0 ≡ false
   pub name : name_fault at s x ≡ None
 
 abbrev pub found : Object → ℕ → Result (Object × ℕ) Fault
@@ -52,15 +52,15 @@ body_is at s end next x (Err g) e = absurd cc
 head_is : (kind : Kind) (s : Seen) (at : ℕ) (b : List ℕ) (x : Object) (next : ℕ) (r : Result Head ObjErr) → head_of at (drop at b) ≡ r → by_head kind s at b r ≡ found x next → IsPlaced kind s at b x
 head_is kind s at b x next (Err g) is e = absurd cc
 head_is kind s at b x next (Ok h) is e =
-    elim (chosen (is_unknown h.class) _ _ _ e) [
+    elim (chosen (is_unknown h.class.0) _ _ _ e) [
       | inl p ↦ absurd (let z = p.1 in cc)
-      | inr p ↦ elim (chosen (not (has_place kind s h.class)) _ _ _ p.1) [
+      | inr p ↦ elim (chosen (not (has_place kind s h.class.0)) _ _ _ p.1) [
         | inl q ↦ absurd (let z = q.1 in cc)
-        | inr q ↦ elim (chosen (is_repeated kind s h.class) _ _ _ q.1) [
+        | inr q ↦ elim (chosen (is_repeated kind s h.class.0) _ _ _ q.1) [
           | inl r ↦ absurd (let z = r.1 in cc)
           | inr r ↦
-              let body = body_is at s h.end next x (read_in kind at h.class h.ctype (contents_at at h b)) r.1 in
-              record { head = h; is_head = is; is_read = body.0; place = not_false (has_place kind s h.class) q.0; once = r.0; name = body.1 }
+              let body = body_is at s h.end next x (read_in kind at h.class.0 h.ctype (contents_at at h b)) r.1 in
+              record { head = h; is_head = is; is_read = body.0; place = not_false (has_place kind s h.class.0) q.0; once = r.0; name = body.1 }
         ]
       ]
     ]
@@ -77,19 +77,19 @@ body_end at s end next x (Err g) e = absurd cc
 -- an object with a head, contents that say it, and an end
 abbrev IsReadAt : Kind → ℕ → List ℕ → Object → ℕ → Type 0
 IsReadAt kind at b x next =
-    (h : Head) × (◌≡◌ {A = Result Head ObjErr} (head_of at (drop at b)) (Ok h)) × (◌≡◌ {A = Result Object ObjErr} (read_in kind at h.class h.ctype (contents_at at h b)) (Ok x)) × (h.end ≡ next)
+    (h : Head) × (◌≡◌ {A = Result Head ObjErr} (head_of at (drop at b)) (Ok h)) × (◌≡◌ {A = Result Object ObjErr} (read_in kind at h.class.0 h.ctype (contents_at at h b)) (Ok x)) × (h.end ≡ next)
 
 head_read : (kind : Kind) (s : Seen) (at : ℕ) (b : List ℕ) (x : Object) (next : ℕ) (r : Result Head ObjErr) → head_of at (drop at b) ≡ r → by_head kind s at b r ≡ found x next → IsReadAt kind at b x next
 head_read kind s at b x next (Err g) is e = absurd cc
 head_read kind s at b x next (Ok h) is e =
-    elim (chosen (is_unknown h.class) _ _ _ e) [
+    elim (chosen (is_unknown h.class.0) _ _ _ e) [
       | inl p ↦ absurd (let z = p.1 in cc)
-      | inr p ↦ elim (chosen (not (has_place kind s h.class)) _ _ _ p.1) [
+      | inr p ↦ elim (chosen (not (has_place kind s h.class.0)) _ _ _ p.1) [
         | inl q ↦ absurd (let z = q.1 in cc)
-        | inr q ↦ elim (chosen (is_repeated kind s h.class) _ _ _ q.1) [
+        | inr q ↦ elim (chosen (is_repeated kind s h.class.0) _ _ _ q.1) [
           | inl r ↦ absurd (let z = r.1 in cc)
           | inr r ↦
-              let contents = read_in kind at h.class h.ctype (contents_at at h b) in
+              let contents = read_in kind at h.class.0 h.ctype (contents_at at h b) in
               (h, is, (body_is at s h.end next x contents r.1).0, body_end at s h.end next x contents r.1)
         ]
       ]
@@ -107,17 +107,17 @@ read_is : {x y : Object} → ◌≡◌ {A = Result Object ObjErr} (Ok x) (Ok y) 
 read_is e = cc
 
 -- an object has the class of its head
-pub class_is : (kind : Kind) (s : Seen) (at : ℕ) (b : List ℕ) (x : Object) (p : IsPlaced kind s at b x) → class_of x ≡ p.head.class
+pub class_is : (kind : Kind) (s : Seen) (at : ℕ) (b : List ℕ) (x : Object) (p : IsPlaced kind s at b x) → class_of x ≡ p.head.class.0
 class_is kind s at b x p =
-    elim (chosen (is_unread kind p.head.class) _ _ _ p.is_read) [
+    elim (chosen (is_unread kind p.head.class.0) _ _ _ p.is_read) [
       | inl q ↦ ap class_of (sym (read_is q.1))
-      | inr q ↦ objects_have_their_class at p.head.class p.head.ctype (contents_at at p.head b) x q.1
+      | inr q ↦ objects_have_their_class at p.head.class.0 p.head.ctype (contents_at at p.head b) x q.1
     ]
 
 -- an object that is read is proper
-pub read_proper : (kind : Kind) (s : Seen) (at : ℕ) (b : List ℕ) (x : Object) → AreBytes b → (p : IsPlaced kind s at b x) → is_unread kind p.head.class ≡ false → IsProper x
+pub read_proper : (kind : Kind) (s : Seen) (at : ℕ) (b : List ℕ) (x : Object) → AreBytes b → (p : IsPlaced kind s at b x) → is_unread kind p.head.class.0 ≡ false → IsProper x
 read_proper kind s at b x bytes p read =
-    elim (chosen (is_unread kind p.head.class) _ _ _ p.is_read) [
+    elim (chosen (is_unread kind p.head.class.0) _ _ _ p.is_read) [
       | inl q ↦ absurd (let z = sym q.0 ∙ read in cc)
       | inr q ↦
           let body = ap (reading.with_end p.head.end) q.1 in
@@ -127,12 +127,12 @@ read_proper kind s at b x bytes p read =
 
 -- what holds of what is skipped, and of each proper object, holds of an object that stands somewhere
 pub placed_has : (P : Object → Type 0) → ((n : ℕ) → P (object.Skipped n)) → ((x : Object) → IsProper x → P x) → (kind : Kind) (s : Seen) (at : ℕ) (b : List ℕ) (x : Object) → AreBytes b → IsPlaced kind s at b x → P x
-placed_has P skipped proper kind s at b x bytes p = by_kind (is_unread kind p.head.class) refl
+placed_has P skipped proper kind s at b x bytes p = by_kind (is_unread kind p.head.class.0) refl
   where
-    by_kind : (t : Bool) → is_unread kind p.head.class ≡ t → P x
+    by_kind : (t : Bool) → is_unread kind p.head.class.0 ≡ t → P x
     by_kind false read = proper x (read_proper kind s at b x bytes p read)
     by_kind true unread =
-        elim (chosen (is_unread kind p.head.class) _ _ _ p.is_read) [
-          | inl q ↦ subst P (read_is q.1) (skipped p.head.class)
+        elim (chosen (is_unread kind p.head.class.0) _ _ _ p.is_read) [
+          | inl q ↦ subst P (read_is q.1) (skipped p.head.class.0)
           | inr q ↦ absurd (let z = sym unread ∙ q.0 in cc)
         ]

@@ -1,6 +1,6 @@
 -- The grammar and the walk are one: objects that stand where each may, and make a message, are in the grammar of its kind and
 -- mean it; and what is in the grammar stands.
-use Rattle.std.proofs.Common.{◌≡◌, ℕ, Bool, true, false, List, [], ◌∷◌, ◌++◌, length, drop, Option, Some, None, Result, Ok, Err, refl, sym, ap, subst, ◌∙◌, append_assoc, inl, inr}
+use Rattle.std.proofs.Common.{◌≡◌, ℕ, Bool, true, false, List, [], ◌∷◌, ◌++◌, length, drop, Option, Some, None, Result, Ok, refl, sym, ap, subst, ◌∙◌, append_assoc, inl, inr}
 use Rattle.std.specs.Prelude.{not, is_some, ◌||◌, ◌==◌, if◌then◌else◌}
 use Rattle.std.proofs.lemmas.Bool.{eqb-true}
 use Rattle.std.proofs.lemmas.List.{append-nil}
@@ -12,7 +12,7 @@ use Rattle.rsvp_base.specs.declared.session.Session.{Session}
 use Rattle.rsvp_base.specs.declared.style.StyleKind.{StyleKind}
 use Rattle.rsvp_base.specs.TokenBucket.{TokenBucket}
 use Rattle.rsvp_objects.specs.ObjectFields.declared.adspec.Adspec.{Adspec}
-use Rattle.rsvp_objects.specs.declared.class.Class.{Class}
+use Rattle.rsvp_objects.specs.declared.read_class.ReadClass.{ReadClass}
 use Rattle.rsvp_objects.specs.declared.head.Head.{Head}
 use Rattle.rsvp_objects.specs.declared.object.Object.{Object}
 use Rattle.rsvp_objects.specs.declared.obj_err.ObjErr.{ObjErr}
@@ -25,25 +25,23 @@ use Rattle.rsvp_objects.proofs.Classes.{objects_have_their_class}
 use Rattle.rsvp_messages.specs.declared.ask.Ask.{Ask}
 use Rattle.rsvp_messages.specs.declared.ask.Blame.{Blame}
 use Rattle.rsvp_messages.specs.declared.ask.Tear.{Tear}
-use Rattle.rsvp_messages.specs.declared.fault.Fault.{Fault}
 use Rattle.rsvp_messages.specs.declared.message.Kind.{Kind}
 use Rattle.rsvp_messages.specs.declared.message.Kind.TheVariants as kind
 use Rattle.rsvp_messages.specs.declared.message.Message.{Message}
 use Rattle.rsvp_messages.specs.declared.message.Message.TheVariants as message
 use Rattle.rsvp_messages.specs.Kinds.{kind_of}
-use Rattle.message_wire.specs.declared.role.Role.{Role}
 use Rattle.message_wire.specs.declared.role.Role.TheVariants.{Needed, Once, Unread, Nowhere}
 use Rattle.message_wire.specs.declared.seen.Seen.{Seen}
 use Rattle.message_wire.specs.Grammar.{Reads, IsInGrammar, Means, IsMessage}
 use Rattle.message_wire.specs.Laws.{IsInPlace}
 use Rattle.message_wire.specs.Messages.{needed, sender_of, ask_of, tear_of, blame_of, path_of, resv_of, path_err_of, resv_err_of, path_tear_of, resv_tear_of, resv_conf_of, message_of}
-use Rattle.message_wire.specs.Places.{read_in, name_fault, is_unknown, with_name, by_body, by_head, has_place, is_repeated, object_in, Stand}
+use Rattle.message_wire.specs.Places.{read_in, name_fault, is_unknown, by_head, has_place, is_repeated, object_in, Stand}
 use Rattle.message_wire.specs.Said.{seen_of}
 use Rattle.message_wire.specs.Spells.{header_of, Says, Spells}
 use Rattle.message_wire.specs.Table.{row_of, is_among, role_of, is_tear_flow, is_unread_role, is_unread}
 use Rattle.message_wire.proofs.Grammar.{what_is_in_grammar_is_in_place, what_stands_is_in_grammar}
-use Rattle.message_wire.proofs.Made.{Gave, gave, HoldsByParts, by_parts}
-use Rattle.message_wire.proofs.Placed.{placed, read_where_placed}
+use Rattle.message_wire.proofs.Made.{gave}
+use Rattle.message_wire.proofs.Placed.{read_where_placed}
 use Rattle.message_wire.proofs.Standing.{good, good_is}
 
 -- ---- what stands is read
@@ -97,11 +95,11 @@ known_flow kind.ResvErr n rest more e = more e
 known_flow kind.PathTear n rest more e = more e
 known_flow kind.ResvConf n rest more e = more e
 
-or_some : (a : Bool) (o : Option Class) → (a ≡ true) → not (a || is_some o) ≡ false
+or_some : (a : Bool) (o : Option ReadClass) → (a ≡ true) → not (a || is_some o) ≡ false
 or_some true o e = refl
 or_some false o e = absurd cc
 
-known_class : (at n ctype : ℕ) (body : List ℕ) (x : Object) (a : Bool) (c : Option Class) → a ≡ false → ◌≡◌ {A = Result Object ObjErr} (by_class at n ctype body c) (Ok x) → not (a || is_some c) ≡ false
+known_class : (at n ctype : ℕ) (body : List ℕ) (x : Object) (a : Bool) (c : Option ReadClass) → a ≡ false → ◌≡◌ {A = Result Object ObjErr} (by_class at n ctype body c) (Ok x) → not (a || is_some c) ≡ false
 known_class at n ctype body x true c none e = refl
 known_class at n ctype body x false None none e = absurd cc
 known_class at n ctype body x false (Some c) none e = refl
@@ -133,17 +131,17 @@ class_read kind at n ctype body x e =
 
 -- ---- what is in the grammar stands
 
-by_parts_of_place : (kind : Kind) (s : Seen) (at : ℕ) (b : List ℕ) (h : Head) (x : Object) → is_unknown h.class ≡ false → has_place kind s h.class ≡ true → is_repeated kind s h.class ≡ false
-    → ◌≡◌ {A = Result Object ObjErr} (read_in kind at h.class h.ctype (contents_at at h b)) (Ok x) → name_fault at s x ≡ None → by_head kind s at b (Ok h) ≡ Ok (x, h.end)
+by_parts_of_place : (kind : Kind) (s : Seen) (at : ℕ) (b : List ℕ) (h : Head) (x : Object) → is_unknown h.class.0 ≡ false → has_place kind s h.class.0 ≡ true → is_repeated kind s h.class.0 ≡ false
+    → ◌≡◌ {A = Result Object ObjErr} (read_in kind at h.class.0 h.ctype (contents_at at h b)) (Ok x) → name_fault at s x ≡ None → by_head kind s at b (Ok h) ≡ Ok (x, h.end)
 by_parts_of_place kind s at b h x known place once read name = rw (known, place, once, read, name) refl
 
 stands_at : (kind : Kind) (before : List Object) (at : ℕ) (b : List ℕ) (h : Head) (x : Object) → ◌≡◌ {A = Result Head ObjErr} (head_of at (drop at b)) (Ok h)
-    → ◌≡◌ {A = Result Object ObjErr} (read_in kind at h.class h.ctype (contents_at at h b)) (Ok x) → IsInPlace kind before x → object_in kind (seen_of before) at b ≡ Ok (x, h.end)
+    → ◌≡◌ {A = Result Object ObjErr} (read_in kind at h.class.0 h.ctype (contents_at at h b)) (Ok x) → IsInPlace kind before x → object_in kind (seen_of before) at b ≡ Ok (x, h.end)
 unfolding object_in
 stands_at kind before at b h x head read p =
-    let class = class_read kind at h.class h.ctype (contents_at at h b) x read in
+    let class = class_read kind at h.class.0 h.ctype (contents_at at h b) x read in
     ap (by_head kind (seen_of before) at b) head
-    ∙ by_parts_of_place kind (seen_of before) at b h x (known_read kind at h.class h.ctype (contents_at at h b) x read) (subst (λ (n : ℕ). has_place kind (seen_of before) n ≡ true) class p.place)
+    ∙ by_parts_of_place kind (seen_of before) at b h x (known_read kind at h.class.0 h.ctype (contents_at at h b) x read) (subst (λ (n : ℕ). has_place kind (seen_of before) n ≡ true) class p.place)
     (subst (λ (n : ℕ). is_repeated kind (seen_of before) n ≡ false) class p.once) read (p.name at)
 
 stands_of : (kind : Kind) (b : List ℕ) (before : List Object) (at : ℕ) (xs : List Object) (end : ℕ) → Reads kind b at xs end

@@ -17,7 +17,7 @@ use Rattle.message_wire.specs.declared.seen.Seen.{Seen}
 use Rattle.message_wire.specs.Places.{has_place, is_repeated, is_unknown, name_fault, read_in, with_name, by_body}
 use Rattle.message_wire.specs.Said.{with_object}
 use Rattle.message_wire.specs.Table.{role_of, is_unread}
-use Rattle.message_wire.specs.Taking.{misplaced, object_with_head, Takes}
+use Rattle.message_wire.specs.Taking.{in_place, object_with_head, Takes}
 
 -- no fault is told: the object was read, and was added
 pub took : (r : Result (Object × ℕ) Fault) (s t : Seen) (next : ℕ) → Takes r s t next (Ok tt) → (x : Object) × (r ≡ Ok (x, next)) × (t ≡ with_object s x)
@@ -33,18 +33,18 @@ by_place k s at n rest = if not (has_place k s n) then Err (fault.Order at) else
 abbrev by_number : Kind → Seen → ℕ → ℕ → ℕ → ℕ → List ℕ → Result (Object × ℕ) Fault
 by_number k s at n ctype end body = if is_unknown n then Err (fault.Object (Class at n ctype)) else by_place k s at n (by_body at s end (read_in k at n ctype body))
 
-stopped_by : (b c : Bool) (f g e : Fault) (rest : Result (Object × ℕ) Fault) (s t : Seen) (next : ℕ) → ◌≡◌ {A = Option Fault} (Some e) (if not b then Some f else if c then Some g else None) → Takes (if not b then Err f else if c then Err g else rest) s t next (Err e)
-stopped_by false c f g e rest s t next h = cc
-stopped_by true true f g e rest s t next h = cc
+stopped_by : (b c : Bool) (f g e : Fault) (rest : Result (Object × ℕ) Fault) (s t : Seen) (next : ℕ) → ◌≡◌ {A = Result (Unit {0}) Fault} (Err e) (if not b then Err f else if c then Err g else Ok tt) → Takes (if not b then Err f else if c then Err g else rest) s t next (Err e)
+stopped_by false c f g e rest s t next h = h
+stopped_by true true f g e rest s t next h = h
 stopped_by true false f g e rest s t next h = let no : ⊥ = cc in absurd no
 
-went_by : (b c : Bool) (f g : Fault) (rest : Result (Object × ℕ) Fault) (s t : Seen) (next : ℕ) (told : Result (Unit {0}) Fault) → ◌≡◌ {A = Option Fault} None (if not b then Some f else if c then Some g else None) → Takes rest s t next told → Takes (if not b then Err f else if c then Err g else rest) s t next told
+went_by : (b c : Bool) (f g : Fault) (rest : Result (Object × ℕ) Fault) (s t : Seen) (next : ℕ) (told : Result (Unit {0}) Fault) → ◌≡◌ {A = Result (Unit {0}) Fault} (Ok tt) (if not b then Err f else if c then Err g else Ok tt) → Takes rest s t next told → Takes (if not b then Err f else if c then Err g else rest) s t next told
 went_by false c f g rest s t next told h k = let no : ⊥ = cc in absurd no
 went_by true true f g rest s t next told h k = let no : ⊥ = cc in absurd no
 went_by true false f g rest s t next told h k = k
 
 -- the class of a head is known
-of_known : (k : Kind) (s t : Seen) (at : ℕ) (h : Head) (body : List ℕ) (next n : ℕ) (told : Result (Unit {0}) Fault) → h.class ≡ n → is_unknown n ≡ false → Takes (by_place k s at n (by_body at s h.end (read_in k at n h.ctype body))) s t next told → Takes (object_with_head k s at h body) s t next told
+of_known : (k : Kind) (s t : Seen) (at : ℕ) (h : Head) (body : List ℕ) (next n : ℕ) (told : Result (Unit {0}) Fault) → h.class.0 ≡ n → is_unknown n ≡ false → Takes (by_place k s at n (by_body at s h.end (read_in k at n h.ctype body))) s t next told → Takes (object_with_head k s at h body) s t next told
 of_known k s t at h body next n told is known here =
     let choose : Bool → Result (Object × ℕ) Fault = λ u. if u then Err (fault.Object (Class at n h.ctype)) else by_place k s at n (by_body at s h.end (read_in k at n h.ctype body)) in
     let whole : Takes (by_number k s at n h.ctype h.end body) s t next told = subst (λ (u : Bool). Takes (choose u) s t next told) (sym known) here in
@@ -55,11 +55,11 @@ pub record IsRead (n : ℕ) : Type 0 where
   pub known : is_unknown n ≡ false
   pub read : (k : Kind) → is_unread k n ≡ false
 
-pub stopped : (k : Kind) (s t : Seen) (at : ℕ) (h : Head) (body : List ℕ) (next n : ℕ) (e : Fault) → h.class ≡ n → is_unknown n ≡ false → Some e ≡ misplaced k s at n → Takes (object_with_head k s at h body) s t next (Err e)
+pub stopped : (k : Kind) (s t : Seen) (at : ℕ) (h : Head) (body : List ℕ) (next n : ℕ) (e : Fault) → h.class.0 ≡ n → is_unknown n ≡ false → Err e ≡ in_place k s at n → Takes (object_with_head k s at h body) s t next (Err e)
 stopped k s t at h body next n e is known told =
     of_known k s t at h body next n (Err e) is known (stopped_by (has_place k s n) (is_repeated k s n) (fault.Order at) (fault.Repeated at) e (by_body at s h.end (read_in k at n h.ctype body)) s t next told)
 
-went_on : (k : Kind) (s t : Seen) (at : ℕ) (h : Head) (body : List ℕ) (next n : ℕ) (told : Result (Unit {0}) Fault) → h.class ≡ n → is_unknown n ≡ false → None ≡ misplaced k s at n → Takes (by_body at s h.end (read_in k at n h.ctype body)) s t next told → Takes (object_with_head k s at h body) s t next told
+went_on : (k : Kind) (s t : Seen) (at : ℕ) (h : Head) (body : List ℕ) (next n : ℕ) (told : Result (Unit {0}) Fault) → h.class.0 ≡ n → is_unknown n ≡ false → Ok tt ≡ in_place k s at n → Takes (by_body at s h.end (read_in k at n h.ctype body)) s t next told → Takes (object_with_head k s at h body) s t next told
 went_on k s t at h body next n told is known none here =
     of_known k s t at h body next n told is known (went_by (has_place k s n) (is_repeated k s n) (fault.Order at) (fault.Repeated at) (by_body at s h.end (read_in k at n h.ctype body)) s t next told none here)
 
@@ -69,33 +69,33 @@ abbrev read_as : ℕ → Result Object ObjErr → Bool → Result Object ObjErr
 read_as n r unread = if unread then Ok (object.Skipped n) else r
 
 -- a fault of the contents
-pub faulty : (k : Kind) (s t : Seen) (at : ℕ) (h : Head) (body : List ℕ) (next n : ℕ) (g : ObjErr) → h.class ≡ n → is_unknown n ≡ false → None ≡ misplaced k s at n → is_unread k n ≡ false → Err g ≡ body_of at n h.ctype body → Takes (object_with_head k s at h body) s t next (Err (fault.Object g))
+pub faulty : (k : Kind) (s t : Seen) (at : ℕ) (h : Head) (body : List ℕ) (next n : ℕ) (g : ObjErr) → h.class.0 ≡ n → is_unknown n ≡ false → Ok tt ≡ in_place k s at n → is_unread k n ≡ false → Err g ≡ body_of at n h.ctype body → Takes (object_with_head k s at h body) s t next (Err (fault.Object g))
 faulty k s t at h body next n g is known none unread e =
     let read : ◌≡◌ {A = Result Object ObjErr} (Err g) (read_in k at n h.ctype body) = e ∙ ap (read_as n (body_of at n h.ctype body)) (sym unread) in
     let here : Takes (by_body at s h.end (Err g)) s t next (Err (fault.Object g)) = refl in
     went_on k s t at h body next n (Err (fault.Object g)) is known none (subst (λ (r : Result Object ObjErr). Takes (by_body at s h.end r) s t next (Err (fault.Object g))) read here)
 
 -- an object whose name is not new
-pub ill_named : (k : Kind) (s t : Seen) (at : ℕ) (h : Head) (body : List ℕ) (next n : ℕ) (x : Object) (g : Fault) → h.class ≡ n → is_unknown n ≡ false → None ≡ misplaced k s at n → is_unread k n ≡ false → Ok x ≡ body_of at n h.ctype body → Some g ≡ name_fault at s x → Takes (object_with_head k s at h body) s t next (Err g)
+pub ill_named : (k : Kind) (s t : Seen) (at : ℕ) (h : Head) (body : List ℕ) (next n : ℕ) (x : Object) (g : Fault) → h.class.0 ≡ n → is_unknown n ≡ false → Ok tt ≡ in_place k s at n → is_unread k n ≡ false → Ok x ≡ body_of at n h.ctype body → Some g ≡ name_fault at s x → Takes (object_with_head k s at h body) s t next (Err g)
 ill_named k s t at h body next n x g is known none unread e name =
     let read : ◌≡◌ {A = Result Object ObjErr} (Ok x) (read_in k at n h.ctype body) = e ∙ ap (read_as n (body_of at n h.ctype body)) (sym unread) in
     let named : Takes (with_name h.end x (Some g)) s t next (Err g) = refl in
     let here : Takes (by_body at s h.end (Ok x)) s t next (Err g) = subst (λ (o : Option Fault). Takes (with_name h.end x o) s t next (Err g)) name named in
     went_on k s t at h body next n (Err g) is known none (subst (λ (r : Result Object ObjErr). Takes (by_body at s h.end r) s t next (Err g)) read here)
 
-added : (k : Kind) (s t : Seen) (at : ℕ) (h : Head) (body : List ℕ) (n : ℕ) (x : Object) → h.class ≡ n → is_unknown n ≡ false → None ≡ misplaced k s at n → ◌≡◌ {A = Result Object ObjErr} (Ok x) (read_in k at n h.ctype body) → None ≡ name_fault at s x → t ≡ with_object s x → Takes (object_with_head k s at h body) s t h.end (Ok tt)
+added : (k : Kind) (s t : Seen) (at : ℕ) (h : Head) (body : List ℕ) (n : ℕ) (x : Object) → h.class.0 ≡ n → is_unknown n ≡ false → Ok tt ≡ in_place k s at n → ◌≡◌ {A = Result Object ObjErr} (Ok x) (read_in k at n h.ctype body) → None ≡ name_fault at s x → t ≡ with_object s x → Takes (object_with_head k s at h body) s t h.end (Ok tt)
 added k s t at h body n x is known none read name more =
     let named : Takes (with_name h.end x None) s t h.end (Ok tt) = (refl, refl, more) in
     let here : Takes (by_body at s h.end (Ok x)) s t h.end (Ok tt) = subst (λ (o : Option Fault). Takes (with_name h.end x o) s t h.end (Ok tt)) name named in
     went_on k s t at h body h.end n (Ok tt) is known none (subst (λ (r : Result Object ObjErr). Takes (by_body at s h.end r) s t h.end (Ok tt)) read here)
 
 -- an object that was read
-pub said : (k : Kind) (s t : Seen) (at : ℕ) (h : Head) (body : List ℕ) (n : ℕ) (x : Object) → h.class ≡ n → is_unknown n ≡ false → None ≡ misplaced k s at n → is_unread k n ≡ false → Ok x ≡ body_of at n h.ctype body → None ≡ name_fault at s x → t ≡ with_object s x → Takes (object_with_head k s at h body) s t h.end (Ok tt)
+pub said : (k : Kind) (s t : Seen) (at : ℕ) (h : Head) (body : List ℕ) (n : ℕ) (x : Object) → h.class.0 ≡ n → is_unknown n ≡ false → Ok tt ≡ in_place k s at n → is_unread k n ≡ false → Ok x ≡ body_of at n h.ctype body → None ≡ name_fault at s x → t ≡ with_object s x → Takes (object_with_head k s at h body) s t h.end (Ok tt)
 said k s t at h body n x is known none unread e name more =
     added k s t at h body n x is known none (e ∙ ap (read_as n (body_of at n h.ctype body)) (sym unread)) name more
 
 -- an object that messages of the kind skip
-pub skipped : (k : Kind) (s t : Seen) (at : ℕ) (h : Head) (body : List ℕ) (n : ℕ) → h.class ≡ n → is_unknown n ≡ false → None ≡ misplaced k s at n → is_unread k n ≡ true → t ≡ with_object s (object.Skipped n) → Takes (object_with_head k s at h body) s t h.end (Ok tt)
+pub skipped : (k : Kind) (s t : Seen) (at : ℕ) (h : Head) (body : List ℕ) (n : ℕ) → h.class.0 ≡ n → is_unknown n ≡ false → Ok tt ≡ in_place k s at n → is_unread k n ≡ true → t ≡ with_object s (object.Skipped n) → Takes (object_with_head k s at h body) s t h.end (Ok tt)
 skipped k s t at h body n is known none unread more =
     added k s t at h body n (object.Skipped n) is known none (ap (read_as n (body_of at n h.ctype body)) (sym unread)) refl more
 

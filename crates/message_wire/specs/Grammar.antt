@@ -26,6 +26,7 @@ use Rattle.rsvp_base.specs.TokenBucket.{TokenBucket}
 use Rattle.rsvp_objects.specs.declared.head.Head.{Head}
 use Rattle.rsvp_objects.specs.declared.object.Object.{Object}
 use Rattle.rsvp_objects.specs.declared.object.Object.TheVariants as object
+use Rattle.rsvp_objects.specs.Classes.{integrity, flowspec, filter_spec}
 use Rattle.rsvp_objects.specs.Proper.{class_of}
 use Rattle.rsvp_objects.specs.Reading.{head_of, contents_at}
 use Rattle.rsvp_messages.specs.declared.ask.Ask.{Ask}
@@ -44,7 +45,7 @@ use Rattle.rsvp_messages.specs.Kinds.{kind_of}
 use Rattle.message_wire.specs.Messages.{sender_of, ask_of, tear_of, blame_of}
 use Rattle.message_wire.specs.Places.{is_named, read_in}
 use Rattle.message_wire.specs.Said.{session_said, hop_said, period_said, error_said, scope_said, style_said, template_said, tspec_said, advert_said, confirm_said, flow_said, ends_with_flow, last_said, is_on, filters_after, is_object}
-use Rattle.message_wire.specs.Table.{integrity, flowspec, filter_spec, role_of, may_stand, stands_once, is_anywhere}
+use Rattle.message_wire.specs.Table.{role_of, may_stand, stands_once, is_anywhere}
 
 -- ---- which objects stand in bytes
 
@@ -52,7 +53,7 @@ use Rattle.message_wire.specs.Table.{integrity, flowspec, filter_spec, role_of, 
 -- is not read
 abbrev pub Reads : Kind → List ℕ → ℕ → List Object → ℕ → Type 0
 Reads kind b at [] end = at ≡ end
-Reads kind b at (x ∷ xs) end = (h : Head) × (head_of at (drop at b) ≡ Ok h) × (read_in kind at h.class h.ctype (contents_at at h b) ≡ Ok x) × Reads kind b h.end xs end
+Reads kind b at (x ∷ xs) end = (h : Head) × (head_of at (drop at b) ≡ Ok h) × (read_in kind at h.class.0 h.ctype (contents_at at h b) ≡ Ok x) × Reads kind b h.end xs end
 
 -- ---- in which order
 

@@ -29,7 +29,7 @@ first_said f (y ∷ ys) = or_else (said_by f y) (first_said f ys)
 -- by their lengths alone these objects stand one after the other from a place to an end, each readable or not
 abbrev pub Follow : List ℕ → ℕ → List (Option Object) → ℕ → Type 0
 Follow bytes at [] end = at ≡ end
-Follow bytes at (y ∷ ys) end = (h : Head) × (head_of at (drop at bytes) ≡ Ok h) × (readable (body_of at h.class h.ctype (contents_at at h bytes)) ≡ y) × Follow bytes h.end ys end
+Follow bytes at (y ∷ ys) end = (h : Head) × (head_of at (drop at bytes) ≡ Ok h) × (readable (body_of at h.class.0 h.ctype (contents_at at h bytes)) ≡ y) × Follow bytes h.end ys end
 
 abbrev pub hint_of : List (Option Object) → Hint
 hint_of ys =

@@ -1,20 +1,18 @@
 -- The laws of what bytes spell.
-use Rattle.std.specs.Prelude.{◌≡◌, ◌≤◌, ℕ, true, false, ◌||◌, ◌==◌, List, [], ◌∷◌, ◌++◌, length, Some, None}
-use Rattle.std.specs.List.{filter, list_any}
-use Rattle.rsvp_base.specs.declared.session.Sender.{Sender}
+use Rattle.std.specs.Prelude.{◌≡◌, ◌≤◌, ℕ, true, false, ◌||◌, ◌==◌, List, [], ◌∷◌, ◌++◌, Some, None}
 use Rattle.rsvp_base.specs.declared.style.StyleKind.{StyleKind}
 use Rattle.rsvp_messages.specs.declared.fault.MsgErr.{MsgErr}
 use Rattle.rsvp_messages.specs.declared.message.Message.{Message}
 use Rattle.rsvp_messages.specs.Proper.{IsProper}
 use Rattle.rsvp_messages.specs.declared.message.Kind.{Kind}
 use Rattle.rsvp_objects.specs.declared.object.Object.{Object}
-use Rattle.rsvp_objects.specs.declared.object.Object.TheVariants as object
 use Rattle.rsvp_objects.specs.Fields.{AreBytes}
+use Rattle.rsvp_objects.specs.Classes.{flowspec, filter_spec}
 use Rattle.rsvp_objects.specs.Proper.{class_of}
 use Rattle.message_wire.specs.Grammar.{how_many, IsInGrammar}
-use Rattle.message_wire.specs.Places.{place_after_style, has_place, is_repeated, is_named, name_fault, Stand}
-use Rattle.message_wire.specs.Said.{style_said, last_said, filters_after, is_object, seen_of}
-use Rattle.message_wire.specs.Table.{integrity, flowspec, filter_spec, role_of, may_stand, stands_once, is_anywhere}
+use Rattle.message_wire.specs.Places.{has_place, is_repeated, name_fault, Stand}
+use Rattle.message_wire.specs.Said.{style_said, last_said, seen_of}
+use Rattle.message_wire.specs.Table.{role_of, stands_once, is_anywhere}
 use Rattle.message_wire.specs.Spells.{Spells, IsFirstFault}
 
 -- bytes spell at most one message

@@ -19,7 +19,7 @@ use Rattle.rsvp_messages.specs.declared.message.Message.{Message}
 use Rattle.rsvp_messages.specs.declared.message.Message.TheVariants as message
 use Rattle.rsvp_messages.specs.FlowTable.{FlowTable}
 use Rattle.message_wire.specs.declared.seen.Seen.{Seen}
-use Rattle.message_wire.specs.Table.{session, rsvp_hop, time_values, error_spec, style, flowspec, filter_spec, sender_template, sender_tspec, resv_confirm}
+use Rattle.rsvp_objects.specs.Classes.{session, rsvp_hop, time_values, error_spec, style, flowspec, filter_spec, sender_template, sender_tspec, resv_confirm}
 
 infixl 10 ◌>>=◌
 abbrev pub ◌>>=◌ : {A B : Type 0} → Result A Fault → (A → Result B Fault) → Result B Fault

@@ -12,7 +12,7 @@ use Rattle.rsvp_objects.specs.declared.object.Object.TheVariants as object
 use Rattle.rsvp_objects.specs.declared.obj_err.ObjErr.{ObjErr}
 use Rattle.rsvp_objects.specs.declared.obj_err.ObjErr.TheVariants.{Class, Crowd}
 use Rattle.rsvp_objects.specs.declared.head.Head.{Head}
-use Rattle.rsvp_objects.specs.Classes.{is_skipped, class_with}
+use Rattle.rsvp_objects.specs.Classes.{session, rsvp_hop, integrity, time_values, error_spec, scope, style, flowspec, filter_spec, sender_template, sender_tspec, adspec, is_skipped, class_with}
 use Rattle.rsvp_objects.specs.Reading.{head_of, body_of, contents_at}
 use Rattle.rsvp_messages.specs.declared.fault.Fault.{Fault}
 use Rattle.rsvp_messages.specs.declared.fault.Fault.TheVariants as fault
@@ -20,7 +20,7 @@ use Rattle.rsvp_messages.specs.declared.message.Kind.{Kind}
 use Rattle.rsvp_messages.specs.declared.message.Kind.TheVariants as kind
 use Rattle.message_wire.specs.declared.seen.Seen.{Seen}
 use Rattle.message_wire.specs.Said.{seen_of}
-use Rattle.message_wire.specs.Table.{session, rsvp_hop, integrity, time_values, error_spec, scope, style, flowspec, filter_spec, sender_template, sender_tspec, adspec, role_of, may_stand, stands_once, is_anywhere, is_unread}
+use Rattle.message_wire.specs.Table.{role_of, may_stand, stands_once, is_anywhere, is_unread}
 
 -- ---- places
 
@@ -112,10 +112,10 @@ is_unknown n = not (is_skipped n || is_some (class_with n))
 abbrev pub by_head : Kind → Seen → ℕ → List ℕ → Result Head ObjErr → Result (Object × ℕ) Fault
 by_head kind s at bytes (Err g) = Err (fault.Object g)
 by_head kind s at bytes (Ok h) =
-    if is_unknown h.class then Err (fault.Object (Class at h.class h.ctype)) else
-    if not (has_place kind s h.class) then Err (fault.Order at) else
-    if is_repeated kind s h.class then Err (fault.Repeated at) else
-    by_body at s h.end (read_in kind at h.class h.ctype (contents_at at h bytes))
+    if is_unknown h.class.0 then Err (fault.Object (Class at h.class.0 h.ctype)) else
+    if not (has_place kind s h.class.0) then Err (fault.Order at) else
+    if is_repeated kind s h.class.0 then Err (fault.Repeated at) else
+    by_body at s h.end (read_in kind at h.class.0 h.ctype (contents_at at h bytes))
 
 -- the object at a place and the place behind it, where the objects before say s; or the first fault there
 unfoldable pub object_in : Kind → Seen → ℕ → List ℕ → Result (Object × ℕ) Fault

@@ -12,9 +12,9 @@ use Rattle.rsvp_base.specs.TokenBucket.{TokenBucket}
 use Rattle.rsvp_objects.specs.ObjectFields.declared.adspec.Adspec.{Adspec}
 use Rattle.rsvp_objects.specs.declared.object.Object.{Object}
 use Rattle.rsvp_objects.specs.declared.object.Object.TheVariants as object
+use Rattle.rsvp_objects.specs.Classes.{null, adspec}
 use Rattle.rsvp_objects.specs.Proper.{class_of}
 use Rattle.message_wire.specs.declared.seen.Seen.{Seen}
-use Rattle.message_wire.specs.Table.{null, adspec}
 
 -- ---- what one object says, where it is of a sort
 

@@ -1,58 +1,10 @@
 -- Which classes of objects a message of each kind may have (RFC 2205, 3.1.3 to 3.1.9).
-use Rattle.std.specs.Prelude.{ℕ, Bool, true, false, ◌||◌, ◌==◌, nat_le, List, [], ◌∷◌, if◌then◌else◌}
+use Rattle.std.specs.Prelude.{ℕ, Bool, true, false, ◌||◌, ◌==◌, List, [], ◌∷◌, if◌then◌else◌}
+use Rattle.rsvp_objects.specs.Classes.{null, session, rsvp_hop, time_values, error_spec, scope, style, flowspec, sender_template, sender_tspec, adspec, policy_data, resv_confirm, has_high_bit}
 use Rattle.rsvp_messages.specs.declared.message.Kind.{Kind}
 use Rattle.rsvp_messages.specs.declared.message.Kind.TheVariants as kind
 use Rattle.message_wire.specs.declared.role.Role.{Role}
 use Rattle.message_wire.specs.declared.role.Role.TheVariants.{Needed, Once, Unread, Nowhere}
-
--- ---- Class-Num (RFC 2205, appendix A)
-
-abbrev pub null : ℕ
-null = 0
-
-abbrev pub session : ℕ
-session = 1
-
-abbrev pub rsvp_hop : ℕ
-rsvp_hop = 3
-
-abbrev pub integrity : ℕ
-integrity = 4
-
-abbrev pub time_values : ℕ
-time_values = 5
-
-abbrev pub error_spec : ℕ
-error_spec = 6
-
-abbrev pub scope : ℕ
-scope = 7
-
-abbrev pub style : ℕ
-style = 8
-
-abbrev pub flowspec : ℕ
-flowspec = 9
-
-abbrev pub filter_spec : ℕ
-filter_spec = 10
-
-abbrev pub sender_template : ℕ
-sender_template = 11
-
-abbrev pub sender_tspec : ℕ
-sender_tspec = 12
-
-abbrev pub adspec : ℕ
-adspec = 13
-
-abbrev pub policy_data : ℕ
-policy_data = 14
-
-abbrev pub resv_confirm : ℕ
-resv_confirm = 15
-
--- ---- the table
 
 -- the classes that stand once and are needed, that may stand once, and that may stand any number of times and are skipped.
 -- Behind a STYLE stands a list of its own, whose classes are not among these.
@@ -127,7 +79,7 @@ stands_once _ = false
 
 -- NULL, and the unknown classes that a receiver may skip, stand anywhere (RFC 2205, 3.10)
 abbrev pub is_anywhere : ℕ → Bool
-is_anywhere n = n == null || nat_le 128 n
+is_anywhere n = n == null || has_high_bit n
 
 abbrev pub is_tear_flow : Kind → ℕ → Bool
 is_tear_flow kind.ResvTear n = n == flowspec

@@ -1,5 +1,5 @@
 -- What reading an object adds to what the objects before it say.
-use Rattle.std.specs.Prelude.{◌≡◌, ℕ, not, List, Option, Some, None, Result, Ok, Err, if◌then◌else◌}
+use Rattle.std.specs.Prelude.{◌≡◌, ℕ, not, List, Result, Ok, Err, if◌then◌else◌}
 use Rattle.rsvp_objects.specs.declared.head.Head.{Head}
 use Rattle.rsvp_objects.specs.declared.object.Object.{Object}
 use Rattle.rsvp_objects.specs.declared.obj_err.ObjErr.TheVariants.{Class}
@@ -13,14 +13,14 @@ use Rattle.message_wire.specs.Said.{with_object}
 -- the object with a head and these contents, at a place behind objects that say s, or its first fault
 abbrev pub object_with_head : Kind → Seen → ℕ → Head → List ℕ → Result (Object × ℕ) Fault
 object_with_head kind s at h body =
-    if is_unknown h.class then Err (fault.Object (Class at h.class h.ctype)) else
-    if not (has_place kind s h.class) then Err (fault.Order at) else
-    if is_repeated kind s h.class then Err (fault.Repeated at) else
-    by_body at s h.end (read_in kind at h.class h.ctype body)
+    if is_unknown h.class.0 then Err (fault.Object (Class at h.class.0 h.ctype)) else
+    if not (has_place kind s h.class.0) then Err (fault.Order at) else
+    if is_repeated kind s h.class.0 then Err (fault.Repeated at) else
+    by_body at s h.end (read_in kind at h.class.0 h.ctype body)
 
--- the fault of an object of a class that may not stand at a place behind objects that say s, or not a second time
-abbrev pub misplaced : Kind → Seen → ℕ → ℕ → Option Fault
-misplaced kind s at n = if not (has_place kind s n) then Some (fault.Order at) else if is_repeated kind s n then Some (fault.Repeated at) else None
+-- an object of a class may stand at a place behind objects that say s, and did not stand where it stands once; or its fault
+abbrev pub in_place : Kind → Seen → ℕ → ℕ → Result (Unit {0}) Fault
+in_place kind s at n = if not (has_place kind s n) then Err (fault.Order at) else if is_repeated kind s n then Err (fault.Repeated at) else Ok tt
 
 -- an object that was read is added, and the place behind it is next; a fault is told
 abbrev pub Takes : Result (Object × ℕ) Fault → Seen → Seen → ℕ → Result (Unit {0}) Fault → Type 0

@@ -6,9 +6,8 @@ ghost use Rattle.message_wire.specs.Said.{seen_of, with_object};
 
 use crate::filters::Filters;
 use crate::seen::Seen;
-use crate::table::class;
 use rsvp_base::{Addr, ErrSpec, Flow, Hop, Sender, Senders, Session, StyleKind};
-use rsvp_objects::{Adspec, Object};
+use rsvp_objects::{Adspec, Class, Object};
 
 impl Seen {
     /// What no objects say.
@@ -41,7 +40,7 @@ impl Seen {
         ensures { self.new ≡ with_object self.old object }
     {
         match object {
-            Object::Skipped { class } => self.add_skipped(class),
+            Object::Skipped { class } => self.add_skipped(Class(class)),
             Object::Session { session, police } => self.add_session(session, police),
             Object::HopOf(hop) => self.add_hop(hop),
             Object::Time(period) => self.add_period(period),
@@ -60,11 +59,11 @@ impl Seen {
     /// Adds an object of a class, which is skipped.
     #[tactic(auto, unfolding(crate::specs::Said::with_object))]
     #[inline(always)]
-    pub(crate) fn add_skipped(&mut self, class: u8)
-        ensures { self.new ≡ with_object self.old (AnObject.Skipped class) }
+    pub(crate) fn add_skipped(&mut self, class: Class)
+        ensures { self.new ≡ with_object self.old (AnObject.Skipped class.0) }
     {
-        self.begun = self.begun || class != class::NULL;
-        self.adspec = self.adspec || class == class::ADSPEC;
+        self.begun = self.begun || class != Class::NULL;
+        self.adspec = self.adspec || class == Class::ADSPEC;
     }
 
     /// Adds what a SESSION says.

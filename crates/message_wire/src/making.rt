@@ -14,12 +14,12 @@ ghost use Rattle.message_wire.specs.Messages.{sender_of};
 use crate::hinting::hint;
 use crate::listing::{first_with_flow, is_nobody_named, names, one_name, put_others};
 use crate::seen::Seen;
-use crate::table::class;
 use rsvp_base::{Flow, Part, Sender, StyleKind};
 use rsvp_messages::{
     Ask, Blame, Fault, FixedList, Kind, Message, MsgErr, PathErrMsg, PathMsg, PathTearMsg,
     ResvConfMsg, ResvErrMsg, ResvMsg, ResvTearMsg, Tear,
 };
+use rsvp_objects::Class;
 
 /// What is told of a Path.
 #[tactic(auto, unfolding(crate::specs::Messages::message_of, crate::specs::Messages::path_of))]
@@ -30,13 +30,13 @@ pub fn path(seen: &mut Seen, bytes: &[u8]) -> Result<Message, MsgErr>
     ensures { Finishes AKind.Path seen.old bytes.now result }
 {
     let Some((session, police)) = seen.session else {
-        return Err(lacking(Kind::Path, class::SESSION, bytes));
+        return Err(lacking(Kind::Path, Class::SESSION, bytes));
     };
     let Some(hop) = seen.hop else {
-        return Err(lacking(Kind::Path, class::RSVP_HOP, bytes));
+        return Err(lacking(Kind::Path, Class::RSVP_HOP, bytes));
     };
     let Some(period) = seen.period else {
-        return Err(lacking(Kind::Path, class::TIME_VALUES, bytes));
+        return Err(lacking(Kind::Path, Class::TIME_VALUES, bytes));
     };
     let sender = match sender_with(seen.template, seen.tspec) {
         Ok(sender) => sender,
@@ -61,10 +61,10 @@ pub fn path_err(seen: &Seen, bytes: &[u8]) -> Result<Message, MsgErr>
     ensures { Finishes AKind.PathErr seen.now bytes.now result }
 {
     let Some((session, _)) = seen.session else {
-        return Err(lacking(Kind::PathErr, class::SESSION, bytes));
+        return Err(lacking(Kind::PathErr, Class::SESSION, bytes));
     };
     let Some(err) = seen.error else {
-        return Err(lacking(Kind::PathErr, class::ERROR_SPEC, bytes));
+        return Err(lacking(Kind::PathErr, Class::ERROR_SPEC, bytes));
     };
     Ok(Message::PathErr(PathErrMsg {
         session,
@@ -82,10 +82,10 @@ pub fn path_tear(seen: &Seen, bytes: &[u8]) -> Result<Message, MsgErr>
     ensures { Finishes AKind.PathTear seen.now bytes.now result }
 {
     let Some((session, _)) = seen.session else {
-        return Err(lacking(Kind::PathTear, class::SESSION, bytes));
+        return Err(lacking(Kind::PathTear, Class::SESSION, bytes));
     };
     let Some(hop) = seen.hop else {
-        return Err(lacking(Kind::PathTear, class::RSVP_HOP, bytes));
+        return Err(lacking(Kind::PathTear, Class::RSVP_HOP, bytes));
     };
     Ok(Message::PathTear(PathTearMsg {
         session,
@@ -103,16 +103,16 @@ pub fn resv_err(seen: &mut Seen, bytes: &[u8]) -> Result<Message, MsgErr>
     ensures { Finishes AKind.ResvErr seen.old bytes.now result }
 {
     let Some((session, _)) = seen.session else {
-        return Err(lacking(Kind::ResvErr, class::SESSION, bytes));
+        return Err(lacking(Kind::ResvErr, Class::SESSION, bytes));
     };
     let Some(hop) = seen.hop else {
-        return Err(lacking(Kind::ResvErr, class::RSVP_HOP, bytes));
+        return Err(lacking(Kind::ResvErr, Class::RSVP_HOP, bytes));
     };
     let Some(err) = seen.error else {
-        return Err(lacking(Kind::ResvErr, class::ERROR_SPEC, bytes));
+        return Err(lacking(Kind::ResvErr, Class::ERROR_SPEC, bytes));
     };
     let Some(style) = seen.style else {
-        return Err(lacking(Kind::ResvErr, class::STYLE, bytes));
+        return Err(lacking(Kind::ResvErr, Class::STYLE, bytes));
     };
     match style {
         StyleKind::Wild => {
@@ -141,7 +141,7 @@ pub fn resv_err(seen: &mut Seen, bytes: &[u8]) -> Result<Message, MsgErr>
                 }));
             };
             let [first, ..] = seen.filters.as_slice() else {
-                return Err(lacking(Kind::ResvErr, class::FILTER_SPEC, bytes));
+                return Err(lacking(Kind::ResvErr, Class::FILTER_SPEC, bytes));
             };
             return Ok(Message::ResvErr(ResvErrMsg {
                 session,
@@ -168,7 +168,7 @@ pub fn resv_err(seen: &mut Seen, bytes: &[u8]) -> Result<Message, MsgErr>
                 }));
             };
             if is_nobody_named(&seen.filters) {
-                return Err(lacking(Kind::ResvErr, class::FILTER_SPEC, bytes));
+                return Err(lacking(Kind::ResvErr, Class::FILTER_SPEC, bytes));
             }
             return Ok(Message::ResvErr(ResvErrMsg {
                 session,
@@ -193,13 +193,13 @@ pub fn resv_tear(seen: &mut Seen, bytes: &[u8]) -> Result<Message, MsgErr>
     ensures { Finishes AKind.ResvTear seen.old bytes.now result }
 {
     let Some((session, _)) = seen.session else {
-        return Err(lacking(Kind::ResvTear, class::SESSION, bytes));
+        return Err(lacking(Kind::ResvTear, Class::SESSION, bytes));
     };
     let Some(hop) = seen.hop else {
-        return Err(lacking(Kind::ResvTear, class::RSVP_HOP, bytes));
+        return Err(lacking(Kind::ResvTear, Class::RSVP_HOP, bytes));
     };
     let Some(style) = seen.style else {
-        return Err(lacking(Kind::ResvTear, class::STYLE, bytes));
+        return Err(lacking(Kind::ResvTear, Class::STYLE, bytes));
     };
     match style {
         StyleKind::Wild => {
@@ -213,7 +213,7 @@ pub fn resv_tear(seen: &mut Seen, bytes: &[u8]) -> Result<Message, MsgErr>
         }
         StyleKind::Fixed => {
             if is_nobody_named(&seen.filters) {
-                return Err(lacking(Kind::ResvTear, class::FILTER_SPEC, bytes));
+                return Err(lacking(Kind::ResvTear, Class::FILTER_SPEC, bytes));
             }
             return Ok(Message::ResvTear(ResvTearMsg {
                 session,
@@ -223,7 +223,7 @@ pub fn resv_tear(seen: &mut Seen, bytes: &[u8]) -> Result<Message, MsgErr>
         }
         StyleKind::Shared => {
             if is_nobody_named(&seen.filters) {
-                return Err(lacking(Kind::ResvTear, class::FILTER_SPEC, bytes));
+                return Err(lacking(Kind::ResvTear, Class::FILTER_SPEC, bytes));
             }
             return Ok(Message::ResvTear(ResvTearMsg {
                 session,
@@ -243,19 +243,19 @@ pub fn resv(seen: &mut Seen, bytes: &[u8]) -> Result<Message, MsgErr>
     ensures { Finishes AKind.Resv seen.old bytes.now result }
 {
     let Some((session, _)) = seen.session else {
-        return Err(lacking(Kind::Resv, class::SESSION, bytes));
+        return Err(lacking(Kind::Resv, Class::SESSION, bytes));
     };
     let Some(hop) = seen.hop else {
-        return Err(lacking(Kind::Resv, class::RSVP_HOP, bytes));
+        return Err(lacking(Kind::Resv, Class::RSVP_HOP, bytes));
     };
     let Some(period) = seen.period else {
-        return Err(lacking(Kind::Resv, class::TIME_VALUES, bytes));
+        return Err(lacking(Kind::Resv, Class::TIME_VALUES, bytes));
     };
     let Some(style) = seen.style else {
-        return Err(lacking(Kind::Resv, class::STYLE, bytes));
+        return Err(lacking(Kind::Resv, Class::STYLE, bytes));
     };
     let Some(flow) = seen.flow else {
-        return Err(lacking(Kind::Resv, class::FLOWSPEC, bytes));
+        return Err(lacking(Kind::Resv, Class::FLOWSPEC, bytes));
     };
     match style {
         StyleKind::Wild => {
@@ -272,10 +272,10 @@ pub fn resv(seen: &mut Seen, bytes: &[u8]) -> Result<Message, MsgErr>
         }
         StyleKind::Fixed => {
             if seen.due {
-                return Err(lacking(Kind::Resv, class::FILTER_SPEC, bytes));
+                return Err(lacking(Kind::Resv, Class::FILTER_SPEC, bytes));
             }
             let Some(first) = first_with_flow(&seen.filters) else {
-                return Err(lacking(Kind::Resv, class::FILTER_SPEC, bytes));
+                return Err(lacking(Kind::Resv, Class::FILTER_SPEC, bytes));
             };
             let mut list = FixedList::new(first.sender, first.flow);
             put_others(&mut list, &seen.filters, &first);
@@ -289,7 +289,7 @@ pub fn resv(seen: &mut Seen, bytes: &[u8]) -> Result<Message, MsgErr>
         }
         StyleKind::Shared => {
             if is_nobody_named(&seen.filters) {
-                return Err(lacking(Kind::Resv, class::FILTER_SPEC, bytes));
+                return Err(lacking(Kind::Resv, Class::FILTER_SPEC, bytes));
             }
             return Ok(Message::Resv(ResvMsg {
                 session,
@@ -314,21 +314,21 @@ pub fn resv_conf(seen: &Seen, bytes: &[u8]) -> Result<Message, MsgErr>
     ensures { Finishes AKind.ResvConf seen.now bytes.now result }
 {
     let Some((session, _)) = seen.session else {
-        return Err(lacking(Kind::ResvConf, class::SESSION, bytes));
+        return Err(lacking(Kind::ResvConf, Class::SESSION, bytes));
     };
     let Some(err) = seen.error else {
-        return Err(lacking(Kind::ResvConf, class::ERROR_SPEC, bytes));
+        return Err(lacking(Kind::ResvConf, Class::ERROR_SPEC, bytes));
     };
     let Some(style) = seen.style else {
-        return Err(lacking(Kind::ResvConf, class::STYLE, bytes));
+        return Err(lacking(Kind::ResvConf, Class::STYLE, bytes));
     };
     let Some(flow) = seen.flow else {
-        return Err(lacking(Kind::ResvConf, class::FLOWSPEC, bytes));
+        return Err(lacking(Kind::ResvConf, Class::FLOWSPEC, bytes));
     };
     match style {
         StyleKind::Wild => {
             let Some(confirm) = seen.confirm else {
-                return Err(lacking(Kind::ResvConf, class::RESV_CONFIRM, bytes));
+                return Err(lacking(Kind::ResvConf, Class::RESV_CONFIRM, bytes));
             };
             return Ok(Message::ResvConf(ResvConfMsg {
                 session,
@@ -339,13 +339,13 @@ pub fn resv_conf(seen: &Seen, bytes: &[u8]) -> Result<Message, MsgErr>
         }
         StyleKind::Fixed => {
             if seen.due {
-                return Err(lacking(Kind::ResvConf, class::FILTER_SPEC, bytes));
+                return Err(lacking(Kind::ResvConf, Class::FILTER_SPEC, bytes));
             }
             let Some(first) = first_with_flow(&seen.filters) else {
-                return Err(lacking(Kind::ResvConf, class::FILTER_SPEC, bytes));
+                return Err(lacking(Kind::ResvConf, Class::FILTER_SPEC, bytes));
             };
             let Some(confirm) = seen.confirm else {
-                return Err(lacking(Kind::ResvConf, class::RESV_CONFIRM, bytes));
+                return Err(lacking(Kind::ResvConf, Class::RESV_CONFIRM, bytes));
             };
             let mut list = FixedList::new(first.sender, first.flow);
             put_others(&mut list, &seen.filters, &first);
@@ -358,10 +358,10 @@ pub fn resv_conf(seen: &Seen, bytes: &[u8]) -> Result<Message, MsgErr>
         }
         StyleKind::Shared => {
             if is_nobody_named(&seen.filters) {
-                return Err(lacking(Kind::ResvConf, class::FILTER_SPEC, bytes));
+                return Err(lacking(Kind::ResvConf, Class::FILTER_SPEC, bytes));
             }
             let Some(confirm) = seen.confirm else {
-                return Err(lacking(Kind::ResvConf, class::RESV_CONFIRM, bytes));
+                return Err(lacking(Kind::ResvConf, Class::RESV_CONFIRM, bytes));
             };
             return Ok(Message::ResvConf(ResvConfMsg {
                 session,
@@ -378,14 +378,14 @@ pub fn resv_conf(seen: &Seen, bytes: &[u8]) -> Result<Message, MsgErr>
 
 // A class that is missing, with what could be read.
 #[cold]
-fn lacking(kind: Kind, number: u8, bytes: &[u8]) -> MsgErr
+fn lacking(kind: Kind, class: Class, bytes: &[u8]) -> MsgErr
     requires long { 8 ≤ length bytes.now }
     requires short { length bytes.now ≤ 65535 }
-    ensures fault { result.fault ≡ AFault.Missing number }
+    ensures fault { result.fault ≡ AFault.Missing class.0 }
     ensures kind { result.kind ≡ Some kind }
     ensures hint { IsHint bytes.now result.hint }
 {
-    told(kind, Fault::Missing(number), bytes)
+    told(kind, Fault::Missing(class.0), bytes)
 }
 
 /// A fault of the objects of a message, with what could be read.
@@ -414,8 +414,8 @@ fn sender_with(
 {
     match (template, tspec) {
         (Some(sender), Some(flow)) => Ok(Some((sender, flow))),
-        (Some(_), None) => Err(Fault::Missing(class::SENDER_TSPEC)),
-        (None, Some(_)) => Err(Fault::Missing(class::SENDER_TEMPLATE)),
+        (Some(_), None) => Err(Fault::Missing(Class::SENDER_TSPEC.0)),
+        (None, Some(_)) => Err(Fault::Missing(Class::SENDER_TEMPLATE.0)),
         (None, None) => Ok(None),
     }
 }

@@ -6,72 +6,75 @@ ghost use Rattle.message_wire.specs.Places.{has_no_filter, list_place, error_pla
 
 use crate::role::Role;
 use crate::seen::Seen;
-use crate::table::{class, is_anywhere};
+use crate::table::is_anywhere;
 use rsvp_base::{Sender, StyleKind};
 use rsvp_messages::{Fault, Kind};
-use rsvp_objects::{ObjErr, Object};
+use rsvp_objects::{Class, ObjErr, Object};
 
 /// Whether an object of this class, of this role in the kind, may stand behind those that were seen.
 #[tactic(auto, unfolding(crate::specs::Places::has_place))]
 #[inline(always)]
-pub fn has_place(role: Role, kind: Kind, seen: &Seen, number: u8) -> bool
-    requires role { role ≡ role_of kind number }
-    ensures { result ≡ has_place kind seen.now number }
+pub fn has_place(role: Role, kind: Kind, seen: &Seen, class: Class) -> bool
+    requires role { role ≡ role_of kind class.0 }
+    ensures { result ≡ has_place kind seen.now class.0 }
 {
-    if is_anywhere(number) {
+    if is_anywhere(class) {
         return true;
     }
-    if number == class::INTEGRITY {
+    if class == Class::INTEGRITY {
         return !seen.begun;
     }
     match seen.style {
         None => !matches!(role, Role::Nowhere),
-        Some(style) => place_after_style(kind, style, seen, number),
+        Some(style) => place_after_style(kind, style, seen, class),
     }
 }
 
 // Whether the list of the message's kind and style has a place for this class.
-fn place_after_style(kind: Kind, style: StyleKind, seen: &Seen, number: u8) -> bool
-    ensures { result ≡ place_after_style kind style seen.now number }
+#[inline(always)]
+fn place_after_style(kind: Kind, style: StyleKind, seen: &Seen, class: Class) -> bool
+    ensures { result ≡ place_after_style kind style seen.now class.0 }
 {
     match kind {
-        Kind::Resv | Kind::ResvConf => list_place(style, seen, number),
-        Kind::ResvErr => error_place(style, seen, number),
-        Kind::ResvTear => tear_place(style, number),
+        Kind::Resv | Kind::ResvConf => list_place(style, seen, class),
+        Kind::ResvErr => error_place(style, seen, class),
+        Kind::ResvTear => tear_place(style, class),
         Kind::Path | Kind::PathErr | Kind::PathTear => false,
     }
 }
 
 // The flow descriptors of a Resv or a ResvConf (RFC 2205, 3.1.4).
-fn list_place(style: StyleKind, seen: &Seen, number: u8) -> bool
-    ensures { result ≡ list_place style seen.now number }
+#[inline(always)]
+fn list_place(style: StyleKind, seen: &Seen, class: Class) -> bool
+    ensures { result ≡ list_place style seen.now class.0 }
 {
     match style {
-        StyleKind::Wild => number == class::FLOWSPEC && seen.flow.is_none(),
+        StyleKind::Wild => class == Class::FLOWSPEC && seen.flow.is_none(),
         StyleKind::Fixed => {
-            (number == class::FLOWSPEC && !seen.due)
-                || (number == class::FILTER_SPEC && seen.flow.is_some())
+            (class == Class::FLOWSPEC && !seen.due)
+                || (class == Class::FILTER_SPEC && seen.flow.is_some())
         }
         StyleKind::Shared => {
-            (number == class::FLOWSPEC && seen.flow.is_none())
-                || (number == class::FILTER_SPEC && seen.flow.is_some())
+            (class == Class::FLOWSPEC && seen.flow.is_none())
+                || (class == Class::FILTER_SPEC && seen.flow.is_some())
         }
     }
 }
 
 // The error flow descriptor of a ResvErr (RFC 2205, 3.1.8).
-fn error_place(style: StyleKind, seen: &Seen, number: u8) -> bool
-    ensures { result ≡ error_place style seen.now number }
+#[inline(always)]
+fn error_place(style: StyleKind, seen: &Seen, class: Class) -> bool
+    ensures { result ≡ error_place style seen.now class.0 }
 {
     match style {
-        StyleKind::Wild => number == class::FLOWSPEC && seen.flow.is_none(),
+        StyleKind::Wild => class == Class::FLOWSPEC && seen.flow.is_none(),
         StyleKind::Fixed => {
-            (number == class::FLOWSPEC && seen.flow.is_none())
-                || (number == class::FILTER_SPEC && seen.flow.is_some() && has_no_filter(seen))
+            (class == Class::FLOWSPEC && seen.flow.is_none())
+                || (class == Class::FILTER_SPEC && seen.flow.is_some() && has_no_filter(seen))
         }
         StyleKind::Shared => {
-            (number == class::FLOWSPEC && seen.flow.is_none())
-                || (number == class::FILTER_SPEC && seen.flow.is_some())
+            (class == Class::FLOWSPEC && seen.flow.is_none())
+                || (class == Class::FILTER_SPEC && seen.flow.is_some())
         }
     }
 }
@@ -83,13 +86,14 @@ fn has_no_filter(seen: &Seen) -> bool
 }
 
 // The filters of a ResvTear (RFC 2205, 3.1.6).
-fn tear_place(style: StyleKind, number: u8) -> bool
-    ensures { result ≡ tear_place style number }
+#[inline(always)]
+fn tear_place(style: StyleKind, class: Class) -> bool
+    ensures { result ≡ tear_place style class.0 }
 {
     match style {
-        StyleKind::Wild => number == class::FLOWSPEC,
+        StyleKind::Wild => class == Class::FLOWSPEC,
         StyleKind::Fixed | StyleKind::Shared => {
-            number == class::FLOWSPEC || number == class::FILTER_SPEC
+            class == Class::FLOWSPEC || class == Class::FILTER_SPEC
         }
     }
 }
@@ -97,31 +101,31 @@ fn tear_place(style: StyleKind, number: u8) -> bool
 /// Whether an object of this class, which stands once, stood before.
 #[tactic(auto, unfolding(crate::specs::Places::is_repeated))]
 #[inline(always)]
-pub fn is_repeated(role: Role, kind: Kind, seen: &Seen, number: u8) -> bool
-    requires role { role ≡ role_of kind number }
-    ensures { result ≡ is_repeated kind seen.now number }
+pub fn is_repeated(role: Role, kind: Kind, seen: &Seen, class: Class) -> bool
+    requires role { role ≡ role_of kind class.0 }
+    ensures { result ≡ is_repeated kind seen.now class.0 }
 {
     match role {
-        Role::Needed | Role::Once => stood(seen, number),
+        Role::Needed | Role::Once => stood(seen, class),
         Role::Unread | Role::Nowhere => false,
     }
 }
 
 #[tactic(auto, unfolding(crate::specs::Places::stood))]
 #[inline(always)]
-fn stood(seen: &Seen, number: u8) -> bool
-    ensures { result ≡ stood seen.now number }
+fn stood(seen: &Seen, class: Class) -> bool
+    ensures { result ≡ stood seen.now class.0 }
 {
-    match number {
-        class::SESSION => seen.session.is_some(),
-        class::RSVP_HOP => seen.hop.is_some(),
-        class::TIME_VALUES => seen.period.is_some(),
-        class::ERROR_SPEC => seen.error.is_some(),
-        class::SCOPE => seen.scope.is_some(),
-        class::STYLE => seen.style.is_some(),
-        class::SENDER_TEMPLATE => seen.template.is_some(),
-        class::SENDER_TSPEC => seen.tspec.is_some(),
-        class::ADSPEC => seen.adspec,
+    match class {
+        Class::SESSION => seen.session.is_some(),
+        Class::RSVP_HOP => seen.hop.is_some(),
+        Class::TIME_VALUES => seen.period.is_some(),
+        Class::ERROR_SPEC => seen.error.is_some(),
+        Class::SCOPE => seen.scope.is_some(),
+        Class::STYLE => seen.style.is_some(),
+        Class::SENDER_TEMPLATE => seen.template.is_some(),
+        Class::SENDER_TSPEC => seen.tspec.is_some(),
+        Class::ADSPEC => seen.adspec,
         _ => seen.confirm.is_some(),
     }
 }

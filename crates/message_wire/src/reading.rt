@@ -1,16 +1,19 @@
 //! Reading the objects of a message.
 ghost use Rattle.std.specs.Prelude.{◌≡◌, ◌≤◌, ◌<◌, [], List, length, OnOk, IfErr};
+ghost use Rattle.rsvp_objects.specs.Classes as number;
 ghost use Rattle.rsvp_objects.specs.declared.object.Object.{Object as AnObject};
 ghost use Rattle.message_wire.specs.Places.{read_in, object_in, Stand};
 ghost use Rattle.message_wire.specs.Said.{seen_of};
 ghost use Rattle.message_wire.specs.Spells.{StopsAt};
-ghost use Rattle.message_wire.specs.Taking.{misplaced, object_with_head, Takes};
+ghost use Rattle.message_wire.specs.Table.{role_of};
+ghost use Rattle.message_wire.specs.Taking.{in_place, object_with_head, Takes};
 
 use crate::places::{filter_fault, has_place, is_repeated, name_fault};
+use crate::role::Role;
 use crate::seen::Seen;
-use crate::table::{class, is_unread, role};
+use crate::table::{is_unread, role};
 use rsvp_messages::{Fault, Kind};
-use rsvp_objects::{Head, ObjErr, Object, head_at, is_known, object_with, read};
+use rsvp_objects::{Class, Head, ObjErr, Object, head_at, object_with, read};
 
 /// The size of the common header, behind which the first object stands (RFC 2205, 3.1.1).
 pub const HEADER: usize = 8;
@@ -63,31 +66,29 @@ fn take(kind: Kind, seen: &mut Seen, at: u16, head: Head, body: &[u8]) -> Result
     ensures { Takes (object_with_head kind seen.old at head body.now) seen.old seen.new head.end result }
 {
     match head.class {
-        class::SESSION => take_session(kind, seen, at, head, body),
-        class::RSVP_HOP => take_hop(kind, seen, at, head, body),
-        class::TIME_VALUES => take_time(kind, seen, at, head, body),
-        class::ERROR_SPEC => take_error(kind, seen, at, head, body),
-        class::SCOPE => take_scope(kind, seen, at, head, body),
-        class::STYLE => take_style(kind, seen, at, head, body),
-        class::FLOWSPEC => take_flow(kind, seen, at, head, body),
-        class::FILTER_SPEC => take_filter(kind, seen, at, head, body),
-        class::SENDER_TEMPLATE => take_template(kind, seen, at, head, body),
-        class::SENDER_TSPEC => take_tspec(kind, seen, at, head, body),
-        class::ADSPEC => take_adspec(kind, seen, at, head, body),
-        class::RESV_CONFIRM => take_confirm(kind, seen, at, head, body),
+        Class::SESSION => take_session(kind, seen, at, head, body),
+        Class::RSVP_HOP => take_hop(kind, seen, at, head, body),
+        Class::TIME_VALUES => take_time(kind, seen, at, head, body),
+        Class::ERROR_SPEC => take_error(kind, seen, at, head, body),
+        Class::SCOPE => take_scope(kind, seen, at, head, body),
+        Class::STYLE => take_style(kind, seen, at, head, body),
+        Class::FLOWSPEC => take_flow(kind, seen, at, head, body),
+        Class::FILTER_SPEC => take_filter(kind, seen, at, head, body),
+        Class::SENDER_TEMPLATE => take_template(kind, seen, at, head, body),
+        Class::SENDER_TSPEC => take_tspec(kind, seen, at, head, body),
+        Class::ADSPEC => take_adspec(kind, seen, at, head, body),
+        Class::RESV_CONFIRM => take_confirm(kind, seen, at, head, body),
         _ => take_other(kind, seen, at, head, body),
     }
 }
 
 #[inline(never)]
 fn take_session(kind: Kind, seen: &mut Seen, at: u16, head: Head, body: &[u8]) -> Result<(), Fault>
-    requires { head.class ≡ 1 }
+    requires { head.class.0 ≡ number.session }
     ensures { Takes (object_with_head kind seen.old at head body.now) seen.old seen.new head.end result }
 {
-    match misplaced(kind, seen, at, class::SESSION) {
-        None => {}
-        Some(fault) => return Err(fault),
-    }
+    let role = role(kind, Class::SESSION);
+    in_place(role, kind, seen, at, Class::SESSION)?;
     match read::session(at, head.ctype, body) {
         Ok((session, police)) => {
             seen.add_session(session, police);
@@ -99,13 +100,11 @@ fn take_session(kind: Kind, seen: &mut Seen, at: u16, head: Head, body: &[u8]) -
 
 #[inline(never)]
 fn take_hop(kind: Kind, seen: &mut Seen, at: u16, head: Head, body: &[u8]) -> Result<(), Fault>
-    requires { head.class ≡ 3 }
+    requires { head.class.0 ≡ number.rsvp_hop }
     ensures { Takes (object_with_head kind seen.old at head body.now) seen.old seen.new head.end result }
 {
-    match misplaced(kind, seen, at, class::RSVP_HOP) {
-        None => {}
-        Some(fault) => return Err(fault),
-    }
+    let role = role(kind, Class::RSVP_HOP);
+    in_place(role, kind, seen, at, Class::RSVP_HOP)?;
     match read::hop(at, head.ctype, body) {
         Ok(hop) => {
             seen.add_hop(hop);
@@ -117,13 +116,11 @@ fn take_hop(kind: Kind, seen: &mut Seen, at: u16, head: Head, body: &[u8]) -> Re
 
 #[inline(never)]
 fn take_time(kind: Kind, seen: &mut Seen, at: u16, head: Head, body: &[u8]) -> Result<(), Fault>
-    requires { head.class ≡ 5 }
+    requires { head.class.0 ≡ number.time_values }
     ensures { Takes (object_with_head kind seen.old at head body.now) seen.old seen.new head.end result }
 {
-    match misplaced(kind, seen, at, class::TIME_VALUES) {
-        None => {}
-        Some(fault) => return Err(fault),
-    }
+    let role = role(kind, Class::TIME_VALUES);
+    in_place(role, kind, seen, at, Class::TIME_VALUES)?;
     match read::time(at, head.ctype, body) {
         Ok(period) => {
             seen.add_period(period);
@@ -135,13 +132,11 @@ fn take_time(kind: Kind, seen: &mut Seen, at: u16, head: Head, body: &[u8]) -> R
 
 #[inline(never)]
 fn take_error(kind: Kind, seen: &mut Seen, at: u16, head: Head, body: &[u8]) -> Result<(), Fault>
-    requires { head.class ≡ 6 }
+    requires { head.class.0 ≡ number.error_spec }
     ensures { Takes (object_with_head kind seen.old at head body.now) seen.old seen.new head.end result }
 {
-    match misplaced(kind, seen, at, class::ERROR_SPEC) {
-        None => {}
-        Some(fault) => return Err(fault),
-    }
+    let role = role(kind, Class::ERROR_SPEC);
+    in_place(role, kind, seen, at, Class::ERROR_SPEC)?;
     match read::error(at, head.ctype, body) {
         Ok(error) => {
             seen.add_error(error);
@@ -153,13 +148,11 @@ fn take_error(kind: Kind, seen: &mut Seen, at: u16, head: Head, body: &[u8]) -> 
 
 #[inline(never)]
 fn take_scope(kind: Kind, seen: &mut Seen, at: u16, head: Head, body: &[u8]) -> Result<(), Fault>
-    requires { head.class ≡ 7 }
+    requires { head.class.0 ≡ number.scope }
     ensures { Takes (object_with_head kind seen.old at head body.now) seen.old seen.new head.end result }
 {
-    match misplaced(kind, seen, at, class::SCOPE) {
-        None => {}
-        Some(fault) => return Err(fault),
-    }
+    let role = role(kind, Class::SCOPE);
+    in_place(role, kind, seen, at, Class::SCOPE)?;
     match read::scope(at, head.ctype, body) {
         Ok(senders) => {
             seen.add_scope(senders);
@@ -171,13 +164,11 @@ fn take_scope(kind: Kind, seen: &mut Seen, at: u16, head: Head, body: &[u8]) -> 
 
 #[inline(never)]
 fn take_style(kind: Kind, seen: &mut Seen, at: u16, head: Head, body: &[u8]) -> Result<(), Fault>
-    requires { head.class ≡ 8 }
+    requires { head.class.0 ≡ number.style }
     ensures { Takes (object_with_head kind seen.old at head body.now) seen.old seen.new head.end result }
 {
-    match misplaced(kind, seen, at, class::STYLE) {
-        None => {}
-        Some(fault) => return Err(fault),
-    }
+    let role = role(kind, Class::STYLE);
+    in_place(role, kind, seen, at, Class::STYLE)?;
     match read::style(at, head.ctype, body) {
         Ok(style) => {
             seen.add_style(style);
@@ -189,15 +180,13 @@ fn take_style(kind: Kind, seen: &mut Seen, at: u16, head: Head, body: &[u8]) -> 
 
 #[inline(never)]
 fn take_flow(kind: Kind, seen: &mut Seen, at: u16, head: Head, body: &[u8]) -> Result<(), Fault>
-    requires { head.class ≡ 9 }
+    requires { head.class.0 ≡ number.flowspec }
     ensures { Takes (object_with_head kind seen.old at head body.now) seen.old seen.new head.end result }
 {
-    match misplaced(kind, seen, at, class::FLOWSPEC) {
-        None => {}
-        Some(fault) => return Err(fault),
-    }
-    if is_unread(role(kind, class::FLOWSPEC), kind, class::FLOWSPEC) {
-        seen.add_skipped(class::FLOWSPEC);
+    let role = role(kind, Class::FLOWSPEC);
+    in_place(role, kind, seen, at, Class::FLOWSPEC)?;
+    if is_unread(role, kind, Class::FLOWSPEC) {
+        seen.add_skipped(Class::FLOWSPEC);
         return Ok(());
     }
     match read::flow_spec(at, head.ctype, body) {
@@ -211,13 +200,11 @@ fn take_flow(kind: Kind, seen: &mut Seen, at: u16, head: Head, body: &[u8]) -> R
 
 #[inline(never)]
 fn take_filter(kind: Kind, seen: &mut Seen, at: u16, head: Head, body: &[u8]) -> Result<(), Fault>
-    requires { head.class ≡ 10 }
+    requires { head.class.0 ≡ number.filter_spec }
     ensures { Takes (object_with_head kind seen.old at head body.now) seen.old seen.new head.end result }
 {
-    match misplaced(kind, seen, at, class::FILTER_SPEC) {
-        None => {}
-        Some(fault) => return Err(fault),
-    }
+    let role = role(kind, Class::FILTER_SPEC);
+    in_place(role, kind, seen, at, Class::FILTER_SPEC)?;
     let sender = match read::filter(at, head.ctype, body) {
         Ok(sender) => sender,
         Err(fault) => return Err(Fault::Object(fault)),
@@ -233,13 +220,11 @@ fn take_filter(kind: Kind, seen: &mut Seen, at: u16, head: Head, body: &[u8]) ->
 
 #[inline(never)]
 fn take_template(kind: Kind, seen: &mut Seen, at: u16, head: Head, body: &[u8]) -> Result<(), Fault>
-    requires { head.class ≡ 11 }
+    requires { head.class.0 ≡ number.sender_template }
     ensures { Takes (object_with_head kind seen.old at head body.now) seen.old seen.new head.end result }
 {
-    match misplaced(kind, seen, at, class::SENDER_TEMPLATE) {
-        None => {}
-        Some(fault) => return Err(fault),
-    }
+    let role = role(kind, Class::SENDER_TEMPLATE);
+    in_place(role, kind, seen, at, Class::SENDER_TEMPLATE)?;
     match read::template(at, head.ctype, body) {
         Ok(sender) => {
             seen.add_template(sender);
@@ -251,15 +236,13 @@ fn take_template(kind: Kind, seen: &mut Seen, at: u16, head: Head, body: &[u8]) 
 
 #[inline(never)]
 fn take_tspec(kind: Kind, seen: &mut Seen, at: u16, head: Head, body: &[u8]) -> Result<(), Fault>
-    requires { head.class ≡ 12 }
+    requires { head.class.0 ≡ number.sender_tspec }
     ensures { Takes (object_with_head kind seen.old at head body.now) seen.old seen.new head.end result }
 {
-    match misplaced(kind, seen, at, class::SENDER_TSPEC) {
-        None => {}
-        Some(fault) => return Err(fault),
-    }
-    if is_unread(role(kind, class::SENDER_TSPEC), kind, class::SENDER_TSPEC) {
-        seen.add_skipped(class::SENDER_TSPEC);
+    let role = role(kind, Class::SENDER_TSPEC);
+    in_place(role, kind, seen, at, Class::SENDER_TSPEC)?;
+    if is_unread(role, kind, Class::SENDER_TSPEC) {
+        seen.add_skipped(Class::SENDER_TSPEC);
         return Ok(());
     }
     match read::tspec(at, head.ctype, body) {
@@ -273,33 +256,29 @@ fn take_tspec(kind: Kind, seen: &mut Seen, at: u16, head: Head, body: &[u8]) -> 
 
 #[inline(never)]
 fn take_adspec(kind: Kind, seen: &mut Seen, at: u16, head: Head, body: &[u8]) -> Result<(), Fault>
-    requires { head.class ≡ 13 }
+    requires { head.class.0 ≡ number.adspec }
     ensures { Takes (object_with_head kind seen.old at head body.now) seen.old seen.new head.end result }
 {
-    match misplaced(kind, seen, at, class::ADSPEC) {
-        None => {}
-        Some(fault) => return Err(fault),
-    }
-    if is_unread(role(kind, class::ADSPEC), kind, class::ADSPEC) {
-        seen.add_skipped(class::ADSPEC);
+    let role = role(kind, Class::ADSPEC);
+    in_place(role, kind, seen, at, Class::ADSPEC)?;
+    if is_unread(role, kind, Class::ADSPEC) {
+        seen.add_skipped(Class::ADSPEC);
         return Ok(());
     }
     match read::adspec(head.ctype, body) {
         Some(adspec) => seen.add_advert(adspec),
-        None => seen.add_skipped(class::ADSPEC),
+        None => seen.add_skipped(Class::ADSPEC),
     }
     Ok(())
 }
 
 #[inline(never)]
 fn take_confirm(kind: Kind, seen: &mut Seen, at: u16, head: Head, body: &[u8]) -> Result<(), Fault>
-    requires { head.class ≡ 15 }
+    requires { head.class.0 ≡ number.resv_confirm }
     ensures { Takes (object_with_head kind seen.old at head body.now) seen.old seen.new head.end result }
 {
-    match misplaced(kind, seen, at, class::RESV_CONFIRM) {
-        None => {}
-        Some(fault) => return Err(fault),
-    }
+    let role = role(kind, Class::RESV_CONFIRM);
+    in_place(role, kind, seen, at, Class::RESV_CONFIRM)?;
     match read::confirm(at, head.ctype, body) {
         Ok(addr) => {
             seen.add_confirm(addr);
@@ -314,15 +293,13 @@ fn take_confirm(kind: Kind, seen: &mut Seen, at: u16, head: Head, body: &[u8]) -
 fn take_other(kind: Kind, seen: &mut Seen, at: u16, head: Head, body: &[u8]) -> Result<(), Fault>
     ensures { Takes (object_with_head kind seen.old at head body.now) seen.old seen.new head.end result }
 {
-    let number = head.class;
-    if !is_known(number) {
-        return Err(Fault::Object(ObjErr::Class(at, number, head.ctype)));
+    let class = head.class;
+    if !class.is_known() {
+        return Err(Fault::Object(ObjErr::Class(at, class.0, head.ctype)));
     }
-    match misplaced(kind, seen, at, number) {
-        None => {}
-        Some(fault) => return Err(fault),
-    }
-    let object = match read_in(kind, at, number, head.ctype, body) {
+    let role = role(kind, class);
+    in_place(role, kind, seen, at, class)?;
+    let object = match read_in(role, kind, at, class, head.ctype, body) {
         Ok(object) => object,
         Err(fault) => return Err(Fault::Object(fault)),
     };
@@ -335,27 +312,36 @@ fn take_other(kind: Kind, seen: &mut Seen, at: u16, head: Head, body: &[u8]) -> 
     }
 }
 
-// The fault of an object of a class that may not stand at a place behind those that were seen, or not a second time.
+// Refused where an object of a class, of this role in the kind, may not stand at a place behind those that were seen, or not a
+// second time.
 #[inline(always)]
-fn misplaced(kind: Kind, seen: &Seen, at: u16, number: u8) -> Option<Fault>
-    ensures { result ≡ misplaced kind seen.now at number }
+fn in_place(role: Role, kind: Kind, seen: &Seen, at: u16, class: Class) -> Result<(), Fault>
+    requires role { role ≡ role_of kind class.0 }
+    ensures { result ≡ in_place kind seen.now at class.0 }
 {
-    let role = role(kind, number);
-    if !has_place(role, kind, seen, number) {
-        return Some(Fault::Order(at));
+    if !has_place(role, kind, seen, class) {
+        return Err(Fault::Order(at));
     }
-    if is_repeated(role, kind, seen, number) {
-        return Some(Fault::Repeated(at));
+    if is_repeated(role, kind, seen, class) {
+        return Err(Fault::Repeated(at));
     }
-    None
+    Ok(())
 }
 
-// The object with these contents; some are not read in messages of a kind.
-fn read_in(kind: Kind, at: u16, class: u8, ctype: u8, body: &[u8]) -> Result<Object, ObjErr>
-    ensures { result ≡ read_in kind at class ctype body.now }
+// The object with these contents; some are not read in messages of a kind, where their class has this role.
+fn read_in(
+    role: Role,
+    kind: Kind,
+    at: u16,
+    class: Class,
+    ctype: u8,
+    body: &[u8],
+) -> Result<Object, ObjErr>
+    requires role { role ≡ role_of kind class.0 }
+    ensures { result ≡ read_in kind at class.0 ctype body.now }
 {
-    if is_unread(role(kind, class), kind, class) {
-        return Ok(Object::Skipped { class });
+    if is_unread(role, kind, class) {
+        return Ok(Object::Skipped { class: class.0 });
     }
     object_with(at, class, ctype, body)
 }

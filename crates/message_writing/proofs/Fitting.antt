@@ -52,7 +52,7 @@ known (object.Confirm s) h = refl
 known (object.Skipped n) h = rw h.skipped refl
 
 abbrev head : Object → ℕ → Head
-head x at = record { class = class_of x; ctype = ctype_with x; end = at + length (spelling x) }
+head x at = record { class = record { 0 = class_of x }; ctype = ctype_with x; end = at + length (spelling x) }
 
 abbrev read : {A : Type 0} → A → Result A ObjErr
 read x = Ok x

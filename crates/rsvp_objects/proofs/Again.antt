@@ -1,5 +1,5 @@
 -- What was put is read again.
-use Rattle.std.proofs.Common.{length-append, ◌≡◌, ℕ, ◌+◌, ◌*◌, ◌-◌, ◌/◌, ◌%◌, ◌^◌, ◌<◌, ◌≤◌, Bool, true, false, List, [], ◌∷◌, ◌++◌, length, take, drop, Some, None, Result, Ok, refl, sym, ap, ◌∙◌, arith}
+use Rattle.std.proofs.Common.{length-append, ◌≡◌, ℕ, ◌+◌, ◌*◌, ◌-◌, ◌/◌, ◌%◌, ◌≤◌, Bool, true, false, List, [], ◌∷◌, ◌++◌, length, take, drop, Some, None, Result, Ok, refl, sym, ap, ◌∙◌, arith}
 use Rattle.std.specs.Prelude.{◌&&◌, ◌==◌}
 use Rattle.std.specs.List.{AllByRecursion, flat_map}
 use Rattle.std.proofs.Math.Seq.{drop-append_seam, drop-append-add}
@@ -103,12 +103,12 @@ scope_size s = fours (keys s) ∙ ap (λ n. 4 * n) (length-map s.rows (λ e. e.0
 -- ---- heads
 
 head_from : (at : ℕ) (left : List ℕ) (n : ℕ) → 4 ≤ length left → half_at 0 left ≡ n → 4 ≤ n → n % 4 ≡ 0 → n ≤ length left
-    → head_of at left ≡ read (record { class = byte_at 2 left; ctype = byte_at 3 left; end = at + n })
+    → head_of at left ≡ read (record { class = record { 0 = byte_at 2 left }; ctype = byte_at 3 left; end = at + n })
 unfolding head_of
 head_from at left n long is least whole fits = rw (is, le-ltb (length left) 4 long, le-leb 4 n least, whole, le-leb n (length left) fits) refl
 
 -- the head reads as that of the object
-pub head_again : (x : Object) (at : ℕ) (after : List ℕ) → IsProper x → head_of at (spelling x ++ after) ≡ read (record { class = class_of x; ctype = ctype_with x; end = at + length (spelling x) })
+pub head_again : (x : Object) (at : ℕ) (after : List ℕ) → IsProper x → head_of at (spelling x ++ after) ≡ read (record { class = record { 0 = class_of x }; ctype = ctype_with x; end = at + length (spelling x) })
 unfolding head_of spelling
 head_again (object.Session s p) at after h = head_from at (spelling (object.Session s p) ++ after) 12 (omega arith) refl (omega arith) refl (omega arith)
 head_again (object.HopOf x) at after h = head_from at (spelling (object.HopOf x) ++ after) 12 (omega arith) refl (omega arith) refl (omega arith)

@@ -5,8 +5,8 @@ use Rattle.std.proofs.lemmas.Bool.{eqb-true}
 use Rattle.rsvp_base.specs.Table.{size}
 use Rattle.object_fields.specs.declared.adspec.Adspec.{Adspec}
 use Rattle.object_fields.proofs.Choices.{chosen}
-use Rattle.rsvp_objects.specs.declared.class.Class.{Class}
-use Rattle.rsvp_objects.specs.declared.class.Class.TheVariants as class
+use Rattle.rsvp_objects.specs.declared.read_class.ReadClass.{ReadClass}
+use Rattle.rsvp_objects.specs.declared.read_class.ReadClass.TheVariants as class
 use Rattle.rsvp_objects.specs.declared.object.Object.{Object}
 use Rattle.rsvp_objects.specs.declared.obj_err.ObjErr.{ObjErr}
 use Rattle.rsvp_objects.specs.Classes.{adspec, is_skipped, class_number, class_with, ctype_of, size_of, has_size}
@@ -24,7 +24,7 @@ or_fault_class : {A : Type 0} (n : ℕ) (f : ObjErr) (says : A → Object) (foun
 or_fault_class n f says (Some a) x is e = ap class_of (sym (is_read e)) ∙ is a
 or_fault_class n f says None x is e = absurd cc
 
-contents_class : (at : ℕ) (c : Class) (body : List ℕ) (x : Object) → contents_of at c body ≡ read x → class_of x ≡ class_number c
+contents_class : (at : ℕ) (c : ReadClass) (body : List ℕ) (x : Object) → contents_of at c body ≡ read x → class_of x ≡ class_number c
 unfolding contents_of
 contents_class at class.Session body x e = ap class_of (sym (is_read e))
 contents_class at class.RsvpHop body x e = ap class_of (sym (is_read e))
@@ -40,14 +40,14 @@ contents_class at class.SenderTemplate body x e = ap class_of (sym (is_read e))
 contents_class at class.SenderTspec body x e = or_fault_class 12 _ _ _ x (λ a. refl) e
 contents_class at class.ResvConfirm body x e = ap class_of (sym (is_read e))
 
-some : {c d : Class} → ◌≡◌ {A = Option Class} (Some c) (Some d) → c ≡ d
+some : {c d : ReadClass} → ◌≡◌ {A = Option ReadClass} (Some c) (Some d) → c ≡ d
 some e = cc
 
 -- the number of the class with a number: one step for each test
-step : (n : ℕ) (c d : Class) (rest : Option Class) → (if n == class_number c then Some c else rest) ≡ Some d → (rest ≡ Some d → class_number d ≡ n) → class_number d ≡ n
+step : (n : ℕ) (c d : ReadClass) (rest : Option ReadClass) → (if n == class_number c then Some c else rest) ≡ Some d → (rest ≡ Some d → class_number d ≡ n) → class_number d ≡ n
 step n c d rest e more = elim (chosen (n == class_number c) _ _ _ e) [ inl p ↦ ap class_number (sym (some p.1)) ∙ sym (eqb-true n (class_number c) p.0) | inr q ↦ more q.1 ]
 
-number_of : (n : ℕ) (d : Class) → class_with n ≡ Some d → class_number d ≡ n
+number_of : (n : ℕ) (d : ReadClass) → class_with n ≡ Some d → class_number d ≡ n
 unfolding class_with
 number_of n d e =
     step n class.Session d _ e (λ e.
@@ -63,7 +63,7 @@ number_of n d e =
     step n class.ResvConfirm d _ e (λ e.
     absurd cc)))))))))))
 
-by_class_class : (at n ctype : ℕ) (body : List ℕ) (x : Object) (c : Option Class) → class_with n ≡ c → by_class at n ctype body c ≡ read x → class_of x ≡ n
+by_class_class : (at n ctype : ℕ) (body : List ℕ) (x : Object) (c : Option ReadClass) → class_with n ≡ c → by_class at n ctype body c ≡ read x → class_of x ≡ n
 by_class_class at n ctype body x None is e = absurd cc
 by_class_class at n ctype body x (Some c) is e =
     elim (chosen (not (ctype == ctype_of c)) _ _ _ e) [

@@ -1,10 +1,10 @@
 -- What is read is proper.
-use Rattle.std.proofs.Common.{◌≡◌, ℕ, zero, suc, ◌+◌, ◌*◌, ◌/◌, ◌%◌, ◌^◌, ◌<◌, ◌≤◌, Bool, true, false, List, [], ◌∷◌, length, take, drop, Option, Some, None, Result, Ok, Err, refl, sym, ap, subst, ◌∙◌, arith, inl, inr}
-use Rattle.std.specs.Prelude.{not, nat_le, nat_lt, ◌==◌, ◌&&◌, ◌||◌, option_and_then, map as each}
+use Rattle.std.proofs.Common.{◌≡◌, ℕ, ◌+◌, ◌^◌, ◌<◌, Bool, true, false, List, [], ◌∷◌, length, drop, Option, Some, None, Result, Ok, Err, refl, sym, ap, subst, ◌∙◌, arith, inl, inr}
+use Rattle.std.specs.Prelude.{not, nat_lt, ◌==◌, ◌&&◌, ◌||◌, map as each}
 use Rattle.std.specs.List.{AllByRecursion}
 use Rattle.std.specs.declared.cmp.Ordering.TheVariants.{Less, Equal, Greater}
 use Rattle.std.specs.FinMap.Entries.{put, by_order}
-use Rattle.std.proofs.lemmas.Bool.{eqb-true, eqb-false, leb-false, ltb-false}
+use Rattle.std.proofs.lemmas.Bool.{eqb-false, ltb-false}
 use Rattle.rsvp_base.specs.Orders.{Names, senders}
 use Rattle.rsvp_base.specs.Rates.{IsRate}
 use Rattle.rsvp_base.specs.Sets.{with_key, with_keys}
@@ -16,8 +16,8 @@ use Rattle.rsvp_base.specs.declared.session.Sender.{Sender}
 use Rattle.object_fields.specs.declared.adspec.Adspec.{Adspec}
 use Rattle.object_fields.specs.AdspecLaws.{IsAdspec}
 use Rattle.object_fields.proofs.ReadProper.{what_is_read_can_be_written}
-use Rattle.rsvp_objects.specs.declared.class.Class.{Class}
-use Rattle.rsvp_objects.specs.declared.class.Class.TheVariants as class
+use Rattle.rsvp_objects.specs.declared.read_class.ReadClass.{ReadClass}
+use Rattle.rsvp_objects.specs.declared.read_class.ReadClass.TheVariants as class
 use Rattle.rsvp_objects.specs.declared.head.Head.{Head}
 use Rattle.rsvp_objects.specs.declared.object.Object.{Object}
 use Rattle.rsvp_objects.specs.declared.object.Object.TheVariants as object
@@ -27,7 +27,7 @@ use Rattle.rsvp_objects.specs.Contents.{sources_in, scope_in}
 use Rattle.object_fields.specs.Fields.{AreBytes, byte_at, half_at, word_at}
 use Rattle.object_fields.specs.RateFields.{peak_at}
 use Rattle.object_fields.proofs.Choices.{chosen}
-use Rattle.object_fields.proofs.ReadRates.{some_said, not_false, peak_proper, gave}
+use Rattle.object_fields.proofs.ReadRates.{some_said, peak_proper, gave}
 use Rattle.object_fields.proofs.Small.{bytes_behind, bytes_before, byte_small, half_small, word_small}
 use Rattle.rsvp_objects.specs.FlowWords.{flow_in, bucket_in, rate_at, finite, sound_bucket, has_heads}
 use Rattle.rsvp_objects.specs.Proper.{IsSource, IsFlow, IsSkipped, IsProper, WhatIsReadIsProper}
@@ -112,7 +112,7 @@ or_proper : {A : Type 0} (f : ObjErr) (says : A → Object) (found o : Option A)
 or_proper f says found (Some a) x is proper e = subst IsProper (is_read e) (proper a is)
 or_proper f says found None x is proper e = absurd cc
 
-contents_proper : (at : ℕ) (c : Class) (body : List ℕ) (x : Object) → AreBytes body → contents_of at c body ≡ read x → IsProper x
+contents_proper : (at : ℕ) (c : ReadClass) (body : List ℕ) (x : Object) → AreBytes body → contents_of at c body ≡ read x → IsProper x
 unfolding contents_of
 contents_proper at class.Session body x h e = subst IsProper (is_read e) (record { group = word_small 0 body h; proto = byte_small 4 body h; port = half_small 6 body h })
 contents_proper at class.RsvpHop body x h e = subst IsProper (is_read e) (record { addr = word_small 0 body h; handle = word_small 4 body h })
@@ -136,7 +136,7 @@ contents_proper at class.ResvConfirm body x h e = subst IsProper (is_read e) (wo
 
 -- ---- the whole
 
-class_proper : (at n ctype : ℕ) (body : List ℕ) (x : Object) (c : Option Class) → AreBytes body → by_class at n ctype body c ≡ read x → IsProper x
+class_proper : (at n ctype : ℕ) (body : List ℕ) (x : Object) (c : Option ReadClass) → AreBytes body → by_class at n ctype body c ≡ read x → IsProper x
 class_proper at n ctype body x None h e = absurd cc
 class_proper at n ctype body x (Some c) h e =
     elim (chosen (not (ctype == ctype_of c)) _ _ _ e) [
@@ -163,12 +163,12 @@ body_proper at n ctype body x small h e =
 heads_are : {h k : Head} → ◌≡◌ {A = Result Head ObjErr} (Ok h) (Ok k) → h ≡ k
 heads_are e = cc
 
-head_class : (at : ℕ) (left : List ℕ) (head : Head) → ◌≡◌ {A = Result Head ObjErr} (head_of at left) (Ok head) → byte_at 2 left ≡ head.class
+head_class : (at : ℕ) (left : List ℕ) (head : Head) → ◌≡◌ {A = Result Head ObjErr} (head_of at left) (Ok head) → byte_at 2 left ≡ head.class.0
 unfolding head_of
 head_class at left head e =
     elim (chosen (nat_lt (length left) 4) _ _ _ e) [
       | inl p ↦ absurd (let z = p.1 in cc)
-      | inr p ↦ elim (chosen (not (is_length (half_at 0 left) (length left))) _ _ _ p.1) [ inl q ↦ absurd (let z = q.1 in cc) | inr q ↦ ap (λ (h : Head). h.class) (heads_are q.1) ]
+      | inr p ↦ elim (chosen (not (is_length (half_at 0 left) (length left))) _ _ _ p.1) [ inl q ↦ absurd (let z = q.1 in cc) | inr q ↦ ap (λ (h : Head). h.class.0) (heads_are q.1) ]
     ]
 
 answers_are : {p q : Object × ℕ} → ◌≡◌ {A = Result (Object × ℕ) ObjErr} (Ok p) (Ok q) → p ≡ q
@@ -183,9 +183,9 @@ end_proper end next (Err f) x proper e = absurd cc
 
 by_head_proper : (at next : ℕ) (bytes : List ℕ) (x : Object) (r : Result Head ObjErr) → AreBytes bytes → head_of at (drop at bytes) ≡ r → by_head at bytes r ≡ Ok (x, next) → IsProper x
 by_head_proper at next bytes x (Ok head) h is e =
-    let small : head.class < 2 ^ 8 = subst (λ (n : ℕ). n < 2 ^ 8) (head_class at (drop at bytes) head is) (byte_small 2 (drop at bytes) (bytes_behind at bytes h)) in
+    let small : head.class.0 < 2 ^ 8 = subst (λ (n : ℕ). n < 2 ^ 8) (head_class at (drop at bytes) head is) (byte_small 2 (drop at bytes) (bytes_behind at bytes h)) in
     let own : AreBytes (contents_at at head bytes) = bytes_before _ _ (bytes_behind (at + 4) bytes h) in
-    end_proper head.end next (body_of at head.class head.ctype (contents_at at head bytes)) x (λ y. body_proper at head.class head.ctype (contents_at at head bytes) y small own) e
+    end_proper head.end next (body_of at head.class.0 head.ctype (contents_at at head bytes)) x (λ y. body_proper at head.class.0 head.ctype (contents_at at head bytes) y small own) e
 by_head_proper at next bytes x (Err f) h is e = absurd cc
 
 pub what_is_read_is_proper : WhatIsReadIsProper

@@ -1,28 +1,81 @@
--- The table of objects (RFC 2205, appendix A; RFC 2210, 3): the Class-Num and C-Type of each class that is read, and the
--- size of its contents where that is fixed.
+-- The table of objects (RFC 2205, appendix A; RFC 2210, 3): the Class-Num of each class, and of each that is read the C-Type, and
+-- the size of its contents where that is fixed.
 use Rattle.std.specs.Prelude.{ℕ, Bool, true, ◌||◌, ◌==◌, nat_le, List, length, Option, Some, None, if◌then◌else◌}
-use Rattle.rsvp_objects.specs.declared.class.Class.{Class}
-use Rattle.rsvp_objects.specs.declared.class.Class.TheVariants as class
+use Rattle.rsvp_objects.specs.declared.read_class.ReadClass.{ReadClass}
+use Rattle.rsvp_objects.specs.declared.read_class.ReadClass.TheVariants as class
 
-abbrev pub class_number : Class → ℕ
-class_number class.Session = 1
-class_number class.RsvpHop = 3
-class_number class.TimeValues = 5
-class_number class.ErrorSpec = 6
-class_number class.Scope = 7
-class_number class.Style = 8
-class_number class.FlowSpec = 9
-class_number class.FilterSpec = 10
-class_number class.SenderTemplate = 11
-class_number class.SenderTspec = 12
-class_number class.ResvConfirm = 15
+-- ---- Class-Num
 
-abbrev pub ctype_of : Class → ℕ
+abbrev pub null : ℕ
+null = 0
+
+abbrev pub session : ℕ
+session = 1
+
+abbrev pub rsvp_hop : ℕ
+rsvp_hop = 3
+
+abbrev pub integrity : ℕ
+integrity = 4
+
+abbrev pub time_values : ℕ
+time_values = 5
+
+abbrev pub error_spec : ℕ
+error_spec = 6
+
+abbrev pub scope : ℕ
+scope = 7
+
+abbrev pub style : ℕ
+style = 8
+
+abbrev pub flowspec : ℕ
+flowspec = 9
+
+abbrev pub filter_spec : ℕ
+filter_spec = 10
+
+abbrev pub sender_template : ℕ
+sender_template = 11
+
+abbrev pub sender_tspec : ℕ
+sender_tspec = 12
+
+abbrev pub adspec : ℕ
+adspec = 13
+
+abbrev pub policy_data : ℕ
+policy_data = 14
+
+abbrev pub resv_confirm : ℕ
+resv_confirm = 15
+
+-- the unknown classes that a receiver may skip (RFC 2205, 3.10)
+abbrev pub has_high_bit : ℕ → Bool
+has_high_bit n = nat_le 128 n
+
+-- ---- the classes that are read
+
+abbrev pub class_number : ReadClass → ℕ
+class_number class.Session = session
+class_number class.RsvpHop = rsvp_hop
+class_number class.TimeValues = time_values
+class_number class.ErrorSpec = error_spec
+class_number class.Scope = scope
+class_number class.Style = style
+class_number class.FlowSpec = flowspec
+class_number class.FilterSpec = filter_spec
+class_number class.SenderTemplate = sender_template
+class_number class.SenderTspec = sender_tspec
+class_number class.ResvConfirm = resv_confirm
+
+abbrev pub ctype_of : ReadClass → ℕ
 ctype_of class.FlowSpec = 2
 ctype_of class.SenderTspec = 2
 ctype_of _ = 1
 
-abbrev pub size_of : Class → Option ℕ
+abbrev pub size_of : ReadClass → Option ℕ
 size_of class.Session = Some 8
 size_of class.RsvpHop = Some 8
 size_of class.TimeValues = Some 4
@@ -36,27 +89,24 @@ size_of class.SenderTspec = None
 size_of class.ResvConfirm = Some 4
 
 -- the class with a number
-unfoldable pub class_with : ℕ → Option Class
+unfoldable pub class_with : ℕ → Option ReadClass
 class_with n =
-    if n == 1 then Some class.Session else
-    if n == 3 then Some class.RsvpHop else
-    if n == 5 then Some class.TimeValues else
-    if n == 6 then Some class.ErrorSpec else
-    if n == 7 then Some class.Scope else
-    if n == 8 then Some class.Style else
-    if n == 9 then Some class.FlowSpec else
-    if n == 10 then Some class.FilterSpec else
-    if n == 11 then Some class.SenderTemplate else
-    if n == 12 then Some class.SenderTspec else
-    if n == 15 then Some class.ResvConfirm else None
-
-abbrev pub adspec : ℕ
-adspec = 13
+    if n == session then Some class.Session else
+    if n == rsvp_hop then Some class.RsvpHop else
+    if n == time_values then Some class.TimeValues else
+    if n == error_spec then Some class.ErrorSpec else
+    if n == scope then Some class.Scope else
+    if n == style then Some class.Style else
+    if n == flowspec then Some class.FlowSpec else
+    if n == filter_spec then Some class.FilterSpec else
+    if n == sender_template then Some class.SenderTemplate else
+    if n == sender_tspec then Some class.SenderTspec else
+    if n == resv_confirm then Some class.ResvConfirm else None
 
 -- skipped unread: NULL, INTEGRITY, POLICY_DATA, and unknown classes from 128 on (RFC 2205, 3.10); and an ADSPEC, but where its
 -- contents are of their form
 abbrev pub is_skipped : ℕ → Bool
-is_skipped n = n == 0 || n == 4 || n == adspec || n == 14 || nat_le 128 n
+is_skipped n = n == null || n == integrity || n == adspec || n == policy_data || has_high_bit n
 
 abbrev pub has_size : Option ℕ → List ℕ → Bool
 has_size (Some n) body = length body == n

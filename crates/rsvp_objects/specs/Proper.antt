@@ -11,7 +11,7 @@ use Rattle.rsvp_base.specs.declared.hop.Hop.{Hop}
 use Rattle.rsvp_base.specs.declared.session.Sender.{Sender}
 use Rattle.rsvp_base.specs.declared.session.Session.{Session}
 use Rattle.object_fields.specs.AdspecLaws.{IsAdspec}
-use Rattle.rsvp_objects.specs.declared.class.Class.TheVariants as class
+use Rattle.rsvp_objects.specs.declared.read_class.ReadClass.TheVariants as class
 use Rattle.rsvp_objects.specs.declared.object.Object.{Object}
 use Rattle.rsvp_objects.specs.declared.object.Object.TheVariants as object
 use Rattle.rsvp_objects.specs.Classes.{class_number, ctype_of, adspec, is_skipped}

@@ -4,8 +4,8 @@ use Rattle.rsvp_base.specs.declared.session.Session.{Session}
 use Rattle.rsvp_base.specs.Table.{size}
 use Rattle.object_fields.specs.declared.adspec.Adspec.{Adspec}
 use Rattle.object_fields.specs.Form.{adspec_in}
-use Rattle.rsvp_objects.specs.declared.class.Class.{Class}
-use Rattle.rsvp_objects.specs.declared.class.Class.TheVariants as class
+use Rattle.rsvp_objects.specs.declared.read_class.ReadClass.{ReadClass}
+use Rattle.rsvp_objects.specs.declared.read_class.ReadClass.TheVariants as class
 use Rattle.rsvp_objects.specs.declared.object.Object.{Object}
 use Rattle.rsvp_objects.specs.declared.object.Object.TheVariants as object
 use Rattle.rsvp_objects.specs.declared.obj_err.ObjErr.{ObjErr}
@@ -34,7 +34,7 @@ unfoldable pub head_of : ℕ → List ℕ → Result Head ObjErr
 head_of at left =
     if nat_lt (length left) 4 then Err (fault.Short at) else
     if not (is_length (half_at 0 left) (length left)) then Err (fault.Length at) else
-    Ok (record { class = byte_at 2 left; ctype = byte_at 3 left; end = at + half_at 0 left })
+    Ok (record { class = record { 0 = byte_at 2 left }; ctype = byte_at 3 left; end = at + half_at 0 left })
 
 -- ---- 5 and 6: contents that their figure does not have; a seventeenth address
 
@@ -47,7 +47,7 @@ abbrev pub is_other_service : List ℕ → Bool
 is_other_service body = nat_le 8 (length body) && not (byte_at 4 body == controlled_load)
 
 -- what contents of the right size say
-unfoldable pub contents_of : ℕ → Class → List ℕ → Result Object ObjErr
+unfoldable pub contents_of : ℕ → ReadClass → List ℕ → Result Object ObjErr
 contents_of at class.Session body = Ok (object.Session (session_in body) (police_in body))
 contents_of at class.RsvpHop body = Ok (object.HopOf (hop_in body))
 contents_of at class.TimeValues body = Ok (object.Time (period_in body))
@@ -62,7 +62,7 @@ contents_of at class.ResvConfirm body = Ok (object.Confirm (confirm_in body))
 
 -- ---- 3 and 4: an unknown class; a C-Type that is not its own
 
-abbrev pub by_class : ℕ → ℕ → ℕ → List ℕ → Option Class → Result Object ObjErr
+abbrev pub by_class : ℕ → ℕ → ℕ → List ℕ → Option ReadClass → Result Object ObjErr
 by_class at n ctype body None = Err (fault.Class at n ctype)
 by_class at n ctype body (Some c) =
     if not (ctype == ctype_of c) then Err (fault.CType at n ctype) else
@@ -102,12 +102,12 @@ with_end end (Err f) = Err f
 
 abbrev pub by_head : ℕ → List ℕ → Result Head ObjErr → Result (Object × ℕ) ObjErr
 by_head at bytes (Err f) = Err f
-by_head at bytes (Ok head) = with_end head.end (body_of at head.class head.ctype (contents_at at head bytes))
+by_head at bytes (Ok head) = with_end head.end (body_of at head.class.0 head.ctype (contents_at at head bytes))
 
 -- the object at a place and the place after it, or the first fault
 unfoldable pub object_at : ℕ → List ℕ → Result (Object × ℕ) ObjErr
 object_at at bytes = by_head at bytes (head_of at (drop at bytes))
 
 -- contents have the size of their class
-abbrev pub IsSized : Class → List ℕ → Type 0
+abbrev pub IsSized : ReadClass → List ℕ → Type 0
 IsSized c body = IsTrue (has_size (size_of c) body)

@@ -3,16 +3,16 @@ ghost use Rattle.std.specs.Prelude.{◌≡◌, ◌<◌, ◌↔◌, length, IfSom
 ghost use Rattle.rsvp_base.specs.Table.{size};
 ghost use Rattle.rsvp_objects.specs.Contents as spec;
 ghost use Rattle.rsvp_objects.specs.Contents.{scope_in};
-ghost use Rattle.rsvp_objects.specs.declared.class.Class.TheVariants as Class;
+ghost use Rattle.rsvp_objects.specs.declared.read_class.ReadClass.TheVariants as ReadClass;
 ghost use Rattle.rsvp_objects.specs.declared.object.Object.TheVariants as AnObject;
 ghost use Rattle.rsvp_objects.specs.Reading.{as_object, contents_of, IsSized};
 
-use crate::class::Class;
 use crate::flags::{is_in_place, is_not_guilty, is_police};
 use crate::flow_reading::flow;
 use crate::obj_err::ObjErr;
 use crate::object::Object;
 use crate::places;
+use crate::read_class::ReadClass;
 use crate::values::{service, style as options};
 use object_fields::{addr_at, half_at, word_at};
 use rsvp_base::{Addr, ErrSpec, Flow, Hop, Sender, Senders, Session, StyleKind};
@@ -20,27 +20,30 @@ use rsvp_base::{Addr, ErrSpec, Flow, Hop, Sender, Senders, Session, StyleKind};
 /// The object with these contents, which have the size of their class, or its fault. `at` is its place.
 #[tactic(auto, unfolding(crate::specs::Reading::contents_of))]
 #[inline(always)]
-pub fn contents(at: u16, class: Class, body: &[u8]) -> Result<Object, ObjErr>
+pub fn contents(at: u16, class: ReadClass, body: &[u8]) -> Result<Object, ObjErr>
     requires size { IsSized class body.now }
     ensures { result ≡ contents_of at class body.now }
 {
     match class {
-        Class::Session => Ok(Object::Session {
+        ReadClass::Session => Ok(Object::Session {
             session: session(body),
             police: is_police(body[places::session::FLAGS]),
         }),
-        Class::RsvpHop => Ok(Object::HopOf(hop(body))),
-        Class::TimeValues => Ok(Object::Time(word_at(body, places::time_values::PERIOD))),
-        Class::ErrorSpec => Ok(Object::Error(error(body))),
-        Class::Scope => scope(body).map(Object::Scope).ok_or(ObjErr::Crowd(at)),
-        Class::Style => style(body).map(Object::StyleOf).ok_or(ObjErr::Style(at)),
-        Class::FlowSpec => flow_spec(at, body).map(Object::FlowOf),
-        Class::FilterSpec => Ok(Object::Filter(sender(body))),
-        Class::SenderTemplate => Ok(Object::Template(sender(body))),
-        Class::SenderTspec => flow(body, service::GENERAL)
+        ReadClass::RsvpHop => Ok(Object::HopOf(hop(body))),
+        ReadClass::TimeValues => Ok(Object::Time(word_at(body, places::time_values::PERIOD))),
+        ReadClass::ErrorSpec => Ok(Object::Error(error(body))),
+        ReadClass::Scope => scope(body).map(Object::Scope).ok_or(ObjErr::Crowd(at)),
+        ReadClass::Style => style(body).map(Object::StyleOf).ok_or(ObjErr::Style(at)),
+        ReadClass::FlowSpec => flow_spec(at, body).map(Object::FlowOf),
+        ReadClass::FilterSpec => Ok(Object::Filter(sender(body))),
+        ReadClass::SenderTemplate => Ok(Object::Template(sender(body))),
+        ReadClass::SenderTspec => flow(body, service::GENERAL)
             .map(Object::Tspec)
             .ok_or(ObjErr::Tspec(at)),
-        Class::ResvConfirm => Ok(Object::Confirm(addr_at(body, places::resv_confirm::RECEIVER))),
+        ReadClass::ResvConfirm => Ok(Object::Confirm(addr_at(
+            body,
+            places::resv_confirm::RECEIVER,
+        ))),
     }
 }
 
@@ -115,7 +118,7 @@ pub fn style(body: &[u8]) -> Option<StyleKind>
 #[tactic(auto, unfolding(crate::specs::Reading::contents_of))]
 #[inline(always)]
 pub fn flow_spec(at: u16, body: &[u8]) -> Result<Flow, ObjErr>
-    ensures { as_object AnObject.FlowOf result ≡ contents_of at Class.FlowSpec body.now }
+    ensures { as_object AnObject.FlowOf result ≡ contents_of at ReadClass.FlowSpec body.now }
 {
     if body.len() >= places::flow::SERVICE_SEEN
         && body[places::flow::SERVICE] != service::CONTROLLED_LOAD

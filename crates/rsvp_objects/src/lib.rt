@@ -17,8 +17,8 @@ mod object;
 mod places;
 pub mod put;
 pub mod read;
+mod read_class;
 mod reading;
-mod table;
 mod texts;
 mod values;
 mod writing;
@@ -31,5 +31,4 @@ pub use object_fields::{
     Adspec, Fragments, Packet, RateErr, rate_of_word, word_of_rate, write_adspec,
 };
 pub use reading::{head_at, next_object, object_with};
-pub use table::{is_known, is_skipped};
 pub use writing::put_object;

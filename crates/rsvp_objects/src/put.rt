@@ -1,12 +1,12 @@
 //! Putting an object of each class at the end of a packet.
 ghost use Rattle.std.specs.Prelude.{◌≡◌, ◌≤◌, ◌<◌, ◌+◌, ◌*◌, ◌++◌, ◌↔◌, length, OnOk, OnErr, IsErr};
 ghost use Rattle.rsvp_base.specs.Table.{size};
-ghost use Rattle.rsvp_objects.specs.declared.class.Class.TheVariants as Class;
+ghost use Rattle.rsvp_objects.specs.declared.read_class.ReadClass.TheVariants as ReadClass;
 ghost use Rattle.rsvp_objects.specs.declared.object.Object.TheVariants as AnObject;
 ghost use Rattle.rsvp_objects.specs.Contents.{source_bytes, scope_bytes};
 ghost use Rattle.rsvp_objects.specs.Spelling.{spelt_as, spelling};
 
-use crate::class::Class;
+use crate::read_class::ReadClass;
 use crate::values::service;
 use crate::{places, texts};
 use byteorder::{BigEndian, ByteOrder};
@@ -97,7 +97,7 @@ pub fn flow(flow: &Flow, packet: &mut Packet) -> Result<(), Full>
     ensures full { IsErr result ↔ (4096 < length packet.old + length (spelling (AnObject.FlowOf flow.now))) }
     ensures err { OnErr result (packet.new ≡ packet.old) }
 {
-    packet.append(&texts::flow(Class::FlowSpec, service::CONTROLLED_LOAD, flow))
+    packet.append(&texts::flow(ReadClass::FlowSpec, service::CONTROLLED_LOAD, flow))
 }
 
 /// Puts a FILTER_SPEC at the end of a packet. `Full` exactly where it does not fit; nothing changes then.
@@ -108,7 +108,7 @@ pub fn filter(sender: Sender, packet: &mut Packet) -> Result<(), Full>
     ensures full { IsErr result ↔ (4096 < length packet.old + length (spelling (AnObject.Filter sender))) }
     ensures err { OnErr result (packet.new ≡ packet.old) }
 {
-    packet.append(&texts::sender(Class::FilterSpec, sender))
+    packet.append(&texts::sender(ReadClass::FilterSpec, sender))
 }
 
 /// Puts a SENDER_TEMPLATE at the end of a packet. `Full` exactly where it does not fit; nothing changes then.
@@ -119,7 +119,7 @@ pub fn template(sender: Sender, packet: &mut Packet) -> Result<(), Full>
     ensures full { IsErr result ↔ (4096 < length packet.old + length (spelling (AnObject.Template sender))) }
     ensures err { OnErr result (packet.new ≡ packet.old) }
 {
-    packet.append(&texts::sender(Class::SenderTemplate, sender))
+    packet.append(&texts::sender(ReadClass::SenderTemplate, sender))
 }
 
 /// Puts a SENDER_TSPEC at the end of a packet. `Full` exactly where it does not fit; nothing changes then.
@@ -130,7 +130,7 @@ pub fn tspec(flow: &Flow, packet: &mut Packet) -> Result<(), Full>
     ensures full { IsErr result ↔ (4096 < length packet.old + length (spelling (AnObject.Tspec flow.now))) }
     ensures err { OnErr result (packet.new ≡ packet.old) }
 {
-    packet.append(&texts::flow(Class::SenderTspec, service::GENERAL, flow))
+    packet.append(&texts::flow(ReadClass::SenderTspec, service::GENERAL, flow))
 }
 
 /// Puts an ADSPEC at the end of a packet. `Full` exactly where it does not fit; nothing changes then.
@@ -169,11 +169,11 @@ pub fn skipped(class: u8, packet: &mut Packet) -> Result<(), Full>
 // Puts the text of a SCOPE, where there is room.
 fn put_scope(senders: &Senders, packet: &mut Packet)
     requires { length packet.old + 4 + 4 * size senders.now ≤ 4096 }
-    ensures { packet.new ≡ packet.old ++ spelt_as Class.Scope (scope_bytes senders.now) }
+    ensures { packet.new ≡ packet.old ++ spelt_as ReadClass.Scope (scope_bytes senders.now) }
 {
     let sources = senders.as_slice();
     let mut head = [0; HEAD_SIZE];
-    texts::put_head(&mut head, Class::Scope, 4 + 4 * sources.len() as u16);
+    texts::put_head(&mut head, ReadClass::Scope, 4 + 4 * sources.len() as u16);
     let _ = packet.append(&head);
     for source in sources {
         put_source(*source, packet);

@@ -1,14 +1,15 @@
 //! Reading an object of each class from its contents, for callers that know its class.
 ghost use Rattle.std.specs.Prelude.{◌≡◌};
+ghost use Rattle.rsvp_objects.specs.Classes as number;
 ghost use Rattle.rsvp_objects.specs.declared.object.Object.TheVariants as AnObject;
 ghost use Rattle.rsvp_objects.specs.Reading.{as_object, as_session, advert_in, body_of};
 
 use crate::class::Class;
 use crate::flow_reading::flow;
 use crate::obj_err::ObjErr;
+use crate::read_class::ReadClass;
 use crate::reading::has_size;
-use crate::table::INTSERV;
-use crate::values::service;
+use crate::values::{ctype as types, service};
 use crate::{contents, flags, places};
 use object_fields::{Adspec, addr_at, read_adspec, word_at};
 use rsvp_base::{Addr, ErrSpec, Flow, Hop, Sender, Senders, Session, StyleKind};
@@ -17,12 +18,12 @@ use rsvp_base::{Addr, ErrSpec, Flow, Hop, Sender, Senders, Session, StyleKind};
 #[tactic(auto, unfolding(crate::specs::Reading::body_of, crate::specs::Reading::contents_of, crate::specs::Classes::class_with))]
 #[inline(always)]
 pub fn session(at: u16, ctype: u8, body: &[u8]) -> Result<(Session, bool), ObjErr>
-    ensures { as_session result ≡ body_of at 1 ctype body.now }
+    ensures { as_session result ≡ body_of at number.session ctype body.now }
 {
-    if ctype != Class::Session.ctype() {
-        return Err(ObjErr::CType(at, Class::Session.number(), ctype));
+    if ctype != ReadClass::Session.ctype() {
+        return Err(ObjErr::CType(at, Class::SESSION.0, ctype));
     }
-    if !has_size(Class::Session.size(), body) {
+    if !has_size(ReadClass::Session.size(), body) {
         return Err(ObjErr::Contents(at));
     }
     let police = flags::is_police(body[places::session::FLAGS]);
@@ -33,12 +34,12 @@ pub fn session(at: u16, ctype: u8, body: &[u8]) -> Result<(Session, bool), ObjEr
 #[tactic(auto, unfolding(crate::specs::Reading::body_of, crate::specs::Reading::contents_of, crate::specs::Classes::class_with))]
 #[inline(always)]
 pub fn hop(at: u16, ctype: u8, body: &[u8]) -> Result<Hop, ObjErr>
-    ensures { as_object AnObject.HopOf result ≡ body_of at 3 ctype body.now }
+    ensures { as_object AnObject.HopOf result ≡ body_of at number.rsvp_hop ctype body.now }
 {
-    if ctype != Class::RsvpHop.ctype() {
-        return Err(ObjErr::CType(at, Class::RsvpHop.number(), ctype));
+    if ctype != ReadClass::RsvpHop.ctype() {
+        return Err(ObjErr::CType(at, Class::RSVP_HOP.0, ctype));
     }
-    if !has_size(Class::RsvpHop.size(), body) {
+    if !has_size(ReadClass::RsvpHop.size(), body) {
         return Err(ObjErr::Contents(at));
     }
     Ok(contents::hop(body))
@@ -48,12 +49,12 @@ pub fn hop(at: u16, ctype: u8, body: &[u8]) -> Result<Hop, ObjErr>
 #[tactic(auto, unfolding(crate::specs::Reading::body_of, crate::specs::Reading::contents_of, crate::specs::Classes::class_with))]
 #[inline(always)]
 pub fn time(at: u16, ctype: u8, body: &[u8]) -> Result<u32, ObjErr>
-    ensures { as_object AnObject.Time result ≡ body_of at 5 ctype body.now }
+    ensures { as_object AnObject.Time result ≡ body_of at number.time_values ctype body.now }
 {
-    if ctype != Class::TimeValues.ctype() {
-        return Err(ObjErr::CType(at, Class::TimeValues.number(), ctype));
+    if ctype != ReadClass::TimeValues.ctype() {
+        return Err(ObjErr::CType(at, Class::TIME_VALUES.0, ctype));
     }
-    if !has_size(Class::TimeValues.size(), body) {
+    if !has_size(ReadClass::TimeValues.size(), body) {
         return Err(ObjErr::Contents(at));
     }
     Ok(word_at(body, places::time_values::PERIOD))
@@ -63,12 +64,12 @@ pub fn time(at: u16, ctype: u8, body: &[u8]) -> Result<u32, ObjErr>
 #[tactic(auto, unfolding(crate::specs::Reading::body_of, crate::specs::Reading::contents_of, crate::specs::Classes::class_with))]
 #[inline(always)]
 pub fn error(at: u16, ctype: u8, body: &[u8]) -> Result<ErrSpec, ObjErr>
-    ensures { as_object AnObject.Error result ≡ body_of at 6 ctype body.now }
+    ensures { as_object AnObject.Error result ≡ body_of at number.error_spec ctype body.now }
 {
-    if ctype != Class::ErrorSpec.ctype() {
-        return Err(ObjErr::CType(at, Class::ErrorSpec.number(), ctype));
+    if ctype != ReadClass::ErrorSpec.ctype() {
+        return Err(ObjErr::CType(at, Class::ERROR_SPEC.0, ctype));
     }
-    if !has_size(Class::ErrorSpec.size(), body) {
+    if !has_size(ReadClass::ErrorSpec.size(), body) {
         return Err(ObjErr::Contents(at));
     }
     Ok(contents::error(body))
@@ -78,12 +79,12 @@ pub fn error(at: u16, ctype: u8, body: &[u8]) -> Result<ErrSpec, ObjErr>
 #[tactic(auto, unfolding(crate::specs::Reading::body_of, crate::specs::Reading::contents_of, crate::specs::Classes::class_with))]
 #[inline(always)]
 pub fn scope(at: u16, ctype: u8, body: &[u8]) -> Result<Senders, ObjErr>
-    ensures { as_object AnObject.Scope result ≡ body_of at 7 ctype body.now }
+    ensures { as_object AnObject.Scope result ≡ body_of at number.scope ctype body.now }
 {
-    if ctype != Class::Scope.ctype() {
-        return Err(ObjErr::CType(at, Class::Scope.number(), ctype));
+    if ctype != ReadClass::Scope.ctype() {
+        return Err(ObjErr::CType(at, Class::SCOPE.0, ctype));
     }
-    if !has_size(Class::Scope.size(), body) {
+    if !has_size(ReadClass::Scope.size(), body) {
         return Err(ObjErr::Contents(at));
     }
     contents::scope(body).ok_or(ObjErr::Crowd(at))
@@ -93,12 +94,12 @@ pub fn scope(at: u16, ctype: u8, body: &[u8]) -> Result<Senders, ObjErr>
 #[tactic(auto, unfolding(crate::specs::Reading::body_of, crate::specs::Reading::contents_of, crate::specs::Classes::class_with))]
 #[inline(always)]
 pub fn style(at: u16, ctype: u8, body: &[u8]) -> Result<StyleKind, ObjErr>
-    ensures { as_object AnObject.StyleOf result ≡ body_of at 8 ctype body.now }
+    ensures { as_object AnObject.StyleOf result ≡ body_of at number.style ctype body.now }
 {
-    if ctype != Class::Style.ctype() {
-        return Err(ObjErr::CType(at, Class::Style.number(), ctype));
+    if ctype != ReadClass::Style.ctype() {
+        return Err(ObjErr::CType(at, Class::STYLE.0, ctype));
     }
-    if !has_size(Class::Style.size(), body) {
+    if !has_size(ReadClass::Style.size(), body) {
         return Err(ObjErr::Contents(at));
     }
     contents::style(body).ok_or(ObjErr::Style(at))
@@ -108,12 +109,12 @@ pub fn style(at: u16, ctype: u8, body: &[u8]) -> Result<StyleKind, ObjErr>
 #[tactic(auto, unfolding(crate::specs::Reading::body_of, crate::specs::Reading::contents_of, crate::specs::Classes::class_with))]
 #[inline(always)]
 pub fn flow_spec(at: u16, ctype: u8, body: &[u8]) -> Result<Flow, ObjErr>
-    ensures { as_object AnObject.FlowOf result ≡ body_of at 9 ctype body.now }
+    ensures { as_object AnObject.FlowOf result ≡ body_of at number.flowspec ctype body.now }
 {
-    if ctype != Class::FlowSpec.ctype() {
-        return Err(ObjErr::CType(at, Class::FlowSpec.number(), ctype));
+    if ctype != ReadClass::FlowSpec.ctype() {
+        return Err(ObjErr::CType(at, Class::FLOWSPEC.0, ctype));
     }
-    if !has_size(Class::FlowSpec.size(), body) {
+    if !has_size(ReadClass::FlowSpec.size(), body) {
         return Err(ObjErr::Contents(at));
     }
     contents::flow_spec(at, body)
@@ -123,12 +124,12 @@ pub fn flow_spec(at: u16, ctype: u8, body: &[u8]) -> Result<Flow, ObjErr>
 #[tactic(auto, unfolding(crate::specs::Reading::body_of, crate::specs::Reading::contents_of, crate::specs::Classes::class_with))]
 #[inline(always)]
 pub fn filter(at: u16, ctype: u8, body: &[u8]) -> Result<Sender, ObjErr>
-    ensures { as_object AnObject.Filter result ≡ body_of at 10 ctype body.now }
+    ensures { as_object AnObject.Filter result ≡ body_of at number.filter_spec ctype body.now }
 {
-    if ctype != Class::FilterSpec.ctype() {
-        return Err(ObjErr::CType(at, Class::FilterSpec.number(), ctype));
+    if ctype != ReadClass::FilterSpec.ctype() {
+        return Err(ObjErr::CType(at, Class::FILTER_SPEC.0, ctype));
     }
-    if !has_size(Class::FilterSpec.size(), body) {
+    if !has_size(ReadClass::FilterSpec.size(), body) {
         return Err(ObjErr::Contents(at));
     }
     Ok(contents::sender(body))
@@ -138,12 +139,12 @@ pub fn filter(at: u16, ctype: u8, body: &[u8]) -> Result<Sender, ObjErr>
 #[tactic(auto, unfolding(crate::specs::Reading::body_of, crate::specs::Reading::contents_of, crate::specs::Classes::class_with))]
 #[inline(always)]
 pub fn template(at: u16, ctype: u8, body: &[u8]) -> Result<Sender, ObjErr>
-    ensures { as_object AnObject.Template result ≡ body_of at 11 ctype body.now }
+    ensures { as_object AnObject.Template result ≡ body_of at number.sender_template ctype body.now }
 {
-    if ctype != Class::SenderTemplate.ctype() {
-        return Err(ObjErr::CType(at, Class::SenderTemplate.number(), ctype));
+    if ctype != ReadClass::SenderTemplate.ctype() {
+        return Err(ObjErr::CType(at, Class::SENDER_TEMPLATE.0, ctype));
     }
-    if !has_size(Class::SenderTemplate.size(), body) {
+    if !has_size(ReadClass::SenderTemplate.size(), body) {
         return Err(ObjErr::Contents(at));
     }
     Ok(contents::sender(body))
@@ -153,12 +154,12 @@ pub fn template(at: u16, ctype: u8, body: &[u8]) -> Result<Sender, ObjErr>
 #[tactic(auto, unfolding(crate::specs::Reading::body_of, crate::specs::Reading::contents_of, crate::specs::Classes::class_with))]
 #[inline(always)]
 pub fn tspec(at: u16, ctype: u8, body: &[u8]) -> Result<Flow, ObjErr>
-    ensures { as_object AnObject.Tspec result ≡ body_of at 12 ctype body.now }
+    ensures { as_object AnObject.Tspec result ≡ body_of at number.sender_tspec ctype body.now }
 {
-    if ctype != Class::SenderTspec.ctype() {
-        return Err(ObjErr::CType(at, Class::SenderTspec.number(), ctype));
+    if ctype != ReadClass::SenderTspec.ctype() {
+        return Err(ObjErr::CType(at, Class::SENDER_TSPEC.0, ctype));
     }
-    if !has_size(Class::SenderTspec.size(), body) {
+    if !has_size(ReadClass::SenderTspec.size(), body) {
         return Err(ObjErr::Contents(at));
     }
     flow(body, service::GENERAL).ok_or(ObjErr::Tspec(at))
@@ -168,12 +169,12 @@ pub fn tspec(at: u16, ctype: u8, body: &[u8]) -> Result<Flow, ObjErr>
 #[tactic(auto, unfolding(crate::specs::Reading::body_of, crate::specs::Reading::contents_of, crate::specs::Classes::class_with))]
 #[inline(always)]
 pub fn confirm(at: u16, ctype: u8, body: &[u8]) -> Result<Addr, ObjErr>
-    ensures { as_object AnObject.Confirm result ≡ body_of at 15 ctype body.now }
+    ensures { as_object AnObject.Confirm result ≡ body_of at number.resv_confirm ctype body.now }
 {
-    if ctype != Class::ResvConfirm.ctype() {
-        return Err(ObjErr::CType(at, Class::ResvConfirm.number(), ctype));
+    if ctype != ReadClass::ResvConfirm.ctype() {
+        return Err(ObjErr::CType(at, Class::RESV_CONFIRM.0, ctype));
     }
-    if !has_size(Class::ResvConfirm.size(), body) {
+    if !has_size(ReadClass::ResvConfirm.size(), body) {
         return Err(ObjErr::Contents(at));
     }
     Ok(addr_at(body, places::resv_confirm::RECEIVER))
@@ -182,9 +183,9 @@ pub fn confirm(at: u16, ctype: u8, body: &[u8]) -> Result<Addr, ObjErr>
 /// What an ADSPEC says. `None` where its contents are not of their form: it is skipped then.
 #[tactic(auto, unfolding(crate::specs::Reading::advert_in))]
 pub fn adspec(ctype: u8, body: &[u8]) -> Option<Adspec>
-    ensures { result ≡ advert_in 13 ctype body.now }
+    ensures { result ≡ advert_in number.adspec ctype body.now }
 {
-    if ctype == INTSERV {
+    if ctype == types::INTSERV {
         read_adspec(body)
     } else {
         None

@@ -8,9 +8,9 @@ use crate::contents::contents;
 use crate::head::Head;
 use crate::obj_err::ObjErr;
 use crate::object::Object;
-use crate::places;
-use crate::table::{ADSPEC, INTSERV, is_skipped};
-use object_fields::{Adspec, half_at, read_adspec};
+use crate::read_class::ReadClass;
+use crate::{places, read};
+use object_fields::{Adspec, half_at};
 
 /// The object at a place, and the place after it. Else the first fault there, in the order of `ObjErr`.
 #[tactic(auto, unfolding(crate::specs::Reading::object_at))]
@@ -44,26 +44,26 @@ pub fn head_at(bytes: &[u8], at: usize) -> Result<Head, ObjErr>
         return Err(ObjErr::Length(at as u16));
     }
     Ok(Head {
-        class: left[places::object::CLASS],
+        class: Class(left[places::object::CLASS]),
         ctype: left[places::object::CTYPE],
         end: at + length,
     })
 }
 
-/// The object with this Class-Num, C-Type and contents. `at` is its place, for the fault that it has otherwise.
+/// The object with this class, C-Type and contents. `at` is its place, for the fault that it has otherwise.
 #[tactic(auto, unfolding(crate::specs::Reading::body_of))]
 #[inline(always)]
-pub fn object_with(at: u16, class: u8, ctype: u8, body: &[u8]) -> Result<Object, ObjErr>
-    ensures { result ≡ body_of at class ctype body.now }
+pub fn object_with(at: u16, class: Class, ctype: u8, body: &[u8]) -> Result<Object, ObjErr>
+    ensures { result ≡ body_of at class.0 ctype body.now }
 {
-    if is_skipped(class) {
+    if class.is_skipped() {
         return Ok(passed_over(class, ctype, body));
     }
-    let Some(known) = Class::with_number(class) else {
-        return Err(ObjErr::Class(at, class, ctype));
+    let Some(known) = ReadClass::of(class) else {
+        return Err(ObjErr::Class(at, class.0, ctype));
     };
     if ctype != known.ctype() {
-        return Err(ObjErr::CType(at, class, ctype));
+        return Err(ObjErr::CType(at, class.0, ctype));
     }
     if !has_size(known.size(), body) {
         return Err(ObjErr::Contents(at));
@@ -73,21 +73,21 @@ pub fn object_with(at: u16, class: u8, ctype: u8, body: &[u8]) -> Result<Object,
 
 // The ADSPEC where contents are of its form; any other object of a class that is skipped stays unread.
 #[inline(always)]
-fn passed_over(class: u8, ctype: u8, body: &[u8]) -> Object
-    ensures { result ≡ passed_over class (advert_in class ctype body.now) }
+fn passed_over(class: Class, ctype: u8, body: &[u8]) -> Object
+    ensures { result ≡ passed_over class.0 (advert_in class.0 ctype body.now) }
 {
     match advert(class, ctype, body) {
         Some(adspec) => Object::Advert(adspec),
-        None => Object::Skipped { class },
+        None => Object::Skipped { class: class.0 },
     }
 }
 
 #[tactic(auto, unfolding(crate::specs::Reading::advert_in))]
-fn advert(class: u8, ctype: u8, body: &[u8]) -> Option<Adspec>
-    ensures { result ≡ advert_in class ctype body.now }
+fn advert(class: Class, ctype: u8, body: &[u8]) -> Option<Adspec>
+    ensures { result ≡ advert_in class.0 ctype body.now }
 {
-    if class == ADSPEC && ctype == INTSERV {
-        read_adspec(body)
+    if class == Class::ADSPEC {
+        read::adspec(ctype, body)
     } else {
         None
     }

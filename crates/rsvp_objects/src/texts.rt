@@ -1,14 +1,14 @@
 //! The bytes of objects of fixed size.
 ghost use Rattle.std.specs.Prelude.{◌≡◌, ◌≤◌, ◌+◌, ◌++◌, ◌∷◌, [], length, drop};
-ghost use Rattle.rsvp_objects.specs.declared.class.Class.TheVariants as Class;
+ghost use Rattle.rsvp_objects.specs.declared.read_class.ReadClass.TheVariants as ReadClass;
 ghost use Rattle.rsvp_objects.specs.Classes.{class_number, ctype_of};
 ghost use Rattle.object_fields.specs.Fields.{half, spelt};
 ghost use Rattle.rsvp_objects.specs.Contents.{session_bytes, hop_bytes, period_bytes, error_bytes, style_number, style_bytes, sender_bytes, confirm_bytes};
 ghost use Rattle.rsvp_objects.specs.FlowWords.{flow_bytes};
 ghost use Rattle.rsvp_objects.specs.Spelling.{spelt_as};
 
-use crate::class::Class;
 use crate::flags::{error_flags, session_flags};
+use crate::read_class::ReadClass;
 use crate::{places, values};
 use byteorder::{BigEndian, ByteOrder};
 use object_fields::word_of_rate;
@@ -16,7 +16,7 @@ use rsvp_base::{Addr, ErrSpec, Flow, Hop, Peak, Sender, Session, StyleKind};
 
 /// Writes the head of an object of the class, whose text has this many bytes, over the first four.
 #[inline(always)]
-pub fn put_head(text: &mut [u8], class: Class, size: u16)
+pub fn put_head(text: &mut [u8], class: ReadClass, size: u16)
     requires { 4 ≤ length text.old }
     ensures { text.new ≡ half size ++ class_number class ∷ ctype_of class ∷ drop 4 text.old }
 {
@@ -39,10 +39,10 @@ pub fn skipped(class: u8) -> [u8; 4]
 /// SESSION.
 #[inline(always)]
 pub fn session(session: &Session, police: bool) -> [u8; 12]
-    ensures { result ≡ spelt_as Class.Session (session_bytes session.now police) }
+    ensures { result ≡ spelt_as ReadClass.Session (session_bytes session.now police) }
 {
     let mut text = [0; 12];
-    put_head(&mut text, Class::Session, 12);
+    put_head(&mut text, ReadClass::Session, 12);
     let body = &mut text[places::object::CONTENTS..];
     BigEndian::write_u32(&mut body[places::session::GROUP..], session.group.0);
     body[places::session::PROTO] = session.proto;
@@ -54,10 +54,10 @@ pub fn session(session: &Session, police: bool) -> [u8; 12]
 /// RSVP_HOP.
 #[inline(always)]
 pub fn hop(hop: Hop) -> [u8; 12]
-    ensures { result ≡ spelt_as Class.RsvpHop (hop_bytes hop) }
+    ensures { result ≡ spelt_as ReadClass.RsvpHop (hop_bytes hop) }
 {
     let mut text = [0; 12];
-    put_head(&mut text, Class::RsvpHop, 12);
+    put_head(&mut text, ReadClass::RsvpHop, 12);
     let body = &mut text[places::object::CONTENTS..];
     BigEndian::write_u32(&mut body[places::hop::ADDR..], hop.addr.0);
     BigEndian::write_u32(&mut body[places::hop::HANDLE..], hop.handle);
@@ -67,10 +67,10 @@ pub fn hop(hop: Hop) -> [u8; 12]
 /// TIME_VALUES, of a refresh period in milliseconds.
 #[inline(always)]
 pub fn time(period: u32) -> [u8; 8]
-    ensures { result ≡ spelt_as Class.TimeValues (period_bytes period) }
+    ensures { result ≡ spelt_as ReadClass.TimeValues (period_bytes period) }
 {
     let mut text = [0; 8];
-    put_head(&mut text, Class::TimeValues, 8);
+    put_head(&mut text, ReadClass::TimeValues, 8);
     BigEndian::write_u32(
         &mut text[places::object::CONTENTS + places::time_values::PERIOD..],
         period,
@@ -81,10 +81,10 @@ pub fn time(period: u32) -> [u8; 8]
 /// ERROR_SPEC.
 #[inline(always)]
 pub fn error(error: &ErrSpec) -> [u8; 12]
-    ensures { result ≡ spelt_as Class.ErrorSpec (error_bytes error.now) }
+    ensures { result ≡ spelt_as ReadClass.ErrorSpec (error_bytes error.now) }
 {
     let mut text = [0; 12];
-    put_head(&mut text, Class::ErrorSpec, 12);
+    put_head(&mut text, ReadClass::ErrorSpec, 12);
     let body = &mut text[places::object::CONTENTS..];
     BigEndian::write_u32(&mut body[places::error_spec::NODE..], error.node.0);
     body[places::error_spec::FLAGS] = error_flags(error.in_place, error.not_guilty);
@@ -96,10 +96,10 @@ pub fn error(error: &ErrSpec) -> [u8; 12]
 /// STYLE.
 #[inline(always)]
 pub fn style(kind: StyleKind) -> [u8; 8]
-    ensures { result ≡ spelt_as Class.Style (style_bytes kind) }
+    ensures { result ≡ spelt_as ReadClass.Style (style_bytes kind) }
 {
     let mut text = [0; 8];
-    put_head(&mut text, Class::Style, 8);
+    put_head(&mut text, ReadClass::Style, 8);
     text[places::object::CONTENTS + places::style::OPTIONS] = style_number(kind);
     text
 }
@@ -117,7 +117,7 @@ fn style_number(kind: StyleKind) -> u8
 
 /// FILTER_SPEC or SENDER_TEMPLATE.
 #[inline(always)]
-pub fn sender(class: Class, sender: Sender) -> [u8; 12]
+pub fn sender(class: ReadClass, sender: Sender) -> [u8; 12]
     ensures { result ≡ spelt (class_number class) (ctype_of class) (sender_bytes sender) }
 {
     let mut text = [0; 12];
@@ -131,10 +131,10 @@ pub fn sender(class: Class, sender: Sender) -> [u8; 12]
 /// RESV_CONFIRM.
 #[inline(always)]
 pub fn confirm(receiver: Addr) -> [u8; 8]
-    ensures { result ≡ spelt_as Class.ResvConfirm (confirm_bytes receiver) }
+    ensures { result ≡ spelt_as ReadClass.ResvConfirm (confirm_bytes receiver) }
 {
     let mut text = [0; 8];
-    put_head(&mut text, Class::ResvConfirm, 8);
+    put_head(&mut text, ReadClass::ResvConfirm, 8);
     BigEndian::write_u32(
         &mut text[places::object::CONTENTS + places::resv_confirm::RECEIVER..],
         receiver.0,
@@ -144,7 +144,7 @@ pub fn confirm(receiver: Addr) -> [u8; 8]
 
 /// FLOWSPEC or SENDER_TSPEC, with its service.
 #[inline(always)]
-pub fn flow(class: Class, service: u8, flow: &Flow) -> [u8; 36]
+pub fn flow(class: ReadClass, service: u8, flow: &Flow) -> [u8; 36]
     ensures { result ≡ spelt (class_number class) (ctype_of class) (flow_bytes service flow.now) }
 {
     let mut text = [0; 36];

@@ -1,5 +1,12 @@
 //! Values that fields of objects have.
 
+/// The C-Type of the objects that have IPv4 addresses or none, and of those of integrated services (RFC 2210, 3).
+pub mod ctype {
+    pub const IPV4: u8 = 1;
+
+    pub const INTSERV: u8 = 2;
+}
+
 /// The option vector of a STYLE (RFC 2205, A.7): which style its last five bits say.
 pub mod style {
     /// A byte modulo this is its last five bits.
