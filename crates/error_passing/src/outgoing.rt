@@ -35,7 +35,7 @@ pub(crate) fn post_last<O: Outbox>(last: Option<Outgoing>, out: &mut O)
     let Some(held) = last else {
         return;
     };
-    out.post(held.iface, held.dst, held.message, false);
+    out.post(held.iface, held.dst, &held.message, false);
 }
 
 /// What is held back once one more is there: it, in place of the last one, which is posted where it goes to another next
@@ -57,7 +57,7 @@ pub(crate) fn hold<O: Outbox>(
         return Some(new);
     };
     if !is_same_hop(&held, &new) {
-        out.post(held.iface, held.dst, held.message, false);
+        out.post(held.iface, held.dst, &held.message, false);
     }
     Some(new)
 }

@@ -36,6 +36,11 @@ pub fn pass_path_err<O: Outbox>(
     let Some(path) = paths.find(session, sender) else {
         return Heard::Dropped(Why::NoState);
     };
-    out.post(path.iface, path.hop.addr, Message::PathErr(*message), false);
+    out.post(
+        path.iface,
+        path.hop.addr,
+        &Message::PathErr(*message),
+        false,
+    );
     Heard::Taken
 }

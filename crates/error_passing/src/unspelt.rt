@@ -27,7 +27,7 @@ pub fn answer_unspelt<O: Outbox>(
 {
     match answer_of(config, iface, dst, err) {
         Some(reply) => {
-            out.post(iface, reply.dst, reply.message, false);
+            out.post(iface, reply.dst, &reply.message, false);
             reply.heard
         }
         None => Heard::Dropped(Why::Unspelt),

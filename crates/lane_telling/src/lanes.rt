@@ -40,7 +40,7 @@ pub fn tell_torn<O: Outbox>(
         hop: hop_to(tables, session, hop),
         tear: tear_of(style, names),
     };
-    out.post(hop.0, hop.1, Message::ResvTear(message), false);
+    out.post(hop.0, hop.1, &Message::ResvTear(message), false);
 }
 
 // Whom a Resv of a lane that is told for a change asks to confirm: whom the message that made the change says, if it says
@@ -83,7 +83,7 @@ fn tell_ask<O: Outbox>(
         confirm: wish,
         ask,
     };
-    out.post(hop.0, hop.1, Message::Resv(message), due);
+    out.post(hop.0, hop.1, &Message::Resv(message), due);
 }
 
 // The Resv of a lane that asks for these parts, where they are new or due.

@@ -141,7 +141,7 @@ struct Nowhere;
 impl Outbox for Nowhere {
     ghost posted = { λ out send. out };
 
-    fn post(&mut self, _iface: u8, _dst: Addr, _message: Message, _refresh: bool) {}
+    fn post(&mut self, _iface: u8, _dst: Addr, _message: &Message, _refresh: bool) {}
 }
 
 /// Keeps what goes toward each previous hop of a session as what was last sent there, and sends nothing: so it is where a

@@ -40,12 +40,12 @@ impl Model for Mail {
 impl Outbox for Mail {
     ghost posted = { with_post };
 
-    fn post(&mut self, iface: u8, dst: Addr, message: Message, refresh: bool) {
+    fn post(&mut self, iface: u8, dst: Addr, message: &Message, refresh: bool) {
         let _ = refresh;
         // The proof sees here that what was posted is in range, and so is the message.
         let _full = self.is_full();
-        know_range(&message);
-        self.send(iface, dst, &message);
+        know_range(message);
+        self.send(iface, dst, message);
     }
 }
 

@@ -43,9 +43,10 @@ pub(crate) fn take_in<R: Router>(
 {
     // The proof sees here that what is in flight has room.
     let _wires = mail.wires();
-    match decode(bytes) {
-        Ok(message) => arrive(node, iface, dst, &message, mail),
-        Err(fault) => arrive_unspelt(node, iface, dst, &fault, mail),
+    let read = decode(bytes);
+    match &read {
+        Ok(message) => arrive(node, iface, dst, message, mail),
+        Err(fault) => arrive_unspelt(node, iface, dst, fault, mail),
     }
 }
 

@@ -13,6 +13,6 @@ pub trait Outbox {
 
     /// Takes a message that goes out by an interface, to an address, and whether it is the refresh of a session that came
     /// due.
-    fn post(&mut self, iface: u8, dst: Addr, message: Message, refresh: bool)
-        ensures { self.new ≡ posted self.old (record { iface = iface; dst = dst; message = message; refresh = refresh }) };
+    fn post(&mut self, iface: u8, dst: Addr, message: &Message, refresh: bool)
+        ensures { self.new ≡ posted self.old (record { iface = iface; dst = dst; message = message.now; refresh = refresh }) };
 }

@@ -50,7 +50,7 @@ pub fn tell_paths<O: Outbox>(
                 sender: Some((sender, offered.tspec)),
                 adspec: None,
             };
-            out.post(iface, session.group, Message::Path(message), refresh);
+            out.post(iface, session.group, &Message::Path(message), refresh);
         }
     }
 }
@@ -72,7 +72,7 @@ pub fn tell_path_tears<O: Outbox>(config: &Config, session: Session, sender: Sen
                 },
                 sender: Some(sender),
             };
-            out.post(iface, session.group, Message::PathTear(message), false);
+            out.post(iface, session.group, &Message::PathTear(message), false);
         }
     }
 }
@@ -146,7 +146,7 @@ pub fn tell_gone_ways<O: Outbox>(
                 },
                 sender: Some(sender),
             };
-            out.post(iface, session.group, Message::PathTear(message), false);
+            out.post(iface, session.group, &Message::PathTear(message), false);
         }
     }
 }
@@ -181,7 +181,7 @@ pub fn tell_new_ways<O: Outbox>(
                 sender: Some((sender, offered.tspec)),
                 adspec: None,
             };
-            out.post(iface, session.group, Message::Path(message), false);
+            out.post(iface, session.group, &Message::Path(message), false);
         }
     }
 }

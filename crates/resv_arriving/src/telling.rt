@@ -37,7 +37,7 @@ fn tell_refusal<O: Outbox>(
     ensures { (c : ℕ) → out.new ≡ O.posted out.old (error_send (refusal_of config.now (asker_of config.now c iface message.now) refusal.now)) }
 {
     let error = error_of(config, iface, message, refusal);
-    out.post(iface, message.hop.addr, error, false);
+    out.post(iface, message.hop.addr, &error, false);
 }
 
 // The ResvErr of a refusal: of this node, with the style and the flow that were asked for.

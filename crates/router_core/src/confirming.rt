@@ -45,7 +45,7 @@ pub(crate) fn confirm<O: Outbox>(
         return;
     }
     let conf = conf_of(&tables.config, iface, message, wish, ask.copy());
-    out.post(iface, message.hop.addr, conf, false);
+    out.post(iface, message.hop.addr, &conf, false);
 }
 
 /// What was taken of a Resv that came by an interface goes back to its next hop, where the Resv wishes to be confirmed. Nothing
@@ -66,7 +66,7 @@ pub(crate) fn confirm_here<O: Outbox>(
         return;
     };
     let conf = conf_of(config, iface, message, wish, ask.copy());
-    out.post(iface, message.hop.addr, conf, false);
+    out.post(iface, message.hop.addr, &conf, false);
 }
 
 // The ResvConf of what was taken, to whom the Resv names.
