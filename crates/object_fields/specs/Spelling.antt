@@ -29,6 +29,10 @@ general_bytes a =
 unfoldable pub adspec_bytes : Adspec → List ℕ
 adspec_bytes a = general_bytes a ++ flat_map word (behind a)
 
--- the object: class 13, C-Type 2
+-- the Class-Num of an ADSPEC (RFC 2205, A.12)
+abbrev pub adspec_class : ℕ
+adspec_class = 13
+
+-- the object, whose C-Type is 2
 abbrev pub object_bytes : Adspec → List ℕ
-object_bytes a = spelt 13 2 (adspec_bytes a)
+object_bytes a = spelt adspec_class 2 (adspec_bytes a)

@@ -28,4 +28,5 @@ pub use packet::Packet;
 pub use rate_err::RateErr;
 pub use rate_word::{rate_of_word, word_of_rate};
 pub use reading::read_adspec;
+pub use values::ADSPEC;
 pub use writing::write_adspec;

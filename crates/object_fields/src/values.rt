@@ -1,8 +1,9 @@
 //! Values that fields of an ADSPEC have.
 
-/// The Class-Num and C-Type of the object (RFC 2205, A.12; RFC 2210, 3.3).
+/// The Class-Num of an ADSPEC (RFC 2205, A.12).
 pub const ADSPEC: u8 = 13;
 
+/// Its C-Type: that of integrated services (RFC 2210, 3.3).
 pub const INTSERV: u8 = 2;
 
 /// The version, and how many words of the general part are behind that word.

@@ -2,7 +2,7 @@
 ghost use Rattle.std.specs.Prelude.{◌≡◌, ◌≤◌, ◌<◌, ◌+◌, ◌*◌, ◌++◌, ◌∷◌, ◌↔◌, length, drop, OnOk, OnErr, IsErr};
 ghost use Rattle.std.specs.List.{flat_map};
 ghost use Rattle.object_fields.specs.Fields.{half, word};
-ghost use Rattle.object_fields.specs.Spelling.{load_word, load_words, parameter, general_bytes, behind, object_bytes};
+ghost use Rattle.object_fields.specs.Spelling.{adspec_class, load_word, load_words, parameter, general_bytes, behind, object_bytes};
 
 use crate::adspec::Adspec;
 use crate::packet::Packet;
@@ -57,7 +57,7 @@ fn count(adspec: &Adspec) -> u16
 fn head(adspec: &Adspec, words: u16) -> [u8; HEAD_SIZE]
     requires number { words ≡ length (behind adspec.now) }
     requires few { words ≤ 25 }
-    ensures { result ≡ half (44 + 4 * words) ++ 13 ∷ 2 ∷ general_bytes adspec.now }
+    ensures { result ≡ half (44 + 4 * words) ++ adspec_class ∷ 2 ∷ general_bytes adspec.now }
 {
     let mut text = [0; HEAD_SIZE];
     BigEndian::write_u16(&mut text, 44 + 4 * words);
