@@ -1,5 +1,5 @@
 -- The memory of a pool after each change, and what it shows.
-use Rattle.std.proofs.Common.{◌≡◌, ◌<◌, ◌≤◌, ◌+◌, ◌-◌, ◌/◌, ◌%◌, ◌||◌, ◌++◌, ℕ, zero, suc, true, false, cond, List, [], ◌∷◌, length, set, get_or, map as each, Option, Some, None, refl, sym, ap, ◌∙◌, arith, inl, inr}
+use Rattle.std.proofs.Common.{◌≡◌, ◌<◌, ◌≤◌, ◌+◌, ◌-◌, ◌%◌, ◌||◌, ◌++◌, ◌⊎◌, ℕ, zero, suc, Bool, true, false, cond, List, [], ◌∷◌, length, set, get_or, map as each, Option, Some, None, refl, sym, ap, subst, ◌∙◌, arith, inl, inr}
 use Rattle.std.specs.Prelude.{slice_get, nat_le, replicate}
 use Rattle.std.specs.List.{list_any}
 use Rattle.std.proofs.lemmas.Option.{slice_get_read}
@@ -9,9 +9,9 @@ use Rattle.soft_pool.specs.declared.cell.Cell.{Cell}
 use Rattle.soft_pool.specs.declared.cell.Cell.TheVariants.{Free, Live, Due}
 use Rattle.soft_pool.specs.declared.entry.Entry.{Entry}
 use Rattle.soft_pool.specs.Cells.{NoneFree, NoneDue, is_live, aged, cell_is_free, cell_is_due}
-use Rattle.soft_pool.specs.Wheel.{IsPool, cells, cell_of, list_of, list_at, shown, set_back}
-use Rattle.soft_pool.proofs.Slots.{within, set_same, read_each, read_back}
-use Rattle.soft_pool.proofs.Passing.{due_list, live_list}
+use Rattle.soft_pool.specs.Wheel.{AreFiled, IsFiled, IsPool, MayStand, cells, cell_of, list_at, shown, set_back, wheel_list}
+use Rattle.soft_pool.proofs.Slots.{within, something, set_same, set_read, set_elsewhere, after_set, read_each, read_back}
+use Rattle.soft_pool.proofs.Passing.{filed_at, live_filed}
 
 -- ---- what a slot shows
 pub due_cell : {T : Type 0} (clock : ℕ) (v : T) (m : ℕ) → m ≤ clock → cell_of clock (Some v) m ≡ Due v
@@ -33,32 +33,32 @@ live_of clock (Some v) m e =
     ]
 
 -- ---- slots of the list of the free and of the due
-free_of : {T : Type 0} (clock : ℕ) (o : Option T) (m : ℕ) → list_of clock o m ≡ 0 → cell_of clock o m ≡ Free
-free_of clock None m e = refl
-free_of clock (Some v) m e =
+free_of : {T : Type 0} (clock : ℕ) (o : Option T) (m : ℕ) → MayStand clock o m 0 → cell_of clock o m ≡ Free
+free_of clock None m stands = refl
+free_of clock (Some v) m stands =
     elim (cases_lt clock m) [
-      | inl lt ↦ absurd (omega (arith, e, live_list clock v m lt))
-      | inr le ↦ absurd (omega (arith, e, due_list clock v m le))
+      | inl lt ↦ let passed = stands.1 lt in absurd (omega (arith, passed.3))
+      | inr le ↦ absurd (omega (arith, stands.0 le))
     ]
 
-due_of : {T : Type 0} (clock : ℕ) (o : Option T) (m : ℕ) → list_of clock o m ≡ 1 → (v : T) × (o ≡ Some v) × (cell_of clock o m ≡ Due v)
-due_of clock None m e = absurd (omega (arith, e))
-due_of clock (Some v) m e =
+due_of : {T : Type 0} (clock : ℕ) (o : Option T) (m : ℕ) → MayStand clock o m 1 → (v : T) × (o ≡ Some v) × (cell_of clock o m ≡ Due v)
+due_of clock None m stands = absurd (omega (arith, stands))
+due_of clock (Some v) m stands =
     elim (cases_lt clock m) [
-      | inl lt ↦ absurd (omega (arith, e, live_list clock v m lt))
+      | inl lt ↦ let passed = stands.1 lt in absurd (omega (arith, passed.3))
       | inr le ↦ (v, refl, due_cell clock v m le)
     ]
 
-not_free : {T : Type 0} (clock : ℕ) (o : Option T) (m : ℕ) → (list_of clock o m ≡ 0 → ⊥) → cell_is_free (cell_of clock o m) ≡ false
-not_free clock None m ne = absurd (ne refl)
-not_free clock (Some v) m ne = elim (nat_le m clock) as (λ b. cell_is_free (cond b (Due v) (Live v (m - clock))) ≡ false) [ true ↦ refl | false ↦ refl ]
+not_free : {T : Type 0} (clock : ℕ) (o : Option T) (m h : ℕ) → MayStand clock o m h → (h ≡ 0 → ⊥) → cell_is_free (cell_of clock o m) ≡ false
+not_free clock None m h stands ne = absurd (ne stands)
+not_free clock (Some v) m h stands ne = elim (nat_le m clock) as (λ b. cell_is_free (cond b (Due v) (Live v (m - clock))) ≡ false) [ true ↦ refl | false ↦ refl ]
 
-not_due : {T : Type 0} (clock : ℕ) (o : Option T) (m : ℕ) → (list_of clock o m ≡ 1 → ⊥) → cell_is_due (cell_of clock o m) ≡ false
-not_due clock None m ne = refl
-not_due clock (Some v) m ne =
+not_due : {T : Type 0} (clock : ℕ) (o : Option T) (m h : ℕ) → MayStand clock o m h → (h ≡ 1 → ⊥) → cell_is_due (cell_of clock o m) ≡ false
+not_due clock None m h stands ne = refl
+not_due clock (Some v) m h stands ne =
     elim (cases_lt clock m) [
       | inl lt ↦ ap cell_is_due (live_cell clock v m lt)
-      | inr le ↦ absurd (ne (due_list clock v m le))
+      | inr le ↦ absurd (ne (stands.0 le))
     ]
 
 -- ---- slots that were not made yet
@@ -70,6 +70,17 @@ append_read (y ∷ xs) ys (suc i) x e = append_read xs ys i x e
 seam_read : {A : Type 0} (xs : List A) (y : A) (ys : List A) → slice_get (xs ++ y ∷ ys) (length xs) ≡ Some y
 seam_read [] y ys = refl
 seam_read (x ∷ xs) y ys = seam_read xs y ys
+
+front_read : {A : Type 0} (xs ys : List A) (i : ℕ) → i < length xs → slice_get (xs ++ ys) i ≡ slice_get xs i
+front_read [] ys i lt = absurd (omega arith)
+front_read (x ∷ xs) ys zero lt = refl
+front_read (x ∷ xs) ys (suc i) lt = front_read xs ys i (omega arith)
+
+last_read : {A : Type 0} (xs : List A) (y : A) (i : ℕ) (x : A) → slice_get (xs ++ y ∷ []) i ≡ Some x → (slice_get xs i ≡ Some x) ⊎ ((i ≡ length xs) × (x ≡ y))
+last_read [] y zero x e = let is : y ≡ x = cc in inr (refl, sym is)
+last_read [] y (suc i) x e = cc
+last_read (z ∷ xs) y zero x e = inl e
+last_read (z ∷ xs) y (suc i) x e = elim (last_read xs y i x e) [ inl before ↦ inl before | inr last ↦ inr (ap suc last.0, last.1) ]
 
 none_due_free : (T : Type 0) (n : ℕ) → list_any cell_is_due (replicate {A = Cell T} n Free) ≡ false
 none_due_free T zero = refl
@@ -89,32 +100,50 @@ all_free [] = refl
 all_free (c ∷ cs) = ap (λ cs. Free ∷ cs) (all_free cs)
 
 module _ {T : Type 0} (clock room : ℕ) where
-  none_free_in : (es : List (Entry T)) (tail : List (Cell T)) → NoneFree tail → ((i : ℕ) → slice_get (each (list_at clock) es) i ≡ Some 0 → ⊥) → NoneFree (each (shown clock) es ++ tail)
+  none_free_in : (es : List (Entry T)) (tail : List (Cell T)) → NoneFree tail → ((i : ℕ) (e : Entry T) → slice_get es i ≡ Some e → cell_is_free (shown clock e) ≡ false) → NoneFree (each (shown clock) es ++ tail)
   none_free_in [] tail t none = t
-  none_free_in (e ∷ es) tail t none =
-      ap (λ b. b || list_any cell_is_free (each (shown clock) es ++ tail)) (not_free clock e.value e.moment (λ is. none 0 (ap Some is))) ∙ none_free_in es tail t (λ i. none (suc i))
+  none_free_in (e ∷ es) tail t none = ap (λ b. b || list_any cell_is_free (each (shown clock) es ++ tail)) (none 0 e refl) ∙ none_free_in es tail t (λ i. none (suc i))
 
-  none_due_in : (es : List (Entry T)) (tail : List (Cell T)) → NoneDue tail → ((i : ℕ) → slice_get (each (list_at clock) es) i ≡ Some 1 → ⊥) → NoneDue (each (shown clock) es ++ tail)
+  none_due_in : (es : List (Entry T)) (tail : List (Cell T)) → NoneDue tail → ((i : ℕ) (e : Entry T) → slice_get es i ≡ Some e → cell_is_due (shown clock e) ≡ false) → NoneDue (each (shown clock) es ++ tail)
   none_due_in [] tail t none = t
-  none_due_in (e ∷ es) tail t none =
-      ap (λ b. b || list_any cell_is_due (each (shown clock) es ++ tail)) (not_due clock e.value e.moment (λ is. none 0 (ap Some is))) ∙ none_due_in es tail t (λ i. none (suc i))
+  none_due_in (e ∷ es) tail t none = ap (λ b. b || list_any cell_is_due (each (shown clock) es ++ tail)) (none 0 e refl) ∙ none_due_in es tail t (λ i. none (suc i))
 
   module _ (es : List (Entry T)) (lists : List ℕ) (p : IsPool es lists room clock) where
     pub sizes : length lists ≡ length es
-    sizes = ap length p.homes_are ∙ length-map es (list_at clock)
+    sizes = p.filed.0
+
+    -- a slot is left to be made, where the lists say that they are not full
+    pub room_left : (full : Bool) → full ≡ false → (room ≤ length lists → full ≡ true) → length es < room
+    room_left full open_is is_full =
+        elim (cases_lt (length es) room) [
+          | inl lt ↦ lt
+          | inr le ↦ absurd (both_ways _ open_is (is_full (omega (arith, le, sizes))))
+        ]
+
+    -- the list of a slot
+    home_of : (i : ℕ) (e : Entry T) → slice_get es i ≡ Some e → (h : ℕ) × (slice_get lists i ≡ Some h) × IsFiled clock e h
+    home_of i e is =
+        let h = something lists i (omega (arith, within es i e is, sizes)) in
+        (h.0, h.1, p.filed.1 i e h.0 is h.1)
 
     -- all slots are made, and none is in the list of the free
     pub none_free : room ≤ length lists → ((i : ℕ) → slice_get lists i ≡ Some 0 → ⊥) → NoneFree (cells clock room es)
     none_free full none =
         let made : room - length es ≡ 0 = omega (arith, full, sizes) in
-        none_free_in es (replicate (room - length es) Free) (ap (λ n. list_any cell_is_free (replicate {A = Cell T} n Free)) made) (λ i is. none i (ap (λ xs. slice_get xs i) p.homes_are ∙ is))
+        none_free_in es (replicate (room - length es) Free) (ap (λ n. list_any cell_is_free (replicate {A = Cell T} n Free)) made) (λ i e is.
+        let h = home_of i e is in
+        not_free clock e.value e.moment h.0 h.2 (λ zero_is. none i (h.1 ∙ ap Some zero_is)))
 
     pub none_due : ((i : ℕ) → slice_get lists i ≡ Some 1 → ⊥) → NoneDue (cells clock room es)
-    none_due none = none_due_in es (replicate (room - length es) Free) (none_due_free T (room - length es)) (λ i is. none i (ap (λ xs. slice_get xs i) p.homes_are ∙ is))
+    none_due none = none_due_in es (replicate (room - length es) Free) (none_due_free T (room - length es)) (λ i e is.
+        let h = home_of i e is in
+        not_due clock e.value e.moment h.0 h.2 (λ one_is. none i (h.1 ∙ ap Some one_is)))
 
     -- the entry of a slot in a list
-    found : (i list : ℕ) → slice_get lists i ≡ Some list → (e : Entry T) × (slice_get es i ≡ Some e) × (list_at clock e ≡ list)
-    found i list is = read_back (list_at clock) es i list (ap (λ xs. slice_get xs i) (sym p.homes_are) ∙ is)
+    found : (i list : ℕ) → slice_get lists i ≡ Some list → (e : Entry T) × (slice_get es i ≡ Some e) × IsFiled clock e list
+    found i list is =
+        let e = something es i (omega (arith, within lists i list is, sizes)) in
+        (e.0, e.1, p.filed.1 i e.0 list e.1 is)
 
     pub found_free : (i : ℕ) → slice_get lists i ≡ Some 0 → slice_get (cells clock room es) i ≡ Some Free
     found_free i is =
@@ -127,19 +156,54 @@ module _ {T : Type 0} (clock room : ℕ) where
         let d = due_of clock e.0.value e.0.moment e.2 in
         (e.0, d.0, e.1, d.1, append_read (each (shown clock) es) (replicate (room - length es) Free) i (Due d.0) (read_each (shown clock) es i e.0 e.1 ∙ ap Some d.2))
 
-    -- the memory after one slot was changed
-    pub pool_placed : (fs : List (Entry T)) (ls : List ℕ) (i list : ℕ) (e : Entry T) → fs ≡ set es i e → ls ≡ set lists i list → list ≡ list_at clock e → IsPool fs ls room clock
-    pool_placed fs ls i list e is at list_is =
+    -- the memory after one slot was changed, and put into a list that it may stand in
+    pub pool_placed : (fs : List (Entry T)) (ls : List ℕ) (i list : ℕ) (e : Entry T) → i < length es → fs ≡ set es i e → ls ≡ set lists i list → IsFiled clock e list → IsPool fs ls room clock
+    pool_placed fs ls i list e made is at filed =
+        let size : length ls ≡ length fs = ap length at ∙ length-set lists i list ∙ sizes ∙ sym (ap length is ∙ length-set es i e) in
         record {
           few = omega (arith, p.few, ap length is, length-set es i e);
           most = p.most;
-          homes_are = at ∙ ap (λ l. set lists i l) list_is ∙ ap (λ xs. set xs i (list_at clock e)) p.homes_are ∙ sym (map-set (list_at clock) es i e) ∙ ap (each (list_at clock)) (sym is);
+          filed = (
+            size,
+            λ j f h f_is h_is. after_set (λ j f. (h : ℕ) → slice_get ls j ≡ Some h → IsFiled clock f h) es i e j f made (ap (λ xs. slice_get xs j) (sym is) ∙ f_is)
+                (λ h h_is.
+                let home : Some list ≡ Some h = sym (set_read lists i list (omega (arith, made, sizes))) ∙ ap (λ xs. slice_get xs i) (sym at) ∙ h_is in
+                let list_h : list ≡ h = cc in
+                subst (IsFiled clock e) list_h filed)
+                (λ apart f_is h h_is. p.filed.1 j f h f_is (sym (set_elsewhere lists i j list apart) ∙ ap (λ xs. slice_get xs j) (sym at) ∙ h_is))
+                h h_is,
+          );
           early = p.early;
         }
 
-    -- and after an entry whose list stays the same
-    pub pool_changed : (fs : List (Entry T)) (i : ℕ) (e f : Entry T) → slice_get es i ≡ Some e → fs ≡ set es i f → list_at clock f ≡ list_at clock e → IsPool fs lists room clock
-    pool_changed fs i e f e_is is same = pool_placed fs lists i (list_at clock f) f is (sym (ap (set lists i) same ∙ set_same lists i (list_at clock e) (ap (λ xs. slice_get xs i) p.homes_are ∙ read_each (list_at clock) es i e e_is))) refl
+    -- and after one was changed that may stay in its list
+    pub pool_changed : (fs : List (Entry T)) (i : ℕ) (e f : Entry T) → slice_get es i ≡ Some e → fs ≡ set es i f → ((h : ℕ) → IsFiled clock e h → IsFiled clock f h) → IsPool fs lists room clock
+    pool_changed fs i e f e_is is stays =
+        let h = home_of i e e_is in
+        pool_placed fs lists i h.0 f (within es i e e_is) is (sym (set_same lists i h.0 h.1)) (stays h.0 h.2)
+
+    -- and after one more was made
+    pub pool_grown : (fs : List (Entry T)) (ls : List ℕ) (e : Entry T) → length es < room → fs ≡ es ++ e ∷ [] → ls ≡ lists ++ list_at clock e ∷ [] → IsPool fs ls room clock
+    pool_grown fs ls e lt is at =
+        let size : length ls ≡ length fs = ap length at ∙ length-append lists (list_at clock e ∷ []) ∙ ap (λ n. n + 1) sizes ∙ sym (ap length is ∙ length-append es (e ∷ [])) in
+        record {
+          few = omega (arith, lt, ap length is, length-append es (e ∷ []));
+          most = p.most;
+          filed = (
+            size,
+            λ j f h f_is h_is.
+                let f_at : slice_get (es ++ e ∷ []) j ≡ Some f = ap (λ xs. slice_get xs j) (sym is) ∙ f_is in
+                let h_at : slice_get (lists ++ list_at clock e ∷ []) j ≡ Some h = ap (λ xs. slice_get xs j) (sym at) ∙ h_is in
+                elim (last_read es e j f f_at) [
+                  | inl before ↦ p.filed.1 j f h before (sym (front_read lists (list_at clock e ∷ []) j (omega (arith, within es j f before, sizes))) ∙ h_at)
+                  | inr last ↦
+                      let read : Some (list_at clock e) ≡ Some h = sym (seam_read lists (list_at clock e) []) ∙ ap (slice_get (lists ++ list_at clock e ∷ [])) (sizes ∙ sym last.0) ∙ h_at in
+                      let list_h : list_at clock e ≡ h = cc in
+                      subst (λ f. IsFiled clock f h) (sym last.1) (subst (IsFiled clock e) list_h (filed_at clock e))
+                ],
+          );
+          early = p.early;
+        }
 
 -- a live slot of a pool
 live_made : {T : Type 0} (clock n : ℕ) (es : List (Entry T)) (i : ℕ) → is_live (slice_get (each (shown clock) es ++ replicate n Free) i) ≡ true → (e : Entry T) × (v : T) × (slice_get es i ≡ Some e) × (e.value ≡ Some v) × (clock < e.moment)
@@ -181,6 +245,10 @@ shows {T} clock room es fs i e c lt is shown_is =
     ap (λ n. each (shown clock) fs ++ replicate {A = Cell T} (room - n) Free) size
     ∙ ap (λ cs. cs ++ replicate {A = Cell T} (room - length es) Free) (ap (each (shown clock)) is ∙ map-set (shown clock) es i e ∙ ap (set (each (shown clock) es) i) shown_is)
     ∙ sym (set-append_left (each (shown clock) es) (replicate (room - length es) Free) i c few)
+
+-- and after a live slot was renewed
+pub renewed : {T : Type 0} (clock room left : ℕ) (es : List (Entry T)) (i : ℕ) (f : Entry T) (v : T) → i < length es → f.value ≡ Some v → f.moment ≡ clock + left → 1 ≤ left → cells clock room (set es i f) ≡ set (cells clock room es) i (Live v left)
+renewed clock room left es i f v made has at some = shows clock room es (set es i f) i f (Live v left) made refl (ap (λ o. cell_of clock o f.moment) has ∙ ap (cell_of clock (Some v)) at ∙ live_shown clock left v some)
 
 -- and after one was made
 module _ {T : Type 0} (clock room : ℕ) (es : List (Entry T)) (lt : length es < room) where
@@ -246,33 +314,42 @@ module _ {T : Type 0} (clock : ℕ) where
         | inr le ↦ due_cell (into clock) v (m - by clock) (omega (arith, le)) ∙ sym (due_cell clock v m le)
       ]
 
-  list_back : (o : Option T) (m : ℕ) → list_of (into clock) o (m - by clock) ≡ list_of clock o m
-  list_back None m = refl
-  list_back (Some v) m =
+  stands_back : (o : Option T) (m h : ℕ) → MayStand clock o m h → MayStand (into clock) o (m - by clock) h
+  stands_back None m h stands = stands
+  stands_back (Some v) m h stands =
       elim (cases_lt clock m) [
         | inl lt ↦
-            let same : (m - by clock) / 1024 % 256 ≡ m / 1024 % 256 = omega (arith, lt) in
-            live_list (into clock) v (m - by clock) (omega (arith, lt)) ∙ ap (λ n. 3 + n) same ∙ sym (live_list clock v m lt)
-        | inr le ↦ due_list (into clock) v (m - by clock) (omega (arith, le)) ∙ sym (due_list clock v m le)
+            let passed = stands.1 lt in
+            let time = passed.0 in
+            let same : wheel_list (time - by clock) ≡ wheel_list time = omega (arith, passed.1) in
+            live_filed (into clock) v (m - by clock) h (omega (arith, lt)) (time - by clock, omega (arith, passed.1), omega (arith, passed.2), passed.3 ∙ sym same)
+        | inr le ↦ (λ _. stands.0 le, λ lt. absurd (omega (arith, le, lt)))
       ]
 
   pub shown_back : (es : List (Entry T)) → each (shown (into clock)) (each (set_back (by clock)) es) ≡ each (shown clock) es
   shown_back [] = refl
   shown_back (e ∷ es) = ap (λ c. c ∷ each (shown (into clock)) (each (set_back (by clock)) es)) (cell_back e.value e.moment) ∙ ap (λ cs. shown clock e ∷ cs) (shown_back es)
 
-  pub lists_back : (es : List (Entry T)) → each (list_at (into clock)) (each (set_back (by clock)) es) ≡ each (list_at clock) es
-  lists_back [] = refl
-  lists_back (e ∷ es) = ap (λ c. c ∷ each (list_at (into clock)) (each (set_back (by clock)) es)) (list_back e.value e.moment) ∙ ap (λ cs. list_at clock e ∷ cs) (lists_back es)
+  pub filed_back : (es : List (Entry T)) (homes : List ℕ) → AreFiled clock es homes → AreFiled (into clock) (each (set_back (by clock)) es) homes
+  filed_back es homes filed = (
+    filed.0 ∙ sym (length-map es (set_back (by clock))),
+    λ i f h f_is h_is.
+        let e = read_back (set_back (by clock)) es i f f_is in
+        subst (λ f. IsFiled (into clock) f h) e.2 (stands_back e.0.value e.0.moment h (filed.1 i e.0 h e.1 h_is)),
+  )
 
 -- ---- all free
 abbrev pub empty : {T : Type 0} → Entry T
 empty = record { value = None; moment = 0 }
 
+none_filed : (T : Type 0) (clock : ℕ) → AreFiled {T = T} clock [] []
+none_filed T clock = (refl, λ i e h is. cc)
+
 pub opened : (T : Type 0) (room : ℕ) → room ≤ 65536 → IsPool {T = T} [] [] room 0
-opened T room most = record { few = omega arith; most = most; homes_are = refl; early = omega arith }
+opened T room most = record { few = omega arith; most = most; filed = none_filed T 0; early = omega arith }
 
 pub cleared : {T : Type 0} (es : List (Entry T)) (lists : List ℕ) (room clock : ℕ) → IsPool es lists room clock → IsPool {T = T} [] [] room clock
-cleared es lists room clock p = record { few = omega arith; most = p.most; homes_are = refl; early = p.early }
+cleared {T} es lists room clock p = record { few = omega arith; most = p.most; filed = none_filed T clock; early = p.early }
 
 pub shown_opened : (T : Type 0) (clock room : ℕ) → cells {T = T} clock room [] ≡ replicate room Free
 shown_opened T clock room = let all : room - 0 ≡ room = omega arith in ap (λ n. replicate {A = Cell T} n Free) all

@@ -52,15 +52,6 @@ read_back f [] i y e = cc
 read_back f (x ∷ xs) zero y e = let is : f x ≡ y = cc in (x, refl, is)
 read_back f (x ∷ xs) (suc i) y e = read_back f xs i y e
 
-pub made_from : {A B : Type 0} (f : A → B) (xs : List A) (ys : List B) → length ys ≡ length xs → ((i : ℕ) (x : A) → slice_get xs i ≡ Some x → slice_get ys i ≡ Some (f x)) → ys ≡ each f xs
-made_from f [] [] e made = refl
-made_from f [] (y ∷ ys) e made = absurd (omega (arith, e))
-made_from f (x ∷ xs) [] e made = absurd (omega (arith, e))
-made_from f (x ∷ xs) (y ∷ ys) e made =
-    let first : Some y ≡ Some (f x) = made 0 x refl in
-    let is : y ≡ f x = cc in
-    ap (λ z. z ∷ ys) is ∙ ap (λ zs. f x ∷ zs) (made_from f xs ys (omega (arith, e)) (λ i. made (suc i)))
-
 -- ---- a list changed from the front on
 pub length_front : {A : Type 0} (f : A → A) (xs : List A) (i : ℕ) → length (each f (take i xs) ++ drop i xs) ≡ length xs
 length_front f [] zero = refl

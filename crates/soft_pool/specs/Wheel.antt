@@ -1,5 +1,5 @@
 -- What a pool keeps of its slots at a moment of its clock, and the list of each slot.
-use Rattle.std.specs.Prelude.{◌≡◌, ◌<◌, ◌≤◌, ◌+◌, ◌-◌, ◌/◌, ◌%◌, ◌^◌, ℕ, cond, Option, Some, None, List, length, map, replicate, ◌++◌, nat_le}
+use Rattle.std.specs.Prelude.{◌≡◌, ◌<◌, ◌≤◌, ◌+◌, ◌-◌, ◌/◌, ◌%◌, ◌^◌, ℕ, cond, Option, Some, None, List, length, map, replicate, ◌++◌, nat_le, slice_get}
 use Rattle.soft_pool.specs.declared.cell.Cell.{Cell}
 use Rattle.soft_pool.specs.declared.cell.Cell.TheVariants.{Free, Live, Due}
 use Rattle.soft_pool.specs.declared.entry.Entry.{Entry}
@@ -20,9 +20,25 @@ abbrev pub list_of : {T : Type 0} → ℕ → Option T → ℕ → ℕ
 list_of clock None moment = 0
 list_of clock (Some v) moment = cond (nat_le moment clock) 1 (wheel_list moment)
 
--- the list of a slot: that of the free, that of the due, or one of the wheel
+-- the list that a slot is put into: that of the free, that of the due, or the one of the wheel for its moment
 abbrev pub list_at : {T : Type 0} → ℕ → Entry T → ℕ
 list_at clock e = list_of clock e.value e.moment
+
+-- time passes the list no later than the moment: it is that of a time from the clock to the moment
+abbrev pub IsPassedBy : ℕ → ℕ → ℕ → Type 0
+IsPassedBy clock moment home = (time : ℕ) × (clock ≤ time) × (time ≤ moment) × (home ≡ wheel_list time)
+
+abbrev pub MayStand : {T : Type 0} → ℕ → Option T → ℕ → ℕ → Type 0
+MayStand clock None moment home = home ≡ 0
+MayStand clock (Some v) moment home = (moment ≤ clock → home ≡ 1) × (clock < moment → IsPassedBy clock moment home)
+
+-- a slot may stand in this list: a free one in that of the free, a due one in that of the due, a live one in any that time passes no later than its moment
+abbrev pub IsFiled : {T : Type 0} → ℕ → Entry T → ℕ → Type 0
+IsFiled clock e home = MayStand clock e.value e.moment home
+
+-- each slot that was made stands in a list that it may stand in
+abbrev pub AreFiled : {T : Type 0} → ℕ → List (Entry T) → List ℕ → Type 0
+AreFiled {T} clock entries homes = (length homes ≡ length entries) × ((i : ℕ) (e : Entry T) (h : ℕ) → slice_get entries i ≡ Some e → slice_get homes i ≡ Some h → IsFiled clock e h)
 
 -- with the clock set back by so much
 abbrev pub set_back : {T : Type 0} → ℕ → Entry T → Entry T
@@ -32,9 +48,9 @@ set_back by e = record { value = e.value; moment = e.moment - by }
 abbrev pub cells : {T : Type 0} → ℕ → ℕ → List (Entry T) → List (Cell T)
 cells clock room entries = map (shown clock) entries ++ replicate (room - length entries) Free
 
--- a pool's memory: each slot that was made stands in its list
+-- a pool's memory: few enough slots, each in a list that it may stand in, and a clock that is not near its end
 pub record IsPool {T : Type 0} (entries : List (Entry T)) (homes : List ℕ) (room clock : ℕ) : Type 0 where
   pub few : length entries ≤ room
   pub most : room ≤ 65536
-  pub homes_are : homes ≡ map (list_at clock) entries
+  pub filed : AreFiled clock entries homes
   pub early : clock < 2 ^ 63

@@ -1,4 +1,4 @@
-//! What a pool keeps of a slot, and the list that the slot belongs to.
+//! What a pool keeps of a slot, and the list that the slot is put into.
 ghost use Rattle.std.specs.Prelude.{◌≡◌, ◌<◌, ◌++◌, ◌∷◌, [], length, slice_get, slice_set, vec_capacity, Some, None};
 ghost use Rattle.soft_pool.specs.declared.entry.Entry.{Entry};
 ghost use Rattle.soft_pool.specs.Wheel.{list_at, wheel_list};
@@ -35,7 +35,7 @@ pub(crate) fn wheel_at(moment: u64) -> u16
     WHEEL + (moment / WIDTH % LISTS) as u16
 }
 
-// The list of a slot.
+// The list that a slot is put into.
 fn list_for<T>(entry: &Entry<T>, clock: u64) -> u16
     ensures { result ≡ list_at clock entry.now }
 {

@@ -5,10 +5,12 @@
 //! taken when a pool is opened, and never later; a slot's bytes are written when it is first used, so that a pool with room
 //! for many values and few in it stays small. Contracts see the list of what is in each slot.
 //!
-//! A hashed timing wheel: each slot stands in exactly one list, that of the free slots, that of the due ones, or the one of
-//! 256 that its moment belongs to, 1,024 ms to a list. `advance` looks at the lists of the time that passes and at no
-//! other, each at most once; every other call takes a fixed number of steps. A slot takes 18 bytes beside its value (8 for
-//! its moment, 10 for its place in a list) and a pool 2,072 bytes for the heads of its lists.
+//! A hashed timing wheel: each slot stands in exactly one list, that of the free slots, that of the due ones, or one of the
+//! 256 of the wheel, 1,024 ms to a list. A value that is added stands in the list of its moment. Where it is renewed and
+//! its moment comes no earlier than before, it stays in its list, and no link is written; when time passes that list, it
+//! is put into the list of its moment. `advance` looks at the lists of the time that passes and at no other, each at most
+//! once; every other call takes a fixed number of steps. A slot takes 18 bytes beside its value (8 for its moment, 10 for
+//! its place in a list) and a pool 2,072 bytes for the heads of its lists.
 #![tactic(auto)]
 
 mod cell;

@@ -131,8 +131,11 @@ impl<T: Drop> Pool<T> {
         ensures { (v : T) × (was : ℕ) × (slice_get self.old slot.0 ≡ Some (Live v was)) × (self.new ≡ slice_set self.old slot.0 (Live v left)) }
     {
         let moment = self.clock + u64::from(left);
-        self.entries[slot.0 as usize].moment = moment;
-        self.lists.shift(slot.0, wheel_at(moment));
+        let was = mem::replace(&mut self.entries[slot.0 as usize].moment, moment);
+        // A slot whose moment comes no earlier stays in its list: time passes that list by then.
+        if moment < was {
+            self.lists.shift(slot.0, wheel_at(moment));
+        }
     }
 
     /// Lets time pass, in milliseconds. The values with at most so much left are due then, whatever `ms` is, and the others

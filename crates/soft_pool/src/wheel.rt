@@ -1,9 +1,9 @@
 //! Time: the lists of the wheel that it passes, and the clock set back before it runs out.
-ghost use Rattle.std.specs.Prelude.{◌≡◌, ◌<◌, ◌≤◌, ◌^◌, ◌%◌, ℕ, length, slice_get, map, vec_capacity, Some};
+ghost use Rattle.std.specs.Prelude.{◌≡◌, ◌<◌, ◌≤◌, ◌^◌, ◌%◌, ℕ, List, length, slice_get, map, vec_capacity, Some};
 ghost use Rattle.soft_pool.specs.declared.entry.Entry.{Entry};
-ghost use Rattle.soft_pool.specs.Wheel.{list_at, shown, set_back};
+ghost use Rattle.soft_pool.specs.Wheel.{AreFiled, shown, set_back, wheel_list};
 
-use crate::entry::{ASIDE, DUE, Entry, LISTS, WHEEL, WIDTH};
+use crate::entry::{ASIDE, DUE, Entry, LISTS, WHEEL, WIDTH, wheel_at};
 use slot_lists::SlotLists;
 
 // The list that a slot of a list that is looked at goes to: that of the due where its moment has come, and else aside.
@@ -14,7 +14,7 @@ fn sorted<T>(entry: &Entry<T>, now: u64) -> u16
     if entry.moment <= now { DUE } else { ASIDE }
 }
 
-// Goes through one list: the slots whose moment has come are due then, and the others stay.
+// Goes through one list: the slots whose moment has come are due then, and the others are in the lists of their moments.
 fn turn<T>(entries: &[Entry<T>], lists: &mut SlotLists, list: u16, now: u64)
     requires size { length lists.old.homes ≡ length entries.now }
     requires list { 3 ≤ list × list < 259 }
@@ -23,23 +23,24 @@ fn turn<T>(entries: &[Entry<T>], lists: &mut SlotLists, list: u16, now: u64)
     ensures size { length lists.new.homes ≡ length lists.old.homes }
     ensures others { (i : ℕ) (h : ℕ) → slice_get lists.old.homes i ≡ Some h → (h ≡ list → ⊥) → slice_get lists.new.homes i ≡ Some h }
     ensures due { (i : ℕ) (e : Entry T) → slice_get entries.now i ≡ Some e → slice_get lists.old.homes i ≡ Some list → e.moment ≤ now → slice_get lists.new.homes i ≡ Some 1 }
-    ensures later { (i : ℕ) (e : Entry T) → slice_get entries.now i ≡ Some e → slice_get lists.old.homes i ≡ Some list → now < e.moment → slice_get lists.new.homes i ≡ Some list }
+    ensures later { (i : ℕ) (e : Entry T) → slice_get entries.now i ≡ Some e → slice_get lists.old.homes i ≡ Some list → now < e.moment → slice_get lists.new.homes i ≡ Some (wheel_list e.moment) }
 {
     while let Some(slot) = lists.first(list) {
         let to = sorted(&entries[slot as usize], now);
         lists.shift(slot, to);
     }
     while let Some(slot) = lists.first(ASIDE) {
-        lists.shift(slot, list);
+        lists.shift(slot, wheel_at(entries[slot as usize].moment));
     }
 }
 
 // Lets the time up to a moment pass: goes through the lists that it passes, each once.
 pub(crate) fn pass<T>(entries: &[Entry<T>], lists: &mut SlotLists, clock: u64, now: u64)
-    requires lists { lists.old.homes ≡ map (list_at clock) entries.now }
+    requires lists { AreFiled clock entries.now lists.old.homes }
     requires order { clock ≤ now }
     requires early { now < 2 ^ 63 }
-    ensures { lists.new ≡ record { homes = map (list_at now) entries.now; room = lists.old.room } }
+    ensures lists { AreFiled now entries.now lists.new.homes }
+    ensures room { lists.new.room ≡ lists.old.room }
 {
     let first = clock / WIDTH;
     let more = (now / WIDTH - first).min(LISTS - 1);
@@ -60,11 +61,12 @@ fn set_all_back<T: Drop>(entries: &mut Vec<Entry<T>>, by: u64)
     }
 }
 
-// Sets the clock back by whole turns of the wheel where it has gone far, so that every slot's list stays. Answers the clock.
+// Sets the clock back by whole turns of the wheel where it has gone far, so that every slot stays in its list. Answers the
+// clock.
 pub(crate) fn rewind<T: Drop>(entries: &mut Vec<Entry<T>>, clock: u64) -> u64
     ensures early { result < 2 ^ 62 }
     ensures shown { map (shown result) entries.new.items ≡ map (shown clock) entries.old.items }
-    ensures lists { map (list_at result) entries.new.items ≡ map (list_at clock) entries.old.items }
+    ensures lists { (homes : List ℕ) → AreFiled clock entries.old.items homes → AreFiled result entries.new.items homes }
     ensures capacity { vec_capacity entries.new ≡ vec_capacity entries.old }
 {
     if clock < 1 << 62 {

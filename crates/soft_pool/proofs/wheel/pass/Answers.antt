@@ -1,5 +1,4 @@
-use Rattle.std.proofs.Common.{◌≡◌, ◌+◌, ◌/◌, ◌%◌, ◌∙◌, ap, map as each, refl, subst, arith}
-use Rattle.soft_pool.specs.Wheel.{list_at}
+use Rattle.std.proofs.Common.{◌≡◌, ◌+◌, ◌/◌, ◌%◌, ◌∙◌, refl, subst, arith}
 use Rattle.soft_pool.proofs.Passing.{IsPassing, none_aside, passed_more, all_passed}
 use Rattle.soft_pool.proofs.wheel.pass.Goals as goal
 
@@ -13,8 +12,7 @@ loop-step-preserved g c =
       t.room ∙ c.loop-step.invariant.1,
     )
 
-pub returns : goal.returns
-returns g c =
+pub returns-clause-lists : goal.returns-clause-lists
+returns-clause-lists g c =
     let end : c.loop-step.step ≡ c.min-more.result + 1 = omega (arith, c.loop-step-test.false, c.loop-step.auto.step-end) in
-    let passed = all_passed c.args.entries.now c.args.clock c.args.now (c.args.clock / 1024) c.min-more.result c.loop-step.lists.homes refl c.min-more.ensures c.requires.order (subst (λ n. IsPassing c.args.entries.now c.args.clock c.args.now (c.args.clock / 1024) n c.loop-step.lists.homes) end c.loop-step.invariant.0) in
-    ap (λ homes. record { homes = homes; room = c.loop-step.lists.room }) passed ∙ ap (λ room. record { homes = each (list_at c.args.now) c.args.entries.now; room = room }) c.loop-step.invariant.1
+    all_passed c.args.entries.now c.args.clock c.args.now (c.args.clock / 1024) c.min-more.result c.loop-step.lists.homes refl c.min-more.ensures c.requires.order (subst (λ n. IsPassing c.args.entries.now c.args.clock c.args.now (c.args.clock / 1024) n c.loop-step.lists.homes) end c.loop-step.invariant.0)

@@ -1,11 +1,11 @@
-use Rattle.std.proofs.Common.{◌<◌, ◌+◌, ◌∙◌, Some, length, refl, ap, arith, inl, inr}
+use Rattle.std.proofs.Common.{◌<◌, ◌+◌, ◌∙◌, Some, length, refl, ap, arith}
 use Rattle.std.specs.Prelude.{slice_set}
-use Rattle.std.proofs.lemmas.Bool.{cases_lt, both_ways}
 use Rattle.soft_pool.specs.declared.entry.Entry.{Entry}
 use Rattle.soft_pool.specs.declared.cell.Cell.TheVariants.{Live}
 use Rattle.soft_pool.specs.Wheel.{list_at}
 use Rattle.soft_pool.proofs.Slots.{within}
-use Rattle.soft_pool.proofs.Pools.{none_free, found_free, sizes, pool_placed, shows, grows, next_free, live_shown}
+use Rattle.soft_pool.proofs.Passing.{filed_at}
+use Rattle.soft_pool.proofs.Pools.{none_free, found_free, sizes, pool_placed, pool_grown, room_left, shows, grows, next_free, live_shown}
 use Rattle.soft_pool.proofs.pool.Pool.add.Goals as goal
 
 -- ---- into a slot that is free again
@@ -13,8 +13,9 @@ pub invariant_of-self : goal.invariant_of-self
 invariant_of-self g c =
     let s = c.self.inside in
     let p = c.place.ensures in
+    let made : c.in-Some.slot < length s.entries.items = omega (arith, within s.lists.homes c.in-Some.slot 0 c.in-Some.ensures.some, sizes s.clock s.lists.room s.entries.items s.lists.homes c.self.invariant.0) in
     let e : Entry _ = record { value = Some c.args.value; moment = s.clock + c.from.result } in (
-      rw p.lists (pool_placed s.clock s.lists.room s.entries.items s.lists.homes c.self.invariant.0 c.place.new.entries.items _ c.in-Some.slot (list_at s.clock e) e p.entries refl refl),
+      rw p.lists (pool_placed s.clock s.lists.room s.entries.items s.lists.homes c.self.invariant.0 c.place.new.entries.items _ c.in-Some.slot (list_at s.clock e) e made p.entries refl (filed_at s.clock e)),
       rw (p.lists, p.capacity) c.self.invariant.1,
     )
 
@@ -40,14 +41,20 @@ returns-then-is_full-clause-full g c =
     rw (← c.self.view_is) (none_free s.clock s.lists.room s.entries.items s.lists.homes c.self.invariant.0 (c.is_full.ensures.0 c.if-is_full.true) (c.in_default.ensures.none refl))
 
 -- ---- into the next slot
+pub invariant_of-self-2 : goal.invariant_of-self-2
+invariant_of-self-2 g c =
+    let s = c.self.inside in
+    let m = c.make-slot.ensures in
+    let left = room_left s.clock s.lists.room s.entries.items s.lists.homes c.self.invariant.0 c.is_full.result c.if-is_full.false c.is_full.ensures.1 in
+    let e : Entry _ = record { value = Some c.args.value; moment = s.clock + c.from.result } in (
+      rw m.lists (pool_grown s.clock s.lists.room s.entries.items s.lists.homes c.self.invariant.0 c.make-slot.new.entries.items _ e left m.entries refl),
+      rw (m.lists, m.capacity) c.self.invariant.1,
+    )
+
 pub returns-clause-free : goal.returns-clause-free
 returns-clause-free g c =
     let s = c.self.inside in
-    let size = sizes s.clock s.lists.room s.entries.items s.lists.homes c.self.invariant.0 in
-    let left : length s.entries.items < s.lists.room = elim (cases_lt (length s.entries.items) s.lists.room) [
-      | inl lt ↦ lt
-      | inr le ↦ absurd (both_ways _ c.if-is_full.false (c.is_full.ensures.1 (omega (arith, le, size))))
-    ] in
+    let left = room_left s.clock s.lists.room s.entries.items s.lists.homes c.self.invariant.0 c.is_full.result c.if-is_full.false c.is_full.ensures.1 in
     rw (c.make-slot.ensures.slot, ← c.self.view_is) (next_free s.clock s.lists.room s.entries.items left)
 
 pub returns-clause-placed : goal.returns-clause-placed
@@ -56,11 +63,7 @@ returns-clause-placed g c =
     let m = c.make-slot.ensures in
     let v = c.args.value in
     let e : Entry _ = record { value = Some v; moment = s.clock + c.from.result } in
-    let size = sizes s.clock s.lists.room s.entries.items s.lists.homes c.self.invariant.0 in
-    let left : length s.entries.items < s.lists.room = elim (cases_lt (length s.entries.items) s.lists.room) [
-      | inl lt ↦ lt
-      | inr le ↦ absurd (both_ways _ c.if-is_full.false (c.is_full.ensures.1 (omega (arith, le, size))))
-    ] in
+    let left = room_left s.clock s.lists.room s.entries.items s.lists.homes c.self.invariant.0 c.is_full.result c.if-is_full.false c.is_full.ensures.1 in
     rw (m.lists, m.slot) (grows s.clock s.lists.room s.entries.items left c.make-slot.new.entries.items e (Live v c.args.left) m.entries
     (live_shown s.clock c.from.result v (omega (arith, c.from.ensures, c.requires)) ∙ ap (Live v) c.from.ensures)
     ∙ ap (λ xs. slice_set xs (length s.entries.items) (Live v c.args.left)) c.self.view_is)

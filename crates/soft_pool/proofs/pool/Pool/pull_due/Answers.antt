@@ -28,8 +28,10 @@ unreachable-requires g c =
 pub invariant_of-self : goal.invariant_of-self
 invariant_of-self g c =
     let s = c.self.inside in
-    let t = c.take.ensures in (
-      rw t.lists (pool_placed s.clock s.lists.room s.entries.items s.lists.homes c.self.invariant.0 c.take.new.entries.items _ c.in-Some.slot 0 empty t.entries.3 refl refl),
+    let t = c.take.ensures in
+    let made : c.in-Some.slot < length s.entries.items =
+    omega (arith, within s.lists.homes c.in-Some.slot 1 c.in-Some.ensures.some, sizes s.clock s.lists.room s.entries.items s.lists.homes c.self.invariant.0) in (
+      rw t.lists (pool_placed s.clock s.lists.room s.entries.items s.lists.homes c.self.invariant.0 c.take.new.entries.items _ c.in-Some.slot 0 empty made t.entries.3 refl refl),
       rw (t.lists, t.capacity) c.self.invariant.1,
     )
 

@@ -8,7 +8,7 @@ pub invariant_of-self : goal.invariant_of-self
 invariant_of-self g c =
     let s = c.self.inside in
     let t = c.take.ensures in (
-      rw t.lists (pool_placed s.clock s.lists.room s.entries.items s.lists.homes c.self.invariant.0 c.take.new.entries.items _ c.args.slot.0 0 empty t.entries.3 refl refl),
+      rw t.lists (pool_placed s.clock s.lists.room s.entries.items s.lists.homes c.self.invariant.0 c.take.new.entries.items _ c.args.slot.0 0 empty (live_within s.clock s.lists.room s.entries.items c.args.slot.0 (rw c.self.view_is c.requires)) t.entries.3 refl refl),
       rw (t.lists, t.capacity) c.self.invariant.1,
     )
 

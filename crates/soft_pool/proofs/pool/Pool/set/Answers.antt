@@ -1,8 +1,9 @@
-use Rattle.std.proofs.Common.{◌-◌, ◌∙◌, refl, ap, sym}
+use Rattle.std.proofs.Common.{◌-◌, ◌∙◌, refl, ap, sym, arith}
 use Rattle.std.specs.Prelude.{slice_set}
 use Rattle.soft_pool.specs.declared.entry.Entry.{Entry}
 use Rattle.soft_pool.specs.declared.cell.Cell.TheVariants.{Live}
-use Rattle.soft_pool.specs.Wheel.{list_of, cell_of}
+use Rattle.soft_pool.specs.Wheel.{cell_of}
+use Rattle.soft_pool.proofs.Passing.{live_stays}
 use Rattle.soft_pool.proofs.Pools.{live_now, live_read, live_cell, live_within, pool_changed, shows}
 use Rattle.soft_pool.proofs.pool.Pool.set.Goals as goal
 
@@ -14,7 +15,7 @@ invariant_of-self g c =
     let f : Entry _ = record { value = c.replace.new.dest; moment = e.moment } in
     let live = live_now s.clock s.lists.room s.entries.items i e (rw c.self.view_is c.requires) c.index_mut.ensures.value in (
       pool_changed s.clock s.lists.room s.entries.items s.lists.homes c.self.invariant.0 _ i e f live.1 refl
-          (ap (λ o. list_of s.clock o e.moment) c.replace.ensures.after ∙ sym (ap (λ o. list_of s.clock o e.moment) live.2)),
+          (λ h. live_stays s.clock h e f live.0 c.args.value live.2 c.replace.ensures.after live.3 (omega arith)),
       c.self.invariant.1,
     )
 
