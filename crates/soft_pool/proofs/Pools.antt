@@ -1,5 +1,5 @@
 -- The memory of a pool after each change, and what it shows.
-use Rattle.std.proofs.Common.{◌≡◌, ◌<◌, ◌≤◌, ◌+◌, ◌-◌, ◌%◌, ◌||◌, ◌++◌, ◌⊎◌, ℕ, zero, suc, Bool, true, false, cond, List, [], ◌∷◌, length, set, get_or, map as each, Option, Some, None, refl, sym, ap, subst, ◌∙◌, arith, inl, inr}
+use Rattle.std.proofs.Common.{◌≡◌, ◌<◌, ◌≤◌, ◌+◌, ◌-◌, ◌%◌, ◌^◌, ◌||◌, ◌++◌, ◌⊎◌, ℕ, zero, suc, Bool, true, false, cond, List, [], ◌∷◌, length, set, get_or, map as each, Option, Some, None, refl, sym, ap, subst, ◌∙◌, arith, inl, inr}
 use Rattle.std.specs.Prelude.{slice_get, nat_le, replicate}
 use Rattle.std.specs.List.{list_any}
 use Rattle.std.proofs.lemmas.Option.{slice_get_read}
@@ -11,7 +11,7 @@ use Rattle.soft_pool.specs.declared.entry.Entry.{Entry}
 use Rattle.soft_pool.specs.Cells.{NoneFree, NoneDue, is_live, aged, cell_is_free, cell_is_due}
 use Rattle.soft_pool.specs.Wheel.{AreFiled, IsFiled, IsPool, MayStand, cells, cell_of, list_at, shown, set_back, wheel_list}
 use Rattle.soft_pool.proofs.Slots.{within, something, set_same, set_read, set_elsewhere, after_set, read_each, read_back}
-use Rattle.soft_pool.proofs.Passing.{filed_at, live_filed}
+use Rattle.soft_pool.proofs.Passing.{filed_at, filed_sooner, live_filed}
 
 -- ---- what a slot shows
 pub due_cell : {T : Type 0} (clock : ℕ) (v : T) (m : ℕ) → m ≤ clock → cell_of clock (Some v) m ≡ Due v
@@ -33,29 +33,29 @@ live_of clock (Some v) m e =
     ]
 
 -- ---- slots of the list of the free and of the due
-free_of : {T : Type 0} (clock : ℕ) (o : Option T) (m : ℕ) → MayStand clock o m 0 → cell_of clock o m ≡ Free
-free_of clock None m stands = refl
-free_of clock (Some v) m stands =
+free_of : {T : Type 0} (clock soonest : ℕ) (o : Option T) (m : ℕ) → MayStand clock soonest o m 0 → cell_of clock o m ≡ Free
+free_of clock soonest None m stands = refl
+free_of clock soonest (Some v) m stands =
     elim (cases_lt clock m) [
       | inl lt ↦ let passed = stands.1 lt in absurd (omega (arith, passed.3))
       | inr le ↦ absurd (omega (arith, stands.0 le))
     ]
 
-due_of : {T : Type 0} (clock : ℕ) (o : Option T) (m : ℕ) → MayStand clock o m 1 → (v : T) × (o ≡ Some v) × (cell_of clock o m ≡ Due v)
-due_of clock None m stands = absurd (omega (arith, stands))
-due_of clock (Some v) m stands =
+due_of : {T : Type 0} (clock soonest : ℕ) (o : Option T) (m : ℕ) → MayStand clock soonest o m 1 → (v : T) × (o ≡ Some v) × (cell_of clock o m ≡ Due v)
+due_of clock soonest None m stands = absurd (omega (arith, stands))
+due_of clock soonest (Some v) m stands =
     elim (cases_lt clock m) [
       | inl lt ↦ let passed = stands.1 lt in absurd (omega (arith, passed.3))
       | inr le ↦ (v, refl, due_cell clock v m le)
     ]
 
-not_free : {T : Type 0} (clock : ℕ) (o : Option T) (m h : ℕ) → MayStand clock o m h → (h ≡ 0 → ⊥) → cell_is_free (cell_of clock o m) ≡ false
-not_free clock None m h stands ne = absurd (ne stands)
-not_free clock (Some v) m h stands ne = elim (nat_le m clock) as (λ b. cell_is_free (cond b (Due v) (Live v (m - clock))) ≡ false) [ true ↦ refl | false ↦ refl ]
+not_free : {T : Type 0} (clock soonest : ℕ) (o : Option T) (m h : ℕ) → MayStand clock soonest o m h → (h ≡ 0 → ⊥) → cell_is_free (cell_of clock o m) ≡ false
+not_free clock soonest None m h stands ne = absurd (ne stands)
+not_free clock soonest (Some v) m h stands ne = elim (nat_le m clock) as (λ b. cell_is_free (cond b (Due v) (Live v (m - clock))) ≡ false) [ true ↦ refl | false ↦ refl ]
 
-not_due : {T : Type 0} (clock : ℕ) (o : Option T) (m h : ℕ) → MayStand clock o m h → (h ≡ 1 → ⊥) → cell_is_due (cell_of clock o m) ≡ false
-not_due clock None m h stands ne = refl
-not_due clock (Some v) m h stands ne =
+not_due : {T : Type 0} (clock soonest : ℕ) (o : Option T) (m h : ℕ) → MayStand clock soonest o m h → (h ≡ 1 → ⊥) → cell_is_due (cell_of clock o m) ≡ false
+not_due clock soonest None m h stands ne = refl
+not_due clock soonest (Some v) m h stands ne =
     elim (cases_lt clock m) [
       | inl lt ↦ ap cell_is_due (live_cell clock v m lt)
       | inr le ↦ absurd (ne (stands.0 le))
@@ -108,9 +108,13 @@ module _ {T : Type 0} (clock room : ℕ) where
   none_due_in [] tail t none = t
   none_due_in (e ∷ es) tail t none = ap (λ b. b || list_any cell_is_due (each (shown clock) es ++ tail)) (none 0 e refl) ∙ none_due_in es tail t (λ i. none (suc i))
 
-  module _ (es : List (Entry T)) (lists : List ℕ) (p : IsPool es lists room clock) where
+  module _ {soonest : ℕ} (es : List (Entry T)) (lists : List ℕ) (p : IsPool es lists room clock soonest) where
     pub sizes : length lists ≡ length es
     sizes = p.filed.0
+
+    -- the memory with an earlier soonest time
+    pub pool_sooner : (less : ℕ) → clock ≤ less → less ≤ soonest → IsPool es lists room clock less
+    pool_sooner less order le = record { few = p.few; most = p.most; filed = filed_sooner clock soonest less es lists le p.filed; ahead = order; early = p.early }
 
     -- a slot is left to be made, where the lists say that they are not full
     pub room_left : (full : Bool) → full ≡ false → (room ≤ length lists → full ≡ true) → length es < room
@@ -121,7 +125,7 @@ module _ {T : Type 0} (clock room : ℕ) where
         ]
 
     -- the list of a slot
-    home_of : (i : ℕ) (e : Entry T) → slice_get es i ≡ Some e → (h : ℕ) × (slice_get lists i ≡ Some h) × IsFiled clock e h
+    home_of : (i : ℕ) (e : Entry T) → slice_get es i ≡ Some e → (h : ℕ) × (slice_get lists i ≡ Some h) × IsFiled clock soonest e h
     home_of i e is =
         let h = something lists i (omega (arith, within es i e is, sizes)) in
         (h.0, h.1, p.filed.1 i e h.0 is h.1)
@@ -132,15 +136,15 @@ module _ {T : Type 0} (clock room : ℕ) where
         let made : room - length es ≡ 0 = omega (arith, full, sizes) in
         none_free_in es (replicate (room - length es) Free) (ap (λ n. list_any cell_is_free (replicate {A = Cell T} n Free)) made) (λ i e is.
         let h = home_of i e is in
-        not_free clock e.value e.moment h.0 h.2 (λ zero_is. none i (h.1 ∙ ap Some zero_is)))
+        not_free clock soonest e.value e.moment h.0 h.2 (λ zero_is. none i (h.1 ∙ ap Some zero_is)))
 
     pub none_due : ((i : ℕ) → slice_get lists i ≡ Some 1 → ⊥) → NoneDue (cells clock room es)
     none_due none = none_due_in es (replicate (room - length es) Free) (none_due_free T (room - length es)) (λ i e is.
         let h = home_of i e is in
-        not_due clock e.value e.moment h.0 h.2 (λ one_is. none i (h.1 ∙ ap Some one_is)))
+        not_due clock soonest e.value e.moment h.0 h.2 (λ one_is. none i (h.1 ∙ ap Some one_is)))
 
     -- the entry of a slot in a list
-    found : (i list : ℕ) → slice_get lists i ≡ Some list → (e : Entry T) × (slice_get es i ≡ Some e) × IsFiled clock e list
+    found : (i list : ℕ) → slice_get lists i ≡ Some list → (e : Entry T) × (slice_get es i ≡ Some e) × IsFiled clock soonest e list
     found i list is =
         let e = something es i (omega (arith, within lists i list is, sizes)) in
         (e.0, e.1, p.filed.1 i e.0 list e.1 is)
@@ -148,16 +152,16 @@ module _ {T : Type 0} (clock room : ℕ) where
     pub found_free : (i : ℕ) → slice_get lists i ≡ Some 0 → slice_get (cells clock room es) i ≡ Some Free
     found_free i is =
         let e = found i 0 is in
-        append_read (each (shown clock) es) (replicate (room - length es) Free) i Free (read_each (shown clock) es i e.0 e.1 ∙ ap Some (free_of clock e.0.value e.0.moment e.2))
+        append_read (each (shown clock) es) (replicate (room - length es) Free) i Free (read_each (shown clock) es i e.0 e.1 ∙ ap Some (free_of clock soonest e.0.value e.0.moment e.2))
 
     pub found_due : (i : ℕ) → slice_get lists i ≡ Some 1 → (e : Entry T) × (v : T) × (slice_get es i ≡ Some e) × (e.value ≡ Some v) × (slice_get (cells clock room es) i ≡ Some (Due v))
     found_due i is =
         let e = found i 1 is in
-        let d = due_of clock e.0.value e.0.moment e.2 in
+        let d = due_of clock soonest e.0.value e.0.moment e.2 in
         (e.0, d.0, e.1, d.1, append_read (each (shown clock) es) (replicate (room - length es) Free) i (Due d.0) (read_each (shown clock) es i e.0 e.1 ∙ ap Some d.2))
 
     -- the memory after one slot was changed, and put into a list that it may stand in
-    pub pool_placed : (fs : List (Entry T)) (ls : List ℕ) (i list : ℕ) (e : Entry T) → i < length es → fs ≡ set es i e → ls ≡ set lists i list → IsFiled clock e list → IsPool fs ls room clock
+    pub pool_placed : (fs : List (Entry T)) (ls : List ℕ) (i list : ℕ) (e : Entry T) → i < length es → fs ≡ set es i e → ls ≡ set lists i list → IsFiled clock soonest e list → IsPool fs ls room clock soonest
     pool_placed fs ls i list e made is at filed =
         let size : length ls ≡ length fs = ap length at ∙ length-set lists i list ∙ sizes ∙ sym (ap length is ∙ length-set es i e) in
         record {
@@ -165,26 +169,27 @@ module _ {T : Type 0} (clock room : ℕ) where
           most = p.most;
           filed = (
             size,
-            λ j f h f_is h_is. after_set (λ j f. (h : ℕ) → slice_get ls j ≡ Some h → IsFiled clock f h) es i e j f made (ap (λ xs. slice_get xs j) (sym is) ∙ f_is)
+            λ j f h f_is h_is. after_set (λ j f. (h : ℕ) → slice_get ls j ≡ Some h → IsFiled clock soonest f h) es i e j f made (ap (λ xs. slice_get xs j) (sym is) ∙ f_is)
                 (λ h h_is.
                 let home : Some list ≡ Some h = sym (set_read lists i list (omega (arith, made, sizes))) ∙ ap (λ xs. slice_get xs i) (sym at) ∙ h_is in
                 let list_h : list ≡ h = cc in
-                subst (IsFiled clock e) list_h filed)
+                subst (IsFiled clock soonest e) list_h filed)
                 (λ apart f_is h h_is. p.filed.1 j f h f_is (sym (set_elsewhere lists i j list apart) ∙ ap (λ xs. slice_get xs j) (sym at) ∙ h_is))
                 h h_is,
           );
+          ahead = p.ahead;
           early = p.early;
         }
 
     -- and after one was changed that may stay in its list
-    pub pool_changed : (fs : List (Entry T)) (i : ℕ) (e f : Entry T) → slice_get es i ≡ Some e → fs ≡ set es i f → ((h : ℕ) → IsFiled clock e h → IsFiled clock f h) → IsPool fs lists room clock
+    pub pool_changed : (fs : List (Entry T)) (i : ℕ) (e f : Entry T) → slice_get es i ≡ Some e → fs ≡ set es i f → ((h : ℕ) → IsFiled clock soonest e h → IsFiled clock soonest f h) → IsPool fs lists room clock soonest
     pool_changed fs i e f e_is is stays =
         let h = home_of i e e_is in
         pool_placed fs lists i h.0 f (within es i e e_is) is (sym (set_same lists i h.0 h.1)) (stays h.0 h.2)
 
     -- and after one more was made
-    pub pool_grown : (fs : List (Entry T)) (ls : List ℕ) (e : Entry T) → length es < room → fs ≡ es ++ e ∷ [] → ls ≡ lists ++ list_at clock e ∷ [] → IsPool fs ls room clock
-    pool_grown fs ls e lt is at =
+    pub pool_grown : (fs : List (Entry T)) (ls : List ℕ) (e : Entry T) → length es < room → soonest ≤ e.moment → fs ≡ es ++ e ∷ [] → ls ≡ lists ++ list_at clock e ∷ [] → IsPool fs ls room clock soonest
+    pool_grown fs ls e lt sooner is at =
         let size : length ls ≡ length fs = ap length at ∙ length-append lists (list_at clock e ∷ []) ∙ ap (λ n. n + 1) sizes ∙ sym (ap length is ∙ length-append es (e ∷ [])) in
         record {
           few = omega (arith, lt, ap length is, length-append es (e ∷ []));
@@ -199,9 +204,10 @@ module _ {T : Type 0} (clock room : ℕ) where
                   | inr last ↦
                       let read : Some (list_at clock e) ≡ Some h = sym (seam_read lists (list_at clock e) []) ∙ ap (slice_get (lists ++ list_at clock e ∷ [])) (sizes ∙ sym last.0) ∙ h_at in
                       let list_h : list_at clock e ≡ h = cc in
-                      subst (λ f. IsFiled clock f h) (sym last.1) (subst (IsFiled clock e) list_h (filed_at clock e))
+                      subst (λ f. IsFiled clock soonest f h) (sym last.1) (subst (IsFiled clock soonest e) list_h (filed_at clock soonest e sooner))
                 ],
           );
+          ahead = p.ahead;
           early = p.early;
         }
 
@@ -292,10 +298,19 @@ aged_made : {T : Type 0} (clock ms : ℕ) (es : List (Entry T)) → each (shown 
 aged_made clock ms [] = refl
 aged_made clock ms (e ∷ es) = ap (λ c. c ∷ each (shown (clock + ms)) es) (aged_cell clock ms e.value e.moment) ∙ ap (λ cs. aged ms (shown clock e) ∷ cs) (aged_made clock ms es)
 
-pub aged_all : {T : Type 0} (clock room ms : ℕ) (es : List (Entry T)) → cells (clock + ms) room es ≡ each (aged ms) (cells clock room es)
+aged_all : {T : Type 0} (clock room ms : ℕ) (es : List (Entry T)) → cells (clock + ms) room es ≡ each (aged ms) (cells clock room es)
 aged_all {T} clock room ms es =
     let tail : List (Cell T) = replicate (room - length es) Free in
     ap (λ cs. cs ++ tail) (aged_made clock ms es) ∙ ap (λ cs. each (aged ms) (each (shown clock) es) ++ cs) (sym (aged_free T ms (room - length es))) ∙ sym (map-append (aged ms) (each (shown clock) es) tail)
+
+-- the same slots on another clock
+pub as_many : {T : Type 0} (clock other : ℕ) (es fs : List (Entry T)) → each (shown other) fs ≡ each (shown clock) es → length fs ≡ length es
+as_many clock other es fs same = sym (length-map fs (shown other)) ∙ ap length same ∙ length-map es (shown clock)
+
+pub aged_on : {T : Type 0} (clock other room ms : ℕ) (es fs : List (Entry T)) → each (shown other) fs ≡ each (shown clock) es → cells (other + ms) room fs ≡ each (aged ms) (cells clock room es)
+aged_on {T} clock other room ms es fs same =
+    let cells_are : cells other room fs ≡ cells clock room es = ap (λ n. each (shown other) fs ++ replicate {A = Cell T} (room - n) Free) (as_many clock other es fs same) ∙ ap (λ cs. cs ++ replicate {A = Cell T} (room - length es) Free) same in
+    aged_all other room ms fs ∙ ap (each (aged ms)) cells_are
 
 -- ---- the clock set back by whole turns
 module _ (clock : ℕ) where
@@ -305,7 +320,7 @@ module _ (clock : ℕ) where
   abbrev by : ℕ
   by = clock - clock % 262144
 
-module _ {T : Type 0} (clock : ℕ) where
+module _ {T : Type 0} (clock soonest : ℕ) where
   cell_back : (o : Option T) (m : ℕ) → cell_of (into clock) o (m - by clock) ≡ cell_of clock o m
   cell_back None m = refl
   cell_back (Some v) m =
@@ -314,15 +329,15 @@ module _ {T : Type 0} (clock : ℕ) where
         | inr le ↦ due_cell (into clock) v (m - by clock) (omega (arith, le)) ∙ sym (due_cell clock v m le)
       ]
 
-  stands_back : (o : Option T) (m h : ℕ) → MayStand clock o m h → MayStand (into clock) o (m - by clock) h
-  stands_back None m h stands = stands
-  stands_back (Some v) m h stands =
+  stands_back : (o : Option T) (m h : ℕ) → clock ≤ soonest → MayStand clock soonest o m h → MayStand (into clock) (soonest - by clock) o (m - by clock) h
+  stands_back None m h order stands = stands
+  stands_back (Some v) m h order stands =
       elim (cases_lt clock m) [
         | inl lt ↦
             let passed = stands.1 lt in
             let time = passed.0 in
-            let same : wheel_list (time - by clock) ≡ wheel_list time = omega (arith, passed.1) in
-            live_filed (into clock) v (m - by clock) h (omega (arith, lt)) (time - by clock, omega (arith, passed.1), omega (arith, passed.2), passed.3 ∙ sym same)
+            let same : wheel_list (time - by clock) ≡ wheel_list time = omega (arith, order, passed.1) in
+            live_filed (into clock) (soonest - by clock) v (m - by clock) h (omega (arith, lt)) (time - by clock, omega (arith, passed.1), omega (arith, passed.2), passed.3 ∙ sym same)
         | inr le ↦ (λ _. stands.0 le, λ lt. absurd (omega (arith, le, lt)))
       ]
 
@@ -330,31 +345,31 @@ module _ {T : Type 0} (clock : ℕ) where
   shown_back [] = refl
   shown_back (e ∷ es) = ap (λ c. c ∷ each (shown (into clock)) (each (set_back (by clock)) es)) (cell_back e.value e.moment) ∙ ap (λ cs. shown clock e ∷ cs) (shown_back es)
 
-  pub filed_back : (es : List (Entry T)) (homes : List ℕ) → AreFiled clock es homes → AreFiled (into clock) (each (set_back (by clock)) es) homes
-  filed_back es homes filed = (
+  pub filed_back : (es : List (Entry T)) (homes : List ℕ) → clock ≤ soonest → AreFiled clock soonest es homes → AreFiled (into clock) (soonest - by clock) (each (set_back (by clock)) es) homes
+  filed_back es homes order filed = (
     filed.0 ∙ sym (length-map es (set_back (by clock))),
     λ i f h f_is h_is.
         let e = read_back (set_back (by clock)) es i f f_is in
-        subst (λ f. IsFiled (into clock) f h) e.2 (stands_back e.0.value e.0.moment h (filed.1 i e.0 h e.1 h_is)),
+        subst (λ f. IsFiled (into clock) (soonest - by clock) f h) e.2 (stands_back e.0.value e.0.moment h order (filed.1 i e.0 h e.1 h_is)),
   )
 
 -- ---- all free
 abbrev pub empty : {T : Type 0} → Entry T
 empty = record { value = None; moment = 0 }
 
-none_filed : (T : Type 0) (clock : ℕ) → AreFiled {T = T} clock [] []
-none_filed T clock = (refl, λ i e h is. cc)
+none_filed : (T : Type 0) (clock soonest : ℕ) → AreFiled {T = T} clock soonest [] []
+none_filed T clock soonest = (refl, λ i e h is. cc)
 
-pub opened : (T : Type 0) (room : ℕ) → room ≤ 65536 → IsPool {T = T} [] [] room 0
-opened T room most = record { few = omega arith; most = most; filed = none_filed T 0; early = omega arith }
+pub opened : (T : Type 0) (room soonest : ℕ) → room ≤ 65536 → IsPool {T = T} [] [] room 0 soonest
+opened T room soonest most = record { few = omega arith; most = most; filed = none_filed T 0 soonest; ahead = omega arith; early = omega arith }
 
-pub cleared : {T : Type 0} (es : List (Entry T)) (lists : List ℕ) (room clock : ℕ) → IsPool es lists room clock → IsPool {T = T} [] [] room clock
-cleared {T} es lists room clock p = record { few = omega arith; most = p.most; filed = none_filed T clock; early = p.early }
+pub cleared : {T : Type 0} {soonest : ℕ} (es : List (Entry T)) (lists : List ℕ) (room clock new : ℕ) → 2 ^ 63 ≤ new → IsPool es lists room clock soonest → IsPool {T = T} [] [] room clock new
+cleared {T} es lists room clock new high p = record { few = omega arith; most = p.most; filed = none_filed T clock new; ahead = omega (arith, high, p.early); early = p.early }
 
 pub shown_opened : (T : Type 0) (clock room : ℕ) → cells {T = T} clock room [] ≡ replicate room Free
 shown_opened T clock room = let all : room - 0 ≡ room = omega arith in ap (λ n. replicate {A = Cell T} n Free) all
 
-pub shown_cleared : {T : Type 0} (es : List (Entry T)) (lists : List ℕ) (room clock : ℕ) → IsPool es lists room clock → cells {T = T} clock room [] ≡ each (λ _. Free) (cells clock room es)
+pub shown_cleared : {T : Type 0} {soonest : ℕ} (es : List (Entry T)) (lists : List ℕ) (room clock : ℕ) → IsPool es lists room clock soonest → cells {T = T} clock room [] ≡ each (λ _. Free) (cells clock room es)
 shown_cleared {T} es lists room clock p =
     let tail : List (Cell T) = replicate (room - length es) Free in
     let size : room ≡ length (cells clock room es) = omega (arith, p.few, length-append (each (shown clock) es) tail, length-map es (shown clock), length-replicate {A = Cell T} (room - length es) Free) in

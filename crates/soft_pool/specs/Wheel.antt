@@ -24,21 +24,21 @@ list_of clock (Some v) moment = cond (nat_le moment clock) 1 (wheel_list moment)
 abbrev pub list_at : {T : Type 0} → ℕ → Entry T → ℕ
 list_at clock e = list_of clock e.value e.moment
 
--- time passes the list no later than the moment: it is that of a time from the clock to the moment
+-- time passes the list no sooner than the soonest time and no later than the moment: it is that of a time from the one to the other
 abbrev pub IsPassedBy : ℕ → ℕ → ℕ → Type 0
-IsPassedBy clock moment home = (time : ℕ) × (clock ≤ time) × (time ≤ moment) × (home ≡ wheel_list time)
+IsPassedBy soonest moment home = (time : ℕ) × (soonest ≤ time) × (time ≤ moment) × (home ≡ wheel_list time)
 
-abbrev pub MayStand : {T : Type 0} → ℕ → Option T → ℕ → ℕ → Type 0
-MayStand clock None moment home = home ≡ 0
-MayStand clock (Some v) moment home = (moment ≤ clock → home ≡ 1) × (clock < moment → IsPassedBy clock moment home)
+abbrev pub MayStand : {T : Type 0} → ℕ → ℕ → Option T → ℕ → ℕ → Type 0
+MayStand clock soonest None moment home = home ≡ 0
+MayStand clock soonest (Some v) moment home = (moment ≤ clock → home ≡ 1) × (clock < moment → IsPassedBy soonest moment home)
 
--- a slot may stand in this list: a free one in that of the free, a due one in that of the due, a live one in any that time passes no later than its moment
-abbrev pub IsFiled : {T : Type 0} → ℕ → Entry T → ℕ → Type 0
-IsFiled clock e home = MayStand clock e.value e.moment home
+-- a slot may stand in this list: a free one in that of the free, a due one in that of the due, a live one in any that time passes no sooner than the soonest time and no later than the slot's moment
+abbrev pub IsFiled : {T : Type 0} → ℕ → ℕ → Entry T → ℕ → Type 0
+IsFiled clock soonest e home = MayStand clock soonest e.value e.moment home
 
 -- each slot that was made stands in a list that it may stand in
-abbrev pub AreFiled : {T : Type 0} → ℕ → List (Entry T) → List ℕ → Type 0
-AreFiled {T} clock entries homes = (length homes ≡ length entries) × ((i : ℕ) (e : Entry T) (h : ℕ) → slice_get entries i ≡ Some e → slice_get homes i ≡ Some h → IsFiled clock e h)
+abbrev pub AreFiled : {T : Type 0} → ℕ → ℕ → List (Entry T) → List ℕ → Type 0
+AreFiled {T} clock soonest entries homes = (length homes ≡ length entries) × ((i : ℕ) (e : Entry T) (h : ℕ) → slice_get entries i ≡ Some e → slice_get homes i ≡ Some h → IsFiled clock soonest e h)
 
 -- with the clock set back by so much
 abbrev pub set_back : {T : Type 0} → ℕ → Entry T → Entry T
@@ -48,9 +48,10 @@ set_back by e = record { value = e.value; moment = e.moment - by }
 abbrev pub cells : {T : Type 0} → ℕ → ℕ → List (Entry T) → List (Cell T)
 cells clock room entries = map (shown clock) entries ++ replicate (room - length entries) Free
 
--- a pool's memory: few enough slots, each in a list that it may stand in, and a clock that is not near its end
-pub record IsPool {T : Type 0} (entries : List (Entry T)) (homes : List ℕ) (room clock : ℕ) : Type 0 where
+-- a pool's memory: few enough slots, each in a list that it may stand in, a soonest time that has not passed, and a clock that is not near its end
+pub record IsPool {T : Type 0} (entries : List (Entry T)) (homes : List ℕ) (room clock soonest : ℕ) : Type 0 where
   pub few : length entries ≤ room
   pub most : room ≤ 65536
-  pub filed : AreFiled clock entries homes
+  pub filed : AreFiled clock soonest entries homes
+  pub ahead : clock ≤ soonest
   pub early : clock < 2 ^ 63

@@ -5,7 +5,7 @@ ghost use Rattle.soft_pool.specs.Cells.{is_live, IsLiveWith, aged, NoneDue, None
 
 use crate::cell::{Cell, Slot};
 use crate::entry::{DUE, Entry, FREE, make, place, take, wheel_at};
-use crate::wheel::{pass, rewind};
+use crate::wheel::{pass, rewind, soonest_after};
 use rsvp_base::NoMemory;
 use slot_lists::SlotLists;
 use std::alloc::Global;
@@ -20,6 +20,8 @@ pub struct Pool<T> {
     lists: SlotLists,
     // The milliseconds that have passed, less whole turns of the wheel.
     clock: u64,
+    // A time on this clock, never behind it: no live value stands in the list of a time before it.
+    soonest: u64,
 }
 
 impl<T> Model for Pool<T> {
@@ -31,7 +33,7 @@ impl<T> Model for Pool<T> {
 
     ghost view = { λ p. cells p.clock p.lists.room p.entries.items };
 
-    ghost invariant = { λ p. IsPool p.entries.items p.lists.homes p.lists.room p.clock × (p.lists.room ≤ vec_capacity p.entries) };
+    ghost invariant = { λ p. IsPool p.entries.items p.lists.homes p.lists.room p.clock p.soonest × (p.lists.room ≤ vec_capacity p.entries) };
 }
 
 impl<T: Drop> Pool<T> {
@@ -46,6 +48,7 @@ impl<T: Drop> Pool<T> {
             entries,
             lists,
             clock: 0,
+            soonest: u64::MAX,
         })
     }
 
@@ -71,12 +74,14 @@ impl<T: Drop> Pool<T> {
         ensures err { IfErr result (λ v. self.new ≡ self.old) }
     {
         let moment = self.clock + u64::from(left);
+        let soonest = self.soonest.min(moment);
         if let Some(slot) = self.lists.first(FREE) {
             let entry = Entry {
                 value: Some(value),
                 moment,
             };
             place(&mut self.entries, &mut self.lists, slot, entry, self.clock);
+            self.soonest = soonest;
             return Ok(Slot(slot));
         }
         if self.lists.is_full() {
@@ -87,6 +92,7 @@ impl<T: Drop> Pool<T> {
             moment,
         };
         let slot = make(&mut self.entries, &mut self.lists, entry, self.clock);
+        self.soonest = soonest;
         Ok(Slot(slot))
     }
 
@@ -135,6 +141,7 @@ impl<T: Drop> Pool<T> {
         // A slot whose moment comes no earlier stays in its list: time passes that list by then.
         if moment < was {
             self.lists.shift(slot.0, wheel_at(moment));
+            self.soonest = self.soonest.min(moment);
         }
     }
 
@@ -144,10 +151,15 @@ impl<T: Drop> Pool<T> {
         requires { NoneDue self.old }
         ensures { self.new ≡ map (aged ms) self.old }
     {
-        let clock = rewind(&mut self.entries, self.clock);
+        let clock = rewind(&mut self.entries, &mut self.soonest, self.clock);
         let now = clock + u64::from(ms);
-        pass(self.entries.as_slice(), &mut self.lists, clock, now);
         self.clock = now;
+        // No list that time passes has a slot in it.
+        if now < self.soonest {
+            return;
+        }
+        pass(self.entries.as_slice(), &mut self.lists, clock, now);
+        self.soonest = soonest_after(&self.lists, now);
     }
 
     /// Takes a due value out of its slot, which is free then. `None` exactly where no due value waits; nothing changes then.
@@ -172,5 +184,6 @@ impl<T: Drop> Pool<T> {
     {
         self.entries.clear();
         self.lists.clear();
+        self.soonest = u64::MAX;
     }
 }

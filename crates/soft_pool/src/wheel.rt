@@ -36,10 +36,10 @@ fn turn<T>(entries: &[Entry<T>], lists: &mut SlotLists, list: u16, now: u64)
 
 // Lets the time up to a moment pass: goes through the lists that it passes, each once.
 pub(crate) fn pass<T>(entries: &[Entry<T>], lists: &mut SlotLists, clock: u64, now: u64)
-    requires lists { AreFiled clock entries.now lists.old.homes }
+    requires lists { AreFiled clock clock entries.now lists.old.homes }
     requires order { clock ≤ now }
     requires early { now < 2 ^ 63 }
-    ensures lists { AreFiled now entries.now lists.new.homes }
+    ensures lists { AreFiled now now entries.now lists.new.homes }
     ensures room { lists.new.room ≡ lists.old.room }
 {
     let first = clock / WIDTH;
@@ -48,6 +48,24 @@ pub(crate) fn pass<T>(entries: &[Entry<T>], lists: &mut SlotLists, clock: u64, n
         let list = WHEEL + ((first + step) % LISTS) as u16;
         turn(entries, lists, list, now);
     }
+}
+
+// From a moment on, the first time whose list has a slot: the moment itself, or the beginning of the first such list ahead.
+// Where no list of the wheel has one, the last time of all.
+pub(crate) fn soonest_after(lists: &SlotLists, now: u64) -> u64
+    requires early { now < 2 ^ 63 }
+    ensures ahead { now ≤ result }
+    ensures none { (i : ℕ) (time : ℕ) → slice_get lists.now.homes i ≡ Some (wheel_list time) → now ≤ time → result ≤ time }
+{
+    let first = now / WIDTH;
+    for step in 0..LISTS {
+        let ahead = first + step;
+        let list = WHEEL + (ahead % LISTS) as u16;
+        if lists.first(list).is_some() {
+            return now.max(ahead * WIDTH);
+        }
+    }
+    u64::MAX
 }
 
 // Sets every moment back.
@@ -61,18 +79,22 @@ fn set_all_back<T: Drop>(entries: &mut Vec<Entry<T>>, by: u64)
     }
 }
 
-// Sets the clock back by whole turns of the wheel where it has gone far, so that every slot stays in its list. Answers the
-// clock.
-pub(crate) fn rewind<T: Drop>(entries: &mut Vec<Entry<T>>, clock: u64) -> u64
+// Sets the clock back by whole turns of the wheel where it has gone far, and the soonest time with it, so that every slot
+// stays in its list. Answers the clock.
+pub(crate) fn rewind<T: Drop>(entries: &mut Vec<Entry<T>>, soonest: &mut u64, clock: u64) -> u64
+    requires ahead { clock ≤ soonest.old }
     ensures early { result < 2 ^ 62 }
     ensures shown { map (shown result) entries.new.items ≡ map (shown clock) entries.old.items }
-    ensures lists { (homes : List ℕ) → AreFiled clock entries.old.items homes → AreFiled result entries.new.items homes }
+    ensures ahead { result ≤ soonest.new }
+    ensures lists { (homes : List ℕ) → AreFiled clock soonest.old entries.old.items homes → AreFiled result soonest.new entries.new.items homes }
     ensures capacity { vec_capacity entries.new ≡ vec_capacity entries.old }
 {
     if clock < 1 << 62 {
         return clock;
     }
     let into = clock % (LISTS * WIDTH);
-    set_all_back(entries, clock - into);
+    let by = clock - into;
+    set_all_back(entries, by);
+    *soonest -= by;
     into
 }

@@ -5,7 +5,7 @@ use Rattle.soft_pool.specs.declared.cell.Cell.TheVariants.{Live}
 use Rattle.soft_pool.specs.Wheel.{list_at}
 use Rattle.soft_pool.proofs.Slots.{within}
 use Rattle.soft_pool.proofs.Passing.{filed_at}
-use Rattle.soft_pool.proofs.Pools.{none_free, found_free, sizes, pool_placed, pool_grown, room_left, shows, grows, next_free, live_shown}
+use Rattle.soft_pool.proofs.Pools.{none_free, found_free, sizes, pool_placed, pool_grown, pool_sooner, room_left, shows, grows, next_free, live_shown}
 use Rattle.soft_pool.proofs.pool.Pool.add.Goals as goal
 
 -- ---- into a slot that is free again
@@ -14,8 +14,9 @@ invariant_of-self g c =
     let s = c.self.inside in
     let p = c.place.ensures in
     let made : c.in-Some.slot < length s.entries.items = omega (arith, within s.lists.homes c.in-Some.slot 0 c.in-Some.ensures.some, sizes s.clock s.lists.room s.entries.items s.lists.homes c.self.invariant.0) in
-    let e : Entry _ = record { value = Some c.args.value; moment = s.clock + c.from.result } in (
-      rw p.lists (pool_placed s.clock s.lists.room s.entries.items s.lists.homes c.self.invariant.0 c.place.new.entries.items _ c.in-Some.slot (list_at s.clock e) e made p.entries refl (filed_at s.clock e)),
+    let e : Entry _ = record { value = Some c.args.value; moment = s.clock + c.from.result } in
+    let sooner = pool_sooner s.clock s.lists.room s.entries.items s.lists.homes c.self.invariant.0 c.min-soonest.result (omega (arith, c.self.invariant.0.ahead, c.min-soonest.ensures)) (omega (arith, c.min-soonest.ensures)) in (
+      rw p.lists (pool_placed s.clock s.lists.room s.entries.items s.lists.homes sooner c.place.new.entries.items _ c.in-Some.slot (list_at s.clock e) e made p.entries refl (filed_at s.clock c.min-soonest.result e (omega (arith, c.min-soonest.ensures)))),
       rw (p.lists, p.capacity) c.self.invariant.1,
     )
 
@@ -46,8 +47,9 @@ invariant_of-self-2 g c =
     let s = c.self.inside in
     let m = c.make-slot.ensures in
     let left = room_left s.clock s.lists.room s.entries.items s.lists.homes c.self.invariant.0 c.is_full.result c.if-is_full.false c.is_full.ensures.1 in
-    let e : Entry _ = record { value = Some c.args.value; moment = s.clock + c.from.result } in (
-      rw m.lists (pool_grown s.clock s.lists.room s.entries.items s.lists.homes c.self.invariant.0 c.make-slot.new.entries.items _ e left m.entries refl),
+    let e : Entry _ = record { value = Some c.args.value; moment = s.clock + c.from.result } in
+    let sooner = pool_sooner s.clock s.lists.room s.entries.items s.lists.homes c.self.invariant.0 c.min-soonest.result (omega (arith, c.self.invariant.0.ahead, c.min-soonest.ensures)) (omega (arith, c.min-soonest.ensures)) in (
+      rw m.lists (pool_grown s.clock s.lists.room s.entries.items s.lists.homes sooner c.make-slot.new.entries.items _ e left (omega (arith, c.min-soonest.ensures)) m.entries refl),
       rw (m.lists, m.capacity) c.self.invariant.1,
     )
 

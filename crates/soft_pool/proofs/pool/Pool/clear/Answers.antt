@@ -1,4 +1,4 @@
-use Rattle.std.proofs.Common.{◌∙◌, ap, map as each}
+use Rattle.std.proofs.Common.{◌∙◌, ap, arith, map as each}
 use Rattle.soft_pool.specs.declared.cell.Cell.TheVariants.{Free}
 use Rattle.soft_pool.proofs.Pools.{cleared, shown_cleared}
 use Rattle.soft_pool.proofs.pool.Pool.clear.Goals as goal
@@ -7,7 +7,7 @@ pub invariant_of-self : goal.invariant_of-self
 invariant_of-self g c =
     let s = c.self.inside in
     let o = c.self.invariant in (
-      rw (c.clear.ensures.items, c.clear-2.ensures) (cleared s.entries.items s.lists.homes s.lists.room s.clock o.0),
+      rw (c.clear.ensures.items, c.clear-2.ensures) (cleared s.entries.items s.lists.homes s.lists.room s.clock 18446744073709551615 (omega arith) o.0),
       rw (c.clear.ensures.capacity, c.clear-2.ensures) o.1,
     )
 

@@ -15,7 +15,7 @@ invariant_of-self g c =
     let f : Entry _ = record { value = c.replace.new.dest; moment = e.moment } in
     let live = live_now s.clock s.lists.room s.entries.items i e (rw c.self.view_is c.requires) c.index_mut.ensures.value in (
       pool_changed s.clock s.lists.room s.entries.items s.lists.homes c.self.invariant.0 _ i e f live.1 refl
-          (λ h. live_stays s.clock h e f live.0 c.args.value live.2 c.replace.ensures.after live.3 (omega arith)),
+          (λ h. live_stays s.clock s.soonest h e f live.0 c.args.value live.2 c.replace.ensures.after live.3 (omega arith)),
       c.self.invariant.1,
     )
 
