@@ -1,27 +1,26 @@
 -- Flows by sender, one sender more at a time; and names that are gone.
-use Rattle.std.proofs.Common.{◌≡◌, ◌<◌, ◌≤◌, ◌+◌, ◌||◌, ℕ, zero, suc, Bool, true, false, cond, T, List, [], ◌∷◌, ◌++◌, length, take, get_or, map as each, is_some, Option, Some, None, Bor, refl, sym, ap, ◌∙◌, arith}
+use Rattle.std.proofs.Common.{◌≡◌, ◌<◌, ◌≤◌, ◌+◌, ◌||◌, ℕ, Bool, true, false, cond, T, List, [], ◌∷◌, ◌++◌, length, take, get_or, map as each, is_some, Option, Some, None, Bor, refl, sym, ap, ◌∙◌, arith}
 use Rattle.std.specs.Prelude.{not}
 use Rattle.std.specs.List.{filter, flat_map, list_any}
 use Rattle.std.specs.Option.{option_copied, option_map}
-use Rattle.std.specs.Ordering.{eq_by_cmp, is_lt}
+use Rattle.std.specs.Ordering.{eq_by_cmp}
 use Rattle.std.specs.FinMap.Entries.{below_all, is_sorted}
 use Rattle.std.proofs.lemmas.List.{length-map, take_more}
-use Rattle.std.proofs.lemmas.Option.{same_Some}
 use Rattle.rsvp_base.specs.Orders.{Names, senders, units}
 use Rattle.rsvp_base.specs.Sets.{IsWithin, cut, set_of, union, with_key, with_keys}
-use Rattle.rsvp_base.specs.Table.{Table, empty, get, has, keys, put_in, size, values, both, first, second}
+use Rattle.rsvp_base.specs.Table.{Table, empty, get, has, keys, size, values, both, first, second}
 use Rattle.rsvp_base.specs.TokenBucket.{TokenBucket}
 use Rattle.rsvp_base.specs.declared.part.Part.{Part}
 use Rattle.rsvp_base.specs.declared.session.Sender.{Sender}
 use Rattle.rsvp_base.specs.declared.style.Unit.{Unit as UnitOf}
-use Rattle.rsvp_base.specs.declared.style.Unit.TheVariants.{One, Of}
+use Rattle.rsvp_base.specs.declared.style.Unit.TheVariants.{Of}
 use Rattle.rsvp_base.proofs.Counts.{in_found, found_in, size_below}
 use Rattle.rsvp_base.proofs.Lists.{with_keys-union}
 use Rattle.rsvp_base.proofs.Members.{in_each}
 use Rattle.rsvp_base.proofs.SetLaws.{and_both, cut-union, has-cut, size_within}
 use Rattle.rsvp_base.proofs.Tables.{either, tied_same, get-put_in, same_table}
 use Rattle.rsvp_messages.specs.FlowTable.{FlowTable}
-use Rattle.style_rules.specs.Merge.{PartTable, put_some, table_at}
+use Rattle.style_rules.specs.Merge.{PartTable, put_some}
 use Rattle.style_rules.specs.PartLaws.{union_least}
 use Rattle.style_rules.proofs.Merges.{get-table_at}
 use Rattle.router_rules.specs.Asking.{flow_at, flows_by_sender}

@@ -1,5 +1,5 @@
 //! Parts, written as what a Resv asks for; and what of them is torn down.
-ghost use Rattle.std.specs.Prelude.{◌≡◌, ◌≤◌, cond};
+ghost use Rattle.std.specs.Prelude.{◌≡◌, ◌≤◌, None, cond};
 ghost use Rattle.rsvp_base.specs.declared.style.StyleKind.TheVariants.{Wild, Fixed, Shared};
 ghost use Rattle.rsvp_base.specs.Sets.{cut, union, IsWithin};
 ghost use Rattle.rsvp_base.specs.Table.{keys, put_in, size};
@@ -58,11 +58,13 @@ fn shared_ask(parts: &Parts) -> Option<Ask>
     }
 }
 
-// Each sender with the flow of its unit.
+// Each sender with the flow of its unit. The list is made here, and grows in place.
 fn fixed_ask(parts: &Parts) -> Option<Ask>
     ensures { result ≡ ask_of Fixed parts.now }
 {
-    match flows_of(parts) {
+    let mut list = None;
+    put_flows(&mut list, parts);
+    match list {
         Some(list) => {
             prove!(1 <= list.len());
             Some(Ask::Fixed(list))
@@ -71,64 +73,59 @@ fn fixed_ask(parts: &Parts) -> Option<Ask>
     }
 }
 
-// The flows by sender, if there are some.
-fn flows_of(parts: &Parts) -> Option<FixedList>
-    ensures { flows_in result ≡ flows_by_sender parts.now }
+// Puts the flows by sender.
+fn put_flows(list: &mut Option<FixedList>, parts: &Parts)
+    requires { list.old ≡ None }
+    ensures { flows_in list.new ≡ flows_by_sender parts.now }
 {
-    let mut list = None;
     let rows = parts.as_slice();
     for i in 0..rows.len() {
-        list = with_names(list, &rows[i].1.senders, parts);
+        put_names(list, &rows[i].1.senders, parts);
     }
-    list
 }
 
-// With the names, each with the flow of its unit if it has one.
-fn with_names(list: Option<FixedList>, names: &Senders, parts: &Parts) -> Option<FixedList>
-    requires { AreFlowsOf parts.now (flows_in list) }
-    ensures { flows_in result ≡ flows_with parts.now (flows_in list) (keys names.now) }
+// Puts the names, each with the flow of its unit if it has one.
+fn put_names(list: &mut Option<FixedList>, names: &Senders, parts: &Parts)
+    requires { AreFlowsOf parts.now (flows_in list.old) }
+    ensures { flows_in list.new ≡ flows_with parts.now (flows_in list.old) (keys names.now) }
 {
-    let mut all = list;
     let names = names.as_slice();
     for i in 0..names.len() {
-        all = with_name(all, &names[i], parts);
+        put_name(list, &names[i], parts);
     }
-    all
 }
 
-// With a name, if its unit has a flow.
-fn with_name(list: Option<FixedList>, name: &Sender, parts: &Parts) -> Option<FixedList>
-    requires { AreFlowsOf parts.now (flows_in list) }
-    ensures { flows_in result ≡ put_some name.now (flow_at parts.now name.now) (flows_in list) }
+// Puts a name, if its unit has a flow.
+fn put_name(list: &mut Option<FixedList>, name: &Sender, parts: &Parts)
+    requires { AreFlowsOf parts.now (flows_in list.old) }
+    ensures { flows_in list.new ≡ put_some name.now (flow_at parts.now name.now) (flows_in list.old) }
 {
     prove!(parts.len() <= 16);
     match parts.get(Unit::Of(*name)) {
-        Some(part) => Some(with_flow(list, *name, part.flow)),
-        None => list,
+        Some(part) => put_flow(list, *name, part.flow),
+        None => {}
     }
 }
 
-// With a name and its flow.
-fn with_flow(list: Option<FixedList>, name: Sender, flow: Flow) -> FixedList
-    requires { size (put_in (flows_in list) name flow) ≤ 16 }
-    ensures { result ≡ put_in (flows_in list) name flow }
+// Puts a name with its flow.
+fn put_flow(list: &mut Option<FixedList>, name: Sender, flow: Flow)
+    requires { size (put_in (flows_in list.old) name flow) ≤ 16 }
+    ensures { flows_in list.new ≡ put_in (flows_in list.old) name flow }
 {
     match list {
-        Some(flows) => with_another(flows, name, flow),
-        None => FixedList::new(name, flow),
+        Some(flows) => put_another(flows, name, flow),
+        None => *list = Some(FixedList::new(name, flow)),
     }
 }
 
-// With another name and its flow.
-fn with_another(flows: FixedList, name: Sender, flow: Flow) -> FixedList
-    requires { size (put_in flows name flow) ≤ 16 }
-    ensures { result ≡ put_in flows name flow }
+// Puts another name with its flow.
+fn put_another(flows: &mut FixedList, name: Sender, flow: Flow)
+    requires { size (put_in flows.old name flow) ≤ 16 }
+    ensures { flows.new ≡ put_in flows.old name flow }
 {
-    let mut all = flows;
-    let Ok(()) = all.put(name, flow) else {
+    let Ok(()) = flows.put(name, flow) else {
         unreachable!();
     };
-    all
 }
 
 /// Of the names of the parts whose units are gone, those that are among others.
@@ -140,22 +137,29 @@ pub fn gone_among(before: &Parts, after: &Parts, among: &Senders) -> Senders
     for i in 0..rows.len() {
         let row = &rows[i];
         let gone = after.get(row.0).is_none();
-        names = with_gone(names, &row.1.senders, among, gone);
+        put_gone(&mut names, &row.1.senders, among, gone);
     }
     names
 }
 
-// With those of more names that are among others, if they are gone.
-fn with_gone(names: Senders, more: &Senders, among: &Senders, gone: bool) -> Senders
-    requires { IsWithin names among.now }
-    ensures { result ≡ cond gone (union names (cut more.now among.now)) names }
+// Puts those of more names that are among others, if they are gone.
+fn put_gone(names: &mut Senders, more: &Senders, among: &Senders, gone: bool)
+    requires { IsWithin names.old among.now }
+    ensures { names.new ≡ cond gone (union names.old (cut more.now among.now)) names.old }
 {
-    if !gone {
-        return names;
+    if gone {
+        put_among(names, more, among);
     }
+}
+
+// Puts those of more names that are among others.
+fn put_among(names: &mut Senders, more: &Senders, among: &Senders)
+    requires { IsWithin names.old among.now }
+    ensures { names.new ≡ union names.old (cut more.now among.now) }
+{
     prove!(among.len() <= 16);
     let Ok(all) = names.union(&more.cut(among)) else {
         unreachable!();
     };
-    all
+    *names = all;
 }
