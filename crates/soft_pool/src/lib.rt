@@ -8,7 +8,7 @@
 //! A hashed timing wheel: each slot stands in exactly one list, that of the free slots, that of the due ones, or one of the
 //! 256 of the wheel, 1,024 ms to a list. A value that is added stands in the list of its moment. Where it is renewed and
 //! its moment comes no earlier than before, it stays in its list, and no link is written; when time passes that list, it
-//! is put into the list of its moment. A pool keeps a soonest time: no live value stands in the list of a time before it,
+//! is put into the list of its moment. A pool keeps a soonest time: no live value stands in its list for a time before it,
 //! and so none runs out before it. `advance` takes a fixed number of steps where the wait ends before that time: it looks at
 //! no list. Otherwise it goes through the lists of the time that passes and no other, each at most once, and then reads the
 //! heads of the lists ahead, at most all 256, up to the first that has a slot: the soonest time is then that of this list.

@@ -20,7 +20,7 @@ pub struct Pool<T> {
     lists: SlotLists,
     // The milliseconds that have passed, less whole turns of the wheel.
     clock: u64,
-    // A time on this clock, never behind it: no live value stands in the list of a time before it.
+    // A time on this clock, not behind it: no live value stands in its list for a time before it.
     soonest: u64,
 }
 
@@ -154,7 +154,7 @@ impl<T: Drop> Pool<T> {
         let clock = rewind(&mut self.entries, &mut self.soonest, self.clock);
         let now = clock + u64::from(ms);
         self.clock = now;
-        // No list that time passes has a slot in it.
+        // Each live value stands in its list for a later time: it stays there, and none runs out.
         if now < self.soonest {
             return;
         }
