@@ -11,7 +11,7 @@ use Rattle.soft_pool.specs.declared.entry.Entry.{Entry}
 use Rattle.soft_pool.specs.Cells.{NoneFree, NoneDue, is_live, aged, cell_is_free, cell_is_due}
 use Rattle.soft_pool.specs.Wheel.{AreFiled, IsFiled, IsPool, MayStand, cells, cell_of, list_at, shown, set_back, wheel_list}
 use Rattle.soft_pool.proofs.Slots.{within, something, set_same, set_read, set_elsewhere, after_set, read_each, read_back}
-use Rattle.soft_pool.proofs.Passing.{filed_at, filed_sooner, live_filed}
+use Rattle.soft_pool.proofs.Passing.{filed_at, filed_sooner, live_filed, live_put, live_stays}
 
 -- ---- what a slot shows
 pub due_cell : {T : Type 0} (clock : ℕ) (v : T) (m : ℕ) → m ≤ clock → cell_of clock (Some v) m ≡ Due v
@@ -252,9 +252,45 @@ shows {T} clock room es fs i e c lt is shown_is =
     ∙ ap (λ cs. cs ++ replicate {A = Cell T} (room - length es) Free) (ap (each (shown clock)) is ∙ map-set (shown clock) es i e ∙ ap (set (each (shown clock) es) i) shown_is)
     ∙ sym (set-append_left (each (shown clock) es) (replicate (room - length es) Free) i c few)
 
--- and after a live slot was renewed
-pub renewed : {T : Type 0} (clock room left : ℕ) (es : List (Entry T)) (i : ℕ) (f : Entry T) (v : T) → i < length es → f.value ≡ Some v → f.moment ≡ clock + left → 1 ≤ left → cells clock room (set es i f) ≡ set (cells clock room es) i (Live v left)
-renewed clock room left es i f v made has at some = shows clock room es (set es i f) i f (Live v left) made refl (ap (λ o. cell_of clock o f.moment) has ∙ ap (cell_of clock (Some v)) at ∙ live_shown clock left v some)
+-- and after a live slot was renewed, to this moment
+module _ {T : Type 0} (clock room moment : ℕ) (es : List (Entry T)) (i : ℕ) (e : Entry T)
+    (live : is_live (slice_get (cells clock room es) i) ≡ true) (is : e ≡ get_or es i e) where
+  -- its entry has a value, and its moment has not come
+  entry : (v : T) × (slice_get es i ≡ Some e) × (e.value ≡ Some v) × (clock < e.moment)
+  entry = live_now clock room es i e live is
+
+  made : i < length es
+  made = within es i e entry.1
+
+  abbrev new : Entry T
+  new = record { value = e.value; moment = moment }
+
+  pub renewed : (left : ℕ) → moment ≡ clock + left → 1 ≤ left
+      → (v : T) × (was : ℕ) × (slice_get (cells clock room es) i ≡ Some (Live v was))
+      × (cells clock room (set es i new) ≡ set (cells clock room es) i (Live v left))
+  renewed left at some =
+      let v = entry.0 in
+      let shown_new = ap (λ o. cell_of clock o moment) entry.2 ∙ ap (cell_of clock (Some v)) at ∙ live_shown clock left v some in (
+        v,
+        e.moment - clock,
+        live_read clock room es i e v entry.1 entry.2 entry.3,
+        shows clock room es (set es i new) i new (Live v left) made refl shown_new,
+      )
+
+  module _ {soonest : ℕ} (lists : List ℕ) (p : IsPool es lists room clock soonest) where
+    -- it may stay in its list where its moment comes no earlier
+    pub pool_kept : e.moment ≤ moment → IsPool (set es i new) lists room clock soonest
+    pool_kept later =
+        let stays = λ (h : ℕ). live_stays clock soonest h e new entry.0 entry.0 entry.2 entry.2 entry.3 later in
+        pool_changed clock room es lists p (set es i new) i e new entry.1 refl stays
+
+    -- it may go to the list of its moment, with a soonest time that comes no later
+    pub pool_moved : (list less : ℕ) → list ≡ wheel_list moment → clock < moment → clock ≤ less → less ≤ soonest → less ≤ moment
+        → IsPool (set es i new) (set lists i list) room clock less
+    pool_moved list less list_is ahead order sooner early =
+        let before = pool_sooner clock room es lists p less order sooner in
+        let put = live_put clock less list moment new entry.0 entry.2 refl ahead early list_is in
+        pool_placed clock room es lists before (set es i new) (set lists i list) i list new made refl refl put
 
 -- and after one was made
 module _ {T : Type 0} (clock room : ℕ) (es : List (Entry T)) (lt : length es < room) where
