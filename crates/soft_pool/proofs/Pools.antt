@@ -3,15 +3,15 @@ use Rattle.std.proofs.Common.{◌≡◌, ◌<◌, ◌≤◌, ◌+◌, ◌-◌, �
 use Rattle.std.specs.Prelude.{slice_get, nat_le, replicate}
 use Rattle.std.specs.List.{list_any}
 use Rattle.std.proofs.lemmas.Option.{slice_get_read}
-use Rattle.std.proofs.lemmas.Bool.{cases_lt, le-leb, lt-leb, both_ways}
+use Rattle.std.proofs.lemmas.Bool.{cases_eq, cases_lt, le-leb, lt-leb, both_ways}
 use Rattle.std.proofs.lemmas.List.{length-map, length-set, length-append, length-replicate, map-set, map-append, append_assoc, set-append_left, set-append_right}
 use Rattle.soft_pool.specs.declared.cell.Cell.{Cell}
 use Rattle.soft_pool.specs.declared.cell.Cell.TheVariants.{Free, Live, Due}
 use Rattle.soft_pool.specs.declared.entry.Entry.{Entry}
 use Rattle.soft_pool.specs.Cells.{NoneFree, NoneDue, is_live, aged, cell_is_free, cell_is_due}
-use Rattle.soft_pool.specs.Wheel.{AreFiled, IsFiled, IsPool, MayStand, cells, cell_of, list_at, shown, set_back, wheel_list}
+use Rattle.soft_pool.specs.Wheel.{AreFiled, IsEmpty, IsFiled, IsPool, MayStand, cells, cell_of, list_at, shown, set_back, wheel_list}
 use Rattle.soft_pool.proofs.Slots.{within, something, set_same, set_read, set_elsewhere, after_set, read_each, read_back}
-use Rattle.soft_pool.proofs.Passing.{filed_at, filed_sooner, live_filed, live_put, live_stays}
+use Rattle.soft_pool.proofs.Passing.{filed_at, filed_sooner, live_filed, live_list, live_put, live_stays}
 
 -- ---- what a slot shows
 pub due_cell : {T : Type 0} (clock : ℕ) (v : T) (m : ℕ) → m ≤ clock → cell_of clock (Some v) m ≡ Due v
@@ -388,6 +388,30 @@ module _ {T : Type 0} (clock soonest : ℕ) where
         let e = read_back (set_back (by clock)) es i f f_is in
         subst (λ f. IsFiled (into clock) (soonest - by clock) f h) e.2 (stands_back e.0.value e.0.moment h order (filed.1 i e.0 h e.1 h_is)),
   )
+
+-- ---- a list in which no slot stands
+pub no_slots : (list : ℕ) → IsEmpty list []
+no_slots list i is = cc
+
+-- none does after a slot went to another list
+pub none_placed : (homes : List ℕ) (i to list : ℕ) → (to ≡ list → ⊥) → IsEmpty list homes → IsEmpty list (set homes i to)
+none_placed homes i to list ne none j is =
+    elim (cases_eq j i) [
+      | inl e ↦
+          let made : i < length homes = omega (arith, e, within (set homes i to) j list is, length-set homes i to) in
+          let read : Some to ≡ Some list = sym (set_read homes i to made) ∙ ap (slice_get (set homes i to)) (sym e) ∙ is in
+          let same : to ≡ list = cc in
+          absurd (ne same)
+      | inr apart ↦ none j (sym (set_elsewhere homes i j to apart) ∙ is)
+    ]
+
+-- and after one was made in another
+pub none_made : (homes : List ℕ) (to list : ℕ) → (to ≡ list → ⊥) → IsEmpty list homes → IsEmpty list (homes ++ to ∷ [])
+none_made homes to list ne none j is = elim (last_read homes to j list is) [ inl before ↦ none j before | inr last ↦ absurd (ne (sym last.1)) ]
+
+-- a live slot is not put into the list of the due
+pub not_into_due : {T : Type 0} (clock moment : ℕ) (v : T) → clock < moment → list_at clock (record { value = Some v; moment = moment }) ≡ 1 → ⊥
+not_into_due clock moment v lt is = omega (arith, sym (live_list clock v moment lt) ∙ is)
 
 -- ---- all free
 abbrev pub empty : {T : Type 0} → Entry T

@@ -1,5 +1,5 @@
 -- What a pool keeps of its slots at a moment of its clock, and the list of each slot.
-use Rattle.std.specs.Prelude.{◌≡◌, ◌<◌, ◌≤◌, ◌+◌, ◌-◌, ◌/◌, ◌%◌, ◌^◌, ℕ, cond, Option, Some, None, List, length, map, replicate, ◌++◌, nat_le, slice_get}
+use Rattle.std.specs.Prelude.{◌≡◌, ◌<◌, ◌≤◌, ◌+◌, ◌-◌, ◌/◌, ◌%◌, ◌^◌, ℕ, Bool, false, cond, Option, Some, None, List, length, map, replicate, ◌++◌, nat_le, slice_get}
 use Rattle.soft_pool.specs.declared.cell.Cell.{Cell}
 use Rattle.soft_pool.specs.declared.cell.Cell.TheVariants.{Free, Live, Due}
 use Rattle.soft_pool.specs.declared.entry.Entry.{Entry}
@@ -39,6 +39,14 @@ IsFiled clock soonest e home = MayStand clock soonest e.value e.moment home
 -- each slot that was made stands in a list that it may stand in
 abbrev pub AreFiled : {T : Type 0} → ℕ → ℕ → List (Entry T) → List ℕ → Type 0
 AreFiled {T} clock soonest entries homes = (length homes ≡ length entries) × ((i : ℕ) (e : Entry T) (h : ℕ) → slice_get entries i ≡ Some e → slice_get homes i ≡ Some h → IsFiled clock soonest e h)
+
+-- no slot stands in this list
+abbrev pub IsEmpty : ℕ → List ℕ → Type 0
+IsEmpty list homes = (i : ℕ) → slice_get homes i ≡ Some list → ⊥
+
+-- where no due value may wait, no slot stands in the list of the due
+abbrev pub NoneMayWait : Bool → List ℕ → Type 0
+NoneMayWait may homes = may ≡ false → IsEmpty 1 homes
 
 -- with the clock set back by so much
 abbrev pub set_back : {T : Type 0} → ℕ → Entry T → Entry T

@@ -15,25 +15,27 @@ use std::mem;
 /// Slots for values that expire. Contracts see the list of what is in each slot.
 #[derive(Drop)]
 pub struct Pool<T> {
-    // Of the slots that were used so far. The others are free.
-    entries: Vec<Entry<T>>,
-    lists: SlotLists,
     // The milliseconds that have passed, less whole turns of the wheel.
     clock: u64,
     // A time on this clock, not behind it: no live value stands in its list for a time before it.
     soonest: u64,
+    // False only where no due value waits: then nobody looks at the lists for one.
+    due_may_wait: bool,
+    // Of the slots that were used so far. The others are free.
+    entries: Vec<Entry<T>>,
+    lists: SlotLists,
 }
 
 impl<T> Model for Pool<T> {
     ghost use Rattle.std.specs.Prelude.{List, ◌≤◌, vec_capacity};
     ghost use Rattle.soft_pool.specs.declared.cell.Cell.{Cell};
-    ghost use Rattle.soft_pool.specs.Wheel.{cells, IsPool};
+    ghost use Rattle.soft_pool.specs.Wheel.{cells, IsPool, NoneMayWait};
 
     ghost Value = { List (Cell T) };
 
     ghost view = { λ p. cells p.clock p.lists.room p.entries.items };
 
-    ghost invariant = { λ p. IsPool p.entries.items p.lists.homes p.lists.room p.clock p.soonest × (p.lists.room ≤ vec_capacity p.entries) };
+    ghost invariant = { λ p. IsPool p.entries.items p.lists.homes p.lists.room p.clock p.soonest × (p.lists.room ≤ vec_capacity p.entries) × NoneMayWait p.due_may_wait p.lists.homes };
 }
 
 impl<T: Drop> Pool<T> {
@@ -45,10 +47,11 @@ impl<T: Drop> Pool<T> {
         let lists = SlotLists::open(alloc, slots)?;
         let entries = Vec::with_capacity(alloc, slots)?;
         Ok(Pool {
-            entries,
-            lists,
             clock: 0,
             soonest: u64::MAX,
+            due_may_wait: false,
+            entries,
+            lists,
         })
     }
 
@@ -160,6 +163,7 @@ impl<T: Drop> Pool<T> {
         }
         pass(self.entries.as_slice(), &mut self.lists, clock, now);
         self.soonest = soonest_after(&self.lists, now);
+        self.due_may_wait = true;
     }
 
     /// Takes a due value out of its slot, which is free then. `None` exactly where no due value waits; nothing changes then.
@@ -169,7 +173,11 @@ impl<T: Drop> Pool<T> {
         ensures none { IsNone result → NoneDue self.old }
         ensures unchanged { IsNone result → self.new ≡ self.old }
     {
+        if !self.due_may_wait {
+            return None;
+        }
         let Some(slot) = self.lists.first(DUE) else {
+            self.due_may_wait = false;
             return None;
         };
         match take(&mut self.entries, &mut self.lists, slot) {
@@ -185,5 +193,6 @@ impl<T: Drop> Pool<T> {
         self.entries.clear();
         self.lists.clear();
         self.soonest = u64::MAX;
+        self.due_may_wait = false;
     }
 }

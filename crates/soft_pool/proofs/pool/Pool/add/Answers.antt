@@ -5,7 +5,7 @@ use Rattle.soft_pool.specs.declared.cell.Cell.TheVariants.{Live}
 use Rattle.soft_pool.specs.Wheel.{list_at}
 use Rattle.soft_pool.proofs.Slots.{within}
 use Rattle.soft_pool.proofs.Passing.{filed_at}
-use Rattle.soft_pool.proofs.Pools.{none_free, found_free, sizes, pool_placed, pool_grown, pool_sooner, room_left, shows, grows, next_free, live_shown}
+use Rattle.soft_pool.proofs.Pools.{none_free, none_made, none_placed, not_into_due, found_free, sizes, pool_placed, pool_grown, pool_sooner, room_left, shows, grows, next_free, live_shown}
 use Rattle.soft_pool.proofs.pool.Pool.add.Goals as goal
 
 -- ---- into a slot that is free again
@@ -18,6 +18,7 @@ invariant_of-self g c =
     let sooner = pool_sooner s.clock s.lists.room s.entries.items s.lists.homes c.self.invariant.0 c.min-soonest.result (omega (arith, c.self.invariant.0.ahead, c.min-soonest.ensures)) (omega (arith, c.min-soonest.ensures)) in (
       rw p.lists (pool_placed s.clock s.lists.room s.entries.items s.lists.homes sooner c.place.new.entries.items _ c.in-Some.slot (list_at s.clock e) e made p.entries refl (filed_at s.clock c.min-soonest.result e (omega (arith, c.min-soonest.ensures)))),
       rw (p.lists, p.capacity) c.self.invariant.1,
+      λ may. rw p.lists (none_placed s.lists.homes c.in-Some.slot (list_at s.clock e) 1 (not_into_due s.clock (s.clock + c.from.result) c.args.value (omega (arith, c.from.ensures, c.requires))) (c.self.invariant.2 may)),
     )
 
 pub returns-in-Some-clause-free : goal.returns-in-Some-clause-free
@@ -51,6 +52,7 @@ invariant_of-self-2 g c =
     let sooner = pool_sooner s.clock s.lists.room s.entries.items s.lists.homes c.self.invariant.0 c.min-soonest.result (omega (arith, c.self.invariant.0.ahead, c.min-soonest.ensures)) (omega (arith, c.min-soonest.ensures)) in (
       rw m.lists (pool_grown s.clock s.lists.room s.entries.items s.lists.homes sooner c.make-slot.new.entries.items _ e left (omega (arith, c.min-soonest.ensures)) m.entries refl),
       rw (m.lists, m.capacity) c.self.invariant.1,
+      λ may. rw m.lists (none_made s.lists.homes (list_at s.clock e) 1 (not_into_due s.clock (s.clock + c.from.result) c.args.value (omega (arith, c.from.ensures, c.requires))) (c.self.invariant.2 may)),
     )
 
 pub returns-clause-free : goal.returns-clause-free

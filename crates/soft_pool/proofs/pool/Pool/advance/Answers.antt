@@ -20,6 +20,7 @@ invariant_of-self g c =
         early = omega (arith, r.ensures.early, c.from.ensures, c.ranges.ms.fits);
       },
       rw r.ensures.capacity o.1,
+      o.2,
     )
 
 pub returns-then-now-self : goal.returns-then-now-self
@@ -53,6 +54,7 @@ invariant_of-self-2 g c =
         early = omega (arith, r.ensures.early, c.from.ensures, c.ranges.ms.fits);
       }),
       rw (c.pass.ensures.room, r.ensures.capacity) o.1,
+      λ may. cc,
     )
 
 pub returns : goal.returns

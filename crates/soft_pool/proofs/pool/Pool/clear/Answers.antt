@@ -1,6 +1,6 @@
 use Rattle.std.proofs.Common.{◌∙◌, ap, arith, map as each}
 use Rattle.soft_pool.specs.declared.cell.Cell.TheVariants.{Free}
-use Rattle.soft_pool.proofs.Pools.{cleared, shown_cleared}
+use Rattle.soft_pool.proofs.Pools.{cleared, no_slots, shown_cleared}
 use Rattle.soft_pool.proofs.pool.Pool.clear.Goals as goal
 
 pub invariant_of-self : goal.invariant_of-self
@@ -9,6 +9,7 @@ invariant_of-self g c =
     let o = c.self.invariant in (
       rw (c.clear.ensures.items, c.clear-2.ensures) (cleared s.entries.items s.lists.homes s.lists.room s.clock 18446744073709551615 (omega arith) o.0),
       rw (c.clear.ensures.capacity, c.clear-2.ensures) o.1,
+      λ _. rw c.clear-2.ensures (no_slots 1),
     )
 
 pub returns : goal.returns

@@ -2,8 +2,18 @@ use Rattle.std.proofs.Common.{◌≡◌, ◌<◌, ◌∙◌, length, Some, None,
 use Rattle.std.specs.Prelude.{slice_set}
 use Rattle.soft_pool.specs.declared.cell.Cell.TheVariants.{Free, Due}
 use Rattle.soft_pool.proofs.Slots.{within}
-use Rattle.soft_pool.proofs.Pools.{empty, none_due, found_due, sizes, pool_placed, shows}
+use Rattle.soft_pool.proofs.Pools.{empty, none_due, none_placed, found_due, sizes, pool_placed, shows}
 use Rattle.soft_pool.proofs.pool.Pool.pull_due.Goals as goal
+
+-- ---- where none may wait
+pub returns-then-not-self-clause-none : goal.returns-then-not-self-clause-none
+returns-then-not-self-clause-none g c = λ _.
+    let s = c.self.inside in
+    rw (← c.self.view_is) (none_due s.clock s.lists.room s.entries.items s.lists.homes c.self.invariant.0 (c.self.invariant.2 c.if-not-self.true))
+
+-- ---- where none waits
+pub invariant_of-self : goal.invariant_of-self
+invariant_of-self g c = (c.self.invariant.0, c.self.invariant.1, λ _. c.in_default.ensures.none refl)
 
 pub returns-in_default-clause-none : goal.returns-in_default-clause-none
 returns-in_default-clause-none g c = λ _.
@@ -25,14 +35,15 @@ unreachable-requires g c =
     let both : None ≡ Some d.1 = sym c.in-None.is ∙ t.2 ∙ ap (λ e. e.value) eq ∙ d.3 in
     cc
 
-pub invariant_of-self : goal.invariant_of-self
-invariant_of-self g c =
+pub invariant_of-self-2 : goal.invariant_of-self-2
+invariant_of-self-2 g c =
     let s = c.self.inside in
     let t = c.take.ensures in
     let made : c.in-Some.slot < length s.entries.items =
     omega (arith, within s.lists.homes c.in-Some.slot 1 c.in-Some.ensures.some, sizes s.clock s.lists.room s.entries.items s.lists.homes c.self.invariant.0) in (
       rw t.lists (pool_placed s.clock s.lists.room s.entries.items s.lists.homes c.self.invariant.0 c.take.new.entries.items _ c.in-Some.slot 0 empty made t.entries.3 refl refl),
       rw (t.lists, t.capacity) c.self.invariant.1,
+      λ may. rw t.lists (none_placed s.lists.homes c.in-Some.slot 0 1 (λ e. omega (arith, e)) (c.self.invariant.2 may)),
     )
 
 pub returns-clause-due : goal.returns-clause-due

@@ -1,7 +1,7 @@
-use Rattle.std.proofs.Common.{◌-◌, ◌∙◌, refl, ap, sym}
+use Rattle.std.proofs.Common.{◌-◌, ◌∙◌, refl, ap, sym, arith}
 use Rattle.std.specs.Prelude.{slice_set}
 use Rattle.soft_pool.specs.declared.cell.Cell.TheVariants.{Free}
-use Rattle.soft_pool.proofs.Pools.{empty, pool_placed, shows, live_at, live_read, live_within}
+use Rattle.soft_pool.proofs.Pools.{empty, none_placed, pool_placed, shows, live_at, live_read, live_within}
 use Rattle.soft_pool.proofs.pool.Pool.remove.Goals as goal
 
 pub invariant_of-self : goal.invariant_of-self
@@ -10,6 +10,7 @@ invariant_of-self g c =
     let t = c.take.ensures in (
       rw t.lists (pool_placed s.clock s.lists.room s.entries.items s.lists.homes c.self.invariant.0 c.take.new.entries.items _ c.args.slot.0 0 empty (live_within s.clock s.lists.room s.entries.items c.args.slot.0 (rw c.self.view_is c.requires)) t.entries.3 refl refl),
       rw (t.lists, t.capacity) c.self.invariant.1,
+      λ may. rw t.lists (none_placed s.lists.homes c.args.slot.0 0 1 (λ e. omega (arith, e)) (c.self.invariant.2 may)),
     )
 
 pub returns-clause-was : goal.returns-clause-was

@@ -1,5 +1,5 @@
 use Rattle.std.proofs.Common.{◌<◌, ◌≤◌, ◌+◌, ◌∙◌, ap, arith}
-use Rattle.soft_pool.proofs.Pools.{pool_kept, pool_moved, renewed}
+use Rattle.soft_pool.proofs.Pools.{none_placed, pool_kept, pool_moved, renewed}
 use Rattle.soft_pool.proofs.pool.Pool.renew.Goals as goal
 
 -- ---- where its moment comes earlier
@@ -14,6 +14,7 @@ invariant_of-self g c =
     (omega (arith, ahead, o.0.ahead, soonest.ensures)) (omega (arith, soonest.ensures)) (omega (arith, soonest.ensures)) in (
       rw (c.shift.ensures, c.replace-was.ensures.after) moved,
       rw c.shift.ensures o.1,
+      λ may. rw c.shift.ensures (none_placed s.lists.homes c.args.slot.0 c.wheel_at.result 1 (λ e. omega (arith, e, c.wheel_at.ensures)) (o.2 may)),
     )
 
 pub returns-then-moment-was : goal.returns-then-moment-was
@@ -33,6 +34,7 @@ invariant_of-self-else-moment-was g c =
       pool_kept s.clock s.lists.room c.replace-was.new.dest s.entries.items c.args.slot.0 c.index_mut.result.now
           (rw c.self.view_is c.requires.live) c.index_mut.ensures.value s.lists.homes o.0 later,
       o.1,
+      o.2,
     )
 
 pub returns-else-moment-was : goal.returns-else-moment-was

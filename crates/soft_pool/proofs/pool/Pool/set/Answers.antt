@@ -17,6 +17,7 @@ invariant_of-self g c =
       pool_changed s.clock s.lists.room s.entries.items s.lists.homes c.self.invariant.0 _ i e f live.1 refl
           (λ h. live_stays s.clock s.soonest h e f live.0 c.args.value live.2 c.replace.ensures.after live.3 (omega arith)),
       c.self.invariant.1,
+      c.self.invariant.2,
     )
 
 pub returns : goal.returns
