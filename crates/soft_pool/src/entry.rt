@@ -23,9 +23,10 @@ pub(crate) const WIDTH: u64 = 1024;
 // A slot's place in the memory of a pool. It is free where it has no value.
 #[derive(Drop)]
 pub(crate) struct Entry<T> {
-    pub(crate) value: Option<T>,
-    // When the value runs out, on the pool's clock.
+    // When the value runs out, on the pool's clock. It lies beside the mark that says whether there is a value: most often both
+    // are asked for, and a value is long.
     pub(crate) moment: u64,
+    pub(crate) value: Option<T>,
 }
 
 // The list of the wheel for a moment.
@@ -98,8 +99,8 @@ pub(crate) fn take<T: Drop>(
     ensures capacity { vec_capacity entries.new ≡ vec_capacity entries.old }
 {
     let free = Entry {
-        value: None,
         moment: 0,
+        value: None,
     };
     place(entries, lists, slot, free, 0).value
 }

@@ -80,8 +80,8 @@ impl<T: Drop> Pool<T> {
         let soonest = self.soonest.min(moment);
         if let Some(slot) = self.lists.first(FREE) {
             let entry = Entry {
-                value: Some(value),
                 moment,
+                value: Some(value),
             };
             place(&mut self.entries, &mut self.lists, slot, entry, self.clock);
             self.soonest = soonest;
@@ -91,8 +91,8 @@ impl<T: Drop> Pool<T> {
             return Err(value);
         }
         let entry = Entry {
-            value: Some(value),
             moment,
+            value: Some(value),
         };
         let slot = make(&mut self.entries, &mut self.lists, entry, self.clock);
         self.soonest = soonest;
