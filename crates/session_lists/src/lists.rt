@@ -254,18 +254,7 @@ impl<O: RestOrder> SessionLists<O> {
     pub fn find(&self, session: Session, rest: O::Rest) -> Option<u32>
         ensures { result ≡ find (row_keys O.rests).cmp (session, rest) self.now.rows }
     {
-        let row = row_of::<O>(
-            &self.slots,
-            self.keys.as_slice(),
-            self.heads.as_slice(),
-            self.marks.as_slice(),
-            session,
-            &rest,
-        );
-        match row {
-            Ok(slot) => Some(slot),
-            Err(_) => None,
-        }
+        self.place(session, rest).ok()
     }
 
     /// The slot of a key's row. `Err` exactly where it has none, with the place where one would go.
