@@ -1,13 +1,12 @@
 -- What each lane was last sent.
-use Rattle.std.specs.Prelude.{ℕ, nat_lt, cond, List, [], ◌∷◌, map as each, Option, Some}
+use Rattle.std.specs.Prelude.{ℕ, nat_lt, cond, List, [], ◌∷◌, map as each, Option, Some, refl}
 use Rattle.std.specs.Coded.{Coded, coded×, coded_ℕ, code_by}
 use Rattle.std.specs.Option.{unwrap_or}
-use Rattle.std.specs.Prelude.{◌≡◌, refl}
 use Rattle.std.specs.FinMap.Entries.{below_all, is_sorted}
 use Rattle.std.proofs.Common.{T}
 use Rattle.rsvp_base.specs.Codes.{part_code, unit_code}
 use Rattle.rsvp_base.specs.Keys.{Keys, pairs}
-use Rattle.rsvp_base.specs.Orders.{sessions, styles, units, addr_code, style_place}
+use Rattle.rsvp_base.specs.Orders.{sessions, styles, units, addr_code}
 use Rattle.rsvp_base.specs.Table.{Table, both, empty, first, get, put_in, second, size, without, table_code}
 use Rattle.rsvp_base.specs.contracts.session.Session as session
 use Rattle.rsvp_base.specs.contracts.style.StyleKind as style

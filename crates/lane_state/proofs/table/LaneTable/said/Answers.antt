@@ -1,4 +1,4 @@
-use Rattle.std.proofs.Common.{◌≡◌, sym, ap, ◌∙◌}
+use Rattle.std.proofs.Common.{sym, ap, ◌∙◌}
 use Rattle.std.specs.Option.{option_map, option_copied, unwrap_or}
 use Rattle.rsvp_base.specs.Table.{empty, get}
 use Rattle.lane_state.specs.declared.lane.Sent.{Sent}
