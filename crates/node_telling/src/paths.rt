@@ -1,5 +1,5 @@
 //! Paths and PathTears of a sender.
-ghost use Rattle.std.specs.Prelude.{◌≡◌, ◌==◌, ◌&&◌, not, false, fold, map};
+ghost use Rattle.std.specs.Prelude.{◌≡◌, ◌==◌, ◌&&◌, ℕ, not, false, fold, map};
 ghost use Rattle.std.specs.Int.{bit_at};
 ghost use Rattle.std.specs.Option.{option_map};
 ghost use Rattle.router_rules.specs.NodeConfig.{tree};
@@ -7,7 +7,7 @@ ghost use Rattle.router_rules.specs.Sends.{path_send, path_tear};
 ghost use Rattle.node_sends.specs.Told.{offer_key, paths_told, tears_told, told_gone, told_new};
 ghost use Rattle.node_sends.specs.Upward.{ways_out};
 ghost use Rattle.node_telling.specs.Offering.{as_offer};
-ghost use Rattle.node_telling.specs.Ways.{ways_but};
+ghost use Rattle.node_telling.specs.Ways.{ways_but, ways_in};
 
 use crate::config::Config;
 use crate::offered::Offered;
@@ -22,20 +22,21 @@ pub(crate) fn is_out(ways: u16, iface: u8) -> bool
     iface < 16 && (ways >> iface) & 1 == 1
 }
 
-/// The Paths of a sender, by each interface by which its tree goes on, in their order.
-pub fn tell_paths<O: Outbox>(
+// The Paths of a sender, by each of these interfaces, in their order: bit i of `ways` stands for interface i.
+fn tell_paths_by<O: Outbox>(
     config: &Config,
     session: Session,
     sender: Sender,
     offered: &Offered,
+    ways: u16,
     refresh: bool,
     out: &mut O,
 )
-    ensures { out.new ≡ fold O.posted out.old (paths_told config.now refresh (session, sender) (as_offer offered.now)) }
+    ensures { out.new ≡ fold O.posted out.old (map
+        (λ i. path_send config.now refresh (offer_key (session, sender) i, as_offer offered.now)) (ways_in config.now ways)) }
 {
     let ifaces = config.ifaces();
     let period = config.period();
-    let ways = config.ways_of(session, sender);
     for i in 0..ifaces.len() {
         let iface = i as u8;
         if is_out(ways, iface) {
@@ -55,12 +56,17 @@ pub fn tell_paths<O: Outbox>(
     }
 }
 
-/// The PathTears of a sender, by each interface by which its tree goes on, in their order.
-pub fn tell_path_tears<O: Outbox>(config: &Config, session: Session, sender: Sender, out: &mut O)
-    ensures { out.new ≡ fold O.posted out.old (tears_told config.now (session, sender)) }
+// The PathTears of a sender, by each of these interfaces, in their order: bit i of `ways` stands for interface i.
+fn tell_tears_by<O: Outbox>(
+    config: &Config,
+    session: Session,
+    sender: Sender,
+    ways: u16,
+    out: &mut O,
+)
+    ensures { out.new ≡ fold O.posted out.old (map (λ i. path_tear config.now (offer_key (session, sender) i)) (ways_in config.now ways)) }
 {
     let ifaces = config.ifaces();
-    let ways = config.ways_of(session, sender);
     for i in 0..ifaces.len() {
         let iface = i as u8;
         if is_out(ways, iface) {
@@ -75,6 +81,29 @@ pub fn tell_path_tears<O: Outbox>(config: &Config, session: Session, sender: Sen
             out.post(iface, session.group, &Message::PathTear(message), false);
         }
     }
+}
+
+/// The Paths of a sender, by each interface by which its tree goes on, in their order.
+pub fn tell_paths<O: Outbox>(
+    config: &Config,
+    session: Session,
+    sender: Sender,
+    offered: &Offered,
+    refresh: bool,
+    out: &mut O,
+)
+    ensures { out.new ≡ fold O.posted out.old (paths_told config.now refresh (session, sender) (as_offer offered.now)) }
+{
+    let ways = config.ways_of(session, sender);
+    tell_paths_by(config, session, sender, offered, ways, refresh, out);
+}
+
+/// The PathTears of a sender, by each interface by which its tree goes on, in their order.
+pub fn tell_path_tears<O: Outbox>(config: &Config, session: Session, sender: Sender, out: &mut O)
+    ensures { out.new ≡ fold O.posted out.old (tears_told config.now (session, sender)) }
+{
+    let ways = config.ways_of(session, sender);
+    tell_tears_by(config, session, sender, ways, out);
 }
 
 /// The Paths of a sender, where what is offered of it is new.
@@ -112,14 +141,11 @@ pub fn tell_gone<O: Outbox>(
     }
 }
 
-// Whether an interface is in the one set, and not in the other.
-fn is_only_in(these: u16, those: u16, iface: u8) -> bool
-    ensures { result ≡ ((bit_at these iface == 1) && not (bit_at those iface == 1)) }
+// The interfaces of the one set that are not in the other: bit i of a set stands for interface i.
+fn only_in(these: u16, those: u16) -> u16
+    ensures { (i : ℕ) → (bit_at result i == 1) ≡ ((bit_at these i == 1) && not (bit_at those i == 1)) }
 {
-    if is_out(these, iface) {
-        return !is_out(those, iface);
-    }
-    false
+    these & !those
 }
 
 /// The PathTears of a sender, by those interfaces of `old` by which its tree does not go on now, in their order: bit i of
@@ -133,22 +159,8 @@ pub fn tell_gone_ways<O: Outbox>(
 )
     ensures { out.new ≡ fold O.posted out.old (map (λ i. path_tear config.now (offer_key (session, sender) i)) (ways_but config.now old (ways_out (tree config.now session sender)))) }
 {
-    let ifaces = config.ifaces();
     let ways = config.ways_of(session, sender);
-    for i in 0..ifaces.len() {
-        let iface = i as u8;
-        if is_only_in(old, ways, iface) {
-            let message = PathTearMsg {
-                session,
-                hop: Hop {
-                    addr: ifaces[i].addr,
-                    handle: 0,
-                },
-                sender: Some(sender),
-            };
-            out.post(iface, session.group, &Message::PathTear(message), false);
-        }
-    }
+    tell_tears_by(config, session, sender, only_in(old, ways), out);
 }
 
 /// The Paths of a sender, by those interfaces by which its tree goes on now and that are not in `old`, in their order: bit i of
@@ -164,24 +176,14 @@ pub fn tell_new_ways<O: Outbox>(
     ensures { out.new ≡ fold O.posted out.old (map
         (λ i. path_send config.now false (offer_key (session, sender) i, as_offer offered.now)) (ways_but config.now (ways_out (tree config.now session sender)) old)) }
 {
-    let ifaces = config.ifaces();
-    let period = config.period();
     let ways = config.ways_of(session, sender);
-    for i in 0..ifaces.len() {
-        let iface = i as u8;
-        if is_only_in(ways, old, iface) {
-            let message = PathMsg {
-                session,
-                police: offered.local,
-                hop: Hop {
-                    addr: ifaces[i].addr,
-                    handle: 0,
-                },
-                period,
-                sender: Some((sender, offered.tspec)),
-                adspec: None,
-            };
-            out.post(iface, session.group, &Message::Path(message), false);
-        }
-    }
+    tell_paths_by(
+        config,
+        session,
+        sender,
+        offered,
+        only_in(ways, old),
+        false,
+        out,
+    );
 }

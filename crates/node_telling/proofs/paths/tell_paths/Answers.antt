@@ -1,36 +1,14 @@
-use Rattle.std.proofs.Common.{◌≡◌, ℕ, ◌==◌, Some, None, map as each, fold, length, slice_get, sym, ap, ◌∙◌, arith}
-use Rattle.std.specs.Int.{bit_at}
-use Rattle.std.specs.List.{filter, range_with_len}
-use Rattle.rsvp_base.specs.declared.addr.Addr.{Addr}
-use Rattle.rsvp_messages.specs.declared.message.Message.TheVariants as message
-use Rattle.router_rules.specs.Inputs.{Send}
-use Rattle.router_rules.specs.NodeConfig.{addr_of}
+use Rattle.std.proofs.Common.{ℕ, map as each, fold, ap, ◌∙◌}
 use Rattle.router_rules.specs.Sends.{path_send}
-use Rattle.node_telling.specs.Offering.{as_offer}
 use Rattle.node_sends.specs.Told.{offer_key}
-use Rattle.node_telling.proofs.Telling.{all_said, own_read, said_none, said_one}
+use Rattle.node_telling.specs.Offering.{as_offer}
+use Rattle.node_telling.specs.Ways.{ways_in}
+use Rattle.node_telling.proofs.Telling.{all_said}
 use Rattle.node_telling.proofs.paths.tell_paths.Goals as goal
-use Rattle.node_telling.proofs.paths.tell_paths.Goals.{then-is_out, else-is_out}
-
-pub loop-i-preserved : goal.loop-i-preserved
-loop-i-preserved g c =
-    elim c.if-is_out.branch [
-      | then-is_out w ↦
-          let say = λ (i : ℕ). path_send c.args.config.now c.args.refresh (offer_key (c.args.session, c.args.sender) i, as_offer c.args.offered.now) in
-          let from : Addr → ℕ → Send = λ (a : Addr) (t : ℕ). record { iface = c.loop-i.i; dst = c.args.session.group; message = message.Path (record { session = c.args.session; police = c.args.offered.now.local; hop = record { addr = a; handle = 0 }; period = t; sender = Some (c.args.sender, c.args.offered.now.tspec); adspec = None }); refresh = c.args.refresh } in
-          let addr = sym (own_read c.ifaces-ifaces.result.now c.loop-i.i _ c.loop-i-test.true) ∙ ap (λ xs. addr_of (slice_get xs c.loop-i.i)) c.ifaces-ifaces.ensures.is in
-          let here : g.O.Outbox.posted c.loop-i.out (from _ c.period-period.result) ≡ g.O.Outbox.posted c.loop-i.out (say c.loop-i.i) = λ j. g.O.Outbox.posted c.loop-i.out (from (addr j) (c.period-period.ensures j)) in
-          w.out-is ∙ w.post.ensures ∙ here ∙ said_one g.O.Outbox.posted say c.ways_of-ways.result c.args.out.now c.loop-i.i c.loop-i.out (sym c.is_out.ensures ∙ w.if-is_out.true) c.loop-i.invariant
-      | else-is_out w ↦
-          let say = λ (i : ℕ). path_send c.args.config.now c.args.refresh (offer_key (c.args.session, c.args.sender) i, as_offer c.args.offered.now) in
-          w.out-is ∙ said_none g.O.Outbox.posted say c.ways_of-ways.result c.args.out.now c.loop-i.i c.loop-i.out (sym c.is_out.ensures ∙ w.if-is_out.false) c.loop-i.invariant
-    ]
 
 pub returns : goal.returns
 returns g c =
     let p = c.args.config.now in
-    let say = λ (i : ℕ). path_send c.args.config.now c.args.refresh (offer_key (c.args.session, c.args.sender) i, as_offer c.args.offered.now) in
-    let same = ap length c.ifaces-ifaces.ensures.is in
-    let end : c.loop-i.i ≡ length p.ifaces = omega (arith, same, c.loop-i.auto.i-end, c.loop-i-test.false) in
-    c.loop-i.invariant ∙ (λ j. fold g.O.Outbox.posted c.args.out.now (each say (filter (λ i. bit_at (c.ways_of-ways.ensures j) i == 1) (range_with_len 0 (end j)))))
-    ∙ ap (λ is. fold g.O.Outbox.posted c.args.out.now (each say is)) (all_said p c.args.session c.args.sender)
+    let say = λ (i : ℕ). path_send p c.args.refresh (offer_key (c.args.session, c.args.sender) i, as_offer c.args.offered.now) in
+    let same = ap (ways_in p) c.ways_of-ways.ensures ∙ all_said p c.args.session c.args.sender in
+    c.tell_paths_by.ensures ∙ ap (λ is. fold g.O.Outbox.posted c.args.out.now (each say is)) same

@@ -3,7 +3,7 @@ use Rattle.std.specs.Int.{bit_at}
 use Rattle.std.specs.List.{filter, range_with_len}
 use Rattle.router_rules.specs.Sends.{path_tear}
 use Rattle.node_sends.specs.Told.{offer_key}
-use Rattle.node_telling.proofs.paths.tell_path_tears.Given as goal
+use Rattle.node_telling.proofs.paths.tell_tears_by.Given as goal
 
 abbrev pub invariant-loop-i : goal.invariant-loop-i
 invariant-loop-i g l =

@@ -4,7 +4,7 @@ use Rattle.std.specs.List.{filter, range_with_len}
 use Rattle.router_rules.specs.Sends.{path_send}
 use Rattle.node_sends.specs.Told.{offer_key}
 use Rattle.node_telling.specs.Offering.{as_offer}
-use Rattle.node_telling.proofs.paths.tell_paths.Given as goal
+use Rattle.node_telling.proofs.paths.tell_paths_by.Given as goal
 
 abbrev pub invariant-loop-i : goal.invariant-loop-i
 invariant-loop-i g l =
