@@ -137,8 +137,5 @@ fn value(digits: &str) -> Option<u64>
     requires { is_numeral digits.now ≡ true }
     ensures { result ≡ below_2_to_64 (digits_value 10 digits.now) }
 {
-    match digits.parse::<u64>() {
-        Ok(n) => Some(n),
-        Err(_) => None,
-    }
+    digits.parse::<u64>().ok()
 }

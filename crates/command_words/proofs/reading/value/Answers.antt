@@ -1,6 +1,6 @@
-use Rattle.command_words.proofs.Digits.{unread}
+use Rattle.std.proofs.Common.{◌∙◌}
+use Rattle.command_words.proofs.Digits.{read}
 use Rattle.command_words.proofs.reading.value.Goals as goal
 
--- digits that are not read stand for too much
-pub returns-in-Err : goal.returns-in-Err
-returns-in-Err c = unread c.args.digits.now _ _ c.in-Err.is c.parse.ensures.value.0 c.requires
+pub returns : goal.returns
+returns c = c.ok.ensures.value ∙ read c.args.digits.now c.parse.result c.parse.ensures.value.0 c.requires
