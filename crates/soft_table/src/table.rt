@@ -4,6 +4,7 @@ ghost use Rattle.std.specs.List.{filter_map};
 ghost use Rattle.std.specs.Option.{option_copied, option_map};
 ghost use Rattle.std.specs.Ordering.{eq_by_cmp};
 ghost use Rattle.std.specs.FinMap.Entries.{find, put, where_key};
+ghost use Rattle.std.specs.Fn.{FnOnceReturnsAt};
 ghost use Rattle.rsvp_base.specs.Orders.{sessions};
 ghost use Rattle.rsvp_base.specs.Table.{size};
 ghost use Rattle.rsvp_base.specs.Under.{rows_under};
@@ -112,6 +113,40 @@ impl<F: Fact> SoftTable<F> {
             return false;
         }
         self.pool.set(Slot(slot), fact);
+        true
+    }
+
+    /// Leaves this much of the fact of a key, in milliseconds, where it passes a test; the fact stays in its place. False exactly
+    /// where there is none, or it does not pass; nothing changes then. No dead fact may wait.
+    pub fn renew_if<P: FnOnce(&F) -> bool>(
+        &mut self,
+        session: Session,
+        rest: F::Rest,
+        left: u32,
+        passes: P,
+    ) -> bool
+        requires some { 1 ≤ left }
+        requires pulled { self.old.dead ≡ [] }
+        requires tested { P.IsAlwaysCallable passes }
+        ensures renewed { result ≡ true → (fact : F) × (was : ℕ)
+            × (find (fact_keys F.rests).cmp (session, rest) (facts_by F.key_of self.old.facts) ≡ Some (fact, was))
+            × FnOnceReturnsAt P.FnOnce passes fact true
+            × (facts_by F.key_of self.new.facts ≡ put (fact_keys F.rests).cmp (session, rest) (fact, left) (facts_by F.key_of self.old.facts)) }
+        ensures other { result ≡ false → (fact : F) (was : ℕ)
+            → find (fact_keys F.rests).cmp (session, rest) (facts_by F.key_of self.old.facts) ≡ Some (fact, was)
+            → FnOnceReturnsAt P.FnOnce passes fact false }
+        ensures unchanged { result ≡ false → self.new ≡ self.old }
+        ensures order { IsInOrder F.rests F.key_of self.new }
+        ensures dead { self.new.dead ≡ self.old.dead }
+        ensures room { self.new.room ≡ self.old.room }
+    {
+        let Some(slot) = self.rows.find(session, rest) else {
+            return false;
+        };
+        if !passes(self.pool.get(Slot(slot))) {
+            return false;
+        }
+        self.pool.renew(Slot(slot), left);
         true
     }
 

@@ -112,6 +112,29 @@ fn a_fact_is_replaced_and_removed(rt: HostRuntime) -> Result<(), Fail> {
     Ok(())
 }
 
+// Whether the fact of a letter is renewed for 20 ms, where it has this number and no dead one waits.
+fn renew(table: &mut SoftTable<Note>, letter: u8, number: u8) -> Option<bool> {
+    let None = table.pull_dead() else {
+        return None;
+    };
+    Some(table.renew_if(session(2), letter, 20, |note| note.number == number))
+}
+
+#[test]
+fn a_fact_that_passes_is_renewed(rt: HostRuntime) -> Result<(), Fail> {
+    let mut table = filled(rt.alloc()).ok_or("a table")?;
+    assert!(rt; renew(&mut table, 1, 8) == Some(false));
+    assert!(rt; renew(&mut table, 2, 9) == Some(false));
+    assert!(rt; renew(&mut table, 1, 9) == Some(true));
+    let None = table.pull_dead() else {
+        return Err(Fail::from("a dead fact waits"));
+    };
+    table.advance(10);
+    assert!(rt; table.pull_dead() == Some(make_note(1, 1, 8)));
+    assert!(rt; number(table.find(session(2), 1)) == Some(9));
+    Ok(())
+}
+
 #[test]
 fn facts_die_with_their_time_or_are_cleared(rt: HostRuntime) -> Result<(), Fail> {
     let mut table = filled(rt.alloc()).ok_or("a table")?;
