@@ -6,6 +6,7 @@ pub mod Forgets
 pub mod Walked
 pub mod Limits
 pub mod Refresh
+pub mod Asked
 pub mod Merged
 pub mod Units
 pub mod Entries

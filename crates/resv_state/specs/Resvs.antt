@@ -1,10 +1,12 @@
 -- The reservations of a style that a node keeps.
-use Rattle.std.specs.Prelude.{◌≡◌, ◌-◌, ℕ, cond, nat_le, map as each, List, Option, Some, None, refl}
+use Rattle.std.specs.Prelude.{◌≡◌, ◌-◌, ℕ, cond, nat_le, option_and_then, map as each, List, Option, Some, None, refl}
+use Rattle.std.specs.Option.{option_map}
 use Rattle.std.specs.Coded.{Coded, code_by, coded×, coded_ℕ}
 use Rattle.rsvp_base.specs.Codes.{unit_code}
 use Rattle.rsvp_base.specs.Orders.{addr_code}
 use Rattle.rsvp_base.specs.Table.{Table, get, table_code}
 use Rattle.rsvp_base.specs.contracts.session.Session as session
+use Rattle.rsvp_base.specs.declared.addr.Addr.{Addr}
 use Rattle.rsvp_base.specs.declared.style.StyleKind.{StyleKind}
 use Rattle.style_rules.specs.Lines.{Line, LineKey, line_keys}
 use Rattle.style_rules.specs.Parts.{IsOfStyle}
@@ -32,6 +34,16 @@ pub record AreOfStyle (st : StyleKind) (m : ResvFacts) : Type 0 where
 
 abbrev pub AreUnderTheirKeys : StyleKind → Table line_keys ResvFact → Type 0
 AreUnderTheirKeys st m = (k : LineKey) (f : ResvFact) → get m k ≡ Some f → resv_key st f ≡ k
+
+-- ---- who wants to hear that a reservation stands
+-- a wish for no confirmation leaves the one that stands
+abbrev pub wish_kept : Option Addr → Option Addr → Option Addr
+wish_kept None was = was
+wish_kept (Some a) was = Some a
+
+-- a reservation that is asked for, with the wish that it has in place of the one of its key
+abbrev pub asked_in : StyleKind → ResvFacts → ResvFact → ResvFact
+asked_in st m f = record f { confirm = wish_kept f.confirm (option_and_then (λ (was : ResvFact). was.confirm) (option_map (λ (e : ResvFact × ℕ). e.0) (get m (resv_key st f)))) }
 
 -- ---- the lines that a table stands for
 abbrev pub soft_resv : StyleKind → LineKey × (ResvFact × ℕ) → Line

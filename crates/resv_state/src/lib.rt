@@ -9,6 +9,7 @@ mod beside;
 mod fact;
 mod leaving;
 mod merging;
+mod renewing;
 mod table;
 mod walks;
 

@@ -17,12 +17,13 @@ ghost use Rattle.soft_table.specs.Facts.{rows_behind};
 ghost use Rattle.resv_state.specs.Walks.{rests};
 ghost use Rattle.resv_state.specs.declared.fact.Held.{Held};
 ghost use Rattle.resv_state.specs.Leaving.{torn, hop_has_one, forgotten, lessened, key_has_one};
-ghost use Rattle.resv_state.specs.Resvs.{ResvFacts, AreOfStyle, AreUnderTheirKeys, resv_key, resv_lines, held_row, dead_row, fact_of, dead_of, later, dead_after};
+ghost use Rattle.resv_state.specs.Resvs.{ResvFacts, AreOfStyle, AreUnderTheirKeys, asked_in, resv_key, resv_lines, held_row, dead_row, fact_of, dead_of, later, dead_after};
 
 use crate::beside::join_beside;
 use crate::fact::{Held, ResvFact};
 use crate::leaving::{lessen, only, rest_of};
 use crate::merging::{merge_on, merge_toward};
+use crate::renewing::is_asked;
 use crate::walks::{FACTS, fits_fact, fits_hop, fits_names, fits_session, is_refresh};
 use rsvp_base::{Addr, Flow, Full, NoMemory, Part, Sender, Senders, Session, Unit};
 use soft_table::{Finger, SoftTable};
@@ -101,6 +102,32 @@ impl<S: Style> ResvTable<S> {
             unreachable!();
         };
         Ok(())
+    }
+
+    /// Leaves this much, in milliseconds, of the reservation of a session, next hop and unit, where it is the one that is asked
+    /// for: of this part, whose unit it is, and for whoever wants to hear that it stands; a wish for no confirmation leaves the
+    /// one that stands. False exactly where it is another or there is none; nothing changes then. No dead one may wait.
+    pub fn renew(
+        &mut self,
+        session: Session,
+        iface: u8,
+        next: Addr,
+        part: &Part,
+        confirm: Option<Addr>,
+        left: u32,
+    ) -> bool
+        requires some { 1 ≤ left }
+        requires pulled { self.old.dead.rows ≡ [] }
+        ensures stands { let asked = asked_in S.kind_is self.old.facts (record { session = session; iface = iface; next = next; part = part.now; confirm = confirm }) in
+            IsTrue result ↔ (option_map (λ e. e.0) (get self.old.facts (resv_key S.kind_is asked)) ≡ Some asked) }
+        ensures renewed { let asked = asked_in S.kind_is self.old.facts (record { session = session; iface = iface; next = next; part = part.now; confirm = confirm }) in
+            result ≡ true → self.new ≡ record self.old { facts = put_in self.old.facts (resv_key S.kind_is asked) (asked, left) } }
+        ensures unchanged { result ≡ false → self.new ≡ self.old }
+    {
+        let rest = ((iface, next), unit_of::<S>(part));
+        self.table.renew_if(session, rest, left, |held| {
+            is_asked::<S>(&held.fact, part, confirm)
+        })
     }
 
     /// Whether `put` would keep a reservation. It is of the style, and no dead one may wait.

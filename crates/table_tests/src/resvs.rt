@@ -105,6 +105,20 @@ fn is_walked<S: Style>(table: &ResvTable<S>, rate: Flow) -> bool {
         && table.after(third, &mut finger).is_none()
 }
 
+// Whether a session's reservation of the next hop 7 on the interface 0 is renewed, where no dead one waits: once with its flow,
+// and neither with another flow nor with a wish for a confirmation.
+fn is_renewed<S: Style>(table: &mut ResvTable<S>, rate: Flow) -> bool {
+    let None = table.pull_dead() else {
+        return false;
+    };
+    let same = make_fact(1, 0, 7, 3, rate).part;
+    let other = make_fact(1, 0, 7, 3, Flow::default()).part;
+    let wish = Some(Addr(8));
+    table.renew(session(1), 0, Addr(7), &same, None, 1000)
+        && !table.renew(session(1), 0, Addr(7), &other, None, 1000)
+        && !table.renew(session(1), 0, Addr(7), &same, wish, 1000)
+}
+
 // Whether three reservations of a session are kept.
 fn keeps_three<S: Style>(table: &mut ResvTable<S>, rate: Flow) -> bool {
     for iface in 0u8..3 {
@@ -158,6 +172,7 @@ fn dies<S: Style>(table: &mut ResvTable<S>, rate: Flow) -> bool {
 // The calls of a table, each once. True where all answer as they must.
 fn answers<S: Style>(table: &mut ResvTable<S>, rate: Flow) -> bool {
     keeps_three(table, rate)
+        && is_renewed(table, rate)
         && is_walked(table, rate)
         && merges(table)
         && removes(table)
