@@ -83,6 +83,10 @@ module _ (b : Bookings) (within : IsWithin b) (i : ℕ) (k : EntryKey) where
       by (Some on) e = fits_beside on e (get b.entries (i, k)) refl
 
 -- ---- a reservation of the part that stands there
+pub stands_as : (w : Option (ResvFact × ℕ)) (d : ResvFact) → option_map (λ (e : ResvFact × ℕ). e.0) w ≡ Some d → option_map (λ (e : ResvFact × ℕ). e.0.part) w ≡ Some d.part
+stands_as None d is = cc
+stands_as (Some e) d is = let same : e.0 ≡ d = cc in ap (λ (x : ResvFact). Some x.part) same
+
 module _ (st : StyleKind) (m : ResvFacts) (d : ResvFact) (left : ℕ) (there : Stands m (resv_key st d) d.part) where
   abbrev new : ResvFacts
   new = put_in m (resv_key st d) (d, left)

@@ -7,7 +7,7 @@ use Rattle.std.proofs.lemmas.Bool.Decides.{nat_tests}
 use Rattle.std.proofs.lemmas.List.{map-append}
 use Rattle.admission_book.specs.Book.{Entries}
 use Rattle.admission_book.specs.declared.refused.Refused.{Refused}
-use Rattle.resv_state.specs.Resvs.{AreOfStyle, ResvFacts, resv_key}
+use Rattle.resv_state.specs.Resvs.{AreOfStyle, ResvFacts, resv_key, wish_kept}
 use Rattle.resv_state.specs.declared.fact.ResvFact.{ResvFact}
 use Rattle.rsvp_base.specs.Styles.{part_unit}
 use Rattle.rsvp_base.specs.Table.{changed, empty, get, has, put_in, size}
@@ -194,12 +194,16 @@ refused_more p o code value us k u got xs ys is so_far =
     told_one p o xs ys (record { in_place = false; code = code; value = value; names = u.names; flow = u.flow }) is ∙ ap (λ zs. zs ++ say u ∷ []) so_far ∙ sym (map-append say (take k us) (u ∷ [])) ∙ ap (each say) (sym (front_more us k u got))
 
 -- who wants to hear of an earlier one
-pub wish_is : (c : ℕ) (m : ResvFacts) (k : LineKey) (w : Option ResvFact) → w ≡ option_map (λ e. e.0) (get m k) → option_and_then (λ (f : ResvFact). f.confirm) w ≡ confirm_kept (get (changed (resv_at c) m) k)
+wish_is : (c : ℕ) (m : ResvFacts) (k : LineKey) (w : Option ResvFact) → w ≡ option_map (λ e. e.0) (get m k) → option_and_then (λ (f : ResvFact). f.confirm) w ≡ confirm_kept (get (changed (resv_at c) m) k)
 wish_is c m k w e = ap (option_and_then (λ (f : ResvFact). f.confirm)) e ∙ by (get m k) ∙ ap confirm_kept (sym (get-changed line_keys (resv_at c) m k))
   where
     by : (v : Option (ResvFact × ℕ)) → option_and_then (λ (f : ResvFact). f.confirm) (option_map (λ e. e.0) v) ≡ confirm_kept (then_do v (resv_at c k))
     by None = refl
     by (Some e) = refl
+
+pub wish_asked : (c : ℕ) (m : ResvFacts) (confirm : Option Addr) (k : LineKey) → wish_kept confirm (option_and_then (λ (f : ResvFact). f.confirm) (option_map (λ (e : ResvFact × ℕ). e.0) (get m k))) ≡ or_kept confirm (confirm_kept (get (changed (resv_at c) m) k))
+wish_asked c m (Some a) k = refl
+wish_asked c m None k = wish_is c m k (option_map (λ (e : ResvFact × ℕ). e.0) (get m k)) refl
 
 module _ (p : NodeConfig) (c : ℕ) (st : StyleKind) (a : Asker) (f : Facts) (m : ResvFacts) (es : Entries) (done : Taken) (t : Taking) (so : IsSoFar p c st a f m es done t) where
   pub lost_so : (new : Taken) (l : Blamed) (flow : TokenBucket) → each (refusal_of p (asker_at c st a)) new.errors ≡ each (refusal_of p (asker_at c st a)) done.errors ++ losses p (asker_at c st a) flow l → new.left_out ≡ done.left_out → new.parts ≡ done.parts

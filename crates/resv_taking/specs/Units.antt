@@ -2,6 +2,7 @@
 use Rattle.std.specs.Prelude.{◌≡◌, ℕ, ◌+◌, map as each, Some}
 use Rattle.admission_book.specs.Book.{Entries}
 use Rattle.resv_state.specs.Resvs.{ResvFacts}
+use Rattle.resv_state.specs.declared.fact.ResvFact.{ResvFact}
 use Rattle.rsvp_base.specs.Orders.{Names}
 use Rattle.rsvp_base.specs.Styles.{part_unit}
 use Rattle.rsvp_base.specs.Table.{changed}
@@ -35,6 +36,10 @@ asked_unit w = record { unit = w.unit; names = w.names; flow = w.flow }
 -- who asks, at a clock
 abbrev pub asker_at : ℕ → StyleKind → Asker → AskerOf
 asker_at c st a = record { iface = a.iface; session = a.session; next = a.next; style = st; confirm = a.confirm; dies = c + a.left }
+
+-- a part as it is asked for
+abbrev pub asked_fact : Asker → Part → ResvFact
+asked_fact a part = record { session = a.session; iface = a.iface; next = a.next; part = part; confirm = a.confirm }
 
 -- a refusal as it goes back
 abbrev pub refusal_of : NodeConfig → AskerOf → Refusal → ErrSend

@@ -1,10 +1,9 @@
 //! A unit of a Resv is left out, refused or taken.
-ghost use Rattle.std.specs.Prelude.{◌≡◌, ◌≤◌, ◌<◌, ◌+◌, ◌++◌, ℕ, [], false, length, map, option_and_then, Some};
-ghost use Rattle.resv_state.specs.declared.fact.ResvFact.{ResvFact};
+ghost use Rattle.std.specs.Prelude.{◌≡◌, ◌≤◌, ◌<◌, ◌+◌, ◌++◌, ℕ, [], false, length, map, Some};
 ghost use Rattle.rsvp_base.specs.Table.{empty, size};
 ghost use Rattle.rsvp_base.specs.Styles.{part_unit};
 ghost use Rattle.style_rules.specs.Parts.{IsOfStyle};
-ghost use Rattle.router_rules.specs.Asking.{Taking, losses, or_kept, put_unit, take_unit, value_of};
+ghost use Rattle.router_rules.specs.Asking.{Taking, losses, put_unit, take_unit, value_of};
 ghost use Rattle.router_rules.specs.Asking.{Asker as AskerOf};
 ghost use Rattle.router_rules.specs.Facts.{Facts};
 ghost use Rattle.router_rules.specs.NodeConfig.{NodeConfig};
@@ -15,10 +14,10 @@ ghost use Rattle.resv_taking.specs.Units.{IsFit, IsSoFar, asked_unit, asker_at, 
 use crate::lost::{Lost, lost_of};
 use crate::matching::Matching;
 use crate::refusals::{Refusal, Refusals};
-use crate::renewing::{has_part, place_or_renew};
+use crate::renewing::place_or_renew;
 use admission_book::{Book, Refused};
 use resv_book::Placed;
-use resv_state::{ResvFact, ResvTable};
+use resv_state::ResvTable;
 use rsvp_base::{Addr, EntryKey, Flow, Part, Senders, Session, Unit};
 use style_rules::{Parts, Style};
 
@@ -42,7 +41,8 @@ pub struct Wanted {
 }
 
 /// What became of the units so far: the refusals in the order in which they came, whether a unit was left out for want of
-/// room, the parts that were taken, and whether one of them is news: it did not stand in its place before.
+/// room, the parts that were taken, and whether one of them is news: it did not stand in its place before, or whoever wants to
+/// hear of it is another.
 #[derive(Drop)]
 pub struct Taken {
     pub errors: Refusals,
@@ -147,26 +147,6 @@ fn no_sender(names: Option<Senders>, flow: Flow) -> Refusal
     }
 }
 
-// Who wants to hear that the reservation stands: a Resv that wants no confirmation leaves the wish of an earlier one.
-fn confirm_of(asker: &Asker, old: &Option<ResvFact>) -> Option<Addr>
-    ensures { result ≡ or_kept asker.now.confirm (option_and_then (λ (f : ResvFact). f.confirm) old.now) }
-{
-    match asker.confirm {
-        Some(addr) => Some(addr),
-        None => confirm_in(old),
-    }
-}
-
-// That of a reservation, if there is one.
-fn confirm_in(old: &Option<ResvFact>) -> Option<Addr>
-    ensures { result ≡ option_and_then (λ (f : ResvFact). f.confirm) old.now }
-{
-    match old {
-        Some(fact) => fact.confirm,
-        None => None,
-    }
-}
-
 // The error value: 2 for the rate, 3 for the packet size (RFC 2205, appendix B, error code 01).
 fn value_of(why: &Refused) -> u16
     ensures { result ≡ value_of why.now }
@@ -204,18 +184,8 @@ fn put_unit<S: Style>(
     ensures few_parts { size done.new.parts ≤ size done.old.parts + 1 }
     ensures quiet { IsQuiet done.old.news done.new.news table.old.facts table.new.facts }
 {
-    let old = table.find(asker.session, asker.iface, asker.next, unit);
-    let stands = has_part::<S>(&old, &part);
-    let confirm = confirm_of(asker, &old);
     prove!(part.senders.len() <= 16);
-    let fact = ResvFact {
-        session: asker.session,
-        iface: asker.iface,
-        next: asker.next,
-        part: part.copy(),
-        confirm,
-    };
-    match place_or_renew(table, book, fact, asker.left, stands, &mut done.news) {
+    match place_or_renew(table, book, asker, &part, &mut done.news) {
         Placed::LeftOut => {
             done.left_out = true;
         }

@@ -1,21 +1,21 @@
 use Rattle.std.proofs.Common.{◌≡◌, ℕ, [], ◌∷◌, ◌++◌, Some, is_some, refl, sym, ap, subst, ◌∙◌, arith, ◌≤◌, ◌+◌}
 use Rattle.admission_book.specs.Book.{Bookings}
-use Rattle.resv_state.specs.Resvs.{ResvMap, resv_key}
+use Rattle.resv_state.specs.Resvs.{ResvMap, asked_in, resv_key}
 use Rattle.resv_state.specs.declared.fact.ResvFact.{ResvFact}
+use Rattle.rsvp_base.specs.Styles.{part_unit}
 use Rattle.rsvp_base.specs.Table.{changed, get, put_in, size}
 use Rattle.rsvp_base.specs.declared.entry_key.EntryKey.{EntryKey}
-use Rattle.rsvp_base.specs.declared.part.Part.{Part}
 use Rattle.rsvp_base.specs.declared.style.StyleKind.{StyleKind}
 use Rattle.style_rules.specs.Merge.{PartTable}
-use Rattle.router_rules.specs.Asking.{or_kept, put_unit}
+use Rattle.router_rules.specs.Asking.{confirm_kept, or_kept, put_unit}
 use Rattle.router_rules.specs.Facts.{Facts, resvs_of}
 use Rattle.resv_book.specs.State.{resv_at}
 use Rattle.resv_book.specs.Kept.{IsBookOf}
 use Rattle.resv_book.specs.Placing.{chosen, placed_in}
 use Rattle.resv_book.specs.declared.placing.Placed.TheVariants as placed
-use Rattle.resv_taking.specs.Units.{IsSoFar, asker_at}
+use Rattle.resv_taking.specs.Units.{IsSoFar, asked_fact, asker_at}
 use Rattle.resv_taking.specs.declared.unit.Taken.{Taken}
-use Rattle.resv_taking.proofs.Steps.{among_after, done_by, grows, so_with, step_so, wish_is}
+use Rattle.resv_taking.proofs.Steps.{among_after, done_by, grows, so_with, step_so, wish_asked}
 use Rattle.resv_taking.proofs.unit.put_unit.Goals as goal
 
 pub returns-in-LeftOut-clause-step : goal.returns-in-LeftOut-clause-step
@@ -25,13 +25,13 @@ returns-in-LeftOut-clause-step g c p b f t same so =
     let m = c.args.table.now.facts in
     let es = c.args.book.now.entries in
     let key : ℕ × EntryKey = (a.iface, record { session = a.session; style = st; unit = c.args.unit }) in
-    let it : Part → ResvFact = λ x. record { session = a.session; iface = a.iface; next = a.next; part = x; confirm = c.confirm_of-confirm.result } in
+    let it : ResvFact = asked_in st m (asked_fact a c.args.part) in
     let done : Taken = record c.args.done.now { news = c.place_or_renew.new.news } in
     let so_far = so_with p b st a f m es c.args.done.now t so c.place_or_renew.new.news in
-    let wish = c.confirm_of-confirm.ensures ∙ ap (or_kept a.confirm) (wish_is b m (a.session, ((a.iface, a.next), c.args.unit)) c.find-old.result c.find-old.ensures.fact) in
-    let result : (h : Facts) → resvs_of st h ≡ changed (resv_at b) m → IsBookOf h es → c.place_or_renew.result ≡ placed_in p st b (it c.args.part) a.left h = λ h is booked. c.place_or_renew.ensures.result p b h same is booked ∙ ap (λ (x : Part). placed_in p st b (it x) a.left h) c.copy.ensures in
-    let table : c.place_or_renew.new.table.facts ≡ chosen c.place_or_renew.result (put_in m (resv_key st (it c.args.part)) (it c.args.part, a.left)) m = ap (λ (z : ResvMap). z.facts) c.place_or_renew.ensures.table ∙ ap (λ (x : Part). chosen c.place_or_renew.result (put_in m (resv_key st (it x)) (it x, a.left)) m) c.copy.ensures in
-    let all = step_so p b st a f t c.args.unit c.args.part c.confirm_of-confirm.result m es done so_far c.find-old.ensures.style c.requires.style c.requires.unit wish (rw (sym c.len.ensures.size) c.len.ensures.few) (is_some (get es key)) refl c.place_or_renew.new.table.facts c.place_or_renew.new.book.entries c.place_or_renew.result result table c.place_or_renew.ensures.book (λ x. ap (λ (z : Bookings). z.entries) (c.place_or_renew.ensures.unchanged x)) in
+    let wish = wish_asked b m a.confirm (a.session, ((a.iface, a.next), part_unit st c.args.part)) ∙ ap (λ u. or_kept a.confirm (confirm_kept (get (changed (resv_at b) m) (a.session, ((a.iface, a.next), u))))) c.requires.unit in
+    let result : (h : Facts) → resvs_of st h ≡ changed (resv_at b) m → IsBookOf h es → c.place_or_renew.result ≡ placed_in p st b it a.left h = λ h is booked. c.place_or_renew.ensures.result p b h same is booked in
+    let table : c.place_or_renew.new.table.facts ≡ chosen c.place_or_renew.result (put_in m (resv_key st it) (it, a.left)) m = ap (λ (z : ResvMap). z.facts) c.place_or_renew.ensures.table in
+    let all = step_so p b st a f t c.args.unit c.args.part it.confirm m es done so_far c.place_or_renew.ensures.style c.requires.style c.requires.unit wish (rw (sym c.len.ensures.size) c.len.ensures.few) (is_some (get es key)) refl c.place_or_renew.new.table.facts c.place_or_renew.new.book.entries c.place_or_renew.result result table c.place_or_renew.ensures.book (λ x. ap (λ (z : Bookings). z.entries) (c.place_or_renew.ensures.unchanged x)) in
     let by = done_by (is_some (get es key)) c.args.unit c.args.part done in
     subst (λ (d : Taken). IsSoFar p b st a f c.place_or_renew.new.table.facts c.place_or_renew.new.book.entries d (put_unit p (asker_at b st a) f c.args.unit (Some c.args.part) t)) (ap by c.in-LeftOut.is) all
 
@@ -45,13 +45,13 @@ returns-in-Refused-clause-step g c p b f t same so =
     let m = c.args.table.now.facts in
     let es = c.args.book.now.entries in
     let key : ℕ × EntryKey = (a.iface, record { session = a.session; style = st; unit = c.args.unit }) in
-    let it : Part → ResvFact = λ x. record { session = a.session; iface = a.iface; next = a.next; part = x; confirm = c.confirm_of-confirm.result } in
+    let it : ResvFact = asked_in st m (asked_fact a c.args.part) in
     let done : Taken = record c.args.done.now { news = c.place_or_renew.new.news } in
     let so_far = so_with p b st a f m es c.args.done.now t so c.place_or_renew.new.news in
-    let wish = c.confirm_of-confirm.ensures ∙ ap (or_kept a.confirm) (wish_is b m (a.session, ((a.iface, a.next), c.args.unit)) c.find-old.result c.find-old.ensures.fact) in
-    let result : (h : Facts) → resvs_of st h ≡ changed (resv_at b) m → IsBookOf h es → c.place_or_renew.result ≡ placed_in p st b (it c.args.part) a.left h = λ h is booked. c.place_or_renew.ensures.result p b h same is booked ∙ ap (λ (x : Part). placed_in p st b (it x) a.left h) c.copy.ensures in
-    let table : c.place_or_renew.new.table.facts ≡ chosen c.place_or_renew.result (put_in m (resv_key st (it c.args.part)) (it c.args.part, a.left)) m = ap (λ (z : ResvMap). z.facts) c.place_or_renew.ensures.table ∙ ap (λ (x : Part). chosen c.place_or_renew.result (put_in m (resv_key st (it x)) (it x, a.left)) m) c.copy.ensures in
-    let all = step_so p b st a f t c.args.unit c.args.part c.confirm_of-confirm.result m es done so_far c.find-old.ensures.style c.requires.style c.requires.unit wish (rw (sym c.len.ensures.size) c.len.ensures.few) (is_some (get es key)) refl c.place_or_renew.new.table.facts c.place_or_renew.new.book.entries c.place_or_renew.result result table c.place_or_renew.ensures.book (λ x. ap (λ (z : Bookings). z.entries) (c.place_or_renew.ensures.unchanged x)) in
+    let wish = wish_asked b m a.confirm (a.session, ((a.iface, a.next), part_unit st c.args.part)) ∙ ap (λ u. or_kept a.confirm (confirm_kept (get (changed (resv_at b) m) (a.session, ((a.iface, a.next), u))))) c.requires.unit in
+    let result : (h : Facts) → resvs_of st h ≡ changed (resv_at b) m → IsBookOf h es → c.place_or_renew.result ≡ placed_in p st b it a.left h = λ h is booked. c.place_or_renew.ensures.result p b h same is booked in
+    let table : c.place_or_renew.new.table.facts ≡ chosen c.place_or_renew.result (put_in m (resv_key st it) (it, a.left)) m = ap (λ (z : ResvMap). z.facts) c.place_or_renew.ensures.table in
+    let all = step_so p b st a f t c.args.unit c.args.part it.confirm m es done so_far c.place_or_renew.ensures.style c.requires.style c.requires.unit wish (rw (sym c.len.ensures.size) c.len.ensures.few) (is_some (get es key)) refl c.place_or_renew.new.table.facts c.place_or_renew.new.book.entries c.place_or_renew.result result table c.place_or_renew.ensures.book (λ x. ap (λ (z : Bookings). z.entries) (c.place_or_renew.ensures.unchanged x)) in
     let by = done_by (is_some (get es key)) c.args.unit c.args.part done in
     let not_taken : c.place_or_renew.result ≡ placed.Taken → ⊥ = λ x. let z : placed.Refused c.in-Refused.why ≡ placed.Taken = sym c.in-Refused.is ∙ x in cc in
     let stood : c.is_some-in_place.result ≡ is_some (get es key) =
@@ -69,13 +69,13 @@ returns-in-Ok-clause-step g c p b f t same so =
     let m = c.args.table.now.facts in
     let es = c.args.book.now.entries in
     let key : ℕ × EntryKey = (a.iface, record { session = a.session; style = st; unit = c.args.unit }) in
-    let it : Part → ResvFact = λ x. record { session = a.session; iface = a.iface; next = a.next; part = x; confirm = c.confirm_of-confirm.result } in
+    let it : ResvFact = asked_in st m (asked_fact a c.args.part) in
     let done : Taken = record c.args.done.now { news = c.place_or_renew.new.news } in
     let so_far = so_with p b st a f m es c.args.done.now t so c.place_or_renew.new.news in
-    let wish = c.confirm_of-confirm.ensures ∙ ap (or_kept a.confirm) (wish_is b m (a.session, ((a.iface, a.next), c.args.unit)) c.find-old.result c.find-old.ensures.fact) in
-    let result : (h : Facts) → resvs_of st h ≡ changed (resv_at b) m → IsBookOf h es → c.place_or_renew.result ≡ placed_in p st b (it c.args.part) a.left h = λ h is booked. c.place_or_renew.ensures.result p b h same is booked ∙ ap (λ (x : Part). placed_in p st b (it x) a.left h) c.copy.ensures in
-    let table : c.place_or_renew.new.table.facts ≡ chosen c.place_or_renew.result (put_in m (resv_key st (it c.args.part)) (it c.args.part, a.left)) m = ap (λ (z : ResvMap). z.facts) c.place_or_renew.ensures.table ∙ ap (λ (x : Part). chosen c.place_or_renew.result (put_in m (resv_key st (it x)) (it x, a.left)) m) c.copy.ensures in
-    let all = step_so p b st a f t c.args.unit c.args.part c.confirm_of-confirm.result m es done so_far c.find-old.ensures.style c.requires.style c.requires.unit wish (rw (sym c.len.ensures.size) c.len.ensures.few) (is_some (get es key)) refl c.place_or_renew.new.table.facts c.place_or_renew.new.book.entries c.place_or_renew.result result table c.place_or_renew.ensures.book (λ x. ap (λ (z : Bookings). z.entries) (c.place_or_renew.ensures.unchanged x)) in
+    let wish = wish_asked b m a.confirm (a.session, ((a.iface, a.next), part_unit st c.args.part)) ∙ ap (λ u. or_kept a.confirm (confirm_kept (get (changed (resv_at b) m) (a.session, ((a.iface, a.next), u))))) c.requires.unit in
+    let result : (h : Facts) → resvs_of st h ≡ changed (resv_at b) m → IsBookOf h es → c.place_or_renew.result ≡ placed_in p st b it a.left h = λ h is booked. c.place_or_renew.ensures.result p b h same is booked in
+    let table : c.place_or_renew.new.table.facts ≡ chosen c.place_or_renew.result (put_in m (resv_key st it) (it, a.left)) m = ap (λ (z : ResvMap). z.facts) c.place_or_renew.ensures.table in
+    let all = step_so p b st a f t c.args.unit c.args.part it.confirm m es done so_far c.place_or_renew.ensures.style c.requires.style c.requires.unit wish (rw (sym c.len.ensures.size) c.len.ensures.few) (is_some (get es key)) refl c.place_or_renew.new.table.facts c.place_or_renew.new.book.entries c.place_or_renew.result result table c.place_or_renew.ensures.book (λ x. ap (λ (z : Bookings). z.entries) (c.place_or_renew.ensures.unchanged x)) in
     let by = done_by (is_some (get es key)) c.args.unit c.args.part done in
     subst (λ (d : Taken). IsSoFar p b st a f c.place_or_renew.new.table.facts c.place_or_renew.new.book.entries d (put_unit p (asker_at b st a) f c.args.unit (Some c.args.part) t)) (ap by c.in-Taken.is ∙ (λ i. record done { parts = sym c.in-Ok.ensures.ok i })) all
 
