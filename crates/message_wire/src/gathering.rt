@@ -1,13 +1,15 @@
 //! What objects say together.
-ghost use Rattle.std.specs.Prelude.{◌≡◌, [], length};
+ghost use Rattle.std.specs.Prelude.{◌≡◌, []};
+ghost use Rattle.rsvp_objects.specs.Classes as number;
+ghost use Rattle.rsvp_objects.specs.Reading.{body_of};
 ghost use Rattle.rsvp_objects.specs.declared.object.Object.TheVariants as AnObject;
-ghost use Rattle.message_wire.specs.Places.{HasRoom};
 ghost use Rattle.message_wire.specs.Said.{seen_of, with_object};
+ghost use Rattle.message_wire.specs.Taking.{Reads};
 
 use crate::filters::Filters;
 use crate::seen::Seen;
-use rsvp_base::{Addr, ErrSpec, Flow, Hop, Sender, Senders, Session, StyleKind};
-use rsvp_objects::{Adspec, Class, Object};
+use rsvp_messages::Fault;
+use rsvp_objects::{Class, ObjErr, read};
 
 impl Seen {
     /// What no objects say.
@@ -34,159 +36,190 @@ impl Seen {
         }
     }
 
-    /// Adds what one more object says.
-    pub fn add(&mut self, object: Object)
-        requires { HasRoom self.old object }
-        ensures { self.new ≡ with_object self.old object }
-    {
-        match object {
-            Object::Skipped { class } => self.add_skipped(Class(class)),
-            Object::Session { session, police } => self.add_session(session, police),
-            Object::HopOf(hop) => self.add_hop(hop),
-            Object::Time(period) => self.add_period(period),
-            Object::Error(error) => self.add_error(error),
-            Object::Scope(senders) => self.add_scope(senders),
-            Object::StyleOf(style) => self.add_style(style),
-            Object::FlowOf(flow) => self.add_flow(flow),
-            Object::Filter(sender) => self.add_filter(sender),
-            Object::Template(sender) => self.add_template(sender),
-            Object::Tspec(flow) => self.add_tspec(flow),
-            Object::Advert(adspec) => self.add_advert(adspec),
-            Object::Confirm(addr) => self.add_confirm(addr),
-        }
-    }
-
     /// Adds an object of a class, which is skipped.
     #[tactic(auto, unfolding(crate::specs::Said::with_object))]
     #[inline(always)]
-    pub(crate) fn add_skipped(&mut self, class: Class)
+    pub(crate) fn skip(&mut self, class: Class)
         ensures { self.new ≡ with_object self.old (AnObject.Skipped class.0) }
     {
         self.begun = self.begun || class != Class::NULL;
         self.adspec = self.adspec || class == Class::ADSPEC;
     }
 
-    /// Adds what a SESSION says.
+    /// Adds what a SESSION with these contents says. Else its fault; `at` is its place.
     #[tactic(auto, unfolding(crate::specs::Said::with_object))]
     #[inline(always)]
-    pub(crate) fn add_session(&mut self, session: Session, police: bool)
-        ensures { self.new ≡ with_object self.old (AnObject.Session session police) }
+    pub(crate) fn read_session(&mut self, at: u16, ctype: u8, body: &[u8]) -> Result<(), Fault>
+        ensures { Reads (body_of at number.session ctype body.now) at self.old self.new result }
     {
+        match read::session(at, ctype, body) {
+            Ok(session) => self.session = Some(session),
+            Err(fault) => return Err(Fault::Object(fault)),
+        }
         self.begun = true;
-        self.session = Some((session, police));
+        Ok(())
     }
 
-    /// Adds what an RSVP_HOP says.
+    /// Adds what an RSVP_HOP with these contents says. Else its fault; `at` is its place.
     #[tactic(auto, unfolding(crate::specs::Said::with_object))]
     #[inline(always)]
-    pub(crate) fn add_hop(&mut self, hop: Hop)
-        ensures { self.new ≡ with_object self.old (AnObject.HopOf hop) }
+    pub(crate) fn read_hop(&mut self, at: u16, ctype: u8, body: &[u8]) -> Result<(), Fault>
+        ensures { Reads (body_of at number.rsvp_hop ctype body.now) at self.old self.new result }
     {
+        match read::hop(at, ctype, body) {
+            Ok(hop) => self.hop = Some(hop),
+            Err(fault) => return Err(Fault::Object(fault)),
+        }
         self.begun = true;
-        self.hop = Some(hop);
+        Ok(())
     }
 
-    /// Adds what a TIME_VALUES says.
+    /// Adds what a TIME_VALUES with these contents says. Else its fault; `at` is its place.
     #[tactic(auto, unfolding(crate::specs::Said::with_object))]
     #[inline(always)]
-    pub(crate) fn add_period(&mut self, period: u32)
-        ensures { self.new ≡ with_object self.old (AnObject.Time period) }
+    pub(crate) fn read_time(&mut self, at: u16, ctype: u8, body: &[u8]) -> Result<(), Fault>
+        ensures { Reads (body_of at number.time_values ctype body.now) at self.old self.new result }
     {
+        match read::time(at, ctype, body) {
+            Ok(period) => self.period = Some(period),
+            Err(fault) => return Err(Fault::Object(fault)),
+        }
         self.begun = true;
-        self.period = Some(period);
+        Ok(())
     }
 
-    /// Adds what an ERROR_SPEC says.
+    /// Adds what an ERROR_SPEC with these contents says. Else its fault; `at` is its place.
     #[tactic(auto, unfolding(crate::specs::Said::with_object))]
     #[inline(always)]
-    pub(crate) fn add_error(&mut self, error: ErrSpec)
-        ensures { self.new ≡ with_object self.old (AnObject.Error error) }
+    pub(crate) fn read_error(&mut self, at: u16, ctype: u8, body: &[u8]) -> Result<(), Fault>
+        ensures { Reads (body_of at number.error_spec ctype body.now) at self.old self.new result }
     {
+        match read::error(at, ctype, body) {
+            Ok(error) => self.error = Some(error),
+            Err(fault) => return Err(Fault::Object(fault)),
+        }
         self.begun = true;
-        self.error = Some(error);
+        Ok(())
     }
 
-    /// Adds what a SCOPE says.
+    /// Adds what a SCOPE with these contents says. Else its fault; `at` is its place.
     #[tactic(auto, unfolding(crate::specs::Said::with_object))]
     #[inline(always)]
-    pub(crate) fn add_scope(&mut self, senders: Senders)
-        ensures { self.new ≡ with_object self.old (AnObject.Scope senders) }
+    pub(crate) fn read_scope(&mut self, at: u16, ctype: u8, body: &[u8]) -> Result<(), Fault>
+        ensures { Reads (body_of at number.scope ctype body.now) at self.old self.new result }
     {
+        match read::scope(at, ctype, body) {
+            Ok(senders) => self.scope = Some(senders),
+            Err(fault) => return Err(Fault::Object(fault)),
+        }
         self.begun = true;
-        self.scope = Some(senders);
+        Ok(())
     }
 
-    /// Adds what a STYLE says.
+    /// Adds what a STYLE with these contents says. Else its fault; `at` is its place.
     #[tactic(auto, unfolding(crate::specs::Said::with_object))]
     #[inline(always)]
-    pub(crate) fn add_style(&mut self, style: StyleKind)
-        ensures { self.new ≡ with_object self.old (AnObject.StyleOf style) }
+    pub(crate) fn read_style(&mut self, at: u16, ctype: u8, body: &[u8]) -> Result<(), Fault>
+        ensures { Reads (body_of at number.style ctype body.now) at self.old self.new result }
     {
+        match read::style(at, ctype, body) {
+            Ok(style) => self.style = Some(style),
+            Err(fault) => return Err(Fault::Object(fault)),
+        }
         self.begun = true;
-        self.style = Some(style);
+        Ok(())
     }
 
-    /// Adds what a FLOWSPEC says.
+    /// Adds what a FLOWSPEC with these contents says. Else its fault; `at` is its place.
     #[tactic(auto, unfolding(crate::specs::Said::with_object))]
     #[inline(always)]
-    pub(crate) fn add_flow(&mut self, flow: Flow)
-        ensures { self.new ≡ with_object self.old (AnObject.FlowOf flow) }
+    pub(crate) fn read_flow(&mut self, at: u16, ctype: u8, body: &[u8]) -> Result<(), Fault>
+        ensures { Reads (body_of at number.flowspec ctype body.now) at self.old self.new result }
     {
+        match read::flow_spec(at, ctype, body) {
+            Ok(flow) => self.flow = Some(flow),
+            Err(fault) => return Err(Fault::Object(fault)),
+        }
         self.begun = true;
-        self.flow = Some(flow);
         self.due = true;
+        Ok(())
     }
 
-    /// Adds what a FILTER_SPEC says.
+    /// Adds what a SENDER_TEMPLATE with these contents says. Else its fault; `at` is its place.
     #[tactic(auto, unfolding(crate::specs::Said::with_object))]
     #[inline(always)]
-    pub(crate) fn add_filter(&mut self, sender: Sender)
-        requires { length self.old.filters ≡ 16 → ⊥ }
-        ensures { self.new ≡ with_object self.old (AnObject.Filter sender) }
+    pub(crate) fn read_template(&mut self, at: u16, ctype: u8, body: &[u8]) -> Result<(), Fault>
+        ensures { Reads (body_of at number.sender_template ctype body.now) at self.old self.new result }
     {
+        match read::template(at, ctype, body) {
+            Ok(sender) => self.template = Some(sender),
+            Err(fault) => return Err(Fault::Object(fault)),
+        }
+        self.begun = true;
+        Ok(())
+    }
+
+    /// Adds what a SENDER_TSPEC with these contents says. Else its fault; `at` is its place.
+    #[tactic(auto, unfolding(crate::specs::Said::with_object))]
+    #[inline(always)]
+    pub(crate) fn read_tspec(&mut self, at: u16, ctype: u8, body: &[u8]) -> Result<(), Fault>
+        ensures { Reads (body_of at number.sender_tspec ctype body.now) at self.old self.new result }
+    {
+        match read::tspec(at, ctype, body) {
+            Ok(flow) => self.tspec = Some(flow),
+            Err(fault) => return Err(Fault::Object(fault)),
+        }
+        self.begun = true;
+        Ok(())
+    }
+
+    /// Adds what a RESV_CONFIRM with these contents says. Else its fault; `at` is its place.
+    #[tactic(auto, unfolding(crate::specs::Said::with_object))]
+    #[inline(always)]
+    pub(crate) fn read_confirm(&mut self, at: u16, ctype: u8, body: &[u8]) -> Result<(), Fault>
+        ensures { Reads (body_of at number.resv_confirm ctype body.now) at self.old self.new result }
+    {
+        match read::confirm(at, ctype, body) {
+            Ok(addr) => self.confirm = Some(addr),
+            Err(fault) => return Err(Fault::Object(fault)),
+        }
+        self.begun = true;
+        Ok(())
+    }
+
+    /// Adds what a FILTER_SPEC with these contents says. Else its fault; `at` is its place.
+    #[tactic(auto, unfolding(crate::specs::Said::with_object))]
+    #[inline(always)]
+    pub(crate) fn read_filter(&mut self, at: u16, ctype: u8, body: &[u8]) -> Result<(), Fault>
+        ensures { Reads (body_of at number.filter_spec ctype body.now) at self.old self.new result }
+    {
+        let sender = match read::filter(at, ctype, body) {
+            Ok(sender) => sender,
+            Err(fault) => return Err(Fault::Object(fault)),
+        };
+        if self.filters.has(sender) {
+            return Err(Fault::Repeated(at));
+        }
+        if self.filters.is_full() {
+            return Err(Fault::Object(ObjErr::Crowd(at)));
+        }
         self.begun = true;
         self.filters.push(sender, self.flow);
         self.due = false;
+        Ok(())
     }
 
-    /// Adds what a SENDER_TEMPLATE says.
-    #[tactic(auto, unfolding(crate::specs::Said::with_object))]
+    /// Adds what an ADSPEC with these contents says. One that is not of its form is skipped.
+    #[tactic(auto, unfolding(crate::specs::Said::with_object, rsvp_objects::specs::Reading::body_of))]
     #[inline(always)]
-    pub(crate) fn add_template(&mut self, sender: Sender)
-        ensures { self.new ≡ with_object self.old (AnObject.Template sender) }
+    pub(crate) fn read_adspec(&mut self, at: u16, ctype: u8, body: &[u8]) -> Result<(), Fault>
+        ensures { Reads (body_of at number.adspec ctype body.now) at self.old self.new result }
     {
-        self.begun = true;
-        self.template = Some(sender);
-    }
-
-    /// Adds what a SENDER_TSPEC says.
-    #[tactic(auto, unfolding(crate::specs::Said::with_object))]
-    #[inline(always)]
-    pub(crate) fn add_tspec(&mut self, flow: Flow)
-        ensures { self.new ≡ with_object self.old (AnObject.Tspec flow) }
-    {
-        self.begun = true;
-        self.tspec = Some(flow);
-    }
-
-    /// Adds what an ADSPEC says.
-    #[tactic(auto, unfolding(crate::specs::Said::with_object))]
-    #[inline(always)]
-    pub(crate) fn add_advert(&mut self, adspec: Adspec)
-        ensures { self.new ≡ with_object self.old (AnObject.Advert adspec) }
-    {
+        if let Some(adspec) = read::adspec(ctype, body) {
+            self.advert = Some(adspec);
+        }
         self.begun = true;
         self.adspec = true;
-        self.advert = Some(adspec);
-    }
-
-    /// Adds what a RESV_CONFIRM says.
-    #[tactic(auto, unfolding(crate::specs::Said::with_object))]
-    #[inline(always)]
-    pub(crate) fn add_confirm(&mut self, addr: Addr)
-        ensures { self.new ≡ with_object self.old (AnObject.Confirm addr) }
-    {
-        self.begun = true;
-        self.confirm = Some(addr);
+        Ok(())
     }
 }

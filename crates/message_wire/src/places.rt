@@ -1,15 +1,14 @@
 //! Where objects may stand in messages.
 ghost use Rattle.std.specs.Prelude.{◌≡◌};
-ghost use Rattle.rsvp_objects.specs.declared.object.Object.TheVariants as AnObject;
 ghost use Rattle.message_wire.specs.Table.{role_of};
-ghost use Rattle.message_wire.specs.Places.{has_no_filter, list_place, error_place, tear_place, place_after_style, has_place, stood, is_repeated, name_fault};
+ghost use Rattle.message_wire.specs.Places.{has_no_filter, list_place, error_place, tear_place, place_after_style, has_place, stood, is_repeated};
 
 use crate::role::Role;
 use crate::seen::Seen;
 use crate::table::is_anywhere;
-use rsvp_base::{Sender, StyleKind};
-use rsvp_messages::{Fault, Kind};
-use rsvp_objects::{Class, ObjErr, Object};
+use rsvp_base::StyleKind;
+use rsvp_messages::Kind;
+use rsvp_objects::Class;
 
 /// Whether an object of this class, of this role in the kind, may stand behind those that were seen.
 #[tactic(auto, unfolding(crate::specs::Places::has_place))]
@@ -128,28 +127,4 @@ fn stood(seen: &Seen, class: Class) -> bool
         Class::ADSPEC => seen.adspec,
         _ => seen.confirm.is_some(),
     }
-}
-
-/// The fault of a FILTER_SPEC whose sender stood in the list before, or is a 17th. `at` is its place.
-pub fn name_fault(at: u16, seen: &Seen, object: &Object) -> Option<Fault>
-    ensures { result ≡ name_fault at seen.now object.now }
-{
-    let Object::Filter(sender) = object else {
-        return None;
-    };
-    filter_fault(at, seen, *sender)
-}
-
-/// The same where the sender is at hand.
-#[inline(always)]
-pub fn filter_fault(at: u16, seen: &Seen, sender: Sender) -> Option<Fault>
-    ensures { result ≡ name_fault at seen.now (AnObject.Filter sender) }
-{
-    if seen.filters.has(sender) {
-        return Some(Fault::Repeated(at));
-    }
-    if seen.filters.is_full() {
-        return Some(Fault::Object(ObjErr::Crowd(at)));
-    }
-    None
 }
