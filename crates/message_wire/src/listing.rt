@@ -3,19 +3,20 @@
 //! None of them is answered in an `Option`, whose place would be cleared and copied: that there is one is asked first, and then it is
 //! made where it is wanted.
 ghost use Rattle.std.specs.Prelude.{◌≡◌, ◌≤◌, ◌<◌, ◌+◌, ◌∷◌, ◌↔◌, [], length, IsTrue, Some, None, IfSome, IfNone};
-ghost use Rattle.rsvp_base.specs.Orders.{names_from};
+ghost use Rattle.rsvp_base.specs.declared.style.StyleKind.TheVariants as AStyle;
 ghost use Rattle.rsvp_base.specs.Sets.{with_key};
 ghost use Rattle.rsvp_base.specs.Table.{empty, put_in, size, with_rows};
-ghost use Rattle.message_wire.specs.Firsts.{IsFirst};
-ghost use Rattle.message_wire.specs.Messages.{names_in, named, pairs_in, table_of_pairs};
+ghost use Rattle.message_wire.specs.Firsts.{IsFirst, IsStart, LacksFilter};
+ghost use Rattle.message_wire.specs.Messages.{names_in, named, first_named, pairs_in, table_of_pairs};
 
 use crate::filters::Filters;
-use rsvp_base::{Flow, Sender, Senders};
+use crate::seen::Seen;
+use rsvp_base::{Flow, Sender, Senders, StyleKind};
 use rsvp_messages::FixedList;
 
 /// Whether there are no filters.
 pub fn is_nobody_named(filters: &Filters) -> bool
-    ensures { IsTrue result ↔ (named filters.now ≡ None) }
+    ensures { IsTrue result ↔ (filters.now ≡ []) }
 {
     filters.as_slice().is_empty()
 }
@@ -23,10 +24,25 @@ pub fn is_nobody_named(filters: &Filters) -> bool
 /// The senders of filters, of which there is one.
 #[inline(always)]
 pub fn names(filters: &Filters) -> Senders
-    requires { named filters.now ≡ None → ⊥ }
+    requires { filters.now ≡ [] → ⊥ }
     ensures { named filters.now ≡ Some result }
 {
     names_of(filters.as_slice())
+}
+
+/// The senders that a ResvErr of FF or SE blames, of which there is one: of FF the first.
+#[inline(always)]
+pub fn blamed(style: StyleKind, filters: &Filters) -> Senders
+    requires { filters.now ≡ [] → ⊥ }
+    ensures fixed { style ≡ AStyle.Fixed → first_named filters.now ≡ Some result }
+    ensures shared { style ≡ AStyle.Shared → named filters.now ≡ Some result }
+{
+    let filters = filters.as_slice();
+    names_of(if style == StyleKind::Fixed {
+        &filters[..1]
+    } else {
+        filters
+    })
 }
 
 #[inline(always)]
@@ -41,21 +57,48 @@ fn names_of(filters: &[(Sender, Option<Flow>)]) -> Senders
     senders
 }
 
-/// The list of one sender.
-#[inline(always)]
-pub fn one_name(sender: Sender) -> Senders
-    ensures { result ≡ names_from (sender ∷ []) }
-{
-    let mut senders = Senders::new();
-    add(&mut senders, sender);
-    senders
-}
-
 fn add(senders: &mut Senders, sender: Sender)
     requires { size senders.old < 16 }
     ensures { senders.new ≡ with_key senders.old sender }
 {
     let _ = senders.insert(sender);
+}
+
+/// How the list of a style begins.
+#[derive(Clone, Copy)]
+pub enum Start {
+    /// It names nobody.
+    Wild,
+    /// With this filter, behind which there may be others.
+    Fixed(First),
+    /// With whichever filter, of which there is one.
+    Shared,
+}
+
+/// How the list of a style begins. `None` exactly where a FILTER_SPEC is missing.
+#[inline(always)]
+pub fn start_of(style: StyleKind, seen: &Seen) -> Option<Start>
+    ensures some { IfSome result (IsStart style seen.now) }
+    ensures none { IfNone result (LacksFilter style seen.now) }
+{
+    match style {
+        StyleKind::Wild => Some(Start::Wild),
+        StyleKind::Fixed => {
+            if seen.due {
+                return None;
+            }
+            match first_with_flow(&seen.filters) {
+                None => None,
+                Some(first) => Some(Start::Fixed(first)),
+            }
+        }
+        StyleKind::Shared => {
+            if is_nobody_named(&seen.filters) {
+                return None;
+            }
+            Some(Start::Shared)
+        }
+    }
 }
 
 /// A filter that is the first with a flow.

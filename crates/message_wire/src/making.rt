@@ -1,9 +1,10 @@
 //! Messages from what their objects say, or the lowest class that is missing, with what could be read. What is said by lists is
 //! moved out.
 //!
-//! Each kind has a function of its own, and in it each style returns by itself, so that a message is made where it is answered: it
-//! is large, and each further place for one would be cleared and copied. For the same reason each such function is a part of the
-//! one that calls it, and a list is made where it is answered, once it is known that there is one.
+//! Each kind has a function of its own, and in that of a Resv or ResvConf each style returns by itself, so that a message is made
+//! where it is answered: it is large, and each further place for one would be cleared and copied. For the same reason each such
+//! function is a part of the one that calls it, and a list is made where it is answered, once it is known that there is one. A list
+//! of flow descriptors is the largest part, and no function answers one.
 ghost use Rattle.std.specs.Prelude.{◌≡◌, ◌≤◌, length, Some};
 ghost use Rattle.rsvp_messages.specs.declared.fault.Fault.TheVariants as AFault;
 ghost use Rattle.rsvp_messages.specs.declared.message.Kind.TheVariants as AKind;
@@ -12,7 +13,7 @@ ghost use Rattle.message_wire.specs.Hints.{IsHint};
 ghost use Rattle.message_wire.specs.Messages.{sender_of};
 
 use crate::hinting::hint;
-use crate::listing::{first_with_flow, is_nobody_named, names, one_name, put_others};
+use crate::listing::{Start, blamed, is_nobody_named, names, put_others, start_of};
 use crate::seen::Seen;
 use rsvp_base::{Flow, Part, Sender, StyleKind};
 use rsvp_messages::{
@@ -114,74 +115,43 @@ pub fn resv_err(seen: &mut Seen, bytes: &[u8]) -> Result<Message, MsgErr>
     let Some(style) = seen.style else {
         return Err(lacking(Kind::ResvErr, Class::STYLE, bytes));
     };
-    match style {
-        StyleKind::Wild => {
-            return Ok(Message::ResvErr(ResvErrMsg {
-                session,
-                hop,
-                err,
-                blame: Blame {
-                    style,
-                    senders: seen.scope.take(),
-                    flow: seen.flow,
-                },
-            }));
-        }
-        StyleKind::Fixed => {
-            let Some(flow) = seen.flow else {
-                return Ok(Message::ResvErr(ResvErrMsg {
-                    session,
-                    hop,
-                    err,
-                    blame: Blame {
-                        style,
-                        senders: None,
-                        flow: None,
-                    },
-                }));
-            };
-            let [first, ..] = seen.filters.as_slice() else {
-                return Err(lacking(Kind::ResvErr, Class::FILTER_SPEC, bytes));
-            };
-            return Ok(Message::ResvErr(ResvErrMsg {
-                session,
-                hop,
-                err,
-                blame: Blame {
-                    style,
-                    senders: Some(one_name(first.0)),
-                    flow: Some(flow),
-                },
-            }));
-        }
-        StyleKind::Shared => {
-            let Some(flow) = seen.flow else {
-                return Ok(Message::ResvErr(ResvErrMsg {
-                    session,
-                    hop,
-                    err,
-                    blame: Blame {
-                        style,
-                        senders: None,
-                        flow: None,
-                    },
-                }));
-            };
-            if is_nobody_named(&seen.filters) {
-                return Err(lacking(Kind::ResvErr, Class::FILTER_SPEC, bytes));
-            }
-            return Ok(Message::ResvErr(ResvErrMsg {
-                session,
-                hop,
-                err,
-                blame: Blame {
-                    style,
-                    senders: Some(names(&seen.filters)),
-                    flow: Some(flow),
-                },
-            }));
-        }
+    if style == StyleKind::Wild {
+        return Ok(Message::ResvErr(ResvErrMsg {
+            session,
+            hop,
+            err,
+            blame: Blame {
+                style,
+                senders: seen.scope.take(),
+                flow: seen.flow,
+            },
+        }));
     }
+    let Some(flow) = seen.flow else {
+        return Ok(Message::ResvErr(ResvErrMsg {
+            session,
+            hop,
+            err,
+            blame: Blame {
+                style,
+                senders: None,
+                flow: None,
+            },
+        }));
+    };
+    if is_nobody_named(&seen.filters) {
+        return Err(lacking(Kind::ResvErr, Class::FILTER_SPEC, bytes));
+    }
+    Ok(Message::ResvErr(ResvErrMsg {
+        session,
+        hop,
+        err,
+        blame: Blame {
+            style,
+            senders: Some(blamed(style, &seen.filters)),
+            flow: Some(flow),
+        },
+    }))
 }
 
 /// What is told of a ResvTear.
@@ -201,37 +171,20 @@ pub fn resv_tear(seen: &mut Seen, bytes: &[u8]) -> Result<Message, MsgErr>
     let Some(style) = seen.style else {
         return Err(lacking(Kind::ResvTear, Class::STYLE, bytes));
     };
-    match style {
-        StyleKind::Wild => {
-            return Ok(Message::ResvTear(ResvTearMsg {
-                session,
-                hop,
-                tear: Tear::Wild {
-                    scope: seen.scope.take(),
-                },
-            }));
-        }
-        StyleKind::Fixed => {
-            if is_nobody_named(&seen.filters) {
-                return Err(lacking(Kind::ResvTear, Class::FILTER_SPEC, bytes));
-            }
-            return Ok(Message::ResvTear(ResvTearMsg {
-                session,
-                hop,
-                tear: Tear::Fixed(names(&seen.filters)),
-            }));
-        }
-        StyleKind::Shared => {
-            if is_nobody_named(&seen.filters) {
-                return Err(lacking(Kind::ResvTear, Class::FILTER_SPEC, bytes));
-            }
-            return Ok(Message::ResvTear(ResvTearMsg {
-                session,
-                hop,
-                tear: Tear::Shared(names(&seen.filters)),
-            }));
-        }
+    if style != StyleKind::Wild && is_nobody_named(&seen.filters) {
+        return Err(lacking(Kind::ResvTear, Class::FILTER_SPEC, bytes));
     }
+    Ok(Message::ResvTear(ResvTearMsg {
+        session,
+        hop,
+        tear: match style {
+            StyleKind::Wild => Tear::Wild {
+                scope: seen.scope.take(),
+            },
+            StyleKind::Fixed => Tear::Fixed(names(&seen.filters)),
+            StyleKind::Shared => Tear::Shared(names(&seen.filters)),
+        },
+    }))
 }
 
 /// What is told of a Resv.
@@ -257,8 +210,11 @@ pub fn resv(seen: &mut Seen, bytes: &[u8]) -> Result<Message, MsgErr>
     let Some(flow) = seen.flow else {
         return Err(lacking(Kind::Resv, Class::FLOWSPEC, bytes));
     };
-    match style {
-        StyleKind::Wild => {
+    let Some(start) = start_of(style, seen) else {
+        return Err(lacking(Kind::Resv, Class::FILTER_SPEC, bytes));
+    };
+    match start {
+        Start::Wild => {
             return Ok(Message::Resv(ResvMsg {
                 session,
                 hop,
@@ -270,13 +226,7 @@ pub fn resv(seen: &mut Seen, bytes: &[u8]) -> Result<Message, MsgErr>
                 },
             }));
         }
-        StyleKind::Fixed => {
-            if seen.due {
-                return Err(lacking(Kind::Resv, Class::FILTER_SPEC, bytes));
-            }
-            let Some(first) = first_with_flow(&seen.filters) else {
-                return Err(lacking(Kind::Resv, Class::FILTER_SPEC, bytes));
-            };
+        Start::Fixed(first) => {
             let mut list = FixedList::new(first.sender, first.flow);
             put_others(&mut list, &seen.filters, &first);
             return Ok(Message::Resv(ResvMsg {
@@ -287,10 +237,7 @@ pub fn resv(seen: &mut Seen, bytes: &[u8]) -> Result<Message, MsgErr>
                 ask: Ask::Fixed(list),
             }));
         }
-        StyleKind::Shared => {
-            if is_nobody_named(&seen.filters) {
-                return Err(lacking(Kind::Resv, Class::FILTER_SPEC, bytes));
-            }
+        Start::Shared => {
             return Ok(Message::Resv(ResvMsg {
                 session,
                 hop,
@@ -325,11 +272,14 @@ pub fn resv_conf(seen: &Seen, bytes: &[u8]) -> Result<Message, MsgErr>
     let Some(flow) = seen.flow else {
         return Err(lacking(Kind::ResvConf, Class::FLOWSPEC, bytes));
     };
-    match style {
-        StyleKind::Wild => {
-            let Some(confirm) = seen.confirm else {
-                return Err(lacking(Kind::ResvConf, Class::RESV_CONFIRM, bytes));
-            };
+    let Some(start) = start_of(style, seen) else {
+        return Err(lacking(Kind::ResvConf, Class::FILTER_SPEC, bytes));
+    };
+    let Some(confirm) = seen.confirm else {
+        return Err(lacking(Kind::ResvConf, Class::RESV_CONFIRM, bytes));
+    };
+    match start {
+        Start::Wild => {
             return Ok(Message::ResvConf(ResvConfMsg {
                 session,
                 err,
@@ -337,16 +287,7 @@ pub fn resv_conf(seen: &Seen, bytes: &[u8]) -> Result<Message, MsgErr>
                 ask: Ask::Wild { scope: None, flow },
             }));
         }
-        StyleKind::Fixed => {
-            if seen.due {
-                return Err(lacking(Kind::ResvConf, Class::FILTER_SPEC, bytes));
-            }
-            let Some(first) = first_with_flow(&seen.filters) else {
-                return Err(lacking(Kind::ResvConf, Class::FILTER_SPEC, bytes));
-            };
-            let Some(confirm) = seen.confirm else {
-                return Err(lacking(Kind::ResvConf, Class::RESV_CONFIRM, bytes));
-            };
+        Start::Fixed(first) => {
             let mut list = FixedList::new(first.sender, first.flow);
             put_others(&mut list, &seen.filters, &first);
             return Ok(Message::ResvConf(ResvConfMsg {
@@ -356,13 +297,7 @@ pub fn resv_conf(seen: &Seen, bytes: &[u8]) -> Result<Message, MsgErr>
                 ask: Ask::Fixed(list),
             }));
         }
-        StyleKind::Shared => {
-            if is_nobody_named(&seen.filters) {
-                return Err(lacking(Kind::ResvConf, Class::FILTER_SPEC, bytes));
-            }
-            let Some(confirm) = seen.confirm else {
-                return Err(lacking(Kind::ResvConf, Class::RESV_CONFIRM, bytes));
-            };
+        Start::Shared => {
             return Ok(Message::ResvConf(ResvConfMsg {
                 session,
                 err,
