@@ -36,20 +36,26 @@ pub not_false : (b : Bool) → not b ≡ false → b ≡ true
 not_false true e = refl
 not_false false e = cc
 
-found_is : (x y : Object) (m n : ℕ) → found x m ≡ found y n → x ≡ y
-found_is x y m n e = let pairs : ◌≡◌ {A = Object × ℕ} (x, m) (y, n) = good_is e in ap (λ (p : Object × ℕ). p.0) pairs
-
-named_is : (end next : ℕ) (x y : Object) (f : Option Fault) → with_name end y f ≡ found x next → (y ≡ x) × (f ≡ None)
-named_is end next x y None e = (found_is y x end next e, refl)
+-- so are its end and the fault of its name
+named_is : (end next : ℕ) (x y : Object) (f : Option Fault) → with_name end y f ≡ found x next → (y ≡ x) × (f ≡ None) × (end ≡ next)
+named_is end next x y None e =
+    let pairs : ◌≡◌ {A = Object × ℕ} (y, end) (x, next) = good_is e in
+    (ap (λ (p : Object × ℕ). p.0) pairs, refl, ap (λ (p : Object × ℕ). p.1) pairs)
 named_is end next x y (Some g) e = absurd cc
 
-body_is : (at : ℕ) (s : Seen) (end next : ℕ) (x : Object) (r : Result Object ObjErr) → by_body at s end r ≡ found x next → (r ≡ Ok x) × (name_fault at s x ≡ None)
+body_is : (at : ℕ) (s : Seen) (end next : ℕ) (x : Object) (r : Result Object ObjErr)
+    → by_body at s end r ≡ found x next → (r ≡ Ok x) × (name_fault at s x ≡ None) × (end ≡ next)
 body_is at s end next x (Ok y) e =
     let n = named_is end next x y (name_fault at s y) e in
-    (ap (λ (z : Object). Ok z) n.0, subst (λ (z : Object). name_fault at s z ≡ None) n.0 n.1)
+    (ap (λ (z : Object). Ok z) n.0, subst (λ (z : Object). name_fault at s z ≡ None) n.0 n.1, n.2)
 body_is at s end next x (Err g) e = absurd cc
 
-head_is : (kind : Kind) (s : Seen) (at : ℕ) (b : List ℕ) (x : Object) (next : ℕ) (r : Result Head ObjErr) → head_of at (drop at b) ≡ r → by_head kind s at b r ≡ found x next → IsPlaced kind s at b x
+-- in its place, and with the next object behind it
+abbrev IsPlacedBefore : Kind → Seen → ℕ → List ℕ → Object → ℕ → Type 0
+IsPlacedBefore kind s at b x next = (p : IsPlaced kind s at b x) × (p.head.end ≡ next)
+
+head_is : (kind : Kind) (s : Seen) (at : ℕ) (b : List ℕ) (x : Object) (next : ℕ) (r : Result Head ObjErr)
+    → head_of at (drop at b) ≡ r → by_head kind s at b r ≡ found x next → IsPlacedBefore kind s at b x next
 head_is kind s at b x next (Err g) is e = absurd cc
 head_is kind s at b x next (Ok h) is e =
     elim (chosen (is_unknown h.class.0) _ _ _ e) [
@@ -60,48 +66,33 @@ head_is kind s at b x next (Ok h) is e =
           | inl r ↦ absurd (let z = r.1 in cc)
           | inr r ↦
               let body = body_is at s h.end next x (read_in kind at h.class.0 h.ctype (contents_at at h b)) r.1 in
-              record { head = h; is_head = is; is_read = body.0; place = not_false (has_place kind s h.class.0) q.0; once = r.0; name = body.1 }
+              let place = not_false (has_place kind s h.class.0) q.0 in
+              (record { head = h; is_head = is; is_read = body.0; place = place; once = r.0; name = body.1 }, body.2)
         ]
       ]
     ]
 
--- where the next object begins
-end_is : (end next : ℕ) (x y : Object) (f : Option Fault) → with_name end y f ≡ found x next → end ≡ next
-end_is end next x y None e = let pairs : ◌≡◌ {A = Object × ℕ} (y, end) (x, next) = good_is e in ap (λ (p : Object × ℕ). p.1) pairs
-end_is end next x y (Some g) e = absurd cc
+placed_before : (kind : Kind) (s : Seen) (at : ℕ) (b : List ℕ) (x : Object) (next : ℕ)
+    → object_in kind s at b ≡ Ok (x, next) → IsPlacedBefore kind s at b x next
+unfolding object_in
+placed_before kind s at b x next e = head_is kind s at b x next (head_of at (drop at b)) refl e
 
-body_end : (at : ℕ) (s : Seen) (end next : ℕ) (x : Object) (r : Result Object ObjErr) → by_body at s end r ≡ found x next → end ≡ next
-body_end at s end next x (Ok y) e = end_is end next x y (name_fault at s y) e
-body_end at s end next x (Err g) e = absurd cc
+pub placed : (kind : Kind) (s : Seen) (at : ℕ) (b : List ℕ) (x : Object) (next : ℕ) → object_in kind s at b ≡ Ok (x, next) → IsPlaced kind s at b x
+placed kind s at b x next e = (placed_before kind s at b x next e).0
 
 -- an object with a head, contents that say it, and an end
 abbrev IsReadAt : Kind → ℕ → List ℕ → Object → ℕ → Type 0
 IsReadAt kind at b x next =
-    (h : Head) × (◌≡◌ {A = Result Head ObjErr} (head_of at (drop at b)) (Ok h)) × (◌≡◌ {A = Result Object ObjErr} (read_in kind at h.class.0 h.ctype (contents_at at h b)) (Ok x)) × (h.end ≡ next)
+    (h : Head)
+    × (◌≡◌ {A = Result Head ObjErr} (head_of at (drop at b)) (Ok h))
+    × (◌≡◌ {A = Result Object ObjErr} (read_in kind at h.class.0 h.ctype (contents_at at h b)) (Ok x))
+    × (h.end ≡ next)
 
-head_read : (kind : Kind) (s : Seen) (at : ℕ) (b : List ℕ) (x : Object) (next : ℕ) (r : Result Head ObjErr) → head_of at (drop at b) ≡ r → by_head kind s at b r ≡ found x next → IsReadAt kind at b x next
-head_read kind s at b x next (Err g) is e = absurd cc
-head_read kind s at b x next (Ok h) is e =
-    elim (chosen (is_unknown h.class.0) _ _ _ e) [
-      | inl p ↦ absurd (let z = p.1 in cc)
-      | inr p ↦ elim (chosen (not (has_place kind s h.class.0)) _ _ _ p.1) [
-        | inl q ↦ absurd (let z = q.1 in cc)
-        | inr q ↦ elim (chosen (is_repeated kind s h.class.0) _ _ _ q.1) [
-          | inl r ↦ absurd (let z = r.1 in cc)
-          | inr r ↦
-              let contents = read_in kind at h.class.0 h.ctype (contents_at at h b) in
-              (h, is, (body_is at s h.end next x contents r.1).0, body_end at s h.end next x contents r.1)
-        ]
-      ]
-    ]
-
-pub read_where_placed : (kind : Kind) (s : Seen) (at : ℕ) (b : List ℕ) (x : Object) (next : ℕ) → object_in kind s at b ≡ Ok (x, next) → IsReadAt kind at b x next
-unfolding object_in
-read_where_placed kind s at b x next e = head_read kind s at b x next (head_of at (drop at b)) refl e
-
-pub placed : (kind : Kind) (s : Seen) (at : ℕ) (b : List ℕ) (x : Object) (next : ℕ) → object_in kind s at b ≡ Ok (x, next) → IsPlaced kind s at b x
-unfolding object_in
-placed kind s at b x next e = head_is kind s at b x next (head_of at (drop at b)) refl e
+pub read_where_placed : (kind : Kind) (s : Seen) (at : ℕ) (b : List ℕ) (x : Object) (next : ℕ)
+    → object_in kind s at b ≡ Ok (x, next) → IsReadAt kind at b x next
+read_where_placed kind s at b x next e =
+    let p = placed_before kind s at b x next e in
+    (p.0.head, p.0.is_head, p.0.is_read, p.1)
 
 read_is : {x y : Object} → ◌≡◌ {A = Result Object ObjErr} (Ok x) (Ok y) → x ≡ y
 read_is e = cc
@@ -115,7 +106,8 @@ class_is kind s at b x p =
     ]
 
 -- an object that is read is proper
-pub read_proper : (kind : Kind) (s : Seen) (at : ℕ) (b : List ℕ) (x : Object) → AreBytes b → (p : IsPlaced kind s at b x) → is_unread kind p.head.class.0 ≡ false → IsProper x
+pub read_proper : (kind : Kind) (s : Seen) (at : ℕ) (b : List ℕ) (x : Object)
+    → AreBytes b → (p : IsPlaced kind s at b x) → is_unread kind p.head.class.0 ≡ false → IsProper x
 read_proper kind s at b x bytes p read =
     elim (chosen (is_unread kind p.head.class.0) _ _ _ p.is_read) [
       | inl q ↦ absurd (let z = sym q.0 ∙ read in cc)
@@ -126,7 +118,8 @@ read_proper kind s at b x bytes p read =
     ]
 
 -- what holds of what is skipped, and of each proper object, holds of an object that stands somewhere
-pub placed_has : (P : Object → Type 0) → ((n : ℕ) → P (object.Skipped n)) → ((x : Object) → IsProper x → P x) → (kind : Kind) (s : Seen) (at : ℕ) (b : List ℕ) (x : Object) → AreBytes b → IsPlaced kind s at b x → P x
+pub placed_has : (P : Object → Type 0) → ((n : ℕ) → P (object.Skipped n)) → ((x : Object) → IsProper x → P x)
+    → (kind : Kind) (s : Seen) (at : ℕ) (b : List ℕ) (x : Object) → AreBytes b → IsPlaced kind s at b x → P x
 placed_has P skipped proper kind s at b x bytes p = by_kind (is_unread kind p.head.class.0) refl
   where
     by_kind : (t : Bool) → is_unread kind p.head.class.0 ≡ t → P x
