@@ -7,6 +7,7 @@ use Rattle.std.proofs.lemmas.Bool.{eqb-true}
 use Rattle.std.proofs.lemmas.List.{append-nil}
 use Rattle.rsvp_base.specs.declared.style.StyleKind.{StyleKind}
 use Rattle.rsvp_base.specs.declared.style.StyleKind.TheVariants.{Wild, Fixed, Shared}
+use Rattle.rsvp_objects.specs.Classes as number
 use Rattle.rsvp_objects.specs.declared.object.Object.{Object}
 use Rattle.rsvp_objects.specs.declared.object.Object.TheVariants as object
 use Rattle.rsvp_objects.specs.Classes.{is_skipped}
@@ -30,13 +31,16 @@ use Rattle.message_wire.proofs.Placed.{IsPlaced, placed, class_is, read_proper}
 
 -- ---- each object in its place
 
-no_test : (a b : Bool) (f g h k : Fault) → ◌≡◌ {A = Option Fault} (if a then Some f else if b then Some g else None) None → ◌≡◌ {A = Option Fault} (if a then Some h else if b then Some k else None) None
+no_test : (a b : Bool) (f g h k : Fault) → ◌≡◌ {A = Option Fault} (if a then Some f else if b then Some g else None) None
+    → ◌≡◌ {A = Option Fault} (if a then Some h else if b then Some k else None) None
 no_test true b f g h k e = absurd cc
 no_test false true f g h k e = absurd cc
 no_test false false f g h k e = refl
 
 name_anywhere : (at : ℕ) (s : Seen) (x : Object) → name_fault at s x ≡ None → (p : ℕ) → name_fault p s x ≡ None
-name_anywhere at s (object.Filter q) e p = no_test (is_named q s.filters) (length s.filters == 16) (fault.Repeated at) (fault.Object (Crowd at)) (fault.Repeated p) (fault.Object (Crowd p)) e
+name_anywhere at s (object.Filter q) e p =
+    no_test (is_named q s.filters) (length s.filters == 16) (fault.Repeated at) (fault.Object (Crowd at))
+    (fault.Repeated p) (fault.Object (Crowd p)) e
 name_anywhere at s (object.Session a b) e p = refl
 name_anywhere at s (object.HopOf a) e p = refl
 name_anywhere at s (object.Time a) e p = refl
@@ -59,9 +63,14 @@ in_place kind before at b x p =
       name = name_anywhere at (seen_of before) x p.name;
     }
 
-in_place_from : (kind : Kind) (b : List ℕ) (start : List Object) (at end : ℕ) (before after : List Object) (x : Object) → Stand kind b start at (before ++ x ∷ after) end → IsInPlace kind (start ++ before) x
-in_place_from kind b start at end [] after x s = subst (λ (ys : List Object). IsInPlace kind ys x) (sym (append-nil start)) (in_place kind start at b x (placed kind (seen_of start) at b x s.0 s.1))
-in_place_from kind b start at end (y ∷ before) after x s = subst (λ (ys : List Object). IsInPlace kind ys x) (append_assoc start (y ∷ []) before) (in_place_from kind b (start ++ y ∷ []) s.0 end before after x s.2)
+in_place_from : (kind : Kind) (b : List ℕ) (start : List Object) (at end : ℕ) (before after : List Object) (x : Object)
+    → Stand kind b start at (before ++ x ∷ after) end → IsInPlace kind (start ++ before) x
+in_place_from kind b start at end [] after x s =
+    subst (λ (ys : List Object). IsInPlace kind ys x) (sym (append-nil start))
+    (in_place kind start at b x (placed kind (seen_of start) at b x s.0 s.1))
+in_place_from kind b start at end (y ∷ before) after x s =
+    subst (λ (ys : List Object). IsInPlace kind ys x) (append_assoc start (y ∷ []) before)
+    (in_place_from kind b (start ++ y ∷ []) s.0 end before after x s.2)
 
 pub each_object_is_in_place : EachObjectIsInPlace
 each_object_is_in_place kind b end before after x s = in_place_from kind b [] 8 end before after x s
@@ -111,20 +120,21 @@ left_only true b x e = refl
 left_only false b x e = absurd cc
 
 -- the list of a style has places for two classes alone
-two_classes : (kind : Kind) (k : StyleKind) (s : Seen) (n : ℕ) → place_after_style kind k s n ≡ true → (n == 9 || n == 10) ≡ true
+two_classes : (kind : Kind) (k : StyleKind) (s : Seen) (n : ℕ) → place_after_style kind k s n ≡ true
+    → (n == number.flowspec || n == number.filter_spec) ≡ true
 two_classes kind.Path k s n e = absurd cc
 two_classes kind.PathErr k s n e = absurd cc
 two_classes kind.PathTear k s n e = absurd cc
-two_classes kind.Resv Wild s n e = left_only (n == 9) (n == 10) _ e
-two_classes kind.Resv Fixed s n e = either (n == 9) (n == 10) _ _ e
-two_classes kind.Resv Shared s n e = either (n == 9) (n == 10) _ _ e
-two_classes kind.ResvConf Wild s n e = left_only (n == 9) (n == 10) _ e
-two_classes kind.ResvConf Fixed s n e = either (n == 9) (n == 10) _ _ e
-two_classes kind.ResvConf Shared s n e = either (n == 9) (n == 10) _ _ e
-two_classes kind.ResvErr Wild s n e = left_only (n == 9) (n == 10) _ e
-two_classes kind.ResvErr Fixed s n e = either_third (n == 9) (n == 10) _ _ _ e
-two_classes kind.ResvErr Shared s n e = either (n == 9) (n == 10) _ _ e
-two_classes kind.ResvTear Wild s n e = left_only (n == 9) (n == 10) true (ap (λ (t : Bool). t && true) e)
+two_classes kind.Resv Wild s n e = left_only (n == number.flowspec) (n == number.filter_spec) _ e
+two_classes kind.Resv Fixed s n e = either (n == number.flowspec) (n == number.filter_spec) _ _ e
+two_classes kind.Resv Shared s n e = either (n == number.flowspec) (n == number.filter_spec) _ _ e
+two_classes kind.ResvConf Wild s n e = left_only (n == number.flowspec) (n == number.filter_spec) _ e
+two_classes kind.ResvConf Fixed s n e = either (n == number.flowspec) (n == number.filter_spec) _ _ e
+two_classes kind.ResvConf Shared s n e = either (n == number.flowspec) (n == number.filter_spec) _ _ e
+two_classes kind.ResvErr Wild s n e = left_only (n == number.flowspec) (n == number.filter_spec) _ e
+two_classes kind.ResvErr Fixed s n e = either_third (n == number.flowspec) (n == number.filter_spec) _ _ _ e
+two_classes kind.ResvErr Shared s n e = either (n == number.flowspec) (n == number.filter_spec) _ _ e
+two_classes kind.ResvTear Wild s n e = left_only (n == number.flowspec) (n == number.filter_spec) true (ap (λ (t : Bool). t && true) e)
 two_classes kind.ResvTear Fixed s n e = e
 two_classes kind.ResvTear Shared s n e = e
 
@@ -141,7 +151,8 @@ behind_style_stands_the_list kind b end before after x k s styled =
     let seen = seen_of before in
     let p = (each_object_is_in_place kind b end before after x s).place in
     let by_style : place_by_style kind seen n seen.style ≡ place_after_style kind k seen n = ap (place_by_style kind seen n) styled in
-    anywhere_or (is_anywhere n) (n == 4) seen.begun (place_by_style kind seen n seen.style) (n == 9 || n == 10) p (begun_by_style before k styled) (λ e. two_classes kind k seen n (sym by_style ∙ e))
+    anywhere_or (is_anywhere n) (n == number.integrity) seen.begun (place_by_style kind seen n seen.style)
+    (n == number.flowspec || n == number.filter_spec) p (begun_by_style before k styled) (λ e. two_classes kind k seen n (sym by_style ∙ e))
 
 -- ---- what stands once by the table
 
@@ -175,7 +186,8 @@ once_kept kind.PathTear = (inl refl, tt)
 once_kept kind.ResvTear = (inl refl, tt)
 once_kept kind.ResvConf = tt
 
-pub role_tells : (a b c : Bool) → stands_once (if a then Needed else if b then Once else if c then Unread else Nowhere) ≡ true → (a ≡ true) ⊎ (b ≡ true)
+pub role_tells : (a b c : Bool) → stands_once (if a then Needed else if b then Once else if c then Unread else Nowhere) ≡ true
+    → (a ≡ true) ⊎ (b ≡ true)
 role_tells true b c e = inl refl
 role_tells false true c e = inr refl
 role_tells false false true e = absurd cc
@@ -212,9 +224,9 @@ no_flowspec k e = let z = sym e ∙ (listed_classes k).0 in cc
 no_filter_spec : (k : Kind) → stands_once (role_of k 10) ≡ true → ⊥
 no_filter_spec k e = let z = sym e ∙ (listed_classes k).1 in cc
 
-not_nine : (k : Kind) (n : ℕ) → stands_once (role_of k n) ≡ true → (t : Bool) → (n == 9) ≡ t → t ≡ false
-not_nine k n once true e = absurd (no_flowspec k (subst (λ (m : ℕ). stands_once (role_of k m) ≡ true) (eqb-true n 9 e) once))
-not_nine k n once false e = refl
+not_flowspec : (k : Kind) (n : ℕ) → stands_once (role_of k n) ≡ true → (t : Bool) → (n == number.flowspec) ≡ t → t ≡ false
+not_flowspec k n once true e = absurd (no_flowspec k (subst (λ (m : ℕ). stands_once (role_of k m) ≡ true) (eqb-true n number.flowspec e) once))
+not_flowspec k n once false e = refl
 
 no_tear_flow : (k : Kind) (n : ℕ) → stands_once (role_of k n) ≡ true → is_tear_flow k n ≡ false
 no_tear_flow kind.Path n e = refl
@@ -222,7 +234,7 @@ no_tear_flow kind.Resv n e = refl
 no_tear_flow kind.PathErr n e = refl
 no_tear_flow kind.ResvErr n e = refl
 no_tear_flow kind.PathTear n e = refl
-no_tear_flow kind.ResvTear n e = not_nine kind.ResvTear n e (n == 9) refl
+no_tear_flow kind.ResvTear n e = not_flowspec kind.ResvTear n e (n == number.flowspec) refl
 no_tear_flow kind.ResvConf n e = refl
 
 is_read : (k : Kind) (n : ℕ) → stands_once (role_of k n) ≡ true → is_unread k n ≡ false
@@ -235,7 +247,8 @@ unfolding stood with_object
 skipped_kept s m skipped (inl e) = absurd (let z = sym skipped ∙ e in cc)
 skipped_kept s m skipped (inr e) = subst (λ (n : ℕ). stood (with_object s (object.Skipped n)) n ≡ true) (sym e) (or_true s.adspec)
 
-now_stood : (k : Kind) (s : Seen) (x : Object) → IsProper x → stands_once (role_of k (class_of x)) ≡ true → stood (with_object s x) (class_of x) ≡ true
+now_stood : (k : Kind) (s : Seen) (x : Object) → IsProper x → stands_once (role_of k (class_of x)) ≡ true
+    → stood (with_object s x) (class_of x) ≡ true
 unfolding stood with_object
 now_stood k s (object.Session a b) h e = refl
 now_stood k s (object.HopOf a) h e = refl
@@ -266,13 +279,15 @@ by_if false x y u v p q e = q e
 still_stood : (s : Seen) (x : Object) (n : ℕ) → stood s n ≡ true → stood (with_object s x) n ≡ true
 unfolding stood with_object
 still_stood s x n =
-    by_if (n == 1) _ _ _ _ (some_stays (session_said x) s.session) (
-    by_if (n == 3) _ _ _ _ (some_stays (hop_said x) s.hop) (
-    by_if (n == 5) _ _ _ _ (some_stays (period_said x) s.period) (
-    by_if (n == 6) _ _ _ _ (some_stays (error_said x) s.error) (
-    by_if (n == 7) _ _ _ _ (some_stays (scope_said x) s.scope) (
-    by_if (n == 8) _ _ _ _ (some_stays (style_said x) s.style) (
-    by_if (n == 11) _ _ _ _ (some_stays (template_said x) s.template) (by_if (n == 12) _ _ _ _ (some_stays (tspec_said x) s.tspec) (by_if (n == 13) _ _ _ _ (true_stays s.adspec (is_adspec x)) (some_stays (confirm_said x) s.confirm)))
+    by_if (n == number.session) _ _ _ _ (some_stays (session_said x) s.session) (
+    by_if (n == number.rsvp_hop) _ _ _ _ (some_stays (hop_said x) s.hop) (
+    by_if (n == number.time_values) _ _ _ _ (some_stays (period_said x) s.period) (
+    by_if (n == number.error_spec) _ _ _ _ (some_stays (error_said x) s.error) (
+    by_if (n == number.scope) _ _ _ _ (some_stays (scope_said x) s.scope) (
+    by_if (n == number.style) _ _ _ _ (some_stays (style_said x) s.style) (
+    by_if (n == number.sender_template) _ _ _ _ (some_stays (template_said x) s.template)
+    (by_if (n == number.sender_tspec) _ _ _ _ (some_stays (tspec_said x) s.tspec)
+    (by_if (n == number.adspec) _ _ _ _ (true_stays s.adspec (is_adspec x)) (some_stays (confirm_said x) s.confirm)))
     )
     )
     )
@@ -293,21 +308,26 @@ both_true true true e p q = cc
 both_true true false e p q = cc
 both_true false b e p q = cc
 
-no_more : (kind : Kind) (b : List ℕ) (n : ℕ) (before : List Object) (at : ℕ) (xs : List Object) (end : ℕ) → stands_once (role_of kind n) ≡ true → Stand kind b before at xs end → stood (seen_of before) n ≡ true → how_many n xs ≡ 0
+no_more : (kind : Kind) (b : List ℕ) (n : ℕ) (before : List Object) (at : ℕ) (xs : List Object) (end : ℕ) → stands_once (role_of kind n) ≡ true
+    → Stand kind b before at xs end → stood (seen_of before) n ≡ true → how_many n xs ≡ 0
 unfolding is_repeated
 no_more kind b n before at [] end once s there = refl
 no_more kind b n before at (x ∷ xs) end once s there =
-    by_class (no_more kind b n (before ++ x ∷ []) s.0 xs end once s.2 (subst (λ (t : Seen). stood t n ≡ true) (sym (seen_more before x)) (still_stood (seen_of before) x n there))) (class_of x == n) refl
+    by_class (no_more kind b n (before ++ x ∷ []) s.0 xs end once s.2
+    (subst (λ (t : Seen). stood t n ≡ true) (sym (seen_more before x)) (still_stood (seen_of before) x n there))) (class_of x == n) refl
   where
     by_class : how_many n xs ≡ 0 → (t : Bool) → (class_of x == n) ≡ t → how_many n (x ∷ xs) ≡ 0
     by_class rest true e =
         let here = (in_place kind before at b x (placed kind (seen_of before) at b x s.0 s.1)).once in
-        absurd (both_true _ _ (subst (λ (m : ℕ). (stands_once (role_of kind m) && stood (seen_of before) m) ≡ false) (eqb-true (class_of x) n e) here) once there)
+        absurd (both_true _ _ (subst (λ (m : ℕ). (stands_once (role_of kind m) && stood (seen_of before) m) ≡ false) (eqb-true (class_of x) n e) here)
+        once there)
     by_class rest false e = miss n x xs e ∙ rest
 
-at_most_one : (kind : Kind) (b : List ℕ) (n : ℕ) (before : List Object) (at : ℕ) (xs : List Object) (end : ℕ) → AreBytes b → stands_once (role_of kind n) ≡ true → Stand kind b before at xs end → how_many n xs ≤ 1
+at_most_one : (kind : Kind) (b : List ℕ) (n : ℕ) (before : List Object) (at : ℕ) (xs : List Object) (end : ℕ) → AreBytes b
+    → stands_once (role_of kind n) ≡ true → Stand kind b before at xs end → how_many n xs ≤ 1
 at_most_one kind b n before at [] end bytes once s = omega arith
-at_most_one kind b n before at (x ∷ xs) end bytes once s = by_class (at_most_one kind b n (before ++ x ∷ []) s.0 xs end bytes once s.2) (class_of x == n) refl
+at_most_one kind b n before at (x ∷ xs) end bytes once s =
+    by_class (at_most_one kind b n (before ++ x ∷ []) s.0 xs end bytes once s.2) (class_of x == n) refl
   where
     by_class : how_many n xs ≤ 1 → (t : Bool) → (class_of x == n) ≡ t → how_many n (x ∷ xs) ≤ 1
     by_class rest true e =
@@ -315,9 +335,12 @@ at_most_one kind b n before at (x ∷ xs) end bytes once s = by_class (at_most_o
         let once_x : stands_once (role_of kind (class_of x)) ≡ true = subst (λ (m : ℕ). stands_once (role_of kind m) ≡ true) (sym same) once in
         let p = placed kind (seen_of before) at b x s.0 s.1 in
         let own = class_is kind (seen_of before) at b x p in
-        let proper = read_proper kind (seen_of before) at b x bytes p (is_read kind p.head.class.0 (subst (λ (m : ℕ). stands_once (role_of kind m) ≡ true) own once_x)) in
-        let stood_x : stood (with_object (seen_of before) x) n ≡ true = subst (λ (m : ℕ). stood (with_object (seen_of before) x) m ≡ true) same (now_stood kind (seen_of before) x proper once_x) in
-        let none = no_more kind b n (before ++ x ∷ []) s.0 xs end once s.2 (subst (λ (t : Seen). stood t n ≡ true) (sym (seen_more before x)) stood_x) in
+        let proper = read_proper kind (seen_of before) at b x bytes p
+        (is_read kind p.head.class.0 (subst (λ (m : ℕ). stands_once (role_of kind m) ≡ true) own once_x)) in
+        let stood_x : stood (with_object (seen_of before) x) n
+        ≡ true = subst (λ (m : ℕ). stood (with_object (seen_of before) x) m ≡ true) same (now_stood kind (seen_of before) x proper once_x) in
+        let none = no_more kind b n (before ++ x ∷ []) s.0 xs end once s.2 (subst (λ (t : Seen). stood t n ≡ true) (sym (seen_more before x)) stood_x)
+        in
         let here = hit n x xs e in
         omega arith
     by_class rest false e = let here = miss n x xs e in omega arith
