@@ -11,3 +11,4 @@ pub mod Grammar
 pub mod Closed
 pub mod Spelling
 pub mod Taken
+pub mod Told

@@ -26,6 +26,7 @@ const MOST_BYTES: usize = 4096;
 
 /// The message that bytes spell (RFC 2205, 3.1). Else their first fault, with the kind of the message where the header told
 /// one, and what could be read.
+#[tactic(auto, using(crate::proofs::Told::err, crate::proofs::Told::proper))]
 pub fn decode(bytes: &[u8]) -> Result<Message, MsgErr>
     ensures ok { IfOk result (Spells bytes.now) }
     ensures err { IfErr result (IsFirstFault bytes.now) }
