@@ -29,11 +29,6 @@ key_at [] k e h = cc
 key_at (d ∷ es) zero e h = ap (option_map (λ e. e.0)) h
 key_at (d ∷ es) (suc k) e h = key_at es k e h
 
-pub key_none : {K X : Type 0} (es : List (K × X)) (k : ℕ) → slice_get es k ≡ None → slice_get (each (λ e. e.0) es) k ≡ None
-key_none [] k h = refl
-key_none (d ∷ es) zero h = cc
-key_none (d ∷ es) (suc k) h = key_none es k h
-
 pub any_keys : {X : Type 0} (m : Table sessions X) (q : Session) → any (keys m) q ≡ has m q
 any_keys m q = same_test _ _ (λ h. in_keys sessions m q (in_tied sessions q (keys m) h)) (λ h. tied_in sessions q (keys m) (to_keys sessions m q h))
 
@@ -95,23 +90,44 @@ stopped_more counts due old ss k s so_far at false is =
         ∙ none (counts s) is ∙ (λ i. cond (counts (sym same i) || false) (get old (sym same i)) None)
     by q false t = ap (λ b. cond (not b) (cond (counts q || not (any (take k ss) q)) (get old q) None) None) (sym (turned q s) ∙ t)
 
-pub stopped_all : {X : Type 0} (counts : Session → Bool) (old : Table sessions ℕ) (watched : Table sessions X) → ((s : Session) → has old s ≡ true → has watched s ≡ true)
-    → kept (λ q. counts q || not (any (keys watched) q)) old ≡ kept counts old
-stopped_all counts old watched all =
-    same_table sessions _ _
-    (λ q. get-kept sessions (λ q. counts q || not (any (keys watched) q)) old q ∙ by q (get old q) refl ∙ sym (get-kept sessions counts old q))
+-- the same where a session is known to stand among those before it, and is passed over
+pub stopped_next : (counts : Session → Bool) (due old : Table sessions ℕ) (ss : List Session) (k : ℕ) (s : Session) → due ≡ kept (λ q. counts q || not (any (take k ss) q)) old → slice_get ss k ≡ Some s
+    → (again : Bool) → (again ≡ true → any (take k ss) s ≡ true) → cond (again || counts s) due (without due s) ≡ kept (λ q. counts q || not (any (take (k + 1) ss) q)) old
+stopped_next counts due old ss k s so_far at true known =
+    so_far
+    ∙ same_table sessions _ _
+    (λ q. get-kept sessions (λ q. counts q || not (any (take k ss) q)) old q ∙ ap (λ b. cond (counts q || not b) (get old q) None) (by q (eq_by_cmp sessions.cmp q s) refl ∙ sym (any_more ss k s q at)) ∙ sym (get-kept sessions (λ q. counts q || not (any (take (k + 1) ss) q)) old q))
+  where
+    by : (q : Session) (t : Bool) → eq_by_cmp sessions.cmp q s ≡ t → any (take k ss) q ≡ (t || any (take k ss) q)
+    by q true t = ap (any (take k ss)) (tied_same sessions q s t) ∙ known refl
+    by q false t = refl
+stopped_next counts due old ss k s so_far at false known = stopped_more counts due old ss k s so_far at (counts s) refl
+
+-- where each that stands in no such place counts, those that are left are those that count
+pub stopped_all : (counts : Session → Bool) (old : Table sessions ℕ) (ss : List Session) → ((s : Session) → has old s ≡ true → any ss s ≡ false → counts s ≡ true) → kept (λ q. counts q || not (any ss q)) old ≡ kept counts old
+stopped_all counts old ss others = same_table sessions _ _ (λ q. get-kept sessions (λ q. counts q || not (any ss q)) old q ∙ by q (get old q) refl ∙ sym (get-kept sessions counts old q))
   where
     or_no : (b : Bool) → (b || false) ≡ b
     or_no true = refl
     or_no false = refl
 
+    or_yes : (b : Bool) → (b || true) ≡ true
+    or_yes true = refl
+    or_yes false = refl
+
     none : (b : Bool) → ◌≡◌ {A = Option ℕ} (cond b None None) None
     none true = refl
     none false = refl
 
-    by : (q : Session) (w : Option ℕ) → get old q ≡ w → cond (counts q || not (any (keys watched) q)) (get old q) None ≡ cond (counts q) (get old q) None
-    by q None e = ap (λ w. cond (counts q || not (any (keys watched) q)) w None) e ∙ none (counts q || not (any (keys watched) q)) ∙ sym (ap (λ w. cond (counts q) w None) e ∙ none (counts q))
-    by q (Some n) e = ap (λ b. cond b (get old q) None) (ap (λ b. counts q || not b) (any_keys watched q ∙ all q (ap is_some e)) ∙ or_no (counts q))
+    same : (q : Session) → has old q ≡ true → (counts q || not (any ss q)) ≡ counts q
+    same q there =
+        either (any ss q)
+        (λ t. ap (λ b. counts q || not b) t ∙ or_no (counts q))
+        (λ f. ap (λ b. counts q || not b) f ∙ or_yes (counts q) ∙ sym (others q there f))
+
+    by : (q : Session) (w : Option ℕ) → get old q ≡ w → cond (counts q || not (any ss q)) (get old q) None ≡ cond (counts q) (get old q) None
+    by q None e = ap (λ w. cond (counts q || not (any ss q)) w None) e ∙ none (counts q || not (any ss q)) ∙ sym (ap (λ w. cond (counts q) w None) e ∙ none (counts q))
+    by q (Some n) e = ap (λ b. cond b (get old q) None) (same q (ap is_some e))
 
 -- ---- begun
 pub begun_more : (left : ℕ) (m : Table sessions ℕ) (ss : List Session) (s : Session) → m ≡ changed (begun left) (set_of {o = sessions} ss) → started (has m s) s left m ≡ changed (begun left) (set_of {o = sessions} (ss ++ s ∷ []))

@@ -28,7 +28,7 @@ use Rattle.router_rules.specs.Known.{lanes}
 use Rattle.router_rules.specs.Requests.{toward}
 use Rattle.router_rules.specs.Rule.{facts_after, sent_after}
 use Rattle.node_facts.specs.State.{IsSaid, IsSettled, Said, State, facts_of, said_at}
-use Rattle.node_facts.specs.Waited.{is_fired, later_due}
+use Rattle.node_facts.specs.Waited.{is_fired}
 use Rattle.node_sends.specs.Saying.{IsRoomy, lane_by}
 use Rattle.node_sends.specs.SendsHere.{hops_in}
 use Rattle.node_sends.specs.Told.{offered}
@@ -226,8 +226,3 @@ pub four_sent : {B : Type 0} (posted : B → Send → B) (start one two three fo
 four_sent posted start one two three four p q r s a b c d =
     d ∙ ap (λ o. fold posted o s) c ∙ sym (fold-append posted two r s) ∙ ap (λ o. fold posted o (r ++ s)) b ∙ sym (fold-append posted one q (r ++ s)) ∙ ap (λ o. fold posted o (q ++ (r ++ s))) a
     ∙ sym (fold-append posted start p (q ++ (r ++ s)))
-
--- ---- all sessions that have a countdown after time passed are watched
-pub watched_has : (due : Table sessions ℕ) (all : List Session) (quarter ms word : ℕ) (s : Session) → has (changed (later_due quarter ms word) due) s ≡ true → has (touched_by all (changed unmarked due)) s ≡ true
-watched_has due all quarter ms word s h =
-    has_changed sessions (touched_at all) (λ k x. refl) (changed unmarked due) s ∙ has_changed sessions unmarked (λ k x. refl) due s ∙ sym (has_changed sessions (later_due quarter ms word) (λ k x. refl) due s) ∙ h

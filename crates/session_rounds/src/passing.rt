@@ -51,7 +51,7 @@ pub fn pass_time<O: Outbox>(
     rooms
         .nears
         .note_touched(&touched, &fired, &tables.paths, &rooms.lost);
-    forget_all(tables, &rooms.dead, &touched);
+    forget_all(tables, &rooms.dead);
     let due = fired.as_slice();
     tell_dead(&tables.config, &tables.senders, &rooms.dead, out);
     tear_all(tables, said, &rooms.nears, due, &touched, out);

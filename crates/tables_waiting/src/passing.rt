@@ -1,5 +1,7 @@
 //! Time passes over the tables.
-ghost use Rattle.std.specs.Prelude.{◌≡◌, ◌≤◌, ◌*◌, true};
+ghost use Rattle.std.specs.Prelude.{◌≡◌, ◌≤◌, ◌*◌, true, false};
+ghost use Rattle.std.specs.List.{list_any};
+ghost use Rattle.std.specs.Ordering.{eq_by_cmp};
 ghost use Rattle.rsvp_base.specs.Orders.{sessions};
 ghost use Rattle.rsvp_base.specs.Table.{changed, has};
 ghost use Rattle.rsvp_base.specs.declared.session.Session.{Session};
@@ -10,7 +12,7 @@ ghost use Rattle.node_facts.specs.Waited.{aged};
 ghost use Rattle.node_tables.specs.Whole.{state_of};
 ghost use Rattle.node_waiting.specs.AfterWait.{after_wait};
 ghost use Rattle.node_waiting.specs.Lost.{lost_hops};
-ghost use Rattle.node_waiting.specs.Passing.{dying_paths};
+ghost use Rattle.node_waiting.specs.Passing.{counts, dying_paths, sessions_at};
 ghost use Rattle.tables_waiting.specs.Steps.{AreSound, all_dying};
 
 use blockade_state::Touched;
@@ -51,10 +53,11 @@ pub fn age_all(
 }
 
 /// The names of the senders whose paths died leave the reservations, where no known sender has them any more, and the
-/// countdowns of sessions stop that have neither a local sender nor a path. All sessions with a countdown are watched.
-pub fn forget_all(tables: &mut Tables, dead: &DeadPaths, watched: &Touched)
+/// countdowns of sessions stop that have neither a local sender nor a path. Nothing is looked up of a session of which no path
+/// died.
+pub fn forget_all(tables: &mut Tables, dead: &DeadPaths)
     requires sound { AreSound tables.old }
-    requires watched { (s : Session) → has tables.old.due s ≡ true → has watched.now s ≡ true }
+    requires counted { (s : Session) → has tables.old.due s ≡ true → list_any (eq_by_cmp sessions.cmp s) (sessions_at dead.now) ≡ false → counts tables.old.senders tables.old.paths.facts s ≡ true }
     ensures state { (said : Said) → state_of tables.new said ≡ after_wait dead.now (state_of tables.old said) }
     ensures sound { AreSound tables.new }
     ensures ifaces { tables.new.book.ifaces ≡ tables.old.book.ifaces }
@@ -80,5 +83,5 @@ pub fn forget_all(tables: &mut Tables, dead: &DeadPaths, watched: &Touched)
         &tables.paths,
         dead,
     );
-    stop_uncounted(&mut tables.due, &tables.senders, &tables.paths, watched);
+    stop_uncounted(&mut tables.due, &tables.senders, &tables.paths, dead);
 }

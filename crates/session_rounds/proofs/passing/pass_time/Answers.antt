@@ -1,15 +1,17 @@
 use Rattle.std.proofs.Common.{◌≡◌, ℕ, ◌+◌, true, fold, refl, sym, ap, subst, ◌∙◌}
-use Rattle.std.specs.List.{flat_map}
+use Rattle.std.specs.List.{flat_map, list_any}
+use Rattle.std.specs.Ordering.{eq_by_cmp}
 use Rattle.rsvp_base.specs.Sets.{Set}
 use Rattle.rsvp_base.specs.Orders.{sessions}
 use Rattle.rsvp_base.specs.Table.{changed, empty, get, has, keys}
-use Rattle.blockade_state.specs.Touched.{Marks, touched_by}
+use Rattle.blockade_state.specs.Touched.{touched_by}
 use Rattle.router_rules.specs.Facts.{SenderKey}
 use Rattle.node_facts.specs.State.{State, facts_of}
 use Rattle.node_facts.specs.Waited.{is_fired}
 use Rattle.waiting_sends.specs.Several.{gone_told, is_among, refreshed}
 use Rattle.node_waiting.specs.AfterWait.{after_wait}
-use Rattle.node_waiting.specs.Passing.{DeadSet, dying_paths, unmarked}
+use Rattle.node_waiting.specs.Passing.{DeadSet, counts, dying_paths, sessions_at, unmarked}
+use Rattle.node_waiting.proofs.Counted.{counted_still}
 use Rattle.node_tables.specs.Whole.{state_of}
 use Rattle.node_tables.specs.declared.tables.Tables.{Tables}
 use Rattle.tables_waiting.specs.Steps.{all_dying}
@@ -18,15 +20,16 @@ use Rattle.round_laws.specs.Rounds.{AreCleared, AreTold, told_round, torn_near, 
 use Rattle.round_laws.proofs.Dying.{dead_are_gone}
 use Rattle.session_rounds.specs.Nears.{AreNear, NearTable}
 use Rattle.session_rounds.proofs.Before.{hops_few}
-use Rattle.session_rounds.proofs.Passed.{facts_last, four_sent, near_still, noted_is, place_last, roomy, said_after, sent_all, settled_last, sound_last, still_cleared, still_first, watched_has}
+use Rattle.session_rounds.proofs.Passed.{facts_last, four_sent, near_still, noted_is, place_last, roomy, said_after, sent_all, settled_last, sound_last, still_cleared, still_first}
 use Rattle.session_rounds.proofs.Passed.{near as near_in}
 use Rattle.session_rounds.proofs.passing.pass_time.Goals as goal
 
-pub forget_all-requires-clause-watched : goal.forget_all-requires-clause-watched
-forget_all-requires-clause-watched g c = λ s h.
-    let t = c.args.tables.now in
-    ap (λ (m : Marks). has m s) (c.age_all-fired.ensures.touched ∙ ap (touched_by (all_dying c.args.ms t)) c.watch_all-touched.ensures)
-    ∙ watched_has t.due (all_dying c.args.ms t) t.config.quarter c.args.ms c.args.word s (sym (ap (λ (z : State). has z.due s) (c.age_all-fired.ensures.state empty)) ∙ h)
+pub forget_all-requires-clause-counted : goal.forget_all-requires-clause-counted
+forget_all-requires-clause-counted g c = λ s runs calm.
+    let n = state_of c.args.tables.now c.args.said.now in
+    let is = c.age_all-fired.ensures.state c.args.said.now in
+    ap (λ (z : State). counts z.senders z.paths s) is
+    ∙ counted_still n c.args.ms c.args.word c.requires.settled.counted s (sym (ap (λ (z : State). has z.due s) is) ∙ runs) (ap (λ (d : DeadSet). list_any (eq_by_cmp sessions.cmp s) (sessions_at d)) (sym c.age_all-fired.ensures.dead) ∙ calm)
 
 pub note_touched-requires : goal.note_touched-requires
 note_touched-requires g c =
