@@ -53,6 +53,31 @@ best_user() {
   sort -n "$work/times" | head -n 1
 }
 
+# both RUNS OURS THEIRS ARG..: runs the functions OURS and THEIRS in turns, so many times, so that both meet the same machine. The
+# best of each, in seconds of processor time, is then in ours and theirs, and their texts in the files text and other of the
+# folder work. Where rustc is missing, THEIRS is left out, and theirs is empty.
+both() {
+  local runs="$1" mine="$2" other="$3" took
+  shift 3
+  ours="" theirs=""
+  for ((turn = 0; turn < runs; turn++)); do
+    took="$(best_user 1 "$work/text" "$mine" "$@")" || exit 1
+    ours="$(least "$ours" "$took")"
+    if [ -n "$plain" ]; then
+      took="$(best_user 1 "$work/other" "$other" "$@")" || exit 1
+      theirs="$(least "$theirs" "$took")"
+    fi
+  done
+}
+
+# least A B: the lesser of the two; B where A is empty.
+least() { awk -v a="$1" -v b="$2" 'BEGIN { print (a == "" || b < a) ? b : a }'; }
+
+# alike: stops where the texts of both are not the same.
+alike() {
+  [ -z "$plain" ] || cmp -s "$work/text" "$work/other" || { echo "$0: the two do not write the same text" >&2; exit 1; }
+}
+
 # tree NODES SESSIONS: a network in which node k hangs on node (k - 1) / 2; node 0 sends in each session, of which one after the
 # other has the styles WF, FF and SE, and each other node wants its data.
 tree() {
@@ -72,12 +97,15 @@ tree() {
   }'
 }
 
-# replay FILE, own FILE: the run of a script that is timed, by rsvpd and by the plain program.
+# replay FILE, own FILE: the run of a script that is timed, by rsvpd and by the plain program. call ARG.., other ARG..: that of
+# the program itself, and of the plain one.
 replay() { "$program" replay <"$1"; }
 own() { "$plain" <"$1"; }
+call() { "$program" "$@"; }
+other() { "$plain" "$@"; }
 
 # ratio A B: how many times B is in A.
-ratio() { awk -v a="$1" -v b="$2" 'BEGIN { if (b > 0) printf "%.1f", a / b; else printf "-" }'; }
+ratio() { awk -v a="$1" -v b="$2" 'BEGIN { if (b > 0) printf "%.2f", a / b; else printf "-" }'; }
 
 # deliveries FILE [BEFORE]: how many datagrams are delivered in the run of a script, behind the lines of BEFORE, told by its trace:
 # that of the plain program, which is faster, or of rsvpd where rustc is missing.
@@ -89,15 +117,11 @@ deliveries() {
   "$run" "$work/traced" | grep -c -E '^[a-z][a-z0-9_]* ([A-Z][A-Za-z]*|\?) (taken|dropped|answered)'
 }
 
-# seconds RUNS FILE [BEFORE]: the best of so many runs of a script, in seconds of processor time, less that of BEFORE: of rsvpd
-# in ours, of the plain program in theirs (empty where rustc is missing). Their texts must be equal.
+# seconds RUNS FILE [BEFORE]: the best of so many runs of a script in turns, in seconds of processor time, less that of BEFORE: of
+# rsvpd in ours, of the plain program in theirs (empty where rustc is missing). Their texts must be equal.
 seconds() {
-  ours="$(best_user "$1" "$work/text" replay "$2")" || exit 1
-  theirs=""
-  if [ -n "$plain" ]; then
-    theirs="$(best_user "$1" "$work/other" own "$2")" || exit 1
-    cmp -s "$work/text" "$work/other" || { echo "$0: $2: the two do not write the same text" >&2; exit 1; }
-  fi
+  both "$1" replay own "$2"
+  alike
   if [ -n "$3" ]; then
     local all="$ours" others="$theirs"
     seconds "$1" "$3"
