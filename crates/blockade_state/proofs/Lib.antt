@@ -1,2 +1,3 @@
 pub mod Walls
 pub mod Touching
+pub mod Behind

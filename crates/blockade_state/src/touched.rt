@@ -1,7 +1,7 @@
 //! Which sessions something changed of.
-ghost use Rattle.std.specs.Prelude.{◌≡◌, ◌≤◌, ◌<◌, [], ◌∷◌, false, length, IfOk, IfErr, slice_get};
+ghost use Rattle.std.specs.Prelude.{◌≡◌, ◌≤◌, ◌<◌, [], ◌∷◌, true, false, length, IfOk, IfErr, slice_get};
 ghost use Rattle.rsvp_base.specs.Orders.{sessions};
-ghost use Rattle.rsvp_base.specs.Rows.{AreRows};
+ghost use Rattle.rsvp_base.specs.Rows.{AreRows, LacksRowAt};
 ghost use Rattle.rsvp_base.specs.Table.{empty, put_in, size};
 ghost use Rattle.blockade_state.specs.Touched.{mark_row, touched_by, is_touched};
 
@@ -72,7 +72,12 @@ impl Touched {
             session,
             touched: false,
         };
-        match search(self.list.as_slice(), &session) {
+        let marks = self.list.as_slice();
+        if is_behind(marks, session) {
+            self.list.push(mark);
+            return;
+        }
+        match search(marks, &session) {
             Ok(at) => self.list[at] = mark,
             Err(at) => self.list.insert(at, mark),
         }
@@ -109,5 +114,16 @@ impl Touched {
     {
         let mark = self.list.as_slice().get(k)?;
         Some((mark.session, mark.touched))
+    }
+}
+
+// Whether a session goes behind all that are watched, so that no search is needed: sessions are most often watched in order.
+fn is_behind(marks: &[Mark], session: Session) -> bool
+    requires { AreRows sessions mark_row marks.now }
+    ensures { result ≡ true → LacksRowAt sessions mark_row marks.now session (length marks.now) }
+{
+    match marks.last() {
+        Some(last) => last.session.cmp(&session).is_lt(),
+        None => true,
     }
 }
