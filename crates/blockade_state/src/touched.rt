@@ -1,8 +1,9 @@
 //! Which sessions something changed of.
 ghost use Rattle.std.specs.Prelude.{◌≡◌, ◌≤◌, ◌<◌, [], ◌∷◌, true, false, length, IfOk, IfErr, slice_get};
+ghost use Rattle.std.specs.List.{list_any};
 ghost use Rattle.rsvp_base.specs.Orders.{sessions};
 ghost use Rattle.rsvp_base.specs.Rows.{AreRows, LacksRowAt};
-ghost use Rattle.rsvp_base.specs.Table.{empty, put_in, size};
+ghost use Rattle.rsvp_base.specs.Table.{empty, put_in, size, values};
 ghost use Rattle.blockade_state.specs.Touched.{mark_row, touched_by, is_touched};
 
 use arrayvec::ArrayVec;
@@ -105,6 +106,13 @@ impl Touched {
         }
     }
 
+    /// Whether something changed of any session that is watched.
+    pub fn has_any(&self) -> bool
+        ensures { result ≡ list_any (λ b. b) (values self.now) }
+    {
+        any_touched(self.list.as_slice())
+    }
+
     /// The k-th session that is watched, in order, with whether something of it changed. `None` exactly where k is not below
     /// their number.
     pub fn at(&self, k: usize) -> Option<(Session, bool)>
@@ -126,4 +134,11 @@ fn is_behind(marks: &[Mark], session: Session) -> bool
         Some(last) => last.session.cmp(&session).is_lt(),
         None => true,
     }
+}
+
+// Whether one of the marks says that something changed.
+fn any_touched(marks: &[Mark]) -> bool
+    ensures { result ≡ list_any (λ m. m.touched) marks.now }
+{
+    marks.iter().any(|mark| mark.touched)
 }

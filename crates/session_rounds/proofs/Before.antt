@@ -1,5 +1,5 @@
 -- The previous hops that sessions had before paths died.
-use Rattle.std.specs.Prelude.{◌≡◌, ℕ, ◌+◌, ◌-◌, ◌<◌, ◌≤◌, ◌||◌, ◌++◌, Bool, true, false, cond, nat_le, List, [], ◌∷◌, map as each, length, Some, None, slice_get, take, get_or, zero, suc, refl}
+use Rattle.std.specs.Prelude.{◌≡◌, ℕ, ◌+◌, ◌-◌, ◌<◌, ◌≤◌, ◌||◌, ◌++◌, Bool, true, false, cond, nat_le, List, [], ◌∷◌, map as each, length, Option, Some, None, slice_get, take, get_or, zero, suc, refl}
 use Rattle.std.specs.FinMap.Entries.{where_key}
 use Rattle.std.specs.List.{list_any}
 use Rattle.std.specs.Option.{unwrap_or}
@@ -9,14 +9,16 @@ use Rattle.std.proofs.lemmas.List.{length-map, take_more}
 use Rattle.rsvp_base.specs.Orders.{senders, sessions}
 use Rattle.rsvp_base.specs.SessionLimits.{IsWithinSessionLimits}
 use Rattle.rsvp_base.specs.Sets.{Set, listed, with_key, with_keys}
-use Rattle.rsvp_base.specs.Table.{Table, changed, changed_rows, has, kept_row, same_rows, size, values}
+use Rattle.rsvp_base.specs.Table.{Table, changed, changed_rows, empty, get, has, kept, kept_row, same_rows, size, values}
 use Rattle.rsvp_base.specs.Under.{rows_under, under}
 use Rattle.rsvp_base.specs.declared.addr.Addr.{Addr}
 use Rattle.rsvp_base.specs.declared.session.Sender.{Sender}
 use Rattle.rsvp_base.specs.declared.session.Session.{Session}
-use Rattle.rsvp_base.proofs.Counts.{has-set_of, in_found, size-set_of}
+use Rattle.rsvp_base.proofs.Counts.{found_in, has-set_of, in_found, size-set_of}
 use Rattle.rsvp_base.proofs.Fronts.{front_more, got_in}
+use Rattle.rsvp_base.proofs.Members.{any_in, to_each}
 use Rattle.rsvp_base.proofs.SetLaws.{has-with_rows, or_assoc, same_set, size-with_rows}
+use Rattle.rsvp_base.proofs.Tables.{get-kept, same_table}
 use Rattle.path_state.specs.Paths.{HopSet, hop_of, hops_by, later, path_hops, path_keys}
 use Rattle.path_state.specs.declared.fact.PathFact.{PathFact}
 use Rattle.blockade_state.specs.Touched.{Marks, is_touched, touched_at, touched_by}
@@ -24,7 +26,7 @@ use Rattle.router_rules.specs.Facts.{SenderKey, sender_keys}
 use Rattle.node_waiting.specs.Lost.{LostTable, came_from, lost_hops, lost_row, loses}
 use Rattle.node_waiting.specs.Passing.{unmarked}
 use Rattle.node_waiting.specs.declared.lost.LostHop.{LostHop}
-use Rattle.session_rounds.specs.Nears.{hops_before, hops_then, noted_before}
+use Rattle.session_rounds.specs.Nears.{NearTable, hops_before, hops_then, noted_before}
 
 abbrev Path : Type 0
 Path = SenderKey × (PathFact × ℕ)
@@ -188,3 +190,20 @@ module _ (paths : Table path_keys (PathFact × ℕ)) (lost : LostTable) (touched
     where
       marked : mark ≡ is_touched touched s
       marked = sym (ap (λ w. unwrap_or w false) (in_found sessions touched s mark (got_in touched.rows k (s, mark) at)))
+
+  -- where nothing changed and nothing came due, none are noted
+  pub none_noted : ((s : Session) → test s ≡ false) → (kept test (changed (noted_before paths lost) touched)).rows ≡ []
+  none_noted calm =
+      let m = changed (noted_before paths lost) touched in
+      ap (λ (t : NearTable). t.rows) (same_table sessions (kept test m) (empty {o = sessions}) (λ q. get-kept sessions test m q ∙ ap (λ b. cond b (get m q) None) (calm q)))
+
+-- ---- of a session nothing changed where nothing did of any
+pub calm_all : (m : Marks) → list_any (λ (b : Bool). b) (values m) ≡ false → (s : Session) → is_touched m s ≡ false
+calm_all m none s = by (get m s) refl
+  where
+    by : (w : Option Bool) → get m s ≡ w → unwrap_or (get m s) false ≡ false
+    by None e = ap (λ w. unwrap_or w false) e
+    by (Some false) e = ap (λ w. unwrap_or w false) e
+    by (Some true) e =
+        let z : true ≡ false = sym (any_in (λ (b : Bool). b) true (values m) (to_each (λ (e : Session × Bool). e.1) (s, true) m.rows (found_in sessions m s true e)) refl) ∙ none in
+        absurd (cc)

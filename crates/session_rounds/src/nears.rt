@@ -1,5 +1,5 @@
 //! Sessions with the previous hops that they had before.
-ghost use Rattle.std.specs.Prelude.{◌≡◌, ◌≤◌, ◌<◌, ◌+◌, ◌||◌, ◌++◌, [], ◌∷◌, true, cond, length, map, vec_capacity, IfOk};
+ghost use Rattle.std.specs.Prelude.{◌≡◌, ◌≤◌, ◌<◌, ◌+◌, ◌||◌, ◌++◌, [], ◌∷◌, true, false, cond, length, map, vec_capacity, IfOk};
 ghost use Rattle.std.specs.Ordering.{eq_by_cmp};
 ghost use Rattle.rsvp_base.specs.Orders.{sessions};
 ghost use Rattle.rsvp_base.specs.Rows.{AreRows};
@@ -168,6 +168,16 @@ fn note_one(
     add(rows, Near { session, hops });
 }
 
+// Whether nothing changed of any session that is watched, and none came due.
+fn is_calm(touched: &Touched, fired: &Fired) -> bool
+    ensures { result ≡ true → (s : Session) → (is_touched touched.now s || has fired.now s) ≡ false }
+{
+    if touched.has_any() {
+        return false;
+    }
+    fired.as_slice().is_empty()
+}
+
 // Adds each session that is watched and of which something changed, or that came due, with its previous hops as they were
 // before paths died. The room is there.
 fn note_some(
@@ -184,6 +194,9 @@ fn note_some(
     ensures few { length rows.new.items ≤ 64 }
     ensures capacity { vec_capacity rows.old ≤ vec_capacity rows.new }
 {
+    if is_calm(touched, fired) {
+        return;
+    }
     // The proof sees here that no more are watched.
     let _first = touched.at(0);
     for k in 0..ROOM {

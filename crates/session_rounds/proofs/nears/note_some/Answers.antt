@@ -2,8 +2,11 @@ use Rattle.std.proofs.Common.{sym, ap, ◌∙◌, arith, length, map as each}
 use Rattle.std.proofs.lemmas.List.{take_all}
 use Rattle.rsvp_base.proofs.Fronts.{front_all}
 use Rattle.session_rounds.specs.Nears.{near_row}
-use Rattle.session_rounds.proofs.Before.{noted, noted_step}
+use Rattle.session_rounds.proofs.Before.{none_noted, noted, noted_step}
 use Rattle.session_rounds.proofs.nears.note_some.Goals as goal
+
+pub returns-then-is_calm-clause-rows : goal.returns-then-is_calm-clause-rows
+returns-then-is_calm-clause-rows c = ap (each near_row) c.requires.none ∙ sym (none_noted c.args.paths.now.facts c.args.lost.now c.args.touched.now c.args.fired.now (c.is_calm.ensures c.if-is_calm.true))
 
 pub loop-k-init : goal.loop-k-init
 loop-k-init c = record { rows = ap (each near_row) c.requires.none; few = omega (arith, ap length c.requires.none); capacity = omega arith }
