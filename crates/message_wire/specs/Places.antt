@@ -121,11 +121,6 @@ by_head kind s at bytes (Ok h) =
 unfoldable pub object_in : Kind → Seen → ℕ → List ℕ → Result (Object × ℕ) Fault
 object_in kind s at bytes = by_head kind s at bytes (head_of at (drop at bytes))
 
--- a FILTER_SPEC still has room
-abbrev pub HasRoom : Seen → Object → Type 0
-HasRoom s (object.Filter x) = length s.filters ≡ 16 → ⊥
-HasRoom s _ = Unit {0}
-
 -- ---- lists of objects
 
 -- behind the objects before, these objects stand one after the other from a place to an end, each where it may
