@@ -19,13 +19,13 @@ proved() {
   fi
 }
 
-# plain FILE: builds a plain Rust program to compare with, where rustc is installed, in PATH or where rustup puts it; its
+# plain FILE: builds a plain Rust program, of a file from the root on, to compare with, where rustc is installed, in PATH or where rustup puts it; its
 # path is then in plain.
 plain() {
   local rustc
   plain=""
   rustc="$(PATH="$PATH:${CARGO_HOME:-$HOME/.cargo}/bin" command -v rustc)" || return 0
-  "$rustc" --edition 2024 -O -o "$work/plain" "$here/bench/$1" || exit 1
+  "$rustc" --edition 2024 -O -o "$work/plain" "$here/$1" || exit 1
   plain="$work/plain"
 }
 
