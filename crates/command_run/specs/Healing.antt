@@ -9,7 +9,7 @@ use Rattle.network_model.specs.Events.{Event, Reports, Rounds}
 use Rattle.network_model.specs.Locals.{locals_of}
 use Rattle.network_model.specs.Runs.{Plan, first_world, is_crowded_run, run_text, steps_of_run, text_of}
 use Rattle.network_model.specs.Steps.{Report, Step, machine}
-use Rattle.demand_texts.specs.Texts.{demand_text}
+use Rattle.network_model.specs.DemandTexts.{demand_text}
 use Rattle.script_grammar.specs.Draft.{Draft, plan_of, routing}
 use Rattle.script_grammar.specs.Grammar.{IsScript}
 use Rattle.seed_laws.specs.SettleReports.Demands.{AppendsTheDemand, moment}

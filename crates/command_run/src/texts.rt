@@ -4,9 +4,8 @@ ghost use Rattle.value_texts.specs.Texts.{addr_text};
 ghost use Rattle.command_run.specs.StatusTexts.{fault_text, status_text};
 
 use crate::status::Status;
-use rsvp_base::Addr;
+use rsvp_base::{Addr, EndName};
 use script_grammar::Fault;
-use script_words::EndName;
 use std::fmt;
 
 impl fmt::Display for Status {

@@ -15,7 +15,7 @@ use Rattle.tree_model.specs.Goals.{demand_of}
 use Rattle.tree_model.specs.Networks.{Net}
 use Rattle.tree_model.specs.Wants.{Locals}
 use Rattle.demand_texts.specs.Owing.{end_owes, named_owes}
-use Rattle.demand_texts.specs.Texts.{demand_text, end_demand, of_end}
+use Rattle.network_model.specs.DemandTexts.{demand_text, end_demand, of_end}
 
 abbrev entries_text : List (EntryKey × Part) → List ℕ
 entries_text rows = flat_map (λ (e : EntryKey × Part). entry_text e.0 e.1) rows

@@ -4,7 +4,7 @@ use Rattle.network_demand.specs.Books.{book_at}
 use Rattle.report_texts.specs.Texts.{book_text}
 use Rattle.style_rules.specs.Lines.{BookTable}
 use Rattle.tree_model.specs.declared.hops.End.{End}
-use Rattle.demand_texts.specs.Texts.{of_end}
+use Rattle.network_model.specs.DemandTexts.{of_end}
 
 abbrev pub named_owes : ℕ → BookTable → Option (List ℕ) → List ℕ
 named_owes capacity book None = []

@@ -3,7 +3,7 @@ ghost use Rattle.std.specs.Prelude.{◌≡◌, ◌++◌, OnOk};
 ghost use Rattle.std.specs.Fmt.{decimal};
 ghost use Rattle.std.specs.List.{flat_map};
 ghost use Rattle.report_texts.specs.Texts.{entry_text, head_text, held_of};
-ghost use Rattle.demand_texts.specs.Texts.{last_line, yes_or_no};
+ghost use Rattle.network_model.specs.DemandTexts.{last_line, yes_or_no};
 
 use itoa::Buffer;
 use report_texts::put_entry;
@@ -60,7 +60,7 @@ pub(crate) fn put_entries(out: &mut Vec<u8>, entries: &[(EntryKey, Part)]) -> Re
 }
 
 /// Appends the last line, as `longest 2 fits yes`.
-#[tactic(auto, unfolding(crate::specs::Texts::last_line))]
+#[tactic(auto, unfolding(network_model::specs::DemandTexts::last_line))]
 pub(crate) fn put_last(out: &mut Vec<u8>, longest: u32, fits: bool) -> Result<(), NoMemory>
     ensures { OnOk result (out.new.items ≡ out.old.items ++ last_line longest fits) }
 {

@@ -4,12 +4,11 @@ ghost use Rattle.std.specs.List.{flat_map, range_with_len};
 ghost use Rattle.network_demand.specs.Asked.{locals_of};
 ghost use Rattle.network_demand.specs.Demands.{AreLocals};
 ghost use Rattle.demand_texts.specs.Owing.{end_owes, named_owes};
-ghost use Rattle.demand_texts.specs.Texts.{IsDemandText};
+ghost use Rattle.network_model.specs.DemandTexts.{IsDemandText};
 
 use crate::lines::{put_entries, put_head, put_last, sum_of_rates};
 use network_demand::{EndBook, Locals, demand};
-use rsvp_base::NoMemory;
-use script_words::EndName;
+use rsvp_base::{EndName, NoMemory};
 use std::alloc::Global;
 use tree_routing::{End, Routing};
 

@@ -8,7 +8,7 @@ ghost use Rattle.router_rules.specs.Inputs.{Send};
 ghost use Rattle.error_passing.specs.Runs.{said_from};
 ghost use Rattle.error_passing.specs.Going.{going_row};
 
-use node_telling::Outbox;
+use router_rules::Outbox;
 use rsvp_base::Addr;
 use rsvp_messages::Message;
 use std::cmp::Ordering;

@@ -4,9 +4,9 @@ ghost use Rattle.node_sends.specs.State.{State};
 ghost use Rattle.error_passing.specs.PathErrs.{path_err_heard, path_err_sent};
 
 use local_state::LocalSenders;
-use node_telling::{Config, Outbox};
+use node_telling::Config;
 use path_state::PathTable;
-use router_rules::{Heard, Why};
+use router_rules::{Heard, Outbox, Why};
 use rsvp_messages::{Message, PathErrMsg};
 
 /// A PathErr arrives by an interface (RFC 2205, 3.1.7; RFC 2209, 2: PATH ERROR MESSAGE ARRIVES). It goes on to the hop that

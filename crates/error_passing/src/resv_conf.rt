@@ -12,9 +12,9 @@ ghost use Rattle.error_passing.specs.ResvConfs.{resv_conf_heard, resv_conf_sent}
 use crate::outgoing::{Outgoing, hold, post_last};
 use crate::resv_err::FACTS;
 use error_confirm::confirms;
-use node_telling::{Config, Outbox};
+use node_telling::Config;
 use resv_state::{ResvFact, ResvTable};
-use router_rules::{Heard, Why};
+use router_rules::{Heard, Outbox, Why};
 use rsvp_messages::{Ask, Message, ResvConfMsg};
 use soft_table::Finger;
 use style_rules::{Fixed, Shared, Style, Wild};

@@ -7,8 +7,8 @@ ghost use Rattle.router_rules.specs.Sends.{error_sends};
 ghost use Rattle.error_passing.specs.Replies.{path_reply, resv_reply, reply_of};
 
 use error_confirm::answer_for;
-use node_telling::{Config, Outbox};
-use router_rules::{Heard, Why};
+use node_telling::Config;
+use router_rules::{Heard, Outbox, Why};
 use rsvp_base::{Addr, ErrSpec, Hop, Sender, Session, StyleKind};
 use rsvp_messages::{Blame, Kind, Message, MsgErr, PathErrMsg, ResvErrMsg};
 

@@ -4,7 +4,7 @@ use Rattle.std.specs.Fmt.{decimal, digits}
 use Rattle.std.specs.List.{flat_map, list_all, range_with_len}
 use Rattle.std.specs.Prelude.{codes, ◌&&◌}
 use Rattle.rsvp_base.proofs.SetLaws.{and_both}
-use Rattle.script_words.specs.Names.{is_name}
+use Rattle.rsvp_base.specs.EndNames.{is_name}
 use Rattle.grown_network.specs.Nodes.{names_of_link, names_up_to}
 use Rattle.grown_network.proofs.Hanging.{flat_append}
 use Rattle.grown_network.proofs.Ranges.{at_each, range_more}

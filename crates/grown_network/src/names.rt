@@ -1,12 +1,11 @@
 //! The names of the ends of a grown network.
 ghost use Rattle.std.specs.Prelude.{◌≡◌, ◌≤◌, ◌<◌, ◌++◌, ◌∷◌, [], true, codes, IfOk, OnOk};
 ghost use Rattle.std.specs.Fmt.{decimal};
-ghost use Rattle.script_words.specs.Names.{is_name};
+ghost use Rattle.rsvp_base.specs.EndNames.{is_name};
 ghost use Rattle.grown_network.specs.Nodes.{names_of_link, names_up_to};
 
 use crate::nodes::NODES;
-use rsvp_base::NoMemory;
-use script_words::EndName;
+use rsvp_base::{EndName, NoMemory};
 use std::alloc::Global;
 use value_texts::{put, put_number};
 

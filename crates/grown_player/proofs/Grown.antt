@@ -14,7 +14,7 @@ use Rattle.tree_model.specs.declared.locals.LocalSender.{LocalSender}
 use Rattle.network_model.specs.Events.{Event, Reports, Rounds}
 use Rattle.network_model.specs.Runs.{Plan, first_world, is_crowded_run}
 use Rattle.network_demand.specs.Demands.{AreLocals}
-use Rattle.demand_texts.specs.Texts.{IsDemandText, demand_text, last_line}
+use Rattle.network_model.specs.DemandTexts.{IsDemandText, demand_text, last_line}
 use Rattle.net_replay.specs.Agreeing.{Agrees, NetworkState}
 use Rattle.net_replay.specs.Following.{Seen}
 use Rattle.net_replay.specs.Opening.{AreFirst, IsOpenedBy}

@@ -1,6 +1,6 @@
 -- A network that a seed grew, before its run.
 use Rattle.std.specs.Prelude.{◌≡◌, ℕ, true, List, [], ◌++◌}
-use Rattle.demand_texts.specs.Texts.{last_line}
+use Rattle.network_model.specs.DemandTexts.{last_line}
 use Rattle.tree_model.specs.Ranks.{longest}
 use Rattle.network_model.specs.Runs.{Plan}
 use Rattle.grown_network.specs.Grown.{grown_net, grown_plan, rounds_of}

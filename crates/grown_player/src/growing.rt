@@ -11,9 +11,8 @@ use grown_network::{Grown, QUARTER};
 use grown_summary::asked;
 use net_replay::World;
 use network_parcels::Wires;
-use rsvp_base::NoMemory;
+use rsvp_base::{EndName, NoMemory};
 use script_player::Opens;
-use script_words::EndName;
 use std::alloc::Global;
 use tree_routing::Routing;
 

@@ -23,7 +23,7 @@ use Rattle.network_steps.proofs.Calming.{rounds_is_calm, run_append}
 use Rattle.network_steps.proofs.Keeping.{calm_rounds_keep_bounds}
 use Rattle.network_steps.proofs.Known.{known_hold}
 use Rattle.network_steps.proofs.Runs.{each_world_of_a_run_is_within_bounds}
-use Rattle.demand_texts.specs.Texts.{demand_text}
+use Rattle.network_model.specs.DemandTexts.{demand_text}
 use Rattle.script_standing.specs.SettleReports.Demands.{AppendsTheDemand, moment}
 use Rattle.script_standing.proofs.SettleReports.Demands.{a_settled_report_is_the_demand}
 use Rattle.script_standing.specs.Standing.{AskTheSame}

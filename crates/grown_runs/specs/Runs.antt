@@ -6,7 +6,7 @@ use Rattle.network_model.specs.Runs.{first_world, is_crowded_run, run_text, step
 use Rattle.network_model.specs.Steps.{Report, Step}
 use Rattle.network_model.specs.Worlds.{World}
 use Rattle.network_steps.specs.Runs.{AreFitSenders, IsFitRun}
-use Rattle.demand_texts.specs.Texts.{demand_text}
+use Rattle.network_model.specs.DemandTexts.{demand_text}
 use Rattle.script_standing.specs.SettleReports.Demands.{moment}
 use Rattle.script_standing.specs.Standing.{AskTheSame}
 use Rattle.grown_network.specs.Grown.{asked, grown_net, grown_plan}

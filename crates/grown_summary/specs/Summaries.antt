@@ -1,6 +1,6 @@
 -- What is told of the run of a seed's plan: of its network, of its last world, and whether it reports what is demanded.
 use Rattle.std.specs.Prelude.{ℕ, ◌-◌, ◌^◌, min, Bool, List, length, None, bytes_eq}
-use Rattle.demand_texts.specs.Texts.{demand_text}
+use Rattle.network_model.specs.DemandTexts.{demand_text}
 use Rattle.tree_model.specs.Ranks.{longest}
 use Rattle.network_model.specs.Runs.{last_world, run_text}
 use Rattle.grown_network.specs.Grown.{asked, grown_net, grown_plan, rounds_of}

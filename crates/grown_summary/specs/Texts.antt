@@ -1,7 +1,7 @@
 -- The text of a summary, line by line.
 use Rattle.std.specs.Prelude.{ℕ, Bool, List, ◌++◌, codes}
 use Rattle.std.specs.Fmt.{decimal}
-use Rattle.demand_texts.specs.Texts.{yes_or_no}
+use Rattle.network_model.specs.DemandTexts.{yes_or_no}
 use Rattle.grown_summary.specs.declared.summary.Summary.{Summary}
 
 unfoldable pub seed_line : ℕ → List ℕ

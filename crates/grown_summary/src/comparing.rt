@@ -1,6 +1,6 @@
 //! A report is compared with a demand.
 ghost use Rattle.std.specs.Prelude.{◌≡◌, ◌↔◌, ◌++◌, true, List, ℕ, IsTrue, IfOk, OnOk, bytes_eq};
-ghost use Rattle.demand_texts.specs.Texts.{last_line};
+ghost use Rattle.network_model.specs.DemandTexts.{last_line};
 
 use rsvp_base::NoMemory;
 use std::alloc::Global;
@@ -22,7 +22,7 @@ pub fn is_demand(
 }
 
 // Appends the last line of a demand that fits.
-#[tactic(auto, unfolding(demand_texts::specs::Texts::last_line))]
+#[tactic(auto, unfolding(network_model::specs::DemandTexts::last_line))]
 fn put_last(out: &mut Vec<u8>, longest: u32) -> Result<(), NoMemory>
     ensures { OnOk result (out.new.items ≡ out.old.items ++ last_line longest true) }
 {

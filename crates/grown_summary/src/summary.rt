@@ -1,7 +1,7 @@
 //! Summaries and their texts.
 ghost use Rattle.std.specs.Prelude.{◌≡◌, ◌++◌, OnOk};
 ghost use Rattle.std.specs.Fmt.{decimal};
-ghost use Rattle.demand_texts.specs.Texts.{yes_or_no};
+ghost use Rattle.network_model.specs.DemandTexts.{yes_or_no};
 ghost use Rattle.grown_summary.specs.Texts.{booked_line, counts_text, equal_line, network_line, rounds_line, seed_line, summary_text};
 
 use itoa::Buffer;

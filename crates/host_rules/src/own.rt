@@ -9,7 +9,7 @@ ghost use Rattle.script_state.specs.Refusals.{OnlyNoMemory};
 ghost use Rattle.script_grammar.specs.Adds.{is_in_place_of, is_want_at, wanted, wants_at, with_want, with_wants};
 
 use rsvp_base::{Flow, Part, Sender, Senders, Session, StyleKind, Unit};
-use script_player::Refused;
+use script_grammar::Stop;
 use script_state::{ScriptState, is_session};
 use std::cmp::Ordering;
 use tree_model::LocalWant;
@@ -22,7 +22,7 @@ pub(crate) fn count_with(
     style: StyleKind,
     names: &Senders,
     flow: Flow,
-) -> Result<usize, Refused>
+) -> Result<usize, Stop>
     ensures ok { IfOk result (λ n. n ≡ length (wants_at (with_wants state.now.wants (wanted node session style names.now flow)) node session)) }
     ensures refused { IfErr result OnlyNoMemory }
 {
@@ -79,7 +79,7 @@ fn make_place(wants: &mut Vec<LocalWant>, new: &LocalWant)
 }
 
 // Puts a want in the place of that of its unit.
-fn put_want(wants: &mut Vec<LocalWant>, new: LocalWant) -> Result<(), Refused>
+fn put_want(wants: &mut Vec<LocalWant>, new: LocalWant) -> Result<(), Stop>
     ensures ok { OnOk result (wants.new.items ≡ with_want wants.old.items new) }
     ensures refused { IfErr result OnlyNoMemory }
 {
@@ -106,7 +106,7 @@ fn put_fixed(
     session: Session,
     senders: &[Sender],
     flow: Flow,
-) -> Result<(), Refused>
+) -> Result<(), Stop>
     ensures ok { OnOk result (wants.new.items ≡ with_wants wants.old.items (map
         (λ x. record { node = node; session = session; style = StyleKind.Fixed; part = record { senders = only x; flow = flow } }) senders.now)) }
     ensures refused { IfErr result OnlyNoMemory }
@@ -139,7 +139,7 @@ fn put(
     style: StyleKind,
     names: &Senders,
     flow: Flow,
-) -> Result<(), Refused>
+) -> Result<(), Stop>
     ensures ok { OnOk result (wants.new.items ≡ with_wants wants.old.items (wanted node session style names.now flow)) }
     ensures refused { IfErr result OnlyNoMemory }
 {
@@ -158,7 +158,7 @@ fn put_one(
     style: StyleKind,
     senders: Senders,
     flow: Flow,
-) -> Result<(), Refused>
+) -> Result<(), Stop>
     ensures ok { OnOk result (wants.new.items ≡ with_want wants.old.items (record { node = node; session = session; style = style; part = record { senders = senders; flow = flow } })) }
     ensures refused { IfErr result OnlyNoMemory }
 {

@@ -10,35 +10,33 @@ ghost use Rattle.tree_model.specs.Wants.{live, of_session};
 ghost use Rattle.script_state.specs.Said.{draft_of};
 ghost use Rattle.script_state.specs.Events.{event_of};
 ghost use Rattle.script_state.specs.Refusals.{IsUntouched, OnlyNoMemory, Refuses};
-ghost use Rattle.script_player.specs.Checking.{IsAdded};
+ghost use Rattle.script_grammar.specs.GivenEvents.{IsAdded};
 ghost use Rattle.script_grammar.specs.Adds.{Adds, is_sender, sends, with_sender, without_sender};
 ghost use Rattle.script_grammar.specs.Draft.{node_number, with_session};
 ghost use Rattle.script_grammar.specs.Rules.{HasRoomForSession, IsNode, Keeps, KeepsAll, is_sender_at};
 ghost use Rattle.script_grammar.specs.Values.{IsDropInRange, IsSendInRange};
 ghost use Rattle.script_grammar.specs.declared.line.ScriptLine.TheVariants as kind;
 
-use net_replay::{Event, LocalCall};
-use rsvp_base::{Addr, Flow, Sender, Session};
-use script_grammar::{DropLine, Fault, SendLine};
-use script_player::Refused;
+use network_model::{Event, LocalCall};
+use rsvp_base::{Addr, EndName, Flow, Sender, Session};
+use script_grammar::{DropLine, Fault, SendLine, Stop};
 use script_state::{ScriptState, has_room_for_session, is_session, keep_call};
-use script_words::EndName;
 use tree_model::LocalSender;
 
 const MOST_SENDERS: usize = 16;
 
 /// Adds a sender.
-pub fn add_send(state: &mut ScriptState, line: SendLine) -> Result<Event, Refused>
+pub fn add_send(state: &mut ScriptState, line: SendLine) -> Result<Event, Stop>
     ensures ok { OnOk result (KeepsAll (Keeps (draft_of state.old) (kind.Send line)) × Adds (draft_of state.old) (kind.Send line) (draft_of state.new)) }
     ensures event { IfOk result (λ e. IsAdded (draft_of state.old).events e (draft_of state.new).events) }
     ensures refused { IfErr result (Refuses (draft_of state.old) (kind.Send line)) }
     ensures same { IfErr result (IsUntouched (draft_of state.old) (draft_of state.new)) }
 {
     let Some((session, sender, flow)) = send_values(&line) else {
-        return Err(Refused::Fault(Fault::Range));
+        return Err(Stop::Bad(Fault::Range));
     };
     let Some(node) = own_node(state, &line.node, sender.addr) else {
-        return Err(Refused::Fault(Fault::Name));
+        return Err(Stop::Bad(Fault::Name));
     };
     let new = LocalSender {
         node,
@@ -46,23 +44,23 @@ pub fn add_send(state: &mut ScriptState, line: SendLine) -> Result<Event, Refuse
         sender,
     };
     if !has_room_for_session(state, session) || !has_room_for_sender(state, new) {
-        return Err(Refused::Fault(Fault::Limit));
+        return Err(Stop::Bad(Fault::Limit));
     }
     begin(state, new, flow)
 }
 
 /// Ends a sender.
-pub fn add_drop(state: &mut ScriptState, line: DropLine) -> Result<Event, Refused>
+pub fn add_drop(state: &mut ScriptState, line: DropLine) -> Result<Event, Stop>
     ensures ok { OnOk result (KeepsAll (Keeps (draft_of state.old) (kind.Drop line)) × Adds (draft_of state.old) (kind.Drop line) (draft_of state.new)) }
     ensures event { IfOk result (λ e. IsAdded (draft_of state.old).events e (draft_of state.new).events) }
     ensures refused { IfErr result (Refuses (draft_of state.old) (kind.Drop line)) }
     ensures same { IfErr result (IsUntouched (draft_of state.old) (draft_of state.new)) }
 {
     let Some((session, sender)) = drop_values(&line) else {
-        return Err(Refused::Fault(Fault::Range));
+        return Err(Stop::Bad(Fault::Range));
     };
     let Some(node) = state.nodes.find(line.node.bytes()) else {
-        return Err(Refused::Fault(Fault::Name));
+        return Err(Stop::Bad(Fault::Name));
     };
     let gone = LocalSender {
         node: node as u16,
@@ -70,7 +68,7 @@ pub fn add_drop(state: &mut ScriptState, line: DropLine) -> Result<Event, Refuse
         sender,
     };
     if !sends_at(state.senders.as_slice(), gone) {
-        return Err(Refused::Fault(Fault::Name));
+        return Err(Stop::Bad(Fault::Name));
     }
     end(state, gone)
 }
@@ -153,7 +151,7 @@ fn has_room_for_sender(state: &ScriptState, new: LocalSender) -> bool
 }
 
 // Keeps a sender.
-fn begin(state: &mut ScriptState, new: LocalSender, flow: Flow) -> Result<Event, Refused>
+fn begin(state: &mut ScriptState, new: LocalSender, flow: Flow) -> Result<Event, Stop>
     ensures ok { OnOk result (draft_of state.new ≡ record (draft_of state.old) {
       sessions = with_session state.old.sessions.items new.session;
       locals = with_sender (draft_of state.old).locals new.node new.session new.sender;
@@ -184,7 +182,7 @@ fn begin(state: &mut ScriptState, new: LocalSender, flow: Flow) -> Result<Event,
 }
 
 // Takes a sender out.
-fn end(state: &mut ScriptState, gone: LocalSender) -> Result<Event, Refused>
+fn end(state: &mut ScriptState, gone: LocalSender) -> Result<Event, Stop>
     ensures ok { OnOk result (draft_of state.new ≡ record (draft_of state.old) {
       sessions = with_session state.old.sessions.items gone.session;
       locals = without_sender (draft_of state.old).locals gone.session gone.sender;

@@ -10,7 +10,7 @@ ghost use Rattle.script_state.specs.Said.{draft_of};
 ghost use Rattle.script_state.specs.Events.{event_of};
 ghost use Rattle.script_state.specs.Refusals.{IsUntouched, OnlyNoMemory, Refuses};
 ghost use Rattle.host_rules.specs.Forms.{IsWantForm};
-ghost use Rattle.script_player.specs.Checking.{IsAdded};
+ghost use Rattle.script_grammar.specs.GivenEvents.{IsAdded};
 ghost use Rattle.script_grammar.specs.Adds.{Adds, wanted, wants_at, with_want, with_wants, without_wants};
 ghost use Rattle.script_grammar.specs.Draft.{node_number, with_session};
 ghost use Rattle.script_grammar.specs.Rules.{AreDistinct, IsOfWantedStyle, IsWanting, Keeps, KeepsAll};
@@ -18,10 +18,9 @@ ghost use Rattle.script_grammar.specs.Values.{IsWantInRange};
 ghost use Rattle.script_grammar.specs.declared.line.ScriptLine.TheVariants as kind;
 
 use crate::own::{count_with, only};
-use net_replay::{Event, LocalCall};
+use network_model::{Event, LocalCall};
 use rsvp_base::{Flow, Part, Sender, Senders, Session, StyleKind};
-use script_grammar::{Fault, QuitLine, WantLine};
-use script_player::Refused;
+use script_grammar::{Fault, QuitLine, Stop, WantLine};
 use script_state::{
     ScriptState, WantTable, are_distinct, has_room_for_session, keep_call, sender_values,
 };
@@ -30,7 +29,7 @@ use tree_model::LocalWant;
 const MOST_UNITS: usize = 16;
 
 /// Adds what is wanted at a node.
-pub fn add_want(state: &mut ScriptState, line: WantLine) -> Result<Event, Refused>
+pub fn add_want(state: &mut ScriptState, line: WantLine) -> Result<Event, Stop>
     requires { IsWantForm line.style line.senders }
     ensures ok { OnOk result (KeepsAll (Keeps (draft_of state.old) (kind.Want line)) × Adds (draft_of state.old) (kind.Want line) (draft_of state.new)) }
     ensures event { IfOk result (λ e. IsAdded (draft_of state.old).events e (draft_of state.new).events) }
@@ -39,30 +38,30 @@ pub fn add_want(state: &mut ScriptState, line: WantLine) -> Result<Event, Refuse
 {
     let alloc = state.alloc;
     let Some(senders) = sender_values(alloc, line.senders.as_slice())? else {
-        return Err(Refused::Fault(Fault::Range));
+        return Err(Stop::Bad(Fault::Range));
     };
     let Some((session, flow)) = want_values(&line) else {
-        return Err(Refused::Fault(Fault::Range));
+        return Err(Stop::Bad(Fault::Range));
     };
     let Some(node) = state.nodes.find(line.node.bytes()) else {
-        return Err(Refused::Fault(Fault::Name));
+        return Err(Stop::Bad(Fault::Name));
     };
     let node = node as u16;
     if !are_distinct(senders.as_slice()) {
-        return Err(Refused::Fault(Fault::Twice));
+        return Err(Stop::Bad(Fault::Twice));
     }
     if !is_of_wanted_style(state, &line, node, session) {
-        return Err(Refused::Fault(Fault::Style));
+        return Err(Stop::Bad(Fault::Style));
     }
     let Ok(names) = Senders::of(senders.as_slice()) else {
-        return Err(Refused::Fault(Fault::Limit));
+        return Err(Stop::Bad(Fault::Limit));
     };
     if !has_room_for_session(state, session) {
-        return Err(Refused::Fault(Fault::Limit));
+        return Err(Stop::Bad(Fault::Limit));
     }
     let count = count_with(state, node, session, line.style, &names, flow)?;
     if count > MOST_UNITS {
-        return Err(Refused::Fault(Fault::Limit));
+        return Err(Stop::Bad(Fault::Limit));
     }
     put(&mut state.wants, node, session, line.style, &names, flow)?;
     keep_call(
@@ -80,23 +79,23 @@ pub fn add_want(state: &mut ScriptState, line: WantLine) -> Result<Event, Refuse
 }
 
 /// Takes out what is wanted of a session at a node.
-pub fn add_quit(state: &mut ScriptState, line: QuitLine) -> Result<Event, Refused>
+pub fn add_quit(state: &mut ScriptState, line: QuitLine) -> Result<Event, Stop>
     ensures ok { OnOk result (KeepsAll (Keeps (draft_of state.old) (kind.Quit line)) × Adds (draft_of state.old) (kind.Quit line) (draft_of state.new)) }
     ensures event { IfOk result (λ e. IsAdded (draft_of state.old).events e (draft_of state.new).events) }
     ensures refused { IfErr result (Refuses (draft_of state.old) (kind.Quit line)) }
     ensures same { IfErr result (IsUntouched (draft_of state.old) (draft_of state.new)) }
 {
     let Some(session) = line.session.session() else {
-        return Err(Refused::Fault(Fault::Range));
+        return Err(Stop::Bad(Fault::Range));
     };
     let Some(node) = wanting_node(state, &line, session) else {
-        return Err(Refused::Fault(Fault::Name));
+        return Err(Stop::Bad(Fault::Name));
     };
     leave(state, node, session)
 }
 
 // Takes the wants of a session at a node out.
-fn leave(state: &mut ScriptState, node: u16, session: Session) -> Result<Event, Refused>
+fn leave(state: &mut ScriptState, node: u16, session: Session) -> Result<Event, Stop>
     ensures ok { OnOk result (draft_of state.new ≡ record (draft_of state.old) {
       sessions = with_session state.old.sessions.items session;
       locals = without_wants (draft_of state.old).locals node session;
@@ -163,7 +162,7 @@ fn put_fixed(
     session: Session,
     senders: &[Sender],
     flow: Flow,
-) -> Result<(), Refused>
+) -> Result<(), Stop>
     ensures ok { OnOk result (wants.new ≡ with_wants wants.old (map
         (λ x. record { node = node; session = session; style = StyleKind.Fixed; part = record { senders = only x; flow = flow } }) senders.now)) }
     ensures refused { IfErr result OnlyNoMemory }
@@ -193,7 +192,7 @@ fn put(
     style: StyleKind,
     names: &Senders,
     flow: Flow,
-) -> Result<(), Refused>
+) -> Result<(), Stop>
     ensures ok { OnOk result (wants.new ≡ with_wants wants.old (wanted node session style names.now flow)) }
     ensures refused { IfErr result OnlyNoMemory }
 {
@@ -212,7 +211,7 @@ fn put_one(
     style: StyleKind,
     senders: Senders,
     flow: Flow,
-) -> Result<(), Refused>
+) -> Result<(), Stop>
     ensures ok { OnOk result (wants.new ≡ with_want wants.old (record { node = node; session = session; style = style; part = record { senders = senders; flow = flow } })) }
     ensures refused { IfErr result OnlyNoMemory }
 {

@@ -12,7 +12,7 @@ ghost use Rattle.lane_telling.specs.Rounds.{renewed_seen, told_parts};
 use lane_state::{LaneTable, ask_of, gone_among, tear_of};
 use lane_wishes::{hop_to, names_via, own_wish, toward};
 use node_tables::Tables;
-use node_telling::Outbox;
+use router_rules::Outbox;
 use rsvp_base::{Addr, Session, StyleKind};
 use rsvp_messages::{Message, ResvMsg, ResvTearMsg};
 use style_rules::Parts;

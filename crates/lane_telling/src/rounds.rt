@@ -15,8 +15,8 @@ ghost use Rattle.lane_telling.specs.Rounds.{lanes_of, renewed_by, told_by, torn_
 use crate::lanes::{refresh_lane, tell_lane, tell_torn};
 use lane_state::LaneTable;
 use node_tables::Tables;
-use node_telling::Outbox;
 use path_state::Hops;
+use router_rules::Outbox;
 use rsvp_base::{Addr, Session, StyleKind};
 
 // The ResvTear of a lane, of what was said there. Where that is nothing, what goes there is not worked out.

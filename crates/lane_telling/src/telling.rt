@@ -19,8 +19,9 @@ use crate::rounds::{tear_lanes, tell_lanes};
 use lane_state::LaneTable;
 use lane_wishes::{Units, unmark, used_marks};
 use node_tables::Tables;
-use node_telling::{Offered, Outbox, tell_gone, tell_new};
+use node_telling::{Offered, tell_gone, tell_new};
 use path_state::Hops;
+use router_rules::Outbox;
 use rsvp_base::{Addr, Sender, Session};
 use rsvp_messages::Message;
 

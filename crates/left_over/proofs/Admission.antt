@@ -49,9 +49,9 @@ use Rattle.left_over.specs.Kept.{stale_of}
 use Rattle.left_over.specs.Standing.{Stands, excess_of}
 use Rattle.left_over.specs.Tables.{learnt, paths_of, walls_of}
 use Rattle.left_over.specs.declared.fact.Left.TheVariants as left_as
-use Rattle.script_grammar.specs.Excesses.{excess_on}
-use Rattle.script_grammar.specs.declared.fault.Excess.{Excess}
-use Rattle.script_grammar.specs.declared.fault.Excess.TheVariants as excess
+use Rattle.network_model.specs.Excesses.{excess_on}
+use Rattle.network_model.specs.declared.excess.Excess.{Excess}
+use Rattle.network_model.specs.declared.excess.Excess.TheVariants as excess
 
 pub zero_more : (n : ℕ) → 0 + n ≡ n
 zero_more n = omega arith

@@ -7,7 +7,7 @@ use Rattle.rsvp_base.specs.declared.iface.Iface.{Iface}
 use Rattle.tree_model.specs.declared.hops.End.{End}
 use Rattle.tree_model.specs.Networks.{Net, ends_from, ends_of, iface_of, node_of}
 use Rattle.tree_model.proofs.Ifaces.{interfaces_are_ends}
-use Rattle.script_grammar.specs.Worlds.{ifaces_at, with_iface}
+use Rattle.network_model.specs.Worlds.{ifaces_at, with_iface}
 use Rattle.left_over.specs.AtNodes.{ifaces_at_node}
 
 abbrev pub own : ℕ → List End → List End

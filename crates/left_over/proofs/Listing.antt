@@ -10,8 +10,7 @@ use Rattle.rsvp_base.proofs.Tables.{either}
 use Rattle.router_rules.specs.Calls.{with_left}
 use Rattle.router_rules.specs.Facts.{Facts, no_facts}
 use Rattle.router_rules.specs.Inputs.{Stale}
-use Rattle.script_grammar.specs.Draft.{stale_at}
-use Rattle.script_grammar.specs.Rules.{facts_at, facts_with_all}
+use Rattle.network_model.specs.LeftFacts.{facts_at, facts_with_all, stale_at}
 use Rattle.left_over.specs.AtNodes.{AreBooksOf, AreKept, entry_of, ifaces_at_node, list_of}
 use Rattle.left_over.specs.Kept.{facts_of, ifaces_of, stale_of}
 use Rattle.left_over.specs.declared.at_node.AtNode.{AtNode}

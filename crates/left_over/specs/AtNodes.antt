@@ -4,8 +4,8 @@ use Rattle.rsvp_base.specs.declared.iface.Iface.{Iface}
 use Rattle.router_rules.specs.Inputs.{Stale}
 use Rattle.tree_model.specs.Networks.{ends_of}
 use Rattle.tree_model.specs.declared.hops.End.{End}
-use Rattle.script_grammar.specs.Worlds.{ifaces_at}
-use Rattle.script_grammar.specs.Rules.{facts_at}
+use Rattle.network_model.specs.Worlds.{ifaces_at}
+use Rattle.network_model.specs.LeftFacts.{facts_at}
 use Rattle.left_over.specs.Kept.{facts_of, ifaces_of, stale_of}
 use Rattle.left_over.specs.declared.at_node.AtNode.{AtNode}
 use Rattle.left_over.specs.declared.fact.LeftOver.{LeftOver}

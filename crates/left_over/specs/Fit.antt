@@ -1,7 +1,7 @@
 -- What may be left over at the nodes of a network before anything happened.
 use Rattle.std.specs.Prelude.{ℕ, List}
 use Rattle.std.specs.List.{All}
-use Rattle.script_grammar.specs.Worlds.{config_of}
+use Rattle.network_model.specs.Worlds.{config_of}
 use Rattle.router_rules.specs.NodeConfig.{NodeConfig}
 use Rattle.router_rules.specs.Steps.{IsFitStale}
 use Rattle.tree_model.specs.Networks.{Net}

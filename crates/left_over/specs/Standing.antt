@@ -10,9 +10,9 @@ use Rattle.router_rules.specs.Facts.{Facts}
 use Rattle.router_rules.specs.Inputs.{Stale, StalePath, StaleResv, StaleWall}
 use Rattle.resv_book.specs.declared.placing.Placed.{Placed}
 use Rattle.resv_book.specs.declared.placing.Placed.TheVariants as placed
-use Rattle.script_grammar.specs.Excesses.{excess_at}
-use Rattle.script_grammar.specs.declared.fault.Excess.{Excess}
-use Rattle.script_grammar.specs.declared.fault.Excess.TheVariants as excess
+use Rattle.network_model.specs.Excesses.{excess_at}
+use Rattle.network_model.specs.declared.excess.Excess.{Excess}
+use Rattle.network_model.specs.declared.excess.Excess.TheVariants as excess
 use Rattle.left_over.specs.Tables.{AreAdmitted}
 use Rattle.left_over.specs.declared.fact.Left.{Left}
 use Rattle.left_over.specs.declared.fact.Left.TheVariants as left

@@ -25,7 +25,7 @@ impl Leavings {
     ghost use Rattle.rsvp_base.specs.Table.{has};
     ghost use Rattle.router_rules.specs.Facts.{resvs_of};
     ghost use Rattle.tree_model.specs.declared.hops.End.{End as EndOf};
-    ghost use Rattle.script_grammar.specs.Rules.{facts_at};
+    ghost use Rattle.network_model.specs.LeftFacts.{facts_at};
     ghost use Rattle.left_over.specs.AtNodes.{ifaces_at_node};
     ghost use Rattle.left_over.specs.Kept.{stale_of};
     ghost use Rattle.left_over.specs.Listed.{IsOfEnds, facts_in, left_at, nodes_in, stale_in};

@@ -2,8 +2,8 @@
 ghost use Rattle.std.specs.Prelude.{◌≡◌};
 ghost use Rattle.left_over.specs.declared.refused.LeftErr.TheVariants.{NoMemory};
 
+use network_model::Excess;
 use rsvp_base::NoMemory as OutOfMemory;
-use script_grammar::Excess;
 use std::alloc::{AllocError, AllocFailed};
 
 /// Why a left-over fact is not kept.

@@ -12,11 +12,12 @@ use Rattle.left_over.specs.Standing.{IsAdmittedIn, IsLeftOut, Stands}
 use Rattle.left_over.specs.declared.refused.LeftErr.TheVariants as left_err
 use Rattle.left_over.proofs.Listing.{facts_more}
 use Rattle.script_grammar.specs.Draft.{Draft}
-use Rattle.script_grammar.specs.Rules.{HasRoomForSession, facts_at}
-use Rattle.script_grammar.specs.Excesses.{excess_at}
-use Rattle.script_grammar.specs.declared.fault.Excess.{Excess}
+use Rattle.script_grammar.specs.Rules.{HasRoomForSession}
+use Rattle.network_model.specs.LeftFacts.{facts_at}
+use Rattle.network_model.specs.Excesses.{excess_at}
+use Rattle.network_model.specs.declared.excess.Excess.{Excess}
 use Rattle.script_grammar.specs.declared.fault.Fault.TheVariants as fault
-use Rattle.script_player.specs.declared.checks.Refused.TheVariants.{Fault}
+use Rattle.script_grammar.specs.declared.stop.Stop.TheVariants.{Bad}
 use Rattle.left_rules.specs.LeftRefusals.{IsLeft, IsNotLeft}
 
 module _ (d : Draft) (node : ℕ) (s : Session) (f : Stale) (room : HasRoomForSession d s) where
@@ -27,10 +28,10 @@ module _ (d : Draft) (node : ℕ) (s : Session) (f : Stale) (room : HasRoomForSe
     admitted = subst (λ (xs : List (ℕ × Stale)). IsAdmittedIn (ifaces_at_node d.net.ends node) f (facts_at xs node)) e stands.admitted;
   }
 
-  pub is_full : IsLeftOut (ifaces_at_node d.net.ends node) f (facts_at d.stale node) left_err.Full → IsNotLeft d node s f (Fault fault.Limit)
+  pub is_full : IsLeftOut (ifaces_at_node d.net.ends node) f (facts_at d.stale node) left_err.Full → IsNotLeft d node s f (Bad fault.Limit)
   is_full out both = out (subst AreWithinLimits (facts_more d.stale node f) both.1)
 
-  pub is_over : (much : Excess) → IsLeftOut (ifaces_at_node d.net.ends node) f (facts_at d.stale node) (left_err.Over much) → IsNotLeft d node s f (Fault (fault.Over much))
+  pub is_over : (much : Excess) → IsLeftOut (ifaces_at_node d.net.ends node) f (facts_at d.stale node) (left_err.Over much) → IsNotLeft d node s f (Bad (fault.Over much))
   is_over much out = (
     room,
     subst AreWithinLimits (sym (facts_more d.stale node f)) out.0,

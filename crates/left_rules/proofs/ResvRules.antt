@@ -20,8 +20,8 @@ use Rattle.script_grammar.specs.declared.line.ScriptLine.TheVariants as line
 use Rattle.script_grammar.specs.declared.line.StaleResvLine.{StaleResvLine}
 use Rattle.left_rules.specs.LeftRefusals.{IsLeft, IsNotLeft}
 use Rattle.script_state.specs.Refusals.{Refuses}
-use Rattle.script_player.specs.declared.checks.Refused.{Refused}
-use Rattle.script_player.specs.declared.checks.Refused.TheVariants.{Fault, NoMemory}
+use Rattle.script_grammar.specs.declared.stop.Stop.{Stop}
+use Rattle.script_grammar.specs.declared.stop.Stop.TheVariants.{Bad, Crowded, NoMemory}
 
 -- only the interfaces of a place count
 admitted_at : (q : ℕ) (net : Net) (n : ℕ) (f : Facts) → AreAdmitted (ifaces_at_node net.ends n) f → AreBooked (config_of q net [] n) f
@@ -57,9 +57,9 @@ module _ (d : Draft) (l : StaleResvLine) (asked : IsAsked d l) where
     adds,
   )
 
-  refused : (x : Refused) → IsNotLeft d (stale_node d l) (session_value l.session) (stale_resv_value d l) x → Refuses d (line.StaleResv l) x
-  refused (Fault fault.Limit) out = (asked.in_time, asked.in_range, asked.known, asked.new, tt, λ room. out (room.session, room.tables))
-  refused (Fault (fault.Over much)) out = (
+  refused : (x : Stop) → IsNotLeft d (stale_node d l) (session_value l.session) (stale_resv_value d l) x → Refuses d (line.StaleResv l) x
+  refused (Bad fault.Limit) out = (asked.in_time, asked.in_range, asked.known, asked.new, tt, λ room. out (room.session, room.tables))
+  refused (Bad (fault.Over much)) out = (
     asked.in_time,
     asked.in_range,
     asked.known,
@@ -70,17 +70,18 @@ module _ (d : Draft) (l : StaleResvLine) (asked : IsAsked d l) where
     λ admitted. out.2 (admitted_in _ d.net (stale_node d l) _ admitted),
     out.3,
   )
+  refused Crowded out = absurd out
   refused NoMemory out = tt
-  refused (Fault why) out = absurd out
+  refused (Bad why) out = absurd out
 
   module _ (n : ℕ) (s : Session) (f : Stale) (at : n ≡ stale_node d l) (of : s ≡ session_value l.session) (is : f ≡ stale_resv_value d l) where
-    pub resv_kept : (r : Result (Unit {0}) Refused) (new : Draft) → OnOk r (IsLeft d n s f) → OnOk r (new ≡ with_stale d n s f) → OnOk r (KeepsAll (Keeps d (line.StaleResv l)) × Adds d (line.StaleResv l) new)
+    pub resv_kept : (r : Result (Unit {0}) Stop) (new : Draft) → OnOk r (IsLeft d n s f) → OnOk r (new ≡ with_stale d n s f) → OnOk r (KeepsAll (Keeps d (line.StaleResv l)) × Adds d (line.StaleResv l) new)
     resv_kept (Ok u) new left adds =
         let z : (n, (s, f)) ≡ (stale_node d l, (session_value l.session, stale_resv_value d l)) = λ i. (at i, (of i, is i)) in
         kept new (subst (λ (y : ℕ × (Session × Stale)). IsLeft d y.0 y.1.0 y.1.1) z left) (subst (λ (y : ℕ × (Session × Stale)). new ≡ with_stale d y.0 y.1.0 y.1.1) z adds)
     resv_kept (Err x) new left adds = tt
 
-    pub resv_refused : (r : Result (Unit {0}) Refused) → IfErr r (IsNotLeft d n s f) → IfErr r (Refuses d (line.StaleResv l))
+    pub resv_refused : (r : Result (Unit {0}) Stop) → IfErr r (IsNotLeft d n s f) → IfErr r (Refuses d (line.StaleResv l))
     resv_refused (Ok u) out = tt
     resv_refused (Err x) out =
         let z : (n, (s, f)) ≡ (stale_node d l, (session_value l.session, stale_resv_value d l)) = λ i. (at i, (of i, is i)) in

@@ -5,10 +5,11 @@ use Rattle.router_rules.specs.Inputs.{Stale}
 use Rattle.left_over.specs.AtNodes.{ifaces_at_node}
 use Rattle.left_over.specs.Standing.{IsAdmittedIn}
 use Rattle.script_grammar.specs.Draft.{Draft}
-use Rattle.script_grammar.specs.Rules.{HasRoomForFact, HasRoomForSession, IsExcessAt, facts_at}
+use Rattle.script_grammar.specs.Rules.{HasRoomForFact, HasRoomForSession, IsExcessAt}
+use Rattle.network_model.specs.LeftFacts.{facts_at}
 use Rattle.script_grammar.specs.declared.fault.Fault.TheVariants as fault
-use Rattle.script_player.specs.declared.checks.Refused.{Refused}
-use Rattle.script_player.specs.declared.checks.Refused.TheVariants.{Fault, NoMemory}
+use Rattle.script_grammar.specs.declared.stop.Stop.{Stop}
+use Rattle.script_grammar.specs.declared.stop.Stop.TheVariants.{Bad, Crowded, NoMemory}
 
 -- where reservations are admitted with it
 abbrev pub IsAdmittedAt : Draft → ℕ → Stale → Type 0
@@ -21,8 +22,9 @@ pub record IsLeft (d : Draft) (node : ℕ) (s : Session) (f : Stale) : Type 0 wh
   pub admitted : IsAdmittedAt d node f
 
 -- the first of these that does not hold
-abbrev pub IsNotLeft : Draft → ℕ → Session → Stale → Refused → Type 0
-IsNotLeft d node s f (Fault fault.Limit) = HasRoomForSession d s × HasRoomForFact d node f → ⊥
-IsNotLeft d node s f (Fault (fault.Over much)) = HasRoomForSession d s × HasRoomForFact d node f × (IsAdmittedAt d node f → ⊥) × IsExcessAt d node f much
-IsNotLeft d node s f (Fault why) = ⊥
+abbrev pub IsNotLeft : Draft → ℕ → Session → Stale → Stop → Type 0
+IsNotLeft d node s f (Bad fault.Limit) = HasRoomForSession d s × HasRoomForFact d node f → ⊥
+IsNotLeft d node s f (Bad (fault.Over much)) = HasRoomForSession d s × HasRoomForFact d node f × (IsAdmittedAt d node f → ⊥) × IsExcessAt d node f much
+IsNotLeft d node s f (Bad why) = ⊥
+IsNotLeft d node s f Crowded = ⊥
 IsNotLeft d node s f NoMemory = Unit {0}

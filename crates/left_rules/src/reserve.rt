@@ -20,35 +20,34 @@ use crate::stale::{leave, left_of, state_life};
 use left_over::Left;
 use resv_state::ResvFact;
 use rsvp_base::{Addr, Flow, Part, Sender, Senders, Session, StyleKind, Unit};
-use script_grammar::{Fault, StaleResvLine};
-use script_player::Refused;
+use script_grammar::{Fault, StaleResvLine, Stop};
 use script_state::{ScriptState, are_distinct, is_before_events, sender_values};
 
 /// Adds a reservation that is left over.
-pub fn add_resv(state: &mut ScriptState, line: StaleResvLine) -> Result<(), Refused>
+pub fn add_resv(state: &mut ScriptState, line: StaleResvLine) -> Result<(), Stop>
     requires { IsResvForm line.style line.senders }
     ensures ok { OnOk result (KeepsAll (Keeps (draft_of state.old) (kind.StaleResv line)) × Adds (draft_of state.old) (kind.StaleResv line) (draft_of state.new)) }
     ensures refused { IfErr result (Refuses (draft_of state.old) (kind.StaleResv line)) }
     ensures same { IfErr result (IsUntouched (draft_of state.old) (draft_of state.new)) }
 {
     if !is_before_events(state) {
-        return Err(Refused::Fault(Fault::Late));
+        return Err(Stop::Bad(Fault::Late));
     }
     let Some(senders) = sender_values(state.alloc, line.senders.as_slice())? else {
-        return Err(Refused::Fault(Fault::Range));
+        return Err(Stop::Bad(Fault::Range));
     };
     let Some((session, next, flow, left)) = resv_values(state, &line) else {
-        return Err(Refused::Fault(Fault::Range));
+        return Err(Stop::Bad(Fault::Range));
     };
     let Some(end) = state.names.find(line.end.bytes()) else {
-        return Err(Refused::Fault(Fault::Name));
+        return Err(Stop::Bad(Fault::Name));
     };
     let end = end as u16;
     if !is_new(state, &line, senders.as_slice(), end, session, next) {
-        return Err(Refused::Fault(Fault::Twice));
+        return Err(Stop::Bad(Fault::Twice));
     }
     let Some(senders) = names_of(line.style, senders.as_slice()) else {
-        return Err(Refused::Fault(Fault::Limit));
+        return Err(Stop::Bad(Fault::Limit));
     };
     let fact = ResvFact {
         session,

@@ -16,30 +16,28 @@ ghost use Rattle.script_grammar.specs.declared.line.ScriptLine.TheVariants as ki
 
 use left_over::{Left, LeftErr};
 use path_state::PathFact;
-use rsvp_base::{Addr, Flow, Hop, Sender, Session};
-use script_grammar::{Fault, StaleHopWallLine, StalePathLine, StaleSenderWallLine};
-use script_player::Refused;
+use rsvp_base::{Addr, EndName, Flow, Hop, Sender, Session};
+use script_grammar::{Fault, StaleHopWallLine, StalePathLine, StaleSenderWallLine, Stop};
 use script_state::{ScriptState, has_room_for_session, is_before_events, name_session};
-use script_words::EndName;
 use style_rules::{Target, Wall};
 
 /// Adds a path that is left over.
-pub fn add_path(state: &mut ScriptState, line: StalePathLine) -> Result<(), Refused>
+pub fn add_path(state: &mut ScriptState, line: StalePathLine) -> Result<(), Stop>
     ensures ok { OnOk result (KeepsAll (Keeps (draft_of state.old) (kind.StalePath line)) × Adds (draft_of state.old) (kind.StalePath line) (draft_of state.new)) }
     ensures refused { IfErr result (Refuses (draft_of state.old) (kind.StalePath line)) }
     ensures same { IfErr result (IsUntouched (draft_of state.old) (draft_of state.new)) }
 {
     if !is_before_events(state) {
-        return Err(Refused::Fault(Fault::Late));
+        return Err(Stop::Bad(Fault::Late));
     }
     let Some((session, sender, hop, tspec, left)) = path_values(state, &line) else {
-        return Err(Refused::Fault(Fault::Range));
+        return Err(Stop::Bad(Fault::Range));
     };
     let Some((node, end)) = end_of(state, &line.node, &line.end) else {
-        return Err(Refused::Fault(Fault::Name));
+        return Err(Stop::Bad(Fault::Name));
     };
     if state.left.has_path(node, session, sender) {
-        return Err(Refused::Fault(Fault::Twice));
+        return Err(Stop::Bad(Fault::Twice));
     }
     let fact = PathFact {
         session,
@@ -56,23 +54,23 @@ pub fn add_path(state: &mut ScriptState, line: StalePathLine) -> Result<(), Refu
 }
 
 /// Adds a blockade of a hop that is left over.
-pub fn add_hop_wall(state: &mut ScriptState, line: StaleHopWallLine) -> Result<(), Refused>
+pub fn add_hop_wall(state: &mut ScriptState, line: StaleHopWallLine) -> Result<(), Stop>
     ensures ok { OnOk result (KeepsAll (Keeps (draft_of state.old) (kind.StaleHopWall line)) × Adds (draft_of state.old) (kind.StaleHopWall line) (draft_of state.new)) }
     ensures refused { IfErr result (Refuses (draft_of state.old) (kind.StaleHopWall line)) }
     ensures same { IfErr result (IsUntouched (draft_of state.old) (draft_of state.new)) }
 {
     if !is_before_events(state) {
-        return Err(Refused::Fault(Fault::Late));
+        return Err(Stop::Bad(Fault::Late));
     }
     let Some((session, hop, wall, left)) = hop_wall_values(state, &line) else {
-        return Err(Refused::Fault(Fault::Range));
+        return Err(Stop::Bad(Fault::Range));
     };
     let Some((node, end)) = end_of(state, &line.node, &line.end) else {
-        return Err(Refused::Fault(Fault::Name));
+        return Err(Stop::Bad(Fault::Name));
     };
     let target = Target::Hop(state.topology.iface_of(end), hop);
     if state.left.has_wall(node, session, target) {
-        return Err(Refused::Fault(Fault::Twice));
+        return Err(Stop::Bad(Fault::Twice));
     }
     leave(
         state,
@@ -84,24 +82,24 @@ pub fn add_hop_wall(state: &mut ScriptState, line: StaleHopWallLine) -> Result<(
 }
 
 /// Adds a blockade of a sender that is left over.
-pub fn add_sender_wall(state: &mut ScriptState, line: StaleSenderWallLine) -> Result<(), Refused>
+pub fn add_sender_wall(state: &mut ScriptState, line: StaleSenderWallLine) -> Result<(), Stop>
     ensures ok { OnOk result (KeepsAll (Keeps (draft_of state.old) (kind.StaleSenderWall line)) × Adds (draft_of state.old) (kind.StaleSenderWall line) (draft_of state.new)) }
     ensures refused { IfErr result (Refuses (draft_of state.old) (kind.StaleSenderWall line)) }
     ensures same { IfErr result (IsUntouched (draft_of state.old) (draft_of state.new)) }
 {
     if !is_before_events(state) {
-        return Err(Refused::Fault(Fault::Late));
+        return Err(Stop::Bad(Fault::Late));
     }
     let Some((session, sender, wall, left)) = sender_wall_values(state, &line) else {
-        return Err(Refused::Fault(Fault::Range));
+        return Err(Stop::Bad(Fault::Range));
     };
     let Some(node) = state.nodes.find(line.node.bytes()) else {
-        return Err(Refused::Fault(Fault::Name));
+        return Err(Stop::Bad(Fault::Name));
     };
     let node = node as u16;
     let target = Target::Sender(sender);
     if state.left.has_wall(node, session, target) {
-        return Err(Refused::Fault(Fault::Twice));
+        return Err(Stop::Bad(Fault::Twice));
     }
     leave(
         state,
@@ -223,7 +221,7 @@ pub fn leave(
     session: Session,
     fact: Left,
     left: u32,
-) -> Result<(), Refused>
+) -> Result<(), Stop>
     requires there { node < length state.old.nodes }
     requires fit { IsFitAt (draft_of state.old) node (stale_of fact left) }
     ensures left { OnOk result (IsLeft (draft_of state.old) node session (stale_of fact left)) }
@@ -232,12 +230,12 @@ pub fn leave(
     ensures same { IfErr result (IsUntouched (draft_of state.old) (draft_of state.new)) }
 {
     if !has_room_for_session(state, session) {
-        return Err(Refused::Fault(Fault::Limit));
+        return Err(Stop::Bad(Fault::Limit));
     }
     match state.left.add(state.topology.ends(), node, fact, left) {
         Ok(()) => name_session(state, session),
-        Err(LeftErr::Full) => Err(Refused::Fault(Fault::Limit)),
-        Err(LeftErr::Over(much)) => Err(Refused::Fault(Fault::Over(much))),
-        Err(LeftErr::NoMemory) => Err(Refused::NoMemory),
+        Err(LeftErr::Full) => Err(Stop::Bad(Fault::Limit)),
+        Err(LeftErr::Over(much)) => Err(Stop::Bad(Fault::Over(much))),
+        Err(LeftErr::NoMemory) => Err(Stop::NoMemory),
     }
 }

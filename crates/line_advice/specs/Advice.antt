@@ -3,8 +3,8 @@ use Rattle.std.specs.Prelude.{◌≡◌, ◌⊎◌, ℕ, List, [], ◌++◌, Opt
 use Rattle.std.specs.Fmt.{decimal}
 use Rattle.script_grammar.specs.Draft.{Draft}
 use Rattle.script_grammar.specs.Grammar.{IsBadLine}
-use Rattle.script_grammar.specs.declared.fault.Excess.{Excess}
-use Rattle.script_grammar.specs.declared.fault.Excess.TheVariants.{Packet, Rate}
+use Rattle.network_model.specs.declared.excess.Excess.{Excess}
+use Rattle.network_model.specs.declared.excess.Excess.TheVariants.{Packet, Rate}
 use Rattle.script_grammar.specs.declared.fault.Fault.{Fault}
 use Rattle.line_advice.specs.Blames.{IsBlamed}
 use Rattle.line_advice.specs.FieldTexts.{form_text, range_text}

@@ -3,7 +3,7 @@ use Rattle.std.specs.Prelude.{◌≡◌, ℕ, ◌+◌, ◌<◌, ◌≤◌, List,
 use Rattle.script_words.specs.Words.{words_of}
 use Rattle.script_grammar.specs.Draft.{Draft, period_of}
 use Rattle.script_grammar.specs.Grammar.{most_line}
-use Rattle.script_grammar.specs.declared.fault.Excess.{Excess}
+use Rattle.network_model.specs.declared.excess.Excess.{Excess}
 use Rattle.script_grammar.specs.declared.fault.Fault.{Fault}
 use Rattle.script_grammar.specs.declared.fault.Fault.TheVariants as fault
 use Rattle.line_kinds.specs.FirstWords.{IsFirstOut, unformed_from}

@@ -6,8 +6,9 @@ use crate::breaks::{first_linked, limit, new_rule, other_style};
 use crate::known::{LinesBefore, is_known};
 use crate::rule::Rule;
 use line_kinds::{Field, Kind, Named, first_out, unformed};
+use network_model::Excess;
 use rsvp_base::StyleKind;
-use script_grammar::{Excess, Fault};
+use script_grammar::Fault;
 use script_words::read_words;
 use std::alloc::Global;
 

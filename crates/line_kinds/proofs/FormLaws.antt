@@ -5,7 +5,7 @@ use Rattle.rsvp_base.specs.declared.style.StyleKind.{StyleKind}
 use Rattle.rsvp_base.specs.declared.style.StyleKind.TheVariants.{Wild, Fixed, Shared}
 use Rattle.script_words.specs.Steps.{◌>>=◌}
 use Rattle.script_words.specs.Numbers.{number_of}
-use Rattle.script_words.specs.Names.{is_name, name_of}
+use Rattle.rsvp_base.specs.EndNames.{is_name, name_of}
 use Rattle.script_words.specs.Addresses.{quad_of, quads_of}
 use Rattle.script_words.specs.Sessions.{session_of, sender_of, senders_of}
 use Rattle.script_words.specs.Flows.{flow_of}

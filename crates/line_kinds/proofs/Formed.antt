@@ -3,7 +3,7 @@ use Rattle.std.proofs.Common.{◌≡◌, ◌∙◌, ℕ, ◌<◌, ◌+◌, ◌�
 use Rattle.std.specs.Str.{bytes_eq}
 use Rattle.script_words.specs.Steps.{◌>>=◌, each_of}
 use Rattle.script_words.specs.Numbers.{number_of}
-use Rattle.script_words.specs.Names.{is_name, name_of}
+use Rattle.rsvp_base.specs.EndNames.{is_name, name_of}
 use Rattle.script_words.specs.Addresses.{quad_of}
 use Rattle.script_words.specs.Sessions.{session_of, sender_of}
 use Rattle.script_words.specs.Flows.{flow_of}

@@ -4,7 +4,7 @@ use Rattle.std.specs.List.{All}
 use Rattle.std.specs.Str.{bytes_eq}
 use Rattle.script_words.specs.Addresses.{IsAddr, IsGroup, IsHost, addr_value, quad_of, quads_of}
 use Rattle.script_words.specs.Flows.{IsFlow, flow_of}
-use Rattle.script_words.specs.Names.{is_name}
+use Rattle.rsvp_base.specs.EndNames.{is_name}
 use Rattle.script_words.specs.Numbers.{number_of}
 use Rattle.script_words.specs.Sessions.{IsSender, IsSession, sender_of, senders_of, session_of}
 use Rattle.script_words.specs.Styles.{style_of}

@@ -10,10 +10,10 @@ ghost use Rattle.script_grammar.specs.Values.{IsFrom1To, IsPeriod, IsSub};
 ghost use Rattle.line_kinds.specs.Fields.{IsGroupWord, IsHostWord, IsInRange, has_form};
 
 use hex::{FromHexError, decode};
-use rsvp_base::NoMemory;
+use rsvp_base::{EndName, NoMemory};
 use script_words::{
-    DottedQuad, EndName, FlowWord, SenderWord, SessionWord, Unread, addresses, is_group, is_host,
-    number, senders, style,
+    DottedQuad, FlowWord, SenderWord, SessionWord, Unread, addresses, is_group, is_host, number,
+    senders, style,
 };
 use std::alloc::Global;
 

@@ -1,9 +1,9 @@
 //! What a network asks of a router.
 
 use crate::live_router::LiveRouter;
-use net_replay::{LocalCall, Router};
-use node_telling::Outbox;
-use router_rules::{Entry, Heard, LocalErr, Route};
+use net_replay::Router;
+use network_model::LocalCall;
+use router_rules::{Entry, Heard, LocalErr, Outbox, Route};
 use rsvp_base::Addr;
 use rsvp_messages::{Message, MsgErr};
 use std::mem;

@@ -4,7 +4,8 @@ use Rattle.std.specs.List.{All}
 use Rattle.message_wire.specs.Spells.{Spells, IsFirstFault}
 use Rattle.message_writing.specs.Encoding.{encoding}
 use Rattle.router_rules.specs.Facts.{Facts}
-use Rattle.router_rules.specs.Inputs.{Arrival, Spelt, Unspelt, Send}
+use Rattle.network_model.specs.Happenings.{IsSpelling}
+use Rattle.router_rules.specs.Inputs.{Arrival, Send}
 use Rattle.router_rules.specs.NodeConfig.{NodeConfig}
 use Rattle.rsvp_messages.specs.Proper.{IsProper}
 
@@ -15,8 +16,7 @@ pub record Seen (R : Type 0) : Type 0 where
 
 -- what bytes are: a message, or why they are none
 abbrev pub IsArrival : List ℕ → Arrival → Type 0
-IsArrival b (Spelt m) = Spells b m
-IsArrival b (Unspelt e) = IsFirstFault b e
+IsArrival b a = IsSpelling Spells IsFirstFault b a
 
 -- each message is proper
 abbrev pub AreProper : List Send → Type 0

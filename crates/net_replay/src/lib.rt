@@ -7,8 +7,6 @@
 //! `network_parcels`, `network_model` and `router_rules`.
 #![tactic(auto)]
 
-mod event;
-mod local_call;
 mod mail;
 mod moving;
 mod playing;
@@ -20,8 +18,6 @@ mod watch;
 mod world;
 mod world_err;
 
-pub use event::Event;
-pub use local_call::LocalCall;
 pub use mail::Mail;
 pub use router::Router;
 pub use watch::{Unwatched, Watch};

@@ -9,7 +9,7 @@ ghost use Rattle.net_replay.specs.Posting.{put_behind, with_post};
 
 use message_writing::know_range;
 use network_parcels::{Flight, Wires, put_copies};
-use node_telling::Outbox;
+use router_rules::Outbox;
 use rsvp_base::{Addr, NoMemory};
 use rsvp_messages::Message;
 use rsvp_objects::Packet;

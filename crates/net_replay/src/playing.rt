@@ -4,17 +4,18 @@ ghost use Rattle.std.specs.List.{repeat};
 ghost use Rattle.network_parcels.specs.Events.{at_place, last_piece, pieces, steps_of};
 ghost use Rattle.network_parcels.specs.Steps.{Copy, Deliver, Lose, Piece, Reroute};
 ghost use Rattle.router_rules.specs.Inputs.{Arrival};
-ghost use Rattle.net_replay.specs.Happening.{CanHappen, IsFitEvent, IsRead, event_with, takes_memory};
-ghost use Rattle.net_replay.specs.Moving.{CanMove};
+ghost use Rattle.net_replay.specs.Happening.{CanHappen, IsRead, takes_memory};
+ghost use Rattle.network_model.specs.Happenings.{IsFitEvent, event_with};
+ghost use Rattle.network_model.specs.Moves.{CanMove};
 ghost use Rattle.net_replay.specs.Running.{IsSame, Makes, refusal_of};
 ghost use Rattle.net_replay.specs.declared.world_err.WorldErr.{WorldErr as AnErr};
 ghost use Rattle.net_replay.specs.declared.world_err.WorldErr.TheVariants as refusal;
 
-use crate::event::Event;
 use crate::router::Router;
 use crate::watch::Watch;
 use crate::world::World;
 use crate::world_err::WorldErr;
+use network_model::Event;
 use rsvp_base::Addr;
 use tree_routing::LinkHop;
 

@@ -15,8 +15,7 @@ use crate::telling::put_whole;
 use network_parcels::Wires;
 use report_texts::{put_entry, put_head, put_line};
 use router_rules::{Entry, Police};
-use rsvp_base::NoMemory;
-use script_words::EndName;
+use rsvp_base::{EndName, NoMemory};
 
 // An interface has at most so many entries.
 const ENTRIES: usize = 3072;

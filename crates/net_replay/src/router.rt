@@ -8,12 +8,11 @@ ghost use Rattle.router_rules.specs.Flags.{entries_of};
 ghost use Rattle.style_rules.specs.Lines.{held};
 ghost use Rattle.router_rules.specs.Steps.{IsFitCall};
 ghost use Rattle.net_replay.specs.Following.{AreProper, Seen};
-ghost use Rattle.net_replay.specs.Happening.{call_of};
+ghost use Rattle.network_model.specs.Happenings.{call_of};
 ghost use Rattle.net_replay.specs.Routed.{trees_in};
 
-use crate::local_call::LocalCall;
-use node_telling::Outbox;
-use router_rules::{Entry, Heard, LocalErr, Route};
+use network_model::LocalCall;
+use router_rules::{Entry, Heard, LocalErr, Outbox, Route};
 use rsvp_base::Addr;
 use rsvp_messages::{Message, MsgErr};
 

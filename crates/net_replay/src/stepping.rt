@@ -11,13 +11,13 @@ ghost use Rattle.net_replay.specs.Mailing.{ArePut};
 ghost use Rattle.router_rules.specs.Inputs.{Arrival, Came, Spelt, Unspelt};
 ghost use Rattle.rsvp_messages.specs.Proper.{IsProper};
 ghost use Rattle.router_rules.specs.Steps.{IsFitCall};
-ghost use Rattle.net_replay.specs.Happening.{call_of};
+ghost use Rattle.network_model.specs.Happenings.{call_of};
 ghost use Rattle.router_rules.specs.Rule.{facts_after, heard_after, sent_after};
 
-use crate::local_call::LocalCall;
 use crate::mail::Mail;
 use crate::router::Router;
 use message_wire::decode;
+use network_model::LocalCall;
 use router_rules::Heard;
 use rsvp_base::Addr;
 use rsvp_messages::{Message, MsgErr};

@@ -8,9 +8,8 @@ ghost use Rattle.router_rules.specs.Inputs.{Arrival};
 
 use message_wire::decode;
 use router_rules::{Heard, Why};
-use rsvp_base::NoMemory;
+use rsvp_base::{EndName, NoMemory};
 use rsvp_messages::Kind;
-use script_words::EndName;
 use value_texts::{put, put_number};
 
 /// The kind of message that bytes spell.

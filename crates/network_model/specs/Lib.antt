@@ -4,6 +4,11 @@ pub mod Steps
 pub mod Events
 pub mod Texts
 pub mod Runs
+pub mod LeftFacts
+pub mod Excesses
+pub mod Happenings
+pub mod Moves
+pub mod DemandTexts
 pub mod Locals
 pub mod Sound
 pub mod Bounds

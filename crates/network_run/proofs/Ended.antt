@@ -14,8 +14,8 @@ use Rattle.network_run.specs.Playing.{IsCrowdedBy, IsRunOn, Stops}
 use Rattle.network_run.specs.Endings.{CanTake, EndedSo, IsFirst, IsRun, all_bytes, ending_at}
 use Rattle.network_run.specs.declared.ending.Ending.{Ending}
 use Rattle.network_run.specs.declared.ending.Ending.TheVariants.{Done, BadLine, ReadFault, WriteFault, NoMemory, Crowded, TooLong}
-use Rattle.network_run.specs.declared.player.Stop.{Stop}
-use Rattle.network_run.specs.declared.player.Stop.TheVariants as stop
+use Rattle.script_grammar.specs.declared.stop.Stop.{Stop}
+use Rattle.script_grammar.specs.declared.stop.Stop.TheVariants as stop
 use Rattle.network_run.proofs.Behind.{HasEnd, HasLine, HasLong, HasMany, HasWhole, IsBehind, IsLineAt, behind_nothing}
 
 -- the lines before were run, and what they wrote stands in the sink

@@ -10,8 +10,8 @@ use Rattle.line_stream.specs.Streams.{Held}
 use Rattle.network_run.specs.Advised.{IsAdvised, IsAdvisedAt}
 use Rattle.network_run.specs.Endings.{ending_at}
 use Rattle.network_run.specs.Playing.{Stops}
-use Rattle.network_run.specs.declared.player.Stop.{Stop}
-use Rattle.network_run.specs.declared.player.Stop.TheVariants as stop
+use Rattle.script_grammar.specs.declared.stop.Stop.{Stop}
+use Rattle.script_grammar.specs.declared.stop.Stop.TheVariants as stop
 use Rattle.network_run.proofs.Behind.{HasLine, HasLong}
 use Rattle.network_run.proofs.Coming.{all_known}
 use Rattle.network_run.proofs.Ended.{Progress}

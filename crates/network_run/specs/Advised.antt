@@ -4,8 +4,8 @@ use Rattle.script_grammar.specs.Draft.{Draft}
 use Rattle.line_advice.specs.Advice.{IsAdvice, IsToldLine}
 use Rattle.network_run.specs.declared.ending.Ending.{Ending}
 use Rattle.network_run.specs.declared.ending.Ending.TheVariants.{BadLine}
-use Rattle.network_run.specs.declared.player.Stop.{Stop}
-use Rattle.network_run.specs.declared.player.Stop.TheVariants as stop
+use Rattle.script_grammar.specs.declared.stop.Stop.{Stop}
+use Rattle.script_grammar.specs.declared.stop.Stop.TheVariants as stop
 
 -- what is wrong with the bad line of these bytes; where no line is bad, nothing
 abbrev pub IsAdvised : Ending → List ℕ → List ℕ → Type 0

@@ -10,8 +10,8 @@ use Rattle.network_run.specs.Written.{HasRun, whole_lines, with_feeds}
 use Rattle.network_run.specs.Playing.{IsCrowdedBy}
 use Rattle.network_run.specs.declared.ending.Ending.{Ending}
 use Rattle.network_run.specs.declared.ending.Ending.TheVariants.{Done, BadLine, ReadFault, WriteFault, NoMemory, Crowded, TooLong}
-use Rattle.network_run.specs.declared.player.Stop.{Stop}
-use Rattle.network_run.specs.declared.player.Stop.TheVariants as stop
+use Rattle.script_grammar.specs.declared.stop.Stop.{Stop}
+use Rattle.script_grammar.specs.declared.stop.Stop.TheVariants as stop
 
 -- all bytes of a source: those that were taken, and those that are left, where these are known
 abbrev pub all_bytes : List ℕ → Option (List ℕ) → List ℕ

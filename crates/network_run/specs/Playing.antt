@@ -4,8 +4,8 @@ use Rattle.script_grammar.specs.Runs.{is_crowded_run}
 use Rattle.script_grammar.specs.Draft.{Draft, plan_of}
 use Rattle.script_grammar.specs.Grammar.{Follows, HasFault}
 use Rattle.network_run.specs.Written.{IsRunSoFar}
-use Rattle.network_run.specs.declared.player.Stop.{Stop}
-use Rattle.network_run.specs.declared.player.Stop.TheVariants.{Bad, Crowded, NoMemory}
+use Rattle.script_grammar.specs.declared.stop.Stop.{Stop}
+use Rattle.script_grammar.specs.declared.stop.Stop.TheVariants.{Bad, Crowded, NoMemory}
 
 -- the line was added and run, and wrote this
 pub record IsRunOn (stands : Draft → Type 0) (draft : Draft) (line said own : List ℕ) : Type 0 where

@@ -11,5 +11,5 @@ mod player;
 mod running;
 
 pub use ending::Ending;
-pub use player::{Player, Stop};
+pub use player::Player;
 pub use running::run_lines;

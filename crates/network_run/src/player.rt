@@ -5,18 +5,7 @@ ghost use Rattle.line_advice.specs.Advice.{IsAdvice};
 ghost use Rattle.network_run.specs.Playing.{Plays};
 ghost use Rattle.network_run.specs.Written.{IsRunSoFar};
 
-use script_grammar::Fault;
-
-/// Why a line was not run.
-#[derive(Debug, Drop)]
-pub enum Stop {
-    /// It is bad: this is its first fault after the lines before it.
-    Bad(Fault),
-    /// Its event would put an 8,193rd datagram in flight.
-    Crowded,
-    /// Memory ran out.
-    NoMemory,
-}
+use script_grammar::{Fault, Stop};
 
 /// What checks and runs the lines of a script, one after another.
 pub trait Player {

@@ -9,11 +9,11 @@ ghost use Rattle.network_run.specs.Endings.{ComesTo, IsOrNoMemory, IsRun, ending
 ghost use Rattle.network_run.specs.declared.ending.Ending.{Ending as AnEnding};
 
 use crate::ending::Ending;
-use crate::player::{Player, Stop};
+use crate::player::Player;
 use byte_streams::{Sink, Source, write_all};
 use line_advice::put_long;
 use line_stream::{LineReader, NextLine};
-use script_grammar::Fault;
+use script_grammar::{Fault, Stop};
 use std::alloc::Global;
 
 /// Reads a script of the source line by line: each line is checked and run by the player, and what it wrote is written to the

@@ -6,12 +6,10 @@
 
 mod config;
 mod offered;
-mod outbox;
 mod paths;
 mod via;
 
 pub use config::{Config, ways_by};
 pub use offered::Offered;
-pub use outbox::Outbox;
 pub use paths::{tell_gone, tell_gone_ways, tell_new, tell_new_ways, tell_path_tears, tell_paths};
 pub use via::{name_of, upstream};

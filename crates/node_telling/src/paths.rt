@@ -11,7 +11,7 @@ ghost use Rattle.node_telling.specs.Ways.{ways_but, ways_in};
 
 use crate::config::Config;
 use crate::offered::Offered;
-use crate::outbox::Outbox;
+use router_rules::Outbox;
 use rsvp_base::{Hop, Sender, Session};
 use rsvp_messages::{Message, PathMsg, PathTearMsg};
 

@@ -14,8 +14,9 @@ ghost use Rattle.node_waiting.specs.Telling.{gone_by, offer_by, refreshed_by, to
 use crate::dead::{DeadPath, DeadPaths};
 use crate::known::KnownSenders;
 use local_state::{Fired, LocalSenders};
-use node_telling::{Config, Offered, Outbox, tell_path_tears, tell_paths};
+use node_telling::{Config, Offered, tell_path_tears, tell_paths};
 use path_state::PathTable;
+use router_rules::Outbox;
 use rsvp_base::{Sender, Session};
 
 // What is offered of a sender. `None` exactly where it is not known.

@@ -21,7 +21,8 @@ use Rattle.rsvp_base.specs.declared.style.StyleKind.{StyleKind}
 use Rattle.rsvp_base.specs.declared.style.StyleKind.TheVariants.{Wild, Fixed, Shared}
 use Rattle.value_texts.specs.Texts.{addr_text, flow_text, name_text, names_text, peak_text, sender_text, session_text, style_text}
 use Rattle.report_texts.specs.Texts.{entry_line, head_text}
-use Rattle.script_words.specs.Numbers.{is_digit, is_number, number_of, value_of}
+use Rattle.script_words.specs.Numbers.{is_number, number_of, value_of}
+use Rattle.rsvp_base.specs.EndNames.{is_digit}
 use Rattle.script_words.specs.Words.{words_of}
 use Rattle.network_run.specs.Written.{whole_lines}
 use Rattle.report_reading.specs.Reading.{IsHead, IsWithin}

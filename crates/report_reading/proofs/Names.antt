@@ -7,8 +7,7 @@ use Rattle.rsvp_base.specs.Members.{In}
 use Rattle.rsvp_base.proofs.Fronts.{got_in}
 use Rattle.rsvp_base.proofs.Members.{in_append}
 use Rattle.rsvp_base.proofs.SetLaws.{and_both}
-use Rattle.script_words.specs.Numbers.{is_digit}
-use Rattle.script_words.specs.Names.{is_lower_case, is_name, is_name_byte}
+use Rattle.rsvp_base.specs.EndNames.{is_digit, is_lower_case, is_name, is_name_byte}
 use Rattle.network_model.specs.TreeModel.declared.hops.End.{End}
 use Rattle.script_grammar.specs.Adds.{Adds}
 use Rattle.script_grammar.specs.Draft.{Draft, nothing}

@@ -2,7 +2,7 @@
 use Rattle.std.specs.Prelude.{◌≡◌, ℕ, ◌<◌, ◌≤◌, ◌^◌, true, List, [], ◌∷◌, Some, codes}
 use Rattle.rsvp_base.specs.Members.{In}
 use Rattle.report_texts.specs.Texts.{head_text}
-use Rattle.script_words.specs.Names.{is_name}
+use Rattle.rsvp_base.specs.EndNames.{is_name}
 use Rattle.script_words.specs.Numbers.{number_of}
 use Rattle.script_words.specs.Words.{words_of}
 use Rattle.network_model.specs.Runs.{Plan, run_text}

@@ -5,8 +5,9 @@ ghost use Rattle.router_rules.specs.Sends.{error_message, error_send};
 ghost use Rattle.resv_taking.specs.Units.{refusal_of};
 
 use crate::taking::style_of;
-use node_telling::{Config, Outbox};
+use node_telling::Config;
 use resv_taking::{Refusal, Refusals};
+use router_rules::Outbox;
 use rsvp_base::{ErrSpec, Hop, Senders};
 use rsvp_messages::{Blame, Message, ResvErrMsg, ResvMsg};
 

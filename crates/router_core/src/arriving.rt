@@ -6,8 +6,8 @@ ghost use Rattle.router_rules.specs.Rule.{facts_after, heard_after, sent_after};
 ghost use Rattle.node_facts.specs.State.{facts_at};
 
 use crate::node::Node;
-use node_telling::{Config, Outbox};
-use router_rules::{Heard, Why};
+use node_telling::Config;
+use router_rules::{Heard, Outbox, Why};
 use rsvp_base::Addr;
 use rsvp_messages::Message;
 

@@ -15,7 +15,8 @@ ghost use Rattle.router_core.specs.Confirming.{conf_of, confirmed_here};
 use lane_state::LaneTable;
 use lane_wishes::is_any_new;
 use node_tables::Tables;
-use node_telling::{Config, Outbox};
+use node_telling::Config;
+use router_rules::Outbox;
 use rsvp_base::{Addr, ErrSpec};
 use rsvp_messages::{Ask, Message, ResvConfMsg, ResvMsg};
 

@@ -17,8 +17,7 @@ use crate::telling::tell_resv_err;
 use error_passing::{answer_unspelt, pass_path_err, pass_resv_conf, set_blockades};
 use lane_telling::offered;
 use node_tables::Tables;
-use node_telling::Outbox;
-use router_rules::Heard;
+use router_rules::{Heard, Outbox};
 use rsvp_base::{Addr, Sender};
 use rsvp_messages::{MsgErr, PathErrMsg, ResvConfMsg, ResvErrMsg};
 

@@ -17,9 +17,9 @@ ghost use Rattle.router_core.specs.Renewing.{offer_by};
 use crate::node::Node;
 use lane_telling::{offered, tell_sender};
 use node_acting::{drop_path, has_path_by, learn_path, path_by, renew_path};
-use node_telling::{Config, Offered, Outbox, tell_new};
+use node_telling::{Config, Offered, tell_new};
 use path_state::PathFact;
-use router_rules::{Heard, Why};
+use router_rules::{Heard, Outbox, Why};
 use rsvp_base::{Flow, Sender};
 use rsvp_messages::{PathMsg, PathTearMsg};
 

@@ -11,8 +11,7 @@ use crate::node::Node;
 use crate::telling::{tell_answer, tell_resv};
 use lane_telling::{offered, tell_sender};
 use node_acting::{take_resvs, tear_resvs};
-use node_telling::Outbox;
-use router_rules::Heard;
+use router_rules::{Heard, Outbox};
 use rsvp_base::Sender;
 use rsvp_messages::{ResvMsg, ResvTearMsg};
 

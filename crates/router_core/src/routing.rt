@@ -6,8 +6,7 @@ ghost use Rattle.node_facts.specs.Routes.{AreRoutes};
 ghost use Rattle.node_facts.specs.State.{facts_at};
 
 use crate::node::Node;
-use node_telling::Outbox;
-use router_rules::Route;
+use router_rules::{Outbox, Route};
 use session_rounds::change_routes;
 
 impl Node {

@@ -7,8 +7,7 @@ ghost use Rattle.node_facts.specs.State.{facts_at};
 use crate::node::Node;
 use lane_telling::{offered, tell_sender};
 use node_acting::{drop_sender, keep_sender};
-use node_telling::Outbox;
-use router_rules::LocalErr;
+use router_rules::{LocalErr, Outbox};
 use rsvp_base::{Flow, Sender, Session};
 
 impl Node {

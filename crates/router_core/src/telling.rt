@@ -20,10 +20,10 @@ use error_passing::pass_resv_err;
 use lane_state::LaneTable;
 use lane_telling::{tell_news, tell_tears};
 use node_tables::Tables;
-use node_telling::{Config, Offered, Outbox};
+use node_telling::{Config, Offered};
 use path_state::Hops;
 use resv_arriving::{Answer, tell_refusals};
-use router_rules::Heard;
+use router_rules::{Heard, Outbox};
 use rsvp_base::Sender;
 use rsvp_messages::{ResvErrMsg, ResvMsg};
 

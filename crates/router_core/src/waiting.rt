@@ -5,7 +5,7 @@ ghost use Rattle.router_rules.specs.Rule.{facts_after, sent_after};
 ghost use Rattle.node_facts.specs.State.{facts_at};
 
 use crate::node::Node;
-use node_telling::Outbox;
+use router_rules::Outbox;
 use session_rounds::pass_time;
 
 impl Node {

@@ -7,8 +7,7 @@ ghost use Rattle.node_facts.specs.State.{facts_at};
 use crate::node::Node;
 use lane_telling::{offered, tell_sender};
 use local_asking::{drop_wants, put_wants};
-use node_telling::Outbox;
-use router_rules::LocalErr;
+use router_rules::{LocalErr, Outbox};
 use rsvp_base::{Flow, Sender, Senders, Session, StyleKind};
 
 impl Node {

@@ -10,8 +10,10 @@ mod answers;
 pub mod bounds;
 mod entry;
 pub mod fronts;
+mod outbox;
 mod route;
 
 pub use answers::{Heard, LocalErr, StaleErr, Why};
 pub use entry::{Entry, Police};
+pub use outbox::Outbox;
 pub use route::Route;

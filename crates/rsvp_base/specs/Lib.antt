@@ -11,3 +11,4 @@ pub mod Members
 pub mod Rows
 pub mod Codes
 pub mod SessionLimits
+pub mod EndNames

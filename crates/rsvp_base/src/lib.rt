@@ -1,5 +1,5 @@
 //! Values that every layer shares: addresses, sessions, senders, hops, interfaces, errors, rates, flows,
-//! parts of reservations and the keys of a book's entries.
+//! parts of reservations, the keys of a book's entries, and the names of nodes and ends.
 //!
 //! Each value is what RFC 2205 and RFC 2210 mean by it, and a caller sees nothing else of it: a `Rate` is a number, a
 //! `Flow` a token bucket, `Senders` a finite set. No call takes memory.
@@ -8,6 +8,7 @@
 #![tactic(auto)]
 
 mod addr;
+mod end_name;
 mod entry_key;
 mod err_spec;
 mod flow;
@@ -22,6 +23,7 @@ pub mod sorted;
 mod style;
 
 pub use addr::Addr;
+pub use end_name::EndName;
 pub use entry_key::EntryKey;
 pub use err_spec::ErrSpec;
 pub use flow::{Flow, Peak};

@@ -3,9 +3,8 @@ ghost use Rattle.std.specs.Prelude.{◌≡◌, IfOk};
 
 use crate::checker::Checker;
 use network_demand::Locals;
-use rsvp_base::NoMemory;
+use rsvp_base::{EndName, NoMemory};
 use script_demand::Asks;
-use script_words::EndName;
 use std::alloc::Global;
 use tree_model::LocalSender;
 use tree_routing::Routing;

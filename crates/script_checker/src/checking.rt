@@ -9,10 +9,10 @@ use crate::rules::add;
 use crate::starting::{copies, quarter};
 use left_over::LeftOver;
 use line_advice::LinesBefore;
-use net_replay::Event;
+use network_model::Event;
 use rsvp_base::{NoMemory, Session, StyleKind};
-use script_grammar::{Fault, read_line};
-use script_player::{Checks, Refused, Start};
+use script_grammar::{Fault, Stop, read_line};
+use script_player::{Checks, Start};
 use script_state::ScriptState;
 use script_words::Unread;
 
@@ -52,13 +52,13 @@ impl LinesBefore for Checker {
 }
 
 impl Checks for Checker {
-    fn feed(&mut self, line: &[u8]) -> Result<Option<Event>, Refused> {
+    fn feed(&mut self, line: &[u8]) -> Result<Option<Event>, Stop> {
         let alloc = self.state.alloc;
         let mut words = Vec::new(alloc);
         match read_line(alloc, line, &mut words) {
             Ok(said) => add(&mut self.state, said),
-            Err(Unread::Word) => Err(Refused::Fault(Fault::Word)),
-            Err(Unread::NoMemory) => Err(Refused::NoMemory),
+            Err(Unread::Word) => Err(Stop::Bad(Fault::Word)),
+            Err(Unread::NoMemory) => Err(Stop::NoMemory),
         }
     }
 

@@ -5,16 +5,15 @@ ghost use Rattle.script_grammar.specs.Rules.{KeepsAll, Keeps};
 ghost use Rattle.script_state.specs.Said.{draft_of};
 ghost use Rattle.script_checker.specs.Forms.{Formed};
 ghost use Rattle.script_state.specs.Refusals.{IsUntouched, Refuses};
-ghost use Rattle.script_player.specs.Checking.{IsGiven};
+ghost use Rattle.script_grammar.specs.GivenEvents.{IsGiven};
 
-use net_replay::Event;
-use script_grammar::ScriptLine;
-use script_player::Refused;
+use network_model::Event;
+use script_grammar::{ScriptLine, Stop};
 use script_state::ScriptState;
 
-/// Adds what a line says, and gives its event if it is one of part 3. `Fault`: the line breaks a rule, this is the fault of the
+/// Adds what a line says, and gives its event if it is one of part 3. `Bad`: the line breaks a rule, this is the fault of the
 /// first that it breaks, and the lines so far stay as they were. `NoMemory`: memory ran out.
-pub fn add(state: &mut ScriptState, line: ScriptLine) -> Result<Option<Event>, Refused>
+pub fn add(state: &mut ScriptState, line: ScriptLine) -> Result<Option<Event>, Stop>
     requires { Formed line }
     ensures ok { OnOk result (KeepsAll (Keeps (draft_of state.old) line) × Adds (draft_of state.old) line (draft_of state.new)) }
     ensures given { IfOk result (λ e. IsGiven (draft_of state.old).events e (draft_of state.new).events) }

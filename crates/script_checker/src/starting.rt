@@ -3,9 +3,8 @@ ghost use Rattle.std.specs.Prelude.{◌≡◌, ◌/◌, ◌≤◌, IfOk};
 ghost use Rattle.script_grammar.specs.Draft.{period_of};
 ghost use Rattle.script_state.specs.Said.{draft_of};
 
-use rsvp_base::NoMemory;
+use rsvp_base::{EndName, NoMemory};
 use script_state::ScriptState;
-use script_words::EndName;
 use std::alloc::Global;
 
 /// A quarter of the period, in milliseconds.

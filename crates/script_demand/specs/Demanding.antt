@@ -1,7 +1,7 @@
 -- The demand of a script: what was taken of the source, and what was written.
 use Rattle.std.specs.Prelude.{ℕ, ◌≤◌, ◌<◌, List, length, Option}
 use Rattle.byte_streams.specs.Reading.{most_bytes}
-use Rattle.demand_texts.specs.Texts.{IsDemandText}
+use Rattle.network_model.specs.DemandTexts.{IsDemandText}
 use Rattle.network_model.specs.Runs.{Plan}
 use Rattle.network_run.specs.declared.ending.Ending.{Ending}
 use Rattle.network_run.specs.declared.ending.Ending.TheVariants.{Done, BadLine, NoMemory, TooLong}

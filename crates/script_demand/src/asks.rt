@@ -4,9 +4,8 @@ ghost use Rattle.network_demand.specs.Asked.{locals_of};
 ghost use Rattle.script_grammar.specs.Draft.{routing};
 
 use network_demand::Locals;
-use rsvp_base::NoMemory;
+use rsvp_base::{EndName, NoMemory};
 use script_player::Checks;
-use script_words::EndName;
 use tree_routing::Routing;
 
 /// What checks the lines of a script and keeps what they ask of their network.

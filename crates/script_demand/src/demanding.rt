@@ -2,7 +2,7 @@
 ghost use Rattle.std.specs.Prelude.{◌≡◌, ◌≢◌, [], List, ℕ, Some, IfOk, IfErr, OnOk, take};
 ghost use Rattle.std.specs.Io.KnownBytes.{Appends};
 ghost use Rattle.byte_streams.specs.Faults.{Rose};
-ghost use Rattle.demand_texts.specs.Texts.{IsDemandText};
+ghost use Rattle.network_model.specs.DemandTexts.{IsDemandText};
 ghost use Rattle.network_model.specs.Runs.{Plan};
 ghost use Rattle.network_run.specs.Advised.{IsAdvised};
 ghost use Rattle.network_run.specs.Endings.{IsOrNoMemory};

@@ -9,8 +9,8 @@ ghost use Rattle.script_demand.specs.Feeding.{MatchRefused};
 
 use line_advice::put_advice;
 use network_run::Ending;
-use script_grammar::Fault;
-use script_player::{Checks, Refused};
+use script_grammar::{Fault, Stop};
+use script_player::Checks;
 use script_words::next_line;
 use std::alloc::Global;
 
@@ -38,24 +38,25 @@ pub(crate) fn check_lines<C: Checks>(
         number = number.saturating_add(1);
         match feed_line(checker, line) {
             Ok(()) => rest = behind,
-            Err(Refused::Fault(why)) => {
+            Err(Stop::Bad(why)) => {
                 put_advice(alloc, checker, line, &why, advice);
                 return Err(Ending::BadLine { line: number, why });
             }
-            Err(Refused::NoMemory) => return Err(Ending::NoMemory),
+            Err(Stop::Crowded) => return Err(Ending::Crowded),
+            Err(Stop::NoMemory) => return Err(Ending::NoMemory),
         }
     }
     Ok(())
 }
 
 // Feeds a line, which is bad where it is too long.
-fn feed_line<C: Checks>(checker: &mut C, line: &[u8]) -> Result<(), Refused>
+fn feed_line<C: Checks>(checker: &mut C, line: &[u8]) -> Result<(), Stop>
     ensures follows { OnOk result (Follows (C.lines checker.old) line.now (C.lines checker.new)) }
     ensures refused { IfErr result (MatchRefused (HasFault (C.lines checker.old) line.now)) }
     ensures same { IfErr result (MatchRefused (λ why. C.lines checker.new ≡ C.lines checker.old)) }
 {
     if line.len() > MOST_LINE {
-        return Err(Refused::Fault(Fault::Limit));
+        return Err(Stop::Bad(Fault::Limit));
     }
     match checker.feed(line) {
         Ok(_event) => Ok(()),

@@ -17,7 +17,7 @@ use Rattle.script_grammar.specs.Grammar.{Follows, HasFault, too_long, unread, br
 use Rattle.script_grammar.specs.Laws.{OneBadLine}
 use Rattle.script_grammar.specs.LineKinds.{script_line_of}
 use Rattle.script_grammar.specs.Rules.{Rule, Keeps, KeepsAll, BreaksFirst, Closes, Exceeds, IsLoopOf}
-use Rattle.script_grammar.specs.declared.fault.Excess.{Excess}
+use Rattle.network_model.specs.declared.excess.Excess.{Excess}
 use Rattle.script_grammar.specs.declared.fault.Fault.{Fault}
 use Rattle.script_grammar.specs.declared.fault.Fault.TheVariants.{Word, Late, Range, Name, Twice, Style, Limit, NotTree, Over, Loop}
 use Rattle.script_grammar.specs.declared.line.ScriptLine.{ScriptLine}

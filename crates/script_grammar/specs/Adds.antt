@@ -15,7 +15,7 @@ use Rattle.script_words.specs.Flows.{flow_value}
 use Rattle.script_words.specs.Sessions.{sender_value, session_value}
 use Rattle.message_wire.specs.Spells.{Spells, IsFirstFault}
 use Rattle.rsvp_base.specs.Styles.{part_unit}
-use Rattle.network_model.specs.RouterRules.Inputs.{Arrival, Spelt, Unspelt, Local, QuitAll, Stale}
+use Rattle.network_model.specs.RouterRules.Inputs.{Arrival, Local, QuitAll, Stale}
 use Rattle.network_model.specs.TreeModel.declared.hops.TreeHop.{TreeHop}
 use Rattle.network_model.specs.TreeModel.declared.locals.LocalSender.{LocalSender}
 use Rattle.network_model.specs.TreeModel.declared.locals.LocalWant.{LocalWant}
@@ -23,6 +23,7 @@ use Rattle.network_model.specs.TreeModel.Networks.{Net, node_of}
 use Rattle.network_model.specs.TreeModel.Wants.{Locals}
 use Rattle.tree_routing.specs.Answers.{with_end, with_hop, with_link, with_node}
 use Rattle.network_model.specs.Events.{Event, AtNode, Waits, Pass, DeliverAt, LoseAt, CopyAt, ClearNode, Rounds, Traces, Reports, ReportsFlags, Injects, Reroutes}
+use Rattle.network_model.specs.Happenings.{IsSpelling}
 use Rattle.network_model.specs.Steps.{rerouted}
 use Rattle.script_grammar.specs.Draft.{Draft, end_number, node_number, routing, same_session, with_session}
 use Rattle.script_grammar.specs.Values.{end_value, tree_hop_value, hop_values, stale_path_value, stale_resv_value, stale_hop_wall_value, stale_sender_wall_value, send_value, drop_value, want_value, senders_value}
@@ -127,8 +128,7 @@ with_reroute d l = record (with_event d (Reroutes (addr_value l.group) (addr_val
 
 -- what arrives where these bytes come: the message that they spell, or why they spell none
 abbrev pub IsArrival : List ℕ → Arrival → Type 0
-IsArrival bytes (Spelt m) = Spells bytes m
-IsArrival bytes (Unspelt e) = IsFirstFault bytes e
+IsArrival bytes a = IsSpelling Spells IsFirstFault bytes a
 
 -- ---- the lines before lead to these with this one
 abbrev pub Adds : Draft → ScriptLine → Draft → Type 0

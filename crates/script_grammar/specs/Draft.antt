@@ -1,6 +1,6 @@
 -- What the lines of a script have said so far.
-use Rattle.std.specs.Prelude.{◌≡◌, ℕ, ◌*◌, ◌/◌, ◌==◌, Bool, List, [], ◌∷◌, ◌++◌, map as each, Option, None, Some, length, position, slice_get, unwrap_or, if◌then◌else◌}
-use Rattle.std.specs.List.{filter, list_any}
+use Rattle.std.specs.Prelude.{◌≡◌, ℕ, ◌*◌, ◌/◌, Bool, List, [], ◌∷◌, ◌++◌, Option, None, Some, length, position, slice_get, unwrap_or, if◌then◌else◌}
+use Rattle.std.specs.List.{list_any}
 use Rattle.std.specs.Ordering.{eq_by_cmp}
 use Rattle.std.specs.Str.{bytes_eq}
 use Rattle.rsvp_base.specs.declared.addr.Addr.{Addr}
@@ -100,10 +100,6 @@ same_session a b = eq_by_cmp by_session.cmp a b
 -- with a session that is named, once
 abbrev pub with_session : List Session → Session → List Session
 with_session named s = if list_any (same_session s) named then named else named ++ s ∷ []
-
--- ---- what is left over at a node
-abbrev pub stale_at : ℕ → List (ℕ × Stale) → List Stale
-stale_at node stale = each (λ s. s.1) (filter (λ s. s.0 == node) stale)
 
 -- ---- what these lines say as a whole
 abbrev pub plan_of : Draft → Plan

@@ -2,7 +2,7 @@ pub mod LineKinds
 pub mod Draft
 pub mod Values
 pub mod Adds
-pub mod Excesses
+pub mod GivenEvents
 pub mod Rules
 pub mod Grammar
 pub mod Laws

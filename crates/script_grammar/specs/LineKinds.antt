@@ -10,7 +10,7 @@ use Rattle.script_words.specs.declared.raw.SenderWord.{SenderWord}
 use Rattle.script_words.specs.Steps.{◌>>=◌, each_of}
 use Rattle.script_words.specs.Words.{words_of}
 use Rattle.script_words.specs.Numbers.{number_of}
-use Rattle.script_words.specs.Names.{name_of}
+use Rattle.rsvp_base.specs.EndNames.{name_of}
 use Rattle.script_words.specs.Addresses.{quad_of, quads_of}
 use Rattle.script_words.specs.Sessions.{session_of, sender_of, senders_of}
 use Rattle.script_words.specs.Styles.{style_of}

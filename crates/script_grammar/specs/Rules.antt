@@ -11,8 +11,7 @@ use Rattle.script_words.specs.declared.raw.SenderWord.{SenderWord}
 use Rattle.script_words.specs.Addresses.{IsAddr, addr_value}
 use Rattle.script_words.specs.Sessions.{sender_value, session_value}
 use Rattle.network_model.specs.RouterRules.Bounds.{AreBooked, AreWithinLimits}
-use Rattle.network_model.specs.RouterRules.Calls.{with_left}
-use Rattle.network_model.specs.RouterRules.Facts.{Facts, no_facts, resvs_of}
+use Rattle.network_model.specs.RouterRules.Facts.{Facts, resvs_of}
 use Rattle.network_model.specs.RouterRules.Inputs.{Stale, StalePath, StaleResv, StaleWall}
 use Rattle.network_model.specs.TreeModel.declared.hops.LinkHop.{LinkHop}
 use Rattle.network_model.specs.TreeModel.declared.hops.TreeHop.{TreeHop}
@@ -26,11 +25,12 @@ use Rattle.tree_routing.specs.Answers.{Fits, IsLeastOnLoop, with_hop}
 use Rattle.network_model.specs.Events.{Event, Reports, ReportsFlags}
 use Rattle.network_model.specs.Worlds.{config_of, ifaces_at}
 use Rattle.script_grammar.specs.Adds.{is_sender, link_value, net_rerouted, wants_at, wants_value, with_sender, with_wants}
-use Rattle.script_grammar.specs.Excesses.{excess_at}
-use Rattle.script_grammar.specs.Draft.{Draft, end_named, end_number, node_named, node_number, period_of, plan_of, stale_at, with_session}
+use Rattle.network_model.specs.Excesses.{excess_at}
+use Rattle.script_grammar.specs.Draft.{Draft, end_named, end_number, node_named, node_number, period_of, plan_of, with_session}
+use Rattle.network_model.specs.LeftFacts.{facts_at}
 use Rattle.script_grammar.specs.Values.{IsDropInRange, IsEndInRange, IsFrom1To, IsHopInRange, IsPeriod, IsRerouteInRange, IsSendInRange, IsStaleHopWallInRange, IsStalePathInRange, IsStaleResvInRange, IsStaleSenderWallInRange, IsWantInRange, end_value, hop_values, most_passes, most_places, most_rounds, most_wait, senders_value, stale_hop_wall_value, stale_path_value, stale_resv_value, stale_sender_wall_value, tree_hop_value}
 use Rattle.script_words.specs.Sessions.{IsSession}
-use Rattle.script_grammar.specs.declared.fault.Excess.{Excess}
+use Rattle.network_model.specs.declared.excess.Excess.{Excess}
 use Rattle.script_grammar.specs.declared.fault.Fault.{Fault}
 use Rattle.script_grammar.specs.declared.fault.Fault.TheVariants.{Word, Late, Range, Name, Twice, Style, Limit, NotTree, Over, Loop}
 use Rattle.script_grammar.specs.declared.line.ScriptLine.{ScriptLine}
@@ -147,14 +147,7 @@ AreDistinct (x ∷ xs) = (Contains xs x → ⊥) × AreDistinct xs
 abbrev pub sender_list : List SenderWord → List Sender
 sender_list words = each sender_value words
 
--- ---- what is left over at a node, as the node keeps it
-abbrev pub facts_with_all : List Stale → Facts → Facts
-facts_with_all [] f = f
-facts_with_all (s ∷ ss) f = facts_with_all ss (with_left s f)
-
-abbrev pub facts_at : List (ℕ × Stale) → ℕ → Facts
-facts_at stale node = facts_with_all (stale_at node stale) no_facts
-
+-- ---- what is left over at a node
 -- no fact of this key is there
 abbrev pub IsNewFact : Facts → Stale → Type 0
 IsNewFact f (StalePath k x) = has f.paths k ≡ false

@@ -1,17 +1,6 @@
 //! Why lines are bad.
-use rsvp_base::Addr;
-use script_words::EndName;
-
-/// What an interface has too little of for a left-over reservation, beside those of the lines before (RFC 2205, 1: admission
-/// control).
-#[derive(Clone, Copy, Debug, PartialEq, Eq)]
-pub enum Excess {
-    /// Its largest packet, in bytes, is larger than the interface sends.
-    Packet { most: u32, mtu: u32 },
-    /// This is not so, and the rates of the merged reservations on the interface come together to more than its capacity, in
-    /// bytes per second.
-    Rate { sum: u128, capacity: u64 },
-}
+use network_model::Excess;
+use rsvp_base::{Addr, EndName};
 
 /// Why a line is bad: the rule that it breaks first, in the order in which they are looked at. A line that is too long has
 /// `Limit` before anything else is looked at.

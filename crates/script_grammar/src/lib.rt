@@ -10,11 +10,13 @@ mod line;
 mod line_kinds;
 mod list;
 pub mod rows;
+mod stop;
 
-pub use fault::{Excess, Fault};
+pub use fault::Fault;
 pub use line::{
     DropLine, EndLine, HopEnds, HopLine, InjectLine, QuitLine, RerouteLine, ScriptLine, SendLine,
     StaleHopWallLine, StalePathLine, StaleResvLine, StaleSenderWallLine, WantLine,
 };
 pub use line_kinds::read_line;
 pub use list::{LinkEnds, Listed};
+pub use stop::Stop;

@@ -1,8 +1,8 @@
 //! What a line of a script says, before any rule is looked at. Numbers stand as they were read, whatever their size; nodes
 //! and ends stand by their names.
 use crate::list::{LinkEnds, Listed};
-use rsvp_base::StyleKind;
-use script_words::{DottedQuad, EndName, FlowWord, SenderWord, SessionWord};
+use rsvp_base::{EndName, StyleKind};
+use script_words::{DottedQuad, FlowWord, SenderWord, SessionWord};
 
 /// A line of a script, by its first word.
 #[derive(Drop)]

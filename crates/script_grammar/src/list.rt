@@ -1,5 +1,5 @@
 //! Lists that lines hold.
-use script_words::EndName;
+use rsvp_base::EndName;
 use std::marker::Model;
 
 /// A list of things. Contracts see the list.

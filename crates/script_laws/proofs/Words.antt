@@ -17,7 +17,7 @@ use Rattle.script_words.specs.declared.raw.SenderWord.{SenderWord}
 use Rattle.script_words.specs.Steps.{◌>>=◌, each_of}
 use Rattle.script_words.specs.Words.{words_of}
 use Rattle.script_words.specs.Numbers.{number_of}
-use Rattle.script_words.specs.Names.{is_name, name_of}
+use Rattle.rsvp_base.specs.EndNames.{is_name, name_of}
 use Rattle.script_words.specs.Addresses.{quad_of, quads_of}
 use Rattle.script_words.specs.Parts.{parts_of}
 use Rattle.script_words.specs.Sessions.{session_of, sender_of, senders_of}

@@ -7,7 +7,9 @@ use Rattle.script_grammar.specs.Runs.{Plan, first_world, is_crowded_run, last_wo
 use Rattle.script_grammar.specs.Steps.{machine}
 use Rattle.script_grammar.specs.Worlds.{World}
 use Rattle.script_grammar.specs.Draft.{Draft, plan_of}
-use Rattle.script_grammar.specs.Grammar.{Follows}
+use Rattle.script_grammar.specs.Grammar.{Follows, HasFault}
+use Rattle.script_grammar.specs.declared.stop.Stop.{Stop}
+use Rattle.script_grammar.specs.declared.stop.Stop.TheVariants as stop
 use Rattle.left_over.specs.Fit.{AreFitAll}
 use Rattle.left_over.specs.declared.fact.LeftOver.{LeftOver}
 use Rattle.tree_model.specs.Networks.{Net}
@@ -17,10 +19,11 @@ use Rattle.net_replay.specs.Opening.{IsOpenedBy}
 use Rattle.net_replay.specs.Running.{Makes, Ran}
 use Rattle.net_replay.specs.declared.world_err.WorldErr.{WorldErr}
 use Rattle.net_replay.specs.declared.world_err.WorldErr.TheVariants.{Crowded, NoMemory}
-use Rattle.network_run.specs.Playing.{IsCrowdedBy, IsRunOn}
+use Rattle.network_run.specs.Playing.{IsCrowdedBy, IsRunOn, StaysAt, Stops}
 use Rattle.network_run.specs.Written.{IsRunSoFar, with_event}
 use Rattle.network_run.proofs.Adding.{event_line, quiet_line, quiet_run}
 use Rattle.network_run.proofs.Runs.{crowded_by, last_with, text_with}
+use Rattle.script_player.specs.Checking.{Feeds}
 use Rattle.script_player.specs.Standing.{IsAt, IsNetworkOf, RunsOn, RunsOnto, StandsBehind}
 
 -- what is left over is fit for the network that the lines declare
@@ -62,6 +65,12 @@ module _ {R : Type 0} (see : Seen R) where
   onto v p e (Ok _) before after ran = (v, refl, ran)
   onto v p e (Err Crowded) before after ran = ran
   onto v p e (Err NoMemory) before after ran = tt
+
+  -- ---- a line that was not taken: what checks lines is never crowded
+  pub not_taken : (old new d : Draft) (t : List ℕ) (world : Option (NetworkState R)) (why : Stop) → old ≡ d → Feeds old t (Err why) new → IsNetworkOf see world (plan_of d) → Stops why d t × StaysAt (λ x. IsAt see new world x) d why
+  not_taken old new d t world (stop.Bad why) same fed n = (subst (λ (x : Draft). HasFault x t why) same fed.0, record { same = fed.1 ∙ same; network = n })
+  not_taken old new d t world stop.Crowded same fed n = absurd fed
+  not_taken old new d t world stop.NoMemory same fed n = (tt, tt)
 
   -- ---- a line that adds no event
   still_network : (d : Draft) (t : List ℕ) (new : Draft) (world : Option (NetworkState R)) → Follows d t new → new.events ≡ d.events → IsNetworkOf see world (plan_of d) → IsNetworkOf see world (plan_of new)

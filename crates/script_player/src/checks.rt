@@ -4,49 +4,13 @@ ghost use Rattle.left_over.specs.AtNodes.{list_of};
 ghost use Rattle.left_over.specs.Fit.{AreFitAll};
 ghost use Rattle.script_grammar.specs.Draft.{plan_of};
 ghost use Rattle.script_player.specs.Checking.{Feeds, IsStartOf};
-ghost use Rattle.script_player.specs.declared.checks.Refused.TheVariants as refused;
 
 use left_over::LeftOver;
 use line_advice::LinesBefore;
-use net_replay::Event;
-use rsvp_base::NoMemory;
-use script_grammar::Fault;
-use script_words::EndName;
-use std::alloc::{AllocError, AllocFailed};
+use network_model::Event;
+use rsvp_base::{EndName, NoMemory};
+use script_grammar::Stop;
 use tree_routing::Routing;
-
-/// Why a line was not taken.
-#[derive(Debug, Drop)]
-pub enum Refused {
-    /// The line is bad: this is its first fault after the lines before it.
-    Fault(Fault),
-    /// Memory ran out.
-    NoMemory,
-}
-
-impl From<AllocError> for Refused {
-    ghost from_gives = { λ _ e. e ≡ refused.NoMemory };
-
-    fn from(_: AllocError) -> Self {
-        Refused::NoMemory
-    }
-}
-
-impl<T: Drop> From<AllocFailed<T>> for Refused {
-    ghost from_gives = { λ _ e. e ≡ refused.NoMemory };
-
-    fn from(_: AllocFailed<T>) -> Self {
-        Refused::NoMemory
-    }
-}
-
-impl From<NoMemory> for Refused {
-    ghost from_gives = { λ _ e. e ≡ refused.NoMemory };
-
-    fn from(_: NoMemory) -> Self {
-        Refused::NoMemory
-    }
-}
 
 /// What the lines before all events declare.
 #[derive(Drop)]
@@ -62,9 +26,9 @@ pub struct Start {
 
 /// What checks the lines of a script, one after another.
 pub trait Checks: LinesBefore {
-    /// Takes a line, and gives its event if it is one of part 3. `Fault`: exactly where the line cannot follow those before,
-    /// which stay the lines so far. `NoMemory`: memory ran out, and nothing more may be fed.
-    fn feed(&mut self, line: &[u8]) -> Result<Option<Event>, Refused>
+    /// Takes a line, and gives its event if it is one of part 3. `Bad`: exactly where the line cannot follow those before,
+    /// which stay the lines so far. `NoMemory`: memory ran out, and nothing more may be fed. It is never `Crowded`.
+    fn feed(&mut self, line: &[u8]) -> Result<Option<Event>, Stop>
         requires { length line.now ≤ 2048 }
         ensures { Feeds (Self.lines self.old) line.now result (Self.lines self.new) };
 

@@ -2,10 +2,12 @@
 ghost use Rattle.std.specs.Prelude.{◌≡◌, false};
 ghost use Rattle.script_grammar.specs.Runs.{Plan, is_crowded_run};
 ghost use Rattle.router_rules.specs.Inputs.{Arrival};
-ghost use Rattle.net_replay.specs.Happening.{IsFitEvent, IsRead, event_with};
+ghost use Rattle.net_replay.specs.Happening.{IsRead};
+ghost use Rattle.network_model.specs.Happenings.{IsFitEvent, event_with};
 ghost use Rattle.script_player.specs.Standing.{RunsOn, StandsBehind};
 
-use net_replay::{Event, Router, Watch, World, WorldErr};
+use net_replay::{Router, Watch, World, WorldErr};
+use network_model::Event;
 
 /// Runs an event on a network that stands behind a plan, and appends what it writes: the network stands behind the plan with the
 /// event then. `watch` is told how far its rounds are. `Crowded`: exactly where the run of that plan is crowded. `NoMemory`: memory

@@ -10,7 +10,7 @@ mod opens;
 mod player;
 mod script_run;
 
-pub use checks::{Checks, Refused, Start};
+pub use checks::{Checks, Start};
 pub use event_run::run_event;
 pub use opens::Opens;
 pub use player::ScriptPlayer;

@@ -4,19 +4,21 @@ ghost use Rattle.script_grammar.specs.Events.{Event as AnEvent};
 ghost use Rattle.script_grammar.specs.Runs.{Plan, is_crowded_run};
 ghost use Rattle.router_rules.specs.Inputs.{Arrival};
 ghost use Rattle.script_grammar.specs.Draft.{Draft, nothing, plan_of};
-ghost use Rattle.net_replay.specs.Happening.{IsFitEvent, IsRead, event_with};
+ghost use Rattle.net_replay.specs.Happening.{IsRead};
+ghost use Rattle.network_model.specs.Happenings.{IsFitEvent, event_with};
 ghost use Rattle.network_run.specs.Playing.{Plays};
 ghost use Rattle.network_run.specs.Written.{IsRunSoFar, with_event};
 ghost use Rattle.script_player.specs.Standing.{IsAt, IsNetworkOf, RunsOnto, StandsBehind};
 
-use crate::checks::{Checks, Refused, Start};
+use crate::checks::{Checks, Start};
 use crate::event_run::run_event;
 use crate::opens::Opens;
 use line_advice::put_advice;
-use net_replay::{Event, Watch, World, WorldErr};
-use network_run::{Player, Stop};
+use net_replay::{Watch, World, WorldErr};
+use network_model::Event;
+use network_run::Player;
 use rsvp_base::NoMemory;
-use script_grammar::Fault;
+use script_grammar::{Fault, Stop};
 use std::alloc::Global;
 
 /// Checks the lines of a script and runs their events. It has what checks them, what watches the rounds and, from the first event on,
@@ -70,8 +72,7 @@ impl<C: Checks + Drop, R: Opens, W: Watch + Drop> Player for ScriptPlayer<C, R, 
                     Err(WorldErr::NoMemory) => Err(Stop::NoMemory),
                 }
             }
-            Err(Refused::Fault(why)) => Err(Stop::Bad(why)),
-            Err(Refused::NoMemory) => Err(Stop::NoMemory),
+            Err(stop) => Err(stop),
         }
     }
 

@@ -19,7 +19,7 @@ use Rattle.network_model.specs.Steps.{Report, Step, machine, step}
 use Rattle.network_model.specs.Worlds.{World}
 use Rattle.network_model.proofs.NodeLocals.{node_wants, sender_of_node, want_of_node}
 use Rattle.network_steps.proofs.Runs.{each_world_of_a_run_is_within_bounds}
-use Rattle.demand_texts.specs.Texts.{demand_text}
+use Rattle.network_model.specs.DemandTexts.{demand_text}
 use Rattle.script_grammar.specs.Draft.{Draft, nothing, plan_of, routing}
 use Rattle.script_grammar.specs.Grammar.{IsScript, Leads}
 use Rattle.script_laws.proofs.EventLines.{each_script_is_a_fit_run}

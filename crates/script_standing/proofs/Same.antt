@@ -33,7 +33,7 @@ use Rattle.tree_model.specs.Networks.{Net, node_of}
 use Rattle.tree_model.specs.Ranks.{followers, rank}
 use Rattle.tree_model.specs.Trees.{goes_out_of, hops_of}
 use Rattle.tree_model.specs.Wants.{Locals, as_list, brought, goes_over, is_wanted_at, live, names, of_session, want, want_from, wanted_of}
-use Rattle.demand_texts.specs.Texts.{demand_text, of_end}
+use Rattle.network_model.specs.DemandTexts.{demand_text, of_end}
 use Rattle.script_standing.specs.Standing.{AskTheSame, TheSameIsDemanded}
 
 -- sets of the same members

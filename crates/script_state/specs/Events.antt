@@ -6,8 +6,8 @@ use Rattle.rsvp_messages.specs.declared.message.Message.{Message}
 use Rattle.message_wire.specs.Hints.{no_hint}
 use Rattle.router_rules.specs.Inputs.{Arrival, Spelt, Unspelt}
 use Rattle.script_grammar.specs.Events.{Event as Happening}
-use Rattle.net_replay.specs.Happening.{event_with}
-use Rattle.net_replay.specs.declared.event.Event.{Event}
+use Rattle.network_model.specs.Happenings.{event_with}
+use Rattle.network_model.specs.declared.event.Event.{Event}
 
 -- what bytes are, as they were read; with no bytes, nothing that is spelt
 abbrev pub arrival_of : Option (Result Message MsgErr) → Arrival

@@ -1,15 +1,15 @@
 //! What happens is kept: the counts that lines ask for, and for proofs all of it.
 ghost use Rattle.std.specs.Prelude.{◌≡◌, ◌↔◌, ◌++◌, ◌∷◌, [], IsTrue, false, map, true};
 ghost use Rattle.router_rules.specs.Inputs.{Arrival};
-ghost use Rattle.net_replay.specs.Happening.{IsFitEvent, IsRead, event_with};
+ghost use Rattle.script_grammar.specs.GivenEvents.{IsAdded, IsRead};
+ghost use Rattle.network_model.specs.Happenings.{IsFitEvent, event_with};
 ghost use Rattle.script_grammar.specs.Rules.{HasRoomForReport, is_report};
-ghost use Rattle.script_player.specs.Checking.{IsAdded};
 ghost use Rattle.script_state.specs.Events.{arrival_of, event_of};
 ghost use Rattle.script_state.specs.Said.{draft_of};
 
 use crate::state::ScriptState;
 use message_wire::decode;
-use net_replay::Event;
+use network_model::Event;
 use rsvp_messages::{Message, MsgErr};
 
 const MOST_REPORTS: usize = 16;

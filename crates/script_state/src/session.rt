@@ -1,21 +1,21 @@
 //! The sessions that lines name.
 ghost use Rattle.std.specs.Prelude.{◌≡◌, ◌↔◌, ◌∷◌, ◌++◌, [], IsTrue, IfErr, IfOk, OnOk, map};
 ghost use Rattle.std.specs.List.{list_any};
-ghost use Rattle.net_replay.specs.Happening.{call_of};
+ghost use Rattle.network_model.specs.Happenings.{call_of};
 ghost use Rattle.script_grammar.specs.Events.{AtNode};
 ghost use Rattle.router_rules.specs.Steps.{IsFitCall};
 ghost use Rattle.script_state.specs.Said.{draft_of};
 ghost use Rattle.script_state.specs.Events.{event_of};
 ghost use Rattle.script_state.specs.Refusals.{OnlyNoMemory};
-ghost use Rattle.script_player.specs.Checking.{IsAdded};
+ghost use Rattle.script_grammar.specs.GivenEvents.{IsAdded};
 ghost use Rattle.script_grammar.specs.Draft.{same_session, with_session};
 ghost use Rattle.script_grammar.specs.Rules.{HasRoomForSession};
 
 use crate::keeping::keep;
 use crate::state::ScriptState;
-use net_replay::{Event, LocalCall};
+use network_model::{Event, LocalCall};
 use rsvp_base::Session;
-use script_player::Refused;
+use script_grammar::Stop;
 
 const MOST_SESSIONS: usize = 32;
 
@@ -46,7 +46,7 @@ pub fn has_room_for_session(state: &ScriptState, session: Session) -> bool
 }
 
 /// Names a session.
-pub fn name_session(state: &mut ScriptState, session: Session) -> Result<(), Refused>
+pub fn name_session(state: &mut ScriptState, session: Session) -> Result<(), Stop>
     ensures ok { OnOk result (draft_of state.new ≡ record (draft_of state.old) { sessions = with_session state.old.sessions.items session }) }
     ensures period { state.new.period ≡ state.old.period }
     ensures left { state.new.left ≡ state.old.left }
@@ -65,7 +65,7 @@ pub fn keep_call(
     node: u16,
     session: Session,
     call: LocalCall,
-) -> Result<Event, Refused>
+) -> Result<Event, Stop>
     requires { IsFitCall (call_of call) }
     ensures ok { OnOk result (draft_of state.new ≡ record (draft_of state.old) {
       sessions = with_session state.old.sessions.items session;

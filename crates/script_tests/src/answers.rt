@@ -1,18 +1,18 @@
 //! What the checker answers to a line, in a word.
 use line_stream::MOST_LINE;
-use net_replay::Event;
+use network_model::Event;
+use rsvp_base::EndName;
 use script_checker::Checker;
-use script_grammar::Fault;
-use script_player::{Checks, Refused};
-use script_words::EndName;
+use script_grammar::{Fault, Stop};
+use script_player::Checks;
 use std::alloc::Global;
 use std::test::Fail;
 
 /// What the checker answers to the line behind those that were taken.
-pub fn answer(checker: &mut Checker, line: &str) -> Result<Option<Event>, Refused> {
+pub fn answer(checker: &mut Checker, line: &str) -> Result<Option<Event>, Stop> {
     let line = line.as_bytes();
     if line.len() > MOST_LINE {
-        return Err(Refused::Fault(Fault::Limit));
+        return Err(Stop::Bad(Fault::Limit));
     }
     checker.feed(line)
 }
@@ -38,8 +38,9 @@ fn word(checker: &mut Checker, line: &str) -> &'static str {
     let said = answer(checker, line);
     match &said {
         Ok(_) => "taken",
-        Err(Refused::Fault(fault)) => reason(fault),
-        Err(Refused::NoMemory) => "memory",
+        Err(Stop::Bad(fault)) => reason(fault),
+        Err(Stop::Crowded) => "crowded",
+        Err(Stop::NoMemory) => "memory",
     }
 }
 
@@ -73,7 +74,7 @@ pub fn closes(checker: &mut Checker, line: &str, from: &str, to: &str) -> bool {
     let said = answer(checker, line);
     match &said {
         Err(
-            Refused::Fault(
+            Stop::Bad(
                 Fault::Loop {
                     from: first,
                     to: last,

@@ -4,9 +4,9 @@ ghost use Rattle.script_grammar.specs.Draft.{nothing};
 
 use byte_streams::{MemorySink, MemorySource};
 use line_advice::{LinesBefore, put_advice};
-use network_run::{Ending, Player, Stop, run_lines};
+use network_run::{Ending, Player, run_lines};
 use rsvp_base::{NoMemory, Session, StyleKind};
-use script_grammar::{Fault, ScriptLine, read_line};
+use script_grammar::{Fault, ScriptLine, Stop, read_line};
 use script_words::Unread;
 use std::alloc::Global;
 use std::test::Fail;

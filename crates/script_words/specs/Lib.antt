@@ -4,7 +4,6 @@ pub mod Lines
 pub mod LineFaults
 pub mod Words
 pub mod Numbers
-pub mod Names
 pub mod Styles
 pub mod Unread
 pub mod Addresses

@@ -2,9 +2,7 @@
 use Rattle.std.specs.Prelude.{ℕ, ◌+◌, ◌-◌, ◌*◌, List, Option, None, Some, Bool, ◌&&◌, ◌||◌, nat_le, codes, length, fold, slice_index, if◌then◌else◌}
 use Rattle.std.specs.List.{list_all}
 use Rattle.std.specs.Str.{bytes_eq, byte}
-
-abbrev pub is_digit : ℕ → Bool
-is_digit c = nat_le (byte "0") c && nat_le c (byte "9")
+use Rattle.rsvp_base.specs.EndNames.{is_digit}
 
 -- what digits stand for in base ten, the first one highest
 abbrev pub value_of : List ℕ → ℕ

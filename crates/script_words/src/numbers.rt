@@ -1,7 +1,8 @@
 //! Numbers.
 ghost use Rattle.std.specs.Prelude.{◌≡◌, ◌≤◌, length, true};
 ghost use Rattle.std.specs.List.{list_all};
-ghost use Rattle.script_words.specs.Numbers.{is_digit, value_of, number_of};
+ghost use Rattle.script_words.specs.Numbers.{value_of, number_of};
+ghost use Rattle.rsvp_base.specs.EndNames.{is_digit};
 
 /// The number that a word is; None where the word is neither 0 nor 1 to 20 decimal digits that do not begin with 0.
 /// Twenty digits may pass the largest `u64`.

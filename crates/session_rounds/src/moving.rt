@@ -19,9 +19,9 @@ use blockade_state::Touched;
 use lane_state::LaneTable;
 use lane_telling::offered;
 use node_tables::Tables;
-use node_telling::{Config, Outbox, tell_gone_ways, tell_new_ways, ways_by};
+use node_telling::{Config, tell_gone_ways, tell_new_ways, ways_by};
 use node_waiting::KnownSenders;
-use router_rules::Route;
+use router_rules::{Outbox, Route};
 use rsvp_base::{Sender, Session};
 
 // The PathTears of a sender, by the interfaces by which its tree went on by the old routes and goes on no more.

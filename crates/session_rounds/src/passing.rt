@@ -10,8 +10,8 @@ use crate::rooms::Rooms;
 use crate::rounds::{clear_all, tear_all, tell_all};
 use lane_state::LaneTable;
 use node_tables::Tables;
-use node_telling::Outbox;
 use node_waiting::{tell_dead, tell_fired, watch_all};
+use router_rules::Outbox;
 use tables_waiting::{age_all, forget_all};
 
 /// Lets time pass over a node, in milliseconds, at most half a period (RFC 2205, 3.7). What is not refreshed dies: its senders

@@ -24,7 +24,7 @@ use lane_state::LaneTable;
 use lane_telling::{clear_lanes, refresh_lanes, tear_lanes, tell_lanes};
 use lane_wishes::{unmark, used_marks};
 use node_tables::Tables;
-use node_telling::Outbox;
+use router_rules::Outbox;
 use rsvp_base::{Sender, Session};
 
 // Whether a session is one of these.

@@ -15,7 +15,7 @@ use Rattle.network_model.specs.Texts.{table_text}
 use Rattle.network_model.specs.Worlds.{World, config_of}
 use Rattle.network_steps.proofs.Known.{node_there}
 use Rattle.settle_network.specs.Settled.{HasSettled}
-use Rattle.demand_texts.specs.Texts.{demand_text, end_demand, of_end}
+use Rattle.network_model.specs.DemandTexts.{demand_text, end_demand, of_end}
 
 module _ (q : ℕ) (names : List (List ℕ)) (u : World) (bounds : AreBounds q u) (has : HasSettled q u) where
   same_end : (e : ℕ) → end_report q names plain_report u e ≡ end_demand names u.net (locals_of u) e

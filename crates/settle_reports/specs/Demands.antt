@@ -1,7 +1,7 @@
 -- What a settled report appends: the text of the demand.
 use Rattle.std.specs.Prelude.{◌≡◌, ℕ, ◌++◌, false, List, ◌∷◌, Option}
 use Rattle.calm_rounds.specs.Machine.{run}
-use Rattle.demand_texts.specs.Texts.{demand_text}
+use Rattle.network_model.specs.DemandTexts.{demand_text}
 use Rattle.tree_model.specs.Goals.{DemandsFit}
 use Rattle.network_model.specs.Bounds.{IsSettled}
 use Rattle.network_model.specs.Locals.{locals_of}

@@ -11,7 +11,7 @@ use Rattle.network_model.specs.Locals.{locals_of}
 use Rattle.network_model.specs.Runs.{Plan, first_world, is_crowded_run, run_text}
 use Rattle.network_model.specs.Steps.{At, step}
 use Rattle.network_steps.specs.Beginning.{left_plan}
-use Rattle.demand_texts.specs.Texts.{demand_text}
+use Rattle.network_model.specs.DemandTexts.{demand_text}
 
 abbrev pub sends : Event
 sends = AtNode 0 (SendAs session first usual)

@@ -1,8 +1,8 @@
 //! Words as the format of scripts shows them.
-use rsvp_base::{Addr, Sender, Session, StyleKind};
+use rsvp_base::{Addr, EndName, Sender, Session, StyleKind};
 use script_words::{
-    DottedQuad, EndName, FlowWord, SenderWord, SessionWord, Unread, addresses, first_part,
-    is_group, is_host, is_printable, next_line, number, read_words, senders, style,
+    DottedQuad, FlowWord, SenderWord, SessionWord, Unread, addresses, first_part, is_group,
+    is_host, is_printable, next_line, number, read_words, senders, style,
 };
 use std::test::*;
 

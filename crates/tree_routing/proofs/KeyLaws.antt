@@ -1,6 +1,6 @@
 -- The trees that have a hop, as a list in order.
 use Rattle.std.specs.Prelude.{◌≡◌, ℕ, ◌+◌, ◌<◌, ◌≤◌, List, [], ◌∷◌, ◌++◌, length, map as each, is_some, refl, slice_index_or}
-use Rattle.std.proofs.Common.{zero, suc, sym, ap, ◌∙◌, take, arith}
+use Rattle.std.proofs.Common.{sym, ap, ◌∙◌, take, take_all}
 use Rattle.std.proofs.lemmas.List.{map-append}
 use Rattle.rsvp_base.specs.Keys.{Keys}
 use Rattle.rsvp_base.specs.Rows.{AreRows, table_of, HasRowAt}
@@ -66,11 +66,5 @@ firsts (x ∷ xs) = ap (λ (ys : List (Addr × Addr)). x ∷ ys) (firsts xs)
 pub trees_are : (xs : List (Addr × Addr)) (ks : List Known) → each as_row xs ≡ (set_at ks).rows → xs ≡ trees_of (plain ks)
 trees_are xs ks e = sym (firsts xs) ∙ ap (each (λ (r : (Addr × Addr) × Unit {0}). r.0)) e
 
-pub take_all : {X : Type 0} (xs : List X) (n : ℕ) → length xs ≤ n → take n xs ≡ xs
-take_all [] zero le = refl
-take_all [] (suc n) le = refl
-take_all (x ∷ xs) zero le = absurd (omega arith)
-take_all {X} (x ∷ xs) (suc n) le = ap (λ (ys : List X). x ∷ ys) (take_all xs n (omega arith))
-
 pub all_taken : (ks : List Known) (n : ℕ) → length ks ≤ n → (set_at (take n ks)).rows ≡ (set_at ks).rows
-all_taken ks n le = ap (λ (xs : List Known). (set_at xs).rows) (take_all ks n le)
+all_taken ks n le = ap (λ (xs : List Known). (set_at xs).rows) (take_all n ks le)

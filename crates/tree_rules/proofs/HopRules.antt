@@ -11,25 +11,27 @@ use Rattle.script_grammar.specs.Values.{IsHopInRange, tree_hop_value}
 use Rattle.script_grammar.specs.declared.fault.Fault.TheVariants as fault
 use Rattle.script_grammar.specs.declared.line.HopLine.{HopLine}
 use Rattle.script_grammar.specs.declared.line.ScriptLine.TheVariants as line
-use Rattle.script_player.specs.declared.checks.Refused.{Refused}
-use Rattle.script_player.specs.declared.checks.Refused.TheVariants.{Fault, NoMemory}
+use Rattle.script_grammar.specs.declared.stop.Stop.{Stop}
+use Rattle.script_grammar.specs.declared.stop.Stop.TheVariants.{Bad, Crowded, NoMemory}
 use Rattle.tree_rules.specs.HopRefusals.{IsHopRefused, IsLoopNamed}
 use Rattle.script_state.specs.Refusals.{Refuses}
 
 -- a closed chain, told by the names of the ends of its least hop
-pub loop_named : (d : Draft) (r : TreeHop) (group : Addr) (from to : ℕ) → HopAnswer d.net r (Err (hop_err.Loop group from to)) → (x : Refused) → IsLoopNamed d group (record { from = from; to = to }) x → IsHopRefused d r x
-loop_named d r group from to answer (Fault (fault.Loop g f t)) told =
+pub loop_named : (d : Draft) (r : TreeHop) (group : Addr) (from to : ℕ) → HopAnswer d.net r (Err (hop_err.Loop group from to)) → (x : Stop) → IsLoopNamed d group (record { from = from; to = to }) x → IsHopRefused d r x
+loop_named d r group from to answer (Bad (fault.Loop g f t)) told =
     (answer.0, λ free. free answer.2.on.head answer.2.on.rest answer.2.on.closed, (told.0 ∙ answer.1, record { from = from; to = to }, answer.2, told.1))
+loop_named d r group from to answer Crowded told = absurd told
 loop_named d r group from to answer NoMemory told = tt
-loop_named d r group from to answer (Fault why) told = absurd told
+loop_named d r group from to answer (Bad why) told = absurd told
 
 -- a hop that keeps the rules before those of trees
-pub hop_refused : (d : Draft) (l : HopLine) → OnlyDeclares d → IsHopInRange l → IsHopKnown d l → length d.net.hops < 8192 → (x : Refused) → IsHopRefused d (tree_hop_value d l) x → Refuses d (line.Hop l) x
-hop_refused d l in_time in_range known room (Fault fault.NotTree) no_tree = (in_time, in_range, known, tt, tt, room, no_tree)
-hop_refused d l in_time in_range known room (Fault (fault.Loop g f t)) loop = (in_time, in_range, known, tt, tt, room, loop.0, tt, loop.1, loop.2)
+pub hop_refused : (d : Draft) (l : HopLine) → OnlyDeclares d → IsHopInRange l → IsHopKnown d l → length d.net.hops < 8192 → (x : Stop) → IsHopRefused d (tree_hop_value d l) x → Refuses d (line.Hop l) x
+hop_refused d l in_time in_range known room (Bad fault.NotTree) no_tree = (in_time, in_range, known, tt, tt, room, no_tree)
+hop_refused d l in_time in_range known room (Bad (fault.Loop g f t)) loop = (in_time, in_range, known, tt, tt, room, loop.0, tt, loop.1, loop.2)
+hop_refused d l in_time in_range known room Crowded x = absurd x
 hop_refused d l in_time in_range known room NoMemory x = tt
-hop_refused d l in_time in_range known room (Fault why) x = absurd x
+hop_refused d l in_time in_range known room (Bad why) x = absurd x
 
-pub err_refused : {A : Type 0} {P Q : Refused → Type 0} → ((x : Refused) → P x → Q x) → (r : Result A Refused) → IfErr r P → IfErr r Q
+pub err_refused : {A : Type 0} {P Q : Stop → Type 0} → ((x : Stop) → P x → Q x) → (r : Result A Stop) → IfErr r P → IfErr r Q
 err_refused f (Ok a) p = tt
 err_refused f (Err e) p = f e p

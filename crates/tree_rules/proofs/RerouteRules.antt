@@ -17,9 +17,9 @@ use Rattle.script_grammar.specs.declared.fault.Fault.TheVariants as fault
 use Rattle.script_grammar.specs.declared.line.ScriptLine.TheVariants as line
 use Rattle.script_grammar.specs.declared.line.HopEnds.{HopEnds}
 use Rattle.script_grammar.specs.declared.line.RerouteLine.{RerouteLine}
-use Rattle.net_replay.specs.Moving.{CanMove}
-use Rattle.script_player.specs.declared.checks.Refused.{Refused}
-use Rattle.script_player.specs.declared.checks.Refused.TheVariants.{Fault, NoMemory}
+use Rattle.network_model.specs.Moves.{CanMove}
+use Rattle.script_grammar.specs.declared.stop.Stop.{Stop}
+use Rattle.script_grammar.specs.declared.stop.Stop.TheVariants.{Bad, Crowded, NoMemory}
 use Rattle.script_state.specs.Refusals.{Refuses}
 use Rattle.tree_rules.specs.TreeRefusals.{IsTreeRefused, moved_to}
 
@@ -59,12 +59,13 @@ module _ (d : Draft) (l : RerouteLine) (in_range : IsRerouteInRange l) (known : 
   abbrev s : Addr
   s = addr_value l.source
 
-  refused : (x : Refused) → IsTreeRefused d g s (hop_values d l) x → Refuses d (line.Reroute l) x
-  refused (Fault fault.Limit) out = (tt, in_range, known, tt, tt, out)
-  refused (Fault fault.NotTree) out = (tt, in_range, known, tt, tt, out.0, λ grown. out.1 (forced_from d.net d.force s [] (hop_values d l) grown))
-  refused (Fault (fault.Loop group from to)) out = (tt, in_range, known, tt, tt, out.0, declared_from d.net d.force s [] (hop_values d l) out.1, tt, out.2, out.3)
+  refused : (x : Stop) → IsTreeRefused d g s (hop_values d l) x → Refuses d (line.Reroute l) x
+  refused (Bad fault.Limit) out = (tt, in_range, known, tt, tt, out)
+  refused (Bad fault.NotTree) out = (tt, in_range, known, tt, tt, out.0, λ grown. out.1 (forced_from d.net d.force s [] (hop_values d l) grown))
+  refused (Bad (fault.Loop group from to)) out = (tt, in_range, known, tt, tt, out.0, declared_from d.net d.force s [] (hop_values d l) out.1, tt, out.2, out.3)
+  refused Crowded out = absurd out
   refused NoMemory out = tt
-  refused (Fault why) out = absurd out
+  refused (Bad why) out = absurd out
 
   kept : (new : Draft) → CanMove (routing d) g s (hop_values d l) → Adds d (line.Reroute l) new → KeepsAll (Keeps d (line.Reroute l)) × Adds d (line.Reroute l) new
   kept new can adds = (
@@ -86,7 +87,7 @@ module _ (d : Draft) (l : RerouteLine) (in_range : IsRerouteInRange l) (known : 
     tree_is : ◌≡◌ {A = Addr × (Addr × List LinkHop)} (group, (source, hops)) (g, (s, hop_values d l))
     tree_is i = (group_is i, (source_is i, hops_are i))
 
-    pub reroute_kept : {A : Type 0} (r : Result A Refused) (new : Draft) → CanMove (routing d) group source hops
+    pub reroute_kept : {A : Type 0} (r : Result A Stop) (new : Draft) → CanMove (routing d) group source hops
         → OnOk r (new ≡ record d { force = (moved_to d group source hops).hops; events = d.events ++ Reroutes group source hops ∷ [] })
         → OnOk r (KeepsAll (Keeps d (line.Reroute l)) × Adds d (line.Reroute l) new)
     reroute_kept (Ok a) new can adds =
@@ -94,5 +95,5 @@ module _ (d : Draft) (l : RerouteLine) (in_range : IsRerouteInRange l) (known : 
         (subst (λ (t : Addr × (Addr × List LinkHop)). new ≡ record d { force = (moved_to d t.0 t.1.0 t.1.1).hops; events = d.events ++ Reroutes t.0 t.1.0 t.1.1 ∷ [] }) tree_is adds)
     reroute_kept (Err x) new can adds = tt
 
-    pub reroute_refused : (x : Refused) → IsTreeRefused d group source hops x → Refuses d (line.Reroute l) x
+    pub reroute_refused : (x : Stop) → IsTreeRefused d group source hops x → Refuses d (line.Reroute l) x
     reroute_refused x out = refused x (subst (λ (t : Addr × (Addr × List LinkHop)). IsTreeRefused d t.0 t.1.0 t.1.1 x) tree_is out)

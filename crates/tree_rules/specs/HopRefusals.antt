@@ -8,18 +8,20 @@ use Rattle.tree_routing.specs.Answers.{Fits, with_hop}
 use Rattle.script_grammar.specs.Draft.{Draft}
 use Rattle.script_grammar.specs.Rules.{IsLoopOf, IsNamedHop}
 use Rattle.script_grammar.specs.declared.fault.Fault.TheVariants as fault
-use Rattle.script_player.specs.declared.checks.Refused.{Refused}
-use Rattle.script_player.specs.declared.checks.Refused.TheVariants.{Fault, NoMemory}
+use Rattle.script_grammar.specs.declared.stop.Stop.{Stop}
+use Rattle.script_grammar.specs.declared.stop.Stop.TheVariants.{Bad, Crowded, NoMemory}
 
 -- its tree cannot grow by it; or it can, and a chain is closed then, the least hop on one being named by its ends
-abbrev pub IsHopRefused : Draft → TreeHop → Refused → Type 0
-IsHopRefused d r (Fault fault.NotTree) = Fits d.net r → ⊥
-IsHopRefused d r (Fault (fault.Loop group from to)) = Fits d.net r × (IsLoopFreeIn (with_hop d.net r) r.group → ⊥) × IsLoopOf d (with_hop d.net r) r.group group from to
-IsHopRefused d r (Fault why) = ⊥
+abbrev pub IsHopRefused : Draft → TreeHop → Stop → Type 0
+IsHopRefused d r (Bad fault.NotTree) = Fits d.net r → ⊥
+IsHopRefused d r (Bad (fault.Loop group from to)) = Fits d.net r × (IsLoopFreeIn (with_hop d.net r) r.group → ⊥) × IsLoopOf d (with_hop d.net r) r.group group from to
+IsHopRefused d r (Bad why) = ⊥
+IsHopRefused d r Crowded = ⊥
 IsHopRefused d r NoMemory = Unit {0}
 
 -- the hop of the group by the names of its ends, where they have some
-abbrev pub IsLoopNamed : Draft → Addr → LinkHop → Refused → Type 0
-IsLoopNamed d group h (Fault (fault.Loop g from to)) = (g ≡ group) × IsNamedHop d from to h
-IsLoopNamed d group h (Fault why) = ⊥
+abbrev pub IsLoopNamed : Draft → Addr → LinkHop → Stop → Type 0
+IsLoopNamed d group h (Bad (fault.Loop g from to)) = (g ≡ group) × IsNamedHop d from to h
+IsLoopNamed d group h (Bad why) = ⊥
+IsLoopNamed d group h Crowded = ⊥
 IsLoopNamed d group h NoMemory = Unit {0}

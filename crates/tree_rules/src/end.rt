@@ -10,37 +10,36 @@ ghost use Rattle.script_grammar.specs.Rules.{Keeps, KeepsAll, OnlyDeclares};
 ghost use Rattle.script_grammar.specs.Values.{IsEndInRange};
 ghost use Rattle.script_grammar.specs.declared.line.ScriptLine.TheVariants as kind;
 
-use rsvp_base::Iface;
-use script_grammar::{EndLine, Fault};
-use script_player::Refused;
+use rsvp_base::{EndName, Iface};
+use script_grammar::{EndLine, Fault, Stop};
 use script_state::{ScriptState, only_declares};
-use script_words::{EndName, is_host};
+use script_words::is_host;
 use tree_routing::End;
 
 /// Adds an end.
-pub fn add_end(state: &mut ScriptState, line: EndLine) -> Result<(), Refused>
+pub fn add_end(state: &mut ScriptState, line: EndLine) -> Result<(), Stop>
     ensures ok { OnOk result (KeepsAll (Keeps (draft_of state.old) (kind.End line)) × Adds (draft_of state.old) (kind.End line) (draft_of state.new)) }
     ensures refused { IfErr result (Refuses (draft_of state.old) (kind.End line)) }
     ensures same { IfErr result (IsUntouched (draft_of state.old) (draft_of state.new)) }
 {
     if !only_declares(state) {
-        return Err(Refused::Fault(Fault::Late));
+        return Err(Stop::Bad(Fault::Late));
     }
     let Some(iface) = iface_of(&line) else {
-        return Err(Refused::Fault(Fault::Range));
+        return Err(Stop::Bad(Fault::Range));
     };
     let Some(node) = state.nodes.find(line.node.bytes()) else {
-        return Err(Refused::Fault(Fault::Name));
+        return Err(Stop::Bad(Fault::Name));
     };
     if state.names.find(line.name.bytes()).is_some() {
-        return Err(Refused::Fault(Fault::Twice));
+        return Err(Stop::Bad(Fault::Twice));
     }
     if state.topology.owner(iface.addr).is_some() {
-        return Err(Refused::Fault(Fault::Twice));
+        return Err(Stop::Bad(Fault::Twice));
     }
     let node = node as u16;
     if !state.topology.has_room_for_end(node) {
-        return Err(Refused::Fault(Fault::Limit));
+        return Err(Stop::Bad(Fault::Limit));
     }
     declare(state, line.name, End { node, iface })
 }
@@ -62,7 +61,7 @@ fn iface_of(line: &EndLine) -> Option<Iface>
 }
 
 // Keeps an end of a new name.
-fn declare(state: &mut ScriptState, name: EndName, end: End) -> Result<(), Refused>
+fn declare(state: &mut ScriptState, name: EndName, end: End) -> Result<(), Stop>
     requires new { place_of state.old.names name ≡ None }
     requires takes { TakesEnd state.old.topology end }
     requires early { OnlyDeclares (draft_of state.old) }
@@ -74,7 +73,7 @@ fn declare(state: &mut ScriptState, name: EndName, end: End) -> Result<(), Refus
 }
 
 // Keeps the name of the last end.
-fn keep_name(state: &mut ScriptState, name: EndName, number: u16) -> Result<(), Refused>
+fn keep_name(state: &mut ScriptState, name: EndName, number: u16) -> Result<(), Stop>
     requires new { place_of state.old.names name ≡ None }
     requires number { length state.old.names ≤ number }
     requires there { number < length state.old.topology.ends }

@@ -12,32 +12,31 @@ ghost use Rattle.script_grammar.specs.Values.{hop_value};
 ghost use Rattle.script_grammar.specs.declared.line.ScriptLine.TheVariants as kind;
 
 use rsvp_base::Addr;
-use script_grammar::{Fault, HopEnds, HopLine};
-use script_player::Refused;
+use script_grammar::{Fault, HopEnds, HopLine, Stop};
 use script_state::{ScriptState, only_declares};
 use script_words::{DottedQuad, is_group};
 use tree_routing::{HopErr, LinkHop, TreeHop};
 
 /// Adds a hop.
-pub fn add_hop(state: &mut ScriptState, line: HopLine) -> Result<(), Refused>
+pub fn add_hop(state: &mut ScriptState, line: HopLine) -> Result<(), Stop>
     ensures ok { OnOk result (KeepsAll (Keeps (draft_of state.old) (kind.Hop line)) × Adds (draft_of state.old) (kind.Hop line) (draft_of state.new)) }
     ensures refused { IfErr result (Refuses (draft_of state.old) (kind.Hop line)) }
     ensures same { IfErr result (IsUntouched (draft_of state.old) (draft_of state.new)) }
 {
     if !only_declares(state) {
-        return Err(Refused::Fault(Fault::Late));
+        return Err(Stop::Bad(Fault::Late));
     }
     let Some((group, source)) = tree_of(line.group, line.source) else {
-        return Err(Refused::Fault(Fault::Range));
+        return Err(Stop::Bad(Fault::Range));
     };
     let Some(hop) = hop_of(state, &line.ends) else {
-        return Err(Refused::Fault(Fault::Name));
+        return Err(Stop::Bad(Fault::Name));
     };
     if state.topology.owner(source).is_none() {
-        return Err(Refused::Fault(Fault::Name));
+        return Err(Stop::Bad(Fault::Name));
     }
     if !state.topology.has_room_for_hop() {
-        return Err(Refused::Fault(Fault::Limit));
+        return Err(Stop::Bad(Fault::Limit));
     }
     grow(state, TreeHop { group, source, hop })
 }
@@ -69,7 +68,7 @@ pub fn hop_of(state: &ScriptState, ends: &HopEnds) -> Option<LinkHop>
 }
 
 // Grows the tree of a hop by it.
-fn grow(state: &mut ScriptState, hop: TreeHop) -> Result<(), Refused>
+fn grow(state: &mut ScriptState, hop: TreeHop) -> Result<(), Stop>
     requires room { length state.old.topology.hops < 8192 }
     requires early { OnlyDeclares (draft_of state.old) }
     ensures ok { OnOk result (Fits state.old.topology hop × IsLoopFreeIn (with_hop state.old.topology hop) hop.group × (draft_of state.new ≡ with_tree_hop (draft_of state.old) hop)) }
@@ -79,24 +78,24 @@ fn grow(state: &mut ScriptState, hop: TreeHop) -> Result<(), Refused>
     let TreeHop { group, source, hop } = hop;
     match state.topology.add_hop(group, source, hop.from, hop.to) {
         Ok(()) => Ok(()),
-        Err(HopErr::NotTree) => Err(Refused::Fault(Fault::NotTree)),
+        Err(HopErr::NotTree) => Err(Stop::Bad(Fault::NotTree)),
         Err(HopErr::Loop { group, from, to }) => Err(closed(state, group, LinkHop { from, to })),
-        Err(HopErr::NoMemory) => Err(Refused::NoMemory),
+        Err(HopErr::NoMemory) => Err(Stop::NoMemory),
     }
 }
 
 /// The fault of a loop on which this hop is the least, by the names of its ends. Where memory ran out before, an end may be
 /// without one.
-pub fn closed(state: &ScriptState, group: Addr, hop: LinkHop) -> Refused
+pub fn closed(state: &ScriptState, group: Addr, hop: LinkHop) -> Stop
     ensures { IsLoopNamed (draft_of state.now) group hop result }
 {
     let names = state.end_names.as_slice();
     match (names.get(hop.from as usize), names.get(hop.to as usize)) {
-        (Some(from), Some(to)) => Refused::Fault(Fault::Loop {
+        (Some(from), Some(to)) => Stop::Bad(Fault::Loop {
             group,
             from: from.copy(),
             to: to.copy(),
         }),
-        _ => Refused::NoMemory,
+        _ => Stop::NoMemory,
     }
 }

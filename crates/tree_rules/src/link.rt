@@ -12,33 +12,32 @@ ghost use Rattle.script_grammar.specs.Rules.{Keeps, KeepsAll};
 ghost use Rattle.script_grammar.specs.declared.line.ScriptLine.TheVariants as kind;
 
 use arrayvec::ArrayVec;
-use script_grammar::{Fault, LinkEnds};
-use script_player::Refused;
+use rsvp_base::EndName;
+use script_grammar::{Fault, LinkEnds, Stop};
 use script_state::{ScriptState, only_declares};
-use script_words::EndName;
 use tree_routing::Topology;
 
 /// Adds a link.
-pub fn add_link(state: &mut ScriptState, names: LinkEnds) -> Result<(), Refused>
+pub fn add_link(state: &mut ScriptState, names: LinkEnds) -> Result<(), Stop>
     ensures ok { OnOk result (KeepsAll (Keeps (draft_of state.old) (kind.Link names)) × Adds (draft_of state.old) (kind.Link names) (draft_of state.new)) }
     ensures refused { IfErr result (Refuses (draft_of state.old) (kind.Link names)) }
     ensures same { IfErr result (IsUntouched (draft_of state.old) (draft_of state.new)) }
 {
     if !only_declares(state) {
-        return Err(Refused::Fault(Fault::Late));
+        return Err(Stop::Bad(Fault::Late));
     }
     if !are_apart(state, names.as_slice()) {
-        return Err(Refused::Fault(Fault::Range));
+        return Err(Stop::Bad(Fault::Range));
     }
     if !are_known(state, names.as_slice()) {
-        return Err(Refused::Fault(Fault::Name));
+        return Err(Stop::Bad(Fault::Name));
     }
     let ends = numbers(state, names.as_slice());
     if !are_in_no_link(&state.topology, ends.as_slice()) {
-        return Err(Refused::Fault(Fault::Twice));
+        return Err(Stop::Bad(Fault::Twice));
     }
     if !state.topology.has_room_for_link() {
-        return Err(Refused::Fault(Fault::Limit));
+        return Err(Stop::Bad(Fault::Limit));
     }
     state.topology.add_link_of(ends.as_slice())?;
     Ok(())

@@ -6,27 +6,26 @@ ghost use Rattle.script_grammar.specs.Adds.{Adds};
 ghost use Rattle.script_grammar.specs.Rules.{Keeps, KeepsAll};
 ghost use Rattle.script_grammar.specs.declared.line.ScriptLine.TheVariants as kind;
 
-use script_grammar::Fault;
-use script_player::Refused;
+use rsvp_base::EndName;
+use script_grammar::{Fault, Stop};
 use script_state::{ScriptState, only_declares};
-use script_words::EndName;
 
 const MOST_NODES: usize = 256;
 
 /// Adds a node.
-pub fn add_node(state: &mut ScriptState, name: EndName) -> Result<(), Refused>
+pub fn add_node(state: &mut ScriptState, name: EndName) -> Result<(), Stop>
     ensures ok { OnOk result (KeepsAll (Keeps (draft_of state.old) (kind.Node name)) × Adds (draft_of state.old) (kind.Node name) (draft_of state.new)) }
     ensures refused { IfErr result (Refuses (draft_of state.old) (kind.Node name)) }
     ensures same { IfErr result (IsUntouched (draft_of state.old) (draft_of state.new)) }
 {
     if !only_declares(state) {
-        return Err(Refused::Fault(Fault::Late));
+        return Err(Stop::Bad(Fault::Late));
     }
     if state.nodes.find(name.bytes()).is_some() {
-        return Err(Refused::Fault(Fault::Twice));
+        return Err(Stop::Bad(Fault::Twice));
     }
     if state.nodes.len() >= MOST_NODES {
-        return Err(Refused::Fault(Fault::Limit));
+        return Err(Stop::Bad(Fault::Limit));
     }
     state.left.add_node()?;
     state.nodes.add(state.alloc, name.bytes())?;

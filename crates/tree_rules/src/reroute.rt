@@ -3,11 +3,11 @@ ghost use Rattle.std.specs.Prelude.{◌≡◌, ◌↔◌, ◌∷◌, ◌++◌, [
 ghost use Rattle.std.specs.List.{All, list_any};
 ghost use Rattle.tree_model.specs.Trees.{of_tree};
 ghost use Rattle.network_model.specs.Events.{Reroutes};
-ghost use Rattle.net_replay.specs.Moving.{CanMove};
+ghost use Rattle.network_model.specs.Moves.{CanMove};
 ghost use Rattle.script_state.specs.Said.{draft_of};
 ghost use Rattle.script_state.specs.Events.{event_of};
 ghost use Rattle.script_state.specs.Refusals.{IsUntouched, OnlyNoMemory, Refuses};
-ghost use Rattle.script_player.specs.Checking.{IsAdded};
+ghost use Rattle.script_grammar.specs.GivenEvents.{IsAdded};
 ghost use Rattle.tree_rules.specs.TreeRefusals.{IsTreeRefused, moved_to};
 ghost use Rattle.script_grammar.specs.Adds.{Adds};
 ghost use Rattle.script_grammar.specs.Draft.{routing};
@@ -16,10 +16,9 @@ ghost use Rattle.script_grammar.specs.Values.{hop_value};
 ghost use Rattle.script_grammar.specs.declared.line.ScriptLine.TheVariants as kind;
 
 use crate::hop::{closed, hop_of, tree_of};
-use net_replay::Event;
+use network_model::Event;
 use rsvp_base::Addr;
-use script_grammar::{Fault, HopEnds, RerouteLine};
-use script_player::Refused;
+use script_grammar::{Fault, HopEnds, RerouteLine, Stop};
 use script_state::{ScriptState, keep};
 use tree_routing::{HopErr, LinkHop, Routing};
 
@@ -27,31 +26,31 @@ use tree_routing::{HopErr, LinkHop, Routing};
 const MOST_HOPS: usize = 8192;
 
 /// Puts a tree in the place of the one in force.
-pub fn add_reroute(state: &mut ScriptState, line: RerouteLine) -> Result<Event, Refused>
+pub fn add_reroute(state: &mut ScriptState, line: RerouteLine) -> Result<Event, Stop>
     ensures ok { OnOk result (KeepsAll (Keeps (draft_of state.old) (kind.Reroute line)) × Adds (draft_of state.old) (kind.Reroute line) (draft_of state.new)) }
     ensures event { IfOk result (λ e. IsAdded (draft_of state.old).events e (draft_of state.new).events) }
     ensures refused { IfErr result (Refuses (draft_of state.old) (kind.Reroute line)) }
     ensures same { IfErr result (IsUntouched (draft_of state.old) (draft_of state.new)) }
 {
     let Some((group, source)) = tree_of(line.group, line.source) else {
-        return Err(Refused::Fault(Fault::Range));
+        return Err(Stop::Bad(Fault::Range));
     };
     let Some(hops) = hops_of(state, line.hops.as_slice())? else {
-        return Err(Refused::Fault(Fault::Name));
+        return Err(Stop::Bad(Fault::Name));
     };
     if state.topology.owner(source).is_none() {
-        return Err(Refused::Fault(Fault::Name));
+        return Err(Stop::Bad(Fault::Name));
     }
     let declared = state.topology.copy()?.close()?;
     if !has_tree(&declared, group, source) {
-        return Err(Refused::Fault(Fault::Name));
+        return Err(Stop::Bad(Fault::Name));
     }
     let routing = moved(state, &declared, group, source, hops.as_slice())?;
     Ok(put(state, group, source, hops, routing))
 }
 
 // The hops between these ends, where all were declared.
-fn hops_of(state: &ScriptState, pairs: &[HopEnds]) -> Result<Option<Vec<LinkHop>>, Refused>
+fn hops_of(state: &ScriptState, pairs: &[HopEnds]) -> Result<Option<Vec<LinkHop>>, Stop>
     ensures some { IfOk result (λ found. IsSome found ↔ All (λ h. IsEnd (draft_of state.now) h.from × IsEnd (draft_of state.now) h.to) pairs.now) }
     ensures value { IfOk result (λ found. IfSome found (λ hops. hops.items ≡ map (hop_value (draft_of state.now)) pairs.now)) }
     ensures refused { IfErr result OnlyNoMemory }
@@ -101,7 +100,7 @@ fn moved(
     group: Addr,
     source: Addr,
     hops: &[LinkHop],
-) -> Result<Routing, Refused>
+) -> Result<Routing, Stop>
     requires { declared.now ≡ state.now.topology }
     ensures moved { IfOk result (λ r. r ≡ moved_to (draft_of state.now) group source hops.now) }
     ensures can { OnOk result (CanMove (routing (draft_of state.now)) group source hops.now) }
@@ -109,13 +108,13 @@ fn moved(
 {
     let routing = in_force(state, declared);
     if !routing.has_room_for_tree(group, source, hops) {
-        return Err(Refused::Fault(Fault::Limit));
+        return Err(Stop::Bad(Fault::Limit));
     }
     match routing.reroute(group, source, hops) {
         Ok(routing) => Ok(routing),
-        Err(HopErr::NotTree) => Err(Refused::Fault(Fault::NotTree)),
+        Err(HopErr::NotTree) => Err(Stop::Bad(Fault::NotTree)),
         Err(HopErr::Loop { group, from, to }) => Err(closed(state, group, LinkHop { from, to })),
-        Err(HopErr::NoMemory) => Err(Refused::NoMemory),
+        Err(HopErr::NoMemory) => Err(Stop::NoMemory),
     }
 }
 

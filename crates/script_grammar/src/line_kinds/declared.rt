@@ -6,7 +6,8 @@ ghost use Rattle.script_grammar.specs.LineKinds.{end_line, hop_line, link_line, 
 use super::lists::names;
 use crate::line::{EndLine, HopEnds, HopLine, ScriptLine};
 use crate::list::LinkEnds;
-use script_words::{DottedQuad, EndName, Unread, number};
+use rsvp_base::EndName;
+use script_words::{DottedQuad, Unread, number};
 use std::alloc::Global;
 
 #[tactic(auto, unfolding(crate::specs::LineKinds::period_line))]

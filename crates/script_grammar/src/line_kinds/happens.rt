@@ -7,7 +7,8 @@ ghost use Rattle.script_grammar.specs.declared.line.ScriptLine.TheVariants as ki
 use super::lists::{bytes, pairs, want_senders};
 use crate::line::{DropLine, InjectLine, QuitLine, RerouteLine, ScriptLine, SendLine, WantLine};
 use crate::list::Listed;
-use script_words::{DottedQuad, EndName, FlowWord, SenderWord, SessionWord, Unread, number, style};
+use rsvp_base::EndName;
+use script_words::{DottedQuad, FlowWord, SenderWord, SessionWord, Unread, number, style};
 use std::alloc::Global;
 
 #[tactic(auto, unfolding(crate::specs::LineKinds::send_line))]

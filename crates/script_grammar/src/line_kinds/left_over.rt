@@ -8,7 +8,8 @@ use crate::line::{
     ScriptLine, StaleHopWallLine, StalePathLine, StaleResvLine, StaleSenderWallLine,
 };
 use crate::list::Listed;
-use script_words::{DottedQuad, EndName, FlowWord, SenderWord, SessionWord, Unread, number, style};
+use rsvp_base::EndName;
+use script_words::{DottedQuad, FlowWord, SenderWord, SessionWord, Unread, number, style};
 use std::alloc::Global;
 
 #[tactic(auto, unfolding(crate::specs::LineKinds::stale_path_line))]

@@ -1,14 +1,14 @@
 //! Words that stand for lists.
 ghost use Rattle.std.specs.Prelude.{◌≡◌, IfOk, length, map};
-ghost use Rattle.script_words.specs.Names.{name_of};
+ghost use Rattle.rsvp_base.specs.EndNames.{name_of};
 ghost use Rattle.script_words.specs.Steps.{each_of};
 ghost use Rattle.script_words.specs.Unread.{ReadsAs};
 ghost use Rattle.script_grammar.specs.LineKinds.{bytes_of, pairs_of, stale_senders, want_senders};
 
 use crate::line::HopEnds;
 use hex::{FromHexError, decode};
-use rsvp_base::StyleKind;
-use script_words::{EndName, SenderWord, Unread, addresses, senders};
+use rsvp_base::{EndName, StyleKind};
+use script_words::{SenderWord, Unread, addresses, senders};
 use std::alloc::Global;
 
 /// The names that these words are. `Word` exactly where one is no name.

@@ -3,7 +3,7 @@ use Rattle.std.specs.List.{flat_map, range_with_len}
 use Rattle.network_demand.specs.Asked.{locals_of}
 use Rattle.network_demand.specs.Demands.{AreDemands}
 use Rattle.demand_texts.specs.Owing.{end_owes}
-use Rattle.demand_texts.specs.Texts.{last_line}
+use Rattle.network_model.specs.DemandTexts.{last_line}
 use Rattle.demand_texts.proofs.Owed.{owed_is_demanded}
 use Rattle.demand_texts.proofs.writing.demand_text.Goals as goal
 

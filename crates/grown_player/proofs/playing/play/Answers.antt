@@ -1,4 +1,4 @@
-use Rattle.net_replay.specs.Happening.{event_with}
+use Rattle.network_model.specs.Happenings.{event_with}
 use Rattle.grown_player.specs.Playing.{no_bytes}
 use Rattle.grown_player.proofs.Played.{one_played}
 use Rattle.grown_player.proofs.playing.play.Goals as goal

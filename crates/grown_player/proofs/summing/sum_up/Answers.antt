@@ -1,6 +1,6 @@
 use Rattle.std.proofs.Common.{◌≡◌, ℕ, List, ◌++◌, true, refl, sym, ap, ◌∙◌}
 use Rattle.std.specs.Prelude.{bytes_eq}
-use Rattle.demand_texts.specs.Texts.{last_line}
+use Rattle.network_model.specs.DemandTexts.{last_line}
 use Rattle.tree_model.specs.Networks.{Net}
 use Rattle.network_model.specs.Runs.{last_world}
 use Rattle.grown_network.specs.Grown.{grown_plan}

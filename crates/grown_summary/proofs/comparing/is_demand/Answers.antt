@@ -1,5 +1,5 @@
 use Rattle.std.proofs.Common.{◌≡◌, List, ℕ, ◌++◌, true, sym, ap, ◌∙◌}
-use Rattle.demand_texts.specs.Texts.{last_line}
+use Rattle.network_model.specs.DemandTexts.{last_line}
 use Rattle.grown_summary.proofs.FollowedTexts.{compared}
 use Rattle.grown_summary.proofs.comparing.is_demand.Goals as goal
 

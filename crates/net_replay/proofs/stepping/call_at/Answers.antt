@@ -4,7 +4,7 @@ use Rattle.std.proofs.lemmas.Option.{slice_get_read}
 use Rattle.router_rules.specs.Inputs.{Call}
 use Rattle.router_rules.specs.Rule.{sent_after}
 use Rattle.network_parcels.specs.Steps.{At}
-use Rattle.net_replay.specs.Happening.{call_of}
+use Rattle.network_model.specs.Happenings.{call_of}
 use Rattle.net_replay.specs.Posting.{Post, with_post}
 use Rattle.net_replay.proofs.Mailed.{posted_spelt, posted_wires}
 use Rattle.net_replay.proofs.Nodes.{each_set}

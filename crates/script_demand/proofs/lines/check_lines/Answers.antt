@@ -20,8 +20,8 @@ loop-line-preserved g c =
       quiet = i.quiet;
     }
 
-pub returns-in-Err-Fault-clause-stopped : goal.returns-in-Err-Fault-clause-stopped
-returns-in-Err-Fault-clause-stopped g c =
+pub returns-in-Err-Bad-clause-stopped : goal.returns-in-Err-Bad-clause-stopped
+returns-in-Err-Bad-clause-stopped g c =
     let i = c.loop-line.invariant in
     record {
       before = i.before;
@@ -31,13 +31,13 @@ returns-in-Err-Fault-clause-stopped g c =
       counted = omega (arith, c.saturating_add-number.ensures, i.number);
       lines = g.C.LinesBefore.lines c.loop-line.checker;
       leads = i.leads;
-      fault = rw c.in-Err-Fault.why-is (rw c.in-Err-Fault.field-0-is at c.in-Err-Fault.ensures.refused);
+      fault = rw c.in-Err-Bad.why-is (rw c.in-Err-Bad.field-0-is at c.in-Err-Bad.ensures.refused);
     }
 
-pub returns-in-Err-Fault-clause-advised : goal.returns-in-Err-Fault-clause-advised
-returns-in-Err-Fault-clause-advised g c =
+pub returns-in-Err-Bad-clause-advised : goal.returns-in-Err-Bad-clause-advised
+returns-in-Err-Bad-clause-advised g c =
     let i = c.loop-line.invariant in
-    let same : g.C.LinesBefore.lines c.feed_line.new.checker ≡ g.C.LinesBefore.lines c.loop-line.checker = rw c.in-Err-Fault.field-0-is at c.in-Err-Fault.ensures.same in
+    let same : g.C.LinesBefore.lines c.feed_line.new.checker ≡ g.C.LinesBefore.lines c.loop-line.checker = rw c.in-Err-Bad.field-0-is at c.in-Err-Bad.ensures.same in
     let told = rw same at c.put_advice.ensures in
     record {
       told = told;
@@ -49,9 +49,12 @@ returns-in-Err-Fault-clause-advised g c =
         counted = omega (arith, c.saturating_add-number.ensures, i.number);
         lines = g.C.LinesBefore.lines c.loop-line.checker;
         leads = i.leads;
-        fault = rw c.in-Err-Fault.why-is (rw c.in-Err-Fault.field-0-is at c.in-Err-Fault.ensures.refused);
+        fault = rw c.in-Err-Bad.why-is (rw c.in-Err-Bad.field-0-is at c.in-Err-Bad.ensures.refused);
       };
     }
+
+pub returns-in-Err-Crowded-clause-stopped : goal.returns-in-Err-Crowded-clause-stopped
+returns-in-Err-Crowded-clause-stopped g c = absurd (rw c.in-Err-Crowded.field-0-is at c.in-Err-Crowded.ensures.refused)
 
 pub returns-clause-taken : goal.returns-clause-taken
 returns-clause-taken g c =

@@ -1,5 +1,5 @@
 use Rattle.std.proofs.Common.{sym, subst}
-use Rattle.net_replay.specs.Happening.{event_with}
+use Rattle.network_model.specs.Happenings.{event_with}
 use Rattle.script_player.specs.Standing.{IsNetworkOf}
 use Rattle.script_player.proofs.Ran.{onto}
 use Rattle.script_player.proofs.player.happen.Goals as goal

@@ -1,8 +1,7 @@
-use Rattle.std.proofs.Common.{◌≡◌, ◌∙◌, ◌<◌, true, false, inl, inr, arith, subst, sym, take, length, List}
+use Rattle.std.proofs.Common.{◌≡◌, ◌∙◌, ◌<◌, true, false, inl, inr, arith, subst, sym, take, take_all, length, List}
 use Rattle.tree_routing.specs.declared.known.Known.{Known}
 use Rattle.tree_routing.specs.Reroutes.{IsLeastClosed}
 use Rattle.tree_routing.proofs.ClosedChains.{lesser_more}
-use Rattle.tree_routing.proofs.KeyLaws.{take_all}
 use Rattle.tree_routing.proofs.LeastLaws.{take_one_more, vertex_within}
 use Rattle.tree_routing.proofs.chains.least_closed.Goals as goal
 use Rattle.tree_routing.proofs.chains.least_closed.Goals.{then-branch, else-branch}
@@ -22,4 +21,4 @@ loop-hop-preserved c =
     ]))
 
 pub returns : goal.returns
-returns c = subst (λ (some : List Known). IsLeastClosed c.args.hops.now some c.args.group c.loop-hop.least) (take_all c.args.hops.now c.loop-hop.hop-index (omega arith)) c.loop-hop.invariant
+returns c = subst (λ (some : List Known). IsLeastClosed c.args.hops.now some c.args.group c.loop-hop.least) (take_all c.loop-hop.hop-index c.args.hops.now (omega arith)) c.loop-hop.invariant

@@ -1,6 +1,5 @@
-use Rattle.std.proofs.Common.{◌∙◌, List, inl, inr, sym, arith, rules, subst}
+use Rattle.std.proofs.Common.{◌∙◌, List, inl, inr, sym, arith, rules, subst, take_all}
 use Rattle.tree_routing.specs.declared.known.Known.{Known}
-use Rattle.tree_routing.proofs.KeyLaws.{take_all}
 use Rattle.tree_routing.proofs.Rebuilt.{Others, none_placed, others_more}
 use Rattle.tree_routing.proofs.rebuilding.others.Goals as goal
 use Rattle.tree_routing.proofs.rebuilding.others.Goals.{then-not-is_in_tree+in_ok-place, else-not-is_in_tree}
@@ -19,5 +18,5 @@ loop-hop-preserved c =
 
 pub returns : goal.returns
 returns c =
-    let all : Others c.args.hops.now c.loop-hop.all.items c.args.group c.args.source = subst (λ (ks : List Known). Others ks c.loop-hop.all.items c.args.group c.args.source) (take_all c.args.hops.now c.loop-hop.hop-index (omega arith)) c.loop-hop.invariant.are in
+    let all : Others c.args.hops.now c.loop-hop.all.items c.args.group c.args.source = subst (λ (ks : List Known). Others ks c.loop-hop.all.items c.args.group c.args.source) (take_all c.loop-hop.hop-index c.args.hops.now (omega arith)) c.loop-hop.invariant.are in
     record { hops = all.hops_are; placed = all.placed }

@@ -6,7 +6,7 @@ use Rattle.std.proofs.lemmas.Result.{err_from_is_err_and}
 use Rattle.router_rules.specs.Calls.{with_left}
 use Rattle.router_rules.specs.Facts.{Facts}
 use Rattle.router_rules.specs.Inputs.{Stale}
-use Rattle.script_grammar.specs.Rules.{facts_at}
+use Rattle.network_model.specs.LeftFacts.{facts_at}
 use Rattle.left_over.specs.AtNodes.{AreKept, ifaces_at_node, list_of}
 use Rattle.left_over.specs.Kept.{facts_of, stale_of}
 use Rattle.left_over.specs.Standing.{IsLeftOut, Stands}

@@ -3,8 +3,8 @@ use Rattle.router_rules.specs.Inputs.{Call, DropAs, QuitAll, SendAs, WantAs}
 use Rattle.router_rules.specs.Steps.{IsFitCall}
 use Rattle.bounded_nodes.specs.Bounded.{IsBounded}
 use Rattle.bounded_nodes.proofs.Doing.{sends_proper, stays_bounded}
-use Rattle.net_replay.specs.Happening.{call_of}
-use Rattle.net_replay.specs.declared.local_call.LocalCall.{LocalCall}
+use Rattle.network_model.specs.Happenings.{call_of}
+use Rattle.network_model.specs.declared.local_call.LocalCall.{LocalCall}
 use Rattle.live_router.proofs.Living.{lives_on}
 use Rattle.live_router.proofs.router.LiveRouterRouter.call.Goals as goal
 

@@ -2,7 +2,7 @@ use Rattle.std.proofs.Common.{◌∙◌, subst, sym, refl}
 use Rattle.network_parcels.specs.Steps.{At}
 use Rattle.net_replay.specs.Routed.{trees_in}
 use Rattle.net_replay.specs.Agreeing.{NetworkState, Agrees}
-use Rattle.net_replay.specs.Happening.{call_of}
+use Rattle.network_model.specs.Happenings.{call_of}
 use Rattle.net_replay.proofs.Runnings.{ran_silent, one_crowded}
 use Rattle.net_replay.proofs.Stepped.{step_crowds, step_made, counted_none}
 use Rattle.net_replay.proofs.world.World.call.Goals as goal

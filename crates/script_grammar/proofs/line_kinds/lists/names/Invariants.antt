@@ -1,5 +1,5 @@
 use Rattle.std.proofs.Common.{◌≡◌, ◌+◌, ◌++◌, option_map, length, map}
-use Rattle.script_words.specs.Names.{name_of}
+use Rattle.rsvp_base.specs.EndNames.{name_of}
 use Rattle.script_words.specs.Steps.{each_of}
 use Rattle.script_grammar.proofs.line_kinds.lists.names.Given as goal
 

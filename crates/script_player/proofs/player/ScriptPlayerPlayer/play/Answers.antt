@@ -1,9 +1,9 @@
 use Rattle.std.proofs.Common.{[], None, Some, sym, subst, append-nil}
-use Rattle.net_replay.specs.Happening.{event_with}
+use Rattle.network_model.specs.Happenings.{event_with}
 use Rattle.script_grammar.specs.Draft.{plan_of}
 use Rattle.network_run.proofs.Adding.{event_line}
 use Rattle.script_player.specs.Checking.{IsLineTaken}
-use Rattle.script_player.proofs.Ran.{event_crowds, event_on, quiet_on}
+use Rattle.script_player.proofs.Ran.{event_crowds, event_on, not_taken, quiet_on}
 use Rattle.script_player.proofs.player.ScriptPlayerPlayer.play.Goals as goal
 
 pub returns-in-Ok-None : goal.returns-in-Ok-None
@@ -35,3 +35,6 @@ returns-in-Err-Crowded g c = λ d said at run.
     let e = event_with q.event.arrival event in
     let happened = rw c.in-Err-Crowded.field-0-is at (c.in-Err-Crowded.ensures (plan_of d) q.event.arrival q.event.read at.network (event_line d c.args.line.now new e q.follows q.event.events) run.roomy) in
     (event_crowds see d c.args.line.now new c.happen.new.world c.args.out.now.items c.happen.new.out.items e q.follows q.event.events happened, tt)
+
+pub returns-in-Err : goal.returns-in-Err
+returns-in-Err g c = λ d said at run. not_taken g.R.Router.seen (g.C.LinesBefore.lines c.args.self.now.checker) (g.C.LinesBefore.lines c.feed.new.self) d c.args.line.now c.args.self.now.world c.in-Err.stop at.same c.in-Err.ensures at.network

@@ -1,5 +1,5 @@
 use Rattle.std.proofs.Common.{◌≡◌, take}
-use Rattle.script_words.proofs.name.EndName.of.Given as goal
+use Rattle.rsvp_base.proofs.end_name.EndName.of.Given as goal
 
 abbrev pub invariant-loop-c : goal.invariant-loop-c
 invariant-loop-c l = l.list.items ≡ take l.c-index l.bytes

@@ -1,7 +1,7 @@
 //! Names of nodes and ends.
 ghost use Rattle.std.specs.Prelude.{◌≡◌, IsTrue};
 ghost use Rattle.std.specs.List.{list_all};
-ghost use Rattle.script_words.specs.Names.{is_name, is_name_byte, is_lower_case, name_of};
+ghost use Rattle.rsvp_base.specs.EndNames.{is_name, is_name_byte, is_lower_case, name_of};
 
 use arrayvec::ArrayVec;
 use std::marker::Model;
@@ -15,7 +15,7 @@ pub struct EndName {
 
 impl Model for EndName {
     ghost use Rattle.std.specs.Prelude.{List, ℕ, ◌≡◌, true};
-    ghost use Rattle.script_words.specs.Names.{is_name};
+    ghost use Rattle.rsvp_base.specs.EndNames.{is_name};
 
     ghost Value = { List ℕ };
 

@@ -2,7 +2,7 @@
 
 use crate::local_call::LocalCall;
 use rsvp_base::Addr;
-use tree_routing::LinkHop;
+use tree_model::LinkHop;
 
 /// What happens to a network. Places in flight count from 1. What is to happen at a node, an end or a place that is not there
 /// does nothing.

@@ -3,13 +3,13 @@ use Rattle.std.specs.Prelude.{ℕ, List, Option, None, Some, nat_lt, option_and_
 use Rattle.rsvp_base.specs.Table.{get}
 use Rattle.rsvp_base.specs.declared.iface.Iface.{Iface}
 use Rattle.rsvp_base.specs.declared.part.Part.{Part}
-use Rattle.style_rules.specs.Lines.{held}
-use Rattle.network_model.specs.RouterRules.Books.{book}
-use Rattle.network_model.specs.RouterRules.Calls.{entry_of}
-use Rattle.network_model.specs.RouterRules.Facts.{Facts}
-use Rattle.network_model.specs.RouterRules.Inputs.{Stale, StalePath, StaleResv, StaleWall}
-use Rattle.script_grammar.specs.declared.fault.Excess.{Excess}
-use Rattle.script_grammar.specs.declared.fault.Excess.TheVariants.{Packet, Rate}
+use Rattle.router_rows.specs.RouterRules.Lines.{held}
+use Rattle.router_rows.specs.RouterRules.Books.{book}
+use Rattle.router_rows.specs.RouterRules.Calls.{entry_of}
+use Rattle.router_rows.specs.RouterRules.Facts.{Facts}
+use Rattle.router_rows.specs.RouterRules.Inputs.{Stale, StalePath, StaleResv, StaleWall}
+use Rattle.network_model.specs.declared.excess.Excess.{Excess}
+use Rattle.network_model.specs.declared.excess.Excess.TheVariants.{Packet, Rate}
 
 -- where the rates of all entries come to this sum: the packets of an entry are above the MTU; or else the sum is above the capacity
 abbrev pub excess_on : Iface → ℕ → Option Part → Option Excess

@@ -2,7 +2,9 @@
 use Rattle.std.specs.Prelude.{ℕ, List, Bool, Option, None, Some, ◌&&◌, ◌||◌, ◌==◌, nat_le, length, slice_index, if◌then◌else◌}
 use Rattle.std.specs.List.{list_all}
 use Rattle.std.specs.Str.{byte}
-use Rattle.script_words.specs.Numbers.{is_digit}
+
+abbrev pub is_digit : ℕ → Bool
+is_digit c = nat_le (byte "0") c && nat_le c (byte "9")
 
 abbrev pub is_lower_case : ℕ → Bool
 is_lower_case c = nat_le (byte "a") c && nat_le c (byte "z")
