@@ -121,6 +121,7 @@ good n u h says = record {
   letters = λ x i le t. (sym (says x x.number i le refl), refl);
   takes = λ s x q a e l. takes s x a e;
   counts = (u.clock + 6, refl);
+  serves = (tt, refl, refl);
 }
   where
     takes : (s : BeaconStep) (x : Signal) → beacon.arrived s u ≡ Some x → told ≡ x.number → (after s u).kept ≡ Some (told, u.clock + 21)
@@ -137,14 +138,14 @@ calm_from c n k None = record {
   long = omega arith;
   short = omega arith;
   flushed = λ x i. absurd i;
-  crossed = λ x i. (record { number = told; born = n }, inl refl, refl, inl refl);
+  crossed = λ x t i e on. (record { number = told; born = n }, inl refl, refl, inl refl);
 }
 calm_from c n k (Some y) = record {
   silent = (refl, (refl, (refl, tt)));
   long = omega arith;
   short = omega arith;
   flushed = λ x i. absurd i;
-  crossed = λ x i. (record { number = told; born = n }, inl refl, refl, inl refl);
+  crossed = λ x t i e on. (record { number = told; born = n }, inl refl, refl, inl refl);
 }
 
 rounds_from : (r : ℕ) (c n : ℕ) (k : Option (ℕ × ℕ)) (o : Option Signal) → Rounds beacon (some_rounds r) (world_of c n k o)
@@ -228,8 +229,8 @@ mute_keeps = record { set = λ s u v d q h h' e. set s u v d h e; room = λ u v 
     set Arrive u v d h e = keeps.set Arrive u v d refl h (sane_step Arrive u h) e
 
 mute_calm : (c n : ℕ) (k : Option (ℕ × ℕ)) (o : Option Signal) → Calm mute a_mute_round (world_of c n k o)
-mute_calm c n k None = record { silent = (refl, (refl, tt)); long = omega arith; short = omega arith; flushed = λ x i. absurd i; crossed = λ x i. absurd i }
-mute_calm c n k (Some y) = record { silent = (refl, (refl, tt)); long = omega arith; short = omega arith; flushed = λ x i. absurd i; crossed = λ x i. absurd i }
+mute_calm c n k None = record { silent = (refl, (refl, tt)); long = omega arith; short = omega arith; flushed = λ x i. absurd i; crossed = λ x t i. absurd i }
+mute_calm c n k (Some y) = record { silent = (refl, (refl, tt)); long = omega arith; short = omega arith; flushed = λ x i. absurd i; crossed = λ x t i. absurd i }
 
 mute_from : (r : ℕ) (c n : ℕ) (k : Option (ℕ × ℕ)) (o : Option Signal) → Rounds mute (mute_rounds r) (world_of c n k o)
 mute_from zero c n k o = tt

@@ -110,7 +110,8 @@ module _ {W S I K V : Type 0} (m : Machine W S I K) (c : IsClocked m) (stamps : 
     round_get q r w calm sane a =
         let counts = visited_map m Able (λ u. (t : ℕ) × (l.due u ≡ Some t)) (λ u h. h.0.counts) r w a in
         let x = called r w calm.silent a (comes_due m c l laws r w calm sane counts) in
-        let y = calm.crossed x.0 x.1 in
+        let on = (visited_start m Able r w a).0.serves in
+        let y = calm.crossed x.0 on.0 x.1 (x.2 ∙ on.1) on.2 in
         firm_got (m.clock w) y.0 (sent_letter y.0 (y.2 ∙ x.2) r w calm.silent a y.1) r w calm.silent a (omega arith)
         (omega (arith, clock_run m c r w calm.silent, calm.short)) y.3
 

@@ -76,6 +76,7 @@ beacon = record {
   flight = λ w. w.flight;
   born = λ x. x.born;
   track = λ _. Some tt;
+  serves = λ _ _. true;
   sent = sent_by;
   arrived = arrives_by;
 }
@@ -142,6 +143,7 @@ mute = record {
   flight = λ w. w.flight;
   born = λ x. x.born;
   track = λ _. Some tt;
+  serves = λ _ _. true;
   sent = λ _ _. [];
   arrived = arrives_by;
 }

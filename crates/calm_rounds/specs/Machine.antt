@@ -19,6 +19,8 @@ pub record Machine (W S I K : Type 0) : Type 0 where
   -- the number of the step that sent the item
   pub born : I → ℕ
   pub track : I → Option K
+  -- in this world something is refreshed over the track
+  pub serves : W → K → Bool
   -- what the step sends in this world; true marks a refresh
   pub sent : S → W → List (I × Bool)
   -- what arrives by the step in this world

@@ -65,6 +65,8 @@ module _ {W S I K V : Type 0} (m : Machine W S I K) (l : SoftState W S I K V) wh
     pub takes : (s : S) (x : I) → m.quiet s ≡ true → m.arrived s u ≡ Some x → l.says x v → l.life x ≡ 21 * m.quarter → l.kept (m.step s u) ≡ Some (v, m.clock u + 21 * m.quarter)
     -- the sending node has a moment for its next refresh
     pub counts : (t : ℕ) × (l.due u ≡ Some t)
+    -- and the track serves something
+    pub serves : (k : K) × (l.track ≡ Some k) × (m.serves u k ≡ true)
 
   -- how quiet steps go between worlds that are good for the value
   pub record Moves (v : V) (n : ℕ) : Type 0 where

@@ -45,9 +45,9 @@ use Rattle.tree_model.specs.Ranks.{longest, rank}
 use Rattle.tree_model.specs.Trees.{hops_of, outward, tree}
 use Rattle.tree_model.specs.Valid.{IsValid}
 use Rattle.tree_model.specs.Wants.{Locals, names, want}
-use Rattle.tree_model.proofs.Following.{follower_of_group, has_hop_in, in_group, to_tree}
+use Rattle.tree_model.proofs.Following.{follower_of_group, has_hop_in}
 use Rattle.tree_model.proofs.Ifaces.{interfaces_are_ends}
-use Rattle.tree_model.proofs.Links.{hop_linked}
+use Rattle.tree_model.proofs.Links.{hop_linked, peers_both}
 use Rattle.tree_model.proofs.RankLaws.{rank_falls, rank_falls_at, rank_some}
 use Rattle.tree_model.proofs.TreeLaws.{out_tested, the_root_has_no_inward}
 use Rattle.tree_model.proofs.WantLaws.{name_told, want_names}
@@ -75,7 +75,7 @@ use Rattle.taken_resvs.proofs.SoundResvs.Said.{said_resvs_are_kept}
 use Rattle.taken_resvs.specs.SoundResvs.Below.{AreSoundBelow}
 use Rattle.taken_resvs.proofs.SoundResvs.ResvSends.{IsResvSent, over_hop}
 use Rattle.taken_resvs.proofs.SoundResvs.SoundResvs.{sent_here, firm_hold}
-use Rattle.taken_resvs.proofs.SoundResvs.SoundUnits.{IsAddressed, peers_both, addressed}
+use Rattle.taken_resvs.proofs.SoundResvs.SoundUnits.{IsAddressed, addressed}
 use Rattle.taken_resvs.proofs.SoundResvs.TowardNames.{parts_of_style}
 use Rattle.taken_resvs.proofs.Accepting.{IsReady, can_be_taken, IsSettledSoFar, ready_hold}
 use Rattle.exact_resvs.proofs.TowardIsTheWant.{toward_is_the_want}
@@ -336,10 +336,6 @@ module _ (q k : ℕ) where
         let first = hold_start (machine q) (λ u. IsSteady q u × AreExactTo k u) rs w steady in
         let bounds : Hold (machine q) 0 rs w (AreBounds q) = hold_map (machine q) (λ u. IsSteady q u × AreExactTo k u) (AreBounds q) (λ u h. h.0.ready.bounds) 0 rs w steady in
         let met : Hold (machine q) 0 rs w (IsMet w) = hold_both (machine q) (IsKnown q w) (λ u. IsSteady q u × AreExactTo k u) 0 rs w (known_hold q w rs calm bounds) steady in
-        let valid = first.0.ready.bounds.net in
-        let g = in_group w.net.hops s.group h is.there in
-        let in_tree : In h (tree w.net.hops g.0.group g.0.source) = subst (λ (z : LinkHop). In z (tree w.net.hops g.0.group g.0.source)) g.3 (to_tree w.net.hops g.0 g.1) in
-        let linked : In h.from (peers w.net.links h.to) = peers_both w.net valid h.from h.to (hop_linked w.net valid g.0.group g.0.source h in_tree) in
         let none : (y : Item) → In y w.flight → w.made ≤ y.born → ⊥ = (λ y i born. let old = (first.0.ready.bounds.flight y i).born in omega (arith, old, born)) in
         let letters : Hold (machine q) 0 rs w (AreLetters w.made) =
         hold_keep (machine q) (IsMet w) (AreLetters w.made)
@@ -349,7 +345,7 @@ module _ (q k : ℕ) where
         hold_keep (machine q) (IsMet w) (AreSpared w.made)
         (λ t u c a a' j. spared_step w t u (quiet_of q t c) a.0 a'.0 a.1.0 a'.1.0 a.1.1 a'.1.1 (wanted_at w u a.0 is) (wanted_at w (step q t u) a'.0 is) w.made j) rs w calm met
         (λ y m i born spelt o. none y i born) in
-        said_resvs_are_kept q w over v linked rs calm bounds
+        said_resvs_are_kept q w over v is.there rs calm bounds
         (hold_map (machine q) (λ u. IsMet w u × (AreLetters w.made u × AreSpared w.made u)) (IsSaid q w.net over v w.made) (λ u h. said_at w u w.made h.0 is h.1) 0 rs w
         (hold_both (machine q) (IsMet w) (λ u. AreLetters w.made u × AreSpared w.made u) 0 rs w met (hold_both (machine q) (AreLetters w.made) (AreSpared w.made) 0 rs w letters spared)))
 

@@ -34,11 +34,11 @@ v2 = run_rounds (machine 7500) two_rounds wall_world
 
 wall_1 : Calm (machine 7500) still_round wall_world
 unfolding facts_with
-wall_1 = record { silent = (refl, (refl, (refl, tt))); long = omega arith; short = omega arith; flushed = λ x i. absurd i; crossed = λ x i. absurd i }
+wall_1 = record { silent = (refl, (refl, (refl, tt))); long = omega arith; short = omega arith; flushed = λ x i. absurd i; crossed = λ x t i. absurd i }
 
 wall_2 : Calm (machine 7500) still_round v1
 unfolding facts_with
-wall_2 = record { silent = (refl, (refl, (refl, tt))); long = omega arith; short = omega arith; flushed = λ x i. absurd i; crossed = λ x i. absurd i }
+wall_2 = record { silent = (refl, (refl, (refl, tt))); long = omega arith; short = omega arith; flushed = λ x i. absurd i; crossed = λ x t i. absurd i }
 
 abbrev is_empty : World → Bool
 is_empty u = is_none u.flight

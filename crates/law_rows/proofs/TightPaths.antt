@@ -192,7 +192,7 @@ calm_told ss w t =
       long = omega arith;
       short = omega arith;
       flushed = λ x i. leb-true w.made x.born (all_in (λ (y : Item). nat_le w.made y.born) (run (machine 7500) ss w).flight d.0 x i);
-      crossed = λ x i. (x, i, refl, crossed_told (all_sent (machine 7500) ss w) (all_arrived (machine 7500) ss w) d.1 x i);
+      crossed = λ x k i e on. (x, i, refl, crossed_told (all_sent (machine 7500) ss w) (all_arrived (machine 7500) ss w) d.1 x i);
     }
 
 -- ---- the start

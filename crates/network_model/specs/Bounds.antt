@@ -56,14 +56,29 @@ pub record IsStart (q : ℕ) (w : World) : Type 0 where
   pub locals : AreHosts w
   pub fit : DemandsFit w.net (locals_of w)
 
--- ---- settled: the steps end in so many calm rounds, one after the other, by the routing in force in them
+-- ---- calm at the end: the steps end in so many calm rounds, one after the other, by the routing in force in them
 abbrev pub all_of : List (List Step) → List Step
 all_of [] = []
 all_of (r ∷ rs) = r ++ all_of rs
 
-pub record IsSettled (q : ℕ) (w : World) (ss : List Step) : Type 0 where
+-- at least as many rounds as are wanted where the longest chain has this length
+pub record EndsInCalm (wanted : ℕ → ℕ) (q : ℕ) (w : World) (ss : List Step) : Type 0 where
   pub before : List Step
   pub rounds : List (List Step)
   pub parts : ss ≡ before ++ all_of rounds
   pub calm : Rounds (machine q) rounds (run (machine q) before w)
-  pub enough : 16 * longest (run (machine q) before w).net + 16 ≤ length rounds
+  pub enough : wanted (longest (run (machine q) before w).net) ≤ length rounds
+
+-- 13 H + 13 rounds, H the length of the longest chain of hops: all has settled where the demands fit
+abbrev pub to_settle : ℕ → ℕ
+to_settle long = 13 * long + 13
+
+abbrev pub IsSettled : ℕ → World → List Step → Type 0
+IsSettled = EndsInCalm to_settle
+
+-- 10 H + 9 rounds: nothing stale is left, whether or not the demands fit
+abbrev pub to_purge : ℕ → ℕ
+to_purge long = 10 * long + 9
+
+abbrev pub IsPurged : ℕ → World → List Step → Type 0
+IsPurged = EndsInCalm to_purge

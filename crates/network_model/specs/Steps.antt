@@ -1,7 +1,7 @@
 -- Steps of a network: each leads from a world to a world, and tells what it sends and what arrives by it.
 use Rattle.std.specs.Prelude.{ℕ, suc, ◌+◌, ◌*◌, ◌/◌, ◌%◌, ◌==◌, nat_le, ◌&&◌, Bool, true, false, cond, not, List, [], ◌∷◌, ◌++◌, map as each, length, Option, None, Some, slice_get}
 use Rattle.std.proofs.Common.{zero}
-use Rattle.std.specs.List.{filter, remove}
+use Rattle.std.specs.List.{filter, list_any, remove}
 use Rattle.rsvp_base.specs.declared.addr.Addr.{Addr}
 use Rattle.rsvp_base.specs.declared.session.Sender.{Sender}
 use Rattle.rsvp_base.specs.declared.session.Session.{Session}
@@ -13,12 +13,14 @@ use Rattle.calm_rounds.specs.Machine.{Machine, items_of}
 use Rattle.router_rows.specs.RouterRules.declared.answers.Heard.TheVariants as heard
 use Rattle.router_rows.specs.RouterRules.Facts.{Facts}
 use Rattle.router_rows.specs.RouterRules.Inputs.{Arrival, Spelt, Unspelt, Input, Call, Wait, Clear, Came, Moved, Local}
+use Rattle.router_rows.specs.RouterRules.NodeConfig.{is_addr}
 use Rattle.router_rows.specs.RouterRules.Rule.{Outcome, rule}
 use Rattle.tree_model.specs.declared.hops.End.{End}
 use Rattle.tree_model.specs.declared.hops.LinkHop.{LinkHop}
 use Rattle.tree_model.specs.declared.hops.TreeHop.{TreeHop}
 use Rattle.tree_model.specs.Networks.{Net, iface_of}
-use Rattle.tree_model.specs.Trees.{of_tree}
+use Rattle.tree_model.specs.Goals.{addr_of}
+use Rattle.tree_model.specs.Trees.{hops_of, of_tree, tree}
 use Rattle.network_model.specs.Links.{all_copies}
 use Rattle.network_model.specs.Worlds.{Item, World, config_of}
 
@@ -211,6 +213,21 @@ arrival_track e (Unspelt m) = None
 abbrev pub track : Item → Option Track
 track x = arrival_track x.end x.arrival
 
+-- a Path goes over a hop of its sender's tree, and a Resv back over a hop of a tree of its group; what is only overheard, at another
+-- end of a shared link, serves nothing
+abbrev pub goes_along : Net → Track → LinkHop → Bool
+goes_along net t h = (h.to == t.to) && is_addr (addr_of net h.from) t.from
+
+abbrev pub goes_back : Net → Track → LinkHop → Bool
+goes_back net t h = (h.from == t.to) && is_addr (addr_of net h.to) t.from
+
+abbrev pub serves_key : Net → Track → Refreshed → Bool
+serves_key net t (OfSender x) = list_any (goes_along net t) (tree net.hops t.session.group x.addr)
+serves_key net t (OfStyle st) = list_any (goes_back net t) (hops_of net.hops t.session.group)
+
+abbrev pub serves : World → Track → Bool
+serves w t = serves_key w.net t t.key
+
 -- ---- the network as a machine of rounds, with this quarter of a refresh period
 abbrev pub machine : ℕ → Machine World Step Item Track
 machine q = record {
@@ -223,6 +240,7 @@ machine q = record {
   flight = λ w. w.flight;
   born = λ x. x.born;
   track = track;
+  serves = serves;
   sent = sent q;
   arrived = arrived;
 }

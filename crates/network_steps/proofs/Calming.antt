@@ -193,7 +193,7 @@ module _ (q : ℕ) where
     long = omega (arith, waits_halves 4 w);
     short = omega (arith, waits_halves 4 w);
     flushed = fresh_halves 3 w;
-    crossed = λ x i. (x, i, refl, crossed_halves 4 w x i);
+    crossed = λ x t i e on. (x, i, refl, crossed_halves 4 w x i);
   }
 
   -- the rounds of the command, one by one

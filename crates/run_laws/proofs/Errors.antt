@@ -1,33 +1,41 @@
 -- What a ResvErr changes: its own blockades, and nothing of the reservations, so that nothing is torn down. A blockade that it does
 -- not set stays.
-use Rattle.std.proofs.Common.{◌≡◌, ℕ, ◌+◌, ◌<◌, Bool, true, false, Option, None, Some, ⊎_elim, arith, refl, sym, ap, subst, ◌∙◌}
-use Rattle.std.specs.Prelude.{slice_get, is_some}
+use Rattle.std.proofs.Common.{leb-false, leb-true, ◌≡◌, ℕ, ◌+◌, ◌<◌, ◌≤◌, Bool, true, false, Option, None, Some, ◌⊎◌, ⊎_elim, arith, refl, sym, ap, subst, ◌∙◌}
+use Rattle.std.specs.Prelude.{nat_le, slice_get, is_some}
 use Rattle.rsvp_base.specs.declared.addr.Addr.{Addr}
+use Rattle.rsvp_base.specs.declared.session.Sender.{Sender}
 use Rattle.rsvp_base.specs.declared.style.Unit.{Unit as UnitOf}
 use Rattle.rsvp_base.specs.Members.{In}
-use Rattle.rsvp_base.specs.Table.{get, has}
+use Rattle.rsvp_base.specs.Table.{get, has, size}
 use Rattle.rsvp_base.specs.TokenBucket.{TokenBucket}
 use Rattle.rsvp_base.proofs.SetLaws.{and_both}
+use Rattle.rsvp_base.proofs.Tables.{either}
 use Rattle.rsvp_messages.specs.declared.message.Message.{Message}
 use Rattle.rsvp_messages.specs.declared.message.Message.TheVariants as message
 use Rattle.rsvp_messages.specs.declared.message.ResvErrMsg.{ResvErrMsg}
 use Rattle.rsvp_messages.specs.declared.message.ResvTearMsg.{ResvTearMsg}
 use Rattle.style_rules.specs.Targets.{WallKey}
 use Rattle.style_rules.proofs.Towards.{toward_above_meet, toward_source, toward_there}
+use Rattle.router_inputs.specs.ErrorLaws.{errors_with, walls_set}
 use Rattle.router_inputs.proofs.Erring.{resv_errs_by_tests}
+use Rattle.router_inputs.proofs.Telling.{errors_and_walls}
 use Rattle.router_inputs.proofs.Framing.{act_paths, act_wants}
 use Rattle.router_lookups.proofs.Leaving.{waiting_leaves_the_living}
 use Rattle.router_lookups.proofs.Ruling.{rule_in_parts}
-use Rattle.router_lookups.proofs.Tests.{addr_told}
+use Rattle.router_lookups.proofs.Tests.{addr_told, addr_tested}
+use Rattle.router_lookups.specs.FactLaws.{ComesBy}
 use Rattle.router_resvs.proofs.Blockading.{units_of_toward_do_not_depend_on_blockade}
 use Rattle.router_resvs.proofs.Erring.{an_error_changes_no_fact}
 use Rattle.router_resvs.proofs.Hopward.{why_a_resv_tear_is_sent}
 use Rattle.router_rules.specs.Act.{act, act_spelt, is_mine}
 use Rattle.router_rules.specs.Bounds.{IsWithinBounds}
-use Rattle.router_rules.specs.Errors.{is_admission, sets_walls, walled_by, walls_after, walls_with}
+use Rattle.router_rules.specs.Errors.{act_resv_err, is_admission, sets_walls, walled_by, walls_with}
 use Rattle.router_rules.specs.Facts.{Blockade, Facts, Walls}
 use Rattle.router_rules.specs.Forgetting.{forget}
-use Rattle.router_rules.specs.Inputs.{Arrival, Call, Came, Clear, Input, Moved, Spelt, Unspelt, Wait}
+use Rattle.router_rules.specs.Rule.{Outcome}
+use Rattle.router_rules.specs.declared.answers.Heard.TheVariants as heard
+use Rattle.router_rules.specs.declared.answers.Why.TheVariants as why
+use Rattle.router_rules.specs.Inputs.{Arrival, Call, Came, Change, Clear, only_heard, Input, Moved, Spelt, Unspelt, Wait}
 use Rattle.router_rules.specs.Known.{Lane}
 use Rattle.router_rules.specs.NodeConfig.{NodeConfig, own}
 use Rattle.router_rules.specs.Requests.{requests, toward}
@@ -35,13 +43,13 @@ use Rattle.router_rules.specs.Steps.{facts_then, node_step}
 use Rattle.tree_model.specs.declared.hops.End.{End}
 use Rattle.tree_model.specs.Networks.{iface_of}
 use Rattle.network_model.specs.Bounds.{AreBounds}
-use Rattle.network_model.specs.Steps.{ClearAt, Deliver, Piece, Lose, Copy, At, Trace, Report, Flags, Inject, Reroute, Step, input_at, ms_of, net_after, outcome, outcome_of, sent, step}
+use Rattle.network_model.specs.Steps.{ClearAt, Deliver, Piece, Lose, Copy, At, Trace, Report, Flags, Inject, Reroute, Step, arrived, input_at, is_quiet, ms_of, net_after, outcome, outcome_of, sent, step}
 use Rattle.network_model.specs.Worlds.{Item, World, config_of}
-use Rattle.network_model.proofs.Quiet.{IsCame, IsWaited, at_node_found, input_found}
+use Rattle.network_model.proofs.Quiet.{IsCame, IsWaited, at_node_found, input_came, input_found, outcome_by}
 use Rattle.network_model.proofs.Stepping.{facts_after_found}
 use Rattle.network_steps.proofs.Known.{has_some, of_some}
 use Rattle.network_steps.proofs.Sends.{sent_by_rule}
-use Rattle.run_laws.specs.Blockades.{ABlockadeStays, AResvErrTearsNothing, AnErrorTearsNothing, BlockadesDropNothing, IsReplaced}
+use Rattle.run_laws.specs.Blockades.{ABlockadeStays, AResvErrTearsNothing, AnAdmissionErrorSetsItsBlockade, AnErrorTearsNothing, BlockadesDropNothing, SetsBlockade}
 
 -- ---- a blockade drops no unit
 pub blockades_drop_nothing : BlockadesDropNothing
@@ -71,37 +79,53 @@ module _ (p : NodeConfig) (c e : ℕ) (dst : Addr) (m : ResvErrMsg) (f : Facts) 
       ∙ units_of_toward_do_not_depend_on_blockade p f made.walls l u
 
 -- ---- a blockade that an input does not set
-abbrev IsSetBy : NodeConfig → Input → WallKey → Type 0
-IsSetBy p i k =
-    (e : ℕ) × (m : ResvErrMsg) × (flow : TokenBucket) × (i ≡ Came e (own p e) (Spelt (message.ResvErr m))) × (is_admission m.err ≡ true) × (m.blame.flow ≡ Some flow) × In k (walled_by e m m.blame.style)
+-- a node with these facts takes the error, which sets a blockade of this key
+record Takes (p : NodeConfig) (c : ℕ) (f : Facts) (k : WallKey) (e : ℕ) (m : ResvErrMsg) : Type 0 where
+  admission : is_admission m.err ≡ true
+  flow : TokenBucket
+  says : m.blame.flow ≡ Some flow
+  target : In k (walled_by e m m.blame.style)
+  sender : Sender
+  comes : ComesBy f m.session (e, m.hop.addr) sender
+  room : size (walls_set p c e m f) ≤ 512
+
+abbrev IsSetBy : NodeConfig → ℕ → Facts → Input → WallKey → Type 0
+IsSetBy p c f i k = (e : ℕ) × (m : ResvErrMsg) × (i ≡ Came e (own p e) (Spelt (message.ResvErr m))) × Takes p c f k e m
 
 module _ (p : NodeConfig) (c : ℕ) (f : Facts) (k : WallKey) (b : Blockade) (there : get f.walls k ≡ Some b) where
-  by_error : (e : ℕ) (m : ResvErrMsg) → (is_admission m.err ≡ true → (flow : TokenBucket) → m.blame.flow ≡ Some flow → In k (walled_by e m m.blame.style) → ⊥) → get (walls_with p c e m m.blame.flow f.walls) k ≡ Some b
-  by_error e m apart = by (sets_walls m) refl
-    where
-      by : (z : Bool) → sets_walls m ≡ z → get (walls_with p c e m m.blame.flow f.walls) k ≡ Some b
-      by false t = ap (λ (w : Walls). get w k) (resv_errs_by_tests.sets_none p c e m f t) ∙ there
-      by true t =
-          let parts = and_both (is_admission m.err) (is_some m.blame.flow) t in
-          let flow = has_some m.blame.flow parts.1 in
-          resv_errs_by_tests.beside p c e m f k (apart parts.0 flow.0 flow.1) ∙ there
+  abbrev Stands : Change → Type 0
+  Stands x = get x.facts.walls k ≡ Some b
 
-  after_error : (e : ℕ) (m : ResvErrMsg) (mine : Bool) → (mine ≡ true → is_admission m.err ≡ true → (flow : TokenBucket) → m.blame.flow ≡ Some flow → In k (walled_by e m m.blame.style) → ⊥)
-      → get (act_spelt p c e (message.ResvErr m) mine f).facts.walls k ≡ Some b
+  by_error : (e : ℕ) (m : ResvErrMsg) → (Takes p c f k e m → ⊥) → Stands (act_resv_err p c e m f)
+  by_error e m apart =
+      ⊎_elim (λ (s : act_resv_err p c e m f ≡ only_heard (heard.Dropped why.NoState) f). subst Stands (sym s) there)
+      (λ (r : ((x : Sender) × ComesBy f m.session (e, m.hop.addr) x) × ((act_resv_err p c e m f ≡ only_heard (heard.Dropped why.Full) f) ⊎ (act_resv_err p c e m f ≡ errors_with p c e m f))).
+      ⊎_elim (λ (s : act_resv_err p c e m f ≡ only_heard (heard.Dropped why.Full) f). subst Stands (sym s) there)
+      (λ (s : act_resv_err p c e m f ≡ errors_with p c e m f).
+      either (sets_walls m)
+      (λ sets.
+      either (nat_le (size (walls_set p c e m f)) 512)
+      (λ few.
+      let parts = and_both (is_admission m.err) (is_some m.blame.flow) sets in
+      let flow = has_some m.blame.flow parts.1 in
+      subst Stands (sym s)
+      (resv_errs_by_tests.beside p c e m f k (λ target. apart (record { admission = parts.0; flow = flow.0; says = flow.1; target = target; sender = r.0.0; comes = r.0.1; room = leb-true (size (walls_set p c e m f)) 512 few }))
+      ∙ there))
+      (λ many. subst Stands (sym (resv_errs_by_tests.full p c e m f r.0.0 r.0.1 sets (leb-false (size (walls_set p c e m f)) 512 many))) there))
+      (λ none. subst Stands (sym s) (ap (λ (w : Walls). get w k) (resv_errs_by_tests.sets_none p c e m f none) ∙ there)))
+      r.1)
+      (resv_errs_by_tests.one p c e m f)
+
+  after_error : (e : ℕ) (m : ResvErrMsg) (mine : Bool) → (mine ≡ true → Takes p c f k e m → ⊥) → Stands (act_spelt p c e (message.ResvErr m) mine f)
   after_error e m false apart = there
-  after_error e m true apart = by _ _
-    where
-      by : (hop room : Bool) → get (walls_after hop room (walls_with p c e m m.blame.flow f.walls) f.walls) k ≡ Some b
-      by true true = by_error e m (apart refl)
-      by true false = there
-      by false room = there
+  after_error e m true apart = by_error e m (apart refl)
 
-  spelt_stays : (i : Input) (e : ℕ) (dst : Addr) (m : Message) (mine : Bool) → i ≡ Came e dst (Spelt m) → is_mine p e dst m ≡ mine → (IsSetBy p i k → ⊥) → get (act_spelt p c e m mine f).facts.walls k ≡ Some b
+  spelt_stays : (i : Input) (e : ℕ) (dst : Addr) (m : Message) (mine : Bool) → i ≡ Came e dst (Spelt m) → is_mine p e dst m ≡ mine → (IsSetBy p c f i k → ⊥) → get (act_spelt p c e m mine f).facts.walls k ≡ Some b
   spelt_stays i e dst (message.ResvErr m) mine came is apart =
       after_error e m mine
-      (λ yes admission flow says target.
+      (λ yes takes.
       let to : dst ≡ own p e = addr_told dst (own p e) (is ∙ yes) in
-      apart (e, m, flow, came ∙ ap (λ (a : Addr). Came e a (Spelt (message.ResvErr m))) to, admission, says, target))
+      apart (e, m, came ∙ ap (λ (a : Addr). Came e a (Spelt (message.ResvErr m))) to, takes))
   spelt_stays i e dst (message.Path m) false came is apart = there
   spelt_stays i e dst (message.Path m) true came is apart = there
   spelt_stays i e dst (message.Resv m) false came is apart = there
@@ -115,7 +139,7 @@ module _ (p : NodeConfig) (c : ℕ) (f : Facts) (k : WallKey) (b : Blockade) (th
   spelt_stays i e dst (message.ResvConf m) false came is apart = there
   spelt_stays i e dst (message.ResvConf m) true came is apart = there
 
-  pub wall_stays : (old : NodeConfig) (i : Input) → c < b.dies → (i ≡ Clear → ⊥) → (IsSetBy p i k → ⊥) → get (facts_then old p c i f).walls k ≡ Some b
+  pub wall_stays : (old : NodeConfig) (i : Input) → c < b.dies → (i ≡ Clear → ⊥) → (IsSetBy p c f i k → ⊥) → get (facts_then old p c i f).walls k ≡ Some b
   wall_stays old (Call l) lives loud apart = there
   wall_stays old (Wait ms word) lives loud apart = (waiting_leaves_the_living.of_walls p c word f k b).1 (there, lives)
   wall_stays old Clear lives loud apart = absurd (loud refl)
@@ -158,29 +182,55 @@ came_by (Reroute g x hops) w n e dst a is = absurd (cc)
 
 module _ (q : ℕ) (s : Step) (w : World) where
   -- of a step that delivers something the network stays
-  replaced : (n : ℕ) (k : WallKey) (i : Input) → input_at s w n ≡ Some i → IsSetBy (config_of q (net_after s w) w.trees n) i k → IsReplaced q s w n k
-  replaced n k i e x =
-      let c = came_by s w n x.0 (own (config_of q (net_after s w) w.trees n) x.0) (Spelt (message.ResvErr x.1)) (e ∙ ap Some x.3) in
+  replaced : (n : ℕ) (f : Facts) (k : WallKey) (i : Input) → input_at s w n ≡ Some i → IsSetBy (config_of q (net_after s w) w.trees n) (w.clock + ms_of s) f i k → SetsBlockade q s w n f k
+  replaced n f k i e x =
+      let c = came_by s w n x.0 (own (config_of q (net_after s w) w.trees n) x.0) (Spelt (message.ResvErr x.1)) (e ∙ ap Some x.2) in
       let same : Came x.0 (own (config_of q (net_after s w) w.trees n) x.0) (Spelt (message.ResvErr x.1)) ≡ Came (iface_of w.net.ends c.1.end) c.1.dst c.1.arrival = c.7 in
       let iface : x.0 ≡ iface_of w.net.ends c.1.end = cc in
       let dst : own (config_of q (net_after s w) w.trees n) x.0 ≡ c.1.dst = cc in
       let arrival : Spelt (message.ResvErr x.1) ≡ c.1.arrival = cc in
+      let place : config_of q (net_after s w) w.trees n ≡ config_of q w.net w.trees n = ap (λ (z : Step). config_of q (net_after z w) w.trees n) c.3 in
       record {
         place = c.0;
         item = c.1;
         end = c.2;
         error = x.1;
-        flow = x.2;
+        flow = x.3.flow;
         step_is = c.3;
         arrives = c.4;
         there = c.5;
         node = c.6;
-        mine = sym dst ∙ ap (λ (z : Step). own (config_of q (net_after z w) w.trees n) x.0) c.3 ∙ ap (own (config_of q w.net w.trees n)) iface;
+        mine = sym dst ∙ ap (λ (z : NodeConfig). own z x.0) place ∙ ap (own (config_of q w.net w.trees n)) iface;
         says = sym arrival;
-        admission = x.4;
-        with_flow = x.5;
-        target = subst (λ (z : ℕ). In k (walled_by z x.1 x.1.blame.style)) iface x.6;
+        admission = x.3.admission;
+        with_flow = x.3.says;
+        target = subst (λ (z : ℕ). In k (walled_by z x.1 x.1.blame.style)) iface x.3.target;
+        sender = x.3.sender;
+        comes = subst (λ (z : ℕ). ComesBy f x.1.session (z, x.1.hop.addr) x.3.sender) iface x.3.comes;
+        room = subst (λ (z : ℕ). size (walls_set (config_of q w.net w.trees n) (w.clock + ms_of s) z x.1 f) ≤ 512) iface
+            (subst (λ (z : NodeConfig). size (walls_set z (w.clock + ms_of s) x.0 x.1 f) ≤ 512) place x.3.room);
       }
+
+  -- the error sets its blockade
+  pub an_admission_error_sets_its_blockade : AnAdmissionErrorSetsItsBlockade q s w
+  an_admission_error_sets_its_blockade n f g k before after r =
+      let p : NodeConfig = config_of q w.net w.trees n in
+      let c : ℕ = w.clock + ms_of s in
+      let e : ℕ = iface_of w.net.ends r.item.end in
+      let found = facts_after_found q s w n g after in
+      let same : found.0 ≡ f = of_some found.0 f (sym found.1 ∙ before) in
+      let arrives : arrived s w ≡ Some r.item = ap (λ (z : Step). arrived z w) r.step_is ∙ r.arrives in
+      let came : input_at s w n ≡ Some (Came e (own p e) (Spelt (message.ResvErr r.error))) =
+      ap (input_at s w) (sym r.node) ∙ input_came s w r.item r.end arrives r.there ∙ (λ j. Some (Came e (r.mine j) (r.says j))) in
+      let out = outcome_by q s w n f (Came e (own p e) (Spelt (message.ResvErr r.error))) (ap is_quiet r.step_is) came in
+      let mine : is_mine p e (own p e) (message.ResvErr r.error) ≡ true = addr_tested (own p e) (own p e) refl in
+      let taken : act_resv_err p c e r.error f ≡ errors_with p c e r.error f = resv_errs_by_tests.taken p c e r.error f r.sender r.comes r.room in
+      ap (λ (z : Facts). get z.walls k) (found.2 ∙ ap (λ (z : Facts). (outcome q s w n z).facts) same)
+      ∙ ap (λ (z : Outcome). get z.facts.walls k) out
+      ∙ ap (λ (z : Bool). get (act_spelt p c e (message.ResvErr r.error) z f).facts.walls k) mine
+      ∙ ap (λ (z : Change). get z.facts.walls k) taken
+      ∙ ap (λ (z : Option TokenBucket). get (walls_with p c e r.error z f.walls) k) r.with_flow
+      ∙ errors_and_walls.set p c e r.error f.walls k r.flow r.admission r.target
 
   pub a_blockade_stays : ABlockadeStays q s w
   a_blockade_stays n f g k b before after there lives kept alone =
@@ -193,7 +243,7 @@ module _ (q : ℕ) (s : Step) (w : World) where
       by (Some i) e =
           wall_stays (config_of q (net_after s w) w.trees n) (w.clock + ms_of s) f k b there (config_of q w.net w.trees n) i lives
           (λ clear. kept (cleared_by s w n (e ∙ ap Some clear)))
-          (λ set. alone (replaced n k i e set))
+          (λ set. alone (replaced n f k i e set))
 
 -- ---- a ResvErr tears nothing down
 module _ (q : ℕ) (w : World) (bounds : AreBounds q w) (k : ℕ) (y : Item) (m : ResvErrMsg) (at : slice_get w.flight k ≡ Some y) (spelt : y.arrival ≡ Spelt (message.ResvErr m)) where

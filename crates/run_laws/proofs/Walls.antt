@@ -22,7 +22,7 @@ use Rattle.style_rules.specs.declared.target.Target.TheVariants as target
 use Rattle.style_rules.specs.declared.wall.Wall.{Wall}
 use Rattle.style_rules.specs.Targets.{WallKey}
 use Rattle.style_rules.specs.Toward.{IsOpenRequestOf, Request, is_walled}
-use Rattle.style_rules.proofs.Towards.{open_charge, open_most, toward_there}
+use Rattle.style_rules.proofs.Towards.{open_charge, open_most, toward_join, toward_there}
 use Rattle.router_lookups.specs.FactLaws.{IsResvRequest, IsWantRequest}
 use Rattle.router_lookups.proofs.Requesting.{requests_and_toward}
 use Rattle.router_rules.specs.Facts.{Blockade, Facts, Walls}
@@ -30,7 +30,7 @@ use Rattle.router_rules.specs.Known.{Lane}
 use Rattle.router_rules.specs.NodeConfig.{NodeConfig}
 use Rattle.router_rules.specs.Requests.{is_blockaded, requests, toward, wall_at}
 use Rattle.network_steps.proofs.Known.{has_some}
-use Rattle.run_laws.specs.Blockades.{IsBelow, SpeaksOf, WhatGoesOnIsBelow}
+use Rattle.run_laws.specs.Blockades.{GoesOn, IsBelow, SpeaksOf, WhatGoesOnIsBelow}
 
 -- ---- one request
 below_by : (wall : Wall) (flow : TokenBucket) → does_blockade wall.flow wall.sub flow ≡ false → IsBelow wall flow
@@ -96,14 +96,22 @@ first_named names x e = by names.rows refl e
         ap is_some (ap (get names) (sym same) ∙ in_found senders names y.0 y.1 (subst (λ (z : List (Sender × Unit {0})). In y z) (sym is) (inl refl)))
 
 pub what_goes_on_is_below : WhatGoesOnIsBelow
-what_goes_on_is_below = record {
-  each = λ p f l r k b i free speaks there. request_below p f l r k b i free speaks there;
-  goes_on = λ p f l u r free. goes_on p f l u r free;
-  wild = λ p f l u r t b style free goes there.
-      unit_below p f l u r t (l.session, target.Hop l.hop.0 l.hop.1) b free goes there (λ x h. subst (λ (st : StyleKind). SpeaksOf l st x.part (l.session, target.Hop l.hop.0 l.hop.1)) (sym style) refl);
-  fixed = λ p f l x r t b style free goes there.
-      unit_below p f l (Of x) r t (l.session, target.Sender x) b free goes there
+what_goes_on_is_below p f l u r free = (t, record {
+  goes = goes;
+  join = sym goes ∙ toward_join l.style (requests p f l) u r free.request free.unmarked;
+  each = λ x k b open speaks there. request_below p f l x k b open.request.among open.unmarked speaks there;
+  wild = λ b style there.
+      unit_below p f l u r t (l.session, target.Hop l.hop.0 l.hop.1) b free goes there
+      (λ x h. subst (λ (st : StyleKind). SpeaksOf l st x.part (l.session, target.Hop l.hop.0 l.hop.1)) (sym style) refl);
+  fixed = λ x b style unit there.
+      unit_below p f l u r t (l.session, target.Sender x) b free goes there
       (λ y h.
-      let unit : Of x ≡ unit_of_first Fixed (keys y.part.senders) = h.request.unit ∙ ap (λ (st : StyleKind). unit_of_first st (keys y.part.senders)) style in
-      subst (λ (st : StyleKind). SpeaksOf l st y.part (l.session, target.Sender x)) (sym style) (x, first_named y.part.senders x unit, refl));
-}
+      let named : Of x ≡ unit_of_first Fixed (keys y.part.senders) = sym unit ∙ h.request.unit ∙ ap (λ (st : StyleKind). unit_of_first st (keys y.part.senders)) style in
+      subst (λ (st : StyleKind). SpeaksOf l st y.part (l.session, target.Sender x)) (sym style) (x, first_named y.part.senders x named, refl));
+})
+  where
+    t : Part
+    t = (goes_on p f l u r free).0
+
+    goes : get (toward p f l) u ≡ Some t
+    goes = (goes_on p f l u r free).1

@@ -1,5 +1,5 @@
 -- What is sent and kept while a blockade lives (RFC 2205, 3.5).
-use Rattle.std.specs.Prelude.{◌≡◌, ℕ, ◌+◌, ◌<◌, Bool, true, false, Some, slice_get}
+use Rattle.std.specs.Prelude.{◌≡◌, ℕ, ◌+◌, ◌<◌, ◌≤◌, Bool, true, false, Some, slice_get}
 use Rattle.rsvp_base.specs.declared.part.Part.{Part}
 use Rattle.rsvp_base.specs.declared.session.Sender.{Sender}
 use Rattle.rsvp_base.specs.declared.style.StyleKind.{StyleKind}
@@ -7,7 +7,7 @@ use Rattle.rsvp_base.specs.declared.style.StyleKind.TheVariants.{Wild, Fixed, Sh
 use Rattle.rsvp_base.specs.declared.style.Unit.{Unit as UnitOf}
 use Rattle.rsvp_base.specs.declared.style.Unit.TheVariants.{Of}
 use Rattle.rsvp_base.specs.Members.{In}
-use Rattle.rsvp_base.specs.Table.{get, has}
+use Rattle.rsvp_base.specs.Table.{get, has, size}
 use Rattle.rsvp_base.specs.TokenBucket.{TokenBucket}
 use Rattle.rsvp_messages.specs.declared.message.Message.TheVariants as message
 use Rattle.rsvp_messages.specs.declared.message.ResvErrMsg.{ResvErrMsg}
@@ -15,11 +15,15 @@ use Rattle.rsvp_messages.specs.declared.message.ResvMsg.{ResvMsg}
 use Rattle.rsvp_messages.specs.declared.message.ResvTearMsg.{ResvTearMsg}
 use Rattle.style_rules.specs.declared.target.Target.TheVariants as target
 use Rattle.style_rules.specs.Targets.{WallKey}
-use Rattle.style_rules.specs.Toward.{IsOpenRequestOf, IsRequestOf, Request, meet_at}
+use Rattle.style_rules.specs.Merge.{all_by}
+use Rattle.style_rules.specs.Parts.{part_join}
+use Rattle.style_rules.specs.Toward.{IsOpenRequestOf, IsRequestOf, Request, meet_at, open_of, parts_of, requests_at}
 use Rattle.style_rules.specs.declared.wall.Wall.{Wall}
 use Rattle.flow_merge.specs.FlowOrder.{IsAtMost}
+use Rattle.router_inputs.specs.ErrorLaws.{walls_set}
+use Rattle.router_lookups.specs.FactLaws.{ComesBy}
 use Rattle.router_resvs.specs.ReservationLaws.{IsOfLane}
-use Rattle.router_rules.specs.Errors.{is_admission, walled_by}
+use Rattle.router_rules.specs.Errors.{blockade_of, is_admission, walled_by}
 use Rattle.router_rules.specs.Facts.{Blockade, Facts}
 use Rattle.router_rules.specs.Inputs.{Send, Spelt}
 use Rattle.router_rules.specs.Known.{Lane}
@@ -58,23 +62,23 @@ SpeaksOf l Wild p k = k ≡ (l.session, target.Hop l.hop.0 l.hop.1)
 SpeaksOf l Fixed p k = (x : Sender) × (has p.senders x ≡ true) × (k ≡ (l.session, target.Sender x))
 SpeaksOf l Shared p k = (x : Sender) × (has p.senders x ≡ true) × (k ≡ (l.session, target.Sender x))
 
-pub record WhatGoesOnIsBelow : Type 0 where
-  -- each request that takes part in the merge is below each blockade that speaks of it
-  pub each : (p : NodeConfig) (f : Facts) (l : Lane) (r : Request) (k : WallKey) (b : Blockade) → In r (requests p f l) → r.blockaded ≡ false
-      → SpeaksOf l l.style r.part k → get f.walls k ≡ Some b → IsBelow b.wall r.part.flow
-  -- a unit with a request that is not blockaded goes on
-  pub goes_on : (p : NodeConfig) (f : Facts) (l : Lane) (u : UnitOf) (r : Request) → IsOpenRequestOf l.style (requests p f l) u r → (t : Part) × (get (toward p f l) u ≡ Some t)
-  -- and below the blockade of its hop, or of its sender
-  pub wild : (p : NodeConfig) (f : Facts) (l : Lane) (u : UnitOf) (r : Request) (t : Part) (b : Blockade) → l.style ≡ Wild
-      → IsOpenRequestOf l.style (requests p f l) u r → get (toward p f l) u ≡ Some t
-      → get f.walls (l.session, target.Hop l.hop.0 l.hop.1) ≡ Some b → IsBelow b.wall t.flow
-  pub fixed : (p : NodeConfig) (f : Facts) (l : Lane) (x : Sender) (r : Request) (t : Part) (b : Blockade) → l.style ≡ Fixed
-      → IsOpenRequestOf l.style (requests p f l) (Of x) r → get (toward p f l) (Of x) ≡ Some t
-      → get f.walls (l.session, target.Sender x) ≡ Some b → IsBelow b.wall t.flow
+-- this part goes on of a unit that has a request that is not blockaded: the join of all of them, each below each blockade that speaks
+-- of it
+pub record GoesOn (p : NodeConfig) (f : Facts) (l : Lane) (u : UnitOf) (t : Part) : Type 0 where
+  pub goes : get (toward p f l) u ≡ Some t
+  pub join : Some t ≡ all_by part_join (parts_of (open_of (requests_at l.style u (requests p f l))))
+  pub each : (r : Request) (k : WallKey) (b : Blockade) → IsOpenRequestOf l.style (requests p f l) u r → SpeaksOf l l.style r.part k → get f.walls k ≡ Some b → IsBelow b.wall r.part.flow
+  -- so it is below the blockade of its hop, or of its sender
+  pub wild : (b : Blockade) → l.style ≡ Wild → get f.walls (l.session, target.Hop l.hop.0 l.hop.1) ≡ Some b → IsBelow b.wall t.flow
+  pub fixed : (x : Sender) (b : Blockade) → l.style ≡ Fixed → u ≡ Of x → get f.walls (l.session, target.Sender x) ≡ Some b → IsBelow b.wall t.flow
 
--- ---- a blockade stays until it dies, is replaced, or its node is cleared
--- a ResvErr that sets a blockade of this key arrives at the node
-pub record IsReplaced (q : ℕ) (s : Step) (w : World) (n : ℕ) (k : WallKey) : Type 0 where
+abbrev pub WhatGoesOnIsBelow : Type 0
+WhatGoesOnIsBelow = (p : NodeConfig) (f : Facts) (l : Lane) (u : UnitOf) (r : Request) → IsOpenRequestOf l.style (requests p f l) u r → (t : Part) × GoesOn p f l u t
+
+-- ---- a blockade is set, and stays until it dies, is replaced, or its node is cleared
+-- a ResvErr of an admission failure arrives at the node with these facts, which takes it, and sets a blockade of this key: it is for
+-- the node's own address, a previous hop of its session sent it, and there is room for its blockades
+pub record SetsBlockade (q : ℕ) (s : Step) (w : World) (n : ℕ) (f : Facts) (k : WallKey) : Type 0 where
   pub place : ℕ
   pub item : Item
   pub end : End
@@ -89,11 +93,20 @@ pub record IsReplaced (q : ℕ) (s : Step) (w : World) (n : ℕ) (k : WallKey) :
   pub admission : is_admission error.err ≡ true
   pub with_flow : error.blame.flow ≡ Some flow
   pub target : In k (walled_by (iface_of w.net.ends item.end) error error.blame.style)
+  pub sender : Sender
+  pub comes : ComesBy f error.session (iface_of w.net.ends item.end, error.hop.addr) sender
+  pub room : size (walls_set (config_in q w n) (w.clock + ms_of s) (iface_of w.net.ends item.end) error f) ≤ 512
+
+-- the blockade that it sets stands behind the step, with the flow and the value of the error
+abbrev pub AnAdmissionErrorSetsItsBlockade : ℕ → Step → World → Type 0
+AnAdmissionErrorSetsItsBlockade q s w =
+    (n : ℕ) (f g : Facts) (k : WallKey) → slice_get w.nodes n ≡ Some f → slice_get (step q s w).nodes n ≡ Some g → (r : SetsBlockade q s w n f k)
+    → get g.walls k ≡ Some (blockade_of (config_in q w n) (w.clock + ms_of s) r.error r.flow)
 
 abbrev pub ABlockadeStays : ℕ → Step → World → Type 0
 ABlockadeStays q s w =
     (n : ℕ) (f g : Facts) (k : WallKey) (b : Blockade) → slice_get w.nodes n ≡ Some f → slice_get (step q s w).nodes n ≡ Some g → get f.walls k ≡ Some b → w.clock + ms_of s < b.dies
-    → (s ≡ ClearAt n → ⊥) → (IsReplaced q s w n k → ⊥) → get g.walls k ≡ Some b
+    → (s ≡ ClearAt n → ⊥) → (SetsBlockade q s w n f k → ⊥) → get g.walls k ≡ Some b
 
 -- ---- a blockade drops no unit, and what an error leaves
 pub record BlockadesDropNothing : Type 0 where

@@ -1,5 +1,5 @@
 //! The laws. Each world of a run is one of its first world and those after each step, each step one in the world in which it is made.
-ghost use Rattle.run_laws.specs.Blockades.{ABlockadeStays, AResvErrTearsNothing, BlockadesDropNothing, EachResvSaysWhatGoesToward, WhatGoesOnIsBelow};
+ghost use Rattle.run_laws.specs.Blockades.{ABlockadeStays, AResvErrTearsNothing, AnAdmissionErrorSetsItsBlockade, BlockadesDropNothing, EachResvSaysWhatGoesToward, WhatGoesOnIsBelow};
 ghost use Rattle.run_laws.specs.Books.{AreBooksWithinCapacity};
 ghost use Rattle.run_laws.specs.InRuns.{AtEveryStep, InEveryWorld};
 ghost use Rattle.run_laws.specs.Refusals.{ARefusedCallChangesNothing, ARefusedResvChangesNoReservation, AUnitThatPassesIsBooked, AnUntakenUnitChangesNothing};
@@ -36,12 +36,19 @@ pub fn each_resv_says_what_goes_toward()
     ensures { AtEveryStep EachResvSaysWhatGoesToward }
 {}
 
-/// While a blockade lives, a unit with a request that is not blockaded goes on, below what the blockade keeps back (RFC 2205, 3.5).
+/// While a blockade lives, a unit with a request that is not blockaded goes on: as the join of all such requests, each below each
+/// blockade that speaks of it (RFC 2205, 3.5).
 pub fn what_goes_on_is_below_the_blockade()
     ensures { WhatGoesOnIsBelow }
 {}
 
-/// A blockade stays until it dies, another error replaces it, or its node is cleared.
+/// A ResvErr of an admission failure that its node takes sets its blockade, with the flow that was refused and the value of the error.
+pub fn an_admission_error_sets_its_blockade()
+    ensures { AtEveryStep AnAdmissionErrorSetsItsBlockade }
+{}
+
+/// A blockade stays until it dies, its node takes another error that replaces it, or its node is cleared. An error that the node drops
+/// replaces nothing.
 pub fn a_blockade_stays()
     ensures { AtEveryStep ABlockadeStays }
 {}

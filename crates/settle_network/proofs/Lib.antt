@@ -1,5 +1,6 @@
 pub mod Reports
 pub mod Settled
+pub mod Purged
 pub mod RunsSettle
 pub mod Example
 pub mod Tight

@@ -15,12 +15,12 @@ use Rattle.settle_network.specs.Settled.{HasSettled}
 use Rattle.settle_network.proofs.Settled.{a_settled_moment}
 
 -- what holds of each world that is visited holds of the world after a front of the steps
-visited_at : (q : ℕ) (P : World → Type 0) (ss ts : List Step) (w : World) → Visited (machine q) P (ss ++ ts) w → P (run (machine q) ss w)
+pub visited_at : (q : ℕ) (P : World → Type 0) (ss ts : List Step) (w : World) → Visited (machine q) P (ss ++ ts) w → P (run (machine q) ss w)
 visited_at q P [] [] w v = v
 visited_at q P [] (t ∷ ts) w v = v.0
 visited_at q P (s ∷ ss) ts w v = visited_at q P ss ts (step q s w) v.1
 
-joined : (xs ys zs : List Step) → (xs ++ ys) ++ zs ≡ xs ++ (ys ++ zs)
+pub joined : (xs ys zs : List Step) → (xs ++ ys) ++ zs ≡ xs ++ (ys ++ zs)
 joined [] ys zs = refl
 joined (x ∷ xs) ys zs = λ i. x ∷ joined xs ys zs i
 

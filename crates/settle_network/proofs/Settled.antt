@@ -139,11 +139,11 @@ module _ (q : ℕ) (w : World) (rs : List (List Step)) (calm : Rounds (machine q
       (hold_later (machine q) HasNoFlowError to_errors k rs w (omega arith) no_errors)))
 
 -- ---- at a settled moment
-run_then : (q : ℕ) (ss ts : List Step) (w : World) → run (machine q) (ss ++ ts) w ≡ run (machine q) ts (run (machine q) ss w)
+pub run_then : (q : ℕ) (ss ts : List Step) (w : World) → run (machine q) (ss ++ ts) w ≡ run (machine q) ts (run (machine q) ss w)
 run_then q [] ts w = refl
 run_then q (s ∷ ss) ts w = run_then q ss ts (step q s w)
 
-run_all : (q : ℕ) (rs : List (List Step)) (w : World) → run (machine q) (all_of rs) w ≡ run_rounds (machine q) rs w
+pub run_all : (q : ℕ) (rs : List (List Step)) (w : World) → run (machine q) (all_of rs) w ≡ run_rounds (machine q) rs w
 run_all q [] w = refl
 run_all q (r ∷ rs) w = run_then q r (all_of rs) w ∙ run_all q rs (run (machine q) r w)
 

@@ -93,15 +93,15 @@ at_end = run_rounds (machine 7500) three_rounds lone_world
 
 first_round : Calm (machine 7500) short_round lone_world
 unfolding facts_with
-first_round = record { silent = (refl, (refl, (refl, tt))); long = omega arith; short = omega arith; flushed = λ x i. absurd i; crossed = λ x i. absurd i }
+first_round = record { silent = (refl, (refl, (refl, tt))); long = omega arith; short = omega arith; flushed = λ x i. absurd i; crossed = λ x t i. absurd i }
 
 second_round : Calm (machine 7500) short_round after_one
 unfolding facts_with
-second_round = record { silent = (refl, (refl, (refl, tt))); long = omega arith; short = omega arith; flushed = λ x i. absurd i; crossed = λ x i. absurd i }
+second_round = record { silent = (refl, (refl, (refl, tt))); long = omega arith; short = omega arith; flushed = λ x i. absurd i; crossed = λ x t i. absurd i }
 
 third_round : Calm (machine 7500) short_round after_two
 unfolding facts_with
-third_round = record { silent = (refl, (refl, (refl, tt))); long = omega arith; short = omega arith; flushed = λ x i. absurd i; crossed = λ x i. absurd i }
+third_round = record { silent = (refl, (refl, (refl, tt))); long = omega arith; short = omega arith; flushed = λ x i. absurd i; crossed = λ x t i. absurd i }
 
 abbrev facts_0 : World → Facts
 facts_0 u = unwrap_or (slice_get u.nodes 0) no_facts

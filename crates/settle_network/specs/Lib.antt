@@ -1,4 +1,5 @@
 pub mod Settled
+pub mod Purged
 pub mod Example
 pub mod Tight
 pub mod RunExample

@@ -5,7 +5,7 @@ ghost use Rattle.calm_rounds.specs.Machine.{run};
 ghost use Rattle.calm_rounds.specs.Rounds.{Rounds};
 ghost use Rattle.tree_model.specs.Goals.{DemandsFit};
 ghost use Rattle.tree_model.specs.Ranks.{longest};
-ghost use Rattle.network_model.specs.Bounds.{IsSettled, IsStart};
+ghost use Rattle.network_model.specs.Bounds.{AreBounds, IsPurged, IsSettled, IsStart};
 ghost use Rattle.network_model.specs.Locals.{locals_of};
 ghost use Rattle.network_model.specs.Runs.{Plan, first_world, steps_of_run};
 ghost use Rattle.network_model.specs.Sound.{AreResvsExact, HasNoFlowError, TakesAll};
@@ -13,6 +13,7 @@ ghost use Rattle.network_model.specs.Steps.{Step, is_quiet, machine};
 ghost use Rattle.network_model.specs.Worlds.{World};
 ghost use Rattle.network_steps.specs.Runs.{AreFitSenders, IsFitRun};
 ghost use Rattle.settle_network.specs.Example.{ItHasNotSettledYet};
+ghost use Rattle.settle_network.specs.Purged.{HasNothingStale};
 ghost use Rattle.settle_network.specs.RunExample.{ARunMeetsThePremises};
 ghost use Rattle.settle_network.specs.Settled.{HasSettled};
 ghost use Rattle.settle_network.specs.Tight.{ThreeRoundsAreTooFew};
@@ -38,12 +39,24 @@ pub fn a_network_settles()
     ensures { (q : ℕ) (w : World) (rs : List (List Step)) → Rounds (machine q) rs w → IsStart q w → Hold (machine q) (13 * longest w.net + 13) rs w (HasSettled q) }
 {}
 
-/// So it is at a settled moment: the steps end in 16 H + 16 calm rounds, and the demands fit when these begin.
+/// Nothing stale is left, even where more is asked for than fits: from any world within bounds, 10 H + 9 calm rounds on, paths are
+/// those of live senders along their trees, reservations lie below the wants, and the book of each end is at most its demand. So no
+/// book has a session, style or sender that nobody below wants, and none promises more than its demand.
+pub fn nothing_stale_is_left()
+    ensures { (q : ℕ) (w : World) (rs : List (List Step)) → Rounds (machine q) rs w → AreBounds q w → Hold (machine q) (10 * longest w.net + 9) rs w HasNothingStale }
+{}
+
+/// So it is in the run of a script whose steps up to some point end in 10 H + 9 calm rounds, whatever it asks for.
+pub fn a_run_is_purged()
+    ensures { (p : Plan) → IsFitRun p → (ss ts : List Step) → steps_of_run p ≡ ss ++ ts → IsPurged p.quarter (first_world p) ss → HasNothingStale (run (machine p.quarter) ss (first_world p)) }
+{}
+
+/// So it is at a settled moment: the steps end in 13 H + 13 calm rounds, and the demands fit when these begin.
 pub fn a_settled_moment()
     ensures { (q : ℕ) (w : World) (ss : List Step) (is : IsSettled q w ss) → IsStart q (run (machine q) is.before w) → HasSettled q (run (machine q) ss w) }
 {}
 
-/// The run of a script settles: where the script is fit and lets few senders send, its steps up to some point end in 16 H + 16
+/// The run of a script settles: where the script is fit and lets few senders send, its steps up to some point end in 13 H + 13
 /// calm rounds, and the demands fit when these begin, the network has settled at that point, whatever was left over, injected,
 /// lost, copied, cleared or rerouted before. So what is reported there is what the demands are.
 pub fn a_run_settles()

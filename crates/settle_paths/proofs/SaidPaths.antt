@@ -7,6 +7,7 @@ use Rattle.rsvp_base.specs.declared.session.Sender.{Sender}
 use Rattle.rsvp_base.specs.Members.{In}
 use Rattle.rsvp_base.specs.Table.{get, has}
 use Rattle.rsvp_base.specs.TokenBucket.{TokenBucket}
+use Rattle.rsvp_base.proofs.Members.{any_in}
 use Rattle.rsvp_base.proofs.SetLaws.{and_both, and_made}
 use Rattle.rsvp_messages.specs.declared.message.Message.{Message}
 use Rattle.rsvp_messages.specs.declared.message.Message.TheVariants as message
@@ -30,6 +31,7 @@ use Rattle.router_rules.specs.NodeConfig.{NodeConfig, own, goes_out, lifetime}
 use Rattle.router_rules.specs.Rule.{Outcome}
 use Rattle.router_rules.specs.Sends.{path_send}
 use Rattle.router_lookups.proofs.Knowing.{known_and_via}
+use Rattle.router_lookups.proofs.Tests.{addr_tested}
 use Rattle.tree_model.specs.declared.hops.LinkHop.{LinkHop}
 use Rattle.tree_model.specs.Networks.{Net, node_of, end_at, iface_of, peers}
 use Rattle.tree_model.specs.Trees.{tree, inward, outward}
@@ -40,7 +42,7 @@ use Rattle.tree_model.proofs.Links.{hop_linked}
 use Rattle.tree_model.proofs.TreeLaws.{out_tested, way_in_tested}
 use Rattle.network_model.specs.Bounds.{AreBounds}
 use Rattle.network_model.specs.Links.{is_group, goes_to, copy_to}
-use Rattle.network_model.specs.Steps.{Step, Track, OfSender, OfStyle, is_quiet, ms_of, arrived, input_at, word_for, outcome, still, sender_of, track, path_track, arrival_track, sent, step, machine}
+use Rattle.network_model.specs.Steps.{Step, Track, OfSender, OfStyle, goes_along, is_quiet, serves, serves_key, ms_of, arrived, input_at, word_for, outcome, still, sender_of, track, path_track, arrival_track, sent, step, machine}
 use Rattle.network_model.specs.Worlds.{Item, World, config_of}
 use Rattle.network_model.proofs.Changing.{where_a_send_goes}
 use Rattle.network_model.proofs.Machines.{quiet_of, time_passes, items_are_numbered, in_flight_after, in_arrived}
@@ -157,12 +159,19 @@ module _ (q : ℕ) (o : World) (valid : IsValid o.net) (k : SenderKey) (h : Link
       let m = has_some (get f.0.due k.0) due in
       (m.0, due_made u at_from k.0 m.0 f.0 f.1 m.1)
 
+  -- the Path goes over a hop of the tree
+  serves_it : (u : World) → IsFirm u → serves u over ≡ true
+  serves_it u g =
+      subst (λ (z : Net). serves_key z over over.key ≡ true) (sym g.known.same.net)
+      (any_in (goes_along o.net over) h (tree o.net.hops k.0.group k.1.addr) there (and_made _ _ (number_same h.to h.to refl) (addr_tested (addr_of o.net h.from) (addr_of o.net h.from) refl)))
+
   good : (u : World) → IsFirm u → Good (machine q) line v b u
   good u g = record {
     sane = g;
     letters = λ y i born is. letters u g y i born is;
     takes = λ s y calm arr says life. takes s u y (quiet_of q s calm) g arr says.0 says.1 life;
     counts = counts u g;
+    serves = (over, refl, serves_it u g);
   }
 
   -- ---- where no letter arrives the path stays until it dies

@@ -1,4 +1,5 @@
 pub mod Writing
+pub mod RoundsAmong
 pub mod Still
 pub mod Texts
 pub mod Demands

@@ -87,8 +87,8 @@ module _ (q : ℕ) where
         long = subst (λ (z : ℕ). 6 * q ≤ z) (sym time) c.long;
         short = subst (λ (z : ℕ). z ≤ 10 * q) (sym time) c.short;
         flushed = λ x i. c.flushed x (subst (λ (xs : List Item). In x xs) flight i);
-        crossed = λ x i.
-            let r = c.crossed x (subst (λ (z : List (Item × Bool)). In (x, true) z) (sent_same ss ts w h) i) in
+        crossed = λ x k i e on.
+            let r = c.crossed x k (subst (λ (z : List (Item × Bool)). In (x, true) z) (sent_same ss ts w h) i) e on in
             (r.0, subst (λ (z : List (Item × Bool)). In (r.0, true) z) (sym (sent_same ss ts w h)) r.1, r.2, subst (λ (z : List Item). In r.0 z) (sym (arrived_same ss ts w h)) r.3);
       }
 

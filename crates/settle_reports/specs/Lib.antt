@@ -1,3 +1,4 @@
 pub mod Writing
+pub mod RoundsAmong
 pub mod Demands
 pub mod Example

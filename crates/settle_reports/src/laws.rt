@@ -1,12 +1,19 @@
 //! The laws.
 ghost use Rattle.settle_reports.specs.Demands.{ASettledReportIsTheDemand};
 ghost use Rattle.settle_reports.specs.Example.{TheReportBecomesTheDemand};
+ghost use Rattle.settle_reports.specs.RoundsAmong.{RoundsAmongWritingCount};
 ghost use Rattle.settle_reports.specs.Writing.{AMomentStaysSettled, ANetworkStaysSettled};
 
 /// A settled moment stays one while only reports, trace switches and flag reports follow: they take no time, send nothing and
 /// change no node, so that they count as the end of the last round.
 pub fn a_moment_stays_settled()
     ensures { AMomentStaysSettled }
+{}
+
+/// Rounds among lines that only write count together: they are as many calm rounds as if they stood in one line, but for what is
+/// written at the end.
+pub fn rounds_among_writing_count()
+    ensures { RoundsAmongWritingCount }
 {}
 
 /// And a settled network stays settled, whatever led to it.

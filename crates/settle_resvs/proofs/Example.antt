@@ -159,7 +159,7 @@ bounds =
 pub a_pair_says_a_reservation : SaysAReservation
 a_pair_says_a_reservation = record {
   bounds = bounds;
-  linked = inl refl;
+  there = inl refl;
   rounds = calm_rounds 7500 2 asking_world;
   said = hold_map (machine 7500) (Passes 7500 is_said) (IsSaid 7500 pair_net back asked asking_world.made) (said_told asking_world.made) 0 (rounds_of 7500 2 asking_world) asking_world
       (through 7500 is_said (rounds_of 7500 2 asking_world) asking_world refl);

@@ -13,7 +13,7 @@ use Rattle.rsvp_base.specs.Members.{In}
 use Rattle.rsvp_base.specs.Orders.{senders, sessions, styles}
 use Rattle.rsvp_base.specs.Table.{get, has, empty}
 use Rattle.rsvp_base.proofs.Counts.{found_in, in_found}
-use Rattle.rsvp_base.proofs.Members.{all_in, in_all}
+use Rattle.rsvp_base.proofs.Members.{all_in, any_in, in_all}
 use Rattle.rsvp_base.proofs.SetLaws.{and_both, and_made}
 use Rattle.rsvp_base.proofs.Tables.{either}
 use Rattle.rsvp_messages.specs.declared.ask.Ask.{Ask}
@@ -48,13 +48,15 @@ use Rattle.router_resvs.specs.ReservationLaws.{TakesName, Touches, TouchesBy}
 use Rattle.router_resvs.proofs.Asking.{what_keeps_a_reservation_fact}
 use Rattle.router_resvs.proofs.Hopward.{what_a_resv_sent_says}
 use Rattle.tree_model.specs.Networks.{Net, node_of, end_at, iface_of, peers}
+use Rattle.tree_model.specs.Trees.{hops_of}
 use Rattle.tree_model.specs.Valid.{IsValid}
 use Rattle.tree_model.proofs.Following.{same_number, number_same}
 use Rattle.tree_model.proofs.Ifaces.{interfaces_are_ends}
+use Rattle.tree_model.proofs.Links.{back_linked}
 use Rattle.network_model.specs.Bounds.{AreBounds}
 use Rattle.network_model.specs.Laws.{config_in}
 use Rattle.network_model.specs.Links.{is_group, goes_to, copy_to}
-use Rattle.network_model.specs.Steps.{Step, Track, OfSender, OfStyle, is_quiet, ms_of, arrived, input_at, outcome, still, track, arrival_track, path_track, sender_of, sent, step, machine}
+use Rattle.network_model.specs.Steps.{Step, Track, OfSender, OfStyle, goes_back, is_quiet, serves, serves_key, ms_of, arrived, input_at, outcome, still, track, arrival_track, path_track, sender_of, sent, step, machine}
 use Rattle.network_model.specs.Worlds.{Item, World, config_of}
 use Rattle.network_model.proofs.Changing.{where_a_send_goes}
 use Rattle.network_model.proofs.Machines.{quiet_of, time_passes, items_are_numbered, in_flight_after, in_arrived}
@@ -141,7 +143,7 @@ asks_of_none Wild a e = absurd (cc)
 asks_of_none Fixed a e = absurd (cc)
 asks_of_none Shared a e = absurd (cc)
 
-module _ (q : ℕ) (o : World) (k : HopKey) (valid : IsValid o.net) (linked : In k.to (peers o.net.links k.from)) (v : Part) (b : ℕ) where
+module _ (q : ℕ) (o : World) (k : HopKey) (valid : IsValid o.net) (there : In (hop_over k) (hops_of o.net.hops k.session.group)) (v : Part) (b : ℕ) where
   abbrev at_to : ℕ
   at_to = node_of o.net.ends k.to
 
@@ -150,6 +152,9 @@ module _ (q : ℕ) (o : World) (k : HopKey) (valid : IsValid o.net) (linked : In
 
   abbrev key : LineKey
   key = line_key_of o.net (resv_key o.net k)
+
+  linked : In k.to (peers o.net.links k.from)
+  linked = back_linked o.net valid k.session.group (hop_over k) there
 
   lt : k.to < length o.net.ends
   lt = peer_there o.net valid k.from k.to linked
@@ -240,12 +245,19 @@ module _ (q : ℕ) (o : World) (k : HopKey) (valid : IsValid o.net) (linked : In
       is_lane f l p a e true h = h
       is_lane f l p a e false h = absurd (asks_of_none l.style a (sym (ap (ask_of l.style) (nowhere p f l h)) ∙ e))
 
+  -- the Resv goes back over a hop of a tree of the group
+  serves_it : (u : World) → IsFirm u → serves u over ≡ true
+  serves_it u g =
+      subst (λ (z : Net). serves_key z over over.key ≡ true) (sym g.known.same.net)
+      (any_in (goes_back o.net over) (hop_over k) (hops_of o.net.hops k.session.group) there (and_made _ _ (number_same k.to k.to refl) (addr_tested (addr_of o.net k.from) (addr_of o.net k.from) refl)))
+
   good : (u : World) → IsFirm u → Good (machine q) line v b u
   good u g = record {
     sane = g;
     letters = λ y i born is. letters u g y i born is;
     takes = λ s y calm arr says life. takes s u y (quiet_of q s calm) g arr says.0 says.1 life;
     counts = counts u g;
+    serves = (over, refl, serves_it u g);
   }
 
   -- ---- where no letter arrives it stays until it dies
@@ -377,15 +389,15 @@ module _ (q : ℕ) (o : World) (k : HopKey) (valid : IsValid o.net) (linked : In
     due_room = λ u t a e. let f = due_found u at_from k.session t e in let r = (a.known.bounds.facts at_from f.0 f.1).due.moment k.session t f.2 in (r.later, r.soon);
   }
 
-pub said_resvs_are_kept : (q : ℕ) (w : World) (k : HopKey) (v : Part) → In k.to (peers w.net.links k.from) → (rs : List (List Step)) → Rounds (machine q) rs w → Hold (machine q) 0 rs w (AreBounds q)
+pub said_resvs_are_kept : (q : ℕ) (w : World) (k : HopKey) (v : Part) → In (hop_over k) (hops_of w.net.hops k.session.group) → (rs : List (List Step)) → Rounds (machine q) rs w → Hold (machine q) 0 rs w (AreBounds q)
     → Hold (machine q) 0 rs w (IsSaid q w.net k v w.made) → Hold (machine q) 2 rs w (Stands (machine q) (soft_resv q w (resv_key w.net k)) v)
-said_resvs_are_kept q w k v linked rs calm bounds said =
+said_resvs_are_kept q w k v there rs calm bounds said =
     let first : AreBounds q w = hold_start (machine q) (AreBounds q) rs w bounds in
-    let firm : Hold (machine q) 0 rs w (IsFirm q w k first.net linked v w.made) =
-    hold_map (machine q) (λ u. (IsKnown q w u × IsSaid q w.net k v w.made u) × AreFull q w.made u) (IsFirm q w k first.net linked v w.made) (λ u g. record { known = g.0.0; said = g.0.1; full = g.1 }) 0 rs w
+    let firm : Hold (machine q) 0 rs w (IsFirm q w k first.net there v w.made) =
+    hold_map (machine q) (λ u. (IsKnown q w u × IsSaid q w.net k v w.made u) × AreFull q w.made u) (IsFirm q w k first.net there v w.made) (λ u g. record { known = g.0.0; said = g.0.1; full = g.1 }) 0 rs w
     (hold_both (machine q) (λ u. IsKnown q w u × IsSaid q w.net k v w.made u) (AreFull q w.made) 0 rs w
     (hold_both (machine q) (IsKnown q w) (IsSaid q w.net k v w.made) 0 rs w (known_hold q w rs calm bounds) said)
     (hold_keep (machine q) (AreBounds q) (AreFull q w.made) (λ s u c a a' j. full_step q w.made s u (quiet_of q s c) a j) rs w calm bounds
     (λ y m i born spelt. let old = (first.flight y i).born in absurd (omega arith)))) in
-    what_is_said_is_kept (machine q) (time_passes q) (items_are_numbered q) (line q w k first.net linked v w.made) (falls_due q w k first.net linked v w.made) v first.period rs w calm (moves q w k first.net linked v w.made)
-    (hold_map (machine q) (IsFirm q w k first.net linked v w.made) (Good (machine q) (line q w k first.net linked v w.made) v w.made) (λ u g. good q w k first.net linked v w.made u g) 0 rs w firm)
+    what_is_said_is_kept (machine q) (time_passes q) (items_are_numbered q) (line q w k first.net there v w.made) (falls_due q w k first.net there v w.made) v first.period rs w calm (moves q w k first.net there v w.made)
+    (hold_map (machine q) (IsFirm q w k first.net there v w.made) (Good (machine q) (line q w k first.net there v w.made) v w.made) (λ u g. good q w k first.net there v w.made u g) 0 rs w firm)

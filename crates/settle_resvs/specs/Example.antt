@@ -11,14 +11,14 @@ use Rattle.calm_rounds.specs.SoftStates.{Stands}
 use Rattle.calm_rounds.specs.Rounds.{Rounds}
 use Rattle.router_rules.specs.Inputs.{WantAs}
 use Rattle.network_model.specs.ThreeRouters.{session, scope, usual}
-use Rattle.tree_model.specs.Networks.{peers}
+use Rattle.tree_model.specs.Trees.{hops_of}
 use Rattle.network_model.specs.Bounds.{AreBounds}
 use Rattle.network_model.specs.Steps.{At, Deliver, step, machine}
 use Rattle.network_model.specs.Worlds.{World}
 use Rattle.network_steps.specs.Example.{pair_net, sending_world}
 use Rattle.network_steps.specs.Rounds.{rounds_of}
 use Rattle.settle_resvs.specs.SoftResvs.{soft_resv}
-use Rattle.settle_resvs.specs.Said.{HopKey, IsSaid, resv_key}
+use Rattle.settle_resvs.specs.Said.{HopKey, IsSaid, hop_over, resv_key}
 
 -- the first Path has come, and a host at the second node asks for what the sender sends
 abbrev pub asking_world : World
@@ -32,7 +32,7 @@ asked = record { senders = scope; flow = usual }
 
 pub record SaysAReservation : Type 0 where
   pub bounds : AreBounds 7500 asking_world
-  pub linked : In 0 (peers pair_net.links 1)
+  pub there : In (hop_over back) (hops_of pair_net.hops session.group)
   pub rounds : Rounds (machine 7500) (rounds_of 7500 2 asking_world) asking_world
   pub said : Hold (machine 7500) 0 (rounds_of 7500 2 asking_world) asking_world (IsSaid 7500 pair_net back asked asking_world.made)
   -- what is promised does not hold yet

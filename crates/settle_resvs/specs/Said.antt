@@ -21,6 +21,7 @@ use Rattle.router_rules.specs.Inputs.{Came, Spelt}
 use Rattle.router_rules.specs.Known.{Lane, known, named_as}
 use Rattle.router_rules.specs.NodeConfig.{lifetime}
 use Rattle.router_rules.specs.Requests.{toward}
+use Rattle.tree_model.specs.declared.hops.LinkHop.{LinkHop}
 use Rattle.tree_model.specs.Networks.{Net, node_of, iface_of}
 use Rattle.network_model.specs.Laws.{config_in}
 use Rattle.network_model.specs.Worlds.{Item, World}
@@ -34,6 +35,10 @@ pub record HopKey : Type 0 where
   pub unit : UnitOf
   pub from : ℕ
   pub to : ℕ
+
+-- the hop of a tree that a Resv goes back over
+abbrev pub hop_over : HopKey → LinkHop
+hop_over k = record { from = k.to; to = k.from }
 
 -- the next hop is the end that asks, by its address
 abbrev pub resv_key : Net → HopKey → ResvKey

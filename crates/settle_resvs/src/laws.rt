@@ -4,13 +4,13 @@ ghost use Rattle.rsvp_base.specs.Members.{In};
 ghost use Rattle.calm_rounds.specs.Hold.{Hold};
 ghost use Rattle.calm_rounds.specs.SoftStates.{IsClosed, KeepsOnly, SaysOnly, Stands};
 ghost use Rattle.calm_rounds.specs.Rounds.{Rounds};
-ghost use Rattle.tree_model.specs.Networks.{peers};
+ghost use Rattle.tree_model.specs.Trees.{hops_of};
 ghost use Rattle.network_model.specs.Bounds.{AreBounds};
 ghost use Rattle.network_model.specs.Steps.{Step, machine};
 ghost use Rattle.network_model.specs.Worlds.{World};
 ghost use Rattle.settle_resvs.specs.Example.{SaysAReservation};
 ghost use Rattle.settle_resvs.specs.SoftResvs.{ResvKey, AllowsCuts, IsCut, soft_resv};
-ghost use Rattle.settle_resvs.specs.Said.{HopKey, IsSaid, resv_key};
+ghost use Rattle.settle_resvs.specs.Said.{HopKey, IsSaid, hop_over, resv_key};
 
 use calm_rounds::Claim;
 use rsvp_base::Part;
@@ -32,12 +32,12 @@ pub fn only_resvs_as_claimed_are_kept<P: Claim<Part>>()
         → Hold (machine q) 5 rs w (λ u. KeepsOnly (machine q) (soft_resv q w k) P.holds u × SaysOnly (machine q) (soft_resv q w k) P.holds 0 u) }
 {}
 
-/// One hop settles, for a reservation: where from now on each Resv of a session and style that is sent over a hop carries a
-/// part for a unit, no such ResvTear takes a name of the part, what arrives is taken, the node that asks has something to ask
+/// One hop settles, for a reservation: where from now on each Resv of a session and style that is sent back over a hop of
+/// a tree carries a part for a unit, no such ResvTear takes a name of the part, what arrives is taken, the node that asks has something to ask
 /// for, and the node that keeps knows the senders of the part, two calm rounds on the reservation there is the part, and stays
 /// so.
 pub fn said_resvs_are_kept()
-    ensures { (q : ℕ) (w : World) (k : HopKey) (v : Part) → In k.to (peers w.net.links k.from) → (rs : List (List Step)) → Rounds (machine q) rs w → AreBounds q w
+    ensures { (q : ℕ) (w : World) (k : HopKey) (v : Part) → In (hop_over k) (hops_of w.net.hops k.session.group) → (rs : List (List Step)) → Rounds (machine q) rs w → AreBounds q w
         → Hold (machine q) 0 rs w (IsSaid q w.net k v w.made) → Hold (machine q) 2 rs w (Stands (machine q) (soft_resv q w (resv_key w.net k)) v) }
 {}
 

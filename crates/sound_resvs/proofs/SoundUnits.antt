@@ -33,9 +33,7 @@ use Rattle.settle_resvs.proofs.NetworkSteps.Known.{known_hold}
 use Rattle.settle_resvs.proofs.NetworkSteps.Standing.{some_at, same_end}
 use Rattle.node_goals.proofs.SoundPaths.{paths_are_sound}
 use Rattle.tree_model.proofs.Ifaces.{interfaces_are_ends}
-use Rattle.tree_model.proofs.Links.{hop_linked, of_own_link, among_in, in_among}
-use Rattle.rsvp_base.proofs.Members.{in_filter, to_filter}
-use Rattle.tree_model.specs.Networks.{link_of}
+use Rattle.tree_model.proofs.Links.{hop_linked, peers_both}
 use Rattle.node_goals.proofs.PreviousHops.{ahead, ends_there}
 use Rattle.sound_resvs.proofs.ResvSends.{IsResvSent}
 use Rattle.settle_resvs.specs.SoftResvs.{ResvKey, AsksFor}
@@ -70,24 +68,6 @@ unit_sound q o valid u firm level y m v i spelt asks own = by v.names refl
 -- ---- each Resv goes to the end whose address it is sent to
 abbrev pub IsAddressed : ℕ → World → Type 0
 IsAddressed n u = (y : Item) (m : ResvMsg) → In y u.flight → n ≤ y.born → y.arrival ≡ Spelt (message.Resv m) → y.dst ≡ addr_of u.net y.end
-
--- two ends of a link are each a peer of the other
-same_no : (a b : ℕ) → not (b == a) ≡ true → not (a == b) ≡ true
-same_no a b h = by (a == b) refl
-  where
-    by : (x : Bool) → (a == b) ≡ x → not x ≡ true
-    by false e = refl
-    by true e =
-        let same : a ≡ b = same_number a b e in
-        let yes : (b == a) ≡ true = number_same b a (sym same) in
-        let no : false ≡ true = ap not (sym yes) ∙ h in absurd (cc)
-
-pub peers_both : (net : Net) → IsValid net → (a b : ℕ) → In b (peers net.links a) → In a (peers net.links b)
-peers_both net valid a b i =
-    let f = in_filter (λ x. not (x == a)) b (link_of net.links a) i in
-    let own = among_in a (link_of net.links a) (of_own_link net.links a b f.0) in
-    let same = valid.one_link a b (in_among b (link_of net.links a) f.0) in
-    to_filter (λ x. not (x == b)) a (link_of net.links b) (subst (λ (l : List ℕ). In a l) (sym same) own) (same_no a b f.1)
 
 module _ (q : ℕ) (o : World) (valid : IsValid o.net) where
   not_group : (u : World) → IsFirm q o u → (e : ℕ) → e < length u.net.ends → is_group (addr_of u.net e) ≡ false

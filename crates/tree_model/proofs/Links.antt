@@ -3,13 +3,13 @@ use Rattle.std.specs.Prelude.{◌≡◌, ℕ, Bool, true, false, not, ◌||◌, 
 use Rattle.std.proofs.Common.{sym, ap, subst, ◌∙◌, inl, inr}
 use Rattle.rsvp_base.specs.Members.{In}
 use Rattle.rsvp_base.specs.declared.addr.Addr.{Addr}
-use Rattle.rsvp_base.proofs.Members.{in_filter, in_any, any_in, all_in, in_left, in_right}
+use Rattle.rsvp_base.proofs.Members.{in_filter, to_filter, in_any, any_in, all_in, in_left, in_right}
 use Rattle.tree_model.specs.declared.hops.LinkHop.{LinkHop}
 use Rattle.tree_model.specs.Networks.{Net, node_of, among, link_of, peers}
-use Rattle.tree_model.specs.Trees.{tree, is_linked, sends_alone, IsGrownFrom, inward, outward}
+use Rattle.tree_model.specs.Trees.{hops_of, tree, is_linked, sends_alone, IsGrownFrom, inward, outward}
 use Rattle.tree_model.specs.Valid.{IsValid}
 use Rattle.tree_model.specs.Laws.{OneSendingEndOnALink}
-use Rattle.tree_model.proofs.Following.{same_number, number_same}
+use Rattle.tree_model.proofs.Following.{in_group, number_same, same_number, to_tree}
 use Rattle.tree_model.proofs.TreeLaws.{out_told, way_in_told}
 
 pub among_in : (e : ℕ) (es : List ℕ) → among e es ≡ true → In e es
@@ -92,3 +92,28 @@ module _ (net : Net) (valid : IsValid net) where
 
 pub one_sending_end_on_a_link : (net : Net) → IsValid net → OneSendingEndOnALink net
 one_sending_end_on_a_link net valid = record { hop = hop net valid; alone = alone net valid; linked = hop_linked net valid }
+
+-- ---- two ends of a link are each a peer of the other
+same_no : (a b : ℕ) → not (b == a) ≡ true → not (a == b) ≡ true
+same_no a b h = by (a == b) refl
+  where
+    by : (x : Bool) → (a == b) ≡ x → not x ≡ true
+    by false e = refl
+    by true e =
+        let same : a ≡ b = same_number a b e in
+        let yes : (b == a) ≡ true = number_same b a (sym same) in
+        let no : false ≡ true = ap not (sym yes) ∙ h in absurd (cc)
+
+pub peers_both : (net : Net) → IsValid net → (a b : ℕ) → In b (peers net.links a) → In a (peers net.links b)
+peers_both net valid a b i =
+    let f = in_filter (λ x. not (x == a)) b (link_of net.links a) i in
+    let own = among_in a (link_of net.links a) (of_own_link net.links a b f.0) in
+    let same = valid.one_link a b (in_among b (link_of net.links a) f.0) in
+    to_filter (λ x. not (x == b)) a (link_of net.links b) (subst (λ (l : List ℕ). In a l) (sym same) own) (same_no a b f.1)
+
+-- the two ends of a hop of a group are on one link
+pub back_linked : (net : Net) → IsValid net → (g : Addr) (h : LinkHop) → In h (hops_of net.hops g) → In h.from (peers net.links h.to)
+back_linked net valid g h i =
+    let r = in_group net.hops g h i in
+    let there : In h (tree net.hops r.0.group r.0.source) = subst (λ (z : LinkHop). In z (tree net.hops r.0.group r.0.source)) r.3 (to_tree net.hops r.0 r.1) in
+    peers_both net valid h.from h.to (hop_linked net valid r.0.group r.0.source h there)
