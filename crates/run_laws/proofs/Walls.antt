@@ -96,19 +96,22 @@ first_named names x e = by names.rows refl e
         ap is_some (ap (get names) (sym same) ∙ in_found senders names y.0 y.1 (subst (λ (z : List (Sender × Unit {0})). In y z) (sym is) (inl refl)))
 
 pub what_goes_on_is_below : WhatGoesOnIsBelow
-what_goes_on_is_below p f l u r free = (t, record {
-  goes = goes;
-  join = sym goes ∙ toward_join l.style (requests p f l) u r free.request free.unmarked;
-  each = λ x k b open speaks there. request_below p f l x k b open.request.among open.unmarked speaks there;
-  wild = λ b style there.
-      unit_below p f l u r t (l.session, target.Hop l.hop.0 l.hop.1) b free goes there
-      (λ x h. subst (λ (st : StyleKind). SpeaksOf l st x.part (l.session, target.Hop l.hop.0 l.hop.1)) (sym style) refl);
-  fixed = λ x b style unit there.
-      unit_below p f l u r t (l.session, target.Sender x) b free goes there
-      (λ y h.
-      let named : Of x ≡ unit_of_first Fixed (keys y.part.senders) = sym unit ∙ h.request.unit ∙ ap (λ (st : StyleKind). unit_of_first st (keys y.part.senders)) style in
-      subst (λ (st : StyleKind). SpeaksOf l st y.part (l.session, target.Sender x)) (sym style) (x, first_named y.part.senders x named, refl));
-})
+what_goes_on_is_below p f l u r free = (
+  t,
+  record {
+    goes = goes;
+    join = sym goes ∙ toward_join l.style (requests p f l) u r free.request free.unmarked;
+    each = λ x k b free speaks there. request_below p f l x k b free.request.among free.unmarked speaks there;
+    wild = λ b style there.
+        unit_below p f l u r t (l.session, target.Hop l.hop.0 l.hop.1) b free goes there
+        (λ x h. subst (λ (st : StyleKind). SpeaksOf l st x.part (l.session, target.Hop l.hop.0 l.hop.1)) (sym style) refl);
+    fixed = λ x b style unit there.
+        unit_below p f l u r t (l.session, target.Sender x) b free goes there
+        (λ y h.
+        let named : Of x ≡ unit_of_first Fixed (keys y.part.senders) = sym unit ∙ h.request.unit ∙ ap (λ (st : StyleKind). unit_of_first st (keys y.part.senders)) style in
+        subst (λ (st : StyleKind). SpeaksOf l st y.part (l.session, target.Sender x)) (sym style) (x, first_named y.part.senders x named, refl));
+  },
+)
   where
     t : Part
     t = (goes_on p f l u r free).0
