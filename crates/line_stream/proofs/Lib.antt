@@ -3,3 +3,7 @@ pub mod Counting
 pub mod Cutting
 pub mod Fronts
 pub mod Keeping
+pub mod Feeds
+pub mod Behind
+pub mod Places
+pub mod Known

@@ -1,5 +1,5 @@
 //! A reader of lines.
-ghost use Rattle.std.specs.Prelude.{◌≡◌, ◌≢◌, ◌⊎◌, ◌≤◌, ◌<◌, ◌+◌, ◌==◌, ◌++◌, ◌∷◌, [], List, ℕ, length, position, None, Some, IfOk, OnErr, drop, vec_len, vec_capacity};
+ghost use Rattle.std.specs.Prelude.{◌≡◌, ◌≢◌, ◌⊎◌, ◌≤◌, ◌<◌, ◌+◌, ◌==◌, ◌++◌, ◌∷◌, [], List, ℕ, length, position, None, Some, is_some, IfOk, OnErr, drop, vec_len, vec_capacity};
 ghost use Rattle.std.specs.Io.KnownBytes.{Consumes, IsAtEnd, Keeps, prepend_known};
 ghost use Rattle.byte_streams.specs.Faults.{Rose};
 ghost use Rattle.byte_streams.specs.Reading.{most_bytes};
@@ -87,6 +87,13 @@ impl LineReader {
         ensures { result ≡ self.now.number }
     {
         self.number
+    }
+
+    /// Whether a line feed is among the bytes that were taken and not given: `next` then asks the source for nothing.
+    pub fn has_line(&self) -> bool
+        ensures { result ≡ is_some (position (λ c. c == 10) self.now.bytes) }
+    {
+        find(behind(&self.kept, self.at)).is_some()
     }
 
     /// The next line of what is left of the source, which then stands in `line`. The source is asked only where no whole

@@ -2,7 +2,7 @@
 use Rattle.std.specs.Prelude.{◌≡◌, ◌<◌, ◌≤◌, List}
 use Rattle.std.proofs.Common.{arith, refl}
 use Rattle.rsvp_base.specs.TokenBucket.{TokenBucket}
-use Rattle.load_policer.specs.Policing.{IsVerdict, OneVerdict, Packet}
+use Rattle.load_policer.specs.Policing.{IsVerdict, Packet}
 use Rattle.load_policer.specs.declared.policer.Verdict.{Verdict}
 use Rattle.load_policer.specs.declared.policer.Verdict.TheVariants.{Pass, Over, Big}
 

@@ -1,0 +1,7 @@
+pub mod Reading
+pub mod Leading
+pub mod Counting
+pub mod Fed
+pub mod Finishing
+pub mod Ended
+pub mod Coming

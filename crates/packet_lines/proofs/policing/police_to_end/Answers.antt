@@ -1,0 +1,211 @@
+use Rattle.std.proofs.Common.{◌≢◌, List, ℕ, refl, ap, subst, arith, inl, inr}
+use Rattle.line_stream.specs.Streams.{Held}
+use Rattle.line_stream.specs.declared.answer.NextLine.TheVariants.{Line, Long, End, Fault, TooLong}
+use Rattle.line_stream.proofs.Behind.{end_came, fault_came, goes_down, line_came, long_came, many_came}
+use Rattle.packet_lines.specs.Advice.{IsAdvice}
+use Rattle.packet_lines.specs.Drafts.{Draft, HasFault}
+use Rattle.packet_lines.specs.Finishing.{Finishes, IsToldAt}
+use Rattle.packet_lines.specs.Standings.{IsAdded, Stands}
+use Rattle.packet_lines.specs.declared.ending.Ending.TheVariants.{BadLine}
+use Rattle.packet_lines.proofs.Ended.{at_start, ended_at_once, ended_bad, ended_done, ended_fault, ended_here, ended_long, ended_many, flushed, one_more, told_bad, told_long}
+use Rattle.packet_lines.proofs.policing.police_to_end.Goals as goal
+
+pub returns-in-Err-clause-policed : goal.returns-in-Err-clause-policed
+returns-in-Err-clause-policed g c = ended_at_once (g.S.Source.left c.args.source.now) (g.K.Sink.holds c.args.sink.now)
+
+pub returns-in-Err-room-clause-policed : goal.returns-in-Err-room-clause-policed
+returns-in-Err-room-clause-policed g c = ended_at_once (g.S.Source.left c.args.source.now) (g.K.Sink.holds c.args.sink.now)
+
+pub loop-advice-init : goal.loop-advice-init
+loop-advice-init g c = record {
+  policed = at_start (g.S.Source.left c.args.source.now) (g.K.Sink.holds c.args.sink.now) c.in-Ok.reader c.new.result c.in-Ok-room.out.items c.in-Ok.ensures c.new.ensures c.in-Ok-room.ensures.items;
+  within = omega (arith, ap (λ (h : Held). h.taken) c.in-Ok.ensures);
+  room = c.in-Ok-room.ensures.room;
+  read = omega arith;
+  written = omega arith;
+  quiet = c.clear.ensures.items;
+}
+
+pub returns-in-Err-write_waiting-clause-policed : goal.returns-in-Err-write_waiting-clause-policed
+returns-in-Err-write_waiting-clause-policed g c =
+    let old = g.S.Source.left c.args.source.now in
+    let mid = g.S.Source.left c.loop-advice.source in
+    let first = g.K.Sink.holds c.args.sink.now in
+    let holds = g.K.Sink.holds c.loop-advice.sink in
+    let err = c.in-Err-write_waiting.ensures.err in
+    ended_here old mid first holds c.loop-advice.reader c.loop-advice.standing c.loop-advice.out.items c.loop-advice.invariant.policed (g.K.Sink.holds c.write_waiting.new.sink) c.loop-advice.invariant.within err.0 err.1
+
+pub returns-in-Long-clause-policed : goal.returns-in-Long-clause-policed
+returns-in-Long-clause-policed g c =
+    let old = g.S.Source.left c.args.source.now in
+    let mid = g.S.Source.left c.loop-advice.source in
+    let new = g.S.Source.left c.next.new.source in
+    let first = g.K.Sink.holds c.args.sink.now in
+    let holds = g.K.Sink.holds c.loop-advice.sink in
+    let held = g.K.Sink.holds c.write_waiting.new.sink in
+    let r = c.loop-advice.reader in
+    let now = c.next.new.self in
+    let s = c.loop-advice.standing in
+    let waits = c.write_waiting.new.out.items in
+    let p = flushed old mid first holds r s c.loop-advice.out.items c.loop-advice.invariant.policed held waits c.in-Ok-write_waiting.ensures.ok in
+    let e = c.in-Long.ensures in
+    let fine : Long ≢ TooLong = λ x. cc in
+    let l = long_came old mid new r now p.before p.taken p.behind (λ n. (e.again n).0) e.cut e.few (λ n. e.number n (inr refl)) in
+    ended_long old mid first held r s waits p new (g.K.Sink.holds c.end_long.new.sink) now l (e.within fine) c.number.result c.number.ensures c.end_long.result c.end_long.ensures.ended
+
+pub returns-in-Long-clause-advised : goal.returns-in-Long-clause-advised
+returns-in-Long-clause-advised g c = λ bytes known.
+    let old = g.S.Source.left c.args.source.now in
+    let mid = g.S.Source.left c.loop-advice.source in
+    let new = g.S.Source.left c.next.new.source in
+    let first = g.K.Sink.holds c.args.sink.now in
+    let holds = g.K.Sink.holds c.loop-advice.sink in
+    let held = g.K.Sink.holds c.write_waiting.new.sink in
+    let r = c.loop-advice.reader in
+    let now = c.next.new.self in
+    let s = c.loop-advice.standing in
+    let waits = c.write_waiting.new.out.items in
+    let p = flushed old mid first holds r s c.loop-advice.out.items c.loop-advice.invariant.policed held waits c.in-Ok-write_waiting.ensures.ok in
+    let e = c.in-Long.ensures in
+    let l = long_came old mid new r now p.before p.taken p.behind (λ n. (e.again n).0) e.cut e.few (λ n. e.number n (inr refl)) in
+    told_long old mid first held r s waits p new (g.K.Sink.holds c.end_long.new.sink) now bytes c.end_long.new.advice.items known l c.number.result c.number.ensures c.end_long.result c.end_long.ensures.ended c.end_long.ensures.advised
+
+pub returns-in-End-clause-policed : goal.returns-in-End-clause-policed
+returns-in-End-clause-policed g c =
+    let old = g.S.Source.left c.args.source.now in
+    let mid = g.S.Source.left c.loop-advice.source in
+    let new = g.S.Source.left c.next.new.source in
+    let first = g.K.Sink.holds c.args.sink.now in
+    let holds = g.K.Sink.holds c.loop-advice.sink in
+    let held = g.K.Sink.holds c.write_waiting.new.sink in
+    let r = c.loop-advice.reader in
+    let now = c.next.new.self in
+    let s = c.loop-advice.standing in
+    let waits = c.write_waiting.new.out.items in
+    let p = flushed old mid first holds r s c.loop-advice.out.items c.loop-advice.invariant.policed held waits c.in-Ok-write_waiting.ensures.ok in
+    let e = c.in-End.ensures in
+    let fine : End ≢ TooLong = λ x. cc in
+    let l = end_came old mid new r now p.before p.taken p.behind (λ n. (let a = e.again n in (a.0, a.1, ap (λ s. g.S.Source.left s) a.2))) e.cut (λ n. (e.end refl n).1) in
+    ended_done old mid first held r s waits p new (g.K.Sink.holds c.end.new.sink) now l (e.within fine) c.put_counts.new.out.items c.put_counts.ensures c.end.result c.end.ensures.ended
+
+pub returns-in-Fault-clause-policed : goal.returns-in-Fault-clause-policed
+returns-in-Fault-clause-policed g c =
+    let old = g.S.Source.left c.args.source.now in
+    let mid = g.S.Source.left c.loop-advice.source in
+    let new = g.S.Source.left c.next.new.source in
+    let first = g.K.Sink.holds c.args.sink.now in
+    let holds = g.K.Sink.holds c.loop-advice.sink in
+    let held = g.K.Sink.holds c.write_waiting.new.sink in
+    let r = c.loop-advice.reader in
+    let now = c.next.new.self in
+    let s = c.loop-advice.standing in
+    let waits = c.write_waiting.new.out.items in
+    let p = flushed old mid first holds r s c.loop-advice.out.items c.loop-advice.invariant.policed held waits c.in-Ok-write_waiting.ensures.ok in
+    let e = c.in-Fault.ensures in
+    let fine : Fault ≢ TooLong = λ x. cc in
+    let l = fault_came old mid new r now p.before p.taken p.behind (λ n. (e.again n).0) e.cut in
+    ended_fault old mid first held r s waits p new (g.K.Sink.holds c.end-in-Fault.new.sink) now l (e.within fine) c.end-in-Fault.result c.end-in-Fault.ensures.ended
+
+pub returns-in-TooLong-clause-policed : goal.returns-in-TooLong-clause-policed
+returns-in-TooLong-clause-policed g c =
+    let old = g.S.Source.left c.args.source.now in
+    let mid = g.S.Source.left c.loop-advice.source in
+    let new = g.S.Source.left c.next.new.source in
+    let first = g.K.Sink.holds c.args.sink.now in
+    let holds = g.K.Sink.holds c.loop-advice.sink in
+    let held = g.K.Sink.holds c.write_waiting.new.sink in
+    let r = c.loop-advice.reader in
+    let now = c.next.new.self in
+    let s = c.loop-advice.standing in
+    let waits = c.write_waiting.new.out.items in
+    let p = flushed old mid first holds r s c.loop-advice.out.items c.loop-advice.invariant.policed held waits c.in-Ok-write_waiting.ensures.ok in
+    let e = c.in-TooLong.ensures in
+    let l = many_came old mid new r now p.before p.taken p.behind (λ n. (e.again n).0) e.cut (e.too_long refl) in
+    ended_many old mid first held r s waits p new (g.K.Sink.holds c.end-in-TooLong.new.sink) now l (e.too_long refl) c.end-in-TooLong.result c.end-in-TooLong.ensures.ended
+
+pub returns-in-Err-add-clause-policed : goal.returns-in-Err-add-clause-policed
+returns-in-Err-add-clause-policed g c =
+    let old = g.S.Source.left c.args.source.now in
+    let mid = g.S.Source.left c.loop-advice.source in
+    let new = g.S.Source.left c.next.new.source in
+    let first = g.K.Sink.holds c.args.sink.now in
+    let holds = g.K.Sink.holds c.loop-advice.sink in
+    let held = g.K.Sink.holds c.write_waiting.new.sink in
+    let r = c.loop-advice.reader in
+    let now = c.next.new.self in
+    let s = c.loop-advice.standing in
+    let waits = c.write_waiting.new.out.items in
+    let p = flushed old mid first holds r s c.loop-advice.out.items c.loop-advice.invariant.policed held waits c.in-Ok-write_waiting.ensures.ok in
+    let e = c.in-Line.ensures in
+    let fine : Line ≢ TooLong = λ x. cc in
+    let l = line_came old mid new r now p.before p.taken p.behind (λ n. (e.again n).0) e.cut (e.near refl) (λ n. e.number n (inl refl)) (e.last refl) in
+    let fed = c.in-Err-add.ensures.fed p.draft p.stands in
+    let bad = subst (λ (t : List ℕ). HasFault p.draft t c.in-Err-add.why) c.line.ensures.line fed.0 in
+    ended_bad old mid first held r s waits p new (g.K.Sink.holds c.end_bad.new.sink) now l (e.within fine) c.number-in-Err-add.result c.in-Err-add.why c.number-in-Err-add.ensures bad c.end_bad.result
+    (subst (λ (t : List ℕ). Finishes (BadLine c.number-in-Err-add.result c.in-Err-add.why) c.end_bad.result held (g.K.Sink.holds c.end_bad.new.sink) t) fed.2 c.end_bad.ensures.ended)
+
+pub returns-in-Err-add-clause-advised : goal.returns-in-Err-add-clause-advised
+returns-in-Err-add-clause-advised g c = λ bytes known.
+    let old = g.S.Source.left c.args.source.now in
+    let mid = g.S.Source.left c.loop-advice.source in
+    let new = g.S.Source.left c.next.new.source in
+    let first = g.K.Sink.holds c.args.sink.now in
+    let holds = g.K.Sink.holds c.loop-advice.sink in
+    let held = g.K.Sink.holds c.write_waiting.new.sink in
+    let r = c.loop-advice.reader in
+    let now = c.next.new.self in
+    let s = c.loop-advice.standing in
+    let waits = c.write_waiting.new.out.items in
+    let p = flushed old mid first holds r s c.loop-advice.out.items c.loop-advice.invariant.policed held waits c.in-Ok-write_waiting.ensures.ok in
+    let e = c.in-Line.ensures in
+    let fine : Line ≢ TooLong = λ x. cc in
+    let l = line_came old mid new r now p.before p.taken p.behind (λ n. (e.again n).0) e.cut (e.near refl) (λ n. e.number n (inl refl)) (e.last refl) in
+    let fed = c.in-Err-add.ensures.fed p.draft p.stands in
+    let bad = subst (λ (t : List ℕ). HasFault p.draft t c.in-Err-add.why) c.line.ensures.line fed.0 in
+    let told = subst (λ (t : List ℕ). IsToldAt (λ u. (d : Draft) → Stands c.add.new.self d → IsAdvice d t c.in-Err-add.why u) c.end_bad.result c.end_bad.new.advice.items) c.line-in-Err-add.ensures.line c.end_bad.ensures.advised in
+    told_bad old mid first held r s waits p new (g.K.Sink.holds c.end_bad.new.sink) now bytes c.end_bad.new.advice.items known l c.number-in-Err-add.result c.in-Err-add.why c.number-in-Err-add.ensures bad c.add.new.self fed.1 c.end_bad.result
+    (subst (λ (t : List ℕ). Finishes (BadLine c.number-in-Err-add.result c.in-Err-add.why) c.end_bad.result held (g.K.Sink.holds c.end_bad.new.sink) t) fed.2 c.end_bad.ensures.ended) told
+
+pub loop-advice-smaller : goal.loop-advice-smaller
+loop-advice-smaller g c =
+    let old = g.S.Source.left c.args.source.now in
+    let mid = g.S.Source.left c.loop-advice.source in
+    let new = g.S.Source.left c.next.new.source in
+    let first = g.K.Sink.holds c.args.sink.now in
+    let holds = g.K.Sink.holds c.loop-advice.sink in
+    let held = g.K.Sink.holds c.write_waiting.new.sink in
+    let r = c.loop-advice.reader in
+    let now = c.next.new.self in
+    let s = c.loop-advice.standing in
+    let waits = c.write_waiting.new.out.items in
+    let p = flushed old mid first holds r s c.loop-advice.out.items c.loop-advice.invariant.policed held waits c.in-Ok-write_waiting.ensures.ok in
+    let e = c.in-Line.ensures in
+    let fine : Line ≢ TooLong = λ x. cc in
+    goes_down old mid new r now p.before p.taken p.behind (λ n. (e.again n).0) e.cut (e.within fine)
+
+pub loop-advice-preserved : goal.loop-advice-preserved
+loop-advice-preserved g c =
+    let old = g.S.Source.left c.args.source.now in
+    let mid = g.S.Source.left c.loop-advice.source in
+    let new = g.S.Source.left c.next.new.source in
+    let first = g.K.Sink.holds c.args.sink.now in
+    let holds = g.K.Sink.holds c.loop-advice.sink in
+    let held = g.K.Sink.holds c.write_waiting.new.sink in
+    let r = c.loop-advice.reader in
+    let now = c.next.new.self in
+    let s = c.loop-advice.standing in
+    let waits = c.write_waiting.new.out.items in
+    let p = flushed old mid first holds r s c.loop-advice.out.items c.loop-advice.invariant.policed held waits c.in-Ok-write_waiting.ensures.ok in
+    let e = c.in-Line.ensures in
+    let fine : Line ≢ TooLong = λ x. cc in
+    let l = line_came old mid new r now p.before p.taken p.behind (λ n. (e.again n).0) e.cut (e.near refl) (λ n. e.number n (inl refl)) (e.last refl) in
+    let fed = c.in-Ok-add.ensures.fed p.draft p.stands in
+    let on = subst (λ (t : List ℕ). IsAdded p.draft t c.add.new.self waits c.add.new.out.items) c.line.ensures.line fed in
+    record {
+      policed = one_more old mid first held r s waits p new held now l c.add.new.self c.add.new.out.items on;
+      within = e.within fine;
+      room = omega (arith, c.add.ensures.capacity, c.in-Ok-write_waiting.ensures.room.1);
+      read = omega (arith, c.loop-advice.invariant.read, c.next.ensures.later);
+      written = omega (arith, c.loop-advice.invariant.written, c.write_waiting.ensures.cause.later);
+      quiet = c.loop-advice.invariant.quiet;
+    }

@@ -1,0 +1,21 @@
+use Rattle.std.proofs.Common.{◌≡◌, ◌-◌, ◌≤◌, [], length}
+use Rattle.std.specs.Vec.{vec_capacity}
+use Rattle.byte_streams.specs.Reading.{most_bytes}
+use Rattle.packet_lines.proofs.Ended.{Progress}
+use Rattle.packet_lines.proofs.policing.police_to_end.Given as goal
+
+-- the lines up to here were policed, and what was told of their packets was written, or waits
+abbrev pub invariant-loop-advice : goal.invariant-loop-advice
+invariant-loop-advice g l =
+    record {
+      policed : Progress (g.S.Source.left l.initial.source) (g.S.Source.left l.source) (g.K.Sink.holds l.initial.sink) (g.K.Sink.holds l.sink) l.reader l.standing l.out.items;
+      within : l.reader.taken ≤ most_bytes;
+      room : 4096 ≤ vec_capacity l.out;
+      read : g.S.Source.faults l.initial.source ≤ g.S.Source.faults l.source;
+      written : g.K.Sink.faults l.initial.sink ≤ g.K.Sink.faults l.sink;
+      quiet : l.advice.items ≡ [];
+    }
+
+-- each turn gives a byte at least of those that an input may have
+abbrev pub decreases-loop-advice : goal.decreases-loop-advice
+decreases-loop-advice g l = most_bytes - (l.reader.taken - length l.reader.bytes)

@@ -1,0 +1,17 @@
+-- The claims of the public laws.
+use Rattle.std.specs.Prelude.{◌≡◌, List, ℕ}
+use Rattle.script_words.specs.declared.fault.LineWhy.{LineWhy}
+use Rattle.packet_lines.specs.Drafts.{Draft, Follows, HasFault}
+use Rattle.packet_lines.specs.Endings.{ComesTo}
+use Rattle.packet_lines.specs.declared.ending.Ending.{Ending}
+
+-- over the same bytes, policing that ends neither by a fault of a device nor out of memory comes to one ending and one text
+abbrev pub OneEnding : Type 0
+OneEnding = (bytes x y : List ℕ) (a b : Ending) → ComesTo a bytes x → ComesTo b bytes y → (a ≡ b) × (x ≡ y)
+
+-- a bad line has one fault, and follows nothing
+abbrev pub OneFault : Type 0
+OneFault = (d : Draft) (line : List ℕ) (v w : LineWhy) → HasFault d line v → HasFault d line w → v ≡ w
+
+abbrev pub BadLinesDoNotFollow : Type 0
+BadLinesDoNotFollow = (d : Draft) (line : List ℕ) (why : LineWhy) (new : Draft) → HasFault d line why → Follows d line new → ⊥

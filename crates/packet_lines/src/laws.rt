@@ -1,0 +1,20 @@
+//! Laws of policing a stream.
+ghost use Rattle.packet_lines.specs.Laws.{BadLinesDoNotFollow, OneEnding, OneFault};
+
+/// Over the same bytes, policing that ends neither by a fault of a device nor out of memory comes to one ending and one text.
+#[tactic(auto, using(crate::proofs::Coming::one_ending))]
+pub fn one_ending()
+    ensures { OneEnding }
+{}
+
+/// A line has one fault at most.
+#[tactic(auto, using(crate::proofs::Leading::fault_one))]
+pub fn one_fault()
+    ensures { OneFault }
+{}
+
+/// A line that has a fault follows nothing.
+#[tactic(auto, using(crate::proofs::Leading::fault_or_follows))]
+pub fn bad_lines_do_not_follow()
+    ensures { BadLinesDoNotFollow }
+{}
