@@ -4,6 +4,7 @@ use Rattle.std.specs.Prelude.{codes}
 use Rattle.std.specs.Fmt.{decimal}
 use Rattle.std.specs.Io.KnownBytes.{Appends}
 use Rattle.network_model.specs.Runs.{Plan, is_crowded_run}
+use Rattle.network_run.specs.Endings.{IsOrNoMemory as EndsOrNoMemory}
 use Rattle.network_run.specs.declared.ending.Ending.{Ending}
 use Rattle.network_run.specs.declared.ending.Ending.TheVariants as ending
 use Rattle.grown_network.specs.Grown.{grown_plan}
@@ -12,11 +13,13 @@ use Rattle.grown_summary.specs.Texts.{booked_line, counts_text, equal_line, netw
 use Rattle.grown_summary.specs.declared.summary.Summary.{Summary}
 use Rattle.seed_laws.proofs.Ending.{a_grown_run_is_its_demand}
 use Rattle.seed_laws.proofs.Equal.{a_grown_network_is_as_demanded}
-use Rattle.grown_player.specs.Endings.{IsGrownRun}
-use Rattle.grown_player.proofs.Ended.{out_of_memory}
-use Rattle.command_run.specs.Growing.{EndsAsDemanded, EndsInEqualYes, IsGrowth}
+use Rattle.grown_player.specs.Endings.{GrowsTo, IsGrownRun}
+use Rattle.command_run.specs.Commands.{Grown}
+use Rattle.command_run.specs.Growing.{EndsAsDemanded, EndsInEqualYes}
+use Rattle.command_run.specs.Ran.{Device, HasFailed}
 use Rattle.command_run.specs.Statuses.{status_of}
-use Rattle.command_run.specs.declared.status.Status.TheVariants.{Done, NoMemory, ReadFault}
+use Rattle.command_run.specs.declared.status.Status.TheVariants.{Done, ReadFault}
+use Rattle.command_run.proofs.Answering.{or_no_memory}
 
 pub never_reads : (stands : Plan → Type 0) (e : Ending) (seed : ℕ) (before after : Option (List ℕ)) → IsGrownRun stands e seed before after → status_of e ≡ ReadFault → ⊥
 never_reads stands ending.Done seed before after run is = cc
@@ -26,10 +29,6 @@ never_reads stands ending.WriteFault seed before after run is = cc
 never_reads stands ending.NoMemory seed before after run is = cc
 never_reads stands ending.Crowded seed before after run is = cc
 never_reads stands ending.TooLong seed before after run is = cc
-
--- memory ran out before anything was grown
-pub grown_nothing : (stands : Plan → Type 0) (seed : ℕ) (holds : Option (List ℕ)) → IsGrowth stands NoMemory seed holds holds
-grown_nothing stands seed holds = (ending.NoMemory, refl, out_of_memory stands seed holds)
 
 -- ---- done
 -- two pieces at the end are one
@@ -69,3 +68,12 @@ done_as_demanded stands ending.WriteFault seed before after is run = absurd (cc 
 done_as_demanded stands ending.NoMemory seed before after is run = absurd (cc is)
 done_as_demanded stands ending.Crowded seed before after is run = absurd (cc is)
 done_as_demanded stands ending.TooLong seed before after is run = absurd (cc is)
+
+-- ---- however it ended
+pub grown_so : (stands : Plan → Type 0) (e : Ending) (seed : ℕ) (sink : Device) → IsGrownRun stands e seed sink.old sink.new
+    → ((wanted : Ending) → GrowsTo wanted seed → (wanted ≡ ending.Done → HasFailed sink → ⊥) → EndsOrNoMemory wanted e) → Grown stands seed (status_of e) sink
+grown_so stands e seed sink run complete = record {
+  ending = (e, refl, run);
+  as_demanded = λ done. done_as_demanded stands e seed sink.old sink.new done run;
+  complete = λ wanted grows quiet. or_no_memory wanted e (complete wanted grows quiet);
+}

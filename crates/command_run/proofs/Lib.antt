@@ -1,8 +1,7 @@
-pub mod Keeps
 pub mod LastRounds
+pub mod Answering
 pub mod Replays
 pub mod Shows
 pub mod StatusTexts
-pub mod Nothing
-pub mod Advising
 pub mod Grown
+pub mod Nothing

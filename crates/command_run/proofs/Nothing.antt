@@ -1,13 +1,44 @@
--- Memory ran out before anything was read.
-use Rattle.std.proofs.Common.{ℕ, List, [], Option, refl, arith}
-use Rattle.std.proofs.KnownBytes.{Appends-nil, Consumes-nil}
-use Rattle.network_run.specs.declared.ending.Ending.TheVariants as ending
-use Rattle.command_run.specs.Demanding.{IsDemand}
-use Rattle.command_run.specs.Showing.{IsShowing}
+-- Memory ran out before the task of the words was known: whatever it is, nothing was done of it.
+use Rattle.std.proofs.Common.{ℕ, List, [], Option, None, Some, inr, refl, arith}
+use Rattle.std.proofs.KnownBytes.{Appends-nil, Consumes-nil, Keeps-refl}
+use Rattle.net_replay.specs.Following.{Seen}
+use Rattle.script_grammar.specs.Draft.{Draft, plan_of}
+use Rattle.network_run.specs.declared.ending.Ending.TheVariants as ends
+use Rattle.network_run.proofs.Ended.{ended_at_once}
+use Rattle.script_player.specs.Standing.{IsNetworkOf}
+use Rattle.grown_player.proofs.Ended.{out_of_memory}
+use Rattle.command_run.specs.Commands.{Does}
+use Rattle.command_run.specs.Ran.{Device, ran}
 use Rattle.command_run.specs.declared.status.Status.TheVariants.{NoMemory}
+use Rattle.command_run.specs.declared.task.Task.{Task}
+use Rattle.command_run.specs.declared.task.Task.TheVariants.{Replay, Demand, Show, Grow}
+use Rattle.command_run.proofs.Answering.{demanded_so}
+use Rattle.command_run.proofs.Grown.{grown_so}
+use Rattle.command_run.proofs.Replays.{replayed_so}
 
-pub demanded_nothing : (left holds : Option (List ℕ)) → IsDemand NoMemory left left holds holds
-demanded_nothing left holds = (ending.NoMemory, refl, record { taken = []; took = Consumes-nil left; counted = omega arith; wrote = record { text = []; wrote = Appends-nil holds; ended = refl } })
+-- a source or a sink of which nothing was taken, or to which nothing was written
+abbrev still : Option (List ℕ) → ℕ → Device
+still bytes faults = record { old = bytes; new = bytes; faults = faults; later_faults = faults }
 
-pub shown_nothing : (left holds : Option (List ℕ)) → IsShowing NoMemory left left holds holds
-shown_nothing left holds = (ending.NoMemory, refl, record { taken = []; took = Consumes-nil left; counted = omega arith; wrote = record { text = []; wrote = Appends-nil holds; ended = refl } })
+module _ {R : Type 0} (see : Seen R) where
+  pub did_nothing : (t : Option Task) (left holds : Option (List ℕ)) (n m : ℕ) → Does see t (ran NoMemory (still left n) (still holds m) []) None
+  did_nothing None left holds n m = record { usage = inr refl; unread = record { source = Keeps-refl left; advice = refl }; unwritten = Keeps-refl holds }
+  did_nothing (Some Replay) left holds n m =
+      let stands = λ (d : Draft). IsNetworkOf see None (plan_of d) in
+      replayed_so stands ends.NoMemory (still left n) (still holds m) [] (ended_at_once (λ (p : Unit {0}) (d : Draft). Unit {0}) stands left holds) (λ bytes known. refl)
+      (λ bytes text wanted known short comes calm quiet. inr refl)
+  did_nothing (Some Demand) left holds n m = (
+    demanded_so ends.NoMemory (still left n) (still holds m) [] (record { taken = []; took = Consumes-nil left; counted = omega arith; wrote = record { text = []; wrote = Appends-nil holds; ended = refl } })
+        (λ bytes known. refl) (λ bytes wanted known demands calm quiet. inr refl),
+    refl,
+  )
+  did_nothing (Some Show) left holds n m = (
+    record {
+      ending = (ends.NoMemory, refl, record { taken = []; took = Consumes-nil left; counted = omega arith; wrote = record { text = []; wrote = Appends-nil holds; ended = refl } });
+      advised = λ bytes known. refl;
+      complete = λ bytes wanted known shows calm quiet. inr refl;
+    },
+    refl,
+  )
+  did_nothing (Some (Grow seed)) left holds n m =
+      (grown_so (IsNetworkOf see None) ends.NoMemory seed (still holds m) (out_of_memory (IsNetworkOf see None) seed holds) (λ wanted grows quiet. inr refl), record { source = Keeps-refl left; advice = refl })

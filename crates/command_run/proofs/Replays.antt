@@ -1,12 +1,13 @@
--- What the laws of runs say of the plan of a script, and of a script that was replayed to its end.
-use Rattle.std.proofs.Common.{◌≡◌, ℕ, ◌+◌, ◌*◌, ◌≤◌, List, [], ◌∷◌, ◌++◌, Option, None, Some, false, refl, sym, ap, subst, ◌∙◌}
+-- What is promised of a replay, by how its run ended: of a script that was replayed to its end by the theorem.
+use Rattle.std.proofs.Common.{◌≡◌, ℕ, ◌+◌, ◌*◌, ◌≤◌, List, [], ◌∷◌, ◌++◌, Option, None, Some, length, false, refl, sym, ap, subst, ◌∙◌}
 use Rattle.std.specs.Prelude.{IfSome}
 use Rattle.std.specs.Io.KnownBytes.{Appends}
 use Rattle.std.proofs.lemmas.List.{append-nil}
+use Rattle.byte_streams.specs.Reading.{most_bytes}
 use Rattle.script_words.specs.Lines.{text_lines}
 use Rattle.tree_model.specs.Networks.{Net}
 use Rattle.tree_model.specs.Ranks.{longest}
-use Rattle.network_model.specs.Runs.{Plan, first_world, is_crowded_run, run_text, steps_of_run, text_of}
+use Rattle.network_model.specs.Runs.{first_world, is_crowded_run, run_text, steps_of_run, text_of}
 use Rattle.network_model.specs.Steps.{Report, Step, machine}
 use Rattle.network_model.specs.Worlds.{World}
 use Rattle.network_steps.proofs.Calming.{run_append}
@@ -14,39 +15,28 @@ use Rattle.script_grammar.specs.Draft.{Draft, nothing, plan_of, routing}
 use Rattle.script_grammar.specs.Grammar.{IsScript, Leads}
 use Rattle.script_grammar.proofs.Scripts.{one_script_law}
 use Rattle.script_laws.proofs.EventLines.{each_script_is_a_fit_run}
-use Rattle.script_laws.proofs.SenderLines.{each_script_lets_few_send}
+use Rattle.script_theorem.proofs.Safety.{scripts_are_safe, scripts_heal_themselves}
 use Rattle.seed_laws.proofs.ScriptStanding.Demands.{scripts_stand, the_last_report_is_the_demand}
 use Rattle.seed_laws.specs.SettleReports.Demands.{moment}
-use Rattle.seed_laws.proofs.SettleReports.Demands.{a_settled_report_is_the_demand}
-use Rattle.run_laws.specs.Books.{AreBooksWithinCapacity}
-use Rattle.run_laws.proofs.Books.{books_within}
-use Rattle.run_laws.proofs.Runs.{in_every_world}
-use Rattle.network_run.specs.Endings.{IsRun}
+use Rattle.network_run.specs.Advised.{IsAdvised as IsEndAdvised}
+use Rattle.network_run.specs.Endings.{ComesTo, IsOrNoMemory as EndsOrNoMemory, IsRun}
 use Rattle.network_run.specs.Written.{HasRun}
 use Rattle.network_run.specs.declared.ending.Ending.{Ending}
 use Rattle.network_run.specs.declared.ending.Ending.TheVariants as ending
-use Rattle.network_run.proofs.Ended.{ended_at_once}
 use Rattle.network_run.proofs.Spoken.{only_scripts_are_done}
 use Rattle.report_reading.proofs.Told.{tells_within}
-use Rattle.command_run.specs.Healing.{EndsInItsDemand, HealsItself, IsHealingRun, IsNeverOver, IsToldWithinCapacity, LastReportIsTheDemand, RoundsBringTheDemand}
-use Rattle.command_run.specs.Statuses.{IsReplay, status_of}
-use Rattle.command_run.proofs.Keeps.{refusals_change_nothing}
+use Rattle.command_run.specs.Commands.{IsSafeScript, Replayed}
+use Rattle.command_run.specs.Healing.{EndsInItsDemand, IsHealingRun, LastReportIsTheDemand, RoundsBringTheDemand}
+use Rattle.command_run.specs.Ran.{Device, HasFailed, ran}
+use Rattle.command_run.specs.Statuses.{status_of}
+use Rattle.command_run.proofs.Answering.{advised_so, or_no_memory}
 use Rattle.command_run.proofs.LastRounds.{before_report, settled, steps}
-use Rattle.command_run.specs.declared.status.Status.TheVariants.{Done, NoMemory}
-
-heals : (bytes : List ℕ) (p : Plan) → IsScript bytes p → is_crowded_run p ≡ false → HealsItself p
-heals bytes p is roomy =
-    let fit = each_script_is_a_fit_run bytes p is in
-    record {
-      reports = a_settled_report_is_the_demand p fit (each_script_lets_few_send bytes p is) roomy;
-      books = in_every_world AreBooksWithinCapacity books_within p fit;
-      refusals = refusals_change_nothing bytes p is;
-    }
+use Rattle.command_run.specs.declared.status.Status.TheVariants.{Done}
 
 -- whatever is left of a source
-pub never_over : (left : Option (List ℕ)) → IfSome left (λ bytes. (p : Plan) → IsScript bytes p → IsNeverOver p)
-never_over None = tt
-never_over (Some bytes) = λ p is. in_every_world AreBooksWithinCapacity books_within p (each_script_is_a_fit_run bytes p is)
+pub safe_script : (left : Option (List ℕ)) → IfSome left IsSafeScript
+safe_script None = tt
+safe_script (Some bytes) = scripts_are_safe bytes
 
 -- ---- done
 heals_done : (bytes text : List ℕ) (before after : Option (List ℕ)) → HasRun (text_lines bytes) text → Appends before after text → IsHealingRun bytes before after
@@ -57,7 +47,7 @@ heals_done bytes text before after ran wrote =
       script = run.script;
       roomy = run.roomy;
       wrote = subst (λ t. Appends before after t) run.text_is wrote;
-      heals = heals bytes run.plan run.script run.roomy;
+      heals = scripts_heal_themselves bytes run.plan run.script run.roomy;
     }
 
 done_heals : (stands : Draft → Type 0) (old new before after : Option (List ℕ)) → IsRun stands ending.Done old new before after → IfSome old (λ bytes. IsHealingRun bytes before after)
@@ -111,9 +101,17 @@ pub last_report : (left before after : Option (List ℕ)) → IfSome left (λ by
 last_report None before after run = tt
 last_report (Some bytes) before after run = λ d leads. ends_in_its_demand bytes before after run d leads
 
--- ---- memory ran out before anything was read
-pub replayed_nothing : (stands : Draft → Type 0) (left holds : Option (List ℕ)) → IsReplay stands NoMemory left left holds holds
-replayed_nothing stands left holds = (ending.NoMemory, refl, ended_at_once (λ (p : Unit {0}) (d : Draft). Unit {0}) stands left holds)
-
-pub told_nothing : (holds : Option (List ℕ)) → IsToldWithinCapacity holds holds
-told_nothing holds = tells_within (λ d. Unit {0}) ending.NoMemory None None holds holds (ended_at_once (λ (p : Unit {0}) (d : Draft). Unit {0}) (λ d. Unit {0}) None holds)
+-- ---- however it ended
+module _ (stands : Draft → Type 0) (e : Ending) (source sink : Device) (advice : List ℕ) where
+  pub replayed_so : IsRun stands e source.old source.new sink.old sink.new → ((bytes : List ℕ) → source.old ≡ Some bytes → IsEndAdvised e bytes advice)
+      → ((bytes text : List ℕ) (wanted : Ending) → source.old ≡ Some bytes → length bytes ≤ most_bytes → ComesTo wanted bytes text
+      → (HasFailed source → ⊥) → (HasFailed sink → ⊥) → EndsOrNoMemory wanted e)
+      → Replayed stands (ran (status_of e) source sink advice)
+  replayed_so run advised complete = record {
+    ending = (e, refl, run);
+    advised = λ bytes known. advised_so e bytes advice (advised bytes known);
+    healed = λ done. healed_run stands e source.old source.new sink.old sink.new done run;
+    last_report = λ done. last_report source.old sink.old sink.new (healed_run stands e source.old source.new sink.old sink.new done run);
+    told = tells_within stands e source.old source.new sink.old sink.new run;
+    complete = λ bytes text wanted known short comes calm quiet. or_no_memory wanted e (complete bytes text wanted known short comes calm quiet);
+  }

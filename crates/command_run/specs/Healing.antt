@@ -1,43 +1,22 @@
--- What the laws of runs say of the plan of a script: it heals itself, and a report that comes last is the demand of the script.
+-- What a replay wrote, by the theorem: the text of a run that heals itself, in which a report that comes last is the demand of the script.
 use Rattle.std.specs.Prelude.{◌≡◌, ℕ, ◌+◌, ◌*◌, ◌≤◌, false, List, [], ◌∷◌, ◌++◌, Option}
 use Rattle.std.specs.Io.KnownBytes.{Appends}
-use Rattle.calm_rounds.specs.Hold.{Visited}
 use Rattle.tree_model.specs.Goals.{DemandsFit}
 use Rattle.tree_model.specs.Ranks.{longest}
 use Rattle.network_model.specs.Bounds.{IsSettled}
 use Rattle.network_model.specs.Events.{Event, Reports, Rounds}
-use Rattle.network_model.specs.Locals.{locals_of}
 use Rattle.network_model.specs.Runs.{Plan, first_world, is_crowded_run, run_text, steps_of_run, text_of}
-use Rattle.network_model.specs.Steps.{Report, Step, machine}
+use Rattle.network_model.specs.Steps.{Report, Step}
 use Rattle.network_model.specs.DemandTexts.{demand_text}
 use Rattle.script_grammar.specs.Draft.{Draft, plan_of, routing}
 use Rattle.script_grammar.specs.Grammar.{IsScript}
-use Rattle.seed_laws.specs.SettleReports.Demands.{AppendsTheDemand, moment}
+use Rattle.script_theorem.specs.Theorem.{HealsItself}
 use Rattle.seed_laws.specs.SettleReports.Writing.{OnlyWrite}
-use Rattle.run_laws.specs.Books.{AreBooksWithinCapacity}
 use Rattle.report_reading.specs.Reading.{TellsWithinCapacity}
-use Rattle.command_run.specs.Keeping.{RefusalsChangeNothing}
 
--- self-stabilisation: each report at a settled moment, or behind steps that only write after one, where the demands of that moment
--- fit, appends the text of the demand
-abbrev pub SettlesToTheDemand : Plan → Type 0
-SettlesToTheDemand p =
-    (ss still : List Step) (e : Option ℕ) (ts : List Step) → steps_of_run p ≡ (ss ++ still) ++ Report e ∷ ts → IsSettled p.quarter (first_world p) ss → OnlyWrite still
-    → DemandsFit (moment p (ss ++ still)).net (locals_of (moment p (ss ++ still))) → AppendsTheDemand p (ss ++ still) e ts
-
--- safety: in the first world and in that after each step no book passes the capacity of its interface
-abbrev pub IsNeverOver : Plan → Type 0
-IsNeverOver p = Visited (machine p.quarter) AreBooksWithinCapacity (steps_of_run p) (first_world p)
-
--- and the text tells so: no whole line of what was appended says of an end that it holds more than its capacity
+-- no whole line of what was appended says of an end that it holds more than its capacity
 abbrev pub IsToldWithinCapacity : Option (List ℕ) → Option (List ℕ) → Type 0
 IsToldWithinCapacity before after = (text : List ℕ) × Appends before after text × TellsWithinCapacity text
-
--- a plan heals itself, and no refusal changes a reservation
-pub record HealsItself (p : Plan) : Type 0 where
-  pub reports : SettlesToTheDemand p
-  pub books : IsNeverOver p
-  pub refusals : RefusalsChangeNothing p
 
 -- the bytes are a script that is never crowded, its whole text was appended to what was there before, and it heals itself
 pub record IsHealingRun (bytes : List ℕ) (before after : Option (List ℕ)) : Type 0 where

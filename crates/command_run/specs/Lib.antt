@@ -1,9 +1,10 @@
 pub mod Tasks
 pub mod Statuses
+pub mod Ran
 pub mod Showing
 pub mod Demanding
 pub mod Growing
-pub mod Keeping
 pub mod Healing
 pub mod StatusTexts
 pub mod Advised
+pub mod Commands

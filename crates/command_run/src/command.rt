@@ -1,28 +1,10 @@
 //! The top call.
-ghost use Rattle.std.specs.Prelude.{◌≡◌, ◌≢◌, ◌≤◌, ℕ, List, Some, None, Err, length, map, string_bytes, IfSome, IfOk};
-ghost use Rattle.std.specs.Io.KnownBytes.{Keeps};
+ghost use Rattle.std.specs.Prelude.{◌≡◌, ◌≢◌, None, Some, Err, map, string_bytes, IfSome, IfOk};
 ghost use Rattle.byte_streams.specs.Faults.{Rose};
-ghost use Rattle.byte_streams.specs.Reading.{most_bytes};
-ghost use Rattle.network_run.specs.Endings.{ComesTo};
-ghost use Rattle.network_run.specs.declared.ending.Ending.{Ending as AnEnding};
-ghost use Rattle.network_run.specs.declared.ending.Ending.TheVariants as ending;
-ghost use Rattle.network_model.specs.Runs.{Plan};
-ghost use Rattle.script_grammar.specs.Draft.{Draft, nothing, plan_of};
-ghost use Rattle.script_grammar.specs.Grammar.{IsScript, Leads};
-ghost use Rattle.script_words.specs.Lines.{text_lines};
-ghost use Rattle.script_demand.specs.Demanding.{DemandsTo};
-ghost use Rattle.script_player.specs.Standing.{IsNetworkOf};
-ghost use Rattle.command_run.specs.Advised.{IsAdvised, IsShowAdvised};
-ghost use Rattle.grown_player.specs.Endings.{GrowsTo};
-ghost use Rattle.command_run.specs.Demanding.{IsDemand};
-ghost use Rattle.command_run.specs.Growing.{EndsAsDemanded, IsGrowth};
-ghost use Rattle.command_run.specs.Healing.{EndsInItsDemand, IsHealingRun, IsNeverOver, IsToldWithinCapacity};
-ghost use Rattle.command_run.specs.Keeping.{BlockadePromises, RefusalsChangeNothing};
-ghost use Rattle.command_run.specs.Showing.{IsShowing, ShowsTo};
-ghost use Rattle.command_run.specs.Statuses.{IsOrNoMemory, IsReplay, status_of};
+ghost use Rattle.script_grammar.specs.Draft.{nothing};
+ghost use Rattle.command_run.specs.Commands.{Does, IsSafeScript};
+ghost use Rattle.command_run.specs.Ran.{device, ran};
 ghost use Rattle.command_run.specs.Tasks.{task_of};
-ghost use Rattle.command_run.specs.declared.status.Status.{Status as AStatus};
-ghost use Rattle.command_run.specs.declared.task.Task.TheVariants as task;
 
 use crate::demanding::demand;
 use crate::growing::grow;
@@ -47,7 +29,7 @@ use std::alloc::Global;
 ///
 /// `Usage` comes first: the words are no command, and nothing is read or written. How a replay ends is said at `replay`, how the
 /// demand of a script ends at `demand`, how showing ends at `show_messages`, and how growing ends at `grow`.
-#[tactic(auto, using(crate::proofs::Replays::never_over, crate::proofs::Keeps::refusals_of, crate::proofs::Keeps::blockades_of, crate::proofs::Replays::replayed_nothing, crate::proofs::Replays::told_nothing, crate::proofs::Nothing::demanded_nothing, crate::proofs::Nothing::shown_nothing, crate::proofs::Grown::grown_nothing))]
+#[tactic(auto, using(crate::proofs::Replays::safe_script))]
 pub fn run_command<C: Asks + Drop, R: Opens, S: Source, K: Sink, W: Watch>(
     alloc: Global,
     words: &Vec<String>,
@@ -60,51 +42,17 @@ pub fn run_command<C: Asks + Drop, R: Opens, S: Source, K: Sink, W: Watch>(
 ) -> Status
     requires first { C.lines checker ≡ nothing }
     requires empty { last.old ≡ None }
+    // What the words order, a row a task.
+    ensures does { Does R.seen (task_of (map string_bytes words.now.items))
+        (ran result (device S.left S.faults source.old source.new) (device K.holds K.faults sink.old sink.new) advice.new.items) last.new }
+    // Whatever they order.
     ensures usage { result ≡ Status.Usage → task_of (map string_bytes words.now.items) ≡ None }
-    ensures no_task { task_of (map string_bytes words.now.items) ≡ None → IsOrNoMemory Status.Usage result }
-    ensures untouched { task_of (map string_bytes words.now.items) ≡ None → Keeps (S.left source.old) (S.left source.new) × Keeps (K.holds sink.old) (K.holds sink.new) }
-    ensures replayed { task_of (map string_bytes words.now.items) ≡ Some task.Replay
-        → IsReplay (λ d. IsNetworkOf R.seen last.new (plan_of d)) result (S.left source.old) (S.left source.new) (K.holds sink.old) (K.holds sink.new) }
-    ensures demanded { task_of (map string_bytes words.now.items) ≡ Some task.Demand → IsDemand result (S.left source.old) (S.left source.new) (K.holds sink.old) (K.holds sink.new) }
-    ensures shown { task_of (map string_bytes words.now.items) ≡ Some task.Show → IsShowing result (S.left source.old) (S.left source.new) (K.holds sink.old) (K.holds sink.new) }
-    ensures grown { (seed : ℕ) → task_of (map string_bytes words.now.items) ≡ Some (task.Grow seed) → IsGrowth (λ p. IsNetworkOf R.seen last.new p) result seed (K.holds sink.old) (K.holds sink.new) }
-    ensures unread { (seed : ℕ) → task_of (map string_bytes words.now.items) ≡ Some (task.Grow seed) → Keeps (S.left source.old) (S.left source.new) }
-    ensures empty { result ≢ Status.Done → last.new ≡ None }
-    ensures undemanded { task_of (map string_bytes words.now.items) ≡ Some task.Demand → last.new ≡ None }
-    ensures unshown { task_of (map string_bytes words.now.items) ≡ Some task.Show → last.new ≡ None }
-    // Over known input: what is wrong with the bad line is told.
-    ensures advised { task_of (map string_bytes words.now.items) ≢ Some task.Show → (bytes : List ℕ) → S.left source.old ≡ Some bytes → IsAdvised result bytes advice.new.items }
-    ensures show_advised { task_of (map string_bytes words.now.items) ≡ Some task.Show → (bytes : List ℕ) → S.left source.old ≡ Some bytes → IsShowAdvised result bytes advice.new.items }
     ensures read_fault { result ≡ Status.ReadFault → Rose (S.faults source.old) (S.faults source.new) }
     ensures write_fault { result ≡ Status.WriteFault → Rose (K.faults sink.old) (K.faults sink.new) }
-    // A script that was replayed to its end heals itself.
-    ensures healed { task_of (map string_bytes words.now.items) ≡ Some task.Replay → result ≡ Status.Done
-        → IfSome (S.left source.old) (λ bytes. IsHealingRun bytes (K.holds sink.old) (K.holds sink.new)) }
-    // A report that comes last, once all has settled, is what `demand` writes of the script, but for the last line.
-    ensures last_report { task_of (map string_bytes words.now.items) ≡ Some task.Replay → result ≡ Status.Done
-        → IfSome (S.left source.old) (λ bytes. (d : Draft) → Leads nothing (text_lines bytes) d → EndsInItsDemand d (K.holds sink.old) (K.holds sink.new)) }
-    // A network that was grown and run to its end reports exactly what is demanded: the last line of its summary is `equal yes`.
-    ensures as_demanded { (seed : ℕ) → task_of (map string_bytes words.now.items) ≡ Some (task.Grow seed) → result ≡ Status.Done → EndsAsDemanded seed (K.holds sink.old) (K.holds sink.new) }
-    // No book passes its capacity, at any step of the run of a script.
-    ensures within_capacity { IfSome (S.left source.old) (λ bytes. (p : Plan) → IsScript bytes p → IsNeverOver p) }
-    // The text of a replay tells so, however it ends: a whole line of it that reads as the head of a report has a sum of at most the
-    // capacity.
-    ensures told_within_capacity { task_of (map string_bytes words.now.items) ≡ Some task.Replay → IsToldWithinCapacity (K.holds sink.old) (K.holds sink.new) }
-    // At each step no refusal changes a reservation, and blockades keep their promises.
-    ensures refusals { IfSome (S.left source.old) (λ bytes. (p : Plan) → IsScript bytes p → RefusalsChangeNothing p) }
-    ensures blockades { IfSome (S.left source.old) (λ bytes. (p : Plan) → IsScript bytes p → BlockadePromises p) }
-    // Nothing else ends a run over known input and devices that do not fail.
-    ensures complete_replay { task_of (map string_bytes words.now.items) ≡ Some task.Replay
-        → (bytes text : List ℕ) (wanted : AnEnding) → S.left source.old ≡ Some bytes → length bytes ≤ most_bytes → ComesTo wanted bytes text
-        → (Rose (S.faults source.old) (S.faults source.new) → ⊥) → (Rose (K.faults sink.old) (K.faults sink.new) → ⊥) → IsOrNoMemory (status_of wanted) result }
-    ensures complete_demand { task_of (map string_bytes words.now.items) ≡ Some task.Demand
-        → (bytes : List ℕ) (wanted : AnEnding) → S.left source.old ≡ Some bytes → DemandsTo wanted bytes
-        → (Rose (S.faults source.old) (S.faults source.new) → ⊥) → (wanted ≡ ending.Done → Rose (K.faults sink.old) (K.faults sink.new) → ⊥) → IsOrNoMemory (status_of wanted) result }
-    ensures complete_show { task_of (map string_bytes words.now.items) ≡ Some task.Show
-        → (bytes : List ℕ) (wanted : AStatus) → S.left source.old ≡ Some bytes → ShowsTo wanted bytes
-        → (Rose (S.faults source.old) (S.faults source.new) → ⊥) → (wanted ≡ Status.Done → Rose (K.faults sink.old) (K.faults sink.new) → ⊥) → IsOrNoMemory wanted result }
-    ensures complete_grow { (seed : ℕ) → task_of (map string_bytes words.now.items) ≡ Some (task.Grow seed)
-        → (wanted : AnEnding) → GrowsTo wanted seed → (wanted ≡ ending.Done → Rose (K.faults sink.old) (K.faults sink.new) → ⊥) → IsOrNoMemory (status_of wanted) result }
+    ensures empty { result ≢ Status.Done → last.new ≡ None }
+    // At each step of the run of a script no book passes its capacity, no refusal changes a reservation, and blockades keep their
+    // promises.
+    ensures safe { IfSome (S.left source.old) IsSafeScript }
 {
     advice.clear();
     match task_of(alloc, words) {

@@ -1,13 +1,9 @@
 //! The demand of a script.
-ghost use Rattle.std.specs.Prelude.{◌≡◌, ◌≢◌, List, ℕ, Some};
+ghost use Rattle.std.specs.Prelude.{◌≡◌, ◌≢◌};
 ghost use Rattle.byte_streams.specs.Faults.{Rose};
-ghost use Rattle.network_run.specs.declared.ending.Ending.{Ending as AnEnding};
-ghost use Rattle.network_run.specs.declared.ending.Ending.TheVariants as ending;
-ghost use Rattle.script_demand.specs.Demanding.{DemandsTo};
 ghost use Rattle.script_grammar.specs.Draft.{nothing};
-ghost use Rattle.command_run.specs.Advised.{IsAdvised};
-ghost use Rattle.command_run.specs.Demanding.{IsDemand};
-ghost use Rattle.command_run.specs.Statuses.{IsOrNoMemory, status_of};
+ghost use Rattle.command_run.specs.Commands.{Demanded};
+ghost use Rattle.command_run.specs.Ran.{device, ran};
 
 use crate::replaying::status_of;
 use crate::status::Status;
@@ -29,14 +25,10 @@ pub fn demand<C: Asks + Drop, S: Source, K: Sink>(
     advice: &mut Vec<u8>,
 ) -> Status
     requires first { C.lines checker ≡ nothing }
-    ensures demanded { IsDemand result (S.left source.old) (S.left source.new) (K.holds sink.old) (K.holds sink.new) }
+    ensures demanded { Demanded (ran result (device S.left S.faults source.old source.new) (device K.holds K.faults sink.old sink.new) advice.new.items) }
     ensures usage { result ≢ Status.Usage }
-    // Over known input: what is wrong with the bad line is told.
-    ensures advised { (bytes : List ℕ) → S.left source.old ≡ Some bytes → IsAdvised result bytes advice.new.items }
     ensures read_fault { result ≡ Status.ReadFault → Rose (S.faults source.old) (S.faults source.new) }
     ensures write_fault { result ≡ Status.WriteFault → Rose (K.faults sink.old) (K.faults sink.new) }
-    ensures complete { (bytes : List ℕ) (wanted : AnEnding) → S.left source.old ≡ Some bytes → DemandsTo wanted bytes
-        → (Rose (S.faults source.old) (S.faults source.new) → ⊥) → (wanted ≡ ending.Done → Rose (K.faults sink.old) (K.faults sink.new) → ⊥) → IsOrNoMemory (status_of wanted) result }
 {
     let ending = write_demand(alloc, checker, source, sink, advice);
     status_of(ending)

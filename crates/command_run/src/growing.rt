@@ -1,12 +1,9 @@
 //! Growing a network.
 ghost use Rattle.std.specs.Prelude.{◌≡◌, ◌≢◌, None};
 ghost use Rattle.byte_streams.specs.Faults.{Rose};
-ghost use Rattle.network_run.specs.declared.ending.Ending.{Ending as AnEnding};
-ghost use Rattle.network_run.specs.declared.ending.Ending.TheVariants as ending;
 ghost use Rattle.script_player.specs.Standing.{IsNetworkOf};
-ghost use Rattle.grown_player.specs.Endings.{GrowsTo};
-ghost use Rattle.command_run.specs.Growing.{EndsAsDemanded, IsGrowth};
-ghost use Rattle.command_run.specs.Statuses.{IsOrNoMemory, status_of};
+ghost use Rattle.command_run.specs.Commands.{Grown};
+ghost use Rattle.command_run.specs.Ran.{device};
 
 use crate::replaying::status_of;
 use crate::status::Status;
@@ -30,13 +27,11 @@ pub fn grow<R: Opens, K: Sink, W: Watch>(
     last: &mut Option<World<R>>,
 ) -> Status
     requires { last.old ≡ None }
-    ensures grown { IsGrowth (λ p. IsNetworkOf R.seen last.new p) result seed (K.holds sink.old) (K.holds sink.new) }
-    ensures as_demanded { result ≡ Status.Done → EndsAsDemanded seed (K.holds sink.old) (K.holds sink.new) }
-    ensures empty { result ≢ Status.Done → last.new ≡ None }
+    ensures grown { Grown (λ p. IsNetworkOf R.seen last.new p) seed result (device K.holds K.faults sink.old sink.new) }
     ensures usage { result ≢ Status.Usage }
+    ensures empty { result ≢ Status.Done → last.new ≡ None }
     ensures read_fault { result ≢ Status.ReadFault }
     ensures write_fault { result ≡ Status.WriteFault → Rose (K.faults sink.old) (K.faults sink.new) }
-    ensures complete { (wanted : AnEnding) → GrowsTo wanted seed → (wanted ≡ ending.Done → Rose (K.faults sink.old) (K.faults sink.new) → ⊥) → IsOrNoMemory (status_of wanted) result }
 {
     let ending = run_grown::<R, K, W>(alloc, seed, sink, watch, last);
     status_of(ending)

@@ -1,16 +1,11 @@
 //! Replaying a script.
-ghost use Rattle.std.specs.Prelude.{◌≡◌, ◌≢◌, ◌≤◌, List, ℕ, None, Some, IfSome, length};
-ghost use Rattle.byte_streams.specs.Faults.{Rose};
-ghost use Rattle.byte_streams.specs.Reading.{most_bytes};
-ghost use Rattle.network_run.specs.Endings.{ComesTo};
-ghost use Rattle.network_run.specs.declared.ending.Ending.{Ending as AnEnding};
-ghost use Rattle.script_grammar.specs.Draft.{Draft, nothing, plan_of};
-ghost use Rattle.script_grammar.specs.Grammar.{Leads};
-ghost use Rattle.script_words.specs.Lines.{text_lines};
+ghost use Rattle.std.specs.Prelude.{◌≡◌, ◌≢◌, None};
+ghost use Rattle.script_grammar.specs.Draft.{nothing, plan_of};
 ghost use Rattle.script_player.specs.Standing.{IsNetworkOf};
-ghost use Rattle.command_run.specs.Healing.{EndsInItsDemand, IsHealingRun, IsToldWithinCapacity};
-ghost use Rattle.command_run.specs.Advised.{IsAdvised};
-ghost use Rattle.command_run.specs.Statuses.{IsOrNoMemory, IsReplay, status_of};
+ghost use Rattle.byte_streams.specs.Faults.{Rose};
+ghost use Rattle.command_run.specs.Commands.{Replayed};
+ghost use Rattle.command_run.specs.Ran.{device, ran};
+ghost use Rattle.command_run.specs.Statuses.{status_of};
 
 use crate::status::Status;
 use byte_streams::{Sink, Source};
@@ -52,19 +47,12 @@ pub fn replay<C: Checks + Drop, R: Opens, S: Source, K: Sink, W: Watch>(
 ) -> Status
     requires first { C.lines checker ≡ nothing }
     requires empty { last.old ≡ None }
-    ensures replayed { IsReplay (λ d. IsNetworkOf R.seen last.new (plan_of d)) result (S.left source.old) (S.left source.new) (K.holds sink.old) (K.holds sink.new) }
-    ensures empty { result ≢ Status.Done → last.new ≡ None }
+    ensures replayed { Replayed (λ d. IsNetworkOf R.seen last.new (plan_of d))
+        (ran result (device S.left S.faults source.old source.new) (device K.holds K.faults sink.old sink.new) advice.new.items) }
     ensures usage { result ≢ Status.Usage }
-    // Over known input: what is wrong with the bad line is told.
-    ensures advised { (bytes : List ℕ) → S.left source.old ≡ Some bytes → IsAdvised result bytes advice.new.items }
+    ensures empty { result ≢ Status.Done → last.new ≡ None }
     ensures read_fault { result ≡ Status.ReadFault → Rose (S.faults source.old) (S.faults source.new) }
     ensures write_fault { result ≡ Status.WriteFault → Rose (K.faults sink.old) (K.faults sink.new) }
-    ensures complete { (bytes text : List ℕ) (wanted : AnEnding) → S.left source.old ≡ Some bytes → length bytes ≤ most_bytes → ComesTo wanted bytes text
-        → (Rose (S.faults source.old) (S.faults source.new) → ⊥) → (Rose (K.faults sink.old) (K.faults sink.new) → ⊥) → IsOrNoMemory (status_of wanted) result }
-    ensures healed { result ≡ Status.Done → IfSome (S.left source.old) (λ bytes. IsHealingRun bytes (K.holds sink.old) (K.holds sink.new)) }
-    // However it ended, no whole line that was written says of an end that it holds more than its capacity.
-    ensures told_within_capacity { IsToldWithinCapacity (K.holds sink.old) (K.holds sink.new) }
-    ensures last_report { result ≡ Status.Done → IfSome (S.left source.old) (λ bytes. (d : Draft) → Leads nothing (text_lines bytes) d → EndsInItsDemand d (K.holds sink.old) (K.holds sink.new)) }
 {
     let ending = run_script::<C, R, S, K, W>(alloc, checker, source, sink, watch, last, advice);
     status_of(ending)

@@ -1,12 +1,14 @@
 //! Showing messages.
-ghost use Rattle.std.specs.Prelude.{◌≡◌, ◌≢◌, ◌≤◌, List, ℕ, Some, length, take};
+ghost use Rattle.std.specs.Prelude.{◌≡◌, ◌≢◌, List, ℕ, Some, take};
 ghost use Rattle.std.specs.Io.KnownBytes.{Appends};
 ghost use Rattle.byte_streams.specs.Faults.{Rose};
 ghost use Rattle.message_show.specs.ShowLines.{AreRight, IsBadDigits, IsShown};
 ghost use Rattle.script_demand.specs.Answering.{IsAnswering, IsAnsweringOf, IsWrittenOrNot};
 ghost use Rattle.script_words.specs.declared.fault.LineErr.{LineErr as ALineErr};
 ghost use Rattle.command_run.specs.Advised.{IsShowAdvised};
-ghost use Rattle.command_run.specs.Showing.{IsFirstBad, IsShowing, ShowsTo, fault_of};
+ghost use Rattle.command_run.specs.Commands.{Shown};
+ghost use Rattle.command_run.specs.Ran.{device, ran};
+ghost use Rattle.command_run.specs.Showing.{IsFirstBad, ShowsTo, fault_of};
 ghost use Rattle.command_run.specs.Statuses.{IsOrNoMemory, status_of};
 ghost use Rattle.command_run.specs.declared.status.Status.{Status as AStatus};
 ghost use Rattle.command_run.specs.declared.status.Status.TheVariants as status;
@@ -32,14 +34,10 @@ pub fn show_messages<S: Source, K: Sink>(
     sink: &mut K,
     advice: &mut Vec<u8>,
 ) -> Status
-    ensures shown { IsShowing result (S.left source.old) (S.left source.new) (K.holds sink.old) (K.holds sink.new) }
+    ensures shown { Shown (ran result (device S.left S.faults source.old source.new) (device K.holds K.faults sink.old sink.new) advice.new.items) }
     ensures usage { result ≢ Status.Usage }
-    // Over known input: what is wrong with the bad line is told.
-    ensures advised { (bytes : List ℕ) → S.left source.old ≡ Some bytes → IsShowAdvised result bytes advice.new.items }
     ensures read_fault { result ≡ Status.ReadFault → Rose (S.faults source.old) (S.faults source.new) }
     ensures write_fault { result ≡ Status.WriteFault → Rose (K.faults sink.old) (K.faults sink.new) }
-    ensures complete { (bytes : List ℕ) (wanted : AStatus) → S.left source.old ≡ Some bytes → ShowsTo wanted bytes
-        → (Rose (S.faults source.old) (S.faults source.new) → ⊥) → (wanted ≡ Status.Done → Rose (K.faults sink.old) (K.faults sink.new) → ⊥) → IsOrNoMemory wanted result }
 {
     let ending = write_shown(alloc, source, sink, advice);
     status_of(ending)

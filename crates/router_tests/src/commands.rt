@@ -1,8 +1,6 @@
 //! Whole commands over sources and sinks in memory: what no clause says, and the worked rows.
 use byte_streams::{MemorySink, MemorySource, PlainSink, PlainSource, Sink, Source};
-use command_run::{Status, Unwatched, Watch, run_command};
-use live_router::LiveRouter;
-use script_checker::Checker;
+use rsvpd_run::{Status, Unwatched, Watch, run};
 use std::alloc::{AllocError, Global};
 use std::test::Fail;
 
@@ -308,24 +306,6 @@ fn words(alloc: Global, all: &[&str]) -> Result<Vec<String>, AllocError> {
     Ok(words)
 }
 
-// Runs the task of the words over live routers, as the program does.
-fn run<S: Source, K: Sink, W: Watch>(
-    alloc: Global,
-    words: &Vec<String>,
-    source: &mut S,
-    sink: &mut K,
-    watch: &mut W,
-    advice: &mut Vec<u8>,
-) -> Status {
-    let Ok(checker) = Checker::open(alloc) else {
-        return Status::NoMemory;
-    };
-    let mut last = None;
-    run_command::<Checker, LiveRouter, S, K, W>(
-        alloc, words, checker, source, sink, watch, &mut last, advice,
-    )
-}
-
 // How a run of these words ends, with what it advises.
 fn ending<S: Source, K: Sink, W: Watch>(
     alloc: Global,
@@ -335,8 +315,9 @@ fn ending<S: Source, K: Sink, W: Watch>(
     watch: &mut W,
 ) -> Result<(Status, Vec<u8>), AllocError> {
     let words = words(alloc, list)?;
+    let mut last = None;
     let mut advice = Vec::new(alloc);
-    let status = run(alloc, &words, source, sink, watch, &mut advice);
+    let status = run(alloc, &words, source, sink, watch, &mut last, &mut advice);
     Ok((status, advice))
 }
 

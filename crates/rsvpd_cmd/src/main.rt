@@ -1,18 +1,15 @@
 //! `rsvpd`: replays the script of a network of RSVP routers, and writes what its events report; writes the demand of such a script;
 //! shows messages in words; or grows a network from a seed, runs it and writes a summary.
 //!
-//! Its promises are the clauses of `run_command` (`command_run`), which it calls with the checker of scripts, live routers, and
-//! standard input and output. How far many rounds are it tells on a terminal (`progress`).
+//! Its promises are the clauses of `run` (`rsvpd_run`), which it calls with the words of the command line, standard input and
+//! standard output. How far many rounds are it tells on a terminal (`progress`).
 #![tactic(auto)]
 
 mod progress;
 
 use crate::progress::Progress;
-use byte_streams::{Sink, Source, StdSink, StdSource};
-use command_run::{Status, Watch, run_command};
-use live_router::LiveRouter;
-use script_checker::Checker;
-use std::alloc::Global;
+use byte_streams::{StdSink, StdSource};
+use rsvpd_run::{Status, run};
 use std::process::ExitCode;
 use std::{env, io};
 
@@ -23,12 +20,14 @@ fn main(rt: HostRuntime) -> ExitCode {
         Ok(words) => {
             let mut source = StdSource::new(rt.stdin());
             let mut sink = StdSink::new(rt.stdout());
+            let mut last = None;
             run(
                 rt.alloc(),
                 &words,
                 &mut source,
                 &mut sink,
                 &mut progress,
+                &mut last,
                 &mut advice,
             )
         }
@@ -51,24 +50,6 @@ fn words(rt: &HostRuntime) -> Result<Vec<String>, Status> {
         words.push(word).map_err(|_| Status::NoMemory)?;
     }
     Ok(words)
-}
-
-// Runs the task of the words over live routers.
-fn run<S: Source, K: Sink, W: Watch>(
-    alloc: Global,
-    words: &Vec<String>,
-    source: &mut S,
-    sink: &mut K,
-    watch: &mut W,
-    advice: &mut Vec<u8>,
-) -> Status {
-    let Ok(checker) = Checker::open(alloc) else {
-        return Status::NoMemory;
-    };
-    let mut last = None;
-    run_command::<Checker, LiveRouter, S, K, W>(
-        alloc, words, checker, source, sink, watch, &mut last, advice,
-    )
 }
 
 // Prints the text of a status on standard error, and in a line of its own what is wrong with the bad line.

@@ -1,6 +1,6 @@
 //! How far a run is, in a line on the terminal.
 
-use command_run::Watch;
+use rsvpd_run::Watch;
 use std::io::{Eprint, IsTerminal};
 use std::time::{Duration, Instant};
 

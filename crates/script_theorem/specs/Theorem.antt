@@ -1,4 +1,4 @@
--- The theorem, of every valid script.
+-- The theorem, of a plan: what it reports once its network has settled, and what holds at each of its steps, however its run ends.
 use Rattle.std.specs.Prelude.{◌≡◌, ℕ, false, List, ◌∷◌, ◌++◌, Option}
 use Rattle.calm_rounds.specs.Hold.{Visited}
 use Rattle.calm_rounds.specs.Machine.{run}
@@ -8,6 +8,7 @@ use Rattle.network_model.specs.Locals.{locals_of}
 use Rattle.network_model.specs.Runs.{Plan, first_world, is_crowded_run, steps_of_run}
 use Rattle.network_model.specs.Steps.{Report, Step, machine}
 use Rattle.network_model.specs.Worlds.{World}
+use Rattle.network_steps.specs.Runs.{IsFitRun}
 use Rattle.script_grammar.specs.Grammar.{IsScript}
 use Rattle.settle_reports.specs.Demands.{AppendsTheDemand, moment}
 use Rattle.settle_reports.specs.Writing.{OnlyWrite}
@@ -16,40 +17,60 @@ use Rattle.run_laws.specs.Books.{AreBooksWithinCapacity}
 use Rattle.run_laws.specs.Refusals.{ARefusedCallChangesNothing, ARefusedResvChangesNoReservation, AUnitThatPassesIsBooked, AnUntakenUnitChangesNothing}
 
 -- ---- self-stabilisation
--- each report at a settled moment, or behind steps that only write after one, where the demands of that moment fit
-abbrev pub ReportsAreDemands : Type 0
-ReportsAreDemands =
-    (bytes : List ℕ) (p : Plan) → IsScript bytes p → is_crowded_run p ≡ false → (ss still : List Step) (e : Option ℕ) (ts : List Step)
-    → steps_of_run p ≡ (ss ++ still) ++ Report e ∷ ts → IsSettled p.quarter (first_world p) ss → OnlyWrite still
+-- each report at a settled moment, or behind steps that only write after one, where the demands of that moment fit, appends the text
+-- of the demand
+abbrev pub SettlesToTheDemand : Plan → Type 0
+SettlesToTheDemand p =
+    (ss still : List Step) (e : Option ℕ) (ts : List Step) → steps_of_run p ≡ (ss ++ still) ++ Report e ∷ ts → IsSettled p.quarter (first_world p) ss → OnlyWrite still
     → DemandsFit (moment p (ss ++ still)).net (locals_of (moment p (ss ++ still))) → AppendsTheDemand p (ss ++ still) e ts
 
 -- ---- safety
--- in the first world and in that after each step
-abbrev pub BooksStayWithinCapacity : Type 0
-BooksStayWithinCapacity = (bytes : List ℕ) (p : Plan) → IsScript bytes p → Visited (machine p.quarter) AreBooksWithinCapacity (steps_of_run p) (first_world p)
+-- in the first world and in that after each step no book passes the capacity of its interface
+abbrev pub IsNeverOver : Plan → Type 0
+IsNeverOver p = Visited (machine p.quarter) AreBooksWithinCapacity (steps_of_run p) (first_world p)
 
 -- C holds of each step, in the world in which it is made, with the quarter of the period
-abbrev pub OfEachStep : (ℕ → Step → World → Type 0) → Type 0
-OfEachStep C =
-    (bytes : List ℕ) (p : Plan) → IsScript bytes p → (ss : List Step) (s : Step) (ts : List Step) → steps_of_run p ≡ ss ++ s ∷ ts → C p.quarter s (run (machine p.quarter) ss (first_world p))
+abbrev pub AtEachStep : (ℕ → Step → World → Type 0) → Plan → Type 0
+AtEachStep C p = (ss : List Step) (s : Step) (ts : List Step) → steps_of_run p ≡ ss ++ s ∷ ts → C p.quarter s (run (machine p.quarter) ss (first_world p))
 
--- the refusal of a local call, of a Resv as a whole, and of one of its units
-pub record RefusalsChangeNothing : Type 0 where
-  pub call : OfEachStep ARefusedCallChangesNothing
-  pub resv : OfEachStep ARefusedResvChangesNoReservation
-  pub unit : OfEachStep AnUntakenUnitChangesNothing
+-- the refusal of a local call changes nothing, that of a Resv as a whole or of one of its units no reservation
+pub record RefusalsChangeNothing (p : Plan) : Type 0 where
+  pub calls : AtEachStep ARefusedCallChangesNothing p
+  pub resvs : AtEachStep ARefusedResvChangesNoReservation p
+  pub units : AtEachStep AnUntakenUnitChangesNothing p
 
--- ---- blockades
-pub record BlockadePromises : Type 0 where
+pub record BlockadePromises (p : Plan) : Type 0 where
   -- each Resv that is sent asks for exactly what goes toward its hop by its sender's facts after the step
-  pub says : OfEachStep EachResvSaysWhatGoesToward
+  pub says : AtEachStep EachResvSaysWhatGoesToward p
   -- at a node with any facts: a unit with a request that is not blockaded goes on, below what the blockade keeps back
   pub below : WhatGoesOnIsBelow
   -- a blockade stays until it dies, another error replaces it, or its node is cleared
-  pub stays : OfEachStep ABlockadeStays
+  pub stays : AtEachStep ABlockadeStays p
   -- a unit that passes the tests is booked on arrival
-  pub booked : OfEachStep AUnitThatPassesIsBooked
+  pub booked : AtEachStep AUnitThatPassesIsBooked p
   -- at a node with any facts: a blockade drops no unit, and none goes on with less than the meet of its requests
   pub whole : BlockadesDropNothing
   -- a step that delivers a ResvErr sends no ResvTear and changes no reservation
-  pub kept : OfEachStep AResvErrTearsNothing
+  pub kept : AtEachStep AResvErrTearsNothing p
+
+-- at each step
+pub record IsSafe (p : Plan) : Type 0 where
+  pub books : IsNeverOver p
+  pub refusals : RefusalsChangeNothing p
+  pub blockades : BlockadePromises p
+
+-- ---- both
+-- the plan of a run that is not crowded heals itself, and is safe on the way
+pub record HealsItself (p : Plan) : Type 0 where
+  pub reports : SettlesToTheDemand p
+  pub safe : IsSafe p
+
+-- ---- the laws
+abbrev pub FitRunsAreSafe : Type 0
+FitRunsAreSafe = (p : Plan) → IsFitRun p → IsSafe p
+
+abbrev pub ScriptsAreSafe : Type 0
+ScriptsAreSafe = (bytes : List ℕ) (p : Plan) → IsScript bytes p → IsSafe p
+
+abbrev pub ScriptsHealThemselves : Type 0
+ScriptsHealThemselves = (bytes : List ℕ) (p : Plan) → IsScript bytes p → is_crowded_run p ≡ false → HealsItself p

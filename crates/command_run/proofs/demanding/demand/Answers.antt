@@ -1,9 +1,12 @@
 use Rattle.std.proofs.Common.{sym, subst}
-use Rattle.command_run.specs.Advised.{IsAdvised}
-use Rattle.command_run.proofs.Advising.{advised_so}
+use Rattle.command_run.specs.Commands.{Demanded}
+use Rattle.command_run.specs.Ran.{device, ran}
+use Rattle.command_run.proofs.Answering.{demanded_so}
 use Rattle.command_run.proofs.demanding.demand.Goals as goal
 
-pub returns-clause-advised : goal.returns-clause-advised
-returns-clause-advised g c = λ bytes known.
-    let told = advised_so c.write_demand-ending.result bytes c.write_demand-ending.new.advice.items (c.write_demand-ending.ensures.advised bytes known) in
-    subst (λ s. IsAdvised s bytes c.write_demand-ending.new.advice.items) (sym c.status_of.ensures) told
+pub returns-clause-demanded : goal.returns-clause-demanded
+returns-clause-demanded g c =
+    let e = c.write_demand-ending in
+    let source = device g.S.Source.left g.S.Source.faults c.args.source.now e.new.source in
+    let sink = device g.K.Sink.holds g.K.Sink.faults c.args.sink.now e.new.sink in
+    subst (λ s. Demanded (ran s source sink e.new.advice.items)) (sym c.status_of.ensures) (demanded_so e.result source sink e.new.advice.items e.ensures.demanded e.ensures.advised e.ensures.complete)

@@ -1,0 +1,46 @@
+//! The program.
+ghost use Rattle.std.specs.Prelude.{◌≡◌, ◌≢◌, None, map, string_bytes, IfSome};
+ghost use Rattle.byte_streams.specs.Faults.{Rose};
+ghost use Rattle.command_run.specs.Commands.{Does, IsSafeScript};
+ghost use Rattle.command_run.specs.Ran.{device, ran};
+ghost use Rattle.command_run.specs.Tasks.{task_of};
+ghost use Rattle.live_router.specs.SeenNode.{seen_node};
+
+use byte_streams::{Sink, Source};
+use command_run::{Status, Watch, run_command};
+use live_router::LiveRouter;
+use net_replay::World;
+use script_checker::Checker;
+use std::alloc::Global;
+
+/// Runs the task of these words over live routers: see `run_command`. `NoMemory` may also come before it: there was no room for a
+/// checker of scripts, and nothing is read or written.
+#[tactic(auto, using(command_run::proofs::Replays::safe_script))]
+pub fn run<S: Source, K: Sink, W: Watch>(
+    alloc: Global,
+    words: &Vec<String>,
+    source: &mut S,
+    sink: &mut K,
+    watch: &mut W,
+    last: &mut Option<World<LiveRouter>>,
+    advice: &mut Vec<u8>,
+) -> Status
+    requires empty { last.old ≡ None }
+    // What the words order, a row a task.
+    ensures does { Does seen_node (task_of (map string_bytes words.now.items))
+        (ran result (device S.left S.faults source.old source.new) (device K.holds K.faults sink.old sink.new) advice.new.items) last.new }
+    // Whatever they order.
+    ensures usage { result ≡ Status.Usage → task_of (map string_bytes words.now.items) ≡ None }
+    ensures read_fault { result ≡ Status.ReadFault → Rose (S.faults source.old) (S.faults source.new) }
+    ensures write_fault { result ≡ Status.WriteFault → Rose (K.faults sink.old) (K.faults sink.new) }
+    ensures empty { result ≢ Status.Done → last.new ≡ None }
+    ensures safe { IfSome (S.left source.old) IsSafeScript }
+{
+    advice.clear();
+    match Checker::open(alloc) {
+        Ok(checker) => run_command::<Checker, LiveRouter, S, K, W>(
+            alloc, words, checker, source, sink, watch, last, advice,
+        ),
+        Err(_) => Status::NoMemory,
+    }
+}
