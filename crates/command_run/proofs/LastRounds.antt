@@ -1,5 +1,5 @@
--- The run of a plan whose last events are rounds and a report: the network does not change in them, and where the rounds are enough
--- it is settled at the report.
+-- The run of a plan whose last events are rounds, lines that only write among them, and a report: the network does not change in them,
+-- and where the rounds are enough together it is settled at the report.
 use Rattle.std.proofs.Common.{◌≡◌, ℕ, ◌*◌, ◌+◌, ◌≤◌, List, [], ◌∷◌, ◌++◌, Option, refl, sym, ap, subst, ◌∙◌, arith, append_assoc}
 use Rattle.calm_rounds.specs.Hold.{Visited}
 use Rattle.calm_rounds.specs.Machine.{run}
@@ -7,17 +7,20 @@ use Rattle.calm_rounds.specs.Rounds.{run_rounds}
 use Rattle.calm_rounds.proofs.Holding.{hold_end}
 use Rattle.tree_model.specs.Ranks.{longest}
 use Rattle.network_model.specs.Bounds.{AreBounds, IsSettled, all_of}
-use Rattle.network_model.specs.Events.{Event, Reports, Rounds, all_steps, rounds, steps_of}
+use Rattle.network_model.specs.Events.{Event, Reports, all_steps, steps_of}
 use Rattle.network_model.specs.Runs.{Plan, first_world, steps_of_run}
 use Rattle.network_model.specs.Steps.{Report, Step, machine, step}
 use Rattle.network_model.specs.Worlds.{World}
 use Rattle.network_steps.specs.Known.{IsKnown}
-use Rattle.network_steps.specs.Rounds.{rounds_of}
 use Rattle.network_steps.specs.Runs.{IsFitRun}
-use Rattle.network_steps.proofs.Calming.{rounds_is_calm, run_append}
+use Rattle.network_steps.proofs.Calming.{run_append}
 use Rattle.network_steps.proofs.Keeping.{calm_rounds_keep_bounds}
 use Rattle.network_steps.proofs.Known.{known_hold}
 use Rattle.network_steps.proofs.Runs.{each_world_of_a_run_is_within_bounds}
+use Rattle.seed_laws.specs.SettleReports.RoundsAmong.{AreRoundsAndWriting, AreRoundsThenWriting, rounds_among}
+use Rattle.seed_laws.specs.SettleReports.Writing.{OnlyWrite}
+use Rattle.seed_laws.proofs.SettleReports.RoundsAmong.{rounds_among_writing_count}
+use Rattle.seed_laws.proofs.SettleReports.Writing.{same_net}
 
 module _ (q : ℕ) where
   steps_on : (es fs : List Event) (w : World) → all_steps q (es ++ fs) w ≡ all_steps q es w ++ all_steps q fs (run (machine q) (all_steps q es w) w)
@@ -39,7 +42,7 @@ module _ (q : ℕ) where
   bounds_at [] (t ∷ ts) w v = v.0
   bounds_at (s ∷ ss) ts w v = bounds_at ss ts (step q s w) v.1
 
-module _ (p : Plan) (es : List Event) (n : ℕ) (e : Option ℕ) (events : p.events ≡ es ++ Rounds n ∷ Reports e ∷ []) where
+module _ (p : Plan) (es fs : List Event) (e : Option ℕ) (events : p.events ≡ es ++ (fs ++ Reports e ∷ [])) (only : AreRoundsAndWriting fs) where
   abbrev q : ℕ
   q = p.quarter
 
@@ -53,36 +56,48 @@ module _ (p : Plan) (es : List Event) (n : ℕ) (e : Option ℕ) (events : p.eve
   abbrev o : World
   o = run (machine q) first w
 
-  -- the steps before the report
-  abbrev pub before_report : List Step
-  before_report = first ++ rounds q n o
+  -- the rounds, and what is written behind them
+  abbrev counted : AreRoundsThenWriting q o (all_steps q fs o) (rounds_among fs)
+  counted = rounds_among_writing_count q fs o only
 
-  pub steps : steps_of_run p ≡ before_report ++ Report e ∷ []
-  steps = ap (λ (fs : List Event). all_steps q fs w) events ∙ steps_on q es (Rounds n ∷ Reports e ∷ []) w ∙ sym (append_assoc first (rounds q n o) (Report e ∷ []))
+  -- the steps up to the end of the last round
+  abbrev pub to_last_round : List Step
+  to_last_round = first ++ all_of counted.rounds
+
+  abbrev pub written_behind : List Step
+  written_behind = counted.still
+
+  pub only_writes_behind : OnlyWrite written_behind
+  only_writes_behind = counted.writes
+
+  pub steps : steps_of_run p ≡ (to_last_round ++ written_behind) ++ Report e ∷ []
+  steps =
+      ap (λ (z : List Event). all_steps q z w) events ∙ steps_on q es (fs ++ Reports e ∷ []) w ∙ ap (λ (z : List Step). first ++ z) (steps_on q fs (Reports e ∷ []) o)
+      ∙ ap (λ (z : List Step). first ++ (z ++ Report e ∷ [])) counted.parts
+      ∙ sym (append_assoc first (all_of counted.rounds ++ written_behind) (Report e ∷ []))
+      ∙ ap (λ (z : List Step). z ++ Report e ∷ []) (sym (append_assoc first (all_of counted.rounds) written_behind))
 
   begun : IsFitRun p → AreBounds q o
   begun fit =
-      bounds_at q first (rounds q n o ++ Report e ∷ []) w
-      (subst (λ (ss : List Step). Visited (machine q) (AreBounds q) ss w) (steps ∙ append_assoc first (rounds q n o) (Report e ∷ [])) (each_world_of_a_run_is_within_bounds p fit))
+      let split = steps ∙ append_assoc (first ++ all_of counted.rounds) written_behind (Report e ∷ []) ∙ append_assoc first (all_of counted.rounds) (written_behind ++ Report e ∷ []) in
+      bounds_at q first (all_of counted.rounds ++ (written_behind ++ Report e ∷ [])) w
+      (subst (λ (ss : List Step). Visited (machine q) (AreBounds q) ss w) split (each_world_of_a_run_is_within_bounds p fit))
 
-  pub net_stays : IsFitRun p → (run (machine q) before_report w).net ≡ o.net
+  -- the network at the report is that in which the rounds begin
+  pub net_stays : IsFitRun p → (run (machine q) (to_last_round ++ written_behind) w).net ≡ o.net
   net_stays fit =
-      let calm = rounds_is_calm q n o in
-      let kept = hold_end (machine q) (IsKnown q o) 0 (rounds_of q n o) o (omega arith) (known_hold q o (rounds_of q n o) calm.calm (calm_rounds_keep_bounds q o (rounds_of q n o) calm.calm (begun fit))) in
-      let there : run (machine q) before_report w ≡ run_rounds (machine q) (rounds_of q n o) o =
-      run_append (machine q) first (rounds q n o) w ∙ ap (λ (ss : List Step). run (machine q) ss o) calm.steps ∙ run_all q (rounds_of q n o) o in
-      ap (λ (u : World). u.net) there ∙ kept.same.net
+      let kept = hold_end (machine q) (IsKnown q o) 0 counted.rounds o (omega arith) (known_hold q o counted.rounds counted.calm (calm_rounds_keep_bounds q o counted.rounds counted.calm (begun fit))) in
+      ap (λ (u : World). u.net) (run_append (machine q) to_last_round written_behind w) ∙ same_net q written_behind (run (machine q) to_last_round w) counted.writes
+      ∙ ap (λ (u : World). u.net) (run_append (machine q) first (all_of counted.rounds) w ∙ run_all q counted.rounds o) ∙ kept.same.net
 
-  pub settled : IsFitRun p → 16 * longest (run (machine q) before_report w).net + 16 ≤ n → IsSettled q w before_report
-  settled fit enough =
-      let calm = rounds_is_calm q n o in
-      record {
-        before = first;
-        rounds = rounds_of q n o;
-        parts = ap (λ (ss : List Step). first ++ ss) calm.steps;
-        calm = calm.calm;
-        enough =
-            let many = calm.number in
-            let same = ap longest (net_stays fit) in
-            omega (arith, many, same, enough);
-      }
+  pub settled : IsFitRun p → 13 * longest (run (machine q) (to_last_round ++ written_behind) w).net + 13 ≤ rounds_among fs → IsSettled q w to_last_round
+  settled fit enough = record {
+    before = first;
+    rounds = counted.rounds;
+    parts = refl;
+    calm = counted.calm;
+    enough =
+        let many = counted.number in
+        let same = ap longest (net_stays fit) in
+        omega (arith, many, same, enough);
+  }

@@ -2,7 +2,6 @@
 use Rattle.std.proofs.Common.{◌≡◌, ℕ, ◌+◌, ◌*◌, ◌≤◌, List, [], ◌∷◌, ◌++◌, Option, None, Some, length, false, refl, sym, ap, subst, ◌∙◌}
 use Rattle.std.specs.Prelude.{IfSome}
 use Rattle.std.specs.Io.KnownBytes.{Appends}
-use Rattle.std.proofs.lemmas.List.{append-nil}
 use Rattle.byte_streams.specs.Reading.{most_bytes}
 use Rattle.script_words.specs.Lines.{text_lines}
 use Rattle.tree_model.specs.Networks.{Net}
@@ -18,6 +17,7 @@ use Rattle.script_laws.proofs.EventLines.{each_script_is_a_fit_run}
 use Rattle.script_theorem.proofs.Safety.{scripts_are_safe, scripts_heal_themselves}
 use Rattle.seed_laws.proofs.ScriptStanding.Demands.{scripts_stand, the_last_report_is_the_demand}
 use Rattle.seed_laws.specs.SettleReports.Demands.{moment}
+use Rattle.seed_laws.specs.SettleReports.RoundsAmong.{rounds_among}
 use Rattle.network_run.specs.Advised.{IsAdvised as IsEndAdvised}
 use Rattle.network_run.specs.Endings.{ComesTo, IsOrNoMemory as EndsOrNoMemory, IsRun}
 use Rattle.network_run.specs.Written.{HasRun}
@@ -30,7 +30,7 @@ use Rattle.command_run.specs.Healing.{EndsInItsDemand, IsHealingRun, LastReportI
 use Rattle.command_run.specs.Ran.{Device, HasFailed, ran}
 use Rattle.command_run.specs.Statuses.{status_of}
 use Rattle.command_run.proofs.Answering.{advised_so, or_no_memory}
-use Rattle.command_run.proofs.LastRounds.{before_report, settled, steps}
+use Rattle.command_run.proofs.LastRounds.{only_writes_behind, settled, steps, to_last_round, written_behind}
 use Rattle.command_run.specs.declared.status.Status.TheVariants.{Done}
 
 -- whatever is left of a source
@@ -85,14 +85,14 @@ module _ (bytes : List ℕ) (before after : Option (List ℕ)) (run : IsHealingR
       sym (ap (λ (w : World). w.net) last) ∙ (scripts_stand bytes d leads).net
 
   last_rounds : RoundsBringTheDemand d before after
-  last_rounds es n e events enough fit =
+  last_rounds es fs e events only enough fit =
       let p = plan_of d in
-      let ss = before_report p es n e events in
-      let parts = steps p es n e events in
-      let many : 16 * longest (moment p ss).net + 16 ≤ n = subst (λ (net : Net). 16 * longest net + 16 ≤ n) (sym (same_net ss e parts)) enough in
-      let calm = settled p es n e events (each_script_is_a_fit_run bytes p is_script) many in
-      let none = append-nil ss in
-      (text_of p.quarter d.names (ss ++ []) (first_world p), last_settled ss [] e (parts ∙ ap (λ (ts : List Step). ts ++ Report e ∷ []) (sym none)) calm tt fit)
+      let ss = to_last_round p es fs e events only in
+      let still = written_behind p es fs e events only in
+      let parts = steps p es fs e events only in
+      let many : 13 * longest (moment p (ss ++ still)).net + 13 ≤ rounds_among fs = subst (λ (net : Net). 13 * longest net + 13 ≤ rounds_among fs) (sym (same_net (ss ++ still) e parts)) enough in
+      let calm = settled p es fs e events only (each_script_is_a_fit_run bytes p is_script) many in
+      (text_of p.quarter d.names (ss ++ still) (first_world p), last_settled ss still e parts calm (only_writes_behind p es fs e events only) fit)
 
   ends_in_its_demand : EndsInItsDemand d before after
   ends_in_its_demand = record { settled = last_settled; rounds = last_rounds }

@@ -4,13 +4,14 @@ use Rattle.std.specs.Io.KnownBytes.{Appends}
 use Rattle.tree_model.specs.Goals.{DemandsFit}
 use Rattle.tree_model.specs.Ranks.{longest}
 use Rattle.network_model.specs.Bounds.{IsSettled}
-use Rattle.network_model.specs.Events.{Event, Reports, Rounds}
+use Rattle.network_model.specs.Events.{Event, Reports}
 use Rattle.network_model.specs.Runs.{Plan, first_world, is_crowded_run, run_text, steps_of_run, text_of}
 use Rattle.network_model.specs.Steps.{Report, Step}
 use Rattle.network_model.specs.DemandTexts.{demand_text}
 use Rattle.script_grammar.specs.Draft.{Draft, plan_of, routing}
 use Rattle.script_grammar.specs.Grammar.{IsScript}
 use Rattle.script_theorem.specs.Theorem.{HealsItself}
+use Rattle.seed_laws.specs.SettleReports.RoundsAmong.{AreRoundsAndWriting, rounds_among}
 use Rattle.seed_laws.specs.SettleReports.Writing.{OnlyWrite}
 use Rattle.report_reading.specs.Reading.{TellsWithinCapacity}
 
@@ -37,10 +38,11 @@ LastReportIsTheDemand d before after =
     → IsSettled (plan_of d).quarter (first_world (plan_of d)) ss → OnlyWrite still → DemandsFit (routing d) d.locals
     → Appends before after (text_of (plan_of d).quarter d.names (ss ++ still) (first_world (plan_of d)) ++ demand_text d.names (routing d) d.locals e)
 
--- behind `rounds n`, with n at least 16 H + 16, H the longest chain of hops of the routing in force
+-- behind at least 13 H + 13 rounds, H the longest chain of hops of the routing in force: in one line `rounds n`, or in several, among
+-- lines that only write
 abbrev pub RoundsBringTheDemand : Draft → Option (List ℕ) → Option (List ℕ) → Type 0
 RoundsBringTheDemand d before after =
-    (es : List Event) (n : ℕ) (e : Option ℕ) → d.events ≡ es ++ Rounds n ∷ Reports e ∷ [] → 16 * longest (routing d) + 16 ≤ n → DemandsFit (routing d) d.locals
+    (es fs : List Event) (e : Option ℕ) → d.events ≡ es ++ (fs ++ Reports e ∷ []) → AreRoundsAndWriting fs → 13 * longest (routing d) + 13 ≤ rounds_among fs → DemandsFit (routing d) d.locals
     → (front : List ℕ) × Appends before after (front ++ demand_text d.names (routing d) d.locals e)
 
 pub record EndsInItsDemand (d : Draft) (before after : Option (List ℕ)) : Type 0 where

@@ -11,8 +11,9 @@ use Rattle.network_model.specs.Worlds.{World}
 use Rattle.network_steps.specs.Runs.{IsFitRun}
 use Rattle.script_grammar.specs.Grammar.{IsScript}
 use Rattle.settle_reports.specs.Demands.{AppendsTheDemand, moment}
+use Rattle.settle_reports.specs.Purged.{ReportsNothingStale}
 use Rattle.settle_reports.specs.Writing.{OnlyWrite}
-use Rattle.run_laws.specs.Blockades.{ABlockadeStays, AResvErrTearsNothing, BlockadesDropNothing, EachResvSaysWhatGoesToward, WhatGoesOnIsBelow}
+use Rattle.run_laws.specs.Blockades.{ABlockadeStays, AResvErrTearsNothing, AnAdmissionErrorSetsItsBlockade, BlockadesDropNothing, EachResvSaysWhatGoesToward, WhatGoesOnIsBelow}
 use Rattle.run_laws.specs.Books.{AreBooksWithinCapacity}
 use Rattle.run_laws.specs.Refusals.{ARefusedCallChangesNothing, ARefusedResvChangesNoReservation, AUnitThatPassesIsBooked, AnUntakenUnitChangesNothing}
 
@@ -42,9 +43,12 @@ pub record RefusalsChangeNothing (p : Plan) : Type 0 where
 pub record BlockadePromises (p : Plan) : Type 0 where
   -- each Resv that is sent asks for exactly what goes toward its hop by its sender's facts after the step
   pub says : AtEachStep EachResvSaysWhatGoesToward p
-  -- at a node with any facts: a unit with a request that is not blockaded goes on, below what the blockade keeps back
+  -- at a node with any facts: of a unit with a request that is not blockaded the join of all such requests goes on, each below what a
+  -- blockade keeps back
   pub below : WhatGoesOnIsBelow
-  -- a blockade stays until it dies, another error replaces it, or its node is cleared
+  -- an admission error that its node takes sets its blockade
+  pub set : AtEachStep AnAdmissionErrorSetsItsBlockade p
+  -- a blockade stays until it dies, such an error replaces it, or its node is cleared
   pub stays : AtEachStep ABlockadeStays p
   -- a unit that passes the tests is booked on arrival
   pub booked : AtEachStep AUnitThatPassesIsBooked p
@@ -63,6 +67,8 @@ pub record IsSafe (p : Plan) : Type 0 where
 -- the plan of a run that is not crowded heals itself, and is safe on the way
 pub record HealsItself (p : Plan) : Type 0 where
   pub reports : SettlesToTheDemand p
+  -- and whether or not the demands fit, nothing stale is reported
+  pub purged : ReportsNothingStale p
   pub safe : IsSafe p
 
 -- ---- the laws

@@ -8,7 +8,7 @@ use Rattle.calm_rounds.proofs.Holding.{hold_end}
 use Rattle.tree_model.specs.Goals.{DemandsFit}
 use Rattle.tree_model.specs.Networks.{Net}
 use Rattle.tree_model.specs.Wants.{Locals}
-use Rattle.network_model.specs.Bounds.{AreBounds, IsSettled, all_of}
+use Rattle.network_model.specs.Bounds.{AreBounds, IsSettled, all_of, to_settle}
 use Rattle.network_model.specs.Locals.{locals_of}
 use Rattle.network_model.specs.Runs.{Plan, crowds, first_world, is_crowded, steps_of_run, text_of, uncrowded, written}
 use Rattle.network_model.specs.Steps.{Report, Step, machine, step}
@@ -22,7 +22,7 @@ use Rattle.settle_network.specs.Settled.{HasSettled}
 use Rattle.settle_network.proofs.RunsSettle.{a_run_settles}
 use Rattle.settle_reports.specs.Demands.{ASettledReportIsTheDemand, moment}
 use Rattle.settle_reports.proofs.Texts.{report_is_the_demand}
-use Rattle.settle_reports.proofs.Writing.{a_moment_stays_settled, joined, run_then}
+use Rattle.settle_reports.proofs.Writing.{a_moment_stays_calm, joined, run_then}
 
 -- ---- texts of steps one after the other
 joined_text : (xs ys zs : List ℕ) → (xs ++ ys) ++ zs ≡ xs ++ (ys ++ zs)
@@ -30,11 +30,11 @@ joined_text [] ys zs = refl
 joined_text (x ∷ xs) ys zs = λ i. x ∷ joined_text xs ys zs i
 
 module _ (q : ℕ) (names : List (List ℕ)) where
-  text_then : (ss ts : List Step) (w : World) → text_of q names (ss ++ ts) w ≡ text_of q names ss w ++ text_of q names ts (run (machine q) ss w)
+  pub text_then : (ss ts : List Step) (w : World) → text_of q names (ss ++ ts) w ≡ text_of q names ss w ++ text_of q names ts (run (machine q) ss w)
   text_then [] ts w = refl
   text_then (s ∷ ss) ts w = ap (λ (z : List ℕ). written q names s w ++ z) (text_then ss ts (step q s w)) ∙ sym (joined_text (written q names s w) (text_of q names ss (step q s w)) (text_of q names ts (run (machine q) ss (step q s w))))
 
-  all_made : (ss : List Step) (w : World) → crowds q ss w ≡ false → uncrowded q ss w ≡ ss
+  pub all_made : (ss : List Step) (w : World) → crowds q ss w ≡ false → uncrowded q ss w ≡ ss
   all_made [] w e = refl
   all_made (s ∷ ss) w e = by (is_crowded (step q s w)) e (λ f. all_made ss (step q s w) f)
     where
@@ -51,21 +51,19 @@ run_all : (q : ℕ) (rs : List (List Step)) (w : World) → run (machine q) (all
 run_all q [] w = refl
 run_all q (r ∷ rs) w = run_then q r (all_of rs) w ∙ run_all q rs (run (machine q) r w)
 
+-- ---- each moment of a run is within bounds
+pub bounds_there : (p : Plan) → IsFitRun p → (ss ts : List Step) → steps_of_run p ≡ ss ++ ts → AreBounds p.quarter (moment p ss)
+bounds_there p fit ss ts parts = bounds_at p.quarter ss ts (first_world p) (subst (λ (z : List Step). Visited (machine p.quarter) (AreBounds p.quarter) z (first_world p)) parts (each_world_of_a_run_is_within_bounds p fit))
+
 -- ---- the network and its locals at a settled moment are those when the rounds begin
 module _ (p : Plan) (fit : IsFitRun p) (ss ts : List Step) (parts : steps_of_run p ≡ ss ++ ts) (is : IsSettled p.quarter (first_world p) ss) where
   abbrev o : World
   o = run (machine p.quarter) is.before (first_world p)
 
-  all_bounds : Visited (machine p.quarter) (AreBounds p.quarter) (ss ++ ts) (first_world p)
-  all_bounds = subst (λ (z : List Step). Visited (machine p.quarter) (AreBounds p.quarter) z (first_world p)) parts (each_world_of_a_run_is_within_bounds p fit)
-
-  pub bounds_then : AreBounds p.quarter (moment p ss)
-  bounds_then = bounds_at p.quarter ss ts (first_world p) all_bounds
-
   begun : AreBounds p.quarter o
   begun =
       let split : ss ++ ts ≡ is.before ++ (all_of is.rounds ++ ts) = ap (λ (z : List Step). z ++ ts) is.parts ∙ joined p.quarter is.before (all_of is.rounds) ts in
-      bounds_at p.quarter is.before (all_of is.rounds ++ ts) (first_world p) (subst (λ (z : List Step). Visited (machine p.quarter) (AreBounds p.quarter) z (first_world p)) split all_bounds)
+      bounds_there p fit is.before (all_of is.rounds ++ ts) (parts ∙ split)
 
   known : IsKnown p.quarter o (moment p ss)
   known =
@@ -80,9 +78,9 @@ pub a_settled_report_is_the_demand : ASettledReportIsTheDemand
 a_settled_report_is_the_demand p fit senders uncrowded_run ss still e ts parts is writes d =
     let q : ℕ = p.quarter in
     let w : World = first_world p in
-    let settled : IsSettled q w (ss ++ still) = a_moment_stays_settled q w ss still writes is in
+    let settled : IsSettled q w (ss ++ still) = a_moment_stays_calm to_settle (λ long. omega arith) q w ss still writes is in
     let has : HasSettled q (moment p (ss ++ still)) = a_run_settles p fit senders (ss ++ still) (Report e ∷ ts) parts settled (fit_at_first p fit (ss ++ still) (Report e ∷ ts) parts settled d) in
-    let bounds = bounds_then p fit (ss ++ still) (Report e ∷ ts) parts settled in
+    let bounds = bounds_there p fit (ss ++ still) (Report e ∷ ts) parts in
     ap (λ (z : List Step). text_of q p.names z w) (all_made q p.names (steps_of_run p) w uncrowded_run ∙ parts)
     ∙ text_then q p.names (ss ++ still) (Report e ∷ ts) w
     ∙ ap (λ (z : List ℕ). text_of q p.names (ss ++ still) w ++ (z ++ text_of q p.names ts (step q (Report e) (moment p (ss ++ still))))) (report_is_the_demand q p.names (moment p (ss ++ still)) bounds has e)

@@ -5,11 +5,12 @@ use Rattle.std.proofs.lemmas.List.{append-nil}
 use Rattle.rsvp_base.specs.Members.{In}
 use Rattle.calm_rounds.specs.Machine.{all_arrived, all_sent, items_of, run, waits}
 use Rattle.calm_rounds.specs.Rounds.{AreQuiet, Calm, Rounds}
+use Rattle.tree_model.specs.Ranks.{longest}
 use Rattle.network_model.specs.Bounds.{all_of}
 use Rattle.network_model.specs.Steps.{Piece, Deliver, Lose, Copy, At, ClearAt, Trace, Report, Flags, Inject, Reroute, Step, arrived, is_calm, machine, ms_of, sent, step}
 use Rattle.network_model.specs.Worlds.{Item, World}
 use Rattle.network_model.proofs.Changing.{the_rest_change_no_node}
-use Rattle.settle_reports.specs.Writing.{AMomentStaysSettled, OnlyWrite, only_writes}
+use Rattle.settle_reports.specs.Writing.{AMomentStaysCalm, OnlyWrite, only_writes}
 
 -- ---- one step
 -- what a step that only writes is: still, quiet, without time, and nothing arrives or leaves by it
@@ -53,6 +54,10 @@ module _ (q : ℕ) where
   same_flight : (ts : List Step) (u : World) → OnlyWrite ts → (run (machine q) ts u).flight ≡ u.flight
   same_flight [] u h = refl
   same_flight (t ∷ ts) u h = same_flight ts (step q t u) h.1 ∙ (idle q t u h.0).flight
+
+  pub same_net : (ts : List Step) (u : World) → OnlyWrite ts → (run (machine q) ts u).net ≡ u.net
+  same_net [] u h = refl
+  same_net (t ∷ ts) u h = same_net ts (step q t u) h.1 ∙ (idle q t u h.0).net
 
   no_waits : (ts : List Step) (u : World) → OnlyWrite ts → waits (machine q) ts ≡ 0
   no_waits [] u h = refl
@@ -123,10 +128,11 @@ module _ (q : ℕ) where
   all_parts ts [] le = absurd (omega (arith, le))
   all_parts ts (r ∷ rs) le = parts_then ts r rs
 
-pub a_moment_stays_settled : AMomentStaysSettled
-a_moment_stays_settled q w ss still h is =
+pub a_moment_stays_calm : AMomentStaysCalm
+a_moment_stays_calm wanted least q w ss still h is =
     let enough = is.enough in
-    let some : 1 ≤ length is.rounds = omega (arith, enough) in
+    let one = least (longest (run (machine q) is.before w).net) in
+    let some : 1 ≤ length is.rounds = omega (arith, enough, one) in
     record {
       before = is.before;
       rounds = in_last q still is.rounds;

@@ -1,4 +1,5 @@
 pub mod Writing
 pub mod RoundsAmong
 pub mod Demands
+pub mod Purged
 pub mod Example

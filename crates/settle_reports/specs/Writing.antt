@@ -1,7 +1,7 @@
 -- Steps that only write: reports, trace switches and flag reports.
-use Rattle.std.specs.Prelude.{◌≡◌, ℕ, ◌++◌, Bool, true, false, List, [], ◌∷◌}
+use Rattle.std.specs.Prelude.{◌≡◌, ℕ, ◌≤◌, ◌++◌, Bool, true, false, List, [], ◌∷◌}
 use Rattle.calm_rounds.specs.Machine.{run}
-use Rattle.network_model.specs.Bounds.{IsSettled}
+use Rattle.network_model.specs.Bounds.{EndsInCalm}
 use Rattle.network_model.specs.Steps.{Flags, Report, Step, Trace, machine}
 use Rattle.network_model.specs.Worlds.{World}
 use Rattle.settle_network.specs.Settled.{HasSettled}
@@ -16,9 +16,10 @@ abbrev pub OnlyWrite : List Step → Type 0
 OnlyWrite [] = Unit {0}
 OnlyWrite (s ∷ ss) = (only_writes s ≡ true) × OnlyWrite ss
 
--- a settled moment stays one: the steps that write count as the end of the last round
-abbrev pub AMomentStaysSettled : Type 0
-AMomentStaysSettled = (q : ℕ) (w : World) (ss still : List Step) → OnlyWrite still → IsSettled q w ss → IsSettled q w (ss ++ still)
+-- a moment behind calm rounds stays one, where at least one round is wanted: the steps that write count as the end of the last round
+abbrev pub AMomentStaysCalm : Type 0
+AMomentStaysCalm =
+    (wanted : ℕ → ℕ) → ((long : ℕ) → 1 ≤ wanted long) → (q : ℕ) (w : World) (ss still : List Step) → OnlyWrite still → EndsInCalm wanted q w ss → EndsInCalm wanted q w (ss ++ still)
 
 -- and a settled network stays settled
 abbrev pub ANetworkStaysSettled : Type 0

@@ -2,12 +2,13 @@
 ghost use Rattle.settle_reports.specs.Demands.{ASettledReportIsTheDemand};
 ghost use Rattle.settle_reports.specs.Example.{TheReportBecomesTheDemand};
 ghost use Rattle.settle_reports.specs.RoundsAmong.{RoundsAmongWritingCount};
-ghost use Rattle.settle_reports.specs.Writing.{AMomentStaysSettled, ANetworkStaysSettled};
+ghost use Rattle.settle_reports.specs.Purged.{APurgedReportIsAtMostTheDemand};
+ghost use Rattle.settle_reports.specs.Writing.{AMomentStaysCalm, ANetworkStaysSettled};
 
-/// A settled moment stays one while only reports, trace switches and flag reports follow: they take no time, send nothing and
-/// change no node, so that they count as the end of the last round.
-pub fn a_moment_stays_settled()
-    ensures { AMomentStaysSettled }
+/// A moment behind calm rounds, as a settled one, stays one while only reports, trace switches and flag reports follow: they take no
+/// time, send nothing and change no node, so that they count as the end of the last round.
+pub fn a_moment_stays_calm()
+    ensures { AMomentStaysCalm }
 {}
 
 /// Rounds among lines that only write count together: they are as many calm rounds as if they stood in one line, but for what is
@@ -26,6 +27,13 @@ pub fn a_network_stays_settled()
 /// demand, whole, with senders and flows.
 pub fn a_settled_report_is_the_demand()
     ensures { ASettledReportIsTheDemand }
+{}
+
+/// A report shows nothing stale: in the run of a fit script that is not crowded, at each report behind 10 H + 9 calm rounds, H the
+/// longest chain of hops, each book that the report writes is at most the demand of its end, whether or not the demands fit: it lists
+/// no session, style or sender that nobody below wants, no larger flow, and its sum is at most that of the demand.
+pub fn a_purged_report_is_at_most_the_demand()
+    ensures { APurgedReportIsAtMostTheDemand }
 {}
 
 /// The run of a small script, computed: a report before the rounds tells of a left-over reservation, and one behind 32 rounds is
