@@ -7,11 +7,13 @@ use Rattle.network_run.specs.declared.ending.Ending.TheVariants as ends
 use Rattle.network_run.proofs.Ended.{ended_at_once}
 use Rattle.script_player.specs.Standing.{IsNetworkOf}
 use Rattle.grown_player.proofs.Ended.{out_of_memory}
+use Rattle.packet_lines.specs.declared.ending.Ending.TheVariants as police
+use Rattle.packet_lines.proofs.Ended.{ended_at_once as policed_at_once}
 use Rattle.command_run.specs.Commands.{Does}
 use Rattle.command_run.specs.Ran.{Device, ran}
 use Rattle.command_run.specs.declared.status.Status.TheVariants.{NoMemory}
 use Rattle.command_run.specs.declared.task.Task.{Task}
-use Rattle.command_run.specs.declared.task.Task.TheVariants.{Replay, Demand, Show, Grow}
+use Rattle.command_run.specs.declared.task.Task.TheVariants.{Replay, Demand, Show, Grow, Police}
 use Rattle.command_run.proofs.Answering.{demanded_so}
 use Rattle.command_run.proofs.Grown.{grown_so}
 use Rattle.command_run.proofs.Replays.{replayed_so}
@@ -42,3 +44,13 @@ module _ {R : Type 0} (see : Seen R) where
   )
   did_nothing (Some (Grow seed)) left holds n m =
       (grown_so (IsNetworkOf see None) ends.NoMemory seed (still holds m) (out_of_memory (IsNetworkOf see None) seed holds) (λ wanted grows quiet. inr refl), record { source = Keeps-refl left; advice = refl })
+  did_nothing (Some Police) left holds n m = (
+    record {
+      how = police.NoMemory;
+      status = refl;
+      ending = policed_at_once left holds;
+      advised = λ bytes known. refl;
+      complete = λ bytes text wanted known few comes calm quiet. inr refl;
+    },
+    refl,
+  )

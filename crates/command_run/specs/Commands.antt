@@ -19,13 +19,14 @@ use Rattle.command_run.specs.Advised.{IsAdvised, IsShowAdvised}
 use Rattle.command_run.specs.Demanding.{IsDemand}
 use Rattle.command_run.specs.Growing.{EndsAsDemanded, IsGrowth}
 use Rattle.command_run.specs.Healing.{EndsInItsDemand, IsHealingRun, IsToldWithinCapacity}
+use Rattle.command_run.specs.Policing.{Policed}
 use Rattle.command_run.specs.Ran.{Device, HasFailed, IsUnread, Ran}
 use Rattle.command_run.specs.Showing.{IsShowing, ShowsTo}
 use Rattle.command_run.specs.Statuses.{IsOrNoMemory, IsReplay, status_of}
 use Rattle.command_run.specs.declared.status.Status.{Status}
 use Rattle.command_run.specs.declared.status.Status.TheVariants.{Done, Usage}
 use Rattle.command_run.specs.declared.task.Task.{Task}
-use Rattle.command_run.specs.declared.task.Task.TheVariants.{Replay, Demand, Show, Grow}
+use Rattle.command_run.specs.declared.task.Task.TheVariants.{Replay, Demand, Show, Grow, Police}
 
 -- `stands`: the network that is left stands behind these lines
 pub record Replayed (stands : Draft → Type 0) (r : Ran) : Type 0 where
@@ -80,6 +81,7 @@ module _ {R : Type 0} (see : Seen R) where
   Does (Some Demand) r last = Demanded r × (last ≡ None)
   Does (Some Show) r last = Shown r × (last ≡ None)
   Does (Some (Grow seed)) r last = Grown (IsNetworkOf see last) seed r.status r.sink × IsUnread r
+  Does (Some Police) r last = Policed r × (last ≡ None)
 
 -- ---- safety
 -- at each step of the run of a script of these bytes no book passes its capacity, no refusal changes a reservation, and blockades keep

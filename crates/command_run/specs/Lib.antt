@@ -7,4 +7,5 @@ pub mod Growing
 pub mod Healing
 pub mod StatusTexts
 pub mod Advised
+pub mod Policing
 pub mod Commands

@@ -1,17 +1,18 @@
 //! The top call: the words of a command line order a task, which is run from a source to a sink.
 //!
-//! `run_command` replays a script on a network of routers, writes the demand of one, shows messages in words, or grows a network and
-//! runs it. Its clauses say by the status exactly what was read and written, that a script that was replayed to its end heals
+//! `run_command` replays a script on a network of routers, writes the demand of one, shows messages in words, grows a network and
+//! runs it, or tells which packets of a flow pass. Its clauses say by the status exactly what was read and written, that a script that was replayed to its end heals
 //! itself (once its network has settled a report is the demand, and the last one what `demand` writes of the script), and that a
 //! network that was grown and run reports what is demanded. At each step of a script's run, however it ends, no book passes its
 //! capacity, no refusal changes a reservation, and blockades keep their promises. It stands on `script_player` and `grown_player`
 //! for runs, on `settle_reports`, `script_standing`, `run_laws`, `script_laws` and `seed_laws` for what holds of them, on
-//! `script_demand`, on `message_show` and on `command_words`.
+//! `script_demand`, on `message_show`, on `packet_lines` and on `command_words`.
 #![tactic(auto)]
 
 mod command;
 mod demanding;
 mod growing;
+mod policing;
 mod replaying;
 mod showing;
 mod status;
@@ -21,6 +22,7 @@ mod texts;
 pub use command::run_command;
 pub use demanding::demand;
 pub use growing::grow;
+pub use policing::police_packets;
 pub use replaying::{replay, status_of};
 pub use showing::show_messages;
 pub use status::Status;

@@ -86,8 +86,8 @@ fn answer<K: Sink>(alloc: Global, input: &[u8], sink: &mut K, advice: &mut Vec<u
     }
 }
 
-// The same reason, of a line of a script.
-fn fault_of(why: LineWhy) -> Fault
+/// The same reason, of a line of a script.
+pub fn fault_of(why: LineWhy) -> Fault
     ensures { result ≡ fault_of why }
 {
     match why {

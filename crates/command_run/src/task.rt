@@ -1,6 +1,6 @@
 //! Tasks.
 
-/// What the program can do: replay a script, write its demand, show messages, or grow a network and run it.
+/// What the program can do: replay a script, write its demand, show messages, grow a network and run it, or police packets.
 #[derive(Clone, Copy)]
 pub enum Task {
     Replay,
@@ -8,4 +8,5 @@ pub enum Task {
     Show,
     /// The network of this seed.
     Grow { seed: u64 },
+    Police,
 }

@@ -1,7 +1,7 @@
 -- Laws of the command line.
 use Rattle.std.specs.Prelude.{◌≡◌, [], ◌∷◌, None, Some, codes}
 use Rattle.command_words.specs.Orders.{order_of}
-use Rattle.command_words.specs.declared.order.Order.TheVariants.{Replay, Demand, Show, Grow}
+use Rattle.command_words.specs.declared.order.Order.TheVariants.{Replay, Demand, Show, Grow, Police}
 
 -- the words that a user writes are the orders that they name
 pub record EachVerbIsAnOrder : Type 0 where
@@ -9,6 +9,7 @@ pub record EachVerbIsAnOrder : Type 0 where
   pub demand : order_of (codes "demand" ∷ []) ≡ Some Demand
   pub show : order_of (codes "show" ∷ []) ≡ Some Show
   pub grow : order_of (codes "grow" ∷ []) ≡ Some (Grow 1)
+  pub police : order_of (codes "police" ∷ []) ≡ Some Police
   pub seeded : order_of (codes "grow" ∷ codes "--seed" ∷ codes "7" ∷ []) ≡ Some (Grow 7)
   pub zeros_first : order_of (codes "grow" ∷ codes "--seed" ∷ codes "01" ∷ []) ≡ Some (Grow 1)
   pub joined : order_of (codes "--seed=18446744073709551615" ∷ codes "grow" ∷ []) ≡ Some (Grow 18446744073709551615)

@@ -7,7 +7,7 @@ use Rattle.std.specs.Str.Parse.{digits_value}
 use Rattle.clap.specs.Words.{Text}
 use Rattle.command_words.specs.CommandLine.{faults_at, value_at}
 use Rattle.command_words.specs.declared.order.Order.{Order}
-use Rattle.command_words.specs.declared.order.Order.TheVariants.{Replay, Demand, Show, Grow}
+use Rattle.command_words.specs.declared.order.Order.TheVariants.{Replay, Demand, Show, Grow, Police}
 
 -- an order that no seed stands with
 abbrev pub unseeded : Order → Option Text → Option Order
@@ -36,7 +36,8 @@ ordered verb seed =
     if bytes_eq verb (codes "replay") then unseeded Replay seed else (
     if bytes_eq verb (codes "demand") then unseeded Demand seed else (
     if bytes_eq verb (codes "show") then unseeded Show seed else (
-    if bytes_eq verb (codes "grow") then grown seed else None)))
+    if bytes_eq verb (codes "grow") then grown seed else (
+    if bytes_eq verb (codes "police") then unseeded Police seed else None))))
 
 -- the order of a line, which begins with the program's name
 abbrev pub order_at : List Text → Option Order

@@ -10,6 +10,8 @@ pub enum Order {
     Show,
     /// Make a network from a seed, and replay it.
     Grow { seed: u64 },
+    /// Tell which packets of a flow conform to it.
+    Police,
 }
 
 /// Why there is no order.
