@@ -1,4 +1,4 @@
-pub mod Reading
+pub mod LineLaws
 pub mod Leading
 pub mod Counting
 pub mod Fed

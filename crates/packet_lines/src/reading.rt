@@ -46,7 +46,7 @@ fn packet_line_of(line: &[u8]) -> Option<PacketLine>
     said_by(line)
 }
 
-#[tactic(auto, using(crate::proofs::Reading::one_word, crate::proofs::Reading::pair_of_words, crate::proofs::Reading::many_words))]
+#[tactic(auto, using(crate::proofs::LineLaws::one_word, crate::proofs::LineLaws::pair_of_words, crate::proofs::LineLaws::many_words))]
 fn said_by(line: &[u8]) -> Option<PacketLine>
     ensures { result ≡ said_by (words_of line.now) }
 {

@@ -1,6 +1,6 @@
 use Rattle.std.proofs.Common.{rules}
 use Rattle.packet_lines.proofs.Fed.{flow_fed, misread, packet_fed, skipped_added}
-use Rattle.packet_lines.proofs.adding.Standing.add.Goals as goal
+use Rattle.packet_lines.proofs.standing.Standing.add.Goals as goal
 
 pub returns-in-None-clause-fed : goal.returns-in-None-clause-fed
 returns-in-None-clause-fed c = λ d st. (misread d c.args.line.now c.args.self.now st c.requires.short (search rules), st, search rules)
