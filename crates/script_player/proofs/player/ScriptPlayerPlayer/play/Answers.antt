@@ -36,5 +36,5 @@ returns-in-Err-Crowded g c = λ d said at run.
     let happened = rw c.in-Err-Crowded.field-0-is at (c.in-Err-Crowded.ensures (plan_of d) q.event.arrival q.event.read at.network (event_line d c.args.line.now new e q.follows q.event.events) run.roomy) in
     (event_crowds see d c.args.line.now new c.happen.new.world c.args.out.now.items c.happen.new.out.items e q.follows q.event.events happened, tt)
 
-pub returns-in-Err : goal.returns-in-Err
-returns-in-Err g c = λ d said at run. not_taken g.R.Router.seen (g.C.LinesBefore.lines c.args.self.now.checker) (g.C.LinesBefore.lines c.feed.new.self) d c.args.line.now c.args.self.now.world c.in-Err.stop at.same c.in-Err.ensures at.network
+pub returns : goal.returns
+returns g c = λ d said at run. not_taken g.R.Router.seen (g.C.LinesBefore.lines c.args.self.now.checker) (g.C.LinesBefore.lines c.feed.new.self) d c.args.line.now c.args.self.now.world c.in-Err.stop at.same c.in-Err.ensures at.network
