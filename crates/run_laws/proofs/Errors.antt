@@ -80,16 +80,16 @@ module _ (p : NodeConfig) (c e : ℕ) (dst : Addr) (m : ResvErrMsg) (f : Facts) 
 
 -- ---- a blockade that an input does not set
 -- a node with these facts takes the error, which sets a blockade of this key
-record Takes (p : NodeConfig) (c : ℕ) (f : Facts) (k : WallKey) (e : ℕ) (m : ResvErrMsg) : Type 0 where
-  admission : is_admission m.err ≡ true
-  flow : TokenBucket
-  says : m.blame.flow ≡ Some flow
-  target : In k (walled_by e m m.blame.style)
-  sender : Sender
-  comes : ComesBy f m.session (e, m.hop.addr) sender
-  room : size (walls_set p c e m f) ≤ 512
+pub record Takes (p : NodeConfig) (c : ℕ) (f : Facts) (k : WallKey) (e : ℕ) (m : ResvErrMsg) : Type 0 where
+  pub admission : is_admission m.err ≡ true
+  pub flow : TokenBucket
+  pub says : m.blame.flow ≡ Some flow
+  pub target : In k (walled_by e m m.blame.style)
+  pub sender : Sender
+  pub comes : ComesBy f m.session (e, m.hop.addr) sender
+  pub room : size (walls_set p c e m f) ≤ 512
 
-abbrev IsSetBy : NodeConfig → ℕ → Facts → Input → WallKey → Type 0
+abbrev pub IsSetBy : NodeConfig → ℕ → Facts → Input → WallKey → Type 0
 IsSetBy p c f i k = (e : ℕ) × (m : ResvErrMsg) × (i ≡ Came e (own p e) (Spelt (message.ResvErr m))) × Takes p c f k e m
 
 module _ (p : NodeConfig) (c : ℕ) (f : Facts) (k : WallKey) (b : Blockade) (there : get f.walls k ≡ Some b) where

@@ -69,7 +69,7 @@ use Rattle.network_steps.proofs.Known.{of_some, has_some, or_true, known_hold, n
 use Rattle.network_steps.proofs.Sends.{sent_by_rule}
 use Rattle.network_steps.proofs.Standing.{own_end, peer_there, linked_there}
 use Rattle.settle_resvs.specs.SoftResvs.{SaysResv, IsCut, line_key_of, resv_at, kept_of, kept_at, soft_resv}
-use Rattle.settle_resvs.specs.Said.{HopKey, IsOver, IsSaid, lane_of, resv_key}
+use Rattle.settle_resvs.specs.Said.{HopKey, hop_over, IsOver, IsSaid, lane_of, resv_key}
 use Rattle.settle_resvs.proofs.SoftResvs.{resv_found, resv_made, kept_found}
 
 -- ---- letters: Resvs of the session and style, from the end that asks to the end that keeps, and such ResvTears that take a
