@@ -12,9 +12,9 @@ nothing_flushed holds waits = record { bytes = []; wrote = Appends-nil holds; sp
 
 -- where no line is bad, nothing is told
 pub quiet_so : (e : Ending) (bytes advice : List ℕ) → IsNoLine e → advice ≡ [] → IsAdvised e bytes advice
-quiet_so Done bytes advice no none = none
-quiet_so (BadLine number why) bytes advice no none = absurd no
-quiet_so ReadFault bytes advice no none = none
-quiet_so WriteFault bytes advice no none = none
-quiet_so NoMemory bytes advice no none = none
-quiet_so TooLong bytes advice no none = none
+quiet_so Done bytes advice calm none = none
+quiet_so (BadLine number why) bytes advice calm none = absurd calm
+quiet_so ReadFault bytes advice calm none = none
+quiet_so WriteFault bytes advice calm none = none
+quiet_so NoMemory bytes advice calm none = none
+quiet_so TooLong bytes advice calm none = none
