@@ -149,7 +149,7 @@ module _ (old mid first holds : Option (List ℕ)) (r : Held) (s : Standing) (wa
         let one_more : length (p.before ++ now.line ∷ []) ≡ length p.before + 1 = omega (arith, length-append p.before (now.line ∷ [])) in
         same ∙ l.behind.numbered ∙ ap (λ n. min n (2 ^ 32 - 1)) one_more
 
-    first_bad : (l : HasLine old new now p.before) (number : ℕ) (y : LineWhy) → number ≡ now.number → HasFault p.draft now.line y → IsFirstBad number y (all_bytes l.taken new) (told_text p.draft.told)
+    abbrev first_bad : (l : HasLine old new now p.before) (number : ℕ) (y : LineWhy) → number ≡ now.number → HasFault p.draft now.line y → IsFirstBad number y (all_bytes l.taken new) (told_text p.draft.told)
     first_bad l number y same bad = record { at = record { before = p.before; line = now.line; after = l.at.after; parts = l.at.parts; ran = ran_before p.before refl; holds = bad }; counted = numbered l number same }
 
     line_begins : (l : HasLine old new now p.before) → Begins p.before l.taken

@@ -55,7 +55,6 @@ pub fn police<S: Source, K: Sink>(
 }
 
 // Polices line by line.
-#[tactic(auto, using(crate::proofs::Finishing::quiet_so))]
 fn police_to_end<S: Source, K: Sink>(
     alloc: Global,
     source: &mut S,

@@ -1,13 +1,14 @@
 use Rattle.std.proofs.Common.{◌≢◌, List, ℕ, refl, ap, subst, arith, inl, inr}
 use Rattle.line_stream.specs.Streams.{Held}
 use Rattle.line_stream.specs.declared.answer.NextLine.TheVariants.{Line, Long, End, Fault, TooLong}
-use Rattle.line_stream.proofs.Behind.{end_came, fault_came, goes_down, line_came, long_came, many_came}
+use Rattle.line_stream.proofs.Behind.{end_came, fault_came, goes_down, is_open, line_came, long_came, many_came}
 use Rattle.packet_lines.specs.Advice.{IsAdvice}
 use Rattle.packet_lines.specs.Drafts.{Draft, HasFault}
 use Rattle.packet_lines.specs.Finishing.{Finishes, IsToldAt}
 use Rattle.packet_lines.specs.Standings.{IsAdded, Stands}
 use Rattle.packet_lines.specs.declared.ending.Ending.TheVariants.{BadLine}
 use Rattle.packet_lines.proofs.Ended.{at_start, ended_at_once, ended_bad, ended_done, ended_fault, ended_here, ended_long, ended_many, flushed, one_more, told_bad, told_long}
+use Rattle.packet_lines.proofs.Finishing.{quiet_so}
 use Rattle.packet_lines.proofs.policing.police_to_end.Goals as goal
 
 pub returns-in-Err-clause-policed : goal.returns-in-Err-clause-policed
@@ -209,3 +210,57 @@ loop-advice-preserved g c =
       written = omega (arith, c.loop-advice.invariant.written, c.write_waiting.ensures.cause.later);
       quiet = c.loop-advice.invariant.quiet;
     }
+
+-- ---- the faults of the devices
+pub returns-in-Err-write_waiting-clause-write_fault : goal.returns-in-Err-write_waiting-clause-write_fault
+returns-in-Err-write_waiting-clause-write_fault g c = λ x. omega (arith, c.loop-advice.invariant.written, c.in-Err-write_waiting.ensures.cause.failed)
+
+pub returns-in-Long-clause-read_fault : goal.returns-in-Long-clause-read_fault
+returns-in-Long-clause-read_fault g c = λ x. absurd (c.end_long.ensures.read x)
+
+pub returns-in-Long-clause-write_fault : goal.returns-in-Long-clause-write_fault
+returns-in-Long-clause-write_fault g c = λ x. omega (arith, c.loop-advice.invariant.written, c.write_waiting.ensures.cause.later, c.end_long.ensures.cause x)
+
+pub returns-in-End-clause-read_fault : goal.returns-in-End-clause-read_fault
+returns-in-End-clause-read_fault g c = λ x. absurd (let z = c.end.ensures.read x in cc)
+
+pub returns-in-End-clause-write_fault : goal.returns-in-End-clause-write_fault
+returns-in-End-clause-write_fault g c = λ x. omega (arith, c.loop-advice.invariant.written, c.write_waiting.ensures.cause.later, c.end.ensures.cause x)
+
+pub returns-in-Fault-clause-read_fault : goal.returns-in-Fault-clause-read_fault
+returns-in-Fault-clause-read_fault g c = λ x.
+    let old = g.S.Source.left c.args.source.now in
+    let mid = g.S.Source.left c.loop-advice.source in
+    let p = c.loop-advice.invariant.policed in
+    let e = c.in-Fault.ensures in
+    let other : Fault ≢ End = λ y. cc in
+    let o = is_open old mid c.loop-advice.reader p.before p.taken Fault p.behind (λ n. (e.again n).0) other in
+    omega (arith, c.loop-advice.invariant.read, e.fault refl o.going)
+
+pub returns-in-Fault-clause-write_fault : goal.returns-in-Fault-clause-write_fault
+returns-in-Fault-clause-write_fault g c = λ x. omega (arith, c.loop-advice.invariant.written, c.write_waiting.ensures.cause.later, c.end-in-Fault.ensures.cause x)
+
+pub returns-in-TooLong-clause-read_fault : goal.returns-in-TooLong-clause-read_fault
+returns-in-TooLong-clause-read_fault g c = λ x. absurd (let z = c.end-in-TooLong.ensures.read x in cc)
+
+pub returns-in-TooLong-clause-write_fault : goal.returns-in-TooLong-clause-write_fault
+returns-in-TooLong-clause-write_fault g c = λ x. omega (arith, c.loop-advice.invariant.written, c.write_waiting.ensures.cause.later, c.end-in-TooLong.ensures.cause x)
+
+pub returns-in-Err-add-clause-read_fault : goal.returns-in-Err-add-clause-read_fault
+returns-in-Err-add-clause-read_fault g c = λ x. absurd (c.end_bad.ensures.read x)
+
+pub returns-in-Err-add-clause-write_fault : goal.returns-in-Err-add-clause-write_fault
+returns-in-Err-add-clause-write_fault g c = λ x. omega (arith, c.loop-advice.invariant.written, c.write_waiting.ensures.cause.later, c.end_bad.ensures.cause x)
+
+-- ---- where no line is bad, nothing is told
+pub returns-in-Err-write_waiting-clause-advised : goal.returns-in-Err-write_waiting-clause-advised
+returns-in-Err-write_waiting-clause-advised g c = λ bytes known. c.loop-advice.invariant.quiet
+
+pub returns-in-End-clause-advised : goal.returns-in-End-clause-advised
+returns-in-End-clause-advised g c = λ bytes known. quiet_so c.end.result bytes c.loop-advice.advice.items c.end.ensures.no_line c.loop-advice.invariant.quiet
+
+pub returns-in-Fault-clause-advised : goal.returns-in-Fault-clause-advised
+returns-in-Fault-clause-advised g c = λ bytes known. quiet_so c.end-in-Fault.result bytes c.loop-advice.advice.items c.end-in-Fault.ensures.no_line c.loop-advice.invariant.quiet
+
+pub returns-in-TooLong-clause-advised : goal.returns-in-TooLong-clause-advised
+returns-in-TooLong-clause-advised g c = λ bytes known. quiet_so c.end-in-TooLong.result bytes c.loop-advice.advice.items c.end-in-TooLong.ensures.no_line c.loop-advice.invariant.quiet
