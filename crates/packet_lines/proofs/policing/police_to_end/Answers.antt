@@ -17,8 +17,8 @@ returns-in-Err-clause-policed g c = ended_at_once (g.S.Source.left c.args.source
 pub returns-in-Err-room-clause-policed : goal.returns-in-Err-room-clause-policed
 returns-in-Err-room-clause-policed g c = ended_at_once (g.S.Source.left c.args.source.now) (g.K.Sink.holds c.args.sink.now)
 
-pub loop-advice-init : goal.loop-advice-init
-loop-advice-init g c = record {
+pub loop-out-init : goal.loop-out-init
+loop-out-init g c = record {
   policed = at_start (g.S.Source.left c.args.source.now) (g.K.Sink.holds c.args.sink.now) c.in-Ok.reader c.new.result c.in-Ok-room.out.items c.in-Ok.ensures c.new.ensures c.in-Ok-room.ensures.items;
   within = omega (arith, ap (λ (h : Held). h.taken) c.in-Ok.ensures);
   room = c.in-Ok-room.ensures.room;
@@ -30,25 +30,25 @@ loop-advice-init g c = record {
 pub returns-in-Err-write_waiting-clause-policed : goal.returns-in-Err-write_waiting-clause-policed
 returns-in-Err-write_waiting-clause-policed g c =
     let old = g.S.Source.left c.args.source.now in
-    let mid = g.S.Source.left c.loop-advice.source in
+    let mid = g.S.Source.left c.loop-out.source in
     let first = g.K.Sink.holds c.args.sink.now in
-    let holds = g.K.Sink.holds c.loop-advice.sink in
+    let holds = g.K.Sink.holds c.loop-out.sink in
     let err = c.in-Err-write_waiting.ensures.err in
-    ended_here old mid first holds c.loop-advice.reader c.loop-advice.standing c.loop-advice.out.items c.loop-advice.invariant.policed (g.K.Sink.holds c.write_waiting.new.sink) c.loop-advice.invariant.within err.0 err.1
+    ended_here old mid first holds c.loop-out.reader c.loop-out.standing c.loop-out.out.items c.loop-out.invariant.policed (g.K.Sink.holds c.write_waiting.new.sink) c.loop-out.invariant.within err.0 err.1
 
 pub returns-in-Long-clause-policed : goal.returns-in-Long-clause-policed
 returns-in-Long-clause-policed g c =
     let old = g.S.Source.left c.args.source.now in
-    let mid = g.S.Source.left c.loop-advice.source in
+    let mid = g.S.Source.left c.loop-out.source in
     let new = g.S.Source.left c.next.new.source in
     let first = g.K.Sink.holds c.args.sink.now in
-    let holds = g.K.Sink.holds c.loop-advice.sink in
+    let holds = g.K.Sink.holds c.loop-out.sink in
     let held = g.K.Sink.holds c.write_waiting.new.sink in
-    let r = c.loop-advice.reader in
+    let r = c.loop-out.reader in
     let now = c.next.new.self in
-    let s = c.loop-advice.standing in
+    let s = c.loop-out.standing in
     let waits = c.write_waiting.new.out.items in
-    let p = flushed old mid first holds r s c.loop-advice.out.items c.loop-advice.invariant.policed held waits c.in-Ok-write_waiting.ensures.ok in
+    let p = flushed old mid first holds r s c.loop-out.out.items c.loop-out.invariant.policed held waits c.in-Ok-write_waiting.ensures.ok in
     let e = c.in-Long.ensures in
     let fine : Long ≢ TooLong = λ x. cc in
     let l = long_came old mid new r now p.before p.taken p.behind (λ n. (e.again n).0) e.cut e.few (λ n. e.number n (inr refl)) in
@@ -57,16 +57,16 @@ returns-in-Long-clause-policed g c =
 pub returns-in-Long-clause-advised : goal.returns-in-Long-clause-advised
 returns-in-Long-clause-advised g c = λ bytes known.
     let old = g.S.Source.left c.args.source.now in
-    let mid = g.S.Source.left c.loop-advice.source in
+    let mid = g.S.Source.left c.loop-out.source in
     let new = g.S.Source.left c.next.new.source in
     let first = g.K.Sink.holds c.args.sink.now in
-    let holds = g.K.Sink.holds c.loop-advice.sink in
+    let holds = g.K.Sink.holds c.loop-out.sink in
     let held = g.K.Sink.holds c.write_waiting.new.sink in
-    let r = c.loop-advice.reader in
+    let r = c.loop-out.reader in
     let now = c.next.new.self in
-    let s = c.loop-advice.standing in
+    let s = c.loop-out.standing in
     let waits = c.write_waiting.new.out.items in
-    let p = flushed old mid first holds r s c.loop-advice.out.items c.loop-advice.invariant.policed held waits c.in-Ok-write_waiting.ensures.ok in
+    let p = flushed old mid first holds r s c.loop-out.out.items c.loop-out.invariant.policed held waits c.in-Ok-write_waiting.ensures.ok in
     let e = c.in-Long.ensures in
     let l = long_came old mid new r now p.before p.taken p.behind (λ n. (e.again n).0) e.cut e.few (λ n. e.number n (inr refl)) in
     told_long old mid first held r s waits p new (g.K.Sink.holds c.end_long.new.sink) now bytes c.end_long.new.advice.items known l c.number.result c.number.ensures c.end_long.result c.end_long.ensures.ended c.end_long.ensures.advised
@@ -74,16 +74,16 @@ returns-in-Long-clause-advised g c = λ bytes known.
 pub returns-in-End-clause-policed : goal.returns-in-End-clause-policed
 returns-in-End-clause-policed g c =
     let old = g.S.Source.left c.args.source.now in
-    let mid = g.S.Source.left c.loop-advice.source in
+    let mid = g.S.Source.left c.loop-out.source in
     let new = g.S.Source.left c.next.new.source in
     let first = g.K.Sink.holds c.args.sink.now in
-    let holds = g.K.Sink.holds c.loop-advice.sink in
+    let holds = g.K.Sink.holds c.loop-out.sink in
     let held = g.K.Sink.holds c.write_waiting.new.sink in
-    let r = c.loop-advice.reader in
+    let r = c.loop-out.reader in
     let now = c.next.new.self in
-    let s = c.loop-advice.standing in
+    let s = c.loop-out.standing in
     let waits = c.write_waiting.new.out.items in
-    let p = flushed old mid first holds r s c.loop-advice.out.items c.loop-advice.invariant.policed held waits c.in-Ok-write_waiting.ensures.ok in
+    let p = flushed old mid first holds r s c.loop-out.out.items c.loop-out.invariant.policed held waits c.in-Ok-write_waiting.ensures.ok in
     let e = c.in-End.ensures in
     let fine : End ≢ TooLong = λ x. cc in
     let l = end_came old mid new r now p.before p.taken p.behind (λ n. (let a = e.again n in (a.0, a.1, ap (λ s. g.S.Source.left s) a.2))) e.cut (λ n. (e.end refl n).1) in
@@ -92,16 +92,16 @@ returns-in-End-clause-policed g c =
 pub returns-in-Fault-clause-policed : goal.returns-in-Fault-clause-policed
 returns-in-Fault-clause-policed g c =
     let old = g.S.Source.left c.args.source.now in
-    let mid = g.S.Source.left c.loop-advice.source in
+    let mid = g.S.Source.left c.loop-out.source in
     let new = g.S.Source.left c.next.new.source in
     let first = g.K.Sink.holds c.args.sink.now in
-    let holds = g.K.Sink.holds c.loop-advice.sink in
+    let holds = g.K.Sink.holds c.loop-out.sink in
     let held = g.K.Sink.holds c.write_waiting.new.sink in
-    let r = c.loop-advice.reader in
+    let r = c.loop-out.reader in
     let now = c.next.new.self in
-    let s = c.loop-advice.standing in
+    let s = c.loop-out.standing in
     let waits = c.write_waiting.new.out.items in
-    let p = flushed old mid first holds r s c.loop-advice.out.items c.loop-advice.invariant.policed held waits c.in-Ok-write_waiting.ensures.ok in
+    let p = flushed old mid first holds r s c.loop-out.out.items c.loop-out.invariant.policed held waits c.in-Ok-write_waiting.ensures.ok in
     let e = c.in-Fault.ensures in
     let fine : Fault ≢ TooLong = λ x. cc in
     let l = fault_came old mid new r now p.before p.taken p.behind (λ n. (e.again n).0) e.cut in
@@ -110,16 +110,16 @@ returns-in-Fault-clause-policed g c =
 pub returns-in-TooLong-clause-policed : goal.returns-in-TooLong-clause-policed
 returns-in-TooLong-clause-policed g c =
     let old = g.S.Source.left c.args.source.now in
-    let mid = g.S.Source.left c.loop-advice.source in
+    let mid = g.S.Source.left c.loop-out.source in
     let new = g.S.Source.left c.next.new.source in
     let first = g.K.Sink.holds c.args.sink.now in
-    let holds = g.K.Sink.holds c.loop-advice.sink in
+    let holds = g.K.Sink.holds c.loop-out.sink in
     let held = g.K.Sink.holds c.write_waiting.new.sink in
-    let r = c.loop-advice.reader in
+    let r = c.loop-out.reader in
     let now = c.next.new.self in
-    let s = c.loop-advice.standing in
+    let s = c.loop-out.standing in
     let waits = c.write_waiting.new.out.items in
-    let p = flushed old mid first holds r s c.loop-advice.out.items c.loop-advice.invariant.policed held waits c.in-Ok-write_waiting.ensures.ok in
+    let p = flushed old mid first holds r s c.loop-out.out.items c.loop-out.invariant.policed held waits c.in-Ok-write_waiting.ensures.ok in
     let e = c.in-TooLong.ensures in
     let l = many_came old mid new r now p.before p.taken p.behind (λ n. (e.again n).0) e.cut (e.too_long refl) in
     ended_many old mid first held r s waits p new (g.K.Sink.holds c.end-in-TooLong.new.sink) now l (e.too_long refl) c.end-in-TooLong.result c.end-in-TooLong.ensures.ended
@@ -127,16 +127,16 @@ returns-in-TooLong-clause-policed g c =
 pub returns-in-Err-add-clause-policed : goal.returns-in-Err-add-clause-policed
 returns-in-Err-add-clause-policed g c =
     let old = g.S.Source.left c.args.source.now in
-    let mid = g.S.Source.left c.loop-advice.source in
+    let mid = g.S.Source.left c.loop-out.source in
     let new = g.S.Source.left c.next.new.source in
     let first = g.K.Sink.holds c.args.sink.now in
-    let holds = g.K.Sink.holds c.loop-advice.sink in
+    let holds = g.K.Sink.holds c.loop-out.sink in
     let held = g.K.Sink.holds c.write_waiting.new.sink in
-    let r = c.loop-advice.reader in
+    let r = c.loop-out.reader in
     let now = c.next.new.self in
-    let s = c.loop-advice.standing in
+    let s = c.loop-out.standing in
     let waits = c.write_waiting.new.out.items in
-    let p = flushed old mid first holds r s c.loop-advice.out.items c.loop-advice.invariant.policed held waits c.in-Ok-write_waiting.ensures.ok in
+    let p = flushed old mid first holds r s c.loop-out.out.items c.loop-out.invariant.policed held waits c.in-Ok-write_waiting.ensures.ok in
     let e = c.in-Line.ensures in
     let fine : Line ≢ TooLong = λ x. cc in
     let l = line_came old mid new r now p.before p.taken p.behind (λ n. (e.again n).0) e.cut (e.near refl) (λ n. e.number n (inl refl)) (e.last refl) in
@@ -148,16 +148,16 @@ returns-in-Err-add-clause-policed g c =
 pub returns-in-Err-add-clause-advised : goal.returns-in-Err-add-clause-advised
 returns-in-Err-add-clause-advised g c = λ bytes known.
     let old = g.S.Source.left c.args.source.now in
-    let mid = g.S.Source.left c.loop-advice.source in
+    let mid = g.S.Source.left c.loop-out.source in
     let new = g.S.Source.left c.next.new.source in
     let first = g.K.Sink.holds c.args.sink.now in
-    let holds = g.K.Sink.holds c.loop-advice.sink in
+    let holds = g.K.Sink.holds c.loop-out.sink in
     let held = g.K.Sink.holds c.write_waiting.new.sink in
-    let r = c.loop-advice.reader in
+    let r = c.loop-out.reader in
     let now = c.next.new.self in
-    let s = c.loop-advice.standing in
+    let s = c.loop-out.standing in
     let waits = c.write_waiting.new.out.items in
-    let p = flushed old mid first holds r s c.loop-advice.out.items c.loop-advice.invariant.policed held waits c.in-Ok-write_waiting.ensures.ok in
+    let p = flushed old mid first holds r s c.loop-out.out.items c.loop-out.invariant.policed held waits c.in-Ok-write_waiting.ensures.ok in
     let e = c.in-Line.ensures in
     let fine : Line ≢ TooLong = λ x. cc in
     let l = line_came old mid new r now p.before p.taken p.behind (λ n. (e.again n).0) e.cut (e.near refl) (λ n. e.number n (inl refl)) (e.last refl) in
@@ -167,36 +167,36 @@ returns-in-Err-add-clause-advised g c = λ bytes known.
     told_bad old mid first held r s waits p new (g.K.Sink.holds c.end_bad.new.sink) now bytes c.end_bad.new.advice.items known l c.number-in-Err-add.result c.in-Err-add.why c.number-in-Err-add.ensures bad c.add.new.self fed.1 c.end_bad.result
     (subst (λ (t : List ℕ). Finishes (BadLine c.number-in-Err-add.result c.in-Err-add.why) c.end_bad.result held (g.K.Sink.holds c.end_bad.new.sink) t) fed.2 c.end_bad.ensures.ended) told
 
-pub loop-advice-smaller : goal.loop-advice-smaller
-loop-advice-smaller g c =
+pub loop-out-smaller : goal.loop-out-smaller
+loop-out-smaller g c =
     let old = g.S.Source.left c.args.source.now in
-    let mid = g.S.Source.left c.loop-advice.source in
+    let mid = g.S.Source.left c.loop-out.source in
     let new = g.S.Source.left c.next.new.source in
     let first = g.K.Sink.holds c.args.sink.now in
-    let holds = g.K.Sink.holds c.loop-advice.sink in
+    let holds = g.K.Sink.holds c.loop-out.sink in
     let held = g.K.Sink.holds c.write_waiting.new.sink in
-    let r = c.loop-advice.reader in
+    let r = c.loop-out.reader in
     let now = c.next.new.self in
-    let s = c.loop-advice.standing in
+    let s = c.loop-out.standing in
     let waits = c.write_waiting.new.out.items in
-    let p = flushed old mid first holds r s c.loop-advice.out.items c.loop-advice.invariant.policed held waits c.in-Ok-write_waiting.ensures.ok in
+    let p = flushed old mid first holds r s c.loop-out.out.items c.loop-out.invariant.policed held waits c.in-Ok-write_waiting.ensures.ok in
     let e = c.in-Line.ensures in
     let fine : Line ≢ TooLong = λ x. cc in
     goes_down old mid new r now p.before p.taken p.behind (λ n. (e.again n).0) e.cut (e.within fine)
 
-pub loop-advice-preserved : goal.loop-advice-preserved
-loop-advice-preserved g c =
+pub loop-out-preserved : goal.loop-out-preserved
+loop-out-preserved g c =
     let old = g.S.Source.left c.args.source.now in
-    let mid = g.S.Source.left c.loop-advice.source in
+    let mid = g.S.Source.left c.loop-out.source in
     let new = g.S.Source.left c.next.new.source in
     let first = g.K.Sink.holds c.args.sink.now in
-    let holds = g.K.Sink.holds c.loop-advice.sink in
+    let holds = g.K.Sink.holds c.loop-out.sink in
     let held = g.K.Sink.holds c.write_waiting.new.sink in
-    let r = c.loop-advice.reader in
+    let r = c.loop-out.reader in
     let now = c.next.new.self in
-    let s = c.loop-advice.standing in
+    let s = c.loop-out.standing in
     let waits = c.write_waiting.new.out.items in
-    let p = flushed old mid first holds r s c.loop-advice.out.items c.loop-advice.invariant.policed held waits c.in-Ok-write_waiting.ensures.ok in
+    let p = flushed old mid first holds r s c.loop-out.out.items c.loop-out.invariant.policed held waits c.in-Ok-write_waiting.ensures.ok in
     let e = c.in-Line.ensures in
     let fine : Line ≢ TooLong = λ x. cc in
     let l = line_came old mid new r now p.before p.taken p.behind (λ n. (e.again n).0) e.cut (e.near refl) (λ n. e.number n (inl refl)) (e.last refl) in
@@ -206,61 +206,61 @@ loop-advice-preserved g c =
       policed = one_more old mid first held r s waits p new held now l c.add.new.self c.add.new.out.items on;
       within = e.within fine;
       room = omega (arith, c.add.ensures.capacity, c.in-Ok-write_waiting.ensures.room.1);
-      read = omega (arith, c.loop-advice.invariant.read, c.next.ensures.later);
-      written = omega (arith, c.loop-advice.invariant.written, c.write_waiting.ensures.cause.later);
-      quiet = c.loop-advice.invariant.quiet;
+      read = omega (arith, c.loop-out.invariant.read, c.next.ensures.later);
+      written = omega (arith, c.loop-out.invariant.written, c.write_waiting.ensures.cause.later);
+      quiet = c.loop-out.invariant.quiet;
     }
 
 -- ---- the faults of the devices
 pub returns-in-Err-write_waiting-clause-write_fault : goal.returns-in-Err-write_waiting-clause-write_fault
-returns-in-Err-write_waiting-clause-write_fault g c = λ x. omega (arith, c.loop-advice.invariant.written, c.in-Err-write_waiting.ensures.cause.failed)
+returns-in-Err-write_waiting-clause-write_fault g c = λ x. omega (arith, c.loop-out.invariant.written, c.in-Err-write_waiting.ensures.cause.failed)
 
 pub returns-in-Long-clause-read_fault : goal.returns-in-Long-clause-read_fault
 returns-in-Long-clause-read_fault g c = λ x. absurd (c.end_long.ensures.read x)
 
 pub returns-in-Long-clause-write_fault : goal.returns-in-Long-clause-write_fault
-returns-in-Long-clause-write_fault g c = λ x. omega (arith, c.loop-advice.invariant.written, c.write_waiting.ensures.cause.later, c.end_long.ensures.cause x)
+returns-in-Long-clause-write_fault g c = λ x. omega (arith, c.loop-out.invariant.written, c.write_waiting.ensures.cause.later, c.end_long.ensures.cause x)
 
 pub returns-in-End-clause-read_fault : goal.returns-in-End-clause-read_fault
 returns-in-End-clause-read_fault g c = λ x. absurd (let z = c.end.ensures.read x in cc)
 
 pub returns-in-End-clause-write_fault : goal.returns-in-End-clause-write_fault
-returns-in-End-clause-write_fault g c = λ x. omega (arith, c.loop-advice.invariant.written, c.write_waiting.ensures.cause.later, c.end.ensures.cause x)
+returns-in-End-clause-write_fault g c = λ x. omega (arith, c.loop-out.invariant.written, c.write_waiting.ensures.cause.later, c.end.ensures.cause x)
 
 pub returns-in-Fault-clause-read_fault : goal.returns-in-Fault-clause-read_fault
 returns-in-Fault-clause-read_fault g c = λ x.
     let old = g.S.Source.left c.args.source.now in
-    let mid = g.S.Source.left c.loop-advice.source in
-    let p = c.loop-advice.invariant.policed in
+    let mid = g.S.Source.left c.loop-out.source in
+    let p = c.loop-out.invariant.policed in
     let e = c.in-Fault.ensures in
     let other : Fault ≢ End = λ y. cc in
-    let o = is_open old mid c.loop-advice.reader p.before p.taken Fault p.behind (λ n. (e.again n).0) other in
-    omega (arith, c.loop-advice.invariant.read, e.fault refl o.going)
+    let o = is_open old mid c.loop-out.reader p.before p.taken Fault p.behind (λ n. (e.again n).0) other in
+    omega (arith, c.loop-out.invariant.read, e.fault refl o.going)
 
 pub returns-in-Fault-clause-write_fault : goal.returns-in-Fault-clause-write_fault
-returns-in-Fault-clause-write_fault g c = λ x. omega (arith, c.loop-advice.invariant.written, c.write_waiting.ensures.cause.later, c.end-in-Fault.ensures.cause x)
+returns-in-Fault-clause-write_fault g c = λ x. omega (arith, c.loop-out.invariant.written, c.write_waiting.ensures.cause.later, c.end-in-Fault.ensures.cause x)
 
 pub returns-in-TooLong-clause-read_fault : goal.returns-in-TooLong-clause-read_fault
 returns-in-TooLong-clause-read_fault g c = λ x. absurd (let z = c.end-in-TooLong.ensures.read x in cc)
 
 pub returns-in-TooLong-clause-write_fault : goal.returns-in-TooLong-clause-write_fault
-returns-in-TooLong-clause-write_fault g c = λ x. omega (arith, c.loop-advice.invariant.written, c.write_waiting.ensures.cause.later, c.end-in-TooLong.ensures.cause x)
+returns-in-TooLong-clause-write_fault g c = λ x. omega (arith, c.loop-out.invariant.written, c.write_waiting.ensures.cause.later, c.end-in-TooLong.ensures.cause x)
 
 pub returns-in-Err-add-clause-read_fault : goal.returns-in-Err-add-clause-read_fault
 returns-in-Err-add-clause-read_fault g c = λ x. absurd (c.end_bad.ensures.read x)
 
 pub returns-in-Err-add-clause-write_fault : goal.returns-in-Err-add-clause-write_fault
-returns-in-Err-add-clause-write_fault g c = λ x. omega (arith, c.loop-advice.invariant.written, c.write_waiting.ensures.cause.later, c.end_bad.ensures.cause x)
+returns-in-Err-add-clause-write_fault g c = λ x. omega (arith, c.loop-out.invariant.written, c.write_waiting.ensures.cause.later, c.end_bad.ensures.cause x)
 
 -- ---- where no line is bad, nothing is told
 pub returns-in-Err-write_waiting-clause-advised : goal.returns-in-Err-write_waiting-clause-advised
-returns-in-Err-write_waiting-clause-advised g c = λ bytes known. c.loop-advice.invariant.quiet
+returns-in-Err-write_waiting-clause-advised g c = λ bytes known. c.loop-out.invariant.quiet
 
 pub returns-in-End-clause-advised : goal.returns-in-End-clause-advised
-returns-in-End-clause-advised g c = λ bytes known. quiet_so c.end.result bytes c.loop-advice.advice.items c.end.ensures.no_line c.loop-advice.invariant.quiet
+returns-in-End-clause-advised g c = λ bytes known. quiet_so c.end.result bytes c.loop-out.advice.items c.end.ensures.no_line c.loop-out.invariant.quiet
 
 pub returns-in-Fault-clause-advised : goal.returns-in-Fault-clause-advised
-returns-in-Fault-clause-advised g c = λ bytes known. quiet_so c.end-in-Fault.result bytes c.loop-advice.advice.items c.end-in-Fault.ensures.no_line c.loop-advice.invariant.quiet
+returns-in-Fault-clause-advised g c = λ bytes known. quiet_so c.end-in-Fault.result bytes c.loop-out.advice.items c.end-in-Fault.ensures.no_line c.loop-out.invariant.quiet
 
 pub returns-in-TooLong-clause-advised : goal.returns-in-TooLong-clause-advised
-returns-in-TooLong-clause-advised g c = λ bytes known. quiet_so c.end-in-TooLong.result bytes c.loop-advice.advice.items c.end-in-TooLong.ensures.no_line c.loop-advice.invariant.quiet
+returns-in-TooLong-clause-advised g c = λ bytes known. quiet_so c.end-in-TooLong.result bytes c.loop-out.advice.items c.end-in-TooLong.ensures.no_line c.loop-out.invariant.quiet

@@ -5,8 +5,8 @@ use Rattle.packet_lines.proofs.Ended.{Progress}
 use Rattle.packet_lines.proofs.policing.police_to_end.Given as goal
 
 -- the lines up to here were policed, and what was told of their packets was written, or waits
-abbrev pub invariant-loop-advice : goal.invariant-loop-advice
-invariant-loop-advice g l =
+abbrev pub invariant-loop-out : goal.invariant-loop-out
+invariant-loop-out g l =
     record {
       policed : Progress (g.S.Source.left l.initial.source) (g.S.Source.left l.source) (g.K.Sink.holds l.initial.sink) (g.K.Sink.holds l.sink) l.reader l.standing l.out.items;
       within : l.reader.taken ≤ most_bytes;
@@ -17,5 +17,5 @@ invariant-loop-advice g l =
     }
 
 -- each turn gives a byte at least of those that an input may have
-abbrev pub decreases-loop-advice : goal.decreases-loop-advice
-decreases-loop-advice g l = most_bytes - (l.reader.taken - length l.reader.bytes)
+abbrev pub decreases-loop-out : goal.decreases-loop-out
+decreases-loop-out g l = most_bytes - (l.reader.taken - length l.reader.bytes)
