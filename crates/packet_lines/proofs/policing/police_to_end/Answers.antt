@@ -19,7 +19,7 @@ returns-in-Err-room-clause-policed g c = ended_at_once (g.S.Source.left c.args.s
 
 pub loop-out-init : goal.loop-out-init
 loop-out-init g c = record {
-  policed = at_start (g.S.Source.left c.args.source.now) (g.K.Sink.holds c.args.sink.now) c.in-Ok.reader c.new.result c.in-Ok-room.out.items c.in-Ok.ensures c.new.ensures c.in-Ok-room.ensures.items;
+  policed = at_start (g.S.Source.left c.args.source.now) (g.K.Sink.holds c.args.sink.now) c.in-Ok.reader c.new-standing.result c.in-Ok-room.out.items c.in-Ok.ensures c.new-standing.ensures c.in-Ok-room.ensures.items;
   within = omega (arith, ap (λ (h : Held). h.taken) c.in-Ok.ensures);
   room = c.in-Ok-room.ensures.room;
   read = omega arith;
@@ -142,8 +142,8 @@ returns-in-Err-add-clause-policed g c =
     let l = line_came old mid new r now p.before p.taken p.behind (λ n. (e.again n).0) e.cut (e.near refl) (λ n. e.number n (inl refl)) (e.last refl) in
     let fed = c.in-Err-add.ensures.fed p.draft p.stands in
     let bad = subst (λ (t : List ℕ). HasFault p.draft t c.in-Err-add.why) c.line.ensures.line fed.0 in
-    ended_bad old mid first held r s waits p new (g.K.Sink.holds c.end_bad.new.sink) now l (e.within fine) c.number-in-Err-add.result c.in-Err-add.why c.number-in-Err-add.ensures bad c.end_bad.result
-    (subst (λ (t : List ℕ). Finishes (BadLine c.number-in-Err-add.result c.in-Err-add.why) c.end_bad.result held (g.K.Sink.holds c.end_bad.new.sink) t) fed.2 c.end_bad.ensures.ended)
+    ended_bad old mid first held r s waits p new (g.K.Sink.holds c.end_bad.new.sink) now l (e.within fine) c.number-number.result c.in-Err-add.why c.number-number.ensures bad c.end_bad.result
+    (subst (λ (t : List ℕ). Finishes (BadLine c.number-number.result c.in-Err-add.why) c.end_bad.result held (g.K.Sink.holds c.end_bad.new.sink) t) fed.2 c.end_bad.ensures.ended)
 
 pub returns-in-Err-add-clause-advised : goal.returns-in-Err-add-clause-advised
 returns-in-Err-add-clause-advised g c = λ bytes known.
@@ -164,8 +164,8 @@ returns-in-Err-add-clause-advised g c = λ bytes known.
     let fed = c.in-Err-add.ensures.fed p.draft p.stands in
     let bad = subst (λ (t : List ℕ). HasFault p.draft t c.in-Err-add.why) c.line.ensures.line fed.0 in
     let told = subst (λ (t : List ℕ). IsToldAt (λ u. (d : Draft) → Stands c.add.new.self d → IsAdvice d t c.in-Err-add.why u) c.end_bad.result c.end_bad.new.advice.items) c.line-in-Err-add.ensures.line c.end_bad.ensures.advised in
-    told_bad old mid first held r s waits p new (g.K.Sink.holds c.end_bad.new.sink) now bytes c.end_bad.new.advice.items known l c.number-in-Err-add.result c.in-Err-add.why c.number-in-Err-add.ensures bad c.add.new.self fed.1 c.end_bad.result
-    (subst (λ (t : List ℕ). Finishes (BadLine c.number-in-Err-add.result c.in-Err-add.why) c.end_bad.result held (g.K.Sink.holds c.end_bad.new.sink) t) fed.2 c.end_bad.ensures.ended) told
+    told_bad old mid first held r s waits p new (g.K.Sink.holds c.end_bad.new.sink) now bytes c.end_bad.new.advice.items known l c.number-number.result c.in-Err-add.why c.number-number.ensures bad c.add.new.self fed.1 c.end_bad.result
+    (subst (λ (t : List ℕ). Finishes (BadLine c.number-number.result c.in-Err-add.why) c.end_bad.result held (g.K.Sink.holds c.end_bad.new.sink) t) fed.2 c.end_bad.ensures.ended) told
 
 pub loop-out-smaller : goal.loop-out-smaller
 loop-out-smaller g c =
