@@ -1,4 +1,4 @@
-use Rattle.std.proofs.Common.{◌≡◌, refl, sym, ap, subst, inl, inr}
+use Rattle.std.proofs.Common.{refl, sym, ap, subst, inl, inr}
 use Rattle.packet_lines.specs.Endings.{IsOrNoMemory as IsOrOut}
 use Rattle.packet_lines.specs.declared.ending.Ending.{Ending}
 use Rattle.command_run.specs.Policing.{Policed, police_status}
