@@ -8,7 +8,7 @@ set terminal svg size 640,360 font "sans,12" background "white"
 set output ARG1
 set datafile separator comma
 set xlabel "H, the longest chain of hops"
-set ylabel "rounds until every report is the demand"
+set ylabel "rounds until exact"
 set key left top
 set xrange [0:*]
 set offsets 0, 0.5, 0, 0
