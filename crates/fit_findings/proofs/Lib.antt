@@ -1,0 +1,5 @@
+pub mod Ranges
+pub mod Alone
+pub mod Fit
+pub mod Clashes
+pub mod Bits

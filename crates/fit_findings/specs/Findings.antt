@@ -1,0 +1,16 @@
+-- All that is found in what hosts ask of a network.
+use Rattle.std.specs.Prelude.{◌≡◌, map as each}
+use Rattle.network_demand.specs.Demands.{AreDemands}
+use Rattle.tree_model.specs.Networks.{Net}
+use Rattle.tree_model.specs.Wants.{Locals}
+use Rattle.fit_findings.specs.Askers.{asking, what_it_asks}
+use Rattle.fit_findings.specs.Misfits.{AreMisfits}
+use Rattle.fit_findings.specs.Strays.{idle}
+use Rattle.fit_findings.specs.declared.findings.Findings.{Findings}
+
+pub record AreFindings (net : Net) (l : Locals) (f : Findings) : Type 0 where
+  pub owed : AreDemands net l f.owed.items
+  pub misfits : AreMisfits net l f.misfits
+  -- each want, in order, and where it asks by itself
+  pub askers : each what_it_asks f.askers.items ≡ each (asking net l) l.wants
+  pub idle : f.idle.items ≡ idle net l.senders

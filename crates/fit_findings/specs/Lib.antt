@@ -1,0 +1,4 @@
+pub mod Misfits
+pub mod Askers
+pub mod Strays
+pub mod Findings

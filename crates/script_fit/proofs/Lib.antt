@@ -1,0 +1,5 @@
+pub mod NodeNames
+pub mod Beginnings
+pub mod Sayings
+pub mod Coming
+pub mod Chains

@@ -1,0 +1,20 @@
+use Rattle.std.proofs.Common.{◌≡◌, ℕ, ◌-◌, ◌^◌, ◌++◌, List, [], length, min}
+use Rattle.script_grammar.specs.Draft.{nothing}
+use Rattle.script_grammar.specs.Grammar.{Leads}
+use Rattle.script_words.specs.Lines.{text_lines}
+use Rattle.script_fit.proofs.script_lines.read_lines.Given as goal
+
+-- the lines before were taken, with the names of their nodes
+abbrev pub invariant-loop-line : goal.invariant-loop-line
+invariant-loop-line g l =
+    record {
+      before : List (List ℕ);
+      parts : text_lines l.input ≡ before ++ text_lines l.rest;
+      number : l.number ≡ min (length before) (2 ^ 32 - 1);
+      leads : Leads nothing before (g.C.LinesBefore.lines l.checker);
+      nodes : l.nodes.items ≡ (g.C.LinesBefore.lines l.checker).nodes;
+      quiet : l.advice.items ≡ [];
+    }
+
+abbrev pub decreases-loop-line : goal.decreases-loop-line
+decreases-loop-line g l = length l.rest

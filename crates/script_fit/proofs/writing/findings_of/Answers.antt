@@ -1,0 +1,6 @@
+use Rattle.laws_scripts.proofs.AskedLines.{what_lines_ask_can_be_asked}
+use Rattle.script_words.specs.Lines.{text_lines}
+use Rattle.script_fit.proofs.writing.findings_of.Goals as goal
+
+pub text_of-requires : goal.text_of-requires
+text_of-requires g c = what_lines_ask_can_be_asked (text_lines c.args.input.now) _ c.in-Ok.ensures.taken

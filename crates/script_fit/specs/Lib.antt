@@ -1,0 +1,4 @@
+pub mod Nodes
+pub mod Texts
+pub mod Findings
+pub mod Laws
