@@ -1,0 +1,4 @@
+pub mod Lengths
+pub mod Sizes
+pub mod Changes
+pub mod AllSends
