@@ -1,4 +1,5 @@
 //! A network: routers, links, the datagrams in flight, and what is written of them.
+use crate::events::*;
 use crate::messages::*;
 use crate::router::*;
 use crate::values::*;
@@ -16,6 +17,8 @@ pub struct Parcel {
     pub end: usize,
     pub dst: Addr,
     pub bytes: Vec<u8>,
+    pub id: u64,
+    pub from: Option<usize>,
 }
 
 #[derive(Default)]
@@ -34,6 +37,8 @@ pub struct Network {
     pub delivered: u64,
     pub crowded: bool,
     pub text: String,
+    pub ids: u64,
+    pub events: Option<Events>,
 }
 
 pub fn dotted(a: Addr) -> String {
@@ -84,15 +89,24 @@ impl Network {
                 if owner.is_none_or(|o| o == end) {
                     let mut bytes = self.spare.pop().unwrap_or_default();
                     encode(&s.message, &mut bytes);
-                    self.flight.push_back(Parcel {
-                        end,
-                        dst: s.dst,
-                        bytes,
-                    });
+                    self.put(end, s.dst, bytes, Some(from));
+                    self.sent_event();
                 }
             }
         }
         self.crowd();
+    }
+
+    pub fn put(&mut self, end: usize, dst: Addr, bytes: Vec<u8>, from: Option<usize>) {
+        let id = self.ids;
+        self.ids += 1;
+        self.flight.push_back(Parcel {
+            end,
+            dst,
+            bytes,
+            id,
+            from,
+        });
     }
 
     // More datagrams than this end the run.
@@ -112,6 +126,7 @@ impl Network {
             Ok(m) => self.nodes[node].arrive(iface, p.dst, m, out),
             Err(fault) => self.nodes[node].refuse(iface, p.dst, &p.bytes, *fault, out),
         };
+        self.delivered_event(&p, &heard);
         if self.trace {
             let kind = message.as_ref().map_or("?", Message::kind);
             let name = &self.ends[p.end].name;
@@ -139,6 +154,7 @@ impl Network {
         while left > 0 {
             let piece = left.min(self.period / 2);
             left -= piece;
+            self.passed(piece);
             for node in 0..self.nodes.len() {
                 let word = self.next_word();
                 self.nodes[node].wait(piece, word, out);
@@ -148,9 +164,12 @@ impl Network {
     }
 
     pub fn rounds(&mut self, n: u64, out: &mut Vec<Send>) {
-        for _ in 0..4 * n {
-            self.wait(self.period / 2, out);
-            self.pass(out);
+        for k in 1..=n {
+            for _ in 0..4 {
+                self.wait(self.period / 2, out);
+                self.pass(out);
+            }
+            self.round_event(k, n);
         }
     }
 

@@ -1,4 +1,5 @@
 //! Scripts that are right: each line is carried out as it is read.
+use crate::events::*;
 use crate::network::*;
 use crate::router::*;
 use crate::values::*;
@@ -78,15 +79,24 @@ pub fn part_of(first: &str) -> u8 {
     }
 }
 
+// Before the first line of part 3: what is left over stands.
+fn begin(net: &mut Network, part: &mut u8) {
+    if *part == 1 {
+        net.start();
+    }
+    if *part < 3 {
+        net.nodes.iter_mut().for_each(Node::remember);
+        net.standing_events();
+        *part = 3;
+    }
+}
+
 // `part` is that of the lines before.
 fn line(net: &mut Network, part: &mut u8, words: &[&str], out: &mut Vec<Send>) {
     let number = |k: usize| words[k].parse::<u64>().unwrap();
     let new = part_of(words[0]);
     if *part == 1 && new > 1 {
         net.start();
-    }
-    if *part < 3 && new == 3 {
-        net.nodes.iter_mut().for_each(Node::remember);
     }
     *part = new;
     let node = |net: &Network, k: usize| net.names[words[k]];
@@ -222,15 +232,16 @@ fn line(net: &mut Network, part: &mut u8, words: &[&str], out: &mut Vec<Send>) {
         }
         "rounds" => net.rounds(number(1), out),
         "deliver" => net.deliver(number(1) as usize - 1, out),
-        "lose" => drop(net.flight.remove(number(1) as usize - 1)),
+        "lose" => {
+            if let Some(p) = net.flight.remove(number(1) as usize - 1) {
+                net.lost_event(p.id);
+            }
+        }
         "copy" => {
             if let Some(p) = net.flight.get(number(1) as usize - 1) {
-                let copy = Parcel {
-                    end: p.end,
-                    dst: p.dst,
-                    bytes: p.bytes.clone(),
-                };
-                net.flight.push_back(copy);
+                let (end, dst, bytes, of, from) = (p.end, p.dst, p.bytes.clone(), p.id, p.from);
+                net.copied_event(net.ids, of);
+                net.put(end, dst, bytes, from);
                 net.crowd();
             }
         }
@@ -243,12 +254,8 @@ fn line(net: &mut Network, part: &mut u8, words: &[&str], out: &mut Vec<Send>) {
             let bytes = digits
                 .map(|d| u8::from_str_radix(std::str::from_utf8(d).unwrap(), 16).unwrap())
                 .collect();
-            let parcel = Parcel {
-                end: end(net, 1),
-                dst: addr(words[2]),
-                bytes,
-            };
-            net.flight.push_back(parcel);
+            net.put(end(net, 1), addr(words[2]), bytes, None);
+            net.sent_event();
             net.crowd();
         }
         "trace" => net.trace = words[1] == "on",
@@ -261,26 +268,40 @@ fn line(net: &mut Network, part: &mut u8, words: &[&str], out: &mut Vec<Send>) {
     }
 }
 
-// The text, and whether the run was crowded; the line that crowds it writes nothing.
-pub fn replay() -> (String, bool) {
+// The text, and whether the run was crowded; the line that crowds it writes nothing. Or the events in place of the text.
+pub fn replay(events: Option<Events>) -> (String, bool) {
     let mut input = String::new();
     std::io::stdin().read_to_string(&mut input).unwrap();
     let mut net = Network {
         period: 30000,
         x: 1,
+        events,
         ..Network::default()
     };
     let (mut part, mut out) = (1, Vec::new());
-    for text in input.lines() {
+    for (at, text) in input.lines().enumerate() {
         let words: Vec<&str> = text.split(' ').filter(|w| !w.is_empty()).collect();
         if !words.is_empty() && !text.starts_with('#') {
             let written = net.text.len();
+            let new = part_of(words[0]);
+            if new == 3 {
+                begin(&mut net, &mut part);
+            }
+            net.line_event(at + 1, text);
             line(&mut net, &mut part, &words, &mut out);
+            if words[0] == "report" || words[0] == "flags" {
+                net.report_event(written);
+            }
+            if new == 3 {
+                net.standing_events();
+            }
             if net.crowded {
                 net.text.truncate(written);
                 break;
             }
         }
     }
-    (net.text, net.crowded)
+    net.end_event();
+    let text = net.events.map_or(net.text, |e| e.text);
+    (text, net.crowded)
 }

@@ -26,7 +26,8 @@ unchanged rows p up absent = ap rows_of (sym (without_absent places (entries_of 
 
 -- ---- rows as entries
 -- what the row that was found charges is what the entry charges
-pub charge_found : (rows : List Row) (p : ℕ × EntryKey) (place : Result ℕ ℕ) (n : ℕ) → IfOk place (HasRowAt places as_entry rows p) → IfErr place (LacksRowAt places as_entry rows p) → IfOk place (λ at. (d : Row) → n ≡ (slice_index_or rows at d).flow.r) → OnErr place (n ≡ 0)
+pub charge_found : (rows : List Row) (p : ℕ × EntryKey) (place : Result ℕ ℕ) (n : ℕ) → IfOk place (HasRowAt places as_entry rows p) → IfErr place (LacksRowAt places as_entry rows p)
+    → IfOk place (λ at. (d : Row) → n ≡ (slice_index_or rows at d).flow.r) → OnErr place (n ≡ 0)
     → n ≡ charge (find places.cmp p (as_entries rows))
 charge_found rows p (Ok at) n stands goes row none = row (blank p) ∙ ap charge (sym (stands.found (blank p)))
 charge_found rows p (Err at) n stands goes row none = none ∙ ap charge (sym goes.absent)

@@ -27,7 +27,8 @@ kth_own : (i : ℕ) (x : Row) (xs : List Row) (k : ℕ) → x.iface ≡ i → ((
 kth_own i x xs zero e rest = grind (arith, nat_tests)
 kth_own i x xs (suc k) e rest = rest k
 
-from_here : (i : ℕ) (xs : List Row) (k : ℕ) → IsNonDecreasingBy (λ r. r.iface) xs → ((j : ℕ) (d : Row) → j < length xs → i ≤ (get_or xs j d).iface) → slice_get (rows_on i xs) k ≡ option_and_then (own i) (slice_get xs k)
+from_here : (i : ℕ) (xs : List Row) (k : ℕ) → IsNonDecreasingBy (λ r. r.iface) xs → ((j : ℕ) (d : Row) → j < length xs → i ≤ (get_or xs j d).iface)
+    → slice_get (rows_on i xs) k ≡ option_and_then (own i) (slice_get xs k)
 from_here i [] k rise low = refl
 from_here i (x ∷ xs) k rise low =
     elim (cases_eq x.iface i) [
@@ -38,11 +39,13 @@ from_here i (x ∷ xs) k rise low =
           ap (λ es. slice_get es k) (none_past entry_keys as_entry i (x ∷ xs) past) ∙ own_past i (x ∷ xs) k past
     ]
 
-pub kth_from_start : (i : ℕ) (rows : List Row) (start k : ℕ) → IsNonDecreasingBy (λ r. r.iface) rows → start ≤ length rows → IsPartitionPoint (λ r. ltb r.iface i ≡ true) (λ r. ltb r.iface i ≡ false) rows start
+pub kth_from_start : (i : ℕ) (rows : List Row) (start k : ℕ) → IsNonDecreasingBy (λ r. r.iface) rows → start ≤ length rows
+    → IsPartitionPoint (λ r. ltb r.iface i ≡ true) (λ r. ltb r.iface i ≡ false) rows start
     → slice_get (rows_on i rows) k ≡ option_and_then (own i) (slice_get (drop start rows) k)
 kth_from_start i rows zero k rise le parts = from_here i rows k rise (λ j d lt. ltb-false _ i (parts.1 j d (omega arith) lt))
 kth_from_start i [] (suc s) k rise le parts = absurd (omega arith)
 kth_from_start i (x ∷ xs) (suc s) k rise le parts =
     let low = ltb-true _ i (parts.0 0 x (omega arith) (omega arith)) in
     ap (λ es. slice_get es k) (rows_cons entry_keys as_entry i x xs false (untied i x.iface (λ e. omega arith)))
-    ∙ kth_from_start i xs s k (λ a b d le lt. rise (suc a) (suc b) d (omega arith) (omega arith)) (omega arith) ((λ j d low high. parts.0 (suc j) d (omega arith) (omega arith)), (λ j d low high. parts.1 (suc j) d (omega arith) (omega arith)))
+    ∙ kth_from_start i xs s k (λ a b d le lt. rise (suc a) (suc b) d (omega arith) (omega arith)) (omega arith)
+    ((λ j d low high. parts.0 (suc j) d (omega arith) (omega arith)), (λ j d low high. parts.1 (suc j) d (omega arith) (omega arith)))

@@ -24,11 +24,13 @@ size_fits : (on : Iface) (others : ℕ) (f : TokenBucket) → refusal_beside on 
 size_fits on others f e = grind (arith, nat_tests)
 
 -- the refusal on an interface that is there
-pub refusal_on : (b : Bookings) (i : ℕ) (k : EntryKey) (now : Option TokenBucket) (on : Iface) → slice_get b.ifaces i ≡ Some on → refusal b i k now ≡ refusal_beside on (charges (without b.entries (i, k)) i) now
+pub refusal_on : (b : Bookings) (i : ℕ) (k : EntryKey) (now : Option TokenBucket) (on : Iface) → slice_get b.ifaces i ≡ Some on
+    → refusal b i k now ≡ refusal_beside on (charges (without b.entries (i, k)) i) now
 refusal_on b i k now on at = ap (option_and_then (λ x. refusal_beside x (charges (without b.entries (i, k)) i) now)) at
 
 -- ---- an entry after a change is the new flow's, or was there
-pub got_changed_at : (m : Entries) (i : ℕ) (k : EntryKey) (now : Option TokenBucket) (j : ℕ) (q : EntryKey) (f : TokenBucket) → get (changed_at m i k now) (j, q) ≡ Some f → ((j ≡ i) × (now ≡ Some f)) ⊎ (get m (j, q) ≡ Some f)
+pub got_changed_at : (m : Entries) (i : ℕ) (k : EntryKey) (now : Option TokenBucket) (j : ℕ) (q : EntryKey) (f : TokenBucket) → get (changed_at m i k now) (j, q) ≡ Some f
+    → ((j ≡ i) × (now ≡ Some f)) ⊎ (get m (j, q) ≡ Some f)
 got_changed_at m i k None j q f got = inr (got_without places m (i, k) (j, q) f got)
 got_changed_at m i k (Some g) j q f got =
     elim (got_put_in places m (i, k) g (j, q) f got) [
@@ -84,7 +86,8 @@ within_kept b p within =
     }
 
 -- ---- the sums kept beside a book
-pub kept_after : (b : Bookings) (held : List ℕ) (i : ℕ) (k : EntryKey) (now : Option TokenBucket) (sum : ℕ) → IsKept b held → i < length b.ifaces → refusal b i k now ≡ None → sum ≡ charges (without b.entries (i, k)) i + charge now
+pub kept_after : (b : Bookings) (held : List ℕ) (i : ℕ) (k : EntryKey) (now : Option TokenBucket) (sum : ℕ) → IsKept b held → i < length b.ifaces → refusal b i k now ≡ None
+    → sum ≡ charges (without b.entries (i, k)) i + charge now
     → size (changed_at b.entries i k now) ≤ 3072 → IsKept (record { ifaces = b.ifaces; entries = changed_at b.entries i k now }) (slice_set held i sum)
 kept_after b held i k now sum kept there taken is few =
     record {

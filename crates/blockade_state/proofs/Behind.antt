@@ -20,7 +20,8 @@ less_if Less e = refl
 less_if Equal e = cc
 less_if Greater e = cc
 
-pub behind_last : (marks : List Mark) (s : Session) → AreRows sessions mark_row marks → ((e : Mark) → slice_get marks (length marks - 1) ≡ Some e → is_lt (sessions.cmp e.session s) ≡ true) → LacksRowAt sessions mark_row marks s (length marks)
+pub behind_last : (marks : List Mark) (s : Session) → AreRows sessions mark_row marks → ((e : Mark) → slice_get marks (length marks - 1) ≡ Some e → is_lt (sessions.cmp e.session s) ≡ true)
+    → LacksRowAt sessions mark_row marks s (length marks)
 behind_last marks s up last = searched_absent sessions mark_row marks s (Err (length marks)) up (omega arith) (λ _. (λ j e low lt. before j e lt, λ j e low lt. absurd (omega (arith, low, lt))))
   where
     end : (e : Mark) → 0 < length marks → sessions.cmp (get_or marks (length marks - 1) e).session s ≡ Less

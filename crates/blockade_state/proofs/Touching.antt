@@ -86,7 +86,8 @@ touched_pulled {K} {X} o of m k v es there =
     changed_twice sessions (touched_at (of k ∷ [])) (touched_at (each (λ e. of e.0) (where_key o.cmp (λ x. not (eq_by_cmp o.cmp k x)) es))) m
     ∙ changed_same sessions _ (touched_at (each (λ e. of e.0) es)) (λ s b. ap Some (at s b)) m
   where
-    at : (s : Session) (b : Bool) → ((b || (eq_by_cmp sessions.cmp s (of k) || false)) || list_any (eq_by_cmp sessions.cmp s) (each (λ e. of e.0) (where_key o.cmp (λ x. not (eq_by_cmp o.cmp k x)) es))) ≡ (b || list_any (eq_by_cmp sessions.cmp s) (each (λ e. of e.0) es))
+    at : (s : Session) (b : Bool) → ((b || (eq_by_cmp sessions.cmp s (of k) || false)) || list_any (eq_by_cmp sessions.cmp s)
+        (each (λ e. of e.0) (where_key o.cmp (λ x. not (eq_by_cmp o.cmp k x)) es))) ≡ (b || list_any (eq_by_cmp sessions.cmp s) (each (λ e. of e.0) es))
     at s b =
         or_assoc b (eq_by_cmp sessions.cmp s (of k) || false) (list_any (eq_by_cmp sessions.cmp s) (each (λ e. of e.0) (where_key o.cmp (λ x. not (eq_by_cmp o.cmp k x)) es)))
         ∙ ap (λ c. b || c)
@@ -99,7 +100,8 @@ sessions_by [] = refl
 sessions_by (f ∷ fs) = ap (λ ss. f.session ∷ ss) (sessions_by fs)
 
 pub touched_more : (m : Marks) (f : Kept) (old new : List Kept) → find wall_keys.cmp (wall_key f) (dead_by wall_key old) ≡ Some f
-    → dead_by wall_key new ≡ where_key wall_keys.cmp (λ k. not (eq_by_cmp wall_keys.cmp (wall_key f) k)) (dead_by wall_key old) → touched_by (sessions_of new) (touched_by (f.session ∷ []) m) ≡ touched_by (sessions_of old) m
+    → dead_by wall_key new ≡ where_key wall_keys.cmp (λ k. not (eq_by_cmp wall_keys.cmp (wall_key f) k)) (dead_by wall_key old)
+    → touched_by (sessions_of new) (touched_by (f.session ∷ []) m) ≡ touched_by (sessions_of old) m
 touched_more m f old new there pulled =
     (λ i. touched_by ((sessions_by new ∙ ap (λ (es : List (WallKey × Kept)). each (λ e. e.0.0) es) pulled) i) (touched_by (f.session ∷ []) m))
     ∙ touched_pulled wall_keys (λ (k : WallKey). k.0) m (wall_key f) f (dead_by wall_key old) there ∙ ap (λ ss. touched_by ss m) (sym (sessions_by old))
@@ -120,6 +122,7 @@ dying_is ms fs up = rows fs
     rows (f ∷ fs) = by (nat_le f.1 ms) (rows fs)
       where
         by : (b : Bool) → sessions_of (filter_map (dies ms) fs) ≡ each (λ (k : WallKey). k.0) (each (λ e. e.0) (changed_rows (dead_after ms) (changed_rows wall_of (each fact_row fs))))
-            → sessions_of (cons_option (cond b (Some f.0) None) (filter_map (dies ms) fs)) ≡ each (λ (k : WallKey). k.0) (each (λ e. e.0) (kept_row (wall_key f.0) (cond b (Some f.0.wall) None) (changed_rows (dead_after ms) (changed_rows wall_of (each fact_row fs)))))
+            → sessions_of (cons_option (cond b (Some f.0) None) (filter_map (dies ms) fs))
+            ≡ each (λ (k : WallKey). k.0) (each (λ e. e.0) (kept_row (wall_key f.0) (cond b (Some f.0.wall) None) (changed_rows (dead_after ms) (changed_rows wall_of (each fact_row fs)))))
         by true rest = ap (λ ss. f.0.session ∷ ss) rest
         by false rest = rest

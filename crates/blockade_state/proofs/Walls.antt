@@ -28,7 +28,9 @@ fewer : {X : Type 0} (k : WallKey) (v : X) (es : List (WallKey × X)) → find w
 fewer k v [] e = cc
 fewer {X} k v (e ∷ es) found = by (λ h. fewer k v es h) (eq_by_cmp wall_keys.cmp k e.0) found
   where
-    by : (find wall_keys.cmp k es ≡ Some v → length (where_key wall_keys.cmp (λ x. not (eq_by_cmp wall_keys.cmp k x)) es) < length es) → (b : Bool) → cond b (Some e.1) (find wall_keys.cmp k es) ≡ Some v → length {A = WallKey × X} (cond (not b) (e ∷ where_key wall_keys.cmp (λ x. not (eq_by_cmp wall_keys.cmp k x)) es) (where_key wall_keys.cmp (λ x. not (eq_by_cmp wall_keys.cmp k x)) es)) < length (e ∷ es)
+    by : (find wall_keys.cmp k es ≡ Some v → length (where_key wall_keys.cmp (λ x. not (eq_by_cmp wall_keys.cmp k x)) es) < length es) → (b : Bool)
+        → cond b (Some e.1) (find wall_keys.cmp k es) ≡ Some v → length {A = WallKey × X}
+        (cond (not b) (e ∷ where_key wall_keys.cmp (λ x. not (eq_by_cmp wall_keys.cmp k x)) es) (where_key wall_keys.cmp (λ x. not (eq_by_cmp wall_keys.cmp k x)) es)) < length (e ∷ es)
     by ih true h = let rest = where_no_more wall_keys (λ x. not (eq_by_cmp wall_keys.cmp k x)) es in omega arith
     by ih false h = let rest = ih h in omega arith
 
@@ -72,9 +74,11 @@ module _ (fs : List (Kept × ℕ)) (up : AreRows wall_keys fact_row fs) where
   more k e = valued-put_in wall_keys said facts k e
 
   -- a 513th is refused, and no other
-  pub refused : {A E : Type 0} (r : Result A E) (k : WallKey) (e : Kept × ℕ) (room : ℕ) → room ≡ 512 → length fs ≤ 512 → (IsErr r ↔ ((get facts k ≡ None) × (length fs ≡ room))) → IsErr r ↔ (512 < size (put_in (changed wall_of facts) k (said e)))
+  pub refused : {A E : Type 0} (r : Result A E) (k : WallKey) (e : Kept × ℕ) (room : ℕ) → room ≡ 512 → length fs ≤ 512 → (IsErr r ↔ ((get facts k ≡ None) × (length fs ≡ room))) → IsErr r
+      ↔ (512 < size (put_in (changed wall_of facts) k (said e)))
   refused r k e room is few full =
-      let count : size (put_in (changed wall_of facts) k (said e)) ≡ cond (is_some (get facts k)) (length fs) (length fs + 1) = ap size (sym (more k e)) ∙ size-valued wall_keys said (put_in facts k e) ∙ sized k e in (
+      let count : size (put_in (changed wall_of facts) k (said e)) ≡ cond (is_some (get facts k)) (length fs) (length fs + 1) = ap size (sym (more k e))
+      ∙ size-valued wall_keys said (put_in facts k e) ∙ sized k e in (
         λ err. let why = full.0 err in let n = count ∙ ap (λ w. cond (is_some w) (length fs) (length fs + 1)) why.0 in omega (arith, n, why.1, is),
         λ lt. either (is_some (get facts k))
             (λ t. let n = count ∙ ap (λ b. cond b (length fs) (length fs + 1)) t in absurd (omega (arith, n, lt, few)))
@@ -82,7 +86,8 @@ module _ (fs : List (Kept × ℕ)) (up : AreRows wall_keys fact_row fs) where
       )
 
   -- and so there are at most 512
-  pub still_few : {A E : Type 0} (r : Result A E) (k : WallKey) (e : Kept × ℕ) (room : ℕ) (new : List (Kept × ℕ)) → room ≡ 512 → length fs ≤ 512 → (IsErr r ↔ ((get facts k ≡ None) × (length fs ≡ room)))
+  pub still_few : {A E : Type 0} (r : Result A E) (k : WallKey) (e : Kept × ℕ) (room : ℕ) (new : List (Kept × ℕ)) → room ≡ 512 → length fs ≤ 512
+      → (IsErr r ↔ ((get facts k ≡ None) × (length fs ≡ room)))
       → OnOk r (each fact_row new ≡ (put_in facts k e).rows) → OnErr r (new ≡ fs) → length new ≤ 512
   still_few (Err x) k e room new is few full ok err = omega (arith, ap length err, few)
   still_few (Ok x) k e room new is few full ok err =

@@ -1,1 +1,10 @@
 pub mod Front
+pub mod Bounding
+pub mod Counting
+pub mod Cutting
+pub mod Fronts
+pub mod Keeping
+pub mod Feeds
+pub mod Behind
+pub mod Places
+pub mod Known

@@ -7,7 +7,8 @@ use Rattle.calm_rounds.specs.Machine.{items_of, IsClocked, IsStamped, run}
 use Rattle.calm_rounds.specs.Rounds.{Calm, Rounds}
 use Rattle.calm_rounds.specs.Hold.{Hold}
 use Rattle.calm_rounds.specs.SoftStates.{KeepLaws, DueLaws, SaysOnly, KeepsOnly, Good, Moves}
-use Rattle.calm_rounds.specs.Beacon.{Signal, BeaconWorld, BeaconStep, Flash, Arrive, told, flash, first_of, rest_of, living, taken, after, beacon, IsSane, place, first_world, a_round, some_rounds, MeetsThePremises, after_mute, mute, kept_world, told_world, a_mute_round, mute_rounds, TakesTheRounds}
+use Rattle.calm_rounds.specs.Beacon.{Signal, BeaconWorld, BeaconStep, Flash, Arrive, told, flash, first_of, rest_of, living, taken, after, beacon, IsSane, place, first_world, a_round}
+use Rattle.calm_rounds.specs.Beacon.{some_rounds, MeetsThePremises, after_mute, mute, kept_world, told_world, a_mute_round, mute_rounds, TakesTheRounds}
 use Rattle.calm_rounds.proofs.Holding.{hold_map, hold_both, hold_always, hold_end}
 
 first_in : (x : Signal) (xs : List Signal) → first_of xs ≡ Some x → In x xs
@@ -97,7 +98,8 @@ falls_due = record { moved = λ s u t t' q h h' e f. moved s u t t' e f; due_roo
 moves : (n : ℕ) → Moves beacon place told n
 moves n = record { rests = λ s u d q g g' none e lt. rests s u d none e lt; calls = λ s u q g g' f. calls s u f; tracks = λ s u x q g g' i e. refl }
   where
-    rests : (s : BeaconStep) (u : BeaconWorld) (d : ℕ) → ((x : Signal) → beacon.arrived s u ≡ Some x → true ≡ false) → u.kept ≡ Some (told, d) → (after s u).clock < d → (after s u).kept ≡ Some (told, d)
+    rests : (s : BeaconStep) (u : BeaconWorld) (d : ℕ) → ((x : Signal) → beacon.arrived s u ≡ Some x → true ≡ false) → u.kept ≡ Some (told, d) → (after s u).clock < d
+        → (after s u).kept ≡ Some (told, d)
     rests Flash u d none e lt = ap (λ (o : Option (ℕ × ℕ)). living (u.clock + 6) o) e ∙ lives_on (u.clock + 6) told d lt
     rests Arrive u d none e lt = by_signal (first_of u.flight) refl
       where

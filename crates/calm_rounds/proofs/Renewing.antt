@@ -115,7 +115,8 @@ module _ {W S I K V : Type 0} (m : Machine W S I K) (c : IsClocked m) (stamps : 
         firm_got (m.clock w) y.0 (sent_letter y.0 (y.2 ∙ x.2) r w calm.silent a y.1) r w calm.silent a (omega arith)
         (omega (arith, clock_run m c r w calm.silent, calm.short)) y.3
 
-    firm_rounds : (1 ≤ m.quarter) → (b : ℕ) (rs : List (List S)) (w : W) → Rounds m rs w → Hold m 0 rs w l.sane → Hold m 0 rs w Able → m.clock w ≤ b + 10 * m.quarter → Firm v b w → Hold m 0 rs w (Stands m l v)
+    firm_rounds : (1 ≤ m.quarter) → (b : ℕ) (rs : List (List S)) (w : W) → Rounds m rs w → Hold m 0 rs w l.sane → Hold m 0 rs w Able → m.clock w ≤ b + 10 * m.quarter → Firm v b w
+        → Hold m 0 rs w (Stands m l v)
     firm_rounds q b [] w calm sane a le firm = (firm.0, firm.1)
     firm_rounds q b (r ∷ rs) w calm sane a le firm = (
       visited_map m (Firm v b) (Stands m l v) (λ u h. (h.0, h.1)) r w

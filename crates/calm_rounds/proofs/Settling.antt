@@ -46,6 +46,7 @@ module _ {W S I K V : Type 0} (m : Machine W S I K) (c : IsClocked m) (stamps : 
       (hold_flush m stamps rs w calm)) in
       hold_both m (KeepsOnly m l P) (SaysOnly m l P 0) 5 rs w
       (hold_stack m (λ u. l.sane u × SaysOnly m l P 0 u) (KeepsOnly m l P) 4
-      (λ rs' w' calm' h. dies_out P closed rs' w' calm' (hold_map m (λ u. l.sane u × SaysOnly m l P 0 u) l.sane (λ u h. h.0) 0 rs' w' h) (hold_map m (λ u. l.sane u × SaysOnly m l P 0 u) (SaysOnly m l P 0) (λ u h. h.1) 0 rs' w' h))
+      (λ rs' w' calm' h. dies_out P closed rs' w' calm' (hold_map m (λ u. l.sane u × SaysOnly m l P 0 u) l.sane (λ u h. h.0) 0 rs' w' h)
+      (hold_map m (λ u. l.sane u × SaysOnly m l P 0 u) (SaysOnly m l P 0) (λ u h. h.1) 0 rs' w' h))
       1 rs w calm all)
       (hold_later m (SaysOnly m l P 0) 1 5 rs w (omega arith) (hold_map m (λ u. l.sane u × SaysOnly m l P 0 u) (SaysOnly m l P 0) (λ u h. h.1) 1 rs w all))

@@ -11,16 +11,16 @@ use Rattle.network_model.specs.Events.{Event, Reports, all_steps, steps_of}
 use Rattle.network_model.specs.Runs.{Plan, first_world, steps_of_run}
 use Rattle.network_model.specs.Steps.{Report, Step, machine, step}
 use Rattle.network_model.specs.Worlds.{World}
-use Rattle.network_steps.specs.Known.{IsKnown}
-use Rattle.network_steps.specs.Runs.{IsFitRun}
-use Rattle.network_steps.proofs.Calming.{run_append}
-use Rattle.network_steps.proofs.Keeping.{calm_rounds_keep_bounds}
-use Rattle.network_steps.proofs.Known.{known_hold}
-use Rattle.network_steps.proofs.Runs.{each_world_of_a_run_is_within_bounds}
-use Rattle.seed_laws.specs.SettleReports.RoundsAmong.{AreRoundsAndWriting, AreRoundsThenWriting, rounds_among}
-use Rattle.seed_laws.specs.SettleReports.Writing.{OnlyWrite}
-use Rattle.seed_laws.proofs.SettleReports.RoundsAmong.{rounds_among_writing_count}
-use Rattle.seed_laws.proofs.SettleReports.Writing.{same_net}
+use Rattle.laws_network.specs.Known.{IsKnown}
+use Rattle.laws_network.specs.Runs.{IsFitRun}
+use Rattle.laws_network.proofs.Calming.{run_append}
+use Rattle.laws_network.proofs.Keeping.{calm_rounds_keep_bounds}
+use Rattle.laws_network.proofs.Known.{known_hold}
+use Rattle.laws_network.proofs.Runs.{each_world_of_a_run_is_within_bounds}
+use Rattle.laws_grown.specs.ScriptTheorem.RoundsAmong.{AreRoundsAndWriting, AreRoundsThenWriting, rounds_among}
+use Rattle.laws_grown.specs.ScriptTheorem.Writing.{OnlyWrite}
+use Rattle.laws_grown.proofs.ScriptTheorem.RoundsAmong.{rounds_among_writing_count}
+use Rattle.laws_grown.proofs.ScriptTheorem.Writing.{same_net}
 
 module _ (q : ℕ) where
   steps_on : (es fs : List Event) (w : World) → all_steps q (es ++ fs) w ≡ all_steps q es w ++ all_steps q fs (run (machine q) (all_steps q es w) w)
@@ -86,7 +86,8 @@ module _ (p : Plan) (es fs : List Event) (e : Option ℕ) (events : p.events ≡
   -- the network at the report is that in which the rounds begin
   pub net_stays : IsFitRun p → (run (machine q) (to_last_round ++ written_behind) w).net ≡ o.net
   net_stays fit =
-      let kept = hold_end (machine q) (IsKnown q o) 0 counted.rounds o (omega arith) (known_hold q o counted.rounds counted.calm (calm_rounds_keep_bounds q o counted.rounds counted.calm (begun fit))) in
+      let kept = hold_end (machine q) (IsKnown q o) 0 counted.rounds o (omega arith) (known_hold q o counted.rounds counted.calm
+      (calm_rounds_keep_bounds q o counted.rounds counted.calm (begun fit))) in
       ap (λ (u : World). u.net) (run_append (machine q) to_last_round written_behind w) ∙ same_net q written_behind (run (machine q) to_last_round w) counted.writes
       ∙ ap (λ (u : World). u.net) (run_append (machine q) first (all_of counted.rounds) w ∙ run_all q counted.rounds o) ∙ kept.same.net
 

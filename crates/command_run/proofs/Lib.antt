@@ -1,5 +1,7 @@
 pub mod LastRounds
 pub mod Answering
+pub mod WholeLines
+pub mod FirstLines
 pub mod Replays
 pub mod Shows
 pub mod StatusTexts

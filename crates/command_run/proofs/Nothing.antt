@@ -1,15 +1,15 @@
 -- Memory ran out before the task of the words was known: whatever it is, nothing was done of it.
 use Rattle.std.proofs.Common.{ℕ, List, [], Option, None, Some, inr, refl, arith}
 use Rattle.std.proofs.KnownBytes.{Appends-nil, Consumes-nil, Keeps-refl}
-use Rattle.net_replay.specs.Following.{Seen}
-use Rattle.script_grammar.specs.Draft.{Draft, plan_of}
-use Rattle.network_run.specs.declared.ending.Ending.TheVariants as ends
-use Rattle.network_run.proofs.Ended.{ended_at_once}
-use Rattle.script_player.specs.Standing.{IsNetworkOf}
+use Rattle.network_replay.specs.Following.{Seen}
+use Rattle.script_grammar.specs.Draft.{Draft}
+use Rattle.script_run.specs.declared.ending.Ending.TheVariants as ends
+use Rattle.script_run.proofs.Ended.{ended_at_once}
+use Rattle.script_run.specs.Standing.{IsNetworkOf}
 use Rattle.grown_player.proofs.Ended.{out_of_memory}
 use Rattle.packet_lines.specs.declared.ending.Ending.TheVariants as police
 use Rattle.packet_lines.proofs.Ended.{ended_at_once as policed_at_once}
-use Rattle.command_run.specs.Commands.{Does}
+use Rattle.command_run.specs.Commands.{Does, Stands}
 use Rattle.command_run.specs.Ran.{Device, ran}
 use Rattle.command_run.specs.declared.status.Status.TheVariants.{NoMemory}
 use Rattle.command_run.specs.declared.task.Task.{Task}
@@ -26,11 +26,12 @@ module _ {R : Type 0} (see : Seen R) where
   pub did_nothing : (t : Option Task) (left holds : Option (List ℕ)) (n m : ℕ) → Does see t (ran NoMemory (still left n) (still holds m) []) None
   did_nothing None left holds n m = record { usage = inr refl; unread = record { source = Keeps-refl left; advice = refl }; unwritten = Keeps-refl holds }
   did_nothing (Some Replay) left holds n m =
-      let stands = λ (d : Draft). IsNetworkOf see None (plan_of d) in
-      replayed_so stands ends.NoMemory (still left n) (still holds m) [] (ended_at_once (λ (p : Unit {0}) (d : Draft). Unit {0}) stands left holds) (λ bytes known. refl)
+      replayed_so see None ends.NoMemory (still left n) (still holds m) []
+      (ended_at_once (λ (p : Unit {0}) (d : Draft). Unit {0}) (Stands see None) left holds) (λ other. refl) (λ bytes known. refl)
       (λ bytes text wanted known short comes calm quiet. inr refl)
   did_nothing (Some Demand) left holds n m = (
-    demanded_so ends.NoMemory (still left n) (still holds m) [] (record { taken = []; took = Consumes-nil left; counted = omega arith; wrote = record { text = []; wrote = Appends-nil holds; ended = refl } })
+    demanded_so ends.NoMemory (still left n) (still holds m) []
+        (record { taken = []; took = Consumes-nil left; counted = omega arith; wrote = record { text = []; wrote = Appends-nil holds; ended = refl } })
         (λ bytes known. refl) (λ bytes wanted known demands calm quiet. inr refl),
     refl,
   )
@@ -42,8 +43,10 @@ module _ {R : Type 0} (see : Seen R) where
     },
     refl,
   )
-  did_nothing (Some (Grow seed)) left holds n m =
-      (grown_so (IsNetworkOf see None) ends.NoMemory seed (still holds m) (out_of_memory (IsNetworkOf see None) seed holds) (λ wanted grows quiet. inr refl), record { source = Keeps-refl left; advice = refl })
+  did_nothing (Some (Grow seed)) left holds n m = (
+    grown_so see None ends.NoMemory seed (still holds m) (out_of_memory (IsNetworkOf see None) seed holds) (λ other. refl) (λ wanted grows quiet. inr refl),
+    record { source = Keeps-refl left; advice = refl },
+  )
   did_nothing (Some Police) left holds n m = (
     record {
       how = police.NoMemory;

@@ -1,6 +1,6 @@
 -- What is promised of a replay, by how its run ended: of a script that was replayed to its end by the theorem.
 use Rattle.std.proofs.Common.{◌≡◌, ℕ, ◌+◌, ◌*◌, ◌≤◌, List, [], ◌∷◌, ◌++◌, Option, None, Some, length, false, refl, sym, ap, subst, ◌∙◌}
-use Rattle.std.specs.Prelude.{IfSome}
+use Rattle.std.specs.Prelude.{◌≢◌, IfSome}
 use Rattle.std.specs.Io.KnownBytes.{Appends}
 use Rattle.byte_streams.specs.Reading.{most_bytes}
 use Rattle.script_words.specs.Lines.{text_lines}
@@ -9,34 +9,33 @@ use Rattle.tree_model.specs.Ranks.{longest}
 use Rattle.network_model.specs.Runs.{first_world, is_crowded_run, run_text, steps_of_run, text_of}
 use Rattle.network_model.specs.Steps.{Report, Step, machine}
 use Rattle.network_model.specs.Worlds.{World}
-use Rattle.network_steps.proofs.Calming.{run_append}
+use Rattle.laws_network.proofs.Calming.{run_append}
 use Rattle.script_grammar.specs.Draft.{Draft, nothing, plan_of, routing}
 use Rattle.script_grammar.specs.Grammar.{IsScript, Leads}
 use Rattle.script_grammar.proofs.Scripts.{one_script_law}
-use Rattle.script_laws.proofs.EventLines.{each_script_is_a_fit_run}
-use Rattle.script_theorem.proofs.Safety.{scripts_are_safe, scripts_heal_themselves}
-use Rattle.seed_laws.proofs.ScriptStanding.Demands.{scripts_stand, the_last_report_is_the_demand}
-use Rattle.seed_laws.specs.SettleReports.Demands.{moment}
-use Rattle.seed_laws.specs.SettleReports.RoundsAmong.{rounds_among}
-use Rattle.network_run.specs.Advised.{IsAdvised as IsEndAdvised}
-use Rattle.network_run.specs.Endings.{ComesTo, IsOrNoMemory as EndsOrNoMemory, IsRun}
-use Rattle.network_run.specs.Written.{HasRun}
-use Rattle.network_run.specs.declared.ending.Ending.{Ending}
-use Rattle.network_run.specs.declared.ending.Ending.TheVariants as ending
-use Rattle.network_run.proofs.Spoken.{only_scripts_are_done}
-use Rattle.report_reading.proofs.Told.{tells_within}
-use Rattle.command_run.specs.Commands.{IsSafeScript, Replayed}
+use Rattle.laws_scripts.proofs.EventLines.{each_script_is_a_fit_run}
+use Rattle.script_theorem.specs.Theorem.{HealsItself}
+use Rattle.script_theorem.proofs.Safety.{first_lines_heal_themselves}
+use Rattle.laws_grown.proofs.ScriptTheorem.WorldDemands.{scripts_stand, the_last_report_is_the_demand}
+use Rattle.laws_grown.specs.ScriptTheorem.Demands.{moment}
+use Rattle.laws_grown.specs.ScriptTheorem.RoundsAmong.{rounds_among}
+use Rattle.network_replay.specs.Agreeing.{NetworkState}
+use Rattle.network_replay.specs.Following.{Seen}
+use Rattle.script_run.specs.Advised.{IsAdvised as IsEndAdvised}
+use Rattle.script_run.specs.Endings.{ComesTo, IsOrNoMemory as EndsOrNoMemory, IsRun}
+use Rattle.script_run.specs.Written.{HasRun}
+use Rattle.script_run.specs.declared.ending.Ending.{Ending}
+use Rattle.script_run.specs.declared.ending.Ending.TheVariants as ending
+use Rattle.script_run.proofs.Spoken.{only_scripts_are_done}
+use Rattle.laws_texts.proofs.Told.{tells_within}
+use Rattle.command_run.specs.Commands.{Replayed, Stands}
 use Rattle.command_run.specs.Healing.{EndsInItsDemand, IsHealingRun, LastReportIsTheDemand, RoundsBringTheDemand}
 use Rattle.command_run.specs.Ran.{Device, HasFailed, ran}
 use Rattle.command_run.specs.Statuses.{status_of}
 use Rattle.command_run.proofs.Answering.{advised_so, or_no_memory}
+use Rattle.command_run.proofs.FirstLines.{ran_first_lines, safe_files}
 use Rattle.command_run.proofs.LastRounds.{only_writes_behind, settled, steps, to_last_round, written_behind}
 use Rattle.command_run.specs.declared.status.Status.TheVariants.{Done}
-
--- whatever is left of a source
-pub safe_script : (left : Option (List ℕ)) → IfSome left IsSafeScript
-safe_script None = tt
-safe_script (Some bytes) = scripts_are_safe bytes
 
 -- ---- done
 heals_done : (bytes text : List ℕ) (before after : Option (List ℕ)) → HasRun (text_lines bytes) text → Appends before after text → IsHealingRun bytes before after
@@ -47,7 +46,10 @@ heals_done bytes text before after ran wrote =
       script = run.script;
       roomy = run.roomy;
       wrote = subst (λ t. Appends before after t) run.text_is wrote;
-      heals = scripts_heal_themselves bytes run.plan run.script run.roomy;
+      heals =
+          let lines = run.script.lines in
+          let heal = first_lines_heal_themselves (text_lines bytes) lines run.script.leads (ap is_crowded_run (sym run.script.says) ∙ run.roomy) in
+          subst HealsItself (sym run.script.says) heal;
     }
 
 done_heals : (stands : Draft → Type 0) (old new before after : Option (List ℕ)) → IsRun stands ending.Done old new before after → IfSome old (λ bytes. IsHealingRun bytes before after)
@@ -56,7 +58,8 @@ done_heals stands (Some bytes) None before after run = absurd run.took
 done_heals stands (Some bytes) (Some left) before after run =
     heals_done bytes run.text before after (subst (λ bs. HasRun (text_lines bs) run.text) (sym run.took) run.ended.ran) run.wrote
 
-pub healed_run : (stands : Draft → Type 0) (e : Ending) (old new before after : Option (List ℕ)) → status_of e ≡ Done → IsRun stands e old new before after → IfSome old (λ bytes. IsHealingRun bytes before after)
+pub healed_run : (stands : Draft → Type 0) (e : Ending) (old new before after : Option (List ℕ)) → status_of e ≡ Done → IsRun stands e old new before after
+    → IfSome old (λ bytes. IsHealingRun bytes before after)
 healed_run stands ending.Done old new before after is run = done_heals stands old new before after run
 healed_run stands (ending.BadLine number why) old new before after is run = absurd (cc is)
 healed_run stands ending.ReadFault old new before after is run = absurd (cc is)
@@ -97,21 +100,27 @@ module _ (bytes : List ℕ) (before after : Option (List ℕ)) (run : IsHealingR
   ends_in_its_demand : EndsInItsDemand d before after
   ends_in_its_demand = record { settled = last_settled; rounds = last_rounds }
 
-pub last_report : (left before after : Option (List ℕ)) → IfSome left (λ bytes. IsHealingRun bytes before after) → IfSome left (λ bytes. (d : Draft) → Leads nothing (text_lines bytes) d → EndsInItsDemand d before after)
+pub last_report : (left before after : Option (List ℕ)) → IfSome left (λ bytes. IsHealingRun bytes before after)
+    → IfSome left (λ bytes. (d : Draft) → Leads nothing (text_lines bytes) d → EndsInItsDemand d before after)
 last_report None before after run = tt
 last_report (Some bytes) before after run = λ d leads. ends_in_its_demand bytes before after run d leads
 
 -- ---- however it ended
-module _ (stands : Draft → Type 0) (e : Ending) (source sink : Device) (advice : List ℕ) where
-  pub replayed_so : IsRun stands e source.old source.new sink.old sink.new → ((bytes : List ℕ) → source.old ≡ Some bytes → IsEndAdvised e bytes advice)
+module _ {R : Type 0} (see : Seen R) (last : Option (NetworkState R)) (e : Ending) (source sink : Device) (advice : List ℕ) where
+  pub replayed_so : IsRun (Stands see last) e source.old source.new sink.old sink.new → (e ≢ ending.Done → last ≡ None)
+      → ((bytes : List ℕ) → source.old ≡ Some bytes → IsEndAdvised e bytes advice)
       → ((bytes text : List ℕ) (wanted : Ending) → source.old ≡ Some bytes → length bytes ≤ most_bytes → ComesTo wanted bytes text
       → (HasFailed source → ⊥) → (HasFailed sink → ⊥) → EndsOrNoMemory wanted e)
-      → Replayed stands (ran (status_of e) source sink advice)
-  replayed_so run advised complete = record {
-    ending = (e, refl, run);
+      → Replayed see last (ran (status_of e) source sink advice)
+  replayed_so run empty advised complete = record {
+    how = e;
+    status = refl;
+    ending = run;
+    ran = ran_first_lines see last e run.taken run.text source.new empty run.ended;
+    safe = safe_files source.old;
     advised = λ bytes known. advised_so e bytes advice (advised bytes known);
-    healed = λ done. healed_run stands e source.old source.new sink.old sink.new done run;
-    last_report = λ done. last_report source.old sink.old sink.new (healed_run stands e source.old source.new sink.old sink.new done run);
-    told = tells_within stands e source.old source.new sink.old sink.new run;
+    healed = λ done. healed_run (Stands see last) e source.old source.new sink.old sink.new done run;
+    last_report = λ done. last_report source.old sink.old sink.new (healed_run (Stands see last) e source.old source.new sink.old sink.new done run);
+    within_capacity = tells_within (Stands see last) e source.old source.new sink.old sink.new run;
     complete = λ bytes text wanted known short comes calm quiet. or_no_memory wanted e (complete bytes text wanted known short comes calm quiet);
   }

@@ -22,7 +22,8 @@ pub one_bad_line : (input : List ℕ) (d e : LineErr) → IsBadDigits input d �
 one_bad_line input d e x y = ap bad_line (one_bad_line_law input d e x y)
 
 -- what showing comes to, over an input that was read to its end
-pub comes_to : (input : List ℕ) (wanted got : Status) (F : Type 0) → length input ≤ most_bytes → (AreRight input → (F → ⊥) → IsOrNoMemory Done got) → ((e : LineErr) → IsBadDigits input e → IsOrNoMemory (bad_line e) got)
+pub comes_to : (input : List ℕ) (wanted got : Status) (F : Type 0) → length input ≤ most_bytes → (AreRight input → (F → ⊥) → IsOrNoMemory Done got)
+    → ((e : LineErr) → IsBadDigits input e → IsOrNoMemory (bad_line e) got)
     → ShowsTo wanted input → (wanted ≡ Done → F → ⊥) → IsOrNoMemory wanted got
 comes_to input Done got F few right bad shows quiet = right shows.1 (quiet refl)
 comes_to input (BadLine number why) got F few right bad shows quiet =

@@ -1,6 +1,6 @@
--- What is told of the line by which a run ended as bad.
+-- The advice on the line by which a run ended as bad.
 use Rattle.std.specs.Prelude.{◌≡◌, ℕ, List, []}
-use Rattle.line_advice.specs.Advice.{IsToldLine}
+use Rattle.script_advice.specs.Advice.{IsToldLine}
 use Rattle.message_show.specs.ShowAdvice.{IsToldDigits}
 use Rattle.script_grammar.specs.declared.fault.Fault.{Fault}
 use Rattle.script_words.specs.declared.fault.LineErr.{LineErr}
@@ -13,13 +13,13 @@ abbrev pub IsAdvised : Status → List ℕ → List ℕ → Type 0
 IsAdvised (BadLine number why) bytes advice = IsToldLine number why bytes advice
 IsAdvised _ bytes advice = advice ≡ []
 
--- the line of this number of these lines of digits is the first bad one, and what is wrong with it was told
-pub record IsShowTold (number : ℕ) (why : Fault) (bytes advice : List ℕ) : Type 0 where
+-- the line of this number of these lines of digits is the first bad one, with the advice on it
+pub record IsShowAdvice (number : ℕ) (why : Fault) (bytes advice : List ℕ) : Type 0 where
   pub error : LineErr
-  pub told : IsToldDigits bytes advice error
+  pub advised : IsToldDigits bytes advice error
   pub line_is : number ≡ error.line
   pub why_is : why ≡ fault_of error.why
 
 abbrev pub IsShowAdvised : Status → List ℕ → List ℕ → Type 0
-IsShowAdvised (BadLine number why) bytes advice = IsShowTold number why bytes advice
+IsShowAdvised (BadLine number why) bytes advice = IsShowAdvice number why bytes advice
 IsShowAdvised _ bytes advice = advice ≡ []

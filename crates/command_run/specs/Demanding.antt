@@ -1,6 +1,6 @@
 -- The demand of a script, by its status.
 use Rattle.std.specs.Prelude.{◌≡◌, ℕ, List, Option}
-use Rattle.network_run.specs.declared.ending.Ending.{Ending}
+use Rattle.script_run.specs.declared.ending.Ending.{Ending}
 use Rattle.script_demand.specs.Demanding.{IsDemanding}
 use Rattle.command_run.specs.Statuses.{status_of}
 use Rattle.command_run.specs.declared.status.Status.{Status}

@@ -2,9 +2,9 @@
 use Rattle.std.specs.Prelude.{◌≡◌, ℕ, ◌++◌, List, Option, codes}
 use Rattle.std.specs.Io.KnownBytes.{Appends}
 use Rattle.network_model.specs.Runs.{Plan, run_text}
-use Rattle.network_run.specs.declared.ending.Ending.{Ending}
+use Rattle.script_run.specs.declared.ending.Ending.{Ending}
 use Rattle.grown_network.specs.Grown.{grown_plan}
-use Rattle.grown_summary.specs.Summaries.{demanded, summary}
+use Rattle.grown_network.specs.Summaries.{demanded, summary}
 use Rattle.grown_player.specs.Endings.{IsGrownRun}
 use Rattle.command_run.specs.Statuses.{status_of}
 use Rattle.command_run.specs.declared.status.Status.{Status}

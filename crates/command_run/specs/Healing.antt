@@ -11,13 +11,13 @@ use Rattle.network_model.specs.DemandTexts.{demand_text}
 use Rattle.script_grammar.specs.Draft.{Draft, plan_of, routing}
 use Rattle.script_grammar.specs.Grammar.{IsScript}
 use Rattle.script_theorem.specs.Theorem.{HealsItself}
-use Rattle.seed_laws.specs.SettleReports.RoundsAmong.{AreRoundsAndWriting, rounds_among}
-use Rattle.seed_laws.specs.SettleReports.Writing.{OnlyWrite}
-use Rattle.report_reading.specs.Reading.{TellsWithinCapacity}
+use Rattle.laws_grown.specs.ScriptTheorem.RoundsAmong.{AreRoundsAndWriting, rounds_among}
+use Rattle.laws_grown.specs.ScriptTheorem.Writing.{OnlyWrite}
+use Rattle.laws_texts.specs.Reading.{TellsWithinCapacity}
 
 -- no whole line of what was appended says of an end that it holds more than its capacity
-abbrev pub IsToldWithinCapacity : Option (List ℕ) → Option (List ℕ) → Type 0
-IsToldWithinCapacity before after = (text : List ℕ) × Appends before after text × TellsWithinCapacity text
+abbrev pub WritesWithinCapacity : Option (List ℕ) → Option (List ℕ) → Type 0
+WritesWithinCapacity before after = (text : List ℕ) × Appends before after text × TellsWithinCapacity text
 
 -- the bytes are a script that is never crowded, its whole text was appended to what was there before, and it heals itself
 pub record IsHealingRun (bytes : List ℕ) (before after : Option (List ℕ)) : Type 0 where

@@ -5,6 +5,7 @@ pub mod Showing
 pub mod Demanding
 pub mod Growing
 pub mod Healing
+pub mod FirstLines
 pub mod StatusTexts
 pub mod Advised
 pub mod Policing

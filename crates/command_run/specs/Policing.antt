@@ -25,7 +25,7 @@ pub record Policed (r : Ran) : Type 0 where
   pub how : Ending
   pub status : r.status ≡ police_status how
   pub ending : IsPoliced how r.source.old r.source.new r.sink.old r.sink.new
-  -- over known input: what is wrong with the bad line is told
+  -- over known input: the advice on the bad line
   pub advised : (bytes : List ℕ) → r.source.old ≡ Some bytes → IsAdvised how bytes r.advice
   -- nothing else ends it over known input and devices that do not fail
   pub complete : (bytes text : List ℕ) (wanted : Ending) → r.source.old ≡ Some bytes → length bytes ≤ most_bytes → ComesTo wanted bytes text

@@ -2,7 +2,7 @@
 use Rattle.std.specs.Prelude.{◌≡◌, ℕ, ◌≤◌, ◌<◌, List, length, Option}
 use Rattle.byte_streams.specs.Reading.{most_bytes}
 use Rattle.message_show.specs.ShowLines.{AreRight, IsBadDigits, IsShown}
-use Rattle.network_run.specs.declared.ending.Ending.{Ending}
+use Rattle.script_run.specs.declared.ending.Ending.{Ending}
 use Rattle.script_demand.specs.Answering.{IsAnswering}
 use Rattle.script_grammar.specs.declared.fault.Fault.{Fault}
 use Rattle.script_grammar.specs.declared.fault.Fault.TheVariants as fault

@@ -1,9 +1,7 @@
 -- The statuses of runs.
-use Rattle.std.specs.Prelude.{◌≡◌, ◌⊎◌, ℕ, List, Option}
-use Rattle.script_grammar.specs.Draft.{Draft}
-use Rattle.network_run.specs.Endings.{IsRun}
-use Rattle.network_run.specs.declared.ending.Ending.{Ending}
-use Rattle.network_run.specs.declared.ending.Ending.TheVariants as ending
+use Rattle.std.specs.Prelude.{◌≡◌, ◌⊎◌, ℕ}
+use Rattle.script_run.specs.declared.ending.Ending.{Ending}
+use Rattle.script_run.specs.declared.ending.Ending.TheVariants as ending
 use Rattle.command_run.specs.declared.status.Status.{Status}
 use Rattle.command_run.specs.declared.status.Status.TheVariants.{Done, Usage, BadLine, ReadFault, WriteFault, NoMemory, Crowded, TooLong}
 
@@ -27,10 +25,6 @@ status_of ending.WriteFault = WriteFault
 status_of ending.NoMemory = NoMemory
 status_of ending.Crowded = Crowded
 status_of ending.TooLong = TooLong
-
--- bytes were taken of a source and a text was written to a sink, and the run of the script had this status
-abbrev pub IsReplay : (Draft → Type 0) → Status → Option (List ℕ) → Option (List ℕ) → Option (List ℕ) → Option (List ℕ) → Type 0
-IsReplay stands status old new before after = (e : Ending) × (status ≡ status_of e) × IsRun stands e old new before after
 
 -- this status, or memory ran out
 abbrev pub IsOrNoMemory : Status → Status → Type 0

@@ -1,8 +1,8 @@
 //! The top call.
-ghost use Rattle.std.specs.Prelude.{◌≡◌, ◌≢◌, None, Some, Err, map, string_bytes, IfSome, IfOk};
+ghost use Rattle.std.specs.Prelude.{◌≡◌, ◌≢◌, None, Some, Err, map, string_bytes, IfOk};
 ghost use Rattle.byte_streams.specs.Faults.{Rose};
 ghost use Rattle.script_grammar.specs.Draft.{nothing};
-ghost use Rattle.command_run.specs.Commands.{Does, IsSafeScript};
+ghost use Rattle.command_run.specs.Commands.{Does};
 ghost use Rattle.command_run.specs.Ran.{device, ran};
 ghost use Rattle.command_run.specs.Tasks.{task_of};
 
@@ -14,10 +14,10 @@ use crate::showing::show_messages;
 use crate::status::Status;
 use crate::task::Task;
 use byte_streams::{Sink, Source};
-use command_words::{NoOrder, Order, read_order};
-use net_replay::{Watch, World};
+use command_line::{NoOrder, Order, read_order};
+use network_replay::{Watch, World};
 use script_demand::Asks;
-use script_player::Opens;
+use script_run::Opens;
 use std::alloc::Global;
 
 /// Runs the task of these words: `replay` reads a script from the source, runs it line by line on a network of routers, and writes
@@ -26,13 +26,12 @@ use std::alloc::Global;
 /// nothing, grows the network of a seed, runs it and writes a summary of the run, whose last line is `equal yes`; `police` reads a
 /// flow and its packets, and writes for each whether it passes. Where a script with
 /// an event was replayed to its end, and where a network was grown and run to its end, `last` holds the network in which the run
-/// ended; else it stays empty. `watch` is told how far the rounds of a replay or of a growing are: no clause hangs on it. `advice`
-/// becomes the text that tells what is wrong with the bad line; where no line is bad, or memory runs out as it is written, it is empty.
+/// ended; else it stays empty. `watch` gets how far the rounds of a replay or of a growing are: no clause hangs on it. `advice`
+/// becomes the text that says what is wrong with the bad line; where no line is bad, or memory runs out as it is written, it is empty.
 ///
 /// `Usage` comes first: the words are no command, and nothing is read or written. How a replay ends is said at `replay`, how the
 /// demand of a script ends at `demand`, how showing ends at `show_messages`, how growing ends at `grow`, and how policing ends at
 /// `police_packets`.
-#[tactic(auto, using(crate::proofs::Replays::safe_script))]
 pub fn run_command<C: Asks + Drop, R: Opens, S: Source, K: Sink, W: Watch>(
     alloc: Global,
     words: &Vec<String>,
@@ -53,9 +52,6 @@ pub fn run_command<C: Asks + Drop, R: Opens, S: Source, K: Sink, W: Watch>(
     ensures read_fault { result ≡ Status.ReadFault → Rose (S.faults source.old) (S.faults source.new) }
     ensures write_fault { result ≡ Status.WriteFault → Rose (K.faults sink.old) (K.faults sink.new) }
     ensures empty { result ≢ Status.Done → last.new ≡ None }
-    // At each step of the run of a script no book passes its capacity, no refusal changes a reservation, and blockades keep their
-    // promises.
-    ensures safe { IfSome (S.left source.old) IsSafeScript }
 {
     advice.clear();
     match task_of(alloc, words) {

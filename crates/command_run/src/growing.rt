@@ -1,7 +1,6 @@
 //! Growing a network.
 ghost use Rattle.std.specs.Prelude.{◌≡◌, ◌≢◌, None};
 ghost use Rattle.byte_streams.specs.Faults.{Rose};
-ghost use Rattle.script_player.specs.Standing.{IsNetworkOf};
 ghost use Rattle.command_run.specs.Commands.{Grown};
 ghost use Rattle.command_run.specs.Ran.{device};
 
@@ -9,13 +8,13 @@ use crate::replaying::status_of;
 use crate::status::Status;
 use byte_streams::Sink;
 use grown_player::run_grown;
-use net_replay::{Watch, World};
-use script_player::Opens;
+use network_replay::{Watch, World};
+use script_run::Opens;
 use std::alloc::Global;
 
 /// Grows the network of a seed, runs it and writes the summary of the run to the sink. Where it is done, the run reported what is
 /// demanded, the last line of the summary is `equal yes`, and `last` holds the network in which the run ended; else `last` stays
-/// empty. `watch` is told how far the rounds are.
+/// empty. `watch` gets how far the rounds are.
 ///
 /// `Crowded` comes before `WriteFault`, and nothing is written then. `NoMemory` may come at any time before the first byte is
 /// written.
@@ -27,7 +26,7 @@ pub fn grow<R: Opens, K: Sink, W: Watch>(
     last: &mut Option<World<R>>,
 ) -> Status
     requires { last.old ≡ None }
-    ensures grown { Grown (λ p. IsNetworkOf R.seen last.new p) seed result (device K.holds K.faults sink.old sink.new) }
+    ensures grown { Grown R.seen last.new seed result (device K.holds K.faults sink.old sink.new) }
     ensures usage { result ≢ Status.Usage }
     ensures empty { result ≢ Status.Done → last.new ≡ None }
     ensures read_fault { result ≢ Status.ReadFault }

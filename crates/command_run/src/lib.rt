@@ -1,12 +1,13 @@
 //! The top call: the words of a command line order a task, which is run from a source to a sink.
 //!
 //! `run_command` replays a script on a network of routers, writes the demand of one, shows messages in words, grows a network and
-//! runs it, or tells which packets of a flow pass. Its clauses say by the status exactly what was read and written, that a script that was replayed to its end heals
-//! itself (once its network has settled a report is the demand, and the last one what `demand` writes of the script), and that a
-//! network that was grown and run reports what is demanded. At each step of a script's run, however it ends, no book passes its
-//! capacity, no refusal changes a reservation, and blockades keep their promises. It stands on `script_player` and `grown_player`
-//! for runs, on `settle_reports`, `script_standing`, `run_laws`, `script_laws` and `seed_laws` for what holds of them, on
-//! `script_demand`, on `message_show`, on `packet_lines` and on `command_words`.
+//! runs it, or says which packets of a flow pass. Its clauses say by the status exactly what was read and written, that a script that
+//! was replayed to its end heals itself (once its network has settled a report is the demand, and the last one what `demand` writes of
+//! the script), and that a network that was grown and run reports what is demanded. However a replay ends, what it ran is the run of
+//! the first lines of its file: at each step no book passes its capacity, no refusal changes a reservation, and blockades keep their
+//! promises, and each settled report that was written whole is the demand. It stands on `script_run` and `grown_player`
+//! for runs, on `script_theorem`, `laws_safety`, `laws_scripts` and `laws_grown` for what holds of them, on
+//! `script_demand`, on `message_show`, on `packet_lines` and on `command_line`.
 #![tactic(auto)]
 
 mod command;
@@ -29,4 +30,4 @@ pub use status::Status;
 pub use task::Task;
 
 // For the callers of `run_command`.
-pub use net_replay::{Unwatched, Watch};
+pub use network_replay::{Unwatched, Watch};

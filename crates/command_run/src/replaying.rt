@@ -1,7 +1,6 @@
 //! Replaying a script.
 ghost use Rattle.std.specs.Prelude.{◌≡◌, ◌≢◌, None};
-ghost use Rattle.script_grammar.specs.Draft.{nothing, plan_of};
-ghost use Rattle.script_player.specs.Standing.{IsNetworkOf};
+ghost use Rattle.script_grammar.specs.Draft.{nothing};
 ghost use Rattle.byte_streams.specs.Faults.{Rose};
 ghost use Rattle.command_run.specs.Commands.{Replayed};
 ghost use Rattle.command_run.specs.Ran.{device, ran};
@@ -9,9 +8,8 @@ ghost use Rattle.command_run.specs.Statuses.{status_of};
 
 use crate::status::Status;
 use byte_streams::{Sink, Source};
-use net_replay::{Watch, World};
-use network_run::Ending;
-use script_player::{Checks, Opens, run_script};
+use network_replay::{Watch, World};
+use script_run::{Checks, Ending, Opens, run_script};
 use std::alloc::Global;
 
 /// The status of a run of a script that ended so.
@@ -30,8 +28,8 @@ pub fn status_of(ending: Ending) -> Status
 }
 
 /// Replays a script of the source: each line is checked and run, and its text written to the sink, before the next is read. Where
-/// it is done and the script has an event, `last` holds the network in which the run ended; else it stays empty. `watch` is told how
-/// far the rounds of an event are. `advice` becomes the text that tells what is wrong with the bad line; where no line is bad, or
+/// it is done and the script has an event, `last` holds the network in which the run ended; else it stays empty. `watch` gets how
+/// far the rounds of an event are. `advice` becomes the text that says what is wrong with the bad line; where no line is bad, or
 /// memory runs out as it is written, it is empty.
 ///
 /// At one line these come in this order: `ReadFault` or `TooLong` while it is read, then `BadLine`, then `Crowded`, then
@@ -47,7 +45,7 @@ pub fn replay<C: Checks + Drop, R: Opens, S: Source, K: Sink, W: Watch>(
 ) -> Status
     requires first { C.lines checker ≡ nothing }
     requires empty { last.old ≡ None }
-    ensures replayed { Replayed (λ d. IsNetworkOf R.seen last.new (plan_of d))
+    ensures replayed { Replayed R.seen last.new
         (ran result (device S.left S.faults source.old source.new) (device K.holds K.faults sink.old sink.new) advice.new.items) }
     ensures usage { result ≢ Status.Usage }
     ensures empty { result ≢ Status.Done → last.new ≡ None }

@@ -17,13 +17,13 @@ use crate::replaying::status_of;
 use crate::status::Status;
 use byte_streams::{ReadErr, Sink, Source, read_all, write_all};
 use message_show::show;
-use network_run::Ending;
 use script_grammar::Fault;
+use script_run::Ending;
 use script_words::{LineWhy, ParseErr};
 use std::alloc::Global;
 
 /// Reads messages of the source as lines of hexadecimal digits, and writes a line of words for each to the sink. Nothing is written
-/// before all of the input was read and found right. `advice` becomes the text that tells what is wrong with the bad line; where no
+/// before all of the input was read and found right. `advice` becomes the text that says what is wrong with the bad line; where no
 /// line is bad, or memory runs out as it is written, it is empty.
 ///
 /// Refusals come in this order: `ReadFault` or `TooLong` while the input is read; `BadLine`; `WriteFault`. `NoMemory` may come at

@@ -1,5 +1,6 @@
 //! The laws of the lattice of flows, and of blockade by its order. The lemmas stand in `proofs/`.
-ghost use Rattle.flow_merge.specs.Laws.{AtMostIsAnOrder, JoinIsASemilattice, MeetIsASemilattice, JoinAndMeetAbsorb, AtMostIsByJoinAndMeet, JoinIsTheLeastAbove, MeetIsTheGreatestBelow, JoinAndMeetAreSound, TestsTell, BlockadeFollowsTheOrder};
+ghost use Rattle.flow_merge.specs.Laws.{AtMostIsAnOrder, JoinIsASemilattice, MeetIsASemilattice, JoinAndMeetAbsorb, AtMostIsByJoinAndMeet, JoinIsTheLeastAbove, MeetIsTheGreatestBelow};
+ghost use Rattle.flow_merge.specs.Laws.{JoinAndMeetAreSound, TestsTell, BlockadeFollowsTheOrder};
 
 /// The order is reflexive, transitive and antisymmetric.
 #[tactic(auto, using(crate::proofs::Lattice::order_laws))]

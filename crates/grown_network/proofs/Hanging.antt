@@ -56,14 +56,16 @@ fewer_before [] ys number m = omega arith
 fewer_before (x ∷ xs) ys number m = by (x.node == m) (fewer_before xs ys (number + 1) m)
   where
     by : (b : Bool) → length (ends_from (number + 1) xs m) ≤ length (ends_from (number + 1) (xs ++ ys) m)
-        → length (if b then number ∷ ends_from (number + 1) xs m else ends_from (number + 1) xs m) ≤ length (if b then number ∷ ends_from (number + 1) (xs ++ ys) m else ends_from (number + 1) (xs ++ ys) m)
+        → length (if b then number ∷ ends_from (number + 1) xs m else ends_from (number + 1) xs m) ≤ length
+        (if b then number ∷ ends_from (number + 1) (xs ++ ys) m else ends_from (number + 1) (xs ++ ys) m)
     by true le = omega (arith, le)
     by false le = le
 
 pub few_up_to : (left n m : ℕ) → n + left ≡ 63 → m < 64 → length (ends_of (ends_up_to n) m) ≤ 3
 few_up_to zero n m all lt =
     let e : 63 ≡ n = omega arith in
-    subst (λ (k : ℕ). length (ends_of (ends_up_to k) m) ≤ 3) e (leb-true (length (ends_of (ends_up_to 63) m)) 3 (at_each (λ m. nat_le (length (ends_of (ends_up_to 63) m)) 3) 0 64 m few_tested (omega arith) (omega arith)))
+    subst (λ (k : ℕ). length (ends_of (ends_up_to k) m) ≤ 3) e (leb-true (length (ends_of (ends_up_to 63) m)) 3
+    (at_each (λ m. nat_le (length (ends_of (ends_up_to 63) m)) 3) 0 64 m few_tested (omega arith) (omega arith)))
 few_up_to (suc left) n m all lt =
     let next = few_up_to left (n + 1) m (omega arith) lt in
     let d : End = end_of (above (n + 1)) (of_bytes 10 1 (n + 1) 1) in
@@ -88,7 +90,8 @@ addresses_below n e i =
     let within = in_range 1 n k.0 k.1 in
     let hi = within.1 in
     ⊎_elim (λ (is : e ≡ end_of (above k.0) (of_bytes 10 1 k.0 1)). let a = ap (λ (x : End). x.iface.addr.0) is in omega (arith, hi, a))
-    (λ (j : In e (end_of k.0 (of_bytes 10 1 k.0 2) ∷ [])). ⊎_elim (λ (is : e ≡ end_of k.0 (of_bytes 10 1 k.0 2)). let a = ap (λ (x : End). x.iface.addr.0) is in omega (arith, hi, a)) (λ (none : ⊥). absurd none) j) k.2
+    (λ (j : In e (end_of k.0 (of_bytes 10 1 k.0 2) ∷ [])). ⊎_elim (λ (is : e ≡ end_of k.0 (of_bytes 10 1 k.0 2)). let a = ap (λ (x : End). x.iface.addr.0) is in omega (arith, hi, a))
+    (λ (none : ⊥). absurd none) j) k.2
 
 -- ---- node n + 1 is hung
 module _ (n : ℕ) (lt : n < 63) where
@@ -154,9 +157,14 @@ module _ (n : ℕ) (lt : n < 63) where
     few = omega arith;
     there = λ e i.
         let size = ap length (sym (ends_more n)) ∙ length_ends (n + 1) in
-        ⊎_elim (λ (is : e ≡ down_end (n + 1)). omega (arith, is, size)) (λ (j : In e (up_end (n + 1) ∷ [])). ⊎_elim (λ (is : e ≡ up_end (n + 1)). omega (arith, is, size)) (λ (none : ⊥). absurd none) j) i;
+        ⊎_elim (λ (is : e ≡ down_end (n + 1)). omega (arith, is, size)) (λ (j : In e (up_end (n + 1) ∷ [])). ⊎_elim (λ (is : e ≡ up_end (n + 1)). omega (arith, is, size))
+        (λ (none : ⊥). absurd none) j) i;
     free = free;
-    apart = (λ i. ⊎_elim (λ (same : node_of whole.ends (down_end (n + 1)) ≡ node_of whole.ends (up_end (n + 1))). let e = sym down_node ∙ same ∙ up_node in omega (arith, e)) (λ (none : ⊥). absurd none) i, (λ i. i, tt));
+    apart = (
+      λ i. ⊎_elim (λ (same : node_of whole.ends (down_end (n + 1)) ≡ node_of whole.ends (up_end (n + 1))). let e = sym down_node ∙ same ∙ up_node in omega (arith, e))
+          (λ (none : ⊥). absurd none) i,
+      (λ i. i, tt),
+    );
     room = let size = length_links n in omega (arith, size);
   }
 
@@ -193,8 +201,10 @@ module _ (k : ℕ) (some : 1 ≤ k) (few : k < 64) where
 
   pub takes_its_link : TakesLink (with_end (with_end (hung_up_to (k - 1)) dk) uk) (down_end k ∷ up_end k ∷ [])
   takes_its_link =
-      subst (λ (m : ℕ). TakesLink (with_end (with_end (hung_up_to (k - 1)) (end_of (above m) (of_bytes 10 1 m 1))) (end_of m (of_bytes 10 1 m 2))) (down_end m ∷ up_end m ∷ [])) next (takes_link (k - 1) (omega arith))
+      subst (λ (m : ℕ). TakesLink (with_end (with_end (hung_up_to (k - 1)) (end_of (above m) (of_bytes 10 1 m 1))) (end_of m (of_bytes 10 1 m 2))) (down_end m ∷ up_end m ∷ [])) next
+      (takes_link (k - 1) (omega arith))
 
   pub hung_is : with_link (with_end (with_end (hung_up_to (k - 1)) dk) uk) (down_end k ∷ up_end k ∷ []) ≡ hung_up_to k
   hung_is =
-      subst (λ (m : ℕ). with_link (with_end (with_end (hung_up_to (k - 1)) (end_of (above m) (of_bytes 10 1 m 1))) (end_of m (of_bytes 10 1 m 2))) (down_end m ∷ up_end m ∷ []) ≡ hung_up_to m) next (hung_more (k - 1) (omega arith))
+      subst (λ (m : ℕ). with_link (with_end (with_end (hung_up_to (k - 1)) (end_of (above m) (of_bytes 10 1 m 1))) (end_of m (of_bytes 10 1 m 2))) (down_end m ∷ up_end m ∷ []) ≡ hung_up_to m) next
+      (hung_more (k - 1) (omega arith))

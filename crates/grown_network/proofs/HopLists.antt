@@ -45,14 +45,17 @@ pub down_past : (before hs next : List LinkHop) (way : List ℕ) (n k : ℕ) →
 down_past before hs next way n k e on same is =
     let swap : 1 + n ≡ k = omega arith in
     let at : among (1 + n) way ≡ true = ap (λ m. among m way) swap ∙ on in
-    same ∙ is ∙ ap (λ (ys : List LinkHop). before ++ ys) (sym (ap (hops_down way) e ∙ one_down way n ∙ ap (λ (b : Bool). hops_down way n ++ each hop_down (cond (not b) ((1 + n) ∷ []) [])) at ∙ append_none (hops_down way n)))
+    same ∙ is ∙ ap (λ (ys : List LinkHop). before ++ ys) (sym (ap (hops_down way) e ∙ one_down way n ∙ ap (λ (b : Bool). hops_down way n ++ each hop_down (cond (not b) ((1 + n) ∷ []) [])) at
+    ∙ append_none (hops_down way n)))
 
-pub down_pushed : (before hs next : List LinkHop) (way : List ℕ) (n k : ℕ) → k ≡ n + 1 → among k way ≡ false → next ≡ hs ++ hop_down k ∷ [] → hs ≡ before ++ hops_down way n → next ≡ before ++ hops_down way k
+pub down_pushed : (before hs next : List LinkHop) (way : List ℕ) (n k : ℕ) → k ≡ n + 1 → among k way ≡ false → next ≡ hs ++ hop_down k ∷ [] → hs ≡ before ++ hops_down way n
+    → next ≡ before ++ hops_down way k
 down_pushed before hs next way n k e off pushed is =
     let swap : 1 + n ≡ k = omega arith in
     let at : among (1 + n) way ≡ false = ap (λ m. among m way) swap ∙ off in
     pushed ∙ ap (λ (ys : List LinkHop). ys ++ hop_down k ∷ []) is ∙ append_assoc before (hops_down way n) (hop_down k ∷ [])
-    ∙ ap (λ (ys : List LinkHop). before ++ ys) (sym (ap (hops_down way) e ∙ one_down way n ∙ ap (λ (b : Bool). hops_down way n ++ each hop_down (cond (not b) ((1 + n) ∷ []) [])) at ∙ ap (λ (m : ℕ). hops_down way n ++ hop_down m ∷ []) swap))
+    ∙ ap (λ (ys : List LinkHop). before ++ ys) (sym (ap (hops_down way) e ∙ one_down way n ∙ ap (λ (b : Bool). hops_down way n ++ each hop_down (cond (not b) ((1 + n) ∷ []) [])) at
+    ∙ ap (λ (m : ℕ). hops_down way n ++ hop_down m ∷ []) swap))
 
 pub split_at : {A : Type 0} (xs : List A) (i : ℕ) (d : A) → i < length xs → xs ≡ take i xs ++ get_or xs i d ∷ drop (suc i) xs
 split_at [] i d lt = absurd (omega arith)
@@ -72,12 +75,15 @@ module _ (net : Net) (x : LocalSender) (at : IsAtHome x) (takes : TakesTree net 
 
   pub always_of_tree : (why : HopErr) → why ≡ NotTree → HopAnswer top (tree_hop x.session.group x.sender.addr (get_or hops i d)) (Err why) → ⊥
   always_of_tree why e answer =
-      let never : Fits top (tree_hop x.session.group x.sender.addr (get_or hops i d)) → ⊥ = subst (λ (w : HopErr). HopAnswer top (tree_hop x.session.group x.sender.addr (get_or hops i d)) (Err w)) e answer in
-      never (subst (λ (n : Net). Fits n (tree_hop x.session.group x.sender.addr (get_or hops i d))) (sym is) (fits net x at takes (take i (hops_away x.node)) (get_or hops i d) (drop (suc i) (hops_away x.node)) parts))
+      let never : Fits top (tree_hop x.session.group x.sender.addr (get_or hops i d)) → ⊥ =
+      subst (λ (w : HopErr). HopAnswer top (tree_hop x.session.group x.sender.addr (get_or hops i d)) (Err w)) e answer in
+      never (subst (λ (n : Net). Fits n (tree_hop x.session.group x.sender.addr (get_or hops i d))) (sym is)
+      (fits net x at takes (take i (hops_away x.node)) (get_or hops i d) (drop (suc i) (hops_away x.node)) parts))
 
   pub never_a_loop : (why : HopErr) (g : Addr) (from to : ℕ) → why ≡ Loop g from to → HopAnswer top (tree_hop x.session.group x.sender.addr (get_or hops i d)) (Err why) → ⊥
   never_a_loop why g from to e answer =
       let told = subst (λ (w : HopErr). HopAnswer top (tree_hop x.session.group x.sender.addr (get_or hops i d)) (Err w)) e answer in
       let on = told.2.on in
-      let none = subst (λ (n : Net). IsLoopFreeIn (with_hop n (tree_hop x.session.group x.sender.addr (get_or hops i d))) x.session.group) (sym is) (free net x at takes (take i (hops_away x.node)) (get_or hops i d) (drop (suc i) (hops_away x.node)) parts) in
+      let none = subst (λ (n : Net). IsLoopFreeIn (with_hop n (tree_hop x.session.group x.sender.addr (get_or hops i d))) x.session.group) (sym is)
+      (free net x at takes (take i (hops_away x.node)) (get_or hops i d) (drop (suc i) (hops_away x.node)) parts) in
       none on.head on.rest on.closed

@@ -7,7 +7,7 @@ use Rattle.std.proofs.Math.Nat.{div-eq_of_lt, pow-le-pow_right}
 use Rattle.std.proofs.lemmas.List.FromFn.{length-range_with_len, map-range_with_len_more}
 use Rattle.std.proofs.lemmas.Bool.{cases_lt}
 use Rattle.std.proofs.lemmas.List.{length-map}
-use Rattle.rsvp_base.specs.Orders.{Names}
+use Rattle.rsvp_base.specs.Orders.{Names, senders as by_sender}
 use Rattle.rsvp_base.specs.Rates.{IsRate}
 use Rattle.rsvp_base.specs.Sets.{set_of, with_key, with_keys}
 use Rattle.rsvp_base.specs.Table.{size}
@@ -15,7 +15,6 @@ use Rattle.rsvp_base.specs.declared.session.Sender.{Sender}
 use Rattle.rsvp_base.specs.declared.session.Session.{Session}
 use Rattle.rsvp_base.specs.declared.style.StyleKind.{StyleKind}
 use Rattle.rsvp_base.specs.declared.style.StyleKind.TheVariants.{Wild, Fixed, Shared}
-use Rattle.rsvp_base.specs.Orders.{senders as by_sender}
 use Rattle.rsvp_base.proofs.Counts.{size-set_of}
 use Rattle.tree_model.specs.declared.locals.LocalSender.{LocalSender}
 use Rattle.network_model.specs.Steps.{next_state, state_after, word_for, word_of_state}
@@ -66,7 +65,8 @@ one_chosen : (word digit n : ℕ) → chosen word digit (n + 1) ≡ chosen word 
 one_chosen word digit n =
     let swap : 0 + n ≡ n = omega arith in
     ap (λ (ks : List ℕ). each (sender_of word) (filter (is_named digit) ks)) (range_more 0 n ∙ ap (λ (k : ℕ). range_with_len 0 n ++ k ∷ []) swap)
-    ∙ ap (each (sender_of word)) (filter_append (is_named digit) (range_with_len 0 n) (n ∷ [])) ∙ each_append (sender_of word) (filter (is_named digit) (range_with_len 0 n)) (filter (is_named digit) (n ∷ []))
+    ∙ ap (each (sender_of word)) (filter_append (is_named digit) (range_with_len 0 n) (n ∷ []))
+    ∙ each_append (sender_of word) (filter (is_named digit) (range_with_len 0 n)) (filter (is_named digit) (n ∷ []))
 
 pub not_chosen : (word digit n : ℕ) (names next : Names) → is_named digit n ≡ false → next ≡ names → names ≡ set_of (chosen word digit n) → next ≡ set_of (chosen word digit (n + 1))
 not_chosen word digit n names next off same is =
@@ -91,14 +91,16 @@ set_push : (m : Names) (xs : List Sender) (x : Sender) → with_keys m (xs ++ x 
 set_push m [] x = refl
 set_push m (y ∷ xs) x = set_push (with_key m y) xs x
 
-pub is_chosen : {T E : Type 0} (word digit n : ℕ) (names next : Names) (x : Sender) (r : Result T E) → n < 4 → is_named digit n ≡ true → x ≡ sender_of word n → OnOk r (next ≡ with_key names x) → IsErr r ↔ (16 < size (with_key names x)) → names ≡ set_of (chosen word digit n)
+pub is_chosen : {T E : Type 0} (word digit n : ℕ) (names next : Names) (x : Sender) (r : Result T E) → n < 4 → is_named digit n ≡ true → x ≡ sender_of word n → OnOk r (next ≡ with_key names x)
+    → IsErr r ↔ (16 < size (with_key names x)) → names ≡ set_of (chosen word digit n)
     → next ≡ set_of (chosen word digit (n + 1))
 is_chosen word digit n names next x r lt on sender ok full is = by r ok full
   where
     all : with_key names x ≡ set_of (chosen word digit (n + 1))
     all =
         ap (λ (m : Names). with_key m x) is ∙ ap (with_key (set_of (chosen word digit n))) sender
-        ∙ sym (ap set_of (one_chosen word digit n ∙ ap (λ (b : Bool). chosen word digit n ++ each (sender_of word) (cond b (n ∷ []) [])) on) ∙ set_push (set_of []) (chosen word digit n) (sender_of word n))
+        ∙ sym (ap set_of (one_chosen word digit n ∙ ap (λ (b : Bool). chosen word digit n ++ each (sender_of word) (cond b (n ∷ []) [])) on)
+        ∙ set_push (set_of []) (chosen word digit n) (sender_of word n))
 
     by : {T E : Type 0} (r : Result T E) → OnOk r (next ≡ with_key names x) → IsErr r ↔ (16 < size (with_key names x)) → next ≡ set_of (chosen word digit (n + 1))
     by (Ok t) ok full = ok ∙ all
@@ -123,7 +125,8 @@ wants_more seed n =
 
 -- three wants more
 pub wants_pushed : (seed n a b c : ℕ) (before one two three : List Wanted) → before ≡ wants_up_to seed n → a ≡ want_word seed n Wild → b ≡ want_word seed n Fixed → c ≡ want_word seed n Shared
-    → one ≡ before ++ wanted_by Wild (session_word seed Wild) n a → two ≡ one ++ wanted_by Fixed (session_word seed Fixed) n b → three ≡ two ++ wanted_by Shared (session_word seed Shared) n c → three ≡ wants_up_to seed (n + 1)
+    → one ≡ before ++ wanted_by Wild (session_word seed Wild) n a → two ≡ one ++ wanted_by Fixed (session_word seed Fixed) n b → three ≡ two ++ wanted_by Shared (session_word seed Shared) n c
+    → three ≡ wants_up_to seed (n + 1)
 wants_pushed seed n a b c before one two three is wa wb wc p q r =
     let wild : List Wanted = wanted_by Wild (session_word seed Wild) n (want_word seed n Wild) in
     let fixed : List Wanted = wanted_by Fixed (session_word seed Fixed) n (want_word seed n Fixed) in
@@ -131,8 +134,10 @@ wants_pushed seed n a b c before one two three is wa wb wc p q r =
     let p' : one ≡ before ++ wild = p ∙ ap (λ w. before ++ wanted_by Wild (session_word seed Wild) n w) wa in
     let q' : two ≡ one ++ fixed = q ∙ ap (λ w. one ++ wanted_by Fixed (session_word seed Fixed) n w) wb in
     let r' : three ≡ two ++ shared = r ∙ ap (λ w. two ++ wanted_by Shared (session_word seed Shared) n w) wc in
-    let all : three ≡ ((wants_up_to seed n ++ wild) ++ fixed) ++ shared = r' ∙ ap (λ (xs : List Wanted). xs ++ shared) (q' ∙ ap (λ (xs : List Wanted). xs ++ fixed) (p' ∙ ap (λ (xs : List Wanted). xs ++ wild) is)) in
-    all ∙ append_assoc (wants_up_to seed n ++ wild) fixed shared ∙ append_assoc (wants_up_to seed n) wild (fixed ++ shared) ∙ ap (λ (ys : List Wanted). wants_up_to seed n ++ (wild ++ (fixed ++ ys))) (sym (append_none shared)) ∙ sym (wants_more seed n)
+    let all : three ≡ ((wants_up_to seed n ++ wild) ++ fixed) ++ shared = r' ∙ ap (λ (xs : List Wanted). xs ++ shared)
+    (q' ∙ ap (λ (xs : List Wanted). xs ++ fixed) (p' ∙ ap (λ (xs : List Wanted). xs ++ wild) is)) in
+    all ∙ append_assoc (wants_up_to seed n ++ wild) fixed shared ∙ append_assoc (wants_up_to seed n) wild (fixed ++ shared)
+    ∙ ap (λ (ys : List Wanted). wants_up_to seed n ++ (wild ++ (fixed ++ ys))) (sym (append_none shared)) ∙ sym (wants_more seed n)
 
 -- ---- words, three by three
 pub record AreThree (a b c : ℕ) (x y z : ℕ) : Type 0 where
@@ -140,7 +145,8 @@ pub record AreThree (a b c : ℕ) (x y z : ℕ) : Type 0 where
   pub fixed : b ≡ y
   pub shared : c ≡ z
 
-pub three_words : (seed n s0 s1 s2 s3 a b c : ℕ) → s0 ≡ state_after n seed → s1 ≡ next_state s0 → a ≡ word_of_state s1 → s2 ≡ next_state s1 → b ≡ word_of_state s2 → s3 ≡ next_state s2 → c ≡ word_of_state s3
+pub three_words : (seed n s0 s1 s2 s3 a b c : ℕ) → s0 ≡ state_after n seed → s1 ≡ next_state s0 → a ≡ word_of_state s1 → s2 ≡ next_state s1 → b ≡ word_of_state s2 → s3 ≡ next_state s2
+    → c ≡ word_of_state s3
     → AreThree a b c (word_for seed n) (word_for seed (n + 1)) (word_for seed (n + 2)) × (s3 ≡ state_after (n + 3) seed)
 three_words seed n s0 s1 s2 s3 a b c is p wa q wb r wc =
     let after1 : s1 ≡ state_after (n + 1) seed = p ∙ ap next_state is ∙ sym (state_more n seed) in
@@ -162,7 +168,8 @@ pub session_words : (seed s0 s1 s2 s3 a b c : ℕ) → s0 ≡ seed → s1 ≡ ne
 session_words seed s0 s1 s2 s3 a b c is p wa q wb r wc = three_words seed 0 s0 s1 s2 s3 a b c is p wa q wb r wc
 
 -- those of a node
-pub want_words : (seed n s0 s1 s2 s3 a b c : ℕ) → s0 ≡ state_after (3 + 3 * n) seed → s1 ≡ next_state s0 → a ≡ word_of_state s1 → s2 ≡ next_state s1 → b ≡ word_of_state s2 → s3 ≡ next_state s2 → c ≡ word_of_state s3
+pub want_words : (seed n s0 s1 s2 s3 a b c : ℕ) → s0 ≡ state_after (3 + 3 * n) seed → s1 ≡ next_state s0 → a ≡ word_of_state s1 → s2 ≡ next_state s1 → b ≡ word_of_state s2 → s3 ≡ next_state s2
+    → c ≡ word_of_state s3
     → AreThree a b c (want_word seed n Wild) (want_word seed n Fixed) (want_word seed n Shared) × (s3 ≡ state_after (3 + 3 * (n + 1)) seed)
 want_words seed n s0 s1 s2 s3 a b c is p wa q wb r wc =
     let all = three_words seed (3 + 3 * n) s0 s1 s2 s3 a b c is p wa q wb r wc in
@@ -184,8 +191,10 @@ senders_pushed seed a b c before one two three none are p q r =
 
 -- a sender more
 pub sender_pushed : (st : StyleKind) (word i : ℕ) (before hs next : List LocalSender) (n : ℕ) (s : Session) (x : Sender) → n ≡ sender_node word i → s ≡ session_of st → x ≡ sender_of word i
-    → hs ≡ before ++ each (local_sender st word) (range_with_len 0 i) → next ≡ hs ++ (record { node = n; session = s; sender = x }) ∷ [] → next ≡ before ++ each (local_sender st word) (range_with_len 0 (i + 1))
+    → hs ≡ before ++ each (local_sender st word) (range_with_len 0 i) → next ≡ hs ++ (record { node = n; session = s; sender = x }) ∷ []
+    → next ≡ before ++ each (local_sender st word) (range_with_len 0 (i + 1))
 sender_pushed st word i before hs next n s x node session sender is pushed =
     let new : ◌≡◌ {A = LocalSender} (record { node = n; session = s; sender = x }) (local_sender st word i) = λ k. record { node = node k; session = session k; sender = sender k } in
-    pushed ∙ ap (λ (y : LocalSender). hs ++ y ∷ []) new ∙ ap (λ (xs : List LocalSender). xs ++ local_sender st word i ∷ []) is ∙ append_assoc before (each (local_sender st word) (range_with_len 0 i)) (local_sender st word i ∷ [])
+    pushed ∙ ap (λ (y : LocalSender). hs ++ y ∷ []) new ∙ ap (λ (xs : List LocalSender). xs ++ local_sender st word i ∷ []) is
+    ∙ append_assoc before (each (local_sender st word) (range_with_len 0 i)) (local_sender st word i ∷ [])
     ∙ ap (λ (xs : List LocalSender). before ++ xs) (sym (senders_more st word i))

@@ -10,3 +10,11 @@ pub mod Valid
 pub mod HopLists
 pub mod HostLists
 pub mod NameLists
+pub mod Modest
+pub mod WantsAsked
+pub mod FewHops
+pub mod Fitting
+pub mod WantsByStyle
+pub mod Askable
+pub mod FollowedTexts
+pub mod Pieces

@@ -28,7 +28,8 @@ unfolding names_up_to
 names_more names next n k m e at is pushed =
     let swap : 1 + n ≡ k = omega arith in
     let all : n + 1 ≡ m = omega arith in
-    pushed ∙ ap (λ (xs : List (List ℕ)). xs ++ names_of_link k) is ∙ ap (λ (xs : List (List ℕ)). flat_map names_of_link (range_with_len 1 n) ++ xs) (sym (append_none (names_of_link k)) ∙ ap (λ j. flat_map names_of_link (j ∷ [])) (sym swap))
+    pushed ∙ ap (λ (xs : List (List ℕ)). xs ++ names_of_link k) is ∙ ap (λ (xs : List (List ℕ)). flat_map names_of_link (range_with_len 1 n) ++ xs)
+    (sym (append_none (names_of_link k)) ∙ ap (λ j. flat_map names_of_link (j ∷ [])) (sym swap))
     ∙ sym (flat_append names_of_link (range_with_len 1 n) ((1 + n) ∷ [])) ∙ ap (flat_map names_of_link) (sym (range_more 1 n)) ∙ ap (λ j. flat_map names_of_link (range_with_len 1 j)) all
   where
     append_none : {A : Type 0} (xs : List A) → xs ++ [] ≡ xs

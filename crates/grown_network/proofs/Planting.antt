@@ -106,7 +106,8 @@ module _ (net : Net) (x : LocalSender) (home_at : IsAtHome x) (takes : TakesTree
     own : (y : LinkHop) → In y (hs ++ h ∷ []) → In y (hops_away x.node)
     own y i =
         subst (λ (zs : List LinkHop). In y zs) (sym parts)
-        (⊎_elim (λ (j : In y hs). in_left y hs (h ∷ rest) j) (λ (j : In y (h ∷ [])). in_right y hs (h ∷ rest) (⊎_elim (λ (e : y ≡ h). inl e) (λ (none : ⊥). absurd none) j)) (in_append y hs (h ∷ []) i))
+        (⊎_elim (λ (j : In y hs). in_left y hs (h ∷ rest) j) (λ (j : In y (h ∷ [])). in_right y hs (h ∷ rest) (⊎_elim (λ (e : y ≡ h). inl e) (λ (none : ⊥). absurd none) j))
+        (in_append y hs (h ∷ []) i))
 
     pub free : IsLoopFreeIn (with_hop before (tree_hop x.session.group x.sender.addr h)) x.session.group
     free = subst (λ (ts : List TreeHop). IsLoopFreeIn (net_with ts) x.session.group) one_more (loop_free (planted (hs ++ h ∷ [])) (away_with (hs ++ h ∷ []) own) x.session.group)

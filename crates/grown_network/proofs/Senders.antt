@@ -111,8 +111,10 @@ once_of_style st word =
     (λ x y i j e.
     let k = in_each (local_sender st word) x (range_with_len 0 4) i in
     let m = in_each (local_sender st word) y (range_with_len 0 4) j in
-    let at : home (sender_node word k.0) ≡ home (sender_node word m.0) = ap (λ (z : LocalSender). z.sender.addr) (sym k.2) ∙ ap (λ (p : Addr × Addr). p.1) e ∙ ap (λ (z : LocalSender). z.sender.addr) m.2 in
-    let same : k.0 ≡ m.0 = nodes_apart word k.0 m.0 (in_range 0 4 k.0 k.1).1 (in_range 0 4 m.0 m.1).1 (one_home (sender_node word k.0) (sender_node word m.0) (node_within word k.0) (node_within word m.0) at) in
+    let at : home (sender_node word k.0) ≡ home (sender_node word m.0) = ap (λ (z : LocalSender). z.sender.addr) (sym k.2) ∙ ap (λ (p : Addr × Addr). p.1) e
+    ∙ ap (λ (z : LocalSender). z.sender.addr) m.2 in
+    let same : k.0 ≡ m.0 = nodes_apart word k.0 m.0 (in_range 0 4 k.0 k.1).1 (in_range 0 4 m.0 m.1).1
+    (one_home (sender_node word k.0) (sender_node word m.0) (node_within word k.0) (node_within word m.0) at) in
     k.2 ∙ ap (local_sender st word) same ∙ sym m.2)
     (once_each (local_sender st word) (range_with_len 0 4) (λ a b i j e. nodes_apart word a b (in_range 0 4 a i).1 (in_range 0 4 b j).1 (ap (λ (z : LocalSender). z.node) e)) (once_range 0 4))
 
@@ -131,7 +133,8 @@ keys_apart a b c =
     (λ k i j.
     let w = group_of Wild a k i in
     ⊎_elim (λ (f : In k (each tree_key (senders_of Fixed b))). let g = group_of Fixed b k f in omega (arith, w, g))
-    (λ (s : In k (each tree_key (senders_of Shared c))). let g = group_of Shared c k s in omega (arith, w, g)) (in_append k (each tree_key (senders_of Fixed b)) (each tree_key (senders_of Shared c)) j))
+    (λ (s : In k (each tree_key (senders_of Shared c))). let g = group_of Shared c k s in omega (arith, w, g))
+    (in_append k (each tree_key (senders_of Fixed b)) (each tree_key (senders_of Shared c)) j))
 
 pub apart : (seed : ℕ) → AreApart (senders seed)
 unfolding senders

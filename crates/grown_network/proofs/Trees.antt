@@ -82,7 +82,8 @@ module _ (trees : List TreeHop) (s : Addr) where
   rises_more : (k : ℕ) (hs : List LinkHop) → 1 ≤ k → k < 64 → Rises k hs → Rises (above k) (hs ++ hop_up k ∷ [])
   rises_more k hs lo hi so = record {
     here = leads_new s hs (hop_up k) (above k) (node_down 63 k lo (omega arith));
-    least = λ m leads. ⊎_elim (λ (old : Leads (ends_up_to 63) s hs m). let le = so.least m old in omega (arith, le)) (λ (e : m ≡ above k). omega (arith, e)) (leads_more s hs (hop_up k) (above k) m (node_down 63 k lo (omega arith)) leads);
+    least = λ m leads. ⊎_elim (λ (old : Leads (ends_up_to 63) s hs m). let le = so.least m old in omega (arith, le)) (λ (e : m ≡ above k). omega (arith, e))
+        (leads_more s hs (hop_up k) (above k) m (node_down 63 k lo (omega arith)) leads);
     ups = λ x i.
         ⊎_elim (λ (old : In x hs). let j = so.ups x old in let more = j.1 in (j.0, omega (arith, more), j.2, j.3))
         (λ (new : In x (hop_up k ∷ [])). ⊎_elim (λ (e : x ≡ hop_up k). (k, omega arith, hi, e)) (λ (none : ⊥). absurd none) new) (in_append x hs (hop_up k ∷ []) i);
@@ -128,15 +129,18 @@ module _ (trees : List TreeHop) (r : ℕ) (lt : r < 64) where
         (λ x i.
         let j = so.hops x i in
         ⊎_elim
-        (λ (u : In j.0 (way_up r) × (x ≡ hop_up j.0)). alone_other j.0 s (down_end s) x j.1 lo hi (λ same. off (subst (λ (k : ℕ). In k (way_up r)) (sym same) u.0)) (inl refl) (inr (ap (λ (y : LinkHop). y.from) u.1)))
-        (λ (d : (j.0 < s) × (x ≡ hop_down j.0)). let less = d.0 in alone_other j.0 s (down_end s) x j.1 lo hi (λ same. omega (arith, less, same)) (inl refl) (inl (ap (λ (y : LinkHop). y.from) d.1))) j.2);
+        (λ (u : In j.0 (way_up r) × (x ≡ hop_up j.0)). alone_other j.0 s (down_end s) x j.1 lo hi (λ same. off (subst (λ (k : ℕ). In k (way_up r)) (sym same) u.0)) (inl refl)
+        (inr (ap (λ (y : LinkHop). y.from) u.1)))
+        (λ (d : (j.0 < s) × (x ≡ hop_down j.0)). let less = d.0 in alone_other j.0 s (down_end s) x j.1 lo hi (λ same. omega (arith, less, same)) (inl refl)
+        (inl (ap (λ (y : LinkHop). y.from) d.1))) j.2);
   }
 
   falls_more : (s : ℕ) (hs : List LinkHop) → 1 ≤ s → s < 64 → Falls s hs → Falls (s + 1) (hs ++ hop_down s ∷ [])
   falls_more s hs lo hi so = record {
     lower = λ m less.
         ⊎_elim (λ (h : m < s). leads_old (home r) hs (hop_down s) m (so.lower m h))
-        (λ (h : s ≤ m). let e : m ≡ s = omega arith in subst (λ (k : ℕ). Leads (ends_up_to 63) (home r) (hs ++ hop_down s ∷ []) k) (sym e) (leads_new (home r) hs (hop_down s) s (node_up 63 s lo (omega arith)))) (cases_lt m s);
+        (λ (h : s ≤ m). let e : m ≡ s = omega arith in subst (λ (k : ℕ). Leads (ends_up_to 63) (home r) (hs ++ hop_down s ∷ []) k) (sym e)
+        (leads_new (home r) hs (hop_down s) s (node_up 63 s lo (omega arith)))) (cases_lt m s);
     way = λ m i. leads_old (home r) hs (hop_down s) m (so.way m i);
     rest = λ m leads.
         ⊎_elim (λ (old : Leads (ends_up_to 63) (home r) hs m). ⊎_elim (λ (h : m < s). inl (omega arith)) (λ (j : In m (way_up r)). inr j) (so.rest m old)) (λ (e : m ≡ s). inl (omega (arith, e)))
@@ -155,7 +159,8 @@ module _ (trees : List TreeHop) (r : ℕ) (lt : r < 64) where
     where
       by : ((more : List LinkHop) → Falls (s + 1) more → IsGrownFrom (net_with trees) (home r) more (each hop_down (filter (λ k. not (among k (way_up r))) (range_with_len (s + 1) n))))
           → (b : Bool) → among s (way_up r) ≡ b
-          → IsGrownFrom (net_with trees) (home r) hs (each hop_down (cond (not b) (s ∷ filter (λ k. not (among k (way_up r))) (range_with_len (s + 1) n)) (filter (λ k. not (among k (way_up r))) (range_with_len (s + 1) n))))
+          → IsGrownFrom (net_with trees) (home r) hs (each hop_down (cond (not b) (s ∷ filter (λ k. not (among k (way_up r))) (range_with_len (s + 1) n))
+          (filter (λ k. not (among k (way_up r))) (range_with_len (s + 1) n))))
       by further true t = further hs (falls_past s hs (among_in s (way_up r) t) so)
       by further false t = (
         falls_by s hs lo (omega arith) (λ i. let both : true ≡ false = sym (in_among s (way_up r) i) ∙ t in absurd (cc)) so,
@@ -166,7 +171,8 @@ module _ (trees : List TreeHop) (r : ℕ) (lt : r < 64) where
   rises_first : Rises trees (home r) r []
   rises_first = record {
     here = inl (owner_of_home r lt);
-    least = λ m leads. ⊎_elim (λ (e : owner (ends_up_to 63) (home r) ≡ Some m). let same : r ≡ m = some_same r m (sym (owner_of_home r lt) ∙ e) in omega (arith, same)) (λ (x : (h : LinkHop) × In h [] × (node_of (ends_up_to 63) h.to ≡ m)). absurd x.1) leads;
+    least = λ m leads. ⊎_elim (λ (e : owner (ends_up_to 63) (home r) ≡ Some m). let same : r ≡ m = some_same r m (sym (owner_of_home r lt) ∙ e) in omega (arith, same))
+        (λ (x : (h : LinkHop) × In h [] × (node_of (ends_up_to 63) h.to ≡ m)). absurd x.1) leads;
     ups = λ x i. absurd i;
   }
     where

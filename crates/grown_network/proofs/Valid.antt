@@ -88,7 +88,8 @@ largest_within n (m ∷ ms) all = let here = all m (inl refl) in let rest = larg
 height_within : {A : Type 0} (follow : A → List A) (n : ℕ) (h : A) → height follow n h ≤ n
 height_within follow zero h = omega arith
 height_within {A} follow (suc n) h =
-    let le = largest_within n (each (λ (x : A). height follow n x) (follow h)) (λ m i. let x = in_each (λ (x : A). height follow n x) m (follow h) i in subst (λ (k : ℕ). k ≤ n) (sym x.2) (height_within follow n x.0)) in
+    let le = largest_within n (each (λ (x : A). height follow n x) (follow h)) (λ m i. let x = in_each (λ (x : A). height follow n x) m (follow h) i in
+    subst (λ (k : ℕ). k ≤ n) (sym x.2) (height_within follow n x.0)) in
     omega (arith, le)
 
 few_filtered : {A : Type 0} (p : A → Bool) (xs : List A) → length (filter p xs) ≤ length xs
@@ -111,7 +112,8 @@ rank_within_hops net g h = by (has_hop (hops_of net.hops g) h)
     by false = omega arith
 
 longest_within : (net : Net) → longest net ≤ length net.hops
-longest_within net = largest_within (length net.hops) (each (rank_of net) net.hops) (λ m i. let r = in_each (rank_of net) m net.hops i in subst (λ (k : ℕ). k ≤ length net.hops) (sym r.2) (rank_within_hops net r.0.group r.0.hop))
+longest_within net = largest_within (length net.hops) (each (rank_of net) net.hops) (λ m i. let r = in_each (rank_of net) m net.hops i in
+    subst (λ (k : ℕ). k ≤ length net.hops) (sym r.2) (rank_within_hops net r.0.group r.0.hop))
 
 pub longest_grown : (seed : ℕ) → longest (grown_net seed) ≤ 8192
 longest_grown seed = let a = longest_within (grown_net seed) in let b = (valid_grown seed).few_hops in omega (arith, a, b)

@@ -5,3 +5,9 @@ pub mod Grown
 pub mod Growing
 pub mod GrownBy
 pub mod SeedOne
+pub mod Modest
+pub mod GrownDemands
+pub mod Asking
+pub mod Booked
+pub mod Texts
+pub mod Summaries

@@ -1,11 +1,13 @@
-//! The network that a seed grows: a tree of 64 nodes, three sessions, one of each style, with four senders each, and what is
-//! wanted at the nodes, all drawn from the words of the seed.
+//! The network that a seed grows: a tree of 64 nodes, three sessions, one of each style, with four senders each, and what is wanted
+//! at the nodes, all drawn from the words of the seed; and the summary of its run.
 //!
-//! `grow` makes it: the routing, the names of its ends, and the lists of what is sent and wanted. The plan of its run is a
-//! definition in `specs/`. A grown network is valid, whatever the seed: the trees lead away from their senders, and no chain of hops turns back. So
-//! `grow` is refused for want of memory alone.
+//! Its plan is a definition. Laws: it is valid and what is asked of it fits, whatever the seed. `grow` makes it, and is refused for want
+//! of memory alone; `put_summary` writes the summary. It stands on `network_model` and `network_demand`.
 #![tactic(auto)]
 
+mod asking;
+mod comparing;
+pub mod demand_laws;
 mod growing;
 mod grown;
 mod hops;
@@ -13,7 +15,12 @@ mod hosts;
 pub mod laws;
 mod names;
 mod nodes;
+mod summary;
+pub mod summary_laws;
 mod words;
 
+pub use asking::asked;
+pub use comparing::is_demand;
 pub use grown::{Grown, QUARTER, grow};
 pub use hosts::{Wanted, flow_of, session_of};
+pub use summary::{Booked, Summary, put_summary};

@@ -15,10 +15,10 @@ use Rattle.tree_model.specs.Networks.{Net, iface_of}
 use Rattle.tree_model.specs.declared.hops.End.{End}
 use Rattle.network_model.specs.Runs.{node_facts}
 use Rattle.network_model.specs.Worlds.{World}
-use Rattle.net_replay.specs.Agreeing.{Agrees, NetworkState}
-use Rattle.net_replay.specs.Following.{Seen}
-use Rattle.grown_summary.specs.Booked.{book_there, booked_up_to, books_up_to, end_book, one_booked}
-use Rattle.grown_summary.specs.declared.summary.Booked.{Booked}
+use Rattle.network_replay.specs.Agreeing.{Agrees, NetworkState}
+use Rattle.network_replay.specs.Following.{Seen}
+use Rattle.grown_network.specs.Booked.{book_there, booked_up_to, books_up_to, end_book, one_booked}
+use Rattle.grown_network.specs.declared.summary.Booked.{Booked}
 
 -- where nothing is, the list has ended
 pub ended_by : {A : Type 0} (xs : List A) (k : ℕ) → slice_get xs k ≡ None → length xs ≤ k
@@ -45,7 +45,8 @@ entries_counted p f iface = length-map (book f iface).rows (entry_at p f iface)
 abbrev pub with_end : Booked → ℕ → ℕ → Booked
 with_end b entries rate = record { ends = b.ends + (if nat_lt 0 entries then 1 else 0); entries = b.entries + entries; held = b.held + rate }
 
-pub one_more : (net : Net) (w : World) (end : ℕ) (old new : Booked) (entries rate : ℕ) → old ≡ booked_up_to net w end → entries ≡ size (end_book net w end) → rate ≡ held (end_book net w end) → new ≡ with_end old entries rate → new ≡ booked_up_to net w (end + 1)
+pub one_more : (net : Net) (w : World) (end : ℕ) (old new : Booked) (entries rate : ℕ) → old ≡ booked_up_to net w end → entries ≡ size (end_book net w end) → rate ≡ held (end_book net w end)
+    → new ≡ with_end old entries rate → new ≡ booked_up_to net w (end + 1)
 one_more net w end old new entries rate so_far counted charged next =
     let f = end_book net w in
     let here : 0 + end ≡ end = omega arith in

@@ -4,11 +4,11 @@ use Rattle.std.specs.Prelude.{Bool}
 use Rattle.std.specs.Io.KnownBytes.{Appends}
 use Rattle.std.proofs.KnownBytes.{Appends-nil}
 use Rattle.network_model.specs.Runs.{Plan, is_crowded_run}
-use Rattle.network_run.specs.Endings.{IsOrNoMemory}
-use Rattle.network_run.specs.declared.ending.Ending.{Ending}
-use Rattle.network_run.specs.declared.ending.Ending.TheVariants.{Done, BadLine, ReadFault, WriteFault, NoMemory, Crowded, TooLong}
+use Rattle.script_run.specs.Endings.{IsOrNoMemory}
+use Rattle.script_run.specs.declared.ending.Ending.{Ending}
+use Rattle.script_run.specs.declared.ending.Ending.TheVariants.{Done, BadLine, ReadFault, WriteFault, NoMemory, Crowded, TooLong}
 use Rattle.grown_network.specs.Grown.{grown_plan}
-use Rattle.grown_summary.specs.Summaries.{summary}
+use Rattle.grown_network.specs.Summaries.{summary}
 use Rattle.grown_player.specs.Endings.{GrowsTo, IsGrownRun}
 
 module _ (stands : Plan → Type 0) (seed : ℕ) (before after : Option (List ℕ)) where

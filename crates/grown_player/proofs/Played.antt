@@ -3,13 +3,13 @@ use Rattle.std.proofs.Common.{◌≡◌, ℕ, ◌+◌, ◌<◌, ◌≤◌, zero,
 use Rattle.std.specs.Prelude.{Result, Ok, Err, map as each}
 use Rattle.network_model.specs.Events.{Event}
 use Rattle.network_model.specs.Runs.{Plan, is_crowded_run}
-use Rattle.net_replay.specs.Agreeing.{NetworkState}
-use Rattle.net_replay.specs.Following.{Seen}
-use Rattle.net_replay.specs.declared.world_err.WorldErr.{WorldErr}
-use Rattle.net_replay.specs.declared.world_err.WorldErr.TheVariants.{Crowded, NoMemory}
-use Rattle.network_run.specs.Written.{with_event}
-use Rattle.network_run.proofs.Runs.{stays_crowded}
-use Rattle.script_player.specs.Standing.{RunsOn}
+use Rattle.network_replay.specs.Agreeing.{NetworkState}
+use Rattle.network_replay.specs.Following.{Seen}
+use Rattle.network_replay.specs.declared.world_err.WorldErr.{WorldErr}
+use Rattle.network_replay.specs.declared.world_err.WorldErr.TheVariants.{Crowded, NoMemory}
+use Rattle.script_run.specs.Written.{with_event}
+use Rattle.script_run.proofs.Runs.{stays_crowded}
+use Rattle.script_run.specs.Standing.{RunsOn}
 use Rattle.grown_player.specs.Playing.{EndsPlaying, IsPlayed, Plays, with_events}
 
 -- ---- plans with more events
@@ -45,7 +45,8 @@ drop_past (x ∷ xs) (suc i) le = drop_past xs i (omega arith)
 
 module _ {R : Type 0} (see : Seen R) where
   -- one event
-  pub one_played : (old v : NetworkState R) (p : Plan) (e : Event) (r : Result (Unit {0}) WorldErr) (before after : List ℕ) → IsPlayed see p old before → RunsOn see p e r before after v → Plays see p (e ∷ []) r v after
+  pub one_played : (old v : NetworkState R) (p : Plan) (e : Event) (r : Result (Unit {0}) WorldErr) (before after : List ℕ) → IsPlayed see p old before → RunsOn see p e r before after v
+      → Plays see p (e ∷ []) r v after
   one_played old v p e (Ok _) before after played ran = record {
     roomy = ran.roomy;
     stands = ran.stands;
@@ -72,10 +73,12 @@ module _ {R : Type 0} (see : Seen R) where
   pub begun : (p : Plan) (all : List Event) (v : NetworkState R) (out : List ℕ) → IsPlayed see p v out → IsHalfway p all all v out
   begun p all v out h = record { now = p; played = h; rest = refl }
 
-  pub gone_on : (p : Plan) (all : List Event) (e : Event) (left : List Event) (v u : NetworkState R) (out said : List ℕ) (h : IsHalfway p all (e ∷ left) v out) → Plays see h.now (e ∷ []) (Ok tt) u said → IsHalfway p all left u said
+  pub gone_on : (p : Plan) (all : List Event) (e : Event) (left : List Event) (v u : NetworkState R) (out said : List ℕ) (h : IsHalfway p all (e ∷ left) v out)
+      → Plays see h.now (e ∷ []) (Ok tt) u said → IsHalfway p all left u said
   gone_on p all e left v u out said h next = record { now = with_event h.now e; played = next; rest = joined h.now (e ∷ []) left ∙ h.rest }
 
-  pub broken_off : (p : Plan) (all : List Event) (e : Event) (left : List Event) (x : WorldErr) (v u : NetworkState R) (out said : List ℕ) (h : IsHalfway p all (e ∷ left) v out) → Plays see h.now (e ∷ []) (Err x) u said → Plays see p all (Err x) u said
+  pub broken_off : (p : Plan) (all : List Event) (e : Event) (left : List Event) (x : WorldErr) (v u : NetworkState R) (out said : List ℕ) (h : IsHalfway p all (e ∷ left) v out)
+      → Plays see h.now (e ∷ []) (Err x) u said → Plays see p all (Err x) u said
   broken_off p all e left x v u out said h next = subst (λ (q : Plan). EndsPlaying see q (Err x) u said) h.rest (stopped h.now (e ∷ []) left x u u said said next)
 
   pub arrived : (p : Plan) (all : List Event) (v : NetworkState R) (out : List ℕ) → IsHalfway p all [] v out → Plays see p all (Ok tt) v out

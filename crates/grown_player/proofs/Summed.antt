@@ -4,11 +4,11 @@ use Rattle.tree_model.specs.Networks.{Net}
 use Rattle.tree_model.specs.Ranks.{longest}
 use Rattle.network_model.specs.Runs.{last_world}
 use Rattle.grown_network.specs.Grown.{grown_net, grown_plan, rounds_of}
-use Rattle.grown_summary.specs.Booked.{booked}
-use Rattle.grown_summary.specs.Summaries.{delivered, is_as_demanded, summary, summary_of}
-use Rattle.grown_summary.specs.Texts.{summary_text}
-use Rattle.grown_summary.specs.declared.summary.Booked.{Booked}
-use Rattle.grown_summary.specs.declared.summary.Summary.{Summary}
+use Rattle.grown_network.specs.Booked.{booked}
+use Rattle.grown_network.specs.Summaries.{delivered, is_as_demanded, summary, summary_of}
+use Rattle.grown_network.specs.Texts.{summary_text}
+use Rattle.grown_network.specs.declared.summary.Booked.{Booked}
+use Rattle.grown_network.specs.declared.summary.Summary.{Summary}
 
 pub record IsSummaryOf (seed : ℕ) (s : Summary) : Type 0 where
   pub seed_is : s.seed ≡ seed

@@ -2,10 +2,10 @@
 use Rattle.std.specs.Prelude.{◌≡◌, ℕ, true, false, List, [], take, Option}
 use Rattle.std.specs.Io.KnownBytes.{Appends}
 use Rattle.network_model.specs.Runs.{Plan, is_crowded_run}
-use Rattle.network_run.specs.declared.ending.Ending.{Ending}
-use Rattle.network_run.specs.declared.ending.Ending.TheVariants.{Done, WriteFault, NoMemory, Crowded}
+use Rattle.script_run.specs.declared.ending.Ending.{Ending}
+use Rattle.script_run.specs.declared.ending.Ending.TheVariants.{Done, WriteFault, NoMemory, Crowded}
 use Rattle.grown_network.specs.Grown.{grown_plan}
-use Rattle.grown_summary.specs.Summaries.{summary}
+use Rattle.grown_network.specs.Summaries.{summary}
 
 -- a front of the summary
 abbrev pub IsFront : ℕ → List ℕ → Type 0

@@ -4,7 +4,7 @@ use Rattle.network_model.specs.DemandTexts.{last_line}
 use Rattle.tree_model.specs.Ranks.{longest}
 use Rattle.network_model.specs.Runs.{Plan}
 use Rattle.grown_network.specs.Grown.{grown_net, grown_plan, rounds_of}
-use Rattle.grown_summary.specs.Summaries.{demanded}
+use Rattle.grown_network.specs.Summaries.{demanded}
 use Rattle.grown_player.specs.declared.growing.Expected.{Expected}
 
 -- the plan of a seed, before its events

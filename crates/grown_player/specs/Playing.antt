@@ -4,11 +4,11 @@ use Rattle.network_model.specs.Events.{Event}
 use Rattle.network_model.specs.Runs.{Plan, is_crowded_run, run_text}
 use Rattle.router_rules.specs.Inputs.{Arrival, Unspelt}
 use Rattle.rsvp_messages.specs.declared.fault.Fault.TheVariants as fault
-use Rattle.net_replay.specs.Agreeing.{NetworkState}
-use Rattle.net_replay.specs.Following.{Seen}
-use Rattle.net_replay.specs.declared.world_err.WorldErr.{WorldErr}
-use Rattle.net_replay.specs.declared.world_err.WorldErr.TheVariants.{Crowded, NoMemory}
-use Rattle.script_player.specs.Standing.{StandsBehind}
+use Rattle.network_replay.specs.Agreeing.{NetworkState}
+use Rattle.network_replay.specs.Following.{Seen}
+use Rattle.network_replay.specs.declared.world_err.WorldErr.{WorldErr}
+use Rattle.network_replay.specs.declared.world_err.WorldErr.TheVariants.{Crowded, NoMemory}
+use Rattle.script_run.specs.Standing.{StandsBehind}
 
 -- the plan with more events
 abbrev pub with_events : Plan → List Event → Plan

@@ -4,12 +4,12 @@ ghost use Rattle.rsvp_base.specs.Table.{size};
 ghost use Rattle.router_rules.specs.Flags.{entries_of};
 ghost use Rattle.style_rules.specs.Lines.{held};
 ghost use Rattle.network_model.specs.Worlds.{World as AWorld};
-ghost use Rattle.net_replay.specs.Agreeing.{Agrees};
-ghost use Rattle.grown_summary.specs.Booked.{booked, end_book};
+ghost use Rattle.network_replay.specs.Agreeing.{Agrees};
+ghost use Rattle.grown_network.specs.Booked.{booked, end_book};
 
-use grown_summary::Booked;
-use net_replay::{Router, World};
-use network_parcels::Wires;
+use grown_network::Booked;
+use network_flight::Wires;
+use network_replay::{Router, World};
 
 // An interface has at most so many entries.
 const ENTRIES: u32 = 3072;

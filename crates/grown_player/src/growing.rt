@@ -3,16 +3,15 @@ ghost use Rattle.std.specs.Prelude.{◌≡◌, ◌≤◌, IfOk};
 ghost use Rattle.grown_network.specs.Grown.{grown_net};
 ghost use Rattle.grown_network.specs.GrownBy.{IsGrownBy};
 ghost use Rattle.grown_network.specs.Nodes.{names_up_to};
-ghost use Rattle.script_player.specs.Standing.{StandsBehind};
+ghost use Rattle.script_run.specs.Standing.{StandsBehind};
 ghost use Rattle.grown_player.specs.Growing.{IsExpected, first_plan};
 
-use demand_texts::demand_text;
-use grown_network::{Grown, QUARTER};
-use grown_summary::asked;
-use net_replay::World;
-use network_parcels::Wires;
+use grown_network::{Grown, QUARTER, asked};
+use network_flight::Wires;
+use network_replay::World;
 use rsvp_base::{EndName, NoMemory};
-use script_player::Opens;
+use script_demand::demand_text;
+use script_run::Opens;
 use std::alloc::Global;
 use tree_routing::Routing;
 

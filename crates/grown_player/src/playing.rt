@@ -3,7 +3,7 @@ ghost use Rattle.std.specs.Prelude.{◌++◌, ◌∷◌, [], None, false, map};
 ghost use Rattle.std.specs.List.{All};
 ghost use Rattle.network_model.specs.Events.{Reports, Rounds};
 ghost use Rattle.network_model.specs.Runs.{Plan};
-ghost use Rattle.net_replay.specs.Happening.{IsRead};
+ghost use Rattle.network_replay.specs.Happening.{IsRead};
 ghost use Rattle.network_model.specs.Happenings.{IsFitEvent, event_with};
 ghost use Rattle.router_rules.specs.Steps.{IsFitCall};
 ghost use Rattle.router_rules.specs.Inputs.{WantAs};
@@ -12,9 +12,9 @@ ghost use Rattle.grown_network.specs.Hosts.{session_of};
 ghost use Rattle.grown_player.specs.Playing.{IsPlayed, Plays, no_bytes};
 
 use grown_network::{Wanted, flow_of, session_of};
-use net_replay::{Router, Unwatched, Watch, World, WorldErr};
 use network_model::{Event, LocalCall};
-use script_player::run_event;
+use network_replay::{Router, Unwatched, Watch, World, WorldErr};
+use script_run::run_event;
 use tree_model::LocalSender;
 
 /// The rate of each sender, in bytes per second.

@@ -2,12 +2,12 @@
 ghost use Rattle.std.specs.Prelude.{◌≡◌, ◌≢◌, true, false, None, IfErr, IfOk};
 ghost use Rattle.byte_streams.specs.Faults.{Rose};
 ghost use Rattle.network_model.specs.Runs.{is_crowded_run};
-ghost use Rattle.network_run.specs.Endings.{IsOrNoMemory};
-ghost use Rattle.network_run.specs.declared.ending.Ending.{Ending as AnEnding};
-ghost use Rattle.net_replay.specs.declared.world_err.WorldErr.TheVariants as refusal;
-ghost use Rattle.script_player.specs.Standing.{IsNetworkOf, StandsBehind};
+ghost use Rattle.script_run.specs.Endings.{IsOrNoMemory};
+ghost use Rattle.script_run.specs.declared.ending.Ending.{Ending as AnEnding};
+ghost use Rattle.network_replay.specs.declared.world_err.WorldErr.TheVariants as refusal;
+ghost use Rattle.script_run.specs.Standing.{IsNetworkOf, StandsBehind};
 ghost use Rattle.grown_network.specs.Grown.{grown_plan};
-ghost use Rattle.grown_summary.specs.Summaries.{summary};
+ghost use Rattle.grown_network.specs.Summaries.{summary};
 ghost use Rattle.grown_player.specs.Endings.{GrowsTo, IsGrownRun};
 
 use crate::growing::{expect, open};
@@ -15,9 +15,8 @@ use crate::playing::play_plan;
 use crate::summing::sum_up;
 use byte_streams::{Sink, write_all};
 use grown_network::{Grown, grow};
-use net_replay::{Watch, World, WorldErr};
-use network_run::Ending;
-use script_player::Opens;
+use network_replay::{Watch, World, WorldErr};
+use script_run::{Ending, Opens};
 use std::alloc::Global;
 
 /// Grows the network of a seed, runs the events of its plan on routers, and writes the summary of the run to the sink. Where it is

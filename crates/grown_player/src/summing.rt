@@ -1,14 +1,14 @@
 //! The run of a grown network is summed up.
 ghost use Rattle.std.specs.Prelude.{◌≡◌, IfOk};
 ghost use Rattle.grown_network.specs.Grown.{grown_plan};
-ghost use Rattle.grown_summary.specs.Summaries.{summary};
+ghost use Rattle.grown_network.specs.Summaries.{summary};
 ghost use Rattle.grown_player.specs.Growing.{IsExpected};
 ghost use Rattle.grown_player.specs.Playing.{IsPlayed};
 
 use crate::counting::count;
 use crate::growing::Expected;
-use grown_summary::{Summary, is_demand, put_summary};
-use net_replay::{Router, World};
+use grown_network::{Summary, is_demand, put_summary};
+use network_replay::{Router, World};
 use rsvp_base::NoMemory;
 use std::alloc::Global;
 

@@ -1,1 +1,1 @@
-mod Misread
+mod NearestRates

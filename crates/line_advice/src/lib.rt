@@ -1,20 +1,12 @@
-//! What is wrong with a bad line, in words: which of its words breaks the rule, and what is wanted there.
+//! What is wrong with a word of a bad line, where more than its form and its range can be said: which number of a flow is out of range.
 //!
-//! `find_blame` finds by the fault of a line and by the lines before it (`LinesBefore`) the word that breaks the rule, and
-//! `put_advice` writes the line of text that tells it: the column, the word and what is wanted. Both are exactly their
-//! definitions in `specs/`. It stands on `line_kinds` for what the words of a line are, and on `script_grammar` for the faults.
+//! `flow_fault` finds the first number of a flow that is out of range, with the nearest rates where it is none; `put_flow_fault` says so
+//! in words. Both are exactly their definitions in `specs/`, and no memory is taken but for the text that grows.
 #![tactic(auto)]
 
-mod advice;
-mod blame;
-mod breaks;
-mod known;
-pub mod laws;
-mod place;
-mod rule;
-mod texts;
+mod flow_faults;
+mod flow_texts;
+pub mod rates;
 
-pub use advice::{put_advice, put_long};
-pub use blame::{Blame, find_blame};
-pub use known::LinesBefore;
-pub use rule::Rule;
+pub use flow_faults::{FlowFault, FlowRate, flow_fault};
+pub use flow_texts::put_flow_fault;

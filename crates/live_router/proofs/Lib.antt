@@ -1,3 +1,5 @@
+pub mod Shifting
+pub mod Doing
 mod Living
 mod Routes
 mod Opened

@@ -8,11 +8,11 @@ use Rattle.std.proofs.lemmas.List.{length-map}
 use Rattle.rsvp_base.specs.declared.addr.Addr.{Addr}
 use Rattle.router_rules.specs.declared.route.Route.{Route}
 use Rattle.router_rules.specs.NodeConfig.{NodeConfig}
-use Rattle.net_replay.specs.Routed.{tree_of, trees_in}
-use Rattle.node_facts.specs.Routes.{AreRoutes, route_keys, route_row}
-use Rattle.node_facts.specs.State.{State, no_state}
-use Rattle.bounded_nodes.specs.Bounded.{IsBounded}
-use Rattle.bounded_nodes.proofs.Doing.{no_facts_are_bounded}
+use Rattle.network_replay.specs.Routed.{tree_of, trees_in}
+use Rattle.router_state.specs.Routes.{AreRoutes, route_keys, route_row}
+use Rattle.router_state.specs.State.{State, no_state}
+use Rattle.live_router.specs.Bounded.{IsBounded}
+use Rattle.live_router.proofs.Doing.{no_facts_are_bounded}
 use Rattle.live_router.specs.Living.{IsLive}
 
 -- ---- routes of the same trees are in the same order
@@ -54,7 +54,8 @@ lives_on old new spare live same bounded =
     }
 
 -- ---- a call that gives it other routes of the same trees, and hands back those that it had
-pub lives_moved : (old new : State) (routes spare : List Route) → AreRoutes old.place.routes → trees_in old.place.routes ≡ trees_in routes → new.place ≡ record old.place { routes = routes } → spare ≡ old.place.routes → IsBounded new → IsLive new spare
+pub lives_moved : (old new : State) (routes spare : List Route) → AreRoutes old.place.routes → trees_in old.place.routes ≡ trees_in routes → new.place ≡ record old.place { routes = routes }
+    → spare ≡ old.place.routes → IsBounded new → IsLive new spare
 lives_moved old new routes spare up trees same were bounded =
     record {
       bounded = bounded;

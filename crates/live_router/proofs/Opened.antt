@@ -3,18 +3,18 @@ use Rattle.std.specs.Prelude.{◌≡◌, ℕ, List, [], ◌∷◌, map as each, 
 use Rattle.std.specs.List.{range_with_len}
 use Rattle.std.proofs.Common.{ap, sym, subst, ◌∙◌}
 use Rattle.std.proofs.lemmas.List.Elements.{All-nil, All-cons, All-head, All-tail}
-use Rattle.left_over.specs.Kept.{stale_of}
-use Rattle.left_over.specs.declared.fact.LeftOver.{LeftOver}
+use Rattle.stale_state.specs.Kept.{stale_of}
+use Rattle.stale_state.specs.declared.fact.LeftOver.{LeftOver}
 use Rattle.live_router.specs.SeenNode.{seen_node}
-use Rattle.net_replay.specs.Opening.{AreFirst}
+use Rattle.network_replay.specs.Opening.{AreFirst}
 use Rattle.network_model.specs.Runs.{Plan, left_over}
-use Rattle.node_facts.specs.State.{State, facts_at, no_state}
+use Rattle.router_state.specs.State.{State, facts_at, no_state}
 use Rattle.router_rules.specs.Facts.{Facts, no_facts}
 use Rattle.router_rules.specs.Inputs.{Stale}
 use Rattle.router_rules.specs.NodeConfig.{NodeConfig}
 use Rattle.router_rules.specs.Steps.{IsFitStale}
 use Rattle.tree_model.specs.Networks.{Net}
-use Rattle.left_over.specs.Fit.{AreFitAll, place_of}
+use Rattle.stale_state.specs.Fit.{AreFitAll, place_of}
 use Rattle.live_router.specs.Leaving.{AreFitAt, IsFitAt}
 
 abbrev first_at : ℕ → Net → List (ℕ × Stale) → ℕ → Facts

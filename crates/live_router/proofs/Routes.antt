@@ -13,7 +13,7 @@ use Rattle.tree_model.specs.Networks.{Net, ends_of}
 use Rattle.tree_model.specs.Trees.{key_of, tree_keys, trees_of}
 use Rattle.router_rules.specs.declared.route.Route.{Route}
 use Rattle.network_model.specs.Worlds.{ifaces_at, route_of, with_iface}
-use Rattle.node_facts.specs.Routes.{AreRoutes, route_keys, route_row}
+use Rattle.router_state.specs.Routes.{AreRoutes, route_keys, route_row}
 
 abbrev Tree : Type 0
 Tree = Addr × Addr
@@ -35,7 +35,8 @@ one_more f rs new ts t r is at same e =
     let k = length rs in
     let many : length new ≡ suc k = omega (arith, ap (λ (l : List Route). length l) e, length-append rs (r ∷ [])) in
     let inside = within ts k t at in (
-      e ∙ ap (λ (l : List Route). l ++ r ∷ []) is ∙ ap (λ (x : Route). each f (take k ts) ++ x ∷ []) same ∙ sym (map-append f (take k ts) (t ∷ [])) ∙ ap (each f) (sym (take_one ts k t at)) ∙ ap (λ n. each f (take n ts)) (sym many),
+      e ∙ ap (λ (l : List Route). l ++ r ∷ []) is ∙ ap (λ (x : Route). each f (take k ts) ++ x ∷ []) same ∙ sym (map-append f (take k ts) (t ∷ [])) ∙ ap (each f) (sym (take_one ts k t at))
+          ∙ ap (λ n. each f (take n ts)) (sym many),
       omega (arith, many, inside),
     )
 

@@ -1,11 +1,11 @@
 -- What may be left over at the nodes of a network, and a router that has it.
 use Rattle.std.specs.Prelude.{◌≡◌, ℕ, List}
 use Rattle.std.specs.List.{All}
-use Rattle.left_over.specs.Fit.{place_of}
-use Rattle.left_over.specs.Kept.{stale_of}
-use Rattle.left_over.specs.declared.fact.LeftOver.{LeftOver}
+use Rattle.stale_state.specs.Fit.{place_of}
+use Rattle.stale_state.specs.Kept.{stale_of}
+use Rattle.stale_state.specs.declared.fact.LeftOver.{LeftOver}
 use Rattle.network_model.specs.Runs.{left_over}
-use Rattle.node_facts.specs.State.{State, facts_at}
+use Rattle.router_state.specs.State.{State, facts_at}
 use Rattle.router_rules.specs.Facts.{no_facts}
 use Rattle.router_rules.specs.Inputs.{Stale}
 use Rattle.router_rules.specs.NodeConfig.{NodeConfig}

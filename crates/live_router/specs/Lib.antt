@@ -1,3 +1,5 @@
+pub mod Bounded
+pub mod BoundedLaws
 pub mod SeenNode
 pub mod Living
 pub mod Leaving

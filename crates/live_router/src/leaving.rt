@@ -2,14 +2,14 @@
 ghost use Rattle.std.specs.Prelude.{◌≡◌};
 ghost use Rattle.router_rules.specs.Rule.{facts_with};
 ghost use Rattle.router_rules.specs.Steps.{IsFitStale};
-ghost use Rattle.node_facts.specs.State.{facts_at};
+ghost use Rattle.router_state.specs.State.{facts_at};
 ghost use Rattle.network_model.specs.Runs.{left_over};
-ghost use Rattle.left_over.specs.AtNodes.{list_of};
-ghost use Rattle.left_over.specs.Kept.{stale_of};
+ghost use Rattle.stale_state.specs.AtNodes.{list_of};
+ghost use Rattle.stale_state.specs.Kept.{stale_of};
 ghost use Rattle.live_router.specs.Leaving.{AreFitAt};
 
 use crate::live_router::LiveRouter;
-use left_over::{Left, LeftOver};
+use stale_state::{Left, LeftOver};
 
 /// What is left over at the node of this number is left over at the router, in order, as of the moment 0. Each lives no longer
 /// than a fact that was just refreshed, and has the shape of one. One that the router refuses changes nothing. Nothing is sent.

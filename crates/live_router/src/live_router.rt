@@ -1,12 +1,12 @@
 //! The router.
 ghost use Rattle.std.specs.Prelude.{◌≡◌, IfOk};
-ghost use Rattle.node_facts.specs.Routes.{AreRoutes};
-ghost use Rattle.node_facts.specs.State.{no_state};
-ghost use Rattle.bounded_nodes.specs.Bounded.{IsBounded};
+ghost use Rattle.router_state.specs.Routes.{AreRoutes};
+ghost use Rattle.router_state.specs.State.{no_state};
+ghost use Rattle.live_router.specs.Bounded.{IsBounded};
 
-use node_telling::Config;
 use router_core::Node;
 use router_rules::Route;
+use router_state::Config;
 use rsvp_base::NoMemory;
 use std::alloc::Global;
 use std::marker::Model;
@@ -21,7 +21,7 @@ pub struct LiveRouter {
 }
 
 impl Model for LiveRouter {
-    ghost use Rattle.node_facts.specs.State.{State};
+    ghost use Rattle.router_state.specs.State.{State};
     ghost use Rattle.live_router.specs.Living.{IsLive};
 
     ghost Value = { State };

@@ -1,17 +1,17 @@
 //! The routers of a network.
 ghost use Rattle.std.specs.Prelude.{◌≡◌, ◌≤◌, IfOk, map};
-ghost use Rattle.left_over.specs.AtNodes.{list_of};
+ghost use Rattle.stale_state.specs.AtNodes.{list_of};
 ghost use Rattle.live_router.specs.SeenNode.{seen_node};
 ghost use Rattle.network_model.specs.Runs.{Plan};
-ghost use Rattle.net_replay.specs.Opening.{AreFirst, ArePlaced};
-ghost use Rattle.left_over.specs.Fit.{AreFitAll};
+ghost use Rattle.network_replay.specs.Opening.{AreFirst, ArePlaced};
+ghost use Rattle.stale_state.specs.Fit.{AreFitAll};
 ghost use Rattle.live_router.specs.Leaving.{IsOpened};
 
 use crate::leaving::left_at;
 use crate::live_router::LiveRouter;
 use crate::place::config_at;
-use left_over::LeftOver;
 use rsvp_base::NoMemory;
+use stale_state::LeftOver;
 use std::alloc::Global;
 use tree_routing::Routing;
 

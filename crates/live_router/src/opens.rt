@@ -1,9 +1,9 @@
 //! Live routers are what a network of a script is made of.
 use crate::live_router::LiveRouter;
 use crate::network::open_routers;
-use left_over::LeftOver;
 use rsvp_base::NoMemory;
-use script_player::Opens;
+use script_run::Opens;
+use stale_state::LeftOver;
 use std::alloc::Global;
 use tree_routing::Routing;
 

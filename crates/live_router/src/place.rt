@@ -4,8 +4,8 @@ ghost use Rattle.tree_model.specs.Trees.{trees_of};
 ghost use Rattle.network_model.specs.Worlds.{config_of, ifaces_at, route_of};
 ghost use Rattle.tree_model.specs.Networks.{ends_of};
 
-use node_telling::Config;
 use router_rules::Route;
+use router_state::Config;
 use rsvp_base::{Addr, Iface, NoMemory};
 use std::alloc::Global;
 use tree_model::End;

@@ -1,8 +1,8 @@
 //! What a network asks of a router.
 
 use crate::live_router::LiveRouter;
-use net_replay::Router;
 use network_model::LocalCall;
+use network_replay::Router;
 use router_rules::{Entry, Heard, LocalErr, Outbox, Route};
 use rsvp_base::Addr;
 use rsvp_messages::{Message, MsgErr};

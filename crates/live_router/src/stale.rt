@@ -2,7 +2,7 @@
 ghost use Rattle.std.specs.Prelude.{◌≡◌, ℕ, None, Some, MatchResult};
 ghost use Rattle.router_rules.specs.Rule.{facts_with, refusal_of_stale};
 ghost use Rattle.router_rules.specs.Steps.{IsFitStale};
-ghost use Rattle.node_facts.specs.State.{facts_at};
+ghost use Rattle.router_state.specs.State.{facts_at};
 ghost use Rattle.router_core.specs.LeftOver.{resv_left, wall_left};
 ghost use Rattle.router_core.specs.Coming.{stale_path};
 

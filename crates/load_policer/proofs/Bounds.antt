@@ -33,7 +33,8 @@ module _ (f : TokenBucket) where
   keeps ps all before first rest after is =
       let e = ends first rest in
       let whole : ps ≡ (before ++ e.front) ++ e.last ∷ after =
-      is ∙ ap (λ (zs : List Packet). before ++ (zs ++ after)) e.is ∙ ap (λ (zs : List Packet). before ++ zs) (append_assoc e.front (e.last ∷ []) after) ∙ sym (append_assoc before e.front (e.last ∷ after)) in
+      is ∙ ap (λ (zs : List Packet). before ++ (zs ++ after)) e.is ∙ ap (λ (zs : List Packet). before ++ zs) (append_assoc e.front (e.last ∷ []) after)
+      ∙ sym (append_assoc before e.front (e.last ∷ after)) in
       ⊎_elim
       (λ (above : f.r * (last_at first.at rest - first.at) + f.b * 1000000 < counted_all f (first ∷ rest) * 1000000).
       absurd (passed_at [] ps (before ++ e.front) e.last after all whole

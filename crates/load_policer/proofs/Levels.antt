@@ -85,7 +85,8 @@ module _ (f : TokenBucket) where
     first = m.first;
     rest = m.rest;
     stretch = m.stretch;
-    above = let last = last_of 0 ps x in let most = subst (λ (n : ℕ). level f 0 0 (ps ++ x ∷ []) + f.r * (n - m.first.at) ≤ counted_all f (m.first ∷ m.rest) * 1000000) last m.most in omega (arith, most, passes);
+    above = let last = last_of 0 ps x in let most = subst (λ (n : ℕ). level f 0 0 (ps ++ x ∷ []) + f.r * (n - m.first.at) ≤ counted_all f (m.first ∷ m.rest) * 1000000) last m.most in
+        omega (arith, most, passes);
   }
 
   as_list : (ps : List Packet) (x : Packet) → (y : Packet) × (ys : List Packet) × (ps ++ x ∷ [] ≡ y ∷ ys)

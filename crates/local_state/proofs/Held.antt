@@ -17,8 +17,7 @@ use Rattle.rsvp_base.specs.declared.session.Session.{Session}
 use Rattle.rsvp_base.proofs.Rows.{are_rows, table_is}
 use Rattle.rsvp_base.proofs.SessionCounts.{is_full, full_if, some_rows, has_session, size_sessions, sessions_without, room_over, room_among, room_first, within_put, within_fewer, size-without}
 use Rattle.rsvp_base.proofs.Tables.{either, get-kept, get-without, got_kept, got_without, same_table, size-put_in, tied_same, tied_self}
-use Rattle.rsvp_base.proofs.SetLaws.{same_set}
-use Rattle.rsvp_base.proofs.SetLaws.{without_absent as absent_same}
+use Rattle.rsvp_base.proofs.SetLaws.{same_set, without_absent as absent_same}
 use Rattle.rsvp_base.proofs.UnderLaws.{get-under}
 use Rattle.router_rules.specs.NodeConfig.{is_addr}
 use Rattle.local_state.specs.Rows.{tspec_row}
@@ -57,7 +56,8 @@ module _ {B X : Type 0} (o : Keys B) (m : Table (pairs sessions o) X) (within : 
 
   pub over_count : (v : X) → is_some (get m (s, b)) ≡ true → size (sessions_in o (put_in m (s, b) v)) ≡ size (sessions_in o m)
   over_count v there =
-      size_sessions o m s b v ∙ ap (λ w. cond w (size (sessions_in o m)) (size (sessions_in o m) + 1)) (full_if (under sessions o m s).rows (some_rows o b (under sessions o m s).rows (ap is_some (get-under sessions o m s b) ∙ there)))
+      size_sessions o m s b v ∙ ap (λ w. cond w (size (sessions_in o m)) (size (sessions_in o m) + 1))
+      (full_if (under sessions o m s).rows (some_rows o b (under sessions o m s).rows (ap is_some (get-under sessions o m s b) ∙ there)))
 
   -- ---- a new one
   pub new_room : (v : X) (n k : ℕ) → is_some (get m (s, b)) ≡ false → n ≡ size (sessions_in o m) → k ≡ size (under sessions o m s)
@@ -73,7 +73,8 @@ module _ {B X : Type 0} (o : Keys B) (m : Table (pairs sessions o) X) (within : 
 
   pub new_count : (v : X) (n k : ℕ) → n ≡ size (sessions_in o m) → k ≡ size (under sessions o m s) → cond (nat_lt 0 k) n (n + 1) ≡ size (sessions_in o (put_in m (s, b) v))
   new_count v n k count among =
-      ap (λ c. cond c n (n + 1)) (ap (nat_lt 0) among ∙ sym (full_many (under sessions o m s).rows)) ∙ ap (λ z. cond (is_full (under sessions o m s).rows) z (z + 1)) count ∙ sym (size_sessions o m s b v)
+      ap (λ c. cond c n (n + 1)) (ap (nat_lt 0) among ∙ sym (full_many (under sessions o m s).rows)) ∙ ap (λ z. cond (is_full (under sessions o m s).rows) z (z + 1)) count
+      ∙ sym (size_sessions o m s b v)
 
   -- ---- one less
   pub less_within : IsWithinSessionLimits o (without m (s, b))
@@ -90,7 +91,8 @@ module _ {B X : Type 0} (o : Keys B) (m : Table (pairs sessions o) X) (within : 
   some_sessions v at =
       some_rows sessions s (sessions_in o m).rows (has_session o m s ∙ full_if (under sessions o m s).rows (some_rows o b (under sessions o m s).rows (ap is_some (get-under sessions o m s b ∙ at))))
 
-  pub less_count : (v : X) (n k : ℕ) → get m (s, b) ≡ Some v → n ≡ size (sessions_in o m) → k ≡ size (under sessions o (without m (s, b)) s) → cond (nat_lt 0 k) n (n - 1) ≡ size (sessions_in o (without m (s, b)))
+  pub less_count : (v : X) (n k : ℕ) → get m (s, b) ≡ Some v → n ≡ size (sessions_in o m) → k ≡ size (under sessions o (without m (s, b)) s)
+      → cond (nat_lt 0 k) n (n - 1) ≡ size (sessions_in o (without m (s, b)))
   less_count v n k at count among = by (is_full (under sessions o (without m (s, b)) s).rows) refl
     where
       left : ℕ
@@ -141,15 +143,18 @@ module _ {B X : Type 0} (o : Keys B) (m : Table (pairs sessions o) X) (s : Sessi
       (λ t.
       ap is_full (none_left q t) ∙ sym (ap is_some (get-without sessions (sessions_in o m) s q) ∙ ap (λ b. is_some (cond (not b) (get (sessions_in o m) q) None)) t))
       (λ t.
-      ap (λ (u : Table o X). is_full u.rows) (same_left q t) ∙ sym (has_session o m q) ∙ sym (ap is_some (get-without sessions (sessions_in o m) s q) ∙ ap (λ b. is_some (cond (not b) (get (sessions_in o m) q) None)) t)))
+      ap (λ (u : Table o X). is_full u.rows) (same_left q t) ∙ sym (has_session o m q) ∙ sym
+      (ap is_some (get-without sessions (sessions_in o m) s q) ∙ ap (λ b. is_some (cond (not b) (get (sessions_in o m) q) None)) t)))
     where
       same_left : (q : Session) → eq_by_cmp sessions.cmp s q ≡ false → under sessions o left q ≡ under sessions o m q
       same_left q t =
-          same_table o _ _ (λ b. get-under sessions o left q b ∙ get-kept (pairs sessions o) others m (q, b) ∙ ap (λ c. cond (not c) (get m (q, b)) None) (sym (turned q) ∙ t) ∙ sym (get-under sessions o m q b))
+          same_table o _ _ (λ b. get-under sessions o left q b ∙ get-kept (pairs sessions o) others m (q, b) ∙ ap (λ c. cond (not c) (get m (q, b)) None) (sym (turned q) ∙ t)
+          ∙ sym (get-under sessions o m q b))
 
       none_left : (q : Session) → eq_by_cmp sessions.cmp s q ≡ true → (under sessions o left q).rows ≡ []
       none_left q t =
-          ap (λ (u : Table o X). u.rows) (same_table o (under sessions o left q) empty (λ b. get-under sessions o left q b ∙ get-kept (pairs sessions o) others m (q, b) ∙ ap (λ c. cond (not c) (get m (q, b)) None) (sym (turned q) ∙ t)))
+          ap (λ (u : Table o X). u.rows) (same_table o (under sessions o left q) empty (λ b. get-under sessions o left q b ∙ get-kept (pairs sessions o) others m (q, b)
+          ∙ ap (λ c. cond (not c) (get m (q, b)) None) (sym (turned q) ∙ t)))
 
   pub left_count : (n k : ℕ) → n ≡ size (sessions_in o m) → k ≡ size (under sessions o m s) → cond (nat_lt 0 k) (n - 1) n ≡ size (sessions_in o left)
   left_count n k count among = by (has (sessions_in o m) s) refl

@@ -56,7 +56,8 @@ rows_fired ms (x ∷ xs) = by (nat_le x.left ms) (rows_fired ms xs)
     by false rest = rest
 
 -- one row more
-pub fired_more : (ms : ℕ) (xs : List Countdown) (i : ℕ) (d : Countdown) → i < length xs → filter_map (fired_row ms) (take (i + 1) xs) ≡ filter_map (fired_row ms) (take i xs) ++ cons_option (fired_row ms (get_or xs i d)) []
+pub fired_more : (ms : ℕ) (xs : List Countdown) (i : ℕ) (d : Countdown) → i < length xs → filter_map (fired_row ms) (take (i + 1) xs)
+    ≡ filter_map (fired_row ms) (take i xs) ++ cons_option (fired_row ms (get_or xs i d)) []
 fired_more ms xs i d lt = ap (filter_map (fired_row ms)) (take_more xs i d lt) ∙ filter_map-append (fired_row ms) (take i xs) (get_or xs i d ∷ [])
 
 pub fired_few : (ms : ℕ) (xs : List Countdown) → length (filter_map (fired_row ms) xs) ≤ length xs

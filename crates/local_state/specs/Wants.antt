@@ -28,7 +28,8 @@ abbrev pub asked_row : LocalWant → UnitOf × Want
 asked_row r = (r.unit, want_of r)
 
 abbrev pub want_code : Coded Want
-want_code = code_by (StyleKind × (Part × Bool)) (coded× (style.the_row).coded (coded× part_code coded_bool)) (λ w. (w.style, (w.part, w.confirm))) (λ t. record { style = t.0; part = t.1.0; confirm = t.1.1 }) (λ _. refl)
+want_code = code_by (StyleKind × (Part × Bool)) (coded× (style.the_row).coded (coded× part_code coded_bool)) (λ w. (w.style, (w.part, w.confirm)))
+    (λ t. record { style = t.0; part = t.1.0; confirm = t.1.1 }) (λ _. refl)
 
 abbrev pub wants_code : Coded Wants
 wants_code = table_code want_keys (coded× (session.the_row).coded unit_code) want_code

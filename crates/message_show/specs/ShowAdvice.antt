@@ -5,7 +5,7 @@ use Rattle.hex.specs.Hex.{is_hex_digit}
 use Rattle.script_words.specs.declared.fault.LineErr.{LineErr}
 use Rattle.script_words.specs.declared.fault.LineWhy.{LineWhy}
 use Rattle.script_words.specs.declared.fault.LineWhy.TheVariants.{Limit}
-use Rattle.word_quotes.specs.Quotes.{quoted, strange_text}
+use Rattle.value_texts.specs.Quotes.{quoted, strange_text}
 use Rattle.message_show.specs.ShowLines.{IsBadDigits}
 
 -- the first byte that is no hexadecimal digit, with its column, where the first one stands in this column

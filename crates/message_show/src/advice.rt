@@ -5,8 +5,7 @@ ghost use Rattle.message_show.specs.ShowAdvice.{IsDigitsAdvice, digits_advice, d
 
 use rsvp_base::NoMemory;
 use script_words::LineWhy;
-use value_texts::{put, put_number};
-use word_quotes::{put_quoted, put_strange};
+use value_texts::{put, put_number, put_quoted, put_strange};
 
 /// Makes `advice` the text that tells what is wrong with a line of digits, without a line feed. Where memory runs out, `advice` is
 /// empty.

@@ -4,7 +4,8 @@ ghost use Rattle.std.specs.Io.{StartsWith};
 ghost use Rattle.message_show.specs.AdspecText.{adspec_text};
 ghost use Rattle.message_show.specs.PartTexts.{confirm_text, hop_text, period_text, where_set, where_there};
 ghost use Rattle.value_texts.specs.Texts.{session_text};
-ghost use Rattle.message_show.specs.MessageText.{message_text, only_sender_text, path_err_text, path_sender_text, path_tear_text, path_text, resv_conf_text, resv_err_text, resv_tear_text, resv_text, words_text};
+ghost use Rattle.message_show.specs.MessageText.{message_text, only_sender_text, path_err_text, path_sender_text, path_tear_text, path_text, resv_conf_text, resv_err_text, resv_tear_text};
+ghost use Rattle.message_show.specs.MessageText.{resv_text, words_text};
 
 use crate::adspec::put_adspec;
 use crate::parts::{

@@ -4,7 +4,8 @@ ghost use Rattle.std.specs.Io.{StartsWith};
 ghost use Rattle.std.specs.Fmt.{decimal};
 ghost use Rattle.std.specs.List.{flat_map};
 ghost use Rattle.value_texts.specs.Texts.{addr_text};
-ghost use Rattle.message_show.specs.PartTexts.{amount_text, ask_text, blame_text, confirm_text, error_text, hop_text, listed_text, offer_text, period_text, scope_text, scope_word, senders_text, tear_text, where_set, where_there};
+ghost use Rattle.message_show.specs.PartTexts.{amount_text, ask_text, blame_text, confirm_text, error_text, hop_text, listed_text, offer_text, period_text, scope_text, scope_word};
+ghost use Rattle.message_show.specs.PartTexts.{senders_text, tear_text, where_set, where_there};
 
 use rsvp_base::{Addr, ErrSpec, Flow, Hop, NoMemory, Sender, Senders, StyleKind};
 use rsvp_messages::{Ask, Blame, Tear};

@@ -48,7 +48,11 @@ locals_told net l nodes sessions_few few =
 pub locals_tested : (net : Net) (l : Locals) → AreLocals net l → All (λ w. w.node < net.nodes) l.wants × (FewSessions l.wants × All (few_of l.senders) l.senders)
 locals_tested net l a = (
   in_all (λ w. w.node < net.nodes) l.wants a.nodes,
-  (a.few_sessions, in_all (few_of l.senders) l.senders (λ x i. let le = a.few_senders x.session in let len = length-map (filter (of_session x.session) l.senders) (λ (y : LocalSender). y.sender) in omega arith)),
+  (
+    a.few_sessions,
+    in_all (few_of l.senders) l.senders (λ x i. let le = a.few_senders x.session in let len = length-map (filter (of_session x.session) l.senders) (λ (y : LocalSender). y.sender) in
+        omega arith),
+  ),
 )
 
 module _ (net : Net) (l : Locals) (n : ℕ) (ws : List LocalWant) (e : n ≡ net.nodes) (f : ws ≡ l.wants) where

@@ -35,10 +35,13 @@ module _ (ls : List Line) (l : Line) (named : has_name l.part ≡ true) where
   those_one : (k : EntryKey) (b : Bool) → eq_by_cmp entry_keys.cmp k (entry_key l) ≡ b → those_at entry_keys entry_key part_of_line k (l ∷ []) ≡ (if b then l ∷ [] else [])
   those_one k b e = ap (λ (t : Bool). if t then l ∷ [] else []) (ap (λ (t : Bool). t && eq_by_cmp entry_keys.cmp k (entry_key l)) named ∙ e)
 
-  those_more : (k : EntryKey) (b : Bool) → eq_by_cmp entry_keys.cmp k (entry_key l) ≡ b → each part_of_line (those_at entry_keys entry_key part_of_line k (ls ++ l ∷ [])) ≡ each part_of_line (those_at entry_keys entry_key part_of_line k ls) ++ (if b then l.part ∷ [] else [])
+  those_more : (k : EntryKey) (b : Bool) → eq_by_cmp entry_keys.cmp k (entry_key l) ≡ b → each part_of_line (those_at entry_keys entry_key part_of_line k (ls ++ l ∷ []))
+      ≡ each part_of_line (those_at entry_keys entry_key part_of_line k ls) ++ (if b then l.part ∷ [] else [])
   those_more k b e =
-      ap (each part_of_line) (filter_append (λ x. has_name x.part && eq_by_cmp entry_keys.cmp k (entry_key x)) ls (l ∷ []) ∙ ap (λ xs. those_at entry_keys entry_key part_of_line k ls ++ xs) (those_one k b e))
-      ∙ map-append part_of_line (those_at entry_keys entry_key part_of_line k ls) (if b then l ∷ [] else []) ∙ ap (λ xs. each part_of_line (those_at entry_keys entry_key part_of_line k ls) ++ xs) (by b)
+      ap (each part_of_line) (filter_append (λ x. has_name x.part && eq_by_cmp entry_keys.cmp k (entry_key x)) ls (l ∷ [])
+      ∙ ap (λ xs. those_at entry_keys entry_key part_of_line k ls ++ xs) (those_one k b e))
+      ∙ map-append part_of_line (those_at entry_keys entry_key part_of_line k ls) (if b then l ∷ [] else [])
+      ∙ ap (λ xs. each part_of_line (those_at entry_keys entry_key part_of_line k ls) ++ xs) (by b)
     where
       by : (b : Bool) → each part_of_line (if b then l ∷ [] else []) ≡ (if b then l.part ∷ [] else [])
       by true = refl
@@ -59,12 +62,15 @@ module _ (ls : List Line) (l : Line) (named : has_name l.part ≡ true) where
           get-merge_of entry_keys entry_key part_of_line (ls ++ l ∷ []) k ∙ ap (all_by part_join) (those_more k true t)
           ∙ joined (each part_of_line (those_at entry_keys entry_key part_of_line k ls)) (get (merged_book ls) k) (sym (at k))
           ∙ ap (λ (q : EntryKey). Some (joined_with (get (merged_book ls) q) l.part)) (tied_same entry_keys k (entry_key l) t)
-          ∙ sym (get-put_in entry_keys (merged_book ls) (entry_key l) (joined_with (get (merged_book ls) (entry_key l)) l.part) k ∙ ap (λ b. cond b (Some (joined_with (get (merged_book ls) (entry_key l)) l.part)) (get (merged_book ls) k)) t)
+          ∙ sym (get-put_in entry_keys (merged_book ls) (entry_key l) (joined_with (get (merged_book ls) (entry_key l)) l.part) k
+          ∙ ap (λ b. cond b (Some (joined_with (get (merged_book ls) (entry_key l)) l.part)) (get (merged_book ls) k)) t)
 
       other : (k : EntryKey) → eq_by_cmp entry_keys.cmp k (entry_key l) ≡ false → get (merged_book (ls ++ l ∷ [])) k ≡ get (charged (merged_book ls) (entry_key l) l.part) k
       other k f =
-          get-merge_of entry_keys entry_key part_of_line (ls ++ l ∷ []) k ∙ ap (all_by part_join) (those_more k false f ∙ append_none (each part_of_line (those_at entry_keys entry_key part_of_line k ls)))
-          ∙ sym (at k) ∙ sym (get-put_in entry_keys (merged_book ls) (entry_key l) (joined_with (get (merged_book ls) (entry_key l)) l.part) k ∙ ap (λ b. cond b (Some (joined_with (get (merged_book ls) (entry_key l)) l.part)) (get (merged_book ls) k)) f)
+          get-merge_of entry_keys entry_key part_of_line (ls ++ l ∷ []) k ∙ ap (all_by part_join)
+          (those_more k false f ∙ append_none (each part_of_line (those_at entry_keys entry_key part_of_line k ls)))
+          ∙ sym (at k) ∙ sym (get-put_in entry_keys (merged_book ls) (entry_key l) (joined_with (get (merged_book ls) (entry_key l)) l.part) k
+          ∙ ap (λ b. cond b (Some (joined_with (get (merged_book ls) (entry_key l)) l.part)) (get (merged_book ls) k)) f)
 
 book_here : (e : ℕ) (ls : List Line) (l : Line) → has_name l.part ≡ true → l.end ≡ e → book_of_end e (ls ++ l ∷ []) ≡ charged (book_of_end e ls) (entry_key l) l.part
 book_here e ls l named at =
@@ -72,7 +78,8 @@ book_here e ls l named at =
 
 book_elsewhere : (e : ℕ) (ls : List Line) (l : Line) → (l.end ≡ e → ⊥) → book_of_end e (ls ++ l ∷ []) ≡ book_of_end e ls
 book_elsewhere e ls l ne =
-    ap merged_book (filter_append (λ (x : Line). x.end == e) ls (l ∷ []) ∙ ap (λ (b : Bool). at_end e ls ++ (if b then l ∷ [] else [])) (either (l.end == e) (λ t. absurd (ne (same_number l.end e t))) (λ f. f)) ∙ append_none (at_end e ls))
+    ap merged_book (filter_append (λ (x : Line). x.end == e) ls (l ∷ []) ∙ ap (λ (b : Bool). at_end e ls ++ (if b then l ∷ [] else []))
+    (either (l.end == e) (λ t. absurd (ne (same_number l.end e t))) (λ f. f)) ∙ append_none (at_end e ls))
 
 -- ---- books by end
 pub set_here : (books : List BookTable) (e : ℕ) (b : BookTable) → e < length books → book_at (slice_set books e b) e ≡ b
@@ -93,20 +100,23 @@ length_set (x ∷ xs) zero b = refl
 length_set (x ∷ xs) (suc e) b = ap suc (length_set xs e b)
 
 -- one line more
-pub lines_more : (fed : List Line) (l : Line) (old new : List BookTable) → has_name l.part ≡ true → l.end < length old → new ≡ slice_set old l.end (charged (book_at old l.end) (entry_key l) l.part) → HaveLines fed old → HaveLines (fed ++ l ∷ []) new
+pub lines_more : (fed : List Line) (l : Line) (old new : List BookTable) → has_name l.part ≡ true → l.end < length old → new ≡ slice_set old l.end (charged (book_at old l.end) (entry_key l) l.part)
+    → HaveLines fed old → HaveLines (fed ++ l ∷ []) new
 lines_more fed l old new named inside is have e lt =
     let size : e < length old = (let s = ap length is ∙ length_set old l.end (charged (book_at old l.end) (entry_key l) l.part) in omega arith) in
     either (l.end == e)
     (λ t.
     let at = same_number l.end e t in
-    ap (λ bs. book_at bs e) is ∙ subst (λ k. book_at (slice_set old l.end (charged (book_at old l.end) (entry_key l) l.part)) k ≡ charged (book_at old k) (entry_key l) l.part) at (set_here old l.end (charged (book_at old l.end) (entry_key l) l.part) inside)
+    ap (λ bs. book_at bs e) is ∙ subst (λ k. book_at (slice_set old l.end (charged (book_at old l.end) (entry_key l) l.part)) k ≡ charged (book_at old k) (entry_key l) l.part) at
+    (set_here old l.end (charged (book_at old l.end) (entry_key l) l.part) inside)
     ∙ ap (λ b. charged b (entry_key l) l.part) (have e size) ∙ sym (book_here e fed l named at))
     (λ f.
     let ne : l.end ≡ e → ⊥ = λ s. (let t = number_same l.end e s in let z : true ≡ false = sym t ∙ f in cc) in
     ap (λ bs. book_at bs e) is ∙ set_apart old l.end e (charged (book_at old l.end) (entry_key l) l.part) ne ∙ have e size ∙ sym (book_elsewhere e fed l ne))
 
 -- names stay among these
-pub names_more : (st : StyleKind) (s : Session) (all : Names) (end : ℕ) (u : UnitOf) (p : Part) (old new : List BookTable) → end < length old → IsWithin p.senders all → new ≡ slice_set old end (charged (book_at old end) (record { session = s; style = st; unit = u }) p) → NameOnly st s all old → NameOnly st s all new
+pub names_more : (st : StyleKind) (s : Session) (all : Names) (end : ℕ) (u : UnitOf) (p : Part) (old new : List BookTable) → end < length old → IsWithin p.senders all
+    → new ≡ slice_set old end (charged (book_at old end) (record { session = s; style = st; unit = u }) p) → NameOnly st s all old → NameOnly st s all new
 names_more st s all end u p old new inside within is only e v q got = by (end == e) refl
   where
     joined : (o : Option Part) → get (book_at old end) (record { session = s; style = st; unit = u }) ≡ o → IsWithin (joined_with o p).senders all
@@ -117,17 +127,23 @@ names_more st s all end u p old new inside within is only e v q got = by (end ==
     by true t =
         let at = same_number end e t in
         let here : get (charged (book_at old end) (record { session = s; style = st; unit = u }) p) (record { session = s; style = st; unit = v }) ≡ Some q =
-        ap (λ b. get b (record { session = s; style = st; unit = v })) (sym (set_here old end (charged (book_at old end) (record { session = s; style = st; unit = u }) p) inside) ∙ ap (book_at (slice_set old end (charged (book_at old end) (record { session = s; style = st; unit = u }) p))) at ∙ ap (λ bs. book_at bs e) (sym is)) ∙ got in
+        ap (λ b. get b (record { session = s; style = st; unit = v })) (sym (set_here old end (charged (book_at old end) (record { session = s; style = st; unit = u }) p) inside)
+        ∙ ap (book_at (slice_set old end (charged (book_at old end) (record { session = s; style = st; unit = u }) p))) at ∙ ap (λ bs. book_at bs e) (sym is)) ∙ got in
         ⊎_elim
-        (λ (h : ((record { session = s; style = st; unit = v }) ≡ (record { session = s; style = st; unit = u })) × (q ≡ joined_with (get (book_at old end) (record { session = s; style = st; unit = u })) p)). subst (λ (x : Part). IsWithin x.senders all) (sym h.1) (joined (get (book_at old end) (record { session = s; style = st; unit = u })) refl))
+        (λ (h : ((record { session = s; style = st; unit = v }) ≡ (record { session = s; style = st; unit = u }))
+        × (q ≡ joined_with (get (book_at old end) (record { session = s; style = st; unit = u })) p)). subst (λ (x : Part). IsWithin x.senders all) (sym h.1)
+        (joined (get (book_at old end) (record { session = s; style = st; unit = u })) refl))
         (λ (h : get (book_at old end) (record { session = s; style = st; unit = v }) ≡ Some q). only end v q h)
-        (got_put_in entry_keys (book_at old end) (record { session = s; style = st; unit = u }) (joined_with (get (book_at old end) (record { session = s; style = st; unit = u })) p) (record { session = s; style = st; unit = v }) q here)
+        (got_put_in entry_keys (book_at old end) (record { session = s; style = st; unit = u }) (joined_with (get (book_at old end) (record { session = s; style = st; unit = u })) p)
+        (record { session = s; style = st; unit = v }) q here)
     by false f =
         let ne : end ≡ e → ⊥ = λ z. (let t = number_same end e z in let x : true ≡ false = sym t ∙ f in cc) in
-        only e v q (ap (λ b. get b (record { session = s; style = st; unit = v })) (sym (set_apart old end e (charged (book_at old end) (record { session = s; style = st; unit = u }) p) ne) ∙ ap (λ bs. book_at bs e) (sym is)) ∙ got)
+        only e v q (ap (λ b. get b (record { session = s; style = st; unit = v })) (sym (set_apart old end e (charged (book_at old end) (record { session = s; style = st; unit = u }) p) ne)
+        ∙ ap (λ bs. book_at bs e) (sym is)) ∙ got)
 
 -- and so there is room for them all
-pub room_for : (st : StyleKind) (s : Session) (all : Names) (end : ℕ) (u : UnitOf) (p q : Part) (books : List BookTable) → size all ≤ 16 → NameOnly st s all books → IsWithin p.senders all → get (book_at books end) (record { session = s; style = st; unit = u }) ≡ Some q → size (union q.senders p.senders) ≤ 16
+pub room_for : (st : StyleKind) (s : Session) (all : Names) (end : ℕ) (u : UnitOf) (p q : Part) (books : List BookTable) → size all ≤ 16 → NameOnly st s all books → IsWithin p.senders all
+    → get (book_at books end) (record { session = s; style = st; unit = u }) ≡ Some q → size (union q.senders p.senders) ≤ 16
 room_for st s all end u p q books few only within e =
     let le = size_within senders (union q.senders p.senders) all (union_least q.senders p.senders all (only end u q e) within) in
     omega arith
@@ -142,12 +158,14 @@ rows_lines st s end next es = each (row_line st s end next) es
 pub rows_more : (st : StyleKind) (s : Session) (end : ℕ) (next : Addr) (es : List (UnitOf × Part)) (i : ℕ) (d e : UnitOf × Part) (fed : List Line) → i < length es → e ≡ slice_index_or es i d
     → fed ++ rows_lines st s end next (take (i + 1) es) ≡ (fed ++ rows_lines st s end next (take i es)) ++ row_line st s end next e ∷ []
 rows_more st s end next es i d e fed lt is =
-    ap (λ xs. fed ++ xs) (ap (rows_lines st s end next) (take_more es i d e lt is) ∙ map-append (row_line st s end next) (take i es) (e ∷ [])) ∙ sym (append_assoc fed (rows_lines st s end next (take i es)) (row_line st s end next e ∷ []))
+    ap (λ xs. fed ++ xs) (ap (rows_lines st s end next) (take_more es i d e lt is) ∙ map-append (row_line st s end next) (take i es) (e ∷ []))
+    ∙ sym (append_assoc fed (rows_lines st s end next (take i es)) (row_line st s end next e ∷ []))
 
 pub wants_more : (st : StyleKind) (s : Session) (net : Net) (ws : List HopWant) (i : ℕ) (d w : HopWant) (fed : List Line) → i < length ws → w ≡ slice_index_or ws i d
     → fed ++ wants_lines st s net (take (i + 1) ws) ≡ (fed ++ wants_lines st s net (take i ws)) ++ want_lines st s (addr_of net w.hop.to) w
 wants_more st s net ws i d w fed lt is =
-    ap (λ xs. fed ++ xs) (ap (wants_lines st s net) (take_more ws i d w lt is) ∙ flat_append (λ (w : HopWant). want_lines st s (addr_of net w.hop.to) w) (take i ws) (w ∷ []) ∙ ap (λ ys. wants_lines st s net (take i ws) ++ ys) (append_none (want_lines st s (addr_of net w.hop.to) w)))
+    ap (λ xs. fed ++ xs) (ap (wants_lines st s net) (take_more ws i d w lt is) ∙ flat_append (λ (w : HopWant). want_lines st s (addr_of net w.hop.to) w) (take i ws) (w ∷ [])
+    ∙ ap (λ ys. wants_lines st s net (take i ws) ++ ys) (append_none (want_lines st s (addr_of net w.hop.to) w)))
     ∙ sym (append_assoc fed (wants_lines st s net (take i ws)) (want_lines st s (addr_of net w.hop.to) w))
 
 pub only_one : {X : Type 0} (w v : X) (ws : List X) → In w ws → In v (w ∷ []) → In v ws

@@ -36,7 +36,8 @@ module _ (rows : List (EntryKey × Part)) (up : AreInOrder rows) (b : BookTable)
   is_short r = r.1.flow.most ≤ i.mtu
 
   -- rates are within capacity, so that sizes decide
-  pub carried_then : (short : Bool) (xs ys : List (EntryKey × Part)) → xs ≡ rows → ys ≡ rows → sum_by (λ (r : EntryKey × Part). part_charge r.1) xs ≤ i.capacity → (short ≡ true) ↔ All (λ r. r.1.flow.most ≤ i.mtu) ys → (short ≡ true) ↔ IsCarried b i
+  pub carried_then : (short : Bool) (xs ys : List (EntryKey × Part)) → xs ≡ rows → ys ≡ rows → sum_by (λ (r : EntryKey × Part). part_charge r.1) xs ≤ i.capacity → (short ≡ true)
+      ↔ All (λ r. r.1.flow.most ≤ i.mtu) ys → (short ≡ true) ↔ IsCarried b i
   carried_then short xs ys e f le decides = (
     λ t.
         let all : All is_short rows = subst (λ (zs : List (EntryKey × Part)). All is_short zs) f (decides.0 t) in
@@ -53,7 +54,8 @@ module _ (rows : List (EntryKey × Part)) (up : AreInOrder rows) (b : BookTable)
   )
 
   -- they are not
-  pub carried_else : (within : Bool) (xs : List (EntryKey × Part)) → xs ≡ rows → within ≡ false → (within ≡ true) ↔ (sum_by (λ (r : EntryKey × Part). part_charge r.1) xs ≤ i.capacity) → (within ≡ true) ↔ IsCarried b i
+  pub carried_else : (within : Bool) (xs : List (EntryKey × Part)) → xs ≡ rows → within ≡ false → (within ≡ true) ↔ (sum_by (λ (r : EntryKey × Part). part_charge r.1) xs ≤ i.capacity)
+      → (within ≡ true) ↔ IsCarried b i
   carried_else within xs e off decides = (
     λ t. absurd (let z : false ≡ true = sym off ∙ t in cc),
     λ c. decides.1 (subst (λ (k : ℕ). k ≤ i.capacity) (sym (ap (sum_by (λ (r : EntryKey × Part). part_charge r.1)) e ∙ held_is)) c.capacity),

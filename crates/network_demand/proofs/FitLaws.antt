@@ -33,7 +33,8 @@ use Rattle.network_demand.proofs.Inside.{nodes_inside}
 use Rattle.network_demand.proofs.LimitLaws.{limits_found, found_limits}
 
 -- hops go out of nodes of the network
-pub wants_inside : (net : Net) (l : Locals) (order : List GroupHop) → IsValid net → AreByRank net order → (st : StyleKind) (s : Session) (w : HopWant) → In w (hop_wants st net l s order) → node_of net.ends w.hop.from < net.nodes
+pub wants_inside : (net : Net) (l : Locals) (order : List GroupHop) → IsValid net → AreByRank net order → (st : StyleKind) (s : Session) (w : HopWant) → In w (hop_wants st net l s order)
+    → node_of net.ends w.hop.from < net.nodes
 wants_inside net l order valid by st s w i =
     let h = in_each (λ (h : LinkHop). record { hop = h; parts = want st net l s h }) w (hops_in s.group order) i in
     let lt = (nodes_inside net valid s.group h.0 (from_hops net l order by s.group h.0 h.1)).0 in
@@ -55,7 +56,8 @@ first_either s a b (w ∷ ws) v i e = at (eq_by_cmp sessions.cmp s w.session) re
   where
     at : (t : Bool) → eq_by_cmp sessions.cmp s w.session ≡ t → (In v ws → first_style s a ws ≡ first_style s b ws) → cond t w.style (first_style s a ws) ≡ cond t w.style (first_style s b ws)
     at true f rest = refl
-    at false f rest = ⊎_elim (λ (is : v ≡ w). let z : true ≡ false = sym (tied_self sessions s) ∙ ap (eq_by_cmp sessions.cmp s) (sym e ∙ ap (λ (x : LocalWant). x.session) is) ∙ f in absurd (cc)) rest i
+    at false f rest = ⊎_elim (λ (is : v ≡ w). let z : true ≡ false = sym (tied_self sessions s) ∙ ap (eq_by_cmp sessions.cmp s) (sym e ∙ ap (λ (x : LocalWant). x.session) is) ∙ f in
+        absurd (cc)) rest i
 
 one_style_told : (ws : List LocalWant) → All (λ w. first_style w.session w.style ws ≡ w.style) ws → AreOfOneStyle ws
 one_style_told ws all v w i j same =
@@ -72,8 +74,10 @@ there_inside [] e x got = absurd (cc)
 there_inside (y ∷ ys) zero x got = omega arith
 there_inside (y ∷ ys) (suc e) x got = let lt = there_inside ys e x got in omega arith
 
-pub fits_are : (net : Net) (l : Locals) (order : List GroupHop) (ss : List Session) (books : List BookTable) (fits room wild fixed shared : Bool) → IsValid net → AreByRank net order → AreLocals net l → NoRepeats ss → ((x : Session) → In x ss ↔ In x (each (λ (v : LocalWant). v.session) l.wants))
-    → AreDemands net l books → (fits ≡ true) ↔ ((room ≡ true) × (All (λ w. first_style w.session w.style l.wants ≡ w.style) l.wants × AreCarried books net.ends)) → (room ≡ true) ↔ ((wild ≡ true) × ((fixed ≡ true) × (shared ≡ true)))
+pub fits_are : (net : Net) (l : Locals) (order : List GroupHop) (ss : List Session) (books : List BookTable) (fits room wild fixed shared : Bool) → IsValid net → AreByRank net order → AreLocals net l
+    → NoRepeats ss → ((x : Session) → In x ss ↔ In x (each (λ (v : LocalWant). v.session) l.wants))
+    → AreDemands net l books → (fits ≡ true) ↔ ((room ≡ true) × (All (λ w. first_style w.session w.style l.wants ≡ w.style) l.wants × AreCarried books net.ends)) → (room ≡ true)
+    ↔ ((wild ≡ true) × ((fixed ≡ true) × (shared ≡ true)))
     → (wild ≡ true) ↔ FindRoom Wild net l order ss → (fixed ≡ true) ↔ FindRoom Fixed net l order ss → (shared ≡ true) ↔ FindRoom Shared net l order ss → (fits ≡ true) ↔ DemandsFit net l
 fits_are net l order ss books fits room wild fixed shared valid by locals once these demands of_fits of_room of_wild of_fixed of_shared = (forth, back)
   where
@@ -98,7 +102,10 @@ fits_are net l order ss books fits room wild fixed shared valid by locals once t
         of_fits.1 (
           of_room.1 (
             of_wild.1 (found_limits net l order valid by ss locals once these Wild (λ n. d.limits n Wild)),
-            (of_fixed.1 (found_limits net l order valid by ss locals once these Fixed (λ n. d.limits n Fixed)), of_shared.1 (found_limits net l order valid by ss locals once these Shared (λ n. d.limits n Shared))),
+            (
+              of_fixed.1 (found_limits net l order valid by ss locals once these Fixed (λ n. d.limits n Fixed)),
+              of_shared.1 (found_limits net l order valid by ss locals once these Shared (λ n. d.limits n Shared)),
+            ),
           ),
           (
             one_style_made l.wants d.one_style,

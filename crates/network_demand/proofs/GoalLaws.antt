@@ -55,7 +55,8 @@ abbrev hop_of : ℕ × ℕ → LinkHop
 hop_of p = record { from = p.0; to = p.1 }
 
 pub to_order : (hs : List LinkHop) (h : LinkHop) → In h hs → In h (hops_in_order hs)
-to_order hs h i = to_each hop_of (pair_of h) (keys (set_of {o = end_pairs} (each pair_of hs))) (to_keys end_pairs (set_of (each pair_of hs)) (pair_of h) (in_set_of end_pairs (each pair_of hs) (pair_of h) (to_each pair_of h hs i)))
+to_order hs h i = to_each hop_of (pair_of h) (keys (set_of {o = end_pairs} (each pair_of hs)))
+    (to_keys end_pairs (set_of (each pair_of hs)) (pair_of h) (in_set_of end_pairs (each pair_of hs) (pair_of h) (to_each pair_of h hs i)))
 
 pub from_order : (hs : List LinkHop) (h : LinkHop) → In h (hops_in_order hs) → In h hs
 from_order hs h i =
@@ -67,12 +68,15 @@ from_order hs h i =
 pub session_named : (l : Locals) (s : Session) → In s (each (λ w. w.session) l.wants) → In s (sessions_named l)
 session_named l s i =
     let w = in_each (λ (w : LocalWant). w.session) s l.wants i in
-    to_keys sessions (set_of (flat_map (λ w. w.session ∷ []) l.wants)) s (in_set_of sessions (flat_map (λ w. w.session ∷ []) l.wants) s (to_flat_map (λ (w : LocalWant). w.session ∷ []) w.0 s l.wants w.1 (inl w.2)))
+    to_keys sessions (set_of (flat_map (λ w. w.session ∷ []) l.wants)) s (in_set_of sessions (flat_map (λ w. w.session ∷ []) l.wants) s
+    (to_flat_map (λ (w : LocalWant). w.session ∷ []) w.0 s l.wants w.1 (inl w.2)))
 
 pub named_session : (l : Locals) (s : Session) → In s (sessions_named l) → In s (each (λ w. w.session) l.wants)
 named_session l s i =
-    let w = in_flat_map (λ (w : LocalWant). w.session ∷ []) s l.wants (set_of_in sessions (flat_map (λ w. w.session ∷ []) l.wants) s (in_keys sessions (set_of (flat_map (λ w. w.session ∷ []) l.wants)) s i)) in
-    ⊎_elim (λ (e : s ≡ w.0.session). subst (λ (x : Session). In x (each (λ (w : LocalWant). w.session) l.wants)) (sym e) (to_each (λ (w : LocalWant). w.session) w.0 l.wants w.1)) (λ (k : ⊥). absurd k) w.2
+    let w = in_flat_map (λ (w : LocalWant). w.session ∷ []) s l.wants (set_of_in sessions (flat_map (λ w. w.session ∷ []) l.wants) s
+    (in_keys sessions (set_of (flat_map (λ w. w.session ∷ []) l.wants)) s i)) in
+    ⊎_elim (λ (e : s ≡ w.0.session). subst (λ (x : Session). In x (each (λ (w : LocalWant). w.session) l.wants)) (sym e) (to_each (λ (w : LocalWant). w.session) w.0 l.wants w.1))
+    (λ (k : ⊥). absurd k) w.2
 
 module _ (net : Net) (l : Locals) (order : List GroupHop) (by : AreByRank net order) where
   -- hops of a group in the order of all hops
@@ -100,7 +104,8 @@ module _ (net : Net) (l : Locals) (order : List GroupHop) (by : AreByRank net or
       to_flat_map (λ (w : HopWant). want_lines st s (addr_of net w.hop.to) w) (want_of st s h) x (hop_wants st net l s order) (to_each (want_of st s) h (hops_in s.group order) (to_hops s.group h i)) j
 
   line_end : (st : StyleKind) (s : Session) (h : LinkHop) (x : Line) → In x (hop_lines st net l s h) → x.end ≡ h.from
-  line_end st s h x i = let e = in_each (λ e. record { style = st; session = s; end = h.from; next = addr_of net h.to; unit = e.0; part = e.1 }) x (want st net l s h).rows i in ap (λ (y : Line). y.end) e.2
+  line_end st s h x i = let e = in_each (λ e. record { style = st; session = s; end = h.from; next = addr_of net h.to; unit = e.0; part = e.1 }) x (want st net l s h).rows i in
+      ap (λ (y : Line). y.end) e.2
 
   -- the lines of a style in sessions that are wanted, and the goal of a node
   module _ (ss : List Session) (these : (s : Session) → In s ss → In s (sessions_named l)) (all : (s : Session) → In s (sessions_named l) → In s ss) where
@@ -116,7 +121,8 @@ module _ (net : Net) (l : Locals) (order : List GroupHop) (by : AreByRank net or
     in_style x i =
         ⊎_elim (λ (j : In x (style_lines Wild net l order ss)). (Wild, j))
         (λ (j : In x (style_lines Fixed net l order ss ++ style_lines Shared net l order ss)).
-        ⊎_elim (λ (k : In x (style_lines Fixed net l order ss)). (Fixed, k)) (λ (k : In x (style_lines Shared net l order ss)). (Shared, k)) (in_append x (style_lines Fixed net l order ss) (style_lines Shared net l order ss) j))
+        ⊎_elim (λ (k : In x (style_lines Fixed net l order ss)). (Fixed, k)) (λ (k : In x (style_lines Shared net l order ss)). (Shared, k))
+        (in_append x (style_lines Fixed net l order ss) (style_lines Shared net l order ss) j))
         (in_append x (style_lines Wild net l order ss) (style_lines Fixed net l order ss ++ style_lines Shared net l order ss) i)
 
     style_among : (st : StyleKind) → In st (Wild ∷ Fixed ∷ Shared ∷ [])
@@ -130,13 +136,16 @@ module _ (net : Net) (l : Locals) (order : List GroupHop) (by : AreByRank net or
         let s = in_flat_map (λ s. wants_lines st s net (hop_wants st net l s order)) x ss i in
         let t = line_told st s.0 x s.2 in
         let out : (node_of net.ends t.0.from == n) ≡ true = number_same _ n (ap (node_of net.ends) (sym (line_end st s.0 t.0 x t.2)) ∙ at) in
-        to_flat_map (λ st. flat_map (λ s. flat_map (hop_lines st net l s) (filter (goes_out_of net.ends n) (hops_in_order (hops_of net.hops s.group)))) (sessions_named l)) st x (Wild ∷ Fixed ∷ Shared ∷ []) (style_among st)
+        to_flat_map (λ st. flat_map (λ s. flat_map (hop_lines st net l s) (filter (goes_out_of net.ends n) (hops_in_order (hops_of net.hops s.group)))) (sessions_named l)) st x
+        (Wild ∷ Fixed ∷ Shared ∷ []) (style_among st)
         (to_flat_map (λ s. flat_map (hop_lines st net l s) (filter (goes_out_of net.ends n) (hops_in_order (hops_of net.hops s.group)))) s.0 x (sessions_named l) (these s.0 s.1)
-        (to_flat_map (hop_lines st net l s.0) t.0 x (filter (goes_out_of net.ends n) (hops_in_order (hops_of net.hops s.0.group))) (to_filter (goes_out_of net.ends n) t.0 (hops_in_order (hops_of net.hops s.0.group)) (to_order (hops_of net.hops s.0.group) t.0 t.1) out) t.2))
+        (to_flat_map (hop_lines st net l s.0) t.0 x (filter (goes_out_of net.ends n) (hops_in_order (hops_of net.hops s.0.group)))
+        (to_filter (goes_out_of net.ends n) t.0 (hops_in_order (hops_of net.hops s.0.group)) (to_order (hops_of net.hops s.0.group) t.0 t.1) out) t.2))
 
     pub goal_told : (n : ℕ) (x : Line) → In x (goal net l n) → (st : StyleKind) × In x (style_lines st net l order ss) × (x.style ≡ st) × (node_of net.ends x.end ≡ n)
     goal_told n x i =
-        let st = in_flat_map (λ st. flat_map (λ s. flat_map (hop_lines st net l s) (filter (goes_out_of net.ends n) (hops_in_order (hops_of net.hops s.group)))) (sessions_named l)) x (Wild ∷ Fixed ∷ Shared ∷ []) i in
+        let st = in_flat_map (λ st. flat_map (λ s. flat_map (hop_lines st net l s) (filter (goes_out_of net.ends n) (hops_in_order (hops_of net.hops s.group)))) (sessions_named l)) x
+        (Wild ∷ Fixed ∷ Shared ∷ []) i in
         let s = in_flat_map (λ s. flat_map (hop_lines st.0 net l s) (filter (goes_out_of net.ends n) (hops_in_order (hops_of net.hops s.group)))) x (sessions_named l) st.2 in
         let h = in_flat_map (hop_lines st.0 net l s.0) x (filter (goes_out_of net.ends n) (hops_in_order (hops_of net.hops s.0.group))) s.2 in
         let f = in_filter (goes_out_of net.ends n) h.0 (hops_in_order (hops_of net.hops s.0.group)) h.1 in
@@ -152,8 +161,12 @@ module _ (net : Net) (l : Locals) (order : List GroupHop) (by : AreByRank net or
         merges_same entry_keys entry_key (λ x. x.part) entry_key (λ x. x.part) (at_end e all_lines) (at_end e (goal net l (node_of net.ends e)))
         (λ x i named.
         let f = in_filter (λ (x : Line). x.end == e) x all_lines i in
-        let st = in_style x f.0 in
-        (x, to_filter (λ (x : Line). x.end == e) x (goal net l (node_of net.ends e)) (goal_made (node_of net.ends e) st.0 x st.1 (ap (node_of net.ends) (same_number x.end e f.1))) f.1, refl, part_at_most_itself x.part))
+        let st = in_style x f.0 in (
+          x,
+          to_filter (λ (x : Line). x.end == e) x (goal net l (node_of net.ends e)) (goal_made (node_of net.ends e) st.0 x st.1 (ap (node_of net.ends) (same_number x.end e f.1))) f.1,
+          refl,
+          part_at_most_itself x.part,
+        ))
         (λ x i named.
         let f = in_filter (λ (x : Line). x.end == e) x (goal net l (node_of net.ends e)) i in
         let t = goal_told (node_of net.ends e) x f.0 in
@@ -168,7 +181,8 @@ module _ (net : Net) (l : Locals) (order : List GroupHop) (by : AreByRank net or
       (λ z h. names_of_all st net l s t.0 z (value_names st net l s t.0 e.0.1 (to_each (λ (e : UnitOf × Part). e.1) e.0 (want st net l s t.0).rows e.1) z h))
 
   pub more_proper : (fed : List Line) (st : StyleKind) (s : Session) → AreProper l fed → AreProper l (fed ++ wants_lines st s net (hop_wants st net l s order))
-  more_proper fed st s p x i = ⊎_elim (λ (j : In x fed). p x j) (λ (j : In x (wants_lines st s net (hop_wants st net l s order))). proper_lines st s x j) (in_append x fed (wants_lines st s net (hop_wants st net l s order)) i)
+  more_proper fed st s p x i = ⊎_elim (λ (j : In x fed). p x j) (λ (j : In x (wants_lines st s net (hop_wants st net l s order))). proper_lines st s x j)
+      (in_append x fed (wants_lines st s net (hop_wants st net l s order)) i)
 
   -- what names someone is in a book
   names_kept : (fed : List Line) (books : List BookTable) → HaveLines fed books → AreProper l fed → (st : StyleKind) (s : Session) → NameOnly st s (all_names st l s) books
@@ -177,14 +191,16 @@ module _ (net : Net) (l : Locals) (order : List GroupHop) (by : AreByRank net or
       at_or_past : (b : Bool) → nat_lt e (length books) ≡ b → IsWithin q.senders (all_names st l s)
       at_or_past true t =
           let lt : e < length books = grind (arith, t) in
-          merge_keeps entry_keys entry_key (λ x. x.part) (λ p. IsWithin p.senders (all_names st l s)) (λ a b h k. union_least a.senders b.senders (all_names st l s) h k) (at_end e fed) (record { session = s; style = st; unit = u }) q
+          merge_keeps entry_keys entry_key (λ x. x.part) (λ p. IsWithin p.senders (all_names st l s)) (λ a b h k. union_least a.senders b.senders (all_names st l s) h k) (at_end e fed)
+          (record { session = s; style = st; unit = u }) q
           (ap (λ b. get b (record { session = s; style = st; unit = u })) (sym (have e lt)) ∙ got)
           (λ x i named at.
           let f = in_filter (λ (x : Line). x.end == e) x fed i in
           subst (λ (k : EntryKey). IsWithin x.part.senders (all_names k.style l k.session)) (sym at) (proper x f.0))
       at_or_past false t = let none = past_all books e (grind (arith, t)) in let z = sym (ap (λ b. get b (record { session = s; style = st; unit = u })) none) ∙ got in cc
 
-  pub has_room : (valid : IsValid net) (fed : List Line) (books : List BookTable) → HaveLines fed books → AreProper l fed → (st : StyleKind) (s : Session) → length (live l s) ≤ 16 → HasRoom st s books (hop_wants st net l s order)
+  pub has_room : (valid : IsValid net) (fed : List Line) (books : List BookTable) → HaveLines fed books → AreProper l fed → (st : StyleKind) (s : Session) → length (live l s) ≤ 16
+      → HasRoom st s books (hop_wants st net l s order)
   has_room valid fed books have proper st s few =
       record {
         all = all_names st l s;
@@ -198,7 +214,8 @@ module _ (net : Net) (l : Locals) (order : List GroupHop) (by : AreByRank net or
             let h = in_each (want_of st s) w (hops_in s.group order) i in
             let at : In e (want st net l s h.0).rows = subst (λ (y : HopWant). In e y.parts.rows) h.2 j in
             let got : get (want st net l s h.0) e.0 ≡ Some e.1 = in_found units (want st net l s h.0) e.0 e.1 at in
-            merge_named units (part_unit st) (λ p. p) (own st net l s h.0 ++ flat_map (brought st net l s h.0 (want st net l s)) (followers net s.group h.0)) e.0 e.1 (ap (λ t. get t e.0) (sym ((want_equation st net l s valid.loop_free).equation h.0)) ∙ got);
+            merge_named units (part_unit st) (λ p. p) (own st net l s h.0 ++ flat_map (brought st net l s h.0 (want st net l s)) (followers net s.group h.0)) e.0 e.1
+            (ap (λ t. get t e.0) (sym ((want_equation st net l s valid.loop_free).equation h.0)) ∙ got);
       }
 
   pub inside : (valid : IsValid net) (st : StyleKind) (s : Session) (books : List BookTable) → length books ≡ length net.ends → AreInside books (hop_wants st net l s order)
@@ -212,7 +229,8 @@ module _ (net : Net) (l : Locals) (order : List GroupHop) (by : AreByRank net or
 pub sessions_more : (st : StyleKind) (net : Net) (l : Locals) (order : List GroupHop) (ss : List Session) (i : ℕ) (d s : Session) (fed : List Line) → i < length ss → s ≡ slice_index_or ss i d
     → fed ++ style_lines st net l order (take (i + 1) ss) ≡ (fed ++ style_lines st net l order (take i ss)) ++ wants_lines st s net (hop_wants st net l s order)
 sessions_more st net l order ss i d s fed lt is =
-    ap (λ xs. fed ++ xs) (ap (style_lines st net l order) (take_more ss i d s lt is) ∙ flat_append (λ s. wants_lines st s net (hop_wants st net l s order)) (take i ss) (s ∷ []) ∙ ap (λ ys. style_lines st net l order (take i ss) ++ ys) (append_none (wants_lines st s net (hop_wants st net l s order))))
+    ap (λ xs. fed ++ xs) (ap (style_lines st net l order) (take_more ss i d s lt is) ∙ flat_append (λ s. wants_lines st s net (hop_wants st net l s order)) (take i ss) (s ∷ [])
+    ∙ ap (λ ys. style_lines st net l order (take i ss) ++ ys) (append_none (wants_lines st s net (hop_wants st net l s order))))
     ∙ sym (append_assoc fed (style_lines st net l order (take i ss)) (wants_lines st s net (hop_wants st net l s order)))
 
 -- ---- in the end
@@ -224,7 +242,8 @@ nothing_first (suc n) (suc e) lt = nothing_first n e (omega arith)
 pub fed_first : (l : Locals) (n : ℕ) (books : List BookTable) → books ≡ replicate n empty → AreFed l books
 fed_first l n books e = record { lines = []; have = subst (HaveLines []) (sym e) (nothing_first n); proper = λ x i. absurd i }
 
-pub demands_are : (net : Net) (l : Locals) (order : List GroupHop) (ss : List Session) (w f s : List BookTable) → AreByRank net order → ((x : Session) → In x ss ↔ In x (each (λ (v : LocalWant). v.session) l.wants))
+pub demands_are : (net : Net) (l : Locals) (order : List GroupHop) (ss : List Session) (w f s : List BookTable) → AreByRank net order
+    → ((x : Session) → In x ss ↔ In x (each (λ (v : LocalWant). v.session) l.wants))
     → ((fed : List Line) → HaveLines fed w → HaveLines (fed ++ style_lines Fixed net l order ss) f) → ((fed : List Line) → HaveLines fed f → HaveLines (fed ++ style_lines Shared net l order ss) s)
     → HaveLines ([] ++ style_lines Wild net l order ss) w → length s ≡ length net.ends → AreDemands net l s
 demands_are net l order ss w f s by these second third first size =

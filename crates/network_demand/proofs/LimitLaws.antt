@@ -46,7 +46,8 @@ use Rattle.network_demand.proofs.GoalLaws.{from_hops, to_hops, line_told, line_m
 use Rattle.network_demand.proofs.Inside.{end_there, ends_inside}
 
 -- ---- lists without repeats
-once_flat : {A B : Type 0} (f : A → List B) (xs : List A) → NoRepeats xs → ((x : A) → In x xs → NoRepeats (f x)) → ((x y : A) (z : B) → In x xs → In y xs → In z (f x) → In z (f y) → x ≡ y) → NoRepeats (flat_map f xs)
+once_flat : {A B : Type 0} (f : A → List B) (xs : List A) → NoRepeats xs → ((x : A) → In x xs → NoRepeats (f x)) → ((x y : A) (z : B) → In x xs → In y xs → In z (f x) → In z (f y) → x ≡ y)
+    → NoRepeats (flat_map f xs)
 once_flat f [] once all apart = tt
 once_flat {A} f (x ∷ xs) once all apart =
     once_append (f x) (flat_map f xs) (all x (inl refl)) (once_flat f xs once.1 (λ y i. all y (inr i)) (λ a b z i j. apart a b z (inr i) (inr j)))
@@ -67,8 +68,11 @@ once_filter {A} p (x ∷ xs) once = by (p x) (once_filter p xs once.1)
 
 once_rows : {K X : Type 0} (o : Keys K) (rows : List (K × X)) → T (is_sorted o.cmp rows) → NoRepeats rows
 once_rows o [] h = tt
-once_rows {K} {X} o (e ∷ es) h =
-    (λ i. let rest : Table o X = record { rows = es; sorted = second _ _ h } in let found = in_found o rest e.0 e.1 i in let none = none_above o e.0 es (first _ _ h) in let z : Some e.1 ≡ None = sym found ∙ none in cc, once_rows o es (second _ _ h))
+once_rows {K} {X} o (e ∷ es) h = (
+  λ i. let rest : Table o X = record { rows = es; sorted = second _ _ h } in let found = in_found o rest e.0 e.1 i in let none = none_above o e.0 es (first _ _ h) in
+      let z : Some e.1 ≡ None = sym found ∙ none in cc,
+  once_rows o es (second _ _ h),
+)
 
 one_row : {K X : Type 0} (o : Keys K) (t : Table o X) (a b : K × X) → In a t.rows → In b t.rows → a.0 ≡ b.0 → a ≡ b
 one_row {K} {X} o t a b i j e =
@@ -122,7 +126,8 @@ to_one : {X K : Type 0} (xs : List X) (x : X) (k : K) → In x xs → In k (one_
 to_one [] x k i = absurd i
 to_one (y ∷ ys) x k i = inl refl
 
-module _ (net : Net) (l : Locals) (order : List GroupHop) (valid : IsValid net) (by : AreByRank net order) (ss : List Session) (locals : AreLocals net l) (once : NoRepeats ss) (these : (s : Session) → In s ss ↔ In s (each (λ (v : LocalWant). v.session) l.wants)) (st : StyleKind) where
+module _ (net : Net) (l : Locals) (order : List GroupHop) (valid : IsValid net) (by : AreByRank net order) (ss : List Session) (locals : AreLocals net l) (once : NoRepeats ss)
+    (these : (s : Session) → In s ss ↔ In s (each (λ (v : LocalWant). v.session) l.wants)) (st : StyleKind) where
   abbrev want_of : Session → LinkHop → HopWant
   want_of s h = record { hop = h; parts = want st net l s h }
 
@@ -155,21 +160,25 @@ module _ (net : Net) (l : Locals) (order : List GroupHop) (valid : IsValid net) 
   abbrev all_next : ℕ → Session → List NextHop
   all_next n s = flat_map (over_next s) (hops_at s n)
 
-  count_over : {K : Type 0} (single : Bool) (f : LinkHop → List K) (s : Session) (n : ℕ) → ((h : LinkHop) → length (f h) ≡ amount single (want_of s h)) → (hs : List LinkHop) → length (flat_map f (filter (goes_out_of net.ends n) hs)) ≡ taken_at single net n (each (want_of s) hs)
+  count_over : {K : Type 0} (single : Bool) (f : LinkHop → List K) (s : Session) (n : ℕ) → ((h : LinkHop) → length (f h) ≡ amount single (want_of s h)) → (hs : List LinkHop)
+      → length (flat_map f (filter (goes_out_of net.ends n) hs)) ≡ taken_at single net n (each (want_of s) hs)
   count_over single f s n same [] = refl
   count_over single f s n same (h ∷ hs) =
       let c = sum_by-cons (amount_at single net n) (want_of s h) (each (want_of s) hs) in
       let z = at (goes_out_of net.ends n h) (count_over single f s n same hs) in
       omega (arith, c, z)
     where
-      at : (b : Bool) → length (flat_map f (filter (goes_out_of net.ends n) hs)) ≡ taken_at single net n (each (want_of s) hs) → length (flat_map f (cond b (h ∷ filter (goes_out_of net.ends n) hs) (filter (goes_out_of net.ends n) hs))) ≡ cond b (amount single (want_of s h)) 0 + taken_at single net n (each (want_of s) hs)
+      at : (b : Bool) → length (flat_map f (filter (goes_out_of net.ends n) hs)) ≡ taken_at single net n (each (want_of s) hs)
+          → length (flat_map f (cond b (h ∷ filter (goes_out_of net.ends n) hs) (filter (goes_out_of net.ends n) hs)))
+          ≡ cond b (amount single (want_of s h)) 0 + taken_at single net n (each (want_of s) hs)
       at true r = let a = length-append (f h) (flat_map f (filter (goes_out_of net.ends n) hs)) in let e = same h in omega (arith, a, r, e)
       at false r = omega (arith, r)
 
   keys_count : (n : ℕ) → length (all_keys n) ≡ all_taken st net l order n ss
   keys_count n =
       length_flat (session_keys n) ss
-      ∙ sum_same (λ s. length (session_keys n s)) (λ s. taken_at false net n (hop_wants st net l s order)) ss (λ s. count_over false (over_keys s) s n (λ h. length-map (want st net l s h).rows (λ e. line_key (line_over s h e))) (hops_in s.group order))
+      ∙ sum_same (λ s. length (session_keys n s)) (λ s. taken_at false net n (hop_wants st net l s order)) ss
+      (λ s. count_over false (over_keys s) s n (λ h. length-map (want st net l s h).rows (λ e. line_key (line_over s h e))) (hops_in s.group order))
 
   next_count : (n : ℕ) (s : Session) → length (all_next n s) ≡ taken_at true net n (hop_wants st net l s order)
   next_count n s = count_over true (over_next s) s n (λ h. length_one (want st net l s h).rows (to_next h)) (hops_in s.group order)
@@ -273,7 +282,8 @@ module _ (net : Net) (l : Locals) (order : List GroupHop) (valid : IsValid net) 
       let t = told n x.0 x.1 in
       to_flat_map (session_keys n) t.session k ss t.wanted
       (to_flat_map (over_keys t.session) t.hop k (hops_at t.session n) t.out
-      (subst (λ (q : LineKey). In q (over_keys t.session t.hop)) (sym (x.2 ∙ ap line_key t.is)) (to_each (λ e. line_key (line_over t.session t.hop e)) t.row (want st net l t.session t.hop).rows t.there)))) in
+      (subst (λ (q : LineKey). In q (over_keys t.session t.hop)) (sym (x.2 ∙ ap line_key t.is))
+      (to_each (λ e. line_key (line_over t.session t.hop e)) t.row (want st net l t.session t.hop).rows t.there)))) in
       let b = set_below line_keys (all_keys n) (each line_key (style_goal n))
       (λ k i.
       let s = in_flat_map (session_keys n) k ss i in
@@ -311,7 +321,9 @@ module _ (net : Net) (l : Locals) (order : List GroupHop) (valid : IsValid net) 
           let h = in_flat_map (over_next s) k (hops_at s n) i in
           let o = in_one (want st net l s h.0).rows (to_next h.0) k h.2 in
           let x = made n s h.0 o.1 wanted h.1 o.2 in
-          subst (λ (q : NextHop). In q (each next_hop (of_session s (style_goal n)))) (sym o.0) (to_each next_hop (line_over s h.0 o.1) (of_session s (style_goal n)) (to_filter (λ (y : Line). eq_by_cmp sessions.cmp s y.session) (line_over s h.0 o.1) (style_goal n) x (tied_self sessions s)))
+          subst (λ (q : NextHop). In q (each next_hop (of_session s (style_goal n)))) (sym o.0)
+          (to_each next_hop (line_over s h.0 o.1) (of_session s (style_goal n)) (to_filter (λ (y : Line). eq_by_cmp sessions.cmp s y.session) (line_over s h.0 o.1) (style_goal n) x
+          (tied_self sessions s)))
 
   -- a session without lines, or one of these
   none_or_wanted : (n : ℕ) (s : Session) (xs : List Line) → of_session s (style_goal n) ≡ xs → (xs ≡ []) ⊎ In s ss
@@ -332,7 +344,8 @@ module _ (net : Net) (l : Locals) (order : List GroupHop) (valid : IsValid net) 
     where
       within : (z : Sender) → has (names_of (of_session s (style_goal n))) z ≡ true → has (all_names st l s) z ≡ true
       within z h =
-          let x = in_flat_map (λ (x : Line). keys x.part.senders) z (of_session s (style_goal n)) (set_of_in senders (flat_map (λ (x : Line). keys x.part.senders) (of_session s (style_goal n))) z h) in
+          let x = in_flat_map (λ (x : Line). keys x.part.senders) z (of_session s (style_goal n))
+          (set_of_in senders (flat_map (λ (x : Line). keys x.part.senders) (of_session s (style_goal n))) z h) in
           let f = in_filter (λ (x : Line). eq_by_cmp sessions.cmp s x.session) x.0 (style_goal n) x.1 in
           let t = told n x.0 f.0 in
           let same : x.0.session ≡ s = sym (tied_same sessions s x.0.session f.1) in
@@ -356,7 +369,8 @@ module _ (net : Net) (l : Locals) (order : List GroupHop) (valid : IsValid net) 
         lines = let a = keys_size n in let b = found.lines n in omega (arith, a, b);
         sessions = sessions_few n;
         next_hops = λ s.
-            ⊎_elim (λ (e : of_session s (style_goal n) ≡ []). let z = ap (λ (xs : List Line). size (next_hops_of xs)) e in omega (arith, z)) (λ (i : In s ss). let a = next_size n s i in let b = found.next_hops s n i in omega (arith, a, b))
+            ⊎_elim (λ (e : of_session s (style_goal n) ≡ []). let z = ap (λ (xs : List Line). size (next_hops_of xs)) e in omega (arith, z))
+            (λ (i : In s ss). let a = next_size n s i in let b = found.next_hops s n i in omega (arith, a, b))
             (none_or_wanted n s (of_session s (style_goal n)) refl);
         names = names_few n;
       }

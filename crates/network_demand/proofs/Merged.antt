@@ -36,7 +36,8 @@ none_blockaded ps r i = let p = in_each unwalled r ps i in ap (λ (x : Request).
 module _ (names : Names) where
   -- one part more
   pub one_more : (ps : List Part) (i : ℕ) (d p : Part) → i < length ps → p ≡ slice_index_or ps i d → cuts names (take (i + 1) ps) ≡ cuts names (take i ps) ++ as_list (part_cut p names)
-  one_more ps i d p lt is = ap (cuts names) (take_more ps i d p lt is) ∙ flat_append (λ p. as_list (part_cut p names)) (take i ps) (p ∷ []) ∙ ap (λ ys. cuts names (take i ps) ++ ys) (append_none (as_list (part_cut p names)))
+  one_more ps i d p lt is = ap (cuts names) (take_more ps i d p lt is) ∙ flat_append (λ p. as_list (part_cut p names)) (take i ps) (p ∷ [])
+      ∙ ap (λ ys. cuts names (take i ps) ++ ys) (append_none (as_list (part_cut p names)))
 
   cut_within : (p q : Part) → part_cut p names ≡ Some q → IsWithin q.senders names
   cut_within p q e x h = (and_both (has p.senders x) (has names x) (sym (has-cut senders p.senders names x) ∙ ap (λ (t : Names). has t x) (sym (cut_senders p q names e)) ∙ h)).1

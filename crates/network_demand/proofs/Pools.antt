@@ -1,5 +1,6 @@
 -- What is asked at nodes grows with each local want and with the want of each hop.
-use Rattle.std.specs.Prelude.{◌≡◌, ◌↔◌, ℕ, ◌+◌, ◌-◌, ◌<◌, ◌≤◌, Bool, true, false, cond, ◌&&◌, ◌==◌, List, [], ◌∷◌, ◌++◌, map as each, length, replicate, Result, Ok, Err, OnOk, IsErr, refl, slice_set, slice_index_or, if◌then◌else◌}
+use Rattle.std.specs.Prelude.{◌≡◌, ◌↔◌, ℕ, ◌+◌, ◌-◌, ◌<◌, ◌≤◌, Bool, true, false, cond, ◌&&◌, ◌==◌, List, [], ◌∷◌, ◌++◌, map as each, length, replicate, Result, Ok, Err, OnOk, IsErr, refl}
+use Rattle.std.specs.Prelude.{slice_set, slice_index_or, if◌then◌else◌}
 use Rattle.std.specs.List.{filter, flat_map}
 use Rattle.std.specs.Ordering.{eq_by_cmp}
 use Rattle.std.proofs.Common.{zero, suc, sym, ap, subst, ◌∙◌, take, drop, arith, append_assoc}
@@ -109,15 +110,18 @@ length_replicate (suc n) x = ap suc (length_replicate n x)
 
 -- ---- local wants
 module _ (st : StyleKind) (s : Session) (all : Names) (w : LocalWant) where
-  wanted_more : (n : ℕ) (rest : List LocalWant) (b : Bool) → is_wanted_at st s n w ≡ b → local_parts st s all n (w ∷ rest) ≡ (if b then widened st all w.part ∷ [] else []) ++ local_parts st s all n rest
+  wanted_more : (n : ℕ) (rest : List LocalWant) (b : Bool) → is_wanted_at st s n w ≡ b → local_parts st s all n (w ∷ rest)
+      ≡ (if b then widened st all w.part ∷ [] else []) ++ local_parts st s all n rest
   wanted_more n rest b e =
       ap (λ (t : Bool). each (λ (x : LocalWant). widened st all x.part) (if t then w ∷ filter (is_wanted_at st s n) rest else filter (is_wanted_at st s n) rest)) e ∙ by b
     where
-      by : (b : Bool) → each (λ (x : LocalWant). widened st all x.part) (if b then w ∷ filter (is_wanted_at st s n) rest else filter (is_wanted_at st s n) rest) ≡ (if b then widened st all w.part ∷ [] else []) ++ local_parts st s all n rest
+      by : (b : Bool) → each (λ (x : LocalWant). widened st all x.part) (if b then w ∷ filter (is_wanted_at st s n) rest else filter (is_wanted_at st s n) rest)
+          ≡ (if b then widened st all w.part ∷ [] else []) ++ local_parts st s all n rest
       by true = refl
       by false = refl
 
-  pub asked_more : (old new : List (List Part)) (p : Part) → w.node < length old → p ≡ widened st all w.part → eq_by_cmp sessions.cmp s w.session ≡ true → eq_by_cmp styles.cmp st w.style ≡ true → new ≡ slice_set old w.node (at_node old w.node ++ p ∷ [])
+  pub asked_more : (old new : List (List Part)) (p : Part) → w.node < length old → p ≡ widened st all w.part → eq_by_cmp sessions.cmp s w.session ≡ true → eq_by_cmp styles.cmp st w.style ≡ true
+      → new ≡ slice_set old w.node (at_node old w.node ++ p ∷ [])
       → (n : ℕ) (rest : List LocalWant) → at_node new n ++ local_parts st s all n rest ≡ at_node old n ++ local_parts st s all n (w ∷ rest)
   asked_more old new p lt is a b e n rest =
       ap (λ xs. at_node xs n ++ local_parts st s all n rest) (e ∙ ap (λ q. slice_set old w.node (at_node old w.node ++ q ∷ [])) is)
@@ -132,7 +136,8 @@ module _ (st : StyleKind) (s : Session) (all : Names) (w : LocalWant) where
           by true = and_made _ _ a b
           by false = refl
 
-  pub asked_same : (xs : List Part) → (eq_by_cmp sessions.cmp s w.session && eq_by_cmp styles.cmp st w.style) ≡ false → (n : ℕ) (rest : List LocalWant) → xs ++ local_parts st s all n rest ≡ xs ++ local_parts st s all n (w ∷ rest)
+  pub asked_same : (xs : List Part) → (eq_by_cmp sessions.cmp s w.session && eq_by_cmp styles.cmp st w.style) ≡ false → (n : ℕ) (rest : List LocalWant)
+      → xs ++ local_parts st s all n rest ≡ xs ++ local_parts st s all n (w ∷ rest)
   asked_same xs f n rest = ap (λ ys. xs ++ ys) (sym (wanted_more n rest false unwanted))
     where
       unwanted : is_wanted_at st s n w ≡ false
@@ -150,7 +155,8 @@ module _ (f : Sender → Sender) (p : Sender → Bool) where
   pub names_without : (m : Names) (x : Sender) (xs : List Sender) → p x ≡ false → with_keys m (each f (filter p xs)) ≡ with_keys m (each f (filter p (x ∷ xs)))
   names_without m x xs t = sym (ap (λ (b : Bool). with_keys m (each f (if b then x ∷ filter p xs else filter p xs))) t)
 
-pub one_name : (f : Sender → Sender) (m : Names) (xs : List Sender) (i : ℕ) (d x : Sender) → i < length xs → x ≡ slice_index_or xs i d → with_keys (with_key m (f x)) (each f (drop (i + 1) xs)) ≡ with_keys m (each f (drop i xs))
+pub one_name : (f : Sender → Sender) (m : Names) (xs : List Sender) (i : ℕ) (d x : Sender) → i < length xs → x ≡ slice_index_or xs i d
+    → with_keys (with_key m (f x)) (each f (drop (i + 1) xs)) ≡ with_keys m (each f (drop i xs))
 one_name f m xs i d x lt is = sym (ap (λ ys. with_keys m (each f ys)) (drop_one xs i d x lt is))
 
 size_more : (m : Names) (x : Sender) → size (with_key m x) ≤ size m + 1
@@ -159,7 +165,8 @@ size_more m x =
     either (has m x) (λ t. let e = grown ∙ ap (λ b. cond b (size m) (size m + 1)) t in omega arith) (λ t. let e = grown ∙ ap (λ b. cond b (size m) (size m + 1)) t in omega arith)
 
 -- there is room for one name more than there were senders
-pub insert_more : {T E : Type 0} (r : Result T E) (old new : Names) (x : Sender) (i : ℕ) → OnOk r (new ≡ with_key old x) → IsErr r ↔ (16 < size (with_key old x)) → size old ≤ i → i < 16 → (new ≡ with_key old x) × (size new ≤ i + 1)
+pub insert_more : {T E : Type 0} (r : Result T E) (old new : Names) (x : Sender) (i : ℕ) → OnOk r (new ≡ with_key old x) → IsErr r ↔ (16 < size (with_key old x)) → size old ≤ i → i < 16
+    → (new ≡ with_key old x) × (size new ≤ i + 1)
 insert_more (Ok t) old new x i ok full few lt = let a = size_more old x in let b = ap size ok in (ok, omega arith)
 insert_more (Err e) old new x i ok full few lt = let a = size_more old x in absurd (let z = full.0 refl in omega arith)
 
@@ -167,7 +174,8 @@ insert_more (Err e) old new x i ok full few lt = let a = size_more old x in absu
 module _ (st : StyleKind) (net : Net) (l : Locals) (s : Session) where
   wants_more : (hs : List LinkHop) (h : LinkHop) (n : ℕ) → wants_at st net l s (hs ++ h ∷ []) n ≡ wants_at st net l s hs n ++ (if node_of net.ends h.from == n then values (want st net l s h) else [])
   wants_more hs h n =
-      ap (flat_map (λ h. values (want st net l s h))) (filter_append (goes_out_of net.ends n) hs (h ∷ [])) ∙ flat_append (λ h. values (want st net l s h)) (filter (goes_out_of net.ends n) hs) (filter (goes_out_of net.ends n) (h ∷ []))
+      ap (flat_map (λ h. values (want st net l s h))) (filter_append (goes_out_of net.ends n) hs (h ∷ []))
+      ∙ flat_append (λ h. values (want st net l s h)) (filter (goes_out_of net.ends n) hs) (filter (goes_out_of net.ends n) (h ∷ []))
       ∙ ap (λ ys. wants_at st net l s hs n ++ ys) (by (node_of net.ends h.from == n))
     where
       by : (b : Bool) → flat_map (λ h. values (want st net l s h)) (if b then h ∷ [] else []) ≡ (if b then values (want st net l s h) else [])
@@ -193,12 +201,15 @@ module _ (st : StyleKind) (net : Net) (l : Locals) (s : Session) where
     pub hops_same : (x.group.0 == s.group.0) ≡ false → hops_in s.group (take (i + 1) order) ≡ hops_in s.group (take i order)
     hops_same t = hops_split ∙ ap (λ ys. hops_in s.group (take i order) ++ ys) (one_hop false t) ∙ append_none (hops_in s.group (take i order))
 
-    pub wants_then : (x.group.0 == s.group.0) ≡ true → (all more : List HopWant) (p : PartTable) → all ≡ hop_wants st net l s (take i order) → p ≡ want st net l s x.hop → more ≡ all ++ record { hop = x.hop; parts = p } ∷ [] → more ≡ hop_wants st net l s (take (i + 1) order)
+    pub wants_then : (x.group.0 == s.group.0) ≡ true → (all more : List HopWant) (p : PartTable) → all ≡ hop_wants st net l s (take i order) → p ≡ want st net l s x.hop
+        → more ≡ all ++ record { hop = x.hop; parts = p } ∷ [] → more ≡ hop_wants st net l s (take (i + 1) order)
     wants_then t all more p e f g =
         g ∙ (λ j. e j ++ record { hop = x.hop; parts = f j } ∷ [])
-        ∙ sym (ap (each (λ (h : LinkHop). record { hop = h; parts = want st net l s h })) (hops_more t) ∙ map-append (λ (h : LinkHop). record { hop = h; parts = want st net l s h }) (hops_in s.group (take i order)) (x.hop ∷ []))
+        ∙ sym (ap (each (λ (h : LinkHop). record { hop = h; parts = want st net l s h })) (hops_more t)
+        ∙ map-append (λ (h : LinkHop). record { hop = h; parts = want st net l s h }) (hops_in s.group (take i order)) (x.hop ∷ []))
 
-    module _ (free : IsLoopFree net) (by : AreByRank net order) (t : (x.group.0 == s.group.0) ≡ true) (asked : List (List Part)) (sofar : (n : ℕ) → at_node asked n ≡ asked_at st net l s (hops_in s.group (take i order)) n) where
+    module _ (free : IsLoopFree net) (by : AreByRank net order) (t : (x.group.0 == s.group.0) ≡ true) (asked : List (List Part))
+        (sofar : (n : ℕ) → at_node asked n ≡ asked_at st net l s (hops_in s.group (take i order)) n) where
       before : (y : LinkHop) → In y (followers net s.group x.hop) → In y (hops_in s.group (take i order))
       before y j =
           let g = addr_same x.group s.group t in
@@ -209,7 +220,8 @@ module _ (st : StyleKind) (net : Net) (l : Locals) (s : Session) where
           e ∙ ap (λ ps. merge st (cuts (names st net l s (x.hop ∷ [])) ps)) (sofar (node_of net.ends x.hop.to)) ∙ want_step st net l s x.hop (hops_in s.group (take i order)) before free
 
       pub asked_then : (new : List (List Part)) (p : PartTable) → node_of net.ends x.hop.from < length asked → p ≡ want st net l s x.hop
-          → new ≡ slice_set asked (node_of net.ends x.hop.from) (at_node asked (node_of net.ends x.hop.from) ++ values p) → (n : ℕ) → at_node new n ≡ asked_at st net l s (hops_in s.group (take (i + 1) order)) n
+          → new ≡ slice_set asked (node_of net.ends x.hop.from) (at_node asked (node_of net.ends x.hop.from) ++ values p) → (n : ℕ)
+          → at_node new n ≡ asked_at st net l s (hops_in s.group (take (i + 1) order)) n
       asked_then new p inside f e n =
           ap (λ xs. at_node xs n) (e ∙ ap (λ q. slice_set asked (node_of net.ends x.hop.from) (at_node asked (node_of net.ends x.hop.from) ++ values q)) f)
           ∙ added asked (node_of net.ends x.hop.from) (values (want st net l s x.hop)) n inside

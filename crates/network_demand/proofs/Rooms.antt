@@ -29,11 +29,13 @@ left_first st net l order k lines e = record { lines = λ n. let z = ap (λ (xs 
 pub left_found : (st : StyleKind) (net : Net) (l : Locals) (order : List GroupHop) (ss : List Session) (lines : List ℕ) → AreLeft st net l order ss lines → FindRoom st net l order ss
 left_found st net l order ss lines left = record { lines = λ n. let z = left.lines n in omega (arith, z); next_hops = left.next_hops }
 
-module _ (st : StyleKind) (net : Net) (l : Locals) (order : List GroupHop) (ss : List Session) (i : ℕ) (d s : Session) (lines : List ℕ) (lt : i < length ss) (is : s ≡ slice_index_or ss i d) (left : AreLeft st net l order (take i ss) lines) where
+module _ (st : StyleKind) (net : Net) (l : Locals) (order : List GroupHop) (ss : List Session) (i : ℕ) (d s : Session) (lines : List ℕ) (lt : i < length ss) (is : s ≡ slice_index_or ss i d)
+    (left : AreLeft st net l order (take i ss) lines) where
   abbrev takes : ℕ → Session → ℕ
   takes n s = taken_at false net n (hop_wants st net l s order)
 
-  pub left_more : (new : List ℕ) → ((n : ℕ) → taken_at true net n (hop_wants st net l s order) ≤ 64) → ((full n : ℕ) → room_at full new n + taken_at false net n (hop_wants st net l s order) ≡ room_at full lines n) → AreLeft st net l order (take (i + 1) ss) new
+  pub left_more : (new : List ℕ) → ((n : ℕ) → taken_at true net n (hop_wants st net l s order) ≤ 64)
+      → ((full n : ℕ) → room_at full new n + taken_at false net n (hop_wants st net l s order) ≡ room_at full lines n) → AreLeft st net l order (take (i + 1) ss) new
   left_more new few took =
       record {
         lines = λ n. let a = left.lines n in let b = took 1024 n in let c = sum_by_more (takes n) ss i d lt in let e = ap (takes n) is in omega (arith, a, b, c, e);
@@ -43,7 +45,8 @@ module _ (st : StyleKind) (net : Net) (l : Locals) (order : List GroupHop) (ss :
             (in_append t (take i ss) (s ∷ []) (subst (λ (xs : List Session). In t xs) (take_more ss i d s lt is) j));
       }
 
-  pub left_lack : In s ss → (n : ℕ) × ((64 < taken_at true net n (hop_wants st net l s order)) ⊎ ((full : ℕ) → room_at full lines n < taken_at false net n (hop_wants st net l s order))) → FindRoom st net l order ss → ⊥
+  pub left_lack : In s ss → (n : ℕ) × ((64 < taken_at true net n (hop_wants st net l s order)) ⊎ ((full : ℕ) → room_at full lines n < taken_at false net n (hop_wants st net l s order)))
+      → FindRoom st net l order ss → ⊥
   left_lack there lack found =
       ⊎_elim (λ (more : 64 < taken_at true net lack.0 (hop_wants st net l s order)). let le = found.next_hops s lack.0 there in let z : ⊥ = omega arith in z)
       (λ (less : (full : ℕ) → room_at full lines lack.0 < taken_at false net lack.0 (hop_wants st net l s order)).

@@ -18,17 +18,24 @@ use Rattle.network_demand.proofs.Inside.{index_in}
 use Rattle.network_demand.proofs.Pools.{take_more}
 
 pub among_already : {X : Type 0} (xs : List X) (y : X) → In y xs → (s : X) → In s xs ↔ In s (xs ++ y ∷ [])
-among_already {X} xs y i s = (λ j. in_left s xs (y ∷ []) j, λ j. ⊎_elim (λ (k : In s xs). k) (λ (k : In s (y ∷ [])). ⊎_elim (λ (e : s ≡ y). subst (λ (x : X). In x xs) (sym e) i) (λ (n : ⊥). absurd n) k) (in_append s xs (y ∷ []) j))
+among_already {X} xs y i s = (
+  λ j. in_left s xs (y ∷ []) j,
+  λ j. ⊎_elim (λ (k : In s xs). k)
+      (λ (k : In s (y ∷ [])). ⊎_elim (λ (e : s ≡ y). subst (λ (x : X). In x xs) (sym e) i) (λ (n : ⊥). absurd n) k) (in_append s xs (y ∷ []) j),
+)
 
 pub once_push : {X : Type 0} (xs : List X) (y : X) → NoRepeats xs → (In y xs → ⊥) → NoRepeats (xs ++ y ∷ [])
 once_push [] y once new = (λ i. i, tt)
 once_push {X} (x ∷ xs) y once new =
     (λ i. ⊎_elim (λ (j : In x xs). once.0 j) (λ (j : In x (y ∷ [])). ⊎_elim (λ (e : x ≡ y). new (inl (sym e))) (λ (n : ⊥). n) j) (in_append x xs (y ∷ []) i), once_push xs y once.1 (λ j. new (inr j)))
 
-pub one_more_of : {W X : Type 0} (f : W → X) (old new : List X) (ws : List W) (i : ℕ) (d w : W) → i < length ws → w ≡ slice_index_or ws i d → ((s : X) → In s old ↔ In s (each f (take i ws))) → ((s : X) → In s new ↔ In s (old ++ f w ∷ [])) → (s : X) → In s new ↔ In s (each f (take (i + 1) ws))
+pub one_more_of : {W X : Type 0} (f : W → X) (old new : List X) (ws : List W) (i : ℕ) (d w : W) → i < length ws → w ≡ slice_index_or ws i d → ((s : X) → In s old ↔ In s (each f (take i ws)))
+    → ((s : X) → In s new ↔ In s (old ++ f w ∷ [])) → (s : X) → In s new ↔ In s (each f (take (i + 1) ws))
 one_more_of {W} {X} f old new ws i d w lt is same more s = (
-  λ j. subst (λ (xs : List X). In s xs) (sym list) (⊎_elim (λ (k : In s old). in_left s (each f (take i ws)) (f w ∷ []) ((same s).0 k)) (λ (k : In s (f w ∷ [])). at_end k) (in_append s old (f w ∷ []) ((more s).0 j))),
-  λ j. (more s).1 (⊎_elim (λ (k : In s (each f (take i ws))). in_left s old (f w ∷ []) ((same s).1 k)) (λ (k : In s (f w ∷ [])). at_end_of k) (in_append s (each f (take i ws)) (f w ∷ []) (subst (λ (xs : List X). In s xs) list j))),
+  λ j. subst (λ (xs : List X). In s xs) (sym list) (⊎_elim (λ (k : In s old). in_left s (each f (take i ws)) (f w ∷ []) ((same s).0 k)) (λ (k : In s (f w ∷ [])). at_end k)
+      (in_append s old (f w ∷ []) ((more s).0 j))),
+  λ j. (more s).1 (⊎_elim (λ (k : In s (each f (take i ws))). in_left s old (f w ∷ []) ((same s).1 k)) (λ (k : In s (f w ∷ [])). at_end_of k)
+      (in_append s (each f (take i ws)) (f w ∷ []) (subst (λ (xs : List X). In s xs) list j))),
 )
   where
     list : each f (take (i + 1) ws) ≡ each f (take i ws) ++ f w ∷ []
@@ -47,7 +54,8 @@ one_more_of {W} {X} f old new ws i d w lt is same more s = (
 pub all_more : {X : Type 0} (P : X → Type 0) (xs : List X) (i : ℕ) (d : X) → i < length xs → All P (take i xs) → P (slice_index_or xs i d) → All P (take (i + 1) xs)
 all_more {X} P xs i d lt all p =
     in_all P (take (i + 1) xs)
-    (λ x j. ⊎_elim (λ (k : In x (take i xs)). all_in P (take i xs) all x k) (λ (k : In x (slice_index_or xs i d ∷ [])). ⊎_elim (λ (e : x ≡ slice_index_or xs i d). subst P (sym e) p) (λ (n : ⊥). absurd n) k)
+    (λ x j. ⊎_elim (λ (k : In x (take i xs)). all_in P (take i xs) all x k) (λ (k : In x (slice_index_or xs i d ∷ [])). ⊎_elim (λ (e : x ≡ slice_index_or xs i d). subst P (sym e) p)
+    (λ (n : ⊥). absurd n) k)
     (in_append x (take i xs) (slice_index_or xs i d ∷ []) (subst (λ (ys : List X). In x ys) (take_more xs i d (slice_index_or xs i d) lt (λ k. slice_index_or xs i d)) j)))
 
 pub taken_all : {X : Type 0} (xs : List X) (i : ℕ) → length xs ≤ i → i ≤ length xs → take i xs ≡ xs
@@ -77,7 +85,8 @@ pub few_told : (xs found : List Session) → ((s : Session) → In s xs → In s
 few_told xs found f few = let less = set_below sessions xs found f in let all = size-set_of sessions found in omega arith
 
 -- 32 others and this one are among them
-pub many_told : (xs found : List Session) (s : Session) → NoRepeats found → (In s found → ⊥) → In s xs → ((z : Session) → In z found → In z xs) → length found ≡ 32 → size (set_of {o = sessions} xs) ≤ 32 → ⊥
+pub many_told : (xs found : List Session) (s : Session) → NoRepeats found → (In s found → ⊥) → In s xs → ((z : Session) → In z found → In z xs) → length found ≡ 32
+    → size (set_of {o = sessions} xs) ≤ 32 → ⊥
 many_told xs found s once new there sub full few =
     let m = set_of {o = sessions} xs in
     let less = not_longer (s ∷ found) (keys m) (new, once) (λ z i. in_its_keys xs z (⊎_elim (λ (e : z ≡ s). subst (λ (y : Session). In y xs) (sym e) there) (λ (j : In z found). sub z j) i)) in

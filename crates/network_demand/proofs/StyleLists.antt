@@ -22,7 +22,8 @@ first_any (v ∷ vs) w i a b = by (λ j. first_any vs w j a b) (eq_by_cmp sessio
         → cond c v.style (first_style w.session a vs) ≡ cond c v.style (first_style w.session b vs)
     by rest true t = refl
     by rest false t =
-        rest (⊎_elim (λ (e : w ≡ v). let z : true ≡ false = sym (tied_self sessions w.session) ∙ ap (λ (x : LocalWant). eq_by_cmp sessions.cmp w.session x.session) e ∙ t in absurd (cc)) (λ (j : In w vs). j) i)
+        rest (⊎_elim (λ (e : w ≡ v). let z : true ≡ false = sym (tied_self sessions w.session) ∙ ap (λ (x : LocalWant). eq_by_cmp sessions.cmp w.session x.session) e ∙ t in absurd (cc))
+        (λ (j : In w vs). j) i)
 
 module _ (ws : List LocalWant) where
   pub styles_told : (ss : List Session) → ((w : LocalWant) → In w ws → In w.session ss) → All (IsOfOneStyle ws) ss → All (λ w. first_style w.session w.style ws ≡ w.style) ws

@@ -53,7 +53,8 @@ module _ (st : StyleKind) (net : Net) (l : Locals) (s : Session) where
       in_set_of senders (each (name_of st) (live l s)) x (subst (λ (y : Sender). In y (each (name_of st) (live l s))) (sym a.3) (to_each (name_of st) a.0 (live l s) a.1))
 
   cut_all : (all ns : Names) → IsWithin ns all → cut all ns ≡ ns
-  cut_all all ns h = same_names (cut all ns) ns (λ x e. (and_both (has all x) (has ns x) (sym (has-cut senders all ns x) ∙ e)).1) (λ x e. has-cut senders all ns x ∙ and_made (has all x) (has ns x) (h x e) e)
+  cut_all all ns h = same_names (cut all ns) ns (λ x e. (and_both (has all x) (has ns x) (sym (has-cut senders all ns x) ∙ e)).1)
+      (λ x e. has-cut senders all ns x ∙ and_made (has all x) (has ns x) (h x e) e)
 
   wanted_is : (k : StyleKind) (all ns : Names) (p : Part) → IsWithin ns all → part_cut (widened k all p) ns ≡ wanted_of k ns p
   wanted_is Wild all ns p h = ap (λ (t : Names). part_of t p.flow) (cut_all all ns h)
@@ -126,7 +127,8 @@ module _ (st : StyleKind) (net : Net) (l : Locals) (s : Session) where
           let w = in_flat_map (λ w. as_list (wanted_of st ns w.part)) p (filter (is_wanted_at st s n) l.wants) j in
           let e = in_as_list (wanted_of st ns w.0.part) p w.2 in
           to_flat_map (λ p. as_list (part_cut p ns)) (widened st (all_names st l s) w.0.part) p (asked_at st net l s hs n)
-          (in_left (widened st (all_names st l s) w.0.part) (local_at st l s n) (wants_at st net l s hs n) (to_each (λ (w : LocalWant). widened st (all_names st l s) w.part) w.0 (filter (is_wanted_at st s n) l.wants) w.1))
+          (in_left (widened st (all_names st l s) w.0.part) (local_at st l s n) (wants_at st net l s hs n)
+          (to_each (λ (w : LocalWant). widened st (all_names st l s) w.part) w.0 (filter (is_wanted_at st s n) l.wants) w.1))
           (to_as_list _ p (wanted_is st (all_names st l s) ns w.0.part (names_of_all h) ∙ e)))
           (λ (j : In p (flat_map (brought st net l s h (want st net l s)) (followers net s.group h))).
           let y = in_flat_map (brought st net l s h (want st net l s)) p (followers net s.group h) j in
@@ -135,7 +137,8 @@ module _ (st : StyleKind) (net : Net) (l : Locals) (s : Session) where
           let meet = (follower_follows net s.group h y.0 y.1).meet in
           to_flat_map (λ p. as_list (part_cut p ns)) q.0 p (asked_at st net l s hs n)
           (in_right q.0 (local_at st l s n) (wants_at st net l s hs n)
-          (to_flat_map (λ h. values (want st net l s h)) y.0 q.0 (filter (goes_out_of net.ends n) hs) (to_filter (goes_out_of net.ends n) y.0 hs (all y.0 y.1) (number_same (node_of net.ends y.0.from) n meet)) q.1))
+          (to_flat_map (λ h. values (want st net l s h)) y.0 q.0 (filter (goes_out_of net.ends n) hs)
+          (to_filter (goes_out_of net.ends n) y.0 hs (all y.0 y.1) (number_same (node_of net.ends y.0.from) n meet)) q.1))
           (to_as_list _ p (cut_same y.0 q.0 q.1 meet ∙ e)))
           (in_append p (own st net l s h) (flat_map (brought st net l s h (want st net l s)) (followers net s.group h)) i)
 
@@ -154,10 +157,12 @@ ranked_before net (z ∷ zs) (suc i) x y d up lt is (inl e) less = inl e
 ranked_before net (z ∷ zs) (suc i) x y d up lt is (inr j) less = inr (ranked_before net zs i x y d up.1 (omega arith) is j less)
 
 pub in_hops : (g : Addr) (xs : List GroupHop) (h : LinkHop) → In (record { group = g; hop = h }) xs → In h (hops_in g xs)
-in_hops g xs h i = to_each (λ (x : GroupHop). x.hop) (record { group = g; hop = h }) (filter (λ (x : GroupHop). x.group.0 == g.0) xs) (to_filter (λ (x : GroupHop). x.group.0 == g.0) (record { group = g; hop = h }) xs i (addr_itself g))
+in_hops g xs h i = to_each (λ (x : GroupHop). x.hop) (record { group = g; hop = h }) (filter (λ (x : GroupHop). x.group.0 == g.0) xs)
+    (to_filter (λ (x : GroupHop). x.group.0 == g.0) (record { group = g; hop = h }) xs i (addr_itself g))
 
 -- each hop that follows stands before
-pub followers_before : (net : Net) (xs : List GroupHop) (i : ℕ) (x d : GroupHop) → IsLoopFree net → AreByRank net xs → i < length xs → x ≡ slice_index_or xs i d → (y : LinkHop) → In y (followers net x.group x.hop) → In y (hops_in x.group (take i xs))
+pub followers_before : (net : Net) (xs : List GroupHop) (i : ℕ) (x d : GroupHop) → IsLoopFree net → AreByRank net xs → i < length xs → x ≡ slice_index_or xs i d → (y : LinkHop)
+    → In y (followers net x.group x.hop) → In y (hops_in x.group (take i xs))
 followers_before net xs i x d free by lt is y j =
     let other : GroupHop = record { group = x.group; hop = y } in
     in_hops x.group (take i xs) y

@@ -6,10 +6,10 @@ use Rattle.rsvp_base.specs.declared.addr.Addr.{Addr}
 use Rattle.rsvp_base.specs.Members.{In}
 use Rattle.rsvp_base.proofs.Members.{in_filter, to_filter}
 use Rattle.tree_model.specs.Goals.{addr_of}
-use Rattle.router_rows.specs.RouterRules.Facts.{Facts}
-use Rattle.router_rows.specs.RouterRules.Inputs.{Input, Came}
-use Rattle.router_rows.specs.RouterRules.NodeConfig.{is_addr}
-use Rattle.router_rows.specs.RouterRules.Rule.{Outcome, rule}
+use Rattle.router_examples.specs.RouterRules.Facts.{Facts}
+use Rattle.router_examples.specs.RouterRules.Inputs.{Input, Came}
+use Rattle.router_examples.specs.RouterRules.NodeConfig.{is_addr}
+use Rattle.router_examples.specs.RouterRules.Rule.{Outcome, rule}
 use Rattle.tree_model.specs.declared.hops.End.{End}
 use Rattle.tree_model.specs.Networks.{Net, iface_of, peers}
 use Rattle.tree_model.proofs.Following.{addr_same, addr_itself}
@@ -54,7 +54,8 @@ module _ (q : ℕ) (w : World) (k : ℕ) (x : Item) (e : End) (there : slice_get
   a_delivery_changes_one_node = record {
     node = λ f a.
         let here : w.clock + 0 ≡ w.clock = omega arith in
-        subst (λ (c : ℕ). slice_get (step q (Deliver k) w).nodes e.node ≡ Some (rule (config_of q w.net w.trees e.node) (config_of q w.net w.trees e.node) c (Came (iface_of w.net.ends x.end) x.dst x.arrival) f).facts) here
+        subst (λ (c : ℕ). slice_get (step q (Deliver k) w).nodes e.node ≡ Some (rule (config_of q w.net w.trees e.node) (config_of q w.net w.trees e.node) c
+        (Came (iface_of w.net.ends x.end) x.dst x.arrival) f).facts) here
         (facts_after_made q (Deliver k) w e.node f a ∙ ap (λ (i : Option Input). Some (outcome_of q i (Deliver k) w e.node f).facts) (input_came (Deliver k) w x e there end));
     others = λ n other. unchanged q (Deliver k) w n (delivered_to n other);
     flight = refl;
@@ -109,12 +110,14 @@ module _ (net : Net) (a : ℕ) (dst : Addr) where
   where_a_send_goes = record {
     group = λ e. ap (λ (b : Bool). ends_toward net b dst (peers net.links a)) e;
     one = λ e d i at x.
-        let both = addressed_one d (filter has_addr (peers net.links a)) (peers net.links a) (to_filter has_addr d (peers net.links a) i (subst (λ (z : Addr). is_addr z dst ≡ true) (sym at) (addr_itself dst))) x in (
+        let both = addressed_one d (filter has_addr (peers net.links a)) (peers net.links a)
+        (to_filter has_addr d (peers net.links a) i (subst (λ (z : Addr). is_addr z dst ≡ true) (sym at) (addr_itself dst))) x in (
           λ j. let f = in_filter has_addr x (peers net.links a) (both.0 (subst (λ (es : List ℕ). In x es) (by_address e) j)) in (f.0, addr_same (addr_of net x) dst f.1),
           λ j. subst (λ (es : List ℕ). In x es) (sym (by_address e)) (both.1 (to_filter has_addr x (peers net.links a) j.0 (subst (λ (z : Addr). is_addr z dst ≡ true) (sym j.1) (addr_itself dst)))),
         );
     none = λ e no.
-        by_address e ∙ none_addressed (filter has_addr (peers net.links a)) (peers net.links a) (λ x i. let f = in_filter has_addr x (peers net.links a) i in no x f.0 (addr_same (addr_of net x) dst f.1));
+        by_address e ∙ none_addressed (filter has_addr (peers net.links a)) (peers net.links a)
+        (λ x i. let f = in_filter has_addr x (peers net.links a) i in no x f.0 (addr_same (addr_of net x) dst f.1));
     nowhere = λ e.
         ap (λ (l : List ℕ). ends_toward net (is_group dst) dst (filter (λ x. not (x == a)) l)) e ∙ empty (is_group dst);
   }
@@ -129,5 +132,6 @@ what_is_sent_is_copied q s w x = (
       let c = copies_found w.net w.made n.0 (outcome q s w n.0 n.1).sent x n.3 in
       record { node = n.0; facts = n.1; there = n.2; send = c.0; sent = c.2; end = c.1; goes = c.3; is = c.4 },
   λ c. sent_made q s w c.node c.facts x c.there
-      (subst (λ (z : Item × Bool). In z (all_copies w.net w.made c.node (outcome q s w c.node c.facts).sent)) (sym c.is) (copies_made w.net w.made c.node (outcome q s w c.node c.facts).sent c.send c.end c.sent c.goes)),
+      (subst (λ (z : Item × Bool). In z (all_copies w.net w.made c.node (outcome q s w c.node c.facts).sent)) (sym c.is)
+      (copies_made w.net w.made c.node (outcome q s w c.node c.facts).sent c.send c.end c.sent c.goes)),
 )

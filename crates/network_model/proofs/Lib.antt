@@ -5,4 +5,4 @@ pub mod Quiet
 pub mod Changing
 pub mod Worked
 pub mod NodeLocals
-pub use Rattle.router_rows.proofs.RouterRules
+pub use Rattle.router_examples.proofs.RouterRules

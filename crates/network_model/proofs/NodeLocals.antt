@@ -15,7 +15,7 @@ use Rattle.rsvp_base.proofs.Tables.{tied_same}
 use Rattle.tree_model.specs.declared.locals.LocalSender.{LocalSender}
 use Rattle.tree_model.specs.declared.locals.LocalWant.{LocalWant}
 use Rattle.tree_model.specs.Wants.{live, of_session}
-use Rattle.router_rows.specs.RouterRules.Facts.{Facts, SenderKey, WantKey, Want, sender_keys, want_keys}
+use Rattle.router_examples.specs.RouterRules.Facts.{Facts, SenderKey, WantKey, Want, sender_keys, want_keys}
 use Rattle.network_model.specs.Locals.{IsLive, sender_at, senders_from, want_at, wants_from, locals_of}
 use Rattle.network_model.specs.Worlds.{World}
 
@@ -59,14 +59,16 @@ made j zero (g ∷ fs) f k x a h =
     let same : f ≡ g = cc in
     let row : In (k, x) g.wants.rows = found_in want_keys g.wants k x (subst (λ (z : Facts). get z.wants k ≡ Some x) same h) in
     let e : j ≡ j + 0 = omega arith in
-    subst (λ (z : ℕ). In (want_at z (k, x)) (wants_from j (g ∷ fs))) e (in_left (want_at j (k, x)) (each (want_at j) g.wants.rows) (wants_from (suc j) fs) (to_each (want_at j) (k, x) g.wants.rows row))
+    subst (λ (z : ℕ). In (want_at z (k, x)) (wants_from j (g ∷ fs))) e (in_left (want_at j (k, x)) (each (want_at j) g.wants.rows) (wants_from (suc j) fs)
+    (to_each (want_at j) (k, x) g.wants.rows row))
 made j (suc n) (g ∷ fs) f k x a h =
     let e : suc j + n ≡ j + suc n = omega arith in
     subst (λ (z : ℕ). In (want_at z (k, x)) (wants_from j (g ∷ fs))) e
     (in_right (want_at (suc j + n) (k, x)) (each (want_at j) g.wants.rows) (wants_from (suc j) fs) (made (suc j) n fs f k x a h))
 
 -- each local want of the network is one of its node
-pub want_of_node : (w : World) (x : LocalWant) → In x (locals_of w).wants → (f : Facts) × (k : WantKey) × (v : Want) × (slice_get w.nodes x.node ≡ Some f) × (get f.wants k ≡ Some v) × (x ≡ want_at x.node (k, v))
+pub want_of_node : (w : World) (x : LocalWant) → In x (locals_of w).wants → (f : Facts) × (k : WantKey) × (v : Want) × (slice_get w.nodes x.node ≡ Some f) × (get f.wants k ≡ Some v)
+    × (x ≡ want_at x.node (k, v))
 want_of_node w x i =
     let r = told 0 w.nodes x i in
     let node : x.node ≡ r.place = (let e = r.node in omega (arith, e)) in
@@ -112,7 +114,8 @@ sender_told j (f ∷ fs) x i =
     (in_append x (each (sender_at j) (keys f.senders)) (senders_from (suc j) fs) i)
 
 -- each local sender of the network is one of its node
-pub sender_of_node : (w : World) (x : LocalSender) → In x (locals_of w).senders → (f : Facts) × (k : SenderKey) × (t : TokenBucket) × (slice_get w.nodes x.node ≡ Some f) × (get f.senders k ≡ Some t) × (x ≡ sender_at x.node k)
+pub sender_of_node : (w : World) (x : LocalSender) → In x (locals_of w).senders → (f : Facts) × (k : SenderKey) × (t : TokenBucket) × (slice_get w.nodes x.node ≡ Some f) × (get f.senders k ≡ Some t)
+    × (x ≡ sender_at x.node k)
 sender_of_node w x i =
     let r = sender_told 0 w.nodes x i in
     let node : x.node ≡ r.place = (let e = r.node in omega (arith, e)) in

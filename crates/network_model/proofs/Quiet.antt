@@ -2,12 +2,13 @@
 use Rattle.std.proofs.Common.{◌≡◌, ℕ, ◌+◌, Bool, true, false, cond, Option, None, Some, ◌⊎◌, inl, inr, refl, sym, ap, ◌∙◌}
 use Rattle.std.specs.Prelude.{slice_get, ◌==◌}
 use Rattle.tree_model.proofs.Following.{same_number, number_same}
-use Rattle.router_rows.specs.RouterRules.Facts.{Facts}
-use Rattle.router_rows.specs.RouterRules.Inputs.{Input, Wait, Came}
-use Rattle.router_rows.specs.RouterRules.Rule.{Outcome, rule}
+use Rattle.router_examples.specs.RouterRules.Facts.{Facts}
+use Rattle.router_examples.specs.RouterRules.Inputs.{Input, Wait, Came}
+use Rattle.router_examples.specs.RouterRules.Rule.{Outcome, rule}
 use Rattle.tree_model.specs.declared.hops.End.{End}
 use Rattle.tree_model.specs.Networks.{Net, iface_of}
-use Rattle.network_model.specs.Steps.{Step, Piece, Deliver, Lose, Copy, At, ClearAt, Trace, Report, Flags, Inject, Reroute, is_quiet, ms_of, arrived, net_after, at_node, came_by_end, came, input_at, word_for, still, outcome_of, outcome}
+use Rattle.network_model.specs.Steps.{Step, Piece, Deliver, Lose, Copy, At, ClearAt, Trace, Report, Flags, Inject, Reroute, is_quiet, ms_of, arrived, net_after, at_node, came_by_end, came}
+use Rattle.network_model.specs.Steps.{input_at, word_for, still, outcome_of, outcome}
 use Rattle.network_model.specs.Worlds.{Item, World, config_of}
 
 pub net_quiet : (s : Step) (w : World) → is_quiet s ≡ true → net_after s w ≡ w.net
@@ -84,7 +85,8 @@ arrival_is (Reroute g s hops) w x e = absurd (cc)
 pub arrival_takes_no_time : (s : Step) (w : World) (x : Item) → arrived s w ≡ Some x → ms_of s ≡ 0
 arrival_takes_no_time s w x a = ap ms_of (arrival_is s w x a).1
 
-pub input_came : (s : Step) (w : World) (x : Item) (e : End) → arrived s w ≡ Some x → slice_get w.net.ends x.end ≡ Some e → input_at s w e.node ≡ Some (Came (iface_of w.net.ends x.end) x.dst x.arrival)
+pub input_came : (s : Step) (w : World) (x : Item) (e : End) → arrived s w ≡ Some x → slice_get w.net.ends x.end ≡ Some e
+    → input_at s w e.node ≡ Some (Came (iface_of w.net.ends x.end) x.dst x.arrival)
 input_came s w x e a t =
     let d = arrival_is s w x a in
     ap (λ (z : Step). input_at z w e.node) d.1
@@ -98,7 +100,8 @@ pub record FollowsRule (q : ℕ) (s : Step) (w : World) (n : ℕ) (f : Facts) (o
   pub came : input_at s w n ≡ Some input
   pub is : o ≡ rule (config_of q w.net w.trees n) (config_of q w.net w.trees n) (w.clock + ms_of s) input f
 
-pub outcome_by : (q : ℕ) (s : Step) (w : World) (n : ℕ) (f : Facts) (i : Input) → is_quiet s ≡ true → input_at s w n ≡ Some i → outcome q s w n f ≡ rule (config_of q w.net w.trees n) (config_of q w.net w.trees n) (w.clock + ms_of s) i f
+pub outcome_by : (q : ℕ) (s : Step) (w : World) (n : ℕ) (f : Facts) (i : Input) → is_quiet s ≡ true → input_at s w n ≡ Some i
+    → outcome q s w n f ≡ rule (config_of q w.net w.trees n) (config_of q w.net w.trees n) (w.clock + ms_of s) i f
 outcome_by q s w n f i quiet e =
     ap (λ (o : Option Input). outcome_of q o s w n f) e ∙ ap (λ (net : Net). rule (config_of q w.net w.trees n) (config_of q net w.trees n) (w.clock + ms_of s) i f) (net_quiet s w quiet)
 

@@ -3,8 +3,8 @@ use Rattle.std.proofs.Common.{◌≡◌, ℕ, zero, suc, ◌+◌, List, [], ◌�
 use Rattle.std.specs.Prelude.{slice_get}
 use Rattle.rsvp_base.specs.Members.{In}
 use Rattle.rsvp_base.proofs.Members.{in_append, in_left, in_right, in_each, to_each, in_flat_map, to_flat_map}
-use Rattle.router_rows.specs.RouterRules.Facts.{Facts}
-use Rattle.router_rows.specs.RouterRules.Inputs.{Send}
+use Rattle.router_examples.specs.RouterRules.Facts.{Facts}
+use Rattle.router_examples.specs.RouterRules.Inputs.{Send}
 use Rattle.tree_model.specs.Networks.{Net, end_at}
 use Rattle.network_model.specs.Links.{goes_to, copy_to, copies_of, all_copies}
 use Rattle.network_model.specs.Steps.{Step, outcome, facts_from, sent_from, sent, step}
@@ -18,7 +18,8 @@ copies_found net born n ss x i =
     let e = in_each (copy_to born s.0) x (goes_to net (end_at net.ends n s.0.iface) s.0.dst) s.2 in
     (s.0, e.0, s.1, e.1, e.2)
 
-pub copies_made : (net : Net) (born n : ℕ) (ss : List Send) (send : Send) (e : ℕ) → In send ss → In e (goes_to net (end_at net.ends n send.iface) send.dst) → In (copy_to born send e) (all_copies net born n ss)
+pub copies_made : (net : Net) (born n : ℕ) (ss : List Send) (send : Send) (e : ℕ) → In send ss → In e (goes_to net (end_at net.ends n send.iface) send.dst)
+    → In (copy_to born send e) (all_copies net born n ss)
 copies_made net born n ss send e i to =
     to_flat_map (copies_of net born n) send (copy_to born send e) ss i (to_each (copy_to born send) e (goes_to net (end_at net.ends n send.iface) send.dst) to)
 

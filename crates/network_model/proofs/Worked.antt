@@ -2,8 +2,8 @@
 use Rattle.std.specs.Prelude.{refl}
 use Rattle.std.specs.Fmt.{digits}
 use Rattle.value_texts.specs.Texts.{addr_text, session_text, sender_text, flow_text}
-use Rattle.report_texts.specs.Texts.{entry_line, head_text}
-use Rattle.router_rows.specs.RouterRules.Rule.{facts_with}
+use Rattle.value_texts.specs.Reports.{entry_line, head_text}
+use Rattle.router_examples.specs.RouterRules.Rule.{facts_with}
 use Rattle.network_model.specs.Rows.{OneReceiver, FirstRun, LargerRate, Traced, Injected, SharedLink, MovedTree}
 
 pub one_receiver : OneReceiver

@@ -4,14 +4,14 @@ use Rattle.rsvp_base.specs.declared.session.Session.{Session}
 use Rattle.rsvp_base.specs.Members.{In}
 use Rattle.rsvp_base.specs.Table.{get}
 use Rattle.rsvp_base.specs.TokenBucket.{TokenBucket}
-use Rattle.router_rows.specs.RsvpMessages.Proper.{IsProper}
+use Rattle.router_examples.specs.RsvpMessages.Proper.{IsProper}
 use Rattle.calm_rounds.specs.Machine.{run}
 use Rattle.calm_rounds.specs.Rounds.{Rounds}
 use Rattle.tree_model.specs.Goals.{DemandsFit}
 use Rattle.tree_model.specs.Wants.{live}
-use Rattle.router_rows.specs.RouterRules.Bounds.{IsWithinBounds}
-use Rattle.router_rows.specs.RouterRules.Facts.{Facts, SenderKey}
-use Rattle.router_rows.specs.RouterRules.Inputs.{Arrival, Spelt, Unspelt}
+use Rattle.router_examples.specs.RouterRules.Bounds.{IsWithinBounds}
+use Rattle.router_examples.specs.RouterRules.Facts.{Facts, SenderKey}
+use Rattle.router_examples.specs.RouterRules.Inputs.{Arrival, Spelt, Unspelt}
 use Rattle.tree_model.specs.declared.hops.TreeHop.{TreeHop}
 use Rattle.tree_model.specs.Networks.{owner}
 use Rattle.tree_model.specs.Ranks.{longest}

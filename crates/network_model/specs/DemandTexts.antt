@@ -2,7 +2,7 @@
 use Rattle.std.specs.Prelude.{◌≡◌, ◌↔◌, ℕ, ◌++◌, Bool, true, false, List, [], length, Option, None, Some, slice_get, codes, IsTrue}
 use Rattle.std.specs.Fmt.{decimal}
 use Rattle.std.specs.List.{flat_map, range_with_len}
-use Rattle.report_texts.specs.Texts.{book_text}
+use Rattle.value_texts.specs.Reports.{book_text}
 use Rattle.tree_model.specs.declared.hops.End.{End}
 use Rattle.tree_model.specs.Goals.{DemandsFit, demand_of}
 use Rattle.tree_model.specs.Networks.{Net}

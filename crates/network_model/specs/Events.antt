@@ -4,7 +4,7 @@ use Rattle.std.proofs.Common.{zero, suc}
 use Rattle.std.specs.List.{repeat}
 use Rattle.rsvp_base.specs.declared.addr.Addr.{Addr}
 use Rattle.calm_rounds.specs.Machine.{run}
-use Rattle.router_rows.specs.RouterRules.Inputs.{Arrival, Local}
+use Rattle.router_examples.specs.RouterRules.Inputs.{Arrival, Local}
 use Rattle.tree_model.specs.declared.hops.LinkHop.{LinkHop}
 use Rattle.network_model.specs.Steps.{Step, Piece, Deliver, Lose, Copy, At, ClearAt, Trace, Report, Flags, Inject, Reroute, step, machine}
 use Rattle.network_model.specs.Worlds.{World}

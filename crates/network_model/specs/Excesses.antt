@@ -3,11 +3,11 @@ use Rattle.std.specs.Prelude.{ℕ, List, Option, None, Some, nat_lt, option_and_
 use Rattle.rsvp_base.specs.Table.{get}
 use Rattle.rsvp_base.specs.declared.iface.Iface.{Iface}
 use Rattle.rsvp_base.specs.declared.part.Part.{Part}
-use Rattle.router_rows.specs.RouterRules.Lines.{held}
-use Rattle.router_rows.specs.RouterRules.Books.{book}
-use Rattle.router_rows.specs.RouterRules.Calls.{entry_of}
-use Rattle.router_rows.specs.RouterRules.Facts.{Facts}
-use Rattle.router_rows.specs.RouterRules.Inputs.{Stale, StalePath, StaleResv, StaleWall}
+use Rattle.router_examples.specs.RouterRules.Lines.{held}
+use Rattle.router_examples.specs.RouterRules.Books.{book}
+use Rattle.router_examples.specs.RouterRules.Calls.{entry_of}
+use Rattle.router_examples.specs.RouterRules.Facts.{Facts}
+use Rattle.router_examples.specs.RouterRules.Inputs.{Stale, StalePath, StaleResv, StaleWall}
 use Rattle.network_model.specs.declared.excess.Excess.{Excess}
 use Rattle.network_model.specs.declared.excess.Excess.TheVariants.{Packet, Rate}
 

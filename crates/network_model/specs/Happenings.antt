@@ -1,9 +1,9 @@
 -- What happens, as code has it: local calls and events are those of the model, whose datagrams are what their bytes spell.
 use Rattle.std.specs.Prelude.{ℕ, List, ◌≤◌, length}
-use Rattle.router_rows.specs.RsvpMessages.declared.fault.MsgErr.{MsgErr}
-use Rattle.router_rows.specs.RsvpMessages.declared.message.Message.{Message}
-use Rattle.router_rows.specs.RouterRules.Inputs.{Arrival, Spelt, Unspelt, Local, SendAs, DropAs, WantAs, QuitAll}
-use Rattle.router_rows.specs.RouterRules.Steps.{IsFitCall}
+use Rattle.router_examples.specs.RsvpMessages.declared.fault.MsgErr.{MsgErr}
+use Rattle.router_examples.specs.RsvpMessages.declared.message.Message.{Message}
+use Rattle.router_examples.specs.RouterRules.Inputs.{Arrival, Spelt, Unspelt, Local, SendAs, DropAs, WantAs, QuitAll}
+use Rattle.router_examples.specs.RouterRules.Steps.{IsFitCall}
 use Rattle.network_model.specs.Events.{Event as AnEvent, AtNode, Waits, Pass, DeliverAt, LoseAt, CopyAt, ClearNode, Rounds, Traces, Reports, ReportsFlags, Injects, Reroutes}
 use Rattle.network_model.specs.declared.event.Event.{Event}
 use Rattle.network_model.specs.declared.event.Event.TheVariants as event

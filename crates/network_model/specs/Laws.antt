@@ -4,10 +4,10 @@ use Rattle.std.specs.List.{remove}
 use Rattle.rsvp_base.specs.declared.addr.Addr.{Addr}
 use Rattle.rsvp_base.specs.Members.{In}
 use Rattle.tree_model.specs.Goals.{addr_of}
-use Rattle.router_rows.specs.RouterRules.Facts.{Facts}
-use Rattle.router_rows.specs.RouterRules.Inputs.{Wait, Came, Send}
-use Rattle.router_rows.specs.RouterRules.NodeConfig.{NodeConfig}
-use Rattle.router_rows.specs.RouterRules.Rule.{rule}
+use Rattle.router_examples.specs.RouterRules.Facts.{Facts}
+use Rattle.router_examples.specs.RouterRules.Inputs.{Wait, Came, Send}
+use Rattle.router_examples.specs.RouterRules.NodeConfig.{NodeConfig}
+use Rattle.router_examples.specs.RouterRules.Rule.{rule}
 use Rattle.tree_model.specs.declared.hops.End.{End}
 use Rattle.tree_model.specs.Networks.{Net, end_at, iface_of, link_of, peers}
 use Rattle.network_model.specs.Links.{is_group, goes_to, copy_to}

@@ -1,9 +1,9 @@
 -- What is left over at a node, as the node keeps it.
 use Rattle.std.specs.Prelude.{ℕ, ◌==◌, List, [], ◌∷◌, map as each}
 use Rattle.std.specs.List.{filter}
-use Rattle.router_rows.specs.RouterRules.Calls.{with_left}
-use Rattle.router_rows.specs.RouterRules.Facts.{Facts, no_facts}
-use Rattle.router_rows.specs.RouterRules.Inputs.{Stale}
+use Rattle.router_examples.specs.RouterRules.Calls.{with_left}
+use Rattle.router_examples.specs.RouterRules.Facts.{Facts, no_facts}
+use Rattle.router_examples.specs.RouterRules.Inputs.{Stale}
 
 abbrev pub stale_at : ℕ → List (ℕ × Stale) → List Stale
 stale_at node stale = each (λ s. s.1) (filter (λ s. s.0 == node) stale)

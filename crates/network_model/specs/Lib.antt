@@ -14,8 +14,8 @@ pub mod Sound
 pub mod Bounds
 pub mod Laws
 pub mod Rows
-pub use Rattle.router_rows.specs.ThreeRouters
-pub use Rattle.router_rows.specs.RouterRules.NodeConfig
-pub use Rattle.router_rows.specs.RsvpMessages.Units
-pub use Rattle.router_rows.specs.RouterRules
+pub use Rattle.router_examples.specs.ThreeRouters
+pub use Rattle.router_examples.specs.RouterRules.NodeConfig
+pub use Rattle.router_examples.specs.RsvpMessages.Units
+pub use Rattle.router_examples.specs.RouterRules
 pub use Rattle.tree_model.specs as TreeModel

@@ -3,8 +3,8 @@ use Rattle.std.specs.Prelude.{◌≡◌, ℕ, nat_le, nat_lt, Bool, true, false,
 use Rattle.std.specs.List.{filter, flat_map}
 use Rattle.rsvp_base.specs.declared.addr.Addr.{Addr}
 use Rattle.tree_model.specs.Goals.{addr_of}
-use Rattle.router_rows.specs.RouterRules.Inputs.{Send, Spelt}
-use Rattle.router_rows.specs.RouterRules.NodeConfig.{is_addr}
+use Rattle.router_examples.specs.RouterRules.Inputs.{Send, Spelt}
+use Rattle.router_examples.specs.RouterRules.NodeConfig.{is_addr}
 use Rattle.tree_model.specs.declared.hops.End.{End}
 use Rattle.tree_model.specs.Networks.{Net, end_at, peers}
 use Rattle.network_model.specs.Worlds.{Item}

@@ -9,7 +9,7 @@ use Rattle.rsvp_base.specs.TokenBucket.{TokenBucket}
 use Rattle.tree_model.specs.declared.locals.LocalSender.{LocalSender}
 use Rattle.tree_model.specs.declared.locals.LocalWant.{LocalWant}
 use Rattle.tree_model.specs.Wants.{Locals}
-use Rattle.router_rows.specs.RouterRules.Facts.{Facts, SenderKey, sender_keys, WantKey, Want}
+use Rattle.router_examples.specs.RouterRules.Facts.{Facts, SenderKey, sender_keys, WantKey, Want}
 use Rattle.network_model.specs.Worlds.{World}
 
 -- ---- senders and wants of the nodes from number n on

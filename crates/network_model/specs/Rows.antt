@@ -6,9 +6,9 @@ use Rattle.rsvp_base.specs.declared.style.Unit.TheVariants.{One}
 use Rattle.rsvp_base.specs.Sets.{set_of}
 use Rattle.rsvp_base.specs.Table.{empty}
 use Rattle.rsvp_base.specs.TokenBucket.{TokenBucket}
-use Rattle.router_rows.specs.RsvpMessages.declared.fault.Fault.TheVariants as fault
-use Rattle.router_rows.specs.RouterRules.Inputs.{SendAs, WantAs, QuitAll, Spelt, Unspelt, Stale, StaleResv}
-use Rattle.router_rows.specs.ThreeRouters.{ip, s1, r1, r2, t1, r3, u1, group, session, first, usual, flow, path}
+use Rattle.router_examples.specs.RsvpMessages.declared.fault.Fault.TheVariants as fault
+use Rattle.router_examples.specs.RouterRules.Inputs.{SendAs, WantAs, QuitAll, Spelt, Unspelt, Stale, StaleResv}
+use Rattle.router_examples.specs.ThreeRouters.{ip, s1, r1, r2, t1, r3, u1, group, session, first, usual, flow, path}
 use Rattle.tree_model.specs.declared.hops.End.{End}
 use Rattle.tree_model.specs.declared.hops.TreeHop.{TreeHop}
 use Rattle.tree_model.specs.Networks.{Net}

@@ -2,20 +2,20 @@
 use Rattle.std.specs.Prelude.{ℕ, ◌==◌, nat_lt, Bool, true, false, cond, List, [], ◌∷◌, ◌++◌, map as each, length, codes, Option, None, Some, slice_get}
 use Rattle.std.specs.Fmt.{decimal}
 use Rattle.std.specs.List.{flat_map, range_with_len}
-use Rattle.router_rows.specs.RsvpMessages.declared.message.Kind.{Kind}
-use Rattle.router_rows.specs.RsvpMessages.declared.message.Kind.TheVariants as kind
-use Rattle.router_rows.specs.RsvpMessages.Kinds.{kind_of}
+use Rattle.router_examples.specs.RsvpMessages.declared.message.Kind.{Kind}
+use Rattle.router_examples.specs.RsvpMessages.declared.message.Kind.TheVariants as kind
+use Rattle.router_examples.specs.RsvpMessages.Kinds.{kind_of}
 use Rattle.calm_rounds.specs.Machine.{run}
-use Rattle.router_rows.specs.RouterRules.declared.answers.Heard.{Heard}
-use Rattle.router_rows.specs.RouterRules.declared.answers.Heard.TheVariants as heard
-use Rattle.router_rows.specs.RouterRules.declared.answers.Why.{Why}
-use Rattle.router_rows.specs.RouterRules.declared.answers.Why.TheVariants as why
-use Rattle.router_rows.specs.RouterRules.Books.{book}
-use Rattle.router_rows.specs.RouterRules.Facts.{Facts, no_facts}
-use Rattle.router_rows.specs.RouterRules.Flags.{entries_at}
-use Rattle.router_rows.specs.RouterRules.Inputs.{Arrival, Spelt, Unspelt, Stale}
-use Rattle.router_rows.specs.RouterRules.NodeConfig.{NodeConfig}
-use Rattle.router_rows.specs.RouterRules.Rule.{facts_with}
+use Rattle.router_examples.specs.RouterRules.declared.answers.Heard.{Heard}
+use Rattle.router_examples.specs.RouterRules.declared.answers.Heard.TheVariants as heard
+use Rattle.router_examples.specs.RouterRules.declared.answers.Why.{Why}
+use Rattle.router_examples.specs.RouterRules.declared.answers.Why.TheVariants as why
+use Rattle.router_examples.specs.RouterRules.Books.{book}
+use Rattle.router_examples.specs.RouterRules.Facts.{Facts, no_facts}
+use Rattle.router_examples.specs.RouterRules.Flags.{entries_at}
+use Rattle.router_examples.specs.RouterRules.Inputs.{Arrival, Spelt, Unspelt, Stale}
+use Rattle.router_examples.specs.RouterRules.NodeConfig.{NodeConfig}
+use Rattle.router_examples.specs.RouterRules.Rule.{facts_with}
 use Rattle.tree_model.specs.declared.hops.End.{End}
 use Rattle.tree_model.specs.Networks.{Net, iface_of}
 use Rattle.tree_model.specs.Trees.{trees_of}

@@ -10,15 +10,15 @@ use Rattle.rsvp_base.specs.Members.{In}
 use Rattle.rsvp_base.specs.Orders.{Names}
 use Rattle.rsvp_base.specs.Table.{get, size}
 use Rattle.rsvp_base.specs.TokenBucket.{TokenBucket}
-use Rattle.router_rows.specs.RsvpMessages.declared.message.Message.TheVariants as message
-use Rattle.router_rows.specs.RsvpMessages.declared.message.PathMsg.{PathMsg}
-use Rattle.router_rows.specs.RsvpMessages.declared.message.ResvErrMsg.{ResvErrMsg}
-use Rattle.router_rows.specs.RsvpMessages.declared.message.ResvMsg.{ResvMsg}
-use Rattle.router_rows.specs.RsvpMessages.Units.{AskedUnit, ask_style, asked_units}
+use Rattle.router_examples.specs.RsvpMessages.declared.message.Message.TheVariants as message
+use Rattle.router_examples.specs.RsvpMessages.declared.message.PathMsg.{PathMsg}
+use Rattle.router_examples.specs.RsvpMessages.declared.message.ResvErrMsg.{ResvErrMsg}
+use Rattle.router_examples.specs.RsvpMessages.declared.message.ResvMsg.{ResvMsg}
+use Rattle.router_examples.specs.RsvpMessages.Units.{AskedUnit, ask_style, asked_units}
 use Rattle.tree_model.specs.Goals.{addr_of}
 use Rattle.tree_model.specs.Wants.{want}
-use Rattle.router_rows.specs.RouterRules.Facts.{Facts, SenderKey, PathState, ResvState, resvs_of}
-use Rattle.router_rows.specs.RouterRules.Inputs.{Spelt}
+use Rattle.router_examples.specs.RouterRules.Facts.{Facts, SenderKey, PathState, ResvState, resvs_of}
+use Rattle.router_examples.specs.RouterRules.Inputs.{Spelt}
 use Rattle.tree_model.specs.Lines.{LineKey}
 use Rattle.tree_model.specs.Parts.{part_le}
 use Rattle.tree_model.specs.declared.hops.LinkHop.{LinkHop}

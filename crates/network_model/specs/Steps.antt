@@ -6,15 +6,15 @@ use Rattle.rsvp_base.specs.declared.addr.Addr.{Addr}
 use Rattle.rsvp_base.specs.declared.session.Sender.{Sender}
 use Rattle.rsvp_base.specs.declared.session.Session.{Session}
 use Rattle.rsvp_base.specs.declared.style.StyleKind.{StyleKind}
-use Rattle.router_rows.specs.RsvpMessages.declared.message.Message.{Message}
-use Rattle.router_rows.specs.RsvpMessages.declared.message.Message.TheVariants as message
-use Rattle.router_rows.specs.RsvpMessages.Units.{ask_style}
+use Rattle.router_examples.specs.RsvpMessages.declared.message.Message.{Message}
+use Rattle.router_examples.specs.RsvpMessages.declared.message.Message.TheVariants as message
+use Rattle.router_examples.specs.RsvpMessages.Units.{ask_style}
 use Rattle.calm_rounds.specs.Machine.{Machine, items_of}
-use Rattle.router_rows.specs.RouterRules.declared.answers.Heard.TheVariants as heard
-use Rattle.router_rows.specs.RouterRules.Facts.{Facts}
-use Rattle.router_rows.specs.RouterRules.Inputs.{Arrival, Spelt, Unspelt, Input, Call, Wait, Clear, Came, Moved, Local}
-use Rattle.router_rows.specs.RouterRules.NodeConfig.{is_addr}
-use Rattle.router_rows.specs.RouterRules.Rule.{Outcome, rule}
+use Rattle.router_examples.specs.RouterRules.declared.answers.Heard.TheVariants as heard
+use Rattle.router_examples.specs.RouterRules.Facts.{Facts}
+use Rattle.router_examples.specs.RouterRules.Inputs.{Arrival, Spelt, Unspelt, Input, Call, Wait, Clear, Came, Moved, Local}
+use Rattle.router_examples.specs.RouterRules.NodeConfig.{is_addr}
+use Rattle.router_examples.specs.RouterRules.Rule.{Outcome, rule}
 use Rattle.tree_model.specs.declared.hops.End.{End}
 use Rattle.tree_model.specs.declared.hops.LinkHop.{LinkHop}
 use Rattle.tree_model.specs.declared.hops.TreeHop.{TreeHop}

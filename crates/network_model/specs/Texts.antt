@@ -1,11 +1,11 @@
--- The text of a report of a network, in the lines of report_texts: the book of an end, plain and with policing flags.
+-- The text of a report of a network, in the lines of `value_texts`: the book of an end, plain and with policing flags.
 use Rattle.std.specs.Prelude.{ℕ, Bool, true, false, List, ◌++◌, map as each, codes}
 use Rattle.std.specs.List.{flat_map}
 use Rattle.rsvp_base.specs.declared.entry_key.EntryKey.{EntryKey}
 use Rattle.rsvp_base.specs.declared.part.Part.{Part}
-use Rattle.report_texts.specs.Texts.{entry_line, head_text, held_of, book_text}
-use Rattle.router_rows.specs.RouterRules.declared.entry.Entry.{Entry}
-use Rattle.router_rows.specs.RouterRules.declared.entry.Police.{Police}
+use Rattle.value_texts.specs.Reports.{entry_line, head_text, held_of, book_text}
+use Rattle.router_examples.specs.RouterRules.declared.entry.Entry.{Entry}
+use Rattle.router_examples.specs.RouterRules.declared.entry.Police.{Police}
 use Rattle.tree_model.specs.Lines.{BookTable}
 
 -- ---- a book without flags

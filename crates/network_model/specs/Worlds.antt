@@ -2,10 +2,10 @@
 use Rattle.std.specs.Prelude.{ℕ, ◌^◌, Bool, List, [], ◌∷◌, map as each, Option, None, Some, bit_or, slice_get}
 use Rattle.rsvp_base.specs.declared.addr.Addr.{Addr}
 use Rattle.rsvp_base.specs.declared.iface.Iface.{Iface}
-use Rattle.router_rows.specs.RouterRules.declared.route.Route.{Route}
-use Rattle.router_rows.specs.RouterRules.Facts.{Facts}
-use Rattle.router_rows.specs.RouterRules.Inputs.{Arrival}
-use Rattle.router_rows.specs.RouterRules.NodeConfig.{NodeConfig}
+use Rattle.router_examples.specs.RouterRules.declared.route.Route.{Route}
+use Rattle.router_examples.specs.RouterRules.Facts.{Facts}
+use Rattle.router_examples.specs.RouterRules.Inputs.{Arrival}
+use Rattle.router_examples.specs.RouterRules.NodeConfig.{NodeConfig}
 use Rattle.tree_model.specs.declared.hops.End.{End}
 use Rattle.tree_model.specs.Networks.{Net, ends_of, iface_of}
 use Rattle.tree_model.specs.Trees.{iface_in, inward, outward}

@@ -45,7 +45,8 @@ and_again false b c = refl
 
 pub other_more : (xs ys : List ℕ) → all_other (xs ++ ys) ≡ (all_other xs && all_other ys)
 other_more [] ys = refl
-other_more (x ∷ xs) ys = ap (λ (b : Bool). not (service x == 1) && not (service x == 5) && b) (other_more xs ys) ∙ and_again (not (service x == 1) && not (service x == 5)) (all_other xs) (all_other ys)
+other_more (x ∷ xs) ys = ap (λ (b : Bool). not (service x == 1) && not (service x == 5) && b) (other_more xs ys)
+    ∙ and_again (not (service x == 1) && not (service x == 5)) (all_other xs) (all_other ys)
 
 -- ---- one word more
 

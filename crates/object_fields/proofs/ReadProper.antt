@@ -62,7 +62,8 @@ still_missing : (due : ℕ) (ws : List ℕ) → IsEmpty (loads (heads due ws)) �
 still_missing due [] h = refl
 still_missing zero (w ∷ ws) h = by_load (λ (rest : IsEmpty (loads (heads (counted w) ws))). still_missing (counted w) ws rest) (is_load w) refl
   where
-    by_load : (IsEmpty (loads (heads (counted w) ws)) → missing (counted w) (others (counted w) ws) ≡ missing (counted w) ws) → (b : Bool) → is_load w ≡ b → missing 0 (others 0 (w ∷ ws)) ≡ missing (counted w) ws
+    by_load : (IsEmpty (loads (heads (counted w) ws)) → missing (counted w) (others (counted w) ws) ≡ missing (counted w) ws) → (b : Bool) → is_load w ≡ b
+        → missing 0 (others 0 (w ∷ ws)) ≡ missing (counted w) ws
     by_load more true e =
         let p = first_empty w (heads (counted w) ws) e h in
         ap (missing 0) (without w ws e) ∙ ap (λ (n : ℕ). missing n (others (counted w) ws)) (sym p.0) ∙ more p.1
@@ -77,7 +78,8 @@ still_other zero (w ∷ ws) g h =
     first : (not (is_general w) ≡ true) × (none_general (heads (counted w) ws) ≡ true)
     first = both (not (is_general w)) (none_general (heads (counted w) ws)) g
 
-    by_load : (none_general (heads (counted w) ws) ≡ true → IsEmpty (loads (heads (counted w) ws)) → all_other (heads (counted w) (others (counted w) ws)) ≡ true) → (b : Bool) → is_load w ≡ b → all_other (heads 0 (others 0 (w ∷ ws))) ≡ true
+    by_load : (none_general (heads (counted w) ws) ≡ true → IsEmpty (loads (heads (counted w) ws)) → all_other (heads (counted w) (others (counted w) ws)) ≡ true) → (b : Bool) → is_load w ≡ b
+        → all_other (heads 0 (others 0 (w ∷ ws))) ≡ true
     by_load more true e =
         let p = first_empty w (heads (counted w) ws) e h in
         ap (λ (t : List ℕ). all_other (heads 0 t)) (without w ws e) ∙ ap (λ (n : ℕ). all_other (heads n (others (counted w) ws))) (sym p.0) ∙ more first.1 p.1
@@ -112,7 +114,8 @@ values_read body a h e =
     let rate = gave _ (peak_at 20 body) a e in
     let behind = gave _ (behind_in (words_in (drop 40 body))) a rate.rest in
     let kept = fragments_read (words_in (drop 40 body)) behind.value (words_small (drop 40 body) (bytes_behind 40 body h)) behind.was in
-    subst IsAdspec (some_said behind.rest) (record { hops = word_small 12 body h; rate = peak_proper 20 body rate.value rate.was; latency = word_small 28 body h; mtu = word_small 36 body h; others = kept.0; words = kept.1 })
+    subst IsAdspec (some_said behind.rest)
+    (record { hops = word_small 12 body h; rate = peak_proper 20 body rate.value rate.was; latency = word_small 28 body h; mtu = word_small 36 body h; others = kept.0; words = kept.1 })
 
 pub what_is_read_can_be_written : WhatIsReadCanBeWritten
 unfolding adspec_in

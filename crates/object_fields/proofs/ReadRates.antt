@@ -40,7 +40,13 @@ whole_proper w p unsigned low high e =
             | inr r ↦
                 let below : x / 2 ^ 150 < 2 ^ 46 = leb-false (2 ^ 46) (x / 2 ^ 150) r.0 in
                 let scaled : x / 2 ^ 150 * 2 ^ 150 ≡ x = omega (arith, whole) in
-                subst IsPeak (peak_said r.1) (rate_of_word_number w (x / 2 ^ 150) (inr (record { positive = omega (arith, some, whole); below = below; normal = record { unsigned = unsigned; not_least = low; not_most = high }; scaled = scaled })))
+                subst IsPeak (peak_said r.1) (rate_of_word_number w (x / 2 ^ 150) (inr (record {
+                  positive = omega
+                      (arith, some, whole);
+                  below = below;
+                  normal = record { unsigned = unsigned; not_least = low; not_most = high };
+                  scaled = scaled;
+                })))
           ]
     ]
 

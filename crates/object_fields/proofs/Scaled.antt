@@ -1,11 +1,10 @@
 -- A mantissa times a power of 2, against the equation of a rate word.
-use Rattle.std.proofs.Common.{◌≡◌, ℕ, suc, ◌+◌, ◌-◌, ◌*◌, ◌/◌, ◌%◌, ◌^◌, ◌<◌, ◌≤◌, sym, ap, subst, ◌∙◌, arith, ⊎_elim, inl, inr}
+use Rattle.std.proofs.Common.{◌≡◌, ℕ, suc, ◌+◌, ◌-◌, ◌*◌, ◌/◌, ◌%◌, ◌^◌, ◌<◌, ◌≤◌, sym, ap, subst, ◌∙◌, arith, ⊎_elim, inl, inr, zero}
 use Rattle.std.specs.Int.{bit_at}
 use Rattle.std.proofs.lemmas.Nat.{pow-add, pow_pos, shl_below, mul-le, shl-shr, shl_whole, shr_below, le-div}
 use Rattle.std.proofs.lemmas.Nat.Bits.{bit_at-suc, bit_at_lowest, bit_at_cat_low, bit_at_above, bit_at-zero, bit_at-lt}
 use Rattle.std.proofs.lemmas.Bool.{cases_lt}
 use Rattle.std.proofs.Math.Nat.{pow-suc, eq_of_mul-eq-mul_right, pow-le-pow_right}
-use Rattle.std.proofs.Common.{zero}
 use Rattle.rsvp_base.specs.Rates.{IsRate}
 use Rattle.rsvp_base.proofs.RateBits.{highest_bit}
 use Rattle.rsvp_base.specs.declared.flow.Peak.{Peak}
@@ -93,11 +92,13 @@ word_of_fields e m n some finite low short pos below eq =
 pub multiple_below : (n j : ℕ) → 0 < n → IsRate n → 2 ^ j ≤ n → n < 2 ^ suc j → 23 ≤ j → n / 2 ^ (j - 23) * 2 ^ (j - 23) ≡ n
 multiple_below n j pos rate low high far =
     let k = j - 23 in
-    let r = multiple_of_pow k n (λ i h. ⊎_elim (λ z. let e : bit_at n i ≡ 0 = omega arith in e) (λ o. absurd (let one : bit_at n i ≡ 1 = omega (arith, bit_at-lt n i) in let near = rate.near i j one (highest_bit j n low high) in omega (arith, near))) (cases_lt (bit_at n i) 1)) in
+    let r = multiple_of_pow k n (λ i h. ⊎_elim (λ z. let e : bit_at n i ≡ 0 = omega arith in e)
+    (λ o. absurd (let one : bit_at n i ≡ 1 = omega (arith, bit_at-lt n i) in let near = rate.near i j one (highest_bit j n low high) in omega (arith, near))) (cases_lt (bit_at n i) 1)) in
     ap (λ x. x / 2 ^ k * 2 ^ k) r.1 ∙ ap (λ x. x * 2 ^ k) (shl-shr r.0 k) ∙ sym r.1
 
 -- the mantissa of a number of at most 24 bits
-pub left : (n j : ℕ) → 2 ^ j ≤ n → n < 2 ^ suc j → j ≤ 23 → (n * 2 ^ (23 - j) % 2 ^ 64 ≡ n * 2 ^ (23 - j)) × (2 ^ 23 ≤ n * 2 ^ (23 - j)) × (n * 2 ^ (23 - j) < 2 ^ 24) × (n * 2 ^ 150 ≡ (n * 2 ^ (23 - j)) * 2 ^ (j + 127))
+pub left : (n j : ℕ) → 2 ^ j ≤ n → n < 2 ^ suc j → j ≤ 23 → (n * 2 ^ (23 - j) % 2 ^ 64 ≡ n * 2 ^ (23 - j)) × (2 ^ 23 ≤ n * 2 ^ (23 - j)) × (n * 2 ^ (23 - j) < 2 ^ 24)
+    × (n * 2 ^ 150 ≡ (n * 2 ^ (23 - j)) * 2 ^ (j + 127))
 left n j low high near =
     let k = 23 - j in
     let two : 0 < 2 = omega arith in
@@ -106,8 +107,12 @@ left n j low high near =
     let sum : j + k ≡ 23 = omega arith in
     let sum' : suc j + k ≡ 24 = omega arith in
     let floor : 2 ^ 23 ≡ 2 ^ j * 2 ^ k = ap (λ x. 2 ^ x) (sym sum) ∙ pow-add 2 j k in
-    let roof : 2 ^ (suc j + k) ≡ 2 ^ 24 = ap (λ x. 2 ^ x) sum' in
-    (shl_whole n 24 k 64 short (omega arith), omega (arith, floor, mul-le (2 ^ j) (2 ^ k) n (2 ^ k) low (omega arith)), omega (arith, shl_below n (suc j) k high, roof), sym (scaled_up n k (j + 127) 150 (omega arith)))
+    let roof : 2 ^ (suc j + k) ≡ 2 ^ 24 = ap (λ x. 2 ^ x) sum' in (
+      shl_whole n 24 k 64 short (omega arith),
+      omega (arith, floor, mul-le (2 ^ j) (2 ^ k) n (2 ^ k) low (omega arith)),
+      omega (arith, shl_below n (suc j) k high, roof),
+      sym (scaled_up n k (j + 127) 150 (omega arith)),
+    )
 
 -- and of a longer one
 pub right : (n j : ℕ) → 0 < n → IsRate n → 2 ^ j ≤ n → n < 2 ^ suc j → 23 ≤ j → (2 ^ 23 ≤ n / 2 ^ (j - 23)) × (n / 2 ^ (j - 23) < 2 ^ 24) × (n * 2 ^ 150 ≡ (n / 2 ^ (j - 23)) * 2 ^ (j + 127))

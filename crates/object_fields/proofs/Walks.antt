@@ -32,7 +32,8 @@ no_room due load kept ws h =
 pub general_again : (load : Option Bool) (kept : List ℕ) (w : ℕ) (ws : List ℕ) → service w ≡ 1 → more_in 0 load kept (w ∷ ws) ≡ None
 general_again load kept w ws h =
     let g : none_general (heads 0 (w ∷ ws)) ≡ false = rw h refl in
-    refused 0 load kept (w ∷ ws) (ap (λ (b : Bool). missing 0 (w ∷ ws) == 0 && b && is_one_more load (loads (heads 0 (w ∷ ws))) && nat_le (length (kept ++ others 0 (w ∷ ws))) 24) g ∙ second_false (missing 0 (w ∷ ws) == 0) (is_one_more load (loads (heads 0 (w ∷ ws)))) (nat_le (length (kept ++ others 0 (w ∷ ws))) 24))
+    refused 0 load kept (w ∷ ws) (ap (λ (b : Bool). missing 0 (w ∷ ws) == 0 && b && is_one_more load (loads (heads 0 (w ∷ ws))) && nat_le (length (kept ++ others 0 (w ∷ ws))) 24) g
+    ∙ second_false (missing 0 (w ∷ ws) == 0) (is_one_more load (loads (heads 0 (w ∷ ws)))) (nat_le (length (kept ++ others 0 (w ∷ ws))) 24))
 
 pub follow_full : (due : ℕ) (load : Option Bool) (kept : List ℕ) (w : ℕ) (ws : List ℕ) → 0 < due → length kept ≡ 24 → more_in due load kept (w ∷ ws) ≡ None
 follow_full zero load kept w ws h full = absurd (omega arith)
@@ -47,7 +48,8 @@ other_full load kept w ws five full =
 pub second_load : (broken : Bool) (kept : List ℕ) (w : ℕ) (ws : List ℕ) → service w ≡ 5 → more_in 0 (Some broken) kept (w ∷ ws) ≡ None
 second_load broken kept w ws h =
     let l : loads (heads 0 (w ∷ ws)) ≡ w ∷ loads (heads (counted w) ws) = rw h refl in
-    refused 0 (Some broken) kept (w ∷ ws) (ap (λ (b : Bool). missing 0 (w ∷ ws) == 0 && none_general (heads 0 (w ∷ ws)) && b && nat_le (length (kept ++ others 0 (w ∷ ws))) 24) (ap (is_one_more (Some broken)) l) ∙ third_false (missing 0 (w ∷ ws) == 0) (none_general (heads 0 (w ∷ ws))) (nat_le (length (kept ++ others 0 (w ∷ ws))) 24))
+    refused 0 (Some broken) kept (w ∷ ws) (ap (λ (b : Bool). missing 0 (w ∷ ws) == 0 && none_general (heads 0 (w ∷ ws)) && b && nat_le (length (kept ++ others 0 (w ∷ ws))) 24)
+    (ap (is_one_more (Some broken)) l) ∙ third_false (missing 0 (w ∷ ws) == 0) (none_general (heads 0 (w ∷ ws))) (nat_le (length (kept ++ others 0 (w ∷ ws))) 24))
 
 pub any_load : (load : Option Bool) (kept : List ℕ) (w : ℕ) (ws : List ℕ) → is_some load ≡ true → service w ≡ 5 → more_in 0 load kept (w ∷ ws) ≡ None
 any_load None kept w ws some h = absurd cc
@@ -64,7 +66,8 @@ one_false w (x ∷ xs) h = refl
 pub load_with_words : (kept : List ℕ) (w : ℕ) (ws : List ℕ) → service w ≡ 5 → 0 < counted w → more_in 0 None kept (w ∷ ws) ≡ None
 load_with_words kept w ws h some =
     let l : loads (heads 0 (w ∷ ws)) ≡ w ∷ loads (heads (counted w) ws) = rw h refl in
-    refused 0 None kept (w ∷ ws) (ap (λ (b : Bool). missing 0 (w ∷ ws) == 0 && none_general (heads 0 (w ∷ ws)) && b && nat_le (length (kept ++ others 0 (w ∷ ws))) 24) (ap is_one_load l ∙ one_false w (loads (heads (counted w) ws)) some) ∙ third_false (missing 0 (w ∷ ws) == 0) (none_general (heads 0 (w ∷ ws))) (nat_le (length (kept ++ others 0 (w ∷ ws))) 24))
+    refused 0 None kept (w ∷ ws) (ap (λ (b : Bool). missing 0 (w ∷ ws) == 0 && none_general (heads 0 (w ∷ ws)) && b && nat_le (length (kept ++ others 0 (w ∷ ws))) 24)
+    (ap is_one_load l ∙ one_false w (loads (heads (counted w) ws)) some) ∙ third_false (missing 0 (w ∷ ws) == 0) (none_general (heads 0 (w ∷ ws))) (nat_le (length (kept ++ others 0 (w ∷ ws))) 24))
 
 -- ---- a word more
 

@@ -3,18 +3,18 @@ use Rattle.std.proofs.Common.{◌≡◌, ℕ, ◌≤◌, List, ◌++◌, Option,
 use Rattle.byte_streams.specs.Reading.{most_bytes}
 use Rattle.script_words.specs.Lines.{line_number, text_lines}
 use Rattle.script_words.specs.declared.fault.LineWhy.{LineWhy}
-use Rattle.line_stream.proofs.Known.{all_known}
-use Rattle.line_stream.proofs.Places.{which_place}
+use Rattle.byte_streams.proofs.Known.{all_known}
+use Rattle.byte_streams.proofs.Places.{which_place}
 use Rattle.packet_lines.specs.Drafts.{Draft, HasFault, Leads, nothing}
 use Rattle.packet_lines.specs.Endings.{ComesTo, HasRun, IsFirstBad, IsOrNoMemory, IsPoliced, IsWhole}
-use Rattle.packet_lines.specs.Texts.{last_text, told_text}
+use Rattle.packet_lines.specs.Texts.{last_text, verdicts_text}
 use Rattle.packet_lines.specs.declared.ending.Ending.{Ending}
 use Rattle.packet_lines.specs.declared.ending.Ending.TheVariants.{Done, BadLine, ReadFault, WriteFault, NoMemory, TooLong}
 use Rattle.packet_lines.proofs.Leading.{fault_one, leads_one, no_way_past}
 
 -- ---- one text for lines that were policed
 one_text : (lines : List (List ℕ)) (x y : List ℕ) → HasRun lines x → HasRun lines y → x ≡ y
-one_text lines x y a b = a.run ∙ ap (λ (d : Draft). told_text d.told) (leads_one nothing lines a.draft b.draft a.leads b.leads) ∙ sym b.run
+one_text lines x y a b = a.run ∙ ap (λ (d : Draft). verdicts_text d.verdicts) (leads_one nothing lines a.draft b.draft a.leads b.leads) ∙ sym b.run
 
 whole_one : (bytes x y : List ℕ) → IsWhole bytes x → IsWhole bytes y → x ≡ y
 whole_one bytes x y a b =
@@ -37,8 +37,10 @@ bad_same bytes x y m n v w f g = elim (which_place f.at.before f.at.line f.at.af
       let why : v ≡ w = fault_one g.at.ran.draft g.at.line v w fault g.at.holds in
       (ap (λ k. BadLine k v) number ∙ ap (λ z. BadLine n z) why, one_text g.at.before x y there g.at.ran))
   | inr h ↦ elim h [
-    | inl k ↦ absurd (no_way_past g.at.before g.at.line k.0 g.at.ran.draft f.at.ran.draft w g.at.ran.leads g.at.holds (subst (λ (ls : List (List ℕ)). Leads nothing ls f.at.ran.draft) k.1 f.at.ran.leads))
-    | inr k ↦ absurd (no_way_past f.at.before f.at.line k.0 f.at.ran.draft g.at.ran.draft v f.at.ran.leads f.at.holds (subst (λ (ls : List (List ℕ)). Leads nothing ls g.at.ran.draft) k.1 g.at.ran.leads))
+    | inl k ↦ absurd (no_way_past g.at.before g.at.line k.0 g.at.ran.draft f.at.ran.draft w g.at.ran.leads g.at.holds
+        (subst (λ (ls : List (List ℕ)). Leads nothing ls f.at.ran.draft) k.1 f.at.ran.leads))
+    | inr k ↦ absurd (no_way_past f.at.before f.at.line k.0 f.at.ran.draft g.at.ran.draft v f.at.ran.leads f.at.holds
+        (subst (λ (ls : List (List ℕ)). Leads nothing ls g.at.ran.draft) k.1 g.at.ran.leads))
   ]
 ]
 
@@ -61,7 +63,8 @@ one_ending bytes x y NoMemory b h k = absurd h
 one_ending bytes x y TooLong b h k = absurd h
 
 -- ---- policing known bytes
-pub comes_to : (got wanted : Ending) (old new before after : Option (List ℕ)) (bytes text : List ℕ) → IsPoliced got old new before after → old ≡ Some bytes → length bytes ≤ most_bytes → ComesTo wanted bytes text
+pub comes_to : (got wanted : Ending) (old new before after : Option (List ℕ)) (bytes text : List ℕ) → IsPoliced got old new before after → old ≡ Some bytes → length bytes ≤ most_bytes
+    → ComesTo wanted bytes text
     → (got ≡ ReadFault → ⊥) → (got ≡ WriteFault → ⊥) → IsOrNoMemory wanted got
 comes_to Done wanted old new before after bytes text r e le c read write =
     let known = all_known old new bytes r.taken e r.took in

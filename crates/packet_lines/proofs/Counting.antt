@@ -18,37 +18,37 @@ use Rattle.packet_lines.specs.declared.line.PacketLine.TheVariants as line
 -- at most one more of each
 record IsOneMore (d new : Draft) : Type 0 where
   passed : length new.passed ≤ length d.passed + 1
-  told : length new.told ≤ length d.told + 1
+  verdicts : length new.verdicts ≤ length d.verdicts + 1
 
 passed_more : (v : Verdict) (ps : List Packet) (x : Packet) → length (with_passed v ps x) ≤ length ps + 1
 passed_more Pass ps x = omega (arith, length-append ps (x ∷ []))
 passed_more Over ps x = omega arith
 passed_more Big ps x = omega arith
 
-same_more : (d new : Draft) → new.passed ≡ d.passed → new.told ≡ d.told → IsOneMore d new
+same_more : (d new : Draft) → new.passed ≡ d.passed → new.verdicts ≡ d.verdicts → IsOneMore d new
 same_more d new p t = record {
   passed = omega (arith, ap (λ (xs : List Packet). length xs) p);
-  told = omega (arith, ap (λ (xs : List Verdict). length xs) t);
+  verdicts = omega (arith, ap (λ (xs : List Verdict). length xs) t);
 }
 
 offered_more : (f : Option TokenBucket) (d : Draft) (x : Packet) (new : Draft) → IsOffered f d x new → IsOneMore d new
 offered_more None d x new i = absurd i
 offered_more (Some f) d x new i = record {
   passed = omega (arith, ap (λ (n : Draft). length n.passed) i.2, passed_more i.0 d.passed x);
-  told = omega (arith, ap (λ (n : Draft). length n.told) i.2, length-append d.told (i.0 ∷ []));
+  verdicts = omega (arith, ap (λ (n : Draft). length n.verdicts) i.2, length-append d.verdicts (i.0 ∷ []));
 }
 
 adds_more : (d : Draft) (said : PacketLine) (new : Draft) → Adds d said new → IsOneMore d new
-adds_more d line.Skipped new x = same_more d new (ap (λ (n : Draft). n.passed) x) (ap (λ (n : Draft). n.told) x)
-adds_more d (line.Flow w) new x = same_more d new (ap (λ (n : Draft). n.passed) x) (ap (λ (n : Draft). n.told) x)
+adds_more d line.Skipped new x = same_more d new (ap (λ (n : Draft). n.passed) x) (ap (λ (n : Draft). n.verdicts) x)
+adds_more d (line.Flow w) new x = same_more d new (ap (λ (n : Draft). n.passed) x) (ap (λ (n : Draft). n.verdicts) x)
 adds_more d (line.Packet at size) new x = offered_more d.flow d (packet at size) new x
 
-leads_more : (d : Draft) (ts : List (List ℕ)) (new : Draft) → Leads d ts new → (length new.passed ≤ length d.passed + length ts) × (length new.told ≤ length d.told + length ts)
-leads_more d [] new l = (omega (arith, ap (λ (n : Draft). length n.passed) l), omega (arith, ap (λ (n : Draft). length n.told) l))
+leads_more : (d : Draft) (ts : List (List ℕ)) (new : Draft) → Leads d ts new → (length new.passed ≤ length d.passed + length ts) × (length new.verdicts ≤ length d.verdicts + length ts)
+leads_more d [] new l = (omega (arith, ap (λ (n : Draft). length n.passed) l), omega (arith, ap (λ (n : Draft). length n.verdicts) l))
 leads_more d (t ∷ ts) new l =
     let one = adds_more d l.1.said l.0 l.1.adds in
     let rest = leads_more l.0 ts new l.2 in
-    (omega (arith, one.passed, rest.0), omega (arith, one.told, rest.1))
+    (omega (arith, one.passed, rest.0), omega (arith, one.verdicts, rest.1))
 
 -- ---- lines and bytes
 last_few : (last : List ℕ) (b : Bool) → length (cond b [] (last ∷ [])) ≤ 1
@@ -64,7 +64,8 @@ lines_few : (bytes : List ℕ) → length (text_lines bytes) ≤ length bytes + 
 lines_few bytes = omega (arith, without_few (parts_of 10 bytes), length-slice_split (λ c. c == 10) bytes, count_by-le-length (λ c. c == 10) bytes)
 
 -- ---- counts
-pub counts_exact : (lines : List (List ℕ)) (bytes : List ℕ) (d : Draft) → Leads nothing lines d → text_lines bytes ≡ lines → length bytes ≤ most_bytes → (counted (length d.passed) ≡ length d.passed) × (counted (length d.told) ≡ length d.told)
+pub counts_exact : (lines : List (List ℕ)) (bytes : List ℕ) (d : Draft) → Leads nothing lines d → text_lines bytes ≡ lines → length bytes ≤ most_bytes
+    → (counted (length d.passed) ≡ length d.passed) × (counted (length d.verdicts) ≡ length d.verdicts)
 counts_exact lines bytes d l same few =
     let more = leads_more nothing lines d l in
     let count = lines_few bytes in

@@ -1,5 +1,6 @@
 -- A line behind those before, as the code keeps them.
-use Rattle.std.proofs.Common.{◌≡◌, ℕ, ◌+◌, ◌<◌, ◌≤◌, Bool, true, false, List, [], ◌∷◌, ◌++◌, Option, None, Some, is_some, Result, Ok, Err, length, refl, sym, ap, subst, ◌∙◌, append-nil, arith, length-append}
+use Rattle.std.proofs.Common.{◌≡◌, ℕ, ◌+◌, ◌<◌, ◌≤◌, Bool, true, false, List, [], ◌∷◌, ◌++◌, Option, None, Some, is_some, Result, Ok, Err, length, refl, sym, ap, subst, ◌∙◌, append-nil}
+use Rattle.std.proofs.Common.{arith, length-append}
 use Rattle.std.proofs.lemmas.List.Concat.{flat_map-append, flat_map-cons}
 use Rattle.rsvp_base.specs.TokenBucket.{TokenBucket}
 use Rattle.script_words.specs.Flows.{IsFlow, flow_value}
@@ -12,8 +13,8 @@ use Rattle.load_policer.specs.declared.policer.Verdict.TheVariants.{Pass, Over, 
 use Rattle.packet_lines.specs.Advice.{IsAdvice, IsAdviceFor}
 use Rattle.packet_lines.specs.Drafts.{Draft, HasFault, IsOffered, IsPacket, with_flow, with_packet}
 use Rattle.packet_lines.specs.Grammar.{line_behind}
-use Rattle.packet_lines.specs.Standings.{IsAdded, IsBucketOf, IsFed, IsFlowFed, IsPacketFed, IsTold, IsToldSo, Stands, counted, passed_count}
-use Rattle.packet_lines.specs.Texts.{told_text, verdict_text}
+use Rattle.packet_lines.specs.Standings.{IsAdded, IsBucketOf, IsFed, IsFlowFed, IsPacketFed, IsJudged, HasVerdict, Stands, counted, passed_count}
+use Rattle.packet_lines.specs.Texts.{verdicts_text, verdict_text}
 use Rattle.packet_lines.specs.declared.line.PacketLine.{PacketLine}
 use Rattle.packet_lines.specs.declared.line.PacketLine.TheVariants as line
 use Rattle.packet_lines.specs.declared.standing.Standing.{Standing}
@@ -23,8 +24,8 @@ same_flow d None b = ap is_some (sym b.0)
 same_flow d (Some x) b = ap is_some (sym b.0)
 
 pub advice_so : (d : Draft) (s : Standing) (text : List ℕ) (y : LineWhy) (advice : List ℕ) → Stands s d → IsAdviceFor (is_some s.policer) s.last text y advice → IsAdvice d text y advice
-advice_so d s text y advice st told =
-    subst (λ (b : Bool). IsAdviceFor b d.last text y advice) (same_flow d s.policer st.bucket) (subst (λ (n : ℕ). IsAdviceFor (is_some s.policer) n text y advice) st.last told)
+advice_so d s text y advice st advised =
+    subst (λ (b : Bool). IsAdviceFor b d.last text y advice) (same_flow d s.policer st.bucket) (subst (λ (n : ℕ). IsAdviceFor (is_some s.policer) n text y advice) st.last advised)
 
 -- ---- a line that is bad
 module _ (d : Draft) (text : List ℕ) (s : Standing) (st : Stands s d) (short : length text ≤ 2048) where
@@ -45,10 +46,10 @@ module _ (d : Draft) (text : List ℕ) (s : Standing) (st : Stands s d) (short :
     no_packet le out = (short, record { said = line.Packet at size; reads = reads_so (Some (line.Packet at size)) e; in_time = omega (arith, le, st.last); out = out })
 
     -- ---- a line that follows
-    one_told : (told : List Verdict) (v : Verdict) → told_text (told ++ v ∷ []) ≡ told_text told ++ verdict_text v
-    one_told told v = flat_map-append verdict_text told (v ∷ []) ∙ ap (λ (t : List ℕ). told_text told ++ t) (flat_map-cons verdict_text v [] ∙ append-nil (verdict_text v))
+    one_more_verdict : (verdicts : List Verdict) (v : Verdict) → verdicts_text (verdicts ++ v ∷ []) ≡ verdicts_text verdicts ++ verdict_text v
+    one_more_verdict verdicts v = flat_map-append verdict_text verdicts (v ∷ []) ∙ ap (λ (t : List ℕ). verdicts_text verdicts ++ t) (flat_map-cons verdict_text v [] ∙ append-nil (verdict_text v))
 
-    pub packet_added : (new : Standing) (before after : List ℕ) → s.last ≤ at → IsPacket at size → IsTold d (packet at size) new before after → IsAdded d text new before after
+    pub packet_added : (new : Standing) (before after : List ℕ) → s.last ≤ at → IsPacket at size → IsJudged d (packet at size) new before after → IsAdded d text new before after
     packet_added new before after le fit t =
         let v = t.verdict in
         let next = with_packet d (packet at size) v in
@@ -60,11 +61,11 @@ module _ (d : Draft) (text : List ℕ) (s : Standing) (st : Stands s d) (short :
             reads = reads_so (Some (line.Packet at size)) e;
             in_time = omega (arith, le, st.last);
             in_range = fit;
-            adds = subst (λ o. IsOffered o d (packet at size) next) (sym t.told.flow_is) (v, t.told.verdict, refl);
+            adds = subst (λ o. IsOffered o d (packet at size) next) (sym t.judged.flow_is) (v, t.judged.verdict, refl);
           };
-          stands = t.told.stands;
+          stands = t.judged.stands;
           own = verdict_text v;
-          says = one_told d.told v;
+          says = one_more_verdict d.verdicts v;
           wrote = t.wrote;
         }
 
@@ -74,7 +75,7 @@ module _ (d : Draft) (text : List ℕ) (s : Standing) (st : Stands s d) (short :
     follows = record { short = short; said = line.Skipped; reads = reads_so (Some line.Skipped) e; in_time = tt; in_range = tt; adds = refl };
     stands = st;
     own = [];
-    says = sym (append-nil (told_text d.told));
+    says = sym (append-nil (verdicts_text d.verdicts));
     wrote = sym (append-nil out);
   }
 
@@ -91,18 +92,26 @@ module _ (d : Draft) (text : List ℕ) (s : Standing) (st : Stands s d) (short :
   )
   first_bucket (Some x) b none f = absurd (let z : true ≡ false = none in cc)
 
-  pub flow_added : (w : FlowWord) → line_behind (is_some s.policer) text ≡ Some (line.Flow w) → is_some s.policer ≡ false → IsFlow w → (new : Standing) → new ≡ record s { policer = Some (empty_bucket (flow_value w)) } → (out : List ℕ) → IsAdded d text new out out
+  pub flow_added : (w : FlowWord) → line_behind (is_some s.policer) text ≡ Some (line.Flow w) → is_some s.policer ≡ false → IsFlow w → (new : Standing)
+      → new ≡ record s { policer = Some (empty_bucket (flow_value w)) } → (out : List ℕ) → IsAdded d text new out out
   flow_added w e none fit new is out = record {
     draft = with_flow d (flow_value w);
     follows = record { short = short; said = line.Flow w; reads = reads_so (Some (line.Flow w)) e; in_time = tt; in_range = fit; adds = refl };
-    stands = subst (λ (z : Standing). Stands z (with_flow d (flow_value w))) (sym is) (record { bucket = first_bucket s.policer st.bucket none (flow_value w); last = st.last; passed = st.passed; told = st.told });
+    stands = subst (λ (z : Standing). Stands z (with_flow d (flow_value w))) (sym is) (record {
+      bucket = first_bucket s.policer st.bucket none
+          (flow_value w);
+      last = st.last;
+      passed = st.passed;
+      offered = st.offered;
+    });
     own = [];
-    says = sym (append-nil (told_text d.told));
+    says = sym (append-nil (verdicts_text d.verdicts));
     wrote = sym (append-nil out);
   }
 
   -- ---- whatever was said of the line
-  pub flow_fed : (w : FlowWord) → line_behind (is_some s.policer) text ≡ Some (line.Flow w) → is_some s.policer ≡ false → (res : Result (Unit {0}) LineWhy) (new : Standing) → IsFlowFed w s res new → (out : List ℕ) → IsFed d text res new out out
+  pub flow_fed : (w : FlowWord) → line_behind (is_some s.policer) text ≡ Some (line.Flow w) → is_some s.policer ≡ false → (res : Result (Unit {0}) LineWhy) (new : Standing) → IsFlowFed w s res new
+      → (out : List ℕ) → IsFed d text res new out out
   flow_fed w e none (Ok u) new f out = flow_added w e none f.0 new f.1 out
   flow_fed w e none (Err why.Range) new f out = (no_flow w e f.0, subst (λ (z : Standing). Stands z d) (sym f.1) st, refl)
   flow_fed w e none (Err why.Word) new f out = absurd f
@@ -112,7 +121,8 @@ module _ (d : Draft) (text : List ℕ) (s : Standing) (st : Stands s d) (short :
   flow_fed w e none (Err why.Limit) new f out = absurd f
   flow_fed w e none (Err why.Over) new f out = absurd f
 
-  pub packet_fed : (at size : ℕ) → line_behind (is_some s.policer) text ≡ Some (line.Packet at size) → (res : Result (Unit {0}) LineWhy) (new : Standing) (before after : List ℕ) → IsPacketFed d at size s res new before after → IsFed d text res new before after
+  pub packet_fed : (at size : ℕ) → line_behind (is_some s.policer) text ≡ Some (line.Packet at size) → (res : Result (Unit {0}) LineWhy) (new : Standing) (before after : List ℕ)
+      → IsPacketFed d at size s res new before after → IsFed d text res new before after
   packet_fed at size e (Ok u) new before after f = packet_added at size e new before after f.0 f.1 f.2
   packet_fed at size e (Err why.Late) new before after f = (too_early at size e f.0, subst (λ (z : Standing). Stands z d) (sym f.1) st, f.2)
   packet_fed at size e (Err why.Range) new before after f = (no_packet at size e f.0 f.1, subst (λ (z : Standing). Stands z d) (sym f.2) st, f.3)
@@ -122,7 +132,7 @@ module _ (d : Draft) (text : List ℕ) (s : Standing) (st : Stands s d) (short :
   packet_fed at size e (Err why.Limit) new before after f = absurd f
   packet_fed at size e (Err why.Over) new before after f = absurd f
 
--- ---- what a packet is told
+-- ---- the verdict on a packet
 last_pushed : (t : ℕ) (ps : List Packet) (x : Packet) → last_at t (ps ++ x ∷ []) ≡ x.at
 last_pushed t [] x = refl
 last_pushed t (y ∷ ps) x = last_pushed y.at ps x
@@ -140,37 +150,38 @@ passed_more Pass ps x = counted_more (length ps) ∙ ap counted (let e : length 
 passed_more Over ps x = refl
 passed_more Big ps x = refl
 
-told_more : (told : List Verdict) (v : Verdict) → counted (counted (length told) + 1) ≡ counted (length (told ++ v ∷ []))
-told_more told v = counted_more (length told) ∙ ap counted (let e : length told + 1 ≡ length (told ++ v ∷ []) = omega (arith, length-append told (v ∷ [])) in e)
+verdicts_more : (verdicts : List Verdict) (v : Verdict) → counted (counted (length verdicts) + 1) ≡ counted (length (verdicts ++ v ∷ []))
+verdicts_more verdicts v = counted_more (length verdicts) ∙ ap counted (let e : length verdicts + 1 ≡ length (verdicts ++ v ∷ []) = omega (arith, length-append verdicts (v ∷ [])) in e)
 
 pub in_time : (d : Draft) (s : Standing) (b : Bucket) (at : ℕ) → Stands s d → s.policer ≡ Some b → s.last ≤ at → b.at ≤ at
 in_time d s b at st is le =
     let bucket : IsBucketOf d (Some b) = subst (λ (o : Option Bucket). IsBucketOf d o) is st.bucket in
     omega (arith, bucket.2, st.last, le)
 
-pub told_so : (d : Draft) (s : Standing) (b now : Bucket) (at size : ℕ) (v : Verdict) (new : Standing) → Stands s d → s.policer ≡ Some b → s.last ≤ at
+pub judged_so : (d : Draft) (s : Standing) (b now : Bucket) (at size : ℕ) (v : Verdict) (new : Standing) → Stands s d → s.policer ≡ Some b → s.last ≤ at
     → ((passed : List Packet) → Agrees b passed → IsVerdict b.flow passed (packet at size) v × Agrees now (with_passed v passed (packet at size))) → now.flow ≡ b.flow
-    → new ≡ record { policer = Some now; last = at; passed = passed_count v s.passed; told = counted (s.told + 1) } → IsToldSo d (packet at size) v new
-told_so d s b now at size v new st is le exact same new_is =
+    → new ≡ record { policer = Some now; last = at; passed = passed_count v s.passed; offered = counted (s.offered + 1) } → HasVerdict d (packet at size) v new
+judged_so d s b now at size v new st is le exact same new_is =
     let bucket : IsBucketOf d (Some b) = subst (λ (o : Option Bucket). IsBucketOf d o) is st.bucket in
-    let told = exact d.passed bucket.1 in
+    let judged = exact d.passed bucket.1 in
     let x = packet at size in
     let before : last_at 0 d.passed ≤ at = omega (arith, bucket.1.at, bucket.2, st.last, le) in
     record {
       flow = b.flow;
       flow_is = bucket.0;
-      verdict = told.0;
+      verdict = judged.0;
       stands = subst (λ (z : Standing). Stands z (with_packet d x v)) (sym new_is) (record {
-        bucket = (bucket.0 ∙ ap (λ (f : TokenBucket). Some f) (sym same), told.1, (let last = last_with v d.passed x before in omega (arith, told.1.at, last)));
+        bucket = (bucket.0 ∙ ap (λ (f : TokenBucket). Some f) (sym same), judged.1, (let last = last_with v d.passed x before in omega (arith, judged.1.at, last)));
         last = refl;
         passed = ap (passed_count v) st.passed ∙ passed_more v d.passed x;
-        told = ap (λ (n : ℕ). counted (n + 1)) st.told ∙ told_more d.told v;
+        offered = ap (λ (n : ℕ). counted (n + 1)) st.offered ∙ verdicts_more d.verdicts v;
       });
     }
 
-pub told_packet : (d : Draft) (at size micros bytes : ℕ) (v : Verdict) (new : Standing) (before after : List ℕ) → micros ≡ at → bytes ≡ size → IsToldSo d (packet micros bytes) v new → after ≡ before ++ verdict_text v → IsTold d (packet at size) new before after
-told_packet d at size micros bytes v new before after same_at same_size told wrote = record {
+pub judged_packet : (d : Draft) (at size micros bytes : ℕ) (v : Verdict) (new : Standing) (before after : List ℕ) → micros ≡ at → bytes ≡ size → HasVerdict d (packet micros bytes) v new
+    → after ≡ before ++ verdict_text v → IsJudged d (packet at size) new before after
+judged_packet d at size micros bytes v new before after same_at same_size judged wrote = record {
   verdict = v;
-  told = subst (λ (n : ℕ). IsToldSo d (packet at n) v new) same_size (subst (λ (n : ℕ). IsToldSo d (packet n bytes) v new) same_at told);
+  judged = subst (λ (n : ℕ). HasVerdict d (packet at n) v new) same_size (subst (λ (n : ℕ). HasVerdict d (packet n bytes) v new) same_at judged);
   wrote = wrote;
 }

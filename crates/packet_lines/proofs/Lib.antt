@@ -5,3 +5,4 @@ pub mod Fed
 pub mod Finishing
 pub mod Ended
 pub mod Coming
+pub mod Bound

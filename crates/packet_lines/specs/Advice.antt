@@ -1,11 +1,11 @@
--- The line of text that tells what is wrong with a line.
-use Rattle.std.specs.Prelude.{◌≡◌, ◌⊎◌, ℕ, ◌^◌, List, [], ◌++◌, Bool, true, false, Option, None, Some, codes, is_some, nat_lt, option_and_then, option_map, unwrap_or, if◌then◌else◌}
+-- The line of text that says what is wrong with a line.
+use Rattle.std.specs.Prelude.{◌≡◌, ◌⊎◌, ℕ, ◌^◌, List, [], ◌++◌, Bool, true, false, Option, None, Some, codes, is_some, nat_lt, option_map, unwrap_or, if◌then◌else◌}
 use Rattle.std.specs.Fmt.{decimal}
 use Rattle.script_words.specs.Numbers.{number_of}
 use Rattle.script_words.specs.declared.fault.LineWhy.{LineWhy}
 use Rattle.script_words.specs.declared.fault.LineWhy.TheVariants as why
-use Rattle.word_quotes.specs.Places.{word_at}
-use Rattle.word_quotes.specs.Quotes.{quoted, strange_text}
+use Rattle.value_texts.specs.Places.{word_at}
+use Rattle.value_texts.specs.Blamed.{blamed_line}
 use Rattle.packet_lines.specs.Drafts.{Draft}
 use Rattle.packet_lines.specs.Endings.{IsFirstBad}
 use Rattle.packet_lines.specs.Grammar.{is_flow_word}
@@ -58,7 +58,7 @@ blame_of has_flow last line why.Late = Early last
 blame_of has_flow last line why.Range = range_blame (first_of line)
 blame_of has_flow last line _ = Long
 
--- ---- what is told
+-- ---- the advice
 abbrev pub number_of_word : Blame → Option ℕ
 number_of_word Long = None
 number_of_word NoFlow = Some 0
@@ -85,7 +85,8 @@ wanted_text NoFlow = codes "the first line is that of the flow: flow FLOW"
 wanted_text SecondFlow = codes "the flow stands once, before all packets"
 wanted_text (FlowCount word) = codes "a flow line is: flow FLOW"
 wanted_text FlowForm = codes "a flow is r/b/p/m/M: five numbers, of which p may be inf"
-wanted_text FlowRange = codes "r and b are rates of at least 1, p is a rate or inf, m is from 1 to M, M at most 4294967295; a rate is below 70368744177664 and has no two set bits more than 23 places apart"
+wanted_text FlowRange = codes
+    "r and b are rates of at least 1, p is a rate or inf, m is from 1 to M, M at most 4294967295; a rate is below 70368744177664 and has no two set bits more than 23 places apart"
 wanted_text (PacketCount word) = codes "a packet line is: MICROS BYTES"
 wanted_text TimeForm = number_form
 wanted_text TimeRange = codes "a time is at most 9223372036854775807 microseconds"
@@ -93,19 +94,11 @@ wanted_text (Early last) = early_text last
 wanted_text SizeForm = number_form
 wanted_text SizeRange = codes "a packet has 1 to 65535 bytes"
 
--- a word with its column, if one is to blame, and what is wanted
-unfoldable pub blamed_text : Option (ℕ × List ℕ) → List ℕ → List ℕ
-blamed_text None wanted = codes "  " ++ wanted
-blamed_text (Some (column, word)) wanted = codes "  column " ++ decimal column ++ codes ", " ++ quoted word ++ codes ": " ++ wanted ++ strange_text word
-
-abbrev pub blamed_word : List ℕ → Blame → Option (ℕ × List ℕ)
-blamed_word line blame = option_and_then (word_at line) (number_of_word blame)
-
 abbrev pub advice_text : List ℕ → Blame → List ℕ
-advice_text line blame = blamed_text (blamed_word line blame) (wanted_text blame)
+advice_text line blame = blamed_line line (number_of_word blame) (wanted_text blame)
 
--- what is wrong with a line of this fault was told, behind lines with the flow or without it, the last packet of which came at this
--- time; or nothing was, since memory ran out
+-- the advice on a line of this fault, behind lines with the flow or without it, the last packet of which came at this
+-- time; or nothing, since memory ran out
 abbrev pub IsAdviceFor : Bool → ℕ → List ℕ → LineWhy → List ℕ → Type 0
 IsAdviceFor has_flow last line fault text = (text ≡ []) ⊎ (text ≡ advice_text line (blame_of has_flow last line fault))
 
@@ -113,12 +106,12 @@ abbrev pub IsAdvice : Draft → List ℕ → LineWhy → List ℕ → Type 0
 IsAdvice d line fault text = IsAdviceFor (is_some d.flow) d.last line fault text
 
 -- and of the bad line of these bytes
-pub record IsToldLine (number : ℕ) (fault : LineWhy) (bytes text : List ℕ) : Type 0 where
+pub record IsAdvisedLine (number : ℕ) (fault : LineWhy) (bytes text : List ℕ) : Type 0 where
   pub said : List ℕ
   pub bad : IsFirstBad number fault bytes said
-  pub told : IsAdvice bad.at.ran.draft bad.at.line fault text
+  pub advised : IsAdvice bad.at.ran.draft bad.at.line fault text
 
--- where no line is bad, nothing is told
+-- where no line is bad, there is no advice
 abbrev pub IsAdvised : Ending → List ℕ → List ℕ → Type 0
-IsAdvised (BadLine number fault) bytes text = IsToldLine number fault bytes text
+IsAdvised (BadLine number fault) bytes text = IsAdvisedLine number fault bytes text
 IsAdvised _ bytes text = text ≡ []

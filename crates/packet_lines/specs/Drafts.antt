@@ -14,15 +14,15 @@ use Rattle.packet_lines.specs.declared.line.PacketLine.TheVariants as line
 abbrev pub most_line : ℕ
 most_line = 2048
 
--- the flow, if a line gave it; the packets that passed, the time of the last line of a packet, and what each packet was told
+-- the flow, if a line gave it; the packets that passed, the time of the last line of a packet, and the verdict on each packet
 pub record Draft : Type 0 where
   pub flow : Option TokenBucket
   pub passed : List Packet
   pub last : ℕ
-  pub told : List Verdict
+  pub verdicts : List Verdict
 
 abbrev pub nothing : Draft
-nothing = record { flow = None; passed = []; last = 0; told = [] }
+nothing = record { flow = None; passed = []; last = 0; verdicts = [] }
 
 -- ---- rules
 -- no packet comes before the one before it
@@ -45,9 +45,9 @@ IsInRange (line.Packet at size) = IsPacket at size
 abbrev pub with_flow : Draft → TokenBucket → Draft
 with_flow d f = record d { flow = Some f }
 
--- a packet was told this
+-- a packet got this verdict
 abbrev pub with_packet : Draft → Packet → Verdict → Draft
-with_packet d x v = record { flow = d.flow; passed = with_passed v d.passed x; last = x.at; told = d.told ++ v ∷ [] }
+with_packet d x v = record { flow = d.flow; passed = with_passed v d.passed x; last = x.at; verdicts = d.verdicts ++ v ∷ [] }
 
 abbrev pub IsOffered : Option TokenBucket → Draft → Packet → Draft → Type 0
 IsOffered None d x new = ⊥

@@ -3,18 +3,18 @@ use Rattle.std.specs.Prelude.{◌≡◌, ◌⊎◌, ℕ, ◌+◌, ◌≤◌, Lis
 use Rattle.byte_streams.specs.Reading.{most_bytes}
 use Rattle.script_words.specs.Lines.{text_lines}
 use Rattle.script_words.specs.declared.fault.LineWhy.{LineWhy}
-use Rattle.line_stream.specs.Lines.{IsNear, whole_lines}
-use Rattle.line_stream.specs.Runs.{EndedShort as EndedShortOf, HasRun as HasRunOf, IsFirstBad as IsFirstBadOf, IsRun}
+use Rattle.byte_streams.specs.Lines.{IsNear, whole_lines}
+use Rattle.byte_streams.specs.Runs.{EndedShort as EndedShortOf, HasRun as HasRunOf, IsFirstBad as IsFirstBadOf, IsRun}
 use Rattle.packet_lines.specs.Drafts.{HasFault, Leads, nothing}
 use Rattle.packet_lines.specs.Texts.{Says, last_text}
 use Rattle.packet_lines.specs.declared.ending.Ending.{Ending}
 use Rattle.packet_lines.specs.declared.ending.Ending.TheVariants.{Done, BadLine, ReadFault, WriteFault, NoMemory, TooLong}
 
--- these lines were policed, and this was told of their packets
+-- these lines were policed, and these are the verdicts on their packets
 abbrev pub HasRun : List (List ℕ) → List ℕ → Type 0
 HasRun lines text = HasRunOf (Leads nothing) Says lines text
 
--- the line of this number is the first bad one, it has this fault, and this was told of the packets before
+-- the line of this number is the first bad one, it has this fault, and these are the verdicts on the packets before
 abbrev pub IsFirstBad : ℕ → LineWhy → List ℕ → List ℕ → Type 0
 IsFirstBad number why bytes text = IsFirstBadOf (Leads nothing) Says HasFault number why bytes text
 
@@ -24,7 +24,7 @@ pub record IsWhole (bytes text : List ℕ) : Type 0 where
   pub ran : HasRun (text_lines bytes) said
   pub text_is : text ≡ said ++ last_text ran.draft
 
--- a prefix of what was told of the packets of some first lines of those taken was written
+-- a prefix of the verdicts on the packets of some first lines of those taken was written
 abbrev pub EndedShort : List ℕ → List ℕ → Type 0
 EndedShort taken text = EndedShortOf (Leads nothing) Says taken text
 
@@ -47,10 +47,9 @@ EndedSo WriteFault bytes taken text = EndedShort taken text ⊎ EndedClosing byt
 EndedSo NoMemory bytes taken text = (taken ≡ []) × (text ≡ [])
 EndedSo TooLong bytes taken text = HasRun (whole_lines (take most_bytes taken)) text
 
--- so many bytes were taken: one too many where that is how it ended, or where the sink failed then
+-- so many bytes were taken: one too many exactly where that is how it ended
 abbrev pub CanTake : Ending → ℕ → Type 0
 CanTake TooLong n = n ≡ most_bytes + 1
-CanTake WriteFault n = n ≤ most_bytes + 1
 CanTake _ n = n ≤ most_bytes
 
 -- bytes were taken of a source and a text was written to a sink, and policing ended so

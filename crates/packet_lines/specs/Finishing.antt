@@ -20,7 +20,7 @@ abbrev pub IsNoLine : Ending → Type 0
 IsNoLine (BadLine number why) = ⊥
 IsNoLine _ = Unit {0}
 
--- where it ended at a bad line, that was told; else nothing was
-abbrev pub IsToldAt : (List ℕ → Type 0) → Ending → List ℕ → Type 0
-IsToldAt Told (BadLine number why) text = Told text
-IsToldAt Told _ text = text ≡ []
+-- where it ended at a bad line, the text advises on it; else there is none
+abbrev pub IsAdvisedAt : (List ℕ → Type 0) → Ending → List ℕ → Type 0
+IsAdvisedAt Advises (BadLine number why) text = Advises text
+IsAdvisedAt Advises _ text = text ≡ []

@@ -1,7 +1,9 @@
 -- The claims of the public laws.
-use Rattle.std.specs.Prelude.{◌≡◌, List, ℕ}
+use Rattle.std.specs.Prelude.{◌≡◌, List, ℕ, Some}
+use Rattle.rsvp_base.specs.TokenBucket.{TokenBucket}
 use Rattle.script_words.specs.declared.fault.LineWhy.{LineWhy}
-use Rattle.packet_lines.specs.Drafts.{Draft, Follows, HasFault}
+use Rattle.load_policer.specs.Policing.{KeepsTheBound}
+use Rattle.packet_lines.specs.Drafts.{Draft, Follows, HasFault, Leads, nothing}
 use Rattle.packet_lines.specs.Endings.{ComesTo}
 use Rattle.packet_lines.specs.declared.ending.Ending.{Ending}
 
@@ -15,3 +17,7 @@ OneFault = (d : Draft) (line : List ℕ) (v w : LineWhy) → HasFault d line v �
 
 abbrev pub BadLinesDoNotFollow : Type 0
 BadLinesDoNotFollow = (d : Draft) (line : List ℕ) (why : LineWhy) (new : Draft) → HasFault d line why → Follows d line new → ⊥
+
+-- in each stretch of the packets that passed there are at most r times its time and b bytes
+abbrev pub WhatPassesKeepsTheBound : Type 0
+WhatPassesKeepsTheBound = (lines : List (List ℕ)) (d : Draft) (f : TokenBucket) → Leads nothing lines d → d.flow ≡ Some f → KeepsTheBound f d.passed

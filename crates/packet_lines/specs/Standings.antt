@@ -9,14 +9,14 @@ use Rattle.script_words.specs.declared.fault.LineWhy.{LineWhy}
 use Rattle.script_words.specs.declared.fault.LineWhy.TheVariants as why
 use Rattle.script_words.specs.declared.raw.FlowWord.{FlowWord}
 use Rattle.packet_lines.specs.Drafts.{Draft, Follows, HasFault, IsPacket, with_packet}
-use Rattle.packet_lines.specs.Texts.{told_text, verdict_text}
+use Rattle.packet_lines.specs.Texts.{verdicts_text, verdict_text}
 use Rattle.packet_lines.specs.declared.standing.Standing.{Standing}
 
 -- a count in 64 bits, which stands still at their last value
 abbrev pub counted : ℕ → ℕ
 counted n = min n (2 ^ 64 - 1)
 
--- how many passed, with a packet that was told this
+-- how many passed, with a packet that got this verdict
 abbrev pub passed_count : Verdict → ℕ → ℕ
 passed_count Pass n = counted (n + 1)
 passed_count Over n = n
@@ -31,19 +31,19 @@ pub record Stands (s : Standing) (d : Draft) : Type 0 where
   pub bucket : IsBucketOf d s.policer
   pub last : s.last ≡ d.last
   pub passed : s.passed ≡ counted (length d.passed)
-  pub told : s.told ≡ counted (length d.told)
+  pub offered : s.offered ≡ counted (length d.verdicts)
 
--- ---- a packet was told this
-pub record IsToldSo (d : Draft) (x : Packet) (v : Verdict) (new : Standing) : Type 0 where
+-- ---- a packet got this verdict
+pub record HasVerdict (d : Draft) (x : Packet) (v : Verdict) (new : Standing) : Type 0 where
   pub flow : TokenBucket
   pub flow_is : d.flow ≡ Some flow
   pub verdict : IsVerdict flow d.passed x v
   pub stands : Stands new (with_packet d x v)
 
--- and that was appended
-pub record IsTold (d : Draft) (x : Packet) (new : Standing) (before after : List ℕ) : Type 0 where
+-- and its line was appended
+pub record IsJudged (d : Draft) (x : Packet) (new : Standing) (before after : List ℕ) : Type 0 where
   pub verdict : Verdict
-  pub told : IsToldSo d x verdict new
+  pub judged : HasVerdict d x verdict new
   pub wrote : after ≡ before ++ verdict_text verdict
 
 -- ---- a flow was added: its numbers are in range, or they are not
@@ -52,21 +52,21 @@ IsFlowFed w s (Ok _) new = IsFlow w × (new ≡ record s { policer = Some (empty
 IsFlowFed w s (Err why.Range) new = (IsFlow w → ⊥) × (new ≡ s)
 IsFlowFed w s (Err _) new = ⊥
 
--- ---- a packet was added: it was told, or came too early, or its numbers are not in range
+-- ---- a packet was added: it got a verdict, or came too early, or its numbers are not in range
 abbrev pub IsPacketFed : Draft → ℕ → ℕ → Standing → Result (Unit {0}) LineWhy → Standing → List ℕ → List ℕ → Type 0
-IsPacketFed d at size s (Ok _) new before after = (s.last ≤ at) × IsPacket at size × IsTold d (packet at size) new before after
+IsPacketFed d at size s (Ok _) new before after = (s.last ≤ at) × IsPacket at size × IsJudged d (packet at size) new before after
 IsPacketFed d at size s (Err why.Late) new before after = (at < s.last) × (new ≡ s) × (after ≡ before)
 IsPacketFed d at size s (Err why.Range) new before after = (s.last ≤ at) × (IsPacket at size → ⊥) × (new ≡ s) × (after ≡ before)
 IsPacketFed d at size s (Err _) new before after = ⊥
 
 -- ---- a line was added
--- the line followed, and what its packet was told was appended
+-- the line followed, and the verdict on its packet was appended
 pub record IsAdded (d : Draft) (text : List ℕ) (new : Standing) (before after : List ℕ) : Type 0 where
   pub draft : Draft
   pub follows : Follows d text draft
   pub stands : Stands new draft
   pub own : List ℕ
-  pub says : told_text draft.told ≡ told_text d.told ++ own
+  pub says : verdicts_text draft.verdicts ≡ verdicts_text d.verdicts ++ own
   pub wrote : after ≡ before ++ own
 
 -- or it has this fault, and nothing was appended

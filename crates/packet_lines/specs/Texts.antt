@@ -12,15 +12,15 @@ verdict_text Pass = codes "pass\n"
 verdict_text Over = codes "over\n"
 verdict_text Big = codes "big\n"
 
-abbrev pub told_text : List Verdict → List ℕ
-told_text told = flat_map verdict_text told
+abbrev pub verdicts_text : List Verdict → List ℕ
+verdicts_text verdicts = flat_map verdict_text verdicts
 
 abbrev pub Says : Draft → List ℕ → Type 0
-Says d text = text ≡ told_text d.told
+Says d text = text ≡ verdicts_text d.verdicts
 
 -- and one at the end: how many passed, of how many
 unfoldable pub count_text : ℕ → ℕ → List ℕ
-count_text passed told = codes "passed " ++ decimal passed ++ codes " of " ++ decimal told ++ codes "\n"
+count_text passed offered = codes "passed " ++ decimal passed ++ codes " of " ++ decimal offered ++ codes "\n"
 
 abbrev pub last_text : Draft → List ℕ
-last_text d = count_text (length d.passed) (length d.told)
+last_text d = count_text (length d.passed) (length d.verdicts)

@@ -3,7 +3,7 @@ ghost use Rattle.std.specs.Prelude.{◌≡◌, ◌↔◌, ◌≤◌, ◌<◌, �
 ghost use Rattle.std.specs.Fmt.{decimal};
 ghost use Rattle.load_policer.specs.Policing.{packet};
 ghost use Rattle.packet_lines.specs.Drafts.{Draft, IsPacket, nothing};
-ghost use Rattle.packet_lines.specs.Standings.{IsFed, IsFlowFed, IsPacketFed, IsToldSo, Stands, counted, passed_count};
+ghost use Rattle.packet_lines.specs.Standings.{IsFed, IsFlowFed, IsPacketFed, HasVerdict, Stands, counted, passed_count};
 ghost use Rattle.packet_lines.specs.Texts.{count_text, verdict_text};
 
 use crate::line::{END_OF_TIME, PacketLine};
@@ -25,11 +25,11 @@ impl Standing {
             policer: None,
             last: 0,
             passed: 0,
-            told: 0,
+            offered: 0,
         }
     }
 
-    /// Adds a line, and appends what its packet is told. `Err`: exactly where the line is bad, for this reason; nothing changed then.
+    /// Adds a line, and appends the verdict on its packet. `Err`: exactly where the line is bad, for this reason; nothing changed then.
     pub fn add(&mut self, line: &[u8], out: &mut Vec<u8>) -> Result<(), LineWhy>
         requires short { length line.now ≤ 2048 }
         requires room { vec_len out.old + 5 ≤ vec_capacity out.old }
@@ -58,8 +58,8 @@ impl Standing {
         }
     }
 
-    // Adds a packet, and appends what it is told.
-    #[tactic(auto, using(crate::proofs::Fed::told_packet))]
+    // Adds a packet, and appends its verdict.
+    #[tactic(auto, using(crate::proofs::Fed::judged_packet))]
     fn add_packet(&mut self, at: u128, size: u128, out: &mut Vec<u8>) -> Result<(), LineWhy>
         requires room { vec_len out.old + 5 ≤ vec_capacity out.old }
         requires stands { (d : Draft) × Stands self.old d }
@@ -72,7 +72,7 @@ impl Standing {
         }
         match in_range(at, size) {
             Some((micros, bytes)) => {
-                let verdict = self.tell(micros, bytes);
+                let verdict = self.judge(micros, bytes);
                 put(out, verdict_text(verdict));
                 Ok(())
             }
@@ -80,21 +80,21 @@ impl Standing {
         }
     }
 
-    // What a packet is told.
-    #[tactic(auto, using(crate::proofs::Fed::told_so, crate::proofs::Fed::in_time))]
-    fn tell(&mut self, at: u64, size: u32) -> Verdict
+    // The verdict on a packet.
+    #[tactic(auto, using(crate::proofs::Fed::judged_so, crate::proofs::Fed::in_time))]
+    fn judge(&mut self, at: u64, size: u32) -> Verdict
         requires stands { (d : Draft) × Stands self.old d }
         requires flow { is_some self.old.policer ≡ true }
         requires later { self.old.last ≤ at }
         requires time { at < 2 ^ 63 }
-        ensures { (d : Draft) → Stands self.old d → IsToldSo d (packet at size) result self.new }
+        ensures { (d : Draft) → Stands self.old d → HasVerdict d (packet at size) result self.new }
     {
         let verdict = match &mut self.policer {
             Some(policer) => policer.offer(at, size),
             None => return Verdict::Big,
         };
         self.last = at;
-        self.told = one_more(self.told);
+        self.offered = one_more(self.offered);
         self.passed = passed_with(self.passed, verdict);
         verdict
     }
@@ -103,12 +103,12 @@ impl Standing {
     #[tactic(auto, unfolding(crate::specs::Texts::count_text))]
     pub fn put_counts(&self, out: &mut Vec<u8>)
         requires { vec_len out.old + 52 ≤ vec_capacity out.old }
-        ensures { out.new.items ≡ out.old.items ++ count_text self.now.passed self.now.told }
+        ensures { out.new.items ≡ out.old.items ++ count_text self.now.passed self.now.offered }
     {
         put(out, b"passed ");
         put_count(out, self.passed);
         put(out, b" of ");
-        put_count(out, self.told);
+        put_count(out, self.offered);
         put(out, b"\n");
     }
 }
@@ -131,7 +131,7 @@ fn one_more(n: u64) -> u64
     n.saturating_add(1)
 }
 
-// How many passed, with a packet that was told this.
+// How many passed, with a packet that got this verdict.
 fn passed_with(passed: u64, verdict: Verdict) -> u64
     ensures { result ≡ passed_count verdict passed }
 {

@@ -1,7 +1,7 @@
-//! The line of text that tells what is wrong with a line.
-ghost use Rattle.std.specs.Prelude.{◌≡◌, ◌++◌, ℕ, List, MatchOption, None, OnOk, Some};
+//! The line of text that says what is wrong with a line.
+ghost use Rattle.std.specs.Prelude.{◌≡◌, ◌++◌, ℕ, List, OnOk};
 ghost use Rattle.script_words.specs.declared.fault.LineWhy.TheVariants as fault;
-ghost use Rattle.packet_lines.specs.Advice.{IsAdvice, IsAdviceFor, advice_text, blamed_text, blamed_word, early_text, number_form, wanted_text};
+ghost use Rattle.packet_lines.specs.Advice.{IsAdvice, IsAdviceFor, early_text, number_form, wanted_text};
 ghost use Rattle.packet_lines.specs.Drafts.{Draft};
 ghost use Rattle.packet_lines.specs.Standings.{Stands};
 
@@ -9,10 +9,9 @@ use crate::blame::{Blame, blame_of, number_of_word};
 use crate::standing::Standing;
 use rsvp_base::NoMemory;
 use script_words::LineWhy;
-use value_texts::{put, put_number};
-use word_quotes::{put_quoted, put_strange, word_at};
+use value_texts::{Blames, put, put_blamed_line, put_number};
 
-/// Makes `advice` the text that tells what is wrong with a line that has this fault, without a line feed: two spaces, the column and
+/// Makes `advice` the text that says what is wrong with a line that has this fault, without a line feed: two spaces, the column and
 /// the word that is to blame, if one is, and what is wanted. Where memory runs out, it is empty.
 #[tactic(auto, using(crate::proofs::Fed::advice_so))]
 pub fn put_advice(standing: &Standing, line: &[u8], why: LineWhy, advice: &mut Vec<u8>)
@@ -25,53 +24,30 @@ pub fn put_advice(standing: &Standing, line: &[u8], why: LineWhy, advice: &mut V
 fn put_advice_for(has_flow: bool, last: u64, line: &[u8], why: LineWhy, advice: &mut Vec<u8>)
     ensures { IsAdviceFor has_flow last line.now why advice.new.items }
 {
-    advice.clear();
-    if put_told(advice, line, blame_of(has_flow, last, line, why)).is_err() {
-        advice.clear();
-    }
+    put_blamed_line(advice, line, &blame_of(has_flow, last, line, why))
 }
 
 /// The same of a line of more than 2,048 bytes, whatever these are.
 pub fn put_long(advice: &mut Vec<u8>)
     ensures { (d : Draft) (line : List ℕ) → IsAdvice d line fault.Limit advice.new.items }
 {
-    advice.clear();
-    if put_told(advice, b"", Blame::Long).is_err() {
-        advice.clear();
+    put_blamed_line(advice, b"", &Blame::Long)
+}
+
+impl Blames for Blame {
+    ghost use Rattle.packet_lines.specs.Advice.{number_of_word, wanted_text};
+
+    ghost number = { number_of_word };
+
+    ghost wanted = { wanted_text };
+
+    fn number_of_word(&self) -> Option<usize> {
+        number_of_word(*self)
     }
-}
 
-// Appends what is to blame for a line.
-fn put_told(out: &mut Vec<u8>, line: &[u8], blame: Blame) -> Result<(), NoMemory>
-    ensures { OnOk result (out.new.items ≡ out.old.items ++ advice_text line.now blame) }
-{
-    match blamed_word(line, blame) {
-        None => put_whole(out, blame),
-        Some((column, word)) => put_at(out, column, word, blame),
+    fn put_wanted(&self, out: &mut Vec<u8>) -> Result<(), NoMemory> {
+        put_wanted(out, *self)
     }
-}
-
-// Appends what is wanted of a line as a whole.
-#[tactic(auto, unfolding(crate::specs::Advice::blamed_text))]
-fn put_whole(out: &mut Vec<u8>, blame: Blame) -> Result<(), NoMemory>
-    ensures { OnOk result (out.new.items ≡ out.old.items ++ blamed_text None (wanted_text blame)) }
-{
-    put(out, b"  ")?;
-    put_wanted(out, blame)
-}
-
-// Appends a word with its column, and what is wanted of it.
-#[tactic(auto, unfolding(crate::specs::Advice::blamed_text))]
-fn put_at(out: &mut Vec<u8>, column: usize, word: &[u8], blame: Blame) -> Result<(), NoMemory>
-    ensures { OnOk result (out.new.items ≡ out.old.items ++ blamed_text (Some (column, word.now)) (wanted_text blame)) }
-{
-    put(out, b"  column ")?;
-    put_number(out, column as u64)?;
-    put(out, b", ")?;
-    put_quoted(out, word)?;
-    put(out, b": ")?;
-    put_wanted(out, blame)?;
-    put_strange(out, word)
 }
 
 // Appends what is wanted.
@@ -116,11 +92,4 @@ fn put_early(out: &mut Vec<u8>, last: u64) -> Result<(), NoMemory>
     put(out, b"the packet before came at ")?;
     put_number(out, last)?;
     put(out, b", and none comes before it")
-}
-
-// The word that is to blame, with its column.
-fn blamed_word(line: &[u8], blame: Blame) -> Option<(usize, &[u8])>
-    ensures { MatchOption result (blamed_word line.now blame ≡ None) (λ p. blamed_word line.now blame ≡ Some (p.0, p.1.now)) }
-{
-    word_at(line, number_of_word(blame)?)
 }

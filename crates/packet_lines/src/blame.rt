@@ -5,7 +5,7 @@ ghost use Rattle.packet_lines.specs.Advice.{blame_of, first_of, flow_blame, form
 use crate::line::END_OF_TIME;
 use crate::reading::is_flow_word;
 use script_words::{LineWhy, number};
-use word_quotes::word_at;
+use value_texts::word_at;
 
 /// What of a bad line breaks the rule. Words have numbers from 0.
 #[derive(Clone, Copy)]

@@ -1,5 +1,5 @@
 //! Laws of policing a stream.
-ghost use Rattle.packet_lines.specs.Laws.{BadLinesDoNotFollow, OneEnding, OneFault};
+ghost use Rattle.packet_lines.specs.Laws.{BadLinesDoNotFollow, OneEnding, OneFault, WhatPassesKeepsTheBound};
 
 /// Over the same bytes, policing that ends neither by a fault of a device nor out of memory comes to one ending and one text.
 #[tactic(auto, using(crate::proofs::Coming::one_ending))]
@@ -17,4 +17,10 @@ pub fn one_fault()
 #[tactic(auto, using(crate::proofs::Leading::fault_or_follows))]
 pub fn bad_lines_do_not_follow()
     ensures { BadLinesDoNotFollow }
+{}
+
+/// Of each stream, what passes keeps the bound of its flow: in each stretch there are at most r times its time and b bytes (RFC 2211, 6).
+#[tactic(auto, using(crate::proofs::Bound::stream_keeps_the_bound))]
+pub fn what_passes_keeps_the_bound()
+    ensures { WhatPassesKeepsTheBound }
 {}

@@ -1,5 +1,5 @@
-//! Lines are read and policed, and what is told of their packets is written.
-ghost use Rattle.std.specs.Prelude.{◌≡◌, ◌≢◌, ◌≤◌, ◌+◌, [], List, ℕ, Some, IfOk, OnOk, OnErr, length, take, vec_len, vec_capacity};
+//! Lines are read and policed, and the answers to their packets are written.
+ghost use Rattle.std.specs.Prelude.{◌≡◌, ◌≢◌, ◌≤◌, ◌+◌, [], List, ℕ, Some, IfOk, OnOk, OnErr, false, length, take, vec_len, vec_capacity};
 ghost use Rattle.std.specs.Io.KnownBytes.{Appends};
 ghost use Rattle.byte_streams.specs.Reading.{most_bytes};
 ghost use Rattle.byte_streams.specs.Faults.{HasCause, Rose};
@@ -7,7 +7,7 @@ ghost use Rattle.script_words.specs.declared.fault.LineWhy.TheVariants as why;
 ghost use Rattle.packet_lines.specs.Advice.{IsAdvice, IsAdvised};
 ghost use Rattle.packet_lines.specs.Drafts.{Draft};
 ghost use Rattle.packet_lines.specs.Endings.{ComesTo, IsOrNoMemory, IsPoliced};
-ghost use Rattle.packet_lines.specs.Finishing.{Finishes, IsFlushed, IsNoLine, IsToldAt};
+ghost use Rattle.packet_lines.specs.Finishing.{Finishes, IsFlushed, IsNoLine, IsAdvisedAt};
 ghost use Rattle.packet_lines.specs.Standings.{Stands};
 ghost use Rattle.packet_lines.specs.declared.ending.Ending.{Ending as AnEnding};
 ghost use Rattle.packet_lines.specs.declared.ending.Ending.TheVariants as ending;
@@ -15,8 +15,7 @@ ghost use Rattle.packet_lines.specs.declared.ending.Ending.TheVariants as ending
 use crate::advice::{put_advice, put_long};
 use crate::ending::Ending;
 use crate::standing::Standing;
-use byte_streams::{Failed, Sink, Source, write_all};
-use line_stream::{LineReader, NextLine};
+use byte_streams::{Failed, LineReader, NextLine, Sink, Source, write_all};
 use rsvp_base::NoMemory;
 use script_words::LineWhy;
 use std::alloc::Global;
@@ -26,15 +25,15 @@ const ROOM: usize = 4096;
 
 const MOST_TEXT: usize = 64;
 
-/// Reads a stream of packets of the source line by line, the flow first, and writes to the sink what each packet is told: before the
-/// source is asked for more, all that was told is written. At the end it writes how many passed, of how many. The first line at which
+/// Reads a stream of packets of the source line by line, the flow first, and writes to the sink whether each packet passes: before the
+/// source is asked for more, all answers are written. At the end it writes how many passed, of how many. The first line at which
 /// something is refused ends the run.
 ///
 /// At one line these come in this order: `ReadFault` or `TooLong` while it is read, then `BadLine`, then `WriteFault`. A line of more
 /// than 2,048 bytes is bad as soon as so many of it were taken. `NoMemory`: there was no memory for the reader and for the text that
 /// waits; nothing was taken or written then, and none is taken afterwards but for `advice`.
 ///
-/// `advice` becomes the text that tells what is wrong with the bad line; where no line is bad, or memory runs out as it is written,
+/// `advice` becomes the text that says what is wrong with the bad line; where no line is bad, or memory runs out as it is written,
 /// it is empty.
 pub fn police<S: Source, K: Sink>(
     alloc: Global,
@@ -45,7 +44,7 @@ pub fn police<S: Source, K: Sink>(
     ensures policed { IsPoliced result (S.left source.old) (S.left source.new) (K.holds sink.old) (K.holds sink.new) }
     ensures read_fault { result ≡ Ending.ReadFault → Rose (S.faults source.old) (S.faults source.new) }
     ensures write_fault { result ≡ Ending.WriteFault → Rose (K.faults sink.old) (K.faults sink.new) }
-    // Over known input: what is wrong with the bad line is told.
+    // Over known input: `advice` says what is wrong with the bad line.
     ensures advised { (bytes : List ℕ) → S.left source.old ≡ Some bytes → IsAdvised result bytes advice.new.items }
     // Nothing else ends it over known input and devices that do not fail.
     ensures complete { (bytes text : List ℕ) (wanted : AnEnding) → S.left source.old ≡ Some bytes → length bytes ≤ most_bytes → ComesTo wanted bytes text
@@ -86,10 +85,10 @@ fn police_to_end<S: Source, K: Sink>(
             NextLine::Long => return end_long(sink, &out, reader.number(), advice),
             NextLine::End => {
                 standing.put_counts(&mut out);
-                return end(sink, &out, Ending::Done);
+                return end(sink, &out);
             }
-            NextLine::Fault => return end(sink, &out, Ending::ReadFault),
-            NextLine::TooLong => return end(sink, &out, Ending::TooLong),
+            NextLine::Fault => return Ending::ReadFault,
+            NextLine::TooLong => return Ending::TooLong,
         }
         match standing.add(reader.line(), &mut out) {
             Ok(()) => {}
@@ -110,12 +109,13 @@ fn room(alloc: Global) -> Result<Vec<u8>, NoMemory>
     Ok(Vec::with_capacity(alloc, ROOM)?)
 }
 
-// Writes the text that waits, unless the next line is at hand and there is room for what it adds: no text waits while the source is
-// asked.
+// Writes the text that waits, unless the next line is at hand, so that the source is not asked for it, and there is room for what it
+// adds: no text waits while the source is asked.
 #[tactic(auto, using(crate::proofs::Finishing::nothing_flushed))]
 fn write_waiting<K: Sink>(sink: &mut K, out: &mut Vec<u8>, at_hand: bool) -> Result<(), Failed>
     requires room { 4096 ≤ vec_capacity out.old }
     ensures ok { OnOk result (IsFlushed (K.holds sink.old) (K.holds sink.new) out.old.items out.new.items) }
+    ensures none { OnOk result (at_hand ≡ false → out.new.items ≡ []) }
     ensures room { OnOk result ((vec_len out.new + 64 ≤ vec_capacity out.new) × (4096 ≤ vec_capacity out.new)) }
     ensures err { OnErr result ((n : ℕ) × Appends (K.holds sink.old) (K.holds sink.new) (take n out.old.items)) }
     ensures cause { HasCause (K.faults sink.old) (K.faults sink.new) result }
@@ -130,6 +130,7 @@ fn write_waiting<K: Sink>(sink: &mut K, out: &mut Vec<u8>, at_hand: bool) -> Res
 fn write_out<K: Sink>(sink: &mut K, out: &mut Vec<u8>) -> Result<(), Failed>
     requires room { 4096 ≤ vec_capacity out.old }
     ensures ok { OnOk result (IsFlushed (K.holds sink.old) (K.holds sink.new) out.old.items out.new.items) }
+    ensures none { OnOk result (out.new.items ≡ []) }
     ensures room { OnOk result ((vec_len out.new + 64 ≤ vec_capacity out.new) × (4096 ≤ vec_capacity out.new)) }
     ensures err { OnErr result ((n : ℕ) × Appends (K.holds sink.old) (K.holds sink.new) (take n out.old.items)) }
     ensures cause { HasCause (K.faults sink.old) (K.faults sink.new) result }
@@ -143,18 +144,16 @@ fn write_out<K: Sink>(sink: &mut K, out: &mut Vec<u8>) -> Result<(), Failed>
     }
 }
 
-// Writes the text that waits, and ends so.
-fn end<K: Sink>(sink: &mut K, text: &Vec<u8>, wanted: Ending) -> Ending
-    requires no_line { IsNoLine wanted }
-    requires no_fault { wanted ≢ Ending.WriteFault }
-    ensures ended { Finishes wanted result (K.holds sink.old) (K.holds sink.new) text.now.items }
+// Writes the text that waits, the last of all, and ends.
+fn end<K: Sink>(sink: &mut K, text: &Vec<u8>) -> Ending
+    ensures ended { Finishes ending.Done result (K.holds sink.old) (K.holds sink.new) text.now.items }
     ensures no_line { IsNoLine result }
-    ensures read { result ≡ Ending.ReadFault → wanted ≡ Ending.ReadFault }
+    ensures read { result ≢ Ending.ReadFault }
     ensures later { K.faults sink.old ≤ K.faults sink.new }
     ensures cause { result ≡ Ending.WriteFault → Rose (K.faults sink.old) (K.faults sink.new) }
 {
     match write_all(sink, text.as_slice()) {
-        Ok(()) => wanted,
+        Ok(()) => Ending::Done,
         Err(_) => Ending::WriteFault,
     }
 }
@@ -166,7 +165,7 @@ fn end_long<K: Sink>(sink: &mut K, text: &Vec<u8>, number: u32, advice: &mut Vec
     ensures read { result ≢ Ending.ReadFault }
     ensures later { K.faults sink.old ≤ K.faults sink.new }
     ensures cause { result ≡ Ending.WriteFault → Rose (K.faults sink.old) (K.faults sink.new) }
-    ensures advised { IsToldAt (λ t. (d : Draft) (line : List ℕ) → IsAdvice d line why.Limit t) result advice.new.items }
+    ensures advised { IsAdvisedAt (λ t. (d : Draft) (line : List ℕ) → IsAdvice d line why.Limit t) result advice.new.items }
 {
     match write_all(sink, text.as_slice()) {
         Ok(()) => {
@@ -195,7 +194,7 @@ fn end_bad<K: Sink>(
     ensures read { result ≢ Ending.ReadFault }
     ensures later { K.faults sink.old ≤ K.faults sink.new }
     ensures cause { result ≡ Ending.WriteFault → Rose (K.faults sink.old) (K.faults sink.new) }
-    ensures advised { IsToldAt (λ t. (d : Draft) → Stands standing.now d → IsAdvice d line.now fault t) result advice.new.items }
+    ensures advised { IsAdvisedAt (λ t. (d : Draft) → Stands standing.now d → IsAdvice d line.now fault t) result advice.new.items }
 {
     match write_all(sink, text.as_slice()) {
         Ok(()) => {

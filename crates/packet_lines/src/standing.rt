@@ -11,6 +11,6 @@ pub struct Standing {
     pub last: u64,
     /// How many packets passed. It stands still at the last value of its type.
     pub passed: u64,
-    /// How many packets came. It stands still at the last value of its type.
-    pub told: u64,
+    /// How many packets were offered. It stands still at the last value of its type.
+    pub offered: u64,
 }

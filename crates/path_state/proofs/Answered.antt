@@ -15,8 +15,7 @@ use Rattle.rsvp_base.specs.SessionLimits.{sessions_in, has_room_at, IsWithinSess
 use Rattle.rsvp_base.specs.Table.{Table, empty, get, size, put_in, without, changed, changed_rows, kept_row, same_rows}
 use Rattle.path_state.specs.declared.fact.PathFact.{PathFact}
 use Rattle.path_state.specs.Paths.{PathMap, path_keys, path_key, fact_row, dead_row, later, dead_after}
-use Rattle.rsvp_base.proofs.SessionCounts.{is_full}
-use Rattle.rsvp_base.proofs.SessionCounts.{within_put, within_fewer, within_none, all_at_most}
+use Rattle.rsvp_base.proofs.SessionCounts.{is_full, within_put, within_fewer, within_none, all_at_most}
 use Rattle.soft_table.specs.Facts as soft
 
 pub first_there : {A : Type 0} (es : List A) → is_some (slice_get es 0) ≡ is_full es
@@ -71,7 +70,8 @@ rows_later ms [] = refl
 rows_later ms (e ∷ fs) = by (nat_le e.1 ms) (rows_later ms fs)
   where
     by : (b : Bool) → each fact_row (filter_map (soft.lives_on ms) fs) ≡ changed_rows (later ms) (each fact_row fs)
-        → each fact_row (cons_option (cond b None (Some (e.0, e.1 - ms))) (filter_map (soft.lives_on ms) fs)) ≡ kept_row (path_key e.0) (cond b None (Some (e.0, e.1 - ms))) (changed_rows (later ms) (each fact_row fs))
+        → each fact_row (cons_option (cond b None (Some (e.0, e.1 - ms))) (filter_map (soft.lives_on ms) fs))
+        ≡ kept_row (path_key e.0) (cond b None (Some (e.0, e.1 - ms))) (changed_rows (later ms) (each fact_row fs))
     by true rest = rest
     by false rest = ap (λ rs. (path_key e.0, (e.0, e.1 - ms)) ∷ rs) rest
 
@@ -93,17 +93,20 @@ cond_some : {X : Type 0} (b : Bool) (w : Option X) → is_some (cond b w None) �
 cond_some true w e = e
 cond_some false w e = absurd (both_ways _ refl e)
 
-pub within_later : (ms : ℕ) (m : Table path_keys (PathFact × ℕ)) (fs : List (PathFact × ℕ)) (up : AreRows path_keys fact_row fs) → IsWithinSessionLimits senders m → each fact_row fs ≡ (changed (later ms) m).rows → IsWithinSessionLimits senders (table_of path_keys fact_row fs up)
+pub within_later : (ms : ℕ) (m : Table path_keys (PathFact × ℕ)) (fs : List (PathFact × ℕ)) (up : AreRows path_keys fact_row fs) → IsWithinSessionLimits senders m
+    → each fact_row fs ≡ (changed (later ms) m).rows → IsWithinSessionLimits senders (table_of path_keys fact_row fs up)
 within_later ms m fs up within is =
     subst (λ (t : Table path_keys (PathFact × ℕ)). IsWithinSessionLimits senders t) (sym (same_rows _ _ is))
     (within_fewer senders m (changed (later ms) m) (λ k h. then_some (get m k) (later ms k) (ap is_some (sym (get-changed path_keys (later ms) m k)) ∙ h)) within)
 
-pub within_without : (k : Session × Sender) (m : Table path_keys (PathFact × ℕ)) (fs : List (PathFact × ℕ)) (up : AreRows path_keys fact_row fs) → IsWithinSessionLimits senders m → each fact_row fs ≡ (without m k).rows → IsWithinSessionLimits senders (table_of path_keys fact_row fs up)
+pub within_without : (k : Session × Sender) (m : Table path_keys (PathFact × ℕ)) (fs : List (PathFact × ℕ)) (up : AreRows path_keys fact_row fs) → IsWithinSessionLimits senders m
+    → each fact_row fs ≡ (without m k).rows → IsWithinSessionLimits senders (table_of path_keys fact_row fs up)
 within_without k m fs up within is =
     subst (λ (t : Table path_keys (PathFact × ℕ)). IsWithinSessionLimits senders t) (sym (same_rows _ _ is))
     (within_fewer senders m (without m k) (λ q h. cond_some (not (eq_by_cmp path_keys.cmp k q)) (get m q) (ap is_some (sym (get-without path_keys m k q)) ∙ h)) within)
 
-pub within_more : (k : Session × Sender) (e : PathFact × ℕ) (m : Table path_keys (PathFact × ℕ)) (fs : List (PathFact × ℕ)) (up : AreRows path_keys fact_row fs) → IsWithinSessionLimits senders m → has_room_at senders (put_in m k e) k.0 ≡ true → each fact_row fs ≡ (put_in m k e).rows
+pub within_more : (k : Session × Sender) (e : PathFact × ℕ) (m : Table path_keys (PathFact × ℕ)) (fs : List (PathFact × ℕ)) (up : AreRows path_keys fact_row fs) → IsWithinSessionLimits senders m
+    → has_room_at senders (put_in m k e) k.0 ≡ true → each fact_row fs ≡ (put_in m k e).rows
     → IsWithinSessionLimits senders (table_of path_keys fact_row fs up)
 within_more k e m fs up within room is = subst (λ (t : Table path_keys (PathFact × ℕ)). IsWithinSessionLimits senders t) (sym (same_rows _ _ is)) (within_put senders m within k.0 k.1 e room)
 
@@ -113,7 +116,8 @@ within_nothing fs up is =
     subst (λ (t : Table path_keys (PathFact × ℕ)). IsWithinSessionLimits senders t) (sym (same_rows (table_of path_keys fact_row fs up) nothing (ap (each fact_row) is))) (within_none senders)
 
 -- a table within the limits is not full
-pub never_full : (k : Session × Sender) (e : PathFact × ℕ) (m : Table path_keys (PathFact × ℕ)) → IsWithinSessionLimits senders m → has_room_at senders (put_in m k e) k.0 ≡ true → get m k ≡ None → size m ≡ 512 → ⊥
+pub never_full : (k : Session × Sender) (e : PathFact × ℕ) (m : Table path_keys (PathFact × ℕ)) → IsWithinSessionLimits senders m → has_room_at senders (put_in m k e) k.0 ≡ true → get m k ≡ None
+    → size m ≡ 512 → ⊥
 never_full k e m within room none full =
     let after = within_put senders m within k.0 k.1 e room in
     let few = all_at_most senders 32 (put_in m k e) after.all after.one in

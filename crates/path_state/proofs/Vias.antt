@@ -29,7 +29,8 @@ any_last p (y ∷ ys) x = ap (λ b. p y || b) (any_last p ys x) ∙ swapped (p y
 -- a sender more
 names_last : (xs : List Sender) (x : Sender) → names_from (xs ++ x ∷ []) ≡ with_key (names_from xs) x
 names_last xs x =
-    same_set senders _ _ (λ q. has-set_of senders (xs ++ x ∷ []) q ∙ any_last (eq_by_cmp senders.cmp q) xs x ∙ ap (λ b. eq_by_cmp senders.cmp q x || b) (sym (has-set_of senders xs q)) ∙ sym (has-with_key senders (names_from xs) x q))
+    same_set senders _ _ (λ q. has-set_of senders (xs ++ x ∷ []) q ∙ any_last (eq_by_cmp senders.cmp q) xs x ∙ ap (λ b. eq_by_cmp senders.cmp q x || b) (sym (has-set_of senders xs q))
+    ∙ sym (has-with_key senders (names_from xs) x q))
 
 abbrev Row : Type 0
 Row = Sender × (PathFact × ℕ)
@@ -44,7 +45,8 @@ senders_last i a (x ∷ es) e = by (comes_by i a x.1.0) (comes_by i a e.1.0) (se
   where
     by : (b t : Bool) → senders_by i a (es ++ e ∷ []) ≡ if t then (senders_by i a es ++ e.1.0.sender ∷ []) else senders_by i a es
         → each (λ (e : Row). e.1.0.sender) (cond b (x ∷ filter (λ e. comes_by i a e.1.0) (es ++ e ∷ [])) (filter (λ e. comes_by i a e.1.0) (es ++ e ∷ [])))
-        ≡ if t then (each (λ (e : Row). e.1.0.sender) (cond b (x ∷ filter (λ e. comes_by i a e.1.0) es) (filter (λ e. comes_by i a e.1.0) es)) ++ e.1.0.sender ∷ []) else each (λ (e : Row). e.1.0.sender) (cond b (x ∷ filter (λ e. comes_by i a e.1.0) es) (filter (λ e. comes_by i a e.1.0) es))
+        ≡ if t then (each (λ (e : Row). e.1.0.sender) (cond b (x ∷ filter (λ e. comes_by i a e.1.0) es) (filter (λ e. comes_by i a e.1.0) es)) ++ e.1.0.sender ∷ [])
+        else each (λ (e : Row). e.1.0.sender) (cond b (x ∷ filter (λ e. comes_by i a e.1.0) es) (filter (λ e. comes_by i a e.1.0) es))
     by true true rest = ap (λ ss. x.1.0.sender ∷ ss) rest
     by true false rest = ap (λ ss. x.1.0.sender ∷ ss) rest
     by false true rest = rest

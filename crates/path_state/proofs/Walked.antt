@@ -43,7 +43,8 @@ each_last f (y ∷ ys) x = ap (λ zs. f y ∷ zs) (each_last f ys x)
 
 hops_last : (hs : List (ℕ × Addr)) (h : ℕ × Addr) → set_of {o = path_hops} (hs ++ h ∷ []) ≡ with_key (set_of hs) h
 hops_last hs h =
-    same_set path_hops _ _ (λ q. has-set_of path_hops (hs ++ h ∷ []) q ∙ any_last (eq_by_cmp path_hops.cmp q) hs h ∙ ap (λ b. eq_by_cmp path_hops.cmp q h || b) (sym (has-set_of path_hops hs q)) ∙ sym (has-with_key path_hops (set_of hs) h q))
+    same_set path_hops _ _ (λ q. has-set_of path_hops (hs ++ h ∷ []) q ∙ any_last (eq_by_cmp path_hops.cmp q) hs h ∙ ap (λ b. eq_by_cmp path_hops.cmp q h || b) (sym (has-set_of path_hops hs q))
+    ∙ sym (has-with_key path_hops (set_of hs) h q))
 
 module _ (s : Session) (fs : List (PathFact × ℕ)) (k : ℕ) (f : PathFact) (st : Step senders path_key s fs k f) where
   abbrev us : List (Sender × (PathFact × ℕ))
@@ -73,12 +74,14 @@ abbrev cut : List ((Session × Sender) × (PathFact × ℕ)) → List (Sender ×
 cut es = each (λ e. (e.0.1, e.1)) es
 
 -- whether a fact's sender has an address, by the facts or by their keys
-pub among : (addr : Addr) (s : Session) (fs : List (PathFact × ℕ)) → list_any (λ (f : PathFact). is_from addr f.sender) (each (λ e. e.1.0) (paths_under s fs)) ≡ list_any (is_from addr) (each (λ e. e.0) (paths_under s fs))
+pub among : (addr : Addr) (s : Session) (fs : List (PathFact × ℕ)) → list_any (λ (f : PathFact). is_from addr f.sender) (each (λ e. e.1.0) (paths_under s fs))
+    ≡ list_any (is_from addr) (each (λ e. e.0) (paths_under s fs))
 among addr s [] = refl
 among addr s (f ∷ fs) = by (eq_by_cmp sessions.cmp s f.0.session) (among addr s fs)
   where
     by : (b : Bool) → list_any (λ (f : PathFact). is_from addr f.sender) (each (λ e. e.1.0) (cut (of_session s fs))) ≡ list_any (is_from addr) (each (λ e. e.0) (cut (of_session s fs)))
-        → list_any (λ (f : PathFact). is_from addr f.sender) (each (λ e. e.1.0) (cut (cond b ((path_key f.0, f) ∷ of_session s fs) (of_session s fs)))) ≡ list_any (is_from addr) (each (λ e. e.0) (cut (cond b ((path_key f.0, f) ∷ of_session s fs) (of_session s fs))))
+        → list_any (λ (f : PathFact). is_from addr f.sender) (each (λ e. e.1.0) (cut (cond b ((path_key f.0, f) ∷ of_session s fs) (of_session s fs))))
+        ≡ list_any (is_from addr) (each (λ e. e.0) (cut (cond b ((path_key f.0, f) ∷ of_session s fs) (of_session s fs))))
     by true ih = ap (λ b. is_from addr f.0.sender || b) ih
     by false ih = ih
 
@@ -88,7 +91,8 @@ named s [] = refl
 named s (f ∷ fs) = by (eq_by_cmp sessions.cmp s f.0.session) (named s fs)
   where
     by : (b : Bool) → each (λ (f : PathFact). f.sender) (each (λ e. e.1.0) (cut (of_session s fs))) ≡ each (λ e. e.0) (cut (of_session s fs))
-        → each (λ (f : PathFact). f.sender) (each (λ e. e.1.0) (cut (cond b ((path_key f.0, f) ∷ of_session s fs) (of_session s fs)))) ≡ each (λ e. e.0) (cut (cond b ((path_key f.0, f) ∷ of_session s fs) (of_session s fs)))
+        → each (λ (f : PathFact). f.sender) (each (λ e. e.1.0) (cut (cond b ((path_key f.0, f) ∷ of_session s fs) (of_session s fs))))
+        ≡ each (λ e. e.0) (cut (cond b ((path_key f.0, f) ∷ of_session s fs) (of_session s fs)))
     by true ih = ap (λ xs. f.0.sender ∷ xs) ih
     by false ih = ih
 

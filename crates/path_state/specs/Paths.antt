@@ -42,7 +42,8 @@ key_code = coded× (session.the_row).coded sender_code
 
 abbrev pub path_map_code : Coded PathMap
 path_map_code =
-    code_by (Table path_keys (PathFact × ℕ) × Table path_keys PathFact) (coded× (table_code path_keys key_code (coded× (fact.the_row).coded coded_ℕ)) (table_code path_keys key_code (fact.the_row).coded))
+    code_by (Table path_keys (PathFact × ℕ) × Table path_keys PathFact) (coded× (table_code path_keys key_code (coded× (fact.the_row).coded coded_ℕ))
+    (table_code path_keys key_code (fact.the_row).coded))
     (λ m. (m.facts, m.dead)) (λ p. record { facts = p.0; dead = p.1 }) (λ _. refl)
 
 -- ---- the paths of a session, by sender

@@ -43,7 +43,8 @@ module _ (fs : List (Held × ℕ)) (up : AreRows line_keys held_row fs) (k : Lin
   pub stood_said : get (changed fact_of (table_of line_keys held_row fs up)) k ≡ Some (h.fact, was)
   stood_said = get-valued line_keys said (table_of line_keys held_row fs up) k ∙ ap (option_map said) found
 
-  pub renew_said : (left : ℕ) (n : ResvFacts) → n.rows ≡ changed_rows fact_of (put line_keys.cmp k (h, left) (facts_by held_key fs)) → n ≡ put_in (changed fact_of (table_of line_keys held_row fs up)) k (h.fact, left)
+  pub renew_said : (left : ℕ) (n : ResvFacts) → n.rows ≡ changed_rows fact_of (put line_keys.cmp k (h, left) (facts_by held_key fs))
+      → n ≡ put_in (changed fact_of (table_of line_keys held_row fs up)) k (h.fact, left)
   renew_said left n is = same_rows n (changed fact_of (put_in (table_of line_keys held_row fs up) k (h, left))) is ∙ valued-put_in line_keys said (table_of line_keys held_row fs up) k (h, left)
 
 -- what a table keeps of a reservation that the map has

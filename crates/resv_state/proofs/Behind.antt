@@ -24,12 +24,14 @@ behind_said r [] = refl
 behind_said r (e ∷ es) = by (is_lt (rests.cmp r e.0)) (behind_said r es)
   where
     by : (b : Bool) → changed_rows (λ k e. Some (said e)) (rows_behind rests r es) ≡ rows_behind rests r (changed_rows (λ k e. Some (said e)) es)
-        → changed_rows (λ k e. Some (said e)) (cond b (e ∷ rows_behind rests r es) (rows_behind rests r es)) ≡ cond b ((e.0, said e.1) ∷ rows_behind rests r (changed_rows (λ k e. Some (said e)) es)) (rows_behind rests r (changed_rows (λ k e. Some (said e)) es))
+        → changed_rows (λ k e. Some (said e)) (cond b (e ∷ rows_behind rests r es) (rows_behind rests r es))
+        ≡ cond b ((e.0, said e.1) ∷ rows_behind rests r (changed_rows (λ k e. Some (said e)) es)) (rows_behind rests r (changed_rows (λ k e. Some (said e)) es))
     by true rest = ap (λ zs. (e.0, said e.1) ∷ zs) rest
     by false rest = rest
 
 -- the k-th of rows that a table keeps, as the map says
-pub kth_said : (es : List (Rest × (Held × ℕ))) (k : ℕ) (r : Option Held) → r ≡ option_map (λ e. e.1.0) (slice_get es k) → option_map told r ≡ option_map (λ (e : Rest × (ResvFact × ℕ)). e.1.0) (slice_get (changed_rows (λ k e. Some (said e)) es) k)
+pub kth_said : (es : List (Rest × (Held × ℕ))) (k : ℕ) (r : Option Held) → r ≡ option_map (λ e. e.1.0) (slice_get es k)
+    → option_map told r ≡ option_map (λ (e : Rest × (ResvFact × ℕ)). e.1.0) (slice_get (changed_rows (λ k e. Some (said e)) es) k)
 kth_said es k r is = kth_told told r (slice_get es k) is ∙ ap (option_map (λ (e : Rest × (ResvFact × ℕ)). e.1.0)) (sym (kth-valued said es k))
 
 pub next_said : (rest : Rest) (es : List (Rest × (Held × ℕ))) (r : Option Held) → r ≡ option_map (λ e. e.1.0) (slice_get (rows_behind rests rest es) 0)
@@ -49,7 +51,8 @@ module _ (st : StyleKind) (m : ResvFacts) (of : AreOfStyle st m) (f : ResvFact) 
       one_more n = omega arith
 
       by : (w : Option (Rest × (ResvFact × ℕ))) → slice_get us.rows k ≡ w → Some f ≡ option_map (λ (e : Rest × (ResvFact × ℕ)). e.1.0) w
-          → option_map (λ (e : Rest × (ResvFact × ℕ)). e.1.0) (slice_get (rows_behind rests (resv_key st f).1 us.rows) 0) ≡ option_map (λ (e : Rest × (ResvFact × ℕ)). e.1.0) (slice_get us.rows (k + 1))
+          → option_map (λ (e : Rest × (ResvFact × ℕ)). e.1.0) (slice_get (rows_behind rests (resv_key st f).1 us.rows) 0)
+          ≡ option_map (λ (e : Rest × (ResvFact × ℕ)). e.1.0) (slice_get us.rows (k + 1))
       by None at e = cc
       by (Some x) at e =
           let same : f ≡ x.1.0 = cc in

@@ -34,7 +34,8 @@ use Rattle.resv_state.proofs.Walked.{from_here}
 
 -- ---- the walk
 pub joined_here : (r : Rest) (flow : TokenBucket) (s : Session) (fs : List (Held × ℕ)) (k : ℕ) (h : Held) (st : Step rests held_key s fs k h)
-    → joined_with r flow (each held_said (drop k (held_under s fs))) ≡ joined_with r (cond (is_beside r (held_key h).1) (flow_join flow h.fact.part.flow) flow) (each held_said (drop (k + 1) (held_under s fs)))
+    → joined_with r flow (each held_said (drop k (held_under s fs))) ≡ joined_with r (cond (is_beside r (held_key h).1) (flow_join flow h.fact.part.flow) flow)
+    (each held_said (drop (k + 1) (held_under s fs)))
 joined_here r flow s fs k h st =
     let rest = each held_said (drop (k + 1) (held_under s fs)) in
     ap (λ es. joined_with r flow (each held_said es)) (from_here s fs k h st)
@@ -58,11 +59,13 @@ module _ (r : Rest) where
   above_beside : (f : TokenBucket) (es : List SessionRow) (e : SessionRow) → In e es → is_beside r e.0 ≡ true → IsAtMost e.1.0.part.flow (joined_with r f es)
   above_beside f [] e i b = absurd i
   above_beside f (x ∷ xs) e i b =
-      ⊎_elim (λ (same : e ≡ x). subst (λ (z : SessionRow). IsAtMost z.1.0.part.flow (joined_with r f (x ∷ xs))) (sym same) (here (is_beside r x.0) (ap (λ (z : SessionRow). is_beside r z.0) (sym same) ∙ b)))
+      ⊎_elim (λ (same : e ≡ x). subst (λ (z : SessionRow). IsAtMost z.1.0.part.flow (joined_with r f (x ∷ xs))) (sym same)
+      (here (is_beside r x.0) (ap (λ (z : SessionRow). is_beside r z.0) (sym same) ∙ b)))
       (λ (j : In e xs). above_beside (cond (is_beside r x.0) (flow_join f x.1.0.part.flow) f) xs e j b) i
     where
       here : (b : Bool) → b ≡ true → IsAtMost x.1.0.part.flow (joined_with r (cond b (flow_join f x.1.0.part.flow) f) xs)
-      here true t = at_most_along x.1.0.part.flow (flow_join f x.1.0.part.flow) (joined_with r (flow_join f x.1.0.part.flow) xs) (join_above_right f x.1.0.part.flow) (above_own (flow_join f x.1.0.part.flow) xs)
+      here true t = at_most_along x.1.0.part.flow (flow_join f x.1.0.part.flow) (joined_with r (flow_join f x.1.0.part.flow) xs) (join_above_right f x.1.0.part.flow)
+          (above_own (flow_join f x.1.0.part.flow) xs)
       here false t = absurd (cc)
 
   least_joined : (f g : TokenBucket) (es : List SessionRow) → IsAtMost f g → ((e : SessionRow) → In e es → is_beside r e.0 ≡ true → IsAtMost e.1.0.part.flow g) → IsAtMost (joined_with r f es) g
@@ -118,7 +121,8 @@ module _ (st : StyleKind) (m : ResvFacts) (of : AreOfStyle st m) (f : ResvFact) 
       let at : get all e.0 ≡ Some e.1 = in_found rests all e.0 e.1 d.1 in
       let split : cond (eq_by_cmp rests.cmp e.0 r) (Some (f, left)) (get us e.0) ≡ Some e.1 = sym (get-put_in rests us r (f, left) e.0) ∙ at in
       either (eq_by_cmp rests.cmp e.0 r)
-      (λ t. let same : Some (f, left) ≡ Some e.1 = sym (ap (λ b. cond b (Some (f, left)) (get us e.0)) t) ∙ split in let is : (f, left) ≡ e.1 = cc in inl (sym told.1 ∙ ap (λ (z : ResvFact × ℕ). z.0.part) (sym is)))
+      (λ t. let same : Some (f, left) ≡ Some e.1 = sym (ap (λ b. cond b (Some (f, left)) (get us e.0)) t) ∙ split in let is : (f, left) ≡ e.1 = cc in
+      inl (sym told.1 ∙ ap (λ (z : ResvFact × ℕ). z.0.part) (sym is)))
       (λ t.
       let there : get us e.0 ≡ Some e.1 = sym (ap (λ b. cond b (Some (f, left)) (get us e.0)) t) ∙ split in
       let its = unit_is e.0 e.1 there in
@@ -144,11 +148,13 @@ module _ (st : StyleKind) (m : ResvFacts) (of : AreOfStyle st m) (f : ResvFact) 
       apart : (q : Rest) → not (eq_by_cmp rests.cmp r q) ≡ true → eq_by_cmp rests.cmp q r ≡ false
       apart q n =
           either (eq_by_cmp rests.cmp q r)
-          (λ t. let same : eq_by_cmp rests.cmp r q ≡ true = ap (λ z. eq_by_cmp rests.cmp r z) (tied_same rests q r t) ∙ tied_self rests r in absurd (both_ways (not (eq_by_cmp rests.cmp r q)) (ap not same) n))
+          (λ t. let same : eq_by_cmp rests.cmp r q ≡ true = ap (λ z. eq_by_cmp rests.cmp r z) (tied_same rests q r t) ∙ tied_self rests r in
+          absurd (both_ways (not (eq_by_cmp rests.cmp r q)) (ap not same) n))
           (λ t. t)
 
   own_among : In f.part ps
-  own_among = to_filter_map (part_on f.iface) f.part (r, (f, left)) all.rows (found_in rests all r (f, left) (get-put_in_same rests us r (f, left))) (ap (λ c. cond c (Some f.part) None) (eq-eqb f.iface f.iface refl))
+  own_among = to_filter_map (part_on f.iface) f.part (r, (f, left)) all.rows (found_in rests all r (f, left) (get-put_in_same rests us r (f, left)))
+      (ap (λ c. cond c (Some f.part) None) (eq-eqb f.iface f.iface refl))
 
   entry_flow : option_map (λ (p : Part). p.flow) (get (merge st ps) u) ≡ Some (joined_with r f.part.flow us.rows)
   entry_flow =
@@ -170,5 +176,7 @@ module _ (st : StyleKind) (m : ResvFacts) (of : AreOfStyle st m) (f : ResvFact) 
       flow_of q (inl is) = subst (λ (x : Part). IsAtMost x.flow (joined_with r f.part.flow us.rows)) (sym is) (above_own r f.part.flow us.rows)
       flow_of q (inr w) = subst (λ (x : Part). IsAtMost x.flow (joined_with r f.part.flow us.rows)) w.3 (above_beside r f.part.flow us.rows w.0 w.1 w.2)
 
-  pub entry_is : option_map (λ (p : Part). p.flow) (get (merge st (parts_on f.iface (under sessions rests (put_in m (resv_key st f) (f, left)) f.session).rows)) u) ≡ Some (joined_with r f.part.flow us.rows)
-  entry_is = ap (λ (t : Table rests (ResvFact × ℕ)). option_map (λ (p : Part). p.flow) (get (merge st (parts_on f.iface t.rows)) u)) (under-put_in_same sessions rests m f.session r (f, left)) ∙ entry_flow
+  pub entry_is : option_map (λ (p : Part). p.flow) (get (merge st (parts_on f.iface (under sessions rests (put_in m (resv_key st f) (f, left)) f.session).rows)) u)
+      ≡ Some (joined_with r f.part.flow us.rows)
+  entry_is = ap (λ (t : Table rests (ResvFact × ℕ)). option_map (λ (p : Part). p.flow) (get (merge st (parts_on f.iface t.rows)) u)) (under-put_in_same sessions rests m f.session r (f, left))
+      ∙ entry_flow

@@ -48,7 +48,12 @@ module _ (st : StyleKind) where
       let d = h r.0.0 r.0.1 (in_found line_keys m r.0.0 r.0.1 r.1) in (
         soft_resv st (r.0.0, d.0),
         to_each (soft_resv st) (r.0.0, d.0) n.rows (found_in line_keys n r.0.0 d.0 d.1),
-        record { style = ap (λ (z : Line). z.style) r.2; key = ap (λ (z : Line). (z.session, ((z.end, z.next), z.unit))) r.2; part = subst (λ (z : Line). IsPartAtMost z.part d.0.0.part) (sym r.2) d.2 },
+        record {
+          style = ap (λ (z : Line). z.style) r.2;
+          key = ap (λ (z : Line). (z.session, ((z.end, z.next), z.unit))) r.2;
+          part = subst (λ (z : Line). IsPartAtMost z.part d.0.0.part)
+              (sym r.2) d.2;
+        },
       )
 
   pub limits_below : (m n : ResvFacts) → AreBelow m n → IsWithinLimits st (resv_lines st n) → IsWithinLimits st (resv_lines st m)
@@ -96,7 +101,8 @@ module _ (st : StyleKind) where
       none e got = cc
 
   pub no_lines : (m : ResvFacts) → m ≡ empty → IsWithinLimits st (resv_lines st m)
-  no_lines m is = subst (λ (z : ResvFacts). IsWithinLimits st (resv_lines st z)) (sym is) (record { lines = omega arith; sessions = omega arith; next_hops = λ s. omega arith; names = λ s. omega arith })
+  no_lines m is = subst (λ (z : ResvFacts). IsWithinLimits st (resv_lines st z)) (sym is)
+      (record { lines = omega arith; sessions = omega arith; next_hops = λ s. omega arith; names = λ s. omega arith })
 
 -- no dead one waits where the map has none
 pub no_dead : (hs : List Held) → changed_rows dead_of (each dead_row hs) ≡ [] → hs ≡ []
@@ -108,11 +114,13 @@ pub pulled_keys : (st : StyleKind) (r : Option Held) (old new : Kept Held) (up :
     → IfSome r (λ h. dead_by held_key new.dead ≡ where_key line_keys.cmp (λ k. not (eq_by_cmp line_keys.cmp (held_key h) k)) (dead_by held_key old.dead)) → (IsNone r → new ≡ old)
     → AreUnderTheirKeys st (changed dead_of (table_of line_keys dead_row old.dead up)) → AreUnderTheirKeys st (changed dead_of (table_of line_keys dead_row new.dead up2))
 pulled_keys st None old new up up2 pulled same h =
-    let is : changed dead_of (table_of line_keys dead_row new.dead up2) ≡ changed dead_of (table_of line_keys dead_row old.dead up) = same_rows _ _ (ap (λ (t : Kept Held). changed_rows dead_of (each dead_row t.dead)) (same refl)) in
+    let is : changed dead_of (table_of line_keys dead_row new.dead up2) ≡ changed dead_of (table_of line_keys dead_row old.dead up) =
+    same_rows _ _ (ap (λ (t : Kept Held). changed_rows dead_of (each dead_row t.dead)) (same refl)) in
     subst (λ (z : Table line_keys ResvFact). AreUnderTheirKeys st z) (sym is) h
 pulled_keys st (Some d) old new up up2 pulled same h =
     let t : Table line_keys Held = table_of line_keys dead_row old.dead up in
-    let is : changed dead_of (table_of line_keys dead_row new.dead up2) ≡ without (changed dead_of t) (held_key d) = same_rows _ (changed dead_of (without t (held_key d))) (ap (changed_rows dead_of) pulled) ∙ valued-without line_keys told t (held_key d) in
+    let is : changed dead_of (table_of line_keys dead_row new.dead up2) ≡ without (changed dead_of t) (held_key d) =
+    same_rows _ (changed dead_of (without t (held_key d))) (ap (changed_rows dead_of) pulled) ∙ valued-without line_keys told t (held_key d) in
     subst (λ (z : Table line_keys ResvFact). AreUnderTheirKeys st z) (sym is) (λ k f got. h k f (got_without line_keys (changed dead_of t) (held_key d) k f got))
 
 -- ---- one more
@@ -138,11 +146,13 @@ module _ (fs : List (Held × ℕ)) (up : AreRows line_keys held_row fs) where
   t = table_of line_keys held_row fs up
 
   -- the map after a fact was put in below
-  pub put_said : (st : StyleKind) (f : ResvFact) (left : ℕ) (u : UnitOf) → u ≡ part_unit st f.part → (m : ResvFacts) → m.rows ≡ changed_rows fact_of (put line_keys.cmp (held_key (record { unit = u; fact = f })) (record { unit = u; fact = f }, left) (each held_row fs))
+  pub put_said : (st : StyleKind) (f : ResvFact) (left : ℕ) (u : UnitOf) → u ≡ part_unit st f.part → (m : ResvFacts)
+      → m.rows ≡ changed_rows fact_of (put line_keys.cmp (held_key (record { unit = u; fact = f })) (record { unit = u; fact = f }, left) (each held_row fs))
       → m ≡ put_in (changed fact_of t) (resv_key st f) (f, left)
   put_said st f left u unit m is =
       let h : Held = record { unit = u; fact = f } in
-      same_rows m (changed fact_of (put_in t (held_key h) (h, left))) is ∙ valued-put_in line_keys said t (held_key h) (h, left) ∙ ap (λ z. put_in (changed fact_of t) z (f, left)) (own_unit st f u unit)
+      same_rows m (changed fact_of (put_in t (held_key h) (h, left))) is ∙ valued-put_in line_keys said t (held_key h) (h, left)
+      ∙ ap (λ z. put_in (changed fact_of t) z (f, left)) (own_unit st f u unit)
 
   -- the rows of a session
   pub rows_said : (now : ResvFacts) → changed fact_of t ≡ now → (s : Session) → changed_rows (λ k e. Some (said e)) (held_under s fs) ≡ (under sessions rests now s).rows

@@ -92,7 +92,8 @@ module _ (s : Session) (gone : Names) (old : ResvMap) where
       ∙ either (is_lt (rests.cmp r b))
       (λ lt.
       let far : list_any (λ c. eq_by_cmp rests.cmp c b) (take (suc k) (keys those)) ≡ false = none_upto rests those.rows k x.0 b those.sorted x.1 (ap (λ z. is_lt (rests.cmp z b)) x.2 ∙ lt) in
-      let same : get (under sessions rests new s) b ≡ get those b = get-under sessions rests new s b ∙ facts (s, b) ∙ ap (λ w. after_some gone w (get old.facts (s, b))) (met_all (take (suc k) (keys those)) b far) ∙ sym (get-under sessions rests old.facts s b) in
+      let same : get (under sessions rests new s) b ≡ get those b = get-under sessions rests new s b ∙ facts (s, b)
+      ∙ ap (λ w. after_some gone w (get old.facts (s, b))) (met_all (take (suc k) (keys those)) b far) ∙ sym (get-under sessions rests old.facts s b) in
       ap (λ w. cond (is_lt (rests.cmp r b)) w None) same)
       (λ no. ap (λ w. cond w (get (under sessions rests new s) b) None) no ∙ sym (ap (λ w. cond w (get those b) None) no))
       ∙ sym (get-kept rests (λ b. is_lt (rests.cmp r b)) those b))
@@ -104,7 +105,8 @@ module _ (s : Session) (gone : Names) (old : ResvMap) where
       → later ≡ slice_get (keys_of (rows_behind rests r (under sessions rests new.facts s).rows)) 0 → Forgot new later (k + 1)
   forgot_more now new next later r k f is to on =
       let at : slice_get (keys those) k ≡ Some r = sym f.at ∙ is in
-      let facts : (q : LineKey) → get new.facts q ≡ after_some gone (is_met (take (suc k) (keys those)) q) (get old.facts q) = λ q. ap (λ (z : ResvMap). get z.facts q) to ∙ one_more_key gone old.facts now.facts (is_met (take k (keys those))) (is_met (take (suc k) (keys those))) (s, r) f.facts (met_more k r at) q in
+      let facts : (q : LineKey) → get new.facts q ≡ after_some gone (is_met (take (suc k) (keys those)) q) (get old.facts q) = λ q. ap (λ (z : ResvMap). get z.facts q) to
+      ∙ one_more_key gone old.facts now.facts (is_met (take k (keys those))) (is_met (take (suc k) (keys those))) (s, r) f.facts (met_more k r at) q in
       let x = row_got those.rows k r at in
       let rows : rows_behind rests r those.rows ≡ drop (suc k) those.rows = ap (λ z. rows_behind rests z those.rows) (sym x.2) ∙ behind_drop rests those.rows k x.0 those.sorted x.1 in
       subst (λ n. Forgot new later n) (one_more k)
@@ -114,7 +116,8 @@ module _ (s : Session) (gone : Names) (old : ResvMap) where
         dead = ap (λ (z : ResvMap). z.dead) to ∙ f.dead;
       })
 
-  pub forgot_all : (now : ResvMap) (next : Option Rest) (k : ℕ) → Forgot now next k → take k (keys those) ≡ keys those → now ≡ record old { facts = changed (λ q e. cond (eq_by_cmp sessions.cmp s q.0) (left_of gone e) (Some e)) old.facts }
+  pub forgot_all : (now : ResvMap) (next : Option Rest) (k : ℕ) → Forgot now next k → take k (keys those) ≡ keys those
+      → now ≡ record old { facts = changed (λ q e. cond (eq_by_cmp sessions.cmp s q.0) (left_of gone e) (Some e)) old.facts }
   forgot_all now next k f all =
       same_map now (record old { facts = changed (λ q e. cond (eq_by_cmp sessions.cmp s q.0) (left_of gone e) (Some e)) old.facts })
       (same_table line_keys now.facts _ (λ q.
@@ -129,11 +132,13 @@ module _ (s : Session) (gone : Names) (old : ResvMap) where
       by q true own false e None at = refl
       by q true own false e (Some r) at =
           let there : get those q.1 ≡ Some r = get-under sessions rests old.facts s q.1 ∙ ap (λ z. get old.facts (z, q.1)) (tied_same sessions s q.0 own) ∙ at in
-          let z : true ≡ false = sym (any_in (λ c. eq_by_cmp rests.cmp c q.1) q.1 (keys those) (to_each (λ (e : Rest × (ResvFact × ℕ)). e.0) (q.1, r) those.rows (found_in rests those q.1 r there)) (tied_self rests q.1)) ∙ e in
+          let z : true ≡ false = sym (any_in (λ c. eq_by_cmp rests.cmp c q.1) q.1 (keys those) (to_each (λ (e : Rest × (ResvFact × ℕ)). e.0) (q.1, r) those.rows (found_in rests those q.1 r there))
+          (tied_self rests q.1)) ∙ e in
           absurd (cc)
 
 -- ---- the rests, as a table below tells them
-keyed : (u : Table rests (Held × ℕ)) → ((b : Rest) (e : Held × ℕ) → get u b ≡ Some e → (held_key e.0).1 ≡ b) → (i : ℕ) → option_map (λ (h : Held). (held_key h).1) (option_map (λ (e : Rest × (Held × ℕ)). e.1.0) (slice_get u.rows i)) ≡ slice_get (keys u) i
+keyed : (u : Table rests (Held × ℕ)) → ((b : Rest) (e : Held × ℕ) → get u b ≡ Some e → (held_key e.0).1 ≡ b) → (i : ℕ)
+    → option_map (λ (h : Held). (held_key h).1) (option_map (λ (e : Rest × (Held × ℕ)). e.1.0) (slice_get u.rows i)) ≡ slice_get (keys u) i
 keyed u own i = by (slice_get u.rows i) refl ∙ sym (key_got u.rows i)
   where
     by : (w : Option (Rest × (Held × ℕ))) → slice_get u.rows i ≡ w → option_map (λ (h : Held). (held_key h).1) (option_map (λ (e : Rest × (Held × ℕ)). e.1.0) w) ≡ option_map (λ e. e.0) w
@@ -145,10 +150,12 @@ module _ (fs : List (Held × ℕ)) (up : AreRows line_keys held_row fs) (s : Ses
   below = under sessions rests (table_of line_keys held_row fs up) s
 
   own : (b : Rest) (e : Held × ℕ) → get below b ≡ Some e → (held_key e.0).1 ≡ b
-  own b e at = ap (λ (k : LineKey). k.1) (own_key (s, b) fs e (found_in line_keys (table_of line_keys held_row fs up) (s, b) e (sym (get-under sessions rests (table_of line_keys held_row fs up) s b) ∙ at)))
+  own b e at = ap (λ (k : LineKey). k.1) (own_key (s, b) fs e (found_in line_keys (table_of line_keys held_row fs up) (s, b) e
+      (sym (get-under sessions rests (table_of line_keys held_row fs up) s b) ∙ at)))
 
   -- the first, and the one behind a rest
-  pub first_told : (m : Table rests (ResvFact × ℕ)) → m.rows ≡ changed_rows (λ k e. Some (said e)) below.rows → option_map (λ (h : Held). (held_key h).1) (option_map (λ (e : Rest × (Held × ℕ)). e.1.0) (slice_get below.rows 0)) ≡ slice_get (keys m) 0
+  pub first_told : (m : Table rests (ResvFact × ℕ)) → m.rows ≡ changed_rows (λ k e. Some (said e)) below.rows
+      → option_map (λ (h : Held). (held_key h).1) (option_map (λ (e : Rest × (Held × ℕ)). e.1.0) (slice_get below.rows 0)) ≡ slice_get (keys m) 0
   first_told m is = keyed below own 0 ∙ ap (λ rs. slice_get rs 0) (sym (ap keys_of is ∙ keys-valued said below.rows))
 
   pub behind_told : (r : Rest) (m : Table rests (ResvFact × ℕ)) → m.rows ≡ changed_rows (λ k e. Some (said e)) below.rows

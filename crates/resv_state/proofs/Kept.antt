@@ -32,7 +32,8 @@ module _ (test : Sender → Bool) where
   goes true false false = refl
   goes false b e = refl
 
-  pub one_kept : (from left : Names) (xs : List Sender) (i : ℕ) (d : Sender) → i < length xs → AreKept from left (take i xs) → AreKept from (cond (test (get_or xs i d)) left (without left (get_or xs i d))) (take (i + 1) xs)
+  pub one_kept : (from left : Names) (xs : List Sender) (i : ℕ) (d : Sender) → i < length xs → AreKept from left (take i xs)
+      → AreKept from (cond (test (get_or xs i d)) left (without left (get_or xs i d))) (take (i + 1) xs)
   one_kept from left xs i d lt h q =
       by (test x) refl ∙ ap (λ b. has from q && not b) (sym (ap (list_any (is_lost q)) (take_more xs i d lt) ∙ list_any-append (is_lost q) (take i xs) (x ∷ [])))
     where

@@ -115,14 +115,16 @@ module _ (fs : List (Held × ℕ)) (up : AreRows line_keys held_row fs) (k : Lin
   t = table_of line_keys held_row fs up
 
   -- a table of other rows alike, and what is left of this one
-  made : (n : Table line_keys (Held × ℕ)) → ((q : LineKey) → eq_by_cmp line_keys.cmp q k ≡ false → get n q ≡ get t q) → get n k ≡ then_do (get t k) (λ e. option_map (λ h. (h, e.1)) (held_left gone e.0)) → n ≡ changed (held_lessened k gone) t
+  made : (n : Table line_keys (Held × ℕ)) → ((q : LineKey) → eq_by_cmp line_keys.cmp q k ≡ false → get n q ≡ get t q)
+      → get n k ≡ then_do (get t k) (λ e. option_map (λ h. (h, e.1)) (held_left gone e.0)) → n ≡ changed (held_lessened k gone) t
   made n others here =
       same_table line_keys n _ (λ q. either (eq_by_cmp line_keys.cmp q k)
       (λ tie.
       let is = tied_same line_keys q k tie in
       ap (get n) is ∙ here ∙ ap (λ z. then_do (get t z) (λ e. option_map (λ h. (h, e.1)) (held_left gone e.0))) (sym is)
       ∙ sym (get-changed line_keys (held_lessened k gone) t q ∙ ap (λ b. then_do (get t q) (λ (e : Held × ℕ). cond b (option_map (λ h. (h, e.1)) (held_left gone e.0)) (Some e))) tie))
-      (λ no. others q no ∙ sym (get-changed line_keys (held_lessened k gone) t q ∙ ap (λ b. then_do (get t q) (λ (e : Held × ℕ). cond b (option_map (λ h. (h, e.1)) (held_left gone e.0)) (Some e))) no ∙ then_same (get t q))))
+      (λ no. others q no ∙ sym (get-changed line_keys (held_lessened k gone) t q ∙ ap (λ b. then_do (get t q) (λ (e : Held × ℕ). cond b (option_map (λ h. (h, e.1)) (held_left gone e.0)) (Some e))) no
+      ∙ then_same (get t q))))
 
   rows_made : (n : Table line_keys (Held × ℕ)) → n ≡ changed (held_lessened k gone) t → n.rows ≡ changed_rows (held_lessened k gone) (facts_by held_key fs)
   rows_made n is = ap (λ (z : Table line_keys (Held × ℕ)). z.rows) is
@@ -147,12 +149,15 @@ module _ (fs : List (Held × ℕ)) (up : AreRows line_keys held_row fs) (k : Lin
       by (Some x) e = let same : h ≡ x.0 = cc in (x.1, λ i. Some (sym same i, x.1))
 
   -- that has none of the names
-  pub row_stays : (h : Held) (left : ℕ) → get t k ≡ Some (h, left) → has_one gone h.fact.part ≡ false → has_name h.fact.part ≡ true → facts_by held_key fs ≡ changed_rows (held_lessened k gone) (facts_by held_key fs)
+  pub row_stays : (h : Held) (left : ℕ) → get t k ≡ Some (h, left) → has_one gone h.fact.part ≡ false → has_name h.fact.part ≡ true
+      → facts_by held_key fs ≡ changed_rows (held_lessened k gone) (facts_by held_key fs)
   row_stays h left at none named =
-      rows_made t (made t (λ q e. refl) (at ∙ sym (ap (λ w. then_do w (λ e. option_map (λ h. (h, e.1)) (held_left gone e.0))) at ∙ ap (λ w. option_map (λ z. (z, left)) (option_map (held_with h) w)) (whole gone h.fact.part none named))))
+      rows_made t (made t (λ q e. refl) (at ∙ sym (ap (λ w. then_do w (λ e. option_map (λ h. (h, e.1)) (held_left gone e.0))) at
+      ∙ ap (λ w. option_map (λ z. (z, left)) (option_map (held_with h) w)) (whole gone h.fact.part none named))))
 
   -- of which something is left
-  pub row_less : (h x : Held) (left : ℕ) → get t k ≡ Some (h, left) → held_left gone h ≡ Some x → (rows : List (LineKey × (Held × ℕ))) → rows ≡ (put_in t (held_key x) (x, left)).rows → held_key x ≡ k → rows ≡ changed_rows (held_lessened k gone) (facts_by held_key fs)
+  pub row_less : (h x : Held) (left : ℕ) → get t k ≡ Some (h, left) → held_left gone h ≡ Some x → (rows : List (LineKey × (Held × ℕ))) → rows ≡ (put_in t (held_key x) (x, left)).rows → held_key x ≡ k
+      → rows ≡ changed_rows (held_lessened k gone) (facts_by held_key fs)
   row_less h x left at is rows are own =
       are ∙ ap (λ z. (put_in t z (x, left)).rows) own
       ∙ rows_made (put_in t k (x, left)) (made (put_in t k (x, left)) (λ q e. get-put_in_other line_keys t k (x, left) q e)
@@ -162,7 +167,8 @@ module _ (fs : List (Held × ℕ)) (up : AreRows line_keys held_row fs) (k : Lin
   pub row_gone : (h : Held) (left : ℕ) → get t k ≡ Some (h, left) → held_left gone h ≡ None → (without t k).rows ≡ changed_rows (held_lessened k gone) (facts_by held_key fs)
   row_gone h left at is =
       rows_made (without t k) (made (without t k) (λ q e. get-without line_keys t k q ∙ ap (λ b. cond (not b) (get t q) None) (turned q e))
-      (get-without line_keys t k k ∙ ap (λ b. cond (not b) (get t k) None) (tied_self line_keys k) ∙ sym (ap (λ w. then_do w (λ e. option_map (λ h. (h, e.1)) (held_left gone e.0))) at ∙ ap (option_map (λ z. (z, left))) is)))
+      (get-without line_keys t k k ∙ ap (λ b. cond (not b) (get t k) None) (tied_self line_keys k)
+      ∙ sym (ap (λ w. then_do w (λ e. option_map (λ h. (h, e.1)) (held_left gone e.0))) at ∙ ap (option_map (λ z. (z, left))) is)))
     where
       turned : (q : LineKey) → eq_by_cmp line_keys.cmp q k ≡ false → eq_by_cmp line_keys.cmp k q ≡ false
       turned q e =
@@ -181,7 +187,8 @@ module _ (fs : List (Held × ℕ)) (up : AreRows line_keys held_row fs) (k : Lin
 pub less_said : (k : LineKey) (gone : Names) (t : Table line_keys (Held × ℕ)) → changed fact_of (changed (held_lessened k gone) t) ≡ changed (lessened k gone) (changed fact_of t)
 less_said k gone t = valued-changed line_keys said said (held_lessened k gone) (lessened k gone) (λ q e. by (eq_by_cmp line_keys.cmp q k) e (part_kept (stays gone) e.0.fact.part)) t
   where
-    by : (b : Bool) (e : Held × ℕ) (w : Option Part) → option_map said (cond b (option_map (λ h. (h, e.1)) (option_map (held_with e.0) w)) (Some e)) ≡ cond b (option_map (with_part (said e)) w) (Some (said e))
+    by : (b : Bool) (e : Held × ℕ) (w : Option Part) → option_map said (cond b (option_map (λ h. (h, e.1)) (option_map (held_with e.0) w)) (Some e))
+        ≡ cond b (option_map (with_part (said e)) w) (Some (said e))
     by true e None = refl
     by true e (Some p) = refl
     by false e w = refl

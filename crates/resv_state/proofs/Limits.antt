@@ -65,7 +65,8 @@ module _ (st : StyleKind) (m : ResvFacts) where
 
   in_line : (s : Session) (r : Rest) (e : ResvFact × ℕ) → get m (s, r) ≡ Some e → In (soft_resv st ((s, r), e)) (of_session s (resv_lines st m))
   in_line s r e at =
-      to_filter (λ (z : Line). eq_by_cmp sessions.cmp s z.session) (soft_resv st ((s, r), e)) (resv_lines st m) (to_each (soft_resv st) ((s, r), e) m.rows (found_in line_keys m (s, r) e at)) (tied_self sessions s)
+      to_filter (λ (z : Line). eq_by_cmp sessions.cmp s z.session) (soft_resv st ((s, r), e)) (resv_lines st m) (to_each (soft_resv st) ((s, r), e) m.rows (found_in line_keys m (s, r) e at))
+      (tied_self sessions s)
 
   pub names_told : (s : Session) (q : Sender) → has (names_of (of_session s (resv_lines st m))) q ≡ true → Named m s q
   names_told s q h =
@@ -127,7 +128,8 @@ has-with_names r q (e ∷ es) names = by (eq_by_cmp rests.cmp r e.0) (λ n. has-
     by : (b : Bool) → ((n : Names) → has (with_names r n es) q ≡ (has n q || list_any (is_beside r q) es))
         → has (with_names r (cond b names (union names e.1.0.fact.part.senders)) es) q ≡ (has names q || ((not b && has e.1.0.fact.part.senders q) || list_any (is_beside r q) es))
     by true ih = ih names
-    by false ih = ih (union names e.1.0.fact.part.senders) ∙ ap (λ b. b || list_any (is_beside r q) es) (has-union senders names e.1.0.fact.part.senders q) ∙ or_assoc (has names q) (has e.1.0.fact.part.senders q) (list_any (is_beside r q) es)
+    by false ih = ih (union names e.1.0.fact.part.senders) ∙ ap (λ b. b || list_any (is_beside r q) es) (has-union senders names e.1.0.fact.part.senders q)
+        ∙ or_assoc (has names q) (has e.1.0.fact.part.senders q) (list_any (is_beside r q) es)
 
 some_said : (w : Option (Held × ℕ)) (e : ResvFact × ℕ) → option_map said w ≡ Some e → (h : Held × ℕ) × (w ≡ Some h) × (said h ≡ e)
 some_said None e is = cc
@@ -189,7 +191,8 @@ module _ (st : StyleKind) (fs : List (Held × ℕ)) (up : AreRows line_keys held
         | inl p ↦ or_left (has v.0.part.senders q) (list_any (is_beside r q) us) (ap (λ (e : ResvFact × ℕ). has e.0.part.senders q) (sym p.1) ∙ n.named)
         | inr p ↦
             let h = row_in n.rest n.row p.1 in
-            or_right (has v.0.part.senders q) (list_any (is_beside r q) us) (any_in (is_beside r q) (n.rest, h.0) us h.1 (and_made _ _ (ap not p.0) (ap (λ (e : ResvFact × ℕ). has e.0.part.senders q) h.2 ∙ n.named)))
+            or_right (has v.0.part.senders q) (list_any (is_beside r q) us) (any_in (is_beside r q) (n.rest, h.0) us h.1
+            (and_made _ _ (ap not p.0) (ap (λ (e : ResvFact × ℕ). has e.0.part.senders q) h.2 ∙ n.named)))
       ]
 
   names_out : (q : Sender) → has (with_names r v.0.part.senders us) q ≡ true → has (names_of (of_session s (resv_lines st m2))) q ≡ true
@@ -229,7 +232,8 @@ module _ (st : StyleKind) (fs : List (Held × ℕ)) (up : AreRows line_keys held
       let own : h ≡ r.0 = tied_same next_hops h r.0 tie in
       hops_made st m2 s h (record { unit = r.1; row = v; at = ap (λ z. get m2 (s, (z, r.1))) own ∙ get-put_in_same line_keys m (s, r) v }))
       (λ apart.
-      let e = in_each (λ (e : Rest × (Held × ℕ)). e.0.0) h us (set_of_in next_hops (hops_in us) h (ap (λ b. b || has (set_of {o = next_hops} (hops_in us)) h) (sym apart) ∙ sym (has-with_key next_hops (set_of (hops_in us)) r.0 h) ∙ is)) in
+      let e = in_each (λ (e : Rest × (Held × ℕ)). e.0.0) h us (set_of_in next_hops (hops_in us) h
+      (ap (λ b. b || has (set_of {o = next_hops} (hops_in us)) h) (sym apart) ∙ sym (has-with_key next_hops (set_of (hops_in us)) r.0 h) ∙ is)) in
       let d = before e.0.0 (said e.0.1) (in_row e.0 e.1) in
       hops_made st m2 s h (record { unit = e.0.0.1; row = d.0; at = ap (λ z. get m2 (s, (z, e.0.0.1))) e.2 ∙ d.1 }))
 
@@ -266,7 +270,8 @@ module _ (st : StyleKind) (fs : List (Held × ℕ)) (up : AreRows line_keys held
       let all : size (sessions_in rests m2) ≤ 32 = omega (arith, b, w.sessions) in
       let hops : size (with_hop r.0 us) ≤ 64 = omega (arith, c, w.next_hops s) in
       let names : size (with_names r v.0.part.senders us) ≤ 16 = omega (arith, d, w.names s) in
-      and_made _ _ (le-leb (size m2) 1024 lines) (and_made _ _ (le-leb (size (sessions_in rests m2)) 32 all) (and_made _ _ (le-leb (size (with_hop r.0 us)) 64 hops) (le-leb (size (with_names r v.0.part.senders us)) 16 names)))
+      and_made _ _ (le-leb (size m2) 1024 lines) (and_made _ _ (le-leb (size (sessions_in rests m2)) 32 all)
+      (and_made _ _ (le-leb (size (with_hop r.0 us)) 64 hops) (le-leb (size (with_names r v.0.part.senders us)) 16 names)))
 
   pub so_within : IsWithinLimits st (resv_lines st m) → fits ≡ true → IsWithinLimits st (resv_lines st m2)
   so_within w h =
@@ -282,19 +287,23 @@ module _ (st : StyleKind) (fs : List (Held × ℕ)) (up : AreRows line_keys held
         sessions = omega (arith, b, all);
         next_hops = λ x. either (eq_by_cmp sessions.cmp x s)
             (λ tie.
-            let c = ap (λ z. size (next_hops_of (of_session z (of_style st (resv_lines st m2))))) (tied_same sessions x s tie) ∙ ap (λ ls. size (next_hops_of (of_session s ls))) (one_style st m2) ∙ hops_sized in
+            let c = ap (λ z. size (next_hops_of (of_session z (of_style st (resv_lines st m2))))) (tied_same sessions x s tie) ∙ ap (λ ls. size (next_hops_of (of_session s ls))) (one_style st m2)
+            ∙ hops_sized in
             let n = leb-true _ 64 p3.0 in
             omega (arith, c, n))
             (λ apart.
-            let less = size_below next_hops (next_hops_of (of_session x (resv_lines st m2))) (next_hops_of (of_session x (resv_lines st m))) (λ h is. let n = hops_told st m2 x h is in hops_made st m x h (record { unit = n.unit; row = n.row; at = elsewhere x apart (h, n.unit) n.row n.at })) in
+            let less = size_below next_hops (next_hops_of (of_session x (resv_lines st m2))) (next_hops_of (of_session x (resv_lines st m)))
+            (λ h is. let n = hops_told st m2 x h is in hops_made st m x h (record { unit = n.unit; row = n.row; at = elsewhere x apart (h, n.unit) n.row n.at })) in
             omega (arith, less, w.next_hops x, ap (λ ls. size (next_hops_of (of_session x ls))) (one_style st m2), ap (λ ls. size (next_hops_of (of_session x ls))) (one_style st m)));
         names = λ x. either (eq_by_cmp sessions.cmp x s)
             (λ tie.
-            let d = ap (λ z. size (names_of (of_session z (of_style st (resv_lines st m2))))) (tied_same sessions x s tie) ∙ ap (λ ls. size (names_of (of_session s ls))) (one_style st m2) ∙ names_sized in
+            let d = ap (λ z. size (names_of (of_session z (of_style st (resv_lines st m2))))) (tied_same sessions x s tie) ∙ ap (λ ls. size (names_of (of_session s ls))) (one_style st m2)
+            ∙ names_sized in
             let n = leb-true _ 16 p3.1 in
             omega (arith, d, n))
             (λ apart.
-            let less = size_below senders (names_of (of_session x (resv_lines st m2))) (names_of (of_session x (resv_lines st m))) (λ q is. let n = names_told st m2 x q is in names_made st m x q (record { rest = n.rest; row = n.row; at = elsewhere x apart n.rest n.row n.at; named = n.named })) in
+            let less = size_below senders (names_of (of_session x (resv_lines st m2))) (names_of (of_session x (resv_lines st m)))
+            (λ q is. let n = names_told st m2 x q is in names_made st m x q (record { rest = n.rest; row = n.row; at = elsewhere x apart n.rest n.row n.at; named = n.named })) in
             omega (arith, less, w.names x, ap (λ ls. size (names_of (of_session x ls))) (one_style st m2), ap (λ ls. size (names_of (of_session x ls))) (one_style st m)));
       }
 
@@ -312,7 +321,8 @@ module _ (st : StyleKind) (fs : List (Held × ℕ)) (up : AreRows line_keys held
 
   pub one_fact : nat_le (cond (is_some (find line_keys.cmp (s, r) (facts_by held_key fs))) (length fs) (length fs + 1)) 1024 ≡ nat_le (size m2) 1024
   one_fact =
-      ap (λ n. nat_le n 1024) (sym (size-put_in line_keys m (s, r) v ∙ ap (λ b. cond b (size m) (size m + 1)) (ap is_some (get-valued line_keys said t (s, r)) ∙ is_some_said (get t (s, r))) ∙ ap (λ n. cond (is_some (get t (s, r))) n (n + 1)) facts_many))
+      ap (λ n. nat_le n 1024) (sym (size-put_in line_keys m (s, r) v ∙ ap (λ b. cond b (size m) (size m + 1)) (ap is_some (get-valued line_keys said t (s, r)) ∙ is_some_said (get t (s, r)))
+      ∙ ap (λ n. cond (is_some (get t (s, r))) n (n + 1)) facts_many))
 
   full_said : (es : List (Rest × (Held × ℕ))) → soft.is_full (changed_rows (λ k e. Some (said e)) es) ≡ is_full es
   full_said [] = refl
@@ -327,7 +337,8 @@ module _ (st : StyleKind) (fs : List (Held × ℕ)) (up : AreRows line_keys held
 
   pub one_session : nat_le (cond (is_full us) (size (soft_facts.sessions_in held_key fs)) (size (soft_facts.sessions_in held_key fs) + 1)) 32 ≡ nat_le (size (sessions_in rests m2)) 32
   one_session =
-      ap (λ n. nat_le n 32) (sym (size_sessions rests m s r v ∙ ap (λ b. cond b (size (sessions_in rests m)) (size (sessions_in rests m) + 1)) (ap (λ (z : Table rests (ResvFact × ℕ)). soft.is_full z.rows) (under-valued said sessions rests t s) ∙ full_said us)
+      ap (λ n. nat_le n 32) (sym (size_sessions rests m s r v ∙ ap (λ b. cond b (size (sessions_in rests m)) (size (sessions_in rests m) + 1))
+      (ap (λ (z : Table rests (ResvFact × ℕ)). soft.is_full z.rows) (under-valued said sessions rests t s) ∙ full_said us)
       ∙ ap (λ n. cond (is_full us) n (n + 1)) sessions_many))
 
   -- within the limits there are few
@@ -347,11 +358,13 @@ module _ (st : StyleKind) (fs : List (Held × ℕ)) (up : AreRows line_keys held
       omega (arith, a, more, facts_many, many, w.lines)
 
 -- no refusal below where the map with it is within the limits
-pub not_refused : (fs : List (Held × ℕ)) (up : AreRows line_keys held_row fs) (st : StyleKind) (f : ResvFact) (left : ℕ) (u : UnitOf) → u ≡ part_unit st f.part → (now : ResvFacts) → changed fact_of (table_of line_keys held_row fs up) ≡ now → within_limits st (resv_lines st (put_in now (resv_key st f) (f, left))) ≡ true
+pub not_refused : (fs : List (Held × ℕ)) (up : AreRows line_keys held_row fs) (st : StyleKind) (f : ResvFact) (left : ℕ) (u : UnitOf) → u ≡ part_unit st f.part → (now : ResvFacts)
+    → changed fact_of (table_of line_keys held_row fs up) ≡ now → within_limits st (resv_lines st (put_in now (resv_key st f) (f, left))) ≡ true
     → (room : ℕ) → room ≡ 1024 → (find line_keys.cmp (held_key (record { unit = u; fact = f })) (facts_by held_key fs) ≡ None) × (length fs ≡ room) → ⊥
 not_refused fs up st f left u unit now is fits room many why =
     let k = resv_key st f in
-    never_full st fs up k.0 k.1 (f, left) (ap (λ (z : ResvFacts). within_limits st (resv_lines st (put_in z k (f, left)))) is ∙ fits) (ap (λ z. find line_keys.cmp z (facts_by held_key fs)) (sym (own_unit st f u unit)) ∙ why.0) (why.1 ∙ many)
+    never_full st fs up k.0 k.1 (f, left) (ap (λ (z : ResvFacts). within_limits st (resv_lines st (put_in z k (f, left)))) is ∙ fits)
+    (ap (λ z. find line_keys.cmp z (facts_by held_key fs)) (sym (own_unit st f u unit)) ∙ why.0) (why.1 ∙ many)
 
 -- a session has no more than the table
 pub few_of_session : (st : StyleKind) (m : ResvFacts) (s : Session) → IsWithinLimits st (resv_lines st m) → size (under sessions rests m s) ≤ 1024

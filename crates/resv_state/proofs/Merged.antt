@@ -1,5 +1,6 @@
 -- Requests as they are added to a merger, and the room for them.
-use Rattle.std.proofs.Common.{◌≡◌, ◌≤◌, ◌<◌, ◌+◌, ℕ, Bool, true, false, cond, ◌==◌, ◌/◌, ◌^◌, is_some, List, [], ◌∷◌, ◌++◌, length, take, drop, get_or, Option, Some, None, refl, sym, ap, subst, ◌∙◌, arith, ⊎_elim}
+use Rattle.std.proofs.Common.{◌≡◌, ◌≤◌, ◌<◌, ◌+◌, ℕ, Bool, true, false, cond, ◌==◌, ◌/◌, ◌^◌, is_some, List, [], ◌∷◌, ◌++◌, length, take, drop, get_or, Option, Some, None, refl, sym, ap}
+use Rattle.std.proofs.Common.{subst, ◌∙◌, arith, ⊎_elim}
 use Rattle.std.specs.Prelude.{slice_get, nat_lt}
 use Rattle.std.specs.Int.{bit_at}
 use Rattle.std.specs.Int.Bits.{bit_and}
@@ -42,7 +43,8 @@ use Rattle.soft_table.proofs.Valued.{size-valued, get-valued}
 use Rattle.resv_state.specs.declared.fact.Held.{Held}
 use Rattle.resv_state.specs.Resvs.{held_key, held_row, fact_of, resv_lines}
 use Rattle.resv_state.specs.Walks.{Rest, rests, held_under}
-use Rattle.resv_state.specs.Merging.{SessionRow, parts_on, names_via, names_out, is_out, is_way_walled, is_blockaded, request_of, want_request, names_by, is_by, one_of, open_on, held_said, held_on, held_toward, held_names}
+use Rattle.resv_state.specs.Merging.{SessionRow, parts_on, names_via, names_out, is_out, is_way_walled, is_blockaded, request_of, want_request, names_by, is_by, one_of, open_on, held_said}
+use Rattle.resv_state.specs.Merging.{held_on, held_toward, held_names}
 use Rattle.resv_state.proofs.Facts.{said}
 use Rattle.soft_table.proofs.Told.{under-valued}
 use Rattle.resv_state.proofs.Limits.{one_style, names_made, few_of_session}
@@ -100,7 +102,8 @@ named_within all rs h q is =
 
 pub room : (st : StyleKind) (all : Names) (rs : List Request) (p : Part) → size all ≤ 16 → AreWithin all rs → IsWithin p.senders all → size (union (names_of_tally (tally_of st rs)) p.senders) ≤ 16
 room st all rs p few h own =
-    merger_has_room st rs p (let less = size_within senders (union (names_of_requests rs) p.senders) all (union_least (names_of_requests rs) p.senders all (named_within all rs h) own) in omega (arith, less, few))
+    merger_has_room st rs p (let less = size_within senders (union (names_of_requests rs) p.senders) all (union_least (names_of_requests rs) p.senders all (named_within all rs h) own) in
+    omega (arith, less, few))
 
 pub room_via : (st : StyleKind) (up : WayTable) (rs : List Request) (f : TokenBucket) → size up ≤ 16 → AreWithin (names_via up) rs → size (union (names_of_tally (tally_of st rs)) (names_via up)) ≤ 16
 room_via st up rs f few h = room st (names_via up) rs (record { senders = names_via up; flow = f }) (let is = size-valued senders (λ (w : Way). tt {0}) up in omega (arith, is, few)) h (λ q is. is)
@@ -164,7 +167,8 @@ module _ (s : Session) (fs : List (Held × ℕ)) (k : ℕ) (f : Held) (st : Step
       ∙ ap (λ (r : Rest). filter_map (held_on iface) (take k us) ++ one_of (open_on iface r.0.0 st.row.1.0.fact.part)) st.rest
       ∙ ap (λ (h : Held). filter_map (held_on iface) (take k us) ++ one_of (open_on iface f.fact.iface h.fact.part)) st.fact
 
-  pub toward_more : (up : WayTable) → filter_map (held_toward up) (take (k + 1) us) ≡ filter_map (held_toward up) (take k us) ++ one_of (request_of up (part_cut f.fact.part (names_out up f.fact.iface)))
+  pub toward_more : (up : WayTable) → filter_map (held_toward up) (take (k + 1) us) ≡ filter_map (held_toward up) (take k us) ++ one_of
+      (request_of up (part_cut f.fact.part (names_out up f.fact.iface)))
   toward_more up =
       filter_one (held_toward up) us k st.row st.at
       ∙ ap (λ (r : Rest). filter_map (held_toward up) (take k us) ++ one_of (request_of up (part_cut st.row.1.0.fact.part (names_out up r.0.0)))) st.rest
@@ -180,7 +184,8 @@ said_parts iface [] = refl
 said_parts iface (e ∷ es) = by (e.0.0.0 == iface) (said_parts iface es)
   where
     by : (b : Bool) → parts_of (filter_map (held_on iface) es) ≡ parts_on iface (changed_rows (λ k e. Some (said e)) es)
-        → parts_of (cons_option (cond b (Some (record { part = e.1.0.fact.part; blockaded = false })) None) (filter_map (held_on iface) es)) ≡ cons_option (cond b (Some e.1.0.fact.part) None) (parts_on iface (changed_rows (λ k e. Some (said e)) es))
+        → parts_of (cons_option (cond b (Some (record { part = e.1.0.fact.part; blockaded = false })) None) (filter_map (held_on iface) es))
+        ≡ cons_option (cond b (Some e.1.0.fact.part) None) (parts_on iface (changed_rows (λ k e. Some (said e)) es))
     by true ih = ap (λ ps. e.1.0.fact.part ∷ ps) ih
     by false ih = ih
 
@@ -191,7 +196,8 @@ module _ (st : StyleKind) (fs : List (Held × ℕ)) (up : AreRows line_keys held
 
   pub held_few : IsWithinLimits st (resv_lines st (changed fact_of below)) → length (held_under s fs) ≤ 1024
   held_few w =
-      let is : size (under sessions rests (changed fact_of below) s) ≡ size (under sessions rests below s) = ap size (under-valued said sessions rests below s) ∙ size-valued rests said (under sessions rests below s) in
+      let is : size (under sessions rests (changed fact_of below) s) ≡ size (under sessions rests below s) = ap size (under-valued said sessions rests below s)
+      ∙ size-valued rests said (under sessions rests below s) in
       let few = few_of_session st (changed fact_of below) s w in
       omega (arith, is, few)
 

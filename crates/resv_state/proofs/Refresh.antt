@@ -50,7 +50,8 @@ module _ (st : StyleKind) (m : ResvFacts) (k : LineKey) (v was : ResvFact × ℕ
       let d = before r.0.0 r.0.1 (in_found line_keys m2 r.0.0 r.0.1 r.1) in
       let own : r.0.0.0 ≡ x = ap (λ (z : Line). z.session) (sym r.2) ∙ sym l.2 in
       ap (has (sessions_of (resv_lines st m))) (sym own)
-      ∙ in_set_of sessions _ r.0.0.0 (to_each (λ (l : Line). l.session) (soft_resv st (r.0.0, d.0)) (resv_lines st m) (to_each (soft_resv st) (r.0.0, d.0) m.rows (found_in line_keys m r.0.0 d.0 d.1))))
+      ∙ in_set_of sessions _ r.0.0.0 (to_each (λ (l : Line). l.session) (soft_resv st (r.0.0, d.0)) (resv_lines st m)
+      (to_each (soft_resv st) (r.0.0, d.0) m.rows (found_in line_keys m r.0.0 d.0 d.1))))
 
   pub still_within : IsWithinLimits st (resv_lines st m) → IsWithinLimits st (resv_lines st m2)
   still_within w =
@@ -58,9 +59,11 @@ module _ (st : StyleKind) (m : ResvFacts) (k : LineKey) (v was : ResvFact × ℕ
         lines = omega (arith, ap (λ ls. size (line_keys_of ls)) (one_style st m2), lines_counted st m2, ap (λ ls. size (line_keys_of ls)) (one_style st m), lines_counted st m, lines_less, w.lines);
         sessions = omega (arith, ap (λ ls. size (sessions_of ls)) (one_style st m2), ap (λ ls. size (sessions_of ls)) (one_style st m), sessions_less, w.sessions);
         next_hops = λ x.
-            let less = size_below next_hops (next_hops_of (of_session x (resv_lines st m2))) (next_hops_of (of_session x (resv_lines st m))) (λ h is. let n = hops_told st m2 x h is in let d = before (x, (h, n.unit)) n.row n.at in hops_made st m x h (record { unit = n.unit; row = d.0; at = d.1 })) in
+            let less = size_below next_hops (next_hops_of (of_session x (resv_lines st m2))) (next_hops_of (of_session x (resv_lines st m)))
+            (λ h is. let n = hops_told st m2 x h is in let d = before (x, (h, n.unit)) n.row n.at in hops_made st m x h (record { unit = n.unit; row = d.0; at = d.1 })) in
             omega (arith, less, w.next_hops x, ap (λ ls. size (next_hops_of (of_session x ls))) (one_style st m2), ap (λ ls. size (next_hops_of (of_session x ls))) (one_style st m));
         names = λ x.
-            let less = size_below senders (names_of (of_session x (resv_lines st m2))) (names_of (of_session x (resv_lines st m))) (λ q is. let n = names_told st m2 x q is in let d = before (x, n.rest) n.row n.at in names_made st m x q (record { rest = n.rest; row = d.0; at = d.1; named = d.2 q n.named })) in
+            let less = size_below senders (names_of (of_session x (resv_lines st m2))) (names_of (of_session x (resv_lines st m)))
+            (λ q is. let n = names_told st m2 x q is in let d = before (x, n.rest) n.row n.at in names_made st m x q (record { rest = n.rest; row = d.0; at = d.1; named = d.2 q n.named })) in
             omega (arith, less, w.names x, ap (λ ls. size (names_of (of_session x ls))) (one_style st m2), ap (λ ls. size (names_of (of_session x ls))) (one_style st m));
       }

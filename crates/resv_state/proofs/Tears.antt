@@ -50,7 +50,8 @@ left_same gone e h = ap (option_map (with_part e)) (whole gone e.0.part h.1 h.0)
 abbrev pub after_some : Names → Bool → Option (ResvFact × ℕ) → Option (ResvFact × ℕ)
 after_some gone b w = cond b (then_do w (left_of gone)) w
 
-pub one_more_key : (gone : Names) (old now : ResvFacts) (flag more : LineKey → Bool) (k : LineKey) → ((q : LineKey) → get now q ≡ after_some gone (flag q) (get old q)) → ((q : LineKey) → more q ≡ (flag q || eq_by_cmp line_keys.cmp q k))
+pub one_more_key : (gone : Names) (old now : ResvFacts) (flag more : LineKey → Bool) (k : LineKey) → ((q : LineKey) → get now q ≡ after_some gone (flag q) (get old q))
+    → ((q : LineKey) → more q ≡ (flag q || eq_by_cmp line_keys.cmp q k))
     → (q : LineKey) → get (changed (lessened k gone) now) q ≡ after_some gone (more q) (get old q)
 one_more_key gone old now flag more k is so q =
     get-changed line_keys (lessened k gone) now q ∙ by (eq_by_cmp line_keys.cmp q k) (flag q) (is q) ∙ ap (λ b. after_some gone b (get old q)) (sym (so q))
@@ -104,7 +105,14 @@ module _ (st : StyleKind) (s : Session) (hop : NextHop) (gone : Names) where
       ∙ ap (λ b. is_reached xs q || b) (sym (hop_ties s hop (unit_of st x) q))
 
   no_one : (old : ResvMap) → Torn old old false []
-  no_one old = record { facts = λ q. ap (λ b. after_some gone b (get old.facts q)) (sym (no_any (is_of_hop s hop q))); dead = refl; same = λ e. refl; none = λ e x i. absurd (nobody x i); some = λ e. let z : false ≡ true = e in absurd (cc) }
+  no_one old = record {
+    facts = λ q. ap (λ b. after_some gone b (get old.facts q)) (sym (no_any (is_of_hop s hop q)));
+    dead = refl;
+    same = λ e. refl;
+    none = λ e x i. absurd
+        (nobody x i);
+    some = λ e. let z : false ≡ true = e in absurd (cc);
+  }
     where
       no_any : (b : Bool) → (b && false) ≡ false
       no_any true = refl
@@ -118,9 +126,11 @@ module _ (st : StyleKind) (s : Session) (hop : NextHop) (gone : Names) where
     where
       by : (w : Option (ResvFact × ℕ)) → get old (key x) ≡ w → key_has_one gone w ≡ true → hop_has_one s hop gone old ≡ true
       by None at e = cc
-      by (Some e) at one = any_in (λ (r : LineKey × (ResvFact × ℕ)). is_of_hop s hop r.0 && has_one gone r.1.0.part) (key x, e) old.rows (found_in line_keys old (key x) e at) (and_made _ _ (and_made _ _ (tied_self sessions s) (tied_self next_hops hop)) one)
+      by (Some e) at one = any_in (λ (r : LineKey × (ResvFact × ℕ)). is_of_hop s hop r.0 && has_one gone r.1.0.part) (key x, e) old.rows (found_in line_keys old (key x) e at)
+          (and_made _ _ (and_made _ _ (tied_self sessions s) (tied_self next_hops hop)) one)
 
-  pub torn_more : (old now new : ResvMap) (had b had2 : Bool) (xs : List Sender) (x : Sender) → Torn old now had xs → new ≡ record now { facts = changed (lessened (key x) gone) now.facts } → b ≡ key_has_one gone (get now.facts (key x)) → (b ≡ false → new ≡ now)
+  pub torn_more : (old now new : ResvMap) (had b had2 : Bool) (xs : List Sender) (x : Sender) → Torn old now had xs → new ≡ record now { facts = changed (lessened (key x) gone) now.facts }
+      → b ≡ key_has_one gone (get now.facts (key x)) → (b ≡ false → new ≡ now)
       → (b ≡ true → had2 ≡ true) → (b ≡ false → had2 ≡ had) → Torn old new had2 (xs ++ x ∷ [])
   torn_more old now new had b had2 xs x t is one same if_so if_not =
       record {
@@ -142,7 +152,8 @@ module _ (st : StyleKind) (s : Session) (hop : NextHop) (gone : Names) where
 
       by_had : (h : Bool) → had2 ≡ true → had ≡ h → hop_has_one s hop gone old.facts ≡ true
       by_had true e is = t.some is
-      by_had false e is = hop_row old.facts x (ap (λ (z : ResvMap). key_has_one gone (get z.facts (key x))) (sym (t.same is)) ∙ sym one ∙ either b (λ y. y) (λ f. let z : true ≡ false = sym e ∙ if_not f ∙ is in absurd (cc)))
+      by_had false e is = hop_row old.facts x (ap (λ (z : ResvMap). key_has_one gone (get z.facts (key x))) (sym (t.same is)) ∙ sym one
+          ∙ either b (λ y. y) (λ f. let z : true ≡ false = sym e ∙ if_not f ∙ is in absurd (cc)))
 
   no_not : (b : Bool) → not b ≡ true → b ≡ false
   no_not true e = cc
@@ -155,14 +166,16 @@ module _ (st : StyleKind) (s : Session) (hop : NextHop) (gone : Names) where
       let two = and_both (has e.0.part.senders x.0) (has gone x.0) (sym (has-cut senders e.0.part.senders gone x.0) ∙ x.1) in
       (x.0, two.1, sym (unit_of_names st e.0.part x.0 (own.style q e at) two.0) ∙ ap (λ (k : LineKey). k.1.1) (own.key q e at))
 
-  unreached : (q : LineKey) (e : ResvFact × ℕ) (old : ResvFacts) → AreOfStyle st old → get old q ≡ Some e → list_any (λ x. eq_by_cmp units.cmp (unit_of st x) q.1.1) (keys gone) ≡ false → left_of gone e ≡ Some e
+  unreached : (q : LineKey) (e : ResvFact × ℕ) (old : ResvFacts) → AreOfStyle st old → get old q ≡ Some e → list_any (λ x. eq_by_cmp units.cmp (unit_of st x) q.1.1) (keys gone) ≡ false
+      → left_of gone e ≡ Some e
   unreached q e old own at none =
       left_same gone e (
         (own.style q e at).named,
         either (has_one gone e.0.part)
             (λ one.
             let x = common q e old own at one in
-            let z : true ≡ false = sym (any_in (λ x. eq_by_cmp units.cmp (unit_of st x) q.1.1) x.0 (keys gone) (to_keys senders gone x.0 x.1) (ap (eq_by_cmp units.cmp (unit_of st x.0)) (sym x.2) ∙ tied_self units (unit_of st x.0))) ∙ none in
+            let z : true ≡ false = sym (any_in (λ x. eq_by_cmp units.cmp (unit_of st x) q.1.1) x.0 (keys gone) (to_keys senders gone x.0 x.1)
+            (ap (eq_by_cmp units.cmp (unit_of st x.0)) (sym x.2) ∙ tied_self units (unit_of st x.0))) ∙ none in
             absurd (cc))
             (λ no. no),
       )
@@ -170,9 +183,12 @@ module _ (st : StyleKind) (s : Session) (hop : NextHop) (gone : Names) where
   torn_all : (old now : ResvMap) (had : Bool) → AreOfStyle st old.facts → Torn old now had (keys gone) → now ≡ record old { facts = changed (torn s hop gone) old.facts }
   torn_all old now had own t =
       same_map now (record old { facts = changed (torn s hop gone) old.facts })
-      (same_table line_keys now.facts (changed (torn s hop gone) old.facts) (λ q. t.facts q ∙ by q (is_of_hop s hop q) (list_any (λ x. eq_by_cmp units.cmp (unit_of st x) q.1.1) (keys gone)) refl (get old.facts q) refl ∙ sym (get-changed line_keys (torn s hop gone) old.facts q))) t.dead
+      (same_table line_keys now.facts (changed (torn s hop gone) old.facts) (λ q. t.facts q
+      ∙ by q (is_of_hop s hop q) (list_any (λ x. eq_by_cmp units.cmp (unit_of st x) q.1.1) (keys gone)) refl (get old.facts q) refl
+      ∙ sym (get-changed line_keys (torn s hop gone) old.facts q))) t.dead
     where
-      by : (q : LineKey) (h b : Bool) → list_any (λ x. eq_by_cmp units.cmp (unit_of st x) q.1.1) (keys gone) ≡ b → (w : Option (ResvFact × ℕ)) → get old.facts q ≡ w → after_some gone (h && b) w ≡ then_do w (λ (e : ResvFact × ℕ). cond h (left_of gone e) (Some e))
+      by : (q : LineKey) (h b : Bool) → list_any (λ x. eq_by_cmp units.cmp (unit_of st x) q.1.1) (keys gone) ≡ b → (w : Option (ResvFact × ℕ)) → get old.facts q ≡ w
+          → after_some gone (h && b) w ≡ then_do w (λ (e : ResvFact × ℕ). cond h (left_of gone e) (Some e))
       by q false b e w at = sym (then_same w)
       by q true true e w at = refl
       by q true false e None at = refl
@@ -196,7 +212,8 @@ module _ (st : StyleKind) (s : Session) (hop : NextHop) (gone : Names) where
       absurd (cc)))
 
   -- both, when all names have left
-  pub torn_end : (old now : ResvMap) (had : Bool) (i : ℕ) (xs : List Sender) → AreOfStyle st old.facts → length xs ≤ i → xs ≡ keys gone → Torn old now had (take i xs) → (now ≡ record old { facts = changed (torn s hop gone) old.facts }) × (had ≡ hop_has_one s hop gone old.facts)
+  pub torn_end : (old now : ResvMap) (had : Bool) (i : ℕ) (xs : List Sender) → AreOfStyle st old.facts → length xs ≤ i → xs ≡ keys gone → Torn old now had (take i xs)
+      → (now ≡ record old { facts = changed (torn s hop gone) old.facts }) × (had ≡ hop_has_one s hop gone old.facts)
   torn_end old now had i xs own far is t =
       let all = subst (λ zs. Torn old now had zs) (take_all i xs far ∙ is) t in
       (torn_all old now had own all, had_all old now had own all)

@@ -40,10 +40,12 @@ pub counted : (s : Session) (fs : List (Held × ℕ)) → AreRows line_keys held
 counted s fs up = all_changes next_hops units (held_under s fs) (sorted_under sessions rests s (facts_by held_key fs) (passes _ up))
 
 pub hop_here : (last : Option NextHop) (s : Session) (fs : List (Held × ℕ)) (k : ℕ) (f : Held) (st : Step rests held_key s fs k f)
-    → changes next_hops last (hops_in (drop k (held_under s fs))) ≡ cond (is_last next_hops last (held_key f).1.0) (changes next_hops last (hops_in (drop (k + 1) (held_under s fs)))) (1 + changes next_hops (Some (held_key f).1.0) (hops_in (drop (k + 1) (held_under s fs))))
+    → changes next_hops last (hops_in (drop k (held_under s fs))) ≡ cond (is_last next_hops last (held_key f).1.0) (changes next_hops last (hops_in (drop (k + 1) (held_under s fs))))
+    (1 + changes next_hops (Some (held_key f).1.0) (hops_in (drop (k + 1) (held_under s fs))))
 hop_here last s fs k f st =
     ap (λ es. changes next_hops last (hops_in es)) (from_here s fs k f st)
-    ∙ ap (λ (r : Rest). cond (is_last next_hops last r.0) (changes next_hops last (hops_in (drop (k + 1) (held_under s fs)))) (1 + changes next_hops (Some r.0) (hops_in (drop (k + 1) (held_under s fs))))) st.rest
+    ∙ ap (λ (r : Rest). cond (is_last next_hops last r.0) (changes next_hops last (hops_in (drop (k + 1) (held_under s fs))))
+    (1 + changes next_hops (Some r.0) (hops_in (drop (k + 1) (held_under s fs))))) st.rest
 
 abbrev of_session : Session → List (Held × ℕ) → List (LineKey × (Held × ℕ))
 of_session s fs = where_key line_keys.cmp (λ k. eq_by_cmp sessions.cmp s k.0) (facts_by held_key fs)
@@ -51,12 +53,15 @@ of_session s fs = where_key line_keys.cmp (λ k. eq_by_cmp sessions.cmp s k.0) (
 abbrev cut : List (LineKey × (Held × ℕ)) → List (Rest × (Held × ℕ))
 cut es = each (λ e. (e.0.1, e.1)) es
 
-pub among : (hop : NextHop) (s : Session) (fs : List (Held × ℕ)) → list_any (λ h. eq_by_cmp next_hops.cmp hop (held_key h).1.0) (each (λ e. e.1.0) (held_under s fs)) ≡ list_any (eq_by_cmp next_hops.cmp hop) (hops_in (held_under s fs))
+pub among : (hop : NextHop) (s : Session) (fs : List (Held × ℕ)) → list_any (λ h. eq_by_cmp next_hops.cmp hop (held_key h).1.0) (each (λ e. e.1.0) (held_under s fs))
+    ≡ list_any (eq_by_cmp next_hops.cmp hop) (hops_in (held_under s fs))
 among hop s [] = refl
 among hop s (f ∷ fs) = by (eq_by_cmp sessions.cmp s (held_key f.0).0) (among hop s fs)
   where
-    by : (b : Bool) → list_any (λ h. eq_by_cmp next_hops.cmp hop (held_key h).1.0) (each (λ e. e.1.0) (cut (of_session s fs))) ≡ list_any (eq_by_cmp next_hops.cmp hop) (hops_in (cut (of_session s fs)))
-        → list_any (λ h. eq_by_cmp next_hops.cmp hop (held_key h).1.0) (each (λ e. e.1.0) (cut (cond b ((held_key f.0, f) ∷ of_session s fs) (of_session s fs)))) ≡ list_any (eq_by_cmp next_hops.cmp hop) (hops_in (cut (cond b ((held_key f.0, f) ∷ of_session s fs) (of_session s fs))))
+    by : (b : Bool) → list_any (λ h. eq_by_cmp next_hops.cmp hop (held_key h).1.0) (each (λ e. e.1.0) (cut (of_session s fs)))
+        ≡ list_any (eq_by_cmp next_hops.cmp hop) (hops_in (cut (of_session s fs)))
+        → list_any (λ h. eq_by_cmp next_hops.cmp hop (held_key h).1.0) (each (λ e. e.1.0) (cut (cond b ((held_key f.0, f) ∷ of_session s fs) (of_session s fs))))
+        ≡ list_any (eq_by_cmp next_hops.cmp hop) (hops_in (cut (cond b ((held_key f.0, f) ∷ of_session s fs) (of_session s fs))))
     by true ih = ap (λ b. eq_by_cmp next_hops.cmp hop (held_key f.0).1.0 || b) ih
     by false ih = ih
 
@@ -69,16 +74,19 @@ hops_with hop s fs b is =
 below : (n : ℕ) → nat_lt n 64 ≡ nat_le (n + 1) 64
 below n = grind (arith, nat_tests)
 
-hop_there : (hop : NextHop) (s : Session) (fs : List (Held × ℕ)) (n : ℕ) → AreRows line_keys held_row fs → n ≡ changes next_hops None (hops_in (held_under s fs)) → list_any (eq_by_cmp next_hops.cmp hop) (hops_in (held_under s fs)) ≡ true
+hop_there : (hop : NextHop) (s : Session) (fs : List (Held × ℕ)) (n : ℕ) → AreRows line_keys held_row fs → n ≡ changes next_hops None (hops_in (held_under s fs))
+    → list_any (eq_by_cmp next_hops.cmp hop) (hops_in (held_under s fs)) ≡ true
     → nat_le n 64 ≡ nat_le (size (with_hop hop (held_under s fs))) 64
 hop_there hop s fs n up is there = ap (λ m. nat_le m 64) (is ∙ counted s fs up ∙ sym (hops_with hop s fs true there))
 
-hop_new : (hop : NextHop) (s : Session) (fs : List (Held × ℕ)) (n : ℕ) → AreRows line_keys held_row fs → n ≡ changes next_hops None (hops_in (held_under s fs)) → list_any (eq_by_cmp next_hops.cmp hop) (hops_in (held_under s fs)) ≡ false
+hop_new : (hop : NextHop) (s : Session) (fs : List (Held × ℕ)) (n : ℕ) → AreRows line_keys held_row fs → n ≡ changes next_hops None (hops_in (held_under s fs))
+    → list_any (eq_by_cmp next_hops.cmp hop) (hops_in (held_under s fs)) ≡ false
     → nat_lt n 64 ≡ nat_le (size (with_hop hop (held_under s fs))) 64
 hop_new hop s fs n up is new = below n ∙ ap (λ m. nat_le m 64) (ap (λ m. m + 1) (is ∙ counted s fs up) ∙ sym (hops_with hop s fs false new))
 
 -- with fewer than 64 there is room for any
-pub hop_near : (hop : NextHop) (s : Session) (fs : List (Held × ℕ)) (n : ℕ) → AreRows line_keys held_row fs → n ≡ changes next_hops None (hops_in (held_under s fs)) → n < 64 → true ≡ nat_le (size (with_hop hop (held_under s fs))) 64
+pub hop_near : (hop : NextHop) (s : Session) (fs : List (Held × ℕ)) (n : ℕ) → AreRows line_keys held_row fs → n ≡ changes next_hops None (hops_in (held_under s fs)) → n < 64
+    → true ≡ nat_le (size (with_hop hop (held_under s fs))) 64
 hop_near hop s fs n up is few =
     either (list_any (eq_by_cmp next_hops.cmp hop) (hops_in (held_under s fs))) (λ t. le_test n few ∙ hop_there hop s fs n up is t) (λ t. lt_test n few ∙ hop_new hop s fs n up is t)
   where
@@ -128,7 +136,8 @@ too_many : (n : ℕ) → 16 < n → false ≡ nat_le n 16
 too_many n lt = grind (arith, nat_tests)
 
 -- 17 names so far are too many
-pub no_room : (r : Rest) (names : Names) (s : Session) (fs : List (Held × ℕ)) (k : ℕ) (f : Held) (st : Step rests held_key s fs k f) → eq_by_cmp rests.cmp r (held_key f).1 ≡ false → 16 < size (union names f.fact.part.senders)
+pub no_room : (r : Rest) (names : Names) (s : Session) (fs : List (Held × ℕ)) (k : ℕ) (f : Held) (st : Step rests held_key s fs k f) → eq_by_cmp rests.cmp r (held_key f).1 ≡ false
+    → 16 < size (union names f.fact.part.senders)
     → (all : Names) → with_names r names (drop k (held_under s fs)) ≡ all → false ≡ nat_le (size all) 16
 no_room r names s fs k f st apart over all is =
     let here = names_here r names s fs k f st ∙ ap (λ b. with_names r (cond b names (union names f.fact.part.senders)) (drop (k + 1) (held_under s fs))) apart in

@@ -22,37 +22,41 @@ use Rattle.router_rules.specs.Paths.{is_path_by}
 use Rattle.router_rules.specs.Requests.{toward}
 use Rattle.router_rules.specs.Sends.{sends}
 use Rattle.router_rules.specs.declared.answers.Heard.{Heard}
-use Rattle.router_lookups.proofs.Tests.{came_told}
-use Rattle.node_facts.specs.State.{IsSaid, IsSettled, Said, State, facts_of, path_at}
-use Rattle.node_facts.proofs.Settling.{has_changed}
-use Rattle.node_sends.specs.Changed.{IsChangedFor}
-use Rattle.node_sends.specs.Told.{offered, told_gone, told_new}
-use Rattle.node_sends.proofs.Apart.{changed_at}
-use Rattle.node_sends.proofs.Quiet.{toward_refreshed}
-use Rattle.lane_telling.proofs.Sent.{own_seen, path_seen}
-use Rattle.node_acting.specs.Coming.{fact_of, with_path}
-use Rattle.node_acting.proofs.Doing.{path_comes}
-use Rattle.node_acting.proofs.Keeping.{put_there}
-use Rattle.node_acting.proofs.Ruled.{without_marks}
+use Rattle.laws_inputs.proofs.Tests.{came_told}
+use Rattle.router_state.specs.State.{IsSaid, IsSettled, Said, State, facts_of, path_at}
+use Rattle.router_state.proofs.Settling.{has_changed}
+use Rattle.laws_sends.specs.Changed.{IsChangedFor}
+use Rattle.laws_sends.specs.Told.{offered, told_gone, told_new}
+use Rattle.laws_sends.proofs.Apart.{changed_at}
+use Rattle.laws_sends.proofs.Quiet.{toward_refreshed}
+use Rattle.resv_sends.proofs.Sent.{own_seen, path_seen}
+use Rattle.router_arrivals.specs.Coming.{fact_of, with_path}
+use Rattle.router_arrivals.proofs.Doing.{path_comes}
+use Rattle.router_arrivals.proofs.Keeping.{put_there}
+use Rattle.router_arrivals.proofs.Ruled.{without_marks}
 use Rattle.router_core.specs.Renewing.{offer_by}
 use Rattle.router_core.proofs.Quiet.{marks_wait, quiet_sends}
 
 -- the path that came by the hop
-stood : (c : ℕ) (k : SenderKey) (hop : NextHop) (w : Option (PathFact × ℕ)) → is_path_by hop (then_do w (path_at c k)) ≡ true → (old : PathFact × ℕ) × (w ≡ Some old) × ((old.0.iface ≡ hop.0) × (old.0.hop.addr ≡ hop.1))
+stood : (c : ℕ) (k : SenderKey) (hop : NextHop) (w : Option (PathFact × ℕ)) → is_path_by hop (then_do w (path_at c k)) ≡ true
+    → (old : PathFact × ℕ) × (w ≡ Some old) × ((old.0.iface ≡ hop.0) × (old.0.hop.addr ≡ hop.1))
 stood c k hop None e = cc
 stood c k hop (Some x) e = (x, refl, came_told hop (record { iface = x.0.iface; hop = x.0.hop; tspec = x.0.tspec; police = x.0.police; dies = c + x.1 }) e)
 
 -- what is offered of a sender that has this path
-pub offers : (c : ℕ) (n : State) (k : SenderKey) (own : Option TokenBucket) → own ≡ get n.senders k → (f : PathFact) → option_map (λ e. e.0) (get n.paths k) ≡ Some f → Some (offer_by own f.tspec) ≡ offered (facts_of c n) k
+pub offers : (c : ℕ) (n : State) (k : SenderKey) (own : Option TokenBucket) → own ≡ get n.senders k → (f : PathFact) → option_map (λ e. e.0) (get n.paths k) ≡ Some f
+    → Some (offer_by own f.tspec) ≡ offered (facts_of c n) k
 offers c n k (Some tspec) is f at = own_seen c n k tspec (sym is)
 offers c n k None is f at = path_seen c n k (sym is) (Some f) (sym at)
 
 -- n is what there was, w what the tables have then
-module _ (n w : State) (k : SenderKey) (fact : PathFact) (left : ℕ) (said : Said) (now : w ≡ record (with_path n k fact left) { said = said }) (by : (c : ℕ) → is_path_by (fact.iface, fact.hop.addr) (get (facts_of c n).paths k) ≡ true) where
+module _ (n w : State) (k : SenderKey) (fact : PathFact) (left : ℕ) (said : Said) (now : w ≡ record (with_path n k fact left) { said = said })
+    (by : (c : ℕ) → is_path_by (fact.iface, fact.hop.addr) (get (facts_of c n).paths k) ≡ true) where
   -- what is offered then
   pub offers_again : (c : ℕ) (own : Option TokenBucket) → own ≡ get n.senders k → Some (offer_by own fact.tspec) ≡ offered (facts_of c w) k
   offers_again c own is =
-      offers c w k own (is ∙ ap (λ (z : State). get z.senders k) (sym now)) fact (ap (λ (z : State). option_map (λ (e : PathFact × ℕ). e.0) (get z.paths k)) now ∙ ap (option_map (λ (e : PathFact × ℕ). e.0)) (get-put_in_same path_keys n.paths k (fact, left)))
+      offers c w k own (is ∙ ap (λ (z : State). get z.senders k) (sym now)) fact (ap (λ (z : State). option_map (λ (e : PathFact × ℕ). e.0) (get z.paths k)) now
+      ∙ ap (option_map (λ (e : PathFact × ℕ). e.0)) (get-put_in_same path_keys n.paths k (fact, left)))
 
   pub toward_again : (c : ℕ) (p : NodeConfig) (l : Lane) → toward p (facts_of c n) l ≡ toward p (facts_of c w) l
   toward_again c p l =
@@ -76,7 +80,8 @@ module _ (n w : State) (k : SenderKey) (fact : PathFact) (left : ℕ) (said : Sa
       by_two (Some o) None None h = cc
 
   -- so its Paths alone are sent, where its flow is another one
-  pub sent_again : IsChangedFor k n w → (c : ℕ) (h : Heard) → sends n.place n.place (facts_of c n) (facts_of c w) (only_heard h (facts_of c w)) ≡ told_new n.place k (offered (facts_of c n) k) (offered (facts_of c w) k)
+  pub sent_again : IsChangedFor k n w → (c : ℕ) (h : Heard) → sends n.place n.place (facts_of c n) (facts_of c w) (only_heard h (facts_of c w))
+      ≡ told_new n.place k (offered (facts_of c n) k) (offered (facts_of c w) k)
   sent_again ch c h =
       quiet_sends n.place (facts_of c n) (facts_of c w) (toward_again c n.place) k (changed_at k n w ch c n.place) (still_offered c) (only_heard h (facts_of c w)) refl
 
@@ -84,7 +89,8 @@ module _ (n w : State) (k : SenderKey) (fact : PathFact) (left : ℕ) (said : Sa
   marks_again c = sym (marks_wait n.place (facts_of c n) (facts_of c w) (toward_again c n.place) None)
 
 -- whether or not there was room, the node is settled then, and what was said is what goes there
-module _ (m : State) (said : Said) (kept : IsSettled (record m { said = said })) (told : IsSaid said (record m { said = said })) (e : ℕ) (p : PathMsg) (x : Sender) (tspec : TokenBucket) (is : p.sender ≡ Some (x, tspec)) (on : comes_in m.place p.session e x ≡ true)
+module _ (m : State) (said : Said) (kept : IsSettled (record m { said = said })) (told : IsSaid said (record m { said = said })) (e : ℕ) (p : PathMsg) (x : Sender) (tspec : TokenBucket)
+    (is : p.sender ≡ Some (x, tspec)) (on : comes_in m.place p.session e x ≡ true)
     (by : (c : ℕ) → is_path_by (e, p.hop.addr) (get (facts_of c (record m { said = said })).paths (p.session, x)) ≡ true) where
   abbrev was : State
   was = record m { said = said }
@@ -98,7 +104,8 @@ module _ (m : State) (said : Said) (kept : IsSettled (record m { said = said }))
   abbrev lives : ℕ
   lives = lifetime m.place p.period
 
-  pub settled_again : (w : State) (b : Bool) → b ≡ has_room_at senders (put_in m.paths key (learnt, lives)) p.session → w ≡ record (cond b (with_path m key learnt lives) m) { said = said } → IsSettled w × IsSaid said w
+  pub settled_again : (w : State) (b : Bool) → b ≡ has_room_at senders (put_in m.paths key (learnt, lives)) p.session → w ≡ record (cond b (with_path m key learnt lives) m) { said = said }
+      → IsSettled w × IsSaid said w
   settled_again w true room now =
       let r = (path_comes was kept e p x tspec is on (sym room) w said now).ruled in
       (r.kept, said_again was w key learnt lives said now by r.change.place told)

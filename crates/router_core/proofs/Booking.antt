@@ -17,8 +17,8 @@ use Rattle.style_rules.specs.Lines.{held}
 use Rattle.style_rules.specs.Parts.{part_charge}
 use Rattle.router_rules.specs.Books.{book}
 use Rattle.router_rules.specs.Facts.{Facts}
-use Rattle.node_facts.specs.State.{State, facts_at, facts_of}
-use Rattle.resv_book.specs.Kept.{IsBookOf, flow_in}
+use Rattle.router_state.specs.State.{State, facts_at, facts_of}
+use Rattle.resv_admission.specs.Kept.{IsBookOf, flow_in}
 
 pub front_is : (c : ℕ) (n : State) → facts_at c n ≡ facts_of c n
 unfolding facts_at

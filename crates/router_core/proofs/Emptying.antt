@@ -18,16 +18,16 @@ use Rattle.rsvp_base.specs.declared.style.StyleKind.{StyleKind}
 use Rattle.rsvp_base.specs.declared.style.StyleKind.TheVariants.{Wild, Fixed, Shared}
 use Rattle.rsvp_base.proofs.Tables.{either, get-without, tied_self}
 use Rattle.style_rules.specs.Merge.{PartTable}
-use Rattle.router_lookups.proofs.Requesting.{nowhere}
+use Rattle.laws_inputs.proofs.Requesting.{nowhere}
 use Rattle.router_rules.specs.Books.{book}
 use Rattle.router_rules.specs.Calls.{act_clear}
 use Rattle.router_rules.specs.Facts.{ResvState, resvs_of}
 use Rattle.router_rules.specs.Inputs.{Clear}
 use Rattle.router_rules.specs.Rule.{facts_after, sent_after}
-use Rattle.node_facts.specs.State.{AreNamed, IsSaid, IsSettled, State, facts_at, facts_of}
-use Rattle.node_facts.proofs.Counted.{counted_settled}
-use Rattle.node_waiting.specs.Clearing.{cleared}
-use Rattle.node_waiting.proofs.Clearing.{clear_is_settled}
+use Rattle.router_state.specs.State.{AreNamed, IsSaid, IsSettled, State, facts_at, facts_of}
+use Rattle.router_state.proofs.Counted.{counted_settled}
+use Rattle.router_aging.specs.Clearing.{cleared}
+use Rattle.router_aging.proofs.Clearing.{clear_is_settled}
 
 -- ---- the first row of a table
 module _ {K X : Type 0} (o : Keys K) (m : Table o X) where
@@ -67,7 +67,8 @@ none_below es i k h = let z : nat_lt i 0 ≡ false = below i in absurd (no (sym 
     no : true ≡ false → ⊥
     no e = cc
 
-pub one_below : (n : ℕ) (old new : Entries) → IsEmptyBelow n old → ((k : EntryKey) → get new (n, k) ≡ None) → ((i : ℕ) (k : EntryKey) → get old (i, k) ≡ None → get new (i, k) ≡ None) → IsEmptyBelow (n + 1) new
+pub one_below : (n : ℕ) (old new : Entries) → IsEmptyBelow n old → ((k : EntryKey) → get new (n, k) ≡ None) → ((i : ℕ) (k : EntryKey) → get old (i, k) ≡ None → get new (i, k) ≡ None)
+    → IsEmptyBelow (n + 1) new
 one_below n old new done here less i k h = either (i == n) (λ t. subst (λ j. get new (j, k) ≡ None) (sym (eqb-true i n t)) (here k)) (λ f. less i k (done i k (step f ∙ h)))
   where
     step : (i == n) ≡ false → nat_lt i n ≡ nat_lt i (n + 1)

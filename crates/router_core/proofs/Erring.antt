@@ -14,16 +14,17 @@ use Rattle.router_rules.specs.NodeConfig.{is_own, own}
 use Rattle.router_rules.specs.Rule.{facts_after, heard_after, is_silent, sent_after}
 use Rattle.router_rules.specs.Sends.{conf_sends, error_sends}
 use Rattle.router_rules.specs.declared.answers.Heard.{Heard}
-use Rattle.router_lookups.proofs.Tests.{addr_tested}
-use Rattle.node_facts.specs.State.{IsSettled, State, facts_at, facts_of}
-use Rattle.error_passing.specs.Alone.{only_told}
-use Rattle.error_passing.specs.PathErrs.{path_err_heard, path_err_sent}
-use Rattle.error_passing.specs.ResvConfs.{resv_conf_heard, resv_conf_sent}
-use Rattle.error_passing.proofs.Alone.{sent_alone}
-use Rattle.node_acting.specs.Arriving.{to_node}
-use Rattle.node_acting.proofs.Ruled.{facts_stay, told_alone}
+use Rattle.laws_inputs.proofs.Tests.{addr_tested}
+use Rattle.router_state.specs.State.{IsSettled, State, facts_at, facts_of}
+use Rattle.error_sends.specs.Alone.{only_told}
+use Rattle.error_sends.specs.PathErrs.{path_err_heard, path_err_sent}
+use Rattle.error_sends.specs.ResvConfs.{resv_conf_heard, resv_conf_sent}
+use Rattle.error_sends.proofs.Alone.{sent_alone}
+use Rattle.router_arrivals.specs.Arriving.{to_node}
+use Rattle.router_arrivals.proofs.Ruled.{facts_stay, told_alone}
 
-module _ (n : State) (kept : IsSettled n) (c : ℕ) (i : Input) (loud : is_silent i ≡ false) (es : List ErrSend) (cs : List ConfSend) (h : Heard) (does : act n.place c i (facts_of c n) ≡ only_told es cs h (facts_of c n)) where
+module _ (n : State) (kept : IsSettled n) (c : ℕ) (i : Input) (loud : is_silent i ≡ false) (es : List ErrSend) (cs : List ConfSend) (h : Heard)
+    (does : act n.place c i (facts_of c n) ≡ only_told es cs h (facts_of c n)) where
   alone_facts : facts_at c n ≡ facts_after n.place n.place c i (facts_at c n)
   alone_facts = facts_stay n kept c i loud (only_told es cs h (facts_of c n)) does refl refl
 

@@ -11,12 +11,12 @@ use Rattle.style_rules.specs.Lines.{next_hops}
 use Rattle.style_rules.specs.Toward.{or_else}
 use Rattle.router_rules.specs.Facts.{PathState, SenderKey}
 use Rattle.router_rules.specs.Offers.{Offer}
-use Rattle.node_facts.specs.State.{IsSaid, Said, State, facts_at, facts_of, path_at}
-use Rattle.node_sends.specs.Before.{IsBefore}
-use Rattle.node_sends.specs.Changed.{IsChangedFor}
-use Rattle.node_sends.specs.SendsHere.{hops_in}
-use Rattle.node_sends.specs.Told.{offered}
-use Rattle.node_acting.proofs.Before.{is_before}
+use Rattle.router_state.specs.State.{IsSaid, Said, State, facts_at, facts_of, path_at}
+use Rattle.laws_sends.specs.Before.{IsBefore}
+use Rattle.laws_sends.specs.Changed.{IsChangedFor}
+use Rattle.laws_sends.specs.SendsHere.{hops_in}
+use Rattle.laws_sends.specs.Told.{offered}
+use Rattle.router_arrivals.proofs.Before.{is_before}
 
 -- what is offered of a sender is the same at each clock
 offers_at : (n : State) (k : SenderKey) (c : ℕ) → offered (facts_of 0 n) k ≡ offered (facts_of c n) k
@@ -31,7 +31,8 @@ offers_at n k c =
     by None = refl
     by (Some e) = refl
 
-pub left_before : (k : SenderKey) (n w : State) → IsChangedFor k n w → w.said ≡ n.said → IsSaid n.said n → (near : Set next_hops) → ((c : ℕ) → near ≡ hops_in (facts_of c n) k.0) → (z : State) × (o : Option Offer) × IsBefore k z w o near
+pub left_before : (k : SenderKey) (n w : State) → IsChangedFor k n w → w.said ≡ n.said → IsSaid n.said n → (near : Set next_hops) → ((c : ℕ) → near ≡ hops_in (facts_of c n) k.0)
+    → (z : State) × (o : Option Offer) × IsBefore k z w o near
 left_before k n w ch same told near hops = (n, offered (facts_of 0 n) k, is_before k n w ch same told (offered (facts_of 0 n) k) (offers_at n k) near hops)
 
 -- facts do not depend on what was said

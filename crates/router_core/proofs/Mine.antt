@@ -11,11 +11,12 @@ use Rattle.router_rules.specs.Inputs.{Came, Spelt, only_heard}
 use Rattle.router_rules.specs.NodeConfig.{NodeConfig, is_addr, own}
 use Rattle.router_rules.specs.declared.answers.Heard.TheVariants as heard
 use Rattle.router_rules.specs.declared.answers.Why.TheVariants as why
-use Rattle.router_lookups.proofs.Tests.{addr_told}
-use Rattle.node_facts.specs.State.{State, facts_of}
+use Rattle.laws_inputs.proofs.Tests.{addr_told}
+use Rattle.router_state.specs.State.{State, facts_of}
 
 -- one that is not for the node
-pub not_mine : (n : State) (c e : ℕ) (dst : Addr) (m : Message) → is_mine n.place e dst m ≡ false → act n.place c (Came e dst (Spelt m)) (facts_of c n) ≡ only_heard (heard.Dropped why.NotMine) (facts_of c n)
+pub not_mine : (n : State) (c e : ℕ) (dst : Addr) (m : Message) → is_mine n.place e dst m ≡ false
+    → act n.place c (Came e dst (Spelt m)) (facts_of c n) ≡ only_heard (heard.Dropped why.NotMine) (facts_of c n)
 not_mine n c e dst m off = ap (λ b. act_spelt n.place c e m b (facts_of c n)) off
 
 -- where it was to come to

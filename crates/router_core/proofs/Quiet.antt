@@ -11,14 +11,14 @@ use Rattle.router_rules.specs.NodeConfig.{NodeConfig, is_session}
 use Rattle.router_rules.specs.Offers.{Offer}
 use Rattle.router_rules.specs.Requests.{toward}
 use Rattle.router_rules.specs.Sends.{conf_for, conf_sends, confirmed, error_sends, goes_on, is_sent_new, marked_units, resv_send_to, sends, unmarked, used_marks}
-use Rattle.node_facts.proofs.Settling.{unchanged}
-use Rattle.node_sends.specs.SendsHere.{IsChangedAt, hops_in, lanes_at}
-use Rattle.node_sends.specs.Told.{offered, told_gone, told_new}
-use Rattle.node_sends.proofs.Changing.{one_session_is_told}
-use Rattle.node_sends.proofs.Elsewhere.{no_send, not_changed}
-use Rattle.node_sends.proofs.Onward.{told_same}
-use Rattle.node_sends.proofs.Quiet.{no_tears}
-use Rattle.node_acting.proofs.Ruled.{without_marks}
+use Rattle.router_state.proofs.Settling.{unchanged}
+use Rattle.laws_sends.specs.SendsHere.{IsChangedAt, hops_in, lanes_at}
+use Rattle.laws_sends.specs.Told.{offered, told_gone, told_new}
+use Rattle.laws_sends.proofs.Changing.{one_session_is_told}
+use Rattle.laws_sends.proofs.Elsewhere.{no_send, not_changed}
+use Rattle.laws_sends.proofs.Onward.{told_same}
+use Rattle.laws_sends.proofs.Quiet.{no_tears}
+use Rattle.router_arrivals.proofs.Ruled.{without_marks}
 use Rattle.router_core.specs.Confirming.{confirmed_here}
 
 none_behind : {A : Type 0} (xs : List A) → xs ++ [] ≡ xs
@@ -78,11 +78,13 @@ module _ (p : NodeConfig) (f g : Facts) (same : (l : Lane) → toward p f l ≡ 
       → sends p p f g c ≡ error_sends c.errors ++ (conf_sends (c.confs ++ confirmed_here p c.asked) ++ told_new p k (offered f k) (offered g k))
   quiet_sends k at gone c none =
       one_session_is_told p k f g c at none
-      ∙ (λ i. gone i ++ (no_tears p f g same (lanes_at k.0 (keys (hops_in f k.0))) i ++ (error_sends c.errors ++ (conf_sends (c.confs ++ stands c.asked i) ++ (told_new p k (offered f k) (offered g k) ++ no_resvs c.asked (lanes_at k.0 (keys (hops_in g k.0))) i)))))
+      ∙ (λ i. gone i ++ (no_tears p f g same (lanes_at k.0 (keys (hops_in f k.0))) i ++ (error_sends c.errors ++
+      (conf_sends (c.confs ++ stands c.asked i) ++ (told_new p k (offered f k) (offered g k) ++ no_resvs c.asked (lanes_at k.0 (keys (hops_in g k.0))) i)))))
       ∙ ap (λ ss. error_sends c.errors ++ (conf_sends (c.confs ++ confirmed_here p c.asked) ++ ss)) (none_behind (told_new p k (offered f k) (offered g k)))
 
   -- and where that sender is offered as before, errors and confirmations alone
-  pub quiet_answer : (k : SenderKey) → IsChangedAt p k f g → offered f k ≡ offered g k → (c : Change) → c.fired ≡ empty → c.confs ≡ [] → sends p p f g c ≡ error_sends c.errors ++ conf_sends (confirmed_here p c.asked)
+  pub quiet_answer : (k : SenderKey) → IsChangedAt p k f g → offered f k ≡ offered g k → (c : Change) → c.fired ≡ empty → c.confs ≡ []
+      → sends p p f g c ≡ error_sends c.errors ++ conf_sends (confirmed_here p c.asked)
   quiet_answer k at alike c none confs =
       quiet_sends k at (ap (told_gone p k (offered f k)) (sym alike) ∙ gone_same (offered f k)) c none
       ∙ (λ i. error_sends c.errors ++ (conf_sends (confs i ++ confirmed_here p c.asked) ++ (ap (told_new p k (offered f k)) (sym alike) ∙ told_same p k (offered f k)) i))

@@ -13,11 +13,11 @@ use Rattle.router_rules.specs.Inputs.{Change}
 use Rattle.router_rules.specs.NodeConfig.{own}
 use Rattle.router_rules.specs.Sends.{error_sends}
 use Rattle.router_rules.specs.declared.answers.Heard.{Heard}
-use Rattle.router_lookups.proofs.Tests.{addr_tested}
-use Rattle.node_facts.specs.State.{State, facts_of}
-use Rattle.error_passing.specs.ResvErrs.{resv_err_facts, resv_err_heard, resv_err_sent}
-use Rattle.lane_telling.specs.Halves.{address_of}
-use Rattle.node_acting.specs.Arriving.{to_node}
+use Rattle.laws_inputs.proofs.Tests.{addr_tested}
+use Rattle.router_state.specs.State.{State, facts_of}
+use Rattle.error_sends.specs.ResvErrs.{resv_err_facts, resv_err_heard, resv_err_sent}
+use Rattle.resv_sends.specs.Halves.{address_of}
+use Rattle.router_arrivals.specs.Arriving.{to_node}
 
 -- whom a Resv names is whom its wish names
 pub address_is : (o : Asker) (taken : Option Ask) (wish : Option Addr) → address_of (asked_of o taken wish) ≡ wish

@@ -9,20 +9,19 @@ use Rattle.rsvp_base.specs.declared.session.Sender.{Sender}
 use Rattle.rsvp_messages.specs.declared.ask.Ask.{Ask}
 use Rattle.rsvp_messages.specs.declared.message.ResvMsg.{ResvMsg}
 use Rattle.style_rules.specs.Lines.{next_hops}
-use Rattle.router_rules.specs.Asking.{asked_of, asker_of}
-use Rattle.router_rules.specs.Asking.{Asker}
+use Rattle.router_rules.specs.Asking.{asked_of, asker_of, Asker}
 use Rattle.router_rules.specs.Facts.{Facts, SenderKey}
 use Rattle.router_rules.specs.Inputs.{Asked, Send}
 use Rattle.router_rules.specs.Known.{Lane}
 use Rattle.router_rules.specs.Offers.{Offer}
 use Rattle.router_rules.specs.Requests.{toward}
 use Rattle.router_rules.specs.Sends.{conf_for, conf_send, conf_sends, confirmed, goes_on}
-use Rattle.node_facts.specs.State.{State, facts_of, said_at}
-use Rattle.node_sends.specs.Before.{IsBefore, lanes_by}
-use Rattle.node_sends.specs.SendsHere.{hops_in}
-use Rattle.node_sends.proofs.Apart.{changed_at}
-use Rattle.node_sends.proofs.Marks.{marks_of_one_session}
-use Rattle.lane_wishes.specs.Wishes.{new_by, new_seen}
+use Rattle.router_state.specs.State.{State, facts_of, said_at}
+use Rattle.laws_sends.specs.Before.{IsBefore, lanes_by}
+use Rattle.laws_sends.specs.SendsHere.{hops_in}
+use Rattle.laws_sends.proofs.Apart.{changed_at}
+use Rattle.laws_sends.proofs.Marks.{marks_of_one_session}
+use Rattle.resv_sends.specs.Wishes.{new_by, new_seen}
 use Rattle.router_core.specs.Confirming.{conf_of}
 
 module _ (x : Sender) (n m : State) (offer : Option Offer) (near : Set next_hops) (c e : ℕ) (p : ResvMsg) where
@@ -54,7 +53,8 @@ module _ (x : Sender) (n m : State) (offer : Option Offer) (near : Set next_hops
       by (Some a) = none (goes_on n.place n.place f g (record { session = p.session; confirm = a; iface = e; hop = p.hop.addr; taken = None }))
 
   -- it wishes for it, and something was taken
-  module _ (b : IsBefore (p.session, x) n m offer near) (wish : Addr) (ask : Ask) (wishes : p.confirm ≡ Some wish) (taken : Option Ask) (is : taken ≡ Some ask) (hops : Set next_hops) (after : hops ≡ hops_in g p.session) where
+  module _ (b : IsBefore (p.session, x) n m offer near) (wish : Addr) (ask : Ask) (wishes : p.confirm ≡ Some wish) (taken : Option Ask) (is : taken ≡ Some ask) (hops : Set next_hops)
+      (after : hops ≡ hops_in g p.session) where
     abbrev k : SenderKey
     k = (p.session, x)
 
@@ -76,5 +76,6 @@ module _ (x : Sender) (n m : State) (offer : Option Offer) (near : Set next_hops
     pub going : list_any (new_by c m m.said p.session) (lanes_by (keys hops)) ≡ true → [] ≡ sent taken p.confirm
     going on = sym (sent_is ∙ ap (λ t. conf_sends (cond t [] (conf_for n.place a (Some ask)))) on)
 
-    pub standing : list_any (new_by c m m.said p.session) (lanes_by (keys hops)) ≡ false → conf_send (record { iface = e; dst = p.hop.addr; conf = conf_of n.place e p wish ask }) ∷ [] ≡ sent taken p.confirm
+    pub standing : list_any (new_by c m m.said p.session) (lanes_by (keys hops)) ≡ false → conf_send (record { iface = e; dst = p.hop.addr; conf = conf_of n.place e p wish ask }) ∷ []
+        ≡ sent taken p.confirm
     standing off = sym (sent_is ∙ ap (λ t. conf_sends (cond t [] (conf_for n.place a (Some ask)))) off)

@@ -11,11 +11,11 @@ use Rattle.rsvp_base.specs.declared.style.StyleKind.TheVariants.{Wild, Fixed, Sh
 use Rattle.style_rules.specs.Lines.{LineKey}
 use Rattle.style_rules.specs.Targets.{WallKey}
 use Rattle.router_rules.specs.Facts.{WantKey}
-use Rattle.node_facts.specs.State.{IsSaid, IsSettled, Said, State, table_in}
-use Rattle.node_sends.specs.Changed.{IsChangedFor}
-use Rattle.node_tables.specs.Whole.{IsBooked, IsOfPlace, state_of}
-use Rattle.node_tables.specs.declared.tables.Tables.{Tables}
-use Rattle.session_rounds.specs.Steps.{AreSound}
+use Rattle.router_state.specs.State.{IsSaid, IsSettled, Said, State, table_in}
+use Rattle.laws_sends.specs.Changed.{IsChangedFor}
+use Rattle.router_state.specs.Whole.{IsBooked, IsOfPlace, state_of}
+use Rattle.router_state.specs.declared.tables.Tables.{Tables}
+use Rattle.router_rounds.specs.Steps.{AreSound}
 
 -- the tables once an input was tried, with what was said
 module _ (t : Tables) (said : Said) (b : Bool) (w n : State) (is : state_of t empty ≡ cond b w n) where
@@ -65,7 +65,8 @@ module _ (old new : Tables) (rest : new ≡ record old { wants = new.wants }) wh
   wants_place said last = ap (λ (t : Tables). t.config) rest
 
 -- the session's alone
-pub wants_changed : (old new : Tables) → new ≡ record old { wants = new.wants } → (s : Session) → ((j : WantKey) → eq_by_cmp sessions.cmp s j.0 ≡ false → get old.wants j ≡ get new.wants j) → (x : Sender) (said : Said)
+pub wants_changed : (old new : Tables) → new ≡ record old { wants = new.wants } → (s : Session) → ((j : WantKey) → eq_by_cmp sessions.cmp s j.0 ≡ false → get old.wants j ≡ get new.wants j)
+    → (x : Sender) (said : Said)
     → IsChangedFor (s, x) (state_of old said) (state_of new said)
 wants_changed old new rest s others x said = record {
   place = sym (ap (λ (t : Tables). t.config) rest);
@@ -90,7 +91,8 @@ module _ (old new : Tables) (rest : new ≡ record old { walls = new.walls }) wh
     few = was.few;
   })
 
-pub walls_changed : (old new : Tables) → new ≡ record old { walls = new.walls } → (s : Session) → ((j : WallKey) → eq_by_cmp sessions.cmp s j.0 ≡ false → get old.walls j ≡ get new.walls j) → (x : Sender) (said : Said)
+pub walls_changed : (old new : Tables) → new ≡ record old { walls = new.walls } → (s : Session) → ((j : WallKey) → eq_by_cmp sessions.cmp s j.0 ≡ false → get old.walls j ≡ get new.walls j)
+    → (x : Sender) (said : Said)
     → IsChangedFor (s, x) (state_of old said) (state_of new said)
 walls_changed old new rest s others x said = record {
   place = sym (ap (λ (t : Tables). t.config) rest);
@@ -108,7 +110,8 @@ walls_changed old new rest s others x said = record {
 
 -- ---- tables with other reservations
 pub resvs_left_changed : (old new : Tables) → new ≡ record old { wild = new.wild; fixed = new.fixed; shared = new.shared; book = new.book } → (s : Session)
-    → ((st : StyleKind) (q : LineKey) → eq_by_cmp sessions.cmp s q.0 ≡ false → get (table_in st (state_of old empty)) q ≡ get (table_in st (state_of new empty)) q) → (x : Sender) (said : Said) → IsChangedFor (s, x) (state_of old said) (state_of new said)
+    → ((st : StyleKind) (q : LineKey) → eq_by_cmp sessions.cmp s q.0 ≡ false → get (table_in st (state_of old empty)) q ≡ get (table_in st (state_of new empty)) q) → (x : Sender) (said : Said)
+    → IsChangedFor (s, x) (state_of old said) (state_of new said)
 resvs_left_changed old new rest s others x said = record {
   place = sym (ap (λ (t : Tables). t.config) rest);
   senders = λ j off. sym (ap (λ (t : Tables). get t.senders j) rest);
@@ -118,7 +121,8 @@ resvs_left_changed old new rest s others x said = record {
   resvs = λ st q off. by st q (others st q off);
 }
   where
-    by : (st : StyleKind) (q : LineKey) → get (table_in st (state_of old empty)) q ≡ get (table_in st (state_of new empty)) q → get (table_in st (state_of old said)) q ≡ get (table_in st (state_of new said)) q
+    by : (st : StyleKind) (q : LineKey) → get (table_in st (state_of old empty)) q ≡ get (table_in st (state_of new empty)) q
+        → get (table_in st (state_of old said)) q ≡ get (table_in st (state_of new said)) q
     by Wild q e = e
     by Fixed q e = e
     by Shared q e = e

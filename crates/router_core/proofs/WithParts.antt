@@ -18,25 +18,24 @@ use Rattle.rsvp_base.specs.declared.style.Unit.{Unit as UnitOf}
 use Rattle.rsvp_base.proofs.Changed.{changed_twice, under_changed}
 use Rattle.style_rules.specs.Lines.{LineKey, NextHop, line_keys, next_hops}
 use Rattle.style_rules.specs.Parts.{part_cut}
-use Rattle.style_rules.specs.Toward.{Request}
-use Rattle.style_rules.specs.Toward.{toward as merged_toward}
+use Rattle.style_rules.specs.Toward.{Request, toward as merged_toward}
 use Rattle.router_rules.specs.Facts.{Facts, ResvState, ResvTables, Resvs, resvs_of, table_of, wants_in}
 use Rattle.router_rules.specs.Known.{Lane, names_via_where}
 use Rattle.router_rules.specs.NodeConfig.{NodeConfig, goes_out}
 use Rattle.router_rules.specs.Offers.{Offer}
 use Rattle.router_rules.specs.Requests.{request_of, resv_request, toward, want_request}
-use Rattle.node_facts.specs.State.{IsSaid, Said, State, facts_of, resv_at, table_in}
-use Rattle.node_sends.specs.Before.{IsBefore}
-use Rattle.node_sends.specs.Changed.{IsChangedFor}
-use Rattle.node_sends.specs.Told.{offered}
-use Rattle.node_sends.proofs.Apart.{resvs_at}
-use Rattle.node_sends.proofs.Towards.{then_filtered}
-use Rattle.node_tables.specs.Whole.{state_of}
-use Rattle.node_tables.specs.declared.tables.Tables.{Tables}
-use Rattle.resv_taking.specs.Standing.{parts_in}
-use Rattle.resv_arriving.specs.Taken.{AreSameParts}
-use Rattle.lane_telling.proofs.Sent.{hops_are}
-use Rattle.node_acting.proofs.Before.{is_before}
+use Rattle.router_state.specs.State.{IsSaid, Said, State, facts_of, resv_at, table_in}
+use Rattle.laws_sends.specs.Before.{IsBefore}
+use Rattle.laws_sends.specs.Changed.{IsChangedFor}
+use Rattle.laws_sends.specs.Told.{offered}
+use Rattle.laws_sends.proofs.Apart.{resvs_at}
+use Rattle.laws_sends.proofs.Towards.{then_filtered}
+use Rattle.router_state.specs.Whole.{state_of}
+use Rattle.router_state.specs.declared.tables.Tables.{Tables}
+use Rattle.resv_admission.specs.Standing.{parts_in}
+use Rattle.router_arrivals.specs.Taken.{AreSameParts}
+use Rattle.resv_sends.proofs.Sent.{hops_are}
+use Rattle.router_arrivals.proofs.Before.{is_before}
 
 abbrev part_of_state : LineKey → ResvState → Option Part
 part_of_state k r = Some r.part
@@ -66,29 +65,34 @@ module _ (p : NodeConfig) (f : Facts) (rs : ResvTables) (l : Lane) (same : chang
       λ i. merged_toward l.style (resvs i ++ filter_map (want_request f l) (wants_in f l.session).rows)
 
 -- n and w are alike but for their reservations, whose parts are the same
-pub toward_standing : (n w : State) → w ≡ record n { wild = w.wild; fixed = w.fixed; shared = w.shared } → ((st : StyleKind) → parts_in (table_in st w) ≡ parts_in (table_in st n)) → (c : ℕ) (p : NodeConfig) (l : Lane) → toward p (facts_of c n) l ≡ toward p (facts_of c w) l
+pub toward_standing : (n w : State) → w ≡ record n { wild = w.wild; fixed = w.fixed; shared = w.shared } → ((st : StyleKind) → parts_in (table_in st w) ≡ parts_in (table_in st n))
+    → (c : ℕ) (p : NodeConfig) (l : Lane) → toward p (facts_of c n) l ≡ toward p (facts_of c w) l
 toward_standing n w rest same c p l =
     sym
     (ap (λ (z : State). toward p (facts_of c z) l) rest
     ∙ toward_with p (facts_of c n) (facts_of c w).resvs l
-    (ap (changed part_of_state) (resvs_at l.style c w) ∙ parts_at c (table_in l.style w) ∙ same l.style ∙ sym (parts_at c (table_in l.style n)) ∙ sym (ap (changed part_of_state) (resvs_at l.style c n))))
+    (ap (changed part_of_state) (resvs_at l.style c w) ∙ parts_at c (table_in l.style w) ∙ same l.style ∙ sym (parts_at c (table_in l.style n))
+    ∙ sym (ap (changed part_of_state) (resvs_at l.style c n))))
 
 -- ---- tables with other reservations
 pub any_sender : Sender
 any_sender = record { addr = record { 0 = 0 }; port = 0 }
 
 module _ (old new : Tables) (rest : new ≡ record old { wild = new.wild; fixed = new.fixed; shared = new.shared; book = new.book }) (said : Said) where
-  pub standing_toward : AreSameParts (state_of old empty) (state_of new empty) → (c : ℕ) (p : NodeConfig) (l : Lane) → toward p (facts_of c (state_of old said)) l ≡ toward p (facts_of c (state_of new said)) l
+  pub standing_toward : AreSameParts (state_of old empty) (state_of new empty) → (c : ℕ) (p : NodeConfig) (l : Lane)
+      → toward p (facts_of c (state_of old said)) l ≡ toward p (facts_of c (state_of new said)) l
   standing_toward same = toward_standing (state_of old said) (state_of new said) (ap (λ (t : Tables). state_of t said) rest) (λ st. by st (same st))
     where
-      by : (st : StyleKind) → parts_in (table_in st (state_of new empty)) ≡ parts_in (table_in st (state_of old empty)) → parts_in (table_in st (state_of new said)) ≡ parts_in (table_in st (state_of old said))
+      by : (st : StyleKind) → parts_in (table_in st (state_of new empty)) ≡ parts_in (table_in st (state_of old empty))
+          → parts_in (table_in st (state_of new said)) ≡ parts_in (table_in st (state_of old said))
       by Wild e = e
       by Fixed e = e
       by Shared e = e
 
   -- what is offered of a sender, and the previous hops, are those from before
   module _ (x : Sender) (s : Session) (ch : IsChangedFor (s, x) (state_of old said) (state_of new said)) (told : IsSaid said (state_of old said)) where
-    pub resv_before : (offer : Option Offer) → ((c : ℕ) → offer ≡ offered (facts_of c (state_of new said)) (s, x)) → (near : Set next_hops) → near ≡ hops_by (under sessions senders new.paths.facts s).rows → IsBefore (s, x) (state_of old said) (state_of new said) offer near
+    pub resv_before : (offer : Option Offer) → ((c : ℕ) → offer ≡ offered (facts_of c (state_of new said)) (s, x)) → (near : Set next_hops)
+        → near ≡ hops_by (under sessions senders new.paths.facts s).rows → IsBefore (s, x) (state_of old said) (state_of new said) offer near
     resv_before offer offers near hops =
         is_before (s, x) (state_of old said) (state_of new said) ch refl told offer (λ c. offers c ∙ ap (λ (t : Tables). offered (facts_of c (state_of t said)) (s, x)) rest) near
         (λ c. hops ∙ ap (λ (t : Tables). hops_by (under sessions senders t.paths.facts s).rows) rest ∙ hops_are c (state_of old said) s)

@@ -1,4 +1,4 @@
 pub mod Confirming
 pub mod Renewing
-pub use Rattle.local_asking.specs.LeftOver
-pub use Rattle.node_acting.specs.Coming
+pub use Rattle.router_arrivals.specs.LeftOver
+pub use Rattle.router_arrivals.specs.Coming

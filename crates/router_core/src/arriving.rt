@@ -3,11 +3,11 @@ ghost use Rattle.std.specs.Prelude.{◌≡◌, ◌<◌, ℕ, fold, length};
 ghost use Rattle.router_rules.specs.Act.{is_mine};
 ghost use Rattle.router_rules.specs.Inputs.{Came, Spelt};
 ghost use Rattle.router_rules.specs.Rule.{facts_after, heard_after, sent_after};
-ghost use Rattle.node_facts.specs.State.{facts_at};
+ghost use Rattle.router_state.specs.State.{facts_at};
 
 use crate::node::Node;
-use node_telling::Config;
 use router_rules::{Heard, Outbox, Why};
+use router_state::Config;
 use rsvp_base::Addr;
 use rsvp_messages::Message;
 

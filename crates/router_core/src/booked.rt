@@ -3,11 +3,11 @@ ghost use Rattle.std.specs.Prelude.{◌≡◌, ◌≤◌, ℕ, length, slice_get
 ghost use Rattle.router_rules.specs.Books.{book};
 ghost use Rattle.router_rules.specs.Flags.{entries_of};
 ghost use Rattle.style_rules.specs.Lines.{held};
-ghost use Rattle.node_facts.specs.State.{facts_at};
+ghost use Rattle.router_state.specs.State.{facts_at};
 
 use crate::node::Node;
-use entry_policing::entry_at;
 use router_rules::Entry;
+use traffic_control::entry_at;
 
 impl Node {
     /// What the entries of an interface's book charge it together, in bytes per second.

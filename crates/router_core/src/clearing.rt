@@ -7,15 +7,15 @@ ghost use Rattle.rsvp_base.specs.Table.{empty, get};
 ghost use Rattle.rsvp_base.specs.declared.entry_key.EntryKey.{EntryKey as KeyOfEntry};
 ghost use Rattle.router_rules.specs.Inputs.{Clear};
 ghost use Rattle.router_rules.specs.Rule.{facts_after, sent_after};
-ghost use Rattle.node_facts.specs.State.{facts_at};
-ghost use Rattle.node_waiting.specs.Clearing.{cleared};
-ghost use Rattle.node_tables.specs.Whole.{state_of};
-ghost use Rattle.session_rounds.specs.Steps.{AreSound};
+ghost use Rattle.router_state.specs.State.{facts_at};
+ghost use Rattle.router_aging.specs.Clearing.{cleared};
+ghost use Rattle.router_state.specs.Whole.{state_of};
+ghost use Rattle.router_rounds.specs.Steps.{AreSound};
 
 use crate::node::Node;
 use admission_book::Book;
-use node_tables::Tables;
-use node_waiting::begin_all;
+use router_aging::begin_all;
+use router_state::Tables;
 use rsvp_base::EntryKey;
 
 // A node has at most so many interfaces.

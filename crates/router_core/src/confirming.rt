@@ -7,18 +7,17 @@ ghost use Rattle.style_rules.specs.Lines.{next_hops};
 ghost use Rattle.router_rules.specs.Asking.{asked_of, asker_of};
 ghost use Rattle.router_rules.specs.Offers.{Offer};
 ghost use Rattle.router_rules.specs.Sends.{conf_sends, confirmed, without_scope};
-ghost use Rattle.node_facts.specs.State.{State, facts_of};
-ghost use Rattle.node_sends.specs.Before.{IsBefore};
-ghost use Rattle.node_tables.specs.Whole.{state_of};
+ghost use Rattle.router_state.specs.State.{State, facts_of};
+ghost use Rattle.laws_sends.specs.Before.{IsBefore};
+ghost use Rattle.router_state.specs.Whole.{state_of};
 ghost use Rattle.router_core.specs.Confirming.{conf_of, confirmed_here};
 
-use lane_state::LaneTable;
-use lane_wishes::is_any_new;
-use node_tables::Tables;
-use node_telling::Config;
+use resv_sends::is_any_new;
 use router_rules::Outbox;
+use router_state::{Config, Tables};
 use rsvp_base::{Addr, ErrSpec};
 use rsvp_messages::{Ask, Message, ResvConfMsg, ResvMsg};
+use sent_state::LaneTable;
 
 /// What was taken of a Resv that came by an interface goes back to its next hop, where the Resv wishes to be confirmed and
 /// nothing goes on for it: no Resv is to go to a previous hop of its session for the change (RFC 2205, 2.6). The tables are

@@ -5,19 +5,19 @@ ghost use Rattle.rsvp_messages.specs.declared.message.Message.TheVariants as mes
 ghost use Rattle.router_rules.specs.Inputs.{Came, Spelt, Unspelt};
 ghost use Rattle.router_rules.specs.NodeConfig.{own};
 ghost use Rattle.router_rules.specs.Rule.{facts_after, heard_after, sent_after};
-ghost use Rattle.node_facts.specs.State.{Said, facts_at, facts_of};
-ghost use Rattle.node_sends.specs.Changed.{IsChangedFor};
-ghost use Rattle.node_tables.specs.Whole.{state_of};
-ghost use Rattle.session_rounds.specs.Steps.{AreSound};
-ghost use Rattle.error_passing.specs.ResvErrs.{resv_err_facts, resv_err_heard};
-ghost use Rattle.node_acting.specs.Arriving.{to_node};
+ghost use Rattle.router_state.specs.State.{Said, facts_at, facts_of};
+ghost use Rattle.laws_sends.specs.Changed.{IsChangedFor};
+ghost use Rattle.router_state.specs.Whole.{state_of};
+ghost use Rattle.router_rounds.specs.Steps.{AreSound};
+ghost use Rattle.error_sends.specs.ResvErrs.{resv_err_facts, resv_err_heard};
+ghost use Rattle.router_arrivals.specs.Arriving.{to_node};
 
 use crate::node::Node;
 use crate::telling::tell_resv_err;
-use error_passing::{answer_unspelt, pass_path_err, pass_resv_conf, set_blockades};
-use lane_telling::offered;
-use node_tables::Tables;
+use error_sends::{answer_unspelt, pass_path_err, pass_resv_conf, set_blockades};
+use resv_sends::offered;
 use router_rules::{Heard, Outbox};
+use router_state::Tables;
 use rsvp_base::{Addr, Sender};
 use rsvp_messages::{MsgErr, PathErrMsg, ResvConfMsg, ResvErrMsg};
 

@@ -3,17 +3,16 @@ ghost use Rattle.std.specs.Prelude.{◌≡◌, ℕ, IfOk};
 ghost use Rattle.std.specs.Option.{option_map};
 ghost use Rattle.rsvp_base.specs.Table.{get};
 ghost use Rattle.router_rules.specs.Books.{book};
-ghost use Rattle.node_facts.specs.State.{IsSaid, IsSettled, State, facts_of, no_state};
-ghost use Rattle.node_tables.specs.Whole.{IsOfPlace, state_of};
-ghost use Rattle.session_rounds.specs.Steps.{AreSound};
+ghost use Rattle.router_state.specs.State.{IsSaid, IsSettled, State, facts_of, no_state};
+ghost use Rattle.router_state.specs.Whole.{IsOfPlace, state_of};
+ghost use Rattle.router_rounds.specs.Steps.{AreSound};
 
 use crate::opening::open_tables;
-use lane_state::LaneTable;
-use node_tables::Tables;
-use node_telling::Config;
-use resv_arriving::Answer;
+use router_arrivals::Answer;
+use router_rounds::Rooms;
+use router_state::{Config, Tables};
 use rsvp_base::{EntryKey, Flow, NoMemory};
-use session_rounds::Rooms;
+use sent_state::LaneTable;
 use std::alloc::Global;
 use std::marker::Model;
 
@@ -33,8 +32,8 @@ pub struct Node {
 }
 
 impl Model for Node {
-    ghost use Rattle.node_facts.specs.State.{State};
-    ghost use Rattle.node_tables.specs.Whole.{state_of};
+    ghost use Rattle.router_state.specs.State.{State};
+    ghost use Rattle.router_state.specs.Whole.{state_of};
 
     ghost Value = { State };
 

@@ -1,16 +1,15 @@
 //! A router's tables are opened.
 ghost use Rattle.std.specs.Prelude.{◌≡◌, IfOk};
 ghost use Rattle.rsvp_base.specs.Table.{empty};
-ghost use Rattle.node_facts.specs.State.{no_state};
-ghost use Rattle.node_tables.specs.Whole.{IsOfPlace, state_of};
-ghost use Rattle.session_rounds.specs.Steps.{AreSound};
+ghost use Rattle.router_state.specs.State.{no_state};
+ghost use Rattle.router_state.specs.Whole.{IsOfPlace, state_of};
+ghost use Rattle.router_rounds.specs.Steps.{AreSound};
 
 use blockade_state::Blockades;
 use local_state::{Countdowns, LocalSenders, LocalWants};
-use node_tables::Tables;
-use node_telling::Config;
 use path_state::PathTable;
 use resv_state::ResvTable;
+use router_state::{Config, Tables};
 use rsvp_base::NoMemory;
 use std::alloc::Global;
 use style_rules::{Fixed, Shared, Wild};

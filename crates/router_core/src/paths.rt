@@ -8,18 +8,19 @@ ghost use Rattle.router_rules.specs.Inputs.{Spelt, only_heard};
 ghost use Rattle.router_rules.specs.NodeConfig.{comes_in};
 ghost use Rattle.router_rules.specs.Paths.{is_path_by};
 ghost use Rattle.router_rules.specs.Rule.{facts_after, heard_after, sent_after};
-ghost use Rattle.node_facts.specs.Changes.{path_came, tear_came};
+ghost use Rattle.router_state.specs.Changes.{path_came, tear_came};
 ghost use Rattle.router_rules.specs.declared.answers.Heard.TheVariants.{Dropped};
-ghost use Rattle.node_facts.specs.State.{State, facts_at, facts_of};
-ghost use Rattle.node_telling.specs.Offering.{as_offer};
+ghost use Rattle.router_state.specs.State.{State, facts_at, facts_of};
+ghost use Rattle.path_sends.specs.Offering.{as_offer};
 ghost use Rattle.router_core.specs.Renewing.{offer_by};
 
 use crate::node::Node;
-use lane_telling::{offered, tell_sender};
-use node_acting::{drop_path, has_path_by, learn_path, path_by, renew_path};
-use node_telling::{Config, Offered, tell_new};
+use path_sends::{Offered, tell_new};
 use path_state::PathFact;
+use resv_sends::{offered, tell_sender};
+use router_arrivals::{drop_path, has_path_by, learn_path, path_by, renew_path};
 use router_rules::{Heard, Outbox, Why};
+use router_state::Config;
 use rsvp_base::{Flow, Sender};
 use rsvp_messages::{PathMsg, PathTearMsg};
 

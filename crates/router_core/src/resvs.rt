@@ -4,13 +4,13 @@ ghost use Rattle.rsvp_messages.specs.declared.message.Message.TheVariants as mes
 ghost use Rattle.router_rules.specs.Inputs.{Spelt};
 ghost use Rattle.router_rules.specs.NodeConfig.{own};
 ghost use Rattle.router_rules.specs.Rule.{facts_after, heard_after, sent_after};
-ghost use Rattle.node_facts.specs.State.{facts_at};
-ghost use Rattle.node_acting.specs.Arriving.{to_node};
+ghost use Rattle.router_state.specs.State.{facts_at};
+ghost use Rattle.router_arrivals.specs.Arriving.{to_node};
 
 use crate::node::Node;
 use crate::telling::{tell_answer, tell_resv};
-use lane_telling::{offered, tell_sender};
-use node_acting::{take_resvs, tear_resvs};
+use resv_sends::{offered, tell_sender};
+use router_arrivals::{take_resvs, tear_resvs};
 use router_rules::{Heard, Outbox};
 use rsvp_base::Sender;
 use rsvp_messages::{ResvMsg, ResvTearMsg};

@@ -2,12 +2,12 @@
 ghost use Rattle.std.specs.Prelude.{◌≡◌, ℕ, fold};
 ghost use Rattle.router_rules.specs.Inputs.{Moved};
 ghost use Rattle.router_rules.specs.Rule.{facts_after, sent_after};
-ghost use Rattle.node_facts.specs.Routes.{AreRoutes};
-ghost use Rattle.node_facts.specs.State.{facts_at};
+ghost use Rattle.router_state.specs.Routes.{AreRoutes};
+ghost use Rattle.router_state.specs.State.{facts_at};
 
 use crate::node::Node;
+use router_rounds::change_routes;
 use router_rules::{Outbox, Route};
-use session_rounds::change_routes;
 
 impl Node {
     /// Has these routes from now on, in the order of group and source, at most one of each, in place of those that it had, which

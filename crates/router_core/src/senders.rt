@@ -2,11 +2,11 @@
 ghost use Rattle.std.specs.Prelude.{◌≡◌, ℕ, fold, None, Some, MatchResult};
 ghost use Rattle.router_rules.specs.Inputs.{Call, DropAs, SendAs};
 ghost use Rattle.router_rules.specs.Rule.{facts_after, refusal_of_call, sent_after};
-ghost use Rattle.node_facts.specs.State.{facts_at};
+ghost use Rattle.router_state.specs.State.{facts_at};
 
 use crate::node::Node;
-use lane_telling::{offered, tell_sender};
-use node_acting::{drop_sender, keep_sender};
+use resv_sends::{offered, tell_sender};
+use router_arrivals::{drop_sender, keep_sender};
 use router_rules::{LocalErr, Outbox};
 use rsvp_base::{Flow, Sender, Session};
 

@@ -2,16 +2,15 @@
 ghost use Rattle.std.specs.Prelude.{◌≡◌, ◌≤◌, ◌<◌, ℕ, None, Some, MatchResult, length};
 ghost use Rattle.style_rules.specs.Parts.{IsOfStyle};
 ghost use Rattle.router_rules.specs.Rule.{facts_with, refusal_of_stale};
-ghost use Rattle.node_facts.specs.State.{facts_at};
-ghost use Rattle.local_asking.specs.LeftOver.{resv_left, wall_left};
-ghost use Rattle.node_acting.specs.Coming.{stale_path};
+ghost use Rattle.router_state.specs.State.{facts_at};
+ghost use Rattle.router_arrivals.specs.LeftOver.{resv_left, wall_left};
+ghost use Rattle.router_arrivals.specs.Coming.{stale_path};
 
 use crate::node::Node;
-use lane_telling::keep_said;
-use local_asking::{leave_resv, leave_wall};
-use node_acting::keep_path;
 use path_state::PathFact;
+use resv_sends::keep_said;
 use resv_state::ResvFact;
+use router_arrivals::{keep_path, leave_resv, leave_wall};
 use router_rules::StaleErr;
 use rsvp_base::{Sender, Session, StyleKind};
 use style_rules::{Target, Wall};

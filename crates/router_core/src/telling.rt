@@ -6,26 +6,26 @@ ghost use Rattle.router_rules.specs.Asking.{asked_of, asker_of};
 ghost use Rattle.router_rules.specs.Errors.{act_resv_err};
 ghost use Rattle.router_rules.specs.Inputs.{Change};
 ghost use Rattle.router_rules.specs.Sends.{conf_sends, error_sends, sends};
-ghost use Rattle.node_facts.specs.State.{IsSaid, State, facts_of};
-ghost use Rattle.node_sends.specs.Before.{IsBefore};
-ghost use Rattle.node_telling.specs.Offering.{as_offer};
-ghost use Rattle.node_tables.specs.Whole.{state_of};
-ghost use Rattle.error_passing.specs.ResvErrs.{resv_err_facts, resv_err_heard};
-ghost use Rattle.lane_telling.specs.Halves.{facts_told};
-ghost use Rattle.resv_arriving.specs.Taken.{IsAnswer};
+ghost use Rattle.router_state.specs.State.{IsSaid, State, facts_of};
+ghost use Rattle.laws_sends.specs.Before.{IsBefore};
+ghost use Rattle.path_sends.specs.Offering.{as_offer};
+ghost use Rattle.router_state.specs.Whole.{state_of};
+ghost use Rattle.error_sends.specs.ResvErrs.{resv_err_facts, resv_err_heard};
+ghost use Rattle.resv_sends.specs.Halves.{facts_told};
+ghost use Rattle.router_arrivals.specs.Taken.{IsAnswer};
 ghost use Rattle.router_core.specs.Confirming.{confirmed_here};
 
 use crate::confirming::{confirm, confirm_here};
-use error_passing::pass_resv_err;
-use lane_state::LaneTable;
-use lane_telling::{tell_news, tell_tears};
-use node_tables::Tables;
-use node_telling::{Config, Offered};
+use error_sends::pass_resv_err;
+use path_sends::Offered;
 use path_state::Hops;
-use resv_arriving::{Answer, tell_refusals};
+use resv_sends::{tell_news, tell_tears};
+use router_arrivals::{Answer, tell_refusals};
 use router_rules::{Heard, Outbox};
+use router_state::{Config, Tables};
 use rsvp_base::Sender;
 use rsvp_messages::{ResvErrMsg, ResvMsg};
+use sent_state::LaneTable;
 
 /// All that a node tells once a Resv was taken, in order: ResvTears, the refusals, the confirmation, and Resvs. These ask to
 /// confirm whom the Resv names, else the node for its marked wants, whose marks are used then. What was offered of a sender,

@@ -2,11 +2,11 @@
 ghost use Rattle.std.specs.Prelude.{◌≡◌, ◌≤◌, ◌+◌, ◌*◌, ℕ, fold};
 ghost use Rattle.router_rules.specs.Inputs.{Wait};
 ghost use Rattle.router_rules.specs.Rule.{facts_after, sent_after};
-ghost use Rattle.node_facts.specs.State.{facts_at};
+ghost use Rattle.router_state.specs.State.{facts_at};
 
 use crate::node::Node;
+use router_rounds::pass_time;
 use router_rules::Outbox;
-use session_rounds::pass_time;
 
 impl Node {
     /// Time passes, at most half a period: `ms` milliseconds (RFC 2205, 3.7). What is not refreshed dies: its senders are torn,

@@ -2,11 +2,11 @@
 ghost use Rattle.std.specs.Prelude.{◌≡◌, ℕ, fold, None, Some, MatchResult};
 ghost use Rattle.router_rules.specs.Inputs.{Call, QuitAll, WantAs};
 ghost use Rattle.router_rules.specs.Rule.{facts_after, refusal_of_call, sent_after};
-ghost use Rattle.node_facts.specs.State.{facts_at};
+ghost use Rattle.router_state.specs.State.{facts_at};
 
 use crate::node::Node;
-use lane_telling::{offered, tell_sender};
-use local_asking::{drop_wants, put_wants};
+use resv_sends::{offered, tell_sender};
+use router_arrivals::{drop_wants, put_wants};
 use router_rules::{LocalErr, Outbox};
 use rsvp_base::{Flow, Sender, Senders, Session, StyleKind};
 

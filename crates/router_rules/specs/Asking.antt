@@ -13,8 +13,7 @@ use Rattle.rsvp_base.specs.declared.style.StyleKind.{StyleKind}
 use Rattle.rsvp_base.specs.declared.style.StyleKind.TheVariants.{Wild, Fixed, Shared}
 use Rattle.rsvp_base.specs.declared.style.Unit.{Unit as UnitOf}
 use Rattle.rsvp_base.specs.declared.style.Unit.TheVariants.{One, Of}
-use Rattle.rsvp_base.specs.Keys.{pairs, options}
-use Rattle.rsvp_base.specs.Keys.{Keys}
+use Rattle.rsvp_base.specs.Keys.{pairs, options, Keys}
 use Rattle.rsvp_base.specs.Orders.{Names, senders}
 use Rattle.rsvp_base.specs.Sets.{cut, is_none}
 use Rattle.rsvp_base.specs.Table.{empty, get, has, keys, kept, changed, put_in, size, values}
@@ -32,8 +31,7 @@ use Rattle.style_rules.specs.Parts.{part_kept, part_of}
 use Rattle.router_rules.specs.declared.answers.Heard.{Heard}
 use Rattle.router_rules.specs.declared.answers.Heard.TheVariants as heard
 use Rattle.router_rules.specs.declared.answers.Why.TheVariants as why
-use Rattle.router_rules.specs.Books.{fits, book}
-use Rattle.router_rules.specs.Books.{refused as refused_entry}
+use Rattle.router_rules.specs.Books.{fits, book, refused as refused_entry}
 use Rattle.router_rules.specs.Facts.{Facts, ResvState, Resvs, resvs_of, with_resvs, resvs_in, wants_in}
 use Rattle.router_rules.specs.Inputs.{Change, only_heard, Asked, ErrMsg, ErrSend, OfPath, OfResv, in_order}
 use Rattle.router_rules.specs.Known.{known, named_as}

@@ -83,7 +83,12 @@ module _ (p : NodeConfig) (iface : ℕ) (dst : Addr) where
   abbrev pub reply : ℕ × ℕ → Addressee → Option ErrSend
   reply code (PathFrom s h x) =
       cond (is_addr dst s.group)
-      (Some (record { iface = iface; dst = h.addr; error = OfPath (record { session = s; err = record { node = own p iface; in_place = false; not_guilty = false; code = code.0; value = code.1 }; sender = x }) }))
+      (Some (record {
+        iface = iface;
+        dst = h.addr;
+        error = OfPath
+            (record { session = s; err = record { node = own p iface; in_place = false; not_guilty = false; code = code.0; value = code.1 }; sender = x });
+      }))
       None
   reply code (ResvFrom s h st) =
       cond (is_addr dst (own p iface))

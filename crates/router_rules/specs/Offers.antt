@@ -1,6 +1,6 @@
 -- What a node offers: each known sender, by each interface by which its tree goes on (RFC 2205, 3.1.3; RFC 2209, 2:
 -- PATH REFRESH, the OutInterface_list of a PSB).
-use Rattle.std.specs.Prelude.{◌≡◌, ℕ, Bool, true, false, List, map as each, Option}
+use Rattle.std.specs.Prelude.{◌≡◌, ℕ, Bool, true, false, List, map as each, Option, ◌++◌}
 use Rattle.std.specs.List.{flat_map}
 use Rattle.std.specs.Option.{option_map}
 use Rattle.rsvp_base.specs.declared.session.Sender.{Sender}
@@ -13,7 +13,6 @@ use Rattle.style_rules.specs.Merge.{table_at}
 use Rattle.style_rules.specs.Toward.{or_else}
 use Rattle.router_rules.specs.Facts.{Facts, SenderKey}
 use Rattle.router_rules.specs.NodeConfig.{NodeConfig, outward}
-use Rattle.std.specs.Prelude.{◌++◌}
 
 pub record OfferKey : Type 0 where
   pub session : Session

@@ -15,8 +15,7 @@ use Rattle.style_rules.specs.declared.wall.Wall.{Wall}
 use Rattle.style_rules.specs.Lines.{NextHop}
 use Rattle.style_rules.specs.Merge.{PartTable}
 use Rattle.style_rules.specs.Parts.{part_of, part_cut}
-use Rattle.style_rules.specs.Toward.{Request, is_walled}
-use Rattle.style_rules.specs.Toward.{toward as merged_toward}
+use Rattle.style_rules.specs.Toward.{Request, is_walled, toward as merged_toward}
 use Rattle.style_rules.specs.declared.target.Target.TheVariants as target
 use Rattle.router_rules.specs.Facts.{Facts, ResvState, Want, Blockade, Walls, resvs_in, wants_in}
 use Rattle.style_rules.specs.Targets.{WallKey}

@@ -3,7 +3,7 @@ use byte_streams::{MemorySink, MemorySource};
 use live_router::LiveRouter;
 use message_show::put_reading;
 use script_checker::Checker;
-use script_player::{Unwatched, run_script};
+use script_run::{Unwatched, run_script};
 use std::alloc::Global;
 use std::test::*;
 

@@ -16,7 +16,8 @@ module _ {K X Y : Type 0} (o : Keys K) (f : K → X → Option Y) where
       same_table o _ _ (λ q.
       get-changed o f (put_in m k v) q ∙ ap (λ z. then_do z (f q)) (get-put_in o m k v q)
       ∙ either (eq_by_cmp o.cmp q k)
-      (λ t. ap (λ b. then_do (cond b (Some v) (get m q)) (f q)) t ∙ ap (λ z. f z v) (tied_same o q k t) ∙ e ∙ sym (get-put_in o (changed f m) k w q ∙ ap (λ b. cond b (Some w) (get (changed f m) q)) t))
+      (λ t. ap (λ b. then_do (cond b (Some v) (get m q)) (f q)) t ∙ ap (λ z. f z v) (tied_same o q k t) ∙ e
+      ∙ sym (get-put_in o (changed f m) k w q ∙ ap (λ b. cond b (Some w) (get (changed f m) q)) t))
       (λ t. ap (λ b. then_do (cond b (Some v) (get m q)) (f q)) t ∙ sym (get-changed o f m q) ∙ sym (get-put_in o (changed f m) k w q ∙ ap (λ b. cond b (Some w) (get (changed f m) q)) t)))
 
   -- where each row stays, whatever becomes of it, the keys are the same
@@ -41,7 +42,8 @@ changed_same o g h e m = λ i. changed (λ k x. e k x i) m
 
 -- one change after another
 pub changed_twice : {K X Y Z : Type 0} (o : Keys K) (g : K → X → Option Y) (f : K → Y → Option Z) (m : Table o X) → changed f (changed g m) ≡ changed (λ k x. then_do (g k x) (f k)) m
-changed_twice {K} {X} o g f m = same_table o _ _ (λ q. get-changed o f (changed g m) q ∙ ap (λ w. then_do w (f q)) (get-changed o g m q) ∙ by q (get m q) ∙ sym (get-changed o (λ k x. then_do (g k x) (f k)) m q))
+changed_twice {K} {X} o g f m = same_table o _ _ (λ q. get-changed o f (changed g m) q ∙ ap (λ w. then_do w (f q)) (get-changed o g m q) ∙ by q (get m q)
+    ∙ sym (get-changed o (λ k x. then_do (g k x) (f k)) m q))
   where
     by : (q : K) (w : Option X) → then_do (then_do w (g q)) (f q) ≡ then_do w (λ x. then_do (g q x) (f q))
     by q None = refl
@@ -50,4 +52,5 @@ changed_twice {K} {X} o g f m = same_table o _ _ (λ q. get-changed o f (changed
 -- the rows under a first part of a changed table are the changed rows under it
 pub under_changed : {A B X Y : Type 0} (o : Keys A) (q : Keys B) (f : A × B → X → Option Y) (m : Table (pairs o q) X) (a : A) → under o q (changed f m) a ≡ changed (λ b. f (a, b)) (under o q m a)
 under_changed o q f m a =
-    same_table q _ _ (λ b. get-under o q (changed f m) a b ∙ get-changed (pairs o q) f m (a, b) ∙ sym (get-changed q (λ z. f (a, z)) (under o q m a) b ∙ ap (λ w. then_do w (f (a, b))) (get-under o q m a b)))
+    same_table q _ _ (λ b. get-under o q (changed f m) a b ∙ get-changed (pairs o q) f m (a, b)
+    ∙ sym (get-changed q (λ z. f (a, z)) (under o q m a) b ∙ ap (λ w. then_do w (f (a, b))) (get-under o q m a b)))

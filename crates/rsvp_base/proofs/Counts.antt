@@ -24,7 +24,8 @@ module _ {K X : Type 0} (o : Keys K) where
       (λ (j : In (k, v) es).
       let rest : find o.cmp k es ≡ Some v = in_rows k v es (second (below_all o.cmp e.0 es) (is_sorted o.cmp es) h) j in
       either (eq_by_cmp o.cmp k e.0)
-      (λ t. let none : find o.cmp k es ≡ None = ap (λ q. find o.cmp q es) (tied_same o k e.0 t) ∙ none_above o e.0 es (first (below_all o.cmp e.0 es) (is_sorted o.cmp es) h) in let z : Some v ≡ None = sym rest ∙ none in absurd (cc))
+      (λ t. let none : find o.cmp k es ≡ None = ap (λ q. find o.cmp q es) (tied_same o k e.0 t) ∙ none_above o e.0 es (first (below_all o.cmp e.0 es) (is_sorted o.cmp es) h) in
+      let z : Some v ≡ None = sym rest ∙ none in absurd (cc))
       (λ t. ap (λ b. cond b (Some e.1) (find o.cmp k es)) t ∙ rest)) i
 
   -- a row is what stands under its key
@@ -49,7 +50,8 @@ module _ {K X : Type 0} (o : Keys K) where
       ap (λ b. cond (not b) (e ∷ where_key o.cmp (λ x. not (eq_by_cmp o.cmp k x)) es) (where_key o.cmp (λ x. not (eq_by_cmp o.cmp k x)) es)) (less_not_equal _ (first _ _ h))
       ∙ ap (λ r. e ∷ r) (rest_above k es (second _ _ h))
 
-  sum_rows-without : (w : K × X → ℕ) (k : K) (y : X) (es : List (K × X)) → T (is_sorted o.cmp es) → find o.cmp k es ≡ Some y → sum_by w es ≡ w (k, y) + sum_by w (where_key o.cmp (λ x. not (eq_by_cmp o.cmp k x)) es)
+  sum_rows-without : (w : K × X → ℕ) (k : K) (y : X) (es : List (K × X)) → T (is_sorted o.cmp es) → find o.cmp k es ≡ Some y
+      → sum_by w es ≡ w (k, y) + sum_by w (where_key o.cmp (λ x. not (eq_by_cmp o.cmp k x)) es)
   sum_rows-without w k y [] h e = absurd (cc)
   sum_rows-without w k y (z ∷ es) h e =
       either (eq_by_cmp o.cmp k z.0)
@@ -105,7 +107,8 @@ module _ {K X Y : Type 0} (o : Keys K) where
           (r.0, get-without o t e.0 k ∙ ap (λ b. cond (not b) (get t k) None) (turned k d) ∙ r.1, r.2)
 
   -- where each row of the one table has a row of the other under its key with no smaller value, the sum is no larger
-  pub sum_below : (w : K × X → ℕ) (v : K × Y → ℕ) (s : Table o X) (t : Table o Y) → ((k : K) (x : X) → get s k ≡ Some x → (y : Y) × (get t k ≡ Some y) × (w (k, x) ≤ v (k, y))) → sum_by w s.rows ≤ sum_by v t.rows
+  pub sum_below : (w : K × X → ℕ) (v : K × Y → ℕ) (s : Table o X) (t : Table o Y) → ((k : K) (x : X) → get s k ≡ Some x → (y : Y) × (get t k ≡ Some y) × (w (k, x) ≤ v (k, y)))
+      → sum_by w s.rows ≤ sum_by v t.rows
   sum_below w v s t u = sum_rows w v s.rows t s.sorted u
 
 ones : {A : Type 0} (xs : List A) → sum_by (λ (x : A). 1) xs ≡ length xs

@@ -23,7 +23,8 @@ pub filter_each : {A B : Type 0} (p : B → Bool) (f : A → B) (xs : List A) �
 filter_each p f [] = refl
 filter_each {A} {B} p f (x ∷ xs) = by (p (f x)) (filter_each p f xs)
   where
-    by : (b : Bool) → filter p (each f xs) ≡ each f (filter (λ x. p (f x)) xs) → cond b (f x ∷ filter p (each f xs)) (filter p (each f xs)) ≡ each f (cond b (x ∷ filter (λ x. p (f x)) xs) (filter (λ x. p (f x)) xs))
+    by : (b : Bool) → filter p (each f xs) ≡ each f (filter (λ x. p (f x)) xs) → cond b (f x ∷ filter p (each f xs)) (filter p (each f xs))
+        ≡ each f (cond b (x ∷ filter (λ x. p (f x)) xs) (filter (λ x. p (f x)) xs))
     by true e = λ i. f x ∷ e i
     by false e = e
 

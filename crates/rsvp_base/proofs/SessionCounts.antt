@@ -58,7 +58,9 @@ module _ {B X : Type 0} (o : Keys B) where
   any_under q (e ∷ es) = by (eq_by_cmp sessions.cmp q e.0.0) (any_under q es)
     where
       by : (b : Bool) → list_any (eq_by_cmp sessions.cmp q) (each (λ k. k.0) (each (λ e. e.0) es)) ≡ is_full (rows_under sessions o q es)
-          → (b || list_any (eq_by_cmp sessions.cmp q) (each (λ k. k.0) (each (λ e. e.0) es))) ≡ is_full {A = B × X} (each (λ (e : (Session × B) × X). (e.0.1, e.1)) (cond b (e ∷ where_key (pairs sessions o).cmp (λ k. eq_by_cmp sessions.cmp q k.0) es) (where_key (pairs sessions o).cmp (λ k. eq_by_cmp sessions.cmp q k.0) es)))
+          → (b || list_any (eq_by_cmp sessions.cmp q) (each (λ k. k.0) (each (λ e. e.0) es)))
+          ≡ is_full {A = B × X} (each (λ (e : (Session × B) × X). (e.0.1, e.1)) (cond b (e ∷ where_key (pairs sessions o).cmp (λ k. eq_by_cmp sessions.cmp q k.0) es)
+          (where_key (pairs sessions o).cmp (λ k. eq_by_cmp sessions.cmp q k.0) es)))
       by true rest = refl
       by false rest = rest
 
@@ -90,12 +92,15 @@ module _ {B X : Type 0} (o : Keys B) where
       ap (λ (u : Table o X). is_full u.rows) (under-put_in_other sessions o m s q b v t) ∙ sym (has_session m q)
       ∙ sym (has-with_key sessions (sessions_in o m) s q ∙ ap (λ w. w || has (sessions_in o m) q) t)))
 
-  pub size_sessions : (m : Table (pairs sessions o) X) (s : Session) (b : B) (v : X) → size (sessions_in o (put_in m (s, b) v)) ≡ cond (is_full (under sessions o m s).rows) (size (sessions_in o m)) (size (sessions_in o m) + 1)
+  pub size_sessions : (m : Table (pairs sessions o) X) (s : Session) (b : B) (v : X) → size (sessions_in o (put_in m (s, b) v))
+      ≡ cond (is_full (under sessions o m s).rows) (size (sessions_in o m)) (size (sessions_in o m) + 1)
   size_sessions m s b v = ap size (sessions_put m s b v) ∙ size-with_key sessions (sessions_in o m) s ∙ ap (λ w. cond w (size (sessions_in o m)) (size (sessions_in o m) + 1)) (has_session m s)
 
-  pub size_under : (m : Table (pairs sessions o) X) (s : Session) (b : B) (v : X) → size (under sessions o (put_in m (s, b) v) s) ≡ cond (is_some (get m (s, b))) (size (under sessions o m s)) (size (under sessions o m s) + 1)
+  pub size_under : (m : Table (pairs sessions o) X) (s : Session) (b : B) (v : X) → size (under sessions o (put_in m (s, b) v) s)
+      ≡ cond (is_some (get m (s, b))) (size (under sessions o m s)) (size (under sessions o m s) + 1)
   size_under m s b v =
-      ap size (under-put_in_same sessions o m s b v) ∙ size-put_in o (under sessions o m s) b v ∙ ap (λ w. cond (is_some w) (size (under sessions o m s)) (size (under sessions o m s) + 1)) (get-under sessions o m s b)
+      ap size (under-put_in_same sessions o m s b v) ∙ size-put_in o (under sessions o m s) b v
+      ∙ ap (λ w. cond (is_some w) (size (under sessions o m s)) (size (under sessions o m s) + 1)) (get-under sessions o m s b)
 
 module _ {B X : Type 0} (o : Keys B) where
   module _ (m : Table (pairs sessions o) X) (within : IsWithinSessionLimits o m) (s : Session) (b : B) (v : X) where
@@ -103,7 +108,8 @@ module _ {B X : Type 0} (o : Keys B) where
     pub room_over : is_some (get m (s, b)) ≡ true → has_room_at o (put_in m (s, b) v) s ≡ true
     room_over there =
         let few : size (sessions_in o (put_in m (s, b) v)) ≡ size (sessions_in o m) =
-        size_sessions o m s b v ∙ ap (λ w. cond w (size (sessions_in o m)) (size (sessions_in o m) + 1)) (full_if (under sessions o m s).rows (some_rows o b (under sessions o m s).rows (ap is_some (get-under sessions o m s b) ∙ there))) in
+        size_sessions o m s b v ∙ ap (λ w. cond w (size (sessions_in o m)) (size (sessions_in o m) + 1))
+        (full_if (under sessions o m s).rows (some_rows o b (under sessions o m s).rows (ap is_some (get-under sessions o m s b) ∙ there))) in
         let one = size_under o m s b v ∙ ap (λ w. cond w (size (under sessions o m s)) (size (under sessions o m s) + 1)) there in
         ap (λ n. nat_le n 32 && nat_le (size (under sessions o (put_in m (s, b) v) s)) 16) few ∙ ap (λ n. nat_le (size (sessions_in o m)) 32 && nat_le n 16) one
         ∙ ap (λ t. t && nat_le (size (under sessions o m s)) 16) (at_most _ 32 within.all) ∙ at_most _ 16 (within.one s)
@@ -121,10 +127,15 @@ module _ {B X : Type 0} (o : Keys B) where
     room_first none =
         let few : size (sessions_in o (put_in m (s, b) v)) ≡ size (sessions_in o m) + 1 = size_sessions o m s b v ∙ ap (λ w. cond w (size (sessions_in o m)) (size (sessions_in o m) + 1)) none in
         let no : is_some (get m (s, b)) ≡ false =
-        either (is_some (get m (s, b))) (λ t. absurd (omega (arith, if_empty (under sessions o m s).rows none, some_rows o b (under sessions o m s).rows (ap is_some (get-under sessions o m s b) ∙ t)))) (λ t. t) in
+        either (is_some (get m (s, b))) (λ t. absurd (omega (
+          arith,
+          if_empty (under sessions o m s).rows none,
+          some_rows o b (under sessions o m s).rows (ap is_some (get-under sessions o m s b) ∙ t),
+        ))) (λ t. t) in
         let one : size (under sessions o (put_in m (s, b) v) s) ≡ 1 =
         size_under o m s b v ∙ ap (λ w. cond w (size (under sessions o m s)) (size (under sessions o m s) + 1)) no ∙ ap (λ n. n + 1) (if_empty (under sessions o m s).rows none) in
-        ap (λ n. nat_le n 32 && nat_le (size (under sessions o (put_in m (s, b) v) s)) 16) few ∙ ap (λ n. nat_le (size (sessions_in o m) + 1) 32 && nat_le n 16) one ∙ and_true (nat_le (size (sessions_in o m) + 1) 32)
+        ap (λ n. nat_le n 32 && nat_le (size (under sessions o (put_in m (s, b) v) s)) 16) few ∙ ap (λ n. nat_le (size (sessions_in o m) + 1) 32 && nat_le n 16) one
+        ∙ and_true (nat_le (size (sessions_in o m) + 1) 32)
       where
         and_true : (t : Bool) → (t && true) ≡ t
         and_true true = refl
@@ -167,7 +178,8 @@ module _ {B X : Type 0} (o : Keys B) where
   split s (e ∷ es) = by (eq_by_cmp sessions.cmp s e.0.0) (split s es)
     where
       by : (b : Bool) → length es ≡ length (rows_under sessions o s es) + length (where_key (pairs sessions o).cmp (others s) es)
-          → suc (length es) ≡ length {A = B × X} (each (λ (e : (Session × B) × X). (e.0.1, e.1)) (cond b (e ∷ where_key (pairs sessions o).cmp (λ k. eq_by_cmp sessions.cmp s k.0) es) (where_key (pairs sessions o).cmp (λ k. eq_by_cmp sessions.cmp s k.0) es)))
+          → suc (length es) ≡ length {A = B × X} (each (λ (e : (Session × B) × X). (e.0.1, e.1))
+          (cond b (e ∷ where_key (pairs sessions o).cmp (λ k. eq_by_cmp sessions.cmp s k.0) es) (where_key (pairs sessions o).cmp (λ k. eq_by_cmp sessions.cmp s k.0) es)))
           + length (cond (not b) (e ∷ where_key (pairs sessions o).cmp (others s) es) (where_key (pairs sessions o).cmp (others s) es))
       by true rest = omega (arith, rest)
       by false rest = omega (arith, rest)
@@ -209,14 +221,17 @@ module _ {B X : Type 0} (o : Keys B) where
           let was : has (sessions_in o m) q ≡ true = has_session o m q ∙ full_if (under sessions o m q).rows (omega (arith, many, under_fewer o m (kept (others s) m) (kept_fewer m s) q)) in
           ap is_some (get-without sessions (sessions_in o m) s q ∙ ap (λ b. cond (not b) (get (sessions_in o m) q) None) t) ∙ was)
 
-  step : (n : ℕ) (m : Table (pairs sessions o) X) → size (sessions_in o m) ≤ suc n → ((s : Session) → size (under sessions o m s) ≤ 16) → ((k : Table (pairs sessions o) X) → size (sessions_in o k) ≤ n → ((s : Session) → size (under sessions o k s) ≤ 16) → size k ≤ 16 * n) → size m ≤ 16 * suc n
+  step : (n : ℕ) (m : Table (pairs sessions o) X) → size (sessions_in o m) ≤ suc n → ((s : Session) → size (under sessions o m s) ≤ 16)
+      → ((k : Table (pairs sessions o) X) → size (sessions_in o k) ≤ n → ((s : Session) → size (under sessions o k s) ≤ 16) → size k ≤ 16 * n) → size m ≤ 16 * suc n
   step n m few one rest = by m.rows refl
     where
       by : (es : List ((Session × B) × X)) → m.rows ≡ es → size m ≤ 16 * suc n
       by [] e = omega (arith, ap length e)
       by (x ∷ es) e =
           let s = x.0.0 in
-          let there : has (sessions_in o m) s ≡ true = has-set_of sessions (each (λ k. k.0) (each (λ e. e.0) m.rows)) s ∙ ap (λ rs. list_any (eq_by_cmp sessions.cmp s) (each (λ k. k.0) (each (λ e. e.0) rs))) e ∙ ap (λ t. t || list_any (eq_by_cmp sessions.cmp s) (each (λ k. k.0) (each (λ e. e.0) es))) (tied_self sessions s) in
+          let there : has (sessions_in o m) s ≡ true = has-set_of sessions (each (λ k. k.0) (each (λ e. e.0) m.rows)) s
+          ∙ ap (λ rs. list_any (eq_by_cmp sessions.cmp s) (each (λ k. k.0) (each (λ e. e.0) rs))) e
+          ∙ ap (λ t. t || list_any (eq_by_cmp sessions.cmp s) (each (λ k. k.0) (each (λ e. e.0) es))) (tied_self sessions s) in
           let fewer = fewer_sessions m s there in
           let parts = split s m.rows in
           let less = rest (kept (others s) m) (omega (arith, few, fewer)) (λ q. omega (arith, one q, under_fewer o m (kept (others s) m) (kept_fewer m s) q)) in
@@ -228,7 +243,9 @@ module _ {B X : Type 0} (o : Keys B) where
       by : (es : List ((Session × B) × X)) → m.rows ≡ es → size m ≤ 16 * 0
       by [] e = omega (arith, ap length e)
       by (x ∷ es) e =
-          let there : has (sessions_in o m) x.0.0 ≡ true = has-set_of sessions (each (λ k. k.0) (each (λ e. e.0) m.rows)) x.0.0 ∙ ap (λ rs. list_any (eq_by_cmp sessions.cmp x.0.0) (each (λ k. k.0) (each (λ e. e.0) rs))) e ∙ ap (λ t. t || list_any (eq_by_cmp sessions.cmp x.0.0) (each (λ k. k.0) (each (λ e. e.0) es))) (tied_self sessions x.0.0) in
+          let there : has (sessions_in o m) x.0.0 ≡ true = has-set_of sessions (each (λ k. k.0) (each (λ e. e.0) m.rows)) x.0.0
+          ∙ ap (λ rs. list_any (eq_by_cmp sessions.cmp x.0.0) (each (λ k. k.0) (each (λ e. e.0) rs))) e
+          ∙ ap (λ t. t || list_any (eq_by_cmp sessions.cmp x.0.0) (each (λ k. k.0) (each (λ e. e.0) es))) (tied_self sessions x.0.0) in
           let fewer = fewer_sessions m x.0.0 there in
           omega (arith, few, fewer)
   all_at_most (suc n) m few one = step n m few one (λ k. all_at_most n k)

@@ -18,12 +18,14 @@ use Rattle.rsvp_base.proofs.UnderLaws.{get-under, under-put_in_other}
 
 module _ {B X : Type 0} (o : Keys B) where
   -- n differs from m at the session s alone
-  pub room_told : (m n : Table (pairs sessions o) X) (s : Session) → IsWithinSessionLimits o m → ((t : Session) → eq_by_cmp sessions.cmp t s ≡ false → under sessions o n t ≡ under sessions o m t) → has_room_at o n s ≡ true → IsWithinSessionLimits o n
+  pub room_told : (m n : Table (pairs sessions o) X) (s : Session) → IsWithinSessionLimits o m → ((t : Session) → eq_by_cmp sessions.cmp t s ≡ false → under sessions o n t ≡ under sessions o m t)
+      → has_room_at o n s ≡ true → IsWithinSessionLimits o n
   room_told m n s w same e =
       let r = and_both _ _ e in
       record {
         all = leb-true (size (sessions_in o n)) 32 r.0;
-        one = λ t. either (eq_by_cmp sessions.cmp t s) (λ tie. subst (λ (z : Session). size (under sessions o n z) ≤ 16) (sym (tied_same sessions t s tie)) (leb-true (size (under sessions o n s)) 16 r.1))
+        one = λ t. either (eq_by_cmp sessions.cmp t s) (λ tie. subst (λ (z : Session). size (under sessions o n z) ≤ 16) (sym (tied_same sessions t s tie))
+            (leb-true (size (under sessions o n s)) 16 r.1))
             (λ apart. subst (λ (z : Table o X). size z ≤ 16) (sym (same t apart)) (w.one t));
       }
 
@@ -35,7 +37,8 @@ module _ {B X : Type 0} (o : Keys B) where
   put_room m k x w = (room_told m (put_in m k x) k.0 w (λ t apart. under-put_in_other sessions o m k.0 t k.1 x apart), room_tested (put_in m k x) k.0)
 
   -- with rows of one session put
-  rows_apart : (es : List ((Session × B) × X)) (m : Table (pairs sessions o) X) (s t : Session) → ((e : (Session × B) × X) → In e es → e.0.0 ≡ s) → eq_by_cmp sessions.cmp t s ≡ false → under sessions o (with_rows m es) t ≡ under sessions o m t
+  rows_apart : (es : List ((Session × B) × X)) (m : Table (pairs sessions o) X) (s t : Session) → ((e : (Session × B) × X) → In e es → e.0.0 ≡ s) → eq_by_cmp sessions.cmp t s ≡ false
+      → under sessions o (with_rows m es) t ≡ under sessions o m t
   rows_apart [] m s t of apart = λ i. under sessions o m t
   rows_apart (e ∷ es) m s t of apart =
       rows_apart es (put_in m e.0 e.1) s t (λ z i. of z (inr i)) apart
@@ -59,7 +62,8 @@ module _ {B X : Type 0} (o : Keys B) where
       firsts t = each (λ k. k.0) (keys t)
 
       key_has : (t : Table (pairs sessions o) X) (k : Session × B) → In k (keys t) → has t k ≡ true
-      key_has t k i = let r = in_each (λ (e : (Session × B) × X). e.0) k t.rows i in ap is_some (in_found (pairs sessions o) t k r.0.1 (subst (λ (z : Session × B). In (z, r.0.1) t.rows) (sym r.2) r.1))
+      key_has t k i = let r = in_each (λ (e : (Session × B) × X). e.0) k t.rows i in ap is_some
+          (in_found (pairs sessions o) t k r.0.1 (subst (λ (z : Session × B). In (z, r.0.1) t.rows) (sym r.2) r.1))
 
       has_key : (t : Table (pairs sessions o) X) (k : Session × B) → has t k ≡ true → In k (keys t)
       has_key t k h = by (get t k) (λ i. get t k) h

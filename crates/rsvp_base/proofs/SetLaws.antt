@@ -126,7 +126,8 @@ module _ {K : Type 0} (o : Keys K) where
   size-with_key s k = size-put_in o s k tt
 
   pub size_grows : (s : Set o) (k : K) → size s ≤ size (with_key s k)
-  size_grows s k = let grown = size-with_key s k in either (has s k) (λ t. let e = grown ∙ ap (λ b. cond b (size s) (size s + 1)) t in omega arith) (λ t. let e = grown ∙ ap (λ b. cond b (size s) (size s + 1)) t in omega arith)
+  size_grows s k = let grown = size-with_key s k in either (has s k) (λ t. let e = grown ∙ ap (λ b. cond b (size s) (size s + 1)) t in omega arith)
+      (λ t. let e = grown ∙ ap (λ b. cond b (size s) (size s + 1)) t in omega arith)
 
   pub size-with_rows : (es : List (K × Unit {0})) (s : Set o) → size s ≤ size (with_rows s es)
   size-with_rows [] s = omega arith

@@ -36,7 +36,8 @@ size_append {K} o xs ys =
 -- the image of a set is no larger
 pub image_size : {K L : Type 0} (o : Keys K) (p : Keys L) (g : K → L) (xs : List K) → size (set_of {o = p} (each g xs)) ≤ size (set_of {o = o} xs)
 image_size {K} {L} o p g xs =
-    let few = set_below p (each g xs) (each g (keys (set_of {o = o} xs))) (λ k i. let x = in_each g k xs i in subst (λ (z : L). In z (each g (keys (set_of {o = o} xs)))) (sym x.2) (to_each g x.0 (keys (set_of {o = o} xs)) (listed x.0 x.1))) in
+    let few = set_below p (each g xs) (each g (keys (set_of {o = o} xs))) (λ k i. let x = in_each g k xs i in
+    subst (λ (z : L). In z (each g (keys (set_of {o = o} xs)))) (sym x.2) (to_each g x.0 (keys (set_of {o = o} xs)) (listed x.0 x.1))) in
     let all = size-set_of p (each g (keys (set_of {o = o} xs))) in
     let a = length-map (keys (set_of {o = o} xs)) g in
     let b = length-map (set_of {o = o} xs).rows (λ (e : K × Unit {0}). e.0) in

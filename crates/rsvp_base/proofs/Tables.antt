@@ -101,7 +101,8 @@ module _ {K X Y : Type 0} (o : Keys K) (f : K → X → Option Y) where
   find-changed [] q h = refl
   find-changed (e ∷ es) q h = by_tie (find-changed es q (second _ _ h)) (eq_by_cmp o.cmp q e.0) refl (f e.0 e.1) refl
     where
-      by_tie : find o.cmp q (changed_rows f es) ≡ then_do (find o.cmp q es) (f q) → (b : Bool) → eq_by_cmp o.cmp q e.0 ≡ b → (w : Option Y) → f e.0 e.1 ≡ w → find o.cmp q (kept_row e.0 w (changed_rows f es)) ≡ then_do (cond b (Some e.1) (find o.cmp q es)) (f q)
+      by_tie : find o.cmp q (changed_rows f es) ≡ then_do (find o.cmp q es) (f q) → (b : Bool) → eq_by_cmp o.cmp q e.0 ≡ b → (w : Option Y) → f e.0 e.1 ≡ w
+          → find o.cmp q (kept_row e.0 w (changed_rows f es)) ≡ then_do (cond b (Some e.1) (find o.cmp q es)) (f q)
       by_tie ih true t None w =
           let k = tied_same o q e.0 t in
           ih ∙ ap (λ x. then_do x (f q)) (ap (λ z. find o.cmp z es) k ∙ none_above o e.0 es (first _ _ h)) ∙ sym (ap (λ z. f z e.1) k ∙ w)

@@ -49,8 +49,10 @@ module _ {A K X : Type 0} (o : Keys K) (row : A → (ℕ × K) × X) where
 
   -- by the test that keeps a row
   pub rows_cons : (n : ℕ) (x : A) (xs : List A) (b : Bool) → eq_by_cmp nat_cmp n (row x).0.0 ≡ b → rows_of n (x ∷ xs) ≡ cond b (((row x).0.1, (row x).1) ∷ rows_of n xs) (rows_of n xs)
-  rows_cons n x xs true t = ap (λ b. each (λ e. (e.0.1, e.1)) (cond b (row x ∷ where_key (pairs numbers o).cmp (λ k. eq_by_cmp nat_cmp n k.0) (each row xs)) (where_key (pairs numbers o).cmp (λ k. eq_by_cmp nat_cmp n k.0) (each row xs)))) t
-  rows_cons n x xs false t = ap (λ b. each (λ e. (e.0.1, e.1)) (cond b (row x ∷ where_key (pairs numbers o).cmp (λ k. eq_by_cmp nat_cmp n k.0) (each row xs)) (where_key (pairs numbers o).cmp (λ k. eq_by_cmp nat_cmp n k.0) (each row xs)))) t
+  rows_cons n x xs true t = ap (λ b. each (λ e. (e.0.1, e.1)) (cond b (row x ∷ where_key (pairs numbers o).cmp (λ k. eq_by_cmp nat_cmp n k.0) (each row xs))
+      (where_key (pairs numbers o).cmp (λ k. eq_by_cmp nat_cmp n k.0) (each row xs)))) t
+  rows_cons n x xs false t = ap (λ b. each (λ e. (e.0.1, e.1)) (cond b (row x ∷ where_key (pairs numbers o).cmp (λ k. eq_by_cmp nat_cmp n k.0) (each row xs))
+      (where_key (pairs numbers o).cmp (λ k. eq_by_cmp nat_cmp n k.0) (each row xs)))) t
 
   -- past the rows of a number there is none of it
   pub none_past : (n : ℕ) (xs : List A) → ((j : ℕ) (d : A) → j < length xs → n < (row (get_or xs j d)).0.0) → rows_of n xs ≡ []

@@ -66,4 +66,5 @@ module _ {A B X : Type 0} (o : Keys A) (p : Keys B) where
   -- ---- the rows that pass a test
   pub under-kept : (m : Table (pairs o p) X) (a : A) (test : A × B → Bool) → under o p (kept test m) a ≡ kept (λ b. test (a, b)) (under o p m a)
   under-kept m a test =
-      same_table p _ _ (λ b. get-under (kept test m) a b ∙ get-kept (pairs o p) test m (a, b) ∙ ap (λ w. cond (test (a, b)) w None) (sym (get-under m a b)) ∙ sym (get-kept p (λ q. test (a, q)) (under o p m a) b))
+      same_table p _ _ (λ b. get-under (kept test m) a b ∙ get-kept (pairs o p) test m (a, b) ∙ ap (λ w. cond (test (a, b)) w None) (sym (get-under m a b))
+      ∙ sym (get-kept p (λ q. test (a, q)) (under o p m a) b))

@@ -108,7 +108,8 @@ unfolding head_of
 head_from at left n long is least whole fits = rw (is, le-ltb (length left) 4 long, le-leb 4 n least, whole, le-leb n (length left) fits) refl
 
 -- the head reads as that of the object
-pub head_again : (x : Object) (at : ℕ) (after : List ℕ) → IsProper x → head_of at (spelling x ++ after) ≡ read (record { class = record { 0 = class_of x }; ctype = ctype_with x; end = at + length (spelling x) })
+pub head_again : (x : Object) (at : ℕ) (after : List ℕ) → IsProper x → head_of at (spelling x ++ after)
+    ≡ read (record { class = record { 0 = class_of x }; ctype = ctype_with x; end = at + length (spelling x) })
 unfolding head_of spelling
 head_again (object.Session s p) at after h = head_from at (spelling (object.Session s p) ++ after) 12 (omega arith) refl (omega arith) refl (omega arith)
 head_again (object.HopOf x) at after h = head_from at (spelling (object.HopOf x) ++ after) 12 (omega arith) refl (omega arith) refl (omega arith)
@@ -223,7 +224,8 @@ read_again x h before after =
     let at = length before in
     let bytes = before ++ (spelling x ++ after) in
     let end = at + length (spelling x) in
-    let own : take (end - (at + 4)) (drop (at + 4) bytes) ≡ take (length (spelling x) - 4) (drop 4 (spelling x ++ after)) = ap (λ (n : ℕ). take n (drop (at + 4) bytes)) size ∙ ap (take (length (spelling x) - 4)) behind in
+    let own : take (end - (at + 4)) (drop (at + 4) bytes) ≡ take (length (spelling x) - 4) (drop 4 (spelling x ++ after)) = ap (λ (n : ℕ). take n (drop (at + 4) bytes)) size
+    ∙ ap (take (length (spelling x) - 4)) behind in
     by_its_head at bytes
     ∙ ap (λ (left : List ℕ). by_head at bytes (head_of at left)) here
     ∙ ap (by_head at bytes) (head_again x at after h)

@@ -91,7 +91,20 @@ sound_proper r b p low most f hr hb hp hl hm e =
           let nb : b ≡ 0 → ⊥ = eqb-false b 0 three.1 in
           let nl : low ≡ 0 → ⊥ = eqb-false low 0 two.1 in
           let nm : most ≡ 0 → ⊥ = eqb-false most 0 one.1 in
-          subst IsFlow (some_said q.1) (record { sound = record { rate = omega (arith, nr); depth = omega (arith, nb); low = omega (arith, nl); most = omega (arith, nm) }; r = hr; b = hb; p = hp; low = hl; most = hm })
+          subst IsFlow (some_said q.1) (record {
+            sound = record {
+              rate = omega (arith, nr);
+              depth = omega (arith, nb);
+              low = omega (arith, nl);
+              most = omega
+                  (arith, nm);
+            };
+            r = hr;
+            b = hb;
+            p = hp;
+            low = hl;
+            most = hm;
+          })
     ]
 
 bucket_proper : (body : List ℕ) (f : TokenBucket) → AreBytes body → bucket_in body ≡ Some f → IsFlow f
@@ -100,7 +113,8 @@ bucket_proper body f h e =
     let r = gave _ (rate_at 12 body) f e in
     let b = gave _ (rate_at 16 body) f r.rest in
     let p = gave _ (peak_at 20 body) f b.rest in
-    sound_proper r.value b.value p.value (word_at 24 body) (word_at 28 body) f (rate_at_proper 12 body r.value r.was) (rate_at_proper 16 body b.value b.was) (peak_proper 20 body p.value p.was) (word_small 24 body h) (word_small 28 body h) p.rest
+    sound_proper r.value b.value p.value (word_at 24 body) (word_at 28 body) f (rate_at_proper 12 body r.value r.was) (rate_at_proper 16 body b.value b.was) (peak_proper 20 body p.value p.was)
+    (word_small 24 body h) (word_small 28 body h) p.rest
 
 flow_proper : (service : ℕ) (body : List ℕ) (f : TokenBucket) → AreBytes body → flow_in service body ≡ Some f → IsFlow f
 unfolding flow_in

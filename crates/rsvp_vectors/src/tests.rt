@@ -6,8 +6,8 @@ use crate::objects::{
     ADSPEC, CONFIRM, ERROR, FF, FILTER, FLOW, HOP, INTEGRITY, NULL, OTHER_FILTER, POLICY, SE,
     SESSION, TIME, WF, WHOLE_ADSPEC, bare, joined, message,
 };
-use message_wire::decode;
-use message_writing::encode;
+use message_decode::decode;
+use message_encode::encode;
 use rsvp_base::{Addr, Peak, Rate, Session};
 use rsvp_messages::{Fault, Kind, Message, PathMsg};
 use rsvp_objects::{ObjErr, Packet};

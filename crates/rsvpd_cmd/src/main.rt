@@ -5,8 +5,10 @@
 //! standard output. How far many rounds are it tells on a terminal (`progress`).
 #![tactic(auto)]
 
+mod noting;
 mod progress;
 
+use crate::noting::Noting;
 use crate::progress::Progress;
 use byte_streams::{StdSink, StdSource};
 use rsvpd_run::{Status, run};
@@ -15,11 +17,13 @@ use std::{env, io};
 
 fn main(rt: HostRuntime) -> ExitCode {
     let mut advice = Vec::new(rt.alloc());
+    let mut unread = None;
+    let mut unwritten = None;
     let mut progress = Progress::open(rt);
     let status = match words(&rt) {
         Ok(words) => {
-            let mut source = StdSource::new(rt.stdin());
-            let mut sink = StdSink::new(rt.stdout());
+            let mut source = StdSource::new(Noting::new(rt.stdin(), &mut unread));
+            let mut sink = StdSink::new(Noting::new(rt.stdout(), &mut unwritten));
             let mut last = None;
             run(
                 rt.alloc(),
@@ -34,8 +38,13 @@ fn main(rt: HostRuntime) -> ExitCode {
         Err(status) => status,
     };
     progress.clear();
-    // The status tells how the run ended, also where its text cannot be printed.
+    // The status says how the run ended, also where its text cannot be printed.
     let _ = print(&rt, &status, advice.as_slice());
+    let _ = match status {
+        Status::ReadFault => print_cause(&rt, "standard input", unread),
+        Status::WriteFault => print_cause(&rt, "standard output", unwritten),
+        _ => Ok(()),
+    };
     ExitCode::from(status.code())
 }
 
@@ -52,7 +61,15 @@ fn words(rt: &HostRuntime) -> Result<Vec<String>, Status> {
     Ok(words)
 }
 
-// Prints the text of a status on standard error, and in a line of its own what is wrong with the bad line.
+// Prints what the system said of this stream, in a line of its own, where it said something.
+fn print_cause(rt: &HostRuntime, stream: &str, error: Option<io::Error>) -> io::Result<()> {
+    match error {
+        Some(error) => eprintln!(rt; "  {stream}: {error}"),
+        None => Ok(()),
+    }
+}
+
+// Prints the text of a status on standard error, and in a line of its own the advice on the line at which the run ended.
 fn print(rt: &HostRuntime, status: &Status, advice: &[u8]) -> io::Result<()> {
     match status {
         Status::Done => Ok(()),

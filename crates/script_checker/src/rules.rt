@@ -23,61 +23,61 @@ pub fn add(state: &mut ScriptState, line: ScriptLine) -> Result<Option<Event>, S
     match line {
         ScriptLine::Skipped => Ok(None),
         ScriptLine::Period(ms) => {
-            tree_rules::add_period(state, ms)?;
+            script_rules::add_period(state, ms)?;
             Ok(None)
         }
         ScriptLine::Seed(seed) => {
-            tree_rules::add_seed(state, seed)?;
+            script_rules::add_seed(state, seed)?;
             Ok(None)
         }
         ScriptLine::Node(name) => {
-            tree_rules::add_node(state, name)?;
+            script_rules::add_node(state, name)?;
             Ok(None)
         }
-        ScriptLine::Wait(ms) => Ok(Some(event_rules::add_wait(state, ms)?)),
-        ScriptLine::Pass(times) => Ok(Some(event_rules::add_pass(state, times)?)),
-        ScriptLine::Rounds(times) => Ok(Some(event_rules::add_rounds(state, times)?)),
-        ScriptLine::Deliver(place) => Ok(Some(event_rules::add_deliver(state, place)?)),
-        ScriptLine::Lose(place) => Ok(Some(event_rules::add_lose(state, place)?)),
-        ScriptLine::Copy(place) => Ok(Some(event_rules::add_again(state, place)?)),
-        ScriptLine::Clear(node) => Ok(Some(event_rules::add_clear(state, node)?)),
-        ScriptLine::Trace(on) => Ok(Some(event_rules::add_trace(state, on)?)),
-        ScriptLine::Report => Ok(Some(event_rules::add_report(state)?)),
-        ScriptLine::Flags => Ok(Some(event_rules::add_flags(state)?)),
+        ScriptLine::Wait(ms) => Ok(Some(script_rules::add_wait(state, ms)?)),
+        ScriptLine::Pass(times) => Ok(Some(script_rules::add_pass(state, times)?)),
+        ScriptLine::Rounds(times) => Ok(Some(script_rules::add_rounds(state, times)?)),
+        ScriptLine::Deliver(place) => Ok(Some(script_rules::add_deliver(state, place)?)),
+        ScriptLine::Lose(place) => Ok(Some(script_rules::add_lose(state, place)?)),
+        ScriptLine::Copy(place) => Ok(Some(script_rules::add_again(state, place)?)),
+        ScriptLine::Clear(node) => Ok(Some(script_rules::add_clear(state, node)?)),
+        ScriptLine::Trace(on) => Ok(Some(script_rules::add_trace(state, on)?)),
+        ScriptLine::Report => Ok(Some(script_rules::add_report(state)?)),
+        ScriptLine::Flags => Ok(Some(script_rules::add_flags(state)?)),
         ScriptLine::End(line) => {
-            tree_rules::add_end(state, line)?;
+            script_rules::add_end(state, line)?;
             Ok(None)
         }
         ScriptLine::Link(names) => {
-            tree_rules::add_link(state, names)?;
+            script_rules::add_link(state, names)?;
             Ok(None)
         }
         ScriptLine::Hop(line) => {
-            tree_rules::add_hop(state, line)?;
+            script_rules::add_hop(state, line)?;
             Ok(None)
         }
         ScriptLine::StalePath(line) => {
-            left_rules::add_path(state, line)?;
+            script_rules::add_path(state, line)?;
             Ok(None)
         }
         ScriptLine::StaleResv(line) => {
-            left_rules::add_resv(state, line)?;
+            script_rules::add_resv(state, line)?;
             Ok(None)
         }
         ScriptLine::StaleHopWall(line) => {
-            left_rules::add_hop_wall(state, line)?;
+            script_rules::add_hop_wall(state, line)?;
             Ok(None)
         }
         ScriptLine::StaleSenderWall(line) => {
-            left_rules::add_sender_wall(state, line)?;
+            script_rules::add_sender_wall(state, line)?;
             Ok(None)
         }
-        ScriptLine::Send(line) => Ok(Some(host_rules::add_send(state, line)?)),
-        ScriptLine::Drop(line) => Ok(Some(host_rules::add_drop(state, line)?)),
-        ScriptLine::Want(line) => Ok(Some(host_rules::add_want(state, line)?)),
-        ScriptLine::Quit(line) => Ok(Some(host_rules::add_quit(state, line)?)),
-        ScriptLine::ReportEnd(end) => Ok(Some(event_rules::add_report_end(state, end)?)),
-        ScriptLine::Inject(line) => Ok(Some(event_rules::add_inject(state, line)?)),
-        ScriptLine::Reroute(line) => Ok(Some(tree_rules::add_reroute(state, line)?)),
+        ScriptLine::Send(line) => Ok(Some(script_rules::add_send(state, line)?)),
+        ScriptLine::Drop(line) => Ok(Some(script_rules::add_drop(state, line)?)),
+        ScriptLine::Want(line) => Ok(Some(script_rules::add_want(state, line)?)),
+        ScriptLine::Quit(line) => Ok(Some(script_rules::add_quit(state, line)?)),
+        ScriptLine::ReportEnd(end) => Ok(Some(script_rules::add_report_end(state, end)?)),
+        ScriptLine::Inject(line) => Ok(Some(script_rules::add_inject(state, line)?)),
+        ScriptLine::Reroute(line) => Ok(Some(script_rules::add_reroute(state, line)?)),
     }
 }

@@ -2,9 +2,9 @@
 use Rattle.std.proofs.Common.{◌≡◌, ℕ, ◌≤◌, List, [], ◌++◌, Option, None, Some, take, refl, sym, ap, ◌∙◌, append-nil, arith}
 use Rattle.std.specs.Io.KnownBytes.{Appends, Consumes, IsAtEnd}
 use Rattle.byte_streams.specs.Reading.{most_bytes}
-use Rattle.network_run.specs.Advised.{IsAdvised}
-use Rattle.network_run.specs.declared.ending.Ending.{Ending}
-use Rattle.network_run.specs.declared.ending.Ending.TheVariants.{Done, BadLine, ReadFault, WriteFault, NoMemory, Crowded, TooLong}
+use Rattle.script_run.specs.Advised.{IsAdvised}
+use Rattle.script_run.specs.declared.ending.Ending.{Ending}
+use Rattle.script_run.specs.declared.ending.Ending.TheVariants.{Done, BadLine, ReadFault, WriteFault, NoMemory, Crowded, TooLong}
 use Rattle.script_grammar.specs.declared.fault.Fault.{Fault}
 use Rattle.script_demand.specs.Answering.{CanTakeAll, IsAnsweringOf, IsWrittenOrNot}
 

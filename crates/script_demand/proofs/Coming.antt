@@ -2,9 +2,9 @@
 use Rattle.std.proofs.Common.{◌≡◌, ℕ, ◌≤◌, List, length, refl, inl, inr, arith}
 use Rattle.byte_streams.specs.Reading.{most_bytes}
 use Rattle.network_model.specs.Runs.{Plan}
-use Rattle.network_run.specs.Endings.{IsOrNoMemory}
-use Rattle.network_run.specs.declared.ending.Ending.{Ending}
-use Rattle.network_run.specs.declared.ending.Ending.TheVariants.{Done, BadLine, ReadFault, WriteFault, NoMemory, Crowded, TooLong}
+use Rattle.script_run.specs.Endings.{IsOrNoMemory}
+use Rattle.script_run.specs.declared.ending.Ending.{Ending}
+use Rattle.script_run.specs.declared.ending.Ending.TheVariants.{Done, BadLine, ReadFault, WriteFault, NoMemory, Crowded, TooLong}
 use Rattle.script_grammar.specs.Draft.{plan_of}
 use Rattle.script_grammar.specs.Grammar.{IsBadLine, IsScript}
 use Rattle.script_grammar.specs.declared.fault.Fault.{Fault}
@@ -40,7 +40,8 @@ stopped_bad bytes number why TooLong s bad = absurd s
 
 -- ---- known input
 -- what it comes to, over an input that was read to its end
-pub comes_to : (input : List ℕ) (wanted got : Ending) (F : Type 0) → length input ≤ most_bytes → ((p : Plan) → IsScript input p → (F → ⊥) → IsOrNoMemory Done got) → ((number : ℕ) (why : Fault) → IsBadLine input number why → IsOrNoMemory (BadLine number why) got)
+pub comes_to : (input : List ℕ) (wanted got : Ending) (F : Type 0) → length input ≤ most_bytes → ((p : Plan) → IsScript input p → (F → ⊥) → IsOrNoMemory Done got)
+    → ((number : ℕ) (why : Fault) → IsBadLine input number why → IsOrNoMemory (BadLine number why) got)
     → DemandsTo wanted input → (wanted ≡ Done → F → ⊥) → IsOrNoMemory wanted got
 comes_to input Done got F few right bad comes quiet = right comes.1.0 comes.1.1 (quiet refl)
 comes_to input (BadLine number why) got F few right bad comes quiet = bad number why comes.1

@@ -1,3 +1,4 @@
+pub mod Owed
 pub mod Answering
 pub mod Feeding
 pub mod Coming

@@ -5,9 +5,9 @@
 use Rattle.std.specs.Prelude.{◌≡◌, ℕ, ◌+◌, ◌≤◌, List, [], length, take, Option}
 use Rattle.std.specs.Io.KnownBytes.{Appends, Consumes}
 use Rattle.byte_streams.specs.Reading.{most_bytes}
-use Rattle.network_run.specs.Endings.{all_bytes}
-use Rattle.network_run.specs.declared.ending.Ending.{Ending}
-use Rattle.network_run.specs.declared.ending.Ending.TheVariants.{Done, BadLine, ReadFault, WriteFault, NoMemory, TooLong}
+use Rattle.script_run.specs.Lines.{all_bytes}
+use Rattle.script_run.specs.declared.ending.Ending.{Ending}
+use Rattle.script_run.specs.declared.ending.Ending.TheVariants.{Done, BadLine, ReadFault, WriteFault, NoMemory, TooLong}
 use Rattle.script_grammar.specs.declared.fault.Fault.{Fault}
 
 -- a prefix of the answer

@@ -3,8 +3,8 @@ use Rattle.std.specs.Prelude.{ℕ, ◌≤◌, ◌<◌, List, length, Option}
 use Rattle.byte_streams.specs.Reading.{most_bytes}
 use Rattle.network_model.specs.DemandTexts.{IsDemandText}
 use Rattle.network_model.specs.Runs.{Plan}
-use Rattle.network_run.specs.declared.ending.Ending.{Ending}
-use Rattle.network_run.specs.declared.ending.Ending.TheVariants.{Done, BadLine, NoMemory, TooLong}
+use Rattle.script_run.specs.declared.ending.Ending.{Ending}
+use Rattle.script_run.specs.declared.ending.Ending.TheVariants.{Done, BadLine, NoMemory, TooLong}
 use Rattle.script_grammar.specs.Draft.{Draft, nothing, routing}
 use Rattle.script_grammar.specs.Grammar.{IsBadLine, IsScript, Leads}
 use Rattle.script_words.specs.Lines.{text_lines}

@@ -1,3 +1,4 @@
+pub mod Owing
 pub mod Answering
 pub mod Demanding
 pub mod Feeding

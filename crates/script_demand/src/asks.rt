@@ -5,7 +5,7 @@ ghost use Rattle.script_grammar.specs.Draft.{routing};
 
 use network_demand::Locals;
 use rsvp_base::{EndName, NoMemory};
-use script_player::Checks;
+use script_run::Checks;
 use tree_routing::Routing;
 
 /// What checks the lines of a script and keeps what they ask of their network.

@@ -4,22 +4,22 @@ ghost use Rattle.std.specs.Io.KnownBytes.{Appends};
 ghost use Rattle.byte_streams.specs.Faults.{Rose};
 ghost use Rattle.network_model.specs.DemandTexts.{IsDemandText};
 ghost use Rattle.network_model.specs.Runs.{Plan};
-ghost use Rattle.network_run.specs.Advised.{IsAdvised};
-ghost use Rattle.network_run.specs.Endings.{IsOrNoMemory};
-ghost use Rattle.network_run.specs.declared.ending.Ending.{Ending as AnEnding};
+ghost use Rattle.script_run.specs.Advised.{IsAdvised};
+ghost use Rattle.script_run.specs.Endings.{IsOrNoMemory};
+ghost use Rattle.script_run.specs.declared.ending.Ending.{Ending as AnEnding};
 ghost use Rattle.script_grammar.specs.Draft.{nothing, routing};
 ghost use Rattle.script_grammar.specs.Grammar.{IsBadLine, IsScript};
 ghost use Rattle.script_grammar.specs.declared.fault.Fault.{Fault as AFault};
-ghost use Rattle.script_laws.specs.Asked.{CanBeAsked};
+ghost use Rattle.laws_scripts.specs.Asked.{CanBeAsked};
 ghost use Rattle.script_demand.specs.Answering.{IsWrittenOrNot};
 ghost use Rattle.script_demand.specs.Demanding.{DemandsTo, IsDemandOf, IsDemanding, IsDemandingOf, StopsAt};
 
 use crate::asks::Asks;
-use crate::lines::check_lines;
+use crate::script_lines::check_lines;
+use crate::writing::demand_text;
 use byte_streams::{ReadErr, Sink, Source, read_all, write_all};
-use demand_texts::demand_text;
-use network_run::Ending;
 use rsvp_base::NoMemory;
+use script_run::Ending;
 use std::alloc::Global;
 
 /// Reads a script of the source to its end, checks its lines, and writes to the sink what each end of its network owes behind the

@@ -1,13 +1,16 @@
 //! The demand of a script: what each end of its network owes behind the last line, and whether that fits.
 //!
-//! `write_demand` reads a whole script, checks its lines and writes the demand; its clause says by how that ended exactly what was
-//! taken and written. What checks the lines and keeps what they ask is abstract (`Asks`). It stands on `demand_texts` for the text,
-//! on `script_player` for the checks and on `script_laws`, by which what valid lines ask can be asked.
+//! `write_demand` reads a whole script, checks its lines and writes the demand; its clause says by how that ended what was taken and
+//! written. `demand_text` gives the text for what hosts ask of a network, exactly its definition in `network_model`. What checks the
+//! lines is abstract (`Asks`). It stands on `network_demand`, `script_run` and `laws_scripts`.
 #![tactic(auto)]
 
 mod asks;
+mod demand_lines;
 mod demanding;
-mod lines;
+mod script_lines;
+mod writing;
 
 pub use asks::Asks;
 pub use demanding::write_demand;
+pub use writing::demand_text;

@@ -52,7 +52,17 @@ wait_follows =
       short = omega arith;
       said = line.Wait 1;
       reads = wait_1;
-      valid = record { in_time = tt; in_range = record { some = omega arith; few = omega arith }; known = tt; new = tt; of_style = tt; within_limits = tt; of_tree = tt; within_capacity = tt; loop_free = tt };
+      valid = record {
+        in_time = tt;
+        in_range = record { some = omega arith; few = omega arith };
+        known = tt;
+        new = tt;
+        of_style = tt;
+        within_limits = tt;
+        of_tree = tt;
+        within_capacity = tt;
+        loop_free = tt;
+      };
       adds = refl;
     }
 
@@ -62,7 +72,17 @@ node_follows =
       short = omega arith;
       said = line.Node (codes "a");
       reads = node_a;
-      valid = record { in_time = record { no_fact = refl; no_event = refl }; in_range = tt; known = tt; new = refl; of_style = tt; within_limits = omega arith; of_tree = tt; within_capacity = tt; loop_free = tt };
+      valid = record {
+        in_time = record { no_fact = refl; no_event = refl };
+        in_range = tt;
+        known = tt;
+        new = refl;
+        of_style = tt;
+        within_limits = omega arith;
+        of_tree = tt;
+        within_capacity = tt;
+        loop_free = tt;
+      };
       adds = refl;
     }
 
@@ -91,7 +111,18 @@ end_follows =
       short = omega arith;
       said = line.End a1;
       reads = end_a1;
-      valid = record { in_time = record { no_fact = refl; no_event = refl }; in_range = end_in_range; known = refl; new = record { name = refl; addr = refl }; of_style = tt; within_limits = omega arith; of_tree = tt; within_capacity = tt; loop_free = tt };
+      valid = record {
+        in_time = record { no_fact = refl; no_event = refl };
+        in_range = end_in_range;
+        known = refl;
+        new = record { name = refl; addr = refl };
+        of_style = tt;
+        within_limits = omega
+            arith;
+        of_tree = tt;
+        within_capacity = tt;
+        loop_free = tt;
+      };
       adds = refl;
     }
 

@@ -3,3 +3,5 @@ pub mod Happening
 pub mod Lifetimes
 pub mod Pairs
 pub mod Scripts
+mod Formed
+pub mod FormLaws

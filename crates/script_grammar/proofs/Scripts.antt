@@ -2,7 +2,7 @@
 use Rattle.std.proofs.Common.{◌≡◌, ◌⊎◌, ℕ, ◌<◌, ◌≤◌, List, [], ◌∷◌, ◌++◌, Option, Some, None, length, slice_get, suc, refl, sym, ap, subst, ◌∙◌, arith, inl, inr}
 use Rattle.rsvp_base.specs.declared.addr.Addr.{Addr}
 use Rattle.script_words.specs.Lines.{text_lines}
-use Rattle.message_wire.proofs.OneAnswer.{a_message_is_one, no_fault_where_spelt, the_first_fault_is_one}
+use Rattle.message_decode.proofs.OneAnswer.{a_message_is_one, no_fault_where_spelt, the_first_fault_is_one}
 use Rattle.network_model.specs.RouterRules.Inputs.{Arrival, Spelt, Unspelt}
 use Rattle.network_model.specs.TreeModel.declared.hops.LinkHop.{LinkHop}
 use Rattle.network_model.specs.TreeModel.Networks.{Net}
@@ -84,7 +84,8 @@ leads_one d (t ∷ ts) m n e f =
     leads_one e.0 ts m n e.2 (subst (λ x. Leads x ts n) same f.2)
 
 -- the lines before lead to what the rest follows
-pub leads_split : (d : Draft) (before : List (List ℕ)) (text : List ℕ) (after : List (List ℕ)) (new : Draft) → Leads d (before ++ text ∷ after) new → (mid : Draft) × Leads d before mid × ((next : Draft) × Follows mid text next)
+pub leads_split : (d : Draft) (before : List (List ℕ)) (text : List ℕ) (after : List (List ℕ)) (new : Draft) → Leads d (before ++ text ∷ after) new
+    → (mid : Draft) × Leads d before mid × ((next : Draft) × Follows mid text next)
 leads_split d [] text after new l = (d, refl, (l.0, l.1))
 leads_split d (t ∷ ts) text after new l =
     let rest = leads_split l.0 ts text after new l.2 in

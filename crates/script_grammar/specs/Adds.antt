@@ -13,7 +13,7 @@ use Rattle.network_model.specs.Units.{only}
 use Rattle.script_words.specs.Addresses.{addr_value}
 use Rattle.script_words.specs.Flows.{flow_value}
 use Rattle.script_words.specs.Sessions.{sender_value, session_value}
-use Rattle.message_wire.specs.Spells.{Spells, IsFirstFault}
+use Rattle.message_decode.specs.Spells.{Spells, IsFirstFault}
 use Rattle.rsvp_base.specs.Styles.{part_unit}
 use Rattle.network_model.specs.RouterRules.Inputs.{Arrival, Local, QuitAll, Stale}
 use Rattle.network_model.specs.TreeModel.declared.hops.TreeHop.{TreeHop}
@@ -26,7 +26,8 @@ use Rattle.network_model.specs.Events.{Event, AtNode, Waits, Pass, DeliverAt, Lo
 use Rattle.network_model.specs.Happenings.{IsSpelling}
 use Rattle.network_model.specs.Steps.{rerouted}
 use Rattle.script_grammar.specs.Draft.{Draft, end_number, node_number, routing, same_session, with_session}
-use Rattle.script_grammar.specs.Values.{end_value, tree_hop_value, hop_values, stale_path_value, stale_resv_value, stale_hop_wall_value, stale_sender_wall_value, send_value, drop_value, want_value, senders_value}
+use Rattle.script_grammar.specs.Values.{end_value, tree_hop_value, hop_values, stale_path_value, stale_resv_value, stale_hop_wall_value, stale_sender_wall_value, send_value, drop_value}
+use Rattle.script_grammar.specs.Values.{want_value, senders_value}
 use Rattle.script_grammar.specs.declared.line.ScriptLine.{ScriptLine}
 use Rattle.script_grammar.specs.declared.line.ScriptLine.TheVariants as line
 use Rattle.script_grammar.specs.declared.line.EndLine.{EndLine}

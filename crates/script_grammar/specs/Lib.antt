@@ -7,6 +7,11 @@ pub mod Rules
 pub mod Grammar
 pub mod Laws
 pub mod Rows
+pub mod Fields
+pub mod Kinds
+pub mod Names
+pub mod FirstWords
+pub mod KindLaws
 pub use Rattle.network_model.specs.Events
 pub use Rattle.network_model.specs.Runs
 pub use Rattle.network_model.specs.Steps

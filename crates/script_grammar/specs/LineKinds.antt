@@ -16,7 +16,8 @@ use Rattle.script_words.specs.Sessions.{session_of, sender_of, senders_of}
 use Rattle.script_words.specs.Styles.{style_of}
 use Rattle.script_words.specs.Flows.{flow_of}
 use Rattle.script_grammar.specs.declared.line.ScriptLine.{ScriptLine}
-use Rattle.script_grammar.specs.declared.line.ScriptLine.TheVariants.{Skipped, Period, Seed, Node, End, Link, Hop, StalePath, StaleResv, StaleHopWall, StaleSenderWall, Send, Drop, Want, Quit, Wait, Pass, Deliver, Lose, Copy, Clear, Rounds, Trace, Report, ReportEnd, Flags, Inject, Reroute}
+use Rattle.script_grammar.specs.declared.line.ScriptLine.TheVariants.{Skipped, Period, Seed, Node, End, Link, Hop, StalePath, StaleResv, StaleHopWall, StaleSenderWall, Send, Drop, Want}
+use Rattle.script_grammar.specs.declared.line.ScriptLine.TheVariants.{Quit, Wait, Pass, Deliver, Lose, Copy, Clear, Rounds, Trace, Report, ReportEnd, Flags, Inject, Reroute}
 use Rattle.script_grammar.specs.declared.line.HopEnds.{HopEnds}
 
 -- ---- words of lines

@@ -9,7 +9,7 @@ use Rattle.rsvp_base.specs.declared.style.StyleKind.{StyleKind}
 use Rattle.rsvp_base.specs.declared.style.StyleKind.TheVariants.{Wild, Fixed, Shared}
 use Rattle.script_words.specs.declared.raw.SenderWord.{SenderWord}
 use Rattle.script_words.specs.Addresses.{IsAddr, addr_value}
-use Rattle.script_words.specs.Sessions.{sender_value, session_value}
+use Rattle.script_words.specs.Sessions.{sender_value, session_value, IsSession}
 use Rattle.network_model.specs.RouterRules.Bounds.{AreBooked, AreWithinLimits}
 use Rattle.network_model.specs.RouterRules.Facts.{Facts, resvs_of}
 use Rattle.network_model.specs.RouterRules.Inputs.{Stale, StalePath, StaleResv, StaleWall}
@@ -28,8 +28,9 @@ use Rattle.script_grammar.specs.Adds.{is_sender, link_value, net_rerouted, wants
 use Rattle.network_model.specs.Excesses.{excess_at}
 use Rattle.script_grammar.specs.Draft.{Draft, end_named, end_number, node_named, node_number, period_of, plan_of, with_session}
 use Rattle.network_model.specs.LeftFacts.{facts_at}
-use Rattle.script_grammar.specs.Values.{IsDropInRange, IsEndInRange, IsFrom1To, IsHopInRange, IsPeriod, IsRerouteInRange, IsSendInRange, IsStaleHopWallInRange, IsStalePathInRange, IsStaleResvInRange, IsStaleSenderWallInRange, IsWantInRange, end_value, hop_values, most_passes, most_places, most_rounds, most_wait, senders_value, stale_hop_wall_value, stale_path_value, stale_resv_value, stale_sender_wall_value, tree_hop_value}
-use Rattle.script_words.specs.Sessions.{IsSession}
+use Rattle.script_grammar.specs.Values.{IsDropInRange, IsEndInRange, IsFrom1To, IsHopInRange, IsPeriod, IsRerouteInRange, IsSendInRange, IsStaleHopWallInRange, IsStalePathInRange}
+use Rattle.script_grammar.specs.Values.{IsStaleResvInRange, IsStaleSenderWallInRange, IsWantInRange, end_value, hop_values, most_passes, most_places, most_rounds, most_wait, senders_value}
+use Rattle.script_grammar.specs.Values.{stale_hop_wall_value, stale_path_value, stale_resv_value, stale_sender_wall_value, tree_hop_value}
 use Rattle.network_model.specs.declared.excess.Excess.{Excess}
 use Rattle.script_grammar.specs.declared.fault.Fault.{Fault}
 use Rattle.script_grammar.specs.declared.fault.Fault.TheVariants.{Word, Late, Range, Name, Twice, Style, Limit, NotTree, Over, Loop}

@@ -1,3 +1,4 @@
+pub mod Walks
 pub mod Positions
 pub mod Members
 pub mod Named
@@ -7,4 +8,4 @@ pub mod Places
 pub mod Sifting
 pub mod Slots
 pub mod Listed
-pub use Rattle.left_over.proofs.Listing
+pub use Rattle.stale_state.proofs.Listing

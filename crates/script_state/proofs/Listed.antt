@@ -1,5 +1,6 @@
 -- The slots of the wants of each node, while wants come and go.
-use Rattle.std.specs.Prelude.{◌≡◌, ◌<◌, ◌+◌, ◌↔◌, ℕ, ◌==◌, Bool, true, false, cond, not, ◌&&◌, ◌||◌, if◌then◌else◌, IsTrue, List, [], ◌∷◌, ◌++◌, map as each, Option, Some, None, Result, Ok, Err, OnErr, length, set, get_or, take, refl}
+use Rattle.std.specs.Prelude.{◌≡◌, ◌<◌, ◌+◌, ◌↔◌, ℕ, ◌==◌, Bool, true, false, cond, not, ◌&&◌, ◌||◌, if◌then◌else◌, IsTrue, List, [], ◌∷◌, ◌++◌, map as each, Option, Some, None, Result, Ok}
+use Rattle.std.specs.Prelude.{Err, OnErr, length, set, get_or, take, refl}
 use Rattle.std.specs.List.{All, filter, list_all}
 use Rattle.std.specs.Ordering.{eq_by_cmp}
 use Rattle.std.proofs.Common.{ap, sym, subst, ◌∙◌, ⊎_elim, append_assoc, arith, inl, inr, zero, suc}
@@ -54,7 +55,8 @@ on_err (Ok a) p = tt
 on_err (Err e) p = p
 
 -- one more in the list of a node
-pub one_entry_more : (lists : List (List Entry)) (node : ℕ) (entry : Entry) → node < length lists → (n : ℕ) → entries_in (set lists node (entries_in lists node ++ entry ∷ [])) n ≡ entries_in lists n ++ cond (node == n) (entry ∷ []) []
+pub one_entry_more : (lists : List (List Entry)) (node : ℕ) (entry : Entry) → node < length lists → (n : ℕ)
+    → entries_in (set lists node (entries_in lists node ++ entry ∷ [])) n ≡ entries_in lists n ++ cond (node == n) (entry ∷ []) []
 one_entry_more lists node entry lt n = ⊎_elim
     (λ t. let same : n ≡ node = sym t.1 in
     ap (λ k. entries_in (set lists node (entries_in lists node ++ entry ∷ [])) k) same
@@ -116,8 +118,11 @@ and_true true false = refl
 and_true false b = refl
 
 -- the one of the unit of a want
-pub in_its_place : (new : LocalWant) (ws : List LocalWant) → filter (λ w. not (is_meant_at new.node (record { session = new.session; one = Some (new.style, part_unit new.style new.part) }) w)) ws ≡ filter (λ w. not (is_in_place_of new w)) ws
-in_its_place new ws = filter_agree _ (λ (w : LocalWant). not (is_in_place_of new w)) (λ w. ap not (and_assoc (w.node == new.node) (same_session new.session w.session) (eq_by_cmp by_style.cmp new.style w.style && eq_by_cmp by_unit.cmp (part_unit new.style new.part) (part_unit w.style w.part)))) ws
+pub in_its_place : (new : LocalWant) (ws : List LocalWant) → filter (λ w. not (is_meant_at new.node (record { session = new.session; one = Some (new.style, part_unit new.style new.part) }) w)) ws
+    ≡ filter (λ w. not (is_in_place_of new w)) ws
+in_its_place new ws = filter_agree _ (λ (w : LocalWant). not (is_in_place_of new w)) (λ w. ap not
+    (and_assoc (w.node == new.node) (same_session new.session w.session) (eq_by_cmp by_style.cmp new.style w.style
+    && eq_by_cmp by_unit.cmp (part_unit new.style new.part) (part_unit w.style w.part)))) ws
 
 -- all of a session at a node
 pub of_its_session : (n : ℕ) (s : Session) (ws : List LocalWant) → filter (λ w. not (is_meant_at n (record { session = s; one = None }) w)) ws ≡ filter (λ w. not (is_want_at n s w)) ws
@@ -185,7 +190,8 @@ module _ (slots : List (Option LocalWant)) (n : ℕ) (s : Session) where
         let from = in_each entry_of x there (subst (λ (ss : List Entry). In x ss) entries_found (to_filter (is_of_session s) x (entries_of n slots) i e)) in
         let w = from.0.1 in
         ap (λ (y : Entry). y.style) from.2
-        ∙ all_in_of (λ (v : LocalWant). v.style ≡ style) (wants_at (standing slots) n s) all w (subst (λ (ws : List LocalWant). In w ws) (sym wants_there) (to_each (λ (e : ℕ × LocalWant). e.1) from.0 there from.1))))
+        ∙ all_in_of (λ (v : LocalWant). v.style ≡ style) (wants_at (standing slots) n s) all w
+        (subst (λ (ws : List LocalWant). In w ws) (sym wants_there) (to_each (λ (e : ℕ × LocalWant). e.1) from.0 there from.1))))
 
     pub of_style : IsTrue (list_all (fits s style) (entries_of n slots)) ↔ All (λ (w : LocalWant). w.style ≡ style) (wants_at (standing slots) n s)
     of_style = (all_fit, fit_all)

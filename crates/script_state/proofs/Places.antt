@@ -6,11 +6,11 @@ use Rattle.router_rules.specs.Steps.{IsFitStale}
 use Rattle.tree_model.specs.declared.hops.End.{End}
 use Rattle.tree_model.specs.Networks.{Net}
 use Rattle.tree_routing.specs.Answers.{with_end}
-use Rattle.left_over.specs.AtNodes.{list_of}
-use Rattle.left_over.specs.Fit.{AreFitAll, place_of}
-use Rattle.left_over.specs.Kept.{stale_of}
-use Rattle.left_over.specs.declared.fact.LeftOver.{LeftOver}
-use Rattle.left_over.proofs.Listing.{list_none}
+use Rattle.stale_state.specs.AtNodes.{list_of}
+use Rattle.stale_state.specs.Fit.{AreFitAll, place_of}
+use Rattle.stale_state.specs.Kept.{stale_of}
+use Rattle.stale_state.specs.declared.fact.LeftOver.{LeftOver}
+use Rattle.stale_state.proofs.Listing.{list_none}
 use Rattle.script_state.specs.Fitness.{ArePlaced}
 
 -- ---- what is declared before anything is left over

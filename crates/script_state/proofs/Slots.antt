@@ -47,7 +47,8 @@ above : (k : ℕ) (slots : List (Option LocalWant)) (e : ℕ × LocalWant) → I
 above k [] e i = absurd i
 above k (None ∷ slots) e i = let more = above (suc k) slots e i in omega (arith, more)
 above k (Some w ∷ slots) e i =
-    ⊎_elim (λ (is : e ≡ (k, w)). let at : e.0 ≡ k = ap (λ (x : ℕ × LocalWant). x.0) is in omega (arith, at)) (λ (j : In e (placed_from (suc k) slots)). let more = above (suc k) slots e j in omega (arith, more)) i
+    ⊎_elim (λ (is : e ≡ (k, w)). let at : e.0 ≡ k = ap (λ (x : ℕ × LocalWant). x.0) is in omega (arith, at))
+    (λ (j : In e (placed_from (suc k) slots)). let more = above (suc k) slots e j in omega (arith, more)) i
 
 -- it is found in its slot
 pub in_its_slot : (k : ℕ) (slots : List (Option LocalWant)) (e : ℕ × LocalWant) → In e (placed_from k slots) → (s : ℕ) → e.0 ≡ k + s → get_or slots s None ≡ Some e.1
@@ -57,7 +58,8 @@ in_its_slot k (None ∷ slots) e i (suc s) at = in_its_slot (suc k) slots e i s 
 in_its_slot k (Some w ∷ slots) e i zero at =
     ⊎_elim (λ (is : e ≡ (k, w)). ap (λ (x : ℕ × LocalWant). Some x.1) (sym is)) (λ (j : In e (placed_from (suc k) slots)). let more = above (suc k) slots e j in absurd (omega (arith, more, at))) i
 in_its_slot k (Some w ∷ slots) e i (suc s) at =
-    ⊎_elim (λ (is : e ≡ (k, w)). let first : e.0 ≡ k = ap (λ (x : ℕ × LocalWant). x.0) is in absurd (omega (arith, first, at))) (λ (j : In e (placed_from (suc k) slots)). in_its_slot (suc k) slots e j s (omega (arith, at))) i
+    ⊎_elim (λ (is : e ≡ (k, w)). let first : e.0 ≡ k = ap (λ (x : ℕ × LocalWant). x.0) is in absurd (omega (arith, first, at)))
+    (λ (j : In e (placed_from (suc k) slots)). in_its_slot (suc k) slots e j s (omega (arith, at))) i
 
 one_slot : (k : ℕ) (slots : List (Option LocalWant)) (e f : ℕ × LocalWant) → In e (placed_from k slots) → In f (placed_from k slots) → e.0 ≡ f.0 → e ≡ f
 one_slot k [] e f i j same = absurd i
@@ -127,7 +129,8 @@ module _ (which : Which) where
       all_out ss (without_one s slots)
       ∙ ap (filter (λ (e : ℕ × LocalWant). not (hits ss e.0))) (one_out s slots)
       ∙ filter_twice (λ (e : ℕ × LocalWant). not (is_meant which s && (s.slot == e.0))) (λ (e : ℕ × LocalWant). not (hits ss e.0)) (placed slots)
-      ∙ filter_agree (λ (e : ℕ × LocalWant). not (is_meant which s && (s.slot == e.0)) && not (hits ss e.0)) (λ (e : ℕ × LocalWant). not (hits (s ∷ ss) e.0)) (λ e. neither (is_meant which s && (s.slot == e.0)) (hits ss e.0)) (placed slots)
+      ∙ filter_agree (λ (e : ℕ × LocalWant). not (is_meant which s && (s.slot == e.0)) && not (hits ss e.0)) (λ (e : ℕ × LocalWant). not (hits (s ∷ ss) e.0))
+      (λ e. neither (is_meant which s && (s.slot == e.0)) (hits ss e.0)) (placed slots)
 
   both : (a b : Bool) → (a && b) ≡ true → (a ≡ true) × (b ≡ true)
   both true b e = (refl, e)

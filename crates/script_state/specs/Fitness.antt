@@ -10,9 +10,9 @@ use Rattle.router_rules.specs.NodeConfig.{NodeConfig}
 use Rattle.router_rules.specs.Steps.{IsFitStale}
 use Rattle.tree_model.specs.declared.hops.End.{End}
 use Rattle.tree_model.specs.Networks.{Net}
-use Rattle.left_over.specs.Fit.{AreFitAll, place_of}
-use Rattle.left_over.specs.Kept.{stale_of}
-use Rattle.left_over.specs.declared.fact.LeftOver.{LeftOver}
+use Rattle.stale_state.specs.Fit.{AreFitAll, place_of}
+use Rattle.stale_state.specs.Kept.{stale_of}
+use Rattle.stale_state.specs.declared.fact.LeftOver.{LeftOver}
 use Rattle.script_grammar.specs.Draft.{Draft, period_of}
 
 -- it lives no longer than a fact that was just refreshed there, and has the shape of one

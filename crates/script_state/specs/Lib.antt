@@ -4,4 +4,4 @@ pub mod Said
 pub mod Refusals
 pub mod Fitness
 pub mod Entries
-pub use Rattle.left_over.specs.Listed
+pub use Rattle.stale_state.specs.Listed

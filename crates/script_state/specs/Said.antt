@@ -1,6 +1,6 @@
 -- What the state of lines is seen as.
 use Rattle.std.specs.Prelude.{map as each}
-use Rattle.left_over.specs.Listed.{stale_in}
+use Rattle.stale_state.specs.Listed.{stale_in}
 use Rattle.script_grammar.specs.Draft.{Draft}
 use Rattle.script_state.specs.Events.{event_of}
 use Rattle.script_state.specs.Forcing.{hops_in_force}

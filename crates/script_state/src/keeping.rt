@@ -8,7 +8,7 @@ ghost use Rattle.script_state.specs.Events.{arrival_of, event_of};
 ghost use Rattle.script_state.specs.Said.{draft_of};
 
 use crate::state::ScriptState;
-use message_wire::decode;
+use message_decode::decode;
 use network_model::Event;
 use rsvp_messages::{Message, MsgErr};
 

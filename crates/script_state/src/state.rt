@@ -1,20 +1,20 @@
 //! What the lines of a script have said so far, as their rules ask it.
 ghost use Rattle.std.specs.Prelude.{◌≡◌, ◌≤◌, ◌*◌, ◌/◌, [], IsNone, count_by, length, map, nat_lt, unwrap_or};
 ghost use Rattle.std.specs.Option.{ForSome};
-ghost use Rattle.left_over.specs.Fit.{AreFitAll};
-ghost use Rattle.left_over.specs.Listed.{IsOfEnds, facts_in, nodes_in};
+ghost use Rattle.stale_state.specs.Fit.{AreFitAll};
+ghost use Rattle.stale_state.specs.Listed.{IsOfEnds, facts_in, nodes_in};
 ghost use Rattle.script_grammar.specs.Rules.{is_report};
 ghost use Rattle.script_state.specs.Events.{event_of};
 ghost use Rattle.script_state.specs.Fitness.{ArePlaced, fit_all_prop};
 ghost use Rattle.script_state.specs.Forcing.{IsOfNet};
 
+use crate::history::History;
 use crate::names::NameTable;
 use crate::wants::WantTable;
-use history::History;
-use left_over::Leavings;
 use network_model::Event;
 use rsvp_base::{EndName, NoMemory, Session};
 use rsvp_messages::{Message, MsgErr};
+use stale_state::Leavings;
 use std::alloc::Global;
 use tree_model::LocalSender;
 use tree_routing::{Routing, Topology};

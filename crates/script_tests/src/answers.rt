@@ -1,10 +1,10 @@
 //! What the checker answers to a line, in a word.
-use line_stream::MOST_LINE;
+use byte_streams::MOST_LINE;
 use network_model::Event;
 use rsvp_base::EndName;
 use script_checker::Checker;
 use script_grammar::{Fault, Stop};
-use script_player::Checks;
+use script_run::Checks;
 use std::alloc::Global;
 use std::test::Fail;
 

@@ -3,10 +3,10 @@ ghost use Rattle.std.specs.Prelude.{◌≡◌, ◌<◌};
 ghost use Rattle.script_grammar.specs.Draft.{nothing};
 
 use byte_streams::{MemorySink, MemorySource};
-use line_advice::{LinesBefore, put_advice};
-use network_run::{Ending, Player, run_lines};
 use rsvp_base::{NoMemory, Session, StyleKind};
+use script_advice::{LinesBefore, put_advice};
 use script_grammar::{Fault, ScriptLine, Stop, read_line};
+use script_run::{Ending, Player, run_lines};
 use script_words::Unread;
 use std::alloc::Global;
 use std::test::Fail;

@@ -1,1 +1,16 @@
+pub mod Writing
+pub mod RoundsAmong
+pub mod Still
+pub mod Texts
+pub mod Demands
+pub mod Purged
+pub mod Example
 pub mod Safety
+pub mod Fronts
+pub mod Same
+pub mod Keeping
+pub mod Calling
+pub mod Senders
+pub mod Wanted
+pub mod Lines
+pub mod WorldDemands

@@ -1,21 +1,26 @@
--- Each step of a fit run is safe; and a valid script is a fit run.
-use Rattle.network_model.specs.Runs.{Plan}
-use Rattle.network_steps.specs.Runs.{IsFitRun}
-use Rattle.script_laws.proofs.EventLines.{each_script_is_a_fit_run}
-use Rattle.script_laws.proofs.SenderLines.{each_script_lets_few_send}
-use Rattle.settle_reports.proofs.Demands.{a_settled_report_is_the_demand}
-use Rattle.settle_reports.proofs.Purged.{a_purged_report_is_at_most_the_demand}
-use Rattle.run_laws.specs.Blockades.{ABlockadeStays, AResvErrTearsNothing, AnAdmissionErrorSetsItsBlockade, EachResvSaysWhatGoesToward}
-use Rattle.run_laws.specs.Books.{AreBooksWithinCapacity}
-use Rattle.run_laws.specs.Refusals.{ARefusedCallChangesNothing, ARefusedResvChangesNoReservation, AUnitThatPassesIsBooked, AnUntakenUnitChangesNothing}
-use Rattle.run_laws.proofs.Arrivals.{a_refused_resv, a_unit_that_passes, an_untaken_unit}
-use Rattle.run_laws.proofs.Books.{books_within}
-use Rattle.run_laws.proofs.Calls.{a_refused_call}
-use Rattle.run_laws.proofs.Errors.{a_blockade_stays, a_resv_err, an_admission_error_sets_its_blockade, blockades_drop_nothing}
-use Rattle.run_laws.proofs.Runs.{at_every_step, in_every_world}
-use Rattle.run_laws.proofs.Speaking.{each_resv}
-use Rattle.run_laws.proofs.Walls.{what_goes_on_is_below}
-use Rattle.script_theorem.specs.Theorem.{BlockadePromises, FitRunsAreSafe, RefusalsChangeNothing, ScriptsAreSafe, ScriptsHealThemselves}
+-- Each step of a fit run is safe; and lines that may begin a script are a fit run.
+use Rattle.std.proofs.Common.{◌≡◌, ℕ, List, [], ◌∷◌, ◌++◌, Bool, true, false, cond, ap, refl}
+use Rattle.calm_rounds.specs.Machine.{run}
+use Rattle.network_model.specs.Runs.{Plan, first_world, is_crowded, steps_of_run, uncrowded}
+use Rattle.network_model.specs.Steps.{Step, machine, step}
+use Rattle.network_model.specs.Worlds.{World}
+use Rattle.laws_network.specs.Runs.{IsFitRun}
+use Rattle.script_grammar.specs.Draft.{plan_of}
+use Rattle.laws_scripts.proofs.EventLines.{first_lines_are_a_fit_run}
+use Rattle.laws_scripts.proofs.SenderLines.{first_lines_let_few_send}
+use Rattle.script_theorem.proofs.Demands.{a_settled_report_is_the_demand}
+use Rattle.script_theorem.proofs.Purged.{a_purged_report_is_at_most_the_demand}
+use Rattle.laws_safety.specs.Blockades.{ABlockadeStays, AResvErrTearsNothing, AnAdmissionErrorSetsItsBlockade, EachResvSaysWhatGoesToward}
+use Rattle.laws_safety.specs.Books.{AreBooksWithinCapacity}
+use Rattle.laws_safety.specs.Refusals.{ARefusedCallChangesNothing, ARefusedResvChangesNoReservation, AUnitThatPassesIsBooked, AnUntakenUnitChangesNothing}
+use Rattle.laws_safety.proofs.Arrivals.{a_refused_resv, a_unit_that_passes, an_untaken_unit}
+use Rattle.laws_safety.proofs.Books.{books_within}
+use Rattle.laws_safety.proofs.Calls.{a_refused_call}
+use Rattle.laws_safety.proofs.Errors.{a_blockade_stays, a_resv_err, an_admission_error_sets_its_blockade, blockades_drop_nothing}
+use Rattle.laws_safety.proofs.Runs.{at_every_step, in_every_world}
+use Rattle.laws_safety.proofs.Speaking.{each_resv}
+use Rattle.laws_safety.proofs.Walls.{what_goes_on_is_below}
+use Rattle.script_theorem.specs.Theorem.{BlockadePromises, FirstLinesAreSafe, FirstLinesHealThemselves, FitRunsAreSafe, IsWorldOf, RefusalsChangeNothing}
 
 refusals : (p : Plan) → IsFitRun p → RefusalsChangeNothing p
 refusals p fit = record {
@@ -35,19 +40,36 @@ blockades p fit = record {
   kept = at_every_step AResvErrTearsNothing a_resv_err p fit;
 }
 
+-- the steps before the one that would crowd the run are its first
+made_of : (q : ℕ) (ss : List Step) (w : World) → (ahead : List Step) × (ss ≡ uncrowded q ss w ++ ahead)
+made_of q [] w = ([], refl)
+made_of q (s ∷ ss) w = by (is_crowded (step q s w)) (made_of q ss (step q s w))
+  where
+    by : (b : Bool) → (ahead : List Step) × (ss ≡ uncrowded q ss (step q s w) ++ ahead) → (ahead : List Step) × (s ∷ ss ≡ cond b [] (s ∷ uncrowded q ss (step q s w)) ++ ahead)
+    by true h = (s ∷ ss, refl)
+    by false h = (h.0, ap (λ (z : List Step). s ∷ z) h.1)
+
+ends_there : (p : Plan) → IsWorldOf p (run (machine p.quarter) (uncrowded p.quarter (steps_of_run p) (first_world p)) (first_world p))
+ends_there p =
+    let h = made_of p.quarter (steps_of_run p) (first_world p) in
+    record { made = uncrowded p.quarter (steps_of_run p) (first_world p); ahead = h.0; parts = h.1; is = refl }
+
 pub fit_runs_are_safe : FitRunsAreSafe
 fit_runs_are_safe p fit = record {
   books = in_every_world AreBooksWithinCapacity books_within p fit;
+  ends = ends_there p;
   refusals = refusals p fit;
   blockades = blockades p fit;
 }
 
-pub scripts_are_safe : ScriptsAreSafe
-scripts_are_safe bytes p is = fit_runs_are_safe p (each_script_is_a_fit_run bytes p is)
+pub first_lines_are_safe : FirstLinesAreSafe
+first_lines_are_safe lines d leads = fit_runs_are_safe (plan_of d) (first_lines_are_a_fit_run lines d leads)
 
-pub scripts_heal_themselves : ScriptsHealThemselves
-scripts_heal_themselves bytes p is roomy = record {
-  reports = a_settled_report_is_the_demand p (each_script_is_a_fit_run bytes p is) (each_script_lets_few_send bytes p is) roomy;
-  purged = a_purged_report_is_at_most_the_demand p (each_script_is_a_fit_run bytes p is) roomy;
-  safe = scripts_are_safe bytes p is;
-}
+pub first_lines_heal_themselves : FirstLinesHealThemselves
+first_lines_heal_themselves lines d leads roomy =
+    let fit = first_lines_are_a_fit_run lines d leads in
+    record {
+      reports = a_settled_report_is_the_demand (plan_of d) fit (first_lines_let_few_send lines d leads) roomy;
+      purged = a_purged_report_is_at_most_the_demand (plan_of d) fit roomy;
+      safe = fit_runs_are_safe (plan_of d) fit;
+    }

@@ -1,21 +1,23 @@
--- The theorem, of a plan: what it reports once its network has settled, and what holds at each of its steps, however its run ends.
+-- The theorem, of a plan: what it reports once its network has settled, and what holds at each of its steps, however its run ends. And
+-- which plans have it: those of any lines that may begin a script.
 use Rattle.std.specs.Prelude.{◌≡◌, ℕ, false, List, ◌∷◌, ◌++◌, Option}
 use Rattle.calm_rounds.specs.Hold.{Visited}
 use Rattle.calm_rounds.specs.Machine.{run}
 use Rattle.tree_model.specs.Goals.{DemandsFit}
 use Rattle.network_model.specs.Bounds.{IsSettled}
 use Rattle.network_model.specs.Locals.{locals_of}
-use Rattle.network_model.specs.Runs.{Plan, first_world, is_crowded_run, steps_of_run}
+use Rattle.network_model.specs.Runs.{Plan, first_world, is_crowded_run, last_world, steps_of_run}
 use Rattle.network_model.specs.Steps.{Report, Step, machine}
 use Rattle.network_model.specs.Worlds.{World}
-use Rattle.network_steps.specs.Runs.{IsFitRun}
-use Rattle.script_grammar.specs.Grammar.{IsScript}
-use Rattle.settle_reports.specs.Demands.{AppendsTheDemand, moment}
-use Rattle.settle_reports.specs.Purged.{ReportsNothingStale}
-use Rattle.settle_reports.specs.Writing.{OnlyWrite}
-use Rattle.run_laws.specs.Blockades.{ABlockadeStays, AResvErrTearsNothing, AnAdmissionErrorSetsItsBlockade, BlockadesDropNothing, EachResvSaysWhatGoesToward, WhatGoesOnIsBelow}
-use Rattle.run_laws.specs.Books.{AreBooksWithinCapacity}
-use Rattle.run_laws.specs.Refusals.{ARefusedCallChangesNothing, ARefusedResvChangesNoReservation, AUnitThatPassesIsBooked, AnUntakenUnitChangesNothing}
+use Rattle.laws_network.specs.Runs.{IsFitRun}
+use Rattle.script_grammar.specs.Draft.{Draft, nothing, plan_of}
+use Rattle.script_grammar.specs.Grammar.{Leads}
+use Rattle.script_theorem.specs.Demands.{AppendsTheDemand, moment}
+use Rattle.script_theorem.specs.Purged.{ReportsNothingStale}
+use Rattle.script_theorem.specs.Writing.{OnlyWrite}
+use Rattle.laws_safety.specs.Blockades.{ABlockadeStays, AResvErrTearsNothing, AnAdmissionErrorSetsItsBlockade, BlockadesDropNothing, EachResvSaysWhatGoesToward, WhatGoesOnIsBelow}
+use Rattle.laws_safety.specs.Books.{AreBooksWithinCapacity}
+use Rattle.laws_safety.specs.Refusals.{ARefusedCallChangesNothing, ARefusedResvChangesNoReservation, AUnitThatPassesIsBooked, AnUntakenUnitChangesNothing}
 
 -- ---- self-stabilisation
 -- each report at a settled moment, or behind steps that only write after one, where the demands of that moment fit, appends the text
@@ -29,6 +31,13 @@ SettlesToTheDemand p =
 -- in the first world and in that after each step no book passes the capacity of its interface
 abbrev pub IsNeverOver : Plan → Type 0
 IsNeverOver p = Visited (machine p.quarter) AreBooksWithinCapacity (steps_of_run p) (first_world p)
+
+-- a world of the run: that behind some of its first steps
+pub record IsWorldOf (p : Plan) (w : World) : Type 0 where
+  pub made : List Step
+  pub ahead : List Step
+  pub parts : steps_of_run p ≡ made ++ ahead
+  pub is : w ≡ moment p made
 
 -- C holds of each step, in the world in which it is made, with the quarter of the period
 abbrev pub AtEachStep : (ℕ → Step → World → Type 0) → Plan → Type 0
@@ -60,6 +69,8 @@ pub record BlockadePromises (p : Plan) : Type 0 where
 -- at each step
 pub record IsSafe (p : Plan) : Type 0 where
   pub books : IsNeverOver p
+  -- the world in which the run ends is one of these: where a step would crowd it, the last before
+  pub ends : IsWorldOf p (last_world p)
   pub refusals : RefusalsChangeNothing p
   pub blockades : BlockadePromises p
 
@@ -75,8 +86,9 @@ pub record HealsItself (p : Plan) : Type 0 where
 abbrev pub FitRunsAreSafe : Type 0
 FitRunsAreSafe = (p : Plan) → IsFitRun p → IsSafe p
 
-abbrev pub ScriptsAreSafe : Type 0
-ScriptsAreSafe = (bytes : List ℕ) (p : Plan) → IsScript bytes p → IsSafe p
+-- of lines that may begin a script, all of one or those before a bad line
+abbrev pub FirstLinesAreSafe : Type 0
+FirstLinesAreSafe = (lines : List (List ℕ)) (d : Draft) → Leads nothing lines d → IsSafe (plan_of d)
 
-abbrev pub ScriptsHealThemselves : Type 0
-ScriptsHealThemselves = (bytes : List ℕ) (p : Plan) → IsScript bytes p → is_crowded_run p ≡ false → HealsItself p
+abbrev pub FirstLinesHealThemselves : Type 0
+FirstLinesHealThemselves = (lines : List (List ℕ)) (d : Draft) → Leads nothing lines d → is_crowded_run (plan_of d) ≡ false → HealsItself (plan_of d)

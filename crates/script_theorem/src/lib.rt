@@ -1,9 +1,10 @@
-//! The theorem, of every valid script: where its network has settled a report is the demand, and at each of its steps no book
-//! passes its capacity, no refusal changes a reservation, and blockades keep their promises.
+//! The theorem, of every valid script: where its network has settled a report is the demand, and at each of its steps no book passes
+//! its capacity, no refusal changes a reservation, and blockades keep their promises.
 //!
-//! It is stated of a plan, once: the clauses of `command_run` cite these definitions and laws. It puts together that a valid script
-//! is a fit run (`script_laws`), that a settled report is the demand (`settle_reports`), and what holds at each step of a fit run
-//! (`run_laws`). Definitions stand in `specs/`, and each public function of `laws` has an empty body and a law as its promise.
+//! It is stated of a plan, once (`theorem`); the clauses of `command_run` cite it. `reports`: a settled report is the demand. `worlds`:
+//! the network behind the lines of a script has what they ask. It stands on `settle_network`, `laws_safety` and `laws_scripts`.
 #![tactic(auto)]
 
-pub mod laws;
+pub mod reports;
+pub mod theorem;
+pub mod worlds;

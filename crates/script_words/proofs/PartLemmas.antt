@@ -36,7 +36,8 @@ parts_found separator text first behind at is f b =
     let more : position_or_len (λ c. c == separator) text < length text = omega (arith, place.0, place.1) in
     let e : take (length behind - 1) (drop 1 behind) ≡ drop (position_or_len (λ c. c == separator) text + 1) text =
     take_rest behind 1 ∙ ap (drop 1) b ∙ drop-drop 1 at text ∙ ap (λ n. drop n text) (let s : at + 1 ≡ position_or_len (λ c. c == separator) text + 1 = ap (λ n. n + 1) place.0 in s) in
-    slice_split_first (λ c. c == separator) text 0 more ∙ ap (λ x. x ∷ parts_of separator (drop (position_or_len (λ c. c == separator) text + 1) text)) (sym (f ∙ ap (λ n. take n text) place.0)) ∙ ap (λ x. first ∷ parts_of separator x) (sym e)
+    slice_split_first (λ c. c == separator) text 0 more ∙ ap (λ x. x ∷ parts_of separator (drop (position_or_len (λ c. c == separator) text + 1) text)) (sym (f ∙ ap (λ n. take n text) place.0))
+    ∙ ap (λ x. first ∷ parts_of separator x) (sym e)
 
 -- behind a line feed the lines go on
 on_first : (line : List ℕ) (parts : List (List ℕ)) → 0 < length parts → without_empty_last (line ∷ parts) ≡ line ∷ without_empty_last parts

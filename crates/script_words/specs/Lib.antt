@@ -9,5 +9,3 @@ pub mod Unread
 pub mod Addresses
 pub mod Sessions
 pub mod Flows
-pub use Rattle.rsvp_base.specs.Rates
-pub use Rattle.rsvp_base.specs.TokenBucket

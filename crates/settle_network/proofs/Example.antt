@@ -1,6 +1,6 @@
 -- It has not settled yet.
 use Rattle.std.proofs.Common.{refl}
-use Rattle.exact_resvs.proofs.Example.{a_reservation_is_lost}
+use Rattle.settle_resvs.proofs.LeftOverExample.{a_reservation_is_lost}
 use Rattle.settle_network.specs.Example.{ItHasNotSettledYet}
 
 pub it_has_not_settled_yet : ItHasNotSettledYet

@@ -19,14 +19,14 @@ use Rattle.network_model.specs.Runs.{Plan, first_world, steps_of_run}
 use Rattle.network_model.specs.Sound.{ArePathsSound, AreResvsSound}
 use Rattle.network_model.specs.Steps.{Step, machine}
 use Rattle.network_model.specs.Worlds.{World}
-use Rattle.network_steps.specs.Runs.{IsFitRun}
-use Rattle.network_steps.proofs.Keeping.{calm_rounds_keep_bounds}
-use Rattle.network_steps.proofs.Runs.{each_world_of_a_run_is_within_bounds}
-use Rattle.exact_resvs.specs.NodeGoals.GoalByIface.{goal_at}
-use Rattle.exact_resvs.proofs.NodeGoals.GoalByIface.{book_at}
-use Rattle.exact_resvs.proofs.NodeGoals.SoundPaths.{paths_are_sound}
-use Rattle.exact_resvs.proofs.NodeGoals.UnderTheGoal.{sound_under}
-use Rattle.exact_resvs.proofs.SoundUnits.{reservations_become_sound}
+use Rattle.laws_network.specs.Runs.{IsFitRun}
+use Rattle.laws_network.proofs.Keeping.{calm_rounds_keep_bounds}
+use Rattle.laws_network.proofs.Runs.{each_world_of_a_run_is_within_bounds}
+use Rattle.settle_resvs.specs.GoalByIface.{goal_at}
+use Rattle.settle_resvs.proofs.GoalByIface.{book_at}
+use Rattle.settle_resvs.proofs.SoundPaths.{paths_are_sound}
+use Rattle.settle_resvs.proofs.UnderTheGoal.{sound_under}
+use Rattle.settle_resvs.proofs.SoundUnits.{reservations_become_sound}
 use Rattle.settle_network.specs.Purged.{AreBooksAtMostDemands, HasNothingStale, IsBookAtMost}
 use Rattle.settle_network.proofs.RunsSettle.{joined, visited_at}
 use Rattle.settle_network.proofs.Settled.{run_all, run_then}

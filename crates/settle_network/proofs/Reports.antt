@@ -17,7 +17,7 @@ use Rattle.style_rules.specs.Lines.{Line, LineKey, at_end, entry_key}
 use Rattle.style_rules.specs.PartLaws.{part_at_most_itself}
 use Rattle.style_rules.specs.Parts.{has_name, IsPartAtMost}
 use Rattle.style_rules.proofs.Merges.{merges_same}
-use Rattle.router_lookups.proofs.Requesting.{books_and_lines}
+use Rattle.laws_inputs.proofs.Requesting.{books_and_lines}
 use Rattle.router_rules.specs.Books.{book, line_of, lines}
 use Rattle.router_rules.specs.Facts.{Facts, resvs_of}
 use Rattle.tree_model.specs.declared.hops.LinkHop.{LinkHop}
@@ -31,10 +31,10 @@ use Rattle.network_model.specs.Bounds.{AreBounds}
 use Rattle.network_model.specs.Locals.{locals_of}
 use Rattle.network_model.specs.Sound.{AreResvsExact, AreResvsSound}
 use Rattle.network_model.specs.Worlds.{World}
-use Rattle.network_steps.proofs.Known.{of_some}
-use Rattle.exact_resvs.specs.NodeGoals.GoalByIface.{at_iface, goal_at, line_over}
-use Rattle.exact_resvs.proofs.NodeGoals.GoalByIface.{book_at, hop_in_order}
-use Rattle.exact_resvs.proofs.NodeGoals.UnderTheGoal.{sound_under}
+use Rattle.laws_network.proofs.Known.{of_some}
+use Rattle.settle_resvs.specs.GoalByIface.{at_iface, goal_at, line_over}
+use Rattle.settle_resvs.proofs.GoalByIface.{book_at, hop_in_order}
+use Rattle.settle_resvs.proofs.UnderTheGoal.{sound_under}
 
 -- ---- a line of a goal is a part that is wanted over a hop out of the node
 record IsWantedLine (net : Net) (l : Locals) (n : ℕ) (g : Line) : Type 0 where
@@ -50,7 +50,8 @@ record IsWantedLine (net : Net) (l : Locals) (n : ℕ) (g : Line) : Type 0 where
 
 goal_told : (net : Net) (l : Locals) (n : ℕ) (g : Line) → In g (goal net l n) → IsWantedLine net l n g
 goal_told net l n g i =
-    let a = in_flat_map (λ st. flat_map (λ s. flat_map (hop_lines st net l s) (filter (goes_out_of net.ends n) (hops_in_order (hops_of net.hops s.group)))) (sessions_named l)) g (Wild ∷ Fixed ∷ Shared ∷ []) i in
+    let a = in_flat_map (λ st. flat_map (λ s. flat_map (hop_lines st net l s) (filter (goes_out_of net.ends n) (hops_in_order (hops_of net.hops s.group)))) (sessions_named l)) g
+    (Wild ∷ Fixed ∷ Shared ∷ []) i in
     let b = in_flat_map (λ s. flat_map (hop_lines a.0 net l s) (filter (goes_out_of net.ends n) (hops_in_order (hops_of net.hops s.group)))) g (sessions_named l) a.2 in
     let c = in_flat_map (hop_lines a.0 net l b.0) g (filter (goes_out_of net.ends n) (hops_in_order (hops_of net.hops b.0.group))) b.2 in
     let f = in_filter (goes_out_of net.ends n) c.0 (hops_in_order (hops_of net.hops b.0.group)) c.1 in
@@ -67,7 +68,8 @@ goal_told net l n g i =
       is = e.2;
     }
 
-module _ (q : ℕ) (u : World) (bounds : AreBounds q u) (resvs : AreResvsSound u) (exact : AreResvsExact u) (e : ℕ) (lt : e < length u.net.ends) (f : Facts) (at : slice_get u.nodes (node_of u.net.ends e) ≡ Some f) where
+module _ (q : ℕ) (u : World) (bounds : AreBounds q u) (resvs : AreResvsSound u) (exact : AreResvsExact u) (e : ℕ) (lt : e < length u.net.ends) (f : Facts)
+    (at : slice_get u.nodes (node_of u.net.ends e) ≡ Some f) where
   abbrev n : ℕ
   n = node_of u.net.ends e
 
@@ -102,7 +104,8 @@ module _ (q : ℕ) (u : World) (bounds : AreBounds q u) (resvs : AreResvsSound u
       (λ k. record { style = t.style; session = t.session; end = iface_of u.net.ends t.hop.from; next = addr_of u.net t.hop.to; unit = t.unit; part = part k }) in
       let same : line ≡ g = wanted ∙ sym (y.2 ∙ ap (at_iface u.net) t.is) in (
         line,
-        to_filter (λ (z : Line). z.end == i) line (lines f) ((books_and_lines.each f line).1 (record { style = t.style; key = key; resv = r.0; there = there; is = refl })) (ap (λ (z : Line). z.end == i) same ∙ x.1),
+        to_filter (λ (z : Line). z.end == i) line (lines f) ((books_and_lines.each f line).1 (record { style = t.style; key = key; resv = r.0; there = there; is = refl }))
+            (ap (λ (z : Line). z.end == i) same ∙ x.1),
         ap entry_key (sym same),
         subst (λ (z : Line). IsPartAtMost g.part z.part) (sym same) (part_at_most_itself g.part),
       )

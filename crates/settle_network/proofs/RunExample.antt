@@ -13,7 +13,7 @@ use Rattle.style_rules.specs.Lines.{held}
 use Rattle.router_rules.specs.Facts.{Facts, no_facts}
 use Rattle.router_rules.specs.Inputs.{SendAs}
 use Rattle.router_rules.specs.Rule.{facts_with}
-use Rattle.router_rows.specs.ThreeRouters.{first, session, usual}
+use Rattle.router_examples.specs.ThreeRouters.{first, session, usual}
 use Rattle.std.specs.Option.{unwrap_or}
 use Rattle.tree_model.specs.declared.locals.LocalSender.{LocalSender}
 use Rattle.tree_model.specs.Goals.{DemandsFit, demand_of}
@@ -24,13 +24,13 @@ use Rattle.network_model.specs.Locals.{locals_of, sender_at}
 use Rattle.network_model.specs.Runs.{first_world, steps_of_run}
 use Rattle.network_model.specs.Steps.{At, Report, Step}
 use Rattle.network_model.specs.Worlds.{World}
-use Rattle.network_steps.specs.Beginning.{left_key, left_resv}
-use Rattle.network_steps.specs.Example.{pair_net}
-use Rattle.network_steps.specs.Rounds.{rounds_of}
-use Rattle.network_steps.specs.Runs.{AreFew, AreFitSenders, IsFitRun}
-use Rattle.network_steps.proofs.Beginning.{a_plan_is_fit}
-use Rattle.network_steps.proofs.Calming.{calm_rounds, rounds_is_calm}
-use Rattle.exact_resvs.proofs.NodeGoals.UnderTheGoal.{want_needs}
+use Rattle.laws_network.specs.Beginning.{left_key, left_resv}
+use Rattle.laws_network.specs.Example.{pair_net}
+use Rattle.laws_network.specs.Rounds.{rounds_of}
+use Rattle.laws_network.specs.Runs.{AreFew, AreFitSenders, IsFitRun}
+use Rattle.laws_network.proofs.Beginning.{a_plan_is_fit}
+use Rattle.laws_network.proofs.Calming.{calm_rounds, rounds_is_calm}
+use Rattle.settle_resvs.proofs.UnderTheGoal.{want_needs}
 use Rattle.settle_network.specs.Settled.{HasSettled}
 use Rattle.settle_network.specs.RunExample.{begun, run_plan, so_far, ARunMeetsThePremises}
 

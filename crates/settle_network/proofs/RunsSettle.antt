@@ -9,8 +9,8 @@ use Rattle.network_model.specs.Locals.{locals_of}
 use Rattle.network_model.specs.Runs.{Plan, first_world, steps_of_run}
 use Rattle.network_model.specs.Steps.{Step, machine, step}
 use Rattle.network_model.specs.Worlds.{World}
-use Rattle.network_steps.specs.Runs.{AreFitSenders, IsFitRun}
-use Rattle.network_steps.proofs.Hosts.{each_world_of_a_run_keeps_the_locals}
+use Rattle.laws_network.specs.Runs.{AreFitSenders, IsFitRun}
+use Rattle.laws_network.proofs.Hosts.{each_world_of_a_run_keeps_the_locals}
 use Rattle.settle_network.specs.Settled.{HasSettled}
 use Rattle.settle_network.proofs.Settled.{a_settled_moment}
 
@@ -25,7 +25,8 @@ joined [] ys zs = refl
 joined (x ∷ xs) ys zs = λ i. x ∷ joined xs ys zs i
 
 pub a_run_settles : (p : Plan) → IsFitRun p → AreFitSenders p → (ss ts : List Step) → steps_of_run p ≡ ss ++ ts → (is : IsSettled p.quarter (first_world p) ss)
-    → DemandsFit (run (machine p.quarter) is.before (first_world p)).net (locals_of (run (machine p.quarter) is.before (first_world p))) → HasSettled p.quarter (run (machine p.quarter) ss (first_world p))
+    → DemandsFit (run (machine p.quarter) is.before (first_world p)).net (locals_of (run (machine p.quarter) is.before (first_world p)))
+    → HasSettled p.quarter (run (machine p.quarter) ss (first_world p))
 a_run_settles p run_fit senders ss ts front is fit =
     let parts : steps_of_run p ≡ is.before ++ (all_of is.rounds ++ ts) = front ∙ ap (λ (z : List Step). z ++ ts) is.parts ∙ joined is.before (all_of is.rounds) ts in
     let kept : AreBounds p.quarter (run (machine p.quarter) is.before (first_world p)) × AreHosts (run (machine p.quarter) is.before (first_world p)) =

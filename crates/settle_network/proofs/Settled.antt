@@ -13,19 +13,19 @@ use Rattle.network_model.specs.Bounds.{AreBounds, IsSettled, IsStart, all_of}
 use Rattle.network_model.specs.Sound.{ArePathsComplete, ArePathsSound, AreResvsExact, AreResvsSound, HasNoFlowError, IsFreeOfBlockade, TakesAll}
 use Rattle.network_model.specs.Steps.{Step, is_quiet, machine, step}
 use Rattle.network_model.specs.Worlds.{World}
-use Rattle.network_steps.specs.Known.{IsKnown}
-use Rattle.network_steps.proofs.Keeping.{calm_rounds_keep_bounds}
-use Rattle.network_steps.proofs.Known.{known_hold}
-use Rattle.exact_resvs.proofs.NodeGoals.CompletePaths.{paths_settle}
-use Rattle.exact_resvs.proofs.NodeGoals.SoundPaths.{paths_are_sound}
-use Rattle.exact_resvs.proofs.SoundResvs.{IsFirm}
-use Rattle.exact_resvs.proofs.SoundUnits.{IsAddressed, addressed, reservations_become_sound}
+use Rattle.laws_network.specs.Known.{IsKnown}
+use Rattle.laws_network.proofs.Keeping.{calm_rounds_keep_bounds}
+use Rattle.laws_network.proofs.Known.{known_hold}
+use Rattle.settle_resvs.proofs.CompletePaths.{paths_settle}
+use Rattle.settle_resvs.proofs.SoundPaths.{paths_are_sound}
+use Rattle.settle_resvs.proofs.SoundResvs.{IsFirm}
+use Rattle.settle_resvs.proofs.SoundUnits.{IsAddressed, addressed, reservations_become_sound}
 use Rattle.settle_network.specs.Settled.{HasSettled}
-use Rattle.exact_resvs.proofs.Accepting.{IsReady, locals_again, takes_all}
-use Rattle.exact_resvs.proofs.Blockades.{blockades_are_gone}
-use Rattle.exact_resvs.proofs.Errors.{IsCalmed, errors_are_gone}
+use Rattle.settle_resvs.proofs.Accepting.{IsReady, locals_again, takes_all}
+use Rattle.settle_resvs.proofs.Blockades.{blockades_are_gone}
+use Rattle.settle_resvs.proofs.Errors.{IsCalmed, errors_are_gone}
 use Rattle.settle_network.proofs.Reports.{book_is_the_demand}
-use Rattle.exact_resvs.proofs.ExactResvs.{IsSteady, reservations_are_exact}
+use Rattle.settle_resvs.proofs.ExactResvs.{IsSteady, reservations_are_exact}
 
 module _ (q : ℕ) (w : World) (rs : List (List Step)) (calm : Rounds (machine q) rs w) (start : IsStart q w) where
   -- the length of the longest chain, and the rounds until paths, reservations, errors and blockades are as they should be
@@ -81,7 +81,8 @@ module _ (q : ℕ) (w : World) (rs : List (List Step)) (calm : Rounds (machine q
       (hold_both (machine q) (IsKnown q w) (λ u. ArePathsSound u × ArePathsComplete u) to_resvs rs w
       (hold_later (machine q) (IsKnown q w) 0 to_resvs rs w (omega arith) known)
       (hold_later (machine q) (λ u. ArePathsSound u × ArePathsComplete u) (to_paths + 2 * long) to_resvs rs w (omega arith) (paths_settle q w rs calm start.locals bounds)))
-      (hold_both (machine q) AreResvsSound (IsAddressed 0) to_resvs rs w (reservations_become_sound q w rs calm bounds) (hold_later (machine q) (IsAddressed 0) (to_paths + 1) to_resvs rs w (omega arith) gone_on)))
+      (hold_both (machine q) AreResvsSound (IsAddressed 0) to_resvs rs w (reservations_become_sound q w rs calm bounds)
+      (hold_later (machine q) (IsAddressed 0) (to_paths + 1) to_resvs rs w (omega arith) gone_on)))
 
   -- ---- no error with a flow is left, then no blockade
   pub no_errors : Hold (machine q) to_errors rs w HasNoFlowError
@@ -98,14 +99,16 @@ module _ (q : ℕ) (w : World) (rs : List (List Step)) (calm : Rounds (machine q
   pub no_walls : Hold (machine q) to_walls rs w IsFreeOfBlockade
   no_walls =
       hold_stack (machine q) (λ u. AreBounds q u × HasNoFlowError u) IsFreeOfBlockade 3
-      (λ us u c h. blockades_are_gone q u us c (hold_map (machine q) (λ x. AreBounds q x × HasNoFlowError x) (AreBounds q) (λ x g. g.0) 0 us u h) (hold_map (machine q) (λ x. AreBounds q x × HasNoFlowError x) HasNoFlowError (λ x g. g.1) 0 us u h))
+      (λ us u c h. blockades_are_gone q u us c (hold_map (machine q) (λ x. AreBounds q x × HasNoFlowError x) (AreBounds q) (λ x g. g.0) 0 us u h)
+      (hold_map (machine q) (λ x. AreBounds q x × HasNoFlowError x) HasNoFlowError (λ x g. g.1) 0 us u h))
       to_errors rs w calm
       (hold_both (machine q) (AreBounds q) HasNoFlowError to_errors rs w (hold_later (machine q) (AreBounds q) 0 to_errors rs w (omega arith) bounds) no_errors)
 
   -- ---- reservations are the wants
   steady : Hold (machine q) to_walls rs w (λ u. IsKnown q w u × IsSteady q u)
   steady =
-      hold_map (machine q) (λ u. IsReadied u × IsFreeOfBlockade u) (λ u. IsKnown q w u × IsSteady q u) (λ u h. (h.0.known, record { ready = h.0.ready; free = h.1; addressed = h.0.addressed })) to_walls rs w
+      hold_map (machine q) (λ u. IsReadied u × IsFreeOfBlockade u) (λ u. IsKnown q w u × IsSteady q u)
+      (λ u h. (h.0.known, record { ready = h.0.ready; free = h.1; addressed = h.0.addressed })) to_walls rs w
       (hold_both (machine q) IsReadied IsFreeOfBlockade to_walls rs w (hold_later (machine q) IsReadied to_resvs to_walls rs w (omega arith) readied) no_walls)
 
   pub exact : Hold (machine q) (to_walls + 2 * long) rs w AreResvsExact

@@ -9,7 +9,7 @@ use Rattle.router_rules.specs.Facts.{Facts, no_facts}
 use Rattle.router_rules.specs.Inputs.{Stale, StalePath}
 use Rattle.router_rules.specs.Rule.{facts_with}
 use Rattle.router_rules.specs.Steps.{IsFitStale}
-use Rattle.router_rows.specs.ThreeRouters.{first, s1, session}
+use Rattle.router_examples.specs.ThreeRouters.{first, s1, session}
 use Rattle.tree_model.specs.declared.hops.End.{End}
 use Rattle.tree_model.specs.Trees.{trees_of}
 use Rattle.tree_model.specs.Valid.{IsValid}
@@ -19,9 +19,9 @@ use Rattle.network_model.specs.Rows.{end_of}
 use Rattle.network_model.specs.Sound.{ArePathsSound}
 use Rattle.network_model.specs.Steps.{machine}
 use Rattle.network_model.specs.Worlds.{World, config_of}
-use Rattle.network_steps.proofs.Beginning.{the_first_world_is_within_bounds}
-use Rattle.network_steps.proofs.Known.{of_some}
-use Rattle.exact_resvs.specs.NodeGoals.Example.{stale_path}
+use Rattle.laws_network.proofs.Beginning.{the_first_world_is_within_bounds}
+use Rattle.laws_network.proofs.Known.{of_some}
+use Rattle.settle_resvs.specs.Example.{stale_path}
 use Rattle.settle_network.specs.Tight.{lone_net, lone_plan, lone_world, short_round, three_rounds, ThreeRoundsAreTooFew}
 
 abbrev zero_only : List ℕ

@@ -4,8 +4,8 @@ use Rattle.calm_rounds.specs.Rounds.{Rounds}
 use Rattle.tree_model.specs.Ranks.{longest}
 use Rattle.network_model.specs.Bounds.{IsStart}
 use Rattle.network_model.specs.Steps.{machine}
-use Rattle.network_steps.specs.Rounds.{rounds_of}
-use Rattle.exact_resvs.specs.Example.{lost_world}
+use Rattle.laws_network.specs.Rounds.{rounds_of}
+use Rattle.settle_resvs.specs.LeftOverExample.{lost_world}
 use Rattle.settle_network.specs.Settled.{HasSettled}
 
 -- a reservation is left over of a next hop that no end has

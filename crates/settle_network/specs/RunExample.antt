@@ -2,7 +2,7 @@
 -- written.
 use Rattle.std.specs.Prelude.{◌≡◌, List, [], ◌∷◌, ◌++◌, None}
 use Rattle.router_rules.specs.Inputs.{SendAs}
-use Rattle.router_rows.specs.ThreeRouters.{first, session, usual}
+use Rattle.router_examples.specs.ThreeRouters.{first, session, usual}
 use Rattle.tree_model.specs.Goals.{DemandsFit}
 use Rattle.network_model.specs.Bounds.{IsSettled, all_of}
 use Rattle.network_model.specs.Events.{AtNode, Reports, Rounds}
@@ -10,9 +10,9 @@ use Rattle.network_model.specs.Locals.{locals_of}
 use Rattle.network_model.specs.Runs.{Plan, first_world, steps_of_run}
 use Rattle.network_model.specs.Steps.{At, Report, Step, step}
 use Rattle.network_model.specs.Worlds.{World}
-use Rattle.network_steps.specs.Beginning.{left_plan}
-use Rattle.network_steps.specs.Rounds.{rounds_of}
-use Rattle.network_steps.specs.Runs.{AreFitSenders, IsFitRun}
+use Rattle.laws_network.specs.Beginning.{left_plan}
+use Rattle.laws_network.specs.Rounds.{rounds_of}
+use Rattle.laws_network.specs.Runs.{AreFitSenders, IsFitRun}
 use Rattle.settle_network.specs.Settled.{HasSettled}
 
 abbrev pub run_plan : Plan

@@ -2,7 +2,7 @@
 use Rattle.std.specs.Prelude.{◌≡◌, List, [], ◌∷◌, codes}
 use Rattle.calm_rounds.specs.Rounds.{Rounds, run_rounds}
 use Rattle.router_rules.specs.Inputs.{StalePath}
-use Rattle.router_rows.specs.ThreeRouters.{first, s1, session}
+use Rattle.router_examples.specs.ThreeRouters.{first, s1, session}
 use Rattle.tree_model.specs.Networks.{Net}
 use Rattle.tree_model.specs.Ranks.{longest}
 use Rattle.network_model.specs.Bounds.{AreBounds}
@@ -11,7 +11,7 @@ use Rattle.network_model.specs.Runs.{Plan, first_world}
 use Rattle.network_model.specs.Sound.{ArePathsSound}
 use Rattle.network_model.specs.Steps.{Piece, Step, machine}
 use Rattle.network_model.specs.Worlds.{World}
-use Rattle.exact_resvs.specs.NodeGoals.Example.{stale_path}
+use Rattle.settle_resvs.specs.Example.{stale_path}
 
 abbrev pub lone_net : Net
 lone_net = record { nodes = 1; ends = end_of 0 s1 ∷ []; links = []; hops = [] }

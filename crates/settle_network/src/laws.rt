@@ -11,7 +11,7 @@ ghost use Rattle.network_model.specs.Runs.{Plan, first_world, steps_of_run};
 ghost use Rattle.network_model.specs.Sound.{AreResvsExact, HasNoFlowError, TakesAll};
 ghost use Rattle.network_model.specs.Steps.{Step, is_quiet, machine};
 ghost use Rattle.network_model.specs.Worlds.{World};
-ghost use Rattle.network_steps.specs.Runs.{AreFitSenders, IsFitRun};
+ghost use Rattle.laws_network.specs.Runs.{AreFitSenders, IsFitRun};
 ghost use Rattle.settle_network.specs.Example.{ItHasNotSettledYet};
 ghost use Rattle.settle_network.specs.Purged.{HasNothingStale};
 ghost use Rattle.settle_network.specs.RunExample.{ARunMeetsThePremises};

@@ -17,12 +17,12 @@ use Rattle.calm_rounds.specs.Hold.{Hold}
 use Rattle.calm_rounds.specs.SoftStates.{Stands}
 use Rattle.calm_rounds.proofs.Holding.{hold_map, hold_both, hold_all, hold_later, hold_start, hold_stack, hold_keep}
 use Rattle.tree_model.specs.Goals.{addr_of}
-use Rattle.network_steps.proofs.Learning.{a_path_on_the_tree_is_learnt}
+use Rattle.laws_network.proofs.Learning.{a_path_on_the_tree_is_learnt}
 use Rattle.router_rules.specs.Facts.{Facts, SenderKey, PathState, sender_keys}
 use Rattle.router_rules.specs.Inputs.{Input, Came, Spelt}
 use Rattle.router_rules.specs.Known.{known}
 use Rattle.router_rules.specs.NodeConfig.{NodeConfig, own, comes_in}
-use Rattle.router_lookups.proofs.Knowing.{has-known}
+use Rattle.laws_inputs.proofs.Knowing.{has-known}
 use Rattle.tree_model.specs.declared.hops.LinkHop.{LinkHop}
 use Rattle.tree_model.specs.Networks.{Net, node_of, iface_of, owner, peers}
 use Rattle.tree_model.specs.Ranks.{longest}
@@ -39,9 +39,9 @@ use Rattle.network_model.specs.Sound.{ArePathsSound, ArePathsComplete}
 use Rattle.network_model.specs.Steps.{Step, is_quiet, sent, step, machine}
 use Rattle.network_model.specs.Worlds.{Item, World, config_of}
 use Rattle.network_model.proofs.Machines.{quiet_of, in_flight_after}
-use Rattle.network_steps.specs.Known.{IsSameNet, IsKnown}
-use Rattle.network_steps.proofs.Known.{of_some, or_true, known_hold}
-use Rattle.network_steps.proofs.Standing.{comes_in_made}
+use Rattle.laws_network.specs.Known.{IsSameNet, IsKnown}
+use Rattle.laws_network.proofs.Known.{of_some, or_true, known_hold}
+use Rattle.laws_network.proofs.Standing.{comes_in_made}
 use Rattle.settle_paths.specs.SoftPaths.{PathValue, path_at, by_iface, SaysPath, soft_path}
 use Rattle.settle_paths.specs.Said.{IsKeptPath, IsSaidPath}
 use Rattle.settle_paths.specs.Telling.{is_letter, IsCompleteTo, IsSure}
@@ -51,14 +51,15 @@ use Rattle.settle_paths.proofs.SoftPaths.{path_found, iface_found, iface_made}
 use Rattle.settle_paths.proofs.PathSends.{IsTearSent, path_sent, tear_sent}
 use Rattle.settle_paths.proofs.SaidPaths.{routed, said_from}
 use Rattle.settle_paths.proofs.SoundPaths.{paths_are_sound}
-use Rattle.network_steps.specs.Sources.{CameOnTree, said_by}
+use Rattle.laws_network.specs.Sources.{CameOnTree, said_by}
 use Rattle.router_rules.specs.Steps.{facts_then, node_step}
 
 live_back : (o u : World) (k : SenderKey) (t : TokenBucket) → IsSameNet o u → IsLive u k t → IsLive o k t
 live_back o u k t same l = record { node = l.node; senders = l.senders; at = sym (same.senders l.node) ∙ l.at; sends = l.sends }
 
 module _ (q : ℕ) (o : World) (valid : IsValid o.net) (locals : AreHosts o) where
-  module _ (d : ℕ) (k : SenderKey) (t : TokenBucket) (h : LinkHop) (live : IsLive o k t) (there : In h (tree o.net.hops k.0.group k.1.addr)) (deep : depth o.net k.0.group k.1.addr (node_of o.net.ends h.to) ≤ suc d) where
+  module _ (d : ℕ) (k : SenderKey) (t : TokenBucket) (h : LinkHop) (live : IsLive o k t) (there : In h (tree o.net.hops k.0.group k.1.addr))
+      (deep : depth o.net k.0.group k.1.addr (node_of o.net.ends h.to) ≤ suc d) where
     abbrev at_to : ℕ
     at_to = node_of o.net.ends h.to
 
@@ -114,13 +115,15 @@ module _ (q : ℕ) (o : World) (valid : IsValid o.net) (locals : AreHosts o) whe
         let sender : ts.sender ≡ k.1 = of_some ts.sender k.1 (sym ts.of ∙ l.sender) in
         let out : In ts.end (outward o.net (node_of o.net.ends ts.end) k.0.group k.1.addr) =
         subst (λ (z : ℕ). In ts.end (outward o.net z k.0.group k.1.addr)) (sym ts.at)
-        (subst (λ (z : Session). In ts.end (outward o.net ts.node z.group k.1.addr)) l.session (subst (λ (z : Sender). In ts.end (outward o.net ts.node l.tear.session.group z.addr)) sender ts.leaves)) in
+        (subst (λ (z : Session). In ts.end (outward o.net ts.node z.group k.1.addr)) l.session
+        (subst (λ (z : Sender). In ts.end (outward o.net ts.node l.tear.session.group z.addr)) sender ts.leaves)) in
         let to : In h.to (peers o.net.links ts.end) = subst (λ (z : ℕ). In z (peers o.net.links ts.end)) end ts.to in
         let w = (one_sending_end_on_a_link o.net valid).hop k.0.group k.1.addr ts.end h.to out to into in
         let same : w.0 ≡ h = one o.net valid k.0.group k.1.addr w.0 h w.1 there (ap (node_of o.net.ends) w.3) in
         let node : ts.node ≡ at_from = sym ts.at ∙ ap (node_of o.net.ends) (sym w.2 ∙ ap (λ (z : LinkHop). z.from) same) in
         let yes : has (known ts.facts k.0) k.1 ≡ true = known_at u' sure.known sure.complete ts.facts (ap (λ (z : ℕ). slice_get u'.nodes z) (sym node) ∙ ts.after) in
-        let none : has (known ts.facts k.0) k.1 ≡ false = ap (λ (z : Session). has (known ts.facts z) k.1) (sym l.session) ∙ ap (λ (z : Sender). has (known ts.facts l.tear.session) z) (sym sender) ∙ ts.gone in
+        let none : has (known ts.facts k.0) k.1 ≡ false = ap (λ (z : Session). has (known ts.facts z) k.1) (sym l.session) ∙ ap (λ (z : Sender). has (known ts.facts l.tear.session) z) (sym sender)
+        ∙ ts.gone in
         let bad : true ≡ false = sym yes ∙ none in
         absurd (cc)
 
@@ -142,8 +145,10 @@ module _ (q : ℕ) (o : World) (valid : IsValid o.net) (locals : AreHosts o) whe
     tells : (u : World) → IsSure q o d u → (y : Item) → In y u.flight → y.end ≡ h.to → IsPathLetter k y → SaysPath o.net k h.to y value
     tells u sure y i end l =
         let w1 : inward o.net (node_of o.net.ends y.end) k.0.group k.1.addr ≡ Some y.end = subst (λ (z : ℕ). inward o.net (node_of o.net.ends z) k.0.group k.1.addr ≡ Some z) (sym end) into in
-        let w2 : inward o.net (node_of o.net.ends y.end) l.path.session.group k.1.addr ≡ Some y.end = subst (λ (z : Session). inward o.net (node_of o.net.ends y.end) z.group k.1.addr ≡ Some y.end) (sym l.session) w1 in
-        let w3 : inward u.net (node_of u.net.ends y.end) l.path.session.group k.1.addr ≡ Some y.end = subst (λ (z : Net). inward z (node_of z.ends y.end) l.path.session.group k.1.addr ≡ Some y.end) (sym sure.known.same.net) w2 in
+        let w2 : inward o.net (node_of o.net.ends y.end) l.path.session.group k.1.addr ≡ Some y.end =
+        subst (λ (z : Session). inward o.net (node_of o.net.ends y.end) z.group k.1.addr ≡ Some y.end) (sym l.session) w1 in
+        let w3 : inward u.net (node_of u.net.ends y.end) l.path.session.group k.1.addr ≡ Some y.end =
+        subst (λ (z : Net). inward z (node_of z.ends y.end) l.path.session.group k.1.addr ≡ Some y.end) (sym sure.known.same.net) w2 in
         let s = sure.sound.items y l.path k.1 l.tspec i l.spelt l.sender w3 in
         let in_net : In s.hop (tree o.net.hops l.path.session.group k.1.addr) = subst (λ (z : Net). In s.hop (tree z.hops l.path.session.group k.1.addr)) sure.known.same.net s.there in
         let in_tree : In s.hop (tree o.net.hops k.0.group k.1.addr) = subst (λ (z : Session). In s.hop (tree o.net.hops z.group k.1.addr)) l.session in_net in
@@ -238,7 +243,8 @@ module _ (q : ℕ) (o : World) (valid : IsValid o.net) (locals : AreHosts o) whe
       let e : 2 * d + 2 ≡ 2 * suc d = omega arith in
       rw (← e)
       (hold_stack (machine q) (λ u. IsStarted u × IsCompleteTo o d u) (IsCompleteTo o (suc d)) 2
-      (λ rs' w' calm' both. complete_up d rs' w' calm' (hold_map (machine q) (λ u. IsStarted u × IsCompleteTo o d u) (IsSure q o d) (λ u g. record { known = g.0.0; sound = g.0.1; complete = g.1 }) 0 rs' w' both)) (2 * d) rs w calm
+      (λ rs' w' calm' both. complete_up d rs' w' calm' (hold_map (machine q) (λ u. IsStarted u × IsCompleteTo o d u) (IsSure q o d)
+      (λ u g. record { known = g.0.0; sound = g.0.1; complete = g.1 }) 0 rs' w' both)) (2 * d) rs w calm
       (hold_both (machine q) IsStarted (IsCompleteTo o d) (2 * d) rs w (hold_later (machine q) IsStarted 0 (2 * d) rs w (omega arith) start) (levels d rs w calm start)))
 
   all_complete : (u : World) → IsKnown q o u → IsCompleteTo o (longest o.net) u → ArePathsComplete u
@@ -259,7 +265,8 @@ module _ (q : ℕ) (o : World) (valid : IsValid o.net) (locals : AreHosts o) whe
         tspec = sym (ap (λ (z : PathValue). z.1) x.3);
       }
 
-pub paths_are_complete : (q : ℕ) (w : World) (rs : List (List Step)) → Rounds (machine q) rs w → AreHosts w → Hold (machine q) 0 rs w (AreBounds q) → Hold (machine q) 0 rs w ArePathsSound → Hold (machine q) (2 * longest w.net) rs w ArePathsComplete
+pub paths_are_complete : (q : ℕ) (w : World) (rs : List (List Step)) → Rounds (machine q) rs w → AreHosts w → Hold (machine q) 0 rs w (AreBounds q) → Hold (machine q) 0 rs w ArePathsSound
+    → Hold (machine q) (2 * longest w.net) rs w ArePathsComplete
 paths_are_complete q w rs calm locals bounds sound =
     let valid : IsValid w.net = (hold_start (machine q) (AreBounds q) rs w bounds).net in
     let known = known_hold q w rs calm bounds in
@@ -269,7 +276,8 @@ paths_are_complete q w rs calm locals bounds sound =
     (levels q w valid locals (longest w.net) rs w calm (hold_both (machine q) (IsKnown q w) ArePathsSound 0 rs w known sound)))
 
 -- ---- one hop of a live sender's Path
-pub live_paths_are_kept : (q : ℕ) (w : World) (d : ℕ) (k : SenderKey) (t : TokenBucket) (h : LinkHop) → AreHosts w → IsLive w k t → In h (tree w.net.hops k.0.group k.1.addr) → depth w.net k.0.group k.1.addr (node_of w.net.ends h.to) ≤ suc d
+pub live_paths_are_kept : (q : ℕ) (w : World) (d : ℕ) (k : SenderKey) (t : TokenBucket) (h : LinkHop) → AreHosts w → IsLive w k t → In h (tree w.net.hops k.0.group k.1.addr)
+    → depth w.net k.0.group k.1.addr (node_of w.net.ends h.to) ≤ suc d
     → (rs : List (List Step)) → Rounds (machine q) rs w → Hold (machine q) 0 rs w (IsSure q w d) → Hold (machine q) 2 rs w (Stands (machine q) (soft_path q w k h.to) (addr_of w.net h.from, t))
 live_paths_are_kept q w d k t h locals live there deep rs calm sure =
     complete_at q w (hold_start (machine q) (IsSure q w d) rs w sure).known.bounds.net locals d k t h live there deep rs w calm sure
@@ -283,7 +291,8 @@ paths_settle q w rs calm locals bounds =
     let sound = paths_are_sound q w rs calm bounds in
     let k : ℕ = 4 + 5 * longest w.net in
     let n : ℕ = 2 * longest w.net in
-    hold_map (machine q) (λ u. ArePathsSound u × (IsKnown q w u × IsCompleteTo w (longest w.net) u)) (λ u. ArePathsSound u × ArePathsComplete u) (λ u g. (g.0, all_complete q w valid locals u g.1.0 g.1.1)) (k + n) rs w
+    hold_map (machine q) (λ u. ArePathsSound u × (IsKnown q w u × IsCompleteTo w (longest w.net) u)) (λ u. ArePathsSound u × ArePathsComplete u)
+    (λ u g. (g.0, all_complete q w valid locals u g.1.0 g.1.1)) (k + n) rs w
     (hold_both (machine q) ArePathsSound (λ u. IsKnown q w u × IsCompleteTo w (longest w.net) u) (k + n) rs w
     (hold_later (machine q) ArePathsSound k (k + n) rs w (omega arith) sound)
     (hold_both (machine q) (IsKnown q w) (IsCompleteTo w (longest w.net)) (k + n) rs w

@@ -20,11 +20,11 @@ use Rattle.network_model.specs.Locals.{IsLive, senders_at, sessions_of}
 use Rattle.network_model.specs.Runs.{first_facts}
 use Rattle.network_model.specs.Sound.{ArePathsComplete}
 use Rattle.network_model.specs.Worlds.{config_of}
-use Rattle.network_steps.specs.Example.{pair_net, sending_world}
-use Rattle.network_steps.proofs.Beginning.{the_first_world_is_within_bounds}
-use Rattle.network_steps.proofs.Calming.{calm_rounds}
-use Rattle.network_steps.proofs.Example.{a_pair_stays_within_bounds, hosts, valid}
-use Rattle.network_steps.proofs.Known.{of_some}
+use Rattle.laws_network.specs.Example.{pair_net, sending_world}
+use Rattle.laws_network.proofs.Beginning.{the_first_world_is_within_bounds}
+use Rattle.laws_network.proofs.Calming.{calm_rounds}
+use Rattle.laws_network.proofs.Example.{a_pair_stays_within_bounds, hosts, valid}
+use Rattle.laws_network.proofs.Known.{of_some}
 use Rattle.settle_paths.specs.Example.{MeetsThePremises, APathIsLeftOver, stale_path, stale_plan, stale_world}
 
 -- ---- the one local sender

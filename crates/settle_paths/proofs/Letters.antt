@@ -65,7 +65,8 @@ letter_found k e y t = let both = and_both (y.end == e) (letter_arrival k y.arri
     by (Spelt m) a h = by_message m a h
     by (Unspelt f) a h = absurd (cc)
 
-pub path_letter : (k : SenderKey) (e : ℕ) (y : Item) (m : PathMsg) (t : TokenBucket) → y.end ≡ e → y.arrival ≡ Spelt (message.Path m) → m.session ≡ k.0 → m.sender ≡ Some (k.1, t) → is_letter k e y ≡ true
+pub path_letter : (k : SenderKey) (e : ℕ) (y : Item) (m : PathMsg) (t : TokenBucket) → y.end ≡ e → y.arrival ≡ Spelt (message.Path m) → m.session ≡ k.0 → m.sender ≡ Some (k.1, t)
+    → is_letter k e y ≡ true
 path_letter k e y m t end spelt session sender =
     and_made _ _ (number_same y.end e end) (ap (letter_arrival k) spelt ∙ of_made k m.session (sender_of m.sender) session (ap (λ (o : Option (Sender × TokenBucket)). sender_of o) sender))
 

@@ -9,8 +9,8 @@ pub mod Example
 pub mod Sure
 pub mod PreviousHops
 pub use Rattle.network_model.proofs.NodeLocals
-pub use Rattle.network_steps.proofs.Keeping
-pub use Rattle.network_steps.proofs.Known
-pub use Rattle.network_steps.proofs.Sends
-pub use Rattle.network_steps.proofs.Standing
-pub use Rattle.router_lookups.proofs.Requesting
+pub use Rattle.laws_network.proofs.Keeping
+pub use Rattle.laws_network.proofs.Known
+pub use Rattle.laws_network.proofs.Sends
+pub use Rattle.laws_network.proofs.Standing
+pub use Rattle.laws_inputs.proofs.Requesting

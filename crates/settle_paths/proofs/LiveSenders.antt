@@ -22,7 +22,7 @@ use Rattle.router_rules.specs.Facts.{Facts, SenderKey, sender_keys}
 use Rattle.network_model.specs.Bounds.{AreHosts}
 use Rattle.network_model.specs.Locals.{sender_at, senders_from, locals_of, senders_at, IsLive}
 use Rattle.network_model.specs.Worlds.{World}
-use Rattle.network_steps.proofs.Known.{has_some}
+use Rattle.laws_network.proofs.Known.{has_some}
 
 pub senders_found : (o : World) (n : ℕ) (m : Table sender_keys TokenBucket) → senders_at o n ≡ Some m → (f : Facts) × (slice_get o.nodes n ≡ Some f) × (f.senders ≡ m)
 senders_found o n m e = by (slice_get o.nodes n) refl e
@@ -81,7 +81,8 @@ module _ (o : World) (locals : AreHosts o) where
           let found = in_found sender_keys m row.0.0 row.0.1 row.1 in
           let l = alive row.0.0 row.0.1 found in
           let at = live_listed o row.0.0 l.0 l.1 in
-          subst (λ (z : Session). In z (each (λ (x : LocalSender). x.session) (senders_from 0 o.nodes))) (sym (k.2 ∙ ap (λ (z : SenderKey). z.0) row.2)) (to_each (λ (x : LocalSender). x.session) (sender_at at.0 row.0.0) (senders_from 0 o.nodes) at.1)
+          subst (λ (z : Session). In z (each (λ (x : LocalSender). x.session) (senders_from 0 o.nodes))) (sym (k.2 ∙ ap (λ (z : SenderKey). z.0) row.2))
+          (to_each (λ (x : LocalSender). x.session) (sender_at at.0 row.0.0) (senders_from 0 o.nodes) at.1)
 
       sender_listed : (s : Session) (x : Sender) → has (under sessions senders m s) x ≡ true → In x (live (locals_of o) s)
       sender_listed s x h =

@@ -12,10 +12,10 @@ use Rattle.rsvp_messages.specs.declared.message.Message.TheVariants as message
 use Rattle.rsvp_messages.specs.declared.message.PathMsg.{PathMsg}
 use Rattle.rsvp_messages.specs.declared.message.PathTearMsg.{PathTearMsg}
 use Rattle.tree_model.specs.Goals.{addr_of}
-use Rattle.network_steps.specs.Sources.{IsLocalOffer, IsPathOffer}
-use Rattle.network_steps.specs.SpeakingLaws.{IsOfOffer, IsOfGoneOffer}
-use Rattle.network_steps.proofs.Speaking.{what_a_path_sent_says, why_a_path_tear_is_sent}
-use Rattle.router_lookups.specs.FactLaws.{is_way}
+use Rattle.laws_network.specs.Sources.{IsLocalOffer, IsPathOffer}
+use Rattle.laws_network.specs.SpeakingLaws.{IsOfOffer, IsOfGoneOffer}
+use Rattle.laws_network.proofs.Speaking.{what_a_path_sent_says, why_a_path_tear_is_sent}
+use Rattle.laws_inputs.specs.FactLaws.{is_way}
 use Rattle.router_rules.specs.Facts.{Facts, PathState}
 use Rattle.router_rules.specs.Inputs.{Spelt}
 use Rattle.router_rules.specs.Known.{known}
@@ -27,8 +27,8 @@ use Rattle.network_model.specs.Bounds.{AreBounds}
 use Rattle.network_model.specs.Steps.{Step, is_quiet, ms_of, outcome, sent, step}
 use Rattle.network_model.specs.Worlds.{Item, World, config_of}
 use Rattle.network_model.proofs.Stepping.{facts_after_made}
-use Rattle.network_steps.proofs.Sends.{goes_to_peers, sent_by_rule}
-use Rattle.network_steps.proofs.Standing.{own_end, way_out}
+use Rattle.laws_network.proofs.Sends.{goes_to_peers, sent_by_rule}
+use Rattle.laws_network.proofs.Standing.{own_end, way_out}
 use Rattle.router_rules.specs.Steps.{node_step}
 
 -- ---- a Path in flight that a node sent in the step
@@ -49,13 +49,15 @@ pub record IsPathSent (q : ℕ) (net : Net) (u' : World) (y : Item) (m : PathMsg
   pub dst : y.dst ≡ m.session.group
   pub period : m.period ≡ 4 * q
 
-pub path_sent : (q : ℕ) (s : Step) (u : World) → is_quiet s ≡ true → AreBounds q u → (y : Item) (b : Bool) (m : PathMsg) → In (y, b) (sent q s u) → y.arrival ≡ Spelt (message.Path m) → IsPathSent q u.net (step q s u) y m
+pub path_sent : (q : ℕ) (s : Step) (u : World) → is_quiet s ≡ true → AreBounds q u → (y : Item) (b : Bool) (m : PathMsg) → In (y, b) (sent q s u) → y.arrival ≡ Spelt (message.Path m)
+    → IsPathSent q u.net (step q s u) y m
 path_sent q s u quiet bounds y b m i spelt =
     let r = sent_by_rule q s u y b (message.Path m) quiet i spelt in
     let p : NodeConfig = config_of q u.net u.trees r.node in
     let after : Facts = (outcome q s u r.node r.facts).facts in
     let o : IsOfOffer p after r.send m =
-    subst (λ (z : Outcome). IsOfOffer p z.facts r.send m) (sym r.by.is) (what_a_path_sent_says.says (node_step p p u.clock (u.clock + ms_of s) r.by.input r.facts) (bounds.facts r.node r.facts r.there) r.send m r.sent r.says) in
+    subst (λ (z : Outcome). IsOfOffer p z.facts r.send m) (sym r.by.is) (what_a_path_sent_says.says (node_step p p u.clock (u.clock + ms_of s) r.by.input r.facts)
+    (bounds.facts r.node r.facts r.there) r.send m r.sent r.says) in
     let e = way_out q u.net u.trees r.node bounds.net o.key.session o.key.iface o.key.sender o.there o.way in
     let session : m.session ≡ o.key.session = ap (λ (z : PathMsg). z.session) o.is in
     record {
@@ -90,13 +92,15 @@ pub record IsTearSent (net : Net) (u' : World) (y : Item) (m : PathTearMsg) : Ty
   pub leaves : In end (outward net node m.session.group sender.addr)
   pub to : In y.end (peers net.links end)
 
-pub tear_sent : (q : ℕ) (s : Step) (u : World) → is_quiet s ≡ true → AreBounds q u → (y : Item) (b : Bool) (m : PathTearMsg) → In (y, b) (sent q s u) → y.arrival ≡ Spelt (message.PathTear m) → IsTearSent u.net (step q s u) y m
+pub tear_sent : (q : ℕ) (s : Step) (u : World) → is_quiet s ≡ true → AreBounds q u → (y : Item) (b : Bool) (m : PathTearMsg) → In (y, b) (sent q s u) → y.arrival ≡ Spelt (message.PathTear m)
+    → IsTearSent u.net (step q s u) y m
 tear_sent q s u quiet bounds y b m i spelt =
     let r = sent_by_rule q s u y b (message.PathTear m) quiet i spelt in
     let p : NodeConfig = config_of q u.net u.trees r.node in
     let after : Facts = (outcome q s u r.node r.facts).facts in
     let o : IsOfGoneOffer p p r.facts after r.send m =
-    subst (λ (z : Outcome). IsOfGoneOffer p p r.facts z.facts r.send m) (sym r.by.is) (why_a_path_tear_is_sent (node_step p p u.clock (u.clock + ms_of s) r.by.input r.facts) (bounds.facts r.node r.facts r.there) r.send m r.sent r.says) in
+    subst (λ (z : Outcome). IsOfGoneOffer p p r.facts z.facts r.send m) (sym r.by.is) (why_a_path_tear_is_sent (node_step p p u.clock (u.clock + ms_of s) r.by.input r.facts)
+    (bounds.facts r.node r.facts r.there) r.send m r.sent r.says) in
     let e = way_out q u.net u.trees r.node bounds.net o.key.session o.key.iface o.key.sender o.there o.way in
     let session : m.session ≡ o.key.session = ap (λ (z : PathTearMsg). z.session) o.is in
     record {
@@ -106,7 +110,8 @@ tear_sent q s u quiet bounds y b m i spelt =
       sender = o.key.sender;
       of = ap (λ (z : PathTearMsg). z.sender) o.is;
       gone = ⊎_elim
-          (λ (none : is_way p o.key ≡ false). let way : is_way p o.key ≡ true = and_made _ _ (lt-ltb o.key.iface (length p.ifaces) o.there) o.way in let bad : true ≡ false = sym way ∙ none in absurd (cc))
+          (λ (none : is_way p o.key ≡ false). let way : is_way p o.key ≡ true = and_made _ _ (lt-ltb o.key.iface (length p.ifaces) o.there) o.way in let bad : true ≡ false = sym way ∙ none in
+          absurd (cc))
           (λ (g : has (known after o.key.session) o.key.sender ≡ false). ap (λ (z : Session). has (known after z) o.key.sender) session ∙ g) o.gone;
       end = e.0;
       at = e.2;

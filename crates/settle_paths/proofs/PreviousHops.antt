@@ -20,9 +20,9 @@ use Rattle.tree_model.specs.Wants.{live, of_session, goes_over, names}
 use Rattle.tree_model.proofs.WantLaws.{name_made, name_told}
 use Rattle.router_rules.specs.Facts.{Facts, PathState, sender_keys}
 use Rattle.router_rules.specs.Known.{Lane, known, names_via}
-use Rattle.router_lookups.specs.FactLaws.{ComesBy}
-use Rattle.router_lookups.proofs.Knowing.{known_and_via, has-known}
-use Rattle.router_lookups.proofs.Tests.{came_told, came_tested}
+use Rattle.laws_inputs.specs.FactLaws.{ComesBy}
+use Rattle.laws_inputs.proofs.Knowing.{known_and_via, has-known}
+use Rattle.laws_inputs.proofs.Tests.{came_told, came_tested}
 use Rattle.tree_model.specs.declared.hops.LinkHop.{LinkHop}
 use Rattle.tree_model.specs.Networks.{Net, node_of, iface_of, owner}
 use Rattle.tree_model.specs.Trees.{tree, hops_of, inward}
@@ -35,8 +35,8 @@ use Rattle.network_model.specs.Locals.{IsLive, locals_of, sender_at, senders_fro
 use Rattle.network_model.specs.Sound.{ArePathsSound, ArePathsComplete}
 use Rattle.network_model.specs.Worlds.{World}
 use Rattle.network_model.proofs.NodeLocals.{is_live, live_told}
-use Rattle.network_steps.proofs.Known.{of_some, has_some, or_true}
-use Rattle.network_steps.proofs.Standing.{some_at, same_end, to_there, from_there}
+use Rattle.laws_network.proofs.Known.{of_some, has_some, or_true}
+use Rattle.laws_network.proofs.Standing.{some_at, same_end, to_there, from_there}
 use Rattle.settle_paths.proofs.LiveSenders.{live_listed, senders_found}
 use Rattle.settle_paths.specs.PreviousHops.{IsPrevious, IsAhead, ArePreviousHops, AreAllPreviousHops, Reaches}
 

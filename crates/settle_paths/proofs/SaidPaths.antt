@@ -19,9 +19,9 @@ use Rattle.calm_rounds.specs.SoftStates.{SoftState, DueLaws, Good, Moves, Stands
 use Rattle.calm_rounds.proofs.Holding.{hold_map, hold_both, hold_start, hold_keep}
 use Rattle.calm_rounds.proofs.Renewing.{what_is_said_is_kept}
 use Rattle.tree_model.specs.Goals.{addr_of}
-use Rattle.network_steps.specs.PathLaws.{IsReplaced, PathGoes}
-use Rattle.network_steps.proofs.Learning.{how_a_path_fact_goes}
-use Rattle.network_steps.proofs.Speaking.{refreshes_are_marked}
+use Rattle.laws_network.specs.PathLaws.{IsReplaced, PathGoes}
+use Rattle.laws_network.proofs.Learning.{how_a_path_fact_goes}
+use Rattle.laws_network.proofs.Speaking.{refreshes_are_marked}
 use Rattle.router_rules.specs.Facts.{Facts, SenderKey, PathState}
 use Rattle.router_rules.specs.Forgetting.{counted}
 use Rattle.router_rules.specs.Inputs.{Arrival, Input, Wait, Clear, Came, Send, Spelt, Unspelt}
@@ -30,8 +30,8 @@ use Rattle.router_rules.specs.Offers.{OfferKey}
 use Rattle.router_rules.specs.NodeConfig.{NodeConfig, own, goes_out, lifetime}
 use Rattle.router_rules.specs.Rule.{Outcome}
 use Rattle.router_rules.specs.Sends.{path_send}
-use Rattle.router_lookups.proofs.Knowing.{known_and_via}
-use Rattle.router_lookups.proofs.Tests.{addr_tested}
+use Rattle.laws_inputs.proofs.Knowing.{known_and_via}
+use Rattle.laws_inputs.proofs.Tests.{addr_tested}
 use Rattle.tree_model.specs.declared.hops.LinkHop.{LinkHop}
 use Rattle.tree_model.specs.Networks.{Net, node_of, end_at, iface_of, peers}
 use Rattle.tree_model.specs.Trees.{tree, inward, outward}
@@ -42,17 +42,18 @@ use Rattle.tree_model.proofs.Links.{hop_linked}
 use Rattle.tree_model.proofs.TreeLaws.{out_tested, way_in_tested}
 use Rattle.network_model.specs.Bounds.{AreBounds}
 use Rattle.network_model.specs.Links.{is_group, goes_to, copy_to}
-use Rattle.network_model.specs.Steps.{Step, Track, OfSender, OfStyle, goes_along, is_quiet, serves, serves_key, ms_of, arrived, input_at, word_for, outcome, still, sender_of, track, path_track, arrival_track, sent, step, machine}
+use Rattle.network_model.specs.Steps.{Step, Track, OfSender, OfStyle, goes_along, is_quiet, serves, serves_key, ms_of, arrived, input_at, word_for, outcome, still, sender_of, track}
+use Rattle.network_model.specs.Steps.{path_track, arrival_track, sent, step, machine}
 use Rattle.network_model.specs.Worlds.{Item, World, config_of}
 use Rattle.network_model.proofs.Changing.{where_a_send_goes}
 use Rattle.network_model.proofs.Machines.{quiet_of, time_passes, items_are_numbered, in_flight_after, in_arrived}
 use Rattle.network_model.proofs.Quiet.{IsWaited, IsCame, FollowsRule, input_found, arrival_takes_no_time, outcome_by, outcome_quiet}
 use Rattle.network_model.proofs.Stepping.{copies_made, facts_after_made, sent_made}
-use Rattle.network_steps.specs.Known.{IsKnown}
-use Rattle.network_steps.specs.Refreshes.{due_at, Refreshes}
-use Rattle.network_steps.proofs.Due.{full_life, due_found, due_made, due_moves, refresh_follows}
-use Rattle.network_steps.proofs.Known.{of_some, has_some, known_hold, node_there, end_found, came_there}
-use Rattle.network_steps.proofs.Standing.{own_end, iface_less, comes_in_told, goes_out_made, from_there, to_there}
+use Rattle.laws_network.specs.Known.{IsKnown}
+use Rattle.laws_network.specs.Refreshes.{due_at, Refreshes}
+use Rattle.laws_network.proofs.Due.{full_life, due_found, due_made, due_moves, refresh_follows}
+use Rattle.laws_network.proofs.Known.{of_some, has_some, known_hold, node_there, end_found, came_there}
+use Rattle.laws_network.proofs.Standing.{own_end, iface_less, comes_in_told, goes_out_made, from_there, to_there}
 use Rattle.settle_paths.specs.SoftPaths.{PathValue, path_at, by_iface, SaysPath, soft_path}
 use Rattle.settle_paths.specs.Said.{IsSaidPath}
 use Rattle.settle_paths.specs.Telling.{letter_message, letter_arrival, is_letter, life_of}
@@ -141,7 +142,8 @@ module _ (q : ℕ) (o : World) (valid : IsValid o.net) (k : SenderKey) (h : Link
       let came : input_at s u at_to ≡ Some input = came_there q o u g.known h.to lt s y arr says.end ∙ (λ i. Some (Came (iface_of o.net.ends h.to) y.dst (says.spelt i))) in
       let taken = g.said.taken y (in_arrived s u y arr) born says f.0 f.1 in
       let ms : u.clock + ms_of s ≡ u.clock = (let e = arrival_takes_no_time s u y arr in omega arith) in
-      let same : (outcome q s u at_to f.0).facts ≡ facts_then p p u.clock input f.0 = ap (λ (z : Outcome). z.facts) (outcome_by q s u at_to f.0 input quiet came) ∙ (λ i. facts_then p p (ms i) input f.0) in
+      let same : (outcome q s u at_to f.0).facts ≡ facts_then p p u.clock input f.0 = ap (λ (z : Outcome). z.facts) (outcome_by q s u at_to f.0 input quiet came)
+      ∙ (λ i. facts_then p p (ms i) input f.0) in
       let after : slice_get (step q s u).nodes at_to ≡ Some (outcome q s u at_to f.0).facts = facts_after_made q s u at_to f.0 f.1 in
       let full : lifetime p says.path.period ≡ 21 * q = ap (life_of q) (sym says.spelt) ∙ life in
       let dies : u.clock + lifetime p says.path.period ≡ u.clock + 21 * q = ap (λ z. u.clock + z) full in
@@ -176,7 +178,8 @@ module _ (q : ℕ) (o : World) (valid : IsValid o.net) (k : SenderKey) (h : Link
 
   -- ---- where no letter arrives the path stays until it dies
   -- what comes to the node over the hop's end is no letter of the key
-  no_letter : (s : Step) (u : World) → IsKnown q o u → ((y : Item) → arrived s u ≡ Some y → is_letter k h.to y ≡ false) → (i : Input) → IsCame s u at_to i → (e : ℕ) (g : Addr) (m : Message) → i ≡ Came e g (Spelt m) → e ≡ iface_of o.net.ends h.to
+  no_letter : (s : Step) (u : World) → IsKnown q o u → ((y : Item) → arrived s u ≡ Some y → is_letter k h.to y ≡ false) → (i : Input) → IsCame s u at_to i → (e : ℕ) (g : Addr) (m : Message)
+      → i ≡ Came e g (Spelt m) → e ≡ iface_of o.net.ends h.to
       → letter_message k m ≡ true → ⊥
   no_letter s u a none i c e g m is at letter =
       let same : Came (iface_of u.net.ends c.item.end) c.item.dst c.item.arrival ≡ Came e g (Spelt m) = sym c.is ∙ is in
@@ -197,34 +200,40 @@ module _ (q : ℕ) (o : World) (valid : IsValid o.net) (k : SenderKey) (h : Link
       let value_is = sym x.3 in
       let dies_is = sym x.4 in
       let end_it : get (outcome q s u at_to f.0).facts.paths k ≡ Some x.0 → by_iface (iface_of o.net.ends h.to) (path_at (step q s u) at_to k) ≡ Some (v, dies) =
-      (λ g. iface_made (iface_of o.net.ends h.to) (path_at (step q s u) at_to k) x.0 (path_made (step q s u) at_to k x.0 (outcome q s u at_to f.0).facts after g) x.2 ∙ (λ j. Some (value_is j, dies_is j))) in
+      (λ g. iface_made (iface_of o.net.ends h.to) (path_at (step q s u) at_to k) x.0 (path_made (step q s u) at_to k x.0 (outcome q s u at_to f.0).facts after g) x.2
+      ∙ (λ j. Some (value_is j, dies_is j))) in
       ⊎_elim
       (λ (z : (input_at s u at_to ≡ None) × (outcome q s u at_to f.0 ≡ still f.0)). end_it (ap (λ (w : Outcome). get w.facts.paths k) z.1 ∙ f.2))
       (λ (r : FollowsRule q s u at_to f.0 (outcome q s u at_to f.0)).
       ⊎_elim
       (λ (stays : get (facts_then p p (u.clock + ms_of s) r.input f.0).paths k ≡ Some x.0). end_it (ap (λ (w : Outcome). get w.facts.paths k) r.is ∙ stays))
-      (λ (other : IsReplaced p (u.clock + ms_of s) r.input (facts_then p p (u.clock + ms_of s) r.input f.0) k ⊎ ((get (facts_then p p (u.clock + ms_of s) r.input f.0).paths k ≡ None) × PathGoes (u.clock + ms_of s) r.input k x.0)).
+      (λ (other : IsReplaced p (u.clock + ms_of s) r.input (facts_then p p (u.clock + ms_of s) r.input f.0) k
+      ⊎ ((get (facts_then p p (u.clock + ms_of s) r.input f.0).paths k ≡ None) × PathGoes (u.clock + ms_of s) r.input k x.0)).
       absurd (by_input x.0 x.2 (omega (arith, x.4, lt)) r.input other (input_found s u at_to r.input quiet r.came)))
       (how_a_path_fact_goes (node_step p p u.clock (u.clock + ms_of s) r.input f.0) (sure.known.bounds.facts at_to f.0 f.1) k x.0 f.2))
       (outcome_quiet q s u at_to f.0 quiet)
     where
-      by_input : (x : PathState) → x.iface ≡ iface_of o.net.ends h.to → u.clock + ms_of s < x.dies → (i : Input) → {f' : Facts} → IsReplaced (config_of q u.net u.trees at_to) (u.clock + ms_of s) i f' k ⊎ ((get f'.paths k ≡ None) × PathGoes (u.clock + ms_of s) i k x)
+      by_input : (x : PathState) → x.iface ≡ iface_of o.net.ends h.to → u.clock + ms_of s < x.dies → (i : Input) → {f' : Facts}
+          → IsReplaced (config_of q u.net u.trees at_to) (u.clock + ms_of s) i f' k ⊎ ((get f'.paths k ≡ None) × PathGoes (u.clock + ms_of s) i k x)
           → IsWaited s u at_to i ⊎ IsCame s u at_to i → ⊥
-      by_input x iface later i (inl rep) (inl w) = let bad : Wait w.ms (word_for u.words at_to) ≡ Came rep.learnt.by.at k.0.group (Spelt (message.Path rep.learnt.by.path)) = sym w.is ∙ rep.learnt.by.came in absurd (cc)
+      by_input x iface later i (inl rep) (inl w) =
+          let bad : Wait w.ms (word_for u.words at_to) ≡ Came rep.learnt.by.at k.0.group (Spelt (message.Path rep.learnt.by.path)) = sym w.is ∙ rep.learnt.by.came in absurd (cc)
       by_input x iface later i (inl rep) (inr c) =
           let by = rep.learnt.by in
           let way = comes_in_told q u.net u.trees at_to k.0 by.at k.1 by.tree in
           let way_in : inward o.net at_to k.0.group k.1.addr ≡ Some way.0 = subst (λ (z : Net). inward z at_to k.0.group k.1.addr ≡ Some way.0) sure.known.same.net way.1 in
           let end : way.0 ≡ h.to = of_some way.0 h.to (sym way_in ∙ into) in
           let at : by.at ≡ iface_of o.net.ends h.to = sym way.2 ∙ ap (λ (z : Net). iface_of z.ends way.0) sure.known.same.net ∙ ap (iface_of o.net.ends) end in
-          no_letter s u sure.known none i c by.at k.0.group (message.Path by.path) by.came at (of_made k by.path.session (sender_of by.path.sender) by.session (ap (λ (z : Option (Sender × TokenBucket)). sender_of z) by.sender))
+          no_letter s u sure.known none i c by.at k.0.group (message.Path by.path) by.came at
+          (of_made k by.path.session (sender_of by.path.sender) by.session (ap (λ (z : Option (Sender × TokenBucket)). sender_of z) by.sender))
       by_input x iface later i (inr gone) came = by_reason gone.1 came
         where
           by_reason : PathGoes (u.clock + ms_of s) i k x → IsWaited s u at_to i ⊎ IsCame s u at_to i → ⊥
           by_reason (inl dead) c = let z = dead.dies in absurd (omega arith)
           by_reason (inr (inl torn)) (inl w) = let bad : Wait w.ms (word_for u.words at_to) ≡ Came torn.at k.0.group (Spelt (message.PathTear torn.tear)) = sym w.is ∙ torn.came in absurd (cc)
           by_reason (inr (inl torn)) (inr c) =
-              no_letter s u sure.known none i c torn.at k.0.group (message.PathTear torn.tear) torn.came (sym (came_iface torn.at torn.tear.hop.addr x torn.hop) ∙ iface) (of_made k torn.tear.session torn.tear.sender torn.session torn.sender)
+              no_letter s u sure.known none i c torn.at k.0.group (message.PathTear torn.tear) torn.came (sym (came_iface torn.at torn.tear.hop.addr x torn.hop) ∙ iface)
+              (of_made k torn.tear.session torn.tear.sender torn.session torn.sender)
           by_reason (inr (inr clear)) (inl w) = let bad : Wait w.ms (word_for u.words at_to) ≡ Clear = sym w.is ∙ clear in absurd (cc)
           by_reason (inr (inr clear)) (inr c) = let bad : Came (iface_of u.net.ends c.item.end) c.item.dst c.item.arrival ≡ Clear = sym c.is ∙ clear in absurd (cc)
 
@@ -235,14 +244,17 @@ module _ (q : ℕ) (o : World) (valid : IsValid o.net) (k : SenderKey) (h : Link
       let p : NodeConfig = config_of q u.net u.trees at_from in
       let c : ℕ = u.clock + ms_of s in
       let i : ℕ = iface_of o.net.ends h.from in
-      let at : end_at u.net.ends at_from i ≡ Some h.from = subst (λ (z : Net). end_at z.ends at_from i ≡ Some h.from) (sym sure.known.same.net) ((interfaces_are_ends o.net).end_of_iface h.from (from_there o.net valid k.0.group k.1.addr h there)) in
+      let at : end_at u.net.ends at_from i ≡ Some h.from = subst (λ (z : Net). end_at z.ends at_from i ≡ Some h.from) (sym sure.known.same.net)
+      ((interfaces_are_ends o.net).end_of_iface h.from (from_there o.net valid k.0.group k.1.addr h there)) in
       let two = refresh_follows q s u at_from k.0 quiet r in
       let f = two.0 in
       let within = sure.known.bounds.facts at_from r.facts r.there in
       let after : slice_get (step q s u).nodes at_from ≡ Some (outcome q s u at_from r.facts).facts = facts_after_made q s u at_from r.facts r.there in
-      let known_then : has (known (facts_then p p c f.input r.facts) k.0) k.1 ≡ true = ap (λ (z : Outcome). has (known z.facts k.0) k.1) (sym f.is) ∙ sure'.said.knows (outcome q s u at_from r.facts).facts after in
+      let known_then : has (known (facts_then p p c f.input r.facts) k.0) k.1 ≡ true = ap (λ (z : Outcome). has (known z.facts k.0) k.1) (sym f.is)
+      ∙ sure'.said.knows (outcome q s u at_from r.facts).facts after in
       let out : goes_out p k.0 i k.1 ≡ true =
-      subst (λ (z : Net). goes_out (config_of q z u.trees at_from) k.0 i k.1 ≡ true) (sym sure.known.same.net) (goes_out_made q o.net u.trees at_from k.0 h.from k.1 (routed q o u k.0.group k.1.addr h sure.known there) leaves) in
+      subst (λ (z : Net). goes_out (config_of q z u.trees at_from) k.0 i k.1 ≡ true) (sym sure.known.same.net)
+      (goes_out_made q o.net u.trees at_from k.0 h.from k.1 (routed q o u k.0.group k.1.addr h sure.known there) leaves) in
       let less = iface_less q u.net u.trees at_from i h.from at in
       let offer = refreshes_are_marked.known_ones (node_step p p u.clock c f.input r.facts) within k.0 k.1 i two.1 known_then less out in
       let key : OfferKey = record { session = k.0; sender = k.1; iface = i } in
@@ -301,20 +313,25 @@ module _ (q : ℕ) (o : World) (valid : IsValid o.net) (k : SenderKey) (h : Link
   }
 
 -- ---- two rounds on it is kept, in worlds with the network of o
-pub said_from : (q : ℕ) (o : World) (valid : IsValid o.net) (k : SenderKey) (h : LinkHop) (v : PathValue) → In h (tree o.net.hops k.0.group k.1.addr) → is_group k.0.group ≡ true → (rs : List (List Step)) (w : World) → Rounds (machine q) rs w
+pub said_from : (q : ℕ) (o : World) (valid : IsValid o.net) (k : SenderKey) (h : LinkHop) (v : PathValue) → In h (tree o.net.hops k.0.group k.1.addr) → is_group k.0.group ≡ true
+    → (rs : List (List Step)) (w : World) → Rounds (machine q) rs w
     → Hold (machine q) 0 rs w (IsKnown q o) → Hold (machine q) 0 rs w (IsSaidPath q o.net k h v w.made) → Hold (machine q) 2 rs w (Stands (machine q) (soft_path q o k h.to) v)
 said_from q o valid k h v there group rs w calm known said =
     let first = hold_start (machine q) (IsKnown q o) rs w known in
     let firm : Hold (machine q) 0 rs w (IsFirm q o valid k h there group v w.made) =
-    hold_map (machine q) (λ u. (IsKnown q o u × IsSaidPath q o.net k h v w.made u) × AreFull q o w.made u) (IsFirm q o valid k h there group v w.made) (λ u g. record { known = g.0.0; said = g.0.1; full = g.1 }) 0 rs w
+    hold_map (machine q) (λ u. (IsKnown q o u × IsSaidPath q o.net k h v w.made u) × AreFull q o w.made u) (IsFirm q o valid k h there group v w.made)
+    (λ u g. record { known = g.0.0; said = g.0.1; full = g.1 }) 0 rs w
     (hold_both (machine q) (λ u. IsKnown q o u × IsSaidPath q o.net k h v w.made u) (AreFull q o w.made) 0 rs w
     (hold_both (machine q) (IsKnown q o) (IsSaidPath q o.net k h v w.made) 0 rs w known said)
     (hold_keep (machine q) (IsKnown q o) (AreFull q o w.made) (λ s u c a a' j. full_step q o w.made s u (quiet_of q s c) a j) rs w calm known
     (λ y m i born spelt. let old = (first.bounds.flight y i).born in absurd (omega arith)))) in
-    what_is_said_is_kept (machine q) (time_passes q) (items_are_numbered q) (line q o valid k h there group v w.made) (falls_due q o valid k h there group v w.made) v first.bounds.period rs w calm (moves q o valid k h there group v w.made)
-    (hold_map (machine q) (IsFirm q o valid k h there group v w.made) (Good (machine q) (line q o valid k h there group v w.made) v w.made) (λ u g. good q o valid k h there group v w.made u g) 0 rs w firm)
+    what_is_said_is_kept (machine q) (time_passes q) (items_are_numbered q) (line q o valid k h there group v w.made) (falls_due q o valid k h there group v w.made) v first.bounds.period rs w calm
+    (moves q o valid k h there group v w.made)
+    (hold_map (machine q) (IsFirm q o valid k h there group v w.made) (Good (machine q) (line q o valid k h there group v w.made) v w.made)
+    (λ u g. good q o valid k h there group v w.made u g) 0 rs w firm)
 
-pub said_paths_are_kept : (q : ℕ) (w : World) (k : SenderKey) (h : LinkHop) (v : PathValue) → In h (tree w.net.hops k.0.group k.1.addr) → is_group k.0.group ≡ true → (rs : List (List Step)) → Rounds (machine q) rs w → Hold (machine q) 0 rs w (AreBounds q)
+pub said_paths_are_kept : (q : ℕ) (w : World) (k : SenderKey) (h : LinkHop) (v : PathValue) → In h (tree w.net.hops k.0.group k.1.addr) → is_group k.0.group ≡ true → (rs : List (List Step))
+    → Rounds (machine q) rs w → Hold (machine q) 0 rs w (AreBounds q)
     → Hold (machine q) 0 rs w (IsSaidPath q w.net k h v w.made) → Hold (machine q) 2 rs w (Stands (machine q) (soft_path q w k h.to) v)
 said_paths_are_kept q w k h v there group rs calm bounds said =
     said_from q w (hold_start (machine q) (AreBounds q) rs w bounds).net k h v there group rs w calm (known_hold q w rs calm bounds) said

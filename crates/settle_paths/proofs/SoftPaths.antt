@@ -7,8 +7,8 @@ use Rattle.rsvp_base.specs.TokenBucket.{TokenBucket}
 use Rattle.rsvp_messages.specs.declared.message.Message.TheVariants as message
 use Rattle.rsvp_messages.specs.declared.message.PathMsg.{PathMsg}
 use Rattle.calm_rounds.specs.SoftStates.{KeepLaws}
-use Rattle.network_steps.specs.Sources.{IsLearnt}
-use Rattle.network_steps.proofs.Learning.{where_a_path_fact_comes_from}
+use Rattle.laws_network.specs.Sources.{IsLearnt}
+use Rattle.laws_network.proofs.Learning.{where_a_path_fact_comes_from}
 use Rattle.router_rules.specs.Facts.{Facts, SenderKey, PathState}
 use Rattle.router_rules.specs.Inputs.{Wait, Came, Spelt}
 use Rattle.router_rules.specs.Paths.{path_state}
@@ -23,8 +23,8 @@ use Rattle.network_model.proofs.Machines.{quiet_of}
 use Rattle.network_model.proofs.Quiet.{IsWaited, IsCame, FollowsRule, input_found, outcome_quiet}
 use Rattle.network_model.proofs.Stepping.{facts_after_found}
 use Rattle.settle_paths.specs.SoftPaths.{PathValue, value_of, path_at, by_iface, soft_path}
-use Rattle.network_steps.proofs.Due.{full_life}
-use Rattle.network_steps.proofs.Standing.{comes_in_told, inward_there, same_end}
+use Rattle.laws_network.proofs.Due.{full_life}
+use Rattle.laws_network.proofs.Standing.{comes_in_told, inward_there, same_end}
 use Rattle.router_rules.specs.Steps.{node_step}
 
 -- ---- look-up
@@ -42,7 +42,8 @@ pub iface_found : (i : ℕ) (o : Option PathState) (v : PathValue) (d : ℕ) →
 iface_found i None v d e = absurd (cc)
 iface_found i (Some x) v d e = by (x.iface == i) refl e
   where
-    by : (b : Bool) → (x.iface == i) ≡ b → ◌≡◌ {A = Option (PathValue × ℕ)} (cond b (Some (value_of x, x.dies)) None) (Some (v, d)) → (y : PathState) × (Some x ≡ Some y) × (y.iface ≡ i) × (v ≡ value_of y) × (d ≡ y.dies)
+    by : (b : Bool) → (x.iface == i) ≡ b → ◌≡◌ {A = Option (PathValue × ℕ)} (cond b (Some (value_of x, x.dies)) None) (Some (v, d))
+        → (y : PathState) × (Some x ≡ Some y) × (y.iface ≡ i) × (v ≡ value_of y) × (d ≡ y.dies)
     by true t h =
         let same : ◌≡◌ {A = PathValue × ℕ} (value_of x, x.dies) (v, d) = cc in
         (x, refl, same_number x.iface i t, sym (ap (λ (z : PathValue × ℕ). z.0) same), sym (ap (λ (z : PathValue × ℕ). z.1) same))
@@ -68,7 +69,8 @@ pub record IsBrought (q : ℕ) (net : Net) (s : Step) (u : World) (n : ℕ) (k :
   pub is : x ≡ path_state (config_of q net u.trees n) (u.clock + ms_of s) (iface_of net.ends item.end) path tspec
 
 module _ (q : ℕ) (s : Step) (u : World) (quiet : is_quiet s ≡ true) (bounds : AreBounds q u) where
-  brought : (n : ℕ) (f : Facts) (k : SenderKey) (x : PathState) (h : FollowsRule q s u n f (outcome q s u n f)) → IsLearnt (config_of q u.net u.trees n) (u.clock + ms_of s) h.input k x → IsBrought q u.net s u n k x
+  brought : (n : ℕ) (f : Facts) (k : SenderKey) (x : PathState) (h : FollowsRule q s u n f (outcome q s u n f)) → IsLearnt (config_of q u.net u.trees n) (u.clock + ms_of s) h.input k x
+      → IsBrought q u.net s u n k x
   brought n f k x h l =
       ⊎_elim
       (λ (t : IsWaited s u n h.input). let no : Wait t.ms (word_for u.words n) ≡ Came l.by.at k.0.group (Spelt (message.Path l.by.path)) = sym t.is ∙ l.by.came in absurd (cc))
@@ -109,7 +111,8 @@ module _ (q : ℕ) (s : Step) (u : World) (quiet : is_quiet s ≡ true) (bounds 
       ⊎_elim
       (λ (old : get f.0.paths k ≡ Some x). inl (path_made u n k x f.0 f.1 old))
       (λ (new : IsLearnt (config_of q u.net u.trees n) (u.clock + ms_of s) h.input k x). inr (brought n f.0 k x h new))
-      (where_a_path_fact_comes_from (node_step (config_of q u.net u.trees n) (config_of q u.net u.trees n) u.clock (u.clock + ms_of s) h.input f.0) (bounds.facts n f.0 f.1) k x (sym (ap (λ (o : Outcome). get o.facts.paths k) h.is) ∙ now)))
+      (where_a_path_fact_comes_from (node_step (config_of q u.net u.trees n) (config_of q u.net u.trees n) u.clock (u.clock + ms_of s) h.input f.0) (bounds.facts n f.0 f.1) k x
+      (sym (ap (λ (o : Outcome). get o.facts.paths k) h.is) ∙ now)))
       (outcome_quiet q s u n f.0 quiet)
 
 -- ---- how long it lives

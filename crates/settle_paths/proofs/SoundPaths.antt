@@ -31,12 +31,12 @@ use Rattle.network_model.specs.Sound.{IsSoundAt, ArePathsSound}
 use Rattle.network_model.specs.Steps.{Step, is_quiet, sent, step, machine}
 use Rattle.network_model.specs.Worlds.{Item, World}
 use Rattle.network_model.proofs.Machines.{quiet_of, time_passes, items_are_numbered, in_flight_after}
-use Rattle.network_steps.specs.Known.{IsSameNet, IsKnown}
-use Rattle.network_steps.proofs.Known.{of_some, known_hold}
+use Rattle.laws_network.specs.Known.{IsSameNet, IsKnown}
+use Rattle.laws_network.proofs.Known.{of_some, known_hold}
 use Rattle.settle_paths.specs.SoftPaths.{PathValue, value_of, path_at, SaysPath, soft_path}
 use Rattle.settle_paths.proofs.SoftPaths.{path_made, iface_made, path_keeps}
 use Rattle.settle_paths.proofs.PathSends.{IsPathSent, path_sent}
-use Rattle.network_steps.proofs.Standing.{end_of, inward_there}
+use Rattle.laws_network.proofs.Standing.{end_of, inward_there}
 
 -- a sender that is live in the one is so in the other
 pub live_again : (o u : World) (k : SenderKey) (t : TokenBucket) → IsSameNet o u → IsLive o k t → IsLive u k t
@@ -143,7 +143,8 @@ module _ (q : ℕ) (o : World) (valid : IsValid o.net) where
       let known : Hold (machine q) 0 rs w (IsKnown q o) = hold_map (machine q) (λ u. IsKnown q o u × Level d u) (IsKnown q o) (λ u h. h.0) 0 rs w both in
       hold_all (machine q) (λ (a : Spot (suc d)) u. SoundIn a.0 a.1 u) 5 rs w
       (λ a.
-      only_what_is_said_is_kept (machine q) (time_passes q) (items_are_numbered q) (soft_path q o a.0 a.1) (path_keeps q o a.0 a.1 a.2) (IsSoundAt o a.0 a.1) (λ v v0 b f. subst (IsSoundAt o a.0 a.1) (sym b) f) rs w calm known
+      only_what_is_said_is_kept (machine q) (time_passes q) (items_are_numbered q) (soft_path q o a.0 a.1) (path_keeps q o a.0 a.1 a.2) (IsSoundAt o a.0 a.1)
+      (λ v v0 b f. subst (IsSoundAt o a.0 a.1) (sym b) f) rs w calm known
       (hold_keep (machine q) (λ u. IsKnown q o u × Level d u) (SaysOnly (machine q) (soft_path q o a.0 a.1) (IsSoundAt o a.0 a.1) w.made)
       (λ s u quiet b b' j. says_step d w.made a.0 a.1 a.3 s u (quiet_of q s quiet) b b' j) rs w calm both
       (λ y v i born says. let old = ((hold_start (machine q) (IsKnown q o) rs w known).bounds.flight y i).born in absurd (omega arith))))
@@ -189,10 +190,12 @@ module _ (q : ℕ) (o : World) (valid : IsValid o.net) where
           end = b.0;
           at = subst (λ (z : Net). end_at z.ends n x.iface ≡ Some b.0) (sym a.same.net) b.1;
           sound = sound_again o u k b.0 (value_of x) a.same
-              ((level (k, b.0, b.2, deep)).0 (value_of x) x.dies (iface_made (iface_of o.net.ends b.0) (path_at u (node_of o.net.ends b.0) k) x (ap (λ (z : ℕ). path_at u z k) b.3 ∙ path_made u n k x f there h) (sym b.4)));
+              ((level (k, b.0, b.2, deep)).0 (value_of x) x.dies (iface_made (iface_of o.net.ends b.0) (path_at u (node_of o.net.ends b.0) k) x
+              (ap (λ (z : ℕ). path_at u z k) b.3 ∙ path_made u n k x f there h) (sym b.4)));
         };
     items = λ y m x t i spelt sender way.
-        let inside : inward o.net (node_of o.net.ends y.end) m.session.group x.addr ≡ Some y.end = subst (λ (z : Net). inward z (node_of z.ends y.end) m.session.group x.addr ≡ Some y.end) a.same.net way in
+        let inside : inward o.net (node_of o.net.ends y.end) m.session.group x.addr ≡ Some y.end =
+        subst (λ (z : Net). inward z (node_of z.ends y.end) m.session.group x.addr ≡ Some y.end) a.same.net way in
         let deep = (depth_and_rank_within_longest o.net valid).every m.session.group x.addr (node_of o.net.ends y.end) in
         sound_again o u (m.session, x) y.end (m.hop.addr, t) a.same
         ((level ((m.session, x), y.end, (inward_there o.net valid (node_of o.net.ends y.end) y.end m.session.group x.addr inside).0, deep)).1 y (m.hop.addr, t) i (omega arith)
@@ -207,11 +210,13 @@ paths_are_sound q w rs calm bounds =
     let k : ℕ = 4 + 5 * longest w.net in
     hold_map (machine q) (λ u. (IsKnown q w u × Level q w valid (longest w.net) u) × AreNamed q w valid 0 u) ArePathsSound (λ u h. all_sound q w valid u h.0.0 h.0.1 h.1) k rs w
     (hold_both (machine q) (λ u. IsKnown q w u × Level q w valid (longest w.net) u) (AreNamed q w valid 0) k rs w
-    (hold_both (machine q) (IsKnown q w) (Level q w valid (longest w.net)) k rs w (hold_later (machine q) (IsKnown q w) 0 k rs w (omega arith) known) (levels q w valid (longest w.net) rs w calm known))
+    (hold_both (machine q) (IsKnown q w) (Level q w valid (longest w.net)) k rs w (hold_later (machine q) (IsKnown q w) 0 k rs w (omega arith) known)
+    (levels q w valid (longest w.net) rs w calm known))
     (hold_later (machine q) (AreNamed q w valid 0) 1 k rs w (omega arith) (named q w valid rs w calm known)))
 
 -- ---- one hop of a Path: only what is said is kept
-pub only_said_paths_are_kept : (q : ℕ) (w : World) (k : SenderKey) (e : ℕ) → e < length w.net.ends → (allowed : PathValue → Bool) (rs : List (List Step)) → Rounds (machine q) rs w → Hold (machine q) 0 rs w (AreBounds q)
+pub only_said_paths_are_kept : (q : ℕ) (w : World) (k : SenderKey) (e : ℕ) → e < length w.net.ends → (allowed : PathValue → Bool) (rs : List (List Step)) → Rounds (machine q) rs w
+    → Hold (machine q) 0 rs w (AreBounds q)
     → Hold (machine q) 0 rs w (SaysOnly (machine q) (soft_path q w k e) (λ v. allowed v ≡ true) w.made)
     → Hold (machine q) 5 rs w (λ u. KeepsOnly (machine q) (soft_path q w k e) (λ v. allowed v ≡ true) u × SaysOnly (machine q) (soft_path q w k e) (λ v. allowed v ≡ true) 0 u)
 only_said_paths_are_kept q w k e lt allowed rs calm bounds says =

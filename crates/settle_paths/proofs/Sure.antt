@@ -24,7 +24,7 @@ use Rattle.router_rules.specs.Inputs.{Arrival, Spelt, Unspelt}
 use Rattle.network_model.specs.ThreeRouters.{s1, group, session, first, usual}
 use Rattle.router_rules.specs.NodeConfig.{is_addr}
 use Rattle.router_rules.specs.Sends.{same_flow}
-use Rattle.router_lookups.proofs.Tests.{addr_told, flow_told}
+use Rattle.laws_inputs.proofs.Tests.{addr_told, flow_told}
 use Rattle.tree_model.specs.Networks.{Net, node_of, end_at}
 use Rattle.tree_model.specs.Trees.{depth}
 use Rattle.tree_model.proofs.Depths.{depth_and_rank_within_longest}
@@ -32,18 +32,18 @@ use Rattle.tree_model.proofs.Following.{same_number}
 use Rattle.network_model.specs.Sound.{IsSoundAt, IsSoundPath, ArePathsSound}
 use Rattle.network_model.specs.Steps.{Step, machine}
 use Rattle.network_model.specs.Worlds.{Item, World}
-use Rattle.network_steps.specs.Example.{pair_net, sending_world}
-use Rattle.network_steps.specs.Known.{IsKnown}
-use Rattle.network_steps.specs.Rounds.{rounds_of}
+use Rattle.laws_network.specs.Example.{pair_net, sending_world}
+use Rattle.laws_network.specs.Known.{IsKnown}
+use Rattle.laws_network.specs.Rounds.{rounds_of}
 use Rattle.settle_paths.specs.Telling.{IsSure}
-use Rattle.network_steps.proofs.Calming.{calm_rounds}
+use Rattle.laws_network.proofs.Calming.{calm_rounds}
 use Rattle.settle_paths.proofs.Example.{a_pair_meets_the_premises}
-use Rattle.network_steps.proofs.Keeping.{calm_rounds_keep_bounds}
-use Rattle.network_steps.proofs.Known.{known_hold}
+use Rattle.laws_network.proofs.Keeping.{calm_rounds_keep_bounds}
+use Rattle.laws_network.proofs.Known.{known_hold}
 use Rattle.settle_paths.proofs.CompletePaths.{said_hold}
 use Rattle.settle_paths.proofs.SoundPaths.{sound_again}
 use Rattle.settle_paths.specs.Sure.{forth, IsSureOfPaths}
-use Rattle.network_steps.proofs.Computed.{Passes, in_rounds, through}
+use Rattle.laws_network.proofs.Computed.{Passes, in_rounds, through}
 
 abbrev key : SenderKey
 key = (session, first)
@@ -90,7 +90,8 @@ right_told k a t h =
     let addr : a ≡ s1 = addr_told a s1 y.0 in
     subst (λ (z : SenderKey × (Addr × TokenBucket)). IsSoundAt sending_world z.0 1 z.1) (λ i. (sym same i, (sym addr i, sym flow i))) sound
 
-module _ (u : World) (a : IsKnown 7500 sending_world u) (items : list_all is_right_item u.flight ≡ true) (at_0 : are_right_paths 0 (slice_get u.nodes 0) ≡ true) (at_1 : are_right_paths 1 (slice_get u.nodes 1) ≡ true) where
+module _ (u : World) (a : IsKnown 7500 sending_world u) (items : list_all is_right_item u.flight ≡ true) (at_0 : are_right_paths 0 (slice_get u.nodes 0) ≡ true)
+    (at_1 : are_right_paths 1 (slice_get u.nodes 1) ≡ true) where
   item_told : (y : Item) (m : PathMsg) → In y u.flight → y.arrival ≡ Spelt (message.Path m) → (y.end ≡ 1) × (is_right_sender m m.sender ≡ true)
   item_told y m i spelt =
       let both = and_both (y.end == 1) (is_right_sender m m.sender) (ap (is_right_arrival y.end) (sym spelt) ∙ all_in is_right_item u.flight items y i) in
@@ -159,6 +160,7 @@ a_pair_is_sure = record {
   deep = deep;
   rounds = calm_rounds 7500 2 sending_world;
   sure = sure;
-  said = said_hold 7500 sending_world a_pair_meets_the_premises.bounds.net a_pair_meets_the_premises.locals 0 key usual forth a_pair_meets_the_premises.live (inl refl) deep (rounds_of 7500 2 sending_world) sending_world (calm_rounds 7500 2 sending_world) sure;
+  said = said_hold 7500 sending_world a_pair_meets_the_premises.bounds.net a_pair_meets_the_premises.locals 0 key usual forth a_pair_meets_the_premises.live (inl refl) deep
+      (rounds_of 7500 2 sending_world) sending_world (calm_rounds 7500 2 sending_world) sure;
   not_yet = λ s. let none : None ≡ Some ((s1, usual), s.0) = s.1 in absurd (cc);
 }

@@ -12,8 +12,8 @@ use Rattle.network_model.specs.Runs.{Plan, first_facts, first_world}
 use Rattle.network_model.specs.Sound.{ArePathsComplete, ArePathsSound}
 use Rattle.network_model.specs.Steps.{machine}
 use Rattle.network_model.specs.Worlds.{World}
-use Rattle.network_steps.specs.Example.{pair_net, sending_world}
-use Rattle.network_steps.specs.Rounds.{rounds_of}
+use Rattle.laws_network.specs.Example.{pair_net, sending_world}
+use Rattle.laws_network.specs.Rounds.{rounds_of}
 
 pub record MeetsThePremises : Type 0 where
   pub bounds : AreBounds 7500 sending_world

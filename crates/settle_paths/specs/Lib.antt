@@ -8,4 +8,4 @@ pub use Rattle.network_model.specs.Bounds
 pub use Rattle.network_model.specs.Locals
 pub use Rattle.network_model.specs.Sound
 pub use Rattle.network_model.specs.Worlds
-pub use Rattle.network_steps.specs.Known
+pub use Rattle.laws_network.specs.Known

@@ -13,7 +13,7 @@ use Rattle.tree_model.specs.Networks.{Net, node_of, iface_of}
 use Rattle.tree_model.specs.Trees.{inward}
 use Rattle.network_model.specs.Steps.{Step, Track}
 use Rattle.network_model.specs.Worlds.{Item, World}
-use Rattle.network_steps.specs.Known.{IsKnown}
+use Rattle.laws_network.specs.Known.{IsKnown}
 
 -- a hop address and a flow
 abbrev pub PathValue : Type 0

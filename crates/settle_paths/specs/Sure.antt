@@ -12,8 +12,8 @@ use Rattle.rsvp_base.specs.Members.{In}
 use Rattle.network_model.specs.Bounds.{AreHosts}
 use Rattle.network_model.specs.Locals.{IsLive}
 use Rattle.network_model.specs.Steps.{machine}
-use Rattle.network_steps.specs.Example.{pair_net, sending_world}
-use Rattle.network_steps.specs.Rounds.{rounds_of}
+use Rattle.laws_network.specs.Example.{pair_net, sending_world}
+use Rattle.laws_network.specs.Rounds.{rounds_of}
 use Rattle.settle_paths.specs.SoftPaths.{soft_path}
 use Rattle.settle_paths.specs.Said.{IsSaidPath}
 use Rattle.settle_paths.specs.Telling.{IsSure}

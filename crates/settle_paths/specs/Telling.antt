@@ -18,7 +18,7 @@ use Rattle.network_model.specs.Locals.{IsLive}
 use Rattle.network_model.specs.Sound.{ArePathsSound}
 use Rattle.network_model.specs.Steps.{sender_of}
 use Rattle.network_model.specs.Worlds.{Item, World}
-use Rattle.network_steps.specs.Known.{IsKnown}
+use Rattle.laws_network.specs.Known.{IsKnown}
 use Rattle.settle_paths.specs.SoftPaths.{path_at, by_iface}
 
 -- ---- letters: Paths and PathTears of the key that come to the end

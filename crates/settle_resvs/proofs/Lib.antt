@@ -1,4 +1,21 @@
 pub mod SoftResvs
 pub mod Said
-pub mod Example
-pub use Rattle.network_steps.proofs as NetworkSteps
+pub mod HopExample
+pub mod Lists
+pub mod WantStyles
+pub mod GoalByIface
+pub mod UnderTheGoal
+pub mod TowardNames
+pub mod TowardWants
+pub mod ResvSends
+pub mod SoundResvs
+pub mod SoundUnits
+pub mod LeftOverExample
+pub mod Accepting
+pub mod Errors
+pub mod Blockades
+pub mod BlockadeExample
+pub mod TowardIsTheWant
+pub mod ExactResvs
+pub use Rattle.settle_paths.proofs.CompletePaths
+pub use Rattle.settle_paths.proofs.SoundPaths

@@ -38,15 +38,15 @@ use Rattle.router_rules.specs.NodeConfig.{NodeConfig, own, is_addr, is_session, 
 use Rattle.router_rules.specs.Requests.{toward, is_style}
 use Rattle.router_rules.specs.Rule.{Outcome}
 use Rattle.router_rules.specs.Sends.{resv_send}
-use Rattle.router_lookups.proofs.Asks.{style_told as ask_told}
-use Rattle.router_lookups.proofs.Knowing.{has-known, lanes_told, counted_made}
-use Rattle.router_lookups.proofs.Requesting.{nowhere}
-use Rattle.router_lookups.proofs.Tests.{ties, addr_told, addr_tested, session_told, style_told}
+use Rattle.laws_inputs.proofs.Asks.{style_told as ask_told}
+use Rattle.laws_inputs.proofs.Knowing.{has-known, lanes_told, counted_made}
+use Rattle.laws_inputs.proofs.Requesting.{nowhere}
+use Rattle.laws_inputs.proofs.Tests.{ties, addr_told, addr_tested, session_told, style_told}
 use Rattle.router_rules.specs.Steps.{facts_then, node_step}
-use Rattle.network_steps.proofs.Speaking.{refreshes_are_marked}
-use Rattle.router_resvs.specs.ReservationLaws.{TakesName, Touches, TouchesBy}
-use Rattle.router_resvs.proofs.Asking.{what_keeps_a_reservation_fact}
-use Rattle.router_resvs.proofs.Hopward.{what_a_resv_sent_says}
+use Rattle.laws_network.proofs.Speaking.{refreshes_are_marked}
+use Rattle.laws_steps.specs.ReservationLaws.{TakesName, Touches, TouchesBy}
+use Rattle.laws_steps.proofs.Asking.{what_keeps_a_reservation_fact}
+use Rattle.laws_steps.proofs.Hopward.{what_a_resv_sent_says}
 use Rattle.tree_model.specs.Networks.{Net, node_of, end_at, iface_of, peers}
 use Rattle.tree_model.specs.Trees.{hops_of}
 use Rattle.tree_model.specs.Valid.{IsValid}
@@ -56,18 +56,19 @@ use Rattle.tree_model.proofs.Links.{back_linked}
 use Rattle.network_model.specs.Bounds.{AreBounds}
 use Rattle.network_model.specs.Laws.{config_in}
 use Rattle.network_model.specs.Links.{is_group, goes_to, copy_to}
-use Rattle.network_model.specs.Steps.{Step, Track, OfSender, OfStyle, goes_back, is_quiet, serves, serves_key, ms_of, arrived, input_at, outcome, still, track, arrival_track, path_track, sender_of, sent, step, machine}
+use Rattle.network_model.specs.Steps.{Step, Track, OfSender, OfStyle, goes_back, is_quiet, serves, serves_key, ms_of, arrived, input_at, outcome, still, track, arrival_track, path_track}
+use Rattle.network_model.specs.Steps.{sender_of, sent, step, machine}
 use Rattle.network_model.specs.Worlds.{Item, World, config_of}
 use Rattle.network_model.proofs.Changing.{where_a_send_goes}
 use Rattle.network_model.proofs.Machines.{quiet_of, time_passes, items_are_numbered, in_flight_after, in_arrived}
 use Rattle.network_model.proofs.Quiet.{IsWaited, IsCame, FollowsRule, input_found, arrival_takes_no_time, net_quiet, outcome_by, outcome_quiet}
 use Rattle.network_model.proofs.Stepping.{copies_made, facts_after_made, sent_made}
-use Rattle.network_steps.specs.Known.{IsKnown}
-use Rattle.network_steps.specs.Refreshes.{due_at, Refreshes}
-use Rattle.network_steps.proofs.Due.{full_life, due_found, due_made, due_moves, refresh_follows}
-use Rattle.network_steps.proofs.Known.{of_some, has_some, or_true, known_hold, node_there, end_found, came_there}
-use Rattle.network_steps.proofs.Sends.{sent_by_rule}
-use Rattle.network_steps.proofs.Standing.{own_end, peer_there, linked_there}
+use Rattle.laws_network.specs.Known.{IsKnown}
+use Rattle.laws_network.specs.Refreshes.{due_at, Refreshes}
+use Rattle.laws_network.proofs.Due.{full_life, due_found, due_made, due_moves, refresh_follows}
+use Rattle.laws_network.proofs.Known.{of_some, has_some, or_true, known_hold, node_there, end_found, came_there}
+use Rattle.laws_network.proofs.Sends.{sent_by_rule}
+use Rattle.laws_network.proofs.Standing.{own_end, peer_there, linked_there}
 use Rattle.settle_resvs.specs.SoftResvs.{SaysResv, IsCut, line_key_of, resv_at, kept_of, kept_at, soft_resv}
 use Rattle.settle_resvs.specs.Said.{HopKey, hop_over, IsOver, IsSaid, lane_of, resv_key}
 use Rattle.settle_resvs.proofs.SoftResvs.{resv_found, resv_made, kept_found}
@@ -101,7 +102,12 @@ spares_told m v all t =
 spares_made : (m : ResvTearMsg) (v : Part) → (TakesName m v → ⊥) → spares_all m v ≡ true
 spares_made m v spared =
     in_all (λ (e : Sender × Unit {0}). stays (tear_names m.tear) e.0) v.senders.rows
-    (λ e i. either (stays (tear_names m.tear) e.0) (λ t. t) (λ goes. absurd (spared (record { name = e.0; was = ap (λ (o : Option (Unit {0})). is_some o) (in_found senders v.senders e.0 e.1 i); goes = goes }))))
+    (λ e i. either (stays (tear_names m.tear) e.0) (λ t. t) (λ goes. absurd (spared (record {
+      name = e.0;
+      was = ap (λ (o : Option (Unit {0})). is_some o)
+          (in_found senders v.senders e.0 e.1 i);
+      goes = goes;
+    }))))
 
 speaks_told : (net : Net) (k : HopKey) (y : Item) (s : Session) (a : Addr) (st : StyleKind) → y.end ≡ k.to → speaks net k s a st ≡ true → IsOver net k y s a st
 speaks_told net k y s a st end e =
@@ -212,7 +218,8 @@ module _ (q : ℕ) (o : World) (k : HopKey) (valid : IsValid o.net) (there : In 
       by (Unspelt f) a end h = absurd (cc)
 
   -- ---- what is said and arrives is taken
-  takes : (s : Step) (u : World) (y : Item) → is_quiet s ≡ true → IsFirm u → arrived s u ≡ Some y → b ≤ y.born → SaysResv o.net (resv_key o.net k) y v → life_of q y.arrival ≡ 21 * q → kept_at o.net (resv_key o.net k) (step q s u) ≡ Some (v, u.clock + 21 * q)
+  takes : (s : Step) (u : World) (y : Item) → is_quiet s ≡ true → IsFirm u → arrived s u ≡ Some y → b ≤ y.born → SaysResv o.net (resv_key o.net k) y v → life_of q y.arrival ≡ 21 * q
+      → kept_at o.net (resv_key o.net k) (step q s u) ≡ Some (v, u.clock + 21 * q)
   takes s u y quiet g arr born says life =
       let f = node_there q o valid u k.to g.known lt in
       let p : NodeConfig = config_of q u.net u.trees at_to in
@@ -220,9 +227,11 @@ module _ (q : ℕ) (o : World) (k : HopKey) (valid : IsValid o.net) (there : In 
       let came : input_at s u at_to ≡ Some input = came_there q o u g.known k.to lt s y arr says.end ∙ (λ i. Some (Came (iface_of o.net.ends k.to) y.dst (says.spelt i))) in
       let taken = g.said.taken y (in_arrived s u y arr) born says f.0 f.1 in
       let ms : u.clock + ms_of s ≡ u.clock = (let e = arrival_takes_no_time s u y arr in omega arith) in
-      let same : (outcome q s u at_to f.0).facts ≡ facts_then p p u.clock input f.0 = ap (λ (z : Outcome). z.facts) (outcome_by q s u at_to f.0 input quiet came) ∙ (λ i. facts_then p p (ms i) input f.0) in
+      let same : (outcome q s u at_to f.0).facts ≡ facts_then p p u.clock input f.0 = ap (λ (z : Outcome). z.facts) (outcome_by q s u at_to f.0 input quiet came)
+      ∙ (λ i. facts_then p p (ms i) input f.0) in
       let after : slice_get (step q s u).nodes at_to ≡ Some (outcome q s u at_to f.0).facts = facts_after_made q s u at_to f.0 f.1 in
-      let kept : resv_at (step q s u) at_to k.style key ≡ Some taken.0 = resv_made (step q s u) at_to k.style key (outcome q s u at_to f.0).facts after ∙ ap (λ (z : Facts). get (resvs_of k.style z) key) same ∙ taken.1 in
+      let kept : resv_at (step q s u) at_to k.style key ≡ Some taken.0 = resv_made (step q s u) at_to k.style key (outcome q s u at_to f.0).facts after
+      ∙ ap (λ (z : Facts). get (resvs_of k.style z) key) same ∙ taken.1 in
       let full : lifetime p says.resv.period ≡ 21 * q = ap (life_of q) (sym says.spelt) ∙ life in
       let dies : taken.0.dies ≡ u.clock + 21 * q = taken.3 ∙ ap (λ (z : ℕ). u.clock + z) full in
       ap (option_map kept_of) kept ∙ (λ i. Some (taken.2 i, dies i))
@@ -249,7 +258,8 @@ module _ (q : ℕ) (o : World) (k : HopKey) (valid : IsValid o.net) (there : In 
   serves_it : (u : World) → IsFirm u → serves u over ≡ true
   serves_it u g =
       subst (λ (z : Net). serves_key z over over.key ≡ true) (sym g.known.same.net)
-      (any_in (goes_back o.net over) (hop_over k) (hops_of o.net.hops k.session.group) there (and_made _ _ (number_same k.to k.to refl) (addr_tested (addr_of o.net k.from) (addr_of o.net k.from) refl)))
+      (any_in (goes_back o.net over) (hop_over k) (hops_of o.net.hops k.session.group) there
+      (and_made _ _ (number_same k.to k.to refl) (addr_tested (addr_of o.net k.from) (addr_of o.net k.from) refl)))
 
   good : (u : World) → IsFirm u → Good (machine q) line v b u
   good u g = record {
@@ -261,7 +271,8 @@ module _ (q : ℕ) (o : World) (k : HopKey) (valid : IsValid o.net) (there : In 
   }
 
   -- ---- where no letter arrives it stays until it dies
-  untouched : (s : Step) (u : World) → IsKnown q o u → ((y : Item) → arrived s u ≡ Some y → is_letter o.net k v y ≡ false) → is_quiet s ≡ true → (r : ResvState) → r.part ≡ v → (i : Input) → IsWaited s u at_to i ⊎ IsCame s u at_to i → Touches i k.style key r → ⊥
+  untouched : (s : Step) (u : World) → IsKnown q o u → ((y : Item) → arrived s u ≡ Some y → is_letter o.net k v y ≡ false) → is_quiet s ≡ true → (r : ResvState) → r.part ≡ v → (i : Input)
+      → IsWaited s u at_to i ⊎ IsCame s u at_to i → Touches i k.style key r → ⊥
   untouched s u a none quiet r part i (inl w) t = subst (λ (z : Input). Touches z k.style key r) w.is t
   untouched s u a none quiet r part i (inr c) t = by c.item.arrival refl
     where
@@ -292,7 +303,8 @@ module _ (q : ℕ) (o : World) (k : HopKey) (valid : IsValid o.net) (there : In 
       by (Spelt m) e = by_message m e (touched (Spelt m) e)
       by (Unspelt f) e = touched (Unspelt f) e
 
-  rests : (s : Step) (u : World) (dies : ℕ) → is_quiet s ≡ true → IsFirm u → IsFirm (step q s u) → ((y : Item) → arrived s u ≡ Some y → is_letter o.net k v y ≡ false) → kept_at o.net (resv_key o.net k) u ≡ Some (v, dies) → (step q s u).clock < dies → kept_at o.net (resv_key o.net k) (step q s u) ≡ Some (v, dies)
+  rests : (s : Step) (u : World) (dies : ℕ) → is_quiet s ≡ true → IsFirm u → IsFirm (step q s u) → ((y : Item) → arrived s u ≡ Some y → is_letter o.net k v y ≡ false)
+      → kept_at o.net (resv_key o.net k) u ≡ Some (v, dies) → (step q s u).clock < dies → kept_at o.net (resv_key o.net k) (step q s u) ≡ Some (v, dies)
   rests s u dies quiet g g' none kept later =
       let x = kept_found (resv_at u at_to k.style key) v dies kept in
       let f = resv_found u at_to k.style key x.0 x.1 in
@@ -307,10 +319,12 @@ module _ (q : ℕ) (o : World) (k : HopKey) (valid : IsValid o.net) (there : In 
       let same : (outcome q s u at_to f.0).facts ≡ facts_then p p c r.input f.0 = ap (λ (z : Outcome). z.facts) r.is in
       let lives : c < x.0.dies = omega (arith, later, x.3) in
       let all : (name : Sender) → has x.0.part.senders name ≡ true → has (named_as k.style (known (facts_then p p c r.input f.0) k.session)) name ≡ true =
-      (λ name has_it. ap (λ (z : Facts). has (named_as k.style (known z k.session)) name) (sym same) ∙ g'.said.known (outcome q s u at_to f.0).facts after name (ap (λ (z : Part). has z.senders name) x.2 ∙ has_it)) in
+      (λ name has_it. ap (λ (z : Facts). has (named_as k.style (known z k.session)) name) (sym same)
+      ∙ g'.said.known (outcome q s u at_to f.0).facts after name (ap (λ (z : Part). has z.senders name) x.2 ∙ has_it)) in
       ends
       (ap (λ (z : Facts). get (resvs_of k.style z) key) same
-      ∙ what_keeps_a_reservation_fact.whole (node_step p p u.clock c r.input f.0) (g.known.bounds.facts at_to f.0 f.1) k.style key x.0 f.2 lives (untouched s u g.known none quiet x.0 (sym x.2) r.input (input_found s u at_to r.input quiet r.came)) all))
+      ∙ what_keeps_a_reservation_fact.whole (node_step p p u.clock c r.input f.0) (g.known.bounds.facts at_to f.0 f.1) k.style key x.0 f.2 lives
+      (untouched s u g.known none quiet x.0 (sym x.2) r.input (input_found s u at_to r.input quiet r.came)) all))
       (outcome_quiet q s u at_to f.0 quiet)
 
   -- ---- the refresh of the hop
@@ -345,9 +359,13 @@ module _ (q : ℕ) (o : World) (k : HopKey) (valid : IsValid o.net) (there : In 
       let send : Send = resv_send p (facts_then p p c f.input r.facts) l refresh.0 true ask.0 in
       let sends : In send (outcome q s u at_from r.facts).sent = subst (λ (z : Outcome). In send z.sent) (sym f.is) refresh.1 in
       let made = copies_made u.net u.made at_from (outcome q s u at_from r.facts).sent send k.to sends (goes u g.known (end_at u.net.ends at_from (iface_of o.net.ends k.from)) at) in
-      let own_is : own p (iface_of o.net.ends k.from) ≡ addr_of o.net k.from = own_end q u.net u.trees at_from (iface_of o.net.ends k.from) k.from at ∙ ap (λ (z : Net). addr_of z k.from) g.known.same.net in
-      let style_is : ask_style ask.0 ≡ k.style = ask_told l.style (toward p (facts_then p p c f.input r.facts) l) ask.0 asks in
-      ((copy_to u.made send k.to).0, sent_made q s u at_from r.facts (copy_to u.made send k.to) r.there made, (λ i. Some (record { from = own_is i; to = k.to; session = k.session; key = OfStyle (style_is i) })))
+      let own_is : own p (iface_of o.net.ends k.from) ≡ addr_of o.net k.from = own_end q u.net u.trees at_from (iface_of o.net.ends k.from) k.from at
+      ∙ ap (λ (z : Net). addr_of z k.from) g.known.same.net in
+      let style_is : ask_style ask.0 ≡ k.style = ask_told l.style (toward p (facts_then p p c f.input r.facts) l) ask.0 asks in (
+        (copy_to u.made send k.to).0,
+        sent_made q s u at_from r.facts (copy_to u.made send k.to) r.there made,
+        (λ i. Some (record { from = own_is i; to = k.to; session = k.session; key = OfStyle (style_is i) })),
+      )
 
   -- what goes on the track is a letter
   on_track : (y : Item) → track y ≡ Some over → is_letter o.net k v y ≡ true
@@ -389,15 +407,18 @@ module _ (q : ℕ) (o : World) (k : HopKey) (valid : IsValid o.net) (there : In 
     due_room = λ u t a e. let f = due_found u at_from k.session t e in let r = (a.known.bounds.facts at_from f.0 f.1).due.moment k.session t f.2 in (r.later, r.soon);
   }
 
-pub said_resvs_are_kept : (q : ℕ) (w : World) (k : HopKey) (v : Part) → In (hop_over k) (hops_of w.net.hops k.session.group) → (rs : List (List Step)) → Rounds (machine q) rs w → Hold (machine q) 0 rs w (AreBounds q)
+pub said_resvs_are_kept : (q : ℕ) (w : World) (k : HopKey) (v : Part) → In (hop_over k) (hops_of w.net.hops k.session.group) → (rs : List (List Step)) → Rounds (machine q) rs w
+    → Hold (machine q) 0 rs w (AreBounds q)
     → Hold (machine q) 0 rs w (IsSaid q w.net k v w.made) → Hold (machine q) 2 rs w (Stands (machine q) (soft_resv q w (resv_key w.net k)) v)
 said_resvs_are_kept q w k v there rs calm bounds said =
     let first : AreBounds q w = hold_start (machine q) (AreBounds q) rs w bounds in
     let firm : Hold (machine q) 0 rs w (IsFirm q w k first.net there v w.made) =
-    hold_map (machine q) (λ u. (IsKnown q w u × IsSaid q w.net k v w.made u) × AreFull q w.made u) (IsFirm q w k first.net there v w.made) (λ u g. record { known = g.0.0; said = g.0.1; full = g.1 }) 0 rs w
+    hold_map (machine q) (λ u. (IsKnown q w u × IsSaid q w.net k v w.made u) × AreFull q w.made u) (IsFirm q w k first.net there v w.made)
+    (λ u g. record { known = g.0.0; said = g.0.1; full = g.1 }) 0 rs w
     (hold_both (machine q) (λ u. IsKnown q w u × IsSaid q w.net k v w.made u) (AreFull q w.made) 0 rs w
     (hold_both (machine q) (IsKnown q w) (IsSaid q w.net k v w.made) 0 rs w (known_hold q w rs calm bounds) said)
     (hold_keep (machine q) (AreBounds q) (AreFull q w.made) (λ s u c a a' j. full_step q w.made s u (quiet_of q s c) a j) rs w calm bounds
     (λ y m i born spelt. let old = (first.flight y i).born in absurd (omega arith)))) in
-    what_is_said_is_kept (machine q) (time_passes q) (items_are_numbered q) (line q w k first.net there v w.made) (falls_due q w k first.net there v w.made) v first.period rs w calm (moves q w k first.net there v w.made)
+    what_is_said_is_kept (machine q) (time_passes q) (items_are_numbered q) (line q w k first.net there v w.made) (falls_due q w k first.net there v w.made) v first.period rs w calm
+    (moves q w k first.net there v w.made)
     (hold_map (machine q) (IsFirm q w k first.net there v w.made) (Good (machine q) (line q w k first.net there v w.made) v w.made) (λ u g. good q w k first.net there v w.made u g) 0 rs w firm)

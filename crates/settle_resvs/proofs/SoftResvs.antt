@@ -21,8 +21,8 @@ use Rattle.router_rules.specs.Inputs.{Wait, Came, Spelt}
 use Rattle.router_rules.specs.NodeConfig.{own}
 use Rattle.router_rules.specs.Rule.{Outcome}
 use Rattle.router_rules.specs.Steps.{IsLeftOf, node_step}
-use Rattle.router_resvs.specs.ReservationLaws.{IsAskedFor, IsListed}
-use Rattle.router_resvs.proofs.Asking.{where_a_reservation_fact_comes_from}
+use Rattle.laws_steps.specs.ReservationLaws.{IsAskedFor, IsListed}
+use Rattle.laws_steps.proofs.Asking.{where_a_reservation_fact_comes_from}
 use Rattle.tree_model.specs.Networks.{Net, node_of, end_at, iface_of}
 use Rattle.tree_model.proofs.Ifaces.{interfaces_are_ends}
 use Rattle.network_model.specs.Bounds.{AreBounds}
@@ -31,17 +31,18 @@ use Rattle.network_model.specs.Worlds.{Item, World, config_of}
 use Rattle.network_model.proofs.Machines.{quiet_of, time_passes, items_are_numbered}
 use Rattle.network_model.proofs.Quiet.{IsWaited, IsCame, FollowsRule, input_found, outcome_quiet}
 use Rattle.network_model.proofs.Stepping.{facts_after_found}
-use Rattle.network_steps.specs.Known.{IsKnown}
-use Rattle.network_steps.proofs.Due.{full_life}
-use Rattle.network_steps.proofs.Known.{known_hold, end_found}
-use Rattle.network_steps.proofs.Standing.{own_end}
+use Rattle.laws_network.specs.Known.{IsKnown}
+use Rattle.laws_network.proofs.Due.{full_life}
+use Rattle.laws_network.proofs.Known.{known_hold, end_found}
+use Rattle.laws_network.proofs.Standing.{own_end}
 use Rattle.settle_resvs.specs.SoftResvs.{ResvKey, IsCut, AsksFor, SaysResv, line_key_of, resv_at, kept_of, soft_resv}
 
 -- ---- look-up
 pub resv_found : (u : World) (n : ℕ) (st : StyleKind) (key : LineKey) (r : ResvState) → resv_at u n st key ≡ Some r → (f : Facts) × (slice_get u.nodes n ≡ Some f) × (get (resvs_of st f) key ≡ Some r)
 resv_found u n st key r e = by (slice_get u.nodes n) refl e
   where
-    by : (o : Option Facts) → slice_get u.nodes n ≡ o → option_and_then (λ (f : Facts). get (resvs_of st f) key) o ≡ Some r → (f : Facts) × (slice_get u.nodes n ≡ Some f) × (get (resvs_of st f) key ≡ Some r)
+    by : (o : Option Facts) → slice_get u.nodes n ≡ o → option_and_then (λ (f : Facts). get (resvs_of st f) key) o ≡ Some r
+        → (f : Facts) × (slice_get u.nodes n ≡ Some f) × (get (resvs_of st f) key ≡ Some r)
     by None t h = absurd (cc)
     by (Some f) t h = (f, t, h)
 
@@ -129,7 +130,8 @@ module _ (q : ℕ) (o : World) (k : ResvKey) (lt : k.to < length o.net.ends) (s 
       ⊎_elim
       (λ (old : (r : ResvState) × (get (resvs_of k.style f.0) key ≡ Some r) × IsLeftOf r x). inl (record { resv = old.0; there = there ∙ old.1; left = old.2 }))
       (λ (new : IsAskedFor (config_of q u.net u.trees n) (u.clock + ms_of s) h.input f.0 k.style key x). inr (asked f.0 x h new))
-      (where_a_reservation_fact_comes_from (node_step (config_of q u.net u.trees n) (config_of q u.net u.trees n) u.clock (u.clock + ms_of s) h.input f.0) (a.bounds.facts n f.0 f.1) k.style key x (sym (ap (λ (z : Outcome). get (resvs_of k.style z.facts) key) h.is) ∙ now)))
+      (where_a_reservation_fact_comes_from (node_step (config_of q u.net u.trees n) (config_of q u.net u.trees n) u.clock (u.clock + ms_of s) h.input f.0) (a.bounds.facts n f.0 f.1) k.style key x
+      (sym (ap (λ (z : Outcome). get (resvs_of k.style z.facts) key) h.is) ∙ now)))
       (outcome_quiet q s u n f.0 quiet)
 
 -- ---- how long it lives
@@ -161,7 +163,8 @@ resv_keeps q w k lt = record {
 }
 
 -- ---- only what is said is kept
-pub only_resvs_as_claimed_are_kept : (q : ℕ) (w : World) (k : ResvKey) → k.to < length w.net.ends → (claim : Part → Type 0) → IsClosed IsCut claim → (rs : List (List Step)) → Rounds (machine q) rs w → Hold (machine q) 0 rs w (AreBounds q)
+pub only_resvs_as_claimed_are_kept : (q : ℕ) (w : World) (k : ResvKey) → k.to < length w.net.ends → (claim : Part → Type 0) → IsClosed IsCut claim → (rs : List (List Step)) → Rounds (machine q) rs w
+    → Hold (machine q) 0 rs w (AreBounds q)
     → Hold (machine q) 0 rs w (SaysOnly (machine q) (soft_resv q w k) claim w.made)
     → Hold (machine q) 5 rs w (λ u. KeepsOnly (machine q) (soft_resv q w k) claim u × SaysOnly (machine q) (soft_resv q w k) claim 0 u)
 only_resvs_as_claimed_are_kept q w k lt claim cuts rs calm bounds says =

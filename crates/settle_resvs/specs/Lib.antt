@@ -1,4 +1,10 @@
 pub mod SoftResvs
 pub mod Said
-pub mod Example
-pub use Rattle.network_steps.specs as NetworkSteps
+pub mod HopExample
+pub mod GoalByIface
+pub mod Laws
+pub mod Below
+pub mod LeftOverExample
+pub mod BlockadeExample
+pub mod Toward
+pub use Rattle.settle_paths.specs.Example

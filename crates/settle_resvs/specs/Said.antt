@@ -25,7 +25,7 @@ use Rattle.tree_model.specs.declared.hops.LinkHop.{LinkHop}
 use Rattle.tree_model.specs.Networks.{Net, node_of, iface_of}
 use Rattle.network_model.specs.Laws.{config_in}
 use Rattle.network_model.specs.Worlds.{Item, World}
-use Rattle.router_resvs.specs.ReservationLaws.{TakesName}
+use Rattle.laws_steps.specs.ReservationLaws.{TakesName}
 use Rattle.settle_resvs.specs.SoftResvs.{ResvKey, SaysResv, line_key_of}
 
 -- ---- a session, style and unit over a hop, from the end that asks to the end that keeps

@@ -22,7 +22,7 @@ use Rattle.router_rules.specs.Inputs.{Spelt}
 use Rattle.tree_model.specs.Networks.{Net, node_of, iface_of}
 use Rattle.network_model.specs.Steps.{Step, Track}
 use Rattle.network_model.specs.Worlds.{Item, World}
-use Rattle.network_steps.specs.Known.{IsKnown}
+use Rattle.laws_network.specs.Known.{IsKnown}
 
 -- ---- a session, style and unit, from the next hop that asks to the end that keeps. Whether an end has the address of the next
 -- hop is left open: what is left over may name any

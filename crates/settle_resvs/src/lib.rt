@@ -1,9 +1,12 @@
-//! Laws of one hop of a network: what a node keeps of the reservations that come over the hop, after so many calm rounds.
+//! Laws: the reservations of a network settle. From any start, on sound and complete paths and with demands that fit, they become
+//! exactly the wants, by the longest chain of hops (RFC 2205, 2.2, 2.3, 3.1.4 and 3.5).
 //!
-//! A reservation goes against a sender's tree, from the node behind the hop to the node before it (RFC 2205, 3.1.4). Over one
-//! hop it is refreshed in each round (RFC 2205, 2.3 and 3.7). What is kept of a session, style and unit is then what is said,
-//! and nothing else. Definitions stand in `specs/`, and each public function of `laws` has an empty body and a law as its
-//! promise.
+//! In the order of the proof: `hops`, what stays over one hop; `goals`, what a node is asked to hold; `soundness`, never more than is
+//! wanted; `acceptance`, all is taken, so errors and blockades go; `exactness`. Definitions stand in `specs/`.
 #![tactic(auto)]
 
-pub mod laws;
+pub mod acceptance;
+pub mod exactness;
+pub mod goals;
+pub mod hops;
+pub mod soundness;

@@ -1,3 +1,5 @@
+pub mod Moves
+pub mod Opens
 pub mod Slots
 pub mod Turns
 pub mod Passing

@@ -33,10 +33,12 @@ live_filed clock soonest v m home lt passed = (λ le. absurd (omega (arith, le, 
 
 -- a live slot may stand in the list of its moment
 pub live_put : {T : Type 0} (clock soonest home m : ℕ) (e : Entry T) (v : T) → e.value ≡ Some v → e.moment ≡ m → clock < m → soonest ≤ m → home ≡ wheel_list m → IsFiled clock soonest e home
-live_put clock soonest home m e v has at lt sooner home_is = subst (λ o. MayStand clock soonest o e.moment home) (sym has) (live_filed clock soonest v e.moment home (omega (arith, lt, at)) (m, sooner, omega (arith, at), home_is))
+live_put clock soonest home m e v has at lt sooner home_is = subst (λ o. MayStand clock soonest o e.moment home) (sym has)
+    (live_filed clock soonest v e.moment home (omega (arith, lt, at)) (m, sooner, omega (arith, at), home_is))
 
 -- and may stay in its list where its moment comes no earlier than before
-pub live_stays : {T : Type 0} (clock soonest home : ℕ) (e f : Entry T) (v w : T) → e.value ≡ Some v → f.value ≡ Some w → clock < e.moment → e.moment ≤ f.moment → IsFiled clock soonest e home → IsFiled clock soonest f home
+pub live_stays : {T : Type 0} (clock soonest home : ℕ) (e f : Entry T) (v w : T) → e.value ≡ Some v → f.value ≡ Some w → clock < e.moment → e.moment ≤ f.moment → IsFiled clock soonest e home
+    → IsFiled clock soonest f home
 live_stays clock soonest home e f v w has has_f lt le stands =
     let passed = (subst (λ o. MayStand clock soonest o e.moment home) has stands).1 lt in
     subst (λ o. MayStand clock soonest o f.moment home) (sym has_f) (live_filed clock soonest w f.moment home (omega (arith, lt, le)) (passed.0, passed.1, omega (arith, passed.2, le), passed.3))
@@ -55,7 +57,8 @@ not_aside clock soonest (Some v) m stands =
     ]
 
 -- the list of a time that passes is one of those gone through
-pub in_reach : (clock now first more time : ℕ) → first ≡ clock / 1024 → more ≡ min (now / 1024 - first) 255 → clock ≤ time → time / 1024 ≤ now / 1024 → (j : ℕ) × (j < more + 1) × (time / 1024 % 256 ≡ (first + j) % 256)
+pub in_reach : (clock now first more time : ℕ) → first ≡ clock / 1024 → more ≡ min (now / 1024 - first) 255 → clock ≤ time → time / 1024 ≤ now / 1024
+    → (j : ℕ) × (j < more + 1) × (time / 1024 % 256 ≡ (first + j) % 256)
 in_reach clock now first more time first_is more_is after high =
     let j : ℕ = (time / 1024 - first) % 256 in
     let low : first ≤ time / 1024 = omega (arith, first_is, after) in
@@ -130,7 +133,8 @@ module _ {T : Type 0} (es : List (Entry T)) (clock now first : ℕ) where
       }
 
   -- a slot whose list was not gone through may stand in it now
-  stays : (more : ℕ) → first ≡ clock / 1024 → more ≡ min (now / 1024 - first) 255 → clock ≤ now → (o : Option T) (m h : ℕ) → MayStand clock clock o m h → ((j : ℕ) → j < more + 1 → h ≡ 3 + (first + j) % 256 → ⊥) → MayStand now now o m h
+  stays : (more : ℕ) → first ≡ clock / 1024 → more ≡ min (now / 1024 - first) 255 → clock ≤ now → (o : Option T) (m h : ℕ) → MayStand clock clock o m h
+      → ((j : ℕ) → j < more + 1 → h ≡ 3 + (first + j) % 256 → ⊥) → MayStand now now o m h
   stays more first_is more_is order None m h stood out = stood
   stays more first_is more_is order (Some v) m h stood out =
       elim (cases_lt clock m) [
@@ -180,7 +184,8 @@ module _ {T : Type 0} (clock soonest : ℕ) where
   stands_later more (Some v) m h later stands = (stands.0, λ lt. let passed = stands.1 lt in (passed.0, later passed.0 passed.3 passed.1, passed.2, passed.3))
 
   -- it may be taken later where no slot stands in a list of a time before
-  pub filed_later : (more : ℕ) (es : List (Entry T)) (homes : List ℕ) → ((i time : ℕ) → slice_get homes i ≡ Some (wheel_list time) → soonest ≤ time → more ≤ time) → AreFiled clock soonest es homes → AreFiled clock more es homes
+  pub filed_later : (more : ℕ) (es : List (Entry T)) (homes : List ℕ) → ((i time : ℕ) → slice_get homes i ≡ Some (wheel_list time) → soonest ≤ time → more ≤ time) → AreFiled clock soonest es homes
+      → AreFiled clock more es homes
   filed_later more es homes later filed = (filed.0, λ i e h is at. stands_later more e.value e.moment h (λ time home_is. later i time (at ∙ ap Some home_is)) (filed.1 i e h is at))
 
 -- no slot stands in one of so many lists of the wheel

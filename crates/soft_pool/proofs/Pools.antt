@@ -1,5 +1,6 @@
 -- The memory of a pool after each change, and what it shows.
-use Rattle.std.proofs.Common.{◌≡◌, ◌<◌, ◌≤◌, ◌+◌, ◌-◌, ◌%◌, ◌^◌, ◌||◌, ◌++◌, ◌⊎◌, ℕ, zero, suc, Bool, true, false, cond, List, [], ◌∷◌, length, set, get_or, map as each, Option, Some, None, refl, sym, ap, subst, ◌∙◌, arith, inl, inr}
+use Rattle.std.proofs.Common.{◌≡◌, ◌<◌, ◌≤◌, ◌+◌, ◌-◌, ◌%◌, ◌^◌, ◌||◌, ◌++◌, ◌⊎◌, ℕ, zero, suc, Bool, true, false, cond, List, [], ◌∷◌, length, set, get_or, map as each, Option, Some, None}
+use Rattle.std.proofs.Common.{refl, sym, ap, subst, ◌∙◌, arith, inl, inr}
 use Rattle.std.specs.Prelude.{slice_get, nat_le, replicate}
 use Rattle.std.specs.List.{list_any}
 use Rattle.std.proofs.lemmas.Option.{slice_get_read}
@@ -100,11 +101,13 @@ all_free [] = refl
 all_free (c ∷ cs) = ap (λ cs. Free ∷ cs) (all_free cs)
 
 module _ {T : Type 0} (clock room : ℕ) where
-  none_free_in : (es : List (Entry T)) (tail : List (Cell T)) → NoneFree tail → ((i : ℕ) (e : Entry T) → slice_get es i ≡ Some e → cell_is_free (shown clock e) ≡ false) → NoneFree (each (shown clock) es ++ tail)
+  none_free_in : (es : List (Entry T)) (tail : List (Cell T)) → NoneFree tail → ((i : ℕ) (e : Entry T) → slice_get es i ≡ Some e → cell_is_free (shown clock e) ≡ false)
+      → NoneFree (each (shown clock) es ++ tail)
   none_free_in [] tail t none = t
   none_free_in (e ∷ es) tail t none = ap (λ b. b || list_any cell_is_free (each (shown clock) es ++ tail)) (none 0 e refl) ∙ none_free_in es tail t (λ i. none (suc i))
 
-  none_due_in : (es : List (Entry T)) (tail : List (Cell T)) → NoneDue tail → ((i : ℕ) (e : Entry T) → slice_get es i ≡ Some e → cell_is_due (shown clock e) ≡ false) → NoneDue (each (shown clock) es ++ tail)
+  none_due_in : (es : List (Entry T)) (tail : List (Cell T)) → NoneDue tail → ((i : ℕ) (e : Entry T) → slice_get es i ≡ Some e → cell_is_due (shown clock e) ≡ false)
+      → NoneDue (each (shown clock) es ++ tail)
   none_due_in [] tail t none = t
   none_due_in (e ∷ es) tail t none = ap (λ b. b || list_any cell_is_due (each (shown clock) es ++ tail)) (none 0 e refl) ∙ none_due_in es tail t (λ i. none (suc i))
 
@@ -161,7 +164,8 @@ module _ {T : Type 0} (clock room : ℕ) where
         (e.0, d.0, e.1, d.1, append_read (each (shown clock) es) (replicate (room - length es) Free) i (Due d.0) (read_each (shown clock) es i e.0 e.1 ∙ ap Some d.2))
 
     -- the memory after one slot was changed, and put into a list that it may stand in
-    pub pool_placed : (fs : List (Entry T)) (ls : List ℕ) (i list : ℕ) (e : Entry T) → i < length es → fs ≡ set es i e → ls ≡ set lists i list → IsFiled clock soonest e list → IsPool fs ls room clock soonest
+    pub pool_placed : (fs : List (Entry T)) (ls : List ℕ) (i list : ℕ) (e : Entry T) → i < length es → fs ≡ set es i e → ls ≡ set lists i list → IsFiled clock soonest e list
+        → IsPool fs ls room clock soonest
     pool_placed fs ls i list e made is at filed =
         let size : length ls ≡ length fs = ap length at ∙ length-set lists i list ∙ sizes ∙ sym (ap length is ∙ length-set es i e) in
         record {
@@ -182,13 +186,15 @@ module _ {T : Type 0} (clock room : ℕ) where
         }
 
     -- and after one was changed that may stay in its list
-    pub pool_changed : (fs : List (Entry T)) (i : ℕ) (e f : Entry T) → slice_get es i ≡ Some e → fs ≡ set es i f → ((h : ℕ) → IsFiled clock soonest e h → IsFiled clock soonest f h) → IsPool fs lists room clock soonest
+    pub pool_changed : (fs : List (Entry T)) (i : ℕ) (e f : Entry T) → slice_get es i ≡ Some e → fs ≡ set es i f → ((h : ℕ) → IsFiled clock soonest e h → IsFiled clock soonest f h)
+        → IsPool fs lists room clock soonest
     pool_changed fs i e f e_is is stays =
         let h = home_of i e e_is in
         pool_placed fs lists i h.0 f (within es i e e_is) is (sym (set_same lists i h.0 h.1)) (stays h.0 h.2)
 
     -- and after one more was made
-    pub pool_grown : (fs : List (Entry T)) (ls : List ℕ) (e : Entry T) → length es < room → soonest ≤ e.moment → fs ≡ es ++ e ∷ [] → ls ≡ lists ++ list_at clock e ∷ [] → IsPool fs ls room clock soonest
+    pub pool_grown : (fs : List (Entry T)) (ls : List ℕ) (e : Entry T) → length es < room → soonest ≤ e.moment → fs ≡ es ++ e ∷ [] → ls ≡ lists ++ list_at clock e ∷ []
+        → IsPool fs ls room clock soonest
     pool_grown fs ls e lt sooner is at =
         let size : length ls ≡ length fs = ap length at ∙ length-append lists (list_at clock e ∷ []) ∙ ap (λ n. n + 1) sizes ∙ sym (ap length is ∙ length-append es (e ∷ [])) in
         record {
@@ -212,12 +218,14 @@ module _ {T : Type 0} (clock room : ℕ) where
         }
 
 -- a live slot of a pool
-live_made : {T : Type 0} (clock n : ℕ) (es : List (Entry T)) (i : ℕ) → is_live (slice_get (each (shown clock) es ++ replicate n Free) i) ≡ true → (e : Entry T) × (v : T) × (slice_get es i ≡ Some e) × (e.value ≡ Some v) × (clock < e.moment)
+live_made : {T : Type 0} (clock n : ℕ) (es : List (Entry T)) (i : ℕ) → is_live (slice_get (each (shown clock) es ++ replicate n Free) i) ≡ true
+    → (e : Entry T) × (v : T) × (slice_get es i ≡ Some e) × (e.value ≡ Some v) × (clock < e.moment)
 live_made {T} clock n [] i live = absurd (both_ways _ (none_live_free T n i) live)
 live_made clock n (e ∷ es) zero live = let l = live_of clock e.value e.moment live in (e, l.0, refl, l.1, l.2)
 live_made clock n (e ∷ es) (suc i) live = live_made clock n es i live
 
-pub live_in : {T : Type 0} (clock room : ℕ) (es : List (Entry T)) (i : ℕ) → is_live (slice_get (cells clock room es) i) ≡ true → (e : Entry T) × (v : T) × (slice_get es i ≡ Some e) × (e.value ≡ Some v) × (clock < e.moment)
+pub live_in : {T : Type 0} (clock room : ℕ) (es : List (Entry T)) (i : ℕ) → is_live (slice_get (cells clock room es) i) ≡ true
+    → (e : Entry T) × (v : T) × (slice_get es i ≡ Some e) × (e.value ≡ Some v) × (clock < e.moment)
 live_in clock room es i live = live_made clock (room - length es) es i live
 
 -- it was made
@@ -231,7 +239,8 @@ live_at clock room es i e live is =
     let eq : l.0 ≡ e = cc in
     omega (arith, l.4, ap (λ (e : Entry _). e.moment) eq)
 
-pub live_now : {T : Type 0} (clock room : ℕ) (es : List (Entry T)) (i : ℕ) (e : Entry T) → is_live (slice_get (cells clock room es) i) ≡ true → e ≡ get_or es i e → (v : T) × (slice_get es i ≡ Some e) × (e.value ≡ Some v) × (clock < e.moment)
+pub live_now : {T : Type 0} (clock room : ℕ) (es : List (Entry T)) (i : ℕ) (e : Entry T) → is_live (slice_get (cells clock room es) i) ≡ true → e ≡ get_or es i e
+    → (v : T) × (slice_get es i ≡ Some e) × (e.value ≡ Some v) × (clock < e.moment)
 live_now clock room es i e live eq =
     let l = live_in clock room es i live in
     let is : slice_get es i ≡ Some e = slice_get_read es (length es) i e refl (within es i l.0 l.2) eq in
@@ -239,12 +248,15 @@ live_now clock room es i e live eq =
     let l_e : l.0 ≡ e = cc in
     (l.1, is, ap (λ (e : Entry _). e.value) (sym l_e) ∙ l.3, omega (arith, l.4, ap (λ (e : Entry _). e.moment) l_e))
 
-pub live_read : {T : Type 0} (clock room : ℕ) (es : List (Entry T)) (i : ℕ) (e : Entry T) (v : T) → slice_get es i ≡ Some e → e.value ≡ Some v → clock < e.moment → slice_get (cells clock room es) i ≡ Some (Live v (e.moment - clock))
+pub live_read : {T : Type 0} (clock room : ℕ) (es : List (Entry T)) (i : ℕ) (e : Entry T) (v : T) → slice_get es i ≡ Some e → e.value ≡ Some v → clock < e.moment
+    → slice_get (cells clock room es) i ≡ Some (Live v (e.moment - clock))
 live_read clock room es i e v is has lt =
-    append_read (each (shown clock) es) (replicate (room - length es) Free) i (Live v (e.moment - clock)) (read_each (shown clock) es i e is ∙ ap (λ o. Some (cell_of clock o e.moment)) has ∙ ap Some (live_cell clock v e.moment lt))
+    append_read (each (shown clock) es) (replicate (room - length es) Free) i (Live v (e.moment - clock))
+    (read_each (shown clock) es i e is ∙ ap (λ o. Some (cell_of clock o e.moment)) has ∙ ap Some (live_cell clock v e.moment lt))
 
 -- what a pool shows after one slot was changed
-pub shows : {T : Type 0} (clock room : ℕ) (es fs : List (Entry T)) (i : ℕ) (e : Entry T) (c : Cell T) → i < length es → fs ≡ set es i e → shown clock e ≡ c → cells clock room fs ≡ set (cells clock room es) i c
+pub shows : {T : Type 0} (clock room : ℕ) (es fs : List (Entry T)) (i : ℕ) (e : Entry T) (c : Cell T) → i < length es → fs ≡ set es i e → shown clock e ≡ c
+    → cells clock room fs ≡ set (cells clock room es) i c
 shows {T} clock room es fs i e c lt is shown_is =
     let size : length fs ≡ length es = ap length is ∙ length-set es i e in
     let few : i < length (each (shown clock) es) = omega (arith, lt, length-map es (shown clock)) in
@@ -302,7 +314,8 @@ module _ {T : Type 0} (clock room : ℕ) (es : List (Entry T)) (lt : length es <
   one_left = let some : room - length es ≡ suc (room - length es - 1) = omega (arith, lt) in ap (λ n. each (shown clock) es ++ replicate {A = Cell T} n Free) some
 
   pub next_free : slice_get (cells clock room es) (length es) ≡ Some Free
-  next_free = ap (λ cs. slice_get cs (length es)) one_left ∙ ap (slice_get (each (shown clock) es ++ Free ∷ replicate {A = Cell T} left Free)) (sym (length-map es (shown clock))) ∙ seam_read (each (shown clock) es) Free (replicate left Free)
+  next_free = ap (λ cs. slice_get cs (length es)) one_left ∙ ap (slice_get (each (shown clock) es ++ Free ∷ replicate {A = Cell T} left Free)) (sym (length-map es (shown clock)))
+      ∙ seam_read (each (shown clock) es) Free (replicate left Free)
 
   pub grows : (fs : List (Entry T)) (e : Entry T) (c : Cell T) → fs ≡ es ++ e ∷ [] → shown clock e ≡ c → cells clock room fs ≡ set (cells clock room es) (length es) c
   unfolding left
@@ -314,7 +327,8 @@ module _ {T : Type 0} (clock room : ℕ) (es : List (Entry T)) (lt : length es <
       ap (λ n. each (shown clock) fs ++ replicate {A = Cell T} n Free) size
       ∙ ap (λ cs. cs ++ tail) (ap (each (shown clock)) is ∙ map-append (shown clock) es (e ∷ []) ∙ ap (λ c. shown_es ++ c ∷ []) shown_is)
       ∙ append_assoc shown_es (c ∷ []) tail
-      ∙ sym (ap (λ cs. set cs (length es) c) one_left ∙ set-append_right shown_es (Free ∷ tail) (length es) (length es) c (length-map es (shown clock)) (omega arith) ∙ ap (λ n. shown_es ++ set (Free ∷ tail) n c) none)
+      ∙ sym (ap (λ cs. set cs (length es) c) one_left ∙ set-append_right shown_es (Free ∷ tail) (length es) (length es) c (length-map es (shown clock)) (omega arith)
+      ∙ ap (λ n. shown_es ++ set (Free ∷ tail) n c) none)
 
 -- ---- time
 aged_cell : {T : Type 0} (clock ms : ℕ) (o : Option T) (m : ℕ) → cell_of (clock + ms) o m ≡ aged ms (cell_of clock o m)
@@ -324,7 +338,8 @@ aged_cell clock ms (Some v) m =
       | inl lt ↦
           let now_live = ap (aged ms) (live_cell clock v m lt) in
           elim (cases_lt (clock + ms) m) [
-            | inl later ↦ live_cell (clock + ms) v m later ∙ ap (Live v) (omega arith) ∙ sym (ap (λ b. cond b (Due v) (Live v (m - clock - ms))) (lt-leb (m - clock) ms (omega (arith, later)))) ∙ sym now_live
+            | inl later ↦ live_cell (clock + ms) v m later ∙ ap (Live v) (omega arith) ∙ sym (ap (λ b. cond b (Due v) (Live v (m - clock - ms))) (lt-leb (m - clock) ms (omega (arith, later))))
+                ∙ sym now_live
             | inr over ↦ due_cell (clock + ms) v m over ∙ sym (ap (λ b. cond b (Due v) (Live v (m - clock - ms))) (le-leb (m - clock) ms (omega (arith, over)))) ∙ sym now_live
           ]
       | inr le ↦ due_cell (clock + ms) v m (omega (arith, le)) ∙ sym (ap (aged ms) (due_cell clock v m le))
@@ -337,7 +352,8 @@ aged_made clock ms (e ∷ es) = ap (λ c. c ∷ each (shown (clock + ms)) es) (a
 aged_all : {T : Type 0} (clock room ms : ℕ) (es : List (Entry T)) → cells (clock + ms) room es ≡ each (aged ms) (cells clock room es)
 aged_all {T} clock room ms es =
     let tail : List (Cell T) = replicate (room - length es) Free in
-    ap (λ cs. cs ++ tail) (aged_made clock ms es) ∙ ap (λ cs. each (aged ms) (each (shown clock) es) ++ cs) (sym (aged_free T ms (room - length es))) ∙ sym (map-append (aged ms) (each (shown clock) es) tail)
+    ap (λ cs. cs ++ tail) (aged_made clock ms es) ∙ ap (λ cs. each (aged ms) (each (shown clock) es) ++ cs) (sym (aged_free T ms (room - length es)))
+    ∙ sym (map-append (aged ms) (each (shown clock) es) tail)
 
 -- the same slots on another clock
 pub as_many : {T : Type 0} (clock other : ℕ) (es fs : List (Entry T)) → each (shown other) fs ≡ each (shown clock) es → length fs ≡ length es
@@ -345,7 +361,8 @@ as_many clock other es fs same = sym (length-map fs (shown other)) ∙ ap length
 
 pub aged_on : {T : Type 0} (clock other room ms : ℕ) (es fs : List (Entry T)) → each (shown other) fs ≡ each (shown clock) es → cells (other + ms) room fs ≡ each (aged ms) (cells clock room es)
 aged_on {T} clock other room ms es fs same =
-    let cells_are : cells other room fs ≡ cells clock room es = ap (λ n. each (shown other) fs ++ replicate {A = Cell T} (room - n) Free) (as_many clock other es fs same) ∙ ap (λ cs. cs ++ replicate {A = Cell T} (room - length es) Free) same in
+    let cells_are : cells other room fs ≡ cells clock room es = ap (λ n. each (shown other) fs ++ replicate {A = Cell T} (room - n) Free) (as_many clock other es fs same)
+    ∙ ap (λ cs. cs ++ replicate {A = Cell T} (room - length es) Free) same in
     aged_all other room ms fs ∙ ap (each (aged ms)) cells_are
 
 -- ---- the clock set back by whole turns
@@ -429,8 +446,15 @@ cleared {T} es lists room clock new high p = record { few = omega arith; most = 
 pub shown_opened : (T : Type 0) (clock room : ℕ) → cells {T = T} clock room [] ≡ replicate room Free
 shown_opened T clock room = let all : room - 0 ≡ room = omega arith in ap (λ n. replicate {A = Cell T} n Free) all
 
-pub shown_cleared : {T : Type 0} {soonest : ℕ} (es : List (Entry T)) (lists : List ℕ) (room clock : ℕ) → IsPool es lists room clock soonest → cells {T = T} clock room [] ≡ each (λ _. Free) (cells clock room es)
+pub shown_cleared : {T : Type 0} {soonest : ℕ} (es : List (Entry T)) (lists : List ℕ) (room clock : ℕ) → IsPool es lists room clock soonest
+    → cells {T = T} clock room [] ≡ each (λ _. Free) (cells clock room es)
 shown_cleared {T} es lists room clock p =
     let tail : List (Cell T) = replicate (room - length es) Free in
-    let size : room ≡ length (cells clock room es) = omega (arith, p.few, length-append (each (shown clock) es) tail, length-map es (shown clock), length-replicate {A = Cell T} (room - length es) Free) in
+    let size : room ≡ length (cells clock room es) = omega (
+      arith,
+      p.few,
+      length-append (each (shown clock) es) tail,
+      length-map es (shown clock),
+      length-replicate {A = Cell T} (room - length es) Free,
+    ) in
     shown_opened T clock room ∙ ap (λ n. replicate {A = Cell T} n Free) size ∙ all_free (cells clock room es)

@@ -21,7 +21,8 @@ set_elsewhere (x ∷ xs) (suc i) zero a ne = refl
 set_elsewhere (x ∷ xs) (suc i) (suc j) a ne = set_elsewhere xs i j a (λ e. ne (omega (arith, e)))
 
 -- what a slot has after one was changed
-pub after_set : {A : Type 0} (P : ℕ → A → Type 0) (xs : List A) (i : ℕ) (a : A) (j : ℕ) (b : A) → i < length xs → slice_get (set xs i a) j ≡ Some b → P i a → ((j ≡ i → ⊥) → slice_get xs j ≡ Some b → P j b) → P j b
+pub after_set : {A : Type 0} (P : ℕ → A → Type 0) (xs : List A) (i : ℕ) (a : A) (j : ℕ) (b : A) → i < length xs → slice_get (set xs i a) j ≡ Some b → P i a
+    → ((j ≡ i → ⊥) → slice_get xs j ≡ Some b → P j b) → P j b
 after_set P xs i a j b lt is same ne =
     elim (cases_eq j i) [
       | inl e ↦

@@ -43,7 +43,8 @@ module _ {T : Type 0} (list now : ℕ) (es : List (Entry T)) (old : List ℕ) wh
   sorting = record { size = refl; others = λ i h is _. is; stands = λ i e _ is. inl is }
 
   -- one more looked at
-  pub sorted_more : (lists : List ℕ) (s to : ℕ) (e : Entry T) → IsSorting lists → slice_get es s ≡ Some e → slice_get lists s ≡ Some list → (e.moment ≤ now → to ≡ 1) → (now < e.moment → to ≡ 2) → IsSorting (set lists s to)
+  pub sorted_more : (lists : List ℕ) (s to : ℕ) (e : Entry T) → IsSorting lists → slice_get es s ≡ Some e → slice_get lists s ≡ Some list → (e.moment ≤ now → to ≡ 1) → (now < e.moment → to ≡ 2)
+      → IsSorting (set lists s to)
   sorted_more lists s to e o is at due later =
       let lt = within lists s list at in
       let read = set_read lists s to lt in
@@ -79,7 +80,8 @@ module _ {T : Type 0} (list now : ℕ) (es : List (Entry T)) (old : List ℕ) wh
       }
 
   -- one put back
-  pub put_back : (lists : List ℕ) (s to : ℕ) (e : Entry T) → IsPuttingBack lists → slice_get es s ≡ Some e → to ≡ wheel_list e.moment → slice_get lists s ≡ Some 2 → ((i : ℕ) → slice_get old i ≡ Some 2 → ⊥) → IsPuttingBack (set lists s to)
+  pub put_back : (lists : List ℕ) (s to : ℕ) (e : Entry T) → IsPuttingBack lists → slice_get es s ≡ Some e → to ≡ wheel_list e.moment → slice_get lists s ≡ Some 2
+      → ((i : ℕ) → slice_get old i ≡ Some 2 → ⊥) → IsPuttingBack (set lists s to)
   put_back lists s to e o is to_is at none =
       let lt = within lists s 2 at in
       let read = set_read lists s to lt in
@@ -93,7 +95,8 @@ module _ {T : Type 0} (list now : ℕ) (es : List (Entry T)) (old : List ℕ) wh
           | inl same ↦
               let both : Some e ≡ Some f = sym is ∙ ap (slice_get es) (sym same) ∙ f_is in
               let eq : e ≡ f = cc in
-              let here : slice_get (set lists s to) i ≡ Some (wheel_list f.moment) = ap (slice_get (set lists s to)) same ∙ read ∙ ap Some to_is ∙ ap (λ (e : Entry T). Some (wheel_list e.moment)) eq in
+              let here : slice_get (set lists s to) i ≡ Some (wheel_list f.moment) = ap (slice_get (set lists s to)) same ∙ read ∙ ap Some to_is
+              ∙ ap (λ (e : Entry T). Some (wheel_list e.moment)) eq in
               elim (o.settles i f f_is was) [
                 | inl due ↦ absurd (omega (arith, other_list (slice_get lists s) 1 2 (ap (slice_get lists) (sym same) ∙ due.1) at))
                 | inr later ↦ inr (later.0, inr here)
@@ -106,7 +109,8 @@ module _ {T : Type 0} (list now : ℕ) (es : List (Entry T)) (old : List ℕ) wh
   pub due_now : (lists : List ℕ) → IsPuttingBack lists → (i : ℕ) (e : Entry T) → slice_get es i ≡ Some e → slice_get old i ≡ Some list → e.moment ≤ now → slice_get lists i ≡ Some 1
   due_now lists o i e is was le = elim (o.settles i e is was) [ inl due ↦ due.1 | inr later ↦ absurd (omega (arith, le, later.0)) ]
 
-  pub still_later : (lists : List ℕ) → IsPuttingBack lists → ((i : ℕ) → slice_get lists i ≡ Some 2 → ⊥) → (i : ℕ) (e : Entry T) → slice_get es i ≡ Some e → slice_get old i ≡ Some list → now < e.moment → slice_get lists i ≡ Some (wheel_list e.moment)
+  pub still_later : (lists : List ℕ) → IsPuttingBack lists → ((i : ℕ) → slice_get lists i ≡ Some 2 → ⊥) → (i : ℕ) (e : Entry T) → slice_get es i ≡ Some e → slice_get old i ≡ Some list
+      → now < e.moment → slice_get lists i ≡ Some (wheel_list e.moment)
   still_later lists o none i e is was lt =
       elim (o.settles i e is was) [
         | inl due ↦ absurd (omega (arith, lt, due.0))

@@ -3,7 +3,7 @@ ghost use Rattle.std.specs.Prelude.{◌≡◌, ◌<◌, ◌++◌, ◌∷◌, [],
 ghost use Rattle.soft_pool.specs.declared.entry.Entry.{Entry};
 ghost use Rattle.soft_pool.specs.Wheel.{list_at, wheel_list};
 
-use slot_lists::SlotLists;
+use crate::lists::SlotLists;
 use std::mem;
 
 /// The list of the free slots, that of the due ones, and one that is empty between calls.

@@ -13,14 +13,19 @@
 //! no list. Otherwise it goes through the lists of the time that passes and no other, each at most once, and then reads the
 //! heads of the lists ahead, at most all 256, up to the first that has a slot: the soonest time is then that of this list.
 //! Besides, once in 2^62 ms, `advance` sets the clock and every moment back. `open` and `clear` write the heads of all
-//! lists; every other call takes a fixed number of steps. A slot takes 18 bytes beside its value (8 for its moment, 10 for
-//! its place in a list) and a pool 2,072 bytes for the heads of its lists.
+//! lists; every other call takes a fixed number of steps.
+//!
+//! The lists (`SlotLists`) are linked both ways by number: each is a circle through a head of its own, so that a slot is taken
+//! out where it is. Contracts see the list that each slot is in, and no link. A slot takes 18 bytes beside its value (8 for its
+//! moment, 10 for its place in a list) and a pool 2,072 bytes for the heads of its lists.
 #![tactic(auto)]
 
 mod cell;
 mod entry;
+mod lists;
 mod pool;
 mod wheel;
 
 pub use cell::{Cell, Slot};
+pub use lists::{LISTS, SlotLists};
 pub use pool::Pool;

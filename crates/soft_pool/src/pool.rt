@@ -5,9 +5,9 @@ ghost use Rattle.soft_pool.specs.Cells.{is_live, IsLiveWith, aged, NoneDue, None
 
 use crate::cell::{Cell, Slot};
 use crate::entry::{DUE, Entry, FREE, make, place, take, wheel_at};
+use crate::lists::SlotLists;
 use crate::wheel::{pass, rewind, soonest_after};
 use rsvp_base::NoMemory;
-use slot_lists::SlotLists;
 use std::alloc::Global;
 use std::marker::Model;
 use std::mem;

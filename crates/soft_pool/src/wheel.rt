@@ -4,7 +4,7 @@ ghost use Rattle.soft_pool.specs.declared.entry.Entry.{Entry};
 ghost use Rattle.soft_pool.specs.Wheel.{AreFiled, shown, set_back, wheel_list};
 
 use crate::entry::{ASIDE, DUE, Entry, LISTS, WHEEL, WIDTH, wheel_at};
-use slot_lists::SlotLists;
+use crate::lists::SlotLists;
 
 // The list that a slot of a list that is looked at goes to: that of the due where its moment has come, and else aside.
 fn sorted<T>(entry: &Entry<T>, now: u64) -> u16

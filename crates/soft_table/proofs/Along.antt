@@ -7,7 +7,7 @@ use Rattle.rsvp_base.specs.Orders.{sessions}
 use Rattle.rsvp_base.specs.Table.{passes}
 use Rattle.rsvp_base.specs.Under.{rows_under, sorted_under}
 use Rattle.rsvp_base.specs.declared.session.Session.{Session}
-use Rattle.session_lists.specs.Lists.{slot_of}
+use Rattle.session_index.specs.Lists.{slot_of}
 use Rattle.soft_pool.specs.declared.cell.Cell.{Cell}
 use Rattle.soft_pool.specs.declared.cell.Slot.{Slot}
 use Rattle.soft_pool.specs.declared.cell.Cell.TheVariants.{Free, Live, Due}
@@ -60,7 +60,8 @@ module _ {F R : Type 0} (rests : Keys R) (key : F → Session × R) (cells : Lis
   from_behind q t is =
       let up = (in_order rests key cells rows ix 0).0 in
       let at = behind_drops rests q us (sorted_under sessions rests s (facts_by key (facts_in cells rows)) (passes _ up)) in
-      from_kth rests key s (facts_in cells rows) up at.0 (fact_in cells t) (is ∙ ap (λ es. option_map (λ (e : R × (F × ℕ)). e.1.0) (slice_get es 0)) at.1 ∙ ap (option_map (λ (e : R × (F × ℕ)). e.1.0)) (first_dropped us at.0))
+      from_kth rests key s (facts_in cells rows) up at.0 (fact_in cells t) (is ∙ ap (λ es. option_map (λ (e : R × (F × ℕ)). e.1.0) (slice_get es 0)) at.1
+      ∙ ap (option_map (λ (e : R × (F × ℕ)). e.1.0)) (first_dropped us at.0))
       ∙ ap (each (λ (e : R × (F × ℕ)). e.1.0)) (sym at.1)
 
   one_more : (n : ℕ) → suc n ≡ n + 1
@@ -74,7 +75,8 @@ module _ {F R : Type 0} (rests : Keys R) (key : F → Session × R) (cells : Lis
       let here : row.fact.0 ≡ f = with_f_is (slice_get cells t) row.fact f row.live with_f in
       let same : held.0 ≡ row.fact.0 = one_of held.0 row.fact.0 (sym held.1 ∙ live_value (slice_get cells t) row.fact row.live) in
       let rest : (key row.fact.0).1 ≡ row.rest = ap (λ g. (key g).1) (sym same) ∙ ap (λ (k : Session × R). k.1) held.2 in
-      let dropped : rows_behind rests row.rest own ≡ drop (row.place + 1) own = behind_drop rests own row.place (row.rest, t) (sorted_own rests key cells rows ix s) row.is ∙ ap (λ n. drop n own) (one_more row.place) in
+      let dropped : rows_behind rests row.rest own ≡ drop (row.place + 1) own = behind_drop rests own row.place (row.rest, t) (sorted_own rests key cells rows ix s) row.is
+      ∙ ap (λ n. drop n own) (one_more row.place) in
       let later = from_behind row.rest next (slot_fact next ∙ next_fact rests key cells rows ix s row.rest (row.place + 1) (slot_live next) dropped is) in
       ap (λ (w : Option (F × ℕ)). facts_from rests key s (facts_in cells rows) (option_map (λ (e : F × ℕ). e.0) w)) row.live
       ∙ ap (λ q. row.fact.0 ∷ each (λ (e : R × (F × ℕ)). e.1.0) (rows_behind rests q us)) rest

@@ -97,7 +97,8 @@ module _ {F R : Type 0} (rests : Keys R) (key : F → Session × R) where
         by (Some (Live f left)) v d = refl
         by (Some (Due f)) v d = cc
 
-    pub nothing_gone : (k : Session × R) → find o.cmp k (facts_by key (facts_in cells rows)) ≡ None → facts_by key (facts_in cells rows) ≡ where_key o.cmp (λ x. not (eq_by_cmp o.cmp k x)) (facts_by key (facts_in cells rows))
+    pub nothing_gone : (k : Session × R) → find o.cmp k (facts_by key (facts_in cells rows)) ≡ None
+        → facts_by key (facts_in cells rows) ≡ where_key o.cmp (λ x. not (eq_by_cmp o.cmp k x)) (facts_by key (facts_in cells rows))
     nothing_gone k none =
         let seen_rows = facts_seen rests key cells rows ix in
         let same = without_absent o (seen rests key live_in cells ix.slots) k (ap (find o.cmp k) (sym seen_rows) ∙ none) in
@@ -109,14 +110,16 @@ module _ {F R : Type 0} (rests : Keys R) (key : F → Session × R) where
       pub facts : facts_by key (facts_in cells2 rows2) ≡ put o.cmp k e (facts_by key (facts_in cells rows))
       pub dead : dead_in cells2 rows2 ≡ []
 
-    pub puts_over : (k : Session × R) (t : ℕ) (old f : F) (was left : ℕ) (cells2 : List (Cell F)) → get ix.slots k ≡ Some t → dead_in cells rows ≡ [] → slice_get cells t ≡ Some (Live old was) → cells2 ≡ set cells t (Live f left) → key f ≡ k → Puts k (f, left) cells2 rows
+    pub puts_over : (k : Session × R) (t : ℕ) (old f : F) (was left : ℕ) (cells2 : List (Cell F)) → get ix.slots k ≡ Some t → dead_in cells rows ≡ [] → slice_get cells t ≡ Some (Live old was)
+        → cells2 ≡ set cells t (Live f left) → key f ≡ k → Puts k (f, left) cells2 rows
     puts_over k t old f was left cells2 at none here is own =
         let linked = linked_replaced rests key cells ix.slots ix.linked k t at (Live f left) (Live old was) f here refl refl own in
         let ix2 : IsIndex rests key cells2 rows = record { slots = ix.slots; is = ix.is; linked = subst (λ cs. IsLinked rests key cs ix.slots) (sym is) linked } in
         record {
           index = ix2;
           facts = facts_seen rests key cells2 rows ix2 ∙ ap (λ cs. (seen rests key live_in cs ix.slots).rows) is
-              ∙ ap (λ (t : Table (fact_keys rests) (F × ℕ)). t.rows) (seen_replaced rests key cells ix.slots ix.linked k t at (Live f left) live_in) ∙ ap (put o.cmp k (f, left)) (sym (facts_seen rests key cells rows ix));
+              ∙ ap (λ (t : Table (fact_keys rests) (F × ℕ)). t.rows) (seen_replaced rests key cells ix.slots ix.linked k t at (Live f left) live_in)
+              ∙ ap (put o.cmp k (f, left)) (sym (facts_seen rests key cells rows ix));
           dead = each_nil (λ f. (key f, f)) (dead_in cells2 rows) (dead_seen rests key cells2 rows ix2 ∙ ap (λ cs. (seen rests key due_in cs ix.slots).rows) is
               ∙ ap (λ (t : Table (fact_keys rests) F). t.rows) (seen_replaced rests key cells ix.slots ix.linked k t at (Live f left) due_in)
               ∙ ap (where_key o.cmp (λ x. not (eq_by_cmp o.cmp k x))) (sym (dead_seen rests key cells rows ix) ∙ ap (dead_by key) none));
@@ -128,21 +131,25 @@ module _ {F R : Type 0} (rests : Keys R) (key : F → Session × R) where
       pub facts : facts_by key (facts_in cells2 rows) ≡ put o.cmp k e (facts_by key (facts_in cells rows))
       pub dead : dead_in cells2 rows ≡ dead_in cells rows
 
-    pub replaces : (k : Session × R) (t : ℕ) (old f : F) (left : ℕ) (cells2 : List (Cell F)) → get ix.slots k ≡ Some t → slice_get cells t ≡ Some (Live old left) → cells2 ≡ set cells t (Live f left) → key f ≡ k → Replaces k (f, left) cells2
+    pub replaces : (k : Session × R) (t : ℕ) (old f : F) (left : ℕ) (cells2 : List (Cell F)) → get ix.slots k ≡ Some t → slice_get cells t ≡ Some (Live old left) → cells2 ≡ set cells t (Live f left)
+        → key f ≡ k → Replaces k (f, left) cells2
     replaces k t old f left cells2 at here is own =
         let linked = linked_replaced rests key cells ix.slots ix.linked k t at (Live f left) (Live old left) f here refl refl own in
         let ix2 : IsIndex rests key cells2 rows = record { slots = ix.slots; is = ix.is; linked = subst (λ cs. IsLinked rests key cs ix.slots) (sym is) linked } in
         record {
           index = ix2;
           facts = facts_seen rests key cells2 rows ix2 ∙ ap (λ cs. (seen rests key live_in cs ix.slots).rows) is
-              ∙ ap (λ (t : Table (fact_keys rests) (F × ℕ)). t.rows) (seen_replaced rests key cells ix.slots ix.linked k t at (Live f left) live_in) ∙ ap (put o.cmp k (f, left)) (sym (facts_seen rests key cells rows ix));
+              ∙ ap (λ (t : Table (fact_keys rests) (F × ℕ)). t.rows) (seen_replaced rests key cells ix.slots ix.linked k t at (Live f left) live_in)
+              ∙ ap (put o.cmp k (f, left)) (sym (facts_seen rests key cells rows ix));
           dead = same_dead (dead_in cells2 rows) (dead_in cells rows) (dead_seen rests key cells2 rows ix2 ∙ ap (λ cs. (seen rests key due_in cs ix.slots).rows) is
               ∙ ap (λ (t : Table (fact_keys rests) F). t.rows) (seen_replaced rests key cells ix.slots ix.linked k t at (Live f left) due_in)
-              ∙ ap (λ (t : Table (fact_keys rests) F). t.rows) (without_absent o (seen rests key due_in cells ix.slots) k (get-seen rests key due_in cells ix.slots k ∙ ap (λ w. then_do w (λ s. due_in (slice_get cells s))) at ∙ ap due_in here))
+              ∙ ap (λ (t : Table (fact_keys rests) F). t.rows) (without_absent o (seen rests key due_in cells ix.slots) k
+              (get-seen rests key due_in cells ix.slots k ∙ ap (λ w. then_do w (λ s. due_in (slice_get cells s))) at ∙ ap due_in here))
               ∙ sym (dead_seen rests key cells rows ix));
         }
 
-    pub puts_new : (k : Session × R) (t : ℕ) (f : F) (left : ℕ) (cells2 : List (Cell F)) (rows2 : List ((Session × R) × ℕ)) → find o.cmp k rows ≡ None → dead_in cells rows ≡ [] → slice_get cells t ≡ Some Free → cells2 ≡ set cells t (Live f left)
+    pub puts_new : (k : Session × R) (t : ℕ) (f : F) (left : ℕ) (cells2 : List (Cell F)) (rows2 : List ((Session × R) × ℕ)) → find o.cmp k rows ≡ None → dead_in cells rows ≡ []
+        → slice_get cells t ≡ Some Free → cells2 ≡ set cells t (Live f left)
         → rows2 ≡ put o.cmp k t rows → key f ≡ k → Puts k (f, left) cells2 rows2
     puts_new k t f left cells2 rows2 lacks none free is rows_is own =
         let new = led k None lacks in
@@ -152,7 +159,8 @@ module _ {F R : Type 0} (rests : Keys R) (key : F → Session × R) where
         record {
           index = ix2;
           facts = facts_seen rests key cells2 rows2 ix2 ∙ ap (λ cs. (seen rests key live_in cs (put_in ix.slots k t)).rows) is
-              ∙ ap (λ (t : Table (fact_keys rests) (F × ℕ)). t.rows) (seen_new rests key cells ix.slots ix.linked k t new free (Live f left) live_in) ∙ ap (put o.cmp k (f, left)) (sym (facts_seen rests key cells rows ix));
+              ∙ ap (λ (t : Table (fact_keys rests) (F × ℕ)). t.rows) (seen_new rests key cells ix.slots ix.linked k t new free (Live f left) live_in)
+              ∙ ap (put o.cmp k (f, left)) (sym (facts_seen rests key cells rows ix));
           dead = each_nil (λ f. (key f, f)) (dead_in cells2 rows2) (dead_seen rests key cells2 rows2 ix2 ∙ ap (λ cs. (seen rests key due_in cs (put_in ix.slots k t)).rows) is
               ∙ ap (λ (t : Table (fact_keys rests) F). t.rows) (seen_new rests key cells ix.slots ix.linked k t new free (Live f left) due_in)
               ∙ ap (where_key o.cmp (λ x. not (eq_by_cmp o.cmp k x))) (sym (dead_seen rests key cells rows ix) ∙ ap (dead_by key) none));
@@ -166,7 +174,8 @@ module _ {F R : Type 0} (rests : Keys R) (key : F → Session × R) where
       pub no_fact : live_in (slice_get cells t) ≡ None → facts_in cells2 rows2 ≡ facts_in cells rows
       pub no_dead : due_in (slice_get cells t) ≡ None → dead_in cells2 rows2 ≡ dead_in cells rows
 
-    pub takes : (k : Session × R) (t : ℕ) (old : Cell F) (cells2 : List (Cell F)) (rows2 : List ((Session × R) × ℕ)) → get ix.slots k ≡ Some t → slice_get cells t ≡ Some old → counts old ≡ 1 → cells2 ≡ set cells t Free
+    pub takes : (k : Session × R) (t : ℕ) (old : Cell F) (cells2 : List (Cell F)) (rows2 : List ((Session × R) × ℕ)) → get ix.slots k ≡ Some t → slice_get cells t ≡ Some old → counts old ≡ 1
+        → cells2 ≡ set cells t Free
         → rows2 ≡ where_key o.cmp (λ x. not (eq_by_cmp o.cmp k x)) rows → Takes k t cells2 rows2
     takes k t old cells2 rows2 at here count is rows_is =
         let linked = linked_taken rests key cells ix.slots ix.linked k t at Free old here count refl in
@@ -181,10 +190,12 @@ module _ {F R : Type 0} (rests : Keys R) (key : F → Session × R) where
           facts = live ∙ ap (where_key o.cmp (λ x. not (eq_by_cmp o.cmp k x))) (sym (facts_seen rests key cells rows ix));
           dead = due ∙ ap (where_key o.cmp (λ x. not (eq_by_cmp o.cmp k x))) (sym (dead_seen rests key cells rows ix));
           no_fact = λ none. same_facts (facts_in cells2 rows2) (facts_in cells rows) (live
-              ∙ ap (λ (t : Table (fact_keys rests) (F × ℕ)). t.rows) (without_absent o (seen rests key live_in cells ix.slots) k (get-seen rests key live_in cells ix.slots k ∙ ap (λ w. then_do w (λ s. live_in (slice_get cells s))) at ∙ none))
+              ∙ ap (λ (t : Table (fact_keys rests) (F × ℕ)). t.rows) (without_absent o (seen rests key live_in cells ix.slots) k
+              (get-seen rests key live_in cells ix.slots k ∙ ap (λ w. then_do w (λ s. live_in (slice_get cells s))) at ∙ none))
               ∙ sym (facts_seen rests key cells rows ix));
           no_dead = λ none. same_dead (dead_in cells2 rows2) (dead_in cells rows) (due
-              ∙ ap (λ (t : Table (fact_keys rests) F). t.rows) (without_absent o (seen rests key due_in cells ix.slots) k (get-seen rests key due_in cells ix.slots k ∙ ap (λ w. then_do w (λ s. due_in (slice_get cells s))) at ∙ none))
+              ∙ ap (λ (t : Table (fact_keys rests) F). t.rows) (without_absent o (seen rests key due_in cells ix.slots) k
+              (get-seen rests key due_in cells ix.slots k ∙ ap (λ w. then_do w (λ s. due_in (slice_get cells s))) at ∙ none))
               ∙ sym (dead_seen rests key cells rows ix));
         }
 
@@ -193,7 +204,8 @@ module _ {F R : Type 0} (rests : Keys R) (key : F → Session × R) where
     index_later ms cells2 is = record { slots = ix.slots; is = ix.is; linked = subst (λ cs. IsLinked rests key cs ix.slots) (sym is) (linked_later rests key cells ix.slots ix.linked ms) }
 
 -- ---- cells set twice, and counted
-pub set_over : {F : Type 0} (cells cells1 cells2 : List (Cell F)) (t was : ℕ) (f v : F) (w left : ℕ) → t < length cells → cells1 ≡ set cells t (Live f was) → slice_get cells1 t ≡ Some (Live v w) → cells2 ≡ set cells1 t (Live v left) → cells2 ≡ set cells t (Live f left)
+pub set_over : {F : Type 0} (cells cells1 cells2 : List (Cell F)) (t was : ℕ) (f v : F) (w left : ℕ) → t < length cells → cells1 ≡ set cells t (Live f was) → slice_get cells1 t ≡ Some (Live v w)
+    → cells2 ≡ set cells1 t (Live v left) → cells2 ≡ set cells t (Live f left)
 set_over cells cells1 cells2 t was f v w left lt one at two =
     let same : Some (Live f was) ≡ Some (Live v w) = sym (set_read cells t (Live f was) lt) ∙ ap (λ cs. slice_get cs t) (sym one) ∙ at in
     let is : f ≡ v = cc in

@@ -36,7 +36,8 @@ or_both true b e f = cc
 or_both false b e f = f
 
 -- up to a row, no key stands behind it
-pub none_upto : {R X : Type 0} (o : Keys R) (es : List (R × X)) (i : ℕ) (x : R × X) (b : R) → T (is_sorted o.cmp es) → slice_get es i ≡ Some x → is_lt (o.cmp x.0 b) ≡ true → list_any (λ c. eq_by_cmp o.cmp c b) (take (suc i) (keys_of es)) ≡ false
+pub none_upto : {R X : Type 0} (o : Keys R) (es : List (R × X)) (i : ℕ) (x : R × X) (b : R) → T (is_sorted o.cmp es) → slice_get es i ≡ Some x → is_lt (o.cmp x.0 b) ≡ true
+    → list_any (λ c. eq_by_cmp o.cmp c b) (take (suc i) (keys_of es)) ≡ false
 none_upto o [] i x b up at lt = cc
 none_upto o (e ∷ es) zero x b up at lt = let is : e ≡ x = cc in or_both _ false (ap (λ z. eq_by_cmp o.cmp z.0 b) is ∙ less_not_equal _ (passes _ lt)) refl
 none_upto o (e ∷ es) (suc i) x b up at lt =
@@ -60,7 +61,8 @@ module _ {R X Y : Type 0} (h : X → Y) where
   keys_where-valued o test (e ∷ es) = by (test e.0) (keys_where-valued o test es)
     where
       by : (b : Bool) → keys_of (where_key o.cmp test (changed_rows (λ k x. Some (h x)) es)) ≡ keys_of (where_key o.cmp test es)
-          → keys_of {X = Y} (cond b ((e.0, h e.1) ∷ where_key o.cmp test (changed_rows (λ k x. Some (h x)) es)) (where_key o.cmp test (changed_rows (λ k x. Some (h x)) es))) ≡ keys_of {X = X} (cond b (e ∷ where_key o.cmp test es) (where_key o.cmp test es))
+          → keys_of {X = Y} (cond b ((e.0, h e.1) ∷ where_key o.cmp test (changed_rows (λ k x. Some (h x)) es)) (where_key o.cmp test (changed_rows (λ k x. Some (h x)) es)))
+          ≡ keys_of {X = X} (cond b (e ∷ where_key o.cmp test es) (where_key o.cmp test es))
       by true ih = ap (λ rs. e.0 ∷ rs) ih
       by false ih = ih
 

@@ -2,8 +2,7 @@
 use Rattle.std.proofs.Common.{◌≡◌, ◌<◌, ◌+◌, ℕ, false, cond, not, is_some, List, length, set, map as each, Option, Some, None, refl, sym, ap, ◌∙◌, arith, inl, inr}
 use Rattle.std.specs.Prelude.{slice_get, replicate}
 use Rattle.std.specs.Ordering.{eq_by_cmp}
-use Rattle.std.proofs.lemmas.Bool.{both_ways}
-use Rattle.std.proofs.lemmas.Bool.{cases_eq}
+use Rattle.std.proofs.lemmas.Bool.{both_ways, cases_eq}
 use Rattle.rsvp_base.proofs.SessionCounts.{size-without}
 use Rattle.rsvp_base.specs.Keys.{Keys}
 use Rattle.rsvp_base.specs.Table.{Table, get, size, empty, put_in, without, changed}
@@ -45,7 +44,8 @@ module _ {F R : Type 0} (rests : Keys R) (key : F → Session × R) where
   abbrev pub seen : {Y : Type 0} → (Option (Cell F) → Option Y) → List (Cell F) → Table (fact_keys rests) ℕ → Table (fact_keys rests) Y
   seen read cells m = changed (λ k s. read (slice_get cells s)) m
 
-  pub get-seen : {Y : Type 0} (read : Option (Cell F) → Option Y) (cells : List (Cell F)) (m : Table (fact_keys rests) ℕ) (q : Session × R) → get (seen read cells m) q ≡ then_do (get m q) (λ s. read (slice_get cells s))
+  pub get-seen : {Y : Type 0} (read : Option (Cell F) → Option Y) (cells : List (Cell F)) (m : Table (fact_keys rests) ℕ) (q : Session × R)
+      → get (seen read cells m) q ≡ then_do (get m q) (λ s. read (slice_get cells s))
   get-seen read cells m q = get-changed o (λ k s. read (slice_get cells s)) m q
 
   module _ (cells : List (Cell F)) (m : Table (fact_keys rests) ℕ) (linked : IsLinked rests key cells m) where
@@ -63,7 +63,8 @@ module _ {F R : Type 0} (rests : Keys R) (key : F → Session × R) where
       there : t < length cells
       there = let g = linked.holds k t at in value_within cells t g.0 g.1
 
-      other_read : {Y : Type 0} (read : Option (Cell F) → Option Y) (q : Session × R) → eq_by_cmp o.cmp q k ≡ false → then_do (get m q) (λ s. read (slice_get (set cells t c) s)) ≡ then_do (get m q) (λ s. read (slice_get cells s))
+      other_read : {Y : Type 0} (read : Option (Cell F) → Option Y) (q : Session × R) → eq_by_cmp o.cmp q k ≡ false
+          → then_do (get m q) (λ s. read (slice_get (set cells t c) s)) ≡ then_do (get m q) (λ s. read (slice_get cells s))
       other_read read q apart = by (get m q) refl
         where
           by : (w : Option ℕ) → get m q ≡ w → then_do w (λ s. read (slice_get (set cells t c) s)) ≡ then_do w (λ s. read (slice_get cells s))
@@ -86,10 +87,12 @@ module _ {F R : Type 0} (rests : Keys R) (key : F → Session × R) where
           same_table o _ _ (λ q. either (eq_by_cmp o.cmp q k)
           (λ tie.
           let is = tied_same o q k tie in
-          ap (get (seen read (set cells t c) (without m k))) is ∙ get-seen read (set cells t c) (without m k) k ∙ ap (λ w. then_do w (λ s. read (slice_get (set cells t c) s))) (in_place_same o m k None)
+          ap (get (seen read (set cells t c) (without m k))) is ∙ get-seen read (set cells t c) (without m k) k
+          ∙ ap (λ w. then_do w (λ s. read (slice_get (set cells t c) s))) (in_place_same o m k None)
           ∙ sym (in_place_same o (seen read cells m) k None) ∙ ap (get (without (seen read cells m) k)) (sym is))
           (λ apart.
-          get-seen read (set cells t c) (without m k) q ∙ ap (λ w. then_do w (λ s. read (slice_get (set cells t c) s))) (in_place_other o m k None q apart) ∙ other_read read q apart ∙ sym (get-seen read cells m q)
+          get-seen read (set cells t c) (without m k) q ∙ ap (λ w. then_do w (λ s. read (slice_get (set cells t c) s))) (in_place_other o m k None q apart) ∙ other_read read q apart
+          ∙ sym (get-seen read cells m q)
           ∙ sym (in_place_other o (seen read cells m) k None q apart)))
 
       -- the index is still one where the key's fact changes
@@ -160,11 +163,13 @@ module _ {F R : Type 0} (rests : Keys R) (key : F → Session × R) where
           same_table o _ _ (λ q. either (eq_by_cmp o.cmp q k)
           (λ tie.
           let is = tied_same o q k tie in
-          ap (get (seen read (set cells t c) (put_in m k t))) is ∙ get-seen read (set cells t c) (put_in m k t) k ∙ ap (λ w. then_do w (λ s. read (slice_get (set cells t c) s))) (get-put_in_same o m k t)
+          ap (get (seen read (set cells t c) (put_in m k t))) is ∙ get-seen read (set cells t c) (put_in m k t) k
+          ∙ ap (λ w. then_do w (λ s. read (slice_get (set cells t c) s))) (get-put_in_same o m k t)
           ∙ ap read (set_read cells t c (within cells t Free free))
           ∙ sym (in_place_same o (seen read cells m) k (read (Some c))) ∙ ap (get (in_place o (seen read cells m) k (read (Some c)))) (sym is))
           (λ apart.
-          get-seen read (set cells t c) (put_in m k t) q ∙ ap (λ w. then_do w (λ s. read (slice_get (set cells t c) s))) (get-put_in_other o m k t q apart) ∙ rest_read read q ∙ sym (get-seen read cells m q)
+          get-seen read (set cells t c) (put_in m k t) q ∙ ap (λ w. then_do w (λ s. read (slice_get (set cells t c) s))) (get-put_in_other o m k t q apart) ∙ rest_read read q
+          ∙ sym (get-seen read cells m q)
           ∙ sym (in_place_other o (seen read cells m) k (read (Some c)) q apart)))
 
       pub linked_new : (f : F) → counts c ≡ 1 → value_in (Some c) ≡ Some f → key f ≡ k → IsLinked rests key (set cells t c) (put_in m k t)

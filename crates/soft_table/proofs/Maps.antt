@@ -17,7 +17,8 @@ module _ {F R : Type 0} (key : F → Session × R) where
   rows_later ms (e ∷ fs) = by (nat_le e.1 ms) (rows_later ms fs)
     where
       by : (b : Bool) → facts_by key (filter_map (lives_on ms) fs) ≡ changed_rows (λ k e. lives_on ms e) (facts_by key fs)
-          → facts_by key (cons_option (cond b None (Some (e.0, e.1 - ms))) (filter_map (lives_on ms) fs)) ≡ kept_row (key e.0) (cond b None (Some (e.0, e.1 - ms))) (changed_rows (λ k e. lives_on ms e) (facts_by key fs))
+          → facts_by key (cons_option (cond b None (Some (e.0, e.1 - ms))) (filter_map (lives_on ms) fs))
+          ≡ kept_row (key e.0) (cond b None (Some (e.0, e.1 - ms))) (changed_rows (λ k e. lives_on ms e) (facts_by key fs))
       by true rest = rest
       by false rest = ap (λ rs. (key e.0, (e.0, e.1 - ms)) ∷ rs) rest
 

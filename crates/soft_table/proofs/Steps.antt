@@ -35,7 +35,8 @@ module _ {R X : Type 0} (rests : Keys R) where
   behind_drop [] k x up at = cc
   behind_drop (e ∷ es) zero x up at =
       let is : e ≡ x = cc in
-      ap (λ (z : R × X). rows_behind rests z.0 (e ∷ es)) (sym is) ∙ ap (λ w. cond (is_lt w) (e ∷ rows_behind rests e.0 es) (rows_behind rests e.0 es)) (tied_itself rests.total e.0) ∙ all_above e.0 es (first _ _ up)
+      ap (λ (z : R × X). rows_behind rests z.0 (e ∷ es)) (sym is) ∙ ap (λ w. cond (is_lt w) (e ∷ rows_behind rests e.0 es) (rows_behind rests e.0 es)) (tied_itself rests.total e.0)
+      ∙ all_above e.0 es (first _ _ up)
   behind_drop (e ∷ es) (suc k) x up at =
       let over : rests.cmp x.0 e.0 ≡ Greater = rests.total.antisymm x.0 e.0 ∙ ap ordering_reverse (below_kth e.0 es k x (first _ _ up) at) in
       ap (λ w. cond (is_lt w) (e ∷ rows_behind rests x.0 es) (rows_behind rests x.0 es)) over ∙ behind_drop es k x (second _ _ up) at
@@ -67,7 +68,8 @@ module _ {F R : Type 0} (rests : Keys R) (key : F → Session × R) (s : Session
   own (g ∷ gs) k x at = by (eq_by_cmp sessions.cmp s (key g.0).0) k at (λ i. own gs i x)
     where
       by : (b : _) (i : ℕ)
-          → slice_get (each (λ (e : (Session × R) × (F × ℕ)). (e.0.1, e.1)) (cond b ((key g.0, g) ∷ where_key (fact_keys rests).cmp (λ k. eq_by_cmp sessions.cmp s k.0) (facts_by key gs)) (where_key (fact_keys rests).cmp (λ k. eq_by_cmp sessions.cmp s k.0) (facts_by key gs)))) i ≡ Some x
+          → slice_get (each (λ (e : (Session × R) × (F × ℕ)). (e.0.1, e.1)) (cond b ((key g.0, g) ∷ where_key (fact_keys rests).cmp (λ k. eq_by_cmp sessions.cmp s k.0) (facts_by key gs))
+          (where_key (fact_keys rests).cmp (λ k. eq_by_cmp sessions.cmp s k.0) (facts_by key gs)))) i ≡ Some x
           → ((i : ℕ) → slice_get (rows_under sessions rests s (facts_by key gs)) i ≡ Some x → x.0 ≡ (key x.1.0).1) → x.0 ≡ (key x.1.0).1
       by true zero at ih = let is : ◌≡◌ {A = R × (F × ℕ)} ((key g.0).1, g) x = cc in subst (λ (z : R × (F × ℕ)). z.0 ≡ (key z.1.0).1) is refl
       by true (suc i) at ih = ih i at
@@ -98,7 +100,8 @@ module _ {F R : Type 0} (rests : Keys R) (key : F → Session × R) (s : Session
       by (Some x) at e = cc
 
   -- the fact behind it is the next
-  pub next : IsTrue (is_sorted (fact_keys rests).cmp (facts_by key fs)) → (k : ℕ) (f : F) → Step k f → (r : Option F) → r ≡ option_map (λ (e : R × (F × ℕ)). e.1.0) (slice_get (rows_behind rests (key f).1 those) 0) → r ≡ fact_at rests key s fs (k + 1)
+  pub next : IsTrue (is_sorted (fact_keys rests).cmp (facts_by key fs)) → (k : ℕ) (f : F) → Step k f → (r : Option F)
+      → r ≡ option_map (λ (e : R × (F × ℕ)). e.1.0) (slice_get (rows_behind rests (key f).1 those) 0) → r ≡ fact_at rests key s fs (k + 1)
   next up k f st r is =
       is ∙ ap (λ q. option_map (λ (e : R × (F × ℕ)). e.1.0) (slice_get (rows_behind rests q those) 0)) (sym st.rest)
       ∙ ap (λ es. option_map (λ (e : R × (F × ℕ)). e.1.0) (slice_get es 0)) (behind_drop rests those k st.row (sorted_under sessions rests s (facts_by key fs) (passes _ up)) st.at)
@@ -130,7 +133,8 @@ module _ {F R : Type 0} (rests : Keys R) (key : F → Session × R) (s : Session
       by (x ∷ es) e = cc
 
   -- the facts from the k-th on
-  pub from_kth : IsTrue (is_sorted (fact_keys rests).cmp (facts_by key fs)) → (k : ℕ) (r : Option F) → r ≡ fact_at rests key s fs k → facts_from rests key s fs r ≡ each (λ (e : R × (F × ℕ)). e.1.0) (drop k those)
+  pub from_kth : IsTrue (is_sorted (fact_keys rests).cmp (facts_by key fs)) → (k : ℕ) (r : Option F) → r ≡ fact_at rests key s fs k
+      → facts_from rests key s fs r ≡ each (λ (e : R × (F × ℕ)). e.1.0) (drop k those)
   from_kth up k None is = ap (each (λ (e : R × (F × ℕ)). e.1.0)) (sym (end k is))
   from_kth up k (Some f) is =
       let st = step k f is in

@@ -44,7 +44,8 @@ module _ {F Y : Type 0} (told : F → Y) where
   looked_up (Some f) None e = cc
   looked_up (Some f) (Some x) e = let is : f ≡ x.0 = cc in ap (λ z. Some (told z)) is
 
-  pub kth_told : {R : Type 0} (r : Option F) (w : Option (R × (F × ℕ))) → r ≡ option_map (λ e. e.1.0) w → option_map told r ≡ option_map (λ (e : R × (Y × ℕ)). e.1.0) (option_map (λ e. (e.0, said_by e.1)) w)
+  pub kth_told : {R : Type 0} (r : Option F) (w : Option (R × (F × ℕ))) → r ≡ option_map (λ e. e.1.0) w
+      → option_map told r ≡ option_map (λ (e : R × (Y × ℕ)). e.1.0) (option_map (λ e. (e.0, said_by e.1)) w)
   kth_told None None e = refl
   kth_told None (Some x) e = cc
   kth_told (Some f) None e = cc

@@ -21,16 +21,19 @@ use Rattle.std.proofs.lemmas.List.{length-map}
 -- ---- rows that are dropped or have another value
 module _ {K X Y : Type 0} (f : K → X → Option Y) where
   -- where the values have their keys in them
-  keyed_rows : (own : Y → K) (es : List (K × X)) → ((k : K) (x : X) (y : Y) → In (k, x) es → f k x ≡ Some y → own y ≡ k) → each (λ y. (own y, y)) (each (λ (e : K × Y). e.1) (changed_rows f es)) ≡ changed_rows f es
+  keyed_rows : (own : Y → K) (es : List (K × X)) → ((k : K) (x : X) (y : Y) → In (k, x) es → f k x ≡ Some y → own y ≡ k)
+      → each (λ y. (own y, y)) (each (λ (e : K × Y). e.1) (changed_rows f es)) ≡ changed_rows f es
   keyed_rows own [] h = refl
   keyed_rows own (e ∷ es) h = by (f e.0 e.1) (λ y is. h e.0 e.1 y (inl refl) is) (keyed_rows own es (λ k x y i is. h k x y (inr i) is))
     where
-      by : (w : Option Y) → ((y : Y) → w ≡ Some y → own y ≡ e.0) → each (λ y. (own y, y)) (each (λ (e : K × Y). e.1) (changed_rows f es)) ≡ changed_rows f es → each (λ y. (own y, y)) (each (λ (e : K × Y). e.1) (kept_row e.0 w (changed_rows f es))) ≡ kept_row e.0 w (changed_rows f es)
+      by : (w : Option Y) → ((y : Y) → w ≡ Some y → own y ≡ e.0) → each (λ y. (own y, y)) (each (λ (e : K × Y). e.1) (changed_rows f es)) ≡ changed_rows f es
+          → each (λ y. (own y, y)) (each (λ (e : K × Y). e.1) (kept_row e.0 w (changed_rows f es))) ≡ kept_row e.0 w (changed_rows f es)
       by None mine rest = rest
       by (Some y) mine rest = λ i. (mine y refl i, y) ∷ rest i
 
   -- a change after a change, by the values
-  changed_twice : {Z : Type 0} (g : K → X → Option Z) (h : Y → Option Z) (es : List (K × X)) → ((k : K) (x : X) → g k x ≡ then_do (f k x) h) → each (λ (e : K × Z). e.1) (changed_rows g es) ≡ filter_map h (each (λ (e : K × Y). e.1) (changed_rows f es))
+  changed_twice : {Z : Type 0} (g : K → X → Option Z) (h : Y → Option Z) (es : List (K × X)) → ((k : K) (x : X) → g k x ≡ then_do (f k x) h)
+      → each (λ (e : K × Z). e.1) (changed_rows g es) ≡ filter_map h (each (λ (e : K × Y). e.1) (changed_rows f es))
   changed_twice {Z} g h [] both = refl
   changed_twice {Z} g h (e ∷ es) both = by (f e.0 e.1) (g e.0 e.1) (both e.0 e.1) (changed_twice g h es both)
     where
@@ -44,7 +47,8 @@ module _ {K X Y : Type 0} (f : K → X → Option Y) where
           last (Some v) = ap (λ vs. v ∷ vs) rest
 
   -- each row is kept by one of two changes
-  kept_apart : {Z : Type 0} (g : K → X → Option Z) (es : List (K × X)) → ((k : K) (x : X) → In (k, x) es → length (kept_row k (f k x) []) + length (kept_row k (g k x) []) ≡ 1) → length (changed_rows f es) + length (changed_rows g es) ≡ length es
+  kept_apart : {Z : Type 0} (g : K → X → Option Z) (es : List (K × X)) → ((k : K) (x : X) → In (k, x) es → length (kept_row k (f k x) []) + length (kept_row k (g k x) []) ≡ 1)
+      → length (changed_rows f es) + length (changed_rows g es) ≡ length es
   kept_apart {Z} g [] one = refl
   kept_apart {Z} g (e ∷ es) one = by (f e.0 e.1) (g e.0 e.1) (one e.0 e.1 (inl refl)) (kept_apart g es (λ k x i. one k x (inr i)))
     where
@@ -92,7 +96,8 @@ module _ {F R : Type 0} (rests : Keys R) (key : F → Session × R) (cells : Lis
     one_or_other (Some (Due g)) k f e = omega arith
 
     live_and_due : size (seen rests key live_in cells m) + size (seen rests key due_in cells m) ≡ size m
-    live_and_due = kept_apart (λ (k : Session × R) s. live_in (slice_get cells s)) (λ k s. due_in (slice_get cells s)) m.rows (λ k s i. let g = linked.holds k s (in_found o m k s i) in one_or_other (slice_get cells s) k g.0 g.1)
+    live_and_due = kept_apart (λ (k : Session × R) s. live_in (slice_get cells s)) (λ k s. due_in (slice_get cells s)) m.rows
+        (λ k s i. let g = linked.holds k s (in_found o m k s i) in one_or_other (slice_get cells s) k g.0 g.1)
 
   module _ (rows : List ((Session × R) × ℕ)) (ix : IsIndex rests key cells rows) where
     -- the facts under their keys are what the keys lead to
@@ -103,8 +108,10 @@ module _ {F R : Type 0} (rests : Keys R) (key : F → Session × R) (cells : Lis
     dead_seen = ap (λ es. dead_by key (each (λ (e : (Session × R) × F). e.1) (changed_rows (λ k s. due_in (slice_get cells s)) es))) ix.is ∙ due_keyed ix.slots ix.linked
 
     pub in_order : (n : ℕ) → IsInOrder rests key (record { facts = facts_in cells rows; dead = dead_in cells rows; room = n })
-    in_order n =
-        (holds _ (subst (λ es. T (is_sorted o.cmp es)) (sym facts_seen) (seen rests key live_in cells ix.slots).sorted), holds _ (subst (λ es. T (is_sorted o.cmp es)) (sym dead_seen) (seen rests key due_in cells ix.slots).sorted))
+    in_order n = (
+      holds _ (subst (λ es. T (is_sorted o.cmp es)) (sym facts_seen) (seen rests key live_in cells ix.slots).sorted),
+      holds _ (subst (λ es. T (is_sorted o.cmp es)) (sym dead_seen) (seen rests key due_in cells ix.slots).sorted),
+    )
 
     pub size_facts : length (facts_in cells rows) ≡ size (seen rests key live_in cells ix.slots)
     size_facts = sym (length-map (facts_in cells rows) (λ e. (key e.0, e))) ∙ ap length facts_seen
@@ -124,7 +131,8 @@ module _ {F R : Type 0} (rests : Keys R) (key : F → Session × R) (cells : Lis
     none_waits none =
         none_due_if cells (λ s f at.
         let led : get ix.slots (key f) ≡ Some s = ix.linked.finds s f (ap value_in at) in
-        let found : get (seen rests key due_in cells ix.slots) (key f) ≡ Some f = get-seen rests key due_in cells ix.slots (key f) ∙ ap (λ w. then_do w (λ n. due_in (slice_get cells n))) led ∙ ap due_in at in
+        let found : get (seen rests key due_in cells ix.slots) (key f) ≡ Some f = get-seen rests key due_in cells ix.slots (key f) ∙ ap (λ w. then_do w (λ n. due_in (slice_get cells n))) led
+        ∙ ap due_in at in
         let gone : Some f ≡ None = sym found ∙ ap (find o.cmp (key f)) (sym dead_seen ∙ ap (dead_by key) none) in
         cc)
 

@@ -1,5 +1,6 @@
 -- Walks along the rows of a session, a row more at a time, and how many sessions there are.
-use Rattle.std.proofs.Common.{◌≡◌, ◌≤◌, ◌+◌, ◌-◌, ◌||◌, ℕ, zero, suc, Bool, true, false, cond, is_some, T, List, [], ◌∷◌, length, drop, map as each, Option, Some, None, refl, sym, ap, subst, ◌∙◌, arith, inl, inr}
+use Rattle.std.proofs.Common.{◌≡◌, ◌≤◌, ◌+◌, ◌-◌, ◌||◌, ℕ, zero, suc, Bool, true, false, cond, is_some, T, List, [], ◌∷◌, length, drop, map as each, Option, Some, None, refl, sym, ap}
+use Rattle.std.proofs.Common.{subst, ◌∙◌, arith, inl, inr}
 use Rattle.std.specs.Prelude.{slice_get}
 use Rattle.std.specs.List.{list_any}
 use Rattle.std.specs.Option.{option_map}
@@ -20,7 +21,7 @@ use Rattle.rsvp_base.proofs.Counts.{has-set_of, found_in}
 use Rattle.rsvp_base.proofs.SessionCounts.{is_full, any_under}
 use Rattle.rsvp_base.proofs.SetLaws.{has-with_key, same_set, size-with_key}
 use Rattle.rsvp_base.proofs.Tables.{either, tied_same, tied_self, get-kept}
-use Rattle.session_lists.specs.Lists.{slot_of, sessions_of}
+use Rattle.session_index.specs.Lists.{slot_of, sessions_of}
 use Rattle.soft_pool.specs.declared.cell.Cell.{Cell}
 use Rattle.soft_pool.specs.declared.cell.Cell.TheVariants.{Free, Live, Due}
 use Rattle.soft_pool.specs.Cells.{is_live}
@@ -125,13 +126,15 @@ module _ {F R : Type 0} (cells : List (Cell F)) (es : List (R × ℕ)) where
     pub walk_row : (slot : ℕ) → at ≡ Some slot → (r : R) × (slice_get es w.place ≡ Some (r, slot))
     walk_row slot is = on_at (slice_get es w.place) slot (sym w.is ∙ is)
 
-    pub walk_found : (slot : ℕ) → at ≡ Some slot → is_live (slice_get cells slot) ≡ true → left ≡ 0 → option_map (λ (e : R × (F × ℕ)). e.1) (slice_get (live_of cells (drop j es)) k) ≡ live_in (slice_get cells slot)
+    pub walk_found : (slot : ℕ) → at ≡ Some slot → is_live (slice_get cells slot) ≡ true → left ≡ 0
+        → option_map (λ (e : R × (F × ℕ)). e.1) (slice_get (live_of cells (drop j es)) k) ≡ live_in (slice_get cells slot)
     walk_found slot is live zero_left =
         let r = walk_row slot is in
         let e = live_some (slice_get cells slot) live in
         ap (option_map (λ (e : R × (F × ℕ)). e.1)) (w.same ∙ ap (slice_get (live_of cells (drop w.place es))) zero_left ∙ ap (λ xs. slice_get xs 0) (live_here w.place r.0 slot e.0 r.1 e.1)) ∙ sym e.1
 
-    pub walk_on : (slot : ℕ) (next : Option ℕ) → at ≡ Some slot → next ≡ slot_of (slice_get es (w.place + 1)) → is_live (slice_get cells slot) ≡ true → (left ≡ 0 → ⊥) → IsWalk cells es j k next (left - 1) (step + 1)
+    pub walk_on : (slot : ℕ) (next : Option ℕ) → at ≡ Some slot → next ≡ slot_of (slice_get es (w.place + 1)) → is_live (slice_get cells slot) ≡ true → (left ≡ 0 → ⊥)
+        → IsWalk cells es j k next (left - 1) (step + 1)
     walk_on slot next is next_is live more =
         let r = walk_row slot is in
         let e = live_some (slice_get cells slot) live in
@@ -140,7 +143,8 @@ module _ {F R : Type 0} (cells : List (Cell F)) (es : List (R × ℕ)) where
           place = w.place + 1;
           is = next_is;
           far = omega (arith, w.far);
-          same = w.same ∙ ap (λ xs. slice_get xs left) (live_here w.place r.0 slot e.0 r.1 e.1) ∙ later_one (r.0, e.0) (live_of cells (drop (suc w.place) es)) left more ∙ ap (λ n. slice_get (live_of cells (drop n es)) (left - 1)) on;
+          same = w.same ∙ ap (λ xs. slice_get xs left) (live_here w.place r.0 slot e.0 r.1 e.1) ∙ later_one (r.0, e.0) (live_of cells (drop (suc w.place) es)) left more
+              ∙ ap (λ n. slice_get (live_of cells (drop n es)) (left - 1)) on;
         }
 
     pub walk_over : (slot : ℕ) (next : Option ℕ) → at ≡ Some slot → next ≡ slot_of (slice_get es (w.place + 1)) → is_live (slice_get cells slot) ≡ false → IsWalk cells es j k next left (step + 1)
@@ -180,7 +184,8 @@ module _ {K : Type 0} (o : Keys K) (p : K → Bool) (es : List (K × Unit {0})) 
   none_more_of i k at test =
       let x = row_got es i k at in
       let on : suc i ≡ i + 1 = omega arith in
-      ap passing (dropped_at es i x.0 x.1) ∙ ap (λ b. length (cond b (x.0 ∷ where_key o.cmp p (drop (suc i) es)) (where_key o.cmp p (drop (suc i) es)))) (ap p x.2 ∙ test) ∙ ap (λ n. passing (drop n es)) on
+      ap passing (dropped_at es i x.0 x.1) ∙ ap (λ b. length (cond b (x.0 ∷ where_key o.cmp p (drop (suc i) es)) (where_key o.cmp p (drop (suc i) es)))) (ap p x.2 ∙ test)
+      ∙ ap (λ n. passing (drop n es)) on
 
 -- ---- rows in order change the first part of their keys as often as there are such parts
 not_after : (r q : Ordering) → T (is_lt (ordering_then r q)) → r ≡ Greater → ⊥
@@ -229,8 +234,10 @@ module _ {A R V : Type 0} (o : Keys A) (rests : Keys R) where
       ∙ rest ∙ ap (λ x. 1 + changes o (Some x) (firsts es)) (sym (tied_same o a b t)) ∙ ap (λ w. 1 + cond w (changes o (Some a) (firsts es)) (1 + changes o (Some b) (firsts es))) (sym t))
       (λ t.
       let less = before (o.cmp a b) (rests.cmp e.0.1 f.0.1) (first _ _ (first _ _ h)) t in
-      let gone : (eq_by_cmp o.cmp a b || list_any (eq_by_cmp o.cmp a) (firsts es)) ≡ false = ap (λ w. w || list_any (eq_by_cmp o.cmp a) (firsts es)) t ∙ none_later a f.0 es less (first _ _ (second _ _ h)) in
-      let more : size (set_of {o = o} (firsts (e ∷ f ∷ es))) ≡ size (set_of {o = o} (firsts (f ∷ es))) + 1 = size_cons o a (firsts (f ∷ es)) ∙ ap (λ w. cond w (size (set_of {o = o} (firsts (f ∷ es)))) (size (set_of {o = o} (firsts (f ∷ es))) + 1)) gone in
+      let gone : (eq_by_cmp o.cmp a b || list_any (eq_by_cmp o.cmp a) (firsts es)) ≡ false = ap (λ w. w || list_any (eq_by_cmp o.cmp a) (firsts es)) t
+      ∙ none_later a f.0 es less (first _ _ (second _ _ h)) in
+      let more : size (set_of {o = o} (firsts (e ∷ f ∷ es))) ≡ size (set_of {o = o} (firsts (f ∷ es))) + 1 = size_cons o a (firsts (f ∷ es))
+      ∙ ap (λ w. cond w (size (set_of {o = o} (firsts (f ∷ es)))) (size (set_of {o = o} (firsts (f ∷ es))) + 1)) gone in
       let change : changes o (Some a) (firsts (f ∷ es)) ≡ 1 + changes o (Some b) (firsts es) = ap (λ w. cond w (changes o (Some a) (firsts es)) (1 + changes o (Some b) (firsts es))) t in
       omega (arith, more, rest, change))
 
@@ -258,18 +265,21 @@ module _ {F R : Type 0} (rests : Keys R) (key : F → Session × R) (cells : Lis
   pub facts_are : (s : Session) → live_of cells (own s) ≡ rows_under sessions rests s (facts_by key (facts_in cells rows))
   facts_are s = sym (under_live rests cells s rows) ∙ ap (rows_under sessions rests s) live_are
 
-  value_of : (es : List (R × (F × ℕ))) (k : ℕ) (e : Option (F × ℕ)) → option_map (λ (e : R × (F × ℕ)). e.1) (slice_get es k) ≡ e → option_map (λ (e : F × ℕ). e.0) e ≡ option_map (λ (e : R × (F × ℕ)). e.1.0) (slice_get es k)
+  value_of : (es : List (R × (F × ℕ))) (k : ℕ) (e : Option (F × ℕ)) → option_map (λ (e : R × (F × ℕ)). e.1) (slice_get es k) ≡ e
+      → option_map (λ (e : F × ℕ). e.0) e ≡ option_map (λ (e : R × (F × ℕ)). e.1.0) (slice_get es k)
   value_of es k e is = ap (option_map (λ (e : F × ℕ). e.0)) (sym is) ∙ inner (slice_get es k)
     where
       inner : (o : Option (R × (F × ℕ))) → option_map (λ (e : F × ℕ). e.0) (option_map (λ (e : R × (F × ℕ)). e.1) o) ≡ option_map (λ (e : R × (F × ℕ)). e.1.0) o
       inner None = refl
       inner (Some x) = refl
 
-  pub kth_fact : (s : Session) (k : ℕ) (e : Option (F × ℕ)) → option_map (λ (e : R × (F × ℕ)). e.1) (slice_get (live_of cells (own s)) k) ≡ e → option_map (λ (e : F × ℕ). e.0) e ≡ option_map (λ (e : R × (F × ℕ)). e.1.0) (slice_get (rows_under sessions rests s (facts_by key (facts_in cells rows))) k)
+  pub kth_fact : (s : Session) (k : ℕ) (e : Option (F × ℕ)) → option_map (λ (e : R × (F × ℕ)). e.1) (slice_get (live_of cells (own s)) k) ≡ e
+      → option_map (λ (e : F × ℕ). e.0) e ≡ option_map (λ (e : R × (F × ℕ)). e.1.0) (slice_get (rows_under sessions rests s (facts_by key (facts_in cells rows))) k)
   kth_fact s k e is = value_of (live_of cells (own s)) k e is ∙ ap (λ es. option_map (λ (e : R × (F × ℕ)). e.1.0) (slice_get es k)) (facts_are s)
 
   -- and of those behind a rest
-  pub next_fact : (s : Session) (r : R) (j : ℕ) (e : Option (F × ℕ)) → rows_behind rests r (own s) ≡ drop j (own s) → option_map (λ (e : R × (F × ℕ)). e.1) (slice_get (live_of cells (drop j (own s))) 0) ≡ e
+  pub next_fact : (s : Session) (r : R) (j : ℕ) (e : Option (F × ℕ)) → rows_behind rests r (own s) ≡ drop j (own s)
+      → option_map (λ (e : R × (F × ℕ)). e.1) (slice_get (live_of cells (drop j (own s))) 0) ≡ e
       → option_map (λ (e : F × ℕ). e.0) e ≡ option_map (λ (e : R × (F × ℕ)). e.1.0) (slice_get (rows_behind rests r (rows_under sessions rests s (facts_by key (facts_in cells rows)))) 0)
   next_fact s r j e at is =
       value_of (live_of cells (drop j (own s))) 0 e is
@@ -281,7 +291,8 @@ module _ {F R : Type 0} (rests : Keys R) (key : F → Session × R) (cells : Lis
   in_own s (d ∷ ds) i e at = by (eq_by_cmp sessions.cmp s d.0.0) refl i at (λ n is. in_own s ds n e is)
     where
       by : (b : Bool) → eq_by_cmp sessions.cmp s d.0.0 ≡ b → (n : ℕ)
-          → slice_get (each (λ (e : (Session × R) × ℕ). (e.0.1, e.1)) (cond b (d ∷ where_key (fact_keys rests).cmp (λ k. eq_by_cmp sessions.cmp s k.0) ds) (where_key (fact_keys rests).cmp (λ k. eq_by_cmp sessions.cmp s k.0) ds))) n ≡ Some e
+          → slice_get (each (λ (e : (Session × R) × ℕ). (e.0.1, e.1)) (cond b (d ∷ where_key (fact_keys rests).cmp (λ k. eq_by_cmp sessions.cmp s k.0) ds)
+          (where_key (fact_keys rests).cmp (λ k. eq_by_cmp sessions.cmp s k.0) ds))) n ≡ Some e
           → ((m : ℕ) → slice_get (rows_under sessions rests s ds) m ≡ Some e → (j : ℕ) × (slice_get ds j ≡ Some ((s, e.0), e.1))) → (j : ℕ) × (slice_get (d ∷ ds) j ≡ Some ((s, e.0), e.1))
       by true tie zero is later =
           let one : ◌≡◌ {A = R × ℕ} (d.0.1, d.1) e = cc in
@@ -313,13 +324,15 @@ module _ {F R : Type 0} (rests : Keys R) (key : F → Session × R) (cells : Lis
       one : d ≡ ((s, r), t) → Some (first_row d) ≡ Some (r, t)
       one is = ap (λ (z : (Session × R) × ℕ). Some (first_row z)) is
 
-      head : (b : Bool) → b ≡ true → slice_get (each (λ (e : (Session × R) × ℕ). (e.0.1, e.1)) (cond b (d ∷ where_key (fact_keys rests).cmp (λ k. eq_by_cmp sessions.cmp s k.0) ds) (where_key (fact_keys rests).cmp (λ k. eq_by_cmp sessions.cmp s k.0) ds))) 0 ≡ Some (first_row d)
+      head : (b : Bool) → b ≡ true → slice_get (each (λ (e : (Session × R) × ℕ). (e.0.1, e.1))
+          (cond b (d ∷ where_key (fact_keys rests).cmp (λ k. eq_by_cmp sessions.cmp s k.0) ds) (where_key (fact_keys rests).cmp (λ k. eq_by_cmp sessions.cmp s k.0) ds))) 0 ≡ Some (first_row d)
       head true e = refl
       head false e = absurd (both_ways _ refl e)
   to_own s r t (d ∷ ds) (suc i) at = by (eq_by_cmp sessions.cmp s d.0.0) (to_own s r t ds i at)
     where
       by : (b : Bool) → Stands r t (rows_under sessions rests s ds)
-          → Stands r t (each (λ (e : (Session × R) × ℕ). (e.0.1, e.1)) (cond b (d ∷ where_key (fact_keys rests).cmp (λ k. eq_by_cmp sessions.cmp s k.0) ds) (where_key (fact_keys rests).cmp (λ k. eq_by_cmp sessions.cmp s k.0) ds)))
+          → Stands r t (each (λ (e : (Session × R) × ℕ). (e.0.1, e.1)) (cond b (d ∷ where_key (fact_keys rests).cmp (λ k. eq_by_cmp sessions.cmp s k.0) ds)
+          (where_key (fact_keys rests).cmp (λ k. eq_by_cmp sessions.cmp s k.0) ds)))
       by true rest = (suc rest.0, rest.1)
       by false rest = rest
 
@@ -348,10 +361,12 @@ module _ {F R : Type 0} (rests : Keys R) (key : F → Session × R) (cells : Lis
   session_has q =
       let live : has_live rests cells rows q ≡ is_full (live_of cells (own q)) = full_of (live_of cells (own q)) in
       let listed : each (λ e. (key e.0).0) (facts_in cells rows) ≡ each (λ (k : Session × R). k.0) (each (λ (e : (Session × R) × (F × ℕ)). e.0) (live_of cells rows)) =
-      sym (ap (each (λ (k : Session × R). k.0)) (ap (each (λ (e : (Session × R) × (F × ℕ)). e.0)) live_are ∙ map-map (λ (e : (Session × R) × (F × ℕ)). e.0) (λ (e : F × ℕ). (key e.0, e)) (facts_in cells rows))
+      sym (ap (each (λ (k : Session × R). k.0)) (ap (each (λ (e : (Session × R) × (F × ℕ)). e.0)) live_are
+      ∙ map-map (λ (e : (Session × R) × (F × ℕ)). e.0) (λ (e : F × ℕ). (key e.0, e)) (facts_in cells rows))
       ∙ map-map (λ (k : Session × R). k.0) (λ (e : F × ℕ). key e.0) (facts_in cells rows)) in
       let facts : has (sessions_in key (facts_in cells rows)) q ≡ is_full (live_of cells (own q)) =
-      has-set_of sessions (each (λ e. (key e.0).0) (facts_in cells rows)) q ∙ ap (list_any (eq_by_cmp sessions.cmp q)) listed ∙ any_under rests q (live_of cells rows) ∙ ap is_full (under_live rests cells q rows) in
+      has-set_of sessions (each (λ e. (key e.0).0) (facts_in cells rows)) q ∙ ap (list_any (eq_by_cmp sessions.cmp q)) listed ∙ any_under rests q (live_of cells rows)
+      ∙ ap is_full (under_live rests cells q rows) in
       let all : has (sessions_of rows) q ≡ is_full (own q) = has-set_of sessions (each (λ (k : Session × R). k.0) (each (λ (e : (Session × R) × ℕ). e.0) rows)) q ∙ any_under rests q rows in
       ap is_some (get-kept sessions (has_live rests cells rows) (sessions_of rows) q)
       ∙ either (is_full (live_of cells (own q)))

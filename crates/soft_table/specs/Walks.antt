@@ -7,7 +7,7 @@ use Rattle.rsvp_base.specs.Orders.{sessions}
 use Rattle.rsvp_base.specs.Table.{changed_rows}
 use Rattle.rsvp_base.specs.Under.{rows_under}
 use Rattle.rsvp_base.specs.declared.session.Session.{Session}
-use Rattle.session_lists.specs.Lists.{slot_of}
+use Rattle.session_index.specs.Lists.{slot_of}
 use Rattle.soft_pool.specs.declared.cell.Cell.{Cell}
 use Rattle.soft_pool.specs.declared.cell.Slot.{Slot}
 use Rattle.soft_table.specs.Facts.{facts_by, rows_behind}

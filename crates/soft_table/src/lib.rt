@@ -4,7 +4,7 @@
 //! Contracts see the facts in the order of their keys, each with the milliseconds that are left of it, and the dead facts
 //! that wait to be pulled. Memory is taken when a table is opened, and never later.
 //!
-//! The rows of the facts stand in lists by session (`session_lists`), in the order of keys: a fact is put, found and removed,
+//! The rows of the facts stand in lists by session (`session_index`), in the order of keys: a fact is put, found and removed,
 //! and a session's facts are gone through, without a look at the rows of other sessions, and no row is moved.
 #![tactic(auto)]
 

@@ -1,6 +1,6 @@
 //! The order of the rows of a table.
 use crate::fact::Fact;
-use session_lists::RestOrder;
+use session_index::RestOrder;
 use std::cmp::Ordering;
 use std::marker::PhantomData;
 

@@ -5,7 +5,7 @@ ghost use Rattle.std.specs.Option.{option_copied, option_map};
 ghost use Rattle.rsvp_base.specs.Orders.{sessions};
 ghost use Rattle.rsvp_base.specs.Table.{size, kept};
 ghost use Rattle.rsvp_base.specs.Under.{rows_under};
-ghost use Rattle.session_lists.specs.Lists.{slot_of, sessions_of};
+ghost use Rattle.session_index.specs.Lists.{slot_of, sessions_of};
 ghost use Rattle.soft_table.specs.Facts.{rows_behind};
 ghost use Rattle.soft_table.specs.Index.{live_in, value_in};
 ghost use Rattle.soft_table.specs.Walks.{AreSlots, IsRowOf, live_of, has_live};
@@ -13,7 +13,7 @@ ghost use Rattle.soft_table.specs.Walks.{AreSlots, IsRowOf, live_of, has_live};
 use crate::fact::Fact;
 use crate::order::Rests;
 use rsvp_base::Session;
-use session_lists::SessionLists;
+use session_index::SessionLists;
 use soft_pool::{Pool, Slot};
 use std::cmp::Ordering;
 

@@ -10,7 +10,7 @@ use crate::fact::Fact;
 use crate::order::Rests;
 use crate::rows::nth;
 use rsvp_base::Session;
-use session_lists::SessionLists;
+use session_index::SessionLists;
 use soft_pool::{Pool, Slot};
 use std::marker::Model;
 

@@ -16,7 +16,7 @@ use crate::order::Rests;
 use crate::rows::{behind, count_sessions, fact_in, nth};
 use crate::session_facts::{SessionFacts, facts_of};
 use rsvp_base::{Full, NoMemory, Session};
-use session_lists::SessionLists;
+use session_index::SessionLists;
 use soft_pool::{Pool, Slot};
 use std::alloc::Global;
 use std::marker::Model;

@@ -14,16 +14,20 @@ use Rattle.rsvp_base.proofs.Tables.{either}
 use Rattle.flow_merge.specs.FlowOrder.{IsAtMost}
 use Rattle.style_rules.specs.Parts.{part_join, part_meet, IsPartAtMost, IsOfStyle}
 use Rattle.rsvp_base.specs.Styles.{part_unit}
-use Rattle.style_rules.specs.PartLaws.{part_at_most_apart, part_at_most_itself, part_at_most_along, part_at_most_both_ways, part_join_above_left, part_join_above_right, part_join_least, charge_below, most_below, part_at_most_told, part_at_most_tested}
+use Rattle.style_rules.specs.PartLaws.{part_at_most_apart, part_at_most_itself, part_at_most_along, part_at_most_both_ways, part_join_above_left, part_join_above_right, part_join_least}
+use Rattle.style_rules.specs.PartLaws.{charge_below, most_below, part_at_most_told, part_at_most_tested}
 use Rattle.style_rules.specs.CutLaws.{cut_none, cut_senders, cut_flow, cut_below, cut_monotone, cut_of_cut, cut_of_nothing, name_some}
 use Rattle.style_rules.specs.Merge.{merge, PartTable, IsPartOf, IsMergeOf}
 use Rattle.style_rules.specs.Toward.{Request, toward, IsRequestOf}
 use Rattle.style_rules.specs.Lines.{Line, entry_key, merged_book, at_end, AreUnder}
 use Rattle.rsvp_base.specs.declared.entry_key.EntryKey.{EntryKey}
-use Rattle.style_rules.specs.Laws.{AtMostIsAnOrder, AtMostByNamesAndFlow, JoinIsTheLeastAbove, CutByNames, CutIsBelowAndMonotone, CutOfACut, ChargeAndMostAreMonotone, MergeIsTheLeastAboveItsNamedParts, MergeKeepsTheStyle, TowardIsAtMostTheMerge, TowardIsAtLeastTheMeet, TowardIsTheJoinOfTheOpen, PartsOfAStyle, MergeBelow, SumsBelow, TestsTell}
+use Rattle.style_rules.specs.Laws.{AtMostIsAnOrder, AtMostByNamesAndFlow, JoinIsTheLeastAbove, CutByNames, CutIsBelowAndMonotone, CutOfACut, ChargeAndMostAreMonotone}
+use Rattle.style_rules.specs.Laws.{MergeIsTheLeastAboveItsNamedParts, MergeKeepsTheStyle, TowardIsAtMostTheMerge, TowardIsAtLeastTheMeet, TowardIsTheJoinOfTheOpen, PartsOfAStyle}
+use Rattle.style_rules.specs.Laws.{MergeBelow, SumsBelow, TestsTell}
 use Rattle.style_rules.proofs.StyleLaws.{a_name, cut_of_style, cut_keeps_unit, united_style, united_unit, wild_parts, fixed_parts, shared_parts}
 use Rattle.style_rules.proofs.Merges.{merge_source, merge_above, merge_least, merge_alone, merge_keeps, merges_same, get-merge_of}
-use Rattle.style_rules.proofs.Towards.{get-toward, toward_below, toward_units, toward_of_open, toward_open, toward_source, toward_there, toward_above_meet, meet_there, toward_join, toward_keeps, open_below, open_charge, open_most}
+use Rattle.style_rules.proofs.Towards.{get-toward, toward_below, toward_units, toward_of_open, toward_open, toward_source, toward_there, toward_above_meet, meet_there, toward_join}
+use Rattle.style_rules.proofs.Towards.{toward_keeps, open_below, open_charge, open_most}
 use Rattle.style_rules.proofs.Books.{book_below, under_at_end, held_below, held_at_end_below}
 use Rattle.style_rules.proofs.Room.{within_told, within_tested}
 

@@ -60,7 +60,8 @@ module _ {X : Type 0} (op : X → X → X) where
   all_push_first (x ∷ xs) y e = absurd (cc)
 
 -- one operation under a function is another
-pub all_under : {X Y : Type 0} (op : X → X → X) (op' : Y → Y → Y) (f : X → Y) → ((a b : X) → f (op a b) ≡ op' (f a) (f b)) → (xs : List X) (m : X) → all_by op xs ≡ Some m → all_by op' (each f xs) ≡ Some (f m)
+pub all_under : {X Y : Type 0} (op : X → X → X) (op' : Y → Y → Y) (f : X → Y) → ((a b : X) → f (op a b) ≡ op' (f a) (f b)) → (xs : List X) (m : X) → all_by op xs ≡ Some m
+    → all_by op' (each f xs) ≡ Some (f m)
 all_under op op' f same [] m e = absurd (cc)
 all_under op op' f same (x ∷ xs) m e = let is : fold op x xs ≡ m = cc in ap Some (folds x xs (f x) refl) ∙ ap (λ z. Some (f z)) is
   where

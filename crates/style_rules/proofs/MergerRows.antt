@@ -71,7 +71,8 @@ module _ (xs : List Row) (up : AreRows units tally_row xs) (t : TallyTable) (is 
       let all = named_after st p some t b (subst (AreNamed st) (rows_are units tally_row xs up t is) named) in
       let fewer = rows_le_names st after all in
       let few = room_after t (part_unit st p) p b room in
-      let one : size after ≡ size t + 1 = size-put_new units tally_row xs up t is (part_unit st p) (first_or_with (get t (part_unit st p)) p b) i (subst (λ v. LacksRowAt units tally_row xs v i) at lacks) in
+      let one : size after ≡ size t + 1 = size-put_new units tally_row xs up t is (part_unit st p) (first_or_with (get t (part_unit st p)) p b) i
+      (subst (λ v. LacksRowAt units tally_row xs v i) at lacks) in
       let same = size_rows units tally_row xs up t is in
       omega (arith, fewer, few, one, same)
 
@@ -79,7 +80,8 @@ module _ (xs : List Row) (up : AreRows units tally_row xs) (t : TallyTable) (is 
   row_room k i d p h room = row_fits t k (standing_of (get_or xs i d)) p.senders (get_found units tally_row xs up t is k i d h) room
 
   -- the row that is put in place of the unit's
-  pub stood_row : (k : UnitOf) (i : ℕ) (d row : Row) (p : Part) (b : Bool) → HasRowAt units tally_row xs k i → row.unit ≡ (get_or xs i d).unit → standing_of row ≡ stood_with (standing_of (get_or xs i d)) p b
+  pub stood_row : (k : UnitOf) (i : ℕ) (d row : Row) (p : Part) (b : Bool) → HasRowAt units tally_row xs k i → row.unit ≡ (get_or xs i d).unit
+      → standing_of row ≡ stood_with (standing_of (get_or xs i d)) p b
       → each tally_row (set xs i row) ≡ (put_in t k (first_or_with (get t k) p b)).rows
   stood_row k i d row p b h same stands =
       let found = get_found units tally_row xs up t is k i d h in
@@ -127,7 +129,8 @@ pub names_more : (p : Names) (xs : List Row) (i : ℕ) (d : Row) → i < length 
     → union (union p (names_of_rows (each tally_row (take i xs)))) (get_or xs i d).part.senders ≡ union p (names_of_rows (each tally_row (take (i + 1) xs)))
 names_more p xs i d lt =
     union_assoc senders p (names_of_rows (each tally_row (take i xs))) (get_or xs i d).part.senders
-    ∙ ap (union p) (names_push (each tally_row (take i xs)) (tally_row (get_or xs i d)) ∙ ap names_of_rows (sym (each_push (take i xs) (get_or xs i d)) ∙ ap (each tally_row) (sym (take_more xs i d lt))))
+    ∙ ap (union p) (names_push (each tally_row (take i xs)) (tally_row (get_or xs i d)) ∙ ap names_of_rows
+    (sym (each_push (take i xs) (get_or xs i d)) ∙ ap (each tally_row) (sym (take_more xs i d lt))))
 
 -- and no more than those of all
 pub names_so_far : (p : Names) (xs : List Row) (i : ℕ) → size (union p (names_of_rows (each tally_row (take i xs)))) ≤ size (union (names_of_rows (each tally_row xs)) p)

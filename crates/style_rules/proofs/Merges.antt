@@ -36,8 +36,10 @@ module _ {K X : Type 0} (o : Keys K) where
   get-table_at f (k ∷ ks) q =
       either (eq_by_cmp o.cmp q k)
       (λ t.
-      let here : get (put_some k (f k) (table_at {o = o} f ks)) k ≡ f k = put_some_here k (f k) (table_at {o = o} f ks) (λ n. get-table_at f ks k ∙ if_none (list_any (eq_by_cmp o.cmp k) ks) (f k) n) in
-      subst (λ (z : K). get (put_some z (f z) (table_at {o = o} f ks)) q ≡ f q) (tied_same o q k t) (subst (λ (z : K). get (put_some z (f z) (table_at {o = o} f ks)) z ≡ f z) (sym (tied_same o q k t)) here)
+      let here : get (put_some k (f k) (table_at {o = o} f ks)) k ≡ f k = put_some_here k (f k) (table_at {o = o} f ks)
+      (λ n. get-table_at f ks k ∙ if_none (list_any (eq_by_cmp o.cmp k) ks) (f k) n) in
+      subst (λ (z : K). get (put_some z (f z) (table_at {o = o} f ks)) q ≡ f q) (tied_same o q k t)
+      (subst (λ (z : K). get (put_some z (f z) (table_at {o = o} f ks)) z ≡ f z) (sym (tied_same o q k t)) here)
       ∙ sym (ap (λ b. cond (b || list_any (eq_by_cmp o.cmp q) ks) (f q) None) t))
       (λ t. get-put_some k (f k) (table_at {o = o} f ks) q t ∙ get-table_at f ks q ∙ sym (ap (λ b. cond (b || list_any (eq_by_cmp o.cmp q) ks) (f q) None) t))
 
@@ -91,8 +93,12 @@ module _ {L K : Type 0} (o : Keys K) (key : L → K) (part : L → Part) where
   pub merge_above : (ls : List L) (l : L) → In l ls → has_name (part l) ≡ true → (m : Part) × (get (merge_of o key part ls) (key l) ≡ Some m) × IsPartAtMost (part l) m
   merge_above ls l i named =
       let there = to_each part l (those_at o key part (key l) ls) (to_those (key l) l ls i named refl) in
-      let r = all_some part_join (each part (those_at o key part (key l) ls)) (part l) there in
-      (r.0, get-merge_of ls (key l) ∙ r.1, all_above part_join IsPartAtMost part_at_most_itself part_at_most_along part_join_above_left part_join_above_right (each part (those_at o key part (key l) ls)) r.0 r.1 (part l) there)
+      let r = all_some part_join (each part (those_at o key part (key l) ls)) (part l) there in (
+        r.0,
+        get-merge_of ls (key l) ∙ r.1,
+        all_above part_join IsPartAtMost part_at_most_itself part_at_most_along part_join_above_left part_join_above_right
+            (each part (those_at o key part (key l) ls)) r.0 r.1 (part l) there,
+      )
 
   -- what two parts together keep, the merge has of its key's
   pub merge_keeps : (P : Part → Type 0) → ((a b : Part) → P a → P b → P (part_join a b)) → (ls : List L) (k : K) (m : Part) → get (merge_of o key part ls) k ≡ Some m
@@ -102,7 +108,8 @@ module _ {L K : Type 0} (o : Keys K) (key : L → K) (part : L → Part) where
       (λ p i. let s = in_each part p (those_at o key part k ls) i in let t = in_those k s.0 ls s.1 in subst P (sym s.2) (every s.0 t.0 t.1 t.2))
 
   -- and is the least
-  pub merge_least : (ls : List L) (k : K) (m c : Part) → get (merge_of o key part ls) k ≡ Some m → ((l : L) → In l ls → has_name (part l) ≡ true → k ≡ key l → IsPartAtMost (part l) c) → IsPartAtMost m c
+  pub merge_least : (ls : List L) (k : K) (m c : Part) → get (merge_of o key part ls) k ≡ Some m → ((l : L) → In l ls → has_name (part l) ≡ true → k ≡ key l → IsPartAtMost (part l) c)
+      → IsPartAtMost m c
   merge_least ls k m c e every = merge_keeps (λ p. IsPartAtMost p c) (λ a b h g. part_join_least a b c h g) ls k m e every
 
   pub merge_named : (ls : List L) (k : K) (m : Part) → get (merge_of o key part ls) k ≡ Some m → has_name m ≡ true
@@ -165,7 +172,8 @@ module _ {L G K : Type 0} (o : Keys K) (key : L → K) (part : L → Part) (key'
   EachUnder ls gs = (l : L) → In l ls → has_name (part l) ≡ true → (g : G) × In g gs × (key l ≡ key' g) × IsPartAtMost (part l) (part' g)
 
   -- fewer and smaller parts have a smaller merge
-  pub merge_below : (ls : List L) (gs : List G) → EachUnder ls gs → (k : K) (x : Part) → get (merge_of o key part ls) k ≡ Some x → (y : Part) × (get (merge_of o key' part' gs) k ≡ Some y) × IsPartAtMost x y
+  pub merge_below : (ls : List L) (gs : List G) → EachUnder ls gs → (k : K) (x : Part) → get (merge_of o key part ls) k ≡ Some x
+      → (y : Part) × (get (merge_of o key' part' gs) k ≡ Some y) × IsPartAtMost x y
   merge_below ls gs under k x e =
       let s = merge_source o key part ls k x e in
       let first = above k s.0 s.1 s.2 s.3 in
@@ -190,7 +198,8 @@ module _ {L G K : Type 0} (o : Keys K) (key : L → K) (part : L → Part) (key'
 -- two lists of which each lies under the other have one merge
 pub merges_same : {L G K : Type 0} (o : Keys K) (key : L → K) (part : L → Part) (key' : G → K) (part' : G → Part) (ls : List L) (gs : List G)
     → EachUnder o key part key' part' ls gs → EachUnder o key' part' key part gs ls → merge_of o key part ls ≡ merge_of o key' part' gs
-merges_same {L} {G} {K} o key part key' part' ls gs under over = same_table o (merge_of o key part ls) (merge_of o key' part' gs) (λ k. by k (get (merge_of o key part ls) k) refl (get (merge_of o key' part' gs) k) refl)
+merges_same {L} {G} {K} o key part key' part' ls gs under over = same_table o (merge_of o key part ls) (merge_of o key' part' gs)
+    (λ k. by k (get (merge_of o key part ls) k) refl (get (merge_of o key' part' gs) k) refl)
   where
     by : (k : K) (v : Option Part) → get (merge_of o key part ls) k ≡ v → (w : Option Part) → get (merge_of o key' part' gs) k ≡ w → get (merge_of o key part ls) k ≡ get (merge_of o key' part' gs) k
     by k None e None f = e ∙ sym f

@@ -96,6 +96,8 @@ within_below st ls gs h w =
     record {
       lines = below _ _ 1024 (set_below line_keys _ _ (by_key (λ k. k) (of_style st ls) (of_style st gs) u)) w.lines;
       sessions = below _ _ 32 (set_below sessions _ _ (by_key (λ k. k.0) (of_style st ls) (of_style st gs) u)) w.sessions;
-      next_hops = λ s. below _ _ 64 (set_below next_hops _ _ (by_key (λ k. k.1.0) (of_session s (of_style st ls)) (of_session s (of_style st gs)) (under_of_session s (of_style st ls) (of_style st gs) u))) (w.next_hops s);
-      names = λ s. below _ _ 16 (set_below senders _ _ (names_among (of_session s (of_style st ls)) (of_session s (of_style st gs)) (under_of_session s (of_style st ls) (of_style st gs) u))) (w.names s);
+      next_hops = λ s. below _ _ 64 (set_below next_hops _ _ (by_key (λ k. k.1.0) (of_session s (of_style st ls)) (of_session s (of_style st gs))
+          (under_of_session s (of_style st ls) (of_style st gs) u))) (w.next_hops s);
+      names = λ s. below _ _ 16 (set_below senders _ _ (names_among (of_session s (of_style st ls)) (of_session s (of_style st gs)) (under_of_session s (of_style st ls) (of_style st gs) u)))
+          (w.names s);
     }

@@ -73,7 +73,8 @@ one_more st rs r u t = filter-append (of_unit st u) rs (r ∷ []) ∙ ap (λ b. 
 no_more : (st : StyleKind) (rs : List Request) (r : Request) (u : UnitOf) → of_unit st u r ≡ false → requests_at st u (rs ++ r ∷ []) ≡ requests_at st u rs
 no_more st rs r u t = filter-append (of_unit st u) rs (r ∷ []) ∙ ap (λ b. requests_at st u rs ++ cond b (r ∷ []) []) t ∙ append-nil (requests_at st u rs)
 
-standing_more : (rs : List Request) (p : Part) (b : Bool) → standing (parts_of (open_of (rs ++ record { part = p; blockaded = b } ∷ []))) (parts_of (rs ++ record { part = p; blockaded = b } ∷ [])) ≡ Some (first_or_with (standing (parts_of (open_of rs)) (parts_of rs)) p b)
+standing_more : (rs : List Request) (p : Part) (b : Bool) → standing (parts_of (open_of (rs ++ record { part = p; blockaded = b } ∷ []))) (parts_of (rs ++ record { part = p; blockaded = b } ∷ []))
+    ≡ Some (first_or_with (standing (parts_of (open_of rs)) (parts_of rs)) p b)
 standing_more rs p true =
     (λ i. standing (parts_of (open-append rs (record { part = p; blockaded = true } ∷ []) i)) (parts-append rs (record { part = p; blockaded = true } ∷ []) i))
     ∙ ap (λ zs. standing (parts_of zs) (parts_of rs ++ p ∷ [])) (append-nil (open_of rs)) ∙ more_blockaded (parts_of (open_of rs)) (parts_of rs) p
@@ -81,7 +82,8 @@ standing_more rs p false =
     (λ i. standing (parts_of (open-append rs (record { part = p; blockaded = false } ∷ []) i)) (parts-append rs (record { part = p; blockaded = false } ∷ []) i))
     ∙ ap (λ zs. standing zs (parts_of rs ++ p ∷ [])) (parts-append (open_of rs) (record { part = p; blockaded = false } ∷ [])) ∙ more_open (parts_of (open_of rs)) (parts_of rs) p
 
-get-with_request : (st : StyleKind) (t : TallyTable) (p : Part) (b : Bool) (u : UnitOf) → get (with_request st t p b) u ≡ cond (has_name p && eq_by_cmp units.cmp u (part_unit st p)) (Some (first_or_with (get t (part_unit st p)) p b)) (get t u)
+get-with_request : (st : StyleKind) (t : TallyTable) (p : Part) (b : Bool) (u : UnitOf) → get (with_request st t p b) u
+    ≡ cond (has_name p && eq_by_cmp units.cmp u (part_unit st p)) (Some (first_or_with (get t (part_unit st p)) p b)) (get t u)
 get-with_request st t p b u =
     elim (has_name p) as (λ h. get (cond h (put_in t (part_unit st p) (first_or_with (get t (part_unit st p)) p b)) t) u ≡ cond (h && eq_by_cmp units.cmp u (part_unit st p)) (Some (first_or_with (get t (part_unit st p)) p b)) (get t u)) [
       | true ↦ get-put_in units t (part_unit st p) (first_or_with (get t (part_unit st p)) p b) u

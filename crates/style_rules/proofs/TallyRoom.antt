@@ -47,7 +47,8 @@ union_wider a b c d h g s e =
 -- with a row's part, no more are named than with all rows
 pub row_fits : (t : TallyTable) (u : UnitOf) (s : Standing) (names : Names) → get t u ≡ Some s → size (union (names_of_tally t) names) ≤ 16 → size (union s.part.senders names) ≤ 16
 row_fits t u s names e room =
-    let less = size_within senders (union s.part.senders names) (union (names_of_tally t) names) (union_wider s.part.senders names (names_of_tally t) names (λ q h. name_of_row t.rows (u, s) q (found_in units t u s e) h) (λ q h. h)) in
+    let less = size_within senders (union s.part.senders names) (union (names_of_tally t) names)
+    (union_wider s.part.senders names (names_of_tally t) names (λ q h. name_of_row t.rows (u, s) q (found_in units t u s e) h) (λ q h. h)) in
     omega arith
 
 -- ---- one more request
@@ -92,7 +93,8 @@ module _ (st : StyleKind) (p : Part) (some : has_name p ≡ true) where
     where
       by : (o : Bool) → s.is_open ≡ o → is_named st (part_unit st p, stood_with s p true) ≡ true
       by true e = subst (λ (x : Part). is_named st (part_unit st p, record { part = x; is_open = s.is_open }) ≡ true) (sym (ap (λ o. cond o s.part (part_meet s.part p)) e)) h
-      by false e = with_names (stood_with s p true) (subst (λ (x : Part). IsWithin p.senders x.senders) (sym (ap (λ o. cond o s.part (part_meet s.part p)) e)) (within_union_right senders s.part.senders p.senders))
+      by false e = with_names (stood_with s p true) (subst (λ (x : Part). IsWithin p.senders x.senders) (sym (ap (λ o. cond o s.part (part_meet s.part p)) e))
+          (within_union_right senders s.part.senders p.senders))
   stood_named s false h = with_names (stood_with s p false) (by s.is_open refl)
     where
       by : (o : Bool) → s.is_open ≡ o → IsWithin p.senders (stood_with s p false).part.senders
@@ -154,7 +156,8 @@ tally_names st rs q h =
     stood zs some s (Some x) e f =
         let is : x ≡ s.part = ap (λ (z : Standing). z.part) (same_some (standing_by true x) s f) in
         subst (λ (z : Part). IsWithin z.senders (names_of_requests rs)) is
-        (all_keeps part_join (λ p. IsWithin p.senders (names_of_requests rs)) two (parts_of (open_of zs)) x e (λ p i. of_request p (open_of zs) (λ r j. some r (in_filter (λ (z : Request). not z.blockaded) r zs j).0) i))
+        (all_keeps part_join (λ p. IsWithin p.senders (names_of_requests rs)) two (parts_of (open_of zs)) x e
+        (λ p i. of_request p (open_of zs) (λ r j. some r (in_filter (λ (z : Request). not z.blockaded) r zs j).0) i))
     stood zs some s None e f = met (all_by part_meet (parts_of zs)) refl f
       where
         met : (w : Option Part) → all_by part_meet (parts_of zs) ≡ w → option_map (standing_by false) w ≡ Some s → IsWithin s.part.senders (names_of_requests rs)
@@ -166,5 +169,6 @@ tally_names st rs q h =
 
 pub merger_has_room : (st : StyleKind) (rs : List Request) (p : Part) → size (union (names_of_requests rs) p.senders) ≤ 16 → size (union (names_of_tally (tally_of st rs)) p.senders) ≤ 16
 merger_has_room st rs p room =
-    let less = size_within senders (union (names_of_tally (tally_of st rs)) p.senders) (union (names_of_requests rs) p.senders) (union_wider (names_of_tally (tally_of st rs)) p.senders (names_of_requests rs) p.senders (tally_names st rs) (λ q h. h)) in
+    let less = size_within senders (union (names_of_tally (tally_of st rs)) p.senders) (union (names_of_requests rs) p.senders)
+    (union_wider (names_of_tally (tally_of st rs)) p.senders (names_of_requests rs) p.senders (tally_names st rs) (λ q h. h)) in
     omega arith

@@ -33,7 +33,8 @@ pub get-toward : (st : StyleKind) (rs : List Request) (u : UnitOf) → get (towa
 get-toward st rs u =
     get-table_at_all units (toward_at st rs) (each (request_unit st) rs) u
     (λ h. let none = none_those units (request_unit st) (λ (r : Request). r.part) u rs h in
-    or_none (all_by part_join (parts_of (open_of (requests_at st u rs)))) (all_by part_meet (parts_of (requests_at st u rs))) (ap (λ zs. all_by part_join (parts_of (open_of zs))) none) (ap (λ zs. all_by part_meet (parts_of zs)) none))
+    or_none (all_by part_join (parts_of (open_of (requests_at st u rs)))) (all_by part_meet (parts_of (requests_at st u rs))) (ap (λ zs. all_by part_join (parts_of (open_of zs))) none)
+    (ap (λ zs. all_by part_meet (parts_of zs)) none))
 
 -- the merge of all requests, at a unit
 pub get-merge-parts_of : (st : StyleKind) (rs : List Request) (u : UnitOf) → get (merge st (parts_of rs)) u ≡ all_by part_join (parts_of (requests_at st u rs))
@@ -45,7 +46,11 @@ get-merge-parts_of st rs u =
 -- a meet of fewer and smaller parts, below a join of more and larger ones
 meet_under : (a b : Part) (xs : List Part) → IsPartAtMost a b → IsPartAtMost (fold part_meet a xs) (fold part_join b xs)
 meet_under a b [] h = h
-meet_under a b (x ∷ xs) h = meet_under (part_meet a x) (part_join b x) xs (record { names = wider; flow = at_most_along (flow_meet a.flow x.flow) a.flow (flow_join b.flow x.flow) (meet_below_left a.flow x.flow) (at_most_along a.flow b.flow (flow_join b.flow x.flow) h.flow (join_above_left b.flow x.flow)) })
+meet_under a b (x ∷ xs) h = meet_under (part_meet a x) (part_join b x) xs (record {
+  names = wider;
+  flow = at_most_along (flow_meet a.flow x.flow) a.flow (flow_join b.flow x.flow)
+      (meet_below_left a.flow x.flow) (at_most_along a.flow b.flow (flow_join b.flow x.flow) h.flow (join_above_left b.flow x.flow));
+})
   where
     or_wider : (p q r : Bool) → (p ≡ true → q ≡ true) → (p || r) ≡ true → (q || r) ≡ true
     or_wider true q r f e = ap (λ z. z || r) (f refl)
@@ -70,7 +75,8 @@ open_part rs p i =
     let t = in_filter (λ (r : Request). not r.blockaded) s.0 rs s.1 in
     subst (λ z. In z (parts_of rs)) (sym s.2) (to_each (λ (r : Request). r.part) s.0 rs t.0)
 
-by_open : (rs : List Request) (t m : Part) (v : Option Part) → all_by part_join (parts_of (open_of rs)) ≡ v → or_else v (all_by part_meet (parts_of rs)) ≡ Some t → all_by part_join (parts_of rs) ≡ Some m → IsPartAtMost t m
+by_open : (rs : List Request) (t m : Part) (v : Option Part) → all_by part_join (parts_of (open_of rs)) ≡ v → or_else v (all_by part_meet (parts_of rs)) ≡ Some t
+    → all_by part_join (parts_of rs) ≡ Some m → IsPartAtMost t m
 by_open rs t m None e f g = meet_below_merge (parts_of rs) t m f g
 by_open rs t m (Some x) e f g =
     let is : x ≡ t = cc in
@@ -78,7 +84,8 @@ by_open rs t m (Some x) e f g =
     (λ p i. all_above part_join IsPartAtMost part_at_most_itself part_at_most_along part_join_above_left part_join_above_right (parts_of rs) m g p (open_part rs p i))
 
 pub toward_below : (st : StyleKind) (rs : List Request) (u : UnitOf) (t m : Part) → get (toward st rs) u ≡ Some t → get (merge st (parts_of rs)) u ≡ Some m → IsPartAtMost t m
-toward_below st rs u t m e f = by_open (requests_at st u rs) t m (all_by part_join (parts_of (open_of (requests_at st u rs)))) refl (sym (get-toward st rs u) ∙ e) (sym (get-merge-parts_of st rs u) ∙ f)
+toward_below st rs u t m e f = by_open (requests_at st u rs) t m (all_by part_join (parts_of (open_of (requests_at st u rs)))) refl (sym (get-toward st rs u) ∙ e)
+    (sym (get-merge-parts_of st rs u) ∙ f)
 
 -- ---- the same units
 some_or : (rs : List Request) → is_some (or_else (all_by part_join (parts_of (open_of rs))) (all_by part_meet (parts_of rs))) ≡ is_some (all_by part_join (parts_of rs))
@@ -145,7 +152,8 @@ flows_are : (rs : List Request) → each (λ (p : Part). p.flow) (parts_of rs) �
 flows_are [] = refl
 flows_are (r ∷ rs) = ap (λ zs. r.part.flow ∷ zs) (flows_are rs)
 
-above_meet : (rs : List Request) (t : Part) (f : TokenBucket) (v : Option Part) → all_by part_join (parts_of (open_of rs)) ≡ v → or_else v (all_by part_meet (parts_of rs)) ≡ Some t → all_by flow_meet (flows_of rs) ≡ Some f → IsAtMost f t.flow
+above_meet : (rs : List Request) (t : Part) (f : TokenBucket) (v : Option Part) → all_by part_join (parts_of (open_of rs)) ≡ v → or_else v (all_by part_meet (parts_of rs)) ≡ Some t
+    → all_by flow_meet (flows_of rs) ≡ Some f → IsAtMost f t.flow
 above_meet rs t f None e g h =
     let met = all_under part_meet flow_meet (λ (p : Part). p.flow) (λ a b. refl) (parts_of rs) t g in
     let same : Some f ≡ Some t.flow = sym h ∙ (sym (ap (all_by flow_meet) (flows_are rs)) ∙ met) in
@@ -156,7 +164,8 @@ above_meet rs t f (Some x) e g h =
     let up = all_above part_join IsPartAtMost part_at_most_itself part_at_most_along part_join_above_left part_join_above_right (parts_of (open_of rs)) t (e ∙ g) s.0 s.1 in
     let r = in_each (λ (z : Request). z.part) s.0 (open_of rs) s.1 in
     let o = in_filter (λ (z : Request). not z.blockaded) r.0 rs r.1 in
-    let low : IsAtMost f r.0.part.flow = all_above flow_meet (λ a b. IsAtMost b a) at_most_itself (λ a b c p q. at_most_along c b a q p) meet_below_left meet_below_right (flows_of rs) f h r.0.part.flow (to_each (λ (z : Request). z.part.flow) r.0 rs o.0) in
+    let low : IsAtMost f r.0.part.flow = all_above flow_meet (λ a b. IsAtMost b a) at_most_itself (λ a b c p q. at_most_along c b a q p) meet_below_left meet_below_right
+    (flows_of rs) f h r.0.part.flow (to_each (λ (z : Request). z.part.flow) r.0 rs o.0) in
     at_most_along f s.0.flow t.flow (subst (λ (p : Part). IsAtMost f p.flow) (sym r.2) low) up.flow
 
 pub toward_above_meet : (st : StyleKind) (rs : List Request) (u : UnitOf) (t : Part) (f : TokenBucket) → get (toward st rs) u ≡ Some t → meet_at st rs u ≡ Some f → IsAtMost f t.flow
@@ -168,7 +177,8 @@ meet_there st rs u t e =
     all_some flow_meet (flows_of (requests_at st u rs)) r.0.part.flow (to_each (λ (z : Request). z.part.flow) r.0 (requests_at st u rs) (in_request st rs u r.0 r.1))
 
 -- what each request of the unit has, and two together have, is had by what goes toward the hop
-pub toward_keeps : (st : StyleKind) (P : Part → Type 0) → ((a b : Part) → P a → P b → P (part_join a b)) → ((a b : Part) → P a → P b → P (part_meet a b)) → (rs : List Request) (u : UnitOf) (t : Part) → get (toward st rs) u ≡ Some t
+pub toward_keeps : (st : StyleKind) (P : Part → Type 0) → ((a b : Part) → P a → P b → P (part_join a b)) → ((a b : Part) → P a → P b → P (part_meet a b)) → (rs : List Request) (u : UnitOf) (t : Part)
+    → get (toward st rs) u ≡ Some t
     → ((r : Request) → IsRequestOf st rs u r → P r.part) → P t
 toward_keeps st P joins meets rs u t e every = by (all_by part_join (parts_of (open_of (requests_at st u rs)))) refl (sym (get-toward st rs u) ∙ e)
   where
@@ -184,7 +194,8 @@ open_or : (v w : Option Part) (x : Part) → v ≡ Some x → or_else v w ≡ v
 open_or None w x e = absurd (cc)
 open_or (Some y) w x e = refl
 
-pub toward_join : (st : StyleKind) (rs : List Request) (u : UnitOf) (r : Request) → IsRequestOf st rs u r → r.blockaded ≡ false → get (toward st rs) u ≡ all_by part_join (parts_of (open_of (requests_at st u rs)))
+pub toward_join : (st : StyleKind) (rs : List Request) (u : UnitOf) (r : Request) → IsRequestOf st rs u r → r.blockaded ≡ false
+    → get (toward st rs) u ≡ all_by part_join (parts_of (open_of (requests_at st u rs)))
 toward_join st rs u r is free =
     let i = to_filter (λ (z : Request). not z.blockaded) r (requests_at st u rs) (in_request st rs u r is) (ap not free) in
     let j = to_each (λ (z : Request). z.part) r (open_of (requests_at st u rs)) i in
@@ -201,12 +212,14 @@ open_in st rs u r i =
     not_false false e = refl
 
 in_open : (st : StyleKind) (rs : List Request) (u : UnitOf) (r : Request) → IsOpenRequestOf st rs u r → In r.part (parts_of (open_of (requests_at st u rs)))
-in_open st rs u r is = to_each (λ (z : Request). z.part) r (open_of (requests_at st u rs)) (to_filter (λ (z : Request). not z.blockaded) r (requests_at st u rs) (in_request st rs u r is.request) (ap not is.unmarked))
+in_open st rs u r is = to_each (λ (z : Request). z.part) r (open_of (requests_at st u rs))
+    (to_filter (λ (z : Request). not z.blockaded) r (requests_at st u rs) (in_request st rs u r is.request) (ap not is.unmarked))
 
 -- each open request is at most what goes toward the hop
 pub open_below : (st : StyleKind) (rs : List Request) (u : UnitOf) (t : Part) (r : Request) → IsOpenRequestOf st rs u r → get (toward st rs) u ≡ Some t → IsPartAtMost r.part t
 open_below st rs u t r is e =
-    all_above part_join IsPartAtMost part_at_most_itself part_at_most_along part_join_above_left part_join_above_right (parts_of (open_of (requests_at st u rs))) t (sym (toward_join st rs u r is.request is.unmarked) ∙ e) r.part (in_open st rs u r is)
+    all_above part_join IsPartAtMost part_at_most_itself part_at_most_along part_join_above_left part_join_above_right (parts_of (open_of (requests_at st u rs))) t
+    (sym (toward_join st rs u r is.request is.unmarked) ∙ e) r.part (in_open st rs u r is)
 
 -- and one of them has its charge, and one its packet size
 attains : (v : Part → ℕ) → ((a b : Part) → v (part_join a b) ≡ max (v a) (v b)) → (ps : List Part) (t : Part) → all_by part_join ps ≡ Some t → (p : Part) × In p ps × (v p ≡ v t)
@@ -226,14 +239,17 @@ attains v joins (p ∷ ps) t e = let is : fold part_join p ps ≡ t = cc in let 
         ⊎_elim (λ (z : v (part_join p q) ≡ v p). (p, inl refl, sym z ∙ here)) (λ (z : v (part_join p q) ≡ v q). (q, inr (inl refl), sym z ∙ here)) (larger (v p) (v q) (v (part_join p q)) (joins p q)))
         (λ (j : In r.0 ps). (r.0, inr (inr j), r.2)) r.1
 
-open_attains : (v : Part → ℕ) → ((a b : Part) → v (part_join a b) ≡ max (v a) (v b)) → (st : StyleKind) (rs : List Request) (u : UnitOf) (t : Part) (r : Request) → IsOpenRequestOf st rs u r → get (toward st rs) u ≡ Some t → (q : Request) × IsOpenRequestOf st rs u q × (v q.part ≡ v t)
+open_attains : (v : Part → ℕ) → ((a b : Part) → v (part_join a b) ≡ max (v a) (v b)) → (st : StyleKind) (rs : List Request) (u : UnitOf) (t : Part) (r : Request) → IsOpenRequestOf st rs u r
+    → get (toward st rs) u ≡ Some t → (q : Request) × IsOpenRequestOf st rs u q × (v q.part ≡ v t)
 open_attains v joins st rs u t r is e =
     let a = attains v joins (parts_of (open_of (requests_at st u rs))) t (sym (toward_join st rs u r is.request is.unmarked) ∙ e) in
     let b = in_each (λ (z : Request). z.part) a.0 (open_of (requests_at st u rs)) a.1 in
     (b.0, open_in st rs u b.0 b.1, ap v (sym b.2) ∙ a.2)
 
-pub open_charge : (st : StyleKind) (rs : List Request) (u : UnitOf) (t : Part) (r : Request) → IsOpenRequestOf st rs u r → get (toward st rs) u ≡ Some t → (q : Request) × IsOpenRequestOf st rs u q × (part_charge q.part ≡ part_charge t)
+pub open_charge : (st : StyleKind) (rs : List Request) (u : UnitOf) (t : Part) (r : Request) → IsOpenRequestOf st rs u r → get (toward st rs) u ≡ Some t
+    → (q : Request) × IsOpenRequestOf st rs u q × (part_charge q.part ≡ part_charge t)
 open_charge = open_attains part_charge (λ a b. refl)
 
-pub open_most : (st : StyleKind) (rs : List Request) (u : UnitOf) (t : Part) (r : Request) → IsOpenRequestOf st rs u r → get (toward st rs) u ≡ Some t → (q : Request) × IsOpenRequestOf st rs u q × (q.part.flow.most ≡ t.flow.most)
+pub open_most : (st : StyleKind) (rs : List Request) (u : UnitOf) (t : Part) (r : Request) → IsOpenRequestOf st rs u r → get (toward st rs) u ≡ Some t
+    → (q : Request) × IsOpenRequestOf st rs u q × (q.part.flow.most ≡ t.flow.most)
 open_most = open_attains (λ p. p.flow.most) (λ a b. refl)

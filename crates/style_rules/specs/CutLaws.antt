@@ -121,7 +121,8 @@ pub cut_of_join : (a b x y : Part) (names : Names) → part_cut a names ≡ Some
 cut_of_join a b x y names e f =
     let m = cut_of a x names e in
     let n = cut_of b y names f in
-    let some = some_within (cut a.senders names) (cut (union a.senders b.senders) names) (within_cut senders a.senders (union a.senders b.senders) names (within_union_left senders a.senders b.senders)) m.some in
+    let some = some_within (cut a.senders names) (cut (union a.senders b.senders) names) (within_cut senders a.senders (union a.senders b.senders) names
+    (within_union_left senders a.senders b.senders)) m.some in
     part_of_some (cut (union a.senders b.senders) names) (part_join a b).flow some
     ∙ ap Some (same_part _ (part_join x y) (cut-union senders a.senders b.senders names ∙ (λ i. union (sym m.senders i) (sym n.senders i))) (λ i. flow_join (sym m.flow i) (sym n.flow i)))
 

@@ -12,5 +12,3 @@ pub mod Tally
 pub mod TallyRows
 pub mod Laws
 pub use Rattle.flow_merge.specs.FlowOrder
-pub use Rattle.flow_merge.specs.Blockade
-pub use Rattle.flow_merge.specs.FlowOrder

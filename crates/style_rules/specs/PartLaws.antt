@@ -9,7 +9,8 @@ use Rattle.rsvp_base.specs.Table.{has, keys}
 use Rattle.rsvp_base.proofs.SetLaws.{union_comm, union_assoc, union_idem, within_union_left, within_union_right, union_of_within, within_of_union, and_both, and_made}
 use Rattle.rsvp_base.proofs.Lists.{within_if_all, all_if_within}
 use Rattle.flow_merge.specs.FlowOrder.{IsAtMost, flow_le}
-use Rattle.flow_merge.proofs.Lattice.{at_most_itself, at_most_along, same_flow, join_above_left, join_above_right, join_least, meet_below_join, flow_join_comm, flow_join_assoc, flow_join_idem, join_of_at_most, at_most_of_join}
+use Rattle.flow_merge.proofs.Lattice.{at_most_itself, at_most_along, same_flow, join_above_left, join_above_right, join_least, meet_below_join, flow_join_comm, flow_join_assoc}
+use Rattle.flow_merge.proofs.Lattice.{flow_join_idem, join_of_at_most, at_most_of_join}
 use Rattle.flow_merge.proofs.Told.{at_most_told, at_most_tested}
 use Rattle.style_rules.specs.Parts.{part_join, part_meet, IsPartAtMost, part_le, part_charge}
 

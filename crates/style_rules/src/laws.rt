@@ -1,6 +1,8 @@
 //! The laws of merging, once over a style, and those of books and limits. The lemmas behind them stand in `specs/` and
 //! `proofs/`, over the three kinds of style, for crates that have no style type at hand.
-ghost use Rattle.style_rules.specs.Laws.{AtMostIsAnOrder, AtMostByNamesAndFlow, JoinIsTheLeastAbove, NamesAndFlowOfJoinAndMeet, CutByNames, CutIsBelowAndMonotone, CutOfACut, ChargeAndMostAreMonotone, MergeIsTheLeastAboveItsNamedParts, MergeKeepsTheStyle, TowardIsAtMostTheMerge, TowardIsAtLeastTheMeet, TowardIsTheJoinOfTheOpen, MergerHasRoom, PartsOfAStyle, MergeBelow, SumsBelow, WithinBelow, TestsTell};
+ghost use Rattle.style_rules.specs.Laws.{AtMostIsAnOrder, AtMostByNamesAndFlow, JoinIsTheLeastAbove, NamesAndFlowOfJoinAndMeet, CutByNames, CutIsBelowAndMonotone, CutOfACut};
+ghost use Rattle.style_rules.specs.Laws.{ChargeAndMostAreMonotone, MergeIsTheLeastAboveItsNamedParts, MergeKeepsTheStyle, TowardIsAtMostTheMerge, TowardIsAtLeastTheMeet};
+ghost use Rattle.style_rules.specs.Laws.{TowardIsTheJoinOfTheOpen, MergerHasRoom, PartsOfAStyle, MergeBelow, SumsBelow, WithinBelow, TestsTell};
 
 use crate::style::Style;
 

@@ -1,5 +1,5 @@
 //! Faults that are answered, and one that is not; an error that goes on, a confirmation, and flags.
-use error_confirm::{answer_for, confirms, passes_on, police_flags};
+use error_sends::{answer_for, confirms, passes_on, police_flags};
 use rsvp_base::{Addr, ErrSpec, Flow, Hop, Part, Peak, Rate, Sender, Senders, Session, StyleKind};
 use rsvp_messages::{Ask, Blame, Fault, Hint, Kind, MsgErr};
 use rsvp_objects::ObjErr;

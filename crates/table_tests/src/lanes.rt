@@ -1,6 +1,6 @@
 //! A lane is told, told again, and told of nothing.
-use lane_state::LaneTable;
 use rsvp_base::{Addr, Flow, Part, Peak, Rate, Sender, Senders, Session, StyleKind, Unit};
+use sent_state::LaneTable;
 use std::test::Fail;
 use style_rules::Parts;
 

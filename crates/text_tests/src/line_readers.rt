@@ -1,6 +1,5 @@
 //! One text, its source cut into pieces of each size, and how readers end.
-use byte_streams::{MOST_BYTES, MemorySource, PlainSource};
-use line_stream::{LineReader, MOST_LINE, NextLine};
+use byte_streams::{LineReader, MOST_BYTES, MOST_LINE, MemorySource, NextLine, PlainSource};
 use std::test::Fail;
 
 const TEXT: &[u8] = b"node a\n\nnode b\nlast";

@@ -33,7 +33,8 @@ stays ends d [] n none = refl
 stays ends d (h ∷ hs) n none = stays ends (step ends d h) hs n (λ x i. none x (inr i)) ∙ step_other ends d h n (none h (inl refl))
 
 module _ (net : Net) (s : Addr) where
-  along_from : (before hs : List LinkHop) → IsGrownFrom net s before hs → (d : ℕ → ℕ) (h : LinkHop) → In h hs → depths net.ends d hs (node_of net.ends h.to) ≡ depths net.ends d hs (node_of net.ends h.from) + 1
+  along_from : (before hs : List LinkHop) → IsGrownFrom net s before hs → (d : ℕ → ℕ) (h : LinkHop) → In h hs
+      → depths net.ends d hs (node_of net.ends h.to) ≡ depths net.ends d hs (node_of net.ends h.from) + 1
   along_from before [] grown d h i = absurd i
   along_from before (x ∷ xs) grown d h (inr j) = along_from (before ++ x ∷ []) xs grown.1 (step net.ends d x) h j
   along_from before (x ∷ xs) grown d h (inl e) =
@@ -78,7 +79,8 @@ module _ (net : Net) (valid : IsValid net) where
   within_by (suc k) g s h i e = by (within_by k g s) (into net (node_of net.ends h.from) g s)
     where
       by : ((x : LinkHop) → In x (tree net.hops g s) → depth net g s (node_of net.ends x.from) ≡ k → k + rank net g x ≤ longest net)
-          → ((x : LinkHop) × In x (tree net.hops g s) × (node_of net.ends x.to ≡ node_of net.ends h.from) × (inward net (node_of net.ends h.from) g s ≡ Some x.to)) ⊎ ((inward net (node_of net.ends h.from) g s ≡ None) × ((x : LinkHop) → In x (tree net.hops g s) → node_of net.ends x.to ≡ node_of net.ends h.from → ⊥))
+          → ((x : LinkHop) × In x (tree net.hops g s) × (node_of net.ends x.to ≡ node_of net.ends h.from) × (inward net (node_of net.ends h.from) g s ≡ Some x.to))
+          ⊎ ((inward net (node_of net.ends h.from) g s ≡ None) × ((x : LinkHop) → In x (tree net.hops g s) → node_of net.ends x.to ≡ node_of net.ends h.from → ⊥))
           → suc k + rank net g h ≤ longest net
       by rest (inl r) =
           let up : depth net g s (node_of net.ends h.from) ≡ depth net g s (node_of net.ends r.0.from) + 1 = ap (depth net g s) (sym r.2) ∙ along g s r.0 r.1 in
@@ -94,7 +96,8 @@ module _ (net : Net) (valid : IsValid net) where
   every : (g s : Addr) (n : ℕ) → depth net g s n ≤ longest net
   every g s n = by (into net n g s)
     where
-      by : ((x : LinkHop) × In x (tree net.hops g s) × (node_of net.ends x.to ≡ n) × (inward net n g s ≡ Some x.to)) ⊎ ((inward net n g s ≡ None) × ((x : LinkHop) → In x (tree net.hops g s) → node_of net.ends x.to ≡ n → ⊥)) → depth net g s n ≤ longest net
+      by : ((x : LinkHop) × In x (tree net.hops g s) × (node_of net.ends x.to ≡ n) × (inward net n g s ≡ Some x.to))
+          ⊎ ((inward net n g s ≡ None) × ((x : LinkHop) → In x (tree net.hops g s) → node_of net.ends x.to ≡ n → ⊥)) → depth net g s n ≤ longest net
       by (inl r) =
           let up : depth net g s n ≡ depth net g s (node_of net.ends r.0.from) + 1 = ap (depth net g s) (sym r.2) ∙ along g s r.0 r.1 in
           let le = within g s r.0 r.1 in

@@ -52,7 +52,8 @@ module _ {A : Type 0} (follow : A → List A) (all : List A) where
     chain_of : (n : ℕ) (h : A) → In h all → (c : List A) × Chain follow all (h ∷ c) × (height follow (suc n) h ≤ suc (length c))
     chain_of zero h i = by_next (largest_is (λ h'. height follow zero h') (follow h))
       where
-        by_next : (follow h ≡ []) ⊎ ((x : A) × In x (follow h) × (height follow zero x ≡ largest (map (λ h'. height follow zero h') (follow h)))) → (c : List A) × Chain follow all (h ∷ c) × (height follow 1 h ≤ suc (length c))
+        by_next : (follow h ≡ []) ⊎ ((x : A) × In x (follow h) × (height follow zero x ≡ largest (map (λ h'. height follow zero h') (follow h))))
+            → (c : List A) × Chain follow all (h ∷ c) × (height follow 1 h ≤ suc (length c))
         by_next (inl e) = let g : largest (map (λ h'. height follow zero h') (follow h)) ≡ 0 = rw e in ([], i, omega arith)
         by_next (inr t) = let g = t.2 in ([], i, omega arith)
     chain_of (suc n) h i = by_next (λ x j. chain_of n x (among h x j)) (largest_is (λ h'. height follow (suc n) h') (follow h))

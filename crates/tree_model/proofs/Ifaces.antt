@@ -9,12 +9,14 @@ use Rattle.tree_model.proofs.Following.{same_number, number_same}
 end_there : (number : ℕ) (ends : List End) (k n : ℕ) → k < length ends → node_of ends k ≡ n → slice_get (ends_from number ends n) (length (ends_from number (take k ends) n)) ≡ Some (number + k)
 end_there number [] k n lt at = absurd (omega arith)
 end_there number (e ∷ es) zero n lt at =
-    ap (λ (b : Bool). slice_get (if b then number ∷ ends_from (number + 1) es n else ends_from (number + 1) es n) 0) (number_same e.node n at) ∙ ap Some (let z : number ≡ number + 0 = omega arith in z)
+    ap (λ (b : Bool). slice_get (if b then number ∷ ends_from (number + 1) es n else ends_from (number + 1) es n) 0) (number_same e.node n at)
+    ∙ ap Some (let z : number ≡ number + 0 = omega arith in z)
 end_there number (e ∷ es) (suc k) n lt at =
     by (e.node == n) (end_there (number + 1) es k n (omega arith) at ∙ ap Some (let z : number + 1 + k ≡ number + suc k = omega arith in z))
   where
     by : (b : Bool) → slice_get (ends_from (number + 1) es n) (length (ends_from (number + 1) (take k es) n)) ≡ Some (number + suc k)
-        → slice_get (if b then number ∷ ends_from (number + 1) es n else ends_from (number + 1) es n) (length (if b then number ∷ ends_from (number + 1) (take k es) n else ends_from (number + 1) (take k es) n)) ≡ Some (number + suc k)
+        → slice_get (if b then number ∷ ends_from (number + 1) es n else ends_from (number + 1) es n)
+        (length (if b then number ∷ ends_from (number + 1) (take k es) n else ends_from (number + 1) (take k es) n)) ≡ Some (number + suc k)
     by true h = h
     by false h = h
 
@@ -41,7 +43,8 @@ found number (x ∷ xs) n i e is = by (x.node == n) refl i is (found (number + 1
         }
 
     -- how many stand before it, by whether the first is of the node
-    counted : (b : Bool) → (x.node == n) ≡ b → (k : ℕ) → length (ends_from number (x ∷ take k xs) n) ≡ length (if b then number ∷ ends_from (number + 1) (take k xs) n else ends_from (number + 1) (take k xs) n)
+    counted : (b : Bool) → (x.node == n) ≡ b → (k : ℕ) → length (ends_from number (x ∷ take k xs) n)
+        ≡ length (if b then number ∷ ends_from (number + 1) (take k xs) n else ends_from (number + 1) (take k xs) n)
     counted b t k = ap (λ (b : Bool). length (if b then number ∷ ends_from (number + 1) (take k xs) n else ends_from (number + 1) (take k xs) n)) t
 
     by : (b : Bool) → (x.node == n) ≡ b → (i : ℕ) → slice_get (if b then number ∷ ends_from (number + 1) xs n else ends_from (number + 1) xs n) i ≡ Some e

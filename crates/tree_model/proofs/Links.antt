@@ -41,7 +41,8 @@ module _ (net : Net) (s : Addr) where
   alone_before before (z ∷ zs) grown x y i (inl e) on =
       alone_told net.links y.from x (subst (λ (w : LinkHop). sends_alone net.links w.from x ≡ true) (sym e) (all_in (sends_alone net.links z.from) before grown.0.alone x i)) on
 
-  pub alone_from : (before hs : List LinkHop) → IsGrownFrom net s before hs → (x y : LinkHop) → In x hs → In y hs → among x.from (link_of net.links y.from) ≡ true → among y.from (link_of net.links x.from) ≡ true → x.from ≡ y.from
+  pub alone_from : (before hs : List LinkHop) → IsGrownFrom net s before hs → (x y : LinkHop) → In x hs → In y hs → among x.from (link_of net.links y.from) ≡ true
+      → among y.from (link_of net.links x.from) ≡ true → x.from ≡ y.from
   alone_from before [] grown x y i j on no_ = absurd i
   alone_from before (z ∷ zs) grown x y (inl p) (inl q) on back = ap (λ (h : LinkHop). h.from) (p ∙ sym q)
   alone_from before (z ∷ zs) grown x y (inl p) (inr j) on back = alone_before (before ++ z ∷ []) zs grown.1 x y (in_right x before (z ∷ []) (inl p)) j on

@@ -68,7 +68,8 @@ module _ (net : Net) (free : IsLoopFree net) where
   pub met : (longest net ≡ 0) ⊎ ((g : Addr) × (c : List LinkHop) × IsChain net g c × (length c ≡ longest net))
   met = by (largest_is (rank_of net) net.hops)
     where
-      by : (net.hops ≡ []) ⊎ ((r : TreeHop) × In r net.hops × (rank_of net r ≡ largest (each (rank_of net) net.hops))) → (longest net ≡ 0) ⊎ ((g : Addr) × (c : List LinkHop) × IsChain net g c × (length c ≡ longest net))
+      by : (net.hops ≡ []) ⊎ ((r : TreeHop) × In r net.hops × (rank_of net r ≡ largest (each (rank_of net) net.hops)))
+          → (longest net ≡ 0) ⊎ ((g : Addr) × (c : List LinkHop) × IsChain net g c × (length c ≡ longest net))
       by (inl e) = inl (ap (λ (rs : List TreeHop). largest (each (rank_of net) rs)) e)
       by (inr r) =
           let i = to_group net.hops r.0 r.1 in

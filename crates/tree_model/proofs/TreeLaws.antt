@@ -56,7 +56,8 @@ module _ (net : Net) (s : Addr) where
   pub from_leads : (before hs : List LinkHop) → IsGrownFrom net s before hs → (h : LinkHop) → In h hs → Leads net.ends s (before ++ hs) (node_of net.ends h.from)
   from_leads before [] grown h i = absurd i
   from_leads before (x ∷ xs) grown h i =
-      ⊎_elim (λ (e : h ≡ x). leads_left net.ends s before (x ∷ xs) (node_of net.ends h.from) (reached_told net.ends s before (node_of net.ends h.from) (ap (λ (y : LinkHop). is_reached net.ends s before (node_of net.ends y.from)) e ∙ grown.0.from_reached)))
+      ⊎_elim (λ (e : h ≡ x). leads_left net.ends s before (x ∷ xs) (node_of net.ends h.from)
+      (reached_told net.ends s before (node_of net.ends h.from) (ap (λ (y : LinkHop). is_reached net.ends s before (node_of net.ends y.from)) e ∙ grown.0.from_reached)))
       (λ (j : In h xs). subst (λ (zs : List LinkHop). Leads net.ends s zs (node_of net.ends h.from)) (append_assoc before (x ∷ []) xs) (from_leads (before ++ x ∷ []) xs grown.1 h j)) i
 
   last_in : (before : List LinkHop) (x : LinkHop) → In x (before ++ x ∷ [])
@@ -95,11 +96,13 @@ none_first p hs f = by (first_by p hs) refl
 
 -- ---- the way in of a node
 -- the hop over which the tree comes into the node, if one does
-pub into : (net : Net) (n : ℕ) (g s : Addr) → ((h : LinkHop) × In h (tree net.hops g s) × (node_of net.ends h.to ≡ n) × (inward net n g s ≡ Some h.to)) ⊎ ((inward net n g s ≡ None) × ((h : LinkHop) → In h (tree net.hops g s) → node_of net.ends h.to ≡ n → ⊥))
+pub into : (net : Net) (n : ℕ) (g s : Addr) → ((h : LinkHop) × In h (tree net.hops g s) × (node_of net.ends h.to ≡ n) × (inward net n g s ≡ Some h.to))
+    ⊎ ((inward net n g s ≡ None) × ((h : LinkHop) → In h (tree net.hops g s) → node_of net.ends h.to ≡ n → ⊥))
 into net n g s = by (first_by (goes_into net.ends n) (tree net.hops g s)) refl
   where
     by : (o : Option LinkHop) → first_by (goes_into net.ends n) (tree net.hops g s) ≡ o
-        → ((h : LinkHop) × In h (tree net.hops g s) × (node_of net.ends h.to ≡ n) × (inward net n g s ≡ Some h.to)) ⊎ ((inward net n g s ≡ None) × ((h : LinkHop) → In h (tree net.hops g s) → node_of net.ends h.to ≡ n → ⊥))
+        → ((h : LinkHop) × In h (tree net.hops g s) × (node_of net.ends h.to ≡ n) × (inward net n g s ≡ Some h.to))
+        ⊎ ((inward net n g s ≡ None) × ((h : LinkHop) → In h (tree net.hops g s) → node_of net.ends h.to ≡ n → ⊥))
     by None e = inr (ap end_into e, λ h i t. first_none (goes_into net.ends n) (tree net.hops g s) e h i (number_same _ n t))
     by (Some h) e = let r = first_told (goes_into net.ends n) (tree net.hops g s) h e in inl (h, r.0, same_number _ n r.1, ap end_into e)
 
@@ -110,7 +113,8 @@ module _ (net : Net) (valid : IsValid net) where
   pub way_in_told : (n e : ℕ) (g s : Addr) → inward net n g s ≡ Some e → (h : LinkHop) × In h (tree net.hops g s) × (h.to ≡ e) × (node_of net.ends e ≡ n)
   way_in_told n e g s is = by (into net n g s)
     where
-      by : ((h : LinkHop) × In h (tree net.hops g s) × (node_of net.ends h.to ≡ n) × (inward net n g s ≡ Some h.to)) ⊎ ((inward net n g s ≡ None) × ((h : LinkHop) → In h (tree net.hops g s) → node_of net.ends h.to ≡ n → ⊥))
+      by : ((h : LinkHop) × In h (tree net.hops g s) × (node_of net.ends h.to ≡ n) × (inward net n g s ≡ Some h.to))
+          ⊎ ((inward net n g s ≡ None) × ((h : LinkHop) → In h (tree net.hops g s) → node_of net.ends h.to ≡ n → ⊥))
           → (h : LinkHop) × In h (tree net.hops g s) × (h.to ≡ e) × (node_of net.ends e ≡ n)
       by (inl r) = let same : r.0.to ≡ e = cc (r.3, is) in (r.0, r.1, same, ap (node_of net.ends) (sym same) ∙ r.2)
       by (inr r) = absurd (cc (r.0, is))
@@ -121,7 +125,8 @@ module _ (net : Net) (valid : IsValid net) where
       at_n : node_of net.ends x.0.to ≡ n
       at_n = ap (node_of net.ends) x.2 ∙ x.3
 
-      by : ((h : LinkHop) × In h (tree net.hops g s) × (node_of net.ends h.to ≡ n) × (inward net n g s ≡ Some h.to)) ⊎ ((inward net n g s ≡ None) × ((h : LinkHop) → In h (tree net.hops g s) → node_of net.ends h.to ≡ n → ⊥))
+      by : ((h : LinkHop) × In h (tree net.hops g s) × (node_of net.ends h.to ≡ n) × (inward net n g s ≡ Some h.to))
+          ⊎ ((inward net n g s ≡ None) × ((h : LinkHop) → In h (tree net.hops g s) → node_of net.ends h.to ≡ n → ⊥))
           → inward net n g s ≡ Some e
       by (inl r) = r.3 ∙ ap (λ (y : LinkHop). Some y.to) (one g s r.0 x.0 r.1 x.1 (r.2 ∙ sym at_n)) ∙ ap Some x.2
       by (inr r) = absurd (r.1 x.0 x.1 at_n)
@@ -155,7 +160,8 @@ out_told net n e g s i =
 pub out_tested : (net : Net) (n e : ℕ) (g s : Addr) → (h : LinkHop) × In h (tree net.hops g s) × (h.from ≡ e) × (node_of net.ends e ≡ n) → In e (outward net n g s)
 out_tested net n e g s x =
     subst (λ (a : ℕ). In a (outward net n g s)) x.2
-    (to_each (λ (h : LinkHop). h.from) x.0 (filter (goes_out_of net.ends n) (tree net.hops g s)) (to_filter (goes_out_of net.ends n) x.0 (tree net.hops g s) x.1 (number_same _ n (ap (node_of net.ends) x.2 ∙ x.3))))
+    (to_each (λ (h : LinkHop). h.from) x.0 (filter (goes_out_of net.ends n) (tree net.hops g s))
+    (to_filter (goes_out_of net.ends n) x.0 (tree net.hops g s) x.1 (number_same _ n (ap (node_of net.ends) x.2 ∙ x.3))))
 
 pub outward_is_by_hops : OutwardIsByHops
 outward_is_by_hops net n e g s = (out_told net n e g s, out_tested net n e g s)

@@ -2,8 +2,7 @@
 use Rattle.std.specs.Prelude.{◌≡◌, ℕ, ◌<◌, true, List, [], ◌∷◌, ◌++◌, map as each, Option, None, Some, refl}
 use Rattle.std.specs.List.{filter, flat_map}
 use Rattle.std.specs.FinMap.Entries.{where_key}
-use Rattle.std.proofs.Common.{zero, suc, eqb, length}
-use Rattle.std.proofs.Common.{sym, ap, subst, ◌∙◌, inl, inr, ⊎_elim, arith}
+use Rattle.std.proofs.Common.{zero, suc, eqb, length, sym, ap, subst, ◌∙◌, inl, inr, ⊎_elim, arith}
 use Rattle.rsvp_base.specs.Members.{In}
 use Rattle.rsvp_base.specs.declared.addr.Addr.{Addr}
 use Rattle.rsvp_base.specs.declared.part.Part.{Part}
@@ -75,7 +74,8 @@ module _ (st : StyleKind) (net : Net) (l : Locals) (s : Session) where
       (a.0, f.0, f.1, a.2)
 
   pub name_made : (hs : List LinkHop) (a : Sender) → In a (live l s) → goes_over net s hs a ≡ true → has (names st net l s hs) (name_of st a) ≡ true
-  name_made hs a i t = in_set_of senders (each (name_of st) (filter (goes_over net s hs) (live l s))) (name_of st a) (to_each (name_of st) a (filter (goes_over net s hs) (live l s)) (to_filter (goes_over net s hs) a (live l s) i t))
+  name_made hs a i t = in_set_of senders (each (name_of st) (filter (goes_over net s hs) (live l s))) (name_of st a)
+      (to_each (name_of st) a (filter (goes_over net s hs) (live l s)) (to_filter (goes_over net s hs) a (live l s) i t))
 
   over_in : (hs : List LinkHop) (a : Sender) → goes_over net s hs a ≡ true → (h : LinkHop) → In h hs → In h (tree net.hops s.group a.addr)
   over_in hs a t h i = has_hop_in (tree net.hops s.group a.addr) h (all_in (has_hop (tree net.hops s.group a.addr)) hs t h i)
@@ -144,7 +144,8 @@ module _ (st : StyleKind) (net : Net) (l : Locals) (s : Session) where
         record {
           equation = equation (want_from st net l s) empty (followers net s.group) (rank net s.group) same_want fall off;
           others = λ h no_hop. equation (want_from st net l s) empty (followers net s.group) (rank net s.group) same_want fall off h ∙ off_tree h (want st net l s) no_hop;
-          alone = λ f solves h i. alone (want_from st net l s) empty (followers net s.group) (rank net s.group) same_want fall off (λ y. In y (hops_of net.hops s.group)) (λ x y j. follower_of_group net s.group x y j) f solves h i;
+          alone = λ f solves h i. alone (want_from st net l s) empty (followers net s.group) (rank net s.group) same_want fall off (λ y. In y (hops_of net.hops s.group))
+              (λ x y j. follower_of_group net s.group x y j) f solves h i;
         }
 
   -- ---- what is wanted names those that go over the hop
@@ -156,7 +157,8 @@ module _ (st : StyleKind) (net : Net) (l : Locals) (s : Session) where
   wanted_within Fixed ns p q e = subst (λ (t : Names). IsWithin t ns) (sym (cut_senders p q ns e)) (within_right p.senders ns)
   wanted_within Shared ns p q e = subst (λ (t : Names). IsWithin t ns) (sym (cut_senders p q ns e)) (within_right p.senders ns)
 
-  parts_within : (h : LinkHop) (f : LinkHop → PartTable) (q : Part) → In q (own st net l s h ++ flat_map (brought st net l s h f) (followers net s.group h)) → IsWithin q.senders (names st net l s (h ∷ []))
+  parts_within : (h : LinkHop) (f : LinkHop → PartTable) (q : Part) → In q (own st net l s h ++ flat_map (brought st net l s h f) (followers net s.group h))
+      → IsWithin q.senders (names st net l s (h ∷ []))
   parts_within h f q i =
       ⊎_elim
       (λ (j : In q (own st net l s h)).
@@ -193,7 +195,8 @@ module _ (st : StyleKind) (net : Net) (l : Locals) (s : Session) where
       let one = over_in (h ∷ []) a.0 a.2 h (inl refl) in
       let addr = same_addr st b.0 a.0 (sym b.3 ∙ a.3) in
       let two = subst (λ (y : Addr). In h' (tree net.hops s.group y)) addr (over_in (h' ∷ []) b.0 b.2 h' (inl refl)) in
-      let over = in_over (h ∷ h' ∷ []) a.0 (λ y i. ⊎_elim (λ (q : y ≡ h). subst (λ (z : LinkHop). In z (tree net.hops s.group a.0.addr)) (sym q) one) (λ (j : In y (h' ∷ [])). ⊎_elim (λ (q : y ≡ h'). subst (λ (z : LinkHop). In z (tree net.hops s.group a.0.addr)) (sym q) two) (λ (k : ⊥). absurd k) j) i) in (
+      let over = in_over (h ∷ h' ∷ []) a.0 (λ y i. ⊎_elim (λ (q : y ≡ h). subst (λ (z : LinkHop). In z (tree net.hops s.group a.0.addr)) (sym q) one)
+      (λ (j : In y (h' ∷ [])). ⊎_elim (λ (q : y ≡ h'). subst (λ (z : LinkHop). In z (tree net.hops s.group a.0.addr)) (sym q) two) (λ (k : ⊥). absurd k) j) i) in (
         subst (λ (y : Sender). has (names st net l s (h ∷ h' ∷ [])) y ≡ true) (sym a.3) (name_made (h ∷ h' ∷ []) a.0 a.1 over),
         record { source = a.0.addr; first = one; second = two; meet = meet },
       )
@@ -205,7 +208,8 @@ module _ (net : Net) (l : Locals) (s : Session) (one : (w : LocalWant) → In w 
       let w = in_flat_map (λ w. as_list (wanted_of Fixed (names Fixed net l s (h ∷ [])) w.part)) q (filter (is_wanted_at Fixed s (node_of net.ends h.to)) l.wants) i in
       let f = in_filter (is_wanted_at Fixed s (node_of net.ends h.to)) w.0 l.wants w.1 in
       let at = and_both _ _ (and_both _ _ f.1).1 in
-      cut_of_style Fixed w.0.part q (names Fixed net l s (h ∷ [])) ((fixed_parts w.0.part).1 (one w.0 f.0 (sym (tied_same styles Fixed w.0.style at.1)))) (in_as_list (part_cut w.0.part (names Fixed net l s (h ∷ []))) q w.2)
+      cut_of_style Fixed w.0.part q (names Fixed net l s (h ∷ [])) ((fixed_parts w.0.part).1 (one w.0 f.0 (sym (tied_same styles Fixed w.0.style at.1))))
+      (in_as_list (part_cut w.0.part (names Fixed net l s (h ∷ []))) q w.2)
 
   fixed_by : (n : ℕ) (h : LinkHop) (u : UnitOf) (p : Part) → get (by_fuel (want_from Fixed net l s) empty n h) u ≡ Some p → IsOfStyle Fixed p × (part_unit Fixed p ≡ u)
   fixed_by zero h u p e = cc

@@ -3,7 +3,8 @@
 ghost use Rattle.tree_model.specs.Networks.{Net};
 ghost use Rattle.tree_model.specs.Ranks.{IsLoopFree};
 ghost use Rattle.tree_model.specs.Valid.{IsValid};
-ghost use Rattle.tree_model.specs.Laws.{InterfacesAreEnds, FollowersFollow, RankFallsAlongFollowers, LongestIsOfChains, OneHopIntoANode, OutwardIsByHops, TheRootHasNoInward, DepthAndRankWithinLongest, OneSendingEndOnALink};
+ghost use Rattle.tree_model.specs.Laws.{InterfacesAreEnds, FollowersFollow, RankFallsAlongFollowers, LongestIsOfChains, OneHopIntoANode, OutwardIsByHops, TheRootHasNoInward};
+ghost use Rattle.tree_model.specs.Laws.{DepthAndRankWithinLongest, OneSendingEndOnALink};
 
 /// Each end is the interface of its node under the number that it has there, and each interface is an end of its node.
 #[tactic(auto, using(crate::proofs::Ifaces::interfaces_are_ends))]

@@ -16,7 +16,8 @@ use Rattle.tree_model.proofs.TreeLaws.{Leads, reached_told, reached_tested, true
 use Rattle.tree_model.proofs.Links.{linked_from}
 
 -- ---- chains
-pub chain_map : {A : Type 0} (follow follow' : A → List A) (all all' : List A) → ((x : A) → In x all → In x all') → ((x y : A) → In x all → In y (follow x) → In y (follow' x)) → (c : List A) → Chain follow all c → Chain follow' all' c
+pub chain_map : {A : Type 0} (follow follow' : A → List A) (all all' : List A) → ((x : A) → In x all → In x all') → ((x y : A) → In x all → In y (follow x) → In y (follow' x)) → (c : List A)
+    → Chain follow all c → Chain follow' all' c
 chain_map follow follow' all all' f s [] chain = tt
 chain_map follow follow' all all' f s (h ∷ []) chain = f h chain
 chain_map follow follow' all all' f s (h ∷ y ∷ ys) chain = (f h chain.0, s h y chain.0 chain.1, chain_map follow follow' all all' f s (y ∷ ys) chain.2)
@@ -25,7 +26,8 @@ last_in : {A : Type 0} (follow : A → List A) (all : List A) (h : A) (c : List 
 last_in follow all h [] chain = chain
 last_in follow all h (y ∷ ys) chain = last_in follow all y ys chain.2
 
-pub free_map : {A : Type 0} (follow follow' : A → List A) (all all' : List A) → ((x : A) → In x all → In x all') → ((x y : A) → In x all → In y (follow x) → In y (follow' x)) → HasNoLoop follow' all' → HasNoLoop follow all
+pub free_map : {A : Type 0} (follow follow' : A → List A) (all all' : List A) → ((x : A) → In x all → In x all') → ((x y : A) → In x all → In y (follow x) → In y (follow' x)) → HasNoLoop follow' all'
+    → HasNoLoop follow all
 free_map follow follow' all all' f s free h c closed =
     free h c (chain_map follow follow' all all' f s (h ∷ c) closed.0, s (last_of h c) h (last_in follow all h c closed.0) closed.1)
 
@@ -52,9 +54,11 @@ module _ (net more : Net) (same : (h : LinkHop) → is_linked net.links h ≡ tr
         let i = same h g.linked in
         record {
           linked = i.linked;
-          from_reached = reached_tested more.ends s hs (node_of more.ends h.from) (subst (λ n. Leads more.ends s hs n) (sym i.from) (leads_on hs all (node_of net.ends h.from) (reached_told net.ends s hs (node_of net.ends h.from) g.from_reached)));
+          from_reached = reached_tested more.ends s hs (node_of more.ends h.from) (subst (λ n. Leads more.ends s hs n) (sym i.from)
+              (leads_on hs all (node_of net.ends h.from) (reached_told net.ends s hs (node_of net.ends h.from) g.from_reached)));
           to_new = either (is_reached more.ends s hs (node_of more.ends h.to))
-              (λ t. absurd (true_false _ (reached_tested net.ends s hs (node_of net.ends h.to) (leads_back hs all (node_of net.ends h.to) (subst (λ n. Leads more.ends s hs n) i.to (reached_told more.ends s hs (node_of more.ends h.to) t)))) g.to_new))
+              (λ t. absurd (true_false _ (reached_tested net.ends s hs (node_of net.ends h.to)
+              (leads_back hs all (node_of net.ends h.to) (subst (λ n. Leads more.ends s hs n) i.to (reached_told more.ends s hs (node_of more.ends h.to) t)))) g.to_new))
               (λ f. f);
           alone = ap (λ (l : List ℕ). list_all (λ (x : LinkHop). not (among x.from l) || (x.from == h.from)) hs) i.link ∙ g.alone;
         }
@@ -64,7 +68,8 @@ module _ (net more : Net) (same : (h : LinkHop) → is_linked net.links h ≡ tr
     grown_on before (h ∷ hs) all grown = (
       grows_on before h all grown.0,
       grown_on (before ++ h ∷ []) hs
-          (λ x i. ⊎_elim (λ (j : In x before). all x j) (λ (j : In x (h ∷ [])). ⊎_elim (λ (e : x ≡ h). ap (is_linked net.links) e ∙ grown.0.linked) (λ (k : ⊥). absurd k) j) (in_append x before (h ∷ []) i)) grown.1,
+          (λ x i. ⊎_elim (λ (j : In x before). all x j) (λ (j : In x (h ∷ [])). ⊎_elim (λ (e : x ≡ h). ap (is_linked net.links) e ∙ grown.0.linked) (λ (k : ⊥). absurd k) j)
+          (in_append x before (h ∷ []) i)) grown.1,
     )
 
   -- a tree that has a hop has a root

@@ -27,7 +27,11 @@ use Rattle.tree_routing.proofs.Vertices.{pair_made, one_pair, group_known, known
 -- ---- the least so far, and with one hop more
 module _ (ks some : List Known) (g : Addr) (k : Known) where
   lesser_first : (least : Option LinkHop) → IsLeastClosed ks some g least → IsLesserClosed ks g k least → IsLeastClosed ks (some ++ k ∷ []) g (Some k.hop.hop)
-  lesser_first least so_far is = ((k, in_right k some (k ∷ []) (inl refl), is.1, refl), λ x i c. ⊎_elim (λ (j : In x some). before least so_far is x j c) (λ (j : In x (k ∷ [])). here x j) (in_append x some (k ∷ []) i))
+  lesser_first least so_far is = (
+    (k, in_right k some (k ∷ []) (inl refl), is.1, refl),
+    λ x i c. ⊎_elim (λ (j : In x some). before least so_far is x j c) (λ (j : In x (k ∷ [])). here x j)
+        (in_append x some (k ∷ []) i),
+  )
     where
       here : (x : Known) → In x (k ∷ []) → IsUpTo k.hop.hop x.hop.hop
       here x (inl e) = subst (λ (y : Known). IsUpTo k.hop.hop y.hop.hop) (sym e) (up_itself k.hop.hop)
@@ -40,7 +44,10 @@ module _ (ks some : List Known) (g : Addr) (k : Known) where
   same_least : (least : Option LinkHop) → IsLeastClosed ks some g least → (IsLesserClosed ks g k least → ⊥) → IsLeastClosed ks (some ++ k ∷ []) g least
   same_least None so_far never = λ x i c.
       ⊎_elim (λ (j : In x some). so_far x j c) (λ (j : In x (k ∷ [])). ⊎_elim (λ (e : x ≡ k). never (tt, subst (ClosesIn ks g) e c)) (λ (o : ⊥). o) j) (in_append x some (k ∷ []) i)
-  same_least (Some l) so_far never = ((so_far.0.0, in_left so_far.0.0 some (k ∷ []) so_far.0.1, so_far.0.2, so_far.0.3), λ x i c. ⊎_elim (λ (j : In x some). so_far.1 x j c) (λ (j : In x (k ∷ [])). here x c j) (in_append x some (k ∷ []) i))
+  same_least (Some l) so_far never = (
+    (so_far.0.0, in_left so_far.0.0 some (k ∷ []) so_far.0.1, so_far.0.2, so_far.0.3),
+    λ x i c. ⊎_elim (λ (j : In x some). so_far.1 x j c) (λ (j : In x (k ∷ [])). here x c j) (in_append x some (k ∷ []) i),
+  )
     where
       by : (x : Known) → x ≡ k → ClosesIn ks g x → IsUpTo l x.hop.hop ⊎ (IsUpTo l x.hop.hop → ⊥) → IsUpTo l x.hop.hop
       by x e c (inl up) = up
@@ -50,7 +57,8 @@ module _ (ks some : List Known) (g : Addr) (k : Known) where
       here x c (inl e) = by x e c (up_order l x.hop.hop)
       here x c (inr o) = absurd o
 
-  pub lesser_more : (least h : Option LinkHop) → IsLeastClosed ks some g least → (IsLesserClosed ks g k least × (h ≡ Some k.hop.hop)) ⊎ ((IsLesserClosed ks g k least → ⊥) × (h ≡ least)) → IsLeastClosed ks (some ++ k ∷ []) g h
+  pub lesser_more : (least h : Option LinkHop) → IsLeastClosed ks some g least → (IsLesserClosed ks g k least × (h ≡ Some k.hop.hop)) ⊎ ((IsLesserClosed ks g k least → ⊥) × (h ≡ least))
+      → IsLeastClosed ks (some ++ k ∷ []) g h
   lesser_more least h so_far (inl a) = subst (IsLeastClosed ks (some ++ k ∷ []) g) (sym a.1) (lesser_first least so_far a.0)
   lesser_more least h so_far (inr a) = subst (IsLeastClosed ks (some ++ k ∷ []) g) (sym a.1) (same_least least so_far a.0)
 
@@ -62,7 +70,8 @@ module _ {A : Type 0} (S : A → A → Type 0) where
   last_step a b (d ∷ ds) steps = let r = last_step b d ds steps.1 in (r.0, walk_step S a b r.0 steps.0 r.1, r.2)
 
 -- ---- the graph of a group
-module _ (nodes : ℕ) (ends : List End) (links : List Link) (ks : List Known) (grown : (g s : Addr) → IsGrown (net_of nodes ends links ks) s (tree (plain ks) g s)) (known : AreKnown ends ks) (g : Addr) where
+module _ (nodes : ℕ) (ends : List End) (links : List Link) (ks : List Known) (grown : (g s : Addr) → IsGrown (net_of nodes ends links ks) s (tree (plain ks) g s)) (known : AreKnown ends ks)
+    (g : Addr) where
   abbrev net : Net
   net = net_of nodes ends links ks
 
@@ -110,7 +119,8 @@ module _ (nodes : ℕ) (ends : List End) (links : List Link) (ks : List Known) (
       let c = comes_told ends k.hop x.0 x.2 in
       let pair = pair_at x.0 x.1 a j x.3 in
       let group : k.hop.group ≡ g = sym c.0 ∙ pair.0 in
-      let first : In a (tree (plain ks) g k.hop.source) = subst (λ (y : LinkHop). In y (tree (plain ks) g k.hop.source)) pair.1 (subst (λ (s : Addr). In x.0.hop.hop (tree (plain ks) g s)) c.1 (subst (λ (b : Addr). In x.0.hop.hop (tree (plain ks) b x.0.hop.source)) pair.0 (known_tree ks x.0 x.1))) in
+      let first : In a (tree (plain ks) g k.hop.source) = subst (λ (y : LinkHop). In y (tree (plain ks) g k.hop.source)) pair.1
+      (subst (λ (s : Addr). In x.0.hop.hop (tree (plain ks) g s)) c.1 (subst (λ (b : Addr). In x.0.hop.hop (tree (plain ks) b x.0.hop.source)) pair.0 (known_tree ks x.0 x.1))) in
       let second : In k.hop.hop (tree (plain ks) g k.hop.source) = subst (λ (b : Addr). In k.hop.hop (tree (plain ks) b k.hop.source)) group (known_tree ks k i) in
       (group, record { source = k.hop.source; first = first; second = second; meet = sym c.2 ∙ ap (λ (y : LinkHop). node_of ends y.to) pair.1 })
 

@@ -12,7 +12,8 @@ use Rattle.tree_routing.specs.Walks.{Steps, Edge, Leads}
 use Rattle.tree_routing.proofs.LevelLaws.{length_along, along_more, along_edge, length_lift, lift_more, level_one, length_ones}
 
 -- where levels are small after a pass, each edge has counted
-lift_counts : (ks : List Known) (ls : List ℕ) → ((k : Known) → In k ks → level (lift ks ls) k.vertex < 65535) → (k : Known) → In k ks → (a : ℕ) → k.before ≡ Some a → a < length ls → level ls k.vertex + 1 ≤ level (lift ks ls) a
+lift_counts : (ks : List Known) (ls : List ℕ) → ((k : Known) → In k ks → level (lift ks ls) k.vertex < 65535) → (k : Known) → In k ks → (a : ℕ) → k.before ≡ Some a → a < length ls
+    → level ls k.vertex + 1 ≤ level (lift ks ls) a
 lift_counts [] ls small k i a e inside = absurd i
 lift_counts (x ∷ xs) ls small k i a e inside =
     let next = lift_along x.before x.vertex ls in
@@ -51,7 +52,8 @@ module _ (ks : List Known) (closing : Known) (among : In closing ks) (closes : C
           let edge = steps.0 in
           (edge.known, edge.among, edge.before, subst On (sym edge.vertex) (record { path = bs; steps = steps.1; ends = e }))
 
-  rise : (n m : ℕ) (ls : List ℕ) → ((k : Known) → In k ks → (a : ℕ) → k.before ≡ Some a → a < length ls) → ((k : Known) → In k ks → level (lifts n ks ls) k.vertex < 65535) → ((w : ℕ) → On w → m ≤ level ls w) → (w : ℕ) → On w
+  rise : (n m : ℕ) (ls : List ℕ) → ((k : Known) → In k ks → (a : ℕ) → k.before ≡ Some a → a < length ls) → ((k : Known) → In k ks → level (lifts n ks ls) k.vertex < 65535)
+      → ((w : ℕ) → On w → m ≤ level ls w) → (w : ℕ) → On w
       → m + n ≤ level (lifts n ks ls) w
   rise zero m ls inside small least w on = let a = least w on in omega arith
   rise (suc n) m ls inside small least w on =

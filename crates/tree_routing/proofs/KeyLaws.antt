@@ -26,12 +26,15 @@ alone k = (k, tt)
 
 module _ {K : Type 0} (o : Keys K) (list : List Known → List K) (key : Known → K) where
   -- a key that is there
-  pub key_there : (xs : List K) (t : K) (i : ℕ) → HasRowAt o (alone {K = K}) xs t i → (up : AreRows o (alone {K = K}) xs) → each (alone {K = K}) xs ≡ (with_key (table_of o (alone {K = K}) xs up) t).rows
+  pub key_there : (xs : List K) (t : K) (i : ℕ) → HasRowAt o (alone {K = K}) xs t i → (up : AreRows o (alone {K = K}) xs)
+      → each (alone {K = K}) xs ≡ (with_key (table_of o (alone {K = K}) xs up) t).rows
   key_there xs t i h up = sym (ap (λ (m : Set o). m.rows) (with_key_present o (table_of o (alone {K = K}) xs up) t (ap is_some (h.found t))))
 
   -- one hop more
-  pub one_key_more : (pushed : (xs : List Known) (k : Known) → list (xs ++ k ∷ []) ≡ list xs ++ key k ∷ []) (xs ys : List K) (ks : List Known) (i : ℕ) (k d : Known) → i < length ks → k ≡ slice_index_or ks i d
-      → each (alone {K = K}) xs ≡ (set_of {o = o} (list (take i ks))).rows → ((up : AreRows o (alone {K = K}) xs) → each (alone {K = K}) ys ≡ (with_key (table_of o (alone {K = K}) xs up) (key k)).rows)
+  pub one_key_more : (pushed : (xs : List Known) (k : Known) → list (xs ++ k ∷ []) ≡ list xs ++ key k ∷ []) (xs ys : List K) (ks : List Known) (i : ℕ) (k d : Known) → i < length ks
+      → k ≡ slice_index_or ks i d
+      → each (alone {K = K}) xs ≡ (set_of {o = o} (list (take i ks))).rows → ((up : AreRows o (alone {K = K}) xs)
+      → each (alone {K = K}) ys ≡ (with_key (table_of o (alone {K = K}) xs up) (key k)).rows)
       → each (alone {K = K}) ys ≡ (set_of {o = o} (list (take (i + 1) ks))).rows
   one_key_more pushed xs ys ks i k d lt is e f =
       let up = are_rows o (alone {K = K}) xs (set_of {o = o} (list (take i ks))) e in
@@ -56,7 +59,8 @@ there_already xs t i h = key_there tree_keys (λ ks. each key_of (plain ks)) (λ
 pub rows_up : (xs : List (Addr × Addr)) (ks : List Known) → each as_row xs ≡ (set_at ks).rows → AreRows tree_keys as_row xs
 rows_up xs ks e = are_rows tree_keys as_row xs (set_at ks) e
 
-pub one_tree_more : (xs ys : List (Addr × Addr)) (ks : List Known) (i : ℕ) (k d : Known) → i < length ks → k ≡ slice_index_or ks i d → each as_row xs ≡ (set_at (take i ks)).rows → IsWithTree xs (k.hop.group, k.hop.source) ys → each as_row ys ≡ (set_at (take (i + 1) ks)).rows
+pub one_tree_more : (xs ys : List (Addr × Addr)) (ks : List Known) (i : ℕ) (k d : Known) → i < length ks → k ≡ slice_index_or ks i d → each as_row xs ≡ (set_at (take i ks)).rows
+    → IsWithTree xs (k.hop.group, k.hop.source) ys → each as_row ys ≡ (set_at (take (i + 1) ks)).rows
 one_tree_more xs ys ks i k d lt is e f = one_key_more tree_keys (λ ks. each key_of (plain ks)) (λ k. (k.hop.group, k.hop.source)) tree_pushed xs ys ks i k d lt is e f
 
 firsts : (xs : List (Addr × Addr)) → each (λ e. e.0) (each as_row xs) ≡ xs

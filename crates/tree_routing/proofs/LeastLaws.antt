@@ -82,7 +82,8 @@ module _ (ks some : List Known) (new : Known) (before : ℕ) (k : Known) (least 
   same_least no_better =
       record {
         there = ⊎_elim (λ (e : least ≡ new.hop.hop). inl e)
-            (λ (x : (x : Known) × In x some × (x.hop.group ≡ new.hop.group) × (least ≡ x.hop.hop) × IsBetween ks new.vertex before x.vertex). inr (x.0, in_left x.0 some (k ∷ []) x.1, x.2, x.3, x.4)) so_far.there;
+            (λ (x : (x : Known) × In x some × (x.hop.group ≡ new.hop.group) × (least ≡ x.hop.hop) × IsBetween ks new.vertex before x.vertex). inr
+            (x.0, in_left x.0 some (k ∷ []) x.1, x.2, x.3, x.4)) so_far.there;
         first = so_far.first;
         least = λ x i g w.
             ⊎_elim (λ (j : In x some). so_far.least x j g w)

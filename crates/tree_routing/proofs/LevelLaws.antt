@@ -124,12 +124,14 @@ lift_more [] ls w = omega arith
 lift_more (k ∷ ks) ls w = let a = along_more k.before k.vertex ls w in let b = lift_more ks (lift_along k.before k.vertex ls) w in omega arith
 
 module _ (top : ℕ → ℕ) (small : (w : ℕ) → top w < 65535) where
-  lift_most : (ks : List Known) (ls : List ℕ) → ((k : Known) → In k ks → (a : ℕ) → k.before ≡ Some a → top k.vertex + 1 ≤ top a) → ((w : ℕ) → level ls w ≤ top w) → (w : ℕ) → level (lift ks ls) w ≤ top w
+  lift_most : (ks : List Known) (ls : List ℕ) → ((k : Known) → In k ks → (a : ℕ) → k.before ≡ Some a → top k.vertex + 1 ≤ top a) → ((w : ℕ) → level ls w ≤ top w) → (w : ℕ)
+      → level (lift ks ls) w ≤ top w
   lift_most [] ls f most w = most w
   lift_most (k ∷ ks) ls f most w = lift_most ks (lift_along k.before k.vertex ls) (λ x i. f x (inr i)) (along_most k.before k.vertex ls top (f k (inl refl)) most) w
 
   -- each edge is counted
-  lift_edge : (ks : List Known) (ls : List ℕ) → ((k : Known) → In k ks → (a : ℕ) → k.before ≡ Some a → top k.vertex + 1 ≤ top a) → ((w : ℕ) → level ls w ≤ top w) → (k : Known) → In k ks → (a : ℕ) → k.before ≡ Some a → a < length ls → level ls k.vertex + 1 ≤ level (lift ks ls) a
+  lift_edge : (ks : List Known) (ls : List ℕ) → ((k : Known) → In k ks → (a : ℕ) → k.before ≡ Some a → top k.vertex + 1 ≤ top a) → ((w : ℕ) → level ls w ≤ top w) → (k : Known) → In k ks → (a : ℕ)
+      → k.before ≡ Some a → a < length ls → level ls k.vertex + 1 ≤ level (lift ks ls) a
   lift_edge [] ls f most k i a e inside = absurd i
   lift_edge (x ∷ xs) ls f most k i a e inside =
       let next = along_most x.before x.vertex ls top (f x (inl refl)) most in
@@ -148,7 +150,8 @@ module _ (top : ℕ → ℕ) (small : (w : ℕ) → top w < 65535) where
       let m = along_more x.before x.vertex ls k.vertex in
       omega arith) i
 
-  lifts_most : (ks : List Known) (n : ℕ) (ls : List ℕ) → ((k : Known) → In k ks → (a : ℕ) → k.before ≡ Some a → top k.vertex + 1 ≤ top a) → ((w : ℕ) → level ls w ≤ top w) → (w : ℕ) → level (lifts n ks ls) w ≤ top w
+  lifts_most : (ks : List Known) (n : ℕ) (ls : List ℕ) → ((k : Known) → In k ks → (a : ℕ) → k.before ≡ Some a → top k.vertex + 1 ≤ top a) → ((w : ℕ) → level ls w ≤ top w) → (w : ℕ)
+      → level (lifts n ks ls) w ≤ top w
   lifts_most ks zero ls f most w = most w
   lifts_most ks (suc n) ls f most w = lifts_most ks n (lift ks ls) f (lift_most ks ls f most) w
 
@@ -179,8 +182,10 @@ module _ (nodes : ℕ) (ends : List End) (links : List Link) (ks : List Known) (
       let to : node_of ends x.0.hop.hop.to ≡ node_of ends k.0.hop.hop.from = ap (λ (y : LinkHop). node_of ends y.to) x.4 ∙ sym f.meet ∙ ap (λ (y : LinkHop). node_of ends y.from) (sym k.4) in
       let y = before_found ends k.0.hop ks x.0 x.1 (comes_made ends k.0.hop x.0 (x.2 ∙ sym k.2) (x.3 ∙ sym k.3) to) in
       let c = comes_told ends k.0.hop y.0 y.2 in
-      let in_both : In y.0.hop.hop (tree (plain ks) g f.source) = subst (λ (s : Addr). In y.0.hop.hop (tree (plain ks) g s)) (c.1 ∙ k.3) (subst (λ (d : Addr). In y.0.hop.hop (tree (plain ks) d y.0.hop.source)) (c.0 ∙ k.2) (known_tree ks y.0 y.1)) in
-      let is : y.0.hop.hop ≡ a = one_into graph f.source [] (tree (plain ks) g f.source) (grown g f.source) y.0.hop.hop a in_both f.first (c.2 ∙ ap (λ (z : LinkHop). node_of ends z.from) k.4 ∙ f.meet) in
+      let in_both : In y.0.hop.hop (tree (plain ks) g f.source) = subst (λ (s : Addr). In y.0.hop.hop (tree (plain ks) g s)) (c.1 ∙ k.3)
+      (subst (λ (d : Addr). In y.0.hop.hop (tree (plain ks) d y.0.hop.source)) (c.0 ∙ k.2) (known_tree ks y.0 y.1)) in
+      let is : y.0.hop.hop ≡ a = one_into graph f.source [] (tree (plain ks) g f.source) (grown g f.source) y.0.hop.hop a in_both f.first
+      (c.2 ∙ ap (λ (z : LinkHop). node_of ends z.from) k.4 ∙ f.meet) in
       let vertex : y.0.vertex ≡ vertex_at ks g a = (known y.0 y.1).vertex ∙ ap (λ (d : Addr). vertex_at ks d y.0.hop.hop) (c.0 ∙ k.2) ∙ ap (λ (z : LinkHop). vertex_at ks g z) is in
       (k.0, k.1, k.2, k.4, (known k.0 k.1).before ∙ y.3 ∙ ap Some vertex)
 
@@ -258,7 +263,8 @@ module _ (nodes : ℕ) (ends : List End) (links : List Link) (ks : List Known) (
       let x = before_told ends k.hop ks a (sym (known k i).before ∙ e) in
       let c = comes_told ends k.hop x.0 x.2 in
       let g = k.hop.group in
-      let first : In x.0.hop.hop (tree (plain ks) g k.hop.source) = subst (λ (s : Addr). In x.0.hop.hop (tree (plain ks) g s)) c.1 (subst (λ (b : Addr). In x.0.hop.hop (tree (plain ks) b x.0.hop.source)) c.0 (known_tree ks x.0 x.1)) in
+      let first : In x.0.hop.hop (tree (plain ks) g k.hop.source) = subst (λ (s : Addr). In x.0.hop.hop (tree (plain ks) g s)) c.1
+      (subst (λ (b : Addr). In x.0.hop.hop (tree (plain ks) b x.0.hop.source)) c.0 (known_tree ks x.0 x.1)) in
       let f : Follows net g x.0.hop.hop k.hop.hop = record { source = k.hop.source; first = first; second = known_tree ks k i; meet = sym c.2 } in
       let fall = rank_falls_at net valid.loop_free g x.0.hop.hop k.hop.hop f in
       let at_k = top_at k i in
@@ -291,17 +297,20 @@ module _ (nodes : ℕ) (ends : List End) (links : List Link) (ks : List Known) (
         least = λ k i. by k i (largest_is (λ x. height (followers net k.hop.group) j x) (followers net k.hop.group k.hop.hop));
       }
     where
-      by : (k : Known) → In k ks → (followers net k.hop.group k.hop.hop ≡ []) ⊎ ((x : LinkHop) × In x (followers net k.hop.group k.hop.hop) × (height (followers net k.hop.group) j x ≡ largest (each (λ x. height (followers net k.hop.group) j x) (followers net k.hop.group k.hop.hop))))
+      by : (k : Known) → In k ks → (followers net k.hop.group k.hop.hop ≡ []) ⊎ ((x : LinkHop) × In x (followers net k.hop.group k.hop.hop)
+          × (height (followers net k.hop.group) j x ≡ largest (each (λ x. height (followers net k.hop.group) j x) (followers net k.hop.group k.hop.hop))))
           → height (followers net k.hop.group) (suc j) k.hop.hop ≤ level (lift ks ls) k.vertex
       by k i (inl e) =
-          let none : largest (each (λ x. height (followers net k.hop.group) j x) (followers net k.hop.group k.hop.hop)) ≡ 0 = ap (λ (xs : List LinkHop). largest (each (λ x. height (followers net k.hop.group) j x) xs)) e in
+          let none : largest (each (λ x. height (followers net k.hop.group) j x) (followers net k.hop.group k.hop.hop)) ≡ 0 =
+          ap (λ (xs : List LinkHop). largest (each (λ x. height (followers net k.hop.group) j x) xs)) e in
           let a = h.some k i in let b = lift_more ks ls k.vertex in omega arith
       by k i (inr x) =
           let g = k.hop.group in
           let y = edge_of nodes ends links ks valid.grown known g k.hop.hop x.0 (follower_follows net g k.hop.hop x.0 x.1) in
           let before : y.0.before ≡ Some k.vertex = y.4 ∙ ap Some (sym (known k i).vertex) in
           let up = lift_edge top top_small ks ls edge_falls h.most y.0 y.1 k.vertex before (let lt = vertex_below ends ks known k i in let s = h.size in omega arith) in
-          let low : height (followers net g) j x.0 ≤ level ls y.0.vertex = subst (λ (z : LinkHop). height (followers net g) j z ≤ level ls y.0.vertex) y.3 (subst (λ (d : Addr). height (followers net d) j y.0.hop.hop ≤ level ls y.0.vertex) y.2 (h.least y.0 y.1)) in
+          let low : height (followers net g) j x.0 ≤ level ls y.0.vertex = subst (λ (z : LinkHop). height (followers net g) j z ≤ level ls y.0.vertex) y.3
+          (subst (λ (d : Addr). height (followers net d) j y.0.hop.hop ≤ level ls y.0.vertex) y.2 (h.least y.0 y.1)) in
           let at = x.2 in
           omega arith
 
@@ -319,7 +328,8 @@ module _ (nodes : ℕ) (ends : List End) (links : List Link) (ks : List Known) (
       let up = h.most k.vertex in
       let at = top_at k i in
       let e : length ks + 0 ≡ length ks = omega arith in
-      let fuel = ap (λ (n : ℕ). height (followers net g) n k.hop.hop) e ∙ height_enough (followers net g) (hops_of net.hops g) (follower_of_group net g) (valid.loop_free g) (length ks) k.hop.hop (in_group_of k i) (few_of_group g) in
+      let fuel = ap (λ (n : ℕ). height (followers net g) n k.hop.hop) e ∙ height_enough (followers net g) (hops_of net.hops g) (follower_of_group net g) (valid.loop_free g) (length ks) k.hop.hop
+      (in_group_of k i) (few_of_group g) in
       let is = rank_of_hop net g k.hop.hop (in_group_of k i) in
       omega arith
 

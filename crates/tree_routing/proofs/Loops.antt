@@ -68,7 +68,11 @@ module _ {A : Type 0} (S : A → A → Type 0) where
     pub from : Walk S x (last_of h c)
 
   pub cut : (h : A) (c : List A) → Steps S h c → (x : A) → In x (h ∷ c) → Cut h c x
-  cut h c steps x (inl e) = record { to = subst (λ (z : A). Walk S h z) (sym e) (walk_none S h); from = subst (λ (z : A). Walk S z (last_of h c)) (sym e) (record { path = c; steps = steps; ends = refl }) }
+  cut h c steps x (inl e) = record {
+    to = subst (λ (z : A). Walk S h z) (sym e) (walk_none S h);
+    from = subst (λ (z : A). Walk S z (last_of h c)) (sym e)
+        (record { path = c; steps = steps; ends = refl });
+  }
   cut h [] steps x (inr i) = absurd i
   cut h (y ∷ ys) steps x (inr i) = let r = cut y ys steps.1 x i in record { to = walk_step S h y x steps.0 r.to; from = r.from }
 
@@ -133,7 +137,8 @@ module _ (nodes : ℕ) (ends : List End) (links : List Link) (ks : List Known) (
       let r = in_tree more.hops g s x i in
       ⊎_elim
       (λ (j : In r.0 (plain ks)).
-      inl (subst (λ (a : Addr). In x (tree (plain ks) a s)) r.2 (subst (λ (a : Addr). In x (tree (plain ks) r.0.group a)) r.3 (subst (λ (y : LinkHop). In y (tree (plain ks) r.0.group r.0.source)) r.4 (to_tree (plain ks) r.0 j)))))
+      inl (subst (λ (a : Addr). In x (tree (plain ks) a s)) r.2 (subst (λ (a : Addr). In x (tree (plain ks) r.0.group a)) r.3
+      (subst (λ (y : LinkHop). In y (tree (plain ks) r.0.group r.0.source)) r.4 (to_tree (plain ks) r.0 j)))))
       (λ (j : In r.0 (new.hop ∷ [])). ⊎_elim (λ (e : r.0 ≡ new.hop). inr (sym r.4 ∙ ap (λ (q : TreeHop). q.hop) e, sym r.3 ∙ ap (λ (q : TreeHop). q.source) e)) (λ (j : ⊥). absurd j) j)
       (in_append r.0 (plain ks) (new.hop ∷ []) r.1)
 
@@ -150,12 +155,14 @@ module _ (nodes : ℕ) (ends : List End) (links : List Link) (ks : List Known) (
   split : (a b : LinkHop) → New a b → Old a b ⊎ (IsBefore a × (b ≡ new.hop.hop))
   split a b f = by (new_tree f.source a f.first) (new_tree f.source b f.second)
     where
-      by : In a (tree (plain ks) g f.source) ⊎ ((a ≡ new.hop.hop) × (f.source ≡ new.hop.source)) → In b (tree (plain ks) g f.source) ⊎ ((b ≡ new.hop.hop) × (f.source ≡ new.hop.source)) → Old a b ⊎ (IsBefore a × (b ≡ new.hop.hop))
+      by : In a (tree (plain ks) g f.source) ⊎ ((a ≡ new.hop.hop) × (f.source ≡ new.hop.source)) → In b (tree (plain ks) g f.source) ⊎ ((b ≡ new.hop.hop) × (f.source ≡ new.hop.source))
+          → Old a b ⊎ (IsBefore a × (b ≡ new.hop.hop))
       by (inl i) (inl j) = inl (record { source = f.source; first = i; second = j; meet = f.meet })
       by (inl i) (inr n) = inr ((subst (λ (s : Addr). In a (tree (plain ks) g s)) n.1 i, sym f.meet ∙ ap (λ (x : LinkHop). node_of ends x.from) n.0), n.0)
       by (inr n) (inl j) =
           let from = from_leads net f.source [] (tree (plain ks) g f.source) (valid.grown g f.source) b j in
-          absurd (fresh (subst (λ (m : ℕ). Leads ends new.hop.source (tree (plain ks) g new.hop.source) m) (f.meet ∙ ap (λ (x : LinkHop). node_of ends x.to) n.0) (subst (λ (s : Addr). Leads ends s (tree (plain ks) g s) (node_of ends b.from)) n.1 from)))
+          absurd (fresh (subst (λ (m : ℕ). Leads ends new.hop.source (tree (plain ks) g new.hop.source) m) (f.meet ∙ ap (λ (x : LinkHop). node_of ends x.to) n.0)
+          (subst (λ (s : Addr). Leads ends s (tree (plain ks) g s) (node_of ends b.from)) n.1 from)))
       by (inr n) (inr m) = absurd (apart (sym (ap (λ (x : LinkHop). node_of ends x.from) m.0) ∙ f.meet ∙ ap (λ (x : LinkHop). node_of ends x.to) n.0))
 
   -- what followed still follows
@@ -166,7 +173,8 @@ module _ (nodes : ℕ) (ends : List End) (links : List Link) (ks : List Known) (
       more_tree : (s : Addr) (x : LinkHop) → In x (tree (plain ks) g s) → In x (tree more.hops g s)
       more_tree s x i =
           let r = in_tree (plain ks) g s x i in
-          subst (λ (a : Addr). In x (tree more.hops a s)) r.2 (subst (λ (a : Addr). In x (tree more.hops r.0.group a)) r.3 (subst (λ (y : LinkHop). In y (tree more.hops r.0.group r.0.source)) r.4 (to_tree more.hops r.0 (in_left r.0 (plain ks) (new.hop ∷ []) r.1))))
+          subst (λ (a : Addr). In x (tree more.hops a s)) r.2 (subst (λ (a : Addr). In x (tree more.hops r.0.group a)) r.3
+          (subst (λ (y : LinkHop). In y (tree more.hops r.0.group r.0.source)) r.4 (to_tree more.hops r.0 (in_left r.0 (plain ks) (new.hop ∷ []) r.1))))
 
   -- ---- vertices
   abbrev v : LinkHop → ℕ
@@ -224,7 +232,8 @@ module _ (nodes : ℕ) (ends : List End) (links : List Link) (ks : List Known) (
       let c = comes_told ends k.hop x.0 x.2 in
       let pair = pair_at x.0 x.1 a l x.3 in
       let group : k.hop.group ≡ g = sym c.0 ∙ pair.0 in
-      let first : In a (tree (plain ks) g k.hop.source) = subst (λ (y : LinkHop). In y (tree (plain ks) g k.hop.source)) pair.1 (subst (λ (s : Addr). In x.0.hop.hop (tree (plain ks) g s)) c.1 (subst (λ (b : Addr). In x.0.hop.hop (tree (plain ks) b x.0.hop.source)) pair.0 (known_tree ks x.0 x.1))) in
+      let first : In a (tree (plain ks) g k.hop.source) = subst (λ (y : LinkHop). In y (tree (plain ks) g k.hop.source)) pair.1
+      (subst (λ (s : Addr). In x.0.hop.hop (tree (plain ks) g s)) c.1 (subst (λ (b : Addr). In x.0.hop.hop (tree (plain ks) b x.0.hop.source)) pair.0 (known_tree ks x.0 x.1))) in
       let second : In k.hop.hop (tree (plain ks) g k.hop.source) = subst (λ (b : Addr). In k.hop.hop (tree (plain ks) b k.hop.source)) group (known_tree ks k edge.among) in (
         k.hop.hop,
         kept_old k edge.among group,
@@ -270,7 +279,8 @@ module _ (nodes : ℕ) (ends : List End) (links : List Link) (ks : List Known) (
       let to : node_of ends b.0.hop.hop.to ≡ node_of ends new.hop.hop.from = ap (λ (y : LinkHop). node_of ends y.to) b.4 ∙ t.is.1 in
       let y = before_found ends new.hop ks b.0 b.1 (comes_made ends new.hop b.0 b.2 b.3 to) in
       let c2 = comes_told ends new.hop y.0 y.2 in
-      let in_both : In y.0.hop.hop (tree (plain ks) g new.hop.source) = subst (λ (s : Addr). In y.0.hop.hop (tree (plain ks) g s)) c2.1 (subst (λ (a : Addr). In y.0.hop.hop (tree (plain ks) a y.0.hop.source)) c2.0 (known_tree ks y.0 y.1)) in
+      let in_both : In y.0.hop.hop (tree (plain ks) g new.hop.source) = subst (λ (s : Addr). In y.0.hop.hop (tree (plain ks) g s)) c2.1
+      (subst (λ (a : Addr). In y.0.hop.hop (tree (plain ks) a y.0.hop.source)) c2.0 (known_tree ks y.0 y.1)) in
       let is : y.0.hop.hop ≡ t.before = one net valid g new.hop.source y.0.hop.hop t.before in_both t.is.0 (c2.2 ∙ sym t.is.1) in (
         k,
         (
@@ -306,8 +316,16 @@ module _ (nodes : ℕ) (ends : List End) (links : List Link) (ks : List Known) (
       let w = leads_to_old new.hop.hop x kept_new k (subst (λ (m : ℕ). walks.Leads ks m (v x)) vertex from) in
       let u = leads_to_old x q.0.hop.hop k (kept_old q.0 q.1 c.0) (subst (λ (m : ℕ). walks.Leads ks (v x) m) at to) in
       let r = in_walk new.hop.hop x q.0.hop.hop (walk_new new.hop.hop x w) (walk_new x q.0.hop.hop u) in
-      let q_tree : In q.0.hop.hop (tree more.hops g new.hop.source) = subst (λ (s : Addr). In q.0.hop.hop (tree more.hops g s)) c.1 (subst (λ (a : Addr). In q.0.hop.hop (tree more.hops a q.0.hop.source)) c.0 (to_tree more.hops q.0.hop (in_left q.0.hop (plain ks) (new.hop ∷ []) (to_each (λ (k : Known). k.hop) q.0 ks q.1)))) in
-      let closes : New q.0.hop.hop new.hop.hop = record { source = new.hop.source; first = q_tree; second = to_tree more.hops new.hop (in_right new.hop (plain ks) (new.hop ∷ []) (inl refl)); meet = sym c.2 } in
+      let q_tree : In q.0.hop.hop (tree more.hops g new.hop.source) = subst (λ (s : Addr). In q.0.hop.hop (tree more.hops g s)) c.1
+      (subst (λ (a : Addr). In q.0.hop.hop (tree more.hops a q.0.hop.source)) c.0
+      (to_tree more.hops q.0.hop (in_left q.0.hop (plain ks) (new.hop ∷ []) (to_each (λ (k : Known). k.hop) q.0 ks q.1)))) in
+      let closes : New q.0.hop.hop new.hop.hop = record {
+        source = new.hop.source;
+        first = q_tree;
+        second = to_tree more.hops new.hop
+            (in_right new.hop (plain ks) (new.hop ∷ []) (inl refl));
+        meet = sym c.2;
+      } in
       record {
         head = new.hop.hop;
         rest = r.0;
@@ -325,12 +343,14 @@ module _ (nodes : ℕ) (ends : List End) (links : List Link) (ks : List Known) (
   least_closed c h l = record { on = on_it l.there; least = least }
     where
       new_on : IsOnLoop more g new.hop.hop
-      new_on = on_loop_made new.hop.hop kept_new c.before c.is (subst (λ (n : ℕ). walks.Leads ks new.vertex n) vertex (walk_none (Edge ks) new.vertex)) (subst (λ (n : ℕ). walks.Leads ks n c.before) vertex c.leads)
+      new_on = on_loop_made new.hop.hop kept_new c.before c.is (subst (λ (n : ℕ). walks.Leads ks new.vertex n) vertex (walk_none (Edge ks) new.vertex))
+          (subst (λ (n : ℕ). walks.Leads ks n c.before) vertex c.leads)
 
       known_on : (k : Known) → In k ks → k.hop.group ≡ g → h ≡ k.hop.hop → IsBetween ks new.vertex c.before k.vertex → IsOnLoop more g h
       known_on k i e is b =
           let at = kept_vertex k.hop.hop k i e refl in
-          subst (λ (x : LinkHop). IsOnLoop more g x) (sym is) (on_loop_made k.hop.hop (kept_old k i e) c.before c.is (subst (λ (n : ℕ). walks.Leads ks new.vertex n) at b.0) (subst (λ (n : ℕ). walks.Leads ks n c.before) at b.1))
+          subst (λ (x : LinkHop). IsOnLoop more g x) (sym is) (on_loop_made k.hop.hop (kept_old k i e) c.before c.is (subst (λ (n : ℕ). walks.Leads ks new.vertex n) at b.0)
+          (subst (λ (n : ℕ). walks.Leads ks n c.before) at b.1))
 
       on_it : (h ≡ new.hop.hop) ⊎ ((k : Known) × In k ks × (k.hop.group ≡ g) × (h ≡ k.hop.hop) × IsBetween ks new.vertex c.before k.vertex) → IsOnLoop more g h
       on_it (inl e) = subst (λ (x : LinkHop). IsOnLoop more g x) (sym e) new_on
@@ -344,13 +364,18 @@ module _ (nodes : ℕ) (ends : List End) (links : List Link) (ks : List Known) (
           (λ (i : In r.0.0 ks).
           let at = kept_vertex x r.0.0 i r.0.2 r.0.3 in
           subst (λ (y : LinkHop). IsUpTo h y) r.0.3
-          (l.least r.0.0 i r.0.2 (subst (λ (n : ℕ). walks.Leads ks new.vertex n) (sym at) r.1.2, subst (λ (n : ℕ). walks.Leads ks n c.before) (sym at) (subst (λ (n : ℕ). walks.Leads ks (v x) n) same r.1.3))))
+          (l.least r.0.0 i r.0.2 (
+            subst (λ (n : ℕ). walks.Leads ks new.vertex n) (sym at) r.1.2,
+            subst (λ (n : ℕ). walks.Leads ks n c.before) (sym at) (subst (λ (n : ℕ). walks.Leads ks (v x) n) same r.1.3),
+          )))
           (λ (i : In r.0.0 (new ∷ [])). ⊎_elim (λ (e : r.0.0 ≡ new). subst (λ (y : LinkHop). IsUpTo h y) (sym (ap (λ (k : Known). k.hop.hop) e) ∙ r.0.3) l.first) (λ (j : ⊥). absurd j) i)
           (in_append r.0.0 ks (new ∷ []) r.0.1)
 
 pub kept_answer : (nodes : ℕ) (ends : List End) (links : List Link) (ks : List Known) (new : Known) (r : Result (Unit {0}) HopErr) → IsValid (net_of nodes ends links ks) → AreKnown ends ks
-    → new.vertex ≡ vertex_at ks new.hop.group new.hop.hop → new.before ≡ vertex_before ends new.hop ks → Fits (net_of nodes ends links ks) new.hop → LoopAnswer ks new r → HopAnswer (net_of nodes ends links ks) new.hop r
+    → new.vertex ≡ vertex_at ks new.hop.group new.hop.hop → new.before ≡ vertex_before ends new.hop ks → Fits (net_of nodes ends links ks) new.hop → LoopAnswer ks new r
+    → HopAnswer (net_of nodes ends links ks) new.hop r
 kept_answer nodes ends links ks new (Ok u) valid known vertex before fits a = (fits, none_closed nodes ends links ks valid known new vertex before fits a)
 kept_answer nodes ends links ks new (Err NotTree) valid known vertex before fits a = absurd a
-kept_answer nodes ends links ks new (Err (Loop group from to)) valid known vertex before fits a = (fits, a.1, least_closed nodes ends links ks valid known new vertex before fits a.0 (record { from = from; to = to }) a.2)
+kept_answer nodes ends links ks new (Err (Loop group from to)) valid known vertex before fits a =
+    (fits, a.1, least_closed nodes ends links ks valid known new vertex before fits a.0 (record { from = from; to = to }) a.2)
 kept_answer nodes ends links ks new (Err NoMemory) valid known vertex before fits a = fits

@@ -33,7 +33,8 @@ placed_more : (ks : List Known) (new : Known) → ArePlaced ks → new.vertex �
 placed_more ks new all is k i =
     ⊎_elim (λ (j : In k ks). all k j ∙ sym (place_kept (is_pair k.hop.group k.hop.hop) ks (new ∷ []) k j (pair_itself k)))
     (λ (j : In k (new ∷ [])).
-    ⊎_elim (λ (e : k ≡ new). subst (λ (x : Known). x.vertex ≡ vertex_at (ks ++ new ∷ []) x.hop.group x.hop.hop) (sym e) (is ∙ sym (place_new (is_pair new.hop.group new.hop.hop) ks new (pair_itself new))))
+    ⊎_elim (λ (e : k ≡ new). subst (λ (x : Known). x.vertex ≡ vertex_at (ks ++ new ∷ []) x.hop.group x.hop.hop) (sym e)
+    (is ∙ sym (place_new (is_pair new.hop.group new.hop.hop) ks new (pair_itself new))))
     (λ (o : ⊥). absurd o) j) (in_append k ks (new ∷ []) i)
 
 pub placed_push : (ks ks' : List Known) (r : TreeHop) → ks' ≡ ks ++ placed ks r ∷ [] → ArePlaced ks → ArePlaced ks'
@@ -74,7 +75,8 @@ grown_at net s before (h ∷ hs) (suc i) d lt grown =
 -- behind other trees the hops are those of the tree
 pub tree_behind : (rs : List TreeHop) (g s : Addr) (hs : List LinkHop) → tree rs g s ≡ [] → tree (rs ++ each (tree_hop g s) hs) g s ≡ hs
 tree_behind rs g s hs none =
-    ap (each (λ (r : TreeHop). r.hop)) (filter_both (of_tree g s) rs (each (tree_hop g s) hs)) ∙ map-append (λ (r : TreeHop). r.hop) (filter (of_tree g s) rs) (filter (of_tree g s) (each (tree_hop g s) hs))
+    ap (each (λ (r : TreeHop). r.hop)) (filter_both (of_tree g s) rs (each (tree_hop g s) hs))
+    ∙ map-append (λ (r : TreeHop). r.hop) (filter (of_tree g s) rs) (filter (of_tree g s) (each (tree_hop g s) hs))
     ∙ (λ i. none i ++ each (λ (r : TreeHop). r.hop) (all_mine g s hs i)) ∙ hops_again g s hs
 
 pub others_none : (g s : Addr) (rs : List TreeHop) → tree (filter (λ r. not (of_tree g s r)) rs) g s ≡ []
@@ -111,17 +113,20 @@ module _ (ends : List End) (links : List Link) (old : List Known) (g s : Addr) (
     pub not_grown : ((nodes : ℕ) → Fits (net_of nodes ends links all) (tree_hop g s next) → ⊥) → (nodes : ℕ) (ks : List Known) → IsGrown (net_of nodes ends links ks) s hs → ⊥
     not_grown never nodes ks grown = never nodes (fits_in nodes ks (grown_at (net_of nodes ends links ks) s [] hs at d inside grown))
 
-    pub grown_more : (all' : List Known) → all' ≡ all ++ placed all (tree_hop g s next) ∷ [] → ((nodes : ℕ) → Fits (net_of nodes ends links all) (tree_hop g s next)) → Grown ends links old all' g s (take (at + 1) hs)
+    pub grown_more : (all' : List Known) → all' ≡ all ++ placed all (tree_hop g s next) ∷ [] → ((nodes : ℕ) → Fits (net_of nodes ends links all) (tree_hop g s next))
+        → Grown ends links old all' g s (take (at + 1) hs)
     grown_more all' is fits =
         subst (λ (xs : List LinkHop). Grown ends links old all' g s xs) (sym (take_one_more hs at d inside)) (record {
           hops = ap plain is ∙ map-append (λ (k : Known). k.hop) all (placed all (tree_hop g s next) ∷ []) ∙ ap (λ (rs : List TreeHop). rs ++ tree_hop g s next ∷ []) so_far.hops
-              ∙ append_assoc (plain old) (each (tree_hop g s) (take at hs)) (tree_hop g s next ∷ []) ∙ ap (λ (rs : List TreeHop). plain old ++ rs) (sym (map-append (tree_hop g s) (take at hs) (next ∷ [])));
+              ∙ append_assoc (plain old) (each (tree_hop g s) (take at hs)) (tree_hop g s next ∷ [])
+              ∙ ap (λ (rs : List TreeHop). plain old ++ rs) (sym (map-append (tree_hop g s) (take at hs) (next ∷ [])));
           placed = placed_push all all' (tree_hop g s next) is so_far.placed;
           grown = λ nodes ks. grown_push (net_of nodes ends links ks) s [] (take at hs) next (so_far.grown nodes ks) (grows_in nodes ks (fits nodes));
         })
 
 -- how many they are
-pub grown_length : (ends : List End) (links : List Link) (old all : List Known) (g s : Addr) (hs : List LinkHop) (at : ℕ) → Grown ends links old all g s (take at hs) → at ≤ length hs → length all ≡ length old + at
+pub grown_length : (ends : List End) (links : List Link) (old all : List Known) (g s : Addr) (hs : List LinkHop) (at : ℕ) → Grown ends links old all g s (take at hs) → at ≤ length hs
+    → length all ≡ length old + at
 grown_length ends links old all g s hs at so_far le =
     let a = length-map all (λ (k : Known). k.hop) in
     let b = length-map old (λ (k : Known). k.hop) in
@@ -149,7 +154,8 @@ module _ (hops all all' : List Known) (g s : Addr) (at : ℕ) (d : Known) (insid
 
   one : (b : Bool) → of_tree g s k.hop ≡ b → filter other (plain (take (at + 1) hops)) ≡ filter other (plain (take at hops)) ++ cond (not b) (k.hop ∷ []) []
   one b e =
-      ap (λ (ks : List Known). filter other (plain ks)) (take_one_more hops at d inside) ∙ ap (filter other) (map-append (λ (x : Known). x.hop) (take at hops) (k ∷ [])) ∙ filter_both other (plain (take at hops)) (k.hop ∷ [])
+      ap (λ (ks : List Known). filter other (plain ks)) (take_one_more hops at d inside) ∙ ap (filter other) (map-append (λ (x : Known). x.hop) (take at hops) (k ∷ []))
+      ∙ filter_both other (plain (take at hops)) (k.hop ∷ [])
       ∙ ap (λ (b : Bool). filter other (plain (take at hops)) ++ cond (not b) (k.hop ∷ []) []) e
 
   pub others_more : ((of_tree g s k.hop ≡ false) × (all' ≡ all ++ placed all k.hop ∷ [])) ⊎ ((of_tree g s k.hop ≡ true) × (all' ≡ all)) → Others (take (at + 1) hops) all' g s × (length all' ≤ at + 1)
@@ -169,7 +175,8 @@ module _ (hops all all' : List Known) (g s : Addr) (at : ℕ) (d : Known) (insid
   )
 
 -- ---- a hop that fits a network that is this one
-pub fits_at : (net : Net) (nodes : ℕ) (ends ends' : List End) (links links' : List Link) (ks ks' : List Known) (r : TreeHop) (b : Bool) → net_of nodes ends links ks ≡ net → ends' ≡ ends → links' ≡ links → ks' ≡ ks
+pub fits_at : (net : Net) (nodes : ℕ) (ends ends' : List End) (links links' : List Link) (ks ks' : List Known) (r : TreeHop) (b : Bool) → net_of nodes ends links ks ≡ net → ends' ≡ ends
+    → links' ≡ links → ks' ≡ ks
     → ((n : ℕ) → IsTrue b ↔ Fits (net_of n ends' links' ks') r) → IsTrue b ↔ Fits net r
 fits_at net nodes ends ends' links links' ks ks' r b view is_ends is_links is_ks fits =
     subst (λ (m : Net). IsTrue b ↔ Fits m r) ((λ i. net_of nodes (is_ends i) (is_links i) (is_ks i)) ∙ view) (fits nodes)

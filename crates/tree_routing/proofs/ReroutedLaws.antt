@@ -32,7 +32,8 @@ befores_below ends ks ks' known is =
     let at = x.3 in
     omega arith)
 
-pub before_below : (ends ends' : List End) (ks ks' ks'' : List Known) (r : TreeHop) (o : Option ℕ) → o ≡ vertex_before ends' r ks' → ends' ≡ ends → ks' ≡ ks → ks'' ≡ ks → AreKnown ends ks → IfSome o (λ b. b < length ks'')
+pub before_below : (ends ends' : List End) (ks ks' ks'' : List Known) (r : TreeHop) (o : Option ℕ) → o ≡ vertex_before ends' r ks' → ends' ≡ ends → ks' ≡ ks → ks'' ≡ ks → AreKnown ends ks
+    → IfSome o (λ b. b < length ks'')
 before_below ends ends' ks ks' ks'' r None is same_ends same same' known = tt
 before_below ends ends' ks ks' ks'' r (Some b) is same_ends same same' known =
     let found : vertex_before ends r ks ≡ Some b = sym (is ∙ ap (λ (x : List End). vertex_before x r ks') same_ends ∙ ap (λ (x : List Known). vertex_before ends r x) same) in
@@ -47,7 +48,8 @@ refused_answer R net m g s hops NotTree is refused = subst (λ (n : Net). IsRefu
 refused_answer R net m g s hops (Loop group from to) is refused = absurd refused
 refused_answer R net m g s hops NoMemory is refused = tt
 
-module _ (net : Net) (valid : IsValid net) (nodes : ℕ) (ends : List End) (links : List Link) (old : List Known) (is_net : net_of nodes ends links old ≡ net) (g s : Addr) (hops : List LinkHop) (grown : IsGrown (net_of nodes ends links old) s hops)
+module _ (net : Net) (valid : IsValid net) (nodes : ℕ) (ends : List End) (links : List Link) (old : List Known) (is_net : net_of nodes ends links old ≡ net) (g s : Addr) (hops : List LinkHop)
+    (grown : IsGrown (net_of nodes ends links old) s hops)
     (ks : List Known) (known : AreKnown ends ks) (are : plain ks ≡ (rerouted (net_of nodes ends links old) g s hops).hops) where
   grown_in : IsGrown net s hops
   grown_in = subst (λ (n : Net). IsGrown n s hops) is_net grown

@@ -1,5 +1,6 @@
 -- A valid network stays valid with one more node, end, link or hop.
-use Rattle.std.specs.Prelude.{◌≡◌, ◌⊎◌, ℕ, ◌+◌, ◌*◌, ◌<◌, ◌≤◌, Bool, true, false, not, ◌&&◌, ◌==◌, List, [], ◌∷◌, ◌++◌, length, map as each, Option, None, Some, Result, Ok, slice_get, refl, if◌then◌else◌}
+use Rattle.std.specs.Prelude.{◌≡◌, ◌⊎◌, ℕ, ◌+◌, ◌*◌, ◌<◌, ◌≤◌, Bool, true, false, not, ◌&&◌, ◌==◌, List, [], ◌∷◌, ◌++◌, length, map as each, Option, None, Some, Result, Ok, slice_get, refl}
+use Rattle.std.specs.Prelude.{if◌then◌else◌}
 use Rattle.std.specs.List.{filter}
 use Rattle.std.proofs.Common.{zero, suc, sym, ap, subst, ◌∙◌, inl, inr, ⊎_elim, arith, append_assoc, length-append}
 use Rattle.std.proofs.lemmas.List.{map-append}
@@ -96,11 +97,13 @@ valid_node net valid lt =
 ends_more : (number : ℕ) (xs : List End) (e : End) (n : ℕ) → ends_from number (xs ++ e ∷ []) n ≡ ends_from number xs n ++ (if e.node == n then (number + length xs) ∷ [] else [])
 ends_more number [] e n = let z : number ≡ number + 0 = omega arith in ap (λ (m : ℕ). if e.node == n then m ∷ [] else []) z
 ends_more number (x ∷ xs) e n =
-    let rest = ends_more (number + 1) xs e n ∙ ap (λ (m : ℕ). ends_from (number + 1) xs n ++ (if e.node == n then m ∷ [] else [])) (let z : number + 1 + length xs ≡ number + suc (length xs) = omega arith in z) in
+    let rest = ends_more (number + 1) xs e n ∙ ap (λ (m : ℕ). ends_from (number + 1) xs n ++ (if e.node == n then m ∷ [] else []))
+    (let z : number + 1 + length xs ≡ number + suc (length xs) = omega arith in z) in
     by (x.node == n) rest
   where
     by : (b : Bool) → ends_from (number + 1) (xs ++ e ∷ []) n ≡ ends_from (number + 1) xs n ++ (if e.node == n then (number + suc (length xs)) ∷ [] else [])
-        → (if b then number ∷ ends_from (number + 1) (xs ++ e ∷ []) n else ends_from (number + 1) (xs ++ e ∷ []) n) ≡ (if b then number ∷ ends_from (number + 1) xs n else ends_from (number + 1) xs n) ++ (if e.node == n then (number + suc (length xs)) ∷ [] else [])
+        → (if b then number ∷ ends_from (number + 1) (xs ++ e ∷ []) n else ends_from (number + 1) (xs ++ e ∷ []) n)
+        ≡ (if b then number ∷ ends_from (number + 1) xs n else ends_from (number + 1) xs n) ++ (if e.node == n then (number + suc (length xs)) ∷ [] else [])
     by true r = ap (λ (ys : List ℕ). number ∷ ys) r
     by false r = r
 
@@ -170,11 +173,13 @@ module _ (net : Net) (valid : IsValid net) (e : End) (takes : TakesEnd net e) wh
         few_ends = few_more net.ends e valid.few_ends takes.room;
         few_links = valid.few_links;
         few_hops = valid.few_hops;
-        placed = λ x i. ⊎_elim (λ (j : In x net.ends). valid.placed x j) (λ (j : In x (e ∷ [])). ⊎_elim (λ (s : x ≡ e). let k = ap (λ (y : End). y.node) s in let n = takes.node in let lt : x.node < net.nodes = omega arith in lt) (λ (k : ⊥). absurd k) j) (in_append x net.ends (e ∷ []) i);
+        placed = λ x i. ⊎_elim (λ (j : In x net.ends). valid.placed x j) (λ (j : In x (e ∷ [])). ⊎_elim
+            (λ (s : x ≡ e). let k = ap (λ (y : End). y.node) s in let n = takes.node in let lt : x.node < net.nodes = omega arith in lt) (λ (k : ⊥). absurd k) j) (in_append x net.ends (e ∷ []) i);
         one_address = one_more;
         linked = valid.linked;
         nodes_apart = λ l a b i j k same.
-            valid.nodes_apart l a b i j k (sym (ap node_of_end (got_left net.ends (e ∷ []) a (valid.ends_of_links l a i j))) ∙ same ∙ ap node_of_end (got_left net.ends (e ∷ []) b (valid.ends_of_links l b i k)));
+            valid.nodes_apart l a b i j k (sym (ap node_of_end (got_left net.ends (e ∷ []) a (valid.ends_of_links l a i j))) ∙ same
+            ∙ ap node_of_end (got_left net.ends (e ∷ []) b (valid.ends_of_links l b i k)));
         ends_of_links = λ l x i j. let lt = valid.ends_of_links l x i j in let size = length-append net.ends (e ∷ []) in omega arith;
         rising = valid.rising;
         apart = valid.apart;
@@ -189,7 +194,8 @@ link_kept : (links : List (List ℕ)) (l : List ℕ) (a b : ℕ) → In b (link_
 link_kept [] l a b i = absurd i
 link_kept (x ∷ xs) l a b i = by (among a x) i (link_kept xs l a b)
   where
-    by : (t : Bool) → In b (if t then x else link_of xs a) → (In b (link_of xs a) → link_of (xs ++ l ∷ []) a ≡ link_of xs a) → (if t then x else link_of (xs ++ l ∷ []) a) ≡ (if t then x else link_of xs a)
+    by : (t : Bool) → In b (if t then x else link_of xs a) → (In b (link_of xs a) → link_of (xs ++ l ∷ []) a ≡ link_of xs a)
+        → (if t then x else link_of (xs ++ l ∷ []) a) ≡ (if t then x else link_of xs a)
     by true i rest = refl
     by false i rest = rest i
 
@@ -198,7 +204,8 @@ link_new : (links : List (List ℕ)) (l : List ℕ) (a : ℕ) → link_of links 
 link_new [] l a e long = refl
 link_new (x ∷ xs) l a e long = by (among a x) e (λ f. link_new xs l a f (λ y i. long y (inr i)))
   where
-    by : (t : Bool) → (if t then x else link_of xs a) ≡ [] → (link_of xs a ≡ [] → link_of (xs ++ l ∷ []) a ≡ (if among a l then l else [])) → (if t then x else link_of (xs ++ l ∷ []) a) ≡ (if among a l then l else [])
+    by : (t : Bool) → (if t then x else link_of xs a) ≡ [] → (link_of xs a ≡ [] → link_of (xs ++ l ∷ []) a ≡ (if among a l then l else []))
+        → (if t then x else link_of (xs ++ l ∷ []) a) ≡ (if among a l then l else [])
     by true e rest = absurd (let n = long x (inl refl) in let z : length x ≡ 0 = ap length e in omega arith)
     by false e rest = rest e
 
@@ -273,12 +280,17 @@ module _ (net : Net) (valid : IsValid net) (es : List ℕ) (takes : TakesLink ne
         few_hops = valid.few_hops;
         placed = valid.placed;
         one_address = valid.one_address;
-        linked = λ x i. ⊎_elim (λ (j : In x net.links). valid.linked x j) (λ (j : In x (l ∷ [])). ⊎_elim (λ (e : x ≡ l). let n = ap length e ∙ rising_length es in let some = takes.some in let few = takes.few in (omega arith, omega arith)) (λ (k : ⊥). absurd k) j) (in_append x net.links (l ∷ []) i);
+        linked = λ x i. ⊎_elim (λ (j : In x net.links). valid.linked x j) (λ (j : In x (l ∷ [])). ⊎_elim
+            (λ (e : x ≡ l). let n = ap length e ∙ rising_length es in let some = takes.some in let few = takes.few in (omega arith, omega arith)) (λ (k : ⊥). absurd k) j)
+            (in_append x net.links (l ∷ []) i);
         nodes_apart = λ x c d i j k same.
             ⊎_elim (λ (o : In x net.links). valid.nodes_apart x c d o j k same)
-            (λ (o : In x (l ∷ [])). ⊎_elim (λ (e : x ≡ l). one_of_value (node_of net.ends) es takes.apart c d (rising_has c es (subst (λ (m : List ℕ). In c m) e j)) (rising_has d es (subst (λ (m : List ℕ). In d m) e k)) same) (λ (n : ⊥). absurd n) o) (in_append x net.links (l ∷ []) i);
-        ends_of_links = λ x y i j. ⊎_elim (λ (k : In x net.links). valid.ends_of_links x y k j) (λ (k : In x (l ∷ [])). ⊎_elim (λ (e : x ≡ l). takes.there y (rising_has y es (subst (λ (m : List ℕ). In y m) e j))) (λ (o : ⊥). absurd o) k) (in_append x net.links (l ∷ []) i);
-        rising = λ x i. ⊎_elim (λ (j : In x net.links). valid.rising x j) (λ (j : In x (l ∷ [])). ⊎_elim (λ (e : x ≡ l). subst AreRising (sym e) (rising_rises es (once_before (node_of net.ends) es takes.apart))) (λ (k : ⊥). absurd k) j) (in_append x net.links (l ∷ []) i);
+            (λ (o : In x (l ∷ [])). ⊎_elim (λ (e : x ≡ l). one_of_value (node_of net.ends) es takes.apart c d (rising_has c es (subst (λ (m : List ℕ). In c m) e j))
+            (rising_has d es (subst (λ (m : List ℕ). In d m) e k)) same) (λ (n : ⊥). absurd n) o) (in_append x net.links (l ∷ []) i);
+        ends_of_links = λ x y i j. ⊎_elim (λ (k : In x net.links). valid.ends_of_links x y k j)
+            (λ (k : In x (l ∷ [])). ⊎_elim (λ (e : x ≡ l). takes.there y (rising_has y es (subst (λ (m : List ℕ). In y m) e j))) (λ (o : ⊥). absurd o) k) (in_append x net.links (l ∷ []) i);
+        rising = λ x i. ⊎_elim (λ (j : In x net.links). valid.rising x j) (λ (j : In x (l ∷ [])). ⊎_elim
+            (λ (e : x ≡ l). subst AreRising (sym e) (rising_rises es (once_before (node_of net.ends) es takes.apart))) (λ (k : ⊥). absurd k) j) (in_append x net.links (l ∷ []) i);
         apart = share_none;
         one_link = one_link;
         grown = λ g s. grown_over net (with_link net es) same_link s (tree net.hops g s) (λ n e. e) (valid.grown g s);
@@ -292,7 +304,11 @@ grown_push net s before [] h grown grows = (subst (λ (xs : List LinkHop). Grows
     append_none : (xs : List LinkHop) → xs ++ [] ≡ xs
     append_none [] = refl
     append_none (x ∷ xs) = ap (λ (ys : List LinkHop). x ∷ ys) (append_none xs)
-grown_push net s before (x ∷ xs) h grown grows = (grown.0, grown_push net s (before ++ x ∷ []) xs h grown.1 (subst (λ (ys : List LinkHop). Grows net s ys h) (sym (append_assoc before (x ∷ []) xs)) grows))
+grown_push net s before (x ∷ xs) h grown grows = (
+  grown.0,
+  grown_push net s (before ++ x ∷ []) xs h grown.1
+      (subst (λ (ys : List LinkHop). Grows net s ys h) (sym (append_assoc before (x ∷ []) xs)) grows),
+)
 
 tree_push : (hops : List TreeHop) (r : TreeHop) (g s : Addr) → tree (hops ++ r ∷ []) g s ≡ tree hops g s ++ (if of_tree g s r then r.hop ∷ [] else [])
 tree_push [] r g s = by (of_tree g s r)
@@ -303,7 +319,8 @@ tree_push [] r g s = by (of_tree g s r)
 tree_push (q ∷ qs) r g s = by (of_tree g s q) (tree_push qs r g s)
   where
     by : (b : Bool) → tree (qs ++ r ∷ []) g s ≡ tree qs g s ++ (if of_tree g s r then r.hop ∷ [] else [])
-        → each (λ (q : TreeHop). q.hop) (if b then q ∷ filter (of_tree g s) (qs ++ r ∷ []) else filter (of_tree g s) (qs ++ r ∷ [])) ≡ each (λ (q : TreeHop). q.hop) (if b then q ∷ filter (of_tree g s) qs else filter (of_tree g s) qs) ++ (if of_tree g s r then r.hop ∷ [] else [])
+        → each (λ (q : TreeHop). q.hop) (if b then q ∷ filter (of_tree g s) (qs ++ r ∷ []) else filter (of_tree g s) (qs ++ r ∷ []))
+        ≡ each (λ (q : TreeHop). q.hop) (if b then q ∷ filter (of_tree g s) qs else filter (of_tree g s) qs) ++ (if of_tree g s r then r.hop ∷ [] else [])
     by true e = ap (λ (ys : List LinkHop). q.hop ∷ ys) e
     by false e = e
 
@@ -331,13 +348,15 @@ module _ (net : Net) (valid : IsValid net) (r : TreeHop) (room : length net.hops
           let both = and_both (of_group g r) (r.source.0 == s.0) t in
           let group = addr_same r.group g both.0 in
           let source = addr_same r.source s both.1 in
-          let here : Grows net s (tree net.hops g s) r.hop = subst (λ (a : Addr). Grows net a (tree net.hops g a) r.hop) source (subst (λ (a : Addr). Grows net r.source (tree net.hops a r.source) r.hop) group fits) in
+          let here : Grows net s (tree net.hops g s) r.hop = subst (λ (a : Addr). Grows net a (tree net.hops g a) r.hop) source
+          (subst (λ (a : Addr). Grows net r.source (tree net.hops a r.source) r.hop) group fits) in
           grown_push more s [] (tree net.hops g s) r.hop old (grows_more s (tree net.hops g s) r.hop here)
       by false t old = subst (λ (hs : List LinkHop). IsGrown more s hs) (sym (none (tree net.hops g s))) old
 
   old_hop : (g : Addr) → (r.group ≡ g → ⊥) → (q : TreeHop) → In q more.hops → q.group ≡ g → In q net.hops
   old_hop g ne q i e =
-      ⊎_elim (λ (j : In q net.hops). j) (λ (j : In q (r ∷ [])). ⊎_elim (λ (is : q ≡ r). absurd (ne (ap (λ (x : TreeHop). x.group) (sym is) ∙ e))) (λ (k : ⊥). absurd k) j) (in_append q net.hops (r ∷ []) i)
+      ⊎_elim (λ (j : In q net.hops). j) (λ (j : In q (r ∷ [])). ⊎_elim (λ (is : q ≡ r). absurd (ne (ap (λ (x : TreeHop). x.group) (sym is) ∙ e))) (λ (k : ⊥). absurd k) j)
+      (in_append q net.hops (r ∷ []) i)
 
   old_group : (g : Addr) → (r.group ≡ g → ⊥) → (x : LinkHop) → In x (hops_of more.hops g) → In x (hops_of net.hops g)
   old_group g ne x i =
@@ -349,12 +368,14 @@ module _ (net : Net) (valid : IsValid net) (r : TreeHop) (room : length net.hops
   old_tree g s ne x i =
       let q = in_tree more.hops g s x i in
       let j = old_hop g ne q.0 q.1 q.2 in
-      subst (λ (a : Addr). In x (tree net.hops a s)) q.2 (subst (λ (a : Addr). In x (tree net.hops q.0.group a)) q.3 (subst (λ (y : LinkHop). In y (tree net.hops q.0.group q.0.source)) q.4 (to_tree net.hops q.0 j)))
+      subst (λ (a : Addr). In x (tree net.hops a s)) q.2 (subst (λ (a : Addr). In x (tree net.hops q.0.group a)) q.3
+      (subst (λ (y : LinkHop). In y (tree net.hops q.0.group q.0.source)) q.4 (to_tree net.hops q.0 j)))
 
   free_other : (g : Addr) → (r.group ≡ g → ⊥) → IsLoopFreeIn more g
   free_other g ne =
       free_map (followers more g) (followers net g) (hops_of more.hops g) (hops_of net.hops g) (old_group g ne)
-      (λ x y i j. let f = follower_follows more g x y j in follows_follower net g x y (record { source = f.source; first = old_tree g f.source ne x f.first; second = old_tree g f.source ne y f.second; meet = f.meet })) (valid.loop_free g)
+      (λ x y i j. let f = follower_follows more g x y j in
+      follows_follower net g x y (record { source = f.source; first = old_tree g f.source ne x f.first; second = old_tree g f.source ne y f.second; meet = f.meet })) (valid.loop_free g)
 
   free_more : IsLoopFree more
   free_more g =
@@ -389,7 +410,8 @@ before_kept : (ends : List End) (r : TreeHop) (ks : List Known) (new : Known) (x
 before_kept ends r [] new x i t = absurd i
 before_kept ends r (k ∷ ks) new x i t = by (comes_to ends r k) refl (λ j. before_kept ends r ks new x j t)
   where
-    by : (b : Bool) → comes_to ends r k ≡ b → (In x ks → vertex_before ends r (ks ++ new ∷ []) ≡ vertex_before ends r ks) → (if b then Some k.vertex else vertex_before ends r (ks ++ new ∷ [])) ≡ (if b then Some k.vertex else vertex_before ends r ks)
+    by : (b : Bool) → comes_to ends r k ≡ b → (In x ks → vertex_before ends r (ks ++ new ∷ []) ≡ vertex_before ends r ks)
+        → (if b then Some k.vertex else vertex_before ends r (ks ++ new ∷ [])) ≡ (if b then Some k.vertex else vertex_before ends r ks)
     by true e rest = refl
     by false e rest = rest (⊎_elim (λ (f : x ≡ k). absurd (true_false _ t (ap (comes_to ends r) f ∙ e))) (λ (j : In x ks). j) i)
 
@@ -411,7 +433,8 @@ module _ (nodes : ℕ) (ends : List End) (links : List Link) (ks : List Known) (
       by : comes_to ends k.hop new ≡ true → ⊥
       by t =
           let c = comes_told ends k.hop new t in
-          let mine : In k.hop.hop grown_tree = subst (λ (a : Addr). In k.hop.hop (tree (plain ks) new.hop.group a)) (sym c.1) (subst (λ (a : Addr). In k.hop.hop (tree (plain ks) a k.hop.source)) (sym c.0) (known_tree ks k i)) in
+          let mine : In k.hop.hop grown_tree = subst (λ (a : Addr). In k.hop.hop (tree (plain ks) new.hop.group a)) (sym c.1)
+          (subst (λ (a : Addr). In k.hop.hop (tree (plain ks) a k.hop.source)) (sym c.0) (known_tree ks k i)) in
           unreached (subst (λ (n : ℕ). Leads ends s grown_tree n) (sym c.2) (from_leads (net_of nodes ends links ks) s [] grown_tree (valid.grown new.hop.group s) k.hop.hop mine))
 
   not_itself : comes_to ends new.hop new ≡ false
@@ -444,7 +467,8 @@ module _ (nodes : ℕ) (ends : List End) (links : List Link) (ks : List Known) (
 pub net_push : (nodes : ℕ) (ends : List End) (links : List Link) (ks : List Known) (new : Known) → net_of nodes ends links (ks ++ new ∷ []) ≡ with_hop (net_of nodes ends links ks) new.hop
 net_push nodes ends links ks new = λ i. record { nodes = nodes; ends = ends; links = each link_ends links; hops = map-append (λ (k : Known). k.hop) ks (new ∷ []) i }
 
-pub link_push : (nodes : ℕ) (ends : List End) (links : List Link) (ks : List Known) (l : Link) (es : List ℕ) → link_ends l ≡ rising es → net_of nodes ends (links ++ l ∷ []) ks ≡ with_link (net_of nodes ends links ks) es
+pub link_push : (nodes : ℕ) (ends : List End) (links : List Link) (ks : List Known) (l : Link) (es : List ℕ) → link_ends l ≡ rising es
+    → net_of nodes ends (links ++ l ∷ []) ks ≡ with_link (net_of nodes ends links ks) es
 link_push nodes ends links ks l es e =
     let is : each link_ends (links ++ l ∷ []) ≡ each link_ends links ++ rising es ∷ [] = map-append link_ends links (l ∷ []) ∙ ap (λ (x : List ℕ). each link_ends links ++ x ∷ []) e in
     λ i. record { nodes = nodes; ends = ends; links = is i; hops = plain ks }
@@ -463,7 +487,8 @@ unfolding count
 counted number [] n = refl
 counted number (x ∷ xs) n = by (x.node == n) (counted (number + 1) xs n)
   where
-    by : (b : Bool) → length (ends_from (number + 1) xs n) ≡ count n xs → length (if b then number ∷ ends_from (number + 1) xs n else ends_from (number + 1) xs n) ≡ (if b then suc (count n xs) else count n xs)
+    by : (b : Bool) → length (ends_from (number + 1) xs n) ≡ count n xs → length (if b then number ∷ ends_from (number + 1) xs n else ends_from (number + 1) xs n)
+        ≡ (if b then suc (count n xs) else count n xs)
     by true e = ap suc e
     by false e = e
 
@@ -541,13 +566,17 @@ known_end nodes ends links ks e valid known k i =
 
     same : (x : Known) → In x ks → comes_to (ends ++ e ∷ []) k.hop x ≡ comes_to ends k.hop x
     same x j =
-        let to : node_of (ends ++ e ∷ []) x.hop.hop.to ≡ node_of ends x.hop.hop.to = ap node_of_end (got_left ends (e ∷ []) x.hop.hop.to (to_inside (net_of nodes ends links ks) valid x.hop.hop (linked x j))) in
-        let from : node_of (ends ++ e ∷ []) k.hop.hop.from ≡ node_of ends k.hop.hop.from = ap node_of_end (got_left ends (e ∷ []) k.hop.hop.from (from_inside (net_of nodes ends links ks) valid k.hop.hop (linked k i))) in
+        let to : node_of (ends ++ e ∷ []) x.hop.hop.to ≡ node_of ends x.hop.hop.to = ap node_of_end
+        (got_left ends (e ∷ []) x.hop.hop.to (to_inside (net_of nodes ends links ks) valid x.hop.hop (linked x j))) in
+        let from : node_of (ends ++ e ∷ []) k.hop.hop.from ≡ node_of ends k.hop.hop.from =
+        ap node_of_end (got_left ends (e ∷ []) k.hop.hop.from (from_inside (net_of nodes ends links ks) valid k.hop.hop (linked k i))) in
         same_and (of_tree k.hop.group k.hop.source x.hop) _ _ (ap (λ (m : ℕ). node_of (ends ++ e ∷ []) x.hop.hop.to == m) from ∙ ap (λ (m : ℕ). m == node_of ends k.hop.hop.from) to)
 
 -- ---- the answer for a hop
-pub hop_answer : (net : Net) (nodes : ℕ) (ends ends' : List End) (links : List Link) (ks ks' ks'' : List Known) (r : TreeHop) (new : Known) (res : Result (Unit {0}) HopErr) → net ≡ net_of nodes ends links ks → ends' ≡ ends → ks' ≡ ks → ks'' ≡ ks
-    → new.hop ≡ r → new.vertex ≡ vertex_at ks' r.group r.hop → new.before ≡ vertex_before ends' r ks' → IsValid (net_of nodes ends links ks) → AreKnown ends ks → Fits net r → LoopAnswer ks'' new res → HopAnswer net r res
+pub hop_answer : (net : Net) (nodes : ℕ) (ends ends' : List End) (links : List Link) (ks ks' ks'' : List Known) (r : TreeHop) (new : Known) (res : Result (Unit {0}) HopErr)
+    → net ≡ net_of nodes ends links ks → ends' ≡ ends → ks' ≡ ks → ks'' ≡ ks
+    → new.hop ≡ r → new.vertex ≡ vertex_at ks' r.group r.hop → new.before ≡ vertex_before ends' r ks' → IsValid (net_of nodes ends links ks) → AreKnown ends ks → Fits net r → LoopAnswer ks'' new res
+    → HopAnswer net r res
 hop_answer net nodes ends ends' links ks ks' ks'' r new res is e k l h v b valid known fits a =
     let vertex = v ∙ ap (λ (x : List Known). vertex_at x r.group r.hop) k ∙ ap (λ (q : TreeHop). vertex_at ks q.group q.hop) (sym h) in
     let before = b ∙ ap (λ (x : List End). vertex_before x r ks') e ∙ ap (λ (x : List Known). vertex_before ends r x) k ∙ ap (λ (q : TreeHop). vertex_before ends q ks) (sym h) in
@@ -556,12 +585,14 @@ hop_answer net nodes ends ends' links ks ks' ks'' r new res is e k l h v b valid
     subst (λ (m : Net). HopAnswer m r res) (sym is) (subst (λ (q : TreeHop). HopAnswer (net_of nodes ends links ks) q res) h answer)
 
 pub hop_kept : (net : Net) (nodes : ℕ) (ends ends' : List End) (links : List Link) (ks ks' : List Known) (r : TreeHop) (new : Known) → net ≡ net_of nodes ends links ks → ends' ≡ ends → ks' ≡ ks
-    → new.hop ≡ r → new.vertex ≡ vertex_at ks' r.group r.hop → new.before ≡ vertex_before ends' r ks' → IsValid (net_of nodes ends links ks) → AreKnown ends ks → length net.hops < 8192 → HopAnswer net r (Ok tt)
+    → new.hop ≡ r → new.vertex ≡ vertex_at ks' r.group r.hop → new.before ≡ vertex_before ends' r ks' → IsValid (net_of nodes ends links ks) → AreKnown ends ks → length net.hops < 8192
+    → HopAnswer net r (Ok tt)
     → IsValid (net_of nodes ends links (ks ++ new ∷ [])) × AreKnown ends (ks ++ new ∷ [])
 hop_kept net nodes ends ends' links ks ks' r new is e k h v b valid known room a =
     let vertex = v ∙ ap (λ (x : List Known). vertex_at x r.group r.hop) k ∙ ap (λ (q : TreeHop). vertex_at ks q.group q.hop) (sym h) in
     let before = b ∙ ap (λ (x : List End). vertex_before x r ks') e ∙ ap (λ (x : List Known). vertex_before ends r x) k ∙ ap (λ (q : TreeHop). vertex_before ends q ks) (sym h) in
-    let here : HopAnswer (net_of nodes ends links ks) new.hop (Ok tt) = subst (λ (q : TreeHop). HopAnswer (net_of nodes ends links ks) q (Ok tt)) (sym h) (subst (λ (m : Net). HopAnswer m r (Ok tt)) is a) in
+    let here : HopAnswer (net_of nodes ends links ks) new.hop (Ok tt) = subst (λ (q : TreeHop). HopAnswer (net_of nodes ends links ks) q (Ok tt)) (sym h)
+    (subst (λ (m : Net). HopAnswer m r (Ok tt)) is a) in
     let few : length (plain ks) < 8192 = subst (λ (m : Net). length m.hops < 8192) is room in (
       subst (λ (m : Net). IsValid m) (sym (net_push nodes ends links ks new)) (valid_hop (net_of nodes ends links ks) valid new.hop few here.0 here.1),
       known_more nodes ends links ks valid known new vertex before here.0,

@@ -23,7 +23,8 @@ pub filter_both : {A : Type 0} (test : A → Bool) (xs ys : List A) → filter t
 filter_both test [] ys = refl
 filter_both {A} test (x ∷ xs) ys = by (test x) (filter_both test xs ys)
   where
-    by : (b : Bool) → filter test (xs ++ ys) ≡ filter test xs ++ filter test ys → cond b (x ∷ filter test (xs ++ ys)) (filter test (xs ++ ys)) ≡ cond b (x ∷ filter test xs) (filter test xs) ++ filter test ys
+    by : (b : Bool) → filter test (xs ++ ys) ≡ filter test xs ++ filter test ys → cond b (x ∷ filter test (xs ++ ys)) (filter test (xs ++ ys))
+        ≡ cond b (x ∷ filter test xs) (filter test xs) ++ filter test ys
     by true e = ap (λ (zs : List A). x ∷ zs) e
     by false e = e
 
@@ -100,7 +101,8 @@ module _ (net : Net) (valid : IsValid net) (g s : Addr) (hs : List LinkHop) (gro
   other_tree : (g' s' : Addr) → ((g.0 == g'.0) && (s.0 == s'.0)) ≡ false → tree more.hops g' s' ≡ tree net.hops g' s'
   other_tree g' s' apart =
       ap (each (λ (r : TreeHop). r.hop))
-      (filter_both (of_tree g' s') (filter (other g s) net.hops) (each (tree_hop g s) hs) ∙ (λ i. kept g s g' s' apart net.hops i ++ none_new g s g' s' apart hs i) ∙ nothing_more (filter (of_tree g' s') net.hops))
+      (filter_both (of_tree g' s') (filter (other g s) net.hops) (each (tree_hop g s) hs) ∙ (λ i. kept g s g' s' apart net.hops i ++ none_new g s g' s' apart hs i)
+      ∙ nothing_more (filter (of_tree g' s') net.hops))
 
   pub grown_more : (g' s' : Addr) → IsGrown more s' (tree more.hops g' s')
   grown_more g' s' =
@@ -127,14 +129,17 @@ module _ (net : Net) (valid : IsValid net) (g s : Addr) (hs : List LinkHop) (gro
   old_tree g' s' ne x i =
       let q = in_tree more.hops g' s' x i in
       let j = old_hop g' ne q.0 q.1 q.2 in
-      subst (λ (a : Addr). In x (tree net.hops a s')) q.2 (subst (λ (a : Addr). In x (tree net.hops q.0.group a)) q.3 (subst (λ (y : LinkHop). In y (tree net.hops q.0.group q.0.source)) q.4 (to_tree net.hops q.0 j)))
+      subst (λ (a : Addr). In x (tree net.hops a s')) q.2 (subst (λ (a : Addr). In x (tree net.hops q.0.group a)) q.3
+      (subst (λ (y : LinkHop). In y (tree net.hops q.0.group q.0.source)) q.4 (to_tree net.hops q.0 j)))
 
   free_other : (g' : Addr) → (g ≡ g' → ⊥) → IsLoopFreeIn more g'
   free_other g' ne =
       free_map (followers more g') (followers net g') (hops_of more.hops g') (hops_of net.hops g') (old_group g' ne)
-      (λ x y i j. let f = follower_follows more g' x y j in follows_follower net g' x y (record { source = f.source; first = old_tree g' f.source ne x f.first; second = old_tree g' f.source ne y f.second; meet = f.meet })) (valid.loop_free g')
+      (λ x y i j. let f = follower_follows more g' x y j in
+      follows_follower net g' x y (record { source = f.source; first = old_tree g' f.source ne x f.first; second = old_tree g' f.source ne y f.second; meet = f.meet })) (valid.loop_free g')
 
-module _ (net : Net) (valid : IsValid net) (g s : Addr) (hs : List LinkHop) (few : length (rerouted net g s hs).hops ≤ 8192) (grown : IsGrown net s hs) (free : IsLoopFreeIn (rerouted net g s hs) g) where
+module _ (net : Net) (valid : IsValid net) (g s : Addr) (hs : List LinkHop) (few : length (rerouted net g s hs).hops ≤ 8192) (grown : IsGrown net s hs)
+    (free : IsLoopFreeIn (rerouted net g s hs) g) where
   abbrev all : Net
   all = rerouted net g s hs
 

@@ -68,7 +68,8 @@ pub pair_made : (g : Addr) (h : LinkHop) (k : Known) → k.hop.group ≡ g → k
 pair_made g h k e f = ap (λ (a : Addr). is_pair a h k) (sym e) ∙ ap (λ (x : LinkHop). is_pair k.hop.group x k) (sym f) ∙ pair_itself k
 
 -- equal vertices, of a hop that stands, are of one hop of one group
-pub one_pair : (ks : List Known) (k : Known) → In k ks → (g g' : Addr) (h h' : LinkHop) → is_pair g h k ≡ true → (k' : Known) → In k' ks → is_pair g' h' k' ≡ true → vertex_at ks g h ≡ vertex_at ks g' h' → (g ≡ g') × (h ≡ h')
+pub one_pair : (ks : List Known) (k : Known) → In k ks → (g g' : Addr) (h h' : LinkHop) → is_pair g h k ≡ true → (k' : Known) → In k' ks → is_pair g' h' k' ≡ true
+    → vertex_at ks g h ≡ vertex_at ks g' h' → (g ≡ g') × (h ≡ h')
 one_pair ks k i g g' h h' t k' i' t' e =
     let x = place_found (is_pair g h) ks k i t in
     let x' = place_found (is_pair g' h') ks k' i' t' in
@@ -111,15 +112,18 @@ pub before_told : (ends : List End) (r : TreeHop) (ks : List Known) (a : ℕ) �
 before_told ends r [] a e = cc
 before_told ends r (k ∷ ks) a e = by (comes_to ends r k) refl e (before_told ends r ks a)
   where
-    by : (b : Bool) → comes_to ends r k ≡ b → (if b then Some k.vertex else vertex_before ends r ks) ≡ Some a → (vertex_before ends r ks ≡ Some a → (x : Known) × In x ks × (comes_to ends r x ≡ true) × (x.vertex ≡ a)) → (x : Known) × In x (k ∷ ks) × (comes_to ends r x ≡ true) × (x.vertex ≡ a)
+    by : (b : Bool) → comes_to ends r k ≡ b → (if b then Some k.vertex else vertex_before ends r ks) ≡ Some a
+        → (vertex_before ends r ks ≡ Some a → (x : Known) × In x ks × (comes_to ends r x ≡ true) × (x.vertex ≡ a)) → (x : Known) × In x (k ∷ ks) × (comes_to ends r x ≡ true) × (x.vertex ≡ a)
     by true t e rest = (k, inl refl, t, cc)
     by false t e rest = let x = rest e in (x.0, inr x.1, x.2, x.3)
 
-pub before_found : (ends : List End) (r : TreeHop) (ks : List Known) (x : Known) → In x ks → comes_to ends r x ≡ true → (y : Known) × In y ks × (comes_to ends r y ≡ true) × (vertex_before ends r ks ≡ Some y.vertex)
+pub before_found : (ends : List End) (r : TreeHop) (ks : List Known) (x : Known) → In x ks → comes_to ends r x ≡ true
+    → (y : Known) × In y ks × (comes_to ends r y ≡ true) × (vertex_before ends r ks ≡ Some y.vertex)
 before_found ends r [] x i t = absurd i
 before_found ends r (k ∷ ks) x i t = by (comes_to ends r k) refl (λ j. before_found ends r ks x j t)
   where
-    by : (b : Bool) → comes_to ends r k ≡ b → (In x ks → (y : Known) × In y ks × (comes_to ends r y ≡ true) × (vertex_before ends r ks ≡ Some y.vertex)) → (y : Known) × In y (k ∷ ks) × (comes_to ends r y ≡ true) × (vertex_before ends r (k ∷ ks) ≡ Some y.vertex)
+    by : (b : Bool) → comes_to ends r k ≡ b → (In x ks → (y : Known) × In y ks × (comes_to ends r y ≡ true) × (vertex_before ends r ks ≡ Some y.vertex))
+        → (y : Known) × In y (k ∷ ks) × (comes_to ends r y ≡ true) × (vertex_before ends r (k ∷ ks) ≡ Some y.vertex)
     by true e rest = (k, inl refl, e, ap (λ b. if b then Some k.vertex else vertex_before ends r ks) e)
     by false e rest =
         let y = rest (⊎_elim (λ (f : x ≡ k). absurd (let g : comes_to ends r x ≡ false = ap (comes_to ends r) f ∙ e in cc)) (λ (j : In x ks). j) i) in

@@ -1,5 +1,6 @@
 -- Ways into a node and out of it.
-use Rattle.std.specs.Prelude.{◌≡◌, ◌↔◌, ◌⊎◌, ℕ, ◌+◌, ◌*◌, ◌^◌, ◌%◌, ◌<◌, ◌≤◌, Bool, true, false, ◌==◌, List, [], ◌∷◌, length, map as each, take, Option, None, Some, slice_index_or, bit_or, refl, if◌then◌else◌, not, ◌||◌}
+use Rattle.std.specs.Prelude.{◌≡◌, ◌↔◌, ◌⊎◌, ℕ, ◌+◌, ◌*◌, ◌^◌, ◌%◌, ◌<◌, ◌≤◌, Bool, true, false, ◌==◌, List, [], ◌∷◌, length, map as each, take, Option, None, Some, slice_index_or, bit_or}
+use Rattle.std.specs.Prelude.{refl, if◌then◌else◌, not, ◌||◌}
 use Rattle.std.specs.List.{filter, list_all}
 use Rattle.std.proofs.Common.{zero, suc, sym, ap, subst, ◌∙◌, inl, inr, ⊎_elim, arith, w16}
 use Rattle.std.specs.Int.{bit_at}
@@ -31,7 +32,8 @@ some_less number (suc k) [] n = omega arith
 some_less number (suc k) (e ∷ es) n = by (e.node == n) (some_less (number + 1) k es n)
   where
     by : (b : Bool) → length (ends_from (number + 1) (take k es) n) ≤ length (ends_from (number + 1) es n)
-        → length (if b then number ∷ ends_from (number + 1) (take k es) n else ends_from (number + 1) (take k es) n) ≤ length (if b then number ∷ ends_from (number + 1) es n else ends_from (number + 1) es n)
+        → length (if b then number ∷ ends_from (number + 1) (take k es) n else ends_from (number + 1) (take k es) n) ≤ length
+        (if b then number ∷ ends_from (number + 1) es n else ends_from (number + 1) es n)
     by true le = omega arith
     by false le = le
 
@@ -121,7 +123,8 @@ module _ (net : Net) (valid : IsValid net) (sorted : List TreeHop) (order : AreI
   module _ (ends : List End) (all hops : List TreeHop) (g s : Addr) (are_ends : ends ≡ net.ends) (are_all : all ≡ sorted) (are : hops ≡ filter (of_tree g s) all) where
     pub into_at : (n : ℕ) → end_into (first_by (goes_into ends n) (each (λ r. r.hop) hops)) ≡ inward net n g s
     into_at n =
-        (λ i. end_into (first_by (goes_into (are_ends i) n) (each (λ r. r.hop) (are i)))) ∙ ap (λ (xs : List TreeHop). end_into (first_by (goes_into net.ends n) (tree xs g s))) are_all ∙ into_in_order n g s
+        (λ i. end_into (first_by (goes_into (are_ends i) n) (each (λ r. r.hop) (are i)))) ∙ ap (λ (xs : List TreeHop). end_into (first_by (goes_into net.ends n) (tree xs g s))) are_all
+        ∙ into_in_order n g s
 
     pub into_below : (n e : ℕ) (ends' : List End) → ends' ≡ net.ends → end_into (first_by (goes_into ends n) (each (λ r. r.hop) hops)) ≡ Some e → e < length ends'
     into_below n e ends' is found = let lt = into_there n e g s (sym (into_at n) ∙ found) in let size = ap length is in omega arith
@@ -135,7 +138,9 @@ module _ (net : Net) (valid : IsValid net) (sorted : List TreeHop) (order : AreI
 
     pub leaves_at : (n i bits : ℕ) → (bit_at bits i ≡ 1) ↔ IsWay ends n hops i → (bit_at bits i ≡ 1) ↔ LeavesBy net n g s i
     leaves_at n i bits w =
-        let here : (bit_at bits i ≡ 1) ↔ IsWay net.ends n (filter (of_tree g s) sorted) i = subst (λ (xs : List TreeHop). (bit_at bits i ≡ 1) ↔ IsWay net.ends n xs i) (are ∙ ap (filter (of_tree g s)) are_all) (subst (λ (es : List End). (bit_at bits i ≡ 1) ↔ IsWay es n hops i) are_ends w) in
+        let here : (bit_at bits i ≡ 1) ↔ IsWay net.ends n (filter (of_tree g s) sorted) i =
+        subst (λ (xs : List TreeHop). (bit_at bits i ≡ 1) ↔ IsWay net.ends n xs i) (are ∙ ap (filter (of_tree g s)) are_all)
+        (subst (λ (es : List End). (bit_at bits i ≡ 1) ↔ IsWay es n hops i) are_ends w) in
         let l = ways_leave n i g s in
         ((λ t. l.0 (here.0 t)), λ t. here.1 (l.1 t))
 

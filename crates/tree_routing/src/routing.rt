@@ -4,10 +4,9 @@ ghost use Rattle.std.specs.List.{filter};
 ghost use Rattle.std.specs.Int.{bit_at};
 ghost use Rattle.tree_model.specs.Networks.{node_of, peers};
 ghost use Rattle.tree_model.specs.Ranks.{has_hop, longest};
-ghost use Rattle.tree_model.specs.Trees.{tree};
+ghost use Rattle.tree_model.specs.Trees.{tree, trees_of};
 ghost use Rattle.tree_routing.specs.Order.{AreByRank};
 ghost use Rattle.tree_routing.specs.Routes.{inward_iface, LeavesBy};
-ghost use Rattle.tree_model.specs.Trees.{trees_of};
 
 use crate::ask::{link_of, node_of};
 use crate::group_hop::GroupHop;

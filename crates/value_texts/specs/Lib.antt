@@ -1,1 +1,5 @@
 pub mod Texts
+pub mod Reports
+pub mod Quotes
+pub mod Places
+pub mod Blamed

@@ -1,7 +1,8 @@
 //! Lines of part 3: what happens.
 ghost use Rattle.std.specs.Prelude.{◌≡◌, map};
 ghost use Rattle.script_words.specs.Unread.{Reads, ReadsAs};
-ghost use Rattle.script_grammar.specs.LineKinds.{clear_line, drop_line, flags_line, inject_line, lone_number, numbered, pass_line, quit_line, report_line, reroute_line, send_line, trace_line, want_line, want_of};
+ghost use Rattle.script_grammar.specs.LineKinds.{clear_line, drop_line, flags_line, inject_line, lone_number, numbered, pass_line, quit_line, report_line, reroute_line, send_line};
+ghost use Rattle.script_grammar.specs.LineKinds.{trace_line, want_line, want_of};
 ghost use Rattle.script_grammar.specs.declared.line.ScriptLine.TheVariants as kind;
 
 use super::lists::{bytes, pairs, want_senders};

@@ -13,7 +13,8 @@ remove-requires c = let stands = c.requires.there c.in-Ok-None.at c.in-Ok-None.i
 pub returns-in-Ok-Some-clause-rows : goal.returns-in-Ok-Some-clause-rows
 returns-in-Ok-Some-clause-rows c = λ up.
     let stands = c.requires.there c.in-Ok-Some.at c.in-Ok-Some.is-0 in
-    sym (stands.replaced (row_of (c.args.iface, c.args.key) c.in-Ok-Some.flow) c.in-Ok-Some.flow refl) ∙ ap (λ now. (changed_at (entries_of c.args.rows.now.items up) c.args.iface c.args.key now).rows) (sym c.in-Ok-Some.is-1)
+    sym (stands.replaced (row_of (c.args.iface, c.args.key) c.in-Ok-Some.flow) c.in-Ok-Some.flow refl)
+    ∙ ap (λ now. (changed_at (entries_of c.args.rows.now.items up) c.args.iface c.args.key now).rows) (sym c.in-Ok-Some.is-1)
 
 pub returns-in-Err-None-clause-rows : goal.returns-in-Err-None-clause-rows
 returns-in-Err-None-clause-rows c = λ up.

@@ -13,7 +13,8 @@ loop-kept-preserved c =
       facts = c.pull_dead.ensures.facts ∙ c.loop-kept.invariant.facts;
       room = c.pull_dead.ensures.room ∙ c.loop-kept.invariant.room;
       touched =
-          ap (touched_by (sessions_of c.pull_dead.new.self.dead)) c.touch.ensures ∙ touched_more c.loop-kept.touched c.in-Some.kept c.loop-kept.table.dead c.pull_dead.new.self.dead c.in-Some.ensures.dead c.in-Some.ensures.pulled
+          ap (touched_by (sessions_of c.pull_dead.new.self.dead)) c.touch.ensures
+          ∙ touched_more c.loop-kept.touched c.in-Some.kept c.loop-kept.table.dead c.pull_dead.new.self.dead c.in-Some.ensures.dead c.in-Some.ensures.pulled
           ∙ c.loop-kept.invariant.touched;
     }
 

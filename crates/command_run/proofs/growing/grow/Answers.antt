@@ -1,6 +1,5 @@
 use Rattle.std.proofs.Common.{sym, subst, ◌∙◌}
-use Rattle.network_model.specs.Runs.{Plan}
-use Rattle.script_player.specs.Standing.{IsNetworkOf}
+use Rattle.script_run.specs.Standing.{IsNetworkOf}
 use Rattle.command_run.specs.Commands.{Grown}
 use Rattle.command_run.specs.Ran.{device}
 use Rattle.command_run.proofs.Grown.{grown_so, never_reads}
@@ -9,10 +8,12 @@ use Rattle.command_run.proofs.growing.grow.Goals as goal
 pub returns-clause-grown : goal.returns-clause-grown
 returns-clause-grown g c =
     let e = c.run_grown-ending in
-    let stands = λ (p : Plan). IsNetworkOf g.R.Router.seen e.new.last p in
+    let see = g.R.Router.seen in
     let sink = device g.K.Sink.holds g.K.Sink.faults c.args.sink.now e.new.sink in
-    subst (λ s. Grown stands c.args.seed s sink) (sym c.status_of.ensures) (grown_so stands e.result c.args.seed sink e.ensures.run e.ensures.complete)
+    subst (λ s. Grown see e.new.last c.args.seed s sink) (sym c.status_of.ensures)
+    (grown_so see e.new.last e.result c.args.seed sink e.ensures.run e.ensures.empty e.ensures.complete)
 
 pub returns-clause-read_fault : goal.returns-clause-read_fault
 returns-clause-read_fault g c = λ is.
-    never_reads (λ p. IsNetworkOf g.R.Router.seen c.run_grown-ending.new.last p) c.run_grown-ending.result c.args.seed (g.K.Sink.holds c.args.sink.now) (g.K.Sink.holds c.run_grown-ending.new.sink) c.run_grown-ending.ensures.run (sym c.status_of.ensures ∙ is)
+    never_reads (λ p. IsNetworkOf g.R.Router.seen c.run_grown-ending.new.last p) c.run_grown-ending.result c.args.seed (g.K.Sink.holds c.args.sink.now)
+    (g.K.Sink.holds c.run_grown-ending.new.sink) c.run_grown-ending.ensures.run (sym c.status_of.ensures ∙ is)

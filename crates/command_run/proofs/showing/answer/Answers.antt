@@ -11,7 +11,8 @@ pub returns-in-Ok-clause-shown : goal.returns-in-Ok-clause-shown
 returns-in-Ok-clause-shown g c =
     let input = c.args.input.now in
     let w = c.write_text.ensures in
-    written_so IsShown IsFirstBad c.write_text.result input c.as_slice.result.now (g.K.Sink.holds c.args.sink.now) (g.K.Sink.holds c.write_text.new.sink) (subst (λ (t : List ℕ). IsShown input t) (sym c.as_slice.ensures.value) c.in-Ok.ensures.shown) w.others w.done w.front
+    written_so IsShown IsFirstBad c.write_text.result input c.as_slice.result.now (g.K.Sink.holds c.args.sink.now) (g.K.Sink.holds c.write_text.new.sink)
+    (subst (λ (t : List ℕ). IsShown input t) (sym c.as_slice.ensures.value) c.in-Ok.ensures.shown) w.others w.done w.front
 
 pub returns-in-Ok-clause-refused : goal.returns-in-Ok-clause-refused
 returns-in-Ok-clause-refused g c = λ e bad. absurd (shown_is_not_bad c.args.input.now c.in-Ok.text.items e c.in-Ok.ensures.shown bad)

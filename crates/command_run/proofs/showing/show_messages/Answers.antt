@@ -8,4 +8,12 @@ returns-clause-shown g c =
     let e = c.write_shown-ending in
     let source = device g.S.Source.left g.S.Source.faults c.args.source.now e.new.source in
     let sink = device g.K.Sink.holds g.K.Sink.faults c.args.sink.now e.new.sink in
-    subst (λ s. Shown (ran s source sink e.new.advice.items)) (sym c.status_of.ensures) (record { ending = (e.result, refl, e.ensures.shown); advised = e.ensures.advised; complete = e.ensures.complete })
+    subst (λ s. Shown (ran s source sink e.new.advice.items)) (sym c.status_of.ensures) (record {
+      ending = (
+        e.result,
+        refl,
+        e.ensures.shown,
+      );
+      advised = e.ensures.advised;
+      complete = e.ensures.complete;
+    })

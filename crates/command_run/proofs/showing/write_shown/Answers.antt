@@ -13,7 +13,8 @@ returns-in-Ok-clause-complete g c = λ bytes wanted known shows calm quiet.
     let input = c.as_slice.result.now in
     let all : bytes ≡ input = all_taken _ _ _ bytes c.in-Ok.ensures.read.0 c.in-Ok.ensures.end known ∙ sym c.as_slice.ensures.value in
     let few : length input ≤ most_bytes = search rules in
-    comes_to input wanted (status_of c.answer.result) (Rose (g.K.Sink.faults c.args.sink.now) (g.K.Sink.faults c.answer.new.sink)) few c.answer.ensures.complete c.answer.ensures.refused (subst (ShowsTo wanted) all shows) quiet
+    comes_to input wanted (status_of c.answer.result) (Rose (g.K.Sink.faults c.args.sink.now) (g.K.Sink.faults c.answer.new.sink)) few c.answer.ensures.complete c.answer.ensures.refused
+    (subst (ShowsTo wanted) all shows) quiet
 
 pub returns-in-Ok-clause-advised : goal.returns-in-Ok-clause-advised
 returns-in-Ok-clause-advised g c = λ bytes known.

@@ -14,4 +14,5 @@ add_tree-requires-clause-takes c =
     let i = c.loop-sender.sender-index in
     let d : LocalSender = record { node = 0; session = record { group = record { 0 = 0 }; proto = 0; port = 0 }; sender = record { addr = record { 0 = 0 }; port = 0 } } in
     let x : LocalSender = get_or c.args.senders.now i d in
-    subst (λ (n : Net). TakesTree n x) (sym c.loop-sender.invariant) (takes_next (take i c.args.senders.now) x (drop (suc i) c.args.senders.now) (subst AreApart (split_at c.args.senders.now i d c.loop-sender-test.true) c.requires.apart))
+    subst (λ (n : Net). TakesTree n x) (sym c.loop-sender.invariant) (takes_next (take i c.args.senders.now) x (drop (suc i) c.args.senders.now)
+    (subst AreApart (split_at c.args.senders.now i d c.loop-sender-test.true) c.requires.apart))

@@ -18,7 +18,8 @@ up_is : (k : ℕ) (a : Addr) (u : End) → u ≡ end_of k a → a ≡ of_bytes 1
 up_is k a u is e = is ∙ ap (end_of k) e
 
 -- the network with it, and with both
-half_is : (k : ℕ) (before half : Net) (d : End) → before ≡ hung_up_to (k - 1) → half ≡ with_end before d → d ≡ end_of (above k) (of_bytes 10 1 k 1) → half ≡ with_end (hung_up_to (k - 1)) (end_of (above k) (of_bytes 10 1 k 1))
+half_is : (k : ℕ) (before half : Net) (d : End) → before ≡ hung_up_to (k - 1) → half ≡ with_end before d → d ≡ end_of (above k) (of_bytes 10 1 k 1)
+    → half ≡ with_end (hung_up_to (k - 1)) (end_of (above k) (of_bytes 10 1 k 1))
 half_is k before half d is more e = more ∙ ap (λ (n : Net). with_end n d) is ∙ ap (with_end (hung_up_to (k - 1))) e
 
 whole_is : (k : ℕ) (half whole : Net) (u : End) → half ≡ with_end (hung_up_to (k - 1)) (end_of (above k) (of_bytes 10 1 k 1)) → whole ≡ with_end half u → u ≡ end_of k (of_bytes 10 1 k 2)
@@ -40,7 +41,8 @@ add_end-requires-2 c =
     let d = down_is k c.above.result c.address.result c.end_of.result c.end_of.ensures c.above.ensures c.address.ensures in
     let half = half_is k c.args.topology.now c.add_end.new.self c.end_of.result c.requires.before c.in_ok-add_end.ensures.ok d in
     let u = up_is k c.address-2.result c.end_of-2.result c.end_of-2.ensures c.address-2.ensures in
-    subst (λ (n : Net). TakesEnd n c.end_of-2.result) (sym half) (subst (λ (e : End). TakesEnd (with_end (hung_up_to (k - 1)) (dk k c.requires.range.0 c.requires.range.1)) e) (sym u) (takes_up_end k c.requires.range.0 c.requires.range.1))
+    subst (λ (n : Net). TakesEnd n c.end_of-2.result) (sym half) (subst (λ (e : End). TakesEnd (with_end (hung_up_to (k - 1)) (dk k c.requires.range.0 c.requires.range.1)) e) (sym u)
+    (takes_up_end k c.requires.range.0 c.requires.range.1))
 
 pub add_link-requires : goal.add_link-requires
 add_link-requires c =
@@ -50,7 +52,9 @@ add_link-requires c =
     let u = up_is k c.address-2.result c.end_of-2.result c.end_of-2.ensures c.address-2.ensures in
     let whole = whole_is k c.add_end.new.self c.add_end-2.new.self c.end_of-2.result half c.in_ok-add_end-2.ensures.ok u in
     let links = links_are k c.down_end.result c.up_end.result c.down_end.ensures c.up_end.ensures in
-    subst (λ (n : Net). TakesLink n (c.down_end.result ∷ c.up_end.result ∷ [])) (sym whole) (subst (λ (l : List ℕ). TakesLink (with_end (with_end (hung_up_to (k - 1)) (dk k c.requires.range.0 c.requires.range.1)) (uk k c.requires.range.0 c.requires.range.1)) l) (sym links) (takes_its_link k c.requires.range.0 c.requires.range.1))
+    subst (λ (n : Net). TakesLink n (c.down_end.result ∷ c.up_end.result ∷ [])) (sym whole)
+    (subst (λ (l : List ℕ). TakesLink (with_end (with_end (hung_up_to (k - 1)) (dk k c.requires.range.0 c.requires.range.1)) (uk k c.requires.range.0 c.requires.range.1)) l) (sym links)
+    (takes_its_link k c.requires.range.0 c.requires.range.1))
 
 pub returns : goal.returns
 returns c =
@@ -60,5 +64,7 @@ returns c =
     let u = up_is k c.address-2.result c.end_of-2.result c.end_of-2.ensures c.address-2.ensures in
     let whole = whole_is k c.add_end.new.self c.add_end-2.new.self c.end_of-2.result half c.in_ok-add_end-2.ensures.ok u in
     let links = links_are k c.down_end.result c.up_end.result c.down_end.ensures c.up_end.ensures in
-    let all = ap (λ (n : Net). with_link n (c.down_end.result ∷ c.up_end.result ∷ [])) whole ∙ ap (with_link (with_end (with_end (hung_up_to (k - 1)) (dk k c.requires.range.0 c.requires.range.1)) (uk k c.requires.range.0 c.requires.range.1))) links ∙ hung_is k c.requires.range.0 c.requires.range.1 in
+    let all = ap (λ (n : Net). with_link n (c.down_end.result ∷ c.up_end.result ∷ [])) whole
+    ∙ ap (with_link (with_end (with_end (hung_up_to (k - 1)) (dk k c.requires.range.0 c.requires.range.1)) (uk k c.requires.range.0 c.requires.range.1))) links
+    ∙ hung_is k c.requires.range.0 c.requires.range.1 in
     subst (λ (n : Net). OnOk c.add_link.result (c.add_link.new.self ≡ n)) all c.add_link.ensures.ok

@@ -16,7 +16,8 @@ loop-node-preserved c =
     let k : c.loop-node.node ≡ c.loop-node.node + 1 - 1 = omega arith in
     down_at before c.if-not-is_among.hops.items way c.loop-node.node (c.loop-node.node + 1 - 1) k
     (elim c.if-not-is_among.branch [
-      | then-not-is_among+in_ok-push w ↦ down_pushed before c.loop-node.hops.items c.if-not-is_among.hops.items way n c.loop-node.node next (cc) (ap (λ v. v.items) w.hops-is ∙ w.in_ok-push.ensures.items ∙ ap (λ (h : LinkHop). c.loop-node.hops.items ++ h ∷ []) w.hop_down.ensures) c.loop-node.invariant
+      | then-not-is_among+in_ok-push w ↦ down_pushed before c.loop-node.hops.items c.if-not-is_among.hops.items way n c.loop-node.node next (cc)
+          (ap (λ v. v.items) w.hops-is ∙ w.in_ok-push.ensures.items ∙ ap (λ (h : LinkHop). c.loop-node.hops.items ++ h ∷ []) w.hop_down.ensures) c.loop-node.invariant
       | else-not-is_among w ↦ down_past before c.loop-node.hops.items c.if-not-is_among.hops.items way n c.loop-node.node next (cc) (ap (λ v. v.items) w.hops-is) c.loop-node.invariant
     ])
 

@@ -14,4 +14,5 @@ returns c =
     let one = c.as_slice.ensures.value ∙ c.in_ok-way.ensures in
     let two = c.as_slice-2.ensures.value ∙ c.in_ok-way.ensures in
     c.in_ok-add_hops_down.ensures ∙ ap (λ (xs : List ℕ). c.add_hops_up.new.hops.items ++ hops_down xs 63) two
-    ∙ ap (λ (ys : List LinkHop). ys ++ hops_down (way_up c.args.root) 63) (c.in_ok-add_hops_up.ensures ∙ ap (λ (ys : List LinkHop). ys ++ map hop_up c.as_slice.result.now) c.new-hops.ensures.items ∙ ap (λ (xs : List ℕ). map hop_up xs) one)
+    ∙ ap (λ (ys : List LinkHop). ys ++ hops_down (way_up c.args.root) 63) (c.in_ok-add_hops_up.ensures ∙ ap (λ (ys : List LinkHop). ys ++ map hop_up c.as_slice.result.now) c.new-hops.ensures.items
+    ∙ ap (λ (xs : List ℕ). map hop_up xs) one)

@@ -14,8 +14,10 @@ loop-level-preserved c =
     let left : 6 - c.loop-level._level ≡ suc n = omega arith in
     let inv = ap (λ m. c.loop-level.way.items ++ climb m c.loop-level.node) (sym left) ∙ c.loop-level.invariant in
     elim c.if-node-ne0.branch [
-      | then-node-ne0+in_ok-push w ↦ way_pushed c.loop-level.way.items c.if-node-ne0.way'.items (way_up c.args.root) n c.loop-level.node c.if-node-ne0.node (ap (λ v. v.items) w.way'-is ∙ w.in_ok-push.ensures.items) (w.node-is ∙ w.above-node.ensures) (omega arith) inv
-      | else-node-ne0 w ↦ way_ended c.loop-level.way.items c.if-node-ne0.way'.items (way_up c.args.root) n c.loop-level.node c.if-node-ne0.node (ap (λ v. v.items) w.way'-is) w.node-is (omega arith) inv
+      | then-node-ne0+in_ok-push w ↦ way_pushed c.loop-level.way.items c.if-node-ne0.way'.items (way_up c.args.root) n c.loop-level.node c.if-node-ne0.node
+          (ap (λ v. v.items) w.way'-is ∙ w.in_ok-push.ensures.items) (w.node-is ∙ w.above-node.ensures) (omega arith) inv
+      | else-node-ne0 w ↦ way_ended c.loop-level.way.items c.if-node-ne0.way'.items (way_up c.args.root) n c.loop-level.node c.if-node-ne0.node (ap (λ v. v.items) w.way'-is) w.node-is
+          (omega arith) inv
     ]
 
 pub returns : goal.returns

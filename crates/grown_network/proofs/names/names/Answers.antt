@@ -6,4 +6,5 @@ pub loop-node-init : goal.loop-node-init
 loop-node-init c = names_none c.new-names.result.items c.new-names.ensures.items
 
 pub loop-node-preserved : goal.loop-node-preserved
-loop-node-preserved c = names_more c.loop-node.names.items c.add_names.new.names.items (c.loop-node.node - 1) c.loop-node.node _ (omega arith) (omega arith) c.loop-node.invariant c.in_ok-add_names.ensures
+loop-node-preserved c = names_more c.loop-node.names.items c.add_names.new.names.items (c.loop-node.node - 1) c.loop-node.node _ (omega arith)
+    (omega arith) c.loop-node.invariant c.in_ok-add_names.ensures

@@ -1,7 +1,7 @@
 use Rattle.std.proofs.Common.{◌≡◌, ℕ}
 use Rattle.network_model.specs.Worlds.{World}
-use Rattle.net_replay.specs.Agreeing.{Agrees}
-use Rattle.grown_summary.specs.Booked.{booked_up_to}
+use Rattle.network_replay.specs.Agreeing.{Agrees}
+use Rattle.grown_network.specs.Booked.{booked_up_to}
 use Rattle.grown_player.proofs.Counted.{IsSmall}
 use Rattle.grown_player.proofs.counting.count.Given as goal
 

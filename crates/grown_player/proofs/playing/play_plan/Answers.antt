@@ -3,7 +3,7 @@ use Rattle.std.specs.Prelude.{map as each, Result, Err}
 use Rattle.std.proofs.lemmas.Result.{err_from_is_err_and}
 use Rattle.network_model.specs.Events.{Event, Reports, Rounds}
 use Rattle.grown_network.specs.Grown.{send_event, want_event}
-use Rattle.net_replay.specs.declared.world_err.WorldErr.{WorldErr}
+use Rattle.network_replay.specs.declared.world_err.WorldErr.{WorldErr}
 use Rattle.grown_player.specs.Playing.{with_events}
 use Rattle.grown_player.proofs.Played.{stopped, then_played}
 use Rattle.grown_player.proofs.playing.play_plan.Goals as goal

@@ -14,7 +14,8 @@ loop-sender-preserved g c = λ p played.
     let xs = c.args.senders.now in
     let i = c.loop-sender.sender-index in
     let half = at_element see p send_event xs i c.loop-sender.world c.loop-sender.out.items _ c.loop-sender-test.true (c.loop-sender.invariant p played) in
-    gone_on see p (each send_event xs) _ (each send_event (drop (i + 1) xs)) c.loop-sender.world c.send.new.world c.loop-sender.out.items c.send.new.out.items half (c.in_ok-send.ensures half.now half.played)
+    gone_on see p (each send_event xs) _ (each send_event (drop (i + 1) xs)) c.loop-sender.world c.send.new.world c.loop-sender.out.items c.send.new.out.items half
+    (c.in_ok-send.ensures half.now half.played)
 
 pub returns-in_err-send : goal.returns-in_err-send
 returns-in_err-send g c = λ p played.
@@ -23,7 +24,8 @@ returns-in_err-send g c = λ p played.
     let i = c.loop-sender.sender-index in
     let given = err_from_is_err_and c.from_residual.result c.from_residual.ensures.1 in
     let half = at_element see p send_event xs i c.loop-sender.world c.loop-sender.out.items _ c.loop-sender-test.true (c.loop-sender.invariant p played) in
-    let stop = broken_off see p (each send_event xs) _ (each send_event (drop (i + 1) xs)) _ c.loop-sender.world c.send.new.world c.loop-sender.out.items c.send.new.out.items half (c.in_err-send.ensures half.now half.played) in
+    let stop = broken_off see p (each send_event xs) _ (each send_event (drop (i + 1) xs)) _ c.loop-sender.world c.send.new.world c.loop-sender.out.items c.send.new.out.items half
+    (c.in_err-send.ensures half.now half.played) in
     rw (given.1, given.2) (stop)
 
 pub returns : goal.returns

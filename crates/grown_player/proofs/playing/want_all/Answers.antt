@@ -14,7 +14,8 @@ loop-wanted-preserved g c = λ p played.
     let xs = c.args.wants.now in
     let i = c.loop-wanted.wanted-index in
     let half = at_item see p want_event xs i c.loop-wanted.world c.loop-wanted.out.items c.wanted-item.result c.loop-wanted-test.true c.wanted-item.is (c.loop-wanted.invariant p played) in
-    gone_on see p (each want_event xs) _ (each want_event (drop (i + 1) xs)) c.loop-wanted.world c.want.new.world c.loop-wanted.out.items c.want.new.out.items half (c.in_ok-want.ensures half.now half.played)
+    gone_on see p (each want_event xs) _ (each want_event (drop (i + 1) xs)) c.loop-wanted.world c.want.new.world c.loop-wanted.out.items c.want.new.out.items half
+    (c.in_ok-want.ensures half.now half.played)
 
 pub returns-in_err-want : goal.returns-in_err-want
 returns-in_err-want g c = λ p played.
@@ -23,7 +24,8 @@ returns-in_err-want g c = λ p played.
     let i = c.loop-wanted.wanted-index in
     let given = err_from_is_err_and c.from_residual.result c.from_residual.ensures.1 in
     let half = at_item see p want_event xs i c.loop-wanted.world c.loop-wanted.out.items c.wanted-item.result c.loop-wanted-test.true c.wanted-item.is (c.loop-wanted.invariant p played) in
-    let stop = broken_off see p (each want_event xs) _ (each want_event (drop (i + 1) xs)) _ c.loop-wanted.world c.want.new.world c.loop-wanted.out.items c.want.new.out.items half (c.in_err-want.ensures half.now half.played) in
+    let stop = broken_off see p (each want_event xs) _ (each want_event (drop (i + 1) xs)) _ c.loop-wanted.world c.want.new.world c.loop-wanted.out.items c.want.new.out.items half
+    (c.in_err-want.ensures half.now half.played) in
     rw (given.1, given.2) (stop)
 
 pub returns : goal.returns

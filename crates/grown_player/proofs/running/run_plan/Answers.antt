@@ -12,22 +12,26 @@ pub returns-in_err-play_plan-clause-crowded : goal.returns-in_err-play_plan-clau
 returns-in_err-play_plan-clause-crowded g c =
     let given = err_from_is_err_and c.from_residual.result c.from_residual.ensures.1 in
     rw (given.1, given.2)
-    (crowded_by g.R.Router.seen c.args.seed c.as_slice.result.now c.as_slice-2.result.now c.in-Ok.grown.rounds (c.as_slice.ensures.value ∙ c.in-Ok.ensures.senders) (c.as_slice-2.ensures.value ∙ c.in-Ok.ensures.wants) c.in-Ok.ensures.rounds c.in-Ok-open.world
+    (crowded_by g.R.Router.seen c.args.seed c.as_slice.result.now c.as_slice-2.result.now c.in-Ok.grown.rounds (c.as_slice.ensures.value ∙ c.in-Ok.ensures.senders)
+    (c.as_slice-2.ensures.value ∙ c.in-Ok.ensures.wants) c.in-Ok.ensures.rounds c.in-Ok-open.world
     c.play_plan.new.world c.new-report.result.items c.play_plan.new.out.items c.new-report.ensures.items c.in-Ok-open.ensures c.in_err-play_plan.field-0.0 c.in_err-play_plan.ensures)
 
 pub sum_up-requires-clause-played : goal.sum_up-requires-clause-played
 sum_up-requires-clause-played g c =
     let done =
-    played_all g.R.Router.seen c.args.seed c.as_slice.result.now c.as_slice-2.result.now c.in-Ok.grown.rounds (c.as_slice.ensures.value ∙ c.in-Ok.ensures.senders) (c.as_slice-2.ensures.value ∙ c.in-Ok.ensures.wants) c.in-Ok.ensures.rounds c.in-Ok-open.world
+    played_all g.R.Router.seen c.args.seed c.as_slice.result.now c.as_slice-2.result.now c.in-Ok.grown.rounds (c.as_slice.ensures.value ∙ c.in-Ok.ensures.senders)
+    (c.as_slice-2.ensures.value ∙ c.in-Ok.ensures.wants) c.in-Ok.ensures.rounds c.in-Ok-open.world
     c.play_plan.new.world c.new-report.result.items c.play_plan.new.out.items c.new-report.ensures.items c.in-Ok-open.ensures c.in_ok-play_plan.ensures in
     subst (λ (t : List ℕ). IsPlayed g.R.Router.seen (grown_plan c.args.seed) c.play_plan.new.world t) (sym c.as_slice-3.ensures.value) done
 
 pub returns-clause-roomy : goal.returns-clause-roomy
 returns-clause-roomy g c =
-    (played_all g.R.Router.seen c.args.seed c.as_slice.result.now c.as_slice-2.result.now c.in-Ok.grown.rounds (c.as_slice.ensures.value ∙ c.in-Ok.ensures.senders) (c.as_slice-2.ensures.value ∙ c.in-Ok.ensures.wants) c.in-Ok.ensures.rounds c.in-Ok-open.world
+    (played_all g.R.Router.seen c.args.seed c.as_slice.result.now c.as_slice-2.result.now c.in-Ok.grown.rounds (c.as_slice.ensures.value ∙ c.in-Ok.ensures.senders)
+    (c.as_slice-2.ensures.value ∙ c.in-Ok.ensures.wants) c.in-Ok.ensures.rounds c.in-Ok-open.world
     c.play_plan.new.world c.new-report.result.items c.play_plan.new.out.items c.new-report.ensures.items c.in-Ok-open.ensures c.in_ok-play_plan.ensures).roomy
 
 pub returns-clause-stands : goal.returns-clause-stands
 returns-clause-stands g c =
-    (played_all g.R.Router.seen c.args.seed c.as_slice.result.now c.as_slice-2.result.now c.in-Ok.grown.rounds (c.as_slice.ensures.value ∙ c.in-Ok.ensures.senders) (c.as_slice-2.ensures.value ∙ c.in-Ok.ensures.wants) c.in-Ok.ensures.rounds c.in-Ok-open.world
+    (played_all g.R.Router.seen c.args.seed c.as_slice.result.now c.as_slice-2.result.now c.in-Ok.grown.rounds (c.as_slice.ensures.value ∙ c.in-Ok.ensures.senders)
+    (c.as_slice-2.ensures.value ∙ c.in-Ok.ensures.wants) c.in-Ok.ensures.rounds c.in-Ok-open.world
     c.play_plan.new.world c.new-report.result.items c.play_plan.new.out.items c.new-report.ensures.items c.in-Ok-open.ensures c.in_ok-play_plan.ensures).stands

@@ -1,7 +1,7 @@
 use Rattle.std.proofs.Common.{◌≡◌, drop}
-use Rattle.left_over.specs.AtNodes.{list_of}
+use Rattle.stale_state.specs.AtNodes.{list_of}
 use Rattle.network_model.specs.Runs.{left_over}
-use Rattle.node_facts.specs.State.{facts_at}
+use Rattle.router_state.specs.State.{facts_at}
 use Rattle.live_router.proofs.leaving.left_at.Given as goal
 
 -- what is still to come makes of it what all make of the first

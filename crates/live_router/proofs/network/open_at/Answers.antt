@@ -1,10 +1,10 @@
 use Rattle.std.proofs.Common.{◌≡◌, ◌∙◌, ap, sym, subst}
-use Rattle.left_over.specs.AtNodes.{list_of}
+use Rattle.stale_state.specs.AtNodes.{list_of}
 use Rattle.network_model.specs.Runs.{left_over}
-use Rattle.node_facts.specs.State.{State, facts_at}
+use Rattle.router_state.specs.State.{State, facts_at}
 use Rattle.router_rules.specs.Facts.{Facts, no_facts}
 use Rattle.router_rules.specs.NodeConfig.{NodeConfig}
-use Rattle.left_over.specs.Fit.{place_of}
+use Rattle.stale_state.specs.Fit.{place_of}
 use Rattle.live_router.specs.Leaving.{AreFitAt}
 use Rattle.live_router.proofs.Opened.{fit_at, none_kept}
 use Rattle.live_router.proofs.network.open_at.Goals as goal

@@ -1,12 +1,12 @@
 use Rattle.std.proofs.Common.{◌≡◌, ◌∷◌, [], ◌++◌, ◌∙◌, ap, arith}
 use Rattle.std.specs.Prelude.{map as each}
 use Rattle.std.specs.List.{range_with_len}
-use Rattle.left_over.specs.AtNodes.{list_of}
+use Rattle.stale_state.specs.AtNodes.{list_of}
 use Rattle.network_model.specs.Runs.{left_over}
-use Rattle.network_parcels.proofs.MadeTables.{made_more}
-use Rattle.node_facts.specs.State.{facts_at}
+use Rattle.network_flight.proofs.MadeTables.{made_more}
+use Rattle.router_state.specs.State.{facts_at}
 use Rattle.router_rules.specs.Facts.{no_facts}
-use Rattle.left_over.specs.Fit.{place_of}
+use Rattle.stale_state.specs.Fit.{place_of}
 use Rattle.live_router.proofs.Opened.{first_of}
 use Rattle.live_router.proofs.network.open_routers.Goals as goal
 
@@ -20,7 +20,8 @@ loop-node-preserved c =
     let kept : c.push.new.self.items ≡ rs ++ r ∷ [] = c.in_ok-push.ensures.items in
     record {
       placed = made_more (λ r. r.place) (place_of q net) rs n c.loop-node.invariant.placed c.push.new.self.items r kept c.in_ok-router.ensures.place;
-      first = made_more (λ r. facts_at 0 r) (λ m. left_over (place_of q net m) m (list_of c.args.left.now) no_facts) rs n c.loop-node.invariant.first c.push.new.self.items r kept c.in_ok-router.ensures.facts;
+      first = made_more (λ r. facts_at 0 r)
+          (λ m. left_over (place_of q net m) m (list_of c.args.left.now) no_facts) rs n c.loop-node.invariant.first c.push.new.self.items r kept c.in_ok-router.ensures.facts;
     }
 
 pub returns : goal.returns

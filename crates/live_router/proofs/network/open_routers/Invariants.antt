@@ -1,11 +1,11 @@
 use Rattle.std.proofs.Common.{◌≡◌}
 use Rattle.std.specs.Prelude.{map as each}
 use Rattle.std.specs.List.{range_with_len}
-use Rattle.left_over.specs.AtNodes.{list_of}
+use Rattle.stale_state.specs.AtNodes.{list_of}
 use Rattle.network_model.specs.Runs.{left_over}
-use Rattle.node_facts.specs.State.{facts_at}
+use Rattle.router_state.specs.State.{facts_at}
 use Rattle.router_rules.specs.Facts.{no_facts}
-use Rattle.left_over.specs.Fit.{place_of}
+use Rattle.stale_state.specs.Fit.{place_of}
 use Rattle.live_router.proofs.network.open_routers.Given as goal
 
 -- those of the first nodes so far

@@ -1,7 +1,7 @@
 use Rattle.std.proofs.Common.{length, ap, ◌∙◌, arith, take_all}
 use Rattle.std.specs.Prelude.{◌≤◌, List}
 use Rattle.tree_model.specs.declared.hops.End.{End}
-use Rattle.left_over.proofs.Interfaces.{gathered, ifaces_in, own}
+use Rattle.stale_state.proofs.Interfaces.{gathered, ifaces_in, own}
 use Rattle.live_router.proofs.place.ifaces_of.Goals as goal
 
 pub returns : goal.returns

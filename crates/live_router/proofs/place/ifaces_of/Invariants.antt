@@ -1,5 +1,5 @@
 use Rattle.std.proofs.Common.{◌≡◌, take}
-use Rattle.left_over.proofs.Interfaces.{ifaces_in, own}
+use Rattle.stale_state.proofs.Interfaces.{ifaces_in, own}
 use Rattle.live_router.proofs.place.ifaces_of.Given as goal
 
 -- those of the node so far

@@ -21,4 +21,5 @@ returns c =
     let rest = IsNonDecreasingBy-drop (λ (x : LocalSender). ordering_index (r x)) start rows up in
     rw take_rest
     (run_of sessions senders sender_row s rows start end begin
-    (IsPartitionPoint-from_clause (λ (x : LocalSender). is_le (r x)) (drop start rows) end (rw take_rest at c.partition_point-2.ensures.partitioned) (up_to_parts r (drop start rows) rest) (λ a z q k. search (rules, of_calls))))
+    (IsPartitionPoint-from_clause (λ (x : LocalSender). is_le (r x)) (drop start rows) end (rw take_rest at c.partition_point-2.ensures.partitioned) (up_to_parts r (drop start rows) rest)
+    (λ a z q k. search (rules, of_calls))))

@@ -9,7 +9,8 @@ sized_whole : (line : List ℕ) (n : ℕ) → n ≡ length line / 2 → decode_s
 sized_whole line n e = rw (eq-eqb (length line / 2) n (sym e)) refl
 
 -- what was refused did not decode
-refused : (P : List ℕ → Type 0) (d : Result (List ℕ) FromHexError) (r : Result (Unit {0}) FromHexError) (e : FromHexError) → r ≡ Err e → MatchResult d (λ bytes. (r ≡ Ok tt) × P bytes) (λ f. r ≡ Err f) → IsErr d
+refused : (P : List ℕ → Type 0) (d : Result (List ℕ) FromHexError) (r : Result (Unit {0}) FromHexError) (e : FromHexError) → r ≡ Err e
+    → MatchResult d (λ bytes. (r ≡ Ok tt) × P bytes) (λ f. r ≡ Err f) → IsErr d
 refused P (Ok bytes) r e is m = let one = m.0 in cc
 refused P (Err f) r e is m = refl
 

@@ -12,4 +12,8 @@ loop-sender-preserved c =
     all_more (few_of c.args.senders.now) c.args.senders.now c.loop-sender.sender-index d c.loop-sender-test.true c.loop-sender.invariant here
 
 pub returns : goal.returns
-returns c = (λ t. subst (λ (xs : List LocalSender). All (few_of c.args.senders.now) xs) (taken_all c.args.senders.now c.loop-sender.sender-index c.loop-sender-test.false c.loop-sender.auto.sender-index-end) c.loop-sender.invariant, λ a. refl)
+returns c = (
+  λ t. subst (λ (xs : List LocalSender). All (few_of c.args.senders.now) xs)
+      (taken_all c.args.senders.now c.loop-sender.sender-index c.loop-sender-test.false c.loop-sender.auto.sender-index-end) c.loop-sender.invariant,
+  λ a. refl,
+)

@@ -13,7 +13,8 @@ returns-then-not-keep c =
     let full = c.if-not-keep.ensures.full refl in (
       λ t. absurd (let z : false ≡ true = t in cc),
       λ few. absurd
-          (many_told (map (λ (x : LocalWant). x.session) ws) c.loop-want.found.items w.session kept.once full.1 (named_there (λ (x : LocalWant). x.session) ws i w w w.session c.loop-want-test.true c.want-item.is refl)
+          (many_told (map (λ (x : LocalWant). x.session) ws) c.loop-want.found.items w.session kept.once full.1
+          (named_there (λ (x : LocalWant). x.session) ws i w w w.session c.loop-want-test.true c.want-item.is refl)
           (λ z j. named_before (λ (x : LocalWant). x.session) ws i z ((kept.all z).0 j)) full.0 few),
     )
 
@@ -22,7 +23,8 @@ loop-want-preserved c =
     record {
       few = c.keep.ensures.few;
       once = c.keep.ensures.once c.loop-want.invariant.once;
-      all = one_more_of (λ (x : LocalWant). x.session) c.loop-want.found.items c.keep.new.found.items c.args.wants.now c.loop-want.want-index c.want-item.result c.want-item.result c.loop-want-test.true c.want-item.is c.loop-want.invariant.all
+      all = one_more_of (λ (x : LocalWant). x.session) c.loop-want.found.items c.keep.new.found.items c.args.wants.now c.loop-want.want-index c.want-item.result c.want-item.result
+          c.loop-want-test.true c.want-item.is c.loop-want.invariant.all
           (c.keep.ensures.kept c.if-not-keep.false);
     }
 
@@ -30,6 +32,7 @@ pub returns : goal.returns
 returns c =
     let ws = c.args.wants.now in
     let all = taken_all ws c.loop-want.want-index c.loop-want-test.false c.loop-want.auto.want-index-end in (
-      λ t. few_told (map (λ (x : LocalWant). x.session) ws) c.loop-want.found.items (λ s j. (c.loop-want.invariant.all s).1 (subst (λ (xs : List LocalWant). In s (map (λ (x : LocalWant). x.session) xs)) (sym all) j)) c.loop-want.invariant.few,
+      λ t. few_told (map (λ (x : LocalWant). x.session) ws) c.loop-want.found.items (λ s j. (c.loop-want.invariant.all s).1
+          (subst (λ (xs : List LocalWant). In s (map (λ (x : LocalWant). x.session) xs)) (sym all) j)) c.loop-want.invariant.few,
       λ few. refl,
     )

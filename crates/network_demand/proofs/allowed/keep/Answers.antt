@@ -12,4 +12,5 @@ returns-then-is_among-clause-kept c = λ t.
 pub returns-clause-once : goal.returns-clause-once
 returns-clause-once c = λ once.
     subst (λ (xs : List Session). NoRepeats xs) (sym c.push.ensures.items)
-    (once_push c.args.found.now.items c.args.session once (λ i. let t = c.is_among.ensures.1 (subst (λ (xs : List Session). In c.args.session xs) (sym c.as_slice.ensures.value) i) in let z = sym t ∙ c.if-is_among.false in cc))
+    (once_push c.args.found.now.items c.args.session once (λ i. let t = c.is_among.ensures.1 (subst (λ (xs : List Session). In c.args.session xs) (sym c.as_slice.ensures.value) i) in
+    let z = sym t ∙ c.if-is_among.false in cc))

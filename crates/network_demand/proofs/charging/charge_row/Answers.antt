@@ -7,10 +7,13 @@ use Rattle.network_demand.proofs.charging.charge_row.Goals as goal
 
 pub charge-requires : goal.charge-requires
 charge-requires g c =
-    let at : c.index_mut-book.result.now ≡ book_at c.args.books.now.items c.args.end = read_at c.args.books.now.items c.args.end c.index_mut-book.result.now c.requires.there c.index_mut-book.ensures.value in
+    let at : c.index_mut-book.result.now ≡ book_at c.args.books.now.items c.args.end =
+    read_at c.args.books.now.items c.args.end c.index_mut-book.result.now c.requires.there c.index_mut-book.ensures.value in
     λ q e. c.requires.room q ((λ i. get (sym at i) (record { session = c.args.session; style = sym c.kind.ensures i; unit = c.args.row.now.0 })) ∙ e)
 
 pub returns-clause-books : goal.returns-clause-books
 returns-clause-books g c =
-    let at : c.index_mut-book.result.now ≡ book_at c.args.books.now.items c.args.end = read_at c.args.books.now.items c.args.end c.index_mut-book.result.now c.requires.there c.index_mut-book.ensures.value in
-    on_ok c.charge.result (λ e. ap (slice_set c.args.books.now.items c.args.end) (e ∙ (λ i. charged (at i) (record { session = c.args.session; style = c.kind.ensures i; unit = c.args.row.now.0 }) c.args.row.now.1))) c.charge.ensures.ok
+    let at : c.index_mut-book.result.now ≡ book_at c.args.books.now.items c.args.end =
+    read_at c.args.books.now.items c.args.end c.index_mut-book.result.now c.requires.there c.index_mut-book.ensures.value in
+    on_ok c.charge.result (λ e. ap (slice_set c.args.books.now.items c.args.end) (e ∙ (λ i. charged (at i)
+    (record { session = c.args.session; style = c.kind.ensures i; unit = c.args.row.now.0 }) c.args.row.now.1))) c.charge.ensures.ok

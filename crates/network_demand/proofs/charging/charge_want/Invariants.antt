@@ -15,6 +15,8 @@ abbrev pub invariant-loop-row : goal.invariant-loop-row
 invariant-loop-row g l =
     record {
       size : length l.books.items ≡ length l.initial.books.items;
-      lines : (fed : List Line) (next : Addr) → HaveLines fed l.initial.books.items → HaveLines (fed ++ rows_lines g.S.Style.kind_is l.session l.want.hop.from next (take l.row-index l.row-items)) l.books.items;
-      names : (all : Names) → NameOnly g.S.Style.kind_is l.session all l.initial.books.items → ((e : UnitOf × Part) → In e l.want.parts.rows → IsWithin e.1.senders all) → NameOnly g.S.Style.kind_is l.session all l.books.items;
+      lines : (fed : List Line) (next : Addr) → HaveLines fed l.initial.books.items → HaveLines
+          (fed ++ rows_lines g.S.Style.kind_is l.session l.want.hop.from next (take l.row-index l.row-items)) l.books.items;
+      names : (all : Names) → NameOnly g.S.Style.kind_is l.session all l.initial.books.items → ((e : UnitOf × Part) → In e l.want.parts.rows → IsWithin e.1.senders all)
+          → NameOnly g.S.Style.kind_is l.session all l.books.items;
     }

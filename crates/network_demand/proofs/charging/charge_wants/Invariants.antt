@@ -16,5 +16,6 @@ invariant-loop-want g l =
     record {
       size : length l.books.items ≡ length l.initial.books.items;
       lines : (fed : List Line) (net : Net) → HaveLines fed l.initial.books.items → HaveLines (fed ++ wants_lines g.S.Style.kind_is l.session net (take l.want-index l.wants)) l.books.items;
-      names : (all : Names) → NameOnly g.S.Style.kind_is l.session all l.initial.books.items → ((w : HopWant) (e : UnitOf × Part) → In w l.wants → In e w.parts.rows → IsWithin e.1.senders all) → NameOnly g.S.Style.kind_is l.session all l.books.items;
+      names : (all : Names) → NameOnly g.S.Style.kind_is l.session all l.initial.books.items → ((w : HopWant) (e : UnitOf × Part) → In w l.wants → In e w.parts.rows → IsWithin e.1.senders all)
+          → NameOnly g.S.Style.kind_is l.session all l.books.items;
     }

@@ -14,4 +14,5 @@ pub returns-clause-once : goal.returns-clause-once
 returns-clause-once c =
     let pushed : c.push.new.self.items ≡ c.args.sessions.now.items ++ c.args.session ∷ [] = grind (arith, common_steps) in
     λ once. subst (λ (xs : List Session). NoRepeats xs) (sym pushed)
-    (once_push c.args.sessions.now.items c.args.session once (λ i. let t = c.is_among.ensures.1 (subst (λ (xs : List Session). In c.args.session xs) (sym c.as_slice.ensures.value) i) in let z = sym t ∙ c.if-is_among.false in cc))
+    (once_push c.args.sessions.now.items c.args.session once (λ i. let t = c.is_among.ensures.1 (subst (λ (xs : List Session). In c.args.session xs) (sym c.as_slice.ensures.value) i) in
+    let z = sym t ∙ c.if-is_among.false in cc))

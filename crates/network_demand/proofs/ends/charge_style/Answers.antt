@@ -34,13 +34,15 @@ charge_wants-requires-clause-room g c =
     let s : Session = get_or c.args.sessions.now c.loop-session.session-index d in
     let fed = c.loop-session.invariant.fed in
     subst (λ (ws : List HopWant). HasRoom g.S.Style.kind_is s c.loop-session.books.items ws) (sym (c.as_slice.ensures.value ∙ c.in_ok-wants.ensures))
-    (has_room c.args.routing.now (locals_of c.args.locals.now) c.args.order.now c.requires.order c.requires.valid fed.lines c.loop-session.books.items fed.have fed.proper g.S.Style.kind_is s (c.requires.locals.few_senders s))
+    (has_room c.args.routing.now (locals_of c.args.locals.now) c.args.order.now c.requires.order c.requires.valid fed.lines c.loop-session.books.items fed.have fed.proper g.S.Style.kind_is s
+    (c.requires.locals.few_senders s))
 
 pub find_room-requires-clause-inside : goal.find_room-requires-clause-inside
 find_room-requires-clause-inside g c =
     let d : Session = record { group = record { 0 = 0 }; proto = 0; port = 0 } in
     let s : Session = get_or c.args.sessions.now c.loop-session.session-index d in
-    subst (λ (ws : List HopWant). (w : HopWant) → In w ws → node_of c.args.routing.now.ends w.hop.from < c.args.routing.now.nodes) (sym (c.as_slice-in-loop-session.ensures.value ∙ c.in_ok-wants.ensures))
+    subst (λ (ws : List HopWant). (w : HopWant) → In w ws → node_of c.args.routing.now.ends w.hop.from < c.args.routing.now.nodes)
+    (sym (c.as_slice-in-loop-session.ensures.value ∙ c.in_ok-wants.ensures))
     (wants_inside c.args.routing.now (locals_of c.args.locals.now) c.args.order.now c.requires.valid c.requires.order g.S.Style.kind_is s)
 
 pub loop-session-init : goal.loop-session-init
@@ -86,11 +88,13 @@ loop-session-preserved g c =
       room = λ t.
           left_more st net l order ss i d s c.loop-session.lines.items c.loop-session-test.true refl (c.loop-session.invariant.room (c.in_ok-fits.ensures.before t)) c.find_room.new.lines.items
           (subst (λ (xs : List HopWant). (n : ℕ) → taken_at true net n xs ≤ 64) again (c.in_ok-fits.ensures.next_hops t))
-          (subst (λ (xs : List HopWant). (full n : ℕ) → room_at full c.find_room.new.lines.items n + taken_at false net n xs ≡ room_at full c.loop-session.lines.items n) again (c.in_ok-fits.ensures.lines t));
+          (subst (λ (xs : List HopWant). (full n : ℕ) → room_at full c.find_room.new.lines.items n + taken_at false net n xs ≡ room_at full c.loop-session.lines.items n) again
+          (c.in_ok-fits.ensures.lines t));
       full = λ f.
           either c.loop-session.fits
           (λ t. left_lack st net l order ss i d s c.loop-session.lines.items c.loop-session-test.true refl (c.loop-session.invariant.room t) (index_in ss i d c.loop-session-test.true)
-          (subst (λ (xs : List HopWant). (n : ℕ) × ((64 < taken_at true net n xs) ⊎ ((full : ℕ) → room_at full c.loop-session.lines.items n < taken_at false net n xs))) again (c.in_ok-fits.ensures.less f t)))
+          (subst (λ (xs : List HopWant). (n : ℕ) × ((64 < taken_at true net n xs) ⊎ ((full : ℕ) → room_at full c.loop-session.lines.items n < taken_at false net n xs))) again
+          (c.in_ok-fits.ensures.less f t)))
           (λ e. c.loop-session.invariant.full e);
     }
 
@@ -99,7 +103,8 @@ returns-clause-lines g c =
     let ss = c.args.sessions.now in
     let i = c.loop-session.session-index in
     let all : take i ss ≡ ss = ap (λ k. take k ss) (let e : i ≡ length ss = omega arith in e) ∙ take-length ss in
-    λ fed have. subst (λ (xs : List Session). HaveLines (fed ++ style_lines g.S.Style.kind_is c.args.routing.now (locals_of c.args.locals.now) c.args.order.now xs) c.loop-session.books.items) all (c.loop-session.invariant.lines fed have)
+    λ fed have. subst (λ (xs : List Session). HaveLines (fed ++ style_lines g.S.Style.kind_is c.args.routing.now (locals_of c.args.locals.now) c.args.order.now xs) c.loop-session.books.items) all
+    (c.loop-session.invariant.lines fed have)
 
 pub returns-clause-room : goal.returns-clause-room
 returns-clause-room g c =
@@ -109,6 +114,7 @@ returns-clause-room g c =
     let ss = c.args.sessions.now in
     let i = c.loop-session.session-index in
     let all : take i ss ≡ ss = ap (λ k. take k ss) (let e : i ≡ length ss = omega arith in e) ∙ take-length ss in (
-      λ t. left_found st net l c.args.order.now ss c.loop-session.lines.items (subst (λ (xs : List Session). AreLeft st net l c.args.order.now xs c.loop-session.lines.items) all (c.loop-session.invariant.room t)),
+      λ t. left_found st net l c.args.order.now ss c.loop-session.lines.items (subst (λ (xs : List Session). AreLeft st net l c.args.order.now xs c.loop-session.lines.items) all
+          (c.loop-session.invariant.room t)),
       λ found. either c.loop-session.fits (λ t. t) (λ e. absurd (c.loop-session.invariant.full e found)),
     )

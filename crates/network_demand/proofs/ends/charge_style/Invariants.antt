@@ -13,7 +13,8 @@ invariant-loop-session g l =
     record {
       ends : length l.books.items ≡ length l.routing.ends;
       fed : AreFed (locals_of l.locals) l.books.items;
-      lines : (fed : List Line) → HaveLines fed l.initial.books.items → HaveLines (fed ++ style_lines g.S.Style.kind_is l.routing (locals_of l.locals) l.order (take l.session-index l.sessions)) l.books.items;
+      lines : (fed : List Line) → HaveLines fed l.initial.books.items → HaveLines (fed ++ style_lines g.S.Style.kind_is l.routing (locals_of l.locals) l.order
+          (take l.session-index l.sessions)) l.books.items;
       nodes : length l.lines.items ≡ l.routing.nodes;
       room : l.fits ≡ true → AreLeft g.S.Style.kind_is l.routing (locals_of l.locals) l.order (take l.session-index l.sessions) l.lines.items;
       full : l.fits ≡ false → FindRoom g.S.Style.kind_is l.routing (locals_of l.locals) l.order l.sessions → ⊥;

@@ -40,18 +40,23 @@ returns c =
       | then-wild w ↦ elim c.if-fixed.branch [ then-fixed f ↦ grind (arith, common_steps) | else-fixed f ↦ grind (arith, common_steps) ]
       | else-wild w ↦ elim c.if-fixed.branch [ then-fixed f ↦ grind (arith, common_steps) | else-fixed f ↦ grind (arith, common_steps) ]
     ] in
-    let first = subst (λ (xs : List Session). HaveLines ([] ++ style_lines Wild net l order xs) w) c.as_slice-2.ensures.value (c.in_ok-wild.ensures.lines [] (subst (HaveLines []) (sym c.in_ok-ends.ensures) (nothing_first (length c.ends.result.now)))) in
+    let first = subst (λ (xs : List Session). HaveLines ([] ++ style_lines Wild net l order xs) w) c.as_slice-2.ensures.value
+    (c.in_ok-wild.ensures.lines [] (subst (HaveLines []) (sym c.in_ok-ends.ensures) (nothing_first (length c.ends.result.now)))) in
     let demands = demands_are net l order ss w f s c.by_rank-order.ensures these
     (λ fed have. subst (λ (xs : List Session). HaveLines (fed ++ style_lines Fixed net l order xs) f) c.as_slice-3.ensures.value (c.in_ok-fixed.ensures.lines fed have))
     (λ fed have. subst (λ (xs : List Session). HaveLines (fed ++ style_lines Shared net l order xs) s) c.as_slice-4.ensures.value (c.in_ok-shared.ensures.lines fed have)) first
     c.in_ok-shared.ensures.ends in
-    let met_wants = subst (λ (ws : List LocalWant). (c.are_met-fits.result ≡ true) ↔ ((c.if-fixed.are_met ≡ true) × (All (λ w. first_style w.session w.style ws ≡ w.style) ws × AreCarried c.as_slice-7.result.now c.ends-2.result.now))) c.as_slice-5.ensures.value c.are_met-fits.ensures in
-    let met_books = subst (λ (bs : List BookTable). (c.are_met-fits.result ≡ true) ↔ ((c.if-fixed.are_met ≡ true) × (All (λ w. first_style w.session w.style l.wants ≡ w.style) l.wants × AreCarried bs c.ends-2.result.now))) c.as_slice-7.ensures.value met_wants in
-    let met = subst (λ (es : List End). (c.are_met-fits.result ≡ true) ↔ ((c.if-fixed.are_met ≡ true) × (All (λ w. first_style w.session w.style l.wants ≡ w.style) l.wants × AreCarried s es))) c.ends-2.ensures.ends met_books in
+    let met_wants = subst (λ (ws : List LocalWant). (c.are_met-fits.result ≡ true) ↔ ((c.if-fixed.are_met ≡ true)
+    × (All (λ w. first_style w.session w.style ws ≡ w.style) ws × AreCarried c.as_slice-7.result.now c.ends-2.result.now))) c.as_slice-5.ensures.value c.are_met-fits.ensures in
+    let met_books = subst (λ (bs : List BookTable). (c.are_met-fits.result ≡ true) ↔ ((c.if-fixed.are_met ≡ true)
+    × (All (λ w. first_style w.session w.style l.wants ≡ w.style) l.wants × AreCarried bs c.ends-2.result.now))) c.as_slice-7.ensures.value met_wants in
+    let met = subst (λ (es : List End). (c.are_met-fits.result ≡ true) ↔ ((c.if-fixed.are_met ≡ true)
+    × (All (λ w. first_style w.session w.style l.wants ≡ w.style) l.wants × AreCarried s es))) c.ends-2.ensures.ends met_books in
     record {
       ends = demands;
       fits =
-          fits_are net l order ss s c.are_met-fits.result c.if-fixed.are_met c.in_ok-wild.wild c.in_ok-fixed.fixed c.in_ok-shared.shared c.ends.ensures.valid c.by_rank-order.ensures c.requires c.in_ok-sessions.ensures.once these demands
+          fits_are net l order ss s c.are_met-fits.result c.if-fixed.are_met c.in_ok-wild.wild c.in_ok-fixed.fixed c.in_ok-shared.shared c.ends.ensures.valid c.by_rank-order.ensures c.requires
+          c.in_ok-sessions.ensures.once these demands
           met
           all
           (subst (λ (xs : List Session). (c.in_ok-wild.wild ≡ true) ↔ FindRoom Wild net l order xs) c.as_slice-2.ensures.value c.in_ok-wild.ensures.room)

@@ -15,7 +15,8 @@ add-requires g c =
 
 pub returns : goal.returns
 returns g c =
-    let all : take c.loop-part.part-index c.args.parts.now ≡ c.args.parts.now = ap (λ i. take i c.args.parts.now) (let e : c.loop-part.part-index ≡ length c.args.parts.now = omega arith in e) ∙ take-length c.args.parts.now in
+    let all : take c.loop-part.part-index c.args.parts.now ≡ c.args.parts.now = ap (λ i. take i c.args.parts.now) (let e : c.loop-part.part-index ≡ length c.args.parts.now = omega arith in e)
+    ∙ take-length c.args.parts.now in
     let rest = cuts c.args.names.now c.args.parts.now in
     c.finish.ensures.unblockaded (each unwalled rest) (c.loop-part.invariant ∙ ap (λ ps. tally_of g.S.Style.kind_is (each unwalled (cuts c.args.names.now ps))) all) (none_blockaded rest)
     ∙ ap (merge g.S.Style.kind_is) (parts_open rest)

@@ -10,6 +10,7 @@ use Rattle.network_demand.proofs.wants.names_over.Given as goal
 abbrev pub invariant-loop-sender : goal.invariant-loop-sender
 invariant-loop-sender g l =
     record {
-      names : with_keys l.names (map (name_of g.S.Style.kind_is) (filter (goes_over l.routing l.group (l.hop ∷ [])) (drop l.sender-index l.senders))) ≡ names_among g.S.Style.kind_is l.routing l.group (l.hop ∷ []) l.senders;
+      names : with_keys l.names (map (name_of g.S.Style.kind_is) (filter (goes_over l.routing l.group (l.hop ∷ [])) (drop l.sender-index l.senders)))
+          ≡ names_among g.S.Style.kind_is l.routing l.group (l.hop ∷ []) l.senders;
       few : size l.names ≤ l.sender-index;
     }

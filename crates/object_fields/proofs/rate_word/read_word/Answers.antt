@@ -28,8 +28,10 @@ returns-then-up-ge-ROOM_ABOVE-clause-err c =
     let up = exponent w - 150 in
     let long : 23 ≤ up = omega (arith, e) in
     let two : 0 < 2 = omega arith in
-    let m = 2 ^ 23 + fraction w in
-    (record { unsigned = omega arith; not_least = omega (arith, e); not_most = omega (arith, e) }, (m * 2 ^ up, scaled_up m up 150 (exponent w) (omega (arith, e)), mul-le (2 ^ 23) (2 ^ 23) m (2 ^ up) (omega arith) (pow-le-pow_right two long)))
+    let m = 2 ^ 23 + fraction w in (
+      record { unsigned = omega arith; not_least = omega (arith, e); not_most = omega (arith, e) },
+      (m * 2 ^ up, scaled_up m up 150 (exponent w) (omega (arith, e)), mul-le (2 ^ 23) (2 ^ 23) m (2 ^ up) (omega arith) (pow-le-pow_right two long)),
+    )
 
 pub returns-then-exponent-ge-WHOLE-clause-ok : goal.returns-then-exponent-ge-WHOLE-clause-ok
 returns-then-exponent-ge-WHOLE-clause-ok c =
@@ -72,7 +74,8 @@ not_whole n m k m' k' m_is k_is short near apart eq =
     let there : m / 2 ^ k * 2 ^ k % 2 ^ 64 ≡ m = there_and_back m k short near' ∙ ap (λ x. x * 2 ^ k) back ∙ eq in
     apart (rw (m_is, k_is) there)
 
-whole_down : (w k m' k' n : ℕ) → m' ≡ 2 ^ 23 + fraction w → k' ≡ k → k' ≤ 23 → k + exponent w ≡ 150 → m' / 2 ^ k' * 2 ^ k' % 2 ^ 64 ≡ m' → n ≡ m' / 2 ^ k' * 2 ^ 0 → (1 ≤ n) × (n < 2 ^ 46) × IsScaled w n
+whole_down : (w k m' k' n : ℕ) → m' ≡ 2 ^ 23 + fraction w → k' ≡ k → k' ≤ 23 → k + exponent w ≡ 150 → m' / 2 ^ k' * 2 ^ k' % 2 ^ 64 ≡ m' → n ≡ m' / 2 ^ k' * 2 ^ 0
+    → (1 ≤ n) × (n < 2 ^ 46) × IsScaled w n
 whole_down w k m' k' n m_is k_is near sum back is =
     let m = 2 ^ 23 + fraction w in
     let short : m < 2 ^ 24 = omega arith in
@@ -98,7 +101,8 @@ returns-then-down-gt-EXPONENT_AT-clause-err c =
           let whole = unscaled_down n m k 150 (exponent w) sum eq in
           elim c.then-down-gt-EXPONENT_AT.branch [
             | then-down-gt-EXPONENT_AT-via-then-down-gt-EXPONENT_AT v ↦ too_far n m k (omega (arith, v.if-down-gt-EXPONENT_AT.true, down_is w)) low short whole
-            | then-down-gt-EXPONENT_AT-via-else-down-gt-EXPONENT_AT+then-mantissa-down v ↦ not_whole n m k _ _ (mantissa_is w) (down_is w) short v.if-down-gt-EXPONENT_AT.false v.if-mantissa-down.true whole
+            | then-down-gt-EXPONENT_AT-via-else-down-gt-EXPONENT_AT+then-mantissa-down v ↦ not_whole n m k _ _ (mantissa_is w)
+                (down_is w) short v.if-down-gt-EXPONENT_AT.false v.if-mantissa-down.true whole
           ],
     )
 

@@ -6,4 +6,5 @@ use Rattle.object_fields.proofs.rate_word.word_of_rate.Goals as goal
 
 pub returns-else-n-eq0-clause-only : goal.returns-else-n-eq0-clause-only
 returns-else-n-eq0-clause-only c =
-    λ w is. one_word (Finite c.in-Finite.rate) w c.number_word.result (subst (StandsFor w) c.in-Finite.is is) (inr (subst (IsNumberWord c.number_word.result) c.value-n.ensures.number c.number_word.ensures.stands))
+    λ w is. one_word (Finite c.in-Finite.rate) w c.number_word.result (subst (StandsFor w) c.in-Finite.is is)
+    (inr (subst (IsNumberWord c.number_word.result) c.value-n.ensures.number c.number_word.ensures.stands))

@@ -25,7 +25,8 @@ returns-in_err-take c =
     let s = c.loop-rest.walk in
     let rest = c.loop-rest.rest.now in
     let step : words_in rest ≡ c.read_u32.result ∷ words_in (drop 4 rest) = words_cons rest c.loop-rest-test.true ∙ ap (λ (w : ℕ). w ∷ words_in (drop 4 rest)) (sym c.read_u32.ensures) in
-    let none : behind_in (words_in c.args.bytes.now) ≡ None = sym c.loop-rest.invariant ∙ ap (λ (ws : List ℕ). more_in s.due s.load s.kept.items ws) step ∙ c.in_err-take.ensures.none refl (words_in (drop 4 rest)) in
+    let none : behind_in (words_in c.args.bytes.now) ≡ None = sym c.loop-rest.invariant ∙ ap (λ (ws : List ℕ). more_in s.due s.load s.kept.items ws) step
+    ∙ c.in_err-take.ensures.none refl (words_in (drop 4 rest)) in
     cc
 
 pub returns : goal.returns

@@ -1,14 +1,14 @@
 use Rattle.std.proofs.Common.{◌≢◌, List, ℕ, refl, ap, subst, arith, inl, inr}
-use Rattle.line_stream.specs.Streams.{Held}
-use Rattle.line_stream.specs.declared.answer.NextLine.TheVariants.{Line, Long, End, Fault, TooLong}
-use Rattle.line_stream.proofs.Behind.{end_came, fault_came, goes_down, is_open, line_came, long_came, many_came}
+use Rattle.byte_streams.specs.Streams.{Held}
+use Rattle.byte_streams.specs.declared.answer.NextLine.TheVariants.{Line, Long, End, Fault, TooLong}
+use Rattle.byte_streams.proofs.Behind.{end_came, fault_came, goes_down, is_open, line_came, long_came, many_came}
 use Rattle.packet_lines.specs.Advice.{IsAdvice}
 use Rattle.packet_lines.specs.Drafts.{Draft, HasFault}
-use Rattle.packet_lines.specs.Finishing.{Finishes, IsToldAt}
+use Rattle.packet_lines.specs.Finishing.{Finishes, IsAdvisedAt}
 use Rattle.packet_lines.specs.Standings.{IsAdded, Stands}
 use Rattle.packet_lines.specs.declared.ending.Ending.TheVariants.{BadLine}
-use Rattle.packet_lines.proofs.Ended.{at_start, ended_at_once, ended_bad, ended_done, ended_fault, ended_here, ended_long, ended_many, flushed, one_more, told_bad, told_long}
-use Rattle.packet_lines.proofs.Finishing.{quiet_so}
+use Rattle.packet_lines.proofs.Ended.{at_start, ended_at_once, ended_bad, ended_done, ended_fault, ended_here, ended_long, ended_many, flushed, one_more, advised_bad, advised_long}
+use Rattle.packet_lines.proofs.Finishing.{none_waits, quiet_so}
 use Rattle.packet_lines.proofs.policing.police_to_end.Goals as goal
 
 pub returns-in-Err-clause-policed : goal.returns-in-Err-clause-policed
@@ -19,7 +19,8 @@ returns-in-Err-room-clause-policed g c = ended_at_once (g.S.Source.left c.args.s
 
 pub loop-out-init : goal.loop-out-init
 loop-out-init g c = record {
-  policed = at_start (g.S.Source.left c.args.source.now) (g.K.Sink.holds c.args.sink.now) c.in-Ok.reader c.new-standing.result c.in-Ok-room.out.items c.in-Ok.ensures c.new-standing.ensures c.in-Ok-room.ensures.items;
+  policed = at_start (g.S.Source.left c.args.source.now)
+      (g.K.Sink.holds c.args.sink.now) c.in-Ok.reader c.new-standing.result c.in-Ok-room.out.items c.in-Ok.ensures c.new-standing.ensures c.in-Ok-room.ensures.items;
   within = omega (arith, ap (λ (h : Held). h.taken) c.in-Ok.ensures);
   room = c.in-Ok-room.ensures.room;
   read = omega arith;
@@ -34,7 +35,8 @@ returns-in-Err-write_waiting-clause-policed g c =
     let first = g.K.Sink.holds c.args.sink.now in
     let holds = g.K.Sink.holds c.loop-out.sink in
     let err = c.in-Err-write_waiting.ensures.err in
-    ended_here old mid first holds c.loop-out.reader c.loop-out.standing c.loop-out.out.items c.loop-out.invariant.policed (g.K.Sink.holds c.write_waiting.new.sink) c.loop-out.invariant.within err.0 err.1
+    ended_here old mid first holds c.loop-out.reader c.loop-out.standing c.loop-out.out.items c.loop-out.invariant.policed
+    (g.K.Sink.holds c.write_waiting.new.sink) c.loop-out.invariant.within err.0 err.1
 
 pub returns-in-Long-clause-policed : goal.returns-in-Long-clause-policed
 returns-in-Long-clause-policed g c =
@@ -69,7 +71,8 @@ returns-in-Long-clause-advised g c = λ bytes known.
     let p = flushed old mid first holds r s c.loop-out.out.items c.loop-out.invariant.policed held waits c.in-Ok-write_waiting.ensures.ok in
     let e = c.in-Long.ensures in
     let l = long_came old mid new r now p.before p.taken p.behind (λ n. (e.again n).0) e.cut e.few (λ n. e.number n (inr refl)) in
-    told_long old mid first held r s waits p new (g.K.Sink.holds c.end_long.new.sink) now bytes c.end_long.new.advice.items known l c.number.result c.number.ensures c.end_long.result c.end_long.ensures.ended c.end_long.ensures.advised
+    advised_long old mid first held r s waits p new
+    (g.K.Sink.holds c.end_long.new.sink) now bytes c.end_long.new.advice.items known l c.number.result c.number.ensures c.end_long.result c.end_long.ensures.ended c.end_long.ensures.advised
 
 pub returns-in-End-clause-policed : goal.returns-in-End-clause-policed
 returns-in-End-clause-policed g c =
@@ -105,7 +108,9 @@ returns-in-Fault-clause-policed g c =
     let e = c.in-Fault.ensures in
     let fine : Fault ≢ TooLong = λ x. cc in
     let l = fault_came old mid new r now p.before p.taken p.behind (λ n. (e.again n).0) e.cut in
-    ended_fault old mid first held r s waits p new (g.K.Sink.holds c.end-in-Fault.new.sink) now l (e.within fine) c.end-in-Fault.result c.end-in-Fault.ensures.ended
+    let none = none_waits c.has_line.result r.bytes waits Fault c.has_line.ensures c.in-Ok-write_waiting.ensures.none
+    (λ h. (e.asked (is_open old mid r p.before p.taken Fault p.behind (λ n. (e.again n).0) (λ y. cc)).going h).1) (λ y. cc) (λ y. cc) in
+    ended_fault old mid first held r s waits p new held now l (e.within fine) none
 
 pub returns-in-TooLong-clause-policed : goal.returns-in-TooLong-clause-policed
 returns-in-TooLong-clause-policed g c =
@@ -122,7 +127,9 @@ returns-in-TooLong-clause-policed g c =
     let p = flushed old mid first holds r s c.loop-out.out.items c.loop-out.invariant.policed held waits c.in-Ok-write_waiting.ensures.ok in
     let e = c.in-TooLong.ensures in
     let l = many_came old mid new r now p.before p.taken p.behind (λ n. (e.again n).0) e.cut (e.too_long refl) in
-    ended_many old mid first held r s waits p new (g.K.Sink.holds c.end-in-TooLong.new.sink) now l (e.too_long refl) c.end-in-TooLong.result c.end-in-TooLong.ensures.ended
+    let none = none_waits c.has_line.result r.bytes waits TooLong c.has_line.ensures c.in-Ok-write_waiting.ensures.none
+    (λ h. (e.asked (is_open old mid r p.before p.taken TooLong p.behind (λ n. (e.again n).0) (λ y. cc)).going h).1) (λ y. cc) (λ y. cc) in
+    ended_many old mid first held r s waits p new held now l (e.too_long refl) none
 
 pub returns-in-Err-add-clause-policed : goal.returns-in-Err-add-clause-policed
 returns-in-Err-add-clause-policed g c =
@@ -163,9 +170,11 @@ returns-in-Err-add-clause-advised g c = λ bytes known.
     let l = line_came old mid new r now p.before p.taken p.behind (λ n. (e.again n).0) e.cut (e.near refl) (λ n. e.number n (inl refl)) (e.last refl) in
     let fed = c.in-Err-add.ensures.fed p.draft p.stands in
     let bad = subst (λ (t : List ℕ). HasFault p.draft t c.in-Err-add.why) c.line.ensures.line fed.0 in
-    let told = subst (λ (t : List ℕ). IsToldAt (λ u. (d : Draft) → Stands c.add.new.self d → IsAdvice d t c.in-Err-add.why u) c.end_bad.result c.end_bad.new.advice.items) c.line-in-Err-add.ensures.line c.end_bad.ensures.advised in
-    told_bad old mid first held r s waits p new (g.K.Sink.holds c.end_bad.new.sink) now bytes c.end_bad.new.advice.items known l c.number-number.result c.in-Err-add.why c.number-number.ensures bad c.add.new.self fed.1 c.end_bad.result
-    (subst (λ (t : List ℕ). Finishes (BadLine c.number-number.result c.in-Err-add.why) c.end_bad.result held (g.K.Sink.holds c.end_bad.new.sink) t) fed.2 c.end_bad.ensures.ended) told
+    let advised = subst (λ (t : List ℕ). IsAdvisedAt (λ u. (d : Draft) → Stands c.add.new.self d
+    → IsAdvice d t c.in-Err-add.why u) c.end_bad.result c.end_bad.new.advice.items) c.line-in-Err-add.ensures.line c.end_bad.ensures.advised in
+    advised_bad old mid first held r s waits p new
+    (g.K.Sink.holds c.end_bad.new.sink) now bytes c.end_bad.new.advice.items known l c.number-number.result c.in-Err-add.why c.number-number.ensures bad c.add.new.self fed.1 c.end_bad.result
+    (subst (λ (t : List ℕ). Finishes (BadLine c.number-number.result c.in-Err-add.why) c.end_bad.result held (g.K.Sink.holds c.end_bad.new.sink) t) fed.2 c.end_bad.ensures.ended) advised
 
 pub loop-out-smaller : goal.loop-out-smaller
 loop-out-smaller g c =
@@ -222,7 +231,7 @@ pub returns-in-Long-clause-write_fault : goal.returns-in-Long-clause-write_fault
 returns-in-Long-clause-write_fault g c = λ x. omega (arith, c.loop-out.invariant.written, c.write_waiting.ensures.cause.later, c.end_long.ensures.cause x)
 
 pub returns-in-End-clause-read_fault : goal.returns-in-End-clause-read_fault
-returns-in-End-clause-read_fault g c = λ x. absurd (let z = c.end.ensures.read x in cc)
+returns-in-End-clause-read_fault g c = λ x. absurd (c.end.ensures.read x)
 
 pub returns-in-End-clause-write_fault : goal.returns-in-End-clause-write_fault
 returns-in-End-clause-write_fault g c = λ x. omega (arith, c.loop-out.invariant.written, c.write_waiting.ensures.cause.later, c.end.ensures.cause x)
@@ -237,22 +246,13 @@ returns-in-Fault-clause-read_fault g c = λ x.
     let o = is_open old mid c.loop-out.reader p.before p.taken Fault p.behind (λ n. (e.again n).0) other in
     omega (arith, c.loop-out.invariant.read, e.fault refl o.going)
 
-pub returns-in-Fault-clause-write_fault : goal.returns-in-Fault-clause-write_fault
-returns-in-Fault-clause-write_fault g c = λ x. omega (arith, c.loop-out.invariant.written, c.write_waiting.ensures.cause.later, c.end-in-Fault.ensures.cause x)
-
-pub returns-in-TooLong-clause-read_fault : goal.returns-in-TooLong-clause-read_fault
-returns-in-TooLong-clause-read_fault g c = λ x. absurd (let z = c.end-in-TooLong.ensures.read x in cc)
-
-pub returns-in-TooLong-clause-write_fault : goal.returns-in-TooLong-clause-write_fault
-returns-in-TooLong-clause-write_fault g c = λ x. omega (arith, c.loop-out.invariant.written, c.write_waiting.ensures.cause.later, c.end-in-TooLong.ensures.cause x)
-
 pub returns-in-Err-add-clause-read_fault : goal.returns-in-Err-add-clause-read_fault
 returns-in-Err-add-clause-read_fault g c = λ x. absurd (c.end_bad.ensures.read x)
 
 pub returns-in-Err-add-clause-write_fault : goal.returns-in-Err-add-clause-write_fault
 returns-in-Err-add-clause-write_fault g c = λ x. omega (arith, c.loop-out.invariant.written, c.write_waiting.ensures.cause.later, c.end_bad.ensures.cause x)
 
--- ---- where no line is bad, nothing is told
+-- ---- where no line is bad, there is no advice
 pub returns-in-Err-write_waiting-clause-advised : goal.returns-in-Err-write_waiting-clause-advised
 returns-in-Err-write_waiting-clause-advised g c = λ bytes known. c.loop-out.invariant.quiet
 
@@ -260,7 +260,7 @@ pub returns-in-End-clause-advised : goal.returns-in-End-clause-advised
 returns-in-End-clause-advised g c = λ bytes known. quiet_so c.end.result bytes c.loop-out.advice.items c.end.ensures.no_line c.loop-out.invariant.quiet
 
 pub returns-in-Fault-clause-advised : goal.returns-in-Fault-clause-advised
-returns-in-Fault-clause-advised g c = λ bytes known. quiet_so c.end-in-Fault.result bytes c.loop-out.advice.items c.end-in-Fault.ensures.no_line c.loop-out.invariant.quiet
+returns-in-Fault-clause-advised g c = λ bytes known. c.loop-out.invariant.quiet
 
 pub returns-in-TooLong-clause-advised : goal.returns-in-TooLong-clause-advised
-returns-in-TooLong-clause-advised g c = λ bytes known. quiet_so c.end-in-TooLong.result bytes c.loop-out.advice.items c.end-in-TooLong.ensures.no_line c.loop-out.invariant.quiet
+returns-in-TooLong-clause-advised g c = λ bytes known. c.loop-out.invariant.quiet

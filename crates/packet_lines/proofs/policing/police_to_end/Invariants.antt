@@ -4,7 +4,7 @@ use Rattle.byte_streams.specs.Reading.{most_bytes}
 use Rattle.packet_lines.proofs.Ended.{Progress}
 use Rattle.packet_lines.proofs.policing.police_to_end.Given as goal
 
--- the lines up to here were policed, and what was told of their packets was written, or waits
+-- the lines up to here were policed, and the verdicts on their packets were written, or wait
 abbrev pub invariant-loop-out : goal.invariant-loop-out
 invariant-loop-out g l =
     record {

@@ -8,5 +8,6 @@ use Rattle.path_state.proofs.walks.has_address.Goals as goal
 
 pub returns : goal.returns
 returns c =
-    any_from_yields_List (λ (f : PathFact). is_from c.args.addr f.sender) _ _ _ c.any.ensures.ran (YieldsList-from_first (λ x. x.now) (λ it. it) _ c.of_session.ensures) (λ x b q k. search (rules, tests))
+    any_from_yields_List (λ (f : PathFact). is_from c.args.addr f.sender) _ _ _ c.any.ensures.ran (YieldsList-from_first (λ x. x.now) (λ it. it) _ c.of_session.ensures)
+    (λ x b q k. search (rules, tests))
     ∙ among c.args.addr c.args.session c.args.table.now.facts

@@ -12,7 +12,8 @@ use Rattle.resv_state.proofs.leaving.lessen.Goals as goal
 pub returns-in_default-clause-facts : goal.returns-in_default-clause-facts
 returns-in_default-clause-facts c =
     let k : LineKey = (c.args.session, c.args.rest) in
-    no_row c.args.table.now.facts c.requires.rising k c.args.gone.now (nothing_there c.args.table.now.facts c.requires.rising k c.args.gone.now (option_copied c.find.result) (ap option_copied c.in_default.is) c.find.ensures)
+    no_row c.args.table.now.facts c.requires.rising k c.args.gone.now (nothing_there c.args.table.now.facts c.requires.rising k c.args.gone.now (option_copied c.find.result)
+    (ap option_copied c.in_default.is) c.find.ensures)
 
 pub returns-in_default-clause-order : goal.returns-in_default-clause-order
 returns-in_default-clause-order c = (c.requires.rising, c.requires.waiting)

@@ -14,8 +14,10 @@ loop-name-preserved c =
     let xs = c.as_slice-name-items.result.now in
     let x = get_or xs c.loop-name.name-index blank in
     let left = c.loop-name.left in
-    subst (λ (s : Names). AreKept (stays c.args.gone.now) c.args.senders.now s (take (c.loop-name.name-index + 1) xs)) (sym (c.keep_if.ensures ∙ ap (λ b. cond (not b) left (without left x)) c.has.ensures))
+    subst (λ (s : Names). AreKept (stays c.args.gone.now) c.args.senders.now s (take (c.loop-name.name-index + 1) xs))
+    (sym (c.keep_if.ensures ∙ ap (λ b. cond (not b) left (without left x)) c.has.ensures))
     (one_kept (stays c.args.gone.now) c.args.senders.now left xs c.loop-name.name-index blank c.loop-name-test.true c.loop-name.invariant)
 
 pub returns : goal.returns
-returns c = kept_end (stays c.args.gone.now) c.args.senders.now c.loop-name.left c.loop-name.name-index c.as_slice-name-items.result.now (omega arith) c.as_slice-name-items.ensures.senders c.loop-name.invariant
+returns c = kept_end (stays c.args.gone.now) c.args.senders.now c.loop-name.left c.loop-name.name-index c.as_slice-name-items.result.now
+    (omega arith) c.as_slice-name-items.ensures.senders c.loop-name.invariant

@@ -8,7 +8,8 @@ use Rattle.resv_state.proofs.merging.add_cut.Goals as goal
 
 pub add-requires : goal.add-requires
 add-requires g c =
-    cut_room (names_of_tally c.args.merger.now) (names_via c.args.up.now) c.in-Some.left.senders (left_within_names c.args.up.now c.args.iface c.args.part.now c.in-Some.left (sym c.cut_by.ensures ∙ c.in-Some.is)) c.requires
+    cut_room (names_of_tally c.args.merger.now) (names_via c.args.up.now) c.in-Some.left.senders
+    (left_within_names c.args.up.now c.args.iface c.args.part.now c.in-Some.left (sym c.cut_by.ensures ∙ c.in-Some.is)) c.requires
 
 pub returns-in-Some : goal.returns-in-Some
 returns-in-Some g c = λ rs e.

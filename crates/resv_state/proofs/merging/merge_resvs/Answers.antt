@@ -27,10 +27,12 @@ loop-held-preserved g c =
     record {
       k = at.k + 1;
       at = sym st.1;
-      merged = c.add_cut.ensures (filter_map (held_toward c.args.up.now) (take at.k (held_under c.args.session c.args.table.now.facts))) at.merged ∙ ap (tally_of g.S.Style.kind_is) (sym (toward_more c.args.session c.args.table.now.facts at.k c.in-Some.held.now st.0 c.args.up.now));
+      merged = c.add_cut.ensures (filter_map (held_toward c.args.up.now) (take at.k (held_under c.args.session c.args.table.now.facts))) at.merged
+          ∙ ap (tally_of g.S.Style.kind_is) (sym (toward_more c.args.session c.args.table.now.facts at.k c.in-Some.held.now st.0 c.args.up.now));
     }
 
 pub returns : goal.returns
 returns g c =
     let at = c.loop-held.invariant in
-    at.merged ∙ ap (λ es. tally_of g.S.Style.kind_is (filter_map (held_toward c.args.up.now) es)) (all_taken (held_under c.args.session c.args.table.now.facts) at.k (all_met rests held_key c.args.session c.args.table.now.facts at.k (at.at ∙ c.in-None.ensures.steps.0)))
+    at.merged ∙ ap (λ es. tally_of g.S.Style.kind_is (filter_map (held_toward c.args.up.now) es))
+    (all_taken (held_under c.args.session c.args.table.now.facts) at.k (all_met rests held_key c.args.session c.args.table.now.facts at.k (at.at ∙ c.in-None.ensures.steps.0)))

@@ -42,4 +42,5 @@ returns g c =
     let up = c.args.up.now in
     let ws = c.as_slice-row-items.result.now in
     let end : c.loop-row.row-index ≡ length ws = omega arith in
-    c.loop-row.invariant ∙ ap (λ zs. tally_of g.S.Style.kind_is (filter_map (held_toward up) (held_under c.args.session c.args.table.now.facts) ++ filter_map (want_request up) zs)) (ap (λ i. take i ws) end ∙ take-length ws ∙ c.as_slice-row-items.ensures.rows)
+    c.loop-row.invariant ∙ ap (λ zs. tally_of g.S.Style.kind_is (filter_map (held_toward up) (held_under c.args.session c.args.table.now.facts) ++ filter_map (want_request up) zs))
+    (ap (λ i. take i ws) end ∙ take-length ws ∙ c.as_slice-row-items.ensures.rows)

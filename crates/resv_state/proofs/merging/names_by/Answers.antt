@@ -20,4 +20,5 @@ loop-name-preserved c =
     (one_kept (has (names_by c.args.iface c.args.up.now)) c.args.names.now left xs c.loop-name.name-index blank c.loop-name-test.true c.loop-name.invariant)
 
 pub returns : goal.returns
-returns c = kept_end (has (names_by c.args.iface c.args.up.now)) c.args.names.now c.loop-name.left c.loop-name.name-index c.as_slice-name-items.result.now (omega arith) c.as_slice-name-items.ensures.senders c.loop-name.invariant
+returns c = kept_end (has (names_by c.args.iface c.args.up.now)) c.args.names.now c.loop-name.left c.loop-name.name-index c.as_slice-name-items.result.now
+    (omega arith) c.as_slice-name-items.ensures.senders c.loop-name.invariant

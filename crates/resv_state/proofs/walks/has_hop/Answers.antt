@@ -9,5 +9,6 @@ use Rattle.resv_state.proofs.walks.has_hop.Goals as goal
 
 pub returns : goal.returns
 returns c =
-    any_from_yields_List (λ h. eq_by_cmp next_hops.cmp c.args.hop (held_key h).1.0) _ _ _ c.any.ensures.ran (YieldsList-from_first (λ x. x.now) (λ it. it) _ c.of_session.ensures) (λ x b q k. search (rules, tests))
+    any_from_yields_List (λ h. eq_by_cmp next_hops.cmp c.args.hop (held_key h).1.0) _ _ _ c.any.ensures.ran (YieldsList-from_first (λ x. x.now) (λ it. it) _ c.of_session.ensures)
+    (λ x b q k. search (rules, tests))
     ∙ among c.args.hop c.args.session c.args.table.now.facts

@@ -8,7 +8,7 @@ use Rattle.rsvp_base.specs.Table.{get, size}
 use Rattle.rsvp_base.specs.TokenBucket.{TokenBucket}
 use Rattle.rsvp_base.proofs.SessionCounts.{size-without}
 use Rattle.rsvp_base.proofs.UnderLaws.{get-under}
-use Rattle.resv_book.proofs.Renewals.{never_over}
+use Rattle.resv_admission.proofs.Renewals.{never_over}
 use Rattle.router_core.proofs.Emptying.{first_there, none_there, still_none}
 use Rattle.router_core.proofs.clearing.clear_iface.Goals as goal
 

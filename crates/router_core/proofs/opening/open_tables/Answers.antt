@@ -17,7 +17,13 @@ returns-clause-sound c =
     let resvs = c.in_ok-wild.ensures in
     let ifaces = ap (λ (b : Bookings). length b.ifaces) c.in_ok-book.ensures ∙ ap length (sym c.ifaces-ifaces.ensures.is) in
     record {
-      pulled = record { paths = ap (λ (m : PathMap). m.dead.rows) c.in_ok-paths.ensures; wild = ap (λ (m : ResvMap). m.dead.rows) resvs.0; fixed = ap (λ (m : ResvMap). m.dead.rows) resvs.1; shared = ap (λ (m : ResvMap). m.dead.rows) resvs.2 };
+      pulled = record {
+        paths = ap (λ (m : PathMap). m.dead.rows) c.in_ok-paths.ensures;
+        wild = ap (λ (m : ResvMap). m.dead.rows) resvs.0;
+        fixed = ap
+            (λ (m : ResvMap). m.dead.rows) resvs.1;
+        shared = ap (λ (m : ResvMap). m.dead.rows) resvs.2;
+      };
       booked = is_booked c.args.config _ _ _ _ _ _ _ _ own.0 own.1 own.2 resvs.0 resvs.1 resvs.2 c.in_ok-paths.ensures c.in_ok-walls.ensures c.in_ok-book.book c.in_ok-book.ensures;
       few = omega (arith, ifaces, c.ifaces-ifaces.ensures.few);
     }

@@ -4,12 +4,12 @@ use Rattle.router_rules.specs.Asking.{asked_of, asker_of}
 use Rattle.router_rules.specs.Facts.{SenderKey}
 use Rattle.router_rules.specs.Inputs.{ErrSend}
 use Rattle.router_rules.specs.Sends.{conf_sends, confirmed, error_send, error_sends}
-use Rattle.node_facts.specs.State.{facts_of}
-use Rattle.node_telling.specs.Offering.{as_offer}
-use Rattle.node_tables.specs.Whole.{state_of}
-use Rattle.resv_taking.specs.Units.{refusal_of}
-use Rattle.lane_telling.specs.Halves.{address_of, told_before, told_behind}
-use Rattle.lane_telling.proofs.Sent.{sends_with, two_sent}
+use Rattle.router_state.specs.State.{facts_of}
+use Rattle.path_sends.specs.Offering.{as_offer}
+use Rattle.router_state.specs.Whole.{state_of}
+use Rattle.resv_admission.specs.Units.{refusal_of}
+use Rattle.resv_sends.specs.Halves.{address_of, told_before, told_behind}
+use Rattle.resv_sends.proofs.Sent.{sends_with, two_sent}
 use Rattle.router_core.proofs.Sending.{address_is}
 use Rattle.router_core.proofs.telling.tell_resv.Goals as goal
 

@@ -3,11 +3,11 @@ use Rattle.std.specs.Option.{option_map}
 use Rattle.router_rules.specs.Errors.{act_resv_err}
 use Rattle.router_rules.specs.Facts.{SenderKey}
 use Rattle.router_rules.specs.Sends.{error_sends}
-use Rattle.node_facts.specs.State.{State, facts_of}
-use Rattle.node_telling.specs.Offering.{as_offer}
-use Rattle.node_tables.specs.Whole.{state_of}
-use Rattle.lane_telling.specs.Halves.{told_before, told_behind}
-use Rattle.lane_telling.proofs.Sent.{sends_with, two_sent}
+use Rattle.router_state.specs.State.{State, facts_of}
+use Rattle.path_sends.specs.Offering.{as_offer}
+use Rattle.router_state.specs.Whole.{state_of}
+use Rattle.resv_sends.specs.Halves.{told_before, told_behind}
+use Rattle.resv_sends.proofs.Sent.{sends_with, two_sent}
 use Rattle.router_core.proofs.Sending.{err_sent}
 use Rattle.router_core.proofs.telling.tell_resv_err.Goals as goal
 
@@ -30,10 +30,12 @@ returns-clause-sent g c = λ n clock before is heard facts.
     let same = sym is in
     let a = c.tell_tears.ensures n clock before in
     let b =
-    c.pass_resv_err.ensures clock n (ap (λ (z : State). z.place) same) (ap (λ (z : State). z.paths) same) (ap (λ (z : State). z.wild) same) (ap (λ (z : State). z.fixed) same) (ap (λ (z : State). z.shared) same) heard (ap (facts_of clock) same ∙ facts)
+    c.pass_resv_err.ensures clock n (ap (λ (z : State). z.place) same) (ap (λ (z : State). z.paths) same) (ap (λ (z : State). z.wild) same) (ap (λ (z : State). z.fixed) same)
+    (ap (λ (z : State). z.shared) same) heard (ap (facts_of clock) same ∙ facts)
     ∙ ap (fold posted one) (err_sent clock n c.args.iface m) in
     let e = c.tell_news.ensures.sent n clock None refl before in
-    two_sent posted start one c.tell_news.new.out (told_before n.place k f h) (errors ++ told_behind n.place k f h None) a (two_sent posted one two c.tell_news.new.out errors (told_behind n.place k f h None) b e)
+    two_sent posted start one c.tell_news.new.out (told_before n.place k f h) (errors ++ told_behind n.place k f h None) a
+    (two_sent posted one two c.tell_news.new.out errors (told_behind n.place k f h None) b e)
     ∙ ap (fold posted start) (sym (sends_with k n t (option_map as_offer c.args.before.now) c.args.near.now before clock ch refl))
 
 pub returns-clause-facts : goal.returns-clause-facts

@@ -18,9 +18,12 @@ loop-source-preserved c =
     let is : c.as_slice-sources.result.now ≡ xs = c.as_slice-sources.ensures.senders in
     let lt : k < length xs = subst (λ (ys : List Sender). k < length ys) is c.loop-source-test.true in
     let d : Sender = record { addr = record { 0 = 0 }; port = 0 } in
-    let added : c.put_source.new.packet ≡ c.loop-source.packet ++ source_bytes (get_or xs k d) = subst (λ (ys : List Sender). c.put_source.new.packet ≡ c.loop-source.packet ++ source_bytes (get_or ys k d)) is c.put_source.ensures in
+    let added : c.put_source.new.packet ≡ c.loop-source.packet ++ source_bytes (get_or xs k d) =
+    subst (λ (ys : List Sender). c.put_source.new.packet ≡ c.loop-source.packet ++ source_bytes (get_or ys k d)) is c.put_source.ensures in
     record {
-      text = added ∙ ap (λ (t : List ℕ). t ++ source_bytes (get_or xs k d)) c.loop-source.invariant.text ∙ append_assoc front (head (length xs) ++ flat_map source_bytes (take k xs)) (source_bytes (get_or xs k d)) ∙ ap (λ (t : List ℕ). front ++ (head (length xs) ++ t)) (sym (text_more xs k d lt));
+      text = added ∙ ap (λ (t : List ℕ). t ++ source_bytes (get_or xs k d)) c.loop-source.invariant.text
+          ∙ append_assoc front (head (length xs) ++ flat_map source_bytes (take k xs)) (source_bytes (get_or xs k d))
+          ∙ ap (λ (t : List ℕ). front ++ (head (length xs) ++ t)) (sym (text_more xs k d lt));
       room = ap length added ∙ length-append c.loop-source.packet (source_bytes (get_or xs k d)) ∙ (let r = c.loop-source.invariant.room in omega arith);
     }
 

@@ -9,7 +9,8 @@ pub returns-in-Ok-clause-demanded : goal.returns-in-Ok-clause-demanded
 returns-in-Ok-clause-demanded g c =
     let input = c.args.input.now in
     let w = c.write_text.ensures in
-    written_so IsDemandOf IsBadLine c.write_text.result input c.as_slice.result.now (g.K.Sink.holds c.args.sink.now) (g.K.Sink.holds c.write_text.new.sink) (subst (λ (t : List ℕ). IsDemandOf input t) (sym c.as_slice.ensures.value) c.in-Ok.ensures.demand) w.others w.done w.front
+    written_so IsDemandOf IsBadLine c.write_text.result input c.as_slice.result.now (g.K.Sink.holds c.args.sink.now) (g.K.Sink.holds c.write_text.new.sink)
+    (subst (λ (t : List ℕ). IsDemandOf input t) (sym c.as_slice.ensures.value) c.in-Ok.ensures.demand) w.others w.done w.front
 
 pub returns-in-Ok-clause-refused : goal.returns-in-Ok-clause-refused
 returns-in-Ok-clause-refused g c = λ number why bad. absurd (demanded_or_bad c.args.input.now c.in-Ok.text.items number why c.in-Ok.ensures.demand bad)

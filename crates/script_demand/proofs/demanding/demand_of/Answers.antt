@@ -1,4 +1,4 @@
-use Rattle.script_laws.proofs.AskedLines.{what_lines_ask_can_be_asked}
+use Rattle.laws_scripts.proofs.AskedLines.{what_lines_ask_can_be_asked}
 use Rattle.script_words.specs.Lines.{text_lines}
 use Rattle.script_demand.proofs.demanding.demand_of.Goals as goal
 

@@ -1,7 +1,7 @@
 use Rattle.std.proofs.Common.{rules, ◌≡◌, ◌≤◌, length, sym, subst, ◌∙◌}
 use Rattle.byte_streams.specs.Faults.{Rose}
 use Rattle.byte_streams.specs.Reading.{most_bytes}
-use Rattle.network_run.specs.Advised.{IsAdvised}
+use Rattle.script_run.specs.Advised.{IsAdvised}
 use Rattle.script_demand.specs.Demanding.{DemandsTo}
 use Rattle.script_demand.proofs.Answering.{all_taken}
 use Rattle.script_demand.proofs.Coming.{comes_to}
@@ -12,7 +12,8 @@ returns-in-Ok-clause-complete g c = λ bytes wanted known comes calm quiet.
     let input = c.as_slice.result.now in
     let all : bytes ≡ input = all_taken _ _ _ bytes c.in-Ok.ensures.read.0 c.in-Ok.ensures.end known ∙ sym c.as_slice.ensures.value in
     let few : length input ≤ most_bytes = search rules in
-    comes_to input wanted c.answer.result (Rose (g.K.Sink.faults c.args.sink.now) (g.K.Sink.faults c.answer.new.sink)) few c.answer.ensures.complete c.answer.ensures.refused (subst (DemandsTo wanted) all comes) quiet
+    comes_to input wanted c.answer.result (Rose (g.K.Sink.faults c.args.sink.now) (g.K.Sink.faults c.answer.new.sink)) few c.answer.ensures.complete c.answer.ensures.refused
+    (subst (DemandsTo wanted) all comes) quiet
 
 pub returns-in-Ok-clause-advised : goal.returns-in-Ok-clause-advised
 returns-in-Ok-clause-advised g c = λ bytes known.

@@ -6,7 +6,8 @@ use Rattle.script_state.proofs.entries.append.Goals as goal
 
 pub returns-in_err-push-clause-err : goal.returns-in_err-push-clause-err
 returns-in_err-push-clause-err c =
-    on_err c.from_residual.result (each_same (λ (v : Vec Entry Global). v.items) c.args.entries.now.items c.args.node c.push.new.self c.index_mut.result.now (c.in_err-push.ensures.items ∙ ap (λ (v : Vec Entry Global). v.items) c.index_mut.ensures.value))
+    on_err c.from_residual.result (each_same (λ (v : Vec Entry Global). v.items) c.args.entries.now.items c.args.node c.push.new.self c.index_mut.result.now
+    (c.in_err-push.ensures.items ∙ ap (λ (v : Vec Entry Global). v.items) c.index_mut.ensures.value))
 
 pub returns-clause-ok : goal.returns-clause-ok
 returns-clause-ok c =

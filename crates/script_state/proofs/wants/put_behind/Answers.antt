@@ -15,7 +15,8 @@ returns-clause-listed c =
     let new = each (λ v. v.items) c.put_down.new.entries.items in
     let unit = c.unit.ensures in
     let slot : c.len.result ≡ length slots = search rules in
-    let is : record { session = w.session; style = w.style; unit = c.unit.result; slot = c.len.result } ≡ entry_of (length slots, w) = λ i. record { session = w.session; style = w.style; unit = unit i; slot = slot i } in
+    let is : record { session = w.session; style = w.style; unit = c.unit.result; slot = c.len.result } ≡ entry_of (length slots, w) =
+    λ i. record { session = w.session; style = w.style; unit = unit i; slot = slot i } in
     let items = c.push_reserved.ensures.items ∙ ap (λ (xs : List (Option LocalWant)). xs ++ Some w ∷ []) c.in_ok-reserve.ensures.items in λ n.
     listed_more slots old new w c.requires (λ m. c.in_ok-put_down.ensures.ok m ∙ ap (λ (x : Entry). entries_in old m ++ cond (w.node == m) (x ∷ []) []) is) n
     ∙ sym (ap (λ (xs : List (Option LocalWant)). entries_of n xs) items)

@@ -1,4 +1,4 @@
-use Rattle.network_steps.proofs.Keeping.{calm_rounds_keep_bounds}
+use Rattle.laws_network.proofs.Keeping.{calm_rounds_keep_bounds}
 use Rattle.settle_paths.proofs.CompletePaths.{paths_are_complete}
 use Rattle.settle_paths.proofs.laws.paths_are_complete.Goals as goal
 

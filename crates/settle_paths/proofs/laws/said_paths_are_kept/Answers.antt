@@ -1,4 +1,4 @@
-use Rattle.network_steps.proofs.Keeping.{calm_rounds_keep_bounds}
+use Rattle.laws_network.proofs.Keeping.{calm_rounds_keep_bounds}
 use Rattle.settle_paths.proofs.SaidPaths.{said_paths_are_kept}
 use Rattle.settle_paths.proofs.laws.said_paths_are_kept.Goals as goal
 

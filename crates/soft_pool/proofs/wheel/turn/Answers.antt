@@ -26,7 +26,11 @@ loop-slot-preserved g c =
     let o = c.loop-slot.invariant.0 in
     let lt : s < length es = omega (arith, within c.loop-slot.lists.homes s c.args.list c.in-Some.ensures.some, o.size, c.requires.size) in
     let is : slice_get es s ≡ Some e = slice_get_read es (length es) s e refl lt c.index-entries-slot.is in
-    rw c.shift.ensures (sorted_more c.args.list c.args.now es c.args.lists.now.homes c.loop-slot.lists.homes s c.sorted-to.result e o is c.in-Some.ensures.some c.sorted-to.ensures.due c.sorted-to.ensures.later, c.loop-slot.invariant.1)
+    rw c.shift.ensures (
+      sorted_more c.args.list c.args.now es c.args.lists.now.homes c.loop-slot.lists.homes s c.sorted-to.result e o is c.in-Some.ensures.some c.sorted-to.ensures.due
+          c.sorted-to.ensures.later,
+      c.loop-slot.invariant.1,
+    )
 
 pub shift-requires-in-Some-first-clause-here : goal.shift-requires-in-Some-first-clause-here
 shift-requires-in-Some-first-clause-here g c = within c.loop-slot-2.lists.homes c.in-Some-first.slot 2 c.in-Some-first.ensures.some
@@ -34,7 +38,8 @@ shift-requires-in-Some-first-clause-here g c = within c.loop-slot-2.lists.homes 
 pub loop-slot-2-smaller : goal.loop-slot-2-smaller
 loop-slot-2-smaller g c =
     let lists = c.loop-slot-2.lists.homes in
-    subst (λ v. count 2 v.homes < count 2 lists) (sym c.shift-in-Some-first.ensures) (count_less 2 c.wheel_at.result lists c.in-Some-first.slot c.in-Some-first.ensures.some (λ e. omega (arith, e, c.wheel_at.ensures)))
+    subst (λ v. count 2 v.homes < count 2 lists) (sym c.shift-in-Some-first.ensures) (count_less 2 c.wheel_at.result lists c.in-Some-first.slot c.in-Some-first.ensures.some
+    (λ e. omega (arith, e, c.wheel_at.ensures)))
 
 pub loop-slot-2-preserved : goal.loop-slot-2-preserved
 loop-slot-2-preserved g c =
@@ -45,7 +50,10 @@ loop-slot-2-preserved g c =
     let lt : s < length es = omega (arith, within c.loop-slot-2.lists.homes s 2 c.in-Some-first.ensures.some, o.size, c.requires.size) in
     let is : slice_get es s ≡ Some e = slice_get_read es (length es) s e refl lt c.index-entries-slot-in-Some-first.is in
     let own = c.wheel_at.ensures ∙ ap (λ (e : Entry _). wheel_list e.moment) (sym c.index-entries-slot-in-Some-first.is) in
-    rw c.shift-in-Some-first.ensures (put_back c.args.list c.args.now es c.args.lists.now.homes c.loop-slot-2.lists.homes s c.wheel_at.result e o is own c.in-Some-first.ensures.some c.requires.aside, c.loop-slot-2.invariant.1)
+    rw c.shift-in-Some-first.ensures (
+      put_back c.args.list c.args.now es c.args.lists.now.homes c.loop-slot-2.lists.homes s c.wheel_at.result e o is own c.in-Some-first.ensures.some c.requires.aside,
+      c.loop-slot-2.invariant.1,
+    )
 
 pub returns-clause-due : goal.returns-clause-due
 returns-clause-due g c = due_now c.args.list c.args.now c.args.entries.now c.args.lists.now.homes c.loop-slot-2.lists.homes c.loop-slot-2.invariant.0

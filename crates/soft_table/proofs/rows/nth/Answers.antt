@@ -22,7 +22,8 @@ live-requires g c =
 pub returns-then-left-eq0-clause-some : goal.returns-then-left-eq0-clause-some
 returns-then-left-eq0-clause-some g c = λ j is.
     let own = rows_under sessions g.F.Fact.rests c.args.session c.args.rows.now.rows in
-    walk_found c.args.pool.now own j c.args.k c.loop-step.left c.loop-step._step c.loop-step.at (c.loop-step.invariant j is) c.in-Some.slot c.in-Some.is (sym c.live.ensures ∙ c.if-live.true) c.if-left-eq0.true
+    walk_found c.args.pool.now own j c.args.k c.loop-step.left c.loop-step._step c.loop-step.at (c.loop-step.invariant j is) c.in-Some.slot c.in-Some.is
+    (sym c.live.ensures ∙ c.if-live.true) c.if-left-eq0.true
 
 pub returns-then-left-eq0-clause-within : goal.returns-then-left-eq0-clause-within
 returns-then-left-eq0-clause-within g c =
@@ -51,7 +52,8 @@ loop-step-preserved g c = λ j is.
     elim c.if-live.branch [
       | then-live+else-left-eq0 w ↦
           subst (λ n. IsWalk pool own j c.args.k c.after-at.result n (c.loop-step._step + 1)) (sym w.left-is)
-          (walk_on pool own j c.args.k c.loop-step.left c.loop-step._step c.loop-step.at walk c.in-Some.slot c.after-at.result c.in-Some.is next (sym c.live.ensures ∙ w.if-live.true) w.if-left-eq0.false)
+          (walk_on pool own j c.args.k c.loop-step.left c.loop-step._step c.loop-step.at walk c.in-Some.slot c.after-at.result c.in-Some.is next
+          (sym c.live.ensures ∙ w.if-live.true) w.if-left-eq0.false)
       | else-live w ↦
           subst (λ n. IsWalk pool own j c.args.k c.after-at.result n (c.loop-step._step + 1)) (sym w.left-is)
           (walk_over pool own j c.args.k c.loop-step.left c.loop-step._step c.loop-step.at walk c.in-Some.slot c.after-at.result c.in-Some.is next (sym c.live.ensures ∙ w.if-live.false))

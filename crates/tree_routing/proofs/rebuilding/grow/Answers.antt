@@ -1,5 +1,4 @@
-use Rattle.std.proofs.Common.{sym, subst, arith, rules, List}
-use Rattle.std.proofs.Common.{slice_index_or}
+use Rattle.std.proofs.Common.{sym, subst, arith, rules, List, slice_index_or}
 use Rattle.tree_model.specs.declared.hops.LinkHop.{LinkHop}
 use Rattle.tree_model.specs.declared.hops.TreeHop.{TreeHop}
 use Rattle.tree_model.proofs.TreeLaws.{true_false}
@@ -19,12 +18,15 @@ loop-hop-init c = grown_start c.args.ends.now c.args.links.now c.args.all.now.it
 pub returns-then-not-can_grow : goal.returns-then-not-can_grow
 returns-then-not-can_grow c =
     let hop : TreeHop = tree_hop c.args.group c.args.source (slice_index_or c.args.hops.now c.loop-hop.hop-index nothing) in
-    not_grown c.args.ends.now c.args.links.now c.args.all.now.items c.args.group c.args.source c.requires.none c.loop-hop.all.items c.args.hops.now c.loop-hop.hop-index nothing c.loop-hop.invariant (omega arith)
-    (λ nodes fits. true_false _ ((c.can_grow.ensures nodes).1 (subst (λ (ks : List Known). Fits (net_of nodes c.args.ends.now c.args.links.now ks) hop) (sym c.as_slice.ensures.value) fits)) c.if-not-can_grow.true)
+    not_grown c.args.ends.now c.args.links.now c.args.all.now.items c.args.group c.args.source c.requires.none c.loop-hop.all.items c.args.hops.now c.loop-hop.hop-index nothing c.loop-hop.invariant
+    (omega arith)
+    (λ nodes fits. true_false _ ((c.can_grow.ensures nodes).1 (subst (λ (ks : List Known). Fits (net_of nodes c.args.ends.now c.args.links.now ks) hop)
+    (sym c.as_slice.ensures.value) fits)) c.if-not-can_grow.true)
 
 pub loop-hop-preserved : goal.loop-hop-preserved
 loop-hop-preserved c =
     let hop : TreeHop = tree_hop c.args.group c.args.source (slice_index_or c.args.hops.now c.loop-hop.hop-index nothing) in
-    grown_more c.args.ends.now c.args.links.now c.args.all.now.items c.args.group c.args.source c.requires.none c.loop-hop.all.items c.args.hops.now c.loop-hop.hop-index nothing c.loop-hop.invariant (omega arith) c.place.new.hops.items
+    grown_more c.args.ends.now c.args.links.now c.args.all.now.items c.args.group c.args.source c.requires.none c.loop-hop.all.items c.args.hops.now c.loop-hop.hop-index nothing c.loop-hop.invariant
+    (omega arith) c.place.new.hops.items
     (search rules)
     (λ nodes. subst (λ (ks : List Known). Fits (net_of nodes c.args.ends.now c.args.links.now ks) hop) c.as_slice.ensures.value ((c.can_grow.ensures nodes).0 c.if-not-can_grow.false))

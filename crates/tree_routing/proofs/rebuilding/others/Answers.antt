@@ -9,7 +9,8 @@ loop-hop-init c = record { are = record { hops_are = search rules; placed = rw c
 
 pub loop-hop-preserved : goal.loop-hop-preserved
 loop-hop-preserved c =
-    let r = others_more c.args.hops.now c.loop-hop.all.items c.if-not-is_in_tree.all.items c.args.group c.args.source c.loop-hop.hop-index _ (omega arith) c.loop-hop.invariant.are c.loop-hop.invariant.few
+    let r = others_more c.args.hops.now c.loop-hop.all.items c.if-not-is_in_tree.all.items c.args.group c.args.source c.loop-hop.hop-index _
+    (omega arith) c.loop-hop.invariant.are c.loop-hop.invariant.few
     (elim c.if-not-is_in_tree.branch [
       | then-not-is_in_tree+in_ok-place w ↦ inl (sym c.is_in_tree.ensures ∙ w.if-not-is_in_tree.true, search rules)
       | else-not-is_in_tree w ↦ inr (sym c.is_in_tree.ensures ∙ w.if-not-is_in_tree.false, search rules)
@@ -18,5 +19,6 @@ loop-hop-preserved c =
 
 pub returns : goal.returns
 returns c =
-    let all : Others c.args.hops.now c.loop-hop.all.items c.args.group c.args.source = subst (λ (ks : List Known). Others ks c.loop-hop.all.items c.args.group c.args.source) (take_all c.loop-hop.hop-index c.args.hops.now (omega arith)) c.loop-hop.invariant.are in
+    let all : Others c.args.hops.now c.loop-hop.all.items c.args.group c.args.source = subst (λ (ks : List Known). Others ks c.loop-hop.all.items c.args.group c.args.source)
+    (take_all c.loop-hop.hop-index c.args.hops.now (omega arith)) c.loop-hop.invariant.are in
     record { hops = all.hops_are; placed = all.placed }

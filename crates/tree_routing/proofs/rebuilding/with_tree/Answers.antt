@@ -21,10 +21,12 @@ returns-clause-hops c =
     let g = c.args.group in
     let s = c.args.source in
     let all : List Known = c.grow.new.all.items in
-    ap plain (c.in-Ok-with_befores.ensures ∙ ap (λ (ks : List Known). each (with_before c.args.ends.now ks) ks) c.as_slice.ensures.value) ∙ plain_all c.args.ends.now all all ∙ (c.in_ok-grow.ensures 0 c.args.hops.now).1
+    ap plain (c.in-Ok-with_befores.ensures ∙ ap (λ (ks : List Known). each (with_before c.args.ends.now ks) ks) c.as_slice.ensures.value) ∙ plain_all c.args.ends.now all all
+    ∙ (c.in_ok-grow.ensures 0 c.args.hops.now).1
     ∙ ap (λ (rs : List TreeHop). rs ++ each (tree_hop g s) c.args.tree.now) c.in-Ok.ensures.hops
 
 pub returns-clause-known : goal.returns-clause-known
 returns-clause-known c =
     let all : List Known = c.grow.new.all.items in
-    subst (AreKnown c.args.ends.now) (sym (c.in-Ok-with_befores.ensures ∙ ap (λ (ks : List Known). each (with_before c.args.ends.now ks) ks) c.as_slice.ensures.value)) (all_known c.args.ends.now all (c.in_ok-grow.ensures 0 c.args.hops.now).2)
+    subst (AreKnown c.args.ends.now) (sym (c.in-Ok-with_befores.ensures ∙ ap (λ (ks : List Known). each (with_before c.args.ends.now ks) ks) c.as_slice.ensures.value))
+    (all_known c.args.ends.now all (c.in_ok-grow.ensures 0 c.args.hops.now).2)

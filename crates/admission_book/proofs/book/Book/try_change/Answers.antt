@@ -34,7 +34,8 @@ module _ (c : After-charge_at) where
       c.index-2.ensures ∙ get_or_default c.self.inside.held.items c.args.iface c.index-2.result.now 0 lt ∙ c.self.invariant.0.sums c.args.iface
 
   before : c.charge_at.result ≡ charge (get book.entries (c.args.iface, c.args.key))
-  before = charge_found c.self.inside.rows.items (c.args.iface, c.args.key) c.search-place.result c.charge_at.result (rw c.as_slice.ensures.value at c.search-place.ensures.there) (rw c.as_slice.ensures.value at c.search-place.ensures.absent) (rw c.as_slice-2.ensures.value at c.charge_at.ensures.row) c.charge_at.ensures.none
+  before = charge_found c.self.inside.rows.items (c.args.iface, c.args.key) c.search-place.result c.charge_at.result (rw c.as_slice.ensures.value at c.search-place.ensures.there)
+      (rw c.as_slice.ensures.value at c.search-place.ensures.absent) (rw c.as_slice-2.ensures.value at c.charge_at.ensures.row) c.charge_at.ensures.none
 
   others : c.index-2.result.now - c.charge_at.result ≡ charges (without book.entries (c.args.iface, c.args.key)) c.args.iface
   others = omega (arith, held, before, charges_at book.entries c.args.iface c.args.key)
@@ -60,7 +61,11 @@ returns-in_err-sum-clause-cause c =
     rw (p.1, p.2) (asked d ∙ c.in_err-sum.ensures.cause)
 
 pub invariant_of-self-inside : goal.invariant_of-self-inside
-invariant_of-self-inside c = (are_rows places as_entry c.change.new.rows.items (changed_at (entries_of c.self.inside.rows.items c.self.inside.rising) c.args.iface c.args.key c.args.now) (c.change.ensures.rows c.self.inside.rising), tt)
+invariant_of-self-inside c = (
+  are_rows places as_entry c.change.new.rows.items (changed_at (entries_of c.self.inside.rows.items c.self.inside.rising) c.args.iface c.args.key c.args.now)
+      (c.change.ensures.rows c.self.inside.rising),
+  tt,
+)
 
 pub invariant_of-self : goal.invariant_of-self
 invariant_of-self c =
@@ -69,12 +74,18 @@ invariant_of-self c =
     let rows = c.change.ensures.rows c.self.inside.rising in
     let up = are_rows places as_entry c.change.new.rows.items after rows in
     let taken = ap (λ (b : Bookings). refusal b c.args.iface c.args.key c.args.now) c.self.view_is ∙ asked d ∙ c.in_ok-sum.ensures.cause in
-    let kept = kept_after (book d) c.self.inside.held.items c.args.iface c.args.key c.args.now c.in_ok-sum.sum c.self.invariant.0 (there d) taken (c.in_ok-sum.ensures.sum ∙ ap (λ n. n + charge c.args.now) (others d)) (omega (arith, size_rows places as_entry c.change.new.rows.items up after (table_is places as_entry c.change.new.rows.items up after rows), c.change.ensures.few)) in
-    (subst (λ (t : Entries). IsKept (record { ifaces = (book d).ifaces; entries = t }) (slice_set c.self.inside.held.items c.args.iface c.in_ok-sum.sum)) (sym (table_is places as_entry c.change.new.rows.items _ after rows)) kept, c.change.ensures.capacity)
+    let kept = kept_after (book d) c.self.inside.held.items c.args.iface c.args.key c.args.now c.in_ok-sum.sum c.self.invariant.0 (there d) taken
+    (c.in_ok-sum.ensures.sum ∙ ap (λ n. n + charge c.args.now) (others d)) (omega
+    (arith, size_rows places as_entry c.change.new.rows.items up after (table_is places as_entry c.change.new.rows.items up after rows), c.change.ensures.few)) in (
+      subst (λ (t : Entries). IsKept (record { ifaces = (book d).ifaces; entries = t }) (slice_set c.self.inside.held.items c.args.iface c.in_ok-sum.sum))
+          (sym (table_is places as_entry c.change.new.rows.items _ after rows)) kept,
+      c.change.ensures.capacity,
+    )
 
 pub returns-clause-ok : goal.returns-clause-ok
 returns-clause-ok c =
-    let changed = table_is places as_entry c.change.new.rows.items _ (changed_at (entries_of c.self.inside.rows.items c.self.inside.rising) c.args.iface c.args.key c.args.now) (c.change.ensures.rows c.self.inside.rising) in
+    let changed = table_is places as_entry c.change.new.rows.items _ (changed_at (entries_of c.self.inside.rows.items c.self.inside.rising) c.args.iface c.args.key c.args.now)
+    (c.change.ensures.rows c.self.inside.rising) in
     same_bookings _ _ (ap (λ (b : Bookings). b.ifaces) c.self.view_is) (changed ∙ ap (λ (b : Bookings). changed_at b.entries c.args.iface c.args.key c.args.now) c.self.view_is)
 
 pub returns-clause-cause : goal.returns-clause-cause

@@ -13,13 +13,19 @@ use Rattle.blockade_state.proofs.table.Blockades.age.Goals as goal
 
 pub invariant_of-self-inside : goal.invariant_of-self-inside
 invariant_of-self-inside c =
-    let few = shorter (lives_on c.args.ms) c.self.inside.table.facts in
-    (c.pull_touching.ensures.order.0, (omega (arith, few, c.self.inside.few, ap length (c.pull_touching.ensures.facts ∙ c.advance.ensures.facts)), (c.pull_touching.ensures.dead, (c.pull_touching.ensures.room ∙ c.advance.ensures.room ∙ c.self.inside.room, tt))))
+    let few = shorter (lives_on c.args.ms) c.self.inside.table.facts in (
+      c.pull_touching.ensures.order.0,
+      (
+        omega (arith, few, c.self.inside.few, ap length (c.pull_touching.ensures.facts ∙ c.advance.ensures.facts)),
+        (c.pull_touching.ensures.dead, (c.pull_touching.ensures.room ∙ c.advance.ensures.room ∙ c.self.inside.room, tt)),
+      ),
+    )
 
 pub returns-clause-facts : goal.returns-clause-facts
 returns-clause-facts c =
     let t = facts c.self.inside.table.facts c.self.inside.facts in
-    same_rows _ (changed wall_of (changed (λ k e. lives_on c.args.ms e) t)) (ap (changed_rows wall_of) (ap (each fact_row) (c.pull_touching.ensures.facts ∙ c.advance.ensures.facts) ∙ rows_later wall_key c.args.ms c.self.inside.table.facts))
+    same_rows _ (changed wall_of (changed (λ k e. lives_on c.args.ms e) t)) (ap (changed_rows wall_of)
+    (ap (each fact_row) (c.pull_touching.ensures.facts ∙ c.advance.ensures.facts) ∙ rows_later wall_key c.args.ms c.self.inside.table.facts))
     ∙ lived_on (λ (f : Kept). f.wall) wall_keys c.args.ms t ∙ ap (changed (later c.args.ms)) c.self.view_is
 
 pub returns-clause-touched : goal.returns-clause-touched

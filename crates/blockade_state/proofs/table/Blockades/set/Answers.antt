@@ -11,7 +11,9 @@ use Rattle.blockade_state.proofs.table.Blockades.set.Goals as goal
 pub invariant_of-self-inside : goal.invariant_of-self-inside
 invariant_of-self-inside c =
     let fact : Fact = record { session = c.args.session; target = c.args.target; wall = c.args.wall } in
-    let few = still_few c.self.inside.table.facts c.self.inside.facts c.put.result (c.args.session, c.args.target) (fact, c.args.left) c.self.inside.table.room c.put.new.self.facts c.self.inside.room c.self.inside.few c.put.ensures.full c.put.ensures.ok (on_err c.put.result (ap (λ (t : Kept Fact). t.facts)) c.put.ensures.err) in
+    let few = still_few c.self.inside.table.facts c.self.inside.facts c.put.result (c.args.session, c.args.target)
+    (fact, c.args.left) c.self.inside.table.room c.put.new.self.facts c.self.inside.room c.self.inside.few c.put.ensures.full c.put.ensures.ok
+    (on_err c.put.result (ap (λ (t : Kept Fact). t.facts)) c.put.ensures.err) in
     (c.put.ensures.order.0, (few, (c.put.ensures.dead ∙ c.self.inside.pulled, (c.put.ensures.room ∙ c.self.inside.room, tt))))
 
 pub returns-clause-ok : goal.returns-clause-ok
@@ -29,4 +31,5 @@ returns-clause-full c =
     (refused c.self.inside.table.facts c.self.inside.facts c.put.result k (fact, c.args.left) c.self.inside.table.room c.self.inside.room c.self.inside.few c.put.ensures.full)
 
 pub returns-clause-err : goal.returns-clause-err
-returns-clause-err c = on_err c.put.result (λ same. same_rows _ (changed wall_of (facts c.self.inside.table.facts c.self.inside.facts)) (ap (λ (t : Kept Fact). changed_rows wall_of (each fact_row t.facts)) same) ∙ c.self.view_is) c.put.ensures.err
+returns-clause-err c = on_err c.put.result (λ same. same_rows _ (changed wall_of (facts c.self.inside.table.facts c.self.inside.facts))
+    (ap (λ (t : Kept Fact). changed_rows wall_of (each fact_row t.facts)) same) ∙ c.self.view_is) c.put.ensures.err

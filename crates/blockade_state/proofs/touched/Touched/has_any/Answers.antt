@@ -10,4 +10,5 @@ any_row [] = refl
 any_row (m ∷ marks) = ap (λ b. m.touched || b) (any_row marks)
 
 pub returns : goal.returns
-returns c = c.any_touched.ensures ∙ ap (list_any (λ (m : Mark). m.touched)) c.as_slice.ensures.value ∙ any_row c.self.inside.list.items ∙ ap (λ (m : Marks). list_any (λ (b : Bool). b) (values m)) c.self.view_is
+returns c = c.any_touched.ensures ∙ ap (list_any (λ (m : Mark). m.touched)) c.as_slice.ensures.value ∙ any_row c.self.inside.list.items
+    ∙ ap (λ (m : Marks). list_any (λ (b : Bool). b) (values m)) c.self.view_is

@@ -16,10 +16,12 @@ mark c = record { session = c.args.session; touched = true }
 back : (c : After-deref_mut) → refill (length c.self.inside.list.items) c.self.inside.list.items (set c.deref_mut.result.now c.in-Ok.at (mark c)) ≡ set c.self.inside.list.items c.in-Ok.at (mark c)
 back c = written_back c.self.inside.list.items c.deref_mut.result.now c.in-Ok.at (mark c) c.deref_mut.ensures.value
 
-over : (c : After-deref_mut) → each mark_row (refill (length c.self.inside.list.items) c.self.inside.list.items (set c.deref_mut.result.now c.in-Ok.at (mark c))) ≡ (put_in c.args.self.now c.args.session true).rows
+over : (c : After-deref_mut) → each mark_row (refill (length c.self.inside.list.items) c.self.inside.list.items (set c.deref_mut.result.now c.in-Ok.at (mark c)))
+    ≡ (put_in c.args.self.now c.args.session true).rows
 over c =
     ap (each mark_row) (back c)
-    ∙ put_over sessions mark_row c.self.inside.list.items c.self.inside.rising c.args.self.now c.self.view_is c.args.session true (mark c) c.in-Ok.at refl (rw c.as_slice.ensures.value at c.in-Ok.ensures.there)
+    ∙ put_over sessions mark_row c.self.inside.list.items c.self.inside.rising c.args.self.now c.self.view_is c.args.session true (mark c) c.in-Ok.at refl
+    (rw c.as_slice.ensures.value at c.in-Ok.ensures.there)
 
 pub invariant_of-self-inside : goal.invariant_of-self-inside
 invariant_of-self-inside c =
@@ -38,4 +40,5 @@ returns-in-Ok c =
 pub returns-in_default : goal.returns-in_default
 returns-in_default c =
     touched_none c.args.self.now c.args.session
-    (get_absent sessions mark_row c.self.inside.list.items c.self.inside.rising c.args.self.now c.self.view_is c.args.session c.in_default.field-0 (rw c.as_slice.ensures.value at c.in_default.ensures.absent))
+    (get_absent sessions mark_row c.self.inside.list.items c.self.inside.rising c.args.self.now c.self.view_is c.args.session c.in_default.field-0
+    (rw c.as_slice.ensures.value at c.in_default.ensures.absent))

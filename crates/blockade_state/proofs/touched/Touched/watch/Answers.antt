@@ -17,10 +17,12 @@ mark c = record { session = c.args.session; touched = false }
 back : (c : After-deref_mut) → refill (length c.self.inside.list.items) c.self.inside.list.items (set c.deref_mut.result.now c.in-Ok.at (mark c)) ≡ set c.self.inside.list.items c.in-Ok.at (mark c)
 back c = written_back c.self.inside.list.items c.deref_mut.result.now c.in-Ok.at (mark c) c.deref_mut.ensures.value
 
-over : (c : After-deref_mut) → each mark_row (refill (length c.self.inside.list.items) c.self.inside.list.items (set c.deref_mut.result.now c.in-Ok.at (mark c))) ≡ (put_in c.args.self.now c.args.session false).rows
+over : (c : After-deref_mut) → each mark_row (refill (length c.self.inside.list.items) c.self.inside.list.items (set c.deref_mut.result.now c.in-Ok.at (mark c)))
+    ≡ (put_in c.args.self.now c.args.session false).rows
 over c =
     ap (each mark_row) (back c)
-    ∙ put_over sessions mark_row c.self.inside.list.items c.self.inside.rising c.args.self.now c.self.view_is c.args.session false (mark c) c.in-Ok.at refl (rw c.as_slice-marks.ensures.value at c.in-Ok.ensures.there)
+    ∙ put_over sessions mark_row c.self.inside.list.items c.self.inside.rising c.args.self.now c.self.view_is c.args.session false (mark c) c.in-Ok.at refl
+    (rw c.as_slice-marks.ensures.value at c.in-Ok.ensures.there)
 
 -- there is room for a new one
 room : (c : In-Err) → length c.self.inside.list.items < 64
@@ -38,7 +40,8 @@ room_behind c =
     let more = size-put_new sessions mark_row c.self.inside.list.items c.self.inside.rising c.args.self.now c.self.view_is c.args.session false (length c.self.inside.list.items) (goes_behind c) in
     omega (arith, more, c.requires, size_rows sessions mark_row c.self.inside.list.items c.self.inside.rising c.args.self.now c.self.view_is)
 
-behind_all : (c : Then-is_behind) (new : List Mark) → new ≡ c.self.inside.list.items ++ (record { session = c.args.session; touched = false }) ∷ [] → each mark_row new ≡ (put_in c.args.self.now c.args.session false).rows
+behind_all : (c : Then-is_behind) (new : List Mark) → new ≡ c.self.inside.list.items ++ (record { session = c.args.session; touched = false }) ∷ []
+    → each mark_row new ≡ (put_in c.args.self.now c.args.session false).rows
 behind_all c new is =
     let xs = c.self.inside.list.items in
     let row : Mark = record { session = c.args.session; touched = false } in
@@ -72,7 +75,9 @@ invariant_of-self-inside-in-Err c =
     let d = (goal.at.invariant_of-self-inside-in-Err c).In-Err in
     let row : Mark = record { session = c.args.session; touched = false } in
     let lt = room d in
-    let new = ap (each mark_row) c.insert.ensures.items ∙ put_new sessions mark_row c.self.inside.list.items c.self.inside.rising c.args.self.now c.self.view_is c.args.session false row c.in-Err.at refl (rw c.as_slice-marks.ensures.value at c.in-Err.ensures.absent) in
+    let new = ap (each mark_row) c.insert.ensures.items
+    ∙ put_new sessions mark_row c.self.inside.list.items c.self.inside.rising c.args.self.now c.self.view_is c.args.session false row c.in-Err.at refl
+    (rw c.as_slice-marks.ensures.value at c.in-Err.ensures.absent) in
     (are_rows sessions mark_row _ (put_in c.args.self.now c.args.session false) new, (omega (arith, lt, c.insert.ensures.len), tt))
 
 pub returns-in-Ok : goal.returns-in-Ok
@@ -82,4 +87,5 @@ pub returns-in-Err : goal.returns-in-Err
 returns-in-Err c =
     let row : Mark = record { session = c.args.session; touched = false } in
     same_rows _ (put_in c.args.self.now c.args.session false)
-    (ap (each mark_row) c.insert.ensures.items ∙ put_new sessions mark_row c.self.inside.list.items c.self.inside.rising c.args.self.now c.self.view_is c.args.session false row c.in-Err.at refl (rw c.as_slice-marks.ensures.value at c.in-Err.ensures.absent))
+    (ap (each mark_row) c.insert.ensures.items ∙ put_new sessions mark_row c.self.inside.list.items c.self.inside.rising c.args.self.now c.self.view_is c.args.session false row c.in-Err.at refl
+    (rw c.as_slice-marks.ensures.value at c.in-Err.ensures.absent))

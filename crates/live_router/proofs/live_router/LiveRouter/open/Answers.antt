@@ -2,7 +2,7 @@
 use Rattle.std.specs.Prelude.{ℕ, ◌≤◌}
 use Rattle.std.proofs.Common.{◌∙◌, ap, sym, subst}
 use Rattle.router_rules.specs.NodeConfig.{NodeConfig}
-use Rattle.node_facts.specs.Routes.{AreRoutes}
+use Rattle.router_state.specs.Routes.{AreRoutes}
 use Rattle.live_router.proofs.Living.{lives_first}
 use Rattle.live_router.proofs.live_router.LiveRouter.open.Goals as goal
 

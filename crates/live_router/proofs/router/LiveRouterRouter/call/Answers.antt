@@ -1,8 +1,8 @@
 use Rattle.std.proofs.Common.{subst}
 use Rattle.router_rules.specs.Inputs.{Call, DropAs, QuitAll, SendAs, WantAs}
 use Rattle.router_rules.specs.Steps.{IsFitCall}
-use Rattle.bounded_nodes.specs.Bounded.{IsBounded}
-use Rattle.bounded_nodes.proofs.Doing.{sends_proper, stays_bounded}
+use Rattle.live_router.specs.Bounded.{IsBounded}
+use Rattle.live_router.proofs.Doing.{sends_proper, stays_bounded}
 use Rattle.network_model.specs.Happenings.{call_of}
 use Rattle.network_model.specs.declared.local_call.LocalCall.{LocalCall}
 use Rattle.live_router.proofs.Living.{lives_on}
@@ -12,7 +12,8 @@ pub invariant_of-self : goal.invariant_of-self
 invariant_of-self g c =
     let fit = subst (λ (x : LocalCall). IsFitCall (call_of x)) c.in-Send.is c.requires in
     lives_on c.self.inside.node c.local_send.new.self c.self.inside.spare.items c.self.invariant c.local_send.ensures.place
-    (stays_bounded c.self.inside.node c.local_send.new.self 0 (Call (SendAs c.in-Send.session c.in-Send.sender c.in-Send.flow)) c.self.invariant.bounded c.local_send.ensures.place fit (c.local_send.ensures.facts 0))
+    (stays_bounded c.self.inside.node c.local_send.new.self 0 (Call (SendAs c.in-Send.session c.in-Send.sender c.in-Send.flow)) c.self.invariant.bounded c.local_send.ensures.place fit
+    (c.local_send.ensures.facts 0))
 
 pub returns-in-Send-clause-fit : goal.returns-in-Send-clause-fit
 returns-in-Send-clause-fit g c = λ clock. sends_proper c.args.self.now clock (Call (call_of c.args.call.now)) (subst IsBounded c.self.view_is c.self.invariant.bounded) c.requires
@@ -30,7 +31,8 @@ pub invariant_of-self-in-Want : goal.invariant_of-self-in-Want
 invariant_of-self-in-Want g c =
     let fit = subst (λ (x : LocalCall). IsFitCall (call_of x)) c.in-Want.is c.requires in
     lives_on c.self.inside.node c.local_want.new.self c.self.inside.spare.items c.self.invariant c.local_want.ensures.place
-    (stays_bounded c.self.inside.node c.local_want.new.self 0 (Call (WantAs c.in-Want.session c.in-Want.style c.in-Want.senders c.in-Want.flow c.in-Want.confirm)) c.self.invariant.bounded c.local_want.ensures.place fit (c.local_want.ensures.facts 0))
+    (stays_bounded c.self.inside.node c.local_want.new.self 0
+    (Call (WantAs c.in-Want.session c.in-Want.style c.in-Want.senders c.in-Want.flow c.in-Want.confirm)) c.self.invariant.bounded c.local_want.ensures.place fit (c.local_want.ensures.facts 0))
 
 pub returns-in-Want-clause-fit : goal.returns-in-Want-clause-fit
 returns-in-Want-clause-fit g c = λ clock. sends_proper c.args.self.now clock (Call (call_of c.args.call.now)) (subst IsBounded c.self.view_is c.self.invariant.bounded) c.requires

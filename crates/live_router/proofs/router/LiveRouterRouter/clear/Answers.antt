@@ -1,5 +1,5 @@
 use Rattle.router_rules.specs.Inputs.{Clear}
-use Rattle.bounded_nodes.proofs.Doing.{stays_bounded}
+use Rattle.live_router.proofs.Doing.{stays_bounded}
 use Rattle.live_router.proofs.Living.{lives_on}
 use Rattle.live_router.proofs.router.LiveRouterRouter.clear.Goals as goal
 

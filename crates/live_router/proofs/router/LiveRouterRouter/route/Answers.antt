@@ -3,11 +3,11 @@ use Rattle.router_rules.specs.Inputs.{Moved}
 use Rattle.router_rules.specs.NodeConfig.{NodeConfig}
 use Rattle.router_rules.specs.Rule.{facts_after}
 use Rattle.router_rules.specs.declared.route.Route.{Route}
-use Rattle.net_replay.specs.Routed.{trees_in}
-use Rattle.node_facts.specs.Routes.{AreRoutes}
-use Rattle.node_facts.specs.State.{State, facts_at}
-use Rattle.bounded_nodes.specs.Bounded.{IsBounded}
-use Rattle.bounded_nodes.proofs.Doing.{an_input_keeps_bounds, bounded_nodes_send_proper_messages, rerouted_node}
+use Rattle.network_replay.specs.Routed.{trees_in}
+use Rattle.router_state.specs.Routes.{AreRoutes}
+use Rattle.router_state.specs.State.{State, facts_at}
+use Rattle.live_router.specs.Bounded.{IsBounded}
+use Rattle.live_router.proofs.Doing.{an_input_keeps_bounds, bounded_nodes_send_proper_messages, rerouted_node}
 use Rattle.live_router.proofs.Living.{lives_moved, same_order}
 use Rattle.live_router.proofs.router.LiveRouterRouter.route.Goals as goal
 

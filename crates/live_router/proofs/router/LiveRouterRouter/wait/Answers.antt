@@ -1,8 +1,8 @@
 use Rattle.std.proofs.Common.{◌≤◌, ◌*◌, sym, subst}
 use Rattle.router_rules.specs.Inputs.{Wait}
-use Rattle.node_facts.specs.State.{State}
-use Rattle.bounded_nodes.specs.Bounded.{IsBounded}
-use Rattle.bounded_nodes.proofs.Doing.{sends_proper, stays_bounded}
+use Rattle.router_state.specs.State.{State}
+use Rattle.live_router.specs.Bounded.{IsBounded}
+use Rattle.live_router.proofs.Doing.{sends_proper, stays_bounded}
 use Rattle.live_router.proofs.Living.{lives_on}
 use Rattle.live_router.proofs.router.LiveRouterRouter.wait.Goals as goal
 

@@ -26,15 +26,19 @@ invariant_of-self-inside c =
     let row : Countdown = record { session = c.args.session; left = c.args.left } in
     let goes = rw c.as_slice.ensures.value at c.in-Err.ensures.absent in
     let lt = c.requires (absent ((goal.at.invariant_of-self-inside c).In-Err)) in
-    let new = ap (each count_row) c.insert_row.ensures.rows ∙ put_new sessions count_row c.self.inside.rows.items c.self.inside.rising c.args.self.now c.self.view_is c.args.session c.args.left row c.in-Err.at refl goes in
-    let more = size-put_new sessions count_row c.self.inside.rows.items c.self.inside.rising c.args.self.now c.self.view_is c.args.session c.args.left c.in-Err.at goes in
-    (are_rows sessions count_row c.insert_row.new.rows.items (put_in c.args.self.now c.args.session c.args.left) new, (omega (arith, ap length new, length-map c.insert_row.new.rows.items count_row, more, lt), (omega (arith, c.self.inside.room, c.insert_row.ensures.capacity), tt)))
+    let new = ap (each count_row) c.insert_row.ensures.rows
+    ∙ put_new sessions count_row c.self.inside.rows.items c.self.inside.rising c.args.self.now c.self.view_is c.args.session c.args.left row c.in-Err.at refl goes in
+    let more = size-put_new sessions count_row c.self.inside.rows.items c.self.inside.rising c.args.self.now c.self.view_is c.args.session c.args.left c.in-Err.at goes in (
+      are_rows sessions count_row c.insert_row.new.rows.items (put_in c.args.self.now c.args.session c.args.left) new,
+      (omega (arith, ap length new, length-map c.insert_row.new.rows.items count_row, more, lt), (omega (arith, c.self.inside.room, c.insert_row.ensures.capacity), tt)),
+    )
 
 pub returns-in-Err : goal.returns-in-Err
 returns-in-Err c =
     let row : Countdown = record { session = c.args.session; left = c.args.left } in
     let goes = rw c.as_slice.ensures.value at c.in-Err.ensures.absent in
-    same_rows _ (put_in c.args.self.now c.args.session c.args.left) (ap (each count_row) c.insert_row.ensures.rows ∙ put_new sessions count_row c.self.inside.rows.items c.self.inside.rising c.args.self.now c.self.view_is c.args.session c.args.left row c.in-Err.at refl goes)
+    same_rows _ (put_in c.args.self.now c.args.session c.args.left) (ap (each count_row) c.insert_row.ensures.rows
+    ∙ put_new sessions count_row c.self.inside.rows.items c.self.inside.rising c.args.self.now c.self.view_is c.args.session c.args.left row c.in-Err.at refl goes)
     ∙ ap (λ b. started b c.args.session c.args.left c.args.self.now) (sym (absent ((goal.at.returns-in-Err c).In-Err)))
 
 pub returns-in_default : goal.returns-in_default

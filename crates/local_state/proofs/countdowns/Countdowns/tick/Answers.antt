@@ -18,8 +18,10 @@ rows_after c =
 pub invariant_of-self-inside : goal.invariant_of-self-inside
 invariant_of-self-inside c =
     let d = (goal.at.invariant_of-self-inside c).After-tick_all in
-    let few = ap length c.tick_all.ensures.rows ∙ length-map c.self.inside.rows.items (ticked_row c.args.quarter c.args.ms c.args.word) in
-    (are_rows sessions count_row c.tick_all.new.rows.items (changed (later_due c.args.quarter c.args.ms c.args.word) c.args.self.now) (rows_after d), (omega (arith, few, c.self.inside.few), (omega (arith, c.self.inside.room, c.tick_all.ensures.capacity), tt)))
+    let few = ap length c.tick_all.ensures.rows ∙ length-map c.self.inside.rows.items (ticked_row c.args.quarter c.args.ms c.args.word) in (
+      are_rows sessions count_row c.tick_all.new.rows.items (changed (later_due c.args.quarter c.args.ms c.args.word) c.args.self.now) (rows_after d),
+      (omega (arith, few, c.self.inside.few), (omega (arith, c.self.inside.room, c.tick_all.ensures.capacity), tt)),
+    )
 
 pub returns-clause-left : goal.returns-clause-left
 returns-clause-left c =
@@ -30,4 +32,5 @@ pub returns-clause-fired : goal.returns-clause-fired
 returns-clause-fired c =
     let up = subst (λ xs. AreRows sessions count_row xs) (sym c.as_slice.ensures.value) c.self.inside.rising in
     c.fired_of-fired.ensures up
-    ∙ ap (changed (is_fired c.args.ms)) (table_is sessions count_row c.as_slice.result.now up c.args.self.now (ap (each count_row) c.as_slice.ensures.value ∙ rows_are sessions count_row c.self.inside.rows.items c.self.inside.rising c.args.self.now c.self.view_is))
+    ∙ ap (changed (is_fired c.args.ms)) (table_is sessions count_row c.as_slice.result.now up c.args.self.now
+    (ap (each count_row) c.as_slice.ensures.value ∙ rows_are sessions count_row c.self.inside.rows.items c.self.inside.rising c.args.self.now c.self.view_is))

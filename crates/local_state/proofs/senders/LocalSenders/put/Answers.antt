@@ -29,18 +29,22 @@ counted c = c.self.inside.counted ∙ ap (λ (t : Senders). size (sessions_in se
 there : (c : In-Ok) → is_some (get c.args.self.now (c.args.session, c.args.sender)) ≡ true
 there c =
     let row : LocalSender = record { session = c.args.session; sender = c.args.sender; tspec = c.args.tspec } in
-    ap is_some (get_found sender_keys sender_row c.self.inside.rows.items c.self.inside.rising c.args.self.now c.self.view_is (c.args.session, c.args.sender) c.in-Ok.at row (rw c.as_slice.ensures.value at c.in-Ok.ensures.there))
+    ap is_some (get_found sender_keys sender_row c.self.inside.rows.items c.self.inside.rising c.args.self.now c.self.view_is (c.args.session, c.args.sender) c.in-Ok.at row
+    (rw c.as_slice.ensures.value at c.in-Ok.ensures.there))
 
-over : (c : In-Ok) → each sender_row (set c.self.inside.rows.items c.in-Ok.at (record { session = c.args.session; sender = c.args.sender; tspec = c.args.tspec })) ≡ (put_in c.args.self.now (c.args.session, c.args.sender) c.args.tspec).rows
+over : (c : In-Ok) → each sender_row (set c.self.inside.rows.items c.in-Ok.at (record { session = c.args.session; sender = c.args.sender; tspec = c.args.tspec }))
+    ≡ (put_in c.args.self.now (c.args.session, c.args.sender) c.args.tspec).rows
 over c =
     let row : LocalSender = record { session = c.args.session; sender = c.args.sender; tspec = c.args.tspec } in
-    put_over sender_keys sender_row c.self.inside.rows.items c.self.inside.rising c.args.self.now c.self.view_is (c.args.session, c.args.sender) c.args.tspec row c.in-Ok.at refl (rw c.as_slice.ensures.value at c.in-Ok.ensures.there)
+    put_over sender_keys sender_row c.self.inside.rows.items c.self.inside.rising c.args.self.now c.self.view_is (c.args.session, c.args.sender) c.args.tspec row c.in-Ok.at refl
+    (rw c.as_slice.ensures.value at c.in-Ok.ensures.there)
 
 pub invariant_of-self-inside : goal.invariant_of-self-inside
 invariant_of-self-inside c =
     let d = (goal.at.invariant_of-self-inside c).In-Ok in
     let s = (goal.at.invariant_of-self-inside c).After-self in
-    let h = held_rows senders sender_row _ (put_in c.args.self.now (c.args.session, c.args.sender) c.args.tspec) c.self.inside.held (over d) (over_within senders c.args.self.now (within s) c.args.session c.args.sender c.args.tspec (there d))
+    let h = held_rows senders sender_row _ (put_in c.args.self.now (c.args.session, c.args.sender) c.args.tspec) c.self.inside.held (over d)
+    (over_within senders c.args.self.now (within s) c.args.session c.args.sender c.args.tspec (there d))
     (counted s ∙ sym (over_count senders c.args.self.now (within s) c.args.session c.args.sender c.args.tspec (there d))) in
     (h.0, (h.1, (h.2, (c.self.inside.room, tt))))
 
@@ -50,14 +54,16 @@ returns-in-Ok-clause-ok c = same_rows _ (put_in c.args.self.now (c.args.session,
 pub returns-in-Ok-clause-full : goal.returns-in-Ok-clause-full
 returns-in-Ok-clause-full c = (
   λ e. cc,
-  λ out. absurd (both_ways _ out (room_over senders c.args.self.now (within ((goal.at.returns-in-Ok-clause-full c).After-self)) c.args.session c.args.sender c.args.tspec (there ((goal.at.returns-in-Ok-clause-full c).In-Ok)))),
+  λ out. absurd (both_ways _ out (room_over senders c.args.self.now (within ((goal.at.returns-in-Ok-clause-full c).After-self)) c.args.session c.args.sender c.args.tspec
+      (there ((goal.at.returns-in-Ok-clause-full c).In-Ok)))),
 )
 
 -- ---- a new one
 among : (c : After-has_room) → length c.of_session-among.result.now ≡ size (under sessions senders c.args.self.now c.args.session)
 among c =
     sym (length-map c.of_session-among.result.now tspec_row) ∙ ap length c.of_session-among.ensures
-    ∙ ap (λ es. length (rows_under sessions senders c.args.session es)) (ap (each sender_row) c.as_slice-in-Err.ensures.value ∙ rows_are sender_keys sender_row c.self.inside.rows.items c.self.inside.rising c.args.self.now c.self.view_is)
+    ∙ ap (λ es. length (rows_under sessions senders c.args.session es)) (ap (each sender_row) c.as_slice-in-Err.ensures.value
+    ∙ rows_are sender_keys sender_row c.self.inside.rows.items c.self.inside.rising c.args.self.now c.self.view_is)
 
 inner : (c : After-has_room) → IsWithinSessionLimits senders c.args.self.now
 inner c = subst (λ (t : Senders). IsWithinSessionLimits senders t) c.self.view_is c.self.inside.within
@@ -67,7 +73,8 @@ number c = c.self.inside.counted ∙ ap (λ (t : Senders). size (sessions_in sen
 
 room : (c : After-has_room) → has_room_at senders (put_in c.args.self.now (c.args.session, c.args.sender) c.args.tspec) c.args.session ≡ c.has_room.result
 room c =
-    let absent = ap is_some (get_absent sender_keys sender_row c.self.inside.rows.items c.self.inside.rising c.args.self.now c.self.view_is (c.args.session, c.args.sender) c.in-Err.at (rw c.as_slice.ensures.value at c.in-Err.ensures.absent)) in
+    let absent = ap is_some (get_absent sender_keys sender_row c.self.inside.rows.items c.self.inside.rising c.args.self.now c.self.view_is (c.args.session, c.args.sender) c.in-Err.at
+    (rw c.as_slice.ensures.value at c.in-Err.ensures.absent)) in
     new_room senders c.args.self.now (inner c) c.args.session c.args.sender c.args.tspec c.self.inside.held (length c.of_session-among.result.now) absent (number c) (among c) ∙ sym c.has_room.ensures
 
 pub returns-then-not-has_room-clause-full : goal.returns-then-not-has_room-clause-full
@@ -82,7 +89,8 @@ insert_row-requires-clause-room c =
     let k : SenderKey = (c.args.session, c.args.sender) in
     let w = fits d c.if-not-has_room.false in
     let few = all_at_most senders 32 (put_in c.args.self.now k c.args.tspec) w.all w.one in
-    let more = size-put_new sender_keys sender_row c.self.inside.rows.items c.self.inside.rising c.args.self.now c.self.view_is k c.args.tspec c.in-Err.at (rw c.as_slice.ensures.value at c.in-Err.ensures.absent) in
+    let more = size-put_new sender_keys sender_row c.self.inside.rows.items c.self.inside.rising c.args.self.now c.self.view_is k c.args.tspec c.in-Err.at
+    (rw c.as_slice.ensures.value at c.in-Err.ensures.absent) in
     let n = size_rows sender_keys sender_row c.self.inside.rows.items c.self.inside.rising c.args.self.now c.self.view_is in
     omega (arith, few, more, n, c.self.inside.room)
 
@@ -91,16 +99,20 @@ invariant_of-self-inside-in-Err c =
     let d = (goal.at.invariant_of-self-inside-in-Err c).After-has_room in
     let k : SenderKey = (c.args.session, c.args.sender) in
     let row : LocalSender = record { session = c.args.session; sender = c.args.sender; tspec = c.args.tspec } in
-    let new = ap (each sender_row) c.insert_row.ensures.rows ∙ put_new sender_keys sender_row c.self.inside.rows.items c.self.inside.rising c.args.self.now c.self.view_is k c.args.tspec row c.in-Err.at refl (rw c.as_slice.ensures.value at c.in-Err.ensures.absent) in
+    let new = ap (each sender_row) c.insert_row.ensures.rows
+    ∙ put_new sender_keys sender_row c.self.inside.rows.items c.self.inside.rising c.args.self.now c.self.view_is k c.args.tspec row c.in-Err.at refl
+    (rw c.as_slice.ensures.value at c.in-Err.ensures.absent) in
     let h = held_rows senders sender_row c.insert_row.new.rows.items (put_in c.args.self.now k c.args.tspec) c.with_session-self-inside.result new (fits d c.if-not-has_room.false)
-    (c.with_session-self-inside.ensures ∙ new_count senders c.args.self.now (inner d) c.args.session c.args.sender c.args.tspec c.self.inside.held (length c.of_session-among.result.now) (number d) (among d)) in
+    (c.with_session-self-inside.ensures ∙ new_count senders c.args.self.now (inner d) c.args.session c.args.sender c.args.tspec c.self.inside.held (length c.of_session-among.result.now) (number d)
+    (among d)) in
     (h.0, (h.1, (h.2, (omega (arith, c.self.inside.room, c.insert_row.ensures.capacity), tt))))
 
 pub returns-else-not-has_room-clause-ok : goal.returns-else-not-has_room-clause-ok
 returns-else-not-has_room-clause-ok c =
     let row : LocalSender = record { session = c.args.session; sender = c.args.sender; tspec = c.args.tspec } in
     same_rows _ (put_in c.args.self.now (c.args.session, c.args.sender) c.args.tspec)
-    (ap (each sender_row) c.insert_row.ensures.rows ∙ put_new sender_keys sender_row c.self.inside.rows.items c.self.inside.rising c.args.self.now c.self.view_is (c.args.session, c.args.sender) c.args.tspec row c.in-Err.at refl (rw c.as_slice.ensures.value at c.in-Err.ensures.absent))
+    (ap (each sender_row) c.insert_row.ensures.rows ∙ put_new sender_keys sender_row c.self.inside.rows.items c.self.inside.rising c.args.self.now c.self.view_is
+    (c.args.session, c.args.sender) c.args.tspec row c.in-Err.at refl (rw c.as_slice.ensures.value at c.in-Err.ensures.absent))
 
 pub returns-else-not-has_room-clause-full : goal.returns-else-not-has_room-clause-full
 returns-else-not-has_room-clause-full c = (

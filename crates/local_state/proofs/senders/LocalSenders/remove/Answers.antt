@@ -29,23 +29,29 @@ counted c = c.self.inside.counted ∙ ap (λ (t : Senders). size (sessions_in se
 less : (c : After-remove) → each sender_row c.remove.new.self.items ≡ (without c.args.self.now (c.args.session, c.args.sender)).rows
 less c =
     ap (each sender_row) c.remove.ensures.items
-    ∙ rows_taken sender_keys sender_row c.self.inside.rows.items c.self.inside.rising c.args.self.now c.self.view_is (c.args.session, c.args.sender) c.in-Ok.at (rw c.as_slice.ensures.value at c.in-Ok.ensures.there)
+    ∙ rows_taken sender_keys sender_row c.self.inside.rows.items c.self.inside.rising c.args.self.now c.self.view_is (c.args.session, c.args.sender) c.in-Ok.at
+    (rw c.as_slice.ensures.value at c.in-Ok.ensures.there)
 
 -- what was there
 was : (c : After-remove) → (v : TokenBucket) × (get c.args.self.now (c.args.session, c.args.sender) ≡ Some v)
 was c =
-    let row : LocalSender = c.remove.result in
-    (_, get_found sender_keys sender_row c.self.inside.rows.items c.self.inside.rising c.args.self.now c.self.view_is (c.args.session, c.args.sender) c.in-Ok.at row (rw c.as_slice.ensures.value at c.in-Ok.ensures.there))
+    let row : LocalSender = c.remove.result in (
+      _,
+      get_found sender_keys sender_row c.self.inside.rows.items c.self.inside.rising c.args.self.now c.self.view_is (c.args.session, c.args.sender) c.in-Ok.at row
+          (rw c.as_slice.ensures.value at c.in-Ok.ensures.there),
+    )
 
 pub returns-in_default-clause-gone : goal.returns-in_default-clause-gone
 returns-in_default-clause-gone c =
     sym (without_absent sender_keys c.args.self.now (c.args.session, c.args.sender)
-    (get_absent sender_keys sender_row c.self.inside.rows.items c.self.inside.rising c.args.self.now c.self.view_is (c.args.session, c.args.sender) c.in_default.field-0 (rw c.as_slice.ensures.value at c.in_default.ensures.absent)))
+    (get_absent sender_keys sender_row c.self.inside.rows.items c.self.inside.rising c.args.self.now c.self.view_is (c.args.session, c.args.sender) c.in_default.field-0
+    (rw c.as_slice.ensures.value at c.in_default.ensures.absent)))
 
 pub of_session-among-requires : goal.of_session-among-requires
 of_session-among-requires c =
     let d = (goal.at.of_session-among-requires c).After-remove in
-    subst (λ xs. AreRows sender_keys sender_row xs) (sym c.as_slice-2.ensures.value) (are_rows sender_keys sender_row c.remove.new.self.items (without c.args.self.now (c.args.session, c.args.sender)) (less d))
+    subst (λ xs. AreRows sender_keys sender_row xs) (sym c.as_slice-2.ensures.value) (are_rows sender_keys sender_row c.remove.new.self.items (without c.args.self.now (c.args.session, c.args.sender))
+    (less d))
 
 pub without_session-self-inside-requires : goal.without_session-self-inside-requires
 without_session-self-inside-requires c =
@@ -61,8 +67,10 @@ invariant_of-self-inside c =
     let m = c.args.self.now in
     let v = was d in
     let among : length c.of_session-among.result.now ≡ size (under sessions senders (without m (c.args.session, c.args.sender)) c.args.session) =
-    sym (length-map c.of_session-among.result.now tspec_row) ∙ ap length c.of_session-among.ensures ∙ ap (λ es. length (rows_under sessions senders c.args.session es)) (ap (each sender_row) c.as_slice-2.ensures.value ∙ less d) in
-    let h = held_rows senders sender_row c.remove.new.self.items (without m (c.args.session, c.args.sender)) c.without_session-self-inside.result (less d) (less_within senders m (within s) c.args.session c.args.sender)
+    sym (length-map c.of_session-among.result.now tspec_row) ∙ ap length c.of_session-among.ensures
+    ∙ ap (λ es. length (rows_under sessions senders c.args.session es)) (ap (each sender_row) c.as_slice-2.ensures.value ∙ less d) in
+    let h = held_rows senders sender_row c.remove.new.self.items (without m (c.args.session, c.args.sender)) c.without_session-self-inside.result (less d)
+    (less_within senders m (within s) c.args.session c.args.sender)
     (c.without_session-self-inside.ensures ∙ less_count senders m (within s) c.args.session c.args.sender v.0 c.self.inside.held (length c.of_session-among.result.now) v.1 (counted s) among) in
     (h.0, (h.1, (h.2, (omega (arith, c.self.inside.room, c.remove.ensures.capacity), tt))))
 

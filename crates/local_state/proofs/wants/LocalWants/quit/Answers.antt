@@ -16,7 +16,8 @@ use Rattle.local_state.proofs.wants.LocalWants.quit.Goals.{After-of_session-amon
 among : (c : After-of_session-among) → length c.of_session-among.result.now ≡ size (under sessions units c.args.self.now c.args.session)
 among c =
     sym (length-map c.of_session-among.result.now asked_row) ∙ ap length c.of_session-among.ensures
-    ∙ ap (λ es. length (rows_under sessions units c.args.session es)) (ap (each want_row) c.as_slice.ensures.value ∙ rows_are want_keys want_row c.self.inside.rows.items c.self.inside.rising c.args.self.now c.self.view_is)
+    ∙ ap (λ es. length (rows_under sessions units c.args.session es)) (ap (each want_row) c.as_slice.ensures.value
+    ∙ rows_are want_keys want_row c.self.inside.rows.items c.self.inside.rising c.args.self.now c.self.view_is)
 
 number : (c : After-of_session-among) → c.self.inside.held ≡ size (sessions_in units c.args.self.now)
 number c = c.self.inside.counted ∙ ap (λ (t : Wants). size (sessions_in units t)) c.self.view_is

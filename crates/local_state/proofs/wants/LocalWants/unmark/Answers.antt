@@ -15,10 +15,12 @@ use Rattle.local_state.proofs.wants.LocalWants.unmark.Goals.{After-index_mut}
 -- the want as it was, and without its mark
 found : (c : After-index_mut) → get c.args.self.now (c.args.session, c.args.unit) ≡ Some (want_of c.index_mut.result.now)
 found c =
-    get_found want_keys want_row c.self.inside.rows.items c.self.inside.rising c.args.self.now c.self.view_is (c.args.session, c.args.unit) c.in-Ok.at c.index_mut.result.now (rw c.as_slice.ensures.value at c.in-Ok.ensures.there)
+    get_found want_keys want_row c.self.inside.rows.items c.self.inside.rising c.args.self.now c.self.view_is (c.args.session, c.args.unit) c.in-Ok.at c.index_mut.result.now
+    (rw c.as_slice.ensures.value at c.in-Ok.ensures.there)
     ∙ ap (λ (z : LocalWant). Some (want_of z)) (sym c.index_mut.ensures.value)
 
-over : (c : After-index_mut) → each want_row (set c.self.inside.rows.items c.in-Ok.at (record c.index_mut.result.now { confirm = false })) ≡ (put_in c.args.self.now (c.args.session, c.args.unit) (record (want_of c.index_mut.result.now) { confirm = false })).rows
+over : (c : After-index_mut) → each want_row (set c.self.inside.rows.items c.in-Ok.at (record c.index_mut.result.now { confirm = false }))
+    ≡ (put_in c.args.self.now (c.args.session, c.args.unit) (record (want_of c.index_mut.result.now) { confirm = false })).rows
 over c =
     let x = c.index_mut.result.now in
     let k : WantKey = (c.args.session, c.args.unit) in
@@ -35,7 +37,8 @@ invariant_of-self-inside c =
     let within = subst (λ (t : Wants). IsWithinSessionLimits units t) c.self.view_is c.self.inside.within in
     let number = c.self.inside.counted ∙ ap (λ (t : Wants). size (sessions_in units t)) c.self.view_is in
     let there = ap is_some (found d) in
-    let h = held_rows units want_row _ (put_in m (c.args.session, c.args.unit) unmarked) c.self.inside.held (over d) (over_within units m within c.args.session c.args.unit unmarked there) (number ∙ sym (over_count units m within c.args.session c.args.unit unmarked there)) in
+    let h = held_rows units want_row _ (put_in m (c.args.session, c.args.unit) unmarked) c.self.inside.held (over d) (over_within units m within c.args.session c.args.unit unmarked there)
+    (number ∙ sym (over_count units m within c.args.session c.args.unit unmarked there)) in
     (h.0, (h.1, (h.2, (c.self.inside.room, tt))))
 
 pub returns-in-Ok : goal.returns-in-Ok
@@ -47,4 +50,5 @@ returns-in-Ok c =
 pub returns-in_default : goal.returns-in_default
 returns-in_default c =
     unmarked_none c.args.self.now (c.args.session, c.args.unit)
-    (get_absent want_keys want_row c.self.inside.rows.items c.self.inside.rising c.args.self.now c.self.view_is (c.args.session, c.args.unit) c.in_default.field-0 (rw c.as_slice.ensures.value at c.in_default.ensures.absent))
+    (get_absent want_keys want_row c.self.inside.rows.items c.self.inside.rising c.args.self.now c.self.view_is (c.args.session, c.args.unit) c.in_default.field-0
+    (rw c.as_slice.ensures.value at c.in_default.ensures.absent))

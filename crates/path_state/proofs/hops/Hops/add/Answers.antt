@@ -22,13 +22,16 @@ insert-requires c = (lit< tt, ((rw c.as_slice.ensures.value at c.in-Err.ensures.
 pub invariant_of-self-inside : goal.invariant_of-self-inside
 invariant_of-self-inside c =
     let lt = room ((goal.at.invariant_of-self-inside c).In-Err) in
-    let is = ap (each hop_row) c.insert.ensures.items ∙ put_new path_hops hop_row c.self.inside.list.items c.self.inside.rising c.args.self.now c.self.view_is c.args.hop tt c.args.hop c.in-Err.place refl (rw c.as_slice.ensures.value at c.in-Err.ensures.absent) in
+    let is = ap (each hop_row) c.insert.ensures.items
+    ∙ put_new path_hops hop_row c.self.inside.list.items c.self.inside.rising c.args.self.now c.self.view_is c.args.hop tt c.args.hop c.in-Err.place refl
+    (rw c.as_slice.ensures.value at c.in-Err.ensures.absent) in
     (are_rows path_hops hop_row c.insert.new.self.items (put_in c.args.self.now c.args.hop tt) is, (omega (arith, lt, c.insert.ensures.len), tt))
 
 pub returns-in-Err : goal.returns-in-Err
 returns-in-Err c =
     same_rows _ (put_in c.args.self.now c.args.hop tt)
-    (ap (each hop_row) c.insert.ensures.items ∙ put_new path_hops hop_row c.self.inside.list.items c.self.inside.rising c.args.self.now c.self.view_is c.args.hop tt c.args.hop c.in-Err.place refl (rw c.as_slice.ensures.value at c.in-Err.ensures.absent))
+    (ap (each hop_row) c.insert.ensures.items ∙ put_new path_hops hop_row c.self.inside.list.items c.self.inside.rising c.args.self.now c.self.view_is c.args.hop tt c.args.hop c.in-Err.place refl
+    (rw c.as_slice.ensures.value at c.in-Err.ensures.absent))
 
 pub returns-in_default : goal.returns-in_default
 returns-in_default c =

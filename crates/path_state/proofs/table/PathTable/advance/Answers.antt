@@ -10,11 +10,21 @@ advance-requires c = nil_of dead_row c.self.inside.table.dead (ap (λ t. t.dead.
 
 pub invariant_of-self-inside : goal.invariant_of-self-inside
 invariant_of-self-inside c =
-    let after = ap (each fact_row) c.advance.ensures.facts ∙ rows_later c.args.ms c.self.inside.table.facts in
-    (c.advance.ensures.order.0, (c.advance.ensures.order.1, (c.advance.ensures.room ∙ c.self.inside.room, (within_later c.args.ms (table_of path_keys fact_row c.self.inside.table.facts c.self.inside.facts) c.advance.new.self.facts _ c.self.inside.within after, tt))))
+    let after = ap (each fact_row) c.advance.ensures.facts ∙ rows_later c.args.ms c.self.inside.table.facts in (
+      c.advance.ensures.order.0,
+      (
+        c.advance.ensures.order.1,
+        (
+          c.advance.ensures.room ∙ c.self.inside.room,
+          (within_later c.args.ms (table_of path_keys fact_row c.self.inside.table.facts c.self.inside.facts) c.advance.new.self.facts _ c.self.inside.within after, tt),
+        ),
+      ),
+    )
 
 pub returns-clause-facts : goal.returns-clause-facts
-returns-clause-facts c = same_rows _ (changed (later c.args.ms) (table_of path_keys fact_row c.self.inside.table.facts c.self.inside.facts)) (ap (each fact_row) c.advance.ensures.facts ∙ rows_later c.args.ms c.self.inside.table.facts) ∙ ap (λ t. changed (later c.args.ms) t.facts) c.self.view_is
+returns-clause-facts c = same_rows _ (changed (later c.args.ms) (table_of path_keys fact_row c.self.inside.table.facts c.self.inside.facts))
+    (ap (each fact_row) c.advance.ensures.facts ∙ rows_later c.args.ms c.self.inside.table.facts) ∙ ap (λ t. changed (later c.args.ms) t.facts) c.self.view_is
 
 pub returns-clause-dead : goal.returns-clause-dead
-returns-clause-dead c = same_rows _ (changed (dead_after c.args.ms) (table_of path_keys fact_row c.self.inside.table.facts c.self.inside.facts)) (ap (each dead_row) c.advance.ensures.dead ∙ rows_dead c.args.ms c.self.inside.table.facts) ∙ ap (λ t. changed (dead_after c.args.ms) t.facts) c.self.view_is
+returns-clause-dead c = same_rows _ (changed (dead_after c.args.ms) (table_of path_keys fact_row c.self.inside.table.facts c.self.inside.facts))
+    (ap (each dead_row) c.advance.ensures.dead ∙ rows_dead c.args.ms c.self.inside.table.facts) ∙ ap (λ t. changed (dead_after c.args.ms) t.facts) c.self.view_is

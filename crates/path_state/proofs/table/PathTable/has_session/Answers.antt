@@ -15,4 +15,5 @@ pub returns : goal.returns
 returns c =
     let m : Table path_keys (PathFact × ℕ) = table_of path_keys fact_row c.self.inside.table.facts c.self.inside.facts in
     let us = (under sessions senders m c.args.session).rows in
-    c.is_some.ensures ∙ sym (some_copied (λ e. e.1.0) c.at.result (slice_get us 0) c.at.ensures) ∙ first_there us ∙ full_many us ∙ ap (λ (t : PathMap). nat_lt 0 (size (under sessions senders t.facts c.args.session))) c.self.view_is
+    c.is_some.ensures ∙ sym (some_copied (λ e. e.1.0) c.at.result (slice_get us 0) c.at.ensures) ∙ first_there us ∙ full_many us
+    ∙ ap (λ (t : PathMap). nat_lt 0 (size (under sessions senders t.facts c.args.session))) c.self.view_is

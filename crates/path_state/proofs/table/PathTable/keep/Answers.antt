@@ -19,7 +19,8 @@ invariant_of-self-inside c =
     let k = path_key c.args.fact in
     let e : PathFact × ℕ = (c.args.fact, c.args.left) in
     let room : has_room_at senders (put_in m k e) c.args.fact.session ≡ true = ap (λ t. has_room_at senders (put_in t.facts k e) c.args.fact.session) c.self.view_is ∙ c.requires.room in
-    let kept = when_ok c.put.result (λ err. let why = c.put.ensures.full.0 err in never_full k e m c.self.inside.within room why.0 (length-map c.self.inside.table.facts fact_row ∙ why.1 ∙ c.self.inside.room)) c.put.ensures.ok in
+    let kept = when_ok c.put.result (λ err. let why = c.put.ensures.full.0 err in never_full k e m c.self.inside.within room why.0
+    (length-map c.self.inside.table.facts fact_row ∙ why.1 ∙ c.self.inside.room)) c.put.ensures.ok in
     (c.put.ensures.order.0, (c.put.ensures.order.1, (c.put.ensures.room ∙ c.self.inside.room, (within_more k e m c.put.new.self.facts _ c.self.inside.within room kept, tt))))
 
 pub unreachable-requires : goal.unreachable-requires
@@ -35,4 +36,5 @@ pub returns : goal.returns
 returns c =
     let k = path_key c.args.fact in
     let e : PathFact × ℕ = (c.args.fact, c.args.left) in
-    same_map _ _ (same_rows _ (put_in (table_of path_keys fact_row c.self.inside.table.facts c.self.inside.facts) k e) c.in-Ok.ensures.ok ∙ ap (λ t. put_in t.facts k e) c.self.view_is) (same_rows _ (table_of path_keys dead_row c.self.inside.table.dead c.self.inside.dead) (ap (each dead_row) c.put.ensures.dead) ∙ ap (λ t. t.dead) c.self.view_is)
+    same_map _ _ (same_rows _ (put_in (table_of path_keys fact_row c.self.inside.table.facts c.self.inside.facts) k e) c.in-Ok.ensures.ok ∙ ap (λ t. put_in t.facts k e) c.self.view_is)
+    (same_rows _ (table_of path_keys dead_row c.self.inside.table.dead c.self.inside.dead) (ap (each dead_row) c.put.ensures.dead) ∙ ap (λ t. t.dead) c.self.view_is)

@@ -19,8 +19,12 @@ invariant_of-self-inside g c =
     let st = g.S.Style.kind_is in
     let t = (table_of line_keys held_row c.self.inside.table.facts c.self.inside.facts) in
     let m : ResvFacts = changed fact_of t in
-    let after : (x : ResvFacts) → x.rows ≡ changed_rows fact_of (each held_row c.advance.new.self.facts) → x ≡ changed (later c.args.ms) m = λ x is. same_rows x (changed fact_of (changed (λ k e. lives_on c.args.ms e) t)) (is ∙ ap (changed_rows fact_of) (ap (each held_row) c.advance.ensures.facts ∙ rows_later held_key c.args.ms c.self.inside.table.facts)) ∙ lived_on told line_keys c.args.ms t in
-    let gone : (x : Table line_keys ResvFact) → x.rows ≡ changed_rows dead_of (each dead_row c.advance.new.self.dead) → x ≡ changed (dead_after c.args.ms) m = λ x is. same_rows x (changed dead_of (changed (λ k e. dies c.args.ms e) t)) (is ∙ ap (changed_rows dead_of) (ap (each dead_row) c.advance.ensures.dead ∙ rows_dead held_key c.args.ms c.self.inside.table.facts)) ∙ died told line_keys c.args.ms t in
+    let after : (x : ResvFacts) → x.rows ≡ changed_rows fact_of (each held_row c.advance.new.self.facts)
+    → x ≡ changed (later c.args.ms) m = λ x is. same_rows x (changed fact_of (changed (λ k e. lives_on c.args.ms e) t))
+    (is ∙ ap (changed_rows fact_of) (ap (each held_row) c.advance.ensures.facts ∙ rows_later held_key c.args.ms c.self.inside.table.facts)) ∙ lived_on told line_keys c.args.ms t in
+    let gone : (x : Table line_keys ResvFact) → x.rows ≡ changed_rows dead_of (each dead_row c.advance.new.self.dead)
+    → x ≡ changed (dead_after c.args.ms) m = λ x is. same_rows x (changed dead_of (changed (λ k e. dies c.args.ms e) t))
+    (is ∙ ap (changed_rows dead_of) (ap (each dead_row) c.advance.ensures.dead ∙ rows_dead held_key c.args.ms c.self.inside.table.facts)) ∙ died told line_keys c.args.ms t in
     let n : ResvFacts = changed fact_of (table_of line_keys held_row c.advance.new.self.facts c.advance.ensures.order.0) in
     let d : Table line_keys ResvFact = changed dead_of (table_of line_keys dead_row c.advance.new.self.dead c.advance.ensures.order.1) in (
       c.advance.ensures.order.0,
@@ -32,7 +36,10 @@ invariant_of-self-inside g c =
             subst (λ (x : ResvFacts). AreOfStyle st x) (sym (after n refl)) (later_style st c.args.ms m c.self.inside.style),
             (
               subst (λ (x : Table line_keys ResvFact). AreUnderTheirKeys st x) (sym (gone d refl)) (dead_keys st c.args.ms m c.self.inside.style),
-              (subst (λ (x : ResvFacts). IsWithinLimits st (resv_lines st x)) (sym (after n refl)) (limits_below st (changed (later c.args.ms) m) m (later_below st c.args.ms m) c.self.inside.within), tt),
+              (
+                subst (λ (x : ResvFacts). IsWithinLimits st (resv_lines st x)) (sym (after n refl)) (limits_below st (changed (later c.args.ms) m) m (later_below st c.args.ms m) c.self.inside.within),
+                tt,
+              ),
             ),
           ),
         ),
@@ -42,11 +49,13 @@ invariant_of-self-inside g c =
 pub returns-clause-facts : goal.returns-clause-facts
 returns-clause-facts g c =
     let t = (table_of line_keys held_row c.self.inside.table.facts c.self.inside.facts) in
-    same_rows _ (changed fact_of (changed (λ k e. lives_on c.args.ms e) t)) (ap (changed_rows fact_of) (ap (each held_row) c.advance.ensures.facts ∙ rows_later held_key c.args.ms c.self.inside.table.facts)) ∙ lived_on told line_keys c.args.ms t
+    same_rows _ (changed fact_of (changed (λ k e. lives_on c.args.ms e) t)) (ap (changed_rows fact_of)
+    (ap (each held_row) c.advance.ensures.facts ∙ rows_later held_key c.args.ms c.self.inside.table.facts)) ∙ lived_on told line_keys c.args.ms t
     ∙ ap (λ (m : ResvMap). changed (later c.args.ms) m.facts) c.self.view_is
 
 pub returns-clause-dead : goal.returns-clause-dead
 returns-clause-dead g c =
     let t = (table_of line_keys held_row c.self.inside.table.facts c.self.inside.facts) in
-    same_rows _ (changed dead_of (changed (λ k e. dies c.args.ms e) t)) (ap (changed_rows dead_of) (ap (each dead_row) c.advance.ensures.dead ∙ rows_dead held_key c.args.ms c.self.inside.table.facts)) ∙ died told line_keys c.args.ms t
+    same_rows _ (changed dead_of (changed (λ k e. dies c.args.ms e) t)) (ap (changed_rows dead_of)
+    (ap (each dead_row) c.advance.ensures.dead ∙ rows_dead held_key c.args.ms c.self.inside.table.facts)) ∙ died told line_keys c.args.ms t
     ∙ ap (λ (m : ResvMap). changed (dead_after c.args.ms) m.facts) c.self.view_is

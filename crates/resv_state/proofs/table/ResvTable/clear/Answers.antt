@@ -14,8 +14,20 @@ invariant_of-self-inside g c =
     let up : AreRows line_keys held_row c.clear.new.self.facts = search rules in
     let dead : AreRows line_keys dead_row c.clear.new.self.dead = search rules in
     let n : ResvFacts = changed fact_of (table_of line_keys held_row c.clear.new.self.facts up) in
-    let d : Table line_keys ResvFact = changed dead_of (table_of line_keys dead_row c.clear.new.self.dead dead) in
-    (up, (dead, (c.clear.ensures.room ∙ c.self.inside.room, (no_style g.S.Style.kind_is n (same_rows n empty none), (no_keys g.S.Style.kind_is d (same_rows d empty gone), (no_lines g.S.Style.kind_is n (same_rows n empty none), tt))))))
+    let d : Table line_keys ResvFact = changed dead_of (table_of line_keys dead_row c.clear.new.self.dead dead) in (
+      up,
+      (
+        dead,
+        (
+          c.clear.ensures.room ∙ c.self.inside.room,
+          (
+            no_style g.S.Style.kind_is n (same_rows n empty none),
+            (no_keys g.S.Style.kind_is d (same_rows d empty gone), (no_lines g.S.Style.kind_is n (same_rows n empty none), tt)),
+          ),
+        ),
+      ),
+    )
 
 pub returns : goal.returns
-returns g c = same_map _ _ (same_rows _ _ (ap (λ fs. changed_rows fact_of (each held_row fs)) c.clear.ensures.facts)) (same_rows _ _ (ap (λ fs. changed_rows dead_of (each dead_row fs)) c.clear.ensures.dead))
+returns g c = same_map _ _ (same_rows _ _ (ap (λ fs. changed_rows fact_of (each held_row fs)) c.clear.ensures.facts))
+    (same_rows _ _ (ap (λ fs. changed_rows dead_of (each dead_row fs)) c.clear.ensures.dead))

@@ -14,13 +14,15 @@ pub returns-in-Some-clause-fact : goal.returns-in-Some-clause-fact
 returns-in-Some-clause-fact g c =
     let k : LineKey = (c.args.session, ((c.args.iface, c.args.next), c.args.unit)) in
     ap Some c.copy.ensures ∙ ap (λ r. option_map told (option_copied r)) (sym c.in-Some.is) ∙ looked_up told _ _ c.find.ensures
-    ∙ ap (option_map (λ e. e.0)) (sym (get-valued line_keys said (table_of line_keys held_row c.self.inside.table.facts c.self.inside.facts) k)) ∙ ap (λ (m : ResvMap). option_map (λ e. e.0) (get m.facts k)) c.self.view_is
+    ∙ ap (option_map (λ e. e.0)) (sym (get-valued line_keys said (table_of line_keys held_row c.self.inside.table.facts c.self.inside.facts) k))
+    ∙ ap (λ (m : ResvMap). option_map (λ e. e.0) (get m.facts k)) c.self.view_is
 
 pub returns-in-None-clause-fact : goal.returns-in-None-clause-fact
 returns-in-None-clause-fact g c =
     let k : LineKey = (c.args.session, ((c.args.iface, c.args.next), c.args.unit)) in
     ap (λ r. option_map told (option_copied r)) (sym c.in-None.is) ∙ looked_up told _ _ c.find.ensures
-    ∙ ap (option_map (λ e. e.0)) (sym (get-valued line_keys said (table_of line_keys held_row c.self.inside.table.facts c.self.inside.facts) k)) ∙ ap (λ (m : ResvMap). option_map (λ e. e.0) (get m.facts k)) c.self.view_is
+    ∙ ap (option_map (λ e. e.0)) (sym (get-valued line_keys said (table_of line_keys held_row c.self.inside.table.facts c.self.inside.facts) k))
+    ∙ ap (λ (m : ResvMap). option_map (λ e. e.0) (get m.facts k)) c.self.view_is
 
 pub returns-in-Some-clause-style : goal.returns-in-Some-clause-style
 returns-in-Some-clause-style g c = subst (λ (m : ResvMap). AreOfStyle g.S.Style.kind_is m.facts) c.self.view_is c.self.inside.style

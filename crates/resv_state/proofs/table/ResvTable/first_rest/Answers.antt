@@ -16,7 +16,8 @@ use Rattle.resv_state.proofs.table.ResvTable.first_rest.Goals as goal
 pub returns-clause-first : goal.returns-clause-first
 returns-clause-first g c =
     c.rest_of.ensures ∙ ap (option_map (λ (h : Held). (held_key h).1)) c.at.ensures
-    ∙ first_told c.self.inside.table.facts c.self.inside.facts c.args.session (under sessions rests c.args.self.now.facts c.args.session) (sym (rows_said c.self.inside.table.facts c.self.inside.facts _ (ap (λ (m : ResvMap). m.facts) c.self.view_is) c.args.session))
+    ∙ first_told c.self.inside.table.facts c.self.inside.facts c.args.session (under sessions rests c.args.self.now.facts c.args.session)
+    (sym (rows_said c.self.inside.table.facts c.self.inside.facts _ (ap (λ (m : ResvMap). m.facts) c.self.view_is) c.args.session))
 
 pub returns-clause-few : goal.returns-clause-few
 returns-clause-few g c =

@@ -21,10 +21,12 @@ pub fits_fact-requires-clause-pulled : goal.fits_fact-requires-clause-pulled
 fits_fact-requires-clause-pulled g c = no_dead c.self.inside.table.dead (ap (λ (m : ResvMap). m.dead.rows) c.self.view_is ∙ c.requires.pulled)
 
 pub fits_fact-requires-clause-few : goal.fits_fact-requires-clause-few
-fits_fact-requires-clause-few g c = few_facts g.S.Style.kind_is c.self.inside.table.facts c.self.inside.facts c.args.fact.now.session (resv_key g.S.Style.kind_is c.args.fact.now).1 (c.args.fact.now, 0) c.self.inside.within
+fits_fact-requires-clause-few g c = few_facts g.S.Style.kind_is c.self.inside.table.facts c.self.inside.facts c.args.fact.now.session (resv_key g.S.Style.kind_is c.args.fact.now).1
+    (c.args.fact.now, 0) c.self.inside.within
 
 pub fits_session-requires : goal.fits_session-requires
-fits_session-requires g c = few_sessions g.S.Style.kind_is c.self.inside.table.facts c.self.inside.facts c.args.fact.now.session (resv_key g.S.Style.kind_is c.args.fact.now).1 (c.args.fact.now, 0) c.self.inside.within
+fits_session-requires g c = few_sessions g.S.Style.kind_is c.self.inside.table.facts c.self.inside.facts c.args.fact.now.session (resv_key g.S.Style.kind_is c.args.fact.now).1
+    (c.args.fact.now, 0) c.self.inside.within
 
 pub fits_hop-requires-clause-few : goal.fits_hop-requires-clause-few
 fits_hop-requires-clause-few g c = held_few g.S.Style.kind_is c.self.inside.table.facts c.self.inside.facts c.args.fact.now.session c.self.inside.within
@@ -45,8 +47,10 @@ returns-then-not-fits_fact g c = λ left.
     let r : Rest = (resv_key st c.args.fact.now).1 in
     let fs = c.self.inside.table.facts in
     let own : ◌≡◌ {A = Rest} ((c.args.fact.now.iface, c.args.fact.now.next), c.unit_of.result) r = ap (λ u. ((c.args.fact.now.iface, c.args.fact.now.next), u)) c.unit_of.ensures in
-    let all = fits_is st fs c.self.inside.facts s r (c.args.fact.now, left) c.self.inside.within ∙ ap (λ (m : ResvMap). within_limits st (resv_lines st (put_in m.facts (resv_key st c.args.fact.now) (c.args.fact.now, left)))) c.self.view_is in
-    let a = c.fits_fact.ensures ∙ ap (λ (q : Rest). nat_le (cond (is_some (find line_keys.cmp (s, q) (facts_by held_key fs))) (length fs) (length fs + 1)) 1024) own ∙ one_fact st fs c.self.inside.facts s r (c.args.fact.now, left) in
+    let all = fits_is st fs c.self.inside.facts s r (c.args.fact.now, left) c.self.inside.within
+    ∙ ap (λ (m : ResvMap). within_limits st (resv_lines st (put_in m.facts (resv_key st c.args.fact.now) (c.args.fact.now, left)))) c.self.view_is in
+    let a = c.fits_fact.ensures ∙ ap (λ (q : Rest). nat_le (cond (is_some (find line_keys.cmp (s, q) (facts_by held_key fs))) (length fs) (length fs + 1)) 1024) own
+    ∙ one_fact st fs c.self.inside.facts s r (c.args.fact.now, left) in
     none_first _ _ _ _ c.if-not-fits_fact.true a all
 
 pub returns-then-not-fits_session : goal.returns-then-not-fits_session
@@ -56,8 +60,10 @@ returns-then-not-fits_session g c = λ left.
     let r : Rest = (resv_key st c.args.fact.now).1 in
     let fs = c.self.inside.table.facts in
     let own : ◌≡◌ {A = Rest} ((c.args.fact.now.iface, c.args.fact.now.next), c.unit_of.result) r = ap (λ u. ((c.args.fact.now.iface, c.args.fact.now.next), u)) c.unit_of.ensures in
-    let all = fits_is st fs c.self.inside.facts s r (c.args.fact.now, left) c.self.inside.within ∙ ap (λ (m : ResvMap). within_limits st (resv_lines st (put_in m.facts (resv_key st c.args.fact.now) (c.args.fact.now, left)))) c.self.view_is in
-    let a = c.fits_fact.ensures ∙ ap (λ (q : Rest). nat_le (cond (is_some (find line_keys.cmp (s, q) (facts_by held_key fs))) (length fs) (length fs + 1)) 1024) own ∙ one_fact st fs c.self.inside.facts s r (c.args.fact.now, left) in
+    let all = fits_is st fs c.self.inside.facts s r (c.args.fact.now, left) c.self.inside.within
+    ∙ ap (λ (m : ResvMap). within_limits st (resv_lines st (put_in m.facts (resv_key st c.args.fact.now) (c.args.fact.now, left)))) c.self.view_is in
+    let a = c.fits_fact.ensures ∙ ap (λ (q : Rest). nat_le (cond (is_some (find line_keys.cmp (s, q) (facts_by held_key fs))) (length fs) (length fs + 1)) 1024) own
+    ∙ one_fact st fs c.self.inside.facts s r (c.args.fact.now, left) in
     let b = c.fits_session.ensures ∙ one_session st fs c.self.inside.facts s r (c.args.fact.now, left) in
     none_first _ _ _ _ c.if-not-fits_session.true b (on_first _ _ _ _ (c.if-not-fits_fact.false) a all)
 
@@ -68,8 +74,10 @@ returns-then-not-fits_hop g c = λ left.
     let r : Rest = (resv_key st c.args.fact.now).1 in
     let fs = c.self.inside.table.facts in
     let own : ◌≡◌ {A = Rest} ((c.args.fact.now.iface, c.args.fact.now.next), c.unit_of.result) r = ap (λ u. ((c.args.fact.now.iface, c.args.fact.now.next), u)) c.unit_of.ensures in
-    let all = fits_is st fs c.self.inside.facts s r (c.args.fact.now, left) c.self.inside.within ∙ ap (λ (m : ResvMap). within_limits st (resv_lines st (put_in m.facts (resv_key st c.args.fact.now) (c.args.fact.now, left)))) c.self.view_is in
-    let a = c.fits_fact.ensures ∙ ap (λ (q : Rest). nat_le (cond (is_some (find line_keys.cmp (s, q) (facts_by held_key fs))) (length fs) (length fs + 1)) 1024) own ∙ one_fact st fs c.self.inside.facts s r (c.args.fact.now, left) in
+    let all = fits_is st fs c.self.inside.facts s r (c.args.fact.now, left) c.self.inside.within
+    ∙ ap (λ (m : ResvMap). within_limits st (resv_lines st (put_in m.facts (resv_key st c.args.fact.now) (c.args.fact.now, left)))) c.self.view_is in
+    let a = c.fits_fact.ensures ∙ ap (λ (q : Rest). nat_le (cond (is_some (find line_keys.cmp (s, q) (facts_by held_key fs))) (length fs) (length fs + 1)) 1024) own
+    ∙ one_fact st fs c.self.inside.facts s r (c.args.fact.now, left) in
     let b = c.fits_session.ensures ∙ one_session st fs c.self.inside.facts s r (c.args.fact.now, left) in
     none_first _ _ _ _ c.if-not-fits_hop.true c.fits_hop.ensures (on_first _ _ _ _ (c.if-not-fits_session.false) b (on_first _ _ _ _ (c.if-not-fits_fact.false) a all))
 
@@ -80,8 +88,10 @@ returns g c = λ left.
     let r : Rest = (resv_key st c.args.fact.now).1 in
     let fs = c.self.inside.table.facts in
     let own : ◌≡◌ {A = Rest} ((c.args.fact.now.iface, c.args.fact.now.next), c.unit_of.result) r = ap (λ u. ((c.args.fact.now.iface, c.args.fact.now.next), u)) c.unit_of.ensures in
-    let all = fits_is st fs c.self.inside.facts s r (c.args.fact.now, left) c.self.inside.within ∙ ap (λ (m : ResvMap). within_limits st (resv_lines st (put_in m.facts (resv_key st c.args.fact.now) (c.args.fact.now, left)))) c.self.view_is in
-    let a = c.fits_fact.ensures ∙ ap (λ (q : Rest). nat_le (cond (is_some (find line_keys.cmp (s, q) (facts_by held_key fs))) (length fs) (length fs + 1)) 1024) own ∙ one_fact st fs c.self.inside.facts s r (c.args.fact.now, left) in
+    let all = fits_is st fs c.self.inside.facts s r (c.args.fact.now, left) c.self.inside.within
+    ∙ ap (λ (m : ResvMap). within_limits st (resv_lines st (put_in m.facts (resv_key st c.args.fact.now) (c.args.fact.now, left)))) c.self.view_is in
+    let a = c.fits_fact.ensures ∙ ap (λ (q : Rest). nat_le (cond (is_some (find line_keys.cmp (s, q) (facts_by held_key fs))) (length fs) (length fs + 1)) 1024) own
+    ∙ one_fact st fs c.self.inside.facts s r (c.args.fact.now, left) in
     let b = c.fits_session.ensures ∙ one_session st fs c.self.inside.facts s r (c.args.fact.now, left) in
     let d = c.fits_names.ensures ∙ ap (λ (q : Rest). nat_le (size (with_names q c.args.fact.now.part.senders (held_under s fs))) 16) own in
     d ∙ on_first _ _ _ _ (c.if-not-fits_hop.false) c.fits_hop.ensures (on_first _ _ _ _ (c.if-not-fits_session.false) b (on_first _ _ _ _ (c.if-not-fits_fact.false) a all))

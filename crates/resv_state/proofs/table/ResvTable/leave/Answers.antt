@@ -26,8 +26,10 @@ invariant_of-self-inside g c =
     let t = table_of line_keys held_row c.self.inside.table.facts c.self.inside.facts in
     let n : ResvFacts = changed fact_of (table_of line_keys held_row c.lessen.new.table.facts c.lessen.ensures.order.0) in
     let d : Table line_keys ResvFact = changed dead_of (table_of line_keys dead_row c.lessen.new.table.dead c.lessen.ensures.order.1) in
-    let is : n ≡ changed (lessened k c.args.gone.now) (changed fact_of t) = same_rows n (changed fact_of (changed (held_lessened k c.args.gone.now) t)) (ap (changed_rows fact_of) c.lessen.ensures.facts) ∙ less_said k c.args.gone.now t in
-    let gone : d ≡ changed dead_of (table_of line_keys dead_row c.self.inside.table.dead c.self.inside.dead) = same_rows d (changed dead_of (table_of line_keys dead_row c.self.inside.table.dead c.self.inside.dead)) (ap (λ hs. changed_rows dead_of (each dead_row hs)) c.lessen.ensures.dead) in (
+    let is : n ≡ changed (lessened k c.args.gone.now) (changed fact_of t) = same_rows n (changed fact_of (changed (held_lessened k c.args.gone.now) t))
+    (ap (changed_rows fact_of) c.lessen.ensures.facts) ∙ less_said k c.args.gone.now t in
+    let gone : d ≡ changed dead_of (table_of line_keys dead_row c.self.inside.table.dead c.self.inside.dead) =
+    same_rows d (changed dead_of (table_of line_keys dead_row c.self.inside.table.dead c.self.inside.dead)) (ap (λ hs. changed_rows dead_of (each dead_row hs)) c.lessen.ensures.dead) in (
       c.lessen.ensures.order.0,
       (
         c.lessen.ensures.order.1,
@@ -49,17 +51,22 @@ returns-clause-facts g c =
     let k : LineKey = (c.args.session, c.args.rest) in
     let t = table_of line_keys held_row c.self.inside.table.facts c.self.inside.facts in
     same_map _ _
-    (same_rows _ (changed fact_of (changed (held_lessened k c.args.gone.now) t)) (ap (changed_rows fact_of) c.lessen.ensures.facts) ∙ less_said k c.args.gone.now t ∙ ap (λ (m : ResvMap). changed (lessened k c.args.gone.now) m.facts) c.self.view_is)
-    (same_rows _ (changed dead_of (table_of line_keys dead_row c.self.inside.table.dead c.self.inside.dead)) (ap (λ hs. changed_rows dead_of (each dead_row hs)) c.lessen.ensures.dead) ∙ ap (λ (m : ResvMap). m.dead) c.self.view_is)
+    (same_rows _ (changed fact_of (changed (held_lessened k c.args.gone.now) t)) (ap (changed_rows fact_of) c.lessen.ensures.facts) ∙ less_said k c.args.gone.now t
+    ∙ ap (λ (m : ResvMap). changed (lessened k c.args.gone.now) m.facts) c.self.view_is)
+    (same_rows _ (changed dead_of (table_of line_keys dead_row c.self.inside.table.dead c.self.inside.dead)) (ap (λ hs. changed_rows dead_of (each dead_row hs)) c.lessen.ensures.dead)
+    ∙ ap (λ (m : ResvMap). m.dead) c.self.view_is)
 
 pub returns-clause-had : goal.returns-clause-had
 returns-clause-had g c =
     let k : LineKey = (c.args.session, c.args.rest) in
     let t = table_of line_keys held_row c.self.inside.table.facts c.self.inside.facts in
-    c.lessen.ensures.had ∙ key_had c.args.gone.now (get t k) ∙ ap (key_has_one c.args.gone.now) (sym (get-valued line_keys said t k)) ∙ ap (λ (m : ResvMap). key_has_one c.args.gone.now (get m.facts k)) c.self.view_is
+    c.lessen.ensures.had ∙ key_had c.args.gone.now (get t k) ∙ ap (key_has_one c.args.gone.now) (sym (get-valued line_keys said t k))
+    ∙ ap (λ (m : ResvMap). key_has_one c.args.gone.now (get m.facts k)) c.self.view_is
 
 pub returns-clause-unchanged : goal.returns-clause-unchanged
 returns-clause-unchanged g c = λ no.
     let same = c.lessen.ensures.unchanged no in
-    same_map _ _ (same_rows _ (changed fact_of (table_of line_keys held_row c.self.inside.table.facts c.self.inside.facts)) (ap (λ (t : Kept Held). changed_rows fact_of (each held_row t.facts)) same) ∙ ap (λ (m : ResvMap). m.facts) c.self.view_is)
-    (same_rows _ (changed dead_of (table_of line_keys dead_row c.self.inside.table.dead c.self.inside.dead)) (ap (λ (t : Kept Held). changed_rows dead_of (each dead_row t.dead)) same) ∙ ap (λ (m : ResvMap). m.dead) c.self.view_is)
+    same_map _ _ (same_rows _ (changed fact_of (table_of line_keys held_row c.self.inside.table.facts c.self.inside.facts)) (ap (λ (t : Kept Held). changed_rows fact_of (each held_row t.facts)) same)
+    ∙ ap (λ (m : ResvMap). m.facts) c.self.view_is)
+    (same_rows _ (changed dead_of (table_of line_keys dead_row c.self.inside.table.dead c.self.inside.dead)) (ap (λ (t : Kept Held). changed_rows dead_of (each dead_row t.dead)) same)
+    ∙ ap (λ (m : ResvMap). m.dead) c.self.view_is)

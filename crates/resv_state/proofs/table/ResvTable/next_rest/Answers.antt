@@ -12,4 +12,5 @@ use Rattle.resv_state.proofs.table.ResvTable.next_rest.Goals as goal
 pub returns : goal.returns
 returns g c =
     c.rest_of.ensures ∙ ap (option_map (λ (h : Held). (held_key h).1)) c.after.ensures
-    ∙ behind_told c.self.inside.table.facts c.self.inside.facts c.args.session c.args.rest (under sessions rests c.args.self.now.facts c.args.session) (sym (rows_said c.self.inside.table.facts c.self.inside.facts _ (ap (λ (m : ResvMap). m.facts) c.self.view_is) c.args.session))
+    ∙ behind_told c.self.inside.table.facts c.self.inside.facts c.args.session c.args.rest (under sessions rests c.args.self.now.facts c.args.session)
+    (sym (rows_said c.self.inside.table.facts c.self.inside.facts _ (ap (λ (m : ResvMap). m.facts) c.self.view_is) c.args.session))

@@ -15,4 +15,5 @@ pub returns : goal.returns
 returns g c =
     let us = held_under c.args.session c.self.inside.table.facts in
     c.finish.ensures.unblockaded (filter_map (held_on c.args.iface) us) c.merge_on.ensures (all_open c.args.iface us)
-    ∙ ap (merge g.S.Style.kind_is) (said_parts c.args.iface us ∙ ap (parts_on c.args.iface) (rows_said c.self.inside.table.facts c.self.inside.facts _ (ap (λ (m : ResvMap). m.facts) c.self.view_is) c.args.session))
+    ∙ ap (merge g.S.Style.kind_is) (said_parts c.args.iface us ∙ ap (parts_on c.args.iface)
+    (rows_said c.self.inside.table.facts c.self.inside.facts _ (ap (λ (m : ResvMap). m.facts) c.self.view_is) c.args.session))

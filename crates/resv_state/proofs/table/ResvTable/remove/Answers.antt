@@ -27,16 +27,20 @@ loop-name-preserved g c =
       | then-leave w ↦ let z : true ≡ false = sym w.if-leave.true ∙ e in absurd (cc)
       | else-leave w ↦ w.had-is
     ] in
-    subst (λ zs. Torn st c.args.session (c.args.iface, c.args.next) c.args.gone.now c.args.self.now c.leave.new.self c.if-leave.had zs) (sym (take_more xs c.loop-name.name-index blank c.loop-name-test.true))
-    (torn_more st c.args.session (c.args.iface, c.args.next) c.args.gone.now c.args.self.now now c.leave.new.self c.loop-name.had c.leave.result c.if-leave.had (take c.loop-name.name-index xs) x c.loop-name.invariant
+    subst (λ zs. Torn st c.args.session (c.args.iface, c.args.next) c.args.gone.now c.args.self.now c.leave.new.self c.if-leave.had zs)
+    (sym (take_more xs c.loop-name.name-index blank c.loop-name-test.true))
+    (torn_more st c.args.session (c.args.iface, c.args.next) c.args.gone.now c.args.self.now now c.leave.new.self c.loop-name.had c.leave.result c.if-leave.had
+    (take c.loop-name.name-index xs) x c.loop-name.invariant
     (c.leave.ensures.facts ∙ ap (λ u. record now { facts = changed (lessened (c.args.session, ((c.args.iface, c.args.next), u)) c.args.gone.now) now.facts }) unit)
     (c.leave.ensures.had ∙ ap (λ u. key_has_one c.args.gone.now (get now.facts (c.args.session, ((c.args.iface, c.args.next), u)))) unit)
     c.leave.ensures.unchanged so not_so)
 
 pub returns-clause-facts : goal.returns-clause-facts
 returns-clause-facts g c =
-    (torn_end g.S.Style.kind_is c.args.session (c.args.iface, c.args.next) c.args.gone.now c.args.self.now c.loop-name.self c.loop-name.had c.loop-name.name-index c.as_slice-name-items.result.now (subst (λ (m : ResvMap). AreOfStyle g.S.Style.kind_is m.facts) c.self.view_is c.self.inside.style) (omega arith) c.as_slice-name-items.ensures.senders c.loop-name.invariant).0
+    (torn_end g.S.Style.kind_is c.args.session (c.args.iface, c.args.next) c.args.gone.now c.args.self.now c.loop-name.self c.loop-name.had c.loop-name.name-index c.as_slice-name-items.result.now
+    (subst (λ (m : ResvMap). AreOfStyle g.S.Style.kind_is m.facts) c.self.view_is c.self.inside.style) (omega arith) c.as_slice-name-items.ensures.senders c.loop-name.invariant).0
 
 pub returns-clause-had : goal.returns-clause-had
 returns-clause-had g c =
-    (torn_end g.S.Style.kind_is c.args.session (c.args.iface, c.args.next) c.args.gone.now c.args.self.now c.loop-name.self c.loop-name.had c.loop-name.name-index c.as_slice-name-items.result.now (subst (λ (m : ResvMap). AreOfStyle g.S.Style.kind_is m.facts) c.self.view_is c.self.inside.style) (omega arith) c.as_slice-name-items.ensures.senders c.loop-name.invariant).1
+    (torn_end g.S.Style.kind_is c.args.session (c.args.iface, c.args.next) c.args.gone.now c.args.self.now c.loop-name.self c.loop-name.had c.loop-name.name-index c.as_slice-name-items.result.now
+    (subst (λ (m : ResvMap). AreOfStyle g.S.Style.kind_is m.facts) c.self.view_is c.self.inside.style) (omega arith) c.as_slice-name-items.ensures.senders c.loop-name.invariant).1

@@ -14,4 +14,5 @@ returns g c =
     let us = held_under c.args.session c.self.inside.table.facts in
     let wants = filter_map (want_request up) c.args.own.now.rows in
     c.finish.ensures.toward (filter_map (held_toward up) us ++ wants) c.merge_toward.ensures
-    ∙ ap (λ rs. toward g.S.Style.kind_is (rs ++ wants)) (said_rows (resv_request up) us ∙ ap (filter_map (resv_request up)) (rows_said c.self.inside.table.facts c.self.inside.facts _ (ap (λ (m : ResvMap). m.facts) c.self.view_is) c.args.session))
+    ∙ ap (λ rs. toward g.S.Style.kind_is (rs ++ wants)) (said_rows (resv_request up) us ∙ ap (filter_map (resv_request up))
+    (rows_said c.self.inside.table.facts c.self.inside.facts _ (ap (λ (m : ResvMap). m.facts) c.self.view_is) c.args.session))

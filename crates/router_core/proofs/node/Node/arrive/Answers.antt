@@ -5,26 +5,30 @@ use Rattle.router_rules.specs.NodeConfig.{own}
 use Rattle.router_rules.specs.Rule.{facts_after, heard_after, sent_after}
 use Rattle.router_rules.specs.declared.answers.Heard.TheVariants as heard
 use Rattle.router_rules.specs.declared.answers.Why.TheVariants as why
-use Rattle.node_facts.specs.State.{State, facts_at, facts_of}
-use Rattle.node_tables.specs.Whole.{state_of}
-use Rattle.node_acting.proofs.Ruled.{heard_is, refused_facts, refused_sent}
+use Rattle.router_state.specs.State.{State, facts_at, facts_of}
+use Rattle.router_state.specs.Whole.{state_of}
+use Rattle.router_arrivals.proofs.Ruled.{heard_is, refused_facts, refused_sent}
 use Rattle.router_core.proofs.Mine.{at_own, at_path, at_tear, not_mine}
 use Rattle.router_core.proofs.node.Node.arrive.Goals as goal
 
 pub returns-then-not-is_mine-clause-facts : goal.returns-then-not-is_mine-clause-facts
 returns-then-not-is_mine-clause-facts g c = λ clock.
     let n = state_of c.self.inside.tables c.self.inside.said in
-    ap (facts_at clock) (sym c.self.view_is) ∙ refused_facts n c.args.self.now c.self.view_is (λ z. Came c.args.iface c.args.dst (Spelt c.args.message.now)) refl (heard.Dropped why.NotMine) clock c.self.inside.settled (not_mine n clock c.args.iface c.args.dst c.args.message.now (sym c.is_mine.ensures ∙ c.if-not-is_mine.true))
+    ap (facts_at clock) (sym c.self.view_is) ∙ refused_facts n c.args.self.now c.self.view_is (λ z. Came c.args.iface c.args.dst (Spelt c.args.message.now)) refl
+    (heard.Dropped why.NotMine) clock c.self.inside.settled (not_mine n clock c.args.iface c.args.dst c.args.message.now (sym c.is_mine.ensures ∙ c.if-not-is_mine.true))
 
 pub returns-then-not-is_mine-clause-heard : goal.returns-then-not-is_mine-clause-heard
 returns-then-not-is_mine-clause-heard g c = λ clock.
     let n = state_of c.self.inside.tables c.self.inside.said in
-    heard_is n clock c.args.iface c.args.dst (Spelt c.args.message.now) (facts_of clock n) (heard.Dropped why.NotMine) (not_mine n clock c.args.iface c.args.dst c.args.message.now (sym c.is_mine.ensures ∙ c.if-not-is_mine.true)) ∙ ap (λ (z : State). heard_after z.place clock c.args.iface c.args.dst (Spelt c.args.message.now) (facts_at clock z)) c.self.view_is
+    heard_is n clock c.args.iface c.args.dst (Spelt c.args.message.now) (facts_of clock n) (heard.Dropped why.NotMine)
+    (not_mine n clock c.args.iface c.args.dst c.args.message.now (sym c.is_mine.ensures ∙ c.if-not-is_mine.true))
+    ∙ ap (λ (z : State). heard_after z.place clock c.args.iface c.args.dst (Spelt c.args.message.now) (facts_at clock z)) c.self.view_is
 
 pub returns-then-not-is_mine-clause-sent : goal.returns-then-not-is_mine-clause-sent
 returns-then-not-is_mine-clause-sent g c = λ clock.
     let n = state_of c.self.inside.tables c.self.inside.said in
-    refused_sent n c.args.self.now c.self.view_is (λ z. Came c.args.iface c.args.dst (Spelt c.args.message.now)) refl (heard.Dropped why.NotMine) clock c.self.inside.settled (not_mine n clock c.args.iface c.args.dst c.args.message.now (sym c.is_mine.ensures ∙ c.if-not-is_mine.true)) g.O.Outbox.posted c.args.out.now
+    refused_sent n c.args.self.now c.self.view_is (λ z. Came c.args.iface c.args.dst (Spelt c.args.message.now)) refl (heard.Dropped why.NotMine) clock c.self.inside.settled
+    (not_mine n clock c.args.iface c.args.dst c.args.message.now (sym c.is_mine.ensures ∙ c.if-not-is_mine.true)) g.O.Outbox.posted c.args.out.now
 
 pub resv-requires : goal.resv-requires
 resv-requires g c =

@@ -1,10 +1,10 @@
 use Rattle.std.proofs.Common.{◌≡◌, ap, sym, subst, ◌∙◌}
-use Rattle.lane_state.specs.Lanes.{LaneMap}
+use Rattle.sent_state.specs.Lanes.{LaneMap}
 use Rattle.router_rules.specs.Inputs.{Clear}
 use Rattle.router_rules.specs.Rule.{facts_after}
-use Rattle.node_facts.specs.State.{IsSaid, IsSettled, State, facts_at}
-use Rattle.node_waiting.specs.Clearing.{cleared}
-use Rattle.node_tables.specs.Whole.{state_of}
+use Rattle.router_state.specs.State.{IsSaid, IsSettled, State, facts_at}
+use Rattle.router_aging.specs.Clearing.{cleared}
+use Rattle.router_state.specs.Whole.{state_of}
 use Rattle.router_core.proofs.Emptying.{clear_facts, clear_said, clear_settled, clear_silent}
 use Rattle.router_core.proofs.node.Node.clear.Goals as goal
 

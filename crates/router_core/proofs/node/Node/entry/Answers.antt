@@ -3,7 +3,7 @@ use Rattle.std.specs.Option.{option_map}
 use Rattle.rsvp_base.specs.Table.{get}
 use Rattle.rsvp_base.specs.declared.part.Part.{Part}
 use Rattle.router_rules.specs.Books.{book}
-use Rattle.node_facts.specs.State.{State, facts_of}
+use Rattle.router_state.specs.State.{State, facts_of}
 use Rattle.router_core.proofs.node.Node.entry.Goals as goal
 
 pub returns : goal.returns

@@ -2,8 +2,8 @@ use Rattle.std.specs.Prelude.{◌≤◌, length, slice_get, refl}
 use Rattle.std.proofs.Common.{sym, ap, subst, ◌∙◌}
 use Rattle.router_rules.specs.Facts.{Facts}
 use Rattle.router_rules.specs.Flags.{entries_of}
-use Rattle.node_facts.specs.State.{State, facts_at}
-use Rattle.node_tables.specs.Whole.{state_of}
+use Rattle.router_state.specs.State.{State, facts_at}
+use Rattle.router_state.specs.Whole.{state_of}
 use Rattle.router_core.proofs.Booking.{front_is}
 use Rattle.router_core.proofs.node.Node.entry_at.Goals as goal
 

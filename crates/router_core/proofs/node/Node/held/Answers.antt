@@ -2,8 +2,8 @@ use Rattle.std.proofs.Common.{sym, ap, ◌∙◌}
 use Rattle.style_rules.specs.Lines.{held}
 use Rattle.router_rules.specs.Books.{book}
 use Rattle.router_rules.specs.Facts.{Facts}
-use Rattle.node_facts.specs.State.{State, facts_at, facts_of}
-use Rattle.node_tables.specs.Whole.{state_of}
+use Rattle.router_state.specs.State.{State, facts_at, facts_of}
+use Rattle.router_state.specs.Whole.{state_of}
 use Rattle.router_core.proofs.Booking.{front_is, held_is}
 use Rattle.router_core.proofs.node.Node.held.Goals as goal
 

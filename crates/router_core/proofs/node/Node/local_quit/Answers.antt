@@ -4,14 +4,14 @@ use Rattle.router_rules.specs.Facts.{SenderKey}
 use Rattle.router_rules.specs.Inputs.{Call, QuitAll, only_heard}
 use Rattle.router_rules.specs.Rule.{refusal_of_call}
 use Rattle.router_rules.specs.declared.answers.Heard.TheVariants as heard
-use Rattle.node_facts.specs.State.{AreNamed, State, facts_at, facts_of}
-use Rattle.node_tables.specs.Whole.{state_of}
-use Rattle.node_tables.specs.declared.tables.Tables.{Tables}
-use Rattle.lane_telling.proofs.Sent.{hops_are}
-use Rattle.node_acting.proofs.Before.{is_before}
-use Rattle.node_acting.proofs.Calling.{refusal_is, refused_call}
-use Rattle.node_acting.proofs.Here.{here_plain}
-use Rattle.node_acting.proofs.Ruled.{plain_facts, plain_sent, refused_facts, refused_sent}
+use Rattle.router_state.specs.State.{AreNamed, State, facts_at, facts_of}
+use Rattle.router_state.specs.Whole.{state_of}
+use Rattle.router_state.specs.declared.tables.Tables.{Tables}
+use Rattle.resv_sends.proofs.Sent.{hops_are}
+use Rattle.router_arrivals.proofs.Before.{is_before}
+use Rattle.router_arrivals.proofs.Calling.{refusal_is, refused_call}
+use Rattle.router_arrivals.proofs.Here.{here_plain}
+use Rattle.router_arrivals.proofs.Ruled.{plain_facts, plain_sent, refused_facts, refused_sent}
 use Rattle.router_core.proofs.Told.{unchanged_node, wants_changed, wants_of_place, wants_place, wants_settled, wants_sound}
 use Rattle.router_core.proofs.node.Node.local_quit.Goals as goal
 
@@ -19,18 +19,21 @@ pub returns-in_err-drop_wants-clause-refused : goal.returns-in_err-drop_wants-cl
 returns-in_err-drop_wants-clause-refused g c = λ clock.
     let n = state_of c.self.inside.tables c.self.inside.said in
     let given = err_from_is_err_and c.from_residual.result c.from_residual.ensures.1 in
-    rw (given.1, given.2) (ap (λ (z : State). refusal_of_call z.place (QuitAll c.args.session) (facts_at clock z)) (sym c.self.view_is) ∙ refusal_is n clock (QuitAll c.args.session) _ (c.in_err-drop_wants.ensures.refused clock c.self.inside.said))
+    rw (given.1, given.2) (ap (λ (z : State). refusal_of_call z.place (QuitAll c.args.session) (facts_at clock z)) (sym c.self.view_is)
+    ∙ refusal_is n clock (QuitAll c.args.session) _ (c.in_err-drop_wants.ensures.refused clock c.self.inside.said))
 
 pub returns-in_err-drop_wants-clause-facts : goal.returns-in_err-drop_wants-clause-facts
 returns-in_err-drop_wants-clause-facts g c = λ clock.
     let n = state_of c.self.inside.tables c.self.inside.said in
     ap (facts_at clock) (ap (λ (t : Tables). state_of t c.self.inside.said) c.in_err-drop_wants.ensures.err)
-    ∙ refused_facts n c.args.self.now c.self.view_is (λ z. Call (QuitAll c.args.session)) refl heard.Taken clock c.self.inside.settled (refused_call n clock (QuitAll c.args.session) _ (c.in_err-drop_wants.ensures.refused clock c.self.inside.said))
+    ∙ refused_facts n c.args.self.now c.self.view_is (λ z. Call (QuitAll c.args.session)) refl heard.Taken clock c.self.inside.settled
+    (refused_call n clock (QuitAll c.args.session) _ (c.in_err-drop_wants.ensures.refused clock c.self.inside.said))
 
 pub returns-in_err-drop_wants-clause-sent : goal.returns-in_err-drop_wants-clause-sent
 returns-in_err-drop_wants-clause-sent g c = λ clock.
     let n = state_of c.self.inside.tables c.self.inside.said in
-    refused_sent n c.args.self.now c.self.view_is (λ z. Call (QuitAll c.args.session)) refl heard.Taken clock c.self.inside.settled (refused_call n clock (QuitAll c.args.session) _ (c.in_err-drop_wants.ensures.refused clock c.self.inside.said)) g.O.Outbox.posted c.args.out.now
+    refused_sent n c.args.self.now c.self.view_is (λ z. Call (QuitAll c.args.session)) refl heard.Taken clock c.self.inside.settled
+    (refused_call n clock (QuitAll c.args.session) _ (c.in_err-drop_wants.ensures.refused clock c.self.inside.said)) g.O.Outbox.posted c.args.out.now
 
 pub returns-in_err-drop_wants-clause-place : goal.returns-in_err-drop_wants-clause-place
 returns-in_err-drop_wants-clause-place g c =
@@ -41,37 +44,62 @@ tell_sender-requires g c =
     let n = state_of c.self.inside.tables c.self.inside.said in
     let w = state_of c.drop_wants.new.tables c.self.inside.said in
     let k : SenderKey = (c.args.session, c.default-sender.result) in
-    let p = here_plain k n w c.self.inside.settled (wants_changed c.self.inside.tables c.drop_wants.new.tables c.drop_wants.ensures.rest c.args.session c.drop_wants.ensures.others c.default-sender.result c.self.inside.said) (ap (λ (t : Tables). t.senders) c.drop_wants.ensures.rest) (ap (λ (t : Tables). t.paths.facts) c.drop_wants.ensures.rest) (ap (λ (t : Tables). t.due) c.drop_wants.ensures.rest) (λ d. subst (λ (t : Tables). AreNamed (facts_of d (state_of t c.self.inside.said))) (sym c.drop_wants.ensures.rest) (c.self.inside.settled.named d)) (Call (QuitAll c.args.session)) heard.Taken (λ d. ap (only_heard heard.Taken) (sym (c.drop_wants.ensures.facts d c.self.inside.said))) in
-    (n, is_before k n w p.ruled.change refl c.self.inside.told _ (λ clock. c.offered-before.ensures clock c.self.inside.said) c.hops-near.result (λ clock. c.hops-near.ensures ∙ hops_are clock n c.args.session))
+    let p = here_plain k n w c.self.inside.settled
+    (wants_changed c.self.inside.tables c.drop_wants.new.tables c.drop_wants.ensures.rest c.args.session c.drop_wants.ensures.others c.default-sender.result c.self.inside.said)
+    (ap (λ (t : Tables). t.senders) c.drop_wants.ensures.rest) (ap (λ (t : Tables). t.paths.facts) c.drop_wants.ensures.rest) (ap (λ (t : Tables). t.due) c.drop_wants.ensures.rest)
+    (λ d. subst (λ (t : Tables). AreNamed (facts_of d (state_of t c.self.inside.said))) (sym c.drop_wants.ensures.rest) (c.self.inside.settled.named d))
+    (Call (QuitAll c.args.session)) heard.Taken (λ d. ap (only_heard heard.Taken) (sym (c.drop_wants.ensures.facts d c.self.inside.said))) in (
+      n,
+      is_before k n w p.ruled.change refl c.self.inside.told _ (λ clock. c.offered-before.ensures clock c.self.inside.said) c.hops-near.result
+          (λ clock. c.hops-near.ensures ∙ hops_are clock n c.args.session),
+    )
 
 pub returns-clause-refused : goal.returns-clause-refused
 returns-clause-refused g c = λ clock.
     let n = state_of c.self.inside.tables c.self.inside.said in
-    ap (λ (z : State). refusal_of_call z.place (QuitAll c.args.session) (facts_at clock z)) (sym c.self.view_is) ∙ refusal_is n clock (QuitAll c.args.session) _ (c.in_ok-drop_wants.ensures.refused clock c.self.inside.said)
+    ap (λ (z : State). refusal_of_call z.place (QuitAll c.args.session) (facts_at clock z)) (sym c.self.view_is)
+    ∙ refusal_is n clock (QuitAll c.args.session) _ (c.in_ok-drop_wants.ensures.refused clock c.self.inside.said)
 
 pub returns-clause-facts : goal.returns-clause-facts
 returns-clause-facts g c = λ clock.
     let n = state_of c.self.inside.tables c.self.inside.said in
     let w = state_of c.drop_wants.new.tables c.self.inside.said in
     let k : SenderKey = (c.args.session, c.default-sender.result) in
-    let p = here_plain k n w c.self.inside.settled (wants_changed c.self.inside.tables c.drop_wants.new.tables c.drop_wants.ensures.rest c.args.session c.drop_wants.ensures.others c.default-sender.result c.self.inside.said) (ap (λ (t : Tables). t.senders) c.drop_wants.ensures.rest) (ap (λ (t : Tables). t.paths.facts) c.drop_wants.ensures.rest) (ap (λ (t : Tables). t.due) c.drop_wants.ensures.rest) (λ d. subst (λ (t : Tables). AreNamed (facts_of d (state_of t c.self.inside.said))) (sym c.drop_wants.ensures.rest) (c.self.inside.settled.named d)) (Call (QuitAll c.args.session)) heard.Taken (λ d. ap (only_heard heard.Taken) (sym (c.drop_wants.ensures.facts d c.self.inside.said))) in
-    plain_facts n c.args.self.now c.self.view_is (λ z. Call (QuitAll c.args.session)) refl heard.Taken clock k w p _ (c.tell_sender.ensures.facts n clock (is_before k n w p.ruled.change refl c.self.inside.told _ (λ clock. c.offered-before.ensures clock c.self.inside.said) c.hops-near.result (λ clock. c.hops-near.ensures ∙ hops_are clock n c.args.session)))
+    let p = here_plain k n w c.self.inside.settled
+    (wants_changed c.self.inside.tables c.drop_wants.new.tables c.drop_wants.ensures.rest c.args.session c.drop_wants.ensures.others c.default-sender.result c.self.inside.said)
+    (ap (λ (t : Tables). t.senders) c.drop_wants.ensures.rest) (ap (λ (t : Tables). t.paths.facts) c.drop_wants.ensures.rest) (ap (λ (t : Tables). t.due) c.drop_wants.ensures.rest)
+    (λ d. subst (λ (t : Tables). AreNamed (facts_of d (state_of t c.self.inside.said))) (sym c.drop_wants.ensures.rest) (c.self.inside.settled.named d))
+    (Call (QuitAll c.args.session)) heard.Taken (λ d. ap (only_heard heard.Taken) (sym (c.drop_wants.ensures.facts d c.self.inside.said))) in
+    plain_facts n c.args.self.now c.self.view_is (λ z. Call (QuitAll c.args.session)) refl heard.Taken clock k w p _
+    (c.tell_sender.ensures.facts n clock (is_before k n w p.ruled.change refl c.self.inside.told _ (λ clock. c.offered-before.ensures clock c.self.inside.said) c.hops-near.result
+    (λ clock. c.hops-near.ensures ∙ hops_are clock n c.args.session)))
 
 pub returns-clause-sent : goal.returns-clause-sent
 returns-clause-sent g c = λ clock.
     let n = state_of c.self.inside.tables c.self.inside.said in
     let w = state_of c.drop_wants.new.tables c.self.inside.said in
     let k : SenderKey = (c.args.session, c.default-sender.result) in
-    let p = here_plain k n w c.self.inside.settled (wants_changed c.self.inside.tables c.drop_wants.new.tables c.drop_wants.ensures.rest c.args.session c.drop_wants.ensures.others c.default-sender.result c.self.inside.said) (ap (λ (t : Tables). t.senders) c.drop_wants.ensures.rest) (ap (λ (t : Tables). t.paths.facts) c.drop_wants.ensures.rest) (ap (λ (t : Tables). t.due) c.drop_wants.ensures.rest) (λ d. subst (λ (t : Tables). AreNamed (facts_of d (state_of t c.self.inside.said))) (sym c.drop_wants.ensures.rest) (c.self.inside.settled.named d)) (Call (QuitAll c.args.session)) heard.Taken (λ d. ap (only_heard heard.Taken) (sym (c.drop_wants.ensures.facts d c.self.inside.said))) in
-    plain_sent n c.args.self.now c.self.view_is (λ z. Call (QuitAll c.args.session)) refl heard.Taken clock k w p g.O.Outbox.posted _ c.args.out.now (c.tell_sender.ensures.sent n clock heard.Taken (is_before k n w p.ruled.change refl c.self.inside.told _ (λ clock. c.offered-before.ensures clock c.self.inside.said) c.hops-near.result (λ clock. c.hops-near.ensures ∙ hops_are clock n c.args.session)))
+    let p = here_plain k n w c.self.inside.settled
+    (wants_changed c.self.inside.tables c.drop_wants.new.tables c.drop_wants.ensures.rest c.args.session c.drop_wants.ensures.others c.default-sender.result c.self.inside.said)
+    (ap (λ (t : Tables). t.senders) c.drop_wants.ensures.rest) (ap (λ (t : Tables). t.paths.facts) c.drop_wants.ensures.rest) (ap (λ (t : Tables). t.due) c.drop_wants.ensures.rest)
+    (λ d. subst (λ (t : Tables). AreNamed (facts_of d (state_of t c.self.inside.said))) (sym c.drop_wants.ensures.rest) (c.self.inside.settled.named d))
+    (Call (QuitAll c.args.session)) heard.Taken (λ d. ap (only_heard heard.Taken) (sym (c.drop_wants.ensures.facts d c.self.inside.said))) in
+    plain_sent n c.args.self.now c.self.view_is (λ z. Call (QuitAll c.args.session)) refl heard.Taken clock k w p g.O.Outbox.posted _ c.args.out.now
+    (c.tell_sender.ensures.sent n clock heard.Taken (is_before k n w p.ruled.change refl c.self.inside.told _ (λ clock. c.offered-before.ensures clock c.self.inside.said) c.hops-near.result
+    (λ clock. c.hops-near.ensures ∙ hops_are clock n c.args.session)))
 
 pub returns-clause-place : goal.returns-clause-place
 returns-clause-place g c =
     let n = state_of c.self.inside.tables c.self.inside.said in
     let w = state_of c.drop_wants.new.tables c.self.inside.said in
     let k : SenderKey = (c.args.session, c.default-sender.result) in
-    let p = here_plain k n w c.self.inside.settled (wants_changed c.self.inside.tables c.drop_wants.new.tables c.drop_wants.ensures.rest c.args.session c.drop_wants.ensures.others c.default-sender.result c.self.inside.said) (ap (λ (t : Tables). t.senders) c.drop_wants.ensures.rest) (ap (λ (t : Tables). t.paths.facts) c.drop_wants.ensures.rest) (ap (λ (t : Tables). t.due) c.drop_wants.ensures.rest) (λ d. subst (λ (t : Tables). AreNamed (facts_of d (state_of t c.self.inside.said))) (sym c.drop_wants.ensures.rest) (c.self.inside.settled.named d)) (Call (QuitAll c.args.session)) heard.Taken (λ d. ap (only_heard heard.Taken) (sym (c.drop_wants.ensures.facts d c.self.inside.said))) in
-    wants_place c.drop_wants.new.tables c.tell_sender.new.tables c.tell_sender.ensures.rest c.self.inside.said c.tell_sender.new.said ∙ sym p.ruled.change.place ∙ ap (λ (z : State). z.place) c.self.view_is
+    let p = here_plain k n w c.self.inside.settled
+    (wants_changed c.self.inside.tables c.drop_wants.new.tables c.drop_wants.ensures.rest c.args.session c.drop_wants.ensures.others c.default-sender.result c.self.inside.said)
+    (ap (λ (t : Tables). t.senders) c.drop_wants.ensures.rest) (ap (λ (t : Tables). t.paths.facts) c.drop_wants.ensures.rest) (ap (λ (t : Tables). t.due) c.drop_wants.ensures.rest)
+    (λ d. subst (λ (t : Tables). AreNamed (facts_of d (state_of t c.self.inside.said))) (sym c.drop_wants.ensures.rest) (c.self.inside.settled.named d))
+    (Call (QuitAll c.args.session)) heard.Taken (λ d. ap (only_heard heard.Taken) (sym (c.drop_wants.ensures.facts d c.self.inside.said))) in
+    wants_place c.drop_wants.new.tables c.tell_sender.new.tables c.tell_sender.ensures.rest c.self.inside.said c.tell_sender.new.said ∙ sym p.ruled.change.place
+    ∙ ap (λ (z : State). z.place) c.self.view_is
 
 pub invariant_of-self-inside : goal.invariant_of-self-inside
 invariant_of-self-inside g c =
@@ -82,7 +110,11 @@ invariant_of-self-inside-2 g c =
     let n = state_of c.self.inside.tables c.self.inside.said in
     let w = state_of c.drop_wants.new.tables c.self.inside.said in
     let k : SenderKey = (c.args.session, c.default-sender.result) in
-    let p = here_plain k n w c.self.inside.settled (wants_changed c.self.inside.tables c.drop_wants.new.tables c.drop_wants.ensures.rest c.args.session c.drop_wants.ensures.others c.default-sender.result c.self.inside.said) (ap (λ (t : Tables). t.senders) c.drop_wants.ensures.rest) (ap (λ (t : Tables). t.paths.facts) c.drop_wants.ensures.rest) (ap (λ (t : Tables). t.due) c.drop_wants.ensures.rest) (λ d. subst (λ (t : Tables). AreNamed (facts_of d (state_of t c.self.inside.said))) (sym c.drop_wants.ensures.rest) (c.self.inside.settled.named d)) (Call (QuitAll c.args.session)) heard.Taken (λ d. ap (only_heard heard.Taken) (sym (c.drop_wants.ensures.facts d c.self.inside.said))) in
+    let p = here_plain k n w c.self.inside.settled
+    (wants_changed c.self.inside.tables c.drop_wants.new.tables c.drop_wants.ensures.rest c.args.session c.drop_wants.ensures.others c.default-sender.result c.self.inside.said)
+    (ap (λ (t : Tables). t.senders) c.drop_wants.ensures.rest) (ap (λ (t : Tables). t.paths.facts) c.drop_wants.ensures.rest) (ap (λ (t : Tables). t.due) c.drop_wants.ensures.rest)
+    (λ d. subst (λ (t : Tables). AreNamed (facts_of d (state_of t c.self.inside.said))) (sym c.drop_wants.ensures.rest) (c.self.inside.settled.named d))
+    (Call (QuitAll c.args.session)) heard.Taken (λ d. ap (only_heard heard.Taken) (sym (c.drop_wants.ensures.facts d c.self.inside.said))) in
     let mid = c.drop_wants.new.tables in
     let rest = c.tell_sender.ensures.rest in (
       wants_sound mid c.tell_sender.new.tables rest (wants_sound c.self.inside.tables mid c.drop_wants.ensures.rest c.self.inside.sound),

@@ -5,13 +5,13 @@ use Rattle.router_rules.specs.Facts.{SenderKey}
 use Rattle.router_rules.specs.Inputs.{Call, SendAs}
 use Rattle.router_rules.specs.Rule.{refusal_of_call}
 use Rattle.router_rules.specs.declared.answers.Heard.TheVariants as heard
-use Rattle.node_facts.specs.State.{IsSaid, IsSettled, State, facts_at}
-use Rattle.node_tables.specs.Whole.{state_of}
-use Rattle.lane_telling.proofs.Sent.{hops_are}
-use Rattle.node_acting.proofs.Before.{is_before, settled_with}
-use Rattle.node_acting.proofs.Calling.{no_room, not_mine, refusal_is, refused_call}
-use Rattle.node_acting.proofs.Doing.{sender_comes, sender_free}
-use Rattle.node_acting.proofs.Ruled.{plain_facts, plain_sent, refused_facts, refused_sent}
+use Rattle.router_state.specs.State.{IsSaid, IsSettled, State, facts_at}
+use Rattle.router_state.specs.Whole.{state_of}
+use Rattle.resv_sends.proofs.Sent.{hops_are}
+use Rattle.router_arrivals.proofs.Before.{is_before, settled_with}
+use Rattle.router_arrivals.proofs.Calling.{no_room, not_mine, refusal_is, refused_call}
+use Rattle.router_arrivals.proofs.Doing.{sender_comes, sender_free}
+use Rattle.router_arrivals.proofs.Ruled.{plain_facts, plain_sent, refused_facts, refused_sent}
 use Rattle.router_core.proofs.Told.{not_tried, still_of_place, still_sound, tried, wants_of_place, wants_place, wants_settled, wants_sound}
 use Rattle.router_core.proofs.node.Node.local_send.Goals as goal
 
@@ -24,7 +24,8 @@ returns-then-not-is_own-clause-facts g c = λ clock.
     let n = state_of c.self.inside.tables c.self.inside.said in
     let k : SenderKey = (c.args.session, c.args.sender) in
     let no = refused_call n clock (SendAs c.args.session c.args.sender c.args.tspec) _ (not_mine n clock k c.args.tspec (sym c.is_own.ensures ∙ c.if-not-is_own.true)) in
-    ap (facts_at clock) (sym c.self.view_is) ∙ refused_facts n c.args.self.now c.self.view_is (λ z. Call (SendAs c.args.session c.args.sender c.args.tspec)) refl heard.Taken clock c.self.inside.settled no
+    ap (facts_at clock) (sym c.self.view_is) ∙ refused_facts n c.args.self.now c.self.view_is
+    (λ z. Call (SendAs c.args.session c.args.sender c.args.tspec)) refl heard.Taken clock c.self.inside.settled no
 
 pub returns-then-not-is_own-clause-sent : goal.returns-then-not-is_own-clause-sent
 returns-then-not-is_own-clause-sent g c = λ clock.
@@ -37,27 +38,33 @@ pub returns-then-not-is_own-clause-refused : goal.returns-then-not-is_own-clause
 returns-then-not-is_own-clause-refused g c = λ clock.
     let n = state_of c.self.inside.tables c.self.inside.said in
     let k : SenderKey = (c.args.session, c.args.sender) in
-    ap (λ (z : State). refusal_of_call z.place (SendAs c.args.session c.args.sender c.args.tspec) (facts_at clock z)) (sym c.self.view_is) ∙ refusal_is n clock (SendAs c.args.session c.args.sender c.args.tspec) _ (not_mine n clock k c.args.tspec (sym c.is_own.ensures ∙ c.if-not-is_own.true))
+    ap (λ (z : State). refusal_of_call z.place (SendAs c.args.session c.args.sender c.args.tspec) (facts_at clock z)) (sym c.self.view_is)
+    ∙ refusal_is n clock (SendAs c.args.session c.args.sender c.args.tspec) _ (not_mine n clock k c.args.tspec (sym c.is_own.ensures ∙ c.if-not-is_own.true))
 
 pub returns-then-not-keep_sender-clause-facts : goal.returns-then-not-keep_sender-clause-facts
 returns-then-not-keep_sender-clause-facts g c = λ clock.
     let n = state_of c.self.inside.tables c.self.inside.said in
     let k : SenderKey = (c.args.session, c.args.sender) in
-    let no = refused_call n clock (SendAs c.args.session c.args.sender c.args.tspec) _ (no_room n clock k c.args.tspec (sym c.is_own.ensures ∙ c.if-not-is_own.false) (sym c.keep_sender.ensures.room ∙ c.if-not-keep_sender.true)) in
-    ap (facts_at clock) (not_tried c.keep_sender.new.tables c.self.inside.said _ _ _ c.keep_sender.ensures.state c.if-not-keep_sender.true) ∙ refused_facts n c.args.self.now c.self.view_is (λ z. Call (SendAs c.args.session c.args.sender c.args.tspec)) refl heard.Taken clock c.self.inside.settled no
+    let no = refused_call n clock (SendAs c.args.session c.args.sender c.args.tspec) _ (no_room n clock k c.args.tspec (sym c.is_own.ensures ∙ c.if-not-is_own.false)
+    (sym c.keep_sender.ensures.room ∙ c.if-not-keep_sender.true)) in
+    ap (facts_at clock) (not_tried c.keep_sender.new.tables c.self.inside.said _ _ _ c.keep_sender.ensures.state c.if-not-keep_sender.true)
+    ∙ refused_facts n c.args.self.now c.self.view_is (λ z. Call (SendAs c.args.session c.args.sender c.args.tspec)) refl heard.Taken clock c.self.inside.settled no
 
 pub returns-then-not-keep_sender-clause-sent : goal.returns-then-not-keep_sender-clause-sent
 returns-then-not-keep_sender-clause-sent g c = λ clock.
     let n = state_of c.self.inside.tables c.self.inside.said in
     let k : SenderKey = (c.args.session, c.args.sender) in
-    let no = refused_call n clock (SendAs c.args.session c.args.sender c.args.tspec) _ (no_room n clock k c.args.tspec (sym c.is_own.ensures ∙ c.if-not-is_own.false) (sym c.keep_sender.ensures.room ∙ c.if-not-keep_sender.true)) in
+    let no = refused_call n clock (SendAs c.args.session c.args.sender c.args.tspec) _ (no_room n clock k c.args.tspec (sym c.is_own.ensures ∙ c.if-not-is_own.false)
+    (sym c.keep_sender.ensures.room ∙ c.if-not-keep_sender.true)) in
     refused_sent n c.args.self.now c.self.view_is (λ z. Call (SendAs c.args.session c.args.sender c.args.tspec)) refl heard.Taken clock c.self.inside.settled no g.O.Outbox.posted c.args.out.now
 
 pub returns-then-not-keep_sender-clause-refused : goal.returns-then-not-keep_sender-clause-refused
 returns-then-not-keep_sender-clause-refused g c = λ clock.
     let n = state_of c.self.inside.tables c.self.inside.said in
     let k : SenderKey = (c.args.session, c.args.sender) in
-    ap (λ (z : State). refusal_of_call z.place (SendAs c.args.session c.args.sender c.args.tspec) (facts_at clock z)) (sym c.self.view_is) ∙ refusal_is n clock (SendAs c.args.session c.args.sender c.args.tspec) _ (no_room n clock k c.args.tspec (sym c.is_own.ensures ∙ c.if-not-is_own.false) (sym c.keep_sender.ensures.room ∙ c.if-not-keep_sender.true))
+    ap (λ (z : State). refusal_of_call z.place (SendAs c.args.session c.args.sender c.args.tspec) (facts_at clock z)) (sym c.self.view_is)
+    ∙ refusal_is n clock (SendAs c.args.session c.args.sender c.args.tspec) _ (no_room n clock k c.args.tspec (sym c.is_own.ensures ∙ c.if-not-is_own.false)
+    (sym c.keep_sender.ensures.room ∙ c.if-not-keep_sender.true))
 
 pub returns-then-not-keep_sender-clause-place : goal.returns-then-not-keep_sender-clause-place
 returns-then-not-keep_sender-clause-place g c =
@@ -68,51 +75,73 @@ tell_sender-requires g c =
     let n = state_of c.self.inside.tables c.self.inside.said in
     let w = state_of c.keep_sender.new.tables c.self.inside.said in
     let k : SenderKey = (c.args.session, c.args.sender) in
-    let p = sender_comes n c.self.inside.settled k c.args.tspec (sym c.is_own.ensures ∙ c.if-not-is_own.false) (sym c.keep_sender.ensures.room ∙ c.if-not-keep_sender.false) w c.self.inside.said (tried c.keep_sender.new.tables c.self.inside.said _ _ _ c.keep_sender.ensures.state c.if-not-keep_sender.false) in
-    (n, is_before k n w p.ruled.change refl c.self.inside.told _ (λ clock. c.offered-before.ensures clock c.self.inside.said) c.hops-near.result (λ clock. c.hops-near.ensures ∙ hops_are clock n c.args.session))
+    let p = sender_comes n c.self.inside.settled k c.args.tspec (sym c.is_own.ensures ∙ c.if-not-is_own.false) (sym c.keep_sender.ensures.room ∙ c.if-not-keep_sender.false) w c.self.inside.said
+    (tried c.keep_sender.new.tables c.self.inside.said _ _ _ c.keep_sender.ensures.state c.if-not-keep_sender.false) in (
+      n,
+      is_before k n w p.ruled.change refl c.self.inside.told _ (λ clock. c.offered-before.ensures clock c.self.inside.said) c.hops-near.result
+          (λ clock. c.hops-near.ensures ∙ hops_are clock n c.args.session),
+    )
 
 pub returns-clause-facts : goal.returns-clause-facts
 returns-clause-facts g c = λ clock.
     let n = state_of c.self.inside.tables c.self.inside.said in
     let w = state_of c.keep_sender.new.tables c.self.inside.said in
     let k : SenderKey = (c.args.session, c.args.sender) in
-    let p = sender_comes n c.self.inside.settled k c.args.tspec (sym c.is_own.ensures ∙ c.if-not-is_own.false) (sym c.keep_sender.ensures.room ∙ c.if-not-keep_sender.false) w c.self.inside.said (tried c.keep_sender.new.tables c.self.inside.said _ _ _ c.keep_sender.ensures.state c.if-not-keep_sender.false) in
-    plain_facts n c.args.self.now c.self.view_is (λ z. Call (SendAs c.args.session c.args.sender c.args.tspec)) refl heard.Taken clock k w p _ (c.tell_sender.ensures.facts n clock (is_before k n w p.ruled.change refl c.self.inside.told _ (λ clock. c.offered-before.ensures clock c.self.inside.said) c.hops-near.result (λ clock. c.hops-near.ensures ∙ hops_are clock n c.args.session)))
+    let p = sender_comes n c.self.inside.settled k c.args.tspec (sym c.is_own.ensures ∙ c.if-not-is_own.false) (sym c.keep_sender.ensures.room ∙ c.if-not-keep_sender.false) w c.self.inside.said
+    (tried c.keep_sender.new.tables c.self.inside.said _ _ _ c.keep_sender.ensures.state c.if-not-keep_sender.false) in
+    plain_facts n c.args.self.now c.self.view_is (λ z. Call (SendAs c.args.session c.args.sender c.args.tspec)) refl heard.Taken clock k w p _
+    (c.tell_sender.ensures.facts n clock (is_before k n w p.ruled.change refl c.self.inside.told _ (λ clock. c.offered-before.ensures clock c.self.inside.said) c.hops-near.result
+    (λ clock. c.hops-near.ensures ∙ hops_are clock n c.args.session)))
 
 pub returns-clause-refused : goal.returns-clause-refused
 returns-clause-refused g c = λ clock.
     let n = state_of c.self.inside.tables c.self.inside.said in
     let k : SenderKey = (c.args.session, c.args.sender) in
-    ap (λ (z : State). refusal_of_call z.place (SendAs c.args.session c.args.sender c.args.tspec) (facts_at clock z)) (sym c.self.view_is) ∙ refusal_is n clock (SendAs c.args.session c.args.sender c.args.tspec) _ (sender_free n c.self.inside.settled k c.args.tspec (sym c.is_own.ensures ∙ c.if-not-is_own.false) (sym c.keep_sender.ensures.room ∙ c.if-not-keep_sender.false) clock)
+    ap (λ (z : State). refusal_of_call z.place (SendAs c.args.session c.args.sender c.args.tspec) (facts_at clock z)) (sym c.self.view_is)
+    ∙ refusal_is n clock (SendAs c.args.session c.args.sender c.args.tspec) _ (sender_free n c.self.inside.settled k c.args.tspec (sym c.is_own.ensures ∙ c.if-not-is_own.false)
+    (sym c.keep_sender.ensures.room ∙ c.if-not-keep_sender.false) clock)
 
 pub returns-clause-sent : goal.returns-clause-sent
 returns-clause-sent g c = λ clock.
     let n = state_of c.self.inside.tables c.self.inside.said in
     let w = state_of c.keep_sender.new.tables c.self.inside.said in
     let k : SenderKey = (c.args.session, c.args.sender) in
-    let p = sender_comes n c.self.inside.settled k c.args.tspec (sym c.is_own.ensures ∙ c.if-not-is_own.false) (sym c.keep_sender.ensures.room ∙ c.if-not-keep_sender.false) w c.self.inside.said (tried c.keep_sender.new.tables c.self.inside.said _ _ _ c.keep_sender.ensures.state c.if-not-keep_sender.false) in
-    plain_sent n c.args.self.now c.self.view_is (λ z. Call (SendAs c.args.session c.args.sender c.args.tspec)) refl heard.Taken clock k w p g.O.Outbox.posted _ c.args.out.now (c.tell_sender.ensures.sent n clock heard.Taken (is_before k n w p.ruled.change refl c.self.inside.told _ (λ clock. c.offered-before.ensures clock c.self.inside.said) c.hops-near.result (λ clock. c.hops-near.ensures ∙ hops_are clock n c.args.session)))
+    let p = sender_comes n c.self.inside.settled k c.args.tspec (sym c.is_own.ensures ∙ c.if-not-is_own.false) (sym c.keep_sender.ensures.room ∙ c.if-not-keep_sender.false) w c.self.inside.said
+    (tried c.keep_sender.new.tables c.self.inside.said _ _ _ c.keep_sender.ensures.state c.if-not-keep_sender.false) in
+    plain_sent n c.args.self.now c.self.view_is (λ z. Call (SendAs c.args.session c.args.sender c.args.tspec)) refl heard.Taken clock k w p g.O.Outbox.posted _ c.args.out.now
+    (c.tell_sender.ensures.sent n clock heard.Taken (is_before k n w p.ruled.change refl c.self.inside.told _ (λ clock. c.offered-before.ensures clock c.self.inside.said) c.hops-near.result
+    (λ clock. c.hops-near.ensures ∙ hops_are clock n c.args.session)))
 
 pub returns-clause-place : goal.returns-clause-place
 returns-clause-place g c =
     let n = state_of c.self.inside.tables c.self.inside.said in
     let w = state_of c.keep_sender.new.tables c.self.inside.said in
     let k : SenderKey = (c.args.session, c.args.sender) in
-    let p = sender_comes n c.self.inside.settled k c.args.tspec (sym c.is_own.ensures ∙ c.if-not-is_own.false) (sym c.keep_sender.ensures.room ∙ c.if-not-keep_sender.false) w c.self.inside.said (tried c.keep_sender.new.tables c.self.inside.said _ _ _ c.keep_sender.ensures.state c.if-not-keep_sender.false) in
-    wants_place c.keep_sender.new.tables c.tell_sender.new.tables c.tell_sender.ensures.rest c.self.inside.said c.tell_sender.new.said ∙ sym p.ruled.change.place ∙ ap (λ (z : State). z.place) c.self.view_is
+    let p = sender_comes n c.self.inside.settled k c.args.tspec (sym c.is_own.ensures ∙ c.if-not-is_own.false) (sym c.keep_sender.ensures.room ∙ c.if-not-keep_sender.false) w c.self.inside.said
+    (tried c.keep_sender.new.tables c.self.inside.said _ _ _ c.keep_sender.ensures.state c.if-not-keep_sender.false) in
+    wants_place c.keep_sender.new.tables c.tell_sender.new.tables c.tell_sender.ensures.rest c.self.inside.said c.tell_sender.new.said ∙ sym p.ruled.change.place
+    ∙ ap (λ (z : State). z.place) c.self.view_is
 
 pub invariant_of-self-inside-2 : goal.invariant_of-self-inside-2
 invariant_of-self-inside-2 g c =
     let n = state_of c.self.inside.tables c.self.inside.said in
     let w = state_of c.keep_sender.new.tables c.self.inside.said in
     let k : SenderKey = (c.args.session, c.args.sender) in
-    let p = sender_comes n c.self.inside.settled k c.args.tspec (sym c.is_own.ensures ∙ c.if-not-is_own.false) (sym c.keep_sender.ensures.room ∙ c.if-not-keep_sender.false) w c.self.inside.said (tried c.keep_sender.new.tables c.self.inside.said _ _ _ c.keep_sender.ensures.state c.if-not-keep_sender.false) in
+    let p = sender_comes n c.self.inside.settled k c.args.tspec (sym c.is_own.ensures ∙ c.if-not-is_own.false) (sym c.keep_sender.ensures.room ∙ c.if-not-keep_sender.false) w c.self.inside.said
+    (tried c.keep_sender.new.tables c.self.inside.said _ _ _ c.keep_sender.ensures.state c.if-not-keep_sender.false) in
     let mid = c.keep_sender.new.tables in
     let rest = c.tell_sender.ensures.rest in (
-      wants_sound mid c.tell_sender.new.tables rest (still_sound c.self.inside.tables c.keep_sender.new.tables c.keep_sender.ensures.rest (ap (λ (m : PathMap). m.dead.rows) c.keep_sender.ensures.paths ∙ c.self.inside.sound.pulled.paths) c.self.inside.sound),
+      wants_sound mid c.tell_sender.new.tables rest (still_sound c.self.inside.tables c.keep_sender.new.tables c.keep_sender.ensures.rest
+          (ap (λ (m : PathMap). m.dead.rows) c.keep_sender.ensures.paths ∙ c.self.inside.sound.pulled.paths) c.self.inside.sound),
       (
         wants_settled mid c.tell_sender.new.tables rest c.self.inside.said c.tell_sender.new.said p.ruled.kept,
-        (c.tell_sender.ensures.said, (wants_of_place mid c.tell_sender.new.tables rest (still_of_place c.self.inside.tables c.keep_sender.new.tables c.keep_sender.ensures.rest c.self.inside.place), tt)),
+        (
+          c.tell_sender.ensures.said,
+          (
+            wants_of_place mid c.tell_sender.new.tables rest (still_of_place c.self.inside.tables c.keep_sender.new.tables c.keep_sender.ensures.rest c.self.inside.place),
+            tt,
+          ),
+        ),
       ),
     )
 

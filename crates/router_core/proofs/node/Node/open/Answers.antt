@@ -1,10 +1,10 @@
 use Rattle.std.proofs.Common.{◌≡◌, ap, sym, subst, ◌∙◌}
 use Rattle.rsvp_base.specs.Table.{empty}
-use Rattle.lane_state.specs.Lanes.{LaneMap}
-use Rattle.node_facts.specs.State.{IsKept, IsSaid, IsSettled, State, no_state}
-use Rattle.node_facts.proofs.Opening.{kept_none}
-use Rattle.node_tables.specs.Whole.{IsOfPlace, state_of}
-use Rattle.session_rounds.specs.Steps.{AreSound}
+use Rattle.sent_state.specs.Lanes.{LaneMap}
+use Rattle.router_state.specs.State.{IsKept, IsSaid, IsSettled, State, no_state}
+use Rattle.router_state.proofs.Opening.{kept_none}
+use Rattle.router_state.specs.Whole.{IsOfPlace, state_of}
+use Rattle.router_rounds.specs.Steps.{AreSound}
 use Rattle.router_core.proofs.node.Node.open.Goals as goal
 use Rattle.router_core.proofs.node.Node.open.Goals.{In_ok-said}
 

@@ -9,21 +9,22 @@ use Rattle.router_rules.specs.Paths.{is_path_by}
 use Rattle.router_rules.specs.Rule.{heard_after}
 use Rattle.router_rules.specs.declared.answers.Heard.TheVariants as heard
 use Rattle.router_rules.specs.declared.answers.Why.TheVariants as why
-use Rattle.node_facts.specs.Changes.{path_came}
-use Rattle.node_facts.specs.State.{State, facts_at, facts_of}
-use Rattle.node_tables.specs.Whole.{state_of}
-use Rattle.lane_telling.proofs.Sent.{hops_are}
-use Rattle.node_acting.proofs.Before.{is_before, settled_with}
-use Rattle.node_acting.proofs.Doing.{path_comes}
-use Rattle.node_acting.proofs.Pathing.{is_full}
-use Rattle.node_acting.proofs.Ruled.{heard_is, plain_facts, plain_sent, refused_facts, refused_sent}
+use Rattle.router_state.specs.Changes.{path_came}
+use Rattle.router_state.specs.State.{State, facts_at, facts_of}
+use Rattle.router_state.specs.Whole.{state_of}
+use Rattle.resv_sends.proofs.Sent.{hops_are}
+use Rattle.router_arrivals.proofs.Before.{is_before, settled_with}
+use Rattle.router_arrivals.proofs.Doing.{path_comes}
+use Rattle.router_arrivals.proofs.Pathing.{is_full}
+use Rattle.router_arrivals.proofs.Ruled.{heard_is, plain_facts, plain_sent, refused_facts, refused_sent}
 use Rattle.router_core.proofs.Told.{not_tried, still_of_place, still_sound, tried, wants_of_place, wants_place, wants_settled, wants_sound}
 use Rattle.router_core.proofs.node.Node.path.Goals as goal
 
 pub returns-in-Err-clause-facts : goal.returns-in-Err-clause-facts
 returns-in-Err-clause-facts g c = λ clock.
     let n = state_of c.self.inside.tables c.self.inside.said in
-    ap (facts_at clock) (sym c.self.view_is) ∙ refused_facts n c.args.self.now c.self.view_is (λ z. path_came c.args.iface c.args.message.now) refl (heard.Dropped c.in-Err.why) clock c.self.inside.settled (c.in-Err.ensures.err clock n refl)
+    ap (facts_at clock) (sym c.self.view_is) ∙ refused_facts n c.args.self.now c.self.view_is (λ z. path_came c.args.iface c.args.message.now) refl
+    (heard.Dropped c.in-Err.why) clock c.self.inside.settled (c.in-Err.ensures.err clock n refl)
 
 pub returns-in-Err-clause-heard : goal.returns-in-Err-clause-heard
 returns-in-Err-clause-heard g c = λ clock.
@@ -34,7 +35,8 @@ returns-in-Err-clause-heard g c = λ clock.
 pub returns-in-Err-clause-sent : goal.returns-in-Err-clause-sent
 returns-in-Err-clause-sent g c = λ clock.
     let n = state_of c.self.inside.tables c.self.inside.said in
-    refused_sent n c.args.self.now c.self.view_is (λ z. path_came c.args.iface c.args.message.now) refl (heard.Dropped c.in-Err.why) clock c.self.inside.settled (c.in-Err.ensures.err clock n refl) g.O.Outbox.posted c.args.out.now
+    refused_sent n c.args.self.now c.self.view_is (λ z. path_came c.args.iface c.args.message.now) refl (heard.Dropped c.in-Err.why) clock c.self.inside.settled
+    (c.in-Err.ensures.err clock n refl) g.O.Outbox.posted c.args.out.now
 
 pub renew_path-requires-clause-was : goal.renew_path-requires-clause-was
 renew_path-requires-clause-was g c =
@@ -58,7 +60,8 @@ pub returns-then-not-learn_path-clause-facts : goal.returns-then-not-learn_path-
 returns-then-not-learn_path-clause-facts g c = λ clock.
     let n = state_of c.self.inside.tables c.self.inside.said in
     let no = is_full n clock c.args.iface c.args.message.now c.in-Ok.named.0 c.in-Ok.named.1 c.in-Ok.ensures.ok.0 c.in-Ok.ensures.ok.1 (sym c.learn_path.ensures.room ∙ c.if-not-learn_path.true) in
-    ap (facts_at clock) (not_tried c.learn_path.new.tables c.self.inside.said _ _ _ c.learn_path.ensures.state c.if-not-learn_path.true) ∙ refused_facts n c.args.self.now c.self.view_is (λ z. path_came c.args.iface c.args.message.now) refl (heard.Dropped why.Full) clock c.self.inside.settled no
+    ap (facts_at clock) (not_tried c.learn_path.new.tables c.self.inside.said _ _ _ c.learn_path.ensures.state c.if-not-learn_path.true)
+    ∙ refused_facts n c.args.self.now c.self.view_is (λ z. path_came c.args.iface c.args.message.now) refl (heard.Dropped why.Full) clock c.self.inside.settled no
 
 pub returns-then-not-learn_path-clause-heard : goal.returns-then-not-learn_path-clause-heard
 returns-then-not-learn_path-clause-heard g c = λ clock.
@@ -82,23 +85,34 @@ tell_sender-requires g c =
     let n = state_of c.self.inside.tables c.self.inside.said in
     let w = state_of c.learn_path.new.tables c.self.inside.said in
     let k : SenderKey = (c.args.message.now.session, c.in-Ok.named.0) in
-    let p = path_comes n c.self.inside.settled c.args.iface c.args.message.now c.in-Ok.named.0 c.in-Ok.named.1 c.in-Ok.ensures.ok.0 c.in-Ok.ensures.ok.1 (sym c.learn_path.ensures.room ∙ c.if-not-learn_path.false) w c.self.inside.said (tried c.learn_path.new.tables c.self.inside.said _ _ _ c.learn_path.ensures.state c.if-not-learn_path.false) in
-    (n, is_before k n w p.ruled.change refl c.self.inside.told _ (λ clock. c.offered-before.ensures clock c.self.inside.said) c.hops-near.result (λ clock. c.hops-near.ensures ∙ hops_are clock n c.args.message.now.session))
+    let p = path_comes n c.self.inside.settled c.args.iface c.args.message.now c.in-Ok.named.0 c.in-Ok.named.1 c.in-Ok.ensures.ok.0 c.in-Ok.ensures.ok.1
+    (sym c.learn_path.ensures.room ∙ c.if-not-learn_path.false) w c.self.inside.said
+    (tried c.learn_path.new.tables c.self.inside.said _ _ _ c.learn_path.ensures.state c.if-not-learn_path.false) in (
+      n,
+      is_before k n w p.ruled.change refl c.self.inside.told _ (λ clock. c.offered-before.ensures clock c.self.inside.said) c.hops-near.result
+          (λ clock. c.hops-near.ensures ∙ hops_are clock n c.args.message.now.session),
+    )
 
 pub returns-clause-facts : goal.returns-clause-facts
 returns-clause-facts g c = λ clock.
     let n = state_of c.self.inside.tables c.self.inside.said in
     let w = state_of c.learn_path.new.tables c.self.inside.said in
     let k : SenderKey = (c.args.message.now.session, c.in-Ok.named.0) in
-    let p = path_comes n c.self.inside.settled c.args.iface c.args.message.now c.in-Ok.named.0 c.in-Ok.named.1 c.in-Ok.ensures.ok.0 c.in-Ok.ensures.ok.1 (sym c.learn_path.ensures.room ∙ c.if-not-learn_path.false) w c.self.inside.said (tried c.learn_path.new.tables c.self.inside.said _ _ _ c.learn_path.ensures.state c.if-not-learn_path.false) in
-    plain_facts n c.args.self.now c.self.view_is (λ z. path_came c.args.iface c.args.message.now) refl heard.Taken clock k w p _ (c.tell_sender.ensures.facts n clock (is_before k n w p.ruled.change refl c.self.inside.told _ (λ clock. c.offered-before.ensures clock c.self.inside.said) c.hops-near.result (λ clock. c.hops-near.ensures ∙ hops_are clock n c.args.message.now.session)))
+    let p = path_comes n c.self.inside.settled c.args.iface c.args.message.now c.in-Ok.named.0 c.in-Ok.named.1 c.in-Ok.ensures.ok.0 c.in-Ok.ensures.ok.1
+    (sym c.learn_path.ensures.room ∙ c.if-not-learn_path.false) w c.self.inside.said
+    (tried c.learn_path.new.tables c.self.inside.said _ _ _ c.learn_path.ensures.state c.if-not-learn_path.false) in
+    plain_facts n c.args.self.now c.self.view_is (λ z. path_came c.args.iface c.args.message.now) refl heard.Taken clock k w p _
+    (c.tell_sender.ensures.facts n clock (is_before k n w p.ruled.change refl c.self.inside.told _ (λ clock. c.offered-before.ensures clock c.self.inside.said) c.hops-near.result
+    (λ clock. c.hops-near.ensures ∙ hops_are clock n c.args.message.now.session)))
 
 pub returns-clause-heard : goal.returns-clause-heard
 returns-clause-heard g c = λ clock.
     let n = state_of c.self.inside.tables c.self.inside.said in
     let w = state_of c.learn_path.new.tables c.self.inside.said in
     let k : SenderKey = (c.args.message.now.session, c.in-Ok.named.0) in
-    let p = path_comes n c.self.inside.settled c.args.iface c.args.message.now c.in-Ok.named.0 c.in-Ok.named.1 c.in-Ok.ensures.ok.0 c.in-Ok.ensures.ok.1 (sym c.learn_path.ensures.room ∙ c.if-not-learn_path.false) w c.self.inside.said (tried c.learn_path.new.tables c.self.inside.said _ _ _ c.learn_path.ensures.state c.if-not-learn_path.false) in
+    let p = path_comes n c.self.inside.settled c.args.iface c.args.message.now c.in-Ok.named.0 c.in-Ok.named.1 c.in-Ok.ensures.ok.0 c.in-Ok.ensures.ok.1
+    (sym c.learn_path.ensures.room ∙ c.if-not-learn_path.false) w c.self.inside.said
+    (tried c.learn_path.new.tables c.self.inside.said _ _ _ c.learn_path.ensures.state c.if-not-learn_path.false) in
     heard_is n clock c.args.iface c.args.message.now.session.group (Spelt (message.Path c.args.message.now)) _ heard.Taken (p.does clock)
     ∙ ap (λ (z : State). heard_after z.place clock c.args.iface c.args.message.now.session.group (Spelt (message.Path c.args.message.now)) (facts_at clock z)) c.self.view_is
 
@@ -107,28 +121,43 @@ returns-clause-sent g c = λ clock.
     let n = state_of c.self.inside.tables c.self.inside.said in
     let w = state_of c.learn_path.new.tables c.self.inside.said in
     let k : SenderKey = (c.args.message.now.session, c.in-Ok.named.0) in
-    let p = path_comes n c.self.inside.settled c.args.iface c.args.message.now c.in-Ok.named.0 c.in-Ok.named.1 c.in-Ok.ensures.ok.0 c.in-Ok.ensures.ok.1 (sym c.learn_path.ensures.room ∙ c.if-not-learn_path.false) w c.self.inside.said (tried c.learn_path.new.tables c.self.inside.said _ _ _ c.learn_path.ensures.state c.if-not-learn_path.false) in
-    plain_sent n c.args.self.now c.self.view_is (λ z. path_came c.args.iface c.args.message.now) refl heard.Taken clock k w p g.O.Outbox.posted _ c.args.out.now (c.tell_sender.ensures.sent n clock heard.Taken (is_before k n w p.ruled.change refl c.self.inside.told _ (λ clock. c.offered-before.ensures clock c.self.inside.said) c.hops-near.result (λ clock. c.hops-near.ensures ∙ hops_are clock n c.args.message.now.session)))
+    let p = path_comes n c.self.inside.settled c.args.iface c.args.message.now c.in-Ok.named.0 c.in-Ok.named.1 c.in-Ok.ensures.ok.0 c.in-Ok.ensures.ok.1
+    (sym c.learn_path.ensures.room ∙ c.if-not-learn_path.false) w c.self.inside.said
+    (tried c.learn_path.new.tables c.self.inside.said _ _ _ c.learn_path.ensures.state c.if-not-learn_path.false) in
+    plain_sent n c.args.self.now c.self.view_is (λ z. path_came c.args.iface c.args.message.now) refl heard.Taken clock k w p g.O.Outbox.posted _ c.args.out.now
+    (c.tell_sender.ensures.sent n clock heard.Taken (is_before k n w p.ruled.change refl c.self.inside.told _ (λ clock. c.offered-before.ensures clock c.self.inside.said) c.hops-near.result
+    (λ clock. c.hops-near.ensures ∙ hops_are clock n c.args.message.now.session)))
 
 pub returns-clause-place : goal.returns-clause-place
 returns-clause-place g c =
     let n = state_of c.self.inside.tables c.self.inside.said in
     let w = state_of c.learn_path.new.tables c.self.inside.said in
     let k : SenderKey = (c.args.message.now.session, c.in-Ok.named.0) in
-    let p = path_comes n c.self.inside.settled c.args.iface c.args.message.now c.in-Ok.named.0 c.in-Ok.named.1 c.in-Ok.ensures.ok.0 c.in-Ok.ensures.ok.1 (sym c.learn_path.ensures.room ∙ c.if-not-learn_path.false) w c.self.inside.said (tried c.learn_path.new.tables c.self.inside.said _ _ _ c.learn_path.ensures.state c.if-not-learn_path.false) in
-    wants_place c.learn_path.new.tables c.tell_sender.new.tables c.tell_sender.ensures.rest c.self.inside.said c.tell_sender.new.said ∙ sym p.ruled.change.place ∙ ap (λ (z : State). z.place) c.self.view_is
+    let p = path_comes n c.self.inside.settled c.args.iface c.args.message.now c.in-Ok.named.0 c.in-Ok.named.1 c.in-Ok.ensures.ok.0 c.in-Ok.ensures.ok.1
+    (sym c.learn_path.ensures.room ∙ c.if-not-learn_path.false) w c.self.inside.said
+    (tried c.learn_path.new.tables c.self.inside.said _ _ _ c.learn_path.ensures.state c.if-not-learn_path.false) in
+    wants_place c.learn_path.new.tables c.tell_sender.new.tables c.tell_sender.ensures.rest c.self.inside.said c.tell_sender.new.said ∙ sym p.ruled.change.place
+    ∙ ap (λ (z : State). z.place) c.self.view_is
 
 pub invariant_of-self-inside-2 : goal.invariant_of-self-inside-2
 invariant_of-self-inside-2 g c =
     let n = state_of c.self.inside.tables c.self.inside.said in
     let w = state_of c.learn_path.new.tables c.self.inside.said in
     let k : SenderKey = (c.args.message.now.session, c.in-Ok.named.0) in
-    let p = path_comes n c.self.inside.settled c.args.iface c.args.message.now c.in-Ok.named.0 c.in-Ok.named.1 c.in-Ok.ensures.ok.0 c.in-Ok.ensures.ok.1 (sym c.learn_path.ensures.room ∙ c.if-not-learn_path.false) w c.self.inside.said (tried c.learn_path.new.tables c.self.inside.said _ _ _ c.learn_path.ensures.state c.if-not-learn_path.false) in
+    let p = path_comes n c.self.inside.settled c.args.iface c.args.message.now c.in-Ok.named.0 c.in-Ok.named.1 c.in-Ok.ensures.ok.0 c.in-Ok.ensures.ok.1
+    (sym c.learn_path.ensures.room ∙ c.if-not-learn_path.false) w c.self.inside.said
+    (tried c.learn_path.new.tables c.self.inside.said _ _ _ c.learn_path.ensures.state c.if-not-learn_path.false) in
     let mid = c.learn_path.new.tables in
     let rest = c.tell_sender.ensures.rest in (
       wants_sound mid c.tell_sender.new.tables rest (still_sound c.self.inside.tables c.learn_path.new.tables c.learn_path.ensures.rest c.learn_path.ensures.pulled c.self.inside.sound),
       (
         wants_settled mid c.tell_sender.new.tables rest c.self.inside.said c.tell_sender.new.said p.ruled.kept,
-        (c.tell_sender.ensures.said, (wants_of_place mid c.tell_sender.new.tables rest (still_of_place c.self.inside.tables c.learn_path.new.tables c.learn_path.ensures.rest c.self.inside.place), tt)),
+        (
+          c.tell_sender.ensures.said,
+          (
+            wants_of_place mid c.tell_sender.new.tables rest (still_of_place c.self.inside.tables c.learn_path.new.tables c.learn_path.ensures.rest c.self.inside.place),
+            tt,
+          ),
+        ),
       ),
     )

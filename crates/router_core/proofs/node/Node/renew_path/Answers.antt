@@ -9,15 +9,15 @@ use Rattle.router_rules.specs.NodeConfig.{comes_in, lifetime}
 use Rattle.router_rules.specs.Paths.{is_path_by}
 use Rattle.router_rules.specs.Rule.{heard_after}
 use Rattle.router_rules.specs.declared.answers.Heard.TheVariants as heard
-use Rattle.node_facts.specs.Changes.{path_came}
-use Rattle.node_facts.specs.State.{State, facts_at, facts_of}
-use Rattle.node_sends.specs.Told.{told_new}
-use Rattle.node_tables.specs.Whole.{state_of}
-use Rattle.node_acting.specs.Coming.{fact_of}
-use Rattle.node_acting.proofs.Before.{settled_with}
-use Rattle.node_acting.proofs.Doing.{path_comes}
-use Rattle.node_acting.proofs.Offering.{came_there}
-use Rattle.node_acting.proofs.Ruled.{heard_is, plain_facts, plain_sent}
+use Rattle.router_state.specs.Changes.{path_came}
+use Rattle.router_state.specs.State.{State, facts_at, facts_of}
+use Rattle.laws_sends.specs.Told.{told_new}
+use Rattle.router_state.specs.Whole.{state_of}
+use Rattle.router_arrivals.specs.Coming.{fact_of}
+use Rattle.router_arrivals.proofs.Before.{settled_with}
+use Rattle.router_arrivals.proofs.Doing.{path_comes}
+use Rattle.router_arrivals.proofs.Offering.{came_there}
+use Rattle.router_arrivals.proofs.Ruled.{heard_is, plain_facts, plain_sent}
 use Rattle.router_core.proofs.Again.{marks_again, offers, offers_again, sent_again, settled_again}
 use Rattle.router_core.proofs.Told.{paths_only, still_of_place, still_sound}
 use Rattle.router_core.proofs.node.Node.renew_path.Goals as goal
@@ -41,7 +41,8 @@ returns-clause-facts g c = λ clock.
     let p = path_comes n c.self.inside.settled c.args.iface m c.args.sender c.args.tspec c.requires.sender on c.renew_path.ensures.room w c.self.inside.said now in
     let fact = fact_of c.args.iface m c.args.sender c.args.tspec in
     let left = lifetime n.place m.period in
-    let by : (d : ℕ) → is_path_by (c.args.iface, m.hop.addr) (get (facts_of d n).paths k) ≡ true = λ d. ap (λ (z : State). is_path_by (c.args.iface, m.hop.addr) (get (facts_of d z).paths k)) c.self.view_is ∙ c.requires.stands d in
+    let by : (d : ℕ) → is_path_by (c.args.iface, m.hop.addr) (get (facts_of d n).paths k) ≡ true =
+    λ d. ap (λ (z : State). is_path_by (c.args.iface, m.hop.addr) (get (facts_of d z).paths k)) c.self.view_is ∙ c.requires.stands d in
     plain_facts n c.args.self.now c.self.view_is (λ z. path_came c.args.iface m) refl heard.Taken clock k w p w (marks_again n w k fact left c.self.inside.said now by clock)
 
 pub returns-clause-heard : goal.returns-clause-heard
@@ -67,15 +68,18 @@ returns-clause-sent g c = λ clock.
     let p = path_comes n c.self.inside.settled c.args.iface m c.args.sender c.args.tspec c.requires.sender on c.renew_path.ensures.room w c.self.inside.said now in
     let fact = fact_of c.args.iface m c.args.sender c.args.tspec in
     let left = lifetime n.place m.period in
-    let by : (d : ℕ) → is_path_by (c.args.iface, m.hop.addr) (get (facts_of d n).paths k) ≡ true = λ d. ap (λ (z : State). is_path_by (c.args.iface, m.hop.addr) (get (facts_of d z).paths k)) c.self.view_is ∙ c.requires.stands d in
+    let by : (d : ℕ) → is_path_by (c.args.iface, m.hop.addr) (get (facts_of d n).paths k) ≡ true =
+    λ d. ap (λ (z : State). is_path_by (c.args.iface, m.hop.addr) (get (facts_of d z).paths k)) c.self.view_is ∙ c.requires.stands d in
     let posted = g.O.Outbox.posted in
     let place = sym p.ruled.change.place in
     let own : c.find-own.result ≡ get n.senders k = c.find-own.ensures.flow in
-    let was : option_map (λ (e : PathFact × ℕ). e.0) (get n.paths k) ≡ Some c.args.was.now = ap (λ (z : State). option_map (λ (e : PathFact × ℕ). e.0) (get z.paths k)) c.self.view_is ∙ c.requires.was in
+    let was : option_map (λ (e : PathFact × ℕ). e.0) (get n.paths k) ≡ Some c.args.was.now = ap (λ (z : State). option_map (λ (e : PathFact × ℕ). e.0) (get z.paths k)) c.self.view_is
+    ∙ c.requires.was in
     let before = ap (λ o. Some o) c.offer_by.ensures ∙ offers clock n k c.find-own.result own c.args.was.now was in
     let after = ap (λ o. Some o) c.offer_by-2.ensures ∙ offers_again n w k fact left c.self.inside.said now by clock c.find-own.result own in
     plain_sent n c.args.self.now c.self.view_is (λ z. path_came c.args.iface m) refl heard.Taken clock k w p posted _ c.args.out.now
-    (c.tell_new.ensures ∙ (λ i. fold posted c.args.out.now (told_new (place i) k (before i) (after i))) ∙ ap (fold posted c.args.out.now) (sym (sent_again n w k fact left c.self.inside.said now by p.ruled.change clock heard.Taken)))
+    (c.tell_new.ensures ∙ (λ i. fold posted c.args.out.now (told_new (place i) k (before i) (after i)))
+    ∙ ap (fold posted c.args.out.now) (sym (sent_again n w k fact left c.self.inside.said now by p.ruled.change clock heard.Taken)))
 
 pub returns-clause-place : goal.returns-clause-place
 returns-clause-place g c =
@@ -95,8 +99,10 @@ invariant_of-self-inside g c =
     let n = state_of t said in
     let m = c.args.message.now in
     let on = ap (λ (z : State). comes_in z.place m.session c.args.iface c.args.sender) c.self.view_is ∙ c.requires.inward in
-    let by : (d : ℕ) → is_path_by (c.args.iface, m.hop.addr) (get (facts_of d n).paths (m.session, c.args.sender)) ≡ true = λ d. ap (λ (z : State). is_path_by (c.args.iface, m.hop.addr) (get (facts_of d z).paths (m.session, c.args.sender))) c.self.view_is ∙ c.requires.stands d in
-    let both = settled_again (state_of t empty) said c.self.inside.settled c.self.inside.told c.args.iface m c.args.sender c.args.tspec c.requires.sender on by (state_of c.renew_path.new.tables said) true (sym c.renew_path.ensures.room) (ap (λ (z : State). record z { said = said }) c.renew_path.ensures.state) in
+    let by : (d : ℕ) → is_path_by (c.args.iface, m.hop.addr) (get (facts_of d n).paths (m.session, c.args.sender)) ≡ true =
+    λ d. ap (λ (z : State). is_path_by (c.args.iface, m.hop.addr) (get (facts_of d z).paths (m.session, c.args.sender))) c.self.view_is ∙ c.requires.stands d in
+    let both = settled_again (state_of t empty) said c.self.inside.settled c.self.inside.told c.args.iface m c.args.sender c.args.tspec c.requires.sender on by
+    (state_of c.renew_path.new.tables said) true (sym c.renew_path.ensures.room) (ap (λ (z : State). record z { said = said }) c.renew_path.ensures.state) in
     let rest = paths_only t c.renew_path.new.tables c.renew_path.ensures.rest in
     (still_sound t c.renew_path.new.tables rest c.renew_path.ensures.pulled c.self.inside.sound, (both.0, (both.1, (still_of_place t c.renew_path.new.tables rest c.self.inside.place, tt))))
 

@@ -3,9 +3,9 @@ use Rattle.rsvp_messages.specs.declared.message.Message.TheVariants as message
 use Rattle.router_rules.specs.Inputs.{Spelt}
 use Rattle.router_rules.specs.NodeConfig.{own}
 use Rattle.router_rules.specs.Rule.{facts_after, heard_after, sent_after}
-use Rattle.node_facts.specs.State.{State, facts_at}
-use Rattle.node_tables.specs.Whole.{state_of}
-use Rattle.node_acting.specs.Arriving.{to_node}
+use Rattle.router_state.specs.State.{State, facts_at}
+use Rattle.router_state.specs.Whole.{state_of}
+use Rattle.router_arrivals.specs.Arriving.{to_node}
 use Rattle.router_core.proofs.Erring.{resv_conf_facts, resv_conf_is_heard, resv_conf_is_sent}
 use Rattle.router_core.proofs.node.Node.resv_conf.Goals as goal
 

@@ -1,8 +1,8 @@
 use Rattle.std.proofs.Common.{◌≡◌, fold, ap, subst, ◌∙◌}
 use Rattle.router_rules.specs.Inputs.{Came, Unspelt}
 use Rattle.router_rules.specs.Rule.{facts_after, heard_after, sent_after}
-use Rattle.node_facts.specs.State.{State, facts_at, facts_of}
-use Rattle.node_tables.specs.Whole.{state_of}
+use Rattle.router_state.specs.State.{State, facts_at, facts_of}
+use Rattle.router_state.specs.Whole.{state_of}
 use Rattle.router_core.proofs.Erring.{unspelt_facts, unspelt_is_heard, unspelt_is_sent}
 use Rattle.router_core.proofs.node.Node.unspelt.Goals as goal
 

@@ -1,7 +1,7 @@
 use Rattle.std.proofs.Common.{◌≤◌, ◌*◌, sym, ap, subst, ◌∙◌}
 use Rattle.router_rules.specs.NodeConfig.{NodeConfig}
-use Rattle.node_facts.specs.State.{State}
-use Rattle.node_tables.specs.Whole.{state_of}
+use Rattle.router_state.specs.State.{State}
+use Rattle.router_state.specs.Whole.{state_of}
 use Rattle.router_core.proofs.Waited.{waited_facts, waited_sent}
 use Rattle.router_core.proofs.node.Node.wait.Goals as goal
 
@@ -14,10 +14,12 @@ pass_time-requires g c = record {
 }
 
 pub returns-clause-facts : goal.returns-clause-facts
-returns-clause-facts g c = λ clock. waited_facts (state_of c.self.inside.tables c.self.inside.said) c.args.self.now c.self.view_is c.args.ms c.args.word clock (state_of c.pass_time.new.tables c.pass_time.new.said) (c.pass_time.ensures.facts clock)
+returns-clause-facts g c = λ clock. waited_facts (state_of c.self.inside.tables c.self.inside.said) c.args.self.now c.self.view_is c.args.ms c.args.word clock
+    (state_of c.pass_time.new.tables c.pass_time.new.said) (c.pass_time.ensures.facts clock)
 
 pub returns-clause-sent : goal.returns-clause-sent
-returns-clause-sent g c = λ clock. waited_sent (state_of c.self.inside.tables c.self.inside.said) c.args.self.now c.self.view_is c.args.ms c.args.word clock g.O.Outbox.posted c.args.out.now c.pass_time.new.out (c.pass_time.ensures.sent clock)
+returns-clause-sent g c = λ clock. waited_sent
+    (state_of c.self.inside.tables c.self.inside.said) c.args.self.now c.self.view_is c.args.ms c.args.word clock g.O.Outbox.posted c.args.out.now c.pass_time.new.out (c.pass_time.ensures.sent clock)
 
 pub returns-clause-place : goal.returns-clause-place
 returns-clause-place g c = c.pass_time.ensures.place ∙ ap (λ (z : State). z.place) c.self.view_is

@@ -13,7 +13,8 @@ add-requires c = formed c.args.line.now c.in-Ok.said c.requires c.in-Ok.ensures
 
 pub returns-in-Ok : goal.returns-in-Ok
 returns-in-Ok c =
-    fed (draft_of c.args.self.now.state) c.args.line.now c.in-Ok.said c.requires c.in-Ok.ensures c.add.result (draft_of c.add.new.state) c.add.ensures.ok c.add.ensures.given c.add.ensures.refused c.add.ensures.same
+    fed (draft_of c.args.self.now.state) c.args.line.now c.in-Ok.said c.requires c.in-Ok.ensures c.add.result
+    (draft_of c.add.new.state) c.add.ensures.ok c.add.ensures.given c.add.ensures.refused c.add.ensures.same
 
 pub returns-in-Err-Word : goal.returns-in-Err-Word
 returns-in-Err-Word c = (unread c.requires (subst (λ (e : Unread). Misses e (script_line_of c.args.line.now)) c.in-Err-Word.field-0-is c.in-Err-Word.ensures), refl)

@@ -1,7 +1,7 @@
 use Rattle.std.proofs.Common.{◌≡◌, [], sym, append-nil}
 use Rattle.script_grammar.specs.Draft.{nothing}
 use Rattle.script_grammar.specs.Grammar.{unread}
-use Rattle.network_run.proofs.Adding.{skipped_on}
+use Rattle.script_run.proofs.Adding.{skipped_on}
 use Rattle.script_tests.proofs.endings.SilentPlayer.play.Goals as goal
 
 pub returns-in-Ok-Skipped : goal.returns-in-Ok-Skipped

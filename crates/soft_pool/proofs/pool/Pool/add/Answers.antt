@@ -13,12 +13,19 @@ pub invariant_of-self : goal.invariant_of-self
 invariant_of-self g c =
     let s = c.self.inside in
     let p = c.place.ensures in
-    let made : c.in-Some.slot < length s.entries.items = omega (arith, within s.lists.homes c.in-Some.slot 0 c.in-Some.ensures.some, sizes s.clock s.lists.room s.entries.items s.lists.homes c.self.invariant.0) in
+    let made : c.in-Some.slot < length s.entries.items = omega (
+      arith,
+      within s.lists.homes c.in-Some.slot 0 c.in-Some.ensures.some,
+      sizes s.clock s.lists.room s.entries.items s.lists.homes c.self.invariant.0,
+    ) in
     let e : Entry _ = record { value = Some c.args.value; moment = s.clock + c.from.result } in
-    let sooner = pool_sooner s.clock s.lists.room s.entries.items s.lists.homes c.self.invariant.0 c.min-soonest.result (omega (arith, c.self.invariant.0.ahead, c.min-soonest.ensures)) (omega (arith, c.min-soonest.ensures)) in (
-      rw p.lists (pool_placed s.clock s.lists.room s.entries.items s.lists.homes sooner c.place.new.entries.items _ c.in-Some.slot (list_at s.clock e) e made p.entries refl (filed_at s.clock c.min-soonest.result e (omega (arith, c.min-soonest.ensures)))),
+    let sooner = pool_sooner s.clock s.lists.room s.entries.items s.lists.homes c.self.invariant.0 c.min-soonest.result (omega (arith, c.self.invariant.0.ahead, c.min-soonest.ensures))
+    (omega (arith, c.min-soonest.ensures)) in (
+      rw p.lists (pool_placed s.clock s.lists.room s.entries.items s.lists.homes sooner c.place.new.entries.items _ c.in-Some.slot (list_at s.clock e) e made p.entries refl
+          (filed_at s.clock c.min-soonest.result e (omega (arith, c.min-soonest.ensures)))),
       rw (p.lists, p.capacity) c.self.invariant.1,
-      λ may. rw p.lists (none_placed s.lists.homes c.in-Some.slot (list_at s.clock e) 1 (not_into_due s.clock (s.clock + c.from.result) c.args.value (omega (arith, c.from.ensures, c.requires))) (c.self.invariant.2 may)),
+      λ may. rw p.lists (none_placed s.lists.homes c.in-Some.slot (list_at s.clock e) 1 (not_into_due s.clock (s.clock + c.from.result) c.args.value (omega (arith, c.from.ensures, c.requires)))
+          (c.self.invariant.2 may)),
     )
 
 pub returns-in-Some-clause-free : goal.returns-in-Some-clause-free
@@ -49,10 +56,12 @@ invariant_of-self-2 g c =
     let m = c.make-slot.ensures in
     let left = room_left s.clock s.lists.room s.entries.items s.lists.homes c.self.invariant.0 c.is_full.result c.if-is_full.false c.is_full.ensures.1 in
     let e : Entry _ = record { value = Some c.args.value; moment = s.clock + c.from.result } in
-    let sooner = pool_sooner s.clock s.lists.room s.entries.items s.lists.homes c.self.invariant.0 c.min-soonest.result (omega (arith, c.self.invariant.0.ahead, c.min-soonest.ensures)) (omega (arith, c.min-soonest.ensures)) in (
+    let sooner = pool_sooner s.clock s.lists.room s.entries.items s.lists.homes c.self.invariant.0 c.min-soonest.result (omega (arith, c.self.invariant.0.ahead, c.min-soonest.ensures))
+    (omega (arith, c.min-soonest.ensures)) in (
       rw m.lists (pool_grown s.clock s.lists.room s.entries.items s.lists.homes sooner c.make-slot.new.entries.items _ e left (omega (arith, c.min-soonest.ensures)) m.entries refl),
       rw (m.lists, m.capacity) c.self.invariant.1,
-      λ may. rw m.lists (none_made s.lists.homes (list_at s.clock e) 1 (not_into_due s.clock (s.clock + c.from.result) c.args.value (omega (arith, c.from.ensures, c.requires))) (c.self.invariant.2 may)),
+      λ may. rw m.lists (none_made s.lists.homes (list_at s.clock e) 1 (not_into_due s.clock (s.clock + c.from.result) c.args.value (omega (arith, c.from.ensures, c.requires)))
+          (c.self.invariant.2 may)),
     )
 
 pub returns-clause-free : goal.returns-clause-free

@@ -8,7 +8,8 @@ pub invariant_of-self : goal.invariant_of-self
 invariant_of-self g c =
     let s = c.self.inside in
     let t = c.take.ensures in (
-      rw t.lists (pool_placed s.clock s.lists.room s.entries.items s.lists.homes c.self.invariant.0 c.take.new.entries.items _ c.args.slot.0 0 empty (live_within s.clock s.lists.room s.entries.items c.args.slot.0 (rw c.self.view_is c.requires)) t.entries.3 refl refl),
+      rw t.lists (pool_placed s.clock s.lists.room s.entries.items s.lists.homes c.self.invariant.0 c.take.new.entries.items _ c.args.slot.0 0 empty
+          (live_within s.clock s.lists.room s.entries.items c.args.slot.0 (rw c.self.view_is c.requires)) t.entries.3 refl refl),
       rw (t.lists, t.capacity) c.self.invariant.1,
       λ may. rw t.lists (none_placed s.lists.homes c.args.slot.0 0 1 (λ e. omega (arith, e)) (c.self.invariant.2 may)),
     )
@@ -25,5 +26,6 @@ pub returns-clause-gone : goal.returns-clause-gone
 returns-clause-gone g c =
     let s = c.self.inside in
     let t = c.take.ensures in
-    rw t.lists (shows s.clock s.lists.room s.entries.items c.take.new.entries.items c.args.slot.0 empty Free (live_within s.clock s.lists.room s.entries.items c.args.slot.0 (rw c.self.view_is c.requires)) t.entries.3 refl
+    rw t.lists (shows s.clock s.lists.room s.entries.items c.take.new.entries.items c.args.slot.0 empty Free
+    (live_within s.clock s.lists.room s.entries.items c.args.slot.0 (rw c.self.view_is c.requires)) t.entries.3 refl
     ∙ ap (λ xs. slice_set xs c.args.slot.0 Free) c.self.view_is)

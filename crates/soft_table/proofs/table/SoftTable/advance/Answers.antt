@@ -20,7 +20,8 @@ invariant_of-self g c =
 
 pub returns-clause-facts : goal.returns-clause-facts
 returns-clause-facts g c =
-    ap (λ cs. facts_in cs c.self.inside.rows.rows) c.advance.ensures ∙ facts_later c.args.ms c.self.inside.pool c.self.inside.rows.rows ∙ ap (λ t. filter_map (lives_on c.args.ms) t.facts) c.self.view_is
+    ap (λ cs. facts_in cs c.self.inside.rows.rows) c.advance.ensures ∙ facts_later c.args.ms c.self.inside.pool c.self.inside.rows.rows
+    ∙ ap (λ t. filter_map (lives_on c.args.ms) t.facts) c.self.view_is
 
 pub returns-clause-dead : goal.returns-clause-dead
 returns-clause-dead g c =
@@ -31,4 +32,5 @@ returns-clause-dead g c =
 
 pub returns-clause-order : goal.returns-clause-order
 returns-clause-order g c =
-    in_order g.F.Fact.rests g.F.Fact.key_of c.advance.new.self c.self.inside.rows.rows (index_later g.F.Fact.rests g.F.Fact.key_of c.self.inside.pool c.self.inside.rows.rows c.self.invariant.0 c.args.ms c.advance.new.self c.advance.ensures) 0
+    in_order g.F.Fact.rests g.F.Fact.key_of c.advance.new.self c.self.inside.rows.rows
+    (index_later g.F.Fact.rests g.F.Fact.key_of c.self.inside.pool c.self.inside.rows.rows c.self.invariant.0 c.args.ms c.advance.new.self c.advance.ensures) 0

@@ -29,5 +29,6 @@ returns-in-Some g c =
 pub returns-in-None : goal.returns-in-None
 returns-in-None g c =
     let at = c.behind-from.ensures in
-    next_fact g.F.Fact.rests g.F.Fact.key_of c.self.inside.pool c.self.inside.rows.rows c.self.invariant.0 c.args.session c.args.rest at.0 None at.2 (ap (option_map (λ e. e.1)) (c.in-None.ensures.none refl at.0 at.1))
+    next_fact g.F.Fact.rests g.F.Fact.key_of c.self.inside.pool c.self.inside.rows.rows c.self.invariant.0 c.args.session c.args.rest at.0 None at.2
+    (ap (option_map (λ e. e.1)) (c.in-None.ensures.none refl at.0 at.1))
     ∙ ap (λ t. option_map (λ e. e.1.0) (slice_get (rows_behind g.F.Fact.rests c.args.rest (rows_under sessions g.F.Fact.rests c.args.session (facts_by g.F.Fact.key_of t.facts))) 0)) c.self.view_is

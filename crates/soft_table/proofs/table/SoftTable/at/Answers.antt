@@ -20,5 +20,6 @@ returns-in-Some g c =
 
 pub returns-in-None : goal.returns-in-None
 returns-in-None g c =
-    kth_fact g.F.Fact.rests g.F.Fact.key_of c.self.inside.pool c.self.inside.rows.rows c.self.invariant.0 c.args.session c.args.k None (ap (option_map (λ e. e.1)) (c.in-None.ensures.none refl 0 c.first-from.ensures))
+    kth_fact g.F.Fact.rests g.F.Fact.key_of c.self.inside.pool c.self.inside.rows.rows c.self.invariant.0 c.args.session c.args.k None
+    (ap (option_map (λ e. e.1)) (c.in-None.ensures.none refl 0 c.first-from.ensures))
     ∙ ap (λ t. option_map (λ e. e.1.0) (slice_get (rows_under sessions g.F.Fact.rests c.args.session (facts_by g.F.Fact.key_of t.facts)) c.args.k)) c.self.view_is

@@ -15,21 +15,26 @@ use Rattle.soft_table.proofs.table.SoftTable.pull_dead.Goals.{After-remove_at}
 
 pub returns-in_default-clause-order : goal.returns-in_default-clause-order
 returns-in_default-clause-order g c =
-    subst (λ cells. IsInOrder g.F.Fact.rests g.F.Fact.key_of (record { facts = facts_in cells c.self.inside.rows.rows; dead = dead_in cells c.self.inside.rows.rows; room = length cells })) (sym (c.in_default.ensures.unchanged refl)) (in_order g.F.Fact.rests g.F.Fact.key_of c.self.inside.pool c.self.inside.rows.rows c.self.invariant.0 (length c.self.inside.pool))
+    subst (λ cells. IsInOrder g.F.Fact.rests g.F.Fact.key_of (record { facts = facts_in cells c.self.inside.rows.rows; dead = dead_in cells c.self.inside.rows.rows; room = length cells }))
+    (sym (c.in_default.ensures.unchanged refl)) (in_order g.F.Fact.rests g.F.Fact.key_of c.self.inside.pool c.self.inside.rows.rows c.self.invariant.0 (length c.self.inside.pool))
 
 pub returns-in_default-clause-none : goal.returns-in_default-clause-none
-returns-in_default-clause-none g c = λ _. ap (λ t. t.dead) (sym c.self.view_is) ∙ none_dead g.F.Fact.rests g.F.Fact.key_of c.self.inside.pool c.self.inside.rows.rows c.self.invariant.0 (c.in_default.ensures.none refl)
+returns-in_default-clause-none g c = λ _. ap (λ t. t.dead) (sym c.self.view_is) ∙ none_dead g.F.Fact.rests g.F.Fact.key_of c.self.inside.pool c.self.inside.rows.rows c.self.invariant.0
+    (c.in_default.ensures.none refl)
 
 pub remove_at-requires : goal.remove_at-requires
 remove_at-requires g c =
     let ix = c.self.invariant.0 in
     ap (find (fact_keys g.F.Fact.rests).cmp c.key-rest.result) ix.is ∙ ap (get ix.slots) c.key-rest.ensures ∙ ix.linked.finds c.in-Some.slot.0 c.in-Some.fact (ap value_in c.in-Some.ensures.due)
 
-taken : (g : _) (c : After-remove_at g) → Takes g.F.Fact.rests g.F.Fact.key_of c.self.inside.pool c.self.inside.rows.rows c.self.invariant.0 c.key-rest.result c.in-Some.slot.0 c.pull_due.new.self c.remove_at.new.self.rows
+taken : (g : _) (c : After-remove_at g)
+    → Takes g.F.Fact.rests g.F.Fact.key_of c.self.inside.pool c.self.inside.rows.rows c.self.invariant.0 c.key-rest.result c.in-Some.slot.0 c.pull_due.new.self c.remove_at.new.self.rows
 taken g c =
     let slots = c.self.invariant.0.slots in
-    let led_to : get slots c.key-rest.result ≡ Some c.in-Some.slot.0 = ap (get slots) c.key-rest.ensures ∙ c.self.invariant.0.linked.finds c.in-Some.slot.0 c.in-Some.fact (ap value_in c.in-Some.ensures.due) in
-    takes g.F.Fact.rests g.F.Fact.key_of c.self.inside.pool c.self.inside.rows.rows c.self.invariant.0 c.key-rest.result c.in-Some.slot.0 (Due c.in-Some.fact) c.pull_due.new.self c.remove_at.new.self.rows led_to c.in-Some.ensures.due refl c.in-Some.ensures.freed (ap (λ t. t.rows) c.remove_at.ensures)
+    let led_to : get slots c.key-rest.result ≡ Some c.in-Some.slot.0 = ap (get slots) c.key-rest.ensures
+    ∙ c.self.invariant.0.linked.finds c.in-Some.slot.0 c.in-Some.fact (ap value_in c.in-Some.ensures.due) in
+    takes g.F.Fact.rests g.F.Fact.key_of c.self.inside.pool c.self.inside.rows.rows c.self.invariant.0 c.key-rest.result c.in-Some.slot.0
+    (Due c.in-Some.fact) c.pull_due.new.self c.remove_at.new.self.rows led_to c.in-Some.ensures.due refl c.in-Some.ensures.freed (ap (λ t. t.rows) c.remove_at.ensures)
 
 pub invariant_of-self-2 : goal.invariant_of-self-2
 invariant_of-self-2 g c = ((taken g c).index, ap (λ t. t.room) c.remove_at.ensures ∙ c.self.invariant.1 ∙ sym (ap length c.in-Some.ensures.freed ∙ length-set c.self.inside.pool c.in-Some.slot.0 Free))
@@ -40,7 +45,8 @@ returns-clause-dead g c =
     let slots = c.self.invariant.0.slots in
     let led_to : get slots (g.F.Fact.key_of c.in-Some.fact) ≡ Some c.in-Some.slot.0 = c.self.invariant.0.linked.finds c.in-Some.slot.0 c.in-Some.fact (ap value_in c.in-Some.ensures.due) in
     ap (λ t. find o.cmp (g.F.Fact.key_of c.in-Some.fact) (dead_by g.F.Fact.key_of t.dead)) (sym c.self.view_is)
-    ∙ found_dead g.F.Fact.rests g.F.Fact.key_of c.self.inside.pool c.self.inside.rows.rows c.self.invariant.0 (g.F.Fact.key_of c.in-Some.fact) ∙ ap (λ w. then_do w (λ s. due_in (slice_get c.self.inside.pool s))) led_to ∙ ap due_in c.in-Some.ensures.due
+    ∙ found_dead g.F.Fact.rests g.F.Fact.key_of c.self.inside.pool c.self.inside.rows.rows c.self.invariant.0 (g.F.Fact.key_of c.in-Some.fact)
+    ∙ ap (λ w. then_do w (λ s. due_in (slice_get c.self.inside.pool s))) led_to ∙ ap due_in c.in-Some.ensures.due
 
 pub returns-clause-pulled : goal.returns-clause-pulled
 returns-clause-pulled g c =

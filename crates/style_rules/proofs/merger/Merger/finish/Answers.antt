@@ -14,14 +14,16 @@ pub of_rows-requires-clause-rising : goal.of_rows-requires-clause-rising
 of_rows-requires-clause-rising g c =
     let rows = c.as_slice-row-items.result.now in
     let end : c.loop-row.row-index ≡ length rows = omega arith in
-    let whole = finished c.self.inside.rows.items c.self.inside.rising c.args.self.now c.self.view_is rows c.loop-row.row-index c.loop-row.rows.items c.loop-row.invariant end c.as_slice-row-items.ensures.value in
+    let whole = finished c.self.inside.rows.items c.self.inside.rising c.args.self.now c.self.view_is rows c.loop-row.row-index c.loop-row.rows.items c.loop-row.invariant end
+    c.as_slice-row-items.ensures.value in
     are_rows units (λ e. e) c.loop-row.rows.items (parts_of_tally c.args.self.now) (each_itself c.loop-row.rows.items ∙ whole)
 
 pub returns-clause-kept : goal.returns-clause-kept
 returns-clause-kept g c =
     let rows = c.as_slice-row-items.result.now in
     let end : c.loop-row.row-index ≡ length rows = omega arith in
-    let whole = finished c.self.inside.rows.items c.self.inside.rising c.args.self.now c.self.view_is rows c.loop-row.row-index c.loop-row.rows.items c.loop-row.invariant end c.as_slice-row-items.ensures.value in
+    let whole = finished c.self.inside.rows.items c.self.inside.rising c.args.self.now c.self.view_is rows c.loop-row.row-index c.loop-row.rows.items c.loop-row.invariant end
+    c.as_slice-row-items.ensures.value in
     same_rows c.of_rows.result (parts_of_tally c.args.self.now) (c.of_rows.ensures ∙ whole)
 
 pub returns-clause-toward : goal.returns-clause-toward

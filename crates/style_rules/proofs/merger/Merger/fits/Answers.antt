@@ -20,7 +20,8 @@ returns-in-Err g c =
     let here : union c.loop-row.all row.part.senders ≡ union part (names_of_rows (each tally_row (take (i + 1) rows))) =
     (λ j. union (c.loop-row.invariant.names j) (c.row-item.is j).part.senders) ∙ names_more part rows i row c.loop-row-test.true in
     let less = names_so_far part rows (i + 1) in
-    let all : names_of_rows (each tally_row rows) ≡ names_of_tally c.args.self.now = ap (λ zs. names_of_rows (each tally_row zs)) c.as_slice-row-items.ensures.value ∙ ap names_of_rows (rows_are units tally_row c.self.inside.rows.items c.self.inside.rising c.args.self.now c.self.view_is) in
+    let all : names_of_rows (each tally_row rows) ≡ names_of_tally c.args.self.now = ap (λ zs. names_of_rows (each tally_row zs)) c.as_slice-row-items.ensures.value
+    ∙ ap names_of_rows (rows_are units tally_row c.self.inside.rows.items c.self.inside.rising c.args.self.now c.self.view_is) in
     let whole = ap (λ (n : Names). size (union n part)) all in
     let one = ap size here in
     (λ h. cc, λ few. absurd (omega (arith, big, one, less, whole, few)))
@@ -41,7 +42,9 @@ returns g c =
     let part = c.args.part.now.senders in
     let rows = c.as_slice-row-items.result.now in
     let end : c.loop-row.row-index ≡ length rows = omega arith in
-    let all : names_of_rows (each tally_row rows) ≡ names_of_tally c.args.self.now = ap (λ zs. names_of_rows (each tally_row zs)) c.as_slice-row-items.ensures.value ∙ ap names_of_rows (rows_are units tally_row c.self.inside.rows.items c.self.inside.rising c.args.self.now c.self.view_is) in
+    let all : names_of_rows (each tally_row rows) ≡ names_of_tally c.args.self.now = ap (λ zs. names_of_rows (each tally_row zs)) c.as_slice-row-items.ensures.value
+    ∙ ap names_of_rows (rows_are units tally_row c.self.inside.rows.items c.self.inside.rising c.args.self.now c.self.view_is) in
     let named : c.loop-row.all ≡ union (names_of_tally c.args.self.now) part =
-    c.loop-row.invariant.names ∙ ap (λ zs. union part (names_of_rows (each tally_row zs))) (ap (λ n. take n rows) end ∙ take-length rows) ∙ ap (union part) all ∙ union_comm senders part (names_of_tally c.args.self.now) in
+    c.loop-row.invariant.names ∙ ap (λ zs. union part (names_of_rows (each tally_row zs))) (ap (λ n. take n rows) end ∙ take-length rows) ∙ ap (union part) all
+    ∙ union_comm senders part (names_of_tally c.args.self.now) in
     (λ h. omega (arith, ap size named, c.loop-row.invariant.few), λ h. refl)

@@ -12,8 +12,10 @@ invariant_of-self-inside c =
     let rows = c.self.inside.lines.items in
     let line = c.args.line in
     let back = written_back rows c.deref_mut.result.now c.in-Ok.place line c.deref_mut.ensures.value in
-    let put = put_over senders way_of rows c.self.inside.rising c.args.self.now c.self.view_is line.name (way_of line).1 line c.in-Ok.place refl stands in
-    (are_rows senders way_of _ (put_in c.args.self.now line.name (way_of line).1) (ap (each way_of) back ∙ put), (omega (arith, ap length back, length-set rows c.in-Ok.place line, c.self.inside.few), tt))
+    let put = put_over senders way_of rows c.self.inside.rising c.args.self.now c.self.view_is line.name (way_of line).1 line c.in-Ok.place refl stands in (
+      are_rows senders way_of _ (put_in c.args.self.now line.name (way_of line).1) (ap (each way_of) back ∙ put),
+      (omega (arith, ap length back, length-set rows c.in-Ok.place line, c.self.inside.few), tt),
+    )
 
 pub returns-in-Ok-clause-ok : goal.returns-in-Ok-clause-ok
 returns-in-Ok-clause-ok c =
@@ -39,8 +41,10 @@ invariant_of-self-inside-in-Err c =
     let goes = rw c.as_slice.ensures.value at c.in-Err.ensures.absent in
     let line = c.args.line in
     let put = put_new senders way_of c.self.inside.lines.items c.self.inside.rising c.args.self.now c.self.view_is line.name (way_of line).1 line c.in-Err.place refl goes in
-    let room = eqb-false _ _ (sym c.if-is_full.ensures.value) in
-    (are_rows senders way_of c.insert.new.self.items (put_in c.args.self.now line.name (way_of line).1) (ap (each way_of) c.insert.ensures.items ∙ put), (omega (arith, c.self.inside.few, room, c.insert.ensures.len), tt))
+    let room = eqb-false _ _ (sym c.if-is_full.ensures.value) in (
+      are_rows senders way_of c.insert.new.self.items (put_in c.args.self.now line.name (way_of line).1) (ap (each way_of) c.insert.ensures.items ∙ put),
+      (omega (arith, c.self.inside.few, room, c.insert.ensures.len), tt),
+    )
 
 pub returns-else-is_full-clause-ok : goal.returns-else-is_full-clause-ok
 returns-else-is_full-clause-ok c =

@@ -23,7 +23,8 @@ pub iface_of-requires-clause-inside : goal.iface_of-requires-clause-inside
 iface_of-requires-clause-inside c =
     let net = net_of c.self.inside.nodes c.self.inside.ends.items c.self.inside.links.items c.self.inside.hops.items in
     into_below net c.self.invariant.0 c.self.inside.sorted.items c.self.invariant.3 c.as_slice-2.result.now c.as_slice.result.now c.of_tree-hops.result.now c.args.group c.args.source
-    c.as_slice-2.ensures.value c.as_slice.ensures.value c.of_tree-hops.ensures c.args.node c.in_ok-into.into c.as_slice-3.result.now c.as_slice-3.ensures.value (sym c.hop_into.ensures ∙ c.in_ok-into.was)
+    c.as_slice-2.ensures.value c.as_slice.ensures.value c.of_tree-hops.ensures c.args.node c.in_ok-into.into c.as_slice-3.result.now c.as_slice-3.ensures.value
+    (sym c.hop_into.ensures ∙ c.in_ok-into.was)
 
 pub returns : goal.returns
 returns c =

@@ -14,6 +14,7 @@ invariant_of-self-2 c =
     let net = net_of c.self.inside.nodes c.self.inside.ends.items c.self.inside.links.items c.self.inside.hops.items in
     let there = valid_link net c.self.invariant.0 c.args.ends.now (subst (λ (n : Net). TakesLink n c.args.ends.now) (sym c.self.view_is) c.requires) in (
       subst (λ (xs : List Link). IsValid (net_of c.self.inside.nodes c.self.inside.ends.items xs c.self.inside.hops.items)) (sym is)
-          (subst (λ (n : Net). IsValid n) (sym (link_push c.self.inside.nodes c.self.inside.ends.items c.self.inside.links.items c.self.inside.hops.items c.of.result c.args.ends.now c.of.ensures)) there),
+          (subst (λ (n : Net). IsValid n)
+          (sym (link_push c.self.inside.nodes c.self.inside.ends.items c.self.inside.links.items c.self.inside.hops.items c.of.result c.args.ends.now c.of.ensures)) there),
       c.self.invariant.1,
     )

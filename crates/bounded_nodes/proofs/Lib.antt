@@ -1,2 +1,0 @@
-pub mod Shifting
-pub mod Doing

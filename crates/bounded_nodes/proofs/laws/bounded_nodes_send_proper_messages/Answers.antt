@@ -1,5 +1,0 @@
-use Rattle.bounded_nodes.proofs.Doing.{bounded_nodes_send_proper_messages}
-use Rattle.bounded_nodes.proofs.laws.bounded_nodes_send_proper_messages.Goals as goal
-
-pub returns : goal.returns
-returns c = bounded_nodes_send_proper_messages

@@ -1,8 +1,0 @@
-use Rattle.std.proofs.Common.{refl}
-use Rattle.clap.proofs.OnLiterals.{clap_on_literals}
-use Rattle.command_words.specs.CommandLine.{faults_at, value_at}
-use Rattle.command_words.proofs.laws.other_words_are_none.Goals as goal
-
-pub returns : goal.returns
-unfolding clap_on_literals faults_at value_at
-returns c = record { nothing = refl; help = refl; version = refl; unknown = refl; twice = refl; seed_of_another = refl; no_seed = refl; no_number = refl; signed = refl; too_long = refl; too_large = refl }

@@ -1,6 +1,0 @@
-use Rattle.std.proofs.Common.{◌≡◌, take}
-use Rattle.error_passing.proofs.Blockading.{put_all}
-use Rattle.error_passing.proofs.walls.set_all.Given as goal
-
-abbrev pub invariant-loop-name : goal.invariant-loop-name
-invariant-loop-name l = l.walls ≡ put_all l.session l.wall l.left l.initial.walls (take l.name-index l.list)

@@ -1,9 +1,0 @@
-pub mod TowardIsTheWant
-pub mod ExactResvs
-pub use Rattle.taken_resvs.proofs.SoundResvs.Example
-pub use Rattle.taken_resvs.proofs.SoundResvs.SoundResvs
-pub use Rattle.taken_resvs.proofs.SoundResvs.SoundUnits
-pub use Rattle.taken_resvs.proofs.Accepting
-pub use Rattle.taken_resvs.proofs.Blockades
-pub use Rattle.taken_resvs.proofs.Errors
-pub use Rattle.taken_resvs.proofs.NodeGoals

@@ -1,5 +1,0 @@
-use Rattle.exact_resvs.proofs.TowardIsTheWant.{toward_is_the_want}
-use Rattle.exact_resvs.proofs.laws.toward_is_the_want.Goals as goal
-
-pub returns : goal.returns
-returns c q w bounds paths complete n f l h at free is low exact = toward_is_the_want q w bounds paths complete n f at free l h is low exact

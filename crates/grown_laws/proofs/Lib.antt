@@ -1,4 +1,0 @@
-pub mod Modest
-pub mod Asked
-pub mod Hops
-pub mod Fitting

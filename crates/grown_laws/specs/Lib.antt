@@ -1,2 +1,0 @@
-pub mod Modest
-pub mod Grown

@@ -1,4 +1,0 @@
-//! Laws of the network that a seed grows.
-#![tactic(auto)]
-
-pub mod laws;

@@ -1,4 +1,0 @@
-pub mod WantsByStyle
-pub mod Askable
-pub mod FollowedTexts
-pub mod Pieces

@@ -1,4 +1,0 @@
-pub mod Asking
-pub mod Booked
-pub mod Texts
-pub mod Summaries

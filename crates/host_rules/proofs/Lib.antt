@@ -1,3 +1,0 @@
-pub mod SenderRules
-pub mod WantLines
-pub mod WantCounts

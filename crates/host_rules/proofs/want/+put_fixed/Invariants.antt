@@ -1,5 +1,0 @@
-use Rattle.std.proofs.Common.{length}
-use Rattle.host_rules.proofs.want.+put_fixed.Given as goal
-
-abbrev pub decreases-put_fixed : goal.decreases-put_fixed
-decreases-put_fixed l = length l.senders.now

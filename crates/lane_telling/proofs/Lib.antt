@@ -1,5 +1,0 @@
-mod Said
-mod Listed
-mod Cleared
-pub mod Sent
-pub mod Still

@@ -1,9 +1,0 @@
-use Rattle.std.proofs.Common.{◌≡◌, ℕ, fold, take}
-use Rattle.std.specs.List.{flat_map}
-use Rattle.node_sends.specs.State.{Said}
-use Rattle.node_tables.specs.Whole.{state_of}
-use Rattle.lane_telling.specs.Rounds.{lanes_of, renewed_by}
-use Rattle.lane_telling.proofs.rounds.refresh_style.Given as goal
-
-abbrev pub invariant-loop-i : goal.invariant-loop-i
-invariant-loop-i g l = (c : ℕ) (any : Said) → l.out ≡ fold g.O.Outbox.posted l.initial.out (flat_map (renewed_by c (state_of l.tables any) l.said l.session) (lanes_of l.style (take l.i l.list)))

@@ -1,5 +1,0 @@
-use Rattle.std.proofs.Common.{◌∙◌}
-use Rattle.lane_wishes.proofs.upward.toward.Goals as goal
-
-pub returns-then-is_idle : goal.returns-then-is_idle
-returns-then-is_idle c = λ clock said. c.new.ensures ∙ c.is_idle.ensures c.if-is_idle.true clock said c.args.hop

@@ -1,4 +1,0 @@
-pub mod Handles
-pub mod Units
-pub mod Taking
-pub mod Wishes

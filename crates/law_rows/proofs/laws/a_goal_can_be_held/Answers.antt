@@ -1,5 +1,0 @@
-use Rattle.law_rows.proofs.Goals.{a_goal_can_be_held}
-use Rattle.law_rows.proofs.laws.a_goal_can_be_held.Goals as goal
-
-pub returns : goal.returns
-returns c = a_goal_can_be_held

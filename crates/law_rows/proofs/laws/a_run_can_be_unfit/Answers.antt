@@ -1,5 +1,0 @@
-use Rattle.law_rows.proofs.Kept.{a_run_can_be_unfit}
-use Rattle.law_rows.proofs.laws.a_run_can_be_unfit.Goals as goal
-
-pub returns : goal.returns
-returns c = a_run_can_be_unfit

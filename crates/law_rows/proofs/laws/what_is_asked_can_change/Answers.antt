@@ -1,5 +1,0 @@
-use Rattle.law_rows.proofs.Kept.{what_is_asked_can_change}
-use Rattle.law_rows.proofs.laws.what_is_asked_can_change.Goals as goal
-
-pub returns : goal.returns
-returns c = what_is_asked_can_change

@@ -1,0 +1,3 @@
+pub mod Runs
+pub mod Equal
+pub use Rattle.script_theorem.specs as ScriptTheorem

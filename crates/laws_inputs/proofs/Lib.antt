@@ -1,0 +1,27 @@
+pub mod Lists
+pub mod Once
+pub mod Ordering
+pub mod Tests
+pub mod Knowing
+pub mod Offering
+pub mod Requesting
+pub mod Leaving
+pub mod Ruling
+pub mod Sending
+pub mod Wishing
+pub mod Flagging
+pub mod Asks
+pub mod Rooms
+pub mod Blame
+pub mod Taking
+pub mod Telling
+pub mod Erring
+pub mod Answering
+pub mod Receiving
+pub mod Styling
+pub mod Wholes
+pub mod Quiet
+pub mod Calling
+pub mod Framing
+pub mod Stepping
+pub use Rattle.router_rules.proofs as RouterRules

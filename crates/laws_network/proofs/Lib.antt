@@ -1,0 +1,17 @@
+pub mod Standing
+pub mod Locals
+pub mod Known
+pub mod Due
+pub mod Sends
+pub mod Keeping
+pub mod Hops
+pub mod Computed
+pub mod Example
+pub mod Beginning
+pub mod Passing
+pub mod Calming
+pub mod Runs
+pub mod Hosts
+pub mod HowManySend
+pub use Rattle.laws_steps.proofs.Learning
+pub use Rattle.laws_steps.proofs.Speaking

@@ -1,0 +1,12 @@
+pub mod Rounds
+pub mod Keeping
+pub mod Known
+pub mod Refreshes
+pub mod Hops
+pub mod Example
+pub mod Beginning
+pub mod Runs
+pub mod HowManySend
+pub use Rattle.laws_bounds.specs.LawsInputs.Sources
+pub use Rattle.laws_steps.specs.PathLaws
+pub use Rattle.laws_steps.specs.SpeakingLaws

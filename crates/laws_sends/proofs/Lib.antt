@@ -1,0 +1,21 @@
+pub mod Elsewhere
+pub mod Towards
+pub mod Seeing
+pub mod Via
+pub mod Onward
+pub mod Lanes
+pub mod Changing
+pub mod Apart
+pub mod Quiet
+pub mod Saying
+pub mod Telling
+pub mod Marks
+pub mod Grouping
+pub mod Blocks
+pub mod Ordered
+pub mod Senders
+pub mod Laned
+pub mod Waits
+pub use Rattle.router_state.proofs.Passing
+pub use Rattle.router_state.proofs.Routed
+pub use Rattle.router_state.proofs as RouterState

@@ -1,5 +1,0 @@
-use Rattle.left_over.specs.Tables.{tables_of}
-use Rattle.left_over.proofs.resvs.ResvsLeft.open.Goals as goal
-
-pub returns-clause-none : goal.returns-clause-none
-returns-clause-none c = λ i. tables_of (c.in_ok-open.ensures i).facts (c.in_ok-open-2.ensures i).facts (c.in_ok-open-3.ensures i).facts

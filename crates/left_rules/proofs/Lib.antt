@@ -1,4 +1,0 @@
-pub mod FitFacts
-pub mod LeftRules
-pub mod ResvForms
-pub mod ResvRules

@@ -1,2 +1,0 @@
-mod Formed
-pub mod FormLaws

@@ -1,4 +1,0 @@
-pub mod Putting
-pub mod Wanting
-pub mod Standing
-pub mod Settled

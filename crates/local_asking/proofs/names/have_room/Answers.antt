@@ -1,7 +1,0 @@
-use Rattle.local_asking.specs.Asked.{fixed_want}
-use Rattle.local_asking.proofs.Wanting.{room_is}
-use Rattle.local_asking.proofs.names.have_room.Goals as goal
-
-pub returns-clause-room : goal.returns-clause-room
-returns-clause-room c = λ flow confirm.
-    room_is c.args.session (fixed_want flow confirm) c.args.names.now c.args.wants.now c.of-mine.result.now c.as_slice.result.now c.count_new.result c.of-mine.ensures.rows c.as_slice.ensures.senders c.count_new.ensures c.of-mine.ensures.few

@@ -1,5 +1,0 @@
-use Rattle.message_wire.proofs.OneAnswer.{no_fault_where_spelt}
-use Rattle.message_wire.proofs.laws.no_fault_where_spelt.Goals as goal
-
-pub returns : goal.returns
-returns c = no_fault_where_spelt

@@ -1,5 +1,0 @@
-pub mod Copies
-pub mod Lists
-pub mod Puts
-pub mod MadeTables
-pub use Rattle.network_model.proofs.Stepping

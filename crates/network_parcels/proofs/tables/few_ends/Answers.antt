@@ -1,5 +1,0 @@
-use Rattle.tree_routing.proofs.ValidMore.{few_ends_in_all}
-use Rattle.network_parcels.proofs.tables.few_ends.Goals as goal
-
-pub returns-clause-few : goal.returns-clause-few
-returns-clause-few c = few_ends_in_all c.args.routing.now c.ends.ensures.valid

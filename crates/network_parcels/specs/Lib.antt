@@ -1,7 +1,0 @@
-pub mod Parcels
-pub use Rattle.network_model.specs.Events
-pub use Rattle.network_model.specs.Links
-pub use Rattle.network_model.specs.Runs
-pub use Rattle.network_model.specs.Steps
-pub use Rattle.network_model.specs.Texts
-pub use Rattle.network_model.specs.Worlds

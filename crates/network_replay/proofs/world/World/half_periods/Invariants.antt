@@ -1,0 +1,15 @@
+use Rattle.std.proofs.Common.{◌≡◌, ℕ, ◌+◌, ◌*◌, ◌∷◌, [], List, None}
+use Rattle.std.specs.List.{repeat}
+use Rattle.network_flight.specs.Steps.{Piece}
+use Rattle.network_replay.specs.Running.{IsSame}
+use Rattle.network_replay.proofs.Runnings.{Goes}
+use Rattle.network_replay.proofs.world.World.half_periods.Given as goal
+
+abbrev pub invariant-loop : goal.invariant-loop
+invariant-loop g l =
+    record {
+      going : l.self.refused ≡ None;
+      same : IsSame l.initial.self l.self;
+      goes : (t : List ℕ) (q left : ℕ) → l.counter + left ≡ l.times → Goes q l.initial.self.names g.R.Router.seen (λ w. Piece (2 * q) ∷ [])
+          (λ n w. repeat n (Piece (2 * q) ∷ [])) l.initial.self t l.self t l.times left;
+    }

@@ -1,0 +1,14 @@
+use Rattle.std.proofs.Common.{false}
+use Rattle.network_flight.specs.Steps.{Report}
+use Rattle.network_replay.specs.Reporting.{report_said}
+use Rattle.network_replay.proofs.Reported.{report_ran, report_is, unsaid}
+use Rattle.network_replay.proofs.world.World.write_report.Goals as goal
+
+pub returns-in-Ok-clause-made : goal.returns-in-Ok-clause-made
+returns-in-Ok-clause-made g c = λ q w agrees. report_ran g.R.Router.seen q c.args.self.now w agrees c.args.out.now.items c.report.new.out.items c.args.end (c.in-Ok.ensures q w agrees)
+
+pub returns-in-Err-clause-made : goal.returns-in-Err-clause-made
+returns-in-Err-clause-made g c = λ q w agrees.
+    let v = c.args.self.now in
+    unsaid g.R.Router.seen q v.names c.in-Err.field-0 c.args.out.now.items c.report.new.out.items (report_said q v.names false c.args.end w) v (Report c.args.end) w (report_is q v.names c.args.end w)
+    (c.in-Err.ensures q w agrees)

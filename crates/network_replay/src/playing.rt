@@ -1,0 +1,172 @@
+//! What events do to a network.
+ghost use Rattle.std.specs.Prelude.{◌≡◌, ◌≢◌, ◌≤◌, ◌*◌, ◌∷◌, [], ℕ, List, None, Some, Err, IfErr, true};
+ghost use Rattle.std.specs.List.{repeat};
+ghost use Rattle.network_flight.specs.Events.{at_place, last_piece, pieces, steps_of};
+ghost use Rattle.network_flight.specs.Steps.{Copy, Deliver, Lose, Piece, Reroute};
+ghost use Rattle.router_rules.specs.Inputs.{Arrival};
+ghost use Rattle.network_replay.specs.Happening.{CanHappen, IsRead, takes_memory};
+ghost use Rattle.network_model.specs.Happenings.{IsFitEvent, event_with};
+ghost use Rattle.network_model.specs.Moves.{CanMove};
+ghost use Rattle.network_replay.specs.Running.{IsSame, Makes, refusal_of};
+ghost use Rattle.network_replay.specs.declared.world_err.WorldErr.{WorldErr as AnErr};
+ghost use Rattle.network_replay.specs.declared.world_err.WorldErr.TheVariants as refusal;
+
+use crate::router::Router;
+use crate::watch::Watch;
+use crate::world::World;
+use crate::world_err::WorldErr;
+use network_model::Event;
+use rsvp_base::Addr;
+use tree_routing::LinkHop;
+
+impl<R: Router + Drop> World<R> {
+    /// What happens, and its text, which is appended. `Crowded` exactly where it would put an 8,193rd datagram in flight: the
+    /// text of what happened before that is appended. `NoMemory`, only of a report, of a tree that moves or where the trace is on: a
+    /// prefix of the text is appended. A tree that the network cannot have is refused so each time. After a refusal each later event
+    /// is refused in the same way, and changes nothing. `watch` sees the network behind each delivery, each
+    /// half period and each round.
+    pub fn event<W: Watch>(
+        &mut self,
+        event: &Event,
+        watch: &mut W,
+        out: &mut Vec<u8>,
+    ) -> Result<(), WorldErr>
+        requires { IsFitEvent event.now }
+        ensures made { (a : Arrival) → IsRead event.now a → self.old.refused ≡ None → Makes R.seen self.old result out.old.items out.new.items self.new (λ q w. steps_of q (event_with a event.now) w) }
+        ensures again { (e : AnErr) → self.old.refused ≡ Some e → (result ≡ Err e) × (self.new ≡ self.old) × (out.new.items ≡ out.old.items) }
+        ensures refused { self.new.refused ≡ refusal_of result }
+        ensures names { self.new.names ≡ self.old.names }
+        ensures quarter { self.new.quarter ≡ self.old.quarter }
+        ensures only { self.old.refused ≡ None → result ≡ Err refusal.NoMemory → takes_memory self.old.trace event.now ≡ true }
+        ensures can { self.old.refused ≡ None → result ≢ Err refusal.NoMemory → CanHappen self.old.post.net event.now }
+    {
+        if let Some(e) = self.refused {
+            return Err(e);
+        }
+        match event {
+            Event::Local { node, call } => self.call(*node, call),
+            Event::Wait { ms } => self.wait(*ms, watch),
+            Event::Pass { times } => self.passes(*times, watch, out),
+            Event::Deliver { place } => self.deliver_at(*place, watch, out),
+            Event::Lose { place } => self.lose_at(*place),
+            Event::Again { place } => self.copy_at(*place),
+            Event::Clear { node } => self.clear(*node),
+            Event::Rounds { times } => self.rounds(*times, watch, out),
+            Event::Trace { on } => self.set_trace(*on),
+            Event::Report { end } => self.write_report(*end, out),
+            Event::Flags => self.write_flags(out),
+            Event::Inject { end, dst, bytes } => self.inject(*end, *dst, bytes.as_slice()),
+            Event::Reroute {
+                group,
+                source,
+                hops,
+            } => self.move_tree(*group, *source, hops.as_slice()),
+        }
+    }
+
+    // Time passes: half periods, and what is left.
+    fn wait<W: Watch>(&mut self, ms: u32, watch: &mut W) -> Result<(), WorldErr>
+        requires { self.old.refused ≡ None }
+        ensures made { (t : List ℕ) → Makes R.seen self.old result t t self.new (λ q w. pieces q ms) }
+        ensures same { IsSame self.old self.new }
+        ensures refused { self.new.refused ≡ refusal_of result }
+        ensures crowded { IfErr result (λ e. e ≡ refusal.Crowded) }
+    {
+        let half = self.half_ms();
+        self.half_periods(ms / half, watch)?;
+        self.last_piece(ms % half, watch)
+    }
+
+    // So many half periods.
+    fn half_periods<W: Watch>(&mut self, times: u32, watch: &mut W) -> Result<(), WorldErr>
+        requires { self.old.refused ≡ None }
+        ensures made { (t : List ℕ) → Makes R.seen self.old result t t self.new (λ q w. repeat times (Piece (2 * q) ∷ [])) }
+        ensures same { IsSame self.old self.new }
+        ensures refused { self.new.refused ≡ refusal_of result }
+        ensures crowded { IfErr result (λ e. e ≡ refusal.Crowded) }
+    {
+        for _ in 0..times {
+            self.half_period(watch)?;
+        }
+        Ok(())
+    }
+
+    // What is left of a wait, if anything.
+    fn last_piece<W: Watch>(&mut self, ms: u32, watch: &mut W) -> Result<(), WorldErr>
+        requires going { self.old.refused ≡ None }
+        requires short { ms ≤ 2 * self.old.quarter }
+        ensures made { (t : List ℕ) → Makes R.seen self.old result t t self.new (λ q w. last_piece q ms) }
+        ensures same { IsSame self.old self.new }
+        ensures refused { self.new.refused ≡ refusal_of result }
+        ensures crowded { IfErr result (λ e. e ≡ refusal.Crowded) }
+    {
+        if ms == 0 {
+            return Ok(());
+        }
+        self.piece(ms, watch)
+    }
+
+    // Delivers the datagram at a place, from 1.
+    fn deliver_at<W: Watch>(
+        &mut self,
+        place: u32,
+        watch: &mut W,
+        out: &mut Vec<u8>,
+    ) -> Result<(), WorldErr>
+        requires { self.old.refused ≡ None }
+        ensures made { Makes R.seen self.old result out.old.items out.new.items self.new (λ q w. at_place Deliver place) }
+        ensures same { IsSame self.old self.new }
+        ensures refused { self.new.refused ≡ refusal_of result }
+        ensures only { result ≡ Err refusal.NoMemory → self.old.trace ≡ true }
+    {
+        if place == 0 {
+            return Ok(());
+        }
+        self.deliver((place - 1) as usize, watch, out)
+    }
+
+    // Takes away the datagram at a place, from 1.
+    fn lose_at(&mut self, place: u32) -> Result<(), WorldErr>
+        requires { self.old.refused ≡ None }
+        ensures made { (t : List ℕ) → Makes R.seen self.old result t t self.new (λ q w. at_place Lose place) }
+        ensures same { IsSame self.old self.new }
+        ensures refused { self.new.refused ≡ refusal_of result }
+        ensures crowded { IfErr result (λ e. e ≡ refusal.Crowded) }
+    {
+        if place == 0 {
+            return Ok(());
+        }
+        self.lose((place - 1) as usize)
+    }
+
+    // Puts the datagram at a place, from 1, in flight once more.
+    fn copy_at(&mut self, place: u32) -> Result<(), WorldErr>
+        requires { self.old.refused ≡ None }
+        ensures made { (t : List ℕ) → Makes R.seen self.old result t t self.new (λ q w. at_place Copy place) }
+        ensures same { IsSame self.old self.new }
+        ensures refused { self.new.refused ≡ refusal_of result }
+        ensures crowded { IfErr result (λ e. e ≡ refusal.Crowded) }
+    {
+        if place == 0 {
+            return Ok(());
+        }
+        self.copy((place - 1) as usize)
+    }
+
+    // These hops are the tree of the group and source from now on; `NoMemory` also where they cannot be.
+    fn move_tree(&mut self, group: Addr, source: Addr, hops: &[LinkHop]) -> Result<(), WorldErr>
+        requires { self.old.refused ≡ None }
+        ensures made { (t : List ℕ) → Makes R.seen self.old result t t self.new (λ q w. Reroute group source hops.now ∷ []) }
+        ensures same { IsSame self.old self.new }
+        ensures refused { self.new.refused ≡ refusal_of result }
+        ensures can { result ≢ Err refusal.NoMemory → CanMove self.old.post.net group source hops.now }
+    {
+        match self.routing_with(group, source, hops) {
+            Ok(Some(routing)) => self.reroute(group, source, hops, routing),
+            Ok(None) | Err(_) => {
+                self.refused = Some(WorldErr::NoMemory);
+                Err(WorldErr::NoMemory)
+            }
+        }
+    }
+}

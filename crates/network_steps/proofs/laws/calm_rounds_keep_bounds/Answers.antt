@@ -1,5 +1,0 @@
-use Rattle.network_steps.proofs.Keeping.{calm_rounds_keep_bounds}
-use Rattle.network_steps.proofs.laws.calm_rounds_keep_bounds.Goals as goal
-
-pub returns : goal.returns
-returns c q w rs calm bounds = calm_rounds_keep_bounds q w rs calm bounds

@@ -1,5 +1,0 @@
-use Rattle.network_steps.proofs.Keeping.{each_step_keeps_a_world_within_bounds}
-use Rattle.network_steps.proofs.laws.each_step_keeps_a_world_within_bounds.Goals as goal
-
-pub returns : goal.returns
-returns c q w s fit bounds = each_step_keeps_a_world_within_bounds q w s fit bounds

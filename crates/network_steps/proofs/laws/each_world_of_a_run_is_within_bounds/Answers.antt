@@ -1,5 +1,0 @@
-use Rattle.network_steps.proofs.Runs.{each_world_of_a_run_is_within_bounds}
-use Rattle.network_steps.proofs.laws.each_world_of_a_run_is_within_bounds.Goals as goal
-
-pub returns : goal.returns
-returns c p fit = each_world_of_a_run_is_within_bounds p fit

@@ -1,5 +1,0 @@
-use Rattle.network_steps.proofs.Calming.{rounds_is_calm}
-use Rattle.network_steps.proofs.laws.rounds_is_calm.Goals as goal
-
-pub returns : goal.returns
-returns c q n w = rounds_is_calm q n w

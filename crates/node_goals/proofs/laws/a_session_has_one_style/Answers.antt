@@ -1,5 +1,0 @@
-use Rattle.node_goals.proofs.UnderTheGoal.{one_style}
-use Rattle.node_goals.proofs.laws.a_session_has_one_style.Goals as goal
-
-pub returns : goal.returns
-returns c net l fit = one_style net l fit

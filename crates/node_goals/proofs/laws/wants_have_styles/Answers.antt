@@ -1,6 +1,0 @@
-use Rattle.node_goals.proofs.UnderTheGoal.{want_needs}
-use Rattle.node_goals.proofs.WantStyles.{want_style}
-use Rattle.node_goals.proofs.laws.wants_have_styles.Goals as goal
-
-pub returns : goal.returns
-returns c net l parts = record { shaped = λ st s h u p e. want_style st net l s parts h u p e; needs = λ st s h u p e. want_needs st net l s h u p e }

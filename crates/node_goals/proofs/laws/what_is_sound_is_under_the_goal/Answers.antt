@@ -1,5 +1,0 @@
-use Rattle.node_goals.proofs.UnderTheGoal.{has_place, sound_under}
-use Rattle.node_goals.proofs.laws.what_is_sound_is_under_the_goal.Goals as goal
-
-pub returns : goal.returns
-returns c w = record { facts = sound_under w; unit = has_place w }

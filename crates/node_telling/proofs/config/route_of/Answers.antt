@@ -1,9 +1,0 @@
-use Rattle.std.proofs.Common.{sym, ◌∙◌}
-use Rattle.node_sends.proofs.Routed.{route_at}
-use Rattle.node_telling.proofs.config.route_of.Goals as goal
-
-pub returns-in-Ok : goal.returns-in-Ok
-returns-in-Ok c = sym (c.in-Ok.ensures.there.found _) ∙ sym (route_at c.args.rows.now c.args.group c.args.source)
-
-pub returns-in-Err : goal.returns-in-Err
-returns-in-Err c = sym (c.in-Err.ensures.absent.absent) ∙ sym (route_at c.args.rows.now c.args.group c.args.source)

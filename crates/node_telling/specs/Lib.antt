@@ -1,3 +1,0 @@
-pub mod Offering
-pub mod Ways
-pub use Rattle.node_sends.specs.NodeFacts

@@ -1,5 +1,0 @@
-use Rattle.node_waiting.proofs.Names.{names_of_the_dead}
-use Rattle.node_waiting.proofs.laws.names_of_the_dead_are_lost.Goals as goal
-
-pub returns : goal.returns
-returns c = names_of_the_dead

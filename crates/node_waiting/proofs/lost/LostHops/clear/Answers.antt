@@ -1,7 +1,0 @@
-use Rattle.std.proofs.Common.{ap, map as each}
-use Rattle.rsvp_base.specs.Table.{same_rows}
-use Rattle.node_waiting.specs.Lost.{lost_row}
-use Rattle.node_waiting.proofs.lost.LostHops.clear.Goals as goal
-
-pub returns : goal.returns
-returns c = same_rows _ _ (ap (each lost_row) c.clear.ensures.items)

@@ -1,0 +1,3 @@
+pub mod Offering
+pub mod Ways
+pub use Rattle.laws_sends.specs.RouterState

@@ -1,5 +1,0 @@
-pub mod Booked
-pub mod Outward
-pub mod Conflicts
-pub mod Wholes
-pub mod Posting

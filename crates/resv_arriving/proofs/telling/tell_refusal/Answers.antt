@@ -1,5 +1,0 @@
-use Rattle.std.proofs.Common.{false, ◌∙◌}
-use Rattle.resv_arriving.proofs.telling.tell_refusal.Goals as goal
-
-pub returns : goal.returns
-returns g c = λ clock. c.post.ensures ∙ (λ i. g.O.Outbox.posted c.args.out.now (record { iface = c.args.iface; dst = c.args.message.now.hop.addr; message = c.error_of-error.ensures clock i; refresh = false }))

@@ -1,0 +1,9 @@
+use Rattle.std.proofs.Common.{◌≡◌, ℕ, fold, take}
+use Rattle.std.specs.List.{flat_map}
+use Rattle.laws_sends.specs.State.{Said}
+use Rattle.router_state.specs.Whole.{state_of}
+use Rattle.resv_sends.specs.Rounds.{lanes_of, renewed_by}
+use Rattle.resv_sends.proofs.rounds.refresh_style.Given as goal
+
+abbrev pub invariant-loop-i : goal.invariant-loop-i
+invariant-loop-i g l = (c : ℕ) (any : Said) → l.out ≡ fold g.O.Outbox.posted l.initial.out (flat_map (renewed_by c (state_of l.tables any) l.said l.session) (lanes_of l.style (take l.i l.list)))

@@ -1,4 +1,0 @@
-pub mod Steps
-pub mod Fits
-pub mod Order
-pub mod Standing

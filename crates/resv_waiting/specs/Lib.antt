@@ -1,2 +1,0 @@
-pub mod Passed
-pub use Rattle.resv_book.specs.Kept

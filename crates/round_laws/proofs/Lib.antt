@@ -1,9 +1,0 @@
-pub mod Clocks
-pub mod Alike
-pub mod Clearing
-pub mod Telling
-pub mod Marking
-pub mod Rounds
-pub mod Passing
-pub mod Dying
-pub mod Moving

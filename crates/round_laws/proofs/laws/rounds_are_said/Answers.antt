@@ -1,5 +1,0 @@
-use Rattle.round_laws.proofs.Rounds.{rounds_are_said}
-use Rattle.round_laws.proofs.laws.rounds_are_said.Goals as goal
-
-pub returns : goal.returns
-returns c = rounds_are_said

@@ -1,5 +1,0 @@
-use Rattle.round_laws.proofs.Rounds.{rounds_are_told}
-use Rattle.round_laws.proofs.laws.rounds_are_told.Goals as goal
-
-pub returns : goal.returns
-returns c = rounds_are_told

@@ -1,4 +1,0 @@
-pub mod Rounds
-pub mod RoundLaws
-pub mod Passing
-pub mod Moving

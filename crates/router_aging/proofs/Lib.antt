@@ -1,0 +1,14 @@
+pub mod Sets
+pub mod Dying
+pub mod Losses
+pub mod Offers
+pub mod Counts
+pub mod Adding
+pub mod Watching
+pub mod Names
+pub mod Clearing
+pub mod Counted
+pub mod AfterWait
+pub mod Moves
+pub mod Booked
+pub mod Gone

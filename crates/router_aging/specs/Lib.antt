@@ -1,0 +1,9 @@
+pub mod Passing
+pub mod Lost
+pub mod Telling
+pub mod Watching
+pub mod Losing
+pub mod Clearing
+pub mod AfterWait
+pub mod Passed
+pub mod Steps

@@ -1,0 +1,44 @@
+-- What is offered of a sender, by the tables; and its Paths as a refresh.
+use Rattle.std.specs.Prelude.{ℕ, true, false, cond, List, [], Option, Some, None}
+use Rattle.std.specs.List.{flat_map}
+use Rattle.std.specs.Option.{option_map}
+use Rattle.rsvp_base.specs.Orders.{Names, sessions, senders}
+use Rattle.rsvp_base.specs.Sets.{with_keys}
+use Rattle.rsvp_base.specs.Table.{Table, empty, get, has, keys}
+use Rattle.rsvp_base.specs.Under.{under}
+use Rattle.rsvp_base.specs.declared.session.Session.{Session}
+use Rattle.rsvp_base.specs.TokenBucket.{TokenBucket}
+use Rattle.path_state.specs.Paths.{path_keys}
+use Rattle.path_state.specs.declared.fact.PathFact.{PathFact}
+use Rattle.style_rules.specs.Toward.{or_else}
+use Rattle.router_rules.specs.Facts.{SenderKey, sender_keys}
+use Rattle.router_rules.specs.Inputs.{Send}
+use Rattle.router_rules.specs.NodeConfig.{NodeConfig}
+use Rattle.router_rules.specs.Offers.{Offer}
+use Rattle.laws_sends.specs.Told.{paths_told, tears_told}
+
+-- in its own words where it is a local one, else in those of its path
+abbrev pub own_offer : TokenBucket → Offer
+own_offer flow = record { tspec = flow; local = true }
+
+abbrev pub path_offer : PathFact × ℕ → Offer
+path_offer e = record { tspec = e.0.tspec; local = false }
+
+abbrev pub offer_by : Table sender_keys TokenBucket → Table path_keys (PathFact × ℕ) → SenderKey → Option Offer
+offer_by own paths k = or_else (option_map own_offer (get own k)) (option_map path_offer (get paths k))
+
+-- all its Paths, where it is offered
+abbrev pub told_again : NodeConfig → SenderKey → Option Offer → List Send
+told_again p k None = []
+told_again p k (Some o) = paths_told p true k o
+
+-- all Paths of the known senders of a session, in order
+abbrev pub known_names : Table sender_keys TokenBucket → Table path_keys (PathFact × ℕ) → Session → Names
+known_names own paths s = with_keys (with_keys empty (keys (under sessions senders own s))) (keys (under sessions senders paths s))
+
+abbrev pub refreshed_by : NodeConfig → Table sender_keys TokenBucket → Table path_keys (PathFact × ℕ) → Session → List Send
+refreshed_by p own paths s = flat_map (λ x. told_again p (s, x) (offer_by own paths (s, x))) (keys (known_names own paths s))
+
+-- PathTears of a sender whose path died, if it is no local one
+abbrev pub gone_by : NodeConfig → Table sender_keys TokenBucket → SenderKey → List Send
+gone_by p own k = cond (has own k) [] (tears_told p k)

@@ -1,0 +1,6 @@
+pub mod Asked
+pub mod LeftOver
+pub mod Taken
+pub mod Coming
+pub mod Arriving
+pub mod Styled

@@ -1,0 +1,117 @@
+//! Paths and local senders come into the tables.
+ghost use Rattle.std.specs.Prelude.{◌≡◌, ◌≤◌, [], true, cond};
+ghost use Rattle.rsvp_base.specs.Orders.{senders};
+ghost use Rattle.rsvp_base.specs.SessionLimits.{has_room_at};
+ghost use Rattle.rsvp_base.specs.Table.{empty, has, put_in};
+ghost use Rattle.router_rules.specs.NodeConfig.{lifetime};
+ghost use Rattle.router_state.specs.State.{IsSettled};
+ghost use Rattle.router_state.specs.Whole.{state_of};
+ghost use Rattle.router_arrivals.specs.Coming.{fact_of, path_key, with_path, with_sender};
+
+use path_state::PathFact;
+use router_state::Tables;
+use rsvp_base::{Flow, Sender, Session};
+use rsvp_messages::PathMsg;
+
+/// Keeps the path of a sender that a Path speaks of, if there is room for it; its session has a countdown then. Whether there
+/// was room.
+pub fn learn_path(
+    tables: &mut Tables,
+    iface: u8,
+    message: &PathMsg,
+    sender: Sender,
+    tspec: Flow,
+) -> bool
+    requires pulled { tables.old.paths.dead.rows ≡ [] }
+    requires settled { IsSettled (state_of tables.old empty) }
+    ensures room { result
+        ≡ has_room_at senders (put_in tables.old.paths.facts (message.now.session, sender) (fact_of iface message.now sender tspec, lifetime tables.old.config message.now.period)) message.now.session }
+    ensures state { state_of tables.new empty
+        ≡ cond result (with_path (state_of tables.old empty) (message.now.session, sender) (fact_of iface message.now sender tspec) (lifetime tables.old.config message.now.period)) (state_of tables.old empty) }
+    ensures rest { tables.new ≡ record tables.old { senders = tables.new.senders; paths = tables.new.paths; due = tables.new.due } }
+    ensures pulled { tables.new.paths.dead.rows ≡ [] }
+{
+    let (fact, left) = said_of(tables, iface, message, sender, tspec);
+    keep_path(tables, fact, left)
+}
+
+/// Keeps the path of a sender that a Path speaks of anew, in place of the one that its session and sender have. There is room
+/// for it, and its session has a countdown already.
+pub fn renew_path(tables: &mut Tables, iface: u8, message: &PathMsg, sender: Sender, tspec: Flow)
+    requires pulled { tables.old.paths.dead.rows ≡ [] }
+    requires settled { IsSettled (state_of tables.old empty) }
+    requires stands { has tables.old.paths.facts (message.now.session, sender) ≡ true }
+    ensures room { has_room_at senders (put_in tables.old.paths.facts (message.now.session, sender) (fact_of iface message.now sender tspec, lifetime tables.old.config message.now.period)) message.now.session ≡ true }
+    ensures state { state_of tables.new empty
+        ≡ with_path (state_of tables.old empty) (message.now.session, sender) (fact_of iface message.now sender tspec) (lifetime tables.old.config message.now.period) }
+    ensures rest { tables.new ≡ record tables.old { paths = tables.new.paths } }
+    ensures pulled { tables.new.paths.dead.rows ≡ [] }
+{
+    let (fact, left) = said_of(tables, iface, message, sender, tspec);
+    tables.paths.limits();
+    tables.paths.renew(fact, left);
+}
+
+// What a Path that came by an interface says of its sender, and for how long, in milliseconds.
+fn said_of(
+    tables: &Tables,
+    iface: u8,
+    message: &PathMsg,
+    sender: Sender,
+    tspec: Flow,
+) -> (PathFact, u32)
+    ensures fact { result.0 ≡ fact_of iface message.now sender tspec }
+    ensures left { result.1 ≡ lifetime tables.now.config message.now.period }
+    ensures some { 1 ≤ result.1 }
+{
+    let left = tables.config.lifetime(message.period);
+    let fact = PathFact {
+        session: message.session,
+        sender,
+        iface,
+        hop: message.hop,
+        tspec,
+        police: message.police,
+    };
+    (fact, left)
+}
+
+/// Keeps a path with this much left, in milliseconds, if there is room for it; its session has a countdown then. Whether there
+/// was room.
+pub fn keep_path(tables: &mut Tables, fact: PathFact, left: u32) -> bool
+    requires some { 1 ≤ left }
+    requires pulled { tables.old.paths.dead.rows ≡ [] }
+    requires settled { IsSettled (state_of tables.old empty) }
+    ensures room { result ≡ has_room_at senders (put_in tables.old.paths.facts (path_key fact) (fact, left)) fact.session }
+    ensures state { state_of tables.new empty ≡ cond result (with_path (state_of tables.old empty) (path_key fact) fact left) (state_of tables.old empty) }
+    ensures rest { tables.new ≡ record tables.old { senders = tables.new.senders; paths = tables.new.paths; due = tables.new.due } }
+    ensures pulled { tables.new.paths.dead.rows ≡ [] }
+{
+    let period = tables.config.period();
+    let session = fact.session;
+    tables.senders.limits();
+    tables.paths.limits();
+    let Ok(()) = tables.paths.learn(fact, left) else {
+        return false;
+    };
+    tables.due.begin(session, period);
+    true
+}
+
+/// Keeps a local sender, if there is room for it; its session has a countdown then. Whether there was room.
+pub fn keep_sender(tables: &mut Tables, session: Session, sender: Sender, tspec: Flow) -> bool
+    requires settled { IsSettled (state_of tables.old empty) }
+    ensures room { result ≡ has_room_at senders (put_in tables.old.senders (session, sender) tspec) session }
+    ensures state { state_of tables.new empty ≡ cond result (with_sender (state_of tables.old empty) (session, sender) tspec) (state_of tables.old empty) }
+    ensures rest { tables.new ≡ record tables.old { senders = tables.new.senders; paths = tables.new.paths; due = tables.new.due } }
+    ensures paths { tables.new.paths ≡ tables.old.paths }
+{
+    let period = tables.config.period();
+    tables.senders.limits();
+    tables.paths.limits();
+    let Ok(()) = tables.senders.put(session, sender, tspec) else {
+        return false;
+    };
+    tables.due.begin(session, period);
+    true
+}

@@ -1,5 +1,0 @@
-use Rattle.router_bounds.proofs.LeftOver.{left_over_facts_are_within_bounds}
-use Rattle.router_bounds.proofs.bounds.left_over_facts_are_within_bounds.Goals as goal
-
-pub returns : goal.returns
-returns c = left_over_facts_are_within_bounds

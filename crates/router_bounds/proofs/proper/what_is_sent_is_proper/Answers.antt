@@ -1,5 +1,0 @@
-use Rattle.router_bounds.proofs.Wording.{what_is_sent_is_proper}
-use Rattle.router_bounds.proofs.proper.what_is_sent_is_proper.Goals as goal
-
-pub returns : goal.returns
-returns c = what_is_sent_is_proper

@@ -1,9 +1,0 @@
-pub mod Accepting
-pub mod Admitting
-pub mod Exemplary
-pub mod Erring
-pub mod Asking
-pub mod Hopward
-pub mod Blaming
-pub mod Blockading
-pub mod Instances

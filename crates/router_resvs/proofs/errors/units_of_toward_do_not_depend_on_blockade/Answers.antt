@@ -1,5 +1,0 @@
-use Rattle.router_resvs.proofs.Blockading.{units_of_toward_do_not_depend_on_blockade}
-use Rattle.router_resvs.proofs.errors.units_of_toward_do_not_depend_on_blockade.Goals as goal
-
-pub returns : goal.returns
-returns c = units_of_toward_do_not_depend_on_blockade

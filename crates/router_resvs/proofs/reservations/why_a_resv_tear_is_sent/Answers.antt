@@ -1,5 +1,0 @@
-use Rattle.router_resvs.proofs.Hopward.{why_a_resv_tear_is_sent}
-use Rattle.router_resvs.proofs.reservations.why_a_resv_tear_is_sent.Goals as goal
-
-pub returns : goal.returns
-returns c = why_a_resv_tear_is_sent

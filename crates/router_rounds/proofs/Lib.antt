@@ -1,0 +1,16 @@
+pub mod Clocks
+pub mod Alike
+pub mod Clearing
+pub mod Telling
+pub mod Marking
+pub mod RoundClaims
+pub mod WaitRounds
+pub mod Dying
+pub mod RouteRounds
+pub mod Near
+pub mod Before
+pub mod Loops
+pub mod Untouched
+pub mod Passed
+pub mod Moved
+pub mod Rerouted

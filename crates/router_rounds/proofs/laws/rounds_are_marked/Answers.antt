@@ -1,0 +1,5 @@
+use Rattle.router_rounds.proofs.RoundClaims.{rounds_are_marked}
+use Rattle.router_rounds.proofs.laws.rounds_are_marked.Goals as goal
+
+pub returns : goal.returns
+returns c = rounds_are_marked

@@ -1,4 +1,0 @@
-pub mod Framing
-pub mod Learning
-pub mod Counting
-pub mod Speaking

@@ -1,4 +1,0 @@
-pub mod FrameLaws
-pub mod PathLaws
-pub mod CountdownLaws
-pub mod SpeakingLaws

@@ -1,7 +1,0 @@
-use Rattle.run_laws.specs.Blockades.{AnAdmissionErrorSetsItsBlockade}
-use Rattle.run_laws.proofs.Errors.{an_admission_error_sets_its_blockade}
-use Rattle.run_laws.proofs.Runs.{at_every_step}
-use Rattle.run_laws.proofs.laws.an_admission_error_sets_its_blockade.Goals as goal
-
-pub returns : goal.returns
-returns c = at_every_step AnAdmissionErrorSetsItsBlockade (λ q s w bounds. an_admission_error_sets_its_blockade q s w)

@@ -1,0 +1,3 @@
+mod Misread
+mod Advising
+mod OutOf

@@ -1,0 +1,63 @@
+use Rattle.std.proofs.Common.{◌≡◌, ◌∙◌, ℕ, List, [], ◌∷◌, ◌++◌, length-append, append_assoc, append-nil, refl, sym, ap, subst, arith}
+use Rattle.script_words.specs.Lines.{text_lines}
+use Rattle.script_grammar.specs.Draft.{nothing}
+use Rattle.script_grammar.specs.Grammar.{Leads}
+use Rattle.script_grammar.proofs.Scripts.{leads_on}
+use Rattle.script_demand.proofs.script_lines.check_lines.Goals as goal
+
+pub loop-line-init : goal.loop-line-init
+loop-line-init g c = record { before = []; parts = refl; number = omega arith; leads = c.requires.first; quiet = c.requires.empty }
+
+pub loop-line-preserved : goal.loop-line-preserved
+loop-line-preserved g c =
+    let i = c.loop-line.invariant in
+    let line = c.in-Some.line.now in
+    record {
+      before = i.before ++ line ∷ [];
+      parts = i.parts ∙ ap (λ (ls : List (List ℕ)). i.before ++ ls) c.in-Some.ensures.lines ∙ sym (append_assoc i.before (line ∷ []) (text_lines c.in-Some.behind.now));
+      number = let count = length-append i.before (line ∷ []) in omega (arith, c.saturating_add-number.ensures, i.number, count);
+      leads = leads_on nothing i.before (g.C.LinesBefore.lines c.loop-line.checker) (g.C.LinesBefore.lines c.feed_line.new.checker) line i.leads c.in-Ok.ensures.follows;
+      quiet = i.quiet;
+    }
+
+pub returns-in-Err-Bad-clause-stopped : goal.returns-in-Err-Bad-clause-stopped
+returns-in-Err-Bad-clause-stopped g c =
+    let i = c.loop-line.invariant in
+    record {
+      before = i.before;
+      text = c.in-Some.line.now;
+      after = text_lines c.in-Some.behind.now;
+      parts = i.parts ∙ ap (λ (ls : List (List ℕ)). i.before ++ ls) c.in-Some.ensures.lines;
+      counted = omega (arith, c.saturating_add-number.ensures, i.number);
+      lines = g.C.LinesBefore.lines c.loop-line.checker;
+      leads = i.leads;
+      fault = rw c.in-Err-Bad.why-is (rw c.in-Err-Bad.field-0-is at c.in-Err-Bad.ensures.refused);
+    }
+
+pub returns-in-Err-Bad-clause-advised : goal.returns-in-Err-Bad-clause-advised
+returns-in-Err-Bad-clause-advised g c =
+    let i = c.loop-line.invariant in
+    let same : g.C.LinesBefore.lines c.feed_line.new.checker ≡ g.C.LinesBefore.lines c.loop-line.checker = rw c.in-Err-Bad.field-0-is at c.in-Err-Bad.ensures.same in
+    let told = rw same at c.put_advice.ensures in
+    record {
+      told = told;
+      bad = record {
+        before = i.before;
+        text = c.in-Some.line.now;
+        after = text_lines c.in-Some.behind.now;
+        parts = i.parts ∙ ap (λ (ls : List (List ℕ)). i.before ++ ls) c.in-Some.ensures.lines;
+        counted = omega (arith, c.saturating_add-number.ensures, i.number);
+        lines = g.C.LinesBefore.lines c.loop-line.checker;
+        leads = i.leads;
+        fault = rw c.in-Err-Bad.why-is (rw c.in-Err-Bad.field-0-is at c.in-Err-Bad.ensures.refused);
+      };
+    }
+
+pub returns-in-Err-Crowded-clause-stopped : goal.returns-in-Err-Crowded-clause-stopped
+returns-in-Err-Crowded-clause-stopped g c = absurd (rw c.in-Err-Crowded.field-0-is at c.in-Err-Crowded.ensures.refused)
+
+pub returns-clause-taken : goal.returns-clause-taken
+returns-clause-taken g c =
+    let i = c.loop-line.invariant in
+    let all : text_lines c.args.input.now ≡ i.before = i.parts ∙ ap (λ (ls : List (List ℕ)). i.before ++ ls) c.in_default.ensures.lines ∙ append-nil i.before in
+    subst (λ (ls : List (List ℕ)). Leads nothing ls (g.C.LinesBefore.lines c.loop-line.checker)) (sym all) i.leads

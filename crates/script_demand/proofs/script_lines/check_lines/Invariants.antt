@@ -1,0 +1,19 @@
+use Rattle.std.proofs.Common.{◌≡◌, ℕ, ◌-◌, ◌^◌, ◌++◌, List, [], length, min}
+use Rattle.script_grammar.specs.Draft.{nothing}
+use Rattle.script_grammar.specs.Grammar.{Leads}
+use Rattle.script_words.specs.Lines.{text_lines}
+use Rattle.script_demand.proofs.script_lines.check_lines.Given as goal
+
+-- the lines before were taken
+abbrev pub invariant-loop-line : goal.invariant-loop-line
+invariant-loop-line g l =
+    record {
+      before : List (List ℕ);
+      parts : text_lines l.input ≡ before ++ text_lines l.rest;
+      number : l.number ≡ min (length before) (2 ^ 32 - 1);
+      leads : Leads nothing before (g.C.LinesBefore.lines l.checker);
+      quiet : l.advice.items ≡ [];
+    }
+
+abbrev pub decreases-loop-line : goal.decreases-loop-line
+decreases-loop-line g l = length l.rest

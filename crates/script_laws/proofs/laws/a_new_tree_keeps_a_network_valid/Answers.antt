@@ -1,5 +1,0 @@
-use Rattle.tree_routing.proofs.ValidReroutes.{valid_rerouted}
-use Rattle.script_laws.proofs.laws.a_new_tree_keeps_a_network_valid.Goals as goal
-
-pub returns : goal.returns
-returns c net g s hs valid few grown free = valid_rerouted net valid g s hs few grown free

@@ -1,5 +1,0 @@
-use Rattle.script_laws.proofs.Small.{a_small_script_is_one}
-use Rattle.script_laws.proofs.laws.a_small_script_is_one.Goals as goal
-
-pub returns : goal.returns
-returns c = a_small_script_is_one

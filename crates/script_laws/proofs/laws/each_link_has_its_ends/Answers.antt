@@ -1,5 +1,0 @@
-use Rattle.script_laws.proofs.FitLinks.{each_link_has_its_ends}
-use Rattle.script_laws.proofs.laws.each_link_has_its_ends.Goals as goal
-
-pub returns : goal.returns
-returns c = each_link_has_its_ends

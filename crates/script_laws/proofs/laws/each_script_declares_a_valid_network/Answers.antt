@@ -1,5 +1,0 @@
-use Rattle.script_laws.proofs.DeclaredLines.{each_script_declares_a_valid_network}
-use Rattle.script_laws.proofs.laws.each_script_declares_a_valid_network.Goals as goal
-
-pub returns : goal.returns
-returns c = each_script_declares_a_valid_network

@@ -1,5 +1,0 @@
-use Rattle.script_laws.proofs.HostLines.{each_script_has_hosts}
-use Rattle.script_laws.proofs.laws.each_script_has_hosts.Goals as goal
-
-pub returns : goal.returns
-returns c = each_script_has_hosts

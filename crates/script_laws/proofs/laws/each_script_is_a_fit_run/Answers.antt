@@ -1,5 +1,0 @@
-use Rattle.script_laws.proofs.EventLines.{each_script_is_a_fit_run}
-use Rattle.script_laws.proofs.laws.each_script_is_a_fit_run.Goals as goal
-
-pub returns : goal.returns
-returns c = each_script_is_a_fit_run

@@ -1,5 +1,0 @@
-use Rattle.script_laws.proofs.SenderLines.{each_script_lets_few_send}
-use Rattle.script_laws.proofs.laws.each_script_lets_few_send.Goals as goal
-
-pub returns : goal.returns
-returns c = each_script_lets_few_send

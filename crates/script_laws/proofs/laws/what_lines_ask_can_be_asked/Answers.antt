@@ -1,5 +1,0 @@
-use Rattle.script_laws.proofs.AskedLines.{what_lines_ask_can_be_asked}
-use Rattle.script_laws.proofs.laws.what_lines_ask_can_be_asked.Goals as goal
-
-pub returns : goal.returns
-returns c = what_lines_ask_can_be_asked

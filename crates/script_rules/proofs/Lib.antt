@@ -1,0 +1,11 @@
+pub mod LinkRules
+pub mod HopRules
+pub mod TreeNames
+pub mod RerouteRules
+pub mod FitFacts
+pub mod LeftRules
+pub mod ResvForms
+pub mod ResvRules
+pub mod SenderRules
+pub mod WantLines
+pub mod WantCounts

@@ -1,0 +1,89 @@
+//! The rules of `end`.
+ghost use Rattle.std.specs.Prelude.{◌≡◌, ◌+◌, ◌<◌, ◌≤◌, ◌↔◌, ◌++◌, ◌∷◌, [], Err, IfErr, IfSome, IsSome, None, OnOk, length};
+ghost use Rattle.script_words.specs.Addresses.{addr_value};
+ghost use Rattle.tree_routing.specs.Answers.{TakesEnd, with_end};
+ghost use Rattle.script_state.specs.Said.{draft_of};
+ghost use Rattle.script_state.specs.Refusals.{IsUntouched, OnlyNoMemory, Refuses};
+ghost use Rattle.script_rules.specs.Asking.{AsksMemory};
+ghost use Rattle.script_grammar.specs.Adds.{Adds};
+ghost use Rattle.script_grammar.specs.Draft.{place_of};
+ghost use Rattle.script_grammar.specs.Rules.{Keeps, KeepsAll, OnlyDeclares};
+ghost use Rattle.script_grammar.specs.Values.{IsEndInRange};
+ghost use Rattle.script_grammar.specs.declared.line.ScriptLine.TheVariants as kind;
+
+use rsvp_base::{EndName, Iface};
+use script_grammar::{EndLine, Fault, Stop};
+use script_state::{ScriptState, only_declares};
+use script_words::is_host;
+use tree_routing::End;
+
+/// Adds an end.
+pub fn add_end(state: &mut ScriptState, line: EndLine) -> Result<(), Stop>
+    ensures ok { OnOk result (KeepsAll (Keeps (draft_of state.old) (kind.End line)) × Adds (draft_of state.old) (kind.End line) (draft_of state.new)) }
+    ensures refused { IfErr result (Refuses (draft_of state.old) (kind.End line)) }
+    ensures asked { result ≡ Err Stop.NoMemory → AsksMemory (draft_of state.old) (kind.End line) }
+    ensures same { IfErr result (IsUntouched (draft_of state.old) (draft_of state.new)) }
+{
+    if !only_declares(state) {
+        return Err(Stop::Bad(Fault::Late));
+    }
+    let Some(iface) = iface_of(&line) else {
+        return Err(Stop::Bad(Fault::Range));
+    };
+    let Some(node) = state.nodes.find(line.node.bytes()) else {
+        return Err(Stop::Bad(Fault::Name));
+    };
+    if state.names.find(line.name.bytes()).is_some() {
+        return Err(Stop::Bad(Fault::Twice));
+    }
+    if state.topology.owner(iface.addr).is_some() {
+        return Err(Stop::Bad(Fault::Twice));
+    }
+    let node = node as u16;
+    if !state.topology.has_room_for_end(node) {
+        return Err(Stop::Bad(Fault::Limit));
+    }
+    declare(state, line.name, End { node, iface })
+}
+
+// The interface of an end, where all its numbers are in range.
+fn iface_of(line: &EndLine) -> Option<Iface>
+    ensures some { IsSome result ↔ IsEndInRange line.now }
+    ensures value { IfSome result (λ i. i ≡ record { addr = addr_value line.now.addr; capacity = line.now.capacity; mtu = line.now.mtu }) }
+{
+    let addr = line.addr.addr()?;
+    if !is_host(addr) || line.capacity >= 1 << 46 || line.mtu == 0 || line.mtu > 65_535 {
+        return None;
+    }
+    Some(Iface {
+        addr,
+        capacity: line.capacity as u64,
+        mtu: line.mtu as u32,
+    })
+}
+
+// Keeps an end of a new name.
+fn declare(state: &mut ScriptState, name: EndName, end: End) -> Result<(), Stop>
+    requires new { place_of state.old.names name ≡ None }
+    requires takes { TakesEnd state.old.topology end }
+    requires early { OnlyDeclares (draft_of state.old) }
+    ensures ok { OnOk result (draft_of state.new ≡ record (draft_of state.old) { names = state.old.names ++ name ∷ []; net = with_end state.old.topology end }) }
+    ensures refused { IfErr result OnlyNoMemory }
+{
+    let number = state.topology.add_end(end)?;
+    keep_name(state, name, number)
+}
+
+// Keeps the name of the last end.
+fn keep_name(state: &mut ScriptState, name: EndName, number: u16) -> Result<(), Stop>
+    requires new { place_of state.old.names name ≡ None }
+    requires number { length state.old.names ≤ number }
+    requires there { number < length state.old.topology.ends }
+    ensures ok { OnOk result (draft_of state.new ≡ record (draft_of state.old) { names = state.old.names ++ name ∷ [] }) }
+    ensures refused { IfErr result OnlyNoMemory }
+{
+    state.end_names.reserve(1)?;
+    state.names.add(state.alloc, name.bytes())?;
+    let _ = state.end_names.push(name);
+    Ok(())
+}

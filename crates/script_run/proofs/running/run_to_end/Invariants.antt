@@ -1,0 +1,18 @@
+use Rattle.std.proofs.Common.{◌≡◌, ◌-◌, ◌≤◌, [], length}
+use Rattle.byte_streams.specs.Reading.{most_bytes}
+use Rattle.script_run.proofs.Ended.{Progress}
+use Rattle.script_run.proofs.running.run_to_end.Given as goal
+
+-- the lines up to here were run, and what they wrote was written
+abbrev pub invariant-loop-advice : goal.invariant-loop-advice
+invariant-loop-advice g l =
+    record {
+      played : Progress g.P.Player.stands (g.S.Source.left l.initial.source) (g.S.Source.left l.source) (g.K.Sink.holds l.initial.sink) (g.K.Sink.holds l.sink) l.reader l.player;
+      read : g.S.Source.faults l.initial.source ≤ g.S.Source.faults l.source;
+      written : g.K.Sink.faults l.initial.sink ≤ g.K.Sink.faults l.sink;
+      quiet : l.advice.items ≡ [];
+    }
+
+-- each turn gives a byte at least of those that an input may have
+abbrev pub decreases-loop-advice : goal.decreases-loop-advice
+decreases-loop-advice g l = most_bytes - (l.reader.taken - length l.reader.bytes)

@@ -1,0 +1,116 @@
+//! Lines are read, checked, run and written, one after the other.
+ghost use Rattle.std.specs.Prelude.{◌≡◌, ◌≤◌, [], List, ℕ, Some, length};
+ghost use Rattle.byte_streams.specs.Reading.{most_bytes};
+ghost use Rattle.byte_streams.specs.Faults.{Rose};
+ghost use Rattle.script_grammar.specs.Draft.{Draft, nothing};
+ghost use Rattle.script_run.specs.Advised.{IsAdvised, IsAdvisedAt};
+ghost use Rattle.script_run.specs.Playing.{StaysAt};
+ghost use Rattle.script_run.specs.Endings.{ComesTo, IsOrNoMemory, IsRun, ending_at};
+ghost use Rattle.script_run.specs.declared.ending.Ending.{Ending as AnEnding};
+
+use crate::ending::Ending;
+use crate::player::Player;
+use byte_streams::{LineReader, NextLine, Sink, Source, write_all};
+use script_advice::put_long;
+use script_grammar::{Fault, Stop};
+use std::alloc::Global;
+
+/// Reads a script of the source line by line: each line is checked and run by the player, and what it wrote is written to the
+/// sink, before the next line is read. The first line at which something is refused ends the run.
+///
+/// At one line these come in this order: `ReadFault` or `TooLong` while it is read, then `BadLine`, then `Crowded`, then
+/// `WriteFault`. `NoMemory`: memory ran out. A line of more than 2,048 bytes is bad as soon as so many of it were taken.
+///
+/// `advice` becomes the text that tells what is wrong with the bad line; where no line is bad, or memory runs out as it is written,
+/// it is empty.
+pub fn run_lines<P: Player, S: Source, K: Sink>(
+    alloc: Global,
+    player: &mut P,
+    source: &mut S,
+    sink: &mut K,
+    advice: &mut Vec<u8>,
+) -> Ending
+    requires first { P.stands player.old nothing }
+    ensures run { IsRun (P.stands player.new) result (S.left source.old) (S.left source.new) (K.holds sink.old) (K.holds sink.new) }
+    ensures read_fault { result ≡ Ending.ReadFault → Rose (S.faults source.old) (S.faults source.new) }
+    ensures write_fault { result ≡ Ending.WriteFault → Rose (K.faults sink.old) (K.faults sink.new) }
+    // Over known input: what is wrong with the bad line is told.
+    ensures advised { (bytes : List ℕ) → S.left source.old ≡ Some bytes → IsAdvised result bytes advice.new.items }
+    // Nothing else ends a run over known input and devices that do not fail.
+    ensures complete { (bytes text : List ℕ) (wanted : AnEnding) → S.left source.old ≡ Some bytes → length bytes ≤ most_bytes → ComesTo wanted bytes text
+        → (Rose (S.faults source.old) (S.faults source.new) → ⊥) → (Rose (K.faults sink.old) (K.faults sink.new) → ⊥) → IsOrNoMemory wanted result }
+{
+    run_to_end(alloc, player, source, sink, advice)
+}
+
+// Runs line by line.
+fn run_to_end<P: Player, S: Source, K: Sink>(
+    alloc: Global,
+    player: &mut P,
+    source: &mut S,
+    sink: &mut K,
+    advice: &mut Vec<u8>,
+) -> Ending
+    requires first { P.stands player.old nothing }
+    ensures run { IsRun (P.stands player.new) result (S.left source.old) (S.left source.new) (K.holds sink.old) (K.holds sink.new) }
+    ensures read_fault { result ≡ Ending.ReadFault → Rose (S.faults source.old) (S.faults source.new) }
+    ensures write_fault { result ≡ Ending.WriteFault → Rose (K.faults sink.old) (K.faults sink.new) }
+    ensures advised { (bytes : List ℕ) → S.left source.old ≡ Some bytes → IsAdvised result bytes advice.new.items }
+{
+    advice.clear();
+    let mut reader = match LineReader::open(alloc) {
+        Ok(reader) => reader,
+        Err(_) => return Ending::NoMemory,
+    };
+    let mut out = Vec::new(alloc);
+    loop {
+        match reader.next(source) {
+            NextLine::Line => {}
+            NextLine::Long => {
+                put_long(advice);
+                return Ending::BadLine {
+                    line: reader.number(),
+                    why: Fault::Limit,
+                };
+            }
+            NextLine::End => return Ending::Done,
+            NextLine::Fault => return Ending::ReadFault,
+            NextLine::TooLong => return Ending::TooLong,
+        }
+        out.clear();
+        match player.play(reader.line(), &mut out) {
+            Ok(()) => {}
+            Err(stop) => {
+                advise(player, reader.line(), &stop, advice);
+                return ending_at(stop, reader.number());
+            }
+        }
+        match write_all(sink, out.as_slice()) {
+            Ok(()) => {}
+            Err(_) => return Ending::WriteFault,
+        }
+    }
+}
+
+// Tells what is wrong with a line that was not run, where it is bad.
+fn advise<P: Player>(player: &P, line: &[u8], stop: &Stop, advice: &mut Vec<u8>)
+    requires { advice.old.items ≡ [] }
+    ensures { (d : Draft) → StaysAt (P.stands player.now) d stop.now → IsAdvisedAt d line.now stop.now advice.new.items }
+{
+    match stop {
+        Stop::Bad(why) => player.advise(line, why, advice),
+        Stop::Crowded => {}
+        Stop::NoMemory => {}
+    }
+}
+
+// How a run ends at the line of this number, which was not run.
+fn ending_at(stop: Stop, line: u32) -> Ending
+    ensures { result ≡ ending_at stop line }
+{
+    match stop {
+        Stop::Bad(why) => Ending::BadLine { line, why },
+        Stop::Crowded => Ending::Crowded,
+        Stop::NoMemory => Ending::NoMemory,
+    }
+}

@@ -1,5 +1,0 @@
-use Rattle.script_standing.proofs.Same.{the_same_is_demanded}
-use Rattle.script_standing.proofs.laws.the_same_is_demanded.Goals as goal
-
-pub returns : goal.returns
-returns c = the_same_is_demanded

@@ -1,2 +1,0 @@
-pub mod Standing
-pub use Rattle.settle_reports.specs as SettleReports

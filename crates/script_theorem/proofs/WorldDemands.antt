@@ -1,0 +1,100 @@
+-- The world behind the lines of a script has what they ask, so its last report is the demand of the script.
+use Rattle.std.proofs.Common.{◌≡◌, ℕ, ◌+◌, zero, suc, List, [], ◌∷◌, ◌++◌, Option, Some, refl, sym, ap, subst, ◌∙◌, arith}
+use Rattle.std.specs.Prelude.{map as each, slice_get}
+use Rattle.std.proofs.lemmas.List.{append-nil}
+use Rattle.rsvp_base.specs.Members.{In}
+use Rattle.rsvp_base.specs.Table.{get, keys}
+use Rattle.rsvp_base.specs.TokenBucket.{TokenBucket}
+use Rattle.rsvp_base.proofs.Counts.{found_in}
+use Rattle.rsvp_base.proofs.Members.{in_left, in_right, to_each}
+use Rattle.router_rules.specs.Facts.{Facts, SenderKey, sender_keys}
+use Rattle.tree_model.specs.declared.locals.LocalSender.{LocalSender}
+use Rattle.tree_model.specs.declared.locals.LocalWant.{LocalWant}
+use Rattle.tree_model.specs.Goals.{DemandsFit}
+use Rattle.tree_model.specs.Networks.{Net}
+use Rattle.tree_model.specs.Wants.{Locals}
+use Rattle.network_model.specs.Locals.{locals_of, sender_at, senders_from, wants_from}
+use Rattle.network_model.specs.Runs.{first_world, steps_of_run, text_of}
+use Rattle.network_model.specs.Steps.{Report, Step, machine, step}
+use Rattle.network_model.specs.Worlds.{World}
+use Rattle.network_model.proofs.NodeLocals.{node_wants, sender_of_node, want_of_node}
+use Rattle.laws_network.proofs.Runs.{each_world_of_a_run_is_within_bounds}
+use Rattle.network_model.specs.DemandTexts.{demand_text}
+use Rattle.script_grammar.specs.Draft.{Draft, nothing, plan_of, routing}
+use Rattle.script_grammar.specs.Grammar.{IsScript, Leads}
+use Rattle.laws_scripts.proofs.EventLines.{each_script_is_a_fit_run}
+use Rattle.laws_scripts.proofs.SenderLines.{each_script_lets_few_send}
+use Rattle.script_words.specs.Lines.{text_lines}
+use Rattle.script_theorem.specs.Demands.{moment}
+use Rattle.script_theorem.proofs.Demands.{a_settled_report_is_the_demand}
+use Rattle.laws_network.proofs.Calming.{run_append}
+use Rattle.script_theorem.proofs.Writing.{idle}
+use Rattle.script_theorem.specs.Standing.{AskTheSame, ScriptsStand, TheLastReportIsTheDemand, world_behind}
+use Rattle.script_theorem.proofs.Keeping.{Stands}
+use Rattle.script_theorem.proofs.Lines.{standing_behind}
+use Rattle.script_theorem.proofs.Same.{same_fit, same_text}
+
+-- ---- what nodes have, as what the network is asked
+sender_in : (j n : ℕ) (fs : List Facts) (f : Facts) (k : SenderKey) (t : TokenBucket) → slice_get fs n ≡ Some f → get f.senders k ≡ Some t → In (sender_at (j + n) k) (senders_from j fs)
+sender_in j n [] f k t at there = absurd (cc)
+sender_in j zero (g ∷ fs) f k t at there =
+    let same : f ≡ g = cc in
+    let row = to_each (λ (e : SenderKey × TokenBucket). e.0) (k, t) g.senders.rows (found_in sender_keys g.senders k t (subst (λ (z : Facts). get z.senders k ≡ Some t) same there)) in
+    let e : j ≡ j + 0 = omega arith in
+    subst (λ (z : ℕ). In (sender_at z k) (senders_from j (g ∷ fs))) e (in_left (sender_at j k) (each (sender_at j) (keys g.senders)) (senders_from (suc j) fs)
+    (to_each (sender_at j) k (keys g.senders) row))
+sender_in j (suc n) (g ∷ fs) f k t at there =
+    let e : suc j + n ≡ j + suc n = omega arith in
+    subst (λ (z : ℕ). In (sender_at z k) (senders_from j (g ∷ fs))) e
+    (in_right (sender_at (suc j + n) k) (each (sender_at j) (keys g.senders)) (senders_from (suc j) fs) (sender_in (suc j) n fs f k t at there))
+
+asks : (l : Locals) (u : World) → Stands l u → AskTheSame (locals_of u) l
+asks l u h = record {
+  senders = λ x. (
+    λ i. let r = sender_of_node u x i in subst (λ (z : LocalSender). In z l.senders) (sym r.5) (h.sender_told x.node r.0 r.1 r.2 r.3 r.4),
+    λ i. let r = h.sender_made x i in let e : 0 + x.node ≡ x.node = omega arith in subst (λ (z : ℕ). In (sender_at z (x.session, x.sender)) (senders_from 0 u.nodes)) e
+        (sender_in 0 x.node u.nodes r.0 (x.session, x.sender) r.1 r.2 r.3),
+  );
+  wants = λ w. (
+    λ i. let r = want_of_node u w i in subst (λ (z : LocalWant). In z l.wants) (sym r.5) (h.want_told w.node r.0 r.1 r.2 r.3 r.4),
+    λ i. let r = h.want_made w i in subst (λ (z : LocalWant). In z (locals_of u).wants) (sym r.5) (node_wants u w.node r.0 r.1 r.2 r.3 r.4),
+  );
+}
+
+pub scripts_stand : ScriptsStand
+scripts_stand bytes d leads =
+    let h = standing_behind (text_lines bytes) d leads in
+    let within = each_world_of_a_run_is_within_bounds (plan_of d) (each_script_is_a_fit_run bytes (plan_of d) (record { lines = d; leads = leads; says = refl })) in
+    record { net = h.net within; locals = asks d.locals (world_behind d) (h.stands within) }
+
+-- ---- the last report
+module _ (bytes : List ℕ) (d : Draft) (leads : Leads nothing (text_lines bytes) d) (before : List Step) (e : Option ℕ) (parts : steps_of_run (plan_of d) ≡ before ++ Report e ∷ []) where
+  abbrev u : World
+  u = moment (plan_of d) before
+
+  last : world_behind d ≡ step (plan_of d).quarter (Report e) u
+  last = ap (moment (plan_of d)) parts ∙ run_append (machine (plan_of d).quarter) before (Report e ∷ []) (first_world (plan_of d))
+
+  same_net : u.net ≡ routing d
+  same_net = sym (ap (λ (w : World). w.net) last) ∙ (scripts_stand bytes d leads).net
+
+  same_locals : locals_of (world_behind d) ≡ locals_of u
+  same_locals = ap locals_of last ∙ ap (λ (fs : List Facts). record { senders = senders_from 0 fs; wants = wants_from 0 fs }) (idle (plan_of d).quarter (Report e) u refl).nodes
+
+  asked : AskTheSame (locals_of u) d.locals
+  asked = subst (λ (l : Locals). AskTheSame l d.locals) same_locals (scripts_stand bytes d leads).locals
+
+  fit_there : DemandsFit (routing d) d.locals → DemandsFit u.net (locals_of u)
+  fit_there fit = subst (λ (net : Net). DemandsFit net (locals_of u)) (sym same_net) (same_fit (routing d) (locals_of u) d.locals asked fit)
+
+  text_there : demand_text d.names u.net (locals_of u) e ≡ demand_text d.names (routing d) d.locals e
+  text_there = ap (λ (net : Net). demand_text d.names net (locals_of u) e) same_net ∙ same_text (routing d) (locals_of u) d.locals asked d.names e
+
+pub the_last_report_is_the_demand : TheLastReportIsTheDemand
+the_last_report_is_the_demand bytes d leads free ss still e parts settled writes fit =
+    let is : IsScript bytes (plan_of d) = record { lines = d; leads = leads; says = refl } in
+    let text : List ℕ = text_of (plan_of d).quarter d.names (ss ++ still) (first_world (plan_of d)) in
+    a_settled_report_is_the_demand (plan_of d) (each_script_is_a_fit_run bytes (plan_of d) is) (each_script_lets_few_send bytes (plan_of d) is) free ss still e [] parts settled writes
+    (fit_there bytes d leads (ss ++ still) e parts fit)
+    ∙ ap (λ (zs : List ℕ). text ++ zs) (append-nil (demand_text d.names (u bytes d leads (ss ++ still) e parts).net (locals_of (u bytes d leads (ss ++ still) e parts)) e)
+    ∙ text_there bytes d leads (ss ++ still) e parts)

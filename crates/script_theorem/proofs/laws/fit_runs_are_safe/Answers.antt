@@ -1,5 +1,0 @@
-use Rattle.script_theorem.proofs.Safety.{fit_runs_are_safe}
-use Rattle.script_theorem.proofs.laws.fit_runs_are_safe.Goals as goal
-
-pub returns : goal.returns
-returns c = fit_runs_are_safe

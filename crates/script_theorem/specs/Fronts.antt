@@ -1,0 +1,49 @@
+-- A run of which a front of the text was written, since it ended early: each report that stands in it whole, by the theorem.
+use Rattle.std.specs.Prelude.{◌≡◌, ℕ, ◌≤◌, false, List, [], ◌∷◌, ◌++◌, Option, length}
+use Rattle.tree_model.specs.Goals.{DemandsFit}
+use Rattle.network_model.specs.Bounds.{IsPurged, IsSettled}
+use Rattle.network_model.specs.DemandTexts.{demand_text}
+use Rattle.network_model.specs.Locals.{locals_of}
+use Rattle.network_model.specs.Runs.{Plan, first_world, is_crowded_run, run_text, steps_of_run, text_of}
+use Rattle.network_model.specs.Steps.{Report, Step}
+use Rattle.script_theorem.specs.Demands.{moment}
+use Rattle.script_theorem.specs.Purged.{AppendsAtMostTheDemand, books_text}
+use Rattle.script_theorem.specs.Writing.{OnlyWrite}
+use Rattle.script_theorem.specs.Theorem.{HealsItself}
+
+-- the text of the run begins with this one
+pub record IsFront (p : Plan) (text : List ℕ) : Type 0 where
+  pub more : List ℕ
+  pub parts : run_text p ≡ text ++ more
+
+module _ (p : Plan) (text : List ℕ) where
+  -- it has all that these steps of the run write, and that the report behind them does
+  abbrev pub HasReport : List Step → Option ℕ → Type 0
+  HasReport ss e = length (text_of p.quarter p.names (ss ++ Report e ∷ []) (first_world p)) ≤ length text
+
+  -- behind what these steps write it goes on with this
+  abbrev pub GoesOnWith : List Step → List ℕ → Type 0
+  GoesOnWith ss report = (rest : List ℕ) × (text ≡ text_of p.quarter p.names ss (first_world p) ++ (report ++ rest))
+
+  -- each report that it has whole, at a settled moment or behind steps that only write after one, is the text of the demand, where the
+  -- demands of that moment fit
+  abbrev pub HasTheDemands : Type 0
+  HasTheDemands =
+      (ss still : List Step) (e : Option ℕ) (ts : List Step) → steps_of_run p ≡ (ss ++ still) ++ Report e ∷ ts → IsSettled p.quarter (first_world p) ss → OnlyWrite still
+      → DemandsFit (moment p (ss ++ still)).net (locals_of (moment p (ss ++ still))) → HasReport (ss ++ still) e
+      → GoesOnWith (ss ++ still) (demand_text p.names (moment p (ss ++ still)).net (locals_of (moment p (ss ++ still))) e)
+
+  -- each that it has whole, at a purged moment or behind steps that only write after one, is the text of books that are at most the
+  -- demands, whether or not these fit
+  abbrev pub HasNothingStale : Type 0
+  HasNothingStale =
+      (ss still : List Step) (e : Option ℕ) (ts : List Step) → steps_of_run p ≡ (ss ++ still) ++ Report e ∷ ts → IsPurged p.quarter (first_world p) ss → OnlyWrite still → HasReport (ss ++ still) e
+      → (at_most : AppendsAtMostTheDemand p (ss ++ still) e ts) × GoesOnWith (ss ++ still) (books_text p.names (moment p (ss ++ still)).net at_most.books e)
+
+  pub record HasHealedReports : Type 0 where
+    pub demands : HasTheDemands
+    pub purged : HasNothingStale
+
+-- each front of the text of a run that heals itself, and is not crowded
+abbrev pub FrontsHaveHealedReports : Type 0
+FrontsHaveHealedReports = (p : Plan) → is_crowded_run p ≡ false → HealsItself p → (text : List ℕ) → IsFront p text → HasHealedReports p text

@@ -1,2 +1,0 @@
-pub mod Equal
-pub use Rattle.grown_runs.specs.SettleReports

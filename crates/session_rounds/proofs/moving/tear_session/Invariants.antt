@@ -1,7 +1,0 @@
-use Rattle.std.proofs.Common.{◌≡◌, fold, take}
-use Rattle.std.specs.List.{flat_map}
-use Rattle.session_rounds.specs.Moving.{torn_of}
-use Rattle.session_rounds.proofs.moving.tear_session.Given as goal
-
-abbrev pub invariant-loop-i : goal.invariant-loop-i
-invariant-loop-i g l = l.out ≡ fold g.O.Outbox.posted l.initial.out (flat_map (λ x. torn_of (record l.tables.config { routes = l.old }) l.tables.config (l.session, x)) (take l.i l.list))

@@ -1,7 +1,0 @@
-pub mod Writing
-pub mod RoundsAmong
-pub mod Still
-pub mod Texts
-pub mod Demands
-pub mod Purged
-pub mod Example

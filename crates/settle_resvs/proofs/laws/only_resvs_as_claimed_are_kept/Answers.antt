@@ -1,6 +1,0 @@
-use Rattle.network_steps.proofs.Keeping.{calm_rounds_keep_bounds}
-use Rattle.settle_resvs.proofs.SoftResvs.{only_resvs_as_claimed_are_kept}
-use Rattle.settle_resvs.proofs.laws.only_resvs_as_claimed_are_kept.Goals as goal
-
-pub returns : goal.returns
-returns g c q w k lt cuts rs calm bounds says = only_resvs_as_claimed_are_kept q w k lt g.P.Claim.holds cuts rs calm (calm_rounds_keep_bounds q w rs calm bounds) says

@@ -1,0 +1,6 @@
+use Rattle.laws_network.proofs.Keeping.{calm_rounds_keep_bounds}
+use Rattle.settle_resvs.proofs.SoundUnits.{reservations_are_sound}
+use Rattle.settle_resvs.proofs.soundness.reservations_are_sound.Goals as goal
+
+pub returns : goal.returns
+returns c q w rs calm bounds paths = reservations_are_sound q w rs calm (calm_rounds_keep_bounds q w rs calm bounds) paths

@@ -1,6 +1,0 @@
-use Rattle.settle_resvs.proofs.NetworkSteps.Keeping.{calm_rounds_keep_bounds}
-use Rattle.sound_resvs.proofs.SoundUnits.{reservations_are_sound}
-use Rattle.sound_resvs.proofs.laws.reservations_are_sound.Goals as goal
-
-pub returns : goal.returns
-returns c q w rs calm bounds paths = reservations_are_sound q w rs calm (calm_rounds_keep_bounds q w rs calm bounds) paths

@@ -1,6 +1,0 @@
-use Rattle.network_steps.proofs.Keeping.{calm_rounds_keep_bounds}
-use Rattle.taken_resvs.proofs.Accepting.{arrivals_are_taken}
-use Rattle.taken_resvs.proofs.laws.arrivals_are_taken.Goals as goal
-
-pub returns : goal.returns
-returns c q w rs calm locals fit bounds so_far = arrivals_are_taken q w rs calm locals fit (calm_rounds_keep_bounds q w rs calm bounds) so_far

@@ -1,6 +1,0 @@
-use Rattle.network_steps.proofs.Keeping.{calm_rounds_keep_bounds}
-use Rattle.taken_resvs.proofs.Blockades.{blockades_are_gone}
-use Rattle.taken_resvs.proofs.laws.blockades_are_gone.Goals as goal
-
-pub returns : goal.returns
-returns c q w rs calm bounds none = blockades_are_gone q w rs calm (calm_rounds_keep_bounds q w rs calm bounds) none

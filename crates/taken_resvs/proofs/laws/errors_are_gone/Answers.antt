@@ -1,6 +1,0 @@
-use Rattle.network_steps.proofs.Keeping.{calm_rounds_keep_bounds}
-use Rattle.taken_resvs.proofs.Errors.{errors_go}
-use Rattle.taken_resvs.proofs.laws.errors_are_gone.Goals as goal
-
-pub returns : goal.returns
-returns c q w rs calm locals fit bounds so_far = errors_go q w rs calm locals fit (calm_rounds_keep_bounds q w rs calm bounds) so_far

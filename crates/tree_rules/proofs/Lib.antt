@@ -1,4 +1,0 @@
-pub mod LinkRules
-pub mod HopRules
-pub mod TreeNames
-pub mod RerouteRules

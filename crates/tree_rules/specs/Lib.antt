@@ -1,3 +1,0 @@
-pub mod LinkEnds
-pub mod HopRefusals
-pub mod TreeRefusals

@@ -1,4 +1,0 @@
-pub mod Several
-pub mod SeveralLaws
-pub mod Waits
-pub use Rattle.node_sends.specs.Told
