@@ -8,3 +8,4 @@ pub mod Checks
 pub mod Reroutes
 pub mod Routes
 pub mod Order
+pub mod HopFaults

@@ -149,7 +149,7 @@ pub(crate) fn is_reached(ends: &[End], hops: &[Known], group: Addr, source: Addr
 }
 
 // Whether a hop of a tree goes out of the end, or is not on the link of these ends.
-fn is_sent_alone(link: &[u16], end: u16, hop: LinkHop) -> bool
+pub(crate) fn is_sent_alone(link: &[u16], end: u16, hop: LinkHop) -> bool
     ensures { result ≡ leaves_link link.now end hop }
 {
     !is_among(link, hop.from) || hop.from == end

@@ -14,6 +14,7 @@ mod copying;
 mod group_hop;
 mod growing;
 mod hop_err;
+mod hop_faults;
 mod in_order;
 mod keys;
 mod known;
@@ -31,6 +32,7 @@ mod ways;
 
 pub use group_hop::GroupHop;
 pub use hop_err::HopErr;
+pub use hop_faults::HopFault;
 pub use routing::Routing;
 pub use topology::Topology;
 pub use tree_model::{End, LinkHop, TreeHop};
