@@ -45,7 +45,7 @@ under_along l g h a b = record { style = a.style ∙ b.style; key = a.key ∙ b.
 under_as : (l k g : Line) → l ≡ k → IsUnder k g → IsUnder l g
 under_as l k g same u = subst (λ (z : Line). IsUnder z g) (sym same) u
 
-module _ (p : NodeConfig) (o : Asker) (f : Facts) (t : Resvs) (u : UnitOf) (part : Part) (gs : List Line) (can : CanBeHeld p gs) (there : AreUnder (lines (with_resvs o.style t f)) gs)
+module _ (p : NodeConfig) (o : Asker) (f : Facts) (t : Resvs) (u : UnitOf) (part : Part) (gs : List Line) (can : CanBeHeld p o.session o.iface gs) (there : AreUnder (lines (with_resvs o.style t f)) gs)
     (place : HasPlace o u part gs) where
   abbrev after_it : Facts
   after_it = with_resvs o.style (table_with o u part t) f
@@ -109,12 +109,12 @@ module _ (p : NodeConfig) (o : Asker) (f : Facts) (t : Resvs) (u : UnitOf) (part
       by (Some y) e =
           let y_below = book_below (at_end o.iface (lines after_it)) (at_end o.iface gs) (under_at_end o.iface (lines after_it) gs after_under) (entry_at o u) y e in
           let most = most_below y y_below.0 y_below.2 in
-          let mtu = can.mtu o.iface on (entry_at o u) y_below.0 is y_below.1 in
+          let mtu = can.mtu on (entry_at o u) y_below.0 is refl y_below.1 in
           let sums : held b1 ≡ held (without b1 (entry_at o u)) + y.flow.r =
           sum-without entry_keys (λ (z : EntryKey × Part). part_charge z.1) b1 (entry_at o u)
           ∙ ap (λ v. held (without b1 (entry_at o u)) + number_of (λ (z : EntryKey × Part). part_charge z.1) (entry_at o u) v) e in
           let all = held_at_end_below o.iface (lines after_it) gs after_under in
-          let capacity = can.capacity o.iface on is in
+          let capacity = can.capacity on is in
           passes _ _ _ _ (no_less on.mtu y.flow.most (omega (arith, most, mtu))) (no_less (on.capacity - held (without b1 (entry_at o u))) y.flow.r (omega (arith, sums, all, capacity)))
 
   pub unit_booked : IsBooked p o f t u part gs

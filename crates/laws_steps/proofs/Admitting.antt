@@ -87,7 +87,7 @@ nothing_more : {A : Type 0} (xs ys : List A) → xs ≡ [] → ys ≡ [] → xs 
 nothing_more xs ys e g = λ i. e i ++ g i
 
 -- ---- the units one after another
-module _ (p : NodeConfig) (o : Asker) (f : Facts) (gs : List Line) (can : CanBeHeld p gs) where
+module _ (p : NodeConfig) (o : Asker) (f : Facts) (gs : List Line) (can : CanBeHeld p o.session o.iface gs) where
   abbrev all : Names
   all = matched p f o
 

@@ -10,6 +10,7 @@ use Rattle.rsvp_base.specs.Orders.{Names, senders}
 use Rattle.rsvp_base.specs.Sets.{cut, is_none}
 use Rattle.rsvp_base.specs.Table.{get, has}
 use Rattle.rsvp_base.specs.TokenBucket.{TokenBucket}
+use Rattle.rsvp_base.proofs.Members.{in_each}
 use Rattle.rsvp_base.proofs.SetLaws.{and_both, has-cut}
 use Rattle.rsvp_messages.specs.declared.fault.MsgErr.{MsgErr}
 use Rattle.rsvp_messages.specs.declared.message.Message.{Message}
@@ -17,16 +18,19 @@ use Rattle.rsvp_messages.specs.declared.message.Message.TheVariants as message
 use Rattle.rsvp_messages.specs.declared.message.PathErrMsg.{PathErrMsg}
 use Rattle.rsvp_messages.specs.declared.message.ResvErrMsg.{ResvErrMsg}
 use Rattle.rsvp_messages.specs.declared.message.ResvMsg.{ResvMsg}
+use Rattle.rsvp_messages.specs.Units.{AskedUnit, ask_style, asked_units}
 use Rattle.style_rules.specs.Lines.{NextHop}
 use Rattle.style_rules.specs.Parts.{has_name}
 use Rattle.router_rules.specs.declared.answers.Heard.TheVariants as heard
 use Rattle.router_rules.specs.declared.answers.Why.TheVariants as why
 use Rattle.router_rules.specs.Act.{act, act_spelt, is_mine}
-use Rattle.router_rules.specs.Asking.{answered, act_resv, err_place, err_places, errors_in_order, heard_of, taking, Nobody, These, as_listed}
+use Rattle.router_rules.specs.Asking.{Asker, answered, act_resv, asker_of, err_place, err_places, errors_in_order, has_entry, heard_of, matched, nothing_taken, refusal, style_conflict, style_value}
+use Rattle.router_rules.specs.Asking.{taking, taking_of, value_of, Nobody, These, as_listed}
 use Rattle.router_rules.specs.Confirming.{ConfsHeard, confs_heard, confs_on, with_confs}
 use Rattle.router_rules.specs.Errors.{act_resv_err, blamed, lane_of, path_err, path_err_on, replied, reply_to}
-use Rattle.router_rules.specs.Facts.{Facts, PathState, ResvState}
+use Rattle.router_rules.specs.Facts.{Facts, PathState, ResvState, resvs_of}
 use Rattle.router_rules.specs.Inputs.{Call, Came, Change, Clear, ErrMsg, ErrSend, Input, Moved, OfPath, OfResv, Send, Spelt, Unspelt, Wait, only_heard}
+use Rattle.router_rules.specs.Known.{known}
 use Rattle.router_rules.specs.NodeConfig.{NodeConfig, goes_out, is_own, own}
 use Rattle.router_rules.specs.Rule.{rule, settled}
 use Rattle.router_rules.specs.Sends.{error_message, error_send}
@@ -36,7 +40,9 @@ use Rattle.laws_inputs.proofs.Lists.{some_same, to_ordered}
 use Rattle.laws_inputs.proofs.Sending.{not_told}
 use Rattle.laws_inputs.proofs.Tests.{addr_told}
 use Rattle.laws_inputs.specs.ErrorLaws.{IsPathReply, IsResvReply, errors_with, walls_set}
+use Rattle.laws_inputs.specs.AskLaws.{IsBookRefusal, IsLoss}
 use Rattle.laws_inputs.proofs.Answering.{faults_by_hint}
+use Rattle.laws_inputs.proofs.Wholes.{units_in_full}
 use Rattle.laws_inputs.proofs.Erring.{errors_once_each, resv_errs_by_tests}
 use Rattle.router_rules.specs.Steps.{sent_then}
 use Rattle.laws_inputs.proofs.Stepping.{send_told}
@@ -87,6 +93,30 @@ heard_not_taken es e out i h = by (errors_in_order es) (to_ordered err_places er
     by [] j h = j
     by (z ∷ zs) j h = answer_not_taken z.error h
 
+-- ---- each refusal speaks of the session of its Resv
+module _ (p : NodeConfig) (c at : ℕ) (m : ResvMsg) (f : Facts) (e : ErrSend) (w : ResvErrMsg) where
+  abbrev asks : Asker
+  asks = asker_of p c at m
+
+  by_refusal : (in_place : Bool) (code value : ℕ) (names : Option Names) (flow : TokenBucket) → e ≡ refusal p asks in_place code value names flow → e.error ≡ OfResv w → w.session ≡ m.session
+  by_refusal in_place code value names flow is of = sym (ap (λ (z : ResvErrMsg). z.session) (resv_err_same _ w (sym (ap (λ (z : ErrSend). z.error) is) ∙ of)))
+
+  by_taking : (b : Bool) (v : Option StyleKind) → In e (taking_of p asks (asked_units m.ask) f b v).errors → e.error ≡ OfResv w → w.session ≡ m.session
+  by_taking true v h of =
+      let u = in_each (λ (u : AskedUnit). refusal p asks false 3 0 u.names u.flow) e (asked_units m.ask) h in by_refusal false 3 0 u.0.names u.0.flow u.2 of
+  by_taking false (Some other) h of =
+      let u = in_each (λ (u : AskedUnit). refusal p asks false 5 (style_value other) u.names u.flow) e (asked_units m.ask) h in
+      by_refusal false 5 (style_value other) u.0.names u.0.flow u.2 of
+  by_taking false None h of =
+      ⊎_elim (λ (n : ⊥). absurd n)
+      (λ k. ⊎_elim (λ (x : IsLoss p asks f (matched p f asks) (asked_units m.ask) e). by_refusal false 4 0 x.names x.unit.flow x.is of)
+      (λ (x : IsBookRefusal p asks f (matched p f asks) (nothing_taken (resvs_of asks.style f) []) (asked_units m.ask) e).
+      by_refusal (has_entry asks f x.unit.unit x.before.table) 1 (value_of x.why) (Some x.part.senders) x.part.flow x.is of) k)
+      ((units_in_full.errors p asks f (matched p f asks) (nothing_taken (resvs_of asks.style f) []) (asked_units m.ask) e).0 h)
+
+  pub refused_session : In e (taking p c at m f).errors → e.error ≡ OfResv w → w.session ≡ m.session
+  refused_session h of = by_taking (is_none (known f m.session)) (style_conflict f m.session (ask_style m.ask)) h of
+
 -- ---- which errors an input makes
 module _ (old p : NodeConfig) (c : ℕ) (f : Facts) (w : ResvErrMsg) (flow : TokenBucket) (said : w.blame.flow ≡ Some flow) (s : Send) (e : ErrSend) (is : s ≡ error_send e)
     (of_resv : e.error ≡ OfResv w) where
@@ -124,9 +154,21 @@ module _ (old p : NodeConfig) (c : ℕ) (f : Facts) (w : ResvErrMsg) (flow : Tok
       by_sender (Some x) h = by_out x (goes_out p m.session at x) h
 
   -- a refusal of a unit
+  says_it : (m : ResvErrMsg) → s.message ≡ message.ResvErr m → m ≡ w
+  says_it m k = resv_err_same m w (sym (no_path_tear e.error m (sym (ap (λ (z : Send). z.message) is) ∙ k)) ∙ of_resv)
+
   refused : (i : Input) (at : ℕ) (m : ResvMsg) → i ≡ Came at (own p at) (Spelt (message.Resv m)) → (rule old p c i f).heard ≡ (act_resv p c at m f).heard → In e (act_resv p c at m f).errors → Source i
   refused i at m came same h =
-      inl (record { at = at; resv = m; came = came; error = e; made = h; is = is; not_taken = λ t. heard_not_taken (taking p c at m f).errors e (taking p c at m f).left_out h (sym same ∙ t) })
+      inl (record {
+        at = at;
+        resv = m;
+        came = came;
+        error = e;
+        made = h;
+        is = is;
+        not_taken = λ t. heard_not_taken (taking p c at m f).errors e (taking p c at m f).left_out h (sym same ∙ t);
+        session = λ x k. ap (λ (z : ResvErrMsg). z.session) (says_it x k) ∙ refused_session p c at m f e w h of_resv;
+      })
 
   -- an error that goes on
   passed_on : (i : Input) (at : ℕ) (m : ResvErrMsg) → i ≡ Came at (own p at) (Spelt (message.ResvErr m)) → (x : Sender) × ComesBy f m.session (at, m.hop.addr) x → In e (errors_with p c at m f).errors

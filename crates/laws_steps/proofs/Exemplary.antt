@@ -5,6 +5,7 @@ use Rattle.std.specs.Ordering.{eq_by_cmp}
 use Rattle.std.proofs.Common.{sym, ap, subst, inl, inr, ⊎_elim, arith}
 use Rattle.rsvp_base.specs.declared.iface.Iface.{Iface}
 use Rattle.rsvp_base.specs.declared.part.Part.{Part}
+use Rattle.rsvp_base.specs.declared.session.Session.{Session}
 use Rattle.rsvp_base.specs.declared.style.StyleKind.{StyleKind}
 use Rattle.rsvp_base.specs.declared.style.StyleKind.TheVariants.{Wild, Fixed, Shared}
 use Rattle.rsvp_base.specs.declared.style.Unit.TheVariants.{One}
@@ -161,8 +162,8 @@ limits Wild = within_told Wild the_lines refl
 limits Fixed = within_told Fixed the_lines refl
 limits Shared = within_told Shared the_lines refl
 
-can_be_held : CanBeHeld r the_lines
-can_be_held = record { limits = limits; capacity = capacity; mtu = mtu }
+can_be_held : (s : Session) (i : ℕ) → CanBeHeld r s i the_lines
+can_be_held s i = record { limits = limits; capacity = capacity i; mtu = λ on k part e of g. mtu i on k part e g }
 
 no_line : {A : Type 0} (st : StyleKind) (k : LineKey) (x : ResvState) → get (resvs_of st one_path) k ≡ Some x → A
 no_line Wild k x e = absurd (cc)
@@ -192,13 +193,13 @@ acceptance_has_examples =
       can_be_taken =
           record {
             proper = resv_fit.1;
-            lines_held = can_be_held;
+            lines_held = can_be_held resv_msg.session 1;
             there = λ l i. absurd i;
             units = the_unit;
             resv_style = λ st k x e is. no_line st k x e;
             want_style = λ u w e. absurd (cc);
           };
-      too_much = λ h. let most = h.capacity 1 (iface r2 10000) refl in omega (arith, most);
+      too_much = λ s h. let most = h.capacity (iface r2 10000) refl in omega (arith, most);
     }
 
 -- ---- an error

@@ -2,6 +2,7 @@
 use Rattle.std.specs.Prelude.{◌≡◌, ℕ, ◌+◌, ◌≤◌, true, false, List, slice_get, Some, None}
 use Rattle.rsvp_base.specs.declared.iface.Iface.{Iface}
 use Rattle.rsvp_base.specs.declared.part.Part.{Part}
+use Rattle.rsvp_base.specs.declared.session.Session.{Session}
 use Rattle.rsvp_base.specs.declared.style.StyleKind.{StyleKind}
 use Rattle.rsvp_base.specs.declared.style.Unit.{Unit as UnitOf}
 use Rattle.rsvp_base.specs.Members.{In}
@@ -26,11 +27,12 @@ use Rattle.router_rules.specs.NodeConfig.{NodeConfig, lifetime, own}
 use Rattle.router_rules.specs.Rule.{rule}
 use Rattle.router_rules.specs.Steps.{facts_then, sent_then}
 
--- ---- lines that a node can hold: within the limits of each table, and within capacity and MTU at each interface
-pub record CanBeHeld (p : NodeConfig) (gs : List Line) : Type 0 where
+-- ---- lines that a node can hold, as far as a session at an interface goes: all within the limits of each table, those of the
+-- interface within its capacity, and those of the session there within its MTU
+pub record CanBeHeld (p : NodeConfig) (s : Session) (i : ℕ) (gs : List Line) : Type 0 where
   pub limits : (st : StyleKind) → IsWithinLimits st gs
-  pub capacity : (i : ℕ) (on : Iface) → slice_get p.ifaces i ≡ Some on → held (book_of_end i gs) ≤ on.capacity
-  pub mtu : (i : ℕ) (on : Iface) (k : EntryKey) (part : Part) → slice_get p.ifaces i ≡ Some on → get (book_of_end i gs) k ≡ Some part → part.flow.most ≤ on.mtu
+  pub capacity : (on : Iface) → slice_get p.ifaces i ≡ Some on → held (book_of_end i gs) ≤ on.capacity
+  pub mtu : (on : Iface) (k : EntryKey) (part : Part) → slice_get p.ifaces i ≡ Some on → k.session ≡ s → get (book_of_end i gs) k ≡ Some part → part.flow.most ≤ on.mtu
 
 -- the line that a unit would be
 abbrev pub line_at : Asker → UnitOf → Part → Line
@@ -57,7 +59,7 @@ pub record IsPlaced (p : NodeConfig) (o : Asker) (f : Facts) (gs : List Line) (u
 
 pub record CanBeTaken (p : NodeConfig) (c e : ℕ) (m : ResvMsg) (f : Facts) (gs : List Line) : Type 0 where
   pub proper : IsProperAsk m.ask
-  pub lines_held : CanBeHeld p gs
+  pub lines_held : CanBeHeld p m.session e gs
   -- what is there, and what is asked for, lies under the lines
   pub there : AreUnder (lines f) gs
   pub units : (u : AskedUnit) → In u (asked_units m.ask) → IsPlaced p (asker_of p c e m) f gs u
@@ -78,6 +80,6 @@ pub record IsTakenWhole (old p : NodeConfig) (c e : ℕ) (m : ResvMsg) (f : Fact
   pub under : AreUnder (lines (facts_then old p c (came_resv p e m) f)) gs
 
 pub record WhatIsAccepted : Type 0 where
-  pub unit : (p : NodeConfig) (o : Asker) (f : Facts) (t : Resvs) (u : UnitOf) (part : Part) (gs : List Line) → CanBeHeld p gs
+  pub unit : (p : NodeConfig) (o : Asker) (f : Facts) (t : Resvs) (u : UnitOf) (part : Part) (gs : List Line) → CanBeHeld p o.session o.iface gs
       → AreUnder (lines (with_resvs o.style t f)) gs → HasPlace o u part gs → IsBooked p o f t u part gs
   pub whole : (old p : NodeConfig) (b c e : ℕ) (m : ResvMsg) (f : Facts) (gs : List Line) → IsWithinBounds old b f → CanBeTaken p c e m f gs → IsTakenWhole old p c e m f gs

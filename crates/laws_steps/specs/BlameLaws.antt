@@ -39,6 +39,8 @@ pub record IsRefusal (old p : NodeConfig) (c : ℕ) (i : Input) (f : Facts) (s :
   pub made : In error (taking p c at resv f).errors
   pub is : s ≡ error_send error
   pub not_taken : (rule old p c i f).heard ≡ heard.Taken → ⊥
+  -- it speaks of the session of the Resv
+  pub session : (w : ResvErrMsg) → s.message ≡ message.ResvErr w → w.session ≡ resv.session
 
 -- or an error that came to this node with this flow goes on, to the next hop of a reservation that it speaks of
 pub record IsPassedOn (p : NodeConfig) (i : Input) (f : Facts) (s : Send) (w : ResvErrMsg) : Type 0 where

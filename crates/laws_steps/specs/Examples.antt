@@ -1,6 +1,7 @@
 -- Facts and inputs that meet the premises of the laws: the middle node r of a line of three, with a path and a reservation.
 use Rattle.std.specs.Prelude.{◌≡◌, ℕ, true, false, List, [], ◌∷◌, Some, None}
 use Rattle.std.specs.List.{range_with_len}
+use Rattle.rsvp_base.specs.declared.session.Session.{Session}
 use Rattle.rsvp_base.specs.declared.session.Sender.{Sender}
 use Rattle.rsvp_base.specs.declared.style.StyleKind.TheVariants.{Wild}
 use Rattle.rsvp_base.specs.declared.style.Unit.TheVariants.{One}
@@ -152,10 +153,10 @@ the_lines = line_at (asker_of r 0 1 resv_msg) One (record { senders = scope; flo
 
 pub record AcceptanceHasExamples : Type 0 where
   pub within : IsWithinBounds r 0 one_path
-  pub can_be_held : CanBeHeld r the_lines
+  pub can_be_held : (s : Session) (i : ℕ) → CanBeHeld r s i the_lines
   pub can_be_taken : CanBeTaken r 0 1 resv_msg one_path the_lines
   -- not those of a flow one byte per second above the capacity
-  pub too_much : CanBeHeld r (line_at (asker_of r 0 1 resv_msg) One (record { senders = scope; flow = flow 10001 2000 64 1500 }) ∷ []) → ⊥
+  pub too_much : (s : Session) → CanBeHeld r s 1 (line_at (asker_of r 0 1 resv_msg) One (record { senders = scope; flow = flow 10001 2000 64 1500 }) ∷ []) → ⊥
 
 -- ---- errors
 -- the previous hop refuses what went to it

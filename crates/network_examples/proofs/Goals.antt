@@ -1,6 +1,7 @@
 -- Wants and goals of small networks, by computing.
 use Rattle.std.proofs.Common.{◌≡◌, ◌≤◌, ℕ, List, [], ◌∷◌, Bool, true, false, Some, inl, inr, ⊎_elim, arith, refl, ap, sym, subst, ◌∙◌}
 use Rattle.std.specs.Prelude.{map as each, if◌then◌else◌}
+use Rattle.rsvp_base.specs.declared.session.Session.{Session}
 use Rattle.rsvp_base.specs.declared.addr.Addr.{Addr}
 use Rattle.rsvp_base.specs.declared.style.StyleKind.TheVariants.{Wild, Fixed}
 use Rattle.rsvp_base.specs.declared.style.Unit.{Unit as UnitOf}
@@ -87,8 +88,8 @@ mixed_fixed : get (want Fixed pair_net mixed session forth) (Of first) ≡ Some 
 unfolding want
 mixed_fixed = refl
 
-two_styles : HasOneStyle pair_net mixed → ⊥
-two_styles h = let no : Wild ≡ Fixed = h session Wild Fixed forth forth One (Of first) asked chosen mixed_wild mixed_fixed in cc
+two_styles : HasOneStyle pair_net mixed session → ⊥
+two_styles h = let no : Wild ≡ Fixed = h Wild Fixed forth forth One (Of first) asked chosen mixed_wild mixed_fixed in cc
 
 pub a_session_has_one_style : ASessionHasOneStyle
 a_session_has_one_style = record { fit = fit; over = wanted; two_styles = two_styles }
@@ -161,9 +162,9 @@ greedy_held : held (book_of_end 0 (goal_at pair_net greedy 0)) ≡ 10001
 unfolding want
 greedy_held = refl
 
-too_much : CanBeHeld (config_of 7500 pair_net ((group, s1) ∷ []) 0) (goal_at pair_net greedy 0) → ⊥
-too_much h =
-    let room : held (book_of_end 0 (goal_at pair_net greedy 0)) ≤ 10000 = h.capacity 0 (iface s1 10000) refl in
+too_much : (s : Session) → CanBeHeld (config_of 7500 pair_net ((group, s1) ∷ []) 0) s 0 (goal_at pair_net greedy 0) → ⊥
+too_much s h =
+    let room : held (book_of_end 0 (goal_at pair_net greedy 0)) ≤ 10000 = h.capacity (iface s1 10000) refl in
     let much = greedy_held in
     absurd (omega arith)
 

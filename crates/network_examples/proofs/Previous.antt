@@ -118,14 +118,14 @@ early_want = refl
 
 too_little : TowardIsTheWant 7500 early_world → ⊥
 too_little h =
-    let same = h 1 early_facts lane forth refl refl previous (no_resv early_world early_facts (rank pair_net session.group forth) (λ k r e. none_there k r e)) (λ h' f i. absurd i) in
+    let same = h 1 early_facts lane forth refl (λ t. refl) previous (no_resv early_world early_facts (rank pair_net session.group forth) (λ k r e. none_there k r e)) (λ h' f i. absurd i) in
     let no : false ≡ true = ap (λ (z : PartTable). is_some (get z One)) same ∙ early_want in
     cc
 
 pub toward_says_something : TowardSaysSomething
 toward_says_something = record {
   bounds = a_pair_says_a_reservation.bounds;
-  free = refl;
+  free = λ t. refl;
   below = no_resv asking_world second_facts (rank pair_net session.group forth) (λ k r e. none_there k r e);
   follow = λ h f i. absurd i;
   says = refl;

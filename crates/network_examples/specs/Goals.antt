@@ -3,6 +3,7 @@
 use Rattle.std.specs.Prelude.{◌≡◌, ℕ, [], ◌∷◌, false, Some, slice_get}
 use Rattle.std.specs.Option.{unwrap_or}
 use Rattle.rsvp_base.specs.declared.part.Part.{Part}
+use Rattle.rsvp_base.specs.declared.session.Session.{Session}
 use Rattle.rsvp_base.specs.declared.session.Sender.{Sender}
 use Rattle.rsvp_base.specs.declared.style.StyleKind.TheVariants.{Wild, Fixed}
 use Rattle.rsvp_base.specs.declared.style.Unit.TheVariants.{One, Of}
@@ -69,7 +70,7 @@ mixed = record { senders = sender_of first ∷ []; wants = of_anyone usual ∷ (
 pub record ASessionHasOneStyle : Type 0 where
   pub fit : DemandsFit pair_net (locals_of asking_world)
   pub over : get (want Wild pair_net (locals_of asking_world) session forth) One ≡ Some asked
-  pub two_styles : HasOneStyle pair_net mixed → ⊥
+  pub two_styles : HasOneStyle pair_net mixed session → ⊥
 
 -- ---- goals by interface: the tree goes from the second node to the first, so its end is number 1 and its interface number 0
 abbrev pub back_net : Net
@@ -101,7 +102,7 @@ pub record AGoalCanBeHeld : Type 0 where
   pub net : IsValid pair_net
   pub fit : DemandsFit pair_net (locals_of asking_world)
   pub is : goal_at pair_net (locals_of asking_world) 0 ≡ the_line ∷ []
-  pub too_much : CanBeHeld (config_of 7500 pair_net ((group, s1) ∷ []) 0) (goal_at pair_net greedy 0) → ⊥
+  pub too_much : (s : Session) → CanBeHeld (config_of 7500 pair_net ((group, s1) ∷ []) 0) s 0 (goal_at pair_net greedy 0) → ⊥
 
 -- ---- what is sound is under the goal: the Resv of the host has come
 abbrev pub reserved_world : World

@@ -5,7 +5,7 @@ use Rattle.std.specs.Option.{unwrap_or}
 use Rattle.rsvp_base.specs.declared.style.StyleKind.TheVariants.{Wild}
 use Rattle.rsvp_base.specs.declared.style.Unit.TheVariants.{One}
 use Rattle.rsvp_base.specs.Members.{In}
-use Rattle.rsvp_base.specs.Table.{empty, get, has, size}
+use Rattle.rsvp_base.specs.Table.{empty, get, has}
 use Rattle.laws_inputs.specs.FactLaws.{ComesBy}
 use Rattle.router_rules.specs.Facts.{Facts, no_facts}
 use Rattle.router_rules.specs.Inputs.{WantAs}
@@ -25,6 +25,7 @@ use Rattle.settle_paths.specs.PreviousHops.{AreAllPreviousHops, ArePreviousHops,
 use Rattle.settle_paths.specs.Sure.{forth}
 use Rattle.settle_resvs.specs.HopExample.{asked, asking_world}
 use Rattle.settle_resvs.specs.Below.{AreSoundBelow, TowardIsAtMostTheWant}
+use Rattle.settle_resvs.specs.Sessions.{HasNoBlockade}
 use Rattle.settle_resvs.specs.Toward.{TowardIsTheWant}
 
 -- the host's node, which the Path reached
@@ -61,7 +62,7 @@ early_world = step 7500 (At 1 (WantAs session Wild empty usual false)) sending_w
 
 pub record TowardSaysSomething : Type 0 where
   pub bounds : AreBounds 7500 asking_world
-  pub free : size second_facts.walls ≡ 0
+  pub free : HasNoBlockade lane.session second_facts.walls
   pub below : AreSoundBelow Wild asking_world 1 second_facts session (rank pair_net session.group forth)
   pub follow : (h : LinkHop) → Follows pair_net session.group forth h → In h (followers pair_net session.group forth) → IsExact Wild asking_world session h
   pub says : get (toward (config_of 7500 pair_net asking_world.trees 1) second_facts lane) One ≡ Some asked

@@ -59,7 +59,7 @@ pub fn a_goal_has_interfaces()
     ensures { AGoalHasInterfaces }
 {}
 
-/// A goal that is not empty and fits meets the premises of `fitting_demands_can_be_held`. One that does not fit cannot be held.
+/// A goal that is not empty and fits meets the premises of `a_session_that_fits_can_be_held`. One that does not fit cannot be held.
 pub fn a_goal_can_be_held()
     ensures { AGoalCanBeHeld }
 {}

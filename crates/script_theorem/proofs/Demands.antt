@@ -1,6 +1,7 @@
 -- In a run, a report at a settled moment appends the text of the demand.
 use Rattle.std.proofs.Common.{◌≡◌, ℕ, ◌≤◌, List, [], ◌∷◌, Bool, true, false, cond, arith, refl, sym, ap, subst, ◌∙◌}
 use Rattle.std.specs.Prelude.{◌++◌, length}
+use Rattle.rsvp_base.specs.declared.session.Session.{Session}
 use Rattle.calm_rounds.specs.Hold.{Visited}
 use Rattle.calm_rounds.specs.Machine.{run}
 use Rattle.calm_rounds.specs.Rounds.{run_rounds}
@@ -18,6 +19,7 @@ use Rattle.laws_network.specs.Runs.{IsFitRun}
 use Rattle.laws_network.proofs.Keeping.{calm_rounds_keep_bounds}
 use Rattle.laws_network.proofs.Known.{known_hold}
 use Rattle.laws_network.proofs.Runs.{each_world_of_a_run_is_within_bounds}
+use Rattle.settle_network.specs.SettleResvs.Sessions.{SessionFits}
 use Rattle.settle_network.specs.Settled.{HasSettled}
 use Rattle.settle_network.proofs.RunsSettle.{a_run_settles}
 use Rattle.script_theorem.specs.Demands.{ASettledReportIsTheDemand, moment}
@@ -76,6 +78,9 @@ module _ (p : Plan) (fit : IsFitRun p) (ss ts : List Step) (parts : steps_of_run
 
   pub fit_at_first : DemandsFit (moment p ss).net (locals_of (moment p ss)) → DemandsFit o.net (locals_of o)
   fit_at_first d = subst (λ (z : Net × Locals). DemandsFit z.0 z.1) (λ i. (known.same.net i, known.same.locals i)) d
+
+  pub session_fits_at_first : (s : Session) → SessionFits (moment p ss).net (locals_of (moment p ss)) s → SessionFits o.net (locals_of o) s
+  session_fits_at_first s d = subst (λ (z : Net × Locals). SessionFits z.0 z.1 s) (λ i. (known.same.net i, known.same.locals i)) d
 
 pub a_settled_report_is_the_demand : ASettledReportIsTheDemand
 a_settled_report_is_the_demand p fit senders uncrowded_run ss still e ts parts is writes d =

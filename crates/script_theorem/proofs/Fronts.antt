@@ -46,4 +46,7 @@ fronts_have_healed_reports p roomy heals text front = record {
   purged = λ ss still e ts parts purged writes has.
       let at_most = heals.purged ss still e ts parts purged writes in
       (at_most, goes_on p roomy text front (ss ++ still) e ts (books_text p.names (moment p (ss ++ still)).net at_most.books e) parts at_most.text has);
+  sessions = λ ss still e ts parts settled writes has.
+      let each = heals.sessions ss still e ts parts settled writes in
+      (each, goes_on p roomy text front (ss ++ still) e ts (books_text p.names (moment p (ss ++ still)).net each.at_most.books e) parts each.at_most.text has);
 }

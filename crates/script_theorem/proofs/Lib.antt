@@ -4,6 +4,7 @@ pub mod Still
 pub mod Texts
 pub mod Demands
 pub mod Purged
+pub mod Sessions
 pub mod Example
 pub mod Safety
 pub mod Fronts

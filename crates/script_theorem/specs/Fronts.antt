@@ -8,6 +8,7 @@ use Rattle.network_model.specs.Runs.{Plan, first_world, is_crowded_run, run_text
 use Rattle.network_model.specs.Steps.{Report, Step}
 use Rattle.script_theorem.specs.Demands.{moment}
 use Rattle.script_theorem.specs.Purged.{AppendsAtMostTheDemand, books_text}
+use Rattle.script_theorem.specs.Sessions.{AppendsTheSessions}
 use Rattle.script_theorem.specs.Writing.{OnlyWrite}
 use Rattle.script_theorem.specs.Theorem.{HealsItself}
 
@@ -40,9 +41,17 @@ module _ (p : Plan) (text : List ℕ) where
       (ss still : List Step) (e : Option ℕ) (ts : List Step) → steps_of_run p ≡ (ss ++ still) ++ Report e ∷ ts → IsPurged p.quarter (first_world p) ss → OnlyWrite still → HasReport (ss ++ still) e
       → (at_most : AppendsAtMostTheDemand p (ss ++ still) e ts) × GoesOnWith (ss ++ still) (books_text p.names (moment p (ss ++ still)).net at_most.books e)
 
+  -- each that it has whole, at a settled moment or behind steps that only write after one, is the text of books that have exactly the
+  -- demanded entries of each session that fits, whatever the others ask for
+  abbrev pub HasEachSession : Type 0
+  HasEachSession =
+      (ss still : List Step) (e : Option ℕ) (ts : List Step) → steps_of_run p ≡ (ss ++ still) ++ Report e ∷ ts → IsSettled p.quarter (first_world p) ss → OnlyWrite still → HasReport (ss ++ still) e
+      → (each : AppendsTheSessions p (ss ++ still) e ts) × GoesOnWith (ss ++ still) (books_text p.names (moment p (ss ++ still)).net each.at_most.books e)
+
   pub record HasHealedReports : Type 0 where
     pub demands : HasTheDemands
     pub purged : HasNothingStale
+    pub sessions : HasEachSession
 
 -- each front of the text of a run that heals itself, and is not crowded
 abbrev pub FrontsHaveHealedReports : Type 0

@@ -2,6 +2,7 @@ pub mod Writing
 pub mod RoundsAmong
 pub mod Demands
 pub mod Purged
+pub mod Sessions
 pub mod Example
 pub mod Theorem
 pub mod Fronts

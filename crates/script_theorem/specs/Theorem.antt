@@ -14,6 +14,7 @@ use Rattle.script_grammar.specs.Draft.{Draft, nothing, plan_of}
 use Rattle.script_grammar.specs.Grammar.{Leads}
 use Rattle.script_theorem.specs.Demands.{AppendsTheDemand, moment}
 use Rattle.script_theorem.specs.Purged.{ReportsNothingStale}
+use Rattle.script_theorem.specs.Sessions.{ReportsEachSession}
 use Rattle.script_theorem.specs.Writing.{OnlyWrite}
 use Rattle.laws_safety.specs.Blockades.{ABlockadeStays, AResvErrTearsNothing, AnAdmissionErrorSetsItsBlockade, BlockadesDropNothing, EachResvSaysWhatGoesToward, WhatGoesOnIsBelow}
 use Rattle.laws_safety.specs.Books.{AreBooksWithinCapacity}
@@ -80,6 +81,8 @@ pub record HealsItself (p : Plan) : Type 0 where
   pub reports : SettlesToTheDemand p
   -- and whether or not the demands fit, nothing stale is reported
   pub purged : ReportsNothingStale p
+  -- and of each session that fits exactly what is demanded of it, whatever the others ask for
+  pub sessions : ReportsEachSession p
   pub safe : IsSafe p
 
 -- ---- the laws

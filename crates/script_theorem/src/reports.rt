@@ -3,6 +3,7 @@ ghost use Rattle.script_theorem.specs.Demands.{ASettledReportIsTheDemand};
 ghost use Rattle.script_theorem.specs.Example.{TheReportBecomesTheDemand};
 ghost use Rattle.script_theorem.specs.RoundsAmong.{RoundsAmongWritingCount};
 ghost use Rattle.script_theorem.specs.Purged.{APurgedReportIsAtMostTheDemand};
+ghost use Rattle.script_theorem.specs.Sessions.{ASettledReportShowsEachSession};
 ghost use Rattle.script_theorem.specs.Writing.{AMomentStaysCalm, ANetworkStaysSettled};
 
 /// A moment behind calm rounds, as a settled one, stays one while only reports, trace switches and flag reports follow: they take no
@@ -34,6 +35,13 @@ pub fn a_settled_report_is_the_demand()
 /// no session, style or sender that nobody below wants, no larger flow, and its sum is at most that of the demand.
 pub fn a_purged_report_is_at_most_the_demand()
     ensures { APurgedReportIsAtMostTheDemand }
+{}
+
+/// A settled report shows each session by itself: in the run of a fit script that lets few senders send and is not crowded, at each
+/// report behind 13 H + 13 calm rounds, the books that the report writes have of each session that fits at every end that carries it
+/// exactly the entries of the demand, whatever other sessions ask for or are refused.
+pub fn a_settled_report_shows_each_session()
+    ensures { ASettledReportShowsEachSession }
 {}
 
 /// The run of a small script, computed: a report before the rounds tells of a left-over reservation, and one behind 32 rounds is

@@ -1,5 +1,7 @@
 pub mod Settled
+pub mod Sessions
 pub mod Purged
 pub mod Example
 pub mod Tight
 pub mod RunExample
+pub use Rattle.settle_resvs.specs as SettleResvs

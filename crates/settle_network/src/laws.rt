@@ -1,20 +1,23 @@
 //! The laws.
 ghost use Rattle.std.specs.Prelude.{◌≡◌, ◌+◌, ◌*◌, ◌++◌, ℕ, suc, List, true};
+ghost use Rattle.rsvp_base.specs.declared.session.Session.{Session};
 ghost use Rattle.calm_rounds.specs.Hold.{Hold};
 ghost use Rattle.calm_rounds.specs.Machine.{run};
 ghost use Rattle.calm_rounds.specs.Rounds.{Rounds};
 ghost use Rattle.tree_model.specs.Goals.{DemandsFit};
 ghost use Rattle.tree_model.specs.Ranks.{longest};
-ghost use Rattle.network_model.specs.Bounds.{AreBounds, IsPurged, IsSettled, IsStart};
+ghost use Rattle.network_model.specs.Bounds.{AreBounds, AreHosts, IsPurged, IsSettled, IsStart};
 ghost use Rattle.network_model.specs.Locals.{locals_of};
 ghost use Rattle.network_model.specs.Runs.{Plan, first_world, steps_of_run};
 ghost use Rattle.network_model.specs.Sound.{AreResvsExact, HasNoFlowError, TakesAll};
 ghost use Rattle.network_model.specs.Steps.{Step, is_quiet, machine};
 ghost use Rattle.network_model.specs.Worlds.{World};
 ghost use Rattle.laws_network.specs.Runs.{AreFitSenders, IsFitRun};
+ghost use Rattle.settle_resvs.specs.Sessions.{SessionFits};
 ghost use Rattle.settle_network.specs.Example.{ItHasNotSettledYet};
 ghost use Rattle.settle_network.specs.Purged.{HasNothingStale};
 ghost use Rattle.settle_network.specs.RunExample.{ARunMeetsThePremises};
+ghost use Rattle.settle_network.specs.Sessions.{HasSettledFor};
 ghost use Rattle.settle_network.specs.Settled.{HasSettled};
 ghost use Rattle.settle_network.specs.Tight.{ThreeRoundsAreTooFew};
 
@@ -37,6 +40,23 @@ pub fn reservations_are_the_wants()
 /// calm round.
 pub fn a_network_settles()
     ensures { (q : ℕ) (w : World) (rs : List (List Step)) → Rounds (machine q) rs w → IsStart q w → Hold (machine q) (13 * longest w.net + 13) rs w (HasSettled q) }
+{}
+
+/// Each session settles by itself: from any world within bounds with hosts, where a session fits at every end that carries it, 13 H + 13
+/// calm rounds on its reservations are exactly its wants, its entries in the book of each end are those of the end's demand, nothing
+/// of it is refused, no error of it with a flow is in flight and no blockade of it lives. What other sessions ask for, and whether it
+/// fits, makes no difference.
+pub fn a_session_settles()
+    ensures { (q : ℕ) (s : Session) (w : World) (rs : List (List Step)) → Rounds (machine q) rs w → AreBounds q w → AreHosts w → SessionFits w.net (locals_of w) s
+        → Hold (machine q) (13 * longest w.net + 13) rs w (HasSettledFor q s) }
+{}
+
+/// So it is in the run of a fit script that lets few senders send, at each point behind 13 H + 13 calm rounds, for each session that
+/// fits when these begin.
+pub fn a_session_of_a_run_settles()
+    ensures { (p : Plan) → IsFitRun p → AreFitSenders p → (ss ts : List Step) → steps_of_run p ≡ ss ++ ts → (is : IsSettled p.quarter (first_world p) ss) → (s : Session)
+        → SessionFits (run (machine p.quarter) is.before (first_world p)).net (locals_of (run (machine p.quarter) is.before (first_world p))) s
+        → HasSettledFor p.quarter s (run (machine p.quarter) ss (first_world p)) }
 {}
 
 /// Nothing stale is left, even where more is asked for than fits: from any world within bounds, 10 H + 9 calm rounds on, paths are

@@ -1,10 +1,11 @@
--- Each Resv that arrives is taken whole, where paths are sound and complete, reservations are sound and the demands fit.
+-- Each Resv of a session that arrives is taken whole, where paths are sound and complete, reservations are sound and the session fits.
 use Rattle.std.proofs.Common.{◌≡◌, ℕ, ◌+◌, ◌<◌, ◌≤◌, List, [], ◌∷◌, length, true, Some, inl, arith, sym, refl, ap, subst, ◌∙◌}
 use Rattle.std.specs.Prelude.{slice_get, map as each}
 use Rattle.std.specs.Option.{option_map}
 use Rattle.rsvp_base.specs.declared.addr.Addr.{Addr}
 use Rattle.rsvp_base.specs.declared.part.Part.{Part}
 use Rattle.rsvp_base.specs.declared.session.Sender.{Sender}
+use Rattle.rsvp_base.specs.declared.session.Session.{Session}
 use Rattle.rsvp_base.specs.Members.{In}
 use Rattle.rsvp_base.specs.declared.style.Unit.TheVariants.{One}
 use Rattle.rsvp_base.specs.Orders.{senders, sessions}
@@ -37,7 +38,7 @@ use Rattle.router_rules.specs.Steps.{facts_then}
 use Rattle.tree_model.specs.declared.hops.LinkHop.{LinkHop}
 use Rattle.tree_model.specs.declared.locals.LocalSender.{LocalSender}
 use Rattle.tree_model.specs.declared.locals.LocalWant.{LocalWant}
-use Rattle.tree_model.specs.Goals.{DemandsFit, addr_of}
+use Rattle.tree_model.specs.Goals.{addr_of}
 use Rattle.tree_model.specs.Networks.{Net, node_of, node_of_end, end_at, iface_of, owner}
 use Rattle.tree_model.specs.Trees.{tree, outward}
 use Rattle.tree_model.specs.Wants.{Locals, live, names}
@@ -47,7 +48,7 @@ use Rattle.tree_model.proofs.TreeLaws.{out_tested, the_root_has_no_inward}
 use Rattle.tree_model.proofs.WantLaws.{name_told, want_names}
 use Rattle.network_model.specs.Bounds.{AreBounds, AreHosts, IsProperArrival}
 use Rattle.network_model.specs.Locals.{locals_of, want_at}
-use Rattle.network_model.specs.Sound.{ArePathsComplete, ArePathsSound, AreResvsSound, TakesAll}
+use Rattle.network_model.specs.Sound.{ArePathsComplete, ArePathsSound, AreResvsSound}
 use Rattle.network_model.specs.Steps.{Step, input_at, is_quiet, ms_of, machine}
 use Rattle.network_model.specs.Worlds.{Item, World, config_of}
 use Rattle.network_model.proofs.Machines.{in_arrived}
@@ -57,18 +58,19 @@ use Rattle.laws_network.specs.Known.{IsSameNet, IsKnown}
 use Rattle.laws_network.proofs.Known.{known_hold}
 use Rattle.laws_network.proofs.Standing.{goes_out_made, own_end, some_at}
 use Rattle.settle_resvs.specs.GoalByIface.{goal_at}
-use Rattle.settle_resvs.proofs.GoalByIface.{fit_can_be_held}
+use Rattle.settle_resvs.specs.Sessions.{Carries, SessionFits, TakesAllOf}
+use Rattle.settle_resvs.proofs.GoalByIface.{session_can_be_held}
 use Rattle.settle_resvs.proofs.UnderTheGoal.{has_place, sound_under, want_needs}
 use Rattle.settle_paths.proofs.LiveSenders.{senders_found}
 use Rattle.settle_paths.proofs.PreviousHops.{previous_hops_are_all_hops}
 use Rattle.settle_resvs.proofs.SoundResvs.{firm_hold}
 use Rattle.settle_resvs.proofs.SoundUnits.{IsAddressed, addressed}
 
--- ---- worlds in which paths are sound and complete, reservations sound, and the demands fit
-pub record IsReady (q : ℕ) (u : World) : Type 0 where
+-- ---- worlds in which paths are sound and complete, reservations sound, and the session fits
+pub record IsReady (q : ℕ) (s : Session) (u : World) : Type 0 where
   pub bounds : AreBounds q u
   pub locals : AreHosts u
-  pub fit : DemandsFit u.net (locals_of u)
+  pub fit : SessionFits u.net (locals_of u) s
   pub sound : ArePathsSound u
   pub complete : ArePathsComplete u
   pub resvs : AreResvsSound u
@@ -83,7 +85,7 @@ some_unit (ask.Fixed list) h = by list.rows refl h.some
     by [] e lt = let none = ap length e in absurd (omega (arith, none, lt))
     by (x ∷ xs) e lt = (fixed_unit x, to_each fixed_unit x list.rows (subst (λ (z : List (Sender × TokenBucket)). In x z) (sym e) (inl refl)))
 
-module _ (q : ℕ) (u : World) (ready : IsReady q u) (y : Item) (m : ResvMsg) (i : In y u.flight) (spelt : y.arrival ≡ Spelt (message.Resv m)) (f : Facts)
+module _ (q : ℕ) (s : Session) (u : World) (ready : IsReady q s u) (y : Item) (m : ResvMsg) (i : In y u.flight) (spelt : y.arrival ≡ Spelt (message.Resv m)) (of : m.session ≡ s) (f : Facts)
     (at : slice_get u.nodes (node_of u.net.ends y.end) ≡ Some f) where
   abbrev n : ℕ
   n = node_of u.net.ends y.end
@@ -124,6 +126,16 @@ module _ (q : ℕ) (u : World) (ready : IsReady q u) (y : Item) (m : ResvMsg) (i
   proper : IsProperAsk m.ask
   proper = let p = (ready.bounds.flight y i).proper in subst IsProperArrival spelt p
 
+  fits : SessionFits u.net (locals_of u) m.session
+  fits = subst (SessionFits u.net (locals_of u)) (sym of) ready.fit
+
+  -- the end carries the session
+  carries : Carries u.net (locals_of u) m.session y.end
+  carries =
+      let v = some_unit m.ask proper in
+      let s = ready.resvs.items y m v.0 i spelt v.1 in
+      record { hop = s.sound.hop; there = s.sound.there; from = s.sound.from; style = ask_style m.ask; unit = v.0.unit; part = s.sound.wanted; wanted = s.sound.is }
+
   -- someone wants something of the session in the style
   wants : (w : LocalWant) × In w (locals_of u).wants × (w.session ≡ m.session) × (w.style ≡ ask_style m.ask)
   wants =
@@ -135,22 +147,23 @@ module _ (q : ℕ) (u : World) (ready : IsReady q u) (y : Item) (m : ResvMsg) (i
   pub can_be_taken : CanBeTaken place u.clock (iface_of u.net.ends y.end) m f (goal_at u.net (locals_of u) n)
   can_be_taken = record {
     proper = proper;
-    lines_held = fit_can_be_held q u.net u.trees (locals_of u) n ready.bounds.net ready.fit;
+    lines_held = session_can_be_held q u.net u.trees (locals_of u) m.session y.end ready.bounds.net fits carries;
     there = sound_under u n f (λ st k r h. ready.resvs.facts st n f k r at h);
     units = placed;
     resv_style = λ st k r h same.
         let s = (ready.resvs.facts st n f k r at h).sound in
         let b = want_needs st u.net (locals_of u) k.0 s.hop k.1.1 s.wanted s.is in
-        sym b.style ∙ ready.fit.one_style b.want wants.0 b.there wants.1 (b.session ∙ same ∙ sym wants.2) ∙ wants.3;
+        sym b.style ∙ fits.one_style b.want wants.0 b.there wants.1 (b.session ∙ same) wants.2 ∙ wants.3;
     want_style = λ v w h.
-        ready.fit.one_style (want_at n ((m.session, v), w)) wants.0 (node_wants u n f (m.session, v) w at h) wants.1 (sym wants.2) ∙ wants.3;
+        fits.one_style (want_at n ((m.session, v), w)) wants.0 (node_wants u n f (m.session, v) w at h) wants.1 refl wants.2 ∙ wants.3;
   }
 
 -- ---- so it is taken
-pub takes_all : (q : ℕ) (s : Step) (u : World) → is_quiet s ≡ true → IsReady q u → ((y : Item) (m : ResvMsg) → In y u.flight → y.arrival ≡ Spelt (message.Resv m) → y.dst ≡ addr_of u.net y.end)
-    → TakesAll q s u
-takes_all q s u quiet ready addressed y m f v arr spelt at asked =
-    let i : In y u.flight = in_arrived s u y arr in
+pub takes_all : (q : ℕ) (s : Session) (t : Step) (u : World) → is_quiet t ≡ true → IsReady q s u
+    → ((y : Item) (m : ResvMsg) → In y u.flight → y.arrival ≡ Spelt (message.Resv m) → y.dst ≡ addr_of u.net y.end)
+    → TakesAllOf s q t u
+takes_all q s t u quiet ready addressed y m f v arr spelt of at asked =
+    let i : In y u.flight = in_arrived t u y arr in
     let n : ℕ = node_of u.net.ends y.end in
     let e : ℕ = iface_of u.net.ends y.end in
     let p : NodeConfig = config_of q u.net u.trees n in
@@ -160,10 +173,10 @@ takes_all q s u quiet ready addressed y m f v arr spelt at asked =
     let end : end_at u.net.ends n e ≡ Some y.end = (interfaces_are_ends u.net).end_of_iface y.end lt in
     let dst : y.dst ≡ own p e = addressed y m i spelt ∙ sym (own_end q u.net u.trees n e y.end end) in
     let input : Input = Came e (own p e) (Spelt (message.Resv m)) in
-    let came : input_at s u n ≡ Some input = ap (λ (z : ℕ). input_at s u z) (sym node) ∙ input_came s u y x.0 arr x.1 ∙ (λ j. Some (Came e (dst j) (spelt j))) in
-    let ms : u.clock + ms_of s ≡ u.clock = (let z = arrival_takes_no_time s u y arr in omega arith) in
-    let is = outcome_by q s u n f input quiet came in
-    let can = can_be_taken q u ready y m i spelt f at in
+    let came : input_at t u n ≡ Some input = ap (λ (z : ℕ). input_at t u z) (sym node) ∙ input_came t u y x.0 arr x.1 ∙ (λ j. Some (Came e (dst j) (spelt j))) in
+    let ms : u.clock + ms_of t ≡ u.clock = (let z = arrival_takes_no_time t u y arr in omega arith) in
+    let is = outcome_by q t u n f input quiet came in
+    let can = can_be_taken q s u ready y m i spelt of f at in
     let taken = what_is_accepted.whole p p u.clock u.clock e m f (goal_at u.net (locals_of u) n) (ready.bounds.facts n f at) can in
     let unit = can.units v asked in
     let r = taken.facts v unit.names asked unit.listed in (
@@ -187,31 +200,35 @@ locals_again o u same l = record {
     was : (n : ℕ) (f : Facts) → slice_get u.nodes n ≡ Some f → (g : Facts) × (slice_get o.nodes n ≡ Some g) × (g.senders ≡ f.senders)
     was n f at = senders_found o n f.senders (sym (same.senders n) ∙ ap (option_map (λ (z : Facts). z.senders)) at)
 
+-- a session that fits does so where the same is asked
+pub fits_again : (s : Session) (o u : World) → IsSameNet o u → SessionFits o.net (locals_of o) s → SessionFits u.net (locals_of u) s
+fits_again s o u same fit = subst (λ (z : Net × Locals). SessionFits z.0 z.1 s) (λ i. (sym same.net i, sym same.locals i)) fit
+
 abbrev pub IsSettledSoFar : World → Type 0
 IsSettledSoFar u = ArePathsSound u × (ArePathsComplete u × AreResvsSound u)
 
-pub ready_hold : (q : ℕ) (w : World) (rs : List (List Step)) → Rounds (machine q) rs w → AreHosts w → DemandsFit w.net (locals_of w) → Hold (machine q) 0 rs w (AreBounds q)
-    → Hold (machine q) 0 rs w IsSettledSoFar → Hold (machine q) 0 rs w (IsReady q)
-ready_hold q w rs calm locals fit bounds so_far =
-    hold_map (machine q) (λ u. IsKnown q w u × IsSettledSoFar u) (IsReady q)
+pub ready_hold : (q : ℕ) (s : Session) (w : World) (rs : List (List Step)) → Rounds (machine q) rs w → AreHosts w → SessionFits w.net (locals_of w) s → Hold (machine q) 0 rs w (AreBounds q)
+    → Hold (machine q) 0 rs w IsSettledSoFar → Hold (machine q) 0 rs w (IsReady q s)
+ready_hold q s w rs calm locals fit bounds so_far =
+    hold_map (machine q) (λ u. IsKnown q w u × IsSettledSoFar u) (IsReady q s)
     (λ u h. record {
       bounds = h.0.bounds;
       locals = locals_again w u h.0.same locals;
-      fit = subst (λ (z : Net × Locals). DemandsFit z.0 z.1) (λ i. (sym h.0.same.net i, sym h.0.same.locals i)) fit;
+      fit = fits_again s w u h.0.same fit;
       sound = h.1.0;
       complete = h.1.1.0;
       resvs = h.1.1.1;
     }) 0 rs w
     (hold_both (machine q) (IsKnown q w) IsSettledSoFar 0 rs w (known_hold q w rs calm bounds) so_far)
 
--- each arrival is taken, one round on, when Resvs go to the end whose address they are sent to
-pub arrivals_are_taken : (q : ℕ) (w : World) (rs : List (List Step)) → Rounds (machine q) rs w → AreHosts w → DemandsFit w.net (locals_of w) → Hold (machine q) 0 rs w (AreBounds q)
+-- each arrival of the session is taken, one round on, when Resvs go to the end whose address they are sent to
+pub arrivals_are_taken : (q : ℕ) (s : Session) (w : World) (rs : List (List Step)) → Rounds (machine q) rs w → AreHosts w → SessionFits w.net (locals_of w) s → Hold (machine q) 0 rs w (AreBounds q)
     → Hold (machine q) 0 rs w IsSettledSoFar
-    → Hold (machine q) 1 rs w (λ u. (s : Step) → is_quiet s ≡ true → TakesAll q s u)
-arrivals_are_taken q w rs calm locals fit bounds so_far =
-    let ready = ready_hold q w rs calm locals fit bounds so_far in
+    → Hold (machine q) 1 rs w (λ u. (t : Step) → is_quiet t ≡ true → TakesAllOf s q t u)
+arrivals_are_taken q s w rs calm locals fit bounds so_far =
+    let ready = ready_hold q s w rs calm locals fit bounds so_far in
     let valid = (hold_start (machine q) (AreBounds q) rs w bounds).net in
     let firm = firm_hold q w rs calm bounds (hold_map (machine q) IsSettledSoFar ArePathsSound (λ u h. h.0) 0 rs w so_far) in
-    hold_map (machine q) (λ u. IsReady q u × IsAddressed 0 u) (λ u. (s : Step) → is_quiet s ≡ true → TakesAll q s u)
-    (λ u h s quiet. takes_all q s u quiet h.0 (λ y m i spelt. h.1 y m i (omega arith) spelt)) 1 rs w
-    (hold_both (machine q) (IsReady q) (IsAddressed 0) 1 rs w (hold_later (machine q) (IsReady q) 0 1 rs w (omega arith) ready) (addressed q w valid rs w calm firm))
+    hold_map (machine q) (λ u. IsReady q s u × IsAddressed 0 u) (λ u. (t : Step) → is_quiet t ≡ true → TakesAllOf s q t u)
+    (λ u h t quiet. takes_all q s t u quiet h.0 (λ y m i spelt. h.1 y m i (omega arith) spelt)) 1 rs w
+    (hold_both (machine q) (IsReady q s) (IsAddressed 0) 1 rs w (hold_later (machine q) (IsReady q s) 0 1 rs w (omega arith) ready) (addressed q w valid rs w calm firm))

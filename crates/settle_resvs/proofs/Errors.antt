@@ -1,5 +1,5 @@
--- Errors with a flow are gone: none is made where each arrival is taken, and those in flight go on along chains of hops, one round
--- a hop.
+-- Errors of a session with a flow are gone: none is made where each arrival of it is taken, and those in flight go on along chains of
+-- hops, one round a hop.
 use Rattle.std.proofs.Common.{◌≡◌, ℕ, zero, suc, ◌+◌, ◌<◌, ◌≤◌, List, [], ◌∷◌, length, Bool, true, false, Option, None, Some, ◌⊎◌, inl, inr, ⊎_elim, arith, sym, refl, ap, subst, ◌∙◌}
 use Rattle.std.specs.Prelude.{slice_get, is_some, not}
 use Rattle.rsvp_base.specs.declared.addr.Addr.{Addr}
@@ -35,7 +35,7 @@ use Rattle.router_rules.specs.NodeConfig.{NodeConfig, own}
 use Rattle.router_rules.specs.Rule.{rule}
 use Rattle.tree_model.specs.declared.hops.End.{End}
 use Rattle.tree_model.specs.declared.hops.LinkHop.{LinkHop}
-use Rattle.tree_model.specs.Goals.{DemandsFit, addr_of, addr_of_end}
+use Rattle.tree_model.specs.Goals.{addr_of, addr_of_end}
 use Rattle.tree_model.specs.Networks.{Net, node_of, node_of_end, end_at, iface_of, peers}
 use Rattle.tree_model.specs.Ranks.{longest, rank}
 use Rattle.tree_model.specs.Trees.{hops_of, tree}
@@ -49,7 +49,6 @@ use Rattle.tree_model.proofs.WantLaws.{a_common_name, want_names}
 use Rattle.network_model.specs.Bounds.{IsProperArrival, AreBounds, AreHosts}
 use Rattle.network_model.specs.Links.{goes_to, is_group}
 use Rattle.network_model.specs.Locals.{locals_of}
-use Rattle.network_model.specs.Sound.{HasNoFlowError}
 use Rattle.network_model.specs.Steps.{Step, is_quiet, ms_of, input_at, word_for, sent, step, machine}
 use Rattle.network_model.specs.Worlds.{Item, World, config_of}
 use Rattle.network_model.proofs.Changing.{where_a_send_goes}
@@ -60,6 +59,7 @@ use Rattle.laws_network.proofs.Known.{of_some, known_hold}
 use Rattle.laws_network.proofs.Sends.{IsSentByRule, sent_by_rule, goes_to_end}
 use Rattle.laws_network.proofs.Standing.{own_end, peer_there, some_at}
 use Rattle.settle_resvs.specs.GoalByIface.{goal_at}
+use Rattle.settle_resvs.specs.Sessions.{HasNoFlowErrorOf, SessionFits}
 use Rattle.settle_paths.proofs.PreviousHops.{ends_there, same_by_addr}
 use Rattle.settle_resvs.proofs.Accepting.{IsReady, IsSettledSoFar, can_be_taken, ready_hold}
 use Rattle.router_rules.specs.Steps.{node_step}
@@ -80,8 +80,9 @@ pub record IsAlong (net : Net) (l : Locals) (j : ℕ) (y : Item) (m : ResvErrMsg
 abbrev pub IsLow : Net → Locals → ℕ → Item → ResvErrMsg → Type 0
 IsLow net l j y m = (longest net < j) ⊎ IsAlong net l j y m
 
-abbrev pub AreLow : Net → Locals → ℕ → ℕ → World → Type 0
-AreLow net l j b u = (y : Item) (m : ResvErrMsg) (flow : TokenBucket) → In y u.flight → b ≤ y.born → y.arrival ≡ Spelt (message.ResvErr m) → m.blame.flow ≡ Some flow → IsLow net l j y m
+abbrev pub AreLow : Session → Net → Locals → ℕ → ℕ → World → Type 0
+AreLow which net l j b u =
+    (y : Item) (m : ResvErrMsg) (flow : TokenBucket) → In y u.flight → b ≤ y.born → y.arrival ≡ Spelt (message.ResvErr m) → m.session ≡ which → m.blame.flow ≡ Some flow → IsLow net l j y m
 
 -- an error with a flow that is proper names senders, or is of a wildcard filter
 named_or_wild : (st : StyleKind) (listed : Option Names) (f : Option TokenBucket) (flow : TokenBucket) → f ≡ Some flow → IsProperBlameOf st listed f → (is_some listed ≡ true) ⊎ (st ≡ Wild)
@@ -93,12 +94,12 @@ named_or_wild Shared (Some names) f flow e h = inl refl
 named_or_wild Shared None (Some x) flow e h = absurd h
 named_or_wild Shared None None flow e h = absurd (cc)
 
-module _ (q : ℕ) (u : World) (ready : IsReady q u) (s : Step) (quiet : is_quiet s ≡ true) where
-  -- a Resv that comes to a node is taken, so no refusal is sent
+module _ (q : ℕ) (which : Session) (u : World) (ready : IsReady q which u) (s : Step) (quiet : is_quiet s ≡ true) where
+  -- a Resv of the session that comes to a node is taken, so no refusal is sent
   no_refusal : (n : ℕ) (f : Facts) (i : Input) → slice_get u.nodes n ≡ Some f → input_at s u n ≡ Some i → (at : ℕ) (m : ResvMsg)
-      → i ≡ Came at (own (config_of q u.net u.trees n) at) (Spelt (message.Resv m))
+      → i ≡ Came at (own (config_of q u.net u.trees n) at) (Spelt (message.Resv m)) → m.session ≡ which
       → (rule (config_of q u.net u.trees n) (config_of q u.net u.trees n) (u.clock + ms_of s) i f).heard ≡ heard.Taken
-  no_refusal n f i there came at m is =
+  no_refusal n f i there came at m is of =
       let p : NodeConfig = config_of q u.net u.trees n in
       ⊎_elim
       (λ (t : IsWaited s u n i). let no : Wait t.ms (word_for u.words n) ≡ Came at (own p at) (Spelt (message.Resv m)) = sym t.is ∙ is in absurd (cc))
@@ -108,7 +109,7 @@ module _ (q : ℕ) (u : World) (ready : IsReady q u) (s : Step) (quiet : is_quie
       let spelt : t.item.arrival ≡ Spelt (message.Resv m) = cc in
       let node : node_of u.net.ends t.item.end ≡ n = ap node_of_end t.there ∙ t.node in
       let flight : In t.item u.flight = in_arrived s u t.item t.arrives in
-      let can = can_be_taken q u ready t.item m flight spelt f (ap (λ (z : ℕ). slice_get u.nodes z) node ∙ there) in
+      let can = can_be_taken q which u ready t.item m flight spelt of f (ap (λ (z : ℕ). slice_get u.nodes z) node ∙ there) in
       let can' : CanBeTaken p u.clock at m f (goal_at u.net (locals_of u) n) = subst (λ (z : ℕ × ℕ). CanBeTaken (config_of q u.net u.trees z.0) u.clock z.1 m f (goal_at u.net (locals_of u) z.0))
       (λ j. (node j, iface j)) can in
       let taken = what_is_accepted.whole p p u.clock u.clock at m f (goal_at u.net (locals_of u) n) (ready.bounds.facts n f there) can' in
@@ -132,11 +133,12 @@ module _ (q : ℕ) (u : World) (ready : IsReady q u) (s : Step) (quiet : is_quie
       (input_found s u n i quiet came)
 
   -- a hop out of the node to which an error came, over which it goes on: no chain from it is as long
-  near : (j : ℕ) → AreLow u.net (locals_of u) (suc j) 0 u → (y : Item) (e : ResvErrMsg) (flow : TokenBucket) → In y u.flight → y.arrival ≡ Spelt (message.ResvErr e) → e.blame.flow ≡ Some flow
+  near : (j : ℕ) → AreLow which u.net (locals_of u) (suc j) 0 u → (y : Item) (e : ResvErrMsg) (flow : TokenBucket) → In y u.flight → y.arrival ≡ Spelt (message.ResvErr e) → e.session ≡ which
+      → e.blame.flow ≡ Some flow
       → (h : LinkHop) → In h (hops_of u.net.hops e.session.group) → node_of u.net.ends h.from ≡ node_of u.net.ends y.end → (named : Names) → is_none named ≡ false
       → ((x : Sender) → has named x ≡ true → IsListed e.blame.senders x)
       → IsWithin named (names e.blame.style u.net (locals_of u) e.session (h ∷ [])) → rank u.net e.session.group h ≤ j
-  near j low y e flow i spelt has_flow h there meet named some in_error within =
+  near j low y e flow i spelt of has_flow h there meet named some in_error within =
       ⊎_elim
       (λ (far : longest u.net < suc j). let most = (rank_falls u.net ready.bounds.net.loop_free).hops e.session.group h there in omega (arith, most.1, far))
       (λ (al : IsAlong u.net (locals_of u) (suc j) y e).
@@ -147,12 +149,12 @@ module _ (q : ℕ) (u : World) (ready : IsReady q u) (s : Step) (quiet : is_quie
       let falls = rank_falls_at u.net ready.bounds.net.loop_free e.session.group al.hop h follows in
       let close = al.near in
       omega (arith, falls, close))
-      (low y e flow i (omega arith) spelt has_flow)
+      (low y e flow i (omega arith) spelt of has_flow)
 
   -- what goes on goes over a hop that follows, and names some of its names
-  along : (j : ℕ) → AreLow u.net (locals_of u) (suc j) 0 u → (y : Item) (m : ResvErrMsg) (flow : TokenBucket) → m.blame.flow ≡ Some flow → (r : IsSentByRule q s u y (message.ResvErr m))
+  along : (j : ℕ) → AreLow which u.net (locals_of u) (suc j) 0 u → (y : Item) (m : ResvErrMsg) (flow : TokenBucket) → m.session ≡ which → m.blame.flow ≡ Some flow → (r : IsSentByRule q s u y (message.ResvErr m))
       → IsPassedOn (config_of q u.net u.trees r.node) r.by.input r.facts r.send m → IsAlong u.net (locals_of u) j y m
-  along j low y m flow has_flow r x =
+  along j low y m flow is_of has_flow r x =
       let valid = ready.bounds.net in
       let p : NodeConfig = config_of q u.net u.trees r.node in
       let st : StyleKind = x.error.blame.style in
@@ -192,59 +194,59 @@ module _ (q : ℕ) (u : World) (ready : IsReady q u) (s : Step) (quiet : is_quie
         to = same_by_addr u.net valid h.to y.end inside.1 (peer_there u.net valid sound.end y.end to.0) (sound.sound.to ∙ sym to.1);
         from = ap (addr_of u.net) sound.sound.from ∙ sym own_is ∙ ap (λ (z : RsvpHop). z.addr) (sym x.here);
         within = subst (λ (z : StyleKind × Session). IsWithin got.0 (names z.0 u.net (locals_of u) z.1 (h ∷ []))) (λ k. (sym x.style k, sym x.session k)) within;
-        near = subst (λ (z : Session). rank u.net z.group h ≤ j) (sym x.session) (near j low t.0 x.error flow t.1 t.2 (sym x.flow ∙ has_flow) h sound.sound.there
+        near = subst (λ (z : Session). rank u.net z.group h ≤ j) (sym x.session) (near j low t.0 x.error flow t.1 t.2 (sym x.session ∙ is_of) (sym x.flow ∙ has_flow) h sound.sound.there
             (leaves ∙ sym t.3) got.0 got.2.some got.2.in_error within);
       }
 
-  passed_on : (j : ℕ) → AreLow u.net (locals_of u) (suc j) 0 u → (y : Item) (b : Bool) (m : ResvErrMsg) (flow : TokenBucket) → In (y, b) (sent q s u) → y.arrival ≡ Spelt (message.ResvErr m)
-      → m.blame.flow ≡ Some flow → IsAlong u.net (locals_of u) j y m
-  passed_on j low y b m flow i spelt has_flow =
+  passed_on : (j : ℕ) → AreLow which u.net (locals_of u) (suc j) 0 u → (y : Item) (b : Bool) (m : ResvErrMsg) (flow : TokenBucket) → In (y, b) (sent q s u) → y.arrival ≡ Spelt (message.ResvErr m)
+      → m.session ≡ which → m.blame.flow ≡ Some flow → IsAlong u.net (locals_of u) j y m
+  passed_on j low y b m flow i spelt is_of has_flow =
       let r = sent_by_rule q s u y b (message.ResvErr m) quiet i spelt in
       let p : NodeConfig = config_of q u.net u.trees r.node in
       ⊎_elim
-      (λ (x : IsRefusal p p (u.clock + ms_of s) r.by.input r.facts r.send). absurd (x.not_taken (no_refusal r.node r.facts r.by.input r.there r.by.came x.at x.resv x.came)))
-      (λ (x : IsPassedOn p r.by.input r.facts r.send m). along j low y m flow has_flow r x)
+      (λ (x : IsRefusal p p (u.clock + ms_of s) r.by.input r.facts r.send). absurd (x.not_taken (no_refusal r.node r.facts r.by.input r.there r.by.came x.at x.resv x.came (sym (x.session m r.says) ∙ is_of))))
+      (λ (x : IsPassedOn p r.by.input r.facts r.send m). along j low y m flow is_of has_flow r x)
       (where_an_error_with_a_flow_comes_from.source (node_step p p u.clock (u.clock + ms_of s) r.by.input r.facts) (ready.bounds.facts r.node r.facts r.there) r.send m flow r.sent r.says has_flow)
 
 -- ---- one round a hop, in worlds with the network of o of which the same is asked
-pub record IsCalmed (q : ℕ) (o u : World) : Type 0 where
+pub record IsCalmed (q : ℕ) (which : Session) (o u : World) : Type 0 where
   pub known : IsKnown q o u
-  pub ready : IsReady q u
+  pub ready : IsReady q which u
 
-module _ (q : ℕ) (o : World) where
+module _ (q : ℕ) (which : Session) (o : World) where
   abbrev Low : ℕ → World → Type 0
-  Low j u = AreLow o.net (locals_of o) j 0 u
+  Low j u = AreLow which o.net (locals_of o) j 0 u
 
-  new_low : (j b : ℕ) (s : Step) (u : World) → is_quiet s ≡ true → IsCalmed q o u → Low (suc j) u → AreLow o.net (locals_of o) j b u → AreLow o.net (locals_of o) j b (step q s u)
-  new_low j b s u quiet c low k y m flow i born spelt has_flow =
+  new_low : (j b : ℕ) (s : Step) (u : World) → is_quiet s ≡ true → IsCalmed q which o u → Low (suc j) u → AreLow which o.net (locals_of o) j b u → AreLow which o.net (locals_of o) j b (step q s u)
+  new_low j b s u quiet c low k y m flow i born spelt is_of has_flow =
       ⊎_elim
-      (λ (old : In y u.flight). k y m flow old born spelt has_flow)
+      (λ (old : In y u.flight). k y m flow old born spelt is_of has_flow)
       (λ (new : (mark : Bool) × In (y, mark) (sent q s u)).
       let same : ◌≡◌ {A = Net × Locals} (o.net, locals_of o) (u.net, locals_of u) = (λ i. (sym c.known.same.net i, sym c.known.same.locals i)) in
-      let low' : AreLow u.net (locals_of u) (suc j) 0 u = subst (λ (z : Net × Locals). AreLow z.0 z.1 (suc j) 0 u) same low in
-      inr (subst (λ (z : Net × Locals). IsAlong z.0 z.1 j y m) (sym same) (passed_on q u c.ready s quiet j low' y new.0 m flow new.1 spelt has_flow)))
+      let low' : AreLow which u.net (locals_of u) (suc j) 0 u = subst (λ (z : Net × Locals). AreLow which z.0 z.1 (suc j) 0 u) same low in
+      inr (subst (λ (z : Net × Locals). IsAlong z.0 z.1 j y m) (sym same) (passed_on q which u c.ready s quiet j low' y new.0 m flow new.1 spelt is_of has_flow)))
       (in_flight_after q s u y quiet i)
 
-  one_round : (j : ℕ) (rs : List (List Step)) (w : World) → Rounds (machine q) rs w → Hold (machine q) 0 rs w (λ u. IsCalmed q o u × Low (suc j) u) → Hold (machine q) 1 rs w (Low j)
+  one_round : (j : ℕ) (rs : List (List Step)) (w : World) → Rounds (machine q) rs w → Hold (machine q) 0 rs w (λ u. IsCalmed q which o u × Low (suc j) u) → Hold (machine q) 1 rs w (Low j)
   one_round j rs w calm both =
-      hold_map (machine q) (λ u. AreLow o.net (locals_of o) j w.made u × Fresh (machine q) w.made u) (Low j) (λ u h y m flow i born spelt has_flow. h.0 y m flow i (h.1 y i) spelt has_flow) 1 rs w
-      (hold_both (machine q) (AreLow o.net (locals_of o) j w.made) (Fresh (machine q) w.made) 1 rs w
-      (hold_later (machine q) (AreLow o.net (locals_of o) j w.made) 0 1 rs w (omega arith)
-      (hold_keep (machine q) (λ u. IsCalmed q o u × Low (suc j) u) (AreLow o.net (locals_of o) j w.made) (λ s u quiet a a' k. new_low j w.made s u (quiet_of q s quiet) a.0 a.1 k) rs w calm both
-      (λ y m flow i born spelt has_flow. let old = ((hold_start (machine q) (λ u. IsCalmed q o u × Low (suc j) u) rs w both).0.known.bounds.flight y i).born in absurd (omega arith))))
+      hold_map (machine q) (λ u. AreLow which o.net (locals_of o) j w.made u × Fresh (machine q) w.made u) (Low j) (λ u h y m flow i born spelt is_of has_flow. h.0 y m flow i (h.1 y i) spelt is_of has_flow) 1 rs w
+      (hold_both (machine q) (AreLow which o.net (locals_of o) j w.made) (Fresh (machine q) w.made) 1 rs w
+      (hold_later (machine q) (AreLow which o.net (locals_of o) j w.made) 0 1 rs w (omega arith)
+      (hold_keep (machine q) (λ u. IsCalmed q which o u × Low (suc j) u) (AreLow which o.net (locals_of o) j w.made) (λ s u quiet a a' k. new_low j w.made s u (quiet_of q s quiet) a.0 a.1 k) rs w calm both
+      (λ y m flow i born spelt is_of has_flow. let old = ((hold_start (machine q) (λ u. IsCalmed q which o u × Low (suc j) u) rs w both).0.known.bounds.flight y i).born in absurd (omega arith))))
       (hold_flush (machine q) (items_are_numbered q) rs w calm))
 
   -- after d rounds each error with a flow has d hops fewer to go
-  fewer : (d j : ℕ) → d + j ≡ suc (longest o.net) → (rs : List (List Step)) (w : World) → Rounds (machine q) rs w → Hold (machine q) 0 rs w (IsCalmed q o) → Hold (machine q) d rs w (Low j)
-  fewer zero j e rs w calm c = hold_map (machine q) (IsCalmed q o) (Low j) (λ u h y m flow i born spelt has_flow. inl (omega (arith, e))) 0 rs w c
+  fewer : (d j : ℕ) → d + j ≡ suc (longest o.net) → (rs : List (List Step)) (w : World) → Rounds (machine q) rs w → Hold (machine q) 0 rs w (IsCalmed q which o) → Hold (machine q) d rs w (Low j)
+  fewer zero j e rs w calm c = hold_map (machine q) (IsCalmed q which o) (Low j) (λ u h y m flow i born spelt is_of has_flow. inl (omega (arith, e))) 0 rs w c
   fewer (suc d) j e rs w calm c =
       let n : d + 1 ≡ suc d = omega arith in
       rw (← n)
-      (hold_stack (machine q) (λ u. IsCalmed q o u × Low (suc j) u) (Low j) 1 (one_round j) d rs w calm
-      (hold_both (machine q) (IsCalmed q o) (Low (suc j)) d rs w (hold_later (machine q) (IsCalmed q o) 0 d rs w (omega arith) c) (fewer d (suc j) (omega (arith, e)) rs w calm c)))
+      (hold_stack (machine q) (λ u. IsCalmed q which o u × Low (suc j) u) (Low j) 1 (one_round j) d rs w calm
+      (hold_both (machine q) (IsCalmed q which o) (Low (suc j)) d rs w (hold_later (machine q) (IsCalmed q which o) 0 d rs w (omega arith) c) (fewer d (suc j) (omega (arith, e)) rs w calm c)))
 
-  none_left : (u : World) → IsCalmed q o u → Low 0 u → HasNoFlowError u
-  none_left u c low y m i spelt = by m.blame.flow refl
+  none_left : (u : World) → IsCalmed q which o u → Low 0 u → HasNoFlowErrorOf which u
+  none_left u c low y m i spelt is_of = by m.blame.flow refl
     where
       by : (f : Option TokenBucket) → m.blame.flow ≡ f → m.blame.flow ≡ None
       by None e = e
@@ -255,19 +257,19 @@ module _ (q : ℕ) (o : World) where
           let some = rank_some o.net valid.loop_free m.session.group al.hop al.there in
           let close = al.near in
           absurd (omega (arith, some, close)))
-          (low y m flow i (omega arith) spelt e)
+          (low y m flow i (omega arith) spelt is_of e)
 
-  pub errors_are_gone : (rs : List (List Step)) (w : World) → Rounds (machine q) rs w → Hold (machine q) 0 rs w (IsCalmed q o) → Hold (machine q) (suc (longest o.net)) rs w HasNoFlowError
+  pub errors_are_gone : (rs : List (List Step)) (w : World) → Rounds (machine q) rs w → Hold (machine q) 0 rs w (IsCalmed q which o) → Hold (machine q) (suc (longest o.net)) rs w (HasNoFlowErrorOf which)
   errors_are_gone rs w calm c =
       let k : ℕ = suc (longest o.net) in
       let e : k + 0 ≡ suc (longest o.net) = omega arith in
-      hold_map (machine q) (λ u. IsCalmed q o u × Low 0 u) HasNoFlowError (λ u h. none_left u h.0 h.1) k rs w
-      (hold_both (machine q) (IsCalmed q o) (Low 0) k rs w (hold_later (machine q) (IsCalmed q o) 0 k rs w (omega arith) c) (fewer k 0 e rs w calm c))
+      hold_map (machine q) (λ u. IsCalmed q which o u × Low 0 u) (HasNoFlowErrorOf which) (λ u h. none_left u h.0 h.1) k rs w
+      (hold_both (machine q) (IsCalmed q which o) (Low 0) k rs w (hold_later (machine q) (IsCalmed q which o) 0 k rs w (omega arith) c) (fewer k 0 e rs w calm c))
 
 -- from worlds that are ready
-pub errors_go : (q : ℕ) (w : World) (rs : List (List Step)) → Rounds (machine q) rs w → AreHosts w → DemandsFit w.net (locals_of w) → Hold (machine q) 0 rs w (AreBounds q)
-    → Hold (machine q) 0 rs w IsSettledSoFar → Hold (machine q) (suc (longest w.net)) rs w HasNoFlowError
-errors_go q w rs calm locals fit bounds so_far =
-    errors_are_gone q w rs w calm
-    (hold_map (machine q) (λ u. IsKnown q w u × IsReady q u) (IsCalmed q w) (λ u h. record { known = h.0; ready = h.1 }) 0 rs w
-    (hold_both (machine q) (IsKnown q w) (IsReady q) 0 rs w (known_hold q w rs calm bounds) (ready_hold q w rs calm locals fit bounds so_far)))
+pub errors_go : (q : ℕ) (which : Session) (w : World) (rs : List (List Step)) → Rounds (machine q) rs w → AreHosts w → SessionFits w.net (locals_of w) which → Hold (machine q) 0 rs w (AreBounds q)
+    → Hold (machine q) 0 rs w IsSettledSoFar → Hold (machine q) (suc (longest w.net)) rs w (HasNoFlowErrorOf which)
+errors_go q which w rs calm locals fit bounds so_far =
+    errors_are_gone q which w rs w calm
+    (hold_map (machine q) (λ u. IsKnown q w u × IsReady q which u) (IsCalmed q which w) (λ u h. record { known = h.0; ready = h.1 }) 0 rs w
+    (hold_both (machine q) (IsKnown q w) (IsReady q which) 0 rs w (known_hold q w rs calm bounds) (ready_hold q which w rs calm locals fit bounds so_far)))

@@ -1,4 +1,4 @@
--- Reservations are the wants: two rounds for each rank, that is by the longest chain that begins with the hop.
+-- Reservations of a session are the wants: two rounds for each rank, that is by the longest chain that begins with the hop.
 use Rattle.std.proofs.Common.{◌≡◌, ℕ, zero, suc, ◌+◌, ◌*◌, ◌<◌, ◌≤◌, List, [], ◌∷◌, length, Bool, true, false, Option, None, Some, ⊎_elim, arith, sym, refl, ap, subst, ◌∙◌}
 use Rattle.std.specs.Prelude.{slice_get, is_some, not}
 use Rattle.rsvp_base.specs.declared.addr.Addr.{Addr}
@@ -39,7 +39,7 @@ use Rattle.router_rules.specs.Rule.{Outcome}
 use Rattle.router_rules.specs.Steps.{facts_then, node_step}
 use Rattle.tree_model.specs.declared.hops.End.{End}
 use Rattle.tree_model.specs.declared.hops.LinkHop.{LinkHop}
-use Rattle.tree_model.specs.Goals.{addr_of, addr_of_end, DemandsFit}
+use Rattle.tree_model.specs.Goals.{addr_of, addr_of_end}
 use Rattle.tree_model.specs.Networks.{Net, node_of, end_at, iface_of, peers}
 use Rattle.tree_model.specs.Ranks.{longest, rank}
 use Rattle.tree_model.specs.Trees.{hops_of, outward, tree}
@@ -54,7 +54,7 @@ use Rattle.tree_model.proofs.WantLaws.{name_told, want_names}
 use Rattle.network_model.specs.Bounds.{AreBounds, AreHosts}
 use Rattle.network_model.specs.Links.{goes_to, is_group}
 use Rattle.network_model.specs.Locals.{locals_of}
-use Rattle.network_model.specs.Sound.{AreResvsExact, IsExact, IsFreeOfBlockade, ArePathsSound}
+use Rattle.network_model.specs.Sound.{IsExact, ArePathsSound}
 use Rattle.network_model.specs.Steps.{Step, is_quiet, ms_of, sent, step, machine}
 use Rattle.network_model.specs.Worlds.{Item, World, config_of}
 use Rattle.network_model.proofs.Changing.{where_a_send_goes}
@@ -73,6 +73,7 @@ use Rattle.settle_resvs.specs.Said.{HopKey, IsOver, IsSaid, IsKept, lane_of, res
 use Rattle.settle_resvs.proofs.SoftResvs.{resv_found, kept_found}
 use Rattle.settle_resvs.proofs.Said.{said_resvs_are_kept}
 use Rattle.settle_resvs.specs.Below.{AreSoundBelow}
+use Rattle.settle_resvs.specs.Sessions.{AreExactOf, HasNoBlockade, IsFreeOfBlockadesOf, SessionFits}
 use Rattle.settle_resvs.proofs.ResvSends.{IsResvSent, over_hop}
 use Rattle.settle_resvs.proofs.SoundResvs.{sent_here, firm_hold}
 use Rattle.settle_resvs.proofs.SoundUnits.{IsAddressed, addressed}
@@ -80,23 +81,23 @@ use Rattle.settle_resvs.proofs.TowardNames.{parts_of_style}
 use Rattle.settle_resvs.proofs.Accepting.{IsReady, can_be_taken, IsSettledSoFar, ready_hold}
 use Rattle.settle_resvs.proofs.TowardIsTheWant.{toward_is_the_want}
 
--- ---- ready worlds without blockades, in which Resvs go to the end whose address they are sent to
-pub record IsSteady (q : ℕ) (u : World) : Type 0 where
-  pub ready : IsReady q u
-  pub free : IsFreeOfBlockade u
+-- ---- ready worlds without blockades of the session, in which Resvs go to the end whose address they are sent to
+pub record IsSteady (q : ℕ) (s : Session) (u : World) : Type 0 where
+  pub ready : IsReady q s u
+  pub free : IsFreeOfBlockadesOf s u
   pub addressed : IsAddressed 0 u
 
 -- reservations are exact over hops from which no chain is longer
-abbrev pub AreExactTo : ℕ → World → Type 0
-AreExactTo k u = (st : StyleKind) (s : Session) (h : LinkHop) → In h (hops_of u.net.hops s.group) → rank u.net s.group h ≤ k → IsExact st u s h
+abbrev pub AreExactTo : Session → ℕ → World → Type 0
+AreExactTo s k u = (st : StyleKind) (h : LinkHop) → In h (hops_of u.net.hops s.group) → rank u.net s.group h ≤ k → IsExact st u s h
 
 -- ---- an end has the address of a host
-host_addr : {q : ℕ} (u : World) → IsSteady q u → (e : ℕ) → e < length u.net.ends → is_group (addr_of u.net e) ≡ false
+host_addr : {q : ℕ} {s : Session} (u : World) → IsSteady q s u → (e : ℕ) → e < length u.net.ends → is_group (addr_of u.net e) ≡ false
 host_addr u g e lt = let x = some_at u.net.ends e lt in ap (λ (z : Option End). is_group (addr_of_end z)) x.1 ∙ g.ready.bounds.hosts e x.0 x.1
 
 -- ---- what is sound is named and sound below every rank
-all_below : (q : ℕ) (u : World) → IsReady q u → (st : StyleKind) (n : ℕ) (f : Facts) (s : Session) (top : ℕ) → slice_get u.nodes n ≡ Some f → AreSoundBelow st u n f s top
-all_below q u ready st n f s top at = record {
+all_below : (q : ℕ) (which : Session) (u : World) → IsReady q which u → (st : StyleKind) (n : ℕ) (f : Facts) (s : Session) (top : ℕ) → slice_get u.nodes n ≡ Some f → AreSoundBelow st u n f s top
+all_below q which u ready st n f s top at = record {
   named = λ k r h same.
       let x = ready.resvs.facts st n f k r at h in
       let p = x.sound in
@@ -114,19 +115,23 @@ all_below q u ready st n f s top at = record {
   sound = λ k r named h same low. ready.resvs.facts st n f k r at h;
 }
 
-module _ (q k : ℕ) where
+module _ (q : ℕ) (s : Session) (k : ℕ) where
   -- what goes toward a hop of the next rank is its want
-  pub toward_at : (u : World) → IsSteady q u → AreExactTo k u → (n : ℕ) (f : Facts) → slice_get u.nodes n ≡ Some f → (l : Lane) (h : LinkHop) → IsPrevious u.net n l.session l.hop h
+  pub toward_at : (u : World) → IsSteady q s u → AreExactTo s k u → (n : ℕ) (f : Facts) → slice_get u.nodes n ≡ Some f → (l : Lane) → l.session ≡ s → (h : LinkHop) → IsPrevious u.net n l.session l.hop h
       → rank u.net l.session.group h ≤ suc k
       → toward (config_of q u.net u.trees n) f l ≡ want l.style u.net (locals_of u) l.session h
-  toward_at u g exact n f at l h is le =
-      toward_is_the_want q u g.ready.bounds g.ready.sound g.ready.complete n f at (g.free.walls n f at) l h is (all_below q u g.ready l.style n f l.session (rank u.net l.session.group h) at)
+  toward_at u g exact n f at l of h is le =
+      toward_is_the_want q u g.ready.bounds g.ready.sound g.ready.complete n f at l (subst (λ (z : Session). HasNoBlockade z f.walls) (sym of) (g.free n f at)) h is
+      (all_below q s u g.ready l.style n f l.session (rank u.net l.session.group h) at)
       (λ h' follows i.
       let falls = rank_falls_at u.net g.ready.bounds.net.loop_free l.session.group h h' follows in
-      exact l.style l.session h' (follower_of_group u.net l.session.group h h' i) (omega (arith, falls, le)))
+      let near : rank u.net l.session.group h' ≤ k = omega (arith, falls, le) in
+      subst (λ (z : Session). IsExact l.style u z h') (sym of)
+      (exact l.style h' (subst (λ (z : Session). In h' (hops_of u.net.hops z.group)) of (follower_of_group u.net l.session.group h h' i))
+      (subst (λ (z : Session). rank u.net z.group h' ≤ k) of near)))
 
   -- ---- one unit over one hop
-  module _ (st : StyleKind) (s : Session) (h : LinkHop) (uu : UnitOf) (v : Part) where
+  module _ (st : StyleKind) (h : LinkHop) (uu : UnitOf) (v : Part) where
     abbrev over : HopKey
     over = record { session = s; style = st; unit = uu; from = h.to; to = h.from }
 
@@ -145,7 +150,7 @@ module _ (q k : ℕ) where
     abbrev AreSpared : ℕ → World → Type 0
     AreSpared b u = (y : Item) (m : ResvTearMsg) → In y u.flight → b ≤ y.born → y.arrival ≡ Spelt (message.ResvTear m) → IsOver u.net over y m.session m.hop.addr (tear_style m.tear) → ⊥
 
-    module _ (u : World) (g : IsSteady q u) (exact : AreExactTo k u) (is : IsWantedAt u) where
+    module _ (u : World) (g : IsSteady q s u) (exact : AreExactTo s k u) (is : IsWantedAt u) where
       valid : IsValid u.net
       valid = g.ready.bounds.net
 
@@ -165,7 +170,7 @@ module _ (q k : ℕ) where
           let style : p.lane.style ≡ st = sym p.style ∙ o.style in
           let previous : IsPrevious u.net p.node p.lane.session p.lane.hop h = subst (IsPrevious u.net p.node p.lane.session p.lane.hop) same x.1 in
           let near : rank u.net p.lane.session.group h ≤ suc k = subst (λ (z : Session). rank u.net z.group h ≤ suc k) (sym session) is.near in
-          let goes = toward_at u g exact p.node p.facts p.after p.lane h previous near in
+          let goes = toward_at u g exact p.node p.facts p.after p.lane session h previous near in
           let asked : IsAskedOf (toward (config_of q u.net u.trees p.node) p.facts p.lane) (record { unit = uu; names = Some v.senders; flow = v.flow }) =
           record {
             part = v;
@@ -201,7 +206,7 @@ module _ (q k : ℕ) where
           let inside = ends_there u.net valid s.group h is.there in
           let end : end_at u.net.ends n e ≡ Some h.from = (interfaces_are_ends u.net).end_of_iface h.from inside.0 in
           let dst : own p e ≡ y.dst = own_end q u.net u.trees n e h.from end ∙ sym says.dst in
-          let can = can_be_taken q u g.ready y m i says.spelt f (ap (λ (z : ℕ). slice_get u.nodes (node_of u.net.ends z)) says.end ∙ at) in
+          let can = can_be_taken q s u g.ready y m i says.spelt says.session f (ap (λ (z : ℕ). slice_get u.nodes (node_of u.net.ends z)) says.end ∙ at) in
           let can' = subst (λ (z : ℕ). CanBeTaken (config_of q u.net u.trees (node_of u.net.ends z)) u.clock (iface_of u.net.ends z) m f
           (goal_at u.net (locals_of u) (node_of u.net.ends z))) says.end can in
           let taken = what_is_accepted.whole p p u.clock u.clock e m f (goal_at u.net (locals_of u) n) (g.ready.bounds.facts n f at) can' in
@@ -235,7 +240,7 @@ module _ (q k : ℕ) where
           l = lane_of u.net over
 
           goes : toward (config_of q u.net u.trees (node_of u.net.ends h.to)) f l ≡ want st u.net (locals_of u) s h
-          goes = toward_at u g exact (node_of u.net.ends h.to) f at l h (record { there = is.there; node = refl; iface = refl; addr = refl }) is.near
+          goes = toward_at u g exact (node_of u.net.ends h.to) f at l refl h (record { there = is.there; node = refl; iface = refl; addr = refl }) is.near
 
           by : (o : Option Ask) → ask_of st (toward (config_of q u.net u.trees (node_of u.net.ends h.to)) f l) ≡ o
               → (a : Ask) × (ask_of st (toward (config_of q u.net u.trees (node_of u.net.ends h.to)) f l) ≡ Some a)
@@ -247,8 +252,8 @@ module _ (q k : ℕ) where
               absurd (cc)
 
     -- ---- a step, between worlds of one network of which the same is asked
-    module _ (w : World) (t : Step) (u : World) (quiet : is_quiet t ≡ true) (known : IsKnown q w u) (known' : IsKnown q w (step q t u)) (g : IsSteady q u) (g' : IsSteady q (step q t u))
-        (exact : AreExactTo k u) (exact' : AreExactTo k (step q t u))
+    module _ (w : World) (t : Step) (u : World) (quiet : is_quiet t ≡ true) (known : IsKnown q w u) (known' : IsKnown q w (step q t u)) (g : IsSteady q s u) (g' : IsSteady q s (step q t u))
+        (exact : AreExactTo s k u) (exact' : AreExactTo s k (step q t u))
         (is : IsWantedAt u) (is' : IsWantedAt (step q t u)) where
       abbrev u' : World
       u' = step q t u
@@ -301,8 +306,8 @@ module _ (q k : ℕ) where
           -- what goes over it is the same before and after
           let is_h : IsPrevious u.net r.node x.lane.session x.lane.hop h = subst (IsPrevious u.net r.node x.lane.session x.lane.hop) same previous in
           let near : rank u.net x.lane.session.group h ≤ suc k = subst (λ (z : Session). rank u.net z.group h ≤ suc k) (sym session) is.near in
-          let before_is = toward_at u g exact r.node r.facts r.there x.lane h is_h near in
-          let after_is = toward_at u' g' exact' r.node facts after x.lane h (subst (λ (z : Net). IsPrevious z r.node x.lane.session x.lane.hop h) (sym net_same) is_h)
+          let before_is = toward_at u g exact r.node r.facts r.there x.lane session h is_h near in
+          let after_is = toward_at u' g' exact' r.node facts after x.lane session h (subst (λ (z : Net). IsPrevious z r.node x.lane.session x.lane.hop h) (sym net_same) is_h)
           (subst (λ (z : Net). rank z x.lane.session.group h ≤ suc k) (sym net_same) near) in
           let locals : locals_of u ≡ locals_of u' = known.same.locals ∙ sym known'.same.locals in
           let equal : toward p r.facts x.lane ≡ toward p facts x.lane =
@@ -319,7 +324,7 @@ module _ (q k : ℕ) where
 
     -- ---- so it is said over the hop, and is kept two rounds on
     abbrev IsMet : World → World → Type 0
-    IsMet w u = IsKnown q w u × (IsSteady q u × AreExactTo k u)
+    IsMet w u = IsKnown q w u × (IsSteady q s u × AreExactTo s k u)
 
     wanted_at : (w u : World) → IsKnown q w u → IsWantedAt w → IsWantedAt u
     wanted_at w u a is = record {
@@ -341,12 +346,12 @@ module _ (q k : ℕ) where
           known = knows_them u g met.1.1 here;
         })
 
-    pub unit_kept : (w : World) (rs : List (List Step)) → Rounds (machine q) rs w → Hold (machine q) 0 rs w (λ u. IsSteady q u × AreExactTo k u) → IsWantedAt w
+    pub unit_kept : (w : World) (rs : List (List Step)) → Rounds (machine q) rs w → Hold (machine q) 0 rs w (λ u. IsSteady q s u × AreExactTo s k u) → IsWantedAt w
         → Hold (machine q) 2 rs w (Stands (machine q) (soft_resv q w (resv_key w.net over)) v)
     unit_kept w rs calm steady is =
-        let first = hold_start (machine q) (λ u. IsSteady q u × AreExactTo k u) rs w steady in
-        let bounds : Hold (machine q) 0 rs w (AreBounds q) = hold_map (machine q) (λ u. IsSteady q u × AreExactTo k u) (AreBounds q) (λ u h. h.0.ready.bounds) 0 rs w steady in
-        let met : Hold (machine q) 0 rs w (IsMet w) = hold_both (machine q) (IsKnown q w) (λ u. IsSteady q u × AreExactTo k u) 0 rs w (known_hold q w rs calm bounds) steady in
+        let first = hold_start (machine q) (λ u. IsSteady q s u × AreExactTo s k u) rs w steady in
+        let bounds : Hold (machine q) 0 rs w (AreBounds q) = hold_map (machine q) (λ u. IsSteady q s u × AreExactTo s k u) (AreBounds q) (λ u h. h.0.ready.bounds) 0 rs w steady in
+        let met : Hold (machine q) 0 rs w (IsMet w) = hold_both (machine q) (IsKnown q w) (λ u. IsSteady q s u × AreExactTo s k u) 0 rs w (known_hold q w rs calm bounds) steady in
         let none : (y : Item) → In y w.flight → w.made ≤ y.born → ⊥ = (λ y i born. let old = (first.0.ready.bounds.flight y i).born in omega (arith, old, born)) in
         let letters : Hold (machine q) 0 rs w (AreLetters w.made) =
         hold_keep (machine q) (IsMet w) (AreLetters w.made)
@@ -363,14 +368,13 @@ module _ (q k : ℕ) where
   -- ---- all units over all hops of the next rank
   record Spot (w : World) : Type 0 where
     st : StyleKind
-    s : Session
     h : LinkHop
     uu : UnitOf
     v : Part
-    is : IsWantedAt st s h uu v w
+    is : IsWantedAt st h uu v w
 
-  exact_at : (w u : World) → IsKnown q w u → IsSteady q u → ((a : Spot w) → Stands (machine q) (soft_resv q w (resv_key w.net (over a.st a.s a.h a.uu a.v))) a.v u) → AreExactTo (suc k) u
-  exact_at w u known g stand st s h there near =
+  exact_at : (w u : World) → IsKnown q w u → IsSteady q s u → ((a : Spot w) → Stands (machine q) (soft_resv q w (resv_key w.net (over a.st a.h a.uu a.v))) a.v u) → AreExactTo s (suc k) u
+  exact_at w u known g stand st h there near =
       let valid = g.ready.bounds.net in
       let inside = ends_there u.net valid s.group h there in
       let lt : h.from < length w.net.ends = subst (λ (z : Net). h.from < length z.ends) known.same.net inside.0 in
@@ -378,35 +382,35 @@ module _ (q k : ℕ) where
       let at : slice_get u.nodes (node_of u.net.ends h.from) ≡ Some f.0 = ap (λ (z : Net). slice_get u.nodes (node_of z.ends h.from)) known.same.net ∙ f.1 in
       let kept : (uu : UnitOf) (p : Part) → get (want st u.net (locals_of u) s h) uu ≡ Some p
       → (r : ResvState) × (get (resvs_of st f.0) (s, ((iface_of u.net.ends h.from, addr_of u.net h.to), uu)) ≡ Some r) × (r.part ≡ p) =
-      (λ uu p e. stood st s h there near f.0 f.1 uu p e) in
+      (λ uu p e. stood st h there near f.0 f.1 uu p e) in
       record {
         facts = f.0;
         node = at;
         wanted = kept;
-        stands = λ uu r e. held st s h there f.0 at kept uu r e;
+        stands = λ uu r e. held st h there f.0 at kept uu r e;
       }
     where
-      stood : (st : StyleKind) (s : Session) (h : LinkHop) → In h (hops_of u.net.hops s.group) → rank u.net s.group h ≤ suc k → (f : Facts) → slice_get u.nodes (node_of w.net.ends h.from) ≡ Some f
+      stood : (st : StyleKind) (h : LinkHop) → In h (hops_of u.net.hops s.group) → rank u.net s.group h ≤ suc k → (f : Facts) → slice_get u.nodes (node_of w.net.ends h.from) ≡ Some f
           → (uu : UnitOf) (p : Part) → get (want st u.net (locals_of u) s h) uu ≡ Some p
           → (r : ResvState) × (get (resvs_of st f) (s, ((iface_of u.net.ends h.from, addr_of u.net h.to), uu)) ≡ Some r) × (r.part ≡ p)
-      stood st s h there near f at uu p e =
-          let is : IsWantedAt st s h uu p w = record {
+      stood st h there near f at uu p e =
+          let is : IsWantedAt st h uu p w = record {
             there = subst (λ (z : Net). In h (hops_of z.hops s.group)) known.same.net there;
             near = subst (λ (z : Net). rank z s.group h ≤ suc k) known.same.net near;
             wanted = subst (λ (z : Net × Locals). get (want st z.0 z.1 s h) uu ≡ Some p) (λ j. (known.same.net j, known.same.locals j)) e;
           } in
-          let x = stand (record { st = st; s = s; h = h; uu = uu; v = p; is = is }) in
-          let key = line_key_of w.net (resv_key w.net (over st s h uu p)) in
+          let x = stand (record { st = st; h = h; uu = uu; v = p; is = is }) in
+          let key = line_key_of w.net (resv_key w.net (over st h uu p)) in
           let r = kept_found (resv_at u (node_of w.net.ends h.from) st key) p x.0 x.1 in
           let found = resv_found u (node_of w.net.ends h.from) st key r.0 r.1 in
           let same : found.0 ≡ f = of_some found.0 f (sym found.1 ∙ at) in
           (r.0, (λ j. get (resvs_of st (sym same j)) (s, ((iface_of (known.same.net j).ends h.from, addr_of (known.same.net j) h.to), uu))) ∙ found.2, sym r.2)
 
-      held : (st : StyleKind) (s : Session) (h : LinkHop) → In h (hops_of u.net.hops s.group) → (f : Facts) → slice_get u.nodes (node_of u.net.ends h.from) ≡ Some f
+      held : (st : StyleKind) (h : LinkHop) → In h (hops_of u.net.hops s.group) → (f : Facts) → slice_get u.nodes (node_of u.net.ends h.from) ≡ Some f
           → ((uu : UnitOf) (p : Part) → get (want st u.net (locals_of u) s h) uu ≡ Some p
           → (r : ResvState) × (get (resvs_of st f) (s, ((iface_of u.net.ends h.from, addr_of u.net h.to), uu)) ≡ Some r) × (r.part ≡ p))
           → (uu : UnitOf) (r : ResvState) → get (resvs_of st f) (s, ((iface_of u.net.ends h.from, addr_of u.net h.to), uu)) ≡ Some r → get (want st u.net (locals_of u) s h) uu ≡ Some r.part
-      held st s h there f at kept uu r e =
+      held st h there f at kept uu r e =
           let valid = g.ready.bounds.net in
           let x = g.ready.resvs.facts st (node_of u.net.ends h.from) f (s, ((iface_of u.net.ends h.from, addr_of u.net h.to), uu)) r at e in
           let inside = ends_there u.net valid s.group h there in
@@ -420,61 +424,61 @@ module _ (q k : ℕ) where
           let one : r ≡ y.0 = of_some r y.0 (sym e ∙ y.1) in
           wanted ∙ ap Some (sym (ap (λ (z : ResvState). z.part) one ∙ y.2))
 
-  exact_up : (rs : List (List Step)) (w : World) → Rounds (machine q) rs w → Hold (machine q) 0 rs w (λ u. IsSteady q u × AreExactTo k u) → Hold (machine q) 2 rs w (AreExactTo (suc k))
+  exact_up : (rs : List (List Step)) (w : World) → Rounds (machine q) rs w → Hold (machine q) 0 rs w (λ u. IsSteady q s u × AreExactTo s k u) → Hold (machine q) 2 rs w (AreExactTo s (suc k))
   exact_up rs w calm steady =
-      let bounds : Hold (machine q) 0 rs w (AreBounds q) = hold_map (machine q) (λ u. IsSteady q u × AreExactTo k u) (AreBounds q) (λ u h. h.0.ready.bounds) 0 rs w steady in
-      hold_map (machine q) (λ u. (IsKnown q w u × IsSteady q u) × ((a : Spot w) → Stands (machine q) (soft_resv q w (resv_key w.net (over a.st a.s a.h a.uu a.v))) a.v u)) (AreExactTo (suc k))
+      let bounds : Hold (machine q) 0 rs w (AreBounds q) = hold_map (machine q) (λ u. IsSteady q s u × AreExactTo s k u) (AreBounds q) (λ u h. h.0.ready.bounds) 0 rs w steady in
+      hold_map (machine q) (λ u. (IsKnown q w u × IsSteady q s u) × ((a : Spot w) → Stands (machine q) (soft_resv q w (resv_key w.net (over a.st a.h a.uu a.v))) a.v u)) (AreExactTo s (suc k))
       (λ u h. exact_at w u h.0.0 h.0.1 h.1) 2 rs w
-      (hold_both (machine q) (λ u. IsKnown q w u × IsSteady q u) (λ u. (a : Spot w) → Stands (machine q) (soft_resv q w (resv_key w.net (over a.st a.s a.h a.uu a.v))) a.v u) 2 rs w
-      (hold_later (machine q) (λ u. IsKnown q w u × IsSteady q u) 0 2 rs w (omega arith)
-      (hold_both (machine q) (IsKnown q w) (IsSteady q) 0 rs w (known_hold q w rs calm bounds) (hold_map (machine q) (λ u. IsSteady q u × AreExactTo k u) (IsSteady q) (λ u h. h.0) 0 rs w steady)))
-      (hold_all (machine q) (λ (a : Spot w) u. Stands (machine q) (soft_resv q w (resv_key w.net (over a.st a.s a.h a.uu a.v))) a.v u) 2 rs w
-      (λ a. unit_kept a.st a.s a.h a.uu a.v w rs calm steady a.is)))
+      (hold_both (machine q) (λ u. IsKnown q w u × IsSteady q s u) (λ u. (a : Spot w) → Stands (machine q) (soft_resv q w (resv_key w.net (over a.st a.h a.uu a.v))) a.v u) 2 rs w
+      (hold_later (machine q) (λ u. IsKnown q w u × IsSteady q s u) 0 2 rs w (omega arith)
+      (hold_both (machine q) (IsKnown q w) (IsSteady q s) 0 rs w (known_hold q w rs calm bounds) (hold_map (machine q) (λ u. IsSteady q s u × AreExactTo s k u) (IsSteady q s) (λ u h. h.0) 0 rs w steady)))
+      (hold_all (machine q) (λ (a : Spot w) u. Stands (machine q) (soft_resv q w (resv_key w.net (over a.st a.h a.uu a.v))) a.v u) 2 rs w
+      (λ a. unit_kept a.st a.h a.uu a.v w rs calm steady a.is)))
 
 -- ---- two rounds at each rank
-pub exact_to : (q k : ℕ) (rs : List (List Step)) (w : World) → Rounds (machine q) rs w → Hold (machine q) 0 rs w (IsSteady q) → Hold (machine q) (2 * k) rs w (AreExactTo k)
-exact_to q zero rs w calm steady =
-    hold_map (machine q) (IsSteady q) (AreExactTo 0) (λ u g st s h there near. let some = rank_some u.net g.ready.bounds.net.loop_free s.group h there in
+pub exact_to : (q : ℕ) (s : Session) (k : ℕ) (rs : List (List Step)) (w : World) → Rounds (machine q) rs w → Hold (machine q) 0 rs w (IsSteady q s) → Hold (machine q) (2 * k) rs w (AreExactTo s k)
+exact_to q s zero rs w calm steady =
+    hold_map (machine q) (IsSteady q s) (AreExactTo s 0) (λ u g st h there near. let some = rank_some u.net g.ready.bounds.net.loop_free s.group h there in
     absurd (omega (arith, some, near))) 0 rs w steady
-exact_to q (suc k) rs w calm steady =
+exact_to q s (suc k) rs w calm steady =
     let e : 2 * k + 2 ≡ 2 * suc k = omega arith in
     rw (← e)
-    (hold_stack (machine q) (λ u. IsSteady q u × AreExactTo k u) (AreExactTo (suc k)) 2 (exact_up q k) (2 * k) rs w calm
-    (hold_both (machine q) (IsSteady q) (AreExactTo k) (2 * k) rs w (hold_later (machine q) (IsSteady q) 0 (2 * k) rs w (omega arith) steady) (exact_to q k rs w calm steady)))
+    (hold_stack (machine q) (λ u. IsSteady q s u × AreExactTo s k u) (AreExactTo s (suc k)) 2 (exact_up q s k) (2 * k) rs w calm
+    (hold_both (machine q) (IsSteady q s) (AreExactTo s k) (2 * k) rs w (hold_later (machine q) (IsSteady q s) 0 (2 * k) rs w (omega arith) steady) (exact_to q s k rs w calm steady)))
 
-pub reservations_are_exact : (q : ℕ) (rs : List (List Step)) (w : World) → Rounds (machine q) rs w → Hold (machine q) 0 rs w (IsSteady q) → Hold (machine q) (2 * longest w.net) rs w AreResvsExact
-reservations_are_exact q rs w calm steady =
+pub reservations_are_exact : (q : ℕ) (s : Session) (rs : List (List Step)) (w : World) → Rounds (machine q) rs w → Hold (machine q) 0 rs w (IsSteady q s) → Hold (machine q) (2 * longest w.net) rs w (AreExactOf s)
+reservations_are_exact q s rs w calm steady =
     let k : ℕ = longest w.net in
-    let bounds : Hold (machine q) 0 rs w (AreBounds q) = hold_map (machine q) (IsSteady q) (AreBounds q) (λ u g. g.ready.bounds) 0 rs w steady in
-    hold_map (machine q) (λ u. (IsKnown q w u × IsSteady q u) × AreExactTo k u) AreResvsExact
-    (λ u h st s hop there.
+    let bounds : Hold (machine q) 0 rs w (AreBounds q) = hold_map (machine q) (IsSteady q s) (AreBounds q) (λ u g. g.ready.bounds) 0 rs w steady in
+    hold_map (machine q) (λ u. (IsKnown q w u × IsSteady q s u) × AreExactTo s k u) (AreExactOf s)
+    (λ u h st hop there.
     let most = (rank_falls u.net h.0.1.ready.bounds.net.loop_free).hops s.group hop there in
     let same : longest u.net ≡ k = ap longest h.0.0.same.net in
-    h.1 st s hop there (omega (arith, most.1, same))) (2 * k) rs w
-    (hold_both (machine q) (λ u. IsKnown q w u × IsSteady q u) (AreExactTo k) (2 * k) rs w
-    (hold_later (machine q) (λ u. IsKnown q w u × IsSteady q u) 0 (2 * k) rs w (omega arith) (hold_both (machine q) (IsKnown q w) (IsSteady q) 0 rs w (known_hold q w rs calm bounds) steady))
-    (exact_to q k rs w calm steady))
+    h.1 st hop there (omega (arith, most.1, same))) (2 * k) rs w
+    (hold_both (machine q) (λ u. IsKnown q w u × IsSteady q s u) (AreExactTo s k) (2 * k) rs w
+    (hold_later (machine q) (λ u. IsKnown q w u × IsSteady q s u) 0 (2 * k) rs w (omega arith) (hold_both (machine q) (IsKnown q w) (IsSteady q s) 0 rs w (known_hold q w rs calm bounds) steady))
+    (exact_to q s k rs w calm steady))
 
 -- from ready worlds without blockades; one round more for what goes where
-pub reservations_become_exact : (q : ℕ) (w : World) (rs : List (List Step)) → Rounds (machine q) rs w → AreHosts w → DemandsFit w.net (locals_of w) → Hold (machine q) 0 rs w (AreBounds q)
-    → Hold (machine q) 0 rs w (λ u. IsSettledSoFar u × IsFreeOfBlockade u)
-    → Hold (machine q) (1 + 2 * longest w.net) rs w AreResvsExact
-reservations_become_exact q w rs calm locals fit bounds so_far =
-    let settled = hold_map (machine q) (λ u. IsSettledSoFar u × IsFreeOfBlockade u) IsSettledSoFar (λ u h. h.0) 0 rs w so_far in
-    let free = hold_map (machine q) (λ u. IsSettledSoFar u × IsFreeOfBlockade u) IsFreeOfBlockade (λ u h. h.1) 0 rs w so_far in
+pub reservations_become_exact : (q : ℕ) (s : Session) (w : World) (rs : List (List Step)) → Rounds (machine q) rs w → AreHosts w → SessionFits w.net (locals_of w) s → Hold (machine q) 0 rs w (AreBounds q)
+    → Hold (machine q) 0 rs w (λ u. IsSettledSoFar u × IsFreeOfBlockadesOf s u)
+    → Hold (machine q) (1 + 2 * longest w.net) rs w (AreExactOf s)
+reservations_become_exact q s w rs calm locals fit bounds so_far =
+    let settled = hold_map (machine q) (λ u. IsSettledSoFar u × IsFreeOfBlockadesOf s u) IsSettledSoFar (λ u h. h.0) 0 rs w so_far in
+    let free = hold_map (machine q) (λ u. IsSettledSoFar u × IsFreeOfBlockadesOf s u) (IsFreeOfBlockadesOf s) (λ u h. h.1) 0 rs w so_far in
     let known = known_hold q w rs calm bounds in
     let valid = (hold_start (machine q) (AreBounds q) rs w bounds).net in
     let firm = firm_hold q w rs calm bounds (hold_map (machine q) IsSettledSoFar ArePathsSound (λ u h. h.0) 0 rs w settled) in
-    let early : Hold (machine q) 0 rs w (λ u. (IsKnown q w u × IsReady q u) × IsFreeOfBlockade u) =
-    hold_both (machine q) (λ u. IsKnown q w u × IsReady q u) IsFreeOfBlockade 0 rs w (hold_both (machine q) (IsKnown q w) (IsReady q) 0 rs w known
-    (ready_hold q w rs calm locals fit bounds settled)) free in
-    hold_stack (machine q) (λ u. IsKnown q w u × IsSteady q u) AreResvsExact (2 * longest w.net)
+    let early : Hold (machine q) 0 rs w (λ u. (IsKnown q w u × IsReady q s u) × IsFreeOfBlockadesOf s u) =
+    hold_both (machine q) (λ u. IsKnown q w u × IsReady q s u) (IsFreeOfBlockadesOf s) 0 rs w (hold_both (machine q) (IsKnown q w) (IsReady q s) 0 rs w known
+    (ready_hold q s w rs calm locals fit bounds settled)) free in
+    hold_stack (machine q) (λ u. IsKnown q w u × IsSteady q s u) (AreExactOf s) (2 * longest w.net)
     (λ us u c h.
-    let net = (hold_start (machine q) (λ x. IsKnown q w x × IsSteady q x) us u h).0.same.net in
-    subst (λ (z : Net). Hold (machine q) (2 * longest z) us u AreResvsExact) net
-    (reservations_are_exact q us u c (hold_map (machine q) (λ x. IsKnown q w x × IsSteady q x) (IsSteady q) (λ x g. g.1) 0 us u h)))
+    let net = (hold_start (machine q) (λ x. IsKnown q w x × IsSteady q s x) us u h).0.same.net in
+    subst (λ (z : Net). Hold (machine q) (2 * longest z) us u (AreExactOf s)) net
+    (reservations_are_exact q s us u c (hold_map (machine q) (λ x. IsKnown q w x × IsSteady q s x) (IsSteady q s) (λ x g. g.1) 0 us u h)))
     1 rs w calm
-    (hold_map (machine q) (λ u. ((IsKnown q w u × IsReady q u) × IsFreeOfBlockade u) × IsAddressed 0 u) (λ u. IsKnown q w u × IsSteady q u)
+    (hold_map (machine q) (λ u. ((IsKnown q w u × IsReady q s u) × IsFreeOfBlockadesOf s u) × IsAddressed 0 u) (λ u. IsKnown q w u × IsSteady q s u)
     (λ u h. (h.0.0.0, record { ready = h.0.0.1; free = h.0.1; addressed = h.1 })) 1 rs w
-    (hold_both (machine q) (λ u. (IsKnown q w u × IsReady q u) × IsFreeOfBlockade u) (IsAddressed 0) 1 rs w
-    (hold_later (machine q) (λ u. (IsKnown q w u × IsReady q u) × IsFreeOfBlockade u) 0 1 rs w (omega arith) early) (addressed q w valid rs w calm firm)))
+    (hold_both (machine q) (λ u. (IsKnown q w u × IsReady q s u) × IsFreeOfBlockadesOf s u) (IsAddressed 0) 1 rs w
+    (hold_later (machine q) (λ u. (IsKnown q w u × IsReady q s u) × IsFreeOfBlockadesOf s u) 0 1 rs w (omega arith) early) (addressed q w valid rs w calm firm)))

@@ -1,5 +1,5 @@
 -- The goal of a node with its lines by interface, as a node's own lines are: it is within the same limits, its books are those
--- of the ends, and where the demands fit the node can hold it.
+-- of the ends, and where a session fits the node can hold it as far as the session goes.
 use Rattle.std.specs.Prelude.{◌≡◌, ℕ, ◌<◌, ◌≤◌, ◌==◌, List, [], ◌∷◌, length, map as each, Option, Some, slice_get, refl}
 use Rattle.std.specs.List.{filter, flat_map}
 use Rattle.std.specs.Ordering.{eq_by_cmp}
@@ -36,6 +36,7 @@ use Rattle.settle_paths.proofs.Known.{of_some}
 use Rattle.settle_paths.proofs.Standing.{some_at, place_in, same_end}
 use Rattle.settle_paths.proofs.PreviousHops.{ends_there}
 use Rattle.settle_resvs.specs.GoalByIface.{at_iface, goal_at, line_over}
+use Rattle.settle_resvs.specs.Sessions.{Carries, SessionFits}
 use Rattle.settle_resvs.proofs.Lists.{each_each, filter_each, filter_same, flat_each, image_size, listed_key, same_bool}
 
 -- ---- limits
@@ -138,29 +139,51 @@ iface_told ends (d ∷ es) inside (suc k) on h =
     let r = iface_told ends es (λ z j. inside z (inr j)) k on rest in
     (r.0, r.1, r.2, r.3, r.4)
 
--- where the demands fit, a node can hold its goal
-pub fit_can_be_held : (q : ℕ) (net : Net) (trees : List (Addr × Addr)) (l : Locals) (n : ℕ) → IsValid net → DemandsFit net l → CanBeHeld (config_of q net trees n) (goal_at net l n)
-fit_can_be_held q net trees l n valid fit = record {
-  limits = λ st. limits_at net st (goal net l n) (fit.limits n st);
-  capacity = λ i on is.
+-- where a session fits, the node of an end that carries it can hold its goal, as far as the session goes there
+pub session_can_be_held : (q : ℕ) (net : Net) (trees : List (Addr × Addr)) (l : Locals) (s : Session) (e : ℕ) → IsValid net → SessionFits net l s → Carries net l s e
+    → CanBeHeld (config_of q net trees (node_of net.ends e)) s (iface_of net.ends e) (goal_at net l (node_of net.ends e))
+session_can_be_held q net trees l s e valid fit carries = record {
+  limits = λ st. limits_at net st (goal net l n) (fit.limits e st carries);
+  capacity = λ on is.
       let r = told i on is in
-      let room = fit.capacity r.0 r.1 r.3 in
+      let room = fit.capacity r.0 r.1 r.3 (subst (Carries net l s) (sym (mine r.0 r.2)) carries) in
       let same : held (book_of_end i (goal_at net l n)) ≡ held (demand_of net l r.0) = ap held (book_at net valid l n i r.0 r.2 ∙ node r.0 i r.2) in
       let cap : r.1.iface.capacity ≡ on.capacity = ap (λ (z : Iface). z.capacity) r.4 in
       omega (arith, room, same, cap);
-  mtu = λ i on k part is got.
+  mtu = λ on k part is of got.
       let r = told i on is in
       let book : book_of_end i (goal_at net l n) ≡ demand_of net l r.0 = book_at net valid l n i r.0 r.2 ∙ node r.0 i r.2 in
-      let room = fit.mtu r.0 r.1 k part r.3 (subst (λ (t : BookTable). get t k ≡ Some part) book got) in
+      let room = fit.mtu r.0 r.1 k part r.3 of (subst (λ (t : BookTable). get t k ≡ Some part) book got) in
       let size' : r.1.iface.mtu ≡ on.mtu = ap (λ (z : Iface). z.mtu) r.4 in
       omega (arith, room, size');
 }
   where
-    inside : (e : ℕ) → In e (ends_of net.ends n) → e < length net.ends
-    inside e i = let k = place_in e (ends_of net.ends n) i in ((interfaces_are_ends net).iface_of_end n k.0 e k.1).0
+    n : ℕ
+    n = node_of net.ends e
 
-    told : (i : ℕ) (on : Iface) → slice_get (config_of q net trees n).ifaces i ≡ Some on → (e : ℕ) × (x : End) × (end_at net.ends n i ≡ Some e) × (slice_get net.ends e ≡ Some x) × (x.iface ≡ on)
-    told i on h = iface_told net.ends (ends_of net.ends n) inside i on h
+    i : ℕ
+    i = iface_of net.ends e
 
-    node : (e i : ℕ) → end_at net.ends n i ≡ Some e → book_of_end e (goal net l n) ≡ demand_of net l e
-    node e i at = ap (λ (m : ℕ). book_of_end e (goal net l m)) (sym ((interfaces_are_ends net).iface_of_end n i e at).1)
+    end_is : end_at net.ends n i ≡ Some e
+    end_is = (interfaces_are_ends net).end_of_iface e (subst (λ (z : ℕ). z < length net.ends) carries.from (ends_there net valid s.group carries.hop carries.there).0)
+
+    mine : (d : ℕ) → end_at net.ends n i ≡ Some d → d ≡ e
+    mine d at = of_some d e (sym at ∙ end_is)
+
+    inside : (d : ℕ) → In d (ends_of net.ends n) → d < length net.ends
+    inside d j = let k = place_in d (ends_of net.ends n) j in ((interfaces_are_ends net).iface_of_end n k.0 d k.1).0
+
+    told : (j : ℕ) (on : Iface) → slice_get (config_of q net trees n).ifaces j ≡ Some on → (d : ℕ) × (x : End) × (end_at net.ends n j ≡ Some d) × (slice_get net.ends d ≡ Some x) × (x.iface ≡ on)
+    told j on h = iface_told net.ends (ends_of net.ends n) inside j on h
+
+    node : (d j : ℕ) → end_at net.ends n j ≡ Some d → book_of_end d (goal net l n) ≡ demand_of net l d
+    node d j at = ap (λ (m : ℕ). book_of_end d (goal net l m)) (sym ((interfaces_are_ends net).iface_of_end n j d at).1)
+
+-- where the demands fit, each session does
+pub each_fits : (net : Net) (l : Locals) → DemandsFit net l → (s : Session) → SessionFits net l s
+each_fits net l fit s = record {
+  capacity = λ e x is carries. fit.capacity e x is;
+  mtu = λ e x k p is of got. fit.mtu e x k p is got;
+  one_style = λ v w i j a b. fit.one_style v w i j (a ∙ sym b);
+  limits = λ e st carries. fit.limits (node_of net.ends e) st;
+}

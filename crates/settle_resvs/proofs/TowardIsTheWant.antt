@@ -1,31 +1,33 @@
 -- What goes toward a previous hop is the want of its hop, where paths are sound and complete, what follows is exact and no blockade
 -- lives.
-use Rattle.std.specs.Prelude.{◌≡◌, ℕ, Bool, true, false, not, List, [], ◌∷◌, ◌++◌, Option, None, Some, slice_get, refl}
+use Rattle.std.specs.Prelude.{◌≡◌, ℕ, Bool, true, false, not, ◌||◌, List, [], ◌∷◌, ◌++◌, Option, Some, slice_get, refl}
 use Rattle.std.specs.List.{filter, flat_map, list_any}
-use Rattle.std.proofs.Common.{sym, ap, subst, ◌∙◌, inl, inr, ⊎_elim, length, arith}
+use Rattle.std.specs.Option.{option_map}
+use Rattle.std.proofs.Common.{sym, ap, subst, ◌∙◌, inl, inr, ⊎_elim}
 use Rattle.rsvp_base.specs.declared.addr.Addr.{Addr}
 use Rattle.rsvp_base.specs.declared.part.Part.{Part}
 use Rattle.rsvp_base.specs.declared.session.Sender.{Sender}
 use Rattle.rsvp_base.specs.declared.style.StyleKind.{StyleKind}
 use Rattle.rsvp_base.specs.declared.style.StyleKind.TheVariants.{Wild, Fixed, Shared}
 use Rattle.rsvp_base.specs.declared.style.Unit.{Unit as UnitOf}
-use Rattle.rsvp_base.specs.Keys.{Keys}
 use Rattle.rsvp_base.specs.Members.{In}
 use Rattle.rsvp_base.specs.Orders.{Names, senders, sessions, styles, units}
 use Rattle.rsvp_base.specs.Sets.{IsWithin, is_none, cut}
-use Rattle.rsvp_base.specs.Table.{Table, empty, get, has, keys, size, values}
+use Rattle.rsvp_base.specs.Table.{get, has, keys, values}
 use Rattle.rsvp_base.specs.TokenBucket.{TokenBucket}
-use Rattle.rsvp_base.proofs.Counts.{found_in, in_found}
+use Rattle.rsvp_base.proofs.Counts.{in_found}
 use Rattle.rsvp_base.proofs.Members.{in_append, in_each, in_filter, in_flat_map, to_each}
 use Rattle.rsvp_base.proofs.SetLaws.{and_both, and_made, has-cut}
-use Rattle.rsvp_base.proofs.Tables.{same_table, tied_same}
+use Rattle.rsvp_base.proofs.Tables.{tied_same}
 use Rattle.flow_merge.specs.FlowOrder.{IsAtMost}
 use Rattle.flow_merge.proofs.Lattice.{at_most_itself}
 use Rattle.style_rules.specs.CutLaws.{some_within, part_of_some, cut_of}
 use Rattle.style_rules.specs.Lines.{LineKey}
 use Rattle.style_rules.specs.PartLaws.{part_at_most_itself}
 use Rattle.style_rules.specs.Parts.{has_name, part_cut, IsPartAtMost, IsOfStyle}
-use Rattle.style_rules.specs.Toward.{Request, parts_of}
+use Rattle.style_rules.specs.declared.target.Target.{Target}
+use Rattle.style_rules.specs.declared.target.Target.TheVariants as target
+use Rattle.style_rules.specs.Toward.{Request, is_walled, parts_of}
 use Rattle.style_rules.proofs.Merges.{merges_same}
 use Rattle.style_rules.proofs.StyleLaws.{cut_of_style, within_unit}
 use Rattle.style_rules.proofs.Towards.{toward_open}
@@ -33,10 +35,10 @@ use Rattle.laws_inputs.specs.FactLaws.{IsResvRequest, IsWantRequest}
 use Rattle.laws_inputs.proofs.Knowing.{known_and_via}
 use Rattle.laws_inputs.proofs.Requesting.{requests_and_toward}
 use Rattle.laws_inputs.proofs.Tests.{came_tested}
-use Rattle.router_rules.specs.Facts.{Facts, Walls, resvs_of}
+use Rattle.router_rules.specs.Facts.{Blockade, Facts, Walls, resvs_of}
 use Rattle.router_rules.specs.Known.{Lane, names_via, names_via_where}
 use Rattle.router_rules.specs.NodeConfig.{NodeConfig, goes_out}
-use Rattle.router_rules.specs.Requests.{is_blockaded, requests, toward, want_part}
+use Rattle.router_rules.specs.Requests.{is_blockaded, requests, toward, wall_at, want_part}
 use Rattle.tree_model.specs.declared.hops.LinkHop.{LinkHop}
 use Rattle.tree_model.specs.declared.locals.LocalWant.{LocalWant}
 use Rattle.tree_model.specs.Goals.{addr_of}
@@ -58,42 +60,31 @@ use Rattle.settle_resvs.proofs.WantStyles.{own_style, want_parts}
 use Rattle.settle_paths.specs.PreviousHops.{IsPrevious}
 use Rattle.settle_paths.proofs.PreviousHops.{comes_over, via_is}
 use Rattle.settle_resvs.specs.Below.{AreSoundBelow}
+use Rattle.settle_resvs.specs.Sessions.{HasNoBlockade}
 use Rattle.settle_resvs.proofs.TowardWants.{stands_above}
 use Rattle.rsvp_base.specs.Styles.{part_unit}
-use Rattle.style_rules.specs.Targets.{wall_keys}
 
 not_false : (b : Bool) → not b ≡ true → b ≡ false
 not_false true e = cc
 not_false false e = refl
 
 -- ---- without blockades
-no_rows : {K X : Type 0} (o : Keys K) (t : Table o X) → size t ≡ 0 → t ≡ empty
-no_rows {K} {X} o t e = same_table o t empty (λ k. none k (get t k) refl)
-  where
-    none : (k : K) (v : Option X) → get t k ≡ v → get t k ≡ None
-    none k None f = f
-    none k (Some x) f = absurd (by t.rows refl (found_in o t k x f))
-      where
-        by : (rows : List (K × X)) → t.rows ≡ rows → In (k, x) t.rows → ⊥
-        by [] g i = subst (λ (z : List (K × X)). In (k, x) z) g i
-        by (r ∷ rs) g i = let many = ap length g in absurd (omega (arith, many, e))
+module _ (l : Lane) (walls : Walls) (none : HasNoBlockade l.session walls) where
+  open_at : (t : Target) (flow : TokenBucket) → is_walled flow (wall_at walls (l.session, t)) ≡ false
+  open_at t flow = ap (λ (b : Option Blockade). is_walled flow (option_map (λ (z : Blockade). z.wall) b)) (none t)
 
-nobody_walled : (xs : List Sender) → list_any (λ (x : Sender). false) xs ≡ false
-nobody_walled [] = refl
-nobody_walled (x ∷ xs) = nobody_walled xs
+  nobody_walled : (flow : TokenBucket) (xs : List Sender) → list_any (λ (x : Sender). is_walled flow (wall_at walls (l.session, target.Sender x))) xs ≡ false
+  nobody_walled flow [] = refl
+  nobody_walled flow (x ∷ xs) = ap (λ (b : Bool). b || list_any (λ (z : Sender). is_walled flow (wall_at walls (l.session, target.Sender z))) xs) (open_at (target.Sender x) flow) ∙ nobody_walled flow xs
 
-abbrev nothing : Walls
-nothing = empty
+  pub open_one : (st : StyleKind) (p : Part) → is_blockaded st walls l p ≡ false
+  open_one Wild p = open_at (target.Hop l.hop.0 l.hop.1) p.flow
+  open_one Fixed p = nobody_walled p.flow (keys p.senders)
+  open_one Shared p = nobody_walled p.flow (keys p.senders)
 
-open_one : (st : StyleKind) (l : Lane) (p : Part) → is_blockaded st nothing l p ≡ false
-open_one Wild l p = refl
-open_one Fixed l p = nobody_walled (keys p.senders)
-open_one Shared l p = nobody_walled (keys p.senders)
-
-pub unmarked : (p : NodeConfig) (f : Facts) (l : Lane) → size f.walls ≡ 0 → (r : Request) → In r (requests p f l) → r.blockaded ≡ false
+pub unmarked : (p : NodeConfig) (f : Facts) (l : Lane) → HasNoBlockade l.session f.walls → (r : Request) → In r (requests p f l) → r.blockaded ≡ false
 unmarked p f l none r i =
-    let walls : f.walls ≡ nothing = no_rows wall_keys f.walls none in
-    let shut : is_blockaded l.style f.walls l r.part ≡ false = ap (λ (z : Walls). is_blockaded l.style z l r.part) walls ∙ open_one l.style l r.part in
+    let shut : is_blockaded l.style f.walls l r.part ≡ false = open_one l f.walls none l.style r.part in
     ⊎_elim (λ (x : IsResvRequest p f l r). x.blockaded ∙ shut) (λ (x : IsWantRequest f l r). x.blockaded ∙ shut) ((requests_and_toward.each p f l r).0 i)
 
 -- a wildcard want stands for the names that are given, another one is cut to them, at a node as over a hop
@@ -102,8 +93,8 @@ same_part Wild ns p = refl
 same_part Fixed ns p = refl
 same_part Shared ns p = refl
 
-module _ (q : ℕ) (w : World) (bounds : AreBounds q w) (paths : ArePathsSound w) (complete : ArePathsComplete w) (n : ℕ) (f : Facts) (at : slice_get w.nodes n ≡ Some f) (free : size f.walls ≡ 0)
-    (l : Lane) (h : LinkHop) (is : IsPrevious w.net n l.session l.hop h)
+module _ (q : ℕ) (w : World) (bounds : AreBounds q w) (paths : ArePathsSound w) (complete : ArePathsComplete w) (n : ℕ) (f : Facts) (at : slice_get w.nodes n ≡ Some f)
+    (l : Lane) (free : HasNoBlockade l.session f.walls) (h : LinkHop) (is : IsPrevious w.net n l.session l.hop h)
     (low : AreSoundBelow l.style w n f l.session (rank w.net l.session.group h)) (exact : (h' : LinkHop) → Follows w.net l.session.group h h' → In h' (followers w.net l.session.group h)
     → IsExact l.style w l.session h') where
   abbrev place : NodeConfig

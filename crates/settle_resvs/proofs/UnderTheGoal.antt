@@ -28,7 +28,7 @@ use Rattle.tree_model.proofs.Following.{number_same}
 use Rattle.tree_model.proofs.Ifaces.{interfaces_are_ends}
 use Rattle.tree_model.specs.Fuel.{by_fuel}
 use Rattle.tree_model.specs.declared.locals.LocalWant.{LocalWant}
-use Rattle.tree_model.specs.Goals.{DemandsFit, end_pairs, goal, hops_in_order, hop_lines, sessions_named}
+use Rattle.tree_model.specs.Goals.{end_pairs, goal, hops_in_order, hop_lines, sessions_named}
 use Rattle.tree_model.specs.Wants.{Locals, names, as_list, wanted_of, is_wanted_at, own, brought, want_from, want}
 use Rattle.laws_steps.specs.AcceptingLaws.{HasPlace}
 use Rattle.router_rules.specs.Asking.{Asker}
@@ -40,6 +40,7 @@ use Rattle.settle_paths.specs.Sound.{IsSoundPart, IsSoundResv}
 use Rattle.settle_paths.specs.Worlds.{World}
 use Rattle.settle_resvs.specs.GoalByIface.{at_iface, goal_at, line_over}
 use Rattle.settle_resvs.specs.Laws.{IsWantedBySomeone}
+use Rattle.settle_resvs.specs.Sessions.{SessionFits}
 use Rattle.settle_resvs.proofs.Lists.{key_listed}
 
 -- ---- a want needs a local want
@@ -67,13 +68,13 @@ module _ (st : StyleKind) (net : Net) (l : Locals) (s : Session) where
   unfolding want
   want_needs h u p e = needs (rank net s.group h) h u p e
 
--- where the demands fit, what is wanted of a session has one style
-pub one_style : (net : Net) (l : Locals) → DemandsFit net l → (s : Session) (a b : StyleKind) (h g : LinkHop) (u v : UnitOf) (p r : Part) → get (want a net l s h) u ≡ Some p
+-- where a session fits, what is wanted of it has one style
+pub one_style : (net : Net) (l : Locals) (s : Session) → SessionFits net l s → (a b : StyleKind) (h g : LinkHop) (u v : UnitOf) (p r : Part) → get (want a net l s h) u ≡ Some p
     → get (want b net l s g) v ≡ Some r → a ≡ b
-one_style net l fit s a b h g u v p r e f =
+one_style net l s fit a b h g u v p r e f =
     let x = want_needs a net l s h u p e in
     let y = want_needs b net l s g v r f in
-    sym x.style ∙ fit.one_style x.want y.want x.there y.there (x.session ∙ sym y.session) ∙ y.style
+    sym x.style ∙ fit.one_style x.want y.want x.there y.there x.session y.session ∙ y.style
 
 -- ---- lines of the goal
 a_style : (st : StyleKind) → In st (Wild ∷ Fixed ∷ Shared ∷ [])

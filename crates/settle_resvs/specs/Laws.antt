@@ -48,8 +48,8 @@ pub record WantsHaveStyles (net : Net) (l : Locals) : Type 0 where
   pub needs : (st : StyleKind) (s : Session) (h : LinkHop) (u : UnitOf) (p : Part) → get (want st net l s h) u ≡ Some p → IsWantedBySomeone st l s
 
 -- what is wanted of a session, over whatever hop, has one style
-abbrev pub HasOneStyle : Net → Locals → Type 0
-HasOneStyle net l = (s : Session) (a b : StyleKind) (h g : LinkHop) (u v : UnitOf) (p r : Part) → get (want a net l s h) u ≡ Some p → get (want b net l s g) v ≡ Some r → a ≡ b
+abbrev pub HasOneStyle : Net → Locals → Session → Type 0
+HasOneStyle net l s = (a b : StyleKind) (h g : LinkHop) (u v : UnitOf) (p r : Part) → get (want a net l s h) u ≡ Some p → get (want b net l s g) v ≡ Some r → a ≡ b
 
 -- ---- the goal by interface: within the limits of the goal, and the book of an interface is that of its end
 pub record IsTheGoalByIface (net : Net) (l : Locals) (n : ℕ) : Type 0 where

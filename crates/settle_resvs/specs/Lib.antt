@@ -7,4 +7,5 @@ pub mod Below
 pub mod LeftOverExample
 pub mod BlockadeExample
 pub mod Toward
+pub mod Sessions
 pub use Rattle.settle_paths.specs.Example

@@ -1,7 +1,6 @@
 -- What goes toward a hop is its want.
 use Rattle.std.specs.Prelude.{◌≡◌, ℕ, Some, slice_get}
 use Rattle.rsvp_base.specs.Members.{In}
-use Rattle.rsvp_base.specs.Table.{size}
 use Rattle.router_rules.specs.Facts.{Facts}
 use Rattle.router_rules.specs.Known.{Lane}
 use Rattle.router_rules.specs.Requests.{toward}
@@ -13,12 +12,13 @@ use Rattle.network_model.specs.Sound.{IsExact}
 use Rattle.network_model.specs.Worlds.{World, config_of}
 use Rattle.settle_paths.specs.PreviousHops.{IsPrevious}
 use Rattle.settle_resvs.specs.Below.{AreSoundBelow}
+use Rattle.settle_resvs.specs.Sessions.{HasNoBlockade}
 
--- from a node without blockades toward a previous hop, whose hop this is, where the reservations over the hops that follow are
+-- from a node without blockades of the session toward a previous hop, whose hop this is, where the reservations over the hops that follow are
 -- sound and exact
 abbrev pub TowardIsTheWant : ℕ → World → Type 0
 TowardIsTheWant q w =
-    (n : ℕ) (f : Facts) (l : Lane) (h : LinkHop) → slice_get w.nodes n ≡ Some f → size f.walls ≡ 0 → IsPrevious w.net n l.session l.hop h
+    (n : ℕ) (f : Facts) (l : Lane) (h : LinkHop) → slice_get w.nodes n ≡ Some f → HasNoBlockade l.session f.walls → IsPrevious w.net n l.session l.hop h
     → AreSoundBelow l.style w n f l.session (rank w.net l.session.group h)
     → ((h' : LinkHop) → Follows w.net l.session.group h h' → In h' (followers w.net l.session.group h) → IsExact l.style w l.session h')
     → toward (config_of q w.net w.trees n) f l ≡ want l.style w.net (locals_of w) l.session h
