@@ -1,6 +1,7 @@
 //! A network: routers, links, the datagrams in flight, and what is written of them.
 use crate::events::*;
 use crate::messages::*;
+use crate::node::Watched;
 use crate::router::*;
 use crate::values::*;
 use std::collections::{HashMap, VecDeque};
@@ -39,6 +40,7 @@ pub struct Network {
     pub text: String,
     pub ids: u64,
     pub events: Option<Events>,
+    pub watched: Option<Watched>,
 }
 
 pub fn dotted(a: Addr) -> String {
@@ -121,6 +123,7 @@ impl Network {
         };
         self.delivered += 1;
         let (node, iface) = (self.ends[p.end].node, self.ends[p.end].iface);
+        self.watch_arrival(node, iface, p.dst, &p.bytes);
         let message = decode(&p.bytes);
         let heard = match &message {
             Ok(m) => self.nodes[node].arrive(iface, p.dst, m, out),
@@ -157,6 +160,7 @@ impl Network {
             self.passed(piece);
             for node in 0..self.nodes.len() {
                 let word = self.next_word();
+                self.watch_wait(node, piece, word);
                 self.nodes[node].wait(piece, word, out);
                 self.send(node, out);
             }
@@ -226,6 +230,7 @@ impl Network {
             node.period = self.period;
             node.routes = routes;
         }
+        self.watch_opening();
     }
 
     pub fn add_node(&mut self, name: &str) {

@@ -1,6 +1,7 @@
 //! Scripts that are right: each line is carried out as it is read.
 use crate::events::*;
 use crate::network::*;
+use crate::node::Watched;
 use crate::router::*;
 use crate::values::*;
 use std::io::Read;
@@ -248,6 +249,7 @@ fn line(net: &mut Network, part: &mut u8, words: &[&str], out: &mut Vec<Send>) {
         "clear" => {
             let n = node(net, 1);
             net.nodes[n].clear();
+            net.watch_clear(n);
         }
         "inject" => {
             let digits = words[3].as_bytes().chunks(2);
@@ -268,14 +270,15 @@ fn line(net: &mut Network, part: &mut u8, words: &[&str], out: &mut Vec<Send>) {
     }
 }
 
-// The text, and whether the run was crowded; the line that crowds it writes nothing. Or the events in place of the text.
-pub fn replay(events: Option<Events>) -> (String, bool) {
+// Carries out the script on standard input; the line that crowds the network writes nothing.
+fn run(events: Option<Events>, watched: Option<Watched>) -> Network {
     let mut input = String::new();
     std::io::stdin().read_to_string(&mut input).unwrap();
     let mut net = Network {
         period: 30000,
         x: 1,
         events,
+        watched,
         ..Network::default()
     };
     let (mut part, mut out) = (1, Vec::new());
@@ -302,6 +305,17 @@ pub fn replay(events: Option<Events>) -> (String, bool) {
         }
     }
     net.end_event();
+    net
+}
+
+// The text, and whether the run was crowded. Or the events in place of the text.
+pub fn replay(events: Option<Events>) -> (String, bool) {
+    let net = run(events, None);
     let text = net.events.map_or(net.text, |e| e.text);
     (text, net.crowded)
+}
+
+// What comes to a router in the run, as frames; none where no router has this number, or the script has no line behind its network.
+pub fn stream(node: usize) -> Option<Vec<u8>> {
+    run(None, Some(Watched::new(node))).watched?.frames()
 }
