@@ -1,0 +1,94 @@
+//! A frame is read.
+ghost use Rattle.std.specs.Prelude.{◌≡◌, ◌≤◌, ◌<◌, ◌+◌, ◌++◌, [], List, ℕ, length, IfOk, OnErr, vec_len, vec_capacity};
+ghost use Rattle.std.specs.Io.KnownBytes.{Consumes, IsAtEnd};
+ghost use Rattle.byte_streams.specs.Faults.{Rose};
+ghost use Rattle.node_frames.specs.Layout.{length_at};
+ghost use Rattle.node_stream.specs.Reading.{IsRead};
+
+use byte_streams::{Failed, Source};
+use node_frames::length_at;
+
+// The bytes of a head.
+const HEAD: usize = 3;
+
+/// What came of a frame.
+#[derive(Clone, Copy, Debug, PartialEq, Eq)]
+pub enum Read {
+    /// All of it.
+    Whole,
+    /// A part of it, or nothing: the input is at its end.
+    Ended,
+    /// A part of it, or nothing: a call of the source failed.
+    Failed,
+}
+
+/// Reads a frame in place of what `frame` holds, which has room for one. No byte behind it is asked for, and no more than `piece` has
+/// room for at a time.
+///
+/// `Failed` comes only where the source's count of faults rose in this call, or stands at its last value.
+pub(crate) fn read_frame<S: Source>(source: &mut S, piece: &mut [u8], frame: &mut Vec<u8>) -> Read
+    requires piece { 0 < length piece.old }
+    requires room { 65538 ≤ vec_capacity frame.old }
+    ensures took { Consumes (S.left source.old) (S.left source.new) frame.new.items }
+    ensures read { IsRead result frame.new.items (S.left source.new) }
+    ensures most { vec_len frame.new ≤ 65538 }
+    ensures room { 65538 ≤ vec_capacity frame.new }
+    ensures piece { length piece.new ≡ length piece.old }
+    ensures fault { result ≡ Read.Failed → Rose (S.faults source.old) (S.faults source.new) }
+    ensures later { S.faults source.old ≤ S.faults source.new }
+{
+    frame.clear();
+    loop {
+        let wanted = wanted(frame.as_slice());
+        if frame.len() == wanted {
+            return Read::Whole;
+        }
+        match read_piece(source, piece, frame, wanted) {
+            Ok(0) => return Read::Ended,
+            Ok(_) => {}
+            Err(_) => return Read::Failed,
+        }
+    }
+}
+
+// How many bytes a frame has that begins so, as far as that is known: the head first.
+fn wanted(front: &[u8]) -> usize
+    ensures head { length front.now < 3 → result ≡ 3 }
+    ensures all { 3 ≤ length front.now → result ≡ 3 + length_at front.now }
+    ensures most { result ≤ 65538 }
+    ensures some { 3 ≤ result }
+{
+    if front.len() < HEAD {
+        return HEAD;
+    }
+    HEAD + length_at(front)
+}
+
+// Takes a piece, and adds it to the frame, up to so many bytes.
+fn read_piece<S: Source>(
+    source: &mut S,
+    piece: &mut [u8],
+    frame: &mut Vec<u8>,
+    wanted: usize,
+) -> Result<usize, Failed>
+    requires piece { 0 < length piece.old }
+    requires less { vec_len frame.old < wanted }
+    requires room { wanted ≤ vec_capacity frame.old }
+    ensures read { IfOk result (λ n.
+        (bs : List ℕ) × Consumes (S.left source.old) (S.left source.new) bs
+        × (frame.new.items ≡ frame.old.items ++ bs) × (n ≡ length bs)) }
+    ensures most { vec_len frame.new ≤ wanted }
+    ensures end { IfOk result (λ n. n ≡ 0 → IsAtEnd (S.left source.new)) }
+    ensures stopped { OnErr result (Consumes (S.left source.old) (S.left source.new) []) }
+    ensures kept { OnErr result (frame.new.items ≡ frame.old.items) }
+    ensures room { vec_capacity frame.old ≤ vec_capacity frame.new }
+    ensures piece { length piece.new ≡ length piece.old }
+    ensures fault { OnErr result (Rose (S.faults source.old) (S.faults source.new)) }
+    ensures later { S.faults source.old ≤ S.faults source.new }
+{
+    let room = piece.len().min(wanted - frame.len());
+    let part = &mut piece[..room];
+    let count = source.take(part)?;
+    let _ = frame.extend_from_slice(&part[..count]);
+    Ok(count)
+}
