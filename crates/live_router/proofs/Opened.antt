@@ -1,8 +1,9 @@
 -- Routers of a network before anything happened.
-use Rattle.std.specs.Prelude.{◌≡◌, ℕ, List, [], ◌∷◌, map as each, refl}
+use Rattle.std.specs.Prelude.{◌≡◌, ℕ, List, [], ◌∷◌, map as each, refl, IfOk, Result, Ok, Err}
 use Rattle.std.specs.List.{range_with_len}
 use Rattle.std.proofs.Common.{ap, sym, subst, ◌∙◌}
 use Rattle.std.proofs.lemmas.List.Elements.{All-nil, All-cons, All-head, All-tail}
+use Rattle.rsvp_base.specs.declared.room.NoMemory.{NoMemory}
 use Rattle.stale_state.specs.Kept.{stale_of}
 use Rattle.stale_state.specs.declared.fact.LeftOver.{LeftOver}
 use Rattle.live_router.specs.SeenNode.{seen_node}
@@ -25,12 +26,20 @@ pub first_of : (q : ℕ) (net : Net) (ss : List (ℕ × Stale)) (rs : List State
 first_of q net ss rs first p quarter wires stale =
     first ∙ (λ i. each (first_at (sym quarter i) (sym wires i) (sym stale i)) (range_with_len 0 (sym wires i).nodes))
 
-nothing_yet : (p : NodeConfig) → facts_at 0 (no_state p) ≡ no_facts
+nothing_yet : (p : NodeConfig) (c : ℕ) → facts_at c (no_state p) ≡ no_facts
 unfolding facts_at
-nothing_yet p = refl
+nothing_yet p c = refl
+
+none_at : (p : NodeConfig) (r : State) → r ≡ no_state p → (c : ℕ) → facts_at c r ≡ no_facts
+none_at p r e c = ap (λ (s : State). facts_at c s) e ∙ nothing_yet p c
 
 pub none_kept : (p : NodeConfig) (r : State) → r ≡ no_state p → facts_at 0 r ≡ no_facts
-none_kept p r e = ap (λ (s : State). facts_at 0 s) e ∙ nothing_yet p
+none_kept p r e = none_at p r e 0
+
+-- if it could be opened
+pub none_if_opened : (r : Result State NoMemory) (p : NodeConfig) → IfOk r (λ s. s ≡ no_state p) → IfOk r (λ s. (c : ℕ) → facts_at c s ≡ no_facts)
+none_if_opened (Ok s) p e = none_at p s e
+none_if_opened (Err e) p is = tt
 
 -- ---- those of one node among all
 module _ (q : ℕ) (net : Net) (n : ℕ) where

@@ -12,6 +12,7 @@ mod network;
 mod opens;
 mod place;
 mod router;
+mod serves;
 mod stale;
 
 pub use leaving::left_at;
