@@ -2,16 +2,11 @@
 //! shows messages in words; or grows a network from a seed, runs it and writes a summary.
 //!
 //! Its promises are the clauses of `run` (`rsvpd_run`), which it calls with the words of the command line, standard input and
-//! standard output. How far many rounds are it tells on a terminal (`progress`).
+//! standard output. How far many rounds are it tells on a terminal (`Progress`).
 #![tactic(auto)]
 
-mod noting;
-mod progress;
-
-use crate::noting::Noting;
-use crate::progress::Progress;
 use byte_streams::{StdSink, StdSource};
-use rsvpd_run::{Status, run};
+use rsvpd_run::{Noting, Progress, Status, run};
 use std::process::ExitCode;
 use std::{env, io};
 

@@ -7,6 +7,7 @@
 #![tactic(auto)]
 
 mod books;
+mod both;
 mod flying;
 mod nowhere;
 mod recorder;

@@ -8,23 +8,25 @@ ghost use Rattle.script_run.specs.Endings.{ComesTo, IsOrNoMemory, IsRun};
 ghost use Rattle.script_run.specs.declared.ending.Ending.{Ending as AnEnding};
 ghost use Rattle.script_run.specs.Standing.{IsNetworkOf};
 
+use crate::both::Both;
 use crate::nowhere::Nowhere;
 use crate::recorder::Recorder;
 use byte_streams::{Sink, Source};
-use network_replay::World;
+use network_replay::{Watch, World};
 use script_run::{Checks, Ending, Opens, run_script};
 use std::alloc::Global;
 
 /// Runs a script of the source line by line, as `run_script` does, and writes the events of the run, but for that of its end, which
 /// `close` of the recorder writes. The ending is `WriteFault` where an event could not be written, and may be `NoMemory` where there
 /// was no room for one; else it is that of the run, which is said at `run_lines`. Where it is done and the script has an event, `last`
-/// holds the network in which the run ended. `advice` becomes the text that tells what is wrong with the bad line; where no line is bad,
-/// or memory runs out as it is written, it is empty.
-pub fn write_events<C: Checks + Drop, R: Opens, S: Source, K: Sink + Drop>(
+/// holds the network in which the run ended. `watch` sees what the recorder sees. `advice` becomes the text that tells what is wrong
+/// with the bad line; where no line is bad, or memory runs out as it is written, it is empty.
+pub fn write_events<C: Checks + Drop, R: Opens, S: Source, K: Sink + Drop, W: Watch>(
     alloc: Global,
     checker: C,
     source: &mut S,
     recorder: &mut Recorder<K>,
+    watch: &mut W,
     last: &mut Option<World<R>>,
     advice: &mut Vec<u8>,
 ) -> Ending
@@ -40,12 +42,16 @@ pub fn write_events<C: Checks + Drop, R: Opens, S: Source, K: Sink + Drop>(
         → (Rose (S.faults source.old) (S.faults source.new) → ⊥) → (result ≡ Ending.WriteFault) ⊎ IsOrNoMemory wanted result }
 {
     let mut nowhere = Nowhere;
-    let ending = run_script::<C, R, S, Nowhere, Recorder<K>>(
+    let mut both: Both<&mut Recorder<K>, &mut W> = Both {
+        first: recorder,
+        second: watch,
+    };
+    let ending = run_script(
         alloc,
         checker,
         source,
         &mut nowhere,
-        recorder,
+        &mut both,
         last,
         advice,
     );

@@ -1,41 +1,53 @@
 //! How far a run is, in a line on the terminal.
 
-use rsvpd_run::Watch;
+use command_run::Watch;
 use std::io::{Eprint, IsTerminal};
 use std::time::{Duration, Instant};
 
 // So many milliseconds at least lie between two lines.
 const PAUSE: u64 = 250;
 
-/// Tells on standard error how far the rounds of an event are: a line, at most four times a second, each in the place of the one
-/// before; it is taken away when they are over. Where standard error is no terminal, or there is no clock, nothing is told. A line
+/// Writes on standard error how far the rounds of an event are: a line, at most four times a second, each in the place of the one
+/// before; it is taken away when they are over. Where standard error is no terminal, or there is no clock, nothing is written. A line
 /// that cannot be written changes nothing.
 #[derive(Drop)]
-pub(crate) struct Progress {
+pub struct Progress {
     rt: HostRuntime,
-    // When it told last, or was opened; `None` where nothing is to be told.
-    told: Option<Instant>,
+    // When it wrote last, or was opened; `None` where nothing is to be written.
+    wrote: Option<Instant>,
     // Whether a line stands on the terminal.
     stands: bool,
 }
 
 impl Progress {
-    /// It has told nothing yet.
-    pub(crate) fn open(rt: HostRuntime) -> Progress {
-        let told = if rt.stderr().is_terminal() {
+    /// It has written nothing yet.
+    pub fn open(rt: HostRuntime) -> Progress {
+        let wrote = if rt.stderr().is_terminal() {
             Instant::now(&rt).ok()
         } else {
             None
         };
         Progress {
             rt,
-            told,
+            wrote,
             stands: false,
         }
     }
 
+    /// The same, for a run whose text comes all the while: nothing is written where that goes to a terminal too.
+    pub fn open_beside(rt: HostRuntime) -> Progress {
+        if rt.stdout().is_terminal() {
+            return Progress {
+                rt,
+                wrote: None,
+                stands: false,
+            };
+        }
+        Progress::open(rt)
+    }
+
     /// Takes its line away, if one stands.
-    pub(crate) fn clear(&mut self) {
+    pub fn clear(&mut self) {
         if self.stands {
             let _ = eprint!(self.rt; "\r\x1b[K");
             self.stands = false;
@@ -49,16 +61,16 @@ impl Watch for Progress {
             self.clear();
             return;
         }
-        let Some(told) = self.told else {
+        let Some(wrote) = self.wrote else {
             return;
         };
         let Ok(now) = Instant::now(&self.rt) else {
             return;
         };
-        if now.duration_since(told) < Duration::from_millis(PAUSE) {
+        if now.duration_since(wrote) < Duration::from_millis(PAUSE) {
             return;
         }
-        self.told = Some(now);
+        self.wrote = Some(now);
         self.stands = true;
         let _ = eprint!(self.rt; "\rrounds {done} of {all}, {delivered} deliveries");
     }

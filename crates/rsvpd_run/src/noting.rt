@@ -5,14 +5,14 @@ use std::io::{self, Read, Write};
 
 /// A device, and where the last error of its calls is kept.
 #[derive(Drop)]
-pub(crate) struct Noting<'a, D> {
+pub struct Noting<'a, D> {
     inner: D,
     error: &'a mut Option<io::Error>,
 }
 
 impl<'a, D> Noting<'a, D> {
     /// The device, none of whose calls failed yet.
-    pub(crate) fn new(inner: D, error: &'a mut Option<io::Error>) -> Noting<'a, D> {
+    pub fn new(inner: D, error: &'a mut Option<io::Error>) -> Noting<'a, D> {
         Noting { inner, error }
     }
 }
