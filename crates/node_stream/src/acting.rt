@@ -85,13 +85,27 @@ fn serve_contents<R: Serves>(
 {
     match router {
         Some(standing) => serve_open(standing, *limits, kind, contents, out),
-        None => {
-            let (opened, its) = open_by::<R>(alloc, kind, contents)?;
-            *router = Some(opened);
-            *limits = its;
-            Ok(())
-        }
+        None => open_into::<R>(alloc, router, limits, kind, contents),
     }
+}
+
+// Opens the router. It stays out of line, since a loop over frames would clear its room, which is that of a router, at each of them.
+#[cold]
+#[inline(never)]
+fn open_into<R: Serves>(
+    alloc: Global,
+    router: &mut Option<R>,
+    limits: &mut Limits,
+    kind: u8,
+    contents: &[u8],
+) -> Result<(), Stop>
+    ensures opened { (c : ℕ) → OnOk result (IsServedAs R.seen None router.new limits.new c kind contents.now nothing_posted) }
+    ensures stopped { IfErr result (IsStopped None kind contents.now) }
+{
+    let (opened, its) = open_by::<R>(alloc, kind, contents)?;
+    *router = Some(opened);
+    *limits = its;
+    Ok(())
 }
 
 // A router without facts, where the frame that opens it says, and what the frames behind it are measured by.

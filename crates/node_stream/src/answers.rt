@@ -4,8 +4,9 @@ ghost use Rattle.laws_counts.specs.CountLaws.{most_sends};
 ghost use Rattle.node_frames.specs.Answers.{heard_frame};
 ghost use Rattle.node_stream.specs.Posting.{nothing_posted, with_post};
 
-use message_encode::encode;
+use message_encode::encode_into;
 use node_frames::{put_heard, put_sent};
+use object_fields::Packet;
 use router_rules::{Heard, Outbox};
 use rsvp_base::{Addr, NoMemory};
 use rsvp_messages::Message;
@@ -24,6 +25,8 @@ const ROOM: usize = 1032 * (MOST_SENDS + 1);
 pub struct Answers {
     bytes: Vec<u8>,
     count: usize,
+    // The message that was put last: it is written here, and then copied.
+    packet: Packet,
 }
 
 impl Model for Answers {
@@ -44,8 +47,8 @@ impl Outbox for Answers {
     fn post(&mut self, iface: u8, dst: Addr, message: &Message, refresh: bool) {
         let _ = refresh;
         if self.count < MOST_SENDS {
-            let packet = encode(message);
-            put_sent(&mut self.bytes, iface, dst, packet.bytes());
+            encode_into(message, &mut self.packet);
+            put_sent(&mut self.bytes, iface, dst, self.packet.bytes());
             self.count += 1;
         }
     }
@@ -57,7 +60,11 @@ impl Answers {
         ensures { IfOk result (λ a. a ≡ nothing_posted) }
     {
         let bytes = Vec::with_capacity(alloc, ROOM)?;
-        Ok(Answers { bytes, count: 0 })
+        Ok(Answers {
+            bytes,
+            count: 0,
+            packet: Packet::new(),
+        })
     }
 
     /// None again.
