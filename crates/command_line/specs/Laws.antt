@@ -1,7 +1,7 @@
 -- Laws of the command line.
 use Rattle.std.specs.Prelude.{◌≡◌, [], ◌∷◌, None, Some, codes}
 use Rattle.command_line.specs.Orders.{order_of}
-use Rattle.command_line.specs.declared.order.Order.TheVariants.{Replay, Demand, Show, Grow, Police}
+use Rattle.command_line.specs.declared.order.Order.TheVariants.{Replay, Demand, Show, Grow, Node, Police}
 
 -- the words that a user writes are the orders that they name
 pub record EachVerbIsAnOrder : Type 0 where
@@ -9,6 +9,7 @@ pub record EachVerbIsAnOrder : Type 0 where
   pub demand : order_of (codes "demand" ∷ []) ≡ Some Demand
   pub show : order_of (codes "show" ∷ []) ≡ Some Show
   pub grow : order_of (codes "grow" ∷ []) ≡ Some (Grow 1)
+  pub node : order_of (codes "node" ∷ []) ≡ Some Node
   pub police : order_of (codes "police" ∷ []) ≡ Some Police
   pub seeded : order_of (codes "grow" ∷ codes "--seed" ∷ codes "7" ∷ []) ≡ Some (Grow 7)
   pub zeros_first : order_of (codes "grow" ∷ codes "--seed" ∷ codes "01" ∷ []) ≡ Some (Grow 1)
@@ -22,6 +23,7 @@ pub record OtherWordsAreNone : Type 0 where
   pub unknown : order_of (codes "Replay" ∷ []) ≡ None
   pub twice : order_of (codes "replay" ∷ codes "replay" ∷ []) ≡ None
   pub seed_of_another : order_of (codes "replay" ∷ codes "--seed" ∷ codes "3" ∷ []) ≡ None
+  pub seed_of_a_router : order_of (codes "node" ∷ codes "--seed" ∷ codes "3" ∷ []) ≡ None
   pub no_seed : order_of (codes "grow" ∷ codes "--seed" ∷ []) ≡ None
   pub no_number : order_of (codes "grow" ∷ codes "--seed" ∷ codes "-1" ∷ []) ≡ None
   pub signed : order_of (codes "grow" ∷ codes "--seed" ∷ codes "+1" ∷ []) ≡ None

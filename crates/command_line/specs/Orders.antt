@@ -7,7 +7,7 @@ use Rattle.std.specs.Str.Parse.{digits_value}
 use Rattle.clap.specs.Words.{Text}
 use Rattle.command_line.specs.CommandLine.{faults_at, value_at}
 use Rattle.command_line.specs.declared.order.Order.{Order}
-use Rattle.command_line.specs.declared.order.Order.TheVariants.{Replay, Demand, Show, Grow, Police}
+use Rattle.command_line.specs.declared.order.Order.TheVariants.{Replay, Demand, Show, Grow, Node, Police}
 
 -- an order that no seed stands with
 abbrev pub unseeded : Order → Option Text → Option Order
@@ -37,7 +37,8 @@ ordered verb seed =
     if bytes_eq verb (codes "demand") then unseeded Demand seed else (
     if bytes_eq verb (codes "show") then unseeded Show seed else (
     if bytes_eq verb (codes "grow") then grown seed else (
-    if bytes_eq verb (codes "police") then unseeded Police seed else None))))
+    if bytes_eq verb (codes "node") then unseeded Node seed else (
+    if bytes_eq verb (codes "police") then unseeded Police seed else None)))))
 
 -- the order of a line, which begins with the program's name
 abbrev pub order_at : List Text → Option Order

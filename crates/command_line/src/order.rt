@@ -10,6 +10,8 @@ pub enum Order {
     Show,
     /// Make a network from a seed, and replay it.
     Grow { seed: u64 },
+    /// Serve one router over a stream of frames.
+    Node,
     /// Tell which packets of a flow conform to it.
     Police,
 }

@@ -88,6 +88,7 @@ fn order(verb: &str, seed: Option<&str>) -> Option<Order>
         "demand" => unseeded(Order::Demand, seed),
         "show" => unseeded(Order::Show, seed),
         "grow" => grown(seed),
+        "node" => unseeded(Order::Node, seed),
         "police" => unseeded(Order::Police, seed),
         _ => None,
     }

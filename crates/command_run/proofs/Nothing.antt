@@ -1,5 +1,5 @@
 -- Memory ran out before the task of the words was known: whatever it is, nothing was done of it.
-use Rattle.std.proofs.Common.{ℕ, List, [], Option, None, Some, inr, refl, arith}
+use Rattle.std.proofs.Common.{ℕ, List, [], Option, None, Some, inl, inr, refl, arith}
 use Rattle.std.proofs.KnownBytes.{Appends-nil, Consumes-nil, Keeps-refl}
 use Rattle.network_replay.specs.Following.{Seen}
 use Rattle.script_grammar.specs.Draft.{Draft}
@@ -7,13 +7,14 @@ use Rattle.script_run.specs.declared.ending.Ending.TheVariants as ends
 use Rattle.script_run.proofs.Ended.{ended_at_once}
 use Rattle.script_run.specs.Standing.{IsNetworkOf}
 use Rattle.grown_player.proofs.Ended.{out_of_memory}
+use Rattle.node_stream.specs.declared.ending.Ending.TheVariants as served
 use Rattle.packet_lines.specs.declared.ending.Ending.TheVariants as police
 use Rattle.packet_lines.proofs.Ended.{ended_at_once as policed_at_once}
 use Rattle.command_run.specs.Commands.{Does, Stands}
 use Rattle.command_run.specs.Ran.{Device, ran}
 use Rattle.command_run.specs.declared.status.Status.TheVariants.{NoMemory}
 use Rattle.command_run.specs.declared.task.Task.{Task}
-use Rattle.command_run.specs.declared.task.Task.TheVariants.{Replay, Demand, Show, Grow, Police}
+use Rattle.command_run.specs.declared.task.Task.TheVariants.{Replay, Demand, Show, Grow, Node, Police}
 use Rattle.command_run.proofs.Answering.{demanded_so}
 use Rattle.command_run.proofs.Grown.{grown_so}
 use Rattle.command_run.proofs.Replays.{replayed_so}
@@ -46,6 +47,16 @@ module _ {R : Type 0} (see : Seen R) where
   did_nothing (Some (Grow seed)) left holds n m = (
     grown_so see None ends.NoMemory seed (still holds m) (out_of_memory (IsNetworkOf see None) seed holds) (λ other. refl) (λ wanted grows quiet. inr refl),
     record { source = Keeps-refl left; advice = refl },
+  )
+  did_nothing (Some Node) left holds n m = (
+    record {
+      how = served.NoMemory;
+      status = refl;
+      ending = record { taken = []; took = Consumes-nil left; text = []; wrote = Appends-nil holds; counted = omega arith; ended = (inl refl, refl) };
+      advised = λ bytes known. refl;
+      complete = λ bytes text wanted known few comes calm quiet. inr refl;
+    },
+    refl,
   )
   did_nothing (Some Police) left holds n m = (
     record {

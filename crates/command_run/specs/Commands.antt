@@ -23,12 +23,13 @@ use Rattle.command_run.specs.Growing.{EndsAsDemanded, IsGrowth}
 use Rattle.command_run.specs.Healing.{EndsInItsDemand, IsHealingRun, WritesWithinCapacity}
 use Rattle.command_run.specs.Policing.{Policed}
 use Rattle.command_run.specs.Ran.{Device, HasFailed, IsUnread, Ran}
+use Rattle.command_run.specs.Serving.{Served}
 use Rattle.command_run.specs.Showing.{IsShowing, ShowsTo}
 use Rattle.command_run.specs.Statuses.{IsOrNoMemory, status_of}
 use Rattle.command_run.specs.declared.status.Status.{Status}
 use Rattle.command_run.specs.declared.status.Status.TheVariants.{Done, Usage}
 use Rattle.command_run.specs.declared.task.Task.{Task}
-use Rattle.command_run.specs.declared.task.Task.TheVariants.{Replay, Demand, Show, Grow, Police}
+use Rattle.command_run.specs.declared.task.Task.TheVariants.{Replay, Demand, Show, Grow, Node, Police}
 
 -- `last`: the network that is left
 module _ {R : Type 0} (see : Seen R) (last : Option (NetworkState R)) where
@@ -98,4 +99,5 @@ module _ {R : Type 0} (see : Seen R) where
   Does (Some Demand) r last = Demanded r × (last ≡ None)
   Does (Some Show) r last = Shown r × (last ≡ None)
   Does (Some (Grow seed)) r last = Grown see last seed r.status r.sink × IsUnread r
+  Does (Some Node) r last = Served r × (last ≡ None)
   Does (Some Police) r last = Policed r × (last ≡ None)

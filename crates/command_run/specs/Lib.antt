@@ -9,4 +9,5 @@ pub mod FirstLines
 pub mod StatusTexts
 pub mod Advised
 pub mod Policing
+pub mod Serving
 pub mod Commands

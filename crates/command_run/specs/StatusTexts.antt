@@ -22,7 +22,7 @@ fault_text (Loop group from to) = codes "loop in " ++ addr_text group ++ codes "
 
 abbrev pub status_text : Status → List ℕ
 status_text Done = []
-status_text Usage = codes "usage: rsvpd replay|demand|show|grow|police [--seed N]"
+status_text Usage = codes "usage: rsvpd replay|demand|show|grow|node|police [--seed N]"
 status_text (BadLine line why) = codes "line " ++ decimal line ++ codes ": " ++ fault_text why
 status_text ReadFault = codes "read fault"
 status_text WriteFault = codes "write fault"

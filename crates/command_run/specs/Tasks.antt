@@ -5,7 +5,7 @@ use Rattle.command_line.specs.Orders.{order_of}
 use Rattle.command_line.specs.declared.order.Order.{Order}
 use Rattle.command_line.specs.declared.order.Order.TheVariants as order
 use Rattle.command_run.specs.declared.task.Task.{Task}
-use Rattle.command_run.specs.declared.task.Task.TheVariants.{Replay, Demand, Show, Grow, Police}
+use Rattle.command_run.specs.declared.task.Task.TheVariants.{Replay, Demand, Show, Grow, Node, Police}
 
 -- the task of an order
 abbrev pub task_for : Order → Task
@@ -13,6 +13,7 @@ task_for order.Replay = Replay
 task_for order.Demand = Demand
 task_for order.Show = Show
 task_for (order.Grow seed) = Grow seed
+task_for order.Node = Node
 task_for order.Police = Police
 
 -- the task of the words after the program's name

@@ -10,12 +10,14 @@ use crate::demanding::demand;
 use crate::growing::grow;
 use crate::policing::police_packets;
 use crate::replaying::replay;
+use crate::serving::serve_router;
 use crate::showing::show_messages;
 use crate::status::Status;
 use crate::task::Task;
 use byte_streams::{Sink, Source};
 use command_line::{NoOrder, Order, read_order};
 use network_replay::{Watch, World};
+use node_stream::Serves;
 use script_demand::Asks;
 use script_run::Opens;
 use std::alloc::Global;
@@ -23,16 +25,17 @@ use std::alloc::Global;
 /// Runs the task of these words: `replay` reads a script from the source, runs it line by line on a network of routers, and writes
 /// to the sink what its events write; `demand` reads a script, and writes what each end of its network owes behind the last line and
 /// whether that fits; `show` reads messages as lines of hexadecimal digits and writes a line of words for each; `grow` reads
-/// nothing, grows the network of a seed, runs it and writes a summary of the run, whose last line is `equal yes`; `police` reads a
+/// nothing, grows the network of a seed, runs it and writes a summary of the run, whose last line is `equal yes`; `node` reads frames,
+/// of which the first opens a router, and writes the frames with which the router answers each; `police` reads a
 /// flow and its packets, and writes for each whether it passes. Where a script with
 /// an event was replayed to its end, and where a network was grown and run to its end, `last` holds the network in which the run
 /// ended; else it stays empty. `watch` gets how far the rounds of a replay or of a growing are: no clause hangs on it. `advice`
 /// becomes the text that says what is wrong with the bad line; where no line is bad, or memory runs out as it is written, it is empty.
 ///
 /// `Usage` comes first: the words are no command, and nothing is read or written. How a replay ends is said at `replay`, how the
-/// demand of a script ends at `demand`, how showing ends at `show_messages`, how growing ends at `grow`, and how policing ends at
-/// `police_packets`.
-pub fn run_command<C: Asks + Drop, R: Opens, S: Source, K: Sink, W: Watch>(
+/// demand of a script ends at `demand`, how showing ends at `show_messages`, how growing ends at `grow`, how the service of a
+/// router ends at `serve_router`, and how policing ends at `police_packets`.
+pub fn run_command<C: Asks + Drop, R: Opens + Serves, S: Source, K: Sink, W: Watch>(
     alloc: Global,
     words: &Vec<String>,
     checker: C,
@@ -61,6 +64,7 @@ pub fn run_command<C: Asks + Drop, R: Opens, S: Source, K: Sink, W: Watch>(
         Ok(Task::Demand) => demand(alloc, checker, source, sink, advice),
         Ok(Task::Show) => show_messages(alloc, source, sink, advice),
         Ok(Task::Grow { seed }) => grow(alloc, seed, sink, watch, last),
+        Ok(Task::Node) => serve_router::<R, S, K>(alloc, source, sink, advice),
         Ok(Task::Police) => police_packets(alloc, source, sink, advice),
         Err(NoOrder::Usage) => Status::Usage,
         Err(NoOrder::NoMemory) => Status::NoMemory,
@@ -77,6 +81,7 @@ fn task_of(alloc: Global, words: &Vec<String>) -> Result<Task, NoOrder>
         Ok(Order::Demand) => Ok(Task::Demand),
         Ok(Order::Show) => Ok(Task::Show),
         Ok(Order::Grow { seed }) => Ok(Task::Grow { seed }),
+        Ok(Order::Node) => Ok(Task::Node),
         Ok(Order::Police) => Ok(Task::Police),
         Err(error) => Err(error),
     }

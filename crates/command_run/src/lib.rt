@@ -1,13 +1,13 @@
 //! The top call: the words of a command line order a task, which is run from a source to a sink.
 //!
 //! `run_command` replays a script on a network of routers, writes the demand of one, shows messages in words, grows a network and
-//! runs it, or says which packets of a flow pass. Its clauses say by the status exactly what was read and written, that a script that
+//! runs it, serves one router over a stream of frames, or says which packets of a flow pass. Its clauses say by the status exactly what was read and written, that a script that
 //! was replayed to its end heals itself (once its network has settled a report is the demand, and the last one what `demand` writes of
 //! the script), and that a network that was grown and run reports what is demanded. However a replay ends, what it ran is the run of
 //! the first lines of its file: at each step no book passes its capacity, no refusal changes a reservation, and blockades keep their
 //! promises, and each settled report that was written whole is the demand. It stands on `script_run` and `grown_player`
 //! for runs, on `script_theorem`, `laws_safety`, `laws_scripts` and `laws_grown` for what holds of them, on
-//! `script_demand`, on `message_show`, on `packet_lines` and on `command_line`.
+//! `script_demand`, on `message_show`, on `node_stream`, on `packet_lines` and on `command_line`.
 #![tactic(auto)]
 
 mod command;
@@ -15,6 +15,7 @@ mod demanding;
 mod growing;
 mod policing;
 mod replaying;
+mod serving;
 mod showing;
 mod status;
 mod task;
@@ -25,6 +26,7 @@ pub use demanding::demand;
 pub use growing::grow;
 pub use policing::police_packets;
 pub use replaying::{replay, status_of};
+pub use serving::serve_router;
 pub use showing::show_messages;
 pub use status::Status;
 pub use task::Task;

@@ -1,6 +1,7 @@
 //! Tasks.
 
-/// What the program can do: replay a script, write its demand, show messages, grow a network and run it, or police packets.
+/// What the program can do: replay a script, write its demand, show messages, grow a network and run it, serve one router over a
+/// stream, or police packets.
 #[derive(Clone, Copy)]
 pub enum Task {
     Replay,
@@ -8,5 +9,6 @@ pub enum Task {
     Show,
     /// The network of this seed.
     Grow { seed: u64 },
+    Node,
     Police,
 }

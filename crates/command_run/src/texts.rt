@@ -14,7 +14,10 @@ impl fmt::Display for Status {
     fn fmt<W: fmt::Write>(&self, f: &mut fmt::Formatter<W>) -> fmt::Result {
         match self {
             Status::Done => Ok(()),
-            Status::Usage => write!(f, "usage: rsvpd replay|demand|show|grow|police [--seed N]"),
+            Status::Usage => write!(
+                f,
+                "usage: rsvpd replay|demand|show|grow|node|police [--seed N]"
+            ),
             Status::BadLine { line, why } => {
                 let why = Reason(why);
                 write!(f, "line {line}: {why}")

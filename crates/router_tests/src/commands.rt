@@ -10,7 +10,7 @@ const DEMAND: &[&str] = &["demand"];
 
 const SHOW: &[&str] = &["show"];
 
-const USAGE: &str = "usage: rsvpd replay|demand|show|grow|police [--seed N]";
+const USAGE: &str = "usage: rsvpd replay|demand|show|grow|node|police [--seed N]";
 
 const FIRST_RUN: &[u8] = b"node r
 end r1 r 10.0.1.2 1000 1500

@@ -18,5 +18,7 @@ mod paths;
 mod reservations;
 #[cfg(test)]
 mod runs;
+#[cfg(test)]
+mod streams;
 
 fn main(_rt: HostRuntime) {}

@@ -1,5 +1,6 @@
 //! `rsvpd`: replays the script of a network of RSVP routers, and writes what its events report; writes the demand of such a script;
-//! shows messages in words; or grows a network from a seed, runs it and writes a summary.
+//! shows messages in words; grows a network from a seed, runs it and writes a summary; serves one router over a stream of frames; or
+//! says which packets of a flow conform to it.
 //!
 //! Its promises are the clauses of `run` (`rsvpd_run`), which it calls with the words of the command line, standard input and
 //! standard output. How far many rounds are it tells on a terminal (`Progress`).
@@ -7,8 +8,9 @@
 
 use byte_streams::{StdSink, StdSource};
 use rsvpd_run::{Noting, Progress, Status, run};
+use std::env;
+use std::io::{self, BufReader};
 use std::process::ExitCode;
-use std::{env, io};
 
 fn main(rt: HostRuntime) -> ExitCode {
     let mut advice = Vec::new(rt.alloc());
@@ -16,20 +18,14 @@ fn main(rt: HostRuntime) -> ExitCode {
     let mut unwritten = None;
     let mut progress = Progress::open(rt);
     let status = match words(&rt) {
-        Ok(words) => {
-            let mut source = StdSource::new(Noting::new(rt.stdin(), &mut unread));
-            let mut sink = StdSink::new(Noting::new(rt.stdout(), &mut unwritten));
-            let mut last = None;
-            run(
-                rt.alloc(),
-                &words,
-                &mut source,
-                &mut sink,
-                &mut progress,
-                &mut last,
-                &mut advice,
-            )
-        }
+        Ok(words) => run_words(
+            &rt,
+            &words,
+            &mut unread,
+            &mut unwritten,
+            &mut progress,
+            &mut advice,
+        ),
         Err(status) => status,
     };
     progress.clear();
@@ -41,6 +37,33 @@ fn main(rt: HostRuntime) -> ExitCode {
         _ => Ok(()),
     };
     ExitCode::from(status.code())
+}
+
+// Runs the task of these words from standard input to standard output. The input is read ahead, so that a frame or a line takes no
+// call of the system of its own; the output is written as it comes. What the system said of a stream that failed is kept.
+fn run_words(
+    rt: &HostRuntime,
+    words: &Vec<String>,
+    unread: &mut Option<io::Error>,
+    unwritten: &mut Option<io::Error>,
+    progress: &mut Progress,
+    advice: &mut Vec<u8>,
+) -> Status {
+    let Ok(input) = BufReader::new(rt.alloc(), Noting::new(rt.stdin(), unread)) else {
+        return Status::NoMemory;
+    };
+    let mut source = StdSource::new(input);
+    let mut sink = StdSink::new(Noting::new(rt.stdout(), unwritten));
+    let mut last = None;
+    run(
+        rt.alloc(),
+        words,
+        &mut source,
+        &mut sink,
+        progress,
+        &mut last,
+        advice,
+    )
 }
 
 // The words of the command line after the program's name. `Usage`: one is not UTF-8, or they cannot be had.

@@ -5,4 +5,4 @@ use Rattle.command_line.proofs.laws.each_verb_is_an_order.Goals as goal
 
 pub returns : goal.returns
 unfolding clap_on_literals faults_at value_at
-returns c = record { replay = refl; demand = refl; show = refl; grow = refl; police = refl; seeded = refl; zeros_first = refl; joined = refl }
+returns c = record { replay = refl; demand = refl; show = refl; grow = refl; node = refl; police = refl; seeded = refl; zeros_first = refl; joined = refl }

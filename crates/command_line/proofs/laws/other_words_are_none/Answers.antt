@@ -12,6 +12,7 @@ returns c = record {
   unknown = refl;
   twice = refl;
   seed_of_another = refl;
+  seed_of_a_router = refl;
   no_seed = refl;
   no_number = refl;
   signed = refl;

@@ -26,6 +26,11 @@ returns-in-Ok-Grow-clause-does g c =
     let is : task_of (map string_bytes c.args.words.now.items) ≡ Some (task.Grow c.in-Ok-Grow.seed) = search rules in
     rw is (c.grow.ensures.grown, record { source = Keeps-refl (g.S.Source.left c.args.source.now); advice = search rules })
 
+pub returns-in-Ok-Node-clause-does : goal.returns-in-Ok-Node-clause-does
+returns-in-Ok-Node-clause-does g c =
+    let is : task_of (map string_bytes c.args.words.now.items) ≡ Some task.Node = search rules in
+    rw is (c.serve_router.ensures.served, c.requires.empty)
+
 pub returns-in-Ok-Police-clause-does : goal.returns-in-Ok-Police-clause-does
 returns-in-Ok-Police-clause-does g c =
     let is : task_of (map string_bytes c.args.words.now.items) ≡ Some task.Police = search rules in
