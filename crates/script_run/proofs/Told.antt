@@ -1,4 +1,4 @@
--- What is told of the line by which a run over known bytes ended as bad.
+-- What is told of the line by which a run over known bytes ended as bad, or crowded.
 use Rattle.std.proofs.Common.{◌≡◌, ℕ, ◌+◌, ◌-◌, ◌^◌, ◌<◌, min, List, [], ◌∷◌, ◌++◌, Option, Some, length, sym, ap, ◌∙◌, arith, length-append}
 use Rattle.script_words.specs.Lines.{text_lines}
 use Rattle.script_grammar.specs.Draft.{Draft}
@@ -9,7 +9,7 @@ use Rattle.script_advice.specs.Advice.{IsAdvice, IsToldLine}
 use Rattle.byte_streams.specs.Streams.{Held}
 use Rattle.byte_streams.proofs.Behind.{HasLine, HasLong}
 use Rattle.byte_streams.proofs.Known.{all_known}
-use Rattle.script_run.specs.Advised.{IsAdvised, IsAdvisedAt}
+use Rattle.script_run.specs.Advised.{IsAdvised, IsAdvisedAt, IsCrowdedLine}
 use Rattle.script_run.specs.Endings.{ending_at}
 use Rattle.script_run.specs.Playing.{Stops}
 use Rattle.script_grammar.specs.declared.stop.Stop.{Stop}
@@ -42,7 +42,7 @@ module _ {P : Type 0} (stands : P → Draft → Type 0) (old mid new first holds
         let one_more : length (p.before ++ now.line ∷ []) ≡ length p.before + 1 = omega (arith, length-append p.before (now.line ∷ [])) in
         same ∙ l.behind.numbered ∙ ap (λ n. min n (2 ^ 32 - 1)) one_more
 
-    pub told_at : (s : Stop) → Stops s p.draft now.line → IsAdvisedAt p.draft now.line s advice → IsAdvised (ending_at s number) bytes advice
+    pub told_at : (s : Stop) → Stops s p.draft now.line → IsAdvisedAt p.draft now.line number s advice → IsAdvised (ending_at s number) bytes advice
     told_at (stop.Bad why) bad told =
         let all = all_known old new bytes l.taken known l.behind.took in
         record {
@@ -58,5 +58,19 @@ module _ {P : Type 0} (stands : P → Draft → Type 0) (old mid new first holds
           };
           told = told;
         }
-    told_at stop.Crowded stops told = told
+    told_at stop.Crowded crowded told =
+        let all = all_known old new bytes l.taken known l.behind.took in
+        let line : IsCrowdedLine number bytes = record {
+          text = p.text;
+          first = record {
+            before = p.before;
+            line = now.line;
+            after = l.at.after;
+            parts = ap text_lines (sym all.0) ∙ l.at.parts;
+            ran = record { draft = p.draft; leads = p.leads; run = p.run };
+            holds = crowded;
+          };
+          counted = numbered;
+        } in
+        (number, line, told)
     told_at stop.NoMemory stops told = told

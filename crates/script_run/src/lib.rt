@@ -6,6 +6,7 @@
 #![tactic(auto)]
 
 mod checks;
+mod crowding;
 mod ending;
 mod event_run;
 pub mod laws;

@@ -8,6 +8,7 @@ ghost use Rattle.script_run.specs.Playing.{StaysAt};
 ghost use Rattle.script_run.specs.Endings.{ComesTo, IsOrNoMemory, IsRun, ending_at};
 ghost use Rattle.script_run.specs.declared.ending.Ending.{Ending as AnEnding};
 
+use crate::crowding::put_crowded;
 use crate::ending::Ending;
 use crate::player::Player;
 use byte_streams::{LineReader, NextLine, Sink, Source, write_all};
@@ -21,8 +22,8 @@ use std::alloc::Global;
 /// At one line these come in this order: `ReadFault` or `TooLong` while it is read, then `BadLine`, then `Crowded`, then
 /// `WriteFault`. `NoMemory`: memory ran out. A line of more than 2,048 bytes is bad as soon as so many of it were taken.
 ///
-/// `advice` becomes the text that tells what is wrong with the bad line; where no line is bad, or memory runs out as it is written,
-/// it is empty.
+/// `advice` becomes the text that tells what is wrong with the bad line, or by which line the run is crowded; else, or where memory
+/// runs out as it is written, it is empty.
 pub fn run_lines<P: Player, S: Source, K: Sink>(
     alloc: Global,
     player: &mut P,
@@ -34,7 +35,7 @@ pub fn run_lines<P: Player, S: Source, K: Sink>(
     ensures run { IsRun (P.stands player.new) result (S.left source.old) (S.left source.new) (K.holds sink.old) (K.holds sink.new) }
     ensures read_fault { result ≡ Ending.ReadFault → Rose (S.faults source.old) (S.faults source.new) }
     ensures write_fault { result ≡ Ending.WriteFault → Rose (K.faults sink.old) (K.faults sink.new) }
-    // Over known input: what is wrong with the bad line is told.
+    // Over known input: what is wrong with the bad line is told, or by which line the run is crowded.
     ensures advised { (bytes : List ℕ) → S.left source.old ≡ Some bytes → IsAdvised result bytes advice.new.items }
     // Nothing else ends a run over known input and devices that do not fail.
     ensures complete { (bytes text : List ℕ) (wanted : AnEnding) → S.left source.old ≡ Some bytes → length bytes ≤ most_bytes → ComesTo wanted bytes text
@@ -81,8 +82,9 @@ fn run_to_end<P: Player, S: Source, K: Sink>(
         match player.play(reader.line(), &mut out) {
             Ok(()) => {}
             Err(stop) => {
-                advise(player, reader.line(), &stop, advice);
-                return ending_at(stop, reader.number());
+                let number = reader.number();
+                advise(player, reader.line(), number, &stop, advice);
+                return ending_at(stop, number);
             }
         }
         match write_all(sink, out.as_slice()) {
@@ -92,14 +94,14 @@ fn run_to_end<P: Player, S: Source, K: Sink>(
     }
 }
 
-// Tells what is wrong with a line that was not run, where it is bad.
-fn advise<P: Player>(player: &P, line: &[u8], stop: &Stop, advice: &mut Vec<u8>)
+// Tells what is wrong with the line of this number, which was not run, where it is bad or the run is crowded by it.
+fn advise<P: Player>(player: &P, line: &[u8], number: u32, stop: &Stop, advice: &mut Vec<u8>)
     requires { advice.old.items ≡ [] }
-    ensures { (d : Draft) → StaysAt (P.stands player.now) d stop.now → IsAdvisedAt d line.now stop.now advice.new.items }
+    ensures { (d : Draft) → StaysAt (P.stands player.now) d stop.now → IsAdvisedAt d line.now number stop.now advice.new.items }
 {
     match stop {
         Stop::Bad(why) => player.advise(line, why, advice),
-        Stop::Crowded => {}
+        Stop::Crowded => put_crowded(advice, number),
         Stop::NoMemory => {}
     }
 }

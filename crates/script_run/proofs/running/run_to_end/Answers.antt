@@ -99,7 +99,7 @@ returns-in-Err-play-clause-run g c =
     let not_run = c.in-Err-play in
     let stops = subst (λ t. Stops not_run.stop p.draft t) c.line.ensures.line (not_run.ensures p.draft p.text p.stands_there p.run).0 in
     rw c.ending_at.ensures (ended_at stands old mid new first holds r now c.loop-advice.player p (stands c.play.new.self) l
-    (e.within fine) not_run.stop c.number-in-Err-play.result c.number-in-Err-play.ensures stops)
+    (e.within fine) not_run.stop c.number-number.result c.number-number.ensures stops)
 
 pub loop-advice-smaller : goal.loop-advice-smaller
 loop-advice-smaller g c =
@@ -196,6 +196,6 @@ returns-in-Err-play-clause-advised g c = λ bytes known.
     let not_run = c.in-Err-play in
     let stops = subst (λ t. Stops not_run.stop p.draft t) c.line.ensures.line (not_run.ensures p.draft p.text p.stands_there p.run).0 in
     let told = c.advise.ensures p.draft (not_run.ensures p.draft p.text p.stands_there p.run).1 in
-    let told_here = subst (λ t. IsAdvisedAt p.draft t not_run.stop c.advise.new.advice.items) c.line-in-Err-play.ensures.line told in
-    rw c.ending_at.ensures (told_at stands old mid new first holds r now c.loop-advice.player p bytes c.advise.new.advice.items known l c.number-in-Err-play.result c.number-in-Err-play.ensures
+    let told_here = subst (λ t. IsAdvisedAt p.draft t c.number-number.result not_run.stop c.advise.new.advice.items) c.line-in-Err-play.ensures.line told in
+    rw c.ending_at.ensures (told_at stands old mid new first holds r now c.loop-advice.player p bytes c.advise.new.advice.items known l c.number-number.result c.number-number.ensures
     not_run.stop stops told_here)
