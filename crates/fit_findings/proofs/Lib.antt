@@ -1,4 +1,5 @@
 pub mod Ranges
+pub mod Ends
 pub mod Alone
 pub mod Fit
 pub mod Clashes
