@@ -18,7 +18,5 @@ mod paths;
 mod reservations;
 #[cfg(test)]
 mod runs;
-#[cfg(test)]
-mod streams;
 
 fn main(_rt: HostRuntime) {}
