@@ -1,5 +1,6 @@
 # What the scripts of this folder share. They source it; by itself it does nothing.
 # shellcheck shell=bash disable=SC2034
+case "${1-}" in -h | --help) sed -n '2,/^[^#]/{/^# shellcheck/d;s/^# \{0,1\}//p}' "$0"; exit ;; esac
 unset CDPATH
 here="$(cd "$(dirname "${BASH_SOURCE[0]}")/.." && pwd)" || exit 1
 work="$(mktemp -d)" || exit 1
