@@ -1,0 +1,2 @@
+pub mod RateBelow
+pub mod Composing

@@ -1,0 +1,13 @@
+//! The laws of composing ADSPECs.
+ghost use Rattle.adspec_path.specs.Composing.{WhatIsComposedCanBeWritten};
+ghost use Rattle.adspec_path.specs.RateBelow.{RateBelowIsTheLargest};
+
+/// The rate below a number, as a function of its bits, is the largest rate that is at most that number, and no other is.
+pub fn rate_below_is_the_largest()
+    ensures { RateBelowIsTheLargest }
+{}
+
+/// What is composed can be written, whatever the interface: its numbers fit their fields, and its other fragments are such.
+pub fn what_is_composed_can_be_written()
+    ensures { WhatIsComposedCanBeWritten }
+{}

@@ -1,0 +1,15 @@
+//! What the path of a sender offers, composed hop by hop (RFC 2210, 3.3; RFC 2215, 3).
+//!
+//! `start` is the ADSPEC with which the Path of a sender leaves its own node, `pass_on` what a router sends on of one that came:
+//! break bits, hop count, least bandwidth, latency, least MTU. `rate_below` is the bandwidth of an interface as a rate word can
+//! tell it. No call takes memory, and no router calls them yet. It stands on `object_fields` and `rsvp_base`.
+#![tactic(auto)]
+
+mod composing;
+pub mod laws;
+mod outgoing;
+mod rates;
+
+pub use composing::{pass_on, start};
+pub use outgoing::Outgoing;
+pub use rates::rate_below;
