@@ -1,3 +1,4 @@
 pub mod Cutting
 pub mod Largest
 pub mod Proper
+pub mod Composed

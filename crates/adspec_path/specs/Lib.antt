@@ -1,2 +1,3 @@
 pub mod RateBelow
 pub mod Composing
+pub mod Advertisement
