@@ -78,10 +78,10 @@ module _ (p : Option NodeConfig) (kind : ℕ) (contents : List ℕ) where
   pub blame_is_fault : (b : Blame) → IsBlamed p kind contents b → HasFault p kind contents (why_of b)
   blame_is_fault blame.Head x = absurd x
   blame_is_fault (blame.Cut of wanted got) x = absurd x
-  blame_is_fault (blame.Kind of) x = x.1
-  blame_is_fault (blame.Length of size) x = x.2
-  blame_is_fault (blame.Early of) x = x.1
-  blame_is_fault blame.Again x = x
+  blame_is_fault (blame.Kind of) x = x.2
+  blame_is_fault (blame.Length of size) x = x.3
+  blame_is_fault (blame.Early of) x = x.2
+  blame_is_fault blame.Again x = x.1
   blame_is_fault (blame.Period ms) x = opening_out (blame.Period ms) x
   blame_is_fault (blame.ManyIfaces count) x = opening_out (blame.ManyIfaces count) x
   blame_is_fault (blame.Capacity k bytes) x = opening_out (blame.Capacity k bytes) x

@@ -1,5 +1,5 @@
 -- What of a bad frame breaks which rule.
-use Rattle.std.specs.Prelude.{◌≡◌, ℕ, ◌^◌, ◌<◌, ◌≤◌, ◌*◌, List, length, Option, None, Some, true}
+use Rattle.std.specs.Prelude.{◌≡◌, ℕ, ◌^◌, ◌<◌, ◌≤◌, ◌*◌, List, length, Option, None, Some, is_some, true, false}
 use Rattle.rsvp_base.specs.declared.addr.Addr.{Addr}
 use Rattle.router_rules.specs.NodeConfig.{NodeConfig}
 use Rattle.script_words.specs.declared.fault.LineWhy.{LineWhy}
@@ -55,6 +55,10 @@ IsOpenBlame q said (NoIface i count) = IsNoIface q said i count
 IsOpenBlame q said (Wait ms most) = IsBadWait q said ms most
 IsOpenBlame q said _ = ⊥
 
+-- there are four kinds of frames that come
+abbrev pub IsKind : ℕ → Type 0
+IsKind kind = (1 ≤ kind) × (kind ≤ 4)
+
 -- what is to blame for a frame, for a router that stands there or is not open
 module _ (p : Option NodeConfig) (kind : ℕ) (contents : List ℕ) where
   pub record IsOpening (b : Blame) : Type 0 where
@@ -73,10 +77,10 @@ module _ (p : Option NodeConfig) (kind : ℕ) (contents : List ℕ) where
   abbrev pub IsBlamed : Blame → Type 0
   IsBlamed Head = ⊥
   IsBlamed (Cut of wanted got) = ⊥
-  IsBlamed (Kind of) = (of ≡ kind) × (frame_of kind contents ≡ None)
-  IsBlamed (Length of size) = (of ≡ kind) × (size ≡ length contents) × (frame_of kind contents ≡ None)
-  IsBlamed (Early of) = (of ≡ kind) × IsOutOfTurn p kind contents
-  IsBlamed Again = IsOutOfTurn p kind contents
+  IsBlamed (Kind of) = (of ≡ kind) × (IsKind kind → ⊥) × (frame_of kind contents ≡ None)
+  IsBlamed (Length of size) = (of ≡ kind) × (size ≡ length contents) × IsKind kind × (frame_of kind contents ≡ None)
+  IsBlamed (Early of) = (of ≡ kind) × (is_some p ≡ false) × IsOutOfTurn p kind contents
+  IsBlamed Again = (is_some p ≡ true) × IsOutOfTurn p kind contents
   IsBlamed (NoIface i count) = IsBehind (NoIface i count)
   IsBlamed (Wait ms most) = IsBehind (Wait ms most)
   IsBlamed b = IsOpening b
