@@ -175,7 +175,7 @@ cleared_by (Inject t dst a) w n e = absurd (cc)
 cleared_by (Reroute g x hops) w n e = absurd (cc)
 
 -- what comes to a node is an item that the step delivers
-came_by : (s : Step) (w : World) (n e : ℕ) (dst : Addr) (a : Arrival) → input_at s w n ≡ Some (Came e dst a)
+pub came_by : (s : Step) (w : World) (n e : ℕ) (dst : Addr) (a : Arrival) → input_at s w n ≡ Some (Came e dst a)
     → (k : ℕ) × (y : Item) × (end : End) × (s ≡ Deliver k) × (slice_get w.flight k ≡ Some y) × (slice_get w.net.ends y.end ≡ Some end) × (end.node ≡ n)
     × (Came e dst a ≡ Came (iface_of w.net.ends y.end) y.dst y.arrival)
 came_by (Deliver k) w n e dst a is =

@@ -6,3 +6,4 @@ pub mod Arrivals
 pub mod Speaking
 pub mod Walls
 pub mod Errors
+pub mod Confirming

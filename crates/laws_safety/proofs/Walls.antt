@@ -30,7 +30,7 @@ use Rattle.router_rules.specs.Known.{Lane}
 use Rattle.router_rules.specs.NodeConfig.{NodeConfig}
 use Rattle.router_rules.specs.Requests.{is_blockaded, requests, toward, wall_at}
 use Rattle.laws_network.proofs.Known.{has_some}
-use Rattle.laws_safety.specs.Blockades.{GoesOn, IsBelow, SpeaksOf, WhatGoesOnIsBelow}
+use Rattle.laws_safety.specs.Blockades.{IsBelow, SpeaksOf, WhatGoesOnIsBelow}
 
 -- ---- one request
 below_by : (wall : Wall) (flow : TokenBucket) → does_blockade wall.flow wall.sub flow ≡ false → IsBelow wall flow

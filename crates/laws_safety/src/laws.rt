@@ -1,6 +1,7 @@
 //! The laws. Each world of a run is one of its first world and those after each step, each step one in the world in which it is made.
 ghost use Rattle.laws_safety.specs.Blockades.{ABlockadeStays, AResvErrTearsNothing, AnAdmissionErrorSetsItsBlockade, BlockadesDropNothing, EachResvSaysWhatGoesToward, WhatGoesOnIsBelow};
 ghost use Rattle.laws_safety.specs.Books.{AreBooksWithinCapacity};
+ghost use Rattle.laws_safety.specs.Confirmations.{AConfirmationIsHeld, EachConfirmationHasBegun};
 ghost use Rattle.laws_safety.specs.InRuns.{AtEveryStep, InEveryWorld};
 ghost use Rattle.laws_safety.specs.Refusals.{ARefusedCallChangesNothing, ARefusedResvChangesNoReservation, AUnitThatPassesIsBooked, AnUntakenUnitChangesNothing};
 
@@ -61,4 +62,15 @@ pub fn blockades_drop_nothing()
 /// A step that delivers a ResvErr sends no ResvTear and changes no reservation.
 pub fn a_resv_err_tears_nothing()
     ensures { AtEveryStep AResvErrTearsNothing }
+{}
+
+/// A ResvConf that a node sends begins there or goes on: where it begins, a Resv came that asks for it, and behind the step the book of
+/// its interface holds at least what is confirmed, which that Resv asked for (RFC 2205, 2.6).
+pub fn a_confirmation_is_held()
+    ensures { AtEveryStep AConfirmationIsHeld }
+{}
+
+/// Each ResvConf that is in flight, and so each that reaches who asked for it, began so at an earlier step of the run, or was injected.
+pub fn each_confirmation_has_begun()
+    ensures { EachConfirmationHasBegun }
 {}
