@@ -6,3 +6,4 @@ pub mod Kept
 pub mod Tight
 pub mod Said
 pub mod TightPaths
+pub mod Confirmed

@@ -1,4 +1,5 @@
 //! The rows.
+ghost use Rattle.network_examples.specs.Confirmed.{ConfirmationsInAPair};
 ghost use Rattle.network_examples.specs.Goals.{AGoalCanBeHeld, AGoalHasInterfaces, AReservationIsUnderTheGoal, ASessionHasOneStyle, AWantHasAStyle};
 ghost use Rattle.network_examples.specs.Kept.{ARunCanBeUnfit, WhatIsAskedCanChange};
 ghost use Rattle.network_examples.specs.Previous.{APathComesOverAHop, TowardSaysSomething};
@@ -105,4 +106,10 @@ pub fn a_path_says_its_hop()
 /// Of the nine rounds after which paths are sound where the longest chain is one hop none can be spared.
 pub fn eight_rounds_are_too_few()
     ensures { EightRoundsAreTooFew }
+{}
+
+/// A host that asks for a confirmation gets one, by a run that meets the premises of `a_confirmation_is_held` and of
+/// `each_confirmation_has_begun`. One that was injected begins nowhere. And what is confirmed may be gone when the ResvConf arrives.
+pub fn confirmations_in_a_pair()
+    ensures { ConfirmationsInAPair }
 {}
