@@ -5,3 +5,6 @@ pub mod RunsSettle
 pub mod Example
 pub mod Tight
 pub mod RunExample
+pub mod Police
+pub mod Flags
+pub mod FlagsExample

@@ -1,6 +1,6 @@
 -- Nothing stale is left: where reservations are sound, each book lies below its demand.
-use Rattle.std.proofs.Common.{◌≡◌, ℕ, ◌+◌, ◌*◌, ◌<◌, List, [], ◌∷◌, length, Some, arith, ap, refl, subst, sym, ◌∙◌}
-use Rattle.std.specs.Prelude.{◌++◌, slice_get}
+use Rattle.std.proofs.Common.{◌≡◌, ℕ, ◌+◌, ◌*◌, List, arith, ap, subst, sym, ◌∙◌}
+use Rattle.std.specs.Prelude.{◌++◌}
 use Rattle.style_rules.specs.Lines.{AreUnder, BookTable, at_end}
 use Rattle.style_rules.proofs.Books.{book_below, held_below, under_at_end}
 use Rattle.calm_rounds.specs.Hold.{Hold, Visited}
@@ -8,8 +8,6 @@ use Rattle.calm_rounds.specs.Machine.{run}
 use Rattle.calm_rounds.specs.Rounds.{Rounds}
 use Rattle.calm_rounds.proofs.Holding.{hold_both, hold_end, hold_later, hold_map}
 use Rattle.router_rules.specs.Books.{book, lines}
-use Rattle.router_rules.specs.Facts.{Facts}
-use Rattle.tree_model.specs.Goals.{demand_of}
 use Rattle.tree_model.specs.Networks.{iface_of, node_of}
 use Rattle.tree_model.specs.Ranks.{longest}
 use Rattle.tree_model.proofs.Ifaces.{interfaces_are_ends}

@@ -13,8 +13,10 @@ use Rattle.network_model.specs.Worlds.{World}
 use Rattle.laws_network.specs.Runs.{AreFitSenders, IsFitRun}
 use Rattle.laws_network.proofs.Hosts.{each_world_of_a_run_keeps_the_locals}
 use Rattle.settle_resvs.specs.Sessions.{SessionFits}
+use Rattle.settle_network.specs.Flags.{HasSettledFlags}
 use Rattle.settle_network.specs.Sessions.{HasSettledFor}
 use Rattle.settle_network.specs.Settled.{HasSettled}
+use Rattle.settle_network.proofs.Flags.{flags_settle}
 use Rattle.settle_network.proofs.Settled.{a_settled_moment, a_settled_moment_of}
 
 -- what holds of each world that is visited holds of the world after a front of the steps
@@ -48,3 +50,10 @@ pub a_session_of_a_run_settles : (p : Plan) → IsFitRun p → AreFitSenders p �
 a_session_of_a_run_settles p run_fit senders ss ts front is s fit =
     let kept = kept_at p run_fit senders ss ts front is in
     a_settled_moment_of p.quarter s (first_world p) ss is kept.0 kept.1 fit
+
+pub flags_of_a_run_settle : (p : Plan) → IsFitRun p → AreFitSenders p → (ss ts : List Step) → steps_of_run p ≡ ss ++ ts → (is : IsSettled p.quarter (first_world p) ss)
+    → DemandsFit (run (machine p.quarter) is.before (first_world p)).net (locals_of (run (machine p.quarter) is.before (first_world p)))
+    → HasSettledFlags p.quarter (run (machine p.quarter) ss (first_world p))
+flags_of_a_run_settle p run_fit senders ss ts front is fit =
+    let kept = kept_at p run_fit senders ss ts front is in
+    flags_settle p.quarter (first_world p) ss is (record { bounds = kept.0; locals = kept.1; fit = fit })

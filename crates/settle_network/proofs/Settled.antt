@@ -223,7 +223,7 @@ run_all q [] w = refl
 run_all q (r ∷ rs) w = run_then q r (all_of rs) w ∙ run_all q rs (run (machine q) r w)
 
 -- what holds so many calm rounds on holds at a moment behind as many
-at_the_end : (q : ℕ) (P : World → Type 0) (w : World) (ss : List Step) (is : IsSettled q w ss)
+pub at_the_end : (q : ℕ) (P : World → Type 0) (w : World) (ss : List Step) (is : IsSettled q w ss)
     → Hold (machine q) (13 * longest (run (machine q) is.before w).net + 13) is.rounds (run (machine q) is.before w) P → P (run (machine q) ss w)
 at_the_end q P w ss is holds =
     let o : World = run (machine q) is.before w in

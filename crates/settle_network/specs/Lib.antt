@@ -4,4 +4,6 @@ pub mod Purged
 pub mod Example
 pub mod Tight
 pub mod RunExample
+pub mod Flags
+pub mod FlagsExample
 pub use Rattle.settle_resvs.specs as SettleResvs

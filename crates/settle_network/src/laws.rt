@@ -15,6 +15,8 @@ ghost use Rattle.network_model.specs.Worlds.{World};
 ghost use Rattle.laws_network.specs.Runs.{AreFitSenders, IsFitRun};
 ghost use Rattle.settle_resvs.specs.Sessions.{SessionFits};
 ghost use Rattle.settle_network.specs.Example.{ItHasNotSettledYet};
+ghost use Rattle.settle_network.specs.Flags.{ArePathsPoliced, FlagsAreAFunction, HasSettledFlags};
+ghost use Rattle.settle_network.specs.FlagsExample.{FlagsCanDiffer};
 ghost use Rattle.settle_network.specs.Purged.{HasNothingStale};
 ghost use Rattle.settle_network.specs.RunExample.{ARunMeetsThePremises};
 ghost use Rattle.settle_network.specs.Sessions.{HasSettledFor};
@@ -101,4 +103,33 @@ pub fn it_has_not_settled_yet()
 /// premises of `paths_are_sound` through three rounds as short as calm rounds can be, and after them its paths are not sound.
 pub fn three_rounds_are_too_few()
     ensures { ThreeRoundsAreTooFew }
+{}
+
+/// Paths say E_Police where they should: from any world within bounds, five calm rounds on, a path says E_Police exactly where the
+/// node that it came from has the sender (RFC 2205, 3.8).
+pub fn paths_are_policed()
+    ensures { (q : ℕ) (w : World) (rs : List (List Step)) → Rounds (machine q) rs w → AreBounds q w → Hold (machine q) 5 rs w ArePathsPoliced }
+{}
+
+/// Flags settle: at a settled moment the network has settled, and its paths say E_Police where they should.
+pub fn flags_settle()
+    ensures { (q : ℕ) (w : World) (ss : List Step) (is : IsSettled q w ss) → IsStart q (run (machine q) is.before w) → HasSettledFlags q (run (machine q) ss w) }
+{}
+
+/// So it is in the run of a fit script that lets few senders send, at each settled moment at which the demands fit.
+pub fn flags_of_a_run_settle()
+    ensures { (p : Plan) → IsFitRun p → AreFitSenders p → (ss ts : List Step) → steps_of_run p ≡ ss ++ ts → (is : IsSettled p.quarter (first_world p) ss)
+        → DemandsFit (run (machine p.quarter) is.before (first_world p)).net (locals_of (run (machine p.quarter) is.before (first_world p)))
+        → HasSettledFlags p.quarter (run (machine p.quarter) ss (first_world p)) }
+{}
+
+/// What `flags` writes of a settled network is a function of the network, its senders and its wants: two settled worlds that are alike
+/// in these write the same.
+pub fn flags_are_a_function()
+    ensures { FlagsAreAFunction }
+{}
+
+/// Of a network that has not settled, what `flags` writes is no function of these: an injected Path without E_Police changes it.
+pub fn flags_can_differ()
+    ensures { FlagsCanDiffer }
 {}
