@@ -13,10 +13,12 @@ use Rattle.script_theorem.proofs.Purged.{a_purged_report_is_at_most_the_demand}
 use Rattle.script_theorem.proofs.Sessions.{a_settled_report_shows_each_session}
 use Rattle.laws_safety.specs.Blockades.{ABlockadeStays, AResvErrTearsNothing, AnAdmissionErrorSetsItsBlockade, EachResvSaysWhatGoesToward}
 use Rattle.laws_safety.specs.Books.{AreBooksWithinCapacity}
+use Rattle.laws_safety.specs.Confirmations.{AConfirmationIsHeld}
 use Rattle.laws_safety.specs.Refusals.{ARefusedCallChangesNothing, ARefusedResvChangesNoReservation, AUnitThatPassesIsBooked, AnUntakenUnitChangesNothing}
 use Rattle.laws_safety.proofs.Arrivals.{a_refused_resv, a_unit_that_passes, an_untaken_unit}
 use Rattle.laws_safety.proofs.Books.{books_within}
 use Rattle.laws_safety.proofs.Calls.{a_refused_call}
+use Rattle.laws_safety.proofs.Confirming.{a_confirmation_is_held, each_confirmation_has_begun}
 use Rattle.laws_safety.proofs.Errors.{a_blockade_stays, a_resv_err, an_admission_error_sets_its_blockade, blockades_drop_nothing}
 use Rattle.laws_safety.proofs.Runs.{at_every_step, in_every_world}
 use Rattle.laws_safety.proofs.Speaking.{each_resv}
@@ -61,6 +63,7 @@ fit_runs_are_safe p fit = record {
   ends = ends_there p;
   refusals = refusals p fit;
   blockades = blockades p fit;
+  confirmations = record { held = at_every_step AConfirmationIsHeld a_confirmation_is_held p fit; begun = each_confirmation_has_begun p fit };
 }
 
 pub first_lines_are_safe : FirstLinesAreSafe

@@ -18,6 +18,7 @@ use Rattle.script_theorem.specs.Sessions.{ReportsEachSession}
 use Rattle.script_theorem.specs.Writing.{OnlyWrite}
 use Rattle.laws_safety.specs.Blockades.{ABlockadeStays, AResvErrTearsNothing, AnAdmissionErrorSetsItsBlockade, BlockadesDropNothing, EachResvSaysWhatGoesToward, WhatGoesOnIsBelow}
 use Rattle.laws_safety.specs.Books.{AreBooksWithinCapacity}
+use Rattle.laws_safety.specs.Confirmations.{AConfirmationIsHeld, ConfirmationsHaveBegun}
 use Rattle.laws_safety.specs.Refusals.{ARefusedCallChangesNothing, ARefusedResvChangesNoReservation, AUnitThatPassesIsBooked, AnUntakenUnitChangesNothing}
 
 -- ---- self-stabilisation
@@ -67,6 +68,13 @@ pub record BlockadePromises (p : Plan) : Type 0 where
   -- a step that delivers a ResvErr sends no ResvTear and changes no reservation
   pub kept : AtEachStep AResvErrTearsNothing p
 
+-- a ResvConf confirms what stands at the node where it begins
+pub record ConfirmationPromises (p : Plan) : Type 0 where
+  -- a node that sends one begins it, and then holds at least what is confirmed, or passes it on
+  pub held : AtEachStep AConfirmationIsHeld p
+  -- so one in flight, or that arrives, began at an earlier step, unless it was injected
+  pub begun : ConfirmationsHaveBegun p
+
 -- at each step
 pub record IsSafe (p : Plan) : Type 0 where
   pub books : IsNeverOver p
@@ -74,6 +82,7 @@ pub record IsSafe (p : Plan) : Type 0 where
   pub ends : IsWorldOf p (last_world p)
   pub refusals : RefusalsChangeNothing p
   pub blockades : BlockadePromises p
+  pub confirmations : ConfirmationPromises p
 
 -- ---- both
 -- the plan of a run that is not crowded heals itself, and is safe on the way
