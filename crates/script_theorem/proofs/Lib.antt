@@ -15,3 +15,4 @@ pub mod Senders
 pub mod Wanted
 pub mod Lines
 pub mod WorldDemands
+pub mod FlagReports

@@ -7,3 +7,4 @@ pub mod Example
 pub mod Theorem
 pub mod Fronts
 pub mod Standing
+pub mod FlagReports

@@ -1,6 +1,7 @@
 //! The laws.
 ghost use Rattle.script_theorem.specs.Demands.{ASettledReportIsTheDemand};
 ghost use Rattle.script_theorem.specs.Example.{TheReportBecomesTheDemand};
+ghost use Rattle.script_theorem.specs.FlagReports.{SettledFlagsAreAFunction};
 ghost use Rattle.script_theorem.specs.RoundsAmong.{RoundsAmongWritingCount};
 ghost use Rattle.script_theorem.specs.Purged.{APurgedReportIsAtMostTheDemand};
 ghost use Rattle.script_theorem.specs.Sessions.{ASettledReportShowsEachSession};
@@ -48,4 +49,10 @@ pub fn a_settled_report_shows_each_session()
 /// the demand.
 pub fn the_report_becomes_the_demand()
     ensures { TheReportBecomesTheDemand }
+{}
+
+/// What a `flags` line writes is settled too: in the run of a fit script that lets few senders send, at two settled moments at which the
+/// demands fit and the same is asked of the same network, it writes the same.
+pub fn settled_flags_are_a_function()
+    ensures { SettledFlagsAreAFunction }
 {}
