@@ -1,4 +1,5 @@
 pub mod Misfits
 pub mod Askers
 pub mod Strays
+pub mod Late
 pub mod Findings

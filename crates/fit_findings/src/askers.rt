@@ -67,8 +67,8 @@ fn only_want(alloc: Global, locals: &Locals, want: &LocalWant) -> Result<Locals,
     })
 }
 
-// This want once more.
-fn copy_of(want: &LocalWant) -> LocalWant
+/// This want once more.
+pub(crate) fn copy_of(want: &LocalWant) -> LocalWant
     ensures { result ≡ want.now }
 {
     LocalWant {

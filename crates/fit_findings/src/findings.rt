@@ -8,6 +8,7 @@ ghost use Rattle.fit_findings.specs.Misfits.{AreNone};
 
 use crate::askers::{Asker, askers};
 use crate::idle::idle_among;
+use crate::late::{Begun, Starved, starved_among};
 use crate::misfits::{Misfits, misfits_of};
 use network_demand::{EndBook, Locals, demand};
 use rsvp_base::NoMemory;
@@ -23,26 +24,35 @@ pub struct Findings {
     pub misfits: Misfits,
     /// Each want, in order, and where it asks.
     pub askers: Vec<Asker>,
+    /// What starves, by who came late.
+    pub starved: Vec<Starved>,
     /// The senders, by place, whose tree has no hop out of their node.
     pub idle: Vec<usize>,
 }
 
-/// Finds what does not fit in what hosts ask of a network, who asks where, and who meets nobody. `NoMemory`: there was no room
-/// for it.
-pub fn find_all(alloc: Global, routing: &Routing, locals: &Locals) -> Result<Findings, NoMemory>
+/// Finds what does not fit in what hosts ask of a network, who asks where, what starves, and who meets nobody. `begun` are those who
+/// ask, in the order in which they began. `NoMemory`: there was no room for it.
+pub fn find_all(
+    alloc: Global,
+    routing: &Routing,
+    locals: &Locals,
+    begun: &[Begun],
+) -> Result<Findings, NoMemory>
     requires { AreLocals routing.now (locals_of locals.now) }
-    ensures found { IfOk result (λ f. AreFindings routing.now (locals_of locals.now) f) }
+    ensures found { IfOk result (λ f. AreFindings routing.now (locals_of locals.now) begun.now f) }
     // A misfit is found if and only if the demands do not fit.
     ensures fits { IfOk result (λ f. AreNone f.misfits ↔ DemandsFit routing.now (locals_of locals.now)) }
 {
     let demand = demand(alloc, routing, locals)?;
     let misfits = misfits_of(alloc, &demand, routing, locals)?;
     let askers = askers(alloc, routing, locals)?;
+    let starved = starved_among(alloc, routing.ends(), begun, askers.as_slice())?;
     let idle = idle_among(alloc, routing, locals.senders.as_slice())?;
     Ok(Findings {
         owed: demand.ends,
         misfits,
         askers,
+        starved,
         idle,
     })
 }

@@ -1,4 +1,5 @@
 pub mod NodeNames
+pub mod Orders
 pub mod Beginnings
 pub mod Sayings
 pub mod Coming

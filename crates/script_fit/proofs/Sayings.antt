@@ -7,6 +7,7 @@ use Rattle.fit_findings.specs.Misfits.{AreNone}
 use Rattle.fit_findings.specs.Strays.{why_stray}
 use Rattle.fit_findings.specs.declared.askers.Asker.{Asker}
 use Rattle.fit_findings.specs.declared.findings.Findings.{Findings}
+use Rattle.fit_findings.specs.declared.late.Begun.{Begun}
 use Rattle.fit_findings.specs.declared.stray.Why.{Why}
 use Rattle.network_model.specs.DemandTexts.{IsDemandText, demand_text, last_line}
 use Rattle.rsvp_base.specs.declared.session.Session.{Session}
@@ -20,6 +21,7 @@ use Rattle.tree_model.specs.Wants.{Locals}
 use Rattle.tree_model.specs.declared.hops.End.{End}
 use Rattle.tree_model.specs.declared.locals.LocalSender.{LocalSender}
 use Rattle.tree_model.specs.declared.locals.LocalWant.{LocalWant}
+use Rattle.script_fit.specs.Begun.{begun_by}
 use Rattle.script_fit.specs.Findings.{IsFindingsText}
 use Rattle.script_fit.specs.Laws.{AMisfitIsSaidWhereTheDemandDoesNotFit, EndsInFitsNo, SaysAMisfit}
 use Rattle.script_fit.specs.Texts.{clash_head, clash_text, end_words, idle_line, idle_of, idle_text, large_head, large_text, misfits_text, name_at, over_head, over_text, sends_words, stray_line, stray_text, strays_text, tables_line, tables_text}
@@ -49,22 +51,22 @@ module _ (nodes names : List (List ℕ)) (ends : List End) (f : Findings) where
   one_large : (e : ℕ) → SaysAMisfit (large_text nodes names ends f e)
   one_large e = says_on _ _ (large_says _ _ _)
 
-  one_clash : (s : Session) → SaysAMisfit (clash_text nodes f s)
-  one_clash s = says_on _ _ (clash_says s)
+  one_clash : (s : Session) → SaysAMisfit (clash_text nodes names f s)
+  one_clash s = says_on _ _ (says_on _ _ (clash_says s))
 
   some_said : (over large : List ℕ) (clashing : List Session) (tables : Bool) → (over ≡ [] → large ≡ [] → clashing ≡ [] → tables ≡ false → ⊥)
-      → SaysAMisfit (flat_map (over_text nodes names ends f) over ++ flat_map (large_text nodes names ends f) large ++ flat_map (clash_text nodes f) clashing ++ tables_text tables)
+      → SaysAMisfit (flat_map (over_text nodes names ends f) over ++ flat_map (large_text nodes names ends f) large ++ flat_map (clash_text nodes names f) clashing ++ tables_text tables)
   some_said (e ∷ es) large clashing tables some =
-      says_on (flat_map (over_text nodes names ends f) (e ∷ es) ++ flat_map (large_text nodes names ends f) large ++ flat_map (clash_text nodes f) clashing) (tables_text tables)
-      (says_on (flat_map (over_text nodes names ends f) (e ∷ es) ++ flat_map (large_text nodes names ends f) large) (flat_map (clash_text nodes f) clashing)
+      says_on (flat_map (over_text nodes names ends f) (e ∷ es) ++ flat_map (large_text nodes names ends f) large ++ flat_map (clash_text nodes names f) clashing) (tables_text tables)
+      (says_on (flat_map (over_text nodes names ends f) (e ∷ es) ++ flat_map (large_text nodes names ends f) large) (flat_map (clash_text nodes names f) clashing)
       (says_on (flat_map (over_text nodes names ends f) (e ∷ es)) (flat_map (large_text nodes names ends f) large)
       (says_on (over_text nodes names ends f e) (flat_map (over_text nodes names ends f) es) (one_over e))))
   some_said [] (e ∷ es) clashing tables some =
-      says_on (flat_map (large_text nodes names ends f) (e ∷ es) ++ flat_map (clash_text nodes f) clashing) (tables_text tables)
-      (says_on (flat_map (large_text nodes names ends f) (e ∷ es)) (flat_map (clash_text nodes f) clashing)
+      says_on (flat_map (large_text nodes names ends f) (e ∷ es) ++ flat_map (clash_text nodes names f) clashing) (tables_text tables)
+      (says_on (flat_map (large_text nodes names ends f) (e ∷ es)) (flat_map (clash_text nodes names f) clashing)
       (says_on (large_text nodes names ends f e) (flat_map (large_text nodes names ends f) es) (one_large e)))
   some_said [] [] (s ∷ ss) tables some =
-      says_on (flat_map (clash_text nodes f) (s ∷ ss)) (tables_text tables) (says_on (clash_text nodes f s) (flat_map (clash_text nodes f) ss) (one_clash s))
+      says_on (flat_map (clash_text nodes names f) (s ∷ ss)) (tables_text tables) (says_on (clash_text nodes names f s) (flat_map (clash_text nodes names f) ss) (one_clash s))
   some_said [] [] [] true some = tables_say
   some_said [] [] [] false some = absurd (some refl refl refl refl)
 
@@ -77,7 +79,7 @@ module _ (nodes names : List (List ℕ)) (ends : List End) (f : Findings) where
   -- where all fits it is empty
   nothing_said : AreNone f.misfits → misfits_text nodes names ends f ≡ []
   nothing_said none = λ i.
-      flat_map (over_text nodes names ends f) (none.over i) ++ flat_map (large_text nodes names ends f) (none.large i) ++ flat_map (clash_text nodes f) (none.clashing i) ++ tables_text (none.tables i)
+      flat_map (over_text nodes names ends f) (none.over i) ++ flat_map (large_text nodes names ends f) (none.large i) ++ flat_map (clash_text nodes names f) (none.clashing i) ++ tables_text (none.tables i)
 
 -- ---- strays
 stray_begins : (nodes : List (List ℕ)) (w : LocalWant) (why : Why) → IsStrays (stray_line nodes w why)
@@ -106,12 +108,12 @@ all_are_strays : (nodes : List (List ℕ)) (l : Locals) (f : Findings) → IsStr
 all_are_strays nodes l f = strays_on _ _ (all_strays (stray_text nodes l) f.askers.items (one_stray nodes l)) (all_strays (idle_text nodes l.senders) f.idle.items (one_idle nodes l.senders))
 
 -- ---- findings and demands
-module _ (nodes names : List (List ℕ)) (net : Net) (l : Locals) where
-  said_unfit : (text : List ℕ) → IsFindingsText nodes names net l text → (DemandsFit net l → ⊥) → SaysAMisfit text
+module _ (nodes names : List (List ℕ)) (net : Net) (l : Locals) (begun : List Begun) where
+  said_unfit : (text : List ℕ) → IsFindingsText nodes names net l begun text → (DemandsFit net l → ⊥) → SaysAMisfit text
   said_unfit text t unfit =
       subst SaysAMisfit (sym t.text_is) (says_on (misfits_text nodes names net.ends t.found) (strays_text nodes l t.found) (misfits_said nodes names net.ends t.found (λ none. unfit (t.fits.0 none))))
 
-  fit_unsaid : (text : List ℕ) → IsFindingsText nodes names net l text → DemandsFit net l → SaysAMisfit text → ⊥
+  fit_unsaid : (text : List ℕ) → IsFindingsText nodes names net l begun text → DemandsFit net l → SaysAMisfit text → ⊥
   fit_unsaid text t fit says =
       let nothing : misfits_text nodes names net.ends t.found ≡ [] = nothing_said nodes names net.ends t.found (t.fits.1 fit) in
       strays_say_nothing (strays_text nodes l t.found) (all_are_strays nodes l t.found) (subst SaysAMisfit (t.text_is ∙ ap (λ xs. xs ++ strays_text nodes l t.found) nothing) says)
@@ -143,18 +145,18 @@ module _ (names : List (List ℕ)) (net : Net) (l : Locals) (text : List ℕ) (d
       let z : 115 ≡ 111 = one_before_last (front ++ (codes "longest " ++ decimal (longest net) ++ codes " fits ye")) (says.0 ++ codes " fits n") 115 10 111 10 (sym yes ∙ other) in
       absurd (omega (arith, z))
 
-by_fits : (names nodes : List (List ℕ)) (net : Net) (l : Locals) (findings demand : List ℕ) → IsFindingsText nodes names net l findings → (d : IsDemandText names net l demand) → (b : Bool) → d.fits ≡ b → SaysAMisfit findings ↔ EndsInFitsNo demand
-by_fits names nodes net l findings demand f d true is = (
-  λ says. absurd (fit_unsaid nodes names net l findings f (d.told.0 is) says),
+by_fits : (names nodes : List (List ℕ)) (net : Net) (l : Locals) (begun : List Begun) (findings demand : List ℕ) → IsFindingsText nodes names net l begun findings → (d : IsDemandText names net l demand) → (b : Bool) → d.fits ≡ b → SaysAMisfit findings ↔ EndsInFitsNo demand
+by_fits names nodes net l begun findings demand f d true is = (
+  λ says. absurd (fit_unsaid nodes names net l begun findings f (d.told.0 is) says),
   λ ends. absurd (fit_ends names net l demand d is ends),
 )
-by_fits names nodes net l findings demand f d false is = (
+by_fits names nodes net l begun findings demand f d false is = (
   λ says. unfit_ends names net l demand d is,
-  λ ends. said_unfit nodes names net l findings f (λ fit. let z : false ≡ true = sym is ∙ d.told.1 fit in absurd (cc)),
+  λ ends. said_unfit nodes names net l begun findings f (λ fit. let z : false ≡ true = sym is ∙ d.told.1 fit in absurd (cc)),
 )
 
 pub a_misfit_is_said : AMisfitIsSaidWhereTheDemandDoesNotFit
 a_misfit_is_said bytes findings demand f d =
     let same : d.lines ≡ f.lines = leads_one nothing (text_lines bytes) d.lines f.lines d.leads f.leads in
     let told : IsDemandText f.lines.names (routing f.lines) f.lines.locals demand = subst (λ (x : Draft). IsDemandText x.names (routing x) x.locals demand) same d.says in
-    by_fits f.lines.names f.lines.nodes (routing f.lines) f.lines.locals findings demand f.says told told.fits refl
+    by_fits f.lines.names f.lines.nodes (routing f.lines) f.lines.locals (begun_by f.lines.events) findings demand f.says told told.fits refl

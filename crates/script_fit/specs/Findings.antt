@@ -3,6 +3,7 @@ use Rattle.std.specs.Prelude.{◌≡◌, ◌≢◌, ◌↔◌, ℕ, List, [], Op
 use Rattle.fit_findings.specs.Findings.{AreFindings}
 use Rattle.fit_findings.specs.Misfits.{AreNone}
 use Rattle.fit_findings.specs.declared.findings.Findings.{Findings}
+use Rattle.fit_findings.specs.declared.late.Begun.{Begun}
 use Rattle.script_demand.specs.Answering.{IsAnswering, IsAnsweringOf}
 use Rattle.script_grammar.specs.Draft.{Draft, nothing, routing}
 use Rattle.script_grammar.specs.Grammar.{IsBadLine, Leads}
@@ -11,12 +12,14 @@ use Rattle.script_words.specs.Lines.{text_lines}
 use Rattle.tree_model.specs.Goals.{DemandsFit}
 use Rattle.tree_model.specs.Networks.{Net}
 use Rattle.tree_model.specs.Wants.{Locals}
+use Rattle.script_fit.specs.Begun.{begun_by}
 use Rattle.script_fit.specs.Texts.{findings_text}
 
--- what is found in what hosts ask of a network, with these names of nodes and of ends
-pub record IsFindingsText (nodes names : List (List ℕ)) (net : Net) (l : Locals) (text : List ℕ) : Type 0 where
+-- what is found in what hosts ask of a network, with these names of nodes and of ends; those who ask stand in the order in which they
+-- began
+pub record IsFindingsText (nodes names : List (List ℕ)) (net : Net) (l : Locals) (begun : List Begun) (text : List ℕ) : Type 0 where
   pub found : Findings
-  pub are : AreFindings net l found
+  pub are : AreFindings net l begun found
   pub fits : AreNone found.misfits ↔ DemandsFit net l
   pub text_is : text ≡ findings_text nodes names net.ends l found
 
@@ -25,7 +28,7 @@ pub record IsFindingsText (nodes names : List (List ℕ)) (net : Net) (l : Local
 pub record IsFindingsOf (bytes text : List ℕ) : Type 0 where
   pub lines : Draft
   pub leads : Leads nothing (text_lines bytes) lines
-  pub says : IsFindingsText lines.nodes lines.names (routing lines) lines.locals text
+  pub says : IsFindingsText lines.nodes lines.names (routing lines) lines.locals (begun_by lines.events) text
 
 -- and this tells whether there was something to say
 pub record IsSaidOf (said : Bool) (bytes text : List ℕ) : Type 0 where

@@ -1,4 +1,5 @@
 pub mod Nodes
+pub mod Begun
 pub mod Texts
 pub mod Findings
 pub mod Laws

@@ -7,6 +7,7 @@ use Rattle.fit_findings.specs.Misfits.{largest_of}
 use Rattle.fit_findings.specs.Strays.{why_stray}
 use Rattle.fit_findings.specs.declared.askers.Asker.{Asker}
 use Rattle.fit_findings.specs.declared.findings.Findings.{Findings}
+use Rattle.fit_findings.specs.declared.late.Starved.{Starved}
 use Rattle.fit_findings.specs.declared.stray.Why.{Why}
 use Rattle.fit_findings.specs.declared.stray.Why.TheVariants.{NobodySends, NoSuchSender, NoTree}
 use Rattle.network_demand.specs.Books.{book_at}
@@ -95,9 +96,26 @@ tables_line = codes "misfit: a node would hold more than 1024 reservations of on
 abbrev pub tables_text : Bool → List ℕ
 tables_text tables = if tables then tables_line else []
 
-module _ (nodes : List (List ℕ)) (f : Findings) where
+-- a want that starves, since a node asks in another style
+unfoldable pub late_words : List ℕ → Session → StyleKind → List ℕ
+late_words node s st = codes "late: " ++ node ++ codes " wants " ++ session_text s ++ codes " in " ++ style_text st
+
+unfoldable pub end_starves : List ℕ → List ℕ
+end_starves name = codes ", and starves what stood at end " ++ name ++ codes "\n"
+
+abbrev pub late_head : List (List ℕ) → List (List ℕ) → Starved → List ℕ
+late_head nodes names x = late_words (name_at nodes x.late.node) x.late.session x.late.style ++ end_starves (name_at names x.end)
+
+abbrev pub starved_text : List (List ℕ) → List (List ℕ) → Starved → List ℕ
+starved_text nodes names x = late_head nodes names x ++ want_line nodes x.want
+
+-- where it is of this session
+abbrev pub starved_in : List (List ℕ) → List (List ℕ) → Session → Starved → List ℕ
+starved_in nodes names s x = if eq_by_cmp sessions.cmp s x.late.session then starved_text nodes names x else []
+
+module _ (nodes names : List (List ℕ)) (f : Findings) where
   abbrev pub clash_text : Session → List ℕ
-  clash_text s = clash_head s ++ flat_map (wanter_line nodes s) f.askers.items
+  clash_text s = clash_head s ++ flat_map (wanter_line nodes s) f.askers.items ++ flat_map (starved_in nodes names s) f.starved.items
 
 module _ (nodes names : List (List ℕ)) (ends : List End) (f : Findings) where
   abbrev pub over_text : ℕ → List ℕ
@@ -109,7 +127,7 @@ module _ (nodes names : List (List ℕ)) (ends : List End) (f : Findings) where
 
   -- all that does not fit
   abbrev pub misfits_text : List ℕ
-  misfits_text = flat_map over_text f.misfits.over.items ++ flat_map large_text f.misfits.large.items ++ flat_map (clash_text nodes f) f.misfits.clashing.items ++ tables_text f.misfits.tables
+  misfits_text = flat_map over_text f.misfits.over.items ++ flat_map large_text f.misfits.large.items ++ flat_map (clash_text nodes names f) f.misfits.clashing.items ++ tables_text f.misfits.tables
 
 -- ---- who meets nobody
 abbrev pub why_text : Why → List ℕ → List ℕ

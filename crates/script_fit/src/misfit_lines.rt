@@ -8,6 +8,7 @@ ghost use Rattle.style_rules.specs.Lines.{held};
 ghost use Rattle.script_fit.specs.Texts.{asker_line, capacity_of, clash_head, end_words, is_asker, is_of_session, large_head, large_words, mtu_of, name_at, over_head, over_words, tables_line, want_line, wanter_line};
 ghost use Rattle.script_fit.specs.Texts.{clash_text, large_text, misfits_text, over_text, tables_text};
 
+use crate::late_lines::put_starved;
 use crate::want_lines::{put_name_at, put_want_line};
 use fit_findings::{Asker, Findings, largest, sum_of_rates};
 use itoa::Buffer;
@@ -28,7 +29,7 @@ pub(crate) fn put_misfits(
 {
     put_overs(out, nodes, names, ends, found)?;
     put_larges(out, nodes, names, ends, found)?;
-    put_clashes(out, nodes, found)?;
+    put_clashes(out, nodes, names, found)?;
     put_tables(out, found.misfits.tables)
 }
 
@@ -99,26 +100,33 @@ fn put_large(
 }
 
 // Appends the sessions that are wanted in two styles.
-fn put_clashes(out: &mut Vec<u8>, nodes: &[EndName], found: &Findings) -> Result<(), NoMemory>
-    ensures { OnOk result (out.new.items ≡ out.old.items ++ flat_map (clash_text nodes.now found.now) found.now.misfits.clashing.items) }
+fn put_clashes(
+    out: &mut Vec<u8>,
+    nodes: &[EndName],
+    names: &[EndName],
+    found: &Findings,
+) -> Result<(), NoMemory>
+    ensures { OnOk result (out.new.items ≡ out.old.items ++ flat_map (clash_text nodes.now names.now found.now) found.now.misfits.clashing.items) }
 {
     for session in found.misfits.clashing.as_slice() {
-        put_clash(out, nodes, found, *session)?;
+        put_clash(out, nodes, names, found, *session)?;
     }
     Ok(())
 }
 
-// Appends a session that is wanted in two styles, and who wants it.
+// Appends a session that is wanted in two styles, who wants it, and what starves of it.
 fn put_clash(
     out: &mut Vec<u8>,
     nodes: &[EndName],
+    names: &[EndName],
     found: &Findings,
     session: Session,
 ) -> Result<(), NoMemory>
-    ensures { OnOk result (out.new.items ≡ out.old.items ++ clash_text nodes.now found.now session) }
+    ensures { OnOk result (out.new.items ≡ out.old.items ++ clash_text nodes.now names.now found.now session) }
 {
     put_clash_head(out, session)?;
-    put_wanters(out, nodes, found.askers.as_slice(), session)
+    put_wanters(out, nodes, found.askers.as_slice(), session)?;
+    put_starved(out, nodes, names, found.starved.as_slice(), session)
 }
 
 // Appends that tables are too small, if they are.

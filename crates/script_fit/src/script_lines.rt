@@ -1,4 +1,4 @@
-//! The lines of a whole script are checked, and the names of its nodes kept.
+//! The lines of a whole script are checked, and the names of its nodes and who asks for its sessions kept.
 ghost use Rattle.std.specs.Prelude.{◌≡◌, ◌++◌, [], OnOk, IfErr};
 ghost use Rattle.script_grammar.specs.Draft.{nothing};
 ghost use Rattle.script_grammar.specs.Grammar.{Follows, HasFault, Leads};
@@ -7,9 +7,13 @@ ghost use Rattle.script_words.specs.Lines.{text_lines};
 ghost use Rattle.script_run.specs.Advised.{IsAdvised};
 ghost use Rattle.script_demand.specs.Demanding.{StopsAt};
 ghost use Rattle.script_demand.specs.Feeding.{MatchRefused};
+ghost use Rattle.network_model.specs.Happenings.{call_of};
+ghost use Rattle.script_fit.specs.Begun.{after_call, after_given, after_one, begun_by};
 ghost use Rattle.script_fit.specs.Nodes.{node_of_line, node_said};
 
 use byte_streams::MOST_LINE;
+use fit_findings::{Begun, begin, quit};
+use network_model::{Event, LocalCall};
 use rsvp_base::{EndName, NoMemory};
 use script_advice::put_advice;
 use script_grammar::{Fault, ScriptLine, Stop, read_line};
@@ -17,30 +21,33 @@ use script_run::{Checks, Ending};
 use script_words::{Unread, next_line};
 use std::alloc::Global;
 
-/// Checks the lines of an input one after the other, and keeps the names of the nodes that they declare. It ends at the first bad
-/// line, or where memory runs out. `advice` becomes the text that tells what is wrong with the bad line, and stays empty where memory
+/// Checks the lines of an input one after the other, and keeps the names of the nodes that they declare, and those who ask, in the order
+/// in which they began. It ends at the first bad line, or where memory runs out. `advice` becomes the text that tells what is wrong with the bad line, and stays empty where memory
 /// runs out.
 pub(crate) fn read_lines<C: Checks>(
     alloc: Global,
     checker: &mut C,
     input: &[u8],
     nodes: &mut Vec<EndName>,
+    begun: &mut Vec<Begun>,
     advice: &mut Vec<u8>,
 ) -> Result<(), Ending>
     requires first { C.lines checker.old ≡ nothing }
     requires unnamed { nodes.old.items ≡ [] }
+    requires unasked { begun.old.items ≡ [] }
     requires empty { advice.old.items ≡ [] }
     ensures quiet { OnOk result (advice.new.items ≡ []) }
     ensures advised { IfErr result (λ e. IsAdvised e input.now advice.new.items) }
     ensures taken { OnOk result (Leads nothing (text_lines input.now) (C.lines checker.new)) }
     ensures nodes { OnOk result (nodes.new.items ≡ (C.lines checker.new).nodes) }
+    ensures begun { OnOk result (begun.new.items ≡ begun_by (C.lines checker.new).events) }
     ensures stopped { IfErr result (StopsAt input.now) }
 {
     let mut number: u32 = 0;
     let mut rest = input;
     while let Some((line, behind)) = next_line(rest) {
         number = number.saturating_add(1);
-        match take_line(alloc, checker, line, nodes) {
+        match take_line(alloc, checker, line, nodes, begun) {
             Ok(()) => rest = behind,
             Err(Stop::Bad(why)) => {
                 put_advice(alloc, checker, line, &why, advice);
@@ -53,28 +60,85 @@ pub(crate) fn read_lines<C: Checks>(
     Ok(())
 }
 
-// Takes a line, which is bad where it is too long, and keeps the name of the node that it declares.
+// Takes a line, which is bad where it is too long, and keeps the name of the node that it declares, and who asks behind it.
 fn take_line<C: Checks>(
     alloc: Global,
     checker: &mut C,
     line: &[u8],
     nodes: &mut Vec<EndName>,
+    begun: &mut Vec<Begun>,
 ) -> Result<(), Stop>
     ensures follows { OnOk result (Follows (C.lines checker.old) line.now (C.lines checker.new)) }
     ensures refused { IfErr result (MatchRefused (HasFault (C.lines checker.old) line.now)) }
     ensures same { IfErr result (MatchRefused (λ why. C.lines checker.new ≡ C.lines checker.old)) }
     ensures nodes { OnOk result (nodes.new.items ≡ nodes.old.items ++ node_said (script_line_of line.now)) }
+    ensures begun { OnOk result (begun.old.items ≡ begun_by (C.lines checker.old).events → begun.new.items ≡ begun_by (C.lines checker.new).events) }
 {
     if line.len() > MOST_LINE {
         return Err(Stop::Bad(Fault::Limit));
     }
     match checker.feed(line) {
-        Ok(_event) => {}
-        Err(refused) => return Err(refused),
+        Ok(event) => match keep_line(alloc, line, &event, nodes, begun) {
+            Ok(()) => Ok(()),
+            Err(_) => Err(Stop::NoMemory),
+        },
+        Err(refused) => Err(refused),
     }
-    match keep_node(alloc, line, nodes) {
-        Ok(()) => Ok(()),
-        Err(_) => Err(Stop::NoMemory),
+}
+
+// Keeps the name of the node that a line declares, if it declares one, and who asks behind its event, if it has one.
+fn keep_line(
+    alloc: Global,
+    line: &[u8],
+    event: &Option<Event>,
+    nodes: &mut Vec<EndName>,
+    begun: &mut Vec<Begun>,
+) -> Result<(), NoMemory>
+    ensures nodes { OnOk result (nodes.new.items ≡ nodes.old.items ++ node_said (script_line_of line.now)) }
+    ensures begun { OnOk result (begun.new.items ≡ after_given begun.old.items event.now) }
+{
+    keep_given(event, begun)?;
+    keep_node(alloc, line, nodes)
+}
+
+// Keeps who asks behind an event, if there is one.
+fn keep_given(event: &Option<Event>, begun: &mut Vec<Begun>) -> Result<(), NoMemory>
+    ensures { OnOk result (begun.new.items ≡ after_given begun.old.items event.now) }
+{
+    match event {
+        Some(event) => keep_event(event, begun),
+        None => Ok(()),
+    }
+}
+
+// Keeps who asks behind an event.
+fn keep_event(event: &Event, begun: &mut Vec<Begun>) -> Result<(), NoMemory>
+    ensures { OnOk result (begun.new.items ≡ after_one begun.old.items event.now) }
+{
+    match event {
+        Event::Local { node, call } => keep_call(*node, call, begun),
+        _ => Ok(()),
+    }
+}
+
+// Keeps who asks, where this was asked of a node.
+fn keep_call(node: u16, call: &LocalCall, begun: &mut Vec<Begun>) -> Result<(), NoMemory>
+    ensures { OnOk result (begun.new.items ≡ after_call begun.old.items node (call_of call.now)) }
+{
+    match call {
+        LocalCall::Want { session, style, .. } => begin(
+            begun,
+            Begun {
+                node,
+                session: *session,
+                style: *style,
+            },
+        ),
+        LocalCall::Quit { session } => {
+            quit(begun, node, *session);
+            Ok(())
+        }
+        _ => Ok(()),
     }
 }
 

@@ -17,6 +17,7 @@ ghost use Rattle.script_fit.specs.Findings.{IsFinding, IsFindingOf, IsFindingsOf
 use crate::script_lines::read_lines;
 use crate::whole_text::findings_text;
 use byte_streams::{ReadErr, Sink, Source, read_all, write_all};
+use fit_findings::Begun;
 use rsvp_base::{EndName, NoMemory};
 use script_demand::Asks;
 use script_run::Ending;
@@ -132,24 +133,30 @@ fn findings_of<C: Asks + Drop>(
     ensures stopped { IfErr result (StopsAt input.now) }
 {
     let mut nodes = Vec::new(alloc);
-    match read_lines(alloc, &mut checker, input, &mut nodes, advice) {
+    let mut begun = Vec::new(alloc);
+    match read_lines(alloc, &mut checker, input, &mut nodes, &mut begun, advice) {
         Ok(()) => {}
         Err(ending) => return Err(ending),
     }
-    match text_of(alloc, &checker, nodes.as_slice()) {
+    match text_of(alloc, &checker, nodes.as_slice(), begun.as_slice()) {
         Ok(text) => Ok(text),
         Err(_) => Err(Ending::NoMemory),
     }
 }
 
-// What is found in what the lines ask, with the names of their nodes. `NoMemory`: there was no room for it.
-fn text_of<C: Asks>(alloc: Global, checker: &C, nodes: &[EndName]) -> Result<Vec<u8>, NoMemory>
+// What is found in what the lines ask, with the names of their nodes and those who ask. `NoMemory`: there was no room for it.
+fn text_of<C: Asks>(
+    alloc: Global,
+    checker: &C,
+    nodes: &[EndName],
+    begun: &[Begun],
+) -> Result<Vec<u8>, NoMemory>
     requires { CanBeAsked (C.lines checker.now) }
-    ensures { IfOk result (λ text. IsFindingsText nodes.now (C.lines checker.now).names (routing (C.lines checker.now)) (C.lines checker.now).locals text.items) }
+    ensures { IfOk result (λ text. IsFindingsText nodes.now (C.lines checker.now).names (routing (C.lines checker.now)) (C.lines checker.now).locals begun.now text.items) }
 {
     let routing = checker.routing()?;
     let locals = checker.locals()?;
-    findings_text(alloc, nodes, checker.names(), &routing, &locals)
+    findings_text(alloc, nodes, checker.names(), &routing, &locals, begun)
 }
 
 // Writes a text.

@@ -4,12 +4,13 @@ use Rattle.script_grammar.specs.Draft.{Draft, nothing}
 use Rattle.script_grammar.specs.Grammar.{Leads}
 use Rattle.script_grammar.specs.LineKinds.{script_line_of}
 use Rattle.script_grammar.proofs.Scripts.{leads_on}
+use Rattle.script_fit.specs.Begun.{begun_by}
 use Rattle.script_fit.specs.Nodes.{node_said}
 use Rattle.script_fit.proofs.NodeNames.{nodes_behind}
 use Rattle.script_fit.proofs.script_lines.read_lines.Goals as goal
 
 pub loop-line-init : goal.loop-line-init
-loop-line-init g c = record { before = []; parts = refl; number = omega arith; leads = c.requires.first; nodes = c.requires.unnamed ∙ ap (λ (d : Draft). d.nodes) (sym c.requires.first); quiet = c.requires.empty }
+loop-line-init g c = record { before = []; parts = refl; number = omega arith; leads = c.requires.first; nodes = c.requires.unnamed ∙ ap (λ (d : Draft). d.nodes) (sym c.requires.first); begun = c.requires.unasked ∙ ap (λ (d : Draft). begun_by d.events) (sym c.requires.first); quiet = c.requires.empty }
 
 pub loop-line-preserved : goal.loop-line-preserved
 loop-line-preserved g c =
@@ -22,6 +23,7 @@ loop-line-preserved g c =
       leads = leads_on nothing i.before (g.C.LinesBefore.lines c.loop-line.checker) (g.C.LinesBefore.lines c.take_line.new.checker) line i.leads c.in-Ok.ensures.follows;
       nodes = c.in-Ok.ensures.nodes ∙ ap (λ (xs : List (List ℕ)). xs ++ node_said (script_line_of line)) i.nodes
           ∙ sym (nodes_behind (g.C.LinesBefore.lines c.loop-line.checker) line (g.C.LinesBefore.lines c.take_line.new.checker) c.in-Ok.ensures.follows);
+      begun = c.in-Ok.ensures.begun i.begun;
       quiet = i.quiet;
     }
 

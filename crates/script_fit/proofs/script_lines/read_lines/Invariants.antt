@@ -2,9 +2,10 @@ use Rattle.std.proofs.Common.{◌≡◌, ℕ, ◌-◌, ◌^◌, ◌++◌, List, 
 use Rattle.script_grammar.specs.Draft.{nothing}
 use Rattle.script_grammar.specs.Grammar.{Leads}
 use Rattle.script_words.specs.Lines.{text_lines}
+use Rattle.script_fit.specs.Begun.{begun_by}
 use Rattle.script_fit.proofs.script_lines.read_lines.Given as goal
 
--- the lines before were taken, with the names of their nodes
+-- the lines before were taken, with the names of their nodes and those who ask behind them
 abbrev pub invariant-loop-line : goal.invariant-loop-line
 invariant-loop-line g l =
     record {
@@ -13,6 +14,7 @@ invariant-loop-line g l =
       number : l.number ≡ min (length before) (2 ^ 32 - 1);
       leads : Leads nothing before (g.C.LinesBefore.lines l.checker);
       nodes : l.nodes.items ≡ (g.C.LinesBefore.lines l.checker).nodes;
+      begun : l.begun.items ≡ begun_by (g.C.LinesBefore.lines l.checker).events;
       quiet : l.advice.items ≡ [];
     }
 
