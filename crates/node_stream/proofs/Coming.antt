@@ -156,4 +156,4 @@ comes_to WriteFault wanted old new before after bytes text r e le c read write =
 comes_to NoMemory wanted old new before after bytes text r e le c read write = inr refl
 comes_to TooLong wanted old new before after bytes text r e le c read write =
     let known = all_known old new bytes r.taken e r.took in
-    absurd (omega (arith, r.counted, le, known.1))
+    absurd (omega (arith, r.counted.0, le, known.1))

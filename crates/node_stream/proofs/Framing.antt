@@ -32,10 +32,6 @@ part_is_no_frame part g y short is same =
     let head : 3 ≤ length part = omega (arith, long, is.head) in
     omega (arith, long, at, is.whole, short head)
 
--- no more than a frame
-abbrev pub IsNoMore : List ℕ → Type 0
-IsNoMore front = 3 ≤ length front → length front ≤ 3 + length_at front
-
 -- nothing begins with something
 pub nothing_is_none : (x y : List ℕ) → 0 < length x → [] ≡ x ++ y → ⊥
 nothing_is_none [] y some e = omega (arith, some)

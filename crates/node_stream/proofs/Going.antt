@@ -5,11 +5,8 @@ use Rattle.std.proofs.lemmas.Bool.{eqb-true}
 use Rattle.std.specs.Io.KnownBytes.{Consumes}
 use Rattle.node_frames.proofs.Faults.{blame_is_fault}
 use Rattle.network_replay.specs.Following.{Seen}
-use Rattle.node_stream.specs.Endings.{IsAdvised, IsFront, IsServed, most_bytes}
+use Rattle.node_stream.specs.Endings.{IsAdvised, IsServed, most_bytes}
 use Rattle.node_stream.specs.Frames.{IsFrame, contents_in, kind_in}
-use Rattle.node_stream.specs.Reading.{IsRead}
-use Rattle.node_stream.specs.declared.reading.Read.{Read}
-use Rattle.node_stream.specs.declared.reading.Read.TheVariants.{Whole, Ended, Failed}
 use Rattle.node_stream.specs.Serving.{Standing, place_if}
 use Rattle.node_stream.specs.Stops.{IsAdvisedAt, IsStopped, ending_at}
 use Rattle.node_stream.specs.declared.ending.Ending.{Ending}
@@ -30,12 +27,6 @@ going_at_start see a f limits = record { clock = 0; on = at_start a f; sound = t
 pub measured : {R : Type 0} (see : Seen R) (router : Option R) (limits : Limits) (c : ℕ) → IsSound (stand see router c) limits → IsMeasured (stand see router 0) limits
 measured see None limits c sound = tt
 measured see (Some r) limits c sound = sound.0
-
--- what came, however it ended, is the front of a frame
-pub front_of : (r : Read) (frame : List ℕ) (left : Option (List ℕ)) → IsRead r frame left → IsFront frame
-front_of Whole frame left is = inr is
-front_of Ended frame left is = inl is.0
-front_of Failed frame left is = inl is
 
 -- ---- a frame that was not served
 module _ {R : Type 0} (see : Seen R) (old left first holds : Option (List ℕ)) (router : Option R) (limits : Limits) (taken number : ℕ) (go : Going see old left first holds router limits taken number)

@@ -15,8 +15,8 @@ use Rattle.node_frames.specs.declared.frame.Frame.TheVariants.{Opens}
 use Rattle.script_words.specs.Lines.{line_number}
 use Rattle.script_words.specs.declared.fault.LineWhy.{LineWhy}
 use Rattle.script_words.specs.declared.fault.LineWhy.TheVariants as why
-use Rattle.node_stream.specs.Endings.{IsAdvised, IsBlameOf, IsCut, IsFaulty, IsFirstBad, IsFront, IsOpening, IsServed, most_bytes}
-use Rattle.node_stream.specs.Frames.{IsFrame, IsPart, contents_in, kind_in}
+use Rattle.node_stream.specs.Endings.{IsAdvised, IsBlameOf, IsCut, IsFaulty, IsFirstBad, IsOpening, IsServed, most_at_once, most_bytes}
+use Rattle.node_stream.specs.Frames.{IsFrame, IsFront, IsPart, contents_in, kind_in}
 use Rattle.node_stream.specs.Serving.{Follows, HasRun, HasServed, Standing, place_if}
 use Rattle.node_stream.specs.declared.ending.Ending.{Ending}
 use Rattle.node_stream.specs.declared.ending.Ending.TheVariants.{Done, BadFrame, ReadFault, WriteFault, NoMemory, TooLong}
@@ -101,13 +101,13 @@ module _ (old left first holds : Option (List ℕ)) (st : Option Standing) (take
   abbrev ran : HasRun p.frames p.text
   ran = record { standing = st; served = p.served }
 
-  pub ended_long : most_bytes < now → IsFront frame → IsServed TooLong old new first holds
-  ended_long many front = record {
+  pub ended_long : most_bytes < now → now ≤ most_bytes + most_at_once → IsFront frame → IsServed TooLong old new first holds
+  ended_long many at_once front = record {
     taken = bytes_taken;
     took = took_all;
     text = p.text;
     wrote = p.wrote;
-    counted = omega (arith, many, as_many);
+    counted = (omega (arith, many, as_many), omega (arith, at_once, as_many));
     ended = record { before = p.frames; last = frame; taken_is = refl; holds = front; ran = ran };
   }
 

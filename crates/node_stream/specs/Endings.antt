@@ -12,7 +12,7 @@ use Rattle.node_frames.specs.Rules.{HasFault}
 use Rattle.node_frames.specs.declared.blame.Blame.{Blame}
 use Rattle.node_frames.specs.declared.blame.Blame.TheVariants.{Head, Cut}
 use Rattle.node_frames.specs.declared.frame.Frame.TheVariants.{Opens}
-use Rattle.node_stream.specs.Frames.{IsFrame, IsPart, contents_in, kind_in}
+use Rattle.node_stream.specs.Frames.{IsFrame, IsFront, IsPart, contents_in, kind_in}
 use Rattle.node_stream.specs.Serving.{HasRun, Standing, place_if}
 use Rattle.node_stream.specs.declared.ending.Ending.{Ending}
 use Rattle.node_stream.specs.declared.ending.Ending.TheVariants.{Done, BadFrame, ReadFault, WriteFault, NoMemory, TooLong}
@@ -20,6 +20,10 @@ use Rattle.node_stream.specs.declared.ending.Ending.TheVariants.{Done, BadFrame,
 -- the most bytes of a stream
 abbrev pub most_bytes : ℕ
 most_bytes = 4294967296
+
+-- the most that are asked for at a time
+abbrev pub most_at_once : ℕ
+most_at_once = 4096
 
 -- ---- the whole
 -- these bytes are frames, and this is what is written for them
@@ -86,10 +90,6 @@ pub record EndedInside (C : List ℕ → Type 0) (taken text : List ℕ) : Type 
   pub holds : C last
   pub ran : HasRun before text
 
--- whole or not
-abbrev pub IsFront : List ℕ → Type 0
-IsFront last = IsPart last ⊎ IsFrame last
-
 -- the frame that was taken last was served, and a prefix of what is written for it was written
 pub record EndedWriting (taken text : List ℕ) : Type 0 where
   pub before : List (List ℕ)
@@ -118,9 +118,9 @@ EndedSo WriteFault bytes taken text = EndedWriting taken text
 EndedSo NoMemory bytes taken text = ((taken ≡ []) ⊎ IsOpening taken) × (text ≡ [])
 EndedSo TooLong bytes taken text = EndedInside IsFront taken text
 
--- so many bytes were taken: more than a stream may have exactly where that is how it ended
+-- so many bytes were taken: more than a stream may have exactly where that is how it ended, and then it ended at once
 abbrev pub CanTake : Ending → ℕ → Type 0
-CanTake TooLong n = most_bytes < n
+CanTake TooLong n = (most_bytes < n) × (n ≤ most_bytes + most_at_once)
 CanTake _ n = n ≤ most_bytes
 
 -- bytes were taken of a source and a text was written to a sink, and service ended so

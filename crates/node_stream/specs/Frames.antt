@@ -12,6 +12,10 @@ pub record IsFrame (frame : List ℕ) : Type 0 where
 abbrev pub IsPart : List ℕ → Type 0
 IsPart front = 3 ≤ length front → length front < 3 + length_at front
 
+-- no more than a frame
+abbrev pub IsFront : List ℕ → Type 0
+IsFront front = 3 ≤ length front → length front ≤ 3 + length_at front
+
 abbrev pub kind_in : List ℕ → ℕ
 kind_in frame = byte_at 0 frame
 

@@ -15,6 +15,7 @@ ghost use Rattle.node_stream.specs.Stops.{IsStopped, IsUnopened};
 ghost use Rattle.node_stream.specs.States.{AreLimits, HasAnswered, HasDone, IsMeasured, IsServedAs, IsServedBy, IsSound, IsTakenIn, IsWithin, stand, stands_at};
 
 use crate::answers::Answers;
+use crate::reading::HEAD;
 use crate::serves::Serves;
 use crate::state::{Limits, Stop};
 use message_decode::decode;
@@ -24,9 +25,6 @@ use router_rules::Heard;
 use rsvp_base::Addr;
 use rsvp_messages::{Message, MsgErr};
 use std::alloc::Global;
-
-// The bytes of a head.
-const HEAD: usize = 3;
 
 /// Serves a frame: the first opens the router, and each other comes to it. What it sends, and then what it made of a datagram, is put in
 /// `out`, where nothing stands.

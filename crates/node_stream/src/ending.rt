@@ -18,6 +18,6 @@ pub enum Ending {
     WriteFault,
     /// Memory ran out.
     NoMemory,
-    /// More than 4,294,967,296 bytes were taken.
+    /// More than 4,294,967,296 bytes were taken. Nothing was asked for behind the piece, of at most 4,096, that passed them.
     TooLong,
 }

@@ -8,8 +8,8 @@ ghost use Rattle.node_stream.specs.Reading.{IsRead};
 use byte_streams::{Failed, Source};
 use node_frames::length_at;
 
-// The bytes of a head.
-const HEAD: usize = 3;
+/// The bytes of a head.
+pub(crate) const HEAD: usize = 3;
 
 /// What came of a frame.
 #[derive(Clone, Copy, Debug, PartialEq, Eq)]
@@ -20,17 +20,24 @@ pub enum Read {
     Ended,
     /// A part of it, or nothing: a call of the source failed.
     Failed,
+    /// A part of it, or all: more bytes than may come.
+    Long,
 }
 
 /// Reads a frame in place of what `frame` holds, which has room for one. No byte behind it is asked for, and no more than `piece` has
-/// room for at a time.
+/// room for at a time. Nothing more is asked for once more than `most` bytes came.
 ///
 /// `Failed` comes only where the source's count of faults rose in this call, or stands at its last value.
-pub(crate) fn read_frame<S: Source>(source: &mut S, piece: &mut [u8], frame: &mut Vec<u8>) -> Read
+pub(crate) fn read_frame<S: Source>(
+    source: &mut S,
+    piece: &mut [u8],
+    most: u64,
+    frame: &mut Vec<u8>,
+) -> Read
     requires piece { 0 < length piece.old }
     requires room { 65538 ≤ vec_capacity frame.old }
     ensures took { Consumes (S.left source.old) (S.left source.new) frame.new.items }
-    ensures read { IsRead result frame.new.items (S.left source.new) }
+    ensures read { IsRead most (length piece.old) result frame.new.items (S.left source.new) }
     ensures most { vec_len frame.new ≤ 65538 }
     ensures room { 65538 ≤ vec_capacity frame.new }
     ensures piece { length piece.new ≡ length piece.old }
@@ -47,6 +54,9 @@ pub(crate) fn read_frame<S: Source>(source: &mut S, piece: &mut [u8], frame: &mu
             Ok(0) => return Read::Ended,
             Ok(_) => {}
             Err(_) => return Read::Failed,
+        }
+        if frame.len() as u64 > most {
+            return Read::Long;
         }
     }
 }
@@ -78,6 +88,7 @@ fn read_piece<S: Source>(
         (bs : List ℕ) × Consumes (S.left source.old) (S.left source.new) bs
         × (frame.new.items ≡ frame.old.items ++ bs) × (n ≡ length bs)) }
     ensures most { vec_len frame.new ≤ wanted }
+    ensures few { vec_len frame.new ≤ vec_len frame.old + length piece.old }
     ensures end { IfOk result (λ n. n ≡ 0 → IsAtEnd (S.left source.new)) }
     ensures stopped { OnErr result (Consumes (S.left source.old) (S.left source.new) []) }
     ensures kept { OnErr result (frame.new.items ≡ frame.old.items) }

@@ -12,7 +12,7 @@ ghost use Rattle.node_stream.specs.declared.ending.Ending.{Ending as AnEnding};
 use crate::acting::serve_frame;
 use crate::answers::Answers;
 use crate::ending::Ending;
-use crate::reading::{Read, read_frame};
+use crate::reading::{HEAD, Read, read_frame};
 use crate::serves::Serves;
 use crate::state::{Limits, Stop};
 use byte_streams::{Sink, Source, write_all};
@@ -22,9 +22,6 @@ use std::alloc::Global;
 
 // The most bytes of a stream.
 const MOST_BYTES: u64 = 4_294_967_296;
-
-// The bytes of a head.
-const HEAD: usize = 3;
 
 // Room for a frame: its head, and 65,535 bytes of contents.
 const ROOM: usize = 65_538;
@@ -90,12 +87,7 @@ fn serve_to_end<R: Serves, S: Source, K: Sink>(
     let mut taken = 0u64;
     let mut number = 1u32;
     loop {
-        let read = read_frame(source, &mut piece, &mut frame);
-        taken += frame.len() as u64;
-        if taken > MOST_BYTES {
-            return Ending::TooLong;
-        }
-        match read {
+        match read_frame(source, &mut piece, MOST_BYTES - taken, &mut frame) {
             Read::Whole => {}
             Read::Ended => {
                 if frame.is_empty() {
@@ -104,7 +96,9 @@ fn serve_to_end<R: Serves, S: Source, K: Sink>(
                 return end_bad(cut_blame(frame.as_slice()), number, advice);
             }
             Read::Failed => return Ending::ReadFault,
+            Read::Long => return Ending::TooLong,
         }
+        taken += frame.len() as u64;
         out.clear();
         match serve_frame(alloc, &mut router, &mut limits, frame.as_slice(), &mut out) {
             Ok(()) => {}

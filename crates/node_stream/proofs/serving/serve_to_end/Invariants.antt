@@ -1,22 +1,22 @@
 use Rattle.std.proofs.Common.{◌≡◌, ◌-◌, ◌<◌, ◌≤◌, [], length}
 use Rattle.std.specs.Vec.{vec_capacity}
-use Rattle.node_stream.specs.Endings.{most_bytes}
+use Rattle.node_stream.specs.Endings.{most_at_once, most_bytes}
 use Rattle.node_stream.proofs.Going.{Going}
 use Rattle.node_stream.proofs.serving.serve_to_end.Given as goal
 
 -- the frames up to here were served, and their answers were written
-abbrev pub invariant-loop-taken : goal.invariant-loop-taken
-invariant-loop-taken g l =
+abbrev pub invariant-loop-frame : goal.invariant-loop-frame
+invariant-loop-frame g l =
     record {
       going : Going g.R.Router.seen (g.S.Source.left l.initial.source) (g.S.Source.left l.source) (g.K.Sink.holds l.initial.sink) (g.K.Sink.holds l.sink) l.router l.limits l.taken l.number;
       within : l.taken ≤ most_bytes;
       room : 65538 ≤ vec_capacity l.frame;
-      piece : 0 < length l.piece;
+      piece : length l.piece ≡ most_at_once;
       read : g.S.Source.faults l.initial.source ≤ g.S.Source.faults l.source;
       written : g.K.Sink.faults l.initial.sink ≤ g.K.Sink.faults l.sink;
       quiet : l.advice.items ≡ [];
     }
 
 -- each turn takes three bytes at least of those that a stream may have
-abbrev pub decreases-loop-taken : goal.decreases-loop-taken
-decreases-loop-taken g l = most_bytes - l.taken
+abbrev pub decreases-loop-frame : goal.decreases-loop-frame
+decreases-loop-frame g l = most_bytes - l.taken
