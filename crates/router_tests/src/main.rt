@@ -1,6 +1,7 @@
-//! Tests of a router, message by message, and of whole commands (`commands`). A row of a router is a script, in the language of
-//! `rsvpd replay`, and what it writes, with what stands in flight behind its last line, in the words of `rsvpd show`. What is
-//! wanted is worked out by hand from the rules. Above a message that a script puts in flight stands what its bytes say.
+//! Tests of a router, message by message, of whole commands (`commands`), and of one router over a stream (`streams`). A row of a
+//! router is a script, in the language of `rsvpd replay`, and what it writes, with what stands in flight behind its last line, in
+//! the words of `rsvpd show`. What is wanted is worked out by hand from the rules. Above a message that a script puts in flight
+//! stands what its bytes say.
 //!
 //! There is nothing here but tests: a crate that has tests is proved twice, and the crates of a router are not. It is a program,
 //! which does nothing, and no library: of a library the kit reads all sources that it stands on twice more.
@@ -18,5 +19,7 @@ mod paths;
 mod reservations;
 #[cfg(test)]
 mod runs;
+#[cfg(test)]
+mod streams;
 
 fn main(_rt: HostRuntime) {}
