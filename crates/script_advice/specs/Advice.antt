@@ -12,10 +12,11 @@ use Rattle.script_advice.specs.FieldTexts.{form_text, range_text}
 use Rattle.script_advice.specs.KindTexts.{first_text, usage_text}
 use Rattle.script_advice.specs.Known.{named_text}
 use Rattle.script_advice.specs.RuleTexts.{rule_word, rule_text}
+use Rattle.script_advice.specs.TreeBlames.{hop_text}
 use Rattle.value_texts.specs.Blamed.{blamed_line}
 use Rattle.script_advice.specs.declared.blame.Blame.{Blame}
 use Rattle.value_texts.specs.Texts.{style_text}
-use Rattle.script_advice.specs.declared.blame.Blame.TheVariants.{Returns, First, Comment, Count, Form, Range, Flow, Unknown, Linked, Styled, Over, Long, Rule}
+use Rattle.script_advice.specs.declared.blame.Blame.TheVariants.{Returns, First, Comment, Count, Form, Range, Flow, Unknown, Linked, Styled, Over, Long, Hop, Rule}
 
 -- what an end has, and where it is a capacity, what is asked of it
 unfoldable pub capacity_head : List ℕ
@@ -51,6 +52,7 @@ wanted_text (Linked word) = codes "an end is in one link at most, and an earlier
 wanted_text (Styled style) = style_head ++ style_text style
 wanted_text (Over much) = excess_text much
 wanted_text Long = codes "a line has at most 2048 bytes, and ends with a line feed"
+wanted_text (Hop word why) = hop_text why
 wanted_text (Rule rule kind) = rule_text rule kind
 
 -- the number of the word that is to blame, from 0; none where it is the line as a whole
@@ -66,6 +68,7 @@ number_of_word (Unknown word what) = Some word
 number_of_word (Linked word) = Some word
 number_of_word (Styled style) = Some 3
 number_of_word (Over much) = excess_word much
+number_of_word (Hop word why) = Some word
 number_of_word Long = None
 number_of_word (Rule rule kind) = rule_word rule kind
 

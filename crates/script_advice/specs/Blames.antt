@@ -12,10 +12,12 @@ use Rattle.script_grammar.specs.declared.fault.Fault.TheVariants as fault
 use Rattle.script_grammar.specs.FirstWords.{IsFirstOut, unformed_from}
 use Rattle.script_grammar.specs.KindLaws.{are_formed}
 use Rattle.script_grammar.specs.Kinds.{field_at, has_count, kind_of}
+use Rattle.script_grammar.specs.LineKinds.{script_line_of}
 use Rattle.script_grammar.specs.Names.{named_at}
 use Rattle.script_grammar.specs.declared.field.Field.{Field}
 use Rattle.script_grammar.specs.declared.field.Field.TheVariants as field
 use Rattle.script_grammar.specs.declared.kind.Kind.{Kind}
+use Rattle.script_grammar.specs.declared.line.ScriptLine.{ScriptLine}
 use Rattle.script_grammar.specs.declared.named.Named.{Named}
 use Rattle.line_advice.specs.FlowFaults.{IsFlowFault}
 use Rattle.line_advice.specs.declared.flow_faults.FlowFault.{FlowFault}
@@ -23,6 +25,7 @@ use Rattle.script_advice.specs.Breaks.{IsFirstLinked, IsLimit, IsOtherStyle, new
 use Rattle.script_advice.specs.Known.{unknown_from}
 use Rattle.script_advice.specs.declared.blame.Blame.{Blame}
 use Rattle.script_advice.specs.declared.blame.Blame.TheVariants.{Returns, First, Comment, Count, Form, Range, Flow, Unknown, Linked, Styled, Over, Long, Rule}
+use Rattle.script_advice.specs.TreeBlames.{IsTreeBlame}
 use Rattle.script_advice.specs.declared.rule.Rule.{Rule as ARule}
 use Rattle.script_advice.specs.declared.rule.Rule.TheVariants as rule
 
@@ -130,19 +133,19 @@ abbrev pub rule_blame : ARule → Option Kind → Blame
 rule_blame broken None = First
 rule_blame broken (Some kind) = Rule broken kind
 
--- ---- what is to blame for a fault behind these lines
-abbrev pub IsBlamedOf : Draft → List (List ℕ) → Fault → Blame → Type 0
-IsBlamedOf d words fault.Word blame = blame ≡ word_blame words
-IsBlamedOf d words fault.Late blame = blame ≡ rule_blame rule.InTime (kind_of words)
-IsBlamedOf d words fault.Range blame = IsOutOfRange (period_of d) (kind_of words) (behind_first words) blame
-IsBlamedOf d words fault.Name blame = blame ≡ unknown_blame d (kind_of words) (behind_first words)
-IsBlamedOf d words fault.Twice blame = IsThere d (kind_of words) (behind_first words) blame
-IsBlamedOf d words fault.Style blame = IsOfOtherStyle d words blame
-IsBlamedOf d words fault.Limit blame = IsPassed d (kind_of words) (behind_first words) blame
-IsBlamedOf d words fault.NotTree blame = blame ≡ rule_blame rule.OfTree (kind_of words)
-IsBlamedOf d words (fault.Over much) blame = blame ≡ Over much
-IsBlamedOf d words (fault.Loop group from to) blame = blame ≡ rule_blame rule.LoopFree (kind_of words)
+-- ---- what is to blame for a fault behind these lines, of a line that says this in these words
+abbrev pub IsBlamedOf : Draft → Option ScriptLine → List (List ℕ) → Fault → Blame → Type 0
+IsBlamedOf d said words fault.Word blame = blame ≡ word_blame words
+IsBlamedOf d said words fault.Late blame = blame ≡ rule_blame rule.InTime (kind_of words)
+IsBlamedOf d said words fault.Range blame = IsOutOfRange (period_of d) (kind_of words) (behind_first words) blame
+IsBlamedOf d said words fault.Name blame = blame ≡ unknown_blame d (kind_of words) (behind_first words)
+IsBlamedOf d said words fault.Twice blame = IsThere d (kind_of words) (behind_first words) blame
+IsBlamedOf d said words fault.Style blame = IsOfOtherStyle d words blame
+IsBlamedOf d said words fault.Limit blame = IsPassed d (kind_of words) (behind_first words) blame
+IsBlamedOf d said words fault.NotTree blame = IsTreeBlame d said blame
+IsBlamedOf d said words (fault.Over much) blame = blame ≡ Over much
+IsBlamedOf d said words (fault.Loop group from to) blame = blame ≡ rule_blame rule.LoopFree (kind_of words)
 
 -- of a line that is too long its length
 abbrev pub IsBlamed : Draft → List ℕ → Fault → Blame → Type 0
-IsBlamed d line why blame = ((most_line < length line) × (blame ≡ Long)) ⊎ ((length line ≤ most_line) × IsBlamedOf d (words_of line) why blame)
+IsBlamed d line why blame = ((most_line < length line) × (blame ≡ Long)) ⊎ ((length line ≤ most_line) × IsBlamedOf d (script_line_of line) (words_of line) why blame)

@@ -1,5 +1,6 @@
 pub mod Known
 pub mod Breaks
+pub mod TreeBlames
 pub mod Blames
 pub mod FieldTexts
 pub mod KindTexts

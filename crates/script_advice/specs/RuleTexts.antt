@@ -4,7 +4,7 @@ use Rattle.script_grammar.specs.declared.kind.Kind.{Kind}
 use Rattle.script_grammar.specs.declared.kind.Kind.TheVariants.{Period, Seed, Node, End, Link, Hop, StalePath, StaleResv, WildResv, HopBlockade, SenderBlockade, Send, Drop, Want, WildWant}
 use Rattle.script_grammar.specs.declared.kind.Kind.TheVariants.{Quit, Reroute}
 use Rattle.script_advice.specs.declared.rule.Rule.{Rule}
-use Rattle.script_advice.specs.declared.rule.Rule.TheVariants.{InTime, InRange, Known, New, NewName, NewAddress, NewSender, WithinLimits, OneSender, FewSenders, FewSessions, OfTree, LoopFree}
+use Rattle.script_advice.specs.declared.rule.Rule.TheVariants.{InTime, InRange, Known, New, NewName, NewAddress, NewSender, WithinLimits, OneSender, FewSenders, FewSessions, LoopFree}
 
 abbrev pub in_time_text : Kind → List ℕ
 in_time_text Period = codes "a period and a seed come before the first node"
@@ -55,10 +55,6 @@ within_limits_text WildWant = codes "a node has at most 16 wishes in one session
 within_limits_text Reroute = codes "all trees together have at most 8192 hops"
 within_limits_text kind = codes "a script has at most 16 report and flags lines"
 
-abbrev pub of_tree_text : Kind → List ℕ
-of_tree_text Hop = codes "a hop joins two ends of one link, out of a node that its tree has reached and into one that it has not, and no other end of the link sends for the tree"
-of_tree_text kind = codes "each hop joins two ends of one link, out of a node that the tree has reached and into one that it has not, and no other end of the link sends for the tree"
-
 abbrev pub loop_free_text : Kind → List ℕ
 loop_free_text kind = codes "no chain of hops of a group is closed: a shared reservation could go round it"
 
@@ -74,7 +70,6 @@ rule_text WithinLimits kind = within_limits_text kind
 rule_text OneSender kind = codes "a reservation of the style FF names one sender"
 rule_text FewSenders kind = codes "a list has at most 16 senders"
 rule_text FewSessions kind = codes "at most 32 sessions are named, and this would be one more"
-rule_text OfTree kind = of_tree_text kind
 rule_text LoopFree kind = loop_free_text kind
 
 -- the number of that word, from 0

@@ -9,6 +9,7 @@ ghost use Rattle.script_advice.specs.Advice.{IsAdvice, capacity_head, excess_tex
 use crate::blame::{Blame, find_blame};
 use crate::known::{LinesBefore, named_text};
 use crate::texts::{first_text, form_text, put_range, rule_text, rule_word, usage_text};
+use crate::tree_blames::hop_text;
 use itoa::Buffer;
 use line_advice::put_flow_fault;
 use network_model::Excess;
@@ -95,6 +96,7 @@ fn put_wanted(out: &mut Vec<u8>, blame: Blame) -> Result<(), NoMemory>
             out,
             b"a line has at most 2048 bytes, and ends with a line feed",
         ),
+        Blame::Hop { word: _, why } => put(out, hop_text(why)),
         Blame::Rule { rule, kind } => put(out, rule_text(rule, kind)),
     }
 }
@@ -137,6 +139,7 @@ fn number_of_word(blame: Blame) -> Option<usize>
         Blame::Unknown { word, named: _ } => Some(word),
         Blame::Linked { word } => Some(word),
         Blame::Styled(_) => Some(3),
+        Blame::Hop { word, why: _ } => Some(word),
         Blame::Over(much) => excess_word(much),
         Blame::Rule { rule, kind } => rule_word(rule, kind),
         _ => None,

@@ -3,6 +3,7 @@ ghost use Rattle.std.specs.Prelude.{◌≡◌, ◌<◌, IfSome, Some, length, ma
 ghost use Rattle.script_words.specs.Flows.{IsFlow, flow_of};
 ghost use Rattle.script_words.specs.declared.raw.FlowWord.{FlowWord as FlowWordOf};
 ghost use Rattle.script_grammar.specs.Fields.{IsInRange};
+ghost use Rattle.script_grammar.specs.LineKinds.{script_line_of};
 ghost use Rattle.line_advice.specs.FlowFaults.{IsFlowFault};
 ghost use Rattle.line_advice.specs.declared.flow_faults.FlowFault.{FlowFault as FlowFaultOf};
 ghost use Rattle.script_advice.specs.Blames.{IsBlamed, IsBlamedOf, IsOfOtherStyle, IsOutOfRange, IsPassed, IsRangeBlame, IsThere, behind_first, rule_blame, unknown_blame};
@@ -12,12 +13,14 @@ use crate::breaks::{first_linked, limit, new_rule, other_style, word_behind};
 use crate::forms::word_blame;
 use crate::known::{LinesBefore, is_known};
 use crate::rule::Rule;
+use crate::tree_blames::of_tree;
 use line_advice::{FlowFault, flow_fault};
 use network_model::Excess;
 use rsvp_base::StyleKind;
 use script_grammar::{Fault, Field, Kind, Named, first_out};
 use script_words::{FlowWord, read_words};
 use std::alloc::Global;
+use tree_routing::HopFault;
 
 /// What of a bad line breaks the rule. Words have numbers from 0.
 #[derive(Clone, Copy)]
@@ -63,6 +66,11 @@ pub enum Blame {
     Over(Excess),
     /// Its length.
     Long,
+    /// The word of this number, which is an end of a hop by which the tree cannot grow, for this reason.
+    Hop {
+        word: usize,
+        why: HopFault,
+    },
     /// What this rule says of lines of this kind.
     Rule {
         rule: Rule,
@@ -89,17 +97,18 @@ pub fn find_blame<B: LinesBefore>(
     }
     let mut words = Vec::new(alloc);
     read_words(line, &mut words).ok()?;
-    blame_of(alloc, before, words.as_slice(), why)
+    blame_of(alloc, before, line, words.as_slice(), why)
 }
 
 // What of a line with these words breaks the rule.
 fn blame_of<B: LinesBefore>(
     alloc: Global,
     before: &B,
+    line: &[u8],
     words: &[&[u8]],
     why: &Fault,
 ) -> Option<Blame>
-    ensures { IfSome result (IsBlamedOf (B.lines before.now) (map (λ w. w.now) words.now) why.now) }
+    ensures { IfSome result (IsBlamedOf (B.lines before.now) (script_line_of line.now) (map (λ w. w.now) words.now) why.now) }
 {
     let kind = Kind::of(words);
     let behind = behind_first(words);
@@ -111,7 +120,7 @@ fn blame_of<B: LinesBefore>(
         Fault::Twice => Some(there(before, kind, behind)),
         Fault::Style => of_other_style(before, words),
         Fault::Limit => Some(passed(before, kind, behind)),
-        Fault::NotTree => Some(rule_blame(Rule::OfTree, kind)),
+        Fault::NotTree => of_tree(alloc, before, line),
         Fault::Over(much) => Some(Blame::Over(*much)),
         Fault::Loop { .. } => Some(rule_blame(Rule::LoopFree, kind)),
     }

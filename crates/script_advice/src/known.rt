@@ -4,9 +4,11 @@ ghost use Rattle.script_grammar.specs.Draft.{Draft, end_named, node_named, perio
 ghost use Rattle.script_grammar.specs.Rules.{HasRoomForSession};
 ghost use Rattle.script_advice.specs.Breaks.{IsLinked, standing_style};
 ghost use Rattle.script_advice.specs.Known.{is_known, named_text};
+ghost use Rattle.script_advice.specs.TreeBlames.{IsHopAnswer, IsTreeAnswer};
 
-use rsvp_base::{NoMemory, Session, StyleKind};
-use script_grammar::Named;
+use rsvp_base::{Addr, NoMemory, Session, StyleKind};
+use script_grammar::{HopEnds, Named};
+use tree_routing::HopFault;
 
 /// The lines before a line, as far as it is told what is wrong with it.
 pub trait LinesBefore {
@@ -36,6 +38,25 @@ pub trait LinesBefore {
     /// The style of the wishes that stand in a session at the node of this name. `NoMemory`: there was no room to look.
     fn standing_style(&self, node: &[u8], session: Session) -> Result<Option<StyleKind>, NoMemory>
         ensures { IfOk result (λ style. style ≡ standing_style (lines self.now) node.now session) };
+
+    /// Why the declared tree of a group and source cannot grow by the hop between these ends, which are declared; `None` exactly where it
+    /// can. `NoMemory`: there was no room to look.
+    fn hop_fault(
+        &self,
+        group: Addr,
+        source: Addr,
+        hop: &HopEnds,
+    ) -> Result<Option<HopFault>, NoMemory>
+        ensures { IfOk result (IsHopAnswer (lines self.now) group source hop.now) };
+
+    /// The first of these hops, by place, by which a tree of a source cannot grow, and why; `None` exactly where they grow one.
+    /// `NoMemory`: there was no room to look.
+    fn tree_fault(
+        &self,
+        source: Addr,
+        hops: &[HopEnds],
+    ) -> Result<Option<(usize, HopFault)>, NoMemory>
+        ensures { IfOk result (IsTreeAnswer (lines self.now) source hops.now) };
 }
 
 /// Whether a word is no name, or that of what a line before declares.

@@ -13,6 +13,7 @@ mod known;
 pub mod laws;
 mod rule;
 mod texts;
+mod tree_blames;
 
 pub use advice::{put_advice, put_long};
 pub use blame::{Blame, find_blame};

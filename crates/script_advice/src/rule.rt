@@ -26,8 +26,6 @@ pub enum Rule {
     FewSenders,
     /// Few sessions are named with its own.
     FewSessions,
-    /// Its hops are those of a tree.
-    OfTree,
     /// No chain of hops of a group is closed by it.
     LoopFree,
 }

@@ -2,7 +2,7 @@
 ghost use Rattle.std.specs.Prelude.{◌≡◌, ◌++◌, OnOk};
 ghost use Rattle.script_advice.specs.FieldTexts.{form_text, range_text};
 ghost use Rattle.script_advice.specs.KindTexts.{first_text, usage_text};
-ghost use Rattle.script_advice.specs.RuleTexts.{in_time_text, known_text, known_word, limit_word, list_word, new_text, new_word, of_tree_text, rule_text, rule_word, within_limits_text};
+ghost use Rattle.script_advice.specs.RuleTexts.{in_time_text, known_text, known_word, limit_word, list_word, new_text, new_word, rule_text, rule_word, within_limits_text};
 
 use crate::rule::Rule;
 use rsvp_base::NoMemory;
@@ -166,7 +166,6 @@ pub fn rule_text(rule: Rule, kind: Kind) -> &'static [u8]
         Rule::OneSender => b"a reservation of the style FF names one sender",
         Rule::FewSenders => b"a list has at most 16 senders",
         Rule::FewSessions => b"at most 32 sessions are named, and this would be one more",
-        Rule::OfTree => of_tree_text(kind),
         Rule::LoopFree =>
             b"no chain of hops of a group is closed: a shared reservation could go round it",
     }
@@ -238,17 +237,6 @@ fn within_limits_text(kind: Kind) -> &'static [u8]
         Kind::WildWant => b"a node has at most 16 wishes in one session",
         Kind::Reroute => b"all trees together have at most 8192 hops",
         _ => b"a script has at most 16 report and flags lines",
-    }
-}
-
-fn of_tree_text(kind: Kind) -> &'static [u8]
-    ensures { result.now ≡ of_tree_text kind }
-{
-    match kind {
-        Kind::Hop =>
-            b"a hop joins two ends of one link, out of a node that its tree has reached and into one that it has not, and no other end of the link sends for the tree",
-        _ =>
-            b"each hop joins two ends of one link, out of a node that the tree has reached and into one that it has not, and no other end of the link sends for the tree",
     }
 }
 

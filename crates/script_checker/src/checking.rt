@@ -1,6 +1,7 @@
 //! Lines are checked as the player of a script asks.
-ghost use Rattle.std.specs.Prelude.{◌≡◌, ◌↔◌, IsTrue};
+ghost use Rattle.std.specs.Prelude.{◌≡◌, ◌↔◌, IfOk, IsTrue, map};
 ghost use Rattle.script_grammar.specs.Draft.{end_number, node_number};
+ghost use Rattle.script_grammar.specs.Values.{hop_value};
 ghost use Rattle.script_state.specs.Said.{draft_of};
 ghost use Rattle.script_advice.specs.Breaks.{IsLinked};
 
@@ -8,13 +9,14 @@ use crate::checker::Checker;
 use crate::rules::add;
 use crate::starting::{copies, quarter};
 use network_model::Event;
-use rsvp_base::{NoMemory, Session, StyleKind};
+use rsvp_base::{Addr, NoMemory, Session, StyleKind};
 use script_advice::LinesBefore;
-use script_grammar::{Fault, Stop, read_line};
+use script_grammar::{Fault, HopEnds, Stop, read_line};
 use script_run::{Checks, Start};
 use script_state::ScriptState;
 use script_words::Unread;
 use stale_state::LeftOver;
+use tree_routing::{HopFault, LinkHop};
 
 // Where the random words start where no line says so.
 const USUAL_SEED: u64 = 1;
@@ -49,6 +51,26 @@ impl LinesBefore for Checker {
         let wants = self.state.wants.of(self.state.alloc, node, session)?;
         Ok(wants.first().map(|want| want.style))
     }
+
+    fn hop_fault(
+        &self,
+        group: Addr,
+        source: Addr,
+        hop: &HopEnds,
+    ) -> Result<Option<HopFault>, NoMemory> {
+        let hops = self.state.topology.tree(group, source)?;
+        let hop = hop_between(&self.state, hop);
+        Ok(self.state.topology.hop_fault(source, hops.as_slice(), hop))
+    }
+
+    fn tree_fault(
+        &self,
+        source: Addr,
+        hops: &[HopEnds],
+    ) -> Result<Option<(usize, HopFault)>, NoMemory> {
+        let hops = hops_between(&self.state, hops)?;
+        Ok(self.state.topology.tree_fault(source, hops.as_slice()))
+    }
 }
 
 impl Checks for Checker {
@@ -74,6 +96,27 @@ impl Checks for Checker {
 
     fn left(&self) -> &[LeftOver] {
         self.state.left.facts()
+    }
+}
+
+// The hops between these ends.
+fn hops_between(state: &ScriptState, pairs: &[HopEnds]) -> Result<Vec<LinkHop>, NoMemory>
+    ensures { IfOk result (λ hops. hops.items ≡ map (hop_value (draft_of state.now)) pairs.now) }
+{
+    let mut hops = Vec::new(state.alloc);
+    for ends in pairs {
+        hops.push(hop_between(state, ends))?;
+    }
+    Ok(hops)
+}
+
+// The hop between two ends; an end that was not declared has the number 0.
+fn hop_between(state: &ScriptState, ends: &HopEnds) -> LinkHop
+    ensures { result ≡ hop_value (draft_of state.now) ends.now }
+{
+    LinkHop {
+        from: end_number(state, ends.from.bytes()),
+        to: end_number(state, ends.to.bytes()),
     }
 }
 

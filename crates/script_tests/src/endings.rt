@@ -3,13 +3,14 @@ ghost use Rattle.std.specs.Prelude.{◌≡◌, ◌<◌};
 ghost use Rattle.script_grammar.specs.Draft.{nothing};
 
 use byte_streams::{MemorySink, MemorySource};
-use rsvp_base::{NoMemory, Session, StyleKind};
+use rsvp_base::{Addr, NoMemory, Session, StyleKind};
 use script_advice::{LinesBefore, put_advice};
-use script_grammar::{Fault, ScriptLine, Stop, read_line};
+use script_grammar::{Fault, HopEnds, ScriptLine, Stop, read_line};
 use script_run::{Ending, Player, run_lines};
 use script_words::Unread;
 use std::alloc::Global;
 use std::test::Fail;
+use tree_routing::HopFault;
 
 // It has no memory for any other line that is well formed.
 #[derive(Drop)]
@@ -66,6 +67,25 @@ impl LinesBefore for Silent {
     fn standing_style(&self, node: &[u8], session: Session) -> Result<Option<StyleKind>, NoMemory> {
         let _ = (node.len(), session.port);
         Ok(None)
+    }
+
+    fn hop_fault(
+        &self,
+        group: Addr,
+        source: Addr,
+        hop: &HopEnds,
+    ) -> Result<Option<HopFault>, NoMemory> {
+        let _ = (group.0, source.0, hop.from.bytes().len());
+        Err(NoMemory)
+    }
+
+    fn tree_fault(
+        &self,
+        source: Addr,
+        hops: &[HopEnds],
+    ) -> Result<Option<(usize, HopFault)>, NoMemory> {
+        let _ = (source.0, hops.len());
+        Err(NoMemory)
     }
 }
 
