@@ -12,6 +12,7 @@ pub mod Stepped
 pub mod Chains
 pub mod Tellings
 pub mod Runnings
+pub mod Shown
 pub mod Delivered
 pub mod Moves
 pub mod Opened

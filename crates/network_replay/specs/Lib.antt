@@ -10,3 +10,4 @@ pub mod Running
 pub mod Happening
 pub mod Moving
 pub mod Opening
+pub mod Sights

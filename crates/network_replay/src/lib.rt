@@ -2,8 +2,8 @@
 //!
 //! `World` runs a network of routers. Each event is proved to be its steps in the model of `network_model`: whatever world of
 //! the model agrees with the network before, the world after the steps agrees with it after, and the text is that of the
-//! steps. The routers are abstract (`Router`): all that is asked of one is the rule of a router. How far many rounds are is told
-//! to whom it may concern (`Watch`), and nothing hangs on that. It stands on
+//! steps. The routers are abstract (`Router`): all that is asked of one is the rule of a router. What watches (`Watch`) is shown
+//! each delivery, each piece of a wait and each round, and nothing hangs on what it makes of them. It stands on
 //! `network_flight`, `network_model` and `router_rules`.
 #![tactic(auto)]
 
@@ -20,6 +20,6 @@ mod world_err;
 
 pub use mail::Mail;
 pub use router::Router;
-pub use watch::{Unwatched, Watch};
+pub use watch::{Both, Unwatched, Watch};
 pub use world::World;
 pub use world_err::WorldErr;

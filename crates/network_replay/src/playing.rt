@@ -8,6 +8,7 @@ ghost use Rattle.network_replay.specs.Happening.{CanHappen, IsRead, takes_memory
 ghost use Rattle.network_model.specs.Happenings.{IsFitEvent, event_with};
 ghost use Rattle.network_model.specs.Moves.{CanMove};
 ghost use Rattle.network_replay.specs.Running.{IsSame, Makes, refusal_of};
+ghost use Rattle.network_replay.specs.Sights.{Tells, event_sights, sights};
 ghost use Rattle.network_replay.specs.declared.world_err.WorldErr.{WorldErr as AnErr};
 ghost use Rattle.network_replay.specs.declared.world_err.WorldErr.TheVariants as refusal;
 
@@ -24,7 +25,7 @@ impl<R: Router + Drop> World<R> {
     /// text of what happened before that is appended. `NoMemory`, only of a report, of a tree that moves or where the trace is on: a
     /// prefix of the text is appended. A tree that the network cannot have is refused so each time. After a refusal each later event
     /// is refused in the same way, and changes nothing. `watch` sees the network behind each delivery, each
-    /// half period and each round.
+    /// piece of a wait and each round: all of them, in order, or up to the refusal.
     pub fn event<W: Watch>(
         &mut self,
         event: &Event,
@@ -39,6 +40,8 @@ impl<R: Router + Drop> World<R> {
         ensures quarter { self.new.quarter ≡ self.old.quarter }
         ensures only { self.old.refused ≡ None → result ≡ Err refusal.NoMemory → takes_memory self.old.trace event.now ≡ true }
         ensures can { self.old.refused ≡ None → result ≢ Err refusal.NoMemory → CanHappen self.old.post.net event.now }
+        ensures told { (a : Arrival) → IsRead event.now a → self.old.refused ≡ None
+            → Tells W.saw R.seen self.old result watch.old watch.new (λ q w. event_sights q (event_with a event.now) w) }
     {
         if let Some(e) = self.refused {
             return Err(e);
@@ -71,6 +74,7 @@ impl<R: Router + Drop> World<R> {
         ensures same { IsSame self.old self.new }
         ensures refused { self.new.refused ≡ refusal_of result }
         ensures crowded { IfErr result (λ e. e ≡ refusal.Crowded) }
+        ensures told { Tells W.saw R.seen self.old result watch.old watch.new (λ q w. sights q (pieces q ms) w) }
     {
         let half = self.half_ms();
         self.half_periods(ms / half, watch)?;
@@ -84,6 +88,7 @@ impl<R: Router + Drop> World<R> {
         ensures same { IsSame self.old self.new }
         ensures refused { self.new.refused ≡ refusal_of result }
         ensures crowded { IfErr result (λ e. e ≡ refusal.Crowded) }
+        ensures told { Tells W.saw R.seen self.old result watch.old watch.new (λ q w. sights q (repeat times (Piece (2 * q) ∷ [])) w) }
     {
         for _ in 0..times {
             self.half_period(watch)?;
@@ -99,6 +104,7 @@ impl<R: Router + Drop> World<R> {
         ensures same { IsSame self.old self.new }
         ensures refused { self.new.refused ≡ refusal_of result }
         ensures crowded { IfErr result (λ e. e ≡ refusal.Crowded) }
+        ensures told { Tells W.saw R.seen self.old result watch.old watch.new (λ q w. sights q (last_piece q ms) w) }
     {
         if ms == 0 {
             return Ok(());
@@ -118,6 +124,7 @@ impl<R: Router + Drop> World<R> {
         ensures same { IsSame self.old self.new }
         ensures refused { self.new.refused ≡ refusal_of result }
         ensures only { result ≡ Err refusal.NoMemory → self.old.trace ≡ true }
+        ensures told { Tells W.saw R.seen self.old result watch.old watch.new (λ q w. sights q (at_place Deliver place) w) }
     {
         if place == 0 {
             return Ok(());

@@ -18,6 +18,7 @@ ghost use Rattle.network_model.specs.Moves.{CanMove};
 ghost use Rattle.network_replay.specs.Opening.{AreFirst, ArePlaced, IsOpenedBy};
 ghost use Rattle.network_replay.specs.Reporting.{Says, report_said};
 ghost use Rattle.network_replay.specs.Running.{IsSame, Makes, refusal_of};
+ghost use Rattle.network_replay.specs.Sights.{Shows, ShowsRun, Tells, Waited, delivery, heard_there, rounds_sights, sights};
 
 use crate::mail::Mail;
 use crate::moving::{move_all, routes_of};
@@ -243,6 +244,7 @@ impl<R: Router + Drop> World<R> {
         ensures same { IsSame self.old self.new }
         ensures refused { self.new.refused ≡ refusal_of result }
         ensures only { result ≡ Err refusal.NoMemory → self.old.trace ≡ true }
+        ensures told { Tells W.saw R.seen self.old result watch.old watch.new (λ q w. sights q (Deliver place ∷ []) w) }
     {
         let mut heard = None;
         let ran = self.hand_on(place, &mut heard, out);
@@ -257,7 +259,9 @@ impl<R: Router + Drop> World<R> {
         seen: &mut Option<Heard>,
         out: &mut Vec<u8>,
     ) -> Result<(), WorldErr>
-        requires { self.old.refused ≡ None }
+        requires going { self.old.refused ≡ None }
+        requires unseen { seen.old ≡ None }
+        ensures seen { (q : ℕ) (w : AWorld) → Agrees R.seen q self.old w → seen.new ≡ heard_there q w place (slice_get w.flight place) }
         ensures made { Makes R.seen self.old result out.old.items out.new.items self.new (λ q w. Deliver place ∷ []) }
         ensures same { IsSame self.old self.new }
         ensures refused { self.new.refused ≡ refusal_of result }
@@ -299,6 +303,7 @@ impl<R: Router + Drop> World<R> {
         ensures same { IsSame self.old self.new }
         ensures refused { self.new.refused ≡ refusal_of result }
         ensures crowded { IfErr result (λ e. e ≡ refusal.Crowded) }
+        ensures told { Tells W.saw R.seen self.old result watch.old watch.new (λ q w. sights q (Piece ms ∷ []) w) }
     {
         let ran = self.pass_time(ms);
         show_waited(watch, self, ms, &ran);
@@ -476,6 +481,7 @@ impl<R: Router + Drop> World<R> {
         ensures same { IsSame self.old self.new }
         ensures refused { self.new.refused ≡ refusal_of result }
         ensures only { result ≡ Err refusal.NoMemory → self.old.trace ≡ true }
+        ensures told { Tells W.saw R.seen self.old result watch.old watch.new (λ q w. sights q (pass q w) w) }
     {
         let count = self.in_flight();
         for _ in 0..count {
@@ -496,6 +502,7 @@ impl<R: Router + Drop> World<R> {
         ensures same { IsSame self.old self.new }
         ensures refused { self.new.refused ≡ refusal_of result }
         ensures only { result ≡ Err refusal.NoMemory → self.old.trace ≡ true }
+        ensures told { Tells W.saw R.seen self.old result watch.old watch.new (λ q w. sights q (passes q times w) w) }
     {
         for _ in 0..times {
             self.pass(watch, out)?;
@@ -518,6 +525,7 @@ impl<R: Router + Drop> World<R> {
         ensures same { IsSame self.old self.new }
         ensures refused { self.new.refused ≡ refusal_of result }
         ensures crowded { IfErr result (λ e. e ≡ refusal.Crowded) }
+        ensures told { Tells W.saw R.seen self.old result watch.old watch.new (λ q w. sights q (Piece (2 * q) ∷ []) w) }
     {
         let ms = self.half_ms();
         self.piece(ms, watch)
@@ -530,6 +538,7 @@ impl<R: Router + Drop> World<R> {
         ensures same { IsSame self.old self.new }
         ensures refused { self.new.refused ≡ refusal_of result }
         ensures only { result ≡ Err refusal.NoMemory → self.old.trace ≡ true }
+        ensures told { Tells W.saw R.seen self.old result watch.old watch.new (λ q w. sights q (half q w) w) }
     {
         self.half_period(watch)?;
         self.pass(watch, out)
@@ -542,6 +551,7 @@ impl<R: Router + Drop> World<R> {
         ensures same { IsSame self.old self.new }
         ensures refused { self.new.refused ≡ refusal_of result }
         ensures only { result ≡ Err refusal.NoMemory → self.old.trace ≡ true }
+        ensures told { Tells W.saw R.seen self.old result watch.old watch.new (λ q w. sights q (a_round q w) w) }
     {
         for _ in 0..4u32 {
             self.half(watch, out)?;
@@ -561,37 +571,58 @@ impl<R: Router + Drop> World<R> {
         ensures same { IsSame self.old self.new }
         ensures refused { self.new.refused ≡ refusal_of result }
         ensures only { result ≡ Err refusal.NoMemory → self.old.trace ≡ true }
+        ensures told { Tells W.saw R.seen self.old result watch.old watch.new (λ q w. rounds_sights q times times w) }
     {
         for done in 0..times {
             self.round(watch, out)?;
-            watch.rounds_done(done + 1, times, self.delivered);
             watch.round_over(self, done + 1, times);
         }
         Ok(())
     }
 }
 
-// What watches sees the network behind a delivery that was made.
+// What watches sees the network behind a delivery, where that was made.
 fn show_delivered<R: Router + Drop, W: Watch>(
     watch: &mut W,
     world: &World<R>,
     place: usize,
     heard: Option<Heard>,
     ran: &Result<(), WorldErr>,
-) {
-    if let (Some(heard), Ok(())) = (heard, ran) {
-        watch.delivered(world, place, heard)
+)
+    ensures { (q : ℕ) (w : AWorld) → IfOk ran.now (λ u. Agrees R.seen q world.now w) → ShowsRun W.saw ran.now watch.old watch.new (delivery w place heard) }
+{
+    match ran {
+        Ok(()) => show_heard(watch, world, place, heard),
+        Err(_) => {}
     }
 }
 
-// What watches sees the network behind a time that passed.
+// What watches sees what a node made of a datagram, where one did.
+fn show_heard<R: Router + Drop, W: Watch>(
+    watch: &mut W,
+    world: &World<R>,
+    place: usize,
+    heard: Option<Heard>,
+)
+    ensures { (q : ℕ) (w : AWorld) → Agrees R.seen q world.now w → Shows W.saw watch.old watch.new (delivery w place heard) }
+{
+    match heard {
+        Some(heard) => watch.delivered(world, place, heard),
+        None => {}
+    }
+}
+
+// What watches sees the network behind a time, where that passed.
 fn show_waited<R: Router + Drop, W: Watch>(
     watch: &mut W,
     world: &World<R>,
     ms: u32,
     ran: &Result<(), WorldErr>,
-) {
-    if let Ok(()) = ran {
-        watch.waited(world, ms)
+)
+    ensures { (q : ℕ) (w : AWorld) → IfOk ran.now (λ u. Agrees R.seen q world.now w) → ShowsRun W.saw ran.now watch.old watch.new (Waited w ms ∷ []) }
+{
+    match ran {
+        Ok(()) => watch.waited(world, ms),
+        Err(_) => {}
     }
 }

@@ -1,5 +1,8 @@
 //! Whole commands over sources and sinks in memory: what no clause says, and the worked rows.
 use byte_streams::{MemorySink, MemorySource, PlainSink, PlainSource, Sink, Source};
+use network_model::Event;
+use network_replay::{Router, World};
+use router_rules::Heard;
 use rsvpd_run::{Status, Unwatched, Watch, run};
 use std::alloc::{AllocError, Global};
 use std::test::Fail;
@@ -415,10 +418,20 @@ struct Counted {
 }
 
 impl Watch for Counted {
-    fn rounds_done(&mut self, done: u32, all: u32, delivered: u64) {
+    ghost saw = { λ w ss. Unit {0} };
+
+    fn round_over<R: Router + Drop>(&mut self, world: &World<R>, done: u32, all: u32) {
         self.calls = self.calls.saturating_add(1);
-        self.last = (done, all, delivered);
+        self.last = (done, all, world.delivered());
     }
+
+    fn delivered<R: Router + Drop>(&mut self, _world: &World<R>, _place: usize, _heard: Heard) {}
+
+    fn waited<R: Router + Drop>(&mut self, _world: &World<R>, _ms: u32) {}
+
+    fn happens<R: Router + Drop>(&mut self, _world: &World<R>, _line: &[u8]) {}
+
+    fn happened<R: Router + Drop>(&mut self, _world: &World<R>, _event: &Event, _text: &[u8]) {}
 }
 
 // The exit status of a run that writes nowhere, and what was told of its rounds.

@@ -1,6 +1,9 @@
 //! How far a run is, in a line on the terminal.
 
 use command_run::Watch;
+use network_model::Event;
+use network_replay::{Router, World};
+use router_rules::Heard;
 use std::io::{Eprint, IsTerminal};
 use std::time::{Duration, Instant};
 
@@ -56,7 +59,9 @@ impl Progress {
 }
 
 impl Watch for Progress {
-    fn rounds_done(&mut self, done: u32, all: u32, delivered: u64) {
+    ghost saw = { λ w ss. Unit {0} };
+
+    fn round_over<R: Router + Drop>(&mut self, world: &World<R>, done: u32, all: u32) {
         if done == all {
             self.clear();
             return;
@@ -72,6 +77,15 @@ impl Watch for Progress {
         }
         self.wrote = Some(now);
         self.stands = true;
+        let delivered = world.delivered();
         let _ = eprint!(self.rt; "\rrounds {done} of {all}, {delivered} deliveries");
     }
+
+    fn delivered<R: Router + Drop>(&mut self, _world: &World<R>, _place: usize, _heard: Heard) {}
+
+    fn waited<R: Router + Drop>(&mut self, _world: &World<R>, _ms: u32) {}
+
+    fn happens<R: Router + Drop>(&mut self, _world: &World<R>, _line: &[u8]) {}
+
+    fn happened<R: Router + Drop>(&mut self, _world: &World<R>, _event: &Event, _text: &[u8]) {}
 }

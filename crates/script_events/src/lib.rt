@@ -7,7 +7,6 @@
 #![tactic(auto)]
 
 mod books;
-mod both;
 mod flying;
 mod nowhere;
 mod recorder;

@@ -8,11 +8,10 @@ ghost use Rattle.script_run.specs.Endings.{ComesTo, IsOrNoMemory, IsRun};
 ghost use Rattle.script_run.specs.declared.ending.Ending.{Ending as AnEnding};
 ghost use Rattle.script_run.specs.Standing.{IsNetworkOf};
 
-use crate::both::Both;
 use crate::nowhere::Nowhere;
 use crate::recorder::Recorder;
 use byte_streams::{Sink, Source};
-use network_replay::{Watch, World};
+use network_replay::{Both, Watch, World};
 use script_run::{Checks, Ending, Opens, run_script};
 use std::alloc::Global;
 
@@ -42,10 +41,7 @@ pub fn write_events<C: Checks + Drop, R: Opens, S: Source, K: Sink + Drop, W: Wa
         → (Rose (S.faults source.old) (S.faults source.new) → ⊥) → (result ≡ Ending.WriteFault) ⊎ IsOrNoMemory wanted result }
 {
     let mut nowhere = Nowhere;
-    let mut both: Both<&mut Recorder<K>, &mut W> = Both {
-        first: recorder,
-        second: watch,
-    };
+    let mut both: Both<&mut Recorder<K>, &mut W> = Both::new(recorder, watch);
     let ending = run_script(
         alloc,
         checker,

@@ -7,7 +7,7 @@ use network_replay::{Router, Watch, World};
 use router_rules::Heard;
 
 impl<K: Sink + Drop> Watch for Recorder<K> {
-    fn rounds_done(&mut self, _done: u32, _all: u32, _delivered: u64) {}
+    ghost saw = { λ w ss. Unit {0} };
 
     fn round_over<R: Router + Drop>(&mut self, world: &World<R>, done: u32, all: u32) {
         if self.is_going() {

@@ -1,6 +1,9 @@
-use Rattle.std.proofs.Common.{◌∙◌, ap}
+use Rattle.std.proofs.Common.{◌∙◌, ap, sym, subst}
+use Rattle.network_model.specs.Happenings.{event_with}
 use Rattle.network_replay.specs.Happening.{takes_memory}
+use Rattle.network_replay.specs.Sights.{ShowsRun, event_sights}
 use Rattle.network_replay.proofs.Runnings.{not_memory}
+use Rattle.network_replay.proofs.Shown.{none_copied, none_lost, run_no_more}
 use Rattle.network_replay.proofs.world.World.event.Goals as goal
 
 pub returns-in-Local-clause-only : goal.returns-in-Local-clause-only
@@ -38,3 +41,55 @@ returns-in-Report-clause-only g c = λ going e. ap (takes_memory c.args.self.now
 
 pub returns-in-Flags-clause-only : goal.returns-in-Flags-clause-only
 returns-in-Flags-clause-only g c = λ going e. ap (takes_memory c.args.self.now.trace) c.in-Flags.is
+
+pub returns-in-Local-clause-told : goal.returns-in-Local-clause-told
+returns-in-Local-clause-told g c = λ a read going q w agrees.
+    run_no_more g.W.Watch.saw c.call.result c.args.watch.now (event_sights q (event_with a c.args.event.now) w) (ap (λ e. event_sights q (event_with a e) w) c.in-Local.is)
+
+pub returns-in-Lose-clause-told : goal.returns-in-Lose-clause-told
+returns-in-Lose-clause-told g c = λ a read going q w agrees.
+    run_no_more g.W.Watch.saw c.lose_at.result c.args.watch.now (event_sights q (event_with a c.args.event.now) w) (ap (λ e. event_sights q (event_with a e) w) c.in-Lose.is ∙ none_lost q c.in-Lose.place w)
+
+pub returns-in-Again-clause-told : goal.returns-in-Again-clause-told
+returns-in-Again-clause-told g c = λ a read going q w agrees.
+    run_no_more g.W.Watch.saw c.copy_at.result c.args.watch.now (event_sights q (event_with a c.args.event.now) w) (ap (λ e. event_sights q (event_with a e) w) c.in-Again.is ∙ none_copied q c.in-Again.place w)
+
+pub returns-in-Clear-clause-told : goal.returns-in-Clear-clause-told
+returns-in-Clear-clause-told g c = λ a read going q w agrees.
+    run_no_more g.W.Watch.saw c.clear.result c.args.watch.now (event_sights q (event_with a c.args.event.now) w) (ap (λ e. event_sights q (event_with a e) w) c.in-Clear.is)
+
+pub returns-in-Trace-clause-told : goal.returns-in-Trace-clause-told
+returns-in-Trace-clause-told g c = λ a read going q w agrees.
+    run_no_more g.W.Watch.saw c.set_trace.result c.args.watch.now (event_sights q (event_with a c.args.event.now) w) (ap (λ e. event_sights q (event_with a e) w) c.in-Trace.is)
+
+pub returns-in-Report-clause-told : goal.returns-in-Report-clause-told
+returns-in-Report-clause-told g c = λ a read going q w agrees.
+    run_no_more g.W.Watch.saw c.write_report.result c.args.watch.now (event_sights q (event_with a c.args.event.now) w) (ap (λ e. event_sights q (event_with a e) w) c.in-Report.is)
+
+pub returns-in-Flags-clause-told : goal.returns-in-Flags-clause-told
+returns-in-Flags-clause-told g c = λ a read going q w agrees.
+    run_no_more g.W.Watch.saw c.write_flags.result c.args.watch.now (event_sights q (event_with a c.args.event.now) w) (ap (λ e. event_sights q (event_with a e) w) c.in-Flags.is)
+
+pub returns-in-Inject-clause-told : goal.returns-in-Inject-clause-told
+returns-in-Inject-clause-told g c = λ a read going q w agrees.
+    run_no_more g.W.Watch.saw c.inject.result c.args.watch.now (event_sights q (event_with a c.args.event.now) w) (ap (λ e. event_sights q (event_with a e) w) c.in-Inject.is)
+
+pub returns-in-Reroute-clause-told : goal.returns-in-Reroute-clause-told
+returns-in-Reroute-clause-told g c = λ a read going q w agrees.
+    run_no_more g.W.Watch.saw c.move_tree.result c.args.watch.now (event_sights q (event_with a c.args.event.now) w) (ap (λ e. event_sights q (event_with a e) w) c.in-Reroute.is)
+
+pub returns-in-Wait-clause-told : goal.returns-in-Wait-clause-told
+returns-in-Wait-clause-told g c = λ a read going q w agrees.
+    subst (λ e. ShowsRun g.W.Watch.saw c.wait.result c.args.watch.now c.wait.new.watch (event_sights q (event_with a e) w)) (sym c.in-Wait.is) (c.wait.ensures.told q w agrees)
+
+pub returns-in-Pass-clause-told : goal.returns-in-Pass-clause-told
+returns-in-Pass-clause-told g c = λ a read going q w agrees.
+    subst (λ e. ShowsRun g.W.Watch.saw c.passes.result c.args.watch.now c.passes.new.watch (event_sights q (event_with a e) w)) (sym c.in-Pass.is) (c.passes.ensures.told q w agrees)
+
+pub returns-in-Deliver-clause-told : goal.returns-in-Deliver-clause-told
+returns-in-Deliver-clause-told g c = λ a read going q w agrees.
+    subst (λ e. ShowsRun g.W.Watch.saw c.deliver_at.result c.args.watch.now c.deliver_at.new.watch (event_sights q (event_with a e) w)) (sym c.in-Deliver.is) (c.deliver_at.ensures.told q w agrees)
+
+pub returns-in-Rounds-clause-told : goal.returns-in-Rounds-clause-told
+returns-in-Rounds-clause-told g c = λ a read going q w agrees.
+    subst (λ e. ShowsRun g.W.Watch.saw c.rounds.result c.args.watch.now c.rounds.new.watch (event_sights q (event_with a e) w)) (sym c.in-Rounds.is) (c.rounds.ensures.told q w agrees)

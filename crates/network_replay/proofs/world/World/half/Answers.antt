@@ -5,6 +5,7 @@ use Rattle.network_flight.specs.Events.{pass}
 use Rattle.network_flight.specs.Steps.{Piece, step}
 use Rattle.network_replay.specs.Running.{Ran}
 use Rattle.network_replay.specs.declared.world_err.WorldErr.{WorldErr}
+use Rattle.network_replay.proofs.Shown.{steps_not, steps_then}
 use Rattle.network_replay.proofs.Runnings.{not_memory, ran_then, ran_not}
 use Rattle.network_replay.proofs.world.World.half.Goals as goal
 
@@ -34,3 +35,17 @@ returns-in_err-half_period-clause-only g c =
 
 pub returns-clause-only : goal.returns-clause-only
 returns-clause-only g c = λ e. sym c.half_period.ensures.same.trace ∙ c.pass.ensures.only e
+
+pub returns-clause-told : goal.returns-clause-told
+returns-clause-told g c = λ q w agrees.
+    let after = step q (Piece (2 * q)) w in
+    steps_then g.W.Watch.saw g.R.Router.seen q c.pass.result c.args.watch.now c.half_period.new.watch c.pass.new.watch (Piece (2 * q) ∷ []) (pass q after) w
+    (c.in_ok-half_period.ensures.told q w agrees) (c.pass.ensures.told q after (c.in_ok-half_period.ensures.made [] q w agrees).1)
+
+pub returns-in_err-half_period-clause-told : goal.returns-in_err-half_period-clause-told
+returns-in_err-half_period-clause-told g c = λ q w agrees.
+    let after = step q (Piece (2 * q)) w in
+    let given = err_from_is_err_and c.from_residual.result c.from_residual.ensures.1 in
+    let r : Result (Unit {0}) WorldErr = Err c.in_err-half_period.field-0.0 in
+    rw given.1 (steps_not g.W.Watch.saw g.R.Router.seen q r c.args.watch.now c.half_period.new.watch (Piece (2 * q) ∷ []) (pass q after) w refl
+    (c.in_err-half_period.ensures.told q w agrees))

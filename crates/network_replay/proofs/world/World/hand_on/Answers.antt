@@ -10,6 +10,7 @@ use Rattle.network_replay.specs.Running.{Ran}
 use Rattle.tree_model.specs.Networks.{ends_of}
 use Rattle.network_replay.proofs.Delivered.{due, delivery_crowds, delivery_told}
 use Rattle.network_replay.proofs.Runnings.{not_off, well, ran_one, one_unsaid}
+use Rattle.network_replay.proofs.Shown.{due_heard, none_heard}
 use Rattle.network_replay.proofs.Stepped.{none_here, nothing_there}
 use Rattle.network_replay.proofs.Tellings.{written_nowhere}
 use Rattle.network_replay.proofs.world.World.hand_on.Goals as goal
@@ -123,3 +124,95 @@ returns-in-Err-clause-made g c = λ q w agrees.
 
 pub returns-in-Err-clause-only : goal.returns-in-Err-clause-only
 returns-in-Err-clause-only g c = λ e. sym (ap (λ (v : NetworkState g.row.R.Denot). v.trace) c.self.view_is) ∙ not_off c.self.inside.trace (λ off. let no = c.in-Err.ensures.only off in cc)
+
+pub returns-in_default-clause-seen : goal.returns-in_default-clause-seen
+returns-in_default-clause-seen g c = λ q w agrees.
+    let see = g.R.Router.seen in
+    let i = c.self.inside in
+    let old : NetworkState g.row.R.Denot =
+    record {
+      quarter = i.quarter;
+      post = i.mail;
+      names = i.names.items;
+      nodes = i.nodes.items;
+      trees = trees_in i.routes.items;
+      words = i.words;
+      delivered = i.delivered;
+      trace = i.trace;
+      refused = i.refused;
+    } in
+    let at : Agrees see q old w = subst (λ (v : NetworkState g.row.R.Denot). Agrees see q v w) (sym c.self.view_is) agrees in
+    let k = c.args.place in
+    none_heard q w k c.args.seen.now c.requires.unseen (nothing_there see q old w at k c.in_default.ensures.none.0)
+
+pub returns-then-is_full-clause-seen : goal.returns-then-is_full-clause-seen
+returns-then-is_full-clause-seen g c = λ q w agrees.
+    let see = g.R.Router.seen in
+    let i = c.self.inside in
+    let old : NetworkState g.row.R.Denot =
+    record {
+      quarter = i.quarter;
+      post = i.mail;
+      names = i.names.items;
+      nodes = i.nodes.items;
+      trees = trees_in i.routes.items;
+      words = i.words;
+      delivered = i.delivered;
+      trace = i.trace;
+      refused = i.refused;
+    } in
+    let at : Agrees see q old w = subst (λ (v : NetworkState g.row.R.Denot). Agrees see q v w) (sym c.self.view_is) agrees in
+    let k = c.args.place in
+    let held : c.take.new.hand.value ≡ c.bytes-bytes.result.now = grind (arith, c.bytes-bytes.ensures.bytes, c.deref.ensures) in
+    let there : slice_get i.mail.flight k ≡ Some (record { end = c.in-Some.end; dst = c.in-Some.dst; bytes = c.bytes-bytes.result.now }) = c.in-Some.ensures.some
+    ∙ ap (λ (bs : List ℕ). Some (parcel c.in-Some.dst bs c.in-Some.end)) held in
+    let is = due see q old w at k c.in-Some.end c.in-Some.dst c.bytes-bytes.result.now c.take.new.self c.hand_over-heard.new.mail there c.take.ensures.rest in
+    due_heard q c.take.new.self.net c.in-Some.end c.in-Some.dst c.bytes-bytes.result.now w k is c.hand_over-heard.result (c.hand_over-heard.ensures.heard q w k is at.nodes)
+
+pub returns-in-Ok-clause-seen : goal.returns-in-Ok-clause-seen
+returns-in-Ok-clause-seen g c = λ q w agrees.
+    let see = g.R.Router.seen in
+    let i = c.self.inside in
+    let old : NetworkState g.row.R.Denot =
+    record {
+      quarter = i.quarter;
+      post = i.mail;
+      names = i.names.items;
+      nodes = i.nodes.items;
+      trees = trees_in i.routes.items;
+      words = i.words;
+      delivered = i.delivered;
+      trace = i.trace;
+      refused = i.refused;
+    } in
+    let at : Agrees see q old w = subst (λ (v : NetworkState g.row.R.Denot). Agrees see q v w) (sym c.self.view_is) agrees in
+    let k = c.args.place in
+    let held : c.take.new.hand.value ≡ c.bytes-bytes.result.now = grind (arith, c.bytes-bytes.ensures.bytes, c.deref.ensures) in
+    let there : slice_get i.mail.flight k ≡ Some (record { end = c.in-Some.end; dst = c.in-Some.dst; bytes = c.bytes-bytes.result.now }) = c.in-Some.ensures.some
+    ∙ ap (λ (bs : List ℕ). Some (parcel c.in-Some.dst bs c.in-Some.end)) held in
+    let is = due see q old w at k c.in-Some.end c.in-Some.dst c.bytes-bytes.result.now c.take.new.self c.hand_over-heard.new.mail there c.take.ensures.rest in
+    due_heard q c.take.new.self.net c.in-Some.end c.in-Some.dst c.bytes-bytes.result.now w k is c.hand_over-heard.result (c.hand_over-heard.ensures.heard q w k is at.nodes)
+
+pub returns-in-Err-clause-seen : goal.returns-in-Err-clause-seen
+returns-in-Err-clause-seen g c = λ q w agrees.
+    let see = g.R.Router.seen in
+    let i = c.self.inside in
+    let old : NetworkState g.row.R.Denot =
+    record {
+      quarter = i.quarter;
+      post = i.mail;
+      names = i.names.items;
+      nodes = i.nodes.items;
+      trees = trees_in i.routes.items;
+      words = i.words;
+      delivered = i.delivered;
+      trace = i.trace;
+      refused = i.refused;
+    } in
+    let at : Agrees see q old w = subst (λ (v : NetworkState g.row.R.Denot). Agrees see q v w) (sym c.self.view_is) agrees in
+    let k = c.args.place in
+    let held : c.take.new.hand.value ≡ c.bytes-bytes.result.now = grind (arith, c.bytes-bytes.ensures.bytes, c.deref.ensures) in
+    let there : slice_get i.mail.flight k ≡ Some (record { end = c.in-Some.end; dst = c.in-Some.dst; bytes = c.bytes-bytes.result.now }) = c.in-Some.ensures.some
+    ∙ ap (λ (bs : List ℕ). Some (parcel c.in-Some.dst bs c.in-Some.end)) held in
+    let is = due see q old w at k c.in-Some.end c.in-Some.dst c.bytes-bytes.result.now c.take.new.self c.hand_over-heard.new.mail there c.take.ensures.rest in
+    due_heard q c.take.new.self.net c.in-Some.end c.in-Some.dst c.bytes-bytes.result.now w k is c.hand_over-heard.result (c.hand_over-heard.ensures.heard q w k is at.nodes)

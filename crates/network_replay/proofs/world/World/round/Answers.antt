@@ -5,6 +5,7 @@ use Rattle.network_flight.specs.Events.{half, halves}
 use Rattle.network_replay.specs.Running.{Ran}
 use Rattle.network_replay.specs.declared.world_err.WorldErr.{WorldErr}
 use Rattle.network_replay.proofs.Runnings.{only_then, well, goes_on, goes_not, goes_end, same_then}
+use Rattle.network_replay.proofs.Shown.{turn_not, turn_shown, turns_end}
 use Rattle.network_replay.proofs.world.World.round.Goals as goal
 
 pub loop-preserved : goal.loop-preserved
@@ -18,6 +19,10 @@ loop-preserved g c =
           goes_on q c.args.self.now.names see (half q) (halves q) (λ v. refl)
           (λ n v. refl) c.args.self.now c.loop.self c.half.new.self c.args.out.now.items c.loop.out.items c.half.new.out.items 4 left (inv.goes q (suc left) (omega (arith, e)))
           (λ v are. subst (λ (ns : List (List ℕ)). Ran see q ns well c.loop.out.items c.half.new.out.items c.half.new.self ((half q) v) v) inv.same.names (c.in_ok-half.ensures.made q v are));
+      told = λ q left e.
+          turn_shown g.W.Watch.saw see q (half q) (halves q) (λ v. refl)
+          (λ n v. refl) c.args.self.now c.loop.self c.half.new.self c.args.watch.now c.loop.watch c.half.new.watch 4 left (inv.told q (suc left) (omega (arith, e)))
+          (λ v are. (c.in_ok-half.ensures.made q v are).1) (λ v are. c.in_ok-half.ensures.told q v are);
     }
 
 pub returns-in_err-half-clause-made : goal.returns-in_err-half-clause-made
@@ -47,3 +52,28 @@ pub returns-in_err-half-clause-only : goal.returns-in_err-half-clause-only
 returns-in_err-half-clause-only g c =
     let given = err_from_is_err_and c.from_residual.result c.from_residual.ensures.1 in
     only_then c.from_residual.result given.0 c.in_err-half.field-0.0 given.1 given.2 c.args.self.now.trace c.loop.self.trace c.loop.invariant.same.trace c.in_err-half.ensures.only
+
+pub returns-in_err-half-clause-told : goal.returns-in_err-half-clause-told
+returns-in_err-half-clause-told g c = λ q w agrees.
+    let saw = g.W.Watch.saw in
+    let see = g.R.Router.seen in
+    let inv = c.loop.invariant in
+    let n : ℕ = 4 in
+    let left : ℕ = n - suc c.loop.counter in
+    let e : c.loop.counter + suc left ≡ n = omega (arith, c.loop-test.true) in
+    let given = err_from_is_err_and c.from_residual.result c.from_residual.ensures.1 in
+    let r : Result (Unit {0}) WorldErr = Err c.in_err-half.field-0.0 in
+    let stop =
+    turn_not saw see q (half q) (halves q) (λ v. refl)
+    (λ m v. refl) c.args.self.now c.loop.self r c.args.watch.now c.loop.watch c.half.new.watch n left (inv.told q (suc left) e) refl
+    (λ v are. c.in_err-half.ensures.told q v are) w agrees in
+    rw given.1 (stop)
+
+pub returns-clause-told : goal.returns-clause-told
+returns-clause-told g c = λ q w agrees.
+    let saw = g.W.Watch.saw in
+    let see = g.R.Router.seen in
+    let inv = c.loop.invariant in
+    let n : ℕ = 4 in
+    let e : c.loop.counter + 0 ≡ n = omega (arith, c.loop-test.false, c.loop.auto.counter-end) in
+    turns_end saw see q (half q) (halves q) (λ v. refl) (λ m v. refl) c.args.self.now c.loop.self c.args.watch.now c.loop.watch n (inv.told q 0 e) w agrees
