@@ -6,3 +6,4 @@ pub mod Spoken
 pub mod Adding
 pub mod Told
 pub mod Ran
+pub mod Shown

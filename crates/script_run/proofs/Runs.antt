@@ -5,6 +5,7 @@ use Rattle.script_grammar.specs.Events.{Event, all_steps, steps_of}
 use Rattle.script_grammar.specs.Runs.{Plan, crowds, first_world, is_crowded, is_crowded_run, last_world, run_text, steps_of_run, text_of, uncrowded, written}
 use Rattle.script_grammar.specs.Steps.{Step, machine, step}
 use Rattle.script_grammar.specs.Worlds.{World}
+use Rattle.network_replay.specs.Sights.{Sight, all_sights}
 use Rattle.script_run.specs.Written.{with_event}
 
 module _ (q : ℕ) where
@@ -55,6 +56,19 @@ module _ (q : ℕ) where
       let last = run (machine q) there next in
       ap (λ (ss : List Step). here ++ ss) (steps_more es e next) ∙ sym (append_assoc here there (steps_of q e last)) ∙ ap (λ (v : World). (here ++ there) ++ steps_of q e v) (sym (run_on here there w))
 
+  -- what there is to be seen of one event more
+  sights_more : (one : Event → World → List Sight) (es : List Event) (e : Event) (w : World)
+      → all_sights q one (es ++ e ∷ []) w ≡ all_sights q one es w ++ one e (run (machine q) (all_steps q es w) w)
+  sights_more one [] e w = append-nil (one e w)
+  sights_more one (x ∷ es) e w =
+      let here = steps_of q x w in
+      let next = run (machine q) here w in
+      let there = all_steps q es next in
+      let last = run (machine q) there next in
+      let seen = one x w in
+      ap (λ (ss : List Sight). seen ++ ss) (sights_more one es e next) ∙ sym (append_assoc seen (all_sights q one es next) (one e last))
+      ∙ ap (λ (v : World). (seen ++ all_sights q one es next) ++ one e v) (sym (run_on here there w))
+
 -- the world behind all steps
 abbrev end_world : Plan → World
 end_world p = run (machine p.quarter) (steps_of_run p) (first_world p)
@@ -93,3 +107,9 @@ module _ (p : Plan) (e : Event) where
         last_is (with_event p e) roomy' ∙ ap (λ (ss : List Step). run (machine p.quarter) ss (first_world p)) more
         ∙ run_on p.quarter (steps_of_run p) (steps_of p.quarter e (end_world p)) (first_world p)
         ∙ ap (λ (w : World). run (machine p.quarter) (steps_of p.quarter e w) w) (sym (last_is p roomy))
+
+    -- and what there is to be seen of it
+    pub sights_with : (one : Event → World → List Sight)
+        → all_sights p.quarter one (p.events ++ e ∷ []) (first_world p) ≡ all_sights p.quarter one p.events (first_world p) ++ one e (last_world p)
+    sights_with one = sights_more p.quarter one p.events e (first_world p)
+        ∙ ap (λ (w : World). all_sights p.quarter one p.events (first_world p) ++ one e w) (sym (last_is p roomy))

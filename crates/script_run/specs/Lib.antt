@@ -5,4 +5,5 @@ pub mod Laws
 pub mod Advised
 pub mod Checking
 pub mod Standing
+pub mod Shown
 pub use Rattle.byte_streams.specs.Lines

@@ -3,8 +3,10 @@ ghost use Rattle.std.specs.Prelude.{◌≡◌, ◌≤◌, List, ℕ, length};
 ghost use Rattle.script_grammar.specs.Draft.{Draft};
 ghost use Rattle.script_advice.specs.Advice.{IsAdvice};
 ghost use Rattle.script_run.specs.Playing.{Plays};
+ghost use Rattle.script_run.specs.Shown.{ShowsOn};
 ghost use Rattle.script_run.specs.Written.{IsRunSoFar};
 
+use network_replay::Watch;
 use script_grammar::{Fault, Stop};
 
 /// What checks and runs the lines of a script, one after another.
@@ -12,13 +14,14 @@ pub trait Player {
     /// The lines that lead to this draft were played, and their events were run.
     ghost stands: { Self → Draft → Type 0 };
 
-    /// Checks a line, and where it is one of an event runs it and appends the event's text.
+    /// Checks a line, and where it is one of an event runs it and appends the event's text. `watch` sees all that happens.
     ///
     /// `Bad`: exactly where the line cannot follow those before, which stay the lines so far. `Crowded`: exactly where the run is
     /// crowded by it, and no more lines may be played. `NoMemory`: memory ran out, and no more lines may be played.
-    fn play(&mut self, line: &[u8], out: &mut Vec<u8>) -> Result<(), Stop>
+    fn play<W: Watch>(&mut self, line: &[u8], watch: &mut W, out: &mut Vec<u8>) -> Result<(), Stop>
         requires { length line.now ≤ 2048 }
-        ensures { (d : Draft) (said : List ℕ) → stands self.old d → IsRunSoFar d said → Plays (stands self.new) d said line.now result out.old.items out.new.items };
+        ensures { (d : Draft) (said : List ℕ) → stands self.old d → IsRunSoFar d said
+            → Plays (λ e. stands self.new e × ShowsOn W.saw watch.old watch.new d e) d said line.now result out.old.items out.new.items };
 
     /// Makes `advice` the text that tells what is wrong with a line that has this fault behind the lines so far. Where memory runs out,
     /// it is empty.

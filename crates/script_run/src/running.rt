@@ -2,37 +2,43 @@
 ghost use Rattle.std.specs.Prelude.{◌≡◌, ◌≤◌, [], List, ℕ, Some, length};
 ghost use Rattle.byte_streams.specs.Reading.{most_bytes};
 ghost use Rattle.byte_streams.specs.Faults.{Rose};
-ghost use Rattle.script_grammar.specs.Draft.{Draft, nothing};
+ghost use Rattle.script_grammar.specs.Draft.{Draft, nothing, plan_of};
+ghost use Rattle.network_replay.specs.Sights.{Shows};
 ghost use Rattle.script_run.specs.Advised.{IsAdvised, IsAdvisedAt};
 ghost use Rattle.script_run.specs.Playing.{StaysAt};
 ghost use Rattle.script_run.specs.Endings.{ComesTo, IsOrNoMemory, IsRun, ending_at};
+ghost use Rattle.script_run.specs.Shown.{script_sights};
 ghost use Rattle.script_run.specs.declared.ending.Ending.{Ending as AnEnding};
 
 use crate::crowding::put_crowded;
 use crate::ending::Ending;
 use crate::player::Player;
 use byte_streams::{LineReader, NextLine, Sink, Source, write_all};
+use network_replay::Watch;
 use script_advice::put_long;
 use script_grammar::{Fault, Stop};
 use std::alloc::Global;
 
 /// Reads a script of the source line by line: each line is checked and run by the player, and what it wrote is written to the
-/// sink, before the next line is read. The first line at which something is refused ends the run.
+/// sink, before the next line is read. The first line at which something is refused ends the run. `watch` sees all that happens: where
+/// the run is done, all that there is to be seen of its lines was shown, in order, and nothing else.
 ///
 /// At one line these come in this order: `ReadFault` or `TooLong` while it is read, then `BadLine`, then `Crowded`, then
 /// `WriteFault`. `NoMemory`: memory ran out. A line of more than 2,048 bytes is bad as soon as so many of it were taken.
 ///
 /// `advice` becomes the text that tells what is wrong with the bad line, or by which line the run is crowded; else, or where memory
 /// runs out as it is written, it is empty.
-pub fn run_lines<P: Player, S: Source, K: Sink>(
+pub fn run_lines<P: Player, S: Source, K: Sink, W: Watch>(
     alloc: Global,
     player: &mut P,
     source: &mut S,
     sink: &mut K,
+    watch: &mut W,
     advice: &mut Vec<u8>,
 ) -> Ending
     requires first { P.stands player.old nothing }
-    ensures run { IsRun (P.stands player.new) result (S.left source.old) (S.left source.new) (K.holds sink.old) (K.holds sink.new) }
+    ensures run { IsRun (λ d. P.stands player.new d × Shows W.saw watch.old watch.new (script_sights (plan_of d))) result
+        (S.left source.old) (S.left source.new) (K.holds sink.old) (K.holds sink.new) }
     ensures read_fault { result ≡ Ending.ReadFault → Rose (S.faults source.old) (S.faults source.new) }
     ensures write_fault { result ≡ Ending.WriteFault → Rose (K.faults sink.old) (K.faults sink.new) }
     // Over known input: what is wrong with the bad line is told, or by which line the run is crowded.
@@ -41,19 +47,21 @@ pub fn run_lines<P: Player, S: Source, K: Sink>(
     ensures complete { (bytes text : List ℕ) (wanted : AnEnding) → S.left source.old ≡ Some bytes → length bytes ≤ most_bytes → ComesTo wanted bytes text
         → (Rose (S.faults source.old) (S.faults source.new) → ⊥) → (Rose (K.faults sink.old) (K.faults sink.new) → ⊥) → IsOrNoMemory wanted result }
 {
-    run_to_end(alloc, player, source, sink, advice)
+    run_to_end(alloc, player, source, sink, watch, advice)
 }
 
 // Runs line by line.
-fn run_to_end<P: Player, S: Source, K: Sink>(
+fn run_to_end<P: Player, S: Source, K: Sink, W: Watch>(
     alloc: Global,
     player: &mut P,
     source: &mut S,
     sink: &mut K,
+    watch: &mut W,
     advice: &mut Vec<u8>,
 ) -> Ending
     requires first { P.stands player.old nothing }
-    ensures run { IsRun (P.stands player.new) result (S.left source.old) (S.left source.new) (K.holds sink.old) (K.holds sink.new) }
+    ensures run { IsRun (λ d. P.stands player.new d × Shows W.saw watch.old watch.new (script_sights (plan_of d))) result
+        (S.left source.old) (S.left source.new) (K.holds sink.old) (K.holds sink.new) }
     ensures read_fault { result ≡ Ending.ReadFault → Rose (S.faults source.old) (S.faults source.new) }
     ensures write_fault { result ≡ Ending.WriteFault → Rose (K.faults sink.old) (K.faults sink.new) }
     ensures advised { (bytes : List ℕ) → S.left source.old ≡ Some bytes → IsAdvised result bytes advice.new.items }
@@ -79,7 +87,7 @@ fn run_to_end<P: Player, S: Source, K: Sink>(
             NextLine::TooLong => return Ending::TooLong,
         }
         out.clear();
-        match player.play(reader.line(), &mut out) {
+        match player.play(reader.line(), watch, &mut out) {
             Ok(()) => {}
             Err(stop) => {
                 let number = reader.number();

@@ -1,13 +1,17 @@
 //! The player of the lines of a script.
-ghost use Rattle.std.specs.Prelude.{◌≡◌, ◌≤◌, [], false, length, List, ℕ, None, Some, IfOk};
+ghost use Rattle.std.specs.Prelude.{◌≡◌, ◌≤◌, ◌∷◌, [], false, length, List, ℕ, None, Some, IfErr, IfOk};
 ghost use Rattle.script_grammar.specs.Events.{Event as AnEvent};
-ghost use Rattle.script_grammar.specs.Runs.{Plan, is_crowded_run};
+ghost use Rattle.script_grammar.specs.Runs.{Plan, is_crowded_run, last_world};
 ghost use Rattle.router_rules.specs.Inputs.{Arrival};
 ghost use Rattle.script_grammar.specs.Draft.{Draft, nothing, plan_of};
+ghost use Rattle.script_grammar.specs.Worlds.{World as AWorld};
+ghost use Rattle.network_replay.specs.Agreeing.{Agrees};
 ghost use Rattle.network_replay.specs.Happening.{IsRead};
+ghost use Rattle.network_replay.specs.Sights.{Happened, Shows, ShowsRun};
 ghost use Rattle.network_model.specs.Happenings.{IsFitEvent, event_with};
 ghost use Rattle.script_run.specs.Playing.{Plays};
 ghost use Rattle.script_run.specs.Written.{IsRunSoFar, with_event};
+ghost use Rattle.script_run.specs.Shown.{ShowsOn, line_sights};
 ghost use Rattle.script_run.specs.Standing.{IsAt, IsNetworkOf, RunsOnto, StandsBehind};
 
 use crate::checks::{Checks, Start};
@@ -21,25 +25,23 @@ use script_advice::put_advice;
 use script_grammar::{Fault, Stop};
 use std::alloc::Global;
 
-/// Checks the lines of a script and runs their events. It has what checks them, what watches the rounds and, from the first event on,
-/// the network that they declare.
+/// Checks the lines of a script and runs their events. It has what checks them and, from the first event on, the network that they
+/// declare.
 #[derive(Drop)]
-pub struct ScriptPlayer<C: Checks + Drop, R: Opens, W: Watch + Drop> {
+pub struct ScriptPlayer<C: Checks + Drop, R: Opens> {
     alloc: Global,
     checker: C,
-    watch: W,
     world: Option<World<R>>,
 }
 
-impl<C: Checks + Drop, R: Opens, W: Watch + Drop> ScriptPlayer<C, R, W> {
+impl<C: Checks + Drop, R: Opens> ScriptPlayer<C, R> {
     /// A player whose checker has taken some lines, none of which is that of an event.
-    pub fn new(alloc: Global, checker: C, watch: W) -> ScriptPlayer<C, R, W>
-        ensures { result ≡ record { alloc = alloc; checker = checker; watch = watch; world = None } }
+    pub fn new(alloc: Global, checker: C) -> ScriptPlayer<C, R>
+        ensures { result ≡ record { alloc = alloc; checker = checker; world = None } }
     {
         ScriptPlayer {
             alloc,
             checker,
-            watch,
             world: None,
         }
     }
@@ -52,13 +54,18 @@ impl<C: Checks + Drop, R: Opens, W: Watch + Drop> ScriptPlayer<C, R, W> {
     }
 }
 
-impl<C: Checks + Drop, R: Opens, W: Watch + Drop> Player for ScriptPlayer<C, R, W> {
+impl<C: Checks + Drop, R: Opens> Player for ScriptPlayer<C, R> {
     ghost stands = { λ p d. IsAt R.seen (C.lines p.checker) p.world d };
 
-    fn play(&mut self, line: &[u8], out: &mut Vec<u8>) -> Result<(), Stop> {
+    fn play<W: Watch>(
+        &mut self,
+        line: &[u8],
+        watch: &mut W,
+        out: &mut Vec<u8>,
+    ) -> Result<(), Stop> {
         match self.checker.feed(line) {
             Ok(None) => {
-                self.watch.line_taken(line);
+                watch.line_taken(line);
                 Ok(())
             }
             Ok(Some(event)) => {
@@ -68,7 +75,7 @@ impl<C: Checks + Drop, R: Opens, W: Watch + Drop> Player for ScriptPlayer<C, R, 
                     &mut self.world,
                     line,
                     &event,
-                    &mut self.watch,
+                    watch,
                     out,
                 ) {
                     Ok(()) => Ok(()),
@@ -96,8 +103,10 @@ fn happen<C: Checks + Drop, R: Opens, W: Watch>(
     out: &mut Vec<u8>,
 ) -> Result<(), WorldErr>
     requires { IsFitEvent event.now }
-    ensures { (p : Plan) (a : Arrival) → IsRead event.now a → IsNetworkOf R.seen world.old p → plan_of (C.lines checker.now) ≡ with_event p (event_with a event.now) → is_crowded_run p ≡ false
+    ensures runs { (p : Plan) (a : Arrival) → IsRead event.now a → IsNetworkOf R.seen world.old p → plan_of (C.lines checker.now) ≡ with_event p (event_with a event.now) → is_crowded_run p ≡ false
         → RunsOnto R.seen p (event_with a event.now) result out.old.items out.new.items world.new }
+    ensures told { (p : Plan) (a : Arrival) → IsRead event.now a → IsNetworkOf R.seen world.old p → plan_of (C.lines checker.now) ≡ with_event p (event_with a event.now) → is_crowded_run p ≡ false
+        → ShowsRun W.saw result watch.old watch.new (line_sights p.quarter (event_with a event.now) (last_world p)) }
 {
     let mut network = match network_of(alloc, checker, world.take()) {
         Ok(network) => network,
@@ -110,14 +119,18 @@ fn happen<C: Checks + Drop, R: Opens, W: Watch>(
     result
 }
 
-// What watches sees the network behind an event that happened.
+// What watches sees the network behind an event, where that happened.
 fn show_happened<R: Opens, W: Watch>(
     watch: &mut W,
     network: &World<R>,
     event: &Event,
     ran: &Result<(), WorldErr>,
     text: &[u8],
-) {
+)
+    ensures ok { (q : ℕ) (w : AWorld) (a : Arrival) → IsRead event.now a
+        → IfOk ran.now (λ u. Agrees R.seen q network.now w → Shows W.saw watch.old watch.new (Happened w (event_with a event.now) ∷ [])) }
+    ensures err { IfErr ran.now (λ e. watch.new ≡ watch.old) }
+{
     match ran {
         Ok(()) => watch.happened(network, event, text),
         Err(_) => {}

@@ -6,7 +6,7 @@ use byte_streams::{MemorySink, MemorySource};
 use rsvp_base::{Addr, NoMemory, Session, StyleKind};
 use script_advice::{LinesBefore, put_advice};
 use script_grammar::{Fault, HopEnds, ScriptLine, Stop, read_line};
-use script_run::{Ending, Player, run_lines};
+use script_run::{Ending, Player, Unwatched, Watch, run_lines};
 use script_words::Unread;
 use std::alloc::Global;
 use std::test::Fail;
@@ -21,8 +21,14 @@ struct Silent {
 impl Player for Silent {
     ghost stands = { λ p d. d ≡ nothing };
 
-    fn play(&mut self, line: &[u8], out: &mut Vec<u8>) -> Result<(), Stop> {
+    fn play<W: Watch>(
+        &mut self,
+        line: &[u8],
+        watch: &mut W,
+        out: &mut Vec<u8>,
+    ) -> Result<(), Stop> {
         let _ = out.len();
+        let _ = watch;
         let mut words = Vec::new(self.alloc);
         match read_line(self.alloc, line, &mut words) {
             Ok(ScriptLine::Skipped) => Ok(()),
@@ -130,7 +136,14 @@ fn run_text(alloc: Global, text: &[u8], fails: bool, most: usize) -> Result<Endi
     let mut sink = MemorySink::open(alloc, 16, Vec::new(alloc), Vec::new(alloc))?;
     let mut player = Silent { alloc };
     let mut advice = Vec::new(alloc);
-    Ok(run_lines(alloc, &mut player, &mut source, &mut sink, &mut advice))
+    Ok(run_lines(
+        alloc,
+        &mut player,
+        &mut source,
+        &mut sink,
+        &mut Unwatched,
+        &mut advice,
+    ))
 }
 
 // Runs a text in pieces of 1 to 8 bytes, and fails where the run ends in another way.

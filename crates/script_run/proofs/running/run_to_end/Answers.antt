@@ -6,14 +6,19 @@ use Rattle.script_run.specs.Playing.{IsRunOn, Stops}
 use Rattle.byte_streams.proofs.Behind.{end_came, fault_came, goes_down, line_came, long_came, many_came}
 use Rattle.script_run.proofs.Ended.{at_start, ended_at, ended_at_once, ended_done, ended_fault, ended_long, ended_many, ended_writing, one_more}
 use Rattle.script_run.proofs.Told.{told_at, told_long}
+use Rattle.script_run.specs.Shown.{ShowsOn}
+use Rattle.script_run.proofs.Shown.{BothStand, nothing_shown, run_shown, stays_apart}
 use Rattle.script_run.proofs.running.run_to_end.Goals as goal
 
 pub returns-in-Err-clause-run : goal.returns-in-Err-clause-run
-returns-in-Err-clause-run g c = ended_at_once g.P.Player.stands (g.P.Player.stands c.args.player.now) (g.S.Source.left c.args.source.now) (g.K.Sink.holds c.args.sink.now)
+returns-in-Err-clause-run g c =
+    let stands = BothStand g.P.Player.stands g.W.Watch.saw c.args.watch.now in
+    ended_at_once stands (stands (c.args.player.now, c.args.watch.now)) (g.S.Source.left c.args.source.now) (g.K.Sink.holds c.args.sink.now)
 
 pub loop-advice-init : goal.loop-advice-init
 loop-advice-init g c = record {
-  played = at_start g.P.Player.stands (g.S.Source.left c.args.source.now) (g.K.Sink.holds c.args.sink.now) c.in-Ok.reader c.args.player.now c.in-Ok.ensures c.requires.first;
+  played = at_start (BothStand g.P.Player.stands g.W.Watch.saw c.args.watch.now) (g.S.Source.left c.args.source.now) (g.K.Sink.holds c.args.sink.now) c.in-Ok.reader
+      (c.args.player.now, c.args.watch.now) c.in-Ok.ensures (c.requires.first, nothing_shown g.W.Watch.saw c.args.watch.now);
   read = omega arith;
   written = omega arith;
   quiet = c.clear.ensures.items;
@@ -21,7 +26,7 @@ loop-advice-init g c = record {
 
 pub returns-in-Long-clause-run : goal.returns-in-Long-clause-run
 returns-in-Long-clause-run g c =
-    let stands = g.P.Player.stands in
+    let stands = BothStand g.P.Player.stands g.W.Watch.saw c.args.watch.now in
     let old = g.S.Source.left c.args.source.now in
     let mid = g.S.Source.left c.loop-advice.source in
     let new = g.S.Source.left c.next.new.source in
@@ -33,11 +38,11 @@ returns-in-Long-clause-run g c =
     let e = c.in-Long.ensures in
     let fine : Long ≢ TooLong = λ x. cc in
     let l = long_came old mid new r now p.before p.taken p.behind (λ n. (e.again n).0) e.cut e.few (λ n. e.number n (inr refl)) in
-    ended_long stands old mid new first holds r now c.loop-advice.player p (stands c.loop-advice.player) c.number.result l (e.within fine) c.number.ensures
+    ended_long stands old mid new first holds r now (c.loop-advice.player, c.loop-advice.watch) p (stands (c.loop-advice.player, c.loop-advice.watch)) c.number.result l (e.within fine) c.number.ensures
 
 pub returns-in-End-clause-run : goal.returns-in-End-clause-run
 returns-in-End-clause-run g c =
-    let stands = g.P.Player.stands in
+    let stands = BothStand g.P.Player.stands g.W.Watch.saw c.args.watch.now in
     let old = g.S.Source.left c.args.source.now in
     let mid = g.S.Source.left c.loop-advice.source in
     let new = g.S.Source.left c.next.new.source in
@@ -49,11 +54,11 @@ returns-in-End-clause-run g c =
     let e = c.in-End.ensures in
     let fine : End ≢ TooLong = λ x. cc in
     let l = end_came old mid new r now p.before p.taken p.behind (λ n. (let a = e.again n in (a.0, a.1, ap (λ s. g.S.Source.left s) a.2))) e.cut (λ n. (e.end refl n).1) in
-    ended_done stands old mid new first holds r now c.loop-advice.player p l (e.within fine)
+    ended_done stands old mid new first holds r now (c.loop-advice.player, c.loop-advice.watch) p l (e.within fine)
 
 pub returns-in-Fault-clause-run : goal.returns-in-Fault-clause-run
 returns-in-Fault-clause-run g c =
-    let stands = g.P.Player.stands in
+    let stands = BothStand g.P.Player.stands g.W.Watch.saw c.args.watch.now in
     let old = g.S.Source.left c.args.source.now in
     let mid = g.S.Source.left c.loop-advice.source in
     let new = g.S.Source.left c.next.new.source in
@@ -65,11 +70,11 @@ returns-in-Fault-clause-run g c =
     let e = c.in-Fault.ensures in
     let fine : Fault ≢ TooLong = λ x. cc in
     let l = fault_came old mid new r now p.before p.taken p.behind (λ n. (e.again n).0) e.cut in
-    ended_fault stands old mid new first holds r now c.loop-advice.player p (stands c.loop-advice.player) l (e.within fine)
+    ended_fault stands old mid new first holds r now (c.loop-advice.player, c.loop-advice.watch) p (stands (c.loop-advice.player, c.loop-advice.watch)) l (e.within fine)
 
 pub returns-in-TooLong-clause-run : goal.returns-in-TooLong-clause-run
 returns-in-TooLong-clause-run g c =
-    let stands = g.P.Player.stands in
+    let stands = BothStand g.P.Player.stands g.W.Watch.saw c.args.watch.now in
     let old = g.S.Source.left c.args.source.now in
     let mid = g.S.Source.left c.loop-advice.source in
     let new = g.S.Source.left c.next.new.source in
@@ -80,11 +85,11 @@ returns-in-TooLong-clause-run g c =
     let p = c.loop-advice.invariant.played in
     let e = c.in-TooLong.ensures in
     let l = many_came old mid new r now p.before p.taken p.behind (λ n. (e.again n).0) e.cut (e.too_long refl) in
-    ended_many stands old mid new first holds r now c.loop-advice.player p (stands c.loop-advice.player) l (e.too_long refl)
+    ended_many stands old mid new first holds r now (c.loop-advice.player, c.loop-advice.watch) p (stands (c.loop-advice.player, c.loop-advice.watch)) l (e.too_long refl)
 
 pub returns-in-Err-play-clause-run : goal.returns-in-Err-play-clause-run
 returns-in-Err-play-clause-run g c =
-    let stands = g.P.Player.stands in
+    let stands = BothStand g.P.Player.stands g.W.Watch.saw c.args.watch.now in
     let old = g.S.Source.left c.args.source.now in
     let mid = g.S.Source.left c.loop-advice.source in
     let new = g.S.Source.left c.next.new.source in
@@ -97,13 +102,13 @@ returns-in-Err-play-clause-run g c =
     let fine : Line ≢ TooLong = λ x. cc in
     let l = line_came old mid new r now p.before p.taken p.behind (λ n. (e.again n).0) e.cut (e.near refl) (λ n. e.number n (inl refl)) (e.last refl) in
     let not_run = c.in-Err-play in
-    let stops = subst (λ t. Stops not_run.stop p.draft t) c.line.ensures.line (not_run.ensures p.draft p.text p.stands_there p.run).0 in
-    rw c.ending_at.ensures (ended_at stands old mid new first holds r now c.loop-advice.player p (stands c.play.new.self) l
+    let stops = subst (λ t. Stops not_run.stop p.draft t) c.line.ensures.line (not_run.ensures p.draft p.text p.stands_there.0 p.run).0 in
+    rw c.ending_at.ensures (ended_at stands old mid new first holds r now (c.loop-advice.player, c.loop-advice.watch) p (stands (c.play.new.self, c.play.new.watch)) l
     (e.within fine) not_run.stop c.number-number.result c.number-number.ensures stops)
 
 pub loop-advice-smaller : goal.loop-advice-smaller
 loop-advice-smaller g c =
-    let stands = g.P.Player.stands in
+    let stands = BothStand g.P.Player.stands g.W.Watch.saw c.args.watch.now in
     let old = g.S.Source.left c.args.source.now in
     let mid = g.S.Source.left c.loop-advice.source in
     let new = g.S.Source.left c.next.new.source in
@@ -118,7 +123,7 @@ loop-advice-smaller g c =
 
 pub loop-advice-preserved : goal.loop-advice-preserved
 loop-advice-preserved g c =
-    let stands = g.P.Player.stands in
+    let stands = BothStand g.P.Player.stands g.W.Watch.saw c.args.watch.now in
     let old = g.S.Source.left c.args.source.now in
     let mid = g.S.Source.left c.loop-advice.source in
     let new = g.S.Source.left c.next.new.source in
@@ -130,13 +135,14 @@ loop-advice-preserved g c =
     let e = c.in-Line.ensures in
     let fine : Line ≢ TooLong = λ x. cc in
     let l = line_came old mid new r now p.before p.taken p.behind (λ n. (e.again n).0) e.cut (e.near refl) (λ n. e.number n (inl refl)) (e.last refl) in
-    let ran = c.in-Ok-play.ensures p.draft p.text p.stands_there p.run in
+    let ran = c.in-Ok-play.ensures p.draft p.text p.stands_there.0 p.run in
     let own = ran.0 in
     let all : c.as_slice.result.now ≡ own = c.as_slice.ensures.value ∙ ran.1 ∙ ap (λ (o : List ℕ). o ++ own) c.clear-in-loop-advice.ensures.items in
-    let on = subst (λ t. IsRunOn (stands c.play.new.self) p.draft t p.text own) c.line.ensures.line ran.2 in
+    let shown = run_shown g.W.Watch.saw (g.P.Player.stands c.play.new.self) c.args.watch.now c.loop-advice.watch c.play.new.watch p.draft c.line.result.now p.text own p.stands_there.1 ran.2 in
+    let on = subst (λ t. IsRunOn (stands (c.play.new.self, c.play.new.watch)) p.draft t p.text own) c.line.ensures.line shown in
     let later = g.K.Sink.holds c.write_all.new.sink in
     record {
-      played = one_more stands old mid new first holds r now c.loop-advice.player p l c.play.new.self later own on (subst (λ t. Appends holds later t) all c.in-Ok-write_all.ensures.written);
+      played = one_more stands old mid new first holds r now (c.loop-advice.player, c.loop-advice.watch) p l (c.play.new.self, c.play.new.watch) later own on (subst (λ t. Appends holds later t) all c.in-Ok-write_all.ensures.written);
       read = omega (arith, c.loop-advice.invariant.read, c.next.ensures.later);
       written = omega (arith, c.loop-advice.invariant.written, c.write_all.ensures.cause.later);
       quiet = c.loop-advice.invariant.quiet;
@@ -144,7 +150,7 @@ loop-advice-preserved g c =
 
 pub returns-in-Err-write_all-clause-run : goal.returns-in-Err-write_all-clause-run
 returns-in-Err-write_all-clause-run g c =
-    let stands = g.P.Player.stands in
+    let stands = BothStand g.P.Player.stands g.W.Watch.saw c.args.watch.now in
     let old = g.S.Source.left c.args.source.now in
     let mid = g.S.Source.left c.loop-advice.source in
     let new = g.S.Source.left c.next.new.source in
@@ -156,18 +162,19 @@ returns-in-Err-write_all-clause-run g c =
     let e = c.in-Line.ensures in
     let fine : Line ≢ TooLong = λ x. cc in
     let l = line_came old mid new r now p.before p.taken p.behind (λ n. (e.again n).0) e.cut (e.near refl) (λ n. e.number n (inl refl)) (e.last refl) in
-    let ran = c.in-Ok-play.ensures p.draft p.text p.stands_there p.run in
+    let ran = c.in-Ok-play.ensures p.draft p.text p.stands_there.0 p.run in
     let own = ran.0 in
     let all : c.as_slice.result.now ≡ own = c.as_slice.ensures.value ∙ ran.1 ∙ ap (λ (o : List ℕ). o ++ own) c.clear-in-loop-advice.ensures.items in
-    let on = subst (λ t. IsRunOn (stands c.play.new.self) p.draft t p.text own) c.line.ensures.line ran.2 in
+    let shown = run_shown g.W.Watch.saw (g.P.Player.stands c.play.new.self) c.args.watch.now c.loop-advice.watch c.play.new.watch p.draft c.line.result.now p.text own p.stands_there.1 ran.2 in
+    let on = subst (λ t. IsRunOn (stands (c.play.new.self, c.play.new.watch)) p.draft t p.text own) c.line.ensures.line shown in
     let later = g.K.Sink.holds c.write_all.new.sink in
     let (n, few, front) = c.in-Err-write_all.ensures.stopped in
-    ended_writing stands old mid new first holds r now c.loop-advice.player p (stands c.play.new.self) l (e.within fine) later own n on (subst (λ (t : List ℕ). n ≤ length t) all few)
+    ended_writing stands old mid new first holds r now (c.loop-advice.player, c.loop-advice.watch) p (stands (c.play.new.self, c.play.new.watch)) l (e.within fine) later own n on (subst (λ (t : List ℕ). n ≤ length t) all few)
     (subst (λ t. Appends holds later (take n t)) all front)
 
 pub returns-in-Long-clause-advised : goal.returns-in-Long-clause-advised
 returns-in-Long-clause-advised g c = λ bytes known.
-    let stands = g.P.Player.stands in
+    let stands = BothStand g.P.Player.stands g.W.Watch.saw c.args.watch.now in
     let old = g.S.Source.left c.args.source.now in
     let mid = g.S.Source.left c.loop-advice.source in
     let new = g.S.Source.left c.next.new.source in
@@ -178,11 +185,11 @@ returns-in-Long-clause-advised g c = λ bytes known.
     let p = c.loop-advice.invariant.played in
     let e = c.in-Long.ensures in
     let l = long_came old mid new r now p.before p.taken p.behind (λ n. (e.again n).0) e.cut e.few (λ n. e.number n (inr refl)) in
-    told_long stands old mid new first holds r now c.loop-advice.player p bytes c.put_long.new.advice.items known c.number.result l c.number.ensures c.put_long.ensures
+    told_long stands old mid new first holds r now (c.loop-advice.player, c.loop-advice.watch) p bytes c.put_long.new.advice.items known c.number.result l c.number.ensures c.put_long.ensures
 
 pub returns-in-Err-play-clause-advised : goal.returns-in-Err-play-clause-advised
 returns-in-Err-play-clause-advised g c = λ bytes known.
-    let stands = g.P.Player.stands in
+    let stands = BothStand g.P.Player.stands g.W.Watch.saw c.args.watch.now in
     let old = g.S.Source.left c.args.source.now in
     let mid = g.S.Source.left c.loop-advice.source in
     let new = g.S.Source.left c.next.new.source in
@@ -194,8 +201,10 @@ returns-in-Err-play-clause-advised g c = λ bytes known.
     let e = c.in-Line.ensures in
     let l = line_came old mid new r now p.before p.taken p.behind (λ n. (e.again n).0) e.cut (e.near refl) (λ n. e.number n (inl refl)) (e.last refl) in
     let not_run = c.in-Err-play in
-    let stops = subst (λ t. Stops not_run.stop p.draft t) c.line.ensures.line (not_run.ensures p.draft p.text p.stands_there p.run).0 in
-    let told = c.advise.ensures p.draft (not_run.ensures p.draft p.text p.stands_there p.run).1 in
+    let stops = subst (λ t. Stops not_run.stop p.draft t) c.line.ensures.line (not_run.ensures p.draft p.text p.stands_there.0 p.run).0 in
+    let stays = stays_apart (g.P.Player.stands c.play.new.self) (λ e. ShowsOn g.W.Watch.saw c.loop-advice.watch c.play.new.watch p.draft e) p.draft not_run.stop
+    (not_run.ensures p.draft p.text p.stands_there.0 p.run).1 in
+    let told = c.advise.ensures p.draft stays in
     let told_here = subst (λ t. IsAdvisedAt p.draft t c.number-number.result not_run.stop c.advise.new.advice.items) c.line-in-Err-play.ensures.line told in
-    rw c.ending_at.ensures (told_at stands old mid new first holds r now c.loop-advice.player p bytes c.advise.new.advice.items known l c.number-number.result c.number-number.ensures
+    rw c.ending_at.ensures (told_at stands old mid new first holds r now (c.loop-advice.player, c.loop-advice.watch) p bytes c.advise.new.advice.items known l c.number-number.result c.number-number.ensures
     not_run.stop stops told_here)

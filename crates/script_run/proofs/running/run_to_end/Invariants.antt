@@ -1,13 +1,15 @@
 use Rattle.std.proofs.Common.{◌≡◌, ◌-◌, ◌≤◌, [], length}
 use Rattle.byte_streams.specs.Reading.{most_bytes}
 use Rattle.script_run.proofs.Ended.{Progress}
+use Rattle.script_run.proofs.Shown.{BothStand}
 use Rattle.script_run.proofs.running.run_to_end.Given as goal
 
--- the lines up to here were run, and what they wrote was written
+-- the lines up to here were run, what they wrote was written, and all that there is to be seen of them was shown
 abbrev pub invariant-loop-advice : goal.invariant-loop-advice
 invariant-loop-advice g l =
     record {
-      played : Progress g.P.Player.stands (g.S.Source.left l.initial.source) (g.S.Source.left l.source) (g.K.Sink.holds l.initial.sink) (g.K.Sink.holds l.sink) l.reader l.player;
+      played : Progress (BothStand g.P.Player.stands g.W.Watch.saw l.initial.watch) (g.S.Source.left l.initial.source) (g.S.Source.left l.source) (g.K.Sink.holds l.initial.sink)
+          (g.K.Sink.holds l.sink) l.reader (l.player, l.watch);
       read : g.S.Source.faults l.initial.source ≤ g.S.Source.faults l.source;
       written : g.K.Sink.faults l.initial.sink ≤ g.K.Sink.faults l.sink;
       quiet : l.advice.items ≡ [];

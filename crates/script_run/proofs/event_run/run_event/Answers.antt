@@ -1,0 +1,8 @@
+use Rattle.network_model.specs.Happenings.{event_with}
+use Rattle.script_run.proofs.Shown.{told_behind}
+use Rattle.script_run.proofs.event_run.run_event.Goals as goal
+
+pub returns-clause-told : goal.returns-clause-told
+returns-clause-told g c = λ p a read stands.
+    told_behind g.R.Router.seen g.W.Watch.saw c.args.world.now c.event.result c.args.watch.now c.event.new.watch p (event_with a c.args.event.now) stands
+    (c.event.ensures.told a read stands.agrees.going)
