@@ -3,3 +3,4 @@ pub mod Grown
 pub mod Counted
 pub mod Summed
 pub mod Ended
+pub mod Shown

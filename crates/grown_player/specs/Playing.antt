@@ -6,6 +6,7 @@ use Rattle.router_rules.specs.Inputs.{Arrival, Unspelt}
 use Rattle.rsvp_messages.specs.declared.fault.Fault.TheVariants as fault
 use Rattle.network_replay.specs.Agreeing.{NetworkState}
 use Rattle.network_replay.specs.Following.{Seen}
+use Rattle.network_replay.specs.Sights.{Sight, plan_sights}
 use Rattle.network_replay.specs.declared.world_err.WorldErr.{WorldErr}
 use Rattle.network_replay.specs.declared.world_err.WorldErr.TheVariants.{Crowded, NoMemory}
 use Rattle.script_run.specs.Standing.{StandsBehind}
@@ -17,6 +18,10 @@ with_events p es = record p { events = p.events ++ es }
 -- an event without bytes has these, which say nothing
 abbrev pub no_bytes : Arrival
 no_bytes = Unspelt (record { fault = fault.Short; kind = None; hint = record { session = None; hop = None; style = None; sender = None } })
+
+-- behind what was shown of the plan, all that there is to be seen of these events was shown
+abbrev pub ShowsMore : {W : Type 0} → (W → List Sight → Type 0) → W → W → Plan → List Event → Type 0
+ShowsMore saw old new p es = (ss : List Sight) → saw old (ss ++ plan_sights p) → saw new (ss ++ plan_sights (with_events p es))
 
 module _ {R : Type 0} (see : Seen R) where
   -- the plan was played: its run is not crowded, the network stands behind it, and it wrote this

@@ -1,15 +1,16 @@
 //! The events of a grown plan are played.
-ghost use Rattle.std.specs.Prelude.{◌++◌, ◌∷◌, [], None, false, map};
+ghost use Rattle.std.specs.Prelude.{◌++◌, ◌∷◌, [], None, OnOk, false, map};
 ghost use Rattle.std.specs.List.{All};
 ghost use Rattle.network_model.specs.Events.{Reports, Rounds};
-ghost use Rattle.network_model.specs.Runs.{Plan};
+ghost use Rattle.network_model.specs.Runs.{Plan, last_world};
 ghost use Rattle.network_replay.specs.Happening.{IsRead};
+ghost use Rattle.network_replay.specs.Sights.{ShowsRun, event_sights};
 ghost use Rattle.network_model.specs.Happenings.{IsFitEvent, event_with};
 ghost use Rattle.router_rules.specs.Steps.{IsFitCall};
 ghost use Rattle.router_rules.specs.Inputs.{WantAs};
 ghost use Rattle.grown_network.specs.Grown.{send_event, want_event};
 ghost use Rattle.grown_network.specs.Hosts.{session_of};
-ghost use Rattle.grown_player.specs.Playing.{IsPlayed, Plays, no_bytes};
+ghost use Rattle.grown_player.specs.Playing.{IsPlayed, Plays, ShowsMore, no_bytes};
 
 use grown_network::{Wanted, flow_of, session_of};
 use network_model::{Event, LocalCall};
@@ -20,7 +21,7 @@ use tree_model::LocalSender;
 /// The rate of each sender, in bytes per second.
 const SENT: u64 = 1000;
 
-/// Plays the events of a plan: all send, all want, so many rounds, and a report. `watch` is told how far the rounds are.
+/// Plays the events of a plan: all send, all want, so many rounds, and a report. `watch` sees all that happens.
 pub(crate) fn play_plan<R: Router + Drop, W: Watch>(
     world: &mut World<R>,
     senders: &[LocalSender],
@@ -30,8 +31,10 @@ pub(crate) fn play_plan<R: Router + Drop, W: Watch>(
     out: &mut Vec<u8>,
 ) -> Result<(), WorldErr>
     requires { All (λ w. IsFitCall (WantAs (session_of w.style) w.style w.senders w.flow false)) wants.now }
-    ensures { (p : Plan) → IsPlayed R.seen p world.old out.old.items
+    ensures runs { (p : Plan) → IsPlayed R.seen p world.old out.old.items
         → Plays R.seen p (map send_event senders.now ++ (map want_event wants.now ++ Rounds rounds ∷ Reports None ∷ [])) result world.new out.new.items }
+    ensures told { (p : Plan) → IsPlayed R.seen p world.old out.old.items
+        → OnOk result (ShowsMore W.saw watch.old watch.new p (map send_event senders.now ++ (map want_event wants.now ++ Rounds rounds ∷ Reports None ∷ []))) }
 {
     send_all(world, senders, out)?;
     want_all(world, wants, out)?;
@@ -118,7 +121,9 @@ fn play<R: Router + Drop, W: Watch>(
 ) -> Result<(), WorldErr>
     requires fit { IsFitEvent event.now }
     requires read { IsRead event.now no_bytes }
-    ensures { (p : Plan) → IsPlayed R.seen p world.old out.old.items → Plays R.seen p (event_with no_bytes event.now ∷ []) result world.new out.new.items }
+    ensures runs { (p : Plan) → IsPlayed R.seen p world.old out.old.items → Plays R.seen p (event_with no_bytes event.now ∷ []) result world.new out.new.items }
+    ensures told { (p : Plan) → IsPlayed R.seen p world.old out.old.items
+        → ShowsRun W.saw result watch.old watch.new (event_sights p.quarter (event_with no_bytes event.now) (last_world p)) }
 {
     run_event(world, event, watch, out)
 }

@@ -4,6 +4,7 @@ ghost use Rattle.byte_streams.specs.Faults.{Rose};
 ghost use Rattle.network_model.specs.Runs.{is_crowded_run};
 ghost use Rattle.script_run.specs.Endings.{IsOrNoMemory};
 ghost use Rattle.script_run.specs.declared.ending.Ending.{Ending as AnEnding};
+ghost use Rattle.network_replay.specs.Sights.{Shows, plan_sights};
 ghost use Rattle.network_replay.specs.declared.world_err.WorldErr.TheVariants as refusal;
 ghost use Rattle.script_run.specs.Standing.{IsNetworkOf, StandsBehind};
 ghost use Rattle.grown_network.specs.Grown.{grown_plan};
@@ -20,7 +21,7 @@ use script_run::{Ending, Opens};
 use std::alloc::Global;
 
 /// Grows the network of a seed, runs the events of its plan on routers, and writes the summary of the run to the sink. Where it is
-/// done, `last` holds the network in which the run ended; else it stays empty. `watch` is told how far the rounds are.
+/// done, `last` holds the network in which the run ended; else it stays empty. `watch` sees all that happens.
 ///
 /// `Crowded` comes before `WriteFault`, and nothing is written then. `NoMemory` may come at any time before the first byte is
 /// written. It does not end otherwise.
@@ -33,6 +34,8 @@ pub fn run_grown<R: Opens, K: Sink, W: Watch>(
 ) -> Ending
     requires { last.old ≡ None }
     ensures run { IsGrownRun (λ p. IsNetworkOf R.seen last.new p) result seed (K.holds sink.old) (K.holds sink.new) }
+    // Where it is done, all that there is to be seen of the run was shown, in order, and nothing else.
+    ensures told { result ≡ Ending.Done → Shows W.saw watch.old watch.new (plan_sights (grown_plan seed)) }
     ensures empty { result ≢ Ending.Done → last.new ≡ None }
     ensures write_fault { result ≡ Ending.WriteFault → Rose (K.faults sink.old) (K.faults sink.new) }
     // Nothing else ends it where the sink does not fail.
@@ -62,6 +65,7 @@ fn run_plan<R: Opens, W: Watch>(
     ensures stands { IfOk result (λ r. StandsBehind R.seen r.0 (grown_plan seed)) }
     ensures text { IfOk result (λ r. r.1.items ≡ summary seed) }
     ensures crowded { IfErr result (λ e. e ≡ refusal.Crowded → is_crowded_run (grown_plan seed) ≡ true) }
+    ensures told { IfOk result (λ r. Shows W.saw watch.old watch.new (plan_sights (grown_plan seed))) }
 {
     let Ok(grown) = grow(alloc, seed) else {
         return Err(WorldErr::NoMemory);
