@@ -7,3 +7,4 @@ pub mod Shows
 pub mod StatusTexts
 pub mod Grown
 pub mod Nothing
+pub mod Shown

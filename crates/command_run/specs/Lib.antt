@@ -11,3 +11,4 @@ pub mod Advised
 pub mod Policing
 pub mod Serving
 pub mod Commands
+pub mod Shown

@@ -4,6 +4,7 @@ ghost use Rattle.byte_streams.specs.Faults.{Rose};
 ghost use Rattle.script_grammar.specs.Draft.{nothing};
 ghost use Rattle.command_run.specs.Commands.{Does};
 ghost use Rattle.command_run.specs.Ran.{device, ran};
+ghost use Rattle.command_run.specs.Shown.{ShowsTask};
 ghost use Rattle.command_run.specs.Tasks.{task_of};
 
 use crate::demanding::demand;
@@ -29,9 +30,8 @@ use std::alloc::Global;
 /// of which the first opens a router, and writes the frames with which the router answers each; `police` reads a
 /// flow and its packets, and writes for each whether it passes. Where a script with
 /// an event was replayed to its end, and where a network was grown and run to its end, `last` holds the network in which the run
-/// ended; else it stays empty. `watch` gets how far the rounds of a replay or of a growing are: no clause hangs on it. `advice`
-/// becomes the text that says what is wrong with the bad line, or by which line a replay is crowded; else, or where memory runs out as it
-/// is written, it is empty.
+/// ended; else it stays empty. `watch` sees all that happens in a replay or a growing. `advice` becomes the text that says what is wrong
+/// with the bad line, or by which line a replay is crowded; else, or where memory runs out as it is written, it is empty.
 ///
 /// `Usage` comes first: the words are no command, and nothing is read or written. How a replay ends is said at `replay`, how the
 /// demand of a script ends at `demand`, how showing ends at `show_messages`, how growing ends at `grow`, how the service of a
@@ -51,6 +51,8 @@ pub fn run_command<C: Asks + Drop, R: Opens + Serves, S: Source, K: Sink, W: Wat
     // What the words order, a row a task.
     ensures does { Does R.seen (task_of (map string_bytes words.now.items))
         (ran result (device S.left S.faults source.old source.new) (device K.holds K.faults sink.old sink.new) advice.new.items) last.new }
+    // Where it is done, all that there is to be seen of what was run was shown, in order, and nothing else.
+    ensures told { result ≡ Status.Done → ShowsTask W.saw watch.old watch.new (task_of (map string_bytes words.now.items)) (S.left source.old) }
     // Whatever they order.
     ensures usage { result ≡ Status.Usage → task_of (map string_bytes words.now.items) ≡ None }
     ensures read_fault { result ≡ Status.ReadFault → Rose (S.faults source.old) (S.faults source.new) }

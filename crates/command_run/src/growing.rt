@@ -1,6 +1,8 @@
 //! Growing a network.
 ghost use Rattle.std.specs.Prelude.{◌≡◌, ◌≢◌, None};
 ghost use Rattle.byte_streams.specs.Faults.{Rose};
+ghost use Rattle.grown_network.specs.Grown.{grown_plan};
+ghost use Rattle.network_replay.specs.Sights.{Shows, plan_sights};
 ghost use Rattle.command_run.specs.Commands.{Grown};
 ghost use Rattle.command_run.specs.Ran.{device};
 
@@ -14,7 +16,7 @@ use std::alloc::Global;
 
 /// Grows the network of a seed, runs it and writes the summary of the run to the sink. Where it is done, the run reported what is
 /// demanded, the last line of the summary is `equal yes`, and `last` holds the network in which the run ended; else `last` stays
-/// empty. `watch` gets how far the rounds are.
+/// empty. `watch` sees all that happens.
 ///
 /// `Crowded` comes before `WriteFault`, and nothing is written then. `NoMemory` may come at any time before the first byte is
 /// written.
@@ -27,6 +29,7 @@ pub fn grow<R: Opens, K: Sink, W: Watch>(
 ) -> Status
     requires { last.old ≡ None }
     ensures grown { Grown R.seen last.new seed result (device K.holds K.faults sink.old sink.new) }
+    ensures told { result ≡ Status.Done → Shows W.saw watch.old watch.new (plan_sights (grown_plan seed)) }
     ensures usage { result ≢ Status.Usage }
     ensures empty { result ≢ Status.Done → last.new ≡ None }
     ensures read_fault { result ≢ Status.ReadFault }

@@ -1,9 +1,10 @@
 //! Replaying a script.
-ghost use Rattle.std.specs.Prelude.{◌≡◌, ◌≢◌, None};
+ghost use Rattle.std.specs.Prelude.{◌≡◌, ◌≢◌, None, IfSome};
 ghost use Rattle.script_grammar.specs.Draft.{nothing};
 ghost use Rattle.byte_streams.specs.Faults.{Rose};
 ghost use Rattle.command_run.specs.Commands.{Replayed};
 ghost use Rattle.command_run.specs.Ran.{device, ran};
+ghost use Rattle.command_run.specs.Shown.{ShowsScript};
 ghost use Rattle.command_run.specs.Statuses.{status_of};
 
 use crate::status::Status;
@@ -28,9 +29,9 @@ pub fn status_of(ending: Ending) -> Status
 }
 
 /// Replays a script of the source: each line is checked and run, and its text written to the sink, before the next is read. Where
-/// it is done and the script has an event, `last` holds the network in which the run ended; else it stays empty. `watch` gets how
-/// far the rounds of an event are. `advice` becomes the text that says what is wrong with the bad line, or by which line the run is
-/// crowded; else, or where memory runs out as it is written, it is empty.
+/// it is done and the script has an event, `last` holds the network in which the run ended; else it stays empty. `watch` sees all that
+/// happens. `advice` becomes the text that says what is wrong with the bad line, or by which line the run is crowded; else, or where
+/// memory runs out as it is written, it is empty.
 ///
 /// At one line these come in this order: `ReadFault` or `TooLong` while it is read, then `BadLine`, then `Crowded`, then
 /// `WriteFault`. `NoMemory`: memory ran out.
@@ -47,6 +48,8 @@ pub fn replay<C: Checks + Drop, R: Opens, S: Source, K: Sink, W: Watch>(
     requires empty { last.old ≡ None }
     ensures replayed { Replayed R.seen last.new
         (ran result (device S.left S.faults source.old source.new) (device K.holds K.faults sink.old sink.new) advice.new.items) }
+    // Over known input, where it is done: all that there is to be seen of its lines was shown, in order, and nothing else.
+    ensures told { result ≡ Status.Done → IfSome (S.left source.old) (ShowsScript W.saw watch.old watch.new) }
     ensures usage { result ≢ Status.Usage }
     ensures empty { result ≢ Status.Done → last.new ≡ None }
     ensures read_fault { result ≡ Status.ReadFault → Rose (S.faults source.old) (S.faults source.new) }

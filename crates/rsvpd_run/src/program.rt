@@ -3,6 +3,7 @@ ghost use Rattle.std.specs.Prelude.{◌≡◌, ◌≢◌, None, map, string_byte
 ghost use Rattle.byte_streams.specs.Faults.{Rose};
 ghost use Rattle.command_run.specs.Commands.{Does};
 ghost use Rattle.command_run.specs.Ran.{device, ran};
+ghost use Rattle.command_run.specs.Shown.{ShowsTask};
 ghost use Rattle.command_run.specs.Tasks.{task_of};
 ghost use Rattle.live_router.specs.SeenNode.{seen_node};
 
@@ -28,6 +29,8 @@ pub fn run<S: Source, K: Sink, W: Watch>(
     // What the words order, a row a task.
     ensures does { Does seen_node (task_of (map string_bytes words.now.items))
         (ran result (device S.left S.faults source.old source.new) (device K.holds K.faults sink.old sink.new) advice.new.items) last.new }
+    // Where it is done, all that there is to be seen of what was run was shown, in order, and nothing else.
+    ensures told { result ≡ Status.Done → ShowsTask W.saw watch.old watch.new (task_of (map string_bytes words.now.items)) (S.left source.old) }
     // Whatever they order.
     ensures usage { result ≡ Status.Usage → task_of (map string_bytes words.now.items) ≡ None }
     ensures read_fault { result ≡ Status.ReadFault → Rose (S.faults source.old) (S.faults source.new) }

@@ -3,6 +3,7 @@ use Rattle.script_run.specs.Standing.{IsNetworkOf}
 use Rattle.command_run.specs.Commands.{Grown}
 use Rattle.command_run.specs.Ran.{device}
 use Rattle.command_run.proofs.Grown.{grown_so, never_reads}
+use Rattle.command_run.proofs.Shown.{is_done}
 use Rattle.command_run.proofs.growing.grow.Goals as goal
 
 pub returns-clause-grown : goal.returns-clause-grown
@@ -17,3 +18,6 @@ pub returns-clause-read_fault : goal.returns-clause-read_fault
 returns-clause-read_fault g c = λ is.
     never_reads (λ p. IsNetworkOf g.R.Router.seen c.run_grown-ending.new.last p) c.run_grown-ending.result c.args.seed (g.K.Sink.holds c.args.sink.now)
     (g.K.Sink.holds c.run_grown-ending.new.sink) c.run_grown-ending.ensures.run (sym c.status_of.ensures ∙ is)
+
+pub returns-clause-told : goal.returns-clause-told
+returns-clause-told g c = λ done. c.run_grown-ending.ensures.told (is_done c.run_grown-ending.result (sym c.status_of.ensures ∙ done))

@@ -1,7 +1,8 @@
-use Rattle.std.proofs.Common.{sym, subst}
+use Rattle.std.proofs.Common.{sym, subst, ◌∙◌}
 use Rattle.command_run.specs.Commands.{Replayed}
 use Rattle.command_run.specs.Ran.{device, ran}
 use Rattle.command_run.proofs.Replays.{replayed_so}
+use Rattle.command_run.proofs.Shown.{shown_replayed}
 use Rattle.command_run.proofs.replaying.replay.Goals as goal
 
 pub returns-clause-replayed : goal.returns-clause-replayed
@@ -12,3 +13,9 @@ returns-clause-replayed g c =
     let sink = device g.K.Sink.holds g.K.Sink.faults c.args.sink.now e.new.sink in
     subst (λ s. Replayed see e.new.last (ran s source sink e.new.advice.items)) (sym c.status_of.ensures)
     (replayed_so see e.new.last e.result source sink e.new.advice.items e.ensures.run e.ensures.empty e.ensures.advised e.ensures.complete)
+
+pub returns-clause-told : goal.returns-clause-told
+returns-clause-told g c = λ done.
+    let e = c.run_script-ending in
+    shown_replayed g.W.Watch.saw c.args.watch.now e.new.watch e.result (g.S.Source.left c.args.source.now) (g.S.Source.left e.new.source) (g.K.Sink.holds c.args.sink.now)
+    (g.K.Sink.holds e.new.sink) e.ensures.told (sym c.status_of.ensures ∙ done)
