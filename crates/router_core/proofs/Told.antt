@@ -1,5 +1,5 @@
 -- The tables of a node once an input was tried, and once its neighbours were told.
-use Rattle.std.specs.Prelude.{◌≡◌, [], Bool, true, false, cond, length, ◌≤◌}
+use Rattle.std.specs.Prelude.{◌≡◌, [], Bool, true, false, cond, length, ◌≤◌, Result, Ok, Err, OnErr}
 use Rattle.std.proofs.Common.{ap, sym, subst, ◌∙◌}
 use Rattle.rsvp_base.specs.Orders.{sessions}
 use Rattle.rsvp_base.specs.Table.{empty, get}
@@ -140,3 +140,8 @@ unchanged_node old new said same sound kept told place = (
     ),
   ),
 )
+
+-- ---- what holds whatever is answered
+pub on_err : {X E P : Type 0} (r : Result X E) → P → OnErr r P
+on_err (Ok x) p = tt
+on_err (Err e) p = p

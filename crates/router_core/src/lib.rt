@@ -3,8 +3,8 @@
 //!
 //! Each call is the rule of a router (`router_rules`): the facts after, what is heard, each refusal, and what is sent, in
 //! order. A node takes each message, and bytes that spell none; local senders and receivers come and go at it; facts are left
-//! over at it; time passes; its routes move; and it is cleared. The marks of local receivers that wish to hear are used as the rule uses them. Its book is
-//! that of its facts.
+//! over at it; time passes; its routes move; and it is cleared. A call that is refused leaves all as it was, and sends nothing.
+//! The marks of local receivers that wish to hear are used as the rule uses them. Its book is that of its facts.
 #![tactic(auto)]
 
 mod arriving;

@@ -1,5 +1,5 @@
 //! Local senders come and go.
-ghost use Rattle.std.specs.Prelude.{◌≡◌, ℕ, fold, None, Some, MatchResult};
+ghost use Rattle.std.specs.Prelude.{◌≡◌, ℕ, fold, None, Some, MatchResult, OnErr};
 ghost use Rattle.router_rules.specs.Inputs.{Call, DropAs, SendAs};
 ghost use Rattle.router_rules.specs.Rule.{facts_after, refusal_of_call, sent_after};
 ghost use Rattle.router_state.specs.State.{facts_at};
@@ -27,6 +27,8 @@ impl Node {
         ensures facts { (c : ℕ) → facts_at c self.new ≡ facts_after self.old.place self.old.place c (Call (SendAs session sender tspec)) (facts_at c self.old) }
         ensures sent { (c : ℕ) → out.new ≡ fold O.posted out.old (sent_after self.old.place self.old.place c (Call (SendAs session sender tspec)) (facts_at c self.old)) }
         ensures place { self.new.place ≡ self.old.place }
+        ensures kept { OnErr result (self.new ≡ self.old) }
+        ensures silent { OnErr result (out.new ≡ out.old) }
     {
         let near = self.tables.paths.hops(session);
         if !self.tables.config.is_own(sender.addr) {
@@ -61,6 +63,8 @@ impl Node {
         ensures facts { (c : ℕ) → facts_at c self.new ≡ facts_after self.old.place self.old.place c (Call (DropAs session sender)) (facts_at c self.old) }
         ensures sent { (c : ℕ) → out.new ≡ fold O.posted out.old (sent_after self.old.place self.old.place c (Call (DropAs session sender)) (facts_at c self.old)) }
         ensures place { self.new.place ≡ self.old.place }
+        ensures kept { OnErr result (self.new ≡ self.old) }
+        ensures silent { OnErr result (out.new ≡ out.old) }
     {
         let near = self.tables.paths.hops(session);
         let before = offered(&self.tables, session, sender);

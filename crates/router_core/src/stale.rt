@@ -1,5 +1,5 @@
 //! Paths, reservations and blockades that are left over.
-ghost use Rattle.std.specs.Prelude.{◌≡◌, ◌≤◌, ◌<◌, ℕ, None, Some, MatchResult, length};
+ghost use Rattle.std.specs.Prelude.{◌≡◌, ◌≤◌, ◌<◌, ℕ, None, Some, MatchResult, OnErr, length};
 ghost use Rattle.style_rules.specs.Parts.{IsOfStyle};
 ghost use Rattle.router_rules.specs.Rule.{facts_with, refusal_of_stale};
 ghost use Rattle.router_state.specs.State.{facts_at};
@@ -25,6 +25,7 @@ impl Node {
             (λ e. refusal_of_stale self.old.place (stale_path c fact left) (facts_at c self.old) ≡ Some e) }
         ensures facts { (c : ℕ) → facts_at c self.new ≡ facts_with self.old.place c (stale_path c fact left) (facts_at c self.old) }
         ensures place { self.new.place ≡ self.old.place }
+        ensures kept { OnErr result (self.new ≡ self.old) }
     {
         let (session, sender) = (fact.session, fact.sender);
         let near = self.tables.paths.hops(session);
@@ -53,6 +54,7 @@ impl Node {
             (λ e. refusal_of_stale self.old.place (resv_left style c fact left) (facts_at c self.old) ≡ Some e) }
         ensures facts { (c : ℕ) → facts_at c self.new ≡ facts_with self.old.place c (resv_left style c fact left) (facts_at c self.old) }
         ensures place { self.new.place ≡ self.old.place }
+        ensures kept { OnErr result (self.new ≡ self.old) }
     {
         // No sender changes, so any will do.
         let session = fact.session;
@@ -83,6 +85,7 @@ impl Node {
             (λ e. refusal_of_stale self.old.place (wall_left (session, target) c wall left) (facts_at c self.old) ≡ Some e) }
         ensures facts { (c : ℕ) → facts_at c self.new ≡ facts_with self.old.place c (wall_left (session, target) c wall left) (facts_at c self.old) }
         ensures place { self.new.place ≡ self.old.place }
+        ensures kept { OnErr result (self.new ≡ self.old) }
     {
         // No sender changes, so any will do.
         let near = self.tables.paths.hops(session);

@@ -1,5 +1,5 @@
 //! Local receivers ask, and ask no more.
-ghost use Rattle.std.specs.Prelude.{◌≡◌, ℕ, fold, None, Some, MatchResult};
+ghost use Rattle.std.specs.Prelude.{◌≡◌, ℕ, fold, None, Some, MatchResult, OnErr};
 ghost use Rattle.router_rules.specs.Inputs.{Call, QuitAll, WantAs};
 ghost use Rattle.router_rules.specs.Rule.{facts_after, refusal_of_call, sent_after};
 ghost use Rattle.router_state.specs.State.{facts_at};
@@ -31,6 +31,8 @@ impl Node {
         ensures facts { (c : ℕ) → facts_at c self.new ≡ facts_after self.old.place self.old.place c (Call (WantAs session style senders.now flow confirm)) (facts_at c self.old) }
         ensures sent { (c : ℕ) → out.new ≡ fold O.posted out.old (sent_after self.old.place self.old.place c (Call (WantAs session style senders.now flow confirm)) (facts_at c self.old)) }
         ensures place { self.new.place ≡ self.old.place }
+        ensures kept { OnErr result (self.new ≡ self.old) }
+        ensures silent { OnErr result (out.new ≡ out.old) }
     {
         // No sender changes, so any will do.
         let sender = Sender::default();
@@ -58,6 +60,8 @@ impl Node {
         ensures facts { (c : ℕ) → facts_at c self.new ≡ facts_after self.old.place self.old.place c (Call (QuitAll session)) (facts_at c self.old) }
         ensures sent { (c : ℕ) → out.new ≡ fold O.posted out.old (sent_after self.old.place self.old.place c (Call (QuitAll session)) (facts_at c self.old)) }
         ensures place { self.new.place ≡ self.old.place }
+        ensures kept { OnErr result (self.new ≡ self.old) }
+        ensures silent { OnErr result (out.new ≡ out.old) }
     {
         // No sender changes, so any will do.
         let sender = Sender::default();

@@ -130,3 +130,7 @@ invariant_of-self-inside g c =
         ),
       ),
     )
+
+pub returns-then-not-drop_sender-clause-kept : goal.returns-then-not-drop_sender-clause-kept
+returns-then-not-drop_sender-clause-kept g c =
+    not_tried c.drop_sender.new.tables c.self.inside.said _ _ _ c.drop_sender.ensures.state c.if-not-drop_sender.true ∙ c.self.view_is

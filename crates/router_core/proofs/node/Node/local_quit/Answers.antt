@@ -12,7 +12,7 @@ use Rattle.router_arrivals.proofs.Before.{is_before}
 use Rattle.router_arrivals.proofs.Calling.{refusal_is, refused_call}
 use Rattle.router_arrivals.proofs.Here.{here_plain}
 use Rattle.router_arrivals.proofs.Ruled.{plain_facts, plain_sent, refused_facts, refused_sent}
-use Rattle.router_core.proofs.Told.{unchanged_node, wants_changed, wants_of_place, wants_place, wants_settled, wants_sound}
+use Rattle.router_core.proofs.Told.{on_err, unchanged_node, wants_changed, wants_of_place, wants_place, wants_settled, wants_sound}
 use Rattle.router_core.proofs.node.Node.local_quit.Goals as goal
 
 pub returns-in_err-drop_wants-clause-refused : goal.returns-in_err-drop_wants-clause-refused
@@ -123,3 +123,11 @@ invariant_of-self-inside-2 g c =
         (c.tell_sender.ensures.said, (wants_of_place mid c.tell_sender.new.tables rest (wants_of_place c.self.inside.tables mid c.drop_wants.ensures.rest c.self.inside.place), tt)),
       ),
     )
+
+pub returns-in_err-drop_wants-clause-kept : goal.returns-in_err-drop_wants-clause-kept
+returns-in_err-drop_wants-clause-kept g c =
+    on_err c.from_residual.result (ap (λ (t : Tables). state_of t c.self.inside.said) c.in_err-drop_wants.ensures.err ∙ c.self.view_is)
+
+pub returns-in_err-drop_wants-clause-silent : goal.returns-in_err-drop_wants-clause-silent
+returns-in_err-drop_wants-clause-silent g c =
+    on_err c.from_residual.result refl

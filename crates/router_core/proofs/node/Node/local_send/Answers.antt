@@ -157,3 +157,7 @@ invariant_of-self-inside g c =
         (subst (IsSaid c.self.inside.said) (sym same) c.self.inside.told, (still_of_place t c.keep_sender.new.tables rest c.self.inside.place, tt)),
       ),
     )
+
+pub returns-then-not-keep_sender-clause-kept : goal.returns-then-not-keep_sender-clause-kept
+returns-then-not-keep_sender-clause-kept g c =
+    not_tried c.keep_sender.new.tables c.self.inside.said _ _ _ c.keep_sender.ensures.state c.if-not-keep_sender.true ∙ c.self.view_is

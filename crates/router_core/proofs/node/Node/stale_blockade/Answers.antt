@@ -10,7 +10,7 @@ use Rattle.router_arrivals.specs.LeftOver.{wall_left}
 use Rattle.router_arrivals.proofs.Before.{settled_with}
 use Rattle.router_arrivals.proofs.Here.{here_kept, here_left, left_refusal, not_left}
 use Rattle.router_core.proofs.Left.{left_before, said_apart}
-use Rattle.router_core.proofs.Told.{unchanged_node, walls_changed, walls_sound}
+use Rattle.router_core.proofs.Told.{on_err, unchanged_node, walls_changed, walls_sound}
 use Rattle.router_core.proofs.node.Node.stale_blockade.Goals as goal
 
 pub returns-in_err-leave_wall-clause-refused : goal.returns-in_err-leave_wall-clause-refused
@@ -83,3 +83,7 @@ invariant_of-self-inside-2 c =
         (c.keep_said.ensures, (subst IsOfPlace (sym c.leave_wall.ensures.rest) c.self.inside.place, tt)),
       ),
     )
+
+pub returns-in_err-leave_wall-clause-kept : goal.returns-in_err-leave_wall-clause-kept
+returns-in_err-leave_wall-clause-kept c =
+    on_err c.from_residual.result (ap (λ (t : Tables). state_of t c.self.inside.said) c.in_err-leave_wall.ensures.err ∙ c.self.view_is)

@@ -87,3 +87,7 @@ invariant_of-self-inside-2 c =
         (c.keep_said.ensures, (still_of_place t c.keep_path.new.tables rest c.self.inside.place, tt)),
       ),
     )
+
+pub returns-then-not-keep_path-clause-kept : goal.returns-then-not-keep_path-clause-kept
+returns-then-not-keep_path-clause-kept c =
+    not_tried c.keep_path.new.tables c.self.inside.said _ _ _ c.keep_path.ensures.state c.if-not-keep_path.true ∙ c.self.view_is

@@ -12,7 +12,7 @@ use Rattle.router_arrivals.specs.LeftOver.{resv_left}
 use Rattle.router_arrivals.proofs.Before.{settled_with}
 use Rattle.router_arrivals.proofs.Here.{here_kept, here_left, left_named, left_refusal, not_left}
 use Rattle.router_core.proofs.Left.{left_before, said_apart}
-use Rattle.router_core.proofs.Told.{resvs_left_changed, unchanged_node}
+use Rattle.router_core.proofs.Told.{on_err, resvs_left_changed, unchanged_node}
 use Rattle.router_core.proofs.node.Node.stale_resv.Goals as goal
 
 pub leave_resv-requires : goal.leave_resv-requires
@@ -99,3 +99,7 @@ invariant_of-self-inside-2 c =
         (c.keep_said.ensures, (c.leave_resv.ensures.ifaces ∙ c.self.inside.place ∙ ap (λ (t : Tables). t.config.ifaces) (sym c.leave_resv.ensures.rest), tt)),
       ),
     )
+
+pub returns-in_err-leave_resv-clause-kept : goal.returns-in_err-leave_resv-clause-kept
+returns-in_err-leave_resv-clause-kept c =
+    on_err c.from_residual.result (ap (λ (t : Tables). state_of t c.self.inside.said) c.in_err-leave_resv.ensures.err ∙ c.self.view_is)
