@@ -11,3 +11,4 @@ mod Booking
 mod Quiet
 mod Again
 mod WithParts
+mod InOrder

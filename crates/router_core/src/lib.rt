@@ -4,7 +4,8 @@
 //! Each call is the rule of a router (`router_rules`): the facts after, what is heard, each refusal, and what is sent, in
 //! order. A node takes each message, and bytes that spell none; local senders and receivers come and go at it; facts are left
 //! over at it; time passes; its routes move; and it is cleared. A call that is refused leaves all as it was, and sends nothing.
-//! The marks of local receivers that wish to hear are used as the rule uses them. Its book is that of its facts.
+//! The marks of local receivers that wish to hear are used as the rule uses them. Its book is that of its facts. Routes in any
+//! order are put in the one that a node wants.
 #![tactic(auto)]
 
 mod arriving;
@@ -16,6 +17,7 @@ mod node;
 mod opening;
 mod paths;
 mod resvs;
+mod routes;
 mod routing;
 mod senders;
 mod stale;
@@ -24,3 +26,4 @@ mod waiting;
 mod wants;
 
 pub use node::Node;
+pub use routes::{are_routes, sort_routes};
