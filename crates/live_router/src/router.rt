@@ -1,4 +1,11 @@
 //! What a network asks of a router.
+ghost use Rattle.std.specs.Prelude.{◌≡◌, ℕ, fold, None, Some, MatchResult, OnErr};
+ghost use Rattle.router_rules.specs.Inputs.{Call};
+ghost use Rattle.router_rules.specs.Rule.{facts_after, refusal_of_call, sent_after};
+ghost use Rattle.router_rules.specs.Steps.{IsFitCall};
+ghost use Rattle.router_state.specs.State.{facts_at};
+ghost use Rattle.network_model.specs.Happenings.{call_of};
+ghost use Rattle.network_replay.specs.Following.{AreProper};
 
 use crate::live_router::LiveRouter;
 use network_model::LocalCall;
@@ -31,7 +38,19 @@ impl Router for LiveRouter {
         self.node.wait(ms, word, out);
     }
 
-    fn call<O: Outbox>(&mut self, call: &LocalCall, out: &mut O) -> Result<(), LocalErr> {
+    /// An application asks something of it. A refused call leaves all as it was, at every clock, and nothing is sent.
+    fn call<O: Outbox>(&mut self, call: &LocalCall, out: &mut O) -> Result<(), LocalErr>
+        requires { IsFitCall (call_of call.now) }
+        ensures place { self.new.place ≡ self.old.place }
+        ensures refused { (c : ℕ)
+            → MatchResult result (λ _. refusal_of_call self.old.place (call_of call.now) (facts_at c self.old) ≡ None)
+            (λ e. refusal_of_call self.old.place (call_of call.now) (facts_at c self.old) ≡ Some e) }
+        ensures facts { (c : ℕ) → facts_at c self.new ≡ facts_after self.old.place self.old.place c (Call (call_of call.now)) (facts_at c self.old) }
+        ensures sent { (c : ℕ) → out.new ≡ fold O.posted out.old (sent_after self.old.place self.old.place c (Call (call_of call.now)) (facts_at c self.old)) }
+        ensures fit { (c : ℕ) → AreProper (sent_after self.old.place self.old.place c (Call (call_of call.now)) (facts_at c self.old)) }
+        ensures kept { OnErr result (self.new ≡ self.old) }
+        ensures silent { OnErr result (out.new ≡ out.old) }
+    {
         match call {
             LocalCall::Send {
                 session,

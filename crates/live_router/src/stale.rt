@@ -1,5 +1,5 @@
 //! Paths, reservations and blockades that are left over.
-ghost use Rattle.std.specs.Prelude.{◌≡◌, ℕ, None, Some, MatchResult};
+ghost use Rattle.std.specs.Prelude.{◌≡◌, ℕ, None, Some, MatchResult, OnErr};
 ghost use Rattle.router_rules.specs.Rule.{facts_with, refusal_of_stale};
 ghost use Rattle.router_rules.specs.Steps.{IsFitStale};
 ghost use Rattle.router_state.specs.State.{facts_at};
@@ -24,6 +24,7 @@ impl LiveRouter {
             (λ e. refusal_of_stale self.old.place (stale_path c fact left) (facts_at c self.old) ≡ Some e) }
         ensures facts { (c : ℕ) → facts_at c self.new ≡ facts_with self.old.place c (stale_path c fact left) (facts_at c self.old) }
         ensures place { self.new.place ≡ self.old.place }
+        ensures kept { OnErr result (self.new ≡ self.old) }
     {
         self.node.stale_path(fact, left)
     }
@@ -44,6 +45,7 @@ impl LiveRouter {
             (λ e. refusal_of_stale self.old.place (resv_left style c fact left) (facts_at c self.old) ≡ Some e) }
         ensures facts { (c : ℕ) → facts_at c self.new ≡ facts_with self.old.place c (resv_left style c fact left) (facts_at c self.old) }
         ensures place { self.new.place ≡ self.old.place }
+        ensures kept { OnErr result (self.new ≡ self.old) }
     {
         self.node.stale_resv(style, fact, left)
     }
@@ -64,6 +66,7 @@ impl LiveRouter {
             (λ e. refusal_of_stale self.old.place (wall_left (session, target) c wall left) (facts_at c self.old) ≡ Some e) }
         ensures facts { (c : ℕ) → facts_at c self.new ≡ facts_with self.old.place c (wall_left (session, target) c wall left) (facts_at c self.old) }
         ensures place { self.new.place ≡ self.old.place }
+        ensures kept { OnErr result (self.new ≡ self.old) }
     {
         self.node.stale_blockade(session, target, wall, left)
     }

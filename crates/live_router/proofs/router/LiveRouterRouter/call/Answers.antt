@@ -1,4 +1,5 @@
-use Rattle.std.proofs.Common.{subst}
+use Rattle.std.proofs.Common.{subst, ◌∙◌}
+use Rattle.std.proofs.lemmas.Result.{on_err_weaker}
 use Rattle.router_rules.specs.Inputs.{Call, DropAs, QuitAll, SendAs, WantAs}
 use Rattle.router_rules.specs.Steps.{IsFitCall}
 use Rattle.live_router.specs.Bounded.{IsBounded}
@@ -45,3 +46,15 @@ invariant_of-self-in-Quit g c =
 
 pub returns-in-Quit-clause-fit : goal.returns-in-Quit-clause-fit
 returns-in-Quit-clause-fit g c = λ clock. sends_proper c.args.self.now clock (Call (call_of c.args.call.now)) (subst IsBounded c.self.view_is c.self.invariant.bounded) c.requires
+
+pub returns-in-Send-clause-kept : goal.returns-in-Send-clause-kept
+returns-in-Send-clause-kept g c = on_err_weaker c.local_send.result (λ same. same ∙ c.self.view_is) c.local_send.ensures.kept
+
+pub returns-in-Gone-clause-kept : goal.returns-in-Gone-clause-kept
+returns-in-Gone-clause-kept g c = on_err_weaker c.local_drop.result (λ same. same ∙ c.self.view_is) c.local_drop.ensures.kept
+
+pub returns-in-Want-clause-kept : goal.returns-in-Want-clause-kept
+returns-in-Want-clause-kept g c = on_err_weaker c.local_want.result (λ same. same ∙ c.self.view_is) c.local_want.ensures.kept
+
+pub returns-in-Quit-clause-kept : goal.returns-in-Quit-clause-kept
+returns-in-Quit-clause-kept g c = on_err_weaker c.local_quit.result (λ same. same ∙ c.self.view_is) c.local_quit.ensures.kept
