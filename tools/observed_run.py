@@ -23,6 +23,7 @@ MEMBERS = {
 }
 ENTRY = {"session": (str,), "style": (str,), "senders": (str,), "flow": (str,), "flags": (str,)}
 TIME = {"t": (int,)}
+MOST_TIME = 2**53  # milliseconds; the longest run of a script takes fewer
 DECODER = json.JSONDecoder()
 ADDRESSES = set()  # those found to be right
 DECLARED = {"period", "seed", "node", "end", "link", "hop"}
@@ -166,6 +167,8 @@ def checked(line):
     if members is None:
         raise Unusable(f"no event is called {json.dumps(event['event'])}")
     check(event, TIME, event["event"])
+    if not 0 <= event["t"] < MOST_TIME:
+        raise Unusable(f'{event["event"]}: "t" is a time from 0 to 2^53 - 1')
     check(event, members, event["event"])
     if "to" in members and event["to"] not in ADDRESSES:
         if not re.fullmatch(r"\d{1,3}(\.\d{1,3}){3}", event["to"], re.A) or max(map(int, event["to"].split("."))) > 255:
