@@ -1,5 +1,5 @@
-//! Stands in for the crate `command_line` in a program to begin with (tools/build_unproved --first): the launcher has looked at the
-//! words, and hands it a verb alone, or `grow --seed N`. So that program lacks `clap`.
+//! Stands in for the crate in a program to begin with (tools/build_unproved --first): the launcher has looked at the words, and hands
+//! it a verb alone, or `grow --seed N`. So that program lacks `clap`.
 #![tactic(auto)]
 
 mod order;
