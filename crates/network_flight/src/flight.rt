@@ -45,7 +45,8 @@ impl Model for Flight {
 
     ghost view = { λ f. map (λ p. record { end = p.end; dst = p.dst; bytes = get_or f.rooms.items p.room [] }) f.queue.items };
 
-    ghost invariant = { λ f. AreApart (map (λ p. p.room) f.queue.items) f.free.items (vec_len f.rooms) × (vec_len f.rooms ≤ 8192) × (8192 ≤ vec_capacity f.rooms) × (8192 ≤ vec_capacity f.free) × (8192 ≤ deque_capacity f.queue) };
+    ghost invariant = { λ f. AreApart (map (λ p. p.room) f.queue.items) f.free.items (vec_len f.rooms)
+        × (vec_len f.rooms ≤ 8192) × (8192 ≤ vec_capacity f.rooms) × (8192 ≤ vec_capacity f.free) × (8192 ≤ deque_capacity f.queue) };
 }
 
 impl Flight {

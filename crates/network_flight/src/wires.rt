@@ -35,7 +35,9 @@ impl Model for Wires {
 
     ghost view = { λ w. w.routing };
 
-    ghost invariant = { λ w. (map (λ v. v.items) w.by_node.items ≡ map (ends_of w.routing.ends) (range_with_len 0 w.routing.nodes)) × (w.ifaces.items ≡ map (iface_of w.routing.ends) (range_with_len 0 (length w.routing.ends))) × (map (λ v. v.items) w.across.items ≡ map (peers w.routing.links) (range_with_len 0 (length w.routing.ends))) };
+    ghost invariant = { λ w. (map (λ v. v.items) w.by_node.items ≡ map (ends_of w.routing.ends) (range_with_len 0 w.routing.nodes))
+        × (w.ifaces.items ≡ map (iface_of w.routing.ends) (range_with_len 0 (length w.routing.ends)))
+        × (map (λ v. v.items) w.across.items ≡ map (peers w.routing.links) (range_with_len 0 (length w.routing.ends))) };
 }
 
 impl Wires {

@@ -66,7 +66,17 @@ impl<R: Router + Drop> Model for World<R> {
 
     ghost Value = { NetworkState R };
 
-    ghost view = { λ w. record { quarter = w.quarter; post = w.mail; names = w.names.items; nodes = w.nodes.items; trees = trees_in w.routes.items; words = w.words; delivered = w.delivered; trace = w.trace; refused = w.refused } };
+    ghost view = { λ w. record {
+      quarter = w.quarter;
+      post = w.mail;
+      names = w.names.items;
+      nodes = w.nodes.items;
+      trees = trees_in w.routes.items;
+      words = w.words;
+      delivered = w.delivered;
+      trace = w.trace;
+      refused = w.refused;
+    } };
 
     ghost invariant = { λ w. IsSteady w.quarter w.mail.net (trees_in w.routes.items) (map R.seen.place w.nodes.items) };
 }

@@ -121,7 +121,8 @@ pub fn take_units<S: Style>(
     requires kept { IsBookAmong S.kind_is table.old.facts book.old.entries }
     ensures taken { (p : NodeConfig) (c : ℕ) (f : Facts) → p.ifaces ≡ book.old.ifaces → resvs_of S.kind_is f ≡ changed (resv_at c) table.old.facts
         → IsBookOf f book.old.entries
-        → IsSoFar p c S.kind_is asker.now f table.new.facts book.new.entries done.new (take_units p (asker_at c S.kind_is asker.now) f all.now (nothing_taken (resvs_of S.kind_is f) []) (asked_units ask.now)) }
+        → IsSoFar p c S.kind_is asker.now f table.new.facts book.new.entries done.new
+        (take_units p (asker_at c S.kind_is asker.now) f all.now (nothing_taken (resvs_of S.kind_is f) []) (asked_units ask.now)) }
     ensures dead { table.new.dead ≡ table.old.dead }
     ensures ifaces { book.new.ifaces ≡ book.old.ifaces }
     ensures quiet { done.new.news ≡ false → parts_in table.new.facts ≡ parts_in table.old.facts }

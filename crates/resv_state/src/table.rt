@@ -268,8 +268,10 @@ impl<S: Style> ResvTable<S> {
     pub fn entry_with(&self, fact: &ResvFact) -> Flow
         requires { IsOfStyle S.kind_is fact.now.part }
         ensures { (left : ℕ)
-            → option_map
-            (λ p. p.flow) (get (merge S.kind_is (parts_on fact.now.iface (under sessions rests (put_in self.now.facts (resv_key S.kind_is fact.now) (fact.now, left)) fact.now.session).rows)) (part_unit S.kind_is fact.now.part))
+            → option_map (λ p. p.flow)
+            (get
+            (merge S.kind_is (parts_on fact.now.iface (under sessions rests (put_in self.now.facts (resv_key S.kind_is fact.now) (fact.now, left)) fact.now.session).rows))
+            (part_unit S.kind_is fact.now.part))
             ≡ Some result }
     {
         let key = ((fact.iface, fact.next), unit_of::<S>(&fact.part));

@@ -25,9 +25,13 @@ pub fn learn_path(
     requires pulled { tables.old.paths.dead.rows ≡ [] }
     requires settled { IsSettled (state_of tables.old empty) }
     ensures room { result
-        ≡ has_room_at senders (put_in tables.old.paths.facts (message.now.session, sender) (fact_of iface message.now sender tspec, lifetime tables.old.config message.now.period)) message.now.session }
+        ≡ has_room_at senders
+        (put_in tables.old.paths.facts (message.now.session, sender) (fact_of iface message.now sender tspec, lifetime tables.old.config message.now.period))
+        message.now.session }
     ensures state { state_of tables.new empty
-        ≡ cond result (with_path (state_of tables.old empty) (message.now.session, sender) (fact_of iface message.now sender tspec) (lifetime tables.old.config message.now.period)) (state_of tables.old empty) }
+        ≡ cond result
+        (with_path (state_of tables.old empty) (message.now.session, sender) (fact_of iface message.now sender tspec) (lifetime tables.old.config message.now.period))
+        (state_of tables.old empty) }
     ensures rest { tables.new ≡ record tables.old { senders = tables.new.senders; paths = tables.new.paths; due = tables.new.due } }
     ensures pulled { tables.new.paths.dead.rows ≡ [] }
 {
@@ -41,7 +45,9 @@ pub fn renew_path(tables: &mut Tables, iface: u8, message: &PathMsg, sender: Sen
     requires pulled { tables.old.paths.dead.rows ≡ [] }
     requires settled { IsSettled (state_of tables.old empty) }
     requires stands { has tables.old.paths.facts (message.now.session, sender) ≡ true }
-    ensures room { has_room_at senders (put_in tables.old.paths.facts (message.now.session, sender) (fact_of iface message.now sender tspec, lifetime tables.old.config message.now.period)) message.now.session ≡ true }
+    ensures room { has_room_at senders
+        (put_in tables.old.paths.facts (message.now.session, sender) (fact_of iface message.now sender tspec, lifetime tables.old.config message.now.period))
+        message.now.session ≡ true }
     ensures state { state_of tables.new empty
         ≡ with_path (state_of tables.old empty) (message.now.session, sender) (fact_of iface message.now sender tspec) (lifetime tables.old.config message.now.period) }
     ensures rest { tables.new ≡ record tables.old { paths = tables.new.paths } }

@@ -37,7 +37,9 @@ fn tear_by_style(tables: &mut Tables, iface: u8, message: &ResvTearMsg) -> bool
         → result ≡ names_one message.now.session (iface, message.now.hop.addr) (tear_names message.now.tear) (resvs_of (tear_style message.now.tear) (facts_of c (state_of tables.old said))) }
     ensures facts { (c : ℕ) (said : Said)
         → facts_of c (state_of tables.new said)
-        ≡ with_resvs (tear_style message.now.tear) (torn_resvs result message.now.session (iface, message.now.hop.addr) (tear_names message.now.tear) (resvs_of (tear_style message.now.tear) (facts_of c (state_of tables.old said)))) (facts_of c (state_of tables.old said)) }
+        ≡ with_resvs (tear_style message.now.tear)
+        (torn_resvs result message.now.session (iface, message.now.hop.addr) (tear_names message.now.tear) (resvs_of (tear_style message.now.tear) (facts_of c (state_of tables.old said))))
+        (facts_of c (state_of tables.old said)) }
     ensures booked { IsBooked tables.new }
     ensures pulled { ArePulled tables.old → ArePulled tables.new }
     ensures ifaces { tables.new.book.ifaces ≡ tables.old.book.ifaces }

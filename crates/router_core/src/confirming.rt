@@ -32,7 +32,8 @@ pub(crate) fn confirm<O: Outbox>(
 )
     ensures { (n : State) (c : ℕ) (x : Sending) (offer : Option Offer) (near : Set next_hops)
         → IsBefore (message.now.session, x) n (state_of tables.now said.now) offer near
-        → out.new ≡ fold O.posted out.old (conf_sends (confirmed n.place n.place (facts_of c n) (facts_of c (state_of tables.now said.now)) (asked_of (asker_of n.place c iface message.now) taken.now message.now.confirm))) }
+        → out.new ≡ fold O.posted out.old
+        (conf_sends (confirmed n.place n.place (facts_of c n) (facts_of c (state_of tables.now said.now)) (asked_of (asker_of n.place c iface message.now) taken.now message.now.confirm))) }
 {
     let Some(wish) = message.confirm else {
         return;

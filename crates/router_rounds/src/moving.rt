@@ -72,7 +72,8 @@ fn tell_sender<O: Outbox>(
 )
     requires { AreRoutes old.now }
     ensures { (c : ℕ)
-        → out.new ≡ fold O.posted out.old (new_of (record tables.now.config { routes = old.now }) tables.now.config (session, sender) (offer_of (facts_of c (state_of tables.now empty)) (session, sender))) }
+        → out.new ≡ fold O.posted out.old
+        (new_of (record tables.now.config { routes = old.now }) tables.now.config (session, sender) (offer_of (facts_of c (state_of tables.now empty)) (session, sender))) }
 {
     let Some(offer) = offered(tables, session, sender) else {
         return;

@@ -37,7 +37,8 @@ impl<O: RestOrder> Model for SessionLists<O> {
 
     ghost view = { λ t. record { rows = rows_of t.keys.items t.slots.slots; room = t.slots.room } };
 
-    ghost invariant = { λ t. AreLists O.rests t.keys.items t.slots.slots t.heads.items × (t.slots.room ≤ vec_capacity t.keys) × (t.slots.room ≤ vec_capacity t.heads) × AreHeld t.keys.items t.slots.slots };
+    ghost invariant = { λ t. AreLists O.rests t.keys.items t.slots.slots t.heads.items
+        × (t.slots.room ≤ vec_capacity t.keys) × (t.slots.room ≤ vec_capacity t.heads) × AreHeld t.keys.items t.slots.slots };
 }
 
 // How a key stands to another.

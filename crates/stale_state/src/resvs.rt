@@ -83,7 +83,11 @@ impl ResvsLeft {
         requires exists { fact.iface < length self.old.book.ifaces }
         ensures cause { result ≡ placed_in (place_with self.old.book.ifaces) style 0 fact left (only_resvs (tables_of self.old.wild.facts self.old.fixed.facts self.old.shared.facts)) }
         ensures tables { tables_of self.new.wild.facts self.new.fixed.facts self.new.shared.facts
-            ≡ chosen result (with_table style (put_in (table_of style (tables_of self.old.wild.facts self.old.fixed.facts self.old.shared.facts)) (resv_key style fact) (stands 0 fact left)) (tables_of self.old.wild.facts self.old.fixed.facts self.old.shared.facts)) (tables_of self.old.wild.facts self.old.fixed.facts self.old.shared.facts) }
+            ≡ chosen result
+            (with_table style
+            (put_in (table_of style (tables_of self.old.wild.facts self.old.fixed.facts self.old.shared.facts)) (resv_key style fact) (stands 0 fact left))
+            (tables_of self.old.wild.facts self.old.fixed.facts self.old.shared.facts))
+            (tables_of self.old.wild.facts self.old.fixed.facts self.old.shared.facts) }
         ensures ifaces { self.new.book.ifaces ≡ self.old.book.ifaces }
     {
         match style {

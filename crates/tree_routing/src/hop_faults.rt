@@ -87,7 +87,8 @@ fn hop_fault(
     hops: &[LinkHop],
     hop: LinkHop,
 ) -> Option<HopFault>
-    ensures { (nodes : ℕ) (ks : List AKnown) → MatchOption result (Grows (net_of nodes ends.now links.now ks) source hops.now hop) (IsHopFault (net_of nodes ends.now links.now ks) source hops.now hop) }
+    ensures { (nodes : ℕ) (ks : List AKnown)
+        → MatchOption result (Grows (net_of nodes ends.now links.now ks) source hops.now hop) (IsHopFault (net_of nodes ends.now links.now ks) source hops.now hop) }
 {
     if !is_linked(links, hop) {
         return Some(HopFault::NoLink);

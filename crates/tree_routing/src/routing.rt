@@ -56,7 +56,10 @@ impl Model for Routing {
 
     ghost view = { λ r. net_of r.nodes r.ends.items r.links.items r.hops.items };
 
-    ghost invariant = { λ r. IsValid (net_of r.nodes r.ends.items r.links.items r.hops.items) × (r.chain ≡ longest (net_of r.nodes r.ends.items r.links.items r.hops.items)) × (r.trees.items ≡ trees_of (plain r.hops.items)) × AreInOrder (plain r.hops.items) r.sorted.items × AreByRank (net_of r.nodes r.ends.items r.links.items r.hops.items) r.order.items };
+    ghost invariant = { λ r. IsValid (net_of r.nodes r.ends.items r.links.items r.hops.items)
+        × (r.chain ≡ longest (net_of r.nodes r.ends.items r.links.items r.hops.items))
+        × (r.trees.items ≡ trees_of (plain r.hops.items)) × AreInOrder (plain r.hops.items) r.sorted.items
+        × AreByRank (net_of r.nodes r.ends.items r.links.items r.hops.items) r.order.items };
 }
 
 impl Routing {
