@@ -28,7 +28,7 @@ pub use hop::add_hop;
 pub use link::add_link;
 pub use node::add_node;
 pub use period::{add_period, add_seed};
-pub use reroute::add_reroute;
+pub use reroute::{add_reroute, hop_between, hops_between};
 pub use reserve::add_resv;
 pub use sender::{add_drop, add_send};
 pub use stale::{add_hop_wall, add_path, add_sender_wall};

@@ -6,7 +6,7 @@ ghost use Rattle.network_model.specs.Events.{Reroutes};
 ghost use Rattle.network_model.specs.Moves.{CanMove};
 ghost use Rattle.script_state.specs.Said.{draft_of};
 ghost use Rattle.script_state.specs.Events.{event_of};
-ghost use Rattle.script_state.specs.Refusals.{IsUntouched, OnlyNoMemory, Refuses};
+ghost use Rattle.script_state.specs.Refusals.{IsUntouched, Refuses};
 ghost use Rattle.script_rules.specs.Asking.{AsksMemory, IsDeclared};
 ghost use Rattle.script_grammar.specs.GivenEvents.{IsAdded};
 ghost use Rattle.script_rules.specs.TreeRefusals.{IsTreeRefused, moved_to};
@@ -19,7 +19,7 @@ ghost use Rattle.script_grammar.specs.declared.line.ScriptLine.TheVariants as ki
 use crate::hop::{closed, hop_of, tree_of};
 use crate::link::number;
 use network_model::Event;
-use rsvp_base::Addr;
+use rsvp_base::{Addr, NoMemory};
 use script_grammar::{Fault, HopEnds, RerouteLine, Stop};
 use script_state::{ScriptState, keep};
 use tree_routing::{HopErr, LinkHop, Routing};
@@ -44,7 +44,7 @@ pub fn add_reroute(state: &mut ScriptState, line: RerouteLine) -> Result<Event, 
     if state.topology.owner(source).is_none() {
         return Err(Stop::Bad(Fault::Name));
     }
-    let hops = hops_of(state, line.hops.as_slice())?;
+    let hops = hops_between(state, line.hops.as_slice())?;
     let declared = state.topology.copy()?.close()?;
     if !has_tree(&declared, group, source) {
         return Err(Stop::Bad(Fault::Name));
@@ -65,10 +65,9 @@ fn are_declared(state: &ScriptState, pairs: &[HopEnds]) -> bool
     true
 }
 
-// The hops between these ends.
-fn hops_of(state: &ScriptState, pairs: &[HopEnds]) -> Result<Vec<LinkHop>, Stop>
-    ensures value { IfOk result (λ hops. hops.items ≡ map (hop_value (draft_of state.now)) pairs.now) }
-    ensures refused { IfErr result OnlyNoMemory }
+/// The hops between these ends, each as `hop_between` has it. `NoMemory`: there was no room for them.
+pub fn hops_between(state: &ScriptState, pairs: &[HopEnds]) -> Result<Vec<LinkHop>, NoMemory>
+    ensures { IfOk result (λ hops. hops.items ≡ map (hop_value (draft_of state.now)) pairs.now) }
 {
     let mut hops = Vec::new(state.alloc);
     for ends in pairs {
@@ -77,8 +76,8 @@ fn hops_of(state: &ScriptState, pairs: &[HopEnds]) -> Result<Vec<LinkHop>, Stop>
     Ok(hops)
 }
 
-// The hop between two ends; an end that was not declared has the number 0.
-fn hop_between(state: &ScriptState, ends: &HopEnds) -> LinkHop
+/// The hop between two ends; an end that was not declared has the number 0.
+pub fn hop_between(state: &ScriptState, ends: &HopEnds) -> LinkHop
     ensures { result ≡ hop_value (draft_of state.now) ends.now }
 {
     LinkHop {

@@ -58,7 +58,7 @@ returns-in_err-routing-clause-refused c =
     let known = routes_known d line c.in-Some.group c.in-Some.source c.as_slice.result.now c.in_ok-declared.declared tree.0 tree.1 c.as_slice.ensures
     (c.in_ok-declared.ensures ∙ c.in_ok-copy.ensures) ends
     (subst (λ (o : Option ℕ). IsSome o) c.owner.ensures c.if-is_none.ensures) (sym c.has_tree.ensures ∙ c.if-not-has_tree.false) in
-    let hops : c.in_ok-hops.hops.items ≡ map (hop_value d) c.as_slice-2.result.now = c.in_ok-hops.ensures.value in
+    let hops : c.in_ok-hops.hops.items ≡ map (hop_value d) c.as_slice-2.result.now = c.in_ok-hops.ensures in
     let are : c.as_slice-3.result.now ≡ hop_values d line = c.as_slice-3.ensures.value ∙ hops ∙ ap (map (hop_value d)) c.as_slice-2.ensures in
     let p = err_from_is_err_and c.from_residual-in_err-routing.result c.from_residual-in_err-routing.ensures.1 in
     rw (p.1, p.2) (reroute_refused d line in_range known c.in-Some.group c.in-Some.source c.as_slice-3.result.now tree.0 tree.1 are c.in_err-routing.field-0.0 c.in_err-routing.ensures.refused)
@@ -74,7 +74,7 @@ returns-clause-ok c =
     let known = routes_known d line c.in-Some.group c.in-Some.source c.as_slice.result.now c.in_ok-declared.declared tree.0 tree.1 c.as_slice.ensures
     (c.in_ok-declared.ensures ∙ c.in_ok-copy.ensures) ends
     (subst (λ (o : Option ℕ). IsSome o) c.owner.ensures c.if-is_none.ensures) (sym c.has_tree.ensures ∙ c.if-not-has_tree.false) in
-    let hops : c.in_ok-hops.hops.items ≡ map (hop_value d) c.as_slice-2.result.now = c.in_ok-hops.ensures.value in
+    let hops : c.in_ok-hops.hops.items ≡ map (hop_value d) c.as_slice-2.result.now = c.in_ok-hops.ensures in
     let are : c.in_ok-hops.hops.items ≡ hop_values d line = hops ∙ ap (map (hop_value d)) c.as_slice-2.ensures in
     let can = subst (λ (hs : List LinkHop). CanMove (routing d) c.in-Some.group c.in-Some.source hs) c.as_slice-3.ensures.value c.in_ok-routing.ensures.can in
     reroute_kept d line in_range known c.in-Some.group c.in-Some.source c.in_ok-hops.hops.items tree.0 tree.1 are (Ok c.put.result) (draft_of c.put.new.state) can c.put.ensures.ok
