@@ -23,16 +23,6 @@ impl Node {
         ensures entry { (c : ℕ) → result ≡ slice_get (entries_of self.now.place (facts_at c self.now) iface) k }
         ensures few { (c : ℕ) → length (entries_of self.now.place (facts_at c self.now) iface) ≤ 3072 }
     {
-        let tables = &self.tables;
-        entry_at(
-            &tables.config,
-            &tables.paths,
-            &tables.wild,
-            &tables.fixed,
-            &tables.shared,
-            &tables.book,
-            iface,
-            k,
-        )
+        entry_at(&self.tables, iface, k)
     }
 }
