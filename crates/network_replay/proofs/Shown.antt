@@ -1,10 +1,10 @@
 -- What is shown, one after the other.
-use Rattle.std.proofs.Common.{◌≡◌, ℕ, zero, suc, ◌+◌, List, [], ◌∷◌, ◌++◌, Option, None, Some, refl, sym, ap, subst, ◌∙◌, append-nil, append_assoc, arith}
+use Rattle.std.proofs.Common.{◌≡◌, ℕ, zero, suc, ◌+◌, List, [], ◌∷◌, ◌++◌, Option, None, refl, sym, ap, subst, ◌∙◌, append-nil, append_assoc, arith}
 use Rattle.std.specs.Prelude.{Result, Ok, Err, IfOk, IsErr, slice_get}
 use Rattle.calm_rounds.specs.Machine.{run}
 use Rattle.network_flight.specs.Events.{at_place}
-use Rattle.network_flight.specs.Steps.{Step, Deliver, Lose, Copy, Piece, machine, step}
-use Rattle.network_flight.specs.Worlds.{Item, World}
+use Rattle.network_flight.specs.Steps.{Step, Deliver, Lose, Copy, machine, step}
+use Rattle.network_flight.specs.Worlds.{World}
 use Rattle.router_rules.specs.declared.answers.Heard.{Heard}
 use Rattle.network_replay.specs.Agreeing.{NetworkState, Agrees}
 use Rattle.network_replay.specs.Due.{IsDue, heard_of}
@@ -14,7 +14,6 @@ use Rattle.network_replay.specs.Following.{Seen}
 use Rattle.network_replay.specs.Running.{Ran}
 use Rattle.network_replay.specs.Sights.{Sight, Shows, ShowsRun, delivery, heard_there, sights, sights_of}
 use Rattle.network_replay.specs.declared.world_err.WorldErr.{WorldErr}
-use Rattle.network_replay.specs.declared.world_err.WorldErr.TheVariants.{Crowded, NoMemory}
 
 -- where steps were made, the network agrees with the world behind them
 pub then_agrees : {R : Type 0} (see : Seen R) (q : ℕ) (names : List (List ℕ)) (r : Result (Unit {0}) WorldErr) (before after : List ℕ) (v : NetworkState R) (ss : List Step) (w : World)
