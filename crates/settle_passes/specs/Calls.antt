@@ -10,8 +10,8 @@ use Rattle.network_model.specs.Steps.{At, step}
 use Rattle.network_model.specs.Worlds.{World}
 use Rattle.settle_passes.specs.Passes.{HasNoPathTear}
 
--- paths are those of the live senders, at each hop of their trees, and nothing in flight tears one down. So it is once a network has
--- settled
+-- paths are those of the live senders, at each hop of their trees, and nothing in flight tears one down. So it is when a network has
+-- settled and nothing is in flight
 pub record HasItsPaths (q : ℕ) (w : World) : Type 0 where
   pub bounds : AreBounds q w
   pub hosts : AreHosts w

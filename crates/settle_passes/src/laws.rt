@@ -21,9 +21,9 @@ pub fn paths_are_set_up()
     ensures { (q : ℕ) (w : World) → AreSpreading q w → ArePathsSound (after_passes q (longest w.net) w) × ArePathsComplete (after_passes q (longest w.net) w) }
 {}
 
-/// A new sender is known along its tree after H passes, without waiting: from a network that has its paths, as each settled one has,
-/// when a host begins to send as a sender that nobody was, paths are sound and complete again H passes on, and nothing tears one down.
-/// No time goes by; what goes up the trees meanwhile, and whether it is refused, makes no difference.
+/// A new sender is known along its tree after H passes, without waiting: from a network that has its paths, as a settled one has in
+/// which nothing is in flight, when a host begins to send as a sender that nobody was, paths are sound and complete again H passes on,
+/// and nothing tears one down. No time goes by; what goes up the trees meanwhile, and whether it is refused, makes no difference.
 pub fn a_new_sender_is_set_up()
     ensures { (q n : ℕ) (k : SenderKey) (t : TokenBucket) (w : World) → HasItsPaths q w → IsSound t → IsNew w k → AreHosts (after_send q n k t w)
         → HasItsPaths q (after_passes q (longest w.net) (after_send q n k t w)) }
