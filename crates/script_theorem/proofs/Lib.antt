@@ -6,6 +6,7 @@ pub mod Demands
 pub mod Purged
 pub mod Sessions
 pub mod Example
+pub mod FlagReports
 pub mod Safety
 pub mod Fronts
 pub mod Same
@@ -15,4 +16,3 @@ pub mod Senders
 pub mod Wanted
 pub mod Lines
 pub mod WorldDemands
-pub mod FlagReports

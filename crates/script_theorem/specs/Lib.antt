@@ -4,7 +4,7 @@ pub mod Demands
 pub mod Purged
 pub mod Sessions
 pub mod Example
+pub mod FlagReports
 pub mod Theorem
 pub mod Fronts
 pub mod Standing
-pub mod FlagReports

@@ -13,6 +13,7 @@ use Rattle.laws_network.specs.Runs.{IsFitRun}
 use Rattle.script_grammar.specs.Draft.{Draft, nothing, plan_of}
 use Rattle.script_grammar.specs.Grammar.{Leads}
 use Rattle.script_theorem.specs.Demands.{AppendsTheDemand, moment}
+use Rattle.script_theorem.specs.FlagReports.{SettlesToTheFlags}
 use Rattle.script_theorem.specs.Purged.{ReportsNothingStale}
 use Rattle.script_theorem.specs.Sessions.{ReportsEachSession}
 use Rattle.script_theorem.specs.Writing.{OnlyWrite}
@@ -92,6 +93,8 @@ pub record HealsItself (p : Plan) : Type 0 where
   pub purged : ReportsNothingStale p
   -- and of each session that fits exactly what is demanded of it, whatever the others ask for
   pub sessions : ReportsEachSession p
+  -- each `flags` line at a settled moment appends the flags that are demanded, where the demands fit
+  pub flags : SettlesToTheFlags p
   pub safe : IsSafe p
 
 -- ---- the laws

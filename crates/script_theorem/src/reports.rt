@@ -1,7 +1,7 @@
 //! The laws.
 ghost use Rattle.script_theorem.specs.Demands.{ASettledReportIsTheDemand};
 ghost use Rattle.script_theorem.specs.Example.{TheReportBecomesTheDemand};
-ghost use Rattle.script_theorem.specs.FlagReports.{SettledFlagsAreAFunction};
+ghost use Rattle.script_theorem.specs.FlagReports.{SettledFlagsAreAFunction, ASettledFlagsLineIsDemanded};
 ghost use Rattle.script_theorem.specs.RoundsAmong.{RoundsAmongWritingCount};
 ghost use Rattle.script_theorem.specs.Purged.{APurgedReportIsAtMostTheDemand};
 ghost use Rattle.script_theorem.specs.Sessions.{ASettledReportShowsEachSession};
@@ -51,8 +51,13 @@ pub fn the_report_becomes_the_demand()
     ensures { TheReportBecomesTheDemand }
 {}
 
-/// What a `flags` line writes is settled too: in the run of a fit script that lets few senders send, at two settled moments at which the
-/// demands fit and the same is asked of the same network, it writes the same.
+/// What a `flags` line writes is settled too: in the run of a fit script that lets few senders send and is not crowded, at each settled
+/// moment, where the demands of that moment fit, it appends the flags that are demanded.
+pub fn a_settled_flags_line_is_demanded()
+    ensures { ASettledFlagsLineIsDemanded }
+{}
+
+/// So at two settled moments at which the demands fit and the same is asked of the same network, it writes the same.
 pub fn settled_flags_are_a_function()
     ensures { SettledFlagsAreAFunction }
 {}

@@ -6,5 +6,6 @@ pub mod Example
 pub mod Tight
 pub mod RunExample
 pub mod Police
+pub mod DemandedFlags
 pub mod Flags
 pub mod FlagsExample

@@ -41,18 +41,18 @@ use Rattle.settle_resvs.proofs.GoalByIface.{book_at, hop_in_order}
 use Rattle.settle_resvs.proofs.UnderTheGoal.{sound_under}
 
 -- ---- a line of a goal is a part that is wanted over a hop out of the node
-record IsWantedLine (net : Net) (l : Locals) (n : ℕ) (g : Line) : Type 0 where
-  style : StyleKind
-  session : Session
-  hop : LinkHop
-  unit : UnitOf
-  part : Part
-  there : In hop (hops_of net.hops session.group)
-  node : node_of net.ends hop.from ≡ n
-  wanted : get (want style net l session hop) unit ≡ Some part
-  is : g ≡ line_over net style session hop (unit, part)
+pub record IsWantedLine (net : Net) (l : Locals) (n : ℕ) (g : Line) : Type 0 where
+  pub style : StyleKind
+  pub session : Session
+  pub hop : LinkHop
+  pub unit : UnitOf
+  pub part : Part
+  pub there : In hop (hops_of net.hops session.group)
+  pub node : node_of net.ends hop.from ≡ n
+  pub wanted : get (want style net l session hop) unit ≡ Some part
+  pub is : g ≡ line_over net style session hop (unit, part)
 
-goal_told : (net : Net) (l : Locals) (n : ℕ) (g : Line) → In g (goal net l n) → IsWantedLine net l n g
+pub goal_told : (net : Net) (l : Locals) (n : ℕ) (g : Line) → In g (goal net l n) → IsWantedLine net l n g
 goal_told net l n g i =
     let a = in_flat_map (λ st. flat_map (λ s. flat_map (hop_lines st net l s) (filter (goes_out_of net.ends n) (hops_in_order (hops_of net.hops s.group)))) (sessions_named l)) g
     (Wild ∷ Fixed ∷ Shared ∷ []) i in

@@ -23,10 +23,9 @@ abbrev pub ArePathsPoliced : World → Type 0
 ArePathsPoliced w = (n : ℕ) (f : Facts) (k : SenderKey) (x : PathState) → slice_get w.nodes n ≡ Some f → get f.paths k ≡ Some x → IsPoliced w k (x.hop.addr, x.police)
 
 -- ---- all flags
--- the same is asked of the same network, with the same routes
+-- the same is asked of the same network
 pub record AreAlike (u v : World) : Type 0 where
   pub net : u.net ≡ v.net
-  pub trees : u.trees ≡ v.trees
   pub locals : locals_of u ≡ locals_of v
 
 -- a settled world whose paths say E_Police where they should

@@ -5,5 +5,6 @@ pub mod Example
 pub mod Tight
 pub mod RunExample
 pub mod Flags
+pub mod DemandedFlags
 pub mod FlagsExample
 pub use Rattle.settle_resvs.specs as SettleResvs

@@ -16,7 +16,8 @@ ghost use Rattle.laws_network.specs.Runs.{AreFitSenders, IsFitRun};
 ghost use Rattle.settle_resvs.specs.Sessions.{SessionFits};
 ghost use Rattle.settle_network.specs.Example.{ItHasNotSettledYet};
 ghost use Rattle.settle_network.specs.Flags.{ArePathsPoliced, FlagsAreAFunction, HasSettledFlags};
-ghost use Rattle.settle_network.specs.FlagsExample.{FlagsCanDiffer};
+ghost use Rattle.settle_network.specs.DemandedFlags.{SettledFlagsAreDemanded};
+ghost use Rattle.settle_network.specs.FlagsExample.{FlagsAreSo, FlagsCanDiffer};
 ghost use Rattle.settle_network.specs.Purged.{HasNothingStale};
 ghost use Rattle.settle_network.specs.RunExample.{ARunMeetsThePremises};
 ghost use Rattle.settle_network.specs.Sessions.{HasSettledFor};
@@ -123,13 +124,25 @@ pub fn flags_of_a_run_settle()
         → HasSettledFlags p.quarter (run (machine p.quarter) ss (first_world p)) }
 {}
 
-/// What `flags` writes of a settled network is a function of the network, its senders and its wants: two settled worlds that are alike
-/// in these write the same.
+/// What `flags` writes of a network whose flags are settled is demanded: of each end the entries of its demand, each with E where its data
+/// comes straight from a source, with M where the style merges several senders there, and with B where another reservation that shares a
+/// sender is wanted at the node, for which the entry's flow cannot stand (RFC 2205, 3.8).
+pub fn settled_flags_are_demanded()
+    ensures { SettledFlagsAreDemanded }
+{}
+
+/// So it is a function of the network, its senders and its wants: two settled worlds that are alike in these write the same.
 pub fn flags_are_a_function()
     ensures { FlagsAreAFunction }
 {}
 
-/// Of a network that has not settled, what `flags` writes is no function of these: an injected Path without E_Police changes it.
+/// The flags that are demanded of two senders and two receivers in shared style, worked out by hand.
+pub fn flags_are_so()
+    ensures { FlagsAreSo }
+{}
+
+/// Of a network that has not settled, what `flags` writes is no function of these: an injected Path without E_Police changes it, and what is
+/// written is not what is demanded.
 pub fn flags_can_differ()
     ensures { FlagsCanDiffer }
 {}
