@@ -8,3 +8,4 @@ pub mod Tight
 pub mod Said
 pub mod TightPaths
 pub mod Confirmed
+pub mod Unanswered

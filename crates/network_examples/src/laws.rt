@@ -8,6 +8,7 @@ ghost use Rattle.network_examples.specs.Said.{APathSaysItsHop, NobodyAsksForIt, 
 ghost use Rattle.network_examples.specs.Starts.{AStartRefuses};
 ghost use Rattle.network_examples.specs.Tight.{TwoRoundsAreTooFew};
 ghost use Rattle.network_examples.specs.TightPaths.{EightRoundsAreTooFew};
+ghost use Rattle.network_examples.specs.Unanswered.{ARequestIsNotAnswered};
 
 /// A Resv that goes astray meets the premises of `arrivals_are_taken` through two calm rounds, and is not taken where it arrives
 /// before.
@@ -112,4 +113,10 @@ pub fn eight_rounds_are_too_few()
 /// `each_confirmation_has_begun`. One that was injected begins nowhere. And what is confirmed may be gone when the ResvConf arrives.
 pub fn confirmations_in_a_pair()
     ensures { ConfirmationsInAPair }
+{}
+
+/// Not each request for a confirmation is answered, though all has settled, what is asked fits and nothing is lost: a host that has what it
+/// wants and asks for the same again, with a confirmation, changes nothing of what goes toward its sender, so that its mark waits.
+pub fn a_request_is_not_answered()
+    ensures { ARequestIsNotAnswered }
 {}
