@@ -1,5 +1,5 @@
 -- What a settled network writes for `flags` is a function of what is asked of it; and at a settled moment its flags are settled.
-use Rattle.std.proofs.Common.{◌≡◌, ℕ, ◌+◌, ◌*◌, List, arith, sym, ◌∙◌}
+use Rattle.std.proofs.Common.{ℕ, ◌+◌, ◌*◌, List, arith, sym, ◌∙◌}
 use Rattle.calm_rounds.specs.Machine.{run}
 use Rattle.calm_rounds.proofs.Holding.{hold_both, hold_later, hold_map}
 use Rattle.tree_model.specs.Ranks.{longest}
