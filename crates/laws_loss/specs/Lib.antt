@@ -1,0 +1,4 @@
+pub mod Lamp
+pub mod Loss
+pub mod Pace
+pub mod Windows

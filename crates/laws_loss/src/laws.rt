@@ -1,0 +1,40 @@
+//! The laws of loss.
+ghost use Rattle.std.specs.Prelude.{◌≡◌, ◌≤◌, ◌+◌, ◌*◌, ℕ, suc, List, Some};
+ghost use Rattle.calm_rounds.specs.Machine.{Machine, IsClocked, IsStamped, Fresh};
+ghost use Rattle.calm_rounds.specs.Rounds.{AreQuiet};
+ghost use Rattle.calm_rounds.specs.Hold.{Visited, Hold};
+ghost use Rattle.calm_rounds.specs.SoftStates.{KeepLaws, DueLaws, IsClosed, SaysOnly, KeepsOnly, Stands, Good, Moves};
+ghost use Rattle.laws_loss.specs.Loss.{OneOfAny, IsRefreshed};
+ghost use Rattle.laws_loss.specs.Lamp.{MeetsThePremises, LossCanKill};
+ghost use Rattle.laws_loss.specs.Pace.{PaceLaws, Lasts};
+ghost use Rattle.laws_loss.specs.Windows.{Windows, joined};
+
+use calm_rounds::{Claim, Key};
+
+/// What is refreshed never dies (RFC 2205, 3.7, K = 3): where of any three successive refreshes on its track one arrives less than
+/// 0.75 periods after it was due, a value that lives until the third of them may arrive is kept in each world that is visited,
+/// however long.
+pub fn what_is_refreshed_never_dies<W, S, I, K, L: Key<W, S, I, K>>()
+    ensures { (m : Machine W S I K) → IsClocked m → IsStamped m → DueLaws m L.state → PaceLaws m L.state
+        → (v : L.Value) (n : ℕ) (ss : List S) (w : W) → AreQuiet m ss → IsRefreshed m L.state.due L.state.track ss w
+        → Moves m L.state v n → n ≤ m.made w → Fresh m n w → Visited m (Good m L.state v n) ss w → Lasts m L.state v w → Visited m (Stands m L.state v) ss w }
+{}
+
+/// Whatever is kept at the start, the value is kept from 5.25 refresh periods on.
+pub fn what_is_refreshed_is_kept<W, S, I, K, L: Key<W, S, I, K>>()
+    ensures { (m : Machine W S I K) → IsClocked m → IsStamped m → DueLaws m L.state → PaceLaws m L.state
+        → (v : L.Value) (n : ℕ) (ss : List S) (w : W) → AreQuiet m ss → IsRefreshed m L.state.due L.state.track ss w
+        → Moves m L.state v n → n ≤ m.made w → Fresh m n w → Visited m (Good m L.state v n) ss w
+        → Visited m (λ u. m.clock w + 21 * m.quarter ≤ m.clock u → Stands m L.state v u) ss w }
+{}
+
+/// A small machine meets the premises of these laws with two of any three refreshes lost.
+pub fn a_lamp_meets_the_premises()
+    ensures { MeetsThePremises }
+{}
+
+/// Neither number can be larger: where of any four successive refreshes one arrives, or of any three one that arrives 0.75 periods
+/// after it was due, what is refreshed can die.
+pub fn more_loss_can_kill()
+    ensures { LossCanKill }
+{}
