@@ -124,7 +124,7 @@ moves = record { rests = λ s u d q g g' none e lt. rests s u d none e lt; calls
     rests Lose u d none e lt = e
 
     calls : (s : LampStep) (u : LampWorld) → Flashes s u → (x : Signal) × In (x, true) (lamp.sent s u) × (◌≡◌ {A = Option (Unit {0})} (Some tt) (Some tt))
-    calls (Pass ms) u f = (flash u, subst (λ (b : Bool). In (flash u, true) (cond b ((flash u, true) ∷ []) [])) (sym f) (inl refl), refl)
+    calls (Pass ms) u f = (flash u, subst (λ (b : Bool). In {A = Signal × Bool} (flash u, true) (cond b ((flash u, true) ∷ []) [])) (sym f) (inl refl), refl)
     calls Arrive u f = absurd f
     calls Lose u f = absurd f
 
@@ -196,7 +196,7 @@ meets_the_premises = record {
   falls_due = falls_due;
   paced = paced;
   moves = moves;
-  run = is_run two_lost (refl, (refl, (refl, (refl, (refl, (refl, (refl, (refl, tt))))))));
+  begun = is_run two_lost (refl, (refl, (refl, (refl, (refl, (refl, (refl, (refl, tt))))))));
   refreshed = (inr (inr (inl ((λ x r. absurd r.sent), inr (inr (inl ((λ x r. absurd r.sent), inr (inl two_in_time))))))), (inl ((λ x r. absurd r.sent), inr (inr (inl ((λ x r. absurd r.sent), inr (inl two_in_time))))), (inr (inr (inl ((λ x r. absurd r.sent), inr (inl two_in_time)))), (inl ((λ x r. absurd r.sent), inr (inl two_in_time)), (inr (inl two_in_time), (inl ((λ x r. absurd r.sent), inl ((λ x r. absurd r.sent), inr (inr tt))), (inl ((λ x r. absurd r.sent), inr (inr tt)), (inr (inr tt), tt))))))));
   nearly = refl;
 }

@@ -1,2 +1,3 @@
 pub mod Renewed
+pub mod Windows
 pub mod LampLaws

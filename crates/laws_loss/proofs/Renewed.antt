@@ -30,7 +30,7 @@ module _ {W S I K : Type 0} (m : Machine W S I K) where
   quiet_back [] bs q = q
   quiet_back (a ∷ fs) bs q = quiet_back fs bs q.1
 
-  visited_front : (Q : W → Type 0) (fs bs : List S) (w : W) → Visited m Q (fs ++ bs) w → Visited m Q fs w
+  pub visited_front : (Q : W → Type 0) (fs bs : List S) (w : W) → Visited m Q (fs ++ bs) w → Visited m Q fs w
   visited_front Q [] bs w v = visited_start m Q bs w v
   visited_front Q (a ∷ fs) bs w v = (v.0, visited_front Q fs bs (m.step a w) v.1)
 

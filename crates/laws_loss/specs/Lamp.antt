@@ -136,7 +136,7 @@ pub record MeetsThePremises : Type 0 where
   pub falls_due : DueLaws lamp place
   pub paced : PaceLaws lamp place
   pub moves : Moves lamp place told 0
-  pub run : IsRun two_lost
+  pub begun : IsRun two_lost
   pub refreshed : IsRefreshed lamp place.due place.track two_lost lit_world
   -- when the third signal arrives, what is kept has one millisecond to live
   pub nearly : run lamp (Pass 6 ∷ Lose ∷ Pass 6 ∷ Lose ∷ Pass 6 ∷ Pass 2 ∷ []) lit_world

@@ -28,6 +28,28 @@ pub fn what_is_refreshed_is_kept<W, S, I, K, L: Key<W, S, I, K>>()
         → Visited m (λ u. m.clock w + 21 * m.quarter ≤ m.clock u → Stands m L.state v u) ss w }
 {}
 
+/// In windows of 5.25 refresh periods or more, a value that is not renewed dies out in one: where all that is in flight says only
+/// what has a property that cuts keep, what is kept has it from the second window on.
+pub fn what_is_not_renewed_dies_in_one_window<W, S, I, K, L: Key<W, S, I, K>, P: Claim<L::Value>>()
+    ensures { (m : Machine W S I K) → IsClocked m → IsStamped m → KeepLaws m L.state → IsClosed L.state.below P.holds → (rs : List (List S)) (w : W) → Windows m rs w
+        → Hold m 0 rs w L.state.sane → Hold m 0 rs w (SaysOnly m L.state P.holds 0) → Hold m 1 rs w (KeepsOnly m L.state P.holds) }
+{}
+
+/// One hop settles in windows, first half: where all that is sent from now on says only what has a property that cuts keep, two
+/// windows on what is kept has it, and what is in flight says only that.
+pub fn only_what_is_said_is_kept_in_two_windows<W, S, I, K, L: Key<W, S, I, K>, P: Claim<L::Value>>()
+    ensures { (m : Machine W S I K) → IsClocked m → IsStamped m → KeepLaws m L.state → IsClosed L.state.below P.holds → (rs : List (List S)) (w : W) → Windows m rs w
+        → Hold m 0 rs w L.state.sane → Hold m 0 rs w (SaysOnly m L.state P.holds (m.made w))
+        → Hold m 2 rs w (λ u. KeepsOnly m L.state P.holds u × SaysOnly m L.state P.holds 0 u) }
+{}
+
+/// One hop settles in windows, second half: where each refresh says one value, and is taken, and of any three successive refreshes
+/// one arrives in time, two windows on that value is kept.
+pub fn what_is_refreshed_is_kept_in_two_windows<W, S, I, K, L: Key<W, S, I, K>>()
+    ensures { (m : Machine W S I K) → IsClocked m → IsStamped m → DueLaws m L.state → PaceLaws m L.state → (v : L.Value) (rs : List (List S)) (w : W) → Windows m rs w
+        → IsRefreshed m L.state.due L.state.track (joined rs) w → Moves m L.state v (m.made w) → Hold m 0 rs w (Good m L.state v (m.made w)) → Hold m 2 rs w (Stands m L.state v) }
+{}
+
 /// A small machine meets the premises of these laws with two of any three refreshes lost.
 pub fn a_lamp_meets_the_premises()
     ensures { MeetsThePremises }

@@ -54,7 +54,7 @@ use Rattle.settle_paths.proofs.SoundPaths.{paths_are_sound}
 use Rattle.laws_network.specs.Sources.{CameOnTree, said_by}
 use Rattle.router_rules.specs.Steps.{facts_then, node_step}
 
-live_back : (o u : World) (k : SenderKey) (t : TokenBucket) → IsSameNet o u → IsLive u k t → IsLive o k t
+pub live_back : (o u : World) (k : SenderKey) (t : TokenBucket) → IsSameNet o u → IsLive u k t → IsLive o k t
 live_back o u k t same l = record { node = l.node; senders = l.senders; at = sym (same.senders l.node) ∙ l.at; sends = l.sends }
 
 module _ (q : ℕ) (o : World) (valid : IsValid o.net) (locals : AreHosts o) where
@@ -102,11 +102,11 @@ module _ (q : ℕ) (o : World) (valid : IsValid o.net) (locals : AreHosts o) whe
         ((the_root_has_no_inward o.net valid).entered at_from h.from k.0.group k.1.addr leaves)
 
     -- ---- letters that were sent from a step on are Paths to the group
-    record IsGroupPath (y : Item) : Type 0 where
-      letter : IsPathLetter k y
-      dst : y.dst ≡ k.0.group
+    pub record IsGroupPath (y : Item) : Type 0 where
+      pub letter : IsPathLetter k y
+      pub dst : y.dst ≡ k.0.group
 
-    abbrev AreClean : ℕ → World → Type 0
+    abbrev pub AreClean : ℕ → World → Type 0
     AreClean b u = (y : Item) → In y u.flight → b ≤ y.born → is_letter k h.to y ≡ true → IsGroupPath y
 
     -- no node tears the path down
@@ -127,7 +127,7 @@ module _ (q : ℕ) (o : World) (valid : IsValid o.net) (locals : AreHosts o) whe
         let bad : true ≡ false = sym yes ∙ none in
         absurd (cc)
 
-    clean_step : (b : ℕ) (s : Step) (u : World) → is_quiet s ≡ true → IsSure q o d u → IsSure q o d (step q s u) → AreClean b u → AreClean b (step q s u)
+    pub clean_step : (b : ℕ) (s : Step) (u : World) → is_quiet s ≡ true → IsSure q o d u → IsSure q o d (step q s u) → AreClean b u → AreClean b (step q s u)
     clean_step b s u quiet a a' j y i born is =
         ⊎_elim
         (λ (old : In y u.flight). j y old born is)
@@ -193,7 +193,7 @@ module _ (q : ℕ) (o : World) (valid : IsValid o.net) (locals : AreHosts o) whe
         ∙ (λ j. Some ((hop j, t), x.dies))
 
     -- ---- so the value is said over the hop
-    said : (b : ℕ) (u : World) → IsSure q o d u → AreClean b u → IsSaidPath q o.net k h value b u
+    pub said : (b : ℕ) (u : World) → IsSure q o d u → AreClean b u → IsSaidPath q o.net k h value b u
     said b u sure clean = record {
       carried = λ y m t' i born end spelt session sender. tells u sure y i end (record { path = m; spelt = spelt; session = session; tspec = t'; sender = sender });
       spared = λ y m i born end spelt session sender.
@@ -222,7 +222,7 @@ module _ (q : ℕ) (o : World) (valid : IsValid o.net) (locals : AreHosts o) whe
         said_from q o valid k h value there of_group rs w calm (hold_map (machine q) (IsSure q o d) (IsKnown q o) (λ u g. g.known) 0 rs w sure) (said_hold rs w calm sure)
 
   -- ---- level by level
-  abbrev HopTo : ℕ → Type 0
+  abbrev pub HopTo : ℕ → Type 0
   HopTo d = (k : SenderKey) × (t : TokenBucket) × (h : LinkHop) × IsLive o k t × In h (tree o.net.hops k.0.group k.1.addr) × (depth o.net k.0.group k.1.addr (node_of o.net.ends h.to) ≤ d)
 
   complete_up : (d : ℕ) (rs : List (List Step)) (w : World) → Rounds (machine q) rs w → Hold (machine q) 0 rs w (IsSure q o d) → Hold (machine q) 2 rs w (IsCompleteTo o (suc d))
@@ -247,7 +247,7 @@ module _ (q : ℕ) (o : World) (valid : IsValid o.net) (locals : AreHosts o) whe
       (λ u g. record { known = g.0.0; sound = g.0.1; complete = g.1 }) 0 rs' w' both)) (2 * d) rs w calm
       (hold_both (machine q) IsStarted (IsCompleteTo o d) (2 * d) rs w (hold_later (machine q) IsStarted 0 (2 * d) rs w (omega arith) start) (levels d rs w calm start)))
 
-  all_complete : (u : World) → IsKnown q o u → IsCompleteTo o (longest o.net) u → ArePathsComplete u
+  pub all_complete : (u : World) → IsKnown q o u → IsCompleteTo o (longest o.net) u → ArePathsComplete u
   all_complete u a full k t h live there =
       let back : IsLive o k t = live_back o u k t a.same live in
       let in_o : In h (tree o.net.hops k.0.group k.1.addr) = subst (λ (z : Net). In h (tree z.hops k.0.group k.1.addr)) a.same.net there in

@@ -74,10 +74,10 @@ module _ (q : ℕ) (o : World) where
       subst (λ (z : Addr). In (g, z) u.trees) r.3 (subst (λ (z : Addr). In (z, r.0.source) u.trees) r.2 there)
 
   -- ---- Paths are sent for a full lifetime
-  abbrev AreFull : ℕ → World → Type 0
+  abbrev pub AreFull : ℕ → World → Type 0
   AreFull b u = (y : Item) (m : PathMsg) → In y u.flight → b ≤ y.born → y.arrival ≡ Spelt (message.Path m) → m.period ≡ 4 * q
 
-  full_step : (b : ℕ) (s : Step) (u : World) → is_quiet s ≡ true → IsKnown q o u → AreFull b u → AreFull b (step q s u)
+  pub full_step : (b : ℕ) (s : Step) (u : World) → is_quiet s ≡ true → IsKnown q o u → AreFull b u → AreFull b (step q s u)
   full_step b s u quiet a j y m i born spelt =
       ⊎_elim (λ (old : In y u.flight). j y m old born spelt)
       (λ (new : (mark : Bool) × In (y, mark) (sent q s u)). (path_sent q s u quiet a.bounds y new.0 m new.1 spelt).period)
@@ -101,10 +101,10 @@ module _ (q : ℕ) (o : World) (valid : IsValid o.net) (k : SenderKey) (h : Link
     pub said : IsSaidPath q o.net k h v b u
     pub full : AreFull q o b u
 
-  abbrev over : Track
+  abbrev pub over : Track
   over = record { from = addr_of o.net h.from; to = h.to; session = k.0; key = OfSender k.1 }
 
-  abbrev line : SoftState World Step Item Track PathValue
+  abbrev pub line : SoftState World Step Item Track PathValue
   line = record {
     sane = IsFirm;
     kept = λ u. by_iface (iface_of o.net.ends h.to) (path_at u at_to k);
@@ -167,7 +167,7 @@ module _ (q : ℕ) (o : World) (valid : IsValid o.net) (k : SenderKey) (h : Link
       subst (λ (z : Net). serves_key z over over.key ≡ true) (sym g.known.same.net)
       (any_in (goes_along o.net over) h (tree o.net.hops k.0.group k.1.addr) there (and_made _ _ (number_same h.to h.to refl) (addr_tested (addr_of o.net h.from) (addr_of o.net h.from) refl)))
 
-  good : (u : World) → IsFirm u → Good (machine q) line v b u
+  pub good : (u : World) → IsFirm u → Good (machine q) line v b u
   good u g = record {
     sane = g;
     letters = λ y i born is. letters u g y i born is;
@@ -298,7 +298,7 @@ module _ (q : ℕ) (o : World) (valid : IsValid o.net) (k : SenderKey) (h : Link
       by (Spelt m) b f = by_message m b f
       by (Unspelt g) b f = absurd (cc)
 
-  moves : Moves (machine q) line v b
+  pub moves : Moves (machine q) line v b
   moves = record {
     rests = λ s u dies calm g g' none kept lt. rests s u dies (quiet_of q s calm) g.sane none kept lt;
     calls = λ s u calm g g' r. calls s u (quiet_of q s calm) g.sane g'.sane r;
@@ -306,7 +306,7 @@ module _ (q : ℕ) (o : World) (valid : IsValid o.net) (k : SenderKey) (h : Link
   }
 
   -- ---- the moment of the next refresh
-  falls_due : DueLaws (machine q) line
+  pub falls_due : DueLaws (machine q) line
   falls_due = record {
     moved = λ s u m m' calm a a' e e'. due_moves q s u at_from k.0 m m' (quiet_of q s calm) a.known.bounds e e';
     due_room = λ u m a e. let f = due_found u at_from k.0 m e in let r = (a.known.bounds.facts at_from f.0 f.1).due.moment k.0 m f.2 in (r.later, r.soon);

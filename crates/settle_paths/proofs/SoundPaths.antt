@@ -62,17 +62,17 @@ path_end q o u n f k x a there h =
 
 module _ (q : ℕ) (o : World) (valid : IsValid o.net) where
   -- ---- spots: a sender's key at an end whose node is so many hops from the root at most
-  abbrev Spot : ℕ → Type 0
+  abbrev pub Spot : ℕ → Type 0
   Spot d = (k : SenderKey) × (e : ℕ) × (e < length o.net.ends) × (depth o.net k.0.group k.1.addr (node_of o.net.ends e) ≤ d)
 
-  abbrev SoundIn : SenderKey → ℕ → World → Type 0
+  abbrev pub SoundIn : SenderKey → ℕ → World → Type 0
   SoundIn k e u = KeepsOnly (machine q) (soft_path q o k e) (IsSoundAt o k e) u × SaysOnly (machine q) (soft_path q o k e) (IsSoundAt o k e) 0 u
 
   abbrev pub Level : ℕ → World → Type 0
   Level d u = (a : Spot d) → SoundIn a.0 a.1 u
 
   -- to the root comes no Path
-  no_one : (k : SenderKey) (e : ℕ) → depth o.net k.0.group k.1.addr (node_of o.net.ends e) ≤ 0 → (y : Item) (v : PathValue) → SaysPath o.net k e y v → ⊥
+  pub no_one : (k : SenderKey) (e : ℕ) → depth o.net k.0.group k.1.addr (node_of o.net.ends e) ≤ 0 → (y : Item) (v : PathValue) → SaysPath o.net k e y v → ⊥
   no_one k e le y v says =
       let h = way_in_told o.net valid (node_of o.net.ends e) e k.0.group k.1.addr says.inward in
       let along = (depth_and_rank_within_longest o.net valid).along k.0.group k.1.addr h.0 h.1 in
@@ -127,7 +127,7 @@ module _ (q : ℕ) (o : World) (valid : IsValid o.net) where
             subst (λ (z : TokenBucket). IsLive o k z) (sym path.2 ∙ flow) sound.live) p.source;
       }
 
-  says_step : (d n : ℕ) (k : SenderKey) (e : ℕ) → depth o.net k.0.group k.1.addr (node_of o.net.ends e) ≤ suc d → (s : Step) (u : World) → is_quiet s ≡ true
+  pub says_step : (d n : ℕ) (k : SenderKey) (e : ℕ) → depth o.net k.0.group k.1.addr (node_of o.net.ends e) ≤ suc d → (s : Step) (u : World) → is_quiet s ≡ true
       → IsKnown q o u × Level d u → IsKnown q o (step q s u) × Level d (step q s u)
       → SaysOnly (machine q) (soft_path q o k e) (IsSoundAt o k e) n u → SaysOnly (machine q) (soft_path q o k e) (IsSoundAt o k e) n (step q s u)
   says_step d n k e le s u quiet a a' j y v i born says =
@@ -159,10 +159,10 @@ module _ (q : ℕ) (o : World) (valid : IsValid o.net) where
       (hold_later (machine q) (IsKnown q o) 0 (4 + 5 * d) rs w (omega arith) known) (levels d rs w calm known)))
 
   -- ---- each Path has a sender, once what was in flight is gone
-  abbrev AreNamed : ℕ → World → Type 0
+  abbrev pub AreNamed : ℕ → World → Type 0
   AreNamed n u = (y : Item) (m : PathMsg) → In y u.flight → n ≤ y.born → y.arrival ≡ Spelt (message.Path m) → m.sender ≡ None → ⊥
 
-  named_step : (n : ℕ) (s : Step) (u : World) → is_quiet s ≡ true → IsKnown q o u → AreNamed n u → AreNamed n (step q s u)
+  pub named_step : (n : ℕ) (s : Step) (u : World) → is_quiet s ≡ true → IsKnown q o u → AreNamed n u → AreNamed n (step q s u)
   named_step n s u quiet a j y m i born spelt none =
       ⊎_elim
       (λ (old : In y u.flight). j y m old born spelt none)
@@ -181,7 +181,7 @@ module _ (q : ℕ) (o : World) (valid : IsValid o.net) where
       (hold_flush (machine q) (items_are_numbered q) rs w calm))
 
   -- ---- all together
-  all_sound : (u : World) → IsKnown q o u → Level (longest o.net) u → AreNamed 0 u → ArePathsSound u
+  pub all_sound : (u : World) → IsKnown q o u → Level (longest o.net) u → AreNamed 0 u → ArePathsSound u
   all_sound u a level names = record {
     facts = λ n f k x there h.
         let b = path_end q o u n f k x a there h in
