@@ -1,19 +1,19 @@
 -- The lamp meets the premises of the laws; and where more is lost, what it keeps dies.
-use Rattle.std.proofs.Common.{◌≡◌, ℕ, zero, suc, ◌+◌, ◌*◌, ◌≤◌, ◌<◌, List, [], ◌∷◌, Bool, true, false, cond, Option, None, Some, ◌⊎◌, inl, inr, ⊎_elim, arith, sym, refl, ◌∙◌, ap, subst, leb}
-use Rattle.std.specs.Prelude.{nat_le, nat_lt}
-use Rattle.std.proofs.lemmas.Bool.{ltb-true, lt-ltb}
+use Rattle.std.proofs.Common.{◌≡◌, ℕ, ◌+◌, ◌≤◌, ◌<◌, List, [], ◌∷◌, Bool, true, false, cond, Option, None, Some, ◌⊎◌, inl, inr, ⊎_elim, arith, sym, refl, ◌∙◌, ap, subst, leb}
+use Rattle.std.specs.Prelude.{nat_le}
+use Rattle.std.proofs.lemmas.Bool.{lt-ltb}
 use Rattle.std.proofs.lemmas.Bool.Decides.{leb_tells}
 use Rattle.rsvp_base.specs.Members.{In}
 use Rattle.calm_rounds.specs.Beacon.{Signal, told, first_of, rest_of, living, taken}
-use Rattle.calm_rounds.specs.Hold.{Visited, Keep}
-use Rattle.calm_rounds.specs.Machine.{IsClocked, IsStamped, Fresh, run}
+use Rattle.calm_rounds.specs.Hold.{Visited}
+use Rattle.calm_rounds.specs.Machine.{IsClocked, IsStamped, run}
 use Rattle.calm_rounds.specs.Rounds.{AreQuiet}
 use Rattle.calm_rounds.specs.SoftStates.{DueLaws, SaysOnly, Stands, Good, Moves}
 use Rattle.calm_rounds.proofs.Holding.{visited_map, visited_keep}
-use Rattle.laws_loss.specs.Loss.{ArrivesBefore, IsRefresh, IsInTime, OneOfNext, OneOfAny, IsRefreshed}
-use Rattle.laws_loss.specs.Pace.{PaceLaws, Lasts}
+use Rattle.laws_loss.specs.Loss.{IsInTime, IsRefreshed}
+use Rattle.laws_loss.specs.Pace.{PaceLaws}
 use Rattle.laws_loss.specs.Lamp.{LampWorld, LampStep, Pass, Arrive, Lose, flash, comes_due, after, lamp, place, IsSane, Flashes, lit_world, two_lost, three_lost, one_late, IsRun, MeetsThePremises, LossCanKill}
-use Rattle.laws_loss.proofs.Renewed.{never_dies}
+use Rattle.laws_loss.proofs.Renewed.{visited_any, never_dies}
 
 first_in : (x : Signal) (xs : List Signal) → first_of xs ≡ Some x → In x xs
 first_in x [] e = absurd (cc)
@@ -157,14 +157,10 @@ is_run ss quiet = record {
   quiet = quiet;
   fresh = λ x i. absurd i;
   good = visited_map lamp Clean (Good lamp place told 0) good ss lit_world
-      (visited_keep lamp (λ _. Unit {0}) Clean (λ s u q _ _ h. (sane_step s u q h.0, says_step s u h.1)) ss lit_world quiet (always ss lit_world)
+      (visited_keep lamp (λ _. Unit {0}) Clean (λ s u q _ _ h. (sane_step s u q h.0, says_step s u h.1)) ss lit_world quiet (visited_any lamp ss lit_world)
       (record { later = omega arith; soon = omega arith }, λ x v i le e. absurd i));
   lasts = record { dies = 21; kept = refl; moment = 6; due = refl; long = omega arith };
 }
-  where
-    always : (ts : List LampStep) (u : LampWorld) → Visited lamp (λ _. Unit {0}) ts u
-    always [] u = tt
-    always (t ∷ ts) u = (tt, always ts (after t u))
 
 -- ---- which signals arrive in time
 two_in_time : IsInTime lamp place.due place.track 3 (Pass 6) (Pass 2 ∷ Arrive ∷ Pass 4 ∷ []) (run lamp (Pass 6 ∷ Lose ∷ Pass 6 ∷ Lose ∷ []) lit_world)

@@ -9,8 +9,8 @@ use Rattle.calm_rounds.specs.Hold.{Visited}
 use Rattle.calm_rounds.specs.SoftStates.{SoftState, DueLaws, Stands, Good, Moves}
 use Rattle.calm_rounds.proofs.Holding.{visited_start, visited_map, visited_both, visited_keep, clock_run, fresh_step}
 use Rattle.calm_rounds.proofs.Renewing.{in_option}
-use Rattle.laws_loss.specs.Loss.{ArrivesBefore, IsRefresh, IsInTime, OneOfNext, OneOfAny, IsRefreshed}
-use Rattle.laws_loss.specs.Pace.{PaceLaws, Lasts}
+use Rattle.laws_loss.specs.Loss.{ArrivesBefore, IsRefresh, IsInTime, OneOfNext, OneOfAny}
+use Rattle.laws_loss.specs.Pace.{PaceLaws}
 
 lt_or_le : (a b : ℕ) → (a < b) ⊎ (b ≤ a)
 lt_or_le a b = ⊎_elim (λ (le : (leb b a ≡ true) × (b ≤ a)). inr le.1) (λ (lt : (leb b a ≡ false) × (a < b)). inl lt.1) (leb_tells b a)
@@ -29,6 +29,10 @@ module _ {W S I K : Type 0} (m : Machine W S I K) where
   quiet_back : (fs bs : List S) → AreQuiet m (fs ++ bs) → AreQuiet m bs
   quiet_back [] bs q = q
   quiet_back (a ∷ fs) bs q = quiet_back fs bs q.1
+
+  pub visited_any : (ss : List S) (w : W) → Visited m (λ _. Unit {0}) ss w
+  visited_any [] w = tt
+  visited_any (s ∷ ss) w = (tt, visited_any ss (m.step s w))
 
   pub visited_front : (Q : W → Type 0) (fs bs : List S) (w : W) → Visited m Q (fs ++ bs) w → Visited m Q fs w
   visited_front Q [] bs w v = visited_start m Q bs w v

@@ -1,15 +1,15 @@
 -- One hop settles in windows.
-use Rattle.std.proofs.Common.{◌≡◌, ℕ, zero, suc, ◌+◌, ◌*◌, ◌≤◌, List, [], ◌∷◌, ◌++◌, true, Option, Some, ◌⊎◌, inl, inr, ⊎_elim, arith}
+use Rattle.std.proofs.Common.{◌≡◌, ℕ, zero, suc, ◌+◌, ◌*◌, ◌≤◌, List, [], ◌∷◌, ◌++◌, true, Option, Some, ◌⊎◌, inr, ⊎_elim, arith, zero-add}
 use Rattle.calm_rounds.specs.Machine.{Machine, run, Fresh, IsClocked, IsStamped}
 use Rattle.calm_rounds.specs.Rounds.{AreQuiet}
 use Rattle.calm_rounds.specs.Hold.{Visited, Hold, Keep}
 use Rattle.calm_rounds.specs.SoftStates.{SoftState, KeepLaws, DueLaws, IsClosed, SaysOnly, KeepsOnly, Stands, Good, Moves}
-use Rattle.calm_rounds.proofs.Holding.{visited_start, visited_end, visited_keep, hold_map, hold_both, hold_later, hold_start, clock_run, made_run, fresh_step}
+use Rattle.calm_rounds.proofs.Holding.{visited_keep, hold_map, hold_both, hold_later, hold_start, clock_run, made_run, fresh_step}
 use Rattle.calm_rounds.proofs.Settling.{old_step}
 use Rattle.laws_loss.specs.Loss.{OneOfAny, IsRefreshed}
 use Rattle.laws_loss.specs.Pace.{PaceLaws}
 use Rattle.laws_loss.specs.Windows.{Windows, joined}
-use Rattle.laws_loss.proofs.Renewed.{visited_front, is_kept}
+use Rattle.laws_loss.proofs.Renewed.{visited_any, visited_front, is_kept}
 
 module _ {W S I K : Type 0} (m : Machine W S I K) where
   -- ---- windows, and their steps one after another
@@ -37,7 +37,7 @@ module _ {W S I K : Type 0} (m : Machine W S I K) where
   quiet_windows [] w ws = tt
   quiet_windows (r ∷ rs) w ws = quiet_append r (joined rs) ws.0.silent (quiet_windows rs (run m r w) ws.1)
 
-  any_back : (due : W → Option ℕ) (track : Option K) (wait few : ℕ) (fs bs : List S) (w : W) → OneOfAny m due track wait few (fs ++ bs) w → OneOfAny m due track wait few bs (run m fs w)
+  pub any_back : (due : W → Option ℕ) (track : Option K) (wait few : ℕ) (fs bs : List S) (w : W) → OneOfAny m due track wait few (fs ++ bs) w → OneOfAny m due track wait few bs (run m fs w)
   any_back due track wait few [] bs w h = h
   any_back due track wait few (f ∷ fs) bs w h = any_back due track wait few fs bs (m.step f w) h.1
 
@@ -45,15 +45,8 @@ module _ {W S I K : Type 0} (m : Machine W S I K) where
   pub windows_keep : (A J : W → Type 0) → Keep m A J → (rs : List (List S)) (w : W) → Windows m rs w → Hold m 0 rs w A → J w → Hold m 0 rs w J
   windows_keep A J f rs w ws a j = hold_joined J rs w (visited_keep m A J f (joined rs) w (quiet_windows rs w ws) (joined_hold A rs w a) j)
 
-  any_world : (rs : List (List S)) (w : W) → Hold m 0 rs w (λ _. Unit {0})
-  any_world rs w = hold_joined (λ _. Unit {0}) rs w (each (joined rs) w)
-    where
-      each : (ss : List S) (u : W) → Visited m (λ _. Unit {0}) ss u
-      each [] u = tt
-      each (s ∷ ss) u = (tt, each ss (m.step s u))
-
   pub windows_always : (J : W → Type 0) → ((s : S) (u : W) → m.quiet s ≡ true → J u → J (m.step s u)) → (rs : List (List S)) (w : W) → Windows m rs w → J w → Hold m 0 rs w J
-  windows_always J f rs w ws j = windows_keep (λ _. Unit {0}) J (λ s u q _ _. f s u q) rs w ws (any_world rs w) j
+  windows_always J f rs w ws j = windows_keep (λ _. Unit {0}) J (λ s u q _ _. f s u q) rs w ws (hold_joined (λ _. Unit {0}) rs w (visited_any m (joined rs) w)) j
 
   -- a moment that is reached lies behind
   windows_clock : IsClocked m → (b : ℕ) (rs : List (List S)) (w : W) → Windows m rs w → b ≤ m.clock w → Hold m 0 rs w (λ u. b ≤ m.clock u)
@@ -70,6 +63,14 @@ module _ {W S I K : Type 0} (m : Machine W S I K) where
       hold_map m (λ u. (m.made w ≤ m.made u) × Fresh m (m.made w) u) (Fresh m (m.made w)) (λ u h. h.1) 0 rs (run m r w)
       (windows_always (λ u. (m.made w ≤ m.made u) × Fresh m (m.made w) u) (λ s u q h. fresh_step m c (m.made w) s u q h) rs (run m r w) ws.1
       (made_run m c r w, ws.0.flushed))
+
+  -- one claim after another, under a premise on the windows that holds of the later ones too
+  pub windows_stack : (P : List (List S) → W → Type 0) → ((r : List S) (rs : List (List S)) (w : W) → P (r ∷ rs) w → P rs (run m r w)) → (A B : W → Type 0) (n : ℕ)
+      → ((rs : List (List S)) (w : W) → Windows m rs w → P rs w → Hold m 0 rs w A → Hold m n rs w B)
+      → (k : ℕ) (rs : List (List S)) (w : W) → Windows m rs w → P rs w → Hold m k rs w A → Hold m (k + n) rs w B
+  windows_stack P tail A B n f zero rs w ws p h = rw zero-add (f rs w ws p h)
+  windows_stack P tail A B n f (suc k) [] w ws p h = let e : suc k + n ≡ suc (k + n) = omega arith in rw e tt
+  windows_stack P tail A B n f (suc k) (r ∷ rs) w ws p h = let e : suc k + n ≡ suc (k + n) = omega arith in rw e (windows_stack P tail A B n f k rs (run m r w) ws.1 (tail r rs w p) h)
 
 module _ {W S I K V : Type 0} (m : Machine W S I K) (c : IsClocked m) (stamps : IsStamped m) (l : SoftState W S I K V) where
   -- what is not renewed dies in one window
