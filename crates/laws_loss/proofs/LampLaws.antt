@@ -70,7 +70,7 @@ due_by ms u b e = ap (λ z. cond z (u.due + 6) u.due) e
 short_wait : (ms : ℕ) → nat_le ms 6 ≡ true → ms ≤ 6
 short_wait ms e = ⊎_elim (λ (t : (leb ms 6 ≡ true) × (ms ≤ 6)). t.1) (λ (f : (leb ms 6 ≡ false) × (6 < ms)). let bad : true ≡ false = sym e ∙ f.0 in absurd (cc)) (leb_tells ms 6)
 
-sane_step : (s : LampStep) (u : LampWorld) → lamp.quiet s ≡ true → IsSane u → IsSane (after s u)
+pub sane_step : (s : LampStep) (u : LampWorld) → lamp.quiet s ≡ true → IsSane u → IsSane (after s u)
 sane_step (Pass ms) u q a =
     let le = short_wait ms q in
     ⊎_elim
@@ -110,8 +110,8 @@ falls_due = record {
 lives_on : (c v d : ℕ) → c < d → living c (Some (v, d)) ≡ Some (v, d)
 lives_on c v d lt = ap (λ (b : Bool). cond b (Some (v, d)) None) (lt-ltb c d lt)
 
-moves : Moves lamp place told 0
-moves = record { rests = λ s u d q g g' none e lt. rests s u d none e lt; calls = λ s u q g g' f. calls s u f; tracks = λ s u x q g g' i e. refl }
+pub moves : (n : ℕ) → Moves lamp place told n
+moves n = record { rests = λ s u d q g g' none e lt. rests s u d none e lt; calls = λ s u q g g' f. calls s u f; tracks = λ s u x q g g' i e. refl }
   where
     by_signal : (u : LampWorld) (d : ℕ) → ((x : Signal) → first_of u.flight ≡ Some x → true ≡ false) → u.kept ≡ Some (told, d) → (o : Option Signal) → first_of u.flight ≡ o → taken u.clock o u.kept ≡ Some (told, d)
     by_signal u d none e None t = e
@@ -129,17 +129,17 @@ moves = record { rests = λ s u d q g g' none e lt. rests s u d none e lt; calls
     calls Lose u f = absurd f
 
 -- ---- each world that is visited is good
-says_step : (s : LampStep) (u : LampWorld) → SaysOnly lamp place (λ v. v ≡ told) 0 u → SaysOnly lamp place (λ v. v ≡ told) 0 (after s u)
-says_step (Pass ms) u h x v i le e =
+pub says_step : (n : ℕ) (s : LampStep) (u : LampWorld) → SaysOnly lamp place (λ v. v ≡ told) n u → SaysOnly lamp place (λ v. v ≡ told) n (after s u)
+says_step n (Pass ms) u h x v i le e =
     ⊎_elim (λ (old : In x u.flight). h x v old le e) (λ (f : x ≡ flash u). e ∙ ap (λ (z : Signal). z.number) f) (in_flight (comes_due ms u) (flash u) x u.flight i)
-says_step Arrive u h x v i le e = h x v (in_rest x u.flight i) le e
-says_step Lose u h x v i le e = h x v (in_rest x u.flight i) le e
+says_step n Arrive u h x v i le e = h x v (in_rest x u.flight i) le e
+says_step n Lose u h x v i le e = h x v (in_rest x u.flight i) le e
 
-abbrev Clean : LampWorld → Type 0
-Clean u = IsSane u × SaysOnly lamp place (λ v. v ≡ told) 0 u
+abbrev pub Clean : ℕ → LampWorld → Type 0
+Clean n u = IsSane u × SaysOnly lamp place (λ v. v ≡ told) n u
 
-good : (u : LampWorld) → Clean u → Good lamp place told 0 u
-good u h = record {
+pub good : (n : ℕ) (u : LampWorld) → Clean n u → Good lamp place told n u
+good n u h = record {
   sane = h.0;
   letters = λ x i le t. (sym (h.1 x x.number i le refl), refl);
   takes = λ s x q a e l. takes s x a e;
@@ -156,8 +156,8 @@ is_run : (ss : List LampStep) → AreQuiet lamp ss → IsRun ss
 is_run ss quiet = record {
   quiet = quiet;
   fresh = λ x i. absurd i;
-  good = visited_map lamp Clean (Good lamp place told 0) good ss lit_world
-      (visited_keep lamp (λ _. Unit {0}) Clean (λ s u q _ _ h. (sane_step s u q h.0, says_step s u h.1)) ss lit_world quiet (visited_any lamp ss lit_world)
+  good = visited_map lamp (Clean 0) (Good lamp place told 0) (good 0) ss lit_world
+      (visited_keep lamp (λ _. Unit {0}) (Clean 0) (λ s u q _ _ h. (sane_step s u q h.0, says_step 0 s u h.1)) ss lit_world quiet (visited_any lamp ss lit_world)
       (record { later = omega arith; soon = omega arith }, λ x v i le e. absurd i));
   lasts = record { dies = 21; kept = refl; moment = 6; due = refl; long = omega arith };
 }
@@ -174,7 +174,7 @@ late_in_time = record { item = record { number = told; born = 5 }; refresh = rec
 
 never_dark : (ss : List LampStep) → IsRun ss → IsRefreshed lamp place.due place.track ss lit_world → Visited lamp (Stands lamp place told) ss lit_world
 never_dark ss r h =
-    never_dies lamp clocked stamped place falls_due paced told 0 moves 3 2 (omega arith) ss lit_world r.quiet h (omega arith) r.fresh r.good 21 refl 6 refl (omega arith)
+    never_dies lamp clocked stamped place falls_due paced told 0 (moves 0) 3 2 (omega arith) ss lit_world r.quiet h (omega arith) r.fresh r.good 21 refl 6 refl (omega arith)
 
 run_of_three : IsRun three_lost
 run_of_three = is_run three_lost (refl, (refl, (refl, (refl, (refl, (refl, (refl, (refl, (refl, tt)))))))))
@@ -191,7 +191,7 @@ meets_the_premises = record {
   stamped = stamped;
   falls_due = falls_due;
   paced = paced;
-  moves = moves;
+  moves = moves 0;
   begun = is_run two_lost (refl, (refl, (refl, (refl, (refl, (refl, (refl, (refl, tt))))))));
   refreshed = (inr (inr (inl ((λ x r. absurd r.sent), inr (inr (inl ((λ x r. absurd r.sent), inr (inl two_in_time))))))), (inl ((λ x r. absurd r.sent), inr (inr (inl ((λ x r. absurd r.sent), inr (inl two_in_time))))), (inr (inr (inl ((λ x r. absurd r.sent), inr (inl two_in_time)))), (inl ((λ x r. absurd r.sent), inr (inl two_in_time)), (inr (inl two_in_time), (inl ((λ x r. absurd r.sent), inl ((λ x r. absurd r.sent), inr (inr tt))), (inl ((λ x r. absurd r.sent), inr (inr tt)), (inr (inr tt), tt))))))));
   nearly = refl;

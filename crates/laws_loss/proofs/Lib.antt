@@ -1,3 +1,4 @@
 pub mod Renewed
 pub mod Windows
 pub mod LampLaws
+pub mod LampWindows

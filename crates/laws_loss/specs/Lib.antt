@@ -1,4 +1,5 @@
 pub mod Lamp
+pub mod LampWindows
 pub mod Loss
 pub mod Pace
 pub mod Windows

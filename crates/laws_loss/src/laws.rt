@@ -6,6 +6,7 @@ ghost use Rattle.calm_rounds.specs.Hold.{Visited, Hold};
 ghost use Rattle.calm_rounds.specs.SoftStates.{KeepLaws, DueLaws, IsClosed, SaysOnly, KeepsOnly, Stands, Good, Moves};
 ghost use Rattle.laws_loss.specs.Loss.{OneOfAny, IsRefreshed};
 ghost use Rattle.laws_loss.specs.Lamp.{MeetsThePremises, LossCanKill};
+ghost use Rattle.laws_loss.specs.LampWindows.{SettlesInWindows, TakesTheWindows};
 ghost use Rattle.laws_loss.specs.Pace.{PaceLaws, Lasts};
 ghost use Rattle.laws_loss.specs.Windows.{Windows, joined};
 
@@ -18,6 +19,16 @@ pub fn what_is_refreshed_never_dies<W, S, I, K, L: Key<W, S, I, K>>()
     ensures { (m : Machine W S I K) → IsClocked m → IsStamped m → DueLaws m L.state → PaceLaws m L.state
         → (v : L.Value) (n : ℕ) (ss : List S) (w : W) → AreQuiet m ss → IsRefreshed m L.state.due L.state.track ss w
         → Moves m L.state v n → n ≤ m.made w → Fresh m n w → Visited m (Good m L.state v n) ss w → Lasts m L.state v w → Visited m (Stands m L.state v) ss w }
+{}
+
+/// The same of any number: where of any so many successive refreshes one arrives in time, and as many times 1.5 periods fit into a
+/// lifetime together with the time that a refresh may take, a value that lives until the last of them may arrive is kept.
+pub fn what_is_refreshed_often_enough_never_dies<W, S, I, K, L: Key<W, S, I, K>>()
+    ensures { (m : Machine W S I K) → IsClocked m → IsStamped m → DueLaws m L.state → PaceLaws m L.state
+        → (wait few : ℕ) → 6 * m.quarter * suc few + wait ≤ 21 * m.quarter
+        → (v : L.Value) (n : ℕ) (ss : List S) (w : W) → AreQuiet m ss → OneOfAny m L.state.due L.state.track wait (suc few) ss w
+        → Moves m L.state v n → n ≤ m.made w → Fresh m n w → Visited m (Good m L.state v n) ss w
+        → (d t : ℕ) → L.state.kept w ≡ Some (v, d) → L.state.due w ≡ Some t → t + 6 * m.quarter * few + wait ≤ d → Visited m (Stands m L.state v) ss w }
 {}
 
 /// Whatever is kept at the start, the value is kept from 5.25 refresh periods on.
@@ -59,4 +70,15 @@ pub fn a_lamp_meets_the_premises()
 /// after it was due, what is refreshed can die.
 pub fn more_loss_can_kill()
     ensures { LossCanKill }
+{}
+
+/// The lamp meets the premises of the law on two windows, with four of six refreshes lost in each, and one window is not enough.
+pub fn a_lamp_settles_in_windows()
+    ensures { SettlesInWindows }
+{}
+
+/// The mute beacon meets the premises of the laws on what dies out in windows, and what they exclude is there before one window has
+/// passed, and after one.
+pub fn a_mute_beacon_takes_the_windows()
+    ensures { TakesTheWindows }
 {}

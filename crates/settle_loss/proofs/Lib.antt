@@ -1,0 +1,5 @@
+pub mod Pace
+pub mod KnownWorlds
+pub mod SoundPaths
+pub mod LastingPaths
+pub mod WindowPaths

@@ -1,0 +1,33 @@
+//! The laws.
+ghost use Rattle.std.specs.Prelude.{◌+◌, ◌*◌, ℕ, List};
+ghost use Rattle.calm_rounds.specs.Rounds.{AreQuiet};
+ghost use Rattle.calm_rounds.specs.Hold.{Visited, Hold};
+ghost use Rattle.laws_loss.specs.Windows.{Windows, joined};
+ghost use Rattle.tree_model.specs.Ranks.{longest};
+ghost use Rattle.network_model.specs.Bounds.{AreBounds, AreHosts};
+ghost use Rattle.network_model.specs.Sound.{ArePathsComplete, ArePathsSound};
+ghost use Rattle.network_model.specs.Steps.{Step, machine};
+ghost use Rattle.network_model.specs.Worlds.{World};
+ghost use Rattle.settle_loss.specs.RefreshedPaths.{ArePathsRefreshed, DoPathsLast, IsInOrder};
+
+/// Paths never die (RFC 2205, 3.7, K = 3): in a network within bounds whose paths are sound and live until the third refresh from now
+/// on may arrive, and in which nothing else is on its way, paths are sound and complete in each world that is visited, as long as
+/// over each hop of a live sender's tree of any three successive Paths one arrives less than 0.75 periods after it was due.
+pub fn paths_never_die()
+    ensures { (q : ℕ) (w : World) (ss : List Step) → AreHosts w → AreBounds q w → ArePathsSound w → IsInOrder q w → DoPathsLast q w
+        → AreQuiet (machine q) ss → ArePathsRefreshed q ss w → Visited (machine q) (λ u. ArePathsSound u × ArePathsComplete u) ss w }
+{}
+
+/// Paths become sound in windows: in a network within bounds, 2 H + 1 windows of 5.25 refresh periods or more on, each path says what
+/// a live sender's tree says, and so does each Path in flight, whatever is lost; H is the length of the longest chain.
+pub fn paths_become_sound_in_windows()
+    ensures { (q : ℕ) (w : World) (rs : List (List Step)) → Windows (machine q) rs w → AreBounds q w → Hold (machine q) (1 + 2 * longest w.net) rs w ArePathsSound }
+{}
+
+/// Paths settle in windows: in a network within bounds, 4 H + 1 such windows on, paths are sound and complete, and stay so, whatever
+/// nodes kept and whatever was in flight, as long as over each hop of a live sender's tree of any three successive Paths one arrives
+/// less than 0.75 periods after it was due.
+pub fn paths_settle_in_windows()
+    ensures { (q : ℕ) (w : World) (rs : List (List Step)) → Windows (machine q) rs w → AreHosts w → AreBounds q w → ArePathsRefreshed q (joined rs) w
+        → Hold (machine q) ((1 + 2 * longest w.net) + 2 * longest w.net) rs w (λ u. ArePathsSound u × ArePathsComplete u) }
+{}
