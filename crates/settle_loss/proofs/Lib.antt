@@ -3,3 +3,4 @@ pub mod KnownWorlds
 pub mod SoundPaths
 pub mod LastingPaths
 pub mod WindowPaths
+pub mod Example

@@ -1,1 +1,2 @@
 pub mod RefreshedPaths
+pub mod Example

@@ -8,6 +8,7 @@ ghost use Rattle.network_model.specs.Bounds.{AreBounds, AreHosts};
 ghost use Rattle.network_model.specs.Sound.{ArePathsComplete, ArePathsSound};
 ghost use Rattle.network_model.specs.Steps.{Step, machine};
 ghost use Rattle.network_model.specs.Worlds.{World};
+ghost use Rattle.settle_loss.specs.Example.{ALossyPair};
 ghost use Rattle.settle_loss.specs.RefreshedPaths.{ArePathsRefreshed, DoPathsLast, IsInOrder};
 
 /// Paths never die (RFC 2205, 3.7, K = 3): in a network within bounds whose paths are sound and live until the third refresh from now
@@ -30,4 +31,9 @@ pub fn paths_become_sound_in_windows()
 pub fn paths_settle_in_windows()
     ensures { (q : ℕ) (w : World) (rs : List (List Step)) → Windows (machine q) rs w → AreHosts w → AreBounds q w → ArePathsRefreshed q (joined rs) w
         → Hold (machine q) ((1 + 2 * longest w.net) + 2 * longest w.net) rs w (λ u. ArePathsSound u × ArePathsComplete u) }
+{}
+
+/// A small network meets the premises of `paths_never_die` through 165 seconds in which two of three Paths are lost.
+pub fn a_pair_is_lossy()
+    ensures { ALossyPair }
 {}

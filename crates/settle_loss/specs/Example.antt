@@ -1,0 +1,40 @@
+-- The pair of nodes, whose path stands, while two of any three Paths are lost: it meets the premises of the law.
+use Rattle.std.specs.Prelude.{◌≡◌, ◌≤◌, ℕ, List, [], ◌∷◌}
+use Rattle.calm_rounds.specs.Machine.{run}
+use Rattle.calm_rounds.specs.Rounds.{AreQuiet}
+use Rattle.tree_model.specs.declared.hops.LinkHop.{LinkHop}
+use Rattle.tree_model.specs.Trees.{tree}
+use Rattle.rsvp_base.specs.Members.{In}
+use Rattle.network_model.specs.Bounds.{AreBounds, AreHosts}
+use Rattle.network_model.specs.Locals.{IsLive}
+use Rattle.network_model.specs.Sound.{ArePathsSound}
+use Rattle.network_model.specs.Steps.{Step, Piece, Deliver, Lose, machine, step}
+use Rattle.network_model.specs.ThreeRouters.{group, s1, session, first, usual}
+use Rattle.network_model.specs.Worlds.{World}
+use Rattle.laws_network.specs.Example.{pair_net, sending_world}
+use Rattle.settle_paths.specs.Sure.{forth}
+use Rattle.settle_loss.specs.RefreshedPaths.{ArePathsRefreshed, DoPathsLast, IsInOrder}
+
+-- the first Path has arrived
+abbrev pub lit_pair : World
+lit_pair = step 7500 (Deliver 0) sending_world
+
+-- 165 seconds, in which the first two refreshes are lost: the third arrives 14.463 seconds after it was due, and 37.5 before the path
+-- would die
+abbrev pub two_lost : List Step
+two_lost =
+    Piece 15000 ∷ Piece 15000 ∷ Lose 0 ∷ Piece 15000 ∷ Piece 15000 ∷ Piece 15000 ∷ Lose 0 ∷ Piece 15000 ∷ Piece 15000 ∷ Piece 15000 ∷ Deliver 0
+    ∷ Piece 15000 ∷ Piece 15000 ∷ Piece 15000 ∷ []
+
+pub record ALossyPair : Type 0 where
+  pub hosts : AreHosts lit_pair
+  pub bounds : AreBounds 7500 lit_pair
+  pub sound : ArePathsSound lit_pair
+  pub order : IsInOrder 7500 lit_pair
+  pub live : IsLive lit_pair (session, first) usual
+  pub there : In forth (tree pair_net.hops group s1)
+  pub last : DoPathsLast 7500 lit_pair
+  pub quiet : AreQuiet (machine 7500) two_lost
+  pub refreshed : ArePathsRefreshed 7500 two_lost lit_pair
+  -- in the end a lifetime has passed
+  pub long : 157500 ≤ (run (machine 7500) two_lost lit_pair).clock
