@@ -22,7 +22,7 @@ use Rattle.network_model.specs.Bounds.{AreBounds, AreHosts}
 use Rattle.network_model.specs.Links.{is_group}
 use Rattle.network_model.specs.Locals.{IsLive, senders_at, sessions_of}
 use Rattle.network_model.specs.Sound.{ArePathsSound}
-use Rattle.network_model.specs.Steps.{Step, Piece, Deliver, Lose, machine, sent}
+use Rattle.network_model.specs.Steps.{Step, Piece, Deliver, Lose, machine, sent, step}
 use Rattle.network_model.specs.ThreeRouters.{group, s1, session, first, usual}
 use Rattle.network_model.specs.Worlds.{Item, World}
 use Rattle.laws_network.specs.Example.{pair_net, sending_world}
@@ -107,8 +107,14 @@ first_of (x ∷ xs) = x.0
 abbrev third_world : World
 third_world = run (machine 7500) (Piece 15000 ∷ Piece 15000 ∷ Lose 0 ∷ Piece 15000 ∷ Piece 15000 ∷ Piece 15000 ∷ Lose 0 ∷ Piece 15000 ∷ Piece 15000 ∷ []) lit_pair
 
+later : (step 7500 (Piece 15000) third_world).clock ≡ 120000
+later = refl
+
+at_last : (run (machine 7500) two_lost lit_pair).clock ≡ 165000
+at_last = refl
+
 arrives : IsInTime (machine 7500) (λ u. due_at u (node_of pair_net.ends forth.from) key.0) (Some (path_over pair_net key forth)) (3 * 7500) (Piece 15000) (Deliver 0 ∷ Piece 15000 ∷ Piece 15000 ∷ Piece 15000 ∷ []) third_world
-arrives = record { item = first_of (sent 7500 (Piece 15000) third_world); refresh = record { sent = inl refl; goes = refl }; moment = 105537; reached = refl; arrives = inl (refl, omega arith) }
+arrives = record { item = first_of (sent 7500 (Piece 15000) third_world); refresh = record { sent = inl refl; goes = refl }; moment = 105537; reached = refl; arrives = inl (refl, omega (arith, later)) }
 
 refreshed : IsRefreshed (machine 7500) (λ u. due_at u (node_of pair_net.ends forth.from) key.0) (Some (path_over pair_net key forth)) two_lost lit_pair
 refreshed = (inl ((λ x r. absurd r.sent), inr (inr (inl ((λ x r. absurd r.sent), inl ((λ x r. absurd r.sent), inl ((λ x r. absurd r.sent), inr (inr (inl ((λ x r. absurd r.sent), inl ((λ x r. absurd r.sent), inl ((λ x r. absurd r.sent), inr (inl arrives)))))))))))), (inr (inr (inl ((λ x r. absurd r.sent), inl ((λ x r. absurd r.sent), inl ((λ x r. absurd r.sent), inr (inr (inl ((λ x r. absurd r.sent), inl ((λ x r. absurd r.sent), inl ((λ x r. absurd r.sent), inr (inl arrives))))))))))), (inl ((λ x r. absurd r.sent), inl ((λ x r. absurd r.sent), inl ((λ x r. absurd r.sent), inr (inr (inl ((λ x r. absurd r.sent), inl ((λ x r. absurd r.sent), inl ((λ x r. absurd r.sent), inr (inl arrives))))))))), (inl ((λ x r. absurd r.sent), inl ((λ x r. absurd r.sent), inr (inr (inl ((λ x r. absurd r.sent), inl ((λ x r. absurd r.sent), inl ((λ x r. absurd r.sent), inr (inl arrives)))))))), (inl ((λ x r. absurd r.sent), inr (inr (inl ((λ x r. absurd r.sent), inl ((λ x r. absurd r.sent), inl ((λ x r. absurd r.sent), inr (inl arrives))))))), (inr (inr (inl ((λ x r. absurd r.sent), inl ((λ x r. absurd r.sent), inl ((λ x r. absurd r.sent), inr (inl arrives)))))), (inl ((λ x r. absurd r.sent), inl ((λ x r. absurd r.sent), inl ((λ x r. absurd r.sent), inr (inl arrives)))), (inl ((λ x r. absurd r.sent), inl ((λ x r. absurd r.sent), inr (inl arrives))), (inl ((λ x r. absurd r.sent), inr (inl arrives)), (inr (inl arrives), (inl ((λ x r. absurd r.sent), inr (inr (inl ((λ x r. absurd r.sent), inl ((λ x r. absurd r.sent), tt))))), (inr (inr (inl ((λ x r. absurd r.sent), inl ((λ x r. absurd r.sent), tt)))), (inl ((λ x r. absurd r.sent), inl ((λ x r. absurd r.sent), tt)), (inl ((λ x r. absurd r.sent), tt), tt))))))))))))))
@@ -124,5 +130,5 @@ a_lossy_pair = record {
   last = only (λ k t h. DoesPathLast 7500 lit_pair k t h) lasts;
   quiet = (refl, (refl, (refl, (refl, (refl, (refl, (refl, (refl, (refl, (refl, (refl, (refl, (refl, (refl, tt))))))))))))));
   refreshed = only (λ k t h. IsRefreshed (machine 7500) (λ u. due_at u (node_of pair_net.ends h.from) k.0) (Some (path_over pair_net k h)) two_lost lit_pair) refreshed;
-  long = omega arith;
+  long = omega (arith, at_last);
 }

@@ -90,10 +90,8 @@ module _ (q : ℕ) (o : World) (valid : IsValid o.net) where
           subst (λ (z : Net). inward z (node_of z.ends y.end) says.path.session.group k.1.addr ≡ Some y.end) (sym a.same.net) w2 in
           let s : IsSoundAt u (says.path.session, k.1) y.end (says.path.hop.addr, v.1) = sound.items y says.path k.1 v.1 i says.spelt says.sender w3 in
           let key : ◌≡◌ {A = SenderKey} (says.path.session, k.1) k = (λ j. (says.session j, k.1)) in
-          let value : ◌≡◌ {A = PathValue} (says.path.hop.addr, v.1) v = (λ j. (sym says.hop j, v.1)) in
           let s1 : IsSoundAt u k y.end (says.path.hop.addr, v.1) = subst (λ (z : SenderKey). IsSoundAt u z y.end (says.path.hop.addr, v.1)) key s in
-          let s2 : IsSoundAt u k e (says.path.hop.addr, v.1) = subst (λ (z : ℕ). IsSoundAt u k z (says.path.hop.addr, v.1)) says.end s1 in
-          sound_back u k e v a.same (subst (λ (z : PathValue). IsSoundAt u k e z) value s2)
+          sound_back u k e v a.same (record { hop = s1.hop; there = s1.there; to = s1.to ∙ says.end; from = says.hop ∙ s1.from; live = s1.live })
 
   -- ---- so they stay sound
   pub sound_step : (s : Step) (u : World) → is_calm q s ≡ true → IsKnown q o u → ArePathsSound u → ArePathsSound (step q s u)

@@ -105,9 +105,10 @@ module _ (q : ℕ) (o : World) (valid : IsValid o.net) (locals : AreHosts o) whe
   later_ones r rs w h k t i live there =
       any_back (machine q) (λ u. due_at u (node_of o.net.ends i.from) k.0) (Some (path_over o.net k i)) (3 * q) 3 r (joined rs) w (h k t i live there)
 
-  hop_stands : (d : ℕ) (a : HopTo q o valid locals (suc d)) (rs : List (List Step)) (w : World) → Windows (machine q) rs w → AreRefreshed rs w → Hold (machine q) 0 rs w (IsSure q o d)
-      → Hold (machine q) 2 rs w (Stands (machine q) (soft_path q o a.0 a.2.to) (addr_of o.net a.2.from, a.1))
-  hop_stands d (k, t, h, live, there, deep) rs w ws refreshed sure =
+  hop_stands : (d : ℕ) (k : SenderKey) (t : TokenBucket) (h : LinkHop) (live : IsLive o k t) (there : In h (tree o.net.hops k.0.group k.1.addr))
+      (deep : depth o.net k.0.group k.1.addr (node_of o.net.ends h.to) ≤ suc d) (rs : List (List Step)) (w : World)
+      → Windows (machine q) rs w → AreRefreshed rs w → Hold (machine q) 0 rs w (IsSure q o d) → Hold (machine q) 2 rs w (Stands (machine q) (soft_path q o k h.to) (addr_of o.net h.from, t))
+  hop_stands d k t h live there deep rs w ws refreshed sure =
       let value : PathValue = (addr_of o.net h.from, t) in
       let first = (hold_start (machine q) (IsSure q o d) rs w sure).known in
       let group : is_group k.0.group ≡ true = of_group q o valid locals d k t h live there deep in
@@ -133,7 +134,7 @@ module _ (q : ℕ) (o : World) (valid : IsValid o.net) (locals : AreHosts o) whe
       hold_map (machine q) (λ u. (a : HopTo q o valid locals (suc d)) → Stands (machine q) (soft_path q o a.0 a.2.to) (addr_of o.net a.2.from, a.1) u) (IsCompleteTo o (suc d))
       (λ u g k t h live there le. g (k, t, h, live, there, le)) 2 rs w
       (hold_all (machine q) (λ (a : HopTo q o valid locals (suc d)) u. Stands (machine q) (soft_path q o a.0 a.2.to) (addr_of o.net a.2.from, a.1) u) 2 rs w
-      (λ a. hop_stands d a rs w ws refreshed sure))
+      (λ a. hop_stands d a.0 a.1 a.2 a.3 a.4 a.5 rs w ws refreshed sure))
 
   abbrev IsStarted : World → Type 0
   IsStarted u = IsKnown q o u × ArePathsSound u
