@@ -41,9 +41,11 @@ settles_in_windows = record {
   refreshed = (inr (inr (inl ((λ x r. absurd r.sent), inr (inr (inl ((λ x r. absurd r.sent), inr (inl arrives_4))))))), (inl ((λ x r. absurd r.sent), inr (inr (inl ((λ x r. absurd r.sent), inr (inl arrives_4))))), (inr (inr (inl ((λ x r. absurd r.sent), inr (inl arrives_4)))), (inl ((λ x r. absurd r.sent), inr (inl arrives_4)), (inr (inl arrives_4), (inl ((λ x r. absurd r.sent), inr (inr (inl ((λ x r. absurd r.sent), inr (inr (inl ((λ x r. absurd r.sent), inr (inl arrives_10)))))))), (inr (inr (inl ((λ x r. absurd r.sent), inr (inr (inl ((λ x r. absurd r.sent), inr (inl arrives_10))))))), (inl ((λ x r. absurd r.sent), inr (inr (inl ((λ x r. absurd r.sent), inr (inl arrives_10))))), (inr (inr (inl ((λ x r. absurd r.sent), inr (inl arrives_10)))), (inl ((λ x r. absurd r.sent), inr (inl arrives_10)), (inr (inl arrives_10), (inl ((λ x r. absurd r.sent), inl ((λ x r. absurd r.sent), inr (inr (inl ((λ x r. absurd r.sent), inr (inr (inl ((λ x r. absurd r.sent), inr (inl arrives_17))))))))), (inl ((λ x r. absurd r.sent), inr (inr (inl ((λ x r. absurd r.sent), inr (inr (inl ((λ x r. absurd r.sent), inr (inl arrives_17)))))))), (inr (inr (inl ((λ x r. absurd r.sent), inr (inr (inl ((λ x r. absurd r.sent), inr (inl arrives_17))))))), (inl ((λ x r. absurd r.sent), inr (inr (inl ((λ x r. absurd r.sent), inr (inl arrives_17))))), (inr (inr (inl ((λ x r. absurd r.sent), inr (inl arrives_17)))), (inl ((λ x r. absurd r.sent), inr (inl arrives_17)), (inr (inl arrives_17), (inl ((λ x r. absurd r.sent), inr (inr (inl ((λ x r. absurd r.sent), inr (inr (inl ((λ x r. absurd r.sent), inr (inl arrives_23)))))))), (inr (inr (inl ((λ x r. absurd r.sent), inr (inr (inl ((λ x r. absurd r.sent), inr (inl arrives_23))))))), (inl ((λ x r. absurd r.sent), inr (inr (inl ((λ x r. absurd r.sent), inr (inl arrives_23))))), (inr (inr (inl ((λ x r. absurd r.sent), inr (inl arrives_23)))), (inl ((λ x r. absurd r.sent), inr (inl arrives_23)), (inr (inl arrives_23), (inl ((λ x r. absurd r.sent), tt), tt)))))))))))))))))))))))));
   moves = moves 1;
   good = hold_map lamp (Clean 1) (Good lamp place told 1) (λ u h. good 1 u h) 0 two_windows other_world
-      (windows_always lamp (Clean 1) (λ s u q h. (sane_step s u q h.0, says_step 1 s u h.1)) two_windows other_world lamp_windows
-      (record { later = omega arith; soon = omega arith }, λ x v i le e.
-      ⊎_elim (λ (f : x ≡ record { number = 7; born = 0 }). let b : x.born ≡ 0 = ap (λ (z : Signal). z.born) f in absurd (omega (arith, b, le))) (λ (none : ⊥). absurd none) i));
+      (windows_always lamp (Clean 1) (λ s u q h. (sane_step s u q h.0, says_step 1 s u h.1)) two_windows other_world lamp_windows (
+        record { later = omega arith; soon = omega arith },
+        λ x v i le e.
+            ⊎_elim (λ (f : x ≡ record { number = 7; born = 0 }). let b : x.born ≡ 0 = ap (λ (z : Signal). z.born) f in absurd (omega (arith, b, le))) (λ (none : ⊥). absurd none) i,
+      ));
   not_in_one = λ h. other h.0.0;
 }
   where
@@ -66,10 +68,14 @@ takes_the_windows = record {
   keeps = takes_the_rounds.keeps;
   closed = takes_the_rounds.closed;
   windows = (
-    (record { silent = (refl, (refl, (refl, (refl, (refl, tt))))); long = omega arith; flushed = λ x i. absurd i },
-    (record { silent = (refl, (refl, (refl, (refl, (refl, tt))))); long = omega arith; flushed = λ x i. absurd i }, tt)),
-    (record { silent = (refl, (refl, (refl, (refl, (refl, tt))))); long = omega arith; flushed = λ x i. absurd i },
-    (record { silent = (refl, (refl, (refl, (refl, (refl, tt))))); long = omega arith; flushed = λ x i. absurd i }, tt)),
+    (
+      record { silent = (refl, (refl, (refl, (refl, (refl, tt))))); long = omega arith; flushed = λ x i. absurd i },
+      (record { silent = (refl, (refl, (refl, (refl, (refl, tt))))); long = omega arith; flushed = λ x i. absurd i }, tt),
+    ),
+    (
+      record { silent = (refl, (refl, (refl, (refl, (refl, tt))))); long = omega arith; flushed = λ x i. absurd i },
+      (record { silent = (refl, (refl, (refl, (refl, (refl, tt))))); long = omega arith; flushed = λ x i. absurd i }, tt),
+    ),
   );
   sane = ((((sane_some 0 7 21 (omega arith) (omega arith)), ((sane_some 6 7 21 (omega arith) (omega arith)), ((sane_some 12 7 21 (omega arith) (omega arith)), ((sane_some 18 7 21 (omega arith) (omega arith)), ((λ v d e. absurd (cc)), (λ v d e. absurd (cc))))))), (((λ v d e. absurd (cc)), ((λ v d e. absurd (cc)), ((λ v d e. absurd (cc)), ((λ v d e. absurd (cc)), ((λ v d e. absurd (cc)), (λ v d e. absurd (cc))))))), (λ v d e. absurd (cc)))), (((λ v d e. absurd (cc)), ((λ v d e. absurd (cc)), ((λ v d e. absurd (cc)), ((λ v d e. absurd (cc)), ((λ v d e. absurd (cc)), (sane_some 24 7 45 (omega arith) (omega arith))))))), (((sane_some 24 7 45 (omega arith) (omega arith)), ((sane_some 30 7 45 (omega arith) (omega arith)), ((sane_some 36 7 45 (omega arith) (omega arith)), ((sane_some 42 7 45 (omega arith) (omega arith)), ((λ v d e. absurd (cc)), (λ v d e. absurd (cc))))))), (λ v d e. absurd (cc)))));
   says_nothing = (((λ x v i le e. absurd i), ((λ x v i le e. absurd i), ((λ x v i le e. absurd i), ((λ x v i le e. absurd i), ((λ x v i le e. absurd i), (λ x v i le e. absurd i)))))), (((λ x v i le e. absurd i), ((λ x v i le e. absurd i), ((λ x v i le e. absurd i), ((λ x v i le e. absurd i), ((λ x v i le e. absurd i), (λ x v i le e. absurd i)))))), (λ x v i le e. absurd i)));

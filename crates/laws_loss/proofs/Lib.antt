@@ -2,3 +2,4 @@ pub mod Renewed
 pub mod Windows
 pub mod LampLaws
 pub mod LampWindows
+pub mod FourRounds

@@ -21,7 +21,7 @@ module _ {W S I K : Type 0} (m : Machine W S I K) where
   visited_append Q [] bs w v b = b
   visited_append Q (f ∷ fs) bs w v b = (v.0, visited_append Q fs bs (m.step f w) v.1 b)
 
-  quiet_append : (fs bs : List S) → AreQuiet m fs → AreQuiet m bs → AreQuiet m (fs ++ bs)
+  pub quiet_append : (fs bs : List S) → AreQuiet m fs → AreQuiet m bs → AreQuiet m (fs ++ bs)
   quiet_append [] bs q b = b
   quiet_append (f ∷ fs) bs q b = (q.0, quiet_append fs bs q.1 b)
 

@@ -9,6 +9,14 @@ abbrev pub joined : {S : Type 0} → List (List S) → List S
 joined [] = []
 joined (r ∷ rs) = r ++ joined rs
 
+-- rounds, joined four by four; up to three at the end are left out
+abbrev pub four_by_four : {S : Type 0} → List (List S) → List (List S)
+four_by_four [] = []
+four_by_four (a ∷ []) = []
+four_by_four (a ∷ b ∷ []) = []
+four_by_four (a ∷ b ∷ c ∷ []) = []
+four_by_four (a ∷ b ∷ c ∷ d ∷ rs) = (a ++ (b ++ (c ++ d))) ∷ four_by_four rs
+
 module _ {W S I K : Type 0} (m : Machine W S I K) where
   -- a window waits 5.25 refresh periods at least, and leaves nothing in flight that is older than itself
   pub record Window (ss : List S) (w : W) : Type 0 where

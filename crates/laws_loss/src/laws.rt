@@ -1,14 +1,14 @@
 //! The laws of loss.
 ghost use Rattle.std.specs.Prelude.{◌≡◌, ◌≤◌, ◌+◌, ◌*◌, ℕ, suc, List, Some};
 ghost use Rattle.calm_rounds.specs.Machine.{Machine, IsClocked, IsStamped, Fresh};
-ghost use Rattle.calm_rounds.specs.Rounds.{AreQuiet};
+ghost use Rattle.calm_rounds.specs.Rounds.{AreQuiet, Rounds};
 ghost use Rattle.calm_rounds.specs.Hold.{Visited, Hold};
 ghost use Rattle.calm_rounds.specs.SoftStates.{KeepLaws, DueLaws, IsClosed, SaysOnly, KeepsOnly, Stands, Good, Moves};
 ghost use Rattle.laws_loss.specs.Loss.{OneOfAny, IsRefreshed};
 ghost use Rattle.laws_loss.specs.Lamp.{MeetsThePremises, LossCanKill};
 ghost use Rattle.laws_loss.specs.LampWindows.{SettlesInWindows, TakesTheWindows};
 ghost use Rattle.laws_loss.specs.Pace.{PaceLaws, Lasts};
-ghost use Rattle.laws_loss.specs.Windows.{Windows, joined};
+ghost use Rattle.laws_loss.specs.Windows.{Windows, joined, four_by_four};
 
 use calm_rounds::{Claim, Key};
 
@@ -48,7 +48,14 @@ pub fn what_is_not_renewed_dies_in_one_window<W, S, I, K, L: Key<W, S, I, K>, P:
 
 /// One hop settles in windows, first half: where all that is sent from now on says only what has a property that cuts keep, two
 /// windows on what is kept has it, and what is in flight says only that.
-pub fn only_what_is_said_is_kept_in_two_windows<W, S, I, K, L: Key<W, S, I, K>, P: Claim<L::Value>>()
+pub fn only_what_is_said_is_kept_in_two_windows<
+    W,
+    S,
+    I,
+    K,
+    L: Key<W, S, I, K>,
+    P: Claim<L::Value>,
+>()
     ensures { (m : Machine W S I K) → IsClocked m → IsStamped m → KeepLaws m L.state → IsClosed L.state.below P.holds → (rs : List (List S)) (w : W) → Windows m rs w
         → Hold m 0 rs w L.state.sane → Hold m 0 rs w (SaysOnly m L.state P.holds (m.made w))
         → Hold m 2 rs w (λ u. KeepsOnly m L.state P.holds u × SaysOnly m L.state P.holds 0 u) }
@@ -59,6 +66,11 @@ pub fn only_what_is_said_is_kept_in_two_windows<W, S, I, K, L: Key<W, S, I, K>, 
 pub fn what_is_refreshed_is_kept_in_two_windows<W, S, I, K, L: Key<W, S, I, K>>()
     ensures { (m : Machine W S I K) → IsClocked m → IsStamped m → DueLaws m L.state → PaceLaws m L.state → (v : L.Value) (rs : List (List S)) (w : W) → Windows m rs w
         → IsRefreshed m L.state.due L.state.track (joined rs) w → Moves m L.state v (m.made w) → Hold m 0 rs w (Good m L.state v (m.made w)) → Hold m 2 rs w (Stands m L.state v) }
+{}
+
+/// Four calm rounds make a window, so whatever holds in windows holds in calm rounds, four for one.
+pub fn four_calm_rounds_make_a_window<W, S, I, K>()
+    ensures { (m : Machine W S I K) → IsStamped m → (rs : List (List S)) (w : W) → Rounds m rs w → Windows m (four_by_four rs) w }
 {}
 
 /// A small machine meets the premises of these laws with two of any three refreshes lost.

@@ -7,3 +7,11 @@
 #![tactic(auto)]
 
 pub mod laws;
+
+pub use laws::{
+    a_lamp_meets_the_premises, a_lamp_settles_in_windows, a_mute_beacon_takes_the_windows,
+    four_calm_rounds_make_a_window, more_loss_can_kill, only_what_is_said_is_kept_in_two_windows,
+    what_is_not_renewed_dies_in_one_window, what_is_refreshed_is_kept,
+    what_is_refreshed_is_kept_in_two_windows, what_is_refreshed_never_dies,
+    what_is_refreshed_often_enough_never_dies,
+};

@@ -1,5 +1,5 @@
 -- The pair of nodes meets the premises of the law on paths that are refreshed.
-use Rattle.std.proofs.Common.{◌≡◌, ℕ, zero, suc, ◌+◌, ◌*◌, ◌≤◌, ◌<◌, List, [], ◌∷◌, length, Bool, true, false, cond, Option, None, Some, inl, inr, ⊎_elim, arith, sym, refl, ap, subst, ◌∙◌}
+use Rattle.std.proofs.Common.{◌≡◌, ℕ, zero, suc, ◌*◌, ◌≤◌, List, [], ◌∷◌, length, Bool, true, false, cond, None, Some, inl, inr, ⊎_elim, arith, sym, refl, ap, subst, ◌∙◌}
 use Rattle.std.specs.Prelude.{slice_get, map as each}
 use Rattle.std.specs.Option.{option_map}
 use Rattle.std.specs.Ordering.{eq_by_cmp}
@@ -22,11 +22,10 @@ use Rattle.network_model.specs.Bounds.{AreBounds, AreHosts}
 use Rattle.network_model.specs.Links.{is_group}
 use Rattle.network_model.specs.Locals.{IsLive, senders_at, sessions_of}
 use Rattle.network_model.specs.Sound.{ArePathsSound}
-use Rattle.network_model.specs.Steps.{Step, Piece, Deliver, Lose, machine, sent, step}
+use Rattle.network_model.specs.Steps.{Piece, Deliver, Lose, machine, sent, step}
 use Rattle.network_model.specs.ThreeRouters.{group, s1, session, first, usual}
 use Rattle.network_model.specs.Worlds.{Item, World}
 use Rattle.laws_network.specs.Example.{pair_net, sending_world}
-use Rattle.laws_network.specs.Known.{IsKnown}
 use Rattle.laws_network.specs.Refreshes.{due_at}
 use Rattle.laws_network.specs.Rounds.{rounds_of}
 use Rattle.laws_network.proofs.Known.{of_some}
@@ -35,7 +34,7 @@ use Rattle.settle_paths.specs.Telling.{IsSure}
 use Rattle.settle_paths.proofs.Example.{a_pair_meets_the_premises}
 use Rattle.settle_paths.proofs.Sure.{a_pair_is_sure}
 use Rattle.settle_loss.specs.Example.{lit_pair, two_lost, ALossyPair}
-use Rattle.settle_loss.specs.RefreshedPaths.{path_over, ArePathsRefreshed, DoesPathLast, DoPathsLast, IsInOrder}
+use Rattle.settle_loss.specs.RefreshedPaths.{path_over, DoesPathLast}
 use Rattle.settle_loss.proofs.KnownWorlds.{known_step}
 use Rattle.settle_loss.proofs.SoundPaths.{sound_step}
 

@@ -2,7 +2,6 @@
 use Rattle.std.proofs.Common.{◌≡◌, ℕ, List, true, refl}
 use Rattle.calm_rounds.specs.Rounds.{AreQuiet}
 use Rattle.calm_rounds.specs.Hold.{Visited}
-use Rattle.calm_rounds.specs.Machine.{Machine}
 use Rattle.calm_rounds.proofs.Holding.{visited_keep}
 use Rattle.network_model.specs.Bounds.{AreBounds}
 use Rattle.network_model.specs.Steps.{Step, step, is_calm, machine}

@@ -1,11 +1,8 @@
 -- Paths never die, where of any three successive Paths over a hop one arrives in time.
-use Rattle.std.proofs.Common.{◌≡◌, ℕ, zero, suc, ◌+◌, ◌*◌, ◌≤◌, List, true, false, Option, None, Some, ◌⊎◌, inl, inr, ⊎_elim, arith, sym, refl, ap, subst, ◌∙◌}
-use Rattle.rsvp_base.specs.declared.session.Sender.{Sender}
+use Rattle.std.proofs.Common.{◌≡◌, ℕ, zero, suc, ◌*◌, ◌≤◌, List, true, ⊎_elim, arith, sym, ap, subst, ◌∙◌}
 use Rattle.rsvp_base.specs.declared.session.Session.{Session}
 use Rattle.rsvp_base.specs.Members.{In}
 use Rattle.rsvp_base.specs.TokenBucket.{TokenBucket}
-use Rattle.rsvp_messages.specs.declared.message.Message.TheVariants as message
-use Rattle.rsvp_messages.specs.declared.message.PathMsg.{PathMsg}
 use Rattle.calm_rounds.specs.Rounds.{AreQuiet}
 use Rattle.calm_rounds.specs.Hold.{Visited}
 use Rattle.calm_rounds.specs.SoftStates.{Good, Stands}
@@ -20,18 +17,16 @@ use Rattle.tree_model.specs.Trees.{tree, depth}
 use Rattle.tree_model.specs.Valid.{IsValid}
 use Rattle.tree_model.proofs.Depths.{depth_and_rank_within_longest}
 use Rattle.router_rules.specs.Facts.{SenderKey}
-use Rattle.router_rules.specs.Inputs.{Spelt}
 use Rattle.network_model.specs.Bounds.{AreBounds, AreHosts}
 use Rattle.network_model.specs.Links.{is_group}
 use Rattle.network_model.specs.Locals.{IsLive}
 use Rattle.network_model.specs.Sound.{ArePathsComplete, ArePathsSound}
 use Rattle.network_model.specs.Steps.{Step, machine}
-use Rattle.network_model.specs.Worlds.{Item, World}
+use Rattle.network_model.specs.Worlds.{World}
 use Rattle.network_model.proofs.Machines.{quiet_of, time_passes, items_are_numbered}
 use Rattle.laws_network.specs.Known.{IsKnown}
 use Rattle.settle_paths.specs.SoftPaths.{PathValue, soft_path}
-use Rattle.settle_paths.specs.Said.{IsSaidPath}
-use Rattle.settle_paths.specs.Telling.{is_letter, IsCompleteTo, IsSure}
+use Rattle.settle_paths.specs.Telling.{IsCompleteTo, IsSure}
 use Rattle.settle_paths.proofs.Letters.{IsPathLetter, IsTearLetter, letter_found}
 use Rattle.settle_paths.proofs.SaidPaths.{AreFull, full_step, IsFirm, line, good, moves, falls_due}
 use Rattle.settle_paths.proofs.CompletePaths.{AreClean, clean_step, said, of_group, HopTo, all_complete}

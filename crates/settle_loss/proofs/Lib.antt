@@ -4,3 +4,4 @@ pub mod SoundPaths
 pub mod LastingPaths
 pub mod WindowPaths
 pub mod Example
+pub mod StaleExample

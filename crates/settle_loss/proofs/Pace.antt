@@ -1,6 +1,6 @@
 -- The refresh of a session behind one at a moment is due within 1.5 periods of it.
 use Rattle.std.proofs.Common.{◌≡◌, ℕ, ◌+◌, ◌*◌, ◌<◌, ◌≤◌, true, false, Option, None, Some, ◌⊎◌, inl, inr, ⊎_elim, arith, sym, ap, ◌∙◌}
-use Rattle.std.specs.Prelude.{◌%◌, slice_get, option_and_then}
+use Rattle.std.specs.Prelude.{◌%◌, option_and_then}
 use Rattle.std.proofs.lemmas.Nat.{mod_below}
 use Rattle.rsvp_base.specs.declared.session.Session.{Session}
 use Rattle.rsvp_base.specs.Table.{get, has}
@@ -13,7 +13,7 @@ use Rattle.router_rules.specs.Steps.{is_calm, facts_then, fired_then, node_step}
 use Rattle.network_model.specs.Bounds.{AreBounds}
 use Rattle.network_model.specs.Steps.{Step, is_quiet, ms_of, input_at, outcome, still, step}
 use Rattle.network_model.specs.Worlds.{World, config_of}
-use Rattle.network_model.proofs.Quiet.{FollowsRule, input_found, outcome_quiet}
+use Rattle.network_model.proofs.Quiet.{FollowsRule, outcome_quiet}
 use Rattle.network_model.proofs.Stepping.{facts_after_made}
 use Rattle.laws_network.specs.Refreshes.{due_at, Refreshes}
 use Rattle.laws_network.proofs.Due.{due_found, due_moves}

@@ -1,26 +1,18 @@
 -- Sound paths stay sound by each quiet step.
-use Rattle.std.proofs.Common.{◌≡◌, ℕ, zero, suc, ◌<◌, ◌≤◌, length, List, true, Option, None, Some, ◌⊎◌, inl, inr, ⊎_elim, arith, sym, refl, ap, subst, ◌∙◌}
-use Rattle.std.specs.Prelude.{slice_get}
-use Rattle.rsvp_base.specs.declared.addr.Addr.{Addr}
-use Rattle.rsvp_base.specs.declared.session.Sender.{Sender}
+use Rattle.std.proofs.Common.{◌≡◌, ℕ, zero, suc, ◌<◌, ◌≤◌, length, List, true, Some, ⊎_elim, arith, sym, ap, subst, ◌∙◌}
 use Rattle.rsvp_base.specs.declared.session.Session.{Session}
 use Rattle.rsvp_base.specs.Members.{In}
-use Rattle.rsvp_base.specs.TokenBucket.{TokenBucket}
-use Rattle.rsvp_messages.specs.declared.message.Message.TheVariants as message
-use Rattle.rsvp_messages.specs.declared.message.PathMsg.{PathMsg}
 use Rattle.calm_rounds.specs.Rounds.{AreQuiet}
 use Rattle.calm_rounds.specs.Hold.{Visited}
-use Rattle.calm_rounds.specs.SoftStates.{KeepsOnly, SaysOnly}
-use Rattle.calm_rounds.proofs.Holding.{visited_map, visited_both, visited_keep}
-use Rattle.tree_model.specs.declared.hops.LinkHop.{LinkHop}
+use Rattle.calm_rounds.specs.SoftStates.{KeepsOnly}
+use Rattle.calm_rounds.proofs.Holding.{visited_keep}
 use Rattle.tree_model.specs.Goals.{addr_of}
 use Rattle.tree_model.specs.Networks.{Net, node_of, iface_of, end_at}
 use Rattle.tree_model.specs.Ranks.{longest}
-use Rattle.tree_model.specs.Trees.{tree, inward, depth}
+use Rattle.tree_model.specs.Trees.{tree, inward}
 use Rattle.tree_model.specs.Valid.{IsValid}
 use Rattle.tree_model.proofs.Ifaces.{interfaces_are_ends}
 use Rattle.router_rules.specs.Facts.{SenderKey}
-use Rattle.router_rules.specs.Inputs.{Spelt}
 use Rattle.network_model.specs.Sound.{IsSoundAt, ArePathsSound}
 use Rattle.network_model.specs.Steps.{Step, is_calm, step, machine}
 use Rattle.network_model.specs.Worlds.{Item, World}
@@ -29,7 +21,7 @@ use Rattle.laws_network.specs.Known.{IsSameNet, IsKnown}
 use Rattle.laws_network.proofs.Known.{of_some}
 use Rattle.settle_paths.specs.SoftPaths.{PathValue, path_at, by_iface, SaysPath, soft_path}
 use Rattle.settle_paths.proofs.SoftPaths.{path_found, iface_found, path_keeps}
-use Rattle.settle_paths.proofs.SoundPaths.{Spot, SoundIn, Level, no_one, says_step, AreNamed, named_step, all_sound}
+use Rattle.settle_paths.proofs.SoundPaths.{SoundIn, Level, no_one, says_step, named_step, all_sound}
 use Rattle.settle_paths.proofs.CompletePaths.{live_back}
 use Rattle.settle_loss.proofs.KnownWorlds.{known_step}
 

@@ -1,9 +1,7 @@
 -- Paths settle in windows: they become sound whatever is lost, and complete where of any three successive Paths one arrives in time.
-use Rattle.std.proofs.Common.{◌≡◌, ℕ, zero, suc, ◌+◌, ◌*◌, ◌≤◌, List, [], ◌∷◌, true, Some, arith, sym, subst}
+use Rattle.std.proofs.Common.{◌≡◌, ℕ, zero, suc, ◌+◌, ◌*◌, ◌≤◌, List, ◌∷◌, true, Some, arith, sym, subst}
 use Rattle.rsvp_base.specs.Members.{In}
 use Rattle.rsvp_base.specs.TokenBucket.{TokenBucket}
-use Rattle.rsvp_messages.specs.declared.message.Message.TheVariants as message
-use Rattle.rsvp_messages.specs.declared.message.PathMsg.{PathMsg}
 use Rattle.calm_rounds.specs.Hold.{Hold}
 use Rattle.calm_rounds.specs.Machine.{Fresh, run}
 use Rattle.calm_rounds.specs.SoftStates.{KeepsOnly, SaysOnly, Good, Stands}
@@ -18,13 +16,12 @@ use Rattle.tree_model.specs.Trees.{tree, depth}
 use Rattle.tree_model.specs.Valid.{IsValid}
 use Rattle.tree_model.proofs.Depths.{depth_and_rank_within_longest}
 use Rattle.router_rules.specs.Facts.{SenderKey}
-use Rattle.router_rules.specs.Inputs.{Spelt}
 use Rattle.network_model.specs.Bounds.{AreBounds, AreHosts}
 use Rattle.network_model.specs.Links.{is_group}
 use Rattle.network_model.specs.Locals.{IsLive}
 use Rattle.network_model.specs.Sound.{IsSoundAt, ArePathsComplete, ArePathsSound}
-use Rattle.network_model.specs.Steps.{Step, OfSender, machine}
-use Rattle.network_model.specs.Worlds.{Item, World}
+use Rattle.network_model.specs.Steps.{Step, machine}
+use Rattle.network_model.specs.Worlds.{World}
 use Rattle.network_model.proofs.Machines.{quiet_of, time_passes, items_are_numbered}
 use Rattle.laws_network.specs.Known.{IsKnown}
 use Rattle.laws_network.specs.Refreshes.{due_at}

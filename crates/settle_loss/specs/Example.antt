@@ -1,8 +1,9 @@
--- The pair of nodes, whose path stands, while two of any three Paths are lost: it meets the premises of the law.
-use Rattle.std.specs.Prelude.{◌≡◌, ◌≤◌, ℕ, List, [], ◌∷◌}
+-- The pair of nodes meets the premises of the laws: with a path that stands, while two of any three Paths are lost; and with a path
+-- that is left over, in windows.
+use Rattle.std.specs.Prelude.{◌≤◌, ℕ, List, [], ◌∷◌}
+use Rattle.laws_loss.specs.Windows.{Windows, joined, four_by_four}
 use Rattle.calm_rounds.specs.Machine.{run}
 use Rattle.calm_rounds.specs.Rounds.{AreQuiet}
-use Rattle.tree_model.specs.declared.hops.LinkHop.{LinkHop}
 use Rattle.tree_model.specs.Trees.{tree}
 use Rattle.rsvp_base.specs.Members.{In}
 use Rattle.network_model.specs.Bounds.{AreBounds, AreHosts}
@@ -12,6 +13,8 @@ use Rattle.network_model.specs.Steps.{Step, Piece, Deliver, Lose, machine, step}
 use Rattle.network_model.specs.ThreeRouters.{group, s1, session, first, usual}
 use Rattle.network_model.specs.Worlds.{World}
 use Rattle.laws_network.specs.Example.{pair_net, sending_world}
+use Rattle.laws_network.specs.Rounds.{rounds_of}
+use Rattle.settle_paths.specs.Example.{stale_world}
 use Rattle.settle_paths.specs.Sure.{forth}
 use Rattle.settle_loss.specs.RefreshedPaths.{ArePathsRefreshed, DoPathsLast, IsInOrder}
 
@@ -38,3 +41,17 @@ pub record ALossyPair : Type 0 where
   pub refreshed : ArePathsRefreshed 7500 two_lost lit_pair
   -- in the end a lifetime has passed
   pub long : 157500 ≤ (run (machine 7500) two_lost lit_pair).clock
+
+-- the windows of so many rounds of a script, by four
+abbrev pub windows_of : ℕ → List (List Step)
+windows_of k = four_by_four (rounds_of 7500 k stale_world)
+
+pub record ALeftOverPathInWindows : Type 0 where
+  pub hosts : AreHosts stale_world
+  pub bounds : AreBounds 7500 stale_world
+  -- however many windows
+  pub windows : (k : ℕ) → Windows (machine 7500) (windows_of k) stale_world
+  -- nobody sends, so each live sender's Paths arrive in time
+  pub refreshed : (k : ℕ) → ArePathsRefreshed 7500 (joined (windows_of k)) stale_world
+  -- what is promised does not hold yet
+  pub not_yet : ArePathsSound stale_world → ⊥

@@ -8,7 +8,7 @@ ghost use Rattle.network_model.specs.Bounds.{AreBounds, AreHosts};
 ghost use Rattle.network_model.specs.Sound.{ArePathsComplete, ArePathsSound};
 ghost use Rattle.network_model.specs.Steps.{Step, machine};
 ghost use Rattle.network_model.specs.Worlds.{World};
-ghost use Rattle.settle_loss.specs.Example.{ALossyPair};
+ghost use Rattle.settle_loss.specs.Example.{ALossyPair, ALeftOverPathInWindows};
 ghost use Rattle.settle_loss.specs.RefreshedPaths.{ArePathsRefreshed, DoPathsLast, IsInOrder};
 
 /// Paths never die (RFC 2205, 3.7, K = 3): in a network within bounds whose paths are sound and live until the third refresh from now
@@ -36,4 +36,10 @@ pub fn paths_settle_in_windows()
 /// A small network meets the premises of `paths_never_die` through 165 seconds in which two of three Paths are lost.
 pub fn a_pair_is_lossy()
     ensures { ALossyPair }
+{}
+
+/// A left-over path in a small network meets the premises of the laws on windows, however many there are, and at the start the path is
+/// not sound.
+pub fn a_path_is_left_over_in_windows()
+    ensures { ALeftOverPathInWindows }
 {}

@@ -6,3 +6,8 @@
 #![tactic(auto)]
 
 pub mod laws;
+
+pub use laws::{
+    a_pair_is_lossy, a_path_is_left_over_in_windows, paths_become_sound_in_windows,
+    paths_never_die, paths_settle_in_windows,
+};
