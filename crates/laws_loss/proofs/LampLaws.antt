@@ -12,7 +12,8 @@ use Rattle.calm_rounds.specs.SoftStates.{DueLaws, SaysOnly, Stands, Good, Moves}
 use Rattle.calm_rounds.proofs.Holding.{visited_map, visited_keep}
 use Rattle.laws_loss.specs.Loss.{IsInTime, IsRefreshed}
 use Rattle.laws_loss.specs.Pace.{PaceLaws}
-use Rattle.laws_loss.specs.Lamp.{LampWorld, LampStep, Pass, Arrive, Lose, flash, comes_due, after, lamp, place, IsSane, Flashes, lit_world, two_lost, three_lost, one_late, IsRun, MeetsThePremises, LossCanKill}
+use Rattle.laws_loss.specs.Lamp.{LampWorld, LampStep, Pass, Arrive, Lose, flash, comes_due, after, lamp}
+use Rattle.laws_loss.specs.Lamp.{place, IsSane, Flashes, lit_world, two_lost, three_lost, one_late, IsRun, MeetsThePremises, LossCanKill}
 use Rattle.laws_loss.proofs.Renewed.{visited_any, never_dies}
 
 first_in : (x : Signal) (xs : List Signal) → first_of xs ≡ Some x → In x xs
@@ -113,7 +114,8 @@ lives_on c v d lt = ap (λ (b : Bool). cond b (Some (v, d)) None) (lt-ltb c d lt
 pub moves : (n : ℕ) → Moves lamp place told n
 moves n = record { rests = λ s u d q g g' none e lt. rests s u d none e lt; calls = λ s u q g g' f. calls s u f; tracks = λ s u x q g g' i e. refl }
   where
-    by_signal : (u : LampWorld) (d : ℕ) → ((x : Signal) → first_of u.flight ≡ Some x → true ≡ false) → u.kept ≡ Some (told, d) → (o : Option Signal) → first_of u.flight ≡ o → taken u.clock o u.kept ≡ Some (told, d)
+    by_signal : (u : LampWorld) (d : ℕ) → ((x : Signal) → first_of u.flight ≡ Some x → true ≡ false) → u.kept ≡ Some (told, d)
+        → (o : Option Signal) → first_of u.flight ≡ o → taken u.clock o u.kept ≡ Some (told, d)
     by_signal u d none e None t = e
     by_signal u d none e (Some x) t = let no : true ≡ false = none x t in absurd (cc)
 
@@ -193,17 +195,59 @@ meets_the_premises = record {
   paced = paced;
   moves = moves 0;
   begun = is_run two_lost (refl, (refl, (refl, (refl, (refl, (refl, (refl, (refl, tt))))))));
-  refreshed = (inr (inr (inl ((λ x r. absurd r.sent), inr (inr (inl ((λ x r. absurd r.sent), inr (inl two_in_time))))))), (inl ((λ x r. absurd r.sent), inr (inr (inl ((λ x r. absurd r.sent), inr (inl two_in_time))))), (inr (inr (inl ((λ x r. absurd r.sent), inr (inl two_in_time)))), (inl ((λ x r. absurd r.sent), inr (inl two_in_time)), (inr (inl two_in_time), (inl ((λ x r. absurd r.sent), inl ((λ x r. absurd r.sent), inr (inr tt))), (inl ((λ x r. absurd r.sent), inr (inr tt)), (inr (inr tt), tt))))))));
+  refreshed = (
+    inr (inr (inl ((λ x r. absurd r.sent), inr (inr (inl ((λ x r. absurd r.sent), inr (inl two_in_time))))))),
+    (
+      inl ((λ x r. absurd r.sent), inr (inr (inl ((λ x r. absurd r.sent), inr (inl two_in_time))))),
+      (
+        inr (inr (inl ((λ x r. absurd r.sent), inr (inl two_in_time)))),
+        (
+          inl ((λ x r. absurd r.sent), inr (inl two_in_time)),
+          (inr (inl two_in_time), (inl ((λ x r. absurd r.sent), inl ((λ x r. absurd r.sent), inr (inr tt))), (inl ((λ x r. absurd r.sent), inr (inr tt)), (inr (inr tt), tt)))),
+        ),
+      ),
+    ),
+  );
   nearly = refl;
 }
 
 pub loss_can_kill : LossCanKill
 loss_can_kill = record {
   run_of_four = run_of_three;
-  one_of_four = (inr (inr (inl ((λ x r. absurd r.sent), inr (inr (inl ((λ x r. absurd r.sent), inr (inr (inl ((λ x r. absurd r.sent), inl ((λ x r. absurd r.sent), inr (inl three_in_time))))))))))), (inl ((λ x r. absurd r.sent), inr (inr (inl ((λ x r. absurd r.sent), inr (inr (inl ((λ x r. absurd r.sent), inl ((λ x r. absurd r.sent), inr (inl three_in_time))))))))), (inr (inr (inl ((λ x r. absurd r.sent), inr (inr (inl ((λ x r. absurd r.sent), inl ((λ x r. absurd r.sent), inr (inl three_in_time)))))))), (inl ((λ x r. absurd r.sent), inr (inr (inl ((λ x r. absurd r.sent), inl ((λ x r. absurd r.sent), inr (inl three_in_time)))))), (inr (inr (inl ((λ x r. absurd r.sent), inl ((λ x r. absurd r.sent), inr (inl three_in_time))))), (inl ((λ x r. absurd r.sent), inl ((λ x r. absurd r.sent), inr (inl three_in_time))), (inl ((λ x r. absurd r.sent), inr (inl three_in_time)), (inr (inl three_in_time), (inl ((λ x r. absurd r.sent), tt), tt)))))))));
+  one_of_four = (
+    inr (inr (inl ((λ x r. absurd r.sent), inr (inr (inl ((λ x r. absurd r.sent), inr (inr (inl ((λ x r. absurd r.sent), inl ((λ x r. absurd r.sent), inr (inl three_in_time))))))))))),
+    (
+      inl ((λ x r. absurd r.sent), inr (inr (inl ((λ x r. absurd r.sent), inr (inr (inl ((λ x r. absurd r.sent), inl ((λ x r. absurd r.sent), inr (inl three_in_time))))))))),
+      (
+        inr (inr (inl ((λ x r. absurd r.sent), inr (inr (inl ((λ x r. absurd r.sent), inl ((λ x r. absurd r.sent), inr (inl three_in_time)))))))),
+        (
+          inl ((λ x r. absurd r.sent), inr (inr (inl ((λ x r. absurd r.sent), inl ((λ x r. absurd r.sent), inr (inl three_in_time)))))),
+          (
+            inr (inr (inl ((λ x r. absurd r.sent), inl ((λ x r. absurd r.sent), inr (inl three_in_time))))),
+            (
+              inl ((λ x r. absurd r.sent), inl ((λ x r. absurd r.sent), inr (inl three_in_time))),
+              (inl ((λ x r. absurd r.sent), inr (inl three_in_time)), (inr (inl three_in_time), (inl ((λ x r. absurd r.sent), tt), tt))),
+            ),
+          ),
+        ),
+      ),
+    ),
+  );
   gone_of_four = refl;
   run_of_late = run_of_late;
-  one_of_late = (inr (inr (inl ((λ x r. absurd r.sent), inr (inr (inl ((λ x r. absurd r.sent), inr (inl late_in_time))))))), (inl ((λ x r. absurd r.sent), inr (inr (inl ((λ x r. absurd r.sent), inr (inl late_in_time))))), (inr (inr (inl ((λ x r. absurd r.sent), inr (inl late_in_time)))), (inl ((λ x r. absurd r.sent), inr (inl late_in_time)), (inr (inl late_in_time), (inl ((λ x r. absurd r.sent), inl ((λ x r. absurd r.sent), tt)), (inl ((λ x r. absurd r.sent), tt), tt)))))));
+  one_of_late = (
+    inr (inr (inl ((λ x r. absurd r.sent), inr (inr (inl ((λ x r. absurd r.sent), inr (inl late_in_time))))))),
+    (
+      inl ((λ x r. absurd r.sent), inr (inr (inl ((λ x r. absurd r.sent), inr (inl late_in_time))))),
+      (
+        inr (inr (inl ((λ x r. absurd r.sent), inr (inl late_in_time)))),
+        (
+          inl ((λ x r. absurd r.sent), inr (inl late_in_time)),
+          (inr (inl late_in_time), (inl ((λ x r. absurd r.sent), inl ((λ x r. absurd r.sent), tt)), (inl ((λ x r. absurd r.sent), tt), tt))),
+        ),
+      ),
+    ),
+  );
   gone_of_late = refl;
   too_few = λ h. dark (run lamp (Pass 6 ∷ Lose ∷ Pass 6 ∷ Lose ∷ Pass 6 ∷ Lose ∷ Pass 3 ∷ []) lit_world) refl (never_dark three_lost run_of_three h).1.1.1.1.1.1.1.0;
   too_late = λ h. dark (run lamp (Pass 6 ∷ Lose ∷ Pass 6 ∷ Lose ∷ Pass 6 ∷ Pass 3 ∷ []) lit_world) refl (never_dark one_late run_of_late h).1.1.1.1.1.1.0;
