@@ -87,7 +87,8 @@ sound : ArePathsSound lit_pair
 sound = sound_step 7500 sending_world a_pair_meets_the_premises.bounds.net (Deliver 0) sending_world refl first_sure.known first_sure.sound
 
 -- ---- whatever is live is the one sender, and its tree has one hop
-only : (P : SenderKey → TokenBucket → LinkHop → Type 0) → P key usual forth → (k : SenderKey) (t : TokenBucket) (h : LinkHop) → IsLive lit_pair k t → In h (tree pair_net.hops k.0.group k.1.addr) → P k t h
+only : (P : SenderKey → TokenBucket → LinkHop → Type 0) → P key usual forth
+    → (k : SenderKey) (t : TokenBucket) (h : LinkHop) → IsLive lit_pair k t → In h (tree pair_net.hops k.0.group k.1.addr) → P k t h
 only P p k t h l i =
     let is = sender_told l.node l.senders k t l.at l.sends in
     let there : In h (tree pair_net.hops group s1) = subst (λ (z : SenderKey). In h (tree pair_net.hops z.0.group z.1.addr)) is.1 i in
@@ -112,11 +113,66 @@ later = refl
 at_last : (run (machine 7500) two_lost lit_pair).clock ≡ 165000
 at_last = refl
 
-arrives : IsInTime (machine 7500) (λ u. due_at u (node_of pair_net.ends forth.from) key.0) (Some (path_over pair_net key forth)) (3 * 7500) (Piece 15000) (Deliver 0 ∷ Piece 15000 ∷ Piece 15000 ∷ Piece 15000 ∷ []) third_world
-arrives = record { item = first_of (sent 7500 (Piece 15000) third_world); refresh = record { sent = inl refl; goes = refl }; moment = 105537; reached = refl; arrives = inl (refl, omega (arith, later)) }
+arrives : IsInTime (machine 7500) (λ u. due_at u (node_of pair_net.ends forth.from) key.0) (Some (path_over pair_net key forth)) (3 * 7500)
+    (Piece 15000) (Deliver 0 ∷ Piece 15000 ∷ Piece 15000 ∷ Piece 15000 ∷ []) third_world
+arrives = record {
+  item = first_of (sent 7500 (Piece 15000) third_world);
+  refresh = record { sent = inl refl; goes = refl };
+  moment = 105537;
+  reached = refl;
+  arrives = inl (refl, omega (arith, later));
+}
 
 refreshed : IsRefreshed (machine 7500) (λ u. due_at u (node_of pair_net.ends forth.from) key.0) (Some (path_over pair_net key forth)) two_lost lit_pair
-refreshed = (inl ((λ x r. absurd r.sent), inr (inr (inl ((λ x r. absurd r.sent), inl ((λ x r. absurd r.sent), inl ((λ x r. absurd r.sent), inr (inr (inl ((λ x r. absurd r.sent), inl ((λ x r. absurd r.sent), inl ((λ x r. absurd r.sent), inr (inl arrives)))))))))))), (inr (inr (inl ((λ x r. absurd r.sent), inl ((λ x r. absurd r.sent), inl ((λ x r. absurd r.sent), inr (inr (inl ((λ x r. absurd r.sent), inl ((λ x r. absurd r.sent), inl ((λ x r. absurd r.sent), inr (inl arrives))))))))))), (inl ((λ x r. absurd r.sent), inl ((λ x r. absurd r.sent), inl ((λ x r. absurd r.sent), inr (inr (inl ((λ x r. absurd r.sent), inl ((λ x r. absurd r.sent), inl ((λ x r. absurd r.sent), inr (inl arrives))))))))), (inl ((λ x r. absurd r.sent), inl ((λ x r. absurd r.sent), inr (inr (inl ((λ x r. absurd r.sent), inl ((λ x r. absurd r.sent), inl ((λ x r. absurd r.sent), inr (inl arrives)))))))), (inl ((λ x r. absurd r.sent), inr (inr (inl ((λ x r. absurd r.sent), inl ((λ x r. absurd r.sent), inl ((λ x r. absurd r.sent), inr (inl arrives))))))), (inr (inr (inl ((λ x r. absurd r.sent), inl ((λ x r. absurd r.sent), inl ((λ x r. absurd r.sent), inr (inl arrives)))))), (inl ((λ x r. absurd r.sent), inl ((λ x r. absurd r.sent), inl ((λ x r. absurd r.sent), inr (inl arrives)))), (inl ((λ x r. absurd r.sent), inl ((λ x r. absurd r.sent), inr (inl arrives))), (inl ((λ x r. absurd r.sent), inr (inl arrives)), (inr (inl arrives), (inl ((λ x r. absurd r.sent), inr (inr (inl ((λ x r. absurd r.sent), inl ((λ x r. absurd r.sent), tt))))), (inr (inr (inl ((λ x r. absurd r.sent), inl ((λ x r. absurd r.sent), tt)))), (inl ((λ x r. absurd r.sent), inl ((λ x r. absurd r.sent), tt)), (inl ((λ x r. absurd r.sent), tt), tt))))))))))))))
+refreshed = (
+  inl (
+    (λ x r. absurd r.sent),
+    inr (inr (inl (
+      (λ x r. absurd r.sent),
+      inl ((λ x r. absurd r.sent), inl ((λ x r. absurd r.sent), inr (inr (inl ((λ x r. absurd r.sent), inl ((λ x r. absurd r.sent), inl ((λ x r. absurd r.sent), inr (inl arrives)))))))),
+    ))),
+  ),
+  (
+    inr (inr (inl (
+      (λ x r. absurd r.sent),
+      inl ((λ x r. absurd r.sent), inl ((λ x r. absurd r.sent), inr (inr (inl ((λ x r. absurd r.sent), inl ((λ x r. absurd r.sent), inl ((λ x r. absurd r.sent), inr (inl arrives)))))))),
+    ))),
+    (
+      inl (
+        (λ x r. absurd r.sent),
+        inl ((λ x r. absurd r.sent), inl ((λ x r. absurd r.sent), inr (inr (inl ((λ x r. absurd r.sent), inl ((λ x r. absurd r.sent), inl ((λ x r. absurd r.sent), inr (inl arrives)))))))),
+      ),
+      (
+        inl ((λ x r. absurd r.sent), inl ((λ x r. absurd r.sent), inr (inr (inl ((λ x r. absurd r.sent), inl ((λ x r. absurd r.sent), inl ((λ x r. absurd r.sent), inr (inl arrives)))))))),
+        (
+          inl ((λ x r. absurd r.sent), inr (inr (inl ((λ x r. absurd r.sent), inl ((λ x r. absurd r.sent), inl ((λ x r. absurd r.sent), inr (inl arrives))))))),
+          (
+            inr (inr (inl ((λ x r. absurd r.sent), inl ((λ x r. absurd r.sent), inl ((λ x r. absurd r.sent), inr (inl arrives)))))),
+            (
+              inl ((λ x r. absurd r.sent), inl ((λ x r. absurd r.sent), inl ((λ x r. absurd r.sent), inr (inl arrives)))),
+              (
+                inl ((λ x r. absurd r.sent), inl ((λ x r. absurd r.sent), inr (inl arrives))),
+                (
+                  inl ((λ x r. absurd r.sent), inr (inl arrives)),
+                  (
+                    inr (inl arrives),
+                    (
+                      inl ((λ x r. absurd r.sent), inr (inr (inl ((λ x r. absurd r.sent), inl ((λ x r. absurd r.sent), tt))))),
+                      (
+                        inr (inr (inl ((λ x r. absurd r.sent), inl ((λ x r. absurd r.sent), tt)))),
+                        (inl ((λ x r. absurd r.sent), inl ((λ x r. absurd r.sent), tt)), (inl ((λ x r. absurd r.sent), tt), tt)),
+                      ),
+                    ),
+                  ),
+                ),
+              ),
+            ),
+          ),
+        ),
+      ),
+    ),
+  ),
+)
 
 pub a_lossy_pair : ALossyPair
 a_lossy_pair = record {

@@ -36,8 +36,8 @@ use Rattle.settle_loss.proofs.Pace.{due_paces}
 use Rattle.settle_loss.proofs.SoundPaths.{sound_visited}
 
 -- the refreshes of a hop follow one another within 1.5 periods
-pub hop_paces : (q : ℕ) (o : World) (valid : IsValid o.net) (k : SenderKey) (h : LinkHop) (there : In h (tree o.net.hops k.0.group k.1.addr)) (group : is_group k.0.group ≡ true) (v : PathValue) (b : ℕ)
-    → PaceLaws (machine q) (line q o valid k h there group v b)
+pub hop_paces : (q : ℕ) (o : World) (valid : IsValid o.net) (k : SenderKey) (h : LinkHop) (there : In h (tree o.net.hops k.0.group k.1.addr)) (group : is_group k.0.group ≡ true)
+    (v : PathValue) (b : ℕ) → PaceLaws (machine q) (line q o valid k h there group v b)
 hop_paces q o valid k h there group v b = record {
   pace = λ s u t t' calm a a' e e'. due_paces q s u (node_of o.net.ends h.from) k.0 t t' (quiet_of q s calm) a.known.bounds e e';
 }
