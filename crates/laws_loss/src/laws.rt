@@ -21,8 +21,9 @@ pub fn what_is_refreshed_never_dies<W, S, I, K, L: Key<W, S, I, K>>()
         → Moves m L.state v n → n ≤ m.made w → Fresh m n w → Visited m (Good m L.state v n) ss w → Lasts m L.state v w → Visited m (Stands m L.state v) ss w }
 {}
 
-/// The same of any number: where of any so many successive refreshes one arrives in time, and as many times 1.5 periods fit into a
-/// lifetime together with the time that a refresh may take, a value that lives until the last of them may arrive is kept.
+/// As many refreshes may be lost as fit into a lifetime: where of any so many successive refreshes one arrives in time, and as many times
+/// 1.5 periods fit into a lifetime together with the time that a refresh may take, a value that lives until the last of them may arrive
+/// never dies.
 pub fn what_is_refreshed_often_enough_never_dies<W, S, I, K, L: Key<W, S, I, K>>()
     ensures { (m : Machine W S I K) → IsClocked m → IsStamped m → DueLaws m L.state → PaceLaws m L.state
         → (wait few : ℕ) → 6 * m.quarter * suc few + wait ≤ 21 * m.quarter
@@ -31,7 +32,8 @@ pub fn what_is_refreshed_often_enough_never_dies<W, S, I, K, L: Key<W, S, I, K>>
         → (d t : ℕ) → L.state.kept w ≡ Some (v, d) → L.state.due w ≡ Some t → t + 6 * m.quarter * few + wait ≤ d → Visited m (Stands m L.state v) ss w }
 {}
 
-/// Whatever is kept at the start, the value is kept from 5.25 refresh periods on.
+/// What is refreshed is kept: where of any three successive refreshes on its track one arrives less than 0.75 periods after it was due,
+/// and all that is in flight says one value, that value is kept from 5.25 refresh periods on, whatever was kept at the start.
 pub fn what_is_refreshed_is_kept<W, S, I, K, L: Key<W, S, I, K>>()
     ensures { (m : Machine W S I K) → IsClocked m → IsStamped m → DueLaws m L.state → PaceLaws m L.state
         → (v : L.Value) (n : ℕ) (ss : List S) (w : W) → AreQuiet m ss → IsRefreshed m L.state.due L.state.track ss w
@@ -68,12 +70,12 @@ pub fn what_is_refreshed_is_kept_in_two_windows<W, S, I, K, L: Key<W, S, I, K>>(
         → IsRefreshed m L.state.due L.state.track (joined rs) w → Moves m L.state v (m.made w) → Hold m 0 rs w (Good m L.state v (m.made w)) → Hold m 2 rs w (Stands m L.state v) }
 {}
 
-/// Four calm rounds make a window, so whatever holds in windows holds in calm rounds, four for one.
+/// Four calm rounds make a window, so what is promised of windows alone holds in calm rounds, four for one.
 pub fn four_calm_rounds_make_a_window<W, S, I, K>()
     ensures { (m : Machine W S I K) → IsStamped m → (rs : List (List S)) (w : W) → Rounds m rs w → Windows m (four_by_four rs) w }
 {}
 
-/// A small machine meets the premises of these laws with two of any three refreshes lost.
+/// A small machine meets the premises of `what_is_refreshed_never_dies` with two of any three refreshes lost.
 pub fn a_lamp_meets_the_premises()
     ensures { MeetsThePremises }
 {}

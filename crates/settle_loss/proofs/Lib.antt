@@ -5,3 +5,4 @@ pub mod LastingPaths
 pub mod WindowPaths
 pub mod Example
 pub mod StaleExample
+pub mod LastingResvs

@@ -35,7 +35,7 @@ use Rattle.settle_loss.specs.RefreshedPaths.{path_over, ArePathsRefreshedIn, Are
 use Rattle.settle_loss.proofs.KnownWorlds.{known_step, known_at_first}
 use Rattle.settle_loss.proofs.LastingPaths.{hop_paces}
 
-known_windows : (q : ℕ) (w : World) (rs : List (List Step)) → Windows (machine q) rs w → AreBounds q w → Hold (machine q) 0 rs w (IsKnown q w)
+pub known_windows : (q : ℕ) (w : World) (rs : List (List Step)) → Windows (machine q) rs w → AreBounds q w → Hold (machine q) 0 rs w (IsKnown q w)
 known_windows q w rs ws bounds = windows_always (machine q) (IsKnown q w) (λ s u calm a. known_step q w s u calm a) rs w ws (known_at_first q w bounds)
 
 -- ---- sound, whatever is lost

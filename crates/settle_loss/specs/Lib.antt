@@ -1,2 +1,3 @@
 pub mod RefreshedPaths
 pub mod Example
+pub mod RefreshedResvs

@@ -1,4 +1,11 @@
 //! The laws.
+ghost use Rattle.rsvp_base.specs.declared.part.Part.{Part};
+ghost use Rattle.rsvp_base.specs.Members.{In};
+ghost use Rattle.calm_rounds.specs.SoftStates.{Stands};
+ghost use Rattle.tree_model.specs.Trees.{hops_of};
+ghost use Rattle.settle_resvs.specs.Said.{HopKey, hop_over, IsSaid, resv_key};
+ghost use Rattle.settle_resvs.specs.SoftResvs.{soft_resv};
+ghost use Rattle.settle_loss.specs.RefreshedResvs.{AreResvsFull, DoesResvLast, IsResvRefreshed};
 ghost use Rattle.std.specs.Prelude.{◌+◌, ◌*◌, ℕ, List};
 ghost use Rattle.calm_rounds.specs.Rounds.{AreQuiet};
 ghost use Rattle.calm_rounds.specs.Hold.{Visited, Hold};
@@ -31,6 +38,24 @@ pub fn paths_become_sound_in_windows()
 pub fn paths_settle_in_windows()
     ensures { (q : ℕ) (w : World) (rs : List (List Step)) → Windows (machine q) rs w → AreHosts w → AreBounds q w → ArePathsRefreshed q (joined rs) w
         → Hold (machine q) ((1 + 2 * longest w.net) + 2 * longest w.net) rs w (λ u. ArePathsSound u × ArePathsComplete u) }
+{}
+
+/// A reservation over a hop never dies: where from the start each Resv of a session and style that is sent over a hop says a part, no
+/// ResvTear of them takes a name of it, what arrives is taken, the node that asks has something to ask for, and the node that keeps
+/// knows its senders, a part that is reserved and lives until the third refresh from now on may arrive is reserved in each world that
+/// is visited, as long as of any three successive Resvs over the hop one arrives less than 0.75 periods after it was due.
+pub fn a_reservation_never_dies()
+    ensures { (q : ℕ) (w : World) (k : HopKey) (v : Part) → In (hop_over k) (hops_of w.net.hops k.session.group) → (ss : List Step) → AreQuiet (machine q) ss → AreBounds q w
+        → AreResvsFull q w → DoesResvLast q w k v → IsResvRefreshed q w.net k ss w → Visited (machine q) (IsSaid q w.net k v 0) ss w
+        → Visited (machine q) (Stands (machine q) (soft_resv q w (resv_key w.net k)) v) ss w }
+{}
+
+/// One hop settles in windows, for a reservation: whatever was reserved at the start, the part that is said over the hop from then on
+/// is reserved two windows on, as long as of any three successive Resvs over the hop one arrives in time.
+pub fn said_resvs_are_kept_in_windows()
+    ensures { (q : ℕ) (w : World) (k : HopKey) (v : Part) → In (hop_over k) (hops_of w.net.hops k.session.group) → (rs : List (List Step)) → Windows (machine q) rs w
+        → AreBounds q w → IsResvRefreshed q w.net k (joined rs) w → Hold (machine q) 0 rs w (IsSaid q w.net k v w.made)
+        → Hold (machine q) 2 rs w (Stands (machine q) (soft_resv q w (resv_key w.net k)) v) }
 {}
 
 /// A small network meets the premises of `paths_never_die` through 165 seconds in which two of three Paths are lost.

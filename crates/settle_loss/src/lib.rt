@@ -8,6 +8,7 @@
 pub mod laws;
 
 pub use laws::{
-    a_pair_is_lossy, a_path_is_left_over_in_windows, paths_become_sound_in_windows,
-    paths_never_die, paths_settle_in_windows,
+    a_pair_is_lossy, a_path_is_left_over_in_windows, a_reservation_never_dies,
+    paths_become_sound_in_windows, paths_never_die, paths_settle_in_windows,
+    said_resvs_are_kept_in_windows,
 };

@@ -134,10 +134,10 @@ full_period q s u y b m quiet bounds i spelt =
     let p : NodeConfig = config_of q u.net u.trees r.node in
     (what_a_resv_sent_says.says (node_step p p u.clock (u.clock + ms_of s) r.by.input r.facts) (bounds.facts r.node r.facts r.there) r.send m r.sent r.says).period
 
-abbrev AreFull : ℕ → ℕ → World → Type 0
+abbrev pub AreFull : ℕ → ℕ → World → Type 0
 AreFull q b u = (y : Item) (m : ResvMsg) → In y u.flight → b ≤ y.born → y.arrival ≡ Spelt (message.Resv m) → m.period ≡ 4 * q
 
-full_step : (q b : ℕ) (s : Step) (u : World) → is_quiet s ≡ true → AreBounds q u → AreFull q b u → AreFull q b (step q s u)
+pub full_step : (q b : ℕ) (s : Step) (u : World) → is_quiet s ≡ true → AreBounds q u → AreFull q b u → AreFull q b (step q s u)
 full_step q b s u quiet bounds j y m i born spelt =
     ⊎_elim (λ (old : In y u.flight). j y m old born spelt)
     (λ (new : (mark : Bool) × In (y, mark) (sent q s u)). full_period q s u y new.0 m quiet bounds new.1 spelt)
@@ -174,10 +174,10 @@ module _ (q : ℕ) (o : World) (k : HopKey) (valid : IsValid o.net) (there : In 
     pub said : IsSaid q o.net k v b u
     pub full : AreFull q b u
 
-  abbrev over : Track
+  abbrev pub over : Track
   over = record { from = addr_of o.net k.from; to = k.to; session = k.session; key = OfStyle k.style }
 
-  abbrev line : SoftState World Step Item Track Part
+  abbrev pub line : SoftState World Step Item Track Part
   line = record {
     sane = IsFirm;
     kept = kept_at o.net (resv_key o.net k);
@@ -261,7 +261,7 @@ module _ (q : ℕ) (o : World) (k : HopKey) (valid : IsValid o.net) (there : In 
       (any_in (goes_back o.net over) (hop_over k) (hops_of o.net.hops k.session.group) there
       (and_made _ _ (number_same k.to k.to refl) (addr_tested (addr_of o.net k.from) (addr_of o.net k.from) refl)))
 
-  good : (u : World) → IsFirm u → Good (machine q) line v b u
+  pub good : (u : World) → IsFirm u → Good (machine q) line v b u
   good u g = record {
     sane = g;
     letters = λ y i born is. letters u g y i born is;
@@ -394,14 +394,14 @@ module _ (q : ℕ) (o : World) (k : HopKey) (valid : IsValid o.net) (there : In 
       by (Spelt m) a f = by_message m a f
       by (Unspelt g) a f = absurd (cc)
 
-  moves : Moves (machine q) line v b
+  pub moves : Moves (machine q) line v b
   moves = record {
     rests = λ s u dies calm g g' none kept later. rests s u dies (quiet_of q s calm) g.sane g'.sane none kept later;
     calls = λ s u calm g g' r. calls s u (quiet_of q s calm) g.sane g'.sane r;
     tracks = λ s u y calm g g' i e. on_track y e;
   }
 
-  falls_due : DueLaws (machine q) line
+  pub falls_due : DueLaws (machine q) line
   falls_due = record {
     moved = λ s u t t' calm a a' e e'. due_moves q s u at_from k.session t t' (quiet_of q s calm) a.known.bounds e e';
     due_room = λ u t a e. let f = due_found u at_from k.session t e in let r = (a.known.bounds.facts at_from f.0 f.1).due.moment k.session t f.2 in (r.later, r.soon);
