@@ -1,8 +1,8 @@
 //! Loss in a network: what its nodes keep where refreshes are lost as RFC 2205 allows.
 //!
 //! Where over each hop of a live sender's tree of any three successive Paths one arrives in time, paths never die, however long it
-//! goes on and however many datagrams are lost (RFC 2205, 3.7). Definitions stand in `specs/`, and each public function of `laws`
-//! has an empty body and a law as its promise.
+//! goes on and however many datagrams are lost (RFC 2205, 3.7). Neither does a reservation over a hop, where it is said there and
+//! taken. Definitions stand in `specs/`, and each public function of `laws` has an empty body and a law as its promise.
 #![tactic(auto)]
 
 pub mod laws;
