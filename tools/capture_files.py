@@ -13,6 +13,7 @@ RSVP, UDP = 46, 17  # IP protocol numbers (RFC 2205, 3.1)
 ROUTER_ALERT = 148  # RFC 2113
 UNKNOWN, INBOUND, OUTBOUND = 0, 1, 2  # as pcapng has them in the flags of a packet
 MOST_PENDING = 64  # datagrams in fragments that are waited for
+MOST_PIECE = 1 << 24  # bytes of a packet or a block, as of libpcap
 
 Captured = collections.namedtuple("Captured", "number link time data way")
 Captured.__doc__ = """A packet of a capture: its number, from 1; its link type; its time in nanoseconds; its bytes; and which way it went."""
@@ -43,6 +44,8 @@ def options_of(options, order):
 
 def taken(file, count, inside):
     """So many bytes of a file that is read as it comes; none at its end, unless it ends inside of something."""
+    if count > MOST_PIECE:
+        raise BadCapture(f"a {inside} of {count} bytes, more than {MOST_PIECE}")
     data = file.read(count)
     if len(data) < count and (data or inside):
         raise BadCapture(f"the file ends inside a {inside or 'packet'}")
@@ -70,6 +73,8 @@ def packets_of_pcapng(file, kind):
         if size < 12 + len(body):
             raise BadCapture("a block is shorter than its head")
         body += taken(file, size - 8 - len(body), "block")[:-4]
+        if len(body) < {1: 8, 6: 20}.get(kind, 0):
+            raise BadCapture("a block ends inside its head")
         if kind == 1:
             interfaces.append((struct.unpack(order + "H", body[:2])[0], units_of(body[8:], order)))
         elif kind == 6:
