@@ -1,5 +1,5 @@
 -- What a run over lines took and wrote. `Leads` says where lines lead, and `Says` what was written where a run stands there.
-use Rattle.std.specs.Prelude.{◌≡◌, ℕ, ◌≤◌, List, [], ◌∷◌, ◌++◌, length, take, Option}
+use Rattle.std.specs.Prelude.{◌≡◌, ◌⊎◌, ℕ, ◌≤◌, List, [], ◌∷◌, ◌++◌, length, take, Option}
 use Rattle.std.specs.Io.KnownBytes.{Appends, Consumes}
 use Rattle.script_words.specs.Lines.{line_number, text_lines}
 use Rattle.byte_streams.specs.Lines.{IsNear, all_bytes}
@@ -50,12 +50,18 @@ pub record EndedShort {D : Type 0} (Leads : List (List ℕ) → D → Type 0) (S
   pub count : ℕ
   pub text_is : text ≡ take count said
 
--- what some first lines wrote was written
-pub record EndedEarly {D : Type 0} (Leads : List (List ℕ) → D → Type 0) (Says : D → List ℕ → Type 0) (bytes text : List ℕ) : Type 0 where
+-- where memory ran out: C holds of the line behind those that were run
+abbrev pub HoldsOfNext : {D : Type 0} → (D → List ℕ → Type 0) → D → List (List ℕ) → Type 0
+HoldsOfNext C draft [] = ⊥
+HoldsOfNext C draft (line ∷ lines) = C draft line
+
+-- what some first lines wrote was written, and the line behind them asked for memory; or nothing was taken yet
+pub record EndedEarly {D : Type 0} (Leads : List (List ℕ) → D → Type 0) (Says : D → List ℕ → Type 0) (Asks : D → List ℕ → Type 0) (bytes taken text : List ℕ) : Type 0 where
   pub before : List (List ℕ)
   pub after : List (List ℕ)
   pub parts : text_lines bytes ≡ before ++ after
   pub ran : HasRun Leads Says before text
+  pub asked : (taken ≡ []) ⊎ HoldsOfNext Asks ran.draft after
 
 -- all lines were run, and this holds of where they lead and of the whole text
 pub record EndedDone {D : Type 0} (Leads : List (List ℕ) → D → Type 0) (Says : D → List ℕ → Type 0) (Ends : D → Type 0) (bytes taken text : List ℕ) : Type 0 where

@@ -1,5 +1,5 @@
 //! A source and a sink in memory, whose calls fail and fall short as they are told to.
-ghost use Rattle.std.specs.Prelude.{◌≡◌, ◌≤◌, ◌<◌, ◌↔◌, [], length, take, drop, Some, IfOk, OnErr, IsErr, Contains};
+ghost use Rattle.std.specs.Prelude.{◌≡◌, ◌≤◌, ◌<◌, ◌↔◌, [], length, take, drop, Some, IfOk, OnErr, OnOk, IsErr, Contains};
 ghost use Rattle.std.specs.Io.{ReadsAtMost, WritesAtMost};
 ghost use Rattle.std.specs.Io.KnownBytes.{ReadConsumes, WriteAppends};
 ghost use Rattle.byte_streams.specs.Faults.{one_more, Rose, HasCause};
@@ -68,6 +68,7 @@ impl Source for MemorySource {
         ensures bound { ReadsAtMost result buf.new }
         ensures bytes { ReadConsumes (Some self.old.left) (Some self.new.left) result buf.new }
         ensures cause { HasCause self.old.faults self.new.faults result }
+        ensures no_fault { OnOk result (self.new.faults ≡ self.old.faults) }
         ensures fails { IsErr result ↔ Contains self.old.fail (one_more self.old.calls) }
         ensures failed { OnErr result (self.new ≡ feed_after_fault self.old) }
         ensures untouched { OnErr result (buf.new ≡ buf.old) }
@@ -169,6 +170,7 @@ impl Sink for MemorySink {
         ensures bytes { WriteAppends (Some self.old.bytes) (Some self.new.bytes) result bytes.now }
         ensures nothing { IfOk result (λ n. n ≡ 0 → 0 < length bytes.now → Rose self.old.faults self.new.faults) }
         ensures cause { HasCause self.old.faults self.new.faults result }
+        ensures no_fault { IfOk result (λ n. 0 < n → self.new.faults ≡ self.old.faults) }
         ensures fails { IsErr result ↔ Contains self.old.fail (one_more self.old.calls) }
         ensures failed { OnErr result (self.new ≡ store_after_fault self.old) }
         ensures count { IfOk result (λ n. n ≡ taken_count self.old (length bytes.now)) }

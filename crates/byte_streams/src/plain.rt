@@ -1,5 +1,5 @@
 //! A source and a sink in memory that never fail.
-ghost use Rattle.std.specs.Prelude.{◌≡◌, ◌<◌, ◌+◌, length, take, drop, min, Some, None, Ok, IfOk};
+ghost use Rattle.std.specs.Prelude.{◌≡◌, ◌<◌, ◌+◌, ℕ, length, take, drop, min, Some, None, Ok, IfOk, OnOk};
 ghost use Rattle.std.specs.Io.{ReadsAtMost, WritesAtMost};
 ghost use Rattle.std.specs.Io.KnownBytes.{ReadConsumes, WriteAppends};
 ghost use Rattle.byte_streams.specs.Faults.{last_count, Rose, HasCause};
@@ -43,6 +43,7 @@ impl Source for PlainSource {
         ensures bound { ReadsAtMost result buf.new }
         ensures bytes { ReadConsumes (Some self.old) (Some self.new) result buf.new }
         ensures cause { HasCause 0 0 result }
+        ensures no_fault { OnOk result (◌≡◌ {A = ℕ} 0 0) }
         ensures count { result ≡ Ok (min (length buf.old) (length self.old)) }
         ensures given { IfOk result (λ n. take n buf.new ≡ take n self.old) }
         ensures rest { IfOk result (λ n. drop n buf.new ≡ drop n buf.old) }
@@ -95,6 +96,7 @@ impl Sink for PlainSink {
         ensures bytes { WriteAppends None None result bytes.now }
         ensures nothing { IfOk result (λ n. n ≡ 0 → 0 < length bytes.now → Rose 0 0) }
         ensures cause { HasCause 0 0 result }
+        ensures no_fault { IfOk result (λ n. 0 < n → ◌≡◌ {A = ℕ} 0 0) }
         ensures whole { result ≡ Ok (length bytes.now) }
         ensures count { self.new ≡ min (self.old + length bytes.now) last_count }
     {

@@ -1,5 +1,5 @@
 //! A reader of lines.
-ghost use Rattle.std.specs.Prelude.{◌≡◌, ◌≢◌, ◌⊎◌, ◌≤◌, ◌<◌, ◌+◌, ◌==◌, ◌++◌, ◌∷◌, [], List, ℕ, length, position, None, Some, is_some, IfOk, OnErr, drop, vec_len, vec_capacity};
+ghost use Rattle.std.specs.Prelude.{◌≡◌, ◌≢◌, ◌⊎◌, ◌≤◌, ◌<◌, ◌+◌, ◌==◌, ◌++◌, ◌∷◌, [], List, ℕ, length, position, None, Some, is_some, IfOk, OnErr, OnOk, drop, vec_len, vec_capacity};
 ghost use Rattle.std.specs.Io.KnownBytes.{Consumes, IsAtEnd, Keeps, prepend_known};
 ghost use Rattle.byte_streams.specs.Faults.{Rose};
 ghost use Rattle.byte_streams.specs.Reading.{most_bytes};
@@ -108,6 +108,8 @@ impl LineReader {
         ensures long { result ≡ NextLine.Long → self.old.ended ≡ None → IsLong 2048 (prepend_known self.old.bytes (S.left source.old)) }
         ensures end { result ≡ NextLine.End → self.old.ended ≡ None → HasNoLine (prepend_known self.old.bytes (S.left source.old)) × IsAtEnd (S.left source.new) }
         ensures fault { result ≡ NextLine.Fault → self.old.ended ≡ None → Rose (S.faults source.old) (S.faults source.new) }
+        // No fault of the source is answered as anything else.
+        ensures no_fault { result ≢ NextLine.Fault → S.faults source.new ≡ S.faults source.old }
         ensures later { S.faults source.old ≤ S.faults source.new }
         // Bytes are counted as they are taken. More than an input may have are one too many, and are found so exactly then.
         ensures counted { IsCounted (S.left source.old) (S.left source.new) self.old.taken self.new.taken }
@@ -141,6 +143,7 @@ impl LineReader {
         ensures long { result ≡ NextLine.Long → IsLong 2048 (prepend_known self.old.bytes (S.left source.old)) }
         ensures end { result ≡ NextLine.End → HasNoLine (prepend_known self.old.bytes (S.left source.old)) × IsAtEnd (S.left source.new) }
         ensures fault { result ≡ NextLine.Fault → Rose (S.faults source.old) (S.faults source.new) }
+        ensures no_fault { result ≢ NextLine.Fault → S.faults source.new ≡ S.faults source.old }
         ensures later { S.faults source.old ≤ S.faults source.new }
         ensures counted { IsCounted (S.left source.old) (S.left source.new) self.old.taken self.new.taken }
         ensures cut { Cuts (S.left source.old) (S.left source.new) self.old result self.new }
@@ -250,6 +253,7 @@ impl LineReader {
         ensures end { IfOk result (λ n. n ≡ 0 → IsAtEnd (S.left source.new) × (self.new.ended ≡ None)) }
         ensures many { IfOk result (λ n. (self.new.ended ≡ None) ⊎ ((self.new.ended ≡ Some NextLine.TooLong) × (n ≡ 1))) }
         ensures number { self.new.number ≡ self.old.number }
+        ensures no_fault { OnOk result (S.faults source.new ≡ S.faults source.old) }
         ensures failed { OnErr result ((self.new ≡ self.old) × Keeps (S.left source.old) (S.left source.new) × Rose (S.faults source.old) (S.faults source.new)) }
         ensures later { S.faults source.old ≤ S.faults source.new }
         ensures bounded { IsBounded self.new }
@@ -295,6 +299,7 @@ fn take_piece<S: Source>(
     ensures grown { IfOk result (λ n. vec_len kept.new ≡ vec_len kept.old + n) }
     ensures capacity { vec_capacity kept.old ≤ vec_capacity kept.new }
     ensures end { IfOk result (λ n. n ≡ 0 → IsAtEnd (S.left source.new)) }
+    ensures no_fault { OnOk result (S.faults source.new ≡ S.faults source.old) }
     ensures failed { OnErr result ((kept.new ≡ kept.old) × Keeps (S.left source.old) (S.left source.new) × Rose (S.faults source.old) (S.faults source.new)) }
     ensures later { S.faults source.old ≤ S.faults source.new }
 {

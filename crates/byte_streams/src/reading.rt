@@ -40,6 +40,8 @@ pub fn read_all<S: Source>(alloc: Global, source: &mut S) -> Result<Vec<u8>, Rea
     ensures stopped { IfErr result (λ e.
         (bs : List ℕ) × Consumes (S.left source.old) (S.left source.new) bs × CanEndAfter (length bs) e) }
     ensures fault { IsErrOf result ReadErr.Fault → Rose (S.faults source.old) (S.faults source.new) }
+    // No fault of the source is answered as anything else.
+    ensures no_fault { (IsErrOf result ReadErr.Fault → ⊥) → S.faults source.new ≡ S.faults source.old }
     ensures later { S.faults source.old ≤ S.faults source.new }
 {
     let mut bytes = Vec::new(alloc);
@@ -69,6 +71,7 @@ fn read_piece<S: Source>(
         (bs : List ℕ) × Consumes (S.left source.old) (S.left source.new) bs
         × CanEndAfter (length (bytes.old.items ++ bs)) e) }
     ensures fault { IsErrOf result ReadErr.Fault → Rose (S.faults source.old) (S.faults source.new) }
+    ensures no_fault { (IsErrOf result ReadErr.Fault → ⊥) → S.faults source.new ≡ S.faults source.old }
     ensures later { S.faults source.old ≤ S.faults source.new }
 {
     let room = piece.len().min(MOST_BYTES + 1 - bytes.len());

@@ -44,7 +44,7 @@ impl<R: Read> Source for StdSource<R> {
         ensures bound { ReadsAtMost result buf.new }
         ensures bytes { ReadConsumes self.old.left self.new.left result buf.new }
         ensures cause { HasCause self.old.faults self.new.faults result }
-        ensures read { OnOk result (self.new.faults ≡ self.old.faults) }
+        ensures no_fault { OnOk result (self.new.faults ≡ self.old.faults) }
         ensures failed { OnErr result (self.new.faults ≡ one_more self.old.faults) }
     {
         match self.inner.read(buf) {
@@ -93,6 +93,7 @@ impl<W: Write> Sink for StdSink<W> {
         ensures bytes { WriteAppends self.old.holds self.new.holds result bytes.now }
         ensures nothing { IfOk result (λ n. n ≡ 0 → 0 < length bytes.now → Rose self.old.faults self.new.faults) }
         ensures cause { HasCause self.old.faults self.new.faults result }
+        ensures no_fault { IfOk result (λ n. 0 < n → self.new.faults ≡ self.old.faults) }
         ensures written { IfOk result (λ n. self.new.faults
             ≡ (if n == 0 && nat_lt 0 (length bytes.now) then one_more self.old.faults else self.old.faults)) }
         ensures failed { OnErr result (self.new.faults ≡ one_more self.old.faults) }

@@ -1,5 +1,5 @@
 //! Sources and sinks of bytes.
-ghost use Rattle.std.specs.Prelude.{◌≡◌, ◌<◌, List, ℕ, length, Option, IfOk};
+ghost use Rattle.std.specs.Prelude.{◌≡◌, ◌<◌, List, ℕ, length, Option, IfOk, OnOk};
 ghost use Rattle.std.specs.Io.{ReadsAtMost, WritesAtMost};
 ghost use Rattle.std.specs.Io.KnownBytes.{ReadConsumes, WriteAppends};
 ghost use Rattle.byte_streams.specs.Faults.{Rose, HasCause};
@@ -20,11 +20,12 @@ pub trait Source {
     /// in the buffer it answers 0 only where nothing is left, and that ends the input.
     ///
     /// `Failed` comes only where the count of faults rose in this call, or stands at its last value. Nothing was
-    /// taken then.
+    /// taken then. The count does not rise in another call.
     fn take(&mut self, buf: &mut [u8]) -> Result<usize, Failed>
         ensures bound { ReadsAtMost result buf.new }
         ensures bytes { ReadConsumes (left self.old) (left self.new) result buf.new }
-        ensures cause { HasCause (faults self.old) (faults self.new) result };
+        ensures cause { HasCause (faults self.old) (faults self.new) result }
+        ensures no_fault { OnOk result (faults self.new ≡ faults self.old) };
 }
 
 /// Where bytes go.
@@ -38,10 +39,12 @@ pub trait Sink {
     /// Appends a front of these bytes, and answers its length. It answers 0 to a piece that is not empty only
     /// where the count of faults rose in this call, or stands at its last value.
     ///
-    /// `Failed` comes only where the count rose, or stands at its last value. Nothing was appended then.
+    /// `Failed` comes only where the count rose, or stands at its last value. Nothing was appended then. The count does not rise in
+    /// a call that appends some.
     fn give(&mut self, bytes: &[u8]) -> Result<usize, Failed>
         ensures bound { WritesAtMost result bytes.now }
         ensures bytes { WriteAppends (holds self.old) (holds self.new) result bytes.now }
         ensures nothing { IfOk result (λ n. n ≡ 0 → 0 < length bytes.now → Rose (faults self.old) (faults self.new)) }
-        ensures cause { HasCause (faults self.old) (faults self.new) result };
+        ensures cause { HasCause (faults self.old) (faults self.new) result }
+        ensures no_fault { IfOk result (λ n. 0 < n → faults self.new ≡ faults self.old) };
 }

@@ -1,5 +1,5 @@
 //! Writing a text whole.
-ghost use Rattle.std.specs.Prelude.{◌≤◌, ℕ, length, take, OnOk, OnErr};
+ghost use Rattle.std.specs.Prelude.{◌≡◌, ◌≤◌, ℕ, length, take, OnOk, OnErr};
 ghost use Rattle.std.specs.Io.KnownBytes.{Appends};
 ghost use Rattle.byte_streams.specs.Faults.{HasCause};
 
@@ -14,6 +14,8 @@ pub fn write_all<K: Sink>(sink: &mut K, bytes: &[u8]) -> Result<(), Failed>
     ensures stopped { OnErr result (
         (n : ℕ) × (n ≤ length bytes.now) × Appends (K.holds sink.old) (K.holds sink.new) (take n bytes.now)) }
     ensures cause { HasCause (K.faults sink.old) (K.faults sink.new) result }
+    // No fault of the sink is answered as anything else.
+    ensures no_fault { OnOk result (K.faults sink.new ≡ K.faults sink.old) }
 {
     let mut done = 0;
     while done < bytes.len() {

@@ -1,4 +1,4 @@
-use Rattle.std.proofs.Common.{◌≤◌, ◌+◌, ◌-◌, vec_len}
+use Rattle.std.proofs.Common.{◌≡◌, ◌≤◌, ◌+◌, ◌-◌, vec_len}
 use Rattle.std.specs.Io.KnownBytes.{Consumes}
 use Rattle.byte_streams.specs.Reading.{most_bytes}
 use Rattle.byte_streams.proofs.reading.read_all.Given as goal
@@ -10,6 +10,7 @@ invariant-loop-bytes g l =
       taken : Consumes (g.S.Source.left l.initial.source) (g.S.Source.left l.source) l.bytes.items;
       short : vec_len l.bytes ≤ most_bytes;
       later : g.S.Source.faults l.initial.source ≤ g.S.Source.faults l.source;
+      no_fault : g.S.Source.faults l.source ≡ g.S.Source.faults l.initial.source;
     }
 
 -- each turn takes a byte at least

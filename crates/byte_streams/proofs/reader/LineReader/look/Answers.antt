@@ -24,6 +24,7 @@ loop-self-preserved g c =
           (g.S.Source.left c.take_more.new.source) c.loop-self.self.bytes c.take_more.new.self.bytes r.0
           c.loop-self.invariant.kept r.1 (r.2 ∙ ap (λ (l : List ℕ). l ++ r.0) part.0);
       later = omega (arith, c.loop-self.invariant.later, c.take_more.ensures.later);
+      no_fault = c.in-Ok.ensures.no_fault ∙ c.loop-self.invariant.no_fault;
       counted = counted_more (g.S.Source.left c.args.source.now) (g.S.Source.left c.loop-self.source)
           (g.S.Source.left c.take_more.new.source) c.args.self.now.taken c.loop-self.self.taken c.take_more.new.self.taken r.0
           c.loop-self.invariant.counted r.1 (r.4 ∙ ap (λ n. n + length r.0) c.front.ensures.taken);

@@ -9,6 +9,7 @@ invariant-loop-self g l =
     record {
       kept : Keeps (prepend_known l.initial.self.bytes (g.S.Source.left l.initial.source)) (prepend_known l.self.bytes (g.S.Source.left l.source));
       later : g.S.Source.faults l.initial.source ≤ g.S.Source.faults l.source;
+      no_fault : g.S.Source.faults l.source ≡ g.S.Source.faults l.initial.source;
       counted : IsCounted (g.S.Source.left l.initial.source) (g.S.Source.left l.source) l.initial.self.taken l.self.taken;
       moved : (bs : List ℕ) × Consumes (g.S.Source.left l.initial.source) (g.S.Source.left l.source) bs × (l.self.taken ≡ l.initial.self.taken + length bs)
           × (l.self.bytes ≡ l.initial.self.bytes ++ bs);
