@@ -12,6 +12,8 @@ pub mod Kinds
 pub mod Names
 pub mod FirstWords
 pub mod KindLaws
+pub mod Reading
+pub mod Asking
 pub use Rattle.network_model.specs.Events
 pub use Rattle.network_model.specs.Runs
 pub use Rattle.network_model.specs.Steps

@@ -6,6 +6,7 @@
 #![tactic(auto)]
 
 mod fault;
+mod few_words;
 mod field;
 mod first_words;
 mod kind;

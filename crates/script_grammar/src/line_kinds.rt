@@ -1,6 +1,8 @@
 //! What the words of a line say.
-ghost use Rattle.std.specs.Prelude.{◌≡◌, map};
+ghost use Rattle.std.specs.Prelude.{◌≡◌, Err, map};
 ghost use Rattle.script_words.specs.Unread.{Reads};
+ghost use Rattle.script_words.specs.declared.unread.Unread.TheVariants.{NoMemory as OutOfMemory};
+ghost use Rattle.script_grammar.specs.Reading.{HasList, IsOfList, TakesToRead};
 ghost use Rattle.script_grammar.specs.LineKinds.{script_line_of, said_at_node, said_by, said_in_flight, said_left_over, said_other};
 
 mod declared;
@@ -8,7 +10,9 @@ mod happens;
 mod left_over;
 mod lists;
 
+use crate::few_words::few_words;
 use crate::line::ScriptLine;
+use arrayvec::ArrayVec;
 use declared::{end_line, hop_line, link_line, node_line, period_line, seed_line};
 use happens::{
     clear_line, copy_line, deliver_line, drop_line, flags_line, inject_line, lose_line, pass_line,
@@ -18,18 +22,28 @@ use left_over::{stale_blockade_line, stale_path_line, stale_resv_line};
 use script_words::{Unread, read_words};
 use std::alloc::Global;
 
-/// What a line says. `words` is working space: it is cleared and filled, so that lines share its memory.
+// The most words that are listed without memory.
+const MOST_FEW: usize = 9;
+
+/// What a line says. `words` is working space for a line of more than nine words: it is cleared and filled, so that lines share its
+/// memory.
 ///
-/// `Word` exactly where the words of a line, whose first byte is no `#`, are not of the form of one of the kinds.
+/// `Word` exactly where the words of a line, whose first byte is no `#`, are not of the form of one of the kinds. `NoMemory`, only of a
+/// line of more than nine words, or of a kind in which words stand for a list: memory ran out.
 pub fn read_line<'a>(
     alloc: Global,
     text: &'a [u8],
     words: &mut Vec<&'a [u8]>,
 ) -> Result<ScriptLine, Unread>
-    ensures { Reads result (script_line_of text.now) }
+    ensures said { Reads result (script_line_of text.now) }
+    ensures asked { result ≡ Err OutOfMemory → TakesToRead text.now }
 {
     if text.first() == Some(&b'#') {
         return Ok(ScriptLine::Skipped);
+    }
+    let mut few: ArrayVec<&[u8], MOST_FEW> = ArrayVec::new();
+    if few_words(text, &mut few) {
+        return said_by(alloc, few.as_slice());
     }
     read_words(text, words)?;
     said_by(alloc, words.as_slice())
@@ -38,7 +52,8 @@ pub fn read_line<'a>(
 // What these words say.
 #[tactic(auto, unfolding(crate::specs::LineKinds::said_by))]
 fn said_by(alloc: Global, words: &[&[u8]]) -> Result<ScriptLine, Unread>
-    ensures { Reads result (said_by (map (λ w. w.now) words.now)) }
+    ensures said { Reads result (said_by (map (λ w. w.now) words.now)) }
+    ensures asked { result ≡ Err OutOfMemory → HasList (map (λ w. w.now) words.now) }
 {
     let [first, behind @ ..] = words else {
         return Ok(ScriptLine::Skipped);
@@ -66,7 +81,8 @@ fn said_by(alloc: Global, words: &[&[u8]]) -> Result<ScriptLine, Unread>
 
 #[tactic(auto, unfolding(crate::specs::LineKinds::said_left_over))]
 fn said_left_over(alloc: Global, first: &[u8], behind: &[&[u8]]) -> Result<ScriptLine, Unread>
-    ensures { Reads result (said_left_over first.now (map (λ w. w.now) behind.now)) }
+    ensures said { Reads result (said_left_over first.now (map (λ w. w.now) behind.now)) }
+    ensures asked { result ≡ Err OutOfMemory → IsOfList first.now }
 {
     if first == b"stale-path".as_slice() {
         return stale_path_line(behind).ok_or(Unread::Word);
@@ -82,7 +98,8 @@ fn said_left_over(alloc: Global, first: &[u8], behind: &[&[u8]]) -> Result<Scrip
 
 #[tactic(auto, unfolding(crate::specs::LineKinds::said_at_node))]
 fn said_at_node(alloc: Global, first: &[u8], behind: &[&[u8]]) -> Result<ScriptLine, Unread>
-    ensures { Reads result (said_at_node first.now (map (λ w. w.now) behind.now)) }
+    ensures said { Reads result (said_at_node first.now (map (λ w. w.now) behind.now)) }
+    ensures asked { result ≡ Err OutOfMemory → IsOfList first.now }
 {
     if first == b"send".as_slice() {
         return send_line(behind).ok_or(Unread::Word);
@@ -104,7 +121,8 @@ fn said_at_node(alloc: Global, first: &[u8], behind: &[&[u8]]) -> Result<ScriptL
 
 #[tactic(auto, unfolding(crate::specs::LineKinds::said_in_flight))]
 fn said_in_flight(alloc: Global, first: &[u8], behind: &[&[u8]]) -> Result<ScriptLine, Unread>
-    ensures { Reads result (said_in_flight first.now (map (λ w. w.now) behind.now)) }
+    ensures said { Reads result (said_in_flight first.now (map (λ w. w.now) behind.now)) }
+    ensures asked { result ≡ Err OutOfMemory → IsOfList first.now }
 {
     if first == b"wait".as_slice() {
         return wait_line(behind).ok_or(Unread::Word);
@@ -132,7 +150,8 @@ fn said_in_flight(alloc: Global, first: &[u8], behind: &[&[u8]]) -> Result<Scrip
 
 #[tactic(auto, unfolding(crate::specs::LineKinds::said_other))]
 fn said_other(alloc: Global, first: &[u8], behind: &[&[u8]]) -> Result<ScriptLine, Unread>
-    ensures { Reads result (said_other first.now (map (λ w. w.now) behind.now)) }
+    ensures said { Reads result (said_other first.now (map (λ w. w.now) behind.now)) }
+    ensures asked { result ≡ Err OutOfMemory → IsOfList first.now }
 {
     if first == b"trace".as_slice() {
         return trace_line(behind).ok_or(Unread::Word);

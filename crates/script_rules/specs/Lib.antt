@@ -4,4 +4,4 @@ pub mod TreeRefusals
 pub mod StaleForms
 pub mod LeftRefusals
 pub mod WantForms
-pub mod Asking
+pub use Rattle.script_grammar.specs.Asking

@@ -1,5 +1,8 @@
--- Which lines ask for memory: each only where it keeps the rules that are looked at before.
+-- Which lines ask for memory: to be read, or to be added, each only where it keeps the rules that are looked at before.
+use Rattle.std.specs.Prelude.{◌≡◌, ◌⊎◌, ℕ, List, Some}
 use Rattle.std.specs.List.{All}
+use Rattle.script_grammar.specs.LineKinds.{script_line_of}
+use Rattle.script_grammar.specs.Reading.{TakesToRead}
 use Rattle.script_words.specs.Addresses.{addr_value}
 use Rattle.script_words.specs.Sessions.{session_value}
 use Rattle.script_grammar.specs.Draft.{Draft}
@@ -47,3 +50,14 @@ AsksMemory d (line.Quit l) = KeepsAll (Keeps d (line.Quit l))
 AsksMemory d (line.Inject l) = KeepsAll (Keeps d (line.Inject l))
 AsksMemory d (line.Reroute l) = CanBeLookedUp d l
 AsksMemory d _ = ⊥
+
+-- ---- by its text
+-- what the text says takes memory behind these lines
+pub record AsksToBeAdded (d : Draft) (text : List ℕ) : Type 0 where
+  pub said : ScriptLine
+  pub reads : script_line_of text ≡ Some said
+  pub asks : AsksMemory d said
+
+-- memory is asked for as the text is read, or as what it says is added to these lines
+abbrev pub AsksToBeTaken : Draft → List ℕ → Type 0
+AsksToBeTaken d text = TakesToRead text ⊎ AsksToBeAdded d text
