@@ -43,7 +43,7 @@ keeps_events d line.Flags new x = inl tt
 keeps_events d (line.Inject l) new x = inl tt
 keeps_events d (line.Reroute l) new x = inl tt
 
-not_longer : (es : List Event) (e : Event) → es ≡ es ++ e ∷ [] → ⊥
+pub not_longer : (es : List Event) (e : Event) → es ≡ es ++ e ∷ [] → ⊥
 not_longer es e same = omega (arith, ap (λ (xs : List Event). length xs) same, length-append es (e ∷ []))
 
 -- ---- a line that adds no event
@@ -79,7 +79,7 @@ quiet_run d t new said f same run = elim (quiet_line d t new f same) [
 ]
 
 -- ---- a line that adds one
-same_end : (es : List Event) (a b : Event) → es ++ a ∷ [] ≡ es ++ b ∷ [] → a ≡ b
+pub same_end : (es : List Event) (a b : Event) → es ++ a ∷ [] ≡ es ++ b ∷ [] → a ≡ b
 same_end [] a b e = cc
 same_end (x ∷ es) a b e = same_end es a b (let tail : es ++ a ∷ [] ≡ es ++ b ∷ [] = cc in tail)
 

@@ -1,5 +1,5 @@
 -- How a run ended, put together from the lines that were run and what came next.
-use Rattle.std.proofs.Common.{◌≡◌, ℕ, ◌+◌, ◌-◌, ◌^◌, ◌≤◌, min, List, [], ◌∷◌, ◌++◌, Option, length, take, refl, sym, ap, subst, ◌∙◌, arith, length-append}
+use Rattle.std.proofs.Common.{◌≡◌, ℕ, ◌+◌, ◌-◌, ◌^◌, ◌≤◌, min, List, [], ◌∷◌, ◌++◌, Option, length, take, refl, sym, ap, subst, ◌∙◌, arith, inl, inr, length-append}
 use Rattle.std.specs.Io.KnownBytes.{Appends}
 use Rattle.std.proofs.KnownBytes.{Appends-nil, Appends-trans, Consumes-nil}
 use Rattle.byte_streams.specs.Reading.{most_bytes}
@@ -56,7 +56,7 @@ module _ {P : Type 0} (stands : P → Draft → Type 0) where
     text = [];
     wrote = Appends-nil f;
     counted = omega arith;
-    ended = record { before = []; after = text_lines (all_bytes [] a); parts = refl; ran = record { draft = nothing; leads = refl; run = run_nothing } };
+    ended = record { before = []; after = text_lines (all_bytes [] a); parts = refl; ran = record { draft = nothing; leads = refl; run = run_nothing }; asked = inl refl };
   }
 
   module _ (old mid new first holds : Option (List ℕ)) (r now : Held) (player : P) (p : Progress stands old mid first holds r player) where
@@ -116,7 +116,7 @@ module _ {P : Type 0} (stands : P → Draft → Type 0) where
         pub ended_at : (stop : Stop) (number : ℕ) → number ≡ now.number → Stops stop p.draft now.line → IsRun s (ending_at stop number) old new first holds
         ended_at (stop.Bad why) number same bad = ended_so (BadLine number why) many_so (record { at = first_here (λ d t. HasFault d t why) bad; counted = numbered number same }, l.at.near)
         ended_at stop.Crowded number same crowded = ended_so Crowded many_so (first_here IsCrowdedBy crowded, l.at.near)
-        ended_at stop.NoMemory number same stops = ended_so NoMemory many_so (record { before = p.before; after = now.line ∷ l.at.after; parts = l.at.parts; ran = ran_before p.before refl })
+        ended_at stop.NoMemory number same stops = ended_so NoMemory many_so (record { before = p.before; after = now.line ∷ l.at.after; parts = l.at.parts; ran = ran_before p.before refl; asked = inr stops })
 
         pub ended_writing : (later : Option (List ℕ)) (own : List ℕ) (n : ℕ) → IsRunOn s p.draft now.line p.text own → n ≤ length own → Appends holds later (take n own)
             → IsRun s WriteFault old new first later

@@ -7,3 +7,4 @@ pub mod Adding
 pub mod Told
 pub mod Ran
 pub mod Shown
+pub mod Free

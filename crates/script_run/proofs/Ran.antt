@@ -1,5 +1,5 @@
 -- Events that were run behind a plan.
-use Rattle.std.proofs.Common.{◌≡◌, ◌≢◌, ℕ, List, [], ◌∷◌, ◌++◌, Option, None, Some, false, refl, sym, ap, subst, ◌∙◌, inl, inr}
+use Rattle.std.proofs.Common.{◌≡◌, ◌≢◌, ℕ, List, [], ◌∷◌, ◌++◌, Option, None, Some, Bool, true, false, refl, sym, ap, subst, ◌∙◌, inl, inr}
 use Rattle.std.specs.Prelude.{Result, Ok, Err}
 use Rattle.calm_rounds.specs.Machine.{run}
 use Rattle.script_grammar.specs.Events.{Event, all_steps, steps_of}
@@ -7,6 +7,7 @@ use Rattle.script_grammar.specs.Runs.{Plan, first_world, is_crowded_run, last_wo
 use Rattle.script_grammar.specs.Steps.{machine}
 use Rattle.script_grammar.specs.Worlds.{World}
 use Rattle.script_grammar.specs.Draft.{Draft, plan_of}
+use Rattle.script_grammar.specs.Asking.{AsksToBeTaken}
 use Rattle.script_grammar.specs.Grammar.{Follows, HasFault}
 use Rattle.script_grammar.specs.declared.stop.Stop.{Stop}
 use Rattle.script_grammar.specs.declared.stop.Stop.TheVariants as stop
@@ -15,10 +16,16 @@ use Rattle.stale_state.specs.declared.fact.LeftOver.{LeftOver}
 use Rattle.tree_model.specs.Networks.{Net}
 use Rattle.network_replay.specs.Agreeing.{Agrees, NetworkState}
 use Rattle.network_replay.specs.Following.{Seen}
+use Rattle.network_replay.specs.Happening.{takes_memory}
+use Rattle.network_model.specs.Happenings.{event_with}
+use Rattle.network_model.specs.declared.event.Event.{Event as CodeEvent}
+use Rattle.network_model.specs.declared.event.Event.TheVariants as event
+use Rattle.router_rules.specs.Inputs.{Arrival}
 use Rattle.network_replay.specs.Opening.{IsOpenedBy}
 use Rattle.network_replay.specs.Running.{Makes, Ran}
 use Rattle.network_replay.specs.declared.world_err.WorldErr.{WorldErr}
 use Rattle.network_replay.specs.declared.world_err.WorldErr.TheVariants.{Crowded, NoMemory}
+use Rattle.script_run.specs.Asking.{AsksToBeRun, asks_memory, to_be_taken, to_open, to_run}
 use Rattle.script_run.specs.Playing.{IsCrowdedBy, IsRunOn, StaysAt, Stops}
 use Rattle.script_run.specs.Written.{IsRunSoFar, with_event}
 use Rattle.script_run.proofs.Adding.{event_line, quiet_line, quiet_run}
@@ -30,10 +37,26 @@ use Rattle.script_run.specs.Standing.{IsAt, IsNetworkOf, RunsOn, RunsOnto, Stand
 pub fit_start : (p : Plan) (q seed : ℕ) (net : Net) (names : List (List ℕ)) (ls : List LeftOver) → IsOpenedBy p q seed net names → AreFitAll p.quarter p.net ls → AreFitAll q net ls
 fit_start p q seed net names ls o fit = subst (λ (k : ℕ). AreFitAll k net ls) o.quarter_is (subst (λ (n : Net). AreFitAll p.quarter n ls) o.net_is fit)
 
+-- the event of code asks for memory where that of the plan does
+asks_so : (p : Plan) (a : Arrival) (trace : Bool) → trace ≡ (last_world p).trace → (e : CodeEvent) → takes_memory trace e ≡ true → asks_memory p (event_with a e) ≡ true
+asks_so p a t same (event.Local node c) h = sym same ∙ h
+asks_so p a t same (event.Wait ms) h = sym same ∙ h
+asks_so p a t same (event.Pass times) h = sym same ∙ h
+asks_so p a t same (event.Deliver place) h = sym same ∙ h
+asks_so p a t same (event.Lose place) h = sym same ∙ h
+asks_so p a t same (event.Again place) h = sym same ∙ h
+asks_so p a t same (event.Clear node) h = sym same ∙ h
+asks_so p a t same (event.Rounds times) h = sym same ∙ h
+asks_so p a t same (event.Trace on) h = sym same ∙ h
+asks_so p a t same (event.Report end) h = refl
+asks_so p a t same event.Flags h = refl
+asks_so p a t same (event.Inject end dst bytes) h = sym same ∙ h
+asks_so p a t same (event.Reroute group source hops) h = refl
+
 module _ {R : Type 0} (see : Seen R) where
   ran_on : (old v : NetworkState R) (p : Plan) (e : Event) (r : Result (Unit {0}) WorldErr) (before after : List ℕ) → StandsBehind see old p → is_crowded_run p ≡ false → v.names ≡ old.names
-      → Ran see p.quarter old.names r before after v (steps_of p.quarter e (last_world p)) (last_world p) → RunsOn see p e r before after v
-  ran_on old v p e (Ok _) before after s roomy names ran =
+      → Ran see p.quarter old.names r before after v (steps_of p.quarter e (last_world p)) (last_world p) → (r ≡ Err NoMemory → asks_memory p e ≡ true) → RunsOn see p e r before after v
+  ran_on old v p e (Ok _) before after s roomy names ran asked =
       let w = last_world p in
       let steps = steps_of p.quarter e w in
       let free : is_crowded_run (with_event p e) ≡ false = crowded_by p e roomy ∙ ran.0 in
@@ -45,12 +68,14 @@ module _ {R : Type 0} (see : Seen R) where
         text_is = text_with p e roomy free ∙ ap (λ (ns : List (List ℕ)). run_text p ++ text_of p.quarter ns steps w) (sym s.names);
         stands = record { agrees = there; names = names ∙ s.names };
       }
-  ran_on old v p e (Err Crowded) before after s roomy names ran = crowded_by p e roomy ∙ ran.0
-  ran_on old v p e (Err NoMemory) before after s roomy names ran = tt
+  ran_on old v p e (Err Crowded) before after s roomy names ran asked = crowded_by p e roomy ∙ ran.0
+  ran_on old v p e (Err NoMemory) before after s roomy names ran asked = asked refl
 
-  pub runs_on : (old v : NetworkState R) (p : Plan) (e : Event) (r : Result (Unit {0}) WorldErr) (before after : List ℕ) → StandsBehind see old p → is_crowded_run p ≡ false → v.names ≡ old.names
-      → Makes see old r before after v (λ q w. steps_of q e w) → RunsOn see p e r before after v
-  runs_on old v p e r before after s roomy names made = ran_on old v p e r before after s roomy names (made p.quarter (last_world p) s.agrees)
+  pub runs_on : (old v : NetworkState R) (p : Plan) (a : Arrival) (e : CodeEvent) (r : Result (Unit {0}) WorldErr) (before after : List ℕ) → StandsBehind see old p → is_crowded_run p ≡ false
+      → v.names ≡ old.names → Makes see old r before after v (λ q w. steps_of q (event_with a e) w)
+      → (old.refused ≡ None → r ≡ Err NoMemory → takes_memory old.trace e ≡ true) → RunsOn see p (event_with a e) r before after v
+  runs_on old v p a e r before after s roomy names made only =
+      ran_on old v p (event_with a e) r before after s roomy names (made p.quarter (last_world p) s.agrees) (λ is. asks_so p a old.trace s.agrees.trace e (only s.agrees.going is))
 
   -- ---- a network that was opened
   no_steps : (p : Plan) → p.events ≡ [] → last_world p ≡ first_world p
@@ -66,14 +91,14 @@ module _ {R : Type 0} (see : Seen R) where
   pub onto : (v : NetworkState R) (p : Plan) (e : Event) (r : Result (Unit {0}) WorldErr) (before after : List ℕ) → RunsOn see p e r before after v → RunsOnto see p e r before after (Some v)
   onto v p e (Ok _) before after ran = (v, refl, ran)
   onto v p e (Err Crowded) before after ran = ran
-  onto v p e (Err NoMemory) before after ran = tt
+  onto v p e (Err NoMemory) before after ran = inr ran
 
   -- ---- a line that was not taken: what checks lines is never crowded
   pub not_taken : (old new d : Draft) (t : List ℕ) (world : Option (NetworkState R)) (why : Stop) → old ≡ d → Feeds old t (Err why) new → IsNetworkOf see world (plan_of d)
       → Stops why d t × StaysAt (λ x. IsAt see new world x) d why
   not_taken old new d t world (stop.Bad why) same fed n = (subst (λ (x : Draft). HasFault x t why) same fed.0, record { same = fed.1 ∙ same; network = n })
   not_taken old new d t world stop.Crowded same fed n = absurd fed
-  not_taken old new d t world stop.NoMemory same fed n = (tt, tt)
+  not_taken old new d t world stop.NoMemory same fed n = (to_be_taken (subst (λ (x : Draft). AsksToBeTaken x t) same fed), tt)
 
   -- ---- a line that adds no event
   still_network : (d : Draft) (t : List ℕ) (new : Draft) (world : Option (NetworkState R)) → Follows d t new → new.events ≡ d.events → IsNetworkOf see world (plan_of d)
@@ -121,3 +146,11 @@ module _ {R : Type 0} (see : Seen R) where
   pub event_crowds : (d : Draft) (t : List ℕ) (new : Draft) (world : Option (NetworkState R)) (before after : List ℕ) (e : Event) → Follows d t new → new.events ≡ d.events ++ e ∷ []
       → RunsOnto see (plan_of d) e (Err Crowded) before after world → IsCrowdedBy d t
   event_crowds d t new world before after e f added ran = record { new = new; follows = f; crowded = ap is_crowded_run (event_line d t new e f added) ∙ ran }
+
+  -- memory ran out, as the network was opened or as the event was run
+  pub event_asks : (d : Draft) (t : List ℕ) (new : Draft) (world : Option (NetworkState R)) (before after : List ℕ) (e : Event) → Follows d t new → new.events ≡ d.events ++ e ∷ []
+      → RunsOnto see (plan_of d) e (Err NoMemory) before after world → AsksToBeRun d t
+  event_asks d t new world before after e f added ran = elim ran [
+    | inl first ↦ to_open new f first (some_events d new e added)
+    | inr asks ↦ to_run new e f added asks
+  ]

@@ -7,6 +7,7 @@ use Rattle.script_grammar.specs.Grammar.{HasFault, Leads}
 use Rattle.script_grammar.specs.declared.fault.Fault.{Fault}
 use Rattle.byte_streams.specs.Lines.{IsNear, whole_lines}
 use Rattle.byte_streams.specs.Runs.{EndedDone, EndedEarly, EndedWriting, IsFirst as IsFirstOf, IsFirstBad as IsFirstBadOf, IsRun as IsRunOf}
+use Rattle.script_run.specs.Asking.{AsksToBeRun}
 use Rattle.script_run.specs.Written.{HasRun, IsRunSoFar}
 use Rattle.script_run.specs.Playing.{IsCrowdedBy}
 use Rattle.script_run.specs.declared.ending.Ending.{Ending}
@@ -27,13 +28,14 @@ abbrev pub IsFirstCrowded : List ℕ → List ℕ → Type 0
 IsFirstCrowded bytes text = IsFirst IsCrowdedBy bytes text
 
 -- A run over these bytes, which took these first ones and wrote this text, may end so. After a fault of the source exactly the
--- lines that stand whole among the bytes taken were run, and where these are too many, those in as many as an input may have.
+-- lines that stand whole among the bytes taken were run, and where these are too many, those in as many as an input may have. Memory
+-- runs out at the opening, before a byte is taken, or at a line that asks for some.
 abbrev pub EndedSo : (Draft → Type 0) → Ending → List ℕ → List ℕ → List ℕ → Type 0
 EndedSo stands Done bytes taken text = EndedDone (Leads nothing) IsRunSoFar stands bytes taken text
 EndedSo stands (BadLine number why) bytes taken text = (first : IsFirstBad number why bytes text) × IsNear taken first.at.before
 EndedSo stands ReadFault bytes taken text = HasRun (whole_lines taken) text
 EndedSo stands WriteFault bytes taken text = EndedWriting (Leads nothing) IsRunSoFar bytes taken text
-EndedSo stands NoMemory bytes taken text = EndedEarly (Leads nothing) IsRunSoFar bytes text
+EndedSo stands NoMemory bytes taken text = EndedEarly (Leads nothing) IsRunSoFar AsksToBeRun bytes taken text
 EndedSo stands Crowded bytes taken text = (first : IsFirstCrowded bytes text) × IsNear taken first.before
 EndedSo stands TooLong bytes taken text = HasRun (whole_lines (take most_bytes taken)) text
 

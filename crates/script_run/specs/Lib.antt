@@ -1,4 +1,5 @@
 pub mod Written
+pub mod Asking
 pub mod Playing
 pub mod Endings
 pub mod Laws

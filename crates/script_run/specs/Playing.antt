@@ -3,6 +3,7 @@ use Rattle.std.specs.Prelude.{◌≡◌, ℕ, true, List, ◌++◌, Result, Ok, 
 use Rattle.script_grammar.specs.Runs.{is_crowded_run}
 use Rattle.script_grammar.specs.Draft.{Draft, plan_of}
 use Rattle.script_grammar.specs.Grammar.{Follows, HasFault}
+use Rattle.script_run.specs.Asking.{AsksToBeRun}
 use Rattle.script_run.specs.Written.{IsRunSoFar}
 use Rattle.script_grammar.specs.declared.stop.Stop.{Stop}
 use Rattle.script_grammar.specs.declared.stop.Stop.TheVariants.{Bad, Crowded, NoMemory}
@@ -20,11 +21,11 @@ pub record IsCrowdedBy (draft : Draft) (line : List ℕ) : Type 0 where
   pub follows : Follows draft line new
   pub crowded : is_crowded_run (plan_of new) ≡ true
 
--- why a line is not run behind those of this draft: it has this fault, or the run is crowded by it, or memory ran out
+-- why a line is not run behind those of this draft: it has this fault, or the run is crowded by it, or it asks for memory, which ran out
 abbrev pub Stops : Stop → Draft → List ℕ → Type 0
 Stops (Bad why) draft line = HasFault draft line why
 Stops Crowded draft line = IsCrowdedBy draft line
-Stops NoMemory draft line = Unit {0}
+Stops NoMemory draft line = AsksToBeRun draft line
 
 -- behind a bad line the lines so far stay those of the draft
 abbrev pub StaysAt : (Draft → Type 0) → Draft → Stop → Type 0

@@ -1,5 +1,5 @@
 -- Networks in code that stand behind a plan: they are where its run ends.
-use Rattle.std.specs.Prelude.{◌≡◌, ◌≢◌, ℕ, true, false, List, [], ◌++◌, Option, None, Some, Result, Ok, Err}
+use Rattle.std.specs.Prelude.{◌≡◌, ◌≢◌, ◌⊎◌, ℕ, true, false, List, [], ◌++◌, Option, None, Some, Result, Ok, Err}
 use Rattle.script_grammar.specs.Events.{Event}
 use Rattle.script_grammar.specs.Runs.{Plan, is_crowded_run, last_world, run_text}
 use Rattle.script_grammar.specs.Draft.{Draft, plan_of}
@@ -7,6 +7,7 @@ use Rattle.network_replay.specs.Agreeing.{Agrees, NetworkState}
 use Rattle.network_replay.specs.Following.{Seen}
 use Rattle.network_replay.specs.declared.world_err.WorldErr.{WorldErr}
 use Rattle.network_replay.specs.declared.world_err.WorldErr.TheVariants.{Crowded, NoMemory}
+use Rattle.script_run.specs.Asking.{asks_memory}
 use Rattle.script_run.specs.Written.{with_event}
 
 module _ {R : Type 0} (see : Seen R) where
@@ -33,14 +34,14 @@ module _ {R : Type 0} (see : Seen R) where
     pub text_is : run_text (with_event p e) ≡ run_text p ++ own
     pub stands : StandsBehind v (with_event p e)
 
-  -- or the run is crowded by it, or memory ran out
+  -- or the run is crowded by it, or it asks for memory, which ran out
   abbrev pub RunsOn : Plan → Event → Result (Unit {0}) WorldErr → List ℕ → List ℕ → NetworkState R → Type 0
   RunsOn p e (Ok _) before after v = HasRunOn p e before after v
   RunsOn p e (Err Crowded) before after v = is_crowded_run (with_event p e) ≡ true
-  RunsOn p e (Err NoMemory) before after v = Unit {0}
+  RunsOn p e (Err NoMemory) before after v = asks_memory p e ≡ true
 
-  -- the same of a network that may have been opened for it
+  -- the same of a network that may have been opened for it, which asks for memory
   abbrev pub RunsOnto : Plan → Event → Result (Unit {0}) WorldErr → List ℕ → List ℕ → Option (NetworkState R) → Type 0
   RunsOnto p e (Ok _) before after world = (v : NetworkState R) × (world ≡ Some v) × HasRunOn p e before after v
   RunsOnto p e (Err Crowded) before after world = is_crowded_run (with_event p e) ≡ true
-  RunsOnto p e (Err NoMemory) before after world = Unit {0}
+  RunsOnto p e (Err NoMemory) before after world = (p.events ≡ []) ⊎ (asks_memory p e ≡ true)

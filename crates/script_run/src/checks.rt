@@ -27,7 +27,8 @@ pub struct Start {
 /// What checks the lines of a script, one after another.
 pub trait Checks: LinesBefore {
     /// Takes a line, and gives its event if it is one of part 3. `Bad`: exactly where the line cannot follow those before,
-    /// which stay the lines so far. `NoMemory`: memory ran out, and nothing more may be fed. It is never `Crowded`.
+    /// which stay the lines so far. `NoMemory`, only where the line asks for memory to be read or added: it ran out, and nothing more
+    /// may be fed. It is never `Crowded`.
     fn feed(&mut self, line: &[u8]) -> Result<Option<Event>, Stop>
         requires { length line.now ≤ 2048 }
         ensures { Feeds (Self.lines self.old) line.now result (Self.lines self.new) };

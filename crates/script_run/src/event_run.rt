@@ -11,8 +11,8 @@ use network_model::Event;
 use network_replay::{Router, Watch, World, WorldErr};
 
 /// Runs an event on a network that stands behind a plan, and appends what it writes: the network stands behind the plan with the
-/// event then. `watch` sees what happens. `Crowded`: exactly where the run of that plan is crowded. `NoMemory`: memory
-/// ran out.
+/// event then. `watch` sees what happens. `Crowded`: exactly where the run of that plan is crowded. `NoMemory`, only where the event
+/// asks for memory behind that plan: it ran out.
 #[tactic(auto, using(crate::proofs::Ran::runs_on))]
 pub fn run_event<R: Router + Drop, W: Watch>(
     world: &mut World<R>,

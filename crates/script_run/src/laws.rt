@@ -1,5 +1,5 @@
 //! Laws of runs that go line by line.
-ghost use Rattle.script_run.specs.Laws.{ABadLineIsFirst, AScriptIsRun, OneEnding, OnlyScriptsAreDone};
+ghost use Rattle.script_run.specs.Laws.{ABadLineIsFirst, AScriptIsRun, FreeLinesAskForNoMemory, OneEnding, OnlyScriptsAreDone};
 
 /// Over the same bytes, runs that end neither by a fault of a device nor out of memory come to one ending and one text.
 #[tactic(auto, using(crate::proofs::Coming::one_ending))]
@@ -23,4 +23,10 @@ pub fn only_scripts_are_done()
 #[tactic(auto, using(crate::proofs::Spoken::a_bad_line_is_first))]
 pub fn a_bad_line_is_first()
     ensures { ABadLineIsFirst }
+{}
+
+/// A line of `wait`, `pass`, `rounds`, `deliver`, `lose`, `copy` or `clear` asks for no memory behind the first event, while the trace
+/// is off.
+pub fn free_lines_ask_for_no_memory()
+    ensures { FreeLinesAskForNoMemory }
 {}

@@ -17,7 +17,8 @@ pub trait Player {
     /// Checks a line, and where it is one of an event runs it and appends the event's text. `watch` sees all that happens.
     ///
     /// `Bad`: exactly where the line cannot follow those before, which stay the lines so far. `Crowded`: exactly where the run is
-    /// crowded by it, and no more lines may be played. `NoMemory`: memory ran out, and no more lines may be played.
+    /// crowded by it, and no more lines may be played. `NoMemory`, only where the line asks for memory: it ran out, and no more lines
+    /// may be played.
     fn play<W: Watch>(&mut self, line: &[u8], watch: &mut W, out: &mut Vec<u8>) -> Result<(), Stop>
         requires { length line.now ≤ 2048 }
         ensures { (d : Draft) (said : List ℕ) → stands self.old d → IsRunSoFar d said

@@ -1,5 +1,5 @@
 //! Lines are read, checked, run and written, one after the other.
-ghost use Rattle.std.specs.Prelude.{◌≡◌, ◌≤◌, [], List, ℕ, Some, length};
+ghost use Rattle.std.specs.Prelude.{◌≡◌, ◌≢◌, ◌≤◌, [], List, ℕ, Some, length};
 ghost use Rattle.byte_streams.specs.Reading.{most_bytes};
 ghost use Rattle.byte_streams.specs.Faults.{Rose};
 ghost use Rattle.script_grammar.specs.Draft.{Draft, nothing, plan_of};
@@ -24,7 +24,8 @@ use std::alloc::Global;
 /// the run is done, all that there is to be seen of its lines was shown, in order, and nothing else.
 ///
 /// At one line these come in this order: `ReadFault` or `TooLong` while it is read, then `BadLine`, then `Crowded`, then
-/// `WriteFault`. `NoMemory`: memory ran out. A line of more than 2,048 bytes is bad as soon as so many of it were taken.
+/// `WriteFault`. `NoMemory`: memory ran out, before a byte was taken or at a line that asks for memory. A line of more than 2,048
+/// bytes is bad as soon as so many of it were taken.
 ///
 /// `advice` becomes the text that tells what is wrong with the bad line, or by which line the run is crowded; else, or where memory
 /// runs out as it is written, it is empty.
@@ -41,6 +42,9 @@ pub fn run_lines<P: Player, S: Source, K: Sink, W: Watch>(
         (S.left source.old) (S.left source.new) (K.holds sink.old) (K.holds sink.new) }
     ensures read_fault { result ≡ Ending.ReadFault → Rose (S.faults source.old) (S.faults source.new) }
     ensures write_fault { result ≡ Ending.WriteFault → Rose (K.faults sink.old) (K.faults sink.new) }
+    // No fault of the source or of the sink is answered as anything else.
+    ensures no_read_fault { result ≢ Ending.ReadFault → S.faults source.new ≡ S.faults source.old }
+    ensures no_write_fault { result ≢ Ending.WriteFault → K.faults sink.new ≡ K.faults sink.old }
     // Over known input: what is wrong with the bad line is told, or by which line the run is crowded.
     ensures advised { (bytes : List ℕ) → S.left source.old ≡ Some bytes → IsAdvised result bytes advice.new.items }
     // Nothing else ends a run over known input and devices that do not fail.
@@ -63,7 +67,9 @@ fn run_to_end<P: Player, S: Source, K: Sink, W: Watch>(
     ensures run { IsRun (λ d. P.stands player.new d × Shows W.saw watch.old watch.new (script_sights (plan_of d))) result
         (S.left source.old) (S.left source.new) (K.holds sink.old) (K.holds sink.new) }
     ensures read_fault { result ≡ Ending.ReadFault → Rose (S.faults source.old) (S.faults source.new) }
+    ensures no_read_fault { result ≢ Ending.ReadFault → S.faults source.new ≡ S.faults source.old }
     ensures write_fault { result ≡ Ending.WriteFault → Rose (K.faults sink.old) (K.faults sink.new) }
+    ensures no_write_fault { result ≢ Ending.WriteFault → K.faults sink.new ≡ K.faults sink.old }
     ensures advised { (bytes : List ℕ) → S.left source.old ≡ Some bytes → IsAdvised result bytes advice.new.items }
 {
     advice.clear();

@@ -1,5 +1,5 @@
 //! The player of the lines of a script.
-ghost use Rattle.std.specs.Prelude.{◌≡◌, ◌≤◌, ◌∷◌, [], false, length, List, ℕ, None, Some, IfErr, IfOk};
+ghost use Rattle.std.specs.Prelude.{◌≡◌, ◌≤◌, ◌∷◌, [], false, length, List, ℕ, None, Some, IfErr, IfOk, OnErr};
 ghost use Rattle.script_grammar.specs.Events.{Event as AnEvent};
 ghost use Rattle.script_grammar.specs.Runs.{Plan, is_crowded_run, last_world};
 ghost use Rattle.router_rules.specs.Inputs.{Arrival};
@@ -143,7 +143,8 @@ fn network_of<C: Checks + Drop, R: Opens>(
     checker: &C,
     world: Option<World<R>>,
 ) -> Result<World<R>, NoMemory>
-    ensures { IfOk result (λ v. (p : Plan) (e : AnEvent) → IsNetworkOf R.seen world p → plan_of (C.lines checker.now) ≡ with_event p e → StandsBehind R.seen v p) }
+    ensures stands { IfOk result (λ v. (p : Plan) (e : AnEvent) → IsNetworkOf R.seen world p → plan_of (C.lines checker.now) ≡ with_event p e → StandsBehind R.seen v p) }
+    ensures opened { OnErr result (world ≡ None) }
 {
     match world {
         Some(world) => Ok(world),

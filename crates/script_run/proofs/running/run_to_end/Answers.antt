@@ -20,6 +20,8 @@ loop-advice-init g c = record {
   played = at_start (BothStand g.P.Player.stands g.W.Watch.saw c.args.watch.now) (g.S.Source.left c.args.source.now) (g.K.Sink.holds c.args.sink.now) c.in-Ok.reader
       (c.args.player.now, c.args.watch.now) c.in-Ok.ensures (c.requires.first, nothing_shown g.W.Watch.saw c.args.watch.now);
   read = omega arith;
+  no_read_fault = refl;
+  no_write_fault = refl;
   written = omega arith;
   quiet = c.clear.ensures.items;
 }
@@ -144,6 +146,8 @@ loop-advice-preserved g c =
     record {
       played = one_more stands old mid new first holds r now (c.loop-advice.player, c.loop-advice.watch) p l (c.play.new.self, c.play.new.watch) later own on (subst (λ t. Appends holds later t) all c.in-Ok-write_all.ensures.written);
       read = omega (arith, c.loop-advice.invariant.read, c.next.ensures.later);
+      no_read_fault = e.no_fault (λ x. cc) ∙ c.loop-advice.invariant.no_read_fault;
+      no_write_fault = c.in-Ok-write_all.ensures.no_fault ∙ c.loop-advice.invariant.no_write_fault;
       written = omega (arith, c.loop-advice.invariant.written, c.write_all.ensures.cause.later);
       quiet = c.loop-advice.invariant.quiet;
     }

@@ -11,6 +11,8 @@ invariant-loop-advice g l =
       played : Progress (BothStand g.P.Player.stands g.W.Watch.saw l.initial.watch) (g.S.Source.left l.initial.source) (g.S.Source.left l.source) (g.K.Sink.holds l.initial.sink)
           (g.K.Sink.holds l.sink) l.reader (l.player, l.watch);
       read : g.S.Source.faults l.initial.source ≤ g.S.Source.faults l.source;
+      no_read_fault : g.S.Source.faults l.source ≡ g.S.Source.faults l.initial.source;
+      no_write_fault : g.K.Sink.faults l.sink ≡ g.K.Sink.faults l.initial.sink;
       written : g.K.Sink.faults l.initial.sink ≤ g.K.Sink.faults l.sink;
       quiet : l.advice.items ≡ [];
     }

@@ -1,4 +1,4 @@
-use Rattle.std.proofs.Common.{sym, subst}
+use Rattle.std.proofs.Common.{inl, sym, subst}
 use Rattle.calm_rounds.specs.Machine.{run}
 use Rattle.network_model.specs.Happenings.{event_with}
 use Rattle.network_replay.specs.Agreeing.{Agrees}
@@ -16,7 +16,7 @@ returns-clause-runs g c = λ p a read network plan roomy.
     let see = g.R.Router.seen in
     let e = event_with a c.args.event.now in
     let before : IsNetworkOf see c.take.result p = subst (λ w. IsNetworkOf see w p) (sym c.take.ensures.value) network in
-    let stands = c.in-Ok.ensures p e before plan in
+    let stands = c.in-Ok.ensures.stands p e before plan in
     onto see c.run_event-result.new.world p e c.run_event-result.result c.args.out.now.items c.run_event-result.new.out.items (c.run_event-result.ensures.runs p a read stands roomy)
 
 pub returns-clause-told : goal.returns-clause-told
@@ -28,8 +28,14 @@ returns-clause-told g c = λ p a read network plan roomy.
     let w = last_world p in
     let v = run (machine q) (steps_of q e w) w in
     let before : IsNetworkOf see c.take.result p = subst (λ w. IsNetworkOf see w p) (sym c.take.ensures.value) network in
-    let stands = c.in-Ok.ensures p e before plan in
+    let stands = c.in-Ok.ensures.stands p e before plan in
     let ran = c.run_event-result in
     let agrees = agrees_on see ran.new.world p e ran.result c.args.out.now.items ran.new.out.items roomy (ran.ensures.runs p a read stands roomy) in
     around saw ran.result c.args.watch.now c.happens.new.self ran.new.watch c.show_happened.new.watch (Next w) (Happened v e) (event_sights q e w) (Agrees see q ran.new.world v)
     (c.happens.ensures q w stands.agrees) (ran.ensures.told p a read stands) agrees (c.show_happened.ensures.ok q v a read) c.show_happened.ensures.err
+
+pub returns-in-Err-clause-runs : goal.returns-in-Err-clause-runs
+returns-in-Err-clause-runs g c = λ p a read network plan roomy.
+    let see = g.R.Router.seen in
+    let before : IsNetworkOf see c.take.result p = subst (λ w. IsNetworkOf see w p) (sym c.take.ensures.value) network in
+    inl (subst (λ w. IsNetworkOf see w p) c.in-Err.ensures.opened before)

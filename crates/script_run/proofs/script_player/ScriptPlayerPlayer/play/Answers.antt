@@ -5,7 +5,7 @@ use Rattle.script_run.proofs.Adding.{event_line}
 use Rattle.script_run.specs.Checking.{IsLineTaken}
 use Rattle.script_run.specs.Shown.{ShowsOn}
 use Rattle.script_run.specs.Standing.{IsAt}
-use Rattle.script_run.proofs.Ran.{event_crowds, event_on, not_taken, quiet_on}
+use Rattle.script_run.proofs.Ran.{event_asks, event_crowds, event_on, not_taken, quiet_on}
 use Rattle.script_run.proofs.Shown.{also, event_shown, nothing_more, quiet_shown, stays_also}
 use Rattle.script_run.proofs.script_player.ScriptPlayerPlayer.play.Goals as goal
 
@@ -55,6 +55,18 @@ returns-in-Err-Crowded g c = λ d said at run.
     let happened = rw c.in-Err-Crowded.field-0-is at (c.in-Err-Crowded.ensures.runs (plan_of d) q.event.arrival q.event.read at.network
     (event_line d c.args.line.now new e q.follows q.event.events) run.roomy) in
     (event_crowds see d c.args.line.now new c.happen.new.world c.args.out.now.items c.happen.new.out.items e q.follows q.event.events happened, tt)
+
+pub returns-in-Ok-Some : goal.returns-in-Ok-Some
+returns-in-Ok-Some g c = λ d said at run.
+    let see = g.R.Router.seen in
+    let new = g.C.LinesBefore.lines c.feed.new.self in
+    let event = c.in-Ok-Some.event in
+    let fed = rw c.in-Ok-Some.field-0-is at c.in-Ok-Some.ensures in
+    let q = subst (λ x. IsLineTaken x c.args.line.now (Some event) new) at.same fed in
+    let e = event_with q.event.arrival event in
+    let happened = rw c.in-Err-NoMemory.field-0-is at (c.in-Err-NoMemory.ensures.runs (plan_of d) q.event.arrival q.event.read at.network
+    (event_line d c.args.line.now new e q.follows q.event.events) run.roomy) in
+    (event_asks see d c.args.line.now new c.happen.new.world c.args.out.now.items c.happen.new.out.items e q.follows q.event.events happened, tt)
 
 pub returns : goal.returns
 returns g c = λ d said at run.
