@@ -1,6 +1,7 @@
 //! The rules of script lines, by the kind of the line.
-ghost use Rattle.std.specs.Prelude.{IfErr, IfOk, OnOk};
+ghost use Rattle.std.specs.Prelude.{◌≡◌, Err, IfErr, IfOk, OnOk};
 ghost use Rattle.script_grammar.specs.Adds.{Adds};
+ghost use Rattle.script_grammar.specs.Asking.{AsksMemory};
 ghost use Rattle.script_grammar.specs.Rules.{KeepsAll, Keeps};
 ghost use Rattle.script_state.specs.Said.{draft_of};
 ghost use Rattle.script_checker.specs.Forms.{Formed};
@@ -12,12 +13,13 @@ use script_grammar::{ScriptLine, Stop};
 use script_state::ScriptState;
 
 /// Adds what a line says, and gives its event if it is one of part 3. `Bad`: the line breaks a rule, this is the fault of the
-/// first that it breaks, and the lines so far stay as they were. `NoMemory`: memory ran out.
+/// first that it breaks, and the lines so far stay as they were. `NoMemory`, only where the line asks for memory: it ran out.
 pub fn add(state: &mut ScriptState, line: ScriptLine) -> Result<Option<Event>, Stop>
     requires { Formed line }
     ensures ok { OnOk result (KeepsAll (Keeps (draft_of state.old) line) × Adds (draft_of state.old) line (draft_of state.new)) }
     ensures given { IfOk result (λ e. IsGiven (draft_of state.old).events e (draft_of state.new).events) }
     ensures refused { IfErr result (Refuses (draft_of state.old) line) }
+    ensures asked { result ≡ Err Stop.NoMemory → AsksMemory (draft_of state.old) line }
     ensures same { IfErr result (IsUntouched (draft_of state.old) (draft_of state.new)) }
 {
     match line {

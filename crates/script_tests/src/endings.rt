@@ -1,25 +1,24 @@
-//! How runs end, over devices in memory, by a player that takes lines without words alone.
-ghost use Rattle.std.specs.Prelude.{◌≡◌, ◌<◌};
-ghost use Rattle.script_grammar.specs.Draft.{nothing};
+//! How runs end, over devices in memory, by a player that has no memory to open a network.
+ghost use Rattle.std.specs.Prelude.{◌≡◌, ◌<◌, []};
+ghost use Rattle.script_checker.specs.Checked.{draft_of};
 
 use byte_streams::{MemorySink, MemorySource};
-use rsvp_base::{Addr, NoMemory, Session, StyleKind};
-use script_advice::{LinesBefore, put_advice};
-use script_grammar::{Fault, HopEnds, ScriptLine, Stop, read_line};
-use script_run::{Ending, Player, Unwatched, Watch, run_lines};
-use script_words::Unread;
+use script_advice::put_advice;
+use script_checker::Checker;
+use script_grammar::{Fault, Stop};
+use script_run::{Checks, Ending, Player, Unwatched, Watch, run_lines};
 use std::alloc::Global;
 use std::test::Fail;
-use tree_routing::HopFault;
 
-// It has no memory for any other line that is well formed.
+// It takes lines, and runs no event.
 #[derive(Drop)]
 struct Silent {
     alloc: Global,
+    checker: Checker,
 }
 
 impl Player for Silent {
-    ghost stands = { λ p d. d ≡ nothing };
+    ghost stands = { λ p d. (draft_of p.checker ≡ d) × (d.events ≡ []) };
 
     fn play<W: Watch>(
         &mut self,
@@ -29,69 +28,15 @@ impl Player for Silent {
     ) -> Result<(), Stop> {
         let _ = out.len();
         let _ = watch;
-        let mut words = Vec::new(self.alloc);
-        match read_line(self.alloc, line, &mut words) {
-            Ok(ScriptLine::Skipped) => Ok(()),
-            Ok(_) => Err(Stop::NoMemory),
-            Err(Unread::Word) => Err(Stop::Bad(Fault::Word)),
-            Err(Unread::NoMemory) => Err(Stop::NoMemory),
+        match self.checker.feed(line) {
+            Ok(None) => Ok(()),
+            Ok(Some(_event)) => Err(Stop::NoMemory),
+            Err(stop) => Err(stop),
         }
     }
 
     fn advise(&self, line: &[u8], why: &Fault, advice: &mut Vec<u8>) {
-        put_advice(self.alloc, self, line, why, advice)
-    }
-}
-
-impl LinesBefore for Silent {
-    ghost lines = { λ p. nothing };
-
-    fn period(&self) -> u32 {
-        30_000
-    }
-
-    fn has_node(&self, name: &[u8]) -> bool {
-        let _ = name.len();
-        false
-    }
-
-    fn has_end(&self, name: &[u8]) -> bool {
-        let _ = name.len();
-        false
-    }
-
-    fn is_linked(&self, name: &[u8]) -> bool {
-        let _ = name.len();
-        false
-    }
-
-    fn has_room_for_session(&self, session: Session) -> bool {
-        let _ = session.port;
-        true
-    }
-
-    fn standing_style(&self, node: &[u8], session: Session) -> Result<Option<StyleKind>, NoMemory> {
-        let _ = (node.len(), session.port);
-        Ok(None)
-    }
-
-    fn hop_fault(
-        &self,
-        group: Addr,
-        source: Addr,
-        hop: &HopEnds,
-    ) -> Result<Option<HopFault>, NoMemory> {
-        let _ = (group.0, source.0, hop.from.bytes().len());
-        Err(NoMemory)
-    }
-
-    fn tree_fault(
-        &self,
-        source: Addr,
-        hops: &[HopEnds],
-    ) -> Result<Option<(usize, HopFault)>, NoMemory> {
-        let _ = (source.0, hops.len());
-        Err(NoMemory)
+        put_advice(self.alloc, &self.checker, line, why, advice)
     }
 }
 
@@ -101,7 +46,8 @@ const RUNS: &[(&[u8], bool, &str)] = &[
     (b"\n# x\n \n", false, "done"),
     (b"\n# x", false, "done"),
     (b"\n# x\nfrob", false, "word in line 3"),
-    (b"node a\nfrob\n", false, "memory"),
+    (b"node a\n\nfrob\n", false, "word in line 3"),
+    (b"wait 1\nfrob\n", false, "memory"),
     (&[b'a'; 2049], false, "limit in line 1"),
     (b"frob", true, "read fault"),
 ];
@@ -134,7 +80,10 @@ fn run_text(alloc: Global, text: &[u8], fails: bool, most: usize) -> Result<Endi
     }
     let mut source = MemorySource::new(text.to_vec(alloc)?, failing, most);
     let mut sink = MemorySink::open(alloc, 16, Vec::new(alloc), Vec::new(alloc))?;
-    let mut player = Silent { alloc };
+    let mut player = Silent {
+        alloc,
+        checker: Checker::open(alloc)?,
+    };
     let mut advice = Vec::new(alloc);
     Ok(run_lines(
         alloc,

@@ -1,20 +1,42 @@
-use Rattle.std.proofs.Common.{◌≡◌, [], sym, append-nil}
-use Rattle.script_grammar.specs.Draft.{nothing}
-use Rattle.script_grammar.specs.Grammar.{unread}
+use Rattle.std.proofs.Common.{◌≡◌, ◌++◌, ◌∷◌, [], List, None, Some, ap, refl, sym, subst, append-nil, ◌∙◌}
+use Rattle.network_model.specs.Happenings.{event_with}
+use Rattle.script_checker.specs.Checked.{draft_of}
+use Rattle.script_grammar.specs.Events.{Event}
+use Rattle.script_run.proofs.Adding.{quiet_run}
+use Rattle.script_run.specs.Asking.{to_open}
+use Rattle.script_run.proofs.Shown.{nothing_more, quiet_shown, stays_also}
+use Rattle.script_run.specs.Checking.{IsLineTaken}
 use Rattle.script_run.specs.Shown.{ShowsOn}
-use Rattle.script_run.proofs.Adding.{skipped_on}
-use Rattle.script_run.proofs.Shown.{nothing_more}
+use Rattle.script_tests.proofs.NotTaken.{not_taken}
 use Rattle.script_tests.proofs.endings.SilentPlayer.play.Goals as goal
 
-pub returns-in-Ok-Skipped : goal.returns-in-Ok-Skipped
-returns-in-Ok-Skipped g c = λ d said there run.
-    let reads = rw c.in-Ok-Skipped.field-0-is at c.in-Ok-Skipped.ensures in
+pub returns-in-Ok-None : goal.returns-in-Ok-None
+returns-in-Ok-None g c = λ d said there run.
+    let new = draft_of c.feed.new.self in
+    let fed = rw c.in-Ok-None.field-0-is at c.in-Ok-None.ensures in
+    let q = subst (λ x. IsLineTaken x c.args.line.now None new) there.0 fed in
+    let watch = c.args.watch.now in
+    let shown = quiet_shown g.W.Watch.saw watch watch d c.args.line.now new q.follows q.event (λ ss h. h) in (
+      [],
+      sym (append-nil c.args.out.now.items),
+      record { new = new; follows = q.follows; stands_there = ((refl, q.event ∙ there.1), shown); run = quiet_run d c.args.line.now new said q.follows q.event run },
+    )
+
+pub returns-in-Ok-Some : goal.returns-in-Ok-Some
+returns-in-Ok-Some g c = λ d said there run.
+    let new = draft_of c.feed.new.self in
+    let event = c.in-Ok-Some._event in
+    let fed = rw c.in-Ok-Some.field-0-is at c.in-Ok-Some.ensures in
+    let q = subst (λ x. IsLineTaken x c.args.line.now (Some event) new) there.0 fed in
+    let e = event_with q.event.arrival event in
+    let one : new.events ≡ e ∷ [] = q.event.events ∙ ap (λ (es : List Event). es ++ e ∷ []) there.1 in
+    (to_open new q.follows there.1 (λ z. let y : e ∷ [] ≡ [] = sym one ∙ z in cc), tt)
+
+pub returns : goal.returns
+returns g c = λ d said there run.
     let saw = g.W.Watch.saw in
     let watch = c.args.watch.now in
-    let stands = skipped_on (λ x. (x ≡ nothing) × ShowsOn saw watch watch d x) d c.args.line.now said c.requires reads (there, nothing_more saw watch d) run in
-    ([], sym (append-nil c.args.out.now.items), stands)
-
-pub returns-in-Err-Word : goal.returns-in-Err-Word
-returns-in-Err-Word g c = λ d said there run.
-    let reads = rw c.in-Err-Word.field-0-is at c.in-Err-Word.ensures in
-    (unread c.requires reads, (there, nothing_more g.W.Watch.saw c.args.watch.now d))
+    let new = draft_of c.feed.new.self in
+    let stop = c.in-Err.stop in
+    let not = not_taken (draft_of c.args.self.now.checker) new d c.args.line.now stop there.0 there.1 c.in-Err.ensures in
+    (not.0, stays_also (λ x. (new ≡ x) × (x.events ≡ [])) (λ x. ShowsOn saw watch watch d x) d stop not.1 (nothing_more saw watch d))
