@@ -1,1 +1,2 @@
 mod NearestRates
+pub mod Short

@@ -1,12 +1,15 @@
-//! What is wrong with a word of a bad line, where more than its form and its range can be said: which number of a flow is out of range.
+//! The line of text that says what is wrong with a bad line.
 //!
-//! `flow_fault` finds the first number of a flow that is out of range, with the nearest rates where it is none; `put_flow_fault` says so
-//! in words. Both are exactly their definitions in `specs/`, and no memory is taken but for the text that grows.
+//! `put_blamed_line` puts it together, of the word that is to blame and of what is wanted. It takes no memory: `make_room` made room for
+//! any before, and none is longer. `flow_fault` finds the first number of a flow that is out of range, with the nearest rates where it
+//! is none; `put_flow_fault` says so in words. Each is exactly its definition in `specs/`.
 #![tactic(auto)]
 
+mod blamed;
 mod flow_faults;
 mod flow_texts;
 pub mod rates;
 
+pub use blamed::{Blames, make_room, put_blamed_line};
 pub use flow_faults::{FlowFault, FlowRate, flow_fault};
 pub use flow_texts::put_flow_fault;
