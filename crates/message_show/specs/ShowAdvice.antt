@@ -1,5 +1,5 @@
--- What is told of a bad line of digits.
-use Rattle.std.specs.Prelude.{◌≡◌, ◌⊎◌, ℕ, ◌+◌, List, [], ◌∷◌, ◌++◌, Option, None, Some, codes, if◌then◌else◌}
+-- The line of text that says what is wrong with a bad line of digits.
+use Rattle.std.specs.Prelude.{◌≡◌, ℕ, ◌+◌, List, [], ◌∷◌, ◌++◌, Option, None, Some, codes, if◌then◌else◌}
 use Rattle.std.specs.Fmt.{decimal}
 use Rattle.hex.specs.Hex.{is_hex_digit}
 use Rattle.script_words.specs.declared.fault.LineErr.{LineErr}
@@ -25,9 +25,9 @@ abbrev pub digits_advice : List ℕ → LineWhy → List ℕ
 digits_advice line Limit = codes "  a line has at most 8194 digits"
 digits_advice line why = digits_text (strange_digit 1 line)
 
--- what is wrong with the first bad line was told; or nothing was, since memory ran out
+-- what is wrong with the first bad line
 abbrev pub IsDigitsAdvice : List ℕ → LineWhy → List ℕ → Type 0
-IsDigitsAdvice line why text = (text ≡ []) ⊎ (text ≡ digits_advice line why)
+IsDigitsAdvice line why text = text ≡ digits_advice line why
 
 pub record IsToldDigits (input text : List ℕ) (e : LineErr) : Type 0 where
   pub bad : IsBadDigits input e

@@ -1,25 +1,30 @@
-//! What is told of a bad line of digits.
-ghost use Rattle.std.specs.Prelude.{◌≡◌, ◌++◌, OnOk};
+//! The line of text that says what is wrong with a line of digits.
+ghost use Rattle.std.specs.Prelude.{◌≡◌, ◌≤◌, ◌<◌, ◌++◌, OnErr, OnOk, Some, length, vec_capacity};
 ghost use Rattle.hex.specs.Hex.{is_hex_digit};
+ghost use Rattle.line_advice.specs.Blamed.{most_advice};
 ghost use Rattle.message_show.specs.ShowAdvice.{IsDigitsAdvice, digits_advice, digits_text, strange_digit};
 
 use rsvp_base::NoMemory;
 use script_words::LineWhy;
 use value_texts::{put, put_number, put_quoted, put_strange};
 
-/// Makes `advice` the text that tells what is wrong with a line of digits, without a line feed. Where memory runs out, `advice` is
-/// empty.
+/// Makes `advice`, for which there is room, the text that says what is wrong with a line of digits, without a line feed.
 pub fn put_digits_advice(advice: &mut Vec<u8>, line: &[u8], why: LineWhy)
+    requires room { most_advice ≤ vec_capacity advice.old }
     ensures { IsDigitsAdvice line.now why advice.new.items }
 {
     advice.clear();
-    if put_told(advice, line, why).is_err() {
-        advice.clear();
+    match put_told(advice, line, why) {
+        Ok(()) => {}
+        Err(_) => {}
     }
 }
 
+#[tactic(auto, using(crate::proofs::Short::limit_short))]
 fn put_told(out: &mut Vec<u8>, line: &[u8], why: LineWhy) -> Result<(), NoMemory>
-    ensures { OnOk result (out.new.items ≡ out.old.items ++ digits_advice line.now why) }
+    ensures text { OnOk result (out.new.items ≡ out.old.items ++ digits_advice line.now why) }
+    ensures full { OnErr result (vec_capacity out.old < length (out.old.items ++ digits_advice line.now why)) }
+    ensures few { length (digits_advice line.now why) ≤ most_advice }
 {
     match why {
         LineWhy::Limit => put(out, b"  a line has at most 8194 digits"),
@@ -27,22 +32,30 @@ fn put_told(out: &mut Vec<u8>, line: &[u8], why: LineWhy) -> Result<(), NoMemory
     }
 }
 
-#[tactic(auto, unfolding(crate::specs::ShowAdvice::digits_text))]
+#[tactic(auto, using(crate::proofs::Short::even_short, crate::proofs::Short::digit_short), unfolding(crate::specs::ShowAdvice::digits_text))]
 fn put_digit(out: &mut Vec<u8>, strange: Option<(usize, u8)>) -> Result<(), NoMemory>
-    ensures { OnOk result (out.new.items ≡ out.old.items ++ digits_text strange) }
+    ensures text { OnOk result (out.new.items ≡ out.old.items ++ digits_text strange) }
+    ensures full { OnErr result (vec_capacity out.old < length (out.old.items ++ digits_text strange)) }
+    ensures few { length (digits_text strange) ≤ most_advice }
 {
     match strange {
         None => put(out, b"  a line is an even number of hexadecimal digits"),
-        Some((column, c)) => {
-            put(out, b"  column ")?;
-            put_number(out, column as u64)?;
-            put(out, b", ")?;
-            put_quoted(out, &[c])?;
-            put(out, b": ")?;
-            put(out, b"a line is an even number of hexadecimal digits")?;
-            put_strange(out, &[c])
-        }
+        Some((column, c)) => put_strange_digit(out, column, c),
     }
+}
+
+#[tactic(auto, unfolding(crate::specs::ShowAdvice::digits_text))]
+fn put_strange_digit(out: &mut Vec<u8>, column: usize, c: u8) -> Result<(), NoMemory>
+    ensures text { OnOk result (out.new.items ≡ out.old.items ++ digits_text (Some (column, c))) }
+    ensures full { OnErr result (vec_capacity out.old < length (out.old.items ++ digits_text (Some (column, c)))) }
+{
+    put(out, b"  column ")?;
+    put_number(out, column as u64)?;
+    put(out, b", ")?;
+    put_quoted(out, &[c])?;
+    put(out, b": ")?;
+    put(out, b"a line is an even number of hexadecimal digits")?;
+    put_strange(out, &[c])
 }
 
 // The first byte that is no hexadecimal digit, with its column, from 1.

@@ -9,6 +9,7 @@ use crate::advice::put_digits_advice;
 use crate::reading::put_reading;
 use crate::stop::Stop;
 use hex::decode_to_slice;
+use line_advice::make_room;
 use script_words::{LineErr, LineWhy, ParseErr, next_line};
 use std::alloc::Global;
 
@@ -56,8 +57,8 @@ fn put_line(out: &mut Vec<u8>, line: &[u8], room: &mut [u8]) -> Result<(), Stop>
 
 /// What is shown of an input: for each line that is not empty, the line of its message or of the first fault of its bytes.
 /// Or the first bad line: `Limit` where it has more than `MOST_DIGITS` bytes, else `Word` where a byte of it is no
-/// hexadecimal digit or their number is odd. `advice` becomes the text that tells what is wrong with that line; where no line is
-/// bad, or memory runs out as it is written, it is empty.
+/// hexadecimal digit or their number is odd. `advice` becomes the text that says what is wrong with that line; where no line is
+/// bad, it is empty. `NoMemory`: memory ran out, of the text or, at the beginning, of the room for `advice`.
 pub fn show(alloc: Global, input: &[u8], advice: &mut Vec<u8>) -> Result<Vec<u8>, ParseErr>
     ensures shown { IfOk result (λ text. IsShown input.now text.items) }
     ensures refused { IfErr result (MatchParseErr (IsBadDigits input.now)) }
@@ -65,6 +66,10 @@ pub fn show(alloc: Global, input: &[u8], advice: &mut Vec<u8>) -> Result<Vec<u8>
     ensures quiet { OnOk result (advice.new.items ≡ []) × (result ≡ Err ParseErr.NoMemory → advice.new.items ≡ []) }
 {
     advice.clear();
+    match make_room(advice) {
+        Ok(()) => {}
+        Err(_) => return Err(ParseErr::NoMemory),
+    }
     let mut out = Vec::new(alloc);
     let mut room = [0u8; MOST_BYTES];
     let mut number: u32 = 0;

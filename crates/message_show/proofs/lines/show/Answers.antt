@@ -8,7 +8,7 @@ pub loop-line-preserved : goal.loop-line-preserved
 loop-line-preserved c =
     let i = c.loop-line.invariant in
     let line = c.in-Some.line.now in
-    let one = c.in-Ok.ensures.shown in
+    let one = c.in-Ok-put_line.ensures.shown in
     let shown : AreShown (i.before ++ line ∷ []) c.put_line.new.out.items = subst (AreShown (i.before ++ line ∷ [])) (sym one.2) (shown_on i.before c.loop-line.out.items line one.0 i.shown one.1) in
     record {
       before = i.before ++ line ∷ [];
@@ -17,6 +17,7 @@ loop-line-preserved c =
       shown = shown;
       room = search rules;
       quiet = i.quiet;
+      roomy = i.roomy;
     }
 
 pub returns-in-Err-Bad-clause-refused : goal.returns-in-Err-Bad-clause-refused

@@ -1,4 +1,6 @@
-use Rattle.std.proofs.Common.{◌≡◌, ℕ, ◌-◌, ◌^◌, ◌++◌, List, [], length, min}
+use Rattle.std.proofs.Common.{◌≡◌, ℕ, ◌-◌, ◌^◌, ◌≤◌, ◌++◌, List, [], length, min}
+use Rattle.std.specs.Vec.{vec_capacity}
+use Rattle.line_advice.specs.Blamed.{most_advice}
 use Rattle.script_words.specs.Lines.{text_lines}
 use Rattle.message_show.specs.ShowLines.{AreShown}
 use Rattle.message_show.proofs.lines.show.Given as goal
@@ -13,6 +15,7 @@ invariant-loop-line l =
       shown : AreShown before l.out.items;
       room : length l.room ≡ 4097;
       quiet : l.advice.items ≡ [];
+      roomy : most_advice ≤ vec_capacity l.advice;
     }
 
 abbrev pub decreases-loop-line : goal.decreases-loop-line

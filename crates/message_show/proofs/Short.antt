@@ -1,0 +1,24 @@
+-- No text on a bad line of digits is longer than there is room for.
+use Rattle.std.proofs.Common.{ℕ, ◌<◌, ◌≤◌, ◌^◌, List, [], ◌∷◌, None, Some, length, arith}
+use Rattle.std.proofs.lemmas.Fmt.{length-decimal-le}
+use Rattle.std.specs.Prelude.{codes}
+use Rattle.std.specs.Fmt.{decimal}
+use Rattle.script_words.specs.declared.fault.LineWhy.TheVariants.{Limit}
+use Rattle.value_texts.specs.Quotes.{quoted, strange_text}
+use Rattle.line_advice.specs.Blamed.{most_advice}
+use Rattle.line_advice.proofs.Short.{joined, quoted_short, strange_short}
+use Rattle.message_show.specs.ShowAdvice.{digits_advice, digits_text, digits_wanted}
+
+pub limit_short : (line : List ℕ) → length (digits_advice line Limit) ≤ most_advice
+limit_short line = omega arith
+
+pub even_short : length (digits_text None) ≤ most_advice
+unfolding digits_text
+even_short = omega arith
+
+pub digit_short : (column c : ℕ) → column < 2 ^ 64 → length (digits_text (Some (column, c))) ≤ most_advice
+unfolding digits_text
+digit_short column c small =
+    let all = joined (codes "  column ") (decimal column) (codes ", ") (quoted (c ∷ [])) (codes ": ") digits_wanted (strange_text (c ∷ [])) in
+    let digits : length (decimal column) ≤ 20 = length-decimal-le 20 column (omega arith) (omega (arith, small)) small in
+    omega (arith, all, digits, quoted_short (c ∷ []), strange_short (c ∷ []))
