@@ -6,3 +6,4 @@ pub mod Finishing
 pub mod Ended
 pub mod Coming
 pub mod Bound
+mod Short

@@ -1,11 +1,11 @@
 -- The line of text that says what is wrong with a line.
-use Rattle.std.specs.Prelude.{◌≡◌, ◌⊎◌, ℕ, ◌^◌, List, [], ◌++◌, Bool, true, false, Option, None, Some, codes, is_some, nat_lt, option_map, unwrap_or, if◌then◌else◌}
+use Rattle.std.specs.Prelude.{◌≡◌, ℕ, ◌^◌, List, [], ◌++◌, Bool, true, false, Option, None, Some, codes, is_some, nat_lt, option_map, unwrap_or, if◌then◌else◌}
 use Rattle.std.specs.Fmt.{decimal}
 use Rattle.script_words.specs.Numbers.{number_of}
 use Rattle.script_words.specs.declared.fault.LineWhy.{LineWhy}
 use Rattle.script_words.specs.declared.fault.LineWhy.TheVariants as why
 use Rattle.value_texts.specs.Places.{word_at}
-use Rattle.value_texts.specs.Blamed.{blamed_line}
+use Rattle.line_advice.specs.Blamed.{blamed_line}
 use Rattle.packet_lines.specs.Drafts.{Draft}
 use Rattle.packet_lines.specs.Endings.{IsFirstBad}
 use Rattle.packet_lines.specs.Grammar.{is_flow_word}
@@ -97,10 +97,9 @@ wanted_text SizeRange = codes "a packet has 1 to 65535 bytes"
 abbrev pub advice_text : List ℕ → Blame → List ℕ
 advice_text line blame = blamed_line line (number_of_word blame) (wanted_text blame)
 
--- the advice on a line of this fault, behind lines with the flow or without it, the last packet of which came at this
--- time; or nothing, since memory ran out
+-- the advice on a line of this fault, behind lines with the flow or without it, the last packet of which came at this time
 abbrev pub IsAdviceFor : Bool → ℕ → List ℕ → LineWhy → List ℕ → Type 0
-IsAdviceFor has_flow last line fault text = (text ≡ []) ⊎ (text ≡ advice_text line (blame_of has_flow last line fault))
+IsAdviceFor has_flow last line fault text = text ≡ advice_text line (blame_of has_flow last line fault)
 
 abbrev pub IsAdvice : Draft → List ℕ → LineWhy → List ℕ → Type 0
 IsAdvice d line fault text = IsAdviceFor (is_some d.flow) d.last line fault text

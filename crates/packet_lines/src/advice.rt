@@ -1,20 +1,23 @@
 //! The line of text that says what is wrong with a line.
-ghost use Rattle.std.specs.Prelude.{◌≡◌, ◌++◌, ℕ, List, OnOk};
+ghost use Rattle.std.specs.Prelude.{◌≡◌, ◌≤◌, ◌<◌, ◌++◌, ℕ, List, OnErr, OnOk, length, vec_capacity};
 ghost use Rattle.script_words.specs.declared.fault.LineWhy.TheVariants as fault;
+ghost use Rattle.line_advice.specs.Blamed.{most_advice, most_wanted};
 ghost use Rattle.packet_lines.specs.Advice.{IsAdvice, IsAdviceFor, early_text, number_form, wanted_text};
 ghost use Rattle.packet_lines.specs.Drafts.{Draft};
 ghost use Rattle.packet_lines.specs.Standings.{Stands};
 
 use crate::blame::{Blame, blame_of, number_of_word};
 use crate::standing::Standing;
+use line_advice::{Blames, put_blamed_line};
 use rsvp_base::NoMemory;
 use script_words::LineWhy;
-use value_texts::{Blames, put, put_blamed_line, put_number};
+use value_texts::{put, put_number};
 
-/// Makes `advice` the text that says what is wrong with a line that has this fault, without a line feed: two spaces, the column and
-/// the word that is to blame, if one is, and what is wanted. Where memory runs out, it is empty.
+/// Makes `advice`, for which there is room, the text that says what is wrong with a line that has this fault, without a line feed: two
+/// spaces, the column and the word that is to blame, if one is, and what is wanted.
 #[tactic(auto, using(crate::proofs::Fed::advice_so))]
 pub fn put_advice(standing: &Standing, line: &[u8], why: LineWhy, advice: &mut Vec<u8>)
+    requires room { most_advice ≤ vec_capacity advice.old }
     ensures { (d : Draft) → Stands standing.now d → IsAdvice d line.now why advice.new.items }
 {
     put_advice_for(standing.policer.is_some(), standing.last, line, why, advice)
@@ -22,6 +25,7 @@ pub fn put_advice(standing: &Standing, line: &[u8], why: LineWhy, advice: &mut V
 
 // The same behind lines with the flow or without it, the last packet of which came at this time.
 fn put_advice_for(has_flow: bool, last: u64, line: &[u8], why: LineWhy, advice: &mut Vec<u8>)
+    requires room { most_advice ≤ vec_capacity advice.old }
     ensures { IsAdviceFor has_flow last line.now why advice.new.items }
 {
     put_blamed_line(advice, line, &blame_of(has_flow, last, line, why))
@@ -29,6 +33,7 @@ fn put_advice_for(has_flow: bool, last: u64, line: &[u8], why: LineWhy, advice: 
 
 /// The same of a line of more than 2,048 bytes, whatever these are.
 pub fn put_long(advice: &mut Vec<u8>)
+    requires room { most_advice ≤ vec_capacity advice.old }
     ensures { (d : Draft) (line : List ℕ) → IsAdvice d line fault.Limit advice.new.items }
 {
     put_blamed_line(advice, b"", &Blame::Long)
@@ -45,14 +50,38 @@ impl Blames for Blame {
         number_of_word(*self)
     }
 
+    fn is_short(&self) {
+        wanted_is_short(*self)
+    }
+
     fn put_wanted(&self, out: &mut Vec<u8>) -> Result<(), NoMemory> {
         put_wanted(out, *self)
     }
 }
 
+// Does nothing: what is wanted has at most 512 bytes.
+#[tactic(auto, using(crate::proofs::Short::wanted_short))]
+fn wanted_is_short(blame: Blame)
+    ensures { length (wanted_text blame) ≤ most_wanted }
+{
+    match blame {
+        Blame::Early { last } => early_is_short(last),
+        _ => {}
+    }
+}
+
+#[tactic(auto, using(crate::proofs::Short::early_short))]
+fn early_is_short(last: u64)
+    ensures { length (early_text last) ≤ most_wanted }
+{
+    let _ = last;
+}
+
 // Appends what is wanted.
 fn put_wanted(out: &mut Vec<u8>, blame: Blame) -> Result<(), NoMemory>
-    ensures { OnOk result (out.new.items ≡ out.old.items ++ wanted_text blame) }
+    ensures text { OnOk result (out.new.items ≡ out.old.items ++ wanted_text blame) }
+    ensures full { OnErr result (vec_capacity out.old < length (out.old.items ++ wanted_text blame)) }
+    ensures kept { vec_capacity out.old ≤ vec_capacity out.new }
 {
     match blame {
         Blame::Long => put(out, b"a line has at most 2048 bytes"),
@@ -77,7 +106,9 @@ fn put_wanted(out: &mut Vec<u8>, blame: Blame) -> Result<(), NoMemory>
 }
 
 fn put_number_form(out: &mut Vec<u8>) -> Result<(), NoMemory>
-    ensures { OnOk result (out.new.items ≡ out.old.items ++ number_form) }
+    ensures text { OnOk result (out.new.items ≡ out.old.items ++ number_form) }
+    ensures full { OnErr result (vec_capacity out.old < length (out.old.items ++ number_form)) }
+    ensures kept { vec_capacity out.old ≤ vec_capacity out.new }
 {
     put(
         out,
@@ -87,7 +118,9 @@ fn put_number_form(out: &mut Vec<u8>) -> Result<(), NoMemory>
 
 #[tactic(auto, unfolding(crate::specs::Advice::early_text))]
 fn put_early(out: &mut Vec<u8>, last: u64) -> Result<(), NoMemory>
-    ensures { OnOk result (out.new.items ≡ out.old.items ++ early_text last) }
+    ensures text { OnOk result (out.new.items ≡ out.old.items ++ early_text last) }
+    ensures full { OnErr result (vec_capacity out.old < length (out.old.items ++ early_text last)) }
+    ensures kept { vec_capacity out.old ≤ vec_capacity out.new }
 {
     put(out, b"the packet before came at ")?;
     put_number(out, last)?;

@@ -4,6 +4,7 @@ ghost use Rattle.std.specs.Io.KnownBytes.{Appends};
 ghost use Rattle.byte_streams.specs.Reading.{most_bytes};
 ghost use Rattle.byte_streams.specs.Faults.{HasCause, Rose};
 ghost use Rattle.script_words.specs.declared.fault.LineWhy.TheVariants as why;
+ghost use Rattle.line_advice.specs.Blamed.{most_advice};
 ghost use Rattle.packet_lines.specs.Advice.{IsAdvice, IsAdvised};
 ghost use Rattle.packet_lines.specs.Drafts.{Draft};
 ghost use Rattle.packet_lines.specs.Endings.{ComesTo, IsOrNoMemory, IsPoliced};
@@ -16,6 +17,7 @@ use crate::advice::{put_advice, put_long};
 use crate::ending::Ending;
 use crate::standing::Standing;
 use byte_streams::{Failed, LineReader, NextLine, Sink, Source, write_all};
+use line_advice::make_room;
 use rsvp_base::NoMemory;
 use script_words::LineWhy;
 use std::alloc::Global;
@@ -30,11 +32,10 @@ const MOST_TEXT: usize = 64;
 /// something is refused ends the run.
 ///
 /// At one line these come in this order: `ReadFault` or `TooLong` while it is read, then `BadLine`, then `WriteFault`. A line of more
-/// than 2,048 bytes is bad as soon as so many of it were taken. `NoMemory`: there was no memory for the reader and for the text that
-/// waits; nothing was taken or written then, and none is taken afterwards but for `advice`.
+/// than 2,048 bytes is bad as soon as so many of it were taken. `NoMemory`: there was no memory for the reader, for the text that waits
+/// and for `advice`; nothing was taken or written then, and none is taken afterwards.
 ///
-/// `advice` becomes the text that says what is wrong with the bad line; where no line is bad, or memory runs out as it is written,
-/// it is empty.
+/// `advice` becomes the text that says what is wrong with the bad line; where no line is bad, it is empty.
 pub fn police<S: Source, K: Sink>(
     alloc: Global,
     source: &mut S,
@@ -74,6 +75,10 @@ fn police_to_end<S: Source, K: Sink>(
         Ok(out) => out,
         Err(_) => return Ending::NoMemory,
     };
+    match make_room(advice) {
+        Ok(()) => {}
+        Err(_) => return Ending::NoMemory,
+    }
     let mut standing = Standing::new();
     loop {
         match write_waiting(sink, &mut out, reader.has_line()) {
@@ -161,6 +166,7 @@ fn end<K: Sink>(sink: &mut K, text: &Vec<u8>) -> Ending
 // Writes the text that waits, and ends at the line of this number, which is too long.
 fn end_long<K: Sink>(sink: &mut K, text: &Vec<u8>, number: u32, advice: &mut Vec<u8>) -> Ending
     requires quiet { advice.old.items ≡ [] }
+    requires room { most_advice ≤ vec_capacity advice.old }
     ensures ended { Finishes (ending.BadLine number why.Limit) result (K.holds sink.old) (K.holds sink.new) text.now.items }
     ensures read { result ≢ Ending.ReadFault }
     ensures later { K.faults sink.old ≤ K.faults sink.new }
@@ -190,6 +196,7 @@ fn end_bad<K: Sink>(
     advice: &mut Vec<u8>,
 ) -> Ending
     requires quiet { advice.old.items ≡ [] }
+    requires room { most_advice ≤ vec_capacity advice.old }
     ensures ended { Finishes (ending.BadLine number fault) result (K.holds sink.old) (K.holds sink.new) text.now.items }
     ensures read { result ≢ Ending.ReadFault }
     ensures later { K.faults sink.old ≤ K.faults sink.new }

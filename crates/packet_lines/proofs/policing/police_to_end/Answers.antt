@@ -17,6 +17,9 @@ returns-in-Err-clause-policed g c = ended_at_once (g.S.Source.left c.args.source
 pub returns-in-Err-room-clause-policed : goal.returns-in-Err-room-clause-policed
 returns-in-Err-room-clause-policed g c = ended_at_once (g.S.Source.left c.args.source.now) (g.K.Sink.holds c.args.sink.now)
 
+pub returns-in-Err-make_room-clause-policed : goal.returns-in-Err-make_room-clause-policed
+returns-in-Err-make_room-clause-policed g c = ended_at_once (g.S.Source.left c.args.source.now) (g.K.Sink.holds c.args.sink.now)
+
 pub loop-out-init : goal.loop-out-init
 loop-out-init g c = record {
   policed = at_start (g.S.Source.left c.args.source.now)
@@ -25,7 +28,8 @@ loop-out-init g c = record {
   room = c.in-Ok-room.ensures.room;
   read = omega arith;
   written = omega arith;
-  quiet = c.clear.ensures.items;
+  quiet = c.in-Ok-make_room.ensures.empty;
+  roomy = c.in-Ok-make_room.ensures.room;
 }
 
 pub returns-in-Err-write_waiting-clause-policed : goal.returns-in-Err-write_waiting-clause-policed
@@ -218,6 +222,7 @@ loop-out-preserved g c =
       read = omega (arith, c.loop-out.invariant.read, c.next.ensures.later);
       written = omega (arith, c.loop-out.invariant.written, c.write_waiting.ensures.cause.later);
       quiet = c.loop-out.invariant.quiet;
+      roomy = c.loop-out.invariant.roomy;
     }
 
 -- ---- the faults of the devices

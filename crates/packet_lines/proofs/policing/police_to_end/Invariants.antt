@@ -1,6 +1,7 @@
 use Rattle.std.proofs.Common.{◌≡◌, ◌-◌, ◌≤◌, [], length}
 use Rattle.std.specs.Vec.{vec_capacity}
 use Rattle.byte_streams.specs.Reading.{most_bytes}
+use Rattle.line_advice.specs.Blamed.{most_advice}
 use Rattle.packet_lines.proofs.Ended.{Progress}
 use Rattle.packet_lines.proofs.policing.police_to_end.Given as goal
 
@@ -14,6 +15,7 @@ invariant-loop-out g l =
       read : g.S.Source.faults l.initial.source ≤ g.S.Source.faults l.source;
       written : g.K.Sink.faults l.initial.sink ≤ g.K.Sink.faults l.sink;
       quiet : l.advice.items ≡ [];
+      roomy : most_advice ≤ vec_capacity l.advice;
     }
 
 -- each turn gives a byte at least of those that an input may have
