@@ -1,5 +1,5 @@
 -- What passes of a stream keeps the bound of its flow.
-use Rattle.std.proofs.Common.{◌≡◌, ℕ, List, [], ◌∷◌, ◌++◌, Bool, true, false, Option, None, Some, is_some, refl, sym, ap, subst, ◌∙◌, append_assoc, append-nil}
+use Rattle.std.proofs.Common.{◌≡◌, ℕ, List, [], ◌∷◌, ◌++◌, true, Option, None, Some, is_some, refl, sym, subst, append_assoc, append-nil}
 use Rattle.rsvp_base.specs.TokenBucket.{TokenBucket}
 use Rattle.script_words.specs.Flows.{flow_value}
 use Rattle.script_words.specs.Steps.{◌>>=◌}
@@ -8,7 +8,7 @@ use Rattle.load_policer.specs.Policing.{AllPass, IsVerdict, KeepsTheBound, Packe
 use Rattle.load_policer.specs.declared.policer.Verdict.{Verdict}
 use Rattle.load_policer.specs.declared.policer.Verdict.TheVariants.{Pass, Over, Big}
 use Rattle.load_policer.proofs.Bounds.{what_passes_keeps_the_bound}
-use Rattle.packet_lines.specs.Drafts.{Adds, Draft, IsOffered, Leads, nothing, with_packet}
+use Rattle.packet_lines.specs.Drafts.{Adds, Draft, IsOffered, Leads, nothing}
 use Rattle.packet_lines.specs.Grammar.{in_place, line_behind, packet_line_of}
 use Rattle.packet_lines.specs.declared.line.PacketLine.{PacketLine}
 use Rattle.packet_lines.specs.declared.line.PacketLine.TheVariants as line
