@@ -1,7 +1,7 @@
 -- The line of text that says what is wrong with a frame: its kind, the field and its number, and what is wanted.
-use Rattle.std.specs.Prelude.{◌≡◌, ◌⊎◌, ℕ, ◌==◌, List, [], ◌++◌, Option, None, codes, if◌then◌else◌}
+use Rattle.std.specs.Prelude.{◌≡◌, ℕ, ◌==◌, List, [], ◌++◌, Option, None, codes, if◌then◌else◌}
 use Rattle.std.specs.Fmt.{decimal}
-use Rattle.value_texts.specs.Blamed.{blamed_line}
+use Rattle.line_advice.specs.Blamed.{blamed_line}
 use Rattle.node_frames.specs.declared.blame.Blame.{Blame}
 use Rattle.node_frames.specs.declared.blame.Blame.TheVariants.{Head, Cut, Kind, Length, Early, Again, Period, ManyIfaces, Capacity, Mtu, SameAddr, Inward, Outward, SameTree, NoIface, Wait}
 
@@ -46,6 +46,6 @@ wanted_text (Wait ms most) = two_text (codes "kind 3, milliseconds ") ms (codes 
 abbrev pub advice_text : Blame → List ℕ
 advice_text blame = blamed_line [] None (wanted_text blame)
 
--- what is wrong was said; or nothing was, since memory ran out
+-- the text says what is wrong
 abbrev pub IsAdvice : Blame → List ℕ → Type 0
-IsAdvice blame text = (text ≡ []) ⊎ (text ≡ advice_text blame)
+IsAdvice blame text = text ≡ advice_text blame

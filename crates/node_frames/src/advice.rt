@@ -1,14 +1,18 @@
 //! The line of text that says what is wrong with a frame.
-ghost use Rattle.std.specs.Prelude.{◌≡◌, ◌++◌, List, ℕ, OnOk};
+ghost use Rattle.std.specs.Prelude.{◌≡◌, ◌≤◌, ◌<◌, ◌++◌, List, ℕ, OnErr, OnOk, length, vec_capacity};
+ghost use Rattle.std.specs.Fmt.{decimal};
+ghost use Rattle.line_advice.specs.Blamed.{most_advice, most_wanted};
 ghost use Rattle.node_frames.specs.Advice.{IsAdvice, cut_text, length_form, one_text, two_text, wanted_text, way_text};
 
 use crate::blame::Blame;
+use line_advice::{Blames, put_blamed_line};
 use rsvp_base::NoMemory;
-use value_texts::{Blames, put, put_blamed_line, put_number};
+use value_texts::{put, put_number};
 
-/// Makes `advice` the text that says what is wrong with a frame, without a line feed: two spaces; the kind, the field and its number;
-/// and what is wanted. Where memory runs out, it is empty.
+/// Makes `advice`, for which there is room, the text that says what is wrong with a frame, without a line feed: two spaces; the kind,
+/// the field and its number; and what is wanted.
 pub fn put_advice(blame: Blame, advice: &mut Vec<u8>)
+    requires room { most_advice ≤ vec_capacity advice.old }
     ensures { IsAdvice blame advice.new.items }
 {
     put_blamed_line(advice, b"", &blame)
@@ -26,14 +30,65 @@ impl Blames for Blame {
         None
     }
 
+    fn is_short(&self) {
+        wanted_is_short(*self)
+    }
+
     fn put_wanted(&self, out: &mut Vec<u8>) -> Result<(), NoMemory> {
         put_wanted(out, *self)
     }
 }
 
+// Does nothing: what is wanted has at most 512 bytes, since the numbers in it have at most 20 digits.
+#[tactic(auto, using(crate::proofs::Short::wanted_short))]
+fn wanted_is_short(blame: Blame)
+    ensures { length (wanted_text blame) ≤ most_wanted }
+{
+    match blame {
+        Blame::Head => {}
+        Blame::Again => {}
+        Blame::Cut { kind, wanted, got } => {
+            are_short(u64::from(kind), wanted as u64, got as u64);
+        }
+        Blame::Kind { kind } => are_short(u64::from(kind), 0, 0),
+        Blame::Length { kind, size } => are_short(u64::from(kind), size as u64, 0),
+        Blame::Early { kind } => are_short(u64::from(kind), 0, 0),
+        Blame::Period { ms } => are_short(u64::from(ms), 0, 0),
+        Blame::ManyIfaces { count } => are_short(count as u64, 0, 0),
+        Blame::Capacity { iface, bytes } => are_short(iface as u64, bytes, 0),
+        Blame::Mtu { iface, bytes } => are_short(iface as u64, u64::from(bytes), 0),
+        Blame::SameAddr { iface } => are_short(iface as u64, 0, 0),
+        Blame::Inward {
+            route,
+            iface,
+            count,
+        } => {
+            are_short(route as u64, u64::from(iface), count as u64);
+        }
+        Blame::Outward { route, ways, count } => {
+            are_short(route as u64, u64::from(ways), count as u64);
+        }
+        Blame::SameTree { route } => are_short(route as u64, 0, 0),
+        Blame::NoIface { iface, count } => are_short(u64::from(iface), count as u64, 0),
+        Blame::Wait { ms, most } => are_short(u64::from(ms), u64::from(most), 0),
+    }
+}
+
+// Does nothing: these numbers have at most 20 digits.
+#[tactic(auto, using(crate::proofs::Short::number_short))]
+fn are_short(n: u64, m: u64, k: u64)
+    ensures first { length (decimal n) ≤ 20 }
+    ensures second { length (decimal m) ≤ 20 }
+    ensures third { length (decimal k) ≤ 20 }
+{
+    let _ = (n, m, k);
+}
+
 // Appends what is wanted.
 fn put_wanted(out: &mut Vec<u8>, blame: Blame) -> Result<(), NoMemory>
-    ensures { OnOk result (out.new.items ≡ out.old.items ++ wanted_text blame) }
+    ensures text { OnOk result (out.new.items ≡ out.old.items ++ wanted_text blame) }
+    ensures full { OnErr result (vec_capacity out.old < length (out.old.items ++ wanted_text blame)) }
+    ensures kept { vec_capacity out.old ≤ vec_capacity out.new }
 {
     match blame {
         Blame::Head => put(
@@ -150,7 +205,9 @@ fn length_form(kind: u8) -> &'static [u8]
 
 #[tactic(auto, unfolding(crate::specs::Advice::cut_text))]
 fn put_cut(out: &mut Vec<u8>, kind: u64, wanted: usize, got: usize) -> Result<(), NoMemory>
-    ensures { OnOk result (out.new.items ≡ out.old.items ++ cut_text kind wanted got) }
+    ensures text { OnOk result (out.new.items ≡ out.old.items ++ cut_text kind wanted got) }
+    ensures full { OnErr result (vec_capacity out.old < length (out.old.items ++ cut_text kind wanted got)) }
+    ensures kept { vec_capacity out.old ≤ vec_capacity out.new }
 {
     put_two(
         out,
@@ -172,7 +229,9 @@ fn put_way(
     number: u64,
     count: usize,
 ) -> Result<(), NoMemory>
-    ensures { OnOk result (out.new.items ≡ out.old.items ++ way_text route way.now number count) }
+    ensures text { OnOk result (out.new.items ≡ out.old.items ++ way_text route way.now number count) }
+    ensures full { OnErr result (vec_capacity out.old < length (out.old.items ++ way_text route way.now number count)) }
+    ensures kept { vec_capacity out.old ≤ vec_capacity out.new }
 {
     put_two(
         out,
@@ -189,7 +248,9 @@ fn put_way(
 // A number between texts.
 #[tactic(auto, unfolding(crate::specs::Advice::one_text))]
 fn put_one(out: &mut Vec<u8>, before: &[u8], n: u64, after: &[u8]) -> Result<(), NoMemory>
-    ensures { OnOk result (out.new.items ≡ out.old.items ++ one_text before.now n after.now) }
+    ensures text { OnOk result (out.new.items ≡ out.old.items ++ one_text before.now n after.now) }
+    ensures full { OnErr result (vec_capacity out.old < length (out.old.items ++ one_text before.now n after.now)) }
+    ensures kept { vec_capacity out.old ≤ vec_capacity out.new }
 {
     put(out, before)?;
     put_number(out, n)?;
@@ -206,7 +267,9 @@ fn put_two(
     m: u64,
     after: &[u8],
 ) -> Result<(), NoMemory>
-    ensures { OnOk result (out.new.items ≡ out.old.items ++ two_text before.now n between.now m after.now) }
+    ensures text { OnOk result (out.new.items ≡ out.old.items ++ two_text before.now n between.now m after.now) }
+    ensures full { OnErr result (vec_capacity out.old < length (out.old.items ++ two_text before.now n between.now m after.now)) }
+    ensures kept { vec_capacity out.old ≤ vec_capacity out.new }
 {
     put(out, before)?;
     put_number(out, n)?;

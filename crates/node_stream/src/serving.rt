@@ -2,6 +2,7 @@
 ghost use Rattle.std.specs.Prelude.{◌≡◌, ◌≤◌, ◌<◌, List, ℕ, length, Some, IfOk, vec_capacity};
 ghost use Rattle.byte_streams.specs.Faults.{Rose};
 ghost use Rattle.script_words.specs.declared.fault.LineWhy.TheVariants as why;
+ghost use Rattle.line_advice.specs.Blamed.{most_advice};
 ghost use Rattle.node_frames.specs.Advice.{IsAdvice};
 ghost use Rattle.node_frames.specs.Blames.{why_of};
 ghost use Rattle.node_stream.specs.Endings.{ComesTo, IsAdvised, IsCutBlame, IsOrNoMemory, IsServed, most_bytes};
@@ -16,6 +17,7 @@ use crate::reading::{HEAD, Read, read_frame};
 use crate::serves::Serves;
 use crate::state::{Limits, Stop};
 use byte_streams::{Sink, Source, write_all};
+use line_advice::make_room;
 use node_frames::{Blame, length_at, put_advice, why_of};
 use rsvp_base::NoMemory;
 use std::alloc::Global;
@@ -34,11 +36,10 @@ const PIECE: usize = 4096;
 /// what was made of it. The first frame that breaks a rule ends the service.
 ///
 /// At one frame these come in this order: `ReadFault` or `TooLong` while it is read, then `BadFrame`, then `WriteFault`. `NoMemory`:
-/// there was no room for a frame and for answers, before anything was taken, or for the router that the first frame opens; nothing was
-/// written then, and no memory is taken afterwards but for `advice`. No byte behind the frame at which it ended is taken.
+/// there was no room for a frame, for answers and for `advice`, before anything was taken, or for the router that the first frame opens;
+/// nothing was written then, and no memory is taken afterwards. No byte behind the frame at which it ended is taken.
 ///
-/// `advice` becomes the text that says what is wrong with the bad frame; where no frame is bad, or memory runs out as it is written, it
-/// is empty.
+/// `advice` becomes the text that says what is wrong with the bad frame; where no frame is bad, it is empty.
 pub fn serve<R: Serves, S: Source, K: Sink>(
     alloc: Global,
     source: &mut S,
@@ -78,6 +79,10 @@ fn serve_to_end<R: Serves, S: Source, K: Sink>(
         Ok(frame) => frame,
         Err(_) => return Ending::NoMemory,
     };
+    match make_room(advice) {
+        Ok(()) => {}
+        Err(_) => return Ending::NoMemory,
+    }
     let mut piece = [0u8; PIECE];
     let mut router: Option<R> = None;
     let mut limits = Limits {
@@ -138,6 +143,7 @@ fn cut_blame(part: &[u8]) -> Blame
 
 // Ends at the frame of this number, which is bad.
 fn end_bad(blame: Blame, number: u32, advice: &mut Vec<u8>) -> Ending
+    requires room { most_advice ≤ vec_capacity advice.old }
     ensures ends { result ≡ Ending.BadFrame number (why_of blame) }
     ensures advised { IsAdvice blame advice.new.items }
 {
@@ -150,6 +156,7 @@ fn end_bad(blame: Blame, number: u32, advice: &mut Vec<u8>) -> Ending
 
 // Ends at the frame of this number, which is not served.
 fn end_stopped(stop: Stop, number: u32, advice: &mut Vec<u8>) -> Ending
+    requires room { most_advice ≤ vec_capacity advice.old }
     ensures ends { result ≡ ending_at number stop }
     ensures advised { IsAdvisedAt stop advice.old.items advice.new.items }
 {

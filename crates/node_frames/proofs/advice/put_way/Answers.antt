@@ -5,11 +5,11 @@ use Rattle.node_frames.specs.Advice.{way_text, two_text}
 use Rattle.node_frames.proofs.Texts.{joined, then_ok}
 use Rattle.node_frames.proofs.advice.put_way.Goals as goal
 
-pub returns : goal.returns
+pub returns-clause-text : goal.returns-clause-text
 unfolding way_text
-returns c =
+returns-clause-text c =
     let first = two_text (codes "kind 1, route ") c.args.route c.args.way.now c.args.number (codes ": the router has ") in
     let last = codes " interfaces, numbered from 0" in
     then_ok c.put.result
-    (λ e. e ∙ ap (λ (x : List ℕ). x ++ last) (c.in_ok-put_number.ensures.text ∙ ap (λ (x : List ℕ). x ++ decimal c.args.count) c.in_ok-put_two.ensures)
+    (λ e. e ∙ ap (λ (x : List ℕ). x ++ last) (c.in_ok-put_number.ensures.text ∙ ap (λ (x : List ℕ). x ++ decimal c.args.count) c.in_ok-put_two.ensures.text)
     ∙ joined c.args.out.now.items first (decimal c.args.count) last) c.put.ensures.text

@@ -220,4 +220,5 @@ loop-frame-preserved g c =
       read = omega (arith, c.loop-frame.invariant.read, c.read_frame.ensures.later);
       written = omega (arith, c.loop-frame.invariant.written, c.write_all.ensures.cause.later);
       quiet = c.loop-frame.invariant.quiet;
+      roomy = c.loop-frame.invariant.roomy;
     }

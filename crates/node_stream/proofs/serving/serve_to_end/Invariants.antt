@@ -1,5 +1,6 @@
 use Rattle.std.proofs.Common.{◌≡◌, ◌-◌, ◌<◌, ◌≤◌, [], length}
 use Rattle.std.specs.Vec.{vec_capacity}
+use Rattle.line_advice.specs.Blamed.{most_advice}
 use Rattle.node_stream.specs.Endings.{most_at_once, most_bytes}
 use Rattle.node_stream.proofs.Going.{Going}
 use Rattle.node_stream.proofs.serving.serve_to_end.Given as goal
@@ -15,6 +16,7 @@ invariant-loop-frame g l =
       read : g.S.Source.faults l.initial.source ≤ g.S.Source.faults l.source;
       written : g.K.Sink.faults l.initial.sink ≤ g.K.Sink.faults l.sink;
       quiet : l.advice.items ≡ [];
+      roomy : most_advice ≤ vec_capacity l.advice;
     }
 
 -- each turn takes three bytes at least of those that a stream may have
