@@ -40,22 +40,38 @@ two_short : (before : List ℕ) (n : ℕ) (between : List ℕ) (m : ℕ) (after 
     → length (two_text before n between m after) ≤ 340
 unfolding two_text
 two_short before n between m after h k few =
-    omega (arith, length-append before (decimal n), length-append (before ++ decimal n) between, length-append (before ++ decimal n ++ between) (decimal m),
-    length-append (before ++ decimal n ++ between ++ decimal m) after, h, k, few)
+    omega (
+      arith,
+      length-append before (decimal n),
+      length-append (before ++ decimal n) between,
+      length-append (before ++ decimal n ++ between) (decimal m),
+      length-append (before ++ decimal n ++ between ++ decimal m) after,
+      h,
+      k,
+      few,
+    )
 
 cut_short : (kind wanted got : ℕ) → IsShort kind → IsShort wanted → IsShort got → length (cut_text kind wanted got) ≤ 400
 unfolding cut_text
 cut_short kind wanted got h k j =
-    omega (arith, length-append (two_text (codes "kind ") kind (codes ", length ") wanted (codes ": the input ends behind ")) (decimal got),
-    length-append (two_text (codes "kind ") kind (codes ", length ") wanted (codes ": the input ends behind ") ++ decimal got) (codes " of these bytes"),
-    two_short (codes "kind ") kind (codes ", length ") wanted (codes ": the input ends behind ") h k (omega arith), j)
+    omega (
+      arith,
+      length-append (two_text (codes "kind ") kind (codes ", length ") wanted (codes ": the input ends behind ")) (decimal got),
+      length-append (two_text (codes "kind ") kind (codes ", length ") wanted (codes ": the input ends behind ") ++ decimal got) (codes " of these bytes"),
+      two_short (codes "kind ") kind (codes ", length ") wanted (codes ": the input ends behind ") h k (omega arith),
+      j,
+    )
 
 way_short : (route : ℕ) (way : List ℕ) (number count : ℕ) → IsShort route → IsShort number → IsShort count → length way ≤ 40 → length (way_text route way number count) ≤ 400
 unfolding way_text
 way_short route way number count h k j few =
-    omega (arith, length-append (two_text (codes "kind 1, route ") route way number (codes ": the router has ")) (decimal count),
-    length-append (two_text (codes "kind 1, route ") route way number (codes ": the router has ") ++ decimal count) (codes " interfaces, numbered from 0"),
-    two_short (codes "kind 1, route ") route way number (codes ": the router has ") h k (omega (arith, few)), j)
+    omega (
+      arith,
+      length-append (two_text (codes "kind 1, route ") route way number (codes ": the router has ")) (decimal count),
+      length-append (two_text (codes "kind 1, route ") route way number (codes ": the router has ") ++ decimal count) (codes " interfaces, numbered from 0"),
+      two_short (codes "kind 1, route ") route way number (codes ": the router has ") h k (omega (arith, few)),
+      j,
+    )
 
 if_short : (b : Bool) (x y : List ℕ) → length x ≤ 90 → length y ≤ 90 → length (if b then x else y) ≤ 90
 if_short true x y h g = h

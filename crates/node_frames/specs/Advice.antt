@@ -1,5 +1,5 @@
 -- The line of text that says what is wrong with a frame: its kind, the field and its number, and what is wanted.
-use Rattle.std.specs.Prelude.{◌≡◌, ℕ, ◌==◌, List, [], ◌++◌, Option, None, codes, if◌then◌else◌}
+use Rattle.std.specs.Prelude.{◌≡◌, ℕ, ◌==◌, List, [], ◌++◌, None, codes, if◌then◌else◌}
 use Rattle.std.specs.Fmt.{decimal}
 use Rattle.line_advice.specs.Blamed.{blamed_line}
 use Rattle.node_frames.specs.declared.blame.Blame.{Blame}

@@ -1,4 +1,4 @@
-use Rattle.std.proofs.Common.{◌≡◌, ◌-◌, ◌<◌, ◌≤◌, [], length}
+use Rattle.std.proofs.Common.{◌≡◌, ◌-◌, ◌≤◌, [], length}
 use Rattle.std.specs.Vec.{vec_capacity}
 use Rattle.line_advice.specs.Blamed.{most_advice}
 use Rattle.node_stream.specs.Endings.{most_at_once, most_bytes}
