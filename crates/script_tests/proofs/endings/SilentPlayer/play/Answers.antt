@@ -4,10 +4,8 @@ use Rattle.script_checker.specs.Checked.{draft_of}
 use Rattle.script_grammar.specs.Events.{Event}
 use Rattle.script_run.proofs.Adding.{quiet_run}
 use Rattle.script_run.specs.Asking.{to_open}
-use Rattle.script_run.proofs.Shown.{nothing_more, quiet_shown, stays_also}
+use Rattle.script_run.proofs.Shown.{quiet_shown}
 use Rattle.script_run.specs.Checking.{IsLineTaken}
-use Rattle.script_run.specs.Shown.{ShowsOn}
-use Rattle.script_tests.proofs.NotTaken.{not_taken}
 use Rattle.script_tests.proofs.endings.SilentPlayer.play.Goals as goal
 
 pub returns-in-Ok-None : goal.returns-in-Ok-None
@@ -31,12 +29,3 @@ returns-in-Ok-Some g c = λ d said there run.
     let e = event_with q.event.arrival event in
     let one : new.events ≡ e ∷ [] = q.event.events ∙ ap (λ (es : List Event). es ++ e ∷ []) there.1 in
     (to_open new q.follows there.1 (λ z. let y : e ∷ [] ≡ [] = sym one ∙ z in cc), tt)
-
-pub returns : goal.returns
-returns g c = λ d said there run.
-    let saw = g.W.Watch.saw in
-    let watch = c.args.watch.now in
-    let new = draft_of c.feed.new.self in
-    let stop = c.in-Err.stop in
-    let not = not_taken (draft_of c.args.self.now.checker) new d c.args.line.now stop there.0 there.1 c.in-Err.ensures in
-    (not.0, stays_also (λ x. (new ≡ x) × (x.events ≡ [])) (λ x. ShowsOn saw watch watch d x) d stop not.1 (nothing_more saw watch d))
