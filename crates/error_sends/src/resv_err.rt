@@ -24,11 +24,11 @@ use path_sends::upstream;
 use path_state::PathTable;
 use resv_state::{ResvFact, ResvTable};
 use router_rules::{Heard, Outbox, Why};
-use router_state::Config;
+use router_state::{Config, Tables};
 use rsvp_base::{Addr, Flow, Hop, Sender, Session, StyleKind};
 use rsvp_messages::{Message, ResvErrMsg};
 use soft_table::Finger;
-use style_rules::{Fixed, Shared, Style, Upstream, Wall, Wild};
+use style_rules::{Style, Upstream, Wall};
 
 // At most so many reservations of a style.
 pub(crate) const FACTS: usize = 1024;
@@ -60,20 +60,15 @@ pub fn set_blockades(
 /// smaller reservation stands, only to those that are blockaded. One that was not taken goes nowhere. The blockades are those
 /// that `set_blockades` left, and what was heard is its answer.
 pub fn pass_resv_err<O: Outbox>(
-    config: &Config,
-    paths: &PathTable,
-    wild: &ResvTable<Wild>,
-    fixed: &ResvTable<Fixed>,
-    shared: &ResvTable<Shared>,
-    walls: &Blockades,
+    tables: &Tables,
     heard: Heard,
     iface: u8,
     message: &ResvErrMsg,
     out: &mut O,
 )
-    ensures { (c : ℕ) (n : State) → n.place ≡ config.now → n.paths ≡ paths.now.facts → n.wild ≡ wild.now.facts → n.fixed ≡ fixed.now.facts
-        → n.shared ≡ shared.now.facts → heard ≡ resv_err_heard c n iface message.now
-        → facts_of c (record n { walls = walls.now }) ≡ resv_err_facts c n iface message.now
+    ensures { (c : ℕ) (n : State) → n.place ≡ tables.now.config → n.paths ≡ tables.now.paths.facts → n.wild ≡ tables.now.wild.facts
+        → n.fixed ≡ tables.now.fixed.facts → n.shared ≡ tables.now.shared.facts → heard ≡ resv_err_heard c n iface message.now
+        → facts_of c (record n { walls = tables.now.walls }) ≡ resv_err_facts c n iface message.now
         → out.new ≡ fold O.posted out.old (resv_err_sent c n iface message.now) }
 {
     let Heard::Taken = heard else {
@@ -81,33 +76,25 @@ pub fn pass_resv_err<O: Outbox>(
     };
     let hop = (iface, message.hop.addr);
     let up = upstream(
-        config,
-        paths,
-        walls,
+        &tables.config,
+        &tables.paths,
+        &tables.walls,
         message.session,
         message.blame.style,
         hop,
     );
-    tell_by_style(config, wild, fixed, shared, &up, message, out);
+    tell_by_style(tables, &up, message, out);
 }
 
 // The errors that go on to the next hops of the reservations of the error's style.
-fn tell_by_style<O: Outbox>(
-    config: &Config,
-    wild: &ResvTable<Wild>,
-    fixed: &ResvTable<Fixed>,
-    shared: &ResvTable<Shared>,
-    up: &Upstream,
-    message: &ResvErrMsg,
-    out: &mut O,
-)
-    ensures { (n : State) → n.wild ≡ wild.now.facts → n.fixed ≡ fixed.now.facts → n.shared ≡ shared.now.facts
-        → out.new ≡ fold O.posted out.old (errors_told config.now up.now message.now message.now.blame.style (under sessions rests (table_in message.now.blame.style n) message.now.session).rows) }
+fn tell_by_style<O: Outbox>(tables: &Tables, up: &Upstream, message: &ResvErrMsg, out: &mut O)
+    ensures { (n : State) → n.wild ≡ tables.now.wild.facts → n.fixed ≡ tables.now.fixed.facts → n.shared ≡ tables.now.shared.facts
+        → out.new ≡ fold O.posted out.old (errors_told tables.now.config up.now message.now message.now.blame.style (under sessions rests (table_in message.now.blame.style n) message.now.session).rows) }
 {
     match message.blame.style {
-        StyleKind::Wild => tell_errors(config, wild, up, message, out),
-        StyleKind::Fixed => tell_errors(config, fixed, up, message, out),
-        StyleKind::Shared => tell_errors(config, shared, up, message, out),
+        StyleKind::Wild => tell_errors(&tables.config, &tables.wild, up, message, out),
+        StyleKind::Fixed => tell_errors(&tables.config, &tables.fixed, up, message, out),
+        StyleKind::Shared => tell_errors(&tables.config, &tables.shared, up, message, out),
     }
 }
 

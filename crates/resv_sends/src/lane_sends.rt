@@ -18,6 +18,22 @@ use rsvp_messages::{Message, ResvMsg, ResvTearMsg};
 use sent_state::{LaneTable, ask_of, gone_among, tear_of};
 use style_rules::Parts;
 
+/// Where Resvs go: the lane of a session and a style toward a previous hop.
+#[derive(Clone, Copy)]
+pub(crate) struct Lane {
+    pub session: Session,
+    pub style: StyleKind,
+    pub hop: (u8, Addr),
+}
+
+/// Why the Resvs of a session are looked at: whom the message that made a change asks to confirm, if it asks somebody, and
+/// whether a refresh is due.
+#[derive(Clone, Copy)]
+pub(crate) struct Occasion {
+    pub asked: Option<Addr>,
+    pub due: bool,
+}
+
 /// The ResvTear of a lane to which these parts went before: of the names of the units that go there no more, those via the
 /// hop, if there are some (RFC 2205, 3.1.6).
 pub fn tell_torn<O: Outbox>(
@@ -46,106 +62,85 @@ pub fn tell_torn<O: Outbox>(
 
 // Whom a Resv of a lane that is told for a change asks to confirm: whom the message that made the change says, if it says
 // someone, else the node itself for its marked wants (RFC 2205, 2.6).
-fn wish_for(
-    tables: &Tables,
-    session: Session,
-    style: StyleKind,
-    hop: (u8, Addr),
-    asked: Option<Addr>,
-) -> Option<Addr>
-    ensures { (c : ℕ) (said : Said) → result ≡ wish_seen c (state_of tables.now said) (lane_at (session, (style, hop))) asked }
+fn wish_for(tables: &Tables, lane: Lane, asked: Option<Addr>) -> Option<Addr>
+    ensures { (c : ℕ) (said : Said) → result ≡ wish_seen c (state_of tables.now said) (lane_at (lane.session, (lane.style, lane.hop))) asked }
 {
     match asked {
         Some(addr) => Some(addr),
-        None => own_wish(tables, session, style, hop),
+        None => own_wish(tables, lane.session, lane.style, lane.hop),
     }
 }
 
 // The Resv of a lane that asks for these parts, if they ask for something, with whom it asks to confirm.
 fn tell_ask<O: Outbox>(
     tables: &Tables,
-    session: Session,
-    style: StyleKind,
-    hop: (u8, Addr),
+    lane: Lane,
     parts: &Parts,
     wish: Option<Addr>,
     due: bool,
     out: &mut O,
 )
-    ensures { (c : ℕ) (said : Said) → out.new ≡ fold O.posted out.old (ask_seen c (state_of tables.now said) (lane_at (session, (style, hop))) wish due (ask_of style parts.now)) }
+    ensures { (c : ℕ) (said : Said) → out.new ≡ fold O.posted out.old (ask_seen c (state_of tables.now said) (lane_at (lane.session, (lane.style, lane.hop))) wish due (ask_of lane.style parts.now)) }
 {
-    let Some(ask) = ask_of(style, parts) else {
+    let Some(ask) = ask_of(lane.style, parts) else {
         return;
     };
     let message = ResvMsg {
-        session,
-        hop: hop_to(tables, session, hop),
+        session: lane.session,
+        hop: hop_to(tables, lane.session, lane.hop),
         period: tables.config.period(),
         confirm: wish,
         ask,
     };
-    out.post(hop.0, hop.1, &Message::Resv(message), due);
+    out.post(lane.hop.0, lane.hop.1, &Message::Resv(message), due);
 }
 
 // The Resv of a lane that asks for these parts, where they are new or due.
 fn tell_changed<O: Outbox>(
     tables: &Tables,
-    session: Session,
-    style: StyleKind,
-    hop: (u8, Addr),
+    lane: Lane,
     parts: &Parts,
-    asked: Option<Addr>,
+    occasion: Occasion,
     new: bool,
-    due: bool,
     out: &mut O,
 )
-    ensures { (c : ℕ) (said : Said) → out.new ≡ fold O.posted out.old (told_parts c (state_of tables.now said) (lane_at (session, (style, hop))) asked new due (ask_of style parts.now)) }
+    ensures { (c : ℕ) (said : Said) → out.new ≡ fold O.posted out.old (told_parts c (state_of tables.now said) (lane_at (lane.session, (lane.style, lane.hop))) occasion.asked new occasion.due (ask_of lane.style parts.now)) }
 {
     if new {
-        let wish = wish_for(tables, session, style, hop, asked);
-        tell_ask(tables, session, style, hop, parts, wish, due, out);
-    } else if due {
-        tell_ask(tables, session, style, hop, parts, None, due, out);
+        let wish = wish_for(tables, lane, occasion.asked);
+        tell_ask(tables, lane, parts, wish, occasion.due, out);
+    } else if occasion.due {
+        tell_ask(tables, lane, parts, None, occasion.due, out);
     }
 }
 
 /// The Resv of a lane, whole, where what goes there is not what was said last, or where it is due (RFC 2209, 2: RESV REFRESH);
 /// what goes there is kept as said. One that is told for a change asks to confirm whom `asked` says, if it says someone, else
 /// the node for its marked wants. Of a lane to which nothing was said fewer than 1,536 others are there.
-pub fn tell_lane<O: Outbox>(
+pub(crate) fn tell_lane<O: Outbox>(
     tables: &Tables,
     said: &mut LaneTable,
-    session: Session,
-    style: StyleKind,
-    hop: (u8, Addr),
-    asked: Option<Addr>,
-    due: bool,
+    lane: Lane,
+    occasion: Occasion,
     out: &mut O,
 )
-    requires room { has said.old (lane_at (session, (style, hop))) ≡ false → size said.old < 1536 }
+    requires room { has said.old (lane_at (lane.session, (lane.style, lane.hop))) ≡ false → size said.old < 1536 }
     ensures sent { (c : ℕ) (any : Said)
-        → out.new ≡ fold O.posted out.old (told_seen c (state_of tables.now any) (lane_at (session, (style, hop))) asked due (said_at said.old (lane_at (session, (style, hop))))) }
-    ensures said { (c : ℕ) (any : Said) → said.new ≡ told said.old (lane_at (session, (style, hop))) (toward_at c (state_of tables.now any) session style hop) }
+        → out.new ≡ fold O.posted out.old (told_seen c (state_of tables.now any) (lane_at (lane.session, (lane.style, lane.hop))) occasion.asked occasion.due (said_at said.old (lane_at (lane.session, (lane.style, lane.hop))))) }
+    ensures said { (c : ℕ) (any : Said) → said.new ≡ told said.old (lane_at (lane.session, (lane.style, lane.hop))) (toward_at c (state_of tables.now any) lane.session lane.style lane.hop) }
 {
-    let now = toward(tables, session, style, hop);
-    let is_old = said.is_said(session, style, hop, &now);
-    tell_changed(tables, session, style, hop, &now, asked, !is_old, due, out);
-    said.tell(session, style, hop, now);
+    let now = toward(tables, lane.session, lane.style, lane.hop);
+    let is_old = said.is_said(lane.session, lane.style, lane.hop, &now);
+    tell_changed(tables, lane, &now, occasion, !is_old, out);
+    said.tell(lane.session, lane.style, lane.hop, now);
 }
 
 // The Resv of a lane, whole, of what was said there last, as that of a lane that is due (RFC 2209, 2: RESV REFRESH).
-pub(crate) fn refresh_lane<O: Outbox>(
-    tables: &Tables,
-    said: &LaneTable,
-    session: Session,
-    style: StyleKind,
-    hop: (u8, Addr),
-    out: &mut O,
-)
-    ensures { (c : ℕ) (any : Said) → out.new ≡ fold O.posted out.old (renewed_seen c (state_of tables.now any) (lane_at (session, (style, hop))) (said_at said.now (lane_at (session, (style, hop))))) }
+pub(crate) fn refresh_lane<O: Outbox>(tables: &Tables, said: &LaneTable, lane: Lane, out: &mut O)
+    ensures { (c : ℕ) (any : Said) → out.new ≡ fold O.posted out.old (renewed_seen c (state_of tables.now any) (lane_at (lane.session, (lane.style, lane.hop))) (said_at said.now (lane_at (lane.session, (lane.style, lane.hop))))) }
 {
-    let Some(was) = said.find(session, style, hop) else {
+    let Some(was) = said.find(lane.session, lane.style, lane.hop) else {
         return;
     };
-    tell_ask(tables, session, style, hop, was, None, true, out);
+    tell_ask(tables, lane, was, None, true, out);
 }

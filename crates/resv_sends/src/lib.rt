@@ -18,9 +18,9 @@ mod upward;
 
 pub use clearing::clear_lanes;
 pub use lane_marks::{is_any_new, used_marks};
-pub use lane_sends::{tell_lane, tell_torn};
+pub use lane_sends::tell_torn;
 pub use marks::{marked_units, own_wish, unmark};
 pub use rounds::{refresh_lanes, tear_lanes, tell_lanes};
-pub use telling::{keep_said, offered, tell_news, tell_sender, tell_tears};
+pub use telling::{PriorOffer, keep_said, offered, tell_news, tell_sender, tell_tears};
 pub use units::Units;
 pub use upward::{hop_to, names_via, toward};

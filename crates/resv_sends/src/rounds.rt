@@ -12,7 +12,7 @@ ghost use Rattle.laws_sends.specs.SendsHere.{hops_in};
 ghost use Rattle.router_state.specs.Whole.{state_of};
 ghost use Rattle.resv_sends.specs.Rounds.{lanes_of, renewed_by, told_by, torn_by};
 
-use crate::lane_sends::{refresh_lane, tell_lane, tell_torn};
+use crate::lane_sends::{Lane, Occasion, refresh_lane, tell_lane, tell_torn};
 use path_state::Hops;
 use router_rules::Outbox;
 use router_state::Tables;
@@ -75,20 +75,24 @@ fn tell_style<O: Outbox>(
     session: Session,
     style: StyleKind,
     hops: &Hops,
-    asked: Option<Addr>,
-    due: bool,
+    occasion: Occasion,
     out: &mut O,
 )
     requires near { (c : ℕ) → hops.now ≡ hops_in (facts_of c (state_of tables.now empty)) session }
     requires roomy { IsRoomy (state_of tables.now empty) said.old }
-    ensures sent { (c : ℕ) (any : Said) → out.new ≡ fold O.posted out.old (flat_map (told_by c (state_of tables.now any) asked due said.old session) (lanes_of style (keys hops.now))) }
+    ensures sent { (c : ℕ) (any : Said) → out.new ≡ fold O.posted out.old (flat_map (told_by c (state_of tables.now any) occasion.asked occasion.due said.old session) (lanes_of style (keys hops.now))) }
     ensures told { IsTold (state_of tables.now said.old) session (lanes_of style (keys hops.now)) said.new }
     ensures roomy { IsRoomy (state_of tables.now empty) said.new }
 {
     tables.paths.limits();
     let list = hops.as_slice();
     for i in 0..list.len() {
-        tell_lane(tables, said, session, style, list[i], asked, due, out);
+        let lane = Lane {
+            session,
+            style,
+            hop: list[i],
+        };
+        tell_lane(tables, said, lane, occasion, out);
     }
 }
 
@@ -110,34 +114,16 @@ pub fn tell_lanes<O: Outbox>(
     ensures told { IsTold (state_of tables.now said.old) session (lanes_by (keys hops.now)) said.new }
     ensures roomy { IsRoomy (state_of tables.now empty) said.new }
 {
-    tell_style(
-        tables,
-        said,
-        session,
-        StyleKind::Wild,
-        hops,
-        asked,
-        due,
-        out,
-    );
-    tell_style(
-        tables,
-        said,
-        session,
-        StyleKind::Fixed,
-        hops,
-        asked,
-        due,
-        out,
-    );
+    let occasion = Occasion { asked, due };
+    tell_style(tables, said, session, StyleKind::Wild, hops, occasion, out);
+    tell_style(tables, said, session, StyleKind::Fixed, hops, occasion, out);
     tell_style(
         tables,
         said,
         session,
         StyleKind::Shared,
         hops,
-        asked,
-        due,
+        occasion,
         out,
     );
 }
@@ -155,7 +141,12 @@ fn refresh_style<O: Outbox>(
 {
     let list = hops.as_slice();
     for i in 0..list.len() {
-        refresh_lane(tables, said, session, style, list[i], out);
+        let lane = Lane {
+            session,
+            style,
+            hop: list[i],
+        };
+        refresh_lane(tables, said, lane, out);
     }
 }
 

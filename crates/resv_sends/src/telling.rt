@@ -43,6 +43,14 @@ pub fn offered(tables: &Tables, session: Session, sender: Sender) -> Option<Offe
     }
 }
 
+/// What was offered of a sender before an input, and the previous hops that its session had then.
+#[derive(Drop)]
+pub struct PriorOffer {
+    pub sender: Sender,
+    pub offer: Option<Offered>,
+    pub near: Hops,
+}
+
 /// The first half of what a node tells where one sender changed, and with it its session alone: the sender's PathTears, and the
 /// ResvTears of its session's lanes. What was offered of it, and the session's previous hops, are those from before. What was
 /// said then is what went toward each hop.
@@ -50,17 +58,22 @@ pub fn tell_tears<O: Outbox>(
     tables: &Tables,
     said: &LaneTable,
     session: Session,
-    sender: Sender,
-    before: &Option<Offered>,
-    near: &Hops,
+    prior: &PriorOffer,
     out: &mut O,
 )
-    ensures { (n : State) (c : ℕ) → IsBefore (session, sender) n (state_of tables.now said.now) (option_map as_offer before.now) near.now
-        → out.new ≡ fold O.posted out.old (told_before n.place (session, sender) (facts_of c n) (facts_of c (state_of tables.now said.now))) }
+    ensures { (n : State) (c : ℕ) → IsBefore (session, prior.now.sender) n (state_of tables.now said.now) (option_map as_offer prior.now.offer) prior.now.near
+        → out.new ≡ fold O.posted out.old (told_before n.place (session, prior.now.sender) (facts_of c n) (facts_of c (state_of tables.now said.now))) }
 {
-    let after = offered(tables, session, sender);
-    tell_gone(&tables.config, session, sender, before, &after, out);
-    tear_lanes(tables, said, session, near, out);
+    let after = offered(tables, session, prior.sender);
+    tell_gone(
+        &tables.config,
+        session,
+        prior.sender,
+        &prior.offer,
+        &after,
+        out,
+    );
+    tear_lanes(tables, said, session, &prior.near, out);
 }
 
 // The units of a session's wants whose marks are used, where the message that made the change says nobody to be confirmed.
@@ -86,27 +99,32 @@ pub fn tell_news<O: Outbox>(
     tables: &mut Tables,
     said: &mut LaneTable,
     session: Session,
-    sender: Sender,
-    before: &Option<Offered>,
-    near: &Hops,
+    prior: &PriorOffer,
     asked: Option<Addr>,
     out: &mut O,
 )
-    requires { (n : State) × IsBefore (session, sender) n (state_of tables.old said.old) (option_map as_offer before.now) near.now }
+    requires { (n : State) × IsBefore (session, prior.now.sender) n (state_of tables.old said.old) (option_map as_offer prior.now.offer) prior.now.near }
     ensures sent { (n : State) (c : ℕ) (a : Option Asked) → address_of a ≡ asked
-        → IsBefore (session, sender) n (state_of tables.old said.old) (option_map as_offer before.now) near.now
-        → out.new ≡ fold O.posted out.old (told_behind n.place (session, sender) (facts_of c n) (facts_of c (state_of tables.old said.old)) a) }
+        → IsBefore (session, prior.now.sender) n (state_of tables.old said.old) (option_map as_offer prior.now.offer) prior.now.near
+        → out.new ≡ fold O.posted out.old (told_behind n.place (session, prior.now.sender) (facts_of c n) (facts_of c (state_of tables.old said.old)) a) }
     ensures facts { (n : State) (c : ℕ) (a : Option Asked) → address_of a ≡ asked
-        → IsBefore (session, sender) n (state_of tables.old said.old) (option_map as_offer before.now) near.now
+        → IsBefore (session, prior.now.sender) n (state_of tables.old said.old) (option_map as_offer prior.now.offer) prior.now.near
         → facts_of c (state_of tables.new said.new) ≡ facts_told n.place (facts_of c n) (facts_of c (state_of tables.old said.old)) a }
     ensures said { IsSaid said.new (state_of tables.new said.new) }
     ensures rest { tables.new ≡ record tables.old { wants = tables.new.wants } }
 {
-    let after = offered(tables, session, sender);
-    tell_new(&tables.config, session, sender, before, &after, out);
+    let after = offered(tables, session, prior.sender);
+    tell_new(
+        &tables.config,
+        session,
+        prior.sender,
+        &prior.offer,
+        &after,
+        out,
+    );
     let hops = tables.paths.hops(session);
     let used = used_for(tables, said, session, &hops, asked);
-    clear_lanes(tables, said, session, near);
+    clear_lanes(tables, said, session, &prior.near);
     tell_lanes(tables, said, session, &hops, asked, false, out);
     unmark(tables, session, &used);
 }
@@ -119,22 +137,20 @@ pub fn tell_sender<O: Outbox>(
     tables: &mut Tables,
     said: &mut LaneTable,
     session: Session,
-    sender: Sender,
-    before: &Option<Offered>,
-    near: &Hops,
+    prior: &PriorOffer,
     out: &mut O,
 )
-    requires { (n : State) × IsBefore (session, sender) n (state_of tables.old said.old) (option_map as_offer before.now) near.now }
+    requires { (n : State) × IsBefore (session, prior.now.sender) n (state_of tables.old said.old) (option_map as_offer prior.now.offer) prior.now.near }
     ensures sent { (n : State) (c : ℕ) (h : Heard)
-        → IsBefore (session, sender) n (state_of tables.old said.old) (option_map as_offer before.now) near.now
+        → IsBefore (session, prior.now.sender) n (state_of tables.old said.old) (option_map as_offer prior.now.offer) prior.now.near
         → out.new ≡ fold O.posted out.old (sends n.place n.place (facts_of c n) (facts_of c (state_of tables.old said.old)) (only_heard h (facts_of c (state_of tables.old said.old)))) }
-    ensures facts { (n : State) (c : ℕ) → IsBefore (session, sender) n (state_of tables.old said.old) (option_map as_offer before.now) near.now
+    ensures facts { (n : State) (c : ℕ) → IsBefore (session, prior.now.sender) n (state_of tables.old said.old) (option_map as_offer prior.now.offer) prior.now.near
         → facts_of c (state_of tables.new said.new) ≡ facts_told n.place (facts_of c n) (facts_of c (state_of tables.old said.old)) None }
     ensures said { IsSaid said.new (state_of tables.new said.new) }
     ensures rest { tables.new ≡ record tables.old { wants = tables.new.wants } }
 {
-    tell_tears(tables, said, session, sender, before, near, out);
-    tell_news(tables, said, session, sender, before, near, None, out);
+    tell_tears(tables, said, session, prior, out);
+    tell_news(tables, said, session, prior, None, out);
 }
 
 // Keeps nothing of what it takes.

@@ -15,7 +15,7 @@ ghost use Rattle.router_arrivals.specs.Arriving.{to_node};
 use crate::node::Node;
 use crate::telling::tell_resv_err;
 use error_sends::{answer_unspelt, pass_path_err, pass_resv_conf, set_blockades};
-use resv_sends::offered;
+use resv_sends::{PriorOffer, offered};
 use router_rules::{Heard, Outbox};
 use router_state::Tables;
 use rsvp_base::{Addr, Sender};
@@ -73,12 +73,15 @@ impl Node {
         let near = self.tables.paths.hops(session);
         let before = offered(&self.tables, session, sender);
         let heard = block(&mut self.tables, iface, message);
+        let prior = PriorOffer {
+            sender,
+            offer: before,
+            near,
+        };
         tell_resv_err(
             &mut self.tables,
             &mut self.said,
-            sender,
-            &before,
-            &near,
+            &prior,
             iface,
             message,
             heard,

@@ -17,7 +17,7 @@ ghost use Rattle.router_core.specs.Renewing.{offer_by};
 use crate::node::Node;
 use path_sends::{Offered, tell_new};
 use path_state::PathFact;
-use resv_sends::{offered, tell_sender};
+use resv_sends::{PriorOffer, offered, tell_sender};
 use router_arrivals::{drop_path, has_path_by, learn_path, path_by, renew_path};
 use router_rules::{Heard, Outbox, Why};
 use router_state::Config;
@@ -47,15 +47,12 @@ impl Node {
         if !learn_path(&mut self.tables, iface, message, sender, tspec) {
             return Heard::Dropped(Why::Full);
         }
-        tell_sender(
-            &mut self.tables,
-            &mut self.said,
-            session,
+        let prior = PriorOffer {
             sender,
-            &before,
-            &near,
-            out,
-        );
+            offer: before,
+            near,
+        };
+        tell_sender(&mut self.tables, &mut self.said, session, &prior, out);
         Heard::Taken
     }
 
@@ -107,15 +104,12 @@ impl Node {
         }
         let before = offered(&self.tables, session, sender);
         drop_path(&mut self.tables, session, sender);
-        tell_sender(
-            &mut self.tables,
-            &mut self.said,
-            session,
+        let prior = PriorOffer {
             sender,
-            &before,
-            &near,
-            out,
-        );
+            offer: before,
+            near,
+        };
+        tell_sender(&mut self.tables, &mut self.said, session, &prior, out);
         Heard::Taken
     }
 }

@@ -9,7 +9,7 @@ ghost use Rattle.router_arrivals.specs.Arriving.{to_node};
 
 use crate::node::Node;
 use crate::telling::{tell_answer, tell_resv};
-use resv_sends::{offered, tell_sender};
+use resv_sends::{PriorOffer, offered, tell_sender};
 use router_arrivals::{take_resvs, tear_resvs};
 use router_rules::{Heard, Outbox};
 use rsvp_base::Sender;
@@ -39,12 +39,15 @@ impl Node {
         let sender = Sender::default();
         let near = self.tables.paths.hops(session);
         let before = offered(&self.tables, session, sender);
+        let prior = PriorOffer {
+            sender,
+            offer: before,
+            near,
+        };
         tell_resv(
             &mut self.tables,
             &mut self.said,
-            sender,
-            &before,
-            &near,
+            &prior,
             iface,
             message,
             &self.answer,
@@ -67,15 +70,12 @@ impl Node {
         let near = self.tables.paths.hops(session);
         let before = offered(&self.tables, session, sender);
         let heard = tear_resvs(&mut self.tables, iface, message);
-        tell_sender(
-            &mut self.tables,
-            &mut self.said,
-            session,
+        let prior = PriorOffer {
             sender,
-            &before,
-            &near,
-            out,
-        );
+            offer: before,
+            near,
+        };
+        tell_sender(&mut self.tables, &mut self.said, session, &prior, out);
         heard
     }
 }

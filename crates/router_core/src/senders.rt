@@ -5,7 +5,7 @@ ghost use Rattle.router_rules.specs.Rule.{facts_after, refusal_of_call, sent_aft
 ghost use Rattle.router_state.specs.State.{facts_at};
 
 use crate::node::Node;
-use resv_sends::{offered, tell_sender};
+use resv_sends::{PriorOffer, offered, tell_sender};
 use router_arrivals::{drop_sender, keep_sender};
 use router_rules::{LocalErr, Outbox};
 use rsvp_base::{Flow, Sender, Session};
@@ -38,15 +38,12 @@ impl Node {
         if !keep_sender(&mut self.tables, session, sender, tspec) {
             return Err(LocalErr::Full);
         }
-        tell_sender(
-            &mut self.tables,
-            &mut self.said,
-            session,
+        let prior = PriorOffer {
             sender,
-            &before,
-            &near,
-            out,
-        );
+            offer: before,
+            near,
+        };
+        tell_sender(&mut self.tables, &mut self.said, session, &prior, out);
         Ok(())
     }
 
@@ -71,15 +68,12 @@ impl Node {
         if !drop_sender(&mut self.tables, session, sender) {
             return Err(LocalErr::Absent);
         }
-        tell_sender(
-            &mut self.tables,
-            &mut self.said,
-            session,
+        let prior = PriorOffer {
             sender,
-            &before,
-            &near,
-            out,
-        );
+            offer: before,
+            near,
+        };
+        tell_sender(&mut self.tables, &mut self.said, session, &prior, out);
         Ok(())
     }
 }

@@ -17,13 +17,10 @@ ghost use Rattle.router_core.specs.Confirming.{confirmed_here};
 
 use crate::confirming::{confirm, confirm_here};
 use error_sends::pass_resv_err;
-use path_sends::Offered;
-use path_state::Hops;
-use resv_sends::{tell_news, tell_tears};
+use resv_sends::{PriorOffer, tell_news, tell_tears};
 use router_arrivals::{Answer, tell_refusals};
 use router_rules::{Heard, Outbox};
 use router_state::{Config, Tables};
-use rsvp_base::Sender;
 use rsvp_messages::{ResvErrMsg, ResvMsg};
 use sent_state::LaneTable;
 
@@ -33,40 +30,29 @@ use sent_state::LaneTable;
 pub(crate) fn tell_resv<O: Outbox>(
     tables: &mut Tables,
     said: &mut LaneTable,
-    sender: Sender,
-    before: &Option<Offered>,
-    near: &Hops,
+    prior: &PriorOffer,
     iface: u8,
     message: &ResvMsg,
     answer: &Answer,
     out: &mut O,
 )
-    requires { (n : State) × IsBefore (message.now.session, sender) n (state_of tables.old said.old) (option_map as_offer before.now) near.now }
+    requires { (n : State) × IsBefore (message.now.session, prior.now.sender) n (state_of tables.old said.old) (option_map as_offer prior.now.offer) prior.now.near }
     ensures sent { (n : State) (c : ℕ) (k : Change)
-        → IsBefore (message.now.session, sender) n (state_of tables.old said.old) (option_map as_offer before.now) near.now
+        → IsBefore (message.now.session, prior.now.sender) n (state_of tables.old said.old) (option_map as_offer prior.now.offer) prior.now.near
         → IsAnswer n.place (asker_of n.place c iface message.now) answer.now k → k.confs ≡ [] → k.fired ≡ empty
         → out.new ≡ fold O.posted out.old (sends n.place n.place (facts_of c n) (facts_of c (state_of tables.old said.old)) k) }
     ensures facts { (n : State) (c : ℕ)
-        → IsBefore (message.now.session, sender) n (state_of tables.old said.old) (option_map as_offer before.now) near.now
+        → IsBefore (message.now.session, prior.now.sender) n (state_of tables.old said.old) (option_map as_offer prior.now.offer) prior.now.near
         → facts_of c (state_of tables.new said.new)
         ≡ facts_told n.place (facts_of c n) (facts_of c (state_of tables.old said.old)) (asked_of (asker_of n.place c iface message.now) answer.now.taken message.now.confirm) }
     ensures said { IsSaid said.new (state_of tables.new said.new) }
     ensures rest { tables.new ≡ record tables.old { wants = tables.new.wants } }
 {
     let session = message.session;
-    tell_tears(tables, said, session, sender, before, near, out);
+    tell_tears(tables, said, session, prior, out);
     tell_refusals(&tables.config, iface, message, &answer.done.errors, out);
     confirm(tables, said, iface, message, &answer.taken, out);
-    tell_news(
-        tables,
-        said,
-        session,
-        sender,
-        before,
-        near,
-        message.confirm,
-        out,
-    );
+    tell_news(tables, said, session, prior, message.confirm, out);
 }
 
 /// All that a node tells once a Resv was taken of which nothing is news, in order: the refusals, and the confirmation. What goes
@@ -90,39 +76,26 @@ pub(crate) fn tell_answer<O: Outbox>(
 pub(crate) fn tell_resv_err<O: Outbox>(
     tables: &mut Tables,
     said: &mut LaneTable,
-    sender: Sender,
-    before: &Option<Offered>,
-    near: &Hops,
+    prior: &PriorOffer,
     iface: u8,
     message: &ResvErrMsg,
     heard: Heard,
     out: &mut O,
 )
-    requires { (n : State) × IsBefore (message.now.session, sender) n (state_of tables.old said.old) (option_map as_offer before.now) near.now }
+    requires { (n : State) × IsBefore (message.now.session, prior.now.sender) n (state_of tables.old said.old) (option_map as_offer prior.now.offer) prior.now.near }
     ensures sent { (n : State) (c : ℕ)
-        → IsBefore (message.now.session, sender) n (state_of tables.old said.old) (option_map as_offer before.now) near.now
+        → IsBefore (message.now.session, prior.now.sender) n (state_of tables.old said.old) (option_map as_offer prior.now.offer) prior.now.near
         → state_of tables.old said.old ≡ record n { walls = tables.old.walls } → heard ≡ resv_err_heard c n iface message.now
         → facts_of c (state_of tables.old said.old) ≡ resv_err_facts c n iface message.now
         → out.new ≡ fold O.posted out.old (sends n.place n.place (facts_of c n) (facts_of c (state_of tables.old said.old)) (act_resv_err n.place c iface message.now (facts_of c n))) }
     ensures facts { (n : State) (c : ℕ)
-        → IsBefore (message.now.session, sender) n (state_of tables.old said.old) (option_map as_offer before.now) near.now
+        → IsBefore (message.now.session, prior.now.sender) n (state_of tables.old said.old) (option_map as_offer prior.now.offer) prior.now.near
         → facts_of c (state_of tables.new said.new) ≡ facts_told n.place (facts_of c n) (facts_of c (state_of tables.old said.old)) None }
     ensures said { IsSaid said.new (state_of tables.new said.new) }
     ensures rest { tables.new ≡ record tables.old { wants = tables.new.wants } }
 {
     let session = message.session;
-    tell_tears(tables, said, session, sender, before, near, out);
-    pass_resv_err(
-        &tables.config,
-        &tables.paths,
-        &tables.wild,
-        &tables.fixed,
-        &tables.shared,
-        &tables.walls,
-        heard,
-        iface,
-        message,
-        out,
-    );
-    tell_news(tables, said, session, sender, before, near, None, out);
+    tell_tears(tables, said, session, prior, out);
+    pass_resv_err(tables, heard, iface, message, out);
+    tell_news(tables, said, session, prior, None, out);
 }

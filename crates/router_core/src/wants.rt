@@ -5,7 +5,7 @@ ghost use Rattle.router_rules.specs.Rule.{facts_after, refusal_of_call, sent_aft
 ghost use Rattle.router_state.specs.State.{facts_at};
 
 use crate::node::Node;
-use resv_sends::{offered, tell_sender};
+use resv_sends::{PriorOffer, offered, tell_sender};
 use router_arrivals::{drop_wants, put_wants};
 use router_rules::{LocalErr, Outbox};
 use rsvp_base::{Flow, Sender, Senders, Session, StyleKind};
@@ -39,15 +39,12 @@ impl Node {
         let near = self.tables.paths.hops(session);
         let before = offered(&self.tables, session, sender);
         put_wants(&mut self.tables, session, style, senders, flow, confirm)?;
-        tell_sender(
-            &mut self.tables,
-            &mut self.said,
-            session,
+        let prior = PriorOffer {
             sender,
-            &before,
-            &near,
-            out,
-        );
+            offer: before,
+            near,
+        };
+        tell_sender(&mut self.tables, &mut self.said, session, &prior, out);
         Ok(())
     }
 
@@ -68,15 +65,12 @@ impl Node {
         let near = self.tables.paths.hops(session);
         let before = offered(&self.tables, session, sender);
         drop_wants(&mut self.tables, session)?;
-        tell_sender(
-            &mut self.tables,
-            &mut self.said,
-            session,
+        let prior = PriorOffer {
             sender,
-            &before,
-            &near,
-            out,
-        );
+            offer: before,
+            near,
+        };
+        tell_sender(&mut self.tables, &mut self.said, session, &prior, out);
         Ok(())
     }
 }

@@ -16,11 +16,11 @@ pub returns : goal.returns
 returns g c = λ clock n place paths wild fixed shared heard facts.
     let m = c.args.message.now in
     let st = m.blame.style in
-    let after : State = record n { walls = c.args.walls.now } in
+    let after : State = record n { walls = c.args.tables.now.walls } in
     let here = sym place in
-    let t = was_taken clock n c.args.iface m c.args.walls.now facts (sym c.in-Taken.is ∙ heard) in
+    let t = was_taken clock n c.args.iface m c.args.tables.now.walls facts (sym c.in-Taken.is ∙ heard) in
     c.tell_by_style.ensures n wild fixed shared
     ∙ (λ i. fold g.O.Outbox.posted c.args.out.now (errors_told (here i) c.upstream-up.result m st (under sessions rests (table_in st n) m.session).rows))
     ∙ ap (fold g.O.Outbox.posted c.args.out.now)
-    (taken_sent clock n c.args.iface m t.0 t.1 c.args.walls.now t.2 st refl (table_in st n) (table_seen clock n st) c.upstream-up.result
+    (taken_sent clock n c.args.iface m t.0 t.1 c.args.tables.now.walls t.2 st refl (table_in st n) (table_seen clock n st) c.upstream-up.result
     (c.upstream-up.ensures clock after place paths refl))

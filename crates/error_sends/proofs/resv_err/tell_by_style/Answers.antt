@@ -11,25 +11,25 @@ pub returns-in-Wild : goal.returns-in-Wild
 returns-in-Wild g c = λ n wild fixed shared.
     let is = c.in-Wild.is in
     let same = sym wild in
-    c.tell_errors.ensures ∙ (λ i. fold g.O.Outbox.posted c.args.out.now (errors_told c.args.config.now c.args.up.now c.args.message.now Wild
+    c.tell_errors.ensures ∙ (λ i. fold g.O.Outbox.posted c.args.out.now (errors_told c.args.tables.now.config c.args.up.now c.args.message.now Wild
     (under sessions rests (same i) c.args.message.now.session).rows))
-    ∙ sym (λ i. fold g.O.Outbox.posted c.args.out.now (errors_told c.args.config.now c.args.up.now c.args.message.now (is i)
+    ∙ sym (λ i. fold g.O.Outbox.posted c.args.out.now (errors_told c.args.tables.now.config c.args.up.now c.args.message.now (is i)
     (under sessions rests (table_in (is i) n) c.args.message.now.session).rows))
 
 pub returns-in-Fixed : goal.returns-in-Fixed
 returns-in-Fixed g c = λ n wild fixed shared.
     let is = c.in-Fixed.is in
     let same = sym fixed in
-    c.tell_errors-in-Fixed.ensures ∙ (λ i. fold g.O.Outbox.posted c.args.out.now (errors_told c.args.config.now c.args.up.now c.args.message.now Fixed
+    c.tell_errors-in-Fixed.ensures ∙ (λ i. fold g.O.Outbox.posted c.args.out.now (errors_told c.args.tables.now.config c.args.up.now c.args.message.now Fixed
     (under sessions rests (same i) c.args.message.now.session).rows))
-    ∙ sym (λ i. fold g.O.Outbox.posted c.args.out.now (errors_told c.args.config.now c.args.up.now c.args.message.now (is i)
+    ∙ sym (λ i. fold g.O.Outbox.posted c.args.out.now (errors_told c.args.tables.now.config c.args.up.now c.args.message.now (is i)
     (under sessions rests (table_in (is i) n) c.args.message.now.session).rows))
 
 pub returns-in-Shared : goal.returns-in-Shared
 returns-in-Shared g c = λ n wild fixed shared.
     let is = c.in-Shared.is in
     let same = sym shared in
-    c.tell_errors-in-Shared.ensures ∙ (λ i. fold g.O.Outbox.posted c.args.out.now (errors_told c.args.config.now c.args.up.now c.args.message.now Shared
+    c.tell_errors-in-Shared.ensures ∙ (λ i. fold g.O.Outbox.posted c.args.out.now (errors_told c.args.tables.now.config c.args.up.now c.args.message.now Shared
     (under sessions rests (same i) c.args.message.now.session).rows))
-    ∙ sym (λ i. fold g.O.Outbox.posted c.args.out.now (errors_told c.args.config.now c.args.up.now c.args.message.now (is i)
+    ∙ sym (λ i. fold g.O.Outbox.posted c.args.out.now (errors_told c.args.tables.now.config c.args.up.now c.args.message.now (is i)
     (under sessions rests (table_in (is i) n) c.args.message.now.session).rows))

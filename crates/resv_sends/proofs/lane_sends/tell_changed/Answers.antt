@@ -10,27 +10,27 @@ use Rattle.resv_sends.proofs.lane_sends.tell_changed.Goals as goal
 pub returns-then-new : goal.returns-then-new
 returns-then-new g c = λ clock said.
     let n = state_of c.args.tables.now said in
-    let l = lane_at (c.args.session, (c.args.style, c.args.hop)) in
-    let a = ask_of c.args.style c.args.parts.now in
-    c.tell_ask.ensures clock said ∙ ap (λ w. fold g.O.Outbox.posted c.args.out.now (ask_seen clock n l w c.args.due a)) (c.wish_for-wish.ensures clock said)
-    ∙ ap (fold g.O.Outbox.posted c.args.out.now) (parts_new clock n c.args.session c.args.style c.args.hop c.args.asked c.args.due a)
-    ∙ ap (λ b. fold g.O.Outbox.posted c.args.out.now (told_parts clock n l c.args.asked b c.args.due a)) (sym c.if-new.true)
+    let l = lane_at (c.args.lane.session, (c.args.lane.style, c.args.lane.hop)) in
+    let a = ask_of c.args.lane.style c.args.parts.now in
+    c.tell_ask.ensures clock said ∙ ap (λ w. fold g.O.Outbox.posted c.args.out.now (ask_seen clock n l w c.args.occasion.due a)) (c.wish_for-wish.ensures clock said)
+    ∙ ap (fold g.O.Outbox.posted c.args.out.now) (parts_new clock n c.args.lane.session c.args.lane.style c.args.lane.hop c.args.occasion.asked c.args.occasion.due a)
+    ∙ ap (λ b. fold g.O.Outbox.posted c.args.out.now (told_parts clock n l c.args.occasion.asked b c.args.occasion.due a)) (sym c.if-new.true)
 
-pub returns-then-due : goal.returns-then-due
-returns-then-due g c = λ clock said.
+pub returns-then-occasion : goal.returns-then-occasion
+returns-then-occasion g c = λ clock said.
     let n = state_of c.args.tables.now said in
-    let l = lane_at (c.args.session, (c.args.style, c.args.hop)) in
-    let a = ask_of c.args.style c.args.parts.now in
-    c.tell_ask-then-due.ensures clock said ∙ ap (λ b. fold g.O.Outbox.posted c.args.out.now (ask_seen clock n l None b a)) c.if-due.true
-    ∙ ap (fold g.O.Outbox.posted c.args.out.now) (parts_due clock n c.args.session c.args.style c.args.hop c.args.asked a)
-    ∙ ap (λ b. fold g.O.Outbox.posted c.args.out.now (told_parts clock n l c.args.asked b true a)) (sym c.if-new.false)
-    ∙ ap (λ b. fold g.O.Outbox.posted c.args.out.now (told_parts clock n l c.args.asked c.args.new b a)) (sym c.if-due.true)
+    let l = lane_at (c.args.lane.session, (c.args.lane.style, c.args.lane.hop)) in
+    let a = ask_of c.args.lane.style c.args.parts.now in
+    c.tell_ask-then-occasion.ensures clock said ∙ ap (λ b. fold g.O.Outbox.posted c.args.out.now (ask_seen clock n l None b a)) c.if-occasion.true
+    ∙ ap (fold g.O.Outbox.posted c.args.out.now) (parts_due clock n c.args.lane.session c.args.lane.style c.args.lane.hop c.args.occasion.asked a)
+    ∙ ap (λ b. fold g.O.Outbox.posted c.args.out.now (told_parts clock n l c.args.occasion.asked b true a)) (sym c.if-new.false)
+    ∙ ap (λ b. fold g.O.Outbox.posted c.args.out.now (told_parts clock n l c.args.occasion.asked c.args.new b a)) (sym c.if-occasion.true)
 
-pub returns-else-due : goal.returns-else-due
-returns-else-due g c = λ clock said.
+pub returns-else-occasion : goal.returns-else-occasion
+returns-else-occasion g c = λ clock said.
     let n = state_of c.args.tables.now said in
-    let l = lane_at (c.args.session, (c.args.style, c.args.hop)) in
-    let a = ask_of c.args.style c.args.parts.now in
-    ap (fold g.O.Outbox.posted c.args.out.now) (parts_old clock n c.args.session c.args.style c.args.hop c.args.asked a)
-    ∙ ap (λ b. fold g.O.Outbox.posted c.args.out.now (told_parts clock n l c.args.asked b false a)) (sym c.if-new.false)
-    ∙ ap (λ b. fold g.O.Outbox.posted c.args.out.now (told_parts clock n l c.args.asked c.args.new b a)) (sym c.if-due.false)
+    let l = lane_at (c.args.lane.session, (c.args.lane.style, c.args.lane.hop)) in
+    let a = ask_of c.args.lane.style c.args.parts.now in
+    ap (fold g.O.Outbox.posted c.args.out.now) (parts_old clock n c.args.lane.session c.args.lane.style c.args.lane.hop c.args.occasion.asked a)
+    ∙ ap (λ b. fold g.O.Outbox.posted c.args.out.now (told_parts clock n l c.args.occasion.asked b false a)) (sym c.if-new.false)
+    ∙ ap (λ b. fold g.O.Outbox.posted c.args.out.now (told_parts clock n l c.args.occasion.asked c.args.new b a)) (sym c.if-occasion.false)

@@ -6,11 +6,11 @@ use Rattle.resv_sends.proofs.lane_sends.tell_lane.Goals as goal
 
 pub returns-clause-sent : goal.returns-clause-sent
 returns-clause-sent g c = λ clock any.
-    let was = said_at c.args.said.now (lane_at (c.args.session, (c.args.style, c.args.hop))) in
+    let was = said_at c.args.said.now (lane_at (c.args.lane.session, (c.args.lane.style, c.args.lane.hop))) in
     c.tell_changed.ensures clock any
     ∙ ap (fold g.O.Outbox.posted c.args.out.now)
-    (told_is clock (state_of c.args.tables.now any) c.args.session c.args.style c.args.hop c.args.asked c.args.due was c.toward-now.result (c.toward-now.ensures clock any) _
+    (told_is clock (state_of c.args.tables.now any) c.args.lane.session c.args.lane.style c.args.lane.hop c.args.occasion.asked c.args.occasion.due was c.toward-now.result (c.toward-now.ensures clock any) _
     (said_tested c.is_said-is_old.result was c.toward-now.result c.is_said-is_old.ensures))
 
 pub returns-clause-said : goal.returns-clause-said
-returns-clause-said g c = λ clock any. c.tell.ensures ∙ ap (told c.args.said.now (lane_at (c.args.session, (c.args.style, c.args.hop)))) (c.toward-now.ensures clock any)
+returns-clause-said g c = λ clock any. c.tell.ensures ∙ ap (told c.args.said.now (lane_at (c.args.lane.session, (c.args.lane.style, c.args.lane.hop)))) (c.toward-now.ensures clock any)

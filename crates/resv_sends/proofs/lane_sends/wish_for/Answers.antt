@@ -7,10 +7,10 @@ use Rattle.resv_sends.proofs.lane_sends.wish_for.Goals as goal
 
 pub returns-in-Some : goal.returns-in-Some
 returns-in-Some c = λ clock said.
-    wish_given clock (state_of c.args.tables.now said) c.args.session c.args.style c.args.hop c.in-Some.addr
-    ∙ ap (wish_seen clock (state_of c.args.tables.now said) (lane_at (c.args.session, (c.args.style, c.args.hop)))) (sym c.in-Some.is)
+    wish_given clock (state_of c.args.tables.now said) c.args.lane.session c.args.lane.style c.args.lane.hop c.in-Some.addr
+    ∙ ap (wish_seen clock (state_of c.args.tables.now said) (lane_at (c.args.lane.session, (c.args.lane.style, c.args.lane.hop)))) (sym c.in-Some.is)
 
 pub returns-in-None : goal.returns-in-None
 returns-in-None c = λ clock said.
-    wish_own clock (state_of c.args.tables.now said) c.args.session c.args.style c.args.hop c.own_wish.result (c.own_wish.ensures clock said)
-    ∙ ap (wish_seen clock (state_of c.args.tables.now said) (lane_at (c.args.session, (c.args.style, c.args.hop)))) (sym c.in-None.is)
+    wish_own clock (state_of c.args.tables.now said) c.args.lane.session c.args.lane.style c.args.lane.hop c.own_wish.result (c.own_wish.ensures clock said)
+    ∙ ap (wish_seen clock (state_of c.args.tables.now said) (lane_at (c.args.lane.session, (c.args.lane.style, c.args.lane.hop)))) (sym c.in-None.is)

@@ -31,7 +31,7 @@ loop-i-preserved g c =
     let roomy = step_roomy t first s st c.args.hops.now c.requires.near list c.as_slice-list.ensures.hops c.loop-i.i _ c.loop-i-test.true old c.loop-i.invariant.2 c.loop-i.invariant.1
     c.tell_lane.new.said (λ clock. c.tell_lane.ensures.said clock empty) in (
       λ clock any.
-          step_sent g.O.Outbox.posted c.args.out.now clock t any c.args.asked c.args.due first s st c.args.hops.now c.requires.near list c.as_slice-list.ensures.hops c.loop-i.i _ c.loop-i-test.true
+          step_sent g.O.Outbox.posted c.args.out.now clock t any c.args.occasion.asked c.args.occasion.due first s st c.args.hops.now c.requires.near list c.as_slice-list.ensures.hops c.loop-i.i _ c.loop-i-test.true
           old c.loop-i.invariant.2 c.loop-i.invariant.1 c.loop-i.out (c.loop-i.invariant.0 clock any) c.tell_lane.new.out (c.tell_lane.ensures.sent clock any),
       told,
       roomy,
@@ -39,7 +39,7 @@ loop-i-preserved g c =
 
 pub returns-clause-sent : goal.returns-clause-sent
 returns-clause-sent g c = λ clock any.
-    let say = told_by clock (state_of c.args.tables.now any) c.args.asked c.args.due c.args.said.now c.args.session in
+    let say = told_by clock (state_of c.args.tables.now any) c.args.occasion.asked c.args.occasion.due c.args.said.now c.args.session in
     c.loop-i.invariant.0 clock any
     ∙ ap (λ hops. fold g.O.Outbox.posted c.args.out.now (flat_map say (lanes_of c.args.style hops))) (take_all c.loop-i.i c.as_slice-list.result.now c.loop-i-test.false ∙ c.as_slice-list.ensures.hops)
 

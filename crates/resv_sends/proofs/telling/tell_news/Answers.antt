@@ -32,16 +32,16 @@ tell_lanes-requires-clause-near g c = λ clock. c.hops-hops.ensures ∙ hops_are
 pub tell_lanes-requires-clause-roomy : goal.tell_lanes-requires-clause-roomy
 tell_lanes-requires-clause-roomy g c =
     let b = c.requires in
-    let k : SenderKey = (c.args.session, c.args.sender) in
+    let k : SenderKey = (c.args.session, c.args.prior.now.sender) in
     let m = state_of c.args.tables.now c.args.said.now in
-    let roomy = cleared_roomy k b.0 m b.1.change b.1.same b.1.said (lanes_by (keys c.args.near.now)) (lanes_before b.0 k c.args.near.now b.1.hops) c.clear_lanes.new.said c.clear_lanes.ensures in
+    let roomy = cleared_roomy k b.0 m b.1.change b.1.same b.1.said (lanes_by (keys c.args.prior.now.near)) (lanes_before b.0 k c.args.prior.now.near b.1.hops) c.clear_lanes.new.said c.clear_lanes.ensures in
     record { some = roomy.some; within = roomy.within }
 
 pub returns-clause-sent : goal.returns-clause-sent
 returns-clause-sent g c = λ n clock a is b.
-    let k : SenderKey = (c.args.session, c.args.sender) in
+    let k : SenderKey = (c.args.session, c.args.prior.now.sender) in
     let m = state_of c.args.tables.now c.args.said.now in
-    let before = option_map as_offer c.args.before.now in
+    let before = option_map as_offer c.args.prior.now.offer in
     let after = c.offered-after.ensures clock c.args.said.now in
     let offer = b.offer clock in
     let f = facts_of clock n in
@@ -50,7 +50,7 @@ returns-clause-sent g c = λ n clock a is b.
     let told =
     c.tell_lanes.ensures.sent clock c.args.said.now
     ∙ ap (λ w. fold g.O.Outbox.posted c.tell_new.new.out (flat_map (told_by clock m w false c.clear_lanes.new.said k.0) (lanes_by (keys c.hops-hops.result)))) (sym is)
-    ∙ ap (fold g.O.Outbox.posted c.tell_new.new.out) (resvs_are k n m before c.args.near.now b clock a c.hops-hops.result
+    ∙ ap (fold g.O.Outbox.posted c.tell_new.new.out) (resvs_are k n m before c.args.prior.now.near b clock a c.hops-hops.result
     (c.hops-hops.ensures ∙ hops_are clock m c.args.session) c.clear_lanes.new.said c.clear_lanes.ensures) in
     two_sent g.O.Outbox.posted c.args.out.now _ _ (told_new m.place k (offered f k) (offered last k))
     (filter_map (resv_send_to m.place m.place f last empty a) (lanes_at k.0 (keys (hops_in last k.0)))) new told
@@ -58,26 +58,26 @@ returns-clause-sent g c = λ n clock a is b.
 
 pub returns-clause-facts : goal.returns-clause-facts
 returns-clause-facts g c = λ n clock a is b.
-    let k : SenderKey = (c.args.session, c.args.sender) in
+    let k : SenderKey = (c.args.session, c.args.prior.now.sender) in
     let m = state_of c.args.tables.now c.args.said.now in
-    let before = option_map as_offer c.args.before.now in
+    let before = option_map as_offer c.args.prior.now.offer in
     let last = facts_of clock m in
     let used = c.used_for-used.ensures clock c.args.said.now in
     let marks : changed (unmarked_in k.0 c.used_for-used.result) last.wants ≡ _ =
     ap (λ (u : Set units). changed (unmarked_in k.0 u) last.wants) used
     ∙ ap (λ w. changed (unmarked_in k.0 (used_where w (used_in m.place last k.0 m.said (lanes_by (keys c.hops-hops.result))))) last.wants) (sym is)
-    ∙ marks_are k n m before c.args.near.now b clock a c.hops-hops.result (c.hops-hops.ensures ∙ hops_are clock m c.args.session) in
+    ∙ marks_are k n m before c.args.prior.now.near b clock a c.hops-hops.result (c.hops-hops.ensures ∙ hops_are clock m c.args.session) in
     ap (λ (t : Tables). facts_of clock (state_of t c.tell_lanes.new.said)) c.unmark.ensures ∙ (λ i. record last { wants = marks i })
 
 pub returns-clause-said : goal.returns-clause-said
 returns-clause-said g c =
     let b = c.requires in
-    let k : SenderKey = (c.args.session, c.args.sender) in
+    let k : SenderKey = (c.args.session, c.args.prior.now.sender) in
     let m = state_of c.args.tables.now c.args.said.now in
     let t = c.tell_lanes.ensures.told in
     let roomy = c.tell_lanes.ensures.roomy in
     let all =
-    all_said k b.0 m b.1.change b.1.same b.1.said (lanes_by (keys c.args.near.now)) (lanes_before b.0 k c.args.near.now b.1.hops) c.clear_lanes.new.said c.clear_lanes.ensures
+    all_said k b.0 m b.1.change b.1.same b.1.said (lanes_by (keys c.args.prior.now.near)) (lanes_before b.0 k c.args.prior.now.near b.1.hops) c.clear_lanes.new.said c.clear_lanes.ensures
     (lanes_by (keys c.hops-hops.result)) (lanes_before m k c.hops-hops.result (λ clock. c.hops-hops.ensures ∙ hops_are clock m c.args.session)) c.tell_lanes.new.said t
     (record { some = roomy.some; within = roomy.within }) in
     record {

@@ -10,11 +10,11 @@ use Rattle.resv_sends.proofs.telling.tell_sender.Goals as goal
 
 pub returns-clause-sent : goal.returns-clause-sent
 returns-clause-sent g c = λ n clock h b.
-    let k : SenderKey = (c.args.session, c.args.sender) in
+    let k : SenderKey = (c.args.session, c.args.prior.now.sender) in
     let m = state_of c.args.tables.now c.args.said.now in
     two_sent g.O.Outbox.posted c.args.out.now _ _ (told_before n.place k (facts_of clock n) (facts_of clock m)) (told_behind n.place k (facts_of clock n) (facts_of clock m) None)
     (c.tell_tears.ensures n clock b) (c.tell_news.ensures.sent n clock None refl b)
-    ∙ ap (fold g.O.Outbox.posted c.args.out.now) (sends_are k n m (option_map as_offer c.args.before.now) c.args.near.now b clock h)
+    ∙ ap (fold g.O.Outbox.posted c.args.out.now) (sends_are k n m (option_map as_offer c.args.prior.now.offer) c.args.prior.now.near b clock h)
 
 pub returns-clause-facts : goal.returns-clause-facts
 returns-clause-facts g c = λ n clock b. c.tell_news.ensures.facts n clock None refl b

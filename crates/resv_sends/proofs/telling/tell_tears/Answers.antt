@@ -15,13 +15,13 @@ use Rattle.resv_sends.proofs.telling.tell_tears.Goals as goal
 
 pub returns : goal.returns
 returns g c = λ n clock b.
-    let k : SenderKey = (c.args.session, c.args.sender) in
+    let k : SenderKey = (c.args.session, c.args.prior.now.sender) in
     let m = state_of c.args.tables.now c.args.said.now in
     let after = c.offered-after.ensures clock c.args.said.now in
     let offer = b.offer clock in
     let f = facts_of clock n in
     let last = facts_of clock m in
     let gone = c.tell_gone.ensures ∙ (λ i. fold g.O.Outbox.posted c.args.out.now (told_gone m.place k (offer i) (after i))) in
-    let torn = c.tear_lanes.ensures clock c.args.said.now ∙ ap (fold g.O.Outbox.posted c.tell_gone.new.out) (tears_are k n m (option_map as_offer c.args.before.now) c.args.near.now b clock) in
+    let torn = c.tear_lanes.ensures clock c.args.said.now ∙ ap (fold g.O.Outbox.posted c.tell_gone.new.out) (tears_are k n m (option_map as_offer c.args.prior.now.offer) c.args.prior.now.near b clock) in
     two_sent g.O.Outbox.posted c.args.out.now _ _ (told_gone m.place k (offered f k) (offered last k)) (flat_map (resv_tear m.place m.place f last) (lanes_at k.0 (keys (hops_in f k.0)))) gone torn
     ∙ ap (λ p. fold g.O.Outbox.posted c.args.out.now (told_before p k f last)) (sym b.change.place)

@@ -21,7 +21,7 @@ returns-clause-sent g c = λ n clock ch before answer confs fired.
     let posted = g.O.Outbox.posted in
     let m = c.args.message.now in
     let t = state_of c.args.tables.now c.args.said.now in
-    let k : SenderKey = (m.session, c.args.sender) in
+    let k : SenderKey = (m.session, c.args.prior.now.sender) in
     let f = facts_of clock n in
     let h = facts_of clock t in
     let start = c.args.out.now in
@@ -36,13 +36,13 @@ returns-clause-sent g c = λ n clock ch before answer confs fired.
     c.tell_refusals.ensures clock ∙ (λ i. fold posted one (map error_send (map (refusal_of (place i) (asker_of (place i) clock c.args.iface m)) c.args.answer.now.done.errors)))
     ∙ ap (λ (es : List ErrSend). fold posted one (map error_send es)) (sym answer.errors) in
     let d =
-    c.confirm.ensures n clock c.args.sender _ _ before
+    c.confirm.ensures n clock c.args.prior.now.sender _ _ before
     ∙ sym (λ i. fold posted two (conf_sends (confs i ++ confirmed n.place n.place f h (answer.asked i)))) in
     let e = c.tell_news.ensures.sent n clock ch.asked (ap address_of answer.asked ∙ address_is (asker_of n.place clock c.args.iface m) c.args.answer.now.taken m.confirm) before in
     two_sent posted start one c.tell_news.new.out (told_before n.place k f h) (errors ++ (confirms ++ told_behind n.place k f h ch.asked)) a
     (two_sent posted one two c.tell_news.new.out errors (confirms ++ told_behind n.place k f h ch.asked) b
     (two_sent posted two three c.tell_news.new.out confirms (told_behind n.place k f h ch.asked) d e))
-    ∙ ap (fold posted start) (sym (sends_with k n t (option_map as_offer c.args.before.now) c.args.near.now before clock ch fired))
+    ∙ ap (fold posted start) (sym (sends_with k n t (option_map as_offer c.args.prior.now.offer) c.args.prior.now.near before clock ch fired))
 
 pub returns-clause-facts : goal.returns-clause-facts
 returns-clause-facts g c = λ n clock before.

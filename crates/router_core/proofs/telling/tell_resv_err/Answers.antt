@@ -19,7 +19,7 @@ returns-clause-sent g c = λ n clock before is heard facts.
     let posted = g.O.Outbox.posted in
     let m = c.args.message.now in
     let t = state_of c.args.tables.now c.args.said.now in
-    let k : SenderKey = (m.session, c.args.sender) in
+    let k : SenderKey = (m.session, c.args.prior.now.sender) in
     let f = facts_of clock n in
     let h = facts_of clock t in
     let start = c.args.out.now in
@@ -36,7 +36,7 @@ returns-clause-sent g c = λ n clock before is heard facts.
     let e = c.tell_news.ensures.sent n clock None refl before in
     two_sent posted start one c.tell_news.new.out (told_before n.place k f h) (errors ++ told_behind n.place k f h None) a
     (two_sent posted one two c.tell_news.new.out errors (told_behind n.place k f h None) b e)
-    ∙ ap (fold posted start) (sym (sends_with k n t (option_map as_offer c.args.before.now) c.args.near.now before clock ch refl))
+    ∙ ap (fold posted start) (sym (sends_with k n t (option_map as_offer c.args.prior.now.offer) c.args.prior.now.near before clock ch refl))
 
 pub returns-clause-facts : goal.returns-clause-facts
 returns-clause-facts g c = λ n clock before. c.tell_news.ensures.facts n clock None refl before
