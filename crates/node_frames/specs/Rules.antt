@@ -60,6 +60,14 @@ pub record IsPlace (contents : List ℕ) : Type 0 where
   -- no two have the same group and source
   pub once : (j k : ℕ) → j < k → k < route_count contents → tree_at contents j ≢ tree_at contents k
 
+-- the same but for what it takes memory to see: that no two routes have the same group and source
+pub record AreNumbersInRange (contents : List ℕ) : Type 0 where
+  pub period : IsPeriod (period_in contents)
+  pub few : iface_count contents ≤ 16
+  pub ifaces : (k : ℕ) → k < iface_count contents → IsIface (iface_at contents k)
+  pub apart : (j k : ℕ) → j < k → k < iface_count contents → iface_addr contents j ≢ iface_addr contents k
+  pub routes : (k : ℕ) → k < route_count contents → IsRoute (iface_count contents) (route_at contents k)
+
 -- ---- where the router then stands: its routes are in the order of group and source
 abbrev pub tree_keys : Keys (Addr × Addr)
 tree_keys = pairs addrs addrs

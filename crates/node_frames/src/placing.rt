@@ -6,7 +6,7 @@ ghost use Rattle.router_rules.specs.NodeConfig.{NodeConfig};
 ghost use Rattle.node_frames.specs.Layout as spec;
 ghost use Rattle.node_frames.specs.Blames.{IsPlaceBlame};
 ghost use Rattle.node_frames.specs.Placing.{IsBadPlace, RouteTable, place_of, tree_row};
-ghost use Rattle.node_frames.specs.Rules.{IsPlace, ifaces_in, place_in, routes_to, tree_at, tree_keys, tree_of};
+ghost use Rattle.node_frames.specs.Rules.{AreNumbersInRange, IsPlace, ifaces_in, place_in, routes_to, tree_at, tree_keys, tree_of};
 
 use crate::blame::Blame;
 use crate::layout::{iface_at, iface_count, period_in, route_at, route_count};
@@ -48,13 +48,15 @@ impl From<NoMemory> for PlaceErr {
 // The rows of routes by group and source.
 type Rows = Vec<((Addr, Addr), Route)>;
 
-/// Where the router stands that a frame of kind 1 with these contents opens. `Bad` if and only if the frame is out of range.
+/// Where the router stands that a frame of kind 1 with these contents opens. `Bad` if and only if the frame is out of range. `NoMemory`,
+/// only where its numbers are in range: memory ran out.
 pub fn read_place(alloc: Global, contents: &[u8]) -> Result<Place, PlaceErr>
     requires { spec.HasForm contents.now }
     ensures range { IfOk result (λ q. IsPlace contents.now) }
     ensures place { IfOk result (λ q. place_of q ≡ place_in contents.now) }
     ensures routes { IfOk result (λ q. AreRows tree_keys tree_row q.routes.items) }
     ensures bad { IfErr result (IsBadPlace contents.now) }
+    ensures asked { IfErr result (λ e. e ≡ PlaceErr.NoMemory → AreNumbersInRange contents.now) }
 {
     if let Some(blame) = numbers_blame(contents) {
         return Err(PlaceErr::Bad(blame));
