@@ -1,5 +1,5 @@
 -- Lines of hexadecimal digits, each the bytes of one message, and what is shown of them.
-use Rattle.std.specs.Prelude.{◌≡◌, ℕ, ◌<◌, ◌≤◌, List, [], ◌∷◌, ◌++◌, Ok, IsErr, length}
+use Rattle.std.specs.Prelude.{◌≡◌, ◌≢◌, ℕ, ◌<◌, ◌≤◌, List, [], ◌∷◌, ◌++◌, Ok, IsErr, length}
 use Rattle.std.specs.List.{All}
 use Rattle.hex.specs.Hex.{decode_of}
 use Rattle.script_words.specs.Lines.{text_lines, line_number}
@@ -39,6 +39,16 @@ pub record IsBadDigits (input : List ℕ) (e : LineErr) : Type 0 where
   pub number : e.line ≡ line_number (length before)
   pub right : All IsRight before
   pub fault : IsWrong line e.why
+
+-- the lines before are right, and so is the line behind them, of which something is shown: it is not empty
+pub record HasShownLine (input : List ℕ) : Type 0 where
+  pub before : List (List ℕ)
+  pub line : List ℕ
+  pub after : List (List ℕ)
+  pub parts : text_lines input ≡ before ++ line ∷ after
+  pub right : All IsRight before
+  pub says : IsRight line
+  pub some : line ≢ []
 
 -- what is shown of a line: nothing where it is empty, else the reading of its bytes
 abbrev pub IsShownOf : List ℕ → List ℕ → Type 0

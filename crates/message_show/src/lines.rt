@@ -1,7 +1,8 @@
 //! Lines of hexadecimal digits.
-ghost use Rattle.std.specs.Prelude.{◌≡◌, ◌++◌, ◌≤◌, [], ℕ, List, length, take, Err, IfOk, IfErr, OnOk};
+ghost use Rattle.std.specs.Prelude.{◌≡◌, ◌≢◌, ◌⊎◌, ◌++◌, ◌≤◌, ◌<◌, [], ℕ, List, length, take, Err, IfOk, IfErr, OnOk, vec_capacity};
 ghost use Rattle.script_words.specs.LineFaults.{MatchParseErr};
-ghost use Rattle.message_show.specs.ShowLines.{IsBadDigits, IsShown, IsShownOf, IsWrong, Says};
+ghost use Rattle.line_advice.specs.Blamed.{most_advice};
+ghost use Rattle.message_show.specs.ShowLines.{HasShownLine, IsBadDigits, IsRight, IsShown, IsShownOf, IsWrong, Says};
 ghost use Rattle.message_show.specs.ShowAdvice.{IsToldDigits};
 ghost use Rattle.message_show.specs.Stops.{MatchStop};
 
@@ -41,6 +42,8 @@ fn put_line(out: &mut Vec<u8>, line: &[u8], room: &mut [u8]) -> Result<(), Stop>
     requires { length room.old ≡ 4097 }
     ensures shown { OnOk result ((text : List ℕ) × IsShownOf line.now text × (out.new.items ≡ out.old.items ++ text)) }
     ensures wrong { IfErr result (MatchStop (IsWrong line.now)) }
+    ensures right { IfErr result (λ stop. stop ≡ Stop.NoMemory → IsRight line.now) }
+    ensures some { IfErr result (λ stop. stop ≡ Stop.NoMemory → line.now ≢ []) }
 {
     if line.is_empty() {
         return Ok(());
@@ -58,11 +61,13 @@ fn put_line(out: &mut Vec<u8>, line: &[u8], room: &mut [u8]) -> Result<(), Stop>
 /// What is shown of an input: for each line that is not empty, the line of its message or of the first fault of its bytes.
 /// Or the first bad line: `Limit` where it has more than `MOST_DIGITS` bytes, else `Word` where a byte of it is no
 /// hexadecimal digit or their number is odd. `advice` becomes the text that says what is wrong with that line; where no line is
-/// bad, it is empty. `NoMemory`: memory ran out, of the text or, at the beginning, of the room for `advice`.
+/// bad, it is empty. `NoMemory`: memory ran out, at a right line that is not empty, of the text, or at the beginning, of the room for
+/// `advice`.
 pub fn show(alloc: Global, input: &[u8], advice: &mut Vec<u8>) -> Result<Vec<u8>, ParseErr>
     ensures shown { IfOk result (λ text. IsShown input.now text.items) }
     ensures refused { IfErr result (MatchParseErr (IsBadDigits input.now)) }
     ensures advised { IfErr result (MatchParseErr (IsToldDigits input.now advice.new.items)) }
+    ensures asked { result ≡ Err ParseErr.NoMemory → (vec_capacity advice.old < most_advice) ⊎ HasShownLine input.now }
     ensures quiet { OnOk result (advice.new.items ≡ []) × (result ≡ Err ParseErr.NoMemory → advice.new.items ≡ []) }
 {
     advice.clear();

@@ -1,4 +1,4 @@
-use Rattle.std.proofs.Common.{[], ◌∷◌, ◌++◌, length-append, append_assoc, sym, ap, ◌∙◌, subst, rules, arith}
+use Rattle.std.proofs.Common.{[], ◌∷◌, ◌++◌, length-append, append_assoc, sym, ap, ◌∙◌, subst, rules, arith, inr}
 use Rattle.script_words.specs.Lines.{text_lines}
 use Rattle.message_show.specs.ShowLines.{AreShown}
 use Rattle.message_show.proofs.Shown.{all_right, shown_on}
@@ -48,3 +48,16 @@ returns-in-Err-Bad-clause-advised c =
         fault = rw c.in-Err-Bad.why-is (rw c.in-Err-Bad.field-0-is at c.in-Err-Bad.ensures.wrong);
       };
     }
+
+pub returns-in-Err-NoMemory-clause-asked : goal.returns-in-Err-NoMemory-clause-asked
+returns-in-Err-NoMemory-clause-asked c = λ is.
+    let i = c.loop-line.invariant in
+    inr (record {
+      before = i.before;
+      line = c.in-Some.line.now;
+      after = text_lines c.in-Some.behind.now;
+      parts = i.parts ∙ ap (λ ls. i.before ++ ls) c.in-Some.ensures.lines;
+      right = all_right i.before c.loop-line.out.items i.shown;
+      says = c.in-Err-NoMemory.ensures.right c.in-Err-NoMemory.field-0-is;
+      some = c.in-Err-NoMemory.ensures.some c.in-Err-NoMemory.field-0-is;
+    })
