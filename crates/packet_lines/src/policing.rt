@@ -44,7 +44,10 @@ pub fn police<S: Source, K: Sink>(
 ) -> Ending
     ensures policed { IsPoliced result (S.left source.old) (S.left source.new) (K.holds sink.old) (K.holds sink.new) }
     ensures read_fault { result ≡ Ending.ReadFault → Rose (S.faults source.old) (S.faults source.new) }
+    // No fault of the source or of the sink is answered as anything else.
+    ensures no_read_fault { result ≢ Ending.ReadFault → S.faults source.new ≡ S.faults source.old }
     ensures write_fault { result ≡ Ending.WriteFault → Rose (K.faults sink.old) (K.faults sink.new) }
+    ensures no_write_fault { result ≢ Ending.WriteFault → K.faults sink.new ≡ K.faults sink.old }
     // Over known input: `advice` says what is wrong with the bad line.
     ensures advised { (bytes : List ℕ) → S.left source.old ≡ Some bytes → IsAdvised result bytes advice.new.items }
     // Nothing else ends it over known input and devices that do not fail.
@@ -63,7 +66,9 @@ fn police_to_end<S: Source, K: Sink>(
 ) -> Ending
     ensures policed { IsPoliced result (S.left source.old) (S.left source.new) (K.holds sink.old) (K.holds sink.new) }
     ensures read_fault { result ≡ Ending.ReadFault → Rose (S.faults source.old) (S.faults source.new) }
+    ensures no_read_fault { result ≢ Ending.ReadFault → S.faults source.new ≡ S.faults source.old }
     ensures write_fault { result ≡ Ending.WriteFault → Rose (K.faults sink.old) (K.faults sink.new) }
+    ensures no_write_fault { result ≢ Ending.WriteFault → K.faults sink.new ≡ K.faults sink.old }
     ensures advised { (bytes : List ℕ) → S.left source.old ≡ Some bytes → IsAdvised result bytes advice.new.items }
 {
     advice.clear();
@@ -124,6 +129,7 @@ fn write_waiting<K: Sink>(sink: &mut K, out: &mut Vec<u8>, at_hand: bool) -> Res
     ensures room { OnOk result ((vec_len out.new + 64 ≤ vec_capacity out.new) × (4096 ≤ vec_capacity out.new)) }
     ensures err { OnErr result ((n : ℕ) × Appends (K.holds sink.old) (K.holds sink.new) (take n out.old.items)) }
     ensures cause { HasCause (K.faults sink.old) (K.faults sink.new) result }
+    ensures no_fault { OnOk result (K.faults sink.new ≡ K.faults sink.old) }
 {
     if at_hand && out.len() <= ROOM - MOST_TEXT {
         return Ok(());
@@ -139,6 +145,7 @@ fn write_out<K: Sink>(sink: &mut K, out: &mut Vec<u8>) -> Result<(), Failed>
     ensures room { OnOk result ((vec_len out.new + 64 ≤ vec_capacity out.new) × (4096 ≤ vec_capacity out.new)) }
     ensures err { OnErr result ((n : ℕ) × Appends (K.holds sink.old) (K.holds sink.new) (take n out.old.items)) }
     ensures cause { HasCause (K.faults sink.old) (K.faults sink.new) result }
+    ensures no_fault { OnOk result (K.faults sink.new ≡ K.faults sink.old) }
 {
     match write_all(sink, out.as_slice()) {
         Ok(()) => {
@@ -156,6 +163,7 @@ fn end<K: Sink>(sink: &mut K, text: &Vec<u8>) -> Ending
     ensures read { result ≢ Ending.ReadFault }
     ensures later { K.faults sink.old ≤ K.faults sink.new }
     ensures cause { result ≡ Ending.WriteFault → Rose (K.faults sink.old) (K.faults sink.new) }
+    ensures no_write_fault { result ≢ Ending.WriteFault → K.faults sink.new ≡ K.faults sink.old }
 {
     match write_all(sink, text.as_slice()) {
         Ok(()) => Ending::Done,
@@ -171,6 +179,7 @@ fn end_long<K: Sink>(sink: &mut K, text: &Vec<u8>, number: u32, advice: &mut Vec
     ensures read { result ≢ Ending.ReadFault }
     ensures later { K.faults sink.old ≤ K.faults sink.new }
     ensures cause { result ≡ Ending.WriteFault → Rose (K.faults sink.old) (K.faults sink.new) }
+    ensures no_write_fault { result ≢ Ending.WriteFault → K.faults sink.new ≡ K.faults sink.old }
     ensures advised { IsAdvisedAt (λ t. (d : Draft) (line : List ℕ) → IsAdvice d line why.Limit t) result advice.new.items }
 {
     match write_all(sink, text.as_slice()) {
@@ -201,6 +210,7 @@ fn end_bad<K: Sink>(
     ensures read { result ≢ Ending.ReadFault }
     ensures later { K.faults sink.old ≤ K.faults sink.new }
     ensures cause { result ≡ Ending.WriteFault → Rose (K.faults sink.old) (K.faults sink.new) }
+    ensures no_write_fault { result ≢ Ending.WriteFault → K.faults sink.new ≡ K.faults sink.old }
     ensures advised { IsAdvisedAt (λ t. (d : Draft) → Stands standing.now d → IsAdvice d line.now fault t) result advice.new.items }
 {
     match write_all(sink, text.as_slice()) {

@@ -1,4 +1,4 @@
-use Rattle.std.proofs.Common.{◌≢◌, List, ℕ, refl, ap, subst, arith, inl, inr}
+use Rattle.std.proofs.Common.{◌≢◌, ◌∙◌, List, ℕ, refl, ap, subst, arith, inl, inr}
 use Rattle.byte_streams.specs.Streams.{Held}
 use Rattle.byte_streams.specs.declared.answer.NextLine.TheVariants.{Line, Long, End, Fault, TooLong}
 use Rattle.byte_streams.proofs.Behind.{end_came, fault_came, goes_down, is_open, line_came, long_came, many_came}
@@ -27,6 +27,8 @@ loop-out-init g c = record {
   within = omega (arith, ap (λ (h : Held). h.taken) c.in-Ok.ensures);
   room = c.in-Ok-room.ensures.room;
   read = omega arith;
+  no_read_fault = refl;
+  no_write_fault = refl;
   written = omega arith;
   quiet = c.in-Ok-make_room.ensures.empty;
   roomy = c.in-Ok-make_room.ensures.room;
@@ -220,6 +222,8 @@ loop-out-preserved g c =
       within = e.within fine;
       room = omega (arith, c.add.ensures.capacity, c.in-Ok-write_waiting.ensures.room.1);
       read = omega (arith, c.loop-out.invariant.read, c.next.ensures.later);
+      no_read_fault = c.in-Line.ensures.no_fault (λ x. cc) ∙ c.loop-out.invariant.no_read_fault;
+      no_write_fault = c.in-Ok-write_waiting.ensures.no_fault ∙ c.loop-out.invariant.no_write_fault;
       written = omega (arith, c.loop-out.invariant.written, c.write_waiting.ensures.cause.later);
       quiet = c.loop-out.invariant.quiet;
       roomy = c.loop-out.invariant.roomy;
@@ -232,11 +236,17 @@ returns-in-Err-write_waiting-clause-write_fault g c = λ x. omega (arith, c.loop
 pub returns-in-Long-clause-read_fault : goal.returns-in-Long-clause-read_fault
 returns-in-Long-clause-read_fault g c = λ x. absurd (c.end_long.ensures.read x)
 
+pub returns-in-Long-clause-no_write_fault : goal.returns-in-Long-clause-no_write_fault
+returns-in-Long-clause-no_write_fault g c = λ other. c.end_long.ensures.no_write_fault other ∙ c.in-Ok-write_waiting.ensures.no_fault ∙ c.loop-out.invariant.no_write_fault
+
 pub returns-in-Long-clause-write_fault : goal.returns-in-Long-clause-write_fault
 returns-in-Long-clause-write_fault g c = λ x. omega (arith, c.loop-out.invariant.written, c.write_waiting.ensures.cause.later, c.end_long.ensures.cause x)
 
 pub returns-in-End-clause-read_fault : goal.returns-in-End-clause-read_fault
 returns-in-End-clause-read_fault g c = λ x. absurd (c.end.ensures.read x)
+
+pub returns-in-End-clause-no_write_fault : goal.returns-in-End-clause-no_write_fault
+returns-in-End-clause-no_write_fault g c = λ other. c.end.ensures.no_write_fault other ∙ c.in-Ok-write_waiting.ensures.no_fault ∙ c.loop-out.invariant.no_write_fault
 
 pub returns-in-End-clause-write_fault : goal.returns-in-End-clause-write_fault
 returns-in-End-clause-write_fault g c = λ x. omega (arith, c.loop-out.invariant.written, c.write_waiting.ensures.cause.later, c.end.ensures.cause x)
@@ -253,6 +263,9 @@ returns-in-Fault-clause-read_fault g c = λ x.
 
 pub returns-in-Err-add-clause-read_fault : goal.returns-in-Err-add-clause-read_fault
 returns-in-Err-add-clause-read_fault g c = λ x. absurd (c.end_bad.ensures.read x)
+
+pub returns-in-Err-add-clause-no_write_fault : goal.returns-in-Err-add-clause-no_write_fault
+returns-in-Err-add-clause-no_write_fault g c = λ other. c.end_bad.ensures.no_write_fault other ∙ c.in-Ok-write_waiting.ensures.no_fault ∙ c.loop-out.invariant.no_write_fault
 
 pub returns-in-Err-add-clause-write_fault : goal.returns-in-Err-add-clause-write_fault
 returns-in-Err-add-clause-write_fault g c = λ x. omega (arith, c.loop-out.invariant.written, c.write_waiting.ensures.cause.later, c.end_bad.ensures.cause x)
