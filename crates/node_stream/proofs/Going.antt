@@ -36,7 +36,7 @@ module _ {R : Type 0} (see : Seen R) (old left first holds : Option (List ℕ)) 
 
   pub stopped_served : (stop : Stop) → IsStopped st (kind_in frame) (contents_in frame) stop → e ≡ ending_at number stop → IsServed e old new first holds
   stopped_served (Bad b) s is = ended_faulty old left first holds st taken number go.on new frame got now long few e number b is refl whole (blame_is_fault (place_if st) (kind_in frame) (contents_in frame) b s)
-  stopped_served NoMemory s is = subst (λ (x : Ending). IsServed x old new first holds) (sym is) (ended_closed old left first holds st taken number go.on new frame got now long few s.0 whole s.1)
+  stopped_served NoMemory s is = subst (λ (x : Ending). IsServed x old new first holds) (sym is) (ended_closed old left first holds st taken number go.on new frame got now long few s.0 whole s.1 s.2)
 
   pub stopped_advised : (stop : Stop) → IsStopped st (kind_in frame) (contents_in frame) stop → e ≡ ending_at number stop → (before advice : List ℕ) → before ≡ [] → IsAdvisedAt stop before advice
       → (bytes : List ℕ) → old ≡ Some bytes → IsAdvised e bytes advice

@@ -4,11 +4,13 @@ use Rattle.std.specs.Prelude.{IfOk, Result, Ok, Err}
 use Rattle.std.proofs.lemmas.List.FromFn.{length-map-range_with_len}
 use Rattle.network_replay.specs.Following.{Seen}
 use Rattle.node_frames.specs.Layout.{frame_of, iface_at, iface_count, period_in}
-use Rattle.node_frames.specs.Placing.{place_of}
-use Rattle.node_frames.specs.Rules.{IsInRange, IsInTurn, IsPlace, place_in}
+use Rattle.node_frames.specs.Placing.{IsBadPlace, place_of}
+use Rattle.node_frames.specs.Rules.{AreNumbersInRange, IsInRange, IsInTurn, IsPlace, place_in}
 use Rattle.node_frames.specs.declared.frame.Frame.{Frame}
 use Rattle.node_frames.specs.declared.frame.Frame.TheVariants.{Opens, Comes, Waits, Clears}
 use Rattle.node_frames.specs.declared.placing.Place.{Place}
+use Rattle.node_frames.specs.declared.placing.PlaceErr.{PlaceErr}
+use Rattle.node_frames.specs.declared.placing.PlaceErr.TheVariants as err
 use Rattle.router_rules.proofs.Bounding.{no_facts_are_within_bounds}
 use Rattle.router_rules.specs.Bounds.{IsWithinBounds}
 use Rattle.router_rules.specs.Facts.{Facts, no_facts}
@@ -16,8 +18,10 @@ use Rattle.router_rules.specs.NodeConfig.{NodeConfig}
 use Rattle.node_stream.specs.Frames.{IsFrame, contents_in, kind_in}
 use Rattle.node_stream.specs.Posting.{Posted, nothing_posted}
 use Rattle.node_stream.specs.States.{AreLimits, HasAnswered, IsServedAs, IsServedBy, stands_at}
+use Rattle.node_stream.specs.Stops.{IsUnopened, stop_of}
 use Rattle.node_stream.specs.declared.state.Limits.{Limits}
 use Rattle.node_stream.specs.declared.state.Stop.{Stop}
+use Rattle.node_stream.specs.declared.state.Stop.TheVariants.{NoMemory}
 
 -- the first frame opens it
 pub opens_first : (f : Frame) → IsInTurn false f → f ≡ Opens
@@ -25,6 +29,16 @@ opens_first Opens t = refl
 opens_first (Comes iface dst) t = absurd t
 opens_first (Waits ms word) t = absurd t
 opens_first Clears t = absurd t
+
+-- there is no place: something is to blame, or memory ran out with the numbers in range
+pub unopened : (contents : List ℕ) (e : PlaceErr) (s : Stop) → s ≡ stop_of e → IsBadPlace contents e → (e ≡ err.NoMemory → AreNumbersInRange contents) → IsUnopened contents s
+unopened contents (err.Bad b) s is bad asked = subst (IsUnopened contents) (sym is) bad
+unopened contents err.NoMemory s is bad asked = subst (IsUnopened contents) (sym is) (asked refl)
+
+-- there is a place, and no memory for a router there
+pub unopened_there : (contents : List ℕ) (s : Stop) → s ≡ NoMemory → IsPlace contents → IsUnopened contents s
+unopened_there contents s is p =
+    subst (IsUnopened contents) (sym is) (record { period = p.period; few = p.few; ifaces = p.ifaces; apart = p.apart; routes = p.routes })
 
 module _ (q : Place) (contents : List ℕ) (is : place_of q ≡ place_in contents) (range : IsPlace contents) where
   pub few_ifaces : length q.ifaces.items ≤ 16

@@ -9,7 +9,7 @@ use Rattle.byte_streams.specs.Lines.{all_bytes}
 use Rattle.node_frames.specs.Advice.{IsAdvice}
 use Rattle.node_frames.specs.Blames.{why_of}
 use Rattle.node_frames.specs.Layout.{frame_of}
-use Rattle.node_frames.specs.Rules.{HasFault}
+use Rattle.node_frames.specs.Rules.{AreNumbersInRange, HasFault}
 use Rattle.node_frames.specs.declared.blame.Blame.{Blame}
 use Rattle.node_frames.specs.declared.frame.Frame.TheVariants.{Opens}
 use Rattle.script_words.specs.Lines.{line_number}
@@ -136,8 +136,8 @@ module _ (old left first holds : Option (List ℕ)) (st : Option Standing) (take
         }
 
     -- memory ran out at the frame that opens the router
-    pub ended_closed : st ≡ None → IsFrame frame → frame_of (kind_in frame) (contents_in frame) ≡ Some Opens → IsServed NoMemory old new first holds
-    ended_closed closed whole reads =
+    pub ended_closed : st ≡ None → IsFrame frame → frame_of (kind_in frame) (contents_in frame) ≡ Some Opens → AreNumbersInRange (contents_in frame) → IsServed NoMemory old new first holds
+    ended_closed closed whole reads in_range =
         let none = nothing_served None st p.frames p.text p.served closed in
         let only : bytes_taken ≡ frame = ap (λ (fs : List (List ℕ)). concat fs ++ frame) none.0 in
         record {
@@ -146,7 +146,7 @@ module _ (old left first holds : Option (List ℕ)) (st : Option Standing) (take
           text = p.text;
           wrote = p.wrote;
           counted = omega (arith, few, as_many);
-          ended = (inr (subst IsOpening (sym only) (record { whole = whole; reads = reads })), none.1);
+          ended = (inr (subst IsOpening (sym only) (record { whole = whole; reads = reads; in_range = in_range })), none.1);
         }
 
     -- ---- a bad frame

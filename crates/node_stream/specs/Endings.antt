@@ -8,7 +8,7 @@ use Rattle.script_words.specs.declared.fault.LineWhy.TheVariants as why
 use Rattle.node_frames.specs.Advice.{IsAdvice}
 use Rattle.node_frames.specs.Blames.{IsBlamed, why_of}
 use Rattle.node_frames.specs.Layout.{frame_of, length_at}
-use Rattle.node_frames.specs.Rules.{HasFault}
+use Rattle.node_frames.specs.Rules.{AreNumbersInRange, HasFault}
 use Rattle.node_frames.specs.declared.blame.Blame.{Blame}
 use Rattle.node_frames.specs.declared.blame.Blame.TheVariants.{Head, Cut}
 use Rattle.node_frames.specs.declared.frame.Frame.TheVariants.{Opens}
@@ -103,10 +103,11 @@ pub record EndedWriting (taken text : List ℕ) : Type 0 where
   pub front : count ≤ length own
   pub text_is : text ≡ said ++ take count own
 
--- nothing was taken, or the frame that opens the router
+-- the frame that opens the router, whose numbers are in range
 pub record IsOpening (frame : List ℕ) : Type 0 where
   pub whole : IsFrame frame
   pub reads : frame_of (kind_in frame) (contents_in frame) ≡ Some Opens
+  pub in_range : AreNumbersInRange (contents_in frame)
 
 -- Service over these bytes, which took these first ones and wrote this text, may end so. No byte past the frame at which it ended
 -- was taken.

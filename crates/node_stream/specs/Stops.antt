@@ -3,6 +3,7 @@ use Rattle.std.specs.Prelude.{◌≡◌, ℕ, List, Option, None, Some}
 use Rattle.node_frames.specs.Advice.{IsAdvice}
 use Rattle.node_frames.specs.Blames.{IsBlamed, IsPlaceBlame, why_of}
 use Rattle.node_frames.specs.Layout.{frame_of}
+use Rattle.node_frames.specs.Rules.{AreNumbersInRange}
 use Rattle.node_frames.specs.declared.frame.Frame.TheVariants.{Opens}
 use Rattle.node_frames.specs.declared.placing.PlaceErr.{PlaceErr}
 use Rattle.node_frames.specs.declared.placing.PlaceErr.TheVariants as place
@@ -17,15 +18,15 @@ abbrev pub stop_of : PlaceErr → Stop
 stop_of (place.Bad b) = Bad b
 stop_of place.NoMemory = NoMemory
 
--- the contents say no place, or there was no memory for the router
+-- the contents say no place; or their numbers are in range, and there was no memory for the router
 abbrev pub IsUnopened : List ℕ → Stop → Type 0
 IsUnopened contents (Bad b) = IsPlaceBlame contents b
-IsUnopened contents NoMemory = Unit {0}
+IsUnopened contents NoMemory = AreNumbersInRange contents
 
--- the frame of this kind breaks a rule, or there was no memory for the router that it opens
+-- the frame of this kind breaks a rule; or it opens the router, its numbers are in range, and there was no memory for that
 abbrev pub IsStopped : Option Standing → ℕ → List ℕ → Stop → Type 0
 IsStopped st kind contents (Bad b) = IsBlamed (place_if st) kind contents b
-IsStopped st kind contents NoMemory = (st ≡ None) × (frame_of kind contents ≡ Some Opens)
+IsStopped st kind contents NoMemory = (st ≡ None) × (frame_of kind contents ≡ Some Opens) × AreNumbersInRange contents
 
 -- ---- how service ends then, at the frame of this number
 abbrev pub ending_at : ℕ → Stop → Ending

@@ -118,6 +118,7 @@ fn open_by<R: Serves>(alloc: Global, kind: u8, contents: &[u8]) -> Result<(R, Li
 }
 
 // The same of its contents.
+#[tactic(auto, using(crate::proofs::Opening::unopened, crate::proofs::Opening::unopened_there))]
 fn open<R: Serves>(alloc: Global, contents: &[u8]) -> Result<(R, Limits), Stop>
     requires { layout.HasForm contents.now }
     ensures range { IfOk result (λ p. IsPlace contents.now) }

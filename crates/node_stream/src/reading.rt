@@ -1,5 +1,5 @@
 //! A frame is read.
-ghost use Rattle.std.specs.Prelude.{◌≡◌, ◌≤◌, ◌<◌, ◌+◌, ◌++◌, [], List, ℕ, length, IfOk, OnErr, vec_len, vec_capacity};
+ghost use Rattle.std.specs.Prelude.{◌≡◌, ◌≢◌, ◌≤◌, ◌<◌, ◌+◌, ◌++◌, [], List, ℕ, length, IfOk, OnErr, OnOk, vec_len, vec_capacity};
 ghost use Rattle.std.specs.Io.KnownBytes.{Consumes, IsAtEnd};
 ghost use Rattle.byte_streams.specs.Faults.{Rose};
 ghost use Rattle.node_frames.specs.Layout.{length_at};
@@ -42,6 +42,7 @@ pub(crate) fn read_frame<S: Source>(
     ensures room { 65538 ≤ vec_capacity frame.new }
     ensures piece { length piece.new ≡ length piece.old }
     ensures fault { result ≡ Read.Failed → Rose (S.faults source.old) (S.faults source.new) }
+    ensures no_fault { result ≢ Read.Failed → S.faults source.new ≡ S.faults source.old }
     ensures later { S.faults source.old ≤ S.faults source.new }
 {
     frame.clear();
@@ -95,6 +96,7 @@ fn read_piece<S: Source>(
     ensures room { vec_capacity frame.old ≤ vec_capacity frame.new }
     ensures piece { length piece.new ≡ length piece.old }
     ensures fault { OnErr result (Rose (S.faults source.old) (S.faults source.new)) }
+    ensures no_fault { OnOk result (S.faults source.new ≡ S.faults source.old) }
     ensures later { S.faults source.old ≤ S.faults source.new }
 {
     let room = piece.len().min(wanted - frame.len());

@@ -1,5 +1,5 @@
 //! Frames are read and served, and their answers are written.
-ghost use Rattle.std.specs.Prelude.{◌≡◌, ◌≤◌, ◌<◌, List, ℕ, length, Some, IfOk, vec_capacity};
+ghost use Rattle.std.specs.Prelude.{◌≡◌, ◌≢◌, ◌≤◌, ◌<◌, List, ℕ, length, Some, IfOk, vec_capacity};
 ghost use Rattle.byte_streams.specs.Faults.{Rose};
 ghost use Rattle.script_words.specs.declared.fault.LineWhy.TheVariants as why;
 ghost use Rattle.line_advice.specs.Blamed.{most_advice};
@@ -36,8 +36,9 @@ const PIECE: usize = 4096;
 /// what was made of it. The first frame that breaks a rule ends the service.
 ///
 /// At one frame these come in this order: `ReadFault` or `TooLong` while it is read, then `BadFrame`, then `WriteFault`. `NoMemory`:
-/// there was no room for a frame, for answers and for `advice`, before anything was taken, or for the router that the first frame opens;
-/// nothing was written then, and no memory is taken afterwards. No byte behind the frame at which it ended is taken.
+/// there was no room for a frame, for answers and for `advice`, before anything was taken, or for the router that the first frame opens,
+/// whose numbers are in range; nothing was written then, and no memory is taken afterwards. No byte behind the frame at which it ended
+/// is taken.
 ///
 /// `advice` becomes the text that says what is wrong with the bad frame; where no frame is bad, it is empty.
 pub fn serve<R: Serves, S: Source, K: Sink>(
@@ -48,7 +49,10 @@ pub fn serve<R: Serves, S: Source, K: Sink>(
 ) -> Ending
     ensures served { IsServed result (S.left source.old) (S.left source.new) (K.holds sink.old) (K.holds sink.new) }
     ensures read_fault { result ≡ Ending.ReadFault → Rose (S.faults source.old) (S.faults source.new) }
+    // No fault of the source or of the sink is answered as anything else.
+    ensures no_read_fault { result ≢ Ending.ReadFault → S.faults source.new ≡ S.faults source.old }
     ensures write_fault { result ≡ Ending.WriteFault → Rose (K.faults sink.old) (K.faults sink.new) }
+    ensures no_write_fault { result ≢ Ending.WriteFault → K.faults sink.new ≡ K.faults sink.old }
     // Over known input: `advice` says what is wrong with the bad frame.
     ensures advised { (bytes : List ℕ) → S.left source.old ≡ Some bytes → IsAdvised result bytes advice.new.items }
     // Nothing else ends it over known input and devices that do not fail.
@@ -67,7 +71,9 @@ fn serve_to_end<R: Serves, S: Source, K: Sink>(
 ) -> Ending
     ensures served { IsServed result (S.left source.old) (S.left source.new) (K.holds sink.old) (K.holds sink.new) }
     ensures read_fault { result ≡ Ending.ReadFault → Rose (S.faults source.old) (S.faults source.new) }
+    ensures no_read_fault { result ≢ Ending.ReadFault → S.faults source.new ≡ S.faults source.old }
     ensures write_fault { result ≡ Ending.WriteFault → Rose (K.faults sink.old) (K.faults sink.new) }
+    ensures no_write_fault { result ≢ Ending.WriteFault → K.faults sink.new ≡ K.faults sink.old }
     ensures advised { (bytes : List ℕ) → S.left source.old ≡ Some bytes → IsAdvised result bytes advice.new.items }
 {
     advice.clear();

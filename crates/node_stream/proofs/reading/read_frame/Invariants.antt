@@ -15,6 +15,7 @@ invariant-loop-most g l =
       some : 0 < length l.piece;
       piece : length l.piece ≡ length l.initial.piece;
       later : g.S.Source.faults l.initial.source ≤ g.S.Source.faults l.source;
+      no_fault : g.S.Source.faults l.source ≡ g.S.Source.faults l.initial.source;
     }
 
 -- each turn takes a byte at least

@@ -1,4 +1,4 @@
-use Rattle.std.proofs.Common.{◌≡◌, ◌+◌, ◌<◌, ◌≤◌, ℕ, List, length, take, refl, subst, arith, inl}
+use Rattle.std.proofs.Common.{◌≡◌, ◌∙◌, ◌+◌, ◌<◌, ◌≤◌, ℕ, List, length, take, refl, subst, arith, inl}
 use Rattle.std.specs.Io.KnownBytes.{Appends}
 use Rattle.node_stream.specs.Endings.{IsCutBlame, most_at_once, most_bytes}
 use Rattle.node_stream.specs.Frames.{contents_in, kind_in}
@@ -218,6 +218,8 @@ loop-frame-preserved g c =
       room = c.read_frame.ensures.room;
       piece = omega (arith, c.loop-frame.invariant.piece, c.read_frame.ensures.piece);
       read = omega (arith, c.loop-frame.invariant.read, c.read_frame.ensures.later);
+      no_read_fault = c.in-Whole.ensures.no_fault (λ x. cc) ∙ c.loop-frame.invariant.no_read_fault;
+      no_write_fault = c.in-Ok-write_all.ensures.no_fault ∙ c.loop-frame.invariant.no_write_fault;
       written = omega (arith, c.loop-frame.invariant.written, c.write_all.ensures.cause.later);
       quiet = c.loop-frame.invariant.quiet;
       roomy = c.loop-frame.invariant.roomy;

@@ -14,6 +14,8 @@ invariant-loop-frame g l =
       room : 65538 ≤ vec_capacity l.frame;
       piece : length l.piece ≡ most_at_once;
       read : g.S.Source.faults l.initial.source ≤ g.S.Source.faults l.source;
+      no_read_fault : g.S.Source.faults l.source ≡ g.S.Source.faults l.initial.source;
+      no_write_fault : g.K.Sink.faults l.sink ≡ g.K.Sink.faults l.initial.sink;
       written : g.K.Sink.faults l.initial.sink ≤ g.K.Sink.faults l.sink;
       quiet : l.advice.items ≡ [];
       roomy : most_advice ≤ vec_capacity l.advice;
