@@ -1,6 +1,7 @@
 -- What was not taken has a fault, or memory ran out.
-use Rattle.std.proofs.Common.{◌≡◌, ℕ, List}
+use Rattle.std.proofs.Common.{◌≡◌, ℕ, List, subst}
 use Rattle.std.specs.Prelude.{Err}
+use Rattle.script_grammar.specs.Asking.{AsksToBeTaken}
 use Rattle.script_grammar.specs.Draft.{Draft}
 use Rattle.script_grammar.specs.Grammar.{HasFault}
 use Rattle.script_run.specs.Checking.{Feeds}
@@ -17,3 +18,6 @@ pub fed_same : (d : Draft) (line : List ℕ) (refused : Stop) (new : Draft) → 
 fed_same d line (Bad why) new fed = fed.1
 fed_same d line Crowded new fed = absurd fed
 fed_same d line NoMemory new fed = tt
+
+pub fed_asked : (d : Draft) (line : List ℕ) (refused : Stop) (new : Draft) → Feeds d line (Err refused) new → refused ≡ NoMemory → AsksToBeTaken d line
+fed_asked d line refused new fed is = subst (λ (s : Stop). Feeds d line (Err s) new) is fed

@@ -12,7 +12,7 @@ ghost use Rattle.script_grammar.specs.Grammar.{IsBadLine, IsScript};
 ghost use Rattle.script_grammar.specs.declared.fault.Fault.{Fault as AFault};
 ghost use Rattle.laws_scripts.specs.Asked.{CanBeAsked};
 ghost use Rattle.script_demand.specs.Answering.{IsWrittenOrNot};
-ghost use Rattle.script_demand.specs.Demanding.{DemandsTo, IsDemandOf, IsDemanding, IsDemandingOf, StopsAt};
+ghost use Rattle.script_demand.specs.Demanding.{AsksForMemory, DemandsTo, IsDemandOf, IsDemanding, IsDemandingOf, StopsAt};
 
 use crate::asks::Asks;
 use crate::script_lines::check_lines;
@@ -42,7 +42,10 @@ pub fn write_demand<C: Asks + Drop, S: Source, K: Sink>(
     // Over known input: what is wrong with the bad line is told.
     ensures advised { (bytes : List ℕ) → S.left source.old ≡ Some bytes → IsAdvised result bytes advice.new.items }
     ensures read_fault { result ≡ Ending.ReadFault → Rose (S.faults source.old) (S.faults source.new) }
+    // No fault of the source or of the sink is answered as anything else.
+    ensures no_read_fault { result ≢ Ending.ReadFault → S.faults source.new ≡ S.faults source.old }
     ensures write_fault { result ≡ Ending.WriteFault → Rose (K.faults sink.old) (K.faults sink.new) }
+    ensures no_write_fault { result ≢ Ending.WriteFault → K.faults sink.new ≡ K.faults sink.old }
     // Nothing else ends it over known input and devices that do not fail.
     ensures complete { (bytes : List ℕ) (wanted : AnEnding) → S.left source.old ≡ Some bytes → DemandsTo wanted bytes
         → (Rose (S.faults source.old) (S.faults source.new) → ⊥) → (wanted ≡ Ending.Done → Rose (K.faults sink.old) (K.faults sink.new) → ⊥) → IsOrNoMemory wanted result }
@@ -69,7 +72,9 @@ fn answer<C: Asks + Drop, K: Sink>(
     ensures advised { IsAdvised result input.now advice.new.items }
     ensures demanded { IsDemandingOf result input.now input.now (K.holds sink.old) (K.holds sink.new) }
     ensures read { result ≢ Ending.ReadFault }
+    ensures asked { result ≡ Ending.NoMemory → AsksForMemory input.now }
     ensures write_fault { result ≡ Ending.WriteFault → Rose (K.faults sink.old) (K.faults sink.new) }
+    ensures no_write_fault { result ≢ Ending.WriteFault → K.faults sink.new ≡ K.faults sink.old }
     ensures complete { (p : Plan) → IsScript input.now p → (Rose (K.faults sink.old) (K.faults sink.new) → ⊥) → IsOrNoMemory Ending.Done result }
     ensures refused { (number : ℕ) (why : AFault) → IsBadLine input.now number why → IsOrNoMemory (Ending.BadLine number why) result }
 {
@@ -79,7 +84,8 @@ fn answer<C: Asks + Drop, K: Sink>(
     }
 }
 
-// The demand of this script. It ends at the first bad line, or where memory runs out.
+// The demand of this script. It ends at the first bad line, or where memory runs out: at a line that asks for some, or where the demand
+// of a script is put together.
 fn demand_of<C: Asks + Drop>(
     alloc: Global,
     mut checker: C,
@@ -92,6 +98,7 @@ fn demand_of<C: Asks + Drop>(
     ensures advised { IfErr result (λ e. IsAdvised e input.now advice.new.items) }
     ensures demand { IfOk result (λ text. IsDemandOf input.now text.items) }
     ensures stopped { IfErr result (StopsAt input.now) }
+    ensures asked { IfErr result (λ e. e ≡ Ending.NoMemory → AsksForMemory input.now) }
 {
     match check_lines(alloc, &mut checker, input, advice) {
         Ok(()) => {}
@@ -117,6 +124,7 @@ fn text_of<C: Asks>(alloc: Global, checker: &C) -> Result<Vec<u8>, NoMemory>
 fn write_text<K: Sink>(text: &[u8], sink: &mut K) -> Ending
     ensures done { result ≡ Ending.Done → Appends (K.holds sink.old) (K.holds sink.new) text.now }
     ensures write_fault { result ≡ Ending.WriteFault → Rose (K.faults sink.old) (K.faults sink.new) }
+    ensures no_write_fault { result ≢ Ending.WriteFault → K.faults sink.new ≡ K.faults sink.old }
     ensures front { result ≡ Ending.WriteFault → ((n : ℕ) × Appends (K.holds sink.old) (K.holds sink.new) (take n text.now)) }
     ensures others { IsWrittenOrNot result }
 {

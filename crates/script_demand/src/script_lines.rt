@@ -1,10 +1,11 @@
 //! The lines of a whole script are checked.
 ghost use Rattle.std.specs.Prelude.{◌≡◌, [], OnOk, IfErr};
+ghost use Rattle.script_grammar.specs.Asking.{AsksToBeTaken};
 ghost use Rattle.script_grammar.specs.Draft.{nothing};
 ghost use Rattle.script_grammar.specs.Grammar.{Follows, HasFault, Leads};
 ghost use Rattle.script_words.specs.Lines.{text_lines};
 ghost use Rattle.script_run.specs.Advised.{IsAdvised};
-ghost use Rattle.script_demand.specs.Demanding.{StopsAt};
+ghost use Rattle.script_demand.specs.Demanding.{HasAskingLine, StopsAt};
 ghost use Rattle.script_demand.specs.Feeding.{MatchRefused};
 
 use script_advice::put_advice;
@@ -16,7 +17,8 @@ use std::alloc::Global;
 // The most bytes of a line, its line feed not counted.
 const MOST_LINE: usize = 2048;
 
-/// Checks the lines of an input one after the other. It ends at the first bad line, or where memory runs out.
+/// Checks the lines of an input one after the other. It ends at the first bad line, or where memory runs out, which is at a line that
+/// asks for memory.
 /// `advice` becomes the text that tells what is wrong with the bad line, and stays empty where memory runs out.
 pub(crate) fn check_lines<C: Checks>(
     alloc: Global,
@@ -30,6 +32,7 @@ pub(crate) fn check_lines<C: Checks>(
     ensures advised { IfErr result (λ e. IsAdvised e input.now advice.new.items) }
     ensures taken { OnOk result (Leads nothing (text_lines input.now) (C.lines checker.new)) }
     ensures stopped { IfErr result (StopsAt input.now) }
+    ensures asked { IfErr result (λ e. e ≡ Ending.NoMemory → HasAskingLine input.now) }
 {
     let mut number: u32 = 0;
     let mut rest = input;
@@ -53,6 +56,7 @@ fn feed_line<C: Checks>(checker: &mut C, line: &[u8]) -> Result<(), Stop>
     ensures follows { OnOk result (Follows (C.lines checker.old) line.now (C.lines checker.new)) }
     ensures refused { IfErr result (MatchRefused (HasFault (C.lines checker.old) line.now)) }
     ensures same { IfErr result (MatchRefused (λ why. C.lines checker.new ≡ C.lines checker.old)) }
+    ensures asked { IfErr result (λ stop. stop ≡ Stop.NoMemory → AsksToBeTaken (C.lines checker.old) line.now) }
 {
     if line.len() > MOST_LINE {
         return Err(Stop::Bad(Fault::Limit));

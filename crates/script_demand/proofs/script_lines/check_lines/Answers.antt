@@ -53,6 +53,19 @@ returns-in-Err-Bad-clause-advised g c =
       };
     }
 
+pub returns-in-Err-NoMemory-clause-asked : goal.returns-in-Err-NoMemory-clause-asked
+returns-in-Err-NoMemory-clause-asked g c = λ is.
+    let i = c.loop-line.invariant in
+    record {
+      before = i.before;
+      text = c.in-Some.line.now;
+      after = text_lines c.in-Some.behind.now;
+      parts = i.parts ∙ ap (λ (ls : List (List ℕ)). i.before ++ ls) c.in-Some.ensures.lines;
+      lines = g.C.LinesBefore.lines c.loop-line.checker;
+      leads = i.leads;
+      asks = c.in-Err-NoMemory.ensures.asked c.in-Err-NoMemory.field-0-is;
+    }
+
 pub returns-in-Err-Crowded-clause-stopped : goal.returns-in-Err-Crowded-clause-stopped
 returns-in-Err-Crowded-clause-stopped g c = absurd (rw c.in-Err-Crowded.field-0-is at c.in-Err-Crowded.ensures.refused)
 
