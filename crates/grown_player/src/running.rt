@@ -38,6 +38,7 @@ pub fn run_grown<R: Opens, K: Sink, W: Watch>(
     ensures told { result ≡ Ending.Done → Shows W.saw watch.old watch.new (plan_sights (grown_plan seed)) }
     ensures empty { result ≢ Ending.Done → last.new ≡ None }
     ensures write_fault { result ≡ Ending.WriteFault → Rose (K.faults sink.old) (K.faults sink.new) }
+    ensures no_write_fault { result ≢ Ending.WriteFault → K.faults sink.new ≡ K.faults sink.old }
     // Nothing else ends it where the sink does not fail.
     ensures complete { (wanted : AnEnding) → GrowsTo wanted seed → (wanted ≡ Ending.Done → Rose (K.faults sink.old) (K.faults sink.new) → ⊥) → IsOrNoMemory wanted result }
 {
