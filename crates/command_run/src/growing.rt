@@ -34,6 +34,7 @@ pub fn grow<R: Opens, K: Sink, W: Watch>(
     ensures empty { result ≢ Status.Done → last.new ≡ None }
     ensures read_fault { result ≢ Status.ReadFault }
     ensures write_fault { result ≡ Status.WriteFault → Rose (K.faults sink.old) (K.faults sink.new) }
+    ensures no_write_fault { result ≢ Status.WriteFault → K.faults sink.new ≡ K.faults sink.old }
 {
     let ending = run_grown::<R, K, W>(alloc, seed, sink, watch, last);
     status_of(ending)

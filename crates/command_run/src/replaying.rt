@@ -53,7 +53,9 @@ pub fn replay<C: Checks + Drop, R: Opens, S: Source, K: Sink, W: Watch>(
     ensures usage { result ≢ Status.Usage }
     ensures empty { result ≢ Status.Done → last.new ≡ None }
     ensures read_fault { result ≡ Status.ReadFault → Rose (S.faults source.old) (S.faults source.new) }
+    ensures no_read_fault { result ≢ Status.ReadFault → S.faults source.new ≡ S.faults source.old }
     ensures write_fault { result ≡ Status.WriteFault → Rose (K.faults sink.old) (K.faults sink.new) }
+    ensures no_write_fault { result ≢ Status.WriteFault → K.faults sink.new ≡ K.faults sink.old }
 {
     let ending = run_script::<C, R, S, K, W>(alloc, checker, source, sink, watch, last, advice);
     status_of(ending)

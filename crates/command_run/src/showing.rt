@@ -37,7 +37,9 @@ pub fn show_messages<S: Source, K: Sink>(
     ensures shown { Shown (ran result (device S.left S.faults source.old source.new) (device K.holds K.faults sink.old sink.new) advice.new.items) }
     ensures usage { result ≢ Status.Usage }
     ensures read_fault { result ≡ Status.ReadFault → Rose (S.faults source.old) (S.faults source.new) }
+    ensures no_read_fault { result ≢ Status.ReadFault → S.faults source.new ≡ S.faults source.old }
     ensures write_fault { result ≡ Status.WriteFault → Rose (K.faults sink.old) (K.faults sink.new) }
+    ensures no_write_fault { result ≢ Status.WriteFault → K.faults sink.new ≡ K.faults sink.old }
 {
     let ending = write_shown(alloc, source, sink, advice);
     status_of(ending)
@@ -54,7 +56,9 @@ fn write_shown<S: Source, K: Sink>(
     ensures advised { (bytes : List ℕ) → S.left source.old ≡ Some bytes → IsShowAdvised (status_of result) bytes advice.new.items }
     ensures shown { IsAnswering IsShown IsFirstBad result (S.left source.old) (S.left source.new) (K.holds sink.old) (K.holds sink.new) }
     ensures read_fault { result ≡ Ending.ReadFault → Rose (S.faults source.old) (S.faults source.new) }
+    ensures no_read_fault { result ≢ Ending.ReadFault → S.faults source.new ≡ S.faults source.old }
     ensures write_fault { result ≡ Ending.WriteFault → Rose (K.faults sink.old) (K.faults sink.new) }
+    ensures no_write_fault { result ≢ Ending.WriteFault → K.faults sink.new ≡ K.faults sink.old }
     ensures complete { (bytes : List ℕ) (wanted : AStatus) → S.left source.old ≡ Some bytes → ShowsTo wanted bytes
         → (Rose (S.faults source.old) (S.faults source.new) → ⊥) → (wanted ≡ status.Done → Rose (K.faults sink.old) (K.faults sink.new) → ⊥) → IsOrNoMemory wanted (status_of result) }
 {
@@ -73,6 +77,7 @@ fn answer<K: Sink>(alloc: Global, input: &[u8], sink: &mut K, advice: &mut Vec<u
     ensures shown { IsAnsweringOf IsShown IsFirstBad result input.now input.now (K.holds sink.old) (K.holds sink.new) }
     ensures read { result ≢ Ending.ReadFault }
     ensures write_fault { result ≡ Ending.WriteFault → Rose (K.faults sink.old) (K.faults sink.new) }
+    ensures no_write_fault { result ≢ Ending.WriteFault → K.faults sink.new ≡ K.faults sink.old }
     ensures complete { AreRight input.now → (Rose (K.faults sink.old) (K.faults sink.new) → ⊥) → IsOrNoMemory status.Done (status_of result) }
     ensures refused { (e : ALineErr) → IsBadDigits input.now e → IsOrNoMemory (status.BadLine e.line (fault_of e.why)) (status_of result) }
 {
@@ -106,6 +111,7 @@ pub fn fault_of(why: LineWhy) -> Fault
 fn write_text<K: Sink>(text: &[u8], sink: &mut K) -> Ending
     ensures done { result ≡ Ending.Done → Appends (K.holds sink.old) (K.holds sink.new) text.now }
     ensures write_fault { result ≡ Ending.WriteFault → Rose (K.faults sink.old) (K.faults sink.new) }
+    ensures no_write_fault { result ≢ Ending.WriteFault → K.faults sink.new ≡ K.faults sink.old }
     ensures front { result ≡ Ending.WriteFault → ((n : ℕ) × Appends (K.holds sink.old) (K.holds sink.new) (take n text.now)) }
     ensures others { IsWrittenOrNot result }
 {

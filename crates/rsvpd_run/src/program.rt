@@ -34,7 +34,10 @@ pub fn run<S: Source, K: Sink, W: Watch>(
     // Whatever they order.
     ensures usage { result ≡ Status.Usage → task_of (map string_bytes words.now.items) ≡ None }
     ensures read_fault { result ≡ Status.ReadFault → Rose (S.faults source.old) (S.faults source.new) }
+    // No fault of the source or of the sink is answered as anything else.
+    ensures no_read_fault { result ≢ Status.ReadFault → S.faults source.new ≡ S.faults source.old }
     ensures write_fault { result ≡ Status.WriteFault → Rose (K.faults sink.old) (K.faults sink.new) }
+    ensures no_write_fault { result ≢ Status.WriteFault → K.faults sink.new ≡ K.faults sink.old }
     ensures empty { result ≢ Status.Done → last.new ≡ None }
 {
     advice.clear();

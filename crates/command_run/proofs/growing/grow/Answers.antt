@@ -1,7 +1,8 @@
-use Rattle.std.proofs.Common.{sym, subst, ◌∙◌}
+use Rattle.std.proofs.Common.{sym, ap, subst, ◌∙◌}
 use Rattle.script_run.specs.Standing.{IsNetworkOf}
 use Rattle.command_run.specs.Commands.{Grown}
 use Rattle.command_run.specs.Ran.{device}
+use Rattle.command_run.specs.Statuses.{status_of}
 use Rattle.command_run.proofs.Grown.{grown_so, never_reads}
 use Rattle.command_run.proofs.Shown.{is_done}
 use Rattle.command_run.proofs.growing.grow.Goals as goal
@@ -21,3 +22,6 @@ returns-clause-read_fault g c = λ is.
 
 pub returns-clause-told : goal.returns-clause-told
 returns-clause-told g c = λ done. c.run_grown-ending.ensures.told (is_done c.run_grown-ending.result (sym c.status_of.ensures ∙ done))
+
+pub returns-clause-no_write_fault : goal.returns-clause-no_write_fault
+returns-clause-no_write_fault g c = λ other. c.run_grown-ending.ensures.no_write_fault (λ is. other (c.status_of.ensures ∙ ap status_of is))

@@ -1,4 +1,4 @@
-use Rattle.std.proofs.Common.{refl, sym, ap, subst, inl, inr}
+use Rattle.std.proofs.Common.{refl, sym, ap, subst, inl, inr, ◌∙◌}
 use Rattle.node_stream.specs.Endings.{IsOrNoMemory as IsOrOut}
 use Rattle.node_stream.specs.declared.ending.Ending.{Ending}
 use Rattle.command_run.specs.Ran.{device, ran}
@@ -24,3 +24,9 @@ returns-clause-served g c =
       advised = e.ensures.advised;
       complete = λ bytes text wanted known few comes no_read no_write. or_out wanted e.result (e.ensures.complete bytes text wanted known few comes no_read no_write);
     })
+
+pub returns-clause-no_read_fault : goal.returns-clause-no_read_fault
+returns-clause-no_read_fault g c = λ other. c.serve-ending.ensures.no_read_fault (λ is. other (c.serve_status.ensures ∙ ap serve_status is))
+
+pub returns-clause-no_write_fault : goal.returns-clause-no_write_fault
+returns-clause-no_write_fault g c = λ other. c.serve-ending.ensures.no_write_fault (λ is. other (c.serve_status.ensures ∙ ap serve_status is))

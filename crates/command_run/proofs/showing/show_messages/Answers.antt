@@ -1,6 +1,7 @@
-use Rattle.std.proofs.Common.{refl, sym, subst}
+use Rattle.std.proofs.Common.{refl, sym, ap, subst, ◌∙◌}
 use Rattle.command_run.specs.Commands.{Shown}
 use Rattle.command_run.specs.Ran.{device, ran}
+use Rattle.command_run.specs.Statuses.{status_of}
 use Rattle.command_run.proofs.showing.show_messages.Goals as goal
 
 pub returns-clause-shown : goal.returns-clause-shown
@@ -17,3 +18,9 @@ returns-clause-shown g c =
       advised = e.ensures.advised;
       complete = e.ensures.complete;
     })
+
+pub returns-clause-no_read_fault : goal.returns-clause-no_read_fault
+returns-clause-no_read_fault g c = λ other. c.write_shown-ending.ensures.no_read_fault (λ is. other (c.status_of.ensures ∙ ap status_of is))
+
+pub returns-clause-no_write_fault : goal.returns-clause-no_write_fault
+returns-clause-no_write_fault g c = λ other. c.write_shown-ending.ensures.no_write_fault (λ is. other (c.status_of.ensures ∙ ap status_of is))
