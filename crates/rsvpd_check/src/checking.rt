@@ -1,5 +1,5 @@
 //! The checking of a script.
-ghost use Rattle.std.specs.Prelude.{◌≡◌};
+ghost use Rattle.std.specs.Prelude.{◌≡◌, ◌≢◌};
 ghost use Rattle.byte_streams.specs.Faults.{Rose};
 ghost use Rattle.command_run.specs.Statuses.{status_of};
 ghost use Rattle.script_fit.specs.Findings.{IsFinding};
@@ -29,7 +29,10 @@ pub(crate) fn check<S: Source, K: Sink>(
 ) -> Outcome
     ensures found { (e : AnEnding) × (result.status ≡ status_of e) × IsFinding result.said e (S.left source.old) (S.left source.new) (K.holds sink.old) (K.holds sink.new) }
     ensures read_fault { result.status ≡ Status.ReadFault → Rose (S.faults source.old) (S.faults source.new) }
+    // No fault of the source or of the sink is answered as anything else.
+    ensures no_read_fault { result.status ≢ Status.ReadFault → S.faults source.new ≡ S.faults source.old }
     ensures write_fault { result.status ≡ Status.WriteFault → Rose (K.faults sink.old) (K.faults sink.new) }
+    ensures no_write_fault { result.status ≢ Status.WriteFault → K.faults sink.new ≡ K.faults sink.old }
 {
     advice.clear();
     match Checker::open(alloc) {

@@ -51,7 +51,10 @@ pub fn write_findings<C: Asks + Drop, S: Source, K: Sink>(
     // Over known input: what is wrong with the bad line is told.
     ensures advised { (bytes : List ℕ) → S.left source.old ≡ Some bytes → IsAdvised result.ending bytes advice.new.items }
     ensures read_fault { result.ending ≡ Ending.ReadFault → Rose (S.faults source.old) (S.faults source.new) }
+    // No fault of the source or of the sink is answered as anything else.
+    ensures no_read_fault { result.ending ≢ Ending.ReadFault → S.faults source.new ≡ S.faults source.old }
     ensures write_fault { result.ending ≡ Ending.WriteFault → Rose (K.faults sink.old) (K.faults sink.new) }
+    ensures no_write_fault { result.ending ≢ Ending.WriteFault → K.faults sink.new ≡ K.faults sink.old }
     // Nothing else ends it over known input and devices that do not fail.
     ensures complete { (bytes : List ℕ) (wanted : AnEnding) → S.left source.old ≡ Some bytes → DemandsTo wanted bytes
         → (Rose (S.faults source.old) (S.faults source.new) → ⊥) → (wanted ≡ Ending.Done → Rose (K.faults sink.old) (K.faults sink.new) → ⊥) → IsOrNoMemory wanted result.ending }
@@ -89,6 +92,7 @@ fn answer<C: Asks + Drop, K: Sink>(
     ensures found { IsFindingOf result.said result.ending input.now input.now (K.holds sink.old) (K.holds sink.new) }
     ensures read { result.ending ≢ Ending.ReadFault }
     ensures write_fault { result.ending ≡ Ending.WriteFault → Rose (K.faults sink.old) (K.faults sink.new) }
+    ensures no_write_fault { result.ending ≢ Ending.WriteFault → K.faults sink.new ≡ K.faults sink.old }
     ensures complete { (p : Plan) → IsScript input.now p → (Rose (K.faults sink.old) (K.faults sink.new) → ⊥) → IsOrNoMemory Ending.Done result.ending }
     ensures refused { (number : ℕ) (why : AFault) → IsBadLine input.now number why → IsOrNoMemory (Ending.BadLine number why) result.ending }
 {
@@ -103,6 +107,7 @@ fn say<K: Sink>(text: &[u8], sink: &mut K) -> Checked
     ensures said { IsTrue result.said ↔ (text.now ≢ []) }
     ensures done { result.ending ≡ Ending.Done → Appends (K.holds sink.old) (K.holds sink.new) text.now }
     ensures write_fault { result.ending ≡ Ending.WriteFault → Rose (K.faults sink.old) (K.faults sink.new) }
+    ensures no_write_fault { result.ending ≢ Ending.WriteFault → K.faults sink.new ≡ K.faults sink.old }
     ensures front { result.ending ≡ Ending.WriteFault → ((n : ℕ) × Appends (K.holds sink.old) (K.holds sink.new) (take n text.now)) }
     ensures others { IsWrittenOrNot result.ending }
 {
@@ -163,6 +168,7 @@ fn text_of<C: Asks>(
 fn write_text<K: Sink>(text: &[u8], sink: &mut K) -> Ending
     ensures done { result ≡ Ending.Done → Appends (K.holds sink.old) (K.holds sink.new) text.now }
     ensures write_fault { result ≡ Ending.WriteFault → Rose (K.faults sink.old) (K.faults sink.new) }
+    ensures no_write_fault { result ≢ Ending.WriteFault → K.faults sink.new ≡ K.faults sink.old }
     ensures front { result ≡ Ending.WriteFault → ((n : ℕ) × Appends (K.holds sink.old) (K.holds sink.new) (take n text.now)) }
     ensures others { IsWrittenOrNot result }
 {
