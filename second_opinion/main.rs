@@ -2,11 +2,13 @@
 //! what a network run by rsvpd is compared with, and timed against. Without a word it reads a script that is right and writes its text;
 //! `grow N` makes a network from a seed, runs it and writes a summary; `events` writes what happens in a script in place of its text.
 //! `node` is one router over a stream of frames; `stream N` writes, of a script, the stream of what comes to its router number N, from 0.
+//! `pasts HOPS FIRST COUNT` tries how many calm rounds random networks need after random pasts, `past HOPS SEED` writes the script of one.
 mod events;
 mod grown;
 mod messages;
 mod network;
 mod node;
+mod pasts;
 mod router;
 mod script;
 mod values;
@@ -37,6 +39,14 @@ fn main() {
     let (text, crowded) = match words.first().map(String::as_str) {
         Some("grow") => (grown::grow(words[1].parse().unwrap()), false),
         Some("events") => script::replay(Some(events::Events::default())),
+        Some("pasts") => {
+            let n = |k: usize| words[k].parse().unwrap();
+            (pasts::pasts(n(1), n(2), n(3)), false)
+        }
+        Some("past") => {
+            let n = |k: usize| words[k].parse().unwrap();
+            (pasts::past(n(1), n(2)), false)
+        }
         _ => script::replay(None),
     };
     std::io::stdout().write_all(text.as_bytes()).unwrap();

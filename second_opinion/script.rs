@@ -81,7 +81,7 @@ pub fn part_of(first: &str) -> u8 {
 }
 
 // Before the first line of part 3: what is left over stands.
-fn begin(net: &mut Network, part: &mut u8) {
+pub fn begin(net: &mut Network, part: &mut u8) {
     if *part == 1 {
         net.start();
     }
@@ -93,7 +93,7 @@ fn begin(net: &mut Network, part: &mut u8) {
 }
 
 // `part` is that of the lines before.
-fn line(net: &mut Network, part: &mut u8, words: &[&str], out: &mut Vec<Send>) {
+pub fn line(net: &mut Network, part: &mut u8, words: &[&str], out: &mut Vec<Send>) {
     let number = |k: usize| words[k].parse::<u64>().unwrap();
     let new = part_of(words[0]);
     if *part == 1 && new > 1 {
