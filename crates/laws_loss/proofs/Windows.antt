@@ -53,9 +53,9 @@ module _ {W S I K : Type 0} (m : Machine W S I K) where
   windows_clock c b rs w ws le = windows_always (λ u. b ≤ m.clock u) (λ s u q h. omega (arith, h, c.clock s u q)) rs w ws le
 
   -- each window takes 5.25 periods
-  window_passes : IsClocked m → (r : List S) (rs : List (List S)) (w : W) → Windows m (r ∷ rs) w → Hold m 0 rs (run m r w) (λ u. m.clock w + 21 * m.quarter ≤ m.clock u)
-  window_passes c r rs w ws =
-      windows_clock c (m.clock w + 21 * m.quarter) rs (run m r w) ws.1 (omega (arith, clock_run m c r w ws.0.silent, ws.0.long))
+  pub windows_pass : IsClocked m → (rs : List (List S)) (w : W) → Windows m rs w → Hold m 1 rs w (λ u. m.clock w + 21 * m.quarter ≤ m.clock u)
+  windows_pass c [] w ws = tt
+  windows_pass c (r ∷ rs) w ws = windows_clock c (m.clock w + 21 * m.quarter) rs (run m r w) ws.1 (omega (arith, clock_run m c r w ws.0.silent, ws.0.long))
 
   pub windows_flush : IsStamped m → (rs : List (List S)) (w : W) → Windows m rs w → Hold m 1 rs w (Fresh m (m.made w))
   windows_flush c [] w ws = tt
@@ -86,7 +86,7 @@ module _ {W S I K V : Type 0} (m : Machine W S I K) (c : IsClocked m) (stamps : 
       hold_map m (λ u. (Old u × l.sane u) × (b ≤ m.clock u)) (KeepsOnly m l P)
       (λ u h v d e. ⊎_elim (λ (p : P v). p) (λ (le : d ≤ b). absurd (omega (arith, le, h.1, laws.room u v d h.0.1 e))) (h.0.0 v d e))
       0 rs (run m r w)
-      (hold_both m (λ u. Old u × l.sane u) (λ u. b ≤ m.clock u) 0 rs (run m r w) (hold_both m Old l.sane 0 rs (run m r w) old.1 sane.1) (window_passes m c r rs w ws))
+      (hold_both m (λ u. Old u × l.sane u) (λ u. b ≤ m.clock u) 0 rs (run m r w) (hold_both m Old l.sane 0 rs (run m r w) old.1 sane.1) (windows_pass m c (r ∷ rs) w ws))
 
   -- what was in flight is gone after one window, and what it set after another
   pub settles_in_two : KeepLaws m l → (P : V → Type 0) → IsClosed l.below P → (rs : List (List S)) (w : W) → Windows m rs w
@@ -114,4 +114,4 @@ module _ {W S I K V : Type 0} (m : Machine W S I K) (c : IsClocked m) (stamps : 
       (made_run m stamps r w) ws.0.flushed (joined_hold m (Good m l v (m.made w)) all w1 good.1)) in
       hold_map m (λ u. (m.clock w1 + 21 * m.quarter ≤ m.clock u → Stands m l v u) × (m.clock w1 + 21 * m.quarter ≤ m.clock u)) (Stands m l v) (λ u h. h.0 h.1) 0 rs (run m r2 w1)
       (hold_both m (λ u. m.clock w1 + 21 * m.quarter ≤ m.clock u → Stands m l v u) (λ u. m.clock w1 + 21 * m.quarter ≤ m.clock u) 0 rs (run m r2 w1) later.1
-      (window_passes m c r2 rs w1 ws.1))
+      (windows_pass m c (r2 ∷ rs) w1 ws.1))

@@ -12,18 +12,19 @@ ghost use Rattle.laws_loss.specs.Windows.{Windows, joined, four_by_four};
 
 use calm_rounds::{Claim, Key};
 
-/// What is refreshed never dies (RFC 2205, 3.7, K = 3): where of any three successive refreshes on its track one arrives less than
-/// 0.75 periods after it was due, a value that lives until the third of them may arrive is kept in each world that is visited,
-/// however long.
+/// What is refreshed never dies (RFC 2205, 3.7, K = 3): where each letter in flight says one value for a full lifetime, each that arrives
+/// is taken whole, the sending node goes on refreshing, the next time within 1.5 periods, and of any three successive refreshes on the
+/// track one arrives less than 0.75 periods after it was due, that value, if it lives until the third of them may arrive, is kept in each
+/// world that is visited, however long.
 pub fn what_is_refreshed_never_dies<W, S, I, K, L: Key<W, S, I, K>>()
     ensures { (m : Machine W S I K) → IsClocked m → IsStamped m → DueLaws m L.state → PaceLaws m L.state
         → (v : L.Value) (n : ℕ) (ss : List S) (w : W) → AreQuiet m ss → IsRefreshed m L.state.due L.state.track ss w
         → Moves m L.state v n → n ≤ m.made w → Fresh m n w → Visited m (Good m L.state v n) ss w → Lasts m L.state v w → Visited m (Stands m L.state v) ss w }
 {}
 
-/// As many refreshes may be lost as fit into a lifetime: where of any so many successive refreshes one arrives in time, and as many times
-/// 1.5 periods fit into a lifetime together with the time that a refresh may take, a value that lives until the last of them may arrive
-/// never dies.
+/// As many refreshes may be lost as fit into a lifetime: where the same is said, taken and refreshed, of any so many successive refreshes
+/// one arrives in time, and as many times 1.5 periods fit into a lifetime together with the time that a refresh may take, the value, if it
+/// lives until the last of them may arrive, never dies.
 pub fn what_is_refreshed_often_enough_never_dies<W, S, I, K, L: Key<W, S, I, K>>()
     ensures { (m : Machine W S I K) → IsClocked m → IsStamped m → DueLaws m L.state → PaceLaws m L.state
         → (wait few : ℕ) → 6 * m.quarter * suc few + wait ≤ 21 * m.quarter
@@ -32,8 +33,9 @@ pub fn what_is_refreshed_often_enough_never_dies<W, S, I, K, L: Key<W, S, I, K>>
         → (d t : ℕ) → L.state.kept w ≡ Some (v, d) → L.state.due w ≡ Some t → t + 6 * m.quarter * few + wait ≤ d → Visited m (Stands m L.state v) ss w }
 {}
 
-/// What is refreshed is kept: where of any three successive refreshes on its track one arrives less than 0.75 periods after it was due,
-/// and all that is in flight says one value, that value is kept from 5.25 refresh periods on, whatever was kept at the start.
+/// What is refreshed is kept: where each letter in flight says one value for a full lifetime, each that arrives is taken whole, the sending
+/// node goes on refreshing, and of any three successive refreshes on the track one arrives less than 0.75 periods after it was due, that
+/// value is kept from 5.25 refresh periods on, whatever was kept at the start.
 pub fn what_is_refreshed_is_kept<W, S, I, K, L: Key<W, S, I, K>>()
     ensures { (m : Machine W S I K) → IsClocked m → IsStamped m → DueLaws m L.state → PaceLaws m L.state
         → (v : L.Value) (n : ℕ) (ss : List S) (w : W) → AreQuiet m ss → IsRefreshed m L.state.due L.state.track ss w
@@ -63,8 +65,9 @@ pub fn only_what_is_said_is_kept_in_two_windows<
         → Hold m 2 rs w (λ u. KeepsOnly m L.state P.holds u × SaysOnly m L.state P.holds 0 u) }
 {}
 
-/// One hop settles in windows, second half: where each refresh says one value, and is taken, and of any three successive refreshes
-/// one arrives in time, two windows on that value is kept.
+/// One hop settles in windows, second half: where each letter that is sent from now on says one value for a full lifetime, each that arrives
+/// is taken whole, the sending node goes on refreshing, and of any three successive refreshes one arrives in time, two windows on that
+/// value is kept.
 pub fn what_is_refreshed_is_kept_in_two_windows<W, S, I, K, L: Key<W, S, I, K>>()
     ensures { (m : Machine W S I K) → IsClocked m → IsStamped m → DueLaws m L.state → PaceLaws m L.state → (v : L.Value) (rs : List (List S)) (w : W) → Windows m rs w
         → IsRefreshed m L.state.due L.state.track (joined rs) w → Moves m L.state v (m.made w) → Hold m 0 rs w (Good m L.state v (m.made w)) → Hold m 2 rs w (Stands m L.state v) }

@@ -1,9 +1,10 @@
 //! Loss: what any machine keeps that refreshes it, where refreshes are lost as RFC 2205 allows.
 //!
 //! A lifetime is made so that of K successive refreshes K - 1 may be lost (RFC 2205, 3.7; K = 3 here). Where of any three successive
-//! refreshes on a track one arrives in time, less than 0.75 refresh periods after it was due, what is refreshed never dies. Calm
-//! rounds ask for more: a refresh that arrives in each round. Definitions stand in `specs/`, and each public function of `laws` has
-//! an empty body and a law as its promise.
+//! refreshes on a track one arrives in time, less than 0.75 refresh periods after it was due, what is refreshed never dies. Neither this
+//! premise nor that of calm rounds gives the other: in a calm round a refresh may come two periods late, and where refreshes are lost as
+//! here, two neighbouring rounds may have none. Definitions stand in `specs/`, and each public function of `laws` has an empty body and a
+//! law as its promise.
 #![tactic(auto)]
 
 pub mod laws;
