@@ -6,3 +6,6 @@ pub mod WindowPaths
 pub mod Example
 pub mod StaleExample
 pub mod LastingResvs
+pub mod ResvSteps
+pub mod WindowResvs
+pub mod WindowTaking

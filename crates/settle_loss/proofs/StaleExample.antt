@@ -1,4 +1,4 @@
--- A path that is left over, in windows: the premises of the laws on windows are met.
+-- A path that is left over, and a reservation that is: the premises of the laws on windows are met.
 use Rattle.std.proofs.Common.{◌≡◌, ℕ, zero, suc, length, Some, arith, refl, ap, ◌∙◌}
 use Rattle.std.specs.Option.{option_map}
 use Rattle.rsvp_base.specs.Table.{Table, empty, get}
@@ -14,7 +14,9 @@ use Rattle.laws_network.specs.Rounds.{rounds_of}
 use Rattle.laws_network.proofs.Known.{of_some}
 use Rattle.settle_paths.specs.Example.{stale_world}
 use Rattle.settle_paths.proofs.Example.{a_path_is_left_over}
-use Rattle.settle_loss.specs.Example.{ALeftOverPathInWindows}
+use Rattle.settle_resvs.specs.LeftOverExample.{lost_world}
+use Rattle.settle_resvs.proofs.LeftOverExample.{a_reservation_is_lost}
+use Rattle.settle_loss.specs.Example.{ALeftOverPathInWindows, ALeftOverReservationInWindows}
 
 abbrev none_yet : Table sender_keys TokenBucket
 none_yet = empty
@@ -47,4 +49,11 @@ a_left_over_path_in_windows = record {
   windows = λ k. rounds_make_windows (machine 7500) (items_are_numbered 7500) (rounds_of 7500 k stale_world) stale_world (a_path_is_left_over.rounds k);
   refreshed = λ k x t h live there. absurd (nobody live.node live.senders x t live.at live.sends);
   not_yet = a_path_is_left_over.not_yet;
+}
+
+pub a_left_over_reservation_in_windows : ALeftOverReservationInWindows
+a_left_over_reservation_in_windows = record {
+  bounds = a_reservation_is_lost.start.bounds;
+  windows = λ k. rounds_make_windows (machine 7500) (items_are_numbered 7500) (rounds_of 7500 k lost_world) lost_world (a_reservation_is_lost.rounds k);
+  not_yet = a_reservation_is_lost.not_yet;
 }

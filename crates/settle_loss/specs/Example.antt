@@ -1,5 +1,5 @@
 -- The pair of nodes meets the premises of the laws: with a path that stands, while two of any three Paths are lost; and with a path
--- that is left over, in windows.
+-- and with a reservation that are left over, in windows.
 use Rattle.std.specs.Prelude.{◌≤◌, ℕ, List, [], ◌∷◌}
 use Rattle.laws_loss.specs.Windows.{Windows, joined, four_by_four}
 use Rattle.calm_rounds.specs.Machine.{run}
@@ -8,7 +8,7 @@ use Rattle.tree_model.specs.Trees.{tree}
 use Rattle.rsvp_base.specs.Members.{In}
 use Rattle.network_model.specs.Bounds.{AreBounds, AreHosts}
 use Rattle.network_model.specs.Locals.{IsLive}
-use Rattle.network_model.specs.Sound.{ArePathsSound}
+use Rattle.network_model.specs.Sound.{ArePathsSound, AreResvsSound}
 use Rattle.network_model.specs.Steps.{Step, Piece, Deliver, Lose, machine, step}
 use Rattle.network_model.specs.ThreeRouters.{group, s1, session, first, usual}
 use Rattle.network_model.specs.Worlds.{World}
@@ -16,6 +16,7 @@ use Rattle.laws_network.specs.Example.{pair_net, sending_world}
 use Rattle.laws_network.specs.Rounds.{rounds_of}
 use Rattle.settle_paths.specs.Example.{stale_world}
 use Rattle.settle_paths.specs.Sure.{forth}
+use Rattle.settle_resvs.specs.LeftOverExample.{lost_world}
 use Rattle.settle_loss.specs.RefreshedPaths.{ArePathsRefreshed, DoPathsLast, IsInOrder}
 
 -- the first Path has arrived
@@ -43,15 +44,20 @@ pub record ALossyPair : Type 0 where
   pub long : 157500 ≤ (run (machine 7500) two_lost lit_pair).clock
 
 -- the windows of so many rounds of a script, by four
-abbrev pub windows_of : ℕ → List (List Step)
-windows_of k = four_by_four (rounds_of 7500 k stale_world)
+abbrev pub windows_of : ℕ → World → List (List Step)
+windows_of k w = four_by_four (rounds_of 7500 k w)
 
 pub record ALeftOverPathInWindows : Type 0 where
   pub hosts : AreHosts stale_world
   pub bounds : AreBounds 7500 stale_world
   -- however many windows
-  pub windows : (k : ℕ) → Windows (machine 7500) (windows_of k) stale_world
+  pub windows : (k : ℕ) → Windows (machine 7500) (windows_of k stale_world) stale_world
   -- nobody sends, so each live sender's Paths arrive in time
-  pub refreshed : (k : ℕ) → ArePathsRefreshed 7500 (joined (windows_of k)) stale_world
+  pub refreshed : (k : ℕ) → ArePathsRefreshed 7500 (joined (windows_of k stale_world)) stale_world
   -- what is promised does not hold yet
   pub not_yet : ArePathsSound stale_world → ⊥
+
+pub record ALeftOverReservationInWindows : Type 0 where
+  pub bounds : AreBounds 7500 lost_world
+  pub windows : (k : ℕ) → Windows (machine 7500) (windows_of k lost_world) lost_world
+  pub not_yet : AreResvsSound lost_world → ⊥

@@ -1,26 +1,30 @@
 //! The laws.
 ghost use Rattle.rsvp_base.specs.declared.part.Part.{Part};
+ghost use Rattle.rsvp_base.specs.declared.session.Session.{Session};
 ghost use Rattle.rsvp_base.specs.Members.{In};
 ghost use Rattle.calm_rounds.specs.SoftStates.{Stands};
 ghost use Rattle.tree_model.specs.Trees.{hops_of};
 ghost use Rattle.settle_resvs.specs.Said.{HopKey, hop_over, IsSaid, resv_key};
+ghost use Rattle.settle_resvs.specs.Sessions.{SessionFits, TakesAllOf};
 ghost use Rattle.settle_resvs.specs.SoftResvs.{soft_resv};
 ghost use Rattle.settle_loss.specs.RefreshedResvs.{AreResvsFull, DoesResvLast, IsResvRefreshed};
-ghost use Rattle.std.specs.Prelude.{◌+◌, ◌*◌, ℕ, List};
+ghost use Rattle.std.specs.Prelude.{◌≡◌, ◌+◌, ◌*◌, ℕ, List, true};
 ghost use Rattle.calm_rounds.specs.Rounds.{AreQuiet};
 ghost use Rattle.calm_rounds.specs.Hold.{Visited, Hold};
 ghost use Rattle.laws_loss.specs.Windows.{Windows, joined};
 ghost use Rattle.tree_model.specs.Ranks.{longest};
 ghost use Rattle.network_model.specs.Bounds.{AreBounds, AreHosts};
-ghost use Rattle.network_model.specs.Sound.{ArePathsComplete, ArePathsSound};
-ghost use Rattle.network_model.specs.Steps.{Step, machine};
+ghost use Rattle.network_model.specs.Locals.{locals_of};
+ghost use Rattle.network_model.specs.Sound.{ArePathsComplete, ArePathsSound, AreResvsSound};
+ghost use Rattle.network_model.specs.Steps.{Step, is_quiet, machine};
 ghost use Rattle.network_model.specs.Worlds.{World};
-ghost use Rattle.settle_loss.specs.Example.{ALossyPair, ALeftOverPathInWindows};
+ghost use Rattle.settle_loss.specs.Example.{ALossyPair, ALeftOverPathInWindows, ALeftOverReservationInWindows};
 ghost use Rattle.settle_loss.specs.RefreshedPaths.{ArePathsRefreshed, DoPathsLast, IsInOrder};
 
-/// Paths never die (RFC 2205, 3.7, K = 3): in a network within bounds whose paths are sound and live until the third refresh from now
-/// on may arrive, and in which nothing else is on its way, paths are sound and complete in each world that is visited, as long as
-/// over each hop of a live sender's tree of any three successive Paths one arrives less than 0.75 periods after it was due.
+/// Paths never die (RFC 2205, 3.7, K = 3): in a network within bounds with hosts, whose paths are sound, where at the end of each hop of a
+/// live sender's tree its path stands and lives until the third refresh from now on may arrive, each Path in flight goes to its group for a
+/// full lifetime, and no PathTear of a live sender goes over a hop of its tree, paths are sound and complete in each world that quiet steps
+/// visit, as long as over each such hop of any three successive Paths one arrives less than 0.75 periods after it was due.
 pub fn paths_never_die()
     ensures { (q : ℕ) (w : World) (ss : List Step) → AreHosts w → AreBounds q w → ArePathsSound w → IsInOrder q w → DoPathsLast q w
         → AreQuiet (machine q) ss → ArePathsRefreshed q ss w → Visited (machine q) (λ u. ArePathsSound u × ArePathsComplete u) ss w }
@@ -40,10 +44,11 @@ pub fn paths_settle_in_windows()
         → Hold (machine q) ((1 + 2 * longest w.net) + 2 * longest w.net) rs w (λ u. ArePathsSound u × ArePathsComplete u) }
 {}
 
-/// A reservation over a hop never dies: where from the start each Resv of a session and style that is sent over a hop says a part, no
-/// ResvTear of them takes a name of it, what arrives is taken, the node that asks has something to ask for, and the node that keeps
-/// knows its senders, a part that is reserved and lives until the third refresh from now on may arrive is reserved in each world that
-/// is visited, as long as of any three successive Resvs over the hop one arrives less than 0.75 periods after it was due.
+/// A reservation over a hop never dies: in a network within bounds, where each Resv in flight at the start is for a full lifetime, and from
+/// the start on each Resv of a session and style in flight over a hop of a tree says a part, no ResvTear of them takes a name of it, what
+/// arrives is taken whole, the node that asks has something to ask for, and the node that keeps knows the senders of the part, a part that
+/// is reserved and lives until the third refresh from now on may arrive is reserved in each world that quiet steps visit, as long as of any
+/// three successive Resvs over the hop one arrives less than 0.75 periods after it was due.
 pub fn a_reservation_never_dies()
     ensures { (q : ℕ) (w : World) (k : HopKey) (v : Part) → In (hop_over k) (hops_of w.net.hops k.session.group) → (ss : List Step) → AreQuiet (machine q) ss → AreBounds q w
         → AreResvsFull q w → DoesResvLast q w k v → IsResvRefreshed q w.net k ss w → Visited (machine q) (IsSaid q w.net k v 0) ss w
@@ -58,6 +63,23 @@ pub fn said_resvs_are_kept_in_windows()
         → Hold (machine q) 2 rs w (Stands (machine q) (soft_resv q w (resv_key w.net k)) v) }
 {}
 
+/// Reservations become sound in windows: in a network within bounds, 4 H + 3 windows of 5.25 refresh periods or more on, where H is the length
+/// of the longest chain, each path is one of a live sender's tree, and each reservation that a node keeps, of whatever style and next hop,
+/// and each unit of each Resv in flight is at most what is wanted over its hop, whatever is lost.
+pub fn reservations_become_sound_in_windows()
+    ensures { (q : ℕ) (w : World) (rs : List (List Step)) → Windows (machine q) rs w → AreBounds q w
+        → Hold (machine q) (3 + 4 * longest w.net) rs w (λ u. ArePathsSound u × AreResvsSound u) }
+{}
+
+/// Each arrival of a session is taken in windows: in a network within bounds with hosts, where the session fits, 4 H + 3 windows of 5.25
+/// refresh periods or more on, each unit of each Resv of the session that arrives stands at its node as it was asked for, whatever other
+/// sessions ask for and whatever Resvs are lost, as long as over each hop of a live sender's tree of any three successive Paths one arrives
+/// less than 0.75 periods after it was due.
+pub fn arrivals_are_taken_in_windows()
+    ensures { (q : ℕ) (s : Session) (w : World) (rs : List (List Step)) → Windows (machine q) rs w → AreHosts w → SessionFits w.net (locals_of w) s → AreBounds q w
+        → ArePathsRefreshed q (joined rs) w → Hold (machine q) (3 + 4 * longest w.net) rs w (λ u. (t : Step) → is_quiet t ≡ true → TakesAllOf s q t u) }
+{}
+
 /// A small network meets the premises of `paths_never_die` through 165 seconds in which two of three Paths are lost.
 pub fn a_pair_is_lossy()
     ensures { ALossyPair }
@@ -67,4 +89,10 @@ pub fn a_pair_is_lossy()
 /// not sound.
 pub fn a_path_is_left_over_in_windows()
     ensures { ALeftOverPathInWindows }
+{}
+
+/// A left-over reservation, of a next hop that no end has, meets the premises of `reservations_become_sound_in_windows`, however many
+/// windows there are, and at the start it is not sound.
+pub fn a_reservation_is_left_over_in_windows()
+    ensures { ALeftOverReservationInWindows }
 {}
