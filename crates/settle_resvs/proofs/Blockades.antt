@@ -40,7 +40,7 @@ walled_session e m Fixed k i = let x = in_each (λ (z : Sender). (m.session, tar
 walled_session e m Shared k i = let x = in_each (λ (z : Sender). (m.session, target.Sender z)) k (blamed_senders m.blame.senders) i in ap (λ (z : WallKey). z.0) x.2
 
 -- ---- each blockade of the session dies by a moment
-abbrev DiesBy : Session → ℕ → World → Type 0
+abbrev pub DiesBy : Session → ℕ → World → Type 0
 DiesBy which c u = (n : ℕ) (f : Facts) (t : Target) (b : Blockade) → slice_get u.nodes n ≡ Some f → get f.walls (which, t) ≡ Some b → b.dies ≤ c
 
 module _ (q : ℕ) (which : Session) (s : Step) (u : World) (quiet : is_quiet s ≡ true) (bounds : AreBounds q u) (none : HasNoFlowErrorOf which u) where
@@ -57,7 +57,7 @@ module _ (q : ℕ) (which : Session) (s : Step) (u : World) (quiet : is_quiet s 
       absurd (cc))
       (input_found s u n i quiet came)
 
-  walls_step : (c : ℕ) → DiesBy which c u → DiesBy which c (step q s u)
+  pub walls_step : (c : ℕ) → DiesBy which c u → DiesBy which c (step q s u)
   walls_step c dies n g t b a h =
       let k : WallKey = (which, t) in
       let p : NodeConfig = config_of q u.net u.trees n in
@@ -73,7 +73,7 @@ module _ (q : ℕ) (which : Session) (s : Step) (u : World) (quiet : is_quiet s 
       (outcome_quiet q s u n f.0 quiet)
 
 -- ---- after 18 quarters none lives
-free : (q : ℕ) (which : Session) (w u : World) → AreBounds q u → DiesBy which (w.clock + 16 * q) u → w.clock + 6 * q * 3 ≤ u.clock → IsFreeOfBlockadesOf which u
+pub free : (q : ℕ) (which : Session) (w u : World) → AreBounds q u → DiesBy which (w.clock + 16 * q) u → w.clock + 6 * q * 3 ≤ u.clock → IsFreeOfBlockadesOf which u
 free q which w u bounds dies late n f a t = by (get f.walls (which, t)) refl
   where
     by : (v : Option Blockade) → get f.walls (which, t) ≡ v → get f.walls (which, t) ≡ None

@@ -214,10 +214,10 @@ pub record IsCalmed (q : ℕ) (which : Session) (o u : World) : Type 0 where
   pub ready : IsReady q which u
 
 module _ (q : ℕ) (which : Session) (o : World) where
-  abbrev Low : ℕ → World → Type 0
+  abbrev pub Low : ℕ → World → Type 0
   Low j u = AreLow which o.net (locals_of o) j 0 u
 
-  new_low : (j b : ℕ) (s : Step) (u : World) → is_quiet s ≡ true → IsCalmed q which o u → Low (suc j) u → AreLow which o.net (locals_of o) j b u → AreLow which o.net (locals_of o) j b (step q s u)
+  pub new_low : (j b : ℕ) (s : Step) (u : World) → is_quiet s ≡ true → IsCalmed q which o u → Low (suc j) u → AreLow which o.net (locals_of o) j b u → AreLow which o.net (locals_of o) j b (step q s u)
   new_low j b s u quiet c low k y m flow i born spelt is_of has_flow =
       ⊎_elim
       (λ (old : In y u.flight). k y m flow old born spelt is_of has_flow)
@@ -245,7 +245,7 @@ module _ (q : ℕ) (which : Session) (o : World) where
       (hold_stack (machine q) (λ u. IsCalmed q which o u × Low (suc j) u) (Low j) 1 (one_round j) d rs w calm
       (hold_both (machine q) (IsCalmed q which o) (Low (suc j)) d rs w (hold_later (machine q) (IsCalmed q which o) 0 d rs w (omega arith) c) (fewer d (suc j) (omega (arith, e)) rs w calm c)))
 
-  none_left : (u : World) → IsCalmed q which o u → Low 0 u → HasNoFlowErrorOf which u
+  pub none_left : (u : World) → IsCalmed q which o u → Low 0 u → HasNoFlowErrorOf which u
   none_left u c low y m i spelt is_of = by m.blame.flow refl
     where
       by : (f : Option TokenBucket) → m.blame.flow ≡ f → m.blame.flow ≡ None

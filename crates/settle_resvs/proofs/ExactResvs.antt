@@ -132,7 +132,7 @@ module _ (q : ℕ) (s : Session) (k : ℕ) where
 
   -- ---- one unit over one hop
   module _ (st : StyleKind) (h : LinkHop) (uu : UnitOf) (v : Part) where
-    abbrev over : HopKey
+    abbrev pub over : HopKey
     over = record { session = s; style = st; unit = uu; from = h.to; to = h.from }
 
     -- the hop is there, of the next rank at most, and the part is wanted over it
@@ -144,10 +144,10 @@ module _ (q : ℕ) (s : Session) (k : ℕ) where
     abbrev Says : World → Item → Type 0
     Says u y = SaysResv u.net (resv_key u.net over) y v
 
-    abbrev AreLetters : ℕ → World → Type 0
+    abbrev pub AreLetters : ℕ → World → Type 0
     AreLetters b u = (y : Item) (m : ResvMsg) → In y u.flight → b ≤ y.born → y.arrival ≡ Spelt (message.Resv m) → IsOver u.net over y m.session m.hop.addr (ask_style m.ask) → Says u y
 
-    abbrev AreSpared : ℕ → World → Type 0
+    abbrev pub AreSpared : ℕ → World → Type 0
     AreSpared b u = (y : Item) (m : ResvTearMsg) → In y u.flight → b ≤ y.born → y.arrival ≡ Spelt (message.ResvTear m) → IsOver u.net over y m.session m.hop.addr (tear_style m.tear) → ⊥
 
     module _ (u : World) (g : IsSteady q s u) (exact : AreExactTo s k u) (is : IsWantedAt u) where
@@ -261,7 +261,7 @@ module _ (q : ℕ) (s : Session) (k : ℕ) where
       net_same : u'.net ≡ u.net
       net_same = net_quiet t u quiet
 
-      letters_step : (b : ℕ) → AreLetters b u → AreLetters b u'
+      pub letters_step : (b : ℕ) → AreLetters b u → AreLetters b u'
       letters_step b old y m i born spelt o =
           ⊎_elim
           (λ (there : In y u.flight).
@@ -317,23 +317,23 @@ module _ (q : ℕ) (s : Session) (k : ℕ) where
           let bad : true ≡ false = sym yes ∙ gone.gone in
           absurd (cc)
 
-      spared_step : (b : ℕ) → AreSpared b u → AreSpared b u'
+      pub spared_step : (b : ℕ) → AreSpared b u → AreSpared b u'
       spared_step b old y m i born spelt o =
           let o' = subst (λ (z : Net). IsOver z over y m.session m.hop.addr (tear_style m.tear)) net_same o in
           ⊎_elim (λ (there : In y u.flight). old y m there born spelt o') (λ (new : (mark : Bool) × In (y, mark) (sent q t u)). no_tear y new.0 m new.1 spelt o') (in_flight_after q t u y quiet i)
 
     -- ---- so it is said over the hop, and is kept two rounds on
-    abbrev IsMet : World → World → Type 0
+    abbrev pub IsMet : World → World → Type 0
     IsMet w u = IsKnown q w u × (IsSteady q s u × AreExactTo s k u)
 
-    wanted_at : (w u : World) → IsKnown q w u → IsWantedAt w → IsWantedAt u
+    pub wanted_at : (w u : World) → IsKnown q w u → IsWantedAt w → IsWantedAt u
     wanted_at w u a is = record {
       there = subst (λ (z : Net). In h (hops_of z.hops s.group)) (sym a.same.net) is.there;
       near = subst (λ (z : Net). rank z s.group h ≤ suc k) (sym a.same.net) is.near;
       wanted = subst (λ (z : Net × Locals). get (want st z.0 z.1 s h) uu ≡ Some v) (λ j. (sym a.same.net j, sym a.same.locals j)) is.wanted;
     }
 
-    said_at : (w u : World) (b : ℕ) → IsMet w u → IsWantedAt w → AreLetters b u × AreSpared b u → IsSaid q w.net over v b u
+    pub said_at : (w u : World) (b : ℕ) → IsMet w u → IsWantedAt w → AreLetters b u × AreSpared b u → IsSaid q w.net over v b u
     said_at w u b met is both =
         let g = met.1.0 in
         let here = wanted_at w u met.0 is in
@@ -366,14 +366,14 @@ module _ (q : ℕ) (s : Session) (k : ℕ) where
         (hold_both (machine q) (IsMet w) (λ u. AreLetters w.made u × AreSpared w.made u) 0 rs w met (hold_both (machine q) (AreLetters w.made) (AreSpared w.made) 0 rs w letters spared)))
 
   -- ---- all units over all hops of the next rank
-  record Spot (w : World) : Type 0 where
-    st : StyleKind
-    h : LinkHop
-    uu : UnitOf
-    v : Part
-    is : IsWantedAt st h uu v w
+  pub record Spot (w : World) : Type 0 where
+    pub st : StyleKind
+    pub h : LinkHop
+    pub uu : UnitOf
+    pub v : Part
+    pub is : IsWantedAt st h uu v w
 
-  exact_at : (w u : World) → IsKnown q w u → IsSteady q s u → ((a : Spot w) → Stands (machine q) (soft_resv q w (resv_key w.net (over a.st a.h a.uu a.v))) a.v u) → AreExactTo s (suc k) u
+  pub exact_at : (w u : World) → IsKnown q w u → IsSteady q s u → ((a : Spot w) → Stands (machine q) (soft_resv q w (resv_key w.net (over a.st a.h a.uu a.v))) a.v u) → AreExactTo s (suc k) u
   exact_at w u known g stand st h there near =
       let valid = g.ready.bounds.net in
       let inside = ends_there u.net valid s.group h there in

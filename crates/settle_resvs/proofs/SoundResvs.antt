@@ -255,7 +255,7 @@ module _ (q : ℕ) (o : World) (valid : IsValid o.net) where
       record { named = n; sound = λ le. sent_sound k u firm y v says p r level (omega (arith, ranks, le)) }
 
   -- ---- five rounds at each rank
-  first_step : (n : ℕ) (k : ResvKey) (s : Step) (u : World) → is_quiet s ≡ true → IsFirm q o u → IsFirm q o (step q s u)
+  pub first_step : (n : ℕ) (k : ResvKey) (s : Step) (u : World) → is_quiet s ≡ true → IsFirm q o u → IsFirm q o (step q s u)
       → SaysOnly (machine q) (soft_resv q o k) (IsGood o 0 k) n u → SaysOnly (machine q) (soft_resv q o k) (IsGood o 0 k) n (step q s u)
   first_step n k s u quiet a a' j y v i born says =
       ⊎_elim
@@ -263,7 +263,7 @@ module _ (q : ℕ) (o : World) (valid : IsValid o.net) where
       (λ (new : (b : Bool) × In (y, b) (sent q s u)). good_0 k v (sent_named k (step q s u) a' y v says (sent_here s u quiet a a' y new.0 says.resv new.1 says.spelt)))
       (in_flight_after q s u y quiet i)
 
-  next_step : (r n : ℕ) (k : ResvKey) (s : Step) (u : World) → is_quiet s ≡ true → IsFirm q o u → IsFirm q o (step q s u) × Level r (step q s u)
+  pub next_step : (r n : ℕ) (k : ResvKey) (s : Step) (u : World) → is_quiet s ≡ true → IsFirm q o u → IsFirm q o (step q s u) × Level r (step q s u)
       → SaysOnly (machine q) (soft_resv q o k) (IsGood o (suc r) k) n u → SaysOnly (machine q) (soft_resv q o k) (IsGood o (suc r) k) n (step q s u)
   next_step r n k s u quiet a a' j y v i born says =
       ⊎_elim

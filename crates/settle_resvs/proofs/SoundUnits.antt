@@ -102,7 +102,7 @@ module _ (q : ℕ) (o : World) (valid : IsValid o.net) where
       let group : is_group p.lane.hop.1 ≡ false = subst (λ (z : Addr). is_group z ≡ false) a.previous.addr (not_group u firm h.from there.0) in
       p.dst ∙ sym (((where_a_send_goes u.net p.end p.lane.hop.1).one group h.from back a.previous.addr y.end).0 p.goes).1
 
-  addressed_step : (n : ℕ) (s : Step) (u : World) → is_quiet s ≡ true → IsFirm q o u → IsFirm q o (step q s u) → IsAddressed n u → IsAddressed n (step q s u)
+  pub addressed_step : (n : ℕ) (s : Step) (u : World) → is_quiet s ≡ true → IsFirm q o u → IsFirm q o (step q s u) → IsAddressed n u → IsAddressed n (step q s u)
   addressed_step n s u quiet a a' j y m i born spelt =
       ⊎_elim
       (λ (old : In y u.flight). j y m old born spelt ∙ ap (λ (z : Net). addr_of z y.end) (a.known.same.net ∙ sym a'.known.same.net))
