@@ -6,6 +6,8 @@ pub mod WindowPaths
 pub mod Example
 pub mod StaleExample
 pub mod LastingResvs
-pub mod ResvSteps
 pub mod WindowResvs
 pub mod WindowTaking
+pub mod WindowErrors
+pub mod WindowExact
+pub mod WindowSettled

@@ -16,9 +16,8 @@ use Rattle.network_model.proofs.Machines.{quiet_of, time_passes, items_are_numbe
 use Rattle.laws_network.specs.Known.{IsKnown}
 use Rattle.settle_resvs.specs.SoftResvs.{ResvKey, soft_resv}
 use Rattle.settle_resvs.proofs.SoftResvs.{resv_keeps}
-use Rattle.settle_resvs.proofs.SoundResvs.{IsFirm, IsGood, Level, good_cut, all_facts_sound}
-use Rattle.settle_resvs.proofs.SoundUnits.{IsAddressed, unit_sound}
-use Rattle.settle_loss.proofs.ResvSteps.{named_step, sound_step, addressed_step}
+use Rattle.settle_resvs.proofs.SoundResvs.{IsFirm, IsGood, Level, good_cut, first_step, next_step, all_facts_sound}
+use Rattle.settle_resvs.proofs.SoundUnits.{IsAddressed, addressed_step, unit_sound}
 use Rattle.settle_loss.proofs.WindowPaths.{known_windows, paths_become_sound_in_windows}
 
 module _ (q : ℕ) (o : World) (valid : IsValid o.net) where
@@ -47,12 +46,12 @@ module _ (q : ℕ) (o : World) (valid : IsValid o.net) where
   IsUp r u = IsFirm q o u × Level q o valid r u
 
   levels : (r : ℕ) (rs : List (List Step)) (w : World) → Windows (machine q) rs w → Hold (machine q) 0 rs w (IsFirm q o) → Hold (machine q) (2 + 2 * r) rs w (Level q o valid r)
-  levels zero rs w ws firm = good_in_two 0 (IsFirm q o) (λ u h. h) (λ n k s u calm a a' j. named_step q o valid n k s u (quiet_of q s calm) a a' j) rs w ws firm
+  levels zero rs w ws firm = good_in_two 0 (IsFirm q o) (λ u h. h) (λ n k s u calm a a' j. first_step q o valid n k s u (quiet_of q s calm) a a' j) rs w ws firm
   levels (suc r) rs w ws firm =
       let e : (2 + 2 * r) + 2 ≡ 2 + 2 * suc r = omega arith in
       rw (← e)
       (windows_stack (machine q) Any (λ f fs u any. tt) (IsUp r) (Level q o valid (suc r)) 2
-      (λ rs' w' ws' any up. good_in_two (suc r) (IsUp r) (λ u h. h.0) (λ n k s u calm a a' j. sound_step q o valid r n k s u (quiet_of q s calm) a.0 a' j) rs' w' ws' up)
+      (λ rs' w' ws' any up. good_in_two (suc r) (IsUp r) (λ u h. h.0) (λ n k s u calm a a' j. next_step q o valid r n k s u (quiet_of q s calm) a.0 a' j) rs' w' ws' up)
       (2 + 2 * r) rs w ws tt
       (hold_both (machine q) (IsFirm q o) (Level q o valid r) (2 + 2 * r) rs w (hold_later (machine q) (IsFirm q o) 0 (2 + 2 * r) rs w (omega arith) firm) (levels r rs w ws firm)))
 

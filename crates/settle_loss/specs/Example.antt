@@ -5,8 +5,9 @@ use Rattle.laws_loss.specs.Windows.{Windows, joined, four_by_four}
 use Rattle.calm_rounds.specs.Machine.{run}
 use Rattle.calm_rounds.specs.Rounds.{AreQuiet}
 use Rattle.tree_model.specs.Trees.{tree}
+use Rattle.rsvp_base.specs.declared.session.Session.{Session}
 use Rattle.rsvp_base.specs.Members.{In}
-use Rattle.network_model.specs.Bounds.{AreBounds, AreHosts}
+use Rattle.network_model.specs.Bounds.{AreBounds, AreHosts, IsStart}
 use Rattle.network_model.specs.Locals.{IsLive}
 use Rattle.network_model.specs.Sound.{ArePathsSound, AreResvsSound}
 use Rattle.network_model.specs.Steps.{Step, Piece, Deliver, Lose, machine, step}
@@ -18,6 +19,7 @@ use Rattle.settle_paths.specs.Example.{stale_world}
 use Rattle.settle_paths.specs.Sure.{forth}
 use Rattle.settle_resvs.specs.LeftOverExample.{lost_world}
 use Rattle.settle_loss.specs.RefreshedPaths.{ArePathsRefreshed, DoPathsLast, IsInOrder}
+use Rattle.settle_loss.specs.RefreshedResvs.{AreResvsRefreshed}
 
 -- the first Path has arrived
 abbrev pub lit_pair : World
@@ -58,6 +60,10 @@ pub record ALeftOverPathInWindows : Type 0 where
   pub not_yet : ArePathsSound stale_world → ⊥
 
 pub record ALeftOverReservationInWindows : Type 0 where
-  pub bounds : AreBounds 7500 lost_world
+  pub start : IsStart 7500 lost_world
   pub windows : (k : ℕ) → Windows (machine 7500) (windows_of k lost_world) lost_world
+  -- nobody sends or wants, so what is asked for arrives in time
+  pub paths : (k : ℕ) → ArePathsRefreshed 7500 (joined (windows_of k lost_world)) lost_world
+  pub resvs : (k : ℕ) (s : Session) → AreResvsRefreshed 7500 s (joined (windows_of k lost_world)) lost_world
+  -- what is promised does not hold yet
   pub not_yet : AreResvsSound lost_world → ⊥

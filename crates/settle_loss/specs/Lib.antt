@@ -1,3 +1,3 @@
 pub mod RefreshedPaths
-pub mod Example
 pub mod RefreshedResvs
+pub mod Example

@@ -5,9 +5,9 @@ ghost use Rattle.rsvp_base.specs.Members.{In};
 ghost use Rattle.calm_rounds.specs.SoftStates.{Stands};
 ghost use Rattle.tree_model.specs.Trees.{hops_of};
 ghost use Rattle.settle_resvs.specs.Said.{HopKey, hop_over, IsSaid, resv_key};
-ghost use Rattle.settle_resvs.specs.Sessions.{SessionFits, TakesAllOf};
+ghost use Rattle.settle_resvs.specs.Sessions.{AreExactOf, HasNoFlowErrorOf, IsFreeOfBlockadesOf, SessionFits, TakesAllOf};
 ghost use Rattle.settle_resvs.specs.SoftResvs.{soft_resv};
-ghost use Rattle.settle_loss.specs.RefreshedResvs.{AreResvsFull, DoesResvLast, IsResvRefreshed};
+ghost use Rattle.settle_loss.specs.RefreshedResvs.{AreResvsFull, AreResvsRefreshed, DoesResvLast, IsResvRefreshed};
 ghost use Rattle.std.specs.Prelude.{◌≡◌, ◌+◌, ◌*◌, ℕ, List, true};
 ghost use Rattle.calm_rounds.specs.Rounds.{AreQuiet};
 ghost use Rattle.calm_rounds.specs.Hold.{Visited, Hold};
@@ -80,6 +80,31 @@ pub fn arrivals_are_taken_in_windows()
         → ArePathsRefreshed q (joined rs) w → Hold (machine q) (3 + 4 * longest w.net) rs w (λ u. (t : Step) → is_quiet t ≡ true → TakesAllOf s q t u) }
 {}
 
+/// Errors of a session with a flow are gone in windows: in a network within bounds with hosts, where the session fits, 5 H + 4 windows of 5.25
+/// refresh periods or more on, no ResvErr of the session with a flow is in flight, whatever Resvs are lost, as long as over each hop of a live
+/// sender's tree of any three successive Paths one arrives less than 0.75 periods after it was due.
+pub fn errors_are_gone_in_windows()
+    ensures { (q : ℕ) (s : Session) (w : World) (rs : List (List Step)) → Windows (machine q) rs w → AreHosts w → SessionFits w.net (locals_of w) s → AreBounds q w
+        → ArePathsRefreshed q (joined rs) w → Hold (machine q) (4 + 5 * longest w.net) rs w (HasNoFlowErrorOf s) }
+{}
+
+/// Blockades of a session are gone in windows: in a network within bounds with hosts, where the session fits, 5 H + 5 windows of 5.25 refresh
+/// periods or more on, no blockade of the session lives, whatever Resvs are lost, as long as over each hop of a live sender's tree of any
+/// three successive Paths one arrives less than 0.75 periods after it was due.
+pub fn blockades_are_gone_in_windows()
+    ensures { (q : ℕ) (s : Session) (w : World) (rs : List (List Step)) → Windows (machine q) rs w → AreHosts w → SessionFits w.net (locals_of w) s → AreBounds q w
+        → ArePathsRefreshed q (joined rs) w → Hold (machine q) (5 + 5 * longest w.net) rs w (IsFreeOfBlockadesOf s) }
+{}
+
+/// Reservations of a session become exact in windows: in a network within bounds with hosts, where the session fits, 7 H + 5 windows of 5.25
+/// refresh periods or more on, what stands of it in a style over a hop is exactly what is wanted over it, unit by unit, as long as over each
+/// hop of a live sender's tree of any three successive Paths, and over each hop over which something of the session is wanted of any three
+/// successive Resvs of its style, one arrives less than 0.75 periods after it was due (RFC 2205, 3.7, K = 3).
+pub fn reservations_become_exact_in_windows()
+    ensures { (q : ℕ) (s : Session) (w : World) (rs : List (List Step)) → Windows (machine q) rs w → AreHosts w → SessionFits w.net (locals_of w) s → AreBounds q w
+        → ArePathsRefreshed q (joined rs) w → AreResvsRefreshed q s (joined rs) w → Hold (machine q) (5 + 7 * longest w.net) rs w (AreExactOf s) }
+{}
+
 /// A small network meets the premises of `paths_never_die` through 165 seconds in which two of three Paths are lost.
 pub fn a_pair_is_lossy()
     ensures { ALossyPair }
@@ -91,8 +116,8 @@ pub fn a_path_is_left_over_in_windows()
     ensures { ALeftOverPathInWindows }
 {}
 
-/// A left-over reservation, of a next hop that no end has, meets the premises of `reservations_become_sound_in_windows`, however many
-/// windows there are, and at the start it is not sound.
+/// A left-over reservation, of a next hop that no end has, meets the premises of these laws on reservations in windows, however many windows
+/// there are, and at the start it is not sound.
 pub fn a_reservation_is_left_over_in_windows()
     ensures { ALeftOverReservationInWindows }
 {}
