@@ -30,7 +30,7 @@ use Rattle.settle_network.proofs.RunsSettle.{joined, visited_at}
 use Rattle.settle_network.proofs.Settled.{run_all, run_then}
 
 -- ---- a book lies below its demand
-books_below : (q : ℕ) (u : World) → AreBounds q u → AreResvsSound u → AreBooksAtMostDemands u
+pub books_below : (q : ℕ) (u : World) → AreBounds q u → AreResvsSound u → AreBooksAtMostDemands u
 books_below q u bounds resvs e f lt at =
     let n : ℕ = node_of u.net.ends e in
     let i : ℕ = iface_of u.net.ends e in

@@ -56,6 +56,16 @@ module _ (w : World) where
   abbrev to_walls : ℕ
   to_walls = to_errors + 3
 
+-- ---- a session of a steady world, with exact reservations and no error with a flow, has settled
+pub settled_for : (q : ℕ) (s : Session) (u : World) → IsSteady q s u → AreExactOf s u → HasNoFlowErrorOf s u → HasSettledFor q s u
+settled_for q s u g exact no_error = record {
+  exact = exact;
+  entries = λ e f lt at. entries_are_the_demand q s u g.ready.bounds g.ready.resvs exact e lt f at;
+  takes_all = λ t quiet. takes_all q s t u quiet g.ready (λ y m i spelt. g.addressed y m i (omega arith) spelt);
+  no_flow_error = no_error;
+  no_blockade = g.free;
+}
+
 -- ---- whatever is asked for: paths are sound and complete, reservations sound, and what is sent goes to its end
 module _ (q : ℕ) (w : World) (rs : List (List Step)) (calm : Rounds (machine q) rs w) (start : AreBounds q w) (hosts : AreHosts w) where
   pub record IsSound (u : World) : Type 0 where
@@ -152,15 +162,6 @@ module _ (q : ℕ) (w : World) (rs : List (List Step)) (calm : Rounds (machine q
         (reservations_are_exact q s us u c (hold_map (machine q) Steadied (IsSteady q s) (λ x g. g.1) 0 us u h)))
         (to_walls w) rs w calm steady
 
-    settled_for : (u : World) → IsSteady q s u → AreExactOf s u → HasNoFlowErrorOf s u → HasSettledFor q s u
-    settled_for u g exact no_error = record {
-      exact = exact;
-      entries = λ e f lt at. entries_are_the_demand q s u g.ready.bounds g.ready.resvs exact e lt f at;
-      takes_all = λ t quiet. takes_all q s t u quiet g.ready (λ y m i spelt. g.addressed y m i (omega arith) spelt);
-      no_flow_error = no_error;
-      no_blockade = g.free;
-    }
-
     -- ---- all together
     pub a_session_settles : Hold (machine q) (13 * long w + 13) rs w (HasSettledFor q s)
     a_session_settles =
@@ -168,7 +169,7 @@ module _ (q : ℕ) (w : World) (rs : List (List Step)) (calm : Rounds (machine q
         let e : k ≡ 13 * long w + 13 = omega arith in
         subst (λ (z : ℕ). Hold (machine q) z rs w (HasSettledFor q s)) e
         (hold_map (machine q) (λ u. (Steadied u × AreExactOf s u) × HasNoFlowErrorOf s u) (HasSettledFor q s)
-        (λ u h. settled_for u h.0.0.1 h.0.1 h.1) k rs w
+        (λ u h. settled_for q s u h.0.0.1 h.0.1 h.1) k rs w
         (hold_both (machine q) (λ u. Steadied u × AreExactOf s u) (HasNoFlowErrorOf s) k rs w
         (hold_both (machine q) Steadied (AreExactOf s) k rs w (hold_later (machine q) Steadied (to_walls w) k rs w (omega arith) steady) exact)
         (hold_later (machine q) (HasNoFlowErrorOf s) (to_errors w) k rs w (omega arith) no_errors)))
@@ -182,21 +183,22 @@ no_rows walls none = by walls.rows refl
     by (x ∷ xs) e =
         let found = in_found wall_keys walls x.0 x.1 (subst (λ (z : List (WallKey × Blockade)). In x z) (sym e) (inl refl)) in let no : None ≡ Some x.1 = sym (none x.0) ∙ found in absurd (cc)
 
+-- ---- a network in which each session has settled has settled
+pub all_settled : (q : ℕ) (u : World) → IsSettledSoFar u → ((s : Session) → HasSettledFor q s u) → HasSettled q u
+all_settled q u so_far each = record {
+  paths_sound = so_far.0;
+  paths_complete = so_far.1.0;
+  resvs_sound = so_far.1.1;
+  resvs_exact = λ st s h there. (each s).exact st h there;
+  books = λ e f lt at. same_table entry_keys (book f (iface_of u.net.ends e)) (demand_of u.net (locals_of u) e) (λ k. (each k.session).entries e f lt at k refl);
+  takes_all = λ t quiet y m f x arr spelt at asked. (each m.session).takes_all t quiet y m f x arr spelt refl at asked;
+  no_flow_error = λ y m i spelt. (each m.session).no_flow_error y m i spelt refl;
+  no_blockade = record { walls = λ n f at. no_rows f.walls (λ k. (each k.0).no_blockade n f at k.1) };
+}
+
 module _ (q : ℕ) (w : World) (rs : List (List Step)) (calm : Rounds (machine q) rs w) (start : IsStart q w) where
   fits : (s : Session) → SessionFits w.net (locals_of w) s
   fits = each_fits w.net (locals_of w) start.fit
-
-  all_settled : (u : World) → IsSettledSoFar u → ((s : Session) → HasSettledFor q s u) → HasSettled q u
-  all_settled u so_far each = record {
-    paths_sound = so_far.0;
-    paths_complete = so_far.1.0;
-    resvs_sound = so_far.1.1;
-    resvs_exact = λ st s h there. (each s).exact st h there;
-    books = λ e f lt at. same_table entry_keys (book f (iface_of u.net.ends e)) (demand_of u.net (locals_of u) e) (λ k. (each k.session).entries e f lt at k refl);
-    takes_all = λ t quiet y m f x arr spelt at asked. (each m.session).takes_all t quiet y m f x arr spelt refl at asked;
-    no_flow_error = λ y m i spelt. (each m.session).no_flow_error y m i spelt refl;
-    no_blockade = record { walls = λ n f at. no_rows f.walls (λ k. (each k.0).no_blockade n f at k.1) };
-  }
 
   pub nothing_is_refused : Hold (machine q) (to_errors w) rs w (λ u. ((t : Step) → is_quiet t ≡ true → TakesAll q t u) × HasNoFlowError u)
   nothing_is_refused =
@@ -208,7 +210,7 @@ module _ (q : ℕ) (w : World) (rs : List (List Step)) (calm : Rounds (machine q
   pub a_network_settles : Hold (machine q) (13 * long w + 13) rs w (HasSettled q)
   a_network_settles =
       let k : ℕ = 13 * long w + 13 in
-      hold_map (machine q) (λ u. IsSound q w rs calm start.bounds start.locals u × ((s : Session) → HasSettledFor q s u)) (HasSettled q) (λ u h. all_settled u h.0.so_far h.1) k rs w
+      hold_map (machine q) (λ u. IsSound q w rs calm start.bounds start.locals u × ((s : Session) → HasSettledFor q s u)) (HasSettled q) (λ u h. all_settled q u h.0.so_far h.1) k rs w
       (hold_both (machine q) (IsSound q w rs calm start.bounds start.locals) (λ u. (s : Session) → HasSettledFor q s u) k rs w
       (hold_later (machine q) (IsSound q w rs calm start.bounds start.locals) (to_resvs w) k rs w (omega arith) (all_sound q w rs calm start.bounds start.locals))
       (hold_all (machine q) (λ (s : Session) u. HasSettledFor q s u) k rs w (λ s. a_session_settles q w rs calm start.bounds start.locals s (fits s))))
