@@ -64,5 +64,6 @@ a_left_over_reservation_in_windows = record {
   windows = λ k. rounds_make_windows (machine 7500) (items_are_numbered 7500) (rounds_of 7500 k lost_world) lost_world (a_reservation_is_lost.rounds k);
   paths = λ k x t h live there. absurd (nobody live.senders x t (none_lost live.node live.senders live.at) live.sends);
   resvs = λ k s h v of there wanted. absurd (want_needs h.style pair_net (locals_of lost_world) h.session (hop_over h) h.unit v wanted).there;
-  not_yet = a_reservation_is_lost.not_yet;
+  not_sound_yet = a_reservation_is_lost.not_yet;
+  not_settled_yet = λ h. a_reservation_is_lost.not_yet h.resvs_sound;
 }

@@ -18,6 +18,7 @@ use Rattle.laws_network.specs.Rounds.{rounds_of}
 use Rattle.settle_paths.specs.Example.{stale_world}
 use Rattle.settle_paths.specs.Sure.{forth}
 use Rattle.settle_resvs.specs.LeftOverExample.{lost_world}
+use Rattle.settle_network.specs.Settled.{HasSettled}
 use Rattle.settle_loss.specs.RefreshedPaths.{ArePathsRefreshed, DoPathsLast, IsInOrder}
 use Rattle.settle_loss.specs.RefreshedResvs.{AreResvsRefreshed}
 
@@ -66,4 +67,5 @@ pub record ALeftOverReservationInWindows : Type 0 where
   pub paths : (k : ℕ) → ArePathsRefreshed 7500 (joined (windows_of k lost_world)) lost_world
   pub resvs : (k : ℕ) (s : Session) → AreResvsRefreshed 7500 s (joined (windows_of k lost_world)) lost_world
   -- what is promised does not hold yet
-  pub not_yet : AreResvsSound lost_world → ⊥
+  pub not_sound_yet : AreResvsSound lost_world → ⊥
+  pub not_settled_yet : HasSettled 7500 lost_world → ⊥

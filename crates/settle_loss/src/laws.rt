@@ -5,15 +5,18 @@ ghost use Rattle.rsvp_base.specs.Members.{In};
 ghost use Rattle.calm_rounds.specs.SoftStates.{Stands};
 ghost use Rattle.tree_model.specs.Trees.{hops_of};
 ghost use Rattle.settle_resvs.specs.Said.{HopKey, hop_over, IsSaid, resv_key};
-ghost use Rattle.settle_resvs.specs.Sessions.{AreExactOf, HasNoFlowErrorOf, IsFreeOfBlockadesOf, SessionFits, TakesAllOf};
+ghost use Rattle.settle_resvs.specs.Sessions.{HasNoFlowErrorOf, IsFreeOfBlockadesOf, SessionFits, TakesAllOf};
 ghost use Rattle.settle_resvs.specs.SoftResvs.{soft_resv};
+ghost use Rattle.settle_network.specs.Purged.{HasNothingStale};
+ghost use Rattle.settle_network.specs.Sessions.{HasSettledFor};
+ghost use Rattle.settle_network.specs.Settled.{HasSettled};
 ghost use Rattle.settle_loss.specs.RefreshedResvs.{AreResvsFull, AreResvsRefreshed, DoesResvLast, IsResvRefreshed};
 ghost use Rattle.std.specs.Prelude.{◌≡◌, ◌+◌, ◌*◌, ℕ, List, true};
 ghost use Rattle.calm_rounds.specs.Rounds.{AreQuiet};
 ghost use Rattle.calm_rounds.specs.Hold.{Visited, Hold};
 ghost use Rattle.laws_loss.specs.Windows.{Windows, joined};
 ghost use Rattle.tree_model.specs.Ranks.{longest};
-ghost use Rattle.network_model.specs.Bounds.{AreBounds, AreHosts};
+ghost use Rattle.network_model.specs.Bounds.{AreBounds, AreHosts, IsStart};
 ghost use Rattle.network_model.specs.Locals.{locals_of};
 ghost use Rattle.network_model.specs.Sound.{ArePathsComplete, ArePathsSound, AreResvsSound};
 ghost use Rattle.network_model.specs.Steps.{Step, is_quiet, machine};
@@ -71,6 +74,13 @@ pub fn reservations_become_sound_in_windows()
         → Hold (machine q) (3 + 4 * longest w.net) rs w (λ u. ArePathsSound u × AreResvsSound u) }
 {}
 
+/// Nothing stale is left, in windows: in a network within bounds, 4 H + 3 windows of 5.25 refresh periods or more on, paths are those of live
+/// senders along their trees, reservations lie below the wants, and the book of each end is at most its demand, whatever is lost and whether
+/// or not the demands fit. So no book has a session, style or sender that nobody below wants, and no loss keeps one there.
+pub fn nothing_stale_is_left_in_windows()
+    ensures { (q : ℕ) (w : World) (rs : List (List Step)) → Windows (machine q) rs w → AreBounds q w → Hold (machine q) (3 + 4 * longest w.net) rs w HasNothingStale }
+{}
+
 /// Each arrival of a session is taken in windows: in a network within bounds with hosts, where the session fits, 4 H + 3 windows of 5.25
 /// refresh periods or more on, each unit of each Resv of the session that arrives stands at its node as it was asked for, whatever other
 /// sessions ask for and whatever Resvs are lost, as long as over each hop of a live sender's tree of any three successive Paths one arrives
@@ -96,13 +106,23 @@ pub fn blockades_are_gone_in_windows()
         → ArePathsRefreshed q (joined rs) w → Hold (machine q) (5 + 5 * longest w.net) rs w (IsFreeOfBlockadesOf s) }
 {}
 
-/// Reservations of a session become exact in windows: in a network within bounds with hosts, where the session fits, 7 H + 5 windows of 5.25
-/// refresh periods or more on, what stands of it in a style over a hop is exactly what is wanted over it, unit by unit, as long as over each
-/// hop of a live sender's tree of any three successive Paths, and over each hop over which something of the session is wanted of any three
-/// successive Resvs of its style, one arrives less than 0.75 periods after it was due (RFC 2205, 3.7, K = 3).
-pub fn reservations_become_exact_in_windows()
+/// A session settles in windows: in a network within bounds with hosts, where the session fits, 7 H + 5 windows of 5.25 refresh periods or more
+/// on, its reservations are exactly its wants, its entries in the book of each end are those of the end's demand, nothing of it is refused,
+/// no error of it with a flow is in flight and no blockade of it lives, as long as over each hop of a live sender's tree of any three
+/// successive Paths, and over each hop over which something of the session is wanted of any three successive Resvs of its style, one arrives
+/// less than 0.75 periods after it was due (RFC 2205, 3.7, K = 3).
+pub fn a_session_settles_in_windows()
     ensures { (q : ℕ) (s : Session) (w : World) (rs : List (List Step)) → Windows (machine q) rs w → AreHosts w → SessionFits w.net (locals_of w) s → AreBounds q w
-        → ArePathsRefreshed q (joined rs) w → AreResvsRefreshed q s (joined rs) w → Hold (machine q) (5 + 7 * longest w.net) rs w (AreExactOf s) }
+        → ArePathsRefreshed q (joined rs) w → AreResvsRefreshed q s (joined rs) w → Hold (machine q) (5 + 7 * longest w.net) rs w (HasSettledFor q s) }
+{}
+
+/// A network settles in windows: from any start, whatever nodes kept and whatever was in flight, on a routing without loops and with demands
+/// that fit, 7 H + 5 windows of 5.25 refresh periods or more on it has settled, and it stays so, as long as over each hop of a live sender's
+/// tree of any three successive Paths, and over each hop over which something is wanted of any three successive Resvs of its session and
+/// style, one arrives less than 0.75 periods after it was due.
+pub fn a_network_settles_in_windows()
+    ensures { (q : ℕ) (w : World) (rs : List (List Step)) → Windows (machine q) rs w → IsStart q w → ArePathsRefreshed q (joined rs) w
+        → ((s : Session) → AreResvsRefreshed q s (joined rs) w) → Hold (machine q) (5 + 7 * longest w.net) rs w (HasSettled q) }
 {}
 
 /// A small network meets the premises of `paths_never_die` through 165 seconds in which two of three Paths are lost.
@@ -117,7 +137,7 @@ pub fn a_path_is_left_over_in_windows()
 {}
 
 /// A left-over reservation, of a next hop that no end has, meets the premises of these laws on reservations in windows, however many windows
-/// there are, and at the start it is not sound.
+/// there are, and at the start it is not sound, and the network has not settled.
 pub fn a_reservation_is_left_over_in_windows()
     ensures { ALeftOverReservationInWindows }
 {}

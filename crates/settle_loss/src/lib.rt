@@ -9,9 +9,9 @@
 pub mod laws;
 
 pub use laws::{
-    a_pair_is_lossy, a_path_is_left_over_in_windows, a_reservation_is_left_over_in_windows,
-    a_reservation_never_dies, arrivals_are_taken_in_windows, blockades_are_gone_in_windows,
-    errors_are_gone_in_windows, paths_become_sound_in_windows, paths_never_die,
-    paths_settle_in_windows, reservations_become_exact_in_windows,
-    reservations_become_sound_in_windows, said_resvs_are_kept_in_windows,
+    a_network_settles_in_windows, a_pair_is_lossy, a_path_is_left_over_in_windows,
+    a_reservation_is_left_over_in_windows, a_reservation_never_dies, a_session_settles_in_windows,
+    arrivals_are_taken_in_windows, blockades_are_gone_in_windows, errors_are_gone_in_windows,
+    nothing_stale_is_left_in_windows, paths_become_sound_in_windows, paths_never_die,
+    paths_settle_in_windows, reservations_become_sound_in_windows, said_resvs_are_kept_in_windows,
 };
