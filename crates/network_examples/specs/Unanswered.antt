@@ -1,5 +1,6 @@
 -- "Each request for a confirmation is answered": the claim, and a network that shows it wrong. All has settled, what is asked fits, nothing is
--- lost, and a host asks again for what it has, with a confirmation: nothing new goes on, and a mark waits for the next change (RFC 2205, 2.6).
+-- lost, and a host asks again for what it has, with a confirmation: nothing new goes on, and a mark waits for the next change. That it waits
+-- is a rule of our own: RFC 2205, 2.6, is silent on a request that changes nothing.
 use Rattle.std.specs.Prelude.{◌≡◌, ℕ, ◌*◌, ◌≤◌, ◌++◌, Bool, true, false, List, [], ◌∷◌, Some}
 use Rattle.rsvp_base.specs.declared.session.Session.{Session}
 use Rattle.rsvp_base.specs.declared.style.StyleKind.{StyleKind}
