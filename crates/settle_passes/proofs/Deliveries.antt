@@ -66,7 +66,6 @@ use Rattle.settle_paths.proofs.PathSends.{IsPathSent, path_sent}
 use Rattle.settle_paths.proofs.SaidPaths.{routed}
 use Rattle.settle_paths.specs.SoftPaths.{path_at}
 use Rattle.settle_paths.proofs.SoftPaths.{IsBrought, path_found, path_made, path_source}
-use Rattle.settle_passes.specs.Fading.{AreSoundOf}
 use Rattle.settle_passes.specs.Passes.{ArePathsOffered, AreSpreading, HasNoPathTear, IsPathOver}
 
 -- the path that a node has of a live sender is the one at the hop of its tree
@@ -93,7 +92,12 @@ none_is : {A : Type 0} (o : Option A) → is_some o ≡ false → o ≡ None
 none_is None e = refl
 none_is (Some x) e = absurd (cc)
 
--- ---- the paths of each sender are sound
+-- ---- the paths of a sender are sound, and its Paths in flight
+pub record AreSoundOf (w : World) (k : SenderKey) : Type 0 where
+  pub facts : (n : ℕ) (f : Facts) (x : PathState) → slice_get w.nodes n ≡ Some f → get f.paths k ≡ Some x → IsSoundPath w n k x
+  pub items : (y : Item) (m : PathMsg) (t : TokenBucket) → In y w.flight → y.arrival ≡ Spelt (message.Path m) → m.session ≡ k.0 → m.sender ≡ Some (k.1, t)
+      → inward w.net (node_of w.net.ends y.end) k.0.group k.1.addr ≡ Some y.end → IsSoundAt w k y.end (m.hop.addr, t)
+
 pub sound_of : (w : World) → ArePathsSound w → (k : SenderKey) → AreSoundOf w k
 sound_of w sound k = record {
   facts = λ n f x a h. sound.facts n f k x a h;

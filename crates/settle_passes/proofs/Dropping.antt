@@ -49,12 +49,12 @@ use Rattle.laws_network.proofs.Sends.{goes_to_peers}
 use Rattle.laws_network.proofs.Speaking.{what_a_path_sent_says, why_a_path_tear_is_sent}
 use Rattle.laws_network.proofs.Standing.{way_out}
 use Rattle.settle_paths.proofs.LiveSenders.{senders_found}
-use Rattle.settle_passes.specs.Calls.{HasItsPaths, IsNew}
-use Rattle.settle_passes.specs.Fading.{AreSoundOf, HasNoPathOf, IsFading, IsLeftAt, IsTearOver, SendsAt, after_drop}
+use Rattle.settle_passes.specs.Calls.{HasItsPaths, HasNoPathOf, IsNew, SendsAt, after_drop}
 use Rattle.settle_passes.specs.Passes.{Knows, after_passes}
 use Rattle.settle_passes.proofs.Calls.{IsCalled, called, called_there, path_sent_by_call, sent_by_call}
-use Rattle.settle_passes.proofs.Deliveries.{of_group, sent_is_sound, sound_of}
+use Rattle.settle_passes.proofs.Deliveries.{AreSoundOf, of_group, sent_is_sound, sound_of}
 use Rattle.settle_passes.proofs.Fading.{faded, fading_passes, key_from, not_tied, own_is, place_from, torn_over}
+use Rattle.settle_passes.proofs.Leaving.{IsFading, IsLeftAt, IsTearOver}
 use Rattle.settle_passes.proofs.Tearing.{TearsFrom, tears_gone}
 
 drop_source : (r : Option LocalErr) (m : Table sender_keys TokenBucket) (d k : SenderKey) (t : TokenBucket) → get (unless r (without m d) m) k ≡ Some t → get m k ≡ Some t

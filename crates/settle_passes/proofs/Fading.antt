@@ -64,8 +64,8 @@ use Rattle.settle_paths.proofs.SoftPaths.{IsBrought, path_found, path_made, path
 use Rattle.settle_paths.specs.SoftPaths.{path_at}
 use Rattle.settle_passes.specs.Calls.{IsNew}
 use Rattle.settle_passes.specs.Passes.{Knows, after_passes}
-use Rattle.settle_passes.specs.Fading.{AreSoundOf, IsFading, IsLeftAt, IsTearOver}
-use Rattle.settle_passes.proofs.Deliveries.{HasNoTearOf, at_end, bounds_next, came_by_delivery, goes, hosts_next, known_self, known_stays}
+use Rattle.settle_passes.proofs.Leaving.{IsFading, IsLeftAt, IsTearOver}
+use Rattle.settle_passes.proofs.Deliveries.{AreSoundOf, HasNoTearOf, at_end, bounds_next, came_by_delivery, goes, hosts_next, known_self, known_stays}
 use Rattle.settle_passes.proofs.Deliveries.{live_back, now_or_later, path_right, path_stays, same_next, sent_is_sound, sound_again, sound_facts, way}
 use Rattle.settle_passes.proofs.Spreading.{after_deliveries, in_take, run_then}
 

@@ -1,7 +1,15 @@
 pub mod Deliveries
 pub mod Spreading
 pub mod Calls
+pub mod Leaving
 pub mod Fading
 pub mod Tearing
 pub mod Dropping
+pub mod Growing
+pub mod SoundParts
+pub mod Turns
+pub mod Reserving
+pub mod Rising
+pub mod Wanting
 pub mod Worked
+pub mod AskedExample

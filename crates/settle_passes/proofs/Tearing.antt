@@ -38,7 +38,7 @@ use Rattle.laws_network.proofs.Learning.{how_a_path_fact_goes}
 use Rattle.laws_network.proofs.Sends.{goes_to_peers, sent_by_rule}
 use Rattle.laws_network.proofs.Speaking.{why_a_path_tear_is_sent}
 use Rattle.laws_network.proofs.Standing.{same_end, to_there, way_out}
-use Rattle.settle_passes.specs.Fading.{IsFading}
+use Rattle.settle_passes.proofs.Leaving.{IsFading}
 use Rattle.settle_passes.specs.Passes.{HasNoPathTear, after_passes}
 use Rattle.settle_passes.proofs.Deliveries.{came_by_delivery, known_self}
 use Rattle.settle_passes.proofs.Fading.{fading_next, fading_on, none_local, same_on, tears_later}
@@ -147,7 +147,7 @@ take_or x (suc m) [] zs i = inr (in_front x (suc m) zs i)
 take_or x (suc m) (y ∷ xs) zs i =
     ⊎_elim (λ (e : x ≡ y). inl (inl e)) (λ (k : In x (take m (xs ++ zs))). ⊎_elim (λ (a : In x (take m xs)). inl (inr a)) (λ (b : In x zs). inr b) (take_or x m xs zs k)) i
 
-drop_or : {A : Type 0} (x : A) (m : ℕ) (xs zs : List A) → In x (drop m (xs ++ zs)) → In x (drop m xs) ⊎ In x zs
+pub drop_or : {A : Type 0} (x : A) (m : ℕ) (xs zs : List A) → In x (drop m (xs ++ zs)) → In x (drop m xs) ⊎ In x zs
 drop_or x zero xs zs i = in_append x xs zs i
 drop_or x (suc m) [] zs i = inr (in_drop x (suc m) zs i)
 drop_or x (suc m) (y ∷ xs) zs i = drop_or x m xs zs i
@@ -156,7 +156,7 @@ tail_take : {A : Type 0} (x : A) (m : ℕ) (xs : List A) → In x (take m (remov
 tail_take x m [] i = absurd (in_front x m [] i)
 tail_take x m (y ∷ ys) i = inr i
 
-tail_drop : {A : Type 0} (x : A) (m : ℕ) (xs : List A) → In x (drop m (remove xs 0)) → In x (drop (suc m) xs)
+pub tail_drop : {A : Type 0} (x : A) (m : ℕ) (xs : List A) → In x (drop m (remove xs 0)) → In x (drop (suc m) xs)
 tail_drop x m [] i = absurd (in_drop x m [] i)
 tail_drop x m (y ∷ ys) i = i
 
@@ -164,7 +164,7 @@ head_in : {A : Type 0} (x : A) (m : ℕ) (xs : List A) → slice_get xs 0 ≡ So
 head_in x m [] e = absurd (cc)
 head_in x m (y ∷ ys) e = inl (sym (of_some y x e))
 
-no_rest : {A : Type 0} (x : A) (xs : List A) → In x (drop (length xs) xs) → ⊥
+pub no_rest : {A : Type 0} (x : A) (xs : List A) → In x (drop (length xs) xs) → ⊥
 no_rest x [] i = i
 no_rest x (y ∷ ys) i = no_rest x ys i
 

@@ -1,4 +1,4 @@
 pub mod Passes
 pub mod Calls
-pub mod Fading
+pub mod Reserving
 pub mod Worked

@@ -16,14 +16,16 @@ use Rattle.network_model.specs.Events.{AtNode, Event, Injects, Pass, Reports, Re
 use Rattle.network_model.specs.Locals.{locals_of}
 use Rattle.network_model.specs.Rows.{booked, end_of, end_with, hop_of, line, plan_of, sends, usual_entry}
 use Rattle.network_model.specs.Runs.{Plan, last_world, run_text}
-use Rattle.network_model.specs.Sound.{ArePathsComplete, ArePathsSound}
+use Rattle.network_model.specs.Sound.{ArePathsComplete, ArePathsSound, AreResvsSound}
 use Rattle.network_model.specs.Worlds.{World}
 use Rattle.router_rules.specs.Lines.{held}
+use Rattle.router_rules.specs.Steps.{IsFitList}
 use Rattle.laws_network.specs.Example.{pair_net, quiet_world, sending_world}
 use Rattle.settle_paths.specs.SoftPaths.{path_at}
-use Rattle.settle_passes.specs.Calls.{HasItsPaths, IsNew}
-use Rattle.settle_passes.specs.Fading.{HasNoPathOf, SendsAt, after_drop}
+use Rattle.settle_resvs.specs.Sessions.{AreExactOf, IsFreeOfBlockadesOf, SessionFits}
+use Rattle.settle_passes.specs.Calls.{HasItsPaths, HasNoPathOf, IsNew, SendsAt, after_drop}
 use Rattle.settle_passes.specs.Passes.{AreSpreading, after_passes}
+use Rattle.settle_passes.specs.Reserving.{AsksNoLess, HasReserved, IsReserving, after_want}
 
 -- ---- a host of a pair of nodes begins to send: the premises of the law, and what it promises does not hold yet
 pub record APairIsSetUp : Type 0 where
@@ -48,6 +50,25 @@ pub record APairForgets : Type 0 where
   pub quiet : HasNoPathOf heard_world (session, first)
   pub hosts : AreHosts ended_world
   pub not_yet : ArePathsSound ended_world → ⊥
+
+-- ---- a receiver asks in the pair, once its node has the path: the premises of the laws on what it takes, which is nothing yet
+abbrev pub asked_world : World
+asked_world = after_want 7500 1 session Wild empty usual false heard_world
+
+pub record AReceiverAsks : Type 0 where
+  pub start : HasItsPaths 7500 heard_world
+  pub sound : AreResvsSound heard_world
+  pub fit : SessionFits pair_net (locals_of heard_world) session
+  pub free : IsFreeOfBlockadesOf session heard_world
+  pub exact : AreExactOf session heard_world
+  pub quiet : heard_world.flight ≡ []
+  -- and so of the others
+  pub reserving : IsReserving 7500 session heard_world
+  pub list : IsFitList Wild empty
+  pub flow : IsSound usual
+  pub no_less : AsksNoLess heard_world 1 session Wild empty usual false
+  pub fits : SessionFits pair_net (locals_of asked_world) session
+  pub not_yet : HasReserved session asked_world → ⊥
 
 -- ---- three nodes in a line, H = 2: a Path goes down one hop a pass, and then the Resv up; in four passes all is done
 pub record AReceiverIsServed : Type 0 where

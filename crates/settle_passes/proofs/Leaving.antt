@@ -1,32 +1,27 @@
 -- A sender that has ended: what is left of it in a network, and what takes it away.
-use Rattle.std.specs.Prelude.{◌≡◌, ℕ, ◌⊎◌, true, None, Some, slice_get}
+use Rattle.std.proofs.Common.{◌≡◌, ℕ, ◌⊎◌, true, None, Some}
+use Rattle.std.specs.Prelude.{slice_get}
 use Rattle.rsvp_base.specs.Members.{In}
-use Rattle.rsvp_base.specs.Table.{get, has}
+use Rattle.rsvp_base.specs.Table.{get}
 use Rattle.rsvp_base.specs.TokenBucket.{TokenBucket}
 use Rattle.rsvp_messages.specs.declared.message.Message.TheVariants as message
 use Rattle.rsvp_messages.specs.declared.message.PathMsg.{PathMsg}
 use Rattle.rsvp_messages.specs.declared.message.PathTearMsg.{PathTearMsg}
 use Rattle.router_rules.specs.Facts.{Facts, PathState, SenderKey}
-use Rattle.router_rules.specs.Inputs.{DropAs, Spelt}
+use Rattle.router_rules.specs.Inputs.{Spelt}
 use Rattle.tree_model.specs.declared.hops.LinkHop.{LinkHop}
 use Rattle.tree_model.specs.Goals.{addr_of}
 use Rattle.tree_model.specs.Networks.{iface_of, node_of}
-use Rattle.tree_model.specs.Trees.{inward, tree}
+use Rattle.tree_model.specs.Trees.{tree}
 use Rattle.network_model.specs.Bounds.{AreBounds, AreHosts}
 use Rattle.network_model.specs.Links.{is_group}
-use Rattle.network_model.specs.Sound.{ArePathsComplete, IsSoundAt, IsSoundPath}
-use Rattle.network_model.specs.Steps.{At, step}
+use Rattle.network_model.specs.Sound.{ArePathsComplete}
 use Rattle.network_model.specs.Worlds.{Item, World}
 use Rattle.settle_passes.specs.Calls.{IsNew}
 use Rattle.settle_passes.specs.Passes.{Knows}
+use Rattle.settle_passes.proofs.Deliveries.{AreSoundOf}
 
--- the paths of a sender are sound, and its Paths in flight
-pub record AreSoundOf (w : World) (k : SenderKey) : Type 0 where
-  pub facts : (n : ℕ) (f : Facts) (x : PathState) → slice_get w.nodes n ≡ Some f → get f.paths k ≡ Some x → IsSoundPath w n k x
-  pub items : (y : Item) (m : PathMsg) (t : TokenBucket) → In y w.flight → y.arrival ≡ Spelt (message.Path m) → m.session ≡ k.0 → m.sender ≡ Some (k.1, t)
-      → inward w.net (node_of w.net.ends y.end) k.0.group k.1.addr ≡ Some y.end → IsSoundAt w k y.end (m.hop.addr, t)
-
--- ---- what is left of a sender: a path that came over a hop of its tree
+-- ---- a path that came over a hop of its tree
 pub record IsLeftAt (w : World) (n : ℕ) (k : SenderKey) (x : PathState) : Type 0 where
   pub hop : LinkHop
   pub there : In hop (tree w.net.hops k.0.group k.1.addr)
@@ -62,17 +57,3 @@ pub record IsFading (q : ℕ) (d : SenderKey) (w : World) : Type 0 where
   pub left : (n : ℕ) (f : Facts) (x : PathState) → slice_get w.nodes n ≡ Some f → get f.paths d ≡ Some x → IsLeftAt w n d x
   pub fading : (h : LinkHop) (f : Facts) (x : PathState) → In h (tree w.net.hops d.0.group d.1.addr) → slice_get w.nodes (node_of w.net.ends h.to) ≡ Some f → get f.paths d ≡ Some x
       → Knows w (node_of w.net.ends h.from) d ⊎ IsTearOver w d h
-
--- no Path of the sender is in flight
-abbrev pub HasNoPathOf : World → SenderKey → Type 0
-HasNoPathOf w k = (y : Item) (m : PathMsg) (t : TokenBucket) → In y w.flight → y.arrival ≡ Spelt (message.Path m) → m.session ≡ k.0 → m.sender ≡ Some (k.1, t) → ⊥
-
--- a host at the node sends as this sender
-pub record SendsAt (w : World) (n : ℕ) (k : SenderKey) : Type 0 where
-  pub facts : Facts
-  pub there : slice_get w.nodes n ≡ Some facts
-  pub sends : has facts.senders k ≡ true
-
--- the world after it ends
-abbrev pub after_drop : ℕ → ℕ → SenderKey → World → World
-after_drop q n k w = step q (At n (DropAs k.0 k.1)) w
