@@ -6,6 +6,7 @@ use Rattle.std.specs.Option.{unwrap_or}
 use Rattle.std.specs.Ordering.{eq_by_cmp}
 use Rattle.rsvp_base.specs.declared.entry_key.EntryKey.{EntryKey}
 use Rattle.rsvp_base.specs.declared.part.Part.{Part}
+use Rattle.rsvp_base.specs.declared.session.Session.{Session}
 use Rattle.rsvp_base.specs.declared.style.StyleKind.{StyleKind}
 use Rattle.rsvp_base.specs.declared.style.StyleKind.TheVariants.{Wild, Fixed, Shared}
 use Rattle.rsvp_base.specs.declared.style.Unit.TheVariants.{One}
@@ -19,20 +20,24 @@ use Rattle.router_rules.specs.Facts.{Facts, ResvState, no_facts, resvs_of}
 use Rattle.tree_model.specs.declared.hops.End.{End}
 use Rattle.tree_model.specs.declared.hops.LinkHop.{LinkHop}
 use Rattle.tree_model.specs.declared.locals.LocalWant.{LocalWant}
-use Rattle.tree_model.specs.Goals.{demand_of, hop_lines, sessions_named}
-use Rattle.tree_model.specs.Networks.{node_of}
+use Rattle.tree_model.specs.declared.hops.TreeHop.{TreeHop}
+use Rattle.tree_model.specs.Goals.{DemandsFit, demand_of, hop_lines, sessions_named}
+use Rattle.tree_model.specs.Trees.{hops_of}
 use Rattle.tree_model.specs.Wants.{Locals, want}
-use Rattle.network_model.specs.ThreeRouters.{r1, s1, scope, session, usual}
+use Rattle.tree_model.proofs.Following.{in_group}
+use Rattle.network_model.specs.ThreeRouters.{group, r1, s1, scope, session, usual}
 use Rattle.network_model.specs.Locals.{locals_of}
 use Rattle.network_model.specs.Rows.{end_of}
 use Rattle.network_model.specs.Sound.{AreResvsSound, IsExact}
 use Rattle.laws_network.specs.Example.{pair_net}
 use Rattle.laws_network.proofs.Known.{of_some}
 use Rattle.settle_paths.specs.Sure.{forth}
-use Rattle.settle_resvs.specs.Sessions.{AreExactOf, Carries, IsFreeOfBlockadesOf, SessionFits}
+use Rattle.settle_resvs.specs.Sessions.{AreExactOf, IsFreeOfBlockadesOf, SessionFits}
+use Rattle.settle_resvs.proofs.GoalByIface.{each_fits}
 use Rattle.settle_resvs.proofs.UnderTheGoal.{want_needs}
-use Rattle.settle_passes.specs.Reserving.{AsksNoLess, HasReserved}
+use Rattle.settle_passes.specs.Reserving.{AsksNoLess, IsReserving}
 use Rattle.settle_passes.specs.Worked.{AReceiverAsks, asked_world, heard_world}
+use Rattle.settle_passes.proofs.Serving.{settled_again}
 use Rattle.settle_passes.proofs.Wanting.{a_settled_session_is_reserved}
 use Rattle.settle_passes.proofs.Worked.{a_pair_forgets, a_pair_is_set_up}
 
@@ -61,34 +66,43 @@ no_resv st (suc (suc n)) f k r a h = cc
 sound : AreResvsSound heard_world
 sound = record { facts = λ st n f k r a h. absurd (no_resv st n f k r a h); items = λ y m u i. absurd i }
 
-free : IsFreeOfBlockadesOf session heard_world
-free zero f a t = ap (λ (z : Facts). get z.walls (session, t)) (sym (of_some facts_0 f a))
-free (suc zero) f a t = ap (λ (z : Facts). get z.walls (session, t)) (sym (of_some facts_1 f a))
-free (suc (suc n)) f a t = absurd (cc)
+free : (c : Session) → IsFreeOfBlockadesOf c heard_world
+free c zero f a t = ap (λ (z : Facts). get z.walls (c, t)) (sym (of_some facts_0 f a))
+free c (suc zero) f a t = ap (λ (z : Facts). get z.walls (c, t)) (sym (of_some facts_1 f a))
+free c (suc (suc n)) f a t = absurd (cc)
 
-nothing : (e : ℕ) → Carries pair_net (locals_of heard_world) session e → ⊥
-nothing e c = (want_needs c.style pair_net (locals_of heard_world) session c.hop c.unit c.part c.wanted).there
+no_limits : (st : StyleKind) → IsWithinLimits st []
+no_limits st = record { lines = omega arith; sessions = omega arith; next_hops = λ s. omega arith; names = λ s. omega arith }
 
-fit : SessionFits pair_net (locals_of heard_world) session
+fit : DemandsFit pair_net (locals_of heard_world)
 fit = record {
-  capacity = λ e x a c. absurd (nothing e c);
-  mtu = λ e x k p a s got. absurd (cc);
-  one_style = λ v w i. absurd i;
-  limits = λ e st c. absurd (nothing e c);
+  capacity = λ e x is. let none : held (demand_of pair_net (locals_of heard_world) e) ≡ 0 = refl in omega arith;
+  mtu = λ e x k p is got. absurd (cc);
+  one_style = λ v w i j same. absurd i;
+  limits = λ n st. no_limits st;
 }
 
-exact : AreExactOf session heard_world
-exact st h i =
-    ⊎_elim
-    (λ (e : h ≡ forth).
-    subst (λ (z : LinkHop). IsExact st heard_world session z) (sym e)
+fit_for : (c : Session) → SessionFits pair_net (locals_of heard_world) c
+fit_for c = each_fits pair_net (locals_of heard_world) fit c
+
+-- the network has one hop
+one_hop : (c : Session) (h : LinkHop) → In h (hops_of pair_net.hops c.group) → h ≡ forth
+one_hop c h i =
+    let g = in_group pair_net.hops c.group h i in
+    ⊎_elim (λ (e : g.0 ≡ record { group = group; source = s1; hop = forth }). sym g.3 ∙ ap (λ (z : TreeHop). z.hop) e) (λ (no : ⊥). absurd no) g.1
+
+exact : (c : Session) → AreExactOf c heard_world
+exact c st h i =
+    subst (λ (z : LinkHop). IsExact st heard_world c z) (sym (one_hop c h i))
     (record {
       facts = facts_0;
       node = refl;
-      wanted = λ u p got. absurd (want_needs st pair_net (locals_of heard_world) session forth u p got).there;
+      wanted = λ u p got. absurd (want_needs st pair_net (locals_of heard_world) c forth u p got).there;
       stands = λ u r got. absurd (no_resv st 0 facts_0 _ r refl got);
-    }))
-    (λ (no : ⊥). absurd no) i
+    })
+
+reserving : (c : Session) → IsReserving 7500 c heard_world
+reserving c = a_settled_session_is_reserved 7500 c heard_world a_pair_forgets.start sound (fit_for c) (free c) (exact c) refl
 
 no_less : AsksNoLess heard_world 1 session Wild empty usual false
 no_less f k old new a h i = let bad : None ≡ Some old = ap (λ (z : Facts). get z.wants k) (of_some facts_1 f a) ∙ h in absurd (cc)
@@ -113,9 +127,6 @@ goal_first = refl
 
 goal_other : goal_by false ≡ []
 goal_other = refl
-
-no_limits : (st : StyleKind) → IsWithinLimits st []
-no_limits st = record { lines = omega arith; sessions = omega arith; next_hops = λ s. omega arith; names = λ s. omega arith }
 
 few_hops : (b : Bool) → size (next_hops_of (if b then the_line ∷ [] else [])) ≤ 64
 few_hops true = omega arith
@@ -181,12 +192,12 @@ the_want = record { node = 1; session = session; style = Wild; part = record { s
 want_is : (v : LocalWant) → In v asks.wants → v ≡ the_want
 want_is v i = ⊎_elim (λ (same : v ≡ the_want). same) (λ (no : ⊥). absurd no) i
 
-fits : SessionFits pair_net asks session
-fits = record {
-  capacity = λ e x is c. capacity e x is;
-  mtu = λ e x k p is s got. mtu e x k p is got;
-  one_style = λ v w i j a b. ap (λ (z : LocalWant). z.style) (want_is v i) ∙ sym (ap (λ (z : LocalWant). z.style) (want_is w j));
-  limits = λ e st c. limits_by (0 == node_of pair_net.ends e) st;
+all_fit : DemandsFit pair_net asks
+all_fit = record {
+  capacity = capacity;
+  mtu = mtu;
+  one_style = λ v w i j same. ap (λ (z : LocalWant). z.style) (want_is v i) ∙ sym (ap (λ (z : LocalWant). z.style) (want_is w j));
+  limits = λ n st. limits_by (0 == n) st;
 }
 
 -- ---- and does not stand yet
@@ -194,9 +205,9 @@ wanted : get (want Wild pair_net asks session forth) One ≡ Some asked
 unfolding want
 wanted = refl
 
-not_yet : HasReserved session asked_world → ⊥
-not_yet h =
-    let x = h.exact Wild forth (inl refl) in
+not_exact : AreExactOf session asked_world → ⊥
+not_exact exact_then =
+    let x = exact_then Wild forth (inl refl) in
     let r = x.wanted One asked wanted in
     let none : None ≡ Some r.0 = ap (λ (z : Facts). get (resvs_of Wild z) (session, ((0, r1), One))) (of_some (unwrap_or (slice_get asked_world.nodes 0) no_facts) x.facts x.node) ∙ r.1 in
     cc
@@ -205,14 +216,18 @@ pub a_receiver_asks : AReceiverAsks
 a_receiver_asks = record {
   start = a_pair_forgets.start;
   sound = sound;
-  fit = fit;
-  free = free;
-  exact = exact;
+  fit = fit_for session;
+  free = free session;
+  exact = exact session;
   quiet = refl;
-  reserving = a_settled_session_is_reserved 7500 session heard_world a_pair_forgets.start sound fit free exact refl;
+  reserving = reserving session;
   list = tt;
   flow = a_pair_is_set_up.fit;
   no_less = no_less;
-  fits = fits;
-  not_yet = not_yet;
+  fits = each_fits pair_net asks all_fit session;
+  not_yet = λ h. not_exact h.exact;
+  begins = record { bounds = a_pair_forgets.start.bounds; locals = a_pair_forgets.start.hosts; fit = fit };
+  settled = settled_again 7500 session heard_world reserving exact;
+  all_fit = all_fit;
+  not_settled = λ h. not_exact (λ st hop there. h.resvs_exact st session hop there);
 }

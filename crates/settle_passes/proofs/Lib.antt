@@ -11,5 +11,6 @@ pub mod Turns
 pub mod Reserving
 pub mod Rising
 pub mod Wanting
+pub mod Serving
 pub mod Worked
 pub mod AskedExample

@@ -9,9 +9,9 @@ use Rattle.rsvp_base.specs.TokenBucket.{IsSound}
 use Rattle.rsvp_messages.specs.declared.message.Message.TheVariants as message
 use Rattle.network_model.specs.RouterRules.Inputs.{Arrival, QuitAll, SendAs, Spelt, WantAs}
 use Rattle.network_model.specs.ThreeRouters.{first, flow, group, ip, r1, s1, second, session, usual}
-use Rattle.tree_model.specs.Goals.{demand_of}
+use Rattle.tree_model.specs.Goals.{DemandsFit, demand_of}
 use Rattle.tree_model.specs.Ranks.{longest}
-use Rattle.network_model.specs.Bounds.{AreHosts}
+use Rattle.network_model.specs.Bounds.{AreHosts, IsStart}
 use Rattle.network_model.specs.Events.{AtNode, Event, Injects, Pass, Reports, Reroutes, Traces}
 use Rattle.network_model.specs.Locals.{locals_of}
 use Rattle.network_model.specs.Rows.{booked, end_of, end_with, hop_of, line, plan_of, sends, usual_entry}
@@ -23,6 +23,7 @@ use Rattle.router_rules.specs.Steps.{IsFitList}
 use Rattle.laws_network.specs.Example.{pair_net, quiet_world, sending_world}
 use Rattle.settle_paths.specs.SoftPaths.{path_at}
 use Rattle.settle_resvs.specs.Sessions.{AreExactOf, IsFreeOfBlockadesOf, SessionFits}
+use Rattle.settle_network.specs.Settled.{HasSettled}
 use Rattle.settle_passes.specs.Calls.{HasItsPaths, HasNoPathOf, IsNew, SendsAt, after_drop}
 use Rattle.settle_passes.specs.Passes.{AreSpreading, after_passes}
 use Rattle.settle_passes.specs.Reserving.{AsksNoLess, HasReserved, IsReserving, after_want}
@@ -69,6 +70,11 @@ pub record AReceiverAsks : Type 0 where
   pub no_less : AsksNoLess heard_world 1 session Wild empty usual false
   pub fits : SessionFits pair_net (locals_of asked_world) session
   pub not_yet : HasReserved session asked_world → ⊥
+  -- and so of the whole network
+  pub begins : IsStart 7500 heard_world
+  pub settled : HasSettled 7500 heard_world
+  pub all_fit : DemandsFit pair_net (locals_of asked_world)
+  pub not_settled : HasSettled 7500 asked_world → ⊥
 
 -- ---- three nodes in a line, H = 2: a Path goes down one hop a pass, and then the Resv up; in four passes all is done
 pub record AReceiverIsServed : Type 0 where

@@ -6,8 +6,9 @@ ghost use Rattle.rsvp_base.specs.Orders.{Names};
 ghost use Rattle.rsvp_base.specs.TokenBucket.{IsSound, TokenBucket};
 ghost use Rattle.router_rules.specs.Facts.{SenderKey};
 ghost use Rattle.router_rules.specs.Steps.{IsFitList};
+ghost use Rattle.tree_model.specs.Goals.{DemandsFit};
 ghost use Rattle.tree_model.specs.Ranks.{longest};
-ghost use Rattle.network_model.specs.Bounds.{AreHosts};
+ghost use Rattle.network_model.specs.Bounds.{AreHosts, IsStart};
 ghost use Rattle.network_model.specs.Locals.{locals_of};
 ghost use Rattle.network_model.specs.Sound.{ArePathsComplete, ArePathsSound, AreResvsSound};
 ghost use Rattle.network_model.specs.Worlds.{World};
@@ -15,6 +16,7 @@ ghost use Rattle.settle_passes.specs.Calls.{HasItsPaths, HasNoPathOf, IsNew, Sen
 ghost use Rattle.settle_passes.specs.Passes.{AreCompleteTo, AreSpreading, after_passes};
 ghost use Rattle.settle_passes.specs.Reserving.{AreExactUpTo, AsksNoLess, HasReserved, IsReserving, after_want};
 ghost use Rattle.settle_resvs.specs.Sessions.{AreExactOf, IsFreeOfBlockadesOf, SessionFits};
+ghost use Rattle.settle_network.specs.Settled.{HasSettled};
 
 /// Paths spread one hop a pass: where paths are sound, each node has offered what it knows and nothing is torn down, n passes on each
 /// live sender has its path at each hop of its tree to a node that is n hops from its own at most.
@@ -70,4 +72,17 @@ pub fn a_receiver_is_set_up()
     ensures { (q n : ℕ) (s called : Session) (st : StyleKind) (names : Names) (flow : TokenBucket) (confirm : Bool) (w : World) → IsReserving q s w → IsFitList st names → IsSound flow
         → AsksNoLess w n called st names flow confirm → SessionFits w.net (locals_of (after_want q n called st names flow confirm w)) s
         → IsReserving q s (after_want q n called st names flow confirm w) × HasReserved s (after_passes q (longest w.net) (after_want q n called st names flow confirm w)) }
+{}
+
+/// A network that reserves every session so has settled H passes on: reservations are the wants, and the book of each end is its demand.
+pub fn a_reserving_network_settles()
+    ensures { (q : ℕ) (w : World) → ((s : Session) → IsReserving q s w) → HasSettled q (after_passes q (longest w.net) w) }
+{}
+
+/// So a settled network has settled again H passes after a receiver asks, without waiting: one in which nothing is in flight and whose
+/// demands fit, where the receiver asks for no less than its node did before for the session, and the demands fit then too.
+pub fn a_settled_network_serves_a_receiver()
+    ensures { (q n : ℕ) (s : Session) (st : StyleKind) (names : Names) (flow : TokenBucket) (confirm : Bool) (w : World) → IsStart q w → HasSettled q w → w.flight ≡ []
+        → IsFitList st names → IsSound flow → AsksNoLess w n s st names flow confirm → DemandsFit w.net (locals_of (after_want q n s st names flow confirm w))
+        → HasSettled q (after_passes q (longest w.net) (after_want q n s st names flow confirm w)) }
 {}
