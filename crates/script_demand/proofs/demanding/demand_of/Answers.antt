@@ -1,4 +1,4 @@
-use Rattle.std.proofs.Common.{inl, inr}
+use Rattle.std.proofs.Common.{inl}
 use Rattle.laws_scripts.proofs.AskedLines.{what_lines_ask_can_be_asked}
 use Rattle.script_words.specs.Lines.{text_lines}
 use Rattle.script_demand.proofs.demanding.demand_of.Goals as goal
@@ -8,6 +8,3 @@ text_of-requires g c = what_lines_ask_can_be_asked (text_lines c.args.input.now)
 
 pub returns-in-Err-clause-asked : goal.returns-in-Err-clause-asked
 returns-in-Err-clause-asked g c = λ is. inl (c.in-Err.ensures.asked is)
-
-pub returns-in-Err-text_of-clause-asked : goal.returns-in-Err-text_of-clause-asked
-returns-in-Err-text_of-clause-asked g c = λ is. inr (_, c.in-Ok.ensures.taken)
