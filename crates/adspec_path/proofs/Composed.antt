@@ -2,8 +2,8 @@
 use Rattle.std.specs.Prelude.{◌≡◌, ℕ, ◌+◌, min, List, [], ◌∷◌, length, map as each, false, Some, refl}
 use Rattle.std.proofs.Common.{arith, ◌∙◌}
 use Rattle.rsvp_base.specs.declared.flow.Peak.TheVariants.{Finite}
+use Rattle.rsvp_base.specs.declared.iface.Iface.{Iface}
 use Rattle.object_fields.specs.declared.adspec.Adspec.{Adspec}
-use Rattle.adspec_path.specs.declared.outgoing.Outgoing.{Outgoing}
 use Rattle.adspec_path.specs.Advertisement.{AnAdvertisementIsComposed, composed, least, total}
 use Rattle.adspec_path.specs.Composing.{clamped, pass_on, start}
 use Rattle.adspec_path.specs.RateBelow.{rate_below}
@@ -12,7 +12,7 @@ use Rattle.adspec_path.specs.RateBelow.{rate_below}
 abbrev told : ℕ → ℕ → ℕ → ℕ → Adspec
 told hops rate latency mtu = record { broken = false; hops = hops; rate = Finite rate; latency = latency; mtu = mtu; load = Some false; others = [] }
 
-one_more : (h r l m : ℕ) (on : Outgoing) → pass_on (told h r l m) on ≡ told (clamped (h + 1)) (min r (rate_below on.capacity)) (clamped (l + on.latency)) (min m on.mtu)
+one_more : (h r l m : ℕ) (on : Iface) → pass_on (told h r l m) on ≡ told (clamped (h + 1)) (min r (rate_below on.capacity)) (clamped (l + on.latency)) (min m on.mtu)
 unfolding pass_on
 one_more h r l m on = refl
 
@@ -20,7 +20,7 @@ one_more h r l m on = refl
 cut_again : (n m k : ℕ) → m ≡ n + k → clamped (clamped n + k) ≡ clamped m
 cut_again n m k e = omega (arith, e)
 
-composed_told : (ons : List Outgoing) (h r l m : ℕ) → composed (told (clamped h) r (clamped l) m) ons
+composed_told : (ons : List Iface) (h r l m : ℕ) → composed (told (clamped h) r (clamped l) m) ons
     ≡ told (clamped (h + length ons)) (least r (each (λ on. rate_below on.capacity) ons)) (clamped (l + total (each (λ on. on.latency) ons))) (least m (each (λ on. on.mtu) ons))
 composed_told [] h r l m =
     let hops : clamped h ≡ clamped (h + 0) = omega arith in
@@ -30,7 +30,7 @@ composed_told (on ∷ ons) h r l m =
     let hops = cut_again h (h + 1) 1 refl in
     let latency = cut_again l (l + on.latency) on.latency refl in
     let all_hops : clamped (h + 1 + length ons) ≡ clamped (h + length (on ∷ ons)) = omega arith in
-    let rest = total (each (λ (on : Outgoing). on.latency) ons) in
+    let rest = total (each (λ (on : Iface). on.latency) ons) in
     let all_latency : clamped (l + on.latency + rest) ≡ clamped (l + (on.latency + rest)) = omega arith in
     (λ i. composed (one_more (clamped h) r (clamped l) m on i) ons)
     ∙ (λ i. composed (told (hops i) (min r (rate_below on.capacity)) (latency i) (min m on.mtu)) ons)

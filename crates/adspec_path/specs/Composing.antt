@@ -3,10 +3,10 @@
 use Rattle.std.specs.Prelude.{ℕ, ◌+◌, ◌-◌, ◌^◌, min, [], false, Some}
 use Rattle.rsvp_base.specs.declared.flow.Peak.{Peak}
 use Rattle.rsvp_base.specs.declared.flow.Peak.TheVariants.{Finite, Infinite}
+use Rattle.rsvp_base.specs.declared.iface.Iface.{Iface}
 use Rattle.object_fields.specs.declared.adspec.Adspec.{Adspec}
 use Rattle.object_fields.specs.AdspecLaws.{IsAdspec}
 use Rattle.object_fields.specs.Fragment.{marked}
-use Rattle.adspec_path.specs.declared.outgoing.Outgoing.{Outgoing}
 use Rattle.adspec_path.specs.RateBelow.{rate_below}
 
 -- the number, or the most that a field of 32 bits holds: of a latency, that it is not known (3.4)
@@ -19,7 +19,7 @@ least_rate Infinite r = r
 least_rate (Finite s) r = min s r
 
 -- at the node of the sender: one hop, what the interface has, nothing broken, controlled load, and no other service
-unfoldable pub start : Outgoing → Adspec
+unfoldable pub start : Iface → Adspec
 start on = record {
   broken = false;
   hops = 1;
@@ -33,7 +33,7 @@ start on = record {
 -- at a router, of what came: the break bits of the general part and of controlled load as they are (3.1), and set in the fragment
 -- of each service that the router does not offer; one hop more (3.2), the least bandwidth (3.3), the sum of latencies, where what
 -- is not known stays so (3.4), the least MTU (3.5)
-unfoldable pub pass_on : Adspec → Outgoing → Adspec
+unfoldable pub pass_on : Adspec → Iface → Adspec
 pass_on a on = record {
   broken = a.broken;
   hops = clamped (a.hops + 1);
@@ -47,5 +47,5 @@ pass_on a on = record {
 -- ---- laws
 
 pub record WhatIsComposedCanBeWritten : Type 0 where
-  pub start : (on : Outgoing) → IsAdspec (start on)
-  pub pass_on : (a : Adspec) (on : Outgoing) → IsAdspec a → IsAdspec (pass_on a on)
+  pub start : (on : Iface) → IsAdspec (start on)
+  pub pass_on : (a : Adspec) (on : Iface) → IsAdspec a → IsAdspec (pass_on a on)

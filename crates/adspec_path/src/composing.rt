@@ -2,15 +2,14 @@
 ghost use Rattle.std.specs.Prelude.{◌≡◌};
 ghost use Rattle.adspec_path.specs.Composing.{least_rate, pass_on, start};
 
-use crate::outgoing::Outgoing;
 use crate::rates::rate_below;
 use object_fields::{Adspec, Fragments};
-use rsvp_base::{Peak, Rate};
+use rsvp_base::{Iface, Peak, Rate};
 
 /// The ADSPEC with which the Path of a sender leaves the sender's own node by this interface (RFC 2210, 3.3): one hop, what the
 /// interface has, nothing broken, controlled load, and no other service.
 #[tactic(auto, unfolding(crate::specs::Composing::start))]
-pub fn start(on: Outgoing) -> Adspec
+pub fn start(on: Iface) -> Adspec
     ensures { result ≡ start on }
 {
     Adspec {
@@ -27,7 +26,7 @@ pub fn start(on: Outgoing) -> Adspec
 /// What a router sends on by this interface of an ADSPEC that it kept (RFC 2215, 3): one hop more, the least bandwidth, the sum of
 /// latencies, which stays at 2^32 - 1, the least MTU; break bits as they are, but set in the fragment of each other service.
 #[tactic(auto, unfolding(crate::specs::Composing::pass_on))]
-pub fn pass_on(kept: &Adspec, on: Outgoing) -> Adspec
+pub fn pass_on(kept: &Adspec, on: Iface) -> Adspec
     ensures { result ≡ pass_on kept.now on }
 {
     Adspec {

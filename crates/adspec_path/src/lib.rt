@@ -7,9 +7,7 @@
 
 mod composing;
 pub mod laws;
-mod outgoing;
 mod rates;
 
 pub use composing::{pass_on, start};
-pub use outgoing::Outgoing;
 pub use rates::rate_below;

@@ -12,7 +12,7 @@ above k = (k - 1) / 2
 
 -- ---- the link of node k: end dk of the node above, 10.1.k.1, and end uk of node k, 10.1.k.2
 abbrev pub end_of : ℕ → Addr → End
-end_of node addr = record { node = node; iface = record { addr = addr; capacity = 70000000; mtu = 1500 } }
+end_of node addr = record { node = node; iface = record { addr = addr; capacity = 70000000; mtu = 1500; latency = 0 } }
 
 abbrev pub ends_of_link : ℕ → List End
 ends_of_link k = end_of (above k) (of_bytes 10 1 k 1) ∷ end_of k (of_bytes 10 1 k 2) ∷ []

@@ -63,6 +63,7 @@ pub(crate) fn end_of(node: u16, addr: Addr) -> End
             addr,
             capacity: 70_000_000,
             mtu: 1500,
+            latency: 0,
         },
     }
 }

@@ -96,7 +96,7 @@ abbrev with_a1 : Draft
 with_a1 =
     record with_a {
       names = codes "a1" ∷ [];
-      net = record { nodes = 1; ends = (record { node = 0; iface = record { addr = record { 0 = 167772161 }; capacity = 5; mtu = 1500 } }) ∷ []; links = []; hops = [] };
+      net = record { nodes = 1; ends = (record { node = 0; iface = record { addr = record { 0 = 167772161 }; capacity = 5; mtu = 1500; latency = 0 } }) ∷ []; links = []; hops = [] };
     }
 
 abbrev sending : Draft

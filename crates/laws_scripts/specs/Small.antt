@@ -29,7 +29,7 @@ abbrev pub small_plan : Plan
 small_plan = record {
   quarter = 7500;
   seed = 1;
-  net = record { nodes = 1; ends = (record { node = 0; iface = record { addr = record { 0 = 167772161 }; capacity = 5; mtu = 1500 } }) ∷ []; links = []; hops = [] };
+  net = record { nodes = 1; ends = (record { node = 0; iface = record { addr = record { 0 = 167772161 }; capacity = 5; mtu = 1500; latency = 0 } }) ∷ []; links = []; hops = [] };
   names = codes "a1" ∷ [];
   stale = [];
   events = AtNode 0 (SendAs small_session small_sender small_flow) ∷ AtNode 0 (WantAs small_session Shared (names_from (small_sender ∷ [])) small_flow false) ∷ Rounds 1 ∷ [];

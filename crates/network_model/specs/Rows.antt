@@ -17,7 +17,7 @@ use Rattle.network_model.specs.Runs.{Plan, run_text}
 
 -- ---- networks, of 10,000 bytes per second unless it is said
 abbrev pub end_with : ℕ → ℕ → Addr → End
-end_with capacity node addr = record { node = node; iface = record { addr = addr; capacity = capacity; mtu = 1500 } }
+end_with capacity node addr = record { node = node; iface = record { addr = addr; capacity = capacity; mtu = 1500; latency = 0 } }
 
 abbrev pub end_of : ℕ → Addr → End
 end_of node addr = end_with 10000 node addr

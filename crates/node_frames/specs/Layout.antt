@@ -37,7 +37,7 @@ iface_count contents = byte_at 4 contents
 -- interface k, from 0
 abbrev pub iface_at : List ℕ → ℕ → Iface
 iface_at contents k =
-    record { addr = addr_at (5 + 16 * k) contents; capacity = long_at (9 + 16 * k) contents; mtu = word_at (17 + 16 * k) contents }
+    record { addr = addr_at (5 + 16 * k) contents; capacity = long_at (9 + 16 * k) contents; mtu = word_at (17 + 16 * k) contents; latency = 0 }
 
 -- where the routes begin: how many there are, behind n interfaces
 abbrev pub routes_place : ℕ → ℕ

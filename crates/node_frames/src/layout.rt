@@ -63,6 +63,7 @@ pub(crate) fn iface_at(contents: &[u8], k: usize) -> Iface
         addr: addr_at(contents, place),
         capacity: BigEndian::read_u64(&contents[place + 4..]),
         mtu: word_at(contents, place + 12),
+        latency: 0,
     }
 }
 

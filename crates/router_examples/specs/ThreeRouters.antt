@@ -68,7 +68,7 @@ usual = flow 1000 2000 64 1500
 
 -- ---- nodes: a quarter of 30 seconds, interfaces, and the tree of 10.0.1.1
 abbrev pub iface : Addr → ℕ → Iface
-iface addr capacity = record { addr = addr; capacity = capacity; mtu = 1500 }
+iface addr capacity = record { addr = addr; capacity = capacity; mtu = 1500; latency = 0 }
 
 abbrev pub node : List Iface → Option ℕ → ℕ → NodeConfig
 node ifaces inward outward = record { quarter = 7500; ifaces = ifaces; routes = (record { group = group; source = s1; inward = inward; outward = outward }) ∷ [] }

@@ -115,6 +115,7 @@ fn add_end(net: &mut Topology, node: u16, number: u16) -> Option<()> {
             addr: addr(number),
             capacity: 1_000_000,
             mtu: 1500,
+            latency: 0,
         },
     };
     if !net.takes_end(&end) {

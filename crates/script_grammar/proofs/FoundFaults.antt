@@ -102,7 +102,7 @@ abbrev after_end : Draft
 after_end =
     record after_node {
       names = codes "a1" ∷ [];
-      net = record { nodes = 1; ends = (record { node = 0; iface = record { addr = record { 0 = 167772161 }; capacity = 5; mtu = 1500 } }) ∷ []; links = []; hops = [] };
+      net = record { nodes = 1; ends = (record { node = 0; iface = record { addr = record { 0 = 167772161 }; capacity = 5; mtu = 1500; latency = 0 } }) ∷ []; links = []; hops = [] };
     }
 
 end_follows : Follows after_node (codes "end a1 a 10.0.0.1 5 1500") after_end

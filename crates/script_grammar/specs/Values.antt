@@ -120,7 +120,7 @@ pub record IsWantInRange (l : WantLine) : Type 0 where
 
 -- ---- what is declared
 abbrev pub end_value : Draft → EndLine → End
-end_value d l = record { node = node_number d l.node; iface = record { addr = addr_value l.addr; capacity = l.capacity; mtu = l.mtu } }
+end_value d l = record { node = node_number d l.node; iface = record { addr = addr_value l.addr; capacity = l.capacity; mtu = l.mtu; latency = 0 } }
 
 abbrev pub hop_value : Draft → HopEnds → LinkHop
 hop_value d h = record { from = end_number d h.from; to = end_number d h.to }

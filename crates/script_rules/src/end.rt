@@ -49,7 +49,7 @@ pub fn add_end(state: &mut ScriptState, line: EndLine) -> Result<(), Stop>
 // The interface of an end, where all its numbers are in range.
 fn iface_of(line: &EndLine) -> Option<Iface>
     ensures some { IsSome result ↔ IsEndInRange line.now }
-    ensures value { IfSome result (λ i. i ≡ record { addr = addr_value line.now.addr; capacity = line.now.capacity; mtu = line.now.mtu }) }
+    ensures value { IfSome result (λ i. i ≡ record { addr = addr_value line.now.addr; capacity = line.now.capacity; mtu = line.now.mtu; latency = 0 }) }
 {
     let addr = line.addr.addr()?;
     if !is_host(addr) || line.capacity >= 1 << 46 || line.mtu == 0 || line.mtu > 65_535 {
@@ -59,6 +59,7 @@ fn iface_of(line: &EndLine) -> Option<Iface>
         addr,
         capacity: line.capacity as u64,
         mtu: line.mtu as u32,
+        latency: 0,
     })
 }
 

@@ -12,6 +12,7 @@ fn opened(alloc: Global, capacities: &[u64]) -> Result<Book, Fail> {
             addr: Addr(1),
             capacity: *capacity,
             mtu: 1500,
+            latency: 0,
         })?;
     }
     Ok(Book::open(alloc, &ifaces).ok().ok_or("memory")?)

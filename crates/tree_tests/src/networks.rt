@@ -14,6 +14,7 @@ fn end(node: u16, addr: u32) -> End {
             addr: Addr(addr),
             capacity: 10_000,
             mtu: 1500,
+            latency: 0,
         },
     }
 }

@@ -12,7 +12,7 @@ loop-end-preserved c =
     let books = c.args.books.now in
     let end = c.loop-end.end in
     let there : end < length ends = c.loop-end-test.true in
-    let d : End = record { node = 0; iface = record { addr = record { 0 = 0 }; capacity = 0; mtu = 0 } } in
+    let d : End = record { node = 0; iface = record { addr = record { 0 = 0 }; capacity = 0; mtu = 0; latency = 0 } } in
     let book = read_at books end c.index-books-end.result (omega (arith, there, c.requires)) c.index-books-end.is in
     one_end_more is_over ends books end _ _ c.is_over.result _ _ (slice_get-get_or ends end d there) book c.is_over.ensures c.loop-end.invariant c.in_ok-keep_if.ensures
 

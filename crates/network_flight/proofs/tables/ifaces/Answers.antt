@@ -10,12 +10,12 @@ use Rattle.network_flight.proofs.tables.ifaces.Goals as goal
 
 pub count_of-iface-requires : goal.count_of-iface-requires
 count_of-iface-requires c =
-    let none : End = record { node = 0; iface = record { addr = record { 0 = 0 }; capacity = 0; mtu = 0 } } in
+    let none : End = record { node = 0; iface = record { addr = record { 0 = 0 }; capacity = 0; mtu = 0; latency = 0 } } in
     few_before c.args.ends.now c.loop-end.end (get_or c.args.ends.now c.loop-end.end none).node c.requires.few
 
 pub loop-end-preserved : goal.loop-end-preserved
 loop-end-preserved c =
-    let none : End = record { node = 0; iface = record { addr = record { 0 = 0 }; capacity = 0; mtu = 0 } } in
+    let none : End = record { node = 0; iface = record { addr = record { 0 = 0 }; capacity = 0; mtu = 0; latency = 0 } } in
     let ends = c.args.ends.now in
     let n = c.loop-end.end in
     let here : c.count_of-iface.result ≡ iface_of ends n = c.count_of-iface.ensures ∙ ap (λ (o : Option End). length (ends_of (take n ends) (node_of_end o)))

@@ -19,9 +19,9 @@ returns-then-at-ends c =
     let i = c.self.inside in
     let ends = c.ends-ends.result.now in
     let at = c.args.end in
-    let e : End = slice_index_or ends at (record { node = 0; iface = record { addr = record { 0 = 0 }; capacity = 0; mtu = 0 } }) in
+    let e : End = slice_index_or ends at (record { node = 0; iface = record { addr = record { 0 = 0 }; capacity = 0; mtu = 0; latency = 0 } }) in
     let lt : at < length ends = omega (arith, c.if-at-ends.true) in
-    let there : slice_get ends at ≡ Some e = read_or ends at (record { node = 0; iface = record { addr = record { 0 = 0 }; capacity = 0; mtu = 0 } }) lt in
+    let there : slice_get ends at ≡ Some e = read_or ends at (record { node = 0; iface = record { addr = record { 0 = 0 }; capacity = 0; mtu = 0; latency = 0 } }) lt in
     let same : ends ≡ c.args.self.now.ends = c.ends-ends.ensures.ends ∙ ap (λ (n : Net). n.ends) c.self.view_is in
     let few : at < length i.ifaces.items = omega (
       arith,
