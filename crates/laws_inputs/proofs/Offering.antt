@@ -16,7 +16,7 @@ use Rattle.router_rules.proofs.RsvpBase.Tables.{either}
 use Rattle.router_rules.proofs.Merges.{get-table_at}
 use Rattle.router_rules.specs.Toward.{or_else}
 use Rattle.router_rules.specs.Facts.{Facts, PathState, SenderKey}
-use Rattle.router_rules.specs.Offers.{Offer, OfferKey, offer_at, offer_keys, ways_of}
+use Rattle.router_rules.specs.Offers.{Offer, OfferKey, offer_at, offer_keys, own_offer, path_offer, ways_of}
 use Rattle.router_rules.specs.NodeConfig.{NodeConfig, goes_out, outward}
 use Rattle.laws_inputs.specs.FactLaws.{OffersByWay, is_way}
 use Rattle.router_rules.proofs.RsvpBase.Fronts.{to_keys}
@@ -51,7 +51,7 @@ offered : (f : Facts) (k : OfferKey) (x : Offer) → offer_at f k ≡ Some x →
 offered f k x e = by (get f.senders (k.session, k.sender)) (get f.paths (k.session, k.sender)) refl refl e
   where
     by : (v : Option TokenBucket) (w : Option PathState) → get f.senders (k.session, k.sender) ≡ v → get f.paths (k.session, k.sender) ≡ w
-        → or_else {X = Offer} (option_map (λ flow. record { tspec = flow; local = true }) v) (option_map (λ path. record { tspec = path.tspec; local = false }) w) ≡ Some x
+        → or_else {X = Offer} (option_map own_offer v) (option_map path_offer w) ≡ Some x
         → In (k.session, k.sender) (keys f.senders ++ keys f.paths)
     by (Some v) w g h e = in_left (k.session, k.sender) (keys f.senders) (keys f.paths) (to_keys (pairs sessions senders) f.senders (k.session, k.sender) (ap is_some g))
     by None (Some w) g h e = in_right (k.session, k.sender) (keys f.senders) (keys f.paths) (to_keys (pairs sessions senders) f.paths (k.session, k.sender) (ap is_some h))

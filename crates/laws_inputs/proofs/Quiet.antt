@@ -30,7 +30,7 @@ use Rattle.router_rules.specs.Sends.{torn_names, unmarked, used_marks}
 use Rattle.laws_inputs.proofs.Asks.{gone_told}
 use Rattle.laws_inputs.proofs.Leaving.{countdowns_settle, left_whole}
 use Rattle.laws_inputs.proofs.Sending.{path_tear_told, path_told, resv_tear_told, resv_told}
-use Rattle.laws_inputs.proofs.Tests.{flow_tested, parts_tested}
+use Rattle.laws_inputs.proofs.Tests.{not_new, parts_tested}
 use Rattle.laws_inputs.proofs.Lists.{none_in, one_name}
 use Rattle.laws_inputs.specs.CallLaws.{StepsWithoutChange}
 
@@ -88,9 +88,9 @@ module _ (p : NodeConfig) (f : Facts) (k : Change) where
       none_in (path_sends p (offers p f) (offers p f) k.fired)
       (λ s i.
       let q = path_told p p f f k s i in
-      let quiet : (has k.fired q.key.session || is_new_offer q.offer (get (offers p f) q.key)) ≡ false =
-      ap (λ (z : Set sessions). has z q.key.session || is_new_offer q.offer (get (offers p f) q.key)) e ∙ ap (is_new_offer q.offer) q.offered
-      ∙ ap not (flow_tested q.offer.tspec q.offer.tspec refl) in
+      let quiet : (has k.fired q.key.session || is_new_offer p q.key.iface q.offer (get (offers p f) q.key)) ≡ false =
+      ap (λ (z : Set sessions). has z q.key.session || is_new_offer p q.key.iface q.offer (get (offers p f) q.key)) e ∙ ap (is_new_offer p q.key.iface q.offer) q.offered
+      ∙ not_new p q.key.iface q.offer in
       let z : true ≡ false = sym q.why ∙ quiet in
       cc)
 

@@ -81,7 +81,7 @@ module _ (old p : NodeConfig) (before after : Facts) (k : Change) (s : Send) whe
   pub path_told : In s (path_sends p (offers old before) (offers p after) k.fired) → IsPath old p before after k s
   path_told i =
       let r = in_filter_map (path_send_of p (offers old before) k.fired) s (offers p after).rows i in
-      let t = passed (has k.fired r.0.0.session || is_new_offer r.0.1 (get (offers old before) r.0.0)) (Some (path_send p (has k.fired r.0.0.session) r.0)) s r.2 in
+      let t = passed (has k.fired r.0.0.session || is_new_offer p r.0.0.iface r.0.1 (get (offers old before) r.0.0)) (Some (path_send p (has k.fired r.0.0.session) r.0)) s r.2 in
       let is : path_send p (has k.fired r.0.0.session) r.0 ≡ s = cc in
       record { key = r.0.0; offer = r.0.1; offered = in_found offer_keys (offers p after) r.0.0 r.0.1 r.1; why = t.0; is = sym is }
 

@@ -1,5 +1,5 @@
 -- What the tests tell.
-use Rattle.std.specs.Prelude.{◌≡◌, true, Option, Some, None, refl}
+use Rattle.std.specs.Prelude.{◌≡◌, ℕ, true, false, not, Option, Some, None, refl}
 use Rattle.std.proofs.Common.{sym, ap, subst, ◌∙◌}
 use Rattle.std.proofs.lemmas.Bool.{eqb-true, eq-eqb}
 use Rattle.std.specs.Ordering.{eq_by_cmp}
@@ -26,9 +26,10 @@ use Rattle.router_rules.proofs.Room.{within_told, within_tested}
 use Rattle.router_rules.specs.Books.{lines_of}
 use Rattle.router_rules.specs.Facts.{PathState}
 use Rattle.router_rules.specs.Known.{came_by}
-use Rattle.router_rules.specs.NodeConfig.{is_addr, is_session}
+use Rattle.router_rules.specs.NodeConfig.{NodeConfig, is_addr, is_session}
+use Rattle.router_rules.specs.Offers.{Offer}
 use Rattle.router_rules.specs.Requests.{is_style}
-use Rattle.router_rules.specs.Sends.{is_part_in, parts_le, same_flow, same_parts, stands_for}
+use Rattle.router_rules.specs.Sends.{is_new_offer, is_part_in, parts_le, same_flow, same_parts, stands_for}
 use Rattle.laws_inputs.specs.FactLaws.{TestsTell}
 
 -- keys tie exactly where they are one
@@ -58,6 +59,10 @@ flow_told a b e = let r = and_both _ _ e in flows_same a b (at_most_told a b r.0
 
 pub flow_tested : (a b : TokenBucket) → a ≡ b → same_flow a b ≡ true
 flow_tested a b e = subst (λ c. same_flow a c ≡ true) e (and_made _ _ (at_most_tested a a (at_most_itself a)) (at_most_tested a a (at_most_itself a)))
+
+-- what was offered is not new at any interface
+pub not_new : (p : NodeConfig) (i : ℕ) (o : Offer) → is_new_offer p i o (Some o) ≡ false
+not_new p i o = ap not (flow_tested o.tspec o.tspec refl)
 
 -- ---- tables of parts
 stands_told : (part : Part) (w : Option Part) → stands_for part w ≡ true → (other : Part) × (w ≡ Some other) × (part_le part other ≡ true)

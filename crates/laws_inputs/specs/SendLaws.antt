@@ -46,12 +46,12 @@ module _ (old p : NodeConfig) (before after : Facts) (k : Change) (s : Send) whe
     pub made : In conf (k.confs ++ confirmed old p before after k.asked)
     pub is : s ≡ conf_send conf
 
-  -- an offer whose session came due, or that is new; it is a refresh where its session came due
+  -- an offer whose session came due, or that is new at its interface; it is a refresh where its session came due
   pub record IsPath : Type 0 where
     pub key : OfferKey
     pub offer : Offer
     pub offered : get (offers p after) key ≡ Some offer
-    pub why : (has k.fired key.session || is_new_offer offer (get (offers old before) key)) ≡ true
+    pub why : (has k.fired key.session || is_new_offer p key.iface offer (get (offers old before) key)) ≡ true
     pub is : s ≡ path_send p (has k.fired key.session) (key, offer)
 
   -- what goes toward a hop whose session came due, or where it changed; it is a refresh where its session came due

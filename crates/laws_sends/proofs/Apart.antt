@@ -17,8 +17,8 @@ use Rattle.rsvp_base.proofs.UnderLaws.{get-under}
 use Rattle.router_state.specs.StyleRules.Lines.{LineKey, line_keys, next_hops}
 use Rattle.router_state.specs.StyleRules.Targets.{wall_keys}
 use Rattle.router_state.specs.StyleRules.Toward.{or_else}
-use Rattle.router_state.specs.RouterRules.Facts.{PathState, ResvState, SenderKey, paths_in, resvs_in, resvs_of, sender_keys, senders_in, wants_in}
-use Rattle.router_state.specs.RouterRules.Offers.{OfferKey, offers}
+use Rattle.router_state.specs.RouterRules.Facts.{ResvState, SenderKey, paths_in, resvs_in, resvs_of, sender_keys, senders_in, wants_in}
+use Rattle.router_state.specs.RouterRules.Offers.{OfferKey, offers, own_offer, path_offer}
 use Rattle.router_state.specs.RouterRules.NodeConfig.{NodeConfig}
 use Rattle.router_state.specs.FactLaws.{is_way}
 use Rattle.router_state.proofs.Offering.{offers_by_way}
@@ -66,8 +66,7 @@ module _ (k : SenderKey) (n m : State) (ch : IsChangedFor k n m) (c : ℕ) where
     elsewhere = same_of;
     others = λ j off.
         offers_by_way p (facts_of c n) j
-        ∙ (λ i. cond (is_way p j) (or_else (option_map (λ flow. record { tspec = flow; local = true }) (ch.senders (j.session, j.sender) off i))
-        (option_map (λ (y : PathState). record { tspec = y.tspec; local = false }) (path_same (j.session, j.sender) off i))) None)
+        ∙ (λ i. cond (is_way p j) (or_else (option_map own_offer (ch.senders (j.session, j.sender) off i)) (option_map path_offer (path_same (j.session, j.sender) off i))) None)
         ∙ sym (offers_by_way p (facts_of c m) j);
   }
 

@@ -21,7 +21,7 @@ use Rattle.rsvp_base.proofs.Tables.{same_table, tied_same}
 use Rattle.style_rules.proofs.Merges.{get-table_at_all}
 use Rattle.style_rules.specs.Toward.{or_else}
 use Rattle.router_rules.specs.Facts.{Facts, PathState, SenderKey, sender_keys}
-use Rattle.router_rules.specs.Offers.{Offer, OfferKey, Offers, offer_keys, offers}
+use Rattle.router_rules.specs.Offers.{Offer, OfferKey, Offers, offer_keys, offers, own_offer, path_offer}
 use Rattle.router_rules.specs.NodeConfig.{NodeConfig, goes_out, outward}
 use Rattle.laws_inputs.specs.FactLaws.{is_way}
 use Rattle.laws_inputs.proofs.Lists.{in_range, to_range}
@@ -36,7 +36,7 @@ there : (f : Facts) (k : SenderKey) (w : Option Offer) → offered f k ≡ w →
 there f k w is some = by (get f.senders k) (get f.paths k) refl refl (ap is_some is ∙ some)
   where
     by : (v : Option TokenBucket) (u : Option PathState) → get f.senders k ≡ v → get f.paths k ≡ u
-        → is_some (or_else {X = Offer} (option_map (λ flow. record { tspec = flow; local = true }) v) (option_map (λ path. record { tspec = path.tspec; local = false }) u)) ≡ true
+        → is_some (or_else {X = Offer} (option_map own_offer v) (option_map path_offer u)) ≡ true
         → In k (keys f.senders ++ keys f.paths)
     by (Some v) u g h e = in_left k (keys f.senders) (keys f.paths) (to_keys sender_keys f.senders k (ap is_some g))
     by None (Some u) g h e = in_right k (keys f.senders) (keys f.paths) (to_keys sender_keys f.paths k (ap is_some h))

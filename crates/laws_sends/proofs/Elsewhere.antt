@@ -32,12 +32,12 @@ use Rattle.rsvp_base.proofs.Counts.{in_found}
 use Rattle.rsvp_base.proofs.Fronts.{in_keys}
 use Rattle.rsvp_base.proofs.SetLaws.{same_set}
 use Rattle.router_state.specs.RsvpMessages.declared.ask.Ask.{Ask}
-use Rattle.router_state.specs.RouterRules.Offers.{OfferKey, offer_keys, offers}
+use Rattle.router_state.specs.RouterRules.Offers.{OfferKey, offer_keys, offers, own_offer, path_offer}
 use Rattle.laws_sends.specs.SendsHere.{AreSameOf, AreSameOff}
 use Rattle.router_state.specs.FactLaws.{is_way}
 use Rattle.router_state.proofs.Asks.{gone_told}
 use Rattle.router_state.proofs.Offering.{offers_by_way}
-use Rattle.router_state.proofs.Tests.{flow_tested, parts_tested}
+use Rattle.router_state.proofs.Tests.{not_new, parts_tested}
 use Rattle.router_state.specs.StyleRules.declared.target.Target.{Target}
 use Rattle.router_state.specs.StyleRules.declared.target.Target.TheVariants as target
 
@@ -149,8 +149,7 @@ module _ (p : NodeConfig) (t : Session → Bool) (f g : Facts) (same : AreSameOf
       ∙ ap (λ (t : Table senders TokenBucket). get t k.sender) of.senders ∙ get-under sessions senders g.senders k.session k.sender in
       let path : get f.paths (k.session, k.sender) ≡ get g.paths (k.session, k.sender) = sym (get-under sessions senders f.paths k.session k.sender)
       ∙ ap (λ (t : Table senders PathState). get t k.sender) of.paths ∙ get-under sessions senders g.paths k.session k.sender in
-      offers_by_way p f k ∙ (λ i. cond (is_way p k) (or_else (option_map (λ flow. record { tspec = flow; local = true }) (own i))
-      (option_map (λ x. record { tspec = x.tspec; local = false }) (path i))) None) ∙ sym (offers_by_way p g k)
+      offers_by_way p f k ∙ (λ i. cond (is_way p k) (or_else (option_map own_offer (own i)) (option_map path_offer (path i))) None) ∙ sym (offers_by_way p g k)
 
   pub path_tears_here : path_tears p (offers p f) (offers p g) ≡ each (path_tear p) (filter (λ k. not (has (offers p g) k)) (filter (λ k. t k.session) (keys (offers p f))))
   path_tears_here =
@@ -163,5 +162,5 @@ module _ (p : NodeConfig) (t : Session → Bool) (f g : Facts) (same : AreSameOf
       filter_map_among (λ e. t e.0.session) (path_send_of p (offers p f) fired) (offers p g).rows
       (λ e i out.
       let there : get (offers p f) e.0 ≡ Some e.1 = offer_same e.0 out ∙ in_found offer_keys (offers p g) e.0 e.1 i in
-      (λ j. cond (off e.0.session out j || is_new_offer e.1 (there j)) (Some (path_send p (has fired e.0.session) e)) None)
-      ∙ ap (λ b. cond (not b) (Some (path_send p (has fired e.0.session) e)) None) (flow_tested e.1.tspec e.1.tspec refl))
+      (λ j. cond (off e.0.session out j || is_new_offer p e.0.iface e.1 (there j)) (Some (path_send p (has fired e.0.session) e)) None)
+      ∙ ap (λ b. cond b (Some (path_send p (has fired e.0.session) e)) None) (not_new p e.0.iface e.1))

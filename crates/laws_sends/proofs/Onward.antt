@@ -21,24 +21,47 @@ use Rattle.router_state.specs.RouterRules.Sends.{is_new_offer, path_send, path_s
 use Rattle.router_state.specs.FactLaws.{is_way}
 use Rattle.router_state.proofs.Lists.{in_range, to_range}
 use Rattle.router_state.proofs.Offering.{offers_by_way}
-use Rattle.router_state.proofs.Tests.{flow_tested, ties}
+use Rattle.router_state.proofs.Tests.{not_new, ties}
 use Rattle.rsvp_base.specs.declared.flow.Peak.TheVariants.{Infinite}
-use Rattle.laws_sends.specs.Told.{offer_key, offered, paths_told, tears_told, told_gone, told_new}
+use Rattle.laws_sends.specs.Told.{offer_key, offered, tears_told, told_gone, told_new}
 use Rattle.router_state.proofs.Routed.{same_test}
 
 -- ---- the offers that are new
-abbrev pick : Offers → OfferKey → Offer → Option Offer
-pick before j v = cond (is_new_offer v (get before j)) (Some v) None
+abbrev pick : NodeConfig → Offers → OfferKey → Offer → Option Offer
+pick p before j v = cond (is_new_offer p j.iface v (get before j)) (Some v) None
 
-picked : (p : NodeConfig) (before : Offers) (es : List (OfferKey × Offer)) → filter_map (path_send_of p before empty) es ≡ each (path_send p false) (changed_rows (pick before) es)
+picked : (p : NodeConfig) (before : Offers) (es : List (OfferKey × Offer)) → filter_map (path_send_of p before empty) es ≡ each (path_send p false) (changed_rows (pick p before) es)
 picked p before [] = refl
-picked p before (e ∷ es) = by (is_new_offer e.1 (get before e.0)) (picked p before es)
+picked p before (e ∷ es) = by (is_new_offer p e.0.iface e.1 (get before e.0)) (picked p before es)
   where
-    by : (b : Bool) → filter_map (path_send_of p before empty) es ≡ each (path_send p false) (changed_rows (pick before) es)
+    by : (b : Bool) → filter_map (path_send_of p before empty) es ≡ each (path_send p false) (changed_rows (pick p before) es)
         → cons_option (cond b (Some (path_send p false e)) None) (filter_map (path_send_of p before empty) es)
-        ≡ each (path_send p false) (kept_row e.0 (cond b (Some e.1) None) (changed_rows (pick before) es))
+        ≡ each (path_send p false) (kept_row e.0 (cond b (Some e.1) None) (changed_rows (pick p before) es))
     by true rest = ap (λ ss. path_send p false e ∷ ss) rest
     by false rest = rest
+
+and_moved : (a b c : Bool) → (a && (b && c)) ≡ ((a && b) && c)
+and_moved true b c = refl
+and_moved false b c = refl
+
+-- two tests, one after another
+pub both_tests : {A : Type 0} (t u : A → Bool) (xs : List A) → filter t (filter u xs) ≡ filter (λ x. u x && t x) xs
+both_tests t u [] = refl
+both_tests t u (x ∷ xs) = by (u x) (both_tests t u xs)
+  where
+    by : (b : Bool) → filter t (filter u xs) ≡ filter (λ x. u x && t x) xs → filter t (cond b (x ∷ filter u xs) (filter u xs))
+        ≡ cond (b && t x) (x ∷ filter (λ x. u x && t x) xs) (filter (λ x. u x && t x) xs)
+    by true h = ap (λ ys. cond (t x) (x ∷ ys) ys) h
+    by false h = h
+
+-- a test that all pass, and one that none passes
+pub all_pass : (t : ℕ → Bool) (xs : List ℕ) → ((x : ℕ) → t x ≡ true) → filter t xs ≡ xs
+all_pass t [] h = refl
+all_pass t (x ∷ xs) h = ap (λ b. cond b (x ∷ filter t xs) (filter t xs)) (h x) ∙ ap (λ ys. x ∷ ys) (all_pass t xs h)
+
+pub none_pass : (t : ℕ → Bool) (xs : List ℕ) → ((x : ℕ) → t x ≡ false) → filter t xs ≡ []
+none_pass t [] h = refl
+none_pass t (x ∷ xs) h = ap (λ b. cond b (x ∷ filter t xs) (filter t xs)) (h x) ∙ none_pass t xs h
 
 -- ---- those of one sender
 module _ (k : SenderKey) (o : Offer) where
@@ -129,75 +152,85 @@ module _ (k : SenderKey) (o : Offer) where
     abbrev was : Option Offer
     was = offer_at f (key 0)
 
-    abbrev fresh : Bool
-    fresh = is_new_offer o was
+    abbrev fresh : ℕ → Bool
+    fresh i = is_new_offer p i o was
 
-    at_key : (q : OfferKey) → get (changed (pick (offers p f)) (offers p g)) q ≡ cond (tie q && is_way p q) (cond fresh (Some o) None) None
-    at_key q = get-changed offer_keys (pick (offers p f)) (offers p g) q ∙ by (tie q) refl
+    -- the sender's ways at which its offer is new
+    abbrev new_way : ℕ → Bool
+    new_way i = goes_out p k.0 i k.1 && fresh i
+
+    at_key : (q : OfferKey) → get (changed (pick p (offers p f)) (offers p g)) q ≡ cond (tie q && (is_way p q && fresh q.iface)) (Some o) None
+    at_key q = get-changed offer_keys (pick p (offers p f)) (offers p g) q ∙ by (tie q) refl
       where
         -- another sender's offer is not new
-        old : (w : Option Offer) → get (offers p g) q ≡ w → get (offers p f) q ≡ w → then_do w (pick (offers p f) q) ≡ None
+        old : (w : Option Offer) → get (offers p g) q ≡ w → get (offers p f) q ≡ w → then_do w (pick p (offers p f) q) ≡ None
         old None e d = refl
-        old (Some v) e d = (λ i. cond (is_new_offer v (d i)) (Some v) None) ∙ ap (λ b. cond (not b) (Some v) None) (flow_tested v.tspec v.tspec refl)
+        old (Some v) e d = (λ i. cond (is_new_offer p q.iface v (d i)) (Some v) None) ∙ ap (λ b. cond b (Some v) None) (not_new p q.iface v)
 
-        mine : k ≡ (q.session, q.sender) → (b : Bool) → is_way p q ≡ b → then_do (get (offers p g) q) (pick (offers p f) q) ≡ cond b (cond fresh (Some o) None) None
-        mine e false b = ap (λ w. then_do w (pick (offers p f) q)) (offers_by_way p g q ∙ ap (λ t. cond t (offer_at g q) None) b)
+        mine : k ≡ (q.session, q.sender) → (b : Bool) → is_way p q ≡ b → then_do (get (offers p g) q) (pick p (offers p f) q) ≡ cond (b && fresh q.iface) (Some o) None
+        mine e false b = ap (λ w. then_do w (pick p (offers p f) q)) (offers_by_way p g q ∙ ap (λ t. cond t (offer_at g q) None) b)
         mine e true b =
             let now : get (offers p g) q ≡ Some o = offers_by_way p g q ∙ ap (λ t. cond t (offer_at g q) None) b
             ∙ (λ i. offer_at g (record { session = (sym e i).0; sender = (sym e i).1; iface = q.iface })) ∙ here in
             let then : get (offers p f) q ≡ was = offers_by_way p f q ∙ ap (λ t. cond t (offer_at f q) None) b
             ∙ (λ i. offer_at f (record { session = (sym e i).0; sender = (sym e i).1; iface = q.iface })) in
-            ap (λ w. then_do w (pick (offers p f) q)) now ∙ (λ i. cond (is_new_offer o (then i)) (Some o) None)
+            ap (λ w. then_do w (pick p (offers p f) q)) now ∙ (λ i. cond (is_new_offer p q.iface o (then i)) (Some o) None)
 
-        by : (b : Bool) → tie q ≡ b → then_do (get (offers p g) q) (pick (offers p f) q) ≡ cond (b && is_way p q) (cond fresh (Some o) None) None
+        by : (b : Bool) → tie q ≡ b → then_do (get (offers p g) q) (pick p (offers p f) q) ≡ cond (b && (is_way p q && fresh q.iface)) (Some o) None
         by true t = mine (tied_same sender_keys k (q.session, q.sender) t) (is_way p q) refl
         by false t = old (get (offers p g) q) refl (same q t)
 
-    told_rows : (b : Bool) → fresh ≡ b → changed_rows (pick (offers p f)) (offers p g).rows ≡ cond b (ones (outward p k.0 k.1)) []
-    told_rows true b = ap (λ (t : Offers). t.rows) (same_table offer_keys (changed (pick (offers p f)) (offers p g)) (listed_ones (λ i. goes_out p k.0 i k.1) (length p.ifaces))
-        (λ q. at_key q ∙ ap (λ c. cond (tie q && is_way p q) (cond c (Some o) None) None) b ∙ sym (found_one (outward p k.0 k.1) q ∙ ways_of_one p q)))
-    told_rows false b = ap (λ (t : Offers). t.rows) (same_table offer_keys (changed (pick (offers p f)) (offers p g)) empty
-        (λ q. at_key q ∙ ap (λ c. cond (tie q && is_way p q) (cond c (Some o) None) None) b ∙ none (tie q && is_way p q)))
-      where
-        none : (b : Bool) → ◌≡◌ {A = Option Offer} (cond b None None) None
-        none true = refl
-        none false = refl
+    abbrev new_ones : List ℕ
+    new_ones = filter new_way (range_with_len 0 (length p.ifaces))
 
-    -- the Paths that are sent are those of the sender, where its offer is new
-    pub paths_onward : path_sends p (offers p f) (offers p g) empty ≡ cond fresh (each (λ i. path_send p false (key i, o)) (outward p k.0 k.1)) []
-    paths_onward = picked p (offers p f) (offers p g).rows ∙ ap (each (path_send p false)) (told_rows fresh refl) ∙ by fresh
+    among_new : (q : OfferKey) → cond (tie q && list_any (λ i. i == q.iface) new_ones) (Some o) None ≡ cond (tie q && (is_way p q && fresh q.iface)) (Some o) None
+    among_new q = by (tie q) refl
+      where
+        by : (t : Bool) → tie q ≡ t → cond (t && list_any (λ i. i == q.iface) new_ones) (Some o) None ≡ cond (t && (is_way p q && fresh q.iface)) (Some o) None
+        by true t =
+            let e = tied_same sender_keys k (q.session, q.sender) t in
+            ap (λ c. cond c (Some o) None)
+            (among new_way (length p.ifaces) q.iface ∙ (λ i. nat_lt q.iface (length p.ifaces) && (goes_out p (e i).0 q.iface (e i).1 && fresh q.iface))
+            ∙ and_moved (nat_lt q.iface (length p.ifaces)) (goes_out p q.session q.iface q.sender) (fresh q.iface))
+        by false t = refl
+
+    told_rows : changed_rows (pick p (offers p f)) (offers p g).rows ≡ ones new_ones
+    told_rows = ap (λ (t : Offers). t.rows) (same_table offer_keys (changed (pick p (offers p f)) (offers p g)) (listed_ones new_way (length p.ifaces))
+        (λ q. at_key q ∙ sym (found_one new_ones q ∙ among_new q)))
+
+    -- the Paths that are sent are those of the sender, by the ways at which its offer is new
+    pub paths_onward : path_sends p (offers p f) (offers p g) empty ≡ each (λ i. path_send p false (key i, o)) (filter fresh (outward p k.0 k.1))
+    paths_onward =
+        picked p (offers p f) (offers p g).rows ∙ ap (each (path_send p false)) told_rows ∙ each_ones new_ones
+        ∙ ap (each (λ i. path_send p false (key i, o))) (sym (both_tests fresh (λ i. goes_out p k.0 i k.1) (range_with_len 0 (length p.ifaces))))
       where
         each_ones : (is : List ℕ) → each (path_send p false) (ones is) ≡ each (λ i. path_send p false (key i, o)) is
         each_ones [] = refl
         each_ones (i ∷ is) = ap (λ ss. path_send p false (key i, o) ∷ ss) (each_ones is)
 
-        by : (b : Bool) → each (path_send p false) (cond b (ones (outward p k.0 k.1)) []) ≡ cond b (each (λ i. path_send p false (key i, o)) (outward p k.0 k.1)) []
-        by true = each_ones (outward p k.0 k.1)
-        by false = refl
-        -- where the sender is unknown after, none is sent
-
+  -- where the sender is unknown after, none is sent
   module _ (p : NodeConfig) (f g : Facts) (same : (j : OfferKey) → tie j ≡ false → get (offers p f) j ≡ get (offers p g) j) (gone : offer_at g (key 0) ≡ None) where
-    none_key : (q : OfferKey) → get (changed (pick (offers p f)) (offers p g)) q ≡ None
-    none_key q = get-changed offer_keys (pick (offers p f)) (offers p g) q ∙ by (tie q) refl
+    none_key : (q : OfferKey) → get (changed (pick p (offers p f)) (offers p g)) q ≡ None
+    none_key q = get-changed offer_keys (pick p (offers p f)) (offers p g) q ∙ by (tie q) refl
       where
-        old : (w : Option Offer) → get (offers p g) q ≡ w → get (offers p f) q ≡ w → then_do w (pick (offers p f) q) ≡ None
+        old : (w : Option Offer) → get (offers p g) q ≡ w → get (offers p f) q ≡ w → then_do w (pick p (offers p f) q) ≡ None
         old None e d = refl
-        old (Some v) e d = (λ i. cond (is_new_offer v (d i)) (Some v) None) ∙ ap (λ b. cond (not b) (Some v) None) (flow_tested v.tspec v.tspec refl)
+        old (Some v) e d = (λ i. cond (is_new_offer p q.iface v (d i)) (Some v) None) ∙ ap (λ b. cond b (Some v) None) (not_new p q.iface v)
 
         none : (b : Bool) → ◌≡◌ {A = Option Offer} (cond b None None) None
         none true = refl
         none false = refl
 
-        by : (b : Bool) → tie q ≡ b → then_do (get (offers p g) q) (pick (offers p f) q) ≡ None
+        by : (b : Bool) → tie q ≡ b → then_do (get (offers p g) q) (pick p (offers p f) q) ≡ None
         by true t =
             let e = tied_same sender_keys k (q.session, q.sender) t in
             let now : get (offers p g) q ≡ None = offers_by_way p g q ∙ (λ i. cond (is_way p q) (offer_at g (record { session = (sym e i).0; sender = (sym e i).1; iface = q.iface })) None)
             ∙ ap (λ w. cond (is_way p q) w None) gone ∙ none (is_way p q) in
-            ap (λ w. then_do w (pick (offers p f) q)) now
+            ap (λ w. then_do w (pick p (offers p f) q)) now
         by false t = old (get (offers p g) q) refl (same q t)
 
     pub paths_none : path_sends p (offers p f) (offers p g) empty ≡ []
-    paths_none = picked p (offers p f) (offers p g).rows ∙ ap (λ (t : Offers). each (path_send p false) t.rows) (same_table offer_keys (changed (pick (offers p f)) (offers p g)) empty none_key)
+    paths_none = picked p (offers p f) (offers p g).rows ∙ ap (λ (t : Offers). each (path_send p false) t.rows) (same_table offer_keys (changed (pick p (offers p f)) (offers p g)) empty none_key)
 
 -- ---- where the sender is offered no more, its tears are all that are torn
 module _ (k : SenderKey) (o : Offer) (p : NodeConfig) (f g : Facts) (same : (j : OfferKey) → eq_by_cmp sender_keys.cmp k (j.session, j.sender) ≡ false → get (offers p f) j ≡ get (offers p g) j) where
@@ -294,4 +327,4 @@ module _ (k : SenderKey) (p : NodeConfig) (f g : Facts) (same : (j : OfferKey) �
 
 pub told_same : (p : NodeConfig) (k : SenderKey) (w : Option Offer) → told_new p k w w ≡ []
 told_same p k None = refl
-told_same p k (Some o) = ap (λ b. cond (not b) (paths_told p false k o) []) (flow_tested o.tspec o.tspec refl)
+told_same p k (Some o) = ap (each (λ i. path_send p false (offer_key k i, o))) (none_pass (λ i. is_new_offer p i o (Some o)) (outward p k.0 k.1) (λ i. not_new p i o))

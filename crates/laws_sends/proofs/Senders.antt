@@ -24,7 +24,7 @@ use Rattle.router_rules.specs.NodeConfig.{NodeConfig, outward}
 use Rattle.router_rules.specs.Sends.{is_new_offer, path_send, path_send_of, path_sends, path_tear, path_tears}
 use Rattle.laws_inputs.proofs.Offering.{offers_by_way}
 use Rattle.laws_inputs.proofs.Lists.{none_is, some_is}
-use Rattle.laws_inputs.proofs.Tests.{flow_tested}
+use Rattle.laws_inputs.proofs.Tests.{not_new}
 use Rattle.laws_sends.specs.Told.{offer_key, offered, paths_told, told_gone}
 use Rattle.laws_sends.proofs.Lanes.{filter_keys_kept}
 use Rattle.laws_sends.specs.Several.{gone_told, is_among, known_offers, offer_of, offers_for, offers_in, paths_of, refreshed, tears_of}
@@ -64,23 +64,23 @@ module _ (old p : NodeConfig) (f g : Facts) where
 
     one_block : (e : SenderKey × Offer) (is : List ℕ) (b : Bool) → has fired e.0.0 ≡ b → filter_map send_of (each (λ i. (offer_key e.0 i, e.1)) is)
         ≡ cond b (each (λ i. path_send p true (offer_key e.0 i, e.1)) is) (each (λ i. path_send p false (offer_key e.0 i, e.1))
-        (filter (λ i. is_new_offer e.1 (get (offers old f) (offer_key e.0 i))) is))
+        (filter (λ i. is_new_offer p i e.1 (get (offers old f) (offer_key e.0 i))) is))
     one_block e [] true h = refl
     one_block e [] false h = refl
     one_block e (i ∷ is) true h =
-        (λ j. cons_option (cond (h j || is_new_offer e.1 (get (offers old f) (offer_key e.0 i))) (Some (path_send p (h j) (offer_key e.0 i, e.1))) None)
+        (λ j. cons_option (cond (h j || is_new_offer p i e.1 (get (offers old f) (offer_key e.0 i))) (Some (path_send p (h j) (offer_key e.0 i, e.1))) None)
         (filter_map send_of (each (λ i. (offer_key e.0 i, e.1)) is)))
         ∙ ap (λ ss. path_send p true (offer_key e.0 i, e.1) ∷ ss) (one_block e is true h)
     one_block e (i ∷ is) false h =
-        (λ j. cons_option (cond (h j || is_new_offer e.1 (get (offers old f) (offer_key e.0 i))) (Some (path_send p (h j) (offer_key e.0 i, e.1))) None)
+        (λ j. cons_option (cond (h j || is_new_offer p i e.1 (get (offers old f) (offer_key e.0 i))) (Some (path_send p (h j) (offer_key e.0 i, e.1))) None)
         (filter_map send_of (each (λ i. (offer_key e.0 i, e.1)) is)))
-        ∙ by (is_new_offer e.1 (get (offers old f) (offer_key e.0 i))) (one_block e is false h)
+        ∙ by (is_new_offer p i e.1 (get (offers old f) (offer_key e.0 i))) (one_block e is false h)
       where
         by : (b : Bool) → filter_map send_of (each (λ i. (offer_key e.0 i, e.1)) is) ≡ each (λ i. path_send p false (offer_key e.0 i, e.1))
-            (filter (λ i. is_new_offer e.1 (get (offers old f) (offer_key e.0 i))) is)
+            (filter (λ i. is_new_offer p i e.1 (get (offers old f) (offer_key e.0 i))) is)
             → cons_option (cond b (Some (path_send p false (offer_key e.0 i, e.1))) None) (filter_map send_of (each (λ i. (offer_key e.0 i, e.1)) is))
-            ≡ each (λ i. path_send p false (offer_key e.0 i, e.1)) (cond b (i ∷ filter (λ i. is_new_offer e.1 (get (offers old f) (offer_key e.0 i))) is)
-            (filter (λ i. is_new_offer e.1 (get (offers old f) (offer_key e.0 i))) is))
+            ≡ each (λ i. path_send p false (offer_key e.0 i, e.1)) (cond b (i ∷ filter (λ i. is_new_offer p i e.1 (get (offers old f) (offer_key e.0 i))) is)
+            (filter (λ i. is_new_offer p i e.1 (get (offers old f) (offer_key e.0 i))) is))
         by true rest = ap (λ ss. path_send p false (offer_key e.0 i, e.1) ∷ ss) rest
         by false rest = rest
 
@@ -186,14 +186,16 @@ module _ (p : NodeConfig) (f g : Facts) where
   paths_again fired known e there = ap (λ ss. cond (has fired e.0.0) (paths_told p true e.0 e.1) ss)
       (ap (each (λ i. path_send p false (offer_key e.0 i, e.1))) (none (outward p e.0.0 e.0.1) (λ i h. old i h)))
     where
-      old : (i : ℕ) → In i (outward p e.0.0 e.0.1) → is_new_offer e.1 (get (offers p f) (offer_key e.0 i)) ≡ false
+      old : (i : ℕ) → In i (outward p e.0.0 e.0.1) → is_new_offer p i e.1 (get (offers p f) (offer_key e.0 i)) ≡ false
       old i h =
-          ap (is_new_offer e.1) (offers_by_way p f (offer_key e.0 i) ∙ ap (λ b. cond b (offered f e.0) None) (way_of p e.0 i h) ∙ known e.0 e.1 there) ∙ ap not (flow_tested e.1.tspec e.1.tspec refl)
+          ap (is_new_offer p i e.1) (offers_by_way p f (offer_key e.0 i) ∙ ap (λ b. cond b (offered f e.0) None) (way_of p e.0 i h) ∙ known e.0 e.1 there) ∙ not_new p i e.1
 
-      none : (is : List ℕ) → ((i : ℕ) → In i is → is_new_offer e.1 (get (offers p f) (offer_key e.0 i)) ≡ false) → filter (λ i. is_new_offer e.1 (get (offers p f) (offer_key e.0 i))) is ≡ []
+      none : (is : List ℕ) → ((i : ℕ) → In i is → is_new_offer p i e.1 (get (offers p f) (offer_key e.0 i)) ≡ false)
+          → filter (λ i. is_new_offer p i e.1 (get (offers p f) (offer_key e.0 i))) is ≡ []
       none [] h = refl
       none (i ∷ is) h =
-          ap (λ b. cond b (i ∷ filter (λ i. is_new_offer e.1 (get (offers p f) (offer_key e.0 i))) is) (filter (λ i. is_new_offer e.1 (get (offers p f) (offer_key e.0 i))) is)) (h i (inl refl))
+          ap (λ b. cond b (i ∷ filter (λ i. is_new_offer p i e.1 (get (offers p f) (offer_key e.0 i))) is)
+          (filter (λ i. is_new_offer p i e.1 (get (offers p f) (offer_key e.0 i))) is)) (h i (inl refl))
           ∙ none is (λ j t. h j (inr t))
 
   pub all_again : (fired : Set sessions) → ((k : SenderKey) (o : Offer) → offered g k ≡ Some o → offered f k ≡ Some o)

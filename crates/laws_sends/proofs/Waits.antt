@@ -21,7 +21,7 @@ use Rattle.router_rules.specs.Facts.{Blockade, Facts, PathState, ResvState, Send
 use Rattle.router_rules.specs.Forgetting.{is_lost}
 use Rattle.router_rules.specs.Known.{Lane, keys_where, known, lanes, named_as}
 use Rattle.router_rules.specs.NodeConfig.{NodeConfig}
-use Rattle.router_rules.specs.Offers.{Offer}
+use Rattle.router_rules.specs.Offers.{Offer, own_offer, path_offer}
 use Rattle.router_rules.specs.Waiting.{act_wait}
 use Rattle.laws_inputs.proofs.Knowing.{lanes_made, lanes_told}
 use Rattle.laws_inputs.proofs.Leaving.{forgetting_by_names, got_forget, waiting_leaves_the_living}
@@ -114,24 +114,23 @@ module _ (p : NodeConfig) (c word : ℕ) (f : Facts) where
   offer_was j o e = by (get f.senders j) (get after.paths j) refl refl e
     where
       by : (v : Option TokenBucket) (w : Option PathState) → get f.senders j ≡ v → get after.paths j ≡ w
-          → or_else {X = Offer} (option_map (λ flow. record { tspec = flow; local = true }) v) (option_map (λ path. record { tspec = path.tspec; local = false }) w) ≡ Some o → offered f j ≡ Some o
-      by (Some t) w a b e = ap (λ v. or_else {X = Offer} (option_map (λ flow. record { tspec = flow; local = true }) v)
-          (option_map (λ path. record { tspec = path.tspec; local = false }) (get f.paths j))) a ∙ e
+          → or_else {X = Offer} (option_map own_offer v) (option_map path_offer w) ≡ Some o → offered f j ≡ Some o
+      by (Some t) w a b e = ap (λ v. or_else {X = Offer} (option_map own_offer v) (option_map path_offer (get f.paths j))) a ∙ e
       by None (Some x) a b e =
-          (λ i. or_else {X = Offer} (option_map (λ flow. record { tspec = flow; local = true }) (a i)) (option_map (λ path. record { tspec = path.tspec; local = false }) (path_was j x b i))) ∙ e
+          (λ i. or_else {X = Offer} (option_map own_offer (a i)) (option_map path_offer (path_was j x b i))) ∙ e
       by None None a b e = absurd (cc)
 
   died : (j : SenderKey) (o : Offer) → offered f j ≡ Some o → offered (waited p c word f) j ≡ None → (v : PathState) × (get f.paths j ≡ Some v) × (v.dies ≤ c)
   died j o here gone = by (get f.senders j) (get f.paths j) refl refl here gone
     where
       by : (v : Option TokenBucket) (w : Option PathState) → get f.senders j ≡ v → get f.paths j ≡ w
-          → or_else {X = Offer} (option_map (λ flow. record { tspec = flow; local = true }) v) (option_map (λ path. record { tspec = path.tspec; local = false }) w) ≡ Some o
-          → or_else {X = Offer} (option_map (λ flow. record { tspec = flow; local = true }) (get f.senders j)) (option_map (λ path. record { tspec = path.tspec; local = false }) (get after.paths j))
+          → or_else {X = Offer} (option_map own_offer v) (option_map path_offer w) ≡ Some o
+          → or_else {X = Offer} (option_map own_offer (get f.senders j)) (option_map path_offer (get after.paths j))
           ≡ None
           → (v : PathState) × (get f.paths j ≡ Some v) × (v.dies ≤ c)
       by (Some t) w a b h g =
-          let z : ◌≡◌ {A = Option Offer} (Some (record { tspec = t; local = true })) None =
-          sym (ap (λ v. or_else {X = Offer} (option_map (λ flow. record { tspec = flow; local = true }) v) (option_map (λ path. record { tspec = path.tspec; local = false }) (get after.paths j))) a)
+          let z : ◌≡◌ {A = Option Offer} (Some (own_offer t)) None =
+          sym (ap (λ v. or_else {X = Offer} (option_map own_offer v) (option_map path_offer (get after.paths j))) a)
           ∙ g in
           absurd (cc)
       by None None a b h g = absurd (cc)
@@ -141,8 +140,8 @@ module _ (p : NodeConfig) (c word : ℕ) (f : Facts) where
         either (nat_lt c x.dies)
             (λ t.
             let lives = (waiting_leaves_the_living.of_paths p c word f j x).1 (b, ltb-true c x.dies t) in
-            let z : ◌≡◌ {A = Option Offer} (Some (record { tspec = x.tspec; local = false })) None =
-            sym (λ i. or_else {X = Offer} (option_map (λ flow. record { tspec = flow; local = true }) (a i)) (option_map (λ path. record { tspec = path.tspec; local = false }) (lives i))) ∙ g in
+            let z : ◌≡◌ {A = Option Offer} (Some (path_offer x)) None =
+            sym (λ i. or_else {X = Offer} (option_map own_offer (a i)) (option_map path_offer (lives i))) ∙ g in
             absurd (cc))
             (λ t. ltb-false c x.dies t),
       )

@@ -65,4 +65,4 @@ module _ (old p : NodeConfig) (f g : Facts) where
   paths_of fired e =
       cond (has fired e.0.0) (paths_told p true e.0 e.1) (each
       (λ i. path_send p false (offer_key e.0 i, e.1)) (filter
-      (λ i. is_new_offer e.1 (get (offers old f) (offer_key e.0 i))) (outward p e.0.0 e.0.1)))
+      (λ i. is_new_offer p i e.1 (get (offers old f) (offer_key e.0 i))) (outward p e.0.0 e.0.1)))

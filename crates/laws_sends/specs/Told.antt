@@ -1,5 +1,6 @@
 -- What a node tells of one sender.
-use Rattle.std.specs.Prelude.{ℕ, Bool, false, cond, List, [], map as each, Option, Some, None}
+use Rattle.std.specs.Prelude.{ℕ, Bool, false, List, [], map as each, Option, Some, None}
+use Rattle.std.specs.List.{filter}
 use Rattle.router_state.specs.RouterRules.Facts.{Facts, SenderKey}
 use Rattle.router_state.specs.RouterRules.Inputs.{Send}
 use Rattle.router_state.specs.RouterRules.Offers.{Offer, OfferKey, offer_at}
@@ -20,10 +21,10 @@ paths_told p refresh k o = each (λ i. path_send p refresh (offer_key k i, o)) (
 abbrev pub tears_told : NodeConfig → SenderKey → List Send
 tears_told p k = each (λ i. path_tear p (offer_key k i)) (outward p k.0 k.1)
 
--- the Paths, where what is offered is new
+-- the Paths, by the interfaces at which what is offered is new
 abbrev pub told_new : NodeConfig → SenderKey → Option Offer → Option Offer → List Send
 told_new p k before None = []
-told_new p k before (Some o) = cond (is_new_offer o before) (paths_told p false k o) []
+told_new p k before (Some o) = each (λ i. path_send p false (offer_key k i, o)) (filter (λ i. is_new_offer p i o before) (outward p k.0 k.1))
 
 -- the PathTears, where nothing is offered any more
 abbrev pub told_gone : NodeConfig → SenderKey → Option Offer → Option Offer → List Send

@@ -110,14 +110,15 @@ module _ (old p : NodeConfig) (c : ℕ) (i : Input) (f : Facts) where
   path_refresh s m e r = ap (λ (z : Send). z.refresh) r.is ∙ ap (λ (z : PathMsg). has (fired_then p c i f) z.session) (sym (path_is s m e r))
 
   path_why : (s : Send) → s.refresh ≡ false → IsPath old p f after (act p c i f) s
-      → (key : OfferKey) × (offer : Offer) × (s ≡ path_send p false (key, offer)) × (get (offers p (facts_then old p c i f)) key ≡ Some offer) × (is_new_offer offer (get (offers old f) key) ≡ true)
+      → (key : OfferKey) × (offer : Offer) × (s ≡ path_send p false (key, offer)) × (get (offers p (facts_then old p c i f)) key ≡ Some offer)
+      × (is_new_offer p key.iface offer (get (offers old f) key) ≡ true)
   path_why s n r =
       let quiet : has (fired_then p c i f) r.key.session ≡ false = sym (ap (λ (z : Send). z.refresh) r.is) ∙ n in (
         r.key,
         r.offer,
         r.is ∙ ap (λ b. path_send p b (r.key, r.offer)) quiet,
         r.offered,
-        ap (λ b. b || is_new_offer r.offer (get (offers old f) r.key)) (sym quiet) ∙ r.why,
+        ap (λ b. b || is_new_offer p r.key.iface r.offer (get (offers old f) r.key)) (sym quiet) ∙ r.why,
       )
 
   -- ---- PathTears
@@ -179,7 +180,7 @@ module _ (old p : NodeConfig) (c : ℕ) (i : Input) (f : Facts) where
         key = key;
         offer = offer;
         offered = e;
-        why = ap (λ b. b || is_new_offer offer (get (offers old f) key)) due;
+        why = ap (λ b. b || is_new_offer p key.iface offer (get (offers old f) key)) due;
         is = ap (λ b. path_send p b (key, offer))
             (sym due);
       }))))))

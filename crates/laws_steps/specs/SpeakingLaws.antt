@@ -38,11 +38,11 @@ pub record IsOfOffer (p : NodeConfig) (f : Facts) (s : Send) (m : PathMsg) : Typ
 
 pub record WhatAPathSentSays : Type 0 where
   pub says : (step : NodeStep) → Begins step → (s : Send) (m : PathMsg) → In s (sent_by step) → s.message ≡ message.Path m → IsOfOffer step.now (left_by step) s m
-  -- it is the refresh of a session that came due, or its offer is new or has another tspec
+  -- it is the refresh of a session that came due, or its offer is new at its interface
   pub refresh : (step : NodeStep) → Begins step → (s : Send) (m : PathMsg) → In s (sent_by step) → s.message ≡ message.Path m → s.refresh ≡ has (fired_by step) m.session
   pub why : (step : NodeStep) → Begins step → (s : Send) (m : PathMsg) → In s (sent_by step) → s.message ≡ message.Path m → s.refresh ≡ false
       → (key : OfferKey) × (offer : Offer) × (s ≡ path_send step.now false (key, offer)) × (get (offers step.now (left_by step)) key ≡ Some offer)
-      × (is_new_offer offer (get (offers step.old step.facts) key) ≡ true)
+      × (is_new_offer step.now key.iface offer (get (offers step.old step.facts) key) ≡ true)
 
 -- ---- a PathTear is sent for an offer of before that is none after: its sender is known no more, or its tree goes out there
 -- no more. It goes where the Paths of the offer went

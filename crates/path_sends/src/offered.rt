@@ -1,6 +1,7 @@
 //! Offers.
-ghost use Rattle.std.specs.Prelude.{◌≡◌};
+ghost use Rattle.std.specs.Prelude.{◌≡◌, ℕ};
 ghost use Rattle.std.specs.Option.{option_map};
+ghost use Rattle.router_rules.specs.NodeConfig.{NodeConfig};
 ghost use Rattle.router_rules.specs.Sends.{is_new_offer};
 ghost use Rattle.path_sends.specs.Offering.{as_offer};
 
@@ -15,9 +16,9 @@ pub struct Offered {
 }
 
 impl Offered {
-    /// Whether this is new: there was no offer before, or one of another flow.
+    /// Whether this is new, at whatever interface: there was no offer before, or one of another flow.
     pub fn is_new(&self, before: &Option<Offered>) -> bool
-        ensures { result ≡ is_new_offer (as_offer self.now) (option_map as_offer before.now) }
+        ensures { (p : NodeConfig) (i : ℕ) → result ≡ is_new_offer p i (as_offer self.now) (option_map as_offer before.now) }
     {
         match before {
             Some(old) => {

@@ -99,7 +99,7 @@ pub fn tell_path_tears<O: Outbox>(config: &Config, session: Session, sender: Sen
     tell_tears_by(config, session, sender, ways, out);
 }
 
-/// The Paths of a sender, where what is offered of it is new.
+/// The Paths of a sender, by the interfaces at which what is offered of it is new.
 pub fn tell_new<O: Outbox>(
     config: &Config,
     session: Session,

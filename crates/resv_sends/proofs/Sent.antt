@@ -28,7 +28,7 @@ use Rattle.laws_inputs.proofs.Tests.{came_tested, came_told}
 use Rattle.router_rules.specs.Facts.{Facts, PathState, SenderKey, Wants, want_keys}
 use Rattle.router_rules.specs.Inputs.{Asked, Change, Send, only_heard}
 use Rattle.router_rules.specs.Known.{Lane, lanes}
-use Rattle.router_rules.specs.Offers.{Offer}
+use Rattle.router_rules.specs.Offers.{Offer, own_offer, path_offer}
 use Rattle.router_rules.specs.Requests.{toward}
 use Rattle.router_rules.specs.NodeConfig.{is_session}
 use Rattle.router_rules.specs.Sends.{conf_sends, confirmed, error_sends, resv_send_to, resv_tear, sends, unmarked, used_marks}
@@ -45,32 +45,27 @@ use Rattle.laws_sends.proofs.Changing.{one_session_is_told}
 use Rattle.laws_sends.proofs.Lanes.{hops_made, hops_told}
 use Rattle.laws_sends.proofs.Marks.{marks_of_one_session}
 use Rattle.laws_sends.proofs.Telling.{are_lanes, lanes_are, sends_by_lane, tears_by_lane}
+use Rattle.path_sends.specs.Offering.{fact_offer}
 use Rattle.resv_sends.specs.Halves.{address_of, told_before, told_behind, used_where}
 use Rattle.resv_sends.specs.Rounds.{told_by, torn_by}
 use Rattle.resv_sends.proofs.Listed.{same_told}
 
 -- ---- offers, as the tables have them
 module _ (c : ℕ) (n : State) (k : SenderKey) where
-  abbrev of_path : PathState → Offer
-  of_path y = record { tspec = y.tspec; local = false }
-
-  abbrev of_fact : PathFact → Offer
-  of_fact f = record { tspec = f.tspec; local = false }
-
-  path_is : option_map of_path (get (facts_of c n).paths k) ≡ option_map of_fact (option_map (λ (e : PathFact × ℕ). e.0) (get n.paths k))
-  path_is = ap (option_map of_path) (get-changed path_keys (path_at c) n.paths k) ∙ by (get n.paths k)
+  path_is : option_map path_offer (get (facts_of c n).paths k) ≡ option_map fact_offer (option_map (λ (e : PathFact × ℕ). e.0) (get n.paths k))
+  path_is = ap (option_map path_offer) (get-changed path_keys (path_at c) n.paths k) ∙ by (get n.paths k)
     where
-      by : (w : Option (PathFact × ℕ)) → option_map of_path (then_do w (path_at c k)) ≡ option_map of_fact (option_map (λ (e : PathFact × ℕ). e.0) w)
+      by : (w : Option (PathFact × ℕ)) → option_map path_offer (then_do w (path_at c k)) ≡ option_map fact_offer (option_map (λ (e : PathFact × ℕ). e.0) w)
       by None = refl
       by (Some e) = refl
 
-  pub own_seen : (tspec : TokenBucket) → get n.senders k ≡ Some tspec → Some (record { tspec = tspec; local = true }) ≡ offered (facts_of c n) k
-  own_seen tspec e = sym (ap (λ w. or_else (option_map (λ flow. record { tspec = flow; local = true }) w) (option_map of_path (get (facts_of c n).paths k))) e)
+  pub own_seen : (tspec : TokenBucket) → get n.senders k ≡ Some tspec → Some (own_offer tspec) ≡ offered (facts_of c n) k
+  own_seen tspec e = sym (ap (λ w. or_else (option_map own_offer w) (option_map path_offer (get (facts_of c n).paths k))) e)
 
-  pub path_seen : get n.senders k ≡ None → (w : Option PathFact) → w ≡ option_map (λ e. e.0) (get n.paths k) → option_map of_fact w ≡ offered (facts_of c n) k
+  pub path_seen : get n.senders k ≡ None → (w : Option PathFact) → w ≡ option_map (λ e. e.0) (get n.paths k) → option_map fact_offer w ≡ offered (facts_of c n) k
   path_seen none w e =
-      ap (option_map of_fact) e ∙ sym path_is
-      ∙ sym (ap (λ v. or_else (option_map (λ flow. record { tspec = flow; local = true }) v) (option_map of_path (get (facts_of c n).paths k))) none)
+      ap (option_map fact_offer) e ∙ sym path_is
+      ∙ sym (ap (λ v. or_else (option_map own_offer v) (option_map path_offer (get (facts_of c n).paths k))) none)
 
 -- ---- previous hops, as the table of paths has them
 pub hops_are : (c : ℕ) (n : State) (s : Session) → hops_by (under sessions senders n.paths s).rows ≡ hops_in (facts_of c n) s

@@ -1,5 +1,5 @@
 -- What is offered of a session's senders, by the tables.
-use Rattle.std.specs.Prelude.{◌≡◌, ℕ, true, false, cond, ◌||◌, ◌+◌, ◌<◌, List, [], ◌∷◌, ◌++◌, fold, length, take, is_some, Option, Some, None, refl}
+use Rattle.std.specs.Prelude.{◌≡◌, ℕ, true, cond, ◌||◌, ◌+◌, ◌<◌, List, [], ◌∷◌, ◌++◌, fold, length, take, is_some, Option, Some, None, refl}
 use Rattle.std.specs.List.{flat_map, list_any}
 use Rattle.std.specs.Option.{option_map}
 use Rattle.std.specs.Ordering.{eq_by_cmp}
@@ -29,21 +29,21 @@ use Rattle.style_rules.specs.Toward.{or_else}
 use Rattle.router_rules.specs.Facts.{Facts, PathState, SenderKey, sender_keys}
 use Rattle.router_rules.specs.Known.{known}
 use Rattle.router_rules.specs.NodeConfig.{NodeConfig}
-use Rattle.router_rules.specs.Offers.{Offer}
+use Rattle.router_rules.specs.Offers.{Offer, own_offer, path_offer}
 use Rattle.laws_inputs.proofs.Knowing.{has-known}
 use Rattle.path_sends.specs.RouterState.State.{State, facts_of, path_at}
 use Rattle.laws_sends.specs.Told.{offered, paths_told, tears_told, told_gone}
 use Rattle.laws_sends.specs.Several.{gone_told, known_offers, offers_in, refreshed}
 use Rattle.laws_sends.proofs.Blocks.{known_at}
-use Rattle.router_aging.specs.Telling.{gone_by, known_names, offer_by, own_offer, path_offer, refreshed_by, told_again}
+use Rattle.router_aging.specs.Telling.{gone_by, kept_offer, known_names, offer_by, refreshed_by, told_again}
 use Rattle.router_aging.proofs.Sets.{same_keys}
 
 pub offer_seen : (c : ℕ) (n : State) (k : SenderKey) → offered (facts_of c n) k ≡ offer_by n.senders n.paths k
-offer_seen c n k = ap (λ (w : Option PathState). or_else (option_map own_offer (get n.senders k)) (option_map (λ path. record { tspec = path.tspec; local = false }) w))
+offer_seen c n k = ap (λ (w : Option PathState). or_else (option_map own_offer (get n.senders k)) (option_map path_offer w))
     (get-changed path_keys (path_at c) n.paths k) ∙ by (get n.paths k)
   where
     by : (w : Option (PathFact × ℕ)) → or_else {X = Offer} (option_map own_offer (get n.senders k))
-        (option_map (λ (path : PathState). record { tspec = path.tspec; local = false }) (then_do w (path_at c k))) ≡ or_else (option_map own_offer (get n.senders k)) (option_map path_offer w)
+        (option_map path_offer (then_do w (path_at c k))) ≡ or_else (option_map own_offer (get n.senders k)) (option_map kept_offer w)
     by None = refl
     by (Some e) = refl
 
@@ -59,7 +59,7 @@ module _ (f : Facts) (s : Session) where
   known_here x = has-known f s x ∙ by (get f.senders (s, x)) (get f.paths (s, x)) ∙ ap is_some (sym (offered_there x))
     where
       by : (v : Option TokenBucket) (w : Option PathState) → (is_some v || is_some w) ≡ is_some
-          (or_else {X = Offer} (option_map (λ flow. record { tspec = flow; local = true }) v) (option_map (λ path. record { tspec = path.tspec; local = false }) w))
+          (or_else {X = Offer} (option_map own_offer v) (option_map path_offer w))
       by (Some v) w = refl
       by None (Some w) = refl
       by None None = refl
@@ -115,7 +115,7 @@ gone_same p f g own is dead there gone = flat_among (gone_by p own) (λ k. told_
     (λ k i. let h = in_keys sender_keys dead k i in at k (there k h) (gone k h))
   where
     none : (k : SenderKey) (v : Option TokenBucket) (o : Option Offer) → is_some o ≡ true
-        → cond (is_some v) [] (tears_told p k) ≡ told_gone p k o (or_else {X = Offer} (option_map (λ flow. record { tspec = flow; local = true }) v) None)
+        → cond (is_some v) [] (tears_told p k) ≡ told_gone p k o (or_else {X = Offer} (option_map own_offer v) None)
     none k v None h = cc
     none k None (Some o) h = refl
     none k (Some t) (Some o) h = refl
@@ -123,8 +123,7 @@ gone_same p f g own is dead there gone = flat_among (gone_by p own) (λ k. told_
     at : (k : SenderKey) → is_some (offered f k) ≡ true → get g.paths k ≡ None → gone_by p own k ≡ told_gone p k (offered f k) (offered g k)
     at k h e =
         ap (λ (m : Table sender_keys TokenBucket). cond (has m k) [] (tears_told p k)) (sym is) ∙ none k (get g.senders k) (offered f k) h
-        ∙ ap (λ w. told_gone p k (offered f k) (or_else {X = Offer} (option_map (λ flow. record { tspec = flow; local = true }) (get g.senders k))
-        (option_map (λ path. record { tspec = path.tspec; local = false }) w))) (sym e)
+        ∙ ap (λ w. told_gone p k (offered f k) (or_else {X = Offer} (option_map own_offer (get g.senders k)) (option_map path_offer w))) (sym e)
 
 -- ---- told one after another
 pub told_more : {A B C : Type 0} (posted : B → C → B) (say : A → List C) (start out : B) (xs : List A) (i : ℕ) (d : A) → i < length xs → out ≡ fold posted start (flat_map say (take i xs))

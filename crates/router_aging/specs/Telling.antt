@@ -1,5 +1,5 @@
 -- What is offered of a sender, by the tables; and its Paths as a refresh.
-use Rattle.std.specs.Prelude.{ℕ, true, false, cond, List, [], Option, Some, None}
+use Rattle.std.specs.Prelude.{ℕ, true, cond, List, [], Option, Some, None}
 use Rattle.std.specs.List.{flat_map}
 use Rattle.std.specs.Option.{option_map}
 use Rattle.rsvp_base.specs.Orders.{Names, sessions, senders}
@@ -14,18 +14,16 @@ use Rattle.style_rules.specs.Toward.{or_else}
 use Rattle.router_rules.specs.Facts.{SenderKey, sender_keys}
 use Rattle.router_rules.specs.Inputs.{Send}
 use Rattle.router_rules.specs.NodeConfig.{NodeConfig}
-use Rattle.router_rules.specs.Offers.{Offer}
+use Rattle.router_rules.specs.Offers.{Offer, own_offer}
 use Rattle.laws_sends.specs.Told.{paths_told, tears_told}
+use Rattle.path_sends.specs.Offering.{fact_offer}
 
 -- in its own words where it is a local one, else in those of its path
-abbrev pub own_offer : TokenBucket → Offer
-own_offer flow = record { tspec = flow; local = true }
-
-abbrev pub path_offer : PathFact × ℕ → Offer
-path_offer e = record { tspec = e.0.tspec; local = false }
+abbrev pub kept_offer : PathFact × ℕ → Offer
+kept_offer e = fact_offer e.0
 
 abbrev pub offer_by : Table sender_keys TokenBucket → Table path_keys (PathFact × ℕ) → SenderKey → Option Offer
-offer_by own paths k = or_else (option_map own_offer (get own k)) (option_map path_offer (get paths k))
+offer_by own paths k = or_else (option_map own_offer (get own k)) (option_map kept_offer (get paths k))
 
 -- all its Paths, where it is offered
 abbrev pub told_again : NodeConfig → SenderKey → Option Offer → List Send

@@ -17,7 +17,7 @@ use Rattle.router_rules.specs.Facts.{PathState, SenderKey}
 use Rattle.router_rules.specs.Inputs.{only_heard}
 use Rattle.router_rules.specs.Known.{Lane}
 use Rattle.router_rules.specs.NodeConfig.{NodeConfig, comes_in, lifetime}
-use Rattle.router_rules.specs.Offers.{Offer}
+use Rattle.router_rules.specs.Offers.{Offer, own_offer, path_offer}
 use Rattle.router_rules.specs.Paths.{is_path_by}
 use Rattle.router_rules.specs.Requests.{toward}
 use Rattle.router_rules.specs.Sends.{sends}
@@ -73,7 +73,7 @@ module _ (n w : State) (k : SenderKey) (fact : PathFact) (left : ℕ) (said : Sa
       (ap (λ (z : State). has (facts_of c z).paths k) now ∙ has_changed path_keys (path_at c) (λ j e. refl) (put_in n.paths k (fact, left)) k ∙ put_there path_keys n.paths k (fact, left))
     where
       by_two : (o : Option Offer) (own : Option TokenBucket) (path : Option PathState) → is_some path ≡ true
-          → told_gone n.place k o (or_else (option_map (λ flow. record { tspec = flow; local = true }) own) (option_map (λ (y : PathState). record { tspec = y.tspec; local = false }) path)) ≡ []
+          → told_gone n.place k o (or_else (option_map own_offer own) (option_map path_offer path)) ≡ []
       by_two None own path h = refl
       by_two (Some o) (Some t) path h = refl
       by_two (Some o) None (Some y) h = refl

@@ -1,5 +1,5 @@
 -- What is known of a node before what goes toward its hops is kept as said.
-use Rattle.std.specs.Prelude.{◌≡◌, ℕ, false, true, Option, Some, None, refl}
+use Rattle.std.specs.Prelude.{◌≡◌, ℕ, Option, Some, None, refl}
 use Rattle.std.specs.Option.{option_map}
 use Rattle.std.proofs.Common.{sym, ap, ◌∙◌}
 use Rattle.path_state.specs.Paths.{path_keys}
@@ -9,8 +9,8 @@ use Rattle.rsvp_base.specs.Table.{get}
 use Rattle.rsvp_base.proofs.Tables.{get-changed, then_do}
 use Rattle.style_rules.specs.Lines.{next_hops}
 use Rattle.style_rules.specs.Toward.{or_else}
-use Rattle.router_rules.specs.Facts.{PathState, SenderKey}
-use Rattle.router_rules.specs.Offers.{Offer}
+use Rattle.router_rules.specs.Facts.{SenderKey}
+use Rattle.router_rules.specs.Offers.{Offer, own_offer, path_offer}
 use Rattle.router_state.specs.State.{IsSaid, Said, State, facts_at, facts_of, path_at}
 use Rattle.laws_sends.specs.Before.{IsBefore}
 use Rattle.laws_sends.specs.Changed.{IsChangedFor}
@@ -21,13 +21,10 @@ use Rattle.router_arrivals.proofs.Before.{is_before}
 -- what is offered of a sender is the same at each clock
 offers_at : (n : State) (k : SenderKey) (c : ℕ) → offered (facts_of 0 n) k ≡ offered (facts_of c n) k
 offers_at n k c =
-    ap (λ w. or_else (option_map (λ flow. record { tspec = flow; local = true }) (get n.senders k)) w)
-    (ap (option_map of_path) (get-changed path_keys (path_at 0) n.paths k) ∙ by (get n.paths k) ∙ sym (ap (option_map of_path) (get-changed path_keys (path_at c) n.paths k)))
+    ap (λ w. or_else (option_map own_offer (get n.senders k)) w)
+    (ap (option_map path_offer) (get-changed path_keys (path_at 0) n.paths k) ∙ by (get n.paths k) ∙ sym (ap (option_map path_offer) (get-changed path_keys (path_at c) n.paths k)))
   where
-    of_path : PathState → Offer
-    of_path y = record { tspec = y.tspec; local = false }
-
-    by : (w : Option (PathFact × ℕ)) → option_map of_path (then_do w (path_at 0 k)) ≡ option_map of_path (then_do w (path_at c k))
+    by : (w : Option (PathFact × ℕ)) → option_map path_offer (then_do w (path_at 0 k)) ≡ option_map path_offer (then_do w (path_at c k))
     by None = refl
     by (Some e) = refl
 

@@ -23,7 +23,7 @@ use Rattle.style_rules.specs.Toward.{or_else}
 use Rattle.style_rules.specs.declared.wall.Wall.{Wall}
 use Rattle.laws_inputs.proofs.Lists.{some_is}
 use Rattle.router_rules.specs.Facts.{PathState, SenderKey}
-use Rattle.router_rules.specs.Offers.{Offer}
+use Rattle.router_rules.specs.Offers.{Offer, own_offer, path_offer}
 use Rattle.router_state.specs.State.{Said, State, facts_of, path_at, table_in}
 use Rattle.laws_sends.specs.Told.{offered}
 use Rattle.router_aging.specs.Passing.{dies_in, dying_paths, sessions_at}
@@ -51,7 +51,7 @@ module _ (ms : ℕ) (n : State) (k : SenderKey) (dies : has (dying_paths ms n.pa
       there = get-changed path_keys (path_at c) n.paths k ∙ ap (λ w. then_do w (path_at c k)) was.1
 
       by : (v : Option TokenBucket) (w : Option PathState) → is_some w ≡ true
-          → is_some (or_else {X = Offer} (option_map (λ flow. record { tspec = flow; local = true }) v) (option_map (λ path. record { tspec = path.tspec; local = false }) w)) ≡ true
+          → is_some (or_else {X = Offer} (option_map own_offer v) (option_map path_offer w)) ≡ true
       by (Some t) w e = refl
       by None (Some x) e = refl
       by None None e = cc

@@ -1,5 +1,5 @@
 -- PathTears and Paths where routes moved, sender after sender.
-use Rattle.std.specs.Prelude.{◌≡◌, ℕ, ◌==◌, ◌&&◌, nat_lt, Bool, true, false, cond, not, is_some, List, [], ◌∷◌, map as each, length, Option, Some, None, refl}
+use Rattle.std.specs.Prelude.{◌≡◌, ℕ, ◌==◌, ◌&&◌, nat_lt, Bool, true, false, cond, not, is_some, List, map as each, length, Option, Some, None, refl}
 use Rattle.std.specs.Int.{bit_at}
 use Rattle.std.specs.List.{filter, flat_map, range_with_len}
 use Rattle.std.proofs.Common.{sym, ap, ◌∙◌, arith}
@@ -16,7 +16,7 @@ use Rattle.rsvp_base.proofs.Members.{in_filter}
 use Rattle.rsvp_base.proofs.UnderLaws.{get-under}
 use Rattle.laws_inputs.proofs.Lists.{in_range}
 use Rattle.laws_inputs.proofs.Offering.{offers_by_way}
-use Rattle.laws_inputs.proofs.Tests.{flow_tested}
+use Rattle.laws_inputs.proofs.Tests.{not_new}
 use Rattle.router_rules.specs.Facts.{Facts, SenderKey}
 use Rattle.router_rules.specs.Known.{known}
 use Rattle.router_rules.specs.NodeConfig.{NodeConfig, goes_out, is_out, outward, tree}
@@ -29,6 +29,7 @@ use Rattle.laws_sends.specs.Routes.{ways_out}
 use Rattle.path_sends.specs.Ways.{ways_but}
 use Rattle.laws_sends.specs.Several.{known_offers, offer_of, offers_in, paths_of, tears_of}
 use Rattle.laws_sends.proofs.Blocks.{known_at}
+use Rattle.laws_sends.proofs.Onward.{both_tests}
 use Rattle.router_aging.proofs.Offers.{known_keys}
 use Rattle.router_rounds.specs.RouteRounds.{new_ways, torn_ways}
 use Rattle.router_rounds.proofs.Alike.{flat_among}
@@ -38,16 +39,6 @@ use Rattle.router_rounds.specs.SenderMoves.{new_of, torn_of}
 out_same : (r : Option Route) (i : ℕ) → (bit_at (ways_out r) i == 1) ≡ is_out r i
 out_same None i = ap (λ n. n == 1) (bit_at-zero i)
 out_same (Some r) i = refl
-
--- two tests, one after another
-both_tests : {A : Type 0} (t u : A → Bool) (xs : List A) → filter t (filter u xs) ≡ filter (λ x. u x && t x) xs
-both_tests t u [] = refl
-both_tests t u (x ∷ xs) = by (u x) (both_tests t u xs)
-  where
-    by : (b : Bool) → filter t (filter u xs) ≡ filter (λ x. u x && t x) xs → filter t (cond b (x ∷ filter u xs) (filter u xs))
-        ≡ cond (b && t x) (x ∷ filter (λ x. u x && t x) xs) (filter (λ x. u x && t x) xs)
-    by true h = ap (λ ys. cond (t x) (x ∷ ys) ys) h
-    by false h = h
 
 each_test : (t u : ℕ → Bool) (xs : List ℕ) → ((x : ℕ) → t x ≡ u x) → filter t xs ≡ filter u xs
 each_test t u xs same = λ i. filter (λ x. same x i) xs
@@ -92,13 +83,13 @@ module _ (old p : NodeConfig) (same : old.ifaces ≡ p.ifaces) (f : Facts) (k : 
   pub paths_are : paths_of old p f f empty (k, o) ≡ new_of old p k (Some o)
   paths_are =
       ap (each (λ i. path_send p false (offer_key k i, o)))
-      (filter_same (λ i. is_new_offer o (get (offers old f) (offer_key k i))) (λ i. not (goes_out old k.0 i k.1)) (outward p k.0 k.1)
-      (λ i h. ap (is_new_offer o) (at_way old p f k o here (sym count) i h) ∙ by (goes_out old k.0 i k.1))
+      (filter_same (λ i. is_new_offer p i o (get (offers old f) (offer_key k i))) (λ i. not (goes_out old k.0 i k.1)) (outward p k.0 k.1)
+      (λ i h. ap (is_new_offer p i o) (at_way old p f k o here (sym count) i h) ∙ by i (goes_out old k.0 i k.1))
       ∙ but_are old p f k o here)
     where
-      by : (b : Bool) → is_new_offer o (cond b (Some o) None) ≡ not b
-      by true = ap not (flow_tested o.tspec o.tspec refl)
-      by false = refl
+      by : (i : ℕ) (b : Bool) → is_new_offer p i o (cond b (Some o) None) ≡ not b
+      by i true = not_new p i o
+      by i false = refl
 
 -- ---- all senders of a session
 module _ (old : NodeConfig) (m : State) (same : old.ifaces ≡ m.place.ifaces) (c : ℕ) (s : Session) where

@@ -22,7 +22,7 @@ use Rattle.router_rules.specs.Facts.{Facts, PathState, SenderKey, sender_keys}
 use Rattle.router_rules.specs.Inputs.{Change, Moved}
 use Rattle.router_rules.specs.Known.{Lane, known, lanes}
 use Rattle.router_rules.specs.NodeConfig.{NodeConfig}
-use Rattle.router_rules.specs.Offers.{Offer}
+use Rattle.router_rules.specs.Offers.{Offer, own_offer, path_offer}
 use Rattle.router_rules.specs.Rule.{facts_after, sent_after, settled}
 use Rattle.router_rules.specs.Sends.{sends, unmarked, used_marks}
 use Rattle.router_state.specs.State.{State, facts_of}
@@ -96,8 +96,7 @@ module _ (ss : List Session) (p : NodeConfig) (n : State) (at : IsMovedOver ss n
     known_of q o e = has-known f q.0 q.1 ∙ by (get f.senders q) (get f.paths q) ∙ ap is_some e
       where
         by : (v : Option TokenBucket) (w : Option PathState)
-            → (is_some v || is_some w) ≡ is_some (or_else {X = Offer} (option_map (λ flow. record { tspec = flow; local = true }) v)
-            (option_map (λ path. record { tspec = path.tspec; local = false }) w))
+            → (is_some v || is_some w) ≡ is_some (or_else {X = Offer} (option_map own_offer v) (option_map path_offer w))
         by (Some v) w = refl
         by None (Some w) = refl
         by None None = refl

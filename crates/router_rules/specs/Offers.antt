@@ -11,7 +11,7 @@ use Rattle.rsvp_base.specs.Table.{Table, get, keys}
 use Rattle.rsvp_base.specs.TokenBucket.{TokenBucket}
 use Rattle.style_rules.specs.Merge.{table_at}
 use Rattle.style_rules.specs.Toward.{or_else}
-use Rattle.router_rules.specs.Facts.{Facts, SenderKey}
+use Rattle.router_rules.specs.Facts.{Facts, PathState, SenderKey}
 use Rattle.router_rules.specs.NodeConfig.{NodeConfig, outward}
 
 pub record OfferKey : Type 0 where
@@ -33,11 +33,16 @@ pub record Offer : Type 0 where
 abbrev pub Offers : Type 0
 Offers = Table offer_keys Offer
 
+-- of a local sender by its own words, and of a sender that has a path by those of the path
+abbrev pub own_offer : TokenBucket → Offer
+own_offer flow = record { tspec = flow; local = true }
+
+abbrev pub path_offer : PathState → Offer
+path_offer path = record { tspec = path.tspec; local = false }
+
 -- of a local sender its own words, else those of its path
 abbrev pub offer_at : Facts → OfferKey → Option Offer
-offer_at f k =
-    or_else (option_map (λ flow. record { tspec = flow; local = true }) (get f.senders (k.session, k.sender)))
-    (option_map (λ path. record { tspec = path.tspec; local = false }) (get f.paths (k.session, k.sender)))
+offer_at f k = or_else (option_map own_offer (get f.senders (k.session, k.sender))) (option_map path_offer (get f.paths (k.session, k.sender)))
 
 abbrev pub ways_of : NodeConfig → SenderKey → List OfferKey
 ways_of p k = each (λ i. record { session = k.0; sender = k.1; iface = i }) (outward p k.0 k.1)

@@ -92,13 +92,17 @@ error_send s = once s.iface s.dst (error_message s.error)
 abbrev pub error_sends : List ErrSend → List Send
 error_sends ss = each error_send (errors_in_order ss)
 
--- ---- 5: Path for each offer that is new or has another tspec, and for all of a session that came due
+-- ---- 5: Path for each offer that is new at its interface, and for all of a session that came due
 abbrev pub same_flow : TokenBucket → TokenBucket → Bool
 same_flow a b = flow_le a b && flow_le b a
 
-abbrev pub is_new_offer : Offer → Option Offer → Bool
-is_new_offer o None = true
-is_new_offer o (Some old) = not (same_flow o.tspec old.tspec)
+-- whether an interface sends the same of two offers
+abbrev pub same_offer : NodeConfig → ℕ → Offer → Offer → Bool
+same_offer p i a b = same_flow a.tspec b.tspec
+
+abbrev pub is_new_offer : NodeConfig → ℕ → Offer → Option Offer → Bool
+is_new_offer p i o None = true
+is_new_offer p i o (Some old) = not (same_offer p i o old)
 
 -- a local sender asks for policing where its flow enters the network
 abbrev pub path_send : NodeConfig → Bool → OfferKey × Offer → Send
@@ -117,7 +121,7 @@ path_send p refresh e = record {
 }
 
 abbrev pub path_send_of : NodeConfig → Offers → Set sessions → OfferKey × Offer → Option Send
-path_send_of p before fired e = cond (has fired e.0.session || is_new_offer e.1 (get before e.0)) (Some (path_send p (has fired e.0.session) e)) None
+path_send_of p before fired e = cond (has fired e.0.session || is_new_offer p e.0.iface e.1 (get before e.0)) (Some (path_send p (has fired e.0.session) e)) None
 
 abbrev pub path_sends : NodeConfig → Offers → Offers → Set sessions → List Send
 path_sends p before after fired = filter_map (path_send_of p before fired) after.rows

@@ -189,7 +189,7 @@ module _ (q : ℕ) (s : Step) (u : World) (bounds : AreBounds q u) (k : SenderKe
       let offered : get (offers place left) key ≡ Some o.0 = offers_by_way place left key ∙ ap (λ (b : Bool). cond b (offer_at left key) None) way ∙ o.1 in
       let none : get (offers place f) key ≡ None = offers_by_way place f key ∙ ap (λ (b : Bool). cond b (offer_at f key) None) way ∙ none_is (offer_at f key) (offered_is_known f key ∙ n.before) in
       let fired : Bool = has (fired_then place c n.input f) k.0 in
-      let why : (fired || is_new_offer o.0 (get (offers place f) key)) ≡ true = ap (λ (z : Option Offer). fired || is_new_offer o.0 z) none ∙ or_true fired in
+      let why : (fired || is_new_offer place key.iface o.0 (get (offers place f) key)) ≡ true = ap (λ (z : Option Offer). fired || is_new_offer place key.iface o.0 z) none ∙ or_true fired in
       let send : Send = path_send place fired (key, o.0) in
       let sends : In send (sent_then place place c n.input f) =
       send_made place place c n.input f send n.loud (inr (inr (inr (inr (inl (record { key = key; offer = o.0; offered = offered; why = why; is = refl })))))) in

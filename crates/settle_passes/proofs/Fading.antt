@@ -22,16 +22,16 @@ use Rattle.laws_inputs.specs.FactLaws.{is_way}
 use Rattle.laws_inputs.proofs.Knowing.{has-known}
 use Rattle.laws_inputs.proofs.Offering.{offers_by_way}
 use Rattle.laws_inputs.proofs.Stepping.{IsOffered, offer_source, offered, offered_is_known}
-use Rattle.laws_inputs.proofs.Tests.{addr_tested, came_tested, flow_tested}
+use Rattle.laws_inputs.proofs.Tests.{addr_tested, came_tested, not_new}
 use Rattle.router_rules.specs.Act.{act_spelt}
 use Rattle.router_rules.specs.Facts.{Facts, SenderKey, PathState, Paths, sender_keys}
 use Rattle.router_rules.specs.Inputs.{Came, Input, Send, Spelt, Wait}
 use Rattle.router_rules.specs.Known.{came_by, known}
 use Rattle.router_rules.specs.NodeConfig.{NodeConfig, own, period}
-use Rattle.router_rules.specs.Offers.{Offer, OfferKey, offer_at, offers}
+use Rattle.router_rules.specs.Offers.{Offer, OfferKey, offer_at, offers, own_offer, path_offer}
 use Rattle.router_rules.specs.Paths.{is_path_by, torn_path}
 use Rattle.router_rules.specs.Rule.{Outcome, is_silent, rule}
-use Rattle.router_rules.specs.Sends.{is_new_offer, path_send, path_tear, same_flow}
+use Rattle.router_rules.specs.Sends.{is_new_offer, path_send, path_tear}
 use Rattle.router_rules.specs.Steps.{facts_then, node_step, sent_then}
 use Rattle.style_rules.specs.Toward.{or_else}
 use Rattle.tree_model.specs.declared.hops.LinkHop.{LinkHop}
@@ -237,11 +237,11 @@ module _ (q j : ℕ) (d : SenderKey) (u : World) (fading : IsFading q d u) where
           let here : f.0 ≡ r.facts = of_some f.0 r.facts (sym f.1 ∙ r.there) in
           let before : get r.facts.paths (k.session, k.sender) ≡ Some x = ap (λ (z : SenderKey). get r.facts.paths z) same ∙ ap (λ (z : Facts). get z.paths d) (sym here) ∙ f.2 in
           let nobody : get r.facts.senders (k.session, k.sender) ≡ None = ap (λ (z : SenderKey). get r.facts.senders z) same ∙ none_local r.node r.facts r.there in
-          let old : offer_at r.facts k ≡ Some (record { tspec = x.tspec; local = false }) =
-          (λ z. or_else (option_map (λ flow. record { tspec = flow; local = true }) (nobody z)) (option_map (λ path. record { tspec = path.tspec; local = false }) (before z))) in
-          let was : get (offers p r.facts) k ≡ Some (record { tspec = x.tspec; local = false }) = offers_by_way p r.facts k ∙ ap (λ (z : Bool). cond z (offer_at r.facts k) None) at.way ∙ old in
-          let new : not (same_flow o.tspec x.tspec) ≡ true = ap (λ (z : Option Offer). is_new_offer o z) (sym was) ∙ w.4 in
-          let bad : false ≡ true = ap not (sym (flow_tested o.tspec x.tspec l.tspec)) ∙ new in
+          let old : offer_at r.facts k ≡ Some (path_offer x) = (λ z. or_else (option_map own_offer (nobody z)) (option_map path_offer (before z))) in
+          let was : get (offers p r.facts) k ≡ Some (path_offer x) = offers_by_way p r.facts k ∙ ap (λ (z : Bool). cond z (offer_at r.facts k) None) at.way ∙ old in
+          let new : is_new_offer p k.iface o (Some (path_offer x)) ≡ true = ap (λ (z : Option Offer). is_new_offer p k.iface o z) (sym was) ∙ w.4 in
+          let as_was : o ≡ path_offer x = (λ z. record { tspec = l.tspec z; local = l.local z }) in
+          let bad : false ≡ true = sym (not_new p k.iface o) ∙ ap (λ (z : Offer). is_new_offer p k.iface o (Some z)) as_was ∙ new in
           cc)
           (offer_source after k o at.at)
 
