@@ -1,5 +1,5 @@
 //! Why a tree cannot grow by a hop.
-ghost use Rattle.std.specs.Prelude.{◌≡◌, ℕ, List, MatchOption, IfOk, map};
+ghost use Rattle.std.specs.Prelude.{◌≡◌, ℕ, List, MatchOption, map};
 ghost use Rattle.std.specs.List.{list_all, list_any};
 ghost use Rattle.tree_model.specs.Trees.{Grows, IsGrown, goes_into, is_reached, sends_alone, tree};
 ghost use Rattle.tree_routing.specs.declared.known.Known.{Known as AKnown};
@@ -7,12 +7,11 @@ ghost use Rattle.tree_routing.specs.Found.{leaves_link};
 ghost use Rattle.tree_routing.specs.HopFaults.{IsHopFault, IsTreeFault};
 ghost use Rattle.tree_routing.specs.Known.{link_ends, net_of, plain};
 
-use crate::ask::{is_in_tree, is_linked, is_sent_alone, link_of, node_of, owner};
+use crate::ask::{is_alone, is_linked, is_reached, is_sent_alone, link_of, node_of, owner};
 use crate::known::Known;
 use crate::link::Link;
 use crate::topology::Topology;
-use rsvp_base::{Addr, NoMemory};
-use std::alloc::Global;
+use rsvp_base::Addr;
 use tree_model::{End, LinkHop};
 
 /// Why a tree cannot grow by a hop, by the first rule that the hop breaks.
@@ -31,16 +30,23 @@ pub enum HopFault {
 }
 
 impl Topology {
-    /// The hops of the tree of a group and source, in the order in which they were added. `NoMemory`: there was no room for them.
-    pub fn tree(&self, group: Addr, source: Addr) -> Result<Vec<LinkHop>, NoMemory>
-        ensures { IfOk result (λ hops. hops.items ≡ tree self.now.hops group source) }
+    /// Why the tree of a group and source cannot grow by a hop. `None` exactly where it can.
+    pub fn growing_fault(&self, group: Addr, source: Addr, hop: LinkHop) -> Option<HopFault>
+        ensures { MatchOption result (Grows self.now source (tree self.now.hops group source) hop) (IsHopFault self.now source (tree self.now.hops group source) hop) }
     {
-        tree_among(self.alloc, self.hops.as_slice(), group, source)
+        growing_fault(
+            self.ends.as_slice(),
+            self.links.as_slice(),
+            self.hops.as_slice(),
+            group,
+            source,
+            hop,
+        )
     }
 
-    /// Why a tree from the node that has the end of the source, which has these hops, cannot grow by one more. `None` exactly where it
-    /// can.
-    pub fn hop_fault(&self, source: Addr, hops: &[LinkHop], hop: LinkHop) -> Option<HopFault>
+    // Why a tree from the node that has the end of the source, which has these hops, cannot grow by one more. `None` exactly where it
+    // can.
+    fn hop_fault(&self, source: Addr, hops: &[LinkHop], hop: LinkHop) -> Option<HopFault>
         ensures { MatchOption result (Grows self.now source hops.now hop) (IsHopFault self.now source hops.now hop) }
     {
         let ends = self.ends.as_slice();
@@ -61,22 +67,34 @@ impl Topology {
     }
 }
 
-// The hops of a tree among those of all.
-fn tree_among(
-    alloc: Global,
+// Why the tree of a group and source, whose hops are among these, cannot grow by one more, if it cannot.
+fn growing_fault(
+    ends: &[End],
+    links: &[Link],
     hops: &[Known],
     group: Addr,
     source: Addr,
-) -> Result<Vec<LinkHop>, NoMemory>
-    ensures { IfOk result (λ found. found.items ≡ tree (plain hops.now) group source) }
+    hop: LinkHop,
+) -> Option<HopFault>
+    ensures { (nodes : ℕ) (ks : List AKnown)
+        → MatchOption result (Grows (net_of nodes ends.now links.now ks) source (tree (plain hops.now) group source) hop) (IsHopFault (net_of nodes ends.now links.now ks) source (tree (plain hops.now) group source) hop) }
 {
-    let mut found = Vec::new(alloc);
-    for hop in hops {
-        if is_in_tree(hop, group, source) {
-            found.push(hop.hop.hop)?;
+    if !is_linked(links, hop) {
+        return Some(HopFault::NoLink);
+    }
+    let from = is_reached(ends, hops, group, source, node_of(ends, hop.from));
+    let to = is_reached(ends, hops, group, source, node_of(ends, hop.to));
+    match (from, to) {
+        (false, false) => Some(HopFault::Early),
+        (false, true) => Some(HopFault::Reversed),
+        (true, true) => Some(HopFault::Twice),
+        (true, false) => {
+            if is_alone(links, hops, group, source, hop.from) {
+                return None;
+            }
+            Some(HopFault::OtherEnd)
         }
     }
-    Ok(found)
 }
 
 // Why a tree that has these hops cannot grow by one more, if it cannot.

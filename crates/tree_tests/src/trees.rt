@@ -104,14 +104,13 @@ fn a_tree_grows_from_its_root(rt: HostRuntime) -> Result<(), Fail> {
 fn a_hop_that_is_refused_has_a_reason(rt: HostRuntime) -> Result<(), Fail> {
     let mut net = row(rt.alloc()).ok_or("a row")?;
     let _root = added(&mut net, A1, 0, 1);
-    let tree = net.tree(GROUP, Addr(A1)).map_err(|_| "the hops")?;
     for (what, from, to, fault) in [
         ("on to the end", 2u16, 3u16, None),
         ("ends of two links", 1, 3, Some(HopFault::NoLink)),
         ("into a node of the tree", 0, 1, Some(HopFault::Twice)),
         ("the other way round", 3, 2, Some(HopFault::Reversed)),
     ] {
-        let found = net.hop_fault(Addr(A1), tree.as_slice(), LinkHop { from, to });
+        let found = net.growing_fault(GROUP, Addr(A1), LinkHop { from, to });
         assert!(rt; found == fault, "{what}");
     }
     let hops = [LinkHop { from: 2, to: 3 }, LinkHop { from: 0, to: 1 }];
