@@ -4,6 +4,7 @@ ghost use Rattle.tree_routing.specs.Found.{are_apart, is_free};
 ghost use Rattle.std.specs.Prelude.{◌≡◌, ◌≢◌, ◌↔◌, ◌&&◌, ◌<◌, ◌≤◌, ◌+◌, length, map, [], ◌∷◌, ◌++◌, IsTrue, IsOk, IfOk, OnOk, OnErr};
 ghost use Rattle.tree_model.specs.declared.hops.TreeHop.{TreeHop};
 ghost use Rattle.tree_model.specs.Networks.{Net, node_of, ends_of, iface_of, link_of, owner};
+ghost use Rattle.tree_model.specs.Valid.{IsValid};
 ghost use Rattle.tree_routing.specs.Known.{net_of, vertex_at, vertex_before};
 ghost use Rattle.tree_routing.specs.Answers.{no_net, TakesEnd, TakesLink, with_node, with_end, with_link, with_hop, Fits, HopAnswer};
 
@@ -214,6 +215,7 @@ impl Topology {
         ensures ok { OnOk result (self.new ≡ with_hop self.old (record { group = group; source = source; hop = record { from = from; to = to } })) }
         ensures answer { HopAnswer self.old (record { group = group; source = source; hop = record { from = from; to = to } }) result }
         ensures err { OnErr result (self.new ≡ self.old) }
+        ensures valid { IsValid self.old }
     {
         let hop = TreeHop {
             group,
