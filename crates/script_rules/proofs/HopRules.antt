@@ -8,6 +8,7 @@ use Rattle.tree_routing.specs.declared.hop_err.HopErr.TheVariants as hop_err
 use Rattle.script_grammar.specs.Draft.{Draft}
 use Rattle.script_grammar.specs.Rules.{IsHopKnown, OnlyDeclares}
 use Rattle.script_grammar.specs.Values.{IsHopInRange, tree_hop_value}
+use Rattle.script_grammar.specs.declared.fault.Fault.{Fault}
 use Rattle.script_grammar.specs.declared.fault.Fault.TheVariants as fault
 use Rattle.script_grammar.specs.declared.line.HopLine.{HopLine}
 use Rattle.script_grammar.specs.declared.line.ScriptLine.TheVariants as line
@@ -17,13 +18,11 @@ use Rattle.script_rules.specs.HopRefusals.{IsHopRefused, IsLoopNamed}
 use Rattle.script_state.specs.Refusals.{Refuses}
 
 -- a closed chain, told by the names of the ends of its least hop
-pub loop_named : (d : Draft) (r : TreeHop) (group : Addr) (from to : ℕ) → HopAnswer d.net r (Err (hop_err.Loop group from to)) → (x : Stop) → IsLoopNamed d group (record { from = from; to = to }) x
-    → IsHopRefused d r x
-loop_named d r group from to answer (Bad (fault.Loop g f t)) told =
+pub loop_named : (d : Draft) (r : TreeHop) (group : Addr) (from to : ℕ) → HopAnswer d.net r (Err (hop_err.Loop group from to)) → (x : Fault) → IsLoopNamed d group (record { from = from; to = to }) x
+    → IsHopRefused d r (Bad x)
+loop_named d r group from to answer (fault.Loop g f t) told =
     (answer.0, λ free. free answer.2.on.head answer.2.on.rest answer.2.on.closed, (told.0 ∙ answer.1, record { from = from; to = to }, answer.2, told.1))
-loop_named d r group from to answer Crowded told = absurd told
-loop_named d r group from to answer NoMemory told = tt
-loop_named d r group from to answer (Bad why) told = absurd told
+loop_named d r group from to answer why told = absurd told
 
 -- a hop that keeps the rules before those of trees
 pub hop_refused : (d : Draft) (l : HopLine) → OnlyDeclares d → IsHopInRange l → IsHopKnown d l → length d.net.hops < 8192 → (x : Stop) → IsHopRefused d (tree_hop_value d l) x

@@ -1,18 +1,22 @@
 -- A tree that is to move: what the routing in force answers, as the rules of its line.
-use Rattle.std.specs.Prelude.{◌≡◌, ◌++◌, ◌∷◌, [], true, List, Result, Ok, Err, OnOk}
+use Rattle.std.specs.Prelude.{◌≡◌, ◌≤◌, ℕ, ◌++◌, ◌∷◌, [], true, List, length, Result, Ok, Err, OnOk}
 use Rattle.std.specs.List.{All, list_any}
-use Rattle.std.proofs.Common.{subst, sym}
+use Rattle.std.proofs.Common.{◌∙◌, subst, sym}
 use Rattle.rsvp_base.specs.declared.addr.Addr.{Addr}
 use Rattle.tree_model.specs.declared.hops.LinkHop.{LinkHop}
 use Rattle.tree_model.specs.declared.hops.TreeHop.{TreeHop}
 use Rattle.tree_model.specs.Networks.{Net}
 use Rattle.tree_model.specs.Trees.{Grows, IsGrownFrom, of_tree}
 use Rattle.network_model.specs.Events.{Reroutes}
+use Rattle.network_model.specs.Steps.{rerouted}
+use Rattle.tree_routing.specs.Reroutes.{RerouteAnswer}
+use Rattle.tree_routing.specs.declared.hop_err.HopErr.TheVariants as hop_err
 use Rattle.script_words.specs.Addresses.{addr_value}
 use Rattle.script_grammar.specs.Adds.{Adds}
 use Rattle.script_grammar.specs.Draft.{Draft, routing, with_hops}
-use Rattle.script_grammar.specs.Rules.{AreRoutesKnown, IsEnd, IsSource, Keeps, KeepsAll}
+use Rattle.script_grammar.specs.Rules.{AreRoutesKnown, most_hops, IsEnd, IsSource, Keeps, KeepsAll}
 use Rattle.script_grammar.specs.Values.{IsRerouteInRange, hop_values}
+use Rattle.script_grammar.specs.declared.fault.Fault.{Fault}
 use Rattle.script_grammar.specs.declared.fault.Fault.TheVariants as fault
 use Rattle.script_grammar.specs.declared.line.ScriptLine.TheVariants as line
 use Rattle.script_grammar.specs.declared.line.HopEnds.{HopEnds}
@@ -22,7 +26,8 @@ use Rattle.script_grammar.specs.declared.stop.Stop.{Stop}
 use Rattle.script_grammar.specs.declared.stop.Stop.TheVariants.{Bad, Crowded, NoMemory}
 use Rattle.script_state.specs.Refusals.{Refuses}
 use Rattle.script_rules.specs.Asking.{CanBeLookedUp, IsDeclared}
-use Rattle.script_rules.specs.TreeRefusals.{IsTreeRefused, moved_to}
+use Rattle.script_rules.specs.HopRefusals.{IsLoopNamed}
+use Rattle.script_rules.specs.TreeRefusals.{HasRoomForTree, IsTreeRefused, moved_to}
 
 -- ---- whether hops are a tree is asked of ends and links alone
 module _ (net : Net) (rs : List TreeHop) (s : Addr) where
@@ -61,6 +66,18 @@ looked_up d l s pairs in_range source_is pairs_are ends source = record {
   ends = subst (λ (xs : List HopEnds). All (IsDeclared d) xs) pairs_are ends;
   source = subst (λ (a : Addr). IsSource d a) source_is source;
 }
+
+-- ---- a closed chain, told by the names of the ends of its least hop
+pub tree_loop_named : (R : Type 0) (d : Draft) (net : Net) (g s : Addr) (hops : List LinkHop) (group : Addr) (from to : ℕ) → net ≡ routing d → length (rerouted net g s hops).hops ≤ most_hops
+    → RerouteAnswer {R = R} net g s hops (Err (hop_err.Loop group from to)) → (x : Fault) → IsLoopNamed d group (record { from = from; to = to }) x → IsTreeRefused d g s hops (Bad x)
+tree_loop_named R d net g s hops group from to is room answer x told =
+    by (subst (λ (n : Net). length (rerouted n g s hops).hops ≤ most_hops) is room) (subst (λ (n : Net). RerouteAnswer {R = R} n g s hops (Err (hop_err.Loop group from to))) is answer) x told
+  where
+    by : HasRoomForTree d g s hops → RerouteAnswer {R = R} (routing d) g s hops (Err (hop_err.Loop group from to)) → (x : Fault) → IsLoopNamed d group (record { from = from; to = to }) x
+        → IsTreeRefused d g s hops (Bad x)
+    by room answer (fault.Loop g' f t) told =
+        (room, answer.0, λ free. free answer.2.on.head answer.2.on.rest answer.2.on.closed, (told.0 ∙ answer.1, record { from = from; to = to }, answer.2, told.1))
+    by room answer why told = absurd told
 
 -- ---- a line that keeps the rules before those of trees
 module _ (d : Draft) (l : RerouteLine) (in_range : IsRerouteInRange l) (known : AreRoutesKnown d l) where

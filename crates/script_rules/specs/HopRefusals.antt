@@ -7,6 +7,7 @@ use Rattle.tree_model.specs.Ranks.{IsLoopFreeIn}
 use Rattle.tree_routing.specs.Answers.{Fits, with_hop}
 use Rattle.script_grammar.specs.Draft.{Draft}
 use Rattle.script_grammar.specs.Rules.{IsLoopOf, IsNamedHop}
+use Rattle.script_grammar.specs.declared.fault.Fault.{Fault}
 use Rattle.script_grammar.specs.declared.fault.Fault.TheVariants as fault
 use Rattle.script_grammar.specs.declared.stop.Stop.{Stop}
 use Rattle.script_grammar.specs.declared.stop.Stop.TheVariants.{Bad, Crowded, NoMemory}
@@ -19,9 +20,7 @@ IsHopRefused d r (Bad why) = ⊥
 IsHopRefused d r Crowded = ⊥
 IsHopRefused d r NoMemory = Unit {0}
 
--- the hop of the group by the names of its ends, where they have some
-abbrev pub IsLoopNamed : Draft → Addr → LinkHop → Stop → Type 0
-IsLoopNamed d group h (Bad (fault.Loop g from to)) = (g ≡ group) × IsNamedHop d from to h
-IsLoopNamed d group h (Bad why) = ⊥
-IsLoopNamed d group h Crowded = ⊥
-IsLoopNamed d group h NoMemory = Unit {0}
+-- the hop of the group by the names of its ends
+abbrev pub IsLoopNamed : Draft → Addr → LinkHop → Fault → Type 0
+IsLoopNamed d group h (fault.Loop g from to) = (g ≡ group) × IsNamedHop d from to h
+IsLoopNamed d group h why = ⊥

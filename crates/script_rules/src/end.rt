@@ -1,5 +1,5 @@
 //! The rules of `end`.
-ghost use Rattle.std.specs.Prelude.{◌≡◌, ◌+◌, ◌<◌, ◌≤◌, ◌↔◌, ◌++◌, ◌∷◌, [], Err, IfErr, IfSome, IsSome, None, OnOk, length};
+ghost use Rattle.std.specs.Prelude.{◌≡◌, ◌↔◌, ◌++◌, ◌∷◌, [], Err, IfErr, IfSome, IsSome, None, OnOk};
 ghost use Rattle.script_words.specs.Addresses.{addr_value};
 ghost use Rattle.tree_routing.specs.Answers.{TakesEnd, with_end};
 ghost use Rattle.script_state.specs.Said.{draft_of};
@@ -63,7 +63,7 @@ fn iface_of(line: &EndLine) -> Option<Iface>
     })
 }
 
-// Keeps an end of a new name.
+// Keeps an end of a new name. Where memory runs out before the end is there, its name is forgotten.
 fn declare(state: &mut ScriptState, name: EndName, end: End) -> Result<(), Stop>
     requires new { place_of state.old.names name ≡ None }
     requires takes { TakesEnd state.old.topology end }
@@ -71,20 +71,17 @@ fn declare(state: &mut ScriptState, name: EndName, end: End) -> Result<(), Stop>
     ensures ok { OnOk result (draft_of state.new ≡ record (draft_of state.old) { names = state.old.names ++ name ∷ []; net = with_end state.old.topology end }) }
     ensures refused { IfErr result OnlyNoMemory }
 {
-    let number = state.topology.add_end(end)?;
-    keep_name(state, name, number)
-}
-
-// Keeps the name of the last end.
-fn keep_name(state: &mut ScriptState, name: EndName, number: u16) -> Result<(), Stop>
-    requires new { place_of state.old.names name ≡ None }
-    requires number { length state.old.names ≤ number }
-    requires there { number < length state.old.topology.ends }
-    ensures ok { OnOk result (draft_of state.new ≡ record (draft_of state.old) { names = state.old.names ++ name ∷ [] }) }
-    ensures refused { IfErr result OnlyNoMemory }
-{
+    let count = state.names.len();
     state.end_names.reserve(1)?;
     state.names.add(state.alloc, name.bytes())?;
-    let _ = state.end_names.push(name);
-    Ok(())
+    match state.topology.add_end(end) {
+        Ok(_number) => {
+            let _ = state.end_names.push(name);
+            Ok(())
+        }
+        Err(_) => {
+            state.names.keep_first(count);
+            Err(Stop::NoMemory)
+        }
+    }
 }

@@ -82,23 +82,23 @@ fn grow(state: &mut ScriptState, hop: TreeHop) -> Result<(), Stop>
     match state.topology.add_hop(group, source, hop.from, hop.to) {
         Ok(()) => Ok(()),
         Err(HopErr::NotTree) => Err(Stop::Bad(Fault::NotTree)),
-        Err(HopErr::Loop { group, from, to }) => Err(closed(state, group, LinkHop { from, to })),
+        Err(HopErr::Loop { group, from, to }) => {
+            Err(Stop::Bad(closed(state, group, LinkHop { from, to })))
+        }
         Err(HopErr::NoMemory) => Err(Stop::NoMemory),
     }
 }
 
-/// The fault of a loop on which this hop is the least, by the names of its ends. Where memory ran out before, an end may be
-/// without one.
-pub fn closed(state: &ScriptState, group: Addr, hop: LinkHop) -> Stop
+/// The fault of a loop on which this hop is the least, by the names of its ends.
+pub fn closed(state: &ScriptState, group: Addr, hop: LinkHop) -> Fault
+    requires from { hop.from < length state.now.topology.ends }
+    requires to { hop.to < length state.now.topology.ends }
     ensures { IsLoopNamed (draft_of state.now) group hop result }
 {
     let names = state.end_names.as_slice();
-    match (names.get(hop.from as usize), names.get(hop.to as usize)) {
-        (Some(from), Some(to)) => Stop::Bad(Fault::Loop {
-            group,
-            from: from.copy(),
-            to: to.copy(),
-        }),
-        _ => Stop::NoMemory,
+    Fault::Loop {
+        group,
+        from: names[hop.from as usize].copy(),
+        to: names[hop.to as usize].copy(),
     }
 }

@@ -131,10 +131,14 @@ fn moved(
     if !routing.has_room_for_tree(group, source, hops) {
         return Err(Stop::Bad(Fault::Limit));
     }
+    // The proof sees here that the ends of its hops are there.
+    let _nodes = routing.nodes();
     match routing.reroute(group, source, hops) {
         Ok(routing) => Ok(routing),
         Err(HopErr::NotTree) => Err(Stop::Bad(Fault::NotTree)),
-        Err(HopErr::Loop { group, from, to }) => Err(closed(state, group, LinkHop { from, to })),
+        Err(HopErr::Loop { group, from, to }) => {
+            Err(Stop::Bad(closed(state, group, LinkHop { from, to })))
+        }
         Err(HopErr::NoMemory) => Err(Stop::NoMemory),
     }
 }

@@ -1,5 +1,5 @@
 //! Names, numbered in the order in which they were declared.
-ghost use Rattle.std.specs.Prelude.{◌≡◌, ◌<◌, ◌∷◌, ◌++◌, [], IfSome, None, OnErr, OnOk, length};
+ghost use Rattle.std.specs.Prelude.{◌≡◌, ◌<◌, ◌∷◌, ◌++◌, [], IfSome, None, OnErr, OnOk, length, take};
 ghost use Rattle.script_grammar.specs.Draft.{place_of};
 
 use indexmap::IndexSet;
@@ -54,5 +54,12 @@ impl NameTable {
         let name = name.to_vec(alloc)?;
         self.names.insert(name)?;
         Ok(())
+    }
+
+    /// Keeps the first names, so many, and forgets the others.
+    pub fn keep_first(&mut self, count: usize)
+        ensures { self.new ≡ take count self.old }
+    {
+        self.names.truncate(count);
     }
 }

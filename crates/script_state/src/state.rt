@@ -64,8 +64,8 @@ pub struct ScriptState {
     pub ghost counted: { reports ≡ count_by is_report (map event_of events.items) },
     pub ghost few_reports: { reports ≤ 16 },
     pub ghost of_net: { ForSome force (λ routing. IsOfNet topology routing) },
-    // Each name is that of an end. Where memory ran out, the last end may be without one.
-    pub ghost ends_there: { length names ≤ length topology.ends },
+    // Each end has a name.
+    pub ghost ends_there: { length names ≡ length topology.ends },
     pub ghost few_names: { length names ≤ 65536 },
     pub ghost same_names: { names ≡ end_names.items },
     // Where memory ran out, what is left over may have a place for one node more.

@@ -1,4 +1,4 @@
-use Rattle.std.proofs.Common.{◌≡◌, ◌≤◌, List, ℕ, [], length, sym, ap, subst, ◌∙◌}
+use Rattle.std.proofs.Common.{◌≡◌, ◌≤◌, List, ℕ, [], length, sym, ap, subst, ◌∙◌, arith}
 use Rattle.rsvp_base.specs.Members.{In}
 use Rattle.tree_model.proofs.TreeLaws.{true_false}
 use Rattle.script_state.specs.Listed.{IsOfEnds}
@@ -59,12 +59,13 @@ add_link_of-requires c =
     let d = draft_of c.args.state.now in
     let es = c.as_slice-4.ensures.value ∙ c.numbers-ends.ensures ∙ ap (link_value d) c.as_slice-3.ensures.names in
     let last = c.as_slice-5.ensures.value ∙ c.numbers-ends.ensures ∙ ap (link_value d) c.as_slice-3.ensures.names in
+    let ends = c.args.state.now.ends_there in
     subst (λ (xs : List ℕ). TakesLink d.net xs) (sym last)
     (takes d c.args.names (subst (λ (xs : List (List ℕ)). 2 ≤ length xs) c.as_slice.ensures.names c.as_slice.ensures.some)
     (subst (λ (xs : List (List ℕ)). length xs ≤ 8) c.as_slice.ensures.names c.as_slice.ensures.few)
     (sym (c.are_apart.ensures ∙ ap (are_apart d) c.as_slice.ensures.names) ∙ c.if-not-are_apart.false)
     (sym (c.are_known.ensures ∙ ap (list_all (is_known d)) c.as_slice-2.ensures.names) ∙ c.if-not-are_known.false)
-    c.args.state.now.ends_there
+    (omega (arith, ends))
     (λ e i. c.are_in_no_link.ensures.0 c.if-not-are_in_no_link.false e (subst (λ (xs : List ℕ). In e xs) (sym es) i))
     (c.has_room_for_link.ensures.0 c.if-not-has_room_for_link.false))
 
@@ -119,3 +120,9 @@ invariant_of-state-clause-left_there c =
     let old = c.args.state.now in
     subst (λ (ends : List End). IsOfEnds ends old.left)
     (sym (ends_kept c.add_link_of.result old.topology c.add_link_of.new.self c.as_slice-5.result.now c.add_link_of.ensures.ok c.add_link_of.ensures.err)) old.left_there
+
+pub invariant_of-state-clause-ends_there : goal.invariant_of-state-clause-ends_there
+invariant_of-state-clause-ends_there c =
+    let old = c.args.state.now in
+    old.ends_there
+    ∙ sym (ap (λ (ends : List End). length ends) (ends_kept c.add_link_of.result old.topology c.add_link_of.new.self c.as_slice-5.result.now c.add_link_of.ensures.ok c.add_link_of.ensures.err))
