@@ -1,3 +1,5 @@
+mod Digits
+mod ListRanges
 pub mod FoundFaults
 pub mod Happening
 pub mod Lifetimes

@@ -1,21 +1,20 @@
 //! Fields of lines: the form and the range of each.
-ghost use Rattle.std.specs.Prelude.{◌≡◌, ◌↔◌, ◌<◌, IfOk, IfSome, IsTrue, is_some};
-ghost use Rattle.std.specs.List.{All};
+ghost use Rattle.std.specs.Prelude.{◌≡◌, ◌↔◌, ◌<◌, IfSome, IsTrue, is_some};
+ghost use Rattle.std.specs.List.{All, list_all};
+ghost use Rattle.hex.specs.Hex.{is_hex_digit};
 ghost use Rattle.script_words.specs.Addresses.{IsAddr, quad_of, quads_of};
 ghost use Rattle.script_words.specs.Flows.{IsFlow, flow_of};
 ghost use Rattle.script_words.specs.Numbers.{number_of};
+ghost use Rattle.script_words.specs.Parts.{parts_of};
 ghost use Rattle.script_words.specs.Sessions.{IsSender, IsSession, sender_of, senders_of, session_of};
 ghost use Rattle.script_grammar.specs.LineKinds.{bytes_of};
 ghost use Rattle.script_grammar.specs.Values.{IsFrom1To, IsPeriod, IsSub};
 ghost use Rattle.script_grammar.specs.Fields.{IsGroupWord, IsHostWord, IsInRange, has_form};
 
-use hex::{FromHexError, decode};
-use rsvp_base::{EndName, NoMemory};
+use rsvp_base::EndName;
 use script_words::{
-    DottedQuad, FlowWord, SenderWord, SessionWord, Unread, addresses, is_group, is_host, number,
-    senders, style,
+    DottedQuad, FlowWord, SenderWord, SessionWord, first_part, is_group, is_host, number, style,
 };
-use std::alloc::Global;
 
 /// A field of a line: what one of its words says.
 #[derive(Clone, Copy)]
@@ -71,110 +70,126 @@ pub enum Field {
 }
 
 impl Field {
-    /// Whether a word has the form of this field. `NoMemory`: there was no room for what it lists.
-    pub fn has_form(self, alloc: Global, word: &[u8]) -> Result<bool, NoMemory>
-        ensures { IfOk result (λ b. b ≡ has_form self word.now) }
+    /// Whether a word has the form of this field.
+    pub fn has_form(self, word: &[u8]) -> bool
+        ensures { result ≡ has_form self word.now }
     {
         match self {
-            Field::Name => Ok(EndName::of(word).is_some()),
-            Field::Host => Ok(DottedQuad::of(word).is_some()),
-            Field::Group => Ok(DottedQuad::of(word).is_some()),
-            Field::Address => Ok(DottedQuad::of(word).is_some()),
-            Field::Session => Ok(SessionWord::of(word).is_some()),
-            Field::Sender => Ok(SenderWord::of(word).is_some()),
-            Field::Senders => are_senders(alloc, word),
-            Field::Addresses => are_addresses(alloc, word),
-            Field::Anyone => Ok(*word == *b"*".as_slice()),
-            Field::Style => Ok(style(word).is_some()),
-            Field::Flow => Ok(FlowWord::of(word).is_some()),
-            Field::Target => Ok(*word == *b"hop".as_slice() || *word == *b"sender".as_slice()),
-            Field::Switch => Ok(*word == *b"on".as_slice() || *word == *b"off".as_slice()),
-            Field::Digits => are_bytes(alloc, word),
-            Field::Confirm => Ok(*word == *b"confirm".as_slice()),
-            Field::Period => Ok(number(word).is_some()),
-            Field::Seed => Ok(number(word).is_some()),
-            Field::Capacity => Ok(number(word).is_some()),
-            Field::Mtu => Ok(number(word).is_some()),
-            Field::Left => Ok(number(word).is_some()),
-            Field::WallLeft => Ok(number(word).is_some()),
-            Field::Sub => Ok(number(word).is_some()),
-            Field::Wait => Ok(number(word).is_some()),
-            Field::Passes => Ok(number(word).is_some()),
-            Field::Rounds => Ok(number(word).is_some()),
-            Field::Place => Ok(number(word).is_some()),
+            Field::Name => EndName::of(word).is_some(),
+            Field::Host => DottedQuad::of(word).is_some(),
+            Field::Group => DottedQuad::of(word).is_some(),
+            Field::Address => DottedQuad::of(word).is_some(),
+            Field::Session => SessionWord::of(word).is_some(),
+            Field::Sender => SenderWord::of(word).is_some(),
+            Field::Senders => are_senders(word),
+            Field::Addresses => are_addresses(word),
+            Field::Anyone => *word == *b"*".as_slice(),
+            Field::Style => style(word).is_some(),
+            Field::Flow => FlowWord::of(word).is_some(),
+            Field::Target => *word == *b"hop".as_slice() || *word == *b"sender".as_slice(),
+            Field::Switch => *word == *b"on".as_slice() || *word == *b"off".as_slice(),
+            Field::Digits => are_bytes(word),
+            Field::Confirm => *word == *b"confirm".as_slice(),
+            Field::Period => number(word).is_some(),
+            Field::Seed => number(word).is_some(),
+            Field::Capacity => number(word).is_some(),
+            Field::Mtu => number(word).is_some(),
+            Field::Left => number(word).is_some(),
+            Field::WallLeft => number(word).is_some(),
+            Field::Sub => number(word).is_some(),
+            Field::Wait => number(word).is_some(),
+            Field::Passes => number(word).is_some(),
+            Field::Rounds => number(word).is_some(),
+            Field::Place => number(word).is_some(),
         }
     }
 
-    /// Whether what a word says is in the range of this field, where the refresh period is this, in milliseconds. `NoMemory`:
-    /// there was no room for what it lists.
-    pub fn is_in_range(self, alloc: Global, period: u32, word: &[u8]) -> Result<bool, NoMemory>
-        ensures { IfOk result (λ b. IsTrue b ↔ IsInRange period self word.now) }
+    /// Whether what a word says is in the range of this field, where the refresh period is this, in milliseconds.
+    pub fn is_in_range(self, period: u32, word: &[u8]) -> bool
+        ensures { IsTrue result ↔ IsInRange period self word.now }
     {
         match self {
-            Field::Period => Ok(is_period(word)),
-            Field::Seed => Ok(is_below(word, 1 << 64)),
-            Field::Host => Ok(is_host_word(word)),
-            Field::Capacity => Ok(is_below(word, 1 << 46)),
-            Field::Mtu => Ok(is_from_1_to(word, 65_535)),
-            Field::Group => Ok(is_group_word(word)),
-            Field::Address => Ok(is_address(word)),
-            Field::Session => Ok(is_session(word)),
-            Field::Sender => Ok(is_sender(word)),
-            Field::Senders => are_senders_in_range(alloc, word),
-            Field::Addresses => are_addresses_in_range(alloc, word),
-            Field::Flow => Ok(is_flow(word)),
-            Field::Left => Ok(is_from_1_to(word, 21 * (u128::from(period) / 4))),
-            Field::WallLeft => Ok(is_from_1_to(word, 4 * u128::from(period))),
-            Field::Sub => Ok(is_sub(word)),
-            Field::Wait => Ok(is_from_1_to(word, 3_600_000)),
-            Field::Passes => Ok(is_from_1_to(word, 1000)),
-            Field::Rounds => Ok(is_from_1_to(word, 10_000)),
-            Field::Place => Ok(is_from_1_to(word, 8192)),
-            Field::Name => Ok(true),
-            Field::Anyone => Ok(true),
-            Field::Style => Ok(true),
-            Field::Target => Ok(true),
-            Field::Switch => Ok(true),
-            Field::Digits => Ok(true),
-            Field::Confirm => Ok(true),
+            Field::Period => is_period(word),
+            Field::Seed => is_below(word, 1 << 64),
+            Field::Host => is_host_word(word),
+            Field::Capacity => is_below(word, 1 << 46),
+            Field::Mtu => is_from_1_to(word, 65_535),
+            Field::Group => is_group_word(word),
+            Field::Address => is_address(word),
+            Field::Session => is_session(word),
+            Field::Sender => is_sender(word),
+            Field::Senders => are_senders_in_range(word),
+            Field::Addresses => are_addresses_in_range(word),
+            Field::Flow => is_flow(word),
+            Field::Left => is_from_1_to(word, 21 * (u128::from(period) / 4)),
+            Field::WallLeft => is_from_1_to(word, 4 * u128::from(period)),
+            Field::Sub => is_sub(word),
+            Field::Wait => is_from_1_to(word, 3_600_000),
+            Field::Passes => is_from_1_to(word, 1000),
+            Field::Rounds => is_from_1_to(word, 10_000),
+            Field::Place => is_from_1_to(word, 8192),
+            Field::Name => true,
+            Field::Anyone => true,
+            Field::Style => true,
+            Field::Target => true,
+            Field::Switch => true,
+            Field::Digits => true,
+            Field::Confirm => true,
         }
     }
 }
 
 // ---- forms of lists
-fn are_senders(alloc: Global, word: &[u8]) -> Result<bool, NoMemory>
-    ensures { IfOk result (λ b. b ≡ is_some (senders_of word.now)) }
+fn are_senders(word: &[u8]) -> bool
+    ensures { result ≡ is_some (senders_of word.now) }
 {
-    match senders(alloc, word) {
-        Ok(_) => Ok(true),
-        Err(Unread::Word) => Ok(false),
-        Err(Unread::NoMemory) => Err(NoMemory),
+    match first_part(word, b',') {
+        None => SenderWord::of(word).is_some(),
+        Some((first, behind)) => SenderWord::of(first).is_some() && are_senders(behind),
     }
 }
 
-fn are_addresses(alloc: Global, word: &[u8]) -> Result<bool, NoMemory>
-    ensures { IfOk result (λ b. b ≡ is_some (quads_of word.now)) }
+fn are_addresses(word: &[u8]) -> bool
+    ensures { result ≡ is_some (quads_of word.now) }
 {
-    match addresses(alloc, word) {
-        Ok(_) => Ok(true),
-        Err(Unread::Word) => Ok(false),
-        Err(Unread::NoMemory) => Err(NoMemory),
+    match first_part(word, b',') {
+        None => DottedQuad::of(word).is_some(),
+        Some((first, behind)) => DottedQuad::of(first).is_some() && are_addresses(behind),
     }
 }
 
-fn are_bytes(alloc: Global, digits: &[u8]) -> Result<bool, NoMemory>
-    ensures { IfOk result (λ b. b ≡ is_some (bytes_of digits.now)) }
+#[tactic(auto, using(crate::proofs::Digits::none_of_none, crate::proofs::Digits::no_bytes, crate::proofs::Digits::some_bytes_of))]
+fn are_bytes(digits: &[u8]) -> bool
+    ensures { result ≡ is_some (bytes_of digits.now) }
 {
-    match decode(alloc, digits) {
-        Ok(bytes) => {
-            if bytes.is_empty() {
-                return Ok(false);
-            }
-            Ok(true)
-        }
-        Err(FromHexError::OutOfMemory) => Err(NoMemory),
-        Err(_) => Ok(false),
+    if digits.is_empty() {
+        return false;
     }
+    if digits.len() % 2 != 0 {
+        return false;
+    }
+    are_hex_digits(digits)
+}
+
+fn are_hex_digits(digits: &[u8]) -> bool
+    ensures { result ≡ list_all is_hex_digit digits.now }
+{
+    digits.iter().all(|c| is_hex_digit(*c))
+}
+
+fn is_hex_digit(c: u8) -> bool
+    ensures { result ≡ is_hex_digit c }
+{
+    if b'A' <= c && c <= b'F' {
+        return true;
+    }
+    if b'a' <= c && c <= b'f' {
+        return true;
+    }
+    if b'0' <= c && c <= b'9' {
+        return true;
+    }
+    false
 }
 
 // ---- ranges: what is no word of the form is in range
@@ -274,40 +289,35 @@ fn is_flow(word: &[u8]) -> bool
     }
 }
 
-fn are_senders_in_range(alloc: Global, word: &[u8]) -> Result<bool, NoMemory>
-    ensures { IfOk result (λ b. IsTrue b ↔ IfSome (senders_of word.now) (All IsSender)) }
+#[tactic(auto, using(crate::proofs::ListRanges::senders_in_range))]
+fn are_senders_in_range(word: &[u8]) -> bool
+    ensures { IsTrue result ↔ IfSome (senders_of word.now) (All IsSender) }
 {
-    match senders(alloc, word) {
-        Ok(senders) => Ok(are_in_range(senders.as_slice())),
-        Err(Unread::Word) => Ok(true),
-        Err(Unread::NoMemory) => Err(NoMemory),
+    !are_senders(word) || each_is_sender(word)
+}
+
+// Whether each part is in range.
+fn each_is_sender(word: &[u8]) -> bool
+    ensures { IsTrue result ↔ All (λ w. IfSome (sender_of w) IsSender) (parts_of 44 word.now) }
+{
+    match first_part(word, b',') {
+        None => is_sender(word),
+        Some((first, behind)) => is_sender(first) && each_is_sender(behind),
     }
 }
 
-fn are_in_range(senders: &[SenderWord]) -> bool
-    ensures { IsTrue result ↔ All IsSender senders.now }
+#[tactic(auto, using(crate::proofs::ListRanges::addresses_in_range))]
+fn are_addresses_in_range(word: &[u8]) -> bool
+    ensures { IsTrue result ↔ IfSome (quads_of word.now) (All IsAddr) }
 {
-    match senders {
-        [] => true,
-        [first, others @ ..] => first.sender().is_some() && are_in_range(others),
-    }
+    !are_addresses(word) || each_is_address(word)
 }
 
-fn are_addresses_in_range(alloc: Global, word: &[u8]) -> Result<bool, NoMemory>
-    ensures { IfOk result (λ b. IsTrue b ↔ IfSome (quads_of word.now) (All IsAddr)) }
+fn each_is_address(word: &[u8]) -> bool
+    ensures { IsTrue result ↔ All (λ w. IfSome (quad_of w) IsAddr) (parts_of 44 word.now) }
 {
-    match addresses(alloc, word) {
-        Ok(quads) => Ok(are_addrs(quads.as_slice())),
-        Err(Unread::Word) => Ok(true),
-        Err(Unread::NoMemory) => Err(NoMemory),
-    }
-}
-
-fn are_addrs(quads: &[DottedQuad]) -> bool
-    ensures { IsTrue result ↔ All IsAddr quads.now }
-{
-    match quads {
-        [] => true,
-        [first, others @ ..] => first.addr().is_some() && are_addrs(others),
+    match first_part(word, b',') {
+        None => is_address(word),
+        Some((first, behind)) => is_address(first) && each_is_address(behind),
     }
 }

@@ -6,7 +6,6 @@
 #![tactic(auto)]
 
 mod fault;
-mod few_words;
 mod field;
 mod first_words;
 mod kind;
@@ -18,6 +17,7 @@ mod list;
 mod named;
 pub mod rows;
 mod stop;
+mod word_list;
 
 pub use fault::Fault;
 pub use field::Field;
@@ -31,3 +31,4 @@ pub use line_kinds::read_line;
 pub use list::{LinkEnds, Listed};
 pub use named::Named;
 pub use stop::Stop;
+pub use word_list::few_words;

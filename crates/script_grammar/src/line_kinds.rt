@@ -10,8 +10,8 @@ mod happens;
 mod left_over;
 mod lists;
 
-use crate::few_words::few_words;
 use crate::line::ScriptLine;
+use crate::word_list::few_words;
 use arrayvec::ArrayVec;
 use declared::{end_line, hop_line, link_line, node_line, period_line, seed_line};
 use happens::{

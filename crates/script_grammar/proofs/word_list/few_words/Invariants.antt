@@ -1,6 +1,6 @@
 use Rattle.std.proofs.Common.{◌≡◌, ◌++◌, ◌≤◌, map, length}
 use Rattle.script_words.specs.Words.{words_of}
-use Rattle.script_grammar.proofs.few_words.few_words.Given as goal
+use Rattle.script_grammar.proofs.word_list.few_words.Given as goal
 
 -- the words so far and those of the rest are the words of the line
 abbrev pub invariant-loop-part : goal.invariant-loop-part

@@ -7,10 +7,7 @@ use script_words::first_part;
 
 /// Makes an empty list the words of a line, in order, where it has at most `N`: whether it has. Of a line that has more the list holds
 /// the first `N`.
-pub(crate) fn few_words<'a, const N: usize>(
-    line: &'a [u8],
-    words: &mut ArrayVec<&'a [u8], N>,
-) -> bool
+pub fn few_words<'a, const N: usize>(line: &'a [u8], words: &mut ArrayVec<&'a [u8], N>) -> bool
     requires { words.old.items ≡ [] }
     ensures few { IsTrue result ↔ length (words_of line.now) ≤ N }
     ensures words { IsTrue result → map (λ w. w.now) words.new.items ≡ words_of line.now }
