@@ -1,3 +1,6 @@
 mod Misread
 mod Advising
+mod Asked
+mod FewWords
 mod OutOf
+mod Short

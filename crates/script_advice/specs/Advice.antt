@@ -1,11 +1,14 @@
 -- The line of text that says what is wrong with a line.
-use Rattle.std.specs.Prelude.{◌≡◌, ◌⊎◌, ℕ, List, [], ◌++◌, Option, None, Some, codes}
+use Rattle.std.specs.Prelude.{◌≡◌, ℕ, List, [], ◌++◌, Option, None, Some, Result, Ok, Err, codes}
 use Rattle.std.specs.Fmt.{decimal}
+use Rattle.rsvp_base.specs.declared.room.NoMemory.{NoMemory}
+use Rattle.script_grammar.specs.Asking.{AsksToBeTaken}
 use Rattle.script_grammar.specs.Draft.{Draft}
-use Rattle.script_grammar.specs.Grammar.{IsBadLine}
+use Rattle.script_grammar.specs.Grammar.{HasFault, IsBadLine}
 use Rattle.network_model.specs.declared.excess.Excess.{Excess}
 use Rattle.network_model.specs.declared.excess.Excess.TheVariants.{Packet, Rate}
 use Rattle.script_grammar.specs.declared.fault.Fault.{Fault}
+use Rattle.line_advice.specs.Blamed.{blamed_line}
 use Rattle.line_advice.specs.FlowTexts.{flow_fault_text}
 use Rattle.script_advice.specs.Blames.{IsBlamed}
 use Rattle.script_advice.specs.FieldTexts.{form_text, range_text}
@@ -13,7 +16,6 @@ use Rattle.script_advice.specs.KindTexts.{first_text, usage_text}
 use Rattle.script_advice.specs.Known.{named_text}
 use Rattle.script_advice.specs.RuleTexts.{rule_word, rule_text}
 use Rattle.script_advice.specs.TreeBlames.{hop_text}
-use Rattle.value_texts.specs.Blamed.{blamed_line}
 use Rattle.script_advice.specs.declared.blame.Blame.{Blame}
 use Rattle.value_texts.specs.Texts.{style_text}
 use Rattle.script_advice.specs.declared.blame.Blame.TheVariants.{Returns, First, Comment, Count, Form, Range, Flow, Unknown, Linked, Styled, Over, Long, Hop, Rule}
@@ -75,14 +77,16 @@ number_of_word (Rule rule kind) = rule_word rule kind
 abbrev pub advice_text : List ℕ → Blame → List ℕ
 advice_text line blame = blamed_line line (number_of_word blame) (wanted_text blame)
 
--- what is to blame was told; or nothing was, since memory ran out
-pub record IsTold (d : Draft) (line : List ℕ) (why : Fault) (text : List ℕ) : Type 0 where
+-- this tells what is to blame
+pub record IsAdvice (d : Draft) (line : List ℕ) (why : Fault) (text : List ℕ) : Type 0 where
   pub blame : Blame
   pub blamed : IsBlamed d line why blame
   pub told : text ≡ advice_text line blame
 
-abbrev pub IsAdvice : Draft → List ℕ → Fault → List ℕ → Type 0
-IsAdvice d line why text = (text ≡ []) ⊎ IsTold d line why text
+-- this does, or nothing was told: memory for it ran out, and a line that has this fault asks for memory
+abbrev pub IsAdviceOrNone : Draft → List ℕ → Fault → Result (Unit {0}) NoMemory → List ℕ → Type 0
+IsAdviceOrNone d line why (Ok _) text = IsAdvice d line why text
+IsAdviceOrNone d line why (Err _) text = (text ≡ []) × (HasFault d line why → AsksToBeTaken d line)
 
 -- the line of this number of these bytes is the first bad one, and what is wrong with it was told
 pub record IsToldLine (number : ℕ) (why : Fault) (bytes text : List ℕ) : Type 0 where

@@ -7,7 +7,9 @@ use Rattle.tree_routing.specs.HopFaults.{IsHopFault, IsTreeFault}
 use Rattle.tree_routing.specs.declared.hop_faults.HopFault.{HopFault}
 use Rattle.tree_routing.specs.declared.hop_faults.HopFault.TheVariants.{NoLink, Early, Reversed, Twice, OtherEnd}
 use Rattle.script_grammar.specs.Draft.{Draft}
+use Rattle.script_grammar.specs.Rules.{BreaksFirst, Closes, Exceeds, Keeps}
 use Rattle.script_grammar.specs.Values.{hop_value}
+use Rattle.script_grammar.specs.declared.fault.Fault.TheVariants.{NotTree}
 use Rattle.script_grammar.specs.declared.line.HopEnds.{HopEnds}
 use Rattle.script_grammar.specs.declared.line.ScriptLine.{ScriptLine}
 use Rattle.script_grammar.specs.declared.line.ScriptLine.TheVariants as line
@@ -45,6 +47,10 @@ IsTreeBlame d (Some (line.Hop l)) blame =
 IsTreeBlame d (Some (line.Reroute l)) blame =
     (place : ℕ) × ((why : HopFault) × IsTreeFault d.net (addr_value l.source) (each (hop_value d) l.hops) place why × (blame ≡ hop_blame (first_end place) why))
 IsTreeBlame d _ blame = ⊥
+
+-- the first rule that it breaks is that of trees
+abbrev pub BreaksTree : Draft → ScriptLine → Type 0
+BreaksTree d said = BreaksFirst (Keeps d said) (Exceeds d said) (Closes d said) NotTree
 
 -- ---- what is said of it
 abbrev pub hop_text : HopFault → List ℕ

@@ -1,26 +1,29 @@
 //! The line of text that tells what is wrong with a line.
-ghost use Rattle.std.specs.Prelude.{◌≡◌, ◌<◌, ◌++◌, ℕ, List, OnOk, length};
+ghost use Rattle.std.specs.Prelude.{◌≡◌, ◌<◌, ◌≤◌, ◌++◌, ℕ, List, OnErr, OnOk, length, vec_capacity};
 ghost use Rattle.std.specs.Fmt.{decimal};
 ghost use Rattle.script_grammar.specs.Draft.{Draft};
 ghost use Rattle.script_grammar.specs.Grammar.{most_line};
 ghost use Rattle.script_grammar.specs.declared.fault.Fault.{Fault as AFault};
-ghost use Rattle.script_advice.specs.Advice.{IsAdvice, capacity_head, excess_text, excess_word, number_of_word, style_head, sum_head, wanted_text};
+ghost use Rattle.line_advice.specs.Blamed.{most_advice};
+ghost use Rattle.value_texts.specs.Texts.{style_text};
+ghost use Rattle.script_advice.specs.Advice.{IsAdvice, IsAdviceOrNone, capacity_head, excess_text, excess_word, number_of_word, style_head, sum_head, wanted_text};
 
 use crate::blame::{Blame, find_blame};
 use crate::known::{LinesBefore, named_text};
 use crate::texts::{first_text, form_text, put_range, rule_text, rule_word, usage_text};
 use crate::tree_blames::hop_text;
+use crate::wanted::wanted_is_short;
 use itoa::Buffer;
-use line_advice::put_flow_fault;
+use line_advice::{Blames, put_blamed_line, put_flow_fault};
 use network_model::Excess;
-use rsvp_base::NoMemory;
+use rsvp_base::{NoMemory, StyleKind};
 use script_grammar::Fault;
 use std::alloc::Global;
-use value_texts::{Blames, put, put_blamed_line, put_number, put_style};
+use value_texts::{put, put_number, put_style};
 
-/// Makes `advice` the text that tells what is wrong with a line that has this fault, without a line feed: two spaces, the column
-/// and the word that is to blame, if it is one, and what is wanted. `before` are the lines before. Where memory runs out, `advice` is
-/// empty.
+/// Makes `advice`, for which there is room, the text that tells what is wrong with a line that has this fault, without a line feed: two
+/// spaces, the column and the word that is to blame, if it is one, and what is wanted. `before` are the lines before. `NoMemory`, of a
+/// line that has this fault only where it asks for memory: there was no room to look at them, and `advice` is empty.
 #[tactic(auto, using(crate::proofs::Advising::advice_so))]
 pub fn put_advice<B: LinesBefore>(
     alloc: Global,
@@ -28,17 +31,26 @@ pub fn put_advice<B: LinesBefore>(
     line: &[u8],
     why: &Fault,
     advice: &mut Vec<u8>,
-)
-    ensures { IsAdvice (B.lines before.now) line.now why.now advice.new.items }
+) -> Result<(), NoMemory>
+    requires room { most_advice ≤ vec_capacity advice.old }
+    ensures { IsAdviceOrNone (B.lines before.now) line.now why.now result advice.new.items }
 {
     match find_blame(alloc, before, line, why) {
-        Some(blame) => put_blamed_line(advice, line, &blame),
-        None => advice.clear(),
+        Some(blame) => {
+            put_blamed_line(advice, line, &blame);
+            Ok(())
+        }
+        None => {
+            advice.clear();
+            Err(NoMemory)
+        }
     }
 }
 
 /// The same of a line of more than 2,048 bytes, whatever these are.
+#[tactic(auto, using(crate::proofs::Advising::long_so))]
 pub fn put_long(advice: &mut Vec<u8>)
+    requires room { most_advice ≤ vec_capacity advice.old }
     ensures { (d : Draft) (line : List ℕ) (why : AFault) → most_line < length line → IsAdvice d line why advice.new.items }
 {
     put_blamed_line(advice, b"", &Blame::Long)
@@ -55,6 +67,10 @@ impl Blames for Blame {
         number_of_word(*self)
     }
 
+    fn is_short(&self) {
+        wanted_is_short(*self)
+    }
+
     fn put_wanted(&self, out: &mut Vec<u8>) -> Result<(), NoMemory> {
         put_wanted(out, *self)
     }
@@ -62,7 +78,9 @@ impl Blames for Blame {
 
 // Appends what is wanted.
 fn put_wanted(out: &mut Vec<u8>, blame: Blame) -> Result<(), NoMemory>
-    ensures { OnOk result (out.new.items ≡ out.old.items ++ wanted_text blame) }
+    ensures text { OnOk result (out.new.items ≡ out.old.items ++ wanted_text blame) }
+    ensures full { OnErr result (vec_capacity out.old < length (out.old.items ++ wanted_text blame)) }
+    ensures kept { vec_capacity out.old ≤ vec_capacity out.new }
 {
     match blame {
         Blame::Returns => put(
@@ -87,10 +105,7 @@ fn put_wanted(out: &mut Vec<u8>, blame: Blame) -> Result<(), NoMemory>
             out,
             b"an end is in one link at most, and an earlier line has this one",
         ),
-        Blame::Styled(style) => {
-            put(out, style_head())?;
-            put_style(out, style)
-        }
+        Blame::Styled(style) => put_styled(out, style),
         Blame::Over(much) => put_excess(out, much),
         Blame::Long => put(
             out,
@@ -101,9 +116,21 @@ fn put_wanted(out: &mut Vec<u8>, blame: Blame) -> Result<(), NoMemory>
     }
 }
 
+// Appends what style stands.
+fn put_styled(out: &mut Vec<u8>, style: StyleKind) -> Result<(), NoMemory>
+    ensures text { OnOk result (out.new.items ≡ out.old.items ++ (style_head ++ style_text style)) }
+    ensures full { OnErr result (vec_capacity out.old < length (out.old.items ++ (style_head ++ style_text style))) }
+    ensures kept { vec_capacity out.old ≤ vec_capacity out.new }
+{
+    put(out, style_head())?;
+    put_style(out, style)
+}
+
 // Appends what an end has, and where it is a capacity, what is asked of it.
 fn put_excess(out: &mut Vec<u8>, much: Excess) -> Result<(), NoMemory>
-    ensures { OnOk result (out.new.items ≡ out.old.items ++ excess_text much) }
+    ensures text { OnOk result (out.new.items ≡ out.old.items ++ excess_text much) }
+    ensures full { OnErr result (vec_capacity out.old < length (out.old.items ++ excess_text much)) }
+    ensures kept { vec_capacity out.old ≤ vec_capacity out.new }
 {
     match much {
         Excess::Packet { most: _, mtu } => {
@@ -121,7 +148,9 @@ fn put_excess(out: &mut Vec<u8>, much: Excess) -> Result<(), NoMemory>
 
 // Appends a sum in decimal digits.
 fn put_sum(out: &mut Vec<u8>, sum: u128) -> Result<(), NoMemory>
-    ensures { OnOk result (out.new.items ≡ out.old.items ++ decimal sum) }
+    ensures text { OnOk result (out.new.items ≡ out.old.items ++ decimal sum) }
+    ensures full { OnErr result (vec_capacity out.old < length (out.old.items ++ decimal sum)) }
+    ensures kept { vec_capacity out.old ≤ vec_capacity out.new }
 {
     let mut buffer = Buffer::new();
     put(out, buffer.format(sum).as_bytes())

@@ -1,8 +1,11 @@
 //! What of a bad line breaks the rule.
-ghost use Rattle.std.specs.Prelude.{◌≡◌, ◌<◌, IfSome, Some, length, map};
+ghost use Rattle.std.specs.Prelude.{◌≡◌, ◌<◌, ◌≤◌, [], IfSome, None, Some, length, map};
 ghost use Rattle.script_words.specs.Flows.{IsFlow, flow_of};
+ghost use Rattle.script_words.specs.Words.{words_of};
 ghost use Rattle.script_words.specs.declared.raw.FlowWord.{FlowWord as FlowWordOf};
+ghost use Rattle.script_grammar.specs.Asking.{AsksToBeTaken};
 ghost use Rattle.script_grammar.specs.Fields.{IsInRange};
+ghost use Rattle.script_grammar.specs.Grammar.{HasFault};
 ghost use Rattle.script_grammar.specs.LineKinds.{script_line_of};
 ghost use Rattle.line_advice.specs.FlowFaults.{IsFlowFault};
 ghost use Rattle.line_advice.specs.declared.flow_faults.FlowFault.{FlowFault as FlowFaultOf};
@@ -14,11 +17,12 @@ use crate::forms::word_blame;
 use crate::known::{LinesBefore, is_known};
 use crate::rule::Rule;
 use crate::tree_blames::of_tree;
+use arrayvec::ArrayVec;
 use line_advice::{FlowFault, flow_fault};
 use network_model::Excess;
 use rsvp_base::StyleKind;
-use script_grammar::{Fault, Field, Kind, Named, first_out};
-use script_words::{FlowWord, read_words};
+use script_grammar::{Fault, Field, Kind, Named, few_words, first_out};
+use script_words::FlowWord;
 use std::alloc::Global;
 use tree_routing::HopFault;
 
@@ -78,29 +82,42 @@ pub enum Blame {
     },
 }
 
-// The most bytes of a line, its line feed not counted.
+// The most bytes of a line, its line feed not counted, and the most words that they can be.
 const MOST_LINE: usize = 2048;
+
+const MOST_WORDS: usize = 1024;
 
 /// What of a line with this fault behind these lines breaks the rule: the first word that does, where one alone does.
 ///
-/// `None`: memory ran out, or the line has not this fault.
+/// `None`, of a line that has this fault only where it asks for memory: there was no room to look at the lines before.
 pub fn find_blame<B: LinesBefore>(
     alloc: Global,
     before: &B,
     line: &[u8],
     why: &Fault,
 ) -> Option<Blame>
-    ensures { IfSome result (IsBlamed (B.lines before.now) line.now why.now) }
+    ensures blamed { IfSome result (IsBlamed (B.lines before.now) line.now why.now) }
+    ensures asked { result ≡ None → HasFault (B.lines before.now) line.now why.now → AsksToBeTaken (B.lines before.now) line.now }
 {
     if line.len() > MOST_LINE {
         return Some(Blame::Long);
     }
-    let mut words = Vec::new(alloc);
-    read_words(line, &mut words).ok()?;
+    let mut words: ArrayVec<&[u8], MOST_WORDS> = ArrayVec::new();
+    list_words(line, &mut words);
     blame_of(alloc, before, line, words.as_slice(), why)
 }
 
+// Makes an empty list the words of a line that is not too long.
+fn list_words<'a>(line: &'a [u8], words: &mut ArrayVec<&'a [u8], MOST_WORDS>)
+    requires short { length line.now ≤ 2048 }
+    requires empty { words.old.items ≡ [] }
+    ensures { map (λ w. w.now) words.new.items ≡ words_of line.now }
+{
+    let _all = few_words(line, words);
+}
+
 // What of a line with these words breaks the rule.
+#[tactic(auto, using(crate::proofs::Asked::style_asks))]
 fn blame_of<B: LinesBefore>(
     alloc: Global,
     before: &B,
@@ -108,14 +125,15 @@ fn blame_of<B: LinesBefore>(
     words: &[&[u8]],
     why: &Fault,
 ) -> Option<Blame>
-    ensures { IfSome result (IsBlamedOf (B.lines before.now) (script_line_of line.now) (map (λ w. w.now) words.now) why.now) }
+    ensures blamed { IfSome result (IsBlamedOf (B.lines before.now) (script_line_of line.now) (map (λ w. w.now) words.now) why.now) }
+    ensures asked { result ≡ None → HasFault (B.lines before.now) line.now why.now → AsksToBeTaken (B.lines before.now) line.now }
 {
     let kind = Kind::of(words);
     let behind = behind_first(words);
     match why {
-        Fault::Word => word_blame(alloc, words),
+        Fault::Word => Some(word_blame(words)),
         Fault::Late => Some(rule_blame(Rule::InTime, kind)),
-        Fault::Range => out_of_range(alloc, before.period(), kind, behind),
+        Fault::Range => Some(out_of_range(before.period(), kind, behind)),
         Fault::Name => Some(unknown(before, kind, behind)),
         Fault::Twice => Some(there(before, kind, behind)),
         Fault::Style => of_other_style(before, words),
@@ -165,7 +183,7 @@ fn passed<B: LinesBefore>(before: &B, kind: Option<Kind>, behind: &[&[u8]]) -> B
     }
 }
 
-// The style that stands where these words ask for another.
+// The style that stands where these words ask for another. `None`: there was no room to look, or none stands.
 fn of_other_style<B: LinesBefore>(before: &B, words: &[&[u8]]) -> Option<Blame>
     ensures { IfSome result (IsOfOtherStyle (B.lines before.now) (map (λ w. w.now) words.now)) }
 {
@@ -183,25 +201,24 @@ pub fn behind_first<'a, 'b>(words: &'a [&'b [u8]]) -> &'a [&'b [u8]]
     }
 }
 
-// What of these words is out of range. `None`: memory ran out.
-fn out_of_range(alloc: Global, period: u32, kind: Option<Kind>, behind: &[&[u8]]) -> Option<Blame>
-    ensures { IfSome result (IsOutOfRange period kind (map (λ w. w.now) behind.now)) }
+// What of these words is out of range.
+fn out_of_range(period: u32, kind: Option<Kind>, behind: &[&[u8]]) -> Blame
+    ensures { IsOutOfRange period kind (map (λ w. w.now) behind.now) result }
 {
     let Some(kind) = kind else {
-        return Some(Blame::First);
+        return Blame::First;
     };
-    match first_out(alloc, period, kind, behind) {
-        Ok(Some(place)) => Some(range_blame(
+    match first_out(period, kind, behind) {
+        Some(place) => range_blame(
             period,
             kind.field_at(place),
             place + 1,
             word_behind(behind, place),
-        )),
-        Ok(None) => Some(Blame::Rule {
+        ),
+        None => Blame::Rule {
             rule: Rule::InRange,
             kind,
-        }),
-        Err(_) => None,
+        },
     }
 }
 

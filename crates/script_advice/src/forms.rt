@@ -4,44 +4,43 @@ ghost use Rattle.script_advice.specs.Blames.{begins_comment, behind_first, comme
 
 use crate::blame::{Blame, behind_first};
 use script_grammar::{Kind, unformed};
-use std::alloc::Global;
 
 /// What of these words is not of its form: where carriage returns stand for line feeds, these; else the first word, a comment behind
 /// the others, their number, or the first that has not the form of its field.
-///
-/// `None`: memory ran out, or each word has its form.
-pub fn word_blame(alloc: Global, words: &[&[u8]]) -> Option<Blame>
-    ensures { IfSome result (λ blame. blame ≡ word_blame (map (λ w. w.now) words.now)) }
+pub fn word_blame(words: &[&[u8]]) -> Blame
+    ensures { result ≡ word_blame (map (λ w. w.now) words.now) }
 {
     if have_inner_return(words) {
-        return Some(Blame::Returns);
+        return Blame::Returns;
     }
-    kind_blame(alloc, Kind::of(words), behind_first(words))
+    kind_blame(Kind::of(words), behind_first(words))
 }
 
-fn kind_blame(alloc: Global, kind: Option<Kind>, behind: &[&[u8]]) -> Option<Blame>
-    ensures { IfSome result (λ blame. blame ≡ kind_blame kind (map (λ w. w.now) behind.now)) }
+fn kind_blame(kind: Option<Kind>, behind: &[&[u8]]) -> Blame
+    ensures { result ≡ kind_blame kind (map (λ w. w.now) behind.now) }
 {
     let Some(kind) = kind else {
-        return Some(Blame::First);
+        return Blame::First;
     };
     match comment_place(behind) {
-        Some(place) => Some(Blame::Comment { word: place + 1 }),
-        None => count_blame(alloc, kind, behind),
+        Some(place) => Blame::Comment { word: place + 1 },
+        None => count_blame(kind, behind),
     }
 }
 
-fn count_blame(alloc: Global, kind: Kind, behind: &[&[u8]]) -> Option<Blame>
-    ensures { IfSome result (λ blame. blame ≡ count_blame kind (map (λ w. w.now) behind.now)) }
+fn count_blame(kind: Kind, behind: &[&[u8]]) -> Blame
+    ensures { result ≡ count_blame kind (map (λ w. w.now) behind.now) }
 {
     if !kind.has_count(behind.len()) {
-        return Some(Blame::Count(kind));
+        return Blame::Count(kind);
     }
-    let place = unformed(alloc, kind, behind)?;
-    Some(Blame::Form {
-        word: place + 1,
-        field: kind.field_at(place),
-    })
+    match unformed(kind, behind) {
+        Some(place) => Blame::Form {
+            word: place + 1,
+            field: kind.field_at(place),
+        },
+        None => Blame::Count(kind),
+    }
 }
 
 // The place of the first word that begins as a comment. `None` exactly where none does.

@@ -1,5 +1,6 @@
 //! What the lines before a line declare.
-ghost use Rattle.std.specs.Prelude.{◌≡◌, ◌↔◌, IfOk, IsTrue, is_some};
+ghost use Rattle.std.specs.Prelude.{◌≡◌, ◌↔◌, ◌≤◌, IfOk, IsTrue, is_some, length};
+ghost use Rattle.line_advice.specs.Blamed.{most_wanted};
 ghost use Rattle.script_grammar.specs.Draft.{Draft, end_named, node_named, period_of};
 ghost use Rattle.script_grammar.specs.Rules.{HasRoomForSession};
 ghost use Rattle.script_advice.specs.Breaks.{IsLinked, standing_style};
@@ -40,14 +41,9 @@ pub trait LinesBefore {
         ensures { IfOk result (λ style. style ≡ standing_style (lines self.now) node.now session) };
 
     /// Why the declared tree of a group and source cannot grow by the hop between these ends, which are declared; `None` exactly where it
-    /// can. `NoMemory`: there was no room to look.
-    fn hop_fault(
-        &self,
-        group: Addr,
-        source: Addr,
-        hop: &HopEnds,
-    ) -> Result<Option<HopFault>, NoMemory>
-        ensures { IfOk result (IsHopAnswer (lines self.now) group source hop.now) };
+    /// can.
+    fn hop_fault(&self, group: Addr, source: Addr, hop: &HopEnds) -> Option<HopFault>
+        ensures { IsHopAnswer (lines self.now) group source hop.now result };
 
     /// The first of these hops, by place, by which a tree of a source cannot grow, and why; `None` exactly where they grow one.
     /// `NoMemory`: there was no room to look.
@@ -72,7 +68,8 @@ pub fn is_known<B: LinesBefore>(before: &B, named: Option<Named>, word: &[u8]) -
 
 /// What is said of a word that is a name of what no line before declares.
 pub fn named_text(named: Named) -> &'static [u8]
-    ensures { result.now ≡ named_text named }
+    ensures text { result.now ≡ named_text named }
+    ensures few { length result.now ≤ most_wanted }
 {
     match named {
         Named::Node => b"no earlier line declares a node of this name",

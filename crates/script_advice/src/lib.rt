@@ -14,6 +14,7 @@ pub mod laws;
 mod rule;
 mod texts;
 mod tree_blames;
+mod wanted;
 
 pub use advice::{put_advice, put_long};
 pub use blame::{Blame, find_blame};

@@ -1,5 +1,6 @@
 //! What is wanted, in words.
-ghost use Rattle.std.specs.Prelude.{◌≡◌, ◌++◌, OnOk};
+ghost use Rattle.std.specs.Prelude.{◌≡◌, ◌≤◌, ◌<◌, ◌++◌, OnErr, OnOk, length, vec_capacity};
+ghost use Rattle.line_advice.specs.Blamed.{most_wanted};
 ghost use Rattle.script_advice.specs.FieldTexts.{form_text, range_text};
 ghost use Rattle.script_advice.specs.KindTexts.{first_text, usage_text};
 ghost use Rattle.script_advice.specs.RuleTexts.{in_time_text, known_text, known_word, limit_word, list_word, new_text, new_word, rule_text, rule_word, within_limits_text};
@@ -11,7 +12,8 @@ use value_texts::{put, put_number};
 
 /// The form of a field.
 pub fn form_text(field: Field) -> &'static [u8]
-    ensures { result.now ≡ form_text field }
+    ensures text { result.now ≡ form_text field }
+    ensures few { length result.now ≤ most_wanted }
 {
     match field {
         Field::Period =>
@@ -50,7 +52,9 @@ pub fn form_text(field: Field) -> &'static [u8]
 
 /// Appends the range of a field, where the refresh period is this, in milliseconds. `NoMemory`: there was no memory for the text.
 pub fn put_range(out: &mut Vec<u8>, period: u32, field: Field) -> Result<(), NoMemory>
-    ensures { OnOk result (out.new.items ≡ out.old.items ++ range_text period field) }
+    ensures text { OnOk result (out.new.items ≡ out.old.items ++ range_text period field) }
+    ensures full { OnErr result (vec_capacity out.old < length (out.old.items ++ range_text period field)) }
+    ensures kept { vec_capacity out.old ≤ vec_capacity out.new }
 {
     match field {
         Field::Left => {
@@ -105,7 +109,8 @@ pub fn put_range(out: &mut Vec<u8>, period: u32, field: Field) -> Result<(), NoM
 
 /// The words of a line of a kind.
 pub fn usage_text(kind: Kind) -> &'static [u8]
-    ensures { result.now ≡ usage_text kind }
+    ensures text { result.now ≡ usage_text kind }
+    ensures few { length result.now ≤ most_wanted }
 {
     match kind {
         Kind::Period => b"a period line is: period MS",
@@ -151,7 +156,8 @@ pub fn usage_text(kind: Kind) -> &'static [u8]
 
 /// What a rule says of the lines of a kind.
 pub fn rule_text(rule: Rule, kind: Kind) -> &'static [u8]
-    ensures { result.now ≡ rule_text rule kind }
+    ensures text { result.now ≡ rule_text rule kind }
+    ensures few { length result.now ≤ most_wanted }
 {
     match rule {
         Rule::InTime => in_time_text(kind),
@@ -172,7 +178,8 @@ pub fn rule_text(rule: Rule, kind: Kind) -> &'static [u8]
 }
 
 fn in_time_text(kind: Kind) -> &'static [u8]
-    ensures { result.now ≡ in_time_text kind }
+    ensures text { result.now ≡ in_time_text kind }
+    ensures few { length result.now ≤ most_wanted }
 {
     match kind {
         Kind::Period => b"a period and a seed come before the first node",
@@ -187,7 +194,8 @@ fn in_time_text(kind: Kind) -> &'static [u8]
 
 // What a line names, where each node and each end is declared.
 fn known_text(kind: Kind) -> &'static [u8]
-    ensures { result.now ≡ known_text kind }
+    ensures text { result.now ≡ known_text kind }
+    ensures few { length result.now ≤ most_wanted }
 {
     match kind {
         Kind::Hop => b"no end has this address",
@@ -202,7 +210,8 @@ fn known_text(kind: Kind) -> &'static [u8]
 }
 
 fn new_text(kind: Kind) -> &'static [u8]
-    ensures { result.now ≡ new_text kind }
+    ensures text { result.now ≡ new_text kind }
+    ensures few { length result.now ≤ most_wanted }
 {
     match kind {
         Kind::Period => b"an earlier line gives the period",
@@ -218,7 +227,8 @@ fn new_text(kind: Kind) -> &'static [u8]
 }
 
 fn within_limits_text(kind: Kind) -> &'static [u8]
-    ensures { result.now ≡ within_limits_text kind }
+    ensures text { result.now ≡ within_limits_text kind }
+    ensures few { length result.now ≤ most_wanted }
 {
     match kind {
         Kind::Node => b"a network has at most 256 nodes",
@@ -305,7 +315,8 @@ fn list_word(kind: Kind) -> usize
 
 /// By what first words lines begin.
 pub fn first_text() -> &'static [u8]
-    ensures { result.now ≡ first_text }
+    ensures text { result.now ≡ first_text }
+    ensures few { length result.now ≤ most_wanted }
 {
     b"a line begins with period, seed, node, end, link, hop, stale-path, stale-resv, stale-blockade, send, drop, want, quit, wait, pass, rounds, deliver, lose, copy, clear, inject, reroute, trace, report or flags, and a comment with # as its very first byte"
 }

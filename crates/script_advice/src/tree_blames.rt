@@ -1,33 +1,53 @@
 //! Which rule of a tree a line breaks, and by which of its words.
-ghost use Rattle.std.specs.Prelude.{◌≡◌, Some, IfSome};
+ghost use Rattle.std.specs.Prelude.{◌≡◌, ◌≤◌, None, Some, IfSome, IsSome, length};
+ghost use Rattle.line_advice.specs.Blamed.{most_wanted};
+ghost use Rattle.script_grammar.specs.Asking.{AsksMemory, AsksToBeTaken};
+ghost use Rattle.script_grammar.specs.Grammar.{HasFault};
 ghost use Rattle.script_grammar.specs.LineKinds.{script_line_of};
+ghost use Rattle.script_grammar.specs.declared.fault.Fault.TheVariants as fault;
 ghost use Rattle.script_grammar.specs.declared.line.ScriptLine.TheVariants as said;
-ghost use Rattle.script_advice.specs.TreeBlames.{IsTreeBlame, hop_blame, hop_text, hop_word};
+ghost use Rattle.script_advice.specs.TreeBlames.{BreaksTree, IsTreeBlame, hop_blame, hop_text, hop_word};
 
 use crate::blame::Blame;
 use crate::known::LinesBefore;
 use script_grammar::{HopLine, RerouteLine, ScriptLine, read_line};
+use script_words::Unread;
 use std::alloc::Global;
 use tree_routing::HopFault;
 
-/// Which rule of a tree a line breaks first. `None`: memory ran out, or it breaks none.
+/// Which rule of a tree a line breaks first. `None`, of a line that breaks one only where it asks for memory: there was no room to look.
+#[tactic(auto, using(crate::proofs::Asked::tree_asks, crate::proofs::Asked::word_has_none))]
 pub(crate) fn of_tree<B: LinesBefore>(alloc: Global, before: &B, line: &[u8]) -> Option<Blame>
-    ensures { IfSome result (IsTreeBlame (B.lines before.now) (script_line_of line.now)) }
+    ensures blamed { IfSome result (IsTreeBlame (B.lines before.now) (script_line_of line.now)) }
+    ensures asked { result ≡ None → HasFault (B.lines before.now) line.now fault.NotTree → AsksToBeTaken (B.lines before.now) line.now }
 {
     let mut words = Vec::new(alloc);
     match read_line(alloc, line, &mut words) {
-        Ok(ScriptLine::Hop(line)) => of_hop(before, &line),
-        Ok(ScriptLine::Reroute(line)) => of_hops(before, &line),
+        Ok(said) => of_said(before, &said),
+        Err(Unread::Word) => None,
+        Err(Unread::NoMemory) => None,
+    }
+}
+
+#[tactic(auto, using(crate::proofs::Asked::reroute_asks, crate::proofs::Asked::others_keep))]
+fn of_said<B: LinesBefore>(before: &B, said: &ScriptLine) -> Option<Blame>
+    ensures blamed { IfSome result (IsTreeBlame (B.lines before.now) (Some said.now)) }
+    ensures asked { result ≡ None → BreaksTree (B.lines before.now) said.now → AsksMemory (B.lines before.now) said.now }
+{
+    match said {
+        ScriptLine::Hop(line) => of_hop(before, line),
+        ScriptLine::Reroute(line) => of_hops(before, line),
         _ => None,
     }
 }
 
 fn of_hop<B: LinesBefore>(before: &B, line: &HopLine) -> Option<Blame>
-    ensures { IfSome result (IsTreeBlame (B.lines before.now) (Some (said.Hop line.now))) }
+    ensures blamed { IfSome result (IsTreeBlame (B.lines before.now) (Some (said.Hop line.now))) }
+    ensures broken { result ≡ None → BreaksTree (B.lines before.now) (said.Hop line.now) → ⊥ }
 {
     let group = line.group.addr()?;
     let source = line.source.addr()?;
-    let why = before.hop_fault(group, source, &line.ends).ok()??;
+    let why = before.hop_fault(group, source, &line.ends)?;
     hop_blame(3, why)
 }
 
@@ -41,14 +61,16 @@ fn of_hops<B: LinesBefore>(before: &B, line: &RerouteLine) -> Option<Blame>
 
 // A hop, whose first end is the word of this number. `None`: its second end has no number.
 fn hop_blame(first: usize, why: HopFault) -> Option<Blame>
-    ensures { IfSome result (λ blame. blame ≡ hop_blame first why) }
+    ensures blamed { IfSome result (λ blame. blame ≡ hop_blame first why) }
+    ensures numbered { first ≤ 3 → IsSome result }
 {
     let word = hop_word(first, why)?;
     Some(Blame::Hop { word, why })
 }
 
 fn hop_word(first: usize, why: HopFault) -> Option<usize>
-    ensures { IfSome result (λ word. word ≡ hop_word first why) }
+    ensures word { IfSome result (λ word. word ≡ hop_word first why) }
+    ensures numbered { first ≤ 3 → IsSome result }
 {
     match why {
         HopFault::NoLink => first.checked_add(1),
@@ -61,7 +83,8 @@ fn hop_word(first: usize, why: HopFault) -> Option<usize>
 
 /// What is said of a hop by which its tree cannot grow.
 pub(crate) fn hop_text(why: HopFault) -> &'static [u8]
-    ensures { result.now ≡ hop_text why }
+    ensures text { result.now ≡ hop_text why }
+    ensures few { length result.now ≤ most_wanted }
 {
     match why {
         HopFault::NoLink => b"no link joins this end to the one before it",

@@ -3,5 +3,4 @@ use Rattle.script_advice.proofs.blame.out_of_range.Goals as goal
 
 pub range_blame-requires : goal.range_blame-requires
 range_blame-requires c =
-    let first = rw c.in-Ok-Some.field-0-is at c.in-Ok-Some.ensures.first in
-    record { out = rw (c.field_at.ensures, c.word_behind.ensures) (out_at c.args.period c.in-Some.kind _ c.in-Ok-Some.place first) }
+    record { out = rw (c.field_at.ensures, c.word_behind.ensures) (out_at c.args.period c.in-Some.kind _ c.in-Some-first_out.place c.in-Some-first_out.ensures.first) }
