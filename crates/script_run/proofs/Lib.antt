@@ -8,3 +8,5 @@ pub mod Told
 pub mod Ran
 pub mod Shown
 pub mod Free
+mod Advising
+mod Crowded

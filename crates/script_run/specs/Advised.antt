@@ -1,10 +1,11 @@
 -- What is told of the line by which a run ended as bad, or crowded.
-use Rattle.std.specs.Prelude.{◌≡◌, ◌⊎◌, ℕ, List, [], ◌++◌, codes, length}
+use Rattle.std.specs.Prelude.{◌≡◌, ℕ, List, [], ◌++◌, codes, length}
 use Rattle.std.specs.Fmt.{decimal}
 use Rattle.script_grammar.specs.Draft.{Draft}
 use Rattle.script_advice.specs.Advice.{IsAdvice, IsToldLine}
 use Rattle.script_grammar.specs.Grammar.{line_number}
 use Rattle.script_run.specs.Endings.{IsFirstCrowded}
+use Rattle.script_run.specs.Playing.{Stops}
 use Rattle.script_run.specs.declared.ending.Ending.{Ending}
 use Rattle.script_run.specs.declared.ending.Ending.TheVariants.{BadLine, Crowded}
 use Rattle.script_grammar.specs.declared.stop.Stop.{Stop}
@@ -17,19 +18,15 @@ crowded_words = codes ": by its event an 8193rd datagram would be in flight; pas
 unfoldable pub crowded_text : ℕ → List ℕ
 crowded_text number = codes "  line " ++ decimal number ++ crowded_words
 
--- that was told; or nothing was, since memory ran out
-abbrev pub IsToldCrowded : ℕ → List ℕ → Type 0
-IsToldCrowded number advice = (advice ≡ []) ⊎ (advice ≡ crowded_text number)
-
 -- the line of this number is the first by which the run of a script of these bytes is crowded
 pub record IsCrowdedLine (number : ℕ) (bytes : List ℕ) : Type 0 where
   pub text : List ℕ
   pub first : IsFirstCrowded bytes text
   pub counted : number ≡ line_number (length first.before)
 
--- it was told by its number; or nothing was, since memory ran out
+-- it is told by its number
 abbrev pub IsCrowdedAdvice : List ℕ → List ℕ → Type 0
-IsCrowdedAdvice bytes advice = (number : ℕ) × IsCrowdedLine number bytes × IsToldCrowded number advice
+IsCrowdedAdvice bytes advice = (number : ℕ) × IsCrowdedLine number bytes × (advice ≡ crowded_text number)
 
 -- what is wrong with the bad line of these bytes, or by which line their run is crowded; else nothing
 abbrev pub IsAdvised : Ending → List ℕ → List ℕ → Type 0
@@ -40,5 +37,10 @@ IsAdvised _ bytes advice = advice ≡ []
 -- what is wrong with the line of this number, which was not run for this reason behind the lines of this draft
 abbrev pub IsAdvisedAt : Draft → List ℕ → ℕ → Stop → List ℕ → Type 0
 IsAdvisedAt draft line number (stop.Bad why) advice = IsAdvice draft line why advice
-IsAdvisedAt draft line number stop.Crowded advice = IsToldCrowded number advice
+IsAdvisedAt draft line number stop.Crowded advice = advice ≡ crowded_text number
 IsAdvisedAt draft line number _ advice = advice ≡ []
+
+-- why the run ends at this line, and what is told: it is not run for this reason; or it is bad, and memory to tell it ran out
+pub record EndsAt (draft : Draft) (line : List ℕ) (number : ℕ) (ends : Stop) (advice : List ℕ) : Type 0 where
+  pub stops : Stops ends draft line
+  pub advised : IsAdvisedAt draft line number ends advice

@@ -1,12 +1,14 @@
 //! What checks and runs the lines of a script.
-ghost use Rattle.std.specs.Prelude.{◌≡◌, ◌≤◌, List, ℕ, length};
+ghost use Rattle.std.specs.Prelude.{◌≡◌, ◌≤◌, List, ℕ, length, vec_capacity};
+ghost use Rattle.line_advice.specs.Blamed.{most_advice};
 ghost use Rattle.script_grammar.specs.Draft.{Draft};
-ghost use Rattle.script_advice.specs.Advice.{IsAdvice};
+ghost use Rattle.script_advice.specs.Advice.{IsAdviceOrNone};
 ghost use Rattle.script_run.specs.Playing.{Plays};
 ghost use Rattle.script_run.specs.Shown.{ShowsOn};
 ghost use Rattle.script_run.specs.Written.{IsRunSoFar};
 
 use network_replay::Watch;
+use rsvp_base::NoMemory;
 use script_grammar::{Fault, Stop};
 
 /// What checks and runs the lines of a script, one after another.
@@ -24,8 +26,9 @@ pub trait Player {
         ensures { (d : Draft) (said : List ℕ) → stands self.old d → IsRunSoFar d said
             → Plays (λ e. stands self.new e × ShowsOn W.saw watch.old watch.new d e) d said line.now result out.old.items out.new.items };
 
-    /// Makes `advice` the text that tells what is wrong with a line that has this fault behind the lines so far. Where memory runs out,
-    /// it is empty.
-    fn advise(&self, line: &[u8], why: &Fault, advice: &mut Vec<u8>)
-        ensures { (d : Draft) → stands self.now d → IsAdvice d line.now why.now advice.new.items };
+    /// Makes `advice`, for which there is room, the text that tells what is wrong with a line that has this fault behind the lines so far.
+    /// `NoMemory`, of a line that has this fault only where it asks for memory to be taken: it ran out, and `advice` is empty.
+    fn advise(&self, line: &[u8], why: &Fault, advice: &mut Vec<u8>) -> Result<(), NoMemory>
+        requires room { most_advice ≤ vec_capacity advice.old }
+        ensures { (d : Draft) → stands self.now d → IsAdviceOrNone d line.now why.now result advice.new.items };
 }

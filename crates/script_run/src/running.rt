@@ -1,11 +1,13 @@
 //! Lines are read, checked, run and written, one after the other.
-ghost use Rattle.std.specs.Prelude.{◌≡◌, ◌≢◌, ◌≤◌, [], List, ℕ, Some, length};
+ghost use Rattle.std.specs.Prelude.{◌≡◌, ◌≢◌, ◌≤◌, [], List, ℕ, Some, length, vec_capacity};
 ghost use Rattle.byte_streams.specs.Reading.{most_bytes};
 ghost use Rattle.byte_streams.specs.Faults.{Rose};
+ghost use Rattle.line_advice.specs.Blamed.{most_advice};
 ghost use Rattle.script_grammar.specs.Draft.{Draft, nothing, plan_of};
+ghost use Rattle.script_grammar.specs.Grammar.{HasFault};
 ghost use Rattle.network_replay.specs.Sights.{Shows};
-ghost use Rattle.script_run.specs.Advised.{IsAdvised, IsAdvisedAt};
-ghost use Rattle.script_run.specs.Playing.{StaysAt};
+ghost use Rattle.script_run.specs.Advised.{EndsAt, IsAdvised};
+ghost use Rattle.script_run.specs.Playing.{StaysAt, Stops};
 ghost use Rattle.script_run.specs.Endings.{ComesTo, IsOrNoMemory, IsRun, ending_at};
 ghost use Rattle.script_run.specs.Shown.{script_sights};
 ghost use Rattle.script_run.specs.declared.ending.Ending.{Ending as AnEnding};
@@ -14,6 +16,7 @@ use crate::crowding::put_crowded;
 use crate::ending::Ending;
 use crate::player::Player;
 use byte_streams::{LineReader, NextLine, Sink, Source, write_all};
+use line_advice::make_room;
 use network_replay::Watch;
 use script_advice::put_long;
 use script_grammar::{Fault, Stop};
@@ -27,8 +30,8 @@ use std::alloc::Global;
 /// `WriteFault`. `NoMemory`: memory ran out, before a byte was taken or at a line that asks for memory. A line of more than 2,048
 /// bytes is bad as soon as so many of it were taken.
 ///
-/// `advice` becomes the text that tells what is wrong with the bad line, or by which line the run is crowded; else, or where memory
-/// runs out as it is written, it is empty.
+/// `advice` becomes the text that tells what is wrong with the bad line, or by which line the run is crowded; else it is empty. There is
+/// room for it before the first byte is taken; a run that ends as out of memory at a bad line could not look at the lines before.
 pub fn run_lines<P: Player, S: Source, K: Sink, W: Watch>(
     alloc: Global,
     player: &mut P,
@@ -77,6 +80,10 @@ fn run_to_end<P: Player, S: Source, K: Sink, W: Watch>(
         Ok(reader) => reader,
         Err(_) => return Ending::NoMemory,
     };
+    match make_room(advice) {
+        Ok(()) => {}
+        Err(_) => return Ending::NoMemory,
+    }
     let mut out = Vec::new(alloc);
     loop {
         match reader.next(source) {
@@ -97,8 +104,8 @@ fn run_to_end<P: Player, S: Source, K: Sink, W: Watch>(
             Ok(()) => {}
             Err(stop) => {
                 let number = reader.number();
-                advise(player, reader.line(), number, &stop, advice);
-                return ending_at(stop, number);
+                let ends = advise(player, reader.line(), number, stop, advice);
+                return ending_at(ends, number);
             }
         }
         match write_all(sink, out.as_slice()) {
@@ -108,15 +115,32 @@ fn run_to_end<P: Player, S: Source, K: Sink, W: Watch>(
     }
 }
 
-// Tells what is wrong with the line of this number, which was not run, where it is bad or the run is crowded by it.
-fn advise<P: Player>(player: &P, line: &[u8], number: u32, stop: &Stop, advice: &mut Vec<u8>)
-    requires { advice.old.items ≡ [] }
-    ensures { (d : Draft) → StaysAt (P.stands player.now) d stop.now → IsAdvisedAt d line.now number stop.now advice.new.items }
+// Tells what is wrong with the line of this number, which was not run, where it is bad or the run is crowded by it, and gives why the run
+// ends: this, or that memory to look at the lines before ran out.
+fn advise<P: Player>(player: &P, line: &[u8], number: u32, stop: Stop, advice: &mut Vec<u8>) -> Stop
+    requires empty { advice.old.items ≡ [] }
+    requires room { most_advice ≤ vec_capacity advice.old }
+    ensures { (d : Draft) → StaysAt (P.stands player.now) d stop → Stops stop d line.now → EndsAt d line.now number result advice.new.items }
 {
     match stop {
-        Stop::Bad(why) => player.advise(line, why, advice),
-        Stop::Crowded => put_crowded(advice, number),
-        Stop::NoMemory => {}
+        Stop::Bad(why) => end_bad(player, line, why, advice),
+        Stop::Crowded => {
+            put_crowded(advice, number);
+            Stop::Crowded
+        }
+        Stop::NoMemory => Stop::NoMemory,
+    }
+}
+
+// The same of a bad line.
+#[tactic(auto, using(crate::proofs::Advising::ends_told, crate::proofs::Advising::ends_untold))]
+fn end_bad<P: Player>(player: &P, line: &[u8], why: Fault, advice: &mut Vec<u8>) -> Stop
+    requires room { most_advice ≤ vec_capacity advice.old }
+    ensures { (d : Draft) → P.stands player.now d → HasFault d line.now why → (number : ℕ) → EndsAt d line.now number result advice.new.items }
+{
+    match player.advise(line, &why, advice) {
+        Ok(()) => Stop::Bad(why),
+        Err(_) => Stop::NoMemory,
     }
 }
 

@@ -87,7 +87,7 @@ impl<C: Checks + Drop, R: Opens> Player for ScriptPlayer<C, R> {
         }
     }
 
-    fn advise(&self, line: &[u8], why: &Fault, advice: &mut Vec<u8>) {
+    fn advise(&self, line: &[u8], why: &Fault, advice: &mut Vec<u8>) -> Result<(), NoMemory> {
         put_advice(self.alloc, &self.checker, line, why, advice)
     }
 }

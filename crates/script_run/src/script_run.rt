@@ -21,8 +21,7 @@ use std::alloc::Global;
 
 /// Reads a script of the source, checks and runs it line by line, and writes each event's text to the sink when it has run. Where
 /// it is done and the script has an event, `last` holds the network in which the run ended; else it stays empty. `watch` sees all that
-/// happens. `advice` becomes the text that tells what is wrong with the bad line, or by which line the run is crowded; else, or where
-/// memory runs out as it is written, it is empty.
+/// happens. `advice` becomes the text that tells what is wrong with the bad line, or by which line the run is crowded; else it is empty.
 ///
 /// How it ends is said at `run_lines`.
 pub fn run_script<C: Checks + Drop, R: Opens, S: Source, K: Sink, W: Watch>(

@@ -1,7 +1,7 @@
-use Rattle.std.proofs.Common.{◌≡◌, ◌≢◌, ◌∙◌, ◌++◌, ◌≤◌, List, ℕ, length, take, refl, ap, subst, arith, inl, inr}
+use Rattle.std.proofs.Common.{◌≡◌, ◌≢◌, ◌∙◌, ◌++◌, ◌≤◌, List, ℕ, length, take, refl, sym, ap, subst, arith, inl, inr}
 use Rattle.std.specs.Io.KnownBytes.{Appends}
 use Rattle.byte_streams.specs.declared.answer.NextLine.TheVariants.{Line, Long, End, Fault, TooLong}
-use Rattle.script_run.specs.Advised.{IsAdvisedAt}
+use Rattle.script_run.specs.Advised.{EndsAt}
 use Rattle.script_run.specs.Playing.{IsRunOn, Stops}
 use Rattle.byte_streams.proofs.Behind.{end_came, fault_came, goes_down, line_came, long_came, many_came}
 use Rattle.script_run.proofs.Ended.{at_start, ended_at, ended_at_once, ended_done, ended_fault, ended_long, ended_many, ended_writing, one_more}
@@ -15,6 +15,11 @@ returns-in-Err-clause-run g c =
     let stands = BothStand g.P.Player.stands g.W.Watch.saw c.args.watch.now in
     ended_at_once stands (stands (c.args.player.now, c.args.watch.now)) (g.S.Source.left c.args.source.now) (g.K.Sink.holds c.args.sink.now)
 
+pub returns-in-Err-make_room-clause-run : goal.returns-in-Err-make_room-clause-run
+returns-in-Err-make_room-clause-run g c =
+    let stands = BothStand g.P.Player.stands g.W.Watch.saw c.args.watch.now in
+    ended_at_once stands (stands (c.args.player.now, c.args.watch.now)) (g.S.Source.left c.args.source.now) (g.K.Sink.holds c.args.sink.now)
+
 pub loop-advice-init : goal.loop-advice-init
 loop-advice-init g c = record {
   played = at_start (BothStand g.P.Player.stands g.W.Watch.saw c.args.watch.now) (g.S.Source.left c.args.source.now) (g.K.Sink.holds c.args.sink.now) c.in-Ok.reader
@@ -23,7 +28,8 @@ loop-advice-init g c = record {
   no_read_fault = refl;
   no_write_fault = refl;
   written = omega arith;
-  quiet = c.clear.ensures.items;
+  quiet = c.in-Ok-make_room.ensures.empty;
+  roomy = c.in-Ok-make_room.ensures.room;
 }
 
 pub returns-in-Long-clause-run : goal.returns-in-Long-clause-run
@@ -105,8 +111,13 @@ returns-in-Err-play-clause-run g c =
     let l = line_came old mid new r now p.before p.taken p.behind (λ n. (e.again n).0) e.cut (e.near refl) (λ n. e.number n (inl refl)) (e.last refl) in
     let not_run = c.in-Err-play in
     let stops = subst (λ t. Stops not_run.stop p.draft t) c.line.ensures.line (not_run.ensures p.draft p.text p.stands_there.0 p.run).0 in
+    let stays = stays_apart (g.P.Player.stands c.play.new.self) (λ e. ShowsOn g.W.Watch.saw c.loop-advice.watch c.play.new.watch p.draft e) p.draft not_run.stop
+    (not_run.ensures p.draft p.text p.stands_there.0 p.run).1 in
+    let same = sym c.line-in-Err-play.ensures.line in
+    let ends = c.advise-ends.ensures p.draft stays (subst (λ t. Stops not_run.stop p.draft t) same stops) in
+    let ends_here = subst (λ t. Stops c.advise-ends.result p.draft t) c.line-in-Err-play.ensures.line ends.stops in
     rw c.ending_at.ensures (ended_at stands old mid new first holds r now (c.loop-advice.player, c.loop-advice.watch) p (stands (c.play.new.self, c.play.new.watch)) l
-    (e.within fine) not_run.stop c.number-number.result c.number-number.ensures stops)
+    (e.within fine) c.advise-ends.result c.number-number.result c.number-number.ensures ends_here)
 
 pub loop-advice-smaller : goal.loop-advice-smaller
 loop-advice-smaller g c =
@@ -150,6 +161,7 @@ loop-advice-preserved g c =
       no_write_fault = c.in-Ok-write_all.ensures.no_fault ∙ c.loop-advice.invariant.no_write_fault;
       written = omega (arith, c.loop-advice.invariant.written, c.write_all.ensures.cause.later);
       quiet = c.loop-advice.invariant.quiet;
+      roomy = c.loop-advice.invariant.roomy;
     }
 
 pub returns-in-Err-write_all-clause-run : goal.returns-in-Err-write_all-clause-run
@@ -208,7 +220,8 @@ returns-in-Err-play-clause-advised g c = λ bytes known.
     let stops = subst (λ t. Stops not_run.stop p.draft t) c.line.ensures.line (not_run.ensures p.draft p.text p.stands_there.0 p.run).0 in
     let stays = stays_apart (g.P.Player.stands c.play.new.self) (λ e. ShowsOn g.W.Watch.saw c.loop-advice.watch c.play.new.watch p.draft e) p.draft not_run.stop
     (not_run.ensures p.draft p.text p.stands_there.0 p.run).1 in
-    let told = c.advise.ensures p.draft stays in
-    let told_here = subst (λ t. IsAdvisedAt p.draft t c.number-number.result not_run.stop c.advise.new.advice.items) c.line-in-Err-play.ensures.line told in
-    rw c.ending_at.ensures (told_at stands old mid new first holds r now (c.loop-advice.player, c.loop-advice.watch) p bytes c.advise.new.advice.items known l c.number-number.result c.number-number.ensures
-    not_run.stop stops told_here)
+    let same = sym c.line-in-Err-play.ensures.line in
+    let ends = subst (λ t. EndsAt p.draft t c.number-number.result c.advise-ends.result c.advise-ends.new.advice.items) c.line-in-Err-play.ensures.line
+    (c.advise-ends.ensures p.draft stays (subst (λ t. Stops not_run.stop p.draft t) same stops)) in
+    rw c.ending_at.ensures (told_at stands old mid new first holds r now (c.loop-advice.player, c.loop-advice.watch) p bytes c.advise-ends.new.advice.items known l c.number-number.result c.number-number.ensures
+    c.advise-ends.result ends.stops ends.advised)

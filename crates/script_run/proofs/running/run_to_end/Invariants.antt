@@ -1,5 +1,7 @@
 use Rattle.std.proofs.Common.{◌≡◌, ◌-◌, ◌≤◌, [], length}
+use Rattle.std.specs.Vec.{vec_capacity}
 use Rattle.byte_streams.specs.Reading.{most_bytes}
+use Rattle.line_advice.specs.Blamed.{most_advice}
 use Rattle.script_run.proofs.Ended.{Progress}
 use Rattle.script_run.proofs.Shown.{BothStand}
 use Rattle.script_run.proofs.running.run_to_end.Given as goal
@@ -15,6 +17,7 @@ invariant-loop-advice g l =
       no_write_fault : g.K.Sink.faults l.sink ≡ g.K.Sink.faults l.initial.sink;
       written : g.K.Sink.faults l.initial.sink ≤ g.K.Sink.faults l.sink;
       quiet : l.advice.items ≡ [];
+      roomy : most_advice ≤ vec_capacity l.advice;
     }
 
 -- each turn gives a byte at least of those that an input may have
