@@ -1,12 +1,13 @@
 -- How tasks end that take all of their input before they write.
 use Rattle.std.proofs.Common.{◌≡◌, ℕ, ◌≤◌, List, [], ◌++◌, Option, None, Some, take, refl, sym, ap, ◌∙◌, append-nil, arith}
+use Rattle.std.proofs.KnownBytes.{Appends-nil, Consumes-nil}
 use Rattle.std.specs.Io.KnownBytes.{Appends, Consumes, IsAtEnd}
 use Rattle.byte_streams.specs.Reading.{most_bytes}
 use Rattle.script_run.specs.Advised.{IsAdvised}
 use Rattle.script_run.specs.declared.ending.Ending.{Ending}
 use Rattle.script_run.specs.declared.ending.Ending.TheVariants.{Done, BadLine, ReadFault, WriteFault, NoMemory, Crowded, TooLong}
 use Rattle.script_grammar.specs.declared.fault.Fault.{Fault}
-use Rattle.script_demand.specs.Answering.{CanTakeAll, IsAnsweringOf, IsWrittenOrNot}
+use Rattle.script_demand.specs.Answering.{CanTakeAll, IsAnswering, IsAnsweringOf, IsWrittenOrNot}
 
 -- the answer was written, or a prefix of it
 pub written_so : (Answers : List ℕ → List ℕ → Type 0) (IsBad : List ℕ → ℕ → Fault → Type 0) (e : Ending) (bytes text : List ℕ) (before after : Option (List ℕ)) → Answers bytes text → IsWrittenOrNot e
@@ -20,6 +21,11 @@ written_so Answers IsBad ReadFault bytes text before after answers how done fron
 written_so Answers IsBad NoMemory bytes text before after answers how done front = absurd how
 written_so Answers IsBad Crowded bytes text before after answers how done front = absurd how
 written_so Answers IsBad TooLong bytes text before after answers how done front = absurd how
+
+-- nothing was taken or written where memory ran out before
+pub nothing_answered : (Answers : List ℕ → List ℕ → Type 0) (IsBad : List ℕ → ℕ → Fault → Type 0) (old before : Option (List ℕ)) → IsAnswering Answers IsBad NoMemory old old before before
+nothing_answered Answers IsBad old before =
+    record { taken = []; took = Consumes-nil old; counted = omega arith; wrote = record { text = []; wrote = Appends-nil before; ended = refl } }
 
 -- what was taken to the end is all that was left
 pub all_taken : (old new : Option (List ℕ)) (taken bytes : List ℕ) → Consumes old new taken → IsAtEnd new → old ≡ Some bytes → bytes ≡ taken

@@ -1,7 +1,8 @@
 //! Writing the demand of a script.
-ghost use Rattle.std.specs.Prelude.{◌≡◌, ◌≢◌, [], List, ℕ, Some, IfOk, IfErr, OnOk, take};
+ghost use Rattle.std.specs.Prelude.{◌≡◌, ◌≢◌, ◌≤◌, [], List, ℕ, Some, IfOk, IfErr, OnOk, take, vec_capacity};
 ghost use Rattle.std.specs.Io.KnownBytes.{Appends};
 ghost use Rattle.byte_streams.specs.Faults.{Rose};
+ghost use Rattle.line_advice.specs.Blamed.{most_advice};
 ghost use Rattle.network_model.specs.DemandTexts.{IsDemandText};
 ghost use Rattle.network_model.specs.Runs.{Plan};
 ghost use Rattle.script_run.specs.Advised.{IsAdvised};
@@ -18,14 +19,15 @@ use crate::asks::Asks;
 use crate::script_lines::check_lines;
 use crate::writing::demand_text;
 use byte_streams::{ReadErr, Sink, Source, read_all, write_all};
+use line_advice::make_room;
 use rsvp_base::NoMemory;
 use script_run::Ending;
 use std::alloc::Global;
 
 /// Reads a script of the source to its end, checks its lines, and writes to the sink what each end of its network owes behind the
 /// last line and whether that fits. Its events are not run, and nothing is written before all of the input was read and found right.
-/// `advice` becomes the text that tells what is wrong with the bad line; where no line is bad, or memory runs out as it is written,
-/// it is empty.
+/// `advice` becomes the text that tells what is wrong with the bad line; where no line is bad, it is empty. There is room for it before
+/// the input is read.
 ///
 /// Refusals come in this order: `ReadFault` or `TooLong` while the input is read; `BadLine`; `WriteFault`. `NoMemory` may come at
 /// any time before the first byte is written.
@@ -51,6 +53,10 @@ pub fn write_demand<C: Asks + Drop, S: Source, K: Sink>(
         → (Rose (S.faults source.old) (S.faults source.new) → ⊥) → (wanted ≡ Ending.Done → Rose (K.faults sink.old) (K.faults sink.new) → ⊥) → IsOrNoMemory wanted result }
 {
     advice.clear();
+    match make_room(advice) {
+        Ok(()) => {}
+        Err(_) => return Ending::NoMemory,
+    }
     match read_all(alloc, source) {
         Ok(bytes) => answer(alloc, checker, bytes.as_slice(), sink, advice),
         Err(ReadErr::Fault) => Ending::ReadFault,
@@ -69,6 +75,7 @@ fn answer<C: Asks + Drop, K: Sink>(
 ) -> Ending
     requires first { C.lines checker ≡ nothing }
     requires empty { advice.old.items ≡ [] }
+    requires room { most_advice ≤ vec_capacity advice.old }
     ensures advised { IsAdvised result input.now advice.new.items }
     ensures demanded { IsDemandingOf result input.now input.now (K.holds sink.old) (K.holds sink.new) }
     ensures read { result ≢ Ending.ReadFault }
@@ -94,6 +101,7 @@ fn demand_of<C: Asks + Drop>(
 ) -> Result<Vec<u8>, Ending>
     requires first { C.lines checker ≡ nothing }
     requires empty { advice.old.items ≡ [] }
+    requires room { most_advice ≤ vec_capacity advice.old }
     ensures quiet { OnOk result (advice.new.items ≡ []) }
     ensures advised { IfErr result (λ e. IsAdvised e input.now advice.new.items) }
     ensures demand { IfOk result (λ text. IsDemandOf input.now text.items) }

@@ -9,8 +9,10 @@ mod asks;
 mod demand_lines;
 mod demanding;
 mod script_lines;
+mod telling;
 mod writing;
 
 pub use asks::Asks;
 pub use demanding::write_demand;
+pub use telling::end_bad;
 pub use writing::demand_text;

@@ -1,5 +1,6 @@
 //! The lines of a whole script are checked.
-ghost use Rattle.std.specs.Prelude.{◌≡◌, [], OnOk, IfErr};
+ghost use Rattle.std.specs.Prelude.{◌≡◌, ◌≤◌, [], OnOk, IfErr, vec_capacity};
+ghost use Rattle.line_advice.specs.Blamed.{most_advice};
 ghost use Rattle.script_grammar.specs.Asking.{AsksToBeTaken};
 ghost use Rattle.script_grammar.specs.Draft.{nothing};
 ghost use Rattle.script_grammar.specs.Grammar.{Follows, HasFault, Leads};
@@ -8,7 +9,7 @@ ghost use Rattle.script_run.specs.Advised.{IsAdvised};
 ghost use Rattle.script_demand.specs.Demanding.{HasAskingLine, StopsAt};
 ghost use Rattle.script_demand.specs.Feeding.{MatchRefused};
 
-use script_advice::put_advice;
+use crate::telling::end_bad;
 use script_grammar::{Fault, Stop};
 use script_run::{Checks, Ending};
 use script_words::next_line;
@@ -19,7 +20,7 @@ const MOST_LINE: usize = 2048;
 
 /// Checks the lines of an input one after the other. It ends at the first bad line, or where memory runs out, which is at a line that
 /// asks for memory.
-/// `advice` becomes the text that tells what is wrong with the bad line, and stays empty where memory runs out.
+/// `advice`, for which there is room, becomes the text that tells what is wrong with the bad line, and stays empty where memory runs out.
 pub(crate) fn check_lines<C: Checks>(
     alloc: Global,
     checker: &mut C,
@@ -28,6 +29,7 @@ pub(crate) fn check_lines<C: Checks>(
 ) -> Result<(), Ending>
     requires first { C.lines checker.old ≡ nothing }
     requires empty { advice.old.items ≡ [] }
+    requires room { most_advice ≤ vec_capacity advice.old }
     ensures quiet { OnOk result (advice.new.items ≡ []) }
     ensures advised { IfErr result (λ e. IsAdvised e input.now advice.new.items) }
     ensures taken { OnOk result (Leads nothing (text_lines input.now) (C.lines checker.new)) }
@@ -41,8 +43,7 @@ pub(crate) fn check_lines<C: Checks>(
         match feed_line(checker, line) {
             Ok(()) => rest = behind,
             Err(Stop::Bad(why)) => {
-                put_advice(alloc, checker, line, &why, advice);
-                return Err(Ending::BadLine { line: number, why });
+                return Err(end_bad(alloc, checker, line, number, why, advice));
             }
             Err(Stop::Crowded) => return Err(Ending::Crowded),
             Err(Stop::NoMemory) => return Err(Ending::NoMemory),

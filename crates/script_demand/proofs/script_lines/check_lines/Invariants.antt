@@ -1,4 +1,6 @@
-use Rattle.std.proofs.Common.{◌≡◌, ℕ, ◌-◌, ◌^◌, ◌++◌, List, [], length, min}
+use Rattle.std.proofs.Common.{◌≡◌, ℕ, ◌-◌, ◌^◌, ◌++◌, ◌≤◌, List, [], length, min}
+use Rattle.std.specs.Vec.{vec_capacity}
+use Rattle.line_advice.specs.Blamed.{most_advice}
 use Rattle.script_grammar.specs.Draft.{nothing}
 use Rattle.script_grammar.specs.Grammar.{Leads}
 use Rattle.script_words.specs.Lines.{text_lines}
@@ -13,6 +15,7 @@ invariant-loop-line g l =
       number : l.number ≡ min (length before) (2 ^ 32 - 1);
       leads : Leads nothing before (g.C.LinesBefore.lines l.checker);
       quiet : l.advice.items ≡ [];
+      roomy : most_advice ≤ vec_capacity l.advice;
     }
 
 abbrev pub decreases-loop-line : goal.decreases-loop-line
