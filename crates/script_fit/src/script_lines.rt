@@ -1,5 +1,6 @@
 //! The lines of a whole script are checked, and the names of its nodes and who asks for its sessions kept.
-ghost use Rattle.std.specs.Prelude.{◌≡◌, ◌++◌, [], OnOk, IfErr};
+ghost use Rattle.std.specs.Prelude.{◌≡◌, ◌≤◌, ◌++◌, [], OnOk, IfErr, vec_capacity};
+ghost use Rattle.line_advice.specs.Blamed.{most_advice};
 ghost use Rattle.script_grammar.specs.Draft.{nothing};
 ghost use Rattle.script_grammar.specs.Grammar.{Follows, HasFault, Leads};
 ghost use Rattle.script_grammar.specs.LineKinds.{script_line_of};
@@ -15,15 +16,15 @@ use byte_streams::MOST_LINE;
 use fit_findings::{Begun, begin, quit};
 use network_model::{Event, LocalCall};
 use rsvp_base::{EndName, NoMemory};
-use script_advice::put_advice;
+use script_demand::end_bad;
 use script_grammar::{Fault, ScriptLine, Stop, read_line};
 use script_run::{Checks, Ending};
 use script_words::{Unread, next_line};
 use std::alloc::Global;
 
 /// Checks the lines of an input one after the other, and keeps the names of the nodes that they declare, and those who ask, in the order
-/// in which they began. It ends at the first bad line, or where memory runs out. `advice` becomes the text that tells what is wrong with the bad line, and stays empty where memory
-/// runs out.
+/// in which they began. It ends at the first bad line, or where memory runs out. `advice`, for which there is room, becomes the text that
+/// tells what is wrong with the bad line, and stays empty where memory runs out.
 pub(crate) fn read_lines<C: Checks>(
     alloc: Global,
     checker: &mut C,
@@ -36,6 +37,7 @@ pub(crate) fn read_lines<C: Checks>(
     requires unnamed { nodes.old.items ≡ [] }
     requires unasked { begun.old.items ≡ [] }
     requires empty { advice.old.items ≡ [] }
+    requires room { most_advice ≤ vec_capacity advice.old }
     ensures quiet { OnOk result (advice.new.items ≡ []) }
     ensures advised { IfErr result (λ e. IsAdvised e input.now advice.new.items) }
     ensures taken { OnOk result (Leads nothing (text_lines input.now) (C.lines checker.new)) }
@@ -50,8 +52,7 @@ pub(crate) fn read_lines<C: Checks>(
         match take_line(alloc, checker, line, nodes, begun) {
             Ok(()) => rest = behind,
             Err(Stop::Bad(why)) => {
-                put_advice(alloc, checker, line, &why, advice);
-                return Err(Ending::BadLine { line: number, why });
+                return Err(end_bad(alloc, checker, line, number, why, advice));
             }
             Err(Stop::Crowded) => return Err(Ending::Crowded),
             Err(Stop::NoMemory) => return Err(Ending::NoMemory),

@@ -1,8 +1,9 @@
 //! Writing what is found in a script.
-ghost use Rattle.std.specs.Prelude.{◌≡◌, ◌≢◌, ◌↔◌, [], List, ℕ, Some, IfErr, IfOk, IsTrue, OnOk, take};
+ghost use Rattle.std.specs.Prelude.{◌≡◌, ◌≢◌, ◌↔◌, ◌≤◌, [], List, ℕ, Some, IfErr, IfOk, IsTrue, OnOk, take, vec_capacity};
 ghost use Rattle.std.specs.Io.KnownBytes.{Appends};
 ghost use Rattle.byte_streams.specs.Faults.{Rose};
 ghost use Rattle.laws_scripts.specs.Asked.{CanBeAsked};
+ghost use Rattle.line_advice.specs.Blamed.{most_advice};
 ghost use Rattle.network_model.specs.Runs.{Plan};
 ghost use Rattle.script_demand.specs.Answering.{IsWrittenOrNot};
 ghost use Rattle.script_demand.specs.Demanding.{DemandsTo, StopsAt};
@@ -18,6 +19,7 @@ use crate::script_lines::read_lines;
 use crate::whole_text::findings_text;
 use byte_streams::{ReadErr, Sink, Source, read_all, write_all};
 use fit_findings::Begun;
+use line_advice::make_room;
 use rsvp_base::{EndName, NoMemory};
 use script_demand::Asks;
 use script_run::Ending;
@@ -33,8 +35,8 @@ pub struct Checked {
 
 /// Reads a script of the source to its end, checks its lines, and writes to the sink what does not fit in the demands behind the last
 /// line, and who meets nobody. Its events are not run, and nothing is written before all of the input was read and found right.
-/// `advice` becomes the text that tells what is wrong with the bad line; where no line is bad, or memory runs out as it is written,
-/// it is empty.
+/// `advice` becomes the text that tells what is wrong with the bad line; where no line is bad, it is empty. There is room for it before
+/// the input is read.
 ///
 /// Refusals come in this order: `ReadFault` or `TooLong` while the input is read; `BadLine`; `WriteFault`. `NoMemory` may come at
 /// any time before the first byte is written.
@@ -60,6 +62,10 @@ pub fn write_findings<C: Asks + Drop, S: Source, K: Sink>(
         → (Rose (S.faults source.old) (S.faults source.new) → ⊥) → (wanted ≡ Ending.Done → Rose (K.faults sink.old) (K.faults sink.new) → ⊥) → IsOrNoMemory wanted result.ending }
 {
     advice.clear();
+    match make_room(advice) {
+        Ok(()) => {}
+        Err(_) => return silent(Ending::NoMemory),
+    }
     match read_all(alloc, source) {
         Ok(bytes) => answer(alloc, checker, bytes.as_slice(), sink, advice),
         Err(ReadErr::Fault) => silent(Ending::ReadFault),
@@ -88,6 +94,7 @@ fn answer<C: Asks + Drop, K: Sink>(
 ) -> Checked
     requires first { C.lines checker ≡ nothing }
     requires empty { advice.old.items ≡ [] }
+    requires room { most_advice ≤ vec_capacity advice.old }
     ensures advised { IsAdvised result.ending input.now advice.new.items }
     ensures found { IsFindingOf result.said result.ending input.now input.now (K.holds sink.old) (K.holds sink.new) }
     ensures read { result.ending ≢ Ending.ReadFault }
@@ -132,6 +139,7 @@ fn findings_of<C: Asks + Drop>(
 ) -> Result<Vec<u8>, Ending>
     requires first { C.lines checker ≡ nothing }
     requires empty { advice.old.items ≡ [] }
+    requires room { most_advice ≤ vec_capacity advice.old }
     ensures quiet { OnOk result (advice.new.items ≡ []) }
     ensures advised { IfErr result (λ e. IsAdvised e input.now advice.new.items) }
     ensures found { IfOk result (λ text. IsFindingsOf input.now text.items) }

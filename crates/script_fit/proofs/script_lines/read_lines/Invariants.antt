@@ -1,4 +1,6 @@
-use Rattle.std.proofs.Common.{◌≡◌, ℕ, ◌-◌, ◌^◌, ◌++◌, List, [], length, min}
+use Rattle.std.proofs.Common.{◌≡◌, ℕ, ◌-◌, ◌^◌, ◌++◌, ◌≤◌, List, [], length, min}
+use Rattle.std.specs.Vec.{vec_capacity}
+use Rattle.line_advice.specs.Blamed.{most_advice}
 use Rattle.script_grammar.specs.Draft.{nothing}
 use Rattle.script_grammar.specs.Grammar.{Leads}
 use Rattle.script_words.specs.Lines.{text_lines}
@@ -16,6 +18,7 @@ invariant-loop-line g l =
       nodes : l.nodes.items ≡ (g.C.LinesBefore.lines l.checker).nodes;
       begun : l.begun.items ≡ begun_by (g.C.LinesBefore.lines l.checker).events;
       quiet : l.advice.items ≡ [];
+      roomy : most_advice ≤ vec_capacity l.advice;
     }
 
 abbrev pub decreases-loop-line : goal.decreases-loop-line
