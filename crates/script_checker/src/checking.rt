@@ -52,15 +52,10 @@ impl LinesBefore for Checker {
         Ok(wants.first().map(|want| want.style))
     }
 
-    fn hop_fault(
-        &self,
-        group: Addr,
-        source: Addr,
-        hop: &HopEnds,
-    ) -> Result<Option<HopFault>, NoMemory> {
-        let hops = self.state.topology.tree(group, source)?;
-        let hop = hop_between(&self.state, hop);
-        Ok(self.state.topology.hop_fault(source, hops.as_slice(), hop))
+    fn hop_fault(&self, group: Addr, source: Addr, hop: &HopEnds) -> Option<HopFault> {
+        self.state
+            .topology
+            .growing_fault(group, source, hop_between(&self.state, hop))
     }
 
     fn tree_fault(

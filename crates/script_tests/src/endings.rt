@@ -3,6 +3,7 @@ ghost use Rattle.std.specs.Prelude.{◌≡◌, ◌<◌, []};
 ghost use Rattle.script_checker.specs.Checked.{draft_of};
 
 use byte_streams::{MemorySink, MemorySource};
+use rsvp_base::NoMemory;
 use script_advice::put_advice;
 use script_checker::Checker;
 use script_grammar::{Fault, Stop};
@@ -35,7 +36,7 @@ impl Player for Silent {
         }
     }
 
-    fn advise(&self, line: &[u8], why: &Fault, advice: &mut Vec<u8>) {
+    fn advise(&self, line: &[u8], why: &Fault, advice: &mut Vec<u8>) -> Result<(), NoMemory> {
         put_advice(self.alloc, &self.checker, line, why, advice)
     }
 }
