@@ -31,7 +31,7 @@ use std::alloc::Global;
 /// flow and its packets, and writes for each whether it passes. Where a script with
 /// an event was replayed to its end, and where a network was grown and run to its end, `last` holds the network in which the run
 /// ended; else it stays empty. `watch` sees all that happens in a replay or a growing. `advice` becomes the text that says what is wrong
-/// with the bad line, or by which line a replay is crowded; else, or where memory runs out as it is written, it is empty.
+/// with the bad line, or by which line a replay is crowded; else it is empty.
 ///
 /// `Usage` comes first: the words are no command, and nothing is read or written. How a replay ends is said at `replay`, how the
 /// demand of a script ends at `demand`, how showing ends at `show_messages`, how growing ends at `grow`, how the service of a

@@ -13,7 +13,7 @@ use std::alloc::Global;
 
 /// Reads a script of the source and writes to the sink what each end of its network owes behind the last line, and whether that
 /// fits. Its events are not run, and nothing is written before all of the input was read and found right. `advice` becomes the text
-/// that says what is wrong with the bad line; where no line is bad, or memory runs out as it is written, it is empty.
+/// that says what is wrong with the bad line; where no line is bad, it is empty.
 ///
 /// Refusals come in this order: `ReadFault` or `TooLong` while the input is read; `BadLine`; `WriteFault`. `NoMemory` may come at
 /// any time before the first byte is written.

@@ -12,7 +12,7 @@ use std::alloc::Global;
 
 /// Reads a stream of packets of the source, the flow first, and writes to the sink for each packet whether it passes, before the next
 /// is waited for, and at the end how many passed. `advice` becomes the text that says what is wrong with the bad line; where no line
-/// is bad, or memory runs out as it is written, it is empty.
+/// is bad, it is empty.
 ///
 /// At one line these come in this order: `ReadFault` or `TooLong` while it is read, then `BadLine`, then `WriteFault`. `NoMemory` comes
 /// before the first byte is read.

@@ -30,8 +30,8 @@ pub fn status_of(ending: Ending) -> Status
 
 /// Replays a script of the source: each line is checked and run, and its text written to the sink, before the next is read. Where
 /// it is done and the script has an event, `last` holds the network in which the run ended; else it stays empty. `watch` sees all that
-/// happens. `advice` becomes the text that says what is wrong with the bad line, or by which line the run is crowded; else, or where
-/// memory runs out as it is written, it is empty.
+/// happens. `advice` becomes the text that says what is wrong with the bad line, or by which line the run is crowded; else it is
+/// empty.
 ///
 /// At one line these come in this order: `ReadFault` or `TooLong` while it is read, then `BadLine`, then `Crowded`, then
 /// `WriteFault`. `NoMemory`: memory ran out.

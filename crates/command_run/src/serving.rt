@@ -12,7 +12,7 @@ use std::alloc::Global;
 
 /// Reads a stream of frames of the source, and writes to the sink for each the frames with which one router answers it, before the next
 /// is asked for. The first frame says where the router stands. `advice` becomes the text that says what is wrong with the bad frame;
-/// where no frame is bad, or memory runs out as it is written, it is empty.
+/// where no frame is bad, it is empty.
 ///
 /// At one frame these come in this order: `ReadFault` or `TooLong` (of more than 4,294,967,296 bytes) while it is read, then `BadLine`
 /// with the number of the frame, then `WriteFault`. `NoMemory` comes before the first byte is read, or at the first frame; nothing is

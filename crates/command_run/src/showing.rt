@@ -24,7 +24,7 @@ use std::alloc::Global;
 
 /// Reads messages of the source as lines of hexadecimal digits, and writes a line of words for each to the sink. Nothing is written
 /// before all of the input was read and found right. `advice` becomes the text that says what is wrong with the bad line; where no
-/// line is bad, or memory runs out as it is written, it is empty.
+/// line is bad, it is empty.
 ///
 /// Refusals come in this order: `ReadFault` or `TooLong` while the input is read; `BadLine`; `WriteFault`. `NoMemory` may come at
 /// any time before the first byte is written.

@@ -19,7 +19,7 @@ use std::alloc::Global;
 /// `close` of the recorder writes. The ending is `WriteFault` where an event could not be written, and may be `NoMemory` where there
 /// was no room for one; else it is that of the run, which is said at `run_lines`. Where it is done and the script has an event, `last`
 /// holds the network in which the run ended. `watch` sees what the recorder sees. `advice` becomes the text that tells what is wrong
-/// with the bad line; where no line is bad, or memory runs out as it is written, it is empty.
+/// with the bad line, or by which line the run is crowded; else it is empty.
 pub fn write_events<C: Checks + Drop, R: Opens, S: Source, K: Sink + Drop, W: Watch>(
     alloc: Global,
     checker: C,
