@@ -1,0 +1,501 @@
+-- One delivery: what is sent for a request, and where an answer goes on.
+use Rattle.std.proofs.Common.{◌≡◌, ℕ, List, [], ◌∷◌, ◌++◌, Bool, true, false, Option, None, Some, ◌⊎◌, inl, inr, ⊎_elim, sym, refl, ap, subst, ◌∙◌}
+use Rattle.std.specs.Prelude.{slice_get, is_some, not, map as each}
+use Rattle.std.specs.List.{filter_map}
+use Rattle.std.specs.Ordering.{eq_by_cmp}
+use Rattle.rsvp_base.specs.declared.addr.Addr.{Addr}
+use Rattle.rsvp_base.specs.declared.part.Part.{Part}
+use Rattle.rsvp_base.specs.declared.session.Sender.{Sender}
+use Rattle.rsvp_base.specs.declared.session.Session.{Session}
+use Rattle.rsvp_base.specs.declared.style.StyleKind.{StyleKind}
+use Rattle.rsvp_base.specs.declared.style.Unit.{Unit as UnitOf}
+use Rattle.rsvp_base.specs.Members.{In}
+use Rattle.rsvp_base.specs.Orders.{Names, senders, sessions, units}
+use Rattle.rsvp_base.specs.Keys.{pairs}
+use Rattle.rsvp_base.specs.Sets.{cut, is_none}
+use Rattle.rsvp_base.specs.Styles.{name_of, part_unit}
+use Rattle.rsvp_base.specs.Table.{empty, get, has, same_rows}
+use Rattle.rsvp_base.proofs.Counts.{in_found}
+use Rattle.rsvp_base.proofs.Members.{in_each, in_right, to_each}
+use Rattle.rsvp_base.proofs.SetLaws.{and_both, and_made, has-cut}
+use Rattle.rsvp_base.proofs.Tables.{either, same_table, tied_same}
+use Rattle.rsvp_base.proofs.UnderLaws.{get-under}
+use Rattle.rsvp_messages.specs.declared.message.Message.TheVariants as message
+use Rattle.rsvp_messages.specs.declared.message.ResvConfMsg.{ResvConfMsg}
+use Rattle.rsvp_messages.specs.declared.message.ResvMsg.{ResvMsg}
+use Rattle.rsvp_messages.specs.Proper.{IsProperAsk}
+use Rattle.rsvp_messages.specs.Units.{ask_style, only}
+use Rattle.style_rules.specs.CutLaws.{cut_of, part_of_some, some_within}
+use Rattle.style_rules.specs.Lines.{LineKey, NextHop, next_hops}
+use Rattle.style_rules.specs.Merge.{PartTable}
+use Rattle.style_rules.specs.Parts.{part_cut}
+use Rattle.style_rules.specs.Toward.{Request, toward as merged_toward}
+use Rattle.style_rules.proofs.StyleLaws.{common_unit, within_unit}
+use Rattle.style_rules.proofs.Towards.{toward_source, toward_there}
+use Rattle.laws_inputs.specs.FactLaws.{ComesBy, IsResvRequest, IsWantRequest}
+use Rattle.laws_inputs.specs.SendLaws.{IsResvTear}
+use Rattle.laws_inputs.specs.WishLaws.{GoesOn}
+use Rattle.laws_inputs.proofs.Asks.{gone_by_units}
+use Rattle.laws_inputs.proofs.Framing.{act_paths, act_wants, act_walls}
+use Rattle.laws_inputs.proofs.Knowing.{known_and_via}
+use Rattle.laws_inputs.proofs.Lists.{one_name}
+use Rattle.laws_inputs.proofs.Requesting.{requests_and_toward}
+use Rattle.laws_inputs.proofs.Ruling.{rule_in_parts}
+use Rattle.laws_inputs.proofs.Tests.{ties}
+use Rattle.laws_steps.specs.AcceptingLaws.{came_resv}
+use Rattle.laws_steps.specs.ReservationLaws.{IsAskedFor, Touches}
+use Rattle.laws_steps.proofs.Admitting.{what_is_accepted}
+use Rattle.laws_steps.proofs.Asking.{where_a_reservation_fact_comes_from}
+use Rattle.router_rules.specs.Bounds.{IsWithinBounds}
+use Rattle.router_rules.specs.Facts.{Facts, Paths, ResvState, Walls, Wants, resvs_in, resvs_of, wants_in}
+use Rattle.router_rules.specs.Inputs.{Came, Input, Send, Spelt}
+use Rattle.router_rules.specs.Known.{Lane, lane_keys, lanes, names_via, names_via_where}
+use Rattle.router_rules.specs.NodeConfig.{NodeConfig, goes_out, own}
+use Rattle.router_rules.specs.Requests.{is_blockaded, requests, resv_request, toward, want_part, want_request}
+use Rattle.router_rules.specs.Rule.{Outcome, rule}
+use Rattle.router_rules.specs.Sends.{gone_names, torn_names}
+use Rattle.router_rules.specs.Steps.{IsLeftOf, facts_then, node_step, sent_then}
+use Rattle.tree_model.specs.declared.hops.LinkHop.{LinkHop}
+use Rattle.tree_model.specs.Goals.{addr_of}
+use Rattle.tree_model.specs.Networks.{end_at, iface_of, node_of, node_of_end}
+use Rattle.tree_model.specs.Trees.{tree}
+use Rattle.tree_model.specs.Wants.{want}
+use Rattle.tree_model.proofs.Ifaces.{interfaces_are_ends}
+use Rattle.tree_model.proofs.RankLaws.{rank_falls}
+use Rattle.network_model.specs.Bounds.{IsProperArrival}
+use Rattle.network_model.specs.Links.{copy_to, goes_to}
+use Rattle.network_model.specs.Locals.{locals_of}
+use Rattle.network_model.specs.Steps.{Deliver, outcome, rest, sent, step, still}
+use Rattle.network_model.specs.Worlds.{Item, World, config_of}
+use Rattle.network_model.proofs.Changing.{what_is_sent_is_copied}
+use Rattle.network_model.proofs.Machines.{in_arrived}
+use Rattle.network_model.proofs.NodeLocals.{live_told}
+use Rattle.network_model.proofs.Stepping.{copies_made, facts_after_made, sent_made}
+use Rattle.laws_network.proofs.Known.{of_some}
+use Rattle.laws_network.proofs.Standing.{own_end}
+use Rattle.settle_paths.specs.PreviousHops.{IsAhead}
+use Rattle.settle_paths.proofs.PreviousHops.{ahead, ends_there, one_previous, same_by_addr}
+use Rattle.settle_resvs.specs.GoalByIface.{goal_at}
+use Rattle.settle_resvs.specs.Said.{HopKey, lane_of}
+use Rattle.settle_resvs.proofs.ResvSends.{over_hop}
+use Rattle.settle_resvs.proofs.UnderTheGoal.{one_style}
+use Rattle.settle_passes.proofs.Deliveries.{came_by_delivery, known_self, same_next}
+use Rattle.settle_passes.proofs.Reserving.{turns}
+use Rattle.settle_passes.proofs.Turns.{IsAskedNow, Turns, addressed_in_turn, resv_in_turn, stays_or_asked}
+use Rattle.settle_confirmations.specs.Requests.{IsOnlySender}
+use Rattle.settle_confirmations.proofs.Moving.{IsAsking, IsConf, IsDown, IsNext, IsTakenAt, IsUp, arrived_mark, goes_down, leads_next, listed_one, one_listed, only', r', taken_at, untouched}
+use Rattle.settle_confirmations.proofs.Taken.{IsAnswer, IsPassedOn, after, answered_or_on, asked, change, in_only, sent_kind, some_unit}
+
+some_row : (t : PartTable) → (t ≡ empty → ⊥) → (k : UnitOf) × (w : Part) × (get t k ≡ Some w)
+some_row t some = by t.rows refl
+  where
+    by : (rows : List (UnitOf × Part)) → t.rows ≡ rows → (k : UnitOf) × (w : Part) × (get t k ≡ Some w)
+    by [] is = absurd (some (same_rows t empty is))
+    by (z ∷ zs) is = (z.0, z.1, in_found units t z.0 z.1 (subst (λ (es : List (UnitOf × Part)). In z es) (sym is) (inl refl)))
+
+of_came : (i j : ℕ) (a b : Addr) (m w : ResvMsg) → Came i a (Spelt (message.Resv m)) ≡ Came j b (Spelt (message.Resv w)) → m ≡ w
+of_came i j a b m w e = cc
+
+one_there : (z : Sender) → is_none (only z) ≡ false
+one_there z = refl
+
+nobody : (ns : Names) (z : Sender) → is_none ns ≡ true → has ns z ≡ true → ⊥
+nobody ns z none h =
+    let some = some_within (only z) ns (λ y i. subst (λ (b : Sender). has ns b ≡ true) (sym (in_only z y i)) h) (one_there z) in
+    let bad : true ≡ false = sym none ∙ some in
+    cc
+
+not_none : (b : Bool) → not b ≡ true → b ≡ false
+not_none true h = absurd (cc)
+not_none false h = refl
+
+-- ---- a request that arrives
+module _ (q : ℕ) (s : Session) (st : StyleKind) (x : Sender) (e : ℕ) (u : World) (a : IsAsking q s st x e u) (y : Item) (arr : slice_get u.flight 0 ≡ Some y) (v : IsUp u s st x e y) where
+  abbrev n : ℕ
+  n = node_of u.net.ends y.end
+
+  abbrev i : ℕ
+  i = iface_of u.net.ends y.end
+
+  abbrev p : NodeConfig
+  p = config_of q u.net u.trees (node_of u.net.ends y.end)
+
+  abbrev m : ResvMsg
+  m = v.resv
+
+  abbrev to_it : IsTakenAt q s st x e u a y v.resv
+  to_it = taken_at q s st x e u a y arr v
+
+  abbrev f : Facts
+  f = (taken_at q s st x e u a y arr v).facts
+
+  abbrev next : World
+  next = step q (Deliver 0) u
+
+  pub within : IsWithinBounds p u.clock f
+  within = a.reserving.paths.bounds.facts n f to_it.node
+
+  abbrev then : Facts
+  then = after p u.clock i m f (goal_at u.net (locals_of u) n) within to_it.can (addr_of u.net e) v.wish
+
+  abbrev g : Facts
+  g = (outcome q (Deliver 0) u n f).facts
+
+  at_next : slice_get next.nodes n ≡ Some g
+  at_next = facts_after_made q (Deliver 0) u n f to_it.node
+
+  facts_are : g ≡ facts_then p p u.clock (came_resv p i m) f
+  facts_are = ap (λ (o : Outcome). o.facts) to_it.is
+
+  paths_same : then.paths ≡ f.paths
+  paths_same = act_paths p u.clock (came_resv p i m) f refl
+
+  wants_same : then.wants ≡ f.wants
+  wants_same = act_wants p u.clock (came_resv p i m) f refl
+
+  walls_same : then.walls ≡ f.walls
+  walls_same = act_walls p u.clock (came_resv p i m) f refl
+
+  -- ---- a reservation stays: as it is, or with the sender's name
+  pub record IsThereStill (k : StyleKind) (key : LineKey) (w : ResvState) : Type 0 where
+    pub resv : ResvState
+    pub there : get (resvs_of k then) key ≡ Some resv
+    pub unit : part_unit k w.part ≡ part_unit k resv.part
+    pub names : (ns : Names) → is_none (cut w.part.senders ns) ≡ false → is_none (cut resv.part.senders ns) ≡ false
+
+  in_then : (k : StyleKind) (key : LineKey) (w : ResvState) → get (resvs_of k g) key ≡ Some w → get (resvs_of k then) key ≡ Some w
+  in_then k key w h = ap (λ (z : Facts). get (resvs_of k z) key) (sym facts_are) ∙ h
+
+  abbrev lane_in : Lane
+  lane_in = record { session = m.session; style = ask_style m.ask; hop = (i, m.hop.addr) }
+
+  stays_apart : (k : StyleKind) (key : LineKey) (w : ResvState) → get (resvs_of k f) key ≡ Some w → eq_by_cmp lane_keys.cmp lane_in (record { session = key.0; style = k; hop = key.1.0 }) ≡ false
+      → get (resvs_of k g) key ≡ Some w
+  stays_apart k key w h apart =
+      ⊎_elim (λ (z : outcome q (Deliver 0) u n f ≡ still f). ap (λ (o : Outcome). get (resvs_of k o.facts) key) z ∙ h)
+      (λ (t : Turns q (Deliver 0) u n f).
+      untouched q s st x e u a n f to_it.node t k key w h (λ touch.
+      let input : t.input ≡ came_resv p i m = of_some t.input (came_resv p i m) (sym t.came ∙ to_it.came) in
+      let by = subst (λ (z : Input). Touches z k key w) input touch in
+      let same : lane_in ≡ record { session = key.0; style = k; hop = key.1.0 } = (λ j. record { session = by.0 j; style = by.3 j; hop = (by.1 j, by.2 j) }) in
+      let bad : true ≡ false = sym (ties lane_keys lane_in (record { session = key.0; style = k; hop = key.1.0 }) same) ∙ apart in
+      cc))
+      (turns q s u a.reserving n f to_it.node)
+
+  resv_stays : (k : StyleKind) (key : LineKey) (w : ResvState) → get (resvs_of k f) key ≡ Some w → IsThereStill k key w
+  resv_stays k key w h =
+      either (eq_by_cmp lane_keys.cmp lane_in (record { session = key.0; style = k; hop = key.1.0 }))
+      (λ tied.
+      let same = tied_same lane_keys lane_in (record { session = key.0; style = k; hop = key.1.0 }) tied in
+      let back = sym same in
+      let session : s ≡ key.0 = sym v.session ∙ ap (λ (z : Lane). z.session) same in
+      let unit = some_unit m.ask to_it.can.proper in
+      let placed = to_it.can.units unit.0 unit.1 in
+      let d = (what_is_accepted.whole p p u.clock u.clock i m f (goal_at u.net (locals_of u) n) within to_it.can).facts unit.0 placed.names unit.1 placed.listed in
+      let there : get (resvs_of k g) (key.0, (key.1.0, unit.0.unit)) ≡ Some d.0 =
+      (λ j. get (resvs_of (back j).style (facts_are j)) ((back j).session, ((back j).hop, unit.0.unit))) ∙ d.1 in
+      let old_fact = a.reserving.sound.facts k n f key w to_it.node h in
+      let old = old_fact.sound in
+      let new_fact = (r' q s st x e u a).sound.facts k n g (key.0, (key.1.0, unit.0.unit)) d.0 at_next there in
+      let new = new_fact.sound in
+      let only_old : IsOnlySender u key.0 x = subst (λ (z : Session). IsOnlySender u z x) session a.only in
+      let only_new : IsOnlySender next key.0 x = subst (λ (z : Session). IsOnlySender next z x) session (only' q s st x e u a) in
+      let has_old = listed_one u key.0 x only_old k old_fact.end key.1.0.1 key.1.1 w.part old in
+      let has_new = listed_one next key.0 x only_new k new_fact.end key.1.0.1 unit.0.unit d.0.part new in
+      let shape_old = (a.reserving.paths.bounds.facts n f to_it.node).shapes.resvs k key w h in
+      let shape_new = ((r' q s st x e u a).paths.bounds.facts n g at_next).shapes.resvs k (key.0, (key.1.0, unit.0.unit)) d.0 there in
+      let units_are : part_unit k w.part ≡ part_unit k d.0.part = common_unit k w.part d.0.part (name_of k x) shape_old.style shape_new.style has_old has_new in
+      let key_is : key.1.1 ≡ unit.0.unit = shape_old.unit ∙ units_are ∙ sym shape_new.unit in
+      record {
+        resv = d.0;
+        there = in_then k key d.0 (ap (λ (z : UnitOf). get (resvs_of k g) (key.0, (key.1.0, z))) key_is ∙ there);
+        unit = units_are;
+        names = λ ns some.
+            let one = one_name (cut w.part.senders ns) some in
+            let both = and_both _ _ (sym (has-cut senders w.part.senders ns one.0) ∙ one.1) in
+            let is : one.0 ≡ name_of k x = (one_listed u key.0 x only_old k old_fact.end key.1.0.1 key.1.1 w.part old one.0 both.0).0 in
+            let new_one : has (cut d.0.part.senders ns) (name_of k x) ≡ true =
+            has-cut senders d.0.part.senders ns (name_of k x) ∙ and_made _ _ has_new (subst (λ (z : Sender). has ns z ≡ true) is both.1) in
+            either (is_none (cut d.0.part.senders ns)) (λ none. absurd (nobody (cut d.0.part.senders ns) (name_of k x) none new_one)) (λ no. no);
+      })
+      (λ apart. record { resv = w; there = in_then k key w (stays_apart k key w h apart); unit = refl; names = λ ns some. some })
+
+  -- ---- so each unit that goes toward a hop goes on to
+  via_same : (l : Lane) (test : Sender → Bool) → names_via_where then l test ≡ names_via_where f l test
+  via_same l test = ap (λ (z : Paths). names_via_where (record f { paths = z }) l test) paths_same
+
+  all_same : (l : Lane) → names_via then l ≡ names_via f l
+  all_same l = ap (λ (z : Paths). names_via (record f { paths = z }) l) paths_same
+
+  goes_on_to : (l : Lane) (un : UnitOf) → has (toward p f l) un ≡ true → has (toward p then l) un ≡ true
+  goes_on_to l un h =
+      let o = toward_source l.style (requests p f l) un h in
+      let rq : Request = o.0 in
+      ⊎_elim
+      (λ (w : IsResvRequest p f l rq).
+      let z = resv_stays l.style (l.session, w.key) w.resv w.there in
+      let test : Sender → Bool = goes_out p l.session w.key.0.0 in
+      let via : Names = names_via_where f l test in
+      let old = cut_of w.resv.part rq.part via w.part in
+      let some : is_none (cut w.resv.part.senders via) ≡ false = ap is_none (sym old.senders) ∙ not_none (is_none rq.part.senders) o.1.named in
+      let part : Part = record { senders = cut z.resv.part.senders via; flow = z.resv.part.flow } in
+      let made : part_cut z.resv.part (names_via_where then l test) ≡ Some part =
+      ap (part_cut z.resv.part) (via_same l test) ∙ part_of_some (cut z.resv.part.senders via) z.resv.part.flow (z.names via some) in
+      let new : Request = record { part = part; blockaded = is_blockaded l.style then.walls l part } in
+      let among : In new (requests p then l) = (requests_and_toward.each p then l new).1 (inl (record { key = w.key; resv = z.resv; there = z.there; part = made; blockaded = refl })) in
+      let shape_old = (a.reserving.paths.bounds.facts n f to_it.node).shapes.resvs l.style (l.session, w.key) w.resv w.there in
+      let there' : get (resvs_of l.style g) (l.session, w.key) ≡ Some z.resv = ap (λ (b : Facts). get (resvs_of l.style b) (l.session, w.key)) facts_are ∙ z.there in
+      let shape_new = ((r' q s st x e u a).paths.bounds.facts n g at_next).shapes.resvs l.style (l.session, w.key) z.resv there' in
+      let cut_old : part_unit l.style rq.part ≡ part_unit l.style w.resv.part =
+      within_unit l.style w.resv.part rq.part shape_old.style o.1.named
+      (λ b i. (and_both _ _ (sym (has-cut senders w.resv.part.senders via b) ∙ subst (λ (c : Names). has c b ≡ true) old.senders i)).0) in
+      let cut_new : part_unit l.style part ≡ part_unit l.style z.resv.part =
+      within_unit l.style z.resv.part part shape_new.style (ap not (z.names via some)) (λ b i. (and_both _ _ (sym (has-cut senders z.resv.part.senders via b) ∙ i)).0) in
+      toward_there l.style (requests p then l) un new
+      (record { among = among; named = ap not (z.names via some); unit = o.1.unit ∙ cut_old ∙ z.unit ∙ sym cut_new }))
+      (λ (w : IsWantRequest f l rq).
+      let among : In rq (requests p then l) =
+      (requests_and_toward.each p then l rq).1
+      (inr (record {
+        unit = w.unit;
+        want = w.want;
+        there = ap (λ (z : Wants). get z (l.session, w.unit)) wants_same ∙ w.there;
+        style = w.style;
+        part = ap (λ (z : Names). want_part l.style z w.want.part) (all_same l) ∙ w.part;
+        blockaded = w.blockaded ∙ ap (λ (z : Walls). is_blockaded l.style z l rq.part) (sym walls_same);
+      })) in
+      toward_there l.style (requests p then l) un rq (record { among = among; named = o.1.named; unit = o.1.unit }))
+      ((requests_and_toward.each p f l rq).0 o.1.among)
+
+  -- and nothing is torn down
+  no_tear : (z : Send) → IsResvTear p p f then (change p u.clock i m f (goal_at u.net (locals_of u) n) within to_it.can (addr_of u.net e) v.wish) z → ⊥
+  no_tear z t =
+      let one = one_name (torn_names p p f then t.lane) t.some in
+      let both = and_both _ _ (sym (has-cut senders (gone_names (toward p f t.lane) (toward p then t.lane)) (names_via then t.lane) one.0) ∙ one.1) in
+      let gone = (gone_by_units.each (toward p f t.lane) (toward p then t.lane) one.0).0 both.0 in
+      let bad : true ≡ false = sym (goes_on_to t.lane gone.unit (ap is_some gone.was)) ∙ gone.gone in
+      cc
+
+  -- ---- what goes toward the hops of other sessions stays
+  elsewhere : (l : Lane) → (l.session ≡ s → ⊥) → toward p f l ≡ toward p then l
+  elsewhere l other =
+      λ j. merged_toward l.style
+      (filter_map (resv_request p (record f { paths = sym paths_same j; walls = sym walls_same j }) l) (tables j).rows
+      ++ filter_map (want_request (record f { paths = sym paths_same j; walls = sym walls_same j }) l) (wants_in (record f { wants = sym wants_same j }) l.session).rows)
+    where
+      looked_up : (k : NextHop × UnitOf) → get (resvs_of l.style f) (l.session, k) ≡ get (resvs_of l.style then) (l.session, k)
+      looked_up k = by (get (resvs_of l.style f) (l.session, k)) (get (resvs_of l.style then) (l.session, k)) refl refl
+        where
+          apart : eq_by_cmp lane_keys.cmp lane_in (record { session = l.session; style = l.style; hop = k.0 }) ≡ false
+          apart = either (eq_by_cmp lane_keys.cmp lane_in (record { session = l.session; style = l.style; hop = k.0 }))
+              (λ tied.
+              let same = tied_same lane_keys lane_in (record { session = l.session; style = l.style; hop = k.0 }) tied in
+              absurd (other (sym (ap (λ (z : Lane). z.session) same) ∙ v.session)))
+              (λ no. no)
+
+          by : (b c : Option ResvState) → get (resvs_of l.style f) (l.session, k) ≡ b → get (resvs_of l.style then) (l.session, k) ≡ c
+              → get (resvs_of l.style f) (l.session, k) ≡ get (resvs_of l.style then) (l.session, k)
+          by (Some w) c h h' = h ∙ sym (in_then l.style (l.session, k) w (stays_apart l.style (l.session, k) w h apart))
+          by None None h h' = h ∙ sym h'
+          by None (Some z) h h' =
+              ⊎_elim
+              (λ (old : (w : ResvState) × (get (resvs_of l.style f) (l.session, k) ≡ Some w) × IsLeftOf w z). let bad : None ≡ Some old.0 = sym h ∙ old.1 in absurd (cc))
+              (λ (new : IsAskedFor p u.clock (came_resv p i m) f l.style (l.session, k) z).
+              let same : m ≡ new.by.resv = of_came i k.0.0 (own p i) (own p k.0.0) m new.by.resv new.by.came in
+              absurd (other (sym new.by.session ∙ ap (λ (z : ResvMsg). z.session) (sym same) ∙ v.session)))
+              (where_a_reservation_fact_comes_from (node_step p p u.clock u.clock (came_resv p i m) f) within l.style (l.session, k) z h')
+
+      tables : resvs_in l.style f l.session ≡ resvs_in l.style then l.session
+      tables =
+          same_table (pairs next_hops units) (resvs_in l.style f l.session) (resvs_in l.style then l.session)
+          (λ k. get-under sessions (pairs next_hops units) (resvs_of l.style f) l.session k ∙ looked_up k ∙ sym (get-under sessions (pairs next_hops units) (resvs_of l.style then) l.session k))
+
+  -- ---- what the request makes the node send: a request of the same end over the hop before, or an answer
+  pub record IsOnward (z : Item) : Type 0 where
+    pub up : IsUp next s st x e z
+    pub before : IsNext u.net s x up.hop v.hop
+
+  -- what comes to the node over a hop of its own
+  comes_over : (l : Lane) → has (lanes then) l ≡ true → (z : Sender) × IsAhead next n l.session l.hop z
+  comes_over l h =
+      let by = (known_and_via.lanes_by then l).0 h in
+      let comes : ComesBy g l.session l.hop by.0 =
+      record { path = by.1.path; there = ap (λ (w : Facts). get w.paths (l.session, by.0)) facts_are ∙ by.1.there; by = by.1.by } in
+      (by.0, ahead next n g (r' q s st x e u a).paths.sound at_next l.session l.hop by.0 comes)
+
+  onward : (z : Item) (b : Bool) → In (z, b) (sent q (Deliver 0) u) → (c : Send) → z.arrival ≡ Spelt c.message
+      → (o : IsPassedOn p u.clock i m f (goal_at u.net (locals_of u) n) within to_it.can (addr_of u.net e) v.wish c) → IsOnward z
+  onward z b sends c arrival o =
+      let net = u.net in
+      let spelt : z.arrival ≡ Spelt (message.Resv o.resv) = arrival ∙ ap Spelt o.says in
+      let b' = (r' q s st x e u a).paths.bounds in
+      let paths' = (r' q s st x e u a).paths.sound in
+      let bounds_u = a.reserving.paths.bounds in
+      let t = resv_in_turn q (Deliver 0) u bounds_u (turns q s u a.reserving) z b o.resv sends spelt in
+      let own_dst = addressed_in_turn q (Deliver 0) u bounds_u (turns q s u a.reserving) b' paths' z b o.resv sends spelt in
+      let over = over_hop q next b' paths' z o.resv t own_dst in
+      let from = ahead next t.node t.facts paths' t.after t.lane.session t.lane.hop t.by.0 t.by.1 in
+      let session : o.resv.session ≡ s =
+      either (eq_by_cmp sessions.cmp o.lane.session s) (λ tied. o.session ∙ tied_same sessions o.lane.session s tied)
+      (λ apart. absurd (o.changed (elsewhere o.lane (λ same. let bad : true ≡ false = sym (ties sessions o.lane.session s same) ∙ apart in cc)))) in
+      let lane_session : t.lane.session ≡ s = sym t.session ∙ session in
+      let live = live_told next t.lane.session t.by.0 from.live in
+      let sender : t.by.0 ≡ x = subst (λ (w : Session). IsOnlySender next w x) (sym lane_session) (only' q s st x e u a) t.by.0 live.0 live.1 in
+      let way : from.way ≡ over.0 = one_previous net bounds_u.net t.node t.lane.session t.lane.hop from.way over.0 from.previous over.1 in
+      let there : In over.0 (tree net.hops s.group x.addr) =
+      subst (λ (w : Session × Sender × LinkHop). In w.2 (tree net.hops w.0.group w.1.addr)) (λ j. (lane_session j, sender j, way j)) from.there in
+      let unit = some_unit m.ask to_it.can.proper in
+      let flies = in_arrived (Deliver 0) u y arr in
+      let old = (a.reserving.sound.items y m unit.0 flies v.says unit.1).sound in
+      let z_in : In z next.flight = in_right z (rest (Deliver 0) u) (each (λ (w : Item × Bool). w.0) (sent q (Deliver 0) u)) (to_each (λ (w : Item × Bool). w.0) (z, b) (sent q (Deliver 0) u) sends) in
+      let proper_z : IsProperAsk o.resv.ask = subst IsProperArrival spelt (b'.flight z z_in).proper in
+      let unit_z = some_unit o.resv.ask proper_z in
+      let new = ((r' q s st x e u a).sound.items z o.resv unit_z.0 z_in spelt unit_z.1).sound in
+      let style : ask_style o.resv.ask ≡ ask_style m.ask =
+      one_style net (locals_of u) s a.reserving.fit (ask_style o.resv.ask) (ask_style m.ask) new.hop old.hop unit_z.0.unit unit.0.unit new.wanted old.wanted
+      ((λ j. get (want (ask_style o.resv.ask) net (same_locals j) (sym session j) new.hop) unit_z.0.unit) ∙ new.is)
+      (ap (λ (w : Session). get (want (ask_style m.ask) net (locals_of u) w old.hop) unit.0.unit) (sym v.session) ∙ old.is) in
+      let mine = (comes_over o.lane o.there).1 in
+      let h : LinkHop = mine.way in
+      let inside = ends_there net bounds_u.net o.lane.session.group h mine.previous.there in
+      let end : end_at net.ends n o.lane.hop.0 ≡ Some h.to =
+      (λ j. end_at net.ends (sym mine.previous.node j) (sym mine.previous.iface j)) ∙ (interfaces_are_ends net).end_of_iface h.to inside.1 in
+      let of = (interfaces_are_ends net).iface_of_end t.node t.lane.hop.0 t.end t.at in
+      let same_ends : t.end ≡ h.to =
+      same_by_addr net bounds_u.net t.end h.to of.0 inside.1 (sym t.hop ∙ o.hop ∙ own_end q net u.trees n o.lane.hop.0 h.to end) in
+      let node : node_of net.ends over.0.to ≡ n = ap (node_of net.ends) (over.3 ∙ same_ends) ∙ mine.previous.node in
+      let next_one : IsNext net s x over.0 v.hop =
+      record {
+        there = v.there;
+        meet = ap (node_of net.ends) v.from ∙ sym node;
+        lower = (rank_falls net bounds_u.net.loop_free).falls s.group over.0 v.hop (record { source = x.addr; first = there; second = v.there; meet = ap (node_of net.ends) v.from ∙ sym node });
+      } in
+      record {
+        up = record {
+          resv = o.resv;
+          says = spelt;
+          session = session;
+          style = style ∙ v.style;
+          wish = o.mark;
+          hop = over.0;
+          there = there;
+          from = over.2;
+          to = ap (addr_of net) over.3 ∙ sym t.hop;
+          hops = v.hop ∷ v.hops;
+          leads = (next_one, arrived_mark q s st x e u a y arr v, leads_next q s st x e u a v.hops v.hop v.leads);
+        };
+        before = next_one;
+      }
+    where
+      same_locals : locals_of u ≡ locals_of next
+      same_locals = sym ((same_next q 0 u a.reserving.paths.bounds u (known_self q u a.reserving.paths.bounds).same).locals)
+
+  pub new_item : (z : Item) (b : Bool) → In (z, b) (sent q (Deliver 0) u) → IsConf z ⊎ IsOnward z
+  new_item z b sends =
+      let c = (what_is_sent_is_copied q (Deliver 0) u (z, b)).0 sends in
+      let arrival : z.arrival ≡ Spelt c.send.message = ap (λ (w : Item × Bool). w.0.arrival) c.is in
+      ⊎_elim
+      (λ (h : outcome q (Deliver 0) u c.node c.facts ≡ still c.facts). absurd (subst (λ (w : Outcome). In c.send w.sent) h c.sent))
+      (λ (t : Turns q (Deliver 0) u c.node c.facts).
+      let d = came_by_delivery q 0 u a.reserving.paths.bounds c.node t.input t.came in
+      let is : d.item ≡ y = of_some d.item y (sym d.arrives ∙ arr) in
+      let node : c.node ≡ n = sym d.node ∙ sym (ap node_of_end d.there) ∙ ap (λ (w : Item). node_of u.net.ends w.end) is in
+      let facts : c.facts ≡ f = of_some c.facts f (sym c.there ∙ ap (λ (w : ℕ). slice_get u.nodes w) node ∙ to_it.node) in
+      let by : outcome q (Deliver 0) u c.node c.facts ≡ rule p p u.clock (came_resv p i m) f = (λ j. outcome q (Deliver 0) u (node j) (facts j)) ∙ to_it.is in
+      let among : In c.send (sent_then p p u.clock (came_resv p i m) f) = subst (λ (w : Outcome). In c.send w.sent) by c.sent in
+      ⊎_elim
+      (λ (k : IsResvTear p p f then (change p u.clock i m f (goal_at u.net (locals_of u) n) within to_it.can (addr_of u.net e) v.wish) c.send). absurd (no_tear c.send k))
+      (λ k. ⊎_elim
+      (λ (h : (conf : ResvConfMsg) × (c.send.message ≡ message.ResvConf conf)). inl (h.0, arrival ∙ ap Spelt h.1))
+      (λ (o : IsPassedOn p u.clock i m f (goal_at u.net (locals_of u) n) within to_it.can (addr_of u.net e) v.wish c.send). inr (onward z b sends c.send arrival o)) k)
+      (sent_kind p u.clock i m f (goal_at u.net (locals_of u) n) within to_it.can (addr_of u.net e) v.wish c.send among))
+      (turns q s u a.reserving c.node c.facts c.there)
+
+  in_next : (z : Item) (b : Bool) → In (z, b) (sent q (Deliver 0) u) → In z next.flight
+  in_next z b sends = in_right z (rest (Deliver 0) u) (each (λ (w : Item × Bool). w.0) (sent q (Deliver 0) u)) (to_each (λ (w : Item × Bool). w.0) (z, b) (sent q (Deliver 0) u) sends)
+
+  -- ---- it is answered over its hop, or goes on over another one
+  pub record IsAnsweredThere : Type 0 where
+    pub item : Item
+    pub flight : In item next.flight
+    pub down : IsDown next s st x e item
+    pub hop : down.hop ≡ v.hop
+
+  pub record GoesOnThere : Type 0 where
+    pub item : Item
+    pub flight : In item next.flight
+    pub onward : IsOnward item
+
+  answer_there : (z : Send) → In z (sent_then p p u.clock (came_resv p i m) f)
+      → IsAnswer p u.clock i m f (goal_at u.net (locals_of u) n) within to_it.can (addr_of u.net e) v.wish z → IsAnsweredThere
+  answer_there z sends k =
+      let out : In z (outcome q (Deliver 0) u n f).sent = subst (λ (w : Outcome). In z w.sent) (sym to_it.is) sends in
+      let down = goes_down q u a.reserving.paths.bounds s.group x.addr v.hop v.there in
+      let goes : In v.hop.to (goes_to u.net (end_at u.net.ends n z.iface) z.dst) =
+      subst (λ (w : ℕ × Addr). In v.hop.to (goes_to u.net (end_at u.net.ends n w.0) w.1))
+      (λ j. (ap (λ (o : Send). o.iface) (sym k.is) j, (v.to ∙ ap (λ (o : Send). o.dst) (sym k.is)) j))
+      (subst (λ (w : ℕ). In v.hop.to (goes_to u.net (end_at u.net.ends (node_of u.net.ends w) (iface_of u.net.ends w)) (addr_of u.net v.hop.to))) v.from down) in
+      let copy : Item × Bool = copy_to u.made z v.hop.to in
+      let one : In copy (sent q (Deliver 0) u) = sent_made q (Deliver 0) u n f copy to_it.node (copies_made u.net u.made n (outcome q (Deliver 0) u n f).sent z v.hop.to out goes) in
+      let flies = in_arrived (Deliver 0) u y arr in
+      let sound = a.reserving.sound.items y m k.unit flies v.says k.asks in
+      let listed : k.listed ≡ sound.names = of_some k.listed sound.names (sym k.lists ∙ sound.named) in
+      let only_m : IsOnlySender u m.session x = subst (λ (w : Session). IsOnlySender u w x) (sym v.session) a.only in
+      let name = one_listed u m.session x only_m (ask_style m.ask) y.end m.hop.addr k.unit.unit (record { senders = sound.names; flow = k.unit.flow }) sound.sound k.name
+      (subst (λ (w : Names). has w k.name ≡ true) listed k.named) in
+      let is_name : k.name ≡ name_of st x = name.0 ∙ ap (λ (w : StyleKind). name_of w x) v.style in
+      record {
+        item = copy.0;
+        flight = in_next copy.0 copy.1 one;
+        down = record {
+          conf = k.conf;
+          says = ap (λ (o : Send). Spelt o.message) k.is;
+          session = k.session ∙ v.session;
+          style = k.style ∙ v.style;
+          confirm = k.confirm;
+          speaks = λ ns h. k.speaks ns (subst (λ (w : Sender). has ns w ≡ true) (sym is_name) h);
+          hop = v.hop;
+          there = v.there;
+          end = refl;
+          dst = ap (λ (o : Send). o.dst) k.is ∙ sym v.to;
+          hops = v.hops;
+          leads = leads_next q s st x e u a v.hops v.hop v.leads;
+        };
+        hop = refl;
+      }
+
+  on_there : GoesOn p p f then (asked p u.clock i m f (goal_at u.net (locals_of u) n) within to_it.can (addr_of u.net e) v.wish) → GoesOnThere
+  on_there k =
+      let l : Lane = k.lane in
+      let b' = (r' q s st x e u a).paths.bounds in
+      let paths' = (r' q s st x e u a).paths.sound in
+      let from = (comes_over l k.there).1 in
+      let h : LinkHop = from.way in
+      let there = from.previous.there in
+      let row = some_row (toward p then l) k.new.some in
+      let key : HopKey = record { session = l.session; style = l.style; unit = row.0; from = h.to; to = h.from } in
+      let at : slice_get u.nodes (node_of u.net.ends h.to) ≡ Some f = ap (λ (w : ℕ). slice_get u.nodes w) from.previous.node ∙ to_it.node in
+      let lane_is : lane_of u.net key ≡ l = (λ j. record { session = l.session; style = l.style; hop = (from.previous.iface j, from.previous.addr j) }) in
+      let whole : toward (config_of q u.net u.trees (node_of u.net.ends h.to)) (outcome q (Deliver 0) u (node_of u.net.ends h.to) f).facts (lane_of u.net key) ≡ toward p then l =
+      (λ j. toward (config_of q u.net u.trees (from.previous.node j)) (outcome q (Deliver 0) u (from.previous.node j) f).facts (lane_is j))
+      ∙ ap (λ (w : Facts). toward p w l) facts_are ∙ rule_in_parts.toward_same p p u.clock (came_resv p i m) f l in
+      ⊎_elim
+      (λ (same : toward (config_of q u.net u.trees (node_of u.net.ends h.to)) f (lane_of u.net key)
+      ≡ toward (config_of q u.net u.trees (node_of u.net.ends h.to)) (outcome q (Deliver 0) u (node_of u.net.ends h.to) f).facts (lane_of u.net key)).
+      absurd (k.new.changed ((λ j. toward (config_of q u.net u.trees (sym from.previous.node j)) f (sym lane_is j)) ∙ same ∙ whole)))
+      (λ (now : (w : Part) → get (toward (config_of q u.net u.trees (node_of u.net.ends h.to)) (outcome q (Deliver 0) u (node_of u.net.ends h.to) f).facts (lane_of u.net key)) key.unit ≡ Some w
+      → IsAskedNow q (Deliver 0) u a.reserving.paths.bounds (turns q s u a.reserving) b' paths' key there w).
+      let o = now row.1 (ap (λ (w : PartTable). get w row.0) whole ∙ row.2) in
+      let sends = in_each (λ (w : Item × Bool). w.0) o.item (sent q (Deliver 0) u) o.new in
+      let among : In (o.item, sends.0.1) (sent q (Deliver 0) u) = subst (λ (w : Item). In (w, sends.0.1) (sent q (Deliver 0) u)) (sym sends.2) sends.1 in
+      ⊎_elim (λ (c : IsConf o.item). let bad : Spelt (message.ResvConf c.0) ≡ Spelt (message.Resv o.says.resv) = sym c.1 ∙ o.says.spelt in absurd (cc))
+      (λ (w : IsOnward o.item). record { item = o.item; flight = in_next o.item sends.0.1 among; onward = w })
+      (new_item o.item sends.0.1 among))
+      (stays_or_asked q (Deliver 0) u a.reserving.paths.bounds (turns q s u a.reserving) b' paths' key there f at)
+
+  pub up_moves : IsAnsweredThere ⊎ GoesOnThere
+  up_moves =
+      ⊎_elim (λ (k : (z : Send) × In z (sent_then p p u.clock (came_resv p i m) f) × IsAnswer p u.clock i m f (goal_at u.net (locals_of u) n) within to_it.can (addr_of u.net e) v.wish z).
+      inl (answer_there k.0 k.1 k.2))
+      (λ (k : GoesOn p p f then (asked p u.clock i m f (goal_at u.net (locals_of u) n) within to_it.can (addr_of u.net e) v.wish)). inr (on_there k))
+      (answered_or_on p u.clock i m f (goal_at u.net (locals_of u) n) within to_it.can (addr_of u.net e) v.wish)

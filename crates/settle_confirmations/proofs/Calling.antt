@@ -1,0 +1,480 @@
+-- A receiver asks for more, and for a confirmation: what its node sends is a request of one end.
+use Rattle.std.proofs.Common.{◌≡◌, ℕ, ◌+◌, List, [], ◌∷◌, Bool, true, false, cond, Option, None, Some, ◌⊎◌, inl, inr, ⊎_elim, sym, refl, ap, subst, ◌∙◌}
+use Rattle.std.specs.Prelude.{slice_get, is_some, not, ◌*◌, map as each}
+use Rattle.std.specs.Ordering.{eq_by_cmp}
+use Rattle.rsvp_base.specs.declared.addr.Addr.{Addr}
+use Rattle.rsvp_base.specs.declared.part.Part.{Part}
+use Rattle.rsvp_base.specs.declared.session.Sender.{Sender}
+use Rattle.rsvp_base.specs.declared.session.Session.{Session}
+use Rattle.rsvp_base.specs.declared.style.StyleKind.{StyleKind}
+use Rattle.rsvp_base.specs.declared.style.StyleKind.TheVariants.{Wild, Fixed, Shared}
+use Rattle.rsvp_base.specs.declared.style.Unit.{Unit as UnitOf}
+use Rattle.rsvp_base.specs.declared.style.Unit.TheVariants.{One, Of}
+use Rattle.rsvp_base.specs.Members.{In}
+use Rattle.rsvp_base.specs.Orders.{Names, senders, sessions, styles, units}
+use Rattle.rsvp_base.specs.Sets.{cut}
+use Rattle.rsvp_base.specs.Styles.{part_unit, unit_of_first}
+use Rattle.rsvp_base.specs.Table.{Table, empty, get, has, keys}
+use Rattle.rsvp_base.specs.TokenBucket.{IsSound, TokenBucket}
+use Rattle.rsvp_base.proofs.Members.{in_append, in_each, to_each}
+use Rattle.rsvp_base.proofs.SetLaws.{and_both, has-cut}
+use Rattle.rsvp_base.proofs.Tables.{either, tied_same}
+use Rattle.rsvp_messages.specs.declared.message.Message.TheVariants as message
+use Rattle.rsvp_messages.specs.declared.message.ResvMsg.{ResvMsg}
+use Rattle.rsvp_messages.specs.Units.{ask_style, only}
+use Rattle.style_rules.specs.CutLaws.{cut_monotone, cut_of, made_named, made_of, part_of_some}
+use Rattle.style_rules.specs.Lines.{LineKey}
+use Rattle.style_rules.specs.PartLaws.{part_at_most_itself}
+use Rattle.style_rules.specs.Parts.{IsPartAtMost, has_name}
+use Rattle.style_rules.specs.Toward.{Request, parts_of}
+use Rattle.style_rules.proofs.Merges.{merges_same}
+use Rattle.style_rules.proofs.StyleLaws.{within_unit}
+use Rattle.style_rules.proofs.Towards.{toward_open, toward_source, toward_there}
+use Rattle.calm_rounds.specs.Machine.{Happens}
+use Rattle.laws_inputs.specs.FactLaws.{ComesBy, IsResvRequest, IsWantRequest}
+use Rattle.laws_inputs.specs.SendLaws.{IsConf, IsError, IsPath, IsPathTear, IsResv, IsResvTear}
+use Rattle.laws_inputs.specs.WishLaws.{IsMarked}
+use Rattle.laws_inputs.proofs.Asks.{gone_by_units, style_told}
+use Rattle.laws_inputs.proofs.Calling.{call_refusals, calls_leave}
+use Rattle.laws_inputs.proofs.Framing.{wants_then}
+use Rattle.laws_inputs.proofs.Knowing.{known_and_via}
+use Rattle.laws_inputs.proofs.Lists.{one_name}
+use Rattle.laws_inputs.proofs.Requesting.{requests_and_toward}
+use Rattle.laws_inputs.proofs.Stepping.{send_told}
+use Rattle.laws_inputs.proofs.Tests.{not_new, parts_tested, ties}
+use Rattle.laws_inputs.proofs.Wishing.{marks_are_used}
+use Rattle.laws_steps.proofs.Framing.{left_as_it_was}
+use Rattle.router_rules.specs.declared.answers.LocalErr.{LocalErr}
+use Rattle.router_rules.specs.Act.{act}
+use Rattle.router_rules.specs.Bounds.{IsWantShape}
+use Rattle.router_rules.specs.Calls.{call_refusal, unless, wanted, wants_with}
+use Rattle.router_rules.specs.Facts.{Facts, ResvTables, Want, WantKey, resvs_of, sender_keys, table_of}
+use Rattle.router_rules.specs.Inputs.{Call, Change, Local, Send, Spelt, WantAs}
+use Rattle.router_rules.specs.Known.{Lane, names_via}
+use Rattle.router_rules.specs.NodeConfig.{NodeConfig, own}
+use Rattle.router_rules.specs.Offers.{Offer, Offers, offers}
+use Rattle.router_rules.specs.Requests.{is_blockaded, request_of, requests, toward, want_part}
+use Rattle.router_rules.specs.Rule.{Outcome, rule, settled}
+use Rattle.router_rules.specs.Sends.{confirm_for, gone_names, is_changed, is_new_offer, marked_units, own_wish, resv_send, torn_names}
+use Rattle.router_rules.specs.Steps.{IsFitList, facts_then, node_step, sent_then}
+use Rattle.tree_model.specs.declared.hops.LinkHop.{LinkHop}
+use Rattle.tree_model.specs.Goals.{DemandsFit, addr_of}
+use Rattle.tree_model.specs.Networks.{end_at, node_of}
+use Rattle.tree_model.specs.Ranks.{longest}
+use Rattle.tree_model.specs.Trees.{tree}
+use Rattle.tree_model.proofs.Ifaces.{interfaces_are_ends}
+use Rattle.tree_model.proofs.TreeLaws.{one}
+use Rattle.network_model.specs.Bounds.{IsStart}
+use Rattle.network_model.specs.Events.{passes}
+use Rattle.network_model.specs.Locals.{locals_of}
+use Rattle.network_model.specs.Steps.{At, machine, ms_of, outcome, sent, still}
+use Rattle.network_model.specs.Worlds.{Item, World, config_of}
+use Rattle.network_model.proofs.Changing.{what_is_sent_is_copied}
+use Rattle.network_model.proofs.NodeLocals.{is_live, live_told}
+use Rattle.network_model.proofs.Stepping.{facts_after_found, facts_after_made}
+use Rattle.laws_network.proofs.Known.{has_some, of_some}
+use Rattle.laws_network.proofs.Standing.{own_end, to_there}
+use Rattle.settle_paths.proofs.LiveSenders.{senders_found}
+use Rattle.settle_paths.proofs.PreviousHops.{ahead}
+use Rattle.settle_resvs.specs.Sessions.{HasNoBlockade}
+use Rattle.settle_resvs.proofs.GoalByIface.{each_fits}
+use Rattle.settle_resvs.proofs.TowardIsTheWant.{unmarked}
+use Rattle.settle_network.specs.Settled.{HasSettled}
+use Rattle.settle_passes.specs.Reserving.{AsksNoLess, IsReserving, after_want}
+use Rattle.settle_passes.proofs.Calls.{IsCalled, called, called_there}
+use Rattle.settle_passes.proofs.Serving.{settled_is_reserved}
+use Rattle.settle_passes.proofs.Wanting.{a_receiver_is_set_up}
+use Rattle.settle_confirmations.specs.Requests.{IsAnswered, IsOnlySender, IsRequest}
+use Rattle.settle_confirmations.proofs.Passing.{requests_are_answered}
+
+unless_same : {E X : Type 0} (o : Option E) (x : X) → unless o x x ≡ x
+unless_same None x = refl
+unless_same (Some e) x = refl
+
+not_none : (b : Bool) → not b ≡ true → b ≡ false
+not_none true h = absurd (cc)
+not_none false h = refl
+
+-- the wants of a call are of its session and style, and marked as it says
+wanted_told : (s : Session) (st : StyleKind) (names : Names) (flow : TokenBucket) (mark : Bool) (k : WantKey) (y : Want) → In (k, y) (wanted s st names flow mark)
+    → (k.0 ≡ s) × (y.style ≡ st) × (y.confirm ≡ mark)
+wanted_told s Wild names flow mark k y i =
+    ⊎_elim (λ (e : (k, y) ≡ ((s, One), record { style = Wild; part = record { senders = empty; flow = flow }; confirm = mark })).
+    (ap (λ (z : WantKey × Want). z.0.0) e, ap (λ (z : WantKey × Want). z.1.style) e, ap (λ (z : WantKey × Want). z.1.confirm) e)) (λ (no : ⊥). absurd no) i
+wanted_told s Fixed names flow mark k y i =
+    let r = in_each (λ (z : Sender). ((s, Of z), record { style = Fixed; part = record { senders = only z; flow = flow }; confirm = mark })) (k, y) (keys names) i in
+    (ap (λ (z : WantKey × Want). z.0.0) r.2, ap (λ (z : WantKey × Want). z.1.style) r.2, ap (λ (z : WantKey × Want). z.1.confirm) r.2)
+wanted_told s Shared names flow mark k y i =
+    ⊎_elim (λ (e : (k, y) ≡ ((s, One), record { style = Shared; part = record { senders = names; flow = flow }; confirm = mark })).
+    (ap (λ (z : WantKey × Want). z.0.0) e, ap (λ (z : WantKey × Want). z.1.style) e, ap (λ (z : WantKey × Want). z.1.confirm) e)) (λ (no : ⊥). absurd no) i
+
+-- ---- what is left of a want toward a hop
+part_grows : (st : StyleKind) (ns : Names) (a b v : Part) → IsPartAtMost a b → want_part st ns a ≡ Some v → (y : Part) × (want_part st ns b ≡ Some y)
+part_grows Wild ns a b v le e = (record { senders = ns; flow = b.flow }, part_of_some ns b.flow (made_of ns a.flow v e).some)
+part_grows Fixed ns a b v le e = let r = cut_monotone a b v ns le e in (r.0, r.1)
+part_grows Shared ns a b v le e = let r = cut_monotone a b v ns le e in (r.0, r.1)
+
+wild_unit : (xs : List Sender) → unit_of_first Wild xs ≡ One
+wild_unit [] = refl
+wild_unit (x ∷ xs) = refl
+
+shared_unit : (xs : List Sender) → unit_of_first Shared xs ≡ One
+shared_unit [] = refl
+shared_unit (x ∷ xs) = refl
+
+part_named : (st : StyleKind) (ns : Names) (a v : Part) → want_part st ns a ≡ Some v → has_name v ≡ true
+part_named Wild ns a v e = made_named ns a.flow v e
+part_named Fixed ns a v e = made_named (cut a.senders ns) a.flow v e
+part_named Shared ns a v e = made_named (cut a.senders ns) a.flow v e
+
+want_unit : (st : StyleKind) (ns : Names) (u : UnitOf) (a v : Part) → IsWantShape st u a → want_part st ns a ≡ Some v → part_unit st v ≡ u
+want_unit Wild ns u a v is e = wild_unit (keys v.senders) ∙ sym is.0
+want_unit Fixed ns u a v is e =
+    let c = cut_of a v ns e in
+    within_unit Fixed a v is.0 (part_named Fixed ns a v e) (λ z h. (and_both _ _ (sym (has-cut senders a.senders ns z) ∙ subst (λ (t : Names). has t z ≡ true) c.senders h)).0) ∙ sym is.1
+want_unit Shared ns u a v is e = shared_unit (keys v.senders) ∙ sym is.1
+
+module _ (q n : ℕ) (s : Session) (st : StyleKind) (names : Names) (flow : TokenBucket) (w : World) (r : (c : Session) → IsReserving q c w)
+    (r' : (c : Session) → IsReserving q c (after_want q n s st names flow true w)) (no_less : AsksNoLess w n s st names flow true) where
+  abbrev call : Local
+  call = WantAs s st names flow true
+
+  abbrev then : World
+  then = after_want q n s st names flow true w
+
+  abbrev p : NodeConfig
+  p = config_of q w.net w.trees n
+
+  abbrev c : ℕ
+  c = w.clock + ms_of (At n call)
+
+  module _ (f : Facts) (at : slice_get w.nodes n ≡ Some f) where
+    abbrev after : Facts
+    after = settled p c f (act p c (Call call) f).facts
+
+    abbrev g : Facts
+    g = (outcome q (At n call) w n f).facts
+
+    at_then : slice_get then.nodes n ≡ Some g
+    at_then = facts_after_made q (At n call) w n f at
+
+    facts_are : g ≡ facts_then p p c (Call call) f
+    facts_are = ap (λ (o : Outcome). o.facts) (called_there q w n call f)
+
+    resvs_same : after.resvs ≡ f.resvs
+    resvs_same = left_as_it_was.resvs_whole (node_step p p w.clock c (Call call) f) ((r s).paths.bounds.facts n f at) refl refl refl
+
+    resv_same : (k : StyleKind) (key : LineKey) → get (resvs_of k after) key ≡ get (resvs_of k f) key
+    resv_same k key = ap (λ (ts : ResvTables). get (table_of k ts) key) resvs_same
+
+    -- ---- wants
+    source : (k : WantKey) (y : Want) → get after.wants k ≡ Some y → (get f.wants k ≡ Some y) ⊎ In (k, y) (wanted s st names flow true)
+    source k y e = by (call_refusal p call f) e
+      where
+        by : (o : Option LocalErr) → get (unless o (wants_with call f.wants) f.wants) k ≡ Some y → (get f.wants k ≡ Some y) ⊎ In (k, y) (wanted s st names flow true)
+        by None h = calls_leave.wanted_source s st names flow true f.wants k y h
+        by (Some why) h = inl h
+
+    record IsReplaced (k : WantKey) (x : Want) : Type 0 where
+      want : Want
+      new : In (k, want) (wanted s st names flow true)
+      there : get after.wants k ≡ Some want
+      style : want.style ≡ x.style
+      part : IsPartAtMost x.part want.part
+
+    stays : (k : WantKey) (x : Want) → get f.wants k ≡ Some x → (get after.wants k ≡ Some x) ⊎ IsReplaced k x
+    stays k x e = by (call_refusal p call f) refl
+      where
+        by : (o : Option LocalErr) → call_refusal p call f ≡ o → (get after.wants k ≡ Some x) ⊎ IsReplaced k x
+        by (Some why) refused = inl (ap (λ (o : Option LocalErr). get (unless o (wants_with call f.wants) f.wants) k) refused ∙ e)
+        by None open_to = by_new (get (wants_with call f.wants) k) refl
+          where
+            is_with : get after.wants k ≡ get (wants_with call f.wants) k
+            is_with = ap (λ (o : Option LocalErr). get (unless o (wants_with call f.wants) f.wants) k) open_to
+
+            by_new : (o : Option Want) → get (wants_with call f.wants) k ≡ o → (get after.wants k ≡ Some x) ⊎ IsReplaced k x
+            by_new None h =
+                let beside = calls_leave.wanted_beside s st names flow true f.wants k
+                (λ y i. let bad : None ≡ Some y = sym h ∙ calls_leave.wanted_there s st names flow true f.wants k y i in cc) in
+                let bad : None ≡ Some x = sym h ∙ beside ∙ e in
+                absurd (cc)
+            by_new (Some y) h =
+                ⊎_elim (λ (old : get f.wants k ≡ Some y). let is : y ≡ x = of_some y x (sym old ∙ e) in inl (is_with ∙ h ∙ ap Some is))
+                (λ (new : In (k, y) (wanted s st names flow true)).
+                let told = wanted_told s st names flow true k y new in
+                let there : get f.wants (s, k.1) ≡ Some x = ap (λ (z : Session). get f.wants (z, k.1)) (sym told.0) ∙ e in
+                let one_style : x.style ≡ st = either (eq_by_cmp styles.cmp x.style st) (λ tied. tied_same styles x.style st tied)
+                (λ apart. absurd (((call_refusals.wants p f s st names flow true).0 open_to).0
+                (record { unit = k.1; want = x; there = there; other = λ same. let bad : true ≡ false = sym (ties styles x.style st same) ∙ apart in cc }))) in
+                inr (record { want = y; new = new; there = is_with ∙ h; style = told.1 ∙ sym one_style; part = no_less f k x y at e new }))
+                (calls_leave.wanted_source s st names flow true f.wants k y h)
+
+    shape : (k : WantKey) (y : Want) → get after.wants k ≡ Some y → IsWantShape y.style k.1 y.part
+    shape k y e =
+        let marks = wants_then p p c (Call call) f in
+        let z = has_some (get (facts_then p p c (Call call) f).wants k) (marks.there k ∙ ap (λ (o : Option Want). is_some o) e) in
+        let b = marks.source k z.0 z.1 in
+        let is : b.0 ≡ y = of_some b.0 y (sym b.1 ∙ e) in
+        let there : get g.wants k ≡ Some z.0 = ap (λ (o : Facts). get o.wants k) facts_are ∙ z.1 in
+        let shaped = (((r' s).paths.bounds.facts n g at_then).shapes.wants k z.0 there).shape in
+        subst (λ (o : StyleKind × Part). IsWantShape o.0 k.1 o.1) (λ j. ((b.2.style ∙ ap (λ (v : Want). v.style) is) j, (b.2.part ∙ ap (λ (v : Want). v.part) is) j)) shaped
+
+    -- ---- toward a hop
+    module _ (l : Lane) where
+      none : HasNoBlockade l.session f.walls
+      none = (r l.session).free n f at
+
+      kept_request : (a : Request) → IsResvRequest p f l a → In a (requests p after l)
+      kept_request a z =
+          (requests_and_toward.each p after l a).1
+          (inl (record { key = z.key; resv = z.resv; there = resv_same l.style (l.session, z.key) ∙ z.there; part = z.part; blockaded = z.blockaded }))
+
+      same_want : (a : Request) (z : IsWantRequest f l a) → get after.wants (l.session, z.unit) ≡ Some z.want → In a (requests p after l)
+      same_want a z there =
+          (requests_and_toward.each p after l a).1 (inr (record { unit = z.unit; want = z.want; there = there; style = z.style; part = z.part; blockaded = z.blockaded }))
+
+      -- what goes there is the same where no new want takes part
+      same_toward : ((u : UnitOf) (y : Want) (v : Part) → In ((l.session, u), y) (wanted s st names flow true) → get after.wants (l.session, u) ≡ Some y → y.style ≡ l.style
+          → want_part l.style (names_via after l) y.part ≡ Some v → ⊥) → toward p f l ≡ toward p after l
+      same_toward bad =
+          toward_open l.style (requests p f l) (unmarked p f l none)
+          ∙ merges_same units (part_unit l.style) (λ (z : Part). z) (part_unit l.style) (λ (z : Part). z) (parts_of (requests p f l)) (parts_of (requests p after l)) under over
+          ∙ sym (toward_open l.style (requests p after l) (unmarked p after l none))
+        where
+          there_too : (a : Request) → In a (requests p f l) → In a (requests p after l)
+          there_too a i =
+              ⊎_elim (λ (z : IsResvRequest p f l a). kept_request a z)
+              (λ (z : IsWantRequest f l a).
+              ⊎_elim (λ (same : get after.wants (l.session, z.unit) ≡ Some z.want). same_want a z same)
+              (λ (y : IsReplaced (l.session, z.unit) z.want).
+              let v = part_grows l.style (names_via f l) z.want.part y.want.part a.part y.part z.part in
+              absurd (bad z.unit y.want v.0 y.new y.there (y.style ∙ z.style) v.1))
+              (stays (l.session, z.unit) z.want z.there))
+              ((requests_and_toward.each p f l a).0 i)
+
+          and_back : (a : Request) → In a (requests p after l) → In a (requests p f l)
+          and_back a i =
+              ⊎_elim
+              (λ (z : IsResvRequest p after l a).
+              (requests_and_toward.each p f l a).1
+              (inl (record { key = z.key; resv = z.resv; there = sym (resv_same l.style (l.session, z.key)) ∙ z.there; part = z.part; blockaded = z.blockaded })))
+              (λ (z : IsWantRequest after l a).
+              ⊎_elim
+              (λ (old : get f.wants (l.session, z.unit) ≡ Some z.want).
+              (requests_and_toward.each p f l a).1 (inr (record { unit = z.unit; want = z.want; there = old; style = z.style; part = z.part; blockaded = z.blockaded })))
+              (λ (new : In ((l.session, z.unit), z.want) (wanted s st names flow true)). absurd (bad z.unit z.want a.part new z.there z.style z.part))
+              (source (l.session, z.unit) z.want z.there))
+              ((requests_and_toward.each p after l a).0 i)
+
+          under : (v : Part) → In v (parts_of (requests p f l)) → has_name v ≡ true → (y : Part) × In y (parts_of (requests p after l)) × (part_unit l.style v ≡ part_unit l.style y) × IsPartAtMost v y
+          under v i named =
+              let a = in_each (λ (z : Request). z.part) v (requests p f l) i in
+              (v, subst (λ (z : Part). In z (parts_of (requests p after l))) (sym a.2) (to_each (λ (z : Request). z.part) a.0 (requests p after l) (there_too a.0 a.1)), refl, part_at_most_itself v)
+
+          over : (v : Part) → In v (parts_of (requests p after l)) → has_name v ≡ true → (y : Part) × In y (parts_of (requests p f l)) × (part_unit l.style v ≡ part_unit l.style y) × IsPartAtMost v y
+          over v i named =
+              let a = in_each (λ (z : Request). z.part) v (requests p after l) i in
+              (v, subst (λ (z : Part). In z (parts_of (requests p f l))) (sym a.2) (to_each (λ (z : Request). z.part) a.0 (requests p f l) (and_back a.0 a.1)), refl, part_at_most_itself v)
+
+      -- a new want that takes part is marked
+      marked : (u : UnitOf) (y : Want) (v : Part) → In ((l.session, u), y) (wanted s st names flow true) → get after.wants (l.session, u) ≡ Some y → y.style ≡ l.style
+          → want_part l.style (names_via after l) y.part ≡ Some v → IsMarked p after l u
+      marked u y v new there style part =
+          let a : Request = record { part = v; blockaded = is_blockaded l.style f.walls l v } in
+          let among : In a (requests p after l) = (requests_and_toward.each p after l a).1 (inr (record { unit = u; want = y; there = there; style = style; part = part; blockaded = refl })) in
+          record {
+            want = y;
+            there = there;
+            marked = (wanted_told s st names flow true (l.session, u) y new).2;
+            request = a;
+            asks = ap (λ (b : Bool). cond b (request_of f.walls l (want_part l.style (names_via after l) y.part)) None) (ties styles y.style l.style style) ∙ ap (request_of f.walls l) part;
+            takes = inl (unmarked p after l none a among);
+          }
+
+      -- so what goes there asks for its node, where it is another
+      pub record IsAskedFor : Type 0 where
+        pub session : l.session ≡ s
+        pub style : l.style ≡ st
+        pub wish : confirm_for p after l None ≡ Some (own p l.hop.0)
+
+      pub is_asked_for : (toward p f l ≡ toward p after l → ⊥) → IsAskedFor
+      is_asked_for changed = record { session = session; style = style; wish = by (marked_units p after l) refl }
+        where
+          session : l.session ≡ s
+          session = either (eq_by_cmp sessions.cmp l.session s) (λ tied. tied_same sessions l.session s tied)
+              (λ apart. absurd (changed (same_toward (λ u y v new there style part.
+              let bad : true ≡ false = sym (ties sessions l.session s (wanted_told s st names flow true (l.session, u) y new).0) ∙ apart in cc))))
+
+          style : l.style ≡ st
+          style = either (eq_by_cmp styles.cmp l.style st) (λ tied. tied_same styles l.style st tied)
+              (λ apart. absurd (changed (same_toward (λ u y v new there style part.
+              let bad : true ≡ false = sym (ties styles l.style st (sym style ∙ (wanted_told s st names flow true (l.session, u) y new).1)) ∙ apart in cc))))
+
+          by : (us : List UnitOf) → marked_units p after l ≡ us → confirm_for p after l None ≡ Some (own p l.hop.0)
+          by (u ∷ us) is = ap (own_wish p l) is
+          by [] is =
+              absurd (changed (same_toward (λ u y v new there style part. subst (λ (us : List UnitOf). In u us) is ((marks_are_used.marked p after l u).1 (marked u y v new there style part)))))
+
+      -- and no unit that went there does so no more
+      goes_on_to : (un : UnitOf) → has (toward p f l) un ≡ true → has (toward p after l) un ≡ true
+      goes_on_to un h =
+          let o = toward_source l.style (requests p f l) un h in
+          let a : Request = o.0 in
+          let same : In a (requests p after l) → has (toward p after l) un ≡ true = (λ i. toward_there l.style (requests p after l) un a (record { among = i; named = o.1.named; unit = o.1.unit })) in
+          ⊎_elim (λ (z : IsResvRequest p f l a). same (kept_request a z))
+          (λ (z : IsWantRequest f l a).
+          ⊎_elim (λ (there : get after.wants (l.session, z.unit) ≡ Some z.want). same (same_want a z there))
+          (λ (y : IsReplaced (l.session, z.unit) z.want).
+          let v = part_grows l.style (names_via f l) z.want.part y.want.part a.part y.part z.part in
+          let b : Request = record { part = v.0; blockaded = is_blockaded l.style f.walls l v.0 } in
+          let style : y.want.style ≡ l.style = y.style ∙ z.style in
+          let among : In b (requests p after l) =
+          (requests_and_toward.each p after l b).1 (inr (record { unit = z.unit; want = y.want; there = y.there; style = style; part = v.1; blockaded = refl })) in
+          let old_shape : IsWantShape l.style z.unit z.want.part =
+          subst (λ (k : StyleKind). IsWantShape k z.unit z.want.part) z.style ((((r s).paths.bounds.facts n f at).shapes.wants (l.session, z.unit) z.want z.there).shape) in
+          let new_shape : IsWantShape l.style z.unit y.want.part = subst (λ (k : StyleKind). IsWantShape k z.unit y.want.part) style (shape (l.session, z.unit) y.want y.there) in
+          let unit : part_unit l.style a.part ≡ part_unit l.style v.0 =
+          want_unit l.style (names_via f l) z.unit z.want.part a.part old_shape z.part ∙ sym (want_unit l.style (names_via f l) z.unit y.want.part v.0 new_shape v.1) in
+          toward_there l.style (requests p after l) un b (record { among = among; named = part_named l.style (names_via f l) y.want.part v.0 v.1; unit = o.1.unit ∙ unit }))
+          (stays (l.session, z.unit) z.want z.there))
+          ((requests_and_toward.each p f l a).0 o.1.among)
+
+    -- ---- what the node sends
+    abbrev change : Change
+    change = act p c (Call call) f
+
+    same_offers : offers p f ≡ offers p after
+    same_offers = λ j. offers p (record f { senders = sym (unless_same (call_refusal p call f) f.senders) j })
+
+    pub record IsAskedNow (z : Send) : Type 0 where
+      pub lane : Lane
+      pub there : (y : Sender) × ComesBy after lane.session lane.hop y
+      pub session : lane.session ≡ s
+      pub resv : ResvMsg
+      pub says : z.message ≡ message.Resv resv
+      pub of_session : resv.session ≡ s
+      pub style : ask_style resv.ask ≡ st
+      pub hop : resv.hop.addr ≡ own p lane.hop.0
+      pub wish : resv.confirm ≡ Some (own p lane.hop.0)
+
+    asked_now : (z : Send) → IsResv p p f after change z → IsAskedNow z
+    asked_now z x =
+        let changed_one : is_changed p p f after x.lane ≡ true = x.why in
+        let d = is_asked_for x.lane (λ same. let bad : true ≡ false = sym changed_one ∙ ap not (parts_tested (toward p f x.lane) (toward p after x.lane) same) in cc) in
+        let wish : cond (is_changed p p f after x.lane) (confirm_for p after x.lane None) None ≡ Some (own p x.lane.hop.0) =
+        ap (λ (b : Bool). cond b (confirm_for p after x.lane None) None) changed_one ∙ d.wish in
+        let is : z ≡ resv_send p after x.lane (Some (own p x.lane.hop.0)) false x.ask = x.is ∙ ap (λ (o : Option Addr). resv_send p after x.lane o false x.ask) wish in
+        record {
+          lane = x.lane;
+          there = (known_and_via.lanes_by after x.lane).0 x.there;
+          session = d.session;
+          resv = _;
+          says = ap (λ (o : Send). o.message) is;
+          of_session = d.session;
+          style = style_told x.lane.style (toward p after x.lane) x.ask x.whole ∙ d.style;
+          hop = refl;
+          wish = refl;
+        }
+
+    pub only_asked : (z : Send) → In z (sent_then p p c (Call call) f) → IsAskedNow z
+    only_asked z i =
+        ⊎_elim
+        (λ (x : IsPathTear p p f after change z). let bad : true ≡ false = sym x.was ∙ ap (λ (o : Offers). has o x.key) same_offers ∙ x.gone in absurd (cc))
+        (λ k. ⊎_elim
+        (λ (x : IsResvTear p p f after change z).
+        let first = one_name (torn_names p p f after x.lane) x.some in
+        let both = and_both _ _ (sym (has-cut senders (gone_names (toward p f x.lane) (toward p after x.lane)) (names_via after x.lane) first.0) ∙ first.1) in
+        let gone = (gone_by_units.each (toward p f x.lane) (toward p after x.lane) first.0).0 both.0 in
+        let bad : true ≡ false = sym (goes_on_to x.lane gone.unit (ap is_some gone.was)) ∙ gone.gone in
+        absurd (cc))
+        (λ k. ⊎_elim (λ (x : IsError p p f after change z). absurd x.made)
+        (λ k. ⊎_elim (λ (x : IsConf p p f after change z). absurd x.made)
+        (λ k. ⊎_elim
+        (λ (x : IsPath p p f after change z).
+        let old : get (offers p f) x.key ≡ Some x.offer = ap (λ (o : Offers). get o x.key) same_offers ∙ x.offered in
+        let new : is_new_offer p x.key.iface x.offer (get (offers p f) x.key) ≡ false = ap (λ (o : Option Offer). is_new_offer p x.key.iface x.offer o) old ∙ not_new p x.key.iface x.offer in
+        let bad : true ≡ false = sym x.why ∙ new in
+        absurd (cc))
+        (λ (x : IsResv p p f after change z). asked_now z x) k) k) k) k)
+        (send_told p p c (Call call) f z i)
+
+  -- ---- at the end by which the path of the only sender comes
+  module _ (x : Sender) (only_one : IsOnlySender w s x) where
+    senders_same : (m : ℕ) (f : Facts) → (outcome q (At n call) w m f).facts.senders ≡ f.senders
+    senders_same m f =
+        ⊎_elim (λ (h : outcome q (At n call) w m f ≡ still f). ap (λ (o : Outcome). o.facts.senders) h)
+        (λ (h : IsCalled q w n call m f). ap (λ (o : Outcome). o.facts.senders) h.is ∙ unless_same (call_refusal (config_of q w.net w.trees m) call f) f.senders) (called q w n call m f)
+
+    pub only_then : IsOnlySender then s x
+    only_then y t l =
+        let g = senders_found then l.node l.senders l.at in
+        let f = facts_after_found q (At n call) w l.node g.0 g.1 in
+        only_one y t
+        (is_live w l.node f.0 (s, y) t f.1 (ap (λ (z : Table sender_keys TokenBucket). get z (s, y)) (sym (senders_same l.node f.0) ∙ ap (λ (z : Facts). z.senders) (sym f.2) ∙ g.2) ∙ l.sends))
+
+    pub record IsRequestThere (z : Item) : Type 0 where
+      pub hop : LinkHop
+      pub there : In hop (tree w.net.hops s.group x.addr)
+      pub node : node_of w.net.ends hop.to ≡ n
+      pub request : IsRequest then s st hop.to z
+
+    pub request_there : (z : Item) (b : Bool) → In (z, b) (sent q (At n call) w) → IsRequestThere z
+    request_there z b i =
+        let k = (what_is_sent_is_copied q (At n call) w (z, b)).0 i in
+        let arrival : z.arrival ≡ Spelt k.send.message = ap (λ (o : Item × Bool). o.0.arrival) k.is in
+        ⊎_elim
+        (λ (h : outcome q (At n call) w k.node k.facts ≡ still k.facts). absurd (subst (λ (o : Outcome). In k.send o.sent) h k.sent))
+        (λ (h : IsCalled q w n call k.node k.facts).
+        let at : slice_get w.nodes n ≡ Some k.facts = ap (λ (o : ℕ). slice_get w.nodes o) h.node ∙ k.there in
+        let by : outcome q (At n call) w k.node k.facts ≡ rule p p c (Call call) k.facts =
+        h.is ∙ ap (λ (o : ℕ). rule (config_of q w.net w.trees o) (config_of q w.net w.trees o) c (Call call) k.facts) (sym h.node) in
+        let among : In k.send (sent_then p p c (Call call) k.facts) = subst (λ (o : Outcome). In k.send o.sent) by k.sent in
+        let d = only_asked k.facts at k.send among in
+        let f : Facts = k.facts in
+        let mine : (outcome q (At n call) w n f).facts ≡ facts_then p p c (Call call) f = facts_are f at in
+        let comes : ComesBy (outcome q (At n call) w n f).facts d.lane.session d.lane.hop d.there.0 =
+        record { path = d.there.1.path; there = ap (λ (o : Facts). get o.paths (d.lane.session, d.there.0)) mine ∙ d.there.1.there; by = d.there.1.by } in
+        let from = ahead then n (outcome q (At n call) w n f).facts (r' s).paths.sound (at_then f at) d.lane.session d.lane.hop d.there.0 comes in
+        let live = live_told then d.lane.session d.there.0 from.live in
+        let sender : d.there.0 ≡ x = subst (λ (o : Session). IsOnlySender then o x) (sym d.session) only_then d.there.0 live.0 live.1 in
+        let there : In from.way (tree w.net.hops s.group x.addr) = subst (λ (o : Session × Sender). In from.way (tree w.net.hops o.0.group o.1.addr)) (λ j. (d.session j, sender j)) from.there in
+        let end : end_at w.net.ends n d.lane.hop.0 ≡ Some from.way.to =
+        (λ j. end_at w.net.ends (sym from.previous.node j) (sym from.previous.iface j))
+        ∙ (interfaces_are_ends w.net).end_of_iface from.way.to (to_there w.net (r s).paths.bounds.net s.group x.addr from.way there) in
+        let addr : own p d.lane.hop.0 ≡ addr_of w.net from.way.to = own_end q w.net w.trees n d.lane.hop.0 from.way.to end in
+        record {
+          hop = from.way;
+          there = there;
+          node = from.previous.node;
+          request = record { resv = d.resv; says = arrival ∙ ap Spelt d.says; session = d.of_session; style = d.style; hop = d.hop ∙ addr; wish = d.wish ∙ ap Some addr };
+        })
+        (called q w n call k.node k.facts)
+
+-- ---- in a settled network
+pub a_receiver_is_answered : (q n : ℕ) (s : Session) (st : StyleKind) (names : Names) (flow : TokenBucket) (x : Sender) (w : World) → IsStart q w → HasSettled q w → w.flight ≡ []
+    → IsOnlySender w s x → IsFitList st names → IsSound flow → AsksNoLess w n s st names flow true → DemandsFit w.net (locals_of (after_want q n s st names flow true w))
+    → (y : Item) → In y (after_want q n s st names flow true w).flight
+    → (e : ℕ) × (node_of w.net.ends e ≡ n) × Happens (machine q) (IsAnswered s st x e) (passes q (2 * longest w.net) (after_want q n s st names flow true w)) (after_want q n s st names flow true w)
+a_receiver_is_answered q n s st names flow x w start settled quiet only_one list sound no_less fit y i =
+    let r : (c : Session) → IsReserving q c w = settled_is_reserved q w start settled quiet in
+    let r' : (c : Session) → IsReserving q c (after_want q n s st names flow true w) =
+    (λ c. (a_receiver_is_set_up q n c s st names flow true w (r c) list sound no_less (each_fits w.net (locals_of (after_want q n s st names flow true w)) fit c)).0) in
+    let v = there r r' y i in
+    let lt = to_there w.net (r s).paths.bounds.net s.group x.addr v.hop v.there in (
+      v.hop.to,
+      v.node,
+      requests_are_answered q s st x v.hop.to (after_want q n s st names flow true w) (r' s) (only_then q n s st names flow w r r' no_less x only_one) lt y i
+          (λ z j.
+          let k = there r r' z j in
+          let same : k.hop ≡ v.hop = one w.net (r s).paths.bounds.net s.group x.addr k.hop v.hop k.there v.there (k.node ∙ sym v.node) in
+          subst (λ (h : LinkHop). IsRequest (after_want q n s st names flow true w) s st h.to z) same k.request),
+    )
+  where
+    there : (r : (c : Session) → IsReserving q c w) (r' : (c : Session) → IsReserving q c (after_want q n s st names flow true w)) (z : Item) → In z (after_want q n s st names flow true w).flight
+        → IsRequestThere q n s st names flow w r r' no_less x only_one z
+    there r r' z j =
+        ⊎_elim (λ (old : In z w.flight). absurd (subst (λ (zs : List Item). In z zs) quiet old))
+        (λ (new : In z (each (λ (o : Item × Bool). o.0) (sent q (At n (WantAs s st names flow true)) w))).
+        let k = in_each (λ (o : Item × Bool). o.0) z (sent q (At n (WantAs s st names flow true)) w) new in
+        request_there q n s st names flow w r r' no_less x only_one z k.0.1 (subst (λ (o : Item). In (o, k.0.1) (sent q (At n (WantAs s st names flow true)) w)) (sym k.2) k.1))
+        (in_append z w.flight (each (λ (o : Item × Bool). o.0) (sent q (At n (WantAs s st names flow true)) w)) j)

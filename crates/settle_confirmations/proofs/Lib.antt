@@ -1,0 +1,7 @@
+pub mod Taken
+pub mod Moving
+pub mod Answering
+pub mod Returning
+pub mod Passing
+pub mod Calling
+pub mod Worked

@@ -1,0 +1,5 @@
+use Rattle.settle_confirmations.proofs.Passing.{requests_are_answered}
+use Rattle.settle_confirmations.proofs.laws.requests_are_answered.Goals as goal
+
+pub returns : goal.returns
+returns c q s st x e w r only lt y i each = requests_are_answered q s st x e w r only lt y i each

@@ -1,0 +1,95 @@
+-- What becomes of requests in small networks to whose session two hosts send, or one by two addresses.
+use Rattle.std.specs.Prelude.{◌≡◌, ℕ, List, [], ◌∷◌, Bool, true, false, codes}
+use Rattle.rsvp_base.specs.declared.addr.Addr.{Addr}
+use Rattle.rsvp_base.specs.declared.session.Sender.{Sender}
+use Rattle.rsvp_base.specs.declared.style.StyleKind.TheVariants.{Shared, Wild}
+use Rattle.rsvp_base.specs.Sets.{set_of}
+use Rattle.rsvp_base.specs.Table.{empty}
+use Rattle.rsvp_base.specs.Members.{In}
+use Rattle.rsvp_base.specs.TokenBucket.{IsSound}
+use Rattle.router_rules.specs.Steps.{IsFitList}
+use Rattle.tree_model.specs.declared.hops.TreeHop.{TreeHop}
+use Rattle.tree_model.specs.Goals.{DemandsFit}
+use Rattle.tree_model.specs.Ranks.{longest}
+use Rattle.network_model.specs.Bounds.{IsStart}
+use Rattle.network_model.specs.Locals.{locals_of}
+use Rattle.network_model.specs.Worlds.{Item, World}
+use Rattle.network_model.specs.RouterRules.Inputs.{SendAs, WantAs}
+use Rattle.network_model.specs.ThreeRouters.{first, flow, group, ip, r1, s1, session, usual}
+use Rattle.network_model.specs.Events.{AtNode, Event, Pass, Traces}
+use Rattle.network_model.specs.Rows.{end_of, hop_of, line, plan_of}
+use Rattle.network_model.specs.Runs.{Plan, run_text}
+use Rattle.settle_network.specs.Settled.{HasSettled}
+use Rattle.settle_passes.specs.Reserving.{AsksNoLess, after_want}
+use Rattle.settle_passes.specs.Worked.{heard_world}
+use Rattle.settle_confirmations.specs.Requests.{IsOnlySender}
+
+-- ---- a receiver asks in the pair, once its node has the path, and for a confirmation: the premises of the law. And a line of two hops
+abbrev pub wishing_world : World
+wishing_world = after_want 7500 1 session Wild empty usual true heard_world
+
+pub record AReceiverHears : Type 0 where
+  pub begins : IsStart 7500 heard_world
+  pub settled : HasSettled 7500 heard_world
+  pub quiet : heard_world.flight ≡ []
+  pub only : IsOnlySender heard_world session first
+  pub list : IsFitList Wild empty
+  pub flow : IsSound usual
+  pub no_less : AsksNoLess heard_world 1 session Wild empty usual true
+  pub fit : DemandsFit heard_world.net (locals_of wishing_world)
+  pub sends : (y : Item) × In y wishing_world.flight
+  pub long : longest (line 10000 []).net ≡ 2
+  pub text : run_text (line 10000 (AtNode 0 (SendAs session first usual) ∷ Pass 2 ∷ Traces true ∷ AtNode 2 (WantAs session Wild empty usual true) ∷ Pass 4 ∷ []))
+      ≡ codes "r2 Resv taken\ns1 Resv taken\nr1 ResvConf taken\nt1 ResvConf taken\n"
+
+-- a hop of the tree of another source
+abbrev pub hop_from : Addr → ℕ → ℕ → TreeHop
+hop_from a e d = record { group = group; source = a; hop = record { from = e; to = d } }
+
+-- ---- a line of four nodes, the first two of which send; the third wants something of the first, and the last something of the second,
+-- with a shared filter. What answers the last one speaks of the first sender alone
+abbrev pub r2 : Addr
+r2 = ip 10 0 2 1
+
+abbrev pub theirs : Sender
+theirs = record { addr = r2; port = 5004 }
+
+abbrev pub wants_of : ℕ → Sender → ℕ → Bool → Event
+wants_of n x rate confirm = AtNode n (WantAs session Shared (set_of (x ∷ [])) (flow rate 600 64 1500) confirm)
+
+abbrev pub shared_line : List Event → Plan
+shared_line events =
+    plan_of (record {
+      nodes = 4;
+      ends = end_of 0 s1 ∷ end_of 1 r1 ∷ end_of 1 r2 ∷ end_of 2 (ip 10 0 2 2) ∷ end_of 2 (ip 10 0 3 1) ∷ end_of 3 (ip 10 0 3 2) ∷ [];
+      links = (0 ∷ 1 ∷ []) ∷ (2 ∷ 3 ∷ []) ∷ (4 ∷ 5 ∷ []) ∷ [];
+      hops = hop_of 0 1 ∷ hop_of 2 3 ∷ hop_of 4 5 ∷ hop_from r2 2 3 ∷ hop_from r2 4 5 ∷ [];
+    }) (codes "s1" ∷ codes "m1" ∷ codes "m2" ∷ codes "k1" ∷ codes "k2" ∷ codes "t1" ∷ []) events
+
+pub record AnAnswerSpeaksOfAnother : Type 0 where
+  pub text : run_text (shared_line (AtNode 0 (SendAs session first usual) ∷ AtNode 1 (SendAs session theirs usual) ∷ wants_of 2 first 200 false ∷ Pass 8
+      ∷ Traces true ∷ wants_of 3 theirs 300 true ∷ Pass 9 ∷ []))
+      ≡ codes "k2 Resv taken\nm2 Resv taken\ns1 Resv taken\nm1 ResvConf taken\nk1 ResvConf dropped NoState\n"
+
+-- ---- a host with two ends, by which the paths of two senders come; where their ways part and meet again, each address to confirm takes
+-- the place of the other somewhere
+abbrev pub u2 : Addr
+u2 = ip 10 0 9 1
+
+abbrev pub two_ends : List Event → Plan
+two_ends events =
+    plan_of (record {
+      nodes = 7;
+      ends = end_of 0 s1 ∷ end_of 1 r1 ∷ end_of 1 (ip 10 0 2 1) ∷ end_of 2 (ip 10 0 2 2) ∷ end_of 2 (ip 10 0 3 1) ∷ end_of 4 (ip 10 0 3 2)
+          ∷ end_of 2 (ip 10 0 4 1) ∷ end_of 3 (ip 10 0 4 2) ∷ end_of 3 (ip 10 0 5 1) ∷ end_of 4 (ip 10 0 5 2) ∷ end_of 4 (ip 10 0 6 1)
+          ∷ end_of 5 (ip 10 0 6 2) ∷ end_of 5 (ip 10 0 7 1) ∷ end_of 6 (ip 10 0 7 2) ∷ end_of 5 (ip 10 0 8 1) ∷ end_of 6 (ip 10 0 8 2) ∷ end_of 0 u2 ∷ [];
+      links = (0 ∷ 1 ∷ []) ∷ (2 ∷ 3 ∷ []) ∷ (4 ∷ 5 ∷ []) ∷ (6 ∷ 7 ∷ []) ∷ (8 ∷ 9 ∷ []) ∷ (10 ∷ 11 ∷ []) ∷ (12 ∷ 13 ∷ []) ∷ (14 ∷ 15 ∷ []) ∷ [];
+      hops = hop_of 0 1 ∷ hop_of 2 3 ∷ hop_of 6 7 ∷ hop_of 8 9 ∷ hop_of 10 11 ∷ hop_of 12 13
+          ∷ hop_from u2 0 1 ∷ hop_from u2 2 3 ∷ hop_from u2 4 5 ∷ hop_from u2 10 11 ∷ hop_from u2 14 15 ∷ [];
+    }) (codes "u1" ∷ codes "b1" ∷ codes "b2" ∷ codes "a1" ∷ codes "a2" ∷ codes "d1" ∷ codes "a3" ∷ codes "e1" ∷ codes "e2" ∷ codes "d2" ∷ codes "d3" ∷ codes "x1"
+    ∷ codes "x2" ∷ codes "t1" ∷ codes "x3" ∷ codes "t2" ∷ codes "u2" ∷ []) events
+
+pub record TwoEndsHearNothing : Type 0 where
+  pub text : run_text (two_ends (AtNode 0 (SendAs session first usual) ∷ AtNode 0 (SendAs session (record { addr = u2; port = 5004 }) usual) ∷ Pass 8
+      ∷ AtNode 6 (WantAs session Wild empty (flow 300 600 64 1500) true) ∷ Pass 5 ∷ Traces true ∷ Pass 7 ∷ []))
+      ≡ codes "u1 Resv taken\nb1 ResvConf dropped NoState\nb1 ResvConf taken\na1 ResvConf taken\ne1 ResvConf taken\nd2 ResvConf dropped NoState\n"
