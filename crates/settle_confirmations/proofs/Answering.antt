@@ -41,6 +41,7 @@ use Rattle.laws_inputs.proofs.Knowing.{known_and_via}
 use Rattle.laws_inputs.proofs.Lists.{one_name}
 use Rattle.laws_inputs.proofs.Requesting.{requests_and_toward}
 use Rattle.laws_inputs.proofs.Ruling.{rule_in_parts}
+use Rattle.laws_inputs.proofs.Sending.{not_told}
 use Rattle.laws_inputs.proofs.Tests.{ties}
 use Rattle.laws_steps.specs.AcceptingLaws.{came_resv}
 use Rattle.laws_steps.specs.ReservationLaws.{IsAskedFor, Touches}
@@ -104,10 +105,6 @@ nobody ns z none h =
     let some = some_within (only z) ns (λ y i. subst (λ (b : Sender). has ns b ≡ true) (sym (in_only z y i)) h) (one_there z) in
     let bad : true ≡ false = sym none ∙ some in
     cc
-
-not_none : (b : Bool) → not b ≡ true → b ≡ false
-not_none true h = absurd (cc)
-not_none false h = refl
 
 -- ---- a request that arrives
 module _ (q : ℕ) (s : Session) (st : StyleKind) (x : Sender) (e : ℕ) (u : World) (a : IsAsking q s st x e u) (y : Item) (arr : slice_get u.flight 0 ≡ Some y) (v : IsUp u s st x e y) where
@@ -237,7 +234,7 @@ module _ (q : ℕ) (s : Session) (st : StyleKind) (x : Sender) (e : ℕ) (u : Wo
       let test : Sender → Bool = goes_out p l.session w.key.0.0 in
       let via : Names = names_via_where f l test in
       let old = cut_of w.resv.part rq.part via w.part in
-      let some : is_none (cut w.resv.part.senders via) ≡ false = ap is_none (sym old.senders) ∙ not_none (is_none rq.part.senders) o.1.named in
+      let some : is_none (cut w.resv.part.senders via) ≡ false = ap is_none (sym old.senders) ∙ not_told (is_none rq.part.senders) o.1.named in
       let part : Part = record { senders = cut z.resv.part.senders via; flow = z.resv.part.flow } in
       let made : part_cut z.resv.part (names_via_where then l test) ≡ Some part =
       ap (part_cut z.resv.part) (via_same l test) ∙ part_of_some (cut z.resv.part.senders via) z.resv.part.flow (z.names via some) in

@@ -91,10 +91,6 @@ unless_same : {E X : Type 0} (o : Option E) (x : X) → unless o x x ≡ x
 unless_same None x = refl
 unless_same (Some e) x = refl
 
-not_none : (b : Bool) → not b ≡ true → b ≡ false
-not_none true h = absurd (cc)
-not_none false h = refl
-
 -- the wants of a call are of its session and style, and marked as it says
 wanted_told : (s : Session) (st : StyleKind) (names : Names) (flow : TokenBucket) (mark : Bool) (k : WantKey) (y : Want) → In (k, y) (wanted s st names flow mark)
     → (k.0 ≡ s) × (y.style ≡ st) × (y.confirm ≡ mark)

@@ -1,4 +1,4 @@
--- Requests on their way: what one delivery makes of them, where one host sends to the session.
+-- Requests on their way: what one delivery makes of them, where the session has one sender.
 use Rattle.std.proofs.Common.{◌≡◌, ℕ, ◌+◌, ◌<◌, List, [], ◌∷◌, length, true, false, Option, Some, ◌⊎◌, ⊎_elim, arith, sym, refl, ap, subst, ◌∙◌}
 use Rattle.std.specs.Prelude.{slice_get}
 use Rattle.std.specs.Ordering.{eq_by_cmp}
@@ -127,13 +127,13 @@ pub record IsDown (w : World) (s : Session) (st : StyleKind) (x : Sender) (e : �
 abbrev pub IsConf : Item → Type 0
 IsConf y = (m : ResvConfMsg) × (y.arrival ≡ Spelt (message.ResvConf m))
 
--- a network that reserves, in which one host sends to the session, and all that is in flight are requests of the end, and answers
+-- a network that reserves, in which the session has one sender, and all that is in flight are requests of the end, and answers
 pub record IsAsking (q : ℕ) (s : Session) (st : StyleKind) (x : Sender) (e : ℕ) (w : World) : Type 0 where
   pub reserving : IsReserving q s w
   pub only : IsOnlySender w s x
   pub each : (y : Item) → In y w.flight → IsUp w s st x e y ⊎ IsConf y
 
--- ---- the parts of a session to which one host sends
+-- ---- the parts of a session with one sender
 module _ (w : World) (s : Session) (x : Sender) (only : IsOnlySender w s x) (st : StyleKind) (e : ℕ) (next : Addr) (u : UnitOf) (p : Part) (sound : IsSoundPart st w s e next u p) where
   -- each name is the sender's
   pub one_listed : (y : Sender) → has p.senders y ≡ true → (y ≡ name_of st x) × In sound.hop (tree w.net.hops s.group x.addr)

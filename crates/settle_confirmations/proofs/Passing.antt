@@ -33,11 +33,6 @@ all_taken : {A : Type 0} (xs : List A) (x : A) → In x xs → In x (take (lengt
 all_taken [] x i = absurd i
 all_taken (y ∷ ys) x i = ⊎_elim (λ (e : x ≡ y). inl e) (λ (j : In x ys). inr (all_taken ys x j)) i
 
-taken_in : {A : Type 0} (n : ℕ) (xs : List A) (x : A) → In x (take n xs) → In x xs
-taken_in zero xs x i = absurd i
-taken_in (suc n) [] x i = absurd i
-taken_in (suc n) (y ∷ ys) x i = ⊎_elim (λ (e : x ≡ y). inl e) (λ (j : In x (take n ys)). inr (taken_in n ys x j)) i
-
 module _ (q : ℕ) (F : Step → World → Type 0) where
   happens_first : (ss ts : List Step) (w : World) → Happens (machine q) F ss w → Happens (machine q) F (ss ++ ts) w
   happens_first [] ts w h = absurd h

@@ -195,9 +195,6 @@ module _ (p : NodeConfig) (c e : ℕ) (m : ResvMsg) (f : Facts) (gs : List Line)
 
   -- ---- a unit of it
   module _ (u : AskedUnit) (i : In u us) where
-    abbrev names_of : Names
-    names_of = names_that_match u.names all
-
     abbrev part : Part
     part = record { senders = names_that_match u.names all; flow = u.flow }
 
@@ -372,9 +369,6 @@ module _ (p : NodeConfig) (c e : ℕ) (m : ResvMsg) (f : Facts) (gs : List Line)
       let from = sym (act_senders p c input f refl) in
       let paths = sym (act_paths p c input f refl) in
       λ j. offers p (record f { senders = from j; paths = paths j })
-
-  none_fired : change.fired ≡ (act_resv p c e m f).fired
-  none_fired = ap (λ (k : Change). k.fired) act_is
 
   -- a Resv, which asks for the same, where something changed
   pub record IsPassedOn (s : Send) : Type 0 where

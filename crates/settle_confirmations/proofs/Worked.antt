@@ -1,6 +1,7 @@
 -- Requests in small networks, by computing.
 use Rattle.std.proofs.Common.{◌≡◌, ℕ, zero, suc, true, None, Some, inl, ⊎_elim, refl, ap, subst, ◌∙◌}
 use Rattle.std.specs.Prelude.{slice_get}
+use Rattle.std.specs.Fmt.{digits}
 use Rattle.std.specs.Option.{unwrap_or}
 use Rattle.rsvp_base.specs.declared.session.Sender.{Sender}
 use Rattle.rsvp_base.specs.Members.{In}
@@ -20,7 +21,7 @@ use Rattle.settle_passes.specs.Reserving.{AsksNoLess}
 use Rattle.settle_passes.specs.Worked.{asked_world, heard_world}
 use Rattle.settle_passes.proofs.AskedExample.{a_receiver_asks}
 use Rattle.settle_confirmations.specs.Requests.{IsOnlySender}
-use Rattle.settle_confirmations.specs.Worked.{AReceiverHears, AnAnswerSpeaksOfAnother, TwoEndsHearNothing, wishing_world}
+use Rattle.settle_confirmations.specs.Worked.{AReceiverHears, AReceiverTurnsAway, ARequestIsRefused, AnAnswerSpeaksOfAnother, TwoEndsHearNothing, TwoReceiversAskAtOnce, wishing_world}
 
 -- whether a confirmation is asked for makes no difference to what is wanted
 same_locals : locals_of asked_world ≡ locals_of wishing_world
@@ -62,6 +63,7 @@ a_receiver_hears = record {
   sends = (_, inl refl);
   long = refl;
   text = refl;
+  last = refl;
 }
 
 pub an_answer_speaks_of_another : AnAnswerSpeaksOfAnother
@@ -71,3 +73,15 @@ an_answer_speaks_of_another = record { text = refl }
 pub two_ends_hear_nothing : TwoEndsHearNothing
 unfolding facts_with
 two_ends_hear_nothing = record { text = refl }
+
+pub two_receivers_ask_at_once : TwoReceiversAskAtOnce
+unfolding facts_with
+two_receivers_ask_at_once = record { long = refl; text = refl }
+
+pub a_receiver_turns_away : AReceiverTurnsAway
+unfolding facts_with
+a_receiver_turns_away = record { text = refl }
+
+pub a_request_is_refused : ARequestIsRefused
+unfolding digits facts_with
+a_request_is_refused = record { text = refl }

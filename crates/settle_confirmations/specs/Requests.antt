@@ -18,7 +18,7 @@ use Rattle.network_model.specs.Locals.{IsLive}
 use Rattle.network_model.specs.Steps.{Step, arrived}
 use Rattle.network_model.specs.Worlds.{Item, World}
 
--- nobody else sends to the session
+-- the session has no other live sender
 abbrev pub IsOnlySender : World → Session → Sender → Type 0
 IsOnlySender w s x = (y : Sender) (t : TokenBucket) → IsLive w (s, y) t → y ≡ x
 

@@ -1,5 +1,5 @@
--- What becomes of requests in small networks to whose session two hosts send, or one by two addresses.
-use Rattle.std.specs.Prelude.{◌≡◌, ℕ, List, [], ◌∷◌, Bool, true, false, codes}
+-- What becomes of requests in small networks: where they are answered, and where a premise is not met, with one sender or with two.
+use Rattle.std.specs.Prelude.{◌≡◌, ℕ, ◌++◌, List, [], ◌∷◌, Bool, true, false, codes}
 use Rattle.rsvp_base.specs.declared.addr.Addr.{Addr}
 use Rattle.rsvp_base.specs.declared.session.Sender.{Sender}
 use Rattle.rsvp_base.specs.declared.style.StyleKind.TheVariants.{Shared, Wild}
@@ -15,9 +15,9 @@ use Rattle.network_model.specs.Bounds.{IsStart}
 use Rattle.network_model.specs.Locals.{locals_of}
 use Rattle.network_model.specs.Worlds.{Item, World}
 use Rattle.network_model.specs.RouterRules.Inputs.{SendAs, WantAs}
-use Rattle.network_model.specs.ThreeRouters.{first, flow, group, ip, r1, s1, session, usual}
+use Rattle.network_model.specs.ThreeRouters.{first, flow, group, ip, r1, r2, s1, second, session, usual}
 use Rattle.network_model.specs.Events.{AtNode, Event, Pass, Traces}
-use Rattle.network_model.specs.Rows.{end_of, hop_of, line, plan_of}
+use Rattle.network_model.specs.Rows.{end_of, hop_of, line, plan_of, sends}
 use Rattle.network_model.specs.Runs.{Plan, run_text}
 use Rattle.settle_network.specs.Settled.{HasSettled}
 use Rattle.settle_passes.specs.Reserving.{AsksNoLess, after_want}
@@ -41,6 +41,9 @@ pub record AReceiverHears : Type 0 where
   pub long : longest (line 10000 []).net ≡ 2
   pub text : run_text (line 10000 (AtNode 0 (SendAs session first usual) ∷ Pass 2 ∷ Traces true ∷ AtNode 2 (WantAs session Wild empty usual true) ∷ Pass 4 ∷ []))
       ≡ codes "r2 Resv taken\ns1 Resv taken\nr1 ResvConf taken\nt1 ResvConf taken\n"
+  -- the answer comes in the fourth of the passes
+  pub last : run_text (line 10000 (AtNode 0 (SendAs session first usual) ∷ Pass 2 ∷ AtNode 2 (WantAs session Wild empty usual true) ∷ Pass 3 ∷ Traces true ∷ Pass 1 ∷ []))
+      ≡ codes "t1 ResvConf taken\n"
 
 -- a hop of the tree of another source
 abbrev pub hop_from : Addr → ℕ → ℕ → TreeHop
@@ -48,9 +51,6 @@ hop_from a e d = record { group = group; source = a; hop = record { from = e; to
 
 -- ---- a line of four nodes, the first two of which send; the third wants something of the first, and the last something of the second,
 -- with a shared filter. What answers the last one speaks of the first sender alone
-abbrev pub r2 : Addr
-r2 = ip 10 0 2 1
-
 abbrev pub theirs : Sender
 theirs = record { addr = r2; port = 5004 }
 
@@ -93,3 +93,35 @@ pub record TwoEndsHearNothing : Type 0 where
   pub text : run_text (two_ends (AtNode 0 (SendAs session first usual) ∷ AtNode 0 (SendAs session (record { addr = u2; port = 5004 }) usual) ∷ Pass 8
       ∷ AtNode 6 (WantAs session Wild empty (flow 300 600 64 1500) true) ∷ Pass 5 ∷ Traces true ∷ Pass 7 ∷ []))
       ≡ codes "u1 Resv taken\nb1 ResvConf dropped NoState\nb1 ResvConf taken\na1 ResvConf taken\ne1 ResvConf taken\nd2 ResvConf dropped NoState\n"
+
+-- ---- one sender. Two receivers behind one router ask at once, H = 3: the router above forgets the address of the first
+abbrev pub behind_one : List Event → Plan
+behind_one events =
+    plan_of (record {
+      nodes = 5;
+      ends = end_of 0 s1 ∷ end_of 1 r1 ∷ end_of 1 r2 ∷ end_of 2 (ip 10 0 2 2) ∷ end_of 2 (ip 10 0 3 1) ∷ end_of 3 (ip 10 0 3 2) ∷ end_of 2 (ip 10 0 4 1) ∷ end_of 4 (ip 10 0 4 2) ∷ [];
+      links = (0 ∷ 1 ∷ []) ∷ (2 ∷ 3 ∷ []) ∷ (4 ∷ 5 ∷ []) ∷ (6 ∷ 7 ∷ []) ∷ [];
+      hops = hop_of 0 1 ∷ hop_of 2 3 ∷ hop_of 4 5 ∷ hop_of 6 7 ∷ [];
+    }) (codes "s1" ∷ codes "r1" ∷ codes "r2" ∷ codes "q1" ∷ codes "q2" ∷ codes "t1" ∷ codes "q3" ∷ codes "u1" ∷ []) events
+
+abbrev pub asks_for : ℕ → ℕ → Event
+asks_for n rate = AtNode n (WantAs session Wild empty (flow rate 600 64 1500) true)
+
+pub record TwoReceiversAskAtOnce : Type 0 where
+  pub long : longest (behind_one []).net ≡ 3
+  pub text : run_text (behind_one (sends ∷ Pass 3 ∷ Traces true ∷ asks_for 3 300 ∷ asks_for 4 400 ∷ Pass 6 ∷ []))
+      ≡ codes "q2 Resv taken\nq3 Resv taken\nr2 Resv taken\nr2 Resv taken\ns1 Resv taken\ns1 Resv taken\n"
+      ++ codes "r1 ResvConf dropped NoState\nr1 ResvConf taken\nq1 ResvConf taken\nu1 ResvConf taken\n"
+
+-- ---- a receiver that has what it wants of the sender asks for somebody else, who does not send: all that goes out is a ResvTear
+abbrev pub wants_alone : Sender → Bool → Event
+wants_alone x confirm = AtNode 2 (WantAs session Shared (set_of (x ∷ [])) usual confirm)
+
+pub record AReceiverTurnsAway : Type 0 where
+  pub text : run_text (line 10000 (sends ∷ wants_alone first false ∷ Pass 4 ∷ Traces true ∷ wants_alone second true ∷ Pass 4 ∷ []))
+      ≡ codes "r2 ResvTear taken\ns1 ResvTear taken\n"
+
+-- ---- an end has a byte per second less than a receiver asks for: what comes back is a ResvErr
+pub record ARequestIsRefused : Type 0 where
+  pub text : run_text (line 1000 (sends ∷ Pass 2 ∷ Traces true ∷ asks_for 2 1001 ∷ Pass 4 ∷ []))
+      ≡ codes "r2 Resv taken\ns1 Resv answered 1/2\nr1 ResvErr taken\nt1 ResvErr taken\n"

@@ -20,19 +20,19 @@ ghost use Rattle.settle_network.specs.Settled.{HasSettled};
 ghost use Rattle.settle_passes.specs.Reserving.{AsksNoLess, IsReserving, after_want};
 ghost use Rattle.settle_confirmations.specs.Requests.{IsAnswered, IsOnlySender, IsRequest};
 
-/// Requests for a confirmation are answered: in a network that sets up the reservations of a session to which one host sends, and in which
-/// all that is in flight are requests of one end, a ResvConf for it comes to that end within 2 H passes, and speaks of the sender. H is the
-/// length of the longest chain: the request goes up one hop a pass until nothing new is to be asked for, and the ResvConf comes down one
-/// hop a pass.
+/// Requests for a confirmation are answered: in a network that sets up the reservations of a session with one sender, and in which all that
+/// is in flight are requests of one end, a ResvConf for it comes to that end within 2 H passes, and speaks of the sender. H is the length
+/// of the longest chain: the request goes up one hop a pass until nothing new is to be asked for, and the ResvConf comes down one hop a
+/// pass.
 pub fn requests_are_answered()
     ensures { (q : ℕ) (s : Session) (st : StyleKind) (x : Sender) (e : ℕ) (w : World) → IsReserving q s w → IsOnlySender w s x → e < length w.net.ends
         → (y : Item) → In y w.flight → ((z : Item) → In z w.flight → IsRequest w s st e z) → Happens (machine q) (IsAnswered s st x e) (passes q (2 * longest w.net) w) w }
 {}
 
 /// So a receiver that asks for a confirmation gets one within 2 H passes, whatever its style: in a settled network in which nothing is in
-/// flight, where one host sends to the session, the receiver asks for no less than its node did before, the demands fit then too, and its
-/// node sends something for the call. Where it sends nothing, as for what it has already, nobody answers; nor always where two hosts send
-/// to the session.
+/// flight, where the session has one sender, the receiver asks for no less than its node did before, the demands fit then too, and its
+/// node sends something for the call. Where it sends nothing, as for what it has already, nobody answers; nor always where the session has
+/// two senders, of one host or of two.
 pub fn a_receiver_is_answered()
     ensures { (q n : ℕ) (s : Session) (st : StyleKind) (names : Names) (flow : TokenBucket) (x : Sender) (w : World) → IsStart q w → HasSettled q w → w.flight ≡ []
         → IsOnlySender w s x → IsFitList st names → IsSound flow → AsksNoLess w n s st names flow true → DemandsFit w.net (locals_of (after_want q n s st names flow true w))

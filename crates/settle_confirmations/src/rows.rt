@@ -1,5 +1,5 @@
 //! Worked rows: small networks, by computing.
-ghost use Rattle.settle_confirmations.specs.Worked.{AReceiverHears, AnAnswerSpeaksOfAnother, TwoEndsHearNothing};
+ghost use Rattle.settle_confirmations.specs.Worked.{AReceiverHears, AReceiverTurnsAway, ARequestIsRefused, AnAnswerSpeaksOfAnother, TwoEndsHearNothing, TwoReceiversAskAtOnce};
 
 /// A receiver in a pair of nodes meets the premises of `a_receiver_is_answered`; and in a line of two hops the answer comes in the fourth
 /// pass, the last of the 2 H.
@@ -7,15 +7,32 @@ pub fn a_receiver_hears()
     ensures { AReceiverHears }
 {}
 
-/// Not without the premise that one host sends. With a shared filter what two receivers want of two senders is one reservation: a request
-/// goes on for the sake of the other sender alone, and the answer, which speaks of that one, is dropped.
+/// Not without the premise that the session has one sender: with a shared filter what two receivers want of two senders is one reservation,
+/// so that a request goes on for the sake of the other sender alone, and the answer, which speaks of that one, is dropped.
 pub fn an_answer_speaks_of_another()
     ensures { AnAnswerSpeaksOfAnother }
 {}
 
-/// Nor with a wildcard filter. By two ends of a host come the paths of two senders, and it asks by both; where their ways part and meet
-/// again, a router forgets the one address to confirm for the other, on one link this one and on another one that, and both answers are
-/// dropped.
+/// Nor with a wildcard filter, where one host sends by two addresses: by two ends of a receiver come the paths of two senders, and it asks by
+/// both; where their ways part and meet again, a router forgets the one address to confirm for the other, on one link this one and on
+/// another one that, and both answers are dropped.
 pub fn two_ends_hear_nothing()
     ensures { TwoEndsHearNothing }
+{}
+
+/// With one sender, not without the premise that all in flight are requests of one end: where two receivers behind one router ask at once, a
+/// router keeps the address of the last one, and drops the answer to the first.
+pub fn two_receivers_ask_at_once()
+    ensures { TwoReceiversAskAtOnce }
+{}
+
+/// Nor without the premise that no less is asked for: a receiver that has what it wants, and asks for a sender that does not send in its
+/// place, gets no answer, though its node sends a ResvTear for the call.
+pub fn a_receiver_turns_away()
+    ensures { AReceiverTurnsAway }
+{}
+
+/// Nor without the premise that the demands fit: what is asked for is refused, and what comes back is a ResvErr.
+pub fn a_request_is_refused()
+    ensures { ARequestIsRefused }
 {}
