@@ -34,7 +34,8 @@ pub fn paths_never_die()
 {}
 
 /// Paths become sound in windows: in a network within bounds, 2 H + 1 windows of 5.25 refresh periods or more on, each path says what
-/// a live sender's tree says, and so does each Path in flight, whatever is lost; H is the length of the longest chain.
+/// a live sender's tree says, and so does each Path in flight to an end by which its sender's tree comes, whatever is lost; H is the length
+/// of the longest chain.
 pub fn paths_become_sound_in_windows()
     ensures { (q : ℕ) (w : World) (rs : List (List Step)) → Windows (machine q) rs w → AreBounds q w → Hold (machine q) (1 + 2 * longest w.net) rs w ArePathsSound }
 {}
@@ -130,14 +131,14 @@ pub fn a_pair_is_lossy()
     ensures { ALossyPair }
 {}
 
-/// A left-over path in a small network meets the premises of the laws on windows, however many there are, and at the start the path is
-/// not sound.
+/// A left-over path in a small network in which nobody sends meets the premises of the two laws of paths in windows, however many windows
+/// there are, and at the start the path is not sound.
 pub fn a_path_is_left_over_in_windows()
     ensures { ALeftOverPathInWindows }
 {}
 
-/// A left-over reservation, of a next hop that no end has, meets the premises of these laws on reservations in windows, however many windows
-/// there are, and at the start it is not sound, and the network has not settled.
+/// A left-over reservation, of a next hop that no end has, in a small network in which nobody sends or wants, meets the premises of the laws
+/// of a network's reservations in windows, however many windows there are, and at the start it is not sound, and the network has not settled.
 pub fn a_reservation_is_left_over_in_windows()
     ensures { ALeftOverReservationInWindows }
 {}

@@ -2,8 +2,8 @@
 //!
 //! Where over each hop of a live sender's tree of any three successive Paths one arrives in time, paths never die, however long it
 //! goes on and however many datagrams are lost (RFC 2205, 3.7). Neither does a reservation over a hop, where it is said there and
-//! taken. Whatever is lost, what nobody below wants is gone in windows: stretches of 5.25 refresh periods or more. Definitions stand in
-//! `specs/`, and each public function of `laws` has an empty body and a law as its promise.
+//! taken. Whatever is lost, what nobody below wants is gone in windows: stretches of 5.25 refresh periods or more, in which whatever was in
+//! flight arrives or is lost. Definitions stand in `specs/`, and each public function of `laws` has an empty body and a law as its promise.
 #![tactic(auto)]
 
 pub mod laws;
