@@ -125,13 +125,14 @@ pub fn flags_of_a_run_settle()
 {}
 
 /// What `flags` writes of a network whose flags are settled is demanded: of each end the entries of its demand, each with E where its data
-/// comes straight from a source, with M where the style merges several senders there, and with B where another reservation that shares a
-/// sender is wanted at the node, for which the entry's flow cannot stand (RFC 2205, 3.8).
+/// comes straight from a source, with M where the style merges several senders that come there from other nodes, and with B where another
+/// reservation that shares a sender is wanted at the node, for which the entry's flow cannot stand (RFC 2205, 3.8).
 pub fn settled_flags_are_demanded()
     ensures { SettledFlagsAreDemanded }
 {}
 
-/// So it is a function of the network, its senders and its wants: two settled worlds that are alike in these write the same.
+/// So it is a function of the network, its senders and its wants: two worlds whose flags are settled, and that are alike in these, write
+/// the same.
 pub fn flags_are_a_function()
     ensures { FlagsAreAFunction }
 {}
@@ -141,8 +142,8 @@ pub fn flags_are_so()
     ensures { FlagsAreSo }
 {}
 
-/// Of a network that has not settled, what `flags` writes is no function of these: an injected Path without E_Police changes it, and what is
-/// written is not what is demanded.
+/// Of a network whose flags have not settled, what `flags` writes is no function of these: an injected Path without E_Police changes it,
+/// and what is written is not what is demanded.
 pub fn flags_can_differ()
     ensures { FlagsCanDiffer }
 {}

@@ -18,8 +18,8 @@ ghost use Rattle.settle_passes.specs.Reserving.{AreExactUpTo, AsksNoLess, HasRes
 ghost use Rattle.settle_resvs.specs.Sessions.{AreExactOf, IsFreeOfBlockadesOf, SessionFits};
 ghost use Rattle.settle_network.specs.Settled.{HasSettled};
 
-/// Paths spread one hop a pass: where paths are sound, each node has offered what it knows and nothing is torn down, n passes on each
-/// live sender has its path at each hop of its tree to a node that is n hops from its own at most.
+/// Paths spread one hop a pass: in a network within bounds with hosts, where paths are sound, each node has offered what it knows and
+/// nothing is torn down, n passes on each live sender has its path at each hop of its tree to a node that is n hops from its own at most.
 pub fn paths_spread_one_hop_a_pass()
     ensures { (q n : ℕ) (w : World) → AreSpreading q w → AreSpreading q (after_passes q n w) × AreCompleteTo n (after_passes q n w) }
 {}
@@ -29,9 +29,10 @@ pub fn paths_are_set_up()
     ensures { (q : ℕ) (w : World) → AreSpreading q w → ArePathsSound (after_passes q (longest w.net) w) × ArePathsComplete (after_passes q (longest w.net) w) }
 {}
 
-/// A new sender is known along its tree after H passes, without waiting: from a network that has its paths, as a settled one has in
-/// which nothing is in flight, when a host begins to send as a sender that nobody was, paths are sound and complete again H passes on,
-/// and nothing tears one down. No time goes by; what goes up the trees meanwhile, and whether it is refused, makes no difference.
+/// A new sender is known along its tree after H passes, without waiting: from a network that has its paths, as a settled one has in which
+/// nothing is in flight, when a host begins to send as a sender that nobody was, to a group, and few enough send then, paths are sound and
+/// complete again H passes on, and nothing tears one down. No time goes by; what goes up the trees meanwhile, and whether it is refused,
+/// makes no difference.
 pub fn a_new_sender_is_set_up()
     ensures { (q n : ℕ) (k : SenderKey) (t : TokenBucket) (w : World) → HasItsPaths q w → IsSound t → IsNew w k → AreHosts (after_send q n k t w)
         → HasItsPaths q (after_passes q (longest w.net) (after_send q n k t w)) }
@@ -45,9 +46,9 @@ pub fn an_ended_sender_is_forgotten()
         → HasItsPaths q (after_passes q (longest w.net) (after_drop q n d w)) }
 {}
 
-/// Reservations rise one hop a pass: where paths are there, no reservation of any session says more than is wanted, nothing of a session
-/// is refused, and each node has asked for what goes from it, n passes on each reservation of the session is exactly what is wanted over
-/// each hop from which no chain is longer than n. What is wanted does not change meanwhile, and it goes on so.
+/// Reservations rise one hop a pass: where paths are there, no reservation or Resv of any session says more than is wanted, a session fits,
+/// nothing of it is refused or blockaded, and each node has asked for what goes from it, n passes on each reservation of the session is
+/// exactly what is wanted over each hop from which no chain is longer than n. What is wanted does not change meanwhile, and it goes on so.
 pub fn reservations_rise_one_hop_a_pass()
     ensures { (q n : ℕ) (s : Session) (w : World) → IsReserving q s w → IsReserving q s (after_passes q n w) × AreExactUpTo s n (after_passes q n w) }
 {}
@@ -57,17 +58,17 @@ pub fn reservations_are_set_up()
     ensures { (q : ℕ) (s : Session) (w : World) → IsReserving q s w → HasReserved s (after_passes q (longest w.net) w) }
 {}
 
-/// It begins so in a network that has its paths and in which nothing is in flight, as a settled one: where the reservations of a session
-/// are exact, it fits, and none of its blockades lives.
+/// It begins so in a network that has its paths and in which nothing is in flight, as a settled one: where no reservation of any session
+/// says more than is wanted, and those of a session are exact, it fits, and none of its blockades lives.
 pub fn a_settled_session_is_reserved()
     ensures { (q : ℕ) (s : Session) (w : World) → HasItsPaths q w → AreResvsSound w → SessionFits w.net (locals_of w) s → IsFreeOfBlockadesOf s w → AreExactOf s w → w.flight ≡ []
         → IsReserving q s w }
 {}
 
-/// A receiver that asks is set up in H passes, without waiting: where it asks for no less than its node did before, as a new receiver or
-/// one that wants a larger flow, and the session fits then, the reservations of the session are exact along the whole way H passes on.
-/// The next may ask before these have passed, for this session or another, at this node or another: what it takes is H passes from the
-/// last. Whether a call is refused, and whether it asks to be confirmed, makes no difference.
+/// A receiver that asks is set up in H passes, without waiting: in a network that sets up a session so, where it asks for no less than its
+/// node did before, as a new receiver or one that wants a larger flow, and the session fits then, the reservations of the session are exact
+/// along the whole way H passes on. The next may ask before these have passed, for this session or another, at this node or another: what
+/// it takes is H passes from the last. Whether a call is refused, and whether it asks to be confirmed, makes no difference.
 pub fn a_receiver_is_set_up()
     ensures { (q n : ℕ) (s called : Session) (st : StyleKind) (names : Names) (flow : TokenBucket) (confirm : Bool) (w : World) → IsReserving q s w → IsFitList st names → IsSound flow
         → AsksNoLess w n called st names flow confirm → SessionFits w.net (locals_of (after_want q n called st names flow confirm w)) s
