@@ -1,0 +1,96 @@
+-- Where no more is wanted than before, the demands fit as they did.
+use Rattle.std.proofs.Common.{◌≡◌, ℕ, List, [], ◌∷◌, Bool, true, false, Some, arith, sym, refl, ap, subst, ◌∙◌}
+use Rattle.std.specs.Prelude.{not}
+use Rattle.std.specs.List.{filter, flat_map}
+use Rattle.rsvp_base.specs.declared.part.Part.{Part}
+use Rattle.rsvp_base.specs.declared.style.StyleKind.TheVariants.{Fixed, Shared, Wild}
+use Rattle.rsvp_base.specs.declared.style.Unit.{Unit as UnitOf}
+use Rattle.rsvp_base.specs.Orders.{units}
+use Rattle.rsvp_base.specs.Sets.{is_none}
+use Rattle.rsvp_base.specs.Table.{get}
+use Rattle.rsvp_base.proofs.Counts.{in_found}
+use Rattle.rsvp_base.proofs.Members.{in_each, in_filter, in_flat_map}
+use Rattle.style_rules.specs.CutLaws.{some_name}
+use Rattle.style_rules.specs.Lines.{AreUnder, Line, at_end, line_key}
+use Rattle.style_rules.specs.PartLaws.{part_at_most_itself, part_at_most_tested, part_at_most_told}
+use Rattle.style_rules.specs.Parts.{IsPartAtMost}
+use Rattle.style_rules.proofs.Books.{book_below, held_at_end_below, under_at_end}
+use Rattle.style_rules.proofs.Room.{within_below}
+use Rattle.router_rules.specs.Facts.{Facts}
+use Rattle.tree_model.specs.Goals.{DemandsFit, addr_of, goal, hop_lines, hops_in_order, sessions_named}
+use Rattle.tree_model.specs.Networks.{node_of}
+use Rattle.tree_model.specs.Trees.{goes_out_of, hops_of}
+use Rattle.tree_model.specs.Wants.{want}
+use Rattle.tree_model.proofs.Following.{same_number}
+use Rattle.network_model.specs.Locals.{locals_of}
+use Rattle.network_model.specs.Sound.{IsSoundPart}
+use Rattle.network_model.specs.Worlds.{World}
+use Rattle.settle_resvs.specs.GoalByIface.{line_over}
+use Rattle.settle_resvs.specs.Laws.{AreWantParts}
+use Rattle.settle_resvs.proofs.GoalByIface.{hop_in_order}
+use Rattle.settle_resvs.proofs.UnderTheGoal.{goal_made}
+use Rattle.settle_resvs.proofs.WantStyles.{want_style}
+use Rattle.settle_passes.proofs.Growing.{sound_grows}
+use Rattle.settle_releases.proofs.Within.{WantedMore, as_before}
+use Rattle.tree_model.specs.Valid.{IsValid}
+
+not_false : (b : Bool) → not b ≡ true → b ≡ false
+not_false true e = cc
+not_false false e = refl
+
+module _ (before : List Facts) (w : World) (valid : IsValid w.net) (parts : AreWantParts (locals_of w)) (more : WantedMore before w) where
+  -- what is owed over each hop out of a node lies under what was
+  under : (n : ℕ) → AreUnder (goal w.net (locals_of w) n) (goal w.net (locals_of (as_before before w)) n)
+  under n g i =
+      let a = in_flat_map (λ st. flat_map (λ s. flat_map (hop_lines st w.net (locals_of w) s) (filter (goes_out_of w.net.ends n) (hops_in_order (hops_of w.net.hops s.group)))) (sessions_named (locals_of w))) g
+      (Wild ∷ Fixed ∷ Shared ∷ []) i in
+      let b = in_flat_map (λ s. flat_map (hop_lines a.0 w.net (locals_of w) s) (filter (goes_out_of w.net.ends n) (hops_in_order (hops_of w.net.hops s.group)))) g (sessions_named (locals_of w)) a.2 in
+      let c = in_flat_map (hop_lines a.0 w.net (locals_of w) b.0) g (filter (goes_out_of w.net.ends n) (hops_in_order (hops_of w.net.hops b.0.group))) b.2 in
+      let f = in_filter (goes_out_of w.net.ends n) c.0 (hops_in_order (hops_of w.net.hops b.0.group)) c.1 in
+      let e = in_each (λ (e : UnitOf × Part). line_over w.net a.0 b.0 c.0 e) g (want a.0 w.net (locals_of w) b.0 c.0).rows c.2 in
+      let got : get (want a.0 w.net (locals_of w) b.0 c.0) e.0.0 ≡ Some e.0.1 = in_found units (want a.0 w.net (locals_of w) b.0 c.0) e.0.0 e.0.1 e.1 in
+      let named = (want_style a.0 w.net (locals_of w) b.0 parts c.0 e.0.0 e.0.1 got).0.named in
+      let x : IsSoundPart a.0 w b.0 c.0.from (addr_of w.net c.0.to) e.0.0 e.0.1 =
+      record {
+        some = some_name e.0.1.senders (not_false (is_none e.0.1.senders) named);
+        hop = c.0;
+        there = hop_in_order (hops_of w.net.hops b.0.group) c.0 f.0;
+        from = refl;
+        to = refl;
+        wanted = e.0.1;
+        is = got;
+        below = part_at_most_tested e.0.1 e.0.1 (part_at_most_itself e.0.1);
+      } in
+      let y = sound_grows a.0 w (as_before before w) refl valid.loop_free parts more.parts (sym more.senders) more.wants b.0 c.0.from (addr_of w.net c.0.to) e.0.0 e.0.1 x in
+      let node : node_of w.net.ends y.hop.from ≡ n = ap (node_of w.net.ends) y.from ∙ same_number (node_of w.net.ends c.0.from) n f.1 in
+      let over : Line = line_over w.net a.0 b.0 y.hop (e.0.0, y.wanted) in
+      let key : line_key (line_over w.net a.0 b.0 c.0 e.0) ≡ line_key over = (λ j. (b.0, ((sym y.from j, sym y.to j), e.0.0))) in (
+        over,
+        goal_made a.0 w.net (locals_of (as_before before w)) n b.0 y.hop e.0.0 y.wanted y.there node y.is,
+        record {
+          style = ap (λ (z : Line). z.style) e.2;
+          key = ap line_key e.2 ∙ key;
+          part = subst (λ (z : Line). IsPartAtMost z.part y.wanted) (sym e.2) (part_at_most_told e.0.1 y.wanted y.below);
+        },
+      )
+
+  pub less_fits : DemandsFit w.net (locals_of (as_before before w)) → DemandsFit w.net (locals_of w)
+  less_fits fit = record {
+    capacity = λ e x is.
+        let n : ℕ = node_of w.net.ends e in
+        let less = held_at_end_below e (goal w.net (locals_of w) n) (goal w.net (locals_of (as_before before w)) n) (under n) in
+        let room = fit.capacity e x is in
+        omega (arith, less, room);
+    mtu = λ e x k p is got.
+        let n : ℕ = node_of w.net.ends e in
+        let y = book_below (at_end e (goal w.net (locals_of w) n)) (at_end e (goal w.net (locals_of (as_before before w)) n))
+        (under_at_end e (goal w.net (locals_of w) n) (goal w.net (locals_of (as_before before w)) n) (under n)) k p got in
+        let less = y.2.flow.most in
+        let room = fit.mtu e x k y.0 is y.1 in
+        omega (arith, less, room);
+    one_style = λ v x i j same.
+        let a = more.wants v i in
+        let b = more.wants x j in
+        sym a.style ∙ fit.one_style a.want b.want a.among b.among (a.session ∙ same ∙ sym b.session) ∙ b.style;
+    limits = λ n st. within_below st (goal w.net (locals_of w) n) (goal w.net (locals_of (as_before before w)) n) (under n) (fit.limits n st);
+  }

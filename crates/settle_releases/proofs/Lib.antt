@@ -1,0 +1,10 @@
+pub mod Within
+pub mod Fitting
+pub mod Accepting
+pub mod Tears
+pub mod TakenBack
+pub mod Receding
+pub mod Falling
+pub mod Releasing
+pub mod Silence
+pub mod Worked
