@@ -34,7 +34,7 @@ pub fn only_said_paths_are_kept()
 {}
 
 /// Paths are sound: in a network within bounds, 5 H + 4 calm rounds on, each path says what a live sender's tree says, and so
-/// does each Path in flight; H is the length of the longest chain.
+/// does each Path in flight to an end by which its sender's tree comes; H is the length of the longest chain.
 pub fn paths_are_sound()
     ensures { (q : ℕ) (w : World) (rs : List (List Step)) → Rounds (machine q) rs w → AreBounds q w → Hold (machine q) (4 + 5 * longest w.net) rs w ArePathsSound }
 {}
