@@ -9,7 +9,7 @@ use rsvp_base::{Flow, StyleKind};
 use style_rules::Parts;
 
 /// The flags with which an entry of a book is handed to traffic control (RFC 2205, 3.8). `matching` counts the paths whose
-/// sender the entry names and whose tree goes out of its interface, `marked` tells that one of them has E_Police, and
+/// sender the entry names and whose tree goes out of its interface, `marked` is whether one of them has E_Police, and
 /// `others` has what the reservations ask for that share a sender with the entry and are not merged into it. E: `marked`. M:
 /// several senders share the entry. B: another reservation has a flow for which the entry's cannot stand.
 pub fn police_flags(

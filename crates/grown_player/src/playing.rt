@@ -3,10 +3,11 @@ ghost use Rattle.std.specs.Prelude.{◌++◌, ◌∷◌, [], None, OnOk, false, 
 ghost use Rattle.std.specs.List.{All};
 ghost use Rattle.network_model.specs.Events.{Reports, Rounds};
 ghost use Rattle.network_model.specs.Runs.{Plan, last_world};
-ghost use Rattle.network_replay.specs.Happening.{IsRead};
+ghost use Rattle.network_replay.specs.Happening.{CanHappen, IsRead};
 ghost use Rattle.network_replay.specs.Sights.{ShowsRun, event_sights};
 ghost use Rattle.network_model.specs.Happenings.{IsFitEvent, event_with};
 ghost use Rattle.router_rules.specs.Steps.{IsFitCall};
+ghost use Rattle.tree_model.specs.Networks.{Net};
 ghost use Rattle.router_rules.specs.Inputs.{WantAs};
 ghost use Rattle.grown_network.specs.Grown.{send_event, want_event};
 ghost use Rattle.grown_network.specs.Hosts.{session_of};
@@ -112,7 +113,7 @@ fn want<R: Router + Drop>(
     play(world, &event, &mut Unwatched, out)
 }
 
-// Plays an event without bytes.
+// Plays an event without bytes, by which no tree moves.
 fn play<R: Router + Drop, W: Watch>(
     world: &mut World<R>,
     event: &Event,
@@ -121,9 +122,13 @@ fn play<R: Router + Drop, W: Watch>(
 ) -> Result<(), WorldErr>
     requires fit { IsFitEvent event.now }
     requires read { IsRead event.now no_bytes }
+    requires still { (net : Net) → CanHappen net event.now }
     ensures runs { (p : Plan) → IsPlayed R.seen p world.old out.old.items → Plays R.seen p (event_with no_bytes event.now ∷ []) result world.new out.new.items }
     ensures told { (p : Plan) → IsPlayed R.seen p world.old out.old.items
         → ShowsRun W.saw result watch.old watch.new (event_sights p.quarter (event_with no_bytes event.now) (last_world p)) }
 {
-    run_event(world, event, watch, out)
+    match run_event(world, event, watch, out) {
+        Ok(ran) => ran,
+        Err(_) => unreachable!(),
+    }
 }

@@ -60,7 +60,7 @@ pub fn resv_errs_by_tests()
     ensures { ResvErrsByTests }
 {}
 
-/// Each next hop of a reservation that a ResvErr speaks of is told, once, and nobody else.
+/// Of a ResvErr one goes on to each next hop of a reservation that it speaks of, one to each, and none to others.
 #[tactic(auto, using(crate::proofs::Erring::errors_once_each))]
 pub fn errors_once_each()
     ensures { ErrorsOnceEach }
@@ -78,7 +78,7 @@ pub fn losses_by_names()
     ensures { LossesByNames }
 {}
 
-/// What each unit of a Resv leaves, whole: who is told, what takes its place, and whether one was left out.
+/// What each unit of a Resv leaves, whole: to whom a ResvErr goes, what takes its place, and whether one was left out.
 #[tactic(auto, using(crate::proofs::Wholes::units_in_full))]
 pub fn units_in_full()
     ensures { UnitsInFull }

@@ -7,12 +7,12 @@ pub fn sessions_are_in_order()
     ensures { InOrder }
 {}
 
-/// Paths and PathTears are told sender after sender.
+/// Paths and PathTears are sent sender after sender.
 pub fn senders_are_told()
     ensures { SendersAreTold }
 {}
 
-/// What is told of a lane by what was said there before is what the rule sends.
+/// The Resv of a lane, made from the last one that went there, is what the rule sends.
 pub fn lanes_are_said()
     ensures { LanesAreSaid }
 {}
@@ -23,7 +23,7 @@ pub fn passage_is_told()
     ensures { PassageIsTold }
 {}
 
-/// With other routes than before, all senders and all lanes are told group by group.
+/// With other routes than before, messages of all senders and all lanes are sent group by group.
 pub fn rerouting_is_told()
     ensures { ReroutingIsTold }
 {}

@@ -39,12 +39,12 @@ pub fn refresh_is_quiet()
     ensures { RefreshIsQuiet }
 {}
 
-/// Once the lanes of the session that changed are told, what was said is what goes toward each hop.
+/// Once the Resvs of a session that changed are sent, what its lanes keep as sent last is what goes toward each hop.
 pub fn all_is_said()
     ensures { AllIsSaid }
 {}
 
-/// What is told lane by lane, of what was said before, is what the rule sends.
+/// The Resvs of all lanes, each made from the last one that went there, are what the rule sends.
 pub fn lanes_are_told()
     ensures { LanesAreTold }
 {}

@@ -1,6 +1,6 @@
 -- Steps with their text, one after the other.
 use Rattle.std.proofs.Common.{◌≡◌, ℕ, suc, ◌+◌, List, [], ◌∷◌, ◌++◌, Bool, true, false, refl, sym, ap, subst, ◌∙◌, append-nil, append_assoc, arith, ltb-false}
-use Rattle.std.specs.Prelude.{nat_lt, Result, Ok, Err, IfErr, IsErr, OnOk, OnErr, map as each}
+use Rattle.std.specs.Prelude.{nat_lt, Result, Ok, Err, IfErr, IfOk, IsErr, OnOk, OnErr, map as each}
 use Rattle.calm_rounds.specs.Machine.{run}
 use Rattle.network_flight.specs.Events.{Event, at_place, last_piece, steps_of, all_steps}
 use Rattle.network_flight.specs.Runs.{is_crowded, crowds, uncrowded, text_of, written}
@@ -27,6 +27,11 @@ only_then r x y is same before now e only ran_out = sym e ∙ only (ap failed (s
 pub not_memory : (r : Result (Unit {0}) WorldErr) → IfErr r (λ e. e ≡ Crowded) → (b : Bool) → r ≡ failed NoMemory → b ≡ true
 not_memory (Ok _) h b e = absurd (cc)
 not_memory (Err x) h b e = absurd (let z : failed Crowded ≡ failed NoMemory = ap failed (sym h) ∙ e in cc)
+
+-- what holds of each value
+pub of_each : {A E : Type 0} (P : A → Type 0) (r : Result A E) → ((x : A) → P x) → IfOk r P
+of_each P (Ok x) h = h x
+of_each P (Err e) h = tt
 
 pub not_off : (b : Bool) → (b ≡ false → ⊥) → b ≡ true
 not_off true never = refl

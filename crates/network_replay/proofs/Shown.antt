@@ -12,7 +12,8 @@ use Rattle.tree_model.specs.Networks.{Net}
 use Rattle.rsvp_base.specs.declared.addr.Addr.{Addr}
 use Rattle.network_replay.specs.Following.{Seen}
 use Rattle.network_replay.specs.Running.{Ran}
-use Rattle.network_replay.specs.Sights.{Sight, Shows, ShowsRun, delivery, heard_there, sights, sights_of}
+use Rattle.network_replay.specs.Sights.{Sight, Shows, ShowsRun, Tells, delivery, heard_there, sights, sights_of}
+use Rattle.network_replay.specs.declared.no_tree.NoTree.{NoTree}
 use Rattle.network_replay.specs.declared.world_err.WorldErr.{WorldErr}
 
 -- where steps were made, the network agrees with the world behind them
@@ -59,6 +60,12 @@ module _ {W : Type 0} (saw : W → List Sight → Type 0) where
 
   pub run_no_more : (r : Result (Unit {0}) WorldErr) (a : W) (xs : List Sight) → xs ≡ [] → ShowsRun saw r a a xs
   run_no_more r a xs e = subst (λ (x : List Sight). ShowsRun saw r a a x) (sym e) (run_none r a)
+
+  -- of what shows nothing
+  pub tells_no_more : {R : Type 0} (see : Seen R) (v : NetworkState R) (r : Result (Result (Unit {0}) WorldErr) NoTree) (a : W) (what : ℕ → World → List Sight)
+      → ((q : ℕ) (w : World) → what q w ≡ []) → IfOk r (λ x. Tells saw see v x a a what)
+  tells_no_more see v (Ok x) a what none = λ q w agrees. run_no_more x a (what q w) (none q w)
+  tells_no_more see v (Err n) a what none = tt
 
   pub run_then : (r : Result (Unit {0}) WorldErr) (a b c : W) (xs ys : List Sight) → Shows saw a b xs → ShowsRun saw r b c ys → ShowsRun saw r a c (xs ++ ys)
   run_then (Ok _) a b c xs ys f g = shows_then a b c xs ys f g

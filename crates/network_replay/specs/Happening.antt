@@ -1,7 +1,8 @@
 -- What events ask of a network, and what they cost it.
-use Rattle.std.specs.Prelude.{Bool, true}
+use Rattle.std.specs.Prelude.{◌≤◌, Bool, true, length}
 use Rattle.network_model.specs.Happenings.{IsReading}
 use Rattle.network_model.specs.Moves.{CanMove}
+use Rattle.network_model.specs.Steps.{rerouted}
 use Rattle.network_model.specs.declared.event.Event.{Event}
 use Rattle.network_model.specs.declared.event.Event.TheVariants as event
 use Rattle.message_decode.specs.Spells.{Spells, IsFirstFault}
@@ -16,6 +17,11 @@ IsRead e a = IsReading Spells IsFirstFault e a
 abbrev pub CanHappen : Net → Event → Type 0
 CanHappen net (event.Reroute group source hops) = CanMove net group source hops.items
 CanHappen net _ = Unit {0}
+
+-- there is room for the hops of a tree that moves, beside those of the other trees
+abbrev pub HasRoom : Net → Event → Type 0
+HasRoom net (event.Reroute group source hops) = length (rerouted net group source hops.items).hops ≤ 8192
+HasRoom net _ = Unit {0}
 
 -- memory is taken for a report, for a tree that moves, and for trace lines
 abbrev pub takes_memory : Bool → Event → Bool

@@ -9,6 +9,7 @@
 
 mod mail;
 mod moving;
+mod no_tree;
 mod playing;
 mod report;
 mod router;
@@ -19,6 +20,7 @@ mod world;
 mod world_err;
 
 pub use mail::Mail;
+pub use no_tree::NoTree;
 pub use router::Router;
 pub use watch::{Both, Unwatched, Watch};
 pub use world::World;

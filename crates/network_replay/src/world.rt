@@ -1,5 +1,5 @@
 //! The world of a network.
-ghost use Rattle.std.specs.Prelude.{◌≡◌, ◌↔◌, ◌<◌, ◌≤◌, ◌*◌, ◌^◌, ◌∷◌, ℕ, List, None, [], true, false, length, map, slice_get, Err, IfErr, IfNone, IfOk, IfSome, IsSome, MatchOption, Some};
+ghost use Rattle.std.specs.Prelude.{◌≡◌, ◌↔◌, ◌<◌, ◌≤◌, ◌*◌, ◌^◌, ◌∷◌, ℕ, List, None, [], true, false, length, map, slice_get, Err, IfErr, IfNone, IfOk, IfSome, IsSome, MatchOption, OnErr, Some};
 ghost use Rattle.network_flight.specs.Parcels.{Parcel as AParcel};
 ghost use Rattle.network_replay.specs.declared.world_err.WorldErr.TheVariants as refusal;
 ghost use Rattle.network_flight.specs.Events.{a_round, half, pass, passes, rounds};
@@ -430,8 +430,8 @@ impl<R: Router + Drop> World<R> {
         Ok(())
     }
 
-    // The routing in which these hops are the tree of the group and source. `None` exactly where they cannot be. `NoMemory`: there
-    // was no room for it.
+    // The routing in which these hops are the tree of the group and source. `None` exactly where they cannot be. `NoMemory`, only
+    // where there is room for the hops: memory ran out for the routing, or for the checks.
     pub(crate) fn routing_with(
         &self,
         group: Addr,
@@ -440,6 +440,7 @@ impl<R: Router + Drop> World<R> {
     ) -> Result<Option<Routing>, NoMemory>
         ensures moved { IfOk result (λ moved. IfSome moved (λ r. r ≡ rerouted self.now.post.net group source hops.now)) }
         ensures can { IfOk result (λ moved. IsSome moved ↔ CanMove self.now.post.net group source hops.now) }
+        ensures room { OnErr result (length (rerouted self.now.post.net group source hops.now).hops ≤ 8192) }
     {
         let routing = self.mail.wires().routing();
         if !routing.has_room_for_tree(group, source, hops) {

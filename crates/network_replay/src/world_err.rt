@@ -5,6 +5,6 @@
 pub enum WorldErr {
     /// It would put an 8,193rd datagram in flight.
     Crowded,
-    /// Memory ran out for its text.
+    /// Memory ran out for its text, or for the routing with its tree.
     NoMemory,
 }

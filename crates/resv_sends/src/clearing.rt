@@ -70,7 +70,7 @@ fn clear_style(
     }
 }
 
-/// Forgets what was said to a session's lanes toward these hops, where no path comes from the hop.
+/// Forgets the last Resv of a session's lanes toward these hops, where no path comes from the hop.
 pub fn clear_lanes(tables: &Tables, said: &mut LaneTable, session: Session, hops: &Hops)
     requires { IsFull said.old }
     ensures { IsCleared (state_of tables.now said.old) session (lanes_by (keys hops.now)) said.new }

@@ -50,7 +50,7 @@ fn is_style_new(
 }
 
 /// Whether a Resv is sent to one of a session's lanes toward these hops for a change: something goes there, and it is not
-/// what was said last.
+/// what went there last.
 pub fn is_any_new(tables: &Tables, said: &LaneTable, session: Session, hops: &Hops) -> bool
     ensures { (c : ℕ) (any : Said) → result ≡ list_any (new_by c (state_of tables.now any) said.now session) (lanes_by (keys hops.now)) }
 {
@@ -101,8 +101,8 @@ fn use_style(
     }
 }
 
-/// The units of the session's wants whose marks are used when its lanes toward these hops are told, by what was said there
-/// before: those that take part in a Resv that is sent for a change (RFC 2205, 2.6).
+/// The units of the session's wants whose marks are used when Resvs go to its lanes toward these hops, by what went there
+/// last: those that take part in a Resv that is sent for a change (RFC 2205, 2.6).
 pub fn used_marks(tables: &Tables, said: &LaneTable, session: Session, hops: &Hops) -> Units
     ensures { (c : ℕ) (any : Said) → result ≡ used_seen c (state_of tables.now any) session said.now (lanes_by (keys hops.now)) }
 {

@@ -114,9 +114,9 @@ fn tell_changed<O: Outbox>(
     }
 }
 
-/// The Resv of a lane, whole, where what goes there is not what was said last, or where it is due (RFC 2209, 2: RESV REFRESH);
-/// what goes there is kept as said. One that is told for a change asks to confirm whom `asked` says, if it says someone, else
-/// the node for its marked wants. Of a lane to which nothing was said fewer than 1,536 others are there.
+/// The Resv of a lane, whole, where what goes there is not what went there last, or where it is due (RFC 2209, 2: RESV REFRESH);
+/// what goes there is kept as sent last. One that is sent for a change asks to confirm whom `asked` names, if it names someone,
+/// else the node for its marked wants. Of a lane to which nothing went fewer than 1,536 others are there.
 pub(crate) fn tell_lane<O: Outbox>(
     tables: &Tables,
     said: &mut LaneTable,

@@ -115,7 +115,7 @@ pub fn marked_units(tables: &Tables, session: Session, style: StyleKind, hop: (u
     marked_among(tables, session, style, &up, &own)
 }
 
-/// Whom a Resv that goes to a previous hop for a change asks to confirm, where the message that made it says nothing: the
+/// Whom a Resv that goes to a previous hop for a change asks to confirm, where the message that made it names nobody: the
 /// node itself, by its own address there. `None` exactly where no want that is to be confirmed takes part.
 pub fn own_wish(
     tables: &Tables,

@@ -53,7 +53,7 @@ fn tear_style<O: Outbox>(
     }
 }
 
-/// The ResvTears of a session's lanes toward these hops, of what was said there: by style, and then by hop.
+/// The ResvTears of a session's lanes toward these hops, of the last Resv that went there: by style, and then by hop.
 pub fn tear_lanes<O: Outbox>(
     tables: &Tables,
     said: &LaneTable,
@@ -96,9 +96,9 @@ fn tell_style<O: Outbox>(
     }
 }
 
-/// The Resvs of a session's lanes, where they changed or are due: by style, and then by hop. What goes there is kept as said.
-/// Those told for a change ask to confirm whom `asked` says, if it says someone, else the node for its marked wants.
-/// The hops are those of the session, and what was said before is of lanes from which a path comes.
+/// The Resvs of a session's lanes, where they changed or are due: by style, and then by hop. What goes there is kept as
+/// sent last. Those that are sent for a change ask to confirm whom `asked` names, if it names someone, else the node for its
+/// marked wants. The hops are those of the session, and what is kept from before is of lanes from which a path comes.
 pub fn tell_lanes<O: Outbox>(
     tables: &Tables,
     said: &mut LaneTable,
@@ -150,7 +150,7 @@ fn refresh_style<O: Outbox>(
     }
 }
 
-/// The Resvs of a session's lanes toward these hops, of what was said there last, as those of a session that is due: by style,
+/// The Resvs of a session's lanes toward these hops, as the last one that went there, as those of a session that is due: by style,
 /// and then by hop. What goes there is not worked out.
 pub fn refresh_lanes<O: Outbox>(
     tables: &Tables,

@@ -51,9 +51,9 @@ pub struct PriorOffer {
     pub near: Hops,
 }
 
-/// The first half of what a node tells where one sender changed, and with it its session alone: the sender's PathTears, and the
-/// ResvTears of its session's lanes. What was offered of it, and the session's previous hops, are those from before. What was
-/// said then is what went toward each hop.
+/// The first half of what a node sends where one sender changed, and with it its session alone: the sender's PathTears, and the
+/// ResvTears of its session's lanes. What was offered of it, and the session's previous hops, are those from before. What
+/// a lane kept as sent last was then what went toward its hop.
 pub fn tell_tears<O: Outbox>(
     tables: &Tables,
     said: &LaneTable,
@@ -93,8 +93,8 @@ fn used_for(
 }
 
 /// The other half: the sender's Paths, and the Resvs of its session's lanes. Those ask to confirm whom the message that made
-/// the change says, if it says someone, else the node for its marked wants, whose marks are used then. What was said is what
-/// goes toward each hop afterwards.
+/// the change names, if it names someone, else the node for its marked wants, whose marks are used then. What a lane keeps as
+/// sent last is what goes toward its hop afterwards.
 pub fn tell_news<O: Outbox>(
     tables: &mut Tables,
     said: &mut LaneTable,
@@ -129,10 +129,10 @@ pub fn tell_news<O: Outbox>(
     unmark(tables, session, &used);
 }
 
-/// All that a node tells where one sender changed, and with it its session alone, and nothing else is to be told: the sender's
+/// All that a node sends where one sender changed, and with it its session alone, and nothing else is to be sent: the sender's
 /// PathTears, the ResvTears of its session's lanes, the sender's Paths, and the Resvs of its session's lanes. The marks that
-/// these use are taken away. What was offered of the sender, and the session's previous hops, are those from before. What was
-/// said then is what went toward each hop, and is so afterwards.
+/// these use are taken away. What was offered of the sender, and the session's previous hops, are those from before. What
+/// a lane kept as sent last was then what went toward its hop, and is so afterwards.
 pub fn tell_sender<O: Outbox>(
     tables: &mut Tables,
     said: &mut LaneTable,

@@ -46,6 +46,10 @@ keeps_events d (line.Reroute l) new x = inl tt
 pub not_longer : (es : List Event) (e : Event) → es ≡ es ++ e ∷ [] → ⊥
 not_longer es e same = omega (arith, ap (λ (xs : List Event). length xs) same, length-append es (e ∷ []))
 
+pub not_empty : (es : List Event) (e : Event) → es ++ e ∷ [] ≡ [] → ⊥
+not_empty [] e none = cc
+not_empty (x ∷ es) e none = cc
+
 -- ---- a line that adds no event
 -- leaves all as it was, or stands before all events
 pub quiet_line : (d : Draft) (t : List ℕ) (new : Draft) → Follows d t new → new.events ≡ d.events → (new ≡ d) ⊎ ((d.events ≡ []) × (new.events ≡ []))

@@ -5,6 +5,8 @@ pub mod Coming
 pub mod Spoken
 pub mod Adding
 pub mod Told
+mod Nets
+pub mod Routes
 pub mod Ran
 pub mod Shown
 pub mod Free

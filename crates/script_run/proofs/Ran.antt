@@ -1,10 +1,9 @@
 -- Events that were run behind a plan.
 use Rattle.std.proofs.Common.{◌≡◌, ◌≢◌, ℕ, List, [], ◌∷◌, ◌++◌, Option, None, Some, Bool, true, false, refl, sym, ap, subst, ◌∙◌, inl, inr}
-use Rattle.std.specs.Prelude.{Result, Ok, Err}
+use Rattle.std.specs.Prelude.{Result, Ok, Err, IfOk}
 use Rattle.calm_rounds.specs.Machine.{run}
-use Rattle.script_grammar.specs.Events.{Event, all_steps, steps_of}
-use Rattle.script_grammar.specs.Runs.{Plan, first_world, is_crowded_run, last_world, run_text, text_of, uncrowded}
-use Rattle.script_grammar.specs.Steps.{machine}
+use Rattle.script_grammar.specs.Events.{Event, steps_of}
+use Rattle.script_grammar.specs.Runs.{Plan, first_world, is_crowded_run, last_world, run_text, text_of}
 use Rattle.script_grammar.specs.Worlds.{World}
 use Rattle.script_grammar.specs.Draft.{Draft, plan_of}
 use Rattle.script_grammar.specs.Asking.{AsksToBeTaken}
@@ -23,13 +22,15 @@ use Rattle.network_model.specs.declared.event.Event.TheVariants as event
 use Rattle.router_rules.specs.Inputs.{Arrival}
 use Rattle.network_replay.specs.Opening.{IsOpenedBy}
 use Rattle.network_replay.specs.Running.{Makes, Ran}
+use Rattle.network_replay.specs.declared.no_tree.NoTree.{NoTree}
 use Rattle.network_replay.specs.declared.world_err.WorldErr.{WorldErr}
 use Rattle.network_replay.specs.declared.world_err.WorldErr.TheVariants.{Crowded, NoMemory}
 use Rattle.script_run.specs.Asking.{AsksToBeRun, asks_memory, to_be_taken, to_open, to_run}
 use Rattle.script_run.specs.Playing.{IsCrowdedBy, IsRunOn, StaysAt, Stops}
 use Rattle.script_run.specs.Written.{IsRunSoFar, with_event}
-use Rattle.script_run.proofs.Adding.{event_line, quiet_line, quiet_run}
-use Rattle.script_run.proofs.Runs.{crowded_by, last_with, text_with}
+use Rattle.script_run.proofs.Adding.{event_line, not_empty, quiet_line, quiet_run}
+use Rattle.script_run.proofs.Runs.{crowded_by, last_with, no_steps, text_with}
+use Rattle.script_run.proofs.Routes.{IsRouted, event_routed, quiet_routed}
 use Rattle.script_run.specs.Checking.{Feeds}
 use Rattle.script_run.specs.Standing.{IsAt, IsNetworkOf, RunsOn, RunsOnto, StandsBehind}
 
@@ -71,16 +72,20 @@ module _ {R : Type 0} (see : Seen R) where
   ran_on old v p e (Err Crowded) before after s roomy names ran asked = crowded_by p e roomy ∙ ran.0
   ran_on old v p e (Err NoMemory) before after s roomy names ran asked = asked refl
 
-  pub runs_on : (old v : NetworkState R) (p : Plan) (a : Arrival) (e : CodeEvent) (r : Result (Unit {0}) WorldErr) (before after : List ℕ) → StandsBehind see old p → is_crowded_run p ≡ false
+  runs_on : (old v : NetworkState R) (p : Plan) (a : Arrival) (e : CodeEvent) (r : Result (Unit {0}) WorldErr) (before after : List ℕ) → StandsBehind see old p → is_crowded_run p ≡ false
       → v.names ≡ old.names → Makes see old r before after v (λ q w. steps_of q (event_with a e) w)
       → (old.refused ≡ None → r ≡ Err NoMemory → takes_memory old.trace e ≡ true) → RunsOn see p (event_with a e) r before after v
   runs_on old v p a e r before after s roomy names made only =
       ran_on old v p (event_with a e) r before after s roomy names (made p.quarter (last_world p) s.agrees) (λ is. asks_so p a old.trace s.agrees.trace e (only s.agrees.going is))
 
-  -- ---- a network that was opened
-  no_steps : (p : Plan) → p.events ≡ [] → last_world p ≡ first_world p
-  no_steps p none = ap (λ (es : List Event). run (machine p.quarter) (uncrowded p.quarter (all_steps p.quarter es (first_world p)) (first_world p)) (first_world p)) none
+  -- where the network could have its tree
+  pub had_runs_on : (old v : NetworkState R) (p : Plan) (a : Arrival) (e : CodeEvent) (r : Result (Result (Unit {0}) WorldErr) NoTree) (before after : List ℕ) → StandsBehind see old p
+      → is_crowded_run p ≡ false → v.names ≡ old.names → IfOk r (λ x. Makes see old x before after v (λ q w. steps_of q (event_with a e) w))
+      → (old.refused ≡ None → IfOk r (λ x. x ≡ Err NoMemory → takes_memory old.trace e ≡ true)) → IfOk r (λ x. RunsOn see p (event_with a e) x before after v)
+  had_runs_on old v p a e (Ok x) before after s roomy names made only = runs_on old v p a e x before after s roomy names made only
+  had_runs_on old v p a e (Err n) before after s roomy names made only = tt
 
+  -- ---- a network that was opened
   pub opened_behind : (v : NetworkState R) (p : Plan) (q : ℕ) (names : List (List ℕ)) → p.events ≡ [] → p.quarter ≡ q → p.names ≡ names → v.names ≡ names → Agrees see q v (first_world p)
       → StandsBehind see v p
   opened_behind v p q names none quarter named is agrees = record {
@@ -95,10 +100,10 @@ module _ {R : Type 0} (see : Seen R) where
 
   -- ---- a line that was not taken: what checks lines is never crowded
   pub not_taken : (old new d : Draft) (t : List ℕ) (world : Option (NetworkState R)) (why : Stop) → old ≡ d → Feeds old t (Err why) new → IsNetworkOf see world (plan_of d)
-      → Stops why d t × StaysAt (λ x. IsAt see new world x) d why
-  not_taken old new d t world (stop.Bad why) same fed n = (subst (λ (x : Draft). HasFault x t why) same fed.0, record { same = fed.1 ∙ same; network = n })
-  not_taken old new d t world stop.Crowded same fed n = absurd fed
-  not_taken old new d t world stop.NoMemory same fed n = (to_be_taken (subst (λ (x : Draft). AsksToBeTaken x t) same fed), tt)
+      → IsRouted d → Stops why d t × StaysAt (λ x. IsAt see new world x) d why
+  not_taken old new d t world (stop.Bad why) same fed n routed = (subst (λ (x : Draft). HasFault x t why) same fed.0, record { same = fed.1 ∙ same; network = n; routed = routed })
+  not_taken old new d t world stop.Crowded same fed n routed = absurd fed
+  not_taken old new d t world stop.NoMemory same fed n routed = (to_be_taken (subst (λ (x : Draft). AsksToBeTaken x t) same fed), tt)
 
   -- ---- a line that adds no event
   still_network : (d : Draft) (t : List ℕ) (new : Draft) (world : Option (NetworkState R)) → Follows d t new → new.events ≡ d.events → IsNetworkOf see world (plan_of d)
@@ -110,22 +115,23 @@ module _ {R : Type 0} (see : Seen R) where
   ]
 
   pub quiet_on : (d : Draft) (t : List ℕ) (new : Draft) (world : Option (NetworkState R)) (said : List ℕ) → Follows d t new → new.events ≡ d.events → IsNetworkOf see world (plan_of d)
-      → IsRunSoFar d said → IsRunOn (λ x. IsAt see new world x) d t said []
-  quiet_on d t new world said f same n run =
-      record { new = new; follows = f; stands_there = record { same = refl; network = still_network d t new world f same n }; run = quiet_run d t new said f same run }
+      → IsRouted d → IsRunSoFar d said → IsRunOn (λ x. IsAt see new world x) d t said []
+  quiet_on d t new world said f same n routed run =
+      record {
+        new = new;
+        follows = f;
+        stands_there = record { same = refl; network = still_network d t new world f same n; routed = quiet_routed d t new f same routed };
+        run = quiet_run d t new said f same run;
+      }
 
   -- ---- a line that adds one
   some_events : (d new : Draft) (e : Event) → new.events ≡ d.events ++ e ∷ [] → new.events ≢ []
-  some_events d new e added none = by d.events (sym added ∙ none)
-    where
-      by : (es : List Event) → es ++ e ∷ [] ≡ [] → ⊥
-      by [] z = cc
-      by (x ∷ es) z = cc
+  some_events d new e added none = not_empty d.events e (sym added ∙ none)
 
   pub event_on : (d : Draft) (t : List ℕ) (new : Draft) (world : Option (NetworkState R)) (said before after : List ℕ) (e : Event) → Follows d t new → new.events ≡ d.events ++ e ∷ []
-      → IsRunSoFar d said → RunsOnto see (plan_of d) e (Ok tt) before after world
+      → IsRouted d → IsRunSoFar d said → RunsOnto see (plan_of d) e (Ok tt) before after world
       → (own : List ℕ) × (after ≡ before ++ own) × IsRunOn (λ x. IsAt see new world x) d t said own
-  event_on d t new world said before after e f added run ran =
+  event_on d t new world said before after e f added routed run ran =
       let (v, is, on) = ran in
       let plan = event_line d t new e f added in
       let stands : StandsBehind see v (plan_of new) = subst (λ (p : Plan). StandsBehind see v p) (sym plan) on.stands in
@@ -135,7 +141,7 @@ module _ {R : Type 0} (see : Seen R) where
         record {
           new = new;
           follows = f;
-          stands_there = record { same = refl; network = network };
+          stands_there = record { same = refl; network = network; routed = event_routed d t new e f added plan run.roomy on.roomy routed };
           run = record {
             roomy = ap is_crowded_run plan ∙ on.roomy;
             text_is = ap (λ (s : List ℕ). s ++ on.own) run.text_is ∙ sym on.text_is ∙ ap run_text (sym plan);

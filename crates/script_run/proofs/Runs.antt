@@ -9,7 +9,7 @@ use Rattle.network_replay.specs.Sights.{Sight, all_sights}
 use Rattle.script_run.specs.Written.{with_event}
 
 module _ (q : ℕ) where
-  run_on : (ss ts : List Step) (w : World) → run (machine q) (ss ++ ts) w ≡ run (machine q) ts (run (machine q) ss w)
+  pub run_on : (ss ts : List Step) (w : World) → run (machine q) (ss ++ ts) w ≡ run (machine q) ts (run (machine q) ss w)
   run_on [] ts w = refl
   run_on (s ∷ ss) ts w = run_on ss ts (step q s w)
 
@@ -78,6 +78,10 @@ last_is p e = ap (λ (ss : List Step). run (machine p.quarter) ss (first_world p
 
 text_is : (p : Plan) → is_crowded_run p ≡ false → run_text p ≡ text_of p.quarter p.names (steps_of_run p) (first_world p)
 text_is p e = ap (λ (ss : List Step). text_of p.quarter p.names ss (first_world p)) (all_made p.quarter (steps_of_run p) (first_world p) e)
+
+-- before the first event it is the first
+pub no_steps : (p : Plan) → p.events ≡ [] → last_world p ≡ first_world p
+no_steps p none = ap (λ (es : List Event). run (machine p.quarter) (uncrowded p.quarter (all_steps p.quarter es (first_world p)) (first_world p)) (first_world p)) none
 
 module _ (p : Plan) (e : Event) where
   more : steps_of_run (with_event p e) ≡ steps_of_run p ++ steps_of p.quarter e (end_world p)

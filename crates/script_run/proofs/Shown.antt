@@ -13,6 +13,7 @@ use Rattle.script_grammar.specs.declared.stop.Stop.TheVariants as stop
 use Rattle.network_replay.specs.Agreeing.{Agrees, NetworkState}
 use Rattle.network_replay.specs.Following.{Seen}
 use Rattle.network_replay.specs.Sights.{Shows, ShowsRun, Sight, Tells, all_sights, event_sights}
+use Rattle.network_replay.specs.declared.no_tree.NoTree.{NoTree}
 use Rattle.network_replay.specs.declared.world_err.WorldErr.{WorldErr}
 use Rattle.network_replay.specs.declared.world_err.WorldErr.TheVariants.{Crowded, NoMemory}
 use Rattle.network_replay.proofs.Shown.{run_not, run_then, shows_none, shows_then}
@@ -23,9 +24,10 @@ use Rattle.script_run.proofs.Adding.{event_line, quiet_line}
 use Rattle.script_run.proofs.Runs.{last_with, sights_with}
 
 -- ---- an event that was run behind a plan
-pub told_behind : {R : Type 0} (see : Seen R) {W : Type 0} (saw : W → List Sight → Type 0) (v : NetworkState R) (r : Result (Unit {0}) WorldErr) (old new : W) (p : Plan) (e : Event)
-    → StandsBehind see v p → Tells saw see v r old new (λ q w. event_sights q e w) → ShowsRun saw r old new (event_sights p.quarter e (last_world p))
-told_behind see saw v r old new p e stands told = told p.quarter (last_world p) stands.agrees
+pub told_behind : {R : Type 0} (see : Seen R) {W : Type 0} (saw : W → List Sight → Type 0) (v : NetworkState R) (r : Result (Result (Unit {0}) WorldErr) NoTree) (old new : W) (p : Plan) (e : Event)
+    → StandsBehind see v p → IfOk r (λ x. Tells saw see v x old new (λ q w. event_sights q e w)) → IfOk r (λ x. ShowsRun saw x old new (event_sights p.quarter e (last_world p)))
+told_behind see saw v (Ok x) old new p e stands told = told p.quarter (last_world p) stands.agrees
+told_behind see saw v (Err n) old new p e stands told = tt
 
 -- the network agrees with the world behind it
 pub agrees_on : {R : Type 0} (see : Seen R) (v : NetworkState R) (p : Plan) (e : Event) (r : Result (Unit {0}) WorldErr) (before after : List ℕ) → is_crowded_run p ≡ false

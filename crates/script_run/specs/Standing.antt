@@ -2,7 +2,7 @@
 use Rattle.std.specs.Prelude.{◌≡◌, ◌≢◌, ◌⊎◌, ℕ, true, false, List, [], ◌++◌, Option, None, Some, Result, Ok, Err}
 use Rattle.script_grammar.specs.Events.{Event}
 use Rattle.script_grammar.specs.Runs.{Plan, is_crowded_run, last_world, run_text}
-use Rattle.script_grammar.specs.Draft.{Draft, plan_of}
+use Rattle.script_grammar.specs.Draft.{Draft, plan_of, routing}
 use Rattle.network_replay.specs.Agreeing.{Agrees, NetworkState}
 use Rattle.network_replay.specs.Following.{Seen}
 use Rattle.network_replay.specs.declared.world_err.WorldErr.{WorldErr}
@@ -21,10 +21,11 @@ module _ {R : Type 0} (see : Seen R) where
   IsNetworkOf None p = p.events ≡ []
   IsNetworkOf (Some v) p = (p.events ≢ []) × StandsBehind v p
 
-  -- the lines so far are those of the draft, and the network is that of their plan
+  -- the lines so far are those of the draft, the network is that of their plan, and where its run ends the routing is the one in force
   pub record IsAt (lines : Draft) (world : Option (NetworkState R)) (d : Draft) : Type 0 where
     pub same : lines ≡ d
     pub network : IsNetworkOf world (plan_of d)
+    pub routed : (last_world (plan_of d)).net ≡ routing d
 
   -- an event was run behind a plan, and what it wrote was appended
   pub record HasRunOn (p : Plan) (e : Event) (before after : List ℕ) (v : NetworkState R) : Type 0 where

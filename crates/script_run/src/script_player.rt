@@ -1,12 +1,12 @@
 //! The player of the lines of a script.
-ghost use Rattle.std.specs.Prelude.{◌≡◌, ◌≤◌, ◌∷◌, [], false, length, List, ℕ, None, Some, IfErr, IfOk, OnErr};
+ghost use Rattle.std.specs.Prelude.{◌≡◌, ◌≤◌, ◌∷◌, [], false, length, List, ℕ, None, Some, IfErr, IfOk, IsErr, OnErr};
 ghost use Rattle.script_grammar.specs.Events.{Event as AnEvent};
 ghost use Rattle.script_grammar.specs.Runs.{Plan, is_crowded_run, last_world};
 ghost use Rattle.router_rules.specs.Inputs.{Arrival};
 ghost use Rattle.script_grammar.specs.Draft.{Draft, nothing, plan_of};
 ghost use Rattle.script_grammar.specs.Worlds.{World as AWorld};
 ghost use Rattle.network_replay.specs.Agreeing.{Agrees};
-ghost use Rattle.network_replay.specs.Happening.{IsRead};
+ghost use Rattle.network_replay.specs.Happening.{CanHappen, IsRead};
 ghost use Rattle.network_replay.specs.Sights.{Happened, Shows, ShowsRun};
 ghost use Rattle.network_model.specs.Happenings.{IsFitEvent, event_with};
 ghost use Rattle.script_run.specs.Playing.{Plays};
@@ -19,7 +19,7 @@ use crate::event_run::run_event;
 use crate::opens::Opens;
 use crate::player::Player;
 use network_model::Event;
-use network_replay::{Watch, World, WorldErr};
+use network_replay::{NoTree, Watch, World, WorldErr};
 use rsvp_base::NoMemory;
 use script_advice::put_advice;
 use script_grammar::{Fault, Stop};
@@ -78,9 +78,11 @@ impl<C: Checks + Drop, R: Opens> Player for ScriptPlayer<C, R> {
                     watch,
                     out,
                 ) {
-                    Ok(()) => Ok(()),
-                    Err(WorldErr::Crowded) => Err(Stop::Crowded),
-                    Err(WorldErr::NoMemory) => Err(Stop::NoMemory),
+                    Ok(Ok(())) => Ok(()),
+                    Ok(Err(WorldErr::Crowded)) => Err(Stop::Crowded),
+                    Ok(Err(WorldErr::NoMemory)) => Err(Stop::NoMemory),
+                    // No line that was taken has such a tree.
+                    Err(_) => Err(Stop::Bad(Fault::NotTree)),
                 }
             }
             Err(stop) => Err(stop),
@@ -92,7 +94,8 @@ impl<C: Checks + Drop, R: Opens> Player for ScriptPlayer<C, R> {
     }
 }
 
-// Runs the event of a line, which was fed last; the network is opened where it is the first.
+// Runs the event of a line, which was fed last; the network is opened where it is the first. `NoTree` only where the network cannot
+// have the event's tree.
 fn happen<C: Checks + Drop, R: Opens, W: Watch>(
     alloc: Global,
     checker: &C,
@@ -101,22 +104,27 @@ fn happen<C: Checks + Drop, R: Opens, W: Watch>(
     event: &Event,
     watch: &mut W,
     out: &mut Vec<u8>,
-) -> Result<(), WorldErr>
+) -> Result<Result<(), WorldErr>, NoTree>
     requires { IsFitEvent event.now }
     ensures runs { (p : Plan) (a : Arrival) → IsRead event.now a → IsNetworkOf R.seen world.old p → plan_of (C.lines checker.now) ≡ with_event p (event_with a event.now) → is_crowded_run p ≡ false
-        → RunsOnto R.seen p (event_with a event.now) result out.old.items out.new.items world.new }
+        → IfOk result (λ r. RunsOnto R.seen p (event_with a event.now) r out.old.items out.new.items world.new) }
+    ensures tree { (p : Plan) (e : AnEvent) → IsNetworkOf R.seen world.old p → plan_of (C.lines checker.now) ≡ with_event p e
+        → IsErr result → CanHappen (last_world p).net event.now → ⊥ }
     ensures told { (p : Plan) (a : Arrival) → IsRead event.now a → IsNetworkOf R.seen world.old p → plan_of (C.lines checker.now) ≡ with_event p (event_with a event.now) → is_crowded_run p ≡ false
-        → ShowsRun W.saw result watch.old watch.new (line_sights p.quarter (event_with a event.now) (last_world p)) }
+        → IfOk result (λ r. ShowsRun W.saw r watch.old watch.new (line_sights p.quarter (event_with a event.now) (last_world p))) }
 {
     let mut network = match network_of(alloc, checker, world.take()) {
         Ok(network) => network,
-        Err(_) => return Err(WorldErr::NoMemory),
+        Err(_) => return Ok(Err(WorldErr::NoMemory)),
     };
     watch.happens(&network, line);
-    let result = run_event(&mut network, event, watch, out);
+    let Ok(result) = run_event(&mut network, event, watch, out) else {
+        *world = Some(network);
+        return Err(NoTree);
+    };
     show_happened(watch, &network, event, &result, out.as_slice());
     *world = Some(network);
-    result
+    Ok(result)
 }
 
 // What watches sees the network behind an event, where that happened.

@@ -1,9 +1,16 @@
-use Rattle.std.proofs.Common.{◌∙◌, ap, sym, subst}
+use Rattle.std.proofs.Common.{◌≡◌, ◌∙◌, List, [], ◌∷◌, true, ap, sym, subst}
+use Rattle.std.specs.Prelude.{IfOk}
+use Rattle.tree_model.specs.declared.hops.LinkHop.{LinkHop}
+use Rattle.network_flight.specs.Events.{steps_of}
+use Rattle.network_flight.specs.Steps.{Reroute}
 use Rattle.network_model.specs.Happenings.{event_with}
+use Rattle.network_model.specs.declared.event.Event.{Event}
 use Rattle.network_replay.specs.Happening.{takes_memory}
+use Rattle.network_replay.specs.Running.{Makes}
 use Rattle.network_replay.specs.Sights.{ShowsRun, event_sights}
-use Rattle.network_replay.proofs.Runnings.{not_memory}
-use Rattle.network_replay.proofs.Shown.{none_copied, none_lost, run_no_more}
+use Rattle.network_replay.specs.declared.world_err.WorldErr.TheVariants.{NoMemory}
+use Rattle.network_replay.proofs.Runnings.{failed, not_memory, of_each}
+use Rattle.network_replay.proofs.Shown.{none_copied, none_lost, run_no_more, tells_no_more}
 use Rattle.network_replay.proofs.world.World.event.Goals as goal
 
 pub returns-in-Local-clause-only : goal.returns-in-Local-clause-only
@@ -42,6 +49,22 @@ returns-in-Report-clause-only g c = λ going e. ap (takes_memory c.args.self.now
 pub returns-in-Flags-clause-only : goal.returns-in-Flags-clause-only
 returns-in-Flags-clause-only g c = λ going e. ap (takes_memory c.args.self.now.trace) c.in-Flags.is
 
+pub returns-in-Reroute-clause-made : goal.returns-in-Reroute-clause-made
+returns-in-Reroute-clause-made g c = λ a read going.
+    let see = g.R.Router.seen in
+    let old = c.args.self.now in
+    let out = c.args.out.now.items in
+    let new = c.move_tree.new.self in
+    let moved =
+    subst (λ (hops : List LinkHop). IfOk c.move_tree.result (λ r. Makes see old r out out new (λ q w. Reroute c.in-Reroute.group c.in-Reroute.source hops ∷ [])))
+    c.as_slice-in-Reroute.ensures.value (c.move_tree.ensures.made out) in
+    subst (λ (e : Event). IfOk c.move_tree.result (λ r. Makes see old r out out new (λ q w. steps_of q (event_with a e) w))) (sym c.in-Reroute.is) moved
+
+pub returns-in-Reroute-clause-only : goal.returns-in-Reroute-clause-only
+returns-in-Reroute-clause-only g c = λ going.
+    of_each (λ r. r ≡ failed NoMemory → takes_memory c.args.self.now.trace c.args.event.now ≡ true) c.move_tree.result
+    (λ r is. ap (takes_memory c.args.self.now.trace) c.in-Reroute.is)
+
 pub returns-in-Local-clause-told : goal.returns-in-Local-clause-told
 returns-in-Local-clause-told g c = λ a read going q w agrees.
     run_no_more g.W.Watch.saw c.call.result c.args.watch.now (event_sights q (event_with a c.args.event.now) w) (ap (λ e. event_sights q (event_with a e) w) c.in-Local.is)
@@ -75,8 +98,9 @@ returns-in-Inject-clause-told g c = λ a read going q w agrees.
     run_no_more g.W.Watch.saw c.inject.result c.args.watch.now (event_sights q (event_with a c.args.event.now) w) (ap (λ e. event_sights q (event_with a e) w) c.in-Inject.is)
 
 pub returns-in-Reroute-clause-told : goal.returns-in-Reroute-clause-told
-returns-in-Reroute-clause-told g c = λ a read going q w agrees.
-    run_no_more g.W.Watch.saw c.move_tree.result c.args.watch.now (event_sights q (event_with a c.args.event.now) w) (ap (λ e. event_sights q (event_with a e) w) c.in-Reroute.is)
+returns-in-Reroute-clause-told g c = λ a read going.
+    tells_no_more g.W.Watch.saw g.R.Router.seen c.args.self.now c.move_tree.result c.args.watch.now (λ q w. event_sights q (event_with a c.args.event.now) w)
+    (λ q w. ap (λ e. event_sights q (event_with a e) w) c.in-Reroute.is)
 
 pub returns-in-Wait-clause-told : goal.returns-in-Wait-clause-told
 returns-in-Wait-clause-told g c = λ a read going q w agrees.
