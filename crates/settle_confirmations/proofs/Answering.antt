@@ -14,28 +14,31 @@ use Rattle.rsvp_base.specs.Orders.{Names, senders, sessions, units}
 use Rattle.rsvp_base.specs.Keys.{pairs}
 use Rattle.rsvp_base.specs.Sets.{cut, is_none}
 use Rattle.rsvp_base.specs.Styles.{name_of, part_unit}
-use Rattle.rsvp_base.specs.Table.{empty, get, has, same_rows}
+use Rattle.rsvp_base.specs.Table.{empty, get, has, kept, same_rows}
+use Rattle.rsvp_base.specs.TokenBucket.{TokenBucket}
 use Rattle.rsvp_base.proofs.Counts.{in_found}
 use Rattle.rsvp_base.proofs.Members.{in_each, in_right, to_each}
-use Rattle.rsvp_base.proofs.SetLaws.{and_both, and_made, has-cut}
+use Rattle.rsvp_base.proofs.SetLaws.{and_both, and_made, has-cut, has-kept}
 use Rattle.rsvp_base.proofs.Tables.{either, same_table, tied_same}
 use Rattle.rsvp_base.proofs.UnderLaws.{get-under}
 use Rattle.rsvp_messages.specs.declared.message.Message.TheVariants as message
 use Rattle.rsvp_messages.specs.declared.message.ResvConfMsg.{ResvConfMsg}
 use Rattle.rsvp_messages.specs.declared.message.ResvMsg.{ResvMsg}
 use Rattle.rsvp_messages.specs.Proper.{IsProperAsk}
-use Rattle.rsvp_messages.specs.Units.{ask_style, only}
+use Rattle.rsvp_messages.specs.Units.{AskedUnit, ask_style, asked_units, only}
 use Rattle.style_rules.specs.CutLaws.{cut_of, part_of_some, some_within}
+use Rattle.style_rules.specs.FlowOrder.{IsAtMost}
 use Rattle.style_rules.specs.Lines.{LineKey, NextHop, next_hops}
 use Rattle.style_rules.specs.Merge.{PartTable}
-use Rattle.style_rules.specs.Parts.{part_cut}
+use Rattle.style_rules.specs.Parts.{IsOfStyle, part_cut}
 use Rattle.style_rules.specs.Toward.{Request, toward as merged_toward}
-use Rattle.style_rules.proofs.StyleLaws.{common_unit, within_unit}
-use Rattle.style_rules.proofs.Towards.{toward_source, toward_there}
+use Rattle.style_rules.proofs.Lattice.{at_most_along}
+use Rattle.style_rules.proofs.StyleLaws.{common_unit, cut_of_style, within_unit}
+use Rattle.style_rules.proofs.Towards.{open_below, toward_source, toward_there}
 use Rattle.laws_inputs.specs.FactLaws.{ComesBy, IsResvRequest, IsWantRequest}
-use Rattle.laws_inputs.specs.SendLaws.{IsResvTear}
+use Rattle.laws_inputs.specs.SendLaws.{ArePartsOf, IsResvTear}
 use Rattle.laws_inputs.specs.WishLaws.{GoesOn}
-use Rattle.laws_inputs.proofs.Asks.{gone_by_units}
+use Rattle.laws_inputs.proofs.Asks.{gone_by_units, style_told, units_told}
 use Rattle.laws_inputs.proofs.Framing.{act_paths, act_wants, act_walls}
 use Rattle.laws_inputs.proofs.Knowing.{known_and_via}
 use Rattle.laws_inputs.proofs.Lists.{one_name}
@@ -49,8 +52,8 @@ use Rattle.laws_steps.proofs.Admitting.{what_is_accepted}
 use Rattle.laws_steps.proofs.Asking.{where_a_reservation_fact_comes_from}
 use Rattle.router_rules.specs.Bounds.{IsWithinBounds}
 use Rattle.router_rules.specs.Facts.{Facts, Paths, ResvState, Walls, Wants, resvs_in, resvs_of, wants_in}
-use Rattle.router_rules.specs.Inputs.{Came, Input, Send, Spelt}
-use Rattle.router_rules.specs.Known.{Lane, lane_keys, lanes, names_via, names_via_where}
+use Rattle.router_rules.specs.Inputs.{Arrival, Came, Input, Send, Spelt}
+use Rattle.router_rules.specs.Known.{Lane, known, lane_keys, lanes, names_via, names_via_where}
 use Rattle.router_rules.specs.NodeConfig.{NodeConfig, goes_out, own}
 use Rattle.router_rules.specs.Requests.{is_blockaded, requests, resv_request, toward, want_part, want_request}
 use Rattle.router_rules.specs.Rule.{Outcome, rule}
@@ -75,15 +78,18 @@ use Rattle.network_model.proofs.Stepping.{copies_made, facts_after_made, sent_ma
 use Rattle.laws_network.proofs.Known.{of_some}
 use Rattle.laws_network.proofs.Standing.{own_end}
 use Rattle.settle_paths.specs.PreviousHops.{IsAhead}
-use Rattle.settle_paths.proofs.PreviousHops.{ahead, ends_there, one_previous, same_by_addr}
+use Rattle.settle_paths.proofs.PreviousHops.{ahead, ends_there, one_previous, previous_hops_are_all_hops, same_by_addr}
 use Rattle.settle_resvs.specs.GoalByIface.{goal_at}
 use Rattle.settle_resvs.specs.Said.{HopKey, lane_of}
+use Rattle.settle_resvs.specs.Sessions.{HasNoBlockade}
 use Rattle.settle_resvs.proofs.ResvSends.{over_hop}
+use Rattle.settle_resvs.proofs.TowardIsTheWant.{unmarked}
+use Rattle.settle_resvs.proofs.TowardNames.{parts_of_style}
 use Rattle.settle_resvs.proofs.UnderTheGoal.{one_style}
 use Rattle.settle_passes.proofs.Deliveries.{came_by_delivery, known_self, same_next}
 use Rattle.settle_passes.proofs.Reserving.{turns}
 use Rattle.settle_passes.proofs.Turns.{IsAskedNow, Turns, addressed_in_turn, resv_in_turn, stays_or_asked}
-use Rattle.settle_confirmations.specs.Requests.{IsOnlySender}
+use Rattle.settle_confirmations.specs.Requests.{IsForAtLeast, IsOnlySender, arrival_units}
 use Rattle.settle_confirmations.proofs.Moving.{IsAsking, IsConf, IsDown, IsNext, IsTakenAt, IsUp, arrived_mark, goes_down, leads_next, listed_one, one_listed, only', r', taken_at, untouched}
 use Rattle.settle_confirmations.proofs.Taken.{IsAnswer, IsPassedOn, after, answered_or_on, asked, change, in_only, sent_kind, some_unit}
 
@@ -100,7 +106,7 @@ of_came i j a b m w e = cc
 one_there : (z : Sender) → is_none (only z) ≡ false
 one_there z = refl
 
-nobody : (ns : Names) (z : Sender) → is_none ns ≡ true → has ns z ≡ true → ⊥
+pub nobody : (ns : Names) (z : Sender) → is_none ns ≡ true → has ns z ≡ true → ⊥
 nobody ns z none h =
     let some = some_within (only z) ns (λ y i. subst (λ (b : Sender). has ns b ≡ true) (sym (in_only z y i)) h) (one_there z) in
     let bad : true ≡ false = sym none ∙ some in
@@ -311,6 +317,7 @@ module _ (q : ℕ) (s : Session) (st : StyleKind) (x : Sender) (e : ℕ) (u : Wo
   pub record IsOnward (z : Item) : Type 0 where
     pub up : IsUp next s st x e z
     pub before : IsNext u.net s x up.hop v.hop
+    pub least : (flow : TokenBucket) → IsForAtLeast flow y → IsForAtLeast flow z
 
   -- what comes to the node over a hop of its own
   comes_over : (l : Lane) → has (lanes then) l ≡ true → (z : Sender) × IsAhead next n l.session l.hop z
@@ -319,6 +326,84 @@ module _ (q : ℕ) (s : Session) (st : StyleKind) (x : Sender) (e : ℕ) (u : Wo
       let comes : ComesBy g l.session l.hop by.0 =
       record { path = by.1.path; there = ap (λ (w : Facts). get w.paths (l.session, by.0)) facts_are ∙ by.1.there; by = by.1.by } in
       (by.0, ahead next n g (r' q s st x e u a).paths.sound at_next l.session l.hop by.0 comes)
+
+  -- ---- what goes toward a hop of the sender for the request is no less than what it asks for
+  only_m : IsOnlySender u m.session x
+  only_m = subst (λ (w : Session). IsOnlySender u w x) (sym v.session) a.only
+
+  abbrev lane_on : NextHop → Lane
+  lane_on hop = record { session = m.session; style = ask_style m.ask; hop = hop }
+
+  abbrev name : Sender
+  name = name_of (ask_style m.ask) x
+
+  -- the names that a unit of the request lists have the sender's
+  named_by_unit : (k : AskedUnit) → In k (asked_units m.ask) → (names : Names) → k.names ≡ Some names → has names name ≡ true
+  named_by_unit k asks names is =
+      let sound = a.reserving.sound.items y m k (in_arrived (Deliver 0) u y arr) v.says asks in
+      let same : sound.names ≡ names = of_some sound.names names (sym sound.named ∙ is) in
+      subst (λ (ns : Names). has ns name ≡ true) same
+      (listed_one u m.session x only_m (ask_style m.ask) y.end m.hop.addr k.unit (record { senders = sound.names; flow = k.flow }) sound.sound)
+
+  -- its tree goes out of the interface of the request
+  leaves : goes_out p m.session i x ≡ true
+  leaves =
+      let unit = some_unit m.ask to_it.can.proper in
+      let placed = to_it.can.units unit.0 unit.1 in
+      let match = placed.match name (named_by_unit unit.0 unit.1 placed.names placed.listed) in
+      let b = (known_and_via.named_by (ask_style m.ask) (kept (goes_out p m.session i) (known f m.session)) name).0 match in
+      let both = and_both _ _ (sym (has-kept senders (goes_out p m.session i) (known f m.session) b.sender) ∙ b.among) in
+      let paths = a.reserving.paths in
+      let reached = ((previous_hops_are_all_hops u paths.bounds.net paths.hosts paths.sound paths.complete).known n f m.session b.sender to_it.node).0 both.0 in
+      let live = live_told u m.session b.sender reached.0 in
+      subst (λ (z : Sender). goes_out p m.session i z ≡ true) (only_m b.sender live.0 live.1) both.1
+
+  comes_by : (hop : NextHop) → has (lanes then) (lane_on hop) ≡ true → ComesBy then m.session hop x
+  comes_by hop h =
+      let by = (known_and_via.lanes_by then (lane_on hop)).0 h in
+      let comes : ComesBy g m.session hop by.0 =
+      record { path = by.1.path; there = ap (λ (w : Facts). get w.paths (m.session, by.0)) facts_are ∙ by.1.there; by = by.1.by } in
+      let live = live_told next m.session by.0 (ahead next n g (r' q s st x e u a).paths.sound at_next m.session hop by.0 comes).live in
+      let only_then : IsOnlySender next m.session x = subst (λ (w : Session). IsOnlySender next w x) (sym v.session) (only' q s st x e u a) in
+      subst (λ (z : Sender). ComesBy then m.session hop z) (only_then by.0 live.0 live.1) by.1
+
+  covers : (hop : NextHop) → has (lanes then) (lane_on hop) ≡ true → (k : UnitOf) (w : Part) → get (toward p then (lane_on hop)) k ≡ Some w
+      → IsOfStyle (ask_style m.ask) w → part_unit (ask_style m.ask) w ≡ k → has w.senders name ≡ true → (flow : TokenBucket) → IsForAtLeast flow y → IsAtMost flow w.flow
+  covers hop h k w there styled unit_is named flow least =
+      let l : Lane = lane_on hop in
+      let unit = some_unit m.ask to_it.can.proper in
+      let placed = to_it.can.units unit.0 unit.1 in
+      let d = (what_is_accepted.whole p p u.clock u.clock i m f (goal_at u.net (locals_of u) n) within to_it.can).facts unit.0 placed.names unit.1 placed.listed in
+      let key : LineKey = (m.session, ((i, m.hop.addr), unit.0.unit)) in
+      let via : Names = names_via_where then l (goes_out p m.session i) in
+      let in_via : has via name ≡ true =
+      (known_and_via.names_by then l (goes_out p m.session i) name).1
+      (record { sender = x; among = (known_and_via.via_by then m.session hop x).1 (comes_by hop h); passes = leaves; name = refl }) in
+      let in_part : has d.0.part.senders name ≡ true =
+      subst (λ (z : Part). has z.senders name ≡ true) (sym d.2) (named_by_unit unit.0 unit.1 placed.names placed.listed) in
+      let in_cut : has (cut d.0.part.senders via) name ≡ true = has-cut senders d.0.part.senders via name ∙ and_made _ _ in_part in_via in
+      let some : is_none (cut d.0.part.senders via) ≡ false =
+      either (is_none (cut d.0.part.senders via)) (λ none. absurd (nobody (cut d.0.part.senders via) name none in_cut)) (λ no. no) in
+      let part : Part = record { senders = cut d.0.part.senders via; flow = d.0.part.flow } in
+      let made : part_cut d.0.part via ≡ Some part = part_of_some (cut d.0.part.senders via) d.0.part.flow some in
+      let rq : Request = record { part = part; blockaded = is_blockaded l.style then.walls l part } in
+      let among : In rq (requests p then l) = (requests_and_toward.each p then l rq).1 (inl (record { key = key.1; resv = d.0; there = d.1; part = made; blockaded = refl })) in
+      let free : HasNoBlockade m.session then.walls =
+      subst (λ (z : Session × Walls). HasNoBlockade z.0 z.1) (λ j. (sym v.session j, sym walls_same j)) (a.reserving.free n f to_it.node) in
+      let there' : get (resvs_of l.style g) key ≡ Some d.0 = ap (λ (b : Facts). get (resvs_of l.style b) key) facts_are ∙ d.1 in
+      let shape = ((r' q s st x e u a).paths.bounds.facts n g at_next).shapes.resvs l.style key d.0 there' in
+      let part_style : IsOfStyle l.style part = cut_of_style l.style d.0.part part via shape.style made in
+      let unit_same : k ≡ part_unit l.style part = sym unit_is ∙ common_unit l.style w part name styled part_style named in_cut in
+      let below = open_below l.style (requests p then l) k w rq
+      (record { request = record { among = among; named = ap not some; unit = unit_same }; unmarked = unmarked p then l free rq among }) there in
+      let asked_flow : IsAtMost flow unit.0.flow = least unit.0 (subst (λ (z : Arrival). In unit.0 (arrival_units z)) (sym v.says) unit.1) in
+      at_most_along flow d.0.part.flow w.flow (subst (λ (z : Part). IsAtMost flow z.flow) (sym d.2) asked_flow) below.flow
+
+  -- the parts that go toward a hop are of its style
+  of_style : (l : Lane) → ArePartsOf l.style (toward p then l)
+  of_style l =
+      subst (λ (z : PartTable). ArePartsOf l.style z) (ap (λ (w : Facts). toward p w l) facts_are ∙ rule_in_parts.toward_same p p u.clock (came_resv p i m) f l)
+      (parts_of_style p next.clock g ((r' q s st x e u a).paths.bounds.facts n g at_next) l)
 
   onward : (z : Item) (b : Bool) → In (z, b) (sent q (Deliver 0) u) → (c : Send) → z.arrival ≡ Spelt c.message
       → (o : IsPassedOn p u.clock i m f (goal_at u.net (locals_of u) n) within to_it.can (addr_of u.net e) v.wish c) → IsOnward z
@@ -382,6 +467,26 @@ module _ (q : ℕ) (s : Session) (st : StyleKind) (x : Sender) (e : ℕ) (u : Wo
           leads = (next_one, arrived_mark q s st x e u a y arr v, leads_next q s st x e u a v.hops v.hop v.leads);
         };
         before = next_one;
+        least = λ flow low b i.
+            let asks : In b (asked_units o.resv.ask) = subst (λ (w : Arrival). In b (arrival_units w)) spelt i in
+            let lane_is : o.lane ≡ lane_on o.lane.hop =
+            (λ j. record {
+              session = (sym o.session ∙ session ∙ sym v.session) j;
+              style = (sym (style_told o.lane.style (toward p then o.lane) o.resv.ask o.whole) ∙ style) j;
+              hop = o.lane.hop;
+            }) in
+            let k = (units_told o.lane.style (toward p then o.lane) o.resv.ask b (of_style o.lane) o.whole).0 asks in
+            let styled : IsOfStyle (ask_style m.ask) k.part × (part_unit (ask_style m.ask) k.part ≡ b.unit) =
+            subst (λ (w : Lane). IsOfStyle w.style k.part × (part_unit w.style k.part ≡ b.unit)) lane_is (of_style o.lane b.unit k.part k.there) in
+            let sound_b = (r' q s st x e u a).sound.items z o.resv b z_in spelt asks in
+            let only_b : IsOnlySender next o.resv.session x = subst (λ (w : Session). IsOnlySender next w x) (sym session) (only' q s st x e u a) in
+            let same_names : sound_b.names ≡ k.part.senders = of_some sound_b.names k.part.senders (sym sound_b.named ∙ k.names) in
+            let named : has k.part.senders name ≡ true =
+            subst (λ (w : Names × StyleKind). has w.0 (name_of w.1 x) ≡ true) (λ j. (same_names j, style j))
+            (listed_one next o.resv.session x only_b (ask_style o.resv.ask) z.end o.resv.hop.addr b.unit (record { senders = sound_b.names; flow = b.flow }) sound_b.sound) in
+            subst (λ (w : TokenBucket). IsAtMost flow w) (sym k.flow)
+            (covers o.lane.hop (subst (λ (w : Lane). has (lanes then) w ≡ true) lane_is o.there) b.unit k.part
+            (subst (λ (w : Lane). get (toward p then w) b.unit ≡ Some k.part) lane_is k.there) styled.0 styled.1 named flow low);
       }
     where
       same_locals : locals_of u ≡ locals_of next
@@ -417,6 +522,7 @@ module _ (q : ℕ) (s : Session) (st : StyleKind) (x : Sender) (e : ℕ) (u : Wo
     pub flight : In item next.flight
     pub down : IsDown next s st x e item
     pub hop : down.hop ≡ v.hop
+    pub least : (flow : TokenBucket) → IsForAtLeast flow y → IsForAtLeast flow item
 
   pub record GoesOnThere : Type 0 where
     pub item : Item
@@ -459,6 +565,9 @@ module _ (q : ℕ) (s : Session) (st : StyleKind) (x : Sender) (e : ℕ) (u : Wo
           leads = leads_next q s st x e u a v.hops v.hop v.leads;
         };
         hop = refl;
+        least = λ flow low b i.
+            let b' = k.flows b (subst (λ (w : Arrival). In b (arrival_units w)) (ap (λ (o : Send). Spelt o.message) k.is) i) in
+            subst (λ (w : TokenBucket). IsAtMost flow w) (sym b'.2) (low b'.0 (subst (λ (w : Arrival). In b'.0 (arrival_units w)) (sym v.says) b'.1));
       }
 
   on_there : GoesOn p p f then (asked p u.clock i m f (goal_at u.net (locals_of u) n) within to_it.can (addr_of u.net e) v.wish) → GoesOnThere

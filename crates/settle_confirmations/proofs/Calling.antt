@@ -1,6 +1,6 @@
 -- A receiver asks for more, and for a confirmation: what its node sends is a request of one end.
-use Rattle.std.proofs.Common.{◌≡◌, ℕ, ◌+◌, List, [], ◌∷◌, Bool, true, false, cond, Option, None, Some, ◌⊎◌, inl, inr, ⊎_elim, sym, refl, ap, subst, ◌∙◌}
-use Rattle.std.specs.Prelude.{slice_get, is_some, not, ◌*◌, map as each}
+use Rattle.std.proofs.Common.{◌≡◌, ℕ, ◌+◌, ◌<◌, length, List, [], ◌∷◌, Bool, true, false, cond, Option, None, Some, ◌⊎◌, inl, inr, ⊎_elim, sym, refl, ap, subst, ◌∙◌}
+use Rattle.std.specs.Prelude.{is_some, map as each, not, slice_get, ◌*◌, ◌↔◌}
 use Rattle.std.specs.Ordering.{eq_by_cmp}
 use Rattle.rsvp_base.specs.declared.addr.Addr.{Addr}
 use Rattle.rsvp_base.specs.declared.part.Part.{Part}
@@ -13,43 +13,48 @@ use Rattle.rsvp_base.specs.declared.style.Unit.TheVariants.{One, Of}
 use Rattle.rsvp_base.specs.Members.{In}
 use Rattle.rsvp_base.specs.Orders.{Names, senders, sessions, styles, units}
 use Rattle.rsvp_base.specs.Sets.{cut}
-use Rattle.rsvp_base.specs.Styles.{part_unit, unit_of_first}
+use Rattle.rsvp_base.specs.Styles.{name_of, part_unit, unit_of_first}
 use Rattle.rsvp_base.specs.Table.{Table, empty, get, has, keys}
 use Rattle.rsvp_base.specs.TokenBucket.{IsSound, TokenBucket}
-use Rattle.rsvp_base.proofs.Members.{in_append, in_each, to_each}
+use Rattle.rsvp_base.proofs.Members.{in_append, in_each, in_right, to_each}
 use Rattle.rsvp_base.proofs.SetLaws.{and_both, has-cut}
 use Rattle.rsvp_base.proofs.Tables.{either, tied_same}
 use Rattle.rsvp_messages.specs.declared.message.Message.TheVariants as message
 use Rattle.rsvp_messages.specs.declared.message.ResvMsg.{ResvMsg}
-use Rattle.rsvp_messages.specs.Units.{ask_style, only}
+use Rattle.rsvp_messages.specs.Units.{AskedUnit, ask_style, asked_units, only}
 use Rattle.style_rules.specs.CutLaws.{cut_monotone, cut_of, made_named, made_of, part_of_some}
+use Rattle.style_rules.specs.FlowOrder.{IsAtMost, flow_le}
 use Rattle.style_rules.specs.Lines.{LineKey}
+use Rattle.style_rules.specs.Merge.{PartTable}
 use Rattle.style_rules.specs.PartLaws.{part_at_most_itself}
 use Rattle.style_rules.specs.Parts.{IsPartAtMost, has_name}
 use Rattle.style_rules.specs.Toward.{Request, parts_of}
 use Rattle.style_rules.proofs.Merges.{merges_same}
-use Rattle.style_rules.proofs.StyleLaws.{within_unit}
-use Rattle.style_rules.proofs.Towards.{toward_open, toward_source, toward_there}
+use Rattle.style_rules.proofs.StyleLaws.{common_unit, within_unit}
+use Rattle.style_rules.proofs.Told.{at_most_tested, at_most_told}
+use Rattle.style_rules.proofs.Towards.{open_below, toward_open, toward_source, toward_there}
 use Rattle.calm_rounds.specs.Machine.{Happens}
 use Rattle.laws_inputs.specs.FactLaws.{ComesBy, IsResvRequest, IsWantRequest}
-use Rattle.laws_inputs.specs.SendLaws.{IsConf, IsError, IsPath, IsPathTear, IsResv, IsResvTear}
+use Rattle.laws_inputs.specs.SendLaws.{ArePartsOf, IsAskedOf, IsConf, IsError, IsPath, IsPathTear, IsResv, IsResvTear}
 use Rattle.laws_inputs.specs.WishLaws.{IsMarked}
-use Rattle.laws_inputs.proofs.Asks.{gone_by_units, style_told}
+use Rattle.laws_inputs.proofs.Asks.{gone_by_units, style_told, units_told}
 use Rattle.laws_inputs.proofs.Calling.{call_refusals, calls_leave}
 use Rattle.laws_inputs.proofs.Framing.{wants_then}
 use Rattle.laws_inputs.proofs.Knowing.{known_and_via}
 use Rattle.laws_inputs.proofs.Lists.{one_name}
 use Rattle.laws_inputs.proofs.Requesting.{requests_and_toward}
+use Rattle.laws_inputs.proofs.Ruling.{rule_in_parts}
 use Rattle.laws_inputs.proofs.Stepping.{send_told}
 use Rattle.laws_inputs.proofs.Tests.{not_new, parts_tested, ties}
 use Rattle.laws_inputs.proofs.Wishing.{marks_are_used}
 use Rattle.laws_steps.proofs.Framing.{left_as_it_was}
 use Rattle.router_rules.specs.declared.answers.LocalErr.{LocalErr}
 use Rattle.router_rules.specs.Act.{act}
+use Rattle.router_rules.specs.Asking.{ask_of}
 use Rattle.router_rules.specs.Bounds.{IsWantShape}
 use Rattle.router_rules.specs.Calls.{call_refusal, unless, wanted, wants_with}
 use Rattle.router_rules.specs.Facts.{Facts, ResvTables, Want, WantKey, resvs_of, sender_keys, table_of}
-use Rattle.router_rules.specs.Inputs.{Call, Change, Local, Send, Spelt, WantAs}
+use Rattle.router_rules.specs.Inputs.{Arrival, Call, Change, Local, Send, Spelt, WantAs}
 use Rattle.router_rules.specs.Known.{Lane, names_via}
 use Rattle.router_rules.specs.NodeConfig.{NodeConfig, own}
 use Rattle.router_rules.specs.Offers.{Offer, Offers, offers}
@@ -79,12 +84,15 @@ use Rattle.settle_paths.proofs.PreviousHops.{ahead}
 use Rattle.settle_resvs.specs.Sessions.{HasNoBlockade}
 use Rattle.settle_resvs.proofs.GoalByIface.{each_fits}
 use Rattle.settle_resvs.proofs.TowardIsTheWant.{unmarked}
+use Rattle.settle_resvs.proofs.TowardNames.{parts_of_style}
 use Rattle.settle_network.specs.Settled.{HasSettled}
 use Rattle.settle_passes.specs.Reserving.{AsksNoLess, IsReserving, after_want}
 use Rattle.settle_passes.proofs.Calls.{IsCalled, called, called_there}
 use Rattle.settle_passes.proofs.Serving.{settled_is_reserved}
 use Rattle.settle_passes.proofs.Wanting.{a_receiver_is_set_up}
-use Rattle.settle_confirmations.specs.Requests.{IsAnswered, IsOnlySender, IsRequest}
+use Rattle.settle_confirmations.specs.Requests.{IsAnswered, IsConfirmed, IsForAtLeast, IsOnlySender, IsRequest, arrival_units}
+use Rattle.settle_confirmations.proofs.Holding.{what_is_confirmed_is_held as requests_are_held}
+use Rattle.settle_confirmations.proofs.Moving.{listed_one}
 use Rattle.settle_confirmations.proofs.Passing.{requests_are_answered}
 
 unless_same : {E X : Type 0} (o : Option E) (x : X) → unless o x x ≡ x
@@ -104,7 +112,22 @@ wanted_told s Shared names flow mark k y i =
     ⊎_elim (λ (e : (k, y) ≡ ((s, One), record { style = Shared; part = record { senders = names; flow = flow }; confirm = mark })).
     (ap (λ (z : WantKey × Want). z.0.0) e, ap (λ (z : WantKey × Want). z.1.style) e, ap (λ (z : WantKey × Want). z.1.confirm) e)) (λ (no : ⊥). absurd no) i
 
+-- and all of them are for its flow
+wanted_flow : (s : Session) (st : StyleKind) (names : Names) (flow : TokenBucket) (mark : Bool) (k : WantKey) (y : Want) → In (k, y) (wanted s st names flow mark) → y.part.flow ≡ flow
+wanted_flow s Wild names flow mark k y i =
+    ⊎_elim (λ (e : (k, y) ≡ ((s, One), record { style = Wild; part = record { senders = empty; flow = flow }; confirm = mark })). ap (λ (z : WantKey × Want). z.1.part.flow) e) (λ (no : ⊥). absurd no) i
+wanted_flow s Fixed names flow mark k y i =
+    let r = in_each (λ (z : Sender). ((s, Of z), record { style = Fixed; part = record { senders = only z; flow = flow }; confirm = mark })) (k, y) (keys names) i in
+    ap (λ (z : WantKey × Want). z.1.part.flow) r.2
+wanted_flow s Shared names flow mark k y i =
+    ⊎_elim (λ (e : (k, y) ≡ ((s, One), record { style = Shared; part = record { senders = names; flow = flow }; confirm = mark })). ap (λ (z : WantKey × Want). z.1.part.flow) e) (λ (no : ⊥). absurd no) i
+
 -- ---- what is left of a want toward a hop
+part_flow : (st : StyleKind) (ns : Names) (a v : Part) → want_part st ns a ≡ Some v → v.flow ≡ a.flow
+part_flow Wild ns a v e = (made_of ns a.flow v e).flow
+part_flow Fixed ns a v e = (made_of (cut a.senders ns) a.flow v e).flow
+part_flow Shared ns a v e = (made_of (cut a.senders ns) a.flow v e).flow
+
 part_grows : (st : StyleKind) (ns : Names) (a b v : Part) → IsPartAtMost a b → want_part st ns a ≡ Some v → (y : Part) × (want_part st ns b ≡ Some y)
 part_grows Wild ns a b v le e = (record { senders = ns; flow = b.flow }, part_of_some ns b.flow (made_of ns a.flow v e).some)
 part_grows Fixed ns a b v le e = let r = cut_monotone a b v ns le e in (r.0, r.1)
@@ -311,6 +334,23 @@ module _ (q n : ℕ) (s : Session) (st : StyleKind) (names : Names) (flow : Toke
           by [] is =
               absurd (changed (same_toward (λ u y v new there style part. subst (λ (us : List UnitOf). In u us) is ((marks_are_used.marked p after l u).1 (marked u y v new there style part)))))
 
+      -- and it asks for no less than the call, where all that goes there is of one unit
+      pub covers : (toward p f l ≡ toward p after l → ⊥) → (k : UnitOf) (t : Part) → get (toward p after l) k ≡ Some t → ((other : UnitOf) → has (toward p after l) other ≡ true → k ≡ other)
+          → IsAtMost flow t.flow
+      covers changed k t e all =
+          either (flow_le flow t.flow) (λ yes. at_most_told flow t.flow yes)
+          (λ less. absurd (changed (same_toward (λ u y v new there style part.
+          let a : Request = record { part = v; blockaded = is_blockaded l.style f.walls l v } in
+          let among : In a (requests p after l) = (requests_and_toward.each p after l a).1 (inr (record { unit = u; want = y; there = there; style = style; part = part; blockaded = refl })) in
+          let named : has_name v ≡ true = part_named l.style (names_via after l) y.part v part in
+          let goes : has (toward p after l) (part_unit l.style v) ≡ true =
+          toward_there l.style (requests p after l) (part_unit l.style v) a (record { among = among; named = named; unit = refl }) in
+          let below = open_below l.style (requests p after l) k t a
+          (record { request = record { among = among; named = named; unit = all (part_unit l.style v) goes }; unmarked = unmarked p after l none a among }) e in
+          let is : v.flow ≡ flow = part_flow l.style (names_via after l) y.part v part ∙ wanted_flow s st names flow true (l.session, u) y new in
+          let bad : true ≡ false = sym (at_most_tested flow t.flow (subst (λ (z : TokenBucket). IsAtMost z t.flow) is below.flow)) ∙ less in
+          cc))))
+
       -- and no unit that went there does so no more
       goes_on_to : (un : UnitOf) → has (toward p f l) un ≡ true → has (toward p after l) un ≡ true
       goes_on_to un h =
@@ -352,11 +392,15 @@ module _ (q n : ℕ) (s : Session) (st : StyleKind) (names : Names) (flow : Toke
       pub style : ask_style resv.ask ≡ st
       pub hop : resv.hop.addr ≡ own p lane.hop.0
       pub wish : resv.confirm ≡ Some (own p lane.hop.0)
+      pub whole : ask_of lane.style (toward p after lane) ≡ Some resv.ask
+      pub changed : toward p f lane ≡ toward p after lane → ⊥
 
     asked_now : (z : Send) → IsResv p p f after change z → IsAskedNow z
     asked_now z x =
         let changed_one : is_changed p p f after x.lane ≡ true = x.why in
-        let d = is_asked_for x.lane (λ same. let bad : true ≡ false = sym changed_one ∙ ap not (parts_tested (toward p f x.lane) (toward p after x.lane) same) in cc) in
+        let changed : toward p f x.lane ≡ toward p after x.lane → ⊥ =
+        (λ same. let bad : true ≡ false = sym changed_one ∙ ap not (parts_tested (toward p f x.lane) (toward p after x.lane) same) in cc) in
+        let d = is_asked_for x.lane changed in
         let wish : cond (is_changed p p f after x.lane) (confirm_for p after x.lane None) None ≡ Some (own p x.lane.hop.0) =
         ap (λ (b : Bool). cond b (confirm_for p after x.lane None) None) changed_one ∙ d.wish in
         let is : z ≡ resv_send p after x.lane (Some (own p x.lane.hop.0)) false x.ask = x.is ∙ ap (λ (o : Option Addr). resv_send p after x.lane o false x.ask) wish in
@@ -370,6 +414,8 @@ module _ (q n : ℕ) (s : Session) (st : StyleKind) (names : Names) (flow : Toke
           style = style_told x.lane.style (toward p after x.lane) x.ask x.whole ∙ d.style;
           hop = refl;
           wish = refl;
+          whole = x.whole;
+          changed = changed;
         }
 
     pub only_asked : (z : Send) → In z (sent_then p p c (Call call) f) → IsAskedNow z
@@ -413,6 +459,37 @@ module _ (q n : ℕ) (s : Session) (st : StyleKind) (names : Names) (flow : Toke
       pub there : In hop (tree w.net.hops s.group x.addr)
       pub node : node_of w.net.ends hop.to ≡ n
       pub request : IsRequest then s st hop.to z
+      pub least : IsForAtLeast flow z
+
+    -- what is sent is for the sender alone, and so of one unit, and no less than the call
+    no_less_asked : (z : Item) (b : Bool) → In (z, b) (sent q (At n call) w) → (f : Facts) (at : slice_get w.nodes n ≡ Some f) (k : Send) (d : IsAskedNow f at k)
+        → z.arrival ≡ Spelt (message.Resv d.resv) → IsForAtLeast flow z
+    no_less_asked z b i f at k d spelt v j =
+        let l : Lane = d.lane in
+        let asks : In v (asked_units d.resv.ask) = subst (λ (o : Arrival). In v (arrival_units o)) spelt j in
+        let flies : In z then.flight = in_right z w.flight (each (λ (o : Item × Bool). o.0) (sent q (At n call) w)) (to_each (λ (o : Item × Bool). o.0) (z, b) (sent q (At n call) w) i) in
+        let are : ArePartsOf l.style (toward p (after f at) l) =
+        subst (λ (o : PartTable). ArePartsOf l.style o) (ap (λ (o : Facts). toward p o l) (facts_are f at) ∙ rule_in_parts.toward_same p p c (Call call) f l)
+        (parts_of_style p then.clock (g f at) ((r' s).paths.bounds.facts n (g f at) (at_then f at)) l) in
+        let style : ask_style d.resv.ask ≡ l.style = style_told l.style (toward p (after f at) l) d.resv.ask d.whole in
+        let only_z : IsOnlySender then d.resv.session x = subst (λ (o : Session). IsOnlySender then o x) (sym d.of_session) only_then in
+        let named : (o : AskedUnit) → In o (asked_units d.resv.ask) → (part : Part) → o.names ≡ Some part.senders → has part.senders (name_of l.style x) ≡ true =
+        (λ o h part is.
+        let sound = (r' s).sound.items z d.resv o flies spelt h in
+        let same : sound.names ≡ part.senders = of_some sound.names part.senders (sym sound.named ∙ is) in
+        subst (λ (y : Names × StyleKind). has y.0 (name_of y.1 x) ≡ true) (λ t. (same t, style t))
+        (listed_one then d.resv.session x only_z (ask_style d.resv.ask) z.end d.resv.hop.addr o.unit (record { senders = sound.names; flow = o.flow }) sound.sound)) in
+        let units_of : (o : AskedUnit) → In o (asked_units d.resv.ask) ↔ IsAskedOf (toward p (after f at) l) o = (λ o. units_told l.style (toward p (after f at) l) d.resv.ask o are d.whole) in
+        let mine = (units_of v).0 asks in
+        let all : (other : UnitOf) → has (toward p (after f at) l) other ≡ true → v.unit ≡ other =
+        (λ other h.
+        let t = has_some (get (toward p (after f at) l) other) h in
+        let o : AskedUnit = record { unit = other; names = Some t.0.senders; flow = t.0.flow } in
+        let theirs = (units_of o).1 (record { part = t.0; there = t.1; names = refl; flow = refl }) in
+        sym (are v.unit mine.part mine.there).1
+        ∙ common_unit l.style mine.part t.0 (name_of l.style x) (are v.unit mine.part mine.there).0 (are other t.0 t.1).0 (named v asks mine.part mine.names) (named o theirs t.0 refl)
+        ∙ (are other t.0 t.1).1) in
+        subst (λ (o : TokenBucket). IsAtMost flow o) (sym mine.flow) (covers f at l d.changed v.unit mine.part mine.there all)
 
     pub request_there : (z : Item) (b : Bool) → In (z, b) (sent q (At n call) w) → IsRequestThere z
     request_there z b i =
@@ -443,34 +520,53 @@ module _ (q n : ℕ) (s : Session) (st : StyleKind) (names : Names) (flow : Toke
           there = there;
           node = from.previous.node;
           request = record { resv = d.resv; says = arrival ∙ ap Spelt d.says; session = d.of_session; style = d.style; hop = d.hop ∙ addr; wish = d.wish ∙ ap Some addr };
+          least = no_less_asked z b i k.facts at k.send d (arrival ∙ ap Spelt d.says);
         })
         (called q w n call k.node k.facts)
 
 -- ---- in a settled network
-pub a_receiver_is_answered : (q n : ℕ) (s : Session) (st : StyleKind) (names : Names) (flow : TokenBucket) (x : Sender) (w : World) → IsStart q w → HasSettled q w → w.flight ≡ []
-    → IsOnlySender w s x → IsFitList st names → IsSound flow → AsksNoLess w n s st names flow true → DemandsFit w.net (locals_of (after_want q n s st names flow true w))
-    → (y : Item) → In y (after_want q n s st names flow true w).flight
-    → (e : ℕ) × (node_of w.net.ends e ≡ n) × Happens (machine q) (IsAnswered s st x e) (passes q (2 * longest w.net) (after_want q n s st names flow true w)) (after_want q n s st names flow true w)
-a_receiver_is_answered q n s st names flow x w start settled quiet only_one list sound no_less fit y i =
-    let r : (c : Session) → IsReserving q c w = settled_is_reserved q w start settled quiet in
-    let r' : (c : Session) → IsReserving q c (after_want q n s st names flow true w) =
-    (λ c. (a_receiver_is_set_up q n c s st names flow true w (r c) list sound no_less (each_fits w.net (locals_of (after_want q n s st names flow true w)) fit c)).0) in
-    let v = there r r' y i in
-    let lt = to_there w.net (r s).paths.bounds.net s.group x.addr v.hop v.there in (
-      v.hop.to,
-      v.node,
-      requests_are_answered q s st x v.hop.to (after_want q n s st names flow true w) (r' s) (only_then q n s st names flow w r r' no_less x only_one) lt y i
-          (λ z j.
-          let k = there r r' z j in
-          let same : k.hop ≡ v.hop = one w.net (r s).paths.bounds.net s.group x.addr k.hop v.hop k.there v.there (k.node ∙ sym v.node) in
-          subst (λ (h : LinkHop). IsRequest (after_want q n s st names flow true w) s st h.to z) same k.request),
-    )
-  where
-    there : (r : (c : Session) → IsReserving q c w) (r' : (c : Session) → IsReserving q c (after_want q n s st names flow true w)) (z : Item) → In z (after_want q n s st names flow true w).flight
-        → IsRequestThere q n s st names flow w r r' no_less x only_one z
-    there r r' z j =
-        ⊎_elim (λ (old : In z w.flight). absurd (subst (λ (zs : List Item). In z zs) quiet old))
-        (λ (new : In z (each (λ (o : Item × Bool). o.0) (sent q (At n (WantAs s st names flow true)) w))).
-        let k = in_each (λ (o : Item × Bool). o.0) z (sent q (At n (WantAs s st names flow true)) w) new in
-        request_there q n s st names flow w r r' no_less x only_one z k.0.1 (subst (λ (o : Item). In (o, k.0.1) (sent q (At n (WantAs s st names flow true)) w)) (sym k.2) k.1))
-        (in_append z w.flight (each (λ (o : Item × Bool). o.0) (sent q (At n (WantAs s st names flow true)) w)) j)
+module _ (q n : ℕ) (s : Session) (st : StyleKind) (names : Names) (flow : TokenBucket) (x : Sender) (w : World) (start : IsStart q w) (settled : HasSettled q w) (quiet : w.flight ≡ [])
+    (only_one : IsOnlySender w s x) (list : IsFitList st names) (sound : IsSound flow) (no_less : AsksNoLess w n s st names flow true)
+    (fit : DemandsFit w.net (locals_of (after_want q n s st names flow true w))) where
+  abbrev asked : World
+  asked = after_want q n s st names flow true w
+
+  reserving : (c : Session) → IsReserving q c w
+  reserving = settled_is_reserved q w start settled quiet
+
+  reserving_then : (c : Session) → IsReserving q c asked
+  reserving_then c = (a_receiver_is_set_up q n c s st names flow true w (reserving c) list sound no_less (each_fits w.net (locals_of asked) fit c)).0
+
+  there : (z : Item) → In z asked.flight → IsRequestThere q n s st names flow w reserving reserving_then no_less x only_one z
+  there z j =
+      ⊎_elim (λ (old : In z w.flight). absurd (subst (λ (zs : List Item). In z zs) quiet old))
+      (λ (new : In z (each (λ (o : Item × Bool). o.0) (sent q (At n (WantAs s st names flow true)) w))).
+      let k = in_each (λ (o : Item × Bool). o.0) z (sent q (At n (WantAs s st names flow true)) w) new in
+      request_there q n s st names flow w reserving reserving_then no_less x only_one z k.0.1
+      (subst (λ (o : Item). In (o, k.0.1) (sent q (At n (WantAs s st names flow true)) w)) (sym k.2) k.1))
+      (in_append z w.flight (each (λ (o : Item × Bool). o.0) (sent q (At n (WantAs s st names flow true)) w)) j)
+
+  -- all go over one hop
+  one_end : (y : Item) (i : In y asked.flight) → (z : Item) → In z asked.flight → IsRequest asked s st (there y i).hop.to z × IsForAtLeast flow z
+  one_end y i z j =
+      let v = there y i in
+      let k = there z j in
+      let same : k.hop ≡ v.hop = one w.net (reserving s).paths.bounds.net s.group x.addr k.hop v.hop k.there v.there (k.node ∙ sym v.node) in
+      (subst (λ (h : LinkHop). IsRequest asked s st h.to z) same k.request, k.least)
+
+  ends_inside : (y : Item) (i : In y asked.flight) → (there y i).hop.to < length w.net.ends
+  ends_inside y i = to_there w.net (reserving s).paths.bounds.net s.group x.addr (there y i).hop (there y i).there
+
+  only_asked_one : IsOnlySender asked s x
+  only_asked_one = only_then q n s st names flow w reserving reserving_then no_less x only_one
+
+  pub a_receiver_is_answered : (y : Item) → In y asked.flight → (e : ℕ) × (node_of w.net.ends e ≡ n) × Happens (machine q) (IsAnswered s st x flow e) (passes q (2 * longest w.net) asked) asked
+  a_receiver_is_answered y i = (
+    (there y i).hop.to,
+    (there y i).node,
+    requests_are_answered q s st x (there y i).hop.to asked (reserving_then s) only_asked_one (ends_inside y i) flow y i (there y i).least (λ z j. (one_end y i z j).0),
+  )
+
+  pub what_is_confirmed_is_held : (y : Item) → In y asked.flight → (e : ℕ) × (node_of w.net.ends e ≡ n) × Happens (machine q) (IsConfirmed q s st x flow e) (passes q (2 * longest w.net) asked) asked
+  what_is_confirmed_is_held y i =
+      ((there y i).hop.to, (there y i).node, requests_are_held q s st x flow (there y i).hop.to asked reserving_then only_asked_one (ends_inside y i) y i (one_end y i))

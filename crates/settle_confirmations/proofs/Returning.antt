@@ -8,6 +8,7 @@ use Rattle.rsvp_base.specs.declared.session.Session.{Session}
 use Rattle.rsvp_base.specs.declared.style.StyleKind.{StyleKind}
 use Rattle.rsvp_base.specs.Members.{In}
 use Rattle.rsvp_base.specs.Table.{get}
+use Rattle.rsvp_base.specs.TokenBucket.{TokenBucket}
 use Rattle.rsvp_base.proofs.Members.{in_any, in_each, in_left, in_right, to_each}
 use Rattle.rsvp_base.proofs.Tables.{either}
 use Rattle.rsvp_messages.specs.declared.message.Message.TheVariants as message
@@ -52,7 +53,7 @@ use Rattle.settle_resvs.proofs.SoftResvs.{resv_found}
 use Rattle.settle_passes.proofs.Deliveries.{came_by_delivery, known_self}
 use Rattle.settle_passes.proofs.Reserving.{turns}
 use Rattle.settle_passes.proofs.Turns.{Turns}
-use Rattle.settle_confirmations.specs.Requests.{IsAnswered}
+use Rattle.settle_confirmations.specs.Requests.{IsAnswered, IsForAtLeast, arrival_units}
 use Rattle.settle_confirmations.proofs.Answering.{IsOnward, new_item}
 use Rattle.settle_confirmations.proofs.Moving.{IsAsking, IsConf, IsDown, IsMarked, IsNext, IsUp, Leads, goes_down, leads_next, listed_one, only', r', up_next}
 
@@ -86,26 +87,44 @@ module _ (q : ℕ) (s : Session) (st : StyleKind) (x : Sender) (e : ℕ) (u : Wo
   abbrev next : World
   next = step q (Deliver 0) u
 
-  conf_item : (y : Item) → slice_get u.flight 0 ≡ Some y → (k : IsConf y) → (z : Item) (b : Bool) → In (z, b) (sent q (Deliver 0) u) → IsConf z
+  -- what a ResvConf that is delivered makes of a node
+  conf_rule : (y : Item) → slice_get u.flight 0 ≡ Some y → (k : IsConf y) → (n : ℕ) (f : Facts) → slice_get u.nodes n ≡ Some f → Turns q (Deliver 0) u n f
+      → (h : Heard) × (cs : List ConfSend) × (outcome q (Deliver 0) u n f ≡ record { facts = f; sent = error_sends [] ++ conf_sends cs; heard = h })
+  conf_rule y arr k n f at t =
+      let d = came_by_delivery q 0 u a.reserving.paths.bounds n t.input t.came in
+      let is : d.item ≡ y = of_some d.item y (sym d.arrives ∙ arr) in
+      let p : NodeConfig = config_of q u.net u.trees n in
+      let i : ℕ = iface_of u.net.ends d.item.end in
+      let input : t.input ≡ Came i d.item.dst (Spelt (message.ResvConf k.0)) = d.is ∙ ap (λ (w : Item). Came i d.item.dst w.arrival) is ∙ ap (Came i d.item.dst) k.1 in
+      let now : u.clock ≡ u.clock + 0 = omega arith in
+      let within : IsWithinBounds p (u.clock + 0) f = subst (λ (w : ℕ). IsWithinBounds p w f) now (a.reserving.paths.bounds.facts n f at) in
+      let act_is = conf_act p (u.clock + 0) i f k.0 (is_mine p i d.item.dst (message.ResvConf k.0)) in (
+        act_is.0,
+        act_is.1,
+        t.is ∙ ap (λ (w : Input). rule p p (u.clock + 0) w f) input
+            ∙ steps_without_change.whole p (u.clock + 0) (Came i d.item.dst (Spelt (message.ResvConf k.0))) f act_is.0 [] act_is.1 within refl act_is.2,
+      )
+
+  -- it changes no fact
+  pub conf_keeps : ((y : Item) → In y u.flight → IsConf y) → (n : ℕ) (f : Facts) → slice_get u.nodes n ≡ Some f → (outcome q (Deliver 0) u n f).facts ≡ f
+  conf_keeps all n f at =
+      ⊎_elim (λ (h : outcome q (Deliver 0) u n f ≡ still f). ap (λ (o : Outcome). o.facts) h)
+      (λ (t : Turns q (Deliver 0) u n f).
+      let d = came_by_delivery q 0 u a.reserving.paths.bounds n t.input t.came in
+      let r = conf_rule d.item d.arrives (all d.item (in_arrived (Deliver 0) u d.item d.arrives)) n f at t in
+      ap (λ (o : Outcome). o.facts) r.2)
+      (turns q s u a.reserving n f at)
+
+  pub conf_item : (y : Item) → slice_get u.flight 0 ≡ Some y → (k : IsConf y) → (z : Item) (b : Bool) → In (z, b) (sent q (Deliver 0) u) → IsConf z
   conf_item y arr k z b sends =
       let c = (what_is_sent_is_copied q (Deliver 0) u (z, b)).0 sends in
       let arrival : z.arrival ≡ Spelt c.send.message = ap (λ (w : Item × Bool). w.0.arrival) c.is in
       ⊎_elim
       (λ (h : outcome q (Deliver 0) u c.node c.facts ≡ still c.facts). absurd (subst (λ (w : Outcome). In c.send w.sent) h c.sent))
       (λ (t : Turns q (Deliver 0) u c.node c.facts).
-      let d = came_by_delivery q 0 u a.reserving.paths.bounds c.node t.input t.came in
-      let is : d.item ≡ y = of_some d.item y (sym d.arrives ∙ arr) in
-      let p : NodeConfig = config_of q u.net u.trees c.node in
-      let i : ℕ = iface_of u.net.ends d.item.end in
-      let input : t.input ≡ Came i d.item.dst (Spelt (message.ResvConf k.0)) = d.is ∙ ap (λ (w : Item). Came i d.item.dst w.arrival) is ∙ ap (Came i d.item.dst) k.1 in
-      let now : u.clock ≡ u.clock + 0 = omega arith in
-      let within : IsWithinBounds p (u.clock + 0) c.facts = subst (λ (w : ℕ). IsWithinBounds p w c.facts) now (a.reserving.paths.bounds.facts c.node c.facts c.there) in
-      let act_is = conf_act p (u.clock + 0) i c.facts k.0 (is_mine p i d.item.dst (message.ResvConf k.0)) in
-      let rule_is : outcome q (Deliver 0) u c.node c.facts ≡ record { facts = c.facts; sent = error_sends [] ++ conf_sends act_is.1; heard = act_is.0 } =
-      t.is ∙ ap (λ (w : Input). rule p p (u.clock + 0) w c.facts) input
-      ∙ steps_without_change.whole p (u.clock + 0) (Came i d.item.dst (Spelt (message.ResvConf k.0))) c.facts act_is.0 [] act_is.1 within refl act_is.2 in
-      let among : In c.send (conf_sends act_is.1) = subst (λ (w : Outcome). In c.send w.sent) rule_is c.sent in
-      let one = in_each conf_send c.send (in_order next_hops (λ (w : ConfSend). (w.iface, w.dst)) act_is.1) among in
+      let r = conf_rule y arr k c.node c.facts c.there t in
+      let among : In c.send (conf_sends r.1) = subst (λ (w : Outcome). In c.send w.sent) r.2 c.sent in
+      let one = in_each conf_send c.send (in_order next_hops (λ (w : ConfSend). (w.iface, w.dst)) r.1) among in
       (one.0.conf, arrival ∙ ap (λ (w : Send). Spelt w.message) one.2))
       (turns q s u a.reserving c.node c.facts c.there)
 
@@ -156,9 +175,10 @@ module _ (q : ℕ) (s : Session) (st : StyleKind) (x : Sender) (e : ℕ) (u : Wo
     pub flight : In item next.flight
     pub down : IsDown next s st x e item
     pub lower : rank u.net s.group down.hop < rank u.net s.group d.hop
+    pub same : y.arrival ≡ item.arrival
 
-  pub down_moves : (y : Item) → slice_get u.flight 0 ≡ Some y → (d : IsDown u s st x e y) → IsAnswered s st x e (Deliver 0) u ⊎ GoesDown y d
-  down_moves y arr d = by d.hops d.leads
+  pub down_moves : (flow : TokenBucket) (y : Item) → slice_get u.flight 0 ≡ Some y → (d : IsDown u s st x e y) → IsForAtLeast flow y → IsAnswered s st x flow e (Deliver 0) u ⊎ GoesDown y d
+  down_moves flow y arr d least = by d.hops d.leads
     where
       flies : In y u.flight
       flies = in_arrived (Deliver 0) u y arr
@@ -166,7 +186,7 @@ module _ (q : ℕ) (s : Session) (st : StyleKind) (x : Sender) (e : ℕ) (u : Wo
       lt : y.end < length u.net.ends
       lt = (a.reserving.paths.bounds.flight y flies).end
 
-      by : (hs : List LinkHop) → Leads u s st x e hs d.hop → IsAnswered s st x e (Deliver 0) u ⊎ GoesDown y d
+      by : (hs : List LinkHop) → Leads u s st x e hs d.hop → IsAnswered s st x flow e (Deliver 0) u ⊎ GoesDown y d
       by [] l =
           inl (record {
             item = y;
@@ -179,6 +199,7 @@ module _ (q : ℕ) (s : Session) (st : StyleKind) (x : Sender) (e : ℕ) (u : Wo
             style = d.style;
             confirm = d.confirm;
             speaks = d.speaks;
+            covers = λ b i. least b (subst (λ (w : Arrival). In b (arrival_units w)) (sym d.says) i);
           })
       by (h' ∷ hs) l =
           let bounds = a.reserving.paths.bounds in
@@ -256,4 +277,5 @@ module _ (q : ℕ) (s : Session) (st : StyleKind) (x : Sender) (e : ℕ) (u : Wo
               leads = leads_next q s st x e u a hs h' l.2;
             };
             lower = next_one.lower;
+            same = d.says;
           })

@@ -130,6 +130,14 @@ same_style (ask.Wild scope flow) = refl
 same_style (ask.Fixed list) = refl
 same_style (ask.Shared part) = refl
 
+-- it has the flows of what was taken
+without_units : (a : Ask) (u : AskedUnit) → In u (asked_units (without_scope a)) → (v : AskedUnit) × In v (asked_units a) × (u.flow ≡ v.flow)
+without_units (ask.Wild scope flow) u i =
+    ⊎_elim (λ (e : u ≡ record { unit = One; names = None; flow = flow }). (record { unit = One; names = scope; flow = flow }, inl refl, ap (λ (z : AskedUnit). z.flow) e))
+    (λ (no : ⊥). absurd no) i
+without_units (ask.Fixed list) u i = (u, i, refl)
+without_units (ask.Shared part) u i = (u, i, refl)
+
 pub in_only : (x y : Sender) → has (only x) y ≡ true → y ≡ x
 in_only x y h = ⊎_elim (λ (e : y ≡ x). e) (λ (no : ⊥). absurd no) (set_of_in senders (x ∷ []) y h)
 
@@ -289,6 +297,8 @@ module _ (p : NodeConfig) (c e : ℕ) (m : ResvMsg) (f : Facts) (gs : List Line)
     pub name : Sender
     pub named : has listed name ≡ true
     pub speaks : (ns : Names) → has ns name ≡ true → speaks_of conf.ask ns ≡ true
+    -- each flow of it is one that the Resv asks for
+    pub flows : (v : AskedUnit) → In v (asked_units conf.ask) → (z : AskedUnit) × In z us × (v.flow ≡ z.flow)
 
   abbrev pub asked : Asked
   asked = record { session = m.session; confirm = a; iface = e; hop = m.hop.addr; taken = ask_of (ask_style m.ask) (taking p c e m f).taken }
@@ -341,6 +351,11 @@ module _ (p : NodeConfig) (c e : ℕ) (m : ResvMsg) (f : Facts) (gs : List Line)
           named = cut_told t.unit.names name.0 place.names place.listed
               (subst (λ (z : Names). has z name.0 ≡ true) ((made_of (names_that_match t.unit.names all) t.unit.flow part.0 t.some).senders) name.1);
           speaks = λ ns h. speaks_for taken v ns part.0.senders name.0 among refl name.1 h;
+          flows = λ z i.
+              let b = without_units taken z i in
+              let k = (units_told (ask_style m.ask) (taking p c e m f).taken taken b.0 of_style what).0 b.1 in
+              let d = took_unit b.0.unit k.part k.there in
+              (d.unit, d.asks, b.2 ∙ k.flow ∙ (made_of (names_that_match d.unit.names all) d.unit.flow k.part d.some).flow);
         },
       )
     where
@@ -380,6 +395,7 @@ module _ (p : NodeConfig) (c e : ℕ) (m : ResvMsg) (f : Facts) (gs : List Line)
     pub session : resv.session ≡ lane.session
     pub hop : resv.hop.addr ≡ own p lane.hop.0
     pub changed : toward p f lane ≡ toward p after lane → ⊥
+    pub whole : ask_of lane.style (toward p after lane) ≡ Some resv.ask
 
   abbrev pub IsKind : Send → Type 0
   IsKind s = IsResvTear p p f after change s ⊎ (((conf : ResvConfMsg) × (s.message ≡ message.ResvConf conf)) ⊎ IsPassedOn s)
@@ -409,6 +425,7 @@ module _ (p : NodeConfig) (c e : ℕ) (m : ResvMsg) (f : Facts) (gs : List Line)
         session = refl;
         hop = refl;
         changed = λ same. let bad : true ≡ false = sym changed_one ∙ ap not (parts_tested (toward p f x.lane) (toward p after x.lane) same) in cc;
+        whole = x.whole;
       }
 
   pub sent_kind : (s : Send) → In s (sent_then p p c input f) → IsKind s

@@ -21,7 +21,8 @@ use Rattle.settle_passes.specs.Reserving.{AsksNoLess}
 use Rattle.settle_passes.specs.Worked.{asked_world, heard_world}
 use Rattle.settle_passes.proofs.AskedExample.{a_receiver_asks}
 use Rattle.settle_confirmations.specs.Requests.{IsOnlySender}
-use Rattle.settle_confirmations.specs.Worked.{AReceiverHears, AReceiverTurnsAway, ARequestIsRefused, AnAnswerSpeaksOfAnother, TwoEndsHearNothing, TwoReceiversAskAtOnce, wishing_world}
+use Rattle.settle_confirmations.specs.Worked.{AReceiverHears, AReceiverTurnsAway, ARequestIsRefused, AnAnswerIsEarly, AnAnswerIsForMore, AnAnswerLeavesOut, AnAnswerSpeaksOfAnother}
+use Rattle.settle_confirmations.specs.Worked.{LessIsConfirmed, TwoEndsHearNothing, TwoReceiversAskAtOnce, wishing_world}
 
 -- whether a confirmation is asked for makes no difference to what is wanted
 same_locals : locals_of asked_world ≡ locals_of wishing_world
@@ -64,11 +65,16 @@ a_receiver_hears = record {
   long = refl;
   text = refl;
   last = refl;
+  flows = refl;
 }
 
 pub an_answer_speaks_of_another : AnAnswerSpeaksOfAnother
 unfolding facts_with
 an_answer_speaks_of_another = record { text = refl }
+
+pub an_answer_leaves_out : AnAnswerLeavesOut
+unfolding facts_with
+an_answer_leaves_out = record { text = refl; asked = refl; answered = refl }
 
 pub two_ends_hear_nothing : TwoEndsHearNothing
 unfolding facts_with
@@ -85,3 +91,15 @@ a_receiver_turns_away = record { text = refl }
 pub a_request_is_refused : ARequestIsRefused
 unfolding digits facts_with
 a_request_is_refused = record { text = refl }
+
+pub an_answer_is_for_more : AnAnswerIsForMore
+unfolding facts_with
+an_answer_is_for_more = record { flows = refl }
+
+pub less_is_confirmed : LessIsConfirmed
+unfolding facts_with
+less_is_confirmed = record { text = refl; flows = refl; held = refl }
+
+pub an_answer_is_early : AnAnswerIsEarly
+unfolding facts_with
+an_answer_is_early = record { text = refl; held = refl }

@@ -1,12 +1,16 @@
 -- What becomes of requests in small networks: where they are answered, and where a premise is not met, with one sender or with two.
-use Rattle.std.specs.Prelude.{◌≡◌, ℕ, ◌++◌, List, [], ◌∷◌, Bool, true, false, codes}
+use Rattle.std.specs.Prelude.{◌≡◌, ℕ, ◌++◌, List, [], ◌∷◌, map as each, Bool, true, false, Option, None, Some, codes}
+use Rattle.std.specs.List.{flat_map}
+use Rattle.std.specs.Option.{option_map}
 use Rattle.rsvp_base.specs.declared.addr.Addr.{Addr}
 use Rattle.rsvp_base.specs.declared.session.Sender.{Sender}
-use Rattle.rsvp_base.specs.declared.style.StyleKind.TheVariants.{Shared, Wild}
+use Rattle.rsvp_base.specs.declared.style.StyleKind.TheVariants.{Fixed, Shared, Wild}
+use Rattle.rsvp_base.specs.declared.style.Unit.{Unit as UnitOf}
+use Rattle.rsvp_base.specs.declared.style.Unit.TheVariants.{Of, One}
 use Rattle.rsvp_base.specs.Sets.{set_of}
 use Rattle.rsvp_base.specs.Table.{empty}
 use Rattle.rsvp_base.specs.Members.{In}
-use Rattle.rsvp_base.specs.TokenBucket.{IsSound}
+use Rattle.rsvp_base.specs.TokenBucket.{IsSound, TokenBucket}
 use Rattle.router_rules.specs.Steps.{IsFitList}
 use Rattle.tree_model.specs.declared.hops.TreeHop.{TreeHop}
 use Rattle.tree_model.specs.Goals.{DemandsFit}
@@ -18,11 +22,19 @@ use Rattle.network_model.specs.RouterRules.Inputs.{SendAs, WantAs}
 use Rattle.network_model.specs.ThreeRouters.{first, flow, group, ip, r1, r2, s1, second, session, usual}
 use Rattle.network_model.specs.Events.{AtNode, Event, Pass, Traces}
 use Rattle.network_model.specs.Rows.{end_of, hop_of, line, plan_of, sends}
-use Rattle.network_model.specs.Runs.{Plan, run_text}
+use Rattle.network_model.specs.Runs.{Plan, last_world, run_text}
+use Rattle.settle_resvs.specs.SoftResvs.{resv_at}
 use Rattle.settle_network.specs.Settled.{HasSettled}
 use Rattle.settle_passes.specs.Reserving.{AsksNoLess, after_want}
 use Rattle.settle_passes.specs.Worked.{heard_world}
-use Rattle.settle_confirmations.specs.Requests.{IsOnlySender}
+use Rattle.settle_confirmations.specs.Requests.{IsOnlySender, arrival_units}
+
+-- the units that what is in flight asks for, or confirms, and their flows
+abbrev pub units_in : World → List UnitOf
+units_in w = flat_map (λ y. each (λ u. u.unit) (arrival_units y.arrival)) w.flight
+
+abbrev pub flows_in : World → List TokenBucket
+flows_in w = flat_map (λ y. each (λ u. u.flow) (arrival_units y.arrival)) w.flight
 
 -- ---- a receiver asks in the pair, once its node has the path, and for a confirmation: the premises of the law. And a line of two hops
 abbrev pub wishing_world : World
@@ -44,6 +56,8 @@ pub record AReceiverHears : Type 0 where
   -- the answer comes in the fourth of the passes
   pub last : run_text (line 10000 (AtNode 0 (SendAs session first usual) ∷ Pass 2 ∷ AtNode 2 (WantAs session Wild empty usual true) ∷ Pass 3 ∷ Traces true ∷ Pass 1 ∷ []))
       ≡ codes "t1 ResvConf taken\n"
+  -- and confirms what was asked for
+  pub flows : flows_in (last_world (line 10000 (AtNode 0 (SendAs session first usual) ∷ Pass 2 ∷ AtNode 2 (WantAs session Wild empty usual true) ∷ Pass 3 ∷ []))) ≡ usual ∷ []
 
 -- a hop of the tree of another source
 abbrev pub hop_from : Addr → ℕ → ℕ → TreeHop
@@ -70,6 +84,27 @@ pub record AnAnswerSpeaksOfAnother : Type 0 where
   pub text : run_text (shared_line (AtNode 0 (SendAs session first usual) ∷ AtNode 1 (SendAs session theirs usual) ∷ wants_of 2 first 200 false ∷ Pass 8
       ∷ Traces true ∷ wants_of 3 theirs 300 true ∷ Pass 9 ∷ []))
       ≡ codes "k2 Resv taken\nm2 Resv taken\ns1 Resv taken\nm1 ResvConf taken\nk1 ResvConf dropped NoState\n"
+
+-- ---- a line of three nodes, the first two of which send; the third wants something of both, each for itself. For the second sender nothing
+-- goes on, and the answer speaks of the first one alone
+abbrev pub both_send : List Event → Plan
+both_send events =
+    plan_of (record {
+      nodes = 3;
+      ends = end_of 0 s1 ∷ end_of 1 r1 ∷ end_of 1 r2 ∷ end_of 2 (ip 10 0 2 2) ∷ [];
+      links = (0 ∷ 1 ∷ []) ∷ (2 ∷ 3 ∷ []) ∷ [];
+      hops = hop_of 0 1 ∷ hop_of 2 3 ∷ hop_from r2 2 3 ∷ [];
+    }) (codes "s1" ∷ codes "r1" ∷ codes "r2" ∷ codes "t1" ∷ []) events
+
+abbrev pub wants_both : List Event → List Event
+wants_both events =
+    AtNode 0 (SendAs session first usual) ∷ AtNode 1 (SendAs session theirs usual) ∷ Pass 4 ∷ AtNode 2 (WantAs session Fixed (set_of (first ∷ theirs ∷ [])) usual true) ∷ events
+
+pub record AnAnswerLeavesOut : Type 0 where
+  pub text : run_text (both_send (wants_both (Traces true ∷ Pass 5 ∷ []))) ≡ codes "r2 Resv taken\ns1 Resv taken\nr1 ResvConf taken\nt1 ResvConf taken\n"
+  -- what is asked for, and what is confirmed
+  pub asked : units_in (last_world (both_send (wants_both []))) ≡ Of first ∷ Of theirs ∷ []
+  pub answered : units_in (last_world (both_send (wants_both (Pass 3 ∷ [])))) ≡ Of first ∷ []
 
 -- ---- a host with two ends, by which the paths of two senders come; where their ways part and meet again, each address to confirm takes
 -- the place of the other somewhere
@@ -125,3 +160,33 @@ pub record AReceiverTurnsAway : Type 0 where
 pub record ARequestIsRefused : Type 0 where
   pub text : run_text (line 1000 (sends ∷ Pass 2 ∷ Traces true ∷ asks_for 2 1001 ∷ Pass 4 ∷ []))
       ≡ codes "r2 Resv taken\ns1 Resv answered 1/2\nr1 ResvErr taken\nt1 ResvErr taken\n"
+
+-- ---- what is confirmed is the flow of the Resv that is answered. The router has a receiver of its own, for a smaller rate and a larger
+-- bucket: so more is confirmed than was asked for
+abbrev pub wants_flow : ℕ → ℕ → ℕ → Event
+wants_flow n rate depth = AtNode n (WantAs session Wild empty (flow rate depth 64 1500) false)
+
+pub record AnAnswerIsForMore : Type 0 where
+  pub flows : flows_in (last_world (line 10000 (sends ∷ wants_flow 1 200 900 ∷ Pass 4 ∷ asks_for 2 500 ∷ Pass 3 ∷ []))) ≡ flow 500 900 64 1500 ∷ []
+
+-- the flow that is reserved at the sender's end
+abbrev pub held_first : World → Option TokenBucket
+held_first w = option_map (λ x. x.part.flow) (resv_at w 0 Wild (session, ((0, r1), One)))
+
+-- the first end has 800 bytes per second. A receiver of the router has 400 of them, and one behind the router was refused 1,000 and has 700.
+-- It asks for 1,200, which the blockade keeps back: the Resv that goes on asks for 400 alone, but with the wish, and is answered
+abbrev pub was_refused : List Event
+was_refused = sends ∷ Pass 2 ∷ wants_flow 1 400 600 ∷ wants_flow 2 1000 600 ∷ Pass 6 ∷ wants_flow 2 700 600 ∷ Pass 4 ∷ []
+
+pub record LessIsConfirmed : Type 0 where
+  pub text : run_text (line 800 (was_refused ++ Traces true ∷ asks_for 2 1200 ∷ Pass 4 ∷ [])) ≡ codes "r2 Resv taken\ns1 Resv taken\nr1 ResvConf taken\nt1 ResvConf taken\n"
+  pub flows : flows_in (last_world (line 800 (was_refused ++ asks_for 2 1200 ∷ Pass 3 ∷ []))) ≡ flow 400 600 64 1500 ∷ []
+  pub held : held_first (last_world (line 800 (was_refused ++ asks_for 2 1200 ∷ Pass 3 ∷ []))) ≡ Some (flow 400 600 64 1500)
+
+-- ---- one receiver asks, and before its request is far another one asks for less, and for a confirmation
+abbrev pub asked_first : List Event → List Event
+asked_first events = sends ∷ Pass 3 ∷ wants_flow 3 400 600 ∷ asks_for 4 300 ∷ events
+
+pub record AnAnswerIsEarly : Type 0 where
+  pub text : run_text (behind_one (asked_first (Traces true ∷ Pass 2 ∷ []))) ≡ codes "q2 Resv taken\nq3 Resv taken\nr2 Resv taken\nu1 ResvConf taken\n"
+  pub held : held_first (last_world (behind_one (asked_first (Pass 2 ∷ [])))) ≡ None

@@ -18,25 +18,37 @@ ghost use Rattle.network_model.specs.Steps.{machine};
 ghost use Rattle.network_model.specs.Worlds.{Item, World};
 ghost use Rattle.settle_network.specs.Settled.{HasSettled};
 ghost use Rattle.settle_passes.specs.Reserving.{AsksNoLess, IsReserving, after_want};
-ghost use Rattle.settle_confirmations.specs.Requests.{IsAnswered, IsOnlySender, IsRequest};
+ghost use Rattle.settle_confirmations.specs.Requests.{IsAnswered, IsConfirmed, IsForAtLeast, IsOnlySender, IsRequest};
 
 /// Requests for a confirmation are answered: in a network that sets up the reservations of a session with one sender, and in which all that
-/// is in flight are requests of one end, a ResvConf for it comes to that end within 2 H passes, and speaks of the sender. H is the length
-/// of the longest chain: the request goes up one hop a pass until nothing new is to be asked for, and the ResvConf comes down one hop a
-/// pass.
+/// is in flight are requests of one end, for each of them a ResvConf comes to that end within 2 H passes, speaks of the sender, and confirms
+/// at least what the request asks for. H is the length of the longest chain: the request goes up one hop a pass until nothing new is to be
+/// asked for, and the ResvConf comes down one hop a pass.
 pub fn requests_are_answered()
-    ensures { (q : ℕ) (s : Session) (st : StyleKind) (x : Sender) (e : ℕ) (w : World) → IsReserving q s w → IsOnlySender w s x → e < length w.net.ends
-        → (y : Item) → In y w.flight → ((z : Item) → In z w.flight → IsRequest w s st e z) → Happens (machine q) (IsAnswered s st x e) (passes q (2 * longest w.net) w) w }
+    ensures { (q : ℕ) (s : Session) (st : StyleKind) (x : Sender) (flow : TokenBucket) (e : ℕ) (w : World) → IsReserving q s w → IsOnlySender w s x → e < length w.net.ends
+        → (y : Item) → In y w.flight → IsForAtLeast flow y → ((z : Item) → In z w.flight → IsRequest w s st e z)
+        → Happens (machine q) (IsAnswered s st x flow e) (passes q (2 * longest w.net) w) w }
 {}
 
-/// So a receiver that asks for a confirmation gets one within 2 H passes, whatever its style: in a settled network in which nothing is in
-/// flight, where the session has one sender, the receiver asks for no less than its node did before, the demands fit then too, and its
-/// node sends something for the call. Where it sends nothing, as for what it has already, nobody answers; nor always where the session has
-/// two senders, of one host or of two.
+/// So a receiver that asks for a confirmation gets one within 2 H passes, whatever its style, and it confirms at least what the receiver asks
+/// for: in a settled network in which nothing is in flight, where the session has one sender, the receiver asks for no less than its node
+/// did before, the demands fit then too, and its node sends something for the call. Where it sends nothing, as for what it has already,
+/// nobody answers; nor always where the session has two senders, of one host or of two.
 pub fn a_receiver_is_answered()
     ensures { (q n : ℕ) (s : Session) (st : StyleKind) (names : Names) (flow : TokenBucket) (x : Sender) (w : World) → IsStart q w → HasSettled q w → w.flight ≡ []
         → IsOnlySender w s x → IsFitList st names → IsSound flow → AsksNoLess w n s st names flow true → DemandsFit w.net (locals_of (after_want q n s st names flow true w))
         → (y : Item) → In y (after_want q n s st names flow true w).flight
         → (e : ℕ) × (node_of w.net.ends e ≡ n)
-        × Happens (machine q) (IsAnswered s st x e) (passes q (2 * longest w.net) (after_want q n s st names flow true w)) (after_want q n s st names flow true w) }
+        × Happens (machine q) (IsAnswered s st x flow e) (passes q (2 * longest w.net) (after_want q n s st names flow true w)) (after_want q n s st names flow true w) }
+{}
+
+/// And what is confirmed is held, all along: under the same premises, when the answer comes, over each hop of the way from the sender to the
+/// receiver a reservation of the sender has at least what the receiver asks for, and the network has settled again. So each book is then the
+/// demand, and what the receiver learns is not only of the router that answered it.
+pub fn what_is_confirmed_is_held()
+    ensures { (q n : ℕ) (s : Session) (st : StyleKind) (names : Names) (flow : TokenBucket) (x : Sender) (w : World) → IsStart q w → HasSettled q w → w.flight ≡ []
+        → IsOnlySender w s x → IsFitList st names → IsSound flow → AsksNoLess w n s st names flow true → DemandsFit w.net (locals_of (after_want q n s st names flow true w))
+        → (y : Item) → In y (after_want q n s st names flow true w).flight
+        → (e : ℕ) × (node_of w.net.ends e ≡ n)
+        × Happens (machine q) (IsConfirmed q s st x flow e) (passes q (2 * longest w.net) (after_want q n s st names flow true w)) (after_want q n s st names flow true w) }
 {}

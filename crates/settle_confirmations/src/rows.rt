@@ -1,8 +1,9 @@
 //! Worked rows: small networks, by computing.
-ghost use Rattle.settle_confirmations.specs.Worked.{AReceiverHears, AReceiverTurnsAway, ARequestIsRefused, AnAnswerSpeaksOfAnother, TwoEndsHearNothing, TwoReceiversAskAtOnce};
+ghost use Rattle.settle_confirmations.specs.Worked.{AReceiverHears, AReceiverTurnsAway, ARequestIsRefused, AnAnswerIsEarly, AnAnswerIsForMore, AnAnswerLeavesOut, AnAnswerSpeaksOfAnother};
+ghost use Rattle.settle_confirmations.specs.Worked.{LessIsConfirmed, TwoEndsHearNothing, TwoReceiversAskAtOnce};
 
-/// A receiver in a pair of nodes meets the premises of `a_receiver_is_answered`; and in a line of two hops the answer comes in the fourth
-/// pass, the last of the 2 H.
+/// A receiver in a pair of nodes meets the premises of `a_receiver_is_answered` and of `what_is_confirmed_is_held`; and in a line of two hops
+/// the answer comes in the fourth pass, the last of the 2 H, and confirms what was asked for.
 pub fn a_receiver_hears()
     ensures { AReceiverHears }
 {}
@@ -11,6 +12,12 @@ pub fn a_receiver_hears()
 /// so that a request goes on for the sake of the other sender alone, and the answer, which speaks of that one, is dropped.
 pub fn an_answer_speaks_of_another()
     ensures { AnAnswerSpeaksOfAnother }
+{}
+
+/// With a fixed filter, where a receiver asks for two senders at once, the answer need not speak of each: where for one of them nothing goes
+/// on from a router, and for the other something does, it speaks of the other alone.
+pub fn an_answer_leaves_out()
+    ensures { AnAnswerLeavesOut }
 {}
 
 /// Nor with a wildcard filter, where one host sends by two addresses: by two ends of a receiver come the paths of two senders, and it asks by
@@ -35,4 +42,23 @@ pub fn a_receiver_turns_away()
 /// Nor without the premise that the demands fit: what is asked for is refused, and what comes back is a ResvErr.
 pub fn a_request_is_refused()
     ensures { ARequestIsRefused }
+{}
+
+/// What is confirmed can be more than was asked for: where a router has a receiver of its own that asks for a smaller rate and a larger
+/// bucket, the Resv that goes on, and so the ResvConf, has the merge of both.
+pub fn an_answer_is_for_more()
+    ensures { AnAnswerIsForMore }
+{}
+
+/// Not without the premise that the demands fit is at least as much confirmed as was asked for, or held at each end: a receiver that asks for
+/// 1,200 bytes per second behind a router that keeps this back by a blockade, and has 400 for a receiver of its own, gets a confirmation of
+/// 400, from the end before that router.
+pub fn less_is_confirmed()
+    ensures { LessIsConfirmed }
+{}
+
+/// Nor without the premise that nothing is in flight is what is confirmed held all along: where another receiver has just asked for more, the
+/// router in which the two meet answers at once, before the first end of the way holds anything.
+pub fn an_answer_is_early()
+    ensures { AnAnswerIsEarly }
 {}

@@ -1,0 +1,5 @@
+use Rattle.settle_confirmations.proofs.Worked.{an_answer_is_early}
+use Rattle.settle_confirmations.proofs.rows.an_answer_is_early.Goals as goal
+
+pub returns : goal.returns
+returns c = an_answer_is_early
