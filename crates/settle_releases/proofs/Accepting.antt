@@ -24,7 +24,7 @@ use Rattle.laws_inputs.proofs.Knowing.{known_and_via}
 use Rattle.laws_steps.specs.AcceptingLaws.{CanBeTaken, IsPlaced, IsTakenWhole}
 use Rattle.laws_steps.proofs.Admitting.{what_is_accepted}
 use Rattle.router_rules.specs.Asking.{Asker, asker_of, matched}
-use Rattle.router_rules.specs.Facts.{Facts, resvs_of, ResvState}
+use Rattle.router_rules.specs.Facts.{Facts, resvs_of}
 use Rattle.router_rules.specs.Inputs.{Spelt}
 use Rattle.router_rules.specs.Known.{known, named_as}
 use Rattle.router_rules.specs.NodeConfig.{NodeConfig, goes_out}
@@ -42,7 +42,7 @@ use Rattle.tree_model.proofs.TreeLaws.{out_tested, the_root_has_no_inward}
 use Rattle.tree_model.proofs.WantLaws.{name_told, want_names}
 use Rattle.network_model.specs.Bounds.{AreBounds, AreHosts, IsProperArrival}
 use Rattle.network_model.specs.Locals.{locals_of, want_at}
-use Rattle.network_model.specs.Sound.{ArePathsComplete, ArePathsSound, IsSoundPart, IsSoundResv, IsSoundUnit}
+use Rattle.network_model.specs.Sound.{ArePathsComplete, ArePathsSound, IsSoundPart, IsSoundUnit}
 use Rattle.network_model.specs.Steps.{Step, outcome, sent, still}
 use Rattle.network_model.specs.Worlds.{Item, World, config_of}
 use Rattle.network_model.proofs.NodeLocals.{node_wants}
@@ -53,7 +53,6 @@ use Rattle.settle_resvs.proofs.GoalByIface.{session_can_be_held}
 use Rattle.settle_resvs.proofs.UnderTheGoal.{has_place, sound_under, want_needs}
 use Rattle.settle_paths.proofs.PreviousHops.{previous_hops_are_all_hops}
 use Rattle.rsvp_base.specs.declared.style.StyleKind.{StyleKind}
-use Rattle.style_rules.specs.Lines.{LineKey}
 use Rattle.laws_inputs.specs.SendLaws.{IsAskedOf}
 use Rattle.laws_inputs.proofs.Asks.{units_told}
 use Rattle.laws_steps.specs.ReservationLaws.{Touches}
@@ -65,14 +64,15 @@ use Rattle.settle_resvs.specs.Said.{HopKey, resv_key}
 use Rattle.settle_resvs.specs.SoftResvs.{line_key_of}
 use Rattle.settle_resvs.proofs.ResvSends.{over_hop}
 use Rattle.settle_resvs.proofs.SoftResvs.{resv_found, resv_made}
+use Rattle.settle_resvs.proofs.SoundResvs.{part_again}
 use Rattle.settle_resvs.proofs.TowardNames.{parts_of_style}
 use Rattle.settle_passes.specs.Reserving.{IsKeptOver}
 use Rattle.settle_passes.proofs.Turns.{Turns, addressed_in_turn, left, moment, place, resv_in_turn}
-use Rattle.settle_releases.proofs.Within.{WantedMore, as_before, named_within, same_names, toward_is_at_most_what_was_wanted}
+use Rattle.settle_releases.proofs.Within.{WantedMore, as_before, named_within, same_names, toward_is_at_most_what_was_wanted, AreKeptWithin}
 
 -- what nodes keep, and each unit of a Resv in flight, is at most what was wanted before
 pub record AreResvsWithin (before : List Facts) (w : World) : Type 0 where
-  pub facts : (st : StyleKind) (n : ℕ) (f : Facts) (k : LineKey) (r : ResvState) → slice_get w.nodes n ≡ Some f → get (resvs_of st f) k ≡ Some r → IsSoundResv st (as_before before w) n k r
+  pub facts : AreKeptWithin before w
   pub items : (y : Item) (m : ResvMsg) (u : AskedUnit) → In y w.flight → y.arrival ≡ Spelt (message.Resv m) → In u (asked_units m.ask) → IsSoundUnit (as_before before w) y m u
 
 -- a proper Resv asks for something
@@ -173,15 +173,14 @@ module _ (q : ℕ) (s : Session) (before : List Facts) (u : World) (bounds : Are
 -- ---- a step by which a node follows its rule at most, without time going by
 module _ (q : ℕ) (t : Step) (u : World) (bounds : AreBounds q u) (turns : (n : ℕ) (f : Facts) → slice_get u.nodes n ≡ Some f → (outcome q t u n f ≡ still f) ⊎ Turns q t u n f) where
   -- each unit of a Resv that is sent is within what was wanted, where what nodes keep is
-  pub unit_within : (before : List Facts) → AreBounds q (left q t u) → ArePathsSound (left q t u) → WantedMore before (left q t u)
-      → ((st : StyleKind) (n : ℕ) (f : Facts) (k : LineKey) (r : ResvState) → slice_get (left q t u).nodes n ≡ Some f → get (resvs_of st f) k ≡ Some r → IsSoundResv st (as_before before (left q t u)) n k r)
-      → (y : Item) (b : Bool) (m : ResvMsg) → In (y, b) (sent q t u) → y.arrival ≡ Spelt (message.Resv m) → (v : AskedUnit) → In v (asked_units m.ask) → IsSoundUnit (as_before before (left q t u)) y m v
+  pub unit_within : (before : List Facts) → AreBounds q (left q t u) → ArePathsSound (left q t u) → WantedMore before (left q t u) → AreKeptWithin before (left q t u)
+      → (y : Item) (b : Bool) (m : ResvMsg) → In (y, b) (sent q t u) → y.arrival ≡ Spelt (message.Resv m) → (v : AskedUnit) → In v (asked_units m.ask)
+      → IsSoundUnit (as_before before (left q t u)) y m v
   unit_within before bounds' sound more facts y b m i spelt v asks =
       let p = resv_in_turn q t u bounds turns y b m i spelt in
       let h = over_hop q (left q t u) bounds' sound y m p (addressed_in_turn q t u bounds turns bounds' sound y b m i spelt) in
-      let asked : IsAskedOf (toward (place q t u p.node) p.facts p.lane) v =
-      (units_told p.lane.style (toward (place q t u p.node) p.facts p.lane) m.ask v (parts_of_style (place q t u p.node) (left q t u).clock p.facts (bounds'.facts p.node p.facts p.after) p.lane) p.asks).0
-      asks in
+      let parts = parts_of_style (place q t u p.node) (left q t u).clock p.facts (bounds'.facts p.node p.facts p.after) p.lane in
+      let asked : IsAskedOf (toward (place q t u p.node) p.facts p.lane) v = (units_told p.lane.style (toward (place q t u p.node) p.facts p.lane) m.ask v parts p.asks).0 asks in
       let x = toward_is_at_most_what_was_wanted q before (left q t u) bounds' sound more p.node p.facts p.after p.lane h.0 h.1
       (named_within before (left q t u) facts p.lane.style p.node p.facts p.lane.session (rank u.net p.lane.session.group h.0) p.after) v.unit asked.part asked.there in
       record {
@@ -191,12 +190,30 @@ module _ (q : ℕ) (t : Step) (u : World) (bounds : AreBounds q u) (turns : (n :
             (λ j. (sym p.style j, sym p.session j, h.2 j, (ap (addr_of u.net) h.3 ∙ sym p.hop) j, sym asked.flow j)) x;
       }
 
+  -- so all is within what was wanted, where what nodes keep is and what was in flight was
+  pub within_after : (before : List Facts) → AreBounds q (left q t u) → ArePathsSound (left q t u) → WantedMore before (left q t u) → AreKeptWithin before (left q t u)
+      → AreResvsWithin before u → ((y : Item) → In y (left q t u).flight → In y u.flight ⊎ ((b : Bool) × In (y, b) (sent q t u))) → AreResvsWithin before (left q t u)
+  within_after before bounds' sound more facts within split = record {
+    facts = facts;
+    items = λ y m v i spelt asks.
+        ⊎_elim
+        (λ (old : In y u.flight).
+        let x = within.items y m v old spelt asks in
+        record {
+          names = x.names;
+          named = x.named;
+          sound = part_again (ask_style m.ask) (as_before before u) (as_before before (left q t u)) m.session y.end m.hop.addr v.unit (record { senders = x.names; flow = v.flow }) refl refl x.sound;
+        })
+        (λ (new : (b : Bool) × In (y, b) (sent q t u)). unit_within before bounds' sound more facts y new.0 m new.1 spelt v asks) (split y i);
+  }
+
   -- a reservation that nothing touches stays
   module _ (before : List Facts) (hosts : AreHosts u) (paths : ArePathsSound u) (complete : ArePathsComplete u) (more : WantedMore before u) (within : AreResvsWithin before u)
       (now : moment q t u ≡ u.clock)
       (known_on : (n : ℕ) (f : Facts) (s : Session) (x : Sender) → slice_get u.nodes n ≡ Some f → has (known f s) x ≡ true → has (known (outcome q t u n f).facts s) x ≡ true) where
     pub kept_on : (k : HopKey) (v : Part) (c : IsKeptOver u k v)
-        → ((f : Facts) → slice_get u.nodes (node_of u.net.ends k.to) ≡ Some f → (h : Turns q t u (node_of u.net.ends k.to) f) → Touches h.input k.style (line_key_of u.net (resv_key u.net k)) c.resv → ⊥)
+        → ((f : Facts) → slice_get u.nodes (node_of u.net.ends k.to) ≡ Some f → (h : Turns q t u (node_of u.net.ends k.to) f)
+        → Touches h.input k.style (line_key_of u.net (resv_key u.net k)) c.resv → ⊥)
         → IsKeptOver (left q t u) k v
     kept_on k v c untouched =
         let n : ℕ = node_of u.net.ends k.to in

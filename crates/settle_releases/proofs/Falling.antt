@@ -71,7 +71,8 @@ module _ (q : ℕ) (s : Session) (before : List Facts) where
   less_still i j le u y c k v of there near l = c k v of there (omega (arith, le, near)) l
 
   -- ---- a reservation over a hop where all is exact is sound by what is wanted now
-  sound_where_exact : (u : World) → IsReceding q s before u → (st : StyleKind) (n : ℕ) (f : Facts) (k : LineKey) (r : ResvState) → slice_get u.nodes n ≡ Some f → get (resvs_of st f) k ≡ Some r → k.0 ≡ s
+  sound_where_exact : (u : World) → IsReceding q s before u → (st : StyleKind) (n : ℕ) (f : Facts) (k : LineKey) (r : ResvState)
+      → slice_get u.nodes n ≡ Some f → get (resvs_of st f) k ≡ Some r → k.0 ≡ s
       → (h : LinkHop) → In h (hops_of u.net.hops k.0.group) → node_of u.net.ends h.from ≡ n → iface_of u.net.ends h.from ≡ k.1.0.0 → addr_of u.net h.to ≡ k.1.0.1 → IsExact st u s h
       → IsSoundResv st u n k r
   sound_where_exact u r st n f k x at e of h there node iface to exact =
@@ -187,7 +188,8 @@ module _ (q : ℕ) (s : Session) (before : List Facts) where
               let bad : None ≡ Some x = sym none.none ∙ resv_made u (node_of u.net.ends h.from) st (line_key_of u.net (resv_key u.net k)) f at ∙ e in cc)
               (λ (later : IsTornLater u k).
               let flies : In later.item u.flight = subst (λ (ys : List Item). In later.item ys) (sym later.is) (in_right later.item later.front (later.item ∷ later.back) (inl refl)) in
-              let goes_away : stays (tear_names later.tears.tear.tear) later.tears.some.0 ≡ false = ap (λ (o : Option Names). stays o later.tears.some.0) later.tears.lists ∙ ap not later.tears.some.1 in
+              let goes_away : stays (tear_names later.tears.tear.tear) later.tears.some.0 ≡ false =
+              ap (λ (o : Option Names). stays o later.tears.some.0) later.tears.lists ∙ ap not later.tears.some.1 in
               still later.item flies k (record { senders = later.names; flow = x.part.flow }) refl there near
               (inr (later.tears.tear, later.tears.spelt, later.tears.over, record { name = later.tears.some.0; was = later.tears.some.1; goes = goes_away })))
               (r.torn k g.0 refl there g.1 (ap (λ (z : PartTable). get z un) goes ∙ wanted)))
@@ -200,7 +202,8 @@ module _ (q : ℕ) (s : Session) (before : List Facts) where
   same_on o u r same = same_next q 0 u r.paths.bounds o same
 
   -- over hops of ranks up to one higher than those without letters it sends none
-  new_still : (u : World) (r : IsReceding q s before u) (j : ℕ) → ((y : Item) → In y u.flight → Still j u y) → (i : ℕ) → i ≤ suc j → (y : Item) (b : Bool) → In (y, b) (sent q (Deliver 0) u) → Still i u y
+  new_still : (u : World) (r : IsReceding q s before u) (j : ℕ) → ((y : Item) → In y u.flight → Still j u y) → (i : ℕ) → i ≤ suc j
+      → (y : Item) (b : Bool) → In (y, b) (sent q (Deliver 0) u) → Still i u y
   new_still u r j still zero le y b new k v of there near l = let some = rank_some u.net r.paths.bounds.net.loop_free k.session.group (hop_over k) there in absurd (omega (arith, some, near))
   new_still u r j still (suc i) le y b new k v of there near l =
       let next : World = step q (Deliver 0) u in
@@ -285,7 +288,8 @@ module _ (q : ℕ) (s : Session) (before : List Facts) where
       (d.0, λ y i. subst (λ (z : ℕ). Still z (after_passes q n w) y) sum (d.1 y i), d.2)
 
   -- ---- so H passes on they are exactly what is wanted, and no Resv of the session is in flight
-  pub reservations_recede : (w : World) → IsReceding q s before w → IsReceding q s before (after_passes q (longest w.net) w) × HasReserved s (after_passes q (longest w.net) w) × IsSameNet w (after_passes q (longest w.net) w)
+  pub reservations_recede : (w : World) → IsReceding q s before w
+      → IsReceding q s before (after_passes q (longest w.net) w) × HasReserved s (after_passes q (longest w.net) w) × IsSameNet w (after_passes q (longest w.net) w)
   reservations_recede w r =
       let u : World = after_passes q (longest w.net) w in
       let d = fall (longest w.net) w r in

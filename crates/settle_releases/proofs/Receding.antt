@@ -1,6 +1,6 @@
 -- Reservations that recede: one delivery keeps what is on its way in line with what is asked for, and what is asked for no more is torn
 -- down.
-use Rattle.std.proofs.Common.{◌≡◌, ℕ, ◌+◌, ◌<◌, List, [], ◌∷◌, ◌++◌, length, Bool, true, false, Option, None, Some, ◌⊎◌, inl, inr, ⊎_elim, arith, sym, refl, ap, subst, ◌∙◌}
+use Rattle.std.proofs.Common.{◌≡◌, ℕ, ◌+◌, ◌<◌, List, [], ◌∷◌, ◌++◌, length, Bool, true, false, Option, None, Some, ◌⊎◌, inl, inr, ⊎_elim, arith, sym, refl, ap, subst, ◌∙◌, append_assoc}
 use Rattle.std.specs.Prelude.{slice_get, not}
 use Rattle.std.specs.List.{remove}
 use Rattle.std.specs.Ordering.{eq_by_cmp}
@@ -24,7 +24,6 @@ use Rattle.rsvp_messages.specs.declared.message.ResvMsg.{ResvMsg}
 use Rattle.rsvp_messages.specs.Units.{ask_style, tear_style}
 use Rattle.style_rules.specs.declared.target.Target.TheVariants as target
 use Rattle.style_rules.specs.Lines.{LineKey}
-use Rattle.style_rules.specs.Merge.{PartTable}
 use Rattle.style_rules.specs.PartLaws.{same_part}
 use Rattle.style_rules.specs.Targets.{WallKey}
 use Rattle.laws_steps.specs.AcceptingLaws.{IsTakenWhole}
@@ -48,7 +47,7 @@ use Rattle.tree_model.specs.Trees.{hops_of}
 use Rattle.tree_model.proofs.Ifaces.{interfaces_are_ends}
 use Rattle.network_model.specs.Bounds.{AreBounds}
 use Rattle.network_model.specs.Locals.{locals_of}
-use Rattle.network_model.specs.Sound.{ArePathsSound, IsSoundPart, IsSoundResv, ArePathsComplete}
+use Rattle.network_model.specs.Sound.{ArePathsSound, IsSoundPart, ArePathsComplete}
 use Rattle.network_model.specs.Steps.{Deliver, input_at, outcome, sent, step, still}
 use Rattle.network_model.specs.Worlds.{Item, World, config_of}
 use Rattle.network_model.proofs.Machines.{in_arrived, in_flight_after, in_rest}
@@ -71,14 +70,15 @@ use Rattle.settle_passes.proofs.SoundParts.{sound_cut}
 use Rattle.rsvp_messages.specs.declared.message.ResvTearMsg.{ResvTearMsg}
 use Rattle.router_rules.specs.Asking.{stays}
 use Rattle.settle_passes.specs.Calls.{HasItsPaths}
-use Rattle.settle_passes.proofs.Reserving.{all_append, last_asked, last_before, last_behind}
-use Rattle.settle_passes.proofs.Turns.{IsAskedNow, Turns, addressed_in_turn, all_ask, news, stays_or_asked}
+use Rattle.settle_passes.proofs.Reserving.{all_append, last_before}
+use Rattle.settle_passes.proofs.Turns.{Turns, addressed_in_turn, news}
 use Rattle.settle_paths.specs.PreviousHops.{IsPrevious}
-use Rattle.settle_releases.proofs.Within.{WantedMore, as_before}
-use Rattle.settle_releases.proofs.Accepting.{AreResvsWithin, kept_on, taken_within, unit_within}
+use Rattle.settle_releases.proofs.Within.{WantedMore, as_before, AreKeptWithin}
+use Rattle.settle_releases.proofs.Accepting.{AreResvsWithin, kept_on, taken_within, within_after}
 use Rattle.settle_releases.proofs.Tears.{nothing_left}
 use Rattle.tree_model.specs.Wants.{Locals, names}
-use Rattle.settle_releases.proofs.TakenBack.{AllWithin, AreTakenBack, AsksWithin, ComesWithin, IsForgotten, IsHeldWithin, IsTearBack, IsTornLater, IsWithinLast, NoneAsks, comes_within, each_append, held_within, none_append, none_asks, torn_later, torn_now}
+use Rattle.settle_releases.proofs.TakenBack.{AllWithin, AreTakenBack, AsksWithin, ComesWithin, IsForgotten, IsHeldWithin, IsTearBack, IsTornLater, IsWithinLast, NoneAsks}
+use Rattle.settle_releases.proofs.TakenBack.{asked_after, comes_within, gone_before_or_now, held_within, none_append, none_asks, torn_later}
 
 -- ---- a network in which the reservations of a session follow what is wanted, while no more is wanted than before, which fits
 pub record IsReceding (q : ℕ) (s : Session) (before : List Facts) (w : World) : Type 0 where
@@ -128,10 +128,14 @@ module _ (q : ℕ) (s : Session) (before : List Facts) (u : World) (r : IsRecedi
       (outcome_quiet q (Deliver 0) u n f refl)
 
   more_next : WantedMore before next
-  more_next = record { senders = r.more.senders ∙ ap (λ (z : Locals). z.senders) (sym same.locals); parts = r.more.parts; wants = λ x i. r.more.wants x (subst (λ (z : Locals). In x z.wants) same.locals i) }
+  more_next = record {
+    senders = r.more.senders ∙ ap (λ (z : Locals). z.senders) (sym same.locals);
+    parts = r.more.parts;
+    wants = λ x i. r.more.wants x (subst (λ (z : Locals). In x z.wants) same.locals i);
+  }
 
   -- ---- reservations stay within what was wanted
-  facts_within : (st : StyleKind) (n : ℕ) (g : Facts) (k : LineKey) (x : ResvState) → slice_get next.nodes n ≡ Some g → get (resvs_of st g) k ≡ Some x → IsSoundResv st (as_before before next) n k x
+  facts_within : AreKeptWithin before next
   facts_within st n g k x at h =
       let e = end_of q u.net u.trees n k.1.0.0 ((bounds'.facts n g at).shapes.resvs st k x h).iface in
       let of = (interfaces_are_ends u.net).iface_of_end n k.1.0.0 e.0 e.1 in
@@ -157,21 +161,7 @@ module _ (q : ℕ) (s : Session) (before : List Facts) (u : World) (r : IsRecedi
       record { end = e.0; at = e.1; sound = part_again st (as_before before u) (as_before before next) k.0 e.0 k.1.0.1 k.1.1 x.part refl refl good }
 
   within_next : AreResvsWithin before next
-  within_next = record {
-    facts = facts_within;
-    items = λ y m v i spelt asks.
-        ⊎_elim
-        (λ (old : In y u.flight).
-        let x = r.within.items y m v old spelt asks in
-        record {
-          names = x.names;
-          named = x.named;
-          sound = part_again (ask_style m.ask) (as_before before u) (as_before before next) m.session y.end m.hop.addr v.unit (record { senders = x.names; flow = v.flow }) refl refl x.sound;
-        })
-        (λ (new : (b : Bool) × In (y, b) (sent q (Deliver 0) u)).
-        unit_within q (Deliver 0) u bounds turns before bounds' paths' more_next facts_within y new.0 m new.1 spelt v asks)
-        (in_flight_after q (Deliver 0) u y refl i);
-  }
+  within_next = within_after q (Deliver 0) u bounds turns before bounds' paths' more_next facts_within r.within (λ y i. in_flight_after q (Deliver 0) u y refl i)
 
   -- ---- a Resv of the session that arrives is taken whole
   pub taken : (y : Item) (m : ResvMsg) (f : Facts) → In y u.flight → y.arrival ≡ Spelt (message.Resv m) → m.session ≡ s → slice_get u.nodes (node_of u.net.ends y.end) ≡ Some f
@@ -380,16 +370,12 @@ module _ (q : ℕ) (s : Session) (before : List Facts) (u : World) (r : IsRecedi
   asked_next : AreAskedFor q s next
   asked_next k v g of there at goes =
       let n : ℕ = node_of u.net.ends k.from in
-      let p : NodeConfig = config_of q u.net u.trees n in
       let f = facts_after_found q (Deliver 0) u n g at in
-      let goes' : get (toward p (outcome q (Deliver 0) u n f.0).facts (lane_of u.net k)) k.unit ≡ Some v = ap (λ (z : Facts). get (toward p z (lane_of u.net k)) k.unit) (sym f.2) ∙ goes in
+      let goes' : get (toward (config_of q u.net u.trees n) (outcome q (Deliver 0) u n f.0).facts (lane_of u.net k)) k.unit ≡ Some v =
+      ap (λ (z : Facts). get (toward (config_of q u.net u.trees n) z (lane_of u.net k)) k.unit) (sym f.2) ∙ goes in
       let new : List Item = news q (Deliver 0) u in
-      let all_new : AllAsk u.net k v new =
-      (λ y i l.
-      let x = in_each (λ (z : Item × Bool). z.0) y (sent q (Deliver 0) u) i in
-      all_ask q (Deliver 0) u bounds turns bounds' paths' k there g at v goes y x.0.1 (subst (λ (z : Item). In (z, x.0.1) (sent q (Deliver 0) u)) (sym x.2) x.1) l) in
-      ⊎_elim
-      (λ (stays : toward p f.0 (lane_of u.net k) ≡ toward p (outcome q (Deliver 0) u n f.0).facts (lane_of u.net k)).
+      asked_after q (Deliver 0) u bounds turns bounds' paths' k there next (remove u.flight 0) v f.0 f.1 goes'
+      (λ went all_new.
       ⊎_elim
       (λ (c : IsKeptOver u k v × AllAsk u.net k v u.flight).
       inl (
@@ -397,10 +383,7 @@ module _ (q : ℕ) (s : Session) (before : List Facts) (u : World) (r : IsRecedi
         all_append u.net k v (remove u.flight 0) new (λ y i l. c.1 y (in_rest (Deliver 0) u y refl i) l) all_new,
       ))
       (λ (last : IsAskedLast u.net k v u.flight). by_flight k v of there new all_new u.flight refl last)
-      (r.asked k v f.0 of there f.1 (ap (λ (z : PartTable). get z k.unit) stays ∙ goes')))
-      (λ (now : (x : Part) → get (toward p (outcome q (Deliver 0) u n f.0).facts (lane_of u.net k)) k.unit ≡ Some x → IsAskedNow q (Deliver 0) u bounds turns bounds' paths' k there x).
-      let x = now v goes' in inr (last_behind u.net k v (remove u.flight 0) new (last_asked u.net k v new x.item x.new x.says all_new)))
-      (stays_or_asked q (Deliver 0) u bounds turns bounds' paths' k there f.0 f.1)
+      (r.asked k v f.0 of there f.1 went))
     where
       by_flight : (k : HopKey) (v : Part) (of : k.session ≡ s) (there : In (hop_over k) (hops_of u.net.hops k.session.group)) (new : List Item) → AllAsk u.net k v new
           → (ys : List Item) → u.flight ≡ ys → IsAskedLast u.net k v ys
@@ -523,7 +506,7 @@ module _ (q : ℕ) (s : Session) (before : List Facts) (u : World) (r : IsRecedi
               front = ys;
               item = l.item;
               back = l.back ++ new;
-              is = flight ∙ ap (λ (zs : List Item). zs ++ new) rest ∙ sym (each_append ys (l.item ∷ l.back) new);
+              is = flight ∙ ap (λ (zs : List Item). zs ++ new) rest ∙ append_assoc ys (l.item ∷ l.back) new;
               names = l.names;
               tears = l.tears;
               within = comes_next l.names y ys arr within;
@@ -533,39 +516,30 @@ module _ (q : ℕ) (s : Session) (before : List Facts) (u : World) (r : IsRecedi
   taken_back_next : AreTakenBack q s next
   taken_back_next k g of there at none =
       let n : ℕ = node_of u.net.ends k.from in
-      let p : NodeConfig = config_of q u.net u.trees n in
       let l : Lane = lane_of u.net k in
       let f = facts_after_found q (Deliver 0) u n g at in
-      let none' : get (toward p (outcome q (Deliver 0) u n f.0).facts l) k.unit ≡ None = ap (λ (z : Facts). get (toward p z l) k.unit) (sym f.2) ∙ none in
+      let after : Facts = (outcome q (Deliver 0) u n f.0).facts in
+      let none' : get (toward (config_of q u.net u.trees n) after l) k.unit ≡ None = ap (λ (z : Facts). get (toward (config_of q u.net u.trees n) z l) k.unit) (sym f.2) ∙ none in
       let new : List Item = news q (Deliver 0) u in
       let quiet : NoneAsks u.net k new = none_asks q (Deliver 0) u bounds turns bounds' paths' k there g at none in
-      by k g of there at f.0 f.1 none' quiet (get (toward p f.0 l) k.unit) refl
-    where
-      by : (k : HopKey) (g : Facts) (of : k.session ≡ s) (there : In (hop_over k) (hops_of u.net.hops k.session.group)) (at : slice_get next.nodes (node_of u.net.ends k.from) ≡ Some g)
-          (f : Facts) (was_at : slice_get u.nodes (node_of u.net.ends k.from) ≡ Some f)
-          (none : get (toward (config_of q u.net u.trees (node_of u.net.ends k.from)) (outcome q (Deliver 0) u (node_of u.net.ends k.from) f).facts (lane_of u.net k)) k.unit ≡ None)
-          (quiet : NoneAsks u.net k (news q (Deliver 0) u)) (o : Option Part) → get (toward (config_of q u.net u.trees (node_of u.net.ends k.from)) f (lane_of u.net k)) k.unit ≡ o
-          → IsForgotten next k ⊎ IsTornLater next k
-      by k g of there at f was_at none quiet None e =
-          ⊎_elim
-          (λ (x : IsForgotten u k).
-          inl (record {
-            none = none_next k of there x.none x.quiet;
-            quiet = none_append u.net k (remove u.flight 0) (news q (Deliver 0) u) (λ y v i says. x.quiet y v (in_rest (Deliver 0) u y refl i) says) quiet;
-          }))
-          (λ (x : IsTornLater u k). later_next k of there (news q (Deliver 0) u) refl quiet x)
-          (r.torn k f of there was_at e)
-      by k g of there at f was_at none quiet (Some v) e =
-          let n : ℕ = node_of u.net.ends k.from in
-          let after : slice_get next.nodes n ≡ Some (outcome q (Deliver 0) u n f).facts = facts_after_made q (Deliver 0) u n f was_at in
-          let previous : IsPrevious u.net n k.session (lane_of u.net k).hop (hop_over k) = record { there = there; node = refl; iface = refl; addr = refl } in
-          let via : names_via f (lane_of u.net k) ≡ names_via (outcome q (Deliver 0) u n f).facts (lane_of u.net k) =
-          via_is u bounds.net r.paths.sound r.paths.complete n f was_at (lane_of u.net k) (hop_over k) previous
-          ∙ ap (λ (z : Locals). names k.style u.net z k.session (hop_over k ∷ [])) (sym same.locals)
-          ∙ sym (via_is next bounds'.net paths' complete_next n (outcome q (Deliver 0) u n f).facts after (lane_of u.net k) (hop_over k) previous) in
-          let x = torn_now q (Deliver 0) u bounds turns bounds' paths' k there f was_at v e none (λ z i. ap (λ (w : Names). has w z) (sym via) ∙ i) in
-          inr (torn_later next k x.names (remove u.flight 0) (news q (Deliver 0) u) x.item refl x.new x.tears
-          (comes_on k of there x.names u.flight refl (comes_within u k v x.names x.less u.flight (r.asked k v f of there was_at e))) quiet)
+      let previous : IsPrevious u.net n k.session l.hop (hop_over k) = record { there = there; node = refl; iface = refl; addr = refl } in
+      let via : names_via f.0 l ≡ names_via after l =
+      via_is u bounds.net r.paths.sound r.paths.complete n f.0 f.1 l (hop_over k) previous
+      ∙ ap (λ (z : Locals). names k.style u.net z k.session (hop_over k ∷ [])) (sym same.locals)
+      ∙ sym (via_is next bounds'.net paths' complete_next n after (facts_after_made q (Deliver 0) u n f.0 f.1) l (hop_over k) previous) in
+      gone_before_or_now q (Deliver 0) u bounds turns bounds' paths' k there next f.0 f.1 none' (λ z i. ap (λ (w : Names). has w z) (sym via) ∙ i)
+      (λ e.
+      ⊎_elim
+      (λ (x : IsForgotten u k).
+      inl (record {
+        none = none_next k of there x.none x.quiet;
+        quiet = none_append u.net k (remove u.flight 0) new (λ y v i says. x.quiet y v (in_rest (Deliver 0) u y refl i) says) quiet;
+      }))
+      (λ (x : IsTornLater u k). later_next k of there new refl quiet x)
+      (r.torn k f.0 of there f.1 e))
+      (λ v e x.
+      inr (torn_later next k x.names (remove u.flight 0) new x.item refl x.new x.tears
+      (comes_on k of there x.names u.flight refl (comes_within u k v x.names x.less u.flight (r.asked k v f.0 of there f.1 e))) quiet))
 
   pub receding_next : IsReceding q s before next
   receding_next = record {

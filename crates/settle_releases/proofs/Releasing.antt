@@ -1,5 +1,5 @@
 -- A receiver wants less, or nothing any more: its node says so at once, and all else stays. And what comes of it in a settled network.
-use Rattle.std.proofs.Common.{◌≡◌, ℕ, suc, ◌+◌, ◌≤◌, List, [], ◌∷◌, ◌++◌, length, Bool, true, false, cond, Option, None, Some, ◌⊎◌, inl, inr, ⊎_elim, arith, sym, refl, ap, subst, ◌∙◌}
+use Rattle.std.proofs.Common.{◌≡◌, ℕ, suc, ◌+◌, ◌≤◌, List, [], ◌∷◌, ◌++◌, length, Bool, true, false, cond, Option, None, Some, ◌⊎◌, inl, inr, ⊎_elim, arith, sym, refl, ap, subst, ◌∙◌, append_assoc}
 use Rattle.std.specs.Prelude.{slice_get, ◌||◌, map as each}
 use Rattle.std.specs.List.{filter}
 use Rattle.std.specs.Ordering.{eq_by_cmp}
@@ -42,7 +42,7 @@ use Rattle.router_rules.specs.Requests.{toward}
 use Rattle.router_rules.specs.Rule.{Outcome}
 use Rattle.router_rules.specs.Steps.{IsFitList, facts_then, node_step, IsFitCall}
 use Rattle.tree_model.specs.declared.hops.LinkHop.{LinkHop}
-use Rattle.tree_model.specs.Goals.{addr_of, DemandsFit}
+use Rattle.tree_model.specs.Goals.{addr_of}
 use Rattle.tree_model.specs.Networks.{iface_of, node_of, Net}
 use Rattle.tree_model.specs.Ranks.{longest}
 use Rattle.tree_model.specs.Trees.{hops_of}
@@ -53,7 +53,7 @@ use Rattle.tree_model.proofs.Following.{number_same}
 use Rattle.tree_model.proofs.RankLaws.{rank_falls}
 use Rattle.network_model.specs.Bounds.{AreBounds, AreHosts, IsStart}
 use Rattle.network_model.specs.Locals.{IsLive, locals_of, sender_at, senders_from, want_at}
-use Rattle.network_model.specs.Sound.{ArePathsComplete, ArePathsSound, IsPathAt, IsSoundAt, IsSoundPath, IsSoundResv}
+use Rattle.network_model.specs.Sound.{ArePathsComplete, ArePathsSound, IsPathAt, IsSoundAt, IsSoundPath}
 use Rattle.network_model.specs.Steps.{At, facts_from, ms_of, outcome, sent, still, step}
 use Rattle.network_model.specs.Worlds.{Item, World, config_of}
 use Rattle.network_model.proofs.NodeLocals.{is_live, node_wants, want_of_node}
@@ -73,10 +73,9 @@ use Rattle.settle_passes.specs.Passes.{HasNoPathTear, after_passes}
 use Rattle.settle_passes.specs.Reserving.{AllAsk, AreAskedFor, HasReserved, IsAskedLast, IsKeptOver, IsReserving, after_want}
 use Rattle.settle_passes.proofs.Calls.{IsCalled, called, path_sent_by_call, sent_by_call}
 use Rattle.settle_passes.proofs.Deliveries.{sent_is_sound}
-use Rattle.settle_passes.proofs.Reserving.{all_append, last_asked, last_before, last_behind, ready}
-use Rattle.settle_passes.proofs.Turns.{IsAskedNow, Turns, addressed_in_turn, all_ask, news, stays_or_asked}
+use Rattle.settle_passes.proofs.Reserving.{all_append, last_before, ready}
+use Rattle.settle_passes.proofs.Turns.{Turns, addressed_in_turn, news}
 use Rattle.settle_resvs.proofs.Accepting.{fits_again}
-use Rattle.settle_resvs.proofs.GoalByIface.{each_fits}
 use Rattle.settle_network.specs.Settled.{HasSettled}
 use Rattle.laws_inputs.specs.Frames.{calls_on_senders}
 use Rattle.settle_paths.proofs.PreviousHops.{via_is}
@@ -85,10 +84,11 @@ use Rattle.settle_resvs.proofs.SoundResvs.{part_again}
 use Rattle.settle_passes.proofs.Growing.{HasNoLess}
 use Rattle.settle_passes.proofs.Serving.{settled_again, settled_is_reserved}
 use Rattle.settle_releases.specs.Releases.{AsksNoMore, after_quit, after_quits}
-use Rattle.settle_releases.proofs.Within.{WantedMore, as_before, same_names}
+use Rattle.settle_releases.proofs.Within.{WantedMore, as_before, same_names, AreKeptWithin}
 use Rattle.settle_releases.proofs.Fitting.{less_fits}
-use Rattle.settle_releases.proofs.Accepting.{AreResvsWithin, unit_within}
-use Rattle.settle_releases.proofs.TakenBack.{AreTakenBack, ComesWithin, IsForgotten, IsHeldWithin, IsTornLater, IsWithinLast, AllWithin, NoneAsks, comes_within, each_append, none_append, none_asks, torn_later, torn_now}
+use Rattle.settle_releases.proofs.Accepting.{AreResvsWithin, within_after}
+use Rattle.settle_releases.proofs.TakenBack.{AllWithin, AreTakenBack, ComesWithin, IsForgotten, IsHeldWithin, IsTornLater, IsWithinLast, NoneAsks}
+use Rattle.settle_releases.proofs.TakenBack.{asked_after, comes_within, gone_before_or_now, none_append, none_asks, torn_later}
 use Rattle.settle_releases.proofs.Receding.{IsReceding}
 use Rattle.settle_releases.proofs.Falling.{reservations_recede, sound_where_reserved}
 use Rattle.laws_network.specs.Known.{IsSameNet}
@@ -276,7 +276,8 @@ module _ (q n : ℕ) (call : Local) (w : World) (start : HasItsPaths q w) (fit :
       (called q w n call m f)
 
   -- ---- where the call asks for no more, all wants do
-  module _ (fewer : (f : Facts) → slice_get w.nodes n ≡ Some f → call_refusal (config_of q w.net w.trees n) call f ≡ None → (k : WantKey) (x : Want) → get (wants_with call f.wants) k ≡ Some x → WasWanted f k x) where
+  module _ (fewer : (f : Facts) → slice_get w.nodes n ≡ Some f → call_refusal (config_of q w.net w.trees n) call f ≡ None
+      → (k : WantKey) (x : Want) → get (wants_with call f.wants) k ≡ Some x → WasWanted f k x) where
     was_wanted : (m : ℕ) (f : Facts) → slice_get w.nodes m ≡ Some f → IsCalled q w n call m f → (k : WantKey) (x : Want) → (o : Option LocalErr) → call_refusal (config_of q w.net w.trees m) call f ≡ o
         → get (unless o (wants_with call f.wants) f.wants) k ≡ Some x → WasWanted f k x
     was_wanted m f at h k x (Some why) refused e = record { want = x; there = e; style = refl; part = part_at_most_itself x.part }
@@ -358,8 +359,7 @@ module _ (q n : ℕ) (call : Local) (w : World) (start : HasItsPaths q w) (fit :
       }
 
       -- reservations stay, and what is sent asks for no more than was wanted
-      facts_within : (st : StyleKind) (m : ℕ) (g : Facts) (k : LineKey) (x : ResvState) → slice_get asked.nodes m ≡ Some g → get (resvs_of st g) k ≡ Some x
-          → IsSoundResv st (as_before before asked) m k x
+      facts_within : AreKeptWithin before asked
       facts_within st m g k x at h =
           let f = facts_after_found q (At n call) w m g at in
           let old : get (resvs_of st f.0) k ≡ Some x = ap (λ (z : _). get (table_of st z) k) (sym (resvs_same m f.0 f.1) ∙ ap (λ (z : Facts). z.resvs) (sym f.2)) ∙ h in
@@ -367,20 +367,7 @@ module _ (q n : ℕ) (call : Local) (w : World) (start : HasItsPaths q w) (fit :
           record { end = y.end; at = y.at; sound = part_again st (as_before before w) (as_before before asked) k.0 y.end k.1.0.1 k.1.1 x.part refl refl y.sound }
 
       within_then : AreResvsWithin before asked
-      within_then = record {
-        facts = facts_within;
-        items = λ y m v i spelt asks.
-            ⊎_elim
-            (λ (old : In y w.flight).
-            let x = r.within.items y m v old spelt asks in
-            record {
-              names = x.names;
-              named = x.named;
-              sound = part_again (ask_style m.ask) (as_before before w) (as_before before asked) m.session y.end m.hop.addr v.unit (record { senders = x.names; flow = v.flow }) refl refl x.sound;
-            })
-            (λ (now : (b : Bool) × In (y, b) (sent q (At n call) w)).
-            unit_within q (At n call) w start.bounds turns before bounds_then sound_then more_then facts_within y now.0 m now.1 spelt v asks) (in_flight_then y i);
-      }
+      within_then = within_after q (At n call) w start.bounds turns before bounds_then sound_then more_then facts_within r.within in_flight_then
 
       no_error_then : HasNoFlowErrorOf s asked
       no_error_then y m i spelt of = by m.blame.flow refl
@@ -407,23 +394,14 @@ module _ (q n : ℕ) (call : Local) (w : World) (start : HasItsPaths q w) (fit :
       asked_then : AreAskedFor q s asked
       asked_then k v g of there at goes =
           let m : ℕ = node_of w.net.ends k.from in
-          let p : NodeConfig = config_of q w.net w.trees m in
           let f = facts_after_found q (At n call) w m g at in
-          let goes' : get (toward p (outcome q (At n call) w m f.0).facts (lane_of w.net k)) k.unit ≡ Some v = ap (λ (z : Facts). get (toward p z (lane_of w.net k)) k.unit) (sym f.2) ∙ goes in
+          let goes' : get (toward (config_of q w.net w.trees m) (outcome q (At n call) w m f.0).facts (lane_of w.net k)) k.unit ≡ Some v =
+          ap (λ (z : Facts). get (toward (config_of q w.net w.trees m) z (lane_of w.net k)) k.unit) (sym f.2) ∙ goes in
           let new : List Item = news q (At n call) w in
-          let all_new : AllAsk w.net k v new =
-          (λ y i l.
-          let x = in_each (λ (z : Item × Bool). z.0) y (sent q (At n call) w) i in
-          all_ask q (At n call) w start.bounds turns bounds_then sound_then k there g at v goes y x.0.1 (subst (λ (z : Item). In (z, x.0.1) (sent q (At n call) w)) (sym x.2) x.1) l) in
-          ⊎_elim
-          (λ (stays : toward p f.0 (lane_of w.net k) ≡ toward p (outcome q (At n call) w m f.0).facts (lane_of w.net k)).
-          ⊎_elim
-          (λ (x : IsKeptOver w k v × AllAsk w.net k v w.flight). inl (kept_then k v x.0, all_append w.net k v w.flight new x.1 all_new))
-          (λ (last : IsAskedLast w.net k v w.flight). inr (last_before w.net k v w.flight new last all_new))
-          (r.asked k v f.0 of there f.1 (ap (λ (z : PartTable). get z k.unit) stays ∙ goes')))
-          (λ (now : (x : Part) → get (toward p (outcome q (At n call) w m f.0).facts (lane_of w.net k)) k.unit ≡ Some x → IsAskedNow q (At n call) w start.bounds turns bounds_then sound_then k there x).
-          let x = now v goes' in inr (last_behind w.net k v w.flight new (last_asked w.net k v new x.item x.new x.says all_new)))
-          (stays_or_asked q (At n call) w start.bounds turns bounds_then sound_then k there f.0 f.1)
+          asked_after q (At n call) w start.bounds turns bounds_then sound_then k there asked w.flight v f.0 f.1 goes'
+          (λ went all_new.
+          ⊎_elim (λ (x : IsKeptOver w k v × AllAsk w.net k v w.flight). inl (kept_then k v x.0, all_append w.net k v w.flight new x.1 all_new))
+          (λ (last : IsAskedLast w.net k v w.flight). inr (last_before w.net k v w.flight new last all_new)) (r.asked k v f.0 of there f.1 went))
 
       -- nodes have their paths from where they had them
       via_same : (k : HopKey) → In (hop_over k) (hops_of w.net.hops k.session.group) → (f : Facts) → slice_get w.nodes (node_of w.net.ends k.from) ≡ Some f
@@ -438,41 +416,34 @@ module _ (q n : ℕ) (call : Local) (w : World) (start : HasItsPaths q w) (fit :
       taken_back_then : AreTakenBack q s asked
       taken_back_then k g of there at none =
           let m : ℕ = node_of w.net.ends k.from in
-          let p : NodeConfig = config_of q w.net w.trees m in
           let f = facts_after_found q (At n call) w m g at in
-          let none' : get (toward p (outcome q (At n call) w m f.0).facts (lane_of w.net k)) k.unit ≡ None = ap (λ (z : Facts). get (toward p z (lane_of w.net k)) k.unit) (sym f.2) ∙ none in
-          let quiet : NoneAsks w.net k (news q (At n call) w) = none_asks q (At n call) w start.bounds turns bounds_then sound_then k there g at none in
-          by k of there f.0 f.1 none' quiet (get (toward p f.0 (lane_of w.net k)) k.unit) refl
-        where
-          by : (k : HopKey) (of : k.session ≡ s) (there : In (hop_over k) (hops_of w.net.hops k.session.group)) (f : Facts) (at : slice_get w.nodes (node_of w.net.ends k.from) ≡ Some f)
-              (none : get (toward (config_of q w.net w.trees (node_of w.net.ends k.from)) (outcome q (At n call) w (node_of w.net.ends k.from) f).facts (lane_of w.net k)) k.unit ≡ None)
-              (quiet : NoneAsks w.net k (news q (At n call) w)) (o : Option Part) → get (toward (config_of q w.net w.trees (node_of w.net.ends k.from)) f (lane_of w.net k)) k.unit ≡ o
-              → IsForgotten asked k ⊎ IsTornLater asked k
-          by k of there f at none quiet None e =
-              let new : List Item = news q (At n call) w in
-              ⊎_elim
-              (λ (x : IsForgotten w k).
-              inl (record {
-                none = none_on (node_of w.net.ends k.to) k.style (line_key_of w.net (resv_key w.net k)) x.none;
-                quiet = none_append w.net k w.flight new x.quiet quiet;
-              }))
-              (λ (x : IsTornLater w k).
-              inr (record {
-                front = x.front;
-                item = x.item;
-                back = x.back ++ new;
-                is = ap (λ (zs : List Item). zs ++ new) x.is ∙ sym (each_append x.front (x.item ∷ x.back) new);
-                names = x.names;
-                tears = x.tears;
-                within = comes_then k x.names x.front x.within;
-                quiet = none_append w.net k x.back new x.quiet quiet;
-              }))
-              (r.torn k f of there at e)
-          by k of there f at none quiet (Some v) e =
-              let via = via_same k there f at in
-              let x = torn_now q (At n call) w start.bounds turns bounds_then sound_then k there f at v e none (λ z i. ap (λ (ns : Names). has ns z) (sym via) ∙ i) in
-              inr (torn_later asked k x.names w.flight (news q (At n call) w) x.item refl x.new x.tears
-              (comes_then k x.names w.flight (comes_within w k v x.names x.less w.flight (r.asked k v f of there at e))) quiet)
+          let none' : get (toward (config_of q w.net w.trees m) (outcome q (At n call) w m f.0).facts (lane_of w.net k)) k.unit ≡ None =
+          ap (λ (z : Facts). get (toward (config_of q w.net w.trees m) z (lane_of w.net k)) k.unit) (sym f.2) ∙ none in
+          let new : List Item = news q (At n call) w in
+          let quiet : NoneAsks w.net k new = none_asks q (At n call) w start.bounds turns bounds_then sound_then k there g at none in
+          gone_before_or_now q (At n call) w start.bounds turns bounds_then sound_then k there asked f.0 f.1 none' (λ z i. ap (λ (ns : Names). has ns z) (sym (via_same k there f.0 f.1)) ∙ i)
+          (λ e.
+          ⊎_elim
+          (λ (x : IsForgotten w k).
+          inl (record {
+            none = none_on (node_of w.net.ends k.to) k.style (line_key_of w.net (resv_key w.net k)) x.none;
+            quiet = none_append w.net k w.flight new x.quiet quiet;
+          }))
+          (λ (x : IsTornLater w k).
+          inr (record {
+            front = x.front;
+            item = x.item;
+            back = x.back ++ new;
+            is = ap (λ (zs : List Item). zs ++ new) x.is ∙ append_assoc x.front (x.item ∷ x.back) new;
+            names = x.names;
+            tears = x.tears;
+            within = comes_then k x.names x.front x.within;
+            quiet = none_append w.net k x.back new x.quiet quiet;
+          }))
+          (r.torn k f.0 of there f.1 e))
+          (λ v e x.
+          inr (torn_later asked k x.names w.flight new x.item refl x.new x.tears
+          (comes_then k x.names w.flight (comes_within w k v x.names x.less w.flight (r.asked k v f.0 of there f.1 e))) quiet))
 
       receding_then : IsReceding q s before asked
       receding_then = record {
@@ -507,7 +478,8 @@ taken_back q s w r reserved k f of there at none =
     is =
         let most = (rank_falls w.net r.paths.bounds.net.loop_free).hops k.session.group h there in
         toward_at q s (longest w.net) w (record { ready = ready q s w r; free = r.free; addressed = λ y m i born spelt. r.addressed y m i spelt })
-        (λ st' h' there' near. reserved.exact st' h' there') (node_of w.net.ends k.from) f at (lane_of w.net k) of h (record { there = there; node = refl; iface = refl; addr = refl }) (omega (arith, most.1))
+        (λ st' h' there' near. reserved.exact st' h' there') (node_of w.net.ends k.from) f at (lane_of w.net k) of h
+        (record { there = there; node = refl; iface = refl; addr = refl }) (omega (arith, most.1))
 
     by : (o : Option ResvState) → resv_at w (node_of w.net.ends k.to) k.style key ≡ o → resv_at w (node_of w.net.ends k.to) k.style key ≡ None
     by None e = e
@@ -549,9 +521,9 @@ recedes q s w r reserved = record {
 }
 
 -- ---- so each session is reserved again H passes after calls that ask for no more
-pub reserved_again : (q : ℕ) (before : List Facts) (w : World) → DemandsFit w.net (locals_of (as_before before w)) → ((c : Session) → IsReceding q c before w) → (c : Session)
+pub reserved_again : (q : ℕ) (before : List Facts) (w : World) → ((c : Session) → IsReceding q c before w) → (c : Session)
     → IsReserving q c (after_passes q (longest w.net) w) × HasReserved c (after_passes q (longest w.net) w)
-reserved_again q before w fit r c =
+reserved_again q before w r c =
     let d = fallen c in (
       record {
         paths = d.0.paths;
@@ -559,7 +531,7 @@ reserved_again q before w fit r c =
           facts = λ st m f k x at h. let e = fallen k.0 in sound_where_reserved q k.0 before later e.0 e.1.exact st m f k x at h refl;
           items = λ y m v i spelt asks. absurd ((fallen m.session).1.no_resv y m i spelt refl);
         };
-        fit = fits_again c w later d.2 (each_fits w.net (locals_of w) fits c);
+        fit = fits_again c w later d.2 (less_fits before w (r c).paths.bounds.net (want_parts q w (r c).paths.bounds) (r c).more c (r c).fit);
         free = d.0.free;
         no_error = d.0.no_error;
         addressed = d.0.addressed;
@@ -574,16 +546,12 @@ reserved_again q before w fit r c =
     fallen : (c : Session) → IsReceding q c before later × HasReserved c later × IsSameNet w later
     fallen c = reservations_recede q c before w (r c)
 
-    -- what is asked for then fits
-    fits : DemandsFit w.net (locals_of w)
-    fits = let one = r c in less_fits before w one.paths.bounds.net (want_parts q w one.paths.bounds) one.more fit
-
-some_session : Session
+pub some_session : Session
 some_session = record { group = record { 0 = 0 }; proto = 0; port = 0 }
 
-settles_again : (q : ℕ) (before : List Facts) (w : World) → DemandsFit w.net (locals_of (as_before before w)) → ((c : Session) → IsReceding q c before w) → HasSettled q (after_passes q (longest w.net) w)
-settles_again q before w fit r =
-    settled_again q some_session (after_passes q (longest w.net) w) (λ c. (reserved_again q before w fit r c).0) (λ c. (reserved_again q before w fit r c).1.exact)
+settles_again : (q : ℕ) (before : List Facts) (w : World) → ((c : Session) → IsReceding q c before w) → HasSettled q (after_passes q (longest w.net) w)
+settles_again q before w r =
+    settled_again q some_session (after_passes q (longest w.net) w) (λ c. (reserved_again q before w r c).0) (λ c. (reserved_again q before w r c).1.exact)
 
 -- a settled network in which nothing is in flight
 pub settled_recedes : (q : ℕ) (w : World) → IsStart q w → HasSettled q w → w.flight ≡ [] → (c : Session) → IsReceding q c w.nodes w
@@ -606,7 +574,8 @@ pub quit_recedes : (q n : ℕ) (c : Session) (before : List Facts) (w : World) (
 quit_recedes q n c before w s r =
     receding_then q n (QuitAll c) w r.paths tt refl (λ f at taken k x e. record { want = x; there = quit_kept c f k x e; style = refl; part = part_at_most_itself x.part }) s before r
 
-quits_on : (q : ℕ) (before : List Facts) (xs : List (ℕ × Session)) (w : World) → ((c : Session) → IsReceding q c before w) → ((c : Session) → IsReceding q c before (after_quits q xs w)) × ((after_quits q xs w).net ≡ w.net)
+quits_on : (q : ℕ) (before : List Facts) (xs : List (ℕ × Session)) (w : World) → ((c : Session) → IsReceding q c before w)
+    → ((c : Session) → IsReceding q c before (after_quits q xs w)) × ((after_quits q xs w).net ≡ w.net)
 quits_on q before [] w r = (r, refl)
 quits_on q before (x ∷ xs) w r = quits_on q before xs (after_quit q x.0 x.1 w) (λ c. quit_recedes q x.0 x.1 before w c (r c))
 
@@ -614,14 +583,14 @@ pub a_settled_network_releases : (q : ℕ) (xs : List (ℕ × Session)) (w : Wor
 a_settled_network_releases q xs w start settled quiet =
     let r = quits_on q w.nodes xs w (settled_recedes q w start settled quiet) in
     subst (λ (z : Net). HasSettled q (after_passes q (longest z) (after_quits q xs w))) r.1
-    (settles_again q w.nodes (after_quits q xs w) (subst (λ (z : Net). DemandsFit z (locals_of w)) (sym r.1) start.fit) r.0)
+    (settles_again q w.nodes (after_quits q xs w) r.0)
 
-pub a_reserved_network_releases : (q : ℕ) (xs : List (ℕ × Session)) (w : World) → ((s : Session) → IsReserving q s w × HasReserved s w) → DemandsFit w.net (locals_of w) → (s : Session)
+pub a_reserved_network_releases : (q : ℕ) (xs : List (ℕ × Session)) (w : World) → ((s : Session) → IsReserving q s w × HasReserved s w) → (s : Session)
     → IsReserving q s (after_passes q (longest w.net) (after_quits q xs w)) × HasReserved s (after_passes q (longest w.net) (after_quits q xs w))
-a_reserved_network_releases q xs w reserved fit s =
+a_reserved_network_releases q xs w reserved s =
     let r = quits_on q w.nodes xs w (λ c. recedes q c w (reserved c).0 (reserved c).1) in
     subst (λ (z : Net). IsReserving q s (after_passes q (longest z) (after_quits q xs w)) × HasReserved s (after_passes q (longest z) (after_quits q xs w))) r.1
-    (reserved_again q w.nodes (after_quits q xs w) (subst (λ (z : Net). DemandsFit z (locals_of w)) (sym r.1) fit) r.0 s)
+    (reserved_again q w.nodes (after_quits q xs w) r.0 s)
 
 -- ---- a receiver asks for no more than before
 module _ (q n : ℕ) (c : Session) (st : StyleKind) (names : Names) (flow : TokenBucket) (confirm : Bool) (w : World) (no_more : AsksNoMore w n c st names flow confirm) where
@@ -652,5 +621,12 @@ pub a_settled_network_serves_less : (q n : ℕ) (s : Session) (st : StyleKind) (
     → IsFitList st names → IsSound flow → AsksNoMore w n s st names flow confirm
     → HasSettled q (after_passes q (longest w.net) (after_want q n s st names flow confirm w))
 a_settled_network_serves_less q n s st names flow confirm w start settled quiet list sound no_more =
-    settles_again q w.nodes (after_want q n s st names flow confirm w) start.fit
+    settles_again q w.nodes (after_want q n s st names flow confirm w)
     (λ c. less_recedes q n s st names flow confirm w no_more (list, sound) w.nodes c (settled_recedes q w start settled quiet c))
+
+pub a_reserved_network_serves_less : (q n : ℕ) (c : Session) (st : StyleKind) (names : Names) (flow : TokenBucket) (confirm : Bool) (w : World)
+    → ((s : Session) → IsReserving q s w × HasReserved s w) → IsFitList st names → IsSound flow → AsksNoMore w n c st names flow confirm → (s : Session)
+    → IsReserving q s (after_passes q (longest w.net) (after_want q n c st names flow confirm w)) × HasReserved s (after_passes q (longest w.net) (after_want q n c st names flow confirm w))
+a_reserved_network_serves_less q n c st names flow confirm w reserved list sound no_more s =
+    reserved_again q w.nodes (after_want q n c st names flow confirm w)
+    (λ d. less_recedes q n c st names flow confirm w no_more (list, sound) w.nodes d (recedes q d w (reserved d).0 (reserved d).1)) s

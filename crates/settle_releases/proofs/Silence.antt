@@ -2,6 +2,7 @@
 -- ResvTear, sends such alone.
 use Rattle.laws_inputs.proofs.Framing.{act_paths, act_senders, act_wants, wants_then}
 use Rattle.laws_inputs.proofs.Knowing.{known_and_via}
+use Rattle.laws_inputs.proofs.Lists.{none_in}
 use Rattle.laws_inputs.proofs.Stepping.{send_told}
 use Rattle.laws_inputs.proofs.Tests.{addr_tested, not_new}
 use Rattle.laws_inputs.specs.SendLaws.{IsConf, IsError, IsPath, IsPathTear, IsResv, IsResvTear}
@@ -74,7 +75,7 @@ use Rattle.tree_model.specs.declared.hops.End.{End}
 use Rattle.rsvp_messages.specs.declared.message.Message.TheVariants as message
 use Rattle.router_rules.specs.declared.answers.Heard.TheVariants as heard
 use Rattle.settle_releases.proofs.TakenBack.{names_of_tear, style_of_tear}
-use Rattle.settle_releases.proofs.Releasing.{in_flight_then, quit_kept, quit_recedes, settled_recedes, turns as called_turns, unless_same, less_recedes, senders_left}
+use Rattle.settle_releases.proofs.Releasing.{in_flight_then, quit_kept, quit_recedes, settled_recedes, some_session, turns as called_turns, unless_same, less_recedes, senders_left}
 use Rattle.router_rules.specs.Calls.{call_refusal, unless, wants_with, SendersOf, wanted}
 use Rattle.network_model.proofs.Quiet.{at_node_found}
 use Rattle.settle_releases.specs.Releases.{HasNoMark, after_quit, after_quits, AsksNoMore}
@@ -105,10 +106,6 @@ cond_none : (b : Bool) (o : Option Addr) → o ≡ None → cond b o None ≡ No
 cond_none true o e = e
 cond_none false o e = refl
 
-nothing : {A : Type 0} (xs : List A) → ((x : A) → In x xs → ⊥) → xs ≡ []
-nothing [] none = refl
-nothing (x ∷ xs) none = absurd (none x (inl refl))
-
 module _ (p : NodeConfig) (c : ℕ) (input : Input) (f : Facts) (q : IsUnanswered p c input f) where
   abbrev change : Change
   change = act p c input f
@@ -129,7 +126,7 @@ module _ (p : NodeConfig) (c : ℕ) (input : Input) (f : Facts) (q : IsUnanswere
   no_marks : (l : Lane) → marked_units p after l ≡ []
   no_marks l =
       ap (λ (xs : List (UnitOf × Want)). each (λ (e : UnitOf × Want). e.0) xs)
-      (nothing (filter (is_marked p after l) (wants_in after l.session).rows)
+      (none_in (filter (is_marked p after l) (wants_in after l.session).rows)
       (λ e i.
       let t = in_filter (is_marked p after l) e (wants_in after l.session).rows i in
       let there : get after.wants (l.session, e.0) ≡ Some e.1 = sym (get-under sessions units after.wants l.session e.0) ∙ in_found units (wants_in after l.session) e.0 e.1 t.0 in
@@ -150,7 +147,8 @@ module _ (p : NodeConfig) (c : ℕ) (input : Input) (f : Facts) (q : IsUnanswere
       let none : change.confs ++ confirmed p p f after change.asked ≡ [] = (λ j. q.confs j ++ confirmed p p f after (q.asked j)) in
       absurd (subst (λ (zs : List ConfSend). In x.conf zs) none x.made))
       (λ k. ⊎_elim (λ (x : IsPath p p f after change s). absurd (no_path s x))
-      (λ (x : IsResv p p f after change s). inl (_, ap (λ (z : Send). z.message) x.is, cond_none (is_changed p p f after x.lane) (confirm_for p after x.lane change.asked) (no_wish x.lane))) k) k) k) k)
+      (λ (x : IsResv p p f after change s).
+      inl (_, ap (λ (z : Send). z.message) x.is, cond_none (is_changed p p f after x.lane) (confirm_for p after x.lane change.asked) (no_wish x.lane))) k) k) k) k)
       (send_told p p c input f s i)
 
 -- ---- a ResvTear that comes
@@ -302,9 +300,6 @@ pub record IsSilent (q : ℕ) (before : List Facts) (u : World) : Type 0 where
   pub plain : (y : Item) → In y u.flight → IsPlainItem u.net y
   pub unmarked : HasNoMark u
 
-some_session : Session
-some_session = record { group = record { 0 = 0 }; proto = 0; port = 0 }
-
 -- a mark that is not there does not come
 not_marked : (a b : Bool) → (a ≡ true → b ≡ true) → b ≡ false → a ≡ false
 not_marked true b up e = let bad : true ≡ false = sym (up refl) ∙ e in absurd (cc)
@@ -355,7 +350,8 @@ module _ (q : ℕ) (before : List Facts) (u : World) (r : IsSilent q before u) w
       let w = taken q m.session before u (r.receding m.session) z.item m f flies x.1 refl (ap (λ (d : ℕ). slice_get u.nodes d) node ∙ at) in
       let v = resv_unanswered (place q (Deliver 0) u (node_of u.net.ends z.item.end)) (moment q (Deliver 0) u) e m f
       (goal_at u.net (locals_of (as_before before u)) (node_of u.net.ends z.item.end)) w x.2 marks in
-      let input : came_resv (place q (Deliver 0) u (node_of u.net.ends z.item.end)) e m ≡ h.input = (λ j. Came e (sym dst j) (Spelt (message.Resv m))) ∙ (λ j. Came e z.item.dst (sym x.1 j)) ∙ sym z.is in
+      let input : came_resv (place q (Deliver 0) u (node_of u.net.ends z.item.end)) e m ≡ h.input =
+      (λ j. Came e (sym dst j) (Spelt (message.Resv m))) ∙ (λ j. Came e z.item.dst (sym x.1 j)) ∙ sym z.is in
       subst (λ (d : ℕ × Input). IsUnanswered (place q (Deliver 0) u d.0) (moment q (Deliver 0) u) d.1 f) (λ j. (node j, input j)) v)
       (λ (x : (m : ResvTearMsg) × (z.item.arrival ≡ Spelt (message.ResvTear m)) × IsBackOver u.net z.item m).
       let v = tear_unanswered (place q (Deliver 0) u n) (moment q (Deliver 0) u) e z.item.dst x.0 f marks in
@@ -391,7 +387,7 @@ some_flow = record { r = 0; b = 0; p = Infinite; low = 0; most = 0 }
 -- nothing is in flight in the end
 pub nothing_flies : (q : ℕ) (before : List Facts) (w : World) → IsSilent q before w → (after_passes q (longest w.net) w).flight ≡ []
 nothing_flies q before w r =
-    nothing (after_passes q (longest w.net) w).flight
+    none_in (after_passes q (longest w.net) w).flight
     (λ y i.
     ⊎_elim
     (λ (x : (m : ResvMsg) × (y.arrival ≡ Spelt (message.Resv m)) × (m.confirm ≡ None)). (reservations_recede q x.0.session before w (r.receding x.0.session)).1.no_resv y x.0 i x.1 refl)
@@ -407,7 +403,8 @@ nothing_flies q before w r =
 -- ---- a call that asks for no more, and for no confirmation
 module _ (q n : ℕ) (call : Local) (before : List Facts) (w : World) (r : IsSilent q before w) (fit : IsFitCall call) (spares : calls_on_senders call ≡ false)
     (recede : (s : Session) → IsReceding q s before (step q (At n call) w))
-    (marks : (m : ℕ) (f : Facts) → slice_get w.nodes m ≡ Some f → (o : Option LocalErr) (k : WantKey) (x : Want) → get (unless o (wants_with call f.wants) f.wants) k ≡ Some x → x.confirm ≡ false) where
+    (marks : (m : ℕ) (f : Facts) → slice_get w.nodes m ≡ Some f → (o : Option LocalErr) (k : WantKey) (x : Want)
+    → get (unless o (wants_with call f.wants) f.wants) k ≡ Some x → x.confirm ≡ false) where
   abbrev follows_then : (m : ℕ) (f : Facts) → slice_get w.nodes m ≡ Some f → (outcome q (At n call) w m f ≡ still f) ⊎ Turns q (At n call) w m f
   follows_then = called_turns q n call w (r.receding some_session).paths fit spares
 
@@ -473,8 +470,8 @@ wanted_mark s Fixed ns flow mark k x i =
 wanted_mark s Shared ns flow mark k x i =
     ⊎_elim (λ (e : (k, x) ≡ ((s, One), record { style = Shared; part = record { senders = ns; flow = flow }; confirm = mark })). ap (λ (z : WantKey × Want). z.1.confirm) e) (λ (no : ⊥). absurd no) i
 
-want_marks : (s : Session) (st : StyleKind) (ns : Names) (flow : TokenBucket) (w : World) → HasNoMark w → (m : ℕ) (f : Facts) → slice_get w.nodes m ≡ Some f → (o : Option LocalErr) (k : WantKey) (x : Want)
-    → get (unless o (wants_with (WantAs s st ns flow false) f.wants) f.wants) k ≡ Some x → x.confirm ≡ false
+want_marks : (s : Session) (st : StyleKind) (ns : Names) (flow : TokenBucket) (w : World) → HasNoMark w → (m : ℕ) (f : Facts) → slice_get w.nodes m ≡ Some f
+    → (o : Option LocalErr) (k : WantKey) (x : Want) → get (unless o (wants_with (WantAs s st ns flow false) f.wants) f.wants) k ≡ Some x → x.confirm ≡ false
 want_marks s st ns flow w unmarked m f at (Some why) k x e = unmarked m f k x at e
 want_marks s st ns flow w unmarked m f at None k x e =
     ⊎_elim (λ (old : get f.wants k ≡ Some x). unmarked m f k x at old) (λ (new : In (k, x) (wanted s st ns flow false)). wanted_mark s st ns flow false k x new)
@@ -485,4 +482,5 @@ pub less_leaves_nothing_in_flight : (q n : ℕ) (s : Session) (st : StyleKind) (
 less_leaves_nothing_in_flight q n s st ns flow w start settled_now empty_flight unmarked list sound no_more =
     let r = settled_silent q w start settled_now empty_flight unmarked in
     nothing_flies q w.nodes (after_want q n s st ns flow false w)
-    (silent_then q n (WantAs s st ns flow false) w.nodes w r (list, sound) refl (λ c. less_recedes q n s st ns flow false w no_more (list, sound) w.nodes c (r.receding c)) (want_marks s st ns flow w unmarked))
+    (silent_then q n (WantAs s st ns flow false) w.nodes w r (list, sound) refl (λ c. less_recedes q n s st ns flow false w no_more (list, sound) w.nodes c (r.receding c))
+    (want_marks s st ns flow w unmarked))

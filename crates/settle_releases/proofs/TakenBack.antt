@@ -1,6 +1,7 @@
--- What a node asks for no more: what is on its way then, and that a ResvTear of all its names is sent.
-use Rattle.std.proofs.Common.{◌≡◌, ℕ, List, [], ◌∷◌, ◌++◌, Bool, true, false, Option, None, Some, ◌⊎◌, inl, inr, ⊎_elim, sym, refl, ap, subst, ◌∙◌}
-use Rattle.std.specs.Prelude.{slice_get, is_some, not}
+-- What a node asks for no more: what is on its way then, and that a ResvTear of all its names is sent. And what it asks for still.
+use Rattle.std.proofs.Common.{◌≡◌, ℕ, List, [], ◌∷◌, ◌++◌, Bool, true, false, Option, None, Some, ◌⊎◌, inl, inr, ⊎_elim, sym, refl, ap, subst, ◌∙◌, append_assoc}
+use Rattle.std.specs.Prelude.{slice_get, is_some}
+use Rattle.std.proofs.lemmas.Bool.{not-true}
 use Rattle.rsvp_base.specs.declared.part.Part.{Part}
 use Rattle.rsvp_base.specs.declared.session.Sender.{Sender}
 use Rattle.rsvp_base.specs.declared.session.Session.{Session}
@@ -30,7 +31,7 @@ use Rattle.network_model.specs.Bounds.{AreBounds}
 use Rattle.network_model.specs.Sound.{ArePathsSound}
 use Rattle.network_model.specs.Steps.{outcome, sent, still, Step}
 use Rattle.network_model.specs.Worlds.{Item, World, config_of}
-use Rattle.network_model.proofs.Stepping.{copies_made, sent_made}
+use Rattle.network_model.proofs.Stepping.{copies_made, facts_after_made, sent_made}
 use Rattle.laws_network.proofs.Known.{of_some}
 use Rattle.laws_network.proofs.Standing.{own_end, some_at}
 use Rattle.settle_paths.proofs.PreviousHops.{ends_there, same_by_addr}
@@ -55,7 +56,8 @@ use Rattle.network_model.proofs.Changing.{where_a_send_goes}
 use Rattle.laws_network.proofs.Speaking.{send_made}
 use Rattle.settle_resvs.proofs.ResvSends.{over_hop}
 use Rattle.settle_resvs.proofs.TowardNames.{parts_of_style, toward_names}
-use Rattle.settle_passes.proofs.Turns.{Turns, addressed_in_turn, left, moment, news, place, resv_in_turn}
+use Rattle.settle_passes.proofs.Reserving.{last_asked, last_behind}
+use Rattle.settle_passes.proofs.Turns.{IsAskedNow, Turns, addressed_in_turn, all_ask, left, moment, news, place, resv_in_turn, stays_or_asked}
 use Rattle.style_rules.specs.CutLaws.{some_within}
 use Rattle.tree_model.specs.Wants.{names}
 use Rattle.rsvp_base.specs.Sets.{IsWithin, is_none}
@@ -135,10 +137,6 @@ split_at {A} x (y ∷ ys) i =
     ⊎_elim (λ (e : x ≡ y). ([], ys, ap (λ (z : A). z ∷ ys) (sym e)))
     (λ (j : In x ys). let r = split_at x ys j in (y ∷ r.0, r.1, ap (λ (zs : List A). y ∷ zs) r.2)) i
 
-pub each_append : {A : Type 0} (xs ys zs : List A) → xs ++ (ys ++ zs) ≡ (xs ++ ys) ++ zs
-each_append [] ys zs = refl
-each_append {A} (x ∷ xs) ys zs = ap (λ (w : List A). x ∷ w) (each_append xs ys zs)
-
 within_append : (net : Net) (k : HopKey) (ns : Names) (xs ys : List Item) → AllWithin net k ns xs → AllWithin net k ns ys → AllWithin net k ns (xs ++ ys)
 within_append net k ns xs ys a b y v i says = ⊎_elim (λ (x : In y xs). a y v x says) (λ (z : In y ys). b y v z says) (in_append y xs ys i)
 
@@ -169,7 +167,8 @@ held_within w k v ns less c r there x i =
     let one : r ≡ c.resv = of_some r c.resv (sym there ∙ c.there) in
     less x (ap (λ (z : Part). has z.senders x) (sym (ap (λ (z : ResvState). z.part) one ∙ c.is)) ∙ i)
 
-pub comes_within : (w : World) (k : HopKey) (v : Part) (ns : Names) → IsWithin v.senders ns → (ys : List Item) → (IsKeptOver w k v × AllAsk w.net k v ys) ⊎ IsAskedLast w.net k v ys → ComesWithin w k ns ys
+pub comes_within : (w : World) (k : HopKey) (v : Part) (ns : Names) → IsWithin v.senders ns → (ys : List Item)
+    → (IsKeptOver w k v × AllAsk w.net k v ys) ⊎ IsAskedLast w.net k v ys → ComesWithin w k ns ys
 comes_within w k v ns less ys c =
     ⊎_elim (λ (a : IsKeptOver w k v × AllAsk w.net k v ys). inl (held_within w k v ns less a.0, asked_within w.net k v ns less ys a.1))
     (λ (b : IsAskedLast w.net k v ys). inr (last_within w.net k v ns less ys b)) c
@@ -177,18 +176,16 @@ comes_within w k v ns less ys c =
 pub none_append : (net : Net) (k : HopKey) (xs ys : List Item) → NoneAsks net k xs → NoneAsks net k ys → NoneAsks net k (xs ++ ys)
 none_append net k xs ys a b y v i says = ⊎_elim (λ (x : In y xs). a y v x says) (λ (z : In y ys). b y v z says) (in_append y xs ys i)
 
-pub none_within : (net : Net) (k : HopKey) (ns : Names) (ys : List Item) → NoneAsks net k ys → AllWithin net k ns ys
-none_within net k ns ys none y v i says = absurd (none y v i says)
-
 -- a ResvTear that was sent, behind what came before, where nothing that is sent asks for the unit
-pub torn_later : (w : World) (k : HopKey) (ns : Names) (xs new : List Item) (y : Item) → w.flight ≡ xs ++ new → In y new → IsTearBack w.net k y ns → ComesWithin w k ns xs → NoneAsks w.net k new → IsTornLater w k
+pub torn_later : (w : World) (k : HopKey) (ns : Names) (xs new : List Item) (y : Item) → w.flight ≡ xs ++ new → In y new → IsTearBack w.net k y ns → ComesWithin w k ns xs
+    → NoneAsks w.net k new → IsTornLater w k
 torn_later w k ns xs new y flight i tears within none =
     let p = split_at y new i in
     record {
       front = xs ++ p.0;
       item = y;
       back = p.1;
-      is = flight ∙ ap (λ (z : List Item). xs ++ z) p.2 ∙ each_append xs p.0 (y ∷ p.1);
+      is = flight ∙ ap (λ (z : List Item). xs ++ z) p.2 ∙ sym (append_assoc xs p.0 (y ∷ p.1));
       names = ns;
       tears = tears;
       within = comes_before w k ns xs p.0 within
@@ -243,7 +240,7 @@ module _ (q : ℕ) (t : Step) (u : World) (bounds : AreBounds q u) (turns : (n :
     pub tears : IsTearBack u.net k item names
     pub less : IsWithin v.senders names
 
-  pub torn_now : (f : Facts) → slice_get u.nodes asker ≡ Some f → (v : Part) → get (toward here f lane) k.unit ≡ Some v → get (toward here (outcome q t u asker f).facts lane) k.unit ≡ None
+  torn_now : (f : Facts) → slice_get u.nodes asker ≡ Some f → (v : Part) → get (toward here f lane) k.unit ≡ Some v → get (toward here (outcome q t u asker f).facts lane) k.unit ≡ None
       → IsWithin (names_via f lane) (names_via (outcome q t u asker f).facts lane) → IsTornNow v
   torn_now f at v goes none via =
       ⊎_elim
@@ -266,7 +263,7 @@ module _ (q : ℕ) (t : Step) (u : World) (bounds : AreBounds q u) (turns : (n :
       ∙ and_made _ _ ((gone_by_units.each (toward here f lane) (toward here after lane) x).1 (record { unit = k.unit; part = v; was = goes; gone = gone; named = i }))
       (via_after x (part.1 x i))) in
       let first = unit_name k.style v part.0 in
-      let some : is_none torn ≡ false = some_within v.senders torn less (not_false (is_none v.senders) part.0) in
+      let some : is_none torn ≡ false = some_within v.senders torn less (not-true (is_none v.senders) part.0) in
       let send : Send = resv_tear_send here after lane torn in
       let sends : In send (sent_then here here c h.input f) = send_made here here c h.input f send h.loud (inr (inl (record { lane = lane; was = was; some = some; is = refl }))) in
       let out : In send (outcome q t u asker f).sent = subst (λ (z : Outcome). In send z.sent) (sym h.is) sends in
@@ -296,7 +293,29 @@ module _ (q : ℕ) (t : Step) (u : World) (bounds : AreBounds q u) (turns : (n :
         less = less;
       })
       (turns asker f at)
+
+  -- ---- what goes toward the hop after the step is asked for, as it was before or by what is sent
+  pub asked_after : (w : World) (rest : List Item) (v : Part) (f : Facts) → slice_get u.nodes asker ≡ Some f → get (toward here (outcome q t u asker f).facts lane) k.unit ≡ Some v
+      → (get (toward here f lane) k.unit ≡ Some v → AllAsk u.net k v (news q t u)
+      → (IsKeptOver w k v × AllAsk u.net k v (rest ++ news q t u)) ⊎ IsAskedLast u.net k v (rest ++ news q t u))
+      → (IsKeptOver w k v × AllAsk u.net k v (rest ++ news q t u)) ⊎ IsAskedLast u.net k v (rest ++ news q t u)
+  asked_after w rest v f at goes before =
+      let g : Facts = (outcome q t u asker f).facts in
+      let new : AllAsk u.net k v (news q t u) =
+      (λ y i l.
+      let x = in_each (λ (z : Item × Bool). z.0) y (sent q t u) i in
+      all_ask q t u bounds turns bounds' sound k there g (facts_after_made q t u asker f at) v goes y x.0.1 (subst (λ (z : Item). In (z, x.0.1) (sent q t u)) (sym x.2) x.1) l) in
+      ⊎_elim (λ (stays : toward here f lane ≡ toward here g lane). before (ap (λ (z : PartTable). get z k.unit) stays ∙ goes) new)
+      (λ (now : (x : Part) → get (toward here g lane) k.unit ≡ Some x → IsAskedNow q t u bounds turns bounds' sound k there x).
+      let x = now v goes in inr (last_behind u.net k v rest (news q t u) (last_asked u.net k v (news q t u) x.item x.new x.says new)))
+      (stays_or_asked q t u bounds turns bounds' sound k there f at)
+
+  -- ---- what goes toward it no more did not before either, or is torn down now
+  pub gone_before_or_now : (w : World) (f : Facts) → slice_get u.nodes asker ≡ Some f → get (toward here (outcome q t u asker f).facts lane) k.unit ≡ None
+      → IsWithin (names_via f lane) (names_via (outcome q t u asker f).facts lane) → (get (toward here f lane) k.unit ≡ None → IsForgotten w k ⊎ IsTornLater w k)
+      → ((v : Part) → get (toward here f lane) k.unit ≡ Some v → IsTornNow v → IsForgotten w k ⊎ IsTornLater w k) → IsForgotten w k ⊎ IsTornLater w k
+  gone_before_or_now w f at none via before now = by (get (toward here f lane) k.unit) refl
     where
-      not_false : (b : Bool) → not b ≡ true → b ≡ false
-      not_false true e = cc
-      not_false false e = refl
+      by : (o : Option Part) → get (toward here f lane) k.unit ≡ o → IsForgotten w k ⊎ IsTornLater w k
+      by None e = before e
+      by (Some v) e = now v e (torn_now f at v e none via)

@@ -1,8 +1,9 @@
 -- What goes toward a previous hop is at most what was wanted over its hop before, when local wants were no less.
-use Rattle.std.specs.Prelude.{◌≡◌, ℕ, Bool, is_some, true, false, not, List, [], ◌∷◌, ◌++◌, Option, Some, slice_get, refl, ◌==◌, ◌&&◌, map as each}
+use Rattle.std.specs.Prelude.{◌≡◌, ℕ, is_some, true, not, List, [], ◌∷◌, ◌++◌, Option, Some, slice_get, refl, ◌==◌, ◌&&◌, map as each}
 use Rattle.std.specs.List.{filter, flat_map}
 use Rattle.std.specs.Ordering.{eq_by_cmp}
 use Rattle.std.proofs.Common.{sym, ap, subst, ◌∙◌, inl, ⊎_elim}
+use Rattle.std.proofs.lemmas.Bool.{not-true}
 use Rattle.rsvp_base.specs.Members.{In}
 use Rattle.rsvp_base.specs.declared.part.Part.{Part}
 use Rattle.rsvp_base.specs.declared.session.Sender.{Sender}
@@ -91,13 +92,9 @@ wanted_below Shared ns p p' q le e = cut_monotone p p' q ns le e
 in_list : (o : Option Part) (p : Part) → o ≡ Some p → In p (as_list o)
 in_list o p e = subst (λ (z : Option Part). In p (as_list z)) (sym e) (inl refl)
 
-not_false : (b : Bool) → not b ≡ true → b ≡ false
-not_false true e = cc
-not_false false e = refl
-
 -- names and a flow that stand above a part make a part
 above : (s : Names) (x : Part) (g : TokenBucket) → has_name x ≡ true → IsWithin x.senders s → IsAtMost x.flow g → (y : Part) × (part_of s g ≡ Some y) × IsPartAtMost x y
-above s x g named less flow = (record { senders = s; flow = g }, part_of_some s g (some_within x.senders s less (not_false (is_none x.senders) named)), record { names = less; flow = flow })
+above s x g named less flow = (record { senders = s; flow = g }, part_of_some s g (some_within x.senders s less (not-true (is_none x.senders) named)), record { names = less; flow = flow })
 
 cut_in : (a s t : Names) (x : Part) → x.senders ≡ cut a s → IsWithin s t → IsWithin x.senders (cut a t)
 cut_in a s t x e less y h =
@@ -200,13 +197,6 @@ module _ (q : ℕ) (before : List Facts) (w : World) (bounds : AreBounds q w) (p
         style = cut_of_style l.style s.wanted y.0 (over (h ∷ s.hop ∷ [])) (want_style l.style w.net was l.session more.parts s.hop r.key.1 s.wanted s.is).0 y.1;
       }
 
-  -- so each request that names someone lies under a part of the equation
-  pub stands_above : (x : Request) → In x (requests (config_of q w.net w.trees n) f l) → has_name x.part ≡ true → (part : Part) × In part parts × IsPartAtMost x.part part × IsOfStyle l.style part
-  stands_above x i named =
-      let s = ⊎_elim (λ (a : IsResvRequest (config_of q w.net w.trees n) f l x). of_resv x named a) (λ (a : IsWantRequest f l x). of_want x named a)
-      ((requests_and_toward.each (config_of q w.net w.trees n) f l x).0 i) in
-      (s.part, s.among, s.above_it, s.style)
-
   of_request : (u : UnitOf) (x : Request) → IsRequestOf l.style (requests (config_of q w.net w.trees n) f l) u x → Stands x.part
   of_request u x r =
       ⊎_elim (λ (a : IsResvRequest (config_of q w.net w.trees n) f l x). of_resv x r.named a) (λ (a : IsWantRequest f l x). of_want x r.named a)
@@ -237,7 +227,7 @@ module _ (q : ℕ) (before : List Facts) (w : World) (bounds : AreBounds q w) (p
       (λ a b x y. (two a b x.0, part_at_most_along (part_meet a b) (part_join a b) v.0 (part_meet_below_join a b) (part_join_least a b v.0 x.1 y.1)))
       (requests (config_of q w.net w.trees n) f l) u t e every in
       record {
-        some = some_name t.senders (not_false (is_none t.senders) k.0);
+        some = some_name t.senders (not-true (is_none t.senders) k.0);
         hop = h;
         there = is.there;
         from = refl;
@@ -248,12 +238,16 @@ module _ (q : ℕ) (before : List Facts) (w : World) (bounds : AreBounds q w) (p
       }
     where
       two : (a b : Part) → has_name a ≡ true → not (is_none (union a.senders b.senders)) ≡ true
-      two a b e = ap not (some_within a.senders (union a.senders b.senders) (within_union_left senders a.senders b.senders) (not_false (is_none a.senders) e))
+      two a b e = ap not (some_within a.senders (union a.senders b.senders) (within_union_left senders a.senders b.senders) (not-true (is_none a.senders) e))
 
--- ---- what is within what was wanted is named and sound below every rank
-pub named_within : (before : List Facts) (w : World) → ((st : StyleKind) (n : ℕ) (f : Facts) (k : LineKey) (r : ResvState) → slice_get w.nodes n ≡ Some f → get (resvs_of st f) k ≡ Some r
-    → IsSoundResv st (as_before before w) n k r)
-    → (st : StyleKind) (n : ℕ) (f : Facts) (s : Session) (top : ℕ) → slice_get w.nodes n ≡ Some f → AreSoundBelow st (as_before before w) n f s top
+-- ---- what nodes keep is at most what was wanted
+abbrev pub AreKeptWithin : List Facts → World → Type 0
+AreKeptWithin before w =
+    (st : StyleKind) (n : ℕ) (f : Facts) (k : LineKey) (r : ResvState) → slice_get w.nodes n ≡ Some f → get (resvs_of st f) k ≡ Some r → IsSoundResv st (as_before before w) n k r
+
+-- then it is named, and sound below every rank
+pub named_within : (before : List Facts) (w : World) → AreKeptWithin before w → (st : StyleKind) (n : ℕ) (f : Facts) (s : Session) (top : ℕ) → slice_get w.nodes n ≡ Some f
+    → AreSoundBelow st (as_before before w) n f s top
 named_within before w sound st n f s top at = record {
   named = λ k r h same.
       let x = sound st n f k r at h in

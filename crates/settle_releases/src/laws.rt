@@ -5,10 +5,8 @@ ghost use Rattle.rsvp_base.specs.declared.style.StyleKind.{StyleKind};
 ghost use Rattle.rsvp_base.specs.Orders.{Names};
 ghost use Rattle.rsvp_base.specs.TokenBucket.{IsSound, TokenBucket};
 ghost use Rattle.router_rules.specs.Steps.{IsFitList};
-ghost use Rattle.tree_model.specs.Goals.{DemandsFit};
 ghost use Rattle.tree_model.specs.Ranks.{longest};
 ghost use Rattle.network_model.specs.Bounds.{IsStart};
-ghost use Rattle.network_model.specs.Locals.{locals_of};
 ghost use Rattle.network_model.specs.Worlds.{World};
 ghost use Rattle.settle_network.specs.Settled.{HasSettled};
 ghost use Rattle.settle_passes.specs.Passes.{after_passes};
@@ -23,13 +21,14 @@ pub fn a_settled_network_releases()
 {}
 
 /// And nothing is in flight then, where no want had a mark in the settled network: where nobody waited for a confirmation to be asked for.
-/// So nothing comes to a node any more until a refresh is due or somebody calls.
+/// So no datagram comes to a node any more until time passes or something happens from outside.
 pub fn a_release_leaves_nothing_in_flight()
     ensures { (q : ℕ) (xs : List (ℕ × Session)) (w : World) → IsStart q w → HasSettled q w → w.flight ≡ [] → HasNoMark w
         → (after_passes q (longest w.net) (after_quits q xs w)).flight ≡ [] }
 {}
 
-/// So it has H passes after a receiver asks for less: for no more than its node did before, a smaller flow or fewer senders.
+/// So it has H passes after a receiver asks for less: for no more than its node did before, as for a smaller flow, or with a shared filter
+/// for fewer senders. With a fixed filter, what its node wants of other senders stays.
 pub fn a_settled_network_serves_less()
     ensures { (q n : ℕ) (s : Session) (st : StyleKind) (names : Names) (flow : TokenBucket) (confirm : Bool) (w : World) → IsStart q w → HasSettled q w → w.flight ≡ []
         → IsFitList st names → IsSound flow → AsksNoMore w n s st names flow confirm
@@ -44,8 +43,15 @@ pub fn less_leaves_nothing_in_flight()
 {}
 
 /// And the next may quit then, or ask (`settle_passes::a_receiver_is_set_up`): a network that reserves each session, as exactly as it is
-/// wanted and with no Resv in flight, does so again H passes after receivers quit, where its demands fit.
+/// wanted and with no Resv in flight, does so again H passes after receivers quit. That its demands fit is in that, before and after.
 pub fn a_reserved_network_releases()
-    ensures { (q : ℕ) (xs : List (ℕ × Session)) (w : World) → ((s : Session) → IsReserving q s w × HasReserved s w) → DemandsFit w.net (locals_of w) → (s : Session)
+    ensures { (q : ℕ) (xs : List (ℕ × Session)) (w : World) → ((s : Session) → IsReserving q s w × HasReserved s w) → (s : Session)
         → IsReserving q s (after_passes q (longest w.net) (after_quits q xs w)) × HasReserved s (after_passes q (longest w.net) (after_quits q xs w)) }
+{}
+
+/// So it does after a receiver asks for less. Calls of both kinds may follow one another so, each H passes after the one before.
+pub fn a_reserved_network_serves_less()
+    ensures { (q n : ℕ) (c : Session) (st : StyleKind) (names : Names) (flow : TokenBucket) (confirm : Bool) (w : World) → ((s : Session) → IsReserving q s w × HasReserved s w)
+        → IsFitList st names → IsSound flow → AsksNoMore w n c st names flow confirm → (s : Session)
+        → IsReserving q s (after_passes q (longest w.net) (after_want q n c st names flow confirm w)) × HasReserved s (after_passes q (longest w.net) (after_want q n c st names flow confirm w)) }
 {}
