@@ -32,7 +32,8 @@ use Rattle.settle_passes.proofs.Rising.{reservations_rise_one_hop_a_pass}
 use Rattle.settle_passes.proofs.Serving.{a_settled_network_serves_a_receiver, settled_is_reserved}
 use Rattle.settle_passes.proofs.Wanting.{a_receiver_is_set_up}
 use Rattle.settle_releases.specs.Releases.{AsksNoMore, HasNoMark}
-use Rattle.settle_releases.specs.Worked.{AReceiverAsksForLess, AReceiverQuits, left_world, less_world, served_world, smaller}
+use Rattle.settle_releases.specs.Worked.{AConfirmationComesBack, AMarkWaits, AReceiverAsksForLess, AReceiverQuits, AnotherStyleIsWanted, SomethingIsInFlight, WhatIsLeftOverStays}
+use Rattle.settle_releases.specs.Worked.{left_world, less_world, served_world, smaller}
 use Rattle.settle_resvs.proofs.GoalByIface.{each_fits}
 use Rattle.rsvp_base.specs.declared.session.Session.{Session}
 use Rattle.rsvp_base.proofs.Counts.{found_in}
@@ -44,8 +45,9 @@ settled = a_settled_network_serves_a_receiver 7500 1 session Wild empty usual fa
 
 reserved : (s : Session) → IsReserving 7500 s served_world × HasReserved s served_world
 reserved s =
-    let d = a_receiver_is_set_up 7500 1 s session Wild empty usual false heard_world (settled_is_reserved 7500 heard_world a_receiver_asks.begins a_receiver_asks.settled refl s) tt a_receiver_asks.flow
-    a_receiver_asks.no_less (each_fits pair_net (locals_of asked_world) a_receiver_asks.all_fit s) in
+    let before = settled_is_reserved 7500 heard_world a_receiver_asks.begins a_receiver_asks.settled refl s in
+    let d = a_receiver_is_set_up 7500 1 s session Wild empty usual false heard_world before tt a_receiver_asks.flow a_receiver_asks.no_less
+    (each_fits pair_net (locals_of asked_world) a_receiver_asks.all_fit s) in
     ((reservations_rise_one_hop_a_pass 7500 s (longest pair_net) asked_world d.0).0, d.1)
 
 same_locals : locals_of asked_world ≡ locals_of served_world
@@ -83,7 +85,16 @@ unmarked (suc zero) f k x at h =
 unmarked (suc (suc n)) f k x at h = absurd (cc)
 
 pub a_receiver_quits : AReceiverQuits
-a_receiver_quits = record { begins = begins; settled = settled; quiet = refl; not_yet = not_yet; reserved = reserved; fit = fit; unmarked = unmarked }
+a_receiver_quits = record {
+  long = refl;
+  begins = begins;
+  settled = settled;
+  quiet = refl;
+  not_yet = not_yet;
+  sends = (_, inl refl);
+  reserved = reserved;
+  unmarked = unmarked;
+}
 
 -- ---- or it asks for less
 abbrev new_want : Want
@@ -131,4 +142,38 @@ too_much h =
 
 pub a_receiver_asks_for_less : AReceiverAsksForLess
 unfolding digits addr_text session_text sender_text flow_text entry_line head_text facts_with
-a_receiver_asks_for_less = record { begins = begins; settled = settled; quiet = refl; list = tt; fit = sound; no_more = no_more; not_yet = too_much; long = refl; text = refl }
+a_receiver_asks_for_less = record {
+  begins = begins;
+  settled = settled;
+  quiet = refl;
+  reserved = reserved;
+  unmarked = unmarked;
+  list = tt;
+  fit = sound;
+  no_more = no_more;
+  not_yet = too_much;
+  sends = (_, inl refl);
+  long = refl;
+  text = refl;
+}
+
+-- ---- where a premise is not met
+pub something_is_in_flight : SomethingIsInFlight
+unfolding digits addr_text session_text sender_text flow_text entry_line head_text facts_with
+something_is_in_flight = record { tear = refl; copy = refl }
+
+pub another_style_is_wanted : AnotherStyleIsWanted
+unfolding digits addr_text session_text sender_text flow_text entry_line head_text facts_with
+another_style_is_wanted = record { less = refl; quit = refl }
+
+pub what_is_left_over_stays : WhatIsLeftOverStays
+unfolding digits addr_text session_text sender_text flow_text entry_line head_text facts_with
+what_is_left_over_stays = record { text = refl }
+
+pub a_mark_waits : AMarkWaits
+unfolding digits addr_text session_text sender_text flow_text entry_line head_text facts_with
+a_mark_waits = record { quit = refl; less = refl }
+
+pub a_confirmation_comes_back : AConfirmationComesBack
+unfolding digits addr_text session_text sender_text flow_text entry_line head_text facts_with
+a_confirmation_comes_back = record { text = refl }
