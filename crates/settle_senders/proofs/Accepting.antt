@@ -1,0 +1,132 @@
+-- Each Resv of a session that arrives is taken whole, where the names that it lists are known.
+use Rattle.std.proofs.Common.{◌≡◌, ℕ, ◌<◌, List, [], ◌∷◌, length, true, Some, inl, arith, sym, refl, ap, subst, ◌∙◌}
+use Rattle.std.specs.Prelude.{slice_get}
+use Rattle.rsvp_base.specs.declared.addr.Addr.{Addr}
+use Rattle.rsvp_base.specs.declared.part.Part.{Part}
+use Rattle.rsvp_base.specs.declared.session.Sender.{Sender}
+use Rattle.rsvp_base.specs.declared.session.Session.{Session}
+use Rattle.rsvp_base.specs.declared.style.Unit.TheVariants.{One}
+use Rattle.rsvp_base.specs.Members.{In}
+use Rattle.rsvp_base.specs.Orders.{senders}
+use Rattle.rsvp_base.specs.Table.{has, kept}
+use Rattle.rsvp_base.specs.TokenBucket.{TokenBucket}
+use Rattle.rsvp_base.proofs.Members.{to_each}
+use Rattle.rsvp_base.proofs.SetLaws.{and_made, has-kept}
+use Rattle.rsvp_messages.specs.declared.ask.Ask.{Ask}
+use Rattle.rsvp_messages.specs.declared.ask.Ask.TheVariants as ask
+use Rattle.rsvp_messages.specs.declared.message.Message.TheVariants as message
+use Rattle.rsvp_messages.specs.declared.message.ResvMsg.{ResvMsg}
+use Rattle.rsvp_messages.specs.Proper.{IsProperAsk}
+use Rattle.rsvp_messages.specs.Units.{AskedUnit, ask_style, asked_units, fixed_unit}
+use Rattle.style_rules.specs.CutLaws.{name_some}
+use Rattle.laws_inputs.proofs.Knowing.{known_and_via}
+use Rattle.laws_steps.specs.AcceptingLaws.{CanBeTaken, IsPlaced, IsTakenWhole}
+use Rattle.laws_steps.proofs.Admitting.{what_is_accepted}
+use Rattle.router_rules.specs.Asking.{Asker, asker_of, matched}
+use Rattle.router_rules.specs.Facts.{Facts}
+use Rattle.router_rules.specs.Inputs.{Spelt}
+use Rattle.router_rules.specs.Known.{known}
+use Rattle.router_rules.specs.NodeConfig.{NodeConfig, goes_out}
+use Rattle.tree_model.specs.declared.locals.LocalWant.{LocalWant}
+use Rattle.tree_model.specs.Networks.{iface_of, node_of}
+use Rattle.tree_model.proofs.Following.{in_tree}
+use Rattle.tree_model.proofs.TreeLaws.{out_told}
+use Rattle.network_model.specs.Bounds.{AreBounds, IsProperArrival}
+use Rattle.network_model.specs.Locals.{locals_of, want_at}
+use Rattle.network_model.specs.Sound.{AreResvsSound}
+use Rattle.network_model.specs.Worlds.{Item, World, config_of}
+use Rattle.network_model.proofs.NodeLocals.{node_wants}
+use Rattle.laws_network.proofs.Known.{of_some}
+use Rattle.laws_network.proofs.Standing.{goes_out_made}
+use Rattle.settle_resvs.specs.GoalByIface.{goal_at}
+use Rattle.settle_resvs.specs.Sessions.{Carries, SessionFits}
+use Rattle.settle_resvs.proofs.GoalByIface.{session_can_be_held}
+use Rattle.settle_resvs.proofs.UnderTheGoal.{has_place, sound_under, want_needs}
+use Rattle.settle_senders.specs.Following.{AreNamesKnown, HasSenderNamed}
+
+-- a proper Resv asks for something
+some_unit : (a : Ask) → IsProperAsk a → (v : AskedUnit) × In v (asked_units a)
+some_unit (ask.Wild scope flow) h = (record { unit = One; names = scope; flow = flow }, inl refl)
+some_unit (ask.Shared part) h = (record { unit = One; names = Some part.senders; flow = part.flow }, inl refl)
+some_unit (ask.Fixed list) h = by list.rows refl h.some
+  where
+    by : (rows : List (Sender × TokenBucket)) → list.rows ≡ rows → 0 < length list.rows → (v : AskedUnit) × In v (asked_units (ask.Fixed list))
+    by [] e lt = let none = ap length e in absurd (omega (arith, none, lt))
+    by (x ∷ xs) e lt = (fixed_unit x, to_each fixed_unit x list.rows (subst (λ (z : List (Sender × TokenBucket)). In x z) (sym e) (inl refl)))
+
+module _ (q : ℕ) (s : Session) (u : World) (bounds : AreBounds q u) (fit : SessionFits u.net (locals_of u) s) (sound : AreResvsSound u) (names : AreNamesKnown u) (y : Item) (m : ResvMsg)
+    (i : In y u.flight) (spelt : y.arrival ≡ Spelt (message.Resv m)) (of : m.session ≡ s) (f : Facts) (at : slice_get u.nodes (node_of u.net.ends y.end) ≡ Some f) where
+  abbrev n : ℕ
+  n = node_of u.net.ends y.end
+
+  abbrev here : NodeConfig
+  here = config_of q u.net u.trees n
+
+  abbrev asks : Asker
+  asks = asker_of here u.clock (iface_of u.net.ends y.end) m
+
+  -- a name of a known sender whose tree goes out there matches
+  matches : (x : Sender) → HasSenderNamed u y.end m.session (ask_style m.ask) x → has (matched here f asks) x ≡ true
+  matches x h =
+      let same : h.knows.facts ≡ f = of_some h.knows.facts f (sym h.knows.there ∙ at) in
+      let knows : has (known f m.session) h.sender ≡ true = ap (λ (z : Facts). has (known z m.session) h.sender) (sym same) ∙ h.knows.known_one in
+      let hop = out_told u.net n y.end m.session.group h.sender.addr h.leaves in
+      let r = in_tree u.net.hops m.session.group h.sender.addr hop.0 hop.1 in
+      let routed : In (m.session.group, h.sender.addr) u.trees = subst (λ (z : Addr × Addr). In z u.trees) (λ j. (r.2 j, r.3 j)) (bounds.routed r.0 r.1) in
+      let out : goes_out here m.session (iface_of u.net.ends y.end) h.sender ≡ true = goes_out_made q u.net u.trees n m.session y.end h.sender routed h.leaves in
+      (known_and_via.named_by (ask_style m.ask) (kept (goes_out here m.session (iface_of u.net.ends y.end)) (known f m.session)) x).1
+      (record {
+        sender = h.sender;
+        among = has-kept senders (goes_out here m.session (iface_of u.net.ends y.end)) (known f m.session) h.sender ∙ and_made _ _ knows out;
+        passes = refl;
+        name = h.name;
+      })
+
+  placed : (v : AskedUnit) → In v (asked_units m.ask) → IsPlaced here asks f (goal_at u.net (locals_of u) n) v
+  placed v j =
+      let x = sound.items y m v i spelt j in
+      let part : Part = record { senders = x.names; flow = v.flow } in
+      record {
+        names = x.names;
+        listed = x.named;
+        some = name_some x.names x.sound.some;
+        match = λ z e. matches z (names.items y m v x.names z i spelt j x.named e);
+        place = has_place u asks y.end v.unit part x.sound refl;
+      }
+
+  proper : IsProperAsk m.ask
+  proper = let p = (bounds.flight y i).proper in subst IsProperArrival spelt p
+
+  fits : SessionFits u.net (locals_of u) m.session
+  fits = subst (SessionFits u.net (locals_of u)) (sym of) fit
+
+  -- the end carries the session
+  carries : Carries u.net (locals_of u) m.session y.end
+  carries =
+      let v = some_unit m.ask proper in
+      let x = sound.items y m v.0 i spelt v.1 in
+      record { hop = x.sound.hop; there = x.sound.there; from = x.sound.from; style = ask_style m.ask; unit = v.0.unit; part = x.sound.wanted; wanted = x.sound.is }
+
+  -- someone wants something of the session in the style
+  wants : (w : LocalWant) × In w (locals_of u).wants × (w.session ≡ m.session) × (w.style ≡ ask_style m.ask)
+  wants =
+      let v = some_unit m.ask proper in
+      let x = sound.items y m v.0 i spelt v.1 in
+      let b = want_needs (ask_style m.ask) u.net (locals_of u) m.session x.sound.hop v.0.unit x.sound.wanted x.sound.is in
+      (b.want, b.there, b.session, b.style)
+
+  can_be_taken : CanBeTaken here u.clock (iface_of u.net.ends y.end) m f (goal_at u.net (locals_of u) n)
+  can_be_taken = record {
+    proper = proper;
+    lines_held = session_can_be_held q u.net u.trees (locals_of u) m.session y.end bounds.net fits carries;
+    there = sound_under u n f (λ st k r h. sound.facts st n f k r at h);
+    units = placed;
+    resv_style = λ st k r h same.
+        let x = (sound.facts st n f k r at h).sound in
+        let b = want_needs st u.net (locals_of u) k.0 x.hop k.1.1 x.wanted x.is in
+        sym b.style ∙ fits.one_style b.want wants.0 b.there wants.1 (b.session ∙ same) wants.2 ∙ wants.3;
+    want_style = λ v w h. fits.one_style (want_at n ((m.session, v), w)) wants.0 (node_wants u n f (m.session, v) w at h) wants.1 refl wants.2 ∙ wants.3;
+  }
+
+  pub taken_whole : IsTakenWhole here here u.clock (iface_of u.net.ends y.end) m f (goal_at u.net (locals_of u) n)
+  taken_whole = what_is_accepted.whole here here u.clock u.clock (iface_of u.net.ends y.end) m f (goal_at u.net (locals_of u) n) (bounds.facts n f at) can_be_taken

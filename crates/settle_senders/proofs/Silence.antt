@@ -1,0 +1,685 @@
+-- Nothing is in flight in the end, where nobody waits to be confirmed: Paths go one hop further with each pass, and each ResvTear takes a
+-- name of what is wanted over its hop, so that the last are taken when reservations stand.
+use Rattle.std.proofs.Common.{◌≡◌, ℕ, zero, suc, ◌+◌, ◌*◌, ◌≤◌, List, [], ◌∷◌, ◌++◌, length, Bool, true, false, cond, Option, None, Some, ◌⊎◌, inl, inr, ⊎_elim, arith, sym, refl, ap, subst, ◌∙◌, drop}
+use Rattle.std.specs.Prelude.{slice_get, not, map as each}
+use Rattle.std.specs.List.{filter, remove}
+use Rattle.std.specs.Option.{option_map}
+use Rattle.rsvp_base.specs.declared.addr.Addr.{Addr}
+use Rattle.rsvp_base.specs.declared.part.Part.{Part}
+use Rattle.rsvp_base.specs.declared.session.Sender.{Sender}
+use Rattle.rsvp_base.specs.declared.session.Session.{Session}
+use Rattle.rsvp_base.specs.declared.style.Unit.{Unit as UnitOf}
+use Rattle.rsvp_base.specs.declared.style.Unit.TheVariants.{One}
+use Rattle.rsvp_base.specs.Members.{In}
+use Rattle.rsvp_base.specs.Orders.{Names, sessions, units}
+use Rattle.rsvp_base.specs.Table.{Table, get, has}
+use Rattle.rsvp_base.specs.TokenBucket.{IsSound, TokenBucket}
+use Rattle.rsvp_base.proofs.Counts.{in_found}
+use Rattle.rsvp_base.proofs.Members.{in_append, in_each, in_filter}
+use Rattle.rsvp_base.proofs.SetLaws.{and_both}
+use Rattle.rsvp_base.proofs.Tables.{either}
+use Rattle.rsvp_base.proofs.UnderLaws.{get-under}
+use Rattle.rsvp_messages.specs.declared.message.Message.{Message}
+use Rattle.rsvp_messages.specs.declared.message.Message.TheVariants as message
+use Rattle.rsvp_messages.specs.declared.message.PathMsg.{PathMsg}
+use Rattle.rsvp_messages.specs.declared.message.PathTearMsg.{PathTearMsg}
+use Rattle.rsvp_messages.specs.declared.message.ResvMsg.{ResvMsg}
+use Rattle.rsvp_messages.specs.declared.message.ResvTearMsg.{ResvTearMsg}
+use Rattle.rsvp_messages.specs.Units.{tear_names, tear_style}
+use Rattle.style_rules.specs.PartLaws.{part_at_most_told}
+use Rattle.style_rules.specs.Toward.{or_else}
+use Rattle.laws_inputs.specs.FactLaws.{is_way}
+use Rattle.laws_inputs.specs.Frames.{on_senders}
+use Rattle.laws_inputs.specs.SendLaws.{IsConf, IsError, IsPath, IsPathTear, IsResv, IsResvTear}
+use Rattle.laws_inputs.proofs.Framing.{act_senders, act_wants, wants_then}
+use Rattle.laws_inputs.proofs.Knowing.{known_and_via}
+use Rattle.laws_inputs.proofs.Offering.{offers_by_way}
+use Rattle.laws_inputs.proofs.Stepping.{send_told}
+use Rattle.laws_inputs.proofs.Tests.{not_new}
+use Rattle.laws_steps.specs.AcceptingLaws.{came_resv}
+use Rattle.laws_steps.specs.ReservationLaws.{IsOfGoneUnits, TakesName}
+use Rattle.laws_steps.specs.SpeakingLaws.{IsOfOffer}
+use Rattle.laws_steps.proofs.Hopward.{why_a_resv_tear_is_sent}
+use Rattle.router_rules.specs.Act.{act, act_spelt, is_mine}
+use Rattle.router_rules.specs.Asking.{stays}
+use Rattle.router_rules.specs.Calls.{call_refusal}
+use Rattle.router_rules.specs.Facts.{Facts, PathState, SenderKey, Want, WantKey, Wants, sender_keys, wants_in}
+use Rattle.router_rules.specs.Inputs.{Call, Came, Change, ConfSend, ErrSend, Input, Local, Send, SendAs, Spelt, Wait}
+use Rattle.router_rules.specs.Known.{Lane}
+use Rattle.router_rules.specs.NodeConfig.{NodeConfig, own}
+use Rattle.router_rules.specs.Offers.{Offer, offer_at, offers, own_offer, path_offer}
+use Rattle.router_rules.specs.Rule.{Outcome, settled}
+use Rattle.router_rules.specs.Sends.{confirm_for, confirmed, is_changed, is_marked, is_new_offer, marked_units, own_wish, path_send}
+use Rattle.router_rules.specs.Steps.{facts_then, node_step, sent_then}
+use Rattle.tree_model.specs.declared.hops.End.{End}
+use Rattle.tree_model.specs.declared.hops.LinkHop.{LinkHop}
+use Rattle.tree_model.specs.Goals.{DemandsFit, addr_of, addr_of_end}
+use Rattle.tree_model.specs.Networks.{Net, end_at, iface_of, node_of, node_of_end, peers}
+use Rattle.tree_model.specs.Ranks.{longest, rank}
+use Rattle.tree_model.specs.Trees.{depth, hops_of, inward, outward}
+use Rattle.tree_model.specs.Wants.{want}
+use Rattle.tree_model.proofs.Depths.{depth_and_rank_within_longest}
+use Rattle.tree_model.proofs.Ifaces.{interfaces_are_ends}
+use Rattle.tree_model.proofs.Links.{hop_linked, one_sending_end_on_a_link, peers_both}
+use Rattle.tree_model.proofs.RankLaws.{rank_falls}
+use Rattle.tree_model.proofs.TreeLaws.{out_told}
+use Rattle.network_model.specs.Bounds.{AreBounds, AreHosts, IsStart}
+use Rattle.network_model.specs.Events.{pass, passes}
+use Rattle.network_model.specs.Links.{goes_to, is_group}
+use Rattle.network_model.specs.Locals.{locals_of}
+use Rattle.network_model.specs.Sound.{ArePathsSound, AreResvsSound, IsSoundPart}
+use Rattle.network_model.specs.Steps.{At, Deliver, Step, outcome, sent, step, still}
+use Rattle.network_model.specs.Worlds.{Item, World, config_of}
+use Rattle.network_model.proofs.Changing.{what_is_sent_is_copied, where_a_send_goes}
+use Rattle.network_model.proofs.Machines.{in_arrived, in_flight_after, in_rest}
+use Rattle.network_model.proofs.Quiet.{at_node_found}
+use Rattle.network_model.proofs.Stepping.{facts_after_found, facts_after_made}
+use Rattle.laws_network.specs.Known.{IsSameNet}
+use Rattle.laws_network.proofs.Known.{of_some}
+use Rattle.laws_network.proofs.Sends.{goes_to_end, goes_to_peers, sent_by_rule}
+use Rattle.laws_network.proofs.Speaking.{refreshes_are_marked, what_a_path_sent_says}
+use Rattle.laws_network.proofs.Standing.{own_end, peer_there, same_end, some_at, way_out}
+use Rattle.settle_paths.specs.SoftPaths.{path_at}
+use Rattle.settle_paths.proofs.PreviousHops.{ahead, ends_there, same_by_addr}
+use Rattle.settle_paths.proofs.SoftPaths.{IsBrought, path_found, path_made, path_source}
+use Rattle.settle_resvs.specs.GoalByIface.{goal_at}
+use Rattle.settle_resvs.specs.Said.{HopKey, IsOver, hop_over, lane_of}
+use Rattle.settle_resvs.specs.Sessions.{SessionFits}
+use Rattle.settle_resvs.proofs.GoalByIface.{each_fits}
+use Rattle.settle_resvs.proofs.SoundResvs.{part_again}
+use Rattle.settle_resvs.proofs.TowardWants.{toward_is_at_most_the_want}
+use Rattle.settle_network.specs.Settled.{HasSettled}
+use Rattle.settle_passes.specs.Calls.{IsNew, after_send}
+use Rattle.settle_passes.specs.Passes.{HasNoPathTear, after_passes}
+use Rattle.settle_passes.proofs.Calls.{path_sent_by_call}
+use Rattle.settle_passes.proofs.Deliveries.{came_by_delivery, known_self, path_stays, same_next, tear_of_none}
+use Rattle.settle_passes.proofs.Rising.{rise}
+use Rattle.settle_passes.proofs.Serving.{settled_is_reserved}
+use Rattle.settle_passes.proofs.SoundParts.{named_below}
+use Rattle.settle_passes.proofs.Spreading.{after_deliveries, run_then}
+use Rattle.settle_passes.proofs.Tearing.{IsFrom, drop_or, no_rest, tail_drop}
+use Rattle.settle_passes.proofs.Turns.{Turns, left, moment, place, sent_in_turn, torn_in_turn}
+use Rattle.settle_releases.specs.Releases.{HasNoMark}
+use Rattle.settle_releases.proofs.Silence.{IsUnanswered, resv_unanswered, tear_unanswered}
+use Rattle.settle_releases.proofs.TakenBack.{names_of_tear, style_of_tear}
+use Rattle.settle_senders.specs.Following.{IsFollowing}
+use Rattle.settle_senders.proofs.Following.{following_next, taken, turns}
+use Rattle.settle_senders.proofs.Sending.{a_reserving_session_follows, following_then, in_flight_then, sound_on, turns as called_turns, unless_same}
+use Rattle.settle_senders.proofs.Serving.{deliveries_stay, paths_reach_receivers_that_wait, receivers_that_wait_are_served, twice}
+
+-- ---- a node that tells nobody of an error and confirms nothing
+record IsQuietTurn (p : NodeConfig) (c : ℕ) (input : Input) (f : Facts) : Type 0 where
+  errors : (act p c input f).errors ≡ []
+  confs : (act p c input f).confs ≡ []
+  asked : (act p c input f).asked ≡ None
+  -- and no want of it has a mark
+  unmarked : (k : WantKey) (x : Want) → get (act p c input f).facts.wants k ≡ Some x → x.confirm ≡ false
+
+-- a Resv without a wish to be confirmed, a ResvTear, a Path or a PathTear
+abbrev IsPlain : Message → Type 0
+IsPlain n =
+    ((m : ResvMsg) × (n ≡ message.Resv m) × (m.confirm ≡ None))
+    ⊎ (((m : ResvTearMsg) × (n ≡ message.ResvTear m)) ⊎ (((m : PathMsg) × (n ≡ message.Path m)) ⊎ ((m : PathTearMsg) × (n ≡ message.PathTear m))))
+
+cond_none : (b : Bool) (o : Option Addr) → o ≡ None → cond b o None ≡ None
+cond_none true o e = e
+cond_none false o e = refl
+
+nothing : {A : Type 0} (xs : List A) → ((x : A) → In x xs → ⊥) → xs ≡ []
+nothing [] none = refl
+nothing (x ∷ xs) none = absurd (none x (inl refl))
+
+module _ (p : NodeConfig) (c : ℕ) (input : Input) (f : Facts) (q : IsQuietTurn p c input f) where
+  abbrev change : Change
+  change = act p c input f
+
+  abbrev after : Facts
+  after = settled p c f change.facts
+
+  no_marks : (l : Lane) → marked_units p after l ≡ []
+  no_marks l =
+      ap (λ (xs : List (UnitOf × Want)). each (λ (e : UnitOf × Want). e.0) xs)
+      (nothing (filter (is_marked p after l) (wants_in after l.session).rows)
+      (λ e i.
+      let t = in_filter (is_marked p after l) e (wants_in after l.session).rows i in
+      let there : get after.wants (l.session, e.0) ≡ Some e.1 = sym (get-under sessions units after.wants l.session e.0) ∙ in_found units (wants_in after l.session) e.0 e.1 t.0 in
+      let bad : true ≡ false = sym (and_both _ _ t.1).0 ∙ q.unmarked (l.session, e.0) e.1 there in
+      cc))
+
+  no_wish : (l : Lane) → confirm_for p after l change.asked ≡ None
+  no_wish l = ap (confirm_for p after l) q.asked ∙ ap (own_wish p l) (no_marks l)
+
+  -- it sends such alone
+  sends_plain : (s : Send) → In s (sent_then p p c input f) → IsPlain s.message
+  sends_plain s i =
+      ⊎_elim
+      (λ (x : IsPathTear p p f after change s). inr (inr (inr (_, ap (λ (z : Send). z.message) x.is))))
+      (λ k. ⊎_elim (λ (x : IsResvTear p p f after change s). inr (inl (_, ap (λ (z : Send). z.message) x.is)))
+      (λ k. ⊎_elim (λ (x : IsError p p f after change s). absurd (subst (λ (zs : List ErrSend). In x.error zs) q.errors x.made))
+      (λ k. ⊎_elim (λ (x : IsConf p p f after change s).
+      let none : change.confs ++ confirmed p p f after change.asked ≡ [] = (λ j. q.confs j ++ confirmed p p f after (q.asked j)) in
+      absurd (subst (λ (zs : List ConfSend). In x.conf zs) none x.made))
+      (λ k. ⊎_elim (λ (x : IsPath p p f after change s). inr (inr (inl (_, ap (λ (z : Send). z.message) x.is))))
+      (λ (x : IsResv p p f after change s).
+      inl (_, ap (λ (z : Send). z.message) x.is, cond_none (is_changed p p f after x.lane) (confirm_for p after x.lane change.asked) (no_wish x.lane))) k) k) k) k)
+      (send_told p p c input f s i)
+
+unanswered_is_quiet : (p : NodeConfig) (c : ℕ) (input : Input) (f : Facts) → IsUnanswered p c input f → IsQuietTurn p c input f
+unanswered_is_quiet p c input f v = record { errors = v.errors; confs = v.confs; asked = v.asked; unmarked = v.unmarked }
+
+-- ---- a Path that comes
+module _ (p : NodeConfig) (c e : ℕ) (dst : Addr) (m : PathMsg) (f : Facts) (unmarked : (k : WantKey) (x : Want) → get f.wants k ≡ Some x → x.confirm ≡ false) where
+  abbrev tells : Input
+  tells = Came e dst (Spelt (message.Path m))
+
+  no_errors : (b : Bool) → (act_spelt p c e (message.Path m) b f).errors ≡ []
+  no_errors true = refl
+  no_errors false = refl
+
+  no_confs : (b : Bool) → (act_spelt p c e (message.Path m) b f).confs ≡ []
+  no_confs true = refl
+  no_confs false = refl
+
+  not_asked : (b : Bool) → (act_spelt p c e (message.Path m) b f).asked ≡ None
+  not_asked true = refl
+  not_asked false = refl
+
+  path_quiet : IsQuietTurn p c tells f
+  path_quiet = record {
+    errors = no_errors (is_mine p e dst (message.Path m));
+    confs = no_confs (is_mine p e dst (message.Path m));
+    asked = not_asked (is_mine p e dst (message.Path m));
+    unmarked = λ k x h. unmarked k x (ap (λ (t : Wants). get t k) (sym (act_wants p c tells f refl)) ∙ h);
+  }
+
+-- ---- what is in flight
+abbrev IsPlainItem : Item → Type 0
+IsPlainItem y =
+    ((m : ResvMsg) × (y.arrival ≡ Spelt (message.Resv m)) × (m.confirm ≡ None))
+    ⊎ (((m : ResvTearMsg) × (y.arrival ≡ Spelt (message.ResvTear m))) ⊎ ((m : PathMsg) × (y.arrival ≡ Spelt (message.Path m))))
+
+-- a ResvTear goes back over a hop, and takes a name of what is sound there
+record IsTearOfSound (w : World) (y : Item) (m : ResvTearMsg) : Type 0 where
+  key : HopKey
+  there : In (hop_over key) (hops_of w.net.hops key.session.group)
+  over : IsOver w.net key y m.session m.hop.addr (tear_style m.tear)
+  part : Part
+  sound : IsSoundPart key.style w key.session key.to (addr_of w.net key.from) key.unit part
+  takes : TakesName m part
+
+-- where a Path in flight came from: a node that is so many hops from the root at least
+abbrev IsPathFrom : Net → ℕ → Item → Type 0
+IsPathFrom net n y = (m : PathMsg) (x : Sender) (t : TokenBucket) → y.arrival ≡ Spelt (message.Path m) → m.sender ≡ Some (x, t) → IsFrom net (m.session, x) n y
+
+less_deep : (net : Net) (i j : ℕ) → i ≤ j → (y : Item) → IsPathFrom net j y → IsPathFrom net i y
+less_deep net i j le y from m x t spelt sender = let f = from m x t spelt sender in let deep = f.deep in record { end = f.end; leaves = f.leaves; to = f.to; deep = omega (arith, le, deep) }
+
+-- ---- a step by which a node follows its rule at most
+module _ (q : ℕ) (t : Step) (u : World) (bounds : AreBounds q u) (follows : (n : ℕ) (f : Facts) → slice_get u.nodes n ≡ Some f → (outcome q t u n f ≡ still f) ⊎ Turns q t u n f) where
+  -- what is sent by nodes whose turns are quiet, where no PathTear is
+  plain_sent : HasNoPathTear (step q t u) → ((n : ℕ) (f : Facts) → slice_get u.nodes n ≡ Some f → (h : Turns q t u n f) → IsQuietTurn (place q t u n) (moment q t u) h.input f)
+      → (y : Item) (b : Bool) → In (y, b) (sent q t u) → In y (step q t u).flight → IsPlainItem y
+  plain_sent no_tear quiet y b i flies =
+      let c = (what_is_sent_is_copied q t u (y, b)).0 i in
+      let spelt : y.arrival ≡ Spelt c.send.message = ap (λ (z : Item × Bool). z.0.arrival) c.is in
+      let r = sent_in_turn q t u bounds follows y b c.send.message i spelt in
+      ⊎_elim
+      (λ (x : (m : ResvMsg) × (r.send.message ≡ message.Resv m) × (m.confirm ≡ None)). inl (x.0, spelt ∙ ap Spelt (sym r.says ∙ x.1), x.2))
+      (λ k. ⊎_elim (λ (x : (m : ResvTearMsg) × (r.send.message ≡ message.ResvTear m)). inr (inl (x.0, spelt ∙ ap Spelt (sym r.says ∙ x.1))))
+      (λ k. ⊎_elim (λ (x : (m : PathMsg) × (r.send.message ≡ message.Path m)). inr (inr (x.0, spelt ∙ ap Spelt (sym r.says ∙ x.1))))
+      (λ (x : (m : PathTearMsg) × (r.send.message ≡ message.PathTear m)). absurd (no_tear y x.0 flies (spelt ∙ ap Spelt (sym r.says ∙ x.1)))) k) k)
+      (sends_plain (place q t u r.node) (moment q t u) r.by.input r.facts (quiet r.node r.facts r.there r.by) r.send r.sent_one)
+
+  -- a mark that is not there does not come
+  unmarked_then : ((n : ℕ) (f : Facts) → slice_get u.nodes n ≡ Some f → (h : Turns q t u n f) → IsQuietTurn (place q t u n) (moment q t u) h.input f) → HasNoMark u → HasNoMark (step q t u)
+  unmarked_then quiet unmarked n g k x at h =
+      let f = facts_after_found q t u n g at in
+      let now : get (outcome q t u n f.0).facts.wants k ≡ Some x = ap (λ (z : Facts). get z.wants k) (sym f.2) ∙ h in
+      ⊎_elim (λ (z : outcome q t u n f.0 ≡ still f.0). unmarked n f.0 k x f.1 (sym (ap (λ (o : Outcome). get o.facts.wants k) z) ∙ now))
+      (λ (d : Turns q t u n f.0).
+      let p : NodeConfig = place q t u n in
+      let v = quiet n f.0 f.1 d in
+      let marks = wants_then p p (moment q t u) d.input f.0 in
+      let b = marks.source k x (sym (ap (λ (o : Outcome). get o.facts.wants k) d.is) ∙ now) in
+      not_marked x.confirm b.0.confirm b.3 (v.unmarked k b.0 b.1))
+      (follows n f.0 f.1)
+    where
+      not_marked : (a b : Bool) → (a ≡ true → b ≡ true) → b ≡ false → a ≡ false
+      not_marked true b up e = let bad : true ≡ false = sym (up refl) ∙ e in absurd (cc)
+      not_marked false b up e = refl
+
+  module _ (bounds' : AreBounds q (left q t u)) (sound' : ArePathsSound (left q t u)) (sound : ArePathsSound u) (resvs : AreResvsSound u) where
+    -- a ResvTear goes back over a hop of its session, and names someone
+    record IsBackOver (y : Item) (m : ResvTearMsg) : Type 0 where
+      key : HopKey
+      there : In (hop_over key) (hops_of u.net.hops key.session.group)
+      over : IsOver u.net key y m.session m.hop.addr (tear_style m.tear)
+      names : Names
+      lists : tear_names m.tear ≡ Some names
+      some : (x : Sender) × (has names x ≡ true)
+
+    goes_back : (y : Item) (b : Bool) (m : ResvTearMsg) → In (y, b) (sent q t u) → y.arrival ≡ Spelt (message.ResvTear m) → IsBackOver y m
+    goes_back y b m i spelt =
+        let r = sent_in_turn q t u bounds follows y b (message.ResvTear m) i spelt in
+        let p : NodeConfig = place q t u r.node in
+        let facts : Facts = (outcome q t u r.node r.facts).facts in
+        let x : IsOfGoneUnits p p r.facts facts r.send m =
+        subst (λ (z : Outcome). IsOfGoneUnits p p r.facts z.facts r.send m) (sym r.by.is)
+        (why_a_resv_tear_is_sent (node_step p p u.clock (moment q t u) r.by.input r.facts) (bounds.facts r.node r.facts r.there) r.send m r.sent_one r.says) in
+        let after : slice_get (left q t u).nodes r.node ≡ Some facts = facts_after_made q t u r.node r.facts r.there in
+        let named = (known_and_via.all_by facts x.lane x.some.0).0 (x.via_hop x.some.0 x.some.1) in
+        let comes = (known_and_via.via_by facts x.lane.session x.lane.hop named.sender).0 named.among in
+        let a = ahead (left q t u) r.node facts sound' after x.lane.session x.lane.hop named.sender comes in
+        let valid = bounds.net in
+        let mine = ends_there u.net valid x.lane.session.group a.way a.previous.there in
+        let e = goes_to_end u.net (end_at u.net.ends r.node r.send.iface) r.send.dst y.end r.to in
+        let at : end_at u.net.ends r.node x.lane.hop.0 ≡ Some e.0 = ap (end_at u.net.ends r.node) (sym x.iface) ∙ e.1 in
+        let of = (interfaces_are_ends u.net).iface_of_end r.node x.lane.hop.0 e.0 at in
+        let hop_addr : m.hop.addr ≡ own p x.lane.hop.0 = ap (λ (z : ResvTearMsg). z.hop.addr) x.is in
+        let to : a.way.to ≡ e.0 = same_end u.net a.way.to e.0 mine.1 of.0 (a.previous.node ∙ sym of.1) (a.previous.iface ∙ sym of.2) in
+        let linked : In a.way.to (peers u.net.links a.way.from) = hop_linked u.net valid x.lane.session.group named.sender.addr a.way a.there in
+        let back : In a.way.from (peers u.net.links e.0) = subst (λ (z : ℕ). In a.way.from (peers u.net.links z)) to (peers_both u.net valid a.way.from a.way.to linked) in
+        let goes : In y.end (goes_to u.net (Some e.0) x.lane.hop.1) = subst (λ (z : Option ℕ × Addr). In y.end (goes_to u.net z.0 z.1)) (λ j. (e.1 j, x.dst j)) r.to in
+        let own_addr : is_group (addr_of u.net a.way.from) ≡ false =
+        (let z = some_at u.net.ends a.way.from mine.0 in ap (λ (w : Option End). is_group (addr_of_end w)) z.1 ∙ bounds.hosts a.way.from z.0 z.1) in
+        let no_group = subst (λ (z : Addr). is_group z ≡ false) a.previous.addr own_addr in
+        let got = ((where_a_send_goes u.net e.0 x.lane.hop.1).one no_group a.way.from back a.previous.addr y.end).0 goes in
+        let from : y.end ≡ a.way.from = same_by_addr u.net valid y.end a.way.from (peer_there u.net valid e.0 y.end got.0) mine.0 (got.1 ∙ sym a.previous.addr) in
+        record {
+          key = record { session = x.lane.session; style = x.lane.style; unit = One; from = a.way.to; to = a.way.from };
+          there = a.previous.there;
+          over = record {
+            end = from;
+            session = ap (λ (z : ResvTearMsg). z.session) x.is;
+            from = hop_addr ∙ own_end q u.net u.trees r.node x.lane.hop.0 e.0 at ∙ ap (addr_of u.net) (sym to);
+            style = ap (λ (z : ResvTearMsg). tear_style z.tear) x.is ∙ style_of_tear x.lane.style x.names;
+          };
+          names = x.names;
+          lists = ap (λ (z : ResvTearMsg). tear_names z.tear) x.is ∙ names_of_tear x.lane.style x.names;
+          some = x.some;
+        }
+
+    -- and takes a name of what went toward the hop before, and so of what is sound there
+    tear_of_sound : (y : Item) (b : Bool) (m : ResvTearMsg) → In (y, b) (sent q t u) → y.arrival ≡ Spelt (message.ResvTear m) → IsTearOfSound u y m
+    tear_of_sound y b m i spelt =
+        let g = goes_back y b m i spelt in
+        let k : HopKey = g.key in
+        let n : ℕ = node_of u.net.ends k.from in
+        let r = torn_in_turn q t u bounds follows bounds' sound' k g.there y b m i spelt g.over in
+        let listed : g.names ≡ r.names = of_some g.names r.names (sym g.lists ∙ r.lists) in
+        let gone = r.gone g.some.0 (ap (λ (z : Names). has z g.some.0) (sym listed) ∙ g.some.1) in
+        let x = toward_is_at_most_the_want q u bounds sound n r.before r.at (lane_of u.net k) (hop_over k) (record { there = g.there; node = refl; iface = refl; addr = refl })
+        (named_below u resvs.facts k.style n r.before k.session (rank u.net k.session.group (hop_over k)) r.at) gone.unit gone.part gone.was in
+        record {
+          key = record { session = k.session; style = k.style; unit = gone.unit; from = k.from; to = k.to };
+          there = g.there;
+          over = record { end = g.over.end; session = g.over.session; from = g.over.from; style = g.over.style };
+          part = gone.part;
+          sound = x;
+          takes = record { name = g.some.0; was = gone.named; goes = ap (λ (o : Option Names). stays o g.some.0) g.lists ∙ ap not g.some.1 };
+        }
+
+-- ---- a Path that is sent when one is delivered comes from a node that is one hop further from the root
+module _ (q : ℕ) (u : World) (bounds : AreBounds q u) (no_tear : HasNoPathTear u) (n : ℕ) (old : (y : Item) → slice_get u.flight 0 ≡ Some y → IsPathFrom u.net n y) where
+  deep_by_path : (r : ℕ) (k : SenderKey) (x : PathState) → IsBrought q u.net (Deliver 0) u r k x → suc n ≤ depth u.net k.0.group k.1.addr r
+  deep_by_path r k x new =
+      let key : ◌≡◌ {A = SenderKey} (new.path.session, k.1) k = (λ j. (new.session j, k.1)) in
+      let from = subst (λ (z : SenderKey). IsFrom u.net z n new.item) key (old new.item new.arrives new.path k.1 new.tspec new.spelt new.sender) in
+      let into : inward u.net (node_of u.net.ends new.item.end) k.0.group k.1.addr ≡ Some new.item.end =
+      subst (λ (z : ℕ). inward u.net z k.0.group k.1.addr ≡ Some new.item.end) (sym new.node) new.inward in
+      let hop = (one_sending_end_on_a_link u.net bounds.net).hop k.0.group k.1.addr from.end new.item.end from.leaves from.to into in
+      let along = (depth_and_rank_within_longest u.net bounds.net).along k.0.group k.1.addr hop.0 hop.1 in
+      let a1 = ap (λ (z : ℕ). depth u.net k.0.group k.1.addr (node_of u.net.ends z)) hop.2 in
+      let a2 = ap (λ (z : ℕ). depth u.net k.0.group k.1.addr (node_of u.net.ends z)) hop.3 in
+      let a3 = ap (λ (z : ℕ). depth u.net k.0.group k.1.addr z) new.node in
+      let deep = from.deep in
+      omega arith
+
+  -- so is a node at which the path of a sender changes
+  same_or_deep : (r : ℕ) (f : Facts) → slice_get u.nodes r ≡ Some f → (k : SenderKey) → (get (outcome q (Deliver 0) u r f).facts.paths k ≡ get f.paths k) ⊎ (suc n ≤ depth u.net k.0.group k.1.addr r)
+  same_or_deep r f at k = by (get (outcome q (Deliver 0) u r f).facts.paths k) (get f.paths k) refl refl
+    where
+      g : Facts
+      g = (outcome q (Deliver 0) u r f).facts
+
+      after : slice_get (step q (Deliver 0) u).nodes r ≡ Some g
+      after = facts_after_made q (Deliver 0) u r f at
+
+      by : (o p : Option PathState) → get g.paths k ≡ o → get f.paths k ≡ p → (get g.paths k ≡ get f.paths k) ⊎ (suc n ≤ depth u.net k.0.group k.1.addr r)
+      by None None e h = inl (e ∙ sym h)
+      by None (Some x) e h =
+          let s = path_stays q 0 u bounds r f k x (tear_of_none u no_tear k) at h in
+          let same : s.0 ≡ g = of_some s.0 g (sym s.1 ∙ after) in
+          let bad : None ≡ Some s.2 = sym e ∙ ap (λ (z : Facts). get z.paths k) (sym same) ∙ s.3 in
+          absurd (cc)
+      by (Some x) p e h =
+          ⊎_elim
+          (λ (was : path_at u r k ≡ Some x).
+          let z = path_found u r k x was in
+          let same : z.0 ≡ f = of_some z.0 f (sym z.1 ∙ at) in
+          inl (e ∙ sym z.2 ∙ ap (λ (d : Facts). get d.paths k) same))
+          (λ (new : IsBrought q u.net (Deliver 0) u r k x). inr (deep_by_path r k x new))
+          (path_source q (Deliver 0) u refl bounds r k x (path_made (step q (Deliver 0) u) r k x g after e))
+
+  path_sent_from : (y : Item) (b : Bool) → In (y, b) (sent q (Deliver 0) u) → IsPathFrom u.net (suc n) y
+  path_sent_from y b i m x t spelt sender =
+      let r = sent_by_rule q (Deliver 0) u y b (message.Path m) refl i spelt in
+      let p : NodeConfig = config_of q u.net u.trees r.node in
+      let c : ℕ = u.clock + 0 in
+      let s = node_step p p u.clock c r.by.input r.facts in
+      let within = bounds.facts r.node r.facts r.there in
+      let came = came_by_delivery q 0 u bounds r.node r.by.input r.by.came in
+      either r.send.refresh
+      (λ yes.
+      let w = refreshes_are_marked.waited s within r.send r.sent yes in
+      let bad : Wait w.0 w.1 ≡ Came (iface_of u.net.ends came.item.end) came.item.dst came.item.arrival = sym w.2 ∙ came.is in absurd (cc))
+      (λ no.
+      let w = what_a_path_sent_says.why s within r.send m r.sent r.says no in
+      let o : IsOfOffer p (facts_then p p c r.by.input r.facts) r.send m = what_a_path_sent_says.says s within r.send m r.sent r.says in
+      let said : message.Path m ≡ (path_send p false (w.0, w.1)).message = sym r.says ∙ ap (λ (z : Send). z.message) w.2 in
+      let session : m.session ≡ w.0.session = path_said m _ said (λ (z : PathMsg). z.session) in
+      let from_sender : m.sender ≡ Some (w.0.sender, w.1.tspec) = path_said m _ said (λ (z : PathMsg). z.sender) in
+      let name : x ≡ w.0.sender = ap (λ (z : Sender × TokenBucket). z.0) (of_some (x, t) (w.0.sender, w.1.tspec) (sym sender ∙ from_sender)) in
+      let e = way_out q u.net u.trees r.node bounds.net o.key.session o.key.iface o.key.sender o.there o.way in
+      let of_session : o.key.session ≡ m.session = sym (ap (λ (z : PathMsg). z.session) o.is) in
+      let of_sender : o.key.sender ≡ x = ap (λ (z : Sender × TokenBucket). z.0) (of_some (o.key.sender, o.offer.tspec) (x, t) (sym (ap (λ (z : PathMsg). z.sender) o.is) ∙ sender)) in
+      let key : ◌≡◌ {A = SenderKey} (o.key.session, o.key.sender) (m.session, x) = (λ j. (of_session j, of_sender j)) in
+      let deep : suc n ≤ depth u.net w.0.session.group w.0.sender.addr r.node = ⊎_elim
+      (λ (same : get (outcome q (Deliver 0) u r.node r.facts).facts.paths (w.0.session, w.0.sender) ≡ get r.facts.paths (w.0.session, w.0.sender)).
+      let now : Facts = facts_then p p c r.by.input r.facts in
+      let paths : get now.paths (w.0.session, w.0.sender) ≡ get r.facts.paths (w.0.session, w.0.sender) =
+      sym (ap (λ (z : Outcome). get z.facts.paths (w.0.session, w.0.sender)) r.by.is) ∙ same in
+      let calm : on_senders r.by.input ≡ false = ap on_senders came.is in
+      let senders : get now.senders (w.0.session, w.0.sender) ≡ get r.facts.senders (w.0.session, w.0.sender) =
+      ap (λ (z : Table sender_keys TokenBucket). get z (w.0.session, w.0.sender)) (act_senders p c r.by.input r.facts calm) in
+      let offer_same : offer_at now w.0 ≡ offer_at r.facts w.0 = (λ j. or_else (option_map own_offer (senders j)) (option_map path_offer (paths j))) in
+      let old_offer : get (offers p r.facts) w.0 ≡ Some w.1 =
+      offers_by_way p r.facts w.0 ∙ ap (λ (z : Option Offer). cond (is_way p w.0) z None) (sym offer_same) ∙ sym (offers_by_way p now w.0) ∙ w.3 in
+      let bad : true ≡ false = sym w.4 ∙ ap (λ (z : Option Offer). is_new_offer p w.0.iface w.1 z) old_offer ∙ not_new p w.0.iface w.1 in
+      absurd (cc))
+      (λ (further : suc n ≤ depth u.net w.0.session.group w.0.sender.addr r.node). further)
+      (same_or_deep r.node r.facts r.there (w.0.session, w.0.sender)) in
+      record {
+        end = e.0;
+        leaves = subst (λ (z : ℕ). In e.0 (outward u.net z m.session.group x.addr)) (sym e.2) (subst (λ (z : SenderKey). In e.0 (outward u.net r.node z.0.group z.1.addr)) key e.3);
+        to = goes_to_peers u.net (end_at u.net.ends r.node r.send.iface) e.0 r.send.dst y.end (ap (end_at u.net.ends r.node) o.iface ∙ e.1) r.to;
+        deep = subst (λ (z : ℕ). suc n ≤ depth u.net m.session.group x.addr z) (sym e.2)
+            (subst (λ (z : Session × Sender). suc n ≤ depth u.net z.0.group z.1.addr r.node) (λ j. (sym session j, sym name j)) deep);
+      })
+    where
+      path_said : {B : Type 0} (a b : PathMsg) → message.Path a ≡ message.Path b → (g : PathMsg → B) → g a ≡ g b
+      path_said a b e g = let same : a ≡ b = cc in ap g same
+
+-- ---- worlds on the way
+record IsSilent (q : ℕ) (u : World) : Type 0 where
+  follows : (c : Session) → IsFollowing q c u
+  plain : (y : Item) → In y u.flight → IsPlainItem y
+  tears : (y : Item) (m : ResvTearMsg) → In y u.flight → y.arrival ≡ Spelt (message.ResvTear m) → IsTearOfSound u y m
+  unmarked : HasNoMark u
+
+some_session : Session
+some_session = record { group = record { 0 = 0 }; proto = 0; port = 0 }
+
+-- ---- one delivery
+module _ (q : ℕ) (u : World) (r : IsSilent q u) where
+  abbrev next : World
+  next = step q (Deliver 0) u
+
+  bounds : AreBounds q u
+  bounds = (r.follows some_session).paths.bounds
+
+  abbrev turns_now : (n : ℕ) (f : Facts) → slice_get u.nodes n ≡ Some f → (outcome q (Deliver 0) u n f ≡ still f) ⊎ Turns q (Deliver 0) u n f
+  turns_now = turns q some_session u (r.follows some_session)
+
+  follows_next : (c : Session) → IsFollowing q c next
+  follows_next c = following_next q c u (r.follows c)
+
+  same : IsSameNet u next
+  same = same_next q 0 u bounds u (known_self q u bounds).same
+
+  quiet : (n : ℕ) (f : Facts) → slice_get u.nodes n ≡ Some f → (h : Turns q (Deliver 0) u n f) → IsQuietTurn (place q (Deliver 0) u n) (moment q (Deliver 0) u) h.input f
+  quiet n f at h =
+      let z = came_by_delivery q 0 u bounds n h.input h.came in
+      let e : ℕ = iface_of u.net.ends z.item.end in
+      let node : node_of u.net.ends z.item.end ≡ n = ap node_of_end z.there ∙ z.node in
+      let flies : In z.item u.flight = in_arrived (Deliver 0) u z.item z.arrives in
+      let marks : (k : WantKey) (x : Want) → get f.wants k ≡ Some x → x.confirm ≡ false = (λ k x g. r.unmarked n f k x at g) in
+      ⊎_elim
+      (λ (x : (m : ResvMsg) × (z.item.arrival ≡ Spelt (message.Resv m)) × (m.confirm ≡ None)).
+      let m : ResvMsg = x.0 in
+      let lt = (bounds.flight z.item flies).end in
+      let end : end_at u.net.ends (node_of u.net.ends z.item.end) e ≡ Some z.item.end = (interfaces_are_ends u.net).end_of_iface z.item.end lt in
+      let dst : z.item.dst ≡ own (place q (Deliver 0) u (node_of u.net.ends z.item.end)) e =
+      (r.follows m.session).addressed z.item m flies x.1 ∙ sym (own_end q u.net u.trees (node_of u.net.ends z.item.end) e z.item.end end) in
+      let w = taken q m.session u (r.follows m.session) z.item m f flies x.1 refl (ap (λ (d : ℕ). slice_get u.nodes d) node ∙ at) in
+      let v = unanswered_is_quiet (place q (Deliver 0) u (node_of u.net.ends z.item.end)) (moment q (Deliver 0) u) (came_resv (place q (Deliver 0) u (node_of u.net.ends z.item.end)) e m) f
+      (resv_unanswered (place q (Deliver 0) u (node_of u.net.ends z.item.end)) (moment q (Deliver 0) u) e m f (goal_at u.net (locals_of u) (node_of u.net.ends z.item.end)) w x.2 marks) in
+      let input : came_resv (place q (Deliver 0) u (node_of u.net.ends z.item.end)) e m ≡ h.input =
+      (λ j. Came e (sym dst j) (Spelt (message.Resv m))) ∙ (λ j. Came e z.item.dst (sym x.1 j)) ∙ sym z.is in
+      subst (λ (d : ℕ × Input). IsQuietTurn (place q (Deliver 0) u d.0) (moment q (Deliver 0) u) d.1 f) (λ j. (node j, input j)) v)
+      (λ k. ⊎_elim
+      (λ (x : (m : ResvTearMsg) × (z.item.arrival ≡ Spelt (message.ResvTear m))).
+      let v = unanswered_is_quiet (place q (Deliver 0) u n) (moment q (Deliver 0) u) (Came e z.item.dst (Spelt (message.ResvTear x.0))) f
+      (tear_unanswered (place q (Deliver 0) u n) (moment q (Deliver 0) u) e z.item.dst x.0 f marks) in
+      let input : Came e z.item.dst (Spelt (message.ResvTear x.0)) ≡ h.input = (λ j. Came e z.item.dst (sym x.1 j)) ∙ sym z.is in
+      subst (λ (d : Input). IsQuietTurn (place q (Deliver 0) u n) (moment q (Deliver 0) u) d f) input v)
+      (λ (x : (m : PathMsg) × (z.item.arrival ≡ Spelt (message.Path m))).
+      let input : Came e z.item.dst (Spelt (message.Path x.0)) ≡ h.input = (λ j. Came e z.item.dst (sym x.1 j)) ∙ sym z.is in
+      subst (λ (d : Input). IsQuietTurn (place q (Deliver 0) u n) (moment q (Deliver 0) u) d f) input
+      (path_quiet (place q (Deliver 0) u n) (moment q (Deliver 0) u) e z.item.dst x.0 f marks)) k)
+      (r.plain z.item flies)
+
+  tear_next : (y : Item) (m : ResvTearMsg) → IsTearOfSound u y m → IsTearOfSound next y m
+  tear_next y m x = record {
+    key = x.key;
+    there = x.there;
+    over = x.over;
+    part = x.part;
+    sound = part_again x.key.style u next x.key.session x.key.to (addr_of u.net x.key.from) x.key.unit x.part refl (sym same.locals) x.sound;
+    takes = x.takes;
+  }
+
+  silent_next : IsSilent q next
+  silent_next =
+      let one = r.follows some_session in
+      let then_one = follows_next some_session in
+      record {
+        follows = follows_next;
+        plain = λ y i.
+            ⊎_elim (λ (old : In y u.flight). r.plain y old)
+            (λ (new : (b : Bool) × In (y, b) (sent q (Deliver 0) u)). plain_sent q (Deliver 0) u bounds turns_now then_one.paths.no_tear quiet y new.0 new.1 i)
+            (in_flight_after q (Deliver 0) u y refl i);
+        tears = λ y m i spelt.
+            ⊎_elim (λ (old : In y u.flight). tear_next y m (r.tears y m old spelt))
+            (λ (new : (b : Bool) × In (y, b) (sent q (Deliver 0) u)).
+            tear_next y m (tear_of_sound q (Deliver 0) u bounds turns_now then_one.paths.bounds then_one.paths.sound one.paths.sound one.sound y new.0 m new.1 spelt))
+            (in_flight_after q (Deliver 0) u y refl i);
+        unmarked = unmarked_then q (Deliver 0) u bounds turns_now quiet r.unmarked;
+      }
+
+-- ---- passes
+module _ (q : ℕ) where
+  silent_deliveries : (m : ℕ) (u : World) → IsSilent q u → IsSilent q (after_deliveries q m u)
+  silent_deliveries zero u r = r
+  silent_deliveries (suc m) u r = silent_deliveries m (step q (Deliver 0) u) (silent_next q u r)
+
+  silent_passes : (n : ℕ) (u : World) → IsSilent q u → IsSilent q (after_passes q n u)
+  silent_passes zero u r = r
+  silent_passes (suc n) u r =
+      let v : World = after_deliveries q (length u.flight) u in
+      subst (λ (w : World). IsSilent q w) (sym (run_then q (pass q u) (passes q n v) u)) (silent_passes n v (silent_deliveries (length u.flight) u r))
+
+  -- what was in flight when a pass began is not any more, and what is comes from one hop further
+  further : (j : ℕ) (o : World) (m : ℕ) (u : World) → IsSilent q u → u.net ≡ o.net → ((y : Item) → In y u.flight → IsPathFrom o.net j y)
+      → ((y : Item) → In y (drop m u.flight) → IsPathFrom o.net (suc j) y)
+      → (y : Item) → In y (after_deliveries q m u).flight → IsPathFrom o.net (suc j) y
+  further j o zero u r net all late y i = late y i
+  further j o (suc m) u r net all late y i =
+      let more : List Item = each (λ (x : Item × Bool). x.0) (sent q (Deliver 0) u) in
+      let one = (r.follows some_session).paths in
+      let new : (z : Item) → In z more → IsPathFrom o.net (suc j) z =
+      (λ z x.
+      let d = in_each (λ (w : Item × Bool). w.0) z (sent q (Deliver 0) u) x in
+      subst (λ (w : Net). IsPathFrom w (suc j) z) net
+      (path_sent_from q u one.bounds one.no_tear j (λ w e. subst (λ (v : Net). IsPathFrom v j w) (sym net) (all w (in_arrived (Deliver 0) u w e))) z d.0.1
+      (subst (λ (w : Item). In (w, d.0.1) (sent q (Deliver 0) u)) (sym d.2) d.1))) in
+      further j o m (step q (Deliver 0) u) (silent_next q u r) net
+      (λ z x. ⊎_elim (λ (old : In z (remove u.flight 0)). all z (in_rest (Deliver 0) u z refl old)) (λ (n : In z more). less_deep o.net j (suc j) (omega arith) z (new z n))
+      (in_append z (remove u.flight 0) more x))
+      (λ z x. ⊎_elim (λ (old : In z (drop m (remove u.flight 0))). late z (tail_drop z m u.flight old)) (λ (n : In z more). new z n) (drop_or z m (remove u.flight 0) more x)) y i
+
+  levels : (n j : ℕ) (u : World) → IsSilent q u → ((y : Item) → In y u.flight → IsPathFrom u.net j y) → (y : Item) → In y (after_passes q n u).flight → IsPathFrom u.net (j + n) y
+  levels zero j u r all y i = let sum : j ≡ j + zero = omega arith in subst (λ (z : ℕ). IsPathFrom u.net z y) sum (all y i)
+  levels (suc n) j u r all y i =
+      let m : ℕ = length u.flight in
+      let v : World = after_deliveries q m u in
+      let net : v.net ≡ u.net = deliveries_stay q m u in
+      let sum : suc j + n ≡ j + suc n = omega arith in
+      let up : (z : Item) → In z v.flight → IsPathFrom v.net (suc j) z =
+      (λ z x. subst (λ (w : Net). IsPathFrom w (suc j) z) (sym net) (further j u m u r refl all (λ a b. absurd (no_rest a u.flight b)) z x)) in
+      subst (λ (w : Net). IsPathFrom w (j + suc n) y) net
+      (subst (λ (z : ℕ). IsPathFrom v.net z y) sum
+      (levels n (suc j) v (silent_deliveries m u r) up y (subst (λ (w : World). In y w.flight) (run_then q (pass q u) (passes q n v) u) i)))
+
+-- ---- nothing is in flight in the end
+module _ (q : ℕ) (w : World) (r : IsSilent q w) (from : (y : Item) → In y w.flight → IsPathFrom w.net 0 y) where
+  abbrev later : World
+  later = after_passes q (2 * longest w.net) w
+
+  silent : IsSilent q later
+  silent = silent_passes q (2 * longest w.net) w r
+
+  no_path : (y : Item) (m : PathMsg) → In y later.flight → y.arrival ≡ Spelt (message.Path m) → ⊥
+  no_path y m i spelt = by m.sender refl
+    where
+      by : (o : Option (Sender × TokenBucket)) → m.sender ≡ o → ⊥
+      by None none = (silent.follows some_session).paths.sound.named y m i spelt none
+      by (Some x) sender =
+          let f = levels q (2 * longest w.net) 0 w r from y i m x.0 x.1 spelt sender in
+          let valid = (r.follows some_session).paths.bounds.net in
+          let h = out_told w.net (node_of w.net.ends f.end) f.end m.session.group x.0.addr f.leaves in
+          let depths = depth_and_rank_within_longest w.net valid in
+          let along = depths.along m.session.group x.0.addr h.0 h.1 in
+          let every = depths.every m.session.group x.0.addr (node_of w.net.ends h.0.to) in
+          let node = ap (λ (z : ℕ). depth w.net m.session.group x.0.addr (node_of w.net.ends z)) h.2 in
+          let deep = f.deep in
+          omega arith
+
+  abbrev half : World
+  half = after_passes q (longest w.net) w
+
+  abbrev last : World
+  last = after_passes q (longest half.net) half
+
+  no_tear : (y : Item) (m : ResvTearMsg) → In y later.flight → y.arrival ≡ Spelt (message.ResvTear m) → ⊥
+  no_tear y m i spelt =
+      let here : In y last.flight = subst (λ (z : World). In y z.flight) (twice q w) i in
+      let x = (subst (λ (z : World). IsSilent q z) (twice q w) silent).tears y m here spelt in
+      let s : Session = x.key.session in
+      let d = rise q s (longest half.net) half (paths_reach_receivers_that_wait q s w (r.follows s)) in
+      let valid = d.0.paths.bounds.net in
+      let long : longest last.net ≡ longest half.net = ap longest d.2.net in
+      let most = (rank_falls last.net valid.loop_free).hops s.group (hop_over x.key) x.there in
+      let theirs = ends_there last.net valid s.group x.sound.hop x.sound.there in
+      let inside = ends_there last.net valid s.group (hop_over x.key) x.there in
+      let to : x.sound.hop.to ≡ x.key.from = same_by_addr last.net valid x.sound.hop.to x.key.from theirs.1 inside.1 x.sound.to in
+      let hop : x.sound.hop ≡ hop_over x.key = (λ j. record { from = x.sound.from j; to = to j }) in
+      let wanted : get (want x.key.style last.net (locals_of last) s (hop_over x.key)) x.key.unit ≡ Some x.sound.wanted =
+      ap (λ (z : LinkHop). get (want x.key.style last.net (locals_of last) s z) x.key.unit) (sym hop) ∙ x.sound.is in
+      let up = part_at_most_told x.part x.sound.wanted x.sound.below in
+      d.1 y here x.key x.sound.wanted refl x.there (omega (arith, most.1, long)) wanted
+      (inr (m, spelt, x.over, record { name = x.takes.name; was = up.names x.takes.name x.takes.was; goes = x.takes.goes }))
+
+  nothing_flies : (after_passes q (2 * longest w.net) w).flight ≡ []
+  nothing_flies =
+      nothing later.flight
+      (λ y i.
+      ⊎_elim
+      (λ (x : (m : ResvMsg) × (y.arrival ≡ Spelt (message.Resv m)) × (m.confirm ≡ None)). (receivers_that_wait_are_served q x.0.session w (r.follows x.0.session)).1.no_resv y x.0 i x.1 refl)
+      (λ k. ⊎_elim (λ (x : (m : ResvTearMsg) × (y.arrival ≡ Spelt (message.ResvTear m))). no_tear y x.0 i x.1) (λ (x : (m : PathMsg) × (y.arrival ≡ Spelt (message.Path m))). no_path y x.0 i x.1) k)
+      (silent.plain y i))
+
+-- ---- a host begins to send
+module _ (q n : ℕ) (k : SenderKey) (t : TokenBucket) (w : World) (r : IsSilent q w) (fit : IsSound t) (new : IsNew w k) (hosts : AreHosts (after_send q n k t w))
+    (fits : (c : Session) → SessionFits w.net (locals_of (after_send q n k t w)) c) where
+  abbrev call : Local
+  call = SendAs k.0 k.1 t
+
+  abbrev begun : World
+  begun = after_send q n k t w
+
+  abbrev one : IsFollowing q some_session w
+  one = r.follows some_session
+
+  follows_then : (c : Session) → IsFollowing q c begun
+  follows_then c = following_then q n k t w (r.follows c).paths fit new hosts c (r.follows c) (fits c)
+
+  abbrev turns_then : (m : ℕ) (f : Facts) → slice_get w.nodes m ≡ Some f → (outcome q (At n call) w m f ≡ still f) ⊎ Turns q (At n call) w m f
+  turns_then = called_turns q n k t w one.paths fit new hosts
+
+  quiet_then : (m : ℕ) (f : Facts) → slice_get w.nodes m ≡ Some f → (h : Turns q (At n call) w m f) → IsQuietTurn (place q (At n call) w m) (moment q (At n call) w) h.input f
+  quiet_then m f at h =
+      let p : NodeConfig = place q (At n call) w m in
+      let v : IsQuietTurn p (moment q (At n call) w) (Call call) f =
+      record {
+        errors = refl;
+        confs = refl;
+        asked = refl;
+        unmarked = λ k' x e. r.unmarked m f k' x at (ap (λ (z : Wants). get z k') (sym (unless_same (call_refusal p call f) f.wants)) ∙ e);
+      } in
+      subst (λ (z : Input). IsQuietTurn p (moment q (At n call) w) z f) (sym (at_node_found n m (Call call) h.input h.came).1) v
+
+  tear_then : (y : Item) (m : ResvTearMsg) → IsTearOfSound w y m → IsTearOfSound begun y m
+  tear_then y m x = record {
+    key = x.key;
+    there = x.there;
+    over = x.over;
+    part = x.part;
+    sound = sound_on q n k t w one.paths fit new hosts x.key.style x.key.session x.key.to (addr_of w.net x.key.from) x.key.unit x.part x.sound;
+    takes = x.takes;
+  }
+
+  silent_then : IsSilent q begun
+  silent_then =
+      let then_one = follows_then some_session in
+      record {
+        follows = follows_then;
+        plain = λ y i.
+            ⊎_elim (λ (old : In y w.flight). r.plain y old)
+            (λ (now : (b : Bool) × In (y, b) (sent q (At n call) w)). plain_sent q (At n call) w one.paths.bounds turns_then then_one.paths.no_tear quiet_then y now.0 now.1 i)
+            (in_flight_then q n k t w one.paths fit new hosts y i);
+        tears = λ y m i spelt.
+            ⊎_elim (λ (old : In y w.flight). tear_then y m (r.tears y m old spelt))
+            (λ (now : (b : Bool) × In (y, b) (sent q (At n call) w)).
+            tear_then y m (tear_of_sound q (At n call) w one.paths.bounds turns_then then_one.paths.bounds then_one.paths.sound one.paths.sound one.sound y now.0 m now.1 spelt))
+            (in_flight_then q n k t w one.paths fit new hosts y i);
+        unmarked = unmarked_then q (At n call) w one.paths.bounds turns_then quiet_then r.unmarked;
+      }
+
+  -- each Path in flight is sent by the call, where nothing was
+  paths_from : w.flight ≡ [] → (y : Item) → In y begun.flight → IsPathFrom begun.net 0 y
+  paths_from empty_flight y i m x flow spelt sender =
+      ⊎_elim (λ (old : In y w.flight). absurd (subst (λ (z : List Item). In y z) empty_flight old))
+      (λ (now : (b : Bool) × In (y, b) (sent q (At n call) w)).
+      let p = path_sent_by_call q w n call one.paths.bounds y now.0 m now.1 spelt in
+      let name : p.sender ≡ x = ap (λ (z : Sender × TokenBucket). z.0) (of_some (p.sender, p.tspec) (x, flow) (sym p.of ∙ sender)) in
+      record {
+        end = p.end;
+        leaves = subst (λ (z : ℕ). In p.end (outward w.net z m.session.group x.addr)) (sym p.at) (subst (λ (z : Sender). In p.end (outward w.net p.node m.session.group z.addr)) name p.leaves);
+        to = p.to;
+        deep = omega arith;
+      })
+      (in_flight_then q n k t w one.paths fit new hosts y i)
+
+pub a_sender_leaves_nothing_in_flight : (q n : ℕ) (k : SenderKey) (t : TokenBucket) (w : World) → IsStart q w → HasSettled q w → w.flight ≡ [] → HasNoMark w → IsSound t → IsNew w k
+    → AreHosts (after_send q n k t w) → DemandsFit w.net (locals_of (after_send q n k t w)) → (after_passes q (2 * longest w.net) (after_send q n k t w)).flight ≡ []
+a_sender_leaves_nothing_in_flight q n k t w start settled_now empty_flight unmarked fit new hosts all_fit =
+    let r : IsSilent q w =
+    record {
+      follows = λ c. a_reserving_session_follows q c w (settled_is_reserved q w start settled_now empty_flight c);
+      plain = λ y i. absurd (subst (λ (z : List Item). In y z) empty_flight i);
+      tears = λ y m i spelt. absurd (subst (λ (z : List Item). In y z) empty_flight i);
+      unmarked = unmarked;
+    } in
+    let fits : (c : Session) → SessionFits w.net (locals_of (after_send q n k t w)) c = (λ c. each_fits w.net (locals_of (after_send q n k t w)) all_fit c) in
+    nothing_flies q (after_send q n k t w) (silent_then q n k t w r fit new hosts fits) (paths_from q n k t w r fit new hosts fits empty_flight)

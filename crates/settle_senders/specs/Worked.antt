@@ -1,0 +1,55 @@
+-- What it comes to in small networks that a host begins to send where receivers wait.
+use Rattle.std.specs.Prelude.{◌≡◌, [], ◌∷◌, ◌++◌, true, false, codes, Some}
+use Rattle.rsvp_base.specs.declared.session.Session.{Session}
+use Rattle.rsvp_base.specs.declared.style.StyleKind.TheVariants.{Wild}
+use Rattle.rsvp_base.specs.Table.{empty}
+use Rattle.rsvp_base.specs.TokenBucket.{IsSound}
+use Rattle.tree_model.specs.Goals.{DemandsFit}
+use Rattle.tree_model.specs.Ranks.{longest}
+use Rattle.network_model.specs.Bounds.{AreHosts, IsStart}
+use Rattle.network_model.specs.Events.{AtNode, Pass, Reports, Traces}
+use Rattle.network_model.specs.Locals.{locals_of}
+use Rattle.network_model.specs.Rows.{line, sends, usual_entry}
+use Rattle.network_model.specs.RouterRules.Inputs.{WantAs}
+use Rattle.network_model.specs.Runs.{run_text}
+use Rattle.network_model.specs.ThreeRouters.{first, session, usual}
+use Rattle.network_model.specs.Worlds.{World}
+use Rattle.laws_network.specs.Example.{pair_net, quiet_world}
+use Rattle.settle_resvs.specs.Sessions.{SessionFits}
+use Rattle.settle_network.specs.Settled.{HasSettled}
+use Rattle.settle_passes.specs.Calls.{IsNew, after_send}
+use Rattle.settle_passes.specs.Reserving.{IsReserving, after_want}
+use Rattle.settle_releases.specs.Releases.{HasNoMark}
+use Rattle.settle_senders.specs.Following.{IsFollowing}
+
+-- ---- a pair of nodes, in which a receiver waits for a sender; and then a host begins to send
+abbrev pub waiting_world : World
+waiting_world = after_want 7500 1 session Wild empty usual false quiet_world
+
+abbrev pub joined_world : World
+joined_world = after_send 7500 0 (session, first) usual waiting_world
+
+-- the premises of the laws, and what they promise does not hold yet
+pub record AReceiverWaits : Type 0 where
+  pub begins : IsStart 7500 waiting_world
+  pub settled : HasSettled 7500 waiting_world
+  pub quiet : waiting_world.flight ≡ []
+  pub fit : IsSound usual
+  pub new : IsNew waiting_world (session, first)
+  pub hosts : AreHosts joined_world
+  pub all_fit : DemandsFit pair_net (locals_of joined_world)
+  pub not_yet : HasSettled 7500 joined_world → ⊥
+  -- and so of each session
+  pub reserving : (s : Session) → IsReserving 7500 s waiting_world
+  pub fits : (s : Session) → SessionFits pair_net (locals_of joined_world) s
+  pub following : (s : Session) → IsFollowing 7500 s joined_world
+  pub not_reserving : IsReserving 7500 session joined_world → ⊥
+  -- and nobody waits to be confirmed
+  pub unmarked : HasNoMark waiting_world
+  pub flies : joined_world.flight ≡ [] → ⊥
+
+-- ---- three nodes in a line, H = 2: none of the four passes can be spared
+pub record NoPassIsSpared : Type 0 where
+  pub long : longest (line 10000 []).net ≡ 2
+  pub text : run_text (line 10000 (AtNode 2 (WantAs session Wild empty usual false) ∷ Traces true ∷ sends ∷ Pass 3 ∷ Reports (Some 0) ∷ Pass 1 ∷ Reports (Some 0) ∷ []))
+      ≡ codes "r1 Path taken\nt1 Path taken\nr2 Resv taken\nend s1 held 0 of 10000\ns1 Resv taken\nend s1 held 1000 of 10000\n" ++ usual_entry
