@@ -46,7 +46,7 @@ use Rattle.tree_model.specs.declared.hops.End.{End}
 use Rattle.tree_model.specs.declared.hops.LinkHop.{LinkHop}
 use Rattle.tree_model.specs.declared.locals.LocalSender.{LocalSender}
 use Rattle.tree_model.specs.declared.locals.LocalWant.{LocalWant}
-use Rattle.tree_model.specs.Goals.{DemandsFit, addr_of, demand_of, goal, hop_lines, sessions_named}
+use Rattle.tree_model.specs.Goals.{DemandsFit, addr_of, demand_of, hop_lines, sessions_named}
 use Rattle.tree_model.specs.Networks.{Net, end_at, iface_of, node_of, owner}
 use Rattle.tree_model.specs.Trees.{tree}
 use Rattle.tree_model.specs.Wants.{Locals, want}
@@ -131,10 +131,6 @@ the_line = record { style = Wild; session = session; end = 0; next = r1; unit = 
 -- the goal of a node, as it is the first one or not
 abbrev goal_by : Bool → List Line
 goal_by b = flat_map (λ st. flat_map (λ s. flat_map (hop_lines st pair_net asks s) (if b then forth ∷ [] else [])) (sessions_named asks)) (Wild ∷ Fixed ∷ Shared ∷ [])
-
-pub first_goal : goal pair_net asks 0 ≡ the_line ∷ []
-unfolding want
-first_goal = refl
 
 goal_first : goal_by true ≡ the_line ∷ []
 unfolding want

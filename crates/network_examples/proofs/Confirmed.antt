@@ -8,7 +8,7 @@ use Rattle.router_examples.specs.ThreeRouters.{r1}
 use Rattle.rsvp_messages.specs.declared.message.Message.TheVariants as message
 use Rattle.laws_network.proofs.Example.{hosts, valid}
 use Rattle.laws_safety.specs.Confirmations.{Begins}
-use Rattle.network_examples.specs.Confirmed.{AConfirmationComesLate, AConfirmationIsGiven, AnInjectedOneBeginsNowhere, ConfirmationsInAPair, confirming_plan, injected_plan, quitting_plan, usual_conf}
+use Rattle.network_examples.specs.Confirmed.{AConfirmationComesLate, AConfirmationIsGiven, AnInjectedOneBeginsNowhere, ConfirmationsInAPair, injected_plan, usual_conf}
 use Rattle.network_examples.proofs.Ready.{usual_sound}
 
 given : AConfirmationIsGiven
