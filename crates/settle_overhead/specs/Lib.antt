@@ -1,0 +1,3 @@
+pub mod Overhead
+pub mod Roomy
+pub mod Worked
