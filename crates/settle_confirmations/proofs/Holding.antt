@@ -63,7 +63,7 @@ use Rattle.settle_passes.proofs.Rising.{reservations_are_set_up}
 use Rattle.settle_passes.proofs.Serving.{settled_again}
 use Rattle.settle_passes.proofs.Spreading.{run_then}
 use Rattle.settle_passes.proofs.Turns.{Turns}
-use Rattle.settle_confirmations.specs.Requests.{IsAnswered, IsConfirmed, IsForAtLeast, IsHeldAlong, IsOnlySender, IsRequest, IsWay, arrival_units}
+use Rattle.settle_confirmations.specs.Requests.{IsAnswered, IsConfirmed, IsForAtLeast, IsHeldAlong, IsOnlySender, IsReached, IsRequest, IsWay, arrival_units}
 use Rattle.settle_confirmations.proofs.Answering.{GoesOnThere, IsAnsweredThere, IsOnward, new_item, nobody, up_moves}
 use Rattle.settle_confirmations.proofs.Moving.{IsAsking, IsConf, IsDown, IsUp, down_next, in_tree, listed_one}
 use Rattle.settle_confirmations.proofs.Passing.{Answers, all_asking, answered_in, begins, happens_first, happens_so, happens_then, ranks_down}
@@ -156,6 +156,7 @@ module _ (q : ℕ) (s : Session) (st : StyleKind) (x : Sender) (flow : TokenBuck
     asking : IsAsking q s st x e u
     confs : AreConfs u
     all : (c : Session) → IsReserving q c u
+    reached : IsReached u.net s x e
     wanted : IsWantedAtTheEnd u
 
   whole_next : (u : World) → IsWhole u → IsWhole (step q (Deliver 0) u)
@@ -165,6 +166,7 @@ module _ (q : ℕ) (s : Session) (st : StyleKind) (x : Sender) (flow : TokenBuck
         ⊎_elim (λ (old : In y u.flight). k.confs y old) (λ (new : (b : Bool) × In (y, b) (sent q (Deliver 0) u)). conf_sent u k.asking k.confs y new.0 new.1)
         (in_flight_after q (Deliver 0) u y refl i);
     all = λ c. reserving_next q c u (k.all c);
+    reached = k.reached;
     wanted = wanted_next u k.asking k.wanted;
   }
 
@@ -212,7 +214,7 @@ module _ (q : ℕ) (s : Session) (st : StyleKind) (x : Sender) (flow : TokenBuck
   Answered = Answers q s st x flow e IsWhole keeps_whole
 
   is_confirmed : (t : Step) (u : World) → Answered t u → IsConfirmed q s st x flow e t u
-  is_confirmed t u z = record { answered = z.0; settled = settled_again q s u z.1.all (exact_now u z.1); held = held_over }
+  is_confirmed t u z = record { answered = z.0; settled = settled_again q s u z.1.all (exact_now u z.1); reached = z.1.reached; held = held_over }
     where
       only_live : (y : Sender) → In y (live (locals_of u) s) → y ≡ x
       only_live y i = let l = live_told u s y i in z.1.asking.only y l.0 l.1
@@ -234,12 +236,13 @@ module _ (q : ℕ) (s : Session) (st : StyleKind) (x : Sender) (flow : TokenBuck
   record IsRising (u : World) : Type 0 where
     asking : IsAsking q s st x e u
     all : (c : Session) → IsReserving q c u
+    reached : IsReached u.net s x e
     wanted : IsWantedAtTheEnd u
     least : (z : Item) (m : ResvMsg) → In z u.flight → z.arrival ≡ Spelt (message.Resv m) → IsForAtLeast flow z
 
   rising_next : (u : World) → IsRising u → IsRising (step q (Deliver 0) u)
   rising_next u k =
-      record { asking = asking_next q s st x e u k.asking; all = λ c. reserving_next q c u (k.all c); wanted = wanted_next u k.asking k.wanted; least = least_next }
+      record { asking = asking_next q s st x e u k.asking; all = λ c. reserving_next q c u (k.all c); reached = k.reached; wanted = wanted_next u k.asking k.wanted; least = least_next }
     where
       new_one : (z : Item) (m : ResvMsg) (b : Bool) → In (z, b) (sent q (Deliver 0) u) → z.arrival ≡ Spelt (message.Resv m) → IsForAtLeast flow z
       new_one z m b sends says =
@@ -299,7 +302,7 @@ module _ (q : ℕ) (s : Session) (st : StyleKind) (x : Sender) (flow : TokenBuck
         (some_or_none next next.flight (asking_next q s st x e u k.asking).each)
 
     whole : AreConfs u → IsWhole u
-    whole confs = record { asking = k.asking; confs = confs; all = k.all; wanted = k.wanted }
+    whole confs = record { asking = k.asking; confs = confs; all = k.all; reached = k.reached; wanted = k.wanted }
 
     answer_goes_on : AreConfs u → (y : Item) → In y u.flight → IsDown u s st x e y → IsForAtLeast flow y → Answered (Deliver 0) u ⊎ IsOnTheWay next
     answer_goes_on confs y i d least =
@@ -354,8 +357,8 @@ module _ (q : ℕ) (s : Session) (st : StyleKind) (x : Sender) (flow : TokenBuck
 
   -- ---- requests of an end for as much, in a network that reserves
   module _ (w : World) (r : (c : Session) → IsReserving q c w) (only : IsOnlySender w s x) (lt : e < length w.net.ends) where
-    at_the_end : (y : Item) → In y w.flight → IsRequest w s st e y → IsForAtLeast flow y → IsWantedAtTheEnd w
-    at_the_end y i t least h there to =
+    at_the_end : (y : Item) → In y w.flight → IsRequest w s st e y → IsForAtLeast flow y → IsReached w.net s x e × IsWantedAtTheEnd w
+    at_the_end y i t least =
         let bounds = (r s).paths.bounds in
         let proper : IsProperAsk t.resv.ask = subst IsProperArrival t.says (bounds.flight y i).proper in
         let unit = some_unit t.resv.ask proper in
@@ -370,22 +373,26 @@ module _ (q : ℕ) (s : Session) (st : StyleKind) (x : Sender) (flow : TokenBuck
         (in_tree w t.resv.session x only_m (ask_style t.resv.ask) y.end t.resv.hop.addr unit.0.unit part sound) in
         let inside = ends_there w.net bounds.net t.resv.session.group sound.hop sound.there in
         let end : sound.hop.to ≡ e = same_by_addr w.net bounds.net sound.hop.to e inside.1 lt (sound.to ∙ t.hop) in
-        let same : sound.hop ≡ h = one w.net bounds.net s.group x.addr sound.hop h mine there (ap (node_of w.net.ends) (end ∙ sym to)) in
-        let up = part_at_most_told part sound.wanted sound.below in
-        record {
-          unit = unit.0.unit;
-          part = sound.wanted;
-          is = (λ j. get (want (sym t.style j) w.net (locals_of w) (sym t.session j) (sym same j)) unit.0.unit) ∙ sound.is;
-          named = subst (λ (k : StyleKind). has sound.wanted.senders (name_of k x) ≡ true) t.style (up.names (name_of (ask_style t.resv.ask) x) listed);
-          covers = at_most_along flow unit.0.flow sound.wanted.flow (least unit.0 (subst (λ (o : Arrival). In unit.0 (arrival_units o)) (sym t.says) unit.1)) up.flow;
-        }
+        let up = part_at_most_told part sound.wanted sound.below in (
+          record { hop = sound.hop; there = mine; to = end },
+          λ h there to.
+              let same : sound.hop ≡ h = one w.net bounds.net s.group x.addr sound.hop h mine there (ap (node_of w.net.ends) (end ∙ sym to)) in
+              record {
+                unit = unit.0.unit;
+                part = sound.wanted;
+                is = (λ j. get (want (sym t.style j) w.net (locals_of w) (sym t.session j) (sym same j)) unit.0.unit) ∙ sound.is;
+                named = subst (λ (k : StyleKind). has sound.wanted.senders (name_of k x) ≡ true) t.style (up.names (name_of (ask_style t.resv.ask) x) listed);
+                covers = at_most_along flow unit.0.flow sound.wanted.flow (least unit.0 (subst (λ (o : Arrival). In unit.0 (arrival_units o)) (sym t.says) unit.1)) up.flow;
+              },
+        )
 
     pub what_is_confirmed_is_held : (y : Item) → In y w.flight → ((z : Item) → In z w.flight → IsRequest w s st e z × IsForAtLeast flow z)
         → Happens (machine q) (IsConfirmed q s st x flow e) (passes q (2 * longest w.net) w) w
     what_is_confirmed_is_held y i every =
         let a : IsAsking q s st x e w = all_asking q s st x e w (r s) only lt (λ z j. (every z j).0) in
         let v : IsUp w s st x e y = begins q s st x e w (r s) only lt y i (every y i).0 in
-        let begin : IsRising w = record { asking = a; all = r; wanted = at_the_end y i (every y i).0 (every y i).1; least = λ z m j says. (every z j).1 } in
+        let end = at_the_end y i (every y i).0 (every y i).1 in
+        let begin : IsRising w = record { asking = a; all = r; reached = end.0; wanted = end.1; least = λ z m j says. (every z j).1 } in
         let sum : longest w.net + longest w.net ≡ 2 * longest w.net = omega arith in
         let itself : longest w.net ≤ longest w.net = omega arith in
         happens_so q Answered (IsConfirmed q s st x flow e) is_confirmed (passes q (2 * longest w.net) w) w

@@ -98,8 +98,8 @@ an_answer_is_for_more = record { flows = refl }
 
 pub less_is_confirmed : LessIsConfirmed
 unfolding facts_with
-less_is_confirmed = record { text = refl; flows = refl; held = refl }
+less_is_confirmed = record { before = refl; quiet = refl; text = refl; flows = refl; held = refl }
 
 pub an_answer_is_early : AnAnswerIsEarly
 unfolding facts_with
-an_answer_is_early = record { text = refl; held = refl }
+an_answer_is_early = record { long = refl; text = refl; held = refl }

@@ -90,8 +90,15 @@ pub record IsHeldOver (w : World) (s : Session) (st : StyleKind) (x : Sender) (f
 abbrev pub IsHeldAlong : World → Session → StyleKind → Sender → TokenBucket → ℕ → Type 0
 IsHeldAlong w s st x flow e = (h : LinkHop) (hs : List LinkHop) → In h (tree w.net.hops s.group x.addr) → IsWay w.net s x e h hs → IsHeldOver w s st x flow h
 
--- the answer comes in a network that has settled, along whose way from the sender to the end no smaller flow is held
+-- the sender's tree comes into the end
+pub record IsReached (net : Net) (s : Session) (x : Sender) (e : ℕ) : Type 0 where
+  pub hop : LinkHop
+  pub there : In hop (tree net.hops s.group x.addr)
+  pub to : hop.to ≡ e
+
+-- the answer comes to an end of the sender's tree in a network that has settled, along whose way from the sender to the end no smaller flow is held
 pub record IsConfirmed (q : ℕ) (s : Session) (st : StyleKind) (x : Sender) (flow : TokenBucket) (e : ℕ) (t : Step) (w : World) : Type 0 where
   pub answered : IsAnswered s st x flow e t w
   pub settled : HasSettled q w
+  pub reached : IsReached w.net s x e
   pub held : IsHeldAlong w s st x flow e

@@ -4,6 +4,7 @@ use Rattle.std.specs.List.{flat_map}
 use Rattle.std.specs.Option.{option_map}
 use Rattle.rsvp_base.specs.declared.addr.Addr.{Addr}
 use Rattle.rsvp_base.specs.declared.session.Sender.{Sender}
+use Rattle.rsvp_base.specs.declared.session.Session.{Session}
 use Rattle.rsvp_base.specs.declared.style.StyleKind.TheVariants.{Fixed, Shared, Wild}
 use Rattle.rsvp_base.specs.declared.style.Unit.{Unit as UnitOf}
 use Rattle.rsvp_base.specs.declared.style.Unit.TheVariants.{Of, One}
@@ -18,7 +19,7 @@ use Rattle.tree_model.specs.Ranks.{longest}
 use Rattle.network_model.specs.Bounds.{IsStart}
 use Rattle.network_model.specs.Locals.{locals_of}
 use Rattle.network_model.specs.Worlds.{Item, World}
-use Rattle.network_model.specs.RouterRules.Inputs.{SendAs, WantAs}
+use Rattle.network_model.specs.RouterRules.Inputs.{QuitAll, SendAs, WantAs}
 use Rattle.network_model.specs.ThreeRouters.{first, flow, group, ip, r1, r2, s1, second, session, usual}
 use Rattle.network_model.specs.Events.{AtNode, Event, Pass, Traces}
 use Rattle.network_model.specs.Rows.{end_of, hop_of, line, plan_of, sends}
@@ -173,20 +174,31 @@ pub record AnAnswerIsForMore : Type 0 where
 abbrev pub held_first : World → Option TokenBucket
 held_first w = option_map (λ x. x.part.flow) (resv_at w 0 Wild (session, ((0, r1), One)))
 
--- the first end has 800 bytes per second. A receiver of the router has 400 of them, and one behind the router was refused 1,000 and has 700.
--- It asks for 1,200, which the blockade keeps back: the Resv that goes on asks for 400 alone, but with the wish, and is answered
+-- the first end has 1,500 bytes per second, of which another session took 800, so that a receiver behind the router was refused 1,000. Now
+-- that one is quit; the receiver has 700, and one of the router 400. The first asks for 1,200, which would fit, and the blockade keeps it back:
+-- the Resv that goes on asks for 400 alone, but with the wish, and is answered
+abbrev pub another : Session
+another = record { group = group; proto = 17; port = 5005 }
+
 abbrev pub was_refused : List Event
-was_refused = sends ∷ Pass 2 ∷ wants_flow 1 400 600 ∷ wants_flow 2 1000 600 ∷ Pass 6 ∷ wants_flow 2 700 600 ∷ Pass 4 ∷ []
+was_refused =
+    sends ∷ AtNode 0 (SendAs another first usual) ∷ Pass 2 ∷ AtNode 2 (WantAs another Wild empty (flow 800 600 64 1500) false) ∷ Pass 4 ∷ wants_flow 1 400 600
+    ∷ wants_flow 2 1000 600 ∷ Pass 6 ∷ AtNode 2 (QuitAll another) ∷ wants_flow 2 700 600 ∷ Pass 4 ∷ []
 
 pub record LessIsConfirmed : Type 0 where
-  pub text : run_text (line 800 (was_refused ++ Traces true ∷ asks_for 2 1200 ∷ Pass 4 ∷ [])) ≡ codes "r2 Resv taken\ns1 Resv taken\nr1 ResvConf taken\nt1 ResvConf taken\n"
-  pub flows : flows_in (last_world (line 800 (was_refused ++ asks_for 2 1200 ∷ Pass 3 ∷ []))) ≡ flow 400 600 64 1500 ∷ []
-  pub held : held_first (last_world (line 800 (was_refused ++ asks_for 2 1200 ∷ Pass 3 ∷ []))) ≡ Some (flow 400 600 64 1500)
+  -- all that was asked for is held, and nothing is in flight
+  pub before : held_first (last_world (line 1500 was_refused)) ≡ Some (flow 700 600 64 1500)
+  pub quiet : (last_world (line 1500 was_refused)).flight ≡ []
+  pub text : run_text (line 1500 (was_refused ++ Traces true ∷ asks_for 2 1200 ∷ Pass 4 ∷ [])) ≡ codes "r2 Resv taken\ns1 Resv taken\nr1 ResvConf taken\nt1 ResvConf taken\n"
+  pub flows : flows_in (last_world (line 1500 (was_refused ++ asks_for 2 1200 ∷ Pass 3 ∷ []))) ≡ flow 400 600 64 1500 ∷ []
+  pub held : held_first (last_world (line 1500 (was_refused ++ asks_for 2 1200 ∷ Pass 3 ∷ []))) ≡ Some (flow 400 600 64 1500)
 
 -- ---- one receiver asks, and before its request is far another one asks for less, and for a confirmation
 abbrev pub asked_first : List Event → List Event
 asked_first events = sends ∷ Pass 3 ∷ wants_flow 3 400 600 ∷ asks_for 4 300 ∷ events
 
 pub record AnAnswerIsEarly : Type 0 where
-  pub text : run_text (behind_one (asked_first (Traces true ∷ Pass 2 ∷ []))) ≡ codes "q2 Resv taken\nq3 Resv taken\nr2 Resv taken\nu1 ResvConf taken\n"
+  pub long : longest (behind_one []).net ≡ 3
+  -- no other answer comes in the 2 H passes
+  pub text : run_text (behind_one (asked_first (Traces true ∷ Pass 6 ∷ []))) ≡ codes "q2 Resv taken\nq3 Resv taken\nr2 Resv taken\nu1 ResvConf taken\ns1 Resv taken\n"
   pub held : held_first (last_world (behind_one (asked_first (Pass 2 ∷ [])))) ≡ None

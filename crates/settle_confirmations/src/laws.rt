@@ -42,9 +42,10 @@ pub fn a_receiver_is_answered()
         × Happens (machine q) (IsAnswered s st x flow e) (passes q (2 * longest w.net) (after_want q n s st names flow true w)) (after_want q n s st names flow true w) }
 {}
 
-/// And what is confirmed is held, all along: under the same premises, when the answer comes, over each hop of the way from the sender to the
-/// receiver a reservation of the sender has at least what the receiver asks for, and the network has settled again. So each book is then the
-/// demand, and what the receiver learns is not only of the router that answered it.
+/// And what is confirmed is held, all along: under the same premises an answer comes within 2 H passes to the end by which the sender's path
+/// comes, in a network that has settled again, and in which over each hop of the way from the sender to this end a reservation of the sender
+/// has at least what the receiver asks for. So each book is then the demand, and what the receiver learns is not only of the router that
+/// answered it.
 pub fn what_is_confirmed_is_held()
     ensures { (q n : ℕ) (s : Session) (st : StyleKind) (names : Names) (flow : TokenBucket) (x : Sender) (w : World) → IsStart q w → HasSettled q w → w.flight ≡ []
         → IsOnlySender w s x → IsFitList st names → IsSound flow → AsksNoLess w n s st names flow true → DemandsFit w.net (locals_of (after_want q n s st names flow true w))

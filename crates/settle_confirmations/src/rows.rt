@@ -50,15 +50,16 @@ pub fn an_answer_is_for_more()
     ensures { AnAnswerIsForMore }
 {}
 
-/// Not without the premise that the demands fit is at least as much confirmed as was asked for, or held at each end: a receiver that asks for
-/// 1,200 bytes per second behind a router that keeps this back by a blockade, and has 400 for a receiver of its own, gets a confirmation of
-/// 400, from the end before that router.
+/// Not without the premise that the network has settled is at least as much confirmed as was asked for, or held at each end: where a blockade
+/// is left of a refusal, a receiver asks for 1,200 bytes per second, which fit, and the router before it keeps them back, which has 400 for a
+/// receiver of its own; all that is confirmed, and held by the end before that router, are these 400.
 pub fn less_is_confirmed()
     ensures { LessIsConfirmed }
 {}
 
-/// Nor without the premise that nothing is in flight is what is confirmed held all along: where another receiver has just asked for more, the
-/// router in which the two meet answers at once, before the first end of the way holds anything.
+/// Nor is what is confirmed held all along while another request is on its way, when the network has not settled and something is in flight:
+/// where another receiver has just asked for more, the router in which the two meet answers at once, before the first end of the way holds
+/// anything, and no other answer comes within 2 H passes.
 pub fn an_answer_is_early()
     ensures { AnAnswerIsEarly }
 {}
