@@ -51,7 +51,7 @@ use Rattle.settle_passes.proofs.Serving.{settled_again}
 use Rattle.settle_passes.proofs.Wanting.{a_receiver_is_set_up, a_settled_session_is_reserved}
 use Rattle.settle_passes.proofs.Worked.{a_pair_is_set_up}
 use Rattle.settle_releases.specs.Releases.{HasNoMark}
-use Rattle.settle_senders.specs.Worked.{AReceiverWaits, NoPassIsSpared, joined_world, waiting_world}
+use Rattle.settle_senders.specs.Worked.{AMarkIsAnswered, ANewDemandIsRefused, AReceiverWaits, NoPassIsSpared, joined_world, waiting_world}
 use Rattle.settle_senders.proofs.Sending.{a_reserving_session_follows}
 use Rattle.settle_senders.proofs.Serving.{a_new_sender_is_followed}
 
@@ -239,3 +239,11 @@ a_receiver_waits = record {
 pub no_pass_is_spared : NoPassIsSpared
 unfolding digits addr_text session_text sender_text flow_text entry_line head_text facts_with
 no_pass_is_spared = record { long = refl; text = refl }
+
+pub a_new_demand_is_refused : ANewDemandIsRefused
+unfolding digits head_text facts_with
+a_new_demand_is_refused = record { text = refl }
+
+pub a_mark_is_answered : AMarkIsAnswered
+unfolding facts_with
+a_mark_is_answered = record { text = refl }

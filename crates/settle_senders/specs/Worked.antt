@@ -53,3 +53,12 @@ pub record NoPassIsSpared : Type 0 where
   pub long : longest (line 10000 []).net ≡ 2
   pub text : run_text (line 10000 (AtNode 2 (WantAs session Wild empty usual false) ∷ Traces true ∷ sends ∷ Pass 3 ∷ Reports (Some 0) ∷ Pass 1 ∷ Reports (Some 0) ∷ []))
       ≡ codes "r1 Path taken\nt1 Path taken\nr2 Resv taken\nend s1 held 0 of 10000\ns1 Resv taken\nend s1 held 1000 of 10000\n" ++ usual_entry
+
+-- ---- the sender's end has 900 bytes per second, and the receiver waits for 1,000
+pub record ANewDemandIsRefused : Type 0 where
+  pub text : run_text (line 900 (AtNode 2 (WantAs session Wild empty usual false) ∷ Traces true ∷ sends ∷ Pass 4 ∷ Reports (Some 0) ∷ []))
+      ≡ codes "r1 Path taken\nt1 Path taken\nr2 Resv taken\ns1 Resv answered 1/2\nend s1 held 0 of 900\n"
+
+-- ---- the receiver waits to be confirmed besides: after the 2 H passes the answer is on its way
+pub record AMarkIsAnswered : Type 0 where
+  pub text : run_text (line 10000 (AtNode 2 (WantAs session Wild empty usual true) ∷ sends ∷ Pass 4 ∷ Traces true ∷ Pass 2 ∷ [])) ≡ codes "r1 ResvConf taken\nt1 ResvConf taken\n"

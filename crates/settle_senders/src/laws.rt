@@ -17,7 +17,7 @@ ghost use Rattle.settle_releases.specs.Releases.{HasNoMark};
 ghost use Rattle.settle_senders.specs.Following.{IsFollowing};
 
 /// Where paths spread and the reservations of a session follow them, as when a host begins to send where receivers wait, they do so still n
-/// passes on. Nothing of the session is refused meanwhile.
+/// passes on. So after each pass no ResvErr of it with a flow is in flight, as of a refusal, and no blockade of it is left.
 pub fn reservations_follow_paths()
     ensures { (q n : ℕ) (s : Session) (w : World) → IsFollowing q s w → IsFollowing q s (after_passes q n w) }
 {}
