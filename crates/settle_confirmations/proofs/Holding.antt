@@ -64,7 +64,8 @@ use Rattle.settle_passes.proofs.Serving.{settled_again}
 use Rattle.settle_passes.proofs.Spreading.{run_then}
 use Rattle.settle_passes.proofs.Turns.{Turns}
 use Rattle.settle_confirmations.specs.Requests.{IsAnswered, IsConfirmed, IsForAtLeast, IsHeldAlong, IsOnlySender, IsReached, IsRequest, IsWay, arrival_units}
-use Rattle.settle_confirmations.proofs.Answering.{GoesOnThere, IsAnsweredThere, IsOnward, new_item, nobody, up_moves}
+use Rattle.settle_confirmations.proofs.Answering.{GoesOnThere, IsAnsweredThere, IsOnward, new_item, up_moves}
+use Rattle.settle_confirmations.proofs.Keeping.{nobody}
 use Rattle.settle_confirmations.proofs.Moving.{IsAsking, IsConf, IsDown, IsUp, down_next, in_tree, listed_one}
 use Rattle.settle_confirmations.proofs.Passing.{Answers, all_asking, answered_in, begins, happens_first, happens_so, happens_then, ranks_down}
 use Rattle.settle_confirmations.proofs.Returning.{GoesDown, asking_next, conf_item, conf_keeps, down_moves}

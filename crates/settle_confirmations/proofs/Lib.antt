@@ -1,5 +1,6 @@
 pub mod Taken
 pub mod Moving
+pub mod Keeping
 pub mod Answering
 pub mod Returning
 pub mod Passing
