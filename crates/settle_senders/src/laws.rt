@@ -38,9 +38,9 @@ pub fn a_reserving_session_follows()
     ensures { (q : ℕ) (s : Session) (w : World) → IsReserving q s w → IsFollowing q s w }
 {}
 
-/// And so they do when a host begins to send, for this session or another, as a sender that nobody was: where senders are few enough after the
-/// call and send to groups, and the session fits. So the next host may begin before the path of the first is there, and 2 H passes from the
-/// last all are served.
+/// And so they do when a host begins to send, for this session or another: where nobody sends as this sender yet, senders are few enough after
+/// the call and send to groups, and the session fits. So the next host may begin before the path of the first is there, and 2 H passes from
+/// the last all are served.
 pub fn a_new_sender_is_followed()
     ensures { (q n : ℕ) (s : Session) (k : SenderKey) (t : TokenBucket) (w : World) → IsFollowing q s w → IsSound t → IsNew w k → AreHosts (after_send q n k t w)
         → SessionFits w.net (locals_of (after_send q n k t w)) s → IsFollowing q s (after_send q n k t w) }
