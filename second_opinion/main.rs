@@ -3,6 +3,7 @@
 //! `grow N` makes a network from a seed, runs it and writes a summary; `events` writes what happens in a script in place of its text.
 //! `node` is one router over a stream of frames; `stream N` writes, of a script, the stream of what comes to its router number N, from 0.
 //! `pasts HOPS FIRST COUNT` tries how many calm rounds random networks need after random pasts, `past HOPS SEED` writes the script of one.
+mod adverts;
 mod events;
 mod grown;
 mod messages;

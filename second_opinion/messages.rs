@@ -1,4 +1,5 @@
 //! The messages of RSVP and their bytes (RFC 2205, 3.1 and appendix A).
+use crate::adverts::Advert;
 use crate::values::*;
 
 #[derive(Clone, Debug)]
@@ -40,6 +41,7 @@ pub enum Body {
         police: bool,
         period: u32,
         sender: Option<(Sender, Flow)>,
+        advert: Option<Advert>,
     },
     Resv {
         period: u32,
@@ -225,6 +227,7 @@ pub fn encode(m: &Message, out: &mut Vec<u8>) {
             police,
             period,
             sender,
+            advert,
         } => {
             w.session(m.session, *police);
             w.hop(m.hop);
@@ -232,6 +235,9 @@ pub fn encode(m: &Message, out: &mut Vec<u8>) {
             if let Some((s, flow)) = sender {
                 w.sender(11, *s);
                 w.flow(12, 1, flow);
+            }
+            if let Some(advert) = advert {
+                advert.write(&mut w);
             }
             1
         }
@@ -413,6 +419,7 @@ struct Said {
     style: Option<Style>,
     template: Option<Sender>,
     tspec: Option<Flow>,
+    advert: Option<Advert>,
     confirm: Option<Addr>,
     // The last FLOWSPEC, and whether no FILTER_SPEC stood behind it yet.
     flow: Option<Flow>,
@@ -463,6 +470,9 @@ impl Said {
         self.begun |= class != 0;
         let skipped = matches!(class, 0 | 4 | 13 | 128..=255) || (kind == 6 && class == 9);
         if place == Place::Unread || skipped {
+            if kind == 1 && (class, ctype) == (13, 2) {
+                self.advert = Advert::read(c);
+            }
             return Ok(());
         }
         if c_type(class) != Some(ctype) {
@@ -561,6 +571,7 @@ impl Said {
                     (None, None) => None,
                     _ => return None,
                 },
+                advert: self.advert.take(),
             },
             2 => Body::Resv {
                 period: self.period?,

@@ -1,4 +1,5 @@
 //! A router: what it keeps, and what each message, local call, wait and new route makes of it (RFC 2205, 2209).
+use crate::adverts::Advert;
 use crate::messages::*;
 use crate::values::*;
 use std::collections::{BTreeMap, BTreeSet, HashMap};
@@ -10,12 +11,13 @@ pub struct Iface {
     pub mtu: u32,
 }
 
-#[derive(Clone, Copy)]
+#[derive(Clone)]
 pub struct Path {
     pub iface: u8,
     pub hop: (Addr, u32),
     pub tspec: Flow,
     pub police: bool,
+    pub advert: Option<Advert>,
     pub dies: u64,
 }
 
@@ -85,7 +87,8 @@ pub struct Error {
     pub message: Message,
 }
 
-pub type Offers = Vec<(Sender, Flow, bool)>;
+// A sender, its flow, whether it is a local one, and the ADSPEC that came.
+pub type Offers = Vec<(Sender, Flow, bool, Option<Advert>)>;
 
 #[derive(Default)]
 pub struct Node {
@@ -149,8 +152,11 @@ impl Node {
         self.known(s)
             .into_iter()
             .map(|x| match self.senders.get(&(s, x)) {
-                Some(flow) => (x, *flow, true),
-                None => (x, self.paths[&(s, x)].tspec, false),
+                Some(flow) => (x, *flow, true, None),
+                None => {
+                    let path = &self.paths[&(s, x)];
+                    (x, path.tspec, false, path.advert.clone())
+                }
             })
             .collect()
     }
@@ -455,12 +461,17 @@ impl Node {
                     if ways >> iface & 1 == 0 {
                         continue;
                     }
-                    let same = old >> iface & 1 == 1 && was.is_some_and(|b| b.1 == o.1);
+                    let by = self.ifaces[iface as usize];
+                    let told =
+                        |a: &Option<Advert>| a.as_ref().map(|a| a.passed(by.capacity, by.mtu));
+                    let same = old >> iface & 1 == 1
+                        && was.is_some_and(|b| b.1 == o.1 && told(&b.3) == told(&o.3));
                     if due || !same {
                         let body = Body::Path {
                             police: o.2,
                             period: self.period as u32,
                             sender: Some((o.0, o.1)),
+                            advert: told(&o.3),
                         };
                         out.push(self.to_group(*s, iface, body));
                     }
@@ -710,7 +721,8 @@ impl Node {
                 police,
                 period,
                 sender,
-            } => self.path(s, iface, m.hop, *police, *period, sender),
+                advert,
+            } => self.path(s, iface, m.hop, *police, *period, sender, advert),
             Body::PathTear { sender } => match sender {
                 None => Heard::Dropped("NoSender"),
                 Some(x) => match self.paths.get(&(s, *x)) {
@@ -795,13 +807,15 @@ impl Node {
                 police,
                 period,
                 sender: Some((x, tspec)),
+                advert,
             } => {
                 let life = self.life(*period);
                 let Some(p) = self.paths.get_mut(&(s, *x)) else {
                     return false;
                 };
-                let same =
-                    (p.iface, p.hop, p.police) == (iface, m.hop, *police) && p.tspec == *tspec;
+                let same = (p.iface, p.hop, p.police) == (iface, m.hop, *police)
+                    && p.tspec == *tspec
+                    && p.advert == *advert;
                 let inward = self.routes.get(&(s.group, x.addr)).and_then(|r| r.0);
                 if same && inward == Some(iface) {
                     p.dies = clock + life;
@@ -862,6 +876,7 @@ impl Node {
         }
     }
 
+    #[allow(clippy::too_many_arguments)]
     pub fn path(
         &mut self,
         s: Session,
@@ -870,6 +885,7 @@ impl Node {
         police: bool,
         period: u32,
         sender: &Option<(Sender, Flow)>,
+        advert: &Option<Advert>,
     ) -> Heard {
         let Some((x, tspec)) = *sender else {
             return Heard::Dropped("NoSender");
@@ -891,6 +907,7 @@ impl Node {
             hop,
             tspec,
             police,
+            advert: advert.clone(),
             dies,
         };
         self.paths.insert((s, x), path);

@@ -146,6 +146,7 @@ pub fn line(net: &mut Network, part: &mut u8, words: &[&str], out: &mut Vec<Send
                 hop: (addr(words[5]), 0),
                 tspec: flow(words[6]),
                 police: false,
+                advert: None,
                 dies: left,
             };
             node.paths.insert((s, x), path);

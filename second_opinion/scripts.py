@@ -422,7 +422,9 @@ class Writer:
             made.append([6, 1, words])
         if kind == 1 and draw.chance(0.95):
             made += [self.filter(11, self.sender(session)), self.flowspec(12, 1)]
-            if draw.chance(0.1):
+            if draw.chance(0.3):
+                made.append([13, 2, self.adspec()])
+            elif draw.chance(0.1):
                 made.append([13, draw.one([1, 2]), bytes(4 * draw.below(4))])
         if kind in (3, 5) and draw.chance(0.9):
             made.append(self.filter(11, self.sender(session)))
@@ -465,6 +467,16 @@ class Writer:
     def filter(self, number, sender):
         address, port = sender.split(":")
         return [number, 1, number_of(address).to_bytes(4, "big") + b"\0\0" + int(port).to_bytes(2, "big")]
+
+    def adspec(self):
+        """The contents of an ADSPEC."""
+        draw = self.draw
+        rate, latency = draw.one([500, 1000, 3000, 10000, 10000000]), draw.one([0, 100, 100, 101, 0xFFFFFFFF])
+        words = [0x01000008 | draw.one([0, 0, 0, 1]) << 23, 0x04000001, draw.one([1, 1, 2, 0xFFFFFFFF]), 0x06000001, rate_word(rate)]
+        words += [0x08000001, latency, 0x0A000001, draw.one([576, 1500, 1500, 9000])]
+        words += draw.one([[0x05000000], [0x05000000], [0x05800000], [], [0x05000001, 7], [0x05000000, 0x05000000]])
+        words += draw.one([[], [], [0x02000000], [0x02800001, 7], [0x06000002, 0x02000000, 0, 0x02000000], [0x02000003, 1], [0x01000000]])
+        return b"".join(word.to_bytes(4, "big") for word in [len(words), *words])
 
     def flowspec(self, number, service):
         rate, bucket, peak, least, most = self.flow()

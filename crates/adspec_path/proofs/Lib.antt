@@ -2,3 +2,4 @@ pub mod Cutting
 pub mod Largest
 pub mod Proper
 pub mod Composed
+pub mod Same

@@ -1,3 +1,4 @@
 pub mod RateBelow
 pub mod Composing
 pub mod Advertisement
+pub mod Same

@@ -2,6 +2,7 @@
 ghost use Rattle.adspec_path.specs.Advertisement.{AnAdvertisementIsComposed};
 ghost use Rattle.adspec_path.specs.Composing.{WhatIsComposedCanBeWritten};
 ghost use Rattle.adspec_path.specs.RateBelow.{RateBelowIsTheLargest};
+ghost use Rattle.adspec_path.specs.Same.{SameIsEqual};
 
 /// The rate below a number, as a function of its bits, is the largest rate that is at most that number, and no other is.
 pub fn rate_below_is_the_largest()
@@ -17,4 +18,9 @@ pub fn what_is_composed_can_be_written()
 /// bandwidth, the sum of latencies, which stays at 2^32 - 1, the least MTU.
 pub fn an_advertisement_is_composed()
     ensures { AnAdvertisementIsComposed }
+{}
+
+/// ADSPECs are the same exactly where they are equal.
+pub fn same_is_equal()
+    ensures { SameIsEqual }
 {}

@@ -61,7 +61,7 @@ module _ (old p : NodeConfig) (b : ℕ) (i : Input) (f : Facts) (some : 1 ≤ p.
         paths = λ k x e.
             ⊎_elim (λ (was : get f.paths k ≡ Some x). w.shapes.paths k x was)
             (λ (new : IsLearnt p (clock_after b i) i k x).
-            let fits = path_fits p i k new.by fit in subst (IsPathShaped p) (sym new.is) (record { iface = fits.0; tspec = fits.1 }))
+            let fits = path_fits p i k new.by fit in subst (IsPathShaped p) (sym new.is) (record { iface = fits.0; tspec = fits.1.0; adspec = fits.1.1 }))
             (came_from old p (clock_after b i) i f k x e);
         resvs = resvs.shapes;
         wants = wants.shaped;
@@ -97,7 +97,7 @@ rerouted p routes b f w =
       shapes =
           record {
             senders = w.shapes.senders;
-            paths = λ k x e. let s = w.shapes.paths k x e in record { iface = s.iface; tspec = s.tspec };
+            paths = λ k x e. let s = w.shapes.paths k x e in record { iface = s.iface; tspec = s.tspec; adspec = s.adspec };
             resvs = λ st k r e. let s = w.shapes.resvs st k r e in record { iface = s.iface; style = s.style; unit = s.unit; names = s.names; flow = s.flow };
             wants = w.shapes.wants;
             walls = λ k x e. let s = w.shapes.walls k x e in record { iface = target_there p routes k.1 s.iface; flow = s.flow };

@@ -24,6 +24,7 @@ use Rattle.rsvp_messages.specs.declared.message.PathMsg.{PathMsg}
 use Rattle.rsvp_messages.specs.declared.message.PathTearMsg.{PathTearMsg}
 use Rattle.rsvp_messages.specs.declared.message.ResvErrMsg.{ResvErrMsg}
 use Rattle.rsvp_messages.specs.Proper.{AreBothOrNeither, IsProper, IsProperBlameOf, WhereThere}
+use Rattle.rsvp_messages.specs.RsvpObjects.ObjectFields.AdspecLaws.{IsAdspec}
 use Rattle.style_rules.specs.declared.target.Target.TheVariants as target
 use Rattle.laws_inputs.specs.RouterRules.Act.{act, act_spelt, is_mine}
 use Rattle.laws_inputs.specs.RouterRules.Bounds.{AreDue, IsTarget, LivesUpTo}
@@ -70,10 +71,10 @@ pub lives_on : (b c life dies : ℕ) → b ≤ c → LivesUpTo b life dies → c
 lives_on b c life dies later l h = let soon = l.soon in record { later = h; soon = omega (arith, later, soon) }
 
 -- a Path that came
-pub path_fits : (p : NodeConfig) (i : Input) (k : SenderKey) (by : CameOnTree p i k) → IsFit p i → (by.at < length p.ifaces) × IsSound by.tspec
+pub path_fits : (p : NodeConfig) (i : Input) (k : SenderKey) (by : CameOnTree p i k) → IsFit p i → (by.at < length p.ifaces) × (IsSound by.tspec × WhereThere IsAdspec by.path.adspec)
 path_fits p i k by fit =
     let came : IsFit p (Came by.at k.0.group (Spelt (message.Path by.path))) = subst (IsFit p) by.came fit in
-    (came.0, subst (WhereThere (λ (e : Sender × TokenBucket). IsSound e.1)) by.sender came.1.0)
+    (came.0, (subst (WhereThere (λ (e : Sender × TokenBucket). IsSound e.1)) by.sender came.1.0, came.1.1))
 
 -- the table of paths within its limits
 learnt_within : (t new : Paths) (s : Session) (b : Bool) → has_room_at senders new s ≡ b → (has_room_at senders new s ≡ true → IsWithinSessionLimits senders new) → IsWithinSessionLimits senders t

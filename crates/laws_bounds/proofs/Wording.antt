@@ -1,11 +1,13 @@
 -- What is sent is proper.
-use Rattle.std.specs.Prelude.{◌≡◌, ℕ, ◌≤◌, ◌<◌, ◌⊎◌, nat_lt, Bool, true, false, cond, not, List, [], ◌∷◌, ◌++◌, map as each, Option, Some, None, refl}
+use Rattle.std.specs.Prelude.{◌≡◌, ℕ, ◌≤◌, ◌<◌, ◌⊎◌, nat_lt, Bool, true, false, cond, not, List, [], ◌∷◌, ◌++◌, map as each, Option, Some, None, slice_get, refl}
 use Rattle.std.proofs.Common.{sym, ap, subst, ◌∙◌, inl, ⊎_elim, arith}
 use Rattle.std.proofs.lemmas.Bool.{ltb-true}
 use Rattle.std.specs.List.{flat_map, list_any}
 use Rattle.std.specs.Option.{option_map}
 use Rattle.std.specs.Ordering.{eq_by_cmp}
+use Rattle.laws_inputs.proofs.RouterRules.AdspecPath.Proper.{what_is_composed_can_be_written}
 use Rattle.rsvp_base.specs.declared.addr.Addr.{Addr}
+use Rattle.rsvp_base.specs.declared.iface.Iface.{Iface}
 use Rattle.rsvp_base.specs.declared.part.Part.{Part}
 use Rattle.rsvp_base.specs.declared.session.Sender.{Sender}
 use Rattle.rsvp_base.specs.declared.style.StyleKind.{StyleKind}
@@ -29,7 +31,9 @@ use Rattle.rsvp_messages.specs.declared.message.PathErrMsg.{PathErrMsg}
 use Rattle.rsvp_messages.specs.declared.message.ResvConfMsg.{ResvConfMsg}
 use Rattle.rsvp_messages.specs.declared.message.ResvErrMsg.{ResvErrMsg}
 use Rattle.rsvp_messages.specs.declared.message.ResvMsg.{ResvMsg}
-use Rattle.rsvp_messages.specs.Proper.{HasNoScope, IsProper, IsProperAsk, IsProperBlameOf, IsProperTear, IsScope}
+use Rattle.rsvp_messages.specs.Proper.{HasNoScope, IsProper, IsProperAsk, IsProperBlameOf, IsProperTear, IsScope, WhereThere}
+use Rattle.rsvp_messages.specs.RsvpObjects.ObjectFields.AdspecLaws.{IsAdspec}
+use Rattle.rsvp_messages.specs.RsvpObjects.ObjectFields.declared.adspec.Adspec.{Adspec}
 use Rattle.rsvp_messages.specs.Units.{AskedUnit, ask_style, asked_units, fixed_unit}
 use Rattle.style_rules.proofs.Lattice.{sound_join, sound_meet}
 use Rattle.style_rules.specs.CutLaws.{cut_flow, made_named, made_of, some_name}
@@ -54,9 +58,11 @@ use Rattle.laws_inputs.specs.RouterRules.Facts.{Facts, PathState, ResvState, Wan
 use Rattle.laws_inputs.specs.RouterRules.Inputs.{Asked, Call, Came, Clear, ConfSend, ErrSend, Input, Moved, Send, Spelt, Unspelt, Wait}
 use Rattle.laws_inputs.specs.RouterRules.Known.{Lane, known, named_as, names_via, names_via_where, via}
 use Rattle.laws_inputs.specs.RouterRules.NodeConfig.{NodeConfig, goes_out, is_own}
+use Rattle.laws_inputs.specs.RouterRules.Offers.{advert_by, advert_of}
+use Rattle.laws_inputs.specs.RouterRules.declared.advert.Advert.{Advert}
 use Rattle.laws_inputs.specs.RouterRules.Requests.{requests, toward, want_part}
 use Rattle.laws_inputs.specs.RouterRules.Rule.{settled}
-use Rattle.laws_inputs.specs.RouterRules.Sends.{conf_for, confirmed, error_message, goes_on, gone_names, tear_of, without_scope}
+use Rattle.laws_inputs.specs.RouterRules.Sends.{conf_for, confirmed, error_message, goes_on, gone_names, tear_of, told_at, without_scope}
 use Rattle.laws_inputs.specs.FactLaws.{IsResvRequest, IsWantRequest}
 use Rattle.laws_inputs.specs.SendLaws.{IsConf, IsError, IsPath, IsPathTear, IsResv, IsResvTear}
 use Rattle.laws_inputs.proofs.Lists.{passed, some_same}
@@ -450,6 +456,12 @@ tear_proper Wild names rest v some = scope_of (cut names (named_as Wild v)) (λ 
 tear_proper Fixed names rest v some = some_name (cut names (named_as Fixed v)) some
 tear_proper Shared names rest v some = some_name (cut names (named_as Shared v)) some
 
+-- ---- what goes on of an ADSPEC that is kept
+passed_proper : (on : Option Iface) (kept : Option Adspec) → WhereThere IsAdspec kept → WhereThere IsAdspec (advert_by on (advert_of kept))
+passed_proper on None h = tt
+passed_proper None (Some a) h = tt
+passed_proper (Some i) (Some a) h = what_is_composed_can_be_written.pass_on a i h
+
 -- ---- all sends
 module _ (old p : NodeConfig) (b : ℕ) (i : Input) (f : Facts) (some : 1 ≤ p.quarter) (fit : IsFit p i) (w : IsWithinBounds p b f) where
   abbrev after : Facts
@@ -466,7 +478,15 @@ module _ (old p : NodeConfig) (b : ℕ) (i : Input) (f : Facts) (some : 1 ≤ p.
       (λ (q : IsLocalOffer (facts_then old p (clock_after b i) i f) r.key r.offer). within_then.shapes.senders (r.key.session, r.key.sender) r.offer.tspec q.there)
       (λ (q : IsPathOffer (facts_then old p (clock_after b i) i f) r.key r.offer). subst IsSound (sym q.tspec) (within_then.shapes.paths (r.key.session, r.key.sender) q.path q.there).tspec)
       (offer_source (facts_then old p (clock_after b i) i f) r.key r.offer at) in
-      subst IsProper (sym (ap (λ (z : Send). z.message) r.is)) (sound, tt)
+      let told : WhereThere IsAdspec (told_at p r.key.iface r.offer) =
+      ⊎_elim
+      (λ (q : IsLocalOffer (facts_then old p (clock_after b i) i f) r.key r.offer).
+      subst (λ (z : Advert). WhereThere IsAdspec (advert_by (slice_get p.ifaces r.key.iface) z)) (sym q.advert) tt)
+      (λ (q : IsPathOffer (facts_then old p (clock_after b i) i f) r.key r.offer).
+      subst (λ (z : Advert). WhereThere IsAdspec (advert_by (slice_get p.ifaces r.key.iface) z)) (sym q.advert)
+      (passed_proper (slice_get p.ifaces r.key.iface) q.path.adspec (within_then.shapes.paths (r.key.session, r.key.sender) q.path q.there).adspec))
+      (offer_source (facts_then old p (clock_after b i) i f) r.key r.offer at) in
+      subst IsProper (sym (ap (λ (z : Send). z.message) r.is)) (sound, told)
 
   resv_proper : (s : Send) → IsResv old p f after (act p (clock_after b i) i f) s → IsProper s.message
   resv_proper s r =

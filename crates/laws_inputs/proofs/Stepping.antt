@@ -133,9 +133,9 @@ source_by : (f : Facts) (k : OfferKey) (o : Offer) (u : Option TokenBucket) (w :
     → or_else (option_map own_offer u) (option_map path_offer w) ≡ Some o
     → IsLocalOffer f k o ⊎ IsPathOffer f k o
 source_by f k o (Some flow) w g h e =
-    let is : own_offer flow ≡ o = cc in inl (record { there = g ∙ ap (λ (z : Offer). Some z.tspec) is; local = ap (λ (z : Offer). z.local) (sym is) })
+    let is : own_offer flow ≡ o = cc in inl (record { there = g ∙ ap (λ (z : Offer). Some z.tspec) is; local = ap (λ (z : Offer). z.local) (sym is); advert = ap (λ (z : Offer). z.advert) (sym is) })
 source_by f k o None (Some path) g h e =
-    let is : path_offer path ≡ o = cc in inr (record { no_local = g; path = path; there = h; tspec = ap (λ (z : Offer). z.tspec) (sym is); local = ap (λ (z : Offer). z.local) (sym is) })
+    let is : path_offer path ≡ o = cc in inr (record { no_local = g; path = path; there = h; tspec = ap (λ (z : Offer). z.tspec) (sym is); local = ap (λ (z : Offer). z.local) (sym is); advert = ap (λ (z : Offer). z.advert) (sym is) })
 source_by f k o None None g h e = absurd (cc)
 
 pub offer_source : (f : Facts) (k : OfferKey) (o : Offer) → offer_at f k ≡ Some o → IsLocalOffer f k o ⊎ IsPathOffer f k o

@@ -3,6 +3,7 @@ use Rattle.std.specs.Prelude.{◌≡◌, ℕ, true, false, not, Option, Some, No
 use Rattle.std.proofs.Common.{sym, ap, subst, ◌∙◌}
 use Rattle.std.proofs.lemmas.Bool.{eqb-true, eq-eqb}
 use Rattle.std.specs.Ordering.{eq_by_cmp}
+use Rattle.router_rules.proofs.AdspecPath.Same.{itself as told_itself}
 use Rattle.router_rules.specs.RsvpBase.declared.addr.Addr.{Addr}
 use Rattle.router_rules.specs.RsvpBase.declared.part.Part.{Part}
 use Rattle.router_rules.specs.RsvpBase.declared.session.Session.{Session}
@@ -29,7 +30,7 @@ use Rattle.router_rules.specs.Known.{came_by}
 use Rattle.router_rules.specs.NodeConfig.{NodeConfig, is_addr, is_session}
 use Rattle.router_rules.specs.Offers.{Offer}
 use Rattle.router_rules.specs.Requests.{is_style}
-use Rattle.router_rules.specs.Sends.{is_new_offer, is_part_in, parts_le, same_flow, same_parts, stands_for}
+use Rattle.router_rules.specs.Sends.{is_new_offer, is_part_in, parts_le, same_flow, same_parts, stands_for, told_at}
 use Rattle.laws_inputs.specs.FactLaws.{TestsTell}
 
 -- keys tie exactly where they are one
@@ -62,7 +63,7 @@ flow_tested a b e = subst (λ c. same_flow a c ≡ true) e (and_made _ _ (at_mos
 
 -- what was offered is not new at any interface
 pub not_new : (p : NodeConfig) (i : ℕ) (o : Offer) → is_new_offer p i o (Some o) ≡ false
-not_new p i o = ap not (flow_tested o.tspec o.tspec refl)
+not_new p i o = ap not (and_made _ _ (flow_tested o.tspec o.tspec refl) (told_itself (told_at p i o)))
 
 -- ---- tables of parts
 stands_told : (part : Part) (w : Option Part) → stands_for part w ≡ true → (other : Part) × (w ≡ Some other) × (part_le part other ≡ true)

@@ -9,7 +9,8 @@ use Rattle.router_rules.specs.Facts.{Facts, PathState, SenderKey}
 use Rattle.router_rules.specs.Inputs.{Input, Came, Spelt}
 use Rattle.router_rules.specs.Paths.{path_state}
 use Rattle.router_rules.specs.NodeConfig.{NodeConfig, comes_in}
-use Rattle.router_rules.specs.Offers.{Offer, OfferKey}
+use Rattle.router_rules.specs.Offers.{Offer, OfferKey, advert_of}
+use Rattle.router_rules.specs.declared.advert.Advert.TheVariants.{Silent}
 
 -- ---- a Path that counts: it came to its group, with a sender, by the interface that leads to the sender
 pub record CameOnTree (p : NodeConfig) (i : Input) (k : SenderKey) : Type 0 where
@@ -29,10 +30,11 @@ pub record IsLearnt (p : NodeConfig) (c : ℕ) (i : Input) (k : SenderKey) (x : 
   pub by : CameOnTree p i k
   pub is : x ≡ said_by p c i k by
 
--- ---- an offer is of a local sender, with its words, or else of path state, with those of its Path
+-- ---- an offer is of a local sender, with its words, or else of path state, with those of its Path, whose ADSPEC goes on
 pub record IsLocalOffer (f : Facts) (k : OfferKey) (o : Offer) : Type 0 where
   pub there : get f.senders (k.session, k.sender) ≡ Some o.tspec
   pub local : o.local ≡ true
+  pub advert : o.advert ≡ Silent
 
 pub record IsPathOffer (f : Facts) (k : OfferKey) (o : Offer) : Type 0 where
   pub no_local : get f.senders (k.session, k.sender) ≡ None
@@ -40,3 +42,4 @@ pub record IsPathOffer (f : Facts) (k : OfferKey) (o : Offer) : Type 0 where
   pub there : get f.paths (k.session, k.sender) ≡ Some path
   pub tspec : o.tspec ≡ path.tspec
   pub local : o.local ≡ false
+  pub advert : o.advert ≡ advert_of path.adspec

@@ -22,7 +22,7 @@ use Rattle.network_model.specs.RouterRules.NodeConfig.{NodeConfig}
 use Rattle.network_model.specs.RouterRules.Rule.{facts_with}
 use Rattle.network_model.proofs.RouterRules.Bounding.{no_facts_are_within_bounds}
 use Rattle.network_model.specs.RouterRules.Steps.{IsFitStale}
-use Rattle.laws_bounds.proofs.LeftOver.{left_over_facts_are_within_bounds}
+use Rattle.laws_steps.proofs.LawsBounds.LeftOver.{left_over_facts_are_within_bounds}
 use Rattle.tree_model.specs.declared.hops.TreeHop.{TreeHop}
 use Rattle.tree_model.specs.Trees.{tree_keys, key_of, trees_of}
 use Rattle.tree_model.proofs.Following.{same_number}

@@ -17,8 +17,8 @@ use Rattle.network_model.specs.RouterRules.Facts.{Facts}
 use Rattle.network_model.specs.RouterRules.Inputs.{Arrival, Input, Call, Wait, Clear, Moved, Send, Spelt, Unspelt}
 use Rattle.network_model.specs.RouterRules.Rule.{rule}
 use Rattle.network_model.specs.RouterRules.Steps.{IsSameNode, IsFit, IsFitArrival, clock_after}
-use Rattle.laws_bounds.proofs.Bounded.{a_step_keeps_a_node_within_bounds}
-use Rattle.laws_bounds.proofs.Wording.{what_is_sent_is_proper}
+use Rattle.laws_steps.proofs.LawsBounds.Bounded.{a_step_keeps_a_node_within_bounds}
+use Rattle.laws_steps.proofs.LawsBounds.Wording.{what_is_sent_is_proper}
 use Rattle.tree_model.specs.declared.hops.End.{End}
 use Rattle.tree_model.specs.declared.hops.LinkHop.{LinkHop}
 use Rattle.tree_model.specs.declared.hops.TreeHop.{TreeHop}

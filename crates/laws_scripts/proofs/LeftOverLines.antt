@@ -87,6 +87,7 @@ module _ (d : Draft) (h : Fitting d) (ts : List (Addr × Addr)) where
     record {
       iface = inside (end_number d l.end) (node_number d l.node) (subst (λ (z : ℕ). end_number d l.end < z) h.names (place_inside d.names l.end rules.known.end_there)) rules.known.of_node;
       tspec = sound l.flow rules.in_range.flow;
+      adspec = tt;
     },
   )
 

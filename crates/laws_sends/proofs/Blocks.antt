@@ -23,10 +23,10 @@ use Rattle.style_rules.specs.Toward.{or_else}
 use Rattle.router_rules.specs.Facts.{Facts, PathState, SenderKey, sender_keys}
 use Rattle.router_rules.specs.Offers.{Offer, OfferKey, Offers, offer_keys, offers, own_offer, path_offer}
 use Rattle.router_rules.specs.NodeConfig.{NodeConfig, goes_out, outward}
-use Rattle.laws_inputs.specs.FactLaws.{is_way}
-use Rattle.laws_inputs.proofs.Lists.{in_range, to_range}
-use Rattle.laws_inputs.proofs.Offering.{offers_by_way}
-use Rattle.laws_inputs.proofs.Tests.{ties}
+use Rattle.router_state.specs.FactLaws.{is_way}
+use Rattle.router_state.proofs.Lists.{in_range, to_range}
+use Rattle.router_state.proofs.Offering.{offers_by_way}
+use Rattle.router_state.proofs.Tests.{ties}
 use Rattle.laws_sends.specs.Told.{offer_key, offered}
 use Rattle.laws_sends.proofs.Lanes.{sorted_both}
 use Rattle.laws_sends.specs.Several.{known_offers}

@@ -16,8 +16,8 @@ use Rattle.rsvp_base.proofs.Filters.{same_test}
 use Rattle.rsvp_base.proofs.Fronts.{in_keys, to_keys}
 use Rattle.rsvp_base.proofs.Members.{in_any, in_tied, tied_in}
 use Rattle.rsvp_base.proofs.Tables.{either, holds, tied_same}
-use Rattle.laws_inputs.proofs.Once.{keys_rise, not_below, not_below_itself}
-use Rattle.laws_inputs.proofs.Tests.{ties}
+use Rattle.router_state.proofs.Once.{keys_rise, not_below, not_below_itself}
+use Rattle.router_state.proofs.Tests.{ties}
 use Rattle.laws_sends.specs.Several.{AreSessions, as_session, is_among}
 
 -- ---- lists in which the sessions rise, or stay

@@ -18,6 +18,7 @@ use Rattle.router_state.specs.RouterRules.Facts.{Facts, SenderKey, sender_keys}
 use Rattle.router_state.specs.RouterRules.Offers.{Offer, OfferKey, Offers, offer_at, offer_keys, offers}
 use Rattle.router_state.specs.RouterRules.NodeConfig.{NodeConfig, goes_out, outward}
 use Rattle.router_state.specs.RouterRules.Sends.{is_new_offer, path_send, path_send_of, path_sends, path_tear, path_tears}
+use Rattle.router_state.specs.RouterRules.declared.advert.Advert.TheVariants.{Silent}
 use Rattle.router_state.specs.FactLaws.{is_way}
 use Rattle.router_state.proofs.Lists.{in_range, to_range}
 use Rattle.router_state.proofs.Offering.{offers_by_way}
@@ -308,7 +309,7 @@ module _ (k : SenderKey) (o : Offer) (p : NodeConfig) (f g : Facts) (same : (j :
 -- ---- as the code tells it
 module _ (k : SenderKey) (p : NodeConfig) (f g : Facts) (same : (j : OfferKey) → eq_by_cmp sender_keys.cmp k (j.session, j.sender) ≡ false → get (offers p f) j ≡ get (offers p g) j) where
   abbrev some_offer : Offer
-  some_offer = record { tspec = record { r = 0; b = 0; p = Infinite; low = 0; most = 0 }; local = false }
+  some_offer = record { tspec = record { r = 0; b = 0; p = Infinite; low = 0; most = 0 }; local = false; advert = Silent }
 
   pub onward_told : path_sends p (offers p f) (offers p g) empty ≡ told_new p k (offered f k) (offered g k)
   onward_told = by (offered g k) refl

@@ -75,7 +75,7 @@ nothing_sent p f h =
 -- ---- a path that is heard again by the same hop
 -- what a fact says at a clock
 abbrev state_of : ℕ → PathFact → ℕ → PathState
-state_of c fact left = record { iface = fact.iface; hop = fact.hop; tspec = fact.tspec; police = fact.police; dies = c + left }
+state_of c fact left = record { iface = fact.iface; hop = fact.hop; tspec = fact.tspec; police = fact.police; adspec = fact.adspec; dies = c + left }
 
 module _ (n : State) (k : SenderKey) (old : PathFact × ℕ) (there : get n.paths k ≡ Some old) (fact : PathFact) (left : ℕ) (iface : old.0.iface ≡ fact.iface) (addr : old.0.hop.addr ≡ fact.hop.addr)
     (c : ℕ) where

@@ -22,9 +22,9 @@ use Rattle.router_rules.specs.Inputs.{Send}
 use Rattle.router_rules.specs.Offers.{Offer, OfferKey, offers}
 use Rattle.router_rules.specs.NodeConfig.{NodeConfig, outward}
 use Rattle.router_rules.specs.Sends.{is_new_offer, path_send, path_send_of, path_sends, path_tear, path_tears}
-use Rattle.laws_inputs.proofs.Offering.{offers_by_way}
-use Rattle.laws_inputs.proofs.Lists.{none_is, some_is}
-use Rattle.laws_inputs.proofs.Tests.{not_new}
+use Rattle.router_state.proofs.Offering.{offers_by_way}
+use Rattle.router_state.proofs.Lists.{none_is, some_is}
+use Rattle.router_state.proofs.Tests.{not_new}
 use Rattle.laws_sends.specs.Told.{offer_key, offered, paths_told, told_gone}
 use Rattle.laws_sends.proofs.Lanes.{filter_keys_kept}
 use Rattle.laws_sends.specs.Several.{gone_told, is_among, known_offers, offer_of, offers_for, offers_in, paths_of, refreshed, tears_of}

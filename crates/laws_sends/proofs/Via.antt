@@ -79,7 +79,7 @@ via_same c n s hop keyed = same_set senders _ _ (λ x. same_test _ _ (to x) (fro
         let is : x ≡ a.0.0 = a.2 ∙ (λ i. (keyed (s, a.0.0) a.0.1 there i).1) in
         let fact = get-changed path_keys (path_at c) n.paths (s, a.0.0) ∙ ap (λ w. then_do w (path_at c (s, a.0.0))) there in
         ap (λ z. has (via (facts_of c n) s hop) z) is ∙ via_made (facts_of c n) s hop a.0.0
-        (record { path = record { iface = a.0.1.0.iface; hop = a.0.1.0.hop; tspec = a.0.1.0.tspec; police = a.0.1.0.police; dies = c + a.0.1.1 }; there = fact; by = b.1 })
+        (record { path = record { iface = a.0.1.0.iface; hop = a.0.1.0.hop; tspec = a.0.1.0.tspec; police = a.0.1.0.police; adspec = a.0.1.0.adspec; dies = c + a.0.1.1 }; there = fact; by = b.1 })
 
     from : (x : Sender) → has (via (facts_of c n) s hop) x ≡ true → has (kept_via n.paths s hop.0 hop.1) x ≡ true
     from x h =

@@ -23,8 +23,8 @@ use Rattle.router_rules.specs.Known.{Lane, keys_where, known, lanes, named_as}
 use Rattle.router_rules.specs.NodeConfig.{NodeConfig}
 use Rattle.router_rules.specs.Offers.{Offer, own_offer, path_offer}
 use Rattle.router_rules.specs.Waiting.{act_wait}
-use Rattle.laws_inputs.proofs.Knowing.{lanes_made, lanes_told}
-use Rattle.laws_inputs.proofs.Leaving.{forgetting_by_names, got_forget, waiting_leaves_the_living}
+use Rattle.router_state.proofs.Knowing.{lanes_made, lanes_told}
+use Rattle.router_state.proofs.LawsInputs.Leaving.{forgetting_by_names, got_forget, waiting_leaves_the_living}
 use Rattle.router_state.specs.State.{AreNamed}
 use Rattle.laws_sends.specs.SendsHere.{AreSameOf}
 use Rattle.laws_sends.specs.Told.{offered}

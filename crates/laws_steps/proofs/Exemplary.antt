@@ -20,16 +20,16 @@ use Rattle.rsvp_base.specs.declared.entry_key.EntryKey.{EntryKey}
 use Rattle.style_rules.specs.Limits.{IsWithinLimits}
 use Rattle.style_rules.specs.PartLaws.{part_at_most_itself}
 use Rattle.style_rules.proofs.Room.{within_told}
-use Rattle.router_rules.specs.Asking.{asker_of}
-use Rattle.router_rules.specs.Bounds.{IsWithinBounds}
-use Rattle.router_rules.specs.Facts.{Facts, ResvState, no_facts, resvs_of}
-use Rattle.router_rules.specs.Inputs.{Wait}
+use Rattle.laws_bounds.specs.LawsInputs.RouterRules.Asking.{asker_of}
+use Rattle.laws_bounds.specs.LawsInputs.RouterRules.Bounds.{IsWithinBounds}
+use Rattle.laws_bounds.specs.LawsInputs.RouterRules.Facts.{Facts, ResvState, no_facts, resvs_of}
+use Rattle.laws_bounds.specs.LawsInputs.RouterRules.Inputs.{Wait}
 use Rattle.router_examples.specs.ThreeRouters.{first, iface, r2, s1, scope, session, usual}
-use Rattle.router_rules.specs.Act.{act}
-use Rattle.router_rules.proofs.Bounding.{no_facts_are_within_bounds}
-use Rattle.laws_inputs.proofs.Leaving.{waiting_leaves_the_living}
-use Rattle.laws_inputs.proofs.Lists.{some_same}
-use Rattle.router_rules.specs.Steps.{AreFewer, IsFit, IsSameNode, facts_then}
+use Rattle.laws_bounds.specs.LawsInputs.RouterRules.Act.{act}
+use Rattle.laws_bounds.proofs.LawsInputs.RouterRules.Bounding.{no_facts_are_within_bounds}
+use Rattle.laws_bounds.proofs.LawsInputs.Leaving.{waiting_leaves_the_living}
+use Rattle.laws_bounds.proofs.LawsInputs.Lists.{some_same}
+use Rattle.laws_bounds.specs.LawsInputs.RouterRules.Steps.{AreFewer, IsFit, IsSameNode, facts_then}
 use Rattle.laws_bounds.proofs.Folding.{only_one}
 use Rattle.laws_bounds.proofs.Reserving.{forgotten_fewer}
 use Rattle.laws_bounds.proofs.Bounded.{a_step_keeps_a_node_within_bounds}
@@ -121,7 +121,7 @@ bound_laws_have_examples =
       wait_fit = wait_fit;
       within = resv_within;
       fewer = later_fewer;
-      path_left = (record { later = omega arith; soon = omega arith }, record { iface = omega arith; tspec = sound });
+      path_left = (record { later = omega arith; soon = omega arith }, record { iface = omega arith; tspec = sound; adspec = tt });
       resv_left = (resv_within.alive.resvs Wild of_t reserved refl, resv_within.shapes.resvs Wild of_t reserved refl);
       wall_left = (record { later = omega arith; soon = omega arith }, record { iface = omega arith; flow = sound });
     }

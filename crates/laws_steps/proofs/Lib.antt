@@ -11,3 +11,4 @@ pub mod Hopward
 pub mod Blaming
 pub mod Blockading
 pub mod Instances
+pub use Rattle.laws_bounds.proofs as LawsBounds

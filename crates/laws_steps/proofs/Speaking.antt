@@ -15,27 +15,27 @@ use Rattle.rsvp_messages.specs.declared.ask.Ask.{Ask}
 use Rattle.rsvp_messages.specs.declared.message.Message.TheVariants as message
 use Rattle.rsvp_messages.specs.declared.message.PathMsg.{PathMsg}
 use Rattle.rsvp_messages.specs.declared.message.PathTearMsg.{PathTearMsg}
-use Rattle.laws_inputs.specs.RouterRules.Act.{act}
-use Rattle.laws_inputs.specs.RouterRules.Asking.{ask_of}
-use Rattle.laws_inputs.specs.RouterRules.Facts.{Facts}
-use Rattle.laws_inputs.specs.RouterRules.Inputs.{ErrMsg, Input, OfPath, OfResv, Send, Wait}
-use Rattle.laws_inputs.specs.RouterRules.Known.{Lane, known, lanes}
-use Rattle.laws_inputs.specs.RouterRules.Offers.{Offer, OfferKey, offer_at, offers}
-use Rattle.laws_inputs.specs.RouterRules.NodeConfig.{NodeConfig, goes_out, own, period}
-use Rattle.laws_inputs.specs.RouterRules.Requests.{toward}
-use Rattle.laws_inputs.specs.RouterRules.Rule.{is_silent, settled}
-use Rattle.laws_inputs.specs.RouterRules.Sends.{confirm_for, error_message, is_changed, is_new_offer, path_send, resv_send}
-use Rattle.laws_inputs.specs.FactLaws.{is_way}
-use Rattle.laws_inputs.specs.SendLaws.{IsConf, IsError, IsPath, IsPathTear, IsResv, IsResvTear, IsSend}
-use Rattle.laws_inputs.proofs.Lists.{some_is}
-use Rattle.laws_inputs.proofs.Offering.{offers_by_way}
-use Rattle.laws_inputs.proofs.Requesting.{requests_and_toward}
-use Rattle.laws_inputs.proofs.Ruling.{rule_in_parts}
-use Rattle.laws_inputs.proofs.Sending.{sends_are_of_six_kinds}
+use Rattle.laws_bounds.specs.LawsInputs.RouterRules.Act.{act}
+use Rattle.laws_bounds.specs.LawsInputs.RouterRules.Asking.{ask_of}
+use Rattle.laws_bounds.specs.LawsInputs.RouterRules.Facts.{Facts}
+use Rattle.laws_bounds.specs.LawsInputs.RouterRules.Inputs.{ErrMsg, Input, OfPath, OfResv, Send, Wait}
+use Rattle.laws_bounds.specs.LawsInputs.RouterRules.Known.{Lane, known, lanes}
+use Rattle.laws_bounds.specs.LawsInputs.RouterRules.Offers.{Offer, OfferKey, offer_at, offers}
+use Rattle.laws_bounds.specs.LawsInputs.RouterRules.NodeConfig.{NodeConfig, goes_out, own, period}
+use Rattle.laws_bounds.specs.LawsInputs.RouterRules.Requests.{toward}
+use Rattle.laws_bounds.specs.LawsInputs.RouterRules.Rule.{is_silent, settled}
+use Rattle.laws_bounds.specs.LawsInputs.RouterRules.Sends.{confirm_for, error_message, is_changed, is_new_offer, path_send, resv_send, told_at}
+use Rattle.laws_bounds.specs.LawsInputs.FactLaws.{is_way}
+use Rattle.laws_bounds.specs.LawsInputs.SendLaws.{IsConf, IsError, IsPath, IsPathTear, IsResv, IsResvTear, IsSend}
+use Rattle.laws_bounds.proofs.LawsInputs.Lists.{some_is}
+use Rattle.laws_bounds.proofs.LawsInputs.Offering.{offers_by_way}
+use Rattle.laws_bounds.proofs.LawsInputs.Requesting.{requests_and_toward}
+use Rattle.laws_bounds.proofs.LawsInputs.Ruling.{rule_in_parts}
+use Rattle.laws_bounds.proofs.LawsInputs.Sending.{sends_are_of_six_kinds}
 use Rattle.laws_steps.specs.SpeakingLaws.{IsOfGoneOffer, IsOfOffer, IsPathRefresh, IsResvRefresh, RefreshesAreMarked, WhatAPathSentSays, WhyAPathTearIsSent}
 use Rattle.laws_steps.proofs.Counting.{reached}
-use Rattle.laws_inputs.specs.RouterRules.Steps.{facts_then, sent_then, fired_then}
-use Rattle.laws_inputs.proofs.Stepping.{offer_source, offered_is_known, offered, send_told}
+use Rattle.laws_bounds.specs.LawsInputs.RouterRules.Steps.{facts_then, sent_then, fired_then}
+use Rattle.laws_bounds.proofs.LawsInputs.Stepping.{offer_source, offered_is_known, offered, send_told}
 
 not_offered : (p : NodeConfig) (f : Facts) (k : OfferKey) → has (offers p f) k ≡ false → (is_way p k ≡ false) ⊎ (has (known f k.session) k.sender ≡ false)
 not_offered p f k e = by (is_way p k) refl (ap is_some (sym (offers_by_way p f k)) ∙ e)
@@ -86,7 +86,7 @@ module _ (old p : NodeConfig) (c : ℕ) (i : Input) (f : Facts) where
         period = period p;
         sender = Some
             (r.key.sender, r.offer.tspec);
-        adspec = None;
+        adspec = told_at p r.key.iface r.offer;
       }
   path_is s m e r = let same = sym e ∙ ap (λ (z : Send). z.message) r.is in cc
 

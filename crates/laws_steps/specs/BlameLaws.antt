@@ -14,19 +14,19 @@ use Rattle.rsvp_messages.specs.declared.message.Message.TheVariants as message
 use Rattle.rsvp_messages.specs.declared.message.ResvErrMsg.{ResvErrMsg}
 use Rattle.rsvp_messages.specs.declared.message.ResvMsg.{ResvMsg}
 use Rattle.style_rules.specs.Lines.{NextHop}
-use Rattle.router_rules.specs.declared.answers.Heard.TheVariants as heard
-use Rattle.router_rules.specs.Asking.{taking, as_listed}
-use Rattle.router_rules.specs.Bounds.{IsWithinBounds}
-use Rattle.router_rules.specs.Errors.{blamed}
-use Rattle.router_rules.specs.Facts.{Facts, ResvState, Walls, resvs_of}
-use Rattle.router_rules.specs.Inputs.{Came, ErrSend, Input, Send, Spelt}
-use Rattle.router_rules.specs.Known.{Lane}
-use Rattle.router_rules.specs.NodeConfig.{NodeConfig, own}
-use Rattle.router_rules.specs.Requests.{toward}
-use Rattle.router_rules.specs.Rule.{rule}
-use Rattle.router_rules.specs.Sends.{error_send}
-use Rattle.laws_inputs.specs.FactLaws.{ComesBy}
-use Rattle.router_rules.specs.Steps.{NodeStep, Begins, sent_by}
+use Rattle.laws_bounds.specs.LawsInputs.RouterRules.declared.answers.Heard.TheVariants as heard
+use Rattle.laws_bounds.specs.LawsInputs.RouterRules.Asking.{taking, as_listed}
+use Rattle.laws_bounds.specs.LawsInputs.RouterRules.Bounds.{IsWithinBounds}
+use Rattle.laws_bounds.specs.LawsInputs.RouterRules.Errors.{blamed}
+use Rattle.laws_bounds.specs.LawsInputs.RouterRules.Facts.{Facts, ResvState, Walls, resvs_of}
+use Rattle.laws_bounds.specs.LawsInputs.RouterRules.Inputs.{Came, ErrSend, Input, Send, Spelt}
+use Rattle.laws_bounds.specs.LawsInputs.RouterRules.Known.{Lane}
+use Rattle.laws_bounds.specs.LawsInputs.RouterRules.NodeConfig.{NodeConfig, own}
+use Rattle.laws_bounds.specs.LawsInputs.RouterRules.Requests.{toward}
+use Rattle.laws_bounds.specs.LawsInputs.RouterRules.Rule.{rule}
+use Rattle.laws_bounds.specs.LawsInputs.RouterRules.Sends.{error_send}
+use Rattle.laws_bounds.specs.LawsInputs.FactLaws.{ComesBy}
+use Rattle.laws_bounds.specs.LawsInputs.RouterRules.Steps.{NodeStep, Begins, sent_by}
 use Rattle.laws_steps.specs.ReservationLaws.{IsListed}
 
 -- ---- where an error with a flow comes from

@@ -8,3 +8,4 @@ pub mod ErrorLaws
 pub mod ReservationLaws
 pub mod BlameLaws
 pub mod ReservationExamples
+pub use Rattle.laws_bounds.specs as LawsBounds

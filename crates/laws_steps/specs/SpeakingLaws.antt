@@ -1,5 +1,5 @@
 -- What is sent for path state, and why; and which sends are refreshes: the claims of the public laws.
-use Rattle.std.specs.Prelude.{◌≡◌, ℕ, ◌<◌, ◌⊎◌, true, false, length, Option, Some, None}
+use Rattle.std.specs.Prelude.{◌≡◌, ℕ, ◌<◌, ◌⊎◌, true, false, length, Option, Some}
 use Rattle.rsvp_base.specs.declared.addr.Addr.{Addr}
 use Rattle.rsvp_base.specs.declared.session.Sender.{Sender}
 use Rattle.rsvp_base.specs.declared.session.Session.{Session}
@@ -10,20 +10,21 @@ use Rattle.rsvp_messages.specs.declared.message.Message.TheVariants as message
 use Rattle.rsvp_messages.specs.declared.message.PathMsg.{PathMsg}
 use Rattle.rsvp_messages.specs.declared.message.PathTearMsg.{PathTearMsg}
 use Rattle.rsvp_messages.specs.declared.message.ResvMsg.{ResvMsg}
-use Rattle.laws_inputs.specs.RouterRules.Asking.{ask_of}
-use Rattle.laws_inputs.specs.RouterRules.Facts.{Facts}
-use Rattle.laws_inputs.specs.RouterRules.Inputs.{Input, Send, Wait}
-use Rattle.laws_inputs.specs.RouterRules.Known.{Lane, known}
-use Rattle.laws_inputs.specs.RouterRules.Offers.{Offer, OfferKey, offer_at, offers}
-use Rattle.laws_inputs.specs.RouterRules.NodeConfig.{NodeConfig, goes_out, own, period}
-use Rattle.laws_inputs.specs.RouterRules.Requests.{toward}
-use Rattle.laws_inputs.specs.RouterRules.Sends.{is_new_offer, path_send, resv_send}
-use Rattle.laws_inputs.specs.FactLaws.{is_way}
-use Rattle.laws_inputs.specs.RouterRules.Steps.{fired_then, NodeStep, Begins, left_by, sent_by, fired_by}
-use Rattle.laws_inputs.specs.Sources.{IsLocalOffer, IsPathOffer}
+use Rattle.laws_bounds.specs.LawsInputs.RouterRules.Asking.{ask_of}
+use Rattle.laws_bounds.specs.LawsInputs.RouterRules.Facts.{Facts}
+use Rattle.laws_bounds.specs.LawsInputs.RouterRules.Inputs.{Input, Send, Wait}
+use Rattle.laws_bounds.specs.LawsInputs.RouterRules.Known.{Lane, known}
+use Rattle.laws_bounds.specs.LawsInputs.RouterRules.Offers.{Offer, OfferKey, offer_at, offers}
+use Rattle.laws_bounds.specs.LawsInputs.RouterRules.NodeConfig.{NodeConfig, goes_out, own, period}
+use Rattle.laws_bounds.specs.LawsInputs.RouterRules.Requests.{toward}
+use Rattle.laws_bounds.specs.LawsInputs.RouterRules.Sends.{is_new_offer, path_send, resv_send, told_at}
+use Rattle.laws_bounds.specs.LawsInputs.FactLaws.{is_way}
+use Rattle.laws_bounds.specs.LawsInputs.RouterRules.Steps.{fired_then, NodeStep, Begins, left_by, sent_by, fired_by}
+use Rattle.laws_bounds.specs.LawsInputs.Sources.{IsLocalOffer, IsPathOffer}
 
 -- ---- a Path that is sent is of an offer after the step: its sender is known then, and its tree goes out of the interface,
--- which is there. It goes to the group, and its hop is the node's own address of the interface
+-- which is there. It goes to the group, its hop is the node's own address of the interface, and its ADSPEC what the interface makes of
+-- that of the offer
 pub record IsOfOffer (p : NodeConfig) (f : Facts) (s : Send) (m : PathMsg) : Type 0 where
   pub key : OfferKey
   pub offer : Offer
@@ -34,7 +35,7 @@ pub record IsOfOffer (p : NodeConfig) (f : Facts) (s : Send) (m : PathMsg) : Typ
   pub source : IsLocalOffer f key offer ⊎ IsPathOffer f key offer
   pub iface : s.iface ≡ key.iface
   pub dst : s.dst ≡ key.session.group
-  pub is : m ≡ record { session = key.session; police = offer.local; hop = record { addr = own p key.iface; handle = 0 }; period = period p; sender = Some (key.sender, offer.tspec); adspec = None }
+  pub is : m ≡ record { session = key.session; police = offer.local; hop = record { addr = own p key.iface; handle = 0 }; period = period p; sender = Some (key.sender, offer.tspec); adspec = told_at p key.iface offer }
 
 pub record WhatAPathSentSays : Type 0 where
   pub says : (step : NodeStep) → Begins step → (s : Send) (m : PathMsg) → In s (sent_by step) → s.message ≡ message.Path m → IsOfOffer step.now (left_by step) s m

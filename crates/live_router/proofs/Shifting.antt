@@ -58,7 +58,7 @@ module _ {K X Y : Type 0} (o : Keys K) (make : ℕ → K → X → Y) where
 
 -- ---- what facts are at a clock
 abbrev path_made : ℕ → SenderKey → PathFact × ℕ → PathState
-path_made c k e = record { iface = e.0.iface; hop = e.0.hop; tspec = e.0.tspec; police = e.0.police; dies = c + e.1 }
+path_made c k e = record { iface = e.0.iface; hop = e.0.hop; tspec = e.0.tspec; police = e.0.police; adspec = e.0.adspec; dies = c + e.1 }
 
 abbrev resv_made : ℕ → LineKey → ResvFact × ℕ → ResvState
 resv_made c k e = record { part = e.0.part; confirm = e.0.confirm; dies = c + e.1 }
@@ -127,7 +127,7 @@ module _ (p : NodeConfig) (n : State) (b c : ℕ) (w : IsWithinBounds p b (facts
         paths = λ k x h.
             let s = stood path_keys path_made n.paths b c k x h in
             let is = w.shapes.paths k (path_made b k s.0) s.2 in
-            subst (IsPathShaped p) s.1 (record { iface = is.iface; tspec = is.tspec });
+            subst (IsPathShaped p) s.1 (record { iface = is.iface; tspec = is.tspec; adspec = is.adspec });
         resvs = λ st k r h.
             let s = resv_stood n b c st k r h in
             let is = w.shapes.resvs st k (resv_made b k s.0) s.2 in

@@ -33,7 +33,7 @@ fn leave(router: &mut LiveRouter, fact: &Left, left: u32)
 {
     match fact {
         Left::Path(fact) => {
-            let _ = router.stale_path(*fact, left);
+            let _ = router.stale_path(fact.copy(), left);
         }
         Left::Resv(style, fact) => {
             let _ = router.stale_resv(*style, fact.copy(), left);

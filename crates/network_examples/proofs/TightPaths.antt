@@ -200,7 +200,7 @@ calm_told ss w t =
 fit_path : IsFitStale (config_of 7500 pair_net (trees_of pair_net.hops) 0) 0 (StalePath (session, first) root_path)
 fit_path = (
   record { later = omega arith; soon = omega arith },
-  record { iface = omega arith; tspec = record { rate = omega arith; depth = omega arith; low = omega arith; most = omega arith } },
+  record { iface = omega arith; tspec = record { rate = omega arith; depth = omega arith; low = omega arith; most = omega arith }; adspec = tt },
 )
 
 bounds : AreBounds 7500 root_world

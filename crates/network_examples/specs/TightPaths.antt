@@ -1,6 +1,6 @@
 -- Eight rounds are too few where the longest chain is one hop: a path that is left over where the tree begins is told over the hop
 -- as long as it lives, and the last Path of it may come late.
-use Rattle.std.specs.Prelude.{◌≡◌, false, List, [], ◌∷◌, codes, length}
+use Rattle.std.specs.Prelude.{◌≡◌, false, List, [], ◌∷◌, codes, length, None}
 use Rattle.calm_rounds.specs.Rounds.{Rounds, run_rounds}
 use Rattle.router_rules.specs.Facts.{PathState}
 use Rattle.router_rules.specs.Inputs.{StalePath}
@@ -16,7 +16,7 @@ use Rattle.network_examples.specs.Tight.{half, still_round}
 
 -- the first node of the pair, at which the tree begins, has a path of a sender that nobody is
 abbrev pub root_path : PathState
-root_path = record { iface = 0; hop = record { addr = r1; handle = 0 }; tspec = usual; police = false; dies = 157500 }
+root_path = record { iface = 0; hop = record { addr = r1; handle = 0 }; tspec = usual; police = false; adspec = None; dies = 157500 }
 
 abbrev pub root_plan : Plan
 root_plan = record { quarter = 7500; seed = 25; net = pair_net; names = codes "s1" ∷ codes "r1" ∷ []; stale = (0, StalePath (session, first) root_path) ∷ []; events = [] }

@@ -10,10 +10,15 @@ use Rattle.std.proofs.lemmas.List.Sums.{fold_push}
 use Rattle.std.proofs.lemmas.List.Elements.{filter-append}
 use Rattle.std.proofs.lemmas.List.{map-append}
 use Rattle.std.proofs.lemmas.List.FromFn.{map-range_with_len_more}
+use Rattle.adspec_path.proofs.Same.{itself as told_itself}
+use Rattle.adspec_path.specs.Same.{same_told}
 use Rattle.rsvp_base.proofs.Rows.{each_itself}
+use Rattle.rsvp_base.proofs.SetLaws.{and_made}
 use Rattle.rsvp_base.specs.declared.iface.Iface.{Iface}
 use Rattle.router_rules.specs.Inputs.{Send}
 use Rattle.router_rules.specs.NodeConfig.{NodeConfig, addr_of, is_out, outward, tree}
+use Rattle.router_rules.specs.Offers.{Offer, advert_by}
+use Rattle.router_rules.specs.Sends.{is_new_offer, same_flow, told_at}
 use Rattle.router_rules.specs.declared.route.Route.{Route}
 use Rattle.rsvp_base.specs.declared.session.Session.{Session}
 use Rattle.rsvp_base.specs.declared.session.Sender.{Sender}
@@ -24,32 +29,35 @@ use Rattle.path_sends.specs.Ways.{ways_but, ways_in}
 pub range_more : (n : ℕ) → range_with_len 0 (n + 1) ≡ range_with_len 0 n ++ n ∷ []
 range_more n = sym (each_itself (range_with_len 0 (n + 1))) ∙ map-range_with_len_more (λ (x : ℕ). x) 0 n n (omega arith) ∙ ap (λ xs. xs ++ n ∷ []) (each_itself (range_with_len 0 n))
 
-module _ {B : Type 0} (posted : B → Send → B) (say : ℕ → Send) (ways : ℕ) (start : B) where
+module _ {B : Type 0} (posted : B → Send → B) (say : ℕ → Send) (on : ℕ → Bool) (start : B) where
   abbrev ones : ℕ → List ℕ
-  ones n = filter (λ i. bit_at ways i == 1) (range_with_len 0 n)
+  ones n = filter on (range_with_len 0 n)
 
   abbrev pub said : ℕ → B
   said n = fold posted start (each say (ones n))
 
-  ones_more : (n : ℕ) → ones (n + 1) ≡ ones n ++ cond (bit_at ways n == 1) (n ∷ []) []
-  ones_more n = ap (filter (λ i. bit_at ways i == 1)) (range_more n) ∙ filter-append (λ i. bit_at ways i == 1) (range_with_len 0 n) (n ∷ [])
+  ones_more : (n : ℕ) → ones (n + 1) ≡ ones n ++ cond (on n) (n ∷ []) []
+  ones_more n = ap (filter on) (range_more n) ∙ filter-append on (range_with_len 0 n) (n ∷ [])
 
-  pub said_one : (n : ℕ) (out : B) → (bit_at ways n == 1) ≡ true → out ≡ said n → posted out (say n) ≡ said (n + 1)
-  said_one n out on is =
+  pub said_one : (n : ℕ) (out : B) → on n ≡ true → out ≡ said n → posted out (say n) ≡ said (n + 1)
+  said_one n out is_on is =
       ap (λ b. posted b (say n)) is ∙ sym (fold_push posted start (each say (ones n)) (say n)) ∙ ap (fold posted start) (sym (map-append say (ones n) (n ∷ [])))
-      ∙ sym (ap (λ ns. fold posted start (each say ns)) (ones_more n ∙ ap (λ b. ones n ++ cond b (n ∷ []) []) on))
+      ∙ sym (ap (λ ns. fold posted start (each say ns)) (ones_more n ∙ ap (λ b. ones n ++ cond b (n ∷ []) []) is_on))
 
-  pub said_none : (n : ℕ) (out : B) → (bit_at ways n == 1) ≡ false → out ≡ said n → out ≡ said (n + 1)
+  pub said_none : (n : ℕ) (out : B) → on n ≡ false → out ≡ said n → out ≡ said (n + 1)
   said_none n out off is = is ∙ sym (ap (λ ns. fold posted start (each say ns)) (ones_more n ∙ ap (λ b. ones n ++ cond b (n ∷ []) []) off ∙ append_none (ones n)))
     where
       append_none : (xs : List ℕ) → xs ++ [] ≡ xs
       append_none [] = refl
       append_none (x ∷ xs) = ap (λ ys. x ∷ ys) (append_none xs)
 
+pub there : (xs : List Iface) (i : ℕ) (d : Iface) → i < length xs → slice_get xs i ≡ Some (slice_index_or xs i d)
+there [] i d h = absurd (omega (arith, h))
+there (x ∷ xs) zero d h = refl
+there (x ∷ xs) (suc i) d h = there xs i d (omega (arith, h))
+
 pub own_read : (xs : List Iface) (i : ℕ) (d : Iface) → i < length xs → addr_of (slice_get xs i) ≡ (slice_index_or xs i d).addr
-own_read [] i d h = absurd (omega (arith, h))
-own_read (x ∷ xs) zero d h = refl
-own_read (x ∷ xs) (suc i) d h = own_read xs i d (omega (arith, h))
+own_read xs i d h = ap addr_of (there xs i d h)
 
 -- the interfaces of a route that are there
 pub out_same : (r : Option Route) (i : ℕ) → (bit_at (ways_out r) i == 1) ≡ is_out r i
@@ -61,6 +69,22 @@ filter_same f g xs e = λ i. filter (λ x. e x i) xs
 
 pub all_said : (p : NodeConfig) (s : Session) (x : Sender) → filter (λ i. bit_at (ways_out (tree p s x)) i == 1) (range_with_len 0 (length p.ifaces)) ≡ outward p s x
 all_said p s x = filter_same _ _ (range_with_len 0 (length p.ifaces)) (λ i. out_same (tree p s x) i)
+
+-- an offer of the same flow that is told the same way is new at no interface
+pub not_new_again : (p : NodeConfig) (i : ℕ) (o old : Offer) → same_flow o.tspec old.tspec ≡ true → o.advert ≡ old.advert → is_new_offer p i o (Some old) ≡ false
+not_new_again p i o old flow advert =
+    ap not (and_made _ _ flow (ap (λ a. same_told (told_at p i o) (advert_by (slice_get p.ifaces i) a)) (sym advert) ∙ told_itself (told_at p i o)))
+
+-- those that pass both tests
+pub filter_both : (f g : ℕ → Bool) (xs : List ℕ) → filter (λ i. f i && g i) xs ≡ filter g (filter f xs)
+filter_both f g [] = refl
+filter_both f g (x ∷ xs) = by (f x) (g x) refl (filter_both f g xs)
+  where
+    by : (a b : Bool) → g x ≡ b → filter (λ i. f i && g i) xs ≡ filter g (filter f xs)
+        → cond (a && b) (x ∷ filter (λ i. f i && g i) xs) (filter (λ i. f i && g i) xs) ≡ filter g (cond a (x ∷ filter f xs) (filter f xs))
+    by true true h e = ap (λ ys. x ∷ ys) e ∙ sym (ap (λ b. cond b (x ∷ filter g (filter f xs)) (filter g (filter f xs))) h)
+    by true false h e = e ∙ sym (ap (λ b. cond b (x ∷ filter g (filter f xs)) (filter g (filter f xs))) h)
+    by false b h e = e
 
 -- ---- interfaces of one set that are not in another
 masked : (m n : ℕ) → m < 2 → n < 2 → (min m (1 - n) == 1) ≡ ((m == 1) && not (n == 1))

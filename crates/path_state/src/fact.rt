@@ -1,13 +1,16 @@
 //! Facts of paths.
 ghost use Rattle.std.specs.Prelude.{◌≡◌};
+ghost use Rattle.std.specs.Option.{option_copied};
 
+use object_fields::Adspec;
 use rsvp_base::{Flow, Hop, Sender, Session};
 use soft_table::Fact;
 use std::cmp::Ordering;
 
 /// What a node knows of a path: by which interface and from which hop its Path message came, the traffic that the sender
-/// announces, and whether it is to be policed (RFC 2205, 3.1.3: E_Police).
-#[derive(Clone, Copy, Debug, PartialEq, Eq)]
+/// announces, whether it is to be policed (RFC 2205, 3.1.3: E_Police), and what the path offers, where the Path had an ADSPEC
+/// (RFC 2210, 3.3).
+#[derive(Drop)]
 pub struct PathFact {
     pub session: Session,
     pub sender: Sender,
@@ -15,6 +18,44 @@ pub struct PathFact {
     pub hop: Hop,
     pub tspec: Flow,
     pub police: bool,
+    pub adspec: Option<Adspec>,
+}
+
+impl PathFact {
+    /// An equal fact.
+    pub fn copy(&self) -> PathFact
+        ensures { result ≡ self.now }
+    {
+        PathFact {
+            session: self.session,
+            sender: self.sender,
+            iface: self.iface,
+            hop: self.hop,
+            tspec: self.tspec,
+            police: self.police,
+            adspec: copy_of(&self.adspec),
+        }
+    }
+}
+
+/// An equal ADSPEC, if there is one.
+pub fn copy_of(adspec: &Option<Adspec>) -> Option<Adspec>
+    ensures { result ≡ adspec.now }
+{
+    match adspec {
+        Some(adspec) => Some(adspec.copy()),
+        None => None,
+    }
+}
+
+// An equal fact, if there is one.
+pub(crate) fn copied(fact: Option<&PathFact>) -> Option<PathFact>
+    ensures { result ≡ option_copied fact.entry }
+{
+    match fact {
+        Some(fact) => Some(fact.copy()),
+        None => None,
+    }
 }
 
 impl Fact for PathFact {

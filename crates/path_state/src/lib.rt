@@ -9,7 +9,7 @@ mod hops;
 mod table;
 mod walks;
 
-pub use fact::PathFact;
+pub use fact::{PathFact, copy_of};
 pub use hops::Hops;
 pub use soft_table::SessionFacts;
 pub use table::PathTable;

@@ -10,7 +10,7 @@ ghost use Rattle.rsvp_base.specs.Table.{empty, get, has, keys, put_in, size, wit
 ghost use Rattle.rsvp_base.specs.Under.{under};
 ghost use Rattle.path_state.specs.Paths.{AreByKey, path_keys, fact_row, dead_row, comes_by, hops_by, is_from, via, later, dead_after};
 
-use crate::fact::PathFact;
+use crate::fact::{PathFact, copied};
 use crate::hops::Hops;
 use crate::walks;
 use rsvp_base::{Addr, Full, NoMemory, Sender, Senders, Session};
@@ -124,14 +124,14 @@ impl PathTable {
         ensures keyed { AreByKey self.now.facts }
         ensures within { IsWithinSessionLimits senders self.now.facts }
     {
-        self.table.find(session, sender).copied()
+        copied(self.table.find(session, sender))
     }
 
     /// The k-th fact of a session by sender, from 0. `None` exactly where k is not below their number.
     pub fn at(&self, session: Session, k: usize) -> Option<PathFact>
         ensures { result ≡ option_map (λ e. e.1.0) (slice_get (under sessions senders self.now.facts session).rows k) }
     {
-        self.table.at(session, k).copied()
+        copied(self.table.at(session, k))
     }
 
     /// The facts of a session by sender, one after another.

@@ -78,7 +78,7 @@ hops_are c n s = same_set next_hops _ _ (λ hop. same_test _ _ (to hop) (from ho
     to hop h =
         let a = in_each hop_of_fact hop rows (set_of_in next_hops (each hop_of_fact rows) hop h) in
         let there = sym (get-under sessions senders n.paths s a.0.0) ∙ in_found senders (under sessions senders n.paths s) a.0.0 a.0.1 a.1 in
-        let path : PathState = record { iface = a.0.1.0.iface; hop = a.0.1.0.hop; tspec = a.0.1.0.tspec; police = a.0.1.0.police; dies = c + a.0.1.1 } in
+        let path : PathState = record { iface = a.0.1.0.iface; hop = a.0.1.0.hop; tspec = a.0.1.0.tspec; police = a.0.1.0.police; adspec = a.0.1.0.adspec; dies = c + a.0.1.1 } in
         let fact : get (facts_of c n).paths (s, a.0.0) ≡ Some path = get-changed path_keys (path_at c) n.paths (s, a.0.0) ∙ ap (λ w. then_do w (path_at c (s, a.0.0))) there in
         hops_made (facts_of c n) s hop a.0.0 (record { path = path; there = fact; by = came_tested hop path (λ i. (sym a.2 i).0, λ i. (sym a.2 i).1) })
 

@@ -32,13 +32,10 @@ pub fn offered(tables: &Tables, session: Session, sender: Sender) -> Option<Offe
     ensures { (c : ℕ) (said : Said) → option_map as_offer result ≡ offered (facts_of c (state_of tables.now said)) (session, sender) }
 {
     if let Some(tspec) = tables.senders.find(session, sender) {
-        return Some(Offered { tspec, local: true });
+        return Some(Offered::own(tspec));
     }
     match tables.paths.find(session, sender) {
-        Some(fact) => Some(Offered {
-            tspec: fact.tspec,
-            local: false,
-        }),
+        Some(fact) => Some(Offered::passed(fact.tspec, &fact.adspec)),
         None => None,
     }
 }

@@ -25,6 +25,7 @@ use Rattle.rsvp_base.proofs.Tables.{get-changed, then_do}
 use Rattle.rsvp_base.proofs.UnderLaws.{get-under}
 use Rattle.path_state.specs.Paths.{path_keys}
 use Rattle.path_state.specs.declared.fact.PathFact.{PathFact}
+use Rattle.path_sends.specs.Offering.{fact_offer}
 use Rattle.style_rules.specs.Toward.{or_else}
 use Rattle.router_rules.specs.Facts.{Facts, PathState, SenderKey, sender_keys}
 use Rattle.router_rules.specs.Known.{known}
@@ -46,6 +47,20 @@ offer_seen c n k = ap (λ (w : Option PathState). or_else (option_map own_offer 
         (option_map path_offer (then_do w (path_at c k))) ≡ or_else (option_map own_offer (get n.senders k)) (option_map kept_offer w)
     by None = refl
     by (Some e) = refl
+
+-- by the tables of local senders and of paths, as each answers
+module _ (own : Table sender_keys TokenBucket) (paths : Table path_keys (PathFact × ℕ)) (k : SenderKey) where
+  pub own_offered : (tspec : TokenBucket) → Some tspec ≡ get own k → Some (own_offer tspec) ≡ offer_by own paths k
+  own_offered tspec e = ap (λ (w : Option TokenBucket). or_else {X = Offer} (option_map own_offer w) (option_map kept_offer (get paths k))) e
+
+  pub path_offered : None ≡ get own k → (w : Option PathFact) → w ≡ option_map (λ e. e.0) (get paths k) → option_map fact_offer w ≡ offer_by own paths k
+  path_offered none w e =
+      ap (option_map fact_offer) e ∙ by (get paths k)
+      ∙ ap (λ (v : Option TokenBucket). or_else {X = Offer} (option_map own_offer v) (option_map kept_offer (get paths k))) none
+    where
+      by : (v : Option (PathFact × ℕ)) → option_map fact_offer (option_map (λ (e : PathFact × ℕ). e.0) v) ≡ option_map kept_offer v
+      by None = refl
+      by (Some x) = refl
 
 flat_among : {A B : Type 0} (g h : A → List B) (xs : List A) → ((x : A) → In x xs → g x ≡ h x) → flat_map g xs ≡ flat_map h xs
 flat_among g h [] same = refl

@@ -30,13 +30,10 @@ fn offered(
     ensures { option_map as_offer result ≡ offer_by senders.now paths.now.facts (session, sender) }
 {
     if let Some(tspec) = senders.find(session, sender) {
-        return Some(Offered { tspec, local: true });
+        return Some(Offered::own(tspec));
     }
     match paths.find(session, sender) {
-        Some(fact) => Some(Offered {
-            tspec: fact.tspec,
-            local: false,
-        }),
+        Some(fact) => Some(Offered::passed(fact.tspec, &fact.adspec)),
         None => None,
     }
 }

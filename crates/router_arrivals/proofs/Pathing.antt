@@ -36,7 +36,7 @@ module _ (n : State) (c e : ℕ) (m : PathMsg) where
 
   module _ (x : Sender) (tspec : TokenBucket) (is : m.sender ≡ Some (x, tspec)) where
     abbrev pub fact : PathFact
-    fact = record { session = m.session; sender = x; iface = e; hop = m.hop; tspec = tspec; police = m.police }
+    fact = record { session = m.session; sender = x; iface = e; hop = m.hop; tspec = tspec; police = m.police; adspec = m.adspec }
 
     abbrev pub left : ℕ
     left = lifetime n.place m.period

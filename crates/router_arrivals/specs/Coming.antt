@@ -15,7 +15,7 @@ use Rattle.router_aging.specs.Steps.{names_gone}
 
 -- what a Path that came by an interface says of its sender
 abbrev pub fact_of : ℕ → PathMsg → Sender → TokenBucket → PathFact
-fact_of e m x tspec = record { session = m.session; sender = x; iface = e; hop = m.hop; tspec = tspec; police = m.police }
+fact_of e m x tspec = record { session = m.session; sender = x; iface = e; hop = m.hop; tspec = tspec; police = m.police; adspec = m.adspec }
 
 abbrev pub with_path : State → SenderKey → PathFact → ℕ → State
 with_path n k fact left = recounted (paths_put n k fact left) k.0 true
@@ -39,7 +39,7 @@ abbrev pub path_key : PathFact → SenderKey
 path_key fact = (fact.session, fact.sender)
 
 abbrev pub path_left : ℕ → PathFact → ℕ → PathState
-path_left c fact left = record { iface = fact.iface; hop = fact.hop; tspec = fact.tspec; police = fact.police; dies = c + left }
+path_left c fact left = record { iface = fact.iface; hop = fact.hop; tspec = fact.tspec; police = fact.police; adspec = fact.adspec; dies = c + left }
 
 abbrev pub stale_path : ℕ → PathFact → ℕ → Stale
 stale_path c fact left = StalePath (path_key fact) (path_left c fact left)

@@ -8,7 +8,7 @@ ghost use Rattle.router_state.specs.State.{IsSettled};
 ghost use Rattle.router_state.specs.Whole.{state_of};
 ghost use Rattle.router_arrivals.specs.Coming.{fact_of, path_key, with_path, with_sender};
 
-use path_state::PathFact;
+use path_state::{PathFact, copy_of};
 use router_state::Tables;
 use rsvp_base::{Flow, Sender, Session};
 use rsvp_messages::PathMsg;
@@ -78,6 +78,7 @@ fn said_of(
         hop: message.hop,
         tspec,
         police: message.police,
+        adspec: copy_of(&message.adspec),
     };
     (fact, left)
 }

@@ -41,11 +41,11 @@ use Rattle.router_core.proofs.Quiet.{marks_wait, quiet_sends}
 stood : (c : ℕ) (k : SenderKey) (hop : NextHop) (w : Option (PathFact × ℕ)) → is_path_by hop (then_do w (path_at c k)) ≡ true
     → (old : PathFact × ℕ) × (w ≡ Some old) × ((old.0.iface ≡ hop.0) × (old.0.hop.addr ≡ hop.1))
 stood c k hop None e = cc
-stood c k hop (Some x) e = (x, refl, came_told hop (record { iface = x.0.iface; hop = x.0.hop; tspec = x.0.tspec; police = x.0.police; dies = c + x.1 }) e)
+stood c k hop (Some x) e = (x, refl, came_told hop (record { iface = x.0.iface; hop = x.0.hop; tspec = x.0.tspec; police = x.0.police; adspec = x.0.adspec; dies = c + x.1 }) e)
 
 -- what is offered of a sender that has this path
 pub offers : (c : ℕ) (n : State) (k : SenderKey) (own : Option TokenBucket) → own ≡ get n.senders k → (f : PathFact) → option_map (λ e. e.0) (get n.paths k) ≡ Some f
-    → Some (offer_by own f.tspec) ≡ offered (facts_of c n) k
+    → Some (offer_by own f.tspec f.adspec) ≡ offered (facts_of c n) k
 offers c n k (Some tspec) is f at = own_seen c n k tspec (sym is)
 offers c n k None is f at = path_seen c n k (sym is) (Some f) (sym at)
 
@@ -53,7 +53,7 @@ offers c n k None is f at = path_seen c n k (sym is) (Some f) (sym at)
 module _ (n w : State) (k : SenderKey) (fact : PathFact) (left : ℕ) (said : Said) (now : w ≡ record (with_path n k fact left) { said = said })
     (by : (c : ℕ) → is_path_by (fact.iface, fact.hop.addr) (get (facts_of c n).paths k) ≡ true) where
   -- what is offered then
-  pub offers_again : (c : ℕ) (own : Option TokenBucket) → own ≡ get n.senders k → Some (offer_by own fact.tspec) ≡ offered (facts_of c w) k
+  pub offers_again : (c : ℕ) (own : Option TokenBucket) → own ≡ get n.senders k → Some (offer_by own fact.tspec fact.adspec) ≡ offered (facts_of c w) k
   offers_again c own is =
       offers c w k own (is ∙ ap (λ (z : State). get z.senders k) (sym now)) fact (ap (λ (z : State). option_map (λ (e : PathFact × ℕ). e.0) (get z.paths k)) now
       ∙ ap (option_map (λ (e : PathFact × ℕ). e.0)) (get-put_in_same path_keys n.paths k (fact, left)))
@@ -79,7 +79,7 @@ module _ (n w : State) (k : SenderKey) (fact : PathFact) (left : ℕ) (said : Sa
       by_two (Some o) None (Some y) h = refl
       by_two (Some o) None None h = cc
 
-  -- so its Paths alone are sent, where its flow is another one
+  -- so its Paths alone are sent, where an interface sends another flow or ADSPEC
   pub sent_again : IsChangedFor k n w → (c : ℕ) (h : Heard) → sends n.place n.place (facts_of c n) (facts_of c w) (only_heard h (facts_of c w))
       ≡ told_new n.place k (offered (facts_of c n) k) (offered (facts_of c w) k)
   sent_again ch c h =

@@ -15,6 +15,7 @@ ghost use Rattle.path_sends.specs.Offering.{as_offer};
 ghost use Rattle.router_core.specs.Renewing.{offer_by};
 
 use crate::node::Node;
+use object_fields::Adspec;
 use path_sends::{Offered, tell_new};
 use path_state::PathFact;
 use resv_sends::{PriorOffer, offered, tell_sender};
@@ -57,7 +58,7 @@ impl Node {
     }
 
     // A Path arrives from the hop that the path of its sender came from. The path is kept anew, and what goes toward each hop
-    // is what went there before: no lane is gone through, and a Path goes on only where the sender's flow is another one.
+    // is what went there before: no lane is gone through, and a Path goes on only by interfaces that send another flow or ADSPEC.
     fn renew_path<O: Outbox>(
         &mut self,
         iface: u8,
@@ -79,8 +80,8 @@ impl Node {
         let session = message.session;
         let own = self.tables.senders.find(session, sender);
         renew_path(&mut self.tables, iface, message, sender, tspec);
-        let before = Some(offer_by(&own, was.tspec));
-        let after = Some(offer_by(&own, tspec));
+        let before = Some(offer_by(&own, was.tspec, &was.adspec));
+        let after = Some(offer_by(&own, tspec, &message.adspec));
         tell_new(&self.tables.config, session, sender, &before, &after, out);
         Heard::Taken
     }
@@ -114,16 +115,13 @@ impl Node {
     }
 }
 
-// What is offered of a sender that has a path with this flow, by what it announces as a local one.
-fn offer_by(own: &Option<Flow>, tspec: Flow) -> Offered
-    ensures { as_offer result ≡ offer_by own.now tspec }
+// What is offered of a sender that has a path with this flow and this ADSPEC, by what it announces as a local one.
+fn offer_by(own: &Option<Flow>, tspec: Flow, kept: &Option<Adspec>) -> Offered
+    ensures { as_offer result ≡ offer_by own.now tspec kept.now }
 {
     match *own {
-        Some(tspec) => Offered { tspec, local: true },
-        None => Offered {
-            tspec,
-            local: false,
-        },
+        Some(tspec) => Offered::own(tspec),
+        None => Offered::passed(tspec, kept),
     }
 }
 

@@ -38,7 +38,7 @@ only_row {K} {X} o m r is k x g =
 
 -- what stands
 abbrev a_path : PathState
-a_path = record { iface = 0; hop = record { addr = s1; handle = 0 }; tspec = usual; police = true; dies = 157500 }
+a_path = record { iface = 0; hop = record { addr = s1; handle = 0 }; tspec = usual; police = true; adspec = None; dies = 157500 }
 
 abbrev a_resv : ResvState
 a_resv = record { part = record { senders = scope; flow = usual }; confirm = None; dies = 157500 }
@@ -128,7 +128,7 @@ lived_is_within_bounds =
             shapes =
                 record {
                   senders = λ k tspec g. subst IsSound (sym (only_row sender_keys lived.senders ((session, own_sender), usual) refl k tspec g).1) sound;
-                  paths = λ k x g. subst (IsPathShaped (node_r 10000)) (sym (only_row sender_keys lived.paths ((session, first), a_path) refl k x g).1) (record { iface = omega arith; tspec = sound });
+                  paths = λ k x g. subst (IsPathShaped (node_r 10000)) (sym (only_row sender_keys lived.paths ((session, first), a_path) refl k x g).1) (record { iface = omega arith; tspec = sound; adspec = tt });
                   resvs = λ st k r g. let q = one_resv st k r g in resv_shaped st k r q.0 q.1.0 q.1.1;
                   wants = λ k w g. let q = only_row want_keys lived.wants ((session, One), a_want) refl k w g in want_shaped k w q.0 q.1;
                   walls = λ k b g. let q = only_row wall_keys lived.walls ((session, target.Hop 0 s1), a_wall) refl k b g in wall_shaped k b q.0 q.1;

@@ -1,6 +1,9 @@
 -- The worked rows hold by computing.
 use Rattle.std.specs.Prelude.{refl}
-use Rattle.router_examples.specs.PathRows.{PathGoesOn, PathsDropped, PathsEnd, LocalSenders, PathsMove, FaultsAreAnswered, PathErrorsGoOn}
+use Rattle.std.specs.Int.Count.{count_leading_zeros}
+use Rattle.router_rules.specs.AdspecPath.Composing.{pass_on}
+use Rattle.router_rules.specs.AdspecPath.RateBelow.{rate_below}
+use Rattle.router_examples.specs.PathRows.{PathGoesOn, AdspecsAreKept, AdspecsGoOn, PathsDropped, PathsEnd, LocalSenders, PathsMove, FaultsAreAnswered, PathErrorsGoOn}
 use Rattle.router_examples.specs.ResvRows.{ResvGoesOn, RefusedRaiseKeepsTheOld, NoPathNoReservation, LeftOut, StylesMergeByTheirUnits, NextHopsMerge, TearsGoOn, GreedyIsBlockaded}
 use Rattle.router_examples.specs.ResvRows.{BlockadedMerge, ErrorsGoOn, ConfirmationsComeBack, MarksWait, CallsAreRefused, FlagsAreByPaths}
 
@@ -10,6 +13,35 @@ path_goes_on =
       taken = refl;
       on = refl;
       quiet = refl;
+      again = refl;
+    }
+
+pub adspecs_are_kept : AdspecsAreKept
+adspecs_are_kept =
+    record {
+      kept = refl;
+      other = refl;
+      none = refl;
+      again = refl;
+      dropped = refl;
+      lives = refl;
+      gone = refl;
+    }
+
+pub adspecs_go_on : AdspecsGoOn
+unfolding pass_on rate_below count_leading_zeros
+adspecs_go_on =
+    record {
+      on = refl;
+      same = refl;
+      hidden = refl;
+      lower = refl;
+      slower = refl;
+      smaller = refl;
+      broken = refl;
+      unread = refl;
+      silent = refl;
+      narrow = refl;
       again = refl;
     }
 

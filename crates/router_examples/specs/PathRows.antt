@@ -1,8 +1,10 @@
 -- Worked rows of path state, at router r of the line.
-use Rattle.std.specs.Prelude.{◌≡◌, true, false, [], ◌∷◌, map as each, Some, None}
+use Rattle.std.specs.Prelude.{◌≡◌, true, false, List, [], ◌∷◌, map as each, Option, Some, None}
 use Rattle.std.specs.List.{range_with_len}
+use Rattle.std.specs.Option.{option_map}
+use Rattle.rsvp_base.specs.declared.flow.Peak.TheVariants.{Finite}
 use Rattle.rsvp_base.specs.declared.style.StyleKind.TheVariants.{Wild}
-use Rattle.rsvp_base.specs.Table.{size, with_rows}
+use Rattle.rsvp_base.specs.Table.{get, size, with_rows}
 use Rattle.router_rules.specs.RsvpMessages.declared.message.Message.{Message}
 use Rattle.router_rules.specs.RsvpMessages.declared.message.Message.TheVariants as message
 use Rattle.router_rules.specs.RsvpMessages.declared.message.Kind.TheVariants as kind
@@ -10,12 +12,13 @@ use Rattle.router_rules.specs.RsvpMessages.declared.fault.Fault.{Fault}
 use Rattle.router_rules.specs.RsvpMessages.declared.fault.Fault.TheVariants as fault
 use Rattle.router_rules.specs.RsvpMessages.declared.fault.MsgErr.{MsgErr}
 use Rattle.router_rules.specs.RsvpObjects.declared.obj_err.ObjErr.TheVariants as obj
+use Rattle.router_rules.specs.RsvpObjects.ObjectFields.declared.adspec.Adspec.{Adspec}
 use Rattle.router_rules.specs.declared.answers.Heard.TheVariants as heard
 use Rattle.router_rules.specs.declared.answers.Why.TheVariants as why
 use Rattle.router_rules.specs.declared.answers.LocalErr.TheVariants as local
 use Rattle.router_rules.specs.Calls.{call_refusal}
 use Rattle.router_rules.specs.Facts.{Facts, no_facts}
-use Rattle.router_rules.specs.Inputs.{Came, Unspelt, SendAs, DropAs, Clear, Moved}
+use Rattle.router_rules.specs.Inputs.{Came, Send, Unspelt, SendAs, DropAs, Clear, Moved}
 use Rattle.router_examples.specs.ThreeRouters.{ip, s1, r1, r2, t1, group, session, first, second, flow, usual, node, node_s, node_r, iface, came, waited, called, path, path_tear, resv_err}
 use Rattle.router_examples.specs.ThreeRouters.{sent, refreshed, error}
 use Rattle.router_rules.specs.Rule.{Outcome, rule}
@@ -37,11 +40,64 @@ pub record PathGoesOn : Type 0 where
   pub quiet : half_way.sent ≡ []
   pub again : due.sent ≡ refreshed 1 group (path false r2 first usual) ∷ []
 
+-- what is kept of a Path that had an ADSPEC
+abbrev told : Adspec
+told = record { broken = false; hops = 1; rate = Finite 10000; latency = 100; mtu = 1500; load = Some false; others = [] }
+
+abbrev telling : Option Adspec → Message
+telling adspec = message.Path (record { session = session; police = true; hop = record { addr = s1; handle = 0 }; period = 30000; sender = Some (first, usual); adspec = adspec })
+
+abbrev advertised : Outcome
+advertised = came (node_r 10000) 0 0 group (telling (Some told)) no_facts
+
+-- of the first sender, where it has a path
+abbrev kept_adspec : Outcome → Option (Option Adspec)
+kept_adspec o = option_map (λ x. x.adspec) (get o.facts.paths (session, first))
+
+-- the ADSPEC of the last Path that was taken, or none where it had none; it stays while the path lives, and goes with it
+pub record AdspecsAreKept : Type 0 where
+  pub kept : kept_adspec advertised ≡ Some (Some told)
+  pub other : kept_adspec (came (node_r 10000) 5 0 group (telling (Some (record told { latency = 101 }))) advertised.facts) ≡ Some (Some (record told { latency = 101 }))
+  pub none : kept_adspec (came (node_r 10000) 5 0 group (telling None) advertised.facts) ≡ Some None
+  pub again : kept_adspec (came (node_r 10000) 5 0 group (telling (Some told)) with_path.facts) ≡ Some (Some told)
+  pub dropped : kept_adspec (came (node_r 10000) 5 1 group (telling None) advertised.facts) ≡ Some (Some told)
+  pub lives : kept_adspec (waited (node_r 10000) 157499 1 0 advertised.facts) ≡ Some (Some told)
+  pub gone : kept_adspec (came (node_r 10000) 5 0 group (path_tear s1 first) advertised.facts) ≡ None
+
+-- what goes on of it: one hop more, and no more than the interface has
+abbrev passing : Option Adspec → Message
+passing adspec = message.Path (record { session = session; police = false; hop = record { addr = r2; handle = 0 }; period = 30000; sender = Some (first, usual); adspec = adspec })
+
+-- what the node sends on where this came after it
+abbrev sent_after : Adspec → List Send
+sent_after adspec = (came (node_r 10000) 5 0 group (telling (Some adspec)) advertised.facts).sent
+
+-- a fragment of another service, and with its break bit
+abbrev other_service : Adspec
+other_service = record told { others = 0x02000000 ∷ [] }
+
+abbrev other_broken : Adspec
+other_broken = record told { hops = 2; others = 0x02800000 ∷ [] }
+
+-- a Path goes on where its ADSPEC is another by the interface by which it leaves: what an interface hides is not told
+pub record AdspecsGoOn : Type 0 where
+  pub on : advertised.sent ≡ sent 1 group (passing (Some (record told { hops = 2 }))) ∷ []
+  pub same : sent_after told ≡ []
+  pub hidden : sent_after (record told { rate = Finite 12000 }) ≡ []
+  pub lower : sent_after (record told { rate = Finite 9000 }) ≡ sent 1 group (passing (Some (record told { hops = 2; rate = Finite 9000 }))) ∷ []
+  pub slower : sent_after (record told { latency = 101 }) ≡ sent 1 group (passing (Some (record told { hops = 2; latency = 101 }))) ∷ []
+  pub smaller : sent_after (record told { mtu = 576 }) ≡ sent 1 group (passing (Some (record told { hops = 2; mtu = 576 }))) ∷ []
+  pub broken : sent_after (record told { broken = true }) ≡ sent 1 group (passing (Some (record told { hops = 2; broken = true }))) ∷ []
+  pub unread : sent_after other_service ≡ sent 1 group (passing (Some other_broken)) ∷ []
+  pub silent : (came (node_r 10000) 5 0 group (telling None) advertised.facts).sent ≡ sent 1 group (passing None) ∷ []
+  pub narrow : (came (node_r 5000) 0 0 group (telling (Some told)) no_facts).sent ≡ sent 1 group (passing (Some (record told { hops = 2; rate = Finite 5000 }))) ∷ []
+  pub again : (waited (node_r 10000) 30000 15000 0 (waited (node_r 10000) 15000 15000 0 advertised.facts).facts).sent ≡ refreshed 1 group (passing (Some (record told { hops = 2 }))) ∷ []
+
 -- sixteen senders, none of them the first
 abbrev pub sixteen : Facts
 sixteen = record no_facts {
   paths = with_rows no_facts.paths (each
-      (λ port. ((session, record { addr = s1; port = port }), record { iface = 0; hop = record { addr = s1; handle = 0 }; tspec = usual; police = false; dies = 100000 })) (range_with_len 1 16));
+      (λ port. ((session, record { addr = s1; port = port }), record { iface = 0; hop = record { addr = s1; handle = 0 }; tspec = usual; police = false; adspec = None; dies = 100000 })) (range_with_len 1 16));
 }
 
 -- what is not for this node, or not by the tree, or without a sender, or one too many

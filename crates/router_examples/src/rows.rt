@@ -1,7 +1,7 @@
 //! The rows. Each holds by computing the rule.
 ghost use Rattle.router_examples.specs.BoundRows.{LivedIsWithinBounds};
 ghost use Rattle.router_examples.specs.EdgeRows.{SomeNamesLeave, SendersAreBlockaded, ErrorsTogether, TooManyNames, WantsConflict, HandlesGoBack, RefusalsArrive};
-ghost use Rattle.router_examples.specs.PathRows.{PathGoesOn, PathsDropped, PathsEnd, LocalSenders, PathsMove, FaultsAreAnswered, PathErrorsGoOn};
+ghost use Rattle.router_examples.specs.PathRows.{PathGoesOn, AdspecsAreKept, AdspecsGoOn, PathsDropped, PathsEnd, LocalSenders, PathsMove, FaultsAreAnswered, PathErrorsGoOn};
 ghost use Rattle.router_examples.specs.ResvRows.{ResvGoesOn, RefusedRaiseKeepsTheOld, NoPathNoReservation, LeftOut, StylesMergeByTheirUnits, NextHopsMerge, TearsGoOn, GreedyIsBlockaded};
 ghost use Rattle.router_examples.specs.ResvRows.{BlockadedMerge, ErrorsGoOn, ConfirmationsComeBack, MarksWait, CallsAreRefused, FlagsAreByPaths};
 
@@ -9,6 +9,18 @@ ghost use Rattle.router_examples.specs.ResvRows.{BlockadedMerge, ErrorsGoOn, Con
 #[tactic(auto, using(crate::proofs::Worked::path_goes_on))]
 pub fn path_goes_on()
     ensures { PathGoesOn }
+{}
+
+/// The ADSPEC of the last Path that was taken is kept with its path.
+#[tactic(auto, using(crate::proofs::Worked::adspecs_are_kept))]
+pub fn adspecs_are_kept()
+    ensures { AdspecsAreKept }
+{}
+
+/// What is told of the path goes on, as the interface makes it, and a Path goes on where that is another.
+#[tactic(auto, using(crate::proofs::Worked::adspecs_go_on))]
+pub fn adspecs_go_on()
+    ensures { AdspecsGoOn }
 {}
 
 /// Paths by the wrong interface, to the wrong address, without a sender or one too many are dropped.

@@ -35,7 +35,7 @@ module _ (n : State) where
       let t = via_told (facts_of c n) s hop x h in
       let g = got_changed path_keys (path_at c) n.paths (s, x) t.path t.there in
       let e : PathFact × ℕ = g.0 in
-      let path : PathState = record { iface = e.0.iface; hop = e.0.hop; tspec = e.0.tspec; police = e.0.police; dies = d + e.1 } in
+      let path : PathState = record { iface = e.0.iface; hop = e.0.hop; tspec = e.0.tspec; police = e.0.police; adspec = e.0.adspec; dies = d + e.1 } in
       let there : get (facts_of d n).paths (s, x) ≡ Some path = get-changed path_keys (path_at d) n.paths (s, x) ∙ ap (λ w. then_do w (path_at d (s, x))) g.1 in
       via_made (facts_of d n) s hop x (record { path = path; there = there; by = ap (λ (z : PathState). came_by hop z) (same_Some _ _ g.2) ∙ t.by })
 

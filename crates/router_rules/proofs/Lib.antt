@@ -7,3 +7,4 @@ pub use Rattle.style_rules.proofs.Told
 pub use Rattle.style_rules.proofs.Lattice
 pub use Rattle.style_rules.proofs as StyleRules
 pub use Rattle.rsvp_base.proofs as RsvpBase
+pub use Rattle.adspec_path.proofs as AdspecPath

@@ -11,6 +11,8 @@ use Rattle.rsvp_base.specs.Orders.{senders as by_sender, units as by_unit}
 use Rattle.rsvp_base.specs.SessionLimits.{IsWithinSessionLimits}
 use Rattle.rsvp_base.specs.Table.{get, has, size}
 use Rattle.rsvp_base.specs.TokenBucket.{TokenBucket, IsSound}
+use Rattle.rsvp_messages.specs.Proper.{WhereThere}
+use Rattle.rsvp_messages.specs.RsvpObjects.ObjectFields.AdspecLaws.{IsAdspec}
 use Rattle.style_rules.specs.Limits.{IsWithinLimits}
 use Rattle.style_rules.specs.Lines.{LineKey, held}
 use Rattle.rsvp_base.specs.declared.entry_key.EntryKey.{EntryKey}
@@ -62,6 +64,7 @@ pub record IsWantShaped (k : WantKey) (w : Want) : Type 0 where
 pub record IsPathShaped (p : NodeConfig) (x : PathState) : Type 0 where
   pub iface : x.iface < length p.ifaces
   pub tspec : IsSound x.tspec
+  pub adspec : WhereThere IsAdspec x.adspec
 
 -- a hop is behind an interface that is there
 abbrev pub IsTarget : NodeConfig → Target → Type 0

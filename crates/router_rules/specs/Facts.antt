@@ -14,6 +14,7 @@ use Rattle.rsvp_base.specs.Orders.{sessions, senders, units}
 use Rattle.rsvp_base.specs.Table.{Table, empty}
 use Rattle.rsvp_base.specs.TokenBucket.{TokenBucket}
 use Rattle.rsvp_base.specs.Under.{under}
+use Rattle.rsvp_messages.specs.RsvpObjects.ObjectFields.declared.adspec.Adspec.{Adspec}
 use Rattle.style_rules.specs.declared.wall.Wall.{Wall}
 use Rattle.style_rules.specs.Lines.{next_hops, line_keys}
 use Rattle.style_rules.specs.Targets.{wall_keys}
@@ -32,12 +33,14 @@ abbrev pub want_keys : Keys WantKey
 want_keys = pairs sessions units
 
 -- ---- facts
--- path state of a sender (PSB): the interface by which its Path came, the node that sent it, what the sender sends, E_Police
+-- path state of a sender (PSB): the interface by which its Path came, the node that sent it, what the sender sends, E_Police, and
+-- the ADSPEC that the Path had, if it had one
 pub record PathState : Type 0 where
   pub iface : ℕ
   pub hop : Hop
   pub tspec : TokenBucket
   pub police : Bool
+  pub adspec : Option Adspec
   pub dies : ℕ
 
 -- reservation state of a next hop and unit (RSB); confirm is who wants to hear that it stands

@@ -28,6 +28,7 @@ pub use Rattle.style_rules.specs.Parts
 pub use Rattle.style_rules.specs.Targets
 pub use Rattle.style_rules.specs.Toward
 pub use Rattle.style_rules.specs.FlowOrder
+pub use Rattle.adspec_path.specs as AdspecPath
 pub use Rattle.rsvp_messages.specs as RsvpMessages
 pub use Rattle.rsvp_messages.specs.RsvpObjects
 pub use Rattle.style_rules.specs as StyleRules

@@ -32,7 +32,7 @@ learnt false new old = (old, heard.Dropped why.Full)
 module _ (p : NodeConfig) (clock iface : ℕ) (m : PathMsg) where
   -- what a Path that came at this clock by this interface says of its sender
   abbrev pub path_state : TokenBucket → PathState
-  path_state tspec = record { iface = iface; hop = m.hop; tspec = tspec; police = m.police; dies = clock + lifetime p m.period }
+  path_state tspec = record { iface = iface; hop = m.hop; tspec = tspec; police = m.police; adspec = m.adspec; dies = clock + lifetime p m.period }
 
   -- by the interface that leads to the sender alone
   abbrev pub learn_inward : Sender → TokenBucket → Bool → Paths → PathsHeard

@@ -1,8 +1,9 @@
 -- What a node sends after an input (RFC 2205, 2.3, 3.3 and 3.7; RFC 2209, 2: PATH REFRESH and RESV REFRESH, at once where
 -- Path_Refresh_Needed and Resv_Refresh_Needed are on): what changed between before and after, the
 -- errors and confirmations, and the refreshes of the sessions that came due; in a fixed order.
-use Rattle.std.specs.Prelude.{ℕ, nat_lt, Bool, true, false, cond, not, ◌&&◌, ◌||◌, List, [], ◌∷◌, ◌++◌, map as each, Option, Some, None}
+use Rattle.std.specs.Prelude.{ℕ, nat_lt, Bool, true, false, cond, not, ◌&&◌, ◌||◌, List, [], ◌∷◌, ◌++◌, map as each, Option, Some, None, slice_get}
 use Rattle.std.specs.List.{filter, flat_map, list_all, list_any, filter_map}
+use Rattle.adspec_path.specs.Same.{same_told}
 use Rattle.rsvp_base.specs.declared.addr.Addr.{Addr}
 use Rattle.rsvp_base.specs.declared.hop.Hop.{Hop}
 use Rattle.rsvp_base.specs.declared.part.Part.{Part}
@@ -20,6 +21,7 @@ use Rattle.rsvp_messages.specs.declared.ask.Tear.{Tear}
 use Rattle.rsvp_messages.specs.declared.ask.Tear.TheVariants as tear
 use Rattle.rsvp_messages.specs.declared.message.Message.{Message}
 use Rattle.rsvp_messages.specs.declared.message.Message.TheVariants as message
+use Rattle.rsvp_messages.specs.RsvpObjects.ObjectFields.declared.adspec.Adspec.{Adspec}
 use Rattle.style_rules.specs.FlowOrder.{flow_le}
 use Rattle.style_rules.specs.Lines.{next_hops}
 use Rattle.style_rules.specs.Merge.{PartTable}
@@ -29,7 +31,7 @@ use Rattle.router_rules.specs.Asking.{ask_of, errors_in_order, first_of}
 use Rattle.router_rules.specs.Facts.{Facts, PathState, Want, WantKey, want_keys, wants_in}
 use Rattle.router_rules.specs.Inputs.{Asked, Change, ErrMsg, ErrSend, OfPath, OfResv, ConfSend, Send, in_order}
 use Rattle.router_rules.specs.Known.{Lane, lanes, via, names_via}
-use Rattle.router_rules.specs.Offers.{Offer, OfferKey, Offers, offers}
+use Rattle.router_rules.specs.Offers.{Offer, OfferKey, Offers, advert_by, offers}
 use Rattle.router_rules.specs.NodeConfig.{NodeConfig, own, period, is_session}
 use Rattle.router_rules.specs.Requests.{requests, toward, want_request}
 
@@ -96,9 +98,13 @@ error_sends ss = each error_send (errors_in_order ss)
 abbrev pub same_flow : TokenBucket → TokenBucket → Bool
 same_flow a b = flow_le a b && flow_le b a
 
+-- what is told of an offer by an interface
+abbrev pub told_at : NodeConfig → ℕ → Offer → Option Adspec
+told_at p i o = advert_by (slice_get p.ifaces i) o.advert
+
 -- whether an interface sends the same of two offers
 abbrev pub same_offer : NodeConfig → ℕ → Offer → Offer → Bool
-same_offer p i a b = same_flow a.tspec b.tspec
+same_offer p i a b = same_flow a.tspec b.tspec && same_told (told_at p i a) (told_at p i b)
 
 abbrev pub is_new_offer : NodeConfig → ℕ → Offer → Option Offer → Bool
 is_new_offer p i o None = true
@@ -115,7 +121,7 @@ path_send p refresh e = record {
     hop = record { addr = own p e.0.iface; handle = 0 };
     period = period p;
     sender = Some (e.0.sender, e.1.tspec);
-    adspec = None;
+    adspec = told_at p e.0.iface e.1;
   });
   refresh = refresh;
 }

@@ -6,6 +6,7 @@
 //! laws of the definitions in `laws_inputs`.
 #![tactic(auto)]
 
+mod advert;
 mod answers;
 pub mod bounds;
 mod entry;
@@ -13,6 +14,7 @@ pub mod fronts;
 mod outbox;
 mod route;
 
+pub use advert::Advert;
 pub use answers::{Heard, LocalErr, StaleErr, Why};
 pub use entry::{Entry, Police};
 pub use outbox::Outbox;

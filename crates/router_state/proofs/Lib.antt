@@ -13,3 +13,4 @@ pub use Rattle.laws_inputs.proofs.Offering
 pub use Rattle.laws_inputs.proofs.Once
 pub use Rattle.laws_inputs.proofs.Requesting
 pub use Rattle.laws_inputs.proofs.Tests
+pub use Rattle.laws_inputs.proofs as LawsInputs

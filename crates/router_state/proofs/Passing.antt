@@ -88,7 +88,7 @@ due_ages q c ms word m half = changed_twice sessions (later_due q ms word) (due_
 
 pub time_passes : (n : State) (c ms word : ℕ) → ms ≤ 2 * n.place.quarter → facts_of (c + ms) (aged ms word n) ≡ (act_wait n.place (c + ms) word (facts_of c n)).facts
 time_passes n c ms word half =
-    let paths = table_ages path_keys c ms (λ (x : PathState). x.dies) (λ k f d. record { iface = f.iface; hop = f.hop; tspec = f.tspec; police = f.police; dies = d }) (λ k f d. refl) n.paths in
+    let paths = table_ages path_keys c ms (λ (x : PathState). x.dies) (λ k f d. record { iface = f.iface; hop = f.hop; tspec = f.tspec; police = f.police; adspec = f.adspec; dies = d }) (λ k f d. refl) n.paths in
     let resvs : (m : ResvFacts) → changed (resv_at (c + ms)) (changed (later_resv ms) m) ≡ living_resvs (c + ms) (changed (resv_at c) m) =
     λ m. table_ages line_keys c ms (λ (x : ResvState). x.dies) (λ k f d. record { part = f.part; confirm = f.confirm; dies = d }) (λ k f d. refl) m in
     let wild = resvs n.wild in

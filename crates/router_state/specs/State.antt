@@ -55,7 +55,7 @@ no_state p = record { place = p; senders = empty; wants = empty; paths = empty; 
 
 -- ---- from what is left to moments, at clock c
 abbrev pub path_at : ℕ → SenderKey → PathFact × ℕ → Option PathState
-path_at c k e = Some (record { iface = e.0.iface; hop = e.0.hop; tspec = e.0.tspec; police = e.0.police; dies = c + e.1 })
+path_at c k e = Some (record { iface = e.0.iface; hop = e.0.hop; tspec = e.0.tspec; police = e.0.police; adspec = e.0.adspec; dies = c + e.1 })
 
 abbrev pub resv_at : ℕ → LineKey → ResvFact × ℕ → Option ResvState
 resv_at c k e = Some (record { part = e.0.part; confirm = e.0.confirm; dies = c + e.1 })

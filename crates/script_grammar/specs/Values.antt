@@ -143,7 +143,7 @@ iface_at d name = iface_of d.net.ends (end_number d name)
 abbrev pub stale_path_value : Draft → StalePathLine → Stale
 stale_path_value d l =
     StalePath (session_value l.session, sender_value l.sender)
-    (record { iface = iface_at d l.end; hop = record { addr = addr_value l.hop; handle = 0 }; tspec = flow_value l.flow; police = false; dies = l.left })
+    (record { iface = iface_at d l.end; hop = record { addr = addr_value l.hop; handle = 0 }; tspec = flow_value l.flow; police = false; adspec = None; dies = l.left })
 
 abbrev pub stale_part : StaleResvLine → Part
 stale_part l = record { senders = senders_value l.senders; flow = flow_value l.flow }

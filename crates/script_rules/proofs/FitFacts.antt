@@ -9,6 +9,8 @@ use Rattle.rsvp_base.specs.declared.session.Session.{Session}
 use Rattle.rsvp_base.specs.declared.style.StyleKind.{StyleKind}
 use Rattle.rsvp_base.specs.Table.{size}
 use Rattle.rsvp_base.specs.TokenBucket.{IsSound}
+use Rattle.rsvp_messages.specs.Proper.{WhereThere}
+use Rattle.rsvp_messages.specs.RsvpObjects.ObjectFields.AdspecLaws.{IsAdspec}
 use Rattle.style_rules.specs.declared.target.Target.TheVariants as target
 use Rattle.style_rules.specs.declared.wall.Wall.{Wall}
 use Rattle.style_rules.specs.Parts.{IsOfStyle}
@@ -42,8 +44,9 @@ module _ (q : ℕ) (net : Net) (n e : ℕ) (there : e < length net.ends) (of : n
       let at : iface_of net.ends e < length (ifaces_at_node net.ends n) = subst (λ (m : ℕ). iface_of net.ends e < length (ifaces_at_node net.ends m)) of (iface_there net e there) in
       subst (λ (j : ℕ). j < length (ifaces_at_node net.ends n)) (sym is) at
 
-  pub fit_path : (f : PathFact) (left : ℕ) → f.iface ≡ iface_of net.ends e → IsSound f.tspec → 1 ≤ q → 1 ≤ left → left ≤ 21 * q → IsFitStale (place_of q net n) 0 (stale_of (left_as.Path f) left)
-  fit_path f left is flow some later soon = (lives q left some later soon, record { iface = inside f.iface is; tspec = flow })
+  pub fit_path : (f : PathFact) (left : ℕ) → f.iface ≡ iface_of net.ends e → IsSound f.tspec → WhereThere IsAdspec f.adspec → 1 ≤ q → 1 ≤ left → left ≤ 21 * q
+      → IsFitStale (place_of q net n) 0 (stale_of (left_as.Path f) left)
+  fit_path f left is flow advert some later soon = (lives q left some later soon, record { iface = inside f.iface is; tspec = flow; adspec = advert })
 
   pub fit_resv : (st : StyleKind) (f : ResvFact) (left : ℕ) → f.iface ≡ iface_of net.ends e → IsOfStyle st f.part → size f.part.senders ≤ 16 → IsSound f.part.flow → 1 ≤ q → 1 ≤ left → left ≤ 21 * q
       → IsFitStale (place_of q net n) 0 (stale_of (left_as.Resv st f) left)

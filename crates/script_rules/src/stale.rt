@@ -51,6 +51,7 @@ pub fn add_path(state: &mut ScriptState, line: StalePathLine) -> Result<(), Stop
         },
         tspec,
         police: false,
+        adspec: None,
     };
     leave(state, node, session, Left::Path(fact), left)
 }

@@ -1,7 +1,13 @@
 -- What may be left over at a node of what the lines so far declare.
-use Rattle.std.specs.Prelude.{ℕ, ◌/◌, ◌<◌, List, get_or}
+use Rattle.std.specs.Prelude.{ℕ, ◌/◌, ◌<◌, ◌^◌, List, [], ◌∷◌, Option, Some, None, get_or}
 use Rattle.std.proofs.Props.{props}
-use Rattle.std.specs.List.{All}
+use Rattle.std.specs.List.{All, AllByRecursion}
+use Rattle.rsvp_base.specs.declared.flow.Peak.{Peak}
+use Rattle.rsvp_base.specs.declared.flow.Peak.TheVariants.{Finite, Infinite}
+use Rattle.rsvp_messages.specs.Proper.{WhereThere}
+use Rattle.rsvp_messages.specs.RsvpObjects.ObjectFields.AdspecLaws.{IsAdspec}
+use Rattle.rsvp_messages.specs.RsvpObjects.ObjectFields.RateLaws.{IsPeak}
+use Rattle.rsvp_messages.specs.RsvpObjects.ObjectFields.declared.adspec.Adspec.{Adspec}
 use Rattle.style_rules.specs.declared.target.Target.{Target}
 use Rattle.style_rules.specs.declared.target.Target.TheVariants as target
 use Rattle.router_rules.specs.Bounds.{IsTarget}
@@ -28,8 +34,20 @@ target_prop : (p : NodeConfig) (t : Target) → IsProp (IsTarget p t)
 target_prop p (target.Hop i a) = hlevel props
 target_prop p (target.Sender s) = hlevel props
 
+peak_prop : (r : Peak) → IsProp (IsPeak r)
+peak_prop (Finite n) = hlevel props
+peak_prop Infinite = hlevel props
+
+words_prop : (ws : List ℕ) → IsProp (AllByRecursion (λ w. w < 2 ^ 32) ws)
+words_prop [] = hlevel props
+words_prop (w ∷ ws) = hlevel (props, words_prop ws)
+
+adspec_prop : (a : Option Adspec) → IsProp (WhereThere IsAdspec a)
+adspec_prop None = hlevel props
+adspec_prop (Some a) = hlevel (props, peak_prop, words_prop)
+
 fit_prop : (p : NodeConfig) (c : ℕ) (s : Stale) → IsProp (IsFitStale p c s)
-fit_prop p c (StalePath k x) = hlevel props
+fit_prop p c (StalePath k x) = hlevel (props, adspec_prop)
 fit_prop p c (StaleResv st k r) = hlevel props
 fit_prop p c (StaleWall k b) = hlevel (props, target_prop)
 

@@ -65,7 +65,7 @@ lone_valid = record {
 fit_path : IsFitStale (config_of 7500 lone_net (trees_of lone_net.hops) 0) 0 (StalePath (session, first) stale_path)
 fit_path = (
   record { later = omega arith; soon = omega arith },
-  record { iface = omega arith; tspec = record { rate = omega arith; depth = omega arith; low = omega arith; most = omega arith } },
+  record { iface = omega arith; tspec = record { rate = omega arith; depth = omega arith; low = omega arith; most = omega arith }; adspec = tt },
 )
 
 bounds : AreBounds 7500 lone_world

@@ -31,7 +31,7 @@ use Rattle.router_rules.specs.NodeConfig.{NodeConfig, own, period}
 use Rattle.router_rules.specs.Offers.{Offer, OfferKey, offer_at, offers, own_offer, path_offer}
 use Rattle.router_rules.specs.Paths.{is_path_by, torn_path}
 use Rattle.router_rules.specs.Rule.{Outcome, is_silent, rule}
-use Rattle.router_rules.specs.Sends.{is_new_offer, path_send, path_tear}
+use Rattle.router_rules.specs.Sends.{is_new_offer, path_send, path_tear, told_at}
 use Rattle.router_rules.specs.Steps.{facts_then, node_step, sent_then}
 use Rattle.style_rules.specs.Toward.{or_else}
 use Rattle.tree_model.specs.declared.hops.LinkHop.{LinkHop}
@@ -221,7 +221,7 @@ module _ (q j : ℕ) (d : SenderKey) (u : World) (fading : IsFading q d u) where
           let k : OfferKey = w.0 in
           let o : Offer = w.1 in
           let says : message.Path m ≡ (path_send p false (k, o)).message = sym r.says ∙ ap (λ (z : Send). z.message) w.2 in
-          let is : m ≡ record { session = k.session; police = o.local; hop = record { addr = own p k.iface; handle = 0 }; period = period p; sender = Some (k.sender, o.tspec); adspec = None } = cc in
+          let is : m ≡ record { session = k.session; police = o.local; hop = record { addr = own p k.iface; handle = 0 }; period = period p; sender = Some (k.sender, o.tspec); adspec = told_at p k.iface o } = cc in
           let both : ◌≡◌ {A = Sender × TokenBucket} (k.sender, o.tspec) (d.1, t) = of_some (k.sender, o.tspec) (d.1, t) (sym (ap (λ (z : PathMsg). z.sender) is) ∙ sender) in
           let of_session : k.session ≡ d.0 = sym (ap (λ (z : PathMsg). z.session) is) ∙ session in
           let of_sender : k.sender ≡ d.1 = ap (λ (z : Sender × TokenBucket). z.0) both in
@@ -240,7 +240,7 @@ module _ (q j : ℕ) (d : SenderKey) (u : World) (fading : IsFading q d u) where
           let old : offer_at r.facts k ≡ Some (path_offer x) = (λ z. or_else (option_map own_offer (nobody z)) (option_map path_offer (before z))) in
           let was : get (offers p r.facts) k ≡ Some (path_offer x) = offers_by_way p r.facts k ∙ ap (λ (z : Bool). cond z (offer_at r.facts k) None) at.way ∙ old in
           let new : is_new_offer p k.iface o (Some (path_offer x)) ≡ true = ap (λ (z : Option Offer). is_new_offer p k.iface o z) (sym was) ∙ w.4 in
-          let as_was : o ≡ path_offer x = (λ z. record { tspec = l.tspec z; local = l.local z }) in
+          let as_was : o ≡ path_offer x = (λ z. record { tspec = l.tspec z; local = l.local z; advert = l.advert z }) in
           let bad : false ≡ true = sym (not_new p k.iface o) ∙ ap (λ (z : Offer). is_new_offer p k.iface o (Some z)) as_was ∙ new in
           cc)
           (offer_source after k o at.at)

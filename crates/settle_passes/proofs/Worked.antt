@@ -1,5 +1,5 @@
 -- The small networks: by computing, and the premises of the law in a pair of nodes.
-use Rattle.std.proofs.Common.{◌≡◌, ℕ, zero, suc, true, Some, arith, refl, ap, ◌∙◌}
+use Rattle.std.proofs.Common.{◌≡◌, ℕ, zero, suc, true, Some, None, arith, refl, ap, ◌∙◌}
 use Rattle.std.specs.Prelude.{slice_get}
 use Rattle.std.specs.Fmt.{digits}
 use Rattle.std.specs.Option.{option_map, unwrap_or}
@@ -100,7 +100,7 @@ hosts_then = record {
 
 -- what the other node has
 abbrev heard_path : PathState
-heard_path = record { iface = 0; hop = record { addr = s1; handle = 0 }; tspec = usual; police = true; dies = 157500 }
+heard_path = record { iface = 0; hop = record { addr = s1; handle = 0 }; tspec = usual; police = true; adspec = None; dies = 157500 }
 
 not_yet : ArePathsSound ended_world → ⊥
 not_yet s =

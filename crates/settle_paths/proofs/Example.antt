@@ -80,7 +80,7 @@ a_pair_meets_the_premises = record {
 fit_path : IsFitStale (config_of 7500 pair_net (trees_of pair_net.hops) 1) 0 (StalePath (session, first) stale_path)
 fit_path = (
   record { later = omega arith; soon = omega arith },
-  record { iface = omega arith; tspec = record { rate = omega arith; depth = omega arith; low = omega arith; most = omega arith } },
+  record { iface = omega arith; tspec = record { rate = omega arith; depth = omega arith; low = omega arith; most = omega arith }; adspec = tt },
 )
 
 stale_bounds : AreBounds 7500 stale_world

@@ -1,5 +1,5 @@
 -- The pair of nodes meets the premises of the laws of paths.
-use Rattle.std.specs.Prelude.{◌≡◌, ℕ, false, [], ◌∷◌, Some, codes}
+use Rattle.std.specs.Prelude.{◌≡◌, ℕ, false, [], ◌∷◌, Some, codes, None}
 use Rattle.rsvp_base.specs.Table.{get}
 use Rattle.calm_rounds.specs.Rounds.{Rounds}
 use Rattle.router_rules.specs.Facts.{PathState}
@@ -27,7 +27,7 @@ pub record MeetsThePremises : Type 0 where
 
 -- ---- a left-over path of a sender that nobody is
 abbrev pub stale_path : PathState
-stale_path = record { iface = 0; hop = record { addr = s1; handle = 0 }; tspec = usual; police = false; dies = 157500 }
+stale_path = record { iface = 0; hop = record { addr = s1; handle = 0 }; tspec = usual; police = false; adspec = None; dies = 157500 }
 
 abbrev pub stale_plan : Plan
 stale_plan = record { quarter = 7500; seed = 1; net = pair_net; names = codes "s1" ∷ codes "r1" ∷ []; stale = (1, StalePath (session, first) stale_path) ∷ []; events = [] }

@@ -65,7 +65,7 @@ module _ (t : PathMap) (r : ResvTables) (w : Walls) (fact : PathFact) (left : �
   more_paths = record t { facts = put_in t.facts (fact.session, fact.sender) (fact, left) }
 
   abbrev state : PathState
-  state = record { iface = fact.iface; hop = fact.hop; tspec = fact.tspec; police = fact.police; dies = left }
+  state = record { iface = fact.iface; hop = fact.hop; tspec = fact.tspec; police = fact.police; adspec = fact.adspec; dies = left }
 
   path_put : paths_of (Some more_paths) ≡ put_in (paths_of (Some t)) (fact.session, fact.sender) state
   path_put = changed_put path_keys (path_at 0) t.facts (fact.session, fact.sender) (fact, left) state (ap (λ (n : ℕ). Some (record state { dies = n })) (zero_more left))

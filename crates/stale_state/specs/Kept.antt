@@ -12,7 +12,7 @@ use Rattle.stale_state.specs.declared.fact.Left.TheVariants as left
 
 -- a fact that dies at this moment
 abbrev pub stale_of : Left → ℕ → Stale
-stale_of (left.Path f) dies = StalePath (f.session, f.sender) (record { iface = f.iface; hop = f.hop; tspec = f.tspec; police = f.police; dies = dies })
+stale_of (left.Path f) dies = StalePath (f.session, f.sender) (record { iface = f.iface; hop = f.hop; tspec = f.tspec; police = f.police; adspec = f.adspec; dies = dies })
 stale_of (left.Resv st f) dies = StaleResv st (resv_key st f) (record { part = f.part; confirm = f.confirm; dies = dies })
 stale_of (left.Wall s t w) dies = StaleWall (s, t) (record { wall = w; dies = dies })
 

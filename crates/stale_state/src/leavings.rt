@@ -140,7 +140,7 @@ fn copy_of(fact: &Left) -> Left
     ensures { result ≡ fact.now }
 {
     match fact {
-        Left::Path(fact) => Left::Path(*fact),
+        Left::Path(fact) => Left::Path(fact.copy()),
         Left::Resv(style, fact) => Left::Resv(*style, fact.copy()),
         Left::Wall(session, target, wall) => Left::Wall(*session, *target, *wall),
     }

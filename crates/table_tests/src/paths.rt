@@ -1,6 +1,7 @@
-//! A session with 16 senders, and a 17th; a path that is torn, and paths that die.
+//! A session with 16 senders, and a 17th; a path that is torn, and paths that die; an ADSPEC that is kept with its path.
 use path_state::{PathFact, PathTable};
 use rsvp_base::{Addr, Flow, Full, Hop, Peak, Rate, Sender, Session};
+use rsvp_objects::{Adspec, Fragments};
 use std::test::Fail;
 
 const SESSION: Session = Session {
@@ -16,7 +17,19 @@ fn sender(port: u16) -> Sender {
     }
 }
 
-fn path(port: u16) -> Option<PathFact> {
+fn told(latency: u32) -> Adspec {
+    Adspec {
+        broken: false,
+        hops: 1,
+        rate: Peak::Infinite,
+        latency,
+        mtu: 1500,
+        load: Some(false),
+        others: Fragments::new(),
+    }
+}
+
+fn path(port: u16, adspec: Option<Adspec>) -> Option<PathFact> {
     let tspec = Flow::new(Rate::of(10)?, Rate::of(10)?, Peak::Infinite, 1, 1500)?;
     Some(PathFact {
         session: SESSION,
@@ -28,12 +41,13 @@ fn path(port: u16) -> Option<PathFact> {
         },
         tspec,
         police: true,
+        adspec,
     })
 }
 
 // What the table answers to a path with 100 ms left, where no dead one waits.
-fn learn(table: &mut PathTable, port: u16) -> Option<Result<(), Full>> {
-    let fact = path(port)?;
+fn learn(table: &mut PathTable, port: u16, adspec: Option<Adspec>) -> Option<Result<(), Full>> {
+    let fact = path(port, adspec)?;
     let None = table.pull_dead() else {
         return None;
     };
@@ -44,7 +58,7 @@ fn learn(table: &mut PathTable, port: u16) -> Option<Result<(), Full>> {
 fn is_filled(table: &mut PathTable) -> bool {
     for port in 0u16..17 {
         let answer = if port < 16 { Ok(()) } else { Err(Full) };
-        if learn(table, port) != Some(answer) {
+        if learn(table, port, None) != Some(answer) {
             return false;
         }
     }
@@ -68,10 +82,29 @@ fn has_one_hop(table: &PathTable) -> bool {
 
 // Whether a path is torn, and is found no more.
 fn is_torn(table: &mut PathTable) -> bool {
-    let first = path(0);
-    first.is_some()
-        && table.tear(SESSION, sender(0)) == first
-        && table.find(SESSION, sender(0)).is_none()
+    let Some(torn) = table.tear(SESSION, sender(0)) else {
+        return false;
+    };
+    torn.sender == sender(0) && table.find(SESSION, sender(0)).is_none()
+}
+
+// The latency that the path of a sender tells.
+fn latency_of(table: &PathTable, port: u16) -> Option<u32> {
+    let fact = table.find(SESSION, sender(port))?;
+    match &fact.adspec {
+        Some(adspec) => Some(adspec.latency),
+        None => None,
+    }
+}
+
+// Whether a path has the ADSPEC with which it was learnt last, and none where it had none then.
+fn keeps_adspecs(table: &mut PathTable) -> bool {
+    let is_told = learn(table, 1, Some(told(100))) == Some(Ok(()))
+        && latency_of(table, 1) == Some(100);
+    let is_other = learn(table, 1, Some(told(101))) == Some(Ok(()))
+        && latency_of(table, 1) == Some(101);
+    let is_silent = learn(table, 1, None) == Some(Ok(())) && latency_of(table, 1) == None;
+    is_told && is_other && is_silent
 }
 
 // Whether paths die with their time, and none waits in a table that is cleared.
@@ -96,6 +129,7 @@ fn a_session_has_16_senders_and_no_17th(rt: HostRuntime) -> Result<(), Fail> {
             && !table.has_address(SESSION, Addr(2))
             && table.has_session(SESSION)
     );
+    assert!(rt; keeps_adspecs(&mut table));
     assert!(rt; is_torn(&mut table) && is_dead(&mut table));
     Ok(())
 }

@@ -121,7 +121,7 @@ module _ (p : NodeConfig) (s : Session) (st : StyleKind) (i : ℕ) (part : Part)
   seen es = changed_rows (λ k e. path_at c (s, k) e) es
 
   abbrev seen_row : Sender × (PathFact × ℕ) → Sender × PathState
-  seen_row e = (e.0, record { iface = e.1.0.iface; hop = e.1.0.hop; tspec = e.1.0.tspec; police = e.1.0.police; dies = c + e.1.1 })
+  seen_row e = (e.0, record { iface = e.1.0.iface; hop = e.1.0.hop; tspec = e.1.0.tspec; police = e.1.0.police; adspec = e.1.0.adspec; dies = c + e.1.1 })
 
   abbrev matched : List (Sender × (PathFact × ℕ)) → List (Sender × PathState)
   matched es = filter (is_matching p s st i part) (seen es)

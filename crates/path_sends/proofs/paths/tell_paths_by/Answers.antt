@@ -1,14 +1,10 @@
-use Rattle.std.proofs.Common.{◌≡◌, ℕ, ◌==◌, Some, None, map as each, fold, length, slice_get, sym, ap, ◌∙◌, arith}
+use Rattle.std.proofs.Common.{◌≡◌, ℕ, ◌==◌, map as each, fold, length, slice_get, sym, ap, ◌∙◌, arith}
 use Rattle.std.specs.Int.{bit_at}
 use Rattle.std.specs.List.{filter, range_with_len}
-use Rattle.rsvp_base.specs.declared.addr.Addr.{Addr}
-use Rattle.rsvp_messages.specs.declared.message.Message.TheVariants as message
-use Rattle.router_rules.specs.Inputs.{Send}
-use Rattle.router_rules.specs.NodeConfig.{addr_of}
 use Rattle.router_rules.specs.Sends.{path_send}
 use Rattle.path_sends.specs.Offering.{as_offer}
 use Rattle.laws_sends.specs.Told.{offer_key}
-use Rattle.path_sends.proofs.Telling.{own_read, said_none, said_one}
+use Rattle.path_sends.proofs.Telling.{said_none, said_one, there}
 use Rattle.path_sends.proofs.paths.tell_paths_by.Goals as goal
 use Rattle.path_sends.proofs.paths.tell_paths_by.Goals.{then-is_out, else-is_out}
 
@@ -17,28 +13,15 @@ loop-i-preserved g c =
     elim c.if-is_out.branch [
       | then-is_out w ↦
           let say = λ (i : ℕ). path_send c.args.config.now c.args.refresh (offer_key (c.args.session, c.args.sender) i, as_offer c.args.offered.now) in
-          let from : Addr → ℕ → Send = λ (a : Addr) (t : ℕ). record {
-            iface = c.loop-i.i;
-            dst = c.args.session.group;
-            message = message.Path
-                (record {
-                  session = c.args.session;
-                  police = c.args.offered.now.local;
-                  hop = record { addr = a; handle = 0 };
-                  period = t;
-                  sender = Some
-                      (c.args.sender, c.args.offered.now.tspec);
-                  adspec = None;
-                });
-            refresh = c.args.refresh;
-          } in
-          let addr = sym (own_read c.ifaces-ifaces.result.now c.loop-i.i _ c.loop-i-test.true) ∙ ap (λ xs. addr_of (slice_get xs c.loop-i.i)) c.ifaces-ifaces.ensures.is in
-          let here : g.O.Outbox.posted c.loop-i.out (from _ c.period-period.result) ≡ g.O.Outbox.posted c.loop-i.out (say c.loop-i.i) =
-          λ j. g.O.Outbox.posted c.loop-i.out (from (addr j) (c.period-period.ensures j)) in
-          w.out-is ∙ w.post.ensures ∙ here ∙ said_one g.O.Outbox.posted say c.args.ways c.args.out.now c.loop-i.i c.loop-i.out (sym c.is_out.ensures ∙ w.if-is_out.true) c.loop-i.invariant
+          let at = sym (ap (λ xs. slice_get xs c.loop-i.i) c.ifaces-ifaces.ensures.is) ∙ there c.ifaces-ifaces.result.now c.loop-i.i _ c.loop-i-test.true in
+          let here : g.O.Outbox.posted c.loop-i.out (record { iface = c.loop-i.i; dst = c.args.session.group; message = w.path_by-message.result; refresh = c.args.refresh })
+          ≡ g.O.Outbox.posted c.loop-i.out (say c.loop-i.i) =
+          ap (λ m. g.O.Outbox.posted c.loop-i.out (record { iface = c.loop-i.i; dst = c.args.session.group; message = m; refresh = c.args.refresh }))
+          (w.path_by-message.ensures c.args.config.now c.loop-i.i c.args.refresh at (sym c.period-period.ensures)) in
+          w.out-is ∙ w.post.ensures ∙ here ∙ said_one g.O.Outbox.posted say (λ i. bit_at c.args.ways i == 1) c.args.out.now c.loop-i.i c.loop-i.out (sym c.is_out.ensures ∙ w.if-is_out.true) c.loop-i.invariant
       | else-is_out w ↦
           let say = λ (i : ℕ). path_send c.args.config.now c.args.refresh (offer_key (c.args.session, c.args.sender) i, as_offer c.args.offered.now) in
-          w.out-is ∙ said_none g.O.Outbox.posted say c.args.ways c.args.out.now c.loop-i.i c.loop-i.out (sym c.is_out.ensures ∙ w.if-is_out.false) c.loop-i.invariant
+          w.out-is ∙ said_none g.O.Outbox.posted say (λ i. bit_at c.args.ways i == 1) c.args.out.now c.loop-i.i c.loop-i.out (sym c.is_out.ensures ∙ w.if-is_out.false) c.loop-i.invariant
     ]
 
 pub returns : goal.returns

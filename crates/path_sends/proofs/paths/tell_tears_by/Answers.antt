@@ -25,10 +25,10 @@ loop-i-preserved g c =
           } in
           let addr = sym (own_read c.ifaces-ifaces.result.now c.loop-i.i _ c.loop-i-test.true) ∙ ap (λ xs. addr_of (slice_get xs c.loop-i.i)) c.ifaces-ifaces.ensures.is in
           let here : g.O.Outbox.posted c.loop-i.out (from _) ≡ g.O.Outbox.posted c.loop-i.out (say c.loop-i.i) = λ j. g.O.Outbox.posted c.loop-i.out (from (addr j)) in
-          w.out-is ∙ w.post.ensures ∙ here ∙ said_one g.O.Outbox.posted say c.args.ways c.args.out.now c.loop-i.i c.loop-i.out (sym c.is_out.ensures ∙ w.if-is_out.true) c.loop-i.invariant
+          w.out-is ∙ w.post.ensures ∙ here ∙ said_one g.O.Outbox.posted say (λ i. bit_at c.args.ways i == 1) c.args.out.now c.loop-i.i c.loop-i.out (sym c.is_out.ensures ∙ w.if-is_out.true) c.loop-i.invariant
       | else-is_out w ↦
           let say = λ (i : ℕ). path_tear c.args.config.now (offer_key (c.args.session, c.args.sender) i) in
-          w.out-is ∙ said_none g.O.Outbox.posted say c.args.ways c.args.out.now c.loop-i.i c.loop-i.out (sym c.is_out.ensures ∙ w.if-is_out.false) c.loop-i.invariant
+          w.out-is ∙ said_none g.O.Outbox.posted say (λ i. bit_at c.args.ways i == 1) c.args.out.now c.loop-i.i c.loop-i.out (sym c.is_out.ensures ∙ w.if-is_out.false) c.loop-i.invariant
     ]
 
 pub returns : goal.returns

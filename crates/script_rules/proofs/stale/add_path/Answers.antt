@@ -1,4 +1,4 @@
-use Rattle.std.proofs.Common.{rules, ◌≤◌, ℕ, false, refl, sym, ap, subst, ◌∙◌}
+use Rattle.std.proofs.Common.{rules, ◌≤◌, ℕ, false, None, refl, sym, ap, subst, ◌∙◌}
 use Rattle.std.specs.Prelude.{◌/◌}
 use Rattle.path_state.specs.declared.fact.PathFact.{PathFact}
 use Rattle.rsvp_base.specs.TokenBucket.{IsSound}
@@ -22,9 +22,9 @@ leave-requires-clause-fit c =
       iface = c.iface_of.result;
       hop = record { addr = c.in-Some.hop; handle = 0 };
       tspec = c.in-Some.tspec;
-      police =
-          false;
+      police = false;
+      adspec = None;
     } in
     let fit = fit_path (period_of d / 4) d.net c.in-Some-end_of.node c.in-Some-end_of.end end.end_there
-    of f c.in-Some.left c.iface_of.ensures (subst IsSound (sym v.3) (sound l.flow range.flow)) c.args.state.now.long
+    of f c.in-Some.left c.iface_of.ensures (subst IsSound (sym v.3) (sound l.flow range.flow)) tt c.args.state.now.long
     (subst (λ (m : ℕ). 1 ≤ m) (sym v.4) range.left.some) (subst (λ (m : ℕ). m ≤ lifetime_of_period (period_of d)) (sym v.4) range.left.few) in search (rules, fit)
