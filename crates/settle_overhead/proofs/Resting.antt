@@ -14,6 +14,7 @@ use Rattle.rsvp_base.specs.Orders.{sessions}
 use Rattle.rsvp_base.specs.Table.{empty, get, has}
 use Rattle.rsvp_base.specs.TokenBucket.{TokenBucket}
 use Rattle.rsvp_base.proofs.Members.{in_each, in_filter}
+use Rattle.rsvp_base.proofs.SetLaws.{and_made}
 use Rattle.rsvp_base.proofs.Tables.{tied_same}
 use Rattle.rsvp_messages.specs.declared.message.Message.TheVariants as message
 use Rattle.rsvp_messages.specs.declared.message.PathMsg.{PathMsg}
@@ -26,11 +27,13 @@ use Rattle.router_rules.specs.Facts.{Facts, SenderKey}
 use Rattle.router_rules.specs.Inputs.{Came, Change, ErrMsg, ErrSend, Input, OfPath, OfResv, Send, Spelt, Wait, in_order, put_in_order}
 use Rattle.router_rules.specs.Known.{Lane, known, lanes}
 use Rattle.router_rules.specs.NodeConfig.{NodeConfig, own}
-use Rattle.router_rules.specs.Offers.{Offer, OfferKey, offer_at, offers}
+use Rattle.router_rules.specs.declared.advert.Advert.TheVariants.{Silent}
+use Rattle.router_rules.specs.Offers.{Offer, OfferKey, advert_by, advert_of, offer_at, offers}
 use Rattle.router_rules.specs.Requests.{toward}
 use Rattle.router_rules.specs.Rule.{Outcome, is_silent, rule}
-use Rattle.router_rules.specs.Sends.{is_new_offer}
+use Rattle.router_rules.specs.Sends.{is_new_offer, told_at}
 use Rattle.router_rules.specs.Steps.{sent_then}
+use Rattle.router_rules.proofs.AdspecPath.Same.{same_is_equal}
 use Rattle.laws_inputs.specs.FactLaws.{is_way}
 use Rattle.laws_inputs.proofs.Knowing.{known_and_via}
 use Rattle.laws_inputs.proofs.Lists.{none_in}
@@ -55,6 +58,7 @@ use Rattle.network_model.specs.Worlds.{Item, World, config_of}
 use Rattle.network_model.proofs.Machines.{in_arrived}
 use Rattle.network_model.proofs.Quiet.{FollowsRule, IsCame, input_found, outcome_quiet, IsWaited}
 use Rattle.network_model.proofs.Stepping.{copies_found, facts_after_made, sent_found}
+use Rattle.settle_adverts.specs.Adspecs.{HasNoAdspec}
 use Rattle.settle_paths.specs.Known.{IsSameNet}
 use Rattle.settle_paths.proofs.Known.{has_some}
 use Rattle.settle_paths.proofs.LiveSenders.{one_flow}
@@ -75,6 +79,7 @@ pub record IsAtRest (q : ℕ) (w u : World) : Type 0 where
   pub same : IsSameNet w u
   pub steady : (s : Session) → IsSteady q s u
   pub exact : (s : Session) → AreExactOf s u
+  pub silent : HasNoAdspec u
 
 pub some_session : Session
 some_session = record { group = record { 0 = 0 }; proto = 0; port = 0 }
@@ -95,6 +100,12 @@ module _ (q : ℕ) (w u : World) (rest : IsAtRest q w u) where
       ⊎_elim
       (λ (x : IsLocalOffer f k o). record { node = n; senders = f.senders; at = ap (option_map (λ (z : Facts). z.senders)) at; sends = x.there })
       (λ (x : IsPathOffer f k o). subst (λ (z : TokenBucket). IsLive u (k.session, k.sender) z) (sym x.tspec) (ready.sound.facts n f (k.session, k.sender) x.path at x.there).sound.live)
+      (offer_source f k o (offer_of p f k o e))
+
+  -- and has no ADSPEC
+  pub silent_offer : (n : ℕ) (f : Facts) (p : NodeConfig) (k : OfferKey) (o : Offer) → slice_get u.nodes n ≡ Some f → get (offers p f) k ≡ Some o → o.advert ≡ Silent
+  silent_offer n f p k o at e =
+      ⊎_elim (λ (x : IsLocalOffer f k o). x.advert) (λ (x : IsPathOffer f k o). x.advert ∙ ap advert_of (rest.silent.kept n f (k.session, k.sender) x.path at x.there))
       (offer_source f k o (offer_of p f k o e))
 
 -- a live sender of a session is one of the senders
@@ -156,7 +167,9 @@ module _ (q : ℕ) (w u v : World) (a : IsAtRest q w u) (b : IsAtRest q w v) whe
           let now = live_offer q w v b n g p k o at' e in
           let before = live_offer q w u a n f p k y.0 at y.1 in
           let same : o.tspec ≡ y.0.tspec = one_flow v (ready q w v b).locals (k.session, k.sender) o.tspec y.0.tspec now (still_live (k.session, k.sender) y.0.tspec before) in
-          ap (is_new_offer p k.iface o) y.1 ∙ ap not (flow_tested o.tspec y.0.tspec same)
+          let told : told_at p k.iface o ≡ told_at p k.iface y.0 =
+          ap (advert_by (slice_get p.ifaces k.iface)) (silent_offer q w v b n g p k o at' e ∙ sym (silent_offer q w u a n f p k y.0 at y.1)) in
+          ap (is_new_offer p k.iface o) y.1 ∙ ap not (and_made _ _ (flow_tested o.tspec y.0.tspec same) ((same_is_equal (told_at p k.iface o) (told_at p k.iface y.0)).1 told))
 
       -- what goes toward a previous hop is what went
       toward_now : (l : Lane) (h : LinkHop) → IsPrevious u.net n l.session l.hop h → toward p (after p c i f) l ≡ want l.style u.net (locals_of u) l.session h

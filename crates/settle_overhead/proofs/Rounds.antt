@@ -21,8 +21,11 @@ use Rattle.network_model.specs.Worlds.{Item, World}
 use Rattle.network_model.proofs.Listing.{in_remove}
 use Rattle.laws_network.specs.Rounds.{rounds_of}
 use Rattle.laws_network.proofs.Calming.{rounds_is_calm}
+use Rattle.laws_network.proofs.Keeping.{calm_rounds_keep_bounds}
 use Rattle.settle_resvs.proofs.Accepting.{fits_again, locals_again}
 use Rattle.settle_resvs.proofs.GoalByIface.{each_fits}
+use Rattle.settle_adverts.specs.Adspecs.{HasNoAdspec}
+use Rattle.settle_adverts.proofs.DyingOut.{adspecs_die_out}
 use Rattle.settle_network.specs.Sessions.{HasSettledFor}
 use Rattle.settle_network.proofs.Settled.{IsSound, a_session_settles, all_sound, run_then}
 use Rattle.settle_overhead.specs.Overhead.{overhead}
@@ -60,8 +63,9 @@ at_rest q w rs calm start =
     let sound = hold_later (machine q) (IsSound q w rs calm start.bounds start.locals) ((4 + 5 * longest w.net) + (5 + 5 * longest w.net)) k rs w (omega arith)
     (all_sound q w rs calm start.bounds start.locals) in
     let settled = hold_all (machine q) (λ (s : Session) u. HasSettledFor q s u) k rs w (λ s. a_session_settles q w rs calm start.bounds start.locals s (fits s)) in
-    hold_map (machine q) (λ u. IsSound q w rs calm start.bounds start.locals u × ((s : Session) → HasSettledFor q s u)) (IsAtRest q w)
-    (λ u h. record {
+    let silent = hold_later (machine q) HasNoAdspec (4 + 5 * longest w.net) k rs w (omega arith) (adspecs_die_out q w rs calm (calm_rounds_keep_bounds q w rs calm start.bounds)) in
+    hold_map (machine q) (λ u. (IsSound q w rs calm start.bounds start.locals u × ((s : Session) → HasSettledFor q s u)) × HasNoAdspec u) (IsAtRest q w)
+    (λ u g. let h = g.0 in record {
       same = h.0.known.same;
       steady = λ s.
           record {
@@ -77,8 +81,10 @@ at_rest q w rs calm start =
             addressed = h.0.addressed;
           };
       exact = λ s. (h.1 s).exact;
+      silent = g.1;
     }) k rs w
-    (hold_both (machine q) (IsSound q w rs calm start.bounds start.locals) (λ u. (s : Session) → HasSettledFor q s u) k rs w sound settled)
+    (hold_both (machine q) (λ u. IsSound q w rs calm start.bounds start.locals u × ((s : Session) → HasSettledFor q s u)) HasNoAdspec k rs w
+    (hold_both (machine q) (IsSound q w rs calm start.bounds start.locals) (λ u. (s : Session) → HasSettledFor q s u) k rs w sound settled) silent)
 
 -- ---- with the overhead of w
 module _ (q : ℕ) (w : World) (top : ℕ) where

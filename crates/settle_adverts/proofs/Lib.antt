@@ -1,0 +1,4 @@
+pub mod SoftAdspecs
+pub mod Sending
+pub mod DyingOut
+pub mod Worked

@@ -1,0 +1,2 @@
+pub mod Adspecs
+pub mod Worked
