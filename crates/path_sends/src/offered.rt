@@ -79,7 +79,7 @@ impl Offered {
 }
 
 // Whether two flows are the same.
-fn is_same_flow(a: &Flow, b: &Flow) -> bool
+pub(crate) fn is_same_flow(a: &Flow, b: &Flow) -> bool
     ensures { result ≡ same_flow a.now b.now }
 {
     flow_merge::le(a, b) && flow_merge::le(b, a)

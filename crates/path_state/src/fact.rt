@@ -1,6 +1,5 @@
 //! Facts of paths.
 ghost use Rattle.std.specs.Prelude.{◌≡◌};
-ghost use Rattle.std.specs.Option.{option_copied};
 
 use object_fields::Adspec;
 use rsvp_base::{Flow, Hop, Sender, Session};
@@ -44,16 +43,6 @@ pub fn copy_of(adspec: &Option<Adspec>) -> Option<Adspec>
 {
     match adspec {
         Some(adspec) => Some(adspec.copy()),
-        None => None,
-    }
-}
-
-// An equal fact, if there is one.
-pub(crate) fn copied(fact: Option<&PathFact>) -> Option<PathFact>
-    ensures { result ≡ option_copied fact.entry }
-{
-    match fact {
-        Some(fact) => Some(fact.copy()),
         None => None,
     }
 }

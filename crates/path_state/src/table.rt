@@ -1,7 +1,7 @@
 //! The table of paths.
 ghost use Rattle.std.specs.Prelude.{◌≡◌, ◌≤◌, ℕ, ◌↔◌, [], false, if◌then◌else◌, nat_lt, length, map, true, IsErr, IsNone, IfOk, IfSome, OnOk, OnErr, Some, slice_get};
 ghost use Rattle.std.specs.List.{list_any};
-ghost use Rattle.std.specs.Option.{option_map};
+ghost use Rattle.std.specs.Option.{option_copied, option_map};
 ghost use Rattle.rsvp_base.specs.Orders.{sessions, senders};
 ghost use Rattle.rsvp_base.specs.Rows.{AreRows, table_of};
 ghost use Rattle.rsvp_base.specs.Sets.{with_key};
@@ -10,7 +10,7 @@ ghost use Rattle.rsvp_base.specs.Table.{empty, get, has, keys, put_in, size, wit
 ghost use Rattle.rsvp_base.specs.Under.{under};
 ghost use Rattle.path_state.specs.Paths.{AreByKey, path_keys, fact_row, dead_row, comes_by, hops_by, is_from, via, later, dead_after};
 
-use crate::fact::{PathFact, copied};
+use crate::fact::PathFact;
 use crate::hops::Hops;
 use crate::walks;
 use rsvp_base::{Addr, Full, NoMemory, Sender, Senders, Session};
@@ -118,20 +118,20 @@ impl PathTable {
     }
 
     /// The fact of a session and sender. `None` exactly where there is none.
-    pub fn find(&self, session: Session, sender: Sender) -> Option<PathFact>
-        ensures fact { result ≡ option_map (λ e. e.0) (get self.now.facts (session, sender)) }
+    pub fn find(&self, session: Session, sender: Sender) -> Option<&PathFact>
+        ensures fact { option_copied result ≡ option_map (λ e. e.0) (get self.now.facts (session, sender)) }
         // What holds of every table.
         ensures keyed { AreByKey self.now.facts }
         ensures within { IsWithinSessionLimits senders self.now.facts }
     {
-        copied(self.table.find(session, sender))
+        self.table.find(session, sender)
     }
 
     /// The k-th fact of a session by sender, from 0. `None` exactly where k is not below their number.
-    pub fn at(&self, session: Session, k: usize) -> Option<PathFact>
-        ensures { result ≡ option_map (λ e. e.1.0) (slice_get (under sessions senders self.now.facts session).rows k) }
+    pub fn at(&self, session: Session, k: usize) -> Option<&PathFact>
+        ensures { option_copied result ≡ option_map (λ e. e.1.0) (slice_get (under sessions senders self.now.facts session).rows k) }
     {
-        copied(self.table.at(session, k))
+        self.table.at(session, k)
     }
 
     /// The facts of a session by sender, one after another.

@@ -1,6 +1,7 @@
 //! What goes toward a previous hop.
 ghost use Rattle.std.specs.Prelude.{◌≡◌, ℕ, [], true};
 ghost use Rattle.std.specs.List.{list_any};
+ghost use Rattle.std.specs.Option.{option_copied};
 ghost use Rattle.laws_sends.specs.State.{Said, facts_of};
 ghost use Rattle.rsvp_base.specs.Table.{empty, keys};
 ghost use Rattle.router_rules.specs.Asking.{first_of};
@@ -112,8 +113,8 @@ pub fn toward(tables: &Tables, session: Session, style: StyleKind, hop: (u8, Add
 }
 
 // The handle that a path's hop gave.
-fn handle_of(path: Option<PathFact>) -> u32
-    ensures { result ≡ handle_in path }
+fn handle_of(path: Option<&PathFact>) -> u32
+    ensures { result ≡ handle_in (option_copied path.entry) }
 {
     match path {
         Some(fact) => fact.hop.handle,

@@ -1,6 +1,6 @@
 //! Paths and local senders leave the tables, and their names with them.
 ghost use Rattle.std.specs.Prelude.{◌≡◌, ◌==◌, ◌&&◌, ℕ, cond, is_some, IfSome, Some};
-ghost use Rattle.std.specs.Option.{option_map};
+ghost use Rattle.std.specs.Option.{option_copied, option_map};
 ghost use Rattle.rsvp_base.specs.Table.{empty, get, has};
 ghost use Rattle.router_rules.specs.NodeConfig.{is_addr};
 ghost use Rattle.router_rules.specs.Paths.{is_path_by};
@@ -21,14 +21,14 @@ pub fn path_by(
     sender: Sender,
     iface: u8,
     hop: Addr,
-) -> Option<PathFact>
+) -> Option<&PathFact>
     ensures by { (c : ℕ) (n : State) → n.paths ≡ paths.now.facts → is_some result ≡ is_path_by (iface, hop) (get (facts_of c n).paths (session, sender)) }
-    ensures fact { IfSome result (λ f. option_map (λ e. e.0) (get paths.now.facts (session, sender)) ≡ Some f) }
+    ensures fact { IfSome (option_copied result) (λ f. option_map (λ e. e.0) (get paths.now.facts (session, sender)) ≡ Some f) }
 {
     let Some(fact) = paths.find(session, sender) else {
         return None;
     };
-    if !came_by(&fact, iface, hop) {
+    if !came_by(fact, iface, hop) {
         return None;
     }
     Some(fact)

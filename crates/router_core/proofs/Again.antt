@@ -34,7 +34,8 @@ use Rattle.router_arrivals.specs.Coming.{fact_of, with_path}
 use Rattle.router_arrivals.proofs.Doing.{path_comes}
 use Rattle.router_arrivals.proofs.Keeping.{put_there}
 use Rattle.router_arrivals.proofs.Ruled.{without_marks}
-use Rattle.router_core.specs.Renewing.{offer_by}
+use Rattle.path_sends.specs.declared.renewal.Renewal.{Renewal}
+use Rattle.path_sends.specs.Renewing.{AreNews, offer_by}
 use Rattle.router_core.proofs.Quiet.{marks_wait, quiet_sends}
 
 -- the path that came by the hop
@@ -57,6 +58,22 @@ module _ (n w : State) (k : SenderKey) (fact : PathFact) (left : ℕ) (said : Sa
   offers_again c own is =
       offers c w k own (is ∙ ap (λ (z : State). get z.senders k) (sym now)) fact (ap (λ (z : State). option_map (λ (e : PathFact × ℕ). e.0) (get z.paths k)) now
       ∙ ap (option_map (λ (e : PathFact × ℕ). e.0)) (get-put_in_same path_keys n.paths k (fact, left)))
+
+  -- what was offered of its sender and what is offered then, of which the renewal tells
+  pub renewal_told : (r : Option Renewal)
+      → ((f : PathFact) → option_map (λ (e : PathFact × ℕ). e.0) (get n.paths k) ≡ Some f
+      → AreNews r (offer_by (get n.senders k) f.tspec f.adspec) (offer_by (get n.senders k) fact.tspec fact.adspec))
+      → (c : ℕ) → (old : Offer) × (new : Offer) × AreNews r old new × (Some old ≡ offered (facts_of c n) k) × (Some new ≡ offered (facts_of c w) k)
+  renewal_told r news c =
+      let there = stood c k (fact.iface, fact.hop.addr) (get n.paths k) (sym (ap (is_path_by (fact.iface, fact.hop.addr)) (get-changed path_keys (path_at c) n.paths k)) ∙ by c) in
+      let was : PathFact = there.0.0 in
+      let is : option_map (λ (e : PathFact × ℕ). e.0) (get n.paths k) ≡ Some was = ap (option_map (λ (e : PathFact × ℕ). e.0)) there.1 in (
+        offer_by (get n.senders k) was.tspec was.adspec,
+        offer_by (get n.senders k) fact.tspec fact.adspec,
+        news was is,
+        offers c n k (get n.senders k) refl was is,
+        offers_again c (get n.senders k) refl,
+      )
 
   pub toward_again : (c : ℕ) (p : NodeConfig) (l : Lane) → toward p (facts_of c n) l ≡ toward p (facts_of c w) l
   toward_again c p l =

@@ -1,5 +1,5 @@
 //! Paths and PathTears arrive.
-ghost use Rattle.std.specs.Prelude.{◌≡◌, ℕ, true, fold, Some, IfOk, IfErr};
+ghost use Rattle.std.specs.Prelude.{◌≡◌, ℕ, true, fold, is_some, Some, IfOk, IfErr, IfSome};
 ghost use Rattle.std.specs.Option.{option_map};
 ghost use Rattle.rsvp_base.specs.Table.{get};
 ghost use Rattle.rsvp_messages.specs.declared.message.Message.TheVariants as message_of;
@@ -11,17 +11,15 @@ ghost use Rattle.router_rules.specs.Rule.{facts_after, heard_after, sent_after};
 ghost use Rattle.router_state.specs.Changes.{path_came, tear_came};
 ghost use Rattle.router_rules.specs.declared.answers.Heard.TheVariants.{Dropped};
 ghost use Rattle.router_state.specs.State.{State, facts_at, facts_of};
-ghost use Rattle.path_sends.specs.Offering.{as_offer};
-ghost use Rattle.router_core.specs.Renewing.{offer_by};
+ghost use Rattle.path_sends.specs.Renewing.{AreNews, offer_by};
+ghost use Rattle.path_state.specs.declared.fact.PathFact.{PathFact};
 
 use crate::node::Node;
-use object_fields::Adspec;
-use path_sends::{Offered, tell_new};
-use path_state::PathFact;
+use path_sends::{Renewal, tell_renewal};
 use resv_sends::{PriorOffer, offered, tell_sender};
 use router_arrivals::{drop_path, has_path_by, learn_path, path_by, renew_path};
 use router_rules::{Heard, Outbox, Why};
-use router_state::Config;
+use router_state::{Config, Tables};
 use rsvp_base::{Flow, Sender};
 use rsvp_messages::{PathMsg, PathTearMsg};
 
@@ -39,9 +37,8 @@ impl Node {
             Err(why) => return Heard::Dropped(why),
         };
         let session = message.session;
-        let hop = message.hop.addr;
-        if let Some(was) = path_by(&self.tables.paths, session, sender, iface, hop) {
-            return self.renew_path(iface, message, sender, tspec, &was, out);
+        if let Some(renewal) = renewal_by(&self.tables, iface, message, sender, tspec) {
+            return self.renew_path(iface, message, sender, tspec, &renewal, out);
         }
         let near = self.tables.paths.hops(session);
         let before = offered(&self.tables, session, sender);
@@ -65,24 +62,22 @@ impl Node {
         message: &PathMsg,
         sender: Sender,
         tspec: Flow,
-        was: &PathFact,
+        renewal: &Option<Renewal>,
         out: &mut O,
     ) -> Heard
         requires sender { message.now.sender ≡ Some (sender, tspec) }
         requires inward { comes_in self.old.place message.now.session iface sender ≡ true }
-        requires was { option_map (λ e. e.0) (get self.old.paths (message.now.session, sender)) ≡ Some was.now }
+        requires news { (was : PathFact) → option_map (λ e. e.0) (get self.old.paths (message.now.session, sender)) ≡ Some was
+            → AreNews renewal.now (offer_by (get self.old.senders (message.now.session, sender)) was.tspec was.adspec)
+            (offer_by (get self.old.senders (message.now.session, sender)) tspec message.now.adspec) }
         requires stands { (c : ℕ) → is_path_by (iface, message.now.hop.addr) (get (facts_of c self.old).paths (message.now.session, sender)) ≡ true }
         ensures facts { (c : ℕ) → facts_at c self.new ≡ facts_after self.old.place self.old.place c (path_came iface message.now) (facts_at c self.old) }
         ensures heard { (c : ℕ) → result ≡ heard_after self.old.place c iface message.now.session.group (Spelt (message_of.Path message.now)) (facts_at c self.old) }
         ensures sent { (c : ℕ) → out.new ≡ fold O.posted out.old (sent_after self.old.place self.old.place c (path_came iface message.now) (facts_at c self.old)) }
         ensures place { self.new.place ≡ self.old.place }
     {
-        let session = message.session;
-        let own = self.tables.senders.find(session, sender);
         renew_path(&mut self.tables, iface, message, sender, tspec);
-        let before = Some(offer_by(&own, was.tspec, &was.adspec));
-        let after = Some(offer_by(&own, tspec, &message.adspec));
-        tell_new(&self.tables.config, session, sender, &before, &after, out);
+        tell_renewal(&self.tables.config, message.session, sender, renewal, out);
         Heard::Taken
     }
 
@@ -115,14 +110,26 @@ impl Node {
     }
 }
 
-// What is offered of a sender that has a path with this flow and this ADSPEC, by what it announces as a local one.
-fn offer_by(own: &Option<Flow>, tspec: Flow, kept: &Option<Adspec>) -> Offered
-    ensures { as_offer result ≡ offer_by own.now tspec kept.now }
+// What is new about a sender whose path came by the hop that a Path comes from. `None`: its path came by another one, or it has none.
+fn renewal_by(
+    tables: &Tables,
+    iface: u8,
+    message: &PathMsg,
+    sender: Sender,
+    tspec: Flow,
+) -> Option<Option<Renewal>>
+    ensures by { (c : ℕ) (n : State) → n.paths ≡ tables.now.paths.facts
+        → is_some result ≡ is_path_by (iface, message.now.hop.addr) (get (facts_of c n).paths (message.now.session, sender)) }
+    ensures news { IfSome result (λ r. (was : PathFact) → option_map (λ e. e.0) (get tables.now.paths.facts (message.now.session, sender)) ≡ Some was
+        → AreNews r (offer_by (get tables.now.senders (message.now.session, sender)) was.tspec was.adspec)
+        (offer_by (get tables.now.senders (message.now.session, sender)) tspec message.now.adspec)) }
 {
-    match *own {
-        Some(tspec) => Offered::own(tspec),
-        None => Offered::passed(tspec, kept),
-    }
+    let session = message.session;
+    let Some(was) = path_by(&tables.paths, session, sender, iface, message.hop.addr) else {
+        return None;
+    };
+    let own = tables.senders.find(session, sender);
+    Some(Renewal::of(&own, was, tspec, &message.adspec))
 }
 
 // The sender that a Path names, and its flow, where the Path came by the interface that leads to it; else why it is dropped.

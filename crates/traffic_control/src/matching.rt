@@ -32,7 +32,7 @@ pub(crate) fn count(
         let Some(path) = paths.at(session, k) else {
             return count;
         };
-        if is_counted(config, session, style, iface, part, marked, &path) {
+        if is_counted(config, session, style, iface, part, marked, path) {
             count += 1;
         }
     }

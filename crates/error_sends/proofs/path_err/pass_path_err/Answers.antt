@@ -59,7 +59,7 @@ returns-in_default-find-clause-sent g c = λ clock n place senders paths.
 
 pub returns-clause-heard : goal.returns-clause-heard
 returns-clause-heard g c = λ clock n place senders paths.
-    let found = found_path (get c.args.paths.now.facts (c.args.message.now.session, c.in-Some.sender)) c.in-Some-find.path c.in-Some-find.ensures.fact in
+    let found = found_path (get c.args.paths.now.facts (c.args.message.now.session, c.in-Some.sender)) c.in-Some-find.path.now c.in-Some-find.ensures.fact in
     on_heard clock n c.args.iface c.args.message.now c.in-Some.sender c.in-Some.is (ap (λ (p : NodeConfig). goes_out p c.args.message.now.session c.args.iface c.in-Some.sender) place
     ∙ sym c.goes_out.ensures ∙ c.if-not-goes_out.false)
     (ap (λ (t : Table sender_keys TokenBucket). has t (c.args.message.now.session, c.in-Some.sender)) senders ∙ ap is_some (sym c.find.ensures.flow) ∙ sym c.is_some.ensures ∙ c.if-is_some.false)
@@ -67,7 +67,7 @@ returns-clause-heard g c = λ clock n place senders paths.
 
 pub returns-clause-sent : goal.returns-clause-sent
 returns-clause-sent g c = λ clock n place senders paths.
-    let found = found_path (get c.args.paths.now.facts (c.args.message.now.session, c.in-Some.sender)) c.in-Some-find.path c.in-Some-find.ensures.fact in
+    let found = found_path (get c.args.paths.now.facts (c.args.message.now.session, c.in-Some.sender)) c.in-Some-find.path.now c.in-Some-find.ensures.fact in
     let sent = on_sent clock n c.args.iface c.args.message.now c.in-Some.sender c.in-Some.is
     (ap (λ (p : NodeConfig). goes_out p c.args.message.now.session c.args.iface c.in-Some.sender) place ∙ sym c.goes_out.ensures ∙ c.if-not-goes_out.false)
     (ap (λ (t : Table sender_keys TokenBucket). has t (c.args.message.now.session, c.in-Some.sender)) senders ∙ ap is_some (sym c.find.ensures.flow) ∙ sym c.is_some.ensures ∙ c.if-is_some.false)

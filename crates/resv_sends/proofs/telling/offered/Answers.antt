@@ -8,7 +8,7 @@ returns-in-Some c = λ clock said. ap (λ o. Some o) c.own.ensures ∙ own_seen 
 
 pub returns-in-Some-find : goal.returns-in-Some-find
 returns-in-Some-find c = λ clock said. ap (λ o. Some o) c.passed.ensures ∙ path_seen clock (state_of c.args.tables.now said) (c.args.session, c.args.sender) (sym c.in_default.ensures.flow)
-    (Some c.in-Some-find.fact) c.in-Some-find.ensures.fact
+    (Some c.in-Some-find.fact.now) c.in-Some-find.ensures.fact
 
 pub returns-in-None : goal.returns-in-None
 returns-in-None c = λ clock said. path_seen clock (state_of c.args.tables.now said) (c.args.session, c.args.sender) (sym c.in_default.ensures.flow) None c.in-None.ensures.fact

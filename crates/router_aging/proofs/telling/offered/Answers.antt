@@ -7,7 +7,7 @@ returns-in-Some c = ap (λ o. Some o) c.own.ensures ∙ own_offered c.args.sende
 
 pub returns-in-Some-find : goal.returns-in-Some-find
 returns-in-Some-find c = ap (λ o. Some o) c.passed.ensures
-    ∙ path_offered c.args.senders.now c.args.paths.now.facts (c.args.session, c.args.sender) c.in_default.ensures.flow (Some c.in-Some-find.fact) c.in-Some-find.ensures.fact
+    ∙ path_offered c.args.senders.now c.args.paths.now.facts (c.args.session, c.args.sender) c.in_default.ensures.flow (Some c.in-Some-find.fact.now) c.in-Some-find.ensures.fact
 
 pub returns-in-None : goal.returns-in-None
 returns-in-None c = path_offered c.args.senders.now c.args.paths.now.facts (c.args.session, c.args.sender) c.in_default.ensures.flow None c.in-None.ensures.fact

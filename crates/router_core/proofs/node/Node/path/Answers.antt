@@ -1,4 +1,4 @@
-use Rattle.std.proofs.Common.{ℕ, is_some, sym, ap, ◌∙◌, refl}
+use Rattle.std.proofs.Common.{ℕ, is_some, sym, ap, subst, ◌∙◌, refl}
 use Rattle.std.specs.Option.{option_map}
 use Rattle.path_state.specs.declared.fact.PathFact.{PathFact}
 use Rattle.rsvp_base.specs.Table.{empty, get}
@@ -17,6 +17,7 @@ use Rattle.router_arrivals.proofs.Before.{is_before, settled_with}
 use Rattle.router_arrivals.proofs.Doing.{path_comes}
 use Rattle.router_arrivals.proofs.Pathing.{is_full}
 use Rattle.router_arrivals.proofs.Ruled.{heard_is, plain_facts, plain_sent, refused_facts, refused_sent}
+use Rattle.path_sends.specs.Renewing.{AreNews, offer_by}
 use Rattle.router_core.proofs.Told.{not_tried, still_of_place, still_sound, tried, wants_of_place, wants_place, wants_settled, wants_sound}
 use Rattle.router_core.proofs.node.Node.path.Goals as goal
 
@@ -38,15 +39,18 @@ returns-in-Err-clause-sent g c = λ clock.
     refused_sent n c.args.self.now c.self.view_is (λ z. path_came c.args.iface c.args.message.now) refl (heard.Dropped c.in-Err.why) clock c.self.inside.settled
     (c.in-Err.ensures.err clock n refl) g.O.Outbox.posted c.args.out.now
 
-pub renew_path-requires-clause-was : goal.renew_path-requires-clause-was
-renew_path-requires-clause-was g c =
-    ap (λ (z : State). option_map (λ (e : PathFact × ℕ). e.0) (get z.paths (c.args.message.now.session, c.in-Ok.named.0))) (sym c.self.view_is) ∙ c.in-Some.ensures.fact
+pub renew_path-requires-clause-news : goal.renew_path-requires-clause-news
+renew_path-requires-clause-news g c = λ was is.
+    let m = c.args.message.now in
+    let k : SenderKey = (m.session, c.in-Ok.named.0) in
+    subst (λ (z : State). AreNews c.in-Some.renewal (offer_by (get z.senders k) was.tspec was.adspec) (offer_by (get z.senders k) c.in-Ok.named.1 m.adspec)) c.self.view_is
+    (c.in-Some.ensures.news was (ap (λ (z : State). option_map (λ (e : PathFact × ℕ). e.0) (get z.paths k)) c.self.view_is ∙ is))
 
 pub renew_path-requires-clause-stands : goal.renew_path-requires-clause-stands
 renew_path-requires-clause-stands g c = λ clock.
     let m = c.args.message.now in
     ap (λ (z : State). is_path_by (c.args.iface, m.hop.addr) (get (facts_of clock z).paths (m.session, c.in-Ok.named.0))) (sym c.self.view_is)
-    ∙ sym (c.path_by.ensures.by clock (state_of c.self.inside.tables c.self.inside.said) refl) ∙ ap is_some c.in-Some.is
+    ∙ sym (c.renewal_by.ensures.by clock (state_of c.self.inside.tables c.self.inside.said) refl) ∙ ap is_some c.in-Some.is
 
 pub learn_path-requires-clause-pulled : goal.learn_path-requires-clause-pulled
 learn_path-requires-clause-pulled g c =

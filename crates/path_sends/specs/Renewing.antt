@@ -1,0 +1,20 @@
+-- What is offered of a sender whose path is kept anew.
+use Rattle.std.specs.Prelude.{◌≡◌, ℕ, false, Option, Some, None}
+use Rattle.std.specs.Option.{option_map}
+use Rattle.object_fields.specs.declared.adspec.Adspec.{Adspec}
+use Rattle.rsvp_base.specs.TokenBucket.{TokenBucket}
+use Rattle.router_rules.specs.NodeConfig.{NodeConfig}
+use Rattle.router_rules.specs.Offers.{Offer, own_offer}
+use Rattle.router_rules.specs.Sends.{is_new_offer}
+use Rattle.path_sends.specs.declared.renewal.Renewal.{Renewal}
+use Rattle.path_sends.specs.Offering.{as_offer, passed_offer}
+
+-- by what it announces as a local sender, else by its path: the flow, and the ADSPEC that it keeps
+abbrev pub offer_by : Option TokenBucket → TokenBucket → Option Adspec → Offer
+offer_by (Some own) tspec kept = own_offer own
+offer_by None tspec kept = passed_offer tspec kept
+
+-- what was offered and what is offered now; without them the one is new beside the other at no interface
+abbrev pub AreNews : Option Renewal → Offer → Offer → Type 0
+AreNews None old now = (p : NodeConfig) (i : ℕ) → is_new_offer p i now (Some old) ≡ false
+AreNews (Some r) old now = (option_map as_offer r.before ≡ Some old) × (option_map as_offer r.after ≡ Some now)
