@@ -12,14 +12,16 @@ ghost use Rattle.network_model.specs.Worlds.{World};
 ghost use Rattle.settle_resvs.specs.Sessions.{AreExactOf, IsFreeOfBlockadesOf, SessionFits};
 ghost use Rattle.settle_resvs.specs.Toward.{TowardIsTheWant};
 
-/// Toward is the want: where paths are sound and complete, no blockade of a session lives at a node, and its reservations are sound
-/// and exact over the hops that follow, what goes of the session from the node toward a previous hop is what is wanted over its hop.
+/// Toward is the want: in a network within bounds, where paths are sound and complete, no blockade of a session lives at a node, and its
+/// reservations are sound and exact over the hops that follow, what goes of the session from the node toward a previous hop is what is
+/// wanted over its hop.
 pub fn toward_is_the_want()
     ensures { (q : ℕ) (w : World) → AreBounds q w → ArePathsSound w → ArePathsComplete w → TowardIsTheWant q w }
 {}
 
-/// Reservations of a session are exact: where besides no blockade of it lives from now on, 2 H + 1 calm rounds on what stands of it in
-/// a style over a hop is exactly what is wanted over it, unit by unit.
+/// Reservations of a session are exact: in a network within bounds with hosts, where from now on paths are sound and complete,
+/// reservations are sound and no blockade of the session lives, and the session fits, 2 H + 1 calm rounds on what stands of it in a
+/// style over a hop is exactly what is wanted over it, unit by unit.
 pub fn reservations_become_exact()
     ensures { (q : ℕ) (s : Session) (w : World) (rs : List (List Step)) → Rounds (machine q) rs w → AreHosts w → SessionFits w.net (locals_of w) s → AreBounds q w
         → Hold (machine q) 0 rs w (λ u. (ArePathsSound u × (ArePathsComplete u × AreResvsSound u)) × IsFreeOfBlockadesOf s u)

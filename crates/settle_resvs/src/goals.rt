@@ -35,13 +35,13 @@ pub fn a_session_has_one_style()
     ensures { (net : Net) (l : Locals) (s : Session) → SessionFits net l s → HasOneStyle net l s }
 {}
 
-/// The goal of a node by interface is within the limits of its goal, and the book of an interface is that of its end.
+/// In a valid network the goal of a node by interface is within the limits of its goal, and the book of an interface is that of its end.
 pub fn the_goal_by_iface()
     ensures { (net : Net) (l : Locals) (n : ℕ) → IsValid net → IsTheGoalByIface net l n }
 {}
 
-/// Where a session fits, the node of an end that carries it can hold its goal, as far as the session goes there: within the limits of
-/// its tables, and at the interface within capacity and MTU.
+/// In a valid network, where a session fits, the node of an end that carries it can hold its goal, as far as the session goes there:
+/// within the limits of its tables, and at the interface within capacity and MTU.
 pub fn a_session_that_fits_can_be_held()
     ensures { (q : ℕ) (net : Net) (trees : List (Addr × Addr)) (l : Locals) (s : Session) (e : ℕ) → IsValid net → SessionFits net l s → Carries net l s e
         → CanBeHeld (config_of q net trees (node_of net.ends e)) s (iface_of net.ends e) (goal_at net l (node_of net.ends e)) }

@@ -15,10 +15,10 @@ ghost use Rattle.settle_resvs.specs.Said.{HopKey, IsSaid, hop_over, resv_key};
 use calm_rounds::Claim;
 use rsvp_base::Part;
 
-/// One hop settles, for a reservation: where all Resvs that a next hop sends to an end from now on ask, for a session, style
-/// and unit, for what is allowed or for nothing, from the fifth calm round on the reservation there is one that is allowed,
-/// and the Resvs in flight ask only for that. With each part each cut of it is allowed. The next hop is any address: a
-/// left-over reservation of one that no end has dies out too.
+/// One hop settles, for a reservation: in a network within bounds, where all Resvs that a next hop sends to an end from now on
+/// ask, for a session, style and unit, for what is allowed or for nothing, from the fifth calm round on the reservation there
+/// is one that is allowed, and the Resvs in flight ask only for that. With each part each cut of it is allowed. The next hop is
+/// any address: a left-over reservation of one that no end has dies out too.
 pub fn only_said_resvs_are_kept()
     ensures { (q : ℕ) (w : World) (k : ResvKey) → k.to < length w.net.ends → (allowed : Part → Bool) → AllowsCuts allowed → (rs : List (List Step)) → Rounds (machine q) rs w → AreBounds q w
         → Hold (machine q) 0 rs w (SaysOnly (machine q) (soft_resv q w k) (λ v. allowed v ≡ true) w.made)
@@ -32,10 +32,10 @@ pub fn only_resvs_as_claimed_are_kept<P: Claim<Part>>()
         → Hold (machine q) 5 rs w (λ u. KeepsOnly (machine q) (soft_resv q w k) P.holds u × SaysOnly (machine q) (soft_resv q w k) P.holds 0 u) }
 {}
 
-/// One hop settles, for a reservation: where from now on each Resv of a session and style that is sent back over a hop of
-/// a tree carries a part for a unit, no such ResvTear takes a name of the part, what arrives is taken, the node that asks has something to ask
-/// for, and the node that keeps knows the senders of the part, two calm rounds on the reservation there is the part, and stays
-/// so.
+/// One hop settles, for a reservation: in a network within bounds, where from now on each Resv of a session and style that is
+/// sent back over a hop of a tree carries a part for a unit, no such ResvTear takes a name of the part, what arrives is taken,
+/// the node that asks has something to ask for, and the node that keeps knows the senders of the part, two calm rounds on the
+/// reservation there is the part, and stays so.
 pub fn said_resvs_are_kept()
     ensures { (q : ℕ) (w : World) (k : HopKey) (v : Part) → In (hop_over k) (hops_of w.net.hops k.session.group) → (rs : List (List Step)) → Rounds (machine q) rs w → AreBounds q w
         → Hold (machine q) 0 rs w (IsSaid q w.net k v w.made) → Hold (machine q) 2 rs w (Stands (machine q) (soft_resv q w (resv_key w.net k)) v) }

@@ -10,15 +10,16 @@ ghost use Rattle.network_model.specs.Worlds.{World};
 ghost use Rattle.settle_resvs.specs.Below.{TowardIsAtMostTheWant};
 ghost use Rattle.settle_resvs.specs.LeftOverExample.{AReservationIsLost, NothingIsReservedYet};
 
-/// Toward is at most the want: where paths are sound, and a node's reservations name only live senders over their hops and are
-/// sound over the hops that follow, what goes from the node toward a previous hop is at most what is wanted over its hop.
+/// Toward is at most the want: in a network within bounds, where paths are sound, and a node's reservations name only live senders
+/// over their hops and are sound over the hops that follow, what goes from the node toward a previous hop is at most what is wanted
+/// over its hop.
 pub fn toward_is_at_most_the_want()
     ensures { (q : ℕ) (w : World) → AreBounds q w → ArePathsSound w → TowardIsAtMostTheWant q w }
 {}
 
-/// Reservations are sound: where paths are sound, 5 H + 5 calm rounds on, each reservation that a node keeps, of whatever style
-/// and next hop, and each unit of each Resv in flight is at most what is wanted over its hop; H is the length of the longest
-/// chain.
+/// Reservations are sound: in a network within bounds, where paths are sound from now on, 5 H + 5 calm rounds on, each reservation
+/// that a node keeps, of whatever style and next hop, and each unit of each Resv in flight is at most what is wanted over its hop; H
+/// is the length of the longest chain.
 pub fn reservations_are_sound()
     ensures { (q : ℕ) (w : World) (rs : List (List Step)) → Rounds (machine q) rs w → AreBounds q w → Hold (machine q) 0 rs w ArePathsSound
         → Hold (machine q) (5 + 5 * longest w.net) rs w AreResvsSound }
