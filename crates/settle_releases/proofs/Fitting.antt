@@ -1,7 +1,8 @@
--- Where no more is wanted than before, each session fits that did.
+-- Where no more is wanted than before, each session fits that did, and so do the demands.
 use Rattle.std.proofs.Common.{◌≡◌, ℕ, List, [], ◌∷◌, Some, arith, sym, refl, ap, subst, ◌∙◌, Bool}
 use Rattle.std.proofs.lemmas.Bool.{not-true}
 use Rattle.std.specs.List.{filter, flat_map}
+use Rattle.rsvp_base.specs.declared.entry_key.EntryKey.{EntryKey}
 use Rattle.rsvp_base.specs.declared.part.Part.{Part}
 use Rattle.rsvp_base.specs.declared.session.Session.{Session}
 use Rattle.rsvp_base.specs.declared.style.StyleKind.{StyleKind}
@@ -21,7 +22,8 @@ use Rattle.style_rules.proofs.Books.{book_below, held_at_end_below, under_at_end
 use Rattle.style_rules.proofs.Room.{within_below}
 use Rattle.router_rules.specs.Facts.{Facts}
 use Rattle.tree_model.specs.declared.hops.LinkHop.{LinkHop}
-use Rattle.tree_model.specs.Goals.{addr_of, goal, hop_lines, hops_in_order, sessions_named}
+use Rattle.tree_model.specs.declared.locals.LocalWant.{LocalWant}
+use Rattle.tree_model.specs.Goals.{DemandsFit, addr_of, demand_of, goal, hop_lines, hops_in_order, sessions_named}
 use Rattle.tree_model.specs.Networks.{node_of}
 use Rattle.tree_model.specs.Trees.{goes_out_of, hops_of}
 use Rattle.tree_model.specs.Wants.{Locals, want}
@@ -35,29 +37,31 @@ use Rattle.settle_resvs.specs.Sessions.{Carries, SessionFits}
 use Rattle.settle_resvs.proofs.GoalByIface.{hop_in_order}
 use Rattle.settle_resvs.proofs.UnderTheGoal.{goal_made}
 use Rattle.settle_resvs.proofs.WantStyles.{want_style}
-use Rattle.settle_passes.proofs.Growing.{sound_grows}
+use Rattle.settle_passes.proofs.Growing.{HasNoLess, sound_grows}
 use Rattle.settle_releases.proofs.Within.{WantedMore, as_before}
 use Rattle.tree_model.specs.Valid.{IsValid}
 
-module _ (before : List Facts) (w : World) (valid : IsValid w.net) (parts : AreWantParts (locals_of w)) (more : WantedMore before w) where
+-- what is wanted over a hop is sound there
+pub want_is_sound : (w : World) → AreWantParts (locals_of w) → (st : StyleKind) (s : Session) (h : LinkHop) → In h (hops_of w.net.hops s.group) → (u : UnitOf) (p : Part)
+    → get (want st w.net (locals_of w) s h) u ≡ Some p → IsSoundPart st w s h.from (addr_of w.net h.to) u p
+want_is_sound w parts st s h there u p got = record {
+  some = some_name p.senders (not-true (is_none p.senders) (want_style st w.net (locals_of w) s parts h u p got).0.named);
+  hop = h;
+  there = there;
+  from = refl;
+  to = refl;
+  wanted = p;
+  is = got;
+  below = part_at_most_tested p p (part_at_most_itself p);
+}
+
+-- ---- where with the nodes as they were what is wanted over a hop was, and no less
+module _ (before : List Facts) (w : World)
+    (wanted_before : (st : StyleKind) (s : Session) (h : LinkHop) → In h (hops_of w.net.hops s.group) → (u : UnitOf) (p : Part) → get (want st w.net (locals_of w) s h) u ≡ Some p
+    → IsSoundPart st (as_before before w) s h.from (addr_of w.net h.to) u p)
+    (wants : (x : LocalWant) → In x (locals_of w).wants → HasNoLess (locals_of (as_before before w)).wants x) where
   abbrev was : Locals
   was = locals_of (as_before before w)
-
-  -- what is wanted over a hop was, and no less
-  wanted_before : (st : StyleKind) (s : Session) (h : LinkHop) → In h (hops_of w.net.hops s.group) → (u : UnitOf) (p : Part) → get (want st w.net (locals_of w) s h) u ≡ Some p
-      → IsSoundPart st (as_before before w) s h.from (addr_of w.net h.to) u p
-  wanted_before st s h there u p got =
-      sound_grows st w (as_before before w) refl valid.loop_free parts more.parts (sym more.senders) more.wants s h.from (addr_of w.net h.to) u p
-      (record {
-        some = some_name p.senders (not-true (is_none p.senders) (want_style st w.net (locals_of w) s parts h u p got).0.named);
-        hop = h;
-        there = there;
-        from = refl;
-        to = refl;
-        wanted = p;
-        is = got;
-        below = part_at_most_tested p p (part_at_most_itself p);
-      })
 
   -- what is owed over each hop out of a node lies under what was
   under : (n : ℕ) → AreUnder (goal w.net (locals_of w) n) (goal w.net was n)
@@ -89,25 +93,52 @@ module _ (before : List Facts) (w : World) (valid : IsValid w.net) (parts : AreW
       let y = wanted_before c.style s c.hop c.there c.unit c.part c.wanted in
       record { hop = y.hop; there = y.there; from = y.from ∙ c.from; style = c.style; unit = c.unit; part = y.wanted; wanted = y.is }
 
+  -- what is owed at an end was, and no less
+  owed : (e : ℕ) (k : EntryKey) (p : Part) → get (demand_of w.net (locals_of w) e) k ≡ Some p → (y : Part) × (get (demand_of w.net was e) k ≡ Some y) × IsPartAtMost p y
+  owed e k p got =
+      let n : ℕ = node_of w.net.ends e in
+      book_below (at_end e (goal w.net (locals_of w) n)) (at_end e (goal w.net was n)) (under_at_end e (goal w.net (locals_of w) n) (goal w.net was n) (under n)) k p got
+
   -- so a session that fitted fits
-  pub less_fits : (s : Session) → SessionFits w.net was s → SessionFits w.net (locals_of w) s
-  less_fits s fit = record {
+  pub session_below : (s : Session) → SessionFits w.net was s → SessionFits w.net (locals_of w) s
+  session_below s fit = record {
     capacity = λ e x is c.
         let n : ℕ = node_of w.net.ends e in
         let less = held_at_end_below e (goal w.net (locals_of w) n) (goal w.net was n) (under n) in
         let room = fit.capacity e x is (carried s e c) in
         omega (arith, less, room);
-    mtu = λ e x k p is of got.
-        let n : ℕ = node_of w.net.ends e in
-        let y = book_below (at_end e (goal w.net (locals_of w) n)) (at_end e (goal w.net was n)) (under_at_end e (goal w.net (locals_of w) n) (goal w.net was n) (under n)) k p got in
-        let less = y.2.flow.most in
-        let room = fit.mtu e x k y.0 is of y.1 in
-        omega (arith, less, room);
+    mtu = λ e x k p is of got. let y = owed e k p got in let less = y.2.flow.most in let room = fit.mtu e x k y.0 is of y.1 in omega (arith, less, room);
     one_style = λ v x i j mine others.
-        let a = more.wants v i in
-        let b = more.wants x j in
+        let a = wants v i in
+        let b = wants x j in
         sym a.style ∙ fit.one_style a.want b.want a.among b.among (a.session ∙ mine) (b.session ∙ others) ∙ b.style;
     limits = λ e st c.
         let n : ℕ = node_of w.net.ends e in
         within_below st (goal w.net (locals_of w) n) (goal w.net was n) (under n) (fit.limits e st (carried s e c));
   }
+
+  -- and demands that fitted fit
+  pub demands_below : DemandsFit w.net was → DemandsFit w.net (locals_of w)
+  demands_below fit = record {
+    capacity = λ e x is.
+        let n : ℕ = node_of w.net.ends e in
+        let less = held_at_end_below e (goal w.net (locals_of w) n) (goal w.net was n) (under n) in
+        let room = fit.capacity e x is in
+        omega (arith, less, room);
+    mtu = λ e x k p is got. let y = owed e k p got in let less = y.2.flow.most in let room = fit.mtu e x k y.0 is y.1 in omega (arith, less, room);
+    one_style = λ v x i j same.
+        let a = wants v i in
+        let b = wants x j in
+        sym a.style ∙ fit.one_style a.want b.want a.among b.among (a.session ∙ same ∙ sym b.session) ∙ b.style;
+    limits = λ n st. within_below st (goal w.net (locals_of w) n) (goal w.net was n) (under n) (fit.limits n st);
+  }
+
+-- ---- where the same hosts sent, and wanted no less
+module _ (before : List Facts) (w : World) (valid : IsValid w.net) (parts : AreWantParts (locals_of w)) (more : WantedMore before w) where
+  more_wanted : (st : StyleKind) (s : Session) (h : LinkHop) → In h (hops_of w.net.hops s.group) → (u : UnitOf) (p : Part) → get (want st w.net (locals_of w) s h) u ≡ Some p
+      → IsSoundPart st (as_before before w) s h.from (addr_of w.net h.to) u p
+  more_wanted st s h there u p got =
+      sound_grows st w (as_before before w) refl valid.loop_free parts more.parts (sym more.senders) more.wants s h.from (addr_of w.net h.to) u p (want_is_sound w parts st s h there u p got)
+
+  pub less_fits : (s : Session) → SessionFits w.net (locals_of (as_before before w)) s → SessionFits w.net (locals_of w) s
+  less_fits s fit = session_below before w more_wanted more.wants s fit

@@ -106,6 +106,28 @@ cond_none : (b : Bool) (o : Option Addr) → o ≡ None → cond b o None ≡ No
 cond_none true o e = e
 cond_none false o e = refl
 
+-- a node none of whose wants has a mark asks nobody to be confirmed, where no message is answered that did
+module _ (p : NodeConfig) (c : ℕ) (input : Input) (f : Facts) (asked : (act p c input f).asked ≡ None)
+    (unmarked : (k : WantKey) (x : Want) → get (act p c input f).facts.wants k ≡ Some x → x.confirm ≡ false) where
+  abbrev made : Facts
+  made = settled p c f (act p c input f).facts
+
+  no_marks : (l : Lane) → marked_units p made l ≡ []
+  no_marks l =
+      ap (λ (xs : List (UnitOf × Want)). each (λ (e : UnitOf × Want). e.0) xs)
+      (none_in (filter (is_marked p made l) (wants_in made l.session).rows)
+      (λ e i.
+      let t = in_filter (is_marked p made l) e (wants_in made l.session).rows i in
+      let there : get made.wants (l.session, e.0) ≡ Some e.1 = sym (get-under sessions units made.wants l.session e.0) ∙ in_found units (wants_in made l.session) e.0 e.1 t.0 in
+      let bad : true ≡ false = sym (and_both _ _ t.1).0 ∙ unmarked (l.session, e.0) e.1 there in
+      cc))
+
+  no_wish : (l : Lane) → confirm_for p made l (act p c input f).asked ≡ None
+  no_wish l = ap (confirm_for p made l) asked ∙ ap (own_wish p l) (no_marks l)
+
+  pub resv_plain : (s : Send) → IsResv p p f made (act p c input f) s → (m : ResvMsg) × (s.message ≡ message.Resv m) × (m.confirm ≡ None)
+  resv_plain s x = (_, ap (λ (z : Send). z.message) x.is, cond_none (is_changed p p f made x.lane) (confirm_for p made x.lane (act p c input f).asked) (no_wish x.lane))
+
 module _ (p : NodeConfig) (c : ℕ) (input : Input) (f : Facts) (q : IsUnanswered p c input f) where
   abbrev change : Change
   change = act p c input f
@@ -123,19 +145,6 @@ module _ (p : NodeConfig) (c : ℕ) (input : Input) (f : Facts) (q : IsUnanswere
       let bad : true ≡ false = sym x.why ∙ (λ j. q.fired x.key.session j || new j) in
       cc
 
-  no_marks : (l : Lane) → marked_units p after l ≡ []
-  no_marks l =
-      ap (λ (xs : List (UnitOf × Want)). each (λ (e : UnitOf × Want). e.0) xs)
-      (none_in (filter (is_marked p after l) (wants_in after l.session).rows)
-      (λ e i.
-      let t = in_filter (is_marked p after l) e (wants_in after l.session).rows i in
-      let there : get after.wants (l.session, e.0) ≡ Some e.1 = sym (get-under sessions units after.wants l.session e.0) ∙ in_found units (wants_in after l.session) e.0 e.1 t.0 in
-      let bad : true ≡ false = sym (and_both _ _ t.1).0 ∙ q.unmarked (l.session, e.0) e.1 there in
-      cc))
-
-  no_wish : (l : Lane) → confirm_for p after l change.asked ≡ None
-  no_wish l = ap (confirm_for p after l) q.asked ∙ ap (own_wish p l) (no_marks l)
-
   -- it sends such alone
   pub sends_plain : (s : Send) → In s (sent_then p p c input f) → IsPlain s.message
   sends_plain s i =
@@ -146,9 +155,7 @@ module _ (p : NodeConfig) (c : ℕ) (input : Input) (f : Facts) (q : IsUnanswere
       (λ k. ⊎_elim (λ (x : IsConf p p f after change s).
       let none : change.confs ++ confirmed p p f after change.asked ≡ [] = (λ j. q.confs j ++ confirmed p p f after (q.asked j)) in
       absurd (subst (λ (zs : List ConfSend). In x.conf zs) none x.made))
-      (λ k. ⊎_elim (λ (x : IsPath p p f after change s). absurd (no_path s x))
-      (λ (x : IsResv p p f after change s).
-      inl (_, ap (λ (z : Send). z.message) x.is, cond_none (is_changed p p f after x.lane) (confirm_for p after x.lane change.asked) (no_wish x.lane))) k) k) k) k)
+      (λ k. ⊎_elim (λ (x : IsPath p p f after change s). absurd (no_path s x)) (λ (x : IsResv p p f after change s). inl (resv_plain p c input f q.asked q.unmarked s x)) k) k) k) k)
       (send_told p p c input f s i)
 
 -- ---- a ResvTear that comes
@@ -240,7 +247,7 @@ IsPlainItem net y =
 
 module _ (q : ℕ) (t : Step) (u : World) (bounds : AreBounds q u) (turns : (n : ℕ) (f : Facts) → slice_get u.nodes n ≡ Some f → (outcome q t u n f ≡ still f) ⊎ Turns q t u n f)
     (bounds' : AreBounds q (left q t u)) (sound : ArePathsSound (left q t u)) where
-  goes_back : (y : Item) (b : Bool) (m : ResvTearMsg) → In (y, b) (sent q t u) → y.arrival ≡ Spelt (message.ResvTear m) → IsBackOver u.net y m
+  pub goes_back : (y : Item) (b : Bool) (m : ResvTearMsg) → In (y, b) (sent q t u) → y.arrival ≡ Spelt (message.ResvTear m) → IsBackOver u.net y m
   goes_back y b m i spelt =
       let r = sent_in_turn q t u bounds turns y b (message.ResvTear m) i spelt in
       let p : NodeConfig = place q t u r.node in
@@ -305,18 +312,18 @@ not_marked : (a b : Bool) → (a ≡ true → b ≡ true) → b ≡ false → a 
 not_marked true b up e = let bad : true ≡ false = sym (up refl) ∙ e in absurd (cc)
 not_marked false b up e = refl
 
-unmarked_in_turn : (q : ℕ) (t : Step) (u : World) → ((n : ℕ) (f : Facts) → slice_get u.nodes n ≡ Some f → (outcome q t u n f ≡ still f) ⊎ Turns q t u n f)
-    → ((n : ℕ) (f : Facts) → slice_get u.nodes n ≡ Some f → (h : Turns q t u n f) → IsUnanswered (place q t u n) (moment q t u) h.input f) → HasNoMark u → HasNoMark (step q t u)
+pub unmarked_in_turn : (q : ℕ) (t : Step) (u : World) → ((n : ℕ) (f : Facts) → slice_get u.nodes n ≡ Some f → (outcome q t u n f ≡ still f) ⊎ Turns q t u n f)
+    → ((n : ℕ) (f : Facts) → slice_get u.nodes n ≡ Some f → (h : Turns q t u n f) → (k : WantKey) (x : Want) → get (act (place q t u n) (moment q t u) h.input f).facts.wants k ≡ Some x
+    → x.confirm ≡ false) → HasNoMark u → HasNoMark (step q t u)
 unmarked_in_turn q t u follows quiet unmarked n g k x at h =
     let f = facts_after_found q t u n g at in
     let now : get (outcome q t u n f.0).facts.wants k ≡ Some x = ap (λ (z : Facts). get z.wants k) (sym f.2) ∙ h in
     ⊎_elim (λ (z : outcome q t u n f.0 ≡ still f.0). unmarked n f.0 k x f.1 (sym (ap (λ (o : Outcome). get o.facts.wants k) z) ∙ now))
     (λ (d : Turns q t u n f.0).
     let p : NodeConfig = place q t u n in
-    let v = quiet n f.0 f.1 d in
     let marks = wants_then p p (moment q t u) d.input f.0 in
     let b = marks.source k x (sym (ap (λ (o : Outcome). get o.facts.wants k) d.is) ∙ now) in
-    not_marked x.confirm b.0.confirm b.3 (v.unmarked k b.0 b.1))
+    not_marked x.confirm b.0.confirm b.3 (quiet n f.0 f.1 d k b.0 b.1))
     (follows n f.0 f.1)
 
 -- ---- one delivery
@@ -366,7 +373,7 @@ module _ (q : ℕ) (before : List Facts) (u : World) (r : IsSilent q before u) w
         ⊎_elim (λ (old : In y u.flight). r.plain y old)
         (λ (new : (b : Bool) × In (y, b) (sent q (Deliver 0) u)).
         plain_in_turn q (Deliver 0) u bounds follows (receding_on some_session).paths.bounds (receding_on some_session).paths.sound quiet y new.0 new.1) (in_flight_after q (Deliver 0) u y refl i);
-    unmarked = unmarked_in_turn q (Deliver 0) u follows quiet r.unmarked;
+    unmarked = unmarked_in_turn q (Deliver 0) u follows (λ n f at h. (quiet n f at h).unmarked) r.unmarked;
   }
 
 -- ---- passes
@@ -431,7 +438,7 @@ module _ (q n : ℕ) (call : Local) (before : List Facts) (w : World) (r : IsSil
         (λ (new : (b : Bool) × In (y, b) (sent q (At n call) w)).
         plain_in_turn q (At n call) w (r.receding some_session).paths.bounds follows_then (recede some_session).paths.bounds (recede some_session).paths.sound quiet_then y new.0 new.1)
         (in_flight_then q n call w (r.receding some_session).paths fit spares y i);
-    unmarked = unmarked_in_turn q (At n call) w follows_then quiet_then r.unmarked;
+    unmarked = unmarked_in_turn q (At n call) w follows_then (λ m f at h. (quiet_then m f at h).unmarked) r.unmarked;
   }
 
 -- a settled network in which nothing is in flight and nobody waits to be confirmed

@@ -14,8 +14,8 @@ ghost use Rattle.settle_passes.specs.Reserving.{HasReserved, IsReserving, after_
 ghost use Rattle.settle_releases.specs.Releases.{AsksNoMore, HasNoMark, after_quits};
 
 /// A settled network has settled again H passes after receivers quit, without waiting: those of one node or of several, one session or
-/// more, at the same moment, in a network in which nothing is in flight and whose demands fit. What is held then is what the others want,
-/// hop by hop, and nobody waits for a lifetime. H is the length of the longest chain.
+/// more, at the same moment, in a network within bounds with hosts, in which nothing is in flight and whose demands fit. What is held then
+/// is what the others want, hop by hop, and nobody waits for a lifetime. H is the length of the longest chain.
 pub fn a_settled_network_releases()
     ensures { (q : ℕ) (xs : List (ℕ × Session)) (w : World) → IsStart q w → HasSettled q w → w.flight ≡ [] → HasSettled q (after_passes q (longest w.net) (after_quits q xs w)) }
 {}
@@ -28,7 +28,8 @@ pub fn a_release_leaves_nothing_in_flight()
 {}
 
 /// So it has H passes after a receiver asks for less: for no more than its node did before, as for a smaller flow, or with a shared filter
-/// for fewer senders. With a fixed filter, what its node wants of other senders stays.
+/// for fewer senders. With a fixed filter, what its node wants of other senders stays. It need not have where one call asks for less of one
+/// sender and for more of another, though all fits before and after (`settle_passes::a_trade_is_refused`).
 pub fn a_settled_network_serves_less()
     ensures { (q n : ℕ) (s : Session) (st : StyleKind) (names : Names) (flow : TokenBucket) (confirm : Bool) (w : World) → IsStart q w → HasSettled q w → w.flight ≡ []
         → IsFitList st names → IsSound flow → AsksNoMore w n s st names flow confirm
@@ -42,8 +43,9 @@ pub fn less_leaves_nothing_in_flight()
         → (after_passes q (longest w.net) (after_want q n s st names flow false w)).flight ≡ [] }
 {}
 
-/// And the next may quit then, or ask (`settle_passes::a_receiver_is_set_up`): a network that reserves each session, as exactly as it is
-/// wanted and with no Resv in flight, does so again H passes after receivers quit. That its demands fit is in that, before and after.
+/// And the next may quit then, or ask (`settle_passes::a_receiver_is_set_up`): a network that sets up each session and has reserved it, as
+/// exactly as it is wanted and with no Resv in flight, does so again H passes after receivers quit. That it is within bounds with hosts, and
+/// that each session fits, is in that, before and after.
 pub fn a_reserved_network_releases()
     ensures { (q : ℕ) (xs : List (ℕ × Session)) (w : World) → ((s : Session) → IsReserving q s w × HasReserved s w) → (s : Session)
         → IsReserving q s (after_passes q (longest w.net) (after_quits q xs w)) × HasReserved s (after_passes q (longest w.net) (after_quits q xs w)) }
