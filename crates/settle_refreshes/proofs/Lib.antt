@@ -1,0 +1,12 @@
+pub mod Sources
+pub mod Confirming
+pub mod NodeSends
+pub mod Fading
+pub mod Resting
+pub mod Going
+pub mod PathErrors
+pub mod ResvErrors
+pub mod OneSender
+pub mod Waiting
+pub mod Settled
+pub mod Worked

@@ -1,0 +1,30 @@
+//! The laws.
+ghost use Rattle.std.specs.Prelude.{◌+◌, ◌*◌, ◌≤◌, ℕ, List, length};
+ghost use Rattle.calm_rounds.specs.Hold.{Hold};
+ghost use Rattle.calm_rounds.specs.Rounds.{Rounds, run_rounds};
+ghost use Rattle.tree_model.specs.Ranks.{longest};
+ghost use Rattle.network_model.specs.Bounds.{IsStart};
+ghost use Rattle.network_model.specs.Steps.{Step, machine};
+ghost use Rattle.network_model.specs.Worlds.{World};
+ghost use Rattle.settle_refreshes.specs.Refreshes.{HasNothingElse, HasOnlyRefreshes, NothingGoesRound};
+
+/// From any start, in each world 13 H + 14 calm rounds on, nothing is in flight but Paths, Resvs that ask for no confirmation, ResvConfs,
+/// and ResvErrs with a fixed or a shared filter that name nobody. Tears, PathErrs, ResvErrs that name senders, requests for a
+/// confirmation and bytes that spell no message are gone, whatever was in flight.
+pub fn what_is_left_in_flight()
+    ensures { (q : ℕ) (w : World) (rs : List (List Step)) → Rounds (machine q) rs w → IsStart q w → Hold (machine q) (13 * longest w.net + 14) rs w HasNothingElse }
+{}
+
+/// And 14 H + 15 calm rounds on only refreshes are in flight, where at the start nothing goes round: of a session with several senders no
+/// ResvErr with a fixed or a shared filter that names nobody is in flight, nor a bad Resv that is answered by one; and if a session has
+/// several senders, nobody waits for a confirmation.
+pub fn only_refreshes_are_in_flight()
+    ensures { (q : ℕ) (w : World) (rs : List (List Step)) → Rounds (machine q) rs w → IsStart q w → NothingGoesRound w
+        → Hold (machine q) (14 * longest w.net + 15) rs w HasOnlyRefreshes }
+{}
+
+/// So it is at the end of so many calm rounds, or of more: the premise on what is in flight of the laws on the refresh overhead.
+pub fn rounds_end_in_refreshes()
+    ensures { (q : ℕ) (w : World) (rs : List (List Step)) → Rounds (machine q) rs w → IsStart q w → NothingGoesRound w → 14 * longest w.net + 15 ≤ length rs
+        → HasOnlyRefreshes (run_rounds (machine q) rs w) }
+{}
