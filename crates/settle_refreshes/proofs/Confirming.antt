@@ -1,6 +1,5 @@
 -- Where a wish to be confirmed comes from, and the confirmations that go on.
-use Rattle.std.proofs.Common.{◌≡◌, ◌⊎◌, ℕ, List, [], ◌∷◌, Bool, true, false, cond, Option, None, Some, inl, inr, ⊎_elim, sym, refl, ap, subst, ◌∙◌}
-use Rattle.std.specs.Prelude.{not, ◌&&◌}
+use Rattle.std.proofs.Common.{◌≡◌, ◌⊎◌, ℕ, List, [], ◌∷◌, Bool, true, false, Option, None, Some, inl, inr, ⊎_elim, sym, refl, ap, subst, ◌∙◌}
 use Rattle.admission_book.specs.declared.refused.Refused.{Refused}
 use Rattle.rsvp_base.specs.declared.addr.Addr.{Addr}
 use Rattle.rsvp_base.specs.declared.part.Part.{Part}
@@ -22,20 +21,17 @@ use Rattle.style_rules.specs.Lines.{LineKey, line_keys}
 use Rattle.router_rules.specs.Act.{act, act_spelt, is_mine}
 use Rattle.router_rules.specs.Asking.{Asker, Taking, act_resv, act_resv_tear, asker_of, book_refuses, confirm_kept, has_room, key_at, lost, matched, names_one, names_that_match, nothing_taken}
 use Rattle.router_rules.specs.Asking.{or_kept, put_tested, put_unit, resv_state, stays, style_conflict, table_with, take_unit, take_units, taking, taking_of, tell_lost, torn_resvs}
-use Rattle.router_rules.specs.Confirming.{confs_heard, confs_on, is_wish, with_confs}
+use Rattle.router_rules.specs.Confirming.{confs_heard, confs_on, with_confs}
 use Rattle.router_rules.specs.Facts.{Facts, ResvState, Resvs, resvs_of, with_resvs}
-use Rattle.router_rules.specs.Inputs.{Call, Came, Change, Clear, ConfSend, Input, Moved, Spelt, Unspelt, Wait}
+use Rattle.router_rules.specs.Inputs.{Call, Came, Clear, ConfSend, Input, Moved, Spelt, Unspelt, Wait}
 use Rattle.router_rules.specs.Known.{known}
-use Rattle.router_rules.specs.NodeConfig.{NodeConfig, is_own, own}
+use Rattle.router_rules.specs.NodeConfig.{NodeConfig, is_own}
 use Rattle.router_rules.specs.Steps.{facts_then, is_calm}
 use Rattle.style_rules.specs.Parts.{part_of}
 use Rattle.laws_inputs.specs.MessageLaws.{IsConfOn}
 use Rattle.laws_inputs.specs.RuleLaws.{IsLeft}
-use Rattle.laws_inputs.proofs.Framing.{act_resvs}
 use Rattle.laws_inputs.proofs.Leaving.{forgetting_by_names, left_told, waiting_leaves_the_living}
 use Rattle.laws_inputs.proofs.Receiving.{conf_told, resv_tears_by_names}
-use Rattle.laws_inputs.proofs.Ruling.{rule_in_parts}
-use Rattle.laws_inputs.proofs.Tests.{addr_told}
 use Rattle.laws_inputs.proofs.Wholes.{resvs_in_steps}
 
 -- ---- a confirmation that goes on has come, and somebody wanted to hear it
@@ -172,9 +168,11 @@ torn_wish e m f st k a r =
     ⊎_elim
     (λ (z : (st ≡ tear_style m.tear) × (get (torn_resvs (names_one m.session (e, m.hop.addr) (tear_names m.tear) (resvs_of (tear_style m.tear) f)) m.session (e, m.hop.addr) (tear_names m.tear)
     (resvs_of (tear_style m.tear) f)) k ≡ Some r.0)).
-    let s = resv_tears_by_names.source e m f k r.0 (subst (λ (y : StyleKind). get (resvs_of y (act_resv_tear e m f).facts) k ≡ Some r.0) z.0 r.1) in
-    (s.0, subst (λ (y : StyleKind). get (resvs_of y f) k ≡ Some s.0) (sym z.0) s.1,
-    ⊎_elim (λ (is : r.0 ≡ s.0). ap (λ (y : ResvState). y.confirm) (sym is) ∙ r.2) (λ (is : IsLeft (stays (tear_names m.tear)) s.0 r.0). sym is.confirm ∙ r.2) s.2))
+    let s = resv_tears_by_names.source e m f k r.0 (subst (λ (y : StyleKind). get (resvs_of y (act_resv_tear e m f).facts) k ≡ Some r.0) z.0 r.1) in (
+      s.0,
+      subst (λ (y : StyleKind). get (resvs_of y f) k ≡ Some s.0) (sym z.0) s.1,
+      ⊎_elim (λ (is : r.0 ≡ s.0). ap (λ (y : ResvState). y.confirm) (sym is) ∙ r.2) (λ (is : IsLeft (stays (tear_names m.tear)) s.0 r.0). sym is.confirm ∙ r.2) s.2,
+    ))
     (λ (z : get (resvs_of st f) k ≡ Some r.0). (r.0, z, r.2))
     (style_at st (tear_style m.tear) (torn_resvs (names_one m.session (e, m.hop.addr) (tear_names m.tear) (resvs_of (tear_style m.tear) f)) m.session (e, m.hop.addr) (tear_names m.tear)
     (resvs_of (tear_style m.tear) f)) f k r.0 r.1)

@@ -9,4 +9,5 @@ pub mod ResvErrors
 pub mod OneSender
 pub mod Waiting
 pub mod Settled
+pub mod Runs
 pub mod Worked

@@ -1,11 +1,11 @@
 -- What a node sends for an input by which nothing changes of what it offers and asks for: refreshes, errors and confirmations.
-use Rattle.std.proofs.Common.{◌≡◌, ◌⊎◌, ℕ, List, [], ◌∷◌, Bool, true, false, cond, Option, None, Some, inl, inr, ⊎_elim, sym, refl, ap, subst, ◌∙◌}
+use Rattle.std.proofs.Common.{◌≡◌, ◌⊎◌, ℕ, Bool, true, false, cond, Option, None, inl, inr, ⊎_elim, sym, refl, ap, ◌∙◌}
 use Rattle.std.specs.Prelude.{is_some, not}
 use Rattle.rsvp_base.specs.declared.part.Part.{Part}
 use Rattle.rsvp_base.specs.Members.{In}
 use Rattle.rsvp_base.specs.Orders.{Names, senders}
 use Rattle.rsvp_base.specs.Sets.{is_none}
-use Rattle.rsvp_base.specs.Table.{get, has}
+use Rattle.rsvp_base.specs.Table.{has}
 use Rattle.rsvp_base.proofs.SetLaws.{and_both, has-cut}
 use Rattle.rsvp_messages.specs.declared.message.Message.{Message}
 use Rattle.rsvp_messages.specs.declared.message.Message.TheVariants as message

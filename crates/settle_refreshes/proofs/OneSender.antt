@@ -1,5 +1,5 @@
 -- ResvErrs and ResvConfs of a session with one sender are gone: whatever they name, they go on along a chain of hops of its tree, one hop a round.
-use Rattle.std.proofs.Common.{◌≡◌, ◌⊎◌, ℕ, suc, ◌+◌, ◌<◌, ◌≤◌, List, [], ◌∷◌, ◌++◌, Bool, true, Option, None, Some, inl, inr, ⊎_elim, arith, sym, refl, ap, subst, ◌∙◌}
+use Rattle.std.proofs.Common.{◌≡◌, ◌⊎◌, ℕ, suc, ◌+◌, ◌<◌, ◌≤◌, List, [], ◌∷◌, ◌++◌, Bool, true, Option, None, Some, inl, inr, ⊎_elim, arith, sym, ap, subst, ◌∙◌}
 use Rattle.std.specs.Prelude.{slice_get}
 use Rattle.rsvp_base.specs.declared.addr.Addr.{Addr}
 use Rattle.rsvp_base.specs.declared.session.Sender.{Sender}
@@ -10,7 +10,6 @@ use Rattle.rsvp_base.specs.Members.{In}
 use Rattle.rsvp_base.specs.Table.{get}
 use Rattle.rsvp_base.proofs.Members.{in_append}
 use Rattle.rsvp_base.proofs.SetLaws.{and_both}
-use Rattle.rsvp_messages.specs.declared.message.Message.{Message}
 use Rattle.rsvp_messages.specs.declared.message.Message.TheVariants as message
 use Rattle.rsvp_messages.specs.declared.message.ResvConfMsg.{ResvConfMsg}
 use Rattle.rsvp_messages.specs.declared.message.ResvErrMsg.{ResvErrMsg}
@@ -25,7 +24,7 @@ use Rattle.calm_rounds.proofs.Holding.{hold_both, hold_later, hold_map}
 use Rattle.router_rules.specs.Act.{act}
 use Rattle.router_rules.specs.Errors.{error_listing}
 use Rattle.router_rules.specs.Facts.{Facts, ResvState, resvs_of}
-use Rattle.router_rules.specs.Inputs.{Asked, Came, Change, ConfSend, ErrSend, Input, OfResv, Send, Spelt}
+use Rattle.router_rules.specs.Inputs.{Asked, Change, ConfSend, ErrSend, Input, OfResv, Send, Spelt}
 use Rattle.router_rules.specs.NodeConfig.{NodeConfig, own}
 use Rattle.router_rules.specs.Rule.{settled}
 use Rattle.router_rules.specs.Sends.{confirmed, error_send}
@@ -36,7 +35,7 @@ use Rattle.tree_model.specs.Networks.{Net, end_at, node_of}
 use Rattle.tree_model.specs.Ranks.{Follows, longest, rank}
 use Rattle.tree_model.specs.Trees.{tree}
 use Rattle.tree_model.specs.Valid.{IsValid}
-use Rattle.tree_model.specs.Wants.{Locals, live, names}
+use Rattle.tree_model.specs.Wants.{Locals, live}
 use Rattle.tree_model.proofs.Following.{has_hop_in, tree_group}
 use Rattle.tree_model.proofs.RankLaws.{rank_falls, rank_falls_at, rank_some}
 use Rattle.tree_model.proofs.WantLaws.{name_told, want_names}
@@ -46,9 +45,9 @@ use Rattle.network_model.specs.Steps.{Step, input_at, is_quiet, machine, ms_of, 
 use Rattle.network_model.specs.Worlds.{Item, World, config_of}
 use Rattle.settle_paths.proofs.Sends.{IsSentByRule, sent_by_rule}
 use Rattle.settle_refreshes.specs.Refreshes.{HasOneSender}
-use Rattle.settle_refreshes.proofs.Confirming.{AsksNothing, ConfGoesOn, asks_nothing, conf_source}
+use Rattle.settle_refreshes.proofs.Confirming.{ConfGoesOn, asks_nothing, conf_source}
 use Rattle.settle_refreshes.proofs.Fading.{Are, fades}
-use Rattle.settle_refreshes.proofs.Going.{IsAllReady, IsItemAt, all_spelt, calm_input, came_item, lands, leaves, none_refused}
+use Rattle.settle_refreshes.proofs.Going.{IsAllReady, all_spelt, calm_input, came_item, lands, leaves, none_refused}
 use Rattle.settle_refreshes.proofs.Sources.{GoesAhead, GoesBack, IsRefused, IsReply, ahead_is, conf_made, error_source, listing_says, not_of_path, resv_err_made}
 
 -- no Resv in flight asks for a confirmation
@@ -192,6 +191,7 @@ answers_of_one_go q o which one w rs calm all =
     (fades q (IsCalm q o) (Under which (o.net, locals_of o)) (λ u h. h.all.known.bounds) k (λ u h y i born speaks. inl (omega arith))
     (λ j s u quiet a a' low y b i.
     let same : ◌≡◌ {A = Net × Locals} (u.net, locals_of u) (o.net, locals_of o) = (λ d. (a.all.known.same.net d, a.all.known.same.locals d)) in
-    let single : HasOneSender u which = (λ x z d e. one x z (subst (λ (v : Locals). In x (live v which)) a.all.known.same.locals d) (subst (λ (v : Locals). In z (live v which)) a.all.known.same.locals e)) in
+    let among : (x : Sender) → In x (live (locals_of u) which) → In x (live (locals_of o) which) = (λ x d. subst (λ (v : Locals). In x (live v which)) a.all.known.same.locals d) in
+    let single : HasOneSender u which = (λ x z d e. one x z (among x d) (among z e)) in
     subst (λ (z : Net × Locals). Under which z j y) same
     (sent_under q o u a which single s quiet j (λ x d. subst (λ (z : Net × Locals). Under which z (suc j) x) (sym same) (low x d (omega arith))) y b i)) k 0 (omega arith) rs w calm all))

@@ -1,6 +1,5 @@
 -- PathErrs are gone: each goes back along the tree of its sender, one hop a round.
-use Rattle.std.proofs.Common.{◌≡◌, ◌⊎◌, ℕ, suc, ◌+◌, ◌<◌, ◌≤◌, List, Bool, true, Option, None, Some, inl, inr, ⊎_elim, arith, sym, refl, ap, subst, ◌∙◌}
-use Rattle.std.specs.Prelude.{slice_get}
+use Rattle.std.proofs.Common.{◌≡◌, ◌⊎◌, ℕ, suc, ◌+◌, ◌<◌, ◌≤◌, List, Bool, true, Some, inl, inr, ⊎_elim, arith, sym, ap, subst, ◌∙◌}
 use Rattle.rsvp_base.specs.declared.session.Sender.{Sender}
 use Rattle.rsvp_base.specs.Members.{In}
 use Rattle.rsvp_messages.specs.declared.message.Message.TheVariants as message
@@ -9,7 +8,7 @@ use Rattle.calm_rounds.specs.Hold.{Hold}
 use Rattle.calm_rounds.specs.Rounds.{Rounds}
 use Rattle.calm_rounds.proofs.Holding.{hold_map}
 use Rattle.router_rules.specs.Act.{act}
-use Rattle.router_rules.specs.Inputs.{ErrSend, OfPath, OfResv, Send, Spelt}
+use Rattle.router_rules.specs.Inputs.{ErrSend, OfPath, Send, Spelt}
 use Rattle.router_rules.specs.NodeConfig.{NodeConfig}
 use Rattle.router_rules.specs.Rule.{settled}
 use Rattle.router_rules.specs.Sends.{error_send}
@@ -23,7 +22,7 @@ use Rattle.network_model.specs.Steps.{Step, is_quiet, machine, ms_of, sent}
 use Rattle.network_model.specs.Worlds.{Item, World, config_of}
 use Rattle.settle_paths.proofs.Sends.{IsSentByRule, sent_by_rule}
 use Rattle.settle_refreshes.proofs.Fading.{Are, fades}
-use Rattle.settle_refreshes.proofs.Going.{IsAllReady, IsItemAt, all_spelt, came_item, enters, returns}
+use Rattle.settle_refreshes.proofs.Going.{IsAllReady, all_spelt, came_item, enters, returns}
 use Rattle.settle_refreshes.proofs.Resting.{some_session}
 use Rattle.settle_refreshes.proofs.Sources.{GoesAhead, GoesBack, IsRefused, IsReply, ahead_is, error_source, not_of_path, path_err_made, path_same, refusal_is}
 

@@ -1,5 +1,5 @@
 -- Worlds that have settled, one after the other: what the step between them sends is a refresh, an error or a confirmation.
-use Rattle.std.proofs.Common.{◌≡◌, ◌⊎◌, ℕ, ◌+◌, ◌*◌, ◌≤◌, List, [], ◌∷◌, Bool, true, false, cond, Option, None, Some, inl, inr, ⊎_elim, arith, sym, refl, ap, subst, ◌∙◌}
+use Rattle.std.proofs.Common.{◌≡◌, ◌⊎◌, ℕ, ◌+◌, ◌*◌, List, Bool, true, cond, Option, None, Some, inl, inr, ⊎_elim, arith, sym, refl, ap, subst, ◌∙◌}
 use Rattle.std.specs.Prelude.{is_some, slice_get}
 use Rattle.rsvp_base.specs.declared.addr.Addr.{Addr}
 use Rattle.rsvp_base.specs.declared.session.Sender.{Sender}
@@ -17,8 +17,8 @@ use Rattle.calm_rounds.specs.Hold.{Hold}
 use Rattle.calm_rounds.specs.Rounds.{Rounds}
 use Rattle.calm_rounds.proofs.Holding.{hold_all, hold_both, hold_later, hold_map}
 use Rattle.router_rules.specs.Facts.{Facts}
-use Rattle.router_rules.specs.Inputs.{ErrMsg, Input, OfPath, OfResv, Send, Spelt}
-use Rattle.router_rules.specs.Known.{Lane, known, lanes}
+use Rattle.router_rules.specs.Inputs.{Input, OfPath, OfResv, Send, Spelt}
+use Rattle.router_rules.specs.Known.{Lane, known}
 use Rattle.router_rules.specs.NodeConfig.{NodeConfig}
 use Rattle.router_rules.specs.Offers.{Offer, OfferKey, offer_at, offers}
 use Rattle.router_rules.specs.Requests.{toward}
@@ -33,7 +33,6 @@ use Rattle.laws_inputs.proofs.Stepping.{offered, offered_is_known}
 use Rattle.tree_model.specs.declared.hops.LinkHop.{LinkHop}
 use Rattle.tree_model.specs.Networks.{Net}
 use Rattle.tree_model.specs.Ranks.{longest, rank}
-use Rattle.tree_model.specs.Trees.{tree}
 use Rattle.tree_model.specs.Wants.{Locals, live, want}
 use Rattle.network_model.specs.Bounds.{IsStart}
 use Rattle.network_model.specs.Locals.{locals_of}

@@ -1,12 +1,12 @@
 -- ResvErrs that name senders, or are of a wildcard filter, are gone: each goes on along a chain of hops whose trees have a sender in common, one hop a round.
-use Rattle.std.proofs.Common.{◌≡◌, ◌⊎◌, ℕ, suc, ◌+◌, ◌<◌, ◌≤◌, List, [], ◌∷◌, Bool, true, false, Option, None, Some, inl, inr, ⊎_elim, arith, sym, refl, ap, subst, ◌∙◌}
-use Rattle.std.specs.Prelude.{is_some, slice_get}
+use Rattle.std.proofs.Common.{◌≡◌, ◌⊎◌, ℕ, suc, ◌+◌, ◌<◌, ◌≤◌, List, [], ◌∷◌, Bool, true, Option, None, Some, inl, inr, ⊎_elim, arith, sym, refl, ap, subst, ◌∙◌}
+use Rattle.std.specs.Prelude.{is_some}
 use Rattle.rsvp_base.specs.declared.session.Session.{Session}
 use Rattle.rsvp_base.specs.declared.style.StyleKind.{StyleKind}
 use Rattle.rsvp_base.specs.declared.style.StyleKind.TheVariants.{Wild, Fixed, Shared}
 use Rattle.rsvp_base.specs.Members.{In}
 use Rattle.rsvp_base.specs.Orders.{Names}
-use Rattle.rsvp_base.specs.Sets.{IsWithin, is_none}
+use Rattle.rsvp_base.specs.Sets.{IsWithin}
 use Rattle.rsvp_base.specs.Table.{has}
 use Rattle.rsvp_messages.specs.declared.message.Message.TheVariants as message
 use Rattle.rsvp_messages.specs.declared.message.ResvErrMsg.{ResvErrMsg}
@@ -39,7 +39,7 @@ use Rattle.network_model.specs.Steps.{Step, is_quiet, machine, ms_of, sent}
 use Rattle.network_model.specs.Worlds.{Item, World, config_of}
 use Rattle.settle_paths.proofs.Sends.{IsSentByRule, sent_by_rule}
 use Rattle.settle_refreshes.proofs.Fading.{Are, fades}
-use Rattle.settle_refreshes.proofs.Going.{IsAllReady, IsItemAt, all_spelt, came_item, lands, leaves, none_refused}
+use Rattle.settle_refreshes.proofs.Going.{IsAllReady, all_spelt, came_item, lands, leaves, none_refused}
 use Rattle.settle_refreshes.proofs.Sources.{GoesAhead, GoesBack, IsRefused, IsReply, ahead_is, error_source, listing_says, not_of_path, resv_err_made}
 
 -- it names senders, or is of a wildcard filter

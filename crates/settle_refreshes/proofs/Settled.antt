@@ -1,5 +1,5 @@
 -- What is in flight behind so many calm rounds, all together.
-use Rattle.std.proofs.Common.{◌≡◌, ◌⊎◌, ℕ, suc, ◌+◌, ◌*◌, ◌≤◌, List, length, Bool, true, Option, None, Some, inl, inr, ⊎_elim, arith, sym, refl, ap, subst, ◌∙◌}
+use Rattle.std.proofs.Common.{◌≡◌, ◌⊎◌, ℕ, suc, ◌+◌, ◌*◌, ◌≤◌, List, length, Bool, Option, None, Some, inl, inr, ⊎_elim, arith, sym, refl, ap, subst, ◌∙◌}
 use Rattle.std.specs.Prelude.{is_some}
 use Rattle.rsvp_base.specs.declared.session.Session.{Session}
 use Rattle.rsvp_base.specs.declared.style.StyleKind.{StyleKind}
@@ -20,7 +20,7 @@ use Rattle.router_rules.specs.Inputs.{Spelt}
 use Rattle.tree_model.specs.Ranks.{longest}
 use Rattle.network_model.specs.Bounds.{AreBounds, IsStart}
 use Rattle.network_model.specs.Locals.{locals_of}
-use Rattle.network_model.specs.Steps.{Step, machine, sent, step}
+use Rattle.network_model.specs.Steps.{Step, machine}
 use Rattle.network_model.specs.Worlds.{Item, World}
 use Rattle.network_model.proofs.Changing.{what_is_sent_is_copied}
 use Rattle.network_model.proofs.Machines.{quiet_of}
@@ -31,7 +31,7 @@ use Rattle.settle_network.proofs.Settled.{IsSound, all_sound}
 use Rattle.settle_refreshes.specs.Refreshes.{HasNoErrorForAll, HasNothingElse, HasOneSender, HasOnlyRefreshes, IsConfirmation, IsErrorForAll, IsRefresh, MayGoRound, NobodyWaits, NothingGoesRound}
 use Rattle.settle_refreshes.proofs.Fading.{all_in_a_round}
 use Rattle.settle_refreshes.proofs.Going.{AreSpelt, IsAllReady}
-use Rattle.settle_refreshes.proofs.OneSender.{AskNothing, HasNoneOf, IsCalm, answers_of_one_go}
+use Rattle.settle_refreshes.proofs.OneSender.{HasNoneOf, IsCalm, answers_of_one_go}
 use Rattle.settle_refreshes.proofs.PathErrors.{HasNoPathErr, path_errors_go}
 use Rattle.settle_refreshes.proofs.ResvErrors.{HasNoNamedErr, IsNamed, named_errors_go}
 use Rattle.settle_refreshes.proofs.Resting.{IsAnswer, IsAtRest, at_rest, calm_sends, ready}

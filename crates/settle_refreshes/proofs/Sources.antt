@@ -1,5 +1,5 @@
 -- Where the errors and the confirmations come from that a node sends: each is an answer, or goes on.
-use Rattle.std.proofs.Common.{◌≡◌, ◌⊎◌, ℕ, List, [], ◌∷◌, Bool, true, false, cond, Option, None, Some, inl, inr, ⊎_elim, sym, refl, ap, subst, ◌∙◌}
+use Rattle.std.proofs.Common.{◌≡◌, ◌⊎◌, ℕ, [], Bool, true, false, cond, Option, None, Some, inl, inr, ⊎_elim, sym, refl, ap, subst, ◌∙◌}
 use Rattle.rsvp_base.specs.declared.addr.Addr.{Addr}
 use Rattle.rsvp_base.specs.declared.session.Sender.{Sender}
 use Rattle.rsvp_base.specs.declared.style.StyleKind.{StyleKind}
@@ -21,7 +21,7 @@ use Rattle.style_rules.specs.Lines.{NextHop}
 use Rattle.router_rules.specs.declared.answers.Heard.TheVariants as heard
 use Rattle.router_rules.specs.declared.answers.Why.TheVariants as why
 use Rattle.router_rules.specs.Act.{act, act_spelt, is_mine}
-use Rattle.router_rules.specs.Asking.{Asker, asker_of, has_entry, matched, nothing_taken, refusal, style_conflict, style_value, taking, taking_of, value_of}
+use Rattle.router_rules.specs.Asking.{Asker, asker_of, matched, nothing_taken, refusal, style_conflict, style_value, taking, taking_of}
 use Rattle.router_rules.specs.Confirming.{ConfsHeard, confs_heard, confs_on, with_confs}
 use Rattle.router_rules.specs.Errors.{act_resv_err, error_listing, lane_of, path_err, path_err_on, replied, reply_to}
 use Rattle.router_rules.specs.Facts.{Facts, PathState, resvs_of}
@@ -89,7 +89,8 @@ module _ (p : NodeConfig) (c : ℕ) (f : Facts) (e : ErrSend) where
   by_path_err : (at : ℕ) (dst : Addr) (m : PathErrMsg) → In e (act_spelt p c at (message.PathErr m) true f).errors → HasSource p c f e (Came at dst (Spelt (message.PathErr m)))
   by_path_err at dst m h = by_sender m.sender refl h
     where
-      by_path : (x : Sender) → m.sender ≡ Some x → (b : Bool) (v : Option PathState) → get f.paths (m.session, x) ≡ v → In e (path_err_on m b v).0 → HasSource p c f e (Came at dst (Spelt (message.PathErr m)))
+      by_path : (x : Sender) → m.sender ≡ Some x → (b : Bool) (v : Option PathState) → get f.paths (m.session, x) ≡ v → In e (path_err_on m b v).0
+          → HasSource p c f e (Came at dst (Spelt (message.PathErr m)))
       by_path x s true v g h = absurd h
       by_path x s false None g h = absurd h
       by_path x s false (Some path) g h =
@@ -156,7 +157,8 @@ module _ (p : NodeConfig) (c at : ℕ) (m : ResvMsg) (f : Facts) (e : ErrSend) w
   abbrev asks : Asker
   asks = asker_of p c at m
 
-  by_taking : (b : Bool) (v : Option StyleKind) → In e (taking_of p asks (asked_units m.ask) f b v).errors → (w : ResvErrMsg) × (e.error ≡ OfResv w) × ((flow : TokenBucket) × (w.blame.flow ≡ Some flow))
+  by_taking : (b : Bool) (v : Option StyleKind) → In e (taking_of p asks (asked_units m.ask) f b v).errors
+      → (w : ResvErrMsg) × (e.error ≡ OfResv w) × ((flow : TokenBucket) × (w.blame.flow ≡ Some flow))
   by_taking true v h =
       let u = in_each (λ (u : AskedUnit). refusal p asks false 3 0 u.names u.flow) e (asked_units m.ask) h in (_, ap (λ (z : ErrSend). z.error) u.2, (u.0.flow, refl))
   by_taking false (Some other) h =
@@ -220,7 +222,9 @@ module _ (old p : NodeConfig) (before after : Facts) (k : Change) (s : Send) whe
       (λ (r : IsResv old p before after k s). no (ap (λ (z : Send). z.message) r.is) (λ a b. cc) (λ a b. cc)) x) x) x) x) x
     where
       no : {m : Message} → s.message ≡ m → ((a : PathErrMsg) → m ≡ message.PathErr a → ⊥) → ((a : ResvErrMsg) → m ≡ message.ResvErr a → ⊥) → IsError old p before after k s
-      no is a b = absurd (⊎_elim (λ (z : (m : PathErrMsg) × (s.message ≡ message.PathErr m)). a z.0 (sym is ∙ z.1)) (λ (z : (m : ResvErrMsg) × (s.message ≡ message.ResvErr m)). b z.0 (sym is ∙ z.1)) e)
+      no is a b =
+          absurd (⊎_elim (λ (z : (m : PathErrMsg) × (s.message ≡ message.PathErr m)). a z.0 (sym is ∙ z.1))
+          (λ (z : (m : ResvErrMsg) × (s.message ≡ message.ResvErr m)). b z.0 (sym is ∙ z.1)) e)
 
   pub path_err_made : (m : PathErrMsg) → s.message ≡ message.PathErr m → IsSend old p before after k s → (e : ErrSend) × In e k.errors × (s ≡ error_send e) × (e.error ≡ OfPath m)
   path_err_made m e x = let r = is_error (inl (m, e)) x in (r.error, r.made, r.is, of_path_err r.error.error m (sym (ap (λ (z : Send). z.message) r.is) ∙ e))

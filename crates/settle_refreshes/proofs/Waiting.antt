@@ -1,5 +1,5 @@
 -- Where nobody waits for a confirmation nobody does later, and none is sent; and where no error is for all none is later.
-use Rattle.std.proofs.Common.{◌≡◌, ◌⊎◌, ℕ, ◌+◌, ◌≤◌, List, [], ◌∷◌, ◌++◌, Bool, true, false, cond, Option, None, Some, inl, inr, ⊎_elim, arith, sym, refl, ap, subst, ◌∙◌}
+use Rattle.std.proofs.Common.{◌≡◌, ℕ, ◌+◌, List, [], ◌∷◌, Bool, true, false, cond, Option, None, Some, inl, ⊎_elim, sym, refl, ap, subst, ◌∙◌}
 use Rattle.std.specs.Prelude.{slice_get, map as each}
 use Rattle.std.specs.List.{filter}
 use Rattle.rsvp_base.specs.declared.addr.Addr.{Addr}
@@ -16,8 +16,6 @@ use Rattle.rsvp_base.proofs.Counts.{in_found}
 use Rattle.rsvp_base.proofs.Members.{in_filter}
 use Rattle.rsvp_base.proofs.SetLaws.{and_both}
 use Rattle.rsvp_base.proofs.UnderLaws.{get-under}
-use Rattle.rsvp_messages.specs.declared.fault.MsgErr.{MsgErr}
-use Rattle.rsvp_messages.specs.declared.message.Message.{Message}
 use Rattle.rsvp_messages.specs.declared.message.Message.TheVariants as message
 use Rattle.rsvp_messages.specs.declared.message.ResvConfMsg.{ResvConfMsg}
 use Rattle.rsvp_messages.specs.declared.message.ResvErrMsg.{ResvErrMsg}
@@ -26,7 +24,7 @@ use Rattle.rsvp_messages.specs.Proper.{IsProperBlame, IsProperBlameOf}
 use Rattle.rsvp_messages.specs.Units.{ask_style}
 use Rattle.style_rules.specs.Lines.{LineKey}
 use Rattle.router_rules.specs.Act.{act}
-use Rattle.router_rules.specs.Asking.{Blamed, Everyone, Nobody, These, as_listed}
+use Rattle.router_rules.specs.Asking.{Everyone, Nobody, These, as_listed}
 use Rattle.router_rules.specs.Confirming.{is_wish}
 use Rattle.router_rules.specs.Errors.{blamed, error_listing}
 use Rattle.router_rules.specs.Facts.{Facts, ResvState, Want, WantKey, Wants, resvs_of, wants_in}
@@ -34,13 +32,11 @@ use Rattle.router_rules.specs.Inputs.{Call, Came, Change, Clear, ErrSend, Input,
 use Rattle.router_rules.specs.Known.{Lane}
 use Rattle.router_rules.specs.NodeConfig.{NodeConfig, own}
 use Rattle.router_rules.specs.Rule.{Outcome, settled}
-use Rattle.router_rules.specs.Sends.{confirm_for, error_send, is_changed, is_marked, marked_units, own_wish}
+use Rattle.router_rules.specs.Sends.{confirm_for, is_changed, is_marked, marked_units, own_wish}
 use Rattle.router_rules.specs.Steps.{facts_then, is_calm}
 use Rattle.laws_inputs.specs.ErrorLaws.{IsPathReply, IsResvReply}
 use Rattle.laws_inputs.specs.Frames.{on_wants}
-use Rattle.laws_inputs.specs.SendLaws.{IsResv}
 use Rattle.laws_inputs.proofs.Answering.{faults_by_hint}
-use Rattle.laws_inputs.proofs.Blame.{never_nobody}
 use Rattle.laws_inputs.proofs.Framing.{act_wants, wants_then}
 use Rattle.laws_inputs.proofs.Stepping.{send_told}
 use Rattle.network_model.specs.Bounds.{AreBounds, IsProperArrival}
@@ -50,7 +46,7 @@ use Rattle.network_model.proofs.Changing.{what_is_sent_is_copied}
 use Rattle.network_model.proofs.Machines.{in_flight_after}
 use Rattle.network_model.proofs.Quiet.{FollowsRule, outcome_quiet}
 use Rattle.network_model.proofs.Stepping.{facts_after_found}
-use Rattle.settle_paths.proofs.Sends.{IsSentByRule, sent_by_rule}
+use Rattle.settle_paths.proofs.Sends.{sent_by_rule}
 use Rattle.settle_refreshes.specs.Refreshes.{HasNoErrorForAll, IsBadResv, IsErrorForAll, IsForAll, NobodyWaits}
 use Rattle.settle_refreshes.proofs.Confirming.{AsksNothing, wish_source}
 use Rattle.settle_refreshes.proofs.Going.{calm_input, came_item}
@@ -220,8 +216,14 @@ module _ (q : ℕ) (which : Session) (s : Step) (u : World) (quiet : is_quiet s 
       ⊎_elim (λ (z : IsPathReply p x.at x.dst x.fault e.0). not_of_path _ m (sym (ap (λ (v : ErrSend). v.error) z.is) ∙ e.3))
       (λ (z : IsResvReply p x.at x.dst x.fault e.0).
       let same = resv_same _ m (sym (ap (λ (v : ErrSend). v.error) z.is) ∙ e.3) in
-      (none t.item t.flies).1 (x.fault, t.says, z.of ∙ ap Some (ap (λ (v : ResvErrMsg). v.session) same ∙ session), z.style, z.in_style,
-      λ wild. for_all.1 (ap (λ (v : ResvErrMsg). v.blame.style) (sym same) ∙ wild)))
+      (none t.item t.flies).1 (
+        x.fault,
+        t.says,
+        z.of ∙ ap Some (ap (λ (v : ResvErrMsg). v.session) same ∙ session),
+        z.style,
+        z.in_style,
+        λ wild. for_all.1 (ap (λ (v : ResvErrMsg). v.blame.style) (sym same) ∙ wild),
+      ))
       ((faults_by_hint.reply p x.at x.dst x.fault e.0).0 x.is)) k) k)
       (error_source p c r.facts e.0 r.by.input e.1)
 

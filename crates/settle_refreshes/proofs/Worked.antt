@@ -1,7 +1,6 @@
 -- A start in which an error is in flight meets the premises; and small networks in which something goes round, by computing.
-use Rattle.std.proofs.Common.{◌≡◌, ◌⊎◌, ℕ, List, [], ◌∷◌, ◌++◌, Bool, true, false, cond, Option, None, Some, inl, inr, ⊎_elim, arith, sym, refl, ap, subst, ◌∙◌}
+use Rattle.std.proofs.Common.{◌≡◌, [], ◌∷◌, Bool, true, false, cond, inl, inr, ⊎_elim, arith, sym, refl, ◌∙◌}
 use Rattle.std.specs.Prelude.{map as each}
-use Rattle.std.specs.List.{filter}
 use Rattle.std.specs.Ordering.{eq_by_cmp}
 use Rattle.rsvp_base.specs.declared.session.Sender.{Sender}
 use Rattle.rsvp_base.specs.declared.session.Session.{Session}
@@ -13,18 +12,17 @@ use Rattle.router_rules.specs.Rule.{facts_with}
 use Rattle.tree_model.specs.declared.locals.LocalSender.{LocalSender}
 use Rattle.tree_model.specs.Goals.{DemandsFit}
 use Rattle.tree_model.specs.Ranks.{longest}
-use Rattle.tree_model.specs.Wants.{live, of_session}
-use Rattle.network_model.specs.Bounds.{AreBounds, AreHosts, IsStart}
-use Rattle.network_model.specs.Events.{AtNode, Injects, Pass, Rounds, Traces}
+use Rattle.tree_model.specs.Wants.{live}
+use Rattle.network_model.specs.Bounds.{AreBounds, AreHosts}
+use Rattle.network_model.specs.Events.{AtNode, Injects}
 use Rattle.network_model.specs.Locals.{locals_of, sender_at}
-use Rattle.network_model.specs.Runs.{Plan, first_world, run_text}
-use Rattle.network_model.specs.Steps.{At, Inject, Step}
+use Rattle.network_model.specs.Runs.{Plan, first_world}
+use Rattle.network_model.specs.Steps.{At, Inject}
 use Rattle.network_model.specs.ThreeRouters.{first, r1, session, usual}
 use Rattle.laws_network.specs.Beginning.{left_plan}
 use Rattle.laws_network.specs.Runs.{AreFitSenders, IsFitRun}
 use Rattle.laws_network.proofs.Calming.{calm_rounds}
 use Rattle.laws_network.proofs.Hosts.{each_world_of_a_run_keeps_the_locals}
-use Rattle.settle_network.specs.RunExample.{begun}
 use Rattle.settle_network.proofs.RunExample.{a_run_meets_the_premises}
 use Rattle.settle_network.proofs.RunsSettle.{visited_at}
 use Rattle.settle_refreshes.specs.Refreshes.{HasOneSender}

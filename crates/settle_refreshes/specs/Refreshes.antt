@@ -1,5 +1,5 @@
 -- What is in flight in a network that has settled (RFC 2205, 3.7): refreshes, and what may go round for good.
-use Rattle.std.specs.Prelude.{◌≡◌, ◌⊎◌, ℕ, false, None, Some, slice_get}
+use Rattle.std.specs.Prelude.{◌≡◌, ◌⊎◌, ℕ, ◌+◌, ◌*◌, false, None, Some, slice_get}
 use Rattle.rsvp_base.specs.declared.session.Sender.{Sender}
 use Rattle.rsvp_base.specs.declared.session.Session.{Session}
 use Rattle.rsvp_base.specs.declared.style.StyleKind.{StyleKind}
@@ -60,7 +60,8 @@ HasNoErrorForAll w s = (y : Item) → In y w.flight → (IsErrorForAll s y → �
 
 -- nobody waits for a confirmation: no reservation keeps an address for one, no want has a mark, and no Resv in flight asks for one
 pub record NobodyWaits (w : World) : Type 0 where
-  pub resvs : (n : ℕ) (f : Facts) (st : StyleKind) (k : LineKey) (r : ResvState) → slice_get w.nodes n ≡ Some f → get (resvs_of st f) k ≡ Some r → r.confirm ≡ None
+  pub resvs : (n : ℕ) (f : Facts) (st : StyleKind) (k : LineKey) (r : ResvState) → slice_get w.nodes n ≡ Some f → get (resvs_of st f) k ≡ Some r
+      → r.confirm ≡ None
   pub wants : (n : ℕ) (f : Facts) (k : WantKey) (x : Want) → slice_get w.nodes n ≡ Some f → get f.wants k ≡ Some x → x.confirm ≡ false
   pub items : (y : Item) (m : ResvMsg) → In y w.flight → y.arrival ≡ Spelt (message.Resv m) → m.confirm ≡ None
 
@@ -69,3 +70,7 @@ pub record NobodyWaits (w : World) : Type 0 where
 pub record NothingGoesRound (w : World) : Type 0 where
   pub errors : (s : Session) → HasOneSender w s ⊎ HasNoErrorForAll w s
   pub confirmations : ((s : Session) → HasOneSender w s) ⊎ NobodyWaits w
+
+-- 14 H + 15 calm rounds, H the length of the longest chain of hops
+abbrev pub to_refreshes : ℕ → ℕ
+to_refreshes long = 14 * long + 15

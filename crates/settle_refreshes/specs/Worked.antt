@@ -1,6 +1,5 @@
 -- A start in which an error is in flight, and small networks in which something goes round.
 use Rattle.std.specs.Prelude.{◌≡◌, ℕ, ◌++◌, List, [], ◌∷◌, codes, false, true, None}
-use Rattle.rsvp_base.specs.declared.addr.Addr.{Addr}
 use Rattle.rsvp_base.specs.declared.session.Sender.{Sender}
 use Rattle.rsvp_base.specs.declared.style.StyleKind.TheVariants.{Shared, Wild}
 use Rattle.rsvp_base.specs.Members.{In}
@@ -54,7 +53,8 @@ hop_back a b = record { group = group; source = r1; hop = record { from = a; to 
 
 abbrev pub both_ways : List Event → Plan
 both_ways events =
-    plan_of (record { nodes = 2; ends = end_of 0 s1 ∷ end_of 1 r1 ∷ []; links = (0 ∷ 1 ∷ []) ∷ []; hops = hop_of 0 1 ∷ hop_back 1 0 ∷ [] }) (codes "s1" ∷ codes "r1" ∷ []) events
+    plan_of (record { nodes = 2; ends = end_of 0 s1 ∷ end_of 1 r1 ∷ []; links = (0 ∷ 1 ∷ []) ∷ []; hops = hop_of 0 1 ∷ hop_back 1 0 ∷ [] })
+    (codes "s1" ∷ codes "r1" ∷ []) events
 
 abbrev pub both_ask : List Event
 both_ask = AtNode 0 (SendAs session first usual) ∷ AtNode 1 (SendAs session other usual) ∷ AtNode 0 (WantAs session Shared (set_of (other ∷ [])) usual false)
@@ -63,7 +63,8 @@ both_ask = AtNode 0 (SendAs session first usual) ∷ AtNode 1 (SendAs session ot
 -- H is 1, and 14 H + 15 rounds later the error is still on its way, from one to the other
 pub record AnErrorGoesRound : Type 0 where
   pub long : longest (both_ways []).net ≡ 1
-  pub text : run_text (both_ways (both_ask ++ Injects 1 r1 says_it ∷ Rounds 29 ∷ Traces true ∷ Pass 3 ∷ [])) ≡ codes "r1 ResvErr taken\ns1 ResvErr taken\nr1 ResvErr taken\n"
+  pub text : run_text (both_ways (both_ask ++ Injects 1 r1 says_it ∷ Rounds 29 ∷ Traces true ∷ Pass 3 ∷ []))
+      ≡ codes "r1 ResvErr taken\ns1 ResvErr taken\nr1 ResvErr taken\n"
 
 -- ---- two senders side by side, and a receiver on a link with both: what each sends goes to the receiver by way of the other
 abbrev pub across : List Event → Plan
@@ -82,4 +83,5 @@ asks_once = AtNode 0 (SendAs session first usual) ∷ AtNode 1 (SendAs session o
 -- it is answered again and again: in each pass two ResvConfs come to it, and two go on between the senders
 pub record AConfirmationGoesRound : Type 0 where
   pub long : longest (across []).net ≡ 2
-  pub text : run_text (across (asks_once ++ Pass 8 ∷ Traces true ∷ Pass 1 ∷ [])) ≡ codes "s1 ResvConf taken\nt1 ResvConf taken\nr1 ResvConf taken\nt1 ResvConf taken\n"
+  pub text : run_text (across (asks_once ++ Pass 8 ∷ Traces true ∷ Pass 1 ∷ []))
+      ≡ codes "s1 ResvConf taken\nt1 ResvConf taken\nr1 ResvConf taken\nt1 ResvConf taken\n"
