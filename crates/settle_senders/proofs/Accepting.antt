@@ -1,23 +1,18 @@
 -- Each Resv of a session that arrives is taken whole, where the names that it lists are known.
-use Rattle.std.proofs.Common.{◌≡◌, ℕ, ◌<◌, List, [], ◌∷◌, length, true, Some, inl, arith, sym, refl, ap, subst, ◌∙◌}
+use Rattle.std.proofs.Common.{◌≡◌, ℕ, true, Some, sym, refl, ap, subst, ◌∙◌}
 use Rattle.std.specs.Prelude.{slice_get}
 use Rattle.rsvp_base.specs.declared.addr.Addr.{Addr}
 use Rattle.rsvp_base.specs.declared.part.Part.{Part}
 use Rattle.rsvp_base.specs.declared.session.Sender.{Sender}
 use Rattle.rsvp_base.specs.declared.session.Session.{Session}
-use Rattle.rsvp_base.specs.declared.style.Unit.TheVariants.{One}
 use Rattle.rsvp_base.specs.Members.{In}
 use Rattle.rsvp_base.specs.Orders.{senders}
 use Rattle.rsvp_base.specs.Table.{has, kept}
-use Rattle.rsvp_base.specs.TokenBucket.{TokenBucket}
-use Rattle.rsvp_base.proofs.Members.{to_each}
 use Rattle.rsvp_base.proofs.SetLaws.{and_made, has-kept}
-use Rattle.rsvp_messages.specs.declared.ask.Ask.{Ask}
-use Rattle.rsvp_messages.specs.declared.ask.Ask.TheVariants as ask
 use Rattle.rsvp_messages.specs.declared.message.Message.TheVariants as message
 use Rattle.rsvp_messages.specs.declared.message.ResvMsg.{ResvMsg}
 use Rattle.rsvp_messages.specs.Proper.{IsProperAsk}
-use Rattle.rsvp_messages.specs.Units.{AskedUnit, ask_style, asked_units, fixed_unit}
+use Rattle.rsvp_messages.specs.Units.{AskedUnit, ask_style, asked_units}
 use Rattle.style_rules.specs.CutLaws.{name_some}
 use Rattle.laws_inputs.proofs.Knowing.{known_and_via}
 use Rattle.laws_steps.specs.AcceptingLaws.{CanBeTaken, IsPlaced, IsTakenWhole}
@@ -42,17 +37,8 @@ use Rattle.settle_resvs.specs.GoalByIface.{goal_at}
 use Rattle.settle_resvs.specs.Sessions.{Carries, SessionFits}
 use Rattle.settle_resvs.proofs.GoalByIface.{session_can_be_held}
 use Rattle.settle_resvs.proofs.UnderTheGoal.{has_place, sound_under, want_needs}
+use Rattle.settle_releases.proofs.Accepting.{some_unit}
 use Rattle.settle_senders.specs.Following.{AreNamesKnown, HasSenderNamed}
-
--- a proper Resv asks for something
-some_unit : (a : Ask) → IsProperAsk a → (v : AskedUnit) × In v (asked_units a)
-some_unit (ask.Wild scope flow) h = (record { unit = One; names = scope; flow = flow }, inl refl)
-some_unit (ask.Shared part) h = (record { unit = One; names = Some part.senders; flow = part.flow }, inl refl)
-some_unit (ask.Fixed list) h = by list.rows refl h.some
-  where
-    by : (rows : List (Sender × TokenBucket)) → list.rows ≡ rows → 0 < length list.rows → (v : AskedUnit) × In v (asked_units (ask.Fixed list))
-    by [] e lt = let none = ap length e in absurd (omega (arith, none, lt))
-    by (x ∷ xs) e lt = (fixed_unit x, to_each fixed_unit x list.rows (subst (λ (z : List (Sender × TokenBucket)). In x z) (sym e) (inl refl)))
 
 module _ (q : ℕ) (s : Session) (u : World) (bounds : AreBounds q u) (fit : SessionFits u.net (locals_of u) s) (sound : AreResvsSound u) (names : AreNamesKnown u) (y : Item) (m : ResvMsg)
     (i : In y u.flight) (spelt : y.arrival ≡ Spelt (message.Resv m)) (of : m.session ≡ s) (f : Facts) (at : slice_get u.nodes (node_of u.net.ends y.end) ≡ Some f) where

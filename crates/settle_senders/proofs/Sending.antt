@@ -79,6 +79,7 @@ use Rattle.settle_passes.proofs.Growing.{HasNoLess}
 use Rattle.settle_passes.proofs.Reserving.{all_append, last_asked, last_before, last_behind}
 use Rattle.settle_passes.proofs.SoundParts.{sound_cut}
 use Rattle.settle_passes.proofs.Turns.{IsAskedNow, Turns, addressed_in_turn, all_ask, news, stays_or_asked, unit_in_turn}
+use Rattle.settle_releases.proofs.Releasing.{unless_same}
 use Rattle.settle_senders.specs.Following.{ArePathsFromKnown, AreNamesKnown, HasSenderNamed, IsFollowing}
 use Rattle.settle_senders.proofs.Joining.{sound_joined}
 use Rattle.settle_senders.proofs.Knowing.{kept_named, knows_on, named_on, names_sent, own_known, path_from_known, path_known}
@@ -183,10 +184,6 @@ put_source : (r : Option LocalErr) (m : Table sender_keys TokenBucket) (k : Send
     → (k' ≡ k) ⊎ (get m k' ≡ Some t')
 put_source None m k t k' t' h = ⊎_elim (λ (new : (k' ≡ k) × (t' ≡ t)). inl new.0) (λ (old : get m k' ≡ Some t'). inr old) (got_put_in sender_keys m k t k' t' h)
 put_source (Some e) m k t k' t' h = inr h
-
-pub unless_same : {E X : Type 0} (o : Option E) (x : X) → unless o x x ≡ x
-unless_same None x = refl
-unless_same (Some e) x = refl
 
 module _ (q n : ℕ) (k : SenderKey) (t : TokenBucket) (w : World) (start : AreSpreading q w) (fit : IsSound t) (new : IsNew w k) (hosts : AreHosts (after_send q n k t w)) where
   abbrev call : Local
@@ -418,7 +415,7 @@ module _ (q n : ℕ) (k : SenderKey) (t : TokenBucket) (w : World) (start : AreS
       (z.0, ap (λ (o : Outcome). get o.facts.wants k') h.is ∙ z.1, b.2.style ∙ ap (λ (v : Want). v.style) is, b.2.part ∙ ap (λ (v : Want). v.part) is))
       (called q w n call m f)
 
-  no_less : (x : LocalWant) → In x (locals_of w).wants → HasNoLess (locals_of begun).wants x
+  pub no_less : (x : LocalWant) → In x (locals_of w).wants → HasNoLess (locals_of begun).wants x
   no_less x i =
       let r = want_of_node w x i in
       let d = want_on x.node r.0 r.1 r.2 r.4 in

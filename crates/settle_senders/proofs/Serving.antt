@@ -1,28 +1,33 @@
 -- Reservations follow paths, pass by pass: 2 H passes on all are there.
-use Rattle.std.proofs.Common.{◌≡◌, ℕ, zero, suc, ◌+◌, ◌*◌, [], length, arith, sym, refl, ap, subst, ◌∙◌}
+use Rattle.std.proofs.Common.{◌≡◌, ℕ, zero, suc, ◌+◌, ◌*◌, List, [], length, inl, arith, sym, refl, ap, subst, ◌∙◌}
+use Rattle.rsvp_base.specs.Members.{In}
 use Rattle.rsvp_base.specs.declared.session.Session.{Session}
 use Rattle.rsvp_base.specs.TokenBucket.{IsSound, TokenBucket}
 use Rattle.router_rules.specs.Facts.{SenderKey}
-use Rattle.tree_model.specs.Goals.{DemandsFit}
+use Rattle.tree_model.specs.Goals.{DemandsFit, addr_of}
 use Rattle.tree_model.specs.Networks.{Net}
 use Rattle.tree_model.specs.Ranks.{longest}
-use Rattle.network_model.specs.Bounds.{AreHosts, IsStart}
+use Rattle.network_model.specs.Bounds.{AreBounds, AreHosts, IsStart}
 use Rattle.network_model.specs.Events.{pass, passes}
 use Rattle.network_model.specs.Locals.{locals_of}
 use Rattle.network_model.specs.Steps.{Deliver, step}
-use Rattle.network_model.specs.Worlds.{World}
+use Rattle.network_model.specs.Worlds.{Item, World}
 use Rattle.settle_resvs.specs.Sessions.{SessionFits}
 use Rattle.settle_resvs.proofs.GoalByIface.{each_fits}
+use Rattle.settle_resvs.proofs.SoundResvs.{part_again}
+use Rattle.settle_resvs.proofs.WantStyles.{want_parts}
 use Rattle.settle_network.specs.Settled.{HasSettled}
 use Rattle.settle_passes.specs.Calls.{IsNew, after_send}
-use Rattle.settle_passes.specs.Passes.{after_passes}
+use Rattle.settle_passes.specs.Passes.{AreSpreading, after_passes}
 use Rattle.settle_passes.specs.Reserving.{HasReserved, IsReserving}
 use Rattle.settle_passes.proofs.Rising.{reservations_are_set_up, reservations_rise_one_hop_a_pass}
 use Rattle.settle_passes.proofs.Serving.{settled_again, settled_is_reserved}
 use Rattle.settle_passes.proofs.Spreading.{after_deliveries, paths_are_set_up, run_then}
+use Rattle.settle_releases.proofs.Fitting.{demands_below, want_is_sound}
+use Rattle.settle_releases.proofs.Within.{as_before}
 use Rattle.settle_senders.specs.Following.{IsFollowing}
 use Rattle.settle_senders.proofs.Following.{following_next}
-use Rattle.settle_senders.proofs.Sending.{a_reserving_session_follows, following_then}
+use Rattle.settle_senders.proofs.Sending.{a_reserving_session_follows, following_then, no_less, sound_on}
 
 -- ---- passes, one after the other
 following_on : (q : ℕ) (s : Session) (m : ℕ) (u : World) → IsFollowing q s u → IsFollowing q s (after_deliveries q m u)
@@ -95,9 +100,34 @@ pub a_following_network_settles : (q : ℕ) (w : World) → ((s : Session) → I
 a_following_network_settles q w r =
     settled_again q some_session (after_passes q (2 * longest w.net) w) (λ c. (receivers_that_wait_are_served q c w (r c)).0) (λ c. (receivers_that_wait_are_served q c w (r c)).1.exact)
 
-pub a_settled_network_serves_a_sender : (q n : ℕ) (k : SenderKey) (t : TokenBucket) (w : World) → IsStart q w → HasSettled q w → w.flight ≡ [] → IsSound t → IsNew w k → AreHosts (after_send q n k t w)
-    → DemandsFit w.net (locals_of (after_send q n k t w)) → HasSettled q (after_passes q (2 * longest w.net) (after_send q n k t w))
-a_settled_network_serves_a_sender q n k t w start settled quiet fit new hosts fits =
-    a_following_network_settles q (after_send q n k t w)
-    (λ c. a_new_sender_is_followed q n c k t w (a_reserving_session_follows q c w (settled_is_reserved q w start settled quiet c)) fit new hosts
-    (each_fits w.net (locals_of (after_send q n k t w)) fits c))
+-- ---- a settled network in which nothing is in flight
+module _ (q n : ℕ) (k : SenderKey) (t : TokenBucket) (w : World) (bounds : AreBounds q w) (locals : AreHosts w) (settled : HasSettled q w) (quiet : w.flight ≡ []) (fit : IsSound t)
+    (new : IsNew w k) (hosts : AreHosts (after_send q n k t w)) (fits : DemandsFit w.net (locals_of (after_send q n k t w))) where
+  abbrev begun : World
+  begun = after_send q n k t w
+
+  spreads : AreSpreading q w
+  spreads = record {
+    bounds = bounds;
+    hosts = locals;
+    sound = settled.paths_sound;
+    no_tear = λ y m i. absurd (subst (λ (z : List Item). In y z) quiet i);
+    offered = λ k' t' h live there knows. inl (settled.paths_complete k' t' h live there);
+  }
+
+  -- with the sender no less is wanted, so that what fits then fitted before
+  pub begins : IsStart q w
+  begins = record {
+    bounds = bounds;
+    locals = locals;
+    fit = demands_below begun.nodes w
+        (λ st s h there u p got.
+        let more = sound_on q n k t w spreads fit new hosts st s h.from (addr_of w.net h.to) u p (want_is_sound w (want_parts q w bounds) st s h there u p got) in
+        part_again st begun (as_before begun.nodes w) s h.from (addr_of w.net h.to) u p refl refl more)
+        (no_less q n k t w spreads fit new hosts) fits;
+  }
+
+  pub a_settled_network_serves_a_sender : HasSettled q (after_passes q (2 * longest w.net) begun)
+  a_settled_network_serves_a_sender =
+      a_following_network_settles q begun
+      (λ c. a_new_sender_is_followed q n c k t w (a_reserving_session_follows q c w (settled_is_reserved q w begins settled quiet c)) fit new hosts (each_fits w.net (locals_of begun) fits c))

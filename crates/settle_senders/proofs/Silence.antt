@@ -1,86 +1,77 @@
 -- Nothing is in flight in the end, where nobody waits to be confirmed: Paths go one hop further with each pass, and each ResvTear takes a
 -- name of what is wanted over its hop, so that the last are taken when reservations stand.
-use Rattle.std.proofs.Common.{◌≡◌, ℕ, zero, suc, ◌+◌, ◌*◌, ◌≤◌, List, [], ◌∷◌, ◌++◌, length, Bool, true, false, cond, Option, None, Some, ◌⊎◌, inl, inr, ⊎_elim, arith, sym, refl, ap, subst, ◌∙◌, drop}
+use Rattle.std.proofs.Common.{◌≡◌, ℕ, zero, suc, ◌+◌, ◌*◌, ◌≤◌, List, [], ◌++◌, length, Bool, true, false, cond, Option, None, Some, ◌⊎◌, inl, inr, ⊎_elim, arith, sym, refl, ap, subst, ◌∙◌, drop}
 use Rattle.std.specs.Prelude.{slice_get, not, map as each}
-use Rattle.std.specs.List.{filter, remove}
+use Rattle.std.specs.List.{remove}
 use Rattle.std.specs.Option.{option_map}
 use Rattle.rsvp_base.specs.declared.addr.Addr.{Addr}
 use Rattle.rsvp_base.specs.declared.part.Part.{Part}
 use Rattle.rsvp_base.specs.declared.session.Sender.{Sender}
 use Rattle.rsvp_base.specs.declared.session.Session.{Session}
-use Rattle.rsvp_base.specs.declared.style.Unit.{Unit as UnitOf}
-use Rattle.rsvp_base.specs.declared.style.Unit.TheVariants.{One}
 use Rattle.rsvp_base.specs.Members.{In}
-use Rattle.rsvp_base.specs.Orders.{Names, sessions, units}
+use Rattle.rsvp_base.specs.Orders.{Names}
 use Rattle.rsvp_base.specs.Table.{Table, get, has}
 use Rattle.rsvp_base.specs.TokenBucket.{IsSound, TokenBucket}
-use Rattle.rsvp_base.proofs.Counts.{in_found}
-use Rattle.rsvp_base.proofs.Members.{in_append, in_each, in_filter}
-use Rattle.rsvp_base.proofs.SetLaws.{and_both}
+use Rattle.rsvp_base.proofs.Members.{in_append, in_each}
 use Rattle.rsvp_base.proofs.Tables.{either}
-use Rattle.rsvp_base.proofs.UnderLaws.{get-under}
 use Rattle.rsvp_messages.specs.declared.message.Message.{Message}
 use Rattle.rsvp_messages.specs.declared.message.Message.TheVariants as message
 use Rattle.rsvp_messages.specs.declared.message.PathMsg.{PathMsg}
 use Rattle.rsvp_messages.specs.declared.message.PathTearMsg.{PathTearMsg}
 use Rattle.rsvp_messages.specs.declared.message.ResvMsg.{ResvMsg}
 use Rattle.rsvp_messages.specs.declared.message.ResvTearMsg.{ResvTearMsg}
-use Rattle.rsvp_messages.specs.Units.{tear_names, tear_style}
+use Rattle.rsvp_messages.specs.Units.{tear_style}
 use Rattle.style_rules.specs.PartLaws.{part_at_most_told}
 use Rattle.style_rules.specs.Toward.{or_else}
 use Rattle.laws_inputs.specs.FactLaws.{is_way}
 use Rattle.laws_inputs.specs.Frames.{on_senders}
 use Rattle.laws_inputs.specs.SendLaws.{IsConf, IsError, IsPath, IsPathTear, IsResv, IsResvTear}
-use Rattle.laws_inputs.proofs.Framing.{act_senders, act_wants, wants_then}
-use Rattle.laws_inputs.proofs.Knowing.{known_and_via}
+use Rattle.laws_inputs.proofs.Framing.{act_senders, act_wants}
+use Rattle.laws_inputs.proofs.Lists.{none_in}
 use Rattle.laws_inputs.proofs.Offering.{offers_by_way}
 use Rattle.laws_inputs.proofs.Stepping.{send_told}
 use Rattle.laws_inputs.proofs.Tests.{not_new}
 use Rattle.laws_steps.specs.AcceptingLaws.{came_resv}
-use Rattle.laws_steps.specs.ReservationLaws.{IsOfGoneUnits, TakesName}
+use Rattle.laws_steps.specs.ReservationLaws.{TakesName}
 use Rattle.laws_steps.specs.SpeakingLaws.{IsOfOffer}
-use Rattle.laws_steps.proofs.Hopward.{why_a_resv_tear_is_sent}
 use Rattle.router_rules.specs.Act.{act, act_spelt, is_mine}
 use Rattle.router_rules.specs.Asking.{stays}
 use Rattle.router_rules.specs.Calls.{call_refusal}
-use Rattle.router_rules.specs.Facts.{Facts, PathState, SenderKey, Want, WantKey, Wants, sender_keys, wants_in}
+use Rattle.router_rules.specs.Facts.{Facts, PathState, SenderKey, Want, WantKey, Wants, sender_keys}
 use Rattle.router_rules.specs.Inputs.{Call, Came, Change, ConfSend, ErrSend, Input, Local, Send, SendAs, Spelt, Wait}
-use Rattle.router_rules.specs.Known.{Lane}
 use Rattle.router_rules.specs.NodeConfig.{NodeConfig, own}
 use Rattle.router_rules.specs.Offers.{Offer, offer_at, offers, own_offer, path_offer}
 use Rattle.router_rules.specs.Rule.{Outcome, settled}
-use Rattle.router_rules.specs.Sends.{confirm_for, confirmed, is_changed, is_marked, is_new_offer, marked_units, own_wish, path_send}
+use Rattle.router_rules.specs.Sends.{confirmed, is_new_offer, path_send}
 use Rattle.router_rules.specs.Steps.{facts_then, node_step, sent_then}
-use Rattle.tree_model.specs.declared.hops.End.{End}
 use Rattle.tree_model.specs.declared.hops.LinkHop.{LinkHop}
-use Rattle.tree_model.specs.Goals.{DemandsFit, addr_of, addr_of_end}
-use Rattle.tree_model.specs.Networks.{Net, end_at, iface_of, node_of, node_of_end, peers}
+use Rattle.tree_model.specs.Goals.{DemandsFit, addr_of}
+use Rattle.tree_model.specs.Networks.{Net, end_at, iface_of, node_of, node_of_end}
 use Rattle.tree_model.specs.Ranks.{longest, rank}
 use Rattle.tree_model.specs.Trees.{depth, hops_of, inward, outward}
 use Rattle.tree_model.specs.Wants.{want}
 use Rattle.tree_model.proofs.Depths.{depth_and_rank_within_longest}
 use Rattle.tree_model.proofs.Ifaces.{interfaces_are_ends}
-use Rattle.tree_model.proofs.Links.{hop_linked, one_sending_end_on_a_link, peers_both}
+use Rattle.tree_model.proofs.Links.{one_sending_end_on_a_link}
 use Rattle.tree_model.proofs.RankLaws.{rank_falls}
 use Rattle.tree_model.proofs.TreeLaws.{out_told}
-use Rattle.network_model.specs.Bounds.{AreBounds, AreHosts, IsStart}
+use Rattle.network_model.specs.Bounds.{AreBounds, AreHosts}
 use Rattle.network_model.specs.Events.{pass, passes}
-use Rattle.network_model.specs.Links.{goes_to, is_group}
 use Rattle.network_model.specs.Locals.{locals_of}
 use Rattle.network_model.specs.Sound.{ArePathsSound, AreResvsSound, IsSoundPart}
 use Rattle.network_model.specs.Steps.{At, Deliver, Step, outcome, sent, step, still}
 use Rattle.network_model.specs.Worlds.{Item, World, config_of}
-use Rattle.network_model.proofs.Changing.{what_is_sent_is_copied, where_a_send_goes}
+use Rattle.network_model.proofs.Changing.{what_is_sent_is_copied}
 use Rattle.network_model.proofs.Machines.{in_arrived, in_flight_after, in_rest}
 use Rattle.network_model.proofs.Quiet.{at_node_found}
-use Rattle.network_model.proofs.Stepping.{facts_after_found, facts_after_made}
+use Rattle.network_model.proofs.Stepping.{facts_after_made}
 use Rattle.laws_network.specs.Known.{IsSameNet}
 use Rattle.laws_network.proofs.Known.{of_some}
-use Rattle.laws_network.proofs.Sends.{goes_to_end, goes_to_peers, sent_by_rule}
+use Rattle.laws_network.proofs.Sends.{goes_to_peers, sent_by_rule}
 use Rattle.laws_network.proofs.Speaking.{refreshes_are_marked, what_a_path_sent_says}
-use Rattle.laws_network.proofs.Standing.{own_end, peer_there, same_end, some_at, way_out}
+use Rattle.laws_network.proofs.Standing.{own_end, way_out}
 use Rattle.settle_paths.specs.SoftPaths.{path_at}
-use Rattle.settle_paths.proofs.PreviousHops.{ahead, ends_there, same_by_addr}
+use Rattle.settle_paths.proofs.PreviousHops.{ends_there, same_by_addr}
 use Rattle.settle_paths.proofs.SoftPaths.{IsBrought, path_found, path_made, path_source}
 use Rattle.settle_resvs.specs.GoalByIface.{goal_at}
 use Rattle.settle_resvs.specs.Said.{HopKey, IsOver, hop_over, lane_of}
@@ -100,12 +91,12 @@ use Rattle.settle_passes.proofs.Spreading.{after_deliveries, run_then}
 use Rattle.settle_passes.proofs.Tearing.{IsFrom, drop_or, no_rest, tail_drop}
 use Rattle.settle_passes.proofs.Turns.{Turns, left, moment, place, sent_in_turn, torn_in_turn}
 use Rattle.settle_releases.specs.Releases.{HasNoMark}
-use Rattle.settle_releases.proofs.Silence.{IsUnanswered, resv_unanswered, tear_unanswered}
-use Rattle.settle_releases.proofs.TakenBack.{names_of_tear, style_of_tear}
+use Rattle.settle_releases.proofs.Releasing.{unless_same}
+use Rattle.settle_releases.proofs.Silence.{IsUnanswered, goes_back, resv_plain, resv_unanswered, tear_unanswered, unmarked_in_turn}
 use Rattle.settle_senders.specs.Following.{IsFollowing}
 use Rattle.settle_senders.proofs.Following.{following_next, taken, turns}
-use Rattle.settle_senders.proofs.Sending.{a_reserving_session_follows, following_then, in_flight_then, sound_on, turns as called_turns, unless_same}
-use Rattle.settle_senders.proofs.Serving.{deliveries_stay, paths_reach_receivers_that_wait, receivers_that_wait_are_served, twice}
+use Rattle.settle_senders.proofs.Sending.{a_reserving_session_follows, following_then, in_flight_then, sound_on, turns as called_turns}
+use Rattle.settle_senders.proofs.Serving.{begins, deliveries_stay, paths_reach_receivers_that_wait, receivers_that_wait_are_served, twice}
 
 -- ---- a node that tells nobody of an error and confirms nothing
 record IsQuietTurn (p : NodeConfig) (c : ℕ) (input : Input) (f : Facts) : Type 0 where
@@ -121,33 +112,12 @@ IsPlain n =
     ((m : ResvMsg) × (n ≡ message.Resv m) × (m.confirm ≡ None))
     ⊎ (((m : ResvTearMsg) × (n ≡ message.ResvTear m)) ⊎ (((m : PathMsg) × (n ≡ message.Path m)) ⊎ ((m : PathTearMsg) × (n ≡ message.PathTear m))))
 
-cond_none : (b : Bool) (o : Option Addr) → o ≡ None → cond b o None ≡ None
-cond_none true o e = e
-cond_none false o e = refl
-
-nothing : {A : Type 0} (xs : List A) → ((x : A) → In x xs → ⊥) → xs ≡ []
-nothing [] none = refl
-nothing (x ∷ xs) none = absurd (none x (inl refl))
-
 module _ (p : NodeConfig) (c : ℕ) (input : Input) (f : Facts) (q : IsQuietTurn p c input f) where
   abbrev change : Change
   change = act p c input f
 
   abbrev after : Facts
   after = settled p c f change.facts
-
-  no_marks : (l : Lane) → marked_units p after l ≡ []
-  no_marks l =
-      ap (λ (xs : List (UnitOf × Want)). each (λ (e : UnitOf × Want). e.0) xs)
-      (nothing (filter (is_marked p after l) (wants_in after l.session).rows)
-      (λ e i.
-      let t = in_filter (is_marked p after l) e (wants_in after l.session).rows i in
-      let there : get after.wants (l.session, e.0) ≡ Some e.1 = sym (get-under sessions units after.wants l.session e.0) ∙ in_found units (wants_in after l.session) e.0 e.1 t.0 in
-      let bad : true ≡ false = sym (and_both _ _ t.1).0 ∙ q.unmarked (l.session, e.0) e.1 there in
-      cc))
-
-  no_wish : (l : Lane) → confirm_for p after l change.asked ≡ None
-  no_wish l = ap (confirm_for p after l) q.asked ∙ ap (own_wish p l) (no_marks l)
 
   -- it sends such alone
   sends_plain : (s : Send) → In s (sent_then p p c input f) → IsPlain s.message
@@ -160,8 +130,7 @@ module _ (p : NodeConfig) (c : ℕ) (input : Input) (f : Facts) (q : IsQuietTurn
       let none : change.confs ++ confirmed p p f after change.asked ≡ [] = (λ j. q.confs j ++ confirmed p p f after (q.asked j)) in
       absurd (subst (λ (zs : List ConfSend). In x.conf zs) none x.made))
       (λ k. ⊎_elim (λ (x : IsPath p p f after change s). inr (inr (inl (_, ap (λ (z : Send). z.message) x.is))))
-      (λ (x : IsResv p p f after change s).
-      inl (_, ap (λ (z : Send). z.message) x.is, cond_none (is_changed p p f after x.lane) (confirm_for p after x.lane change.asked) (no_wish x.lane))) k) k) k) k)
+      (λ (x : IsResv p p f after change s). inl (resv_plain p c input f q.asked q.unmarked s x)) k) k) k) k)
       (send_told p p c input f s i)
 
 unanswered_is_quiet : (p : NodeConfig) (c : ℕ) (input : Input) (f : Facts) → IsUnanswered p c input f → IsQuietTurn p c input f
@@ -230,79 +199,11 @@ module _ (q : ℕ) (t : Step) (u : World) (bounds : AreBounds q u) (follows : (n
       (λ (x : (m : PathTearMsg) × (r.send.message ≡ message.PathTear m)). absurd (no_tear y x.0 flies (spelt ∙ ap Spelt (sym r.says ∙ x.1)))) k) k)
       (sends_plain (place q t u r.node) (moment q t u) r.by.input r.facts (quiet r.node r.facts r.there r.by) r.send r.sent_one)
 
-  -- a mark that is not there does not come
-  unmarked_then : ((n : ℕ) (f : Facts) → slice_get u.nodes n ≡ Some f → (h : Turns q t u n f) → IsQuietTurn (place q t u n) (moment q t u) h.input f) → HasNoMark u → HasNoMark (step q t u)
-  unmarked_then quiet unmarked n g k x at h =
-      let f = facts_after_found q t u n g at in
-      let now : get (outcome q t u n f.0).facts.wants k ≡ Some x = ap (λ (z : Facts). get z.wants k) (sym f.2) ∙ h in
-      ⊎_elim (λ (z : outcome q t u n f.0 ≡ still f.0). unmarked n f.0 k x f.1 (sym (ap (λ (o : Outcome). get o.facts.wants k) z) ∙ now))
-      (λ (d : Turns q t u n f.0).
-      let p : NodeConfig = place q t u n in
-      let v = quiet n f.0 f.1 d in
-      let marks = wants_then p p (moment q t u) d.input f.0 in
-      let b = marks.source k x (sym (ap (λ (o : Outcome). get o.facts.wants k) d.is) ∙ now) in
-      not_marked x.confirm b.0.confirm b.3 (v.unmarked k b.0 b.1))
-      (follows n f.0 f.1)
-    where
-      not_marked : (a b : Bool) → (a ≡ true → b ≡ true) → b ≡ false → a ≡ false
-      not_marked true b up e = let bad : true ≡ false = sym (up refl) ∙ e in absurd (cc)
-      not_marked false b up e = refl
-
   module _ (bounds' : AreBounds q (left q t u)) (sound' : ArePathsSound (left q t u)) (sound : ArePathsSound u) (resvs : AreResvsSound u) where
-    -- a ResvTear goes back over a hop of its session, and names someone
-    record IsBackOver (y : Item) (m : ResvTearMsg) : Type 0 where
-      key : HopKey
-      there : In (hop_over key) (hops_of u.net.hops key.session.group)
-      over : IsOver u.net key y m.session m.hop.addr (tear_style m.tear)
-      names : Names
-      lists : tear_names m.tear ≡ Some names
-      some : (x : Sender) × (has names x ≡ true)
-
-    goes_back : (y : Item) (b : Bool) (m : ResvTearMsg) → In (y, b) (sent q t u) → y.arrival ≡ Spelt (message.ResvTear m) → IsBackOver y m
-    goes_back y b m i spelt =
-        let r = sent_in_turn q t u bounds follows y b (message.ResvTear m) i spelt in
-        let p : NodeConfig = place q t u r.node in
-        let facts : Facts = (outcome q t u r.node r.facts).facts in
-        let x : IsOfGoneUnits p p r.facts facts r.send m =
-        subst (λ (z : Outcome). IsOfGoneUnits p p r.facts z.facts r.send m) (sym r.by.is)
-        (why_a_resv_tear_is_sent (node_step p p u.clock (moment q t u) r.by.input r.facts) (bounds.facts r.node r.facts r.there) r.send m r.sent_one r.says) in
-        let after : slice_get (left q t u).nodes r.node ≡ Some facts = facts_after_made q t u r.node r.facts r.there in
-        let named = (known_and_via.all_by facts x.lane x.some.0).0 (x.via_hop x.some.0 x.some.1) in
-        let comes = (known_and_via.via_by facts x.lane.session x.lane.hop named.sender).0 named.among in
-        let a = ahead (left q t u) r.node facts sound' after x.lane.session x.lane.hop named.sender comes in
-        let valid = bounds.net in
-        let mine = ends_there u.net valid x.lane.session.group a.way a.previous.there in
-        let e = goes_to_end u.net (end_at u.net.ends r.node r.send.iface) r.send.dst y.end r.to in
-        let at : end_at u.net.ends r.node x.lane.hop.0 ≡ Some e.0 = ap (end_at u.net.ends r.node) (sym x.iface) ∙ e.1 in
-        let of = (interfaces_are_ends u.net).iface_of_end r.node x.lane.hop.0 e.0 at in
-        let hop_addr : m.hop.addr ≡ own p x.lane.hop.0 = ap (λ (z : ResvTearMsg). z.hop.addr) x.is in
-        let to : a.way.to ≡ e.0 = same_end u.net a.way.to e.0 mine.1 of.0 (a.previous.node ∙ sym of.1) (a.previous.iface ∙ sym of.2) in
-        let linked : In a.way.to (peers u.net.links a.way.from) = hop_linked u.net valid x.lane.session.group named.sender.addr a.way a.there in
-        let back : In a.way.from (peers u.net.links e.0) = subst (λ (z : ℕ). In a.way.from (peers u.net.links z)) to (peers_both u.net valid a.way.from a.way.to linked) in
-        let goes : In y.end (goes_to u.net (Some e.0) x.lane.hop.1) = subst (λ (z : Option ℕ × Addr). In y.end (goes_to u.net z.0 z.1)) (λ j. (e.1 j, x.dst j)) r.to in
-        let own_addr : is_group (addr_of u.net a.way.from) ≡ false =
-        (let z = some_at u.net.ends a.way.from mine.0 in ap (λ (w : Option End). is_group (addr_of_end w)) z.1 ∙ bounds.hosts a.way.from z.0 z.1) in
-        let no_group = subst (λ (z : Addr). is_group z ≡ false) a.previous.addr own_addr in
-        let got = ((where_a_send_goes u.net e.0 x.lane.hop.1).one no_group a.way.from back a.previous.addr y.end).0 goes in
-        let from : y.end ≡ a.way.from = same_by_addr u.net valid y.end a.way.from (peer_there u.net valid e.0 y.end got.0) mine.0 (got.1 ∙ sym a.previous.addr) in
-        record {
-          key = record { session = x.lane.session; style = x.lane.style; unit = One; from = a.way.to; to = a.way.from };
-          there = a.previous.there;
-          over = record {
-            end = from;
-            session = ap (λ (z : ResvTearMsg). z.session) x.is;
-            from = hop_addr ∙ own_end q u.net u.trees r.node x.lane.hop.0 e.0 at ∙ ap (addr_of u.net) (sym to);
-            style = ap (λ (z : ResvTearMsg). tear_style z.tear) x.is ∙ style_of_tear x.lane.style x.names;
-          };
-          names = x.names;
-          lists = ap (λ (z : ResvTearMsg). tear_names z.tear) x.is ∙ names_of_tear x.lane.style x.names;
-          some = x.some;
-        }
-
-    -- and takes a name of what went toward the hop before, and so of what is sound there
+    -- a ResvTear that is sent goes back over a hop, and takes a name of what went toward the hop before, and so of what is sound there
     tear_of_sound : (y : Item) (b : Bool) (m : ResvTearMsg) → In (y, b) (sent q t u) → y.arrival ≡ Spelt (message.ResvTear m) → IsTearOfSound u y m
     tear_of_sound y b m i spelt =
-        let g = goes_back y b m i spelt in
+        let g = goes_back q t u bounds follows bounds' sound' y b m i spelt in
         let k : HopKey = g.key in
         let n : ℕ = node_of u.net.ends k.from in
         let r = torn_in_turn q t u bounds follows bounds' sound' k g.there y b m i spelt g.over in
@@ -494,7 +395,7 @@ module _ (q : ℕ) (u : World) (r : IsSilent q u) where
             (λ (new : (b : Bool) × In (y, b) (sent q (Deliver 0) u)).
             tear_next y m (tear_of_sound q (Deliver 0) u bounds turns_now then_one.paths.bounds then_one.paths.sound one.paths.sound one.sound y new.0 m new.1 spelt))
             (in_flight_after q (Deliver 0) u y refl i);
-        unmarked = unmarked_then q (Deliver 0) u bounds turns_now quiet r.unmarked;
+        unmarked = unmarked_in_turn q (Deliver 0) u turns_now (λ n f at h. (quiet n f at h).unmarked) r.unmarked;
       }
 
 -- ---- passes
@@ -592,7 +493,7 @@ module _ (q : ℕ) (w : World) (r : IsSilent q w) (from : (y : Item) → In y w.
 
   nothing_flies : (after_passes q (2 * longest w.net) w).flight ≡ []
   nothing_flies =
-      nothing later.flight
+      none_in later.flight
       (λ y i.
       ⊎_elim
       (λ (x : (m : ResvMsg) × (y.arrival ≡ Spelt (message.Resv m)) × (m.confirm ≡ None)). (receivers_that_wait_are_served q x.0.session w (r.follows x.0.session)).1.no_resv y x.0 i x.1 refl)
@@ -653,7 +554,7 @@ module _ (q n : ℕ) (k : SenderKey) (t : TokenBucket) (w : World) (r : IsSilent
             (λ (now : (b : Bool) × In (y, b) (sent q (At n call) w)).
             tear_then y m (tear_of_sound q (At n call) w one.paths.bounds turns_then then_one.paths.bounds then_one.paths.sound one.paths.sound one.sound y now.0 m now.1 spelt))
             (in_flight_then q n k t w one.paths fit new hosts y i);
-        unmarked = unmarked_then q (At n call) w one.paths.bounds turns_then quiet_then r.unmarked;
+        unmarked = unmarked_in_turn q (At n call) w turns_then (λ m f at h. (quiet_then m f at h).unmarked) r.unmarked;
       }
 
   -- each Path in flight is sent by the call, where nothing was
@@ -671,9 +572,10 @@ module _ (q n : ℕ) (k : SenderKey) (t : TokenBucket) (w : World) (r : IsSilent
       })
       (in_flight_then q n k t w one.paths fit new hosts y i)
 
-pub a_sender_leaves_nothing_in_flight : (q n : ℕ) (k : SenderKey) (t : TokenBucket) (w : World) → IsStart q w → HasSettled q w → w.flight ≡ [] → HasNoMark w → IsSound t → IsNew w k
+pub a_sender_leaves_nothing_in_flight : (q n : ℕ) (k : SenderKey) (t : TokenBucket) (w : World) → AreBounds q w → AreHosts w → HasSettled q w → w.flight ≡ [] → HasNoMark w → IsSound t → IsNew w k
     → AreHosts (after_send q n k t w) → DemandsFit w.net (locals_of (after_send q n k t w)) → (after_passes q (2 * longest w.net) (after_send q n k t w)).flight ≡ []
-a_sender_leaves_nothing_in_flight q n k t w start settled_now empty_flight unmarked fit new hosts all_fit =
+a_sender_leaves_nothing_in_flight q n k t w bounds locals settled_now empty_flight unmarked fit new hosts all_fit =
+    let start = begins q n k t w bounds locals settled_now empty_flight fit new hosts all_fit in
     let r : IsSilent q w =
     record {
       follows = λ c. a_reserving_session_follows q c w (settled_is_reserved q w start settled_now empty_flight c);

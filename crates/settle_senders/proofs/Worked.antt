@@ -51,7 +51,7 @@ use Rattle.settle_passes.proofs.Serving.{settled_again}
 use Rattle.settle_passes.proofs.Wanting.{a_receiver_is_set_up, a_settled_session_is_reserved}
 use Rattle.settle_passes.proofs.Worked.{a_pair_is_set_up}
 use Rattle.settle_releases.specs.Releases.{HasNoMark}
-use Rattle.settle_senders.specs.Worked.{AMarkIsAnswered, ANewDemandIsRefused, AReceiverWaits, NoPassIsSpared, joined_world, waiting_world}
+use Rattle.settle_senders.specs.Worked.{AMarkIsAnswered, ANewDemandIsRefused, APathGoesToOneEnd, AReceiverWaits, ATearIsInFlight, NoPassIsSpared, WhatIsLeftOverStays, joined_world, waiting_world}
 use Rattle.settle_senders.proofs.Sending.{a_reserving_session_follows}
 use Rattle.settle_senders.proofs.Serving.{a_new_sender_is_followed}
 
@@ -218,7 +218,8 @@ unmarked (suc (suc n)) f k x at h = absurd (cc)
 
 pub a_receiver_waits : AReceiverWaits
 a_receiver_waits = record {
-  begins = let paths = (waits_so session).0.paths in record { bounds = paths.bounds; locals = paths.hosts; fit = waiting_fits };
+  bounds = (waits_so session).0.paths.bounds;
+  locals = (waits_so session).0.paths.hosts;
   settled = settled_again 7500 session waiting_world (λ c. (waits_so c).0) (λ c. (waits_so c).1.exact);
   quiet = refl;
   fit = a_pair_is_set_up.fit;
@@ -243,6 +244,18 @@ no_pass_is_spared = record { long = refl; text = refl }
 pub a_new_demand_is_refused : ANewDemandIsRefused
 unfolding digits head_text facts_with
 a_new_demand_is_refused = record { text = refl }
+
+pub a_tear_is_in_flight : ATearIsInFlight
+unfolding digits addr_text session_text sender_text flow_text entry_line head_text facts_with
+a_tear_is_in_flight = record { text = refl }
+
+pub what_is_left_over_stays : WhatIsLeftOverStays
+unfolding digits addr_text session_text sender_text flow_text entry_line head_text facts_with
+what_is_left_over_stays = record { text = refl }
+
+pub a_path_goes_to_one_end : APathGoesToOneEnd
+unfolding digits head_text facts_with
+a_path_goes_to_one_end = record { text = refl }
 
 pub a_mark_is_answered : AMarkIsAnswered
 unfolding facts_with

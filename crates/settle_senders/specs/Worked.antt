@@ -1,18 +1,19 @@
 -- What it comes to in small networks that a host begins to send where receivers wait.
-use Rattle.std.specs.Prelude.{◌≡◌, [], ◌∷◌, ◌++◌, true, false, codes, Some}
+use Rattle.std.specs.Prelude.{◌≡◌, ℕ, [], ◌∷◌, ◌++◌, true, false, codes, Some}
 use Rattle.rsvp_base.specs.declared.session.Session.{Session}
 use Rattle.rsvp_base.specs.declared.style.StyleKind.TheVariants.{Wild}
 use Rattle.rsvp_base.specs.Table.{empty}
 use Rattle.rsvp_base.specs.TokenBucket.{IsSound}
+use Rattle.tree_model.specs.declared.hops.TreeHop.{TreeHop}
 use Rattle.tree_model.specs.Goals.{DemandsFit}
 use Rattle.tree_model.specs.Ranks.{longest}
-use Rattle.network_model.specs.Bounds.{AreHosts, IsStart}
-use Rattle.network_model.specs.Events.{AtNode, Pass, Reports, Traces}
+use Rattle.network_model.specs.Bounds.{AreBounds, AreHosts}
+use Rattle.network_model.specs.Events.{AtNode, DeliverAt, Pass, Reports, Traces}
 use Rattle.network_model.specs.Locals.{locals_of}
-use Rattle.network_model.specs.Rows.{line, sends, usual_entry}
-use Rattle.network_model.specs.RouterRules.Inputs.{WantAs}
+use Rattle.network_model.specs.Rows.{end_of, line, plan_of, sends, usual_entry, wants}
+use Rattle.network_model.specs.RouterRules.Inputs.{QuitAll, SendAs, WantAs}
 use Rattle.network_model.specs.Runs.{run_text}
-use Rattle.network_model.specs.ThreeRouters.{first, session, usual}
+use Rattle.network_model.specs.ThreeRouters.{first, ip, s1, second, session, usual}
 use Rattle.network_model.specs.Worlds.{World}
 use Rattle.laws_network.specs.Example.{pair_net, quiet_world}
 use Rattle.settle_resvs.specs.Sessions.{SessionFits}
@@ -20,6 +21,7 @@ use Rattle.settle_network.specs.Settled.{HasSettled}
 use Rattle.settle_passes.specs.Calls.{IsNew, after_send}
 use Rattle.settle_passes.specs.Reserving.{IsReserving, after_want}
 use Rattle.settle_releases.specs.Releases.{HasNoMark}
+use Rattle.settle_releases.specs.Worked.{pair, pair_with_left_over, served}
 use Rattle.settle_senders.specs.Following.{IsFollowing}
 
 -- ---- a pair of nodes, in which a receiver waits for a sender; and then a host begins to send
@@ -31,7 +33,8 @@ joined_world = after_send 7500 0 (session, first) usual waiting_world
 
 -- the premises of the laws, and what they promise does not hold yet
 pub record AReceiverWaits : Type 0 where
-  pub begins : IsStart 7500 waiting_world
+  pub bounds : AreBounds 7500 waiting_world
+  pub locals : AreHosts waiting_world
   pub settled : HasSettled 7500 waiting_world
   pub quiet : waiting_world.flight ≡ []
   pub fit : IsSound usual
@@ -62,3 +65,31 @@ pub record ANewDemandIsRefused : Type 0 where
 -- ---- the receiver waits to be confirmed besides: after the 2 H passes the answer is on its way
 pub record AMarkIsAnswered : Type 0 where
   pub text : run_text (line 10000 (AtNode 2 (WantAs session Wild empty usual true) ∷ sends ∷ Pass 4 ∷ Traces true ∷ Pass 2 ∷ [])) ≡ codes "r1 ResvConf taken\nt1 ResvConf taken\n"
+
+-- ---- a receiver of the pair quit and asked again, and its Resv came first: a ResvTear is in flight when the next sender begins
+pub record ATearIsInFlight : Type 0 where
+  pub text : run_text (pair (served ++ AtNode 1 (QuitAll session) ∷ wants 1 usual ∷ DeliverAt 2 ∷ Reports (Some 0) ∷ Traces true ∷ AtNode 0 (SendAs session second usual) ∷ Pass 2
+      ∷ Reports (Some 0) ∷ []))
+      ≡ codes "end s1 held 1000 of 10000\n" ++ usual_entry ++ codes "s1 ResvTear taken\nt1 Path taken\nend s1 held 0 of 10000\n"
+
+-- ---- a reservation is left over of a session that nobody wants
+pub record WhatIsLeftOverStays : Type 0 where
+  pub text : run_text (pair_with_left_over (wants 1 usual ∷ Traces true ∷ sends ∷ Pass 2 ∷ Reports (Some 0) ∷ []))
+      ≡ codes "t1 Path taken\ns1 Resv taken\nend s1 held 1400 of 10000\n" ++ usual_entry ++ codes "239.1.1.2/17/5004 WF 10.0.9.9 400/400/inf/1/1500\n"
+
+-- ---- a host on a link of three ends sends to the address of the second end, along a tree to both the others
+abbrev pub to_an_end : Session
+to_an_end = record { group = ip 10 0 1 2; proto = 17; port = 5004 }
+
+abbrev pub hop_toward : ℕ → TreeHop
+hop_toward e = record { group = to_an_end.group; source = s1; hop = record { from = 0; to = e } }
+
+pub record APathGoesToOneEnd : Type 0 where
+  pub text : run_text (plan_of (record {
+    nodes = 3;
+    ends = end_of 0 s1 ∷ end_of 1 to_an_end.group ∷ end_of 2 (ip 10 0 1 3) ∷ [];
+    links = (0 ∷ 1 ∷ 2 ∷ []) ∷ [];
+    hops = hop_toward 1 ∷ hop_toward 2 ∷ [];
+  }) (codes "s1" ∷ codes "t1" ∷ codes "u1" ∷ [])
+      (AtNode 2 (WantAs to_an_end Wild empty usual false) ∷ Traces true ∷ AtNode 0 (SendAs to_an_end first usual) ∷ Pass 2 ∷ Reports (Some 0) ∷ []))
+      ≡ codes "t1 Path taken\nend s1 held 0 of 10000\n"

@@ -5,7 +5,7 @@ ghost use Rattle.rsvp_base.specs.TokenBucket.{IsSound, TokenBucket};
 ghost use Rattle.router_rules.specs.Facts.{SenderKey};
 ghost use Rattle.tree_model.specs.Goals.{DemandsFit};
 ghost use Rattle.tree_model.specs.Ranks.{longest};
-ghost use Rattle.network_model.specs.Bounds.{AreHosts, IsStart};
+ghost use Rattle.network_model.specs.Bounds.{AreBounds, AreHosts};
 ghost use Rattle.network_model.specs.Locals.{locals_of};
 ghost use Rattle.network_model.specs.Worlds.{World};
 ghost use Rattle.settle_resvs.specs.Sessions.{SessionFits};
@@ -52,17 +52,17 @@ pub fn a_following_network_settles()
     ensures { (q : ℕ) (w : World) → ((s : Session) → IsFollowing q s w) → HasSettled q (after_passes q (2 * longest w.net) w) }
 {}
 
-/// So a settled network has settled again 2 H passes after a host begins to send where receivers wait, without waiting: one in which nothing is
-/// in flight and whose demands fit, where nobody sent as this sender, and where after the call senders are few enough and send to groups, and
-/// the demands fit too. In the first H passes the path goes down, and in the next H reservations go up.
+/// So a settled network has settled again 2 H passes after a host begins to send where receivers wait, without waiting: one within bounds with
+/// hosts, in which nothing is in flight, where nobody sent as this sender, and where after the call senders are few enough and send to groups,
+/// and the demands fit, as they then did before. In the first H passes the path goes down, and in the next H reservations go up.
 pub fn a_settled_network_serves_a_sender()
-    ensures { (q n : ℕ) (k : SenderKey) (t : TokenBucket) (w : World) → IsStart q w → HasSettled q w → w.flight ≡ [] → IsSound t → IsNew w k → AreHosts (after_send q n k t w)
-        → DemandsFit w.net (locals_of (after_send q n k t w)) → HasSettled q (after_passes q (2 * longest w.net) (after_send q n k t w)) }
+    ensures { (q n : ℕ) (k : SenderKey) (t : TokenBucket) (w : World) → AreBounds q w → AreHosts w → HasSettled q w → w.flight ≡ [] → IsSound t → IsNew w k
+        → AreHosts (after_send q n k t w) → DemandsFit w.net (locals_of (after_send q n k t w)) → HasSettled q (after_passes q (2 * longest w.net) (after_send q n k t w)) }
 {}
 
 /// And nothing is in flight then, where no want had a mark in the settled network: where nobody waited for a confirmation to be asked for. So
 /// nothing comes to a node any more until a refresh is due or somebody calls.
 pub fn a_sender_leaves_nothing_in_flight()
-    ensures { (q n : ℕ) (k : SenderKey) (t : TokenBucket) (w : World) → IsStart q w → HasSettled q w → w.flight ≡ [] → HasNoMark w → IsSound t → IsNew w k
+    ensures { (q n : ℕ) (k : SenderKey) (t : TokenBucket) (w : World) → AreBounds q w → AreHosts w → HasSettled q w → w.flight ≡ [] → HasNoMark w → IsSound t → IsNew w k
         → AreHosts (after_send q n k t w) → DemandsFit w.net (locals_of (after_send q n k t w)) → (after_passes q (2 * longest w.net) (after_send q n k t w)).flight ≡ [] }
 {}
