@@ -115,12 +115,14 @@ wanted_told s Shared names flow mark k y i =
 -- and all of them are for its flow
 wanted_flow : (s : Session) (st : StyleKind) (names : Names) (flow : TokenBucket) (mark : Bool) (k : WantKey) (y : Want) → In (k, y) (wanted s st names flow mark) → y.part.flow ≡ flow
 wanted_flow s Wild names flow mark k y i =
-    ⊎_elim (λ (e : (k, y) ≡ ((s, One), record { style = Wild; part = record { senders = empty; flow = flow }; confirm = mark })). ap (λ (z : WantKey × Want). z.1.part.flow) e) (λ (no : ⊥). absurd no) i
+    ⊎_elim (λ (e : (k, y) ≡ ((s, One), record { style = Wild; part = record { senders = empty; flow = flow }; confirm = mark })).
+    ap (λ (z : WantKey × Want). z.1.part.flow) e) (λ (no : ⊥). absurd no) i
 wanted_flow s Fixed names flow mark k y i =
     let r = in_each (λ (z : Sender). ((s, Of z), record { style = Fixed; part = record { senders = only z; flow = flow }; confirm = mark })) (k, y) (keys names) i in
     ap (λ (z : WantKey × Want). z.1.part.flow) r.2
 wanted_flow s Shared names flow mark k y i =
-    ⊎_elim (λ (e : (k, y) ≡ ((s, One), record { style = Shared; part = record { senders = names; flow = flow }; confirm = mark })). ap (λ (z : WantKey × Want). z.1.part.flow) e) (λ (no : ⊥). absurd no) i
+    ⊎_elim (λ (e : (k, y) ≡ ((s, One), record { style = Shared; part = record { senders = names; flow = flow }; confirm = mark })).
+    ap (λ (z : WantKey × Want). z.1.part.flow) e) (λ (no : ⊥). absurd no) i
 
 -- ---- what is left of a want toward a hop
 part_flow : (st : StyleKind) (ns : Names) (a v : Part) → want_part st ns a ≡ Some v → v.flow ≡ a.flow

@@ -48,7 +48,9 @@ use Rattle.laws_safety.proofs.Arrivals.{passed}
 use Rattle.laws_network.proofs.Known.{has_some, of_some}
 use Rattle.router_rules.specs.declared.answers.Heard.TheVariants as heard
 use Rattle.router_rules.specs.Act.{act, act_spelt}
-use Rattle.router_rules.specs.Asking.{Asker, Taking, act_resv, answered, ask_of, asker_of, book_refuses, confirm_kept, err_place, err_places, errors_in_order, has_room, heard_of, key_at, lost, matched, names_that_match, nothing_taken, or_kept, put_tested, put_unit, refusal, resv_state, style_conflict, style_value, take_unit, take_units, taking, tell_lost}
+use Rattle.router_rules.specs.Asking.{Asker, Taking, act_resv, answered, ask_of, asker_of, book_refuses, confirm_kept, err_place, err_places, errors_in_order, has_room, heard_of, key_at}
+use Rattle.router_rules.specs.Asking.{lost, matched, names_that_match, nothing_taken, or_kept, put_tested, put_unit, refusal, resv_state, style_conflict, style_value}
+use Rattle.router_rules.specs.Asking.{take_unit, take_units, taking, tell_lost}
 use Rattle.router_rules.specs.Bounds.{IsWithinBounds}
 use Rattle.router_rules.specs.Confirming.{speaks_of}
 use Rattle.router_rules.specs.Facts.{Facts, ResvState, resvs_of}

@@ -21,8 +21,8 @@ use Rattle.settle_passes.specs.Reserving.{AsksNoLess}
 use Rattle.settle_passes.specs.Worked.{asked_world, heard_world}
 use Rattle.settle_passes.proofs.AskedExample.{a_receiver_asks}
 use Rattle.settle_confirmations.specs.Requests.{IsOnlySender}
-use Rattle.settle_confirmations.specs.Worked.{AReceiverHears, AReceiverTurnsAway, ARequestIsRefused, AnAnswerIsEarly, AnAnswerIsForMore, AnAnswerLeavesOut, AnAnswerSpeaksOfAnother}
-use Rattle.settle_confirmations.specs.Worked.{LessIsConfirmed, TwoEndsHearNothing, TwoReceiversAskAtOnce, wishing_world}
+use Rattle.settle_confirmations.specs.Worked.{AReceiverHasItAlready, AReceiverHears, AReceiverTurnsAway, ARequestIsRefused, AnAnswerIsEarly, AnAnswerIsForMore}
+use Rattle.settle_confirmations.specs.Worked.{AnAnswerLeavesOut, AnAnswerSpeaksOfAnother, LessIsConfirmed, TwoEndsHearNothing, TwoReceiversAskAtOnce, wishing_world}
 
 -- whether a confirmation is asked for makes no difference to what is wanted
 same_locals : locals_of asked_world ≡ locals_of wishing_world
@@ -87,6 +87,10 @@ two_receivers_ask_at_once = record { long = refl; text = refl }
 pub a_receiver_turns_away : AReceiverTurnsAway
 unfolding facts_with
 a_receiver_turns_away = record { text = refl }
+
+pub a_receiver_has_it_already : AReceiverHasItAlready
+unfolding facts_with
+a_receiver_has_it_already = record { text = refl }
 
 pub a_request_is_refused : ARequestIsRefused
 unfolding digits facts_with

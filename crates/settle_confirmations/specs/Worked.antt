@@ -22,7 +22,7 @@ use Rattle.network_model.specs.Worlds.{Item, World}
 use Rattle.network_model.specs.RouterRules.Inputs.{QuitAll, SendAs, WantAs}
 use Rattle.network_model.specs.ThreeRouters.{first, flow, group, ip, r1, r2, s1, second, session, usual}
 use Rattle.network_model.specs.Events.{AtNode, Event, Pass, Traces}
-use Rattle.network_model.specs.Rows.{end_of, hop_of, line, plan_of, sends}
+use Rattle.network_model.specs.Rows.{booked, end_of, hop_of, line, plan_of, sends}
 use Rattle.network_model.specs.Runs.{Plan, last_world, run_text}
 use Rattle.settle_resvs.specs.SoftResvs.{resv_at}
 use Rattle.settle_network.specs.Settled.{HasSettled}
@@ -156,6 +156,10 @@ wants_alone x confirm = AtNode 2 (WantAs session Shared (set_of (x ∷ [])) usua
 pub record AReceiverTurnsAway : Type 0 where
   pub text : run_text (line 10000 (sends ∷ wants_alone first false ∷ Pass 4 ∷ Traces true ∷ wants_alone second true ∷ Pass 4 ∷ []))
       ≡ codes "r2 ResvTear taken\ns1 ResvTear taken\n"
+
+-- ---- a receiver asks to be confirmed for what it has: its node sends nothing, and nobody answers
+pub record AReceiverHasItAlready : Type 0 where
+  pub text : run_text (line 10000 (booked ++ Traces true ∷ AtNode 2 (WantAs session Wild empty usual true) ∷ Pass 4 ∷ [])) ≡ []
 
 -- ---- an end has a byte per second less than a receiver asks for: what comes back is a ResvErr
 pub record ARequestIsRefused : Type 0 where

@@ -31,9 +31,9 @@ pub fn requests_are_answered()
 {}
 
 /// So a receiver that asks for a confirmation gets one within 2 H passes, whatever its style, and it confirms at least what the receiver asks
-/// for: in a settled network in which nothing is in flight, where the session has one sender, the receiver asks for no less than its node
-/// did before, the demands fit then too, and its node sends something for the call. Where it sends nothing, as for what it has already,
-/// nobody answers; nor always where the session has two senders, of one host or of two.
+/// for: in a settled network within bounds with hosts, in which nothing is in flight and whose demands fit, where the session has one sender,
+/// the receiver asks for no less than its node did before, the demands fit then too, and its node sends something for the call. Where it
+/// sends nothing, as for what it has already, nobody answers; nor always where the session has two senders, of one host or of two.
 pub fn a_receiver_is_answered()
     ensures { (q n : ℕ) (s : Session) (st : StyleKind) (names : Names) (flow : TokenBucket) (x : Sender) (w : World) → IsStart q w → HasSettled q w → w.flight ≡ []
         → IsOnlySender w s x → IsFitList st names → IsSound flow → AsksNoLess w n s st names flow true → DemandsFit w.net (locals_of (after_want q n s st names flow true w))

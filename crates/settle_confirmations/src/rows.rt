@@ -1,6 +1,6 @@
 //! Worked rows: small networks, by computing.
-ghost use Rattle.settle_confirmations.specs.Worked.{AReceiverHears, AReceiverTurnsAway, ARequestIsRefused, AnAnswerIsEarly, AnAnswerIsForMore, AnAnswerLeavesOut, AnAnswerSpeaksOfAnother};
-ghost use Rattle.settle_confirmations.specs.Worked.{LessIsConfirmed, TwoEndsHearNothing, TwoReceiversAskAtOnce};
+ghost use Rattle.settle_confirmations.specs.Worked.{AReceiverHasItAlready, AReceiverHears, AReceiverTurnsAway, ARequestIsRefused, AnAnswerIsEarly, AnAnswerIsForMore};
+ghost use Rattle.settle_confirmations.specs.Worked.{AnAnswerLeavesOut, AnAnswerSpeaksOfAnother, LessIsConfirmed, TwoEndsHearNothing, TwoReceiversAskAtOnce};
 
 /// A receiver in a pair of nodes meets the premises of `a_receiver_is_answered` and of `what_is_confirmed_is_held`; and in a line of two hops
 /// the answer comes in the fourth pass, the last of the 2 H, and confirms what was asked for.
@@ -37,6 +37,11 @@ pub fn two_receivers_ask_at_once()
 /// place, gets no answer, though its node sends a ResvTear for the call.
 pub fn a_receiver_turns_away()
     ensures { AReceiverTurnsAway }
+{}
+
+/// Nor without the premise that its node sends something for the call: a receiver that asks to be confirmed for what it has gets no answer.
+pub fn a_receiver_has_it_already()
+    ensures { AReceiverHasItAlready }
 {}
 
 /// Nor without the premise that the demands fit: what is asked for is refused, and what comes back is a ResvErr.
