@@ -1,4 +1,4 @@
--- The overheads of two small networks, by computing, and a script that meets the premises.
+-- The overheads of two small networks, by computing, a script that meets the premises, and networks in which one is not met.
 use Rattle.std.proofs.Common.{◌≡◌, ℕ, List, [], ◌∷◌, length, Bool, true, false, cond, arith, refl, ap, ◌∙◌}
 use Rattle.std.specs.Prelude.{◌&&◌, ◌==◌}
 use Rattle.calm_rounds.specs.Machine.{run}
@@ -22,7 +22,7 @@ use Rattle.laws_network.proofs.Calming.{calm_rounds, rounds_is_calm}
 use Rattle.settle_network.specs.RunExample.{begun}
 use Rattle.settle_network.proofs.RunExample.{a_run_meets_the_premises}
 use Rattle.settle_overhead.specs.Overhead.{overhead}
-use Rattle.settle_overhead.specs.Worked.{APairIsRoomy, OverheadsAreSo, ended, plan, two_ask}
+use Rattle.settle_overhead.specs.Worked.{APairIsRoomy, ARefusalComesBack, ConfirmationsMultiply, OverheadsAreSo, WhatIsLeftOverIsRefreshed, ended, greedy_plan, plan, refused, two_ask}
 use Rattle.settle_overhead.proofs.Runs.{append_none, stays}
 
 asked : overhead (shared_link []).net two_ask ≡ 5
@@ -65,26 +65,26 @@ uncrowded = refl
 abbrev is_met : World → Bool
 is_met w = (length w.flight == 0) && (length (step 7500 (Piece 15000) w).flight == 1)
 
-abbrev ends_met : List Step → World → Bool
-ends_met [] w = is_met w
-ends_met (s ∷ ss) w = cond (is_crowded (step 7500 s w)) false (ends_met ss (step 7500 s w))
+abbrev ends_so : (World → Bool) → List Step → World → Bool
+ends_so is [] w = is w
+ends_so is (s ∷ ss) w = cond (is_crowded (step 7500 s w)) false (ends_so is ss (step 7500 s w))
 
-ended_met : (ss : List Step) (w : World) → ends_met ss w ≡ true → is_met (run (machine 7500) ss w) ≡ true
-ended_met [] w e = e
-ended_met (s ∷ ss) w e = by (is_crowded (step 7500 s w)) (ended_met ss (step 7500 s w)) e
+ended_so : (is : World → Bool) (ss : List Step) (w : World) → ends_so is ss w ≡ true → is (run (machine 7500) ss w) ≡ true
+ended_so is [] w e = e
+ended_so is (s ∷ ss) w e = by (is_crowded (step 7500 s w)) (ended_so is ss (step 7500 s w)) e
   where
-    by : (b : Bool) → (ends_met ss (step 7500 s w) ≡ true → is_met (run (machine 7500) ss (step 7500 s w)) ≡ true) → cond b false (ends_met ss (step 7500 s w)) ≡ true
-        → is_met (run (machine 7500) ss (step 7500 s w)) ≡ true
+    by : (b : Bool) → (ends_so is ss (step 7500 s w) ≡ true → is (run (machine 7500) ss (step 7500 s w)) ≡ true) → cond b false (ends_so is ss (step 7500 s w)) ≡ true
+        → is (run (machine 7500) ss (step 7500 s w)) ≡ true
     by true rest t = absurd (cc)
     by false rest t = rest t
 
-met_there : ends_met (steps_of_run plan) (first_world plan) ≡ true
+met_there : ends_so is_met (steps_of_run plan) (first_world plan) ≡ true
 unfolding facts_with
 met_there = refl
 
 both : (length ended.flight ≡ 0) × (length (step 7500 (Piece 15000) ended).flight ≡ 1)
 both =
-    let r = and_both (length ended.flight == 0) (length (step 7500 (Piece 15000) ended).flight == 1) (ended_met (steps_of_run plan) (first_world plan) met_there) in
+    let r = and_both (length ended.flight == 0) (length (step 7500 (Piece 15000) ended).flight == 1) (ended_so is_met (steps_of_run plan) (first_world plan) met_there) in
     (same_number (length ended.flight) 0 r.0, same_number (length (step 7500 (Piece 15000) ended).flight) 1 r.1)
 
 one_path : overhead begun.net (locals_of begun) ≡ 1
@@ -112,3 +112,25 @@ a_pair_is_roomy = record {
   small = small;
   met = both.1;
 }
+
+-- ---- where a premise is not met
+abbrev is_refused : World → Bool
+is_refused w = (length w.flight == 0) && (length (run (machine 7500) (rounds 7500 1 w) w).flight == 1)
+
+refused_there : ends_so is_refused (steps_of_run greedy_plan) (first_world greedy_plan) ≡ true
+unfolding facts_with
+refused_there = refl
+
+pub a_refusal_comes_back : ARefusalComesBack
+a_refusal_comes_back =
+    let r = and_both (length refused.flight == 0) (length (run (machine 7500) (rounds 7500 1 refused) refused).flight == 1)
+    (ended_so is_refused (steps_of_run greedy_plan) (first_world greedy_plan) refused_there) in
+    record { none = same_number (length refused.flight) 0 r.0; more = same_number (length (run (machine 7500) (rounds 7500 1 refused) refused).flight) 1 r.1 }
+
+pub what_is_left_over_is_refreshed : WhatIsLeftOverIsRefreshed
+unfolding facts_with want
+what_is_left_over_is_refreshed = record { none = refl; small = refl; more = refl }
+
+pub confirmations_multiply : ConfirmationsMultiply
+unfolding facts_with want
+confirmations_multiply = record { small = refl; few = refl; many = refl }

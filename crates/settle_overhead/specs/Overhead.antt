@@ -1,5 +1,5 @@
 -- The refresh overhead of a network that has settled (RFC 2205, 3.7; RFC 2961 has the word): how many datagrams refresh all that its nodes
--- keep. It is a number of the trees, the senders and the wants alone.
+-- keep. It is a number of the links, the trees, the senders and the wants alone.
 use Rattle.std.specs.Prelude.{ℕ, ◌+◌, ◌==◌, nat_lt, Bool, List, [], ◌∷◌, map as each, length, sum_by}
 use Rattle.std.specs.List.{filter, flat_map, list_any, range_with_len}
 use Rattle.rsvp_base.specs.declared.session.Session.{Session}

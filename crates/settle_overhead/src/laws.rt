@@ -17,8 +17,8 @@ ghost use Rattle.settle_overhead.specs.Roomy.{HasOnlyRefreshes, with_rounds};
 
 /// In a network that has settled, rounds of a script put no more in flight than the network's refresh overhead beside what was there: from
 /// any start, behind 13 H + 13 calm rounds at whose end nothing is in flight but Paths and Resvs that ask for no confirmation, in each
-/// world of n rounds more there is no more than was in flight then and the overhead together. The overhead is a number of the trees, the
-/// senders and the wants.
+/// world of n rounds more there is no more than was in flight then and the overhead together. The overhead is a number of the links, the
+/// trees, the senders and the wants.
 pub fn settled_rounds_are_roomy()
     ensures { (q n : ℕ) (w : World) (rs : List (List Step)) → Rounds (machine q) rs w → IsStart q w → 13 * longest w.net + 13 ≤ length rs → HasOnlyRefreshes (run_rounds (machine q) rs w)
         → Visited (machine q) (λ v. length v.flight ≤ length (run_rounds (machine q) rs w).flight + overhead (run_rounds (machine q) rs w).net (locals_of (run_rounds (machine q) rs w)))

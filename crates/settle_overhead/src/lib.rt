@@ -1,5 +1,5 @@
-//! The refresh overhead of a network that has settled (RFC 2205, 3.7): a bound on what is in flight, from the trees, the senders and the
-//! wants; and that a network whose overhead has room is not crowded by any further rounds.
+//! The refresh overhead of a network that has settled (RFC 2205, 3.7): a bound on what is in flight, from the links, the trees, the
+//! senders and the wants; and that a network whose overhead has room is not crowded by any further rounds.
 //!
 //! Definitions stand in `specs/`, and each public function of `laws` has an empty body and a law as its promise.
 #![tactic(auto)]
